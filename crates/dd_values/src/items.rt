@@ -1,0 +1,128 @@
+// A list for public fields: a `Vec` that contracts see as the list of its items, never as a capacity.
+ghost use Rattle.std.specs.Prelude.{◌≡◌, [], ◌∷◌, ◌++◌, ◌<◌, length, slice_get, slice_index_or, ◌↔◌, IsTrue, IfOk, OnOk, OnErr, MatchOption};
+ghost use Rattle.std.specs.Option.{option_copied};
+ghost use Rattle.std.specs.Cmp.Lexicographic.{pointwise, lists_per};
+
+use std::alloc::{AllocError, Global};
+use std::marker::Model;
+use std::ops::Index;
+
+/// A growable list. Two lists with the same items are the same value to a contract.
+#[derive(Debug, Drop)]
+pub struct Items<T> {
+    vec: Vec<T>,
+}
+
+impl<T> Model for Items<T> {
+    ghost use Rattle.std.specs.Prelude.{List};
+    ghost use Rattle.std.specs.Coded.{coded_list};
+
+    ghost Value = { List T };
+
+    ghost coded = { coded_list T.code };
+
+    ghost view = { λ list. list.vec.items };
+}
+
+impl<T> Items<T> {
+    /// The empty list. It takes no memory.
+    pub fn new(alloc: Global) -> Items<T>
+        ensures { result ≡ [] }
+    {
+        Items {
+            vec: Vec::new(alloc),
+        }
+    }
+
+    /// The items of a `Vec`. It takes no memory.
+    pub fn from_vec(vec: Vec<T>) -> Items<T>
+        ensures { result ≡ vec.items }
+    {
+        Items { vec }
+    }
+
+    /// Gives the `Vec` back. It takes no memory.
+    pub fn into_vec(self) -> Vec<T>
+        ensures { result.items ≡ self }
+    {
+        let Items { vec } = self;
+        vec
+    }
+
+    pub fn as_slice(&self) -> &[T]
+        ensures { result.now ≡ self.now }
+    {
+        self.vec.as_slice()
+    }
+
+    pub fn len(&self) -> usize
+        ensures { result ≡ length self.now }
+    {
+        self.vec.len()
+    }
+
+    pub fn is_empty(&self) -> bool
+        ensures { IsTrue result ↔ (self.now ≡ []) }
+    {
+        self.vec.is_empty()
+    }
+
+    pub fn get(&self, at: usize) -> Option<&T>
+        ensures { option_copied result ≡ slice_get self.now at }
+    {
+        self.vec.get(at)
+    }
+
+    /// Takes the last item off.
+    pub fn pop(&mut self) -> Option<T>
+        ensures { MatchOption result ((self.old ≡ []) × (self.new ≡ [])) (λ last. self.old ≡ self.new ++ last ∷ []) }
+    {
+        self.vec.pop()
+    }
+}
+
+impl<T: Drop> Items<T> {
+    /// Puts an item at the end. After want of memory the list is as it was.
+    pub fn push(&mut self, item: T) -> Result<(), AllocError>
+        ensures ok { OnOk result (self.new ≡ self.old ++ item ∷ []) }
+        ensures err { OnErr result (self.new ≡ self.old) }
+    {
+        self.vec.push(item)?;
+        Ok(())
+    }
+}
+
+impl<T: Copy> Items<T> {
+    /// A list of the same items.
+    pub fn from_slice(alloc: Global, items: &[T]) -> Result<Items<T>, AllocError>
+        ensures { IfOk result (λ list. list ≡ items.now) }
+    {
+        let vec = Vec::from_slice(alloc, items)?;
+        Ok(Items { vec })
+    }
+}
+
+impl<T> Index<usize> for Items<T> {
+    type Output = T;
+
+    ghost can_index = { λ list at. at < length list };
+
+    ghost index_gives = { λ list at item. item ≡ slice_index_or list at item };
+
+    fn index(&self, at: usize) -> &T
+        requires { at < length self.now }
+        ensures { result.now ≡ slice_index_or self.now at result.now }
+    {
+        &self.vec[at]
+    }
+}
+
+impl<T: PartialEq> PartialEq for Items<T> {
+    ghost eq = { λ x y. pointwise T.eq x y };
+
+    ghost laws = { lists_per T.laws };
+
+    fn eq(&self, other: &Items<T>) -> bool {
+        self.vec == other.vec
+    }
+}
