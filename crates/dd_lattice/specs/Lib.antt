@@ -1,0 +1,4 @@
+pub mod Place
+pub mod Order
+pub mod Cells
+pub mod InOrder
