@@ -1,0 +1,7 @@
+mod Rounds
+mod Values
+mod Sound
+mod SoundScript
+mod Complete
+mod CompleteScript
+mod Whole

@@ -1,0 +1,2 @@
+pub mod CutForm
+pub mod CutReading
