@@ -5,3 +5,7 @@ mod SoundScript
 mod Complete
 mod CompleteScript
 mod Whole
+pub mod Decided
+pub mod OneText
+mod Parts
+pub mod Streamed

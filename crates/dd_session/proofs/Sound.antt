@@ -71,14 +71,14 @@ label_of_sound t label e =
     elim (chosen (bytes_eq t (codes "up")) _ _ _ e) [
       | inl up ↦ subst (IsLabel t) (same_Some _ _ up.1) (record { small = omega arith; text = same_text t (codes "up") up.0 })
       | inr not_up ↦ elim (chosen (bytes_eq t (codes "dn")) _ _ _ not_up.1) [
-          | inl dn ↦ subst (IsLabel t) (same_Some _ _ dn.1) (record { small = omega arith; text = same_text t (codes "dn") dn.0 })
-          | inr not_dn ↦ elim (chosen (bytes_eq t (codes "rt")) _ _ _ not_dn.1) [
-              | inl rt ↦ subst (IsLabel t) (same_Some _ _ rt.1) (record { small = omega arith; text = same_text t (codes "rt") rt.0 })
-              | inr not_rt ↦
-                  let g = cond_some (bytes_eq t (codes "lt")) 3 label not_rt.1 in
-                  subst (IsLabel t) g.1 (record { small = omega arith; text = same_text t (codes "lt") g.0 })
-            ]
+        | inl dn ↦ subst (IsLabel t) (same_Some _ _ dn.1) (record { small = omega arith; text = same_text t (codes "dn") dn.0 })
+        | inr not_dn ↦ elim (chosen (bytes_eq t (codes "rt")) _ _ _ not_dn.1) [
+          | inl rt ↦ subst (IsLabel t) (same_Some _ _ rt.1) (record { small = omega arith; text = same_text t (codes "rt") rt.0 })
+          | inr not_rt ↦
+              let g = cond_some (bytes_eq t (codes "lt")) 3 label not_rt.1 in
+              subst (IsLabel t) g.1 (record { small = omega arith; text = same_text t (codes "lt") g.0 })
         ]
+      ]
     ]
 
 pub record MoveRead (ts : List Text) (x : ℕ × List Text) : Type 0 where

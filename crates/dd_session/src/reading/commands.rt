@@ -119,5 +119,9 @@ pub(super) fn member<'a>(bytes: &'a [u8], tokens: &'a [Token]) -> Option<(&'a [u
 {
     let (configuration, rest) = command(bytes, tokens, b"member")?;
     let (rule, rest) = name(bytes, rest)?;
-    if rest.is_empty() { Some((configuration, rule)) } else { None }
+    if rest.is_empty() {
+        Some((configuration, rule))
+    } else {
+        None
+    }
 }
