@@ -5,3 +5,4 @@ mod SoundScript
 mod Complete
 mod CompleteScript
 mod Whole
+mod Fitting
