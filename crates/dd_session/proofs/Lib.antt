@@ -1,8 +1,9 @@
 mod Rounds
 mod Values
+mod Regrouped
 mod Sound
 mod SoundScript
 mod Complete
 mod CompleteScript
-mod Whole
 mod Fitting
+mod Whole

@@ -17,9 +17,8 @@ use commands::{configuration, member, rule};
 use dd_formula::Formula;
 use dd_tokens::{Token, tokens};
 use dd_values::Items;
-use std::alloc::Global;
-
 pub(crate) use fault::ReadingFault;
+use std::alloc::Global;
 
 /// A script of the short form: a rule, and a configuration that is asked of it.
 #[derive(Debug, Drop)]

@@ -64,10 +64,10 @@ fn symbols<'a>(
     let mut symbols = Items::new(alloc);
     let mut rest = tokens;
     for _ in 0..tokens.len() {
-        let Some((label, behind)) = symbol(bytes, rest) else {
+        let Some((next, behind)) = symbol(bytes, rest) else {
             return Ok((symbols, rest));
         };
-        symbols.push(label)?;
+        symbols.push(next)?;
         rest = behind;
     }
     Ok((symbols, rest))
@@ -119,5 +119,9 @@ pub(super) fn member<'a>(bytes: &'a [u8], tokens: &'a [Token]) -> Option<(&'a [u
 {
     let (configuration, rest) = command(bytes, tokens, b"member")?;
     let (rule, rest) = name(bytes, rest)?;
-    if rest.is_empty() { Some((configuration, rule)) } else { None }
+    if rest.is_empty() {
+        Some((configuration, rule))
+    } else {
+        None
+    }
 }

@@ -111,7 +111,11 @@ pub(super) fn name<'a>(bytes: &'a [u8], tokens: &'a [Token]) -> Option<(&'a [u8]
     ensures { Finds (λ x. (x.0.now, texts bytes.now x.1.now)) result (name_at (texts bytes.now tokens.now)) }
 {
     let (text, rest) = next(bytes, tokens)?;
-    if is_name(text) { Some((text, rest)) } else { None }
+    if is_name(text) {
+        Some((text, rest))
+    } else {
+        None
+    }
 }
 
 fn is_digit(byte: u8) -> bool
