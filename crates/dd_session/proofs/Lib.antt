@@ -9,5 +9,4 @@ mod Fitting
 mod Whole
 pub mod Decided
 pub mod OneText
-mod Parts
 pub mod Streamed

@@ -1,6 +1,6 @@
 -- Each output is the output of one script's bytes and one list of answers only. The number before the bytes says where
 -- they end, and no number of an answer runs on into what follows it, since a blank or a line feed stands there.
-use Rattle.std.proofs.Common.{◌≡◌, ℕ, suc, ◌+◌, ◌<◌, ◌≤◌, ◌^◌, ◌%◌, List, [], ◌∷◌, ◌++◌, refl, sym, ◌∙◌, ap, length, arith, append_assoc}
+use Rattle.std.proofs.Common.{◌≡◌, ℕ, suc, ◌+◌, ◌<◌, ◌≤◌, ◌^◌, List, [], ◌∷◌, ◌++◌, refl, sym, ◌∙◌, ap, length, arith, append_assoc}
 use Rattle.std.specs.Prelude.{⊤, ℤ, pos, negsuc, codes}
 use lib.Signed.{mag}
 use Rattle.std.specs.Fmt.{decimal, signed_decimal}

@@ -1,5 +1,5 @@
 -- What a script asks, and which answers are right.
-use Rattle.std.specs.Prelude.{◌≡◌, ℕ, ◌<◌, List, [], ◌∷◌, IsTrue, All, ⊤}
+use Rattle.std.specs.Prelude.{◌≡◌, ◌<◌, List, [], ◌∷◌, IsTrue, All, ⊤}
 use Rattle.dd_lattice.specs.declared.position.Cell.{Cell}
 use Rattle.dd_formula.specs.LocalRule.{LocalRule, square_rule}
 use Rattle.dd_formula.specs.Limits.{fits_square}

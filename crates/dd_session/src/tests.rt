@@ -4,8 +4,7 @@ use dd_outside::{MemorySink, MemorySource};
 use std::alloc::{AllocError, Global};
 use std::test::Fail;
 
-const HARD: &[u8] =
-    b"%rule hard o=1 -> (o.rt=0 & o.up=0)\n%conf c [2 2] 1 0 0 1\n%member c hard\n";
+const HARD: &[u8] = b"%rule hard o=1 -> (o.rt=0 & o.up=0)\n%conf c [2 2] 1 0 0 1\n%member c hard\n";
 
 fn words_of(alloc: Global, word: &str) -> Result<Vec<String>, AllocError> {
     let mut words = Vec::new(alloc);
@@ -34,7 +33,11 @@ fn answers_and_refuses(rt: HostRuntime) -> Result<(), Fail> {
             b"diddy 1\nscript 49\n%rule r o.up.up=0 %conf c [1 3] 1 0 0 %member c r\nquery 1 OUT 0 1 0\nend\n",
         ),
         (b"", Status::Refused, b"refused early\n"),
-        (b"%rule hard o=1 -> o.rt=0", Status::Refused, b"refused early\n"),
+        (
+            b"%rule hard o=1 -> o.rt=0",
+            Status::Refused,
+            b"refused early\n",
+        ),
     ];
     for (input, status, output) in table {
         let mut source = MemorySource::new(Vec::from_slice(alloc, input)?, 7, Vec::new(alloc));
@@ -52,7 +55,10 @@ fn a_long_input_is_refused(rt: HostRuntime) -> Result<(), Fail> {
     let blanks = vec![in alloc; b' '; 1_048_577]?;
     let mut source = MemorySource::new(blanks, 1_000_000, Vec::new(alloc));
     let mut sink = MemorySink::new(alloc, 200, 200, Vec::new(alloc))?;
-    assert_eq!(rt; run_diddy(alloc, &words, &mut source, &mut sink), Status::Refused);
+    assert_eq!(rt;
+        run_diddy(alloc, &words, &mut source, &mut sink),
+        Status::Refused
+    );
     assert_eq!(rt; sink.held_bytes(), b"refused long\n".as_slice());
     Ok(())
 }
