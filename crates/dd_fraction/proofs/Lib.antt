@@ -1,0 +1,7 @@
+pub mod Comparing
+pub mod Divisors
+pub mod Laws
+pub mod Lowest
+pub mod OrderLaws
+pub mod Reducing
+pub mod Ring
