@@ -5,9 +5,10 @@ use Rattle.std.proofs.Math.Nat.{mul-le-mul, mul-le-mul_right, mul-lt-mul_of_pos_
 use Rattle.std.specs.Ordering.{nat_cmp, int_cmp}
 use Rattle.std.specs.Int.RustNames.{unsigned_abs}
 use Rattle.std.proofs.lemmas.Int.{ints}
+use Rattle.std.proofs.lemmas.Cmp.{ranked}
 use lib.IntN.{ℤ, pos, negsuc, neg_ℤ, ◌*ℤ◌}
 use lib.Signed.{◌≤ℤ◌, ◌<ℤ◌}
-use Rattle.dd_fraction.proofs.Ring.{product_negative, product_nonneg}
+use Rattle.dd_fraction.proofs.Ring.{product_above, product_negative, product_nonneg}
 use Rattle.std.specs.declared.cmp.Ordering.{Ordering}
 use Rattle.std.specs.declared.cmp.Ordering.TheVariants.{Less, Equal, Greater}
 
@@ -43,6 +44,29 @@ pub rest_cmp : (a b c d : ℕ) → a / b ≡ c / d → nat_cmp (a * d) (c * b) �
 rest_cmp a b c d e =
     let p = rest_decides a b c d e in
     rw (p.0, p.1) (cmp_more (a / b * b * d) (d * (a % b)) (b * (c % d)))
+
+pub whole_decides : (a b c d : ℕ) (r : Ordering) → 0 < b → 0 < d → r ≡ nat_cmp (a / b) (c / d) → (r ≡ Equal → ⊥)
+    → r ≡ nat_cmp (a * d) (c * b)
+whole_decides a b c d Less y z e n = less_is _ _ (whole_below a b c d y z (ranked _ _ Less e))
+whole_decides a b c d Equal y z e n = absurd (n refl)
+whole_decides a b c d Greater y z e n = greater_is _ _ (whole_below c d a b z y (ranked _ _ Greater e))
+
+pub rests_equal : (a b c d : ℕ) → a / b ≡ c / d → a % b ≡ 0 → c % d ≡ 0 → Equal ≡ nat_cmp (a * d) (c * b)
+rests_equal a b c d e x y =
+    let z : d * (a % b) ≡ b * (c % d) = rw (x, y) (omega arith) in
+    equal_is _ _ z ∙ sym (rest_cmp a b c d e)
+
+pub rests_less : (a b c d : ℕ) → a / b ≡ c / d → 0 < b → a % b ≡ 0 → 0 < c % d → Less ≡ nat_cmp (a * d) (c * b)
+rests_less a b c d e w x y =
+    let p : 0 < b * (c % d) = product_above b (c % d) w y in
+    let z : d * (a % b) < b * (c % d) = rw (x) (omega (arith, p)) in
+    less_is _ _ z ∙ sym (rest_cmp a b c d e)
+
+pub rests_greater : (a b c d : ℕ) → a / b ≡ c / d → 0 < d → c % d ≡ 0 → 0 < a % b → Greater ≡ nat_cmp (a * d) (c * b)
+rests_greater a b c d e w x y =
+    let p : 0 < d * (a % b) = product_above d (a % b) w y in
+    let z : b * (c % d) < d * (a % b) = rw (x) (omega (arith, p)) in
+    greater_is _ _ z ∙ sym (rest_cmp a b c d e)
 
 cmp_up_lem : (u v : ℕ) → nat_cmp u v ≡ int_cmp (pos u) (pos v)
 cmp_up_lem u v = grind (arith, ints)

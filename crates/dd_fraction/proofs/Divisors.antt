@@ -86,4 +86,3 @@ greatest_common_alone a b p =
     let t : IsGcd a b (greatest_common (a / g) (b / g) * g) = subst (λ (z : ℕ). IsGcd z b (greatest_common (a / g) (b / g) * g)) x (subst (λ (z : ℕ). IsGcd (a / g * g) z (greatest_common (a / g) (b / g) * g)) y s) in
     let e : greatest_common (a / g) (b / g) * g ≡ 1 * g = same_from_IsGcd _ _ _ _ t (greatest_common-is a b) ∙ omega arith in
     eq_of_mul-eq-mul_right g above _ _ e
-

@@ -253,10 +253,10 @@ exact_cmp-same a b e =
 
 pub exact_cmp_total : IsTotalOrder exact_cmp
 exact_cmp_total = record {
-      antisymm = λ a b. int_cmp_total.antisymm (a.num *ℤ pos (den_of b)) (b.num *ℤ pos (den_of a));
-      trans = λ a b c p q. exact_cmp-below a c (below_trans a b c (exact_cmp_ranked a b Less (sym p)) (exact_cmp_ranked b c Less (sym q)));
-      congr = λ a b c p. congruent a b c (exact_cmp_ranked a b Equal (sym p)) (exact_cmp b c) refl;
-    }
+  antisymm = λ a b. int_cmp_total.antisymm (a.num *ℤ pos (den_of b)) (b.num *ℤ pos (den_of a));
+  trans = λ a b c p q. exact_cmp-below a c (below_trans a b c (exact_cmp_ranked a b Less (sym p)) (exact_cmp_ranked b c Less (sym q)));
+  congr = λ a b c p. congruent a b c (exact_cmp_ranked a b Equal (sym p)) (exact_cmp b c) refl;
+}
   where
     congruent : (a b c : Exact) → low a ≡ low b → (r : Ordering) → r ≡ exact_cmp b c → exact_cmp a c ≡ exact_cmp b c
     congruent a b c e Less h =

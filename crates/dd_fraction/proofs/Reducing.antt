@@ -138,4 +138,3 @@ pub whole_fraction : (n : ℤ) → SFits w64 n → IsFraction (record { num = n;
 whole_fraction n f =
     let s : unsigned_abs n < 2 ^ 127 = omega (arith, ints, f) in
     record { above = omega arith; below = omega arith; bounded = s; alone = greatest_common-one (unsigned_abs n) }
-

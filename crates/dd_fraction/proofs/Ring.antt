@@ -47,7 +47,6 @@ times_sum a b c = rw (← diff_self a, ← diff_self b, ← diff_self c) (simp a
 pub times_times : (a b c : ℤ) → a *ℤ (b *ℤ c) ≡ (a *ℤ b) *ℤ c
 times_times a b c = rw (← diff_self a, ← diff_self b, ← diff_self c) (simp as_diff (diff_same _ _ _ _ (omega arith)))
 
-
 pub product_above : (g h : ℕ) → 0 < g → 0 < h → 0 < g * h
 product_above g h p q = grind arith
 

@@ -164,3 +164,6 @@ fn in_lowest_terms(num: i128, den: u128) -> Fraction
 {
     Fraction { num, den }
 }
+
+#[cfg(test)]
+mod tests;

@@ -10,28 +10,15 @@ pub fn compare_ratios(a: u128, b: u128, c: u128, d: u128) -> Ordering
     requires right { 0 < d }
     ensures { result ≡ nat_cmp (a * d) (c * b) }
 {
-    let whole = a / b;
-    let other_whole = c / d;
-    if whole < other_whole {
-        return Ordering::Less;
+    match (a / b).cmp(&(c / d)) {
+        Ordering::Equal => {}
+        order => return order,
     }
-    if other_whole < whole {
-        return Ordering::Greater;
+    match (a % b, c % d) {
+        (0, 0) => Ordering::Equal,
+        (0, _) => Ordering::Less,
+        (_, 0) => Ordering::Greater,
+        // Upside down the order turns round, so the two change sides.
+        (rest, other_rest) => compare_ratios(d, other_rest, b, rest),
     }
-
-    let rest = a % b;
-    let other_rest = c % d;
-    if rest == 0 {
-        return if other_rest == 0 {
-            Ordering::Equal
-        } else {
-            Ordering::Less
-        };
-    }
-    if other_rest == 0 {
-        return Ordering::Greater;
-    }
-
-    // Upside down the order turns round, so the two change sides.
-    compare_ratios(d, other_rest, b, rest)
 }

@@ -8,4 +8,3 @@ returns-clause-above c = rw (c.greatest_common_divisor.ensures) (greatest_common
 
 pub returns-clause-below : goal.returns-clause-below
 returns-clause-below c = rw (c.greatest_common_divisor.ensures) (greatest_common_le c.unsigned_abs.result c.args.den c.requires)
-

@@ -10,4 +10,3 @@ pub returns : goal.returns
 returns c =
     let e : c.loop-y.y ≡ 0 = omega arith in
     sym (greatest_common-zero c.loop-y.x) ∙ ap (greatest_common c.loop-y.x) (sym e) ∙ c.loop-y.invariant
-

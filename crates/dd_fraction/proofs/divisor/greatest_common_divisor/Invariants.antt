@@ -7,4 +7,3 @@ invariant-loop-y l = greatest_common l.x l.y ≡ greatest_common l.fn.a l.fn.b
 
 abbrev pub decreases-loop-y : goal.decreases-loop-y
 decreases-loop-y l = l.y
-

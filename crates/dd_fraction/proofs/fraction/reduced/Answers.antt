@@ -21,4 +21,3 @@ returns c =
     let over = simp to_z-of_z at c.quotient.ensures in
     let made = simp to_z-of_z at c.in_lowest_terms.ensures in
     made ∙ sym (lowest_result c.args.num c.quotient.result c.args.den c.common_divisor-divisor.result divisor over c.requires.above)
-

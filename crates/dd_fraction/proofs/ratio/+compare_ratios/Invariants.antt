@@ -3,4 +3,3 @@ use Rattle.dd_fraction.proofs.ratio.+compare_ratios.Given as goal
 
 abbrev pub decreases-compare_ratios : goal.decreases-compare_ratios
 decreases-compare_ratios l = l.b + l.d
-

@@ -59,4 +59,3 @@ returns c =
     let sum = simp to_z-of_z at c.in_ok-num.ensures in
     let reduced = simp to_z-of_z at c.reduced.ensures in
     rw (← c.self.view_is, ← c.other.view_is) (sum_some a b c.reduced.result c.in_ok-left.left c.in_ok-right.right c.in_ok-num.num c.in_ok-den.den c.self.invariant c.other.invariant left right sum c.in_ok-den.ensures reduced)
-

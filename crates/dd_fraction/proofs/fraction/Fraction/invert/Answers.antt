@@ -23,6 +23,6 @@ invariant_of-result c =
     rw (size) (size_above c.self.inside.num (λ e. c.requires (ap (λ (t : Exact). t.num) (sym c.self.view_is) ∙ e))) in
     inverted a _ c.unsigned_abs.result c.self.invariant some size
     (elim c.if-self-lt0.branch [
-      then-self-lt0 w ↦ ap unsigned_abs w.result-is ∙ negated_size den below
-    | else-self-lt0 w ↦ ap unsigned_abs (w.result-is ∙ to_z_pos w128 den below)
+      | then-self-lt0 w ↦ ap unsigned_abs w.result-is ∙ negated_size den below
+      | else-self-lt0 w ↦ ap unsigned_abs (w.result-is ∙ to_z_pos w128 den below)
     ])

@@ -14,4 +14,3 @@ returns c =
     let reduced = simp to_z-of_z at c.reduced.ensures in
     rw (← c.self.view_is, ← c.other.view_is)
     (product_some (record { num = c.self.inside.num; den = c.self.inside.den }) (record { num = c.other.inside.num; den = c.other.inside.den }) c.reduced.result c.in_ok-num.num c.in_ok-den.den c.self.invariant c.other.invariant num c.in_ok-den.ensures reduced)
-

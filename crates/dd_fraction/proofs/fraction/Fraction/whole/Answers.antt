@@ -10,4 +10,3 @@ invariant_of-result c =
     let small : SFits w64 c.args.num = c.ranges.num in
     let large : SFits w128 c.args.num = omega (arith, ints) in
     simp to_z-of_z (whole_fraction c.args.num small)
-
