@@ -19,14 +19,19 @@ below_lem a b c d q p r s z e f g h =
     omega (arith, ap (λ (x : ℕ). x * d) e, ap (λ (x : ℕ). x * b) f)
 
 pub whole_below : (a b c d : ℕ) → 0 < b → 0 < d → a / b < c / d → a * d < c * b
-whole_below a b c d y z h = below_lem a b c d (a / b) (c / d) (a % b) (c % d) z (div-add-mod' a b) (div-add-mod' c d) (mod_below a b y) h
+whole_below a b c d y z h =
+    below_lem a b c d (a / b) (c / d) (a % b) (c % d) z (div-add-mod' a b) (div-add-mod' c d) (mod_below a b y) h
 
 -- where the whole parts are equal, the remainders decide
-rest_lem : (a b c d q r s : ℕ) → q * b + r ≡ a → q * d + s ≡ c → (a * d ≡ q * b * d + d * r) × (c * b ≡ q * b * d + b * s)
+rest_lem : (a b c d q r s : ℕ) → q * b + r ≡ a → q * d + s ≡ c
+    → (a * d ≡ q * b * d + d * r) × (c * b ≡ q * b * d + b * s)
 rest_lem a b c d q r s e f = (omega (arith, ap (λ (x : ℕ). x * d) e), omega (arith, ap (λ (x : ℕ). x * b) f))
 
-pub rest_decides : (a b c d : ℕ) → a / b ≡ c / d → (a * d ≡ a / b * b * d + d * (a % b)) × (c * b ≡ a / b * b * d + b * (c % d))
-rest_decides a b c d e = rest_lem a b c d (a / b) (a % b) (c % d) (div-add-mod' a b) (ap (λ (x : ℕ). x * d + c % d) e ∙ div-add-mod' c d)
+rest_decides : (a b c d : ℕ) → a / b ≡ c / d
+    → (a * d ≡ a / b * b * d + d * (a % b)) × (c * b ≡ a / b * b * d + b * (c % d))
+rest_decides a b c d e =
+    rest_lem a b c d (a / b) (a % b) (c % d) (div-add-mod' a b)
+    (ap (λ (x : ℕ). x * d + c % d) e ∙ div-add-mod' c d)
 
 pub less_is : (x y : ℕ) → x < y → Less ≡ nat_cmp x y
 less_is x y h = grind arith
@@ -71,7 +76,8 @@ rests_greater a b c d e w x y =
 cmp_up_lem : (u v : ℕ) → nat_cmp u v ≡ int_cmp (pos u) (pos v)
 cmp_up_lem u v = grind (arith, ints)
 
-pub cmp_up : (x y : ℤ) (d e : ℕ) → pos 0 ≤ℤ x → pos 0 ≤ℤ y → nat_cmp (unsigned_abs x * e) (unsigned_abs y * d) ≡ int_cmp (x *ℤ pos e) (y *ℤ pos d)
+pub cmp_up : (x y : ℤ) (d e : ℕ) → pos 0 ≤ℤ x → pos 0 ≤ℤ y
+    → nat_cmp (unsigned_abs x * e) (unsigned_abs y * d) ≡ int_cmp (x *ℤ pos e) (y *ℤ pos d)
 cmp_up (pos x) (pos y) d e p q = cmp_up_lem (x * e) (y * d)
 cmp_up (pos x) (negsuc y) d e p q = absurd (omega (arith, ints, q))
 cmp_up (negsuc x) y d e p q = absurd (omega (arith, ints, p))
@@ -79,7 +85,8 @@ cmp_up (negsuc x) y d e p q = absurd (omega (arith, ints, p))
 cmp_down_lem : (u v : ℕ) → 0 < u → 0 < v → nat_cmp v u ≡ int_cmp (neg_ℤ (pos u)) (neg_ℤ (pos v))
 cmp_down_lem u v p q = grind (arith, ints)
 
-pub cmp_down : (x y : ℤ) (d e : ℕ) → 0 < d → 0 < e → x <ℤ pos 0 → y <ℤ pos 0 → nat_cmp (unsigned_abs y * d) (unsigned_abs x * e) ≡ int_cmp (x *ℤ pos e) (y *ℤ pos d)
+pub cmp_down : (x y : ℤ) (d e : ℕ) → 0 < d → 0 < e → x <ℤ pos 0 → y <ℤ pos 0
+    → nat_cmp (unsigned_abs y * d) (unsigned_abs x * e) ≡ int_cmp (x *ℤ pos e) (y *ℤ pos d)
 cmp_down (pos x) y d e z w p q = absurd (omega (arith, ints, p))
 cmp_down (negsuc x) (pos y) d e z w p q = absurd (omega (arith, ints, q))
 cmp_down (negsuc x) (negsuc y) d e z w p q = cmp_down_lem (suc x * e) (suc y * d) (omega arith) (omega arith)

@@ -40,7 +40,8 @@ scaled zero a b k z p = absurd (omega arith)
 scaled (suc n) a zero k z p = IsGcd-from_zero (a * k) (0 * k) (omega arith)
 scaled (suc n) a (suc b) k z p =
     let r : a % suc b < suc b = mod_below a (suc b) (omega arith) in
-    let next : IsGcd (suc b * k) (a % suc b * k) (common_within n (suc b) (a % suc b) * k) = scaled n (suc b) (a % suc b) k z (omega arith) in
+    let next : IsGcd (suc b * k) (a % suc b * k) (common_within n (suc b) (a % suc b) * k) =
+    scaled n (suc b) (a % suc b) k z (omega arith) in
     IsGcd-from_mod (a * k) (suc b * k) _ (rw (mod-scaled a (suc b) k z (omega arith)) next)
 
 pub greatest_common-scaled : (a b k : ℕ) → 0 < k → IsGcd (a * k) (b * k) (greatest_common a b * k)
@@ -70,10 +71,12 @@ front_of zero g b e p = absurd (omega (arith, e))
 front_of (suc q) g b e p = omega arith
 
 pub greatest_common_above : (a b : ℕ) → 0 < b → 0 < greatest_common a b
-greatest_common_above a b p = above_of (b / greatest_common a b) (greatest_common a b) b (div-mul_cancel _ (greatest_common-is a b).1) p
+greatest_common_above a b p =
+    above_of (b / greatest_common a b) (greatest_common a b) b (div-mul_cancel _ (greatest_common-is a b).1) p
 
 pub quotient_above : (a b : ℕ) → 0 < b → 0 < b / greatest_common a b
-quotient_above a b p = front_of (b / greatest_common a b) (greatest_common a b) b (div-mul_cancel _ (greatest_common-is a b).1) p
+quotient_above a b p =
+    front_of (b / greatest_common a b) (greatest_common a b) b (div-mul_cancel _ (greatest_common-is a b).1) p
 
 -- the quotients have no common divisor
 pub greatest_common_alone : (a b : ℕ) → 0 < b → greatest_common (a / greatest_common a b) (b / greatest_common a b) ≡ 1
@@ -82,7 +85,8 @@ greatest_common_alone a b p =
     let above : 0 < g = greatest_common_above a b p in
     let x : a / g * g ≡ a = div-mul_cancel g (greatest_common-is a b).0 in
     let y : b / g * g ≡ b = div-mul_cancel g (greatest_common-is a b).1 in
-    let s : IsGcd (a / g * g) (b / g * g) (greatest_common (a / g) (b / g) * g) = greatest_common-scaled (a / g) (b / g) g above in
-    let t : IsGcd a b (greatest_common (a / g) (b / g) * g) = subst (λ (z : ℕ). IsGcd z b (greatest_common (a / g) (b / g) * g)) x (subst (λ (z : ℕ). IsGcd (a / g * g) z (greatest_common (a / g) (b / g) * g)) y s) in
-    let e : greatest_common (a / g) (b / g) * g ≡ 1 * g = same_from_IsGcd _ _ _ _ t (greatest_common-is a b) ∙ omega arith in
+    let h = greatest_common (a / g) (b / g) * g in
+    let s : IsGcd (a / g * g) (b / g * g) h = greatest_common-scaled (a / g) (b / g) g above in
+    let t : IsGcd a b h = subst (λ (z : ℕ). IsGcd z b h) x (subst (λ (z : ℕ). IsGcd (a / g * g) z h) y s) in
+    let e : h ≡ 1 * g = same_from_IsGcd _ _ _ _ t (greatest_common-is a b) ∙ omega arith in
     eq_of_mul-eq-mul_right g above _ _ e

@@ -110,7 +110,9 @@ assoc_lem x y z d e f =
 -- a sum of three, as one fraction
 plus_three : (a b c : Exact)
     → plus (plus a b) c
-    ≡ lowest ((a.num *ℤ pos (den_of b) +ℤ b.num *ℤ pos (den_of a)) *ℤ pos (den_of c) +ℤ c.num *ℤ pos (den_of a * den_of b)) ((den_of a * den_of b) * den_of c)
+    ≡ lowest
+    ((a.num *ℤ pos (den_of b) +ℤ b.num *ℤ pos (den_of a)) *ℤ pos (den_of c) +ℤ c.num *ℤ pos (den_of a * den_of b))
+    ((den_of a * den_of b) * den_of c)
 plus_three a b c = rw (plus_is a b, plus_left, max_product a.den b.den) refl
 
 pub plus_assoc : (a b c : Exact) → plus (plus a b) c ≡ plus a (plus b c)
@@ -154,10 +156,12 @@ spread_lem x y z d e f =
 pub times_plus : (a b c : Exact) → times a (plus b c) ≡ plus (times a b) (times a c)
 times_plus a b c =
     times_comm a (plus b c) ∙ (rw (plus_is b c, times_left, max_product b.den c.den) refl
-    ∙ (lowest_same_at _ _ _ _ (three b.den c.den a.den) (product_above _ _ (products a.den b.den) (products a.den c.den))
+    ∙ (lowest_same_at _ _ _ _ (three b.den c.den a.den)
+    (product_above _ _ (products a.den b.den) (products a.den c.den))
     (spread_lem a.num b.num c.num (den_of a) (den_of b) (den_of c))
     ∙ sym (rw (times_is a b, times_is a c)
-    (plus_both (a.num *ℤ b.num) (a.num *ℤ c.num) (den_of a * den_of b) (den_of a * den_of c) (products a.den b.den) (products a.den c.den)))))
+    (plus_both (a.num *ℤ b.num) (a.num *ℤ c.num) (den_of a * den_of b) (den_of a * den_of c)
+    (products a.den b.den) (products a.den c.den)))))
 
 pub plus_times : (a b c : Exact) → times (plus a b) c ≡ plus (times a c) (times b c)
 plus_times a b c =
@@ -237,7 +241,8 @@ inverse_at x y d n p q e =
     let a : max 1 d ≡ d = omega arith in
     let b : max 1 n ≡ n = omega arith in
     times_is (record { num = x; den = d }) (record { num = y; den = n })
-    ∙ (rw (a, b, e) (lowest_same_at (pos (n * d)) (pos 1) (d * n) 1 (product_above d n p q) (omega arith) (ap pos (omega arith)))
+    ∙ (rw (a, b, e)
+    (lowest_same_at (pos (n * d)) (pos 1) (d * n) 1 (product_above d n p q) (omega arith) (ap pos (omega arith)))
     ∙ one_is)
 
 inverse_lem : (n : ℤ) (d : ℕ) → ¬ (n ≡ pos 0) → 0 < d
@@ -250,7 +255,8 @@ inverse_lem (negsuc n) (suc d) p q = inverse_at (negsuc n) (negsuc d) (suc d) (s
 pub times_inverse : (a : Exact) → ¬ (a.num ≡ pos 0) → times a (inverse a) ≡ whole_of (pos 1)
 times_inverse a p =
     times_is a (inverse a) ∙ (twice a.num a.den (inverse a)
-    ∙ (sym (times_is (record { num = a.num; den = max 1 a.den }) (inverse a)) ∙ inverse_lem a.num (max 1 a.den) p (omega arith)))
+    ∙ (sym (times_is (record { num = a.num; den = max 1 a.den }) (inverse a))
+    ∙ inverse_lem a.num (max 1 a.den) p (omega arith)))
   where
     twice : (n : ℤ) (d : ℕ) (b : Exact)
         → lowest (n *ℤ b.num) (max 1 d * den_of b) ≡ lowest (n *ℤ b.num) (max 1 (max 1 d) * den_of b)

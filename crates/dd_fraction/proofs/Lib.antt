@@ -3,5 +3,5 @@ pub mod Divisors
 pub mod Laws
 pub mod Lowest
 pub mod OrderLaws
-pub mod Reducing
+pub mod Results
 pub mod Ring

@@ -64,7 +64,8 @@ numbers_same : (n m : ℤ) (d e g h : ℕ) (a b : Exact) → Parts n d a g → P
     → n *ℤ pos e ≡ m *ℤ pos d → 0 < e → a.num ≡ b.num
 numbers_same n m d e g h a b p q s t z =
     cancel a.num b.num (g * e) (product_above g e p.above z)
-    (times_times a.num (pos g) (pos e) ∙ (ap (λ (x : ℤ). x *ℤ pos e) p.num ∙ (t ∙ (ap (λ (x : ℤ). x *ℤ pos d) (sym q.num)
+    (times_times a.num (pos g) (pos e) ∙ (ap (λ (x : ℤ). x *ℤ pos e) p.num ∙ (t
+    ∙ (ap (λ (x : ℤ). x *ℤ pos d) (sym q.num)
     ∙ (sym (times_times b.num (pos h) (pos d)) ∙ ap (λ (k : ℕ). b.num *ℤ pos k) (sym s))))))
 
 -- n / d = m / e makes |n| · e = |m| · d, so |n| · e, d · e and |m| · d, e · d are one pair. It has one greatest common
@@ -119,7 +120,7 @@ pub low_low : (n : ℤ) (d : ℕ) → low (lowest n d) ≡ lowest n d
 low_low n d = lowest_same _ _ _ _ (lowest_is n d)
 
 pub lowest_at : (n : ℤ) (d : ℕ) → 0 < d
-    → lowest n d ≡ record { num = int_div n (pos (greatest_common (unsigned_abs n) d)); den = d / greatest_common (unsigned_abs n) d }
+    → let g = greatest_common (unsigned_abs n) d in lowest n d ≡ record { num = int_div n (pos g); den = d / g }
 unfolding lowest
 lowest_at n d p = let e : max 1 d ≡ d = omega arith in rw e refl
 

@@ -49,7 +49,8 @@ nonneg_plus a b p q =
 
 pub positive_plus : (a b : Exact) → IsPositive a → IsNonneg b → IsPositive (plus a b)
 positive_plus a b p q =
-    let s : pos 0 <ℤ (a.num *ℤ pos (den_of b)) = product_positive a.num (pos (den_of b)) p.sign (omega (arith, ints, den_above b)) in
+    let s : pos 0 <ℤ (a.num *ℤ pos (den_of b)) =
+    product_positive a.num (pos (den_of b)) p.sign (omega (arith, ints, den_above b)) in
     let t : pos 0 ≤ℤ (b.num *ℤ pos (den_of a)) = sized b.num (den_of a) q.sign in
     subst IsPositive (sym (plus_is a b)) (positive_lowest _ _ (omega (arith, ints, s, t)))
 
@@ -111,7 +112,8 @@ at_most_antisymm a b p q =
 
 pub below_or_at_most : (a b : Exact) → IsBelow a b ⊎ IsAtMost b a
 below_or_at_most a b =
-    by_lt_z (a.num *ℤ pos (den_of b)) (b.num *ℤ pos (den_of a)) (λ h. inl (record { cross = h })) (λ h. inr (record { cross = h }))
+    by_lt_z (a.num *ℤ pos (den_of b)) (b.num *ℤ pos (den_of a))
+    (λ h. inl (record { cross = h })) (λ h. inr (record { cross = h }))
 
 pub at_most_below : (a b : Exact) → IsBelow a b → IsAtMost a b
 at_most_below a b p = let s = p.cross in record { cross = omega (arith, ints, s) }
@@ -141,7 +143,8 @@ below_trans_left a b c p q =
 
 pub below_trans_right : (a b c : Exact) → IsAtMost a b → IsBelow b c → IsBelow a c
 below_trans_right a b c p q =
-    below_from_gap a c (subst IsPositive (plus_comm _ _ ∙ gaps a b c) (positive_plus _ _ (below_gap b c q) (at_most_gap a b p)))
+    below_from_gap a c
+    (subst IsPositive (plus_comm _ _ ∙ gaps a b c) (positive_plus _ _ (below_gap b c q) (at_most_gap a b p)))
 
 pub below_trans : (a b c : Exact) → IsBelow a b → IsBelow b c → IsBelow a c
 below_trans a b c p q = below_trans_left a b c p (at_most_below b c q)
@@ -204,7 +207,8 @@ below_minus a b p = below_from_gap _ _ (subst IsPositive (minus_gap a b) (below_
 -- ---- the order takes any form of a fraction
 low_gap : (a b : Exact) → plus b (minus a) ≡ plus (low b) (minus (low a))
 low_gap a b =
-    sym (plus_low_right b (minus a)) ∙ (sym (plus_low_left b (low (minus a))) ∙ ap (plus (low b)) (sym (minus_lowest a.num a.den)))
+    sym (plus_low_right b (minus a))
+    ∙ (sym (plus_low_left b (low (minus a))) ∙ ap (plus (low b)) (sym (minus_lowest a.num a.den)))
 
 pub at_most_low : (a b : Exact) → IsAtMost a b → IsAtMost (low a) (low b)
 at_most_low a b p = at_most_from_gap _ _ (subst IsNonneg (low_gap a b) (at_most_gap a b p))
@@ -219,9 +223,15 @@ at_most_same a b e = at_most_from_low a b (subst (IsAtMost (low a)) e (at_most_r
 pub exact_cmp_ranked : (a b : Exact) (r : Ordering) → r ≡ exact_cmp a b
     → MatchOrdering r (IsBelow a b) (low a ≡ low b) (IsBelow b a)
 exact_cmp_ranked a b r e =
-    ranked r (int_ranked (a.num *ℤ pos (den_of b)) (b.num *ℤ pos (den_of a)) r e)
+    ranked r (int_ranked u v r e)
   where
-    ranked : (r : Ordering) → MatchOrdering r ((a.num *ℤ pos (den_of b)) <ℤ (b.num *ℤ pos (den_of a))) (a.num *ℤ pos (den_of b) ≡ b.num *ℤ pos (den_of a)) ((b.num *ℤ pos (den_of a)) <ℤ (a.num *ℤ pos (den_of b)))
+    u : ℤ
+    u = a.num *ℤ pos (den_of b)
+
+    v : ℤ
+    v = b.num *ℤ pos (den_of a)
+
+    ranked : (r : Ordering) → MatchOrdering r (u <ℤ v) (u ≡ v) (v <ℤ u)
         → MatchOrdering r (IsBelow a b) (low a ≡ low b) (IsBelow b a)
     ranked Less h = record { cross = h }
     ranked Equal h = lowest_same a.num b.num a.den b.den h
@@ -254,7 +264,8 @@ exact_cmp-same a b e =
 pub exact_cmp_total : IsTotalOrder exact_cmp
 exact_cmp_total = record {
   antisymm = λ a b. int_cmp_total.antisymm (a.num *ℤ pos (den_of b)) (b.num *ℤ pos (den_of a));
-  trans = λ a b c p q. exact_cmp-below a c (below_trans a b c (exact_cmp_ranked a b Less (sym p)) (exact_cmp_ranked b c Less (sym q)));
+  trans = λ a b c p q. exact_cmp-below a c
+      (below_trans a b c (exact_cmp_ranked a b Less (sym p)) (exact_cmp_ranked b c Less (sym q)));
   congr = λ a b c p. congruent a b c (exact_cmp_ranked a b Equal (sym p)) (exact_cmp b c) refl;
 }
   where

@@ -28,12 +28,17 @@ pub diff_neg : (u v : ℕ) → neg_ℤ (diff u v) ≡ diff v u
 diff_neg u v = same_in _ _ (omega (arith, diff_parts, neg_is))
 
 -- the two sides of a product, from the parts of its factors
-cross : (a b c d u v s t : ℕ) → a + v ≡ b + u → c + t ≡ d + s → (a * c + b * d) + (u * t + v * s) ≡ (a * d + b * c) + (u * s + v * t)
+cross : (a b c d u v s t : ℕ) → a + v ≡ b + u → c + t ≡ d + s
+    → (a * c + b * d) + (u * t + v * s) ≡ (a * d + b * c) + (u * s + v * t)
 cross a b c d u v s t e f =
     omega (arith, ap (λ (x : ℕ). x * c) e, ap (λ (x : ℕ). x * d) e, ap (λ (x : ℕ). x * u) f, ap (λ (x : ℕ). x * v) f)
 
 pub diff_product : (u v s t : ℕ) → diff u v *ℤ diff s t ≡ diff (u * s + v * t) (u * t + v * s)
-diff_product u v s t = same_in _ _ (omega (arith, diff_parts, product_is (diff u v) (diff s t), cross (up (diff u v)) (down (diff u v)) (up (diff s t)) (down (diff s t)) u v s t (diff_parts u v) (diff_parts s t)))
+diff_product u v s t =
+    let a = diff u v in
+    let b = diff s t in
+    let sides = cross (up a) (down a) (up b) (down b) u v s t (diff_parts u v) (diff_parts s t) in
+    same_in _ _ (omega (arith, diff_parts, product_is a b, sides))
 
 -- for `simp`: a whole expression as one difference
 pub pos_is : (n : ℕ) → pos n ≡ diff n 0
@@ -77,6 +82,11 @@ pub product_negative : (x : ℤ) (k : ℕ) → 0 < k → x <ℤ pos 0 → (x *�
 product_negative (pos x) k w p = absurd (omega (arith, ints, p))
 product_negative (negsuc x) k w p = omega (arith, ints)
 
+pub product_nonpositive : (x : ℤ) (k : ℕ) → x ≤ℤ pos 0 → (x *ℤ pos k) ≤ℤ pos 0
+product_nonpositive (pos zero) k p = omega (arith, ints)
+product_nonpositive (pos (suc x)) k p = absurd (omega (arith, ints, p))
+product_nonpositive (negsuc x) k p = omega (arith, ints)
+
 -- numbers with equal products by naturals over 0 have one sign
 pub same_nonneg : (x n : ℤ) (d k : ℕ) → 0 < k → x *ℤ pos d ≡ n *ℤ pos k → pos 0 ≤ℤ x → pos 0 ≤ℤ n
 same_nonneg x n d k q e p = by_lt_z n (pos 0) below (λ h. h)
@@ -88,17 +98,10 @@ same_nonneg x n d k q e p = by_lt_z n (pos 0) below (λ h. h)
         absurd (omega (arith, ints, above, under, e))
 
 pub same_positive : (x n : ℤ) (d k : ℕ) → 0 < d → x *ℤ pos d ≡ n *ℤ pos k → pos 0 <ℤ x → pos 0 <ℤ n
-same_positive x n d k q e p = by_lt_z (pos 0) n (λ h. h) (under x n d k q e p)
+same_positive x n d k q e p = by_lt_z (pos 0) n (λ h. h) at_most
   where
-    under : (x n : ℤ) (d k : ℕ) → 0 < d → x *ℤ pos d ≡ n *ℤ pos k → pos 0 <ℤ x → n ≤ℤ pos 0 → pos 0 <ℤ n
-    under x (pos zero) d k q e p h =
+    at_most : n ≤ℤ pos 0 → pos 0 <ℤ n
+    at_most h =
         let above : pos 0 <ℤ (x *ℤ pos d) = product_positive x (pos d) p (omega (arith, ints, q)) in
-        absurd (omega (arith, ints, above, e))
-    under x (pos (suc n)) d k q e p h = omega (arith, ints)
-    under x (negsuc n) d zero q e p h =
-        let above : pos 0 <ℤ (x *ℤ pos d) = product_positive x (pos d) p (omega (arith, ints, q)) in
-        absurd (omega (arith, ints, above, e))
-    under x (negsuc n) d (suc k) q e p h =
-        let above : pos 0 <ℤ (x *ℤ pos d) = product_positive x (pos d) p (omega (arith, ints, q)) in
-        let below : (negsuc n *ℤ pos (suc k)) <ℤ pos 0 = product_negative (negsuc n) (suc k) (omega arith) (omega (arith, ints)) in
-        absurd (omega (arith, ints, above, below, e))
+        let under : (n *ℤ pos k) ≤ℤ pos 0 = product_nonpositive n k h in
+        absurd (omega (arith, ints, above, under, e))

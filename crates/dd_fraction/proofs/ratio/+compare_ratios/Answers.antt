@@ -6,7 +6,8 @@ use Rattle.dd_fraction.proofs.ratio.+compare_ratios.Goals as goal
 
 pub returns-in_default : goal.returns-in_default
 returns-in_default t c =
-    whole_decides c.args.a c.args.b c.args.c c.args.d c.cmp.result c.requires.left c.requires.right c.cmp.ensures c.in_default.not-Equal
+    whole_decides c.args.a c.args.b c.args.c c.args.d c.cmp.result
+    c.requires.left c.requires.right c.cmp.ensures c.in_default.not-Equal
 
 pub returns-in-0-eq0 : goal.returns-in-0-eq0
 returns-in-0-eq0 t c =
