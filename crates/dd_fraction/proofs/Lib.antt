@@ -1,5 +1,6 @@
 pub mod Comparing
 pub mod Divisors
+pub mod FractionFacts
 pub mod Laws
 pub mod Lowest
 pub mod OrderLaws

@@ -1,7 +1,7 @@
 -- The laws of the order of exact fractions. a is at most b exactly where b - a is at least 0, so the order's laws follow
 -- from those of sums and products, and from the signs of both.
-use Rattle.std.proofs.Common.{◌≡◌, ℕ, zero, suc, ◌+◌, ◌*◌, ◌<◌, ◌⊎◌, inl, inr, refl, sym, ap, subst, ◌∙◌, max, arith}
-use lib.IntN.{ℤ, pos, negsuc, neg_ℤ, ◌+ℤ◌, ◌*ℤ◌}
+use Rattle.std.proofs.Common.{◌≡◌, ℕ, ◌<◌, ◌⊎◌, inl, inr, refl, sym, ap, subst, ◌∙◌, max, arith}
+use lib.IntN.{ℤ, pos, negsuc, ◌*ℤ◌}
 use lib.Signed.{◌≤ℤ◌, ◌<ℤ◌}
 use Rattle.std.specs.declared.cmp.Ordering.{Ordering}
 use Rattle.std.specs.declared.cmp.Ordering.TheVariants.{Less, Equal, Greater}
@@ -11,9 +11,9 @@ use Rattle.std.proofs.lemmas.Int.{ints, by_lt_z}
 use Rattle.std.proofs.lemmas.Cmp.{int_ranked}
 use Rattle.dd_fraction.specs.Exact.{Exact, den_of, lowest, low, plus, times, minus, whole_of, inverse, one_over}
 use Rattle.dd_fraction.specs.Order.{exact_cmp, IsAtMost, IsBelow, IsNonneg, IsPositive}
-use Rattle.dd_fraction.proofs.Lowest.{lowest_same, lowest_is, lowest_positive}
-use Rattle.dd_fraction.proofs.Laws.{plus_is, times_is, plus_comm, plus_assoc, plus_four, plus_undo, plus_zero, plus_minus, plus_low_left, plus_low_right, low_plus, plus_times, minus_lowest, minus_minus, minus_plus, minus_times, neg_product, times_inverse}
-use Rattle.dd_fraction.proofs.Ring.{product_nonneg, product_positive, product_above, same_nonneg, same_positive}
+use Rattle.dd_fraction.proofs.Lowest.{lowest_same, lowest_is}
+use Rattle.dd_fraction.proofs.Laws.{plus_is, times_is, plus_comm, plus_assoc, plus_four, plus_undo, plus_zero, plus_low_left, plus_low_right, plus_times, minus_lowest, minus_minus, minus_plus, minus_times, neg_product, times_inverse}
+use Rattle.dd_fraction.proofs.Ring.{product_nonneg, product_positive, same_nonneg, same_positive}
 
 -- ---- signs
 den_above : (a : Exact) → 0 < den_of a

@@ -1,5 +1,5 @@
 -- What the calls give: results are in lowest terms and within the bounds, and a refusal comes where a number doesn't fit.
-use Rattle.std.proofs.Common.{◌≡◌, ℕ, zero, suc, ◌+◌, ◌*◌, ◌/◌, ◌%◌, ◌^◌, ◌<◌, ◌≤◌, refl, ap, subst, ◌∙◌, arith, max, Option, Some, None, Bool, true, false, cond}
+use Rattle.std.proofs.Common.{◌≡◌, ℕ, zero, suc, ◌*◌, ◌/◌, ◌%◌, ◌^◌, ◌<◌, ◌≤◌, refl, ap, subst, ◌∙◌, arith, max, Some, None, Bool, true, false, cond}
 use lib.IntN.{ℤ, pos, negsuc, ◌+ℤ◌, ◌*ℤ◌}
 use Rattle.std.specs.Int.{IsGcd, w64}
 use Rattle.std.specs.Int.RustNames.{unsigned_abs, int_div}
@@ -15,7 +15,7 @@ use Rattle.dd_fraction.proofs.Divisors.{greatest_common-is, greatest_common-step
 use Rattle.dd_fraction.proofs.Lowest.{size_over, lowest_at}
 
 -- ---- lowest terms within the bounds
-lowest_fraction : (n : ℤ) (d : ℕ) → 0 < d → d < 2 ^ 127 → unsigned_abs n < 2 ^ 127
+pub lowest_fraction : (n : ℤ) (d : ℕ) → 0 < d → d < 2 ^ 127 → unsigned_abs n < 2 ^ 127
     → let g = greatest_common (unsigned_abs n) d in IsFraction (record { num = int_div n (pos g); den = d / g })
 lowest_fraction n d p q r =
     let g = greatest_common (unsigned_abs n) d in
@@ -64,13 +64,15 @@ greatest_common-one a =
     let none_left : a % 1 ≡ 0 = omega (arith, mod_below a 1 (omega arith)) in
     greatest_common-step a 1 (omega arith) ∙ (ap (greatest_common 1) none_left ∙ greatest_common-zero 1)
 
+pub IsFraction-whole : (n : ℤ) → unsigned_abs n < 2 ^ 127 → IsFraction (record { num = n; den = 1 })
+IsFraction-whole n p =
+    record { above = omega arith; below = omega arith; bounded = p; alone = greatest_common-one (unsigned_abs n) }
+
 pub whole_fraction : (n : ℤ) → SFits w64 n → IsFraction (record { num = n; den = 1 })
-whole_fraction n f =
-    let s : unsigned_abs n < 2 ^ 127 = omega (arith, ints, f) in
-    record { above = omega arith; below = omega arith; bounded = s; alone = greatest_common-one (unsigned_abs n) }
+whole_fraction n f = IsFraction-whole n (omega (arith, ints, f))
 
 -- ---- what a number that fits, or doesn't, says of the test
-kept : {A : Type 0} (t : Bool) (x z : A) → Some x ≡ cond t (Some z) None → (t ≡ true) × (x ≡ z)
+pub kept : {A : Type 0} (t : Bool) (x z : A) → Some x ≡ cond t (Some z) None → (t ≡ true) × (x ≡ z)
 kept true x z e = (refl, cc)
 kept false x z e = absurd cc
 
@@ -85,12 +87,12 @@ pub size_some : (n x : ℕ) → Some x ≡ bounded_size n → (is_bounded (pos n
 size_some n x e = kept (is_bounded (pos n)) x n e
 
 -- ---- a product. The denominators of fractions are at least 1
-times_at : (a b : Exact) (n : ℤ) (d : ℕ) → IsFraction a → IsFraction b
+pub times_at : (a b : Exact) (n : ℤ) (d : ℕ) → 0 < a.den → 0 < b.den
     → n ≡ a.num *ℤ b.num → d ≡ a.den * b.den → lowest n d ≡ times a b
 unfolding times
 times_at a b n d p q e f =
-    let x : max 1 a.den ≡ a.den = omega (arith, p.above) in
-    let y : max 1 b.den ≡ b.den = omega (arith, q.above) in
+    let x : max 1 a.den ≡ a.den = omega (arith, p) in
+    let y : max 1 b.den ≡ b.den = omega (arith, q) in
     rw (e, f, x, y) refl
 
 pub product_some : (a b r : Exact) (n : ℤ) (d : ℕ) → IsFraction a → IsFraction b
@@ -99,15 +101,15 @@ pub product_some : (a b r : Exact) (n : ℤ) (d : ℕ) → IsFraction a → IsFr
 product_some a b r n d p q e f s =
     let x = bounded_some (a.num *ℤ b.num) n e in
     let y = size_some (a.den * b.den) d f in
-    rw (x.0, y.0) (ap (λ (z : Exact). Some z) (s ∙ times_at a b n d p q x.1 y.1))
+    rw (x.0, y.0) (ap (λ (z : Exact). Some z) (s ∙ times_at a b n d p.above q.above x.1 y.1))
 
 -- ---- a sum
-plus_at : (a b : Exact) (n : ℤ) (d : ℕ) → IsFraction a → IsFraction b
+pub plus_at : (a b : Exact) (n : ℤ) (d : ℕ) → 0 < a.den → 0 < b.den
     → n ≡ a.num *ℤ pos b.den +ℤ b.num *ℤ pos a.den → d ≡ a.den * b.den → lowest n d ≡ plus a b
 unfolding plus
 plus_at a b n d p q e f =
-    let x : max 1 a.den ≡ a.den = omega (arith, p.above) in
-    let y : max 1 b.den ≡ b.den = omega (arith, q.above) in
+    let x : max 1 a.den ≡ a.den = omega (arith, p) in
+    let y : max 1 b.den ≡ b.den = omega (arith, q) in
     rw (e, f, x, y) refl
 
 -- the two cross products fit
@@ -155,4 +157,4 @@ sum_some a b s l r n d p q e f g h k =
     let z : is_bounded (a.num *ℤ pos b.den +ℤ b.num *ℤ pos a.den) ≡ true =
     subst (λ (n : ℤ). is_bounded n ≡ true) x.both y.0 in
     let w = size_some (a.den * b.den) d h in
-    rw (x.left, x.right, z, w.0) (ap (λ (t : Exact). Some t) (k ∙ plus_at a b n d p q (y.1 ∙ x.both) w.1))
+    rw (x.left, x.right, z, w.0) (ap (λ (t : Exact). Some t) (k ∙ plus_at a b n d p.above q.above (y.1 ∙ x.both) w.1))

@@ -1,5 +1,3 @@
-use Rattle.std.proofs.Common.{◌≡◌, ℕ, ◌<◌, ◌≤◌, arith, sym, ap, ◌∙◌, subst}
-use Rattle.std.specs.Int.RustNames.{unsigned_abs}
 use Rattle.dd_fraction.proofs.Divisors.{greatest_common_above, greatest_common_le}
 use Rattle.dd_fraction.proofs.divisor.common_divisor.Goals as goal
 

@@ -1,4 +1,4 @@
-use Rattle.std.proofs.Common.{◌≡◌, ℕ, sym, ◌∙◌, rules, arith, ◌<◌, ap, ◌%◌}
+use Rattle.std.proofs.Common.{◌≡◌, sym, ◌∙◌, arith, ap}
 use Rattle.dd_fraction.specs.Divisor.{greatest_common}
 use Rattle.dd_fraction.proofs.Divisors.{greatest_common-zero, greatest_common-step}
 use Rattle.dd_fraction.proofs.divisor.greatest_common_divisor.Goals as goal

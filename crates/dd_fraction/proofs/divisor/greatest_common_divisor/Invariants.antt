@@ -1,4 +1,4 @@
-use Rattle.std.proofs.Common.{◌≡◌, ℕ, ◌<◌}
+use Rattle.std.proofs.Common.{◌≡◌}
 use Rattle.dd_fraction.specs.Divisor.{greatest_common}
 use Rattle.dd_fraction.proofs.divisor.greatest_common_divisor.Given as goal
 

@@ -1,4 +1,4 @@
-use Rattle.std.proofs.Common.{ℕ, ◌+◌}
+use Rattle.std.proofs.Common.{◌+◌}
 use Rattle.dd_fraction.proofs.ratio.+compare_ratios.Given as goal
 
 abbrev pub decreases-compare_ratios : goal.decreases-compare_ratios

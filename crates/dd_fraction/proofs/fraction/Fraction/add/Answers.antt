@@ -1,4 +1,4 @@
-use Rattle.std.proofs.Common.{◌≡◌, ℕ, ◌<◌, ◌≤◌, ◌*◌, ◌^◌, ◌∙◌, sym, ap, arith, rules, Some}
+use Rattle.std.proofs.Common.{◌≡◌, ◌*◌, ◌∙◌, rules}
 use Rattle.std.specs.Int.{w128}
 use lib.IntN.{pos}
 use mir.Val.{SFits, to_z}
