@@ -1,0 +1,13 @@
+pub mod Residues
+pub mod TileSizes
+pub mod MoveLaws
+pub mod Layers
+pub mod SaysSame
+pub mod Shifting
+pub mod ReadsLaws
+pub mod TruthAt
+pub mod Nodes
+pub mod SquareReach
+pub mod BoxLaws
+pub mod Reached
+pub mod LivesLaws

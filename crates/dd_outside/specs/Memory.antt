@@ -1,0 +1,51 @@
+-- What a source and a sink over memory hold, and what they are told to do.
+use Rattle.std.specs.Prelude.{ℕ, ◌+◌, ◌-◌, List, length, take, drop}
+use Rattle.dd_outside.specs.Bytes.{capped}
+use Rattle.dd_outside.specs.declared.memory.MemorySource.{MemorySource}
+use Rattle.dd_outside.specs.declared.memory.MemorySink.{MemorySink}
+
+-- The number of the next call, from 1. It stops at the greatest number of 64 bits.
+abbrev pub next_call : ℕ → ℕ
+next_call calls = capped (calls + 1)
+
+-- The bytes that the source still gives.
+abbrev pub source_left : MemorySource → List ℕ
+source_left source = drop source.at source.bytes.items
+
+-- The most bytes that a call of the source gives.
+abbrev pub source_step : MemorySource → ℕ
+source_step source = source.step
+
+-- The numbers of the calls of the source that fail.
+abbrev pub source_failing : MemorySource → List ℕ
+source_failing source = source.plan.failing.items
+
+-- The number of calls of the source so far, and of those that failed.
+abbrev pub source_calls : MemorySource → ℕ
+source_calls source = source.plan.calls
+
+abbrev pub source_faults : MemorySource → ℕ
+source_faults source = capped source.plan.faults
+
+-- The bytes that the sink took.
+abbrev pub sink_held : MemorySink → List ℕ
+sink_held sink = take sink.taken sink.room.items
+
+-- How many bytes the sink still has room for.
+abbrev pub sink_free : MemorySink → ℕ
+sink_free sink = length sink.room.items - sink.taken
+
+-- The most bytes that a call of the sink takes.
+abbrev pub sink_step : MemorySink → ℕ
+sink_step sink = sink.step
+
+-- The numbers of the calls of the sink that fail.
+abbrev pub sink_failing : MemorySink → List ℕ
+sink_failing sink = sink.plan.failing.items
+
+-- The number of calls of the sink so far, and of those that failed.
+abbrev pub sink_calls : MemorySink → ℕ
+sink_calls sink = sink.plan.calls
+
+abbrev pub sink_faults : MemorySink → ℕ
+sink_faults sink = capped sink.plan.faults

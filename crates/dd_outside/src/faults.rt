@@ -1,0 +1,48 @@
+// Why a read or a write gave nothing.
+ghost use Rattle.std.specs.Prelude.{◌≡◌};
+ghost use Rattle.dd_outside.specs.declared.faults.ReadAllFault.TheVariants.{ReadFault, Memory};
+
+use std::alloc::{AllocError, AllocFailed};
+
+/// One read or one write failed.
+#[derive(Clone, Copy, Debug, PartialEq, Eq)]
+pub struct Failed;
+
+/// A piece was not written whole, since the sink failed.
+#[derive(Clone, Copy, Debug, PartialEq, Eq)]
+pub struct WriteFault;
+
+/// A source was not read to its end.
+#[derive(Clone, Copy, Debug, PartialEq, Eq)]
+pub enum ReadAllFault {
+    /// The source failed.
+    ReadFault,
+    /// The source gave more bytes than the limit.
+    TooLong,
+    /// Memory was wanting.
+    Memory,
+}
+
+impl From<AllocError> for ReadAllFault {
+    ghost from_gives = { λ _ fault. fault ≡ Memory };
+
+    fn from(_: AllocError) -> Self {
+        ReadAllFault::Memory
+    }
+}
+
+impl<T: Drop> From<AllocFailed<T>> for ReadAllFault {
+    ghost from_gives = { λ _ fault. fault ≡ Memory };
+
+    fn from(_: AllocFailed<T>) -> Self {
+        ReadAllFault::Memory
+    }
+}
+
+impl From<Failed> for ReadAllFault {
+    ghost from_gives = { λ _ fault. fault ≡ ReadFault };
+
+    fn from(_: Failed) -> Self {
+        ReadAllFault::ReadFault
+    }
+}

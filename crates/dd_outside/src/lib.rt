@@ -1,0 +1,19 @@
+//! Sources and sinks of bytes that count their faults, and the reading and writing of whole texts.
+#![tactic(auto)]
+
+mod faults;
+mod memory;
+mod quiet;
+mod sink;
+mod source;
+mod standard;
+
+pub use faults::{Failed, ReadAllFault, WriteFault};
+pub use memory::{MemorySink, MemorySource};
+pub use quiet::{QuietSink, QuietSource};
+pub use sink::{Sink, write_whole};
+pub use source::{Source, read_all};
+pub use standard::{StdSink, StdSource};
+
+#[cfg(test)]
+mod tests;

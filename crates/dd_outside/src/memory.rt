@@ -1,0 +1,224 @@
+// A source and a sink over memory, which fail at the calls that they are told to.
+ghost use Rattle.std.specs.Prelude.{◌≡◌, ◌+◌, ◌-◌, ◌^◌, ◌<◌, ◌≤◌, ◌↔◌, [], ◌++◌, Some, length, take, drop, min, ◌⊎◌, Contains, IfOk, IsTrue, IsErr};
+
+use crate::faults::Failed;
+use crate::sink::Sink;
+use crate::source::Source;
+use std::alloc::{AllocError, Global};
+
+// The calls that are to fail, how many calls were made, and how many failed.
+#[derive(Drop)]
+struct Plan {
+    failing: Vec<u64>,
+    calls: u64,
+    faults: u64,
+}
+
+impl Plan {
+    fn new(failing: Vec<u64>) -> Self
+        ensures failing { result.failing.items ≡ failing.items }
+        ensures calls { result.calls ≡ 0 }
+        ensures faults { result.faults ≡ 0 }
+    {
+        Plan {
+            failing,
+            calls: 0,
+            faults: 0,
+        }
+    }
+
+    // Counts a call. True where it is one of those that fail.
+    fn call(&mut self) -> bool
+        ensures listed { IsTrue result ↔ Contains self.old.failing.items (min (self.old.calls + 1) (2 ^ 64 - 1)) }
+        ensures counted { self.new.calls ≡ min (self.old.calls + 1) (2 ^ 64 - 1) }
+        ensures failing { self.new.failing.items ≡ self.old.failing.items }
+        ensures faults { self.new.faults ≡ self.old.faults }
+    {
+        self.calls = self.calls.saturating_add(1);
+        self.failing.contains(&self.calls)
+    }
+
+    // Counts a fault.
+    fn fail(&mut self) -> Failed
+        ensures faults { self.new.faults ≡ min (self.old.faults + 1) (2 ^ 64 - 1) }
+        ensures calls { self.new.calls ≡ self.old.calls }
+        ensures failing { self.new.failing.items ≡ self.old.failing.items }
+    {
+        self.faults = self.faults.saturating_add(1);
+        Failed
+    }
+}
+
+/// Gives these bytes, at most `step` a call, and fails at the calls with these numbers, from 1.
+#[derive(Drop)]
+pub struct MemorySource {
+    bytes: Vec<u8>,
+    at: usize,
+    step: usize,
+    plan: Plan,
+    ghost in_range: { at ≤ length bytes.items },
+    ghost moves: { 0 < step },
+}
+
+impl MemorySource {
+    ghost use Rattle.dd_outside.specs.Memory.{source_step, source_failing, source_calls};
+
+    pub fn new(bytes: Vec<u8>, step: usize, failing: Vec<u64>) -> Self
+        requires { 1 ≤ step }
+        ensures left { ⟦<MemorySource as Source>⟧.left result ≡ Some bytes.items }
+        ensures step { source_step result ≡ step }
+        ensures failing { source_failing result ≡ failing.items }
+        ensures calls { source_calls result ≡ 0 }
+        ensures faults { ⟦<MemorySource as Source>⟧.faults result ≡ 0 }
+    {
+        MemorySource {
+            bytes,
+            at: 0,
+            step,
+            plan: Plan::new(failing),
+        }
+    }
+}
+
+// Copies the next bytes, at most `step` of them, and goes on behind them.
+pub(crate) fn give(bytes: &[u8], at: &mut usize, step: usize, into: &mut [u8]) -> usize
+    requires in_range { at.old ≤ length bytes.now }
+    requires moves { 0 < step }
+    ensures count { result ≡ min step (min (length into.new) (length bytes.now - at.old)) }
+    ensures bytes { drop at.old bytes.now ≡ take result into.new ++ drop at.new bytes.now }
+    ensures end { result ≡ 0 → 0 < length into.new → drop at.new bytes.now ≡ [] }
+    ensures in_range { at.new ≤ length bytes.now }
+{
+    let start = *at;
+    let count = step.min(into.len().min(bytes.len() - start));
+    into[..count].copy_from_slice(&bytes[start..start + count]);
+    *at = start + count;
+    count
+}
+
+impl Source for MemorySource {
+    ghost use Rattle.std.specs.Io.{ReadsAtMost};
+    ghost use Rattle.std.specs.Io.KnownBytes.{ReadConsumes};
+    ghost use Rattle.dd_values.specs.Counts.{HasCause};
+    ghost use Rattle.dd_outside.specs.Bytes.{capped_fits};
+    ghost use Rattle.dd_outside.specs.Memory.{source_left, source_step, source_failing, source_calls, source_faults, next_call};
+
+    ghost left = { λ source. Some (source_left source) };
+
+    ghost faults = { λ source. source_faults source };
+
+    ghost fits = { λ source. capped_fits source.plan.faults };
+
+    fn read(&mut self, into: &mut [u8]) -> Result<usize, Failed>
+        ensures bound { ReadsAtMost result into.new }
+        ensures bytes { ReadConsumes (Some (source_left self.old)) (Some (source_left self.new)) result into.new }
+        ensures cause { HasCause (source_faults self.old) (source_faults self.new) result }
+
+        ensures listed { IsErr result ↔ Contains (source_failing self.old) (next_call (source_calls self.old)) }
+        ensures count { IfOk result (λ count. count ≡ min (source_step self.old) (min (length into.new) (length (source_left self.old)))) }
+        ensures counted { source_calls self.new ≡ next_call (source_calls self.old) }
+        ensures same { (source_step self.new ≡ source_step self.old) × (source_failing self.new ≡ source_failing self.old) }
+    {
+        if self.plan.call() {
+            return Err(self.plan.fail());
+        }
+        Ok(give(&self.bytes, &mut self.at, self.step, into))
+    }
+}
+
+/// Takes bytes up to its capacity, at most `step` a call, and fails at the calls with these
+/// numbers, from 1, and where the next byte would pass the capacity.
+#[derive(Drop)]
+pub struct MemorySink {
+    room: Vec<u8>,
+    taken: usize,
+    step: usize,
+    plan: Plan,
+    ghost in_range: { taken ≤ length room.items },
+    ghost moves: { 0 < step },
+}
+
+impl MemorySink {
+    ghost use Rattle.dd_outside.specs.Memory.{sink_free, sink_step, sink_failing, sink_calls};
+
+    /// All room is made here, so that a write takes no memory.
+    pub fn new(
+        alloc: Global,
+        capacity: usize,
+        step: usize,
+        failing: Vec<u64>,
+    ) -> Result<Self, AllocError>
+        requires { 1 ≤ step }
+        ensures held { IfOk result (λ sink. ⟦<MemorySink as Sink>⟧.held sink ≡ Some []) }
+        ensures free { IfOk result (λ sink. sink_free sink ≡ capacity) }
+        ensures step { IfOk result (λ sink. sink_step sink ≡ step) }
+        ensures failing { IfOk result (λ sink. sink_failing sink ≡ failing.items) }
+        ensures calls { IfOk result (λ sink. sink_calls sink ≡ 0) }
+        ensures faults { IfOk result (λ sink. ⟦<MemorySink as Sink>⟧.faults sink ≡ 0) }
+    {
+        Ok(MemorySink {
+            room: vec![in alloc; 0; capacity]?,
+            taken: 0,
+            step,
+            plan: Plan::new(failing),
+        })
+    }
+
+    /// The bytes that it took.
+    pub fn held_bytes(&self) -> &[u8]
+        ensures { ⟦<MemorySink as Sink>⟧.held self.now ≡ Some result.now }
+    {
+        &self.room[..self.taken]
+    }
+}
+
+// Copies a front of the piece, at most `step` bytes of it, behind those that were taken before.
+fn take_in(room: &mut [u8], taken: &mut usize, step: usize, piece: &[u8]) -> usize
+    requires { taken.old ≤ length room.old }
+    ensures count { result ≡ min step (min (length piece.now) (length room.old - taken.old)) }
+    ensures bytes { take taken.new room.new ≡ take taken.old room.old ++ take result piece.now }
+    ensures taken { taken.new ≡ taken.old + result }
+    ensures none { result ≡ 0 → room.new ≡ room.old }
+{
+    let start = *taken;
+    let count = step.min(piece.len().min(room.len() - start));
+    room[start..start + count].copy_from_slice(&piece[..count]);
+    *taken = start + count;
+    count
+}
+
+impl Sink for MemorySink {
+    ghost use Rattle.std.specs.Io.{WritesAtMost};
+    ghost use Rattle.std.specs.Io.KnownBytes.{WriteAppends};
+    ghost use Rattle.dd_values.specs.Counts.{HasCause};
+    ghost use Rattle.dd_outside.specs.Bytes.{capped_fits};
+    ghost use Rattle.dd_outside.specs.Memory.{sink_held, sink_free, sink_step, sink_failing, sink_calls, sink_faults, next_call};
+
+    ghost held = { λ sink. Some (sink_held sink) };
+
+    ghost faults = { λ sink. sink_faults sink };
+
+    ghost fits = { λ sink. capped_fits sink.plan.faults };
+
+    fn write(&mut self, piece: &[u8]) -> Result<usize, Failed>
+        ensures bound { WritesAtMost result piece.now }
+        ensures some { IfOk result (λ count. 0 < length piece.now → 0 < count) }
+        ensures bytes { WriteAppends (Some (sink_held self.old)) (Some (sink_held self.new)) result piece.now }
+        ensures cause { HasCause (sink_faults self.old) (sink_faults self.new) result }
+
+        ensures listed { Contains (sink_failing self.old) (next_call (sink_calls self.old)) → IsErr result }
+        ensures failed { IsErr result → Contains (sink_failing self.old) (next_call (sink_calls self.old)) ⊎ ((sink_free self.old ≡ 0) × (0 < length piece.now)) }
+        ensures count { IfOk result (λ count. count ≡ min (sink_step self.old) (min (length piece.now) (sink_free self.old))) }
+        ensures counted { sink_calls self.new ≡ next_call (sink_calls self.old) }
+        ensures same { (sink_step self.new ≡ sink_step self.old) × (sink_failing self.new ≡ sink_failing self.old) }
+    {
+        if self.plan.call() {
+            return Err(self.plan.fail());
+        }
+        let count = take_in(&mut self.room, &mut self.taken, self.step, piece);
+        if count == 0 && !piece.is_empty() {
+            return Err(self.plan.fail());
+        }
+        Ok(count)
+    }
+}

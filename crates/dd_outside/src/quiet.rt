@@ -1,0 +1,58 @@
+// A source and a sink that never fail.
+ghost use Rattle.std.specs.Prelude.{◌≡◌, ◌≤◌, None, Some, length, drop};
+ghost use Rattle.dd_outside.specs.Bytes.{zero_fits};
+
+use crate::faults::Failed;
+use crate::memory::give;
+use crate::sink::Sink;
+use crate::source::Source;
+
+/// Gives these bytes, and never fails.
+#[derive(Drop)]
+pub struct QuietSource {
+    bytes: Vec<u8>,
+    at: usize,
+    ghost in_range: { at ≤ length bytes.items },
+}
+
+impl QuietSource {
+    pub fn new(bytes: Vec<u8>) -> Self
+        ensures { ⟦<QuietSource as Source>⟧.left result ≡ Some bytes.items }
+    {
+        QuietSource { bytes, at: 0 }
+    }
+}
+
+impl Source for QuietSource {
+    ghost left = { λ source. Some (drop source.at source.bytes.items) };
+
+    ghost faults = { λ _. 0 };
+
+    ghost fits = { λ _. zero_fits };
+
+    fn read(&mut self, into: &mut [u8]) -> Result<usize, Failed> {
+        Ok(give(&self.bytes, &mut self.at, usize::MAX, into))
+    }
+}
+
+/// Takes each piece whole, keeps nothing of it, and never fails.
+#[derive(Drop)]
+pub struct QuietSink;
+
+impl QuietSink {
+    pub fn new() -> Self {
+        QuietSink
+    }
+}
+
+impl Sink for QuietSink {
+    ghost held = { λ _. None };
+
+    ghost faults = { λ _. 0 };
+
+    ghost fits = { λ _. zero_fits };
+
+    fn write(&mut self, piece: &[u8]) -> Result<usize, Failed> {
+        Ok(piece.len())
+    }
+}

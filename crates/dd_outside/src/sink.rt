@@ -1,0 +1,44 @@
+// Sinks, and the writing of a whole piece.
+ghost use Rattle.std.specs.Prelude.{◌≡◌, ◌-◌, ◌^◌, ◌<◌, ◌≤◌, ℕ, List, [], length, Ok, IfOk, OnOk, OnErr};
+ghost use Rattle.std.specs.declared.option.Option.{Option};
+ghost use Rattle.std.specs.Io.{WritesAtMost};
+ghost use Rattle.std.specs.Io.KnownBytes.{WriteAppends, Appends};
+ghost use Rattle.dd_values.specs.Counts.{HasCause};
+ghost use Rattle.dd_outside.specs.Bytes.{GainsFront};
+
+use crate::faults::{Failed, WriteFault};
+
+/// Takes bytes.
+pub trait Sink {
+    /// The bytes that it took, where it tells them.
+    ghost held: { Self → Option (List ℕ) };
+
+    /// How often it has failed. The count stops at its greatest number.
+    ghost faults: { Self → ℕ };
+
+    /// Takes a front of the piece, which is not empty where the piece is not.
+    fn write(&mut self, piece: &[u8]) -> Result<usize, Failed>
+        ensures bound { WritesAtMost result piece.now }
+        ensures some { IfOk result (λ count. 0 < length piece.now → 0 < count) }
+        ensures bytes { WriteAppends (held self.old) (held self.new) result piece.now }
+        ensures cause { HasCause (faults self.old) (faults self.new) result };
+
+    ghost fits: { (sink : Self) → faults sink ≤ 2 ^ 64 - 1 };
+}
+
+/// Writes all of a piece. An empty piece makes no call.
+pub fn write_whole<K: Sink>(sink: &mut K, piece: &[u8]) -> Result<(), WriteFault>
+    ensures whole { OnOk result (Appends (K.held sink.old) (K.held sink.new) piece.now) }
+    ensures front { OnErr result (GainsFront (K.held sink.old) (K.held sink.new) piece.now) }
+    ensures cause { HasCause (K.faults sink.old) (K.faults sink.new) result }
+    ensures empty { piece.now ≡ [] → (result ≡ Ok tt) × (sink.new ≡ sink.old) }
+{
+    let mut at = 0;
+    while at < piece.len() {
+        match sink.write(&piece[at..]) {
+            Ok(count) => at += count,
+            Err(Failed) => return Err(WriteFault),
+        }
+    }
+    Ok(())
+}

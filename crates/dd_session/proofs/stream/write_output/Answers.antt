@@ -1,0 +1,28 @@
+use Rattle.std.proofs.Common.{rules, ◌∷◌, []}
+use Rattle.dd_session.specs.Questions.{query_of}
+use Rattle.dd_session.specs.Runs.{CutShort}
+use Rattle.dd_session.proofs.Streamed.{cut_at_start, cut_in_header, cut_in_answers, cut_at_end}
+use Rattle.dd_session.proofs.stream.write_output.Goals as goal
+
+pub returns-in_err-header-clause-cut : goal.returns-in_err-header-clause-cut
+returns-in_err-header-clause-cut g c =
+    let cut : CutShort (g.K.Sink.held c.args.sink.now) (g.K.Sink.held c.args.sink.now) c.args.bytes.now (query_of c.args.question.now ∷ []) = cut_at_start _ _ _ in
+    search rules
+
+pub returns-in_err-write_whole-clause-cut : goal.returns-in_err-write_whole-clause-cut
+returns-in_err-write_whole-clause-cut g c =
+    let cut : CutShort (g.K.Sink.held c.args.sink.now) (g.K.Sink.held c.write_whole.new.sink) c.args.bytes.now (query_of c.args.question.now ∷ []) =
+    cut_in_header _ _ _ _ c.deref.result.now (search rules) c.in_err-write_whole.ensures.front in
+    search rules
+
+pub returns-in_err-is_unknown-clause-cut : goal.returns-in_err-is_unknown-clause-cut
+returns-in_err-is_unknown-clause-cut g c =
+    let cut : CutShort (g.K.Sink.held c.args.sink.now) (g.K.Sink.held c.answer_one.new.sink) c.args.bytes.now (query_of c.args.question.now ∷ []) =
+    cut_in_answers _ _ _ _ _ c.deref.result.now (search rules) c.in_ok-write_whole.ensures.whole c.in_err-is_unknown.ensures.cut in
+    search rules
+
+pub returns-in_err-write_whole-2-clause-cut : goal.returns-in_err-write_whole-2-clause-cut
+returns-in_err-write_whole-2-clause-cut g c =
+    let cut : CutShort (g.K.Sink.held c.args.sink.now) (g.K.Sink.held c.write_whole-2.new.sink) c.args.bytes.now (query_of c.args.question.now ∷ []) =
+    cut_at_end _ _ _ _ _ _ c.deref.result.now _ (search rules) c.in_ok-write_whole.ensures.whole c.in_ok-is_unknown.ensures.wrote c.in_err-write_whole-2.ensures.front in
+    search rules

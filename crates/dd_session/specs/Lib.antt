@@ -1,0 +1,7 @@
+pub mod Answers
+pub mod CutForm
+pub mod CutReading
+pub mod Output
+pub mod Queries
+pub mod Questions
+pub mod Runs

@@ -1,0 +1,36 @@
+-- What is left to cut, before and after a piece.
+use Rattle.std.proofs.Common.{◌≡◌, ℕ, zero, suc, ◌+◌, ◌-◌, ◌<◌, ◌≤◌, List, [], ◌∷◌, ◌++◌, length, drop, refl, sym, ap, ◌∙◌, append_assoc, arith}
+use Rattle.dd_tokens.specs.declared.piece.Piece.{Piece}
+use Rattle.dd_tokens.specs.declared.piece.Piece.TheVariants.{Gap, Cut}
+use Rattle.dd_tokens.specs.declared.token.TokenKind.{TokenKind}
+use Rattle.dd_tokens.specs.declared.token.Token.{Token}
+use Rattle.dd_tokens.specs.Format.{tokens_after, first, with_piece, size, with_front, IsWithin}
+
+-- the bytes that belong to a piece are passed over
+pub over : (n place : ℕ) (bytes : List ℕ) → n ≤ length bytes → tokens_after n place bytes ≡ tokens_after 0 (place + n) (drop n bytes)
+over zero place bytes le = ap (λ p. tokens_after 0 p bytes) (omega arith)
+over (suc n) place [] le = absurd (omega arith)
+over (suc n) place (b ∷ bytes) le = over n (place + 1) bytes (omega arith) ∙ ap (λ p. tokens_after 0 p (drop n bytes)) (omega arith)
+
+-- the tokens at a place are the piece there and the tokens behind it
+pub next : (piece : Piece) (place : ℕ) (bytes : List ℕ) → piece ≡ first bytes → 0 < size piece → size piece ≤ length bytes
+    → tokens_after 0 place bytes ≡ with_piece piece place (tokens_after 0 (place + size piece) (drop (size piece) bytes))
+next piece place [] is some within = absurd (omega (arith, some, within))
+next piece place (b ∷ bytes) is some within =
+    let n : size piece ≡ suc (size piece - 1) = omega (arith, some) in
+    let rest : tokens_after (size piece - 1) (place + 1) bytes ≡ tokens_after 0 (place + 1 + (size piece - 1)) (drop (size piece - 1) bytes) = over (size piece - 1) (place + 1) bytes (omega (arith, within, some)) in
+    let at : place + 1 + (size piece - 1) ≡ place + size piece = omega (arith, some) in
+    let left : drop (size piece) (b ∷ bytes) ≡ drop (size piece - 1) bytes = ap (λ (k : ℕ). drop k (b ∷ bytes)) n in
+    rw (← is, rest, at, left) refl
+
+pub passed : (n place : ℕ) (bytes rest : List ℕ) (list : List Token) → Gap n ≡ first bytes → IsWithin (Gap n) (length bytes) → rest ≡ drop n bytes
+    → with_front list (tokens_after 0 (place + n) rest) ≡ with_front list (tokens_after 0 place bytes)
+passed n place bytes rest list is within left = rw left (ap (with_front list) (sym (next (Gap n) place bytes is within.0 within.1)))
+
+pub cut_off : (kind : TokenKind) (n place : ℕ) (bytes rest : List ℕ) (list new : List Token) → Cut kind n ≡ first bytes → IsWithin (Cut kind n) (length bytes) → rest ≡ drop n bytes
+    → new ≡ list ++ record { kind = kind; start = place; length = n } ∷ []
+    → with_front new (tokens_after 0 (place + n) rest) ≡ with_front list (tokens_after 0 place bytes)
+cut_off kind n place bytes rest list new is within left pushed =
+    let t : Token = record { kind = kind; start = place; length = n } in
+    rw (left, pushed) (ap (λ ts. record { list = ts; stop = (tokens_after 0 (place + n) (drop n bytes)).stop }) (append_assoc list (t ∷ []) (tokens_after 0 (place + n) (drop n bytes)).list)
+    ∙ ap (with_front list) (sym (next (Cut kind n) place bytes is within.0 within.1)))

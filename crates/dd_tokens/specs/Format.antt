@@ -1,0 +1,103 @@
+-- The lexical format of a script: blanks and comments, and tokens, longest first, up to the first place where none begins.
+use Rattle.std.specs.Prelude.{ℕ, zero, suc, ◌+◌, ◌-◌, List, [], ◌∷◌, ◌++◌, ◌<◌, ◌≤◌, Bool, false, ◌&&◌, ◌||◌, not, ◌==◌, nat_le, if◌then◌else◌, drop}
+use Rattle.std.specs.List.{prefix_len, list_any}
+use Rattle.dd_tokens.specs.declared.token.TokenKind.TheVariants.{Word, Number, Negative, Mark}
+use Rattle.dd_tokens.specs.declared.token.Token.{Token}
+use Rattle.dd_tokens.specs.declared.token.Tokens.{Tokens}
+use Rattle.dd_tokens.specs.declared.piece.Piece.{Piece}
+use Rattle.dd_tokens.specs.declared.piece.Piece.TheVariants.{Gap, Cut, Fault}
+
+-- space, tab, line feed, carriage return
+abbrev pub is_blank : ℕ → Bool
+is_blank b = b == 32 || b == 9 || b == 10 || b == 13
+
+-- a to z
+abbrev pub is_letter : ℕ → Bool
+is_letter b = nat_le 97 b && nat_le b 122
+
+-- 0 to 9
+abbrev pub is_digit : ℕ → Bool
+is_digit b = nat_le 48 b && nat_le b 57
+
+-- the tokens of one byte that are no word and no number: A E % ( ) [ ] . = ! & | ~ @ :
+abbrev pub is_sign : ℕ → Bool
+is_sign b = list_any (λ s. b == s) (65 ∷ 69 ∷ 37 ∷ 40 ∷ 41 ∷ 91 ∷ 93 ∷ 46 ∷ 61 ∷ 33 ∷ 38 ∷ 124 ∷ 126 ∷ 64 ∷ 58 ∷ [])
+
+-- a byte that a comment goes on with: no line feed, and not over 127
+abbrev pub is_comment : ℕ → Bool
+is_comment b = not (b == 10) && nat_le b 127
+
+-- the first byte passes
+abbrev pub starts : (ℕ → Bool) → List ℕ → Bool
+starts p [] = false
+starts p (b ∷ bytes) = p b
+
+-- a digit other than 0
+abbrev pub starts_positive : List ℕ → Bool
+starts_positive bytes = starts (λ c. nat_le 49 c && nat_le c 57) bytes
+
+-- the tokens of two bytes: -> !=
+abbrev pub is_pair : ℕ → List ℕ → Bool
+is_pair b bytes = (b == 45 && starts (λ c. c == 62) bytes) || (b == 33 && starts (λ c. c == 61) bytes)
+
+-- <->
+abbrev pub is_both_ways : ℕ → List ℕ → Bool
+is_both_ways b bytes = b == 60 && starts (λ c. c == 45) bytes && starts (λ c. c == 62) (drop 1 bytes)
+
+-- A comment, of which the first hyphen is gone, goes up to the line feed or to the end; a byte over 127 in it is a fault.
+abbrev pub comment : List ℕ → Piece
+comment bytes =
+    if starts (λ b. nat_le 128 b) (drop (prefix_len is_comment bytes) bytes) then Fault (1 + prefix_len is_comment bytes)
+    else Gap (1 + prefix_len is_comment bytes)
+
+-- A number begins with a digit and has no leading zero.
+abbrev pub number : ℕ → List ℕ → Piece
+number b bytes = if b == 48 && starts is_digit bytes then Fault 0 else Cut Number (1 + prefix_len is_digit bytes)
+
+-- what stands at the front: so many bytes of a blank or a comment, a token of so many bytes, or a fault so many bytes on
+abbrev pub front : ℕ → List ℕ → Piece
+front b bytes =
+    if is_blank b then Gap 1
+    else (if b == 45 && starts (λ c. c == 45) bytes then comment bytes
+    else (if is_letter b then Cut Word (1 + prefix_len is_letter bytes)
+    else (if is_digit b then number b bytes
+    else (if is_both_ways b bytes then Cut Mark 3
+    else (if is_pair b bytes then Cut Mark 2
+    else (if is_sign b then Cut Mark 1
+    else (if b == 45 && starts_positive bytes then Cut Negative (1 + prefix_len is_digit bytes)
+    else Fault 0)))))))
+
+abbrev pub first : List ℕ → Piece
+first [] = Fault 0
+first (b ∷ bytes) = front b bytes
+
+-- how many bytes a piece has
+abbrev pub size : Piece → ℕ
+size (Gap n) = n
+size (Cut kind n) = n
+size (Fault n) = 0
+
+-- a piece lies within so many bytes, and has one at least
+abbrev pub IsWithin : Piece → ℕ → Type 0
+IsWithin (Gap n) room = (0 < n) × (n ≤ room)
+IsWithin (Cut kind n) room = (0 < n) × (n ≤ room)
+IsWithin (Fault n) room = n < room
+
+-- tokens before others
+abbrev pub with_front : List Token → Tokens → Tokens
+with_front list others = record { list = list ++ others.list; stop = others.stop }
+
+-- a piece at a place, before the tokens of the rest
+abbrev pub with_piece : Piece → ℕ → Tokens → Tokens
+with_piece (Gap n) place rest = rest
+with_piece (Cut kind n) place rest = with_front (record { kind = kind; start = place; length = n } ∷ []) rest
+with_piece (Fault n) place rest = record { list = []; stop = place + n }
+
+-- The tokens of bytes that stand from a place on, where so many of them still belong to the piece before.
+abbrev pub tokens_after : ℕ → ℕ → List ℕ → Tokens
+tokens_after within place [] = record { list = []; stop = place }
+tokens_after (suc within) place (b ∷ bytes) = tokens_after within (place + 1) bytes
+tokens_after zero place (b ∷ bytes) = with_piece (first (b ∷ bytes)) place (tokens_after (size (first (b ∷ bytes)) - 1) (place + 1) bytes)
+
+abbrev pub tokens_of : List ℕ → Tokens
+tokens_of bytes = tokens_after 0 0 bytes

@@ -1,0 +1,43 @@
+// The whole bytes, piece by piece.
+ghost use Rattle.std.specs.Prelude.{◌≡◌, ◌≤◌, length, IfOk};
+ghost use Rattle.dd_tokens.specs.Format.{tokens_of};
+
+use crate::piece::{Piece, first};
+use crate::token::{Token, Tokens};
+use dd_values::Items;
+use std::alloc::{AllocError, Global};
+
+/// Cuts at most 1,048,576 bytes into tokens, each as long as it can be, up to the first place where no token
+/// and no blank begins.
+pub fn tokens(alloc: Global, bytes: &[u8]) -> Result<Tokens, AllocError>
+    requires { length bytes.now ≤ 1048576 }
+    ensures { IfOk result (λ cut. cut ≡ tokens_of bytes.now) }
+{
+    let mut list = Items::new(alloc);
+    let mut place = 0;
+    let mut rest = bytes;
+    while !rest.is_empty() {
+        match first(rest) {
+            Piece::Gap(n) => {
+                rest = rest.split_at(n as usize).1;
+                place += n;
+            }
+            Piece::Cut(kind, n) => {
+                list.push(Token {
+                    kind,
+                    start: place,
+                    length: n,
+                })?;
+                rest = rest.split_at(n as usize).1;
+                place += n;
+            }
+            Piece::Fault(n) => {
+                return Ok(Tokens {
+                    list,
+                    stop: place + n,
+                });
+            }
+        }
+    }
+    Ok(Tokens { list, stop: place })
+}

@@ -1,0 +1,186 @@
+// What stands at the front of some bytes: a blank, a comment, a token, or a fault.
+ghost use Rattle.std.specs.Prelude.{◌≡◌, ◌≤◌, ◌<◌, ◌+◌, length, nat_le, ◌==◌, ◌&&◌};
+ghost use Rattle.std.specs.List.{prefix_len};
+ghost use Rattle.dd_tokens.specs.Format.{is_blank, is_letter, is_digit, is_sign, is_comment, is_pair, is_both_ways, starts_positive, starts, comment, number, front, first, IsWithin};
+
+use crate::token::TokenKind;
+
+/// What stands at the front of some bytes.
+#[derive(Clone, Copy, Debug, PartialEq, Eq)]
+pub enum Piece {
+    /// So many bytes of a blank or a comment.
+    Gap(u32),
+    /// A token of so many bytes.
+    Cut(TokenKind, u32),
+    /// After so many bytes stands one that cannot stand there.
+    Fault(u32),
+}
+
+fn is_blank(byte: u8) -> bool
+    ensures { result ≡ is_blank byte }
+{
+    matches!(byte, b' ' | b'\t' | b'\n' | b'\r')
+}
+
+fn is_letter(byte: u8) -> bool
+    ensures { result ≡ is_letter byte }
+{
+    byte >= b'a' && byte <= b'z'
+}
+
+fn is_digit(byte: u8) -> bool
+    ensures { result ≡ is_digit byte }
+{
+    byte >= b'0' && byte <= b'9'
+}
+
+fn is_sign(byte: u8) -> bool
+    ensures { result ≡ is_sign byte }
+{
+    matches!(
+        byte,
+        b'A' | b'E'
+            | b'%'
+            | b'('
+            | b')'
+            | b'['
+            | b']'
+            | b'.'
+            | b'='
+            | b'!'
+            | b'&'
+            | b'|'
+            | b'~'
+            | b'@'
+            | b':'
+    )
+}
+
+fn is_comment(byte: u8) -> bool
+    ensures { result ≡ is_comment byte }
+{
+    byte != b'\n' && byte <= 127
+}
+
+fn letters(bytes: &[u8]) -> usize
+    ensures value { result ≡ prefix_len is_letter bytes.now }
+    ensures within { result ≤ length bytes.now }
+{
+    bytes.iter().take_while(|byte| is_letter(**byte)).count()
+}
+
+fn digits(bytes: &[u8]) -> usize
+    ensures value { result ≡ prefix_len is_digit bytes.now }
+    ensures within { result ≤ length bytes.now }
+{
+    bytes.iter().take_while(|byte| is_digit(**byte)).count()
+}
+
+fn comment_bytes(bytes: &[u8]) -> usize
+    ensures value { result ≡ prefix_len is_comment bytes.now }
+    ensures within { result ≤ length bytes.now }
+{
+    bytes.iter().take_while(|byte| is_comment(**byte)).count()
+}
+
+fn comment(bytes: &[u8]) -> Piece
+    requires { length bytes.now ≤ 1048576 }
+    ensures value { result ≡ comment bytes.now }
+    ensures within { IsWithin result (1 + length bytes.now) }
+{
+    let n = comment_bytes(bytes);
+    if n < bytes.len() && bytes[n] >= 128 {
+        Piece::Fault(1 + n as u32)
+    } else {
+        Piece::Gap(1 + n as u32)
+    }
+}
+
+fn number(first: u8, bytes: &[u8]) -> Piece
+    requires { length bytes.now ≤ 1048576 }
+    ensures value { result ≡ number first bytes.now }
+    ensures within { IsWithin result (1 + length bytes.now) }
+{
+    let n = digits(bytes);
+    if first == b'0' && n > 0 {
+        Piece::Fault(0)
+    } else {
+        Piece::Cut(TokenKind::Number, 1 + n as u32)
+    }
+}
+
+fn starts_with(bytes: &[u8], byte: u8) -> bool
+    ensures { result ≡ starts (λ c. c == byte) bytes.now }
+{
+    match bytes {
+        [] => false,
+        [c, ..] => *c == byte,
+    }
+}
+
+fn starts_positive(bytes: &[u8]) -> bool
+    ensures { result ≡ starts_positive bytes.now }
+{
+    match bytes {
+        [] => false,
+        [c, ..] => *c >= b'1' && *c <= b'9',
+    }
+}
+
+fn is_pair(first: u8, bytes: &[u8]) -> bool
+    ensures { result ≡ is_pair first bytes.now }
+{
+    (first == b'-' && starts_with(bytes, b'>')) || (first == b'!' && starts_with(bytes, b'='))
+}
+
+fn is_both_ways(first: u8, bytes: &[u8]) -> bool
+    ensures { result ≡ is_both_ways first bytes.now }
+{
+    match bytes {
+        [c, d, ..] => first == b'<' && *c == b'-' && *d == b'>',
+        _ => false,
+    }
+}
+
+fn front(first: u8, bytes: &[u8]) -> Piece
+    requires { length bytes.now ≤ 1048576 }
+    ensures value { result ≡ front first bytes.now }
+    ensures within { IsWithin result (1 + length bytes.now) }
+{
+    if is_blank(first) {
+        return Piece::Gap(1);
+    }
+    if first == b'-' && starts_with(bytes, b'-') {
+        return comment(bytes);
+    }
+    if is_letter(first) {
+        return Piece::Cut(TokenKind::Word, 1 + letters(bytes) as u32);
+    }
+    if is_digit(first) {
+        return number(first, bytes);
+    }
+    if is_both_ways(first, bytes) {
+        return Piece::Cut(TokenKind::Mark, 3);
+    }
+    if is_pair(first, bytes) {
+        return Piece::Cut(TokenKind::Mark, 2);
+    }
+    if is_sign(first) {
+        return Piece::Cut(TokenKind::Mark, 1);
+    }
+    if first == b'-' && starts_positive(bytes) {
+        return Piece::Cut(TokenKind::Negative, 1 + digits(bytes) as u32);
+    }
+    Piece::Fault(0)
+}
+
+/// What stands at the front of the bytes, of which there is one at least.
+pub fn first(bytes: &[u8]) -> Piece
+    requires some { 0 < length bytes.now }
+    requires few { length bytes.now ≤ 1048576 }
+    ensures value { result ≡ first bytes.now }
+    ensures within { IsWithin result (length bytes.now) }
+{
+    let (byte, after) = bytes.split_at(1);
+    front(byte[0], after)
+}
