@@ -1,15 +1,16 @@
 -- What is written is read.
-use Rattle.std.proofs.Common.{◌≡◌, ◌≢◌, ℕ, zero, suc, ◌-◌, ◌+◌, ◌*◌, ◌≤◌, ◌<◌, Bool, true, false, cond, not, ◌&&◌, ◌==◌, nat_le, nat_lt, List, [], ◌∷◌, ◌++◌, map, length, flat_map, All, Option, Some, None, refl, sym, ap, subst, ◌∙◌, append_assoc, arith, le-leb, codes, bytes_eq}
+use Rattle.std.proofs.Common.{◌≡◌, ℕ, zero, suc, ◌+◌, ◌≤◌, ◌<◌, true, nat_le, nat_lt, List, [], ◌∷◌, ◌++◌, map, length, flat_map, All, Option, Some, None, refl, ap, ◌∙◌, append_assoc, arith, le-leb, codes}
 use Rattle.std.specs.List.{list_all}
 use Rattle.std.specs.Str.Parse.{digits_value}
 use Rattle.std.proofs.lemmas.List.{length-append, length-map}
 use Rattle.std.proofs.lemmas.List.Elements.{All-head, All-tail}
 use Rattle.std.proofs.lemmas.List.Sums.{list_all-from_AllPass}
 use Rattle.dd_formula.specs.declared.formulas.Formula.{Formula}
-use Rattle.dd_formula.specs.declared.formulas.Formula.TheVariants.{Symbol, And, Implies}
+use Rattle.dd_formula.specs.declared.formulas.Formula.TheVariants.{And, Implies}
 use Rattle.dd_tokens.specs.Format.{is_letter, is_digit}
-use Rattle.dd_session.specs.CutForm.{Text, Atom, IsAtom, move_name, symbol_text, move_text, atom_text, atom_formula, more_text, formula_text, formula_of, IsName, IsNumber}
-use Rattle.dd_session.specs.CutReading.{Reader, ◌>>=◌, next, after, symbol_at, label_of, move_at, more_of, many, is_name, name_at, is_number, number_of, number_at, atom_end, atom_at, with_front, more_behind, more_at, conjunction_end, conjunction_at, conclusion_behind, conclusion_at, formula_behind, formula_at}
+use Rattle.dd_session.specs.CutForm.{Text, Atom, IsAtom, symbol_text, move_text, atom_text, atom_formula, more_text, formula_text, formula_of, IsName, IsNumber}
+use Rattle.dd_session.specs.CutReading.{Reader, ◌>>=◌, after, symbol_at, move_at, many, is_name, name_at, is_number, number_at, atom_end, atom_at, with_front, more_behind, more_at, conjunction_end, conjunction_at, formula_behind, formula_at}
+use Rattle.dd_session.proofs.Regrouped.{regroup}
 
 pub symbol_again : (s : ℕ) (rest : List Text) → s < 2 → symbol_at (symbol_text s ∷ rest) ≡ Some (s, rest)
 symbol_again zero rest lt = refl
@@ -116,9 +117,6 @@ concluded f r = r >>= λ c. Some (Implies f c.0, c.1)
 
 abbrev read_on : Option (Formula × List Text) → Option (Formula × List Text)
 read_on r = r >>= λ a. formula_behind a.0 a.1 (after (codes "->") a.1)
-
-regroup : (xs ys tail : List Text) (z : Text) → ((xs ++ ys) ++ z ∷ []) ++ tail ≡ xs ++ (ys ++ z ∷ tail)
-regroup xs ys tail z = append_assoc (xs ++ ys) (z ∷ []) tail ∙ append_assoc xs ys (z ∷ tail)
 
 pub formula_again : (a : Atom) (bs : List Atom) (rest : List Text) → IsAtom a → All IsAtom bs → 1 + length bs ≤ 16 → after (codes "->") rest ≡ None
     → formula_at (formula_text a bs ++ rest) ≡ Some (formula_of a bs, rest)

@@ -1,22 +1,18 @@
 -- A script that is written is read.
-use Rattle.std.proofs.Common.{◌≡◌, ◌≢◌, ℕ, ◌-◌, ◌+◌, ◌*◌, ◌≤◌, ◌<◌, Bool, true, false, cond, not, ◌&&◌, ◌==◌, nat_le, nat_lt, List, [], ◌∷◌, ◌++◌, map, length, flat_map, All, Option, Some, None, refl, sym, ap, subst, ◌∙◌, append_assoc, arith, le-leb, eq-eqb, codes, bytes_eq}
+use Rattle.std.proofs.Common.{◌≡◌, ◌≢◌, ℕ, ◌*◌, ◌<◌, Bool, true, false, cond, ◌==◌, nat_le, nat_lt, List, [], ◌∷◌, ◌++◌, map, length, flat_map, All, Option, Some, None, refl, sym, ap, ◌∙◌, append_assoc, arith, le-leb, eq-eqb, codes, bytes_eq}
 use Rattle.std.specs.Str.Parse.{digits_value}
 use Rattle.std.proofs.lemmas.Slice.Eq.{bytes_eq-Decides}
 use Rattle.dd_formula.specs.declared.formulas.Formula.{Formula}
-use Rattle.dd_session.specs.declared.reading.CutScript.{CutScript}
 use Rattle.dd_session.specs.declared.reading.commands.SymbolTable.{SymbolTable}
-use Rattle.dd_session.specs.CutForm.{Text, Atom, IsAtom, symbol_text, formula_text, formula_of, IsName, IsNumber, Writing, IsWriting, rule_text, configuration_text, member_text, script_text, script_of}
-use Rattle.dd_session.specs.CutReading.{◌>>=◌, after, symbol_at, many, name_at, number_at, formula_at, command_at, rule_at, periods_at, is_table, table_end, table_at, configuration_at, member_at, are_names, script_at}
+use Rattle.dd_session.specs.CutForm.{Text, symbol_text, formula_text, formula_of, Writing, IsWriting, rule_text, configuration_text, member_text, script_text, script_of}
+use Rattle.dd_session.specs.CutReading.{◌>>=◌, after, symbol_at, many, name_at, number_at, formula_at, rule_at, periods_at, is_table, table_end, table_at, configuration_at, member_at, are_names, script_at}
+use Rattle.dd_session.proofs.Regrouped.{each_alone}
 use Rattle.dd_session.proofs.Complete.{symbol_again, name_again, number_again, many_again, length_many, formula_again}
 
 rule_again : (w : Writing) (rest : List Text) → IsWriting w → after (codes "->") rest ≡ None → rule_at (rule_text w ++ rest) ≡ Some ((w.rule, formula_of w.premise w.conclusions), rest)
 rule_again w rest is none =
     ap (λ (r : Option (Text × List Text)). r >>= λ name. formula_at name.1 >>= λ f. Some ((name.0, f.0), f.1)) (name_again w.rule (formula_text w.premise w.conclusions ++ rest) is.rule)
     ∙ ap (λ (r : Option (Formula × List Text)). r >>= λ f. Some ((w.rule, f.0), f.1)) (formula_again w.premise w.conclusions rest is.premise is.conclusions is.few_atoms none)
-
-each_alone : (ss : List ℕ) → flat_map (λ s. symbol_text s ∷ []) ss ≡ map symbol_text ss
-each_alone [] = refl
-each_alone (s ∷ ss) = ap (λ (us : List Text). symbol_text s ∷ us) (each_alone ss)
 
 symbols_again : (ss : List ℕ) (rest : List Text) → All (λ s. s < 2) ss → symbol_at rest ≡ None → many symbol_at (length (map symbol_text ss ++ rest)) (map symbol_text ss ++ rest) ≡ (ss, rest)
 symbols_again ss rest each none =

@@ -1,8 +1,8 @@
 -- What is read is written so.
-use Rattle.std.proofs.Common.{◌≡◌, ◌≢◌, ℕ, zero, suc, ◌-◌, ◌+◌, ◌*◌, ◌≤◌, ◌<◌, Bool, true, false, cond, not, ◌&&◌, ◌==◌, nat_le, nat_lt, List, [], ◌∷◌, ◌++◌, map, length, flat_map, All, Option, Some, None, refl, sym, ap, subst, ◌∙◌, append_assoc, arith, le-leb, leb-true, codes, bytes_eq, ◌⊎◌, inl, inr}
+use Rattle.std.proofs.Common.{◌≡◌, ℕ, zero, suc, ◌+◌, ◌≤◌, ◌<◌, Bool, true, false, cond, ◌&&◌, nat_le, nat_lt, List, [], ◌∷◌, ◌++◌, map, length, flat_map, All, Option, Some, None, refl, sym, ap, subst, ◌∙◌, append_assoc, arith, leb-true, codes, bytes_eq, ◌⊎◌, inl, inr}
 use Rattle.std.specs.List.{list_all}
 use Rattle.std.specs.Str.Parse.{digits_value}
-use Rattle.std.proofs.lemmas.Bool.{ltb-true, eqb-true}
+use Rattle.std.proofs.lemmas.Bool.{ltb-true}
 use Rattle.std.proofs.lemmas.Option.{cond_some, same_Some}
 use Rattle.std.proofs.lemmas.Slice.Eq.{bytes_eq-Decides}
 use Rattle.std.proofs.lemmas.List.{length-map}
@@ -14,6 +14,7 @@ use Rattle.dd_tokens.specs.Format.{is_letter, is_digit}
 use Rattle.dd_session.specs.CutForm.{Text, Atom, IsAtom, move_name, symbol_text, move_text, atom_text, atom_formula, more_text, formula_text, formula_of, IsName, IsNumber}
 use Rattle.dd_session.specs.CutReading.{Reader, ◌>>=◌, next, after, symbol_of, symbol_at, label_of, move_at, more_of, many, is_name, name_at, is_number, number_of, number_at, atom_end, atom_at, with_front, more_behind, more_at, conjunction_end, conjunction_at, conclusion_behind, conclusion_at, formula_behind, formula_at}
 use Rattle.dd_session.proofs.Values.{both_are}
+use Rattle.dd_session.proofs.Regrouped.{regroup}
 
 -- the value of a step that did not fail
 pub bind_some : {A B : Type 0} (r : Option A) (f : A → Option B) (y : B) → (r >>= f) ≡ Some y → (x : A) × (r ≡ Some x) × (f x ≡ Some y)
@@ -246,9 +247,6 @@ one_concludes ts x read = record {
   whole = λ a. ap (λ (f : Formula). Implies (atom_formula a) f) read.formula;
   text = λ a. ap (λ (us : List Text). atom_text a ++ codes "->" ∷ us) read.text ∙ sym (append_assoc (atom_text a) (codes "->" ∷ atom_text read.atom) x.1);
 }
-
-regroup : (xs ys tail : List Text) (z : Text) → ((xs ++ ys) ++ z ∷ []) ++ tail ≡ xs ++ (ys ++ z ∷ tail)
-regroup xs ys tail z = append_assoc (xs ++ ys) (z ∷ []) tail ∙ append_assoc xs ys (z ∷ tail)
 
 -- the atoms of a conjunction, and what stands behind it
 several_conclude : (ts behind : List Text) (b : Atom) (cs : List Atom) (fs : List Formula) → All IsAtom (b ∷ cs) → fs ≡ map atom_formula (b ∷ cs)

@@ -1,5 +1,5 @@
 -- A script that is read is written so.
-use Rattle.std.proofs.Common.{◌≡◌, ◌≢◌, ℕ, ◌-◌, ◌+◌, ◌*◌, ◌≤◌, ◌<◌, Bool, true, false, cond, not, ◌&&◌, ◌==◌, nat_le, nat_lt, List, [], ◌∷◌, ◌++◌, map, length, flat_map, All, Option, Some, None, refl, sym, ap, subst, ◌∙◌, append_assoc, arith, leb-true, codes, bytes_eq}
+use Rattle.std.proofs.Common.{◌≡◌, ◌≢◌, ℕ, ◌*◌, ◌<◌, true, cond, not, ◌&&◌, ◌==◌, nat_le, nat_lt, List, [], ◌∷◌, ◌++◌, map, length, All, Some, None, sym, ap, subst, ◌∙◌, append_assoc, leb-true, codes, bytes_eq}
 use Rattle.std.specs.Str.Parse.{digits_value}
 use Rattle.std.proofs.lemmas.Bool.{ltb-true, eqb-true}
 use Rattle.std.proofs.lemmas.Option.{cond_some, same_Some}
@@ -8,10 +8,11 @@ use Rattle.std.proofs.lemmas.List.{nil_from_length}
 use Rattle.dd_formula.specs.declared.formulas.Formula.{Formula}
 use Rattle.dd_session.specs.declared.reading.CutScript.{CutScript}
 use Rattle.dd_session.specs.declared.reading.commands.SymbolTable.{SymbolTable}
-use Rattle.dd_session.specs.CutForm.{Text, Atom, IsAtom, symbol_text, formula_text, formula_of, IsName, IsNumber, Writing, IsWriting, rule_text, configuration_text, member_text, script_text, script_of}
+use Rattle.dd_session.specs.CutForm.{Text, symbol_text, formula_text, formula_of, IsName, IsNumber, Writing, IsWriting, configuration_text, member_text, script_text, script_of}
 use Rattle.dd_session.specs.CutReading.{◌>>=◌, after, symbol_at, many, name_at, number_at, formula_at, command_at, rule_at, periods_at, is_table, table_end, table_at, configuration_at, member_at, are_names, script_at}
 use Rattle.dd_session.proofs.Values.{both_are}
-use Rattle.dd_session.proofs.Sound.{bind_some, same_text, after_sound, SymbolRead, symbol_sound, ManyRead, many_sound, NameRead, name_sound, NumberRead, number_sound, FormulaRead, formula_sound}
+use Rattle.dd_session.proofs.Regrouped.{each_alone}
+use Rattle.dd_session.proofs.Sound.{bind_some, same_text, after_sound, symbol_sound, many_sound, name_sound, number_sound, FormulaRead, formula_sound}
 
 record CommandRead (word : Text) (ts : List Text) (x : Text × List Text) : Type 0 where
   pub valid : IsName x.0
@@ -66,10 +67,6 @@ periods_sound ts x e =
       height_value = height.value;
       text = after_sound (codes "[") ts a.0 a.1 ∙ ap (λ (us : List Text). codes "[" ∷ us) (width.text ∙ ap (λ (us : List Text). width.numeral ∷ us) (height.text ∙ ap (λ (us : List Text). height.numeral ∷ us) (after_sound (codes "]") h.0.1 z.0 z.1)));
     })
-
-each_alone : (ss : List ℕ) → flat_map (λ s. symbol_text s ∷ []) ss ≡ map symbol_text ss
-each_alone [] = refl
-each_alone (s ∷ ss) = ap (λ (us : List Text). symbol_text s ∷ us) (each_alone ss)
 
 symbol_each : (ts : List Text) (x : ℕ × List Text) → symbol_at ts ≡ Some x → (x.0 < 2) × (ts ≡ (symbol_text x.0 ∷ []) ++ x.1)
 symbol_each ts x e = let r = symbol_sound ts x e in (r.small, r.text)

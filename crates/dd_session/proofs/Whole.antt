@@ -1,6 +1,5 @@
 -- All tokens of a script.
-use Rattle.std.proofs.Common.{◌≡◌, ℕ, List, length, Option, Some, None, Result, Ok, Err, IfOk, IsErrOf, sym, ap, ◌∙◌}
-use Rattle.dd_tokens.specs.declared.token.Tokens.{Tokens}
+use Rattle.std.proofs.Common.{◌≡◌, ℕ, List, length, Some, None, Result, Ok, Err, IfOk, IsErrOf, sym, ap, ◌∙◌}
 use Rattle.dd_tokens.specs.Format.{tokens_of}
 use Rattle.dd_session.specs.declared.reading.CutScript.{CutScript}
 use Rattle.dd_session.specs.declared.reading.fault.ReadingFault.{ReadingFault}

@@ -10,3 +10,6 @@ mod stream;
 
 pub use session::run_diddy;
 pub use status::Status;
+
+#[cfg(test)]
+mod tests;

@@ -1,5 +1,7 @@
 // The reader of scripts of the short form.
-ghost use Rattle.std.specs.Prelude.{◌≡◌, ◌≤◌, ℕ, length, IfOk, IsErrOf, MatchBool};
+ghost use Rattle.std.specs.Prelude.{◌≤◌, ◌<◌, [], ◌∷◌, length, All, IfOk, IsErrOf, IsTrue, MatchBool};
+ghost use Rattle.dd_formula.specs.Limits.{fits_square};
+ghost use Rattle.dd_formula.specs.Tile.{tile, IsTile};
 ghost use Rattle.dd_session.specs.declared.reading.CutScript.{CutScript};
 ghost use Rattle.dd_session.specs.CutForm.{texts, HasNoComment, Spells};
 ghost use Rattle.dd_session.specs.CutReading.{Gives, script_at};
@@ -7,6 +9,8 @@ ghost use Rattle.dd_session.specs.CutReading.{Gives, script_at};
 mod commands;
 mod fault;
 mod formulas;
+#[cfg(test)]
+mod tests;
 mod words;
 
 use commands::{configuration, member, rule};
@@ -59,8 +63,12 @@ fn script(alloc: Global, bytes: &[u8], tokens: &[Token]) -> Result<CutScript, Re
 /// The script that the bytes spell.
 pub(crate) fn read_script(alloc: Global, bytes: &[u8]) -> Result<CutScript, ReadingFault>
     requires { length bytes.now ≤ 1048576 }
-    ensures ok { IfOk result (λ s. Spells bytes.now s) }
-    ensures form { IsErrOf result ReadingFault.Form → (s : CutScript) → ¬ Spells bytes.now s }
+    ensures spelled { IfOk result (λ s. Spells bytes.now s) }
+    // What the rule and the configuration need, so that they can be made.
+    ensures formula { IfOk result (λ s. IsTrue (fits_square s.formula)) }
+    ensures configuration { IfOk result (λ s. IsTile (tile 2 (s.width ∷ s.height ∷ 1 ∷ []) 1 s.symbols)) }
+    ensures symbols { IfOk result (λ s. All (λ n. n < 2) s.symbols) }
+    ensures none_spelled { IsErrOf result ReadingFault.Form → (s : CutScript) → ¬ Spells bytes.now s }
 {
     if !has_no_comment(bytes) {
         return Err(ReadingFault::Form);

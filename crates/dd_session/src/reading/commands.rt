@@ -64,10 +64,10 @@ fn symbols<'a>(
     let mut symbols = Items::new(alloc);
     let mut rest = tokens;
     for _ in 0..tokens.len() {
-        let Some((label, behind)) = symbol(bytes, rest) else {
+        let Some((next, behind)) = symbol(bytes, rest) else {
             return Ok((symbols, rest));
         };
-        symbols.push(label)?;
+        symbols.push(next)?;
         rest = behind;
     }
     Ok((symbols, rest))
