@@ -1,2 +1,3 @@
 pub mod CutForm
+pub mod CutWords
 pub mod CutReading
