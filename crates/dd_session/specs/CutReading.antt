@@ -1,13 +1,8 @@
 -- Reading formulas, commands and scripts.
-use Rattle.std.specs.Prelude.{◌≡◌, ℕ, zero, suc, ◌*◌, Bool, ◌&&◌, ◌==◌, not, nat_le, nat_lt, List, [], ◌∷◌, ◌++◌, length, Option, Some, None, Result, Ok, Err, if◌then◌else◌, codes, bytes_eq}
-use Rattle.std.specs.List.{list_all}
-use Rattle.std.specs.Str.Parse.{digits_value}
+use Rattle.std.specs.Prelude.{ℕ, zero, suc, ◌*◌, Bool, ◌&&◌, ◌==◌, not, nat_le, nat_lt, List, [], ◌∷◌, ◌++◌, length, Option, Some, None, if◌then◌else◌, codes, bytes_eq}
 use Rattle.dd_formula.specs.declared.formulas.Formula.{Formula}
 use Rattle.dd_formula.specs.declared.formulas.Formula.TheVariants.{Symbol, And, Implies}
-use Rattle.dd_tokens.specs.Format.{is_letter, is_digit}
 use Rattle.dd_session.specs.declared.reading.CutScript.{CutScript}
-use Rattle.dd_session.specs.declared.reading.fault.ReadingFault.{ReadingFault}
-use Rattle.dd_session.specs.declared.reading.fault.ReadingFault.TheVariants as faults
 use Rattle.dd_session.specs.declared.reading.commands.SymbolTable.{SymbolTable}
 use Rattle.dd_session.specs.CutForm.{Text}
 use Rattle.dd_session.specs.CutWords.{Reader, ◌>>=◌, after, symbol_at, move_at, many, name_at, number_at}

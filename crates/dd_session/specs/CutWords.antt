@@ -1,14 +1,10 @@
 -- Reading from left to right, one token ahead: single tokens, and one of a kind after the other.
-use Rattle.std.specs.Prelude.{◌≡◌, ℕ, zero, suc, ◌*◌, Bool, ◌&&◌, ◌==◌, not, nat_le, nat_lt, List, [], ◌∷◌, ◌++◌, length, Option, Some, None, Result, Ok, Err, if◌then◌else◌, codes, bytes_eq}
+use Rattle.std.specs.Prelude.{◌≡◌, ℕ, zero, suc, Bool, ◌&&◌, nat_le, nat_lt, List, [], ◌∷◌, length, Option, Some, None, Result, Ok, Err, if◌then◌else◌, codes, bytes_eq}
 use Rattle.std.specs.List.{list_all}
 use Rattle.std.specs.Str.Parse.{digits_value}
-use Rattle.dd_formula.specs.declared.formulas.Formula.{Formula}
-use Rattle.dd_formula.specs.declared.formulas.Formula.TheVariants.{Symbol, And, Implies}
 use Rattle.dd_tokens.specs.Format.{is_letter, is_digit}
-use Rattle.dd_session.specs.declared.reading.CutScript.{CutScript}
 use Rattle.dd_session.specs.declared.reading.fault.ReadingFault.{ReadingFault}
 use Rattle.dd_session.specs.declared.reading.fault.ReadingFault.TheVariants as faults
-use Rattle.dd_session.specs.declared.reading.commands.SymbolTable.{SymbolTable}
 use Rattle.dd_session.specs.CutForm.{Text}
 
 -- What was read from the front, and what is left; or nothing, where nothing of this kind stands there.
