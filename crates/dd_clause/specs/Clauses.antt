@@ -1,0 +1,38 @@
+-- Literals, clauses, lists of clauses, and what it is to satisfy them.
+use Rattle.std.specs.Prelude.{◌≡◌, ℕ, ◌-◌, ◌≤◌, Bool, true, false, not, if◌then◌else◌, List, All, slice_index_or}
+use Rattle.std.specs.List.{list_any}
+use Rattle.dd_clause.specs.declared.clause.Literal.{Literal}
+
+-- the literal's variable is one of 1..n
+abbrev pub IsInRange : ℕ → Literal → Type 0
+IsInRange n l = (1 ≤ l.variable) × (l.variable ≤ n)
+
+-- each variable of the clause is one of 1..n
+abbrev pub IsClauseInRange : ℕ → List Literal → Type 0
+IsClauseInRange n clause = All (IsInRange n) clause
+
+-- the literal of the same variable with the other sign
+abbrev pub negation : Literal → Literal
+negation l = record { variable = l.variable; positive = not l.positive }
+
+-- the literal agrees with a set of true variables: it is positive and its variable is in the set, or negative and its
+-- variable is not
+abbrev pub is_true : (ℕ → Bool) → Literal → Bool
+is_true set l = if l.positive then set l.variable else not (set l.variable)
+
+-- some literal of the clause is true
+abbrev pub is_clause_true : (ℕ → Bool) → List Literal → Bool
+is_clause_true set clause = list_any (is_true set) clause
+
+-- the set of true variables satisfies the clauses: each has a true literal
+abbrev pub Satisfies : (ℕ → Bool) → List (List Literal) → Type 0
+Satisfies set clauses = All (λ clause. is_clause_true set clause ≡ true) clauses
+
+-- the variables that a list of values makes true: the variable k has the value at k - 1
+abbrev pub true_variables : List Bool → ℕ → Bool
+true_variables values k = slice_index_or values (k - 1) false
+
+-- a number of variables, and clauses over them
+pub record ClauseList : Type 0 where
+  pub variables : ℕ
+  pub clauses : List (List Literal)

@@ -1,0 +1,65 @@
+// An assignment is right for a clause list where it makes each clause true; looking needs one pass and no memory.
+ghost use Rattle.std.specs.Prelude.{◌≡◌, ◌↔◌, length, IsTrue};
+ghost use Rattle.dd_clause.specs.Clauses.{IsClauseInRange, is_clause_true, Satisfies, true_variables};
+
+use crate::clause::Literal;
+use crate::cnf::Cnf;
+use std::marker::Model;
+
+/// One truth value for each variable: the variable k has the entry k - 1.
+#[derive(Debug, Drop)]
+pub struct Assignment {
+    values: Vec<bool>,
+}
+
+impl Model for Assignment {
+    ghost use Rattle.std.specs.Prelude.{List, Bool};
+
+    ghost Value = { List Bool };
+
+    ghost view = { λ assignment. assignment.values.items };
+}
+
+impl Assignment {
+    pub fn new(values: Vec<bool>) -> Assignment
+        ensures { result ≡ values.items }
+    {
+        Assignment { values }
+    }
+
+    pub fn values(&self) -> &[bool]
+        ensures { result.now ≡ self.now }
+    {
+        self.values.as_slice()
+    }
+}
+
+/// Whether a literal of the clause agrees with the values.
+fn has_true_literal(literals: &[Literal], values: &[bool]) -> bool
+    requires { IsClauseInRange (length values.now) literals.now }
+    ensures { result ≡ is_clause_true (true_variables values.now) literals.now }
+{
+    for literal in literals {
+        let value = values[literal.variable as usize - 1];
+        if value == literal.positive {
+            return true;
+        }
+    }
+    false
+}
+
+/// Whether the assignment has one value for each variable, and makes each clause true. It takes no memory.
+pub fn satisfies(cnf: &Cnf, assignment: &Assignment) -> bool
+    ensures { IsTrue result ↔ (length assignment.now ≡ cnf.now.variables × Satisfies (true_variables assignment.now) cnf.now.clauses) }
+{
+    let values = assignment.values();
+    if values.len() != cnf.variables() as usize {
+        return false;
+    }
+    for clause in cnf.clauses() {
+        if !has_true_literal(clause.literals(), values) {
+            return false;
+        }
+    }
+    true
+}

@@ -1,0 +1,58 @@
+// A clause is true where one of its literals is. Most clauses are short, so up to four literals need no memory.
+ghost use Rattle.std.specs.Prelude.{◌≡◌, ◌≤◌, length, IsOk, IfOk};
+ghost use Rattle.dd_clause.specs.Clauses as spec;
+
+use smallvec::SmallVec;
+use std::alloc::{AllocError, Global};
+use std::marker::Model;
+
+/// A variable, numbered from 1, or its negation.
+#[derive(Clone, Copy, Debug, Default, PartialEq, Eq)]
+pub struct Literal {
+    pub variable: u32,
+    pub positive: bool,
+}
+
+impl Literal {
+    /// The literal of the same variable with the other sign.
+    pub fn negation(self) -> Literal
+        ensures { result ≡ spec.negation self }
+    {
+        Literal {
+            variable: self.variable,
+            positive: !self.positive,
+        }
+    }
+}
+
+/// A list of literals, of which one has to be true.
+#[derive(Debug, Drop)]
+pub struct Clause {
+    literals: SmallVec<Literal, 4>,
+}
+
+impl Model for Clause {
+    ghost use Rattle.std.specs.Prelude.{List};
+    ghost use Rattle.dd_clause.specs.declared.clause.Literal.{Literal};
+
+    ghost Value = { List Literal };
+
+    ghost view = { λ clause. clause.literals.items };
+}
+
+impl Clause {
+    /// The clause of these literals. One of at most four literals is always made.
+    pub fn from_literals(alloc: Global, literals: &[Literal]) -> Result<Clause, AllocError>
+        ensures ok { IfOk result (λ clause. clause ≡ literals.now) }
+        ensures short_is_made { length literals.now ≤ 4 → IsOk result }
+    {
+        let literals = SmallVec::from_slice(alloc, literals)?;
+        Ok(Clause { literals })
+    }
+
+    pub fn literals(&self) -> &[Literal]
+        ensures { result.now ≡ self.now }
+    {
+        self.literals.as_slice()
+    }
+}

@@ -1,0 +1,64 @@
+// A formula in conjunctive normal form: clauses over the variables 1, 2, .. up to a number that the type knows.
+ghost use Rattle.std.specs.Prelude.{◌≡◌, ◌^◌, ◌≤◌, [], ◌∷◌, ◌++◌, All, OnOk, OnErr};
+ghost use Rattle.dd_clause.specs.Clauses.{IsClauseInRange};
+
+use crate::clause::Clause;
+use std::alloc::{AllocError, Global};
+use std::marker::Model;
+
+/// Clauses over the variables 1 to `variables`, of which there are at most 2^24.
+#[derive(Debug, Drop)]
+pub struct Cnf {
+    variables: u32,
+    clauses: Vec<Clause>,
+}
+
+impl Model for Cnf {
+    ghost use Rattle.std.specs.Prelude.{◌≤◌, ◌^◌, All};
+    ghost use Rattle.dd_clause.specs.Clauses.{ClauseList, IsClauseInRange};
+
+    ghost Value = { ClauseList };
+
+    ghost view = { λ cnf. record { variables = cnf.variables; clauses = cnf.clauses.items } };
+
+    ghost invariant = { λ cnf. (cnf.variables ≤ 2 ^ 24) × All (IsClauseInRange cnf.variables) cnf.clauses.items };
+}
+
+impl Cnf {
+    /// No clauses over this many variables. It takes no memory.
+    pub fn new(alloc: Global, variables: u32) -> Cnf
+        requires { variables ≤ 2 ^ 24 }
+        ensures variables { result.variables ≡ variables }
+        ensures clauses { result.clauses ≡ [] }
+    {
+        Cnf {
+            variables,
+            clauses: Vec::new(alloc),
+        }
+    }
+
+    /// Puts a clause at the end. After want of memory the list is as it was.
+    pub fn push(&mut self, clause: Clause) -> Result<(), AllocError>
+        requires { IsClauseInRange self.old.variables clause }
+        ensures variables { self.new.variables ≡ self.old.variables }
+        ensures ok { OnOk result (self.new.clauses ≡ self.old.clauses ++ clause ∷ []) }
+        ensures err { OnErr result (self.new ≡ self.old) }
+    {
+        self.clauses.push(clause)?;
+        Ok(())
+    }
+
+    pub fn variables(&self) -> u32
+        ensures value { result ≡ self.now.variables }
+        ensures at_most { self.now.variables ≤ 2 ^ 24 }
+    {
+        self.variables
+    }
+
+    pub fn clauses(&self) -> &[Clause]
+        ensures value { result.now ≡ self.now.clauses }
+        ensures in_range { All (IsClauseInRange self.now.variables) self.now.clauses }
+    {
+        self.clauses.as_slice()
+    }
+}
