@@ -1,5 +1,5 @@
 -- Lists of gates: one more gate, the gate at a place, and more variables.
-use Rattle.std.proofs.Common.{◌≡◌, ℕ, zero, suc, ◌+◌, ◌<◌, ◌≤◌, List, [], ◌∷◌, ◌++◌, length, arith, get_or}
+use Rattle.std.proofs.Common.{◌≡◌, ℕ, zero, suc, ◌+◌, ◌<◌, ◌≤◌, List, [], ◌∷◌, ◌++◌, length, drop, arith, get_or}
 use Rattle.std.proofs.lemmas.List.Elements.{All-weaker}
 use Rattle.dd_circuit.specs.declared.gates.Signal.{Signal}
 use Rattle.dd_circuit.specs.declared.gates.Gate.{Gate}
@@ -13,6 +13,12 @@ AreGates-append n (g ∷ gs) hs first rest =
 
 pub AreGates-snoc : (n : ℕ) (gs : List Gate) (g : Gate) → AreGates n gs → IsGate (n + length gs) g → AreGates n (gs ++ g ∷ [])
 AreGates-snoc n gs g first last = AreGates-append n gs (g ∷ []) first (last, tt)
+
+-- the gates from k on
+pub AreGates-drop : (n : ℕ) (gs : List Gate) (k : ℕ) → AreGates n gs → k ≤ length gs → AreGates (n + k) (drop k gs)
+AreGates-drop n gs zero ok few = let e : n + 0 ≡ n = omega arith in rw e ok
+AreGates-drop n [] (suc k) ok few = absurd (omega arith)
+AreGates-drop n (g ∷ gs) (suc k) ok few = let e : n + suc k ≡ suc n + k = omega arith in rw e (AreGates-drop (suc n) gs k ok.1 (omega arith))
 
 -- the gate at i is over the variables before it
 pub gate_at : (n : ℕ) (gs : List Gate) (i : ℕ) (d : Gate) → AreGates n gs → i < length gs → IsGate (n + i) (get_or gs i d)

@@ -88,6 +88,7 @@ impl Circuit {
     pub fn variables(&self) -> u32
         ensures value { result ≡ size self.now }
         ensures few { result ≤ 2 ^ 24 }
+        ensures in_range { AreGates self.now.inputs self.now.gates }
     {
         self.inputs + self.gates.len() as u32
     }
