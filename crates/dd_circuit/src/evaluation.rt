@@ -13,7 +13,8 @@ impl Circuit {
         requires { length inputs.now ≡ self.now.inputs }
         ensures exact { IfOk result (λ values. values.items ≡ values_from inputs.now self.now.gates) }
         ensures are_values { IfOk result (λ values. AreValues self.now inputs.now values.items) }
-        ensures only { IfOk result (λ values. (others : List Bool) → AreValues self.now inputs.now others → others ≡ values.items) }
+        ensures only { IfOk result (λ values. (others : List Bool)
+            → AreValues self.now inputs.now others → others ≡ values.items) }
     {
         let mut values = Vec::with_capacity(alloc, self.variables() as usize)?;
         values.extend_from_slice(inputs)?;

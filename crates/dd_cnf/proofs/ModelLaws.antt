@@ -7,7 +7,7 @@ use Rattle.dd_circuit.specs.Circuits.{Network, AreGates, size}
 use Rattle.dd_circuit.specs.Valuations.{values_from}
 use Rattle.dd_circuit.proofs.ValueLaws.{are_values}
 use Rattle.dd_cnf.specs.Encoding.{gates_clauses, encoded}
-use Rattle.dd_cnf.specs.Models.{is_satisfied, HasModels}
+use Rattle.dd_cnf.specs.Models.{is_satisfied, HasValuesAsModels}
 use Rattle.dd_cnf.proofs.GateLaws.{gates_law}
 
 pub Satisfies-is_satisfied : (set : ℕ → Bool) (clauses : List (List Literal)) → is_satisfied set clauses ≡ true → Satisfies set clauses
@@ -16,7 +16,7 @@ Satisfies-is_satisfied set clauses ok = AllPass-from_list_all (is_clause_true se
 pub is_satisfied-Satisfies : (set : ℕ → Bool) (clauses : List (List Literal)) → Satisfies set clauses → is_satisfied set clauses ≡ true
 is_satisfied-Satisfies set clauses ok = list_all-from_AllPass (is_clause_true set) clauses ok
 
-pub encoded_has_models : (circuit : Network) → AreGates circuit.inputs circuit.gates → HasModels circuit (encoded circuit)
+pub encoded_has_models : (circuit : Network) → AreGates circuit.inputs circuit.gates → HasValuesAsModels circuit (encoded circuit)
 encoded_has_models circuit ok = record {
   values_are_models = λ inputs values are. record {
     one_each = are.one_each;
@@ -39,7 +39,7 @@ same_list cnf variables clauses wide all = rw (← wide, ← all) refl
 
 -- what the loop over all gates leaves
 pub has_models : (circuit : Network) (before : List (List Literal)) (cnf : ClauseList) → AreGates circuit.inputs circuit.gates → before ≡ [] →
-    cnf.variables ≡ size circuit → cnf.clauses ≡ before ++ gates_clauses (circuit.inputs + 0) (drop 0 circuit.gates) → HasModels circuit cnf
+    cnf.variables ≡ size circuit → cnf.clauses ≡ before ++ gates_clauses (circuit.inputs + 0) (drop 0 circuit.gates) → HasValuesAsModels circuit cnf
 has_models circuit before cnf ok none wide all =
     let clauses : cnf.clauses ≡ gates_clauses circuit.inputs circuit.gates = all ∙ rw (none, add-zero circuit.inputs) refl in
     rw (same_list cnf (size circuit) (gates_clauses circuit.inputs circuit.gates) wide clauses) (encoded_has_models circuit ok)

@@ -29,8 +29,10 @@ iff_clauses g a b =
 
 -- the clauses of the gate with the variable g, in order
 abbrev pub gate_clauses : ℕ → Gate → List (List Literal)
-gate_clauses g (And members) = map (λ l. literal g false ∷ literal_of l ∷ []) members ++ (literal g true ∷ map opposing members) ∷ []
-gate_clauses g (Or members) = map (λ l. literal g true ∷ opposing l ∷ []) members ++ (literal g false ∷ map literal_of members) ∷ []
+gate_clauses g (And members) =
+    map (λ l. literal g false ∷ literal_of l ∷ []) members ++ (literal g true ∷ map opposing members) ∷ []
+gate_clauses g (Or members) =
+    map (λ l. literal g true ∷ opposing l ∷ []) members ++ (literal g false ∷ map literal_of members) ∷ []
 gate_clauses g (Iff a b) = iff_clauses (literal g true) (literal_of a) (literal_of b)
 
 -- the clauses of the gates that follow the first n variables, gate by gate
@@ -46,7 +48,8 @@ encoded circuit = record { variables = size circuit; clauses = gates_clauses cir
 abbrev pub signed : Bool → Signal → Literal
 signed sign s = literal s.variable (if sign then s.positive else not s.positive)
 
--- the clauses of And at its variable's literal, and those of Or at its negation: the one has the signs of the other turned
+-- the clauses of And at its variable's literal, and those of Or at its negation: the ones have the
+-- signs of the others turned
 abbrev pub joint_clauses : Literal → List Signal → List (List Literal)
 joint_clauses gate members =
     map (λ l. negation gate ∷ signed gate.positive l ∷ []) members ++ (gate ∷ map (signed (not gate.positive)) members) ∷ []

@@ -17,7 +17,7 @@ pub record IsModel (cnf : ClauseList) (values : List Bool) : Type 0 where
 
 -- The models of the clauses are the values of the circuit: those over any inputs are a model, each
 -- model is the values over those of its inputs, and there are values over any inputs.
-pub record HasModels (circuit : Network) (cnf : ClauseList) : Type 0 where
+pub record HasValuesAsModels (circuit : Network) (cnf : ClauseList) : Type 0 where
   pub values_are_models : (inputs values : List Bool) → AreValues circuit inputs values → IsModel cnf values
   pub models_are_values : (values : List Bool) → IsModel cnf values → AreValues circuit (take circuit.inputs values) values
   pub all_inputs : (inputs : List Bool) → length inputs ≡ circuit.inputs → (values : List Bool) × AreValues circuit inputs values

@@ -4,7 +4,7 @@ ghost use Rattle.std.specs.Prelude.{◌≡◌, ◌+◌, ◌≤◌, ◌∷◌, �
 ghost use Rattle.dd_clause.specs.Clauses.{IsInRange, IsClauseInRange};
 ghost use Rattle.dd_circuit.specs.Circuits.{IsSignal, IsGate, size};
 ghost use Rattle.dd_cnf.specs.Encoding as spec;
-ghost use Rattle.dd_cnf.specs.Models.{HasModels};
+ghost use Rattle.dd_cnf.specs.Models.{HasValuesAsModels};
 
 use dd_circuit::{Circuit, Gate, Signal};
 use dd_clause::{Clause, Cnf, Literal};
@@ -54,7 +54,8 @@ fn push_joint(
     requires gate { IsInRange cnf.old.variables gate }
     requires members { All (IsSignal cnf.old.variables) members.now }
     ensures variables { cnf.new.variables ≡ cnf.old.variables }
-    ensures ok { OnOk result (cnf.new.clauses ≡ cnf.old.clauses ++ spec.joint_clauses gate members.now) }
+    ensures ok { OnOk result (cnf.new.clauses
+        ≡ cnf.old.clauses ++ spec.joint_clauses gate members.now) }
 {
     let mut last = Vec::with_capacity(alloc, members.len() + 1)?;
     last.push(gate)?;
@@ -94,7 +95,8 @@ pub fn push_gate(alloc: Global, cnf: &mut Cnf, variable: u32, gate: &Gate) -> Re
     requires variable { (1 ≤ variable) × (variable ≤ cnf.old.variables) }
     requires members { IsGate cnf.old.variables gate.now }
     ensures variables { cnf.new.variables ≡ cnf.old.variables }
-    ensures ok { OnOk result (cnf.new.clauses ≡ cnf.old.clauses ++ spec.gate_clauses variable gate.now) }
+    ensures ok { OnOk result (cnf.new.clauses
+        ≡ cnf.old.clauses ++ spec.gate_clauses variable gate.now) }
 {
     let is_true = Literal {
         variable,
@@ -118,8 +120,8 @@ pub fn push_gates(
     requires from { from ≤ length circuit.now.gates }
     requires variables { size circuit.now ≤ cnf.old.variables }
     ensures variables { cnf.new.variables ≡ cnf.old.variables }
-    ensures ok { OnOk result (cnf.new.clauses ≡ cnf.old.clauses
-        ++ spec.gates_clauses (circuit.now.inputs + from) (drop from circuit.now.gates)) }
+    ensures ok { OnOk result (cnf.new.clauses
+        ≡ cnf.old.clauses ++ spec.gates_clauses (circuit.now.inputs + from) (drop from circuit.now.gates)) }
 {
     let gates = circuit.gates();
     let mut variable = circuit.inputs() + from as u32;
@@ -130,10 +132,11 @@ pub fn push_gates(
     Ok(())
 }
 
-/// The clauses of a circuit over its variables. They are satisfied exactly by the values of the circuit.
+/// The clauses of a circuit over its variables (Tseitin 1968). They are satisfied exactly by the values
+/// of the circuit, over any inputs.
 pub fn encode(alloc: Global, circuit: &Circuit) -> Result<Cnf, AllocError>
     ensures exact { IfOk result (λ cnf. cnf ≡ spec.encoded circuit.now) }
-    ensures models { IfOk result (λ cnf. HasModels circuit.now cnf) }
+    ensures models { IfOk result (λ cnf. HasValuesAsModels circuit.now cnf) }
 {
     let mut cnf = Cnf::new(alloc, circuit.variables());
     push_gates(alloc, &mut cnf, circuit, 0)?;
