@@ -6,6 +6,7 @@ mod propagation;
 mod refutation;
 mod step;
 
-pub use propagation::{Finding, VariableMark};
+pub use known::Known;
+pub use propagation::{FalseLiterals, Finding, find};
 pub use refutation::{Marks, check_refutation, check_step};
 pub use step::{Outcome, Step};

@@ -1,7 +1,7 @@
 // Unit propagation along hints: the literals of a step's clause are taken as false, and each hinted clause makes one more
 // literal true, until one is left with none. A stamp tells of which step a mark is, so nothing is undone between steps.
-ghost use Rattle.std.specs.Prelude.{◌≡◌, ◌-◌, ◌<◌, ◌≤◌, [], length, take, true, slice_index_or};
-ghost use Rattle.dd_clause.specs.Clauses.{IsInRange};
+ghost use Rattle.std.specs.Prelude.{◌≡◌, ◌<◌, [], Bool, length, take, true, slice_index_or};
+ghost use Rattle.dd_clause.specs.declared.clause.Literal.{Literal};
 ghost use Rattle.dd_derivation.specs.Derivations as spec;
 ghost use Rattle.dd_derivation.specs.MarksOf.{literals_of, FalsesAre, AreUpTo, AreBelow};
 ghost use Rattle.dd_derivation.specs.MarksOf as marks_of;
@@ -67,43 +67,50 @@ fn first_hinted(known: &Known, hints: &[u64], variable: u32) -> Option<Literal>
     None
 }
 
-/// Whether the literal is false after these hints. A variable has no mark only where an earlier step that is not right
-/// names it: then the first hinted clause with it made its literal true.
-fn is_false(
-    known: &Known,
-    marks: &[VariableMark],
+/// Which literals are false.
+pub trait FalseLiterals {
+    ghost is_false: { Self → Literal → Bool };
+
+    fn is_false(&self, literal: Literal) -> bool
+        ensures { result ≡ is_false self.now literal };
+}
+
+/// What is false in a step after some of its hints.
+#[derive(Clone, Copy)]
+struct After<'a> {
+    known: &'a Known<'a>,
+    marks: &'a [VariableMark],
     step: u64,
-    hints: &[u64],
-    literal: Literal,
-) -> bool
-    ensures { result ≡ marks_of.is_false marks.now step (literals_of known.now hints.now) literal }
-{
-    let variable = literal.variable as usize;
-    if variable >= 1 {
-        if variable <= marks.len() {
-            let mark = marks[variable - 1];
-            return mark.step == step && mark.positive == literal.positive;
+    hints: &'a [u64],
+}
+
+impl<'a> FalseLiterals for After<'a> {
+    ghost is_false = { λ a. marks_of.is_false a.marks.now a.step (literals_of a.known.now a.hints.now) };
+
+    /// A variable has no mark only where an earlier step that is not right names it: then the first hinted clause with it
+    /// made its literal true.
+    fn is_false(&self, literal: Literal) -> bool {
+        let variable = literal.variable as usize;
+        if variable >= 1 {
+            if variable <= self.marks.len() {
+                let mark = self.marks[variable - 1];
+                return mark.step == self.step && mark.positive == literal.positive;
+            }
         }
-    }
-    match first_hinted(known, hints, literal.variable) {
-        Some(first) => literal == first.negation(),
-        None => false,
+        match first_hinted(self.known, self.hints, literal.variable) {
+            Some(first) => literal == first.negation(),
+            None => false,
+        }
     }
 }
 
-/// What the clause says after these hints.
-fn find(
-    known: &Known,
-    marks: &[VariableMark],
-    step: u64,
-    hints: &[u64],
-    clause: &[Literal],
-) -> Finding
-    ensures { result ≡ spec.finding (marks_of.is_false marks.now step (literals_of known.now hints.now)) clause.now }
+/// What the clause says where these literals are false.
+pub fn find<F: FalseLiterals>(falses: &F, clause: &[Literal]) -> Finding
+    ensures { result ≡ spec.finding (F.is_false falses.now) clause.now }
 {
     let mut candidate: Option<Literal> = None;
     for literal in clause {
-        if !is_false(known, marks, step, hints, *literal) {
+        if !falses.is_false(*literal) {
             match candidate {
                 None => candidate = Some(*literal),
                 Some(first) => {
@@ -117,7 +124,7 @@ fn find(
     match candidate {
         None => Finding::Falsified,
         Some(literal) => {
-            if is_false(known, marks, step, hints, literal.negation()) {
+            if falses.is_false(literal.negation()) {
                 Finding::Open
             } else {
                 Finding::Forced(literal)
@@ -139,7 +146,15 @@ fn find_hint(
 {
     match known.find_clause(hints[place]) {
         None => Finding::Open,
-        Some(clause) => find(known, marks, step, &hints[..place], clause),
+        Some(clause) => {
+            let after = After {
+                known,
+                marks,
+                step,
+                hints: &hints[..place],
+            };
+            find(&after, clause)
+        }
     }
 }
 

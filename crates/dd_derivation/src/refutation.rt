@@ -1,6 +1,6 @@
 // The check of a refutation: each step is right, and the last one's clause is empty. It takes no memory; its room is made
 // before, and may be used for any derivation of the same sizes.
-ghost use Rattle.std.specs.Prelude.{◌≡◌, ℕ, ◌+◌, ◌<◌, ◌≤◌, true, false, length, map, Some, take, slice_index_or, Bool, IfOk, List};
+ghost use Rattle.std.specs.Prelude.{◌≡◌, ℕ, ◌+◌, ◌<◌, ◌≤◌, Bool, true, false, List, length, slice_index_or, IfOk};
 ghost use Rattle.dd_clause.specs.declared.clause.Literal.{Literal};
 ghost use Rattle.dd_clause.specs.Clauses.{Satisfies};
 ghost use Rattle.dd_derivation.specs.Derivations as spec;
@@ -191,3 +191,6 @@ pub fn check_step(cnf: &Cnf, steps: &[Step], index: usize, marks: &mut Marks) ->
         marks.variables.as_mut_slice(),
     )
 }
+
+#[cfg(test)]
+mod tests;
