@@ -51,19 +51,16 @@ impl<'a> Known<'a> {
             return None;
         }
         let place = (number - 1) as usize;
-        if place < self.clauses.len() {
-            if self.alive[place] {
-                return Some(self.clauses[place].literals());
-            }
+        if place >= self.clauses.len() + self.steps.len() {
             return None;
         }
-        let earlier = place - self.clauses.len();
-        if earlier < self.steps.len() {
-            if self.alive[place] {
-                return Some(self.steps[earlier].clause.literals());
-            }
+        if !self.alive[place] {
+            return None;
         }
-        None
+        if place < self.clauses.len() {
+            return Some(self.clauses[place].literals());
+        }
+        Some(self.steps[place - self.clauses.len()].clause.literals())
     }
 }
 
