@@ -5,13 +5,18 @@ use Rattle.std.specs.Option.{option_map_or}
 use Rattle.dd_clause.specs.declared.clause.Literal.{Literal}
 use Rattle.dd_clause.specs.Clauses.{negation}
 use Rattle.dd_derivation.specs.declared.propagation.VariableMark.{VariableMark}
-use Rattle.dd_derivation.specs.Derivations.{same_literal, is_among, is_in_range, clause_of}
+use Rattle.dd_derivation.specs.declared.step.Step.{Step}
+use Rattle.dd_derivation.specs.Derivations.{same_literal, is_among, is_in_range, clause_of, clauses_before}
 
 -- the clauses by number that are alive
 abbrev pub known_of : List (List Literal) → List Bool → List (Option (List Literal))
 known_of [] alive = []
 known_of (c ∷ cs) [] = []
 known_of (c ∷ cs) (a ∷ alive) = (if a then Some c else None) ∷ known_of cs alive
+
+-- the clauses of the list and of the steps that are alive
+abbrev pub known_to : List (List Literal) → List Step → List Bool → List (Option (List Literal))
+known_to clauses steps alive = known_of (clauses_before clauses steps) alive
 
 -- the mark says, in this step, that the literal of this sign is false
 abbrev pub mark_says : ℕ → Bool → VariableMark → Bool

@@ -4,7 +4,7 @@ ghost use Rattle.std.specs.Prelude.{◌≡◌, ℕ, ◌+◌, ◌≤◌, List, le
 ghost use Rattle.std.specs.Option.{option_copied};
 ghost use Rattle.dd_clause.specs.declared.clause.Literal.{Literal};
 ghost use Rattle.dd_derivation.specs.Derivations as spec;
-ghost use Rattle.dd_derivation.specs.MarksOf.{known_of};
+ghost use Rattle.dd_derivation.specs.MarksOf.{known_of, known_to};
 
 use crate::step::Step;
 use dd_clause::{Clause, Literal};
@@ -21,12 +21,11 @@ pub struct Known<'a> {
 impl<'a> Model for Known<'a> {
     ghost use Rattle.std.specs.Prelude.{◌+◌, ◌≤◌, List, Option, length};
     ghost use Rattle.dd_clause.specs.declared.clause.Literal.{Literal};
-    ghost use Rattle.dd_derivation.specs.Derivations.{clauses_before};
-    ghost use Rattle.dd_derivation.specs.MarksOf.{known_of};
+    ghost use Rattle.dd_derivation.specs.MarksOf.{known_to};
 
     ghost Value = { List (Option (List Literal)) };
 
-    ghost view = { λ k. known_of (clauses_before k.clauses.now k.steps.now) k.alive.now };
+    ghost view = { λ k. known_to k.clauses.now k.steps.now k.alive.now };
 
     ghost invariant = { λ k. length k.clauses.now + length k.steps.now ≤ length k.alive.now };
 }
@@ -34,7 +33,7 @@ impl<'a> Model for Known<'a> {
 impl<'a> Known<'a> {
     pub fn new(clauses: &'a [Clause], steps: &'a [Step], alive: &'a [bool]) -> Known<'a>
         requires { length clauses.now + length steps.now ≤ length alive.now }
-        ensures { result ≡ known_of (spec.clauses_before clauses.now steps.now) alive.now }
+        ensures { result ≡ known_to clauses.now steps.now alive.now }
     {
         Known {
             clauses,
@@ -67,9 +66,12 @@ impl<'a> Known<'a> {
 /// Deletes the clauses of these numbers, if each is one of the first `count` and alive when it is deleted.
 pub fn delete_all(alive: &mut [bool], count: usize, numbers: &[u64]) -> bool
     requires { count ≤ length alive.old }
-    ensures value { (cs : List (List Literal)) → length cs ≡ count → result ≡ spec.are_deletable (known_of cs alive.old) numbers.now }
-    ensures after { result ≡ true → (cs : List (List Literal)) → length cs ≡ count → known_of cs alive.new ≡ spec.known_after (known_of cs alive.old) numbers.now }
-    ensures later { (k : ℕ) → count ≤ k → slice_index_or alive.new k false ≡ slice_index_or alive.old k false }
+    ensures value { (cs : List (List Literal)) → length cs ≡ count →
+        result ≡ spec.are_deletable (known_of cs alive.old) numbers.now }
+    ensures after { result ≡ true → (cs : List (List Literal)) → length cs ≡ count →
+        known_of cs alive.new ≡ spec.known_after (known_of cs alive.old) numbers.now }
+    ensures later { (k : ℕ) → count ≤ k →
+        slice_index_or alive.new k false ≡ slice_index_or alive.old k false }
 {
     for number in numbers {
         if *number == 0 {
@@ -89,7 +91,8 @@ pub fn delete_all(alive: &mut [bool], count: usize, numbers: &[u64]) -> bool
 
 /// Deletes the clauses of those of these numbers that there are.
 pub fn delete_named(alive: &mut [bool], numbers: &[u64])
-    ensures { (cs : List (List Literal)) → known_of cs alive.new ≡ spec.known_after (known_of cs alive.old) numbers.now }
+    ensures { (cs : List (List Literal)) →
+        known_of cs alive.new ≡ spec.known_after (known_of cs alive.old) numbers.now }
 {
     for number in numbers {
         if *number >= 1 {

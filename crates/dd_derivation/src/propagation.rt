@@ -1,5 +1,5 @@
-// Unit propagation along hints: the literals of a step's clause are taken as false, and each hinted clause makes one more
-// literal true, until one is left with none. A stamp tells of which step a mark is, so nothing is undone between steps.
+// Unit propagation along hints: the literals of a step's clause are taken as false, and each hinted clause makes one
+// more literal true, until one is left with none. A mark says of which step it is, so nothing is undone between steps.
 ghost use Rattle.std.specs.Prelude.{◌≡◌, ◌<◌, [], Bool, length, take, true, slice_index_or};
 ghost use Rattle.dd_clause.specs.declared.clause.Literal.{Literal};
 ghost use Rattle.dd_derivation.specs.Derivations as spec;
@@ -87,8 +87,8 @@ struct After<'a> {
 impl<'a> FalseLiterals for After<'a> {
     ghost is_false = { λ a. marks_of.is_false a.marks.now a.step (literals_of a.known.now a.hints.now) };
 
-    /// A variable has no mark only where an earlier step that is not right names it: then the first hinted clause with it
-    /// made its literal true.
+    /// A variable has no mark only where an earlier step that is not right names it. Then the first hinted clause with
+    /// it made its literal true.
     fn is_false(&self, literal: Literal) -> bool {
         let variable = literal.variable as usize;
         if variable >= 1 {
@@ -142,7 +142,9 @@ fn find_hint(
     place: usize,
 ) -> Finding
     requires { place < length hints.now }
-    ensures { result ≡ spec.hint_finding known.now (marks_of.is_false marks.now step (literals_of known.now (take place hints.now))) (slice_index_or hints.now place 0) }
+    ensures { result ≡ spec.hint_finding known.now
+        (marks_of.is_false marks.now step (literals_of known.now (take place hints.now)))
+        (slice_index_or hints.now place 0) }
 {
     match known.find_clause(hints[place]) {
         None => Finding::Open,

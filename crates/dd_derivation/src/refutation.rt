@@ -1,10 +1,10 @@
-// The check of a refutation: each step is right, and the last one's clause is empty. It takes no memory; its room is made
-// before, and may be used for any derivation of the same sizes.
+// The check of a refutation: each step is right, and the last one's clause is empty. It takes no memory: its room is
+// made before, and may be used for any derivation of the same sizes.
 ghost use Rattle.std.specs.Prelude.{◌≡◌, ℕ, ◌+◌, ◌<◌, ◌≤◌, Bool, true, false, List, length, slice_index_or, IfOk};
 ghost use Rattle.dd_clause.specs.declared.clause.Literal.{Literal};
 ghost use Rattle.dd_clause.specs.Clauses.{Satisfies};
 ghost use Rattle.dd_derivation.specs.Derivations as spec;
-ghost use Rattle.dd_derivation.specs.MarksOf.{AreBelow, AreUpTo, known_of};
+ghost use Rattle.dd_derivation.specs.MarksOf.{AreBelow, AreUpTo, known_of, known_to};
 
 use crate::known::{Known, delete_all, delete_named};
 use crate::propagation::{VariableMark, follow_hints, start_marks};
@@ -76,9 +76,13 @@ fn check_one(
 ) -> bool
     requires room { length clauses.now + length earlier.now ≤ length alive.old }
     requires older { AreBelow number marks.old }
-    ensures value { result ≡ spec.is_right (length marks.old) (known_of (spec.clauses_before clauses.now earlier.now) alive.old) step.now }
-    ensures after { result ≡ true → known_of (spec.clauses_before clauses.now earlier.now) alive.new ≡ spec.known_after (known_of (spec.clauses_before clauses.now earlier.now) alive.old) step.now.deletes }
-    ensures later { (k : ℕ) → length clauses.now + length earlier.now ≤ k → slice_index_or alive.new k false ≡ slice_index_or alive.old k false }
+    ensures value { result ≡
+        spec.is_right (length marks.old) (known_to clauses.now earlier.now alive.old) step.now }
+    ensures after { result ≡ true →
+        known_to clauses.now earlier.now alive.new ≡
+        spec.known_after (known_to clauses.now earlier.now alive.old) step.now.deletes }
+    ensures later { (k : ℕ) → length clauses.now + length earlier.now ≤ k →
+        slice_index_or alive.new k false ≡ slice_index_or alive.old k false }
     ensures older { AreUpTo number marks.new }
 {
     if !start_marks(marks, number, step.clause.literals()) {
@@ -148,7 +152,8 @@ pub fn check_refutation(cnf: &Cnf, steps: &[Step], marks: &mut Marks) -> bool
 
 /// Deletes what the steps delete.
 fn delete_earlier(alive: &mut [bool], steps: &[Step])
-    ensures { (cs : List (List Literal)) → known_of cs alive.new ≡ spec.known_after_steps (known_of cs alive.old) steps.now }
+    ensures { (cs : List (List Literal)) →
+        known_of cs alive.new ≡ spec.known_after_steps (known_of cs alive.old) steps.now }
 {
     for step in steps {
         delete_named(alive, step.deletes.as_slice());
