@@ -111,8 +111,7 @@ fn check_all(
     requires older { AreBelow 1 marks.old }
     ensures { result ≡ spec.refutes (length marks.old) clauses.now steps.now }
 {
-    for i in 0..steps.len() {
-        let step = &steps[i];
+    for (i, step) in steps.iter().enumerate() {
         if !check_one(clauses, &steps[..i], alive, marks, i as u64 + 1, step) {
             return false;
         }
