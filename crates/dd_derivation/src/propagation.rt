@@ -31,13 +31,11 @@ fn mark(marks: &mut [VariableMark], step: u64, literal: Literal)
     ensures { marks.new ≡ marks_of.marked marks.old step literal }
 {
     let variable = literal.variable as usize;
-    if variable >= 1 {
-        if variable <= marks.len() {
-            marks[variable - 1] = VariableMark {
-                step,
-                positive: literal.positive,
-            };
-        }
+    if variable >= 1 && variable <= marks.len() {
+        marks[variable - 1] = VariableMark {
+            step,
+            positive: literal.positive,
+        };
     }
 }
 
@@ -91,11 +89,9 @@ impl<'a> FalseLiterals for After<'a> {
     /// it made its literal true.
     fn is_false(&self, literal: Literal) -> bool {
         let variable = literal.variable as usize;
-        if variable >= 1 {
-            if variable <= self.marks.len() {
-                let mark = self.marks[variable - 1];
-                return mark.step == self.step && mark.positive == literal.positive;
-            }
+        if variable >= 1 && variable <= self.marks.len() {
+            let mark = self.marks[variable - 1];
+            return mark.step == self.step && mark.positive == literal.positive;
         }
         match first_hinted(self.known, self.hints, literal.variable) {
             Some(first) => literal == first.negation(),
