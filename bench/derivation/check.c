@@ -5,7 +5,7 @@
 #include <stdlib.h>
 #include <time.h>
 
-enum { CHAIN = 1000, ROUNDS = 250, LINKS = 125000 };
+enum { CHAIN = 1000, ROUNDS = 500, LINKS = 250000 };
 
 typedef struct { int32_t *data; uint32_t count, room; } list;
 
