@@ -1,6 +1,8 @@
 -- A list in cell order says what the list says.
-use Rattle.std.proofs.Common.{◌≡◌, List, [], ◌∷◌, Bool, true, false, refl, ap, sym, ◌∙◌}
+use Rattle.std.proofs.Common.{◌≡◌, List, [], ◌∷◌, Bool, true, false, refl, ap, sym, ◌∙◌, rules}
 use Rattle.std.specs.Prelude.{◌&&◌}
+use Rattle.std.specs.Cmp.{IsTotalOrder}
+use Rattle.std.specs.Cmp.Rules.{comparing}
 use Rattle.std.specs.List.{fold, list_all}
 use Rattle.std.specs.BTreeSet.{insert_key}
 use Rattle.std.specs.Ordering.{ordering_then, match_ordering, int_cmp, nat_cmp}
@@ -17,6 +19,9 @@ both_equal : (a b : Ordering) → ordering_then a b ≡ Equal → (a ≡ Equal) 
 both_equal Less b h = absurd (cc)
 both_equal Equal b h = (refl, h)
 both_equal Greater b h = absurd (cc)
+
+pub place_total : IsTotalOrder place_cmp
+place_total = search (comparing, rules)
 
 pub places_equal : (p q : Place) → place_cmp p q ≡ Equal → p ≡ q
 places_equal p q h =
