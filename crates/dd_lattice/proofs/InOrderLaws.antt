@@ -88,37 +88,37 @@ insert_members_step k x xs rest ih Less same q = (
 )
 insert_members_step k x xs rest ih Equal same q = (
   λ c. inr c,
-  λ h. elim h [ | inl is ↦ subst (Contains (x ∷ xs)) (sym (same refl) ∙ is) (Contains-first x xs) | inr old ↦ old ],
+  λ h. elim h [ inl is ↦ subst (Contains (x ∷ xs)) (sym (same refl) ∙ is) (Contains-first x xs) | inr old ↦ old ],
 )
 insert_members_step k x xs rest ih Greater same q = (
   λ c. elim (Contains-cons_cases x rest q c) [
     | inl is ↦ inr (subst (Contains (x ∷ xs)) is (Contains-first x xs))
-    | inr later ↦ elim ((ih q).0 later) [ | inl is ↦ inl is | inr old ↦ inr (Contains-later x xs q old) ]
+    | inr later ↦ elim ((ih q).0 later) [ inl is ↦ inl is | inr old ↦ inr (Contains-later x xs q old) ]
   ],
   λ h. elim h [
     | inl is ↦ Contains-later x rest q ((ih q).1 (inl is))
     | inr c ↦ elim (Contains-cons_cases x xs q c) [
-        | inl is ↦ subst (Contains (x ∷ rest)) is (Contains-first x rest)
-        | inr old ↦ Contains-later x rest q ((ih q).1 (inr old))
-      ]
+      | inl is ↦ subst (Contains (x ∷ rest)) is (Contains-first x rest)
+      | inr old ↦ Contains-later x rest q ((ih q).1 (inr old))
+    ]
   ],
 )
 
 insert_members : (ks : List Cell) (k q : Cell) → Contains (insert_key cell_cmp ks k) q ↔ ((k ≡ q) ⊎ Contains ks q)
-insert_members [] k q = (Contains-cons_cases k [] q, λ h. elim h [ | inl is ↦ subst (Contains (k ∷ [])) is (Contains-first k []) | inr none ↦ absurd (Contains-nil q none) ])
+insert_members [] k q = (Contains-cons_cases k [] q, λ h. elim h [ inl is ↦ subst (Contains (k ∷ [])) is (Contains-first k []) | inr none ↦ absurd (Contains-nil q none) ])
 insert_members (x ∷ xs) k q = insert_members_step k x xs (insert_key cell_cmp xs k) (insert_members xs k) (cell_cmp k x) (cells_equal k x) q
 
 fold_members : (cs ks : List Cell) (q : Cell) → Contains (fold (insert_key cell_cmp) ks cs) q ↔ (Contains cs q ⊎ Contains ks q)
-fold_members [] ks q = (λ c. inr c, λ h. elim h [ | inl none ↦ absurd (Contains-nil q none) | inr c ↦ c ])
+fold_members [] ks q = (λ c. inr c, λ h. elim h [ inl none ↦ absurd (Contains-nil q none) | inr c ↦ c ])
 fold_members (c ∷ cs) ks q =
     let rest = fold_members cs (insert_key cell_cmp ks c) q in
     let one = insert_members ks c q in (
       λ h. elim (rest.0 h) [
         | inl later ↦ inl (Contains-later c cs q later)
-        | inr there ↦ elim (one.0 there) [ | inl is ↦ inl (subst (Contains (c ∷ cs)) is (Contains-first c cs)) | inr old ↦ inr old ]
+        | inr there ↦ elim (one.0 there) [ inl is ↦ inl (subst (Contains (c ∷ cs)) is (Contains-first c cs)) | inr old ↦ inr old ]
       ],
       λ h. elim h [
-        | inl d ↦ elim (Contains-cons_cases c cs q d) [ | inl is ↦ rest.1 (inr (one.1 (inl is))) | inr later ↦ rest.1 (inl later) ]
+        | inl d ↦ elim (Contains-cons_cases c cs q d) [ inl is ↦ rest.1 (inr (one.1 (inl is))) | inr later ↦ rest.1 (inl later) ]
         | inr old ↦ rest.1 (inr (one.1 (inr old)))
       ],
     )
@@ -126,6 +126,6 @@ fold_members (c ∷ cs) ks q =
 -- a list in cell order has the cells of the list
 pub in_order_members : (cs : List Cell) → HaveSameCells (in_order cs) cs
 in_order_members cs q = (
-  λ h. elim ((fold_members cs [] q).0 h) [ | inl c ↦ c | inr none ↦ absurd (Contains-nil q none) ],
+  λ h. elim ((fold_members cs [] q).0 h) [ inl c ↦ c | inr none ↦ absurd (Contains-nil q none) ],
   λ c. (fold_members cs [] q).1 (inl c),
 )

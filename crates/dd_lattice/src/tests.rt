@@ -18,7 +18,10 @@ fn boxes_and_regions(rt: HostRuntime) -> Result<(), Fail> {
         let moved = region.shifted(rt.alloc(), &step)?;
         let both = region.union(rt.alloc(), &moved)?;
         assert!(rt; moved.holds(&step), "in dimension {dim}");
-        assert!(rt; both.list().len() > region.list().len(), "in dimension {dim}");
+        assert!(rt;
+            both.list().len() > region.list().len(),
+            "in dimension {dim}"
+        );
     }
     Ok(())
 }
@@ -26,7 +29,13 @@ fn boxes_and_regions(rt: HostRuntime) -> Result<(), Fail> {
 #[test]
 fn the_edge_of_the_range(rt: HostRuntime) -> Result<(), Fail> {
     let edge = at(1_048_576, 0, 0).ok_or("the edge is in range")?;
-    let region = positions(rt.alloc(), &Box3 { low: edge, high: edge })?;
+    let region = positions(
+        rt.alloc(),
+        &Box3 {
+            low: edge,
+            high: edge,
+        },
+    )?;
     for (dim, by, fault) in [(1, 0, false), (1, 1, true), (3, 1_048_577, true)] {
         match region.grow(rt.alloc(), dim, by) {
             Ok(_) => assert!(rt; !fault, "by {by}"),
