@@ -1,0 +1,11 @@
+//! Fillings and periodic configurations, and what it means to read them.
+#![tactic(auto)]
+
+mod filling;
+mod periodic;
+mod reading;
+mod weight;
+
+pub use filling::Filling;
+pub use periodic::Periodic;
+pub use reading::{Configuration, Reads};
