@@ -6,23 +6,31 @@ fn at(x: i32, y: i32, z: i32) -> Option<Position> {
 }
 
 #[test]
-fn boxes_and_regions(rt: HostRuntime) -> Result<(), Fail> {
+fn boxes_and_their_growth(rt: HostRuntime) -> Result<(), Fail> {
     for (dim, radius, volume, grown) in [(1, 2, 5, 7), (2, 1, 9, 25), (3, 1, 27, 125)] {
+        assert!(rt; 1 <= dim && dim <= 3);
         let b = centred_box(dim, radius).ok_or("the radius is small")?;
         let region = positions(rt.alloc(), &b)?;
-        assert_eq!(rt; b.volume(), volume, "in dimension {dim}");
-        assert_eq!(rt; region.list().len() as u64, volume, "in dimension {dim}");
         let larger = region.grow(rt.alloc(), dim, 1)?;
-        assert_eq!(rt; larger.list().len(), grown, "in dimension {dim}");
-        let step = at(1, 0, 0).ok_or("a small position")?;
-        let moved = region.shifted(rt.alloc(), &step)?;
-        let both = region.union(rt.alloc(), &moved)?;
-        assert!(rt; moved.holds(&step), "in dimension {dim}");
-        assert!(rt;
-            both.list().len() > region.list().len(),
+        let sizes = (b.volume(), region.list().len(), larger.list().len());
+        assert_eq!(rt;
+            sizes,
+            (volume, volume as usize, grown),
             "in dimension {dim}"
         );
     }
+    Ok(())
+}
+
+#[test]
+fn a_region_and_its_copy(rt: HostRuntime) -> Result<(), Fail> {
+    let b = centred_box(2, 1).ok_or("the radius is small")?;
+    let step = at(2, 0, 0).ok_or("a small position")?;
+    let region = positions(rt.alloc(), &b)?;
+    let moved = region.shifted(rt.alloc(), &step)?;
+    let both = region.union(rt.alloc(), &moved)?;
+    assert_eq!(rt; both.list().len(), 15);
+    assert!(rt; moved.holds(&step) && !region.holds(&step));
     Ok(())
 }
 
