@@ -1,5 +1,5 @@
 -- A filling is read by the places of its cells.
-use Rattle.std.proofs.Common.{◌≡◌, ◌<◌, ℕ, zero, suc, ◌+◌, Bool, true, false, List, [], ◌∷◌, length, get_or, slice_get, Some, None, Ok, Err, Result, ap, sym, subst, refl, ◌∙◌, arith, rules}
+use Rattle.std.proofs.Common.{◌≡◌, ◌<◌, ℕ, zero, suc, Bool, true, false, List, [], ◌∷◌, length, get_or, slice_get, Some, None, Ok, Err, Result, ap, sym, subst, refl, ◌∙◌, arith, rules}
 use Rattle.std.specs.Result.{MatchResult}
 use Rattle.std.specs.List.{Contains, position_or_len}
 use Rattle.std.specs.List.Sorted.{IsStrictlySortedBy, IsBinarySearchResult, IsSearchInRange}

@@ -39,7 +39,6 @@ residue_below x n h = let p = raised x n h in rw (residue_is x n (unsigned_abs x
 pub residue_small : (k n : ℕ) → k < n → residue (pos k) n ≡ k
 residue_small k n h = mod-eq_of_lt h
 
-
 -- a whole number and its residue differ by a multiple
 pub residue_congruent : (x : ℤ) (n : ℕ) → 0 < n → AreCongruent n x (pos (residue x n))
 residue_congruent x n h =

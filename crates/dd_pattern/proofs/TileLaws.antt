@@ -1,10 +1,10 @@
 -- A periodic configuration is read modulo its periods.
-use Rattle.std.proofs.Common.{◌≡◌, ◌↔◌, ℕ, ◌+◌, ◌*◌, ◌-◌, ◌<◌, ◌≤◌, ◌/◌, ◌%◌, ℤ, pos, negsuc, ◌+ℤ◌, ◌*ℤ◌, ◌-ℤ◌, ◌≤ℤ◌, slice_get, unsigned_abs, ap, sym, refl, ◌∙◌, arith}
+use Rattle.std.proofs.Common.{◌≡◌, ℕ, ◌+◌, ◌*◌, ◌-◌, ◌<◌, ℤ, pos, negsuc, ◌≤ℤ◌, slice_get, ◌∙◌, arith}
 use Rattle.std.proofs.lemmas.Int.{ints}
 use Rattle.std.proofs.lemmas.Bool.{lt-ltb}
-use Rattle.dd_lattice.specs.Place.{Place, place}
+use Rattle.dd_lattice.specs.Place.{Place}
 use Rattle.dd_lattice.specs.Cells.{cell}
-use Rattle.dd_lattice.specs.Boxes.{Bounds, IsBelow, IsWithin, gap, span, index_in}
+use Rattle.dd_lattice.specs.Boxes.{IsWithin, gap, span, index_in}
 use Rattle.dd_lattice.specs.declared.position.Cell.{Cell}
 use Rattle.dd_pattern.specs.Tile.{Tile, IsTile, IsCongruent, IsReadModulo, residue, base_of, tile_index, tile_look, fundamental}
 use Rattle.dd_pattern.proofs.Residues.{residue_below, residue_small, residue_congruent}

@@ -4,6 +4,8 @@
 mod filling;
 mod periodic;
 mod reading;
+#[cfg(test)]
+mod tests;
 mod weight;
 
 pub use filling::Filling;
