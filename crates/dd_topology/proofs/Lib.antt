@@ -1,1 +1,3 @@
+pub mod ListLaws
 pub mod NamingLaws
+pub mod MoveLaws

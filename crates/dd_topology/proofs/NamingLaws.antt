@@ -1,6 +1,6 @@
 -- Names that are kept under another form, as the bytes of texts: what the kept list finds, the list of names has.
-use Rattle.std.proofs.Common.{◌≡◌, ◌≢◌, ℕ, List, [], ◌∷◌, Bool, true, false, cond, not, ◌||◌, ◌+◌, map, length, nat_lt, Option, Some, None, Contains, refl, ap, sym, ◌∙◌, true≢false, ◌++◌, if◌then◌else◌}
-use Rattle.std.specs.Prelude.{AllPairs, position, bytes_eq, slice_get}
+use Rattle.std.proofs.Common.{◌≡◌, ℕ, List, [], ◌∷◌, Bool, true, false, cond, map, length, nat_lt, Option, Some, None, Contains, refl, ap, sym, ◌∙◌, true≢false, ◌++◌}
+use Rattle.std.specs.Prelude.{position, bytes_eq, slice_get}
 use Rattle.std.specs.List.{list_any, position_or_len, IsDistinct, AllByRecursion}
 use Rattle.std.specs.Cmp.Lexicographic.{nat_list_eq_equiv}
 use Rattle.std.proofs.lemmas.List.{length-map, map-append}
@@ -11,16 +11,9 @@ use Rattle.std.proofs.lemmas.Option.{slice_get_read}
 use Rattle.std.proofs.lemmas.Slice.Eq.{bytes_eq-Decides}
 use Rattle.indexmap.specs.IndexSet.{insert_key}
 use Rattle.dd_topology.specs.Naming.{AreDistinct, number_of}
+use Rattle.dd_topology.proofs.ListLaws.{list_any-map, position-map, insert_key-new}
 
 module _ {K : Type 0} (f : K → List ℕ) where
-  any-map : (p : List ℕ → Bool) (ks : List K) → list_any p (map f ks) ≡ list_any (λ k. p (f k)) ks
-  any-map p [] = refl
-  any-map p (k ∷ ks) = ap (λ b. p (f k) || b) (any-map p ks)
-
-  place-map : (p : List ℕ → Bool) (ks : List K) → position_or_len p (map f ks) ≡ position_or_len (λ k. p (f k)) ks
-  place-map p [] = refl
-  place-map p (k ∷ ks) = ap (λ n. cond (not (p (f k))) (1 + n) 0) (place-map p ks)
-
   apart-map : (k : K) (ks : List K) → AllByRecursion (λ j. bytes_eq (f k) (f j) ≡ false) ks → AllByRecursion (λ name. bytes_eq (f k) name ≡ false) (map f ks)
   apart-map k [] h = tt
   apart-map k (j ∷ js) h = (h.0, apart-map k js h.1)
@@ -31,19 +24,17 @@ module _ {K : Type 0} (f : K → List ℕ) where
   distinct-map (k ∷ ks) h = (apart-map k ks h.0, distinct-map ks h.1)
 
   pub number_of-map : (name : List ℕ) (ks : List K) → number_of (map f ks) name ≡ position (λ k. bytes_eq name (f k)) ks
-  number_of-map name ks =
-      ap (λ n. cond (nat_lt n (length (map f ks))) (Some n) None) (place-map (bytes_eq name) ks)
-      ∙ ap (λ n. cond (nat_lt (position_or_len (λ k. bytes_eq name (f k)) ks) n) (Some (position_or_len (λ k. bytes_eq name (f k)) ks)) None) (length-map ks f)
+  number_of-map name ks = position-map f (bytes_eq name) ks
 
   pub known : (name : List ℕ) (ks : List K) → list_any (λ k. bytes_eq name (f k)) ks ≡ true → Contains (map f ks) name
-  known name ks h = Contains-from_any (λ x y. (bytes_eq-Decides x y).0) name (map f ks) (any-map (bytes_eq name) ks ∙ h)
+  known name ks h = Contains-from_any (λ x y. (bytes_eq-Decides x y).0) name (map f ks) (list_any-map f (bytes_eq name) ks ∙ h)
 
   pub unknown : (name : List ℕ) (ks : List K) → list_any (λ k. bytes_eq name (f k)) ks ≡ false → ¬ Contains (map f ks) name
-  unknown name ks h there = true≢false (sym (list_any-from_Contains nat_list_eq_equiv name (map f ks) there) ∙ (any-map (bytes_eq name) ks ∙ h))
+  unknown name ks h there = true≢false (sym (list_any-from_Contains nat_list_eq_equiv name (map f ks) there) ∙ (list_any-map f (bytes_eq name) ks ∙ h))
 
   -- a new name goes last
   pub map-insert_key : (k : K) (ks : List K) → list_any (λ j. bytes_eq (f k) (f j)) ks ≡ false → map f (insert_key (λ a b. bytes_eq (f a) (f b)) ks k) ≡ map f ks ++ f k ∷ []
-  map-insert_key k ks h = ap (λ b. map f (if b then ks else ks ++ k ∷ [])) h ∙ map-append f ks (k ∷ [])
+  map-insert_key k ks h = ap (map f) (insert_key-new (λ a b. bytes_eq (f a) (f b)) k ks h) ∙ map-append f ks (k ∷ [])
 
   pub are_distinct : (ks : List K) → IsDistinct (λ a b. bytes_eq (f a) (f b)) ks → AreDistinct (map f ks)
   are_distinct ks h = AllPairs-from_IsDistinct bytes_eq-Decides (map f ks) (distinct-map ks h)

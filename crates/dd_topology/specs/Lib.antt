@@ -1,1 +1,6 @@
 pub mod Naming
+pub mod Topology
+pub mod Balls
+pub mod Grid
+pub mod Builtin
+pub mod Kept
