@@ -1,3 +1,7 @@
 pub mod ListLaws
 pub mod NamingLaws
 pub mod MoveLaws
+pub mod OrderLaws
+pub mod CoordinateLaws
+pub mod BallLaws
+pub mod GrowthLaws

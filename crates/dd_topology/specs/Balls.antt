@@ -1,9 +1,9 @@
 -- Adjacent cells and balls, as sets and as lists.
 use Rattle.std.specs.Prelude.{◌≡◌, ◌⊎◌, ◌↔◌, ℕ, zero, suc, ◌==◌, ◌&&◌, ◌||◌, Bool, cond, List, [], ◌∷◌, ◌++◌, All, Contains}
-use Rattle.std.specs.List.{flat_map, list_any}
+use Rattle.std.specs.List.{flat_map, list_any, list_all}
 use Rattle.std.specs.List.Sorted.{IsStrictlySortedBy}
 use Rattle.std.specs.Ordering.{int_eq}
-use Rattle.dd_lattice.specs.Place.{Place, moved, IsInRange}
+use Rattle.dd_lattice.specs.Place.{Place, moved, IsInRange, is_in_range}
 use Rattle.dd_lattice.specs.Order.{cell_cmp}
 use Rattle.dd_lattice.specs.declared.position.Cell.{Cell}
 use Rattle.dd_lattice.specs.declared.fault.LatticeFault.{LatticeFault}
@@ -67,3 +67,6 @@ neighbours es c = flat_map (beside c) es
 abbrev pub ball : List Edge → Cell → ℕ → List Cell
 ball es c zero = c ∷ []
 ball es c (suc r) = ball es c r ++ flat_map (neighbours es) (ball es c r)
+
+abbrev pub are_in_range : List Cell → Bool
+are_in_range cells = list_all (λ c. is_in_range c.position) cells

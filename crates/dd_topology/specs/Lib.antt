@@ -4,3 +4,4 @@ pub mod Balls
 pub mod Grid
 pub mod Builtin
 pub mod Kept
+pub mod Growth

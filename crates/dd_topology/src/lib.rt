@@ -1,6 +1,7 @@
 //! Topologies: the named labels and the edges of a lattice, moves along them, adjacency and balls.
 #![tactic(auto)]
 
+mod balls;
 mod builtin;
 mod edge;
 mod fault;

@@ -5,14 +5,14 @@ ghost use Rattle.std.specs.List.{find, list_all};
 ghost use Rattle.dd_lattice.specs.Place.{IsInRange};
 ghost use Rattle.dd_lattice.specs.declared.position.Cell.{Cell as AnyCell};
 ghost use Rattle.dd_topology.specs.Naming.{number_of};
-ghost use Rattle.dd_topology.specs.Topology.{leaves, step, end_of, in_range, IsMove, AreSingle};
+ghost use Rattle.dd_topology.specs.Topology.{leaves, step, in_range, IsMove, AreSingle};
 ghost use Rattle.dd_topology.specs.Grid.{grid, is_edge, IsGrid, IsTopologyFault};
 ghost use Rattle.dd_topology.specs.Kept.{move_of};
 
-use crate::edge::Edge;
+use crate::edge::{Edge, end_of};
 use crate::fault::TopologyFault;
 use crate::names::Names;
-use dd_lattice::{Cell, shift};
+use dd_lattice::Cell;
 use dd_values::Items;
 use indexmap::IndexSet;
 use std::alloc::Global;
@@ -150,18 +150,5 @@ impl Topology {
             Some(at) => Some(&self.edges[at]),
             None => None,
         }
-    }
-}
-
-/// The cell to which an edge leads from a cell, or `None` where a coordinate passes 2^20.
-fn end_of(cell: &Cell, edge: &Edge) -> Option<Cell>
-    ensures { result ≡ in_range (end_of cell.now edge.now) }
-{
-    match shift(&cell.position, &edge.offset) {
-        Some(position) => Some(Cell {
-            position,
-            node: edge.to,
-        }),
-        None => None,
     }
 }
