@@ -5,3 +5,4 @@ pub mod OrderLaws
 pub mod CoordinateLaws
 pub mod BallLaws
 pub mod GrowthLaws
+pub mod TableLaws

@@ -18,7 +18,7 @@ use Rattle.dd_topology.specs.Kept.{move_of}
 use Rattle.dd_topology.specs.declared.topology.Move.{Move}
 use Rattle.dd_topology.proofs.ListLaws.{found, missed, list_any-map, position-map, find-position, find_alike, insert_key-new}
 
-starts_alike-flip : (e f : Edge) → starts_alike e f ≡ false → starts_alike f e ≡ false
+pub starts_alike-flip : (e f : Edge) → starts_alike e f ≡ false → starts_alike f e ≡ false
 starts_alike-flip e f h = grind (arith, nat_tests)
 
 by_cases : {P : Type 0} (b : Bool) → (b ≡ true → P) → (b ≡ false → P) → P

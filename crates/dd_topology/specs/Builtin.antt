@@ -1,10 +1,16 @@
 -- The built-in topologies.
-use Rattle.std.specs.Prelude.{ℕ, ℤ, pos, negsuc, List, [], ◌∷◌, ◌++◌, codes}
+use Rattle.std.specs.Prelude.{ℕ, Bool, false, ◌||◌, ℤ, pos, negsuc, List, [], ◌∷◌, ◌++◌, codes}
+use Rattle.std.specs.List.{list_any}
 use Rattle.dd_lattice.specs.Place.{Place, place}
 use Rattle.dd_topology.specs.declared.edge.Edge.{Edge}
 use Rattle.dd_topology.specs.declared.builtin.Kind.{Kind}
 use Rattle.dd_topology.specs.declared.builtin.Kind.TheVariants.{Line, Square, King, Triangle, Hex, Cube}
 use Rattle.dd_topology.specs.Grid.{Grid, grid}
+
+-- whether some element of a table is the same as a later one
+abbrev pub has_repeat : {X : Type 0} → (X → X → Bool) → List X → Bool
+has_repeat same [] = false
+has_repeat same (x ∷ xs) = list_any (same x) xs || has_repeat same xs
 
 -- an edge between cells of one node
 abbrev pub link : ℕ → Place → Edge
