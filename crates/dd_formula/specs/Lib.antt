@@ -1,0 +1,5 @@
+pub mod Topology
+pub mod Reading
+pub mod Truth
+pub mod Limits
+pub mod LocalRule
