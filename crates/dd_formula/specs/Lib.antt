@@ -1,5 +1,6 @@
 pub mod Topology
 pub mod Reading
+pub mod Tile
 pub mod Truth
 pub mod Limits
 pub mod LocalRule

@@ -2,7 +2,11 @@
 #![tactic(auto)]
 
 mod formulas;
+mod periodic;
+mod reading;
 mod topology;
 
 pub use formulas::{BallOf, Expanded, Formula, Term};
+pub use periodic::Periodic;
+pub use reading::Reads;
 pub use topology::Edge;
