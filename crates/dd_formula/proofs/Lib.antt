@@ -1,2 +1,3 @@
 pub mod Residues
 pub mod TileSizes
+pub mod MoveLaws

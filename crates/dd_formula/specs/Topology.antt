@@ -1,5 +1,5 @@
 -- Moves along the edges of a topology, over all of Z^3.
-use Rattle.std.specs.Prelude.{ℕ, ◌==◌, ◌&&◌, Bool, nat_le, nat_lt, unsigned_abs, pos, negsuc, List, [], ◌∷◌, Option, Some, None}
+use Rattle.std.specs.Prelude.{ℕ, ◌==◌, ◌&&◌, Bool, nat_le, max, unsigned_abs, pos, negsuc, List, [], ◌∷◌, Option, Some, None}
 use Rattle.std.specs.List.{find, list_all}
 use Rattle.std.specs.Option.{option_map, option_and_then}
 use Rattle.dd_lattice.specs.Place.{Place, place, moved}
@@ -35,10 +35,10 @@ square =
     ∷ link 3 (place (negsuc 0) (pos 0) (pos 0))
     ∷ []
 
--- each coordinate is at most n in absolute value
-abbrev pub is_close : ℕ → Place → Bool
-is_close n p = nat_le (unsigned_abs p.x) n && nat_le (unsigned_abs p.y) n && nat_le (unsigned_abs p.z) n
+-- the greatest absolute value of a coordinate
+abbrev pub extent : Place → ℕ
+extent p = max (unsigned_abs p.x) (max (unsigned_abs p.y) (unsigned_abs p.z))
 
--- no edge leads further than n along an axis, nor to a node past the last
-abbrev pub are_short : ℕ → ℕ → List Edge → Bool
-are_short n nodes es = list_all (λ e. is_close n e.offset && nat_lt e.to nodes) es
+-- no edge leads further than n along an axis
+abbrev pub are_short : ℕ → List Edge → Bool
+are_short n es = list_all (λ e. nat_le (extent e.offset) n) es
