@@ -1,3 +1,4 @@
 pub mod Residues
 pub mod TileSizes
 pub mod MoveLaws
+pub mod Layers
