@@ -6,3 +6,6 @@ pub mod SaysSame
 pub mod Shifting
 pub mod ReadsLaws
 pub mod TruthAt
+pub mod Nodes
+pub mod SquareReach
+pub mod BoxLaws

@@ -6,3 +6,4 @@ pub mod Limits
 pub mod Reads
 pub mod Expansion
 pub mod LocalRule
+pub mod Living

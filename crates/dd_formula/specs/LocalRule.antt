@@ -1,5 +1,5 @@
 -- A local rule: a formula with the topology and the alphabet that it speaks of.
-use Rattle.std.specs.Prelude.{ℕ, zero, suc, Bool, ◌&&◌, is_some, nat_le, nat_lt, pos, List, [], ◌∷◌, ◌++◌}
+use Rattle.std.specs.Prelude.{ℕ, zero, suc, Bool, ◌<◌, ◌≡◌, true, ◌&&◌, is_some, nat_le, nat_lt, pos, List, [], ◌∷◌, ◌++◌}
 use Rattle.std.specs.List.{list_all}
 use Rattle.dd_lattice.specs.Place.{place}
 use Rattle.dd_lattice.specs.Cells.{cell}
@@ -11,7 +11,7 @@ use Rattle.dd_formula.specs.Topology.{extent}
 use Rattle.dd_formula.specs.Reading.{Look, seen}
 use Rattle.dd_formula.specs.Truth.{truth}
 use Rattle.dd_formula.specs.Reads.{reads}
-use Rattle.dd_formula.specs.Expansion.{expansion, leaves_pass}
+use Rattle.dd_formula.specs.Expansion.{expansion}
 use Rattle.dd_formula.specs.Limits.{square_words}
 
 pub record LocalRule : Type 0 where
@@ -51,3 +51,12 @@ expansions_below r (suc n) = expansions_below r n ++ expansion_at r n ∷ []
 -- a cell of an existing node, at most 16 away from the origin along each axis
 abbrev pub is_within_reach : ℕ → Cell → Bool
 is_within_reach nodes c = nat_le (extent c.position) 16 && nat_lt c.node nodes
+
+-- what each rule keeps: at each node it reads cells of existing nodes that are at most 16 away along each axis
+pub record IsRule (r : LocalRule) : Type 0 where
+  pub reach : (a : ℕ) → a < r.words.nodes → list_all (is_within_reach r.words.nodes) (reads_at r a) ≡ true
+
+-- a rule with its expansion at each node
+pub record IsExpanded (r : LocalRule) (es : List Expanded) : Type 0 where
+  pub rule : IsRule r
+  pub expansions : es ≡ expansions_below r r.words.nodes

@@ -4,13 +4,17 @@
 mod evaluation;
 mod expansion;
 mod formulas;
+mod lives;
 mod periodic;
 mod reading;
+mod rule;
 mod topology;
 mod vocabulary;
 
 pub use formulas::{BallOf, Expanded, Formula, Term};
+pub use lives::Membership;
 pub use periodic::Periodic;
 pub use reading::Reads;
+pub use rule::{Rule, RuleFault};
 pub use topology::Edge;
 pub use vocabulary::Vocabulary;
