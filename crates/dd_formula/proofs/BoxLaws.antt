@@ -1,12 +1,13 @@
 -- The fundamental box of a periodic configuration: its cells by their numbers, and cell order.
 use Rattle.std.proofs.Common.{◌≡◌, ℕ, ◌+◌, ◌*◌, ◌/◌, ◌%◌, ◌<◌, ◌≤◌, length, ℤ, pos, arith, refl, ap, sym, ◌∙◌}
 use Rattle.std.proofs.lemmas.Nat.{mul-add-lt, mod-mul-add, div-mul-add, div-add-mod', mod_below, div_below}
-use Rattle.std.specs.Cmp.{int_ranks, nat_ranks}
+use Rattle.std.specs.Cmp.{int_ranks, ranked}
 use Rattle.std.specs.Ordering.{int_cmp, nat_cmp, ordering_then, MatchOrdering}
 use Rattle.std.specs.Int.Signed.{◌<ℤ◌}
 use Rattle.std.specs.declared.cmp.Ordering.{Ordering}
 use Rattle.std.specs.declared.cmp.Ordering.TheVariants.{Less, Equal, Greater}
 use Rattle.std.proofs.lemmas.Int.{ints}
+
 use Rattle.dd_lattice.specs.Place.{Place, place}
 use Rattle.dd_lattice.specs.Cells.{cell}
 use Rattle.dd_lattice.specs.Order.{cell_cmp}
@@ -75,16 +76,31 @@ record Tells (o : Ordering) (a b : ℕ) : Type 0 where
   equal : o ≡ Equal → a ≡ b
 
 -- an order by the first numbers, then by the second, is the order of their places in a table of rows
-then_tells : (o p : Ordering) (a b x y w : ℕ) → x < w → y < w → Tells o a b → Tells p x y → Tells (ordering_then o p) (a * w + x) (b * w + y)
-then_tells Less p a b x y w xw yw first second = record { less = λ _. ?; equal = λ h. absurd (cc) }
-then_tells Equal p a b x y w xw yw first second = record { less = λ h. ?; equal = λ h. ? }
-then_tells Greater p a b x y w xw yw first second = record { less = λ h. absurd (cc); equal = λ h. absurd (cc) }
+then_tells : (o p : Ordering) (a b x y w : ℕ) → x < w → Tells o a b → Tells p x y → Tells (ordering_then o p) (a * w + x) (b * w + y)
+then_tells Less p a b x y w xw first second =
+    record { less = λ h. (let below : a < b = first.less refl in omega (arith, mul-add-lt a w x b below xw)); equal = λ h. absurd (cc) }
+then_tells Equal p a b x y w xw first second =
+    let rows : a * w ≡ b * w = ap (λ n. n * w) (first.equal refl) in
+    record { less = λ h. (let less : x < y = second.less h in omega arith); equal = λ h. (let same : x ≡ y = second.equal h in omega arith) }
+then_tells Greater p a b x y w xw first second = record { less = λ h. absurd (cc); equal = λ h. absurd (cc) }
+
+int_ranked : (o : Ordering) (a b : ℤ) (x y : ℕ) → pos x ≡ a → pos y ≡ b → MatchOrdering o (a <ℤ b) (a ≡ b) (b <ℤ a) → Tells o x y
+int_ranked Less a b x y p q r = record { less = λ h. omega (arith, ints); equal = λ h. absurd (cc) }
+int_ranked Equal a b x y p q r = record { less = λ h. absurd (cc); equal = λ h. omega (arith, ints) }
+int_ranked Greater a b x y p q r = record { less = λ h. absurd (cc); equal = λ h. absurd (cc) }
 
 int_tells : (a b : ℤ) (x y : ℕ) → pos x ≡ a → pos y ≡ b → Tells (int_cmp a b) x y
-int_tells a b x y p q = ?
+int_tells a b x y p q = int_ranked (int_cmp a b) a b x y p q (int_ranks a b)
 
 nat_tells : (a b : ℕ) → Tells (nat_cmp a b) a b
-nat_tells a b = ?
+nat_tells a b = record { less = λ h. ranked a b Less (sym h); equal = λ h. ranked a b Equal (sym h) }
 
 pub before_by_order : (t : Tile) → IsTile t → (c d : Cell) → IsInBox t c → IsInBox t d → cell_cmp d c ≡ Less → tile_index t d < tile_index t c
-before_by_order t ok c d hc hd h = ?
+before_by_order t ok c d hc hd h =
+    let x = int_tells d.position.x c.position.x (residue d.position.x t.along_x) (residue c.position.x t.along_x) (ap (λ p. p.x) hd.base) (ap (λ p. p.x) hc.base) in
+    let y = int_tells d.position.y c.position.y (residue d.position.y t.along_y) (residue c.position.y t.along_y) (ap (λ p. p.y) hd.base) (ap (λ p. p.y) hc.base) in
+    let z = int_tells d.position.z c.position.z (residue d.position.z t.along_z) (residue c.position.z t.along_z) (ap (λ p. p.z) hd.base) (ap (λ p. p.z) hc.base) in
+    let zy = then_tells _ _ _ _ _ _ t.along_y (residue_below d.position.y t.along_y ok.y_some) z y in
+    let zyx = then_tells _ _ _ _ _ _ t.along_x (residue_below d.position.x t.along_x ok.x_some) zy x in
+    let all = then_tells _ _ _ _ _ _ t.nodes hd.node zyx (nat_tells d.node c.node) in
+    all.less h

@@ -9,3 +9,5 @@ pub mod TruthAt
 pub mod Nodes
 pub mod SquareReach
 pub mod BoxLaws
+pub mod Reached
+pub mod LivesLaws

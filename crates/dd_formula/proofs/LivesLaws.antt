@@ -1,0 +1,54 @@
+-- A rule that is true at each cell of the fundamental box is true at every position of Z^d.
+use Rattle.std.proofs.Common.{◌≡◌, ℕ, ◌<◌, length, List, [], ◌∷◌, true, ap, sym, ◌∙◌}
+use Rattle.dd_lattice.specs.Place.{Place}
+use Rattle.dd_lattice.specs.Cells.{cell, shifted}
+use Rattle.dd_lattice.specs.Order.{cell_cmp}
+use Rattle.dd_lattice.specs.declared.position.Cell.{Cell}
+use Rattle.std.specs.Prelude.{false}
+use Rattle.std.specs.declared.cmp.Ordering.TheVariants.{Less}
+use Rattle.dd_formula.specs.Reading.{Look}
+use Rattle.dd_formula.specs.Tile.{Tile, IsTile, IsInBox, base_of, tile_index, tile_look, cell_in}
+use Rattle.dd_formula.specs.LocalRule.{LocalRule, origin_at, is_true}
+use Rattle.dd_formula.specs.Living.{Fits, Lives, IsFirstFalse}
+use Rattle.dd_formula.proofs.Shifting.{truth_shifted}
+use Rattle.dd_formula.proofs.TruthAt.{at_origin}
+use Rattle.dd_formula.proofs.Residues.{residue-add}
+use Rattle.dd_formula.proofs.TileSizes.{index_below}
+use Rattle.dd_formula.proofs.BoxLaws.{cell_at_index, cell_of_index, in_box, index_of_cell, before_by_order}
+use Rattle.std.proofs.Common.{arith}
+
+abbrev pub true_in : LocalRule → Tile → ℕ → Type 0
+true_in r t i = is_true r (cell_in t i) (tile_look t) ≡ true
+
+-- two functions that agree everywhere are one
+same_look : (f g : Look) → ((c : Cell) → f c ≡ g c) → f ≡ g
+same_look f g h = λ i c. h c i
+
+look_at_base : (t : Tile) → IsTile t → (v : Place) (c : Cell) → tile_look t (shifted v c) ≡ tile_look t (shifted (base_of t v) c)
+look_at_base t ok v c =
+    rw (residue-add c.position.x v.x t.along_x ok.x_some, residue-add c.position.y v.y t.along_y ok.y_some, residue-add c.position.z v.z t.along_z ok.z_some)
+
+truth_at_base : (r : LocalRule) (t : Tile) → IsTile t → (v : Place) (a : ℕ) → is_true r (cell v a) (tile_look t) ≡ is_true r (cell (base_of t v) a) (tile_look t)
+truth_at_base r t ok v a =
+    let at : (u : Place) → is_true r (cell u a) (tile_look t) ≡ is_true r (origin_at a) (λ c. tile_look t (shifted u c)) =
+    λ u. ap (λ c. is_true r c (tile_look t)) (sym (at_origin u a)) ∙ truth_shifted r.words.edges r.formula u (origin_at a ∷ []) (tile_look t) in
+    at v ∙ (ap (is_true r (origin_at a)) (same_look (λ c. tile_look t (shifted v c)) (λ c. tile_look t (shifted (base_of t v) c)) (look_at_base t ok v)) ∙ sym (at (base_of t v)))
+
+-- what holds at each cell of the box holds everywhere
+pub lives_from_box : (r : LocalRule) (t : Tile) → Fits r t → IsTile t → ((k : ℕ) → k < length t.symbols → true_in r t k) → Lives r t
+lives_from_box r t fits ok h v a _ below =
+    let node : a < t.nodes = omega (arith, below, fits.nodes) in
+    truth_at_base r t ok v a
+    ∙ (ap (λ c. is_true r c (tile_look t)) (sym (cell_at_index t ok v a node)) ∙ h (tile_index t (cell v a)) (index_below t ok (cell v a) node))
+
+-- a cell with a false rule, and true ones at the smaller numbers, is the first in cell order
+pub first_from_box : (r : LocalRule) (t : Tile) → IsTile t → (i : ℕ) → i < length t.symbols → is_true r (cell_in t i) (tile_look t) ≡ false → ((k : ℕ) → k < i → true_in r t k) →
+    IsFirstFalse r t (cell_in t i)
+first_from_box r t ok i within here before =
+    record {
+      within = in_box t ok i within;
+      here = here;
+      before = λ d h less.
+          let earlier : tile_index t d < i = omega (arith, before_by_order t ok (cell_in t i) d (in_box t ok i within) h less, index_of_cell t ok i within) in
+          ap (λ c. is_true r c (tile_look t)) (sym (cell_of_index t ok d h)) ∙ before (tile_index t d) earlier;
+    }
