@@ -59,13 +59,3 @@ pub box_given : (r : LocalRule) (t : Tile) → IsRule r → Fits r t → IsTile 
 box_given r t rule fits ok c h =
     let node : c.node < r.words.nodes = omega (arith, h.node, fits.nodes) in
     all_given t ok c h (reads_at r c.node) (ap (λ n. list_all (is_within_reach n) (reads_at r c.node)) fits.nodes ∙ rule.reach c.node node)
-
-get_below : (n : ℕ) (xs : List ℕ) (i : ℕ) → All (λ s. s < n) xs → IfSome (slice_get xs i) (λ s. s < n)
-get_below n [] i h = tt
-get_below n (x ∷ xs) zero h = h 0 x (omega arith)
-get_below n (x ∷ xs) (suc i) h = get_below n xs i (λ k d within. h (suc k) d (omega arith))
-
--- its symbols are below the alphabet's size
-pub tile_below : (r : LocalRule) (t : Tile) → Fits r t → IsBelow r.words.symbols (tile_look t)
-tile_below r t fits c =
-    cond_both (nat_lt c.node t.nodes) (slice_get t.symbols (tile_index t c)) None (λ o. IfSome o (λ s. s < r.words.symbols)) (λ _. get_below r.words.symbols t.symbols (tile_index t c) fits.symbols) (λ _. tt)

@@ -8,6 +8,8 @@ mod lives;
 mod periodic;
 mod reading;
 mod rule;
+#[cfg(test)]
+mod tests;
 mod topology;
 mod vocabulary;
 
