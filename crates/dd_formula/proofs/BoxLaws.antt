@@ -7,7 +7,6 @@ use Rattle.std.specs.Int.Signed.{◌<ℤ◌}
 use Rattle.std.specs.declared.cmp.Ordering.{Ordering}
 use Rattle.std.specs.declared.cmp.Ordering.TheVariants.{Less, Equal, Greater}
 use Rattle.std.proofs.lemmas.Int.{ints}
-
 use Rattle.dd_lattice.specs.Place.{Place, place}
 use Rattle.dd_lattice.specs.Cells.{cell}
 use Rattle.dd_lattice.specs.Order.{cell_cmp}

@@ -31,7 +31,7 @@ look_at_base t ok v c =
 truth_at_base : (r : LocalRule) (t : Tile) → IsTile t → (v : Place) (a : ℕ) → is_true r (cell v a) (tile_look t) ≡ is_true r (cell (base_of t v) a) (tile_look t)
 truth_at_base r t ok v a =
     let at : (u : Place) → is_true r (cell u a) (tile_look t) ≡ is_true r (origin_at a) (λ c. tile_look t (shifted u c)) =
-    λ u. ap (λ c. is_true r c (tile_look t)) (sym (at_origin u a)) ∙ truth_shifted r.words.edges r.formula u (origin_at a ∷ []) (tile_look t) in
+    λ u. ap (λ c. is_true r c (tile_look t)) (sym (at_origin u a)) ∙ truth_shifted r.vocabulary.edges r.formula u (origin_at a ∷ []) (tile_look t) in
     at v ∙ (ap (is_true r (origin_at a)) (same_look (λ c. tile_look t (shifted v c)) (λ c. tile_look t (shifted (base_of t v) c)) (look_at_base t ok v)) ∙ sym (at (base_of t v)))
 
 -- what holds at each cell of the box holds everywhere

@@ -57,5 +57,5 @@ all_given t ok c h (d ∷ ds) near =
 -- a rule's reads at each cell of the box have symbols
 pub box_given : (r : LocalRule) (t : Tile) → IsRule r → Fits r t → IsTile t → (c : Cell) → IsInBox t c → is_given r c (tile_look t) ≡ true
 box_given r t rule fits ok c h =
-    let node : c.node < r.words.nodes = omega (arith, h.node, fits.nodes) in
+    let node : c.node < r.vocabulary.nodes = omega (arith, h.node, fits.nodes) in
     all_given t ok c h (reads_at r c.node) (ap (λ n. list_all (is_within_reach n) (reads_at r c.node)) fits.nodes ∙ rule.reach c.node node)

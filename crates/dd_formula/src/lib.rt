@@ -19,4 +19,3 @@ pub use periodic::Periodic;
 pub use reading::Reads;
 pub use rule::{Rule, RuleFault};
 pub use topology::Edge;
-pub use vocabulary::Vocabulary;

@@ -1,7 +1,7 @@
 //! Memberships whose answers were worked out by hand.
 ghost use Rattle.std.specs.Prelude.{◌≡◌, ◌<◌, ◌≤◌, length, nat_lt, IfOk, IsTrue};
 ghost use Rattle.std.specs.List.{list_all};
-ghost use Rattle.dd_formula.specs.Limits.{fits_square, square_words};
+ghost use Rattle.dd_formula.specs.Limits.{fits_square, square_vocabulary};
 
 use crate::{Formula, Membership, Periodic, Rule, Term};
 use dd_lattice::{Cell, Position};
@@ -48,7 +48,7 @@ fn membership(
     periods: [u32; 3],
     symbols: &[u32],
 ) -> Result<Option<Membership>, AllocError>
-    requires { rule.now.words ≡ square_words }
+    requires { rule.now.vocabulary ≡ square_vocabulary }
 {
     if !symbols.iter().all(|symbol| *symbol < 2) {
         return Ok(None);
@@ -68,8 +68,16 @@ fn memberships(rt: HostRuntime) -> Result<(), Fail> {
         ([1, 1, 1], [1].as_slice(), outside(0, 0)),
         ([3, 1, 1], [0, 1, 1].as_slice(), outside(1, 0)),
         ([1, 3, 1], [0, 1, 1].as_slice(), outside(0, 1)),
-        ([4, 2, 1], [1, 0, 1, 0, 0, 1, 0, 1].as_slice(), Some(Membership::Inside)),
-        ([4, 2, 1], [0, 0, 0, 1, 1, 0, 0, 1].as_slice(), outside(3, 0)),
+        (
+            [4, 2, 1],
+            [1, 0, 1, 0, 0, 1, 0, 1].as_slice(),
+            Some(Membership::Inside),
+        ),
+        (
+            [4, 2, 1],
+            [0, 0, 0, 1, 1, 0, 0, 1].as_slice(),
+            outside(3, 0),
+        ),
         ([4, 2, 1], [0, 0, 0, 1].as_slice(), None),
     ];
     for (periods, symbols, answer) in cases {
