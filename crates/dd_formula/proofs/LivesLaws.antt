@@ -1,13 +1,11 @@
 -- A rule that is true at each cell of the fundamental box is true at every position of Z^d.
-use Rattle.std.proofs.Common.{◌≡◌, ℕ, ◌<◌, length, List, [], ◌∷◌, true, ap, sym, ◌∙◌}
+use Rattle.std.proofs.Common.{◌≡◌, ℕ, ◌<◌, length, [], ◌∷◌, true, ap, sym, ◌∙◌}
 use Rattle.dd_lattice.specs.Place.{Place}
 use Rattle.dd_lattice.specs.Cells.{cell, shifted}
-use Rattle.dd_lattice.specs.Order.{cell_cmp}
 use Rattle.dd_lattice.specs.declared.position.Cell.{Cell}
 use Rattle.std.specs.Prelude.{false}
-use Rattle.std.specs.declared.cmp.Ordering.TheVariants.{Less}
 use Rattle.dd_formula.specs.Reading.{Look}
-use Rattle.dd_formula.specs.Tile.{Tile, IsTile, IsInBox, base_of, tile_index, tile_look, cell_in}
+use Rattle.dd_formula.specs.Tile.{Tile, IsTile, base_of, tile_index, tile_look, cell_in}
 use Rattle.dd_formula.specs.LocalRule.{LocalRule, origin_at, is_true}
 use Rattle.dd_formula.specs.Living.{Fits, Lives, IsFirstFalse}
 use Rattle.dd_formula.proofs.Shifting.{truth_shifted}

@@ -1,21 +1,20 @@
 -- What a rule reads at the cells of a fundamental box is there.
-use Rattle.std.proofs.Common.{◌≡◌, ℕ, zero, suc, ◌+◌, ◌<◌, ◌≤◌, Bool, true, false, List, [], ◌∷◌, length, get_or, Option, Some, None, ℤ, pos, unsigned_abs, refl, ap, sym, ◌∙◌, arith}
-use Rattle.std.specs.Prelude.{◌&&◌, cond, is_some, nat_le, nat_lt, slice_get, IfSome}
-use Rattle.std.specs.List.{All, list_all}
+use Rattle.std.proofs.Common.{◌≡◌, ℕ, zero, suc, ◌<◌, ◌≤◌, true, List, [], ◌∷◌, length, pos, unsigned_abs, refl, ap, ◌∙◌, arith}
+use Rattle.std.specs.Prelude.{is_some, nat_le, nat_lt, slice_get}
+use Rattle.std.specs.List.{list_all}
 use Rattle.std.proofs.lemmas.Int.{ints}
-use Rattle.std.proofs.lemmas.Bool.{and_parts, and_from, leb-true, ltb-true, lt-ltb, cond_both}
-use Rattle.std.proofs.lemmas.Option.{slice_get-get_or}
-use Rattle.dd_lattice.specs.Place.{Place, moved, is_in_range}
+use Rattle.std.proofs.lemmas.Bool.{and_parts, and_from, leb-true, ltb-true, lt-ltb}
+use Rattle.dd_lattice.specs.Place.{moved, is_in_range}
 use Rattle.dd_lattice.specs.Cells.{shifted}
 use Rattle.dd_lattice.specs.declared.position.Cell.{Cell}
 use Rattle.dd_formula.specs.Topology.{extent}
-use Rattle.dd_formula.specs.Reading.{Look, seen, IsBelow}
-use Rattle.dd_formula.specs.Tile.{Tile, IsTile, IsInBox, residue, base_of, tile_index, tile_look}
+use Rattle.dd_formula.specs.Reading.{seen}
+use Rattle.dd_formula.specs.Tile.{Tile, IsTile, IsInBox, residue, tile_index, tile_look}
 use Rattle.dd_formula.specs.LocalRule.{LocalRule, IsRule, is_within_reach, reads_at, is_given}
 use Rattle.dd_formula.specs.Living.{Fits}
 use Rattle.dd_formula.proofs.MoveLaws.{extent_moved, in_range}
 use Rattle.dd_formula.proofs.Residues.{residue_below}
-use Rattle.dd_formula.proofs.TileSizes.{Sizes, sizes_of, index_below}
+use Rattle.dd_formula.proofs.TileSizes.{sizes_of, index_below}
 
 some_within : {X : Type 0} (xs : List X) (i : ℕ) → i < length xs → is_some (slice_get xs i) ≡ true
 some_within [] i h = absurd (omega arith)

@@ -1,5 +1,5 @@
 -- A formula over the square grid reads cells of the one node, at most 16 away along each axis.
-use Rattle.std.proofs.Common.{◌≡◌, ℕ, zero, suc, ◌+◌, ◌<◌, ◌≤◌, Bool, true, false, List, [], ◌∷◌, ◌++◌, length, map, Option, Some, None, refl, ap, sym, ◌∙◌, arith, subst}
+use Rattle.std.proofs.Common.{◌≡◌, ℕ, zero, suc, ◌+◌, ◌<◌, ◌≤◌, Bool, true, List, [], ◌∷◌, length, map, Option, Some, None, refl, ap, ◌∙◌, arith}
 use Rattle.std.specs.Prelude.{◌&&◌, nat_le, nat_lt, slice_get}
 use Rattle.std.specs.List.{list_all, find, flat_map}
 use Rattle.std.specs.Option.{option_and_then, option_map, option_to_list}
@@ -15,7 +15,7 @@ use Rattle.dd_formula.specs.Topology.{extent, square, leaves, step, walk, end_of
 use Rattle.dd_formula.specs.Truth.{cell_of}
 use Rattle.dd_formula.specs.Limits.{fits, fits_step, square_vocabulary, fits_square, term_fits}
 use Rattle.dd_formula.specs.Reads.{reads, reads_step}
-use Rattle.dd_formula.specs.LocalRule.{LocalRule, square_rule, origin_at, is_within_reach, reads_at, IsRule}
+use Rattle.dd_formula.specs.LocalRule.{square_rule, origin_at, is_within_reach, IsRule}
 use Rattle.dd_formula.proofs.MoveLaws.{extent_moved, found_passes}
 
 -- a cell of the one node, at most n away

@@ -7,14 +7,12 @@ use Rattle.std.proofs.lemmas.Bool.{and_parts, cond_both}
 use Rattle.dd_lattice.specs.Place.{Place, moved, is_in_range}
 use Rattle.dd_lattice.specs.Cells.{cell, shifted}
 use Rattle.dd_lattice.specs.declared.position.Cell.{Cell}
-use Rattle.dd_formula.specs.declared.vocabulary.Vocabulary.{Vocabulary}
-use Rattle.dd_formula.specs.declared.formulas.Formula.{Formula}
 use Rattle.dd_formula.specs.declared.formulas.Expanded.{Expanded}
 use Rattle.dd_formula.specs.declared.formulas.Expanded.TheFolds.{fold-roll-Expanded, ind-Expanded, map-Expanded}
 use Rattle.dd_formula.specs.declared.formulas.Expanded.TheOpen.{Expanded-F}
 use Rattle.dd_formula.specs.Reading.{Look, seen}
 use Rattle.dd_formula.specs.Truth.{is_symbol}
-use Rattle.dd_formula.specs.Expansion.{holds, holds_step, leaves_pass, leaves_pass_step, given, expansion}
+use Rattle.dd_formula.specs.Expansion.{holds, holds_step, leaves_pass, leaves_pass_step, given}
 use Rattle.dd_formula.specs.LocalRule.{LocalRule, origin_at, expansion_at, is_true, is_given}
 use Rattle.dd_formula.proofs.SaysSame.{says_same}
 use Rattle.dd_formula.proofs.Shifting.{truth_shifted}

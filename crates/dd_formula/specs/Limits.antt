@@ -1,6 +1,6 @@
 -- The numbers in a formula, and their limits.
 use Rattle.std.specs.List.{list_all}
-use Rattle.std.specs.Prelude.{ℕ, ◌&&◌, Bool, List, length, nat_lt, nat_le}
+use Rattle.std.specs.Prelude.{ℕ, ◌&&◌, Bool, length, nat_lt, nat_le}
 use Rattle.dd_formula.specs.declared.vocabulary.Vocabulary.{Vocabulary}
 use Rattle.dd_formula.specs.declared.formulas.Term.{Term}
 use Rattle.dd_formula.specs.declared.formulas.Formula.{Formula}

@@ -1,5 +1,5 @@
 -- Which periodic configurations live in a rule's subshift.
-use Rattle.std.specs.Prelude.{ℕ, ◌<◌, ◌≡◌, true, false, ℤ, pos}
+use Rattle.std.specs.Prelude.{ℕ, ◌<◌, ◌≡◌, true, false, pos}
 use Rattle.std.specs.List.{All}
 use Rattle.std.specs.declared.cmp.Ordering.TheVariants.{Less}
 use Rattle.dd_lattice.specs.Place.{Place}

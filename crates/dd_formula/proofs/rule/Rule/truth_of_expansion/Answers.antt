@@ -1,4 +1,4 @@
-use Rattle.std.proofs.Common.{◌≡◌, ◌<◌, length, get_or, arith, ap, ◌∙◌, sym}
+use Rattle.std.proofs.Common.{◌≡◌, ◌<◌, length, get_or, arith, ap, ◌∙◌}
 use Rattle.dd_formula.specs.LocalRule.{local_rule, expansion_at}
 use Rattle.dd_formula.proofs.Nodes.{length-expansions_below, get_or-expansions_below}
 use Rattle.dd_formula.proofs.rule.Rule.truth_of_expansion.Goals as goal
