@@ -1,5 +1,5 @@
 // A formula in conjunctive normal form: clauses over the variables 1, 2, .. up to a number that the type knows.
-ghost use Rattle.std.specs.Prelude.{◌≡◌, ◌^◌, ◌≤◌, [], ◌∷◌, ◌++◌, All, OnOk, OnErr};
+ghost use Rattle.std.specs.Prelude.{◌≡◌, ◌^◌, ◌≤◌, ◌↔◌, [], ◌∷◌, ◌++◌, All, IsTrue, OnOk, OnErr};
 ghost use Rattle.dd_clause.specs.Clauses.{IsClauseInRange};
 
 use crate::clause::Clause;
@@ -35,6 +35,18 @@ impl Cnf {
             variables,
             clauses: Vec::new(alloc),
         }
+    }
+
+    /// Whether each variable of the clause is one of the list's.
+    pub fn is_in_range(&self, clause: &Clause) -> bool
+        ensures { IsTrue result ↔ IsClauseInRange self.now.variables clause.now }
+    {
+        for literal in clause.literals() {
+            if literal.variable == 0 || literal.variable > self.variables {
+                return false;
+            }
+        }
+        true
     }
 
     /// Puts a clause at the end. After want of memory the list is as it was.

@@ -1,13 +1,11 @@
 -- A rule that is true at each cell of the fundamental box is true at every position of Z^d.
-use Rattle.std.proofs.Common.{◌≡◌, ℕ, ◌<◌, length, List, [], ◌∷◌, true, ap, sym, ◌∙◌}
+use Rattle.std.proofs.Common.{◌≡◌, ℕ, ◌<◌, length, [], ◌∷◌, true, ap, sym, ◌∙◌}
 use Rattle.dd_lattice.specs.Place.{Place}
 use Rattle.dd_lattice.specs.Cells.{cell, shifted}
-use Rattle.dd_lattice.specs.Order.{cell_cmp}
 use Rattle.dd_lattice.specs.declared.position.Cell.{Cell}
 use Rattle.std.specs.Prelude.{false}
-use Rattle.std.specs.declared.cmp.Ordering.TheVariants.{Less}
 use Rattle.dd_formula.specs.Reading.{Look}
-use Rattle.dd_formula.specs.Tile.{Tile, IsTile, IsInBox, base_of, tile_index, tile_look, cell_in}
+use Rattle.dd_formula.specs.Tile.{Tile, IsTile, base_of, tile_index, tile_look, cell_in}
 use Rattle.dd_formula.specs.LocalRule.{LocalRule, origin_at, is_true}
 use Rattle.dd_formula.specs.Living.{Fits, Lives, IsFirstFalse}
 use Rattle.dd_formula.proofs.Shifting.{truth_shifted}
@@ -31,7 +29,7 @@ look_at_base t ok v c =
 truth_at_base : (r : LocalRule) (t : Tile) → IsTile t → (v : Place) (a : ℕ) → is_true r (cell v a) (tile_look t) ≡ is_true r (cell (base_of t v) a) (tile_look t)
 truth_at_base r t ok v a =
     let at : (u : Place) → is_true r (cell u a) (tile_look t) ≡ is_true r (origin_at a) (λ c. tile_look t (shifted u c)) =
-    λ u. ap (λ c. is_true r c (tile_look t)) (sym (at_origin u a)) ∙ truth_shifted r.words.edges r.formula u (origin_at a ∷ []) (tile_look t) in
+    λ u. ap (λ c. is_true r c (tile_look t)) (sym (at_origin u a)) ∙ truth_shifted r.vocabulary.edges r.formula u (origin_at a ∷ []) (tile_look t) in
     at v ∙ (ap (is_true r (origin_at a)) (same_look (λ c. tile_look t (shifted v c)) (λ c. tile_look t (shifted (base_of t v) c)) (look_at_base t ok v)) ∙ sym (at (base_of t v)))
 
 -- what holds at each cell of the box holds everywhere

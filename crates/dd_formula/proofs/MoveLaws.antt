@@ -1,5 +1,5 @@
 -- How far moves lead.
-use Rattle.std.proofs.Common.{◌≡◌, ℕ, ◌+◌, ◌≤◌, Bool, true, false, List, [], ◌∷◌, Option, Some, None, ℤ, pos, negsuc, ◌≤ℤ◌, arith, refl, unsigned_abs, subst}
+use Rattle.std.proofs.Common.{◌≡◌, ◌+◌, ◌≤◌, Bool, true, false, List, [], ◌∷◌, Option, Some, ℤ, pos, negsuc, ◌≤ℤ◌, arith, refl, unsigned_abs, subst}
 use Rattle.std.specs.Prelude.{int_le, nat_le, cond}
 use lib.Dec.{T}
 use Rattle.std.specs.List.{find, list_all}

@@ -1,21 +1,20 @@
 -- What a rule reads at the cells of a fundamental box is there.
-use Rattle.std.proofs.Common.{◌≡◌, ℕ, zero, suc, ◌+◌, ◌<◌, ◌≤◌, Bool, true, false, List, [], ◌∷◌, length, get_or, Option, Some, None, ℤ, pos, unsigned_abs, refl, ap, sym, ◌∙◌, arith}
-use Rattle.std.specs.Prelude.{◌&&◌, cond, is_some, nat_le, nat_lt, slice_get, IfSome}
-use Rattle.std.specs.List.{All, list_all}
+use Rattle.std.proofs.Common.{◌≡◌, ℕ, zero, suc, ◌<◌, ◌≤◌, true, List, [], ◌∷◌, length, pos, unsigned_abs, refl, ap, ◌∙◌, arith}
+use Rattle.std.specs.Prelude.{is_some, nat_le, nat_lt, slice_get}
+use Rattle.std.specs.List.{list_all}
 use Rattle.std.proofs.lemmas.Int.{ints}
-use Rattle.std.proofs.lemmas.Bool.{and_parts, and_from, leb-true, ltb-true, lt-ltb, cond_both}
-use Rattle.std.proofs.lemmas.Option.{slice_get-get_or}
-use Rattle.dd_lattice.specs.Place.{Place, moved, is_in_range}
+use Rattle.std.proofs.lemmas.Bool.{and_parts, and_from, leb-true, ltb-true, lt-ltb}
+use Rattle.dd_lattice.specs.Place.{moved, is_in_range}
 use Rattle.dd_lattice.specs.Cells.{shifted}
 use Rattle.dd_lattice.specs.declared.position.Cell.{Cell}
 use Rattle.dd_formula.specs.Topology.{extent}
-use Rattle.dd_formula.specs.Reading.{Look, seen, IsBelow}
-use Rattle.dd_formula.specs.Tile.{Tile, IsTile, IsInBox, residue, base_of, tile_index, tile_look}
+use Rattle.dd_formula.specs.Reading.{seen}
+use Rattle.dd_formula.specs.Tile.{Tile, IsTile, IsInBox, residue, tile_index, tile_look}
 use Rattle.dd_formula.specs.LocalRule.{LocalRule, IsRule, is_within_reach, reads_at, is_given}
 use Rattle.dd_formula.specs.Living.{Fits}
 use Rattle.dd_formula.proofs.MoveLaws.{extent_moved, in_range}
 use Rattle.dd_formula.proofs.Residues.{residue_below}
-use Rattle.dd_formula.proofs.TileSizes.{Sizes, sizes_of, index_below}
+use Rattle.dd_formula.proofs.TileSizes.{sizes_of, index_below}
 
 some_within : {X : Type 0} (xs : List X) (i : ℕ) → i < length xs → is_some (slice_get xs i) ≡ true
 some_within [] i h = absurd (omega arith)
@@ -57,15 +56,5 @@ all_given t ok c h (d ∷ ds) near =
 -- a rule's reads at each cell of the box have symbols
 pub box_given : (r : LocalRule) (t : Tile) → IsRule r → Fits r t → IsTile t → (c : Cell) → IsInBox t c → is_given r c (tile_look t) ≡ true
 box_given r t rule fits ok c h =
-    let node : c.node < r.words.nodes = omega (arith, h.node, fits.nodes) in
+    let node : c.node < r.vocabulary.nodes = omega (arith, h.node, fits.nodes) in
     all_given t ok c h (reads_at r c.node) (ap (λ n. list_all (is_within_reach n) (reads_at r c.node)) fits.nodes ∙ rule.reach c.node node)
-
-get_below : (n : ℕ) (xs : List ℕ) (i : ℕ) → All (λ s. s < n) xs → IfSome (slice_get xs i) (λ s. s < n)
-get_below n [] i h = tt
-get_below n (x ∷ xs) zero h = h 0 x (omega arith)
-get_below n (x ∷ xs) (suc i) h = get_below n xs i (λ k d within. h (suc k) d (omega arith))
-
--- its symbols are below the alphabet's size
-pub tile_below : (r : LocalRule) (t : Tile) → Fits r t → IsBelow r.words.symbols (tile_look t)
-tile_below r t fits c =
-    cond_both (nat_lt c.node t.nodes) (slice_get t.symbols (tile_index t c)) None (λ o. IfSome o (λ s. s < r.words.symbols)) (λ _. get_below r.words.symbols t.symbols (tile_index t c) fits.symbols) (λ _. tt)

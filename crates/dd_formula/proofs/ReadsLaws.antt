@@ -1,7 +1,7 @@
 -- The leaves of an expansion are at the cells that the formula reads.
 use Rattle.std.specs.List.{list_all, flat_map}
 use Rattle.std.specs.Option.{option_to_list}
-use Rattle.std.proofs.Common.{◌≡◌, ℕ, Bool, true, false, List, [], ◌∷◌, ◌++◌, map, refl, ap, sym, ◌∙◌, Some, None}
+use Rattle.std.proofs.Common.{◌≡◌, ℕ, Bool, true, false, List, [], ◌∷◌, map, refl, ap, sym, ◌∙◌, Some, None}
 use Rattle.std.specs.Prelude.{◌&&◌, Option}
 use Rattle.std.proofs.lemmas.List.Folds.{list_all-append}
 use Rattle.dd_lattice.specs.declared.position.Cell.{Cell}

@@ -37,4 +37,3 @@ residue_below x n h = let p = raised x n h in rw (residue_is x n (unsigned_abs x
 
 pub residue_small : (k n : ℕ) → k < n → residue (pos k) n ≡ k
 residue_small k n h = mod-eq_of_lt h
-

@@ -1,6 +1,6 @@
 -- The expansion of a formula says what the formula says.
 use Rattle.std.specs.List.{list_all}
-use Rattle.std.proofs.Common.{◌≡◌, ℕ, Bool, true, false, List, [], ◌∷◌, map, refl, ap, ◌∙◌, Some, None}
+use Rattle.std.proofs.Common.{◌≡◌, ℕ, Bool, true, false, List, [], ◌∷◌, map, refl, ap, Some, None}
 use Rattle.std.specs.Prelude.{◌||◌, Option}
 use Rattle.dd_lattice.specs.declared.position.Cell.{Cell}
 use Rattle.dd_formula.specs.declared.vocabulary.Vocabulary.{Vocabulary}

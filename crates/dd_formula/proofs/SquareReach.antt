@@ -1,5 +1,5 @@
 -- A formula over the square grid reads cells of the one node, at most 16 away along each axis.
-use Rattle.std.proofs.Common.{◌≡◌, ℕ, zero, suc, ◌+◌, ◌<◌, ◌≤◌, Bool, true, false, List, [], ◌∷◌, ◌++◌, length, map, Option, Some, None, refl, ap, sym, ◌∙◌, arith, subst}
+use Rattle.std.proofs.Common.{◌≡◌, ℕ, zero, suc, ◌+◌, ◌<◌, ◌≤◌, Bool, true, List, [], ◌∷◌, length, map, Option, Some, None, refl, ap, ◌∙◌, arith}
 use Rattle.std.specs.Prelude.{◌&&◌, nat_le, nat_lt, slice_get}
 use Rattle.std.specs.List.{list_all, find, flat_map}
 use Rattle.std.specs.Option.{option_and_then, option_map, option_to_list}
@@ -13,9 +13,9 @@ use Rattle.dd_formula.specs.declared.formulas.Formula.TheFolds.{fold-roll-Formul
 use Rattle.dd_formula.specs.declared.formulas.Formula.TheOpen.{Formula-F}
 use Rattle.dd_formula.specs.Topology.{extent, square, leaves, step, walk, end_of}
 use Rattle.dd_formula.specs.Truth.{cell_of}
-use Rattle.dd_formula.specs.Limits.{fits, fits_step, square_words, fits_square, term_fits}
+use Rattle.dd_formula.specs.Limits.{fits, fits_step, square_vocabulary, fits_square, term_fits}
 use Rattle.dd_formula.specs.Reads.{reads, reads_step}
-use Rattle.dd_formula.specs.LocalRule.{LocalRule, square_rule, origin_at, is_within_reach, reads_at, IsRule}
+use Rattle.dd_formula.specs.LocalRule.{square_rule, origin_at, is_within_reach, IsRule}
 use Rattle.dd_formula.proofs.MoveLaws.{extent_moved, found_passes}
 
 -- a cell of the one node, at most n away
@@ -60,7 +60,7 @@ AtOrigin env = (i : ℕ) (c : Cell) → slice_get env i ≡ Some c → IsNear 0 
 within_reach : (c : Cell) → IsNear 16 c → is_within_reach 1 c ≡ true
 within_reach c h = and_from _ _ (le-leb _ _ h.distance) (lt-ltb _ _ h.node)
 
-term_near : (env : List Cell) (t : Term) (scope : ℕ) (d : Cell) → AtOrigin env → term_fits square_words scope t ≡ true → cell_of square env t ≡ Some d → is_within_reach 1 d ≡ true
+term_near : (env : List Cell) (t : Term) (scope : ℕ) (d : Cell) → AtOrigin env → term_fits square_vocabulary scope t ≡ true → cell_of square env t ≡ Some d → is_within_reach 1 d ≡ true
 term_near env t scope d near fit s =
     let from = then_some (λ c. walk square c t.moves) (slice_get env t.variable) d s in
     let few : length t.moves ≤ 16 = leb-true _ _ (and_parts (nat_lt t.variable scope) (nat_le (length t.moves) 16) (and_parts (nat_lt t.variable scope && nat_le (length t.moves) 16) (list_all (λ l. nat_lt l 4) t.moves) fit).0).1 in
@@ -74,7 +74,7 @@ abbrev Cells : Type 0
 Cells = List Cell → List Cell
 
 abbrev Reaches : Formula → Type 0
-Reaches f = (env : List Cell) (scope : ℕ) → AtOrigin env → fits square_words f scope ≡ true → list_all (is_within_reach 1) (reads square f env) ≡ true
+Reaches f = (env : List Cell) (scope : ℕ) → AtOrigin env → fits square_vocabulary f scope ≡ true → list_all (is_within_reach 1) (reads square f env) ≡ true
 
 abbrev Known : Type 0
 Known = (f : Formula) × Reaches f
@@ -82,27 +82,27 @@ Known = (f : Formula) × Reaches f
 abbrev layer : Formula-F Known → Formula-F Formula
 layer y = map-Formula Known Formula (λ e. e.0) y
 
-all_reach : (fs : List Known) (env : List Cell) (scope : ℕ) → AtOrigin env → list_all (λ f. f scope) (map (fits square_words) (map (λ e. e.0) fs)) ≡ true →
+all_reach : (fs : List Known) (env : List Cell) (scope : ℕ) → AtOrigin env → list_all (λ f. f scope) (map (fits square_vocabulary) (map (λ e. e.0) fs)) ≡ true →
     list_all (is_within_reach 1) (flat_map (λ r. r env) (map (reads square) (map (λ e. e.0) fs))) ≡ true
 all_reach [] env scope near h = refl
 all_reach (f ∷ fs) env scope near h =
-    let both = and_parts (fits square_words f.0 scope) (list_all (λ f. f scope) (map (fits square_words) (map (λ e. e.0) fs))) h in
+    let both = and_parts (fits square_vocabulary f.0 scope) (list_all (λ f. f scope) (map (fits square_vocabulary) (map (λ e. e.0) fs))) h in
     list_all-append (is_within_reach 1) (reads square f.0 env) (flat_map (λ r. r env) (map (reads square) (map (λ e. e.0) fs)))
     ∙ and_from _ _ (f.1 env scope near both.0) (all_reach fs env scope near both.1)
 
-step_reaches : (y : Formula-F Known) (env : List Cell) (scope : ℕ) → AtOrigin env → fits_step square_words (map-Formula Formula (ℕ → Bool) (fits square_words) (layer y)) scope ≡ true →
+step_reaches : (y : Formula-F Known) (env : List Cell) (scope : ℕ) → AtOrigin env → fits_step square_vocabulary (map-Formula Formula (ℕ → Bool) (fits square_vocabulary) (layer y)) scope ≡ true →
     list_all (is_within_reach 1) (reads_step square (map-Formula Formula Cells (reads square) (layer y)) env) ≡ true
 step_reaches (Formula-F.Symbol t s) env scope near h =
-    to_list_passes (is_within_reach 1) (cell_of square env t) (λ d. term_near env t scope d near (and_parts (term_fits square_words scope t) (nat_lt s 2) h).0)
+    to_list_passes (is_within_reach 1) (cell_of square env t) (λ d. term_near env t scope d near (and_parts (term_fits square_vocabulary scope t) (nat_lt s 2) h).0)
 step_reaches (Formula-F.Not f) env scope near h = f.1 env scope near h
 step_reaches (Formula-F.And fs) env scope near h = all_reach fs env scope near h
 step_reaches (Formula-F.Implies f g) env scope near h =
-    let both = and_parts (fits square_words f.0 scope) (fits square_words g.0 scope) h in
+    let both = and_parts (fits square_vocabulary f.0 scope) (fits square_vocabulary g.0 scope) h in
     list_all-append (is_within_reach 1) (reads square f.0 env) (reads square g.0 env) ∙ and_from _ _ (f.1 env scope near both.0) (g.1 env scope near both.1)
 
 reaches : (f : Formula) → Reaches f
 reaches = ind-Formula Reaches (λ x y is env scope near.
-    rw (fold-roll-Formula Cells (reads_step square) x, fold-roll-Formula (ℕ → Bool) (fits_step square_words) x, ← is) (step_reaches y env scope near))
+    rw (fold-roll-Formula Cells (reads_step square) x, fold-roll-Formula (ℕ → Bool) (fits_step square_vocabulary) x, ← is) (step_reaches y env scope near))
 
 alone : (a : ℕ) → a < 1 → AtOrigin (origin_at a ∷ [])
 alone a h zero c s = widen 0 0 (origin_at a) c (record { distance = omega arith; node = h }) (cc) (omega arith)

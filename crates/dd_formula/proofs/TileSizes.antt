@@ -40,4 +40,3 @@ place_below t ok c = below_table _ _ _ _ (row_below t ok c) (residue_below c.pos
 
 pub index_below : (t : Tile) → IsTile t → (c : Cell) → c.node < t.nodes → tile_index t c < length t.symbols
 index_below t ok c h = rw ok.full (below_table _ _ _ _ (place_below t ok c) h)
-

@@ -7,14 +7,12 @@ use Rattle.std.proofs.lemmas.Bool.{and_parts, cond_both}
 use Rattle.dd_lattice.specs.Place.{Place, moved, is_in_range}
 use Rattle.dd_lattice.specs.Cells.{cell, shifted}
 use Rattle.dd_lattice.specs.declared.position.Cell.{Cell}
-use Rattle.dd_formula.specs.declared.vocabulary.Vocabulary.{Vocabulary}
-use Rattle.dd_formula.specs.declared.formulas.Formula.{Formula}
 use Rattle.dd_formula.specs.declared.formulas.Expanded.{Expanded}
 use Rattle.dd_formula.specs.declared.formulas.Expanded.TheFolds.{fold-roll-Expanded, ind-Expanded, map-Expanded}
 use Rattle.dd_formula.specs.declared.formulas.Expanded.TheOpen.{Expanded-F}
 use Rattle.dd_formula.specs.Reading.{Look, seen}
 use Rattle.dd_formula.specs.Truth.{is_symbol}
-use Rattle.dd_formula.specs.Expansion.{holds, holds_step, leaves_pass, leaves_pass_step, given, expansion}
+use Rattle.dd_formula.specs.Expansion.{holds, holds_step, leaves_pass, leaves_pass_step, given}
 use Rattle.dd_formula.specs.LocalRule.{LocalRule, origin_at, expansion_at, is_true, is_given}
 use Rattle.dd_formula.proofs.SaysSame.{says_same}
 use Rattle.dd_formula.proofs.Shifting.{truth_shifted}
@@ -75,8 +73,8 @@ at_origin v a = rw (zero_plus v.x, zero_plus v.y, zero_plus v.z)
 pub truth_at : (r : LocalRule) (c : Cell) (look : Look) → given (expansion_at r c.node) (seen look c.position) ≡ true → holds (expansion_at r c.node) (seen look c.position) ≡ is_true r c look
 truth_at r c look h =
     holds_keeps (expansion_at r c.node) (seen look c.position) (λ d. look (shifted c.position d)) (seen_extends look c.position) h
-    ∙ (says_same r.words r.formula (origin_at c.node ∷ []) (λ d. look (shifted c.position d))
-    ∙ (sym (truth_shifted r.words.edges r.formula c.position (origin_at c.node ∷ []) look)
+    ∙ (says_same r.vocabulary r.formula (origin_at c.node ∷ []) (λ d. look (shifted c.position d))
+    ∙ (sym (truth_shifted r.vocabulary.edges r.formula c.position (origin_at c.node ∷ []) look)
     ∙ ap (λ d. is_true r d look) (at_origin c.position c.node)))
 
 same_where : {A : Type 0} (b : Bool) (x y : A) → (b ≡ true → x ≡ y) → cond b (Some x) None ≡ cond b (Some y) None
@@ -88,4 +86,4 @@ pub truth_where_given : (r : LocalRule) (c : Cell) (look : Look) →
     cond (given (expansion_at r c.node) (seen look c.position)) (Some (holds (expansion_at r c.node) (seen look c.position))) None ≡ cond (is_given r c look) (Some (is_true r c look)) None
 truth_where_given r c look =
     same_where _ _ _ (truth_at r c look)
-    ∙ ap (λ b. cond b (Some (is_true r c look)) None) (leaves_are_reads r.words r.formula (origin_at c.node ∷ []) (λ d. is_some (seen look c.position d)))
+    ∙ ap (λ b. cond b (Some (is_true r c look)) None) (leaves_are_reads r.vocabulary r.formula (origin_at c.node ∷ []) (λ d. is_some (seen look c.position d)))

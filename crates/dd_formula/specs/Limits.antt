@@ -1,6 +1,6 @@
 -- The numbers in a formula, and their limits.
 use Rattle.std.specs.List.{list_all}
-use Rattle.std.specs.Prelude.{ℕ, ◌&&◌, Bool, List, length, nat_lt, nat_le}
+use Rattle.std.specs.Prelude.{ℕ, ◌&&◌, Bool, length, nat_lt, nat_le}
 use Rattle.dd_formula.specs.declared.vocabulary.Vocabulary.{Vocabulary}
 use Rattle.dd_formula.specs.declared.formulas.Term.{Term}
 use Rattle.dd_formula.specs.declared.formulas.Formula.{Formula}
@@ -24,9 +24,9 @@ abbrev pub fits : Vocabulary → Formula → ℕ → Bool
 fits v = fold-Formula (ℕ → Bool) (fits_step v)
 
 -- the square grid with the symbols 0 and 1
-abbrev pub square_words : Vocabulary
-square_words = record { dim = 2; nodes = 1; labels = 4; edges = square; symbols = 2 }
+abbrev pub square_vocabulary : Vocabulary
+square_vocabulary = record { dim = 2; nodes = 1; labels = 4; edges = square; symbols = 2 }
 
 -- a formula of the square grid with the symbols 0 and 1, whose one variable is the cell at which it stands
 abbrev pub fits_square : Formula → Bool
-fits_square f = fits square_words f 1
+fits_square f = fits square_vocabulary f 1

@@ -1,5 +1,5 @@
 -- Which periodic configurations live in a rule's subshift.
-use Rattle.std.specs.Prelude.{ℕ, ◌<◌, ◌≡◌, true, false, ℤ, pos}
+use Rattle.std.specs.Prelude.{ℕ, ◌<◌, ◌≡◌, true, false, pos}
 use Rattle.std.specs.List.{All}
 use Rattle.std.specs.declared.cmp.Ordering.TheVariants.{Less}
 use Rattle.dd_lattice.specs.Place.{Place}
@@ -13,9 +13,9 @@ use Rattle.dd_formula.specs.declared.lives.Membership.TheVariants.{Inside, Outsi
 
 -- the configuration has the rule's dimension, nodes and symbols
 pub record Fits (r : LocalRule) (t : Tile) : Type 0 where
-  pub dimension : t.dimension ≡ r.words.dim
-  pub nodes : t.nodes ≡ r.words.nodes
-  pub symbols : All (λ s. s < r.words.symbols) t.symbols
+  pub dimension : t.dimension ≡ r.vocabulary.dim
+  pub nodes : t.nodes ≡ r.vocabulary.nodes
+  pub symbols : All (λ s. s < r.vocabulary.symbols) t.symbols
 
 -- the positions of Z^d: the coordinates past the d-th are 0
 pub record IsPosition (d : ℕ) (p : Place) : Type 0 where
@@ -24,7 +24,7 @@ pub record IsPosition (d : ℕ) (p : Place) : Type 0 where
 
 -- the rule is true at every position of Z^d and every node
 abbrev pub Lives : LocalRule → Tile → Type 0
-Lives r t = (v : Place) (a : ℕ) → IsPosition r.words.dim v → a < r.words.nodes → is_true r (cell v a) (tile_look t) ≡ true
+Lives r t = (v : Place) (a : ℕ) → IsPosition r.vocabulary.dim v → a < r.vocabulary.nodes → is_true r (cell v a) (tile_look t) ≡ true
 
 -- the first cell of the fundamental box, in cell order, at which the rule is false
 pub record IsFirstFalse (r : LocalRule) (t : Tile) (c : Cell) : Type 0 where

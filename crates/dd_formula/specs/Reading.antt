@@ -1,5 +1,5 @@
 -- Symbols that are given to cells.
-use Rattle.std.specs.Prelude.{ℕ, ◌<◌, Bool, true, false, cond, Option, Some, None, IfSome}
+use Rattle.std.specs.Prelude.{ℕ, ◌<◌, cond, Option, None, IfSome}
 use Rattle.dd_lattice.specs.Place.{Place, moved, is_in_range}
 use Rattle.dd_lattice.specs.Cells.{shifted}
 use Rattle.dd_lattice.specs.declared.position.Cell.{Cell}

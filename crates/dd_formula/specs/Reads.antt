@@ -1,7 +1,7 @@
 -- The cells at which a formula looks.
-use Rattle.std.specs.List.{list_all, flat_map}
+use Rattle.std.specs.List.{flat_map}
 use Rattle.std.specs.Option.{option_to_list}
-use Rattle.std.specs.Prelude.{ℕ, Bool, is_some, List, [], ◌∷◌, ◌++◌}
+use Rattle.std.specs.Prelude.{List, ◌++◌}
 use Rattle.dd_lattice.specs.declared.position.Cell.{Cell}
 use Rattle.dd_formula.specs.declared.topology.Edge.{Edge}
 use Rattle.dd_formula.specs.declared.formulas.Formula.{Formula}

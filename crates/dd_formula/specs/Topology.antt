@@ -1,5 +1,5 @@
 -- Moves along the edges of a topology, over all of Z^3.
-use Rattle.std.specs.Prelude.{ℕ, ◌==◌, ◌&&◌, Bool, nat_le, max, unsigned_abs, pos, negsuc, List, [], ◌∷◌, Option, Some, None}
+use Rattle.std.specs.Prelude.{ℕ, ◌==◌, ◌&&◌, Bool, nat_le, max, unsigned_abs, pos, negsuc, List, [], ◌∷◌, Option, Some}
 use Rattle.std.specs.List.{find, list_all}
 use Rattle.std.specs.Option.{option_map, option_and_then}
 use Rattle.dd_lattice.specs.Place.{Place, place, moved}

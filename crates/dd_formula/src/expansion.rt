@@ -14,14 +14,14 @@ use dd_values::{Boxed, Items};
 use std::alloc::{AllocError, Global};
 
 /// The cell of a term; `None` where a move is missing.
-fn cell_of(words: &Vocabulary, env: &[Cell], term: &Term) -> Option<Cell>
-    requires short { IsTrue (are_short 4 words.now.edges) }
+fn cell_of(vocabulary: &Vocabulary, env: &[Cell], term: &Term) -> Option<Cell>
+    requires short { IsTrue (are_short 4 vocabulary.now.edges) }
     requires near { IsTrue (list_all (λ c. nat_le (extent c.position) 65536) env.now) }
-    requires fits { IsTrue (term_fits words.now (length env.now) term.now) }
-    ensures { result ≡ cell_of words.now.edges env.now term.now }
+    requires fits { IsTrue (term_fits vocabulary.now (length env.now) term.now) }
+    ensures { result ≡ cell_of vocabulary.now.edges env.now term.now }
 {
     match env.get(term.variable as usize) {
-        Some(cell) => walk(words.edges.as_slice(), cell, term.moves.as_slice()),
+        Some(cell) => walk(vocabulary.edges.as_slice(), cell, term.moves.as_slice()),
         None => None,
     }
 }
@@ -39,25 +39,30 @@ fn leaf(place: Option<Cell>, symbol: u32) -> Expanded
 #[tactic(auto, using(crate::proofs::Layers::expansion_and))]
 pub(crate) fn expand(
     alloc: Global,
-    words: &Vocabulary,
+    vocabulary: &Vocabulary,
     env: &[Cell],
     formula: &Formula,
 ) -> Result<Expanded, AllocError>
-    requires short { IsTrue (are_short 4 words.now.edges) }
+    requires short { IsTrue (are_short 4 vocabulary.now.edges) }
     requires near { IsTrue (list_all (λ c. nat_le (extent c.position) 65536) env.now) }
-    requires fits { IsTrue (fits words.now formula.now (length env.now)) }
-    ensures { IfOk result (λ e. e ≡ expansion words.now formula.now env.now) }
+    requires fits { IsTrue (fits vocabulary.now formula.now (length env.now)) }
+    ensures { IfOk result (λ e. e ≡ expansion vocabulary.now formula.now env.now) }
 {
     match formula {
-        Formula::Symbol { term, symbol } => Ok(leaf(cell_of(words, env, term), *symbol)),
+        Formula::Symbol { term, symbol } => Ok(leaf(cell_of(vocabulary, env, term), *symbol)),
         Formula::Not(inner) => {
-            let part = expand(alloc, words, env, inner.get())?;
+            let part = expand(alloc, vocabulary, env, inner.get())?;
             Ok(Expanded::Not(Boxed::new(alloc, part)?))
         }
-        Formula::And(parts) => Ok(Expanded::And(expand_all(alloc, words, env, parts.as_slice())?)),
+        Formula::And(parts) => Ok(Expanded::And(expand_all(
+            alloc,
+            vocabulary,
+            env,
+            parts.as_slice(),
+        )?)),
         Formula::Implies(left, right) => {
-            let premise = expand(alloc, words, env, left.get())?;
-            let conclusion = expand(alloc, words, env, right.get())?;
+            let premise = expand(alloc, vocabulary, env, left.get())?;
+            let conclusion = expand(alloc, vocabulary, env, right.get())?;
             let mut parts = Items::new(alloc);
             parts.push(Expanded::Not(Boxed::new(alloc, premise)?))?;
             parts.push(conclusion)?;
@@ -69,18 +74,18 @@ pub(crate) fn expand(
 #[cycle(expand)]
 fn expand_all(
     alloc: Global,
-    words: &Vocabulary,
+    vocabulary: &Vocabulary,
     env: &[Cell],
     formulas: &[Formula],
 ) -> Result<Items<Expanded>, AllocError>
-    requires short { IsTrue (are_short 4 words.now.edges) }
+    requires short { IsTrue (are_short 4 vocabulary.now.edges) }
     requires near { IsTrue (list_all (λ c. nat_le (extent c.position) 65536) env.now) }
-    requires fits { IsTrue (fits words.now (Formula.And formulas.now) (length env.now)) }
-    ensures { IfOk result (λ es. es ≡ map (λ f. expansion words.now f env.now) formulas.now) }
+    requires fits { IsTrue (fits vocabulary.now (Formula.And formulas.now) (length env.now)) }
+    ensures { IfOk result (λ es. es ≡ map (λ f. expansion vocabulary.now f env.now) formulas.now) }
 {
     let mut parts = Items::new(alloc);
     for formula in formulas {
-        parts.push(expand(alloc, words, env, formula)?)?;
+        parts.push(expand(alloc, vocabulary, env, formula)?)?;
     }
     Ok(parts)
 }

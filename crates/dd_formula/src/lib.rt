@@ -8,6 +8,8 @@ mod lives;
 mod periodic;
 mod reading;
 mod rule;
+#[cfg(test)]
+mod tests;
 mod topology;
 mod vocabulary;
 
@@ -17,4 +19,3 @@ pub use periodic::Periodic;
 pub use reading::Reads;
 pub use rule::{Rule, RuleFault};
 pub use topology::Edge;
-pub use vocabulary::Vocabulary;

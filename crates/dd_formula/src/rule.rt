@@ -2,7 +2,7 @@
 ghost use Rattle.std.specs.Prelude.{◌≡◌, ◌<◌, ◌∷◌, [], IfOk, IfErr, IsTrue, if◌then◌else◌, Some, None};
 ghost use Rattle.dd_formula.specs.Topology.{square, are_short};
 ghost use Rattle.dd_formula.specs.Reading.{IsBelow, seen};
-ghost use Rattle.dd_formula.specs.Limits.{fits, fits_square, square_words};
+ghost use Rattle.dd_formula.specs.Limits.{fits, fits_square, square_vocabulary};
 ghost use Rattle.dd_formula.specs.Expansion.{holds, given};
 ghost use Rattle.dd_formula.specs.LocalRule.{local_rule, square_rule, origin_at, is_true, is_given, expansion_at, expansions_below, IsRule};
 
@@ -44,7 +44,7 @@ impl From<AllocError> for RuleFault {
 /// A local rule: a configuration satisfies it where its formula is true at every cell.
 #[derive(Debug, Drop)]
 pub struct Rule {
-    words: Vocabulary,
+    vocabulary: Vocabulary,
     formula: Formula,
     expansions: Items<Expanded>,
 }
@@ -59,13 +59,13 @@ impl Model for Rule {
 
     ghost coded = { Prim.hlevel (codes, formula_type.the_row.coded) };
 
-    ghost view = { λ r. local_rule r.words r.formula };
+    ghost view = { λ r. local_rule r.vocabulary r.formula };
 
-    ghost invariant = { λ r. IsExpanded (local_rule r.words r.formula) r.expansions };
+    ghost invariant = { λ r. IsExpanded (local_rule r.vocabulary r.formula) r.expansions };
 }
 
-fn square_words(alloc: Global) -> Result<Vocabulary, AllocError>
-    ensures { IfOk result (λ words. words ≡ square_words) }
+fn square_vocabulary(alloc: Global) -> Result<Vocabulary, AllocError>
+    ensures { IfOk result (λ vocabulary. vocabulary ≡ square_vocabulary) }
 {
     Ok(Vocabulary {
         dim: 2,
@@ -84,20 +84,20 @@ fn origin() -> Position
 
 fn expand_at_nodes(
     alloc: Global,
-    words: &Vocabulary,
+    vocabulary: &Vocabulary,
     formula: &Formula,
 ) -> Result<Items<Expanded>, AllocError>
-    requires short { IsTrue (are_short 4 words.now.edges) }
-    requires fits { IsTrue (fits words.now formula.now 1) }
-    ensures { IfOk result (λ es. es ≡ expansions_below (local_rule words.now formula.now) words.now.nodes) }
+    requires short { IsTrue (are_short 4 vocabulary.now.edges) }
+    requires fits { IsTrue (fits vocabulary.now formula.now 1) }
+    ensures { IfOk result (λ es. es ≡ expansions_below (local_rule vocabulary.now formula.now) vocabulary.now.nodes) }
 {
     let mut parts = Items::new(alloc);
-    for node in 0..words.nodes {
+    for node in 0..vocabulary.nodes {
         let centre = Cell {
             position: origin(),
             node,
         };
-        parts.push(expand(alloc, words, &[centre], formula)?)?;
+        parts.push(expand(alloc, vocabulary, &[centre], formula)?)?;
     }
     Ok(parts)
 }
@@ -109,10 +109,10 @@ impl Rule {
         ensures ok { IfOk result (λ rule. rule ≡ square_rule formula) }
         ensures err { IfErr result (λ fault. fault ≡ RuleFault.Memory) }
     {
-        let words = square_words(alloc)?;
-        let expansions = expand_at_nodes(alloc, &words, &formula)?;
+        let vocabulary = square_vocabulary(alloc)?;
+        let expansions = expand_at_nodes(alloc, &vocabulary, &formula)?;
         Ok(Rule {
-            words,
+            vocabulary,
             formula,
             expansions,
         })
@@ -120,22 +120,22 @@ impl Rule {
 
     /// The dimension. The readers take no memory.
     pub fn dim(&self) -> u32
-        ensures { result ≡ self.now.words.dim }
+        ensures { result ≡ self.now.vocabulary.dim }
     {
-        self.words.dim
+        self.vocabulary.dim
     }
 
     pub fn nodes(&self) -> u32
-        ensures { result ≡ self.now.words.nodes }
+        ensures { result ≡ self.now.vocabulary.nodes }
     {
-        self.words.nodes
+        self.vocabulary.nodes
     }
 
     /// The number of symbols.
     pub fn symbols(&self) -> u32
-        ensures { result ≡ self.now.words.symbols }
+        ensures { result ≡ self.now.vocabulary.symbols }
     {
-        self.words.symbols
+        self.vocabulary.symbols
     }
 
     pub fn formula(&self) -> &Formula
@@ -148,7 +148,7 @@ impl Rule {
 impl Rule {
     /// What the expansion says of the symbols near a cell.
     fn truth_of_expansion<R: Reads>(&self, at: &Cell, read: &R) -> Option<bool>
-        requires { at.now.node < self.now.words.nodes }
+        requires { at.now.node < self.now.vocabulary.nodes }
         ensures value { let look = seen (R.symbols read.now) at.now.position in
             let e = expansion_at self.now at.now.node in
             result ≡ (if given e look then Some (holds e look) else None) }
@@ -160,8 +160,8 @@ impl Rule {
     /// Whether the formula is true at a cell; `None` where some cell that the rule reads there has no symbol or leaves
     /// the range of positions. It takes no memory.
     pub fn truth<R: Reads>(&self, at: &Cell, read: &R) -> Option<bool>
-        requires node { at.now.node < self.now.words.nodes }
-        requires symbols { IsBelow self.now.words.symbols (R.symbols read.now) }
+        requires node { at.now.node < self.now.vocabulary.nodes }
+        requires symbols { IsBelow self.now.vocabulary.symbols (R.symbols read.now) }
         ensures value { let look = R.symbols read.now in
             result ≡ (if is_given self.now at.now look then Some (is_true self.now at.now look) else None) }
         ensures kept { IsRule self.now }

@@ -1,9 +1,13 @@
 -- The cells of a list in cell order, each once.
-use Rattle.std.specs.Prelude.{List, []}
-use Rattle.std.specs.List.{fold}
+use Rattle.std.specs.Prelude.{◌↔◌, List, []}
+use Rattle.std.specs.List.{fold, Contains}
 use Rattle.std.specs.BTreeSet.{insert_key}
 use Rattle.dd_lattice.specs.declared.position.Cell.{Cell}
 use Rattle.dd_lattice.specs.Order.{cell_cmp}
 
 abbrev pub in_order : List Cell → List Cell
 in_order cs = fold (insert_key cell_cmp) [] cs
+
+-- two lists with the same cells, in any order and any number of times
+abbrev pub HaveSameCells : List Cell → List Cell → Type 0
+HaveSameCells cs ds = (c : Cell) → Contains cs c ↔ Contains ds c

@@ -1,8 +1,18 @@
 //! Positions and cells of the lattice Z^d for d = 1, 2, 3, their order, boxes and regions.
 #![tactic(auto)]
 
+mod bounds;
+mod fault;
+mod growing;
+mod merging;
 mod ordering;
 mod position;
+mod region;
+#[cfg(test)]
+mod tests;
 
+pub use bounds::{Box3, centred_box};
+pub use fault::LatticeFault;
 pub use ordering::in_order;
 pub use position::{Cell, Position, shift};
+pub use region::{Region, positions};

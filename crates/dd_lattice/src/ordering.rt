@@ -2,7 +2,7 @@
 ghost use Rattle.std.specs.Prelude.{◌≡◌, IfOk};
 ghost use Rattle.std.specs.List.Sorted.{IsStrictlySortedBy};
 ghost use Rattle.dd_lattice.specs.Order.{cell_cmp};
-ghost use Rattle.dd_lattice.specs.InOrder.{in_order};
+ghost use Rattle.dd_lattice.specs.InOrder.{in_order, HaveSameCells};
 
 use crate::position::Cell;
 use std::alloc::{AllocError, Global};
@@ -12,6 +12,7 @@ use std::collections::BTreeSet;
 pub fn in_order(alloc: Global, cells: &[Cell]) -> Result<Vec<Cell>, AllocError>
     ensures list { IfOk result (λ v. v.items ≡ in_order cells.now) }
     ensures order { IfOk result (λ v. IsStrictlySortedBy cell_cmp v.items) }
+    ensures members { IfOk result (λ v. HaveSameCells v.items cells.now) }
 {
     let mut found = BTreeSet::new(alloc);
     for cell in cells {

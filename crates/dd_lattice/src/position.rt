@@ -11,7 +11,7 @@ use std::cmp::Ordering;
 use std::marker::Model;
 
 /// The greatest absolute value of a coordinate, 2^20.
-const REACH: i32 = 1_048_576;
+pub const REACH: i32 = 1_048_576;
 
 /// A position of Z^3, each coordinate at most 2^20 in absolute value. In fewer than three dimensions the other
 /// coordinates are 0.

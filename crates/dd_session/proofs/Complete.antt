@@ -9,7 +9,8 @@ use Rattle.dd_formula.specs.declared.formulas.Formula.{Formula}
 use Rattle.dd_formula.specs.declared.formulas.Formula.TheVariants.{And, Implies}
 use Rattle.dd_tokens.specs.Format.{is_letter, is_digit}
 use Rattle.dd_session.specs.CutForm.{Text, Atom, IsAtom, symbol_text, move_text, atom_text, atom_formula, more_text, formula_text, formula_of, IsName, IsNumber}
-use Rattle.dd_session.specs.CutReading.{Reader, ◌>>=◌, after, symbol_at, move_at, many, is_name, name_at, is_number, number_at, atom_end, atom_at, with_front, more_behind, more_at, conjunction_end, conjunction_at, formula_behind, formula_at}
+use Rattle.dd_session.specs.CutWords.{Reader, ◌>>=◌, after, symbol_at, move_at, many, is_name, name_at, is_number, number_at}
+use Rattle.dd_session.specs.CutReading.{atom_end, atom_at, with_front, more_behind, more_at, conjunction_end, conjunction_at, formula_behind, formula_at}
 use Rattle.dd_session.proofs.Regrouped.{regroup}
 
 pub symbol_again : (s : ℕ) (rest : List Text) → s < 2 → symbol_at (symbol_text s ∷ rest) ≡ Some (s, rest)

@@ -5,7 +5,8 @@ use Rattle.std.proofs.lemmas.Slice.Eq.{bytes_eq-Decides}
 use Rattle.dd_formula.specs.declared.formulas.Formula.{Formula}
 use Rattle.dd_session.specs.declared.reading.commands.SymbolTable.{SymbolTable}
 use Rattle.dd_session.specs.CutForm.{Text, symbol_text, formula_text, formula_of, Writing, IsWriting, rule_text, configuration_text, member_text, script_text, script_of}
-use Rattle.dd_session.specs.CutReading.{◌>>=◌, after, symbol_at, many, name_at, number_at, formula_at, rule_at, periods_at, is_table, table_end, table_at, configuration_at, member_at, are_names, script_at}
+use Rattle.dd_session.specs.CutWords.{◌>>=◌, after, symbol_at, many, name_at, number_at}
+use Rattle.dd_session.specs.CutReading.{formula_at, rule_at, periods_at, is_table, table_end, table_at, configuration_at, member_at, are_names, script_at}
 use Rattle.dd_session.proofs.Regrouped.{each_alone}
 use Rattle.dd_session.proofs.Complete.{symbol_again, name_again, number_again, many_again, length_many, formula_again}
 

@@ -3,7 +3,8 @@ use Rattle.std.proofs.Common.{◌≡◌, ℕ, zero, suc, ◌-◌, ◌+◌, ◌<�
 use Rattle.std.proofs.lemmas.List.{append-nil}
 use Rattle.dd_formula.specs.declared.formulas.Formula.{Formula}
 use Rattle.dd_session.specs.CutForm.{Text}
-use Rattle.dd_session.specs.CutReading.{◌>>=◌, Reader, many, after, atom_at, with_front, more_at}
+use Rattle.dd_session.specs.CutWords.{◌>>=◌, Reader, many, after}
+use Rattle.dd_session.specs.CutReading.{atom_at, with_front, more_at}
 
 -- numbers that were read before, and those that are read
 abbrev pub front : List ℕ → List ℕ × List Text → List ℕ × List Text

@@ -12,7 +12,8 @@ use Rattle.dd_formula.specs.declared.formulas.Formula.{Formula}
 use Rattle.dd_formula.specs.declared.formulas.Formula.TheVariants.{Symbol, And, Implies}
 use Rattle.dd_tokens.specs.Format.{is_letter, is_digit}
 use Rattle.dd_session.specs.CutForm.{Text, Atom, IsAtom, move_name, symbol_text, move_text, atom_text, atom_formula, more_text, formula_text, formula_of, IsName, IsNumber}
-use Rattle.dd_session.specs.CutReading.{Reader, ◌>>=◌, next, after, symbol_of, symbol_at, label_of, move_at, more_of, many, is_name, name_at, is_number, number_of, number_at, atom_end, atom_at, with_front, more_behind, more_at, conjunction_end, conjunction_at, conclusion_behind, conclusion_at, formula_behind, formula_at}
+use Rattle.dd_session.specs.CutWords.{Reader, ◌>>=◌, next, after, symbol_of, symbol_at, label_of, move_at, more_of, many, is_name, name_at, is_number, number_of, number_at}
+use Rattle.dd_session.specs.CutReading.{atom_end, atom_at, with_front, more_behind, more_at, conjunction_end, conjunction_at, conclusion_behind, conclusion_at, formula_behind, formula_at}
 use Rattle.dd_session.proofs.Values.{both_are}
 use Rattle.dd_session.proofs.Regrouped.{regroup}
 

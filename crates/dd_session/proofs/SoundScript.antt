@@ -9,7 +9,8 @@ use Rattle.dd_formula.specs.declared.formulas.Formula.{Formula}
 use Rattle.dd_session.specs.declared.reading.CutScript.{CutScript}
 use Rattle.dd_session.specs.declared.reading.commands.SymbolTable.{SymbolTable}
 use Rattle.dd_session.specs.CutForm.{Text, symbol_text, formula_text, formula_of, IsName, IsNumber, Writing, IsWriting, configuration_text, member_text, script_text, script_of}
-use Rattle.dd_session.specs.CutReading.{◌>>=◌, after, symbol_at, many, name_at, number_at, formula_at, command_at, rule_at, periods_at, is_table, table_end, table_at, configuration_at, member_at, are_names, script_at}
+use Rattle.dd_session.specs.CutWords.{◌>>=◌, after, symbol_at, many, name_at, number_at}
+use Rattle.dd_session.specs.CutReading.{formula_at, command_at, rule_at, periods_at, is_table, table_end, table_at, configuration_at, member_at, are_names, script_at}
 use Rattle.dd_session.proofs.Values.{both_are}
 use Rattle.dd_session.proofs.Regrouped.{each_alone}
 use Rattle.dd_session.proofs.Sound.{bind_some, same_text, after_sound, symbol_sound, many_sound, name_sound, number_sound, FormulaRead, formula_sound}

@@ -5,7 +5,8 @@ use Rattle.dd_session.specs.declared.reading.CutScript.{CutScript}
 use Rattle.dd_session.specs.declared.reading.fault.ReadingFault.{ReadingFault}
 use Rattle.dd_session.specs.declared.reading.fault.ReadingFault.TheVariants.{Form, Memory}
 use Rattle.dd_session.specs.CutForm.{texts, HasNoComment, Spells}
-use Rattle.dd_session.specs.CutReading.{Gives, script_at}
+use Rattle.dd_session.specs.CutWords.{Gives}
+use Rattle.dd_session.specs.CutReading.{script_at}
 use Rattle.dd_session.proofs.SoundScript.{script_sound}
 use Rattle.dd_session.proofs.CompleteScript.{script_again}
 

@@ -1,5 +1,6 @@
 pub mod Answers
 pub mod CutForm
+pub mod CutWords
 pub mod CutReading
 pub mod Output
 pub mod Queries

@@ -4,7 +4,8 @@ ghost use Rattle.dd_formula.specs.Limits.{fits_square};
 ghost use Rattle.dd_formula.specs.Tile.{tile, IsTile};
 ghost use Rattle.dd_session.specs.declared.reading.CutScript.{CutScript};
 ghost use Rattle.dd_session.specs.CutForm.{texts, HasNoComment, Spells};
-ghost use Rattle.dd_session.specs.CutReading.{Gives, script_at};
+ghost use Rattle.dd_session.specs.CutWords.{Gives};
+ghost use Rattle.dd_session.specs.CutReading.{script_at};
 
 mod commands;
 mod fault;

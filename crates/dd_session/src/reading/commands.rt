@@ -1,7 +1,8 @@
 // The three commands of a script of the short form.
 ghost use Rattle.std.specs.Prelude.{◌≡◌, length};
 ghost use Rattle.dd_session.specs.CutForm.{texts};
-ghost use Rattle.dd_session.specs.CutReading.{Finds, Gives, many, symbol_at, command_at, rule_at, periods_at, is_table, table_at, configuration_at, member_at};
+ghost use Rattle.dd_session.specs.CutWords.{Finds, Gives, many, symbol_at};
+ghost use Rattle.dd_session.specs.CutReading.{command_at, rule_at, periods_at, is_table, table_at, configuration_at, member_at};
 
 use crate::reading::fault::ReadingFault;
 use crate::reading::formulas::formula;

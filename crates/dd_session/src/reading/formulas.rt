@@ -1,7 +1,8 @@
 // Formulas of the short form: an atom, or an atom that implies an atom or a conjunction of atoms.
 ghost use Rattle.std.specs.Prelude.{length};
 ghost use Rattle.dd_session.specs.CutForm.{texts};
-ghost use Rattle.dd_session.specs.CutReading.{Gives, many, move_at, atom_end, atom_at, with_front, more_at, conjunction_at, conclusion_at, formula_at};
+ghost use Rattle.dd_session.specs.CutWords.{Gives, many, move_at};
+ghost use Rattle.dd_session.specs.CutReading.{atom_end, atom_at, with_front, more_at, conjunction_at, conclusion_at, formula_at};
 
 use crate::reading::fault::ReadingFault;
 use crate::reading::words::{after, next_move, symbol};

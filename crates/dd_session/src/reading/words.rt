@@ -4,7 +4,7 @@ ghost use Rattle.std.specs.Str.Parse.{digits_value};
 ghost use Rattle.std.specs.List.{list_all};
 ghost use Rattle.dd_tokens.specs.Format.{is_letter, is_digit};
 ghost use Rattle.dd_session.specs.CutForm.{text_of, texts};
-ghost use Rattle.dd_session.specs.CutReading.{Finds, next, after, symbol_of, symbol_at, label_of, move_at, is_name, name_at, number_of, number_at};
+ghost use Rattle.dd_session.specs.CutWords.{Finds, next, after, symbol_of, symbol_at, label_of, move_at, is_name, name_at, number_of, number_at};
 
 use dd_tokens::Token;
 

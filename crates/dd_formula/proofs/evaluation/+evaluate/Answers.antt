@@ -1,6 +1,4 @@
-use Rattle.std.proofs.Common.{ap, ◌≡◌, List}
 use Rattle.dd_formula.specs.Reading.{seen, Look}
-use Rattle.dd_formula.specs.Expansion.{holds, given}
 use Rattle.dd_formula.proofs.Layers.{given_and, holds_and}
 use Rattle.dd_formula.proofs.evaluation.+evaluate.Goals as goal
 

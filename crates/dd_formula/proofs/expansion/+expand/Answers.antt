@@ -12,13 +12,18 @@ expand_all-expand-requires t c =
     let below = at_most the_size formulas c.loop-formula.formula-index c.formula-item.result within in
     let same = ap the_size c.formula-item.is in (
       omega (arith, below, same, c.decreases),
-      (c.requires.short, (c.requires.near,
-      part_fits c.args.words.now formulas (length c.args.env.now) c.loop-formula.formula-index c.formula-item.result c.requires.fits within c.formula-item.is)),
+      (
+        c.requires.short,
+        (
+          c.requires.near,
+          part_fits c.args.vocabulary.now formulas (length c.args.env.now) c.loop-formula.formula-index c.formula-item.result c.requires.fits within c.formula-item.is,
+        ),
+      ),
     )
 
 pub expand-returns-in_ok-expand_all-in-And : goal.expand-returns-in_ok-expand_all-in-And
 expand-returns-in_ok-expand_all-in-And t c =
-    let same = expansion_and c.args.words.now c.in-And.parts c.args.env.now in
+    let same = expansion_and c.args.vocabulary.now c.in-And.parts c.args.env.now in
     let made = c.in_ok-expand_all-in-And.ensures in
-    let from = ap (λ f. expansion c.args.words.now f c.args.env.now) c.in-And.is in
+    let from = ap (λ f. expansion c.args.vocabulary.now f c.args.env.now) c.in-And.is in
     cc

@@ -1,7 +1,7 @@
-use Rattle.std.proofs.Common.{◌≡◌, ◌≤◌, arith, Some, ap, ◌∙◌, sym}
+use Rattle.std.proofs.Common.{◌≡◌, arith, Some, ap, ◌∙◌, sym}
 use Rattle.std.specs.List.{find}
 use Rattle.std.specs.Option.{option_copied}
-use Rattle.dd_formula.specs.Topology.{extent, leaves}
+use Rattle.dd_formula.specs.Topology.{leaves}
 use Rattle.dd_formula.proofs.MoveLaws.{extent_moved, found_short}
 use Rattle.dd_formula.proofs.topology.step.Goals as goal
 

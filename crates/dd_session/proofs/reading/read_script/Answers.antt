@@ -4,7 +4,8 @@ use Rattle.dd_tokens.specs.declared.token.Token.{Token}
 use Rattle.dd_tokens.specs.declared.token.Tokens.{Tokens}
 use Rattle.dd_tokens.specs.Format.{tokens_of}
 use Rattle.dd_session.specs.CutForm.{texts}
-use Rattle.dd_session.specs.CutReading.{Gives, script_at}
+use Rattle.dd_session.specs.CutWords.{Gives}
+use Rattle.dd_session.specs.CutReading.{script_at}
 use Rattle.dd_session.proofs.Fitting.{script_formula, script_tile, script_symbols}
 use Rattle.dd_session.proofs.Whole.{same, spelled, not_spelled}
 use Rattle.dd_session.proofs.reading.read_script.Goals as goal

@@ -9,4 +9,3 @@ residue-requires-2-clause-small c = (sizes_of _ c.self.invariant).y_small
 
 pub residue-requires-3-clause-small : goal.residue-requires-3-clause-small
 residue-requires-3-clause-small c = (sizes_of _ c.self.invariant).z_small
-

@@ -28,4 +28,3 @@ returns-clause-within c =
     let below = index_below t ok c.args.cell.now c.requires in
     let b = c.base-base.ensures in
     rw (c.entry.ensures, c.entry-place.ensures, c.entry-row.ensures, b.x, b.y, b.z, ap (λ t. t.along_x) c.self.view_is, ap (λ t. t.along_y) c.self.view_is, ap (λ t. t.nodes) c.self.view_is) below
-

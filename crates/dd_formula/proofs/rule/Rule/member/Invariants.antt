@@ -1,4 +1,4 @@
-use Rattle.std.proofs.Common.{◌≡◌, ◌<◌, ℕ}
+use Rattle.std.proofs.Common.{◌<◌, ℕ}
 use Rattle.dd_formula.proofs.LivesLaws.{true_in}
 use Rattle.dd_formula.proofs.rule.Rule.member.Given as goal
 

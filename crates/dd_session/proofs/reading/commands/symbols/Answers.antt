@@ -1,4 +1,4 @@
-use Rattle.dd_session.specs.CutReading.{symbol_at}
+use Rattle.dd_session.specs.CutWords.{symbol_at}
 use Rattle.dd_session.proofs.Rounds.{many_next}
 use Rattle.dd_session.proofs.reading.commands.symbols.Goals as goal
 

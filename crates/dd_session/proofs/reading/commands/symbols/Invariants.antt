@@ -1,6 +1,6 @@
 use Rattle.std.proofs.Common.{◌≡◌, ◌-◌, length}
 use Rattle.dd_session.specs.CutForm.{texts}
-use Rattle.dd_session.specs.CutReading.{many, symbol_at}
+use Rattle.dd_session.specs.CutWords.{many, symbol_at}
 use Rattle.dd_session.proofs.Rounds.{front}
 use Rattle.dd_session.proofs.reading.commands.symbols.Given as goal
 

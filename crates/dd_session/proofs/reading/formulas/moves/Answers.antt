@@ -1,4 +1,4 @@
-use Rattle.dd_session.specs.CutReading.{move_at}
+use Rattle.dd_session.specs.CutWords.{move_at}
 use Rattle.dd_session.proofs.Rounds.{many_next}
 use Rattle.dd_session.proofs.reading.formulas.moves.Goals as goal
 

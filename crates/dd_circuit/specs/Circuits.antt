@@ -1,0 +1,57 @@
+-- Signals, gates, circuits, and what their values are.
+use Rattle.std.specs.Prelude.{ℕ, suc, ◌+◌, ◌≤◌, Bool, true, ◌&&◌, not, if◌then◌else◌, List, [], ◌∷◌, All, length}
+use Rattle.std.specs.List.{list_all, list_any}
+use Rattle.std.specs.Bool.{beq}
+use Rattle.dd_circuit.specs.declared.gates.Signal.{Signal}
+use Rattle.dd_circuit.specs.declared.gates.Gate.{Gate}
+use Rattle.dd_circuit.specs.declared.gates.Gate.TheVariants.{And, Or, Iff}
+
+-- A circuit: its inputs are the variables 1, 2, .., and each gate has the next variable.
+pub record Network : Type 0 where
+  pub inputs : ℕ
+  pub gates : List Gate
+
+abbrev pub size_of : ℕ → List Gate → ℕ
+size_of inputs gates = inputs + length gates
+
+-- the number of variables
+abbrev pub size : Network → ℕ
+size circuit = size_of circuit.inputs circuit.gates
+
+-- the signal that says what the variable says
+abbrev pub signal_of : ℕ → Signal
+signal_of variable = record { variable = variable; positive = true }
+
+-- the signal that says the contrary
+abbrev pub opposite : Signal → Signal
+opposite s = record { variable = s.variable; positive = not s.positive }
+
+-- the signal's variable is one of 1..n
+abbrev pub IsSignal : ℕ → Signal → Type 0
+IsSignal n s = (1 ≤ s.variable) × (s.variable ≤ n)
+
+-- the gate is over the variables 1..n
+abbrev pub IsGate : ℕ → Gate → Type 0
+IsGate n (And members) = All (IsSignal n) members
+IsGate n (Or members) = All (IsSignal n) members
+IsGate n (Iff a b) = IsSignal n a × IsSignal n b
+
+-- each gate is over the first n variables and those of the gates before it
+abbrev pub AreGates : ℕ → List Gate → Type 0
+AreGates n [] = Unit {0}
+AreGates n (g ∷ gs) = IsGate n g × AreGates (suc n) gs
+
+-- what a signal says, where `set` gives the value of each variable
+abbrev pub signal_value : (ℕ → Bool) → Signal → Bool
+signal_value set s = if s.positive then set s.variable else not (set s.variable)
+
+-- what a gate says: all members, some member, both the same
+abbrev pub gate_value : (ℕ → Bool) → Gate → Bool
+gate_value set (And members) = list_all (signal_value set) members
+gate_value set (Or members) = list_any (signal_value set) members
+gate_value set (Iff a b) = beq (signal_value set a) (signal_value set b)
+
+-- the variables that follow the first n have the values of these gates
+abbrev pub agrees : (ℕ → Bool) → ℕ → List Gate → Bool
+agrees set n [] = true
+agrees set n (g ∷ gs) = beq (set (suc n)) (gate_value set g) && agrees set (suc n) gs

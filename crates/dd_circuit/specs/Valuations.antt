@@ -1,0 +1,20 @@
+-- The values of all variables of a circuit.
+use Rattle.std.specs.Prelude.{◌≡◌, ℕ, ◌-◌, Bool, true, false, List, [], ◌∷◌, ◌++◌, length, take, slice_index_or}
+use Rattle.dd_circuit.specs.declared.gates.Gate.{Gate}
+use Rattle.dd_circuit.specs.Circuits.{Network, size, gate_value, agrees}
+
+-- the value of each variable in a list of values, in which variable 1 comes first
+abbrev pub true_variables : List Bool → ℕ → Bool
+true_variables values variable = slice_index_or values (variable - 1) false
+
+-- the values of all variables, from those of the first: gate by gate, each over the values before it
+abbrev pub values_from : List Bool → List Gate → List Bool
+values_from values [] = values
+values_from values (g ∷ gs) = values_from (values ++ gate_value (true_variables values) g ∷ []) gs
+
+-- One value for each variable: first those of the inputs, and then each gate's variable has the
+-- value of the gate.
+pub record AreValues (circuit : Network) (inputs values : List Bool) : Type 0 where
+  pub one_each : length values ≡ size circuit
+  pub inputs_first : take circuit.inputs values ≡ inputs
+  pub gates_follow : agrees (true_variables values) circuit.inputs circuit.gates ≡ true

@@ -1,0 +1,160 @@
+// The parts of a circuit, and how it grows. A gate's variable is the number of inputs and of gates up
+// to it, so no gate stores one, and members that are variables of the circuit are earlier ones.
+ghost use Rattle.std.specs.Prelude.{◌≡◌, ◌+◌, ◌<◌, ◌≤◌, ◌^◌, ◌∷◌, ◌++◌, [], All, IfOk, OnErr};
+ghost use Rattle.dd_circuit.specs.Circuits.{IsSignal, IsGate, AreGates, size, signal_of, opposite};
+
+use dd_values::Items;
+use std::alloc::{AllocError, Global};
+use std::marker::Model;
+
+/// A variable, numbered from 1, or its opposite.
+#[derive(Clone, Copy, Debug, PartialEq, Eq)]
+pub struct Signal {
+    pub variable: u32,
+    pub positive: bool,
+}
+
+impl Signal {
+    /// The signal that is true where this one is false.
+    pub fn opposite(self) -> Signal
+        ensures { result ≡ opposite self }
+    {
+        Signal {
+            variable: self.variable,
+            positive: !self.positive,
+        }
+    }
+}
+
+/// A gate over signals. `And` of no signal is true, and `Or` of none is false.
+#[derive(Debug, PartialEq, Drop)]
+pub enum Gate {
+    And(Items<Signal>),
+    Or(Items<Signal>),
+    /// True where both signals are true or both are false.
+    Iff(Signal, Signal),
+}
+
+/// Inputs, which are the variables 1 to `inputs`, and gates. The gate k, from 0, has the variable
+/// `inputs + 1 + k`, and its members are variables before that one.
+#[derive(Debug, Drop)]
+pub struct Circuit {
+    alloc: Global,
+    inputs: u32,
+    gates: Items<Gate>,
+}
+
+impl Model for Circuit {
+    ghost use Rattle.std.specs.Prelude.{◌≤◌, ◌^◌};
+    ghost use Rattle.dd_circuit.specs.Circuits.{Network, AreGates, size_of};
+
+    ghost Value = { Network };
+
+    ghost view = { λ c. record { inputs = c.inputs; gates = c.gates } };
+
+    ghost invariant = { λ c. (size_of c.inputs c.gates ≤ 2 ^ 24) × AreGates c.inputs c.gates };
+}
+
+impl Circuit {
+    /// A circuit of inputs alone. It takes no memory until a gate comes.
+    pub fn new(alloc: Global, inputs: u32) -> Circuit
+        requires { inputs ≤ 2 ^ 24 }
+        ensures inputs { result.inputs ≡ inputs }
+        ensures gates { result.gates ≡ [] }
+    {
+        Circuit {
+            alloc,
+            inputs,
+            gates: Items::new(alloc),
+        }
+    }
+
+    /// The number of inputs.
+    pub fn inputs(&self) -> u32
+        ensures { result ≡ self.now.inputs }
+    {
+        self.inputs
+    }
+
+    pub fn gates(&self) -> &[Gate]
+        ensures value { result.now ≡ self.now.gates }
+        ensures in_range { AreGates self.now.inputs result.now }
+        ensures few { size self.now ≤ 2 ^ 24 }
+    {
+        self.gates.as_slice()
+    }
+
+    /// The number of variables: the inputs and the gates.
+    pub fn variables(&self) -> u32
+        ensures value { result ≡ size self.now }
+        ensures few { result ≤ 2 ^ 24 }
+        ensures in_range { AreGates self.now.inputs self.now.gates }
+    {
+        self.inputs + self.gates.len() as u32
+    }
+
+    /// Adds a gate over signals of the circuit, and gives its signal. After want of memory the
+    /// circuit is as it was.
+    fn add(&mut self, gate: Gate) -> Result<Signal, AllocError>
+        requires few { size self.old < 2 ^ 24 }
+        requires in_range { IsGate (size self.old) gate }
+        ensures inputs { self.new.inputs ≡ self.old.inputs }
+        ensures gates { IfOk result (λ _. self.new.gates ≡ self.old.gates ++ gate ∷ []) }
+        ensures signal { IfOk result (λ s. s ≡ signal_of (size self.new)) }
+        ensures in_range { IfOk result (λ s. IsSignal (size self.new) s) }
+        ensures more { IfOk result (λ _. size self.new ≡ size self.old + 1) }
+        ensures err { OnErr result (self.new ≡ self.old) }
+    {
+        let variable = self.variables() + 1;
+        self.gates.push(gate)?;
+        Ok(Signal {
+            variable,
+            positive: true,
+        })
+    }
+
+    /// A gate that is true where all members are.
+    pub fn and(&mut self, members: &[Signal]) -> Result<Signal, AllocError>
+        requires few { size self.old < 2 ^ 24 }
+        requires in_range { All (IsSignal (size self.old)) members.now }
+        ensures inputs { self.new.inputs ≡ self.old.inputs }
+        ensures gates { IfOk result (λ _. self.new.gates ≡ self.old.gates ++ Gate.And members.now ∷ []) }
+        ensures signal { IfOk result (λ s. s ≡ signal_of (size self.new)) }
+        ensures in_range { IfOk result (λ s. IsSignal (size self.new) s) }
+        ensures more { IfOk result (λ _. size self.new ≡ size self.old + 1) }
+        ensures err { OnErr result (self.new ≡ self.old) }
+    {
+        let members = Items::from_slice(self.alloc, members)?;
+        self.add(Gate::And(members))
+    }
+
+    /// A gate that is true where some member is.
+    pub fn or(&mut self, members: &[Signal]) -> Result<Signal, AllocError>
+        requires few { size self.old < 2 ^ 24 }
+        requires in_range { All (IsSignal (size self.old)) members.now }
+        ensures inputs { self.new.inputs ≡ self.old.inputs }
+        ensures gates { IfOk result (λ _. self.new.gates ≡ self.old.gates ++ Gate.Or members.now ∷ []) }
+        ensures signal { IfOk result (λ s. s ≡ signal_of (size self.new)) }
+        ensures in_range { IfOk result (λ s. IsSignal (size self.new) s) }
+        ensures more { IfOk result (λ _. size self.new ≡ size self.old + 1) }
+        ensures err { OnErr result (self.new ≡ self.old) }
+    {
+        let members = Items::from_slice(self.alloc, members)?;
+        self.add(Gate::Or(members))
+    }
+
+    /// A gate that is true where `a` and `b` have one value.
+    pub fn iff(&mut self, a: Signal, b: Signal) -> Result<Signal, AllocError>
+        requires few { size self.old < 2 ^ 24 }
+        requires first_in_range { IsSignal (size self.old) a }
+        requires second_in_range { IsSignal (size self.old) b }
+        ensures inputs { self.new.inputs ≡ self.old.inputs }
+        ensures gates { IfOk result (λ _. self.new.gates ≡ self.old.gates ++ Gate.Iff a b ∷ []) }
+        ensures signal { IfOk result (λ s. s ≡ signal_of (size self.new)) }
+        ensures in_range { IfOk result (λ s. IsSignal (size self.new) s) }
+        ensures more { IfOk result (λ _. size self.new ≡ size self.old + 1) }
+        ensures err { OnErr result (self.new ≡ self.old) }
+    {
+        self.add(Gate::Iff(a, b))
+    }
+}

@@ -1,0 +1,49 @@
+-- The clauses of some gates, and of one more.
+use Rattle.std.proofs.Common.{◌≡◌, ℕ, suc, ◌+◌, ◌<◌, ◌≤◌, Bool, List, [], ◌∷◌, ◌++◌, map, length, refl, ap, sym, ◌∙◌, arith, get_or, take, drop, length-drop, append_assoc}
+use Rattle.std.proofs.lemmas.List.{append-nil, take_more, take_rest, length-take-le}
+use Rattle.std.proofs.lemmas.List.Elements.{All-cons, All-map, All-take}
+use Rattle.std.specs.Prelude.{◌-◌}
+use Rattle.std.specs.List.{All}
+use Rattle.dd_clause.specs.declared.clause.Literal.{Literal}
+use Rattle.dd_clause.specs.Clauses.{IsInRange, IsClauseInRange}
+use Rattle.dd_circuit.specs.declared.gates.Signal.{Signal}
+use Rattle.dd_circuit.specs.Circuits.{IsSignal, IsGate, AreGates}
+use Rattle.dd_circuit.proofs.GateLists.{AreGates-drop, gate_within}
+use Rattle.dd_circuit.specs.declared.gates.Gate.{Gate}
+use Rattle.dd_cnf.specs.Encoding.{signed, gate_clauses, gates_clauses}
+
+pub gates_clauses-append : (n : ℕ) (gs hs : List Gate) → gates_clauses n (gs ++ hs) ≡ gates_clauses n gs ++ gates_clauses (n + length gs) hs
+gates_clauses-append n [] hs = let e : n + 0 ≡ n = omega arith in rw e refl
+gates_clauses-append n (g ∷ gs) hs =
+    let e : n + suc (length gs) ≡ suc n + length gs = omega arith in
+    rw (e, gates_clauses-append (suc n) gs hs) (sym (append_assoc (gate_clauses (suc n) g) (gates_clauses (suc n) gs) (gates_clauses (suc n + length gs) hs)))
+
+pub gates_clauses-more : (n : ℕ) (gs : List Gate) (i : ℕ) (g : Gate) → i < length gs → g ≡ get_or gs i g →
+    gates_clauses n (take (i + 1) gs) ≡ gates_clauses n (take i gs) ++ gate_clauses (suc (n + i)) g
+gates_clauses-more n gs i g within here =
+    ap (gates_clauses n) (take_more gs i g within)
+    ∙ (gates_clauses-append n (take i gs) (get_or gs i g ∷ [])
+    ∙ (ap (λ k. gates_clauses n (take i gs) ++ gates_clauses (n + k) (get_or gs i g ∷ [])) (length-take-le i gs (omega arith))
+    ∙ ap (λ x. gates_clauses n (take i gs) ++ x) (append-nil (gate_clauses (suc (n + i)) (get_or gs i g)) ∙ ap (gate_clauses (suc (n + i))) (sym here))))
+
+-- a turn of the loop over gates
+pub clauses_step : (before now new : List (List Literal)) (n variable : ℕ) (gs : List Gate) (i : ℕ) (g : Gate) → i < length gs → g ≡ get_or gs i g →
+    variable ≡ suc (n + i) → now ≡ before ++ gates_clauses n (take i gs) → new ≡ now ++ gate_clauses variable g →
+    new ≡ before ++ gates_clauses n (take (i + 1) gs)
+clauses_step before now new n variable gs i g within here number so_far pushed =
+    rw (pushed, so_far, number, gates_clauses-more n gs i g within here)
+    (append_assoc before (gates_clauses n (take i gs)) (gate_clauses (suc (n + i)) g))
+
+-- the last clause of And and Or is over the circuit's variables
+pub last_in_range : (n : ℕ) (gate : Literal) (sign : Bool) (members : List Signal) (literals : List Literal) (i : ℕ) →
+    literals ≡ gate ∷ map (signed sign) (take i members) → IsInRange n gate → All (IsSignal n) members → IsClauseInRange n literals
+last_in_range n gate sign members literals i is first rest =
+    rw is (All-cons (IsInRange n) gate (map (signed sign) (take i members)) first (All-map (IsInRange n) (signed sign) (take i members) (All-take (IsSignal n) i members rest)))
+
+-- each gate from `from` on is over the circuit's variables
+pub gate_from : (n m from : ℕ) (gs : List Gate) (i : ℕ) (g : Gate) → from ≤ length gs → n + length gs ≤ m → AreGates n gs →
+    i < length (take (length gs - from) (drop from gs)) → g ≡ get_or (take (length gs - from) (drop from gs)) i g → IsGate m g
+gate_from n m from gs i g low few ok within here =
+    let all = take_rest gs from in
+    let rest = length-drop from gs in
+    gate_within (n + from) m (drop from gs) i g (AreGates-drop n gs from ok low) (rw all at within) (omega (arith, rest)) (rw all at here)

@@ -1,0 +1,3 @@
+pub mod GateClauses
+pub mod GateLaws
+pub mod ModelLaws

@@ -1,0 +1,9 @@
+use Rattle.std.proofs.Common.{◌∙◌}
+use Rattle.std.specs.Prelude.{not}
+use Rattle.dd_cnf.proofs.GateClauses.{last_in_range}
+use Rattle.dd_cnf.proofs.encoding.push_joint.Goals as goal
+
+pub push_clause-requires-2 : goal.push_clause-requires-2
+push_clause-requires-2 c =
+    last_in_range c.loop-member.cnf.variables c.args.gate (not c.args.gate.positive) c.args.members.now c.deref.result.now c.loop-member.member-index
+    (c.deref.ensures.value ∙ c.loop-member.invariant.last) (rw c.loop-member.invariant.variables c.requires.gate) (rw c.loop-member.invariant.variables c.requires.members)

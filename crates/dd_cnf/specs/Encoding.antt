@@ -1,0 +1,55 @@
+-- The clauses of gates (Tseitin 1968): those of a gate say that its variable has the value of the gate.
+use Rattle.std.specs.Prelude.{ℕ, suc, Bool, true, false, not, if◌then◌else◌, List, [], ◌∷◌, ◌++◌, map}
+use Rattle.dd_clause.specs.declared.clause.Literal.{Literal}
+use Rattle.dd_clause.specs.Clauses.{negation, ClauseList}
+use Rattle.dd_circuit.specs.declared.gates.Signal.{Signal}
+use Rattle.dd_circuit.specs.declared.gates.Gate.{Gate}
+use Rattle.dd_circuit.specs.declared.gates.Gate.TheVariants.{And, Or, Iff}
+use Rattle.dd_circuit.specs.Circuits.{Network, size}
+
+-- the literal of a variable, with a sign
+abbrev pub literal : ℕ → Bool → Literal
+literal variable positive = record { variable = variable; positive = positive }
+
+-- the literal that is true where the signal is
+abbrev pub literal_of : Signal → Literal
+literal_of s = literal s.variable s.positive
+
+-- the literal that is true where the signal is false
+abbrev pub opposing : Signal → Literal
+opposing s = negation (literal_of s)
+
+-- the clauses that say that g is true exactly where a and b have one value
+abbrev pub iff_clauses : Literal → Literal → Literal → List (List Literal)
+iff_clauses g a b =
+    (negation g ∷ negation a ∷ b ∷ [])
+    ∷ (negation g ∷ a ∷ negation b ∷ [])
+    ∷ (g ∷ a ∷ b ∷ [])
+    ∷ (g ∷ negation a ∷ negation b ∷ []) ∷ []
+
+-- the clauses of the gate with the variable g, in order
+abbrev pub gate_clauses : ℕ → Gate → List (List Literal)
+gate_clauses g (And members) =
+    map (λ l. literal g false ∷ literal_of l ∷ []) members ++ (literal g true ∷ map opposing members) ∷ []
+gate_clauses g (Or members) =
+    map (λ l. literal g true ∷ opposing l ∷ []) members ++ (literal g false ∷ map literal_of members) ∷ []
+gate_clauses g (Iff a b) = iff_clauses (literal g true) (literal_of a) (literal_of b)
+
+-- the clauses of the gates that follow the first n variables, gate by gate
+abbrev pub gates_clauses : ℕ → List Gate → List (List Literal)
+gates_clauses n [] = []
+gates_clauses n (g ∷ gs) = gate_clauses (suc n) g ++ gates_clauses (suc n) gs
+
+-- the clauses of a circuit
+abbrev pub encoded : Network → ClauseList
+encoded circuit = record { variables = size circuit; clauses = gates_clauses circuit.inputs circuit.gates }
+
+-- the signal's literal at `true`, and its negation at `false`
+abbrev pub signed : Bool → Signal → Literal
+signed sign s = literal s.variable (if sign then s.positive else not s.positive)
+
+-- the clauses of And at its variable's literal, and those of Or at its negation: the ones have the
+-- signs of the others turned
+abbrev pub joint_clauses : Literal → List Signal → List (List Literal)
+joint_clauses gate members =
+    map (λ l. negation gate ∷ signed gate.positive l ∷ []) members ++ (gate ∷ map (signed (not gate.positive)) members) ∷ []

@@ -1,0 +1,8 @@
+//! Circuits as clauses: the gates' clauses are satisfied exactly by the values of the circuit.
+#![tactic(auto)]
+
+mod encoding;
+#[cfg(test)]
+mod tests;
+
+pub use encoding::{encode, literal_of, push_clause, push_gate, push_gates};

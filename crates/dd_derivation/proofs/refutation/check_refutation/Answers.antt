@@ -1,0 +1,6 @@
+use Rattle.std.proofs.Common.{sym, ◌∙◌}
+use Rattle.dd_derivation.proofs.Soundness.{refutes_sound}
+use Rattle.dd_derivation.proofs.refutation.check_refutation.Goals as goal
+
+pub returns-clause-sound : goal.returns-clause-sound
+returns-clause-sound c r = refutes_sound c.args.cnf.now.variables c.args.cnf.now.clauses c.args.steps.now (sym c.check_with.ensures ∙ r)

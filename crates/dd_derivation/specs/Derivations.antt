@@ -1,0 +1,107 @@
+-- Refutations of a clause list: steps whose clauses follow by unit propagation along hints.
+use Rattle.std.specs.Prelude.{ℕ, zero, suc, ◌==◌, nat_le, Bool, true, false, not, ◌&&◌, ◌||◌, if◌then◌else◌, List, [], ◌∷◌, ◌++◌, Option, Some, None, is_some, slice_get, slice_set, map, take}
+use Rattle.std.specs.Bool.{beq}
+use Rattle.std.specs.List.{list_any, list_all, filter}
+use Rattle.std.specs.Option.{option_map_or, option_and_then}
+use Rattle.dd_clause.specs.declared.clause.Literal.{Literal}
+use Rattle.dd_clause.specs.Clauses.{negation}
+use Rattle.dd_derivation.specs.declared.propagation.Finding.{Finding}
+use Rattle.dd_derivation.specs.declared.propagation.Finding.TheVariants.{Falsified, Forced, Open}
+use Rattle.dd_derivation.specs.declared.step.Step.{Step}
+
+abbrev pub same_literal : Literal → Literal → Bool
+same_literal a b = (a.variable == b.variable) && beq a.positive b.positive
+
+abbrev pub is_among : List Literal → Literal → Bool
+is_among literals l = list_any (same_literal l) literals
+
+-- what a clause says, from those of its literals that are not false
+abbrev pub finding_of : (Literal → Bool) → List Literal → Finding
+finding_of is_false [] = Falsified
+finding_of is_false (l ∷ rest) =
+    if list_all (same_literal l) rest && not (is_false (negation l)) then Forced l else Open
+
+-- what a clause says where these literals are false: that all of its own are false, or that the one that is not false,
+-- and is not true yet, has to be true
+abbrev pub finding : (Literal → Bool) → List Literal → Finding
+finding is_false clause = finding_of is_false (filter (λ l. not (is_false l)) clause)
+
+-- The clauses by number, from 1. A place is empty where the clause was deleted.
+abbrev pub clause_of : List (Option (List Literal)) → ℕ → Option (List Literal)
+clause_of known zero = None
+clause_of known (suc k) = option_and_then (λ c. c) (slice_get known k)
+
+-- the clauses but for the one of a number
+abbrev pub without : List (Option (List Literal)) → ℕ → List (Option (List Literal))
+without known zero = known
+without known (suc k) = slice_set known k None
+
+-- what the clause of a number says; nothing where there is none
+abbrev pub hint_finding : List (Option (List Literal)) → (Literal → Bool) → ℕ → Finding
+hint_finding known is_false h = option_map_or (finding is_false) (clause_of known h) Open
+
+abbrev pub follow : Finding → Bool → (Literal → Bool) → Bool
+follow Falsified is_last next = is_last
+follow (Forced l) is_last next = next l
+follow Open is_last next = false
+
+-- each hint but the last makes a literal true, and all literals of the last one's clause are false
+abbrev pub is_conflict : List (Option (List Literal)) → List Literal → List ℕ → Bool
+is_conflict known falses [] = false
+is_conflict known falses (h ∷ hints) =
+    follow (hint_finding known (is_among falses) h) (list_all (λ _. false) hints)
+    (λ l. is_conflict known (negation l ∷ falses) hints)
+
+-- each number has a clause when it is deleted
+abbrev pub are_deletable : List (Option (List Literal)) → List ℕ → Bool
+are_deletable known [] = true
+are_deletable known (d ∷ ds) = is_some (clause_of known d) && are_deletable (without known d) ds
+
+-- the clauses but for those of the deleted numbers
+abbrev pub known_after : List (Option (List Literal)) → List ℕ → List (Option (List Literal))
+known_after known [] = known
+known_after known (d ∷ ds) = known_after (without known d) ds
+
+-- the literals' variables are distinct, and between 1 and n
+abbrev pub is_in_range : ℕ → Literal → Bool
+is_in_range n l = nat_le 1 l.variable && nat_le l.variable n
+
+abbrev pub has_variable : ℕ → List Literal → Bool
+has_variable v literals = list_any (λ l. l.variable == v) literals
+
+abbrev pub is_proper : ℕ → List Literal → Bool
+is_proper n [] = true
+is_proper n (l ∷ rest) = (is_in_range n l && not (has_variable l.variable rest)) && is_proper n rest
+
+-- where the literals of the step's clause are false, its hints end in a conflict, so that the clause follows
+abbrev pub is_right : ℕ → List (Option (List Literal)) → Step → Bool
+is_right n known s = is_proper n s.clause && (is_conflict known s.clause s.hints && are_deletable known s.deletes)
+
+-- Each step is right, and the last one's clause is empty. A step's clause is known to the steps after it.
+abbrev pub refutes_from : ℕ → List (Option (List Literal)) → List Step → Bool
+refutes_from n known [] = false
+refutes_from n known (s ∷ steps) =
+    is_right n known s
+    && ((list_all (λ _. false) steps && list_all (λ _. false) s.clause)
+    || refutes_from n (known_after known s.deletes ++ Some s.clause ∷ []) steps)
+
+-- the steps refute the clauses over the variables 1..n
+abbrev pub refutes : ℕ → List (List Literal) → List Step → Bool
+refutes n clauses steps = refutes_from n (map (λ c. Some c) clauses) steps
+
+-- the clauses of the list, and then the steps'
+abbrev pub clauses_before : List (List Literal) → List Step → List (List Literal)
+clauses_before clauses steps = clauses ++ map (λ s. s.clause) steps
+
+-- the clauses but for those that the steps delete
+abbrev pub known_after_steps : List (Option (List Literal)) → List Step → List (Option (List Literal))
+known_after_steps known [] = known
+known_after_steps known (s ∷ steps) = known_after_steps (known_after known s.deletes) steps
+
+-- The step at a place, from 0, is right where the list's clauses and the earlier steps' are known, but for those that
+-- an earlier step deletes.
+abbrev pub is_step_right : ℕ → List (List Literal) → List Step → ℕ → Bool
+is_step_right n clauses steps index =
+    let earlier = take index steps in
+    let known = known_after_steps (map (λ c. Some c) (clauses_before clauses earlier)) earlier in
+    option_map_or (is_right n known) (slice_get steps index) false

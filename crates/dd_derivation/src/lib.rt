@@ -1,0 +1,12 @@
+//! Refutations of a clause list: their steps, and the check that they are right.
+#![tactic(auto)]
+
+mod known;
+mod propagation;
+mod refutation;
+mod step;
+
+pub use known::Known;
+pub use propagation::{FalseLiterals, Finding, find};
+pub use refutation::{Marks, check_refutation, check_step};
+pub use step::{Outcome, Step};

@@ -1,0 +1,198 @@
+// Unit propagation along hints: the literals of a step's clause are taken as false, and each hinted clause makes one
+// more literal true, until one is left with none. A mark says of which step it is, so nothing is undone between steps.
+ghost use Rattle.std.specs.Prelude.{◌≡◌, ◌<◌, [], Bool, length, take, true, slice_index_or};
+ghost use Rattle.dd_clause.specs.declared.clause.Literal.{Literal};
+ghost use Rattle.dd_derivation.specs.Derivations as spec;
+ghost use Rattle.dd_derivation.specs.MarksOf.{literals_of, FalsesAre, AreUpTo, AreBelow};
+ghost use Rattle.dd_derivation.specs.MarksOf as marks_of;
+
+use crate::known::Known;
+use crate::step::Step;
+use dd_clause::Literal;
+
+/// What a clause says where some literals are false: that all of its own are, that the one that is left has to be true,
+/// or nothing.
+#[derive(Clone, Copy, PartialEq, Eq)]
+pub enum Finding {
+    Falsified,
+    Forced(Literal),
+    Open,
+}
+
+/// Says of a variable that, in the step of this number, its literal of this sign is false.
+#[derive(Clone, Copy)]
+pub struct VariableMark {
+    pub step: u64,
+    pub positive: bool,
+}
+
+/// Marks a literal as false in this step, if its variable has a mark.
+fn mark(marks: &mut [VariableMark], step: u64, literal: Literal)
+    ensures { marks.new ≡ marks_of.marked marks.old step literal }
+{
+    let variable = literal.variable as usize;
+    if variable >= 1 && variable <= marks.len() {
+        marks[variable - 1] = VariableMark {
+            step,
+            positive: literal.positive,
+        };
+    }
+}
+
+/// The first of the literals that is of this variable.
+fn first_of(literals: &[Literal], variable: u32) -> Option<Literal>
+    ensures { result ≡ marks_of.first_of variable literals.now }
+{
+    for literal in literals {
+        if literal.variable == variable {
+            return Some(*literal);
+        }
+    }
+    None
+}
+
+/// The first literal of this variable in the clauses that the hints name.
+fn first_hinted(known: &Known, hints: &[u64], variable: u32) -> Option<Literal>
+    ensures { result ≡ marks_of.first_of variable (literals_of known.now hints.now) }
+{
+    for hint in hints {
+        if let Some(clause) = known.find_clause(*hint) {
+            if let Some(literal) = first_of(clause, variable) {
+                return Some(literal);
+            }
+        }
+    }
+    None
+}
+
+/// Which literals are false.
+pub trait FalseLiterals {
+    ghost is_false: { Self → Literal → Bool };
+
+    fn is_false(&self, literal: Literal) -> bool
+        ensures { result ≡ is_false self.now literal };
+}
+
+/// What is false in a step after some of its hints.
+#[derive(Clone, Copy)]
+struct After<'a> {
+    known: &'a Known<'a>,
+    marks: &'a [VariableMark],
+    step: u64,
+    hints: &'a [u64],
+}
+
+impl<'a> FalseLiterals for After<'a> {
+    ghost is_false = { λ a. marks_of.is_false a.marks.now a.step (literals_of a.known.now a.hints.now) };
+
+    /// A variable has no mark only where an earlier step that is not right names it. Then the first hinted clause with
+    /// it made its literal true.
+    fn is_false(&self, literal: Literal) -> bool {
+        let variable = literal.variable as usize;
+        if variable >= 1 && variable <= self.marks.len() {
+            let mark = self.marks[variable - 1];
+            return mark.step == self.step && mark.positive == literal.positive;
+        }
+        match first_hinted(self.known, self.hints, literal.variable) {
+            Some(first) => literal == first.negation(),
+            None => false,
+        }
+    }
+}
+
+/// What the clause says where these literals are false.
+pub fn find<F: FalseLiterals>(falses: &F, clause: &[Literal]) -> Finding
+    ensures { result ≡ spec.finding (F.is_false falses.now) clause.now }
+{
+    let mut candidate: Option<Literal> = None;
+    for literal in clause {
+        if !falses.is_false(*literal) {
+            match candidate {
+                None => candidate = Some(*literal),
+                Some(first) => {
+                    if first != *literal {
+                        return Finding::Open;
+                    }
+                }
+            }
+        }
+    }
+    match candidate {
+        None => Finding::Falsified,
+        Some(literal) => {
+            if falses.is_false(literal.negation()) {
+                Finding::Open
+            } else {
+                Finding::Forced(literal)
+            }
+        }
+    }
+}
+
+/// What the clause of the hint at a place says after the hints before it.
+fn find_hint(
+    known: &Known,
+    marks: &[VariableMark],
+    step: u64,
+    hints: &[u64],
+    place: usize,
+) -> Finding
+    requires { place < length hints.now }
+    ensures { result ≡ spec.hint_finding known.now
+        (marks_of.is_false marks.now step (literals_of known.now (take place hints.now)))
+        (slice_index_or hints.now place 0) }
+{
+    match known.find_clause(hints[place]) {
+        None => Finding::Open,
+        Some(clause) => {
+            let after = After {
+                known,
+                marks,
+                step,
+                hints: &hints[..place],
+            };
+            find(&after, clause)
+        }
+    }
+}
+
+/// Whether the step's hints end in a conflict. The literals of its clause are marked as false.
+pub fn follow_hints(known: &Known, marks: &mut [VariableMark], number: u64, step: &Step) -> bool
+    requires marks { FalsesAre marks.old number [] step.now.clause }
+    requires older { AreUpTo number marks.old }
+    ensures value { result ≡ spec.is_conflict known.now step.now.clause step.now.hints }
+    ensures older { AreUpTo number marks.new }
+{
+    let hints = step.hints.as_slice();
+    for place in 0..hints.len() {
+        match find_hint(known, marks, number, hints, place) {
+            Finding::Falsified => return place + 1 == hints.len(),
+            Finding::Open => return false,
+            Finding::Forced(literal) => mark(marks, number, literal.negation()),
+        }
+    }
+    false
+}
+
+/// Marks the literals of a step's clause as false, if their variables are distinct and in range.
+pub fn start_marks(marks: &mut [VariableMark], step: u64, clause: &[Literal]) -> bool
+    requires { AreBelow step marks.old }
+    ensures value { result ≡ spec.is_proper (length marks.old) clause.now }
+    ensures marks { result ≡ true → FalsesAre marks.new step [] clause.now }
+    ensures older { AreUpTo step marks.new }
+{
+    for literal in clause {
+        let variable = literal.variable as usize;
+        if variable == 0 {
+            return false;
+        }
+        if variable > marks.len() {
+            return false;
+        }
+        if marks[variable - 1].step == step {
+            return false;
+        }
+        mark(marks, step, *literal);
+    }
+    true
+}

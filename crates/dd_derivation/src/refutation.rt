@@ -1,0 +1,200 @@
+// The check of a refutation: each step is right, and the last one's clause is empty. It takes no memory: its room is
+// made before, and may be used for any derivation of the same sizes.
+ghost use Rattle.std.specs.Prelude.{◌≡◌, ℕ, ◌+◌, ◌<◌, ◌≤◌, Bool, true, false, List, length, slice_index_or, IfOk};
+ghost use Rattle.dd_clause.specs.declared.clause.Literal.{Literal};
+ghost use Rattle.dd_clause.specs.Clauses.{Satisfies};
+ghost use Rattle.dd_derivation.specs.Derivations as spec;
+ghost use Rattle.dd_derivation.specs.MarksOf.{AreBelow, AreUpTo, known_of, known_to};
+
+use crate::known::{Known, delete_all, delete_named};
+use crate::propagation::{VariableMark, follow_hints, start_marks};
+use crate::step::Step;
+use dd_clause::{Clause, Cnf};
+use std::alloc::{AllocError, Global};
+use std::marker::Model;
+
+/// Room for the check of a derivation: a mark for each variable, and for each clause and step whether it is alive.
+#[derive(Drop)]
+pub struct Marks {
+    variables: Vec<VariableMark>,
+    alive: Vec<bool>,
+}
+
+impl Model for Marks {
+    ghost use Rattle.std.specs.Prelude.{ℕ, length};
+    ghost use Rattle.dd_derivation.specs.Sizes.{Sizes};
+
+    ghost Value = { Sizes };
+
+    ghost view = { λ m. record { variables = length m.variables.items; numbers = length m.alive.items } };
+}
+
+impl Marks {
+    /// Room for a check of steps like these over a list like this: as many variables, and as many clauses and steps
+    /// together.
+    pub fn new(alloc: Global, cnf: &Cnf, steps: &[Step]) -> Result<Marks, AllocError>
+        ensures variables { IfOk result (λ m. m.variables ≡ cnf.now.variables) }
+        ensures numbers { IfOk result (λ m. m.numbers ≡ length cnf.now.clauses + length steps.now) }
+    {
+        let unmarked = VariableMark {
+            step: 0,
+            positive: false,
+        };
+        let variables = vec![in alloc; unmarked; cnf.variables() as usize]?;
+        let alive = vec![in alloc; true; cnf.clauses().len() + steps.len()]?;
+        Ok(Marks { variables, alive })
+    }
+}
+
+fn clear(marks: &mut [VariableMark])
+    ensures { AreBelow 1 marks.new }
+{
+    for mark in marks.iter_mut() {
+        *mark = VariableMark {
+            step: 0,
+            positive: false,
+        };
+    }
+}
+
+fn revive(alive: &mut [bool])
+    ensures { (k : ℕ) → k < length alive.new → slice_index_or alive.new k false ≡ true }
+{
+    for is_alive in alive.iter_mut() {
+        *is_alive = true;
+    }
+}
+
+/// Whether a step is right after earlier ones. If it is, what it deletes is no longer alive.
+fn check_one(
+    clauses: &[Clause],
+    earlier: &[Step],
+    alive: &mut [bool],
+    marks: &mut [VariableMark],
+    number: u64,
+    step: &Step,
+) -> bool
+    requires room { length clauses.now + length earlier.now ≤ length alive.old }
+    requires older { AreBelow number marks.old }
+    ensures value { result ≡
+        spec.is_right (length marks.old) (known_to clauses.now earlier.now alive.old) step.now }
+    ensures after { result ≡ true →
+        known_to clauses.now earlier.now alive.new ≡
+        spec.known_after (known_to clauses.now earlier.now alive.old) step.now.deletes }
+    ensures later { (k : ℕ) → length clauses.now + length earlier.now ≤ k →
+        slice_index_or alive.new k false ≡ slice_index_or alive.old k false }
+    ensures older { AreUpTo number marks.new }
+{
+    if !start_marks(marks, number, step.clause.literals()) {
+        return false;
+    }
+    let known = Known::new(clauses, earlier, alive);
+    if !follow_hints(&known, marks, number, step) {
+        return false;
+    }
+    delete_all(
+        alive,
+        clauses.len() + earlier.len(),
+        step.deletes.as_slice(),
+    )
+}
+
+/// Whether the steps refute the clauses.
+fn check_all(
+    clauses: &[Clause],
+    steps: &[Step],
+    alive: &mut [bool],
+    marks: &mut [VariableMark],
+) -> bool
+    requires room { length alive.old ≡ length clauses.now + length steps.now }
+    requires alive { (k : ℕ) → k < length alive.old → slice_index_or alive.old k false ≡ true }
+    requires older { AreBelow 1 marks.old }
+    ensures { result ≡ spec.refutes (length marks.old) clauses.now steps.now }
+{
+    for (i, step) in steps.iter().enumerate() {
+        if !check_one(clauses, &steps[..i], alive, marks, i as u64 + 1, step) {
+            return false;
+        }
+        if i + 1 == steps.len() {
+            return step.clause.literals().is_empty();
+        }
+    }
+    false
+}
+
+fn check_with(cnf: &Cnf, steps: &[Step], alive: &mut [bool], marks: &mut [VariableMark]) -> bool
+    requires variables { length marks.old ≡ cnf.now.variables }
+    requires numbers { length alive.old ≡ length cnf.now.clauses + length steps.now }
+    ensures { result ≡ spec.refutes cnf.now.variables cnf.now.clauses steps.now }
+{
+    clear(marks);
+    revive(alive);
+    check_all(cnf.clauses(), steps, alive, marks)
+}
+
+/// Whether the steps refute the clauses: there is a step, each is right, and the last one's clause is empty. Then no
+/// assignment satisfies the clauses. It takes no memory.
+pub fn check_refutation(cnf: &Cnf, steps: &[Step], marks: &mut Marks) -> bool
+    requires variables { marks.old.variables ≡ cnf.now.variables }
+    requires numbers { marks.old.numbers ≡ length cnf.now.clauses + length steps.now }
+    ensures exact { result ≡ spec.refutes cnf.now.variables cnf.now.clauses steps.now }
+    ensures sound { result ≡ true → (set : ℕ → Bool) → Satisfies set cnf.now.clauses → ⊥ }
+    ensures same { marks.new ≡ marks.old }
+{
+    check_with(
+        cnf,
+        steps,
+        marks.alive.as_mut_slice(),
+        marks.variables.as_mut_slice(),
+    )
+}
+
+/// Deletes what the steps delete.
+fn delete_earlier(alive: &mut [bool], steps: &[Step])
+    ensures { (cs : List (List Literal)) →
+        known_of cs alive.new ≡ spec.known_after_steps (known_of cs alive.old) steps.now }
+{
+    for step in steps {
+        delete_named(alive, step.deletes.as_slice());
+    }
+}
+
+fn check_step_with(
+    cnf: &Cnf,
+    steps: &[Step],
+    index: usize,
+    alive: &mut [bool],
+    marks: &mut [VariableMark],
+) -> bool
+    requires exists { index < length steps.now }
+    requires variables { length marks.old ≡ cnf.now.variables }
+    requires numbers { length alive.old ≡ length cnf.now.clauses + length steps.now }
+    ensures { result ≡ spec.is_step_right cnf.now.variables cnf.now.clauses steps.now index }
+{
+    clear(marks);
+    revive(alive);
+    let earlier = &steps[..index];
+    delete_earlier(alive, earlier);
+    check_one(cnf.clauses(), earlier, alive, marks, 1, &steps[index])
+}
+
+/// Whether the step at this index, from 0, is right where the clauses of the list and of the steps before it are known,
+/// but for those that a step before it deletes. It takes no memory.
+pub fn check_step(cnf: &Cnf, steps: &[Step], index: usize, marks: &mut Marks) -> bool
+    requires exists { index < length steps.now }
+    requires variables { marks.old.variables ≡ cnf.now.variables }
+    requires numbers { marks.old.numbers ≡ length cnf.now.clauses + length steps.now }
+    ensures exact { result ≡ spec.is_step_right cnf.now.variables cnf.now.clauses steps.now index }
+    ensures same { marks.new ≡ marks.old }
+{
+    check_step_with(
+        cnf,
+        steps,
+        index,
+        marks.alive.as_mut_slice(),
+        marks.variables.as_mut_slice(),
+    )
+}
+
+#[cfg(test)]
+mod tests;

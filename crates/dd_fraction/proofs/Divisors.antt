@@ -1,0 +1,91 @@
+-- The greatest common divisor, and numbers without a common divisor.
+use Rattle.std.proofs.Common.{◌≡◌, ℕ, zero, suc, ◌+◌, ◌*◌, ◌/◌, ◌%◌, ◌<◌, ◌≤◌, refl, ap, subst, ◌∙◌, arith}
+use Rattle.std.specs.Int.{IsGcd}
+use Rattle.std.proofs.lemmas.Nat.{mod_below}
+use Rattle.std.proofs.lemmas.Nat.Gcd.{IsGcd-from_zero, IsGcd-from_mod, same_from_IsGcd}
+use Rattle.std.proofs.Math.Nat.{mul-le-mul_right, div-mul_cancel, eq_of_mul-eq-mul_right}
+use Rattle.std.proofs.lemmas.Nat.Gcd.{le_of_dvd}
+use Rattle.std.proofs.lemmas.Nat.{mod-mul-add, div-add-mod'}
+use Rattle.dd_fraction.specs.Divisor.{common_within, greatest_common}
+
+mod-scaled : (a b k : ℕ) → 0 < k → 0 < b → (a * k) % (b * k) ≡ a % b * k
+mod-scaled a b k z p =
+    let r : a % b < b = mod_below a b p in
+    let below : a % b * k < b * k = omega (arith, mul-le-mul_right k r) in
+    let split : a / b * (b * k) + a % b * k ≡ a * k = omega (arith, ap (λ (x : ℕ). x * k) (div-add-mod' a b)) in
+    subst (λ (x : ℕ). x % (b * k) ≡ a % b * k) split (mod-mul-add (a / b) (b * k) (a % b * k) below)
+
+enough : (n m a b : ℕ) → b < n → b < m → common_within n a b ≡ common_within m a b
+enough (suc n) (suc m) a zero p q = refl
+enough (suc n) (suc m) a (suc b) p q =
+    let r : a % suc b < suc b = mod_below a (suc b) (omega arith) in
+    enough n m (suc b) (a % suc b) (omega arith) (omega arith)
+enough zero m a b p q = absurd (omega arith)
+enough (suc n) zero a b p q = absurd (omega arith)
+
+pub greatest_common-zero : (a : ℕ) → greatest_common a 0 ≡ a
+unfolding greatest_common
+greatest_common-zero a = refl
+
+pub greatest_common-step : (a b : ℕ) → 0 < b → greatest_common a b ≡ greatest_common b (a % b)
+unfolding greatest_common
+greatest_common-step a (suc b) p =
+    let r : a % suc b < suc b = mod_below a (suc b) (omega arith) in
+    enough (suc b) (suc (a % suc b)) (suc b) (a % suc b) (omega arith) (omega arith)
+greatest_common-step a zero p = absurd (omega arith)
+
+scaled : (n a b k : ℕ) → 0 < k → b < n → IsGcd (a * k) (b * k) (common_within n a b * k)
+scaled zero a b k z p = absurd (omega arith)
+scaled (suc n) a zero k z p = IsGcd-from_zero (a * k) (0 * k) (omega arith)
+scaled (suc n) a (suc b) k z p =
+    let r : a % suc b < suc b = mod_below a (suc b) (omega arith) in
+    let next : IsGcd (suc b * k) (a % suc b * k) (common_within n (suc b) (a % suc b) * k) =
+    scaled n (suc b) (a % suc b) k z (omega arith) in
+    IsGcd-from_mod (a * k) (suc b * k) _ (rw (mod-scaled a (suc b) k z (omega arith)) next)
+
+pub greatest_common-scaled : (a b k : ℕ) → 0 < k → IsGcd (a * k) (b * k) (greatest_common a b * k)
+unfolding greatest_common
+greatest_common-scaled a b k z = scaled (suc b) a b k z (omega arith)
+
+is_common : (n a b : ℕ) → b < n → IsGcd a b (common_within n a b)
+is_common zero a b p = absurd (omega arith)
+is_common (suc n) a zero p = IsGcd-from_zero a 0 refl
+is_common (suc n) a (suc b) p =
+    let r : a % suc b < suc b = mod_below a (suc b) (omega arith) in
+    IsGcd-from_mod a (suc b) _ (is_common n (suc b) (a % suc b) (omega arith))
+
+pub greatest_common-is : (a b : ℕ) → IsGcd a b (greatest_common a b)
+unfolding greatest_common
+greatest_common-is a b = is_common (suc b) a b (omega arith)
+
+pub greatest_common_le : (a b : ℕ) → 0 < b → greatest_common a b ≤ b
+greatest_common_le a b p = le_of_dvd p (greatest_common-is a b).1
+
+above_of : (q g b : ℕ) → q * g ≡ b → 0 < b → 0 < g
+above_of q zero b e p = absurd (omega (arith, e))
+above_of q (suc g) b e p = omega arith
+
+front_of : (q g b : ℕ) → q * g ≡ b → 0 < b → 0 < q
+front_of zero g b e p = absurd (omega (arith, e))
+front_of (suc q) g b e p = omega arith
+
+pub greatest_common_above : (a b : ℕ) → 0 < b → 0 < greatest_common a b
+greatest_common_above a b p =
+    above_of (b / greatest_common a b) (greatest_common a b) b (div-mul_cancel _ (greatest_common-is a b).1) p
+
+pub quotient_above : (a b : ℕ) → 0 < b → 0 < b / greatest_common a b
+quotient_above a b p =
+    front_of (b / greatest_common a b) (greatest_common a b) b (div-mul_cancel _ (greatest_common-is a b).1) p
+
+-- the quotients have no common divisor
+pub greatest_common_alone : (a b : ℕ) → 0 < b → greatest_common (a / greatest_common a b) (b / greatest_common a b) ≡ 1
+greatest_common_alone a b p =
+    let g = greatest_common a b in
+    let above : 0 < g = greatest_common_above a b p in
+    let x : a / g * g ≡ a = div-mul_cancel g (greatest_common-is a b).0 in
+    let y : b / g * g ≡ b = div-mul_cancel g (greatest_common-is a b).1 in
+    let h = greatest_common (a / g) (b / g) * g in
+    let s : IsGcd (a / g * g) (b / g * g) h = greatest_common-scaled (a / g) (b / g) g above in
+    let t : IsGcd a b h = subst (λ (z : ℕ). IsGcd z b h) x (subst (λ (z : ℕ). IsGcd (a / g * g) z h) y s) in
+    let e : h ≡ 1 * g = same_from_IsGcd _ _ _ _ t (greatest_common-is a b) ∙ omega arith in
+    eq_of_mul-eq-mul_right g above _ _ e

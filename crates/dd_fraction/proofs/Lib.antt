@@ -1,0 +1,8 @@
+pub mod Comparing
+pub mod Divisors
+pub mod FractionFacts
+pub mod Laws
+pub mod Lowest
+pub mod OrderLaws
+pub mod Results
+pub mod Ring

@@ -1,0 +1,58 @@
+-- Sums, products and quotients whose numbers on the way are all at most 2^127 - 1 in absolute value.
+use Rattle.std.specs.Prelude.{◌≡◌, ℕ, suc, ◌*◌, ◌<◌, ◌^◌, Bool, not, ◌&&◌, Option, Some, None, cond}
+use Rattle.std.specs.Bool.{nat_eq, nat_lt}
+use Rattle.std.specs.Int.RustNames.{unsigned_abs}
+use lib.IntN.{ℤ, pos, negsuc, neg_ℤ, ◌+ℤ◌, ◌*ℤ◌}
+use Rattle.dd_fraction.specs.Divisor.{greatest_common}
+use Rattle.dd_fraction.specs.Exact.{Exact, plus, times, inverse, lowest}
+
+-- at most 2^127 - 1 in absolute value
+abbrev pub is_bounded : ℤ → Bool
+is_bounded z = nat_lt (unsigned_abs z) (2 ^ 127)
+
+-- a number, if it is bounded
+abbrev pub bounded : ℤ → Option ℤ
+bounded z = cond (is_bounded z) (Some z) None
+
+abbrev pub bounded_size : ℕ → Option ℕ
+bounded_size n = cond (nat_lt n (2 ^ 127)) (Some n) None
+
+-- a fraction in lowest terms of two bounded numbers
+pub record IsFraction (a : Exact) : Type 0 where
+  pub above : 0 < a.den
+  pub below : a.den < 2 ^ 127
+  pub bounded : unsigned_abs a.num < 2 ^ 127
+  pub alone : greatest_common (unsigned_abs a.num) a.den ≡ 1
+
+-- both products, as they are before the result is brought to lowest terms
+abbrev pub does_product_fit : Exact → Exact → Bool
+does_product_fit a b = is_bounded (a.num *ℤ b.num) && is_bounded (pos (a.den * b.den))
+
+abbrev pub checked_product : Exact → Exact → Option Exact
+checked_product a b = cond (does_product_fit a b) (Some (times a b)) None
+
+-- 1 over b has its sign at the numerator
+abbrev pub checked_quotient : Exact → Exact → Option Exact
+checked_quotient a b = checked_product a (inverse b)
+
+-- the two cross products, their sum, and the product of the denominators
+abbrev pub does_sum_fit : Exact → Exact → Bool
+does_sum_fit a b =
+    is_bounded (a.num *ℤ pos b.den)
+    && (is_bounded (b.num *ℤ pos a.den)
+    && (is_bounded (a.num *ℤ pos b.den +ℤ b.num *ℤ pos a.den) && is_bounded (pos (a.den * b.den))))
+
+abbrev pub checked_sum : Exact → Exact → Option Exact
+checked_sum a b = cond (does_sum_fit a b) (Some (plus a b)) None
+
+-- n over d, the sign at the numerator
+abbrev pub signed_over : ℤ → ℤ → Exact
+signed_over n (pos d) = lowest n d
+signed_over n (negsuc d) = lowest (neg_ℤ n) (suc d)
+
+-- d isn't 0, and both are bounded
+abbrev pub does_pair_fit : ℤ → ℤ → Bool
+does_pair_fit n d = not (nat_eq (unsigned_abs d) 0) && (is_bounded n && is_bounded d)
+
+abbrev pub fraction_of : ℤ → ℤ → Option Exact
+fraction_of n d = cond (does_pair_fit n d) (Some (signed_over n d)) None

@@ -1,0 +1,4 @@
+pub mod Checked
+pub mod Divisor
+pub mod Exact
+pub mod Order

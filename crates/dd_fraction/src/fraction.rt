@@ -1,0 +1,169 @@
+// A fraction in lowest terms, and its arithmetic. Contracts see it as the exact fraction that it is.
+ghost use Rattle.std.specs.Prelude.{◌≡◌, ◌≢◌, ◌<◌, ◌^◌};
+ghost use Rattle.std.specs.Int.RustNames.{unsigned_abs};
+ghost use lib.IntN.{pos};
+ghost use Rattle.dd_fraction.specs.Exact.{Exact, lowest, minus, inverse, whole_of};
+ghost use Rattle.dd_fraction.specs.Order.{exact_cmp};
+ghost use Rattle.dd_fraction.specs.Checked.{IsFraction, checked_product, checked_quotient, checked_sum, fraction_of};
+
+use crate::bounded::{product, size_product, sum};
+use crate::divisor::{common_divisor, quotient};
+use crate::ratio::compare_ratios;
+use std::cmp::Ordering;
+use std::marker::Model;
+
+/// A fraction in lowest terms. Its denominator is from 1 to 2^127 - 1, and its numerator at most 2^127 - 1 in absolute
+/// value. No call takes memory.
+#[derive(Clone, Copy, Debug, PartialEq, Eq)]
+pub struct Fraction {
+    num: i128,
+    den: u128,
+}
+
+impl Model for Fraction {
+    ghost use Rattle.dd_fraction.specs.Exact.{Exact};
+    ghost use Rattle.dd_fraction.specs.Checked.{IsFraction};
+
+    ghost Value = { Exact };
+
+    ghost view = { λ f. record { num = f.num; den = f.den } };
+
+    ghost invariant = { λ f. IsFraction (record { num = f.num; den = f.den }) };
+
+    ghost inverse = { λ f. record { num = f.num; den = f.den } };
+}
+
+impl Fraction {
+    /// `num / den`. None where `den` is 0, or one of the two is -2^127.
+    pub fn new(num: i128, den: i128) -> Option<Fraction>
+        ensures { result ≡ fraction_of num den }
+    {
+        if den == 0 || num == i128::MIN || den == i128::MIN {
+            return None;
+        }
+        if den < 0 {
+            return Some(reduced(-num, den.unsigned_abs()));
+        }
+        Some(reduced(num, den.unsigned_abs()))
+    }
+
+    /// A whole number.
+    pub fn whole(num: i64) -> Fraction
+        ensures { result ≡ whole_of num }
+    {
+        Fraction {
+            num: num as i128,
+            den: 1,
+        }
+    }
+
+    /// The numerator, which has the fraction's sign.
+    pub fn num(&self) -> i128
+        ensures value { result ≡ self.now.num }
+        ensures fraction { IsFraction self.now }
+    {
+        self.num
+    }
+
+    /// The denominator, at least 1.
+    pub fn den(&self) -> i128
+        ensures value { result ≡ pos self.now.den }
+        ensures fraction { IsFraction self.now }
+    {
+        self.den as i128
+    }
+
+    /// The opposite.
+    pub fn negate(&self) -> Fraction
+        ensures { result ≡ minus self.now }
+    {
+        Fraction {
+            num: -self.num,
+            den: self.den,
+        }
+    }
+
+    /// The sum. None where a cross product, the sum of both, or the product of the denominators passes 2^127 - 1 in
+    /// absolute value, also where the sum in lowest terms would not.
+    pub fn add(&self, other: &Fraction) -> Option<Fraction>
+        ensures { result ≡ checked_sum self.now other.now }
+    {
+        let left = product(self.num, other.den as i128)?;
+        let right = product(other.num, self.den as i128)?;
+        let num = sum(left, right)?;
+        let den = size_product(self.den, other.den)?;
+        Some(reduced(num, den))
+    }
+
+    /// The difference. None where the sum with the opposite of `other` is None.
+    pub fn sub(&self, other: &Fraction) -> Option<Fraction>
+        ensures { result ≡ checked_sum self.now (minus other.now) }
+    {
+        self.add(&other.negate())
+    }
+
+    /// The product. None where the product of the numerators or of the denominators passes 2^127 - 1 in absolute
+    /// value, also where the product in lowest terms would not.
+    pub fn mul(&self, other: &Fraction) -> Option<Fraction>
+        ensures { result ≡ checked_product self.now other.now }
+    {
+        let num = product(self.num, other.num)?;
+        let den = size_product(self.den, other.den)?;
+        Some(reduced(num, den))
+    }
+
+    /// The quotient by a fraction other than 0. None where the product with `1 / other` is None.
+    pub fn div(&self, other: &Fraction) -> Option<Fraction>
+        requires { other.now.num ≢ pos 0 }
+        ensures { result ≡ checked_quotient self.now other.now }
+    {
+        self.mul(&other.invert())
+    }
+
+    /// 1 over a fraction other than 0.
+    fn invert(&self) -> Fraction
+        requires { self.now.num ≢ pos 0 }
+        ensures { result ≡ inverse self.now }
+    {
+        let den = self.den as i128;
+        Fraction {
+            num: if self.num < 0 { -den } else { den },
+            den: self.num.unsigned_abs(),
+        }
+    }
+
+    /// The order of the two fractions. No product is made, so it has no refusal.
+    pub fn compare(&self, other: &Fraction) -> Ordering
+        ensures { result ≡ exact_cmp self.now other.now }
+    {
+        let size = self.num.unsigned_abs();
+        let other_size = other.num.unsigned_abs();
+        match (self.num < 0, other.num < 0) {
+            (true, false) => Ordering::Less,
+            (false, true) => Ordering::Greater,
+            (false, false) => compare_ratios(size, self.den, other_size, other.den),
+            (true, true) => compare_ratios(other_size, other.den, size, self.den),
+        }
+    }
+}
+
+/// The two numbers over their greatest common divisor.
+fn reduced(num: i128, den: u128) -> Fraction
+    requires bounded { unsigned_abs num < 2 ^ 127 }
+    requires above { 0 < den }
+    requires below { den < 2 ^ 127 }
+    ensures { result ≡ lowest num den }
+{
+    let divisor = common_divisor(num, den);
+    in_lowest_terms(quotient(num, divisor), den / divisor)
+}
+
+fn in_lowest_terms(num: i128, den: u128) -> Fraction
+    requires { IsFraction (record { num = num; den = den }) }
+    ensures { result ≡ record { num = num; den = den } }
+{
+    Fraction { num, den }
+}
+
+#[cfg(test)]
+mod tests;

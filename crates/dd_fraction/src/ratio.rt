@@ -1,0 +1,24 @@
+// The order of two ratios, with no product: first the whole parts, and where they are equal what is left over them.
+ghost use Rattle.std.specs.Prelude.{◌≡◌, ◌<◌, ◌*◌};
+ghost use Rattle.std.specs.Ordering.{nat_cmp};
+
+use std::cmp::Ordering;
+
+/// The order of `a / b` and `c / d`.
+pub fn compare_ratios(a: u128, b: u128, c: u128, d: u128) -> Ordering
+    requires left { 0 < b }
+    requires right { 0 < d }
+    ensures { result ≡ nat_cmp (a * d) (c * b) }
+{
+    match (a / b).cmp(&(c / d)) {
+        Ordering::Equal => {}
+        order => return order,
+    }
+    match (a % b, c % d) {
+        (0, 0) => Ordering::Equal,
+        (0, _) => Ordering::Less,
+        (_, 0) => Ordering::Greater,
+        // Upside down the order turns round, so the two change sides.
+        (rest, other_rest) => compare_ratios(d, other_rest, b, rest),
+    }
+}

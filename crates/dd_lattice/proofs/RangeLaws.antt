@@ -1,0 +1,34 @@
+-- The range of positions, as a fact and as a test.
+use Rattle.std.proofs.Common.{◌≡◌, Bool, true, false, ℤ, Some, None, if◌then◌else◌, refl, arith}
+use Rattle.std.proofs.lemmas.Int.{ints}
+use Rattle.dd_lattice.specs.Place.{Place, IsNear, is_near, IsInRange, is_in_range}
+
+near_from_test : (c : ℤ) → is_near c ≡ true → IsNear c
+near_from_test c h = grind (arith, ints)
+
+test_from_near : (c : ℤ) → IsNear c → is_near c ≡ true
+test_from_near c h = grind (arith, ints)
+
+pub in_range_from_test : (p : Place) → is_in_range p ≡ true → IsInRange p
+in_range_from_test p h = grind (arith, near_from_test)
+
+pub test_from_in_range : (p : Place) → IsInRange p → is_in_range p ≡ true
+test_from_in_range p h = rw (test_from_near p.x h.0, test_from_near p.y h.1, test_from_near p.z h.2)
+
+chosen : (b : Bool) (p q : Place) → Some q ≡ (if b then Some p else None) → (b ≡ true) × (q ≡ p)
+chosen true p q h = (refl, cc)
+chosen false p q h = absurd (cc)
+
+left_out : (b : Bool) (p : Place) → None ≡ (if b then Some p else None) → b ≡ true → ⊥
+left_out true p h e = absurd (cc)
+left_out false p h e = absurd (cc)
+
+-- a sum that is given is in range
+pub in_range_if_given : (p q : Place) → Some q ≡ (if is_in_range p then Some p else None) → (q ≡ p) × IsInRange q
+in_range_if_given p q h =
+    let given = chosen (is_in_range p) p q h in
+    (given.1, rw given.1 (in_range_from_test p given.0))
+
+-- a sum that isn't given is out of range
+pub outside_if_not_given : (p : Place) → None ≡ (if is_in_range p then Some p else None) → IsInRange p → ⊥
+outside_if_not_given p h near = left_out (is_in_range p) p h (test_from_in_range p near)

@@ -1,0 +1,11 @@
+use Rattle.std.proofs.Common.{Err, ◌∙◌}
+use Rattle.dd_lattice.proofs.InOrderLaws.{place_total, places_equal}
+use Rattle.dd_lattice.proofs.SearchLaws.{search_tells}
+use Rattle.dd_lattice.proofs.region.Region.holds.Goals as goal
+
+pub returns-in-Err : goal.returns-in-Err
+returns-in-Err c =
+    let e = c.in-Err.ensures in
+    let not_in = search_tells place_total places_equal c.as_slice.result.now c.args.p.now (Err c.in-Err.field-0) (rw c.as_slice.ensures.value c.self.invariant.ascending) e.bound e.position in
+    let same = c.as_slice.ensures.value ∙ c.self.view_is in
+    (λ h. absurd (cc), λ h. absurd (not_in (rw same h)))

@@ -1,0 +1,95 @@
+-- Boxes of positions: what they hold, and where a position stands in the list of a box's positions.
+use Rattle.std.specs.Prelude.{ℕ, zero, suc, ◌+◌, ◌*◌, ◌/◌, ◌%◌, ◌≡◌, Bool, true, false, cond, nat_lt, ℤ, pos, ◌+ℤ◌, ◌-ℤ◌, ◌≤ℤ◌, ◌<ℤ◌, unsigned_abs, List, [], ◌∷◌, ◌++◌}
+use Rattle.dd_lattice.specs.Place.{Place, place, IsInRange}
+
+-- p is at most q on each axis
+pub record IsBelow (p q : Place) : Type 0 where
+  pub on_x : p.x ≤ℤ q.x
+  pub on_y : p.y ≤ℤ q.y
+  pub on_z : p.z ≤ℤ q.z
+
+pub record Bounds : Type 0 where
+  pub low : Place
+  pub high : Place
+
+-- bounds of a box of positions in range
+pub record IsBox (b : Bounds) : Type 0 where
+  pub ordered : IsBelow b.low b.high
+  pub low_in_range : IsInRange b.low
+  pub high_in_range : IsInRange b.high
+
+abbrev pub IsWithin : Bounds → Place → Type 0
+IsWithin b p = IsBelow b.low p × IsBelow p b.high
+
+-- in d dimensions the axes numbered 0 to d - 1 are active
+abbrev pub is_active : ℕ → ℕ → Bool
+is_active d axis = nat_lt axis d
+
+-- the coordinate is as P says on an active axis, and 0 on another
+abbrev pub OnAxis : Bool → (ℤ → Type 0) → ℤ → Type 0
+OnAxis true P c = P c
+OnAxis false P c = c ≡ pos 0
+
+-- from -n to n
+pub record IsUpTo (n : ℕ) (c : ℤ) : Type 0 where
+  pub low : (pos 0 -ℤ pos n) ≤ℤ c
+  pub high : c ≤ℤ pos n
+
+-- from 0 to n - 1
+pub record IsAmong (n : ℕ) (c : ℤ) : Type 0 where
+  pub low : pos 0 ≤ℤ c
+  pub high : c <ℤ pos n
+
+-- B(n) in d dimensions: the active coordinates lie in -n..n, the others are 0
+pub record IsCentred (d n : ℕ) (p : Place) : Type 0 where
+  pub on_x : OnAxis (is_active d 0) (IsUpTo n) p.x
+  pub on_y : OnAxis (is_active d 1) (IsUpTo n) p.y
+  pub on_z : OnAxis (is_active d 2) (IsUpTo n) p.z
+
+-- Side(n) in d dimensions: the active coordinates lie in 0..n-1, the others are 0
+pub record IsInSide (d n : ℕ) (p : Place) : Type 0 where
+  pub on_x : OnAxis (is_active d 0) (IsAmong n) p.x
+  pub on_y : OnAxis (is_active d 1) (IsAmong n) p.y
+  pub on_z : OnAxis (is_active d 2) (IsAmong n) p.z
+
+-- how far B(n) reaches on an axis
+abbrev pub spread : Bool → ℕ → ℕ
+spread active n = cond active n 0
+
+-- the bounds of B(n)
+abbrev pub centred : ℕ → ℕ → Bounds
+centred d n =
+    let x = spread (is_active d 0) n in
+    let y = spread (is_active d 1) n in
+    let z = spread (is_active d 2) n in
+    record { low = place (pos 0 -ℤ pos x) (pos 0 -ℤ pos y) (pos 0 -ℤ pos z); high = place (pos x) (pos y) (pos z) }
+
+-- how far a and b are apart
+abbrev pub gap : ℤ → ℤ → ℕ
+gap a b = unsigned_abs (b -ℤ a)
+
+-- how many coordinates there are from a to b
+abbrev pub span : ℤ → ℤ → ℕ
+span a b = gap a b + 1
+
+abbrev pub volume : Bounds → ℕ
+volume b = span b.low.x b.high.x * (span b.low.y b.high.y * span b.low.z b.high.z)
+
+-- the number of positions of the box before p, in cell order
+abbrev pub index_in : Bounds → Place → ℕ
+index_in b p = (gap b.low.z p.z * span b.low.y b.high.y + gap b.low.y p.y) * span b.low.x b.high.x + gap b.low.x p.x
+
+-- the position that has so many positions of the box before it
+abbrev pub place_in : Bounds → ℕ → Place
+place_in b i =
+    let w = span b.low.x b.high.x in
+    let h = span b.low.y b.high.y in
+    place (b.low.x +ℤ pos (i % w)) (b.low.y +ℤ pos (i / w % h)) (b.low.z +ℤ pos (i / w / h))
+
+-- the first n positions of a box
+abbrev pub first_of : Bounds → ℕ → List Place
+first_of b zero = []
+first_of b (suc n) = first_of b n ++ place_in b n ∷ []
+
+abbrev pub positions_of : Bounds → List Place
+positions_of b = first_of b (volume b)

@@ -1,0 +1,25 @@
+-- A region stretched along an axis: moved along it by each number of steps between two bounds.
+use Rattle.std.specs.Prelude.{◌≡◌, ℤ, pos, ◌≤ℤ◌, ◌<ℤ◌, ◌⊎◌, List}
+use Rattle.std.specs.List.{Contains}
+use Rattle.dd_lattice.specs.Place.{Place, place, moved}
+use Rattle.dd_lattice.specs.Regions.{PlaceSet, IsMoved}
+use Rattle.dd_lattice.specs.declared.growing.Axis.{Axis}
+use Rattle.dd_lattice.specs.declared.growing.Axis.TheVariants.{X, Y, Z}
+
+abbrev pub along : Axis → ℤ → Place
+along X c = place c (pos 0) (pos 0)
+along Y c = place (pos 0) c (pos 0)
+along Z c = place (pos 0) (pos 0) c
+
+-- p is a position of the list, moved along the axis by at least low and less than high
+pub record IsStretched (axis : Axis) (low high : ℤ) (ps : List Place) (p : Place) : Type 0 where
+  pub origin : Place
+  pub member : Contains ps origin
+  pub steps : ℤ
+  pub least : low ≤ℤ steps
+  pub most : steps <ℤ high
+  pub is : p ≡ moved origin (along axis steps)
+
+-- a position of the list, or one of its copy that is moved along the axis
+abbrev pub IsExtended : Axis → ℤ → List Place → PlaceSet
+IsExtended axis c ps p = Contains ps p ⊎ IsMoved ps (along axis c) p

@@ -1,0 +1,48 @@
+-- Regions: finite sets of positions in range, each a strictly ascending list.
+use Rattle.std.specs.Prelude.{ℕ, ◌≡◌, ◌↔◌, ◌⊎◌, ◌-ℤ◌, List}
+use Rattle.std.specs.List.{All, Contains}
+use Rattle.std.specs.List.Sorted.{IsStrictlySortedBy}
+use Rattle.dd_lattice.specs.Place.{Place, place, moved, IsInRange}
+use Rattle.dd_lattice.specs.Order.{place_cmp}
+use Rattle.dd_lattice.specs.Boxes.{IsCentred}
+use Rattle.dd_lattice.specs.declared.fault.LatticeFault.{LatticeFault}
+use Rattle.dd_lattice.specs.declared.fault.LatticeFault.TheVariants.{Range, Memory}
+
+pub record IsRegion (ps : List Place) : Type 0 where
+  pub ascending : IsStrictlySortedBy place_cmp ps
+  pub in_range : All IsInRange ps
+
+-- a set of positions
+abbrev pub PlaceSet : Type 1
+PlaceSet = Place → Type 0
+
+-- the region has exactly the positions of the set
+pub record IsRegionOf (S : PlaceSet) (ps : List Place) : Type 0 where
+  pub region : IsRegion ps
+  pub members : (p : Place) → Contains ps p ↔ S p
+
+-- some position of the set is out of range
+pub record LeavesRange (S : PlaceSet) : Type 0 where
+  pub at : Place
+  pub member : S at
+  pub outside : IsInRange at → ⊥
+
+-- the fault with which the region of a set isn't made: `Range` only where the set leaves the range
+abbrev pub IsFaultOf : PlaceSet → LatticeFault → Type 0
+IsFaultOf S Range = LeavesRange S
+IsFaultOf S Memory = Unit {0}
+
+abbrev pub IsInEither : List Place → List Place → PlaceSet
+IsInEither ps qs p = Contains ps p ⊎ Contains qs p
+
+-- p is a position of the list, moved by v
+abbrev pub IsMoved : List Place → Place → PlaceSet
+IsMoved ps v p = (q : Place) × Contains ps q × (p ≡ moved q v)
+
+-- where p stands as seen from q
+abbrev pub seen_from : Place → Place → Place
+seen_from q p = place (p.x -ℤ q.x) (p.y -ℤ q.y) (p.z -ℤ q.z)
+
+-- p is within n of a position of the list on each of the first d axes, and level with it on the others
+abbrev pub IsNearby : ℕ → ℕ → List Place → PlaceSet
+IsNearby d n ps p = (q : Place) × Contains ps q × IsCentred d n (seen_from q p)

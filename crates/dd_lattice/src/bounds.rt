@@ -1,0 +1,195 @@
+//! Boxes of positions, and the place of a position in the list of a box's positions.
+ghost use Rattle.std.specs.Prelude.{◌≡◌, ℕ, ◌+◌, ◌*◌, ◌<◌, ◌≤◌, ℤ, pos, ◌+ℤ◌, ◌-ℤ◌, ◌≤ℤ◌, IsTrue, ◌↔◌, MatchOption, IfSome, unsigned_abs, nat_le, nat_lt, if◌then◌else◌};
+ghost use Rattle.dd_lattice.specs.Place.{Place, IsNear, IsInRange, place};
+ghost use Rattle.dd_lattice.specs.Boxes.{IsBelow, IsBox, IsWithin, IsCentred, centred, spread, gap, volume, index_in, place_in};
+
+use crate::position::{Position, REACH};
+use std::marker::Model;
+
+/// The positions from `low` to `high`, where `low` is at most `high` on each axis.
+#[derive(Debug, Clone, Copy, PartialEq, Eq)]
+pub struct Box3 {
+    pub low: Position,
+    pub high: Position,
+}
+
+impl Model for Box3 {
+    ghost use Rattle.dd_lattice.specs.Boxes.{Bounds, IsBelow};
+
+    ghost Value = { Bounds };
+
+    ghost view = { λ b. record { low = b.low; high = b.high } };
+
+    ghost invariant = { λ b. IsBelow b.low b.high };
+
+    ghost inverse = { λ b. record { low = b.low; high = b.high } };
+}
+
+/// How far the centred box of a radius reaches on an axis.
+fn spread(axis: u32, dim: u32, radius: i32) -> i32
+    requires { pos 0 ≤ℤ radius }
+    ensures value { result ≡ pos (spread (nat_lt axis dim) (unsigned_abs radius)) }
+    ensures low { pos 0 ≤ℤ result }
+    ensures high { result ≤ℤ radius }
+{
+    if axis < dim { radius } else { 0 }
+}
+
+fn around_origin(dim: u32, radius: u32) -> Box3
+    requires { radius ≤ 1048576 }
+    ensures { result ≡ centred dim radius }
+{
+    let x = spread(0, dim, radius as i32);
+    let y = spread(1, dim, radius as i32);
+    let z = spread(2, dim, radius as i32);
+    Box3 {
+        low: Position {
+            x: -x,
+            y: -y,
+            z: -z,
+        },
+        high: Position { x, y, z },
+    }
+}
+
+/// The box of the positions whose first `dim` coordinates are at most `radius` in absolute value and whose others
+/// are 0, or `None` where the radius passes 2^20.
+pub fn centred_box(dim: u32, radius: u32) -> Option<Box3>
+    requires least { 1 ≤ dim }
+    requires most { dim ≤ 3 }
+    ensures value { result ≡ (if nat_le radius 1048576 then Some (centred dim radius) else None) }
+    ensures members { IfSome result (λ b. (p : Place) → IsWithin b p ↔ IsCentred dim radius p) }
+{
+    if radius > REACH as u32 {
+        return None;
+    }
+    Some(around_origin(dim, radius))
+}
+
+/// How far one position is above another, on each axis.
+#[derive(Clone, Copy)]
+struct Steps {
+    x: u64,
+    y: u64,
+    z: u64,
+}
+
+fn is_below(p: &Position, q: &Position) -> bool
+    ensures { IsTrue result ↔ IsBelow p.now q.now }
+{
+    if q.x < p.x || q.y < p.y || q.z < p.z {
+        return false;
+    }
+    true
+}
+
+fn steps_between(from: &Position, to: &Position) -> Steps
+    requires { IsBelow from.now to.now }
+    ensures x { result.x ≡ gap from.now.x to.now.x }
+    ensures y { result.y ≡ gap from.now.y to.now.y }
+    ensures z { result.z ≡ gap from.now.z to.now.z }
+    ensures x_bound { result.x ≤ 2097152 }
+    ensures y_bound { result.y ≤ 2097152 }
+    ensures z_bound { result.z ≤ 2097152 }
+    ensures from { IsInRange from.now }
+    ensures to { IsInRange to.now }
+{
+    Steps {
+        x: (to.x - from.x) as u64,
+        y: (to.y - from.y) as u64,
+        z: (to.z - from.z) as u64,
+    }
+}
+
+impl Box3 {
+    /// The number of positions of the box.
+    pub fn volume(&self) -> u64
+        ensures value { result ≡ volume self.now }
+        ensures bounds { IsBox self.now }
+    {
+        let all = steps_between(&self.low, &self.high);
+        (all.x + 1) * ((all.y + 1) * (all.z + 1))
+    }
+
+    fn holds(&self, p: &Position) -> bool
+        ensures { IsTrue result ↔ IsWithin self.now p.now }
+    {
+        is_below(&self.low, p) && is_below(p, &self.high)
+    }
+
+    fn number(&self, p: &Position) -> u64
+        requires { IsWithin self.now p.now }
+        ensures value { result ≡ index_in self.now p.now }
+        ensures below { result < volume self.now }
+    {
+        let all = steps_between(&self.low, &self.high);
+        let there = steps_between(&self.low, p);
+        (there.z * (all.y + 1) + there.y) * (all.x + 1) + there.x
+    }
+
+    fn place(&self, index: u64) -> Position
+        requires { index < volume self.now }
+        ensures { result ≡ place_in self.now index }
+    {
+        let all = steps_between(&self.low, &self.high);
+        let width = all.x + 1;
+        let height = all.y + 1;
+        let row = index / width;
+        raised(
+            &self.low,
+            &self.high,
+            index % width,
+            row % height,
+            row / height,
+        )
+    }
+
+    /// How many positions of the box stand before `p` in cell order, or `None` where `p` is outside.
+    #[tactic(auto, using(crate::proofs::BoxLaws::place_at_index))]
+    pub fn index_of(&self, p: &Position) -> Option<u64>
+        ensures value { MatchOption result (IsWithin self.now p.now → ⊥) (λ i. (i < volume self.now) × (i ≡ index_in self.now p.now)) }
+        ensures undone { IfSome result (λ i. place_in self.now i ≡ p.now) }
+    {
+        if self.holds(p) {
+            Some(self.number(p))
+        } else {
+            None
+        }
+    }
+
+    /// The position with so many positions of the box before it, or `None` where the index is at least the volume.
+    #[tactic(auto, using(crate::proofs::BoxLaws::place_within, crate::proofs::BoxLaws::index_of_place))]
+    pub fn position_at(&self, index: u64) -> Option<Position>
+        ensures value { MatchOption result (volume self.now ≤ index) (λ p. p ≡ place_in self.now index) }
+        ensures within { IfSome result (IsWithin self.now) }
+        ensures undone { IfSome result (λ p. index_in self.now p ≡ index) }
+    {
+        if index < self.volume() {
+            Some(self.place(index))
+        } else {
+            None
+        }
+    }
+}
+
+/// The position so far above `low` on each axis.
+fn raised(low: &Position, high: &Position, x: u64, y: u64, z: u64) -> Position
+    requires { IsBelow (place (low.now.x +ℤ pos x) (low.now.y +ℤ pos y) (low.now.z +ℤ pos z)) high.now }
+    ensures { result ≡ place (low.now.x +ℤ pos x) (low.now.y +ℤ pos y) (low.now.z +ℤ pos z) }
+{
+    Position {
+        x: coordinate(low.x, high.x, x),
+        y: coordinate(low.y, high.y, y),
+        z: coordinate(low.z, high.z, z),
+    }
+}
+
+fn coordinate(low: i32, high: i32, by: u64) -> i32
+    requires low_near { IsNear low }
+    requires high_near { IsNear high }
+    requires up_to { (low +ℤ pos by) ≤ℤ high }
+    ensures value { result ≡ low +ℤ pos by }
+    ensures near { IsNear result }
+{
+    low + by as i32
+}

@@ -1,0 +1,108 @@
+//! The growth of a region, axis by axis. Along an axis the region's copies are doubled: the union of a run of copies with
+//! the same run moved by its length is a run of twice the length, so few unions are made however far a region grows.
+ghost use Rattle.std.specs.Prelude.{◌≡◌, ◌+◌, ◌*◌, ◌≤◌, ℤ, pos, ◌-ℤ◌, ◌+ℤ◌, ◌≤ℤ◌, MatchResult};
+ghost use Rattle.dd_lattice.specs.Regions.{IsRegionOf, IsFaultOf, IsNearby};
+ghost use Rattle.dd_lattice.specs.Growth.{along, IsStretched, IsExtended};
+
+use crate::fault::LatticeFault;
+use crate::position::{Position, REACH};
+use crate::region::Region;
+use std::alloc::Global;
+
+#[derive(Clone, Copy)]
+enum Axis {
+    X,
+    Y,
+    Z,
+}
+
+fn along(axis: Axis, steps: i32) -> Position
+    requires low { (pos 0 -ℤ pos 1048576) ≤ℤ steps }
+    requires high { steps ≤ℤ pos 1048576 }
+    ensures { result ≡ along axis steps }
+{
+    match axis {
+        Axis::X => Position {
+            x: steps,
+            y: 0,
+            z: 0,
+        },
+        Axis::Y => Position {
+            x: 0,
+            y: steps,
+            z: 0,
+        },
+        Axis::Z => Position {
+            x: 0,
+            y: 0,
+            z: steps,
+        },
+    }
+}
+
+/// The region moved along an axis by each number of steps from `-by` to `by`.
+fn stretched(alloc: Global, region: &Region, axis: Axis, by: u32) -> Result<Region, LatticeFault>
+    requires { by ≤ 1048576 }
+    ensures { let stretched = IsStretched axis (pos 0 -ℤ pos by) (pos by +ℤ pos 1) region.now in
+        MatchResult result (IsRegionOf stretched) (IsFaultOf stretched) }
+{
+    let mut run = region.shifted(alloc, &along(axis, -(by as i32)))?;
+    let all = 2 * by + 1;
+    let mut copies = 1;
+    while copies < all {
+        let more = copies.min(all - copies);
+        run = extended(alloc, &run, axis, more)?;
+        copies += more;
+    }
+    Ok(run)
+}
+
+/// The region with its copy that is moved along an axis.
+fn extended(alloc: Global, region: &Region, axis: Axis, by: u32) -> Result<Region, LatticeFault>
+    requires { by ≤ 1048576 }
+    ensures { let extended = IsExtended axis (pos by) region.now in
+        MatchResult result (IsRegionOf extended) (IsFaultOf extended) }
+{
+    let copy = region.shifted(alloc, &along(axis, by as i32))?;
+    let whole = region.union(alloc, &copy)?;
+    Ok(whole)
+}
+
+/// The growth of a region on its first `dim` axes.
+fn grown(alloc: Global, region: &Region, dim: u32, by: u32) -> Result<Region, LatticeFault>
+    requires least { 1 ≤ dim }
+    requires most { dim ≤ 3 }
+    requires by { by ≤ 1048576 }
+    ensures { let nearby = IsNearby dim by region.now in
+        MatchResult result (IsRegionOf nearby) (IsFaultOf nearby) }
+{
+    let along_x = stretched(alloc, region, Axis::X, by)?;
+    if dim == 1 {
+        return Ok(along_x);
+    }
+    let along_y = stretched(alloc, &along_x, Axis::Y, by)?;
+    if dim == 2 {
+        return Ok(along_y);
+    }
+    let along_z = stretched(alloc, &along_y, Axis::Z, by)?;
+    Ok(along_z)
+}
+
+impl Region {
+    /// All positions within `by` of a member on each of the first `dim` axes, or `Range` where a coordinate would pass
+    /// 2^20.
+    pub fn grow(&self, alloc: Global, dim: u32, by: u32) -> Result<Region, LatticeFault>
+        requires least { 1 ≤ dim }
+        requires most { dim ≤ 3 }
+        ensures { let nearby = IsNearby dim by self.now in
+            MatchResult result (IsRegionOf nearby) (IsFaultOf nearby) }
+    {
+        if self.list().is_empty() {
+            return Ok(Region::empty(alloc));
+        }
+        if by > REACH as u32 {
+            return Err(LatticeFault::Range);
+        }
+        grown(alloc, self, dim, by)
+    }
+}

@@ -1,0 +1,4 @@
+pub mod Residues
+pub mod TileSizes
+pub mod FillingLaws
+pub mod TileLaws

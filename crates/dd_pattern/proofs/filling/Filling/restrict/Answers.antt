@@ -1,0 +1,13 @@
+use Rattle.std.proofs.Common.{sym, ◌∙◌, subst}
+use Rattle.dd_pattern.specs.Filling.{IsFilling}
+use Rattle.dd_pattern.proofs.FillingLaws.{missing_from_none}
+use Rattle.dd_pattern.proofs.filling.Filling.restrict.Goals as goal
+
+pub returns-in_default : goal.returns-in_default
+returns-in_default c =
+    let cell = c.cell-item.result in
+    let filling : IsFilling c.args.self.now = subst IsFilling c.self.view_is c.self.invariant in record {
+      at = cell;
+      asked = (c.loop-cell.cell-index, c.loop-cell-test.true, sym c.cell-item.is);
+      missing = missing_from_none c.args.self.now filling cell (sym c.symbol.ensures ∙ c.in_default.is);
+    }

@@ -1,0 +1,39 @@
+-- Fillings: finitely many cells in cell order, with a symbol each.
+use Rattle.std.specs.Prelude.{◌≡◌, ◌<◌, ℕ, List, Some, None, length, map, slice_get, slice_index_or}
+use Rattle.std.specs.List.{Contains, position_or_len}
+use Rattle.std.specs.List.Sorted.{IsStrictlySortedBy}
+use Rattle.std.specs.Ordering.{is_eq}
+use Rattle.dd_lattice.specs.declared.position.Cell.{Cell}
+use Rattle.dd_lattice.specs.Order.{cell_cmp}
+use Rattle.dd_pattern.specs.Look.{Look}
+
+pub record Filled : Type 0 where
+  pub cells : List Cell
+  pub symbols : List ℕ
+
+abbrev pub filled : List Cell → List ℕ → Filled
+filled cs ss = record { cells = cs; symbols = ss }
+
+pub record IsFilling (f : Filled) : Type 0 where
+  pub ascending : IsStrictlySortedBy cell_cmp f.cells
+  pub as_many : length f.symbols ≡ length f.cells
+
+-- the symbol with the number that the cell has among the cells
+abbrev pub filling_look : Filled → Look
+filling_look f c = slice_get f.symbols (position_or_len (λ d. is_eq (cell_cmp d c)) f.cells)
+
+-- each cell has its symbol, and no other cell has one
+pub record IsReadByPlace (f : Filled) : Type 0 where
+  pub at : (k : ℕ) (d : Cell) → k < length f.cells → filling_look f (slice_index_or f.cells k d) ≡ slice_get f.symbols k
+  pub elsewhere : (c : Cell) → (Contains f.cells c → ⊥) → filling_look f c ≡ None
+
+-- g has exactly these cells, and at each the symbol of f
+pub record IsRestriction (f : Filled) (cs : List Cell) (g : Filled) : Type 0 where
+  pub cells : g.cells ≡ cs
+  pub symbols : map Some g.symbols ≡ map (filling_look f) cs
+
+-- one of these cells has no symbol
+pub record IsWanting (f : Filled) (cs : List Cell) : Type 0 where
+  pub at : Cell
+  pub asked : Contains cs at
+  pub missing : Contains f.cells at → ⊥

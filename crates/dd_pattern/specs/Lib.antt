@@ -1,0 +1,4 @@
+pub mod Look
+pub mod Filling
+pub mod Tile
+pub mod Weight

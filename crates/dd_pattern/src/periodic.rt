@@ -1,0 +1,209 @@
+//! Periodic configurations: the symbols of one fundamental box, for every cell of Z^d.
+ghost use Rattle.std.specs.Prelude.{◌≡◌, ◌<◌, ◌≤◌, ◌+◌, ◌*◌, ◌^◌, [], ◌∷◌, length, slice_index, ℤ, IsTrue, ◌↔◌, MatchResult};
+ghost use Rattle.dd_pattern.specs.Tile.{IsTile, IsReadModulo, tile, residue, tile_index, tile_look};
+ghost use Rattle.dd_pattern.specs.Weight.{AreWeights, total_weight};
+
+use crate::reading::{Configuration, Reads};
+use crate::weight::weight_of;
+use dd_lattice::{Cell, Position};
+use std::marker::Model;
+
+/// The greatest number of symbols of a fundamental box.
+const MOST_SYMBOLS: usize = 65_536;
+
+/// A configuration that is read modulo a period on each axis. The periods of unused axes are 1, and the symbols of the
+/// fundamental box, whose coordinates run from 0 to the period less 1, stand in cell order.
+#[derive(Debug, Drop)]
+pub struct Periodic {
+    dim: u32,
+    along_x: u32,
+    along_y: u32,
+    along_z: u32,
+    nodes: u32,
+    symbols: Vec<u32>,
+}
+
+impl Model for Periodic {
+    ghost use Rattle.dd_pattern.specs.Tile.{Tile, IsTile};
+
+    ghost Value = { Tile };
+
+    ghost view = { λ p. record { dim = p.dim; along_x = p.along_x; along_y = p.along_y; along_z = p.along_z; nodes = p.nodes; symbols = p.symbols.items } };
+
+    ghost invariant = { λ p. IsTile (record { dim = p.dim; along_x = p.along_x; along_y = p.along_y; along_z = p.along_z; nodes = p.nodes; symbols = p.symbols.items }) };
+}
+
+/// A whole number modulo `n`.
+fn residue(x: i32, n: u32) -> u32
+    requires some { 0 < n }
+    requires small { n ≤ 65536 }
+    ensures value { result ≡ residue x n }
+    ensures below { result < n }
+{
+    x.rem_euclid(n as i32) as u32
+}
+
+/// The number of an entry in a table of rows.
+fn entry(row: usize, width: u32, column: u32) -> usize
+    requires { row * width + column < 2 ^ 64 }
+    ensures { result ≡ row * width + column }
+{
+    row * width as usize + column as usize
+}
+
+/// A position modulo the periods.
+#[derive(Clone, Copy)]
+struct Base {
+    x: u32,
+    y: u32,
+    z: u32,
+}
+
+fn table_size(x: u32, y: u32, z: u32, nodes: u32) -> u128
+    ensures { result ≡ z * y * x * nodes }
+{
+    let rows = z as u64 * y as u64;
+    let rest = x as u64 * nodes as u64;
+    rows as u128 * rest as u128
+}
+
+fn has_size(x: u32, y: u32, z: u32, nodes: u32, count: usize) -> bool
+    ensures { IsTrue result ↔ (z * y * x * nodes ≡ count) }
+{
+    table_size(x, y, z, nodes) == count as u128
+}
+
+/// Whether the periods of unused axes are 1.
+fn are_unused(dim: u32, along_y: u32, along_z: u32) -> bool
+    ensures { IsTrue result ↔ ((dim < 2 → along_y ≡ 1) × (dim < 3 → along_z ≡ 1)) }
+{
+    if dim < 2 && along_y != 1 {
+        return false;
+    }
+    if dim < 3 && along_z != 1 {
+        return false;
+    }
+    true
+}
+
+impl Periodic {
+    /// The symbols come back where `dim` isn't 1, 2 or 3, where there is no node, where a period is 0 or that of an
+    /// unused axis isn't 1, and where the number of symbols isn't the product of the periods and of `nodes` or passes
+    /// 65,536. It takes no memory.
+    pub fn new(
+        dim: u32,
+        periods: [u32; 3],
+        nodes: u32,
+        symbols: Vec<u32>,
+    ) -> Result<Periodic, Vec<u32>>
+        ensures { let t = tile dim periods nodes symbols.items in
+            MatchResult result (λ p. p ≡ t) (λ back. (back ≡ symbols) × (IsTile t → ⊥)) }
+    {
+        let [along_x, along_y, along_z] = periods;
+        if dim == 0 || dim > 3 || nodes == 0 || symbols.len() > MOST_SYMBOLS {
+            return Err(symbols);
+        }
+        if along_x == 0 || along_y == 0 || along_z == 0 || !are_unused(dim, along_y, along_z) {
+            return Err(symbols);
+        }
+        if !has_size(along_x, along_y, along_z, nodes, symbols.len()) {
+            return Err(symbols);
+        }
+        Ok(Periodic {
+            dim,
+            along_x,
+            along_y,
+            along_z,
+            nodes,
+            symbols,
+        })
+    }
+
+    /// The dimension, 1 to 3.
+    pub fn dim(&self) -> u32
+        ensures value { result ≡ self.now.dim }
+        ensures tile { IsTile self.now }
+    {
+        self.dim
+    }
+
+    /// The periods, 1 on unused axes.
+    pub fn periods(&self) -> [u32; 3]
+        ensures { result ≡ self.now.along_x ∷ self.now.along_y ∷ self.now.along_z ∷ [] }
+    {
+        [self.along_x, self.along_y, self.along_z]
+    }
+
+    /// The number of nodes of a position, at least 1.
+    pub fn nodes(&self) -> u32
+        ensures { result ≡ self.now.nodes }
+    {
+        self.nodes
+    }
+
+    /// The symbols of the fundamental box, in cell order.
+    #[tactic(auto, using(crate::proofs::TileLaws::read_modulo))]
+    pub fn symbols(&self) -> &[u32]
+        ensures value { result.now ≡ self.now.symbols }
+        ensures reads { IsReadModulo self.now }
+    {
+        self.symbols.as_slice()
+    }
+
+    /// The sum of the weights of the fundamental box, where the symbol `s` has the weight `weights[s]`.
+    pub fn weight(&self, weights: &[u32]) -> u64
+        requires { AreWeights weights.now self.now.symbols }
+        ensures { result ≡ total_weight weights.now self.now.symbols }
+    {
+        weight_of(self.symbols.as_slice(), weights)
+    }
+}
+
+impl Periodic {
+    fn base(&self, position: &Position) -> Base
+        ensures x { result.x ≡ residue position.now.x self.now.along_x }
+        ensures y { result.y ≡ residue position.now.y self.now.along_y }
+        ensures z { result.z ≡ residue position.now.z self.now.along_z }
+    {
+        Base {
+            x: residue(position.x, self.along_x),
+            y: residue(position.y, self.along_y),
+            z: residue(position.z, self.along_z),
+        }
+    }
+
+    fn index(&self, cell: &Cell) -> usize
+        requires { cell.now.node < self.now.nodes }
+        ensures value { result ≡ tile_index self.now cell.now }
+        ensures within { result < length self.now.symbols }
+    {
+        let base = self.base(&cell.position);
+        let row = entry(base.z as usize, self.along_y, base.y);
+        let place = entry(row, self.along_x, base.x);
+        entry(place, self.nodes, cell.node)
+    }
+}
+
+impl Reads for Periodic {
+    ghost symbols = { tile_look };
+
+    fn symbol(&self, cell: &Cell) -> Option<u32> {
+        if cell.node < self.nodes {
+            let at = self.index(cell);
+            Some(self.symbols[at])
+        } else {
+            None
+        }
+    }
+}
+
+impl Configuration for Periodic {
+    ghost nodes = { λ t. t.nodes };
+
+    ghost symbol_of = { λ t c. slice_index t.symbols (tile_index t c) };
+
+    fn symbol_at(&self, cell: &Cell) -> u32 {
+        let at = self.index(cell);
+        self.symbols[at]
+    }
+}

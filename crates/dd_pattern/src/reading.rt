@@ -1,0 +1,26 @@
+//! What can be read at a cell: a symbol at some cells, or a symbol at every cell.
+ghost use Rattle.std.specs.Prelude.{◌≡◌, ◌<◌, ℕ, Option};
+ghost use Rattle.dd_lattice.specs.declared.position.Cell.{Cell};
+
+use dd_lattice;
+
+/// What gives symbols to cells, to some or to all.
+pub trait Reads {
+    /// The symbol of each cell of Z^3, or none.
+    ghost symbols: { Self → Cell → Option ℕ };
+
+    fn symbol(&self, cell: &dd_lattice::Cell) -> Option<u32>
+        ensures { result ≡ symbols self.now cell.now };
+}
+
+/// What gives a symbol to every cell whose node is below its number of nodes.
+pub trait Configuration {
+    ghost nodes: { Self → ℕ };
+
+    /// The symbol of each cell of Z^3, past the range of positions too. Only cells with such a node count.
+    ghost symbol_of: { Self → Cell → ℕ };
+
+    fn symbol_at(&self, cell: &dd_lattice::Cell) -> u32
+        requires { cell.now.node < nodes self.now }
+        ensures { result ≡ symbol_of self.now cell.now };
+}

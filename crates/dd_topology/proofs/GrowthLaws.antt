@@ -1,0 +1,224 @@
+-- Why the rounds of growth make a ball: only cells beside the frontier can be new.
+use Rattle.std.proofs.Common.{◌≡◌, ◌+◌, ◌<◌, ◌≤◌, ◌↔◌, ℕ, zero, suc, List, [], ◌∷◌, ◌++◌, Bool, true, false, ◌&&◌, refl, ap, sym, ◌∙◌, subst, inl, inr, ◌⊎◌, arith, take, get_or, length, Contains, true≢false, add-one, zero-add, suc-add, ◌-◌}
+use Rattle.std.specs.Prelude.{Result, Ok, Err, IfOk}
+use Rattle.std.specs.List.{All, flat_map, list_all}
+use Rattle.std.specs.List.Sorted.{IsStrictlySortedBy}
+use Rattle.std.specs.BTreeSet.{insert_key}
+use Rattle.std.proofs.lemmas.List.{take_more}
+use Rattle.std.proofs.lemmas.List.Elements.{All-contains, All-cons, All-nil, Contains-append_left, Contains-append_right, Contains-append_cases, Contains-get_or}
+use Rattle.std.proofs.lemmas.List.Folds.{list_all-append}
+use Rattle.std.proofs.lemmas.Bool.{and_parts, and_left, and_right, false_from_ne_true}
+use Rattle.dd_lattice.specs.Place.{IsInRange, is_in_range}
+use Rattle.dd_lattice.specs.Order.{cell_cmp}
+use Rattle.dd_lattice.specs.InOrder.{in_order}
+use Rattle.dd_lattice.specs.declared.position.Cell.{Cell}
+use Rattle.dd_lattice.proofs.InOrderLaws.{cells_equal}
+use Rattle.dd_lattice.proofs.RangeLaws.{in_range_from_test, test_from_in_range}
+use Rattle.dd_lattice.proofs.ListLaws.{All-from_contains}
+use Rattle.dd_lattice.specs.declared.fault.LatticeFault.{LatticeFault}
+use Rattle.dd_lattice.specs.declared.fault.LatticeFault.TheVariants.{Range, Memory}
+use Rattle.dd_topology.specs.declared.edge.Edge.{Edge}
+use Rattle.dd_topology.specs.Balls.{CellSet, IsAdjacent, IsInBall, IsListOf, IsFaultOf, LeavesRange, ends, starts, beside, neighbours, ball, are_in_range}
+use Rattle.dd_topology.specs.Growth.{AddsCells}
+use Rattle.dd_topology.proofs.ListLaws.{here, nowhere, first_or_later, in_flat_map, into_flat_map}
+use Rattle.dd_topology.proofs.OrderLaws.{kept-insert_key, has-insert_key, from-insert_key, is-in_order}
+use Rattle.dd_topology.proofs.BallLaws.{from_neighbours, into_neighbours, in_ball, ball_holds}
+
+-- the cells that are found are those of the ball of radius r, and all that are beside one of them are found, but for those beside the frontier
+pub record IsGrown (es : List Edge) (c : Cell) (r : ℕ) (found frontier : List Cell) : Type 0 where
+  pub members : (d : Cell) → Contains found d ↔ IsInBall es c r d
+  pub in_range : All (λ d. IsInRange d.position) found
+  pub frontier_found : (d : Cell) → Contains frontier d → Contains found d
+  pub closed : (b d : Cell) → Contains found b → IsAdjacent es b d → Contains frontier b ⊎ Contains found d
+
+only_one : (c d : Cell) → Contains (c ∷ []) d → d ≡ c
+only_one c d h = elim (first_or_later c [] d h) [ inl same ↦ sym same | inr none ↦ absurd (nowhere d none) ]
+
+-- the centre alone
+pub grown_start : (es : List Edge) (c : Cell) → IsInRange c.position → IsGrown es c 0 (c ∷ []) (c ∷ [])
+grown_start es c near = record {
+  members = λ d. (only_one c d, λ h. subst (Contains (c ∷ [])) (sym h) (here c []));
+  in_range = All-cons (λ d. IsInRange d.position) c [] near (All-nil (λ d. IsInRange d.position));
+  frontier_found = λ d h. h;
+  closed = λ b d h adjacent. inl h;
+}
+
+list_all_member : {X : Type 0} (p : X → Bool) (xs : List X) (x : X) → list_all p xs ≡ true → Contains xs x → p x ≡ true
+list_all_member p [] x h there = absurd (nowhere x there)
+list_all_member p (y ∷ ys) x h there =
+    let parts = and_parts _ _ h in elim (first_or_later y ys x there) [ inl same ↦ ap p (sym same) ∙ parts.0 | inr after ↦ list_all_member p ys x parts.1 after ]
+
+some_fails : {X : Type 0} (p : X → Bool) (xs : List X) → list_all p xs ≡ false → (x : X) × Contains xs x × (p x ≡ false)
+some_fails p [] h = absurd (cc)
+some_fails {X} p (x ∷ xs) h = by_head (p x) refl h (some_fails p xs)
+  where
+    by_head : (b : Bool) → p x ≡ b → (b && list_all p xs) ≡ false → (list_all p xs ≡ false → (y : X) × Contains xs y × (p y ≡ false)) → (y : X) × Contains (x ∷ xs) y × (p y ≡ false)
+    by_head true e is rest = let other = rest is in (other.0, Contains-append_right (x ∷ []) xs other.0 other.1, other.2)
+    by_head false e is rest = (x, here x xs, e)
+
+-- one round
+pub grown_more : (es : List Edge) (c : Cell) (r : ℕ) (found frontier now fresh : List Cell) → IsGrown es c r found frontier → are_in_range (flat_map (neighbours es) frontier) ≡ true →
+    AddsCells found (flat_map (neighbours es) frontier) now fresh → IsGrown es c (r + 1) now fresh
+grown_more es c r found frontier now fresh grown near adds = rw add-one (record {
+  members = λ d. (into d, from d);
+  in_range = All-from_contains (λ d. IsInRange d.position) now (λ d there.
+    elim ((adds.members d).0 there) [
+      | inl before ↦ All-contains (λ e. IsInRange e.position) found d grown.in_range before
+      | inr beside ↦ in_range_from_test d.position (list_all_member (λ e. is_in_range e.position) (flat_map (neighbours es) frontier) d near beside)
+    ]);
+  frontier_found = adds.fresh_found;
+  closed = λ b d there adjacent.
+    elim (adds.rest_known b there) [
+      | inl before ↦ inr (reached b d before adjacent)
+      | inr new ↦ inl new
+    ];
+})
+  where
+    reached : (b d : Cell) → Contains found b → IsAdjacent es b d → Contains now d
+    reached b d there adjacent =
+        elim (grown.closed b d there adjacent) [
+          | inl front ↦ (adds.members d).1 (inr (into_flat_map (neighbours es) frontier b d front (into_neighbours es b d adjacent)))
+          | inr known ↦ (adds.members d).1 (inl known)
+        ]
+    into : (d : Cell) → Contains now d → IsInBall es c (suc r) d
+    into d there =
+        elim ((adds.members d).0 there) [
+          | inl before ↦ inl ((grown.members d).0 before)
+          | inr beside ↦ (let at = in_flat_map (neighbours es) frontier d beside in
+            inr (at.0, (grown.members at.0).0 (grown.frontier_found at.0 at.1), from_neighbours es at.0 d at.2))
+        ]
+    from : (d : Cell) → IsInBall es c (suc r) d → Contains now d
+    from d (inl near) = (adds.members d).1 (inl ((grown.members d).1 near))
+    from d (inr far) = reached far.0 d ((grown.members far.0).1 far.1) far.2
+
+-- a ball grows with its radius
+wider : (es : List Edge) (c : Cell) (r k : ℕ) (d : Cell) → IsInBall es c r d → IsInBall es c (k + r) d
+wider es c r zero d h = rw zero-add h
+wider es c r (suc k) d h = rw suc-add (inl (wider es c r k d h))
+
+wider_to : (es : List Edge) (c : Cell) (k r : ℕ) (d : Cell) → k ≤ r → IsInBall es c k d → IsInBall es c r d
+wider_to es c k r d within h = let total : (r - k) + k ≡ r = omega arith in subst (λ n. IsInBall es c n d) total (wider es c k (r - k) d h)
+
+centre : (es : List Edge) (c : Cell) (r : ℕ) → IsInBall es c r c
+centre es c zero = refl
+centre es c (suc r) = inl (centre es c r)
+
+-- with nothing at its frontier the ball stays as it is
+stays : (es : List Edge) (c : Cell) (r : ℕ) (found : List Cell) → IsGrown es c r found [] → (k : ℕ) (d : Cell) → IsInBall es c k d → Contains found d
+stays es c r found grown zero d h = subst (Contains found) (sym h) ((grown.members c).1 (centre es c r))
+stays es c r found grown (suc k) d (inl near) = stays es c r found grown k d near
+stays es c r found grown (suc k) d (inr far) =
+    elim (grown.closed far.0 d (stays es c r found grown k far.0 far.1) far.2) [ inl none ↦ absurd (nowhere far.0 none) | inr known ↦ known ]
+
+pub stopped : (es : List Edge) (c : Cell) (k r : ℕ) (found : List Cell) → k ≤ r → IsGrown es c k found [] → IsGrown es c r found []
+stopped es c k r found within grown = record {
+  members = λ d. (λ there. wider_to es c k r d within ((grown.members d).0 there), stays es c k found grown r d);
+  in_range = grown.in_range;
+  frontier_found = grown.frontier_found;
+  closed = grown.closed;
+}
+
+-- a neighbour of the frontier that is out of range is a cell of the ball
+pub left_range : (es : List Edge) (c : Cell) (k r : ℕ) (found frontier : List Cell) → k < r → IsGrown es c k found frontier → are_in_range (flat_map (neighbours es) frontier) ≡ false →
+    LeavesRange (IsInBall es c r)
+left_range es c k r found frontier within grown far =
+    let d = some_fails (λ e. is_in_range e.position) (flat_map (neighbours es) frontier) far in
+    let b = in_flat_map (neighbours es) frontier d.0 d.1 in
+    let next : IsInBall es c (suc k) d.0 = inr (b.0, (grown.members b.0).0 (grown.frontier_found b.0 b.1), from_neighbours es b.0 d.0 b.2) in
+    record {
+      at = d.0;
+      member = wider_to es c (suc k) r d.0 (omega arith) next;
+      outside = λ near. true≢false (sym (test_from_in_range d.0.position near) ∙ d.2);
+    }
+
+ok_with_both : {V E : Type 0} (result : Result V E) (P Q S : V → Type 0) → ((v : V) → P v → Q v → S v) → IfOk result P → IfOk result Q → IfOk result S
+ok_with_both (Ok v) P Q S both p q = both v p q
+ok_with_both (Err e) P Q S both p q = tt
+
+finished : (es : List Edge) (c : Cell) (r : ℕ) (found frontier cells : List Cell) → IsGrown es c r found frontier → cells ≡ found → IsStrictlySortedBy cell_cmp cells → IsListOf (IsInBall es c r) cells
+finished es c r found frontier cells grown same ascending = record {
+  ascending = ascending;
+  in_range = subst (λ l. All (λ d. IsInRange d.position) l) (sym same) grown.in_range;
+  members = λ d. subst (λ l. Contains l d ↔ IsInBall es c r d) (sym same) (grown.members d);
+}
+
+-- a list that was made of the cells that are found, if it was made
+module _ {V E : Type 0} (result : Result V E) (items : V → List Cell) (es : List Edge) (c : Cell) (r : ℕ) (found frontier : List Cell) where
+  pub cells_at_last : IsGrown es c r found frontier → IfOk result (λ v. items v ≡ found) → IfOk result (λ v. IsStrictlySortedBy cell_cmp (items v)) → IfOk result (λ v. IsListOf (IsInBall es c r) (items v))
+  cells_at_last grown same ascending = ok_with_both result _ _ _ (λ v. finished es c r found frontier (items v) grown) same ascending
+
+  pub list_at_last : IsGrown es c r found frontier → IfOk result (λ v. items v ≡ found) → IfOk result (λ v. IsStrictlySortedBy cell_cmp (items v)) → IfOk result (λ v. items v ≡ in_order (ball es c r))
+  list_at_last grown same ascending =
+      ok_with_both result _ _ _ (λ v same' ascending'.
+        let list = finished es c r found frontier (items v) grown same' ascending' in
+        is-in_order (items v) (ball es c r) ascending' (λ d there. ball_holds es c r d ((list.members d).0 there)) (λ d there. (list.members d).1 (in_ball es c r d there)))
+      same ascending
+
+pub fault_from : (S : CellSet) (fault : LatticeFault) → (fault ≡ Range → LeavesRange S) → IsFaultOf S fault
+fault_from S Range h = h refl
+fault_from S Memory h = tt
+
+-- one more cell that was not found before
+pub adds_new : (before cells now fresh : List Cell) (i : ℕ) (x : Cell) → i < length cells → x ≡ get_or cells i x → AddsCells before (take i cells) now fresh →
+    AddsCells before (take (i + 1) cells) (insert_key cell_cmp now x) (fresh ++ x ∷ [])
+adds_new before cells now fresh i x below is adds = rw (take_more cells i x below, ← is) (record {
+  members = λ d. (into d, from d);
+  fresh_found = λ d there.
+    elim (Contains-append_cases fresh (x ∷ []) d there) [
+      | inl old ↦ kept-insert_key cell_cmp cells_equal now x d (adds.fresh_found d old)
+      | inr new ↦ subst (Contains (insert_key cell_cmp now x)) (sym (only_one x d new)) (has-insert_key cell_cmp cells_equal now x)
+    ];
+  rest_known = λ d there.
+    elim (from-insert_key cell_cmp cells_equal now x d there) [
+      | inl old ↦ elim (adds.rest_known d old) [ inl known ↦ inl known | inr new ↦ inr (Contains-append_left fresh (x ∷ []) d new) ]
+      | inr same ↦ inr (Contains-append_right fresh (x ∷ []) d (subst (Contains (x ∷ [])) same (here x [])))
+    ];
+})
+  where
+    into : (d : Cell) → Contains (insert_key cell_cmp now x) d → Contains before d ⊎ Contains (take i cells ++ x ∷ []) d
+    into d there =
+        elim (from-insert_key cell_cmp cells_equal now x d there) [
+          | inl old ↦ elim ((adds.members d).0 old) [ inl known ↦ inl known | inr new ↦ inr (Contains-append_left (take i cells) (x ∷ []) d new) ]
+          | inr same ↦ inr (Contains-append_right (take i cells) (x ∷ []) d (subst (Contains (x ∷ [])) same (here x [])))
+        ]
+    from : (d : Cell) → Contains before d ⊎ Contains (take i cells ++ x ∷ []) d → Contains (insert_key cell_cmp now x) d
+    from d (inl known) = kept-insert_key cell_cmp cells_equal now x d ((adds.members d).1 (inl known))
+    from d (inr new) =
+        elim (Contains-append_cases (take i cells) (x ∷ []) d new) [
+          | inl old ↦ kept-insert_key cell_cmp cells_equal now x d ((adds.members d).1 (inr old))
+          | inr last ↦ subst (Contains (insert_key cell_cmp now x)) (sym (only_one x d last)) (has-insert_key cell_cmp cells_equal now x)
+        ]
+
+-- one more cell that was found before
+pub adds_known : (before cells now fresh : List Cell) (i : ℕ) (x : Cell) → i < length cells → x ≡ get_or cells i x → AddsCells before (take i cells) now fresh →
+    Contains now x → AddsCells before (take (i + 1) cells) now fresh
+adds_known before cells now fresh i x below is adds there = rw (take_more cells i x below, ← is) (record {
+  members = λ d. (
+    λ found. elim ((adds.members d).0 found) [ inl known ↦ inl known | inr new ↦ inr (Contains-append_left (take i cells) (x ∷ []) d new) ],
+    from d,
+  );
+  fresh_found = adds.fresh_found;
+  rest_known = adds.rest_known;
+})
+  where
+    from : (d : Cell) → Contains before d ⊎ Contains (take i cells ++ x ∷ []) d → Contains now d
+    from d (inl known) = (adds.members d).1 (inl known)
+    from d (inr new) =
+        elim (Contains-append_cases (take i cells) (x ∷ []) d new) [
+          | inl old ↦ (adds.members d).1 (inr old)
+          | inr last ↦ subst (Contains now) (sym (only_one x d last)) there
+        ]
+
+-- an end of an edge that leaves the range
+pub end_out_of_range : (c : Cell) (e : Edge) → are_in_range (ends c e) ≡ false → are_in_range (beside c e) ≡ false
+end_out_of_range c e far = list_all-append (λ d. is_in_range d.position) (ends c e) (starts c e) ∙ and_left _ _ far
+
+pub start_out_of_range : (c : Cell) (e : Edge) → are_in_range (starts c e) ≡ false → are_in_range (beside c e) ≡ false
+start_out_of_range c e far = list_all-append (λ d. is_in_range d.position) (ends c e) (starts c e) ∙ and_right _ _ far
+
+-- a part that leaves the range
+pub part_out_of_range : {X : Type 0} (f : X → List Cell) (xs : List X) (i : ℕ) (x : X) → i < length xs → x ≡ get_or xs i x → are_in_range (f x) ≡ false → are_in_range (flat_map f xs) ≡ false
+part_out_of_range f xs i x below is far =
+    let d = some_fails (λ c. is_in_range c.position) (f x) far in
+    let there : Contains (flat_map f xs) d.0 = into_flat_map f xs x d.0 (i, below, sym is) d.1 in
+    false_from_ne_true (are_in_range (flat_map f xs)) (λ near. true≢false (sym (list_all_member (λ c. is_in_range c.position) (flat_map f xs) d.0 near there) ∙ d.2))

@@ -1,0 +1,8 @@
+pub mod ListLaws
+pub mod NamingLaws
+pub mod MoveLaws
+pub mod OrderLaws
+pub mod CoordinateLaws
+pub mod BallLaws
+pub mod GrowthLaws
+pub mod TableLaws

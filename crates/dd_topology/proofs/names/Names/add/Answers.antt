@@ -1,0 +1,23 @@
+use Rattle.std.proofs.Common.{◌≡◌, ◌∙◌, Bool, true, false, map, ap, sym, refl}
+use Rattle.std.specs.Prelude.{string_bytes, bytes_eq}
+use Rattle.std.specs.List.{list_any}
+use Rattle.dd_topology.proofs.NamingLaws.{known, unknown, map-insert_key}
+use Rattle.dd_topology.proofs.names.Names.add.Goals as goal
+
+pub returns-then-contains-clause-refusal : goal.returns-then-contains-clause-refusal
+returns-then-contains-clause-refusal c =
+    (refl, rw (← c.self.view_is) (known string_bytes (string_bytes c.args.name) c.self.inside.known.keys (rw c.as_str.ensures.value at (sym c.contains.ensures ∙ c.if-contains.true))))
+
+pub returns-in-Err-clause-refusal : goal.returns-in-Err-clause-refusal
+returns-in-Err-clause-refusal c = (c.in-Err.ensures.value_returned, rw (← c.self.view_is) (unknown string_bytes (string_bytes c.args.name) c.self.inside.known.keys c.in-Err.ensures.absent))
+
+pub returns-clause-added : goal.returns-clause-added
+returns-clause-added c =
+    rw (← c.self.view_is)
+    (ap (map string_bytes) c.in_default.ensures.keys
+    ∙ map-insert_key string_bytes c.args.name c.self.inside.known.keys (rw c.as_str.ensures.value at (sym c.contains.ensures ∙ c.if-contains.false)))
+
+pub returns-clause-first : goal.returns-clause-first
+returns-clause-first c =
+    rw (← c.self.view_is)
+    (unknown string_bytes (string_bytes c.args.name) c.self.inside.known.keys (rw c.as_str.ensures.value at (sym c.contains.ensures ∙ c.if-contains.false)))

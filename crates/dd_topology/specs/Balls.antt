@@ -1,0 +1,72 @@
+-- Adjacent cells and balls, as sets and as lists.
+use Rattle.std.specs.Prelude.{◌≡◌, ◌⊎◌, ◌↔◌, ℕ, zero, suc, ◌==◌, ◌&&◌, ◌||◌, Bool, cond, List, [], ◌∷◌, ◌++◌, All, Contains}
+use Rattle.std.specs.List.{flat_map, list_any, list_all}
+use Rattle.std.specs.List.Sorted.{IsStrictlySortedBy}
+use Rattle.std.specs.Ordering.{int_eq}
+use Rattle.dd_lattice.specs.Place.{Place, moved, IsInRange, is_in_range}
+use Rattle.dd_lattice.specs.Order.{cell_cmp}
+use Rattle.dd_lattice.specs.declared.position.Cell.{Cell}
+use Rattle.dd_lattice.specs.declared.fault.LatticeFault.{LatticeFault}
+use Rattle.dd_lattice.specs.declared.fault.LatticeFault.TheVariants.{Range, Memory}
+use Rattle.dd_topology.specs.declared.edge.Edge.{Edge}
+use Rattle.dd_topology.specs.Topology.{Leads, end_of, start_of}
+
+-- a set of cells
+abbrev pub CellSet : Type 1
+CellSet = Cell → Type 0
+
+-- some edge leads from the one to the other, in either direction
+abbrev pub IsAdjacent : List Edge → Cell → CellSet
+IsAdjacent es a b = (e : Edge) × Contains es e × (Leads e a b ⊎ Leads e b a)
+
+-- the cells at a distance of at most r
+abbrev pub IsInBall : List Edge → Cell → ℕ → CellSet
+IsInBall es c zero d = d ≡ c
+IsInBall es c (suc r) d = IsInBall es c r d ⊎ ((b : Cell) × IsInBall es c r b × IsAdjacent es b d)
+
+-- the list has exactly the cells of the set, each once, in cell order, and all are in range
+pub record IsListOf (S : CellSet) (cells : List Cell) : Type 0 where
+  pub ascending : IsStrictlySortedBy cell_cmp cells
+  pub in_range : All (λ c. IsInRange c.position) cells
+  pub members : (c : Cell) → Contains cells c ↔ S c
+
+-- some cell of the set is out of range
+pub record LeavesRange (S : CellSet) : Type 0 where
+  pub at : Cell
+  pub member : S at
+  pub outside : ¬ IsInRange at.position
+
+-- the fault with which the list of a set is not made: `Range` only where the set leaves the range
+abbrev pub IsFaultOf : CellSet → LatticeFault → Type 0
+IsFaultOf S Range = LeavesRange S
+IsFaultOf S Memory = Unit {0}
+
+-- adjacency as a test
+abbrev pub same_place : Place → Place → Bool
+same_place p q = int_eq p.x q.x && int_eq p.y q.y && int_eq p.z q.z
+
+abbrev pub leads : Edge → Cell → Cell → Bool
+leads e a b = e.from == a.node && e.to == b.node && same_place (moved a.position e.offset) b.position
+
+abbrev pub is_adjacent : List Edge → Cell → Cell → Bool
+is_adjacent es a b = list_any (λ e. leads e a b || leads e b a) es
+
+-- balls as lists, with repeats: the cells to which an edge leads from c, or from which one leads to c
+abbrev pub ends : Cell → Edge → List Cell
+ends c e = cond (e.from == c.node) (end_of c e ∷ []) []
+
+abbrev pub starts : Cell → Edge → List Cell
+starts c e = cond (e.to == c.node) (start_of c e ∷ []) []
+
+abbrev pub beside : Cell → Edge → List Cell
+beside c e = ends c e ++ starts c e
+
+abbrev pub neighbours : List Edge → Cell → List Cell
+neighbours es c = flat_map (beside c) es
+
+abbrev pub ball : List Edge → Cell → ℕ → List Cell
+ball es c zero = c ∷ []
+ball es c (suc r) = ball es c r ++ flat_map (neighbours es) (ball es c r)
+
+abbrev pub are_in_range : List Cell → Bool
+are_in_range cells = list_all (λ c. is_in_range c.position) cells

@@ -1,0 +1,18 @@
+-- Names as lists of bytes, and lists of them in the order in which they were first seen.
+use Rattle.std.specs.Prelude.{◌≡◌, ◌≢◌, ℕ, List, Option, String, Contains, AllPairs, position, bytes_eq, string_bytes}
+use Rattle.std.specs.declared.alloc.Global.{Global}
+use Rattle.dd_topology.specs.declared.names.NameFault.{NameFault}
+use Rattle.dd_topology.specs.declared.names.NameFault.TheVariants.{Twice, Memory}
+
+-- no name stands twice
+abbrev pub AreDistinct : List (List ℕ) → Type 0
+AreDistinct names = AllPairs (λ a b. a ≢ b) names
+
+-- the number of a name: how many names stand before it
+abbrev pub number_of : List (List ℕ) → List ℕ → Option ℕ
+number_of names name = position (bytes_eq name) names
+
+-- what a refused name is answered: the name itself, and that it is there; or that it is not, and memory ran out
+abbrev pub IsRefusal : List (List ℕ) → String Global → NameFault → Type 0
+IsRefusal names name (Twice back) = (back ≡ name) × Contains names (string_bytes name)
+IsRefusal names name (Memory back) = (back ≡ name) × ¬ Contains names (string_bytes name)

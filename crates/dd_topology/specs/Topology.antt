@@ -1,0 +1,54 @@
+-- Moves along the edges of a topology, over all of Z^3.
+use Rattle.std.specs.Prelude.{◌≡◌, ℕ, ◌==◌, ◌&&◌, Bool, false, max, nat_le, unsigned_abs, ℤ, pos, ◌-ℤ◌, List, Option, Some, None, if◌then◌else◌, Contains, AllPairs}
+use Rattle.std.specs.List.{find, list_all}
+use Rattle.std.specs.Option.{option_map}
+use Rattle.dd_lattice.specs.Place.{Place, place, moved, is_in_range}
+use Rattle.dd_lattice.specs.Cells.{cell}
+use Rattle.dd_lattice.specs.declared.position.Cell.{Cell}
+use Rattle.dd_topology.specs.declared.edge.Edge.{Edge}
+
+-- the way back
+abbrev pub reversed : Place → Place
+reversed p = place (pos 0 -ℤ p.x) (pos 0 -ℤ p.y) (pos 0 -ℤ p.z)
+
+-- where an edge leads from a cell of its first node, and where it comes from to a cell of its second
+abbrev pub end_of : Cell → Edge → Cell
+end_of c e = cell (moved c.position e.offset) e.to
+
+abbrev pub start_of : Cell → Edge → Cell
+start_of c e = cell (moved c.position (reversed e.offset)) e.from
+
+abbrev pub leaves : Cell → ℕ → Edge → Bool
+leaves c label e = e.label == label && e.from == c.node
+
+-- the cell at the end of the one edge with this label from c's node; none where the move is missing
+abbrev pub step : List Edge → Cell → ℕ → Option Cell
+step es c label = option_map (end_of c) (find (leaves c label) es)
+
+-- a cell that code can hold
+abbrev pub in_range : Cell → Option Cell
+in_range c = if is_in_range c.position then Some c else None
+
+-- the edge leads from a to b
+abbrev pub Leads : Edge → Cell → Cell → Type 0
+Leads e a b = (a.node ≡ e.from) × (b ≡ end_of a e)
+
+-- an edge with this label leads from a to b
+abbrev pub IsMove : List Edge → Cell → ℕ → Cell → Type 0
+IsMove es a label b = (e : Edge) × Contains es e × (e.label ≡ label) × Leads e a b
+
+-- two edges with one label from one node
+abbrev pub starts_alike : Edge → Edge → Bool
+starts_alike e f = e.label == f.label && e.from == f.from
+
+-- no label has two edges from one node
+abbrev pub AreSingle : List Edge → Type 0
+AreSingle es = AllPairs (λ e f. starts_alike e f ≡ false) es
+
+-- the greatest absolute value of a coordinate
+abbrev pub extent : Place → ℕ
+extent p = max (unsigned_abs p.x) (max (unsigned_abs p.y) (unsigned_abs p.z))
+
+-- no edge leads further than n along an axis
+abbrev pub are_short : ℕ → List Edge → Bool
+are_short n es = list_all (λ e. nat_le (extent e.offset) n) es

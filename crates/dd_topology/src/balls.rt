@@ -1,0 +1,162 @@
+//! Adjacent cells, and balls: a ball grows in rounds, each from the cells that the round before found first.
+ghost use Rattle.std.specs.Prelude.{◌≡◌, ◌↔◌, ◌++◌, true, false, IsTrue, IfOk, IfErr, OnOk};
+ghost use Rattle.std.specs.List.{flat_map};
+ghost use Rattle.std.specs.List.Sorted.{IsStrictlySortedBy};
+ghost use Rattle.dd_lattice.specs.Place.{moved};
+ghost use Rattle.dd_lattice.specs.Order.{cell_cmp};
+ghost use Rattle.dd_lattice.specs.InOrder.{in_order};
+ghost use Rattle.dd_lattice.specs.declared.fault.LatticeFault.TheVariants.{Range};
+ghost use Rattle.dd_topology.specs.Balls.{same_place, leads, is_adjacent, IsAdjacent, IsInBall, IsListOf, IsFaultOf, ends, starts, neighbours, ball, are_in_range};
+ghost use Rattle.dd_topology.specs.Growth.{AddsCells};
+
+use crate::edge::{Edge, end_of, start_of};
+use crate::topology::Topology;
+use dd_lattice::{Cell, LatticeFault, Position};
+use std::alloc::{AllocError, Global};
+use std::collections::BTreeSet;
+
+impl Topology {
+    /// Whether some edge leads from the one cell to the other, in either direction.
+    pub fn adjacent(&self, a: &Cell, b: &Cell) -> bool
+        ensures test { result ≡ is_adjacent self.now.edges a.now b.now }
+        ensures exact { IsTrue result ↔ IsAdjacent self.now.edges a.now b.now }
+    {
+        some_edge_joins(self.edges(), a, b)
+    }
+
+    /// The cells at a distance of at most `radius` from the centre, in cell order, each once. `Range` where a coordinate of
+    /// one of them would pass 2^20.
+    pub fn ball(&self, alloc: Global, centre: &Cell, radius: u32) -> Result<Vec<Cell>, LatticeFault>
+        ensures cells { IfOk result (λ v. IsListOf (IsInBall self.now.edges centre.now radius) v.items) }
+        ensures list { IfOk result (λ v. v.items ≡ in_order (ball self.now.edges centre.now radius)) }
+        ensures fault { IfErr result (IsFaultOf (IsInBall self.now.edges centre.now radius)) }
+    {
+        let position = &centre.position;
+        let _ = &position.x;
+        let mut found = BTreeSet::new(alloc);
+        found.insert(*centre)?;
+        let mut frontier = Vec::new(alloc);
+        frontier.push(*centre)?;
+        for _ in 0..radius {
+            if frontier.is_empty() {
+                return listed(alloc, &found);
+            }
+            let reached = neighbours_of(alloc, self.edges(), &frontier)?;
+            frontier = fresh_cells(alloc, &mut found, &reached)?;
+        }
+        listed(alloc, &found)
+    }
+}
+
+/// Whether some edge leads from the one cell to the other, in either direction.
+fn some_edge_joins(edges: &[Edge], a: &Cell, b: &Cell) -> bool
+    ensures { result ≡ is_adjacent edges.now a.now b.now }
+{
+    edges
+        .iter()
+        .any(|edge| leads(edge, a, b) || leads(edge, b, a))
+}
+
+/// Whether the sum of two positions is a third.
+fn is_sum(p: &Position, by: &Position, sum: &Position) -> bool
+    ensures { result ≡ same_place (moved p.now by.now) sum.now }
+{
+    if p.x + by.x != sum.x {
+        return false;
+    }
+    if p.y + by.y != sum.y {
+        return false;
+    }
+    p.z + by.z == sum.z
+}
+
+/// Whether the edge leads from the one cell to the other.
+fn leads(edge: &Edge, from: &Cell, to: &Cell) -> bool
+    ensures { result ≡ leads edge.now from.now to.now }
+{
+    edge.from == from.node && edge.to == to.node && is_sum(&from.position, &edge.offset, &to.position)
+}
+
+/// Adds the cell to which the edge leads from a cell of its first node.
+fn push_end(reached: &mut Vec<Cell>, edge: &Edge, cell: &Cell) -> Result<(), LatticeFault>
+    ensures cells { OnOk result (reached.new.items ≡ reached.old.items ++ ends cell.now edge.now) }
+    ensures in_range { OnOk result (are_in_range (ends cell.now edge.now) ≡ true) }
+    ensures fault { IfErr result (λ fault. fault ≡ Range → are_in_range (ends cell.now edge.now) ≡ false) }
+{
+    if edge.from != cell.node {
+        return Ok(());
+    }
+    let Some(end) = end_of(cell, edge) else {
+        return Err(LatticeFault::Range);
+    };
+    reached.push(end)?;
+    Ok(())
+}
+
+/// Adds the cell from which the edge leads to a cell of its second node.
+fn push_start(reached: &mut Vec<Cell>, edge: &Edge, cell: &Cell) -> Result<(), LatticeFault>
+    ensures cells { OnOk result (reached.new.items ≡ reached.old.items ++ starts cell.now edge.now) }
+    ensures in_range { OnOk result (are_in_range (starts cell.now edge.now) ≡ true) }
+    ensures fault { IfErr result (λ fault. fault ≡ Range → are_in_range (starts cell.now edge.now) ≡ false) }
+{
+    if edge.to != cell.node {
+        return Ok(());
+    }
+    let Some(start) = start_of(cell, edge) else {
+        return Err(LatticeFault::Range);
+    };
+    reached.push(start)?;
+    Ok(())
+}
+
+/// Adds the cells adjacent to a cell.
+fn push_neighbours(reached: &mut Vec<Cell>, edges: &[Edge], cell: &Cell) -> Result<(), LatticeFault>
+    ensures cells { OnOk result (reached.new.items ≡ reached.old.items ++ neighbours edges.now cell.now) }
+    ensures in_range { OnOk result (are_in_range (neighbours edges.now cell.now) ≡ true) }
+    ensures fault { IfErr result (λ fault. fault ≡ Range → are_in_range (neighbours edges.now cell.now) ≡ false) }
+{
+    for edge in edges {
+        push_end(reached, edge, cell)?;
+        push_start(reached, edge, cell)?;
+    }
+    Ok(())
+}
+
+/// The cells adjacent to each of the cells in turn.
+fn neighbours_of(alloc: Global, edges: &[Edge], cells: &[Cell]) -> Result<Vec<Cell>, LatticeFault>
+    ensures cells { IfOk result (λ v. v.items ≡ flat_map (neighbours edges.now) cells.now) }
+    ensures in_range { OnOk result (are_in_range (flat_map (neighbours edges.now) cells.now) ≡ true) }
+    ensures fault { IfErr result (λ fault. fault ≡ Range → are_in_range (flat_map (neighbours edges.now) cells.now) ≡ false) }
+{
+    let mut reached = Vec::new(alloc);
+    for cell in cells {
+        push_neighbours(&mut reached, edges, cell)?;
+    }
+    Ok(reached)
+}
+
+/// Adds the cells to those that are found, and gives those that were not among them.
+fn fresh_cells(alloc: Global, found: &mut BTreeSet<Cell>, cells: &[Cell]) -> Result<Vec<Cell>, LatticeFault>
+    ensures cells { IfOk result (λ fresh. AddsCells found.old.keys cells.now found.new.keys fresh.items) }
+    ensures fault { IfErr result (λ fault. fault ≡ Range → ⊥) }
+{
+    let mut fresh = Vec::new(alloc);
+    for cell in cells {
+        if found.insert(*cell)? {
+            fresh.push(*cell)?;
+        }
+    }
+    Ok(fresh)
+}
+
+/// The cells of the set, in cell order.
+fn listed(alloc: Global, found: &BTreeSet<Cell>) -> Result<Vec<Cell>, LatticeFault>
+    ensures cells { IfOk result (λ v. v.items ≡ found.now.keys) }
+    ensures ascending { IfOk result (λ v. IsStrictlySortedBy cell_cmp v.items) }
+    ensures fault { IfErr result (λ fault. fault ≡ Range → ⊥) }
+{
+    match found.iter().copied().collect(alloc) {
+        Ok(cells) => Ok(cells),
+        Err(_) => Err(LatticeFault::Memory),
+    }
+}

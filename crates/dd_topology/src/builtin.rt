@@ -1,0 +1,221 @@
+//! The built-in topologies.
+ghost use Rattle.std.specs.Prelude.{◌≡◌, ◌-◌, ◌^◌, ◌<◌, ◌≤◌, true, false, length, map, bytes_eq, IfOk};
+ghost use Rattle.std.specs.List.{list_all};
+ghost use Rattle.dd_lattice.specs.Place.{place, IsInRange};
+ghost use Rattle.dd_topology.specs.Topology.{starts_alike};
+ghost use Rattle.dd_topology.specs.Grid.{grid, is_edge};
+ghost use Rattle.dd_topology.specs.Builtin.{has_repeat, link, forth, back, line, square, king, triangle, hex, cube, grid_of};
+
+use crate::edge::Edge;
+use crate::fault::TopologyFault;
+use crate::names::{NameFault, Names};
+use crate::topology::Topology;
+use dd_lattice::Position;
+use std::alloc::{AllocError, Global};
+
+/// The built-in topologies.
+#[derive(Debug, Clone, Copy, PartialEq, Eq)]
+pub enum Kind {
+    /// The line of dimension 1.
+    Line,
+    /// The square grid: each cell has four neighbours.
+    Square,
+    /// The square grid with the diagonals, as a king moves: eight neighbours.
+    King,
+    /// The triangular grid: six neighbours.
+    Triangle,
+    /// The hexagonal grid: two nodes for each position, three neighbours.
+    Hex,
+    /// The cubic grid of dimension 3: six neighbours.
+    Cube,
+}
+
+impl Topology {
+    /// The built-in topology of a kind. Its labels are numbered in this order:
+    ///
+    /// - line: `rt` (1), `lt` (-1)
+    /// - square: `up` (0,1), `dn` (0,-1), `rt` (1,0), `lt` (-1,0)
+    /// - king: those of square, `ne` (1,1), `nw` (-1,1), `se` (1,-1), `sw` (-1,-1)
+    /// - triangle: those of square, `ne` (1,1), `sw` (-1,-1)
+    /// - hex: `a`, `b` and `c`, each from node 0 to node 1 at (0,0), (-1,0) and (0,-1), and back
+    /// - cube: `rt` (1,0,0), `lt` (-1,0,0), `up` (0,1,0), `dn` (0,-1,0), `fw` (0,0,1), `bk` (0,0,-1)
+    pub fn builtin(alloc: Global, kind: Kind) -> Result<Topology, AllocError>
+        ensures { IfOk result (λ topology. topology ≡ grid_of kind) }
+    {
+        match kind {
+            Kind::Line => line(alloc),
+            Kind::Square => square(alloc),
+            Kind::King => king(alloc),
+            Kind::Triangle => triangle(alloc),
+            Kind::Hex => hex(alloc),
+            Kind::Cube => cube(alloc),
+        }
+    }
+}
+
+fn line(alloc: Global) -> Result<Topology, AllocError>
+    ensures { IfOk result (λ topology. topology ≡ line) }
+{
+    let edges = [link(0, by(1, 0, 0)), link(1, by(-1, 0, 0))];
+    made(alloc, 1, 1, &["rt", "lt"], &edges)
+}
+
+fn square(alloc: Global) -> Result<Topology, AllocError>
+    ensures { IfOk result (λ topology. topology ≡ square) }
+{
+    let edges = [
+        link(0, by(0, 1, 0)),
+        link(1, by(0, -1, 0)),
+        link(2, by(1, 0, 0)),
+        link(3, by(-1, 0, 0)),
+    ];
+    made(alloc, 2, 1, &["up", "dn", "rt", "lt"], &edges)
+}
+
+fn king(alloc: Global) -> Result<Topology, AllocError>
+    ensures { IfOk result (λ topology. topology ≡ king) }
+{
+    let edges = [
+        link(0, by(0, 1, 0)),
+        link(1, by(0, -1, 0)),
+        link(2, by(1, 0, 0)),
+        link(3, by(-1, 0, 0)),
+        link(4, by(1, 1, 0)),
+        link(5, by(-1, 1, 0)),
+        link(6, by(1, -1, 0)),
+        link(7, by(-1, -1, 0)),
+    ];
+    made(
+        alloc,
+        2,
+        1,
+        &["up", "dn", "rt", "lt", "ne", "nw", "se", "sw"],
+        &edges,
+    )
+}
+
+fn triangle(alloc: Global) -> Result<Topology, AllocError>
+    ensures { IfOk result (λ topology. topology ≡ triangle) }
+{
+    let edges = [
+        link(0, by(0, 1, 0)),
+        link(1, by(0, -1, 0)),
+        link(2, by(1, 0, 0)),
+        link(3, by(-1, 0, 0)),
+        link(4, by(1, 1, 0)),
+        link(5, by(-1, -1, 0)),
+    ];
+    made(alloc, 2, 1, &["up", "dn", "rt", "lt", "ne", "sw"], &edges)
+}
+
+fn hex(alloc: Global) -> Result<Topology, AllocError>
+    ensures { IfOk result (λ topology. topology ≡ hex) }
+{
+    let edges = [
+        forth(0, by(0, 0, 0)),
+        back(0, by(0, 0, 0)),
+        forth(1, by(-1, 0, 0)),
+        back(1, by(1, 0, 0)),
+        forth(2, by(0, -1, 0)),
+        back(2, by(0, 1, 0)),
+    ];
+    made(alloc, 2, 2, &["a", "b", "c"], &edges)
+}
+
+fn cube(alloc: Global) -> Result<Topology, AllocError>
+    ensures { IfOk result (λ topology. topology ≡ cube) }
+{
+    let edges = [
+        link(0, by(1, 0, 0)),
+        link(1, by(-1, 0, 0)),
+        link(2, by(0, 1, 0)),
+        link(3, by(0, -1, 0)),
+        link(4, by(0, 0, 1)),
+        link(5, by(0, 0, -1)),
+    ];
+    made(alloc, 3, 1, &["rt", "lt", "up", "dn", "fw", "bk"], &edges)
+}
+
+fn by(x: i32, y: i32, z: i32) -> Position
+    requires { IsInRange (place x y z) }
+    ensures { result ≡ place x y z }
+{
+    Position { x, y, z }
+}
+
+/// An edge between cells of one node.
+fn link(label: u32, offset: Position) -> Edge
+    ensures { result ≡ link label offset }
+{
+    Edge {
+        label,
+        from: 0,
+        offset,
+        to: 0,
+    }
+}
+
+/// An edge from a first node to a second.
+fn forth(label: u32, offset: Position) -> Edge
+    ensures { result ≡ forth label offset }
+{
+    Edge {
+        label,
+        from: 0,
+        offset,
+        to: 1,
+    }
+}
+
+/// An edge from a second node to a first.
+fn back(label: u32, offset: Position) -> Edge
+    ensures { result ≡ back label offset }
+{
+    Edge {
+        label,
+        from: 1,
+        offset,
+        to: 0,
+    }
+}
+
+/// The topology of a table, in which no label stands twice and no two edges have one label and one first node.
+fn made(
+    alloc: Global,
+    dim: u32,
+    nodes: u32,
+    labels: &[&str],
+    edges: &[Edge],
+) -> Result<Topology, AllocError>
+    requires dimension { (1 ≤ dim) × (dim ≤ 3) }
+    requires nodes { 1 ≤ nodes }
+    requires few { length labels.now < 2 ^ 32 - 1 }
+    requires distinct { has_repeat bytes_eq (map (λ label. label.now) labels.now) ≡ false }
+    requires edges { list_all (is_edge dim nodes (length labels.now)) edges.now ≡ true }
+    requires single { has_repeat starts_alike edges.now ≡ false }
+    ensures { IfOk result (λ topology. topology ≡ grid dim nodes (map (λ label. label.now) labels.now) edges.now) }
+{
+    let labels = names_of(alloc, labels)?;
+    let edges = Vec::from_slice(alloc, edges)?;
+    match Topology::from_edges(alloc, dim, nodes, labels, edges) {
+        Ok(topology) => Ok(topology),
+        Err(TopologyFault::Twice(_)) => unreachable!(),
+        Err(TopologyFault::Memory) => Err(AllocError),
+    }
+}
+
+fn names_of(alloc: Global, texts: &[&str]) -> Result<Names, AllocError>
+    requires few { length texts.now < 2 ^ 32 - 1 }
+    requires distinct { has_repeat bytes_eq (map (λ text. text.now) texts.now) ≡ false }
+    ensures { IfOk result (λ names. names ≡ map (λ text. text.now) texts.now) }
+{
+    let mut names = Names::new(alloc);
+    for text in texts {
+        match names.add(String::from_str(alloc, text)?) {
+            Ok(_) => {}
+            Err(NameFault::Twice(_)) => unreachable!(),
+            Err(NameFault::Memory(_)) => return Err(AllocError),
+        }
+    }
+    Ok(names)
+}

@@ -1,0 +1,11 @@
+//! Why a topology is not made.
+use thiserror::Error;
+
+#[derive(Clone, Copy, Debug, PartialEq, Eq, Error)]
+pub enum TopologyFault {
+    /// The label of the first edge whose label and first node an earlier edge has.
+    #[error("the label {0} has two edges from one node")]
+    Twice(u32),
+    #[error("out of memory")]
+    Memory,
+}

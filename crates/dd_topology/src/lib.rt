@@ -1,0 +1,15 @@
+//! Topologies: the named labels and the edges of a lattice, moves along them, adjacency and balls.
+#![tactic(auto)]
+
+mod balls;
+mod builtin;
+mod edge;
+mod fault;
+mod names;
+mod topology;
+
+pub use builtin::Kind;
+pub use edge::Edge;
+pub use fault::TopologyFault;
+pub use names::{NameFault, Names};
+pub use topology::Topology;

@@ -1,0 +1,91 @@
+//! A list of distinct names, with a number for each: the place at which it was first seen.
+ghost use Rattle.std.specs.Prelude.{◌≡◌, ◌-◌, ◌^◌, ◌<◌, [], ◌∷◌, ◌++◌, length, slice_get, option_copied, string_bytes, Contains, IfOk, IfErr, OnOk, OnErr, MatchOption};
+
+use indexmap::IndexSet;
+use std::alloc::Global;
+use std::marker::Model;
+use thiserror::Error;
+
+/// Distinct names in the order in which they were first seen. They have the numbers 0, 1, 2 and so on.
+#[derive(Drop)]
+pub struct Names {
+    known: IndexSet<String>,
+}
+
+impl Model for Names {
+    ghost use Rattle.std.specs.Prelude.{ℕ, List, ◌^◌, ◌<◌, length, map, string_bytes};
+
+    ghost Value = { List (List ℕ) };
+
+    ghost view = { λ names. map string_bytes names.known.keys };
+
+    ghost invariant = { λ names. length names.known.keys < 2 ^ 32 };
+}
+
+/// Why a name was not added. The name comes back.
+#[derive(Debug, Drop, Error)]
+pub enum NameFault {
+    #[error("the name is there already")]
+    Twice(String),
+    #[error("out of memory")]
+    Memory(String),
+}
+
+impl Names {
+    ghost use Rattle.dd_topology.specs.Naming.{AreDistinct, number_of, IsRefusal};
+
+    /// No names. It takes no memory.
+    pub fn new(alloc: Global) -> Names
+        ensures { result ≡ [] }
+    {
+        Names {
+            known: IndexSet::new(alloc),
+        }
+    }
+
+    /// Adds a name, and gives its number. A refused name comes back, and the names stay as they were.
+    pub fn add(&mut self, name: String) -> Result<u32, NameFault>
+        requires { length self.old < 2 ^ 32 - 1 }
+        ensures number { IfOk result (λ number. number ≡ length self.old) }
+        ensures added { OnOk result (self.new ≡ self.old ++ string_bytes name ∷ []) }
+        ensures first { OnOk result (¬ Contains self.old (string_bytes name)) }
+        ensures refusal { IfErr result (IsRefusal self.old name) }
+        ensures unchanged { OnErr result (self.new ≡ self.old) }
+    {
+        if self.known.contains(name.as_str()) {
+            return Err(NameFault::Twice(name));
+        }
+        let number = self.known.len() as u32;
+        if let Err(refused) = self.known.insert(name) {
+            return Err(NameFault::Memory(refused.value));
+        }
+        Ok(number)
+    }
+
+    /// The number of a name, or `None` where the name is not there.
+    pub fn find(&self, name: &str) -> Option<u32>
+        ensures number { result ≡ number_of self.now name.now }
+        ensures exact { MatchOption result (¬ Contains self.now name.now) (λ number. slice_get self.now number ≡ Some name.now) }
+    {
+        match self.known.get_index_of(name) {
+            Some(number) => Some(number as u32),
+            None => None,
+        }
+    }
+
+    /// The name with a number, or `None` where the number is at least the count.
+    pub fn name(&self, number: u32) -> Option<&str>
+        ensures { option_copied result ≡ slice_get self.now number }
+    {
+        let name = self.known.get_index(number as usize)?;
+        Some(name.as_str())
+    }
+
+    /// How many names there are.
+    pub fn count(&self) -> u32
+        ensures number { result ≡ length self.now }
+        ensures distinct { AreDistinct self.now }
+    {
+        self.known.len() as u32
+    }
+}
