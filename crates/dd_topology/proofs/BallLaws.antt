@@ -19,18 +19,18 @@ use Rattle.dd_topology.proofs.ListLaws.{here, nowhere, first_or_later, some_pass
 same_place-exact : (p q : Place) → Decides (same_place p q) (p ≡ q)
 same_place-exact p q = (
   λ h. let zs = and_parts _ _ h in
-    let xy = and_parts _ _ zs.0 in
-    place_is p.x p.y p.z q ((Decides-int_eq _ _).0 xy.0) ((Decides-int_eq _ _).0 xy.1) ((Decides-int_eq _ _).0 zs.1),
+      let xy = and_parts _ _ zs.0 in
+      place_is p.x p.y p.z q ((Decides-int_eq _ _).0 xy.0) ((Decides-int_eq _ _).0 xy.1) ((Decides-int_eq _ _).0 zs.1),
   λ h. and_from _ _ (and_from _ _ ((Decides-int_eq _ _).1 (ap (λ r. r.x) h)) ((Decides-int_eq _ _).1 (ap (λ r. r.y) h))) ((Decides-int_eq _ _).1 (ap (λ r. r.z) h)),
 )
 
 leads-exact : (e : Edge) (a b : Cell) → Decides (leads e a b) (Leads e a b)
 leads-exact e a b = (
   λ h. let places = and_parts _ _ h in
-    let nodes = and_parts _ _ places.0 in (
-      sym (eqb-true e.from a.node nodes.0),
-      sym (ap (λ p. cell p e.to) ((same_place-exact _ _).0 places.1) ∙ ap (cell b.position) (eqb-true e.to b.node nodes.1)),
-    ),
+      let nodes = and_parts _ _ places.0 in (
+        sym (eqb-true e.from a.node nodes.0),
+        sym (ap (λ p. cell p e.to) ((same_place-exact _ _).0 places.1) ∙ ap (cell b.position) (eqb-true e.to b.node nodes.1)),
+      ),
   λ h. and_from _ _ (and_from _ _ (eq-eqb e.from a.node (sym h.0)) (eq-eqb e.to b.node (sym (ap (λ c. c.node) h.1)))) ((same_place-exact _ _).1 (sym (ap (λ c. c.position) h.1))),
 )
 
@@ -50,14 +50,14 @@ or_right false y h = h
 pub is_adjacent-exact : (es : List Edge) (a b : Cell) → Decides (is_adjacent es a b) (IsAdjacent es a b)
 is_adjacent-exact es a b = (
   λ h. let at = some_passes (λ e. leads e a b || leads e b a) es h in
-    let e = at.0 in (
-      e,
-      at.1,
-      elim (or_cases (leads e a b) (leads e b a) at.2) [ inl to ↦ inl ((leads-exact e a b).0 to) | inr from ↦ inr ((leads-exact e b a).0 from) ],
-    ),
+      let e = at.0 in (
+        e,
+        at.1,
+        elim (or_cases (leads e a b) (leads e b a) at.2) [ inl to ↦ inl ((leads-exact e a b).0 to) | inr from ↦ inr ((leads-exact e b a).0 from) ],
+      ),
   λ h. let e = h.0 in
-    passes_any (λ f. leads f a b || leads f b a) es e h.1
-    (elim h.2 [ inl to ↦ or_left _ _ ((leads-exact e a b).1 to) | inr from ↦ or_right _ _ ((leads-exact e b a).1 from) ]),
+      passes_any (λ f. leads f a b || leads f b a) es e h.1
+      (elim h.2 [ inl to ↦ or_left _ _ ((leads-exact e a b).1 to) | inr from ↦ or_right _ _ ((leads-exact e b a).1 from) ]),
 )
 
 in_cond : (b : Bool) (x y : Cell) → Contains (cond b (x ∷ []) []) y → (b ≡ true) × (y ≡ x)

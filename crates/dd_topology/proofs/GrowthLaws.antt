@@ -62,16 +62,16 @@ pub grown_more : (es : List Edge) (c : Cell) (r : ℕ) (found frontier now fresh
 grown_more es c r found frontier now fresh grown near adds = rw add-one (record {
   members = λ d. (into d, from d);
   in_range = All-from_contains (λ d. IsInRange d.position) now (λ d there.
-    elim ((adds.members d).0 there) [
-      | inl before ↦ All-contains (λ e. IsInRange e.position) found d grown.in_range before
-      | inr beside ↦ in_range_from_test d.position (list_all_member (λ e. is_in_range e.position) (flat_map (neighbours es) frontier) d near beside)
-    ]);
+      elim ((adds.members d).0 there) [
+        | inl before ↦ All-contains (λ e. IsInRange e.position) found d grown.in_range before
+        | inr beside ↦ in_range_from_test d.position (list_all_member (λ e. is_in_range e.position) (flat_map (neighbours es) frontier) d near beside)
+      ]);
   frontier_found = adds.fresh_found;
   closed = λ b d there adjacent.
-    elim (adds.rest_known b there) [
-      | inl before ↦ inr (reached b d before adjacent)
-      | inr new ↦ inl new
-    ];
+      elim (adds.rest_known b there) [
+        | inl before ↦ inr (reached b d before adjacent)
+        | inr new ↦ inl new
+      ];
 })
   where
     reached : (b d : Cell) → Contains found b → IsAdjacent es b d → Contains now d
@@ -80,13 +80,15 @@ grown_more es c r found frontier now fresh grown near adds = rw add-one (record 
           | inl front ↦ (adds.members d).1 (inr (into_flat_map (neighbours es) frontier b d front (into_neighbours es b d adjacent)))
           | inr known ↦ (adds.members d).1 (inl known)
         ]
+
     into : (d : Cell) → Contains now d → IsInBall es c (suc r) d
     into d there =
         elim ((adds.members d).0 there) [
           | inl before ↦ inl ((grown.members d).0 before)
           | inr beside ↦ (let at = in_flat_map (neighbours es) frontier d beside in
-            inr (at.0, (grown.members at.0).0 (grown.frontier_found at.0 at.1), from_neighbours es at.0 d at.2))
+              inr (at.0, (grown.members at.0).0 (grown.frontier_found at.0 at.1), from_neighbours es at.0 d at.2))
         ]
+
     from : (d : Cell) → IsInBall es c (suc r) d → Contains now d
     from d (inl near) = (adds.members d).1 (inl ((grown.members d).1 near))
     from d (inr far) = reached far.0 d ((grown.members far.0).1 far.1) far.2
@@ -150,8 +152,8 @@ module _ {V E : Type 0} (result : Result V E) (items : V → List Cell) (es : Li
   pub list_at_last : IsGrown es c r found frontier → IfOk result (λ v. items v ≡ found) → IfOk result (λ v. IsStrictlySortedBy cell_cmp (items v)) → IfOk result (λ v. items v ≡ in_order (ball es c r))
   list_at_last grown same ascending =
       ok_with_both result _ _ _ (λ v same' ascending'.
-        let list = finished es c r found frontier (items v) grown same' ascending' in
-        is-in_order (items v) (ball es c r) ascending' (λ d there. ball_holds es c r d ((list.members d).0 there)) (λ d there. (list.members d).1 (in_ball es c r d there)))
+      let list = finished es c r found frontier (items v) grown same' ascending' in
+      is-in_order (items v) (ball es c r) ascending' (λ d there. ball_holds es c r d ((list.members d).0 there)) (λ d there. (list.members d).1 (in_ball es c r d there)))
       same ascending
 
 pub fault_from : (S : CellSet) (fault : LatticeFault) → (fault ≡ Range → LeavesRange S) → IsFaultOf S fault
@@ -164,15 +166,15 @@ pub adds_new : (before cells now fresh : List Cell) (i : ℕ) (x : Cell) → i <
 adds_new before cells now fresh i x below is adds = rw (take_more cells i x below, ← is) (record {
   members = λ d. (into d, from d);
   fresh_found = λ d there.
-    elim (Contains-append_cases fresh (x ∷ []) d there) [
-      | inl old ↦ kept-insert_key cell_cmp cells_equal now x d (adds.fresh_found d old)
-      | inr new ↦ subst (Contains (insert_key cell_cmp now x)) (sym (only_one x d new)) (has-insert_key cell_cmp cells_equal now x)
-    ];
+      elim (Contains-append_cases fresh (x ∷ []) d there) [
+        | inl old ↦ kept-insert_key cell_cmp cells_equal now x d (adds.fresh_found d old)
+        | inr new ↦ subst (Contains (insert_key cell_cmp now x)) (sym (only_one x d new)) (has-insert_key cell_cmp cells_equal now x)
+      ];
   rest_known = λ d there.
-    elim (from-insert_key cell_cmp cells_equal now x d there) [
-      | inl old ↦ elim (adds.rest_known d old) [ inl known ↦ inl known | inr new ↦ inr (Contains-append_left fresh (x ∷ []) d new) ]
-      | inr same ↦ inr (Contains-append_right fresh (x ∷ []) d (subst (Contains (x ∷ [])) same (here x [])))
-    ];
+      elim (from-insert_key cell_cmp cells_equal now x d there) [
+        | inl old ↦ elim (adds.rest_known d old) [ inl known ↦ inl known | inr new ↦ inr (Contains-append_left fresh (x ∷ []) d new) ]
+        | inr same ↦ inr (Contains-append_right fresh (x ∷ []) d (subst (Contains (x ∷ [])) same (here x [])))
+      ];
 })
   where
     into : (d : Cell) → Contains (insert_key cell_cmp now x) d → Contains before d ⊎ Contains (take i cells ++ x ∷ []) d
@@ -181,6 +183,7 @@ adds_new before cells now fresh i x below is adds = rw (take_more cells i x belo
           | inl old ↦ elim ((adds.members d).0 old) [ inl known ↦ inl known | inr new ↦ inr (Contains-append_left (take i cells) (x ∷ []) d new) ]
           | inr same ↦ inr (Contains-append_right (take i cells) (x ∷ []) d (subst (Contains (x ∷ [])) same (here x [])))
         ]
+
     from : (d : Cell) → Contains before d ⊎ Contains (take i cells ++ x ∷ []) d → Contains (insert_key cell_cmp now x) d
     from d (inl known) = kept-insert_key cell_cmp cells_equal now x d ((adds.members d).1 (inl known))
     from d (inr new) =

@@ -6,3 +6,4 @@ pub mod CoordinateLaws
 pub mod BallLaws
 pub mod GrowthLaws
 pub mod TableLaws
+pub mod GridLaws

@@ -30,8 +30,8 @@ pub single_more : (es : List Edge) (i : ℕ) (e : Edge) → i < length es → e 
 single_more es i e within is before new =
     rw (take_more es i e within, ← is)
     (all_pairs_push (λ x y. starts_alike x y ≡ false) (take i es) e before (λ k d below.
-      starts_alike-flip e (get_or (take i es) k d)
-      (by_cases (starts_alike e (get_or (take i es) k d)) (λ same. absurd (true≢false (sym (list_any_at (starts_alike e) (take i es) k d below same) ∙ new))) (λ apart. apart))))
+    starts_alike-flip e (get_or (take i es) k d)
+    (by_cases (starts_alike e (get_or (take i es) k d)) (λ same. absurd (true≢false (sym (list_any_at (starts_alike e) (take i es) k d below same) ∙ new))) (λ apart. apart))))
 
 alike : (e f : Edge) → e.label ≡ f.label → e.from ≡ f.from → starts_alike e f ≡ true
 alike e f label from = and_from _ _ (eq-eqb e.label f.label label) (eq-eqb e.from f.from from)

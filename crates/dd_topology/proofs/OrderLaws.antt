@@ -89,8 +89,8 @@ module _ {K : Type 0} (R : K → K → Ordering) (o : IsTotalOrder R) where
       let up_x : IsStrictlySortedBy R (x ∷ ys) = subst (λ z. IsStrictlySortedBy R (z ∷ ys)) same up' in
       ap (λ l. x ∷ l)
       (same_sorted xs ys (tail_sorted R x xs up) (tail_sorted R y ys up')
-        (λ d there. only_later x xs ys up d there (subst (λ z. Contains (z ∷ ys) d) same (to d (later x xs d there))))
-        (λ d there. only_later x ys xs up_x d there (from d (later y ys d there))))
+      (λ d there. only_later x xs ys up d there (subst (λ z. Contains (z ∷ ys) d) same (to d (later x xs d there))))
+      (λ d there. only_later x ys xs up_x d there (from d (later y ys d there))))
       ∙ ap (λ z. z ∷ ys) (sym same)
 
 module _ {K : Type 0} (R : K → K → Ordering) (exact : (x y : K) → R x y ≡ Equal → x ≡ y) where

@@ -57,26 +57,26 @@ abbrev pub hex : Grid
 hex =
     grid 2 2 (codes "a" ∷ codes "b" ∷ codes "c" ∷ [])
     (
-      forth 0 (flat (pos 0) (pos 0))
-      ∷ back 0 (flat (pos 0) (pos 0))
-      ∷ forth 1 (flat minus (pos 0))
-      ∷ back 1 (flat one (pos 0))
-      ∷ forth 2 (flat (pos 0) minus)
-      ∷ back 2 (flat (pos 0) one)
-      ∷ []
+    forth 0 (flat (pos 0) (pos 0))
+    ∷ back 0 (flat (pos 0) (pos 0))
+    ∷ forth 1 (flat minus (pos 0))
+    ∷ back 1 (flat one (pos 0))
+    ∷ forth 2 (flat (pos 0) minus)
+    ∷ back 2 (flat (pos 0) one)
+    ∷ []
     )
 
 abbrev pub cube : Grid
 cube =
     grid 3 1 (codes "rt" ∷ codes "lt" ∷ codes "up" ∷ codes "dn" ∷ codes "fw" ∷ codes "bk" ∷ [])
     (
-      link 0 (flat one (pos 0))
-      ∷ link 1 (flat minus (pos 0))
-      ∷ link 2 (flat (pos 0) one)
-      ∷ link 3 (flat (pos 0) minus)
-      ∷ link 4 (place (pos 0) (pos 0) one)
-      ∷ link 5 (place (pos 0) (pos 0) minus)
-      ∷ []
+    link 0 (flat one (pos 0))
+    ∷ link 1 (flat minus (pos 0))
+    ∷ link 2 (flat (pos 0) one)
+    ∷ link 3 (flat (pos 0) minus)
+    ∷ link 4 (place (pos 0) (pos 0) one)
+    ∷ link 5 (place (pos 0) (pos 0) minus)
+    ∷ []
     )
 
 abbrev pub grid_of : Kind → Grid

@@ -74,7 +74,9 @@ fn is_sum(p: &Position, by: &Position, sum: &Position) -> bool
 fn leads(edge: &Edge, from: &Cell, to: &Cell) -> bool
     ensures { result ≡ leads edge.now from.now to.now }
 {
-    edge.from == from.node && edge.to == to.node && is_sum(&from.position, &edge.offset, &to.position)
+    edge.from == from.node
+        && edge.to == to.node
+        && is_sum(&from.position, &edge.offset, &to.position)
 }
 
 /// Adds the cell to which the edge leads from a cell of its first node.
@@ -136,7 +138,11 @@ fn neighbours_of(alloc: Global, edges: &[Edge], cells: &[Cell]) -> Result<Vec<Ce
 }
 
 /// Adds the cells to those that are found, and gives those that were not among them.
-fn fresh_cells(alloc: Global, found: &mut BTreeSet<Cell>, cells: &[Cell]) -> Result<Vec<Cell>, LatticeFault>
+fn fresh_cells(
+    alloc: Global,
+    found: &mut BTreeSet<Cell>,
+    cells: &[Cell],
+) -> Result<Vec<Cell>, LatticeFault>
     ensures cells { IfOk result (λ fresh. AddsCells found.old.keys cells.now found.new.keys fresh.items) }
     ensures fault { IfErr result (λ fault. fault ≡ Range → ⊥) }
 {

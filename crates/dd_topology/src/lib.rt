@@ -13,3 +13,6 @@ pub use edge::Edge;
 pub use fault::TopologyFault;
 pub use names::{NameFault, Names};
 pub use topology::Topology;
+
+#[cfg(test)]
+mod tests;

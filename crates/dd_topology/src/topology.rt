@@ -1,11 +1,11 @@
 //! Topologies, and moves along their edges.
-ghost use Rattle.std.specs.Prelude.{◌≡◌, ◌≤◌, true, length, map, IfOk, IfErr, OnOk, MatchOption, IsTrue, ◌↔◌};
+ghost use Rattle.std.specs.Prelude.{◌≡◌, ◌≤◌, true, length, map, slice_get, Contains, IfOk, IfErr, OnOk, MatchOption};
 ghost use Rattle.std.specs.Option.{option_and_then, option_copied};
 ghost use Rattle.std.specs.List.{find, list_all};
 ghost use Rattle.dd_lattice.specs.Place.{IsInRange};
 ghost use Rattle.dd_lattice.specs.declared.position.Cell.{Cell as AnyCell};
 ghost use Rattle.dd_topology.specs.Naming.{number_of};
-ghost use Rattle.dd_topology.specs.Topology.{leaves, step, in_range, IsMove, AreSingle};
+ghost use Rattle.dd_topology.specs.Topology.{leaves, step, in_range, IsMove, AreSingle, are_short};
 ghost use Rattle.dd_topology.specs.Grid.{grid, is_edge, IsGrid, IsTopologyFault};
 ghost use Rattle.dd_topology.specs.Kept.{move_of};
 
@@ -115,7 +115,8 @@ impl Topology {
 
     /// The number of the label with a name, or `None` where no label has it.
     pub fn label(&self, name: &str) -> Option<u32>
-        ensures { result ≡ number_of self.now.labels name.now }
+        ensures number { result ≡ number_of self.now.labels name.now }
+        ensures exact { MatchOption result (¬ Contains self.now.labels name.now) (λ number. slice_get self.now.labels number ≡ Some name.now) }
     {
         self.labels.find(name)
     }
@@ -124,6 +125,7 @@ impl Topology {
     pub fn edges(&self) -> &[Edge]
         ensures edges { result.now ≡ self.now.edges }
         ensures grid { IsGrid self.now }
+        ensures short { are_short 4 result.now ≡ true }
     {
         self.edges.as_slice()
     }

@@ -14,7 +14,7 @@ loop-cell-preserved c =
     elim c.if-branch.branch [
       | then-branch+in_ok-push w ↦ rw (w.fresh-is, w.in_ok-push.ensures.items, keys) (adds_new _ _ _ _ _ x below c.cell-item.is c.loop-cell.invariant)
       | else-branch w ↦ (
-        let same = rw w.if-branch.false at c.in_ok-insert.ensures.unchanged in
-        rw (w.fresh-is, same) (adds_known _ _ _ _ _ x below c.cell-item.is c.loop-cell.invariant (subst (λ l. Contains l x) (sym keys ∙ same) (has-insert_key cell_cmp cells_equal _ x)))
-      )
+          let same = rw w.if-branch.false at c.in_ok-insert.ensures.unchanged in
+          rw (w.fresh-is, same) (adds_known _ _ _ _ _ x below c.cell-item.is c.loop-cell.invariant (subst (λ l. Contains l x) (sym keys ∙ same) (has-insert_key cell_cmp cells_equal _ x)))
+          )
     ]

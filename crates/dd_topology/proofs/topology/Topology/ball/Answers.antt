@@ -17,8 +17,8 @@ returns-in_err-reached-clause-fault c =
     let within : c.loop.counter < c.args.radius = omega arith in
     rw (p.1, p.2)
     (fault_from (IsInBall c.args.self.now.edges c.args.centre.now c.args.radius) c.in_err-reached.field-0.0 (λ range.
-      left_range c.args.self.now.edges c.args.centre.now c.loop.counter c.args.radius c.loop.found.keys c.loop.frontier.items within c.loop.invariant
-      (rw (c.edges.ensures.edges, c.deref.ensures.value) at (c.in_err-reached.ensures.fault range))))
+    left_range c.args.self.now.edges c.args.centre.now c.loop.counter c.args.radius c.loop.found.keys c.loop.frontier.items within c.loop.invariant
+    (rw (c.edges.ensures.edges, c.deref.ensures.value) at (c.in_err-reached.ensures.fault range))))
 
 pub loop-preserved : goal.loop-preserved
 loop-preserved c =
