@@ -1,4 +1,5 @@
 pub mod Residues
 pub mod TileSizes
+pub mod BoxLaws
 pub mod FillingLaws
 pub mod TileLaws

@@ -5,7 +5,7 @@ use Rattle.std.specs.List.Sorted.{IsStrictlySortedBy}
 use Rattle.std.specs.Ordering.{is_eq}
 use Rattle.dd_lattice.specs.declared.position.Cell.{Cell}
 use Rattle.dd_lattice.specs.Order.{cell_cmp}
-use Rattle.dd_pattern.specs.Look.{Look}
+use Rattle.dd_pattern.specs.Reading.{Look}
 
 pub record Filled : Type 0 where
   pub cells : List Cell

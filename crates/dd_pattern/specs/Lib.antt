@@ -1,4 +1,4 @@
-pub mod Look
+pub mod Reading
 pub mod Filling
 pub mod Tile
 pub mod Weight

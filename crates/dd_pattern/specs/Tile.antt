@@ -5,30 +5,43 @@ use Rattle.dd_lattice.specs.Place.{Place, place}
 use Rattle.dd_lattice.specs.Cells.{cell}
 use Rattle.dd_lattice.specs.Boxes.{Bounds, IsWithin, index_in}
 use Rattle.dd_lattice.specs.declared.position.Cell.{Cell}
-use Rattle.dd_pattern.specs.Look.{Look}
+use Rattle.dd_pattern.specs.Reading.{Look}
 
+-- the periods along the axes, and the symbols of the fundamental box in cell order
 pub record Tile : Type 0 where
-  pub dim : ℕ
+  pub dimension : ℕ
   pub along_x : ℕ
   pub along_y : ℕ
   pub along_z : ℕ
   pub nodes : ℕ
   pub symbols : List ℕ
 
--- from the dimension, the list of the three periods, the number of nodes and the symbols
 abbrev pub tile : ℕ → List ℕ → ℕ → List ℕ → Tile
-tile d ps n ss = record { dim = d; along_x = slice_index ps 0; along_y = slice_index ps 1; along_z = slice_index ps 2; nodes = n; symbols = ss }
+tile dim periods nodes symbols =
+    record {
+      dimension = dim;
+      along_x = slice_index periods 0;
+      along_y = slice_index periods 1;
+      along_z = slice_index periods 2;
+      nodes = nodes;
+      symbols = symbols;
+    }
+
+-- the number of positions of the fundamental box
+abbrev pub volume : Tile → ℕ
+volume t = t.along_z * t.along_y * t.along_x
 
 pub record IsTile (t : Tile) : Type 0 where
-  pub dim_least : 1 ≤ t.dim
-  pub dim_most : t.dim ≤ 3
+  pub some_dimension : 0 < t.dimension
+  pub most_dimension : t.dimension ≤ 3
   pub x_some : 0 < t.along_x
   pub y_some : 0 < t.along_y
   pub z_some : 0 < t.along_z
-  pub y_unused : t.dim < 2 → t.along_y ≡ 1
-  pub z_unused : t.dim < 3 → t.along_z ≡ 1
+  -- the periods of unused axes
+  pub y_unused : t.dimension < 2 → t.along_y ≡ 1
+  pub z_unused : t.dimension < 3 → t.along_z ≡ 1
   pub nodes_some : 0 < t.nodes
-  pub full : length t.symbols ≡ t.along_z * t.along_y * t.along_x * t.nodes
+  pub full : length t.symbols ≡ volume t * t.nodes
   pub small : length t.symbols ≤ 65536
 
 -- a whole number modulo n
@@ -39,15 +52,21 @@ residue x n = unsigned_abs (int_rem_euclid x (pos n))
 abbrev pub base_of : Tile → Place → Place
 base_of t p = place (pos (residue p.x t.along_x)) (pos (residue p.y t.along_y)) (pos (residue p.z t.along_z))
 
--- the place of a cell's symbol in the tile's list, which is in cell order
+-- the number of the cell's symbol in the list: x runs fastest among the positions, and the node inside each
 abbrev pub tile_index : Tile → Cell → ℕ
 tile_index t c =
     ((residue c.position.z t.along_z * t.along_y + residue c.position.y t.along_y) * t.along_x + residue c.position.x t.along_x) * t.nodes + c.node
 
+-- each cell has the symbol of the same node at its position modulo the periods
 abbrev pub tile_look : Tile → Look
 tile_look t c = cond (nat_lt c.node t.nodes) (slice_get t.symbols (tile_index t c)) None
 
--- the cell of the fundamental box with so many cells before it, in cell order
+-- the cells of the fundamental box
+pub record IsInBox (t : Tile) (c : Cell) : Type 0 where
+  pub base : base_of t c.position ≡ c.position
+  pub node : c.node < t.nodes
+
+-- the cell of the fundamental box whose symbol stands at i in the list
 abbrev pub cell_in : Tile → ℕ → Cell
 cell_in t i =
     let p = i / t.nodes in

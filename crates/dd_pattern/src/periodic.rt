@@ -1,6 +1,7 @@
 //! Periodic configurations: the symbols of one fundamental box, for every cell of Z^d.
-ghost use Rattle.std.specs.Prelude.{◌≡◌, ◌<◌, ◌≤◌, ◌+◌, ◌*◌, ◌^◌, [], ◌∷◌, length, slice_index, ℤ, IsTrue, ◌↔◌, MatchResult};
-ghost use Rattle.dd_pattern.specs.Tile.{IsTile, IsReadModulo, tile, residue, tile_index, tile_look};
+ghost use Rattle.std.specs.Prelude.{◌≡◌, ◌<◌, ◌≤◌, ◌+◌, ◌*◌, ◌^◌, [], ◌∷◌, length, slice_index, ℤ, pos, IsTrue, ◌↔◌, MatchResult};
+ghost use Rattle.dd_lattice.specs.Place.{place};
+ghost use Rattle.dd_pattern.specs.Tile.{IsTile, IsInBox, IsReadModulo, tile, residue, tile_index, tile_look, cell_in};
 ghost use Rattle.dd_pattern.specs.Weight.{AreWeights, total_weight};
 
 use crate::reading::{Configuration, Reads};
@@ -28,9 +29,9 @@ impl Model for Periodic {
 
     ghost Value = { Tile };
 
-    ghost view = { λ p. record { dim = p.dim; along_x = p.along_x; along_y = p.along_y; along_z = p.along_z; nodes = p.nodes; symbols = p.symbols.items } };
+    ghost view = { λ p. record { dimension = p.dim; along_x = p.along_x; along_y = p.along_y; along_z = p.along_z; nodes = p.nodes; symbols = p.symbols.items } };
 
-    ghost invariant = { λ p. IsTile (record { dim = p.dim; along_x = p.along_x; along_y = p.along_y; along_z = p.along_z; nodes = p.nodes; symbols = p.symbols.items }) };
+    ghost invariant = { λ p. IsTile (record { dimension = p.dim; along_x = p.along_x; along_y = p.along_y; along_z = p.along_z; nodes = p.nodes; symbols = p.symbols.items }) };
 }
 
 /// A whole number modulo `n`.
@@ -97,7 +98,7 @@ impl Periodic {
         symbols: Vec<u32>,
     ) -> Result<Periodic, Vec<u32>>
         ensures { let t = tile dim periods nodes symbols.items in
-            MatchResult result (λ p. p ≡ t) (λ back. (back ≡ symbols) × (IsTile t → ⊥)) }
+            MatchResult result (λ p. (p ≡ t) × IsTile t) (λ back. (back ≡ symbols) × (IsTile t → ⊥)) }
     {
         let [along_x, along_y, along_z] = periods;
         if dim == 0 || dim > 3 || nodes == 0 || symbols.len() > MOST_SYMBOLS {
@@ -121,8 +122,7 @@ impl Periodic {
 
     /// The dimension, 1 to 3.
     pub fn dim(&self) -> u32
-        ensures value { result ≡ self.now.dim }
-        ensures tile { IsTile self.now }
+        ensures { result ≡ self.now.dimension }
     {
         self.dim
     }
@@ -145,6 +145,7 @@ impl Periodic {
     #[tactic(auto, using(crate::proofs::TileLaws::read_modulo))]
     pub fn symbols(&self) -> &[u32]
         ensures value { result.now ≡ self.now.symbols }
+        ensures kept { IsTile self.now }
         ensures reads { IsReadModulo self.now }
     {
         self.symbols.as_slice()
@@ -181,6 +182,42 @@ impl Periodic {
         let row = entry(base.z as usize, self.along_y, base.y);
         let place = entry(row, self.along_x, base.x);
         entry(place, self.nodes, cell.node)
+    }
+}
+
+impl Periodic {
+    /// The cell of the fundamental box whose symbol stands at this place in the list.
+    #[tactic(auto, using(crate::proofs::BoxLaws::in_box, crate::proofs::BoxLaws::index_of_cell))]
+    pub fn cell_at(&self, number: usize) -> Cell
+        requires { number < length self.now.symbols }
+        ensures value { result ≡ cell_in self.now number }
+        ensures in_box { IsInBox self.now result }
+        ensures number { tile_index self.now result ≡ number }
+    {
+        let place = number / self.nodes as usize;
+        let row = place / self.along_x as usize;
+        let position = position_of(
+            place % self.along_x as usize,
+            row % self.along_y as usize,
+            row / self.along_y as usize,
+        );
+        Cell {
+            position,
+            node: (number % self.nodes as usize) as u32,
+        }
+    }
+}
+
+fn position_of(x: usize, y: usize, z: usize) -> Position
+    requires x_small { x ≤ 65536 }
+    requires y_small { y ≤ 65536 }
+    requires z_small { z ≤ 65536 }
+    ensures { result ≡ place (pos x) (pos y) (pos z) }
+{
+    Position {
+        x: x as i32,
+        y: y as i32,
+        z: z as i32,
     }
 }
 
