@@ -50,11 +50,9 @@ fn has_true_literal(literals: &[Literal], values: &[bool]) -> bool
 
 /// Whether the assignment has one value for each variable, and makes each clause true. It takes no memory.
 pub fn satisfies(cnf: &Cnf, assignment: &Assignment) -> bool
-    ensures {
-        IsTrue result ↔
+    ensures { IsTrue result ↔
         (length assignment.now ≡ cnf.now.variables
-        × Satisfies (true_variables assignment.now) cnf.now.clauses)
-    }
+        × Satisfies (true_variables assignment.now) cnf.now.clauses) }
 {
     let values = assignment.values();
     if values.len() != cnf.variables() as usize {

@@ -6,6 +6,9 @@ use dd_values::Items;
 ///
 /// The clauses of a list of C clauses have the numbers 1 to C, and the steps the numbers after them. The hints and the
 /// deleted clauses are given by number; what a step deletes, no later step may hint at.
+///
+/// That clauses which follow by unit propagation make a proof is due to Goldberg and Novikov (2003). The hints are those
+/// of the format LRAT of Cruz-Filipe, Heule, Hunt, Kaufmann and Schneider-Kamp (2017).
 #[derive(Debug, Drop)]
 pub struct Step {
     pub clause: Clause,
