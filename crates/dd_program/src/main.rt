@@ -36,23 +36,10 @@ fn words_of(rt: &HostRuntime) -> Result<Vec<String>, WordsFault> {
     Ok(words)
 }
 
-fn number_of(status: Status) -> u8 {
-    match status {
-        Status::Definite => 0,
-        Status::SomeUnknown => 1,
-        Status::Refused => 2,
-        Status::ReadFault => 3,
-        Status::WriteFault => 4,
-        Status::Memory => 5,
-        Status::BadWords => 6,
-        Status::Rejected => 7,
-    }
-}
-
 fn main(rt: HostRuntime) -> ExitCode {
     let words = match words_of(&rt) {
         Ok(words) => words,
-        Err(WordsFault::Memory) => return ExitCode::from(number_of(Status::Memory)),
+        Err(WordsFault::Memory) => return ExitCode::from(Status::Memory as u8),
         Err(WordsFault::Other) => {
             let _ = eprintln!(rt; "no words");
             return ExitCode::from(NO_WORDS);
@@ -64,5 +51,5 @@ fn main(rt: HostRuntime) -> ExitCode {
     if status == Status::BadWords {
         let _ = eprintln!(rt; "usage: diddy run");
     }
-    ExitCode::from(number_of(status))
+    ExitCode::from(status as u8)
 }

@@ -6,7 +6,7 @@ use Rattle.dd_formula.specs.declared.formulas.Formula.{Formula}
 use Rattle.dd_formula.specs.declared.formulas.Formula.TheVariants as formula
 use Rattle.dd_formula.specs.declared.formulas.Formula.TheFolds.{fold-roll-Formula}
 use Rattle.dd_formula.specs.declared.formulas.Formula.TheOpen.{Formula-F}
-use Rattle.dd_formula.specs.Limits.{fits, fits_step, fits_square, square_words}
+use Rattle.dd_formula.specs.Limits.{fits, fits_step, fits_square, square_vocabulary}
 use Rattle.dd_formula.specs.Tile.{tile, IsTile}
 use Rattle.dd_formula.proofs.Layers.{fits_and}
 use Rattle.dd_session.specs.declared.reading.CutScript.{CutScript}
@@ -14,7 +14,7 @@ use Rattle.dd_session.specs.CutForm.{Atom, IsAtom, atom_formula, formula_of, Wri
 
 -- a formula of the square grid at a cell
 abbrev fits_here : Formula → Bool
-fits_here f = fits square_words f 1
+fits_here f = fits square_vocabulary f 1
 
 both : (a b : Bool) → a ≡ true → b ≡ true → (a && b) ≡ true
 both a b e d = rw (e, d) refl
@@ -31,7 +31,7 @@ atom_fits a is =
     let labels : list_all (λ l. nat_lt l 4) a.moves ≡ true = labels_fit a.moves is.moves in
     let symbol : nat_lt a.symbol 2 ≡ true = le-leb (suc a.symbol) 2 is.symbol in
     ap fits_here (sym (formula.rolls-Symbol (record { variable = 0; moves = a.moves }) a.symbol))
-    ∙ ap (λ (h : ℕ → Bool). h 1) (fold-roll-Formula (ℕ → Bool) (fits_step square_words) (Formula-F.Symbol (record { variable = 0; moves = a.moves }) a.symbol))
+    ∙ ap (λ (h : ℕ → Bool). h 1) (fold-roll-Formula (ℕ → Bool) (fits_step square_vocabulary) (Formula-F.Symbol (record { variable = 0; moves = a.moves }) a.symbol))
     ∙ both (nat_le (length a.moves) 16 && list_all (λ l. nat_lt l 4) a.moves) (nat_lt a.symbol 2) (both (nat_le (length a.moves) 16) (list_all (λ l. nat_lt l 4) a.moves) few labels) symbol
 
 atoms_fit : (atoms : List Atom) → All IsAtom atoms → list_all fits_here (map atom_formula atoms) ≡ true
@@ -41,7 +41,7 @@ atoms_fit (a ∷ atoms) each = rw (atom_fits a (All-head IsAtom a atoms each), a
 implies_fits : (f g : Formula) → fits_here f ≡ true → fits_here g ≡ true → fits_here (formula.Implies f g) ≡ true
 implies_fits f g one two =
     ap fits_here (sym (formula.rolls-Implies f g))
-    ∙ ap (λ (h : ℕ → Bool). h 1) (fold-roll-Formula (ℕ → Bool) (fits_step square_words) (Formula-F.Implies f g))
+    ∙ ap (λ (h : ℕ → Bool). h 1) (fold-roll-Formula (ℕ → Bool) (fits_step square_vocabulary) (Formula-F.Implies f g))
     ∙ both (fits_here f) (fits_here g) one two
 
 formula_fits : (a : Atom) (bs : List Atom) → IsAtom a → All IsAtom bs → fits_here (formula_of a bs) ≡ true
@@ -49,7 +49,7 @@ formula_fits a [] is each = atom_fits a is
 formula_fits a (b ∷ []) is each = implies_fits (atom_formula a) (atom_formula b) (atom_fits a is) (atom_fits b (All-head IsAtom b [] each))
 formula_fits a (b ∷ c ∷ cs) is each =
     implies_fits (atom_formula a) (formula.And (map atom_formula (b ∷ c ∷ cs))) (atom_fits a is)
-    (fits_and square_words (map atom_formula (b ∷ c ∷ cs)) 1 ∙ atoms_fit (b ∷ c ∷ cs) each)
+    (fits_and square_vocabulary (map atom_formula (b ∷ c ∷ cs)) 1 ∙ atoms_fit (b ∷ c ∷ cs) each)
 
 pub script_formula : (bytes : List ℕ) (s : CutScript) → Spells bytes s → fits_square s.formula ≡ true
 script_formula bytes s is =

@@ -10,11 +10,12 @@ use Rattle.std.proofs.lemmas.List.Elements.{Contains-append_left, Contains-appen
 use Rattle.dd_lattice.specs.Place.{Place, place, moved}
 use Rattle.dd_lattice.specs.Cells.{cell}
 use Rattle.dd_lattice.specs.declared.position.Cell.{Cell}
+use Rattle.dd_lattice.proofs.ListLaws.{Contains-first, Contains-nil, Contains-cons_cases}
 use Rattle.dd_topology.specs.declared.edge.Edge.{Edge}
 use Rattle.dd_topology.specs.Topology.{end_of, start_of, Leads}
 use Rattle.dd_topology.specs.Balls.{IsAdjacent, IsInBall, same_place, leads, is_adjacent, ends, starts, beside, neighbours, ball}
 use Rattle.dd_topology.proofs.CoordinateLaws.{place_is, back_and_forth, forth_and_back}
-use Rattle.dd_topology.proofs.ListLaws.{here, nowhere, first_or_later, some_passes, passes_any, in_flat_map, into_flat_map}
+use Rattle.dd_topology.proofs.ListLaws.{some_passes, passes_any, in_flat_map, into_flat_map}
 
 same_place-exact : (p q : Place) → Decides (same_place p q) (p ≡ q)
 same_place-exact p q = (
@@ -61,11 +62,11 @@ is_adjacent-exact es a b = (
 )
 
 in_cond : (b : Bool) (x y : Cell) → Contains (cond b (x ∷ []) []) y → (b ≡ true) × (y ≡ x)
-in_cond true x y h = (refl, elim (first_or_later x [] y h) [ inl same ↦ sym same | inr none ↦ absurd (nowhere y none) ])
-in_cond false x y h = absurd (nowhere y h)
+in_cond true x y h = (refl, elim (Contains-cons_cases x [] y h) [ inl same ↦ sym same | inr none ↦ absurd (Contains-nil y none) ])
+in_cond false x y h = absurd (Contains-nil y h)
 
 into_cond : (b : Bool) (x y : Cell) → b ≡ true → y ≡ x → Contains (cond b (x ∷ []) []) y
-into_cond true x y h e = subst (λ z. Contains (x ∷ []) z) (sym e) (here x [])
+into_cond true x y h e = subst (λ z. Contains (x ∷ []) z) (sym e) (Contains-first x [])
 into_cond false x y h e = absurd (cc)
 
 from_ends : (c : Cell) (e : Edge) (d : Cell) → Contains (ends c e) d → Leads e c d
@@ -106,7 +107,7 @@ into_neighbours es c d h =
 
 -- the list of a ball has exactly the cells of the ball
 pub in_ball : (es : List Edge) (c : Cell) (r : ℕ) (d : Cell) → Contains (ball es c r) d → IsInBall es c r d
-in_ball es c zero d h = elim (first_or_later c [] d h) [ inl same ↦ sym same | inr none ↦ absurd (nowhere d none) ]
+in_ball es c zero d h = elim (Contains-cons_cases c [] d h) [ inl same ↦ sym same | inr none ↦ absurd (Contains-nil d none) ]
 in_ball es c (suc r) d h =
     elim (Contains-append_cases (ball es c r) (flat_map (neighbours es) (ball es c r)) d h) [
       | inl near ↦ inl (in_ball es c r d near)
@@ -114,7 +115,7 @@ in_ball es c (suc r) d h =
     ]
 
 pub ball_holds : (es : List Edge) (c : Cell) (r : ℕ) (d : Cell) → IsInBall es c r d → Contains (ball es c r) d
-ball_holds es c zero d h = subst (λ x. Contains (c ∷ []) x) (sym h) (here c [])
+ball_holds es c zero d h = subst (λ x. Contains (c ∷ []) x) (sym h) (Contains-first c [])
 ball_holds es c (suc r) d (inl near) = Contains-append_left (ball es c r) (flat_map (neighbours es) (ball es c r)) d (ball_holds es c r d near)
 ball_holds es c (suc r) d (inr far) =
     Contains-append_right (ball es c r) (flat_map (neighbours es) (ball es c r)) d

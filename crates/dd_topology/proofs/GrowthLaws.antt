@@ -14,13 +14,13 @@ use Rattle.dd_lattice.specs.InOrder.{in_order}
 use Rattle.dd_lattice.specs.declared.position.Cell.{Cell}
 use Rattle.dd_lattice.proofs.InOrderLaws.{cells_equal}
 use Rattle.dd_lattice.proofs.RangeLaws.{in_range_from_test, test_from_in_range}
-use Rattle.dd_lattice.proofs.ListLaws.{All-from_contains}
+use Rattle.dd_lattice.proofs.ListLaws.{All-from_contains, Contains-first, Contains-nil, Contains-cons_cases}
 use Rattle.dd_lattice.specs.declared.fault.LatticeFault.{LatticeFault}
 use Rattle.dd_lattice.specs.declared.fault.LatticeFault.TheVariants.{Range, Memory}
 use Rattle.dd_topology.specs.declared.edge.Edge.{Edge}
 use Rattle.dd_topology.specs.Balls.{CellSet, IsAdjacent, IsInBall, IsListOf, IsFaultOf, LeavesRange, ends, starts, beside, neighbours, ball, are_in_range}
 use Rattle.dd_topology.specs.Growth.{AddsCells}
-use Rattle.dd_topology.proofs.ListLaws.{here, nowhere, first_or_later, in_flat_map, into_flat_map}
+use Rattle.dd_topology.proofs.ListLaws.{in_flat_map, into_flat_map}
 use Rattle.dd_topology.proofs.OrderLaws.{kept-insert_key, has-insert_key, from-insert_key, is-in_order}
 use Rattle.dd_topology.proofs.BallLaws.{from_neighbours, into_neighbours, in_ball, ball_holds}
 
@@ -32,21 +32,21 @@ pub record IsGrown (es : List Edge) (c : Cell) (r : ℕ) (found frontier : List 
   pub closed : (b d : Cell) → Contains found b → IsAdjacent es b d → Contains frontier b ⊎ Contains found d
 
 only_one : (c d : Cell) → Contains (c ∷ []) d → d ≡ c
-only_one c d h = elim (first_or_later c [] d h) [ inl same ↦ sym same | inr none ↦ absurd (nowhere d none) ]
+only_one c d h = elim (Contains-cons_cases c [] d h) [ inl same ↦ sym same | inr none ↦ absurd (Contains-nil d none) ]
 
 -- the centre alone
 pub grown_start : (es : List Edge) (c : Cell) → IsInRange c.position → IsGrown es c 0 (c ∷ []) (c ∷ [])
 grown_start es c near = record {
-  members = λ d. (only_one c d, λ h. subst (Contains (c ∷ [])) (sym h) (here c []));
+  members = λ d. (only_one c d, λ h. subst (Contains (c ∷ [])) (sym h) (Contains-first c []));
   in_range = All-cons (λ d. IsInRange d.position) c [] near (All-nil (λ d. IsInRange d.position));
   frontier_found = λ d h. h;
   closed = λ b d h adjacent. inl h;
 }
 
 list_all_member : {X : Type 0} (p : X → Bool) (xs : List X) (x : X) → list_all p xs ≡ true → Contains xs x → p x ≡ true
-list_all_member p [] x h there = absurd (nowhere x there)
+list_all_member p [] x h there = absurd (Contains-nil x there)
 list_all_member p (y ∷ ys) x h there =
-    let parts = and_parts _ _ h in elim (first_or_later y ys x there) [ inl same ↦ ap p (sym same) ∙ parts.0 | inr after ↦ list_all_member p ys x parts.1 after ]
+    let parts = and_parts _ _ h in elim (Contains-cons_cases y ys x there) [ inl same ↦ ap p (sym same) ∙ parts.0 | inr after ↦ list_all_member p ys x parts.1 after ]
 
 some_fails : {X : Type 0} (p : X → Bool) (xs : List X) → list_all p xs ≡ false → (x : X) × Contains xs x × (p x ≡ false)
 some_fails p [] h = absurd (cc)
@@ -54,7 +54,7 @@ some_fails {X} p (x ∷ xs) h = by_head (p x) refl h (some_fails p xs)
   where
     by_head : (b : Bool) → p x ≡ b → (b && list_all p xs) ≡ false → (list_all p xs ≡ false → (y : X) × Contains xs y × (p y ≡ false)) → (y : X) × Contains (x ∷ xs) y × (p y ≡ false)
     by_head true e is rest = let other = rest is in (other.0, Contains-append_right (x ∷ []) xs other.0 other.1, other.2)
-    by_head false e is rest = (x, here x xs, e)
+    by_head false e is rest = (x, Contains-first x xs, e)
 
 -- one round
 pub grown_more : (es : List Edge) (c : Cell) (r : ℕ) (found frontier now fresh : List Cell) → IsGrown es c r found frontier → are_in_range (flat_map (neighbours es) frontier) ≡ true →
@@ -110,7 +110,7 @@ stays : (es : List Edge) (c : Cell) (r : ℕ) (found : List Cell) → IsGrown es
 stays es c r found grown zero d h = subst (Contains found) (sym h) ((grown.members c).1 (centre es c r))
 stays es c r found grown (suc k) d (inl near) = stays es c r found grown k d near
 stays es c r found grown (suc k) d (inr far) =
-    elim (grown.closed far.0 d (stays es c r found grown k far.0 far.1) far.2) [ inl none ↦ absurd (nowhere far.0 none) | inr known ↦ known ]
+    elim (grown.closed far.0 d (stays es c r found grown k far.0 far.1) far.2) [ inl none ↦ absurd (Contains-nil far.0 none) | inr known ↦ known ]
 
 pub stopped : (es : List Edge) (c : Cell) (k r : ℕ) (found : List Cell) → k ≤ r → IsGrown es c k found [] → IsGrown es c r found []
 stopped es c k r found within grown = record {
@@ -173,7 +173,7 @@ adds_new before cells now fresh i x below is adds = rw (take_more cells i x belo
   rest_known = λ d there.
       elim (from-insert_key cell_cmp cells_equal now x d there) [
         | inl old ↦ elim (adds.rest_known d old) [ inl known ↦ inl known | inr new ↦ inr (Contains-append_left fresh (x ∷ []) d new) ]
-        | inr same ↦ inr (Contains-append_right fresh (x ∷ []) d (subst (Contains (x ∷ [])) same (here x [])))
+        | inr same ↦ inr (Contains-append_right fresh (x ∷ []) d (subst (Contains (x ∷ [])) same (Contains-first x [])))
       ];
 })
   where
@@ -181,7 +181,7 @@ adds_new before cells now fresh i x below is adds = rw (take_more cells i x belo
     into d there =
         elim (from-insert_key cell_cmp cells_equal now x d there) [
           | inl old ↦ elim ((adds.members d).0 old) [ inl known ↦ inl known | inr new ↦ inr (Contains-append_left (take i cells) (x ∷ []) d new) ]
-          | inr same ↦ inr (Contains-append_right (take i cells) (x ∷ []) d (subst (Contains (x ∷ [])) same (here x [])))
+          | inr same ↦ inr (Contains-append_right (take i cells) (x ∷ []) d (subst (Contains (x ∷ [])) same (Contains-first x [])))
         ]
 
     from : (d : Cell) → Contains before d ⊎ Contains (take i cells ++ x ∷ []) d → Contains (insert_key cell_cmp now x) d

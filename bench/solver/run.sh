@@ -1,0 +1,46 @@
+#!/bin/sh
+# Times the search on pigeonholes of 5 to 8 holes and on random clauses, beside MiniSat where that is installed.
+# The program over the library is proved and built in a temporary folder, with copies of the crates that it stands on.
+# Each line is a clause list's name, then for the library what it found, the time in microseconds and, for a refutation,
+# the number of conflicts; then for MiniSat the number of conflicts and the seconds of its processor time.
+set -eu
+
+here=$(cd "$(dirname "$0")" && pwd)
+root=$(cd "$here/../.." && pwd)
+work=$(mktemp -d)
+trap 'rm -rf "$work"' EXIT
+
+mkdir "$work/crates"
+cp "$root/HANDLES" "$work/HANDLES"
+: > "$work/crates.txt"
+for crate in dd_values dd_clause dd_derivation dd_solver; do
+    cp -R "$root/crates/$crate" "$work/crates/$crate"
+    grep "^$crate:" "$root/crates.txt" >> "$work/crates.txt"
+done
+mkdir -p "$work/crates/bench_solver/src"
+cp "$here/program.txt" "$work/crates/bench_solver/src/main.rt"
+echo 'bench_solver: dd_clause dd_derivation dd_solver' >> "$work/crates.txt"
+cd "$work/crates/bench_solver"
+rt run < /dev/null > "$work/build.log" 2>&1 || { cat "$work/build.log"; exit 1; }
+
+compare() {
+    printf '%s: ' "$1"
+    timeout "${LIMIT:-60}" out/bench_solver < "$work/clauses" | tr '\n' ' ' || printf 'over the limit '
+    if command -v minisat > "$work/found"; then
+        minisat -verb=1 "$work/clauses" > "$work/minisat" 2>&1 || true
+        awk '/^conflicts/ { conflicts = $3 } /^CPU time/ { seconds = $4 } END { print "minisat", conflicts, seconds }' "$work/minisat"
+    else
+        echo
+    fi
+}
+
+for holes in 5 6 7 8; do
+    awk -v holes="$holes" -f "$here/clauses.awk" > "$work/clauses"
+    compare "holes $holes"
+done
+for variables in 60 80 100 120; do
+    for seed in 1 2 3; do
+        awk -v variables="$variables" -v seed="$seed" -f "$here/clauses.awk" > "$work/clauses"
+        compare "random $variables $seed"
+    done
+done

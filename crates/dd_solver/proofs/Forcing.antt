@@ -1,0 +1,73 @@
+-- What a clause forces, in terms of its literals.
+use Rattle.std.proofs.Common.{◌≡◌, ℕ, Bool, true, false, cond, not, ◌&&◌, List, [], ◌∷◌, ◌++◌, Option, Some, None, refl, ap, sym, ◌∙◌, subst, inl, inr, ◌⊎◌}
+use Rattle.std.specs.List.{list_all}
+use Rattle.std.specs.Option.{option_map_or}
+use Rattle.std.proofs.lemmas.Bool.{cases_Bool, and_from, or_cases, or_left, or_right, false≢true}
+use Rattle.std.proofs.lemmas.List.Folds.{list_any-append}
+use Rattle.dd_clause.specs.declared.clause.Literal.{Literal}
+use Rattle.dd_clause.specs.Clauses.{negation}
+use Rattle.dd_derivation.specs.declared.propagation.Finding.{Finding}
+use Rattle.dd_derivation.specs.declared.propagation.Finding.TheVariants.{Falsified, Forced, Open}
+use Rattle.dd_derivation.specs.Derivations.{same_literal, finding_of, finding, clause_of, hint_finding}
+use Rattle.dd_derivation.proofs.Soundness.{same_literal-eq, same_literal-refl}
+use Rattle.dd_derivation.proofs.Findings.{In, in_here, left_of, in_left_of, of_left, Forces}
+
+pub in_left : (xs ys : List Literal) (x : Literal) → In xs x → In (xs ++ ys) x
+in_left xs ys x h = rw (list_any-append (same_literal x) xs ys) (or_left _ _ h)
+
+pub in_right : (xs ys : List Literal) (x : Literal) → In ys x → In (xs ++ ys) x
+in_right xs ys x h = rw (list_any-append (same_literal x) xs ys) (or_right _ _ h)
+
+pub in_cases : (xs ys : List Literal) (x : Literal) → In (xs ++ ys) x → (In xs x) ⊎ (In ys x)
+in_cases xs ys x h = or_cases _ _ (rw (list_any-append (same_literal x) xs ys) at h)
+
+-- the one literal of a list
+pub in_one : (x y : Literal) → In (y ∷ []) x → x ≡ y
+in_one x y h = elim (or_cases (same_literal x y) false h) [ inl a ↦ same_literal-eq x y a | inr a ↦ absurd (false≢true a) ]
+
+falsified_empty : (p : Literal → Bool) (xs : List Literal) → finding_of p xs ≡ Falsified → xs ≡ []
+falsified_empty p [] h = refl
+falsified_empty p (l ∷ rest) h = absurd (go (list_all (same_literal l) rest && not (p (negation l))) h)
+  where
+    go : (b : Bool) → cond b (Forced l) Open ≡ Falsified → ⊥
+    go true h = cc
+    go false h = cc
+
+-- all literals of the clause are false just where it is falsified
+pub falsified_all : (p : Literal → Bool) (c : List Literal) → finding p c ≡ Falsified → (x : Literal) → In c x → p x ≡ true
+falsified_all p c h x i = elim (cases_Bool (p x)) [
+  | inl t ↦ t
+  | inr f ↦ absurd (false≢true (subst (λ (ys : List Literal). In ys x) (falsified_empty p (left_of p c) h) (in_left_of p c x i f)))
+]
+
+pub all_falsified : (p : Literal → Bool) (c : List Literal) → ((x : Literal) → In c x → p x ≡ true) → finding p c ≡ Falsified
+all_falsified p [] a = refl
+all_falsified p (y ∷ c) a = rw (a y (in_here c y)) (all_falsified p c (λ x i. a x (or_right _ _ i)))
+
+all_same : (l : Literal) (rest : List Literal) → ((x : Literal) → In rest x → x ≡ l) → list_all (same_literal l) rest ≡ true
+all_same l [] a = refl
+all_same l (y ∷ rest) a = and_from _ _ (rw (a y (in_here rest y)) (same_literal-refl l)) (all_same l rest (λ x i. a x (or_right _ _ i)))
+
+pub forced_from : (p : Literal → Bool) (c : List Literal) (l : Literal) → Forces p c l → finding p c ≡ Forced l
+forced_from p c l f = go (left_of p c) (in_left_of p c l f.member f.not_false) (λ x i. only x (of_left p c x i))
+  where
+    only : (x : Literal) → (p x ≡ false) × In c x → x ≡ l
+    only x h = elim (f.others x h.1) [ inl e ↦ e | inr t ↦ absurd (false≢true (sym h.0 ∙ t)) ]
+
+    go : (xs : List Literal) → In xs l → ((x : Literal) → In xs x → x ≡ l) → finding_of p xs ≡ Forced l
+    go [] i a = absurd (false≢true i)
+    go (y ∷ rest) i a =
+        let e : y ≡ l = a y (in_here rest y) in
+        let s : list_all (same_literal l) rest ≡ true = all_same l rest (λ x j. a x (or_right _ _ j)) in
+        rw (e, s, f.not_true) refl
+
+-- what is said of a number is said of its clause
+pub hint_clause : (known : List (Option (List Literal))) (p : Literal → Bool) (r : ℕ) (f : Finding) → (f ≡ Open → ⊥) → hint_finding known p r ≡ f → (c : List Literal) × (clause_of known r ≡ Some c) × (finding p c ≡ f)
+hint_clause known p r f n h = go (clause_of known r) refl h
+  where
+    go : (o : Option (List Literal)) → clause_of known r ≡ o → option_map_or (finding p) o Open ≡ f → (c : List Literal) × (clause_of known r ≡ Some c) × (finding p c ≡ f)
+    go None e h = absurd (n (sym h))
+    go (Some c) e h = (c, e, h)
+
+pub at_clause : (known : List (Option (List Literal))) (p : Literal → Bool) (r : ℕ) (c : List Literal) → clause_of known r ≡ Some c → hint_finding known p r ≡ finding p c
+at_clause known p r c e = ap (λ (o : Option (List Literal)). option_map_or (finding p) o Open) e

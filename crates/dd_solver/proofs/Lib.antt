@@ -1,0 +1,11 @@
+pub mod Forcing
+pub mod Trails
+pub mod Valued
+pub mod Numbers
+pub mod Leads
+pub mod Turns
+pub mod Walk
+pub mod Rises
+pub mod Derived
+pub mod Moves
+pub mod Right

@@ -1,0 +1,25 @@
+-- An answer that is right comes exactly where it should.
+use Rattle.std.proofs.Common.{ℕ, List, Result, Ok, Err}
+use Rattle.std.specs.Prelude.{◌↔◌, IfOk}
+use Rattle.dd_clause.specs.declared.clause.Literal.{Literal}
+use Rattle.dd_clause.specs.Clauses.{true_variables}
+use Rattle.dd_derivation.specs.declared.step.Outcome.{Outcome}
+use Rattle.dd_derivation.specs.declared.step.Outcome.TheVariants.{Found, Refuted}
+use Rattle.dd_derivation.proofs.Soundness.{refutes_sound}
+use Rattle.dd_solver.specs.Answers.{IsSatisfiable, IsFound, IsRefuted, IsAnswer}
+
+pub found_right : (n : ℕ) (clauses : List (List Literal)) (o : Outcome) → IsAnswer n clauses o → IsFound o ↔ IsSatisfiable clauses
+found_right n clauses (Found values) a = (λ f. (true_variables values, a.1), λ s. tt)
+found_right n clauses (Refuted steps) a = (λ f. absurd f, λ s. refutes_sound n clauses steps a s.0 s.1)
+
+pub refuted_right : (n : ℕ) (clauses : List (List Literal)) (o : Outcome) → IsAnswer n clauses o → IsRefuted o ↔ ¬ (IsSatisfiable clauses)
+refuted_right n clauses (Found values) a = (λ f. absurd f, λ u. u (true_variables values, a.1))
+refuted_right n clauses (Refuted steps) a = (λ f. λ s. refutes_sound n clauses steps a s.0 s.1, λ u. tt)
+
+pub if_ok : {A E : Type 0} (r : Result A E) (P Q : A → Type 0) → ((a : A) → P a → Q a) → IfOk r P → IfOk r Q
+if_ok (Ok a) P Q f h = f a h
+if_ok (Err e) P Q f h = h
+
+pub if_ok_both : {A E : Type 0} (r : Result A E) (P Q R : A → Type 0) → ((a : A) → P a → Q a → R a) → IfOk r P → IfOk r Q → IfOk r R
+if_ok_both (Ok a) P Q R f h k = f a h k
+if_ok_both (Err e) P Q R f h k = h

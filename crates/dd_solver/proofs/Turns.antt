@@ -1,0 +1,93 @@
+-- The turn: what was kept first is forced before the turn's decision, since all that was kept later stands before it.
+use Rattle.std.proofs.Common.{◌≡◌, ℕ, ◌+◌, ◌<◌, ◌≤◌, Bool, true, false, List, [], ◌∷◌, ◌++◌, Option, Some, None, refl, ap, sym, ◌∙◌, subst, length, get_or, take, inl, inr, ◌⊎◌, arith}
+use Rattle.std.specs.Option.{MatchOption}
+use Rattle.std.proofs.lemmas.Bool.{false≢true, false_from_ne_true, cases_lt}
+use Rattle.dd_clause.specs.declared.clause.Literal.{Literal}
+use Rattle.dd_clause.specs.Clauses.{negation}
+use Rattle.dd_derivation.specs.Derivations.{is_among}
+use Rattle.dd_derivation.proofs.Findings.{In, in_here}
+use Rattle.dd_solver.specs.declared.trail.Entry.{Entry}
+use Rattle.dd_solver.specs.declared.analysis.Turn.{Turn}
+use Rattle.dd_solver.specs.declared.analysis.Choice.TheVariants.{Keep}
+use Rattle.dd_solver.specs.Entries.{falses, IsTrail}
+use Rattle.dd_solver.specs.Analysis.{marks, ChoiceSays, Asserts}
+use Rattle.dd_solver.proofs.Forcing.{in_left, in_cases, in_one, forced_from}
+use Rattle.dd_solver.proofs.Trails.{in_falses_take, at_falses_take, apart}
+
+-- the turn's literal is of an entry at or above its place, the others are false before it, and nothing is marked from
+-- its place up to place i
+pub record TurnOk (trail : List Entry) (i : ℕ) (marked : List Bool) (learned : List Literal) (t : Turn) : Type 0 where
+  pub top : (u : ℕ) × (t.place ≤ u) × (u < length trail) × ((d : Entry) → t.literal ≡ negation (get_or trail u d).literal)
+  pub decided : (d : Entry) → (get_or trail t.place d).reason ≡ None
+  pub member : In learned t.literal
+  pub others : (x : Literal) → In learned x → (x ≡ t.literal) ⊎ (In (falses (take t.place trail)) x)
+  pub between : (k : ℕ) (d : Entry) → t.place ≤ k → k < i → marks marked (get_or trail k d).literal ≡ false
+
+-- without a turn nothing was kept
+abbrev pub TurnIs : List Entry → ℕ → List Bool → List Literal → Option Turn → Type 0
+TurnIs trail i marked learned turn = MatchOption turn (learned ≡ []) (TurnOk trail i marked learned)
+
+pub turn_past : (trail : List Entry) (j : ℕ) (marked : List Bool) (learned : List Literal) (turn : Option Turn) → TurnIs trail (j + 1) marked learned turn → TurnIs trail j marked learned turn
+turn_past trail j marked learned None h = h
+turn_past trail j marked learned (Some t) h = record { top = h.top; decided = h.decided; member = h.member; others = h.others; between = λ k d a b. h.between k d a (omega arith) }
+
+-- a marked entry stands before the turn's place
+before : (trail : List Entry) (j : ℕ) (d : Entry) (marked : List Bool) (learned : List Literal) (t : Turn) → marks marked (get_or trail j d).literal ≡ true → TurnOk trail (j + 1) marked learned t → j < t.place
+before trail j d marked learned t m h = elim (cases_lt j t.place) [ inl b ↦ b | inr b ↦ absurd (false≢true (sym (h.between j d b (omega arith)) ∙ m)) ]
+
+pub turn_resolved : (trail : List Entry) (j : ℕ) (d : Entry) (marked marked' : List Bool) (learned : List Literal) (turn : Option Turn) → marks marked (get_or trail j d).literal ≡ true → TurnIs trail (j + 1) marked learned turn → TurnIs trail j marked' learned turn
+turn_resolved trail j d marked marked' learned None m h = h
+turn_resolved trail j d marked marked' learned (Some t) m h =
+    let b = before trail j d marked learned t m h in
+    record { top = h.top; decided = h.decided; member = h.member; others = h.others; between = λ k d' a c. absurd (omega arith) }
+
+pub turn_kept : (trail : List Entry) (j : ℕ) (d : Entry) (marked : List Bool) (learned : List Literal) (turn : Option Turn) (next : Turn) → j < length trail → marks marked (get_or trail j d).literal ≡ true → ChoiceSays trail marked turn j (Keep next) → TurnIs trail (j + 1) marked learned turn → TurnIs trail j marked (learned ++ negation (get_or trail j d).literal ∷ []) (Some next)
+turn_kept trail j d marked learned None next l m c h =
+    let e : next.literal ≡ negation (get_or trail j d).literal = c.literal d in
+    rw h (record {
+      top = (j, c.at.from, l, c.literal);
+      decided = c.at.decided;
+      member = rw e (in_here [] (negation (get_or trail j d).literal));
+      others = λ x i. inl (in_one x _ i ∙ sym e);
+      between = c.at.between;
+    })
+turn_kept trail j d marked learned (Some t) next l m c h =
+    let b = before trail j d marked learned t m h in
+    let w = h.top.1 in
+    let u = h.top.2 in
+    subst (TurnOk trail j marked (learned ++ negation (get_or trail j d).literal ∷ [])) (sym c) (record {
+      top = h.top;
+      decided = h.decided;
+      member = in_left learned _ _ h.member;
+      others = λ x i. elim (in_cases learned _ x i) [
+        | inl a ↦ h.others x a
+        | inr a ↦ inr (subst (In (falses (take t.place trail))) (sym (in_one x _ a)) (at_falses_take trail t.place j d (omega arith) b))
+      ];
+      between = λ k d' a n. h.between k d' a (omega arith);
+    })
+
+pub turn_asserts : (n : ℕ) (known : List (Option (List Literal))) (trail : List Entry) (marked : List Bool) (learned : List Literal) (turn : Option Turn) → IsTrail n known trail → TurnIs trail 0 marked learned turn → MatchOption turn (learned ≡ []) (Asserts trail learned)
+turn_asserts n known trail marked learned None ok h = h
+turn_asserts n known trail marked learned (Some t) ok h =
+    let u = h.top.0 in
+    let a = h.top.1 in
+    let b = h.top.2 in
+    record {
+      within = omega arith;
+      decided = h.decided;
+      forces = forced_from (is_among (falses (take t.place trail))) learned t.literal (record {
+        member = h.member;
+        others = h.others;
+        not_false = absent t.literal refl;
+        not_true = absent (negation t.literal) refl;
+      });
+    }
+  where
+    absent : (x : Literal) → x.variable ≡ t.literal.variable → is_among (falses (take t.place trail)) x ≡ false
+    absent x v = false_from_ne_true (is_among (falses (take t.place trail)) x) (λ i.
+        let a = h.top.1 in
+        let b = h.top.2 in
+        let w = in_falses_take trail t.place x (omega arith) i in
+        let c = w.1 in
+        let d : Entry = record { literal = x; reason = None } in
+        apart n known trail ok w.0 h.top.0 d (omega arith) b (ap (λ (y : Literal). y.variable) (w.2 d) ∙ v ∙ ap (λ (y : Literal). y.variable) (h.top.3 d)))

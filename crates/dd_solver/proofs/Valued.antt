@@ -1,0 +1,177 @@
+-- Variables get values and lose them again.
+use Rattle.std.proofs.Common.{◌≡◌, ◌≢◌, ℕ, zero, suc, ◌+◌, ◌-◌, ◌<◌, ◌≤◌, Bool, true, false, not, ◌||◌, List, [], ◌∷◌, ◌++◌, map, unwrap_or, Option, Some, None, refl, ap, sym, ◌∙◌, subst, length, get_or, set, take, inl, inr, arith, get_or-set_same, get_or-set_other}
+use Rattle.std.specs.Bool.{beq}
+use Rattle.std.proofs.lemmas.Bool.{cases_eq, eq-eqb, ne_eqb, false≢true, false_from_ne_true, and_left}
+use Rattle.std.proofs.lemmas.List.{length-set, length-append, length-take, take-append-le, get_or-take, get_or_append_left, take_all, take_more}
+use Rattle.std.proofs.Math.Seq.{get_or-append_seam, take-append_seam}
+use Rattle.dd_clause.specs.declared.clause.Literal.{Literal}
+use Rattle.dd_clause.specs.Clauses.{IsInRange, negation, true_variables}
+use Rattle.dd_derivation.specs.Derivations.{same_literal, is_among, has_variable}
+use Rattle.dd_solver.specs.declared.trail.Entry.{Entry}
+use Rattle.dd_solver.specs.Entries.{falses}
+use Rattle.dd_solver.specs.Values.{value_denies, one_if_some, count_valued, IsValued}
+use Rattle.dd_solver.proofs.Trails.{falses-append, in_falses, at_falses, has_variable-in, in-has_variable, absent, take_shorter, among_snoc}
+
+none : Entry
+none = record { literal = record { variable = 0; positive = false }; reason = None }
+
+or_first : (a b : Bool) → a ≡ false → (a || b) ≡ b
+or_first true b e = absurd (false≢true (sym e))
+or_first false b e = refl
+
+-- a variable both of whose literals are not false has no value
+unvalued : (p : Bool) (o : Option Bool) → value_denies p o ≡ false → value_denies (not p) o ≡ false → o ≡ None
+unvalued p None a b = refl
+unvalued true (Some true) a b = absurd (false≢true (sym b))
+unvalued true (Some false) a b = absurd (false≢true (sym a))
+unvalued false (Some true) a b = absurd (false≢true (sym a))
+unvalued false (Some false) a b = absurd (false≢true (sym b))
+
+denied_valued : (p : Bool) (o : Option Bool) → value_denies p o ≡ true → one_if_some o ≡ 1
+denied_valued p None h = absurd (false≢true h)
+denied_valued p (Some v) h = refl
+
+count-set : (values : List (Option Bool)) (i : ℕ) (o : Option Bool) → i < length values → count_valued (set values i o) + one_if_some (get_or values i None) ≡ count_valued values + one_if_some o
+count-set [] i o h = absurd (omega arith)
+count-set (x ∷ values) zero o h = omega arith
+count-set (x ∷ values) (suc i) o h = omega (arith, count-set values i o (omega arith))
+
+-- the literal of a variable with this value is false where the entry's negation is
+same_denied : (v p : Bool) → not (beq v p) ≡ beq p (not v)
+same_denied true true = refl
+same_denied true false = refl
+same_denied false true = refl
+same_denied false false = refl
+
+among_same : (trail : List Literal) (x e : Literal) → x.variable ≡ e.variable → has_variable e.variable trail ≡ false → value_denies x.positive (Some e.positive) ≡ is_among (negation e ∷ trail) x
+among_same trail x e q f = rw (absent trail x e.variable q f, eq-eqb x.variable e.variable q) (same_denied e.positive x.positive ∙ sym (or_false (beq x.positive (not e.positive))))
+  where
+    or_false : (a : Bool) → (a || false) ≡ a
+    or_false true = refl
+    or_false false = refl
+
+among_other : (trail : List Literal) (x e : Literal) → x.variable ≢ e.variable → is_among (negation e ∷ trail) x ≡ is_among trail x
+among_other trail x e n = or_first (same_literal x (negation e)) (is_among trail x) (and_left _ _ (ne_eqb x.variable e.variable n))
+
+falses-snoc : (trail : List Entry) (e : Entry) (x : Literal) → is_among (falses (trail ++ e ∷ [])) x ≡ is_among (negation e.literal ∷ falses trail) x
+falses-snoc trail e x = ap (λ (xs : List Literal). is_among xs x) (falses-append trail (e ∷ [])) ∙ among_snoc (falses trail) (negation e.literal) x
+
+pub valued_more : (trail : List Entry) (values : List (Option Bool)) (e : Entry) → IsValued trail values → IsInRange (length values) e.literal → has_variable e.literal.variable (falses trail) ≡ false → IsValued (trail ++ e ∷ []) (set values (e.literal.variable - 1) (Some e.literal.positive))
+valued_more trail values e v r f =
+    let l = e.literal in
+    let i = l.variable - 1 in
+    let o : Option Bool = Some l.positive in
+    let lt : i < length values = omega arith in
+    let c = count-set values i o lt in
+    let free : get_or values i None ≡ None = unvalued l.positive (get_or values i None) (v.values_ok l r ∙ absent (falses trail) l l.variable refl f) (v.values_ok (negation l) r ∙ absent (falses trail) (negation l) l.variable refl f) in
+    let z : one_if_some (get_or values i None) ≡ 0 = ap one_if_some free in
+    record {
+      news = λ k d h. elim (cases_eq k (length trail)) [
+        | inl q ↦ rw (length-set values i o, q, get_or-append_seam trail e [] d, take-append_seam trail (e ∷ [])) (r, f)
+        | inr n ↦ (let b : k < length trail = omega (arith, length-append trail (e ∷ [])) in
+            rw (length-set values i o, get_or_append_left trail (e ∷ []) d k b, take-append-le k trail (e ∷ []) (omega arith)) (v.news k d b))
+      ];
+      values_ok = λ x h. (let h' : IsInRange (length values) x = rw (length-set values i o) at h in
+          elim (cases_eq x.variable l.variable) [
+            | inl q ↦ rw (ap (λ (n : ℕ). n - 1) q, get_or-set_same values i o None lt) (among_same (falses trail) x l q f ∙ sym (falses-snoc trail e x))
+            | inr n ↦ (let u : x.variable - 1 ≢ i = λ z. n (omega arith) in
+                rw (get_or-set_other values i (x.variable - 1) o None u) (v.values_ok x h' ∙ sym (among_other (falses trail) x l n) ∙ sym (falses-snoc trail e x)))
+          ]);
+      count_ok = omega (arith, c, z, v.count_ok, length-append trail (e ∷ []));
+    }
+
+-- there are no more entries than variables
+pub length_within : (trail : List Entry) (values : List (Option Bool)) → IsValued trail values → length trail ≤ length values
+length_within trail values v = omega (arith, v.count_ok, at_most values)
+  where
+    at_most : (xs : List (Option Bool)) → count_valued xs ≤ length xs
+    at_most [] = omega arith
+    at_most (None ∷ xs) = omega (arith, at_most xs)
+    at_most (Some x ∷ xs) = omega (arith, at_most xs)
+
+-- the last entry is taken back
+pub valued_less : (trail : List Entry) (values : List (Option Bool)) (j : ℕ) (d : Entry) → length trail ≡ j + 1 → IsValued trail values → IsValued (take j trail) (set values ((get_or trail j d).literal.variable - 1) None)
+valued_less trail values j d l v =
+    let e = get_or trail j d in
+    let i = e.literal.variable - 1 in
+    let new = v.news j d (omega arith) in
+    let lt : i < length values = let r = new.0 in omega arith in
+    let whole : trail ≡ take j trail ++ e ∷ [] = sym (take_all (j + 1) trail (omega arith)) ∙ take_more trail j d (omega arith) in
+    let last : is_among (falses trail) (negation e.literal) ≡ true = at_falses trail j d (omega arith) in
+    let one : one_if_some (get_or values i None) ≡ 1 = denied_valued (not e.literal.positive) (get_or values i None) (v.values_ok (negation e.literal) new.0 ∙ last) in
+    let c = count-set values i None lt in
+    record {
+      news = λ k d' h. (let b : k < j = omega (arith, length-take j trail) in
+          rw (length-set values i None, get_or-take j trail k d' b, take_shorter trail k j (omega arith)) (v.news k d' (omega arith)));
+      values_ok = λ x h. (let h' : IsInRange (length values) x = rw (length-set values i None) at h in
+          elim (cases_eq x.variable e.literal.variable) [
+            | inl q ↦ rw (ap (λ (n : ℕ). n - 1) q, get_or-set_same values i None None lt) (sym (absent (falses (take j trail)) x e.literal.variable q new.1))
+            | inr n ↦ (let o : x.variable - 1 ≢ i = λ z. n (let r = new.0 in omega arith) in
+                rw (get_or-set_other values i (x.variable - 1) None None o) (v.values_ok x h' ∙ ap (λ (t : List Entry). is_among (falses t) x) whole ∙ falses-snoc (take j trail) e x ∙ among_other (falses (take j trail)) x e.literal n))
+          ]);
+      count_ok = omega (arith, c, one, v.count_ok, length-take j trail);
+    }
+
+-- a further variable that has no value
+pub valued_wider : (values : List (Option Bool)) → IsValued [] values → IsValued [] (values ++ None ∷ [])
+valued_wider values v = record {
+  news = λ k d h. absurd (omega arith);
+  values_ok = λ x r. ap (value_denies x.positive) (none_valued values v.count_ok (x.variable - 1));
+  count_ok = count-append values ∙ v.count_ok;
+}
+  where
+    count-append : (xs : List (Option Bool)) → count_valued (xs ++ None ∷ []) ≡ count_valued xs
+    count-append [] = refl
+    count-append (x ∷ xs) = ap (λ (n : ℕ). one_if_some x + n) (count-append xs)
+
+    none_valued : (xs : List (Option Bool)) → count_valued xs ≡ 0 → (k : ℕ) → let n : Option Bool = None in get_or (xs ++ None ∷ []) k None ≡ n
+    none_valued [] h zero = refl
+    none_valued [] h (suc k) = refl
+    none_valued (None ∷ xs) h zero = refl
+    none_valued (Some x ∷ xs) h zero = absurd (omega (arith, h))
+    none_valued (x ∷ xs) h (suc k) = none_valued xs (omega (arith, h)) k
+
+pub valued_none : IsValued [] []
+valued_none = record { news = λ k d h. absurd (omega arith); values_ok = λ x r. refl; count_ok = refl }
+
+-- no literal out of range is false
+pub out_of_range : (trail : List Entry) (values : List (Option Bool)) (x : Literal) → IsValued trail values → (IsInRange (length values) x → ⊥) → is_among (falses trail) x ≡ false
+out_of_range trail values x v n = false_from_ne_true _ (λ h.
+    let w = in_falses trail x h in
+    n (subst (IsInRange (length values)) (w.2 none) (v.news w.0 none w.1).0))
+
+-- a variable with no value is no entry's
+pub no_entry : (trail : List Entry) (values : List (Option Bool)) (v : ℕ) → IsValued trail values → 1 ≤ v → v ≤ length values → get_or values (v - 1) None ≡ None → has_variable v (falses trail) ≡ false
+no_entry trail values v ok a b e = false_from_ne_true _ (λ h.
+    let w = in-has_variable (falses trail) v h in
+    let r : IsInRange (length values) w.0 = rw (w.2) (a, b) in
+    let u : get_or values (w.0.variable - 1) None ≡ None = rw (w.2) e in
+    false≢true (sym (ap (value_denies w.0.positive) u) ∙ ok.values_ok w.0 r ∙ w.1))
+
+-- a variable with a value is an entry's
+pub some_entry : (trail : List Entry) (values : List (Option Bool)) (v : ℕ) → IsValued trail values → 1 ≤ v → v ≤ length values → one_if_some (get_or values (v - 1) None) ≡ 1 → has_variable v (falses trail) ≡ true
+some_entry trail values v ok a b e = go (get_or values (v - 1) None) refl e
+  where
+    go : (o : Option Bool) → get_or values (v - 1) None ≡ o → one_if_some o ≡ 1 → has_variable v (falses trail) ≡ true
+    go None q e = absurd (omega (arith, e))
+    go (Some x) q e =
+        let l : Literal = record { variable = v; positive = not x } in
+        has_variable-in (falses trail) l (sym (ok.values_ok l (a, b)) ∙ ap (value_denies (not x)) q ∙ denies x)
+      where
+        denies : (x : Bool) → not (beq x (not x)) ≡ true
+        denies true = refl
+        denies false = refl
+
+-- the value of a variable, by its negative literal
+pub value_of : (trail : List Entry) (values : List (Option Bool)) (v : ℕ) → IsValued trail values → 1 ≤ v → v ≤ length values → true_variables (map (λ o. unwrap_or o false) values) v ≡ is_among (falses trail) (record { variable = v; positive = false })
+value_of trail values v ok a b = get_map values (v - 1) (omega arith) ∙ denies (get_or values (v - 1) None) ∙ ok.values_ok (record { variable = v; positive = false }) (a, b)
+  where
+    get_map : (xs : List (Option Bool)) (k : ℕ) → k < length xs → get_or (map (λ o. unwrap_or o false) xs) k false ≡ unwrap_or (get_or xs k None) false
+    get_map [] k h = absurd (omega arith)
+    get_map (x ∷ xs) zero h = refl
+    get_map (x ∷ xs) (suc k) h = get_map xs k (omega arith)
+
+    denies : (o : Option Bool) → unwrap_or o false ≡ value_denies false o
+    denies None = refl
+    denies (Some true) = refl
+    denies (Some false) = refl

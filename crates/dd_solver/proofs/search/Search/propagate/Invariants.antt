@@ -1,0 +1,22 @@
+use Rattle.std.proofs.Common.{◌≡◌, ◌<◌, ◌≤◌, ◌^◌, length}
+use Rattle.dd_solver.specs.Search.{IsSearch, left}
+use Rattle.dd_solver.proofs.search.Search.propagate.Given as goal
+
+abbrev pub invariant-turns : goal.invariant-turns
+invariant-turns l =
+    let s = l.self-inside in
+    let first = l.initial.self-inside in
+    record {
+      search : IsSearch (record { variables = s.trail.variables; clauses = s.clauses.now; steps = s.steps.items; entries = s.trail.entries });
+      marked : length s.marked.items ≡ s.trail.variables;
+      few : s.trail.variables < 2 ^ 32;
+      variables : s.trail.variables ≡ first.trail.variables;
+      clauses : s.clauses.now ≡ first.clauses.now;
+      steps : s.steps.items ≡ first.steps.items;
+      left : left (record { variables = s.trail.variables; clauses = s.clauses.now; steps = s.steps.items; entries = s.trail.entries }) ≤ left (record { variables = first.trail.variables; clauses = first.clauses.now; steps = first.steps.items; entries = first.trail.entries });
+    }
+
+abbrev pub decreases-turns : goal.decreases-turns
+decreases-turns l =
+    let s = l.self-inside in
+    left (record { variables = s.trail.variables; clauses = s.clauses.now; steps = s.steps.items; entries = s.trail.entries })

@@ -1,0 +1,5 @@
+pub mod Entries
+pub mod Values
+pub mod Analysis
+pub mod Search
+pub mod Answers

@@ -1,0 +1,224 @@
+// The clause that is learned from a conflict: that of the first unique implication point (Marques-Silva and Sakallah
+// 1999). The trail is walked down from the conflict. An entry whose variable is marked is resolved with the clause that
+// forced it, whose variables are marked in turn, or it is kept: its negation goes into the learned clause. Whatever is
+// kept, the resolved clauses' numbers are hints that show that the learned clause follows; so what is best to keep is
+// not said in any contract.
+ghost use Rattle.std.specs.Prelude.{◌≡◌, ℕ, ◌<◌, ◌≤◌, true, [], length, All, IfOk, MatchOption, slice_index_or, ⊤};
+ghost use Rattle.dd_clause.specs.Clauses.{IsInRange, IsClauseInRange};
+ghost use Rattle.dd_derivation.specs.declared.propagation.Finding.TheVariants.{Falsified};
+ghost use Rattle.dd_derivation.specs.Derivations.{hint_finding, is_among};
+ghost use Rattle.dd_solver.specs.Entries.{falses, all_known, IsTrail};
+ghost use Rattle.dd_solver.specs.Analysis.{Grows, AreMarked, IsMarkedClause, is_rightly_learned, IsPlace, IsTurn, ChoiceSays, Asserts};
+
+use crate::database::Database;
+use crate::trail::{Entry, Trail};
+use dd_clause::Literal;
+use std::alloc::{AllocError, Global};
+
+/// A place of the trail to return to, where a decision stands, and the literal that is forced there.
+#[derive(Clone, Copy)]
+pub struct Turn {
+    pub place: usize,
+    pub literal: Literal,
+}
+
+/// The literals of the learned clause, and the clauses that it follows by. There is no turn where it is empty.
+#[derive(Drop)]
+pub struct Learned {
+    pub literals: Vec<Literal>,
+    pub hints: Vec<u64>,
+    pub turn: Option<Turn>,
+}
+
+/// What is to be done with an entry: to resolve it with the clause of this number, or to keep it. What is kept first
+/// makes the turn.
+#[derive(Clone, Copy)]
+pub enum Choice {
+    Resolve(u64),
+    Keep(Turn),
+}
+
+fn is_marked(marked: &[bool], literal: Literal) -> bool {
+    let variable = literal.variable as usize;
+    variable >= 1 && variable <= marked.len() && marked[variable - 1]
+}
+
+/// Marks the variables of the literals. Counts those that were not marked and have their values since the last decision.
+fn mark_literals(trail: &Trail, marked: &mut [bool], literals: &[Literal]) -> usize
+    requires { IsClauseInRange (length marked.old) literals.now }
+    ensures grows { Grows marked.old marked.new }
+    ensures marks { AreMarked marked.new literals.now }
+{
+    let mut latest = 0usize;
+    for literal in literals {
+        if !is_marked(marked, *literal) && trail.is_latest(literal.variable) {
+            latest = latest.saturating_add(1);
+        }
+        marked[literal.variable as usize - 1] = true;
+    }
+    latest
+}
+
+/// The same for the variables of the clause of this number.
+fn mark_clause(database: &Database, trail: &Trail, marked: &mut [bool], number: u64) -> usize
+    requires { All (IsClauseInRange (length marked.old)) database.now }
+    ensures grows { Grows marked.old marked.new }
+    ensures marks { IsMarkedClause (all_known database.now) marked.new number }
+{
+    match database.find_clause(number) {
+        None => 0,
+        Some(literals) => mark_literals(trail, marked, literals),
+    }
+}
+
+/// Whether all literals of the clause but this one are marked, so that resolving with it adds nothing.
+fn adds_nothing(database: &Database, marked: &[bool], number: u64, literal: Literal) -> bool {
+    let Some(literals) = database.find_clause(number) else {
+        return false;
+    };
+    for other in literals {
+        if other.variable != literal.variable && !is_marked(marked, *other) {
+            return false;
+        }
+    }
+    true
+}
+
+/// The lowest decision at or below a place with nothing marked between.
+fn find_place(entries: &[Entry], marked: &[bool], top: usize) -> Option<usize>
+    requires top { top < length entries.now }
+    requires in_range { (k : ℕ) (d : Entry) → k < length entries.now → IsInRange (length marked.now) (slice_index_or entries.now k d).literal }
+    ensures { MatchOption result ⊤ (IsPlace entries.now marked.now top) }
+{
+    let mut place: Option<usize> = None;
+    if entries[top].reason.is_none() {
+        place = Some(top);
+    }
+    for i in (0..top).rev() {
+        let entry = entries[i];
+        if marked[entry.literal.variable as usize - 1] {
+            return place;
+        }
+        if entry.reason.is_none() {
+            place = Some(i);
+        }
+    }
+    place
+}
+
+/// Makes the turn at a marked entry.
+fn turn_at(entries: &[Entry], marked: &[bool], place: usize) -> Option<Turn>
+    requires place { place < length entries.now }
+    requires in_range { (k : ℕ) (d : Entry) → k < length entries.now → IsInRange (length marked.now) (slice_index_or entries.now k d).literal }
+    ensures { MatchOption result ⊤ (IsTurn entries.now marked.now place) }
+{
+    let literal = entries[place].literal.negation();
+    match find_place(entries, marked, place) {
+        None => None,
+        Some(place) => Some(Turn { place, literal }),
+    }
+}
+
+/// The turn at a decision.
+fn turn_at_decision(entries: &[Entry], marked: &[bool], place: usize) -> Turn
+    requires place { place < length entries.now }
+    requires decided { (d : Entry) → (slice_index_or entries.now place d).reason ≡ None }
+    requires in_range { (k : ℕ) (d : Entry) → k < length entries.now → IsInRange (length marked.now) (slice_index_or entries.now k d).literal }
+    ensures { IsTurn entries.now marked.now place result }
+{
+    match turn_at(entries, marked, place) {
+        Some(turn) => turn,
+        None => Turn {
+            place,
+            literal: entries[place].literal.negation(),
+        },
+    }
+}
+
+/// What to do with the marked entry at a place, where `open` more are marked that have their values since the last
+/// decision. Above the first kept one all are resolved, unless it is the only one left; below it, those whose clause
+/// adds nothing, and those that stand before each decision.
+fn choose(
+    database: &Database,
+    trail: &Trail,
+    marked: &[bool],
+    turn: Option<Turn>,
+    place: usize,
+    open: usize,
+) -> Choice
+    requires place { place < length trail.now.entries }
+    requires in_range { (k : ℕ) (d : Entry) → k < length trail.now.entries → IsInRange (length marked.now) (slice_index_or trail.now.entries k d).literal }
+    ensures { ChoiceSays trail.now.entries marked.now turn place result }
+{
+    let entries = trail.entries();
+    let entry = entries[place];
+    match (entry.reason, turn) {
+        (None, None) => Choice::Keep(turn_at_decision(entries, marked, place)),
+        (None, Some(turn)) => Choice::Keep(turn),
+        (Some(reason), Some(turn)) => {
+            if trail.is_fixed(entry.literal.variable)
+                || adds_nothing(database, marked, reason, entry.literal)
+            {
+                return Choice::Resolve(reason);
+            }
+            Choice::Keep(turn)
+        }
+        (Some(reason), None) => {
+            if open > 0 {
+                return Choice::Resolve(reason);
+            }
+            match turn_at(entries, marked, place) {
+                None => Choice::Resolve(reason),
+                Some(turn) => Choice::Keep(turn),
+            }
+        }
+    }
+}
+
+/// Learns a clause from the one of this number, whose literals are all false.
+pub fn learn(
+    alloc: Global,
+    database: &Database,
+    trail: &Trail,
+    marked: &mut [bool],
+    conflict: u64,
+) -> Result<Learned, AllocError>
+    requires in_range { All (IsClauseInRange (length marked.old)) database.now }
+    requires trail { IsTrail (length marked.old) (all_known database.now) trail.now.entries }
+    requires conflict { hint_finding (all_known database.now) (is_among (falses trail.now.entries)) conflict ≡ Falsified }
+    ensures right { IfOk result (λ r. is_rightly_learned (length marked.old) (all_known database.now) r.literals.items r.hints.items ≡ true) }
+    ensures turn { IfOk result (λ r. MatchOption r.turn (r.literals.items ≡ []) (Asserts trail.now.entries r.literals.items)) }
+{
+    for mark in marked.iter_mut() {
+        *mark = false;
+    }
+    let mut literals: Vec<Literal> = Vec::new(alloc);
+    let mut hints: Vec<u64> = Vec::new(alloc);
+    let mut turn: Option<Turn> = None;
+    hints.push(conflict)?;
+    let mut open = mark_clause(database, trail, marked, conflict);
+    let entries = trail.entries();
+    for i in (0..entries.len()).rev() {
+        let entry = entries[i];
+        if marked[entry.literal.variable as usize - 1] {
+            open = open.saturating_sub(1);
+            match choose(database, trail, marked, turn, i, open) {
+                Choice::Resolve(reason) => {
+                    hints.push(reason)?;
+                    let more = mark_clause(database, trail, marked, reason);
+                    open = open.saturating_add(more);
+                }
+                Choice::Keep(next) => {
+                    literals.push(entry.literal.negation())?;
+                    turn = Some(next);
+                }
+            }
+        }
+    }
+    hints.reverse();
+    Ok(Learned {
+        literals,
+        hints,
+        turn,
+    })
+}

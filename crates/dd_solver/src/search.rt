@@ -1,0 +1,184 @@
+// The search (Marques-Silva and Sakallah 1999, Een and Sorensson 2003): propagate; at a conflict learn a clause and go
+// back to where it forces a literal; else decide a variable. Each learned clause is a step of a refutation. It ends
+// since the trail, read as a number in base 3, rises at each propagation, decision and return.
+ghost use Rattle.std.specs.Prelude.{◌≡◌, ℕ, ◌+◌, ◌<◌, ◌≤◌, ◌^◌, [], true, false, length, All, IfOk, OnOk, MatchOption, IsTrue, ◌↔◌};
+ghost use Rattle.dd_clause.specs.Clauses.{IsClauseInRange, Satisfies, true_variables};
+ghost use Rattle.dd_derivation.specs.Derivations.{has_variable};
+ghost use Rattle.dd_solver.specs.Entries.{falses};
+ghost use Rattle.dd_solver.specs.Search.{State, AreOpen, IsFalsified, IsForced, GoesOn, left};
+ghost use Rattle.dd_solver.specs.Answers.{IsAnswer, IsFound, IsRefuted, IsSatisfiable};
+
+use crate::analysis::{Turn, learn};
+use crate::database::Database;
+use crate::propagation::{Scan, scan_all};
+use crate::trail::{Entry, Trail};
+use dd_clause::{Assignment, Clause, Cnf, Literal};
+use dd_derivation::{Outcome, Step};
+use dd_values::Items;
+use std::alloc::{AllocError, Global};
+use std::marker::Model;
+
+/// The clauses, the steps learned so far, the trail, the clause to look at next, and room for the analysis.
+#[derive(Drop)]
+pub struct Search<'a> {
+    clauses: &'a [Clause],
+    steps: Vec<Step>,
+    trail: Trail,
+    next: u64,
+    marked: Vec<bool>,
+}
+
+impl<'a> Model for Search<'a> {
+    ghost use Rattle.std.specs.Prelude.{◌≡◌, ◌<◌, ◌^◌, length};
+    ghost use Rattle.dd_solver.specs.Search.{State, IsSearch};
+
+    ghost Value = { State };
+
+    ghost view = { λ s. record { variables = s.trail.variables; clauses = s.clauses.now; steps = s.steps.items; entries = s.trail.entries } };
+
+    ghost invariant = { λ s. IsSearch (record { variables = s.trail.variables; clauses = s.clauses.now; steps = s.steps.items; entries = s.trail.entries }) × (length s.marked.items ≡ s.trail.variables) × (s.trail.variables < 2 ^ 32) };
+}
+
+impl<'a> Search<'a> {
+    pub fn new(
+        alloc: Global,
+        clauses: &'a [Clause],
+        variables: u32,
+    ) -> Result<Search<'a>, AllocError>
+        requires { All (IsClauseInRange variables) clauses.now }
+        ensures variables { IfOk result (λ search. search.variables ≡ variables) }
+        ensures clauses { IfOk result (λ search. search.clauses ≡ clauses.now) }
+    {
+        let variables = variables as usize;
+        Ok(Search {
+            clauses,
+            steps: Vec::new(alloc),
+            trail: Trail::new(alloc, variables)?,
+            next: 0,
+            marked: vec![in alloc; false; variables]?,
+        })
+    }
+
+    /// Makes true what has to be, until a clause is falsified or none forces a literal.
+    fn propagate(&mut self) -> Result<Option<u64>, AllocError>
+        ensures same { (self.new.variables ≡ self.old.variables) × (self.new.clauses ≡ self.old.clauses) × (self.new.steps ≡ self.old.steps) }
+        ensures conflict { IfOk result (λ conflict. MatchOption conflict (AreOpen self.new) (IsFalsified self.new)) }
+        ensures left { OnOk result (left self.new ≤ left self.old) }
+    {
+        'turns: loop {
+            let database = Database::new(self.clauses, self.steps.as_slice());
+            match scan_all(&database, &self.trail, self.next) {
+                Scan::Conflict(number) => return Ok(Some(number)),
+                Scan::Unit(number, literal) => {
+                    self.next = number;
+                    self.trail.assign(Entry {
+                        literal,
+                        reason: Some(number),
+                    })?;
+                }
+                Scan::Nothing => return Ok(None),
+            }
+        }
+    }
+
+    /// Makes a literal true of a variable that has no value. False where each has one.
+    fn decide(&mut self) -> Result<bool, AllocError>
+        ensures same { (self.new.variables ≡ self.old.variables) × (self.new.clauses ≡ self.old.clauses) × (self.new.steps ≡ self.old.steps) }
+        ensures decided { result ≡ Ok true → left self.new < left self.old }
+        ensures full { result ≡ Ok false → (self.new ≡ self.old) × ((v : ℕ) → 1 ≤ v → v ≤ self.new.variables → has_variable v (falses self.new.entries) ≡ true) }
+    {
+        let Some(variable) = self.trail.find_free() else {
+            return Ok(false);
+        };
+        self.trail.assign(Entry {
+            literal: Literal {
+                variable,
+                positive: false,
+            },
+            reason: None,
+        })?;
+        Ok(true)
+    }
+
+    /// Learns a clause from one that is falsified, as a further step. Gives where to go back to, and nothing where the
+    /// steps refute the clauses.
+    fn analyse(&mut self, alloc: Global, conflict: u64) -> Result<Option<Turn>, AllocError>
+        requires { IsFalsified self.old conflict }
+        ensures same { (self.new.variables ≡ self.old.variables) × (self.new.clauses ≡ self.old.clauses) × (self.new.entries ≡ self.old.entries) }
+        ensures turn { IfOk result (GoesOn self.new) }
+    {
+        let database = Database::new(self.clauses, self.steps.as_slice());
+        let learned = learn(
+            alloc,
+            &database,
+            &self.trail,
+            self.marked.as_mut_slice(),
+            conflict,
+        )?;
+        let clause = Clause::from_literals(alloc, learned.literals.as_slice())?;
+        self.steps.push(Step {
+            clause,
+            hints: Items::from_vec(learned.hints),
+            deletes: Items::new(alloc),
+        })?;
+        Ok(learned.turn)
+    }
+
+    /// Goes back to before a decision, and makes the literal true that the last step forces there.
+    fn backtrack(&mut self, turn: Turn) -> Result<(), AllocError>
+        requires { IsForced self.old turn }
+        ensures same { (self.new.variables ≡ self.old.variables) × (self.new.clauses ≡ self.old.clauses) × (self.new.steps ≡ self.old.steps) }
+        ensures left { OnOk result (left self.new < left self.old) }
+    {
+        let number = self.clauses.len() as u64 + self.steps.len() as u64;
+        self.trail.undo(turn.place);
+        self.trail.assign(Entry {
+            literal: turn.literal,
+            reason: Some(number),
+        })?;
+        Ok(())
+    }
+
+    /// The values of the variables, where each has one and no clause is falsified.
+    fn assignment(&self, alloc: Global) -> Result<Assignment, AllocError>
+        requires open { AreOpen self.now }
+        requires full { (v : ℕ) → 1 ≤ v → v ≤ self.now.variables → has_variable v (falses self.now.entries) ≡ true }
+        ensures { IfOk result (λ values. (length values ≡ self.now.variables) × Satisfies (true_variables values) self.now.clauses) }
+    {
+        self.trail.assignment(alloc)
+    }
+
+    fn into_steps(self) -> Items<Step>
+        ensures { result ≡ self.entry.steps }
+    {
+        Items::from_vec(self.steps)
+    }
+
+    fn run(mut self, alloc: Global) -> Result<Outcome, AllocError>
+        ensures { IfOk result (IsAnswer self.entry.variables self.entry.clauses) }
+    {
+        'turns: loop {
+            if let Some(conflict) = self.propagate()? {
+                match self.analyse(alloc, conflict)? {
+                    None => return Ok(Outcome::Refuted(self.into_steps())),
+                    Some(turn) => self.backtrack(turn)?,
+                }
+            } else if !self.decide()? {
+                return Ok(Outcome::Found(self.assignment(alloc)?));
+            }
+        }
+    }
+}
+
+/// Finds an assignment that satisfies the clauses, or steps that refute them.
+pub fn solve(alloc: Global, cnf: &Cnf) -> Result<Outcome, AllocError>
+    ensures answer { IfOk result (IsAnswer cnf.now.variables cnf.now.clauses) }
+    ensures found { IfOk result (λ outcome. IsFound outcome ↔ IsSatisfiable cnf.now.clauses) }
+    ensures refuted { IfOk result (λ outcome. IsRefuted outcome ↔ ¬ (IsSatisfiable cnf.now.clauses)) }
+{
+    let search = Search::new(alloc, cnf.clauses(), cnf.variables())?;
+    search.run(alloc)
+}
+
+#[cfg(test)]
+mod tests;

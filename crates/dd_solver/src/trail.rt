@@ -1,0 +1,208 @@
+// The literals that are true, in the order in which they became so, and the value of each variable. What a trail says
+// of a literal depends on its entries alone; the array of values makes each look cost the same.
+ghost use Rattle.std.specs.Prelude.{◌≡◌, ℕ, ◌+◌, ◌<◌, ◌≤◌, ◌^◌, ◌++◌, ◌∷◌, [], true, false, length, take, slice_set, ◌-◌, IfOk, OnOk, OnErr, MatchOption};
+ghost use Rattle.dd_clause.specs.Clauses.{IsInRange, true_variables};
+ghost use Rattle.dd_derivation.specs.Derivations.{is_among, has_variable};
+ghost use Rattle.dd_solver.specs.Entries.{falses};
+ghost use Rattle.dd_solver.specs.Values.{IsValued};
+
+use dd_clause::{Assignment, Literal};
+use dd_derivation::FalseLiterals;
+use std::alloc::{AllocError, Global};
+use std::marker::Model;
+
+/// A literal that is true: it was decided, or the clause of a number forced it.
+#[derive(Clone, Copy, Debug)]
+pub struct Entry {
+    pub literal: Literal,
+    pub reason: Option<u64>,
+}
+
+/// The entries, with the value of each variable, its entry's place, and the places of the decisions.
+#[derive(Drop)]
+pub struct Trail {
+    entries: Vec<Entry>,
+    values: Vec<Option<bool>>,
+    places: Vec<usize>,
+    levels: Vec<usize>,
+}
+
+impl Model for Trail {
+    ghost use Rattle.std.specs.Prelude.{◌≡◌, length};
+    ghost use Rattle.dd_solver.specs.Entries.{EntryList};
+    ghost use Rattle.dd_solver.specs.Values.{IsValued};
+
+    ghost Value = { EntryList };
+
+    ghost view = { λ t. record { variables = length t.values.items; entries = t.entries.items } };
+
+    ghost invariant = { λ t. IsValued t.entries.items t.values.items × (length t.places.items ≡ length t.values.items) };
+}
+
+fn no_values(alloc: Global, variables: usize) -> Result<Vec<Option<bool>>, AllocError>
+    ensures length { IfOk result (λ values. length values.items ≡ variables) }
+    ensures valued { IfOk result (λ values. IsValued [] values.items) }
+{
+    let mut values: Vec<Option<bool>> = Vec::new(alloc);
+    for i in 0..variables {
+        values.push(None)?;
+    }
+    Ok(values)
+}
+
+fn set_value(values: &mut Vec<Option<bool>>, variable: u32, value: Option<bool>)
+    requires low { 1 ≤ variable }
+    requires high { variable ≤ length values.old.items }
+    ensures { values.new.items ≡ slice_set values.old.items (variable - 1) value }
+{
+    values[variable as usize - 1] = value;
+}
+
+fn set_place(places: &mut Vec<usize>, variable: u32, place: usize)
+    ensures { length places.new.items ≡ length places.old.items }
+{
+    let variable = variable as usize;
+    if variable >= 1 && variable <= places.len() {
+        places[variable - 1] = place;
+    }
+}
+
+/// Notes where a decision stands.
+fn note_decision(levels: &mut Vec<usize>, entry: Entry, place: usize) -> Result<(), AllocError> {
+    if entry.reason.is_none() {
+        levels.push(place)?;
+    }
+    Ok(())
+}
+
+/// How many of the decisions stand below a place.
+fn count_below(levels: &[usize], place: usize) -> usize {
+    for count in (0..levels.len()).rev() {
+        if levels[count] < place {
+            return count + 1;
+        }
+    }
+    0
+}
+
+impl Trail {
+    /// No entries over this many variables.
+    pub fn new(alloc: Global, variables: usize) -> Result<Trail, AllocError>
+        ensures variables { IfOk result (λ trail. trail.variables ≡ variables) }
+        ensures entries { IfOk result (λ trail. trail.entries ≡ []) }
+    {
+        Ok(Trail {
+            entries: Vec::new(alloc),
+            values: no_values(alloc, variables)?,
+            places: vec![in alloc; 0; variables]?,
+            levels: Vec::new(alloc),
+        })
+    }
+
+    pub fn entries(&self) -> &[Entry]
+        ensures { result.now ≡ self.now.entries }
+    {
+        self.entries.as_slice()
+    }
+
+    /// Makes a literal true whose variable has no value.
+    pub fn assign(&mut self, entry: Entry) -> Result<(), AllocError>
+        requires in_range { IsInRange self.old.variables entry.literal }
+        requires fresh { has_variable entry.literal.variable (falses self.old.entries) ≡ false }
+        ensures variables { self.new.variables ≡ self.old.variables }
+        ensures entries { OnOk result (self.new.entries ≡ self.old.entries ++ entry ∷ []) }
+        ensures failed { OnErr result (self.new.entries ≡ self.old.entries) }
+        ensures room { OnOk result (length self.old.entries < self.old.variables) }
+    {
+        let place = self.entries.len();
+        note_decision(&mut self.levels, entry, place)?;
+        self.entries.push(entry)?;
+        let variable = entry.literal.variable;
+        set_value(&mut self.values, variable, Some(entry.literal.positive));
+        set_place(&mut self.places, variable, place);
+        Ok(())
+    }
+
+    /// Takes back all entries from a place on.
+    pub fn undo(&mut self, place: usize)
+        ensures variables { self.new.variables ≡ self.old.variables }
+        ensures entries { self.new.entries ≡ take place self.old.entries }
+    {
+        while self.entries.len() > place {
+            let last = self.entries.len() - 1;
+            let entry = self.entries[last];
+            set_value(&mut self.values, entry.literal.variable, None);
+            self.entries.truncate(last);
+        }
+        self.levels
+            .truncate(count_below(self.levels.as_slice(), place));
+    }
+
+    /// A variable that has no value.
+    pub fn find_free(&self) -> Option<u32>
+        requires { self.now.variables < 2 ^ 32 }
+        ensures { MatchOption result ((v : ℕ) → 1 ≤ v → v ≤ self.now.variables → has_variable v (falses self.now.entries) ≡ true) (λ v. (1 ≤ v) × (v ≤ self.now.variables) × (has_variable v (falses self.now.entries) ≡ false)) }
+    {
+        for i in 0..self.values.len() {
+            if self.values[i].is_none() {
+                return Some(i as u32 + 1);
+            }
+        }
+        None
+    }
+
+    /// The values of the variables. One that has none is false.
+    pub fn assignment(&self, alloc: Global) -> Result<Assignment, AllocError>
+        ensures length { IfOk result (λ values. length values ≡ self.now.variables) }
+        ensures values { IfOk result (λ values. (v : ℕ) → 1 ≤ v → v ≤ self.now.variables → true_variables values v ≡ is_among (falses self.now.entries) (record { variable = v; positive = false })) }
+    {
+        let mut values: Vec<bool> = Vec::new(alloc);
+        for value in &self.values {
+            values.push(value.unwrap_or(false))?;
+        }
+        Ok(Assignment::new(values))
+    }
+
+    /// Whether the variable has its value by clauses alone, with no decision before it.
+    pub fn is_fixed(&self, variable: u32) -> bool {
+        match self.levels.first() {
+            None => true,
+            Some(first) => self.place(variable) < *first,
+        }
+    }
+
+    /// Whether the variable got its value since the last decision.
+    pub fn is_latest(&self, variable: u32) -> bool {
+        match self.levels.last() {
+            None => true,
+            Some(last) => self.place(variable) >= *last,
+        }
+    }
+
+    fn place(&self, variable: u32) -> usize {
+        let variable = variable as usize;
+        if variable >= 1 && variable <= self.places.len() {
+            return self.places[variable - 1];
+        }
+        0
+    }
+}
+
+impl FalseLiterals for Trail {
+    ghost is_false = { λ t. is_among (falses t.entries) };
+
+    fn is_false(&self, literal: Literal) -> bool {
+        let count = self.values.len();
+        let variable = literal.variable as usize;
+        if variable == 0 {
+            return false;
+        }
+        if variable > count {
+            return false;
+        }
+        match self.values[variable - 1] {
+            None => false,
+            Some(value) => value != literal.positive,
+        }
+    }
+}
