@@ -1,5 +1,5 @@
 -- What the edges of a topology keep, edge by edge.
-use Rattle.std.proofs.Common.{◌≡◌, ◌<◌, ◌≤◌, ℕ, List, [], ◌∷◌, Bool, true, false, ◌&&◌, cond, nat_lt, length, Contains, arith, refl}
+use Rattle.std.proofs.Common.{◌≡◌, ◌≤◌, ℕ, List, [], ◌∷◌, Bool, true, false, cond, nat_lt, length, arith, refl}
 use Rattle.std.specs.Prelude.{nat_le, unsigned_abs, max}
 use Rattle.std.specs.List.{list_all}
 use Rattle.std.proofs.lemmas.Bool.{and_parts, and_from}

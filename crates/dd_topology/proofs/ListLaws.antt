@@ -1,5 +1,5 @@
 -- Searches in lists whose elements are seen through a function.
-use Rattle.std.proofs.Common.{◌≡◌, ◌+◌, ◌<◌, ◌≤◌, ℕ, List, [], ◌∷◌, ◌++◌, Bool, true, false, cond, not, ◌||◌, if◌then◌else◌, map, length, nat_lt, Option, Some, None, Contains, zero, suc, refl, ap, sym, ◌∙◌, subst, inl, inr, ◌⊎◌, arith}
+use Rattle.std.proofs.Common.{◌≡◌, ◌+◌, List, [], ◌∷◌, ◌++◌, Bool, true, false, cond, not, ◌||◌, if◌then◌else◌, map, length, nat_lt, Some, None, Contains, refl, ap, sym, ◌∙◌, subst, inl, inr, arith}
 use Rattle.std.specs.Prelude.{position, slice_get, find}
 use Rattle.std.specs.List.{list_any, position_or_len, flat_map}
 use Rattle.std.specs.Option.{option_and_then}

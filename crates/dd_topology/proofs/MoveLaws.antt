@@ -1,5 +1,5 @@
 -- At most one edge for each label and node, and what it makes of a move.
-use Rattle.std.proofs.Common.{◌≡◌, ◌+◌, ◌<◌, ◌≤◌, ◌-◌, ℕ, List, [], ◌∷◌, ◌++◌, Bool, true, false, ◌&&◌, cond, map, length, get_or, take, Option, Some, None, Contains, refl, ap, sym, ◌∙◌, subst, inl, inr, ◌⊎◌, arith, true≢false, eq-eqb}
+use Rattle.std.proofs.Common.{◌≡◌, ◌+◌, ◌<◌, ℕ, List, [], ◌∷◌, ◌++◌, Bool, true, false, ◌&&◌, map, length, get_or, take, Option, Some, None, Contains, refl, ap, sym, ◌∙◌, inl, inr, arith, true≢false, eq-eqb}
 use Rattle.std.specs.Prelude.{◌==◌, MatchOption, find, position, slice_get, if◌then◌else◌}
 use Rattle.std.specs.List.{list_any}
 use Rattle.std.specs.Option.{option_and_then, option_map}
@@ -10,9 +10,9 @@ use Rattle.std.proofs.lemmas.List.Folds.{list_any_at}
 use Rattle.std.proofs.lemmas.List.Quantifiers.{all_pairs_push}
 use Rattle.dd_lattice.specs.Place.{IsInRange, is_in_range}
 use Rattle.dd_lattice.specs.declared.position.Cell.{Cell}
-use Rattle.dd_lattice.proofs.RangeLaws.{in_range_from_test, test_from_in_range}
+use Rattle.dd_lattice.proofs.RangeLaws.{test_from_in_range}
 use Rattle.dd_topology.specs.declared.edge.Edge.{Edge}
-use Rattle.dd_topology.specs.Topology.{leaves, step, end_of, in_range, Leads, IsMove, starts_alike, AreSingle}
+use Rattle.dd_topology.specs.Topology.{leaves, end_of, in_range, IsMove, starts_alike, AreSingle}
 use Rattle.indexmap.specs.IndexSet.{insert_key}
 use Rattle.dd_topology.specs.Kept.{move_of}
 use Rattle.dd_topology.specs.declared.topology.Move.{Move}

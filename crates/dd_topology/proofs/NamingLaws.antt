@@ -1,9 +1,9 @@
 -- Names that are kept under another form, as the bytes of texts: what the kept list finds, the list of names has.
-use Rattle.std.proofs.Common.{◌≡◌, ℕ, List, [], ◌∷◌, Bool, true, false, cond, map, length, nat_lt, Option, Some, None, Contains, refl, ap, sym, ◌∙◌, true≢false, ◌++◌}
+use Rattle.std.proofs.Common.{◌≡◌, ℕ, List, [], ◌∷◌, true, false, map, length, Some, Contains, refl, ap, sym, ◌∙◌, true≢false, ◌++◌}
 use Rattle.std.specs.Prelude.{position, bytes_eq, slice_get}
-use Rattle.std.specs.List.{list_any, position_or_len, IsDistinct, AllByRecursion}
+use Rattle.std.specs.List.{list_any, IsDistinct, AllByRecursion}
 use Rattle.std.specs.Cmp.Lexicographic.{nat_list_eq_equiv}
-use Rattle.std.proofs.lemmas.List.{length-map, map-append}
+use Rattle.std.proofs.lemmas.List.{map-append}
 use Rattle.std.proofs.lemmas.List.Quantifiers.{position-Some}
 use Rattle.std.proofs.lemmas.Map.Made.{AllPairs-from_IsDistinct}
 use Rattle.std.proofs.lemmas.Map.Views.{list_any-from_Contains, Contains-from_any}

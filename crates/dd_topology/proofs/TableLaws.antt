@@ -1,14 +1,14 @@
 -- Tables without repeats.
-use Rattle.std.proofs.Common.{◌≡◌, ◌<◌, ◌≤◌, ℕ, List, [], ◌∷◌, Bool, true, false, ◌||◌, length, map, take, get_or, Some, Contains, refl, ap, sym, ◌∙◌, subst, arith, true≢false, min}
-use Rattle.std.specs.Prelude.{AllPairs, slice_get, bytes_eq}
+use Rattle.std.proofs.Common.{◌≡◌, ◌<◌, ℕ, List, [], ◌∷◌, Bool, true, false, ◌||◌, length, take, get_or, Contains, refl, ap, sym, ◌∙◌, arith, true≢false}
+use Rattle.std.specs.Prelude.{AllPairs, bytes_eq}
 use Rattle.std.specs.List.{list_any}
 use Rattle.std.proofs.lemmas.Bool.{false_from_ne_true}
-use Rattle.std.proofs.lemmas.List.{get_or-take, length-take, take-map}
+use Rattle.std.proofs.lemmas.List.{get_or-take, length-take}
 use Rattle.std.proofs.lemmas.List.Kept.{AllPairs-cons}
 use Rattle.std.proofs.lemmas.Option.{slice_get_within, get_or_from_slice_get}
 use Rattle.std.proofs.lemmas.Slice.Eq.{bytes_eq-Decides}
 use Rattle.dd_lattice.proofs.ListLaws.{All-from_contains}
-use Rattle.dd_topology.specs.Topology.{starts_alike, AreSingle}
+use Rattle.dd_topology.specs.Topology.{starts_alike}
 use Rattle.dd_topology.specs.Grid.{IsFirstTwice}
 use Rattle.dd_topology.specs.Builtin.{has_repeat}
 use Rattle.dd_topology.specs.declared.edge.Edge.{Edge}

@@ -1,5 +1,5 @@
 -- Moves along the edges of a topology, over all of Z^3.
-use Rattle.std.specs.Prelude.{◌≡◌, ℕ, ◌==◌, ◌&&◌, Bool, false, max, nat_le, unsigned_abs, ℤ, pos, ◌-ℤ◌, List, Option, Some, None, if◌then◌else◌, Contains, AllPairs}
+use Rattle.std.specs.Prelude.{◌≡◌, ℕ, ◌==◌, ◌&&◌, Bool, false, max, nat_le, unsigned_abs, pos, ◌-ℤ◌, List, Option, Some, None, if◌then◌else◌, Contains, AllPairs}
 use Rattle.std.specs.List.{find, list_all}
 use Rattle.std.specs.Option.{option_map}
 use Rattle.dd_lattice.specs.Place.{Place, place, moved, is_in_range}

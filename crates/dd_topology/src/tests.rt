@@ -1,5 +1,9 @@
 //! Balls computed by hand on the built-in topologies, and topologies made from edges.
-use crate::{Edge, Kind, NameFault, Names, Topology};
+ghost use Rattle.std.specs.Prelude.{◌≡◌, pos};
+ghost use Rattle.dd_lattice.specs.Place.{place};
+ghost use Rattle.dd_topology.specs.Builtin.{link};
+
+use crate::{Edge, Kind, NameFault, Names, Topology, TopologyFault};
 use dd_lattice::{Cell, Position};
 use std::alloc::{AllocError, Global};
 use std::process::Abort;
@@ -128,5 +132,28 @@ fn a_move_is_missing_where_no_edge_leaves(rt: HostRuntime) -> Result<(), Fail> {
     // The ball has stopped growing long before its radius.
     let ball = topology.ball(rt.alloc(), &b, 4_000_000_000)?;
     assert_eq!(rt; ball.as_slice(), [a, b].as_slice());
+    Ok(())
+}
+
+fn along(label: u32) -> Edge
+    ensures { result ≡ link label (place (pos 4) (pos 0) (pos 0)) }
+{
+    Edge {
+        label,
+        from: 0,
+        offset: Position { x: 4, y: 0, z: 0 },
+        to: 0,
+    }
+}
+
+#[test]
+fn a_label_with_two_edges_from_a_node_is_refused(rt: HostRuntime) -> Result<(), Fail> {
+    let alloc = rt.alloc();
+    let mut labels = Names::new(alloc);
+    labels.add(String::from_str(alloc, "x")?)?;
+    labels.add(String::from_str(alloc, "y")?)?;
+    let edges = vec![in alloc; along(0), along(1), along(1), along(0)]?;
+    let refused = Topology::from_edges(alloc, 1, 1, labels, edges);
+    assert!(rt; matches!(refused, Err(TopologyFault::Twice(1))));
     Ok(())
 }

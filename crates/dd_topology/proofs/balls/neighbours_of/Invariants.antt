@@ -1,4 +1,4 @@
-use Rattle.std.proofs.Common.{◌≡◌, ◌++◌, take, true}
+use Rattle.std.proofs.Common.{◌≡◌, take, true}
 use Rattle.std.specs.List.{flat_map}
 use Rattle.dd_topology.specs.Balls.{neighbours, are_in_range}
 use Rattle.dd_topology.proofs.balls.neighbours_of.Given as goal

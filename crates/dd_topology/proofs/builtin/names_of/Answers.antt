@@ -1,4 +1,4 @@
-use Rattle.std.proofs.Common.{◌≡◌, ◌<◌, ◌∙◌, sym, arith, map, length, take, Contains}
+use Rattle.std.proofs.Common.{◌<◌, ◌∙◌, sym, arith, map, length}
 use Rattle.std.specs.Prelude.{string_bytes}
 use Rattle.std.proofs.lemmas.List.{length-map, take-map, get_or-map}
 use Rattle.dd_topology.proofs.TableLaws.{not_named}

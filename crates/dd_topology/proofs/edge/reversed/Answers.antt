@@ -1,4 +1,3 @@
-use Rattle.std.proofs.Common.{◌≡◌, ℤ, pos, ◌-ℤ◌}
 use Rattle.dd_lattice.specs.Place.{IsNear}
 use Rattle.dd_topology.proofs.CoordinateLaws.{difference_of_near}
 use Rattle.dd_topology.proofs.edge.reversed.Goals as goal

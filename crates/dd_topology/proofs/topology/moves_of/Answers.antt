@@ -1,5 +1,4 @@
-use Rattle.std.proofs.Common.{◌≡◌, ◌<◌, ◌∙◌, sym, ap, refl, true, false, length, arith}
-use Rattle.std.specs.List.{list_any}
+use Rattle.std.proofs.Common.{◌<◌, ◌∙◌, sym, refl, length, arith}
 use Rattle.std.proofs.lemmas.Option.{slice_get_read}
 use Rattle.std.proofs.lemmas.Bool.{not-false, not-true}
 use Rattle.dd_topology.proofs.MoveLaws.{single_more, repeats_from, new_from, moves_more}

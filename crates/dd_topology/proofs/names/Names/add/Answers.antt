@@ -1,6 +1,5 @@
-use Rattle.std.proofs.Common.{◌≡◌, ◌∙◌, Bool, true, false, map, ap, sym, refl}
-use Rattle.std.specs.Prelude.{string_bytes, bytes_eq}
-use Rattle.std.specs.List.{list_any}
+use Rattle.std.proofs.Common.{◌∙◌, map, ap, sym, refl}
+use Rattle.std.specs.Prelude.{string_bytes}
 use Rattle.dd_topology.proofs.NamingLaws.{known, unknown, map-insert_key}
 use Rattle.dd_topology.proofs.names.Names.add.Goals as goal
 

@@ -1,5 +1,3 @@
-use Rattle.std.proofs.Common.{◌∙◌, ap}
-use Rattle.dd_topology.specs.Balls.{is_adjacent}
 use Rattle.dd_topology.proofs.BallLaws.{is_adjacent-exact}
 use Rattle.dd_topology.proofs.topology.Topology.adjacent.Goals as goal
 

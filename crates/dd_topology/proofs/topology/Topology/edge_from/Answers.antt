@@ -1,4 +1,4 @@
-use Rattle.std.proofs.Common.{◌≡◌, ◌<◌, ◌∙◌, sym, ap, refl, length, arith, map, Some, None}
+use Rattle.std.proofs.Common.{◌<◌, ◌∙◌, sym, refl, length, Some, None}
 use Rattle.std.proofs.lemmas.List.{length-map}
 use Rattle.std.proofs.lemmas.Option.{slice_get_read}
 use Rattle.dd_topology.specs.Kept.{move_of}

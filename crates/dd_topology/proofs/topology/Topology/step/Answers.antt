@@ -1,4 +1,4 @@
-use Rattle.std.proofs.Common.{◌≡◌, sym, Some, None}
+use Rattle.std.proofs.Common.{sym, Some, None}
 use Rattle.dd_topology.proofs.MoveLaws.{move_exact}
 use Rattle.dd_topology.proofs.topology.Topology.step.Goals as goal
 

@@ -1,0 +1,26 @@
+-- Writing a number from its last digit on.
+use Rattle.std.proofs.Common.{◌≡◌, ℕ, zero, suc, ◌+◌, ◌*◌, ◌-◌, ◌/◌, ◌%◌, ◌^◌, ◌<◌, ◌≤◌, List, [], ◌∷◌, ◌++◌, length, drop, get_or, refl, sym, ap, ◌∙◌, append_assoc, add-one, drop-cons, arith}
+use Rattle.std.proofs.Math.Nat.{pow-suc}
+use Rattle.std.specs.Fmt.{decimal}
+use Rattle.std.proofs.lemmas.Fmt.{decimal_digit, decimal_step}
+
+-- a digit more at the front
+pub digit_more : (n rest at : ℕ) (digits : List ℕ) → 10 ≤ rest → rest < 2 ^ 64 → at < length digits → get_or digits at 0 ≡ 48 + rest % 10
+    → decimal n ≡ decimal rest ++ drop (at + 1) digits → decimal n ≡ decimal (rest / 10) ++ drop at digits
+digit_more n rest at digits many fits within last whole =
+    let cell : drop at digits ≡ (48 + rest % 10) ∷ drop (at + 1) digits = rw (drop-cons digits at 0 within, add-one at, last) refl in
+    rw (whole, decimal_step rest many fits, cell) (append_assoc (decimal (rest / 10)) ((48 + rest % 10) ∷ []) (drop (at + 1) digits))
+
+-- the first digit
+pub digit_first : (n rest at : ℕ) (digits : List ℕ) → rest < 10 → at < length digits → get_or digits at 0 ≡ 48 + rest % 10
+    → decimal n ≡ decimal rest ++ drop (at + 1) digits → drop at digits ≡ decimal n
+digit_first n rest at digits few within last whole =
+    let one : rest % 10 ≡ rest = omega arith in
+    rw (whole, decimal_digit rest few, drop-cons digits at 0 within, add-one at, last, one) refl
+
+-- room for the next digit
+pub room_more : (rest at : ℕ) → 10 ≤ rest → rest < 10 ^ (at + 1) → (0 < at) × (rest / 10 < 10 ^ at)
+room_more rest zero many small = absurd (omega (arith, small))
+room_more rest (suc at) many small =
+    let small : rest < 10 ^ suc at * 10 = rw (← pow-suc 10 (suc at), ← add-one (suc at)) small in
+    (omega arith, omega (arith, small))

@@ -1,0 +1,64 @@
+-- The answers that an output can hold: each number within bounds, and each list with as many entries as its line allows.
+use Rattle.std.specs.Prelude.{ℕ, ℤ, ◌≤◌, ◌^◌, ◌-◌, List, All, length, unsigned_abs}
+use Rattle.dd_clause.specs.declared.clause.Literal.{Literal}
+use Rattle.dd_clause.specs.Clauses.{IsInRange}
+use Rattle.dd_derivation.specs.declared.step.Step.{Step}
+use Rattle.dd_certificate.specs.declared.answer.Listed.{Listed}
+use Rattle.dd_certificate.specs.declared.answer.Answer.{Answer}
+use Rattle.dd_certificate.specs.declared.answer.Answer.TheVariants as answer
+
+-- the greatest number of most lines
+abbrev pub most_number : ℕ
+most_number = 2 ^ 40
+
+-- the greatest number of a clause, and of steps
+abbrev pub most_count : ℕ
+most_count = 2 ^ 64 - 1
+
+abbrev pub most_variable : ℕ
+most_variable = 2 ^ 24
+
+abbrev pub IsWritableNumber : ℕ → Type 0
+IsWritableNumber n = n ≤ most_number
+
+abbrev pub IsWritableSigned : ℤ → Type 0
+IsWritableSigned z = unsigned_abs z ≤ most_number
+
+-- from 1 on
+abbrev pub IsWritableDenominator : ℕ → Type 0
+IsWritableDenominator n = (1 ≤ n) × (n ≤ most_number)
+
+-- a clause's number
+abbrev pub IsWritableHint : ℕ → Type 0
+IsWritableHint n = (1 ≤ n) × (n ≤ most_count)
+
+abbrev pub IsWritableStep : Step → Type 0
+IsWritableStep s = All (IsInRange most_variable) s.clause × All IsWritableHint s.hints × All IsWritableHint s.deletes
+
+abbrev pub IsWritableRefutation : List Step → Type 0
+IsWritableRefutation steps = (1 ≤ length steps) × (length steps ≤ most_count) × All IsWritableStep steps
+
+abbrev pub IsWritablePattern : Listed → Type 0
+IsWritablePattern p = IsWritableNumber p.node × All IsWritableNumber p.symbols
+
+-- a list that has to have an entry
+abbrev pub IsWritableList : List ℕ → Type 0
+IsWritableList ns = (1 ≤ length ns) × All IsWritableNumber ns
+
+abbrev pub IsWritable : Answer → Type 0
+IsWritable answer.Inside = Unit {0}
+IsWritable (answer.Outside place) = (2 ≤ length place) × (length place ≤ 4) × All IsWritableSigned place
+IsWritable (answer.Yes radius steps) = IsWritableNumber radius × IsWritableRefutation steps
+IsWritable (answer.YesBoth left right left_steps right_steps) =
+    IsWritableNumber left × IsWritableNumber right × IsWritableRefutation left_steps × IsWritableRefutation right_steps
+IsWritable (answer.No side periods symbols) = (length periods ≤ 3) × IsWritableList periods × IsWritableList symbols
+IsWritable (answer.Unknown reason) = Unit {0}
+IsWritable (answer.List patterns) = (length patterns ≤ most_number) × All IsWritablePattern patterns
+IsWritable (answer.Density numerator denominator cycle potentials) =
+    IsWritableNumber numerator × IsWritableDenominator denominator
+    × (length cycle ≤ most_number) × IsWritableList cycle
+    × (1 ≤ length potentials) × All IsWritableSigned potentials
+IsWritable (answer.Empty ranks) = IsWritableList ranks
+IsWritable (answer.Bound numerator denominator common amounts duals) =
+    IsWritableNumber numerator × IsWritableDenominator denominator × IsWritableDenominator common
+    × All IsWritableNumber amounts × IsWritableList duals

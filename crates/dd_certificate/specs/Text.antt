@@ -1,0 +1,135 @@
+-- The text of an answer: lines of words with one space between two of them, each line ended by a line feed.
+use Rattle.std.specs.Prelude.{ℕ, ℤ, List, [], ◌∷◌, ◌++◌, length, codes, if◌then◌else◌}
+use Rattle.std.specs.List.{flat_map}
+use Rattle.std.specs.Fmt.{decimal, signed_decimal}
+use Rattle.dd_clause.specs.declared.clause.Literal.{Literal}
+use Rattle.dd_derivation.specs.declared.step.Step.{Step}
+use Rattle.dd_certificate.specs.declared.answer.Side.{Side}
+use Rattle.dd_certificate.specs.declared.answer.Side.TheVariants as side
+use Rattle.dd_certificate.specs.declared.answer.Reason.{Reason}
+use Rattle.dd_certificate.specs.declared.answer.Reason.TheVariants as reason
+use Rattle.dd_certificate.specs.declared.answer.Listed.{Listed}
+use Rattle.dd_certificate.specs.declared.answer.Answer.{Answer}
+use Rattle.dd_certificate.specs.declared.answer.Answer.TheVariants as answer
+
+abbrev pub line_feed : List ℕ
+line_feed = codes "\n"
+
+-- a number after a space
+abbrev pub after_space : ℕ → List ℕ
+after_space n = codes " " ++ decimal n
+
+abbrev pub signed_after_space : ℤ → List ℕ
+signed_after_space z = codes " " ++ signed_decimal z
+
+-- the numbers that a line ends with
+abbrev pub numbers_to_end : List ℕ → List ℕ
+numbers_to_end ns = flat_map after_space ns ++ line_feed
+
+abbrev pub signed_to_end : List ℤ → List ℕ
+signed_to_end zs = flat_map signed_after_space zs ++ line_feed
+
+-- a fraction that a line ends with
+abbrev pub fraction_to_end : ℕ → ℕ → List ℕ
+fraction_to_end numerator denominator = decimal numerator ++ (codes "/" ++ (decimal denominator ++ line_feed))
+
+-- ---- refutations
+
+-- a variable's number, with a minus sign where the literal is its negation
+abbrev pub literal_text : Literal → List ℕ
+literal_text l = if l.positive then decimal l.variable else (codes "-" ++ decimal l.variable)
+
+-- a word and the space after it
+abbrev pub spaced_literal : Literal → List ℕ
+spaced_literal l = literal_text l ++ codes " "
+
+abbrev pub spaced : ℕ → List ℕ
+spaced n = decimal n ++ codes " "
+
+-- lists that a 0 ends, with the byte that follows the 0
+abbrev pub numbers_to_zero : ℕ → List ℕ → List ℕ
+numbers_to_zero next ns = flat_map spaced ns ++ (codes "0" ++ next ∷ [])
+
+abbrev pub literals_to_zero : List Literal → List ℕ
+literals_to_zero ls = flat_map spaced_literal ls ++ codes "0 "
+
+-- a clause's literals, the hints and the deletes
+abbrev pub step_text : Step → List ℕ
+step_text s = codes "step " ++ (literals_to_zero s.clause ++ (numbers_to_zero 32 s.hints ++ numbers_to_zero 10 s.deletes))
+
+-- the number of steps, and a line for each
+abbrev pub refutation_text : List Step → List ℕ
+refutation_text steps = codes "refutation " ++ (decimal (length steps) ++ (line_feed ++ flat_map step_text steps))
+
+-- ---- answers
+
+abbrev pub side_text : Side → List ℕ
+side_text side.Whole = []
+side_text side.Left = codes " left"
+side_text side.Right = codes " right"
+
+abbrev pub reason_text : Reason → List ℕ
+reason_text reason.Limits = codes "limits"
+reason_text reason.Large = codes "large"
+reason_text reason.Overflow = codes "overflow"
+reason_text reason.Pivots = codes "pivots"
+
+-- the node, and then the symbols
+abbrev pub pattern_text : Listed → List ℕ
+pattern_text p = codes "pattern " ++ (decimal p.node ++ numbers_to_end p.symbols)
+
+abbrev pub yes_both_text : ℕ → ℕ → List ℕ
+yes_both_text left right = codes "YES " ++ (decimal left ++ (codes " " ++ (decimal right ++ line_feed)))
+
+-- a line's first word, and one number
+abbrev pub number_line : List ℕ → ℕ → List ℕ
+number_line word n = word ++ (decimal n ++ line_feed)
+
+-- a line's first word, and any number of numbers
+abbrev pub numbers_line : List ℕ → List ℕ → List ℕ
+numbers_line word ns = word ++ numbers_to_end ns
+
+-- the first line, from the answer on
+abbrev pub verdict_text : Answer → List ℕ
+verdict_text answer.Inside = codes "IN\n"
+verdict_text (answer.Outside place) = codes "OUT" ++ signed_to_end place
+verdict_text (answer.Yes radius steps) = number_line (codes "YES ") radius
+verdict_text (answer.YesBoth left right left_steps right_steps) = yes_both_text left right
+verdict_text (answer.No side periods symbols) = codes "NO" ++ (side_text side ++ numbers_to_end periods)
+verdict_text (answer.Unknown reason) = codes "UNKNOWN " ++ (reason_text reason ++ line_feed)
+verdict_text (answer.List patterns) = number_line (codes "LIST ") (length patterns)
+verdict_text (answer.Density numerator denominator cycle potentials) = codes "DENSITY " ++ fraction_to_end numerator denominator
+verdict_text (answer.Empty ranks) = codes "EMPTY\n"
+verdict_text (answer.Bound numerator denominator common amounts duals) = codes "BOUND " ++ fraction_to_end numerator denominator
+
+-- the number of states, the states, and the potentials
+abbrev pub density_lines : List ℕ → List ℤ → List ℕ
+density_lines cycle potentials =
+    codes "cycle " ++ (decimal (length cycle) ++ (numbers_to_end cycle ++ (codes "potentials" ++ signed_to_end potentials)))
+
+abbrev pub amounts_and_duals : List ℕ → List ℕ → List ℕ
+amounts_and_duals amounts duals = numbers_line (codes "amounts") amounts ++ numbers_line (codes "duals") duals
+
+abbrev pub bound_lines : ℕ → List ℕ → List ℕ → List ℕ
+bound_lines common amounts duals = number_line (codes "denominator ") common ++ amounts_and_duals amounts duals
+
+-- the lines that follow the first
+abbrev pub further_lines : Answer → List ℕ
+further_lines answer.Inside = []
+further_lines (answer.Outside place) = []
+further_lines (answer.Yes radius steps) = refutation_text steps
+further_lines (answer.YesBoth left right left_steps right_steps) = refutation_text left_steps ++ refutation_text right_steps
+further_lines (answer.No side periods symbols) = numbers_line (codes "conf") symbols
+further_lines (answer.Unknown reason) = []
+further_lines (answer.List patterns) = flat_map pattern_text patterns
+further_lines (answer.Density numerator denominator cycle potentials) = density_lines cycle potentials
+further_lines (answer.Empty ranks) = numbers_line (codes "ranks") ranks
+further_lines (answer.Bound numerator denominator common amounts duals) = bound_lines common amounts duals
+
+-- the first line of the answer to the query with this number
+abbrev pub answer_line : ℕ → Answer → List ℕ
+answer_line query a = codes "query " ++ (decimal query ++ (codes " " ++ verdict_text a))
+
+-- all of its lines
+abbrev pub answer_text : ℕ → Answer → List ℕ
+answer_text query a = answer_line query a ++ further_lines a

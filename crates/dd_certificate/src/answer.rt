@@ -1,0 +1,79 @@
+// What an output says of a query, with all that is needed to test it without searching again.
+use dd_derivation::Step;
+use dd_values::Items;
+
+/// Of which of two rules a configuration is one and the other is not.
+#[derive(Clone, Copy, Debug, PartialEq, Eq)]
+pub enum Side {
+    /// The query asks one thing only.
+    Whole,
+    /// The configuration is one of the first rule alone.
+    Left,
+    /// The configuration is one of the second rule alone.
+    Right,
+}
+
+/// Why there is no definite answer.
+#[derive(Clone, Copy, Debug, PartialEq, Eq)]
+pub enum Reason {
+    /// The search ended at the limits of the script.
+    Limits,
+    /// A structure that was to be made is too large.
+    Large,
+    /// A fraction has no room in its integers.
+    Overflow,
+    /// The pivots of the script are used up.
+    Pivots,
+}
+
+/// A pattern that a rule forbids at a node: the symbols of the cells that the rule reads there.
+#[derive(Debug, Drop)]
+pub struct Listed {
+    pub node: u64,
+    pub symbols: Items<u64>,
+}
+
+/// The answer to a query. Nodes and symbols are given by their numbers, from 0.
+#[derive(Debug, Drop)]
+pub enum Answer {
+    /// The configuration lives in the subshift.
+    Inside,
+    /// The rule is false at a cell: its coordinates, and then its node.
+    Outside { place: Items<i64> },
+    /// It is so, by what refutes the contrary on the box of this radius.
+    Yes { radius: u64, steps: Items<Step> },
+    /// It is so in both directions, each by a refutation on a box of its own.
+    YesBoth {
+        left: u64,
+        right: u64,
+        left_steps: Items<Step>,
+        right_steps: Items<Step>,
+    },
+    /// It is not so: a configuration with these periods, as the symbols of one of its boxes in the order of the cells.
+    No {
+        side: Side,
+        periods: Items<u64>,
+        symbols: Items<u64>,
+    },
+    Unknown { reason: Reason },
+    /// The patterns that are asked for.
+    List { patterns: Items<Listed> },
+    /// The least mean weight of a configuration, with a cycle of this mean and potentials that no edge undercuts.
+    Density {
+        numerator: u64,
+        denominator: u64,
+        cycle: Items<u64>,
+        potentials: Items<i64>,
+    },
+    /// There is no configuration: each edge leads to a smaller rank.
+    Empty { ranks: Items<u64> },
+    /// A lower bound of the mean weight: the amounts that cells send, and the weights of the patterns' rows that show that
+    /// no amounts give more. Amounts and weights are numerators over the common denominator.
+    Bound {
+        numerator: u64,
+        denominator: u64,
+        common: u64,
+        amounts: Items<u64>,
+        duals: Items<u64>,
+    },
+}

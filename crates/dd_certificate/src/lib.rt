@@ -1,0 +1,10 @@
+//! The output text: the answers to queries, and how they are written.
+#![tactic(auto)]
+
+mod answer;
+mod decimal;
+mod refutation;
+mod writing;
+
+pub use answer::{Answer, Listed, Reason, Side};
+pub use writing::{answer_line, write_answer};

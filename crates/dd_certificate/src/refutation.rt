@@ -1,0 +1,68 @@
+// A refutation is by far the longest part of an output, so each step's words go straight to the end of the one text.
+ghost use Rattle.std.specs.Prelude.{◌≡◌, ◌++◌, OnOk};
+ghost use Rattle.std.specs.List.{flat_map};
+ghost use Rattle.dd_certificate.specs.Text.{literal_text, literals_to_zero, numbers_to_zero, refutation_text, step_text};
+
+use crate::decimal::push_decimal;
+use dd_clause::Literal;
+use dd_derivation::Step;
+use std::alloc::AllocError;
+
+fn push_literal(text: &mut Vec<u8>, literal: &Literal) -> Result<(), AllocError>
+    ensures { OnOk result (text.new.items ≡ text.old.items ++ literal_text literal.now) }
+{
+    if !literal.positive {
+        text.push(b'-')?;
+    }
+    push_decimal(text, u64::from(literal.variable))
+}
+
+/// Puts literals at the end of a text, each with a space after it, and the 0 that ends them.
+fn push_literals(text: &mut Vec<u8>, literals: &[Literal]) -> Result<(), AllocError>
+    ensures { OnOk result (text.new.items ≡ text.old.items ++ literals_to_zero literals.now) }
+{
+    for literal in literals {
+        push_literal(text, literal)?;
+        text.push(b' ')?;
+    }
+    text.extend_from_slice(b"0 ")
+}
+
+/// Puts the numbers of clauses at the end of a text, each with a space after it, the 0 that ends them, and one more byte.
+fn push_clause_numbers(text: &mut Vec<u8>, numbers: &[u64], next: u8) -> Result<(), AllocError>
+    ensures { OnOk result (text.new.items ≡ text.old.items ++ numbers_to_zero next numbers.now) }
+{
+    for number in numbers {
+        push_decimal(text, *number)?;
+        text.push(b' ')?;
+    }
+    text.extend_from_slice(&[b'0', next])
+}
+
+fn push_step(text: &mut Vec<u8>, step: &Step) -> Result<(), AllocError>
+    ensures { OnOk result (text.new.items ≡ text.old.items ++ step_text step.now) }
+{
+    text.extend_from_slice(b"step ")?;
+    push_literals(text, step.clause.literals())?;
+    push_clause_numbers(text, step.hints.as_slice(), b' ')?;
+    push_clause_numbers(text, step.deletes.as_slice(), b'\n')
+}
+
+fn push_steps(text: &mut Vec<u8>, steps: &[Step]) -> Result<(), AllocError>
+    ensures { OnOk result (text.new.items ≡ text.old.items ++ flat_map step_text steps.now) }
+{
+    for step in steps {
+        push_step(text, step)?;
+    }
+    Ok(())
+}
+
+/// Puts the lines of a refutation at the end of a text.
+pub(crate) fn push_refutation(text: &mut Vec<u8>, steps: &[Step]) -> Result<(), AllocError>
+    ensures { OnOk result (text.new.items ≡ text.old.items ++ refutation_text steps.now) }
+{
+    text.extend_from_slice(b"refutation ")?;
+    push_decimal(text, steps.len() as u64)?;
+    text.push(b'\n')?;
+    push_steps(text, steps)
+}

@@ -1,0 +1,271 @@
+// The text of an answer, written from the front into one growing text.
+ghost use Rattle.std.specs.Prelude.{◌≡◌, ◌++◌, codes, OnOk, IfOk};
+ghost use Rattle.std.specs.List.{flat_map};
+ghost use Rattle.dd_certificate.specs.Text.{
+    amounts_and_duals, answer_line, answer_text, bound_lines, density_lines, fraction_to_end, further_lines, line_feed, number_line, numbers_line, numbers_to_end,
+    pattern_text, reason_text, refutation_text, side_text, signed_to_end, verdict_text, yes_both_text};
+
+use crate::answer::{Answer, Listed, Reason, Side};
+use crate::decimal::{push_decimal, push_signed};
+use crate::refutation::push_refutation;
+use dd_derivation::Step;
+use std::alloc::{AllocError, Global};
+
+/// Ends a line by these numbers, each after a space.
+fn push_numbers_to_end(text: &mut Vec<u8>, numbers: &[u64]) -> Result<(), AllocError>
+    ensures { OnOk result (text.new.items ≡ text.old.items ++ numbers_to_end numbers.now) }
+{
+    for number in numbers {
+        text.push(b' ')?;
+        push_decimal(text, *number)?;
+    }
+    text.push(b'\n')?;
+    Ok(())
+}
+
+fn push_signed_to_end(text: &mut Vec<u8>, numbers: &[i64]) -> Result<(), AllocError>
+    ensures { OnOk result (text.new.items ≡ text.old.items ++ signed_to_end numbers.now) }
+{
+    for number in numbers {
+        text.push(b' ')?;
+        push_signed(text, *number)?;
+    }
+    text.push(b'\n')?;
+    Ok(())
+}
+
+/// Puts a line of a word and a number at the end of a text. The word has its space.
+fn push_number_line(text: &mut Vec<u8>, word: &[u8], number: u64) -> Result<(), AllocError>
+    ensures { OnOk result (text.new.items ≡ text.old.items ++ number_line word.now number) }
+{
+    text.extend_from_slice(word)?;
+    push_decimal(text, number)?;
+    text.push(b'\n')?;
+    Ok(())
+}
+
+fn push_fraction_to_end(
+    text: &mut Vec<u8>,
+    numerator: u64,
+    denominator: u64,
+) -> Result<(), AllocError>
+    ensures { OnOk result (text.new.items ≡ text.old.items ++ fraction_to_end numerator denominator) }
+{
+    push_decimal(text, numerator)?;
+    text.push(b'/')?;
+    push_decimal(text, denominator)?;
+    text.push(b'\n')?;
+    Ok(())
+}
+
+fn side_word(side: Side) -> &'static [u8]
+    ensures { result.now ≡ side_text side }
+{
+    match side {
+        Side::Whole => b"",
+        Side::Left => b" left",
+        Side::Right => b" right",
+    }
+}
+
+fn reason_word(reason: Reason) -> &'static [u8]
+    ensures { result.now ≡ reason_text reason }
+{
+    match reason {
+        Reason::Limits => b"limits",
+        Reason::Large => b"large",
+        Reason::Overflow => b"overflow",
+        Reason::Pivots => b"pivots",
+    }
+}
+
+fn push_outside(text: &mut Vec<u8>, place: &[i64]) -> Result<(), AllocError>
+    ensures { OnOk result (text.new.items ≡ text.old.items ++ (codes "OUT" ++ signed_to_end place.now)) }
+{
+    text.extend_from_slice(b"OUT")?;
+    push_signed_to_end(text, place)
+}
+
+fn push_yes_both(text: &mut Vec<u8>, left: u64, right: u64) -> Result<(), AllocError>
+    ensures { OnOk result (text.new.items ≡ text.old.items ++ yes_both_text left right) }
+{
+    text.extend_from_slice(b"YES ")?;
+    push_decimal(text, left)?;
+    text.push(b' ')?;
+    push_decimal(text, right)?;
+    text.push(b'\n')?;
+    Ok(())
+}
+
+fn push_no(text: &mut Vec<u8>, side: Side, periods: &[u64]) -> Result<(), AllocError>
+    ensures { OnOk result (text.new.items ≡ text.old.items ++ (codes "NO" ++ (side_text side ++ numbers_to_end periods.now))) }
+{
+    text.extend_from_slice(b"NO")?;
+    text.extend_from_slice(side_word(side))?;
+    push_numbers_to_end(text, periods)
+}
+
+fn push_unknown(text: &mut Vec<u8>, reason: Reason) -> Result<(), AllocError>
+    ensures { OnOk result (text.new.items ≡ text.old.items ++ (codes "UNKNOWN " ++ (reason_text reason ++ line_feed))) }
+{
+    text.extend_from_slice(b"UNKNOWN ")?;
+    text.extend_from_slice(reason_word(reason))?;
+    text.push(b'\n')?;
+    Ok(())
+}
+
+fn push_fraction_line(
+    text: &mut Vec<u8>,
+    word: &[u8],
+    numerator: u64,
+    denominator: u64,
+) -> Result<(), AllocError>
+    ensures { OnOk result (text.new.items ≡ text.old.items ++ (word.now ++ fraction_to_end numerator denominator)) }
+{
+    text.extend_from_slice(word)?;
+    push_fraction_to_end(text, numerator, denominator)
+}
+
+/// Puts a line of a word and numbers at the end of a text.
+fn push_numbers_line(text: &mut Vec<u8>, word: &[u8], numbers: &[u64]) -> Result<(), AllocError>
+    ensures { OnOk result (text.new.items ≡ text.old.items ++ numbers_line word.now numbers.now) }
+{
+    text.extend_from_slice(word)?;
+    push_numbers_to_end(text, numbers)
+}
+
+/// Puts the first line, from the answer on, at the end of a text.
+fn push_verdict(text: &mut Vec<u8>, answer: &Answer) -> Result<(), AllocError>
+    ensures { OnOk result (text.new.items ≡ text.old.items ++ verdict_text answer.now) }
+{
+    match answer {
+        Answer::Inside => text.extend_from_slice(b"IN\n"),
+        Answer::Outside { place } => push_outside(text, place.as_slice()),
+        Answer::Yes { radius, .. } => push_number_line(text, b"YES ", *radius),
+        Answer::YesBoth { left, right, .. } => push_yes_both(text, *left, *right),
+        Answer::No { side, periods, .. } => push_no(text, *side, periods.as_slice()),
+        Answer::Unknown { reason } => push_unknown(text, *reason),
+        Answer::List { patterns } => push_number_line(text, b"LIST ", patterns.len() as u64),
+        Answer::Density {
+            numerator,
+            denominator,
+            ..
+        } => push_fraction_line(text, b"DENSITY ", *numerator, *denominator),
+        Answer::Empty { .. } => text.extend_from_slice(b"EMPTY\n"),
+        Answer::Bound {
+            numerator,
+            denominator,
+            ..
+        } => push_fraction_line(text, b"BOUND ", *numerator, *denominator),
+    }
+}
+
+fn push_refutations(text: &mut Vec<u8>, left: &[Step], right: &[Step]) -> Result<(), AllocError>
+    ensures { OnOk result (text.new.items ≡ text.old.items ++ (refutation_text left.now ++ refutation_text right.now)) }
+{
+    push_refutation(text, left)?;
+    push_refutation(text, right)
+}
+
+fn push_pattern(text: &mut Vec<u8>, pattern: &Listed) -> Result<(), AllocError>
+    ensures { OnOk result (text.new.items ≡ text.old.items ++ pattern_text pattern.now) }
+{
+    text.extend_from_slice(b"pattern ")?;
+    push_decimal(text, pattern.node)?;
+    push_numbers_to_end(text, pattern.symbols.as_slice())
+}
+
+fn push_patterns(text: &mut Vec<u8>, patterns: &[Listed]) -> Result<(), AllocError>
+    ensures { OnOk result (text.new.items ≡ text.old.items ++ flat_map pattern_text patterns.now) }
+{
+    for pattern in patterns {
+        push_pattern(text, pattern)?;
+    }
+    Ok(())
+}
+
+fn push_density_lines(
+    text: &mut Vec<u8>,
+    cycle: &[u64],
+    potentials: &[i64],
+) -> Result<(), AllocError>
+    ensures { OnOk result (text.new.items ≡ text.old.items ++ density_lines cycle.now potentials.now) }
+{
+    text.extend_from_slice(b"cycle ")?;
+    push_decimal(text, cycle.len() as u64)?;
+    push_numbers_to_end(text, cycle)?;
+    text.extend_from_slice(b"potentials")?;
+    push_signed_to_end(text, potentials)
+}
+
+fn push_amounts_and_duals(
+    text: &mut Vec<u8>,
+    amounts: &[u64],
+    duals: &[u64],
+) -> Result<(), AllocError>
+    ensures { OnOk result (text.new.items ≡ text.old.items ++ amounts_and_duals amounts.now duals.now) }
+{
+    push_numbers_line(text, b"amounts", amounts)?;
+    push_numbers_line(text, b"duals", duals)
+}
+
+fn push_bound_lines(
+    text: &mut Vec<u8>,
+    common: u64,
+    amounts: &[u64],
+    duals: &[u64],
+) -> Result<(), AllocError>
+    ensures { OnOk result (text.new.items ≡ text.old.items ++ bound_lines common amounts.now duals.now) }
+{
+    push_number_line(text, b"denominator ", common)?;
+    push_amounts_and_duals(text, amounts, duals)
+}
+
+/// Puts the lines that follow an answer's first one at the end of a text.
+fn push_further_lines(text: &mut Vec<u8>, answer: &Answer) -> Result<(), AllocError>
+    ensures { OnOk result (text.new.items ≡ text.old.items ++ further_lines answer.now) }
+{
+    match answer {
+        Answer::Inside | Answer::Outside { .. } | Answer::Unknown { .. } => Ok(()),
+        Answer::Yes { steps, .. } => push_refutation(text, steps.as_slice()),
+        Answer::YesBoth {
+            left_steps,
+            right_steps,
+            ..
+        } => push_refutations(text, left_steps.as_slice(), right_steps.as_slice()),
+        Answer::No { symbols, .. } => push_numbers_line(text, b"conf", symbols.as_slice()),
+        Answer::List { patterns } => push_patterns(text, patterns.as_slice()),
+        Answer::Density {
+            cycle, potentials, ..
+        } => push_density_lines(text, cycle.as_slice(), potentials.as_slice()),
+        Answer::Empty { ranks } => push_numbers_line(text, b"ranks", ranks.as_slice()),
+        Answer::Bound {
+            common,
+            amounts,
+            duals,
+            ..
+        } => push_bound_lines(text, *common, amounts.as_slice(), duals.as_slice()),
+    }
+}
+
+/// The first line of the answer to the query with this number, with its line feed.
+pub fn answer_line(alloc: Global, query: u32, answer: &Answer) -> Result<Vec<u8>, AllocError>
+    ensures { IfOk result (λ text. text.items ≡ answer_line query answer.now) }
+{
+    let mut text = Vec::new(alloc);
+    text.extend_from_slice(b"query ")?;
+    push_decimal(&mut text, u64::from(query))?;
+    text.push(b' ')?;
+    push_verdict(&mut text, answer)?;
+    Ok(text)
+}
+
+/// The text of the answer to the query with this number: its first line, and the lines that follow. Each line has its
+/// line feed.
+pub fn write_answer(alloc: Global, query: u32, answer: &Answer) -> Result<Vec<u8>, AllocError>
+    ensures { IfOk result (λ text. text.items ≡ answer_text query answer.now) }
+{
+    let mut text = answer_line(alloc, query, answer)?;
+    push_further_lines(&mut text, answer)?;
+    Ok(text)
+}
