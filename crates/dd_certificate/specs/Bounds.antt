@@ -1,6 +1,5 @@
 -- The answers that an output can hold: each number within bounds, and each list with as many entries as its line allows.
 use Rattle.std.specs.Prelude.{ℕ, ℤ, ◌≤◌, ◌^◌, ◌-◌, List, All, length, unsigned_abs}
-use Rattle.dd_clause.specs.declared.clause.Literal.{Literal}
 use Rattle.dd_clause.specs.Clauses.{IsInRange}
 use Rattle.dd_derivation.specs.declared.step.Step.{Step}
 use Rattle.dd_certificate.specs.declared.answer.Listed.{Listed}

@@ -39,9 +39,14 @@ pub enum Answer {
     /// The configuration lives in the subshift.
     Inside,
     /// The rule is false at a cell: its coordinates, and then its node.
-    Outside { place: Items<i64> },
+    Outside {
+        place: Items<i64>,
+    },
     /// It is so, by what refutes the contrary on the box of this radius.
-    Yes { radius: u64, steps: Items<Step> },
+    Yes {
+        radius: u64,
+        steps: Items<Step>,
+    },
     /// It is so in both directions, each by a refutation on a box of its own.
     YesBoth {
         left: u64,
@@ -55,9 +60,13 @@ pub enum Answer {
         periods: Items<u64>,
         symbols: Items<u64>,
     },
-    Unknown { reason: Reason },
+    Unknown {
+        reason: Reason,
+    },
     /// The patterns that are asked for.
-    List { patterns: Items<Listed> },
+    List {
+        patterns: Items<Listed>,
+    },
     /// The least mean weight of a configuration, with a cycle of this mean and potentials that no edge undercuts.
     Density {
         numerator: u64,
@@ -66,7 +75,9 @@ pub enum Answer {
         potentials: Items<i64>,
     },
     /// There is no configuration: each edge leads to a smaller rank.
-    Empty { ranks: Items<u64> },
+    Empty {
+        ranks: Items<u64>,
+    },
     /// A lower bound of the mean weight: the amounts that cells send, and the weights of the patterns' rows that show that
     /// no amounts give more. Amounts and weights are numerators over the common denominator.
     Bound {

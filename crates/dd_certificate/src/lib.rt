@@ -4,6 +4,8 @@
 mod answer;
 mod decimal;
 mod refutation;
+#[cfg(test)]
+mod tests;
 mod writing;
 
 pub use answer::{Answer, Listed, Reason, Side};

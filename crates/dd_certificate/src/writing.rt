@@ -2,8 +2,25 @@
 ghost use Rattle.std.specs.Prelude.{◌≡◌, ◌++◌, codes, OnOk, IfOk};
 ghost use Rattle.std.specs.List.{flat_map};
 ghost use Rattle.dd_certificate.specs.Text.{
-    amounts_and_duals, answer_line, answer_text, bound_lines, density_lines, fraction_to_end, further_lines, line_feed, number_line, numbers_line, numbers_to_end,
-    pattern_text, reason_text, refutation_text, side_text, signed_to_end, verdict_text, yes_both_text};
+  amounts_and_duals,
+  answer_line,
+  answer_text,
+  bound_lines,
+  density_lines,
+  fraction_to_end,
+  further_lines,
+  line_feed,
+  number_line,
+  numbers_line,
+  numbers_to_end,
+  pattern_text,
+  reason_text,
+  refutation_text,
+  side_text,
+  signed_to_end,
+  verdict_text,
+  yes_both_text,
+};
 
 use crate::answer::{Answer, Listed, Reason, Side};
 use crate::decimal::{push_decimal, push_signed};
@@ -236,7 +253,9 @@ fn push_further_lines(text: &mut Vec<u8>, answer: &Answer) -> Result<(), AllocEr
         Answer::No { symbols, .. } => push_numbers_line(text, b"conf", symbols.as_slice()),
         Answer::List { patterns } => push_patterns(text, patterns.as_slice()),
         Answer::Density {
-            cycle, potentials, ..
+            cycle,
+            potentials,
+            ..
         } => push_density_lines(text, cycle.as_slice(), potentials.as_slice()),
         Answer::Empty { ranks } => push_numbers_line(text, b"ranks", ranks.as_slice()),
         Answer::Bound {

@@ -1,4 +1,4 @@
-use Rattle.std.proofs.Common.{◌+◌, ◌≡◌, ◌++◌, ◌%◌, ◌^◌, ℕ, ◌<◌, ◌≤◌, length, drop, get_or}
+use Rattle.std.proofs.Common.{◌+◌, ◌≡◌, ◌++◌, ◌%◌, ◌^◌, ◌<◌, length, drop, get_or}
 use Rattle.std.specs.Fmt.{decimal}
 use Rattle.dd_certificate.proofs.decimal.push_decimal.Given as goal
 
