@@ -5,26 +5,11 @@
 set -eu
 
 here=$(cd "$(dirname "$0")" && pwd)
-root=$(cd "$here/../.." && pwd)
-work=$(mktemp -d)
-trap 'rm -rf "$work"' EXIT
-
-mkdir "$work/crates"
-cp "$root/HANDLES" "$work/HANDLES"
-: > "$work/crates.txt"
-for crate in dd_values dd_clause dd_derivation; do
-    cp -R "$root/crates/$crate" "$work/crates/$crate"
-    grep "^$crate:" "$root/crates.txt" >> "$work/crates.txt"
-done
-mkdir -p "$work/crates/bench_derivation/src"
-cp "$here/program.txt" "$work/crates/bench_derivation/src/main.rt"
-echo 'bench_derivation: dd_values dd_clause dd_derivation' >> "$work/crates.txt"
-
+. "$here/../build.sh"
+build_program bench_derivation "$here/program.txt" dd_values dd_clause dd_derivation
 cc -O2 -o "$work/check" "$here/check.c"
-cd "$work/crates/bench_derivation"
-rt run > "$work/build.log" 2>&1 || { cat "$work/build.log"; exit 1; }
 
 echo 'this library'
-out/bench_derivation
+"$work/crates/bench_derivation/out/bench_derivation"
 echo 'plain C'
 "$work/check"

@@ -6,26 +6,13 @@
 set -eu
 
 here=$(cd "$(dirname "$0")" && pwd)
-root=$(cd "$here/../.." && pwd)
-work=$(mktemp -d)
-trap 'rm -rf "$work"' EXIT
-
-mkdir "$work/crates"
-cp "$root/HANDLES" "$work/HANDLES"
-: > "$work/crates.txt"
-for crate in dd_values dd_clause dd_derivation dd_solver; do
-    cp -R "$root/crates/$crate" "$work/crates/$crate"
-    grep "^$crate:" "$root/crates.txt" >> "$work/crates.txt"
-done
-mkdir -p "$work/crates/bench_solver/src"
-cp "$here/program.txt" "$work/crates/bench_solver/src/main.rt"
-echo 'bench_solver: dd_clause dd_derivation dd_solver' >> "$work/crates.txt"
-cd "$work/crates/bench_solver"
-rt run < /dev/null > "$work/build.log" 2>&1 || { cat "$work/build.log"; exit 1; }
+. "$here/../build.sh"
+build_program bench_solver "$here/program.txt" dd_values dd_clause dd_derivation dd_solver
+program=$work/crates/bench_solver/out/bench_solver
 
 compare() {
     printf '%s: ' "$1"
-    timeout "${LIMIT:-60}" out/bench_solver < "$work/clauses" | tr '\n' ' ' || printf 'over the limit '
+    timeout "${LIMIT:-60}" "$program" < "$work/clauses" | tr '\n' ' ' || printf 'over the limit '
     if command -v minisat > "$work/found"; then
         minisat -verb=1 "$work/clauses" > "$work/minisat" 2>&1 || true
         awk '/^conflicts/ { conflicts = $3 } /^CPU time/ { seconds = $4 } END { print "minisat", conflicts, seconds }' "$work/minisat"
