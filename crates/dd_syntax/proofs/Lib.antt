@@ -1,0 +1,13 @@
+pub mod Options
+pub mod Rounds
+pub mod Digits
+pub mod Depths
+pub mod Layers
+pub mod Many
+pub mod Sound
+pub mod Complete
+pub mod CommandSound
+pub mod CommandComplete
+pub mod OneTree
+pub mod Whole
+pub mod Parts

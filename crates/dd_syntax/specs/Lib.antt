@@ -1,0 +1,11 @@
+pub mod Formulas
+pub mod Reading
+pub mod AtomReading
+pub mod FormulaReading
+pub mod Commands
+pub mod ListReading
+pub mod WordReading
+pub mod CommandReading
+pub mod Lexemes
+pub mod Scripts
+pub mod ScriptReading

@@ -1,0 +1,40 @@
+// Why nothing was read.
+ghost use Rattle.std.specs.Prelude.{◌≡◌};
+ghost use Rattle.dd_syntax.specs.declared.fault.ReadFault.TheVariants.{Memory};
+ghost use Rattle.dd_syntax.specs.declared.fault.SyntaxFault.TheVariants.{Memory as OutOfMemory};
+
+use std::alloc::AllocError;
+use thiserror::Error;
+
+/// Why a script has no syntax tree.
+#[derive(Clone, Copy, Debug, PartialEq, Eq, Error)]
+pub enum SyntaxFault {
+    /// This command is the first that is not well formed. Commands are numbered from 1; 0 is what stands before the first.
+    #[error("command {command} is not well formed")]
+    At { command: u32 },
+    #[error("out of memory")]
+    Memory,
+}
+
+impl From<AllocError> for SyntaxFault {
+    ghost from_gives = { λ _ fault. fault ≡ OutOfMemory };
+
+    fn from(_error: AllocError) -> SyntaxFault {
+        SyntaxFault::Memory
+    }
+}
+
+#[derive(Debug, Drop)]
+pub(crate) enum ReadFault {
+    /// The tokens are no text of what was asked for.
+    Syntax,
+    Memory,
+}
+
+impl From<AllocError> for ReadFault {
+    ghost from_gives = { λ _ fault. fault ≡ Memory };
+
+    fn from(_error: AllocError) -> ReadFault {
+        ReadFault::Memory
+    }
+}
