@@ -1,5 +1,5 @@
 -- The trail of a search: the literals that are true, in the order in which they became so.
-use Rattle.std.specs.Prelude.{◌≡◌, ℕ, ◌<◌, false, List, map, Option, Some, None, length, take, slice_index_or, ⊤}
+use Rattle.std.specs.Prelude.{◌≡◌, ℕ, ◌<◌, ◌≤◌, true, false, List, map, Option, Some, None, length, take, slice_index_or, ⊤}
 use Rattle.dd_clause.specs.declared.clause.Literal.{Literal}
 use Rattle.dd_clause.specs.Clauses.{IsInRange, negation}
 use Rattle.dd_derivation.specs.declared.propagation.Finding.TheVariants.{Forced}
@@ -33,3 +33,7 @@ pub record EntryOk (n : ℕ) (known : List (Option (List Literal))) (older : Lis
 abbrev pub IsTrail : ℕ → List (Option (List Literal)) → List Entry → Type 0
 IsTrail n known trail =
     (k : ℕ) (d : Entry) → k < length trail → EntryOk n known (take k trail) (slice_index_or trail k d)
+
+-- each of the variables 1..n has a value
+abbrev pub IsFull : ℕ → List Entry → Type 0
+IsFull n trail = (v : ℕ) → 1 ≤ v → v ≤ n → has_variable v (falses trail) ≡ true

@@ -35,11 +35,15 @@ pub record IsSearch (s : State) : Type 0 where
   pub trail : IsTrail s.variables (known s) s.entries
   pub derived : is_derived s.variables s.clauses s.steps ≡ true
 
--- a clause that is falsified or forces a literal; if there is none, each of the clauses after `from` up to `to` is open
-abbrev pub ScanSays : List (Option (List Literal)) → List Literal → ℕ → ℕ → Scan → Type 0
-ScanSays known falses from to (Conflict r) = hint_finding known (is_among falses) r ≡ Falsified
-ScanSays known falses from to (Unit r l) = hint_finding known (is_among falses) r ≡ Forced l
-ScanSays known falses from to Nothing = (r : ℕ) → from < r → r ≤ to → hint_finding known (is_among falses) r ≡ Open
+-- a clause that is falsified or forces a literal, or else what is then said
+abbrev pub Says : List (Option (List Literal)) → List Literal → Type 0 → Scan → Type 0
+Says known falses otherwise (Conflict r) = hint_finding known (is_among falses) r ≡ Falsified
+Says known falses otherwise (Unit r l) = hint_finding known (is_among falses) r ≡ Forced l
+Says known falses otherwise Nothing = otherwise
+
+-- the clauses after one number up to another are not falsified, and force no literal
+abbrev pub AreOpenBetween : List (Option (List Literal)) → List Literal → ℕ → ℕ → Type 0
+AreOpenBetween known falses from to = (r : ℕ) → from < r → r ≤ to → hint_finding known (is_among falses) r ≡ Open
 
 -- no clause is falsified, and none forces a literal
 abbrev pub AreOpen : State → Type 0
@@ -58,11 +62,6 @@ pub record IsForced (s : State) (turn : Turn) : Type 0 where
 -- the last step forces a literal before a decision, or the steps refute the clauses
 abbrev pub GoesOn : State → Option Turn → Type 0
 GoesOn s turn = MatchOption turn (refutes s.variables s.clauses s.steps ≡ true) (IsForced s)
-
--- the same clauses
-pub record IsOver (old new : State) : Type 0 where
-  pub variables : new.variables ≡ old.variables
-  pub clauses : new.clauses ≡ old.clauses
 
 -- The trail read as a number in base 3, in which the first place weighs most: a propagated place is the digit 2, a
 -- decided one 1, a free one 0. It rises at each propagation, decision and return, and is below 3 ^ n.

@@ -6,5 +6,6 @@ mod database;
 mod propagation;
 mod search;
 mod trail;
+mod watches;
 
 pub use search::solve;

@@ -1,15 +1,16 @@
-// Unit propagation looks for a clause that is falsified, or whose one literal that is not false has to be true. This
-// one looks at the clauses in turn, on from where it found the last.
-ghost use Rattle.std.specs.Prelude.{◌≡◌, ◌≤◌, length};
+// Unit propagation looks for a clause that is falsified, or whose one literal that is not false has to be true.
+ghost use Rattle.std.specs.Prelude.{◌≡◌};
+ghost use Rattle.dd_derivation.specs.declared.propagation.Finding.TheVariants.{Open};
+ghost use Rattle.dd_derivation.specs.Derivations.{hint_finding, is_among};
 ghost use Rattle.dd_solver.specs.Entries.{all_known, falses};
-ghost use Rattle.dd_solver.specs.Search.{ScanSays};
+ghost use Rattle.dd_solver.specs.Search.{Says, AreOpenBetween};
 
 use crate::database::Database;
 use crate::trail::Trail;
 use dd_clause::Literal;
 use dd_derivation::{Finding, find};
 
-/// What a look at the clauses finds: the number of one that is falsified, or of one that forces a literal.
+/// What a look at clauses finds: the number of one that is falsified, or of one that forces a literal.
 #[derive(Clone, Copy)]
 pub enum Scan {
     Conflict(u64),
@@ -17,31 +18,30 @@ pub enum Scan {
     Nothing,
 }
 
+/// Looks at the clause of this number.
+pub fn look_at(database: &Database, trail: &Trail, number: u64) -> Scan
+    ensures { Says (all_known database.now) (falses trail.now.entries) (hint_finding (all_known database.now) (is_among (falses trail.now.entries)) number ≡ Open) result }
+{
+    match database.find_clause(number) {
+        None => Scan::Nothing,
+        Some(clause) => match find(trail, clause) {
+            Finding::Falsified => Scan::Conflict(number),
+            Finding::Forced(literal) => Scan::Unit(number, literal),
+            Finding::Open => Scan::Nothing,
+        },
+    }
+}
+
 /// Looks at the clauses after one number, up to another.
-fn scan_between(database: &Database, trail: &Trail, from: u64, to: u64) -> Scan
-    ensures { ScanSays (all_known database.now) (falses trail.now.entries) from to result }
+pub fn scan_between(database: &Database, trail: &Trail, from: u64, to: u64) -> Scan
+    ensures { Says (all_known database.now) (falses trail.now.entries) (AreOpenBetween (all_known database.now) (falses trail.now.entries) from to) result }
 {
     for place in from..to {
-        let number = place + 1;
-        if let Some(clause) = database.find_clause(number) {
-            match find(trail, clause) {
-                Finding::Falsified => return Scan::Conflict(number),
-                Finding::Forced(literal) => return Scan::Unit(number, literal),
-                Finding::Open => {}
-            }
+        match look_at(database, trail, place + 1) {
+            Scan::Conflict(number) => return Scan::Conflict(number),
+            Scan::Unit(number, literal) => return Scan::Unit(number, literal),
+            Scan::Nothing => {}
         }
     }
     Scan::Nothing
-}
-
-/// Looks at all clauses, at those after a number first.
-pub fn scan_all(database: &Database, trail: &Trail, from: u64) -> Scan
-    ensures { ScanSays (all_known database.now) (falses trail.now.entries) 0 (length database.now) result }
-{
-    let count = database.count();
-    match scan_between(database, trail, from, count) {
-        Scan::Nothing => scan_between(database, trail, 0, from.min(count)),
-        Scan::Conflict(number) => Scan::Conflict(number),
-        Scan::Unit(number, literal) => Scan::Unit(number, literal),
-    }
 }

@@ -3,28 +3,28 @@
 // since the trail, read as a number in base 3, rises at each propagation, decision and return.
 ghost use Rattle.std.specs.Prelude.{◌≡◌, ℕ, ◌+◌, ◌<◌, ◌≤◌, ◌^◌, [], true, false, length, All, IfOk, OnOk, MatchOption, IsTrue, ◌↔◌};
 ghost use Rattle.dd_clause.specs.Clauses.{IsClauseInRange, Satisfies, true_variables};
-ghost use Rattle.dd_derivation.specs.Derivations.{has_variable};
-ghost use Rattle.dd_solver.specs.Entries.{falses};
+ghost use Rattle.dd_solver.specs.Entries.{IsFull};
 ghost use Rattle.dd_solver.specs.Search.{State, AreOpen, IsFalsified, IsForced, GoesOn, left};
 ghost use Rattle.dd_solver.specs.Answers.{IsAnswer, IsFound, IsRefuted, IsSatisfiable};
 
 use crate::analysis::{Turn, learn};
 use crate::database::Database;
-use crate::propagation::{Scan, scan_all};
+use crate::propagation::Scan;
 use crate::trail::{Entry, Trail};
+use crate::watches::Watches;
 use dd_clause::{Assignment, Clause, Cnf, Literal};
 use dd_derivation::{Outcome, Step};
 use dd_values::Items;
 use std::alloc::{AllocError, Global};
 use std::marker::Model;
 
-/// The clauses, the steps learned so far, the trail, the clause to look at next, and room for the analysis.
+/// The clauses, the steps learned so far, the trail, the watched literals, and room for the analysis.
 #[derive(Drop)]
 pub struct Search<'a> {
     clauses: &'a [Clause],
     steps: Vec<Step>,
     trail: Trail,
-    next: u64,
+    watches: Watches,
     marked: Vec<bool>,
 }
 
@@ -50,11 +50,15 @@ impl<'a> Search<'a> {
         ensures clauses { IfOk result (λ search. search.clauses ≡ clauses.now) }
     {
         let variables = variables as usize;
+        let mut watches = Watches::new(alloc, variables)?;
+        for clause in clauses {
+            watches.add(clause.literals())?;
+        }
         Ok(Search {
             clauses,
             steps: Vec::new(alloc),
             trail: Trail::new(alloc, variables)?,
-            next: 0,
+            watches,
             marked: vec![in alloc; false; variables]?,
         })
     }
@@ -62,15 +66,15 @@ impl<'a> Search<'a> {
     /// Makes true what has to be, until a clause is falsified or none forces a literal.
     fn propagate(&mut self) -> Result<Option<u64>, AllocError>
         ensures same { (self.new.variables ≡ self.old.variables) × (self.new.clauses ≡ self.old.clauses) × (self.new.steps ≡ self.old.steps) }
-        ensures conflict { IfOk result (λ conflict. MatchOption conflict (AreOpen self.new) (IsFalsified self.new)) }
+        ensures conflict { IfOk result (λ conflict. MatchOption conflict (IsFull self.new.variables self.new.entries → AreOpen self.new) (IsFalsified self.new)) }
         ensures left { OnOk result (left self.new ≤ left self.old) }
     {
         'turns: loop {
             let database = Database::new(self.clauses, self.steps.as_slice());
-            match scan_all(&database, &self.trail, self.next) {
+            let found = self.watches.find(&database, &self.trail)?;
+            match found {
                 Scan::Conflict(number) => return Ok(Some(number)),
                 Scan::Unit(number, literal) => {
-                    self.next = number;
                     self.trail.assign(Entry {
                         literal,
                         reason: Some(number),
@@ -85,7 +89,7 @@ impl<'a> Search<'a> {
     fn decide(&mut self) -> Result<bool, AllocError>
         ensures same { (self.new.variables ≡ self.old.variables) × (self.new.clauses ≡ self.old.clauses) × (self.new.steps ≡ self.old.steps) }
         ensures decided { result ≡ Ok true → left self.new < left self.old }
-        ensures full { result ≡ Ok false → (self.new ≡ self.old) × ((v : ℕ) → 1 ≤ v → v ≤ self.new.variables → has_variable v (falses self.new.entries) ≡ true) }
+        ensures full { result ≡ Ok false → (self.new ≡ self.old) × IsFull self.new.variables self.new.entries }
     {
         let Some(variable) = self.trail.find_free() else {
             return Ok(false);
@@ -116,6 +120,7 @@ impl<'a> Search<'a> {
             conflict,
         )?;
         let clause = Clause::from_literals(alloc, learned.literals.as_slice())?;
+        self.watches.add(learned.literals.as_slice())?;
         self.steps.push(Step {
             clause,
             hints: Items::from_vec(learned.hints),
@@ -131,6 +136,7 @@ impl<'a> Search<'a> {
         ensures left { OnOk result (left self.new < left self.old) }
     {
         let number = self.clauses.len() as u64 + self.steps.len() as u64;
+        self.watches.cut(turn.place);
         self.trail.undo(turn.place);
         self.trail.assign(Entry {
             literal: turn.literal,
@@ -142,7 +148,7 @@ impl<'a> Search<'a> {
     /// The values of the variables, where each has one and no clause is falsified.
     fn assignment(&self, alloc: Global) -> Result<Assignment, AllocError>
         requires open { AreOpen self.now }
-        requires full { (v : ℕ) → 1 ≤ v → v ≤ self.now.variables → has_variable v (falses self.now.entries) ≡ true }
+        requires full { IsFull self.now.variables self.now.entries }
         ensures { IfOk result (λ values. (length values ≡ self.now.variables) × Satisfies (true_variables values) self.now.clauses) }
     {
         self.trail.assignment(alloc)

@@ -3,7 +3,7 @@
 ghost use Rattle.std.specs.Prelude.{◌≡◌, ℕ, ◌+◌, ◌<◌, ◌≤◌, ◌^◌, ◌++◌, ◌∷◌, [], true, false, length, take, slice_set, ◌-◌, IfOk, OnOk, OnErr, MatchOption};
 ghost use Rattle.dd_clause.specs.Clauses.{IsInRange, true_variables};
 ghost use Rattle.dd_derivation.specs.Derivations.{is_among, has_variable};
-ghost use Rattle.dd_solver.specs.Entries.{falses};
+ghost use Rattle.dd_solver.specs.Entries.{falses, IsFull};
 ghost use Rattle.dd_solver.specs.Values.{IsValued};
 
 use dd_clause::{Assignment, Literal};
@@ -141,7 +141,7 @@ impl Trail {
     /// A variable that has no value.
     pub fn find_free(&self) -> Option<u32>
         requires { self.now.variables < 2 ^ 32 }
-        ensures { MatchOption result ((v : ℕ) → 1 ≤ v → v ≤ self.now.variables → has_variable v (falses self.now.entries) ≡ true) (λ v. (1 ≤ v) × (v ≤ self.now.variables) × (has_variable v (falses self.now.entries) ≡ false)) }
+        ensures { MatchOption result (IsFull self.now.variables self.now.entries) (λ v. (1 ≤ v) × (v ≤ self.now.variables) × (has_variable v (falses self.now.entries) ≡ false)) }
     {
         for i in 0..self.values.len() {
             if self.values[i].is_none() {

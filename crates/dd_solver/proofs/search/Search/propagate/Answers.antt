@@ -1,9 +1,10 @@
-use Rattle.std.proofs.Common.{◌≡◌, ℕ, ◌<◌, ◌≤◌, List, Some, length, subst, ap, ◌∙◌, arith}
+use Rattle.std.proofs.Common.{◌≡◌, List, Some, length, subst, ap, ◌∙◌, arith}
 use Rattle.dd_clause.specs.declared.clause.Literal.{Literal}
-use Rattle.dd_derivation.specs.declared.propagation.Finding.TheVariants.{Forced, Open}
+use Rattle.dd_derivation.specs.declared.propagation.Finding.TheVariants.{Forced}
 use Rattle.dd_derivation.specs.Derivations.{clauses_before, hint_finding, is_among}
 use Rattle.dd_solver.specs.declared.trail.Entry.{Entry}
-use Rattle.dd_solver.specs.Entries.{falses, all_known}
+use Rattle.dd_solver.specs.Entries.{IsFull, falses, all_known}
+use Rattle.dd_solver.specs.Search.{AreOpenBetween}
 use Rattle.dd_solver.proofs.Moves.{forced_in_range, forced_new, entry_forced, search_push, all_open}
 use Rattle.dd_solver.proofs.Rises.{push_falls}
 use Rattle.dd_solver.proofs.search.Search.propagate.Goals as goal
@@ -12,14 +13,17 @@ pub assign-requires-clause-in_range : goal.assign-requires-clause-in_range
 assign-requires-clause-in_range c =
     let s = c.turns.self-inside in
     let p = is_among (falses s.trail.entries) in
+    let u : hint_finding (all_known c.new-database.result) p c.in-Unit.number ≡ Forced c.in-Unit.literal = rw c.in-Unit.is at c.in_ok-found.ensures in
     let d = c.new-database.ensures ∙ ap (clauses_before s.clauses.now) c.as_slice.ensures.value in
-    let h = subst (λ (cs : List (List Literal)). hint_finding (all_known cs) p c.in-Unit.number ≡ Forced c.in-Unit.literal) d c.in-Unit.ensures in
+    let h = subst (λ (cs : List (List Literal)). hint_finding (all_known cs) p c.in-Unit.number ≡ Forced c.in-Unit.literal) d u in
     forced_in_range (clauses_before s.clauses.now s.steps.items) s.trail.variables p c.in-Unit.number c.in-Unit.literal c.turns.invariant.search.in_range h
 
 pub assign-requires-clause-fresh : goal.assign-requires-clause-fresh
 assign-requires-clause-fresh c =
     let s = c.turns.self-inside in
-    forced_new (all_known c.new-database.result) (falses s.trail.entries) c.in-Unit.number c.in-Unit.literal c.in-Unit.ensures
+    let p = is_among (falses s.trail.entries) in
+    let u : hint_finding (all_known c.new-database.result) p c.in-Unit.number ≡ Forced c.in-Unit.literal = rw c.in-Unit.is at c.in_ok-found.ensures in
+    forced_new (all_known c.new-database.result) (falses s.trail.entries) c.in-Unit.number c.in-Unit.literal u
 
 pub turns-smaller : goal.turns-smaller
 turns-smaller c =
@@ -33,8 +37,9 @@ turns-preserved c =
     let v = c.turns.invariant in
     let cs = clauses_before s.clauses.now s.steps.items in
     let p = is_among (falses s.trail.entries) in
+    let u : hint_finding (all_known c.new-database.result) p c.in-Unit.number ≡ Forced c.in-Unit.literal = rw c.in-Unit.is at c.in_ok-found.ensures in
     let d = c.new-database.ensures ∙ ap (clauses_before s.clauses.now) c.as_slice.ensures.value in
-    let h = subst (λ (xs : List (List Literal)). hint_finding (all_known xs) p c.in-Unit.number ≡ Forced c.in-Unit.literal) d c.in-Unit.ensures in
+    let h = subst (λ (xs : List (List Literal)). hint_finding (all_known xs) p c.in-Unit.number ≡ Forced c.in-Unit.literal) d u in
     let e : Entry = record { literal = c.in-Unit.literal; reason = Some c.in-Unit.number } in
     let o = entry_forced s.trail.variables cs s.trail.entries c.in-Unit.number c.in-Unit.literal v.search.in_range h in
     let less = push_falls s.trail.variables s.trail.entries e c.in_ok-assign-in-Unit.ensures.room in
@@ -53,5 +58,6 @@ returns-in-Nothing-clause-conflict c =
     let s = c.turns.self-inside in
     let p = is_among (falses s.trail.entries) in
     let d = c.new-database.ensures ∙ ap (clauses_before s.clauses.now) c.as_slice.ensures.value in
-    let h = subst (λ (cs : List (List Literal)). (r : ℕ) → 0 < r → r ≤ length cs → hint_finding (all_known cs) p r ≡ Open) d c.in-Nothing.ensures in
-    all_open (clauses_before s.clauses.now s.steps.items) p h
+    let o : IsFull s.trail.variables s.trail.entries → AreOpenBetween (all_known c.new-database.result) (falses s.trail.entries) 0 (length c.new-database.result) = rw c.in-Nothing.is at c.in_ok-found.ensures in
+    let h = subst (λ (cs : List (List Literal)). IsFull s.trail.variables s.trail.entries → AreOpenBetween (all_known cs) (falses s.trail.entries) 0 (length cs)) d o in
+    λ full. all_open (clauses_before s.clauses.now s.steps.items) p (h full)
