@@ -60,6 +60,16 @@ impl Cnf {
         Ok(())
     }
 
+    /// Takes in more variables.
+    pub fn widen(&mut self, variables: u32)
+        requires more { self.old.variables ≤ variables }
+        requires few { variables ≤ 2 ^ 24 }
+        ensures variables { self.new.variables ≡ variables }
+        ensures clauses { self.new.clauses ≡ self.old.clauses }
+    {
+        self.variables = variables;
+    }
+
     pub fn variables(&self) -> u32
         ensures value { result ≡ self.now.variables }
         ensures at_most { self.now.variables ≤ 2 ^ 24 }

@@ -1,0 +1,141 @@
+-- What a definition by a fold says of a list of parts, with the definition at each part.
+use Rattle.std.proofs.Common.{◌≡◌, ℕ, ◌+◌, length, Bool, List, [], ◌∷◌, ◌++◌, map, refl, ap, sym, ◌∙◌}
+use Rattle.std.specs.Prelude.{◌||◌, is_some}
+use Rattle.std.specs.List.{list_all, list_any, flat_map, sum, sum_by}
+use Rattle.std.proofs.lemmas.List.{length-map}
+use Rattle.std.proofs.lemmas.List.Folds.{list_all-map, flat_map-map}
+use Rattle.std.proofs.lemmas.List.Sums.{sum_by-cons, sum-map}
+use Rattle.std.proofs.lemmas.Simd.{map-map}
+use Rattle.dd_lattice.specs.declared.position.Cell.{Cell}
+use Rattle.dd_lattice.specs.InOrder.{in_order}
+use Rattle.dd_topology.specs.declared.edge.Edge.{Edge}
+use Rattle.dd_topology.specs.Grid.{Grid}
+use Rattle.dd_pattern.specs.Reading.{Look}
+use Rattle.dd_expansion.specs.declared.expanded.Expanded.{Expanded}
+use Rattle.dd_expansion.specs.declared.expanded.Expanded.TheVariants as expanded
+use Rattle.dd_expansion.specs.declared.expanded.Expanded.TheFolds.{fold-roll-Expanded}
+use Rattle.dd_expansion.specs.declared.expanded.Expanded.TheOpen.{Expanded-F}
+use Rattle.dd_expansion.specs.declared.formulas.BallOf.{BallOf}
+use Rattle.dd_expansion.specs.declared.formulas.Formula.{Formula}
+use Rattle.dd_expansion.specs.declared.formulas.Formula.TheVariants as formula
+use Rattle.dd_expansion.specs.declared.formulas.Formula.TheFolds.{fold-roll-Formula}
+use Rattle.dd_expansion.specs.declared.formulas.Formula.TheOpen.{Formula-F}
+use Rattle.dd_expansion.specs.Leaves.{holds, holds_step, LeafTest, leaves_pass, leaves_pass_step, given, leaf_cells, leaf_cells_step, total, instances, instances_step, clause_count, clause_count_step}
+use Rattle.dd_expansion.specs.Expansion.{Expansion, expansion, expansion_step}
+use Rattle.dd_expansion.specs.Limits.{fits, fits_step, list_depth, depth, depth_step}
+use Rattle.dd_expansion.specs.Terms.{balls_of}
+
+pub list_any-map : {X Y : Type 0} (p : X → Bool) (h : Y → X) (ys : List Y) → list_any p (map h ys) ≡ list_any (λ y. p (h y)) ys
+list_any-map p h [] = refl
+list_any-map p h (y ∷ ys) = ap (λ b. p (h y) || b) (list_any-map p h ys)
+
+-- expansions
+
+pub holds_and : (es : List Expanded) (look : Look) → holds (expanded.And es) look ≡ list_all (λ e. holds e look) es
+holds_and es look =
+    ap (λ e. holds e look) (sym (expanded.rolls-And es))
+    ∙ (ap (λ h. h look) (fold-roll-Expanded (Look → Bool) holds_step (Expanded-F.And es)) ∙ list_all-map (λ h. h look) holds es)
+
+pub holds_or : (es : List Expanded) (look : Look) → holds (expanded.Or es) look ≡ list_any (λ e. holds e look) es
+holds_or es look =
+    ap (λ e. holds e look) (sym (expanded.rolls-Or es))
+    ∙ (ap (λ h. h look) (fold-roll-Expanded (Look → Bool) holds_step (Expanded-F.Or es)) ∙ list_any-map (λ h. h look) holds es)
+
+pub leaves_pass_and : (test : LeafTest) (es : List Expanded) → leaves_pass test (expanded.And es) ≡ list_all (leaves_pass test) es
+leaves_pass_and test es =
+    ap (leaves_pass test) (sym (expanded.rolls-And es))
+    ∙ (fold-roll-Expanded Bool (leaves_pass_step test) (Expanded-F.And es) ∙ list_all-map (λ b. b) (leaves_pass test) es)
+
+pub leaves_pass_or : (test : LeafTest) (es : List Expanded) → leaves_pass test (expanded.Or es) ≡ list_all (leaves_pass test) es
+leaves_pass_or test es =
+    ap (leaves_pass test) (sym (expanded.rolls-Or es))
+    ∙ (fold-roll-Expanded Bool (leaves_pass_step test) (Expanded-F.Or es) ∙ list_all-map (λ b. b) (leaves_pass test) es)
+
+pub given_and : (es : List Expanded) (look : Look) → given (expanded.And es) look ≡ list_all (λ e. given e look) es
+given_and es look = leaves_pass_and (λ c s. is_some (look c)) es
+
+pub given_or : (es : List Expanded) (look : Look) → given (expanded.Or es) look ≡ list_all (λ e. given e look) es
+given_or es look = leaves_pass_or (λ c s. is_some (look c)) es
+
+pub leaf_cells_and : (es : List Expanded) → leaf_cells (expanded.And es) ≡ flat_map leaf_cells es
+leaf_cells_and es =
+    ap leaf_cells (sym (expanded.rolls-And es))
+    ∙ (fold-roll-Expanded (List Cell) leaf_cells_step (Expanded-F.And es) ∙ flat_map-map (λ cs. cs) leaf_cells es)
+
+pub leaf_cells_or : (es : List Expanded) → leaf_cells (expanded.Or es) ≡ flat_map leaf_cells es
+leaf_cells_or es =
+    ap leaf_cells (sym (expanded.rolls-Or es))
+    ∙ (fold-roll-Expanded (List Cell) leaf_cells_step (Expanded-F.Or es) ∙ flat_map-map (λ cs. cs) leaf_cells es)
+
+pub total-sum : (ns : List ℕ) → total ns ≡ sum ns
+total-sum [] = refl
+total-sum (n ∷ ns) = ap (λ m. n + m) (total-sum ns) ∙ sym (sum_by-cons (λ m. m) n ns)
+
+total-map : (f : Expanded → ℕ) (es : List Expanded) → total (map f es) ≡ sum_by f es
+total-map f es = total-sum (map f es) ∙ sum-map f es
+
+pub instances_and : (es : List Expanded) → instances (expanded.And es) ≡ 1 + sum_by instances es
+instances_and es =
+    ap instances (sym (expanded.rolls-And es)) ∙ (fold-roll-Expanded ℕ instances_step (Expanded-F.And es) ∙ ap (λ n. 1 + n) (total-map instances es))
+
+pub instances_or : (es : List Expanded) → instances (expanded.Or es) ≡ 1 + sum_by instances es
+instances_or es =
+    ap instances (sym (expanded.rolls-Or es)) ∙ (fold-roll-Expanded ℕ instances_step (Expanded-F.Or es) ∙ ap (λ n. 1 + n) (total-map instances es))
+
+joined_clauses : (es : List Expanded) → clause_count_step (Expanded-F.And (map clause_count es)) ≡ sum_by clause_count es + (length es + 1)
+joined_clauses es =
+    ap (λ n. total (map clause_count es) + (n + 1)) (length-map es clause_count) ∙ ap (λ n. n + (length es + 1)) (total-map clause_count es)
+
+pub clause_count_and : (es : List Expanded) → clause_count (expanded.And es) ≡ sum_by clause_count es + (length es + 1)
+clause_count_and es =
+    ap clause_count (sym (expanded.rolls-And es)) ∙ (fold-roll-Expanded ℕ clause_count_step (Expanded-F.And es) ∙ joined_clauses es)
+
+pub clause_count_or : (es : List Expanded) → clause_count (expanded.Or es) ≡ sum_by clause_count es + (length es + 1)
+clause_count_or es =
+    ap clause_count (sym (expanded.rolls-Or es)) ∙ (fold-roll-Expanded ℕ clause_count_step (Expanded-F.Or es) ∙ joined_clauses es)
+
+pub ruleset holds_layers = (holds_and, holds_or, given_and, given_or)
+
+pub ruleset leaf_cells_layers = (leaf_cells_and, leaf_cells_or)
+
+-- formulas
+
+pub expansion_and : (es : List Edge) (n : ℕ) (fs : List Formula) (env : List Cell) → expansion es n (formula.And fs) env ≡ expanded.And (map (λ f. expansion es n f env) fs)
+expansion_and es n fs env =
+    ap (λ f. expansion es n f env) (sym (formula.rolls-And fs))
+    ∙ (ap (λ x. x env) (fold-roll-Formula Expansion (expansion_step es n) (Formula-F.And fs))
+    ∙ (expanded.rolls-And (map (λ f. f env) (map (expansion es n) fs)) ∙ ap expanded.And (map-map (λ f. f env) (expansion es n) fs)))
+
+pub expansion_or : (es : List Edge) (n : ℕ) (fs : List Formula) (env : List Cell) → expansion es n (formula.Or fs) env ≡ expanded.Or (map (λ f. expansion es n f env) fs)
+expansion_or es n fs env =
+    ap (λ f. expansion es n f env) (sym (formula.rolls-Or fs))
+    ∙ (ap (λ x. x env) (fold-roll-Formula Expansion (expansion_step es n) (Formula-F.Or fs))
+    ∙ (expanded.rolls-Or (map (λ f. f env) (map (expansion es n) fs)) ∙ ap expanded.Or (map-map (λ f. f env) (expansion es n) fs)))
+
+pub expansion_for_all : (es : List Edge) (n : ℕ) (bs : List BallOf) (f : Formula) (env : List Cell) →
+    expansion es n (formula.ForAll bs f) env ≡ expanded.And (map (λ c. expansion es n f (env ++ c ∷ [])) (in_order (balls_of es env bs)))
+expansion_for_all es n bs f env =
+    ap (λ h. expansion es n h env) (sym (formula.rolls-ForAll bs f))
+    ∙ (ap (λ x. x env) (fold-roll-Formula Expansion (expansion_step es n) (Formula-F.ForAll bs f)) ∙ expanded.rolls-And _)
+
+pub expansion_exists : (es : List Edge) (n : ℕ) (bs : List BallOf) (f : Formula) (env : List Cell) →
+    expansion es n (formula.Exists bs f) env ≡ expanded.Or (map (λ c. expansion es n f (env ++ c ∷ [])) (in_order (balls_of es env bs)))
+expansion_exists es n bs f env =
+    ap (λ h. expansion es n h env) (sym (formula.rolls-Exists bs f))
+    ∙ (ap (λ x. x env) (fold-roll-Formula Expansion (expansion_step es n) (Formula-F.Exists bs f)) ∙ expanded.rolls-Or _)
+
+pub fits_and : (g : Grid) (n : ℕ) (fs : List Formula) (scope : ℕ) → fits g n (formula.And fs) scope ≡ list_all (λ f. fits g n f scope) fs
+fits_and g n fs scope =
+    ap (λ f. fits g n f scope) (sym (formula.rolls-And fs))
+    ∙ (ap (λ h. h scope) (fold-roll-Formula (ℕ → Bool) (fits_step g n) (Formula-F.And fs)) ∙ list_all-map (λ h. h scope) (fits g n) fs)
+
+pub fits_or : (g : Grid) (n : ℕ) (fs : List Formula) (scope : ℕ) → fits g n (formula.Or fs) scope ≡ list_all (λ f. fits g n f scope) fs
+fits_or g n fs scope =
+    ap (λ f. fits g n f scope) (sym (formula.rolls-Or fs))
+    ∙ (ap (λ h. h scope) (fold-roll-Formula (ℕ → Bool) (fits_step g n) (Formula-F.Or fs)) ∙ list_all-map (λ h. h scope) (fits g n) fs)
+
+pub depth_and : (fs : List Formula) → depth (formula.And fs) ≡ list_depth (map depth fs)
+depth_and fs = ap depth (sym (formula.rolls-And fs)) ∙ fold-roll-Formula ℕ depth_step (Formula-F.And fs)
+
+pub depth_or : (fs : List Formula) → depth (formula.Or fs) ≡ list_depth (map depth fs)
+depth_or fs = ap depth (sym (formula.rolls-Or fs)) ∙ fold-roll-Formula ℕ depth_step (Formula-F.Or fs)

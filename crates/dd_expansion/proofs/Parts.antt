@@ -1,0 +1,102 @@
+-- What holds of a formula, at its parts.
+use Rattle.std.proofs.Common.{◌≡◌, ℕ, zero, suc, ◌+◌, ◌*◌, ◌<◌, ◌≤◌, Bool, true, false, cond, List, [], ◌∷◌, ◌++◌, length, map, take, get_or, ap, sym, ◌∙◌, subst, arith}
+use Rattle.std.specs.Prelude.{nat_le}
+use Rattle.std.specs.List.{list_all, sum_by}
+use Rattle.std.proofs.lemmas.Bool.{and_parts}
+use Rattle.std.proofs.lemmas.List.{take_more, map-append, length-append}
+use Rattle.std.proofs.lemmas.List.Sums.{sum_by_more, sum_by_more_le}
+use Rattle.std.proofs.lemmas.List.Elements.{All-push, All-weaker}
+use Rattle.dd_lattice.specs.declared.position.Cell.{Cell}
+use Rattle.dd_topology.specs.Grid.{Grid}
+use Rattle.dd_topology.specs.Topology.{extent}
+use Rattle.dd_expansion.specs.declared.formulas.BallOf.{BallOf}
+use Rattle.dd_expansion.specs.declared.formulas.Formula.{Formula}
+use Rattle.dd_expansion.specs.declared.formulas.Formula.TheVariants as formula
+use Rattle.dd_expansion.specs.declared.formulas.Formula.TheFolds.{fold-roll-Formula}
+use Rattle.dd_expansion.specs.declared.formulas.Formula.TheOpen.{Formula-F}
+use Rattle.dd_expansion.specs.Limits.{balls_fit, fits, fits_step, greatest, depth, depth_step}
+use Rattle.dd_expansion.specs.Near.{AreNear}
+use Rattle.dd_expansion.proofs.Layers.{fits_and, depth_and}
+
+all_at : {X : Type 0} (test : X → Bool) (xs : List X) (i : ℕ) (d : X) → list_all test xs ≡ true → i < length xs → test (get_or xs i d) ≡ true
+all_at test [] i d h within = absurd (omega arith)
+all_at test (x ∷ xs) zero d h within = (and_parts _ _ h).0
+all_at test (x ∷ xs) (suc i) d h within = all_at test xs i d (and_parts _ _ h).1 (omega arith)
+
+-- each part of a conjunction that fits fits
+pub part_fits : (g : Grid) (n : ℕ) (fs : List Formula) (scope i : ℕ) (f : Formula) → fits g n (formula.And fs) scope ≡ true → i < length fs → f ≡ get_or fs i f → fits g n f scope ≡ true
+part_fits g n fs scope i f h within is =
+    ap (λ x. fits g n x scope) is ∙ all_at (λ x. fits g n x scope) fs i f (sym (fits_and g n fs scope) ∙ h) within
+
+greatest_at : (fs : List Formula) (i : ℕ) (d : Formula) → i < length fs → depth (get_or fs i d) ≤ greatest (map depth fs)
+greatest_at [] i d within = absurd (omega arith)
+greatest_at (f ∷ fs) zero d within = omega arith
+greatest_at (f ∷ fs) (suc i) d within = let rest = greatest_at fs i d (omega arith) in omega (arith, rest)
+
+deeper : (b : Bool) (n : ℕ) → n ≤ cond b (1 + n) n
+deeper true n = omega arith
+deeper false n = omega arith
+
+-- a part is no deeper than the conjunction
+pub part_depth : (fs : List Formula) (i : ℕ) (f : Formula) → i < length fs → f ≡ get_or fs i f → depth f ≤ depth (formula.And fs)
+part_depth fs i f within is =
+    let whole = depth_and fs in
+    let least = deeper (nat_le 2 (length (map depth fs))) (greatest (map depth fs)) in
+    omega (arith, ap depth is, greatest_at fs i f within, whole, least)
+
+-- the balls and the body of a quantifier
+pub quantified_fits : (g : Grid) (n : ℕ) (bs : List BallOf) (f : Formula) (scope : ℕ) → fits g n (formula.ForAll bs f) scope ≡ true → (balls_fit scope bs ≡ true) × (fits g n f (scope + 1) ≡ true)
+quantified_fits g n bs f scope h =
+    let opened = ap (λ x. x scope) (fold-roll-Formula (ℕ → Bool) (fits_step g n) (Formula-F.ForAll bs f)) in
+    and_parts _ _ (sym opened ∙ (ap (λ x. fits g n x scope) (formula.rolls-ForAll bs f) ∙ h))
+
+pub quantified_depth : (bs : List BallOf) (f : Formula) → depth (formula.ForAll bs f) ≡ 1 + depth f
+quantified_depth bs f = ap depth (sym (formula.rolls-ForAll bs f)) ∙ fold-roll-Formula ℕ depth_step (Formula-F.ForAll bs f)
+
+-- one more variable, at a cell that is near
+pub near_push : (env : List Cell) (c : Cell) → AreNear (12 * length env) env → extent c.position ≤ 12 * (length env + 1) → AreNear (12 * length (env ++ c ∷ [])) (env ++ c ∷ [])
+near_push env c near here =
+    let longer : 12 * (length env + 1) ≡ 12 * length (env ++ c ∷ []) = omega (arith, length-append env (c ∷ [])) in
+    let P : ℕ → Type 0 = λ n. AreNear n (env ++ c ∷ []) in
+    subst P longer
+    (All-push (λ d. extent d.position ≤ 12 * (length env + 1)) env c
+    (All-weaker (λ d. extent d.position ≤ 12 * length env) (λ d. extent d.position ≤ 12 * (length env + 1)) (λ d h. omega arith) env near) here)
+
+pub map_more : {X Y : Type 0} (f : X → Y) (xs : List X) (i : ℕ) (d : X) → i < length xs → map f (take (i + 1) xs) ≡ map f (take i xs) ++ f (get_or xs i d) ∷ []
+map_more f xs i d within = ap (map f) (take_more xs i d within) ∙ map-append f (take i xs) (get_or xs i d ∷ [])
+
+-- the same where a list is the environment with one more cell
+longer : (env inner : List Cell) (c : Cell) → inner ≡ env ++ c ∷ [] → length env + 1 ≡ length inner
+longer env inner c is = sym (ap length is ∙ length-append env (c ∷ []))
+
+pub inner_fits : (g : Grid) (n : ℕ) (bs : List BallOf) (body f : Formula) (env inner : List Cell) (c : Cell) → fits g n (formula.ForAll bs body) (length env) ≡ true → f ≡ body → inner ≡ env ++ c ∷ [] →
+    fits g n f (length inner) ≡ true
+inner_fits g n bs body f env inner c h same is =
+    let P : ℕ → Type 0 = λ m. fits g n f m ≡ true in
+    subst P (longer env inner c is) (ap (λ x. fits g n x (length env + 1)) same ∙ (quantified_fits g n bs body (length env) h).1)
+
+pub inner_depth : (bs : List BallOf) (body f : Formula) (env inner : List Cell) (c : Cell) → depth (formula.ForAll bs body) + length env ≤ 65 → f ≡ body → inner ≡ env ++ c ∷ [] → depth f + length inner ≤ 65
+inner_depth bs body f env inner c h same is = omega (arith, h, quantified_depth bs body, ap depth same, longer env inner c is)
+
+pub inner_near : (env inner : List Cell) (c : Cell) → AreNear (12 * length env) env → extent c.position ≤ 12 * (length env + 1) → inner ≡ env ++ c ∷ [] → AreNear (12 * length inner) inner
+inner_near env inner c near here is = subst (λ l. AreNear (12 * length l) l) (sym is) (near_push env c near here)
+
+-- the cell that stands at a place of a list of near cells
+pub item_near : (n : ℕ) (cells : List Cell) (i : ℕ) (c : Cell) → AreNear n cells → i < length cells → c ≡ get_or cells i c → extent c.position ≤ n
+item_near n cells i c near within is = let here = near i c within in omega (arith, here, ap (λ d. extent d.position) is)
+
+-- one more value is made
+pub made_more : {X Y : Type 0} (f : X → Y) (xs : List X) (i : ℕ) (x : X) (made now : List Y) (y : Y) → i < length xs → x ≡ get_or xs i x → made ≡ map f (take i xs) → y ≡ f x → now ≡ made ++ y ∷ [] →
+    now ≡ map f (take (i + 1) xs)
+made_more f xs i x made now y within is before one joins =
+    joins ∙ (ap (λ l. l ++ y ∷ []) before ∙ (ap (λ z. map f (take i xs) ++ z ∷ []) (one ∙ ap f is) ∙ sym (map_more f xs i x within)))
+
+-- a budget that has paid for the first values, and now for one more
+pub paid_more : {X : Type 0} (cost : X → ℕ) (xs : List X) (i : ℕ) (x : X) (left now first : ℕ) → i < length xs → x ≡ get_or xs i x → left + sum_by cost (take i xs) ≡ first → now + cost x ≡ left →
+    now + sum_by cost (take (i + 1) xs) ≡ first
+paid_more cost xs i x left now first within is before one = omega (arith, sum_by_more cost xs i x within, ap cost is, before, one)
+
+-- what is left does not pay for one more value, so the whole has a greater cost
+pub few_for_all : {X : Type 0} (cost : X → ℕ) (xs : List X) (i : ℕ) (x : X) (left first before : ℕ) → i < length xs → x ≡ get_or xs i x → left + sum_by cost (take i xs) ≡ first → first + 1 ≡ before → left < cost x →
+    before < 1 + sum_by cost xs
+few_for_all cost xs i x left first before within is paid gate few = omega (arith, sum_by_more_le cost xs i x within, ap cost is, paid, gate, few)

@@ -1,0 +1,9 @@
+pub mod Terms
+pub mod Truth
+pub mod Reads
+pub mod Leaves
+pub mod Expansion
+pub mod Limits
+pub mod Placed
+pub mod Near
+pub mod Budget

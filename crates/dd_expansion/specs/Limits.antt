@@ -1,0 +1,73 @@
+-- The numbers in a formula, and how deep it is.
+use Rattle.std.specs.Prelude.{ℕ, ◌+◌, ◌≤◌, ◌≡◌, ◌&&◌, Bool, true, List, [], ◌∷◌, cond, max, length, nat_lt, nat_le}
+use Rattle.std.specs.List.{list_all}
+use Rattle.dd_topology.specs.Grid.{Grid}
+use Rattle.dd_expansion.specs.declared.formulas.Term.{Term}
+use Rattle.dd_expansion.specs.declared.formulas.BallOf.{BallOf}
+use Rattle.dd_expansion.specs.declared.formulas.Formula.{Formula}
+use Rattle.dd_expansion.specs.declared.formulas.Formula.TheFolds.{fold-Formula}
+use Rattle.dd_expansion.specs.declared.formulas.Formula.TheOpen.{Formula-F}
+
+-- a term of one of the variables in scope, with at most 16 moves, each by a label that there is
+abbrev pub term_fits : Grid → ℕ → Term → Bool
+term_fits g scope t = nat_lt t.variable scope && nat_le (length t.moves) 16 && list_all (λ l. nat_lt l (length g.labels)) t.moves
+
+-- at most 4 balls, each round one of the variables in scope and of a radius of at most 3
+abbrev pub ball_fits : ℕ → BallOf → Bool
+ball_fits scope b = nat_lt b.variable scope && nat_le b.radius 3
+
+abbrev pub balls_fit : ℕ → List BallOf → Bool
+balls_fit scope bs = nat_le (length bs) 4 && list_all (ball_fits scope) bs
+
+abbrev pub fits_step : Grid → ℕ → Formula-F (ℕ → Bool) → ℕ → Bool
+fits_step g n (Formula-F.Symbol t s) scope = term_fits g scope t && nat_lt s n
+fits_step g n (Formula-F.NotSymbol t s) scope = term_fits g scope t && nat_lt s n
+fits_step g n (Formula-F.Same t u) scope = term_fits g scope t && term_fits g scope u
+fits_step g n (Formula-F.NotSame t u) scope = term_fits g scope t && term_fits g scope u
+fits_step g n (Formula-F.Adjacent t u) scope = term_fits g scope t && term_fits g scope u
+fits_step g n (Formula-F.Place t u) scope = term_fits g scope t && term_fits g scope u
+fits_step g n (Formula-F.Node t a) scope = term_fits g scope t && nat_lt a g.nodes
+fits_step g n (Formula-F.Not f) scope = f scope
+fits_step g n (Formula-F.And fs) scope = list_all (λ f. f scope) fs
+fits_step g n (Formula-F.Or fs) scope = list_all (λ f. f scope) fs
+fits_step g n (Formula-F.Implies f h) scope = f scope && h scope
+fits_step g n (Formula-F.Iff f h) scope = f scope && h scope
+fits_step g n (Formula-F.ForAll bs f) scope = balls_fit scope bs && f (scope + 1)
+fits_step g n (Formula-F.Exists bs f) scope = balls_fit scope bs && f (scope + 1)
+
+-- where so many variables are in scope, each variable, label, node and symbol of the formula is one that there is, and
+-- terms and balls are within their limits
+abbrev pub fits : Grid → ℕ → Formula → ℕ → Bool
+fits g n = fold-Formula (ℕ → Bool) (fits_step g n)
+
+abbrev pub greatest : List ℕ → ℕ
+greatest [] = 0
+greatest (n ∷ ns) = max n (greatest ns)
+
+-- a list of two parts or more is one deeper than its deepest part
+abbrev pub list_depth : List ℕ → ℕ
+list_depth ns = cond (nat_le 2 (length ns)) (1 + greatest ns) (greatest ns)
+
+abbrev pub depth_step : Formula-F ℕ → ℕ
+depth_step (Formula-F.Symbol t s) = 0
+depth_step (Formula-F.NotSymbol t s) = 0
+depth_step (Formula-F.Same t u) = 0
+depth_step (Formula-F.NotSame t u) = 0
+depth_step (Formula-F.Adjacent t u) = 0
+depth_step (Formula-F.Place t u) = 0
+depth_step (Formula-F.Node t a) = 0
+depth_step (Formula-F.Not f) = 1 + f
+depth_step (Formula-F.And fs) = list_depth fs
+depth_step (Formula-F.Or fs) = list_depth fs
+depth_step (Formula-F.Implies f g) = 1 + max f g
+depth_step (Formula-F.Iff f g) = 1 + max f g
+depth_step (Formula-F.ForAll bs f) = 1 + f
+depth_step (Formula-F.Exists bs f) = 1 + f
+
+abbrev pub depth : Formula → ℕ
+depth = fold-Formula ℕ depth_step
+
+-- a formula with one free variable over a topology and n symbols
+pub record IsFormula (g : Grid) (n : ℕ) (f : Formula) : Type 0 where
+  pub numbers : fits g n f 1 ≡ true
+  pub depth : depth f ≤ 64

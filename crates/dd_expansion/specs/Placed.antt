@@ -1,0 +1,13 @@
+-- Cells of Z^d: the coordinates past the d-th are 0.
+use Rattle.std.specs.Prelude.{ℕ, ◌||◌, ◌&&◌, Bool, nat_lt, pos}
+use Rattle.std.specs.Ordering.{int_eq}
+use Rattle.dd_lattice.specs.Place.{Place}
+use Rattle.dd_lattice.specs.declared.position.Cell.{Cell}
+use Rattle.dd_topology.specs.Grid.{Grid}
+
+abbrev pub is_flat : ℕ → Place → Bool
+is_flat d p = (nat_lt 1 d || int_eq p.y (pos 0)) && (nat_lt 2 d || int_eq p.z (pos 0))
+
+-- a cell of Z^d with one of the nodes
+abbrev pub is_placed : Grid → Cell → Bool
+is_placed g c = is_flat g.dimension c.position && nat_lt c.node g.nodes

@@ -1,0 +1,46 @@
+-- Terms, which name cells, and balls, which name sets of cells. The environment gives the variables' cells by their numbers.
+use Rattle.std.specs.Prelude.{ℕ, ◌==◌, ◌&&◌, Bool, false, List, [], ◌∷◌, Option, Some, None, slice_get, pos}
+use Rattle.std.specs.List.{flat_map}
+use Rattle.std.specs.Option.{option_and_then}
+use Rattle.dd_lattice.specs.Place.{place}
+use Rattle.dd_lattice.specs.Cells.{cell}
+use Rattle.dd_lattice.specs.declared.position.Cell.{Cell}
+use Rattle.dd_topology.specs.declared.edge.Edge.{Edge}
+use Rattle.dd_topology.specs.Topology.{step}
+use Rattle.dd_topology.specs.Balls.{ball, same_place}
+use Rattle.dd_expansion.specs.declared.formulas.Term.{Term}
+use Rattle.dd_expansion.specs.declared.formulas.BallOf.{BallOf}
+
+-- the cell at the end of several moves; none where one of them is missing
+abbrev pub walk : List Edge → Cell → List ℕ → Option Cell
+walk es c [] = Some c
+walk es c (label ∷ labels) = option_and_then (λ d. walk es d labels) (step es c label)
+
+-- the cell of a term; none where a move is missing
+abbrev pub cell_of : List Edge → List Cell → Term → Option Cell
+cell_of es env t = option_and_then (λ c. walk es c t.moves) (slice_get env t.variable)
+
+-- a fact of a cell, or of two; false where a cell is missing
+abbrev pub on_cell : (Cell → Bool) → Option Cell → Bool
+on_cell p None = false
+on_cell p (Some c) = p c
+
+abbrev pub on_cells : (Cell → Cell → Bool) → Option Cell → Option Cell → Bool
+on_cells p None d = false
+on_cells p (Some c) d = on_cell (p c) d
+
+abbrev pub same_cell : Cell → Cell → Bool
+same_cell c d = same_place c.position d.position && c.node == d.node
+
+-- the ball round the cell of a variable
+abbrev pub ball_round : List Edge → ℕ → Option Cell → List Cell
+ball_round es r None = []
+ball_round es r (Some c) = ball es c r
+
+-- the cells of several balls, each cell as often as it stands in one
+abbrev pub balls_of : List Edge → List Cell → List BallOf → List Cell
+balls_of es env bs = flat_map (λ b. ball_round es b.radius (slice_get env b.variable)) bs
+
+-- the cell of a node at the origin
+abbrev pub origin_at : ℕ → Cell
+origin_at a = cell (place (pos 0) (pos 0) (pos 0)) a

@@ -1,0 +1,255 @@
+//! The expansions of atoms, each paid from a budget of nodes.
+ghost use Rattle.std.specs.Prelude.{◌≡◌, ◌+◌, ◌<◌, ◌==◌, IfOk, OnOk, IfErr};
+ghost use Rattle.dd_topology.specs.Balls.{is_adjacent, same_place};
+ghost use Rattle.dd_expansion.specs.Terms.{same_cell};
+ghost use Rattle.dd_expansion.specs.Leaves.{instances};
+ghost use Rattle.dd_expansion.specs.Expansion.{constant, leaf, negated, both_have, equal_at, at_cell, at_cells};
+ghost use Rattle.dd_expansion.specs.Budget.{IsPaid};
+
+use crate::expanded::Expanded;
+use crate::fault::ExpansionFault;
+use dd_lattice::{Cell, Position};
+use dd_topology::Topology;
+use dd_values::{Boxed, Items};
+use std::alloc::{AllocError, Global};
+
+/// Takes nodes from the budget. `Instances` where there are not so many left.
+pub(crate) fn spend(budget: &mut u32, count: u32) -> Result<(), ExpansionFault>
+    ensures ok { OnOk result (budget.new + count ≡ budget.old) }
+    ensures few { IfErr result (λ fault. budget.old < count) }
+{
+    match budget.checked_sub(count) {
+        Some(rest) => {
+            *budget = rest;
+            Ok(())
+        }
+        None => Err(ExpansionFault::Instances),
+    }
+}
+
+fn constant(value: bool, budget: &mut u32) -> Result<Expanded, ExpansionFault>
+    ensures { IsPaid budget.old budget.new (constant value) (instances (constant value)) result }
+{
+    spend(budget, 1)?;
+    Ok(Expanded::Constant(value))
+}
+
+fn leaf(symbol: u32, cell: Cell, budget: &mut u32) -> Result<Expanded, ExpansionFault>
+    ensures { IsPaid budget.old budget.new (leaf symbol cell) (instances (leaf symbol cell)) result }
+{
+    spend(budget, 1)?;
+    Ok(Expanded::Leaf { cell, symbol })
+}
+
+/// A negation, of a part that is paid already.
+pub(crate) fn negated(
+    alloc: Global,
+    part: Expanded,
+    budget: &mut u32,
+) -> Result<Expanded, ExpansionFault>
+    ensures { IsPaid budget.old budget.new (negated part) 1 result }
+{
+    spend(budget, 1)?;
+    Ok(Expanded::Not(Boxed::new(alloc, part)?))
+}
+
+/// The symbol at a cell is this one.
+pub(crate) fn symbol_at(
+    symbol: u32,
+    place: Option<Cell>,
+    budget: &mut u32,
+) -> Result<Expanded, ExpansionFault>
+    ensures { IsPaid budget.old budget.new (at_cell (leaf symbol) place) (instances (at_cell (leaf symbol) place)) result }
+{
+    match place {
+        Some(cell) => leaf(symbol, cell, budget),
+        None => constant(false, budget),
+    }
+}
+
+fn negated_leaf(
+    alloc: Global,
+    symbol: u32,
+    cell: Cell,
+    budget: &mut u32,
+) -> Result<Expanded, ExpansionFault>
+    ensures { IsPaid budget.old budget.new (negated (leaf symbol cell)) (instances (negated (leaf symbol cell))) result }
+{
+    let part = leaf(symbol, cell, budget)?;
+    negated(alloc, part, budget)
+}
+
+/// The symbol at a cell is not this one.
+pub(crate) fn no_symbol_at(
+    alloc: Global,
+    symbol: u32,
+    place: Option<Cell>,
+    budget: &mut u32,
+) -> Result<Expanded, ExpansionFault>
+    ensures { let e = at_cell (λ c. negated (leaf symbol c)) place in
+        IsPaid budget.old budget.new e (instances e) result }
+{
+    match place {
+        Some(cell) => negated_leaf(alloc, symbol, cell, budget),
+        None => constant(false, budget),
+    }
+}
+
+/// Both cells have the symbol.
+fn both_have(
+    alloc: Global,
+    first: &Cell,
+    second: &Cell,
+    symbol: u32,
+) -> Result<Expanded, AllocError>
+    ensures { IfOk result (λ e. e ≡ both_have first.now second.now symbol) }
+{
+    let mut parts = Items::new(alloc);
+    parts.push(Expanded::Leaf {
+        cell: *first,
+        symbol,
+    })?;
+    parts.push(Expanded::Leaf {
+        cell: *second,
+        symbol,
+    })?;
+    Ok(Expanded::And(parts))
+}
+
+/// The two cells have the same symbol.
+fn equal_at(
+    alloc: Global,
+    symbols: u32,
+    first: &Cell,
+    second: &Cell,
+    budget: &mut u32,
+) -> Result<Expanded, ExpansionFault>
+    ensures { IsPaid budget.old budget.new (equal_at symbols first.now second.now) (instances (equal_at symbols first.now second.now)) result }
+{
+    spend(budget, 1)?;
+    let mut parts = Items::new(alloc);
+    for symbol in 0..symbols {
+        spend(budget, 3)?;
+        let part = both_have(alloc, first, second, symbol)?;
+        parts.push(part)?;
+    }
+    Ok(Expanded::Or(parts))
+}
+
+/// The symbols at the two cells are equal.
+pub(crate) fn same_at(
+    alloc: Global,
+    symbols: u32,
+    first: Option<Cell>,
+    second: Option<Cell>,
+    budget: &mut u32,
+) -> Result<Expanded, ExpansionFault>
+    ensures { let e = at_cells (equal_at symbols) first second in
+        IsPaid budget.old budget.new e (instances e) result }
+{
+    match first {
+        Some(a) => match second {
+            Some(b) => equal_at(alloc, symbols, &a, &b, budget),
+            None => constant(false, budget),
+        },
+        None => constant(false, budget),
+    }
+}
+
+fn unequal_at(
+    alloc: Global,
+    symbols: u32,
+    first: &Cell,
+    second: &Cell,
+    budget: &mut u32,
+) -> Result<Expanded, ExpansionFault>
+    ensures { let e = negated (equal_at symbols first.now second.now) in
+        IsPaid budget.old budget.new e (instances e) result }
+{
+    let part = equal_at(alloc, symbols, first, second, budget)?;
+    negated(alloc, part, budget)
+}
+
+/// The symbols at the two cells differ.
+pub(crate) fn not_same_at(
+    alloc: Global,
+    symbols: u32,
+    first: Option<Cell>,
+    second: Option<Cell>,
+    budget: &mut u32,
+) -> Result<Expanded, ExpansionFault>
+    ensures { let e = at_cells (λ c d. negated (equal_at symbols c d)) first second in
+        IsPaid budget.old budget.new e (instances e) result }
+{
+    match first {
+        Some(a) => match second {
+            Some(b) => unequal_at(alloc, symbols, &a, &b, budget),
+            None => constant(false, budget),
+        },
+        None => constant(false, budget),
+    }
+}
+
+/// Some edge leads from one of the two cells to the other.
+pub(crate) fn adjacent_at(
+    topology: &Topology,
+    first: Option<Cell>,
+    second: Option<Cell>,
+    budget: &mut u32,
+) -> Result<Expanded, ExpansionFault>
+    ensures { let e = at_cells (λ c d. constant (is_adjacent topology.now.edges c d)) first second in
+        IsPaid budget.old budget.new e (instances e) result }
+{
+    match first {
+        Some(a) => match second {
+            Some(b) => constant(topology.adjacent(&a, &b), budget),
+            None => constant(false, budget),
+        },
+        None => constant(false, budget),
+    }
+}
+
+fn same_position(p: &Position, q: &Position) -> bool
+    ensures { result ≡ same_place p.now q.now }
+{
+    p.x == q.x && p.y == q.y && p.z == q.z
+}
+
+fn same_cell(a: &Cell, b: &Cell) -> bool
+    ensures { result ≡ same_cell a.now b.now }
+{
+    same_position(&a.position, &b.position) && a.node == b.node
+}
+
+/// The two cells are the same cell.
+pub(crate) fn place_at(
+    first: Option<Cell>,
+    second: Option<Cell>,
+    budget: &mut u32,
+) -> Result<Expanded, ExpansionFault>
+    ensures { let e = at_cells (λ c d. constant (same_cell c d)) first second in
+        IsPaid budget.old budget.new e (instances e) result }
+{
+    match first {
+        Some(a) => match second {
+            Some(b) => constant(same_cell(&a, &b), budget),
+            None => constant(false, budget),
+        },
+        None => constant(false, budget),
+    }
+}
+
+/// The cell has this node.
+pub(crate) fn node_at(
+    node: u32,
+    place: Option<Cell>,
+    budget: &mut u32,
+) -> Result<Expanded, ExpansionFault>
+    ensures { let e = at_cell (λ c. constant (c.node == node)) place in
+        IsPaid budget.old budget.new e (instances e) result }
+{
+    match place {
+        Some(cell) => constant(cell.node == node, budget),
+        None => constant(false, budget),
+    }
+}

@@ -1,0 +1,47 @@
+//! The number of clauses that an expansion takes.
+ghost use Rattle.std.specs.Prelude.{◌≡◌, ◌+◌, ◌^◌, ◌<◌, ◌≤◌, length};
+ghost use Rattle.std.specs.List.{sum_by};
+ghost use Rattle.dd_expansion.specs.Leaves.{instances, clause_count};
+
+use crate::expanded::Expanded;
+
+impl Expanded {
+    /// The number of clauses of the gates of this tree.
+    #[tactic(auto, using(crate::proofs::Sizes::clauses_few))]
+    pub fn clause_count(&self) -> u64
+        requires { instances self.now ≤ 2 ^ 32 }
+        ensures { result ≡ clause_count self.now }
+    {
+        count(self)
+    }
+}
+
+#[cycle(count)]
+#[tactic(auto, using(crate::proofs::Sizes::count_layers))]
+fn count(expanded: &Expanded) -> u64
+    requires { clause_count expanded.now < 2 ^ 64 }
+    ensures { result ≡ clause_count expanded.now }
+{
+    match expanded {
+        Expanded::Constant(_) => 1,
+        Expanded::Leaf { .. } => 0,
+        Expanded::Not(inner) => count(inner.get()),
+        Expanded::And(parts) => count_all(parts.as_slice()),
+        Expanded::Or(parts) => count_all(parts.as_slice()),
+        Expanded::Iff(left, right) => count(left.get()) + count(right.get()) + 4,
+    }
+}
+
+/// The clauses of the parts and of the gate that joins them.
+#[cycle(count)]
+#[tactic(auto, using(crate::proofs::Sizes::count_layers))]
+fn count_all(parts: &[Expanded]) -> u64
+    requires { clause_count (Expanded.And parts.now) < 2 ^ 64 }
+    ensures { result ≡ clause_count (Expanded.And parts.now) }
+{
+    let mut clauses = 0;
+    for part in parts {
+        clauses += count(part);
+    }
+    clauses + (parts.len() as u64 + 1)
+}

@@ -1,0 +1,161 @@
+//! First-order formulas whose quantifiers range over balls.
+ghost use Rattle.std.specs.Prelude.{◌≡◌, IfOk};
+
+use dd_values::{Boxed, Items};
+use std::alloc::{AllocError, Global};
+
+/// A variable, and the labels of the moves that follow it. The variable 0 is the cell at which the formula stands; a
+/// bound variable has the number of variables that are in scope at its quantifier.
+#[derive(Debug, Drop)]
+pub struct Term {
+    pub variable: u32,
+    pub moves: Items<u32>,
+}
+
+/// The ball of a radius round the cell of a variable.
+#[derive(Debug, Clone, Copy, PartialEq, Eq)]
+pub struct BallOf {
+    pub variable: u32,
+    pub radius: u32,
+}
+
+/// A formula. An atom in which a move is missing is false.
+#[derive(Debug, Drop)]
+pub enum Formula {
+    /// The symbol at the term is this one.
+    Symbol {
+        term: Term,
+        symbol: u32,
+    },
+    /// The symbol at the term is not this one.
+    NotSymbol {
+        term: Term,
+        symbol: u32,
+    },
+    /// The symbols at the two terms are equal.
+    Same {
+        left: Term,
+        right: Term,
+    },
+    /// The symbols at the two terms differ.
+    NotSame {
+        left: Term,
+        right: Term,
+    },
+    /// Some edge leads from one of the two cells to the other.
+    Adjacent {
+        left: Term,
+        right: Term,
+    },
+    /// The two cells are the same cell.
+    Place {
+        left: Term,
+        right: Term,
+    },
+    /// The cell has this node.
+    Node {
+        term: Term,
+        node: u32,
+    },
+    Not(Boxed<Formula>),
+    And(Items<Formula>),
+    Or(Items<Formula>),
+    Implies(Boxed<Formula>, Boxed<Formula>),
+    Iff(Boxed<Formula>, Boxed<Formula>),
+    /// The body is true for each cell of the union of the balls.
+    ForAll {
+        balls: Items<BallOf>,
+        body: Boxed<Formula>,
+    },
+    /// The body is true for some cell of the union of the balls.
+    Exists {
+        balls: Items<BallOf>,
+        body: Boxed<Formula>,
+    },
+}
+
+impl Term {
+    pub fn copy(&self, alloc: Global) -> Result<Term, AllocError>
+        ensures { IfOk result (λ c. c ≡ self.now) }
+    {
+        Ok(Term {
+            variable: self.variable,
+            moves: Items::from_slice(alloc, self.moves.as_slice())?,
+        })
+    }
+}
+
+impl Formula {
+    #[cycle(copy)]
+    pub fn copy(&self, alloc: Global) -> Result<Formula, AllocError>
+        ensures { IfOk result (λ c. c ≡ self.now) }
+    {
+        match self {
+            Formula::Symbol { term, symbol } => Ok(Formula::Symbol {
+                term: term.copy(alloc)?,
+                symbol: *symbol,
+            }),
+            Formula::NotSymbol { term, symbol } => Ok(Formula::NotSymbol {
+                term: term.copy(alloc)?,
+                symbol: *symbol,
+            }),
+            Formula::Same { left, right } => Ok(Formula::Same {
+                left: left.copy(alloc)?,
+                right: right.copy(alloc)?,
+            }),
+            Formula::NotSame { left, right } => Ok(Formula::NotSame {
+                left: left.copy(alloc)?,
+                right: right.copy(alloc)?,
+            }),
+            Formula::Adjacent { left, right } => Ok(Formula::Adjacent {
+                left: left.copy(alloc)?,
+                right: right.copy(alloc)?,
+            }),
+            Formula::Place { left, right } => Ok(Formula::Place {
+                left: left.copy(alloc)?,
+                right: right.copy(alloc)?,
+            }),
+            Formula::Node { term, node } => Ok(Formula::Node {
+                term: term.copy(alloc)?,
+                node: *node,
+            }),
+            Formula::Not(inner) => Ok(Formula::Not(copy_boxed(alloc, inner)?)),
+            Formula::And(parts) => Ok(Formula::And(copy_all(alloc, parts.as_slice())?)),
+            Formula::Or(parts) => Ok(Formula::Or(copy_all(alloc, parts.as_slice())?)),
+            Formula::Implies(left, right) => Ok(Formula::Implies(
+                copy_boxed(alloc, left)?,
+                copy_boxed(alloc, right)?,
+            )),
+            Formula::Iff(left, right) => Ok(Formula::Iff(
+                copy_boxed(alloc, left)?,
+                copy_boxed(alloc, right)?,
+            )),
+            Formula::ForAll { balls, body } => Ok(Formula::ForAll {
+                balls: Items::from_slice(alloc, balls.as_slice())?,
+                body: copy_boxed(alloc, body)?,
+            }),
+            Formula::Exists { balls, body } => Ok(Formula::Exists {
+                balls: Items::from_slice(alloc, balls.as_slice())?,
+                body: copy_boxed(alloc, body)?,
+            }),
+        }
+    }
+}
+
+#[cycle(copy)]
+fn copy_boxed(alloc: Global, inner: &Boxed<Formula>) -> Result<Boxed<Formula>, AllocError>
+    ensures { IfOk result (λ c. c ≡ inner.now) }
+{
+    Boxed::new(alloc, inner.get().copy(alloc)?)
+}
+
+#[cycle(copy)]
+fn copy_all(alloc: Global, parts: &[Formula]) -> Result<Items<Formula>, AllocError>
+    ensures { IfOk result (λ c. c ≡ parts.now) }
+{
+    let mut copies = Items::new(alloc);
+    for part in parts {
+        copies.push(part.copy(alloc)?)?;
+    }
+    Ok(copies)
+}

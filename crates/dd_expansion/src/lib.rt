@@ -1,0 +1,17 @@
+//! First-order formulas over the cells of a topology, and their expansions without variables.
+#![tactic(auto)]
+
+mod atoms;
+mod counting;
+mod evaluation;
+mod expanded;
+mod expansion;
+mod fault;
+mod formulas;
+mod leaves;
+mod terms;
+
+pub use expanded::Expanded;
+pub use expansion::expand;
+pub use fault::ExpansionFault;
+pub use formulas::{BallOf, Formula, Term};
