@@ -1,19 +1,17 @@
 -- A rule that is true at each cell of the fundamental box is true at every position of Z^d.
-use Rattle.std.proofs.Common.{◌≡◌, ℕ, ◌<◌, length, [], ◌∷◌, true, ap, sym, ◌∙◌}
+use Rattle.std.proofs.Common.{◌≡◌, ℕ, ◌<◌, length, true, false, ap, sym, ◌∙◌, arith}
 use Rattle.dd_lattice.specs.Place.{Place}
 use Rattle.dd_lattice.specs.Cells.{cell, shifted}
 use Rattle.dd_lattice.specs.declared.position.Cell.{Cell}
-use Rattle.std.specs.Prelude.{false}
-use Rattle.dd_formula.specs.Reading.{Look}
-use Rattle.dd_formula.specs.Tile.{Tile, IsTile, base_of, tile_index, tile_look, cell_in}
-use Rattle.dd_formula.specs.LocalRule.{LocalRule, origin_at, is_true}
+use Rattle.dd_pattern.specs.Reading.{Look}
+use Rattle.dd_pattern.specs.Tile.{Tile, IsTile, base_of, tile_index, tile_look, cell_in}
+use Rattle.dd_pattern.proofs.Residues.{residue-add}
+use Rattle.dd_pattern.proofs.TileSizes.{index_below}
+use Rattle.dd_pattern.proofs.BoxLaws.{cell_at_index, cell_of_index, in_box, index_of_cell, before_by_order}
+use Rattle.dd_expansion.specs.Terms.{origin_at}
+use Rattle.dd_formula.specs.LocalRule.{LocalRule, is_true}
 use Rattle.dd_formula.specs.Living.{Fits, Lives, IsFirstFalse}
-use Rattle.dd_formula.proofs.Shifting.{truth_shifted}
-use Rattle.dd_formula.proofs.TruthAt.{at_origin}
-use Rattle.dd_formula.proofs.Residues.{residue-add}
-use Rattle.dd_formula.proofs.TileSizes.{index_below}
-use Rattle.dd_formula.proofs.BoxLaws.{cell_at_index, cell_of_index, in_box, index_of_cell, before_by_order}
-use Rattle.std.proofs.Common.{arith}
+use Rattle.dd_formula.proofs.RuleLaws.{truth_moved_back}
 
 abbrev pub true_in : LocalRule → Tile → ℕ → Type 0
 true_in r t i = is_true r (cell_in t i) (tile_look t) ≡ true
@@ -28,9 +26,9 @@ look_at_base t ok v c =
 
 truth_at_base : (r : LocalRule) (t : Tile) → IsTile t → (v : Place) (a : ℕ) → is_true r (cell v a) (tile_look t) ≡ is_true r (cell (base_of t v) a) (tile_look t)
 truth_at_base r t ok v a =
-    let at : (u : Place) → is_true r (cell u a) (tile_look t) ≡ is_true r (origin_at a) (λ c. tile_look t (shifted u c)) =
-    λ u. ap (λ c. is_true r c (tile_look t)) (sym (at_origin u a)) ∙ truth_shifted r.vocabulary.edges r.formula u (origin_at a ∷ []) (tile_look t) in
-    at v ∙ (ap (is_true r (origin_at a)) (same_look (λ c. tile_look t (shifted v c)) (λ c. tile_look t (shifted (base_of t v) c)) (look_at_base t ok v)) ∙ sym (at (base_of t v)))
+    truth_moved_back r v a (tile_look t)
+    ∙ (ap (is_true r (origin_at a)) (same_look (λ c. tile_look t (shifted v c)) (λ c. tile_look t (shifted (base_of t v) c)) (look_at_base t ok v))
+    ∙ sym (truth_moved_back r (base_of t v) a (tile_look t)))
 
 -- what holds at each cell of the box holds everywhere
 pub lives_from_box : (r : LocalRule) (t : Tile) → Fits r t → IsTile t → ((k : ℕ) → k < length t.symbols → true_in r t k) → Lives r t

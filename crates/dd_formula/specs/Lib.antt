@@ -1,9 +1,6 @@
-pub mod Topology
-pub mod Reading
-pub mod Tile
-pub mod Truth
-pub mod Limits
-pub mod Reads
-pub mod Expansion
 pub mod LocalRule
 pub mod Living
+pub mod Refusals
+pub mod Automata
+pub mod Counts
+pub mod Compositions

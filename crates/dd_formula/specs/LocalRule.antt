@@ -1,62 +1,97 @@
 -- A local rule: a formula with the topology and the alphabet that it speaks of.
-use Rattle.std.specs.Prelude.{ℕ, zero, suc, Bool, ◌<◌, ◌≡◌, true, ◌&&◌, is_some, nat_le, nat_lt, pos, List, [], ◌∷◌, ◌++◌}
+use Rattle.std.specs.Prelude.{ℕ, zero, suc, Bool, ◌<◌, ◌≤◌, ◌≡◌, true, false, ◌&&◌, is_some, nat_le, nat_lt, List, [], ◌∷◌, ◌++◌}
 use Rattle.std.specs.List.{list_all}
-use Rattle.dd_lattice.specs.Place.{place}
-use Rattle.dd_lattice.specs.Cells.{cell}
+use Rattle.dd_lattice.specs.InOrder.{in_order}
 use Rattle.dd_lattice.specs.declared.position.Cell.{Cell}
-use Rattle.dd_formula.specs.declared.vocabulary.Vocabulary.{Vocabulary}
-use Rattle.dd_formula.specs.declared.formulas.Formula.{Formula}
-use Rattle.dd_formula.specs.declared.formulas.Expanded.{Expanded}
-use Rattle.dd_formula.specs.Topology.{extent}
-use Rattle.dd_formula.specs.Reading.{Look, seen}
-use Rattle.dd_formula.specs.Truth.{truth}
-use Rattle.dd_formula.specs.Reads.{reads}
-use Rattle.dd_formula.specs.Expansion.{expansion}
-use Rattle.dd_formula.specs.Limits.{square_vocabulary}
+use Rattle.dd_topology.specs.declared.edge.Edge.{Edge}
+use Rattle.dd_topology.specs.Grid.{Grid}
+use Rattle.dd_topology.specs.Topology.{extent}
+use Rattle.dd_pattern.specs.Reading.{Look}
+use Rattle.dd_expansion.specs.declared.formulas.Formula.{Formula}
+use Rattle.dd_expansion.specs.declared.expanded.Expanded.{Expanded}
+use Rattle.dd_expansion.specs.Terms.{origin_at}
+use Rattle.dd_expansion.specs.Truth.{truth}
+use Rattle.dd_expansion.specs.Reads.{reads}
+use Rattle.dd_expansion.specs.Expansion.{expansion}
+use Rattle.dd_expansion.specs.Leaves.{leaves_pass, instances, seen}
+use Rattle.dd_expansion.specs.Placed.{is_flat}
 
 pub record LocalRule : Type 0 where
-  pub vocabulary : Vocabulary
+  pub dimension : ℕ
+  pub nodes : ℕ
+  -- the size of the alphabet
+  pub symbols : ℕ
+  pub edges : List Edge
   pub formula : Formula
 
-abbrev pub local_rule : Vocabulary → Formula → LocalRule
-local_rule v f = record { vocabulary = v; formula = f }
-
--- a formula over the square grid and the symbols 0 and 1
-abbrev pub square_rule : Formula → LocalRule
-square_rule f = local_rule square_vocabulary f
+-- a formula over a topology and n symbols
+abbrev pub local_rule : Grid → ℕ → Formula → LocalRule
+local_rule g n f = record { dimension = g.dimension; nodes = g.nodes; symbols = n; edges = g.edges; formula = f }
 
 -- whether the rule is true at a cell, under the symbols that the look gives
 abbrev pub is_true : LocalRule → Cell → Look → Bool
-is_true r c look = truth r.vocabulary.edges r.formula (c ∷ []) look
-
-abbrev pub origin_at : ℕ → Cell
-origin_at a = cell (place (pos 0) (pos 0) (pos 0)) a
+is_true r c look = truth r.edges r.formula (c ∷ []) look
 
 -- the cells that the rule reads at a node, relative to the origin
 abbrev pub reads_at : LocalRule → ℕ → List Cell
-reads_at r a = reads r.vocabulary.edges r.formula (origin_at a ∷ [])
+reads_at r a = reads r.edges r.formula (origin_at a ∷ [])
 
 -- each cell that the rule reads at this cell is within the range of positions and has a symbol
 abbrev pub is_given : LocalRule → Cell → Look → Bool
 is_given r c look = list_all (λ d. is_some (seen look c.position d)) (reads_at r c.node)
 
 abbrev pub expansion_at : LocalRule → ℕ → Expanded
-expansion_at r a = expansion r.vocabulary r.formula (origin_at a ∷ [])
+expansion_at r a = expansion r.edges r.symbols r.formula (origin_at a ∷ [])
 
--- the expansions at the nodes below n
-abbrev pub expansions_below : LocalRule → ℕ → List Expanded
-expansions_below r zero = []
-expansions_below r (suc n) = expansions_below r n ++ expansion_at r n ∷ []
+-- one item for each of the first n nodes
+abbrev pub at_nodes : {X : Type 0} → (ℕ → X) → ℕ → List X
+at_nodes f zero = []
+at_nodes f (suc n) = at_nodes f n ++ f n ∷ []
 
--- a cell of an existing node, at most 16 away from the origin along each axis
-abbrev pub is_within_reach : ℕ → Cell → Bool
-is_within_reach nodes c = nat_le (extent c.position) 16 && nat_lt c.node nodes
+-- the cells that the rule reads at a node, in cell order, each once
+abbrev pub cells_at : LocalRule → ℕ → List Cell
+cells_at r a = in_order (reads_at r a)
 
--- what each rule keeps: at each node it reads cells of existing nodes that are at most 16 away along each axis
+-- at most 16 away from the origin along each axis
+abbrev pub is_near : Cell → Bool
+is_near c = nat_le (extent c.position) 16
+
+-- a cell of Z^d with one of the rule's nodes
+abbrev pub is_of : LocalRule → Cell → Bool
+is_of r c = is_flat r.dimension c.position && nat_lt c.node r.nodes
+
+-- the limits of a rule: at each node its expansion has at most 20,000 nodes, and it reads nothing more than 16 away
+abbrev pub IsSmall : LocalRule → Type 0
+IsSmall r = (a : ℕ) → a < r.nodes → instances (expansion_at r a) ≤ 20000
+
+abbrev pub IsShort : LocalRule → Type 0
+IsShort r = (a : ℕ) → a < r.nodes → list_all is_near (reads_at r a) ≡ true
+
+-- what each rule keeps
 pub record IsRule (r : LocalRule) : Type 0 where
-  pub reach : (a : ℕ) → a < r.vocabulary.nodes → list_all (is_within_reach r.vocabulary.nodes) (reads_at r a) ≡ true
+  pub dimension : (1 ≤ r.dimension) × (r.dimension ≤ 3)
+  pub nodes : (1 ≤ r.nodes) × (r.nodes ≤ 4)
+  pub symbols : (1 ≤ r.symbols) × (r.symbols ≤ 16)
+  pub small : IsSmall r
+  pub short : IsShort r
+  -- it reads cells of Z^d
+  pub placed : (a : ℕ) → a < r.nodes → list_all (is_of r) (reads_at r a) ≡ true
+  -- it asks for symbols of the alphabet
+  pub known : (a : ℕ) → a < r.nodes → leaves_pass (λ c s. nat_lt s r.symbols) (expansion_at r a) ≡ true
 
--- a rule with its expansion at each node
-pub record IsExpanded (r : LocalRule) (es : List Expanded) : Type 0 where
+-- a rule with its expansion and its reads at each node
+pub record IsExpanded (r : LocalRule) (es : List Expanded) (cells : List (List Cell)) : Type 0 where
   pub rule : IsRule r
-  pub expansions : es ≡ expansions_below r r.vocabulary.nodes
+  pub expansions : es ≡ at_nodes (expansion_at r) r.nodes
+  pub reads : cells ≡ at_nodes (cells_at r) r.nodes
+
+-- the reason why a rule isn't made
+pub record IsLarge (r : LocalRule) : Type 0 where
+  pub node : ℕ
+  pub exists : node < r.nodes
+  pub many : 20000 < instances (expansion_at r node)
+
+pub record IsFar (r : LocalRule) : Type 0 where
+  pub node : ℕ
+  pub exists : node < r.nodes
+  pub far : list_all is_near (reads_at r node) ≡ false

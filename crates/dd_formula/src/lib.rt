@@ -1,21 +1,20 @@
-//! Formulas over the cells of a topology, rules, and the rules' truth in configurations.
+//! Rules: formulas over a topology and an alphabet, their truth, and the configurations that live in their subshifts.
 #![tactic(auto)]
 
-mod evaluation;
-mod expansion;
-mod formulas;
+mod automaton;
+mod composition;
+mod counts;
+mod fault;
+mod given;
 mod lives;
-mod periodic;
-mod reading;
+mod making;
 mod rule;
-#[cfg(test)]
-mod tests;
-mod topology;
-mod vocabulary;
+mod shifting;
+mod tree_size;
 
-pub use formulas::{BallOf, Expanded, Formula, Term};
+pub use automaton::{Automaton, Cases};
+pub use counts::plus;
+pub use dd_expansion::{BallOf, Expanded, Formula, Term};
+pub use fault::RuleFault;
 pub use lives::Membership;
-pub use periodic::Periodic;
-pub use reading::Reads;
-pub use rule::{Rule, RuleFault};
-pub use topology::Edge;
+pub use rule::Rule;

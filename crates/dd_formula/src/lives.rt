@@ -1,9 +1,9 @@
 //! Whether a periodic configuration lives in a rule's subshift.
 ghost use Rattle.dd_formula.specs.Living.{Fits, IsMembership};
 
-use crate::periodic::Periodic;
 use crate::rule::Rule;
 use dd_lattice::Cell;
+use dd_pattern::Periodic;
 
 /// A configuration is inside a subshift, or outside of it with a cell at which the rule is false.
 #[derive(Debug, Clone, Copy, PartialEq, Eq)]

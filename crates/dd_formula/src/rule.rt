@@ -1,141 +1,120 @@
-//! Rules: a formula over a topology and an alphabet, with its expansion at each node.
-ghost use Rattle.std.specs.Prelude.{◌≡◌, ◌<◌, ◌∷◌, [], IfOk, IfErr, IsTrue, if◌then◌else◌, Some, None};
-ghost use Rattle.dd_formula.specs.Topology.{square, are_short};
-ghost use Rattle.dd_formula.specs.Reading.{IsBelow, seen};
-ghost use Rattle.dd_formula.specs.Limits.{fits, fits_square, square_vocabulary};
-ghost use Rattle.dd_formula.specs.Expansion.{holds, given};
-ghost use Rattle.dd_formula.specs.LocalRule.{local_rule, square_rule, origin_at, is_true, is_given, expansion_at, expansions_below, IsRule};
+//! Rules: a formula over a topology and an alphabet, with its expansion and its reads at each node.
+ghost use Rattle.std.specs.Prelude.{◌≡◌, ◌<◌, ◌≤◌, IfOk, IfErr, OnOk, if◌then◌else◌, Some, None};
+ghost use Rattle.dd_pattern.specs.Reading.{IsBelow};
+ghost use Rattle.dd_expansion.specs.Limits.{IsFormula};
+ghost use Rattle.dd_expansion.specs.Leaves.{holds, given, seen, clause_count};
+ghost use Rattle.dd_formula.specs.LocalRule.{local_rule, expansion_at, cells_at, is_true, is_given, IsRule};
+ghost use Rattle.dd_formula.specs.Refusals.{IsRefusal};
 
-use crate::evaluation::evaluate;
-use crate::expansion::expand;
-use crate::formulas::{Expanded, Formula};
-use crate::reading::Reads;
-use crate::topology::square_edges;
-use crate::vocabulary::Vocabulary;
-use dd_lattice::{Cell, Position};
+use crate::fault::RuleFault;
+use crate::making::{copy_expansions, copy_reads, parts_of};
+use dd_expansion::{Expanded, Formula};
+use dd_lattice::Cell;
+use dd_pattern::Reads;
+use dd_topology::{Edge, Topology};
 use dd_values::Items;
 use std::alloc::{AllocError, Global};
 use std::marker::Model;
-use thiserror::Error;
 
-/// Why no rule was made.
-#[derive(Debug, Drop, Error)]
-pub enum RuleFault {
-    #[error("a cell is read that lies more than 16 away")]
-    Reach,
-    #[error("the expansion has more than 20000 parts")]
-    Instances,
-    #[error("a composition is nested more than 64 deep")]
-    Depth,
-    #[error("out of memory")]
-    Memory,
-}
-
-impl From<AllocError> for RuleFault {
-    ghost use Rattle.dd_formula.specs.declared.rule.RuleFault.TheVariants.{Memory};
-
-    ghost from_gives = { λ _ fault. fault ≡ Memory };
-
-    fn from(_error: AllocError) -> RuleFault {
-        RuleFault::Memory
-    }
-}
-
-/// A local rule: a configuration satisfies it where its formula is true at every cell.
+/// A local rule: a configuration satisfies it where its formula is true at every cell. It has 1 to 4 nodes and 1 to 16
+/// symbols; at each node its expansion has at most 20,000 nodes, and it reads nothing more than 16 away along an axis.
 #[derive(Debug, Drop)]
 pub struct Rule {
-    vocabulary: Vocabulary,
+    dim: u32,
+    nodes: u32,
+    symbols: u32,
+    edges: Items<Edge>,
     formula: Formula,
     expansions: Items<Expanded>,
+    reads: Items<Items<Cell>>,
 }
 
 impl Model for Rule {
-    ghost use Rattle.dd_formula.specs.LocalRule.{LocalRule, local_rule, IsExpanded};
     ghost use Rattle.std.specs.Prelude.{◌≡◌};
-    ghost use Rattle.dd_formula.specs.contracts.formulas.Formula as formula_type;
+    ghost use Rattle.dd_formula.specs.LocalRule.{LocalRule, IsExpanded};
+    ghost use Rattle.dd_expansion.specs.contracts.formulas.Formula as formula_type;
     ghost use Rattle.std.specs.Coded.{codes};
 
     ghost Value = { LocalRule };
 
     ghost coded = { Prim.hlevel (codes, formula_type.the_row.coded) };
 
-    ghost view = { λ r. local_rule r.vocabulary r.formula };
+    ghost view = { λ r. record { dimension = r.dim; nodes = r.nodes; symbols = r.symbols; edges = r.edges; formula = r.formula } };
 
-    ghost invariant = { λ r. IsExpanded (local_rule r.vocabulary r.formula) r.expansions };
-}
-
-fn square_vocabulary(alloc: Global) -> Result<Vocabulary, AllocError>
-    ensures { IfOk result (λ vocabulary. vocabulary ≡ square_vocabulary) }
-{
-    Ok(Vocabulary {
-        dim: 2,
-        nodes: 1,
-        labels: 4,
-        edges: square_edges(alloc)?,
-        symbols: 2,
-    })
-}
-
-fn origin() -> Position
-    ensures { result ≡ (origin_at 0).position }
-{
-    Position { x: 0, y: 0, z: 0 }
-}
-
-fn expand_at_nodes(
-    alloc: Global,
-    vocabulary: &Vocabulary,
-    formula: &Formula,
-) -> Result<Items<Expanded>, AllocError>
-    requires short { IsTrue (are_short 4 vocabulary.now.edges) }
-    requires fits { IsTrue (fits vocabulary.now formula.now 1) }
-    ensures { IfOk result (λ es. es ≡ expansions_below (local_rule vocabulary.now formula.now) vocabulary.now.nodes) }
-{
-    let mut parts = Items::new(alloc);
-    for node in 0..vocabulary.nodes {
-        let centre = Cell {
-            position: origin(),
-            node,
-        };
-        parts.push(expand(alloc, vocabulary, &[centre], formula)?)?;
-    }
-    Ok(parts)
+    ghost invariant = { λ r. IsExpanded (record { dimension = r.dim; nodes = r.nodes; symbols = r.symbols; edges = r.edges; formula = r.formula }) r.expansions r.reads };
 }
 
 impl Rule {
-    /// The rule of a formula over the square grid and the symbols 0 and 1. Want of memory is its only refusal.
-    pub fn new(alloc: Global, formula: Formula) -> Result<Rule, RuleFault>
-        requires { IsTrue (fits_square formula) }
-        ensures ok { IfOk result (λ rule. rule ≡ square_rule formula) }
-        ensures err { IfErr result (λ fault. fault ≡ RuleFault.Memory) }
+    /// The rule of a formula over a topology and so many symbols.
+    ///
+    /// # Errors
+    /// `Instances` where its expansion at some node has more than 20,000 nodes; else `Reach` where a cell is read that lies
+    /// more than 16 away along an axis; or `Memory`.
+    pub fn new(
+        alloc: Global,
+        topology: &Topology,
+        symbols: u32,
+        formula: Formula,
+    ) -> Result<Rule, RuleFault>
+        requires nodes { topology.now.nodes ≤ 4 }
+        requires symbols { (1 ≤ symbols) × (symbols ≤ 16) }
+        requires formula { IsFormula topology.now symbols formula }
+        ensures ok { IfOk result (λ rule. rule ≡ local_rule topology.now symbols formula) }
+        ensures rule { OnOk result (IsRule (local_rule topology.now symbols formula)) }
+        ensures err { IfErr result (IsRefusal (local_rule topology.now symbols formula)) }
     {
-        let vocabulary = square_vocabulary(alloc)?;
-        let expansions = expand_at_nodes(alloc, &vocabulary, &formula)?;
+        let parts = parts_of(alloc, topology, symbols, &formula)?;
         Ok(Rule {
-            vocabulary,
+            dim: topology.dim(),
+            nodes: topology.nodes(),
+            symbols,
+            edges: parts.edges,
+            formula,
+            expansions: parts.expansions,
+            reads: parts.reads,
+        })
+    }
+
+    /// A rule with the same formula, topology and alphabet.
+    pub fn copy(&self, alloc: Global) -> Result<Rule, AllocError>
+        ensures { IfOk result (λ copy. copy ≡ self.now) }
+    {
+        let edges = Items::from_slice(alloc, self.edges.as_slice())?;
+        let formula = self.formula.copy(alloc)?;
+        let expansions = copy_expansions(alloc, self.expansions.as_slice())?;
+        let reads = copy_reads(alloc, self.reads.as_slice())?;
+        Ok(Rule {
+            dim: self.dim,
+            nodes: self.nodes,
+            symbols: self.symbols,
+            edges,
             formula,
             expansions,
+            reads,
         })
     }
 
     /// The dimension. The readers take no memory.
     pub fn dim(&self) -> u32
-        ensures { result ≡ self.now.vocabulary.dim }
+        ensures { result ≡ self.now.dimension }
     {
-        self.vocabulary.dim
+        self.dim
     }
 
+    /// The number of nodes of a position, 1 to 4.
     pub fn nodes(&self) -> u32
-        ensures { result ≡ self.now.vocabulary.nodes }
+        ensures value { result ≡ self.now.nodes }
+        ensures kept { IsRule self.now }
     {
-        self.vocabulary.nodes
+        self.nodes
     }
 
-    /// The number of symbols.
+    /// The size of the alphabet, 1 to 16.
     pub fn symbols(&self) -> u32
-        ensures { result ≡ self.now.vocabulary.symbols }
+        ensures value { result ≡ self.now.symbols }
+        ensures kept { IsRule self.now }
     {
-        self.vocabulary.symbols
+        self.symbols
     }
 
     pub fn formula(&self) -> &Formula
@@ -143,25 +122,51 @@ impl Rule {
     {
         &self.formula
     }
+
+    /// The formula without variables that says the same at the node's cell at the origin.
+    pub fn expansion(&self, node: u32) -> &Expanded
+        requires { node < self.now.nodes }
+        ensures value { result.now ≡ expansion_at self.now node }
+        ensures kept { IsRule self.now }
+    {
+        &self.expansions[node as usize]
+    }
+
+    /// The cells that the rule reads at a node, counted from the origin, in cell order.
+    pub fn reads(&self, node: u32) -> &[Cell]
+        requires { node < self.now.nodes }
+        ensures value { result.now ≡ cells_at self.now node }
+        ensures kept { IsRule self.now }
+    {
+        self.reads[node as usize].as_slice()
+    }
+
+    /// The number of clauses of the gates of the expansion at a node.
+    pub fn clause_count(&self, node: u32) -> u64
+        requires { node < self.now.nodes }
+        ensures { result ≡ clause_count (expansion_at self.now node) }
+    {
+        self.expansion(node).clause_count()
+    }
 }
 
 impl Rule {
     /// What the expansion says of the symbols near a cell.
     fn truth_of_expansion<R: Reads>(&self, at: &Cell, read: &R) -> Option<bool>
-        requires { at.now.node < self.now.vocabulary.nodes }
+        requires { at.now.node < self.now.nodes }
         ensures value { let look = seen (R.symbols read.now) at.now.position in
             let e = expansion_at self.now at.now.node in
             result ≡ (if given e look then Some (holds e look) else None) }
         ensures kept { IsRule self.now }
     {
-        evaluate(&self.expansions[at.node as usize], &at.position, read)
+        self.expansion(at.node).evaluate(&at.position, read)
     }
 
     /// Whether the formula is true at a cell; `None` where some cell that the rule reads there has no symbol or leaves
     /// the range of positions. It takes no memory.
     pub fn truth<R: Reads>(&self, at: &Cell, read: &R) -> Option<bool>
-        requires node { at.now.node < self.now.vocabulary.nodes }
-        requires symbols { IsBelow self.now.vocabulary.symbols (R.symbols read.now) }
+        requires node { at.now.node < self.now.nodes }
+        requires symbols { IsBelow self.now.symbols (R.symbols read.now) }
         ensures value { let look = R.symbols read.now in
             result ≡ (if is_given self.now at.now look then Some (is_true self.now at.now look) else None) }
         ensures kept { IsRule self.now }

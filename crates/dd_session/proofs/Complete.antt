@@ -5,8 +5,8 @@ use Rattle.std.specs.Str.Parse.{digits_value}
 use Rattle.std.proofs.lemmas.List.{length-append, length-map}
 use Rattle.std.proofs.lemmas.List.Elements.{All-head, All-tail}
 use Rattle.std.proofs.lemmas.List.Sums.{list_all-from_AllPass}
-use Rattle.dd_formula.specs.declared.formulas.Formula.{Formula}
-use Rattle.dd_formula.specs.declared.formulas.Formula.TheVariants.{And, Implies}
+use Rattle.dd_expansion.specs.declared.formulas.Formula.{Formula}
+use Rattle.dd_expansion.specs.declared.formulas.Formula.TheVariants.{And, Implies}
 use Rattle.dd_tokens.specs.Format.{is_letter, is_digit}
 use Rattle.dd_session.specs.CutForm.{Text, Atom, IsAtom, symbol_text, move_text, atom_text, atom_formula, more_text, formula_text, formula_of, IsName, IsNumber}
 use Rattle.dd_session.specs.CutWords.{Reader, ◌>>=◌, after, symbol_at, move_at, many, is_name, name_at, is_number, number_at}

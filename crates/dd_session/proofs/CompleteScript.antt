@@ -2,7 +2,7 @@
 use Rattle.std.proofs.Common.{◌≡◌, ◌≢◌, ℕ, ◌*◌, ◌<◌, Bool, true, false, cond, ◌==◌, nat_le, nat_lt, List, [], ◌∷◌, ◌++◌, map, length, flat_map, All, Option, Some, None, refl, sym, ap, ◌∙◌, append_assoc, arith, le-leb, eq-eqb, codes, bytes_eq}
 use Rattle.std.specs.Str.Parse.{digits_value}
 use Rattle.std.proofs.lemmas.Slice.Eq.{bytes_eq-Decides}
-use Rattle.dd_formula.specs.declared.formulas.Formula.{Formula}
+use Rattle.dd_expansion.specs.declared.formulas.Formula.{Formula}
 use Rattle.dd_session.specs.declared.reading.commands.SymbolTable.{SymbolTable}
 use Rattle.dd_session.specs.CutForm.{Text, symbol_text, formula_text, formula_of, Writing, IsWriting, rule_text, configuration_text, member_text, script_text, script_of}
 use Rattle.dd_session.specs.CutWords.{◌>>=◌, after, symbol_at, many, name_at, number_at}

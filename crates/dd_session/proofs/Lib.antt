@@ -5,6 +5,7 @@ mod Sound
 mod SoundScript
 mod Complete
 mod CompleteScript
+mod SmallRules
 mod Fitting
 mod Whole
 pub mod Decided

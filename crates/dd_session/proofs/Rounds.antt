@@ -1,7 +1,7 @@
 -- Reading one of a kind after the other, as a loop does.
 use Rattle.std.proofs.Common.{◌≡◌, ℕ, zero, suc, ◌-◌, ◌+◌, ◌<◌, ◌≤◌, List, [], ◌∷◌, ◌++◌, Option, Some, None, refl, sym, ap, ◌∙◌, append_assoc, arith, codes}
 use Rattle.std.proofs.lemmas.List.{append-nil}
-use Rattle.dd_formula.specs.declared.formulas.Formula.{Formula}
+use Rattle.dd_expansion.specs.declared.formulas.Formula.{Formula}
 use Rattle.dd_session.specs.CutForm.{Text}
 use Rattle.dd_session.specs.CutWords.{◌>>=◌, Reader, many, after}
 use Rattle.dd_session.specs.CutReading.{atom_at, with_front, more_at}

@@ -3,8 +3,8 @@
 use Rattle.std.specs.Prelude.{◌≡◌, ◌≢◌, ℕ, zero, suc, ◌+◌, ◌*◌, ◌<◌, ◌≤◌, List, [], ◌∷◌, ◌++◌, map, length, take, drop, flat_map, slice_index, All, codes}
 use Rattle.std.specs.List.{AllPass}
 use Rattle.std.specs.Str.Parse.{digits_value}
-use Rattle.dd_formula.specs.declared.formulas.Formula.{Formula}
-use Rattle.dd_formula.specs.declared.formulas.Formula.TheVariants.{Symbol, And, Implies}
+use Rattle.dd_expansion.specs.declared.formulas.Formula.{Formula}
+use Rattle.dd_expansion.specs.declared.formulas.Formula.TheVariants.{Symbol, And, Implies}
 use Rattle.dd_tokens.specs.declared.token.Token.{Token}
 use Rattle.dd_tokens.specs.Format.{is_letter, is_digit, tokens_of}
 use Rattle.dd_session.specs.declared.reading.CutScript.{CutScript}

@@ -1,7 +1,7 @@
 -- Reading formulas, commands and scripts.
 use Rattle.std.specs.Prelude.{ℕ, zero, suc, ◌*◌, Bool, ◌&&◌, ◌==◌, not, nat_le, nat_lt, List, [], ◌∷◌, ◌++◌, length, Option, Some, None, if◌then◌else◌, codes, bytes_eq}
-use Rattle.dd_formula.specs.declared.formulas.Formula.{Formula}
-use Rattle.dd_formula.specs.declared.formulas.Formula.TheVariants.{Symbol, And, Implies}
+use Rattle.dd_expansion.specs.declared.formulas.Formula.{Formula}
+use Rattle.dd_expansion.specs.declared.formulas.Formula.TheVariants.{Symbol, And, Implies}
 use Rattle.dd_session.specs.declared.reading.CutScript.{CutScript}
 use Rattle.dd_session.specs.declared.reading.commands.SymbolTable.{SymbolTable}
 use Rattle.dd_session.specs.CutForm.{Text}

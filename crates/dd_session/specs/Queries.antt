@@ -1,9 +1,11 @@
 -- What a script asks, and which answers are right.
-use Rattle.std.specs.Prelude.{◌≡◌, ◌<◌, List, [], ◌∷◌, IsTrue, All, ⊤}
+use Rattle.std.specs.Prelude.{◌≡◌, ◌<◌, List, [], ◌∷◌, All, ⊤}
 use Rattle.dd_lattice.specs.declared.position.Cell.{Cell}
-use Rattle.dd_formula.specs.LocalRule.{LocalRule, square_rule}
-use Rattle.dd_formula.specs.Limits.{fits_square}
-use Rattle.dd_formula.specs.Tile.{Tile, IsTile, tile}
+use Rattle.dd_topology.specs.Builtin.{square}
+use Rattle.dd_expansion.specs.declared.formulas.Formula.{Formula}
+use Rattle.dd_expansion.specs.Limits.{IsFormula}
+use Rattle.dd_formula.specs.LocalRule.{LocalRule, local_rule, IsSmall, IsShort}
+use Rattle.dd_pattern.specs.Tile.{Tile, IsTile, tile}
 use Rattle.dd_formula.specs.Living.{Lives, IsFirstFalse}
 use Rattle.dd_session.specs.declared.reading.CutScript.{CutScript}
 use Rattle.dd_session.specs.Answers.{Answer, inside, outside, plane_place}
@@ -12,7 +14,17 @@ pub data Query : Type 0 where
   -- whether the configuration lives in the rule's subshift
   member : LocalRule → Tile → Query
 
--- The rule of a script, over the square grid and the symbols 0 and 1.
+-- The rule of a formula over the square grid and the symbols 0 and 1.
+abbrev pub square_rule : Formula → LocalRule
+square_rule formula = local_rule square 2 formula
+
+-- Such a rule can be made.
+pub record MakesRule (formula : Formula) : Type 0 where
+  pub numbers : IsFormula square 2 formula
+  pub small : IsSmall (square_rule formula)
+  pub short : IsShort (square_rule formula)
+
+-- The rule of a script.
 abbrev pub rule_of : CutScript → LocalRule
 rule_of script = square_rule script.formula
 
@@ -38,6 +50,6 @@ AllRight (query ∷ queries) (answer ∷ answers) = Right query answer × AllRig
 
 -- What the parts of a script need, so that its rule and its configuration can be made.
 pub record IsComplete (script : CutScript) : Type 0 where
-  pub formula : IsTrue (fits_square script.formula)
+  pub formula : MakesRule script.formula
   pub configuration : IsTile (configuration_of script)
   pub symbols : All (λ symbol. symbol < 2) script.symbols

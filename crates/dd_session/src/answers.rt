@@ -1,9 +1,12 @@
 // The query of a script, made ready and answered.
 ghost use Rattle.std.specs.Prelude.{◌≡◌, ◌∷◌, [], IfOk};
 ghost use Rattle.dd_formula.specs.Living.{Fits};
+ghost use Rattle.dd_session.specs.Queries.{MakesRule, square_rule};
 
 use crate::reading::CutScript;
-use dd_formula::{Membership, Periodic, Rule};
+use dd_formula::{Formula, Membership, Rule, RuleFault};
+use dd_pattern::Periodic;
+use dd_topology::{Kind, Topology};
 use std::alloc::{AllocError, Global};
 
 /// Whether a configuration lives in a rule's subshift.
@@ -11,6 +14,20 @@ use std::alloc::{AllocError, Global};
 pub(crate) struct Question {
     rule: Rule,
     configuration: Periodic,
+}
+
+/// The rule over the square grid and the symbols 0 and 1.
+fn square_rule(alloc: Global, formula: Formula) -> Result<Rule, AllocError>
+    requires { MakesRule formula }
+    ensures { IfOk result (λ rule. rule ≡ square_rule formula) }
+{
+    let square = Topology::builtin(alloc, Kind::Square)?;
+    match Rule::new(alloc, &square, 2, formula) {
+        Ok(rule) => Ok(rule),
+        Err(RuleFault::Memory) => Err(AllocError),
+        // The formula is small, and reads nothing that is far away.
+        Err(_) => unreachable!(),
+    }
 }
 
 impl Question {
@@ -31,14 +48,10 @@ impl Question {
         let Ok(configuration) = Periodic::new(2, [width, height, 1], 1, symbols.into_vec()) else {
             unreachable!()
         };
-        match Rule::new(alloc, formula) {
-            Ok(rule) => Ok(Question {
-                rule,
-                configuration,
-            }),
-            // Nothing but memory can be wanting.
-            Err(_) => Err(AllocError),
-        }
+        Ok(Question {
+            rule: square_rule(alloc, formula)?,
+            configuration,
+        })
     }
 
     /// The right answer. It takes no memory.

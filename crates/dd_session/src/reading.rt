@@ -1,11 +1,11 @@
 // The reader of scripts of the short form.
-ghost use Rattle.std.specs.Prelude.{◌≤◌, ◌<◌, [], ◌∷◌, length, All, IfOk, IsErrOf, IsTrue, MatchBool};
-ghost use Rattle.dd_formula.specs.Limits.{fits_square};
-ghost use Rattle.dd_formula.specs.Tile.{tile, IsTile};
+ghost use Rattle.std.specs.Prelude.{◌≤◌, ◌<◌, [], ◌∷◌, length, All, IfOk, IsErrOf, MatchBool};
+ghost use Rattle.dd_pattern.specs.Tile.{tile, IsTile};
 ghost use Rattle.dd_session.specs.declared.reading.CutScript.{CutScript};
 ghost use Rattle.dd_session.specs.CutForm.{texts, HasNoComment, Spells};
 ghost use Rattle.dd_session.specs.CutWords.{Gives};
 ghost use Rattle.dd_session.specs.CutReading.{script_at};
+ghost use Rattle.dd_session.specs.Queries.{MakesRule};
 
 mod commands;
 mod fault;
@@ -66,7 +66,7 @@ pub(crate) fn read_script(alloc: Global, bytes: &[u8]) -> Result<CutScript, Read
     requires { length bytes.now ≤ 1048576 }
     ensures spelled { IfOk result (λ s. Spells bytes.now s) }
     // What the rule and the configuration need, so that they can be made.
-    ensures formula { IfOk result (λ s. IsTrue (fits_square s.formula)) }
+    ensures formula { IfOk result (λ s. MakesRule s.formula) }
     ensures configuration { IfOk result (λ s. IsTile (tile 2 (s.width ∷ s.height ∷ 1 ∷ []) 1 s.symbols)) }
     ensures symbols { IfOk result (λ s. All (λ n. n < 2) s.symbols) }
     ensures none_spelled { IsErrOf result ReadingFault.Form → (s : CutScript) → ¬ Spells bytes.now s }

@@ -1,11 +1,12 @@
-use Rattle.std.proofs.Common.{◌≡◌, ◌<◌, ℕ, length, Bool, false, Option, Some, None, arith, ap, ◌∙◌}
+use Rattle.std.proofs.Common.{◌≡◌, ◌<◌, ℕ, length, Bool, true, false, Option, Some, None, arith, ap, ◌∙◌}
+use borrow.Author.Count.{below_more}
 use Rattle.std.specs.Prelude.{cond}
 use Rattle.dd_lattice.specs.declared.position.Cell.{Cell}
-use Rattle.dd_formula.specs.Tile.{Tile, IsTile, cell_in, tile_look}
+use Rattle.dd_pattern.specs.Tile.{Tile, IsTile, cell_in, tile_look}
+use Rattle.dd_pattern.proofs.BoxLaws.{in_box}
 use Rattle.dd_formula.specs.LocalRule.{LocalRule, IsRule, is_true, is_given}
 use Rattle.dd_formula.specs.Living.{Fits}
-use Rattle.dd_formula.proofs.BoxLaws.{in_box}
-use Rattle.dd_formula.proofs.Reached.{box_given}
+use Rattle.dd_formula.proofs.Reached.{box_given, tile_below}
 use Rattle.dd_formula.proofs.LivesLaws.{true_in, lives_from_box, first_from_box}
 use Rattle.dd_formula.proofs.rule.Rule.member.Goals as goal
 
@@ -17,6 +18,24 @@ told r t i c answer rule fits ok within is_cell said =
     ∙ (ap (λ d. cond (is_given r d (tile_look t)) (Some (is_true r d (tile_look t))) None) is_cell
     ∙ ap (λ b. cond b (Some (is_true r (cell_in t i) (tile_look t))) None) (box_given r t rule fits ok (cell_in t i) (in_box t ok i within)))
 
+pub truth-requires : goal.truth-requires
+truth-requires c =
+    let r = c.args.self.now in
+    let t = c.args.periodic.now in
+    let node : c.cell_at-cell.result.node < r.nodes = omega (arith, c.cell_at-cell.ensures.in_box.node, c.requires.nodes) in
+    record { node = node; symbols = tile_below r t c.requires }
+
+pub loop-number-preserved : goal.loop-number-preserved
+loop-number-preserved c =
+    let r = c.args.self.now in
+    let t = c.args.periodic.now in
+    let count = c.symbols-number-end.ensures in
+    let number = c.loop-number.number in
+    let within : number < length t.symbols = omega (arith, ap length count.value, c.loop-number-test.true) in
+    let answer = told r t number c.cell_at-cell.result c.truth.result c.truth.ensures.kept c.requires count.kept within c.cell_at-cell.ensures.value c.truth.ensures.value in
+    let here : is_true r (cell_in t number) (tile_look t) ≡ true = (let is = c.in-Some-true.is in let yes = c.in-Some-true.field-0-test in cc) in
+    below_more (true_in r t) number c.loop-number.invariant here
+
 pub returns-in-Some-false : goal.returns-in-Some-false
 returns-in-Some-false c =
     let r = c.args.self.now in
@@ -24,9 +43,9 @@ returns-in-Some-false c =
     let count = c.symbols-number-end.ensures in
     let number = c.loop-number.number in
     let within : number < length t.symbols = omega (arith, ap length count.value, c.loop-number-test.true) in
-    let answer = told r t number c.cell_at-cell.result c.truth.result c.truth.ensures.kept c.requires count.kept within c.cell_at-cell.ensures c.truth.ensures.value in
+    let answer = told r t number c.cell_at-cell.result c.truth.result c.truth.ensures.kept c.requires count.kept within c.cell_at-cell.ensures.value c.truth.ensures.value in
     let here : is_true r (cell_in t number) (tile_look t) ≡ false = (let is = c.in-Some-false.is in let no = c.in-Some-false.field-0-test in cc) in
-    rw c.cell_at-cell.ensures (first_from_box r t count.kept number within here c.loop-number.invariant)
+    rw c.cell_at-cell.ensures.value (first_from_box r t count.kept number within here c.loop-number.invariant)
 
 pub unreachable-requires : goal.unreachable-requires
 unreachable-requires c =
@@ -35,7 +54,7 @@ unreachable-requires c =
     let count = c.symbols-number-end.ensures in
     let number = c.loop-number.number in
     let within : number < length t.symbols = omega (arith, ap length count.value, c.loop-number-test.true) in
-    let answer = told r t number c.cell_at-cell.result c.truth.result c.truth.ensures.kept c.requires count.kept within c.cell_at-cell.ensures c.truth.ensures.value in
+    let answer = told r t number c.cell_at-cell.result c.truth.result c.truth.ensures.kept c.requires count.kept within c.cell_at-cell.ensures.value c.truth.ensures.value in
     let is = c.in-None.is in
     absurd (cc)
 

@@ -1,0 +1,116 @@
+-- What no admissible filling of one box has at the origin, no admissible filling has anywhere.
+use Rattle.std.proofs.Common.{◌≡◌, ℕ, ◌<◌, ◌≤◌, Bool, true, false, List, length, refl, ap, sym, ◌∙◌, Some, None}
+use Rattle.std.specs.Prelude.{cond, ◌&&◌, ◌||◌, Option, is_some, IfSome, nat_lt, slice_get}
+use Rattle.std.specs.List.{All}
+use Rattle.std.proofs.lemmas.Bool.{and_parts, lt-ltb, ltb-true}
+use Rattle.std.proofs.lemmas.Option.{slice_get-get_or, slice_get_within, get_or_from_slice_get}
+use Rattle.dd_lattice.specs.Place.{Place}
+use Rattle.dd_lattice.specs.Cells.{shifted}
+use Rattle.dd_lattice.specs.declared.position.Cell.{Cell}
+use Rattle.dd_pattern.specs.Reading.{Look}
+use Rattle.dd_pattern.specs.Tile.{Tile, IsTile, tile_look, tile_index}
+use Rattle.dd_pattern.proofs.TileSizes.{index_below}
+use Rattle.dd_expansion.specs.Placed.{is_flat}
+use Rattle.dd_formula.specs.LocalRule.{LocalRule, reads_at}
+use Rattle.dd_formula.specs.Living.{Fits}
+use Rattle.dd_boxes.specs.Goals.{GoalOf, breaks, always, HasGoal, AreAlike, IsGoalFor}
+use Rattle.dd_boxes.specs.Fillings.{in_box, is_box_cell, IsConfiguration}
+use Rattle.dd_boxes.specs.Boxes.{origin, Suffices, Reaches, IsLeastRadius, Covers, Never, IsInNoConfiguration, IsInNoTile, HoldsNowhere}
+use Rattle.dd_boxes.proofs.RuleLaws.{from_place, moved_from_origin, shifted_by_origin, reads_given, keeps_at, list_all_weaker}
+use Rattle.dd_boxes.proofs.CutLaws.{flat_moved, flat_box, wider_box, cut, cond_domain, cut_is_filling, cut_near, cut_admissible}
+
+-- alike rules have one box
+pub box_alike : (x y : LocalRule) (n : ℕ) (c : Cell) → AreAlike x y → is_box_cell y n c ≡ is_box_cell x n c
+box_alike x y n c same = rw (same.dimension, same.nodes) refl
+
+cut_at_origin : (x : LocalRule) (n : ℕ) (look : Look) (v : Place) (c : Cell) → is_some (from_place (cut x n look v) origin c) ≡ true →
+    from_place (cut x n look v) origin c ≡ from_place look v c
+cut_at_origin x n look v c h = cut_near x n look origin v c h ∙ ap (λ u. look (shifted u c)) (moved_from_origin v)
+
+-- the cut has all that is read at the origin
+cut_reads : (x y : LocalRule) (n : ℕ) (look : Look) (v : Place) (a : ℕ) → AreAlike x y → a < y.nodes → Reaches (breaks y) n → Covers x n look v →
+    reads_given y (cut x n look v) origin a ≡ true
+cut_reads x y n look v a same node reach covers =
+    list_all_weaker (is_box_cell y n) (λ c. is_some (cut x n look v (shifted origin c)))
+    (λ c h. ap (λ d. is_some (cut x n look v d)) (shifted_by_origin c)
+    ∙ (cond_domain (is_box_cell x n c) (look (shifted v c)) (covers c) ∙ (sym (box_alike x y n c same) ∙ h)))
+    (reads_at y a) (reach a node)
+
+-- the goal goes from v to the origin of the cut
+goal_at_origin : (x : LocalRule) (g : GoalOf) (n : ℕ) (look : Look) (v : Place) → IsGoalFor x g → Reaches g n → Covers x n look v → HasGoal g look v →
+    HasGoal g (cut x n look v) origin
+goal_at_origin x (breaks y) n look v ok reach covers there = (
+  there.0,
+  there.1,
+  keeps_at y (cut x n look v) look origin v there.0 (cut_at_origin x n look v) (cut_reads x y n look v there.0 ok.1 there.1 reach covers) ∙ there.2,
+)
+goal_at_origin x always n look v ok reach covers there = tt
+
+pub never_from_box : (x : LocalRule) (g : GoalOf) (n : ℕ) → IsGoalFor x g → Reaches g n → Suffices x g n → Never x g n
+never_from_box x g n ok reach suffices = record {
+  reaches = reach;
+  nowhere = λ look below admissible v flat covers there.
+      suffices (cut x n look v) (cut_is_filling x n look v below covers) (cut_admissible x n look v flat admissible)
+      (goal_at_origin x g n look v ok reach covers there);
+}
+
+-- a configuration that obeys the rule is an admissible filling that covers every box
+configuration_covers : (x : LocalRule) (n : ℕ) (look : Look) (v : Place) → IsConfiguration x look → is_flat x.dimension v ≡ true → Covers x n look v
+configuration_covers x n look v full flat c h =
+    let both = and_parts (in_box x.dimension n c.position) (nat_lt c.node x.nodes) h in
+    full.everywhere (shifted v c) (flat_moved x.dimension c.position v (flat_box x.dimension n c.position both.0) flat) (ltb-true c.node x.nodes both.1)
+
+pub never_in_configuration : (x : LocalRule) (g : GoalOf) (n : ℕ) → Never x g n → IsInNoConfiguration x g
+never_in_configuration x g n never look full obeys v flat there =
+    never.nowhere look full.symbols (λ u a level node _. obeys u a level node) v flat (configuration_covers x n look v full flat) there
+
+-- a periodic configuration is one
+look_is_some : (t : Tile) (c : Cell) → tile_index t c < length t.symbols → is_some (slice_get t.symbols (tile_index t c)) ≡ true
+look_is_some t c below = ap is_some (slice_get-get_or t.symbols (tile_index t c) 0 below)
+
+symbol_below : (n : ℕ) (ss : List ℕ) (i : ℕ) (o : Option ℕ) → All (λ s. s < n) ss → slice_get ss i ≡ o → IfSome o (λ s. s < n)
+symbol_below n ss i None all is = tt
+symbol_below n ss i (Some s) all is =
+    let at = get_or_from_slice_get ss i s s is in
+    rw at at (all i s (slice_get_within ss i s is))
+
+cond_below : (b : Bool) (o : Option ℕ) (n : ℕ) → IfSome o (λ s. s < n) → IfSome (cond b o None) (λ s. s < n)
+cond_below true o n h = h
+cond_below false o n h = tt
+
+pub tile_is_configuration : (x : LocalRule) (t : Tile) → IsTile t → Fits x t → IsConfiguration x (tile_look t)
+tile_is_configuration x t ok fit = record {
+  everywhere = λ c flat node.
+      (let below : c.node < t.nodes = rw fit.nodes node in
+      rw (lt-ltb c.node t.nodes below) (look_is_some t c (index_below t ok c below)));
+  symbols = λ c. cond_below (nat_lt c.node t.nodes) (slice_get t.symbols (tile_index t c)) x.symbols (symbol_below x.symbols t.symbols (tile_index t c) _ fit.symbols refl);
+}
+
+pub never_in_tile : (x : LocalRule) (g : GoalOf) (n : ℕ) → Never x g n → IsInNoTile x g
+never_in_tile x g n never t ok fit lives v flat there =
+    never_in_configuration x g n never (tile_look t) (tile_is_configuration x t ok fit) lives v flat there
+
+pub holds_nowhere : (x : LocalRule) (g : GoalOf) (n : ℕ) → IsGoalFor x g → Reaches g n → Suffices x g n → HoldsNowhere x g n
+holds_nowhere x g n ok reach suffices =
+    let never = never_from_box x g n ok reach suffices in
+    record { never = never; configurations = never_in_configuration x g n never; tiles = never_in_tile x g n never }
+
+-- larger boxes suffice too
+pub reaches_more : (g : GoalOf) (n m : ℕ) → n ≤ m → Reaches g n → Reaches g m
+reaches_more (breaks y) n m le reach = λ a node. list_all_weaker (is_box_cell y n) (is_box_cell y m) (λ c h. wider_box y n m c le h) (reads_at y a) (reach a node)
+reaches_more always n m le reach = tt
+
+pub suffices_more : (x : LocalRule) (g : GoalOf) (n m : ℕ) → IsGoalFor x g → Reaches g n → n ≤ m → Suffices x g n → Suffices x g m
+suffices_more x g n m ok reach le suffices look filling admissible there =
+    (never_from_box x g n ok reach suffices).nowhere look filling.symbols admissible origin (flat_origin (nat_lt 1 x.dimension) (nat_lt 2 x.dimension))
+    (λ c h. ap (λ d. is_some (look d)) (shifted_by_origin c) ∙ (filling.domain c ∙ wider_box x n m c le h)) there
+  where
+    flat_origin : (y z : Bool) → ((y || true) && (z || true)) ≡ true
+    flat_origin true true = refl
+    flat_origin true false = refl
+    flat_origin false true = refl
+    flat_origin false false = refl
+
+-- the radii that reach are those from the least one on
+pub from_least : (g : GoalOf) (least n : ℕ) → IsLeastRadius g least → least ≤ n → Reaches g n
+from_least g least n is le = reaches_more g least n le is.reaches

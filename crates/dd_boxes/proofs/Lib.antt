@@ -1,0 +1,5 @@
+pub mod RuleLaws
+pub mod CutLaws
+pub mod FromBox
+pub mod ReachLaws
+pub mod OneBoxLaws

@@ -1,0 +1,53 @@
+-- When a box shows that a goal holds nowhere.
+use Rattle.std.specs.Prelude.{ℕ, ◌<◌, ◌≤◌, ◌≡◌, true, is_some, pos}
+use Rattle.std.specs.List.{list_all}
+use Rattle.dd_lattice.specs.Place.{Place, place}
+use Rattle.dd_lattice.specs.Cells.{shifted}
+use Rattle.dd_lattice.specs.declared.position.Cell.{Cell}
+use Rattle.dd_pattern.specs.Reading.{Look, IsBelow}
+use Rattle.dd_pattern.specs.Tile.{Tile, IsTile, tile_look}
+use Rattle.dd_expansion.specs.Placed.{is_flat}
+use Rattle.dd_formula.specs.LocalRule.{LocalRule, reads_at}
+use Rattle.dd_formula.specs.Living.{Fits, Obeys, Lives}
+use Rattle.dd_boxes.specs.Goals.{GoalOf, breaks, always, HasGoal}
+use Rattle.dd_boxes.specs.Fillings.{Admissible, is_box_cell, IsBoxFilling, IsConfiguration}
+
+abbrev pub origin : Place
+origin = place (pos 0) (pos 0) (pos 0)
+
+-- no admissible filling of B(n) has the goal at the origin
+abbrev pub Suffices : LocalRule → GoalOf → ℕ → Type 0
+Suffices x g n = (look : Look) → IsBoxFilling x n look → Admissible x look → HasGoal g look origin → ⊥
+
+-- B(n) holds each cell that the goal reads at the origin
+abbrev pub Reaches : GoalOf → ℕ → Type 0
+Reaches (breaks y) n = (a : ℕ) → a < y.nodes → list_all (is_box_cell y n) (reads_at y a) ≡ true
+Reaches always n = Unit {0}
+
+pub record IsLeastRadius (g : GoalOf) (n : ℕ) : Type 0 where
+  pub reaches : Reaches g n
+  pub least : (k : ℕ) → Reaches g k → n ≤ k
+
+-- each cell of B(n), moved by v, has a symbol
+abbrev pub Covers : LocalRule → ℕ → Look → Place → Type 0
+Covers x n look v = (c : Cell) → is_box_cell x n c ≡ true → is_some (look (shifted v c)) ≡ true
+
+-- n is at least the goal's least radius, and no admissible filling of any domain has the goal at any position of Z^d
+-- round which it fills a box of radius n
+pub record Never (x : LocalRule) (g : GoalOf) (n : ℕ) : Type 0 where
+  pub reaches : Reaches g n
+  pub nowhere : (look : Look) → IsBelow x.symbols look → Admissible x look → (v : Place) → is_flat x.dimension v ≡ true → Covers x n look v → HasGoal g look v → ⊥
+
+-- no configuration that obeys the rule at every place of Z^d has the goal at any position of Z^d
+abbrev pub IsInNoConfiguration : LocalRule → GoalOf → Type 0
+IsInNoConfiguration x g = (look : Look) → IsConfiguration x look → Obeys x look → (v : Place) → is_flat x.dimension v ≡ true → HasGoal g look v → ⊥
+
+-- nor does any periodic configuration that lives in the rule's subshift, of any periods
+abbrev pub IsInNoTile : LocalRule → GoalOf → Type 0
+IsInNoTile x g = (t : Tile) → IsTile t → Fits x t → Lives x t → (v : Place) → is_flat x.dimension v ≡ true → HasGoal g (tile_look t) v → ⊥
+
+-- what a box that suffices shows
+pub record HoldsNowhere (x : LocalRule) (g : GoalOf) (n : ℕ) : Type 0 where
+  pub never : Never x g n
+  pub configurations : IsInNoConfiguration x g
+  pub tiles : IsInNoTile x g

@@ -1,0 +1,41 @@
+-- Fillings: symbols for the cells of a domain. A look is a filling of those cells to which it gives a symbol.
+use Rattle.std.specs.Prelude.{ℕ, ◌<◌, ◌≡◌, ◌&&◌, Bool, true, is_some, nat_lt, nat_le, ℤ, unsigned_abs}
+use Rattle.std.specs.List.{list_all}
+use Rattle.dd_lattice.specs.Place.{Place}
+use Rattle.dd_lattice.specs.Cells.{cell, shifted}
+use Rattle.dd_lattice.specs.Boxes.{is_active, spread}
+use Rattle.dd_lattice.specs.declared.position.Cell.{Cell}
+use Rattle.dd_pattern.specs.Reading.{Look, IsBelow}
+use Rattle.dd_expansion.specs.Placed.{is_flat}
+use Rattle.dd_formula.specs.LocalRule.{LocalRule, is_true, reads_at}
+
+-- the cell, and each cell that the rule reads there, has a symbol
+abbrev pub fits : LocalRule → Look → Cell → Bool
+fits x look c = is_some (look c) && list_all (λ d. is_some (look (shifted c.position d))) (reads_at x c.node)
+
+-- the rule is true at each place of Z^d that fits
+abbrev pub Admissible : LocalRule → Look → Type 0
+Admissible x look =
+    (v : Place) (a : ℕ) → is_flat x.dimension v ≡ true → a < x.nodes → fits x look (cell v a) ≡ true → is_true x (cell v a) look ≡ true
+
+abbrev pub is_up_to : ℕ → ℤ → Bool
+is_up_to n c = nat_le (unsigned_abs c) n
+
+-- the positions of B(n) in d dimensions, as a test
+abbrev pub in_box : ℕ → ℕ → Place → Bool
+in_box d n p =
+    is_up_to (spread (is_active d 0) n) p.x && is_up_to (spread (is_active d 1) n) p.y && is_up_to (spread (is_active d 2) n) p.z
+
+-- the cells of B(n), with each node
+abbrev pub is_box_cell : LocalRule → ℕ → Cell → Bool
+is_box_cell x n c = in_box x.dimension n c.position && nat_lt c.node x.nodes
+
+-- exactly the cells of B(n) have symbols
+pub record IsBoxFilling (x : LocalRule) (n : ℕ) (look : Look) : Type 0 where
+  pub domain : (c : Cell) → is_some (look c) ≡ is_box_cell x n c
+  pub symbols : IsBelow x.symbols look
+
+-- each cell of Z^d has a symbol
+pub record IsConfiguration (x : LocalRule) (look : Look) : Type 0 where
+  pub everywhere : (c : Cell) → is_flat x.dimension c.position ≡ true → c.node < x.nodes → is_some (look c) ≡ true
+  pub symbols : IsBelow x.symbols look

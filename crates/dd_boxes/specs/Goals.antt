@@ -1,0 +1,27 @@
+-- What is looked for at a position.
+use Rattle.std.specs.Prelude.{ℕ, ◌≡◌, ◌<◌, false}
+use Rattle.dd_lattice.specs.Place.{Place}
+use Rattle.dd_lattice.specs.Cells.{cell}
+use Rattle.dd_pattern.specs.Reading.{Look}
+use Rattle.dd_formula.specs.LocalRule.{LocalRule, IsRule, is_true}
+
+pub data GoalOf : Type 0 where
+  -- some node of the position breaks the rule
+  breaks : LocalRule → GoalOf
+  always : GoalOf
+
+-- the goal holds at the position v, under the symbols that the look gives
+abbrev pub HasGoal : GoalOf → Look → Place → Type 0
+HasGoal (breaks y) look v = (a : ℕ) × (a < y.nodes) × (is_true y (cell v a) look ≡ false)
+HasGoal always look v = Unit {0}
+
+-- two rules of one dimension, over the same nodes and the same alphabet
+pub record AreAlike (x y : LocalRule) : Type 0 where
+  pub dimension : y.dimension ≡ x.dimension
+  pub nodes : y.nodes ≡ x.nodes
+  pub symbols : y.symbols ≡ x.symbols
+
+-- a goal for questions about a rule
+abbrev pub IsGoalFor : LocalRule → GoalOf → Type 0
+IsGoalFor x (breaks y) = IsRule y × AreAlike x y
+IsGoalFor x always = Unit {0}

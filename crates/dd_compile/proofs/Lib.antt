@@ -1,0 +1,10 @@
+pub mod WiringLaws
+pub mod Layers
+pub mod Progress
+pub mod MadeSays
+pub mod MadeFits
+pub mod MadeCount
+pub mod CompiledLaws
+pub mod FewGates
+pub mod RuleWiring
+pub mod RuleSays

@@ -1,0 +1,120 @@
+-- The gates of a formula without variables, as a function of the number of variables before them.
+use Rattle.std.specs.Prelude.{ℕ, ◌+◌, ◌≡◌, ◌&&◌, Bool, false, if◌then◌else◌, nat_le}
+use Rattle.std.specs.Prelude.{List, [], ◌∷◌, ◌++◌, map, length, Option, Some, None}
+use Rattle.std.specs.List.{list_all}
+use Rattle.dd_lattice.specs.Place.{Place, moved, is_in_range}
+use Rattle.dd_lattice.specs.Cells.{shifted}
+use Rattle.dd_lattice.specs.declared.position.Cell.{Cell}
+use Rattle.dd_expansion.specs.declared.expanded.Expanded.{Expanded}
+use Rattle.dd_expansion.specs.declared.expanded.Expanded.TheFolds.{fold-Expanded}
+use Rattle.dd_expansion.specs.declared.expanded.Expanded.TheOpen.{Expanded-F}
+use Rattle.dd_pattern.specs.Reading.{Look}
+use Rattle.dd_expansion.specs.Leaves.{leaves_pass, total}
+use Rattle.dd_expansion.specs.Truth.{is_symbol}
+use Rattle.dd_circuit.specs.declared.gates.Signal.{Signal}
+use Rattle.dd_circuit.specs.declared.gates.Gate.{Gate}
+use Rattle.dd_circuit.specs.declared.gates.Gate.TheVariants.{And, Or, Iff}
+use Rattle.dd_circuit.specs.Circuits.{Network, signal_of, opposite, signal_value}
+use Rattle.dd_compile.specs.Wiring.{Wiring, wire_of}
+
+-- a signal, and the gates that are added for it
+pub record Made : Type 0 where
+  pub signal : Signal
+  pub gates : List Gate
+
+pub record AllMade : Type 0 where
+  pub signals : List Signal
+  pub gates : List Gate
+
+abbrev pub made_of : Signal → List Gate → Made
+made_of s gs = record { signal = s; gates = gs }
+
+-- from the number of variables before
+abbrev pub Maker : Type 0
+Maker = ℕ → Made
+
+-- the gates of all parts, one part after the other
+abbrev pub all_made : List Maker → ℕ → AllMade
+all_made [] n = record { signals = []; gates = [] }
+all_made (m ∷ ms) n =
+    let rest = all_made ms (n + length (m n).gates) in
+    record { signals = (m n).signal ∷ rest.signals; gates = (m n).gates ++ rest.gates }
+
+-- a gate with the next variable, after the gates of its parts
+abbrev pub then_gate : ℕ → List Gate → Gate → Made
+then_gate n gates g = made_of (signal_of (n + length gates + 1)) (gates ++ g ∷ [])
+
+abbrev pub made_step : (Cell → ℕ → Signal) → Expanded-F Maker → Maker
+made_step wires (Expanded-F.Constant b) n = then_gate n [] (if b then And [] else Or [])
+made_step wires (Expanded-F.Leaf c s) n = made_of (wires c s) []
+made_step wires (Expanded-F.Not f) n = made_of (opposite (f n).signal) (f n).gates
+made_step wires (Expanded-F.And fs) n = then_gate n (all_made fs n).gates (And (all_made fs n).signals)
+made_step wires (Expanded-F.Or fs) n = then_gate n (all_made fs n).gates (Or (all_made fs n).signals)
+made_step wires (Expanded-F.Iff f g) n =
+    let left = f n in
+    let right = g (n + length left.gates) in
+    then_gate n (left.gates ++ right.gates) (Iff left.signal right.signal)
+
+-- over a signal for each leaf, by its cell and its symbol
+abbrev pub made : (Cell → ℕ → Signal) → Expanded → Maker
+made wires = fold-Expanded Maker (made_step wires)
+
+abbrev pub gate_count_step : Expanded-F ℕ → ℕ
+gate_count_step (Expanded-F.Constant b) = 1
+gate_count_step (Expanded-F.Leaf c s) = 0
+gate_count_step (Expanded-F.Not f) = f
+gate_count_step (Expanded-F.And fs) = total fs + 1
+gate_count_step (Expanded-F.Or fs) = total fs + 1
+gate_count_step (Expanded-F.Iff f g) = (f + g) + 1
+
+-- the number of gates that are added
+abbrev pub gate_count : Expanded → ℕ
+gate_count = fold-Expanded ℕ gate_count_step
+
+abbrev pub all_counts : List Expanded → ℕ
+all_counts es = total (map gate_count es)
+
+-- a signal for each cell and symbol that has one
+abbrev pub Wires : Type 0
+Wires = Cell → ℕ → Option Signal
+
+-- the wires of cells that are counted from a place; none where a cell leaves the range of positions
+abbrev pub wires_near : Wiring → Place → Wires
+wires_near w v c s = if is_in_range (moved c.position v) then wire_of w (shifted v c) s else None
+
+-- there is a wire, and its variable is one of 1..n
+abbrev pub is_wire : ℕ → Option Signal → Bool
+is_wire n None = false
+is_wire n (Some s) = nat_le 1 s.variable && nat_le s.variable n
+
+-- each leaf has its wire, a signal of n variables
+abbrev pub are_wired : ℕ → Wires → Expanded → Bool
+are_wired n wires = leaves_pass (λ c s. is_wire n (wires c s))
+
+abbrev pub all_wired : ℕ → Wires → List Expanded → Bool
+all_wired n wires es = list_all (are_wired n wires) es
+
+abbrev pub wire_or_zero : Option Signal → Signal
+wire_or_zero None = signal_of 0
+wire_or_zero (Some s) = s
+
+-- the wires, where each leaf has one
+abbrev pub certain : Wires → Cell → ℕ → Signal
+certain wires c s = wire_or_zero (wires c s)
+
+-- each wire says whether its cell has its symbol
+abbrev pub WiresTell : (ℕ → Bool) → Wires → Look → Type 0
+WiresTell set wires look = (c : Cell) (s : ℕ) (w : Signal) → wires c s ≡ Some w → signal_value set w ≡ is_symbol s (look c)
+
+-- the gates of a formula, and of several, whose cells are counted from a place
+abbrev pub compiled : Wiring → Place → Expanded → Maker
+compiled w v = made (certain (wires_near w v))
+
+abbrev pub all_compiled : Wiring → Place → List Expanded → ℕ → AllMade
+all_compiled w v es = all_made (map (compiled w v) es)
+
+-- the inputs are the same, and gates have come at the end
+pub record Extends (old new : Network) : Type 0 where
+  pub inputs : new.inputs ≡ old.inputs
+  pub added : List Gate
+  pub gates : new.gates ≡ old.gates ++ added

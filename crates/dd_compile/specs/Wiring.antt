@@ -1,0 +1,40 @@
+-- The signals that say which symbol a cell has.
+use Rattle.std.specs.Prelude.{◌≡◌, ◌<◌, ℕ, List, [], ◌∷◌, ◌++◌, Option, Some, None, length, slice_get, slice_index_or}
+use Rattle.std.specs.List.{Contains, position_or_len}
+use Rattle.std.specs.List.Sorted.{IsStrictlySortedBy}
+use Rattle.std.specs.Ordering.{is_eq}
+use Rattle.dd_lattice.specs.declared.position.Cell.{Cell}
+use Rattle.dd_lattice.specs.Order.{cell_cmp}
+use Rattle.dd_circuit.specs.declared.gates.Signal.{Signal}
+
+-- cells in cell order, and a list of signals for each, by symbol
+pub record Wiring : Type 0 where
+  pub cells : List Cell
+  pub signals : List (List Signal)
+
+pub record IsWiring (w : Wiring) : Type 0 where
+  pub ascending : IsStrictlySortedBy cell_cmp w.cells
+  pub as_many : length w.signals ≡ length w.cells
+
+abbrev pub unwired : Wiring
+unwired = record { cells = []; signals = [] }
+
+abbrev pub with_cell : Wiring → Cell → List Signal → Wiring
+with_cell w c ss = record { cells = w.cells ++ c ∷ []; signals = w.signals ++ ss ∷ [] }
+
+abbrev pub signal_for : Option (List Signal) → ℕ → Option Signal
+signal_for None s = None
+signal_for (Some ss) s = slice_get ss s
+
+-- the signals of a cell: the list with the number that the cell has among the cells
+abbrev pub signals_of : Wiring → Cell → Option (List Signal)
+signals_of w c = slice_get w.signals (position_or_len (λ d. is_eq (cell_cmp d c)) w.cells)
+
+-- the signal with the number s of them
+abbrev pub wire_of : Wiring → Cell → ℕ → Option Signal
+wire_of w c s = signal_for (signals_of w c) s
+
+-- each cell has its own signals, and no other cell has any
+pub record IsReadByPlace (w : Wiring) : Type 0 where
+  pub at : (k : ℕ) (d : Cell) (s : ℕ) → k < length w.cells → wire_of w (slice_index_or w.cells k d) s ≡ signal_for (slice_get w.signals k) s
+  pub elsewhere : (c : Cell) (s : ℕ) → (Contains w.cells c → ⊥) → wire_of w c s ≡ None

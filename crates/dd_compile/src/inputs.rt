@@ -1,0 +1,92 @@
+//! The signals that say which symbol a cell has.
+ghost use Rattle.std.specs.Prelude.{◌≡◌, All, OnOk, OnErr};
+ghost use Rattle.std.specs.List.{list_all};
+ghost use Rattle.std.specs.declared.cmp.Ordering.TheVariants.{Less};
+ghost use Rattle.dd_lattice.specs.Order.{cell_cmp};
+ghost use Rattle.dd_compile.specs.Wiring.{IsReadByPlace, signals_of, unwired, with_cell, wire_of};
+ghost use Rattle.dd_compile.specs.RuleSignals.{is_signal, are_signals};
+
+use dd_circuit::Signal;
+use dd_lattice::Cell;
+use dd_values::Items;
+use std::alloc::{AllocError, Global};
+use std::marker::Model;
+
+/// Cells in strictly ascending cell order, and the signals of each: the signal `s` says that the cell has the symbol `s`.
+#[derive(Debug, Drop)]
+pub struct Inputs {
+    cells: Vec<Cell>,
+    signals: Vec<Items<Signal>>,
+}
+
+impl Model for Inputs {
+    ghost use Rattle.dd_compile.specs.Wiring.{Wiring, IsWiring};
+
+    ghost Value = { Wiring };
+
+    ghost view = { λ i. record { cells = i.cells.items; signals = i.signals.items } };
+
+    ghost invariant = { λ i. IsWiring (record { cells = i.cells.items; signals = i.signals.items }) };
+}
+
+impl Inputs {
+    /// No cells. It takes no memory.
+    pub fn new(alloc: Global) -> Inputs
+        ensures { result ≡ unwired }
+    {
+        Inputs {
+            cells: Vec::new(alloc),
+            signals: Vec::new(alloc),
+        }
+    }
+
+    /// Adds a cell that comes after all that are there, and its signals, by symbol. After want of memory the inputs are
+    /// as they were.
+    pub fn add(&mut self, cell: Cell, signals: Vec<Signal>) -> Result<(), AllocError>
+        requires { All (λ c. cell_cmp c cell ≡ Less) self.old.cells }
+        ensures ok { OnOk result (self.new ≡ with_cell self.old cell signals.items) }
+        ensures err { OnErr result (self.new ≡ self.old) }
+    {
+        self.cells.reserve(1)?;
+        self.signals.push(Items::from_vec(signals))?;
+        self.cells.push(cell)?;
+        Ok(())
+    }
+
+    /// The signal that says that the cell has the symbol, or `None` where the cell isn't there or the symbol isn't below
+    /// the number of its signals.
+    #[tactic(auto, using(crate::proofs::WiringLaws::read_by_place))]
+    pub fn get(&self, cell: &Cell, symbol: u32) -> Option<Signal>
+        ensures value { result ≡ wire_of self.now cell.now symbol }
+        ensures places { IsReadByPlace self.now }
+    {
+        match self.cells.as_slice().binary_search(cell) {
+            Ok(place) => self.signals[place].get(symbol as usize).copied(),
+            Err(_) => None,
+        }
+    }
+    /// Whether the cell has so many signals, each of one of the variables from 1 to `variables`.
+    pub fn has_signals(&self, cell: &Cell, symbols: u32, variables: u32) -> bool
+        ensures { result ≡ are_signals variables symbols (signals_of self.now cell.now) }
+    {
+        match self.cells.as_slice().binary_search(cell) {
+            Ok(place) => {
+                let signals = self.signals[place].as_slice();
+                signals.len() == symbols as usize && are_signals(signals, variables)
+            }
+            Err(_) => false,
+        }
+    }
+}
+
+fn is_signal(signal: &Signal, variables: u32) -> bool
+    ensures { result ≡ is_signal variables signal.now }
+{
+    1 <= signal.variable && signal.variable <= variables
+}
+
+fn are_signals(signals: &[Signal], variables: u32) -> bool
+    ensures { result ≡ list_all (is_signal variables) signals.now }
+{
+    signals.iter().all(|signal| is_signal(signal, variables))
+}

@@ -1,0 +1,16 @@
+use Rattle.std.proofs.Common.{◌≡◌, ◌+◌, ℕ, map, arith}
+use Rattle.std.specs.List.{range_with_len}
+use Rattle.dd_expansion.specs.Leaves.{total}
+use Rattle.dd_counts.specs.Clauses.{differ_at}
+use Rattle.dd_formula.proofs.Cuts.{next_cut}
+use Rattle.dd_counts.proofs.Ranges.{total_push}
+use Rattle.dd_counts.proofs.values.differ_clauses.Goals as goal
+
+pub loop-node-preserved : goal.loop-node-preserved
+loop-node-preserved c =
+    let at : ℕ → ℕ = differ_at c.args.symbols c.args.first.now c.args.second.now in
+    let n = c.loop-node.node in
+    let sum : ℕ → ℕ = λ k. total (map at (range_with_len 0 k)) in
+    let more = total_push at n in
+    next_cut c.args.limit c.loop-node.sum c.in_ok-here.here c.plus-sum.result (sum n + 1) (at n) (sum (n + 1) + 1)
+    c.loop-node.invariant c.in_ok-here.ensures c.plus-sum.ensures (omega (arith, more))

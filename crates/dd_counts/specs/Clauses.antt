@@ -1,0 +1,77 @@
+-- How many clauses a box question takes, without a bound.
+use Rattle.std.specs.Prelude.{ℕ, ◌+◌, ◌-◌, ◌*◌, ◌/◌, ◌^◌, max, List, map, length}
+use Rattle.std.specs.List.{range_with_len}
+use Rattle.dd_lattice.specs.InOrder.{in_order}
+use Rattle.dd_expansion.specs.Leaves.{clause_count, total}
+use Rattle.dd_formula.specs.LocalRule.{LocalRule, expansion_at}
+use Rattle.dd_formula.specs.Automata.{Counted, counted_step}
+use Rattle.dd_formula.specs.declared.automaton.Automaton.{Automaton}
+use Rattle.dd_formula.specs.declared.automaton.Cases.{Cases}
+use Rattle.dd_formula.specs.declared.automaton.Automaton.TheFolds.{fold-Automaton}
+use Rattle.dd_formula.specs.declared.automaton.Automaton.TheOpen.{Automaton-F}
+
+-- the clauses of a gate that says that all of k signals hold, or some
+abbrev pub gate_clauses : ℕ → ℕ
+gate_clauses k = k + 1
+
+-- those of the gates of a rule at all its nodes
+abbrev pub rule_clauses : LocalRule → ℕ
+rule_clauses r = total (map (λ a. clause_count (expansion_at r a)) (range_with_len 0 r.nodes))
+
+-- those of a position: at each node the cell has a symbol, no two symbols, and the rule is true; and the rule's gates
+abbrev pub place_clauses : LocalRule → ℕ
+place_clauses r = r.nodes * (2 + r.symbols * (r.symbols - 1) / 2) + rule_clauses r
+
+-- some node of the origin breaks the rule
+abbrev pub broken_clauses : LocalRule → ℕ
+broken_clauses r = rule_clauses r + 1
+
+-- the value of an automaton by m cases: for the i-th case a gate over it and those before it, and a gate over all of them
+-- for the default
+abbrev pub choice_clauses : ℕ → ℕ
+choice_clauses m = total (map (λ i. gate_clauses (i + 1)) (range_with_len 0 m)) + gate_clauses m
+
+-- for each of n symbols a gate over those that give it, where each of the m cases and the default gives one
+abbrev pub giving_clauses : ℕ → ℕ → ℕ
+giving_clauses n m = (m + 1) + n
+
+abbrev pub case_clauses : List (LocalRule × ℕ) → ℕ → ℕ
+case_clauses cases a = total (map (λ case. clause_count (expansion_at case.0 a)) cases)
+
+-- the value of an automaton by cases over n symbols
+abbrev pub given_clauses : ℕ → Cases → ℕ → ℕ
+given_clauses n c a = case_clauses c.cases a + choice_clauses (length c.cases) + giving_clauses n (length c.cases)
+
+-- what is counted of an automaton over n symbols, and by nodes the clauses of its value
+pub record Valued : Type 0 where
+  pub counts : Counted
+  pub clauses : ℕ → ℕ
+
+abbrev pub valued_step : ℕ → Automaton-F Valued → Valued
+valued_step n (Automaton-F.Given c) =
+    record { counts = counted_step (Automaton-F.Given c); clauses = given_clauses n c }
+valued_step n (Automaton-F.Composed f g) =
+    record {
+      counts = counted_step (Automaton-F.Composed f.counts g.counts);
+      -- the second automaton's value at each cell that the first reads, then the first's
+      clauses = λ a. total (map (λ c. g.clauses c.node) (in_order (f.counts.reads a))) + f.clauses a;
+    }
+
+abbrev pub value_clauses : ℕ → Automaton → ℕ → ℕ
+value_clauses n f = (fold-Automaton Valued (valued_step n) f).clauses
+
+-- at a node two automata differ: their values, for each symbol a gate over two signals, and a gate over these
+abbrev pub differ_at : ℕ → Automaton → Automaton → ℕ → ℕ
+differ_at n f g a = value_clauses n f a + value_clauses n g a + n * gate_clauses 2 + gate_clauses n
+
+-- they differ at some of the nodes
+abbrev pub differ_clauses : ℕ → ℕ → Automaton → Automaton → ℕ
+differ_clauses n nodes f g = total (map (differ_at n f g) (range_with_len 0 nodes)) + 1
+
+-- the positions of the largest box of a question in d dimensions or of its largest torus, whichever has more
+abbrev pub largest_region : ℕ → ℕ → ℕ → ℕ
+largest_region d radius period = max ((2 * radius + 1) ^ d) (period ^ d)
+
+-- a question with so many clauses for each position and so many for its goal
+abbrev pub question_clauses : ℕ → ℕ → ℕ → ℕ → ℕ → ℕ
+question_clauses d radius period place goal = largest_region d radius period * place + goal

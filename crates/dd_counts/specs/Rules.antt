@@ -1,0 +1,40 @@
+-- What is counted of a rule, without a bound.
+use Rattle.std.specs.Prelude.{ℕ, ◌+◌, ◌-◌, ◌*◌, ◌^◌, max, ℤ, pos, ◌-ℤ◌, unsigned_abs, List, length}
+use Rattle.std.specs.Int.{int_min, int_max}
+use Rattle.std.specs.List.{fold, flat_map, range_with_len}
+use Rattle.dd_lattice.specs.declared.position.Cell.{Cell}
+use Rattle.dd_formula.specs.LocalRule.{LocalRule, cells_at}
+
+-- the ways to fill the cells that a rule reads at a node
+abbrev pub patterns : LocalRule → ℕ → ℕ
+patterns r a = r.symbols ^ length (cells_at r a)
+
+-- the cells that a rule reads at all its nodes
+abbrev pub all_cells : LocalRule → List Cell
+all_cells r = flat_map (cells_at r) (range_with_len 0 r.nodes)
+
+-- the lesser of a number and the least x of the cells, and the greater of a number and the greatest x
+abbrev pub least_x : ℤ → List Cell → ℤ
+least_x from cs = fold (λ x c. int_min x c.position.x) from cs
+
+abbrev pub greatest_x : ℤ → List Cell → ℤ
+greatest_x from cs = fold (λ x c. int_max x c.position.x) from cs
+
+-- the number of slices from the first to the last of those that the rule reads, its own among them
+abbrev pub span : LocalRule → ℕ
+span r = unsigned_abs (greatest_x (pos 0) (all_cells r) -ℤ least_x (pos 0) (all_cells r)) + 1
+
+-- the number of slices of a state of the transfer graph
+abbrev pub window : LocalRule → ℕ
+window r = max 1 (span r - 1)
+
+-- the fillings of a slice of so many positions
+abbrev pub slices : LocalRule → ℕ → ℕ
+slices r volume = r.symbols ^ (r.nodes * volume)
+
+-- the states of the transfer graph, and the fillings of one slice more
+abbrev pub states : LocalRule → ℕ → ℕ
+states r volume = slices r volume ^ window r
+
+abbrev pub longer_states : LocalRule → ℕ → ℕ
+longer_states r volume = slices r volume ^ (window r + 1)

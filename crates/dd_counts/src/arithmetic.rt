@@ -1,0 +1,30 @@
+//! Counts that are cut off: past a limit, each is the first number over the limit.
+ghost use Rattle.std.specs.Prelude.{◌≡◌, ◌*◌, ◌^◌, ◌<◌};
+ghost use Rattle.dd_formula.specs.Counts.{cut};
+
+pub fn cut_off(limit: u32, count: u64) -> u32
+    requires { limit < 2 ^ 31 }
+    ensures { result ≡ cut limit count }
+{
+    count.min(limit as u64 + 1) as u32
+}
+
+/// The product, cut off.
+pub fn times(limit: u32, a: u32, b: u32) -> u32
+    requires { limit < 2 ^ 31 }
+    ensures { result ≡ cut limit (a * b) }
+{
+    cut_off(limit, a as u64 * b as u64)
+}
+
+/// The power, cut off.
+pub fn power(limit: u32, base: u32, exponent: u64) -> u32
+    requires { limit < 2 ^ 31 }
+    ensures { result ≡ cut limit (base ^ exponent) }
+{
+    let mut value = cut_off(limit, 1);
+    for _ in 0..exponent {
+        value = times(limit, value, base);
+    }
+    value
+}

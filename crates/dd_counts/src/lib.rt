@@ -1,0 +1,11 @@
+//! How much work a question takes, each count cut off past a limit.
+#![tactic(auto)]
+
+mod arithmetic;
+mod clauses;
+mod rules;
+mod values;
+
+pub use clauses::{broken_clauses, place_clauses, question_clauses};
+pub use rules::{longer_states, patterns, states, window};
+pub use values::differ_clauses;

@@ -1,0 +1,116 @@
+//! Counts of the clauses of automata's values.
+ghost use Rattle.std.specs.Prelude.{◌≡◌, ◌≤◌, ◌^◌, ◌<◌, IfOk, map};
+ghost use Rattle.dd_expansion.specs.Leaves.{total};
+ghost use Rattle.dd_formula.specs.Automata.{HasNode, HaveNode, HasCells, HasCaseNode};
+ghost use Rattle.dd_formula.specs.Counts.{cut};
+ghost use Rattle.dd_formula.specs.Compositions.{HaveNodes};
+ghost use Rattle.dd_counts.specs.Clauses.{given_clauses, value_clauses, differ_at, differ_clauses};
+
+use crate::arithmetic::cut_off;
+use dd_formula::{Automaton, Cases, plus};
+use dd_lattice::Cell;
+use std::alloc::{AllocError, Global};
+
+/// The clauses of the value of an automaton by cases.
+fn given_clauses(cases: &Cases, node: u32, symbols: u32, limit: u32) -> u32
+    requires node { HasCaseNode cases.now node }
+    requires limit { limit < 2 ^ 31 }
+    ensures { result ≡ cut limit (given_clauses symbols cases.now node) }
+{
+    let mut clauses = plus(limit, 2, symbols);
+    // Those of the gate that finds the case, and one in the default's gate and in the gate of the case's symbol.
+    let mut choosing = 4;
+    for (rule, _) in cases.cases.as_slice() {
+        let gates = cut_off(limit, rule.clause_count(node));
+        clauses = plus(limit, clauses, plus(limit, gates, cut_off(limit, choosing)));
+        choosing += 1;
+    }
+    clauses
+}
+
+/// The clauses of the value of an automaton at a node.
+#[cycle(value_clauses)]
+fn value_clauses(
+    alloc: Global,
+    automaton: &Automaton,
+    node: u32,
+    symbols: u32,
+    limit: u32,
+) -> Result<u32, AllocError>
+    requires node { HasNode automaton.now node }
+    requires limit { limit < 2 ^ 31 }
+    ensures { IfOk result (λ n. n ≡ cut limit (value_clauses symbols automaton.now node)) }
+{
+    match automaton {
+        Automaton::Given(cases) => Ok(given_clauses(cases, node, symbols, limit)),
+        Automaton::Composed(outer, inner) => {
+            let cells = outer.get().reads(alloc, node)?;
+            let first = value_clauses(alloc, outer.get(), node, symbols, limit)?;
+            let rest = value_clauses_from(alloc, inner.get(), cells.as_slice(), symbols, limit)?;
+            Ok(plus(limit, rest, first))
+        }
+    }
+}
+
+/// The clauses of the values of an automaton at each of the cells.
+#[cycle(value_clauses)]
+fn value_clauses_from(
+    alloc: Global,
+    automaton: &Automaton,
+    cells: &[Cell],
+    symbols: u32,
+    limit: u32,
+) -> Result<u32, AllocError>
+    requires cells { HasCells automaton.now cells.now }
+    requires limit { limit < 2 ^ 31 }
+    ensures { IfOk result (λ n. n ≡ cut limit (total (map (λ c. value_clauses symbols automaton.now c.node) cells.now))) }
+{
+    let mut sum = 0;
+    for cell in cells {
+        sum = plus(
+            limit,
+            sum,
+            value_clauses(alloc, automaton, cell.node, symbols, limit)?,
+        );
+    }
+    Ok(sum)
+}
+
+fn differ_at(
+    alloc: Global,
+    first: &Automaton,
+    second: &Automaton,
+    node: u32,
+    symbols: u32,
+    limit: u32,
+) -> Result<u32, AllocError>
+    requires node { HaveNode first.now second.now node }
+    requires limit { limit < 2 ^ 31 }
+    ensures { IfOk result (λ n. n ≡ cut limit (differ_at symbols first.now second.now node)) }
+{
+    let one = value_clauses(alloc, first, node, symbols, limit)?;
+    let other = value_clauses(alloc, second, node, symbols, limit)?;
+    let gates = cut_off(limit, symbols as u64 * 3 + (symbols as u64 + 1));
+    Ok(plus(limit, plus(limit, one, other), gates))
+}
+
+/// The clauses that say that two automata differ at some of the origin's nodes.
+pub fn differ_clauses(
+    alloc: Global,
+    first: &Automaton,
+    second: &Automaton,
+    nodes: u32,
+    symbols: u32,
+    limit: u32,
+) -> Result<u32, AllocError>
+    requires nodes { HaveNodes first.now second.now nodes }
+    requires limit { limit < 2 ^ 31 }
+    ensures { IfOk result (λ n. n ≡ cut limit (differ_clauses symbols nodes first.now second.now)) }
+{
+    let mut sum = cut_off(limit, 1);
+    for node in 0..nodes {
+        let here = differ_at(alloc, first, second, node, symbols, limit)?;
+        sum = plus(limit, sum, here);
+    }
+    Ok(sum)
+}

@@ -1,0 +1,53 @@
+-- What a rule keeps follows from its expansions at the nodes.
+use Rattle.std.proofs.Common.{◌≡◌, ◌≤◌, ℕ, ◌⊎◌, inl, inr, true, false, List, [], ◌∷◌, map, sym, subst, ◌∙◌}
+use Rattle.std.specs.List.{list_all}
+use Rattle.dd_lattice.specs.InOrder.{in_order}
+use Rattle.dd_topology.specs.Grid.{Grid, IsGrid}
+use Rattle.dd_expansion.specs.declared.formulas.Formula.{Formula}
+use Rattle.dd_expansion.specs.declared.expanded.Expanded.{Expanded}
+use Rattle.dd_expansion.specs.Terms.{origin_at}
+use Rattle.dd_expansion.specs.Leaves.{leaf_cells}
+use Rattle.dd_expansion.specs.Limits.{IsFormula}
+use Rattle.dd_expansion.proofs.LeafLaws.{leaves_are_cells}
+use Rattle.dd_expansion.proofs.LeavesAreReads.{same_cells, leaves_are_symbols}
+use Rattle.dd_expansion.proofs.Placed.{reads_placed, origin_placed}
+use Rattle.dd_formula.specs.LocalRule.{LocalRule, local_rule, at_nodes, expansion_at, reads_at, cells_at, is_near, IsSmall, IsShort, IsRule, IsFar, IsExpanded}
+use Rattle.dd_formula.specs.Refusals.{IsRefusal}
+use Rattle.dd_formula.specs.declared.fault.RuleFault.{RuleFault}
+use Rattle.dd_formula.specs.declared.fault.RuleFault.TheVariants.{Reach, Memory}
+use Rattle.dd_formula.proofs.Nodes.{at_nodes-alike, map-at_nodes, all_at_nodes, some_fails}
+use Rattle.dd_formula.proofs.RuleLaws.{leaves_pass_reads}
+
+module _ (r : LocalRule) (some : 1 ≤ r.symbols) where
+  pub reads_made : map (λ e. in_order (leaf_cells e)) (at_nodes (expansion_at r) r.nodes) ≡ at_nodes (cells_at r) r.nodes
+  reads_made =
+      map-at_nodes (λ e. in_order (leaf_cells e)) (expansion_at r) r.nodes
+      ∙ at_nodes-alike (λ a. in_order (leaf_cells (expansion_at r a))) (cells_at r) (λ a. same_cells r.edges r.symbols some r.formula (origin_at a ∷ [])) r.nodes
+
+  near_leaves : (a : ℕ) → list_all is_near (leaf_cells (expansion_at r a)) ≡ list_all is_near (reads_at r a)
+  near_leaves a = sym (leaves_are_cells (expansion_at r a) is_near) ∙ leaves_pass_reads r some a is_near
+
+  pub short_from : list_all (λ e. list_all is_near (leaf_cells e)) (at_nodes (expansion_at r) r.nodes) ≡ true → IsShort r
+  short_from h a below = sym (near_leaves a) ∙ all_at_nodes (λ e. list_all is_near (leaf_cells e)) (expansion_at r) r.nodes h a below
+
+  pub far_from : list_all (λ e. list_all is_near (leaf_cells e)) (at_nodes (expansion_at r) r.nodes) ≡ false → IsFar r
+  far_from h =
+      let found = some_fails (λ e. list_all is_near (leaf_cells e)) (expansion_at r) r.nodes h in
+      record { node = found.node; exists = found.exists; far = sym (near_leaves found.node) ∙ found.fails }
+
+  -- the fault with which the reads are refused
+  pub refused_from : (fault : RuleFault) → IsSmall r → (fault ≡ Memory) ⊎ ((fault ≡ Reach) × (list_all (λ e. list_all is_near (leaf_cells e)) (at_nodes (expansion_at r) r.nodes) ≡ false)) →
+      IsRefusal r fault
+  refused_from fault small (inl is) = subst (IsRefusal r) (sym is) tt
+  refused_from fault small (inr far) = subst (IsRefusal r) (sym far.0) (small, far_from far.1)
+
+pub rule_from : (g : Grid) (n : ℕ) (f : Formula) → IsGrid g → g.nodes ≤ 4 → (1 ≤ n) × (n ≤ 16) → IsFormula g n f → IsSmall (local_rule g n f) → IsShort (local_rule g n f) → IsRule (local_rule g n f)
+rule_from g n f grid few symbols formula small short = record {
+  dimension = grid.dimension;
+  nodes = (grid.nodes, few);
+  symbols = symbols;
+  small = small;
+  short = short;
+  placed = λ a below. reads_placed g grid f (origin_at a ∷ []) (origin_placed g a below);
+  known = λ a below. leaves_are_symbols g n f g.edges (origin_at a ∷ []) 1 formula.numbers;
+}

@@ -1,0 +1,6 @@
+use Rattle.dd_formula.proofs.CompositionLaws.{composition_formed, on_ok}
+use Rattle.dd_formula.proofs.automaton.Automaton.composed.Goals as goal
+
+pub returns-in-Ok-clause-formed : goal.returns-in-Ok-clause-formed
+returns-in-Ok-clause-formed c =
+    on_ok c.joined.result _ (λ s outer inner. composition_formed s c.args.outer c.args.inner outer inner (c.in-Ok.ensures.ok s outer inner))

@@ -1,0 +1,155 @@
+-- Cellular automata: their values, their reads, and their counts.
+use Rattle.std.specs.Prelude.{ℕ, ◌+◌, ◌<◌, ◌≤◌, ◌≡◌, ◌==◌, ◌&&◌, ◌||◌, Bool, true, false, cond, max, nat_lt, nat_le, List, [], ◌∷◌, length, map, Option, Some, MatchOption}
+use Rattle.std.specs.List.{flat_map, list_all, range_with_len}
+use Rattle.dd_lattice.specs.Cells.{shifted}
+use Rattle.dd_lattice.specs.InOrder.{in_order}
+use Rattle.dd_lattice.specs.declared.position.Cell.{Cell}
+use Rattle.dd_pattern.specs.Reading.{Look}
+use Rattle.dd_expansion.specs.Leaves.{instances, total}
+use Rattle.dd_expansion.specs.Placed.{is_flat}
+use Rattle.dd_formula.specs.LocalRule.{LocalRule, is_true, reads_at, expansion_at, is_near}
+use Rattle.dd_formula.specs.declared.automaton.Automaton.{Automaton}
+use Rattle.dd_formula.specs.declared.automaton.Cases.{Cases}
+use Rattle.dd_formula.specs.declared.automaton.Automaton.TheFolds.{fold-Automaton}
+use Rattle.dd_formula.specs.declared.automaton.Automaton.TheOpen.{Automaton-F}
+
+-- the symbol of the first case whose rule is true at the cell
+abbrev pub first_case : List (LocalRule × ℕ) → ℕ → Look → Cell → ℕ
+first_case [] otherwise look at = otherwise
+first_case (case ∷ cases) otherwise look at = cond (is_true case.0 at look) case.1 (first_case cases otherwise look at)
+
+abbrev pub Valuation : Type 0
+Valuation = Look → Cell → ℕ
+
+abbrev pub value_step : Automaton-F Valuation → Valuation
+value_step (Automaton-F.Given c) look at = first_case c.cases c.otherwise look at
+value_step (Automaton-F.Composed f g) look at = f (λ c. Some (g look c)) at
+
+-- the symbol that the automaton gives a cell
+abbrev pub value : Automaton → Valuation
+value = fold-Automaton Valuation value_step
+
+-- the numbers that a rule, an automaton and a configuration have in common
+pub record Setting : Type 0 where
+  pub dimension : ℕ
+  pub nodes : ℕ
+  pub symbols : ℕ
+
+-- what is counted of an automaton: by nodes the cells that it reads, relative to the origin, and its instances; and its depth
+pub record Counted : Type 0 where
+  pub reads : ℕ → List Cell
+  pub instances : ℕ → ℕ
+  pub depth : ℕ
+
+abbrev pub cases_reads : List (LocalRule × ℕ) → ℕ → List Cell
+cases_reads cases a = flat_map (λ case. reads_at case.0 a) cases
+
+abbrev pub case_instances : ℕ → List (LocalRule × ℕ) → ℕ
+case_instances a cases = total (map (λ case. instances (expansion_at case.0 a) + 1) cases)
+
+abbrev pub counted_step : Automaton-F Counted → Counted
+counted_step (Automaton-F.Given c) =
+    record { reads = cases_reads c.cases; instances = λ a. case_instances a c.cases + 1; depth = 0 }
+counted_step (Automaton-F.Composed f g) =
+    record {
+      reads = λ a. flat_map (λ c. map (shifted c.position) (g.reads c.node)) (f.reads a);
+      instances = λ a. f.instances a + g.instances a + total (map (λ c. g.instances c.node) (in_order (f.reads a)));
+      depth = 1 + max f.depth g.depth;
+    }
+
+abbrev pub counted : Automaton → Counted
+counted = fold-Automaton Counted counted_step
+
+-- the cells that an automaton reads at a node, in cell order, each once
+abbrev pub cells_of : Automaton → ℕ → List Cell
+cells_of f a = in_order ((counted f).reads a)
+
+-- the numbers fit: each rule has them, and each symbol that is given is one of the alphabet
+abbrev pub rule_has : Setting → LocalRule → Bool
+rule_has s r = r.dimension == s.dimension && r.nodes == s.nodes && r.symbols == s.symbols
+
+abbrev pub cases_fit : Setting → List (LocalRule × ℕ) → ℕ → Bool
+cases_fit s cases otherwise = list_all (λ case. rule_has s case.0 && nat_lt case.1 s.symbols) cases && nat_lt otherwise s.symbols
+
+abbrev pub fits_step : Setting → Automaton-F Bool → Bool
+fits_step s (Automaton-F.Given c) = cases_fit s c.cases c.otherwise
+fits_step s (Automaton-F.Composed f g) = f && g
+
+abbrev pub fits : Setting → Automaton → Bool
+fits s = fold-Automaton Bool (fits_step s)
+
+-- whether it has a rule
+abbrev pub has_rules_step : Automaton-F Bool → Bool
+has_rules_step (Automaton-F.Given c) = nat_lt 0 (length c.cases)
+has_rules_step (Automaton-F.Composed f g) = f || g
+
+abbrev pub has_rules : Automaton → Bool
+has_rules = fold-Automaton Bool has_rules_step
+
+-- the number of nodes of the automaton's rules, where it has one
+abbrev pub IsNodesOf : Automaton → Option ℕ → Type 0
+IsNodesOf f r = MatchOption r (has_rules f ≡ false) (λ n. (s : Setting) → fits s f ≡ true → s.nodes ≡ n)
+
+-- the limits of an automaton, over so many nodes
+abbrev pub is_few : ℕ → Counted → Bool
+is_few nodes f = list_all (λ a. nat_le (f.instances a) 20000) (range_with_len 0 nodes)
+
+abbrev pub is_short : ℕ → Counted → Bool
+is_short nodes f = list_all (λ a. list_all is_near (f.reads a)) (range_with_len 0 nodes)
+
+abbrev pub is_shallow : Counted → Bool
+is_shallow f = nat_le f.depth 64
+
+abbrev pub is_within : ℕ → Counted → Bool
+is_within nodes f = is_few nodes f && is_short nodes f && is_shallow f
+
+-- each part is within the limits
+pub record Checked : Type 0 where
+  pub counts : Counted
+  pub within : Bool
+
+abbrev pub checked : ℕ → Counted → Bool → Checked
+checked nodes f parts = record { counts = f; within = parts && is_within nodes f }
+
+abbrev pub limits_step : ℕ → Automaton-F Checked → Checked
+limits_step nodes (Automaton-F.Given c) = checked nodes (counted_step (Automaton-F.Given c)) true
+limits_step nodes (Automaton-F.Composed f g) = checked nodes (counted_step (Automaton-F.Composed f.counts g.counts)) (f.within && g.within)
+
+abbrev pub are_within : ℕ → Automaton → Bool
+are_within nodes f = (fold-Automaton Checked (limits_step nodes) f).within
+
+-- a well-formed automaton over these numbers
+pub record IsAutomaton (s : Setting) (f : Automaton) : Type 0 where
+  pub some : 1 ≤ s.nodes
+  pub fits : fits s f ≡ true
+  pub within : are_within s.nodes f ≡ true
+
+-- over some numbers the automaton is well formed, and a is one of the nodes
+pub record HasNode (f : Automaton) (a : ℕ) : Type 0 where
+  pub setting : Setting
+  pub formed : IsAutomaton setting f
+  pub below : a < setting.nodes
+
+-- over some numbers both automata are well formed, and a is one of the nodes
+pub record HaveNode (f g : Automaton) (a : ℕ) : Type 0 where
+  pub setting : Setting
+  pub outer : IsAutomaton setting f
+  pub inner : IsAutomaton setting g
+  pub below : a < setting.nodes
+
+-- a cell of Z^d with one of the nodes
+abbrev pub is_cell_of : Setting → Cell → Bool
+is_cell_of s c = is_flat s.dimension c.position && nat_lt c.node s.nodes
+
+-- the automaton can be read at these cells: over some numbers it is well formed, and they are cells that it may read at
+pub record HasCells (f : Automaton) (cs : List Cell) : Type 0 where
+  pub setting : Setting
+  pub formed : IsAutomaton setting f
+  pub cells : list_all (is_cell_of setting) cs ≡ true
+  pub near : list_all is_near cs ≡ true
+
+-- the cases of an automaton, at one of its nodes
+pub record HasCaseNode (c : Cases) (a : ℕ) : Type 0 where
+  pub setting : Setting
+  pub fit : cases_fit setting c.cases c.otherwise ≡ true
+  pub below : a < setting.nodes

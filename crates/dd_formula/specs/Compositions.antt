@@ -1,0 +1,61 @@
+-- Compositions of automata, and why they are refused.
+use Rattle.std.specs.Prelude.{ℕ, ◌≤◌, ◌≡◌, true, false}
+use Rattle.dd_formula.specs.Automata.{Setting, Counted, IsAutomaton, cases_fit, counted, is_few, is_short, is_shallow}
+use Rattle.dd_formula.specs.declared.automaton.Automaton.{Automaton}
+use Rattle.dd_formula.specs.declared.automaton.Cases.{Cases}
+use Rattle.dd_formula.specs.declared.automaton.Automaton.TheVariants as v
+use Rattle.dd_formula.specs.declared.fault.RuleFault.{RuleFault}
+use Rattle.dd_formula.specs.declared.fault.RuleFault.TheVariants.{Reach, Instances, Depth, Memory}
+
+-- both are well formed over the same numbers
+pub record AreAutomata (f g : Automaton) : Type 0 where
+  pub setting : Setting
+  pub outer : IsAutomaton setting f
+  pub inner : IsAutomaton setting g
+
+-- over some numbers both are well formed, and there are at least so many nodes
+pub record HaveNodes (f g : Automaton) (nodes : ℕ) : Type 0 where
+  pub both : AreAutomata f g
+  pub few : nodes ≤ both.setting.nodes
+
+-- a fact of all numbers over which both are well formed
+abbrev pub OverBoth : Automaton → Automaton → (Setting → Type 0) → Type 0
+OverBoth f g P = (s : Setting) → IsAutomaton s f → IsAutomaton s g → P s
+
+-- what is counted of the composition
+abbrev pub composition : Automaton → Automaton → Counted
+composition f g = counted (v.Composed f g)
+
+-- so many nodes stand for all
+pub record StandFor (s : Setting) (f : Counted) (nodes : ℕ) : Type 0 where
+  pub below : nodes ≤ s.nodes
+  pub few : is_few s.nodes f ≡ is_few nodes f
+  pub short : is_short s.nodes f ≡ is_short nodes f
+
+-- the composition has few instances at each node; it also reads nothing that is too far away; it is also not too deep
+abbrev pub IsFew : ℕ → Counted → Type 0
+IsFew n f = is_few n f ≡ true
+
+abbrev pub IsShort : ℕ → Counted → Type 0
+IsShort n f = IsFew n f × (is_short n f ≡ true)
+
+abbrev pub IsShallow : ℕ → Counted → Type 0
+IsShallow n f = IsShort n f × (is_shallow f ≡ true)
+
+-- why it isn't made: too many instances at some node; else a cell that is too far away; else it is too deep
+abbrev pub IsFault : ℕ → Counted → RuleFault → Type 0
+IsFault n f Instances = is_few n f ≡ false
+IsFault n f Reach = IsFew n f × (is_short n f ≡ false)
+IsFault n f Depth = IsShort n f × (is_shallow f ≡ false)
+IsFault n f Memory = Unit {0}
+
+-- cases with so many nodes: each rule has the same numbers, and each symbol that is given is one of the alphabet
+pub record HaveNumbers (c : Cases) (nodes : ℕ) : Type 0 where
+  pub setting : Setting
+  pub fit : cases_fit setting c.cases c.otherwise ≡ true
+  pub all : setting.nodes ≡ nodes
+  pub some : 1 ≤ nodes
+
+-- the automaton by these cases is well formed over all such numbers
+abbrev pub IsGiven : Cases → ℕ → Type 0
+IsGiven c nodes = (s : Setting) → cases_fit s c.cases c.otherwise ≡ true → s.nodes ≡ nodes → IsAutomaton s (v.Given c)

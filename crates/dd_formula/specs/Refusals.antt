@@ -1,0 +1,12 @@
+-- Why a formula is refused as a rule.
+use Rattle.std.specs.Prelude.{◌≡◌}
+use Rattle.dd_formula.specs.LocalRule.{LocalRule, IsSmall, IsLarge, IsFar}
+use Rattle.dd_formula.specs.declared.fault.RuleFault.{RuleFault}
+use Rattle.dd_formula.specs.declared.fault.RuleFault.TheVariants.{Reach, Instances, Depth, Memory}
+
+-- too many instances at some node; else a cell that is too far away
+abbrev pub IsRefusal : LocalRule → RuleFault → Type 0
+IsRefusal r Instances = IsLarge r
+IsRefusal r Reach = IsSmall r × IsFar r
+IsRefusal r Depth = ⊥
+IsRefusal r Memory = Unit {0}

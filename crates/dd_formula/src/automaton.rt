@@ -1,0 +1,230 @@
+//! Cellular automata.
+ghost use Rattle.std.specs.Prelude.{◌≡◌, ◌+◌, ◌<◌, true, length, IfOk, MatchOption, map};
+ghost use Rattle.std.specs.List.{list_all, flat_map};
+ghost use Rattle.dd_lattice.specs.Cells.{shifted};
+ghost use Rattle.dd_lattice.specs.InOrder.{in_order};
+ghost use Rattle.dd_expansion.specs.Leaves.{total};
+
+use crate::counts::plus;
+use crate::making::MOST_INSTANCES;
+use crate::rule::Rule;
+use crate::shifting::push_shifted;
+use crate::tree_size::tree_size;
+use dd_lattice::{Cell, in_order};
+use dd_values::{Boxed, Items};
+use std::alloc::{AllocError, Global};
+
+/// An automaton that gives each cell the symbol of its first case whose rule is true there, else another symbol.
+#[derive(Debug, Drop)]
+pub struct Cases {
+    /// Rules with the symbols that they give.
+    pub cases: Items<(Rule, u32)>,
+    pub otherwise: u32,
+}
+
+/// A cellular automaton.
+#[derive(Debug, Drop)]
+pub enum Automaton {
+    Given(Cases),
+    /// Gives each cell the value of the first on the configuration of the second's values.
+    Composed(Boxed<Automaton>, Boxed<Automaton>),
+}
+
+impl Cases {
+    ghost use Rattle.dd_formula.specs.LocalRule.{is_near};
+    ghost use Rattle.dd_formula.specs.Automata.{Setting, HasCaseNode, cases_fit, cases_reads, case_instances, is_cell_of};
+    ghost use Rattle.dd_formula.specs.Counts.{cut};
+
+    fn copy(&self, alloc: Global) -> Result<Cases, AllocError>
+        ensures { IfOk result (λ c. c ≡ self.now) }
+    {
+        let mut cases = Items::new(alloc);
+        for (rule, symbol) in self.cases.as_slice() {
+            cases.push((rule.copy(alloc)?, *symbol))?;
+        }
+        Ok(Cases {
+            cases,
+            otherwise: self.otherwise,
+        })
+    }
+
+    fn reads(&self, alloc: Global, node: u32) -> Result<Vec<Cell>, AllocError>
+        requires { HasCaseNode self.now node }
+        ensures list { IfOk result (λ v. v.items ≡ in_order (cases_reads self.now.cases node)) }
+        ensures placed { IfOk result (λ v. (s : Setting) → cases_fit s self.now.cases self.now.otherwise ≡ true → node < s.nodes →
+            list_all (is_cell_of s) v.items ≡ true) }
+    {
+        let mut found = Vec::new(alloc);
+        for (rule, _) in self.cases.as_slice() {
+            found.extend_from_slice(rule.reads(node))?;
+        }
+        in_order(alloc, &found)
+    }
+
+    fn nodes(&self) -> Option<u32>
+        ensures { MatchOption result (length self.now.cases ≡ 0)
+            (λ n. (s : Setting) → cases_fit s self.now.cases self.now.otherwise ≡ true → s.nodes ≡ n) }
+    {
+        match self.cases.as_slice() {
+            [] => None,
+            [first, ..] => Some(first.0.nodes()),
+        }
+    }
+
+    /// Cut off. Each rule that is looked at reads nothing that is too far away.
+    pub(crate) fn instances(&self, node: u32) -> u32
+        requires { HasCaseNode self.now node }
+        ensures count { result ≡ cut 20000 (case_instances node self.now.cases + 1) }
+        ensures near { list_all is_near (cases_reads self.now.cases node) ≡ true }
+    {
+        let mut nodes = 1;
+        for (rule, _) in self.cases.as_slice() {
+            nodes = plus(MOST_INSTANCES, nodes, tree_size(rule.expansion(node)) + 1);
+        }
+        nodes
+    }
+}
+
+impl Automaton {
+    ghost use Rattle.dd_formula.specs.Automata.{Setting, IsAutomaton, HasNode, HaveNode, HasCells, IsNodesOf, counted, cells_of, is_cell_of};
+    ghost use Rattle.dd_formula.specs.Counts.{cut};
+
+    /// An automaton with the same rules and symbols in every part.
+    pub fn copy(&self, alloc: Global) -> Result<Automaton, AllocError>
+        ensures { IfOk result (λ c. c ≡ self.now) }
+    {
+        match self {
+            Automaton::Given(cases) => Ok(Automaton::Given(cases.copy(alloc)?)),
+            Automaton::Composed(outer, inner) => {
+                let outer = Boxed::new(alloc, outer.get().copy(alloc)?)?;
+                let inner = Boxed::new(alloc, inner.get().copy(alloc)?)?;
+                Ok(Automaton::Composed(outer, inner))
+            }
+        }
+    }
+
+    /// The cells that the automaton reads at a node, counted from the origin, in cell order, each once.
+    #[cycle(reads)]
+    #[tactic(auto, using(crate::proofs::AutomatonLaws::layers))]
+    pub fn reads(&self, alloc: Global, node: u32) -> Result<Vec<Cell>, AllocError>
+        requires { HasNode self.now node }
+        ensures list { IfOk result (λ v. v.items ≡ cells_of self.now node) }
+        ensures placed { IfOk result (λ v. (s : Setting) → IsAutomaton s self.now → node < s.nodes → list_all (is_cell_of s) v.items ≡ true) }
+    {
+        match self {
+            Automaton::Given(cases) => cases.reads(alloc, node),
+            Automaton::Composed(outer, inner) => {
+                Automaton::composed_reads(alloc, outer.get(), inner.get(), node)
+            }
+        }
+    }
+
+    /// The cells that the composition reads at a node.
+    #[cycle(reads)]
+    pub(crate) fn composed_reads(
+        alloc: Global,
+        outer: &Automaton,
+        inner: &Automaton,
+        node: u32,
+    ) -> Result<Vec<Cell>, AllocError>
+        requires { HaveNode outer.now inner.now node }
+        ensures list { IfOk result (λ v. v.items ≡ cells_of (Automaton.Composed outer.now inner.now) node) }
+        ensures placed { IfOk result (λ v. (s : Setting) → IsAutomaton s outer.now → IsAutomaton s inner.now → node < s.nodes →
+            list_all (is_cell_of s) v.items ≡ true) }
+    {
+        let cells = outer.reads(alloc, node)?;
+        inner.reads_from(alloc, cells.as_slice())
+    }
+
+    /// The cells that the automaton reads at any of the cells, in cell order, each once.
+    #[cycle(reads)]
+    pub(crate) fn reads_from(&self, alloc: Global, cells: &[Cell]) -> Result<Vec<Cell>, AllocError>
+        requires { HasCells self.now cells.now }
+        ensures list { IfOk result (λ v. v.items ≡ in_order (flat_map (λ c. map (shifted c.position) (cells_of self.now c.node)) cells.now)) }
+        ensures placed { IfOk result (λ v. (s : Setting) → IsAutomaton s self.now → list_all (is_cell_of s) cells.now ≡ true →
+            list_all (is_cell_of s) v.items ≡ true) }
+    {
+        let mut found = Vec::new(alloc);
+        for cell in cells {
+            let there = self.reads(alloc, cell.node)?;
+            push_shifted(&mut found, &cell.position, there.as_slice())?;
+        }
+        in_order(alloc, &found)
+    }
+
+    /// The number of nodes of all expansions that the automaton's value at a node takes, one more for each case and one for
+    /// each default; over a composition the second automaton stands once at the node and once at each cell that the first
+    /// reads. Past 20,000 it is cut off at 20,001.
+    #[cycle(instances)]
+    #[tactic(auto, using(crate::proofs::AutomatonLaws::layers))]
+    pub fn instances(&self, alloc: Global, node: u32) -> Result<u32, AllocError>
+        requires { HasNode self.now node }
+        ensures { IfOk result (λ n. n ≡ cut 20000 ((counted self.now).instances node)) }
+    {
+        match self {
+            Automaton::Given(cases) => Ok(cases.instances(node)),
+            Automaton::Composed(outer, inner) => {
+                Automaton::composed_instances(alloc, outer.get(), inner.get(), node)
+            }
+        }
+    }
+
+    /// The instances of the composition at a node, cut off.
+    #[cycle(instances)]
+    pub(crate) fn composed_instances(
+        alloc: Global,
+        outer: &Automaton,
+        inner: &Automaton,
+        node: u32,
+    ) -> Result<u32, AllocError>
+        requires { HaveNode outer.now inner.now node }
+        ensures { IfOk result (λ n. n ≡ cut 20000 ((counted (Automaton.Composed outer.now inner.now)).instances node)) }
+    {
+        let cells = outer.reads(alloc, node)?;
+        let first = outer.instances(alloc, node)?;
+        let second = inner.instances(alloc, node)?;
+        let rest = inner.instances_from(alloc, cells.as_slice())?;
+        Ok(plus(MOST_INSTANCES, plus(MOST_INSTANCES, first, second), rest))
+    }
+
+    /// The sum of the instances at the nodes of the cells, cut off.
+    #[cycle(instances)]
+    pub(crate) fn instances_from(&self, alloc: Global, cells: &[Cell]) -> Result<u32, AllocError>
+        requires { HasCells self.now cells.now }
+        ensures { IfOk result (λ n. n ≡ cut 20000 (total (map (λ c. (counted self.now).instances c.node) cells.now))) }
+    {
+        let mut sum = 0;
+        for cell in cells {
+            sum = plus(MOST_INSTANCES, sum, self.instances(alloc, cell.node)?);
+            if sum > MOST_INSTANCES {
+                return Ok(sum);
+            }
+        }
+        Ok(sum)
+    }
+
+    /// The number of nodes of the automaton's rules, or `None` where it has no rule.
+    pub fn nodes(&self) -> Option<u32>
+        ensures { IsNodesOf self.now result }
+    {
+        match self {
+            Automaton::Given(cases) => cases.nodes(),
+            Automaton::Composed(outer, inner) => match outer.get().nodes() {
+                Some(nodes) => Some(nodes),
+                None => inner.get().nodes(),
+            },
+        }
+    }
+
+    /// How deep compositions are nested: 0 for an automaton that is given by cases.
+    #[tactic(auto, using(crate::proofs::AutomatonLaws::layers))]
+    pub fn depth(&self) -> u32
+        requires { (s : Setting) × IsAutomaton s self.now }
+        ensures { result ≡ (counted self.now).depth }
+    {
+        match self {
+            Automaton::Given(_) => 0,
+            Automaton::Composed(outer, inner) => 1 + outer.get().depth().max(inner.get().depth()),
+        }
+    }
+}

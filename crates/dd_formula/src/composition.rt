@@ -1,0 +1,131 @@
+//! Compositions of automata.
+ghost use Rattle.std.specs.Prelude.{◌≡◌, true, IfOk, IfErr, OnOk};
+ghost use Rattle.dd_formula.specs.Automata.{Setting, IsAutomaton, is_few, is_short, is_shallow};
+ghost use Rattle.dd_formula.specs.Compositions.{AreAutomata, HaveNodes, OverBoth, StandFor, IsShallow, IsFault, composition};
+
+use crate::automaton::Automaton;
+use crate::fault::RuleFault;
+use crate::making::{MOST_INSTANCES, are_near};
+use dd_values::Boxed;
+use std::alloc::{AllocError, Global};
+
+/// The greatest depth of a composition.
+const MOST_DEPTH: u32 = 64;
+
+impl Automaton {
+    /// The automaton that gives each cell the value of `outer` on the configuration of `inner`'s values.
+    ///
+    /// # Errors
+    /// Both automata come back. `Instances` where at some node the composition has more than 20,000 instances; else `Reach`
+    /// where it reads a cell that lies more than 16 away along an axis; else `Depth` where compositions are nested more than
+    /// 64 deep; or `Memory`.
+    pub fn composed(
+        alloc: Global,
+        outer: Automaton,
+        inner: Automaton,
+    ) -> Result<Automaton, (RuleFault, Automaton, Automaton)>
+        requires { AreAutomata outer inner }
+        ensures ok { IfOk result (λ h. h ≡ Automaton.Composed outer inner) }
+        ensures formed { OnOk result (OverBoth outer inner (λ s. IsAutomaton s (Automaton.Composed outer inner))) }
+        ensures fault { IfErr result (λ e. OverBoth outer inner (λ s. IsFault s.nodes (composition outer inner) e.0)) }
+        ensures back { IfErr result (λ e. (e.1 ≡ outer) × (e.2 ≡ inner)) }
+    {
+        match tested(alloc, &outer, &inner) {
+            Ok(()) => joined(alloc, outer, inner),
+            Err(fault) => Err((fault, outer, inner)),
+        }
+    }
+}
+
+/// The composition, where there is memory for it.
+fn joined(
+    alloc: Global,
+    outer: Automaton,
+    inner: Automaton,
+) -> Result<Automaton, (RuleFault, Automaton, Automaton)>
+    ensures ok { IfOk result (λ h. h ≡ Automaton.Composed outer inner) }
+    ensures fault { IfErr result (λ e. e ≡ (RuleFault.Memory, outer, inner)) }
+{
+    let first = match Box::new(alloc, outer) {
+        Ok(first) => first,
+        Err(failed) => return Err((RuleFault::Memory, failed.value, inner)),
+    };
+    match Box::new(alloc, inner) {
+        Ok(second) => Ok(Automaton::Composed(Boxed::from_box(first), Boxed::from_box(second))),
+        Err(failed) => Err((RuleFault::Memory, Box::into_inner(first), failed.value)),
+    }
+}
+
+/// Whether the composition is within the limits.
+fn tested(alloc: Global, outer: &Automaton, inner: &Automaton) -> Result<(), RuleFault>
+    requires { AreAutomata outer.now inner.now }
+    ensures ok { OnOk result (OverBoth outer.now inner.now (λ s. IsShallow s.nodes (composition outer.now inner.now))) }
+    ensures fault { IfErr result (λ fault. OverBoth outer.now inner.now (λ s. IsFault s.nodes (composition outer.now inner.now) fault)) }
+{
+    let nodes = node_count(outer, inner);
+    if !has_few(alloc, outer, inner, nodes)? {
+        return Err(RuleFault::Instances);
+    }
+    if !has_short(alloc, outer, inner, nodes)? {
+        return Err(RuleFault::Reach);
+    }
+    if !is_shallow(outer, inner) {
+        return Err(RuleFault::Depth);
+    }
+    Ok(())
+}
+
+/// So many nodes that what holds at them holds at all: those of a rule, or one where there is no rule.
+fn node_count(outer: &Automaton, inner: &Automaton) -> u32
+    ensures { OverBoth outer.now inner.now (λ s. StandFor s (composition outer.now inner.now) result) }
+{
+    match outer.nodes() {
+        Some(nodes) => nodes,
+        None => match inner.nodes() {
+            Some(nodes) => nodes,
+            None => 1,
+        },
+    }
+}
+
+fn has_few(
+    alloc: Global,
+    outer: &Automaton,
+    inner: &Automaton,
+    nodes: u32,
+) -> Result<bool, AllocError>
+    requires { HaveNodes outer.now inner.now nodes }
+    ensures { IfOk result (λ b. b ≡ is_few nodes (composition outer.now inner.now)) }
+{
+    for node in 0..nodes {
+        if Automaton::composed_instances(alloc, outer, inner, node)? > MOST_INSTANCES {
+            return Ok(false);
+        }
+    }
+    Ok(true)
+}
+
+fn has_short(
+    alloc: Global,
+    outer: &Automaton,
+    inner: &Automaton,
+    nodes: u32,
+) -> Result<bool, AllocError>
+    requires { HaveNodes outer.now inner.now nodes }
+    ensures { IfOk result (λ b. b ≡ is_short nodes (composition outer.now inner.now)) }
+{
+    for node in 0..nodes {
+        let cells = Automaton::composed_reads(alloc, outer, inner, node)?;
+        if !are_near(cells.as_slice()) {
+            return Ok(false);
+        }
+    }
+    Ok(true)
+}
+
+fn is_shallow(outer: &Automaton, inner: &Automaton) -> bool
+    requires { AreAutomata outer.now inner.now }
+    ensures { result ≡ is_shallow (composition outer.now inner.now) }
+{
+    outer.depth().max(inner.depth()) < MOST_DEPTH
+}

@@ -1,0 +1,28 @@
+//! Why no rule is made.
+ghost use Rattle.std.specs.Prelude.{◌≡◌};
+
+use std::alloc::AllocError;
+use thiserror::Error;
+
+/// Why no rule or automaton was made.
+#[derive(Debug, Drop, Error)]
+pub enum RuleFault {
+    #[error("a cell is read that lies more than 16 away")]
+    Reach,
+    #[error("the expansion has more than 20000 nodes")]
+    Instances,
+    #[error("a composition is nested more than 64 deep")]
+    Depth,
+    #[error("out of memory")]
+    Memory,
+}
+
+impl From<AllocError> for RuleFault {
+    ghost use Rattle.dd_formula.specs.declared.fault.RuleFault.TheVariants.{Memory};
+
+    ghost from_gives = { λ _ fault. fault ≡ Memory };
+
+    fn from(_error: AllocError) -> RuleFault {
+        RuleFault::Memory
+    }
+}

@@ -1,0 +1,41 @@
+//! Automata that are given by cases.
+ghost use Rattle.std.specs.Prelude.{◌≡◌, true, false, IfOk, IfErr, OnOk, OnErr};
+ghost use Rattle.dd_formula.specs.Automata.{is_few, is_short, counted};
+ghost use Rattle.dd_formula.specs.Compositions.{HaveNumbers, IsGiven};
+
+use crate::automaton::{Automaton, Cases};
+use crate::making::MOST_INSTANCES;
+
+impl Automaton {
+    /// The automaton by these cases, over so many nodes. It takes no memory.
+    ///
+    /// # Errors
+    /// The cases come back where the automaton has more than 20,000 instances at some node.
+    pub fn given(cases: Cases, nodes: u32) -> Result<Automaton, Cases>
+        requires { HaveNumbers cases nodes }
+        ensures ok { IfOk result (λ f. f ≡ Automaton.Given cases) }
+        ensures formed { OnOk result (IsGiven cases nodes) }
+        ensures many { OnErr result (is_few nodes (counted (Automaton.Given cases)) ≡ false) }
+        ensures back { IfErr result (λ c. c ≡ cases) }
+    {
+        if has_few(&cases, nodes) {
+            Ok(Automaton::Given(cases))
+        } else {
+            Err(cases)
+        }
+    }
+}
+
+/// Whether the automaton by these cases has few instances at each node.
+fn has_few(cases: &Cases, nodes: u32) -> bool
+    requires { HaveNumbers cases.now nodes }
+    ensures value { result ≡ is_few nodes (counted (Automaton.Given cases.now)) }
+    ensures near { result ≡ true → is_short nodes (counted (Automaton.Given cases.now)) ≡ true }
+{
+    for node in 0..nodes {
+        if cases.instances(node) > MOST_INSTANCES {
+            return false;
+        }
+    }
+    true
+}

@@ -1,0 +1,145 @@
+//! Lists with an item for each node: expansions, and the cells that they read.
+ghost use Rattle.std.specs.Prelude.{◌≡◌, ◌<◌, ◌≤◌, ◌⊎◌, true, false, map, IfOk, IfErr, OnOk, IsTrue, ◌↔◌};
+ghost use Rattle.std.specs.List.{list_all};
+ghost use Rattle.dd_lattice.specs.InOrder.{in_order};
+ghost use Rattle.dd_expansion.specs.Limits.{IsFormula};
+ghost use Rattle.dd_expansion.specs.Leaves.{leaf_cells};
+ghost use Rattle.dd_formula.specs.LocalRule.{local_rule, at_nodes, expansion_at, is_near, IsSmall, IsExpanded};
+ghost use Rattle.dd_formula.specs.Refusals.{IsRefusal};
+ghost use Rattle.dd_formula.specs.declared.fault.RuleFault.TheVariants.{Reach, Memory};
+
+use crate::fault::RuleFault;
+use dd_expansion::{Expanded, ExpansionFault, Formula, expand};
+use dd_lattice::Cell;
+use dd_topology::{Edge, Topology};
+use dd_values::Items;
+use std::alloc::{AllocError, Global};
+
+/// The greatest number of nodes of an expansion.
+pub(crate) const MOST_INSTANCES: u32 = 20_000;
+/// The greatest distance along an axis of a cell that is read.
+const MOST_REACH: u32 = 16;
+
+/// What a rule keeps beside its formula.
+#[derive(Drop)]
+pub(crate) struct Parts {
+    pub(crate) edges: Items<Edge>,
+    pub(crate) expansions: Items<Expanded>,
+    pub(crate) reads: Items<Items<Cell>>,
+}
+
+/// The parts of the rule of a formula, unless they are too large.
+pub(crate) fn parts_of(
+    alloc: Global,
+    topology: &Topology,
+    symbols: u32,
+    formula: &Formula,
+) -> Result<Parts, RuleFault>
+    requires nodes { topology.now.nodes ≤ 4 }
+    requires symbols { (1 ≤ symbols) × (symbols ≤ 16) }
+    requires formula { IsFormula topology.now symbols formula.now }
+    ensures edges { IfOk result (λ parts. parts.edges ≡ topology.now.edges) }
+    ensures ok { IfOk result (λ parts. IsExpanded (local_rule topology.now symbols formula.now) parts.expansions parts.reads) }
+    ensures err { IfErr result (IsRefusal (local_rule topology.now symbols formula.now)) }
+{
+    let edges = Items::from_slice(alloc, topology.edges())?;
+    let expansions = expand_at_nodes(alloc, topology, symbols, formula)?;
+    match reads_at_nodes(alloc, expansions.as_slice()) {
+        Ok(reads) => Ok(Parts {
+            edges,
+            expansions,
+            reads,
+        }),
+        Err(fault) => Err(fault),
+    }
+}
+
+/// The expansion at each node.
+fn expand_at_nodes(
+    alloc: Global,
+    topology: &Topology,
+    symbols: u32,
+    formula: &Formula,
+) -> Result<Items<Expanded>, RuleFault>
+    requires { IsFormula topology.now symbols formula.now }
+    ensures ok { IfOk result (λ es. es ≡ at_nodes (expansion_at (local_rule topology.now symbols formula.now)) topology.now.nodes) }
+    ensures small { OnOk result (IsSmall (local_rule topology.now symbols formula.now)) }
+    ensures err { IfErr result (IsRefusal (local_rule topology.now symbols formula.now)) }
+{
+    let mut expansions = Items::new(alloc);
+    for node in 0..topology.nodes() {
+        match expand(alloc, topology, symbols, formula, node, MOST_INSTANCES) {
+            Ok(expansion) => expansions.push(expansion)?,
+            Err(ExpansionFault::Instances) => return Err(RuleFault::Instances),
+            Err(ExpansionFault::Memory) => return Err(RuleFault::Memory),
+        }
+    }
+    Ok(expansions)
+}
+
+fn is_near(cell: &Cell) -> bool
+    ensures { result ≡ is_near cell.now }
+{
+    let position = &cell.position;
+    position.x.unsigned_abs() <= MOST_REACH
+        && position.y.unsigned_abs() <= MOST_REACH
+        && position.z.unsigned_abs() <= MOST_REACH
+}
+
+pub(crate) fn are_near(cells: &[Cell]) -> bool
+    ensures { result ≡ list_all is_near cells.now }
+{
+    cells.iter().all(|cell| is_near(cell))
+}
+
+/// The cells that an expansion reads, in cell order.
+fn reads_of(alloc: Global, expansion: &Expanded) -> Result<Items<Cell>, RuleFault>
+    ensures ok { IfOk result (λ cells. cells ≡ in_order (leaf_cells expansion.now)) }
+    ensures near { OnOk result (list_all is_near (leaf_cells expansion.now) ≡ true) }
+    ensures err { IfErr result (λ fault. (fault ≡ Memory) ⊎ ((fault ≡ Reach) × (list_all is_near (leaf_cells expansion.now) ≡ false))) }
+{
+    let cells = expansion.cells(alloc)?;
+    if !are_near(&cells) {
+        return Err(RuleFault::Reach);
+    }
+    Ok(Items::from_vec(cells))
+}
+
+/// The cells that each of the expansions reads, in cell order.
+fn reads_at_nodes(alloc: Global, expansions: &[Expanded]) -> Result<Items<Items<Cell>>, RuleFault>
+    ensures ok { IfOk result (λ reads. reads ≡ map (λ e. in_order (leaf_cells e)) expansions.now) }
+    ensures near { OnOk result (list_all (λ e. list_all is_near (leaf_cells e)) expansions.now ≡ true) }
+    ensures err { IfErr result (λ fault. (fault ≡ Memory) ⊎ ((fault ≡ Reach) × (list_all (λ e. list_all is_near (leaf_cells e)) expansions.now ≡ false))) }
+{
+    let mut reads = Items::new(alloc);
+    for expansion in expansions {
+        reads.push(reads_of(alloc, expansion)?)?;
+    }
+    Ok(reads)
+}
+
+pub(crate) fn copy_expansions(
+    alloc: Global,
+    expansions: &[Expanded],
+) -> Result<Items<Expanded>, AllocError>
+    ensures { IfOk result (λ copies. copies ≡ expansions.now) }
+{
+    let mut copies = Items::new(alloc);
+    for expansion in expansions {
+        copies.push(expansion.copy(alloc)?)?;
+    }
+    Ok(copies)
+}
+
+pub(crate) fn copy_reads(
+    alloc: Global,
+    reads: &[Items<Cell>],
+) -> Result<Items<Items<Cell>>, AllocError>
+    ensures { IfOk result (λ copies. copies ≡ reads.now) }
+{
+    let mut copies = Items::new(alloc);
+    for cells in reads {
+        copies.push(Items::from_slice(alloc, cells.as_slice())?)?;
+    }
+    Ok(copies)
+}

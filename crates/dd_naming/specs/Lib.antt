@@ -1,0 +1,4 @@
+pub mod Texts
+pub mod Resolving
+pub mod Atoms
+pub mod Formulas

@@ -1,0 +1,194 @@
+-- What the calls give from which the clauses of a torus are made.
+use Rattle.std.proofs.Common.{◌≡◌, ℕ, ◌+◌, ◌-◌, ◌*◌, ◌≤◌, ◌<◌, ◌^◌, true, List, map, length, refl, ap, sym, subst, ◌∙◌, arith, pos, ◌-ℤ◌}
+use Rattle.std.specs.Prelude.{Bool, false, Result, Ok, Err, IfOk, MatchResult, is_ok, slice_index}
+use Rattle.std.specs.List.{All, range_with_len}
+use Rattle.std.specs.List.Sorted.{IsStrictlySortedBy}
+use Rattle.std.proofs.lemmas.Int.{ints}
+use Rattle.std.proofs.lemmas.Nat.{mul-le}
+use Rattle.std.proofs.lemmas.List.Elements.{All-map, All-weaker}
+use Rattle.std.proofs.lemmas.List.FromFn.{length-range_with_len}
+use Rattle.std.proofs.lemmas.Result.{IfOk-weaker}
+use Rattle.dd_lattice.specs.Order.{cell_cmp}
+use Rattle.dd_lattice.specs.Boxes.{Bounds, is_active, spread, span, volume as box_volume}
+use Rattle.dd_lattice.specs.declared.position.Cell.{Cell}
+use Rattle.dd_pattern.specs.Tile.{Tile, IsTile, tile, volume, fundamental}
+use Rattle.dd_pattern.proofs.TileSizes.{index_below}
+use Rattle.dd_clause.specs.Clauses.{ClauseList}
+use Rattle.dd_compile.specs.Wiring.{Wiring}
+use Rattle.dd_formula.specs.LocalRule.{LocalRule, IsRule}
+use Rattle.dd_boxes.specs.Goals.{GoalOf, IsGoalFor}
+use Rattle.dd_boxes.specs.Counts.{question_clauses}
+use Rattle.dd_boxes.specs.Witnesses.{ArePeriods}
+use Rattle.dd_problem.specs.Layouts.{cells_in, torus, torus_cells, torus_layout}
+use Rattle.dd_problem.specs.Problems.{torus_problem}
+use Rattle.dd_problem.specs.Grown.{grown, number_at, numbered_by}
+use Rattle.dd_problem.specs.Pushed.{AreInputs, is_goal_wired, wired_problem}
+use Rattle.dd_problem.specs.Shows.{ShowsTorus}
+use Rattle.dd_problem.proofs.RangesLeft.{row_within}
+use Rattle.dd_problem.proofs.CellOrder.{cells_nodes}
+use Rattle.dd_problem.proofs.Counting.{variables_below}
+use Rattle.dd_problem.proofs.NumberedWires.{are_inputs}
+use Rattle.dd_problem.proofs.TorusLayout.{torus_size, some_period, span_is, product_turned, product_small, length-torus_cells}
+use Rattle.dd_problem.proofs.TorusShows.{torus_shows}
+use Rattle.dd_problem.proofs.TorusInputs.{numbers_of, numbers_tile, number_is, near_cells, near_ascends, torus_is_problem, torus_goal_wired}
+
+-- the question's count is at most two million
+abbrev pub IsFew : LocalRule → GoalOf → List ℕ → Type 0
+IsFew x g periods = question_clauses x g (volume (torus x periods)) ≤ 2000000
+
+spread_most : (b : Bool) → spread b 16 ≤ 16
+spread_most true = omega arith
+spread_most false = omega arith
+
+span_most : (p s : ℕ) → 1 ≤ p → p ≤ 8 → s ≤ 16 → span (pos 0 -ℤ pos s) (pos (p - 1 + s)) ≤ 40
+span_most p s some most small = omega (arith, ints)
+
+module _ (x : LocalRule) (periods : List ℕ) (rule : IsRule x) (ok : ArePeriods x.dimension periods) where
+  pub on_x : (1 ≤ slice_index periods 0) × (slice_index periods 0 ≤ 8)
+  on_x = some_period (is_active x.dimension 0) (slice_index periods 0) ok.on_x
+
+  pub on_y : (1 ≤ slice_index periods 1) × (slice_index periods 1 ≤ 8)
+  on_y = some_period (is_active x.dimension 1) (slice_index periods 1) ok.on_y
+
+  pub on_z : (1 ≤ slice_index periods 2) × (slice_index periods 2 ≤ 8)
+  on_z = some_period (is_active x.dimension 2) (slice_index periods 2) ok.on_z
+
+  volume_is : box_volume (fundamental (torus x periods)) ≡ volume (torus x periods)
+  volume_is =
+      rw (span_is (slice_index periods 0) (on_x.0), span_is (slice_index periods 1) (on_y.0), span_is (slice_index periods 2) (on_z.0))
+      (product_turned (slice_index periods 0) (slice_index periods 1) (slice_index periods 2))
+
+  pub size_small : torus_size x periods ≤ 65536
+  size_small = product_small (slice_index periods 2) (slice_index periods 1) (slice_index periods 0) x.nodes on_z.1 on_y.1 on_x.1 rule.nodes.1
+
+  -- the configuration of the numbers
+  numbering_is : (d nodes : ℕ) (items : List ℕ) → d ≡ x.dimension → nodes ≡ x.nodes →
+      items ≡ range_with_len 0 (slice_index periods 2 * slice_index periods 1 * slice_index periods 0 * nodes) → tile d periods nodes items ≡ numbers_of x periods rule ok
+  numbering_is d nodes items dim same is =
+      ap (λ k. tile k periods nodes items) dim
+      ∙ (ap (λ k. tile x.dimension periods k items) same
+      ∙ ap (tile x.dimension periods x.nodes) (is ∙ ap (λ k. range_with_len 0 (slice_index periods 2 * slice_index periods 1 * slice_index periods 0 * k)) same))
+
+  pub count_fits : (nodes : ℕ) → nodes ≡ x.nodes → slice_index periods 2 * slice_index periods 1 * slice_index periods 0 * nodes ≤ 65536
+  count_fits nodes same =
+      let all = size_small in
+      let is = ap (λ k. slice_index periods 2 * slice_index periods 1 * slice_index periods 0 * k) same in
+      omega (arith, all, is)
+
+  pub tile_ok : {B : Type 0} (r : Result Tile B) (t : Tile) (S : B → Type 0) → MatchResult r (λ p. (p ≡ t) × IsTile t) (λ back. S back × (IsTile t → ⊥)) → IsTile t → is_ok r ≡ true
+  tile_ok (Ok a) t S h tile = refl
+  tile_ok (Err e) t S h tile = absurd (h.1 tile)
+
+  pub numbering_made : {B : Type 0} (r : Result Tile B) (S : B → Type 0) (d nodes : ℕ) (items : List ℕ) → d ≡ x.dimension → nodes ≡ x.nodes →
+      items ≡ range_with_len 0 (slice_index periods 2 * slice_index periods 1 * slice_index periods 0 * nodes) →
+      MatchResult r (λ p. (p ≡ tile d periods nodes items) × IsTile (tile d periods nodes items)) (λ back. S back × (IsTile (tile d periods nodes items) → ⊥)) → is_ok r ≡ true
+  numbering_made r S d nodes items dim same is h =
+      tile_ok r (tile d periods nodes items) S h (subst IsTile (sym (numbering_is d nodes items dim same is)) (numbers_tile x periods rule ok))
+
+  pub cells_few : (nodes : ℕ) (b : Bounds) → nodes ≡ x.nodes → b ≡ fundamental (torus x periods) → box_volume b * nodes ≤ 2 ^ 24
+  cells_few nodes b same is =
+      let small = size_small in
+      let all : box_volume b * nodes ≡ torus_size x periods = ap (λ k. box_volume b * k) same ∙ (ap (λ c. box_volume c * x.nodes) is ∙ ap (λ k. k * x.nodes) volume_is) in
+      omega (arith, small, all)
+
+  grown_small : box_volume (grown x.dimension periods) * x.nodes ≤ 2 ^ 24
+  grown_small =
+      let b = grown x.dimension periods in
+      let sx = span_most (slice_index periods 0) (spread (is_active x.dimension 0) 16) on_x.0 on_x.1 (spread_most (is_active x.dimension 0)) in
+      let sy = span_most (slice_index periods 1) (spread (is_active x.dimension 1) 16) on_y.0 on_y.1 (spread_most (is_active x.dimension 1)) in
+      let sz = span_most (slice_index periods 2) (spread (is_active x.dimension 2) 16) on_z.0 on_z.1 (spread_most (is_active x.dimension 2)) in
+      let rest : span b.low.y b.high.y * span b.low.z b.high.z ≤ 1600 = mul-le (span b.low.y b.high.y) (span b.low.z b.high.z) 40 40 sy sz in
+      let all : box_volume b ≤ 64000 = mul-le (span b.low.x b.high.x) (span b.low.y b.high.y * span b.low.z b.high.z) 40 1600 sx rest in
+      let most : box_volume b * x.nodes ≤ 256000 = mul-le (box_volume b) x.nodes 64000 4 all rule.nodes.1 in
+      omega (arith, most)
+
+  pub grown_few : (d nodes : ℕ) (b : Bounds) → d ≡ x.dimension → nodes ≡ x.nodes → b ≡ grown d periods → box_volume b * nodes ≤ 2 ^ 24
+  grown_few d nodes b dim same is =
+      let small = grown_small in
+      let all : box_volume b * nodes ≡ box_volume (grown x.dimension periods) * x.nodes =
+      ap (λ k. box_volume b * k) same ∙ ap (λ c. box_volume c * x.nodes) (is ∙ ap (λ k. grown k periods) dim) in
+      omega (arith, small, all)
+
+  -- the cells of the torus, and those that are read
+  pub cells_are : (nodes : ℕ) (b : Bounds) (items cells : List Cell) → nodes ≡ x.nodes → b ≡ fundamental (torus x periods) → items ≡ cells_in b nodes → cells ≡ items →
+      cells ≡ torus_cells x periods
+  cells_are nodes b items cells same is listed read = read ∙ (listed ∙ (ap (cells_in b) same ∙ ap (λ c. cells_in c x.nodes) is))
+
+  pub near_are : (d nodes : ℕ) (b : Bounds) (items cells : List Cell) → d ≡ x.dimension → nodes ≡ x.nodes → b ≡ grown d periods → items ≡ cells_in b nodes → cells ≡ items →
+      cells ≡ near_cells x periods rule ok
+  near_are d nodes b items cells dim same is listed read =
+      read ∙ (listed ∙ (ap (cells_in b) same ∙ ap (λ c. cells_in c x.nodes) (is ∙ ap (λ k. grown k periods) dim)))
+
+  pub near_in_order : (cells : List Cell) → cells ≡ near_cells x periods rule ok → IsStrictlySortedBy cell_cmp cells
+  near_in_order cells read = subst (IsStrictlySortedBy cell_cmp) (sym read) (near_ascends x periods rule ok)
+
+  near_nodes : All (λ (c : Cell). c.node < x.nodes) (near_cells x periods rule ok)
+  near_nodes = cells_nodes (grown x.dimension periods) x.nodes rule.nodes.0
+
+  pub near_nodes_there : (cells : List Cell) (t : Tile) → cells ≡ near_cells x periods rule ok → t ≡ numbers_of x periods rule ok → All (λ (c : Cell). c.node < t.nodes) cells
+  near_nodes_there cells t read is =
+      subst (All (λ (c : Cell). c.node < t.nodes)) (sym read) (subst (λ (u : Tile). All (λ (c : Cell). c.node < u.nodes) (near_cells x periods rule ok)) (sym is) near_nodes)
+
+  pub wires_are : (s : ℕ) (t : Tile) (cells : List Cell) (w : Wiring) → w ≡ numbered_by s t cells → s ≡ x.symbols → t ≡ numbers_of x periods rule ok → cells ≡ near_cells x periods rule ok →
+      w ≡ numbered_by x.symbols (numbers_of x periods rule ok) (near_cells x periods rule ok)
+  wires_are s t cells w is same numbers read =
+      is ∙ (ap (λ m. numbered_by m t cells) same ∙ (ap (λ u. numbered_by x.symbols u cells) numbers ∙ ap (numbered_by x.symbols (numbers_of x periods rule ok)) read))
+
+  abbrev wires : Wiring
+  wires = numbered_by x.symbols (numbers_of x periods rule ok) (near_cells x periods rule ok)
+
+  pub nodes_there : (cells : List Cell) → cells ≡ torus_cells x periods → All (λ (d : Cell). d.node < x.nodes) cells
+  nodes_there cells read = subst (All (λ (d : Cell). d.node < x.nodes)) (sym read) (cells_nodes (fundamental (torus x periods)) x.nodes rule.nodes.0)
+
+  number_below : (c : Cell) → c.node < x.nodes → number_at (numbers_of x periods rule ok) c < length (torus_cells x periods)
+  number_below c node =
+      let is = number_is x periods rule ok c node in
+      let low = index_below (numbers_of x periods rule ok) (numbers_tile x periods rule ok) c node in
+      omega (arith, is, low, length-range_with_len 0 (torus_size x periods), length-torus_cells x periods rule ok)
+
+  input_few : (c : Cell) → c.node < x.nodes → number_at (numbers_of x periods rule ok) c * x.symbols + x.symbols ≤ 2 ^ 24
+  input_few c node =
+      let k = number_at (numbers_of x periods rule ok) c in
+      let row = row_within x.symbols k (length (torus_cells x periods)) (number_below c node) in
+      let most = size_small in
+      let all : length (torus_cells x periods) * x.symbols ≤ 65536 * 16 = mul-le (length (torus_cells x periods)) x.symbols 65536 16 (omega (arith, most, length-torus_cells x periods rule ok)) rule.symbols.1 in
+      omega (arith, row, all)
+
+  pub numbers_few : (cells : List Cell) (t : Tile) (s : ℕ) → cells ≡ near_cells x periods rule ok → t ≡ numbers_of x periods rule ok → s ≡ x.symbols →
+      All (λ c. number_at t c * s + s ≤ 2 ^ 24) cells
+  numbers_few cells t s read is same =
+      subst (All (λ c. number_at t c * s + s ≤ 2 ^ 24)) (sym read)
+      (subst (λ m. All (λ c. number_at t c * m + m ≤ 2 ^ 24) (near_cells x periods rule ok)) (sym same)
+      (subst (λ (u : Tile). All (λ c. number_at u c * x.symbols + x.symbols ≤ 2 ^ 24) (near_cells x periods rule ok)) (sym is)
+      (All-weaker (λ (c : Cell). c.node < x.nodes) (λ c. number_at (numbers_of x periods rule ok) c * x.symbols + x.symbols ≤ 2 ^ 24) input_few (near_cells x periods rule ok) near_nodes)))
+
+  pub signals_there : (cells : List Cell) (w : Wiring) → w ≡ wires → cells ≡ torus_cells x periods → AreInputs (length cells * x.symbols) w
+  signals_there cells w is read =
+      subst (AreInputs (length cells * x.symbols)) (sym is) (subst (λ (cs : List Cell). AreInputs (length cs * x.symbols) wires) (sym read)
+      (are_inputs x.symbols (length (torus_cells x periods)) (near_cells x periods rule ok) (map (number_at (numbers_of x periods rule ok)) (near_cells x periods rule ok))
+      (All-map (λ k. k < length (torus_cells x periods)) (number_at (numbers_of x periods rule ok)) (near_cells x periods rule ok)
+      (All-weaker (λ (c : Cell). c.node < x.nodes) (λ c. number_at (numbers_of x periods rule ok) c < length (torus_cells x periods)) number_below (near_cells x periods rule ok) near_nodes))))
+
+  module _ (g : GoalOf) (good : IsGoalFor x g) (cells : List Cell) (w : Wiring) (is : w ≡ wires) (read : cells ≡ torus_cells x periods) where
+    pub goal_wired : is_goal_wired w (length cells * x.symbols) g ≡ true
+    goal_wired =
+        ap (λ v. is_goal_wired v (length cells * x.symbols) g) is
+        ∙ (ap (λ (cs : List Cell). is_goal_wired wires (length cs * x.symbols) g) read ∙ torus_goal_wired x periods rule ok g good)
+
+    problem_is : wired_problem w x g cells ≡ torus_problem x g periods
+    problem_is = ap (λ v. wired_problem v x g cells) is ∙ (ap (wired_problem wires x g) read ∙ torus_is_problem x periods rule ok g good)
+
+    pub variables_few : IsFew x g periods → (wired_problem w x g cells).variables ≤ 2 ^ 24
+    variables_few few =
+        let all = variables_below (torus_layout x periods) x g (fundamental (torus x periods)) refl in
+        let count = ap (question_clauses x g) volume_is in
+        let same = ap (λ (k : ClauseList). k.variables) problem_is in
+        omega (arith, all, count, same, few)
+
+    pub exactly : {E : Type 0} (r : Result ClauseList E) → IfOk r (λ cnf. cnf ≡ wired_problem w x g cells) → IfOk r (λ cnf. cnf ≡ torus_problem x g periods)
+    exactly r made = IfOk-weaker r (λ cnf. cnf ≡ wired_problem w x g cells) (λ cnf. cnf ≡ torus_problem x g periods) (λ cnf h. h ∙ problem_is) made
+
+    pub showing : {E : Type 0} (r : Result ClauseList E) → IfOk r (λ cnf. cnf ≡ wired_problem w x g cells) → IfOk r (λ cnf. ShowsTorus cnf.clauses x g periods)
+    showing r made =
+        IfOk-weaker r (λ cnf. cnf ≡ torus_problem x g periods) (λ cnf. ShowsTorus cnf.clauses x g periods)
+        (λ cnf h. subst (λ (k : ClauseList). ShowsTorus k.clauses x g periods) (sym h) (torus_shows x g periods rule good ok)) (exactly r made)

@@ -1,0 +1,171 @@
+-- The cells of a torus, and that a periodic configuration is read by their numbers.
+use Rattle.std.proofs.Common.{◌≡◌, ℕ, suc, ◌*◌, ◌<◌, ◌≤◌, Bool, true, false, List, map, length, refl, ap, sym, subst, ◌∙◌, arith, mul_comm, ◌-◌, ◌%◌, ◌+ℤ◌, [], ◌∷◌, Some, ℤ, pos}
+use Rattle.std.specs.Prelude.{◌||◌, nat_lt, slice_get, slice_index}
+use Rattle.std.specs.Ordering.{int_eq}
+use Rattle.std.proofs.lemmas.Int.{ints}
+use Rattle.std.specs.List.{range_with_len}
+use Rattle.std.proofs.lemmas.Nat.{mul-le}
+use Rattle.std.proofs.lemmas.Bool.{and_from, ltb-true, ltb-false}
+use Rattle.std.proofs.lemmas.Bool.Decides.{Decides-int_eq, nat_tests}
+use Rattle.std.proofs.lemmas.Option.{slice_get_within}
+use Rattle.std.proofs.lemmas.List.FromFn.{length-map-range_with_len}
+use Rattle.dd_lattice.specs.Place.{Place, place}
+use Rattle.dd_lattice.specs.Cells.{cell, shifted}
+use Rattle.dd_lattice.specs.Boxes.{is_active, span}
+use Rattle.dd_lattice.specs.declared.position.Cell.{Cell}
+use Rattle.dd_pattern.specs.Tile.{Tile, IsTile, tile, residue, base_of, tile_index, tile_look, cell_in, fundamental, IsInBox}
+use Rattle.dd_pattern.proofs.Residues.{residue-add, residue_below}
+use Rattle.dd_pattern.proofs.TileSizes.{index_below}
+use Rattle.dd_pattern.proofs.BoxLaws.{cell_at_index, in_box}
+use Rattle.dd_expansion.specs.Placed.{is_flat}
+use Rattle.dd_formula.specs.LocalRule.{LocalRule, IsRule}
+use Rattle.dd_boxes.specs.Witnesses.{IsPeriod, ArePeriods}
+use Rattle.dd_problem.specs.Layouts.{nth_cell, torus, torus_cells, torus_layout}
+use Rattle.dd_problem.proofs.Reading.{IsLayout, slice_of_range}
+use Rattle.dd_problem.proofs.Wiring.{some_same}
+
+-- the configuration of these symbols
+abbrev pub torus_of : LocalRule → List ℕ → List ℕ → Tile
+torus_of x periods symbols = tile x.dimension periods x.nodes symbols
+
+abbrev pub torus_size : LocalRule → List ℕ → ℕ
+torus_size x periods = slice_index periods 2 * slice_index periods 1 * slice_index periods 0 * x.nodes
+
+pub some_period : (active : Bool) (p : ℕ) → IsPeriod active p → (1 ≤ p) × (p ≤ 8)
+some_period true p h = h
+some_period false p h = (omega (arith, h), omega (arith, h))
+
+unused_period : (d axis p : ℕ) → IsPeriod (is_active d axis) p → d < suc axis → p ≡ 1
+unused_period d axis p h few = inactive (is_active d axis) p h (grind (arith, nat_tests)) where
+  inactive : (b : Bool) (q : ℕ) → IsPeriod b q → b ≡ false → q ≡ 1
+  inactive true q h f = absurd (cc)
+  inactive false q h f = h
+
+pub product_small : (a b c n : ℕ) → a ≤ 8 → b ≤ 8 → c ≤ 8 → n ≤ 4 → a * b * c * n ≤ 65536
+product_small a b c n ha hb hc hn =
+    let first : a * b ≤ 64 = mul-le a b 8 8 ha hb in
+    let second : a * b * c ≤ 512 = mul-le (a * b) c 64 8 first hc in
+    let third : a * b * c * n ≤ 2048 = mul-le (a * b * c) n 512 4 second hn in
+    omega arith
+
+pub torus_is_tile : (x : LocalRule) (periods symbols : List ℕ) → IsRule x → ArePeriods x.dimension periods → length symbols ≡ torus_size x periods →
+    IsTile (torus_of x periods symbols)
+torus_is_tile x periods symbols rule ok full =
+    let on_x = some_period (is_active x.dimension 0) (slice_index periods 0) ok.on_x in
+    let on_y = some_period (is_active x.dimension 1) (slice_index periods 1) ok.on_y in
+    let on_z = some_period (is_active x.dimension 2) (slice_index periods 2) ok.on_z in
+    let small = product_small (slice_index periods 2) (slice_index periods 1) (slice_index periods 0) x.nodes on_z.1 on_y.1 on_x.1 rule.nodes.1 in
+    record {
+      some_dimension = rule.dimension.0;
+      most_dimension = rule.dimension.1;
+      x_some = on_x.0;
+      y_some = on_y.0;
+      z_some = on_z.0;
+      y_unused = unused_period x.dimension 1 (slice_index periods 1) ok.on_y;
+      z_unused = unused_period x.dimension 2 (slice_index periods 2) ok.on_z;
+      nodes_some = rule.nodes.0;
+      full = full;
+      small = rw full small;
+    }
+
+-- the cells of the fundamental box are those whose symbols stand in the list of a configuration
+pub span_is : (n : ℕ) → 0 < n → span (pos 0) (pos (n - 1)) ≡ n
+span_is n h = omega (arith, ints)
+
+from_zero : (n : ℕ) → (pos 0 +ℤ pos n) ≡ pos n
+from_zero n = omega (arith, ints)
+
+cell_from_zero : (a b c node : ℕ) → cell (place (pos 0 +ℤ pos a) (pos 0 +ℤ pos b) (pos 0 +ℤ pos c)) node ≡ cell (place (pos a) (pos b) (pos c)) node
+cell_from_zero a b c node = rw (from_zero a, from_zero b, from_zero c) refl
+
+map_alike : {X Y : Type 0} (f g : X → Y) → ((x : X) → f x ≡ g x) → (xs : List X) → map f xs ≡ map g xs
+map_alike f g same [] = refl
+map_alike f g same (x ∷ xs) = rw (same x, map_alike f g same xs) refl
+
+pub product_turned : (x y z : ℕ) → x * (y * z) ≡ z * y * x
+product_turned x y z = ap (λ k. x * k) (mul_comm y z) ∙ mul_comm x (z * y)
+
+nth_is : (x : LocalRule) (periods : List ℕ) → (0 < slice_index periods 0) × (0 < slice_index periods 1) × (0 < slice_index periods 2) → (k : ℕ) →
+    nth_cell (fundamental (torus x periods)) x.nodes k ≡ cell_in (torus x periods) k
+nth_is x periods some k = rw (span_is (slice_index periods 0) some.0, span_is (slice_index periods 1) some.1) (cell_from_zero _ _ _ (k % x.nodes))
+
+cells_listed : (x : LocalRule) (periods : List ℕ) → (0 < slice_index periods 0) × (0 < slice_index periods 1) × (0 < slice_index periods 2) →
+    torus_cells x periods ≡ map (cell_in (torus x periods)) (range_with_len 0 (torus_size x periods))
+cells_listed x periods some =
+    map_alike (nth_cell (fundamental (torus x periods)) x.nodes) (cell_in (torus x periods)) (nth_is x periods some) _
+    ∙ ap (λ n. map (cell_in (torus x periods)) (range_with_len 0 (n * x.nodes)))
+    (rw (span_is (slice_index periods 0) some.0, span_is (slice_index periods 1) some.1, span_is (slice_index periods 2) some.2)
+    (product_turned (slice_index periods 0) (slice_index periods 1) (slice_index periods 2)))
+
+-- a configuration of the same periods with the symbol 0 everywhere
+abbrev zeros : LocalRule → List ℕ → List ℕ
+zeros x periods = map (λ _. 0) (range_with_len 0 (torus_size x periods))
+
+length-zeros : (x : LocalRule) (periods : List ℕ) → length (zeros x periods) ≡ torus_size x periods
+length-zeros x periods = length-map-range_with_len (λ _. 0) 0 (torus_size x periods)
+
+module _ (x : LocalRule) (periods : List ℕ) (rule : IsRule x) (ok : ArePeriods x.dimension periods) where
+  blank : IsTile (torus_of x periods (zeros x periods))
+  blank = torus_is_tile x periods (zeros x periods) rule ok (length-zeros x periods)
+
+  listed : torus_cells x periods ≡ map (cell_in (torus x periods)) (range_with_len 0 (torus_size x periods))
+  listed = cells_listed x periods (blank.x_some, blank.y_some, blank.z_some)
+
+  pub length-torus_cells : length (torus_cells x periods) ≡ torus_size x periods
+  length-torus_cells = ap length listed ∙ length-map-range_with_len (cell_in (torus x periods)) 0 (torus_size x periods)
+
+  index_within : (c : Cell) → c.node < x.nodes → tile_index (torus x periods) c < torus_size x periods
+  index_within c node = rw (← length-zeros x periods) (index_below (torus_of x periods (zeros x periods)) blank c node)
+
+  pub torus_is_layout : IsLayout (torus_layout x periods)
+  torus_is_layout = record {
+    within = λ c h. (let low = index_within c (ltb-true c.node x.nodes h) in omega (arith, length-torus_cells));
+  }
+
+  -- the cell with the number of a cell is at its position modulo the periods
+  pub torus_cell_there : (v : Place) (a : ℕ) → a < x.nodes → slice_get (torus_cells x periods) (tile_index (torus x periods) (cell v a)) ≡ Some (cell (base_of (torus x periods) v) a)
+  torus_cell_there v a node =
+      ap (λ cs. slice_get cs (tile_index (torus x periods) (cell v a))) listed
+      ∙ (slice_of_range (cell_in (torus x periods)) (torus_size x periods) (tile_index (torus x periods) (cell v a)) (index_within (cell v a) node)
+      ∙ ap (λ d. Some d) (cell_at_index (torus_of x periods (zeros x periods)) blank v a node))
+
+  place_is_cell : (k : ℕ) (d : Cell) → slice_get (torus_cells x periods) k ≡ Some d → (k < length (zeros x periods)) × (d ≡ cell_in (torus x periods) k)
+  place_is_cell k d is =
+      let within = slice_get_within (torus_cells x periods) k d is in
+      let below : k < torus_size x periods = omega (arith, length-torus_cells) in
+      (omega (arith, length-zeros x periods), some_same d (cell_in (torus x periods) k) (sym is ∙ (ap (λ cs. slice_get cs k) listed ∙ slice_of_range (cell_in (torus x periods)) (torus_size x periods) k below)))
+
+  -- a place is a cell of the fundamental box
+  pub torus_cell_at : (k : ℕ) (d : Cell) → slice_get (torus_cells x periods) k ≡ Some d → IsInBox (torus_of x periods (zeros x periods)) d
+  torus_cell_at k d is =
+      let here = place_is_cell k d is in
+      subst (IsInBox (torus_of x periods (zeros x periods))) (sym here.1) (in_box (torus_of x periods (zeros x periods)) blank k here.0)
+
+  -- and so one of Z^d
+  flat_axis : (active : Bool) (p : ℤ) (n : ℕ) → (active ≡ false → n ≡ 1) → 0 < n → pos (residue p n) ≡ p → (active || int_eq p (pos 0)) ≡ true
+  flat_axis true p n unused some base = refl
+  flat_axis false p n unused some base =
+      let one = unused refl in
+      let small = residue_below p n some in
+      (Decides-int_eq p (pos 0)).1 (let zero_there : residue p n ≡ 0 = omega arith in sym base ∙ ap pos zero_there)
+
+  pub flat_place : (k : ℕ) (d : Cell) → slice_get (torus_cells x periods) k ≡ Some d → is_flat x.dimension d.position ≡ true
+  flat_place k d is =
+      let base = (torus_cell_at k d is).base in
+      let p = d.position in
+      and_from (nat_lt 1 x.dimension || int_eq p.y (pos 0)) (nat_lt 2 x.dimension || int_eq p.z (pos 0))
+      (flat_axis (nat_lt 1 x.dimension) p.y (slice_index periods 1) (λ f. blank.y_unused (few 1 f)) blank.y_some (ap (λ q. q.y) base))
+      (flat_axis (nat_lt 2 x.dimension) p.z (slice_index periods 2) (λ f. blank.z_unused (few 2 f)) blank.z_some (ap (λ q. q.z) base))
+    where
+      few : (axis : ℕ) → nat_lt axis x.dimension ≡ false → x.dimension < suc axis
+      few axis f = let most : x.dimension ≤ axis = ltb-false _ _ f in omega arith
+
+  -- what is read round a position is what is read round it modulo the periods
+  pub look_periodic : (symbols : List ℕ) (v : Place) (c : Cell) →
+      tile_look (torus_of x periods symbols) (shifted (base_of (torus x periods) v) c) ≡ tile_look (torus_of x periods symbols) (shifted v c)
+  look_periodic symbols v c =
+      rw (
+        residue-add c.position.x v.x (slice_index periods 0) blank.x_some,
+        residue-add c.position.y v.y (slice_index periods 1) blank.y_some,
+        residue-add c.position.z v.z (slice_index periods 2) blank.z_some,
+      ) refl

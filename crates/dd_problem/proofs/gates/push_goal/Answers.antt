@@ -1,0 +1,13 @@
+use Rattle.std.proofs.Common.{arith}
+use Rattle.dd_circuit.specs.Circuits.{size}
+use Rattle.dd_lattice.specs.Cells.{cell}
+use Rattle.dd_boxes.specs.Boxes.{origin}
+use Rattle.dd_problem.specs.Pushed.{is_wired_at}
+use Rattle.dd_problem.proofs.Wiring.{range_at}
+use Rattle.dd_problem.proofs.gates.push_goal.Goals as goal
+
+pub push_some_false-requires-clause-wired : goal.push_some_false-requires-clause-wired
+push_some_false-requires-clause-wired c = λ a below.
+    let y = c.in-Breaks.rule.now in
+    let all = rw c.in-Breaks.is at c.requires.wired in
+    range_at (λ b. is_wired_at c.args.inputs.now (size c.args.circuit.now) y (cell origin b)) y.nodes 0 a all (omega arith) (omega arith)

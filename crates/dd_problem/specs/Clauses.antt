@@ -1,0 +1,54 @@
+-- Clauses that say that each cell has one symbol, and clauses over the signals of gates.
+use Rattle.std.specs.Prelude.{ℕ, suc, ◌+◌, ◌*◌, true, false, List, [], ◌∷◌, ◌++◌, map, length}
+use Rattle.std.specs.List.{flat_map, range_with_len}
+use Rattle.dd_clause.specs.declared.clause.Literal.{Literal}
+use Rattle.dd_circuit.specs.declared.gates.Signal.{Signal}
+use Rattle.dd_circuit.specs.declared.gates.Gate.{Gate}
+use Rattle.dd_cnf.specs.Encoding.{literal, literal_of, opposing, gates_clauses}
+use Rattle.dd_compile.specs.Compiling.{AllMade, Maker, all_made}
+
+-- the variable that says that the cell with the number k has the symbol s, of m symbols
+abbrev pub input : ℕ → ℕ → ℕ → ℕ
+input m k s = suc (k * m + s)
+
+abbrev pub inputs_of : ℕ → ℕ → List ℕ
+inputs_of m k = map (input m k) (range_with_len 0 m)
+
+-- no two of the variables are true
+abbrev pub pairs : List ℕ → List (List Literal)
+pairs [] = []
+pairs (v ∷ vs) = map (λ w. literal v false ∷ literal w false ∷ []) vs ++ pairs vs
+
+-- one of the variables is true, and no two are
+abbrev pub one_hot : List ℕ → List (List Literal)
+one_hot vs = map (λ v. literal v true) vs ∷ pairs vs
+
+-- each of the first n cells has one of m symbols
+abbrev pub cell_clauses : ℕ → ℕ → List (List Literal)
+cell_clauses m n = flat_map (λ k. one_hot (inputs_of m k)) (range_with_len 0 n)
+
+-- gates, and then clauses over their signals
+pub record Part : Type 0 where
+  pub makers : List Maker
+  pub tail : List Signal → List (List Literal)
+
+abbrev pub made_by : Part → ℕ → AllMade
+made_by p n = all_made p.makers n
+
+-- all parts, the gates of each after those of the parts before it
+abbrev pub part_gates : ℕ → List Part → List Gate
+part_gates n [] = []
+part_gates n (p ∷ ps) = (made_by p n).gates ++ part_gates (n + length (made_by p n).gates) ps
+
+abbrev pub part_clauses : ℕ → List Part → List (List Literal)
+part_clauses n [] = []
+part_clauses n (p ∷ ps) =
+    gates_clauses n (made_by p n).gates ++ (p.tail (made_by p n).signals ++ part_clauses (n + length (made_by p n).gates) ps)
+
+-- each signal is true
+abbrev pub units : List Signal → List (List Literal)
+units ss = map (λ s. literal_of s ∷ []) ss
+
+-- some signal is false
+abbrev pub some_false : List Signal → List (List Literal)
+some_false ss = map opposing ss ∷ []

@@ -1,0 +1,20 @@
+-- Inputs for cells that have numbers.
+use Rattle.std.specs.Prelude.{ℕ, List, map, length}
+use Rattle.std.specs.List.{range_with_len}
+use Rattle.dd_lattice.specs.declared.position.Cell.{Cell}
+use Rattle.dd_circuit.specs.declared.gates.Signal.{Signal}
+use Rattle.dd_circuit.specs.Circuits.{signal_of}
+use Rattle.dd_compile.specs.Wiring.{Wiring}
+use Rattle.dd_problem.specs.Clauses.{input}
+
+-- the signals that say which of m symbols the cell with the number k has
+abbrev pub symbol_signals : ℕ → ℕ → List Signal
+symbol_signals m k = map (λ s. signal_of (input m k s)) (range_with_len 0 m)
+
+-- each cell with the signals of the number at its place
+abbrev pub numbered : ℕ → List Cell → List ℕ → Wiring
+numbered m cells numbers = record { cells = cells; signals = map (symbol_signals m) numbers }
+
+-- the numbers 0, 1, .. in the cells' order
+abbrev pub in_turn : ℕ → List Cell → Wiring
+in_turn m cells = numbered m cells (range_with_len 0 (length cells))

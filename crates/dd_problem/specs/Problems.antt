@@ -1,0 +1,56 @@
+-- The clauses of a box question on a box and on a torus.
+use Rattle.std.specs.Prelude.{ℕ, ◌+◌, ◌*◌, List, [], ◌∷◌, ◌++◌, map, length}
+use Rattle.std.specs.List.{filter, range_with_len}
+use Rattle.dd_lattice.specs.Place.{Place}
+use Rattle.dd_lattice.specs.Cells.{cell, shifted}
+use Rattle.dd_lattice.specs.declared.position.Cell.{Cell}
+use Rattle.dd_clause.specs.declared.clause.Literal.{Literal}
+use Rattle.dd_clause.specs.Clauses.{ClauseList}
+use Rattle.dd_circuit.specs.declared.gates.Signal.{Signal}
+use Rattle.dd_circuit.specs.Circuits.{signal_of}
+use Rattle.dd_compile.specs.Compiling.{Maker, made}
+use Rattle.dd_formula.specs.LocalRule.{LocalRule, expansion_at}
+use Rattle.dd_boxes.specs.Goals.{GoalOf, breaks, always}
+use Rattle.dd_boxes.specs.Boxes.{origin}
+use Rattle.dd_problem.specs.Layouts.{Layout, fits_in, box_layout, torus_layout}
+use Rattle.dd_problem.specs.Clauses.{input, cell_clauses, Part, part_gates, part_clauses, units, some_false}
+
+-- the signal that says that a cell, counted from v, has the symbol s of m
+abbrev pub wire : Layout → ℕ → Place → Cell → ℕ → Signal
+wire l m v c s = signal_of (input m (l.index (shifted v c)) s)
+
+-- the gates of a rule at a place
+abbrev pub place_maker : Layout → ℕ → LocalRule → Cell → Maker
+place_maker l m r d = made (wire l m d.position) (expansion_at r d.node)
+
+-- the rule is true at the place
+abbrev pub premise_part : Layout → LocalRule → Cell → Part
+premise_part l x d = record { makers = place_maker l x.symbols x d ∷ []; tail = units }
+
+-- the goal holds at the origin
+abbrev pub goal_part : Layout → ℕ → GoalOf → Part
+goal_part l m (breaks y) = record { makers = map (λ a. place_maker l m y (cell origin a)) (range_with_len 0 y.nodes); tail = some_false }
+goal_part l m always = record { makers = []; tail = λ _. [] }
+
+-- the premise at each place where it fits, in their order, and then the goal
+abbrev pub problem_parts : Layout → LocalRule → GoalOf → List Part
+problem_parts l x g = map (premise_part l x) (filter (fits_in l x) l.places) ++ goal_part l x.symbols g ∷ []
+
+abbrev pub input_count : Layout → LocalRule → ℕ
+input_count l x = length l.places * x.symbols
+
+abbrev pub problem_clauses : Layout → LocalRule → GoalOf → List (List Literal)
+problem_clauses l x g = cell_clauses x.symbols (length l.places) ++ part_clauses (input_count l x) (problem_parts l x g)
+
+-- the inputs are the first variables, and the gates follow
+abbrev pub problem : Layout → LocalRule → GoalOf → ClauseList
+problem l x g = record {
+  variables = input_count l x + length (part_gates (input_count l x) (problem_parts l x g));
+  clauses = problem_clauses l x g;
+}
+
+abbrev pub box_problem : LocalRule → GoalOf → ℕ → ClauseList
+box_problem x g n = problem (box_layout x n) x g
+
+abbrev pub torus_problem : LocalRule → GoalOf → List ℕ → ClauseList
+torus_problem x g periods = problem (torus_layout x periods) x g

@@ -1,0 +1,49 @@
+-- The clauses of a problem over the signals of any inputs.
+use Rattle.std.specs.Prelude.{ℕ, ◌+◌, ◌*◌, ◌≡◌, Bool, true, List, [], ◌∷◌, ◌++◌, map, length, Some}
+use Rattle.std.specs.List.{list_all, filter, range_with_len}
+use Rattle.dd_lattice.specs.Place.{Place}
+use Rattle.dd_lattice.specs.Cells.{cell}
+use Rattle.dd_lattice.specs.declared.position.Cell.{Cell}
+use Rattle.dd_clause.specs.Clauses.{ClauseList}
+use Rattle.dd_circuit.specs.declared.gates.Signal.{Signal}
+use Rattle.dd_circuit.specs.Circuits.{IsSignal}
+use Rattle.dd_compile.specs.Wiring.{Wiring, wire_of}
+use Rattle.dd_compile.specs.Compiling.{wires_near, are_wired, compiled}
+use Rattle.dd_formula.specs.LocalRule.{LocalRule, expansion_at}
+use Rattle.dd_boxes.specs.Goals.{GoalOf, breaks, always}
+use Rattle.dd_boxes.specs.Boxes.{origin}
+use Rattle.dd_problem.specs.Clauses.{cell_clauses, Part, part_gates, part_clauses, units, some_false}
+
+-- each signal is one of the first n variables
+abbrev pub AreInputs : ℕ → Wiring → Type 0
+AreInputs n w = (c : Cell) (s : ℕ) (signal : Signal) → wire_of w c s ≡ Some signal → IsSignal n signal
+
+-- what the rule asks at the place has its signal
+abbrev pub is_wired_at : Wiring → ℕ → LocalRule → Cell → Bool
+is_wired_at w n x d = are_wired n (wires_near w d.position) (expansion_at x d.node)
+
+abbrev pub wired_part : Wiring → LocalRule → Cell → Part
+wired_part w x d = record { makers = compiled w d.position (expansion_at x d.node) ∷ []; tail = units }
+
+-- the premise at each of the cells where it is wired
+abbrev pub wired_parts : Wiring → ℕ → LocalRule → List Cell → List Part
+wired_parts w n x cells = map (wired_part w x) (filter (is_wired_at w n x) cells)
+
+-- the rule is false at some node of the position
+abbrev pub broken_part : Wiring → LocalRule → Place → Part
+broken_part w y v = record { makers = map (λ a. compiled w v (expansion_at y a)) (range_with_len 0 y.nodes); tail = some_false }
+
+abbrev pub wired_goal : Wiring → GoalOf → Part
+wired_goal w (breaks y) = broken_part w y origin
+wired_goal w always = record { makers = []; tail = λ _. [] }
+
+-- what the goal asks at the origin has its signal
+abbrev pub is_goal_wired : Wiring → ℕ → GoalOf → Bool
+is_goal_wired w n (breaks y) = list_all (λ a. is_wired_at w n y (cell origin a)) (range_with_len 0 y.nodes)
+is_goal_wired w n always = true
+
+abbrev pub wired_problem : Wiring → LocalRule → GoalOf → List Cell → ClauseList
+wired_problem w x g cells =
+    let n = length cells * x.symbols in
+    let parts = wired_parts w n x cells ++ wired_goal w g ∷ [] in
+    record { variables = n + length (part_gates n parts); clauses = cell_clauses x.symbols (length cells) ++ part_clauses n parts }

@@ -1,0 +1,32 @@
+-- Symbols for the cells of a layout, by the cells' numbers.
+use Rattle.std.specs.Prelude.{ℕ, ◌≡◌, ◌<◌, ◌==◌, Bool, List, None, cond, length, slice_get, slice_index_or}
+use Rattle.std.specs.List.{All}
+use Rattle.dd_pattern.specs.Reading.{Look}
+use Rattle.dd_expansion.specs.Truth.{is_symbol}
+use Rattle.dd_problem.specs.Layouts.{Layout}
+use Rattle.dd_problem.specs.Clauses.{input}
+
+-- one of m symbols for each of n cells
+pub record AreSymbols (m n : ℕ) (symbols : List ℕ) : Type 0 where
+  pub as_many : length symbols ≡ n
+  pub below : All (λ s. s < m) symbols
+
+-- of the inputs of each cell exactly that of its symbol is true
+abbrev pub AreRead : (ℕ → Bool) → ℕ → List ℕ → Type 0
+AreRead set m symbols = (k s : ℕ) → k < length symbols → s < m → set (input m k s) ≡ is_symbol s (slice_get symbols k)
+
+-- each cell of the layout has the symbol with its number
+abbrev pub look_of : Layout → List ℕ → Look
+look_of l symbols c = cond (l.has c) (slice_get symbols (l.index c)) None
+
+-- of the inputs of the cell with the number k exactly that of the symbol s is true
+abbrev pub IsSymbolRead : (ℕ → Bool) → ℕ → ℕ → ℕ → Type 0
+IsSymbolRead set m k s = (s < m) × ((t : ℕ) → t < m → set (input m k t) ≡ (s == t))
+
+-- exactly one input of each of n cells is true
+abbrev pub HasOneEach : (ℕ → Bool) → ℕ → ℕ → Type 0
+HasOneEach set m n = (k : ℕ) → k < n → (s : ℕ) × IsSymbolRead set m k s
+
+-- the list has the symbol of each of the first n cells
+abbrev pub AreAllRead : (ℕ → Bool) → ℕ → ℕ → List ℕ → Type 0
+AreAllRead set m n symbols = (length symbols ≡ n) × ((k d : ℕ) → k < n → IsSymbolRead set m k (slice_index_or symbols k d))

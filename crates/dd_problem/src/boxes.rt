@@ -1,0 +1,40 @@
+//! Box questions on a box.
+ghost use Rattle.std.specs.Prelude.{◌≡◌, ◌≤◌, IfOk};
+ghost use Rattle.dd_lattice.specs.Boxes.{centred, volume};
+ghost use Rattle.dd_boxes.specs.Goals.{IsGoalFor};
+ghost use Rattle.dd_boxes.specs.Boxes.{Reaches};
+ghost use Rattle.dd_boxes.specs.Counts.{question_clauses};
+ghost use Rattle.dd_boxes.specs.Views.{goal_of};
+ghost use Rattle.dd_problem.specs.Problems.{box_problem};
+ghost use Rattle.dd_problem.specs.Shows.{Shows, Decides};
+
+use crate::layouts::{cells_of, inputs_in_turn};
+use crate::problems::problem;
+use dd_boxes::Goal;
+use dd_clause::Cnf;
+use dd_formula::Rule;
+use dd_lattice::centred_box;
+use std::alloc::{AllocError, Global};
+
+/// The clauses that ask for an admissible filling of the box of a radius, at least the goal's least one, with the goal at
+/// the origin. The variable `1 + k * symbols + s` says that the `k`-th cell of the box, from 0 in cell order, has the
+/// symbol `s`, and the gates follow.
+pub fn box_clauses(
+    alloc: Global,
+    premise: &Rule,
+    goal: &Goal,
+    radius: u32,
+) -> Result<Cnf, AllocError>
+    requires goal { IsGoalFor premise.now (goal_of goal.now) }
+    requires reaches { Reaches (goal_of goal.now) radius }
+    requires few { question_clauses premise.now (goal_of goal.now) (volume (centred premise.now.dimension radius)) ≤ 2000000 }
+    ensures exact { IfOk result (λ cnf. cnf ≡ box_problem premise.now (goal_of goal.now) radius) }
+    ensures shows { IfOk result (λ cnf. Shows cnf.clauses premise.now (goal_of goal.now) radius) }
+    ensures decides { IfOk result (λ cnf. Decides cnf.clauses premise.now (goal_of goal.now) radius) }
+{
+    let symbols = premise.symbols();
+    let bounds = centred_box(premise.dim(), radius).unwrap();
+    let cells = cells_of(alloc, &bounds, premise.nodes())?;
+    let inputs = inputs_in_turn(alloc, &cells, symbols)?;
+    problem(alloc, premise, goal, &cells, &inputs)
+}

@@ -1,0 +1,15 @@
+//! Box questions as clauses.
+#![tactic(auto)]
+
+mod boxes;
+mod gates;
+mod layouts;
+mod one_hot;
+mod problems;
+mod tori;
+mod witnesses;
+
+pub use boxes::box_clauses;
+pub use dd_boxes::{Goal, least_radius};
+pub use tori::torus_clauses;
+pub use witnesses::read_torus;

@@ -1,0 +1,38 @@
+//! All clauses of a problem.
+ghost use Rattle.std.specs.Prelude.{◌≡◌, ◌≤◌, ◌<◌, ◌*◌, ◌^◌, true, length, All, IfOk};
+ghost use Rattle.dd_boxes.specs.Views.{goal_of};
+ghost use Rattle.dd_problem.specs.Pushed.{AreInputs, is_goal_wired, wired_problem};
+
+use crate::gates::{push_goal, push_places};
+use crate::one_hot::push_cells;
+use dd_boxes::Goal;
+use dd_circuit::Circuit;
+use dd_clause::Cnf;
+use dd_compile::Inputs;
+use dd_formula::Rule;
+use dd_lattice::Cell;
+use std::alloc::{AllocError, Global};
+
+/// The clauses that say that each of the cells has one symbol, that the premise is true at each cell where all that it
+/// reads has inputs, and that the goal holds at the origin.
+pub(crate) fn problem(
+    alloc: Global,
+    premise: &Rule,
+    goal: &Goal,
+    cells: &[Cell],
+    inputs: &Inputs,
+) -> Result<Cnf, AllocError>
+    requires nodes { All (λ d. d.node < premise.now.nodes) cells.now }
+    requires signals { AreInputs (length cells.now * premise.now.symbols) inputs.now }
+    requires wired { is_goal_wired inputs.now (length cells.now * premise.now.symbols) (goal_of goal.now) ≡ true }
+    requires few { (wired_problem inputs.now premise.now (goal_of goal.now) cells.now).variables ≤ 2 ^ 24 }
+    ensures { IfOk result (λ cnf. cnf ≡ wired_problem inputs.now premise.now (goal_of goal.now) cells.now) }
+{
+    let count = (cells.len() * premise.symbols() as usize) as u32;
+    let mut circuit = Circuit::new(alloc, count);
+    let mut cnf = Cnf::new(alloc, count);
+    push_cells(alloc, &mut cnf, cells.len() as u32, premise.symbols())?;
+    push_places(alloc, &mut cnf, &mut circuit, premise, cells, inputs)?;
+    push_goal(alloc, &mut cnf, &mut circuit, goal, inputs)?;
+    Ok(cnf)
+}

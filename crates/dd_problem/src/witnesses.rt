@@ -1,0 +1,73 @@
+//! The configuration that a satisfying assignment of a torus's clauses stands for.
+ghost use Rattle.std.specs.Prelude.{◌≡◌, ◌≤◌, ◌<◌, ◌+◌, ◌*◌, ℕ, length, All, IfOk};
+ghost use Rattle.dd_clause.specs.Clauses.{true_variables};
+ghost use Rattle.dd_pattern.specs.Tile.{Tile, volume};
+ghost use Rattle.dd_formula.specs.Living.{Fits};
+ghost use Rattle.dd_boxes.specs.Witnesses.{ArePeriods, HasPeriods};
+ghost use Rattle.dd_problem.specs.Layouts.{torus};
+ghost use Rattle.dd_problem.specs.Symbols.{AreAllRead, AreRead, HasOneEach, IsSymbolRead};
+
+use dd_clause::Assignment;
+use dd_formula::Rule;
+use dd_pattern::Periodic;
+use std::alloc::{AllocError, Global};
+
+/// The symbol of the cell with this number: the one of which the input is true.
+fn symbol_read(values: &[bool], number: u32, symbols: u32) -> u32
+    requires one { (s : ℕ) × IsSymbolRead (true_variables values.now) symbols number s }
+    requires full { number * symbols + symbols ≤ length values.now }
+    ensures { IsSymbolRead (true_variables values.now) symbols number result }
+{
+    for symbol in 0..symbols {
+        let input = u64::from(number) * u64::from(symbols) + u64::from(symbol);
+        if values[input as usize] {
+            return symbol;
+        }
+    }
+    0
+}
+
+/// The symbols of the cells with the numbers from 0 on.
+fn symbols_read(
+    alloc: Global,
+    values: &[bool],
+    count: u32,
+    symbols: u32,
+) -> Result<Vec<u32>, AllocError>
+    requires one_each { HasOneEach (true_variables values.now) symbols count }
+    requires full { count * symbols ≤ length values.now }
+    ensures { IfOk result (λ v. AreAllRead (true_variables values.now) symbols count v.items) }
+{
+    let mut read = Vec::with_capacity(alloc, count as usize)?;
+    for number in 0..count {
+        read.push(symbol_read(values, number, symbols))?;
+    }
+    Ok(read)
+}
+
+/// The configuration of these periods in which each cell of the fundamental box has the symbol of which the input is true.
+pub fn read_torus(
+    alloc: Global,
+    premise: &Rule,
+    periods: [u32; 3],
+    found: &Assignment,
+) -> Result<Periodic, AllocError>
+    requires periods { ArePeriods premise.now.dimension periods }
+    requires full { volume (torus premise.now periods) * premise.now.nodes * premise.now.symbols ≤ length found.now }
+    requires one_each { HasOneEach (true_variables found.now) premise.now.symbols (volume (torus premise.now periods) * premise.now.nodes) }
+    ensures read { IfOk result (λ t. AreRead (true_variables found.now) premise.now.symbols t.symbols) }
+    ensures periods { IfOk result (λ t. HasPeriods periods t) }
+    ensures fits { IfOk result (λ t. Fits premise.now t) }
+    ensures only { IfOk result (λ t. (u : Tile) → HasPeriods periods u → Fits premise.now u →
+        AreRead (true_variables found.now) premise.now.symbols u.symbols → length u.symbols ≡ length t.symbols → u ≡ t) }
+{
+    let [along_x, along_y, along_z] = periods;
+    let nodes = premise.nodes();
+    let count = along_z * along_y * along_x * nodes;
+    let symbols = symbols_read(alloc, found.values(), count, premise.symbols())?;
+    Ok(
+        Periodic::new(premise.dim(), periods, nodes, symbols)
+            .ok()
+            .unwrap(),
+    )
+}

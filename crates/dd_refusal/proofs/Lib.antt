@@ -1,0 +1,4 @@
+pub mod Fronts
+pub mod Products
+pub mod Greatest
+pub mod Repeats

@@ -1,0 +1,14 @@
+//! What is wrong with the commands of a script.
+#![tactic(auto)]
+
+mod accepting;
+mod known;
+mod meaning;
+mod misfits;
+mod resolving;
+mod sizes;
+mod twices;
+
+pub use accepting::accept;
+pub use known::{Known, Limits};
+pub use meaning::{CaseOf, Meaning};

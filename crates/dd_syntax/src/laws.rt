@@ -1,0 +1,18 @@
+ghost use Rattle.std.specs.Prelude.{◌≡◌, ℕ, List};
+ghost use Rattle.dd_syntax.specs.declared.script.Syntax.{Syntax};
+ghost use Rattle.dd_syntax.specs.Scripts.{IsScript, IsFault};
+
+/// Bytes are the text of one tree at most.
+pub fn one_tree()
+    ensures { (bytes : List ℕ) (s t : Syntax) → IsScript bytes s → IsScript bytes t → s ≡ t }
+{}
+
+/// Bytes have one first fault at most.
+pub fn one_fault()
+    ensures { (bytes : List ℕ) (m n : ℕ) → IsFault bytes m → IsFault bytes n → m ≡ n }
+{}
+
+/// Bytes with a tree have no fault.
+pub fn tree_or_fault()
+    ensures { (bytes : List ℕ) (s : Syntax) (n : ℕ) → IsScript bytes s → IsFault bytes n → ⊥ }
+{}
