@@ -18,3 +18,4 @@ pub use dd_expansion::{BallOf, Expanded, Formula, Term};
 pub use fault::RuleFault;
 pub use lives::Membership;
 pub use rule::Rule;
+pub use tree_size::tree_size;

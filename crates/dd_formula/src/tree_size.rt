@@ -4,9 +4,10 @@ ghost use Rattle.dd_expansion.specs.Leaves.{instances};
 
 use dd_expansion::Expanded;
 
+/// The number of nodes of an expansion.
 #[cycle(tree_size)]
 #[tactic(auto, using(crate::proofs::TreeSizes::layers))]
-pub(crate) fn tree_size(expanded: &Expanded) -> u32
+pub fn tree_size(expanded: &Expanded) -> u32
     requires { instances expanded.now < 2 ^ 32 }
     ensures { result ≡ instances expanded.now }
 {
