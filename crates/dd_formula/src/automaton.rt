@@ -9,7 +9,7 @@ use crate::counts::plus;
 use crate::making::MOST_INSTANCES;
 use crate::rule::Rule;
 use crate::shifting::push_shifted;
-use crate::tree_size::tree_size;
+use crate::tree_sizes::tree_size;
 use dd_lattice::{Cell, in_order};
 use dd_values::{Boxed, Items};
 use std::alloc::{AllocError, Global};

@@ -10,7 +10,7 @@ mod lives;
 mod making;
 mod rule;
 mod shifting;
-mod tree_size;
+mod tree_sizes;
 
 pub use automaton::{Automaton, Cases};
 pub use counts::plus;
@@ -18,4 +18,4 @@ pub use dd_expansion::{BallOf, Expanded, Formula, Term};
 pub use fault::RuleFault;
 pub use lives::Membership;
 pub use rule::Rule;
-pub use tree_size::tree_size;
+pub use tree_sizes::tree_size;

@@ -4,7 +4,7 @@ use denote.Param.Weighed.{at_most}
 use Rattle.dd_expansion.specs.Leaves.{instances}
 use Rattle.dd_expansion.proofs.expanded.Expanded.TheLaws.{the_size}
 use Rattle.dd_formula.proofs.TreeSizes.{instances_and, joined}
-use Rattle.dd_formula.proofs.tree_size.+tree_size.Goals as goal
+use Rattle.dd_formula.proofs.tree_sizes.+tree_size.Goals as goal
 
 pub joined_size-tree_size-nodes-requires : goal.joined_size-tree_size-nodes-requires
 joined_size-tree_size-nodes-requires t c =
