@@ -1,0 +1,4 @@
+pub mod OrderLaws
+pub mod CountLaws
+pub mod LimitLaws
+pub mod ShownLaws

@@ -1,0 +1,35 @@
+-- Whether two rules allow the same configurations.
+use Rattle.std.specs.Prelude.{ℕ, ◌≡◌}
+use Rattle.dd_formula.specs.LocalRule.{LocalRule}
+use Rattle.dd_boxes.specs.Goals.{breaks}
+use Rattle.dd_contain.specs.declared.decision.Decision.{Decision}
+use Rattle.dd_contain.specs.declared.decision.Decision.TheVariants.{Yes, No, Unknown}
+use Rattle.dd_contain.specs.declared.equal.Side.TheVariants.{Left, Right}
+use Rattle.dd_contain.specs.declared.equal.Equality.{Equality}
+use Rattle.dd_contain.specs.declared.equal.Equality.TheVariants.{Yes as Same, No as Differ, Unknown as Open}
+use Rattle.dd_contain.specs.Questions.{IsDecided}
+
+-- two answers as one: NO left where the left one is NO, else NO right where the right one is, else YES where both are
+abbrev pub joined : Decision → Decision → Equality
+joined (No tile) right = Differ Left tile
+joined (Yes n steps) (No tile) = Differ Right tile
+joined Unknown (No tile) = Differ Right tile
+joined (Yes n steps) (Yes m others) = Same (record { radius = n; steps = steps }) (record { radius = m; steps = others })
+joined (Yes n steps) Unknown = Open
+joined Unknown (Yes m others) = Open
+joined Unknown Unknown = Open
+
+-- P, unless the answer is NO
+abbrev pub UnlessNo : Decision → Type 0 → Type 0
+UnlessNo (No tile) P = Unit {0}
+UnlessNo (Yes n steps) P = P
+UnlessNo Unknown P = P
+
+-- Both questions are decided, whether a configuration of x breaks y and whether one of y breaks x, and this is the join of
+-- their answers. Where the left answer is NO nothing is said of the right question.
+pub record IsEqualDecided (x y : LocalRule) (n p : ℕ) (equality : Equality) : Type 0 where
+  pub left : Decision
+  pub right : Decision
+  pub left_decided : IsDecided x (breaks y) n p left
+  pub right_decided : UnlessNo left (IsDecided y (breaks x) n p right)
+  pub join : equality ≡ joined left right

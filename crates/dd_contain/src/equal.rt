@@ -1,0 +1,91 @@
+//! Whether two rules allow the same configurations: each question asks for a configuration of one rule that breaks the
+//! other.
+ghost use Rattle.std.specs.Prelude.{◌≡◌, ◌≤◌, IfOk};
+ghost use Rattle.dd_boxes.specs.Goals.{breaks, IsGoalFor};
+ghost use Rattle.dd_contain.specs.Questions.{IsSmallQuestion};
+ghost use Rattle.dd_contain.specs.Equal.{joined, IsEqualDecided};
+
+use crate::decision::{Decision, Enough};
+use crate::questions::decide;
+use dd_boxes::Goal;
+use dd_formula::Rule;
+use dd_pattern::Periodic;
+use std::alloc::{AllocError, Global};
+
+/// Which of the two rules is the premise.
+#[derive(Debug, Clone, Copy, PartialEq, Eq)]
+pub enum Side {
+    Left,
+    Right,
+}
+
+/// What is decided of two rules.
+#[derive(Debug, Drop)]
+pub enum Equality {
+    /// No configuration of either rule breaks the other; each with the least radius that suffices.
+    Yes { left: Enough, right: Enough },
+    /// A configuration of the side's rule that breaks the other.
+    No { side: Side, periodic: Periodic },
+    /// Neither within the limits.
+    Unknown,
+}
+
+/// The answers of the two questions as one.
+fn joined(left: Decision, right: Decision) -> Equality
+    ensures { result ≡ joined left right }
+{
+    match (left, right) {
+        (Decision::No { periodic }, _) => Equality::No {
+            side: Side::Left,
+            periodic,
+        },
+        (_, Decision::No { periodic }) => Equality::No {
+            side: Side::Right,
+            periodic,
+        },
+        (
+            Decision::Yes { radius, steps },
+            Decision::Yes {
+                radius: other,
+                steps: others,
+            },
+        ) => {
+            Equality::Yes {
+                left: Enough { radius, steps },
+                right: Enough {
+                    radius: other,
+                    steps: others,
+                },
+            }
+        }
+        _ => Equality::Unknown,
+    }
+}
+
+/// Decides whether two rules allow the same configurations, by the left question, whether a configuration of `left` can
+/// break `right`, and the right one, with the two exchanged: NO left where the left answer is NO; otherwise NO right where
+/// the right one is NO; otherwise YES where both are YES; otherwise unknown. The limits are those of `decide`.
+pub fn decide_equal(
+    alloc: Global,
+    left: &Rule,
+    right: &Rule,
+    radius: u32,
+    period: u32,
+) -> Result<Equality, AllocError>
+    requires radius { radius ≤ 8 }
+    requires period { (1 ≤ period) × (period ≤ 8) }
+    requires left_goal { IsGoalFor left.now (breaks right.now) }
+    requires right_goal { IsGoalFor right.now (breaks left.now) }
+    requires left_small { IsSmallQuestion left.now (breaks right.now) radius period }
+    requires right_small { IsSmallQuestion right.now (breaks left.now) radius period }
+    ensures { IfOk result (IsEqualDecided left.now right.now radius period) }
+{
+    match decide(alloc, left, &Goal::Breaks(right), radius, period)? {
+        // The right answer would change nothing.
+        Decision::No { periodic } => Ok(joined(Decision::No { periodic }, Decision::Unknown)),
+        first => {
+            let second = decide(alloc, right, &Goal::Breaks(left), radius, period)?;
+            Ok(joined(first, second))
+        }
+    }
+}

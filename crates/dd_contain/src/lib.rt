@@ -1,0 +1,11 @@
+//! The decision of box questions.
+#![tactic(auto)]
+
+mod decision;
+mod equal;
+mod questions;
+mod search;
+
+pub use decision::{Decision, Enough};
+pub use equal::{Equality, Side, decide_equal};
+pub use questions::decide;

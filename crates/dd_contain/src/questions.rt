@@ -1,0 +1,103 @@
+//! The questions that the search asks of boxes and of periods.
+ghost use Rattle.std.specs.Prelude.{◌≡◌, ◌≤◌, IfOk, IfSome};
+ghost use Rattle.dd_formula.specs.LocalRule.{IsRule};
+ghost use Rattle.dd_boxes.specs.Boxes.{Suffices};
+ghost use Rattle.dd_boxes.specs.Goals.{IsGoalFor};
+ghost use Rattle.dd_boxes.specs.Views.{goal_of};
+ghost use Rattle.dd_contain.specs.Questions.{Refutes, ShowsAt, Displays, AsksRadius, AsksPeriods, greatest_periods, IsSmallQuestion, IsDecided};
+
+use crate::decision::Decision;
+use crate::search::{Periods, Questions, search};
+use dd_boxes::{Goal, least_radius};
+use dd_derivation::{Outcome, Step};
+use dd_formula::Rule;
+use dd_pattern::Periodic;
+use dd_problem::{box_clauses, read_torus, torus_clauses};
+use dd_solver::solve;
+use dd_values::Items;
+use std::alloc::{AllocError, Global};
+
+/// Can a configuration that obeys the premise have the goal?
+#[derive(Clone, Copy)]
+struct BoxQuestion<'a> {
+    alloc: Global,
+    premise: &'a Rule,
+    goal: &'a Goal<'a>,
+}
+
+impl<'a> Questions for BoxQuestion<'a> {
+    ghost suffices = { λ q n. Suffices q.premise.now (goal_of q.goal.now) n };
+
+    ghost refutes = { λ q n steps. Refutes q.premise.now (goal_of q.goal.now) n steps };
+
+    ghost shows = { λ q p. ShowsAt q.premise.now (goal_of q.goal.now) p };
+
+    ghost displays = { λ q p t. Displays q.premise.now (goal_of q.goal.now) p t };
+
+    ghost asks_radius = { λ q n. AsksRadius q.premise.now (goal_of q.goal.now) n };
+
+    ghost asks_periods = { λ q p. AsksPeriods q.premise.now (goal_of q.goal.now) p };
+
+    fn refutation(&self, radius: u32) -> Result<Option<Items<Step>>, AllocError> {
+        let cnf = box_clauses(self.alloc, self.premise, self.goal, radius)?;
+        match solve(self.alloc, &cnf)? {
+            Outcome::Refuted(steps) => Ok(Some(steps)),
+            Outcome::Found(_) => Ok(None),
+        }
+    }
+
+    fn configuration(&self, at: &Periods) -> Result<Option<Periodic>, AllocError> {
+        let periods = [at.x, at.y, at.z];
+        let cnf = torus_clauses(self.alloc, self.premise, self.goal, periods)?;
+        match solve(self.alloc, &cnf)? {
+            Outcome::Found(found) => {
+                let periodic = read_torus(self.alloc, self.premise, periods, &found)?;
+                let _symbols = periodic.symbols();
+                Ok(Some(periodic))
+            }
+            Outcome::Refuted(_) => Ok(None),
+        }
+    }
+}
+
+/// The greatest periods that are tried: `period` along the premise's axes, and 1 along the others.
+fn greatest_periods(premise: &Rule, period: u32) -> Periods
+    ensures value { result ≡ greatest_periods premise.now.dimension period }
+    ensures kept { IsRule premise.now }
+{
+    let dim = premise.dim();
+    let _nodes = premise.nodes();
+    Periods {
+        x: period,
+        y: if dim > 1 { period } else { 1 },
+        z: if dim > 2 { period } else { 1 },
+    }
+}
+
+/// Decides a box question, with boxes of a radius of at most `radius`, or the goal's least radius where that is greater,
+/// and periods of at most `period`: YES with the least radius that suffices; otherwise NO with the first periods, by
+/// volume and then in lexicographic order, of a configuration that obeys the premise and has the goal at the origin;
+/// otherwise unknown.
+pub fn decide(
+    alloc: Global,
+    premise: &Rule,
+    goal: &Goal,
+    radius: u32,
+    period: u32,
+) -> Result<Decision, AllocError>
+    requires radius { radius ≤ 8 }
+    requires period { (1 ≤ period) × (period ≤ 8) }
+    requires goal { IsGoalFor premise.now (goal_of goal.now) }
+    requires small { IsSmallQuestion premise.now (goal_of goal.now) radius period }
+    ensures { IfOk result (IsDecided premise.now (goal_of goal.now) radius period) }
+{
+    let least = least_radius(alloc, goal)?;
+    let most = radius.max(least);
+    let tops = greatest_periods(premise, period);
+    let question = BoxQuestion {
+        alloc,
+        premise,
+        goal,
+    };
+    search(&question, least, most, &tops)
+}
