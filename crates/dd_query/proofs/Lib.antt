@@ -1,0 +1,9 @@
+pub mod FaultlessLaws
+pub mod ShapeLaws
+pub mod TextLaws
+pub mod VectorLaws
+pub mod SoundLaws
+pub mod FarthestLaws
+pub mod CutLaws
+pub mod LimitLaws
+pub mod ReadLaws

@@ -1,0 +1,9 @@
+use Rattle.std.proofs.Common.{◌≡◌, ◌≤◌}
+use Rattle.dd_query.specs.Limits.{farthest, automaton_cells}
+use Rattle.dd_query.proofs.aims.automaton_radius.Given as goal
+
+abbrev pub invariant-loop-node : goal.invariant-loop-node
+invariant-loop-node l = record {
+  value : l.radius ≡ farthest (automaton_cells l.node l.automaton);
+  near : l.radius ≤ 16;
+}

@@ -1,0 +1,26 @@
+use Rattle.std.proofs.Common.{◌≡◌, ap, ◌∙◌, arith}
+use Rattle.dd_formula.specs.declared.automaton.Automaton.{Automaton}
+use Rattle.dd_formula.specs.Counts.{cut}
+use Rattle.dd_counts.specs.Clauses.{differ_clauses}
+use Rattle.dd_query.specs.Limits.{farthest, automaton_cells}
+use Rattle.dd_query.proofs.FarthestLaws.{farthest-append}
+use Rattle.dd_query.proofs.aims.differing.Goals as goal
+
+pub returns : goal.returns
+returns c =
+    let rule = c.args.premise.now in
+    let f : Automaton = c.args.left.now in
+    let g : Automaton = c.args.right.now in
+    let left = c.in_ok-left_radius.left_radius in
+    let right = c.in_ok-right_radius.right_radius in
+    let at_left : left ≡ farthest (automaton_cells rule.nodes f) = c.in_ok-left_radius.ensures.value ∙ ap (λ n. farthest (automaton_cells n f)) c.nodes-nodes.ensures.value in
+    let at_right : right ≡ farthest (automaton_cells rule.nodes g) = c.in_ok-right_radius.ensures.value ∙ ap (λ n. farthest (automaton_cells n g)) c.nodes-nodes.ensures.value in
+    let both = farthest-append (automaton_cells rule.nodes f) (automaton_cells rule.nodes g) in
+    record {
+      radius = omega (arith, c.max.ensures, at_left, at_right, both);
+      near = omega (arith, c.max.ensures, c.in_ok-left_radius.ensures.near, c.in_ok-right_radius.ensures.near);
+      clauses =
+          c.in_ok-clauses.ensures
+          ∙ (ap (λ n. cut 2000000 (differ_clauses n c.nodes-nodes.result f g)) c.symbols-symbols.ensures.value
+          ∙ ap (λ n. cut 2000000 (differ_clauses rule.symbols n f g)) c.nodes-nodes.ensures.value);
+    }

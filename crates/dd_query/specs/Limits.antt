@@ -1,0 +1,97 @@
+-- Limits on the work that queries ask for.
+use Rattle.std.specs.Prelude.{ℕ, ◌*◌, List, [], ◌++◌, map, max, Bool, ◌||◌, nat_lt, slice_index, Option}
+use Rattle.std.specs.List.{flat_map, list_any, range_with_len, slice_get}
+use Rattle.std.specs.Option.{option_map_or}
+use Rattle.dd_lattice.specs.declared.position.Cell.{Cell}
+use Rattle.dd_topology.specs.Topology.{extent}
+use Rattle.dd_expansion.specs.Limits.{greatest}
+use Rattle.dd_formula.specs.LocalRule.{LocalRule}
+use Rattle.dd_formula.specs.Automata.{cells_of}
+use Rattle.dd_formula.specs.declared.automaton.Automaton.{Automaton}
+use Rattle.dd_counts.specs.Rules.{patterns, all_cells, states, longer_states}
+use Rattle.dd_counts.specs.Clauses.{place_clauses, broken_clauses, differ_clauses, question_clauses}
+use Rattle.dd_naming.specs.declared.fault.Fault.{Fault}
+use Rattle.dd_naming.specs.declared.fault.Limit.TheVariants as limit
+use Rattle.dd_refusal.specs.declared.known.Known.{Known}
+use Rattle.dd_refusal.specs.Sizes.{over}
+use Rattle.dd_query.specs.declared.queries.Query.{Query}
+use Rattle.dd_query.specs.declared.queries.Query.TheVariants as query
+
+-- ---- box questions
+
+-- how far the farthest cell lies from the origin
+abbrev pub cell_extent : Cell → ℕ
+cell_extent c = extent c.position
+
+abbrev pub farthest : List Cell → ℕ
+farthest cs = greatest (map cell_extent cs)
+
+-- a goal, by how far it reads and how many clauses it has
+pub record Aim : Type 0 where
+  pub radius : ℕ
+  pub clauses : ℕ
+
+abbrev pub anything : Aim
+anything = record { radius = 0; clauses = 0 }
+
+abbrev pub breaking : LocalRule → Aim
+breaking y = record { radius = farthest (all_cells y); clauses = broken_clauses y }
+
+-- the cells that an automaton reads at the first n nodes
+abbrev pub automaton_cells : ℕ → Automaton → List Cell
+automaton_cells n f = flat_map (cells_of f) (range_with_len 0 n)
+
+abbrev pub differing : LocalRule → Automaton → Automaton → Aim
+differing x f g =
+    record {
+      radius = farthest (automaton_cells x.nodes f ++ automaton_cells x.nodes g);
+      clauses = differ_clauses x.symbols x.nodes f g;
+    }
+
+-- the clauses of a question with this premise, in the largest box or torus that may be tried
+abbrev pub clauses_of : Known → LocalRule → Aim → ℕ
+clauses_of k x g = question_clauses x.dimension (max k.limits.radius g.radius) k.limits.period (place_clauses x) g.clauses
+
+abbrev pub is_long : Known → LocalRule → Aim → Bool
+is_long k x g = nat_lt 2000000 (clauses_of k x g)
+
+-- ---- queries
+
+abbrev pub has_many_patterns : LocalRule → Bool
+has_many_patterns r = list_any (λ a. nat_lt 65536 (patterns r a)) (range_with_len 0 r.nodes)
+
+abbrev pub has_many_states : LocalRule → ℕ → Bool
+has_many_states r volume = nat_lt 4096 (states r volume) || nat_lt 131072 (longer_states r volume)
+
+abbrev pub strip_volume : List ℕ → ℕ
+strip_volume strip = slice_index strip 0 * slice_index strip 1
+
+-- what is said of the item with a number, and no fault where there is none
+abbrev pub about : {X : Type 0} → List X → ℕ → (X → List Fault) → List Fault
+about xs n faults = option_map_or faults (slice_get xs n) []
+
+abbrev pub contains_sizes : Known → LocalRule → LocalRule → List Fault
+contains_sizes k outer inner = over (is_long k inner (breaking outer)) limit.Clauses
+
+abbrev pub equal_sizes : Known → LocalRule → LocalRule → List Fault
+equal_sizes k left right = over (is_long k left (breaking right) || is_long k right (breaking left)) limit.Clauses
+
+abbrev pub empty_sizes : Known → LocalRule → List Fault
+empty_sizes k x = over (is_long k x anything) limit.Clauses
+
+abbrev pub agree_sizes : Known → Automaton → Automaton → LocalRule → List Fault
+agree_sizes k f g x = over (is_long k x (differing x f g)) limit.Clauses
+
+abbrev pub query_sizes : Known → List LocalRule → List Automaton → Query → List Fault
+query_sizes k rules automata (query.Contains outer inner) = about rules outer (λ y. about rules inner (λ x. contains_sizes k y x))
+query_sizes k rules automata (query.Equal left right) = about rules left (λ x. about rules right (λ y. equal_sizes k x y))
+query_sizes k rules automata (query.Empty rule) = about rules rule (empty_sizes k)
+query_sizes k rules automata (query.Agree left right rule) =
+    about automata left (λ f. about automata right (λ g. about rules rule (λ x. agree_sizes k f g x)))
+query_sizes k rules automata (query.Forbidden rule) = about rules rule (λ r. over (has_many_patterns r) limit.Patterns)
+query_sizes k rules automata (query.Density rule strip) = about rules rule (λ r. over (has_many_states r (strip_volume strip)) limit.States)
+query_sizes k rules automata q = []
+
+-- of a command, where it makes a query
+abbrev pub asked_sizes : Known → List LocalRule → List Automaton → Option Query → List Fault
+asked_sizes k rules automata q = option_map_or (query_sizes k rules automata) q []

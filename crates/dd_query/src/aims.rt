@@ -1,0 +1,130 @@
+//! What box questions look for: how far that reads, and how many clauses it takes.
+ghost use Rattle.std.specs.Prelude.{◌≡◌, ◌≤◌, IfOk};
+ghost use Rattle.dd_topology.specs.Topology.{extent};
+ghost use Rattle.dd_formula.specs.Compositions.{HaveNodes};
+ghost use Rattle.dd_counts.specs.Rules.{all_cells};
+ghost use Rattle.dd_header.specs.Sound.{IsSound};
+ghost use Rattle.dd_query.specs.Limits.{farthest, automaton_cells, anything, breaking, differing, is_long};
+ghost use Rattle.dd_query.specs.Limits.{Aim as Goal};
+ghost use Rattle.dd_query.specs.Measured.{HasNodes, IsMeasureOf};
+
+use dd_counts::{broken_clauses, differ_clauses, place_clauses, question_clauses};
+use dd_formula::{Automaton, Rule};
+use dd_lattice::{Cell, Position};
+use dd_refusal::Known;
+use std::alloc::{AllocError, Global};
+
+/// The greatest number of clauses of a box question.
+const MOST_CLAUSES: u32 = 2_000_000;
+
+/// A goal, by how far it reads and how many clauses it has; past the limit that number is cut off.
+#[derive(Clone, Copy)]
+pub(crate) struct Aim {
+    radius: u32,
+    clauses: u32,
+}
+
+/// The greatest absolute value of a coordinate.
+fn extent(position: &Position) -> u32
+    ensures { result ≡ extent position.now }
+{
+    let along_y_and_z = position.y.unsigned_abs().max(position.z.unsigned_abs());
+    position.x.unsigned_abs().max(along_y_and_z)
+}
+
+/// How far the farthest of the cells lies from the origin.
+fn farthest(cells: &[Cell]) -> u32
+    ensures { result ≡ farthest cells.now }
+{
+    let mut greatest = 0;
+    for cell in cells {
+        greatest = greatest.max(extent(&cell.position));
+    }
+    greatest
+}
+
+/// How far a rule reads, at any node.
+fn rule_radius(rule: &Rule) -> u32
+    ensures value { result ≡ farthest (all_cells rule.now) }
+    ensures near { result ≤ 16 }
+{
+    let mut radius = 0;
+    for node in 0..rule.nodes() {
+        radius = radius.max(farthest(rule.reads(node)));
+    }
+    radius
+}
+
+/// How far an automaton reads, at any of the nodes.
+fn automaton_radius(alloc: Global, automaton: &Automaton, nodes: u32) -> Result<u32, AllocError>
+    requires { HasNodes automaton.now nodes }
+    ensures value { IfOk result (λ n. n ≡ farthest (automaton_cells nodes automaton.now)) }
+    ensures near { IfOk result (λ n. n ≤ 16) }
+{
+    let mut radius = 0;
+    for node in 0..nodes {
+        radius = radius.max(farthest(&automaton.reads(alloc, node)?));
+    }
+    Ok(radius)
+}
+
+/// The goal that always holds.
+pub(crate) fn anything() -> Aim
+    ensures { IsMeasureOf result anything }
+{
+    Aim {
+        radius: 0,
+        clauses: 0,
+    }
+}
+
+/// The goal that some node of the origin breaks a rule.
+pub(crate) fn breaking(rule: &Rule) -> Aim
+    ensures { IsMeasureOf result (breaking rule.now) }
+{
+    Aim {
+        radius: rule_radius(rule),
+        clauses: broken_clauses(rule, MOST_CLAUSES),
+    }
+}
+
+/// The goal that two automata differ at some node of the origin.
+pub(crate) fn differing(
+    alloc: Global,
+    premise: &Rule,
+    left: &Automaton,
+    right: &Automaton,
+) -> Result<Aim, AllocError>
+    requires { HaveNodes left.now right.now premise.now.nodes }
+    ensures { IfOk result (λ aim. IsMeasureOf aim (differing premise.now left.now right.now)) }
+{
+    let nodes = premise.nodes();
+    let symbols = premise.symbols();
+    let left_radius = automaton_radius(alloc, left, nodes)?;
+    let right_radius = automaton_radius(alloc, right, nodes)?;
+    let clauses = differ_clauses(alloc, left, right, nodes, symbols, MOST_CLAUSES)?;
+    Ok(Aim {
+        radius: left_radius.max(right_radius),
+        clauses,
+    })
+}
+
+/// Whether the question with this premise and this goal has too many clauses, in the largest box or torus that may be tried.
+pub(crate) fn is_long(known: &Known, premise: &Rule, aim: Aim) -> bool
+    requires sound { IsSound known.now }
+    requires near { aim.radius ≤ 16 }
+    ensures { (g : Goal) → IsMeasureOf aim g → result ≡ is_long known.now premise.now g }
+{
+    let limits = &known.limits;
+    let radius = limits.radius.max(aim.radius);
+    let place = place_clauses(premise, MOST_CLAUSES);
+    let clauses = question_clauses(
+        premise.dim(),
+        radius,
+        limits.period,
+        place,
+        aim.clauses,
+        MOST_CLAUSES,
+    );
+    clauses > MOST_CLAUSES
+}

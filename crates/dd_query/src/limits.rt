@@ -1,0 +1,139 @@
+//! Limits on the work that queries ask for.
+ghost use Rattle.std.specs.Prelude.{◌≡◌, ◌≤◌, slice_index};
+ghost use Rattle.dd_formula.specs.Compositions.{HaveNodes};
+ghost use Rattle.dd_naming.specs.Resolving.{Accepts};
+ghost use Rattle.dd_refusal.specs.Sizes.{over};
+ghost use Rattle.dd_header.specs.Sound.{IsSound};
+ghost use Rattle.dd_query.specs.Limits.{has_many_patterns, has_many_states, strip_volume, contains_sizes, equal_sizes, empty_sizes, agree_sizes, query_sizes};
+ghost use Rattle.dd_query.specs.Made.{AreMade};
+ghost use Rattle.dd_query.specs.Sound.{HasNumbers, HasShape};
+
+use crate::aims::{anything, breaking, differing, is_long};
+use crate::queries::Query;
+use dd_counts::{longer_states, patterns, states};
+use dd_formula::{Automaton, Rule};
+use dd_naming::{Fault, Limit, Refusal};
+use dd_refusal::Known;
+use std::alloc::Global;
+
+/// The greatest number of patterns at a node.
+const MOST_PATTERNS: u32 = 65_536;
+
+/// The greatest number of states of a transfer graph, and of fillings of one slice more.
+const MOST_STATES: u32 = 4_096;
+
+const MOST_LONGER_STATES: u32 = 131_072;
+
+fn within(passed: bool, limit: Limit) -> Result<(), Refusal>
+    ensures { Accepts result (over passed limit) }
+{
+    if passed {
+        return Err(Refusal::At(Fault::Size(limit)));
+    }
+    Ok(())
+}
+
+fn has_many_patterns(rule: &Rule) -> bool
+    ensures { result ≡ has_many_patterns rule.now }
+{
+    for node in 0..rule.nodes() {
+        if patterns(rule, node, MOST_PATTERNS) > MOST_PATTERNS {
+            return true;
+        }
+    }
+    false
+}
+
+fn has_many_states(rule: &Rule, volume: u32) -> bool
+    ensures { result ≡ has_many_states rule.now volume }
+{
+    states(rule, volume, MOST_STATES) > MOST_STATES
+        || longer_states(rule, volume, MOST_LONGER_STATES) > MOST_LONGER_STATES
+}
+
+fn strip_volume(strip: [u32; 2]) -> u32
+    requires second { slice_index strip 0 ≤ 64 }
+    requires third { slice_index strip 1 ≤ 64 }
+    ensures { result ≡ strip_volume strip }
+{
+    strip[0] * strip[1]
+}
+
+fn contains_within(known: &Known, outer: &Rule, inner: &Rule) -> Result<(), Refusal>
+    requires { IsSound known.now }
+    ensures { Accepts result (contains_sizes known.now outer.now inner.now) }
+{
+    within(is_long(known, inner, breaking(outer)), Limit::Clauses)
+}
+
+fn equal_within(known: &Known, left: &Rule, right: &Rule) -> Result<(), Refusal>
+    requires { IsSound known.now }
+    ensures { Accepts result (equal_sizes known.now left.now right.now) }
+{
+    let left_in_right = is_long(known, left, breaking(right));
+    let right_in_left = is_long(known, right, breaking(left));
+    within(left_in_right || right_in_left, Limit::Clauses)
+}
+
+fn empty_within(known: &Known, rule: &Rule) -> Result<(), Refusal>
+    requires { IsSound known.now }
+    ensures { Accepts result (empty_sizes known.now rule.now) }
+{
+    within(is_long(known, rule, anything()), Limit::Clauses)
+}
+
+fn agree_within(
+    alloc: Global,
+    known: &Known,
+    left: &Automaton,
+    right: &Automaton,
+    rule: &Rule,
+) -> Result<(), Refusal>
+    requires sound { IsSound known.now }
+    requires nodes { HaveNodes left.now right.now rule.now.nodes }
+    ensures { Accepts result (agree_sizes known.now left.now right.now rule.now) }
+{
+    let aim = differing(alloc, rule, left, right)?;
+    within(is_long(known, rule, aim), Limit::Clauses)
+}
+
+/// Accepts a query that asks for no more work than may be asked.
+pub(crate) fn is_within_limits(
+    alloc: Global,
+    known: &Known,
+    rules: &[Rule],
+    automata: &[Automaton],
+    query: &Query,
+) -> Result<(), Refusal>
+    requires sound { IsSound known.now }
+    requires made { AreMade known.now rules.now automata.now }
+    requires numbers { HasNumbers known.now query.now }
+    requires shape { HasShape known.now.setting.topology.dimension query.now }
+    ensures { Accepts result (query_sizes known.now rules.now automata.now query.now) }
+{
+    match query {
+        Query::Member { .. } | Query::Discharge { .. } => Ok(()),
+        Query::Contains { outer, inner } => {
+            contains_within(known, &rules[*outer as usize], &rules[*inner as usize])
+        }
+        Query::Equal { left, right } => {
+            equal_within(known, &rules[*left as usize], &rules[*right as usize])
+        }
+        Query::Empty { rule } => empty_within(known, &rules[*rule as usize]),
+        Query::Agree { left, right, rule } => agree_within(
+            alloc,
+            known,
+            &automata[*left as usize],
+            &automata[*right as usize],
+            &rules[*rule as usize],
+        ),
+        Query::Forbidden { rule } => within(
+            has_many_patterns(&rules[*rule as usize]),
+            Limit::Patterns,
+        ),
+        Query::Density { rule, strip } => within(
+            has_many_states(&rules[*rule as usize], strip_volume(*strip)),
+            Limit::States,
+        ),
+    }
+}
