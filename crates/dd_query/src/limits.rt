@@ -4,7 +4,8 @@ ghost use Rattle.dd_formula.specs.Compositions.{HaveNodes};
 ghost use Rattle.dd_naming.specs.Resolving.{Accepts};
 ghost use Rattle.dd_refusal.specs.Sizes.{over};
 ghost use Rattle.dd_header.specs.Sound.{IsSound};
-ghost use Rattle.dd_query.specs.Limits.{has_many_patterns, has_many_states, strip_volume, contains_sizes, equal_sizes, empty_sizes, agree_sizes, query_sizes};
+ghost use Rattle.dd_query.specs.Limits.{has_many_patterns, has_many_states, strip_volume};
+ghost use Rattle.dd_query.specs.Limits.{contains_sizes, equal_sizes, empty_sizes, agree_sizes, query_sizes};
 ghost use Rattle.dd_query.specs.Made.{AreMade};
 ghost use Rattle.dd_query.specs.Sound.{HasNumbers, HasShape};
 

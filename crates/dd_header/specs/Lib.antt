@@ -1,0 +1,4 @@
+pub mod Offsets
+pub mod After
+pub mod Edges
+pub mod Sound
