@@ -1,13 +1,5 @@
-mod Rounds
-mod Values
-mod Regrouped
-mod Sound
-mod SoundScript
-mod Complete
-mod CompleteScript
-mod SmallRules
-mod Fitting
-mod Whole
+pub mod Asked
 pub mod Decided
-pub mod OneText
+pub mod Numbered
+pub mod Refused
 pub mod Streamed

@@ -1,31 +1,61 @@
 -- How the texts of answers come one after the other, and what is written of an output that is cut short.
-use Rattle.std.proofs.Common.{◌≡◌, ℕ, List, [], ◌∷◌, ◌++◌, Bool, true, false, ◌||◌, refl, sym, ◌∙◌, subst, inl, inr, append-nil}
+use Rattle.std.proofs.Common.{◌≡◌, ℕ, ◌+◌, ◌<◌, List, [], ◌∷◌, ◌++◌, length, take, drop, get_or, Bool, true, false, ◌||◌, refl, sym, ◌∙◌, ap, subst, inl, inr, append-nil, append_assoc, length-append, take-append-drop, length-take-le, arith}
 use Rattle.std.proofs.KnownBytes.{Appends-trans, Appends-nil}
+use Rattle.std.proofs.lemmas.List.{take_more}
 use Rattle.std.specs.declared.option.Option.{Option}
 use Rattle.std.specs.Io.KnownBytes.{Appends}
 use Rattle.dd_outside.specs.Bytes.{GainsFront}
 use Rattle.dd_outside.proofs.Told.{front_after}
-use Rattle.dd_formula.specs.declared.lives.Membership.{Membership}
-use Rattle.dd_formula.specs.declared.lives.Membership.TheVariants.{Inside, Outside}
-use Rattle.dd_session.specs.Answers.{Answer, is_unknown, answer_text, texts}
+use Rattle.dd_certificate.specs.declared.answer.Answer.{Answer}
+use Rattle.dd_certificate.specs.Text.{answer_text}
+use Rattle.dd_query.specs.declared.queries.Query.{Query}
+use Rattle.dd_answer.specs.Right.{Right}
+use Rattle.dd_script.specs.Parts.{Parts}
+use Rattle.dd_session.specs.Answers.{AllRight, is_unknown, has_unknown, texts}
 use Rattle.dd_session.specs.Output.{header, end_line}
-use Rattle.dd_session.specs.Queries.{Query, Right}
-use Rattle.dd_session.specs.Questions.{answer_of}
-use Rattle.dd_session.specs.Runs.{Answered, AnsweredFront, WholeOutput, CutShort}
+use Rattle.dd_session.specs.Runs.{Answered, AnsweredFront, CutShort}
 
--- Every answer to a query of membership is definite.
-pub member_is_known : (membership : Membership) → is_unknown (answer_of membership) ≡ false
-member_is_known Inside = refl
-member_is_known (Outside cell) = refl
+-- ---- lists of answers
+
+texts-append : (first : ℕ) (xs ys : List Answer) → texts first (xs ++ ys) ≡ texts first xs ++ texts (first + length xs) ys
+texts-append first [] ys = ap (λ (n : ℕ). texts n ys) (omega arith)
+texts-append first (x ∷ xs) ys =
+    let same : first + 1 + length xs ≡ first + length (x ∷ xs) = omega arith in
+    ap (λ (l : List ℕ). answer_text first x ++ l) (texts-append (first + 1) xs ys ∙ ap (λ (n : ℕ). texts (first + 1) xs ++ texts n ys) same)
+    ∙ sym (append_assoc (answer_text first x) (texts (first + 1) xs) (texts (first + length (x ∷ xs)) ys))
+
+AllRight-append : (s : Parts) (qs rs : List Query) (xs ys : List Answer)
+    → AllRight s qs xs → length xs ≡ length qs → AllRight s rs ys → AllRight s (qs ++ rs) (xs ++ ys)
+AllRight-append s [] rs [] ys p same r = r
+AllRight-append s [] rs (x ∷ xs) ys p same r = absurd p
+AllRight-append s (q ∷ qs) rs [] ys p same r = absurd (omega (arith, same))
+AllRight-append s (q ∷ qs) rs (x ∷ xs) ys p same r =
+    let fewer : length xs ≡ length qs = omega (arith, same) in (p.0, AllRight-append s qs rs xs ys p.1 fewer r)
+
+AllRight-more : (s : Parts) (qs rs : List Query) (xs : List Answer) → AllRight s qs xs → AllRight s (qs ++ rs) xs
+AllRight-more s qs rs [] p = tt
+AllRight-more s [] rs (x ∷ xs) p = absurd p
+AllRight-more s (q ∷ qs) rs (x ∷ xs) p = (p.0, AllRight-more s qs rs xs p.1)
+
+has_unknown-append : (xs ys : List Answer) → has_unknown (xs ++ ys) ≡ (has_unknown xs || has_unknown ys)
+has_unknown-append [] ys = refl
+has_unknown-append (x ∷ xs) ys =
+    ap (λ (b : Bool). is_unknown x || b) (has_unknown-append xs ys) ∙ sym (or_assoc (is_unknown x) (has_unknown xs) (has_unknown ys))
+  where
+    or_assoc : (a b c : Bool) → ((a || b) || c) ≡ (a || (b || c))
+    or_assoc true b c = refl
+    or_assoc false b c = refl
+
+-- ---- answers one by one
 
 -- One answer was written.
-pub answered_one : (a b : Option (List ℕ)) (query : Query) (text : List ℕ) (number : ℕ) (x : Answer) (u : Bool)
-    → Right query x → is_unknown x ≡ u → text ≡ answer_text number x → Appends a b text → Answered a b (query ∷ []) number u
-answered_one a b query text number x u is_right known is_text written = record {
+pub answered_one : (a b : Option (List ℕ)) (s : Parts) (q : Query) (text : List ℕ) (number : ℕ) (x : Answer) (u : Bool)
+    → Right s q x → u ≡ is_unknown x → text ≡ answer_text number x → Appends a b text → Answered a b s (q ∷ []) number u
+answered_one a b s q text number x u is_right known is_text written = record {
   answers = x ∷ [];
   right = (is_right, tt);
   each = refl;
-  unknown_is = or_false (is_unknown x) ∙ known;
+  unknown_is = or_false (is_unknown x) ∙ sym known;
   appends = subst (Appends a b) (is_text ∙ sym (append-nil (answer_text number x))) written;
 }
   where
@@ -33,24 +63,79 @@ answered_one a b query text number x u is_right known is_text written = record {
     or_false true = refl
     or_false false = refl
 
-pub front_of_one : (a b : Option (List ℕ)) (query : Query) (text : List ℕ) (number : ℕ) (x : Answer)
-    → Right query x → text ≡ answer_text number x → GainsFront a b text → AnsweredFront a b (query ∷ []) number
-front_of_one a b query text number x is_right is_text front = record {
+pub front_of_one : (a b : Option (List ℕ)) (s : Parts) (q : Query) (text : List ℕ) (number : ℕ) (x : Answer)
+    → Right s q x → text ≡ answer_text number x → GainsFront a b text → AnsweredFront a b s (q ∷ []) number
+front_of_one a b s q text number x is_right is_text front = record {
   answers = x ∷ [];
   right = (is_right, tt);
   front = subst (GainsFront a b) (is_text ∙ sym (append-nil (answer_text number x))) front;
 }
 
-pub front_of_none : (a : Option (List ℕ)) (queries : List Query) (first : ℕ) → AnsweredFront a a queries first
-front_of_none a queries first = record {
+-- No answer was written.
+pub front_of_none : (a : Option (List ℕ)) (s : Parts) (queries : List Query) (first : ℕ) → AnsweredFront a a s queries first
+front_of_none a s queries first = record {
   answers = [];
   right = tt;
   front = record { gained = []; missing = []; appends = Appends-nil a; whole = refl };
 }
 
+-- More answers were written.
+answered_more : (a b c : Option (List ℕ)) (s : Parts) (qs rs : List Query) (first next : ℕ) (u v : Bool)
+    → Answered a b s qs first u → next ≡ first + length qs → Answered b c s rs next v → Answered a c s (qs ++ rs) first (u || v)
+answered_more a b c s qs rs first next u v so_far is_next more =
+    let at : first + length so_far.answers ≡ next = omega (arith, so_far.each, is_next) in record {
+      answers = so_far.answers ++ more.answers;
+      right = AllRight-append s qs rs so_far.answers more.answers so_far.right so_far.each more.right;
+      each = length-append so_far.answers more.answers ∙ omega (arith, so_far.each, more.each, length-append qs rs);
+      unknown_is = has_unknown-append so_far.answers more.answers ∙ cc (so_far.unknown_is, more.unknown_is);
+      appends = subst (Appends a c)
+          (sym (texts-append first so_far.answers more.answers ∙ ap (λ (k : ℕ). texts first so_far.answers ++ texts k more.answers) at))
+          (Appends-trans a b c _ _ so_far.appends more.appends);
+    }
+
+front_more : (a b c : Option (List ℕ)) (s : Parts) (qs rs more : List Query) (first next : ℕ) (u : Bool)
+    → Answered a b s qs first u → next ≡ first + length qs → AnsweredFront b c s rs next → AnsweredFront a c s (qs ++ rs ++ more) first
+front_more a b c s qs rs more first next u so_far is_next front =
+    let at : first + length so_far.answers ≡ next = omega (arith, so_far.each, is_next) in record {
+      answers = so_far.answers ++ front.answers;
+      right = AllRight-more s (qs ++ rs) more (so_far.answers ++ front.answers)
+          (AllRight-append s qs rs so_far.answers front.answers so_far.right so_far.each front.right);
+      front = subst (GainsFront a c)
+          (sym (texts-append first so_far.answers front.answers ∙ ap (λ (k : ℕ). texts first so_far.answers ++ texts k front.answers) at))
+          (front_after a b c _ _ so_far.appends front.front);
+    }
+
+-- the first queries, with one more
+one_more : (queries : List Query) (done : ℕ) (q : Query) → done < length queries → q ≡ get_or queries done q
+    → take done queries ++ q ∷ [] ≡ take (done + 1) queries
+one_more queries done q less is = ap (λ (x : Query). take done queries ++ x ∷ []) is ∙ sym (take_more queries done q less)
+
+after_first : (queries : List Query) (done next : ℕ) → done < length queries → next ≡ done + 1 → next ≡ 1 + length (take done queries)
+after_first queries done next less is = omega (arith, is, length-take-le done queries (omega (arith, less)))
+
+-- The answer to the next query was written.
+pub answered_next : (a b c : Option (List ℕ)) (s : Parts) (queries : List Query) (q : Query) (done next : ℕ) (u v : Bool)
+    → done < length queries → q ≡ get_or queries done q → next ≡ done + 1
+    → Answered a b s (take done queries) 1 u → Answered b c s (q ∷ []) next v → Answered a c s (take (done + 1) queries) 1 (u || v)
+answered_next a b c s queries q done next u v less is is_next so_far one =
+    subst (λ (l : List Query). Answered a c s l 1 (u || v)) (one_more queries done q less is)
+    (answered_more a b c s (take done queries) (q ∷ []) 1 next u v so_far (after_first queries done next less is_next) one)
+
+-- A front of the answer to the next query was written.
+pub front_next : (a b c : Option (List ℕ)) (s : Parts) (queries : List Query) (q : Query) (done next : ℕ) (u : Bool)
+    → done < length queries → q ≡ get_or queries done q → next ≡ done + 1
+    → Answered a b s (take done queries) 1 u → AnsweredFront b c s (q ∷ []) next → AnsweredFront a c s queries 1
+front_next a b c s queries q done next u less is is_next so_far front =
+    let all : take done queries ++ q ∷ [] ++ drop (done + 1) queries ≡ queries =
+    ap (λ (l : List Query). l ++ drop (done + 1) queries) (one_more queries done q less is) ∙ take-append-drop (done + 1) queries in
+    subst (λ (l : List Query). AnsweredFront a c s l 1) all
+    (front_more a b c s (take done queries) (q ∷ []) (drop (done + 1) queries) 1 next u so_far (after_first queries done next less is_next) front)
+
+-- ---- the parts of an output
+
 -- Nothing was written.
-pub cut_at_start : (a : Option (List ℕ)) (bytes : List ℕ) (queries : List Query) → CutShort a a bytes queries
-cut_at_start a bytes queries = record {
+pub cut_at_start : (a : Option (List ℕ)) (bytes : List ℕ) (s : Parts) → CutShort a a bytes s
+cut_at_start a bytes s = record {
   answers = [];
   ending = [];
   right = tt;
@@ -58,9 +143,9 @@ cut_at_start a bytes queries = record {
   front = record { gained = []; missing = header bytes ++ [] ++ []; appends = Appends-nil a; whole = refl };
 }
 
-pub cut_in_header : (a b : Option (List ℕ)) (bytes : List ℕ) (queries : List Query) (text : List ℕ)
-    → text ≡ header bytes → GainsFront a b text → CutShort a b bytes queries
-cut_in_header a b bytes queries text is front = record {
+pub cut_in_header : (a b : Option (List ℕ)) (bytes : List ℕ) (s : Parts) (text : List ℕ)
+    → text ≡ header bytes → GainsFront a b text → CutShort a b bytes s
+cut_in_header a b bytes s text is front = record {
   answers = [];
   ending = [];
   right = tt;
@@ -68,9 +153,9 @@ cut_in_header a b bytes queries text is front = record {
   front = subst (GainsFront a b) (is ∙ sym (append-nil (header bytes)) ∙ sym (append-nil (header bytes ++ []))) front;
 }
 
-pub cut_in_answers : (a b c : Option (List ℕ)) (bytes : List ℕ) (queries : List Query) (text : List ℕ)
-    → text ≡ header bytes → Appends a b text → AnsweredFront b c queries 1 → CutShort a c bytes queries
-cut_in_answers a b c bytes queries text is before more = record {
+pub cut_in_answers : (a b c : Option (List ℕ)) (bytes : List ℕ) (s : Parts) (text : List ℕ)
+    → text ≡ header bytes → Appends a b text → AnsweredFront b c s s.queries 1 → CutShort a c bytes s
+cut_in_answers a b c bytes s text is before more = record {
   answers = more.answers;
   ending = [];
   right = more.right;
@@ -79,22 +164,12 @@ cut_in_answers a b c bytes queries text is before more = record {
       (front_after a b c _ _ (subst (Appends a b) is before) more.front);
 }
 
-pub cut_at_end : (a b c d : Option (List ℕ)) (bytes : List ℕ) (queries : List Query) (text : List ℕ) (u : Bool)
-    → text ≡ header bytes → Appends a b text → Answered b c queries 1 u → GainsFront c d end_line → CutShort a d bytes queries
-cut_at_end a b c d bytes queries text u is before answered more = record {
+pub cut_at_end : (a b c d : Option (List ℕ)) (bytes : List ℕ) (s : Parts) (text : List ℕ) (u : Bool)
+    → text ≡ header bytes → Appends a b text → Answered b c s s.queries 1 u → GainsFront c d end_line → CutShort a d bytes s
+cut_at_end a b c d bytes s text u is before answered more = record {
   answers = answered.answers;
   ending = end_line;
   right = answered.right;
   ending_is = inr (refl, answered.each);
   front = front_after a c d _ _ (Appends-trans a b c _ _ (subst (Appends a b) is before) answered.appends) more;
-}
-
-pub whole_output : (a b c d : Option (List ℕ)) (bytes : List ℕ) (queries : List Query) (text : List ℕ) (u : Bool)
-    → text ≡ header bytes → Appends a b text → Answered b c queries 1 u → Appends c d end_line → WholeOutput a d bytes queries u
-whole_output a b c d bytes queries text u is before answered more = record {
-  answers = answered.answers;
-  right = answered.right;
-  each = answered.each;
-  unknown_is = answered.unknown_is;
-  appends = Appends-trans a c d _ _ (Appends-trans a b c _ _ (subst (Appends a b) is before) answered.appends) more;
 }

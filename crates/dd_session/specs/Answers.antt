@@ -1,38 +1,37 @@
--- The answers to queries, and their texts.
-use Rattle.std.specs.Prelude.{ℕ, ◌+◌, ℤ, pos, List, [], ◌∷◌, ◌++◌, codes, Bool, false, ◌||◌}
-use Rattle.std.specs.Fmt.{decimal, signed_decimal}
-use Rattle.dd_lattice.specs.declared.position.Cell.{Cell}
+-- The answers of a run, and their texts.
+use Rattle.std.specs.Prelude.{ℕ, ◌+◌, List, [], ◌∷◌, ◌++◌, Bool, true, false, ◌||◌, ⊤}
+use Rattle.std.specs.List.{list_all}
+use Rattle.dd_certificate.specs.declared.answer.Answer.{Answer}
+use Rattle.dd_certificate.specs.declared.answer.Answer.TheVariants as answer
+use Rattle.dd_certificate.specs.Text.{answer_text}
+use Rattle.dd_query.specs.declared.queries.Query.{Query}
+use Rattle.dd_script.specs.Parts.{Parts}
+use Rattle.dd_answer.specs.Right.{Right, is_answered}
 
-pub data Answer : Type 0 where
-  -- the configuration lives in the rule's subshift
-  inside : Answer
-  -- the rule is false at this cell of the configuration: its active coordinates, and then its node
-  outside : List ℤ → Answer
+-- The greatest number of queries of a script.
+abbrev pub most_queries : ℕ
+most_queries = 1000
 
--- No definite answer: a stated limit was met.
+-- all queries of the script are of a kind that is answered
+abbrev pub are_answered : Parts → Bool
+are_answered s = list_all is_answered s.queries
+
+-- no definite answer: a stated limit was met
 abbrev pub is_unknown : Answer → Bool
-is_unknown inside = false
-is_unknown (outside place) = false
+is_unknown (answer.Unknown reason) = true
+is_unknown a = false
 
 abbrev pub has_unknown : List Answer → Bool
 has_unknown [] = false
-has_unknown (answer ∷ answers) = is_unknown answer || has_unknown answers
+has_unknown (a ∷ answers) = is_unknown a || has_unknown answers
 
--- The active coordinates of a cell of the plane, and then its node.
-abbrev pub plane_place : Cell → List ℤ
-plane_place cell = cell.position.x ∷ cell.position.y ∷ pos cell.node ∷ []
+-- the answers are right for the first of the queries, in order
+abbrev pub AllRight : Parts → List Query → List Answer → Type 0
+AllRight s queries [] = ⊤
+AllRight s [] (a ∷ answers) = ⊥
+AllRight s (q ∷ queries) (a ∷ answers) = Right s q a × AllRight s queries answers
 
--- Numbers that end a line.
-abbrev pub numbers_to_end : List ℤ → List ℕ
-numbers_to_end [] = codes "\n"
-numbers_to_end (number ∷ numbers) = codes " " ++ (signed_decimal number ++ numbers_to_end numbers)
-
--- The text of the answer to the query with this number.
-unfoldable pub answer_text : ℕ → Answer → List ℕ
-answer_text number inside = codes "query " ++ (decimal number ++ codes " IN\n")
-answer_text number (outside place) = codes "query " ++ (decimal number ++ (codes " OUT" ++ numbers_to_end place))
-
--- The texts of answers to the queries from one on.
+-- the texts of answers to the queries from a number on
 abbrev pub texts : ℕ → List Answer → List ℕ
 texts first [] = []
-texts first (answer ∷ answers) = answer_text first answer ++ texts (first + 1) answers
+texts first (a ∷ answers) = answer_text first a ++ texts (first + 1) answers

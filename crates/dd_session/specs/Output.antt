@@ -1,7 +1,13 @@
--- The output text of a run.
-use Rattle.std.specs.Prelude.{ℕ, List, ◌++◌, codes, length}
+-- The texts that a run writes.
+use Rattle.std.specs.Prelude.{◌≡◌, ℕ, List, ◌++◌, codes, length, string_bytes}
 use Rattle.std.specs.Fmt.{decimal}
-use Rattle.dd_session.specs.Answers.{Answer, texts}
+use Rattle.dd_naming.specs.declared.fault.Limit.{Limit}
+use Rattle.dd_naming.specs.declared.fault.Limit.TheVariants as limit
+use Rattle.dd_certificate.specs.declared.answer.Answer.{Answer}
+use Rattle.dd_script.specs.declared.fault.ScriptKind.{ScriptKind}
+use Rattle.dd_script.specs.declared.fault.ScriptKind.TheVariants as refused
+use Rattle.dd_script.specs.Scripts.{Kind, syntax, unknown, twice, dimension, size}
+use Rattle.dd_session.specs.Answers.{texts}
 
 -- The lines before the first answer: the script, with its length before it and a line feed after it.
 unfoldable pub header : List ℕ → List ℕ
@@ -14,10 +20,54 @@ end_line = codes "end\n"
 abbrev pub output_of : List ℕ → List Answer → List ℕ
 output_of bytes answers = header bytes ++ texts 1 answers ++ end_line
 
--- The line for an input that is no script.
+-- ---- the lines for an input that is refused
+
+-- too long
+abbrev pub long_line : List ℕ
+long_line = codes "refused long\n"
+
+-- with a query of a kind that is not answered
 abbrev pub early_line : List ℕ
 early_line = codes "refused early\n"
 
--- The line for an input that is too long.
-abbrev pub long_line : List ℕ
-long_line = codes "refused long\n"
+abbrev pub limit_text : Limit → List ℕ
+limit_text limit.Commands = codes "commands"
+limit_text limit.Word = codes "word"
+limit_text limit.Number = codes "number"
+limit_text limit.Nodes = codes "nodes"
+limit_text limit.Alphabet = codes "alphabet"
+limit_text limit.Edges = codes "edges"
+limit_text limit.Offset = codes "offset"
+limit_text limit.Weight = codes "weight"
+limit_text limit.Limits = codes "limits"
+limit_text limit.Moves = codes "moves"
+limit_text limit.Radius = codes "radius"
+limit_text limit.Balls = codes "balls"
+limit_text limit.Instances = codes "instances"
+limit_text limit.Reach = codes "reach"
+limit_text limit.Depth = codes "depth"
+limit_text limit.Periods = codes "periods"
+limit_text limit.Vectors = codes "vectors"
+limit_text limit.Patterns = codes "patterns"
+limit_text limit.States = codes "states"
+limit_text limit.Clauses = codes "clauses"
+
+abbrev pub kind_text : Kind → List ℕ
+kind_text syntax = codes "syntax"
+kind_text (unknown name) = codes "unknown " ++ name
+kind_text (twice name) = codes "twice " ++ name
+kind_text dimension = codes "dimension"
+kind_text (size l) = codes "size " ++ limit_text l
+
+-- no script: the number of the command, and what is wrong with it
+abbrev pub refused_line : ℕ → Kind → List ℕ
+refused_line command k = codes "refused " ++ (decimal command ++ (codes " " ++ (kind_text k ++ codes "\n")))
+
+-- this is the line for what was found wrong with a command; want of memory has no line
+abbrev pub IsLineOf : ℕ → ScriptKind → List ℕ → Type 0
+IsLineOf command refused.Syntax line = line ≡ refused_line command syntax
+IsLineOf command (refused.Unknown name) line = line ≡ refused_line command (unknown (string_bytes name))
+IsLineOf command (refused.Twice name) line = line ≡ refused_line command (twice (string_bytes name))
+IsLineOf command refused.Dimension line = line ≡ refused_line command dimension
+IsLineOf command (refused.Size l) line = line ≡ refused_line command (size l)
+IsLineOf command refused.Memory line = ⊥

@@ -1,9 +1,7 @@
 //! Whole runs: from the bytes of a script to the bytes of its answers.
 #![tactic(auto)]
 
-mod answers;
 mod output;
-mod reading;
 mod session;
 mod status;
 mod stream;

@@ -1,10 +1,8 @@
-// The texts of a run's output.
-ghost use Rattle.std.specs.Prelude.{◌≡◌, IfOk, string_bytes, vec_items};
-ghost use Rattle.dd_session.specs.Answers.{answer_text};
-ghost use Rattle.dd_session.specs.Output.{header};
-ghost use Rattle.dd_session.specs.Questions.{answer_of};
+// The texts that a run writes.
+ghost use Rattle.std.specs.Prelude.{◌≡◌, IfOk, string_bytes};
+ghost use Rattle.dd_session.specs.Output.{header, limit_text, IsLineOf};
 
-use dd_formula::Membership;
+use dd_script::{Limit, ScriptKind};
 use std::alloc::{AllocError, Global};
 
 /// The lines before the first answer.
@@ -18,23 +16,49 @@ pub(crate) fn header_text(alloc: Global, bytes: &[u8]) -> Result<Vec<u8>, AllocE
     Ok(text)
 }
 
-/// The text of the answer to the query with this number.
-#[tactic(auto, unfolding(crate::specs::Answers::answer_text))]
-pub(crate) fn answer_text(
-    alloc: Global,
-    number: u32,
-    membership: &Membership,
-) -> Result<String, AllocError>
-    ensures { IfOk result (λ text. string_bytes text ≡ answer_text number (answer_of membership.now)) }
+fn limit_text(limit: Limit) -> &'static str
+    ensures { result.now ≡ limit_text limit }
 {
-    match membership {
-        Membership::Inside => format!(in alloc; "query {number} IN\n"),
-        Membership::Outside(cell) => {
-            let position = &cell.position;
-            format!(in alloc;
-                "query {number} OUT {} {} {}\n",
-                position.x, position.y, cell.node
-            )
+    match limit {
+        Limit::Commands => "commands",
+        Limit::Word => "word",
+        Limit::Number => "number",
+        Limit::Nodes => "nodes",
+        Limit::Alphabet => "alphabet",
+        Limit::Edges => "edges",
+        Limit::Offset => "offset",
+        Limit::Weight => "weight",
+        Limit::Limits => "limits",
+        Limit::Moves => "moves",
+        Limit::Radius => "radius",
+        Limit::Balls => "balls",
+        Limit::Instances => "instances",
+        Limit::Reach => "reach",
+        Limit::Depth => "depth",
+        Limit::Periods => "periods",
+        Limit::Vectors => "vectors",
+        Limit::Patterns => "patterns",
+        Limit::States => "states",
+        Limit::Clauses => "clauses",
+    }
+}
+
+/// The line for a text that is no script. Want of memory has none.
+pub(crate) fn refused_text(
+    alloc: Global,
+    command: u32,
+    kind: &ScriptKind,
+) -> Result<String, AllocError>
+    ensures { IfOk result (λ line. IsLineOf command kind.now (string_bytes line)) }
+{
+    match kind {
+        ScriptKind::Syntax => format!(in alloc; "refused {command} syntax\n"),
+        ScriptKind::Unknown(name) => format!(in alloc; "refused {command} unknown {name}\n"),
+        ScriptKind::Twice(name) => format!(in alloc; "refused {command} twice {name}\n"),
+        ScriptKind::Dimension => format!(in alloc; "refused {command} dimension\n"),
+        ScriptKind::Size(limit) => {
+            format!(in alloc; "refused {command} size {}\n", limit_text(*limit))
         }
+        ScriptKind::Memory => Err(AllocError),
     }
 }

@@ -3,15 +3,31 @@ ghost use Rattle.std.specs.Prelude.{◌≡◌, ◌≢◌, ◌⊎◌, ◌<◌, �
 ghost use Rattle.std.specs.Io.KnownBytes.{Appends};
 ghost use Rattle.dd_values.specs.Counts.{Rose};
 ghost use Rattle.dd_outside.specs.Bytes.{GainsFront};
-ghost use Rattle.dd_session.specs.Output.{early_line};
-ghost use Rattle.dd_session.specs.Queries.{IsComplete, queries_of};
-ghost use Rattle.dd_session.specs.Runs.{Decides, RanWhole, RanShort, RefusedWhole, RefusedShort, WholeRun, ShortRun, WholeOutput, CutShort, IsNoScript, most_bytes};
+ghost use Rattle.dd_script.specs.Scripts.{Spells};
+ghost use Rattle.dd_session.specs.Answers.{are_answered};
+ghost use Rattle.dd_session.specs.Runs.{
+  Decides,
+  RanWhole,
+  RanShort,
+  RefusedWhole,
+  RefusedShort,
+  WholeRun,
+  ShortRun,
+  WholeRefusal,
+  ShortRefusal,
+  WholeOutput,
+  CutShort,
+  IsRunnable,
+  most_bytes,
+};
 
-use crate::reading::{CutScript, ReadingFault, read_script};
+use crate::output::refused_text;
 use crate::status::Status;
 use crate::stream::{RunFault, run_script};
+use dd_answer::is_answered;
 use dd_outside::{ReadAllFault, Sink, Source, WriteFault, read_all, write_whole};
-use std::alloc::Global;
+use dd_script::{Script, parse};
+use std::alloc::{AllocError, Global};
 
 // The greatest number of bytes of a script.
 const MOST_BYTES: usize = 1_048_576;
@@ -45,12 +61,12 @@ fn refuse<K: Sink>(sink: &mut K, line: &[u8]) -> Status
 }
 
 // Runs an accepted script.
-fn run_accepted<K: Sink>(alloc: Global, bytes: &[u8], script: CutScript, sink: &mut K) -> Status
-    requires { IsComplete script }
-    ensures definite { result ≡ Status.Definite → WholeOutput (K.held sink.old) (K.held sink.new) bytes.now (queries_of script) false }
-    ensures some_unknown { result ≡ Status.SomeUnknown → WholeOutput (K.held sink.old) (K.held sink.new) bytes.now (queries_of script) true }
+fn run_accepted<K: Sink>(alloc: Global, bytes: &[u8], script: &Script, sink: &mut K) -> Status
+    requires { IsRunnable bytes.now script.now }
+    ensures definite { result ≡ Status.Definite → WholeOutput (K.held sink.old) (K.held sink.new) bytes.now script.now false }
+    ensures some_unknown { result ≡ Status.SomeUnknown → WholeOutput (K.held sink.old) (K.held sink.new) bytes.now script.now true }
     ensures write_fault { result ≡ Status.WriteFault → Rose (K.faults sink.old) (K.faults sink.new) }
-    ensures cut { (result ≡ Status.WriteFault) ⊎ (result ≡ Status.Memory) → CutShort (K.held sink.old) (K.held sink.new) bytes.now (queries_of script) }
+    ensures cut { (result ≡ Status.WriteFault) ⊎ (result ≡ Status.Memory) → CutShort (K.held sink.old) (K.held sink.new) bytes.now script.now }
     ensures never { (result ≢ Status.Refused) × (result ≢ Status.ReadFault) × (result ≢ Status.BadWords) × (result ≢ Status.Rejected) }
 {
     match run_script(alloc, bytes, script, sink) {
@@ -61,22 +77,48 @@ fn run_accepted<K: Sink>(alloc: Global, bytes: &[u8], script: CutScript, sink: &
     }
 }
 
+fn are_answered(script: &Script) -> bool
+    ensures { result ≡ are_answered script.now }
+{
+    script.queries().iter().all(|query| is_answered(query))
+}
+
+// Runs a script, or refuses it where a query is of a kind that is not answered.
+fn run_parsed<K: Sink>(alloc: Global, bytes: &[u8], script: &Script, sink: &mut K) -> Status
+    requires { Spells bytes.now script.now }
+    ensures definite { result ≡ Status.Definite → WholeRun (K.held sink.old) (K.held sink.new) bytes.now false }
+    ensures some_unknown { result ≡ Status.SomeUnknown → WholeRun (K.held sink.old) (K.held sink.new) bytes.now true }
+    ensures refused { result ≡ Status.Refused → WholeRefusal (K.held sink.old) (K.held sink.new) bytes.now }
+    ensures cut { result ≡ Status.WriteFault → ShortRun (K.held sink.old) (K.held sink.new) bytes.now
+        ⊎ ShortRefusal (K.held sink.old) (K.held sink.new) bytes.now }
+    ensures memory { result ≡ Status.Memory → ShortRun (K.held sink.old) (K.held sink.new) bytes.now }
+    ensures write_fault { result ≡ Status.WriteFault → Rose (K.faults sink.old) (K.faults sink.new) }
+    ensures never { (result ≢ Status.ReadFault) × (result ≢ Status.BadWords) × (result ≢ Status.Rejected) }
+{
+    if !are_answered(script) {
+        return refuse(sink, b"refused early\n");
+    }
+    run_accepted(alloc, bytes, script, sink)
+}
+
 // Runs an input that is not too long.
 fn run_bytes<K: Sink>(alloc: Global, bytes: &[u8], sink: &mut K) -> Status
     requires { length bytes.now ≤ most_bytes }
     ensures definite { result ≡ Status.Definite → WholeRun (K.held sink.old) (K.held sink.new) bytes.now false }
     ensures some_unknown { result ≡ Status.SomeUnknown → WholeRun (K.held sink.old) (K.held sink.new) bytes.now true }
-    ensures refused { result ≡ Status.Refused → IsNoScript bytes.now × Appends (K.held sink.old) (K.held sink.new) early_line }
+    ensures refused { result ≡ Status.Refused → WholeRefusal (K.held sink.old) (K.held sink.new) bytes.now }
     ensures cut { result ≡ Status.WriteFault → ShortRun (K.held sink.old) (K.held sink.new) bytes.now
-        ⊎ (IsNoScript bytes.now × GainsFront (K.held sink.old) (K.held sink.new) early_line) }
+        ⊎ ShortRefusal (K.held sink.old) (K.held sink.new) bytes.now }
     ensures memory { result ≡ Status.Memory → ShortRun (K.held sink.old) (K.held sink.new) bytes.now ⊎ (sink.new ≡ sink.old) }
     ensures write_fault { result ≡ Status.WriteFault → Rose (K.faults sink.old) (K.faults sink.new) }
     ensures never { (result ≢ Status.ReadFault) × (result ≢ Status.BadWords) × (result ≢ Status.Rejected) }
 {
-    match read_script(alloc, bytes) {
-        Ok(script) => run_accepted(alloc, bytes, script, sink),
-        Err(ReadingFault::Form) => refuse(sink, b"refused early\n"),
-        Err(ReadingFault::Memory) => Status::Memory,
+    match parse(alloc, bytes) {
+        Ok(script) => run_parsed(alloc, bytes, &script, sink),
+        Err(fault) => match refused_text(alloc, fault.command, &fault.kind) {
+            Ok(line) => refuse(sink, line.as_bytes()),
+            Err(AllocError) => Status::Memory,
+        },
     }
 }
 
@@ -104,10 +146,11 @@ fn run<S: Source, K: Sink>(alloc: Global, source: &mut S, sink: &mut K) -> Statu
 /// Runs a session by the words after the program's name, of which there is one, `run`: it reads a
 /// script from the source and writes its output, with an answer to each query, to the sink.
 ///
-/// An input of more than 1,048,576 bytes is refused by the line `refused long`, and one that is no
-/// script by `refused early`; nothing is run then. Other words do nothing. Where the source fails,
-/// nothing is written; where the sink fails or memory is wanting, a front of what was to be written
-/// may have been.
+/// An input of more than 1,048,576 bytes is refused by the line `refused long`; one that is no script by
+/// `refused C KIND`, with the number of the command and what is wrong with it; and a script with a query
+/// of a kind that is not answered by `refused early`. Nothing is run then. Other words do nothing. Where
+/// the source fails, nothing is written; where the sink fails or memory is wanting, a front of what was
+/// to be written may have been.
 pub fn run_diddy<S: Source, K: Sink>(
     alloc: Global,
     words: &[String],

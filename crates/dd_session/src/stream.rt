@@ -1,16 +1,17 @@
 // The output of a script, each part written as soon as it is made.
-ghost use Rattle.std.specs.Prelude.{◌≡◌, ◌∷◌, [], ◌<◌, ◌≤◌, ◌^◌, IfOk, OnErr, IsErrOf};
+ghost use Rattle.std.specs.Prelude.{◌≡◌, ◌≤◌, ◌∷◌, [], true, length, Contains, IfOk, OnErr, IsErrOf};
 ghost use Rattle.dd_values.specs.Counts.{Rose};
+ghost use Rattle.dd_answer.specs.Right.{is_answered};
 ghost use Rattle.dd_session.specs.declared.stream.RunFault.TheVariants.{WriteFault, Memory};
-ghost use Rattle.dd_formula.specs.Living.{Fits};
-ghost use Rattle.dd_session.specs.Queries.{IsComplete, queries_of};
-ghost use Rattle.dd_session.specs.Questions.{query_of};
-ghost use Rattle.dd_session.specs.Runs.{Answered, AnsweredFront, WholeOutput, CutShort};
+ghost use Rattle.dd_session.specs.Answers.{are_answered, is_unknown, most_queries};
+ghost use Rattle.dd_session.specs.Runs.{Answered, AnsweredFront, WholeOutput, CutShort, IsRunnable};
 
-use crate::answers::Question;
-use crate::output::{answer_text, header_text};
-use crate::reading::CutScript;
+use crate::output::header_text;
+use dd_answer::answer;
+use dd_certificate::{Answer, write_answer};
 use dd_outside::{Sink, write_whole};
+use dd_query::Query;
+use dd_script::Script;
 use std::alloc::{AllocError, Global};
 
 #[derive(Clone, Copy, Debug, PartialEq, Eq)]
@@ -35,58 +36,67 @@ impl From<dd_outside::WriteFault> for RunFault {
     }
 }
 
-// Answers one question, and writes the text. True where the answer is unknown.
+fn is_unknown(answer: &Answer) -> bool
+    ensures { result ≡ is_unknown answer.now }
+{
+    matches!(answer, Answer::Unknown { .. })
+}
+
+// Answers one query, and writes the text. True where the answer is unknown.
 fn answer_one<K: Sink>(
     alloc: Global,
-    question: &Question,
+    script: &Script,
+    query: &Query,
     number: u32,
     sink: &mut K,
 ) -> Result<bool, RunFault>
-    requires { Fits question.now.rule question.now.configuration }
-    ensures wrote { IfOk result (λ unknown. Answered (K.held sink.old) (K.held sink.new) (query_of question.now ∷ []) number unknown) }
-    ensures cut { OnErr result (AnsweredFront (K.held sink.old) (K.held sink.new) (query_of question.now ∷ []) number) }
+    requires asked { Contains script.now.queries query.now }
+    requires answered { is_answered query.now ≡ true }
+    ensures wrote { IfOk result (λ unknown. Answered (K.held sink.old) (K.held sink.new) script.now (query.now ∷ []) number unknown) }
+    ensures cut { OnErr result (AnsweredFront (K.held sink.old) (K.held sink.new) script.now (query.now ∷ []) number) }
     ensures later { K.faults sink.old ≤ K.faults sink.new }
     ensures write_fault { IsErrOf result RunFault.WriteFault → Rose (K.faults sink.old) (K.faults sink.new) }
 {
-    let membership = question.answer();
-    let text = answer_text(alloc, number, &membership)?;
-    write_whole(sink, text.as_bytes())?;
-    Ok(false)
+    let found = answer(alloc, script, query)?;
+    let text = write_answer(alloc, number, &found)?;
+    write_whole(sink, &text)?;
+    Ok(is_unknown(&found))
 }
 
-/// Writes the whole output for a script that asks this question. True where its answer is unknown.
-pub(crate) fn write_output<K: Sink>(
-    alloc: Global,
-    bytes: &[u8],
-    question: &Question,
-    sink: &mut K,
-) -> Result<bool, RunFault>
-    requires { Fits question.now.rule question.now.configuration }
-    ensures whole { IfOk result (λ unknown. WholeOutput (K.held sink.old) (K.held sink.new) bytes.now (query_of question.now ∷ []) unknown) }
-    ensures cut { OnErr result (CutShort (K.held sink.old) (K.held sink.new) bytes.now (query_of question.now ∷ [])) }
+// Answers all queries in order, and writes each text before the next answer is made. True where an answer is unknown.
+#[tactic(auto, using(crate::proofs::Asked::asked_at, crate::proofs::Asked::answered_at, crate::proofs::Streamed::answered_next))]
+fn answer_all<K: Sink>(alloc: Global, script: &Script, sink: &mut K) -> Result<bool, RunFault>
+    requires few { length script.now.queries ≤ most_queries }
+    requires answered { are_answered script.now ≡ true }
+    ensures wrote { IfOk result (λ unknown. Answered (K.held sink.old) (K.held sink.new) script.now script.now.queries 1 unknown) }
+    ensures cut { OnErr result (AnsweredFront (K.held sink.old) (K.held sink.new) script.now script.now.queries 1) }
     ensures later { K.faults sink.old ≤ K.faults sink.new }
     ensures write_fault { IsErrOf result RunFault.WriteFault → Rose (K.faults sink.old) (K.faults sink.new) }
 {
-    let header = header_text(alloc, bytes)?;
-    write_whole(sink, &header)?;
-    let is_unknown = answer_one(alloc, question, 1, sink)?;
-    write_whole(sink, b"end\n")?;
-    Ok(is_unknown)
+    let queries = script.queries();
+    let mut has_unknown = false;
+    for (done, query) in queries.iter().enumerate() {
+        has_unknown |= answer_one(alloc, script, query, done as u32 + 1, sink)?;
+    }
+    Ok(has_unknown)
 }
 
 /// Runs an accepted script. True where an answer is unknown.
 pub(crate) fn run_script<K: Sink>(
     alloc: Global,
     bytes: &[u8],
-    script: CutScript,
+    script: &Script,
     sink: &mut K,
 ) -> Result<bool, RunFault>
-    requires { IsComplete script }
-    ensures whole { IfOk result (λ unknown. WholeOutput (K.held sink.old) (K.held sink.new) bytes.now (queries_of script) unknown) }
-    ensures cut { OnErr result (CutShort (K.held sink.old) (K.held sink.new) bytes.now (queries_of script)) }
+    requires { IsRunnable bytes.now script.now }
+    ensures whole { IfOk result (λ unknown. WholeOutput (K.held sink.old) (K.held sink.new) bytes.now script.now unknown) }
+    ensures cut { OnErr result (CutShort (K.held sink.old) (K.held sink.new) bytes.now script.now) }
     ensures later { K.faults sink.old ≤ K.faults sink.new }
     ensures write_fault { IsErrOf result RunFault.WriteFault → Rose (K.faults sink.old) (K.faults sink.new) }
 {
-    let question = Question::new(alloc, script)?;
-    write_output(alloc, bytes, &question, sink)
+    let header = header_text(alloc, bytes)?;
+    write_whole(sink, &header)?;
+    let has_unknown = answer_all(alloc, script, sink)?;
+    write_whole(sink, b"end\n")?;
+    Ok(has_unknown)
 }

@@ -1,31 +1,13 @@
-use Rattle.std.proofs.Common.{inl, inr}
+use Rattle.std.proofs.Common.{inr}
+use Rattle.dd_session.proofs.Refused.{refusal_written, refusal_cut}
 use Rattle.dd_session.proofs.session.run_bytes.Goals as goal
 
-pub run_accepted-requires : goal.run_accepted-requires
-run_accepted-requires g c = record {
-  formula = c.in-Ok.ensures.formula;
-  configuration = c.in-Ok.ensures.configuration;
-  symbols = c.in-Ok.ensures.symbols;
-}
+pub returns-in-Ok-refused_text-clause-refused : goal.returns-in-Ok-refused_text-clause-refused
+returns-in-Ok-refused_text-clause-refused g c is =
+    refusal_written _ _ c.args.bytes.now c.in-Err.fault.command c.in-Err.fault.kind _ c.as_bytes.result.now
+    c.in-Err.ensures.refused c.in-Ok-refused_text.ensures c.as_bytes.ensures.value (c.refuse.ensures.refused is)
 
-pub returns-in-Ok-clause-definite : goal.returns-in-Ok-clause-definite
-returns-in-Ok-clause-definite g c is =
-    record { script = c.in-Ok.script; spelled = c.in-Ok.ensures.spelled; output = c.run_accepted.ensures.definite is }
-
-pub returns-in-Ok-clause-some_unknown : goal.returns-in-Ok-clause-some_unknown
-returns-in-Ok-clause-some_unknown g c is =
-    record { script = c.in-Ok.script; spelled = c.in-Ok.ensures.spelled; output = c.run_accepted.ensures.some_unknown is }
-
-pub returns-in-Ok-clause-cut : goal.returns-in-Ok-clause-cut
-returns-in-Ok-clause-cut g c is =
-    inl record { script = c.in-Ok.script; spelled = c.in-Ok.ensures.spelled; output = c.run_accepted.ensures.cut (inl is) }
-
-pub returns-in-Ok-clause-memory : goal.returns-in-Ok-clause-memory
-returns-in-Ok-clause-memory g c is =
-    inl record { script = c.in-Ok.script; spelled = c.in-Ok.ensures.spelled; output = c.run_accepted.ensures.cut (inr is) }
-
-pub returns-in-Err-Form-clause-refused : goal.returns-in-Err-Form-clause-refused
-returns-in-Err-Form-clause-refused g c is = (c.read_script.ensures.none_spelled (cc), c.refuse.ensures.refused is)
-
-pub returns-in-Err-Form-clause-cut : goal.returns-in-Err-Form-clause-cut
-returns-in-Err-Form-clause-cut g c is = inr (c.read_script.ensures.none_spelled (cc), c.refuse.ensures.cut)
+pub returns-in-Ok-refused_text-clause-cut : goal.returns-in-Ok-refused_text-clause-cut
+returns-in-Ok-refused_text-clause-cut g c is =
+    inr (refusal_cut _ _ c.args.bytes.now c.in-Err.fault.command c.in-Err.fault.kind _ c.as_bytes.result.now
+    c.in-Err.ensures.refused c.in-Ok-refused_text.ensures c.as_bytes.ensures.value c.refuse.ensures.cut)

@@ -1,10 +1,31 @@
 use Rattle.std.proofs.Common.{rules}
-use Rattle.dd_session.specs.Queries.{queries_of}
 use Rattle.dd_session.specs.Runs.{CutShort}
-use Rattle.dd_session.proofs.Streamed.{cut_at_start}
+use Rattle.dd_session.proofs.Numbered.{few_queries}
+use Rattle.dd_session.proofs.Streamed.{cut_at_start, cut_in_header, cut_in_answers, cut_at_end}
 use Rattle.dd_session.proofs.stream.run_script.Goals as goal
 
-pub returns-in_err-question-clause-cut : goal.returns-in_err-question-clause-cut
-returns-in_err-question-clause-cut g c =
-    let cut : CutShort (g.K.Sink.held c.args.sink.now) (g.K.Sink.held c.args.sink.now) c.args.bytes.now (queries_of c.args.script) = cut_at_start _ _ _ in
+pub answer_all-requires-clause-few : goal.answer_all-requires-clause-few
+answer_all-requires-clause-few g c = few_queries c.args.bytes.now c.args.script.now c.requires.spelled
+
+pub returns-in_err-header-clause-cut : goal.returns-in_err-header-clause-cut
+returns-in_err-header-clause-cut g c =
+    let cut : CutShort (g.K.Sink.held c.args.sink.now) (g.K.Sink.held c.args.sink.now) c.args.bytes.now c.args.script.now = cut_at_start _ _ _ in
+    search rules
+
+pub returns-in_err-write_whole-clause-cut : goal.returns-in_err-write_whole-clause-cut
+returns-in_err-write_whole-clause-cut g c =
+    let cut : CutShort (g.K.Sink.held c.args.sink.now) (g.K.Sink.held c.write_whole.new.sink) c.args.bytes.now c.args.script.now =
+    cut_in_header _ _ _ _ c.deref.result.now (search rules) c.in_err-write_whole.ensures.front in
+    search rules
+
+pub returns-in_err-has_unknown-clause-cut : goal.returns-in_err-has_unknown-clause-cut
+returns-in_err-has_unknown-clause-cut g c =
+    let cut : CutShort (g.K.Sink.held c.args.sink.now) (g.K.Sink.held c.answer_all.new.sink) c.args.bytes.now c.args.script.now =
+    cut_in_answers _ _ _ _ _ c.deref.result.now (search rules) c.in_ok-write_whole.ensures.whole c.in_err-has_unknown.ensures.cut in
+    search rules
+
+pub returns-in_err-write_whole-2-clause-cut : goal.returns-in_err-write_whole-2-clause-cut
+returns-in_err-write_whole-2-clause-cut g c =
+    let cut : CutShort (g.K.Sink.held c.args.sink.now) (g.K.Sink.held c.write_whole-2.new.sink) c.args.bytes.now c.args.script.now =
+    cut_at_end _ _ _ _ _ _ c.deref.result.now _ (search rules) c.in_ok-write_whole.ensures.whole c.in_ok-has_unknown.ensures.wrote c.in_err-write_whole-2.ensures.front in
     search rules

@@ -1,0 +1,3 @@
+pub mod LeastLaws
+pub mod SizeLaws
+pub mod PartLaws

@@ -1,0 +1,21 @@
+use Rattle.std.proofs.Common.{◌≡◌, subst}
+use Rattle.std.proofs.lemmas.Result.{IfOk-weaker}
+use Rattle.dd_boxes.specs.Views.{goal_of}
+use Rattle.dd_contain.specs.Questions.{IsDecided}
+use Rattle.dd_refusal.specs.declared.known.Limits.{Limits}
+use Rattle.dd_answer.specs.Right.{written_decision, IsRightBox}
+use Rattle.dd_answer.proofs.boxes.decided.Goals as goal
+
+pub returns : goal.returns
+returns c =
+    let s = c.args.script.now in
+    let x = c.args.premise.now in
+    let g = goal_of c.args.goal.now in
+    let decision = c.in_ok-decision.decision in
+    IfOk-weaker c.written_decision.result (λ a. a ≡ written_decision decision) (IsRightBox s x g)
+    (λ a is. record {
+      decision = decision;
+      decided = subst (λ (l : Limits). IsDecided x g l.radius l.period decision) c.limits-limits.ensures.value c.in_ok-decision.ensures;
+      written = is;
+    })
+    c.written_decision.ensures

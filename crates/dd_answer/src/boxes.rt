@@ -1,0 +1,112 @@
+//! Answers to box questions.
+ghost use Rattle.std.specs.Prelude.{◌≡◌, ◌≤◌, IfOk};
+ghost use Rattle.dd_boxes.specs.Goals.{IsGoalFor, breaks};
+ghost use Rattle.dd_boxes.specs.Views.{goal_of};
+ghost use Rattle.dd_contain.specs.Questions.{IsSmallQuestion};
+ghost use Rattle.dd_answer.specs.Right.{side_of, written_no, written_decision, written_equality, IsRightBox, IsRightEqual};
+
+use dd_boxes::Goal;
+use dd_certificate::{Answer, Reason, Side};
+use dd_contain::{Decision, Equality, Side as Half, decide, decide_equal};
+use dd_formula::Rule;
+use dd_pattern::Periodic;
+use dd_script::Script;
+use dd_values::Items;
+use std::alloc::{AllocError, Global};
+
+/// The same numbers, as the answer has them.
+fn widened(alloc: Global, numbers: &[u32]) -> Result<Items<u64>, AllocError>
+    ensures { IfOk result (λ wide. wide ≡ numbers.now) }
+{
+    let wide: Vec<u64> = numbers.iter().map(|n| u64::from(*n)).collect(alloc)?;
+    Ok(Items::from_vec(wide))
+}
+
+/// NO, by a configuration: its periods along the axes that there are, and its symbols.
+fn written_no(alloc: Global, side: Side, periodic: &Periodic) -> Result<Answer, AllocError>
+    ensures { IfOk result (λ answer. answer ≡ written_no side periodic.now) }
+{
+    let symbols = widened(alloc, periodic.symbols())?;
+    let all = periodic.periods();
+    let periods = widened(alloc, &all[..periodic.dim() as usize])?;
+    Ok(Answer::No {
+        side,
+        periods,
+        symbols,
+    })
+}
+
+fn written_decision(alloc: Global, decision: Decision) -> Result<Answer, AllocError>
+    ensures { IfOk result (λ answer. answer ≡ written_decision decision) }
+{
+    match decision {
+        Decision::Yes { radius, steps } => Ok(Answer::Yes {
+            radius: u64::from(radius),
+            steps,
+        }),
+        Decision::No { periodic } => written_no(alloc, Side::Whole, &periodic),
+        Decision::Unknown => Ok(Answer::Unknown {
+            reason: Reason::Limits,
+        }),
+    }
+}
+
+fn side_of(half: Half) -> Side
+    ensures { result ≡ side_of half }
+{
+    match half {
+        Half::Left => Side::Left,
+        Half::Right => Side::Right,
+    }
+}
+
+fn written_equality(alloc: Global, equality: Equality) -> Result<Answer, AllocError>
+    ensures { IfOk result (λ answer. answer ≡ written_equality equality) }
+{
+    match equality {
+        Equality::Yes { left, right } => Ok(Answer::YesBoth {
+            left: u64::from(left.radius),
+            right: u64::from(right.radius),
+            left_steps: left.steps,
+            right_steps: right.steps,
+        }),
+        Equality::No { side, periodic } => written_no(alloc, side_of(side), &periodic),
+        Equality::Unknown => Ok(Answer::Unknown {
+            reason: Reason::Limits,
+        }),
+    }
+}
+
+/// What a box question comes to within the script's limits.
+pub(crate) fn decided(
+    alloc: Global,
+    script: &Script,
+    premise: &Rule,
+    goal: &Goal,
+) -> Result<Answer, AllocError>
+    requires goal { IsGoalFor premise.now (goal_of goal.now) }
+    requires small { let limits = script.now.known.limits in IsSmallQuestion premise.now (goal_of goal.now) limits.radius limits.period }
+    ensures { IfOk result (IsRightBox script.now premise.now (goal_of goal.now)) }
+{
+    let limits = script.limits();
+    let decision = decide(alloc, premise, goal, limits.radius, limits.period)?;
+    written_decision(alloc, decision)
+}
+
+/// Whether two rules allow the same configurations, within the script's limits.
+pub(crate) fn compared(
+    alloc: Global,
+    script: &Script,
+    left: &Rule,
+    right: &Rule,
+) -> Result<Answer, AllocError>
+    requires left_goal { IsGoalFor left.now (breaks right.now) }
+    requires right_goal { IsGoalFor right.now (breaks left.now) }
+    requires left_small { let limits = script.now.known.limits in IsSmallQuestion left.now (breaks right.now) limits.radius limits.period }
+    requires right_small { let limits = script.now.known.limits in IsSmallQuestion right.now (breaks left.now) limits.radius limits.period }
+    ensures { IfOk result (IsRightEqual script.now left.now right.now) }
+{
+    let limits = script.limits();
+    let equality = decide_equal(alloc, left, right, limits.radius, limits.period)?;
+    written_equality(alloc, equality)
+}

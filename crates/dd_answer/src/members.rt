@@ -1,0 +1,42 @@
+//! Answers to queries of membership.
+ghost use Rattle.std.specs.Prelude.{◌≡◌, ◌≤◌, IfOk};
+ghost use Rattle.dd_formula.specs.Living.{Fits};
+ghost use Rattle.dd_answer.specs.Right.{written_cell, IsRightMember};
+
+use dd_certificate::Answer;
+use dd_formula::{Membership, Rule};
+use dd_lattice::Cell;
+use dd_pattern::Periodic;
+use dd_values::Items;
+use std::alloc::{AllocError, Global};
+
+/// The coordinates along the axes that there are, and then the node.
+fn written_cell(alloc: Global, dim: u32, cell: &Cell) -> Result<Items<i64>, AllocError>
+    requires { dim ≤ 3 }
+    ensures { IfOk result (λ place. place ≡ written_cell dim cell.now) }
+{
+    let position = &cell.position;
+    let coordinates = [
+        i64::from(position.x),
+        i64::from(position.y),
+        i64::from(position.z),
+    ];
+    let mut place = Items::from_slice(alloc, &coordinates[..dim as usize])?;
+    place.push(i64::from(cell.node))?;
+    Ok(place)
+}
+
+/// Whether a configuration lives in a rule's subshift; otherwise the first cell at which the rule is false.
+pub(crate) fn member(alloc: Global, rule: &Rule, periodic: &Periodic) -> Result<Answer, AllocError>
+    requires { Fits rule.now periodic.now }
+    ensures { IfOk result (IsRightMember rule.now periodic.now) }
+{
+    match rule.member(periodic) {
+        Membership::Inside => Ok(Answer::Inside),
+        Membership::Outside(cell) => {
+            let _nodes = rule.nodes();
+            let place = written_cell(alloc, rule.dim(), &cell)?;
+            Ok(Answer::Outside { place })
+        }
+    }
+}

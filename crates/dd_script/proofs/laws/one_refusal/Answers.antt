@@ -1,0 +1,5 @@
+use Rattle.dd_script.proofs.ScriptLaws.{one_refusal}
+use Rattle.dd_script.proofs.laws.one_refusal.Goals as goal
+
+pub returns : goal.returns
+returns c = one_refusal

@@ -1,0 +1,8 @@
+use Rattle.dd_script.proofs.ScriptLaws.{never_both, spelled_or_refused}
+use Rattle.dd_script.proofs.laws.spelled_or_refused.Goals as goal
+
+pub returns-clause-never_both : goal.returns-clause-never_both
+returns-clause-never_both c = never_both
+
+pub returns-clause-either : goal.returns-clause-either
+returns-clause-either c = λ bytes few. spelled_or_refused bytes

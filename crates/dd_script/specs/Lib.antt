@@ -1,0 +1,5 @@
+pub mod Parts
+pub mod Walk
+pub mod Scripts
+pub mod Standing
+pub mod Stops

@@ -1,0 +1,62 @@
+-- Which bytes spell a script, and how all others are refused.
+use Rattle.std.specs.Prelude.{ℕ, ◌≡◌, List, [], Some, string_bytes, codes}
+use Rattle.dd_syntax.specs.declared.script.Syntax.{Syntax}
+use Rattle.dd_syntax.specs.Scripts.{IsScript, IsFault}
+use Rattle.dd_naming.specs.declared.fault.Limit.{Limit}
+use Rattle.dd_naming.specs.declared.fault.Fault.{Fault}
+use Rattle.dd_naming.specs.declared.fault.Fault.TheVariants as fault
+use Rattle.dd_naming.specs.Resolving.{first}
+use Rattle.dd_naming.specs.Texts.{name_text}
+use Rattle.dd_script.specs.declared.fault.ScriptKind.{ScriptKind}
+use Rattle.dd_script.specs.declared.fault.ScriptKind.TheVariants as refused
+use Rattle.dd_script.specs.declared.fault.ScriptFault.{ScriptFault}
+use Rattle.dd_script.specs.Parts.{Parts}
+use Rattle.dd_script.specs.Walk.{located, faults_of, script_of}
+
+-- the bytes are a text of the grammar, with this meaning, and without a fault
+pub record Spells (bytes : List ℕ) (s : Parts) : Type 0 where
+  pub tree : Syntax
+  pub written : IsScript bytes tree
+  pub faultless : faults_of bytes tree.commands ≡ []
+  pub meaning : s ≡ script_of bytes tree.commands
+
+-- Why a text is refused.
+pub data Kind : Type 0 where
+  syntax : Kind
+  unknown : List ℕ → Kind
+  twice : List ℕ → Kind
+  dimension : Kind
+  size : Limit → Kind
+
+-- the kind of a fault, with the text of the name
+abbrev pub kind_of : List ℕ → Fault → Kind
+kind_of bytes (fault.Unknown name) = unknown (name_text bytes name)
+kind_of bytes (fault.Twice name) = twice (name_text bytes name)
+kind_of bytes fault.TwiceVector = twice (codes "vector")
+kind_of bytes fault.Dimension = dimension
+kind_of bytes (fault.Size l) = size l
+
+-- the bytes are a text of the grammar, and the first fault of its commands is of this kind
+pub record HasFault (bytes : List ℕ) (n : ℕ) (k : Kind) : Type 0 where
+  pub tree : Syntax
+  pub written : IsScript bytes tree
+  pub found : Fault
+  pub comes_first : first (faults_of bytes tree.commands) ≡ Some (located n found)
+  pub is : k ≡ kind_of bytes found
+
+-- how the bytes are refused: by the first command that is not well formed, else by the first fault
+abbrev pub RefusedAs : List ℕ → ℕ → Kind → Type 0
+RefusedAs bytes n syntax = IsFault bytes n
+RefusedAs bytes n k = HasFault bytes n k
+
+-- refused so; or memory was wanting
+abbrev pub IsRefusedAs : List ℕ → ℕ → ScriptKind → Type 0
+IsRefusedAs bytes n refused.Syntax = RefusedAs bytes n syntax
+IsRefusedAs bytes n (refused.Unknown text) = RefusedAs bytes n (unknown (string_bytes text))
+IsRefusedAs bytes n (refused.Twice text) = RefusedAs bytes n (twice (string_bytes text))
+IsRefusedAs bytes n refused.Dimension = RefusedAs bytes n dimension
+IsRefusedAs bytes n (refused.Size l) = RefusedAs bytes n (size l)
+IsRefusedAs bytes n refused.Memory = n ≡ 0
+
+abbrev pub IsRefusal : List ℕ → ScriptFault → Type 0
+IsRefusal bytes e = IsRefusedAs bytes e.command e.kind

@@ -1,0 +1,115 @@
+// Scripts.
+use dd_formula::{Automaton, Rule};
+use dd_lattice::Position;
+use dd_pattern::Periodic;
+use dd_query::Query;
+use dd_refusal::{Known, Limits};
+use dd_topology::{Names, Topology};
+use dd_values::Items;
+use std::marker::Model;
+
+/// A script: what it says of cells, what it defines, and what it asks. Its numbers are in range, its parts agree in dimension,
+/// nodes and symbols, and it passes no limit.
+#[derive(Drop)]
+pub struct Script {
+    pub(crate) known: Known,
+    pub(crate) rules: Items<Rule>,
+    pub(crate) automata: Items<Automaton>,
+    pub(crate) configurations: Items<Periodic>,
+    pub(crate) queries: Items<Query>,
+}
+
+impl Model for Script {
+    ghost use Rattle.std.specs.Coded.{codes};
+    ghost use Rattle.dd_expansion.specs.contracts.formulas.Formula as formula_type;
+    ghost use Rattle.dd_formula.specs.contracts.automaton.Automaton as automaton_type;
+    ghost use Rattle.dd_script.specs.Parts.{Parts, IsScriptOf};
+
+    ghost Value = { Parts };
+
+    ghost coded = { Prim.hlevel (codes, formula_type.the_row.coded, automaton_type.the_row.coded) };
+
+    ghost view = { λ s. record { known = s.known; rules = s.rules; automata = s.automata; configurations = s.configurations; queries = s.queries } };
+
+    ghost invariant = { λ s. IsScriptOf (record { known = s.known; rules = s.rules; automata = s.automata; configurations = s.configurations; queries = s.queries }) };
+}
+
+/// The readers take no memory.
+impl Script {
+    ghost use Rattle.std.specs.Prelude.{◌≡◌};
+    ghost use Rattle.dd_script.specs.Parts.{IsScriptOf};
+
+    /// The dimension: 1, 2 or 3.
+    pub fn dim(&self) -> u32
+        ensures value { result ≡ self.now.known.setting.topology.dimension }
+        ensures kept { IsScriptOf self.now }
+    {
+        self.known.setting.topology.dim()
+    }
+
+    /// The names of the nodes, which are numbered in this order.
+    pub fn nodes(&self) -> &Names
+        ensures value { result.now ≡ self.now.known.setting.nodes }
+        ensures kept { IsScriptOf self.now }
+    {
+        &self.known.setting.nodes
+    }
+
+    /// The names of the symbols, which are numbered in this order.
+    pub fn symbols(&self) -> &Names
+        ensures value { result.now ≡ self.now.known.setting.symbols }
+        ensures kept { IsScriptOf self.now }
+    {
+        &self.known.setting.symbols
+    }
+
+    pub fn topology(&self) -> &Topology
+        ensures value { result.now ≡ self.now.known.setting.topology }
+        ensures kept { IsScriptOf self.now }
+    {
+        &self.known.setting.topology
+    }
+
+    /// One weight for each symbol.
+    pub fn weights(&self) -> &[u32]
+        ensures value { result.now ≡ self.now.known.weights }
+        ensures kept { IsScriptOf self.now }
+    {
+        self.known.weights.as_slice()
+    }
+
+    pub fn limits(&self) -> &Limits
+        ensures value { result.now ≡ self.now.known.limits }
+        ensures kept { IsScriptOf self.now }
+    {
+        &self.known.limits
+    }
+
+    pub fn rules(&self) -> &[Rule]
+        ensures value { result.now ≡ self.now.rules }
+        ensures kept { IsScriptOf self.now }
+    {
+        self.rules.as_slice()
+    }
+
+    pub fn automata(&self) -> &[Automaton]
+        ensures value { result.now ≡ self.now.automata }
+        ensures kept { IsScriptOf self.now }
+    {
+        self.automata.as_slice()
+    }
+
+    pub fn configurations(&self) -> &[Periodic]
+        ensures value { result.now ≡ self.now.configurations }
+        ensures kept { IsScriptOf self.now }
+    {
+        self.configurations.as_slice()
+    }
+
+    pub fn queries(&self) -> &[Query]
+        ensures value { result.now ≡ self.now.queries }
+        ensures kept { IsScriptOf self.now }
+    {
+        self.queries.as_slice()
+    }
+}

@@ -1,8 +1,0 @@
-use Rattle.std.proofs.Common.{◌≡◌, ◌-◌, length}
-use Rattle.dd_session.specs.CutForm.{texts}
-use Rattle.dd_session.specs.CutWords.{many, symbol_at}
-use Rattle.dd_session.proofs.Rounds.{front}
-use Rattle.dd_session.proofs.reading.commands.symbols.Given as goal
-
-abbrev pub invariant-loop : goal.invariant-loop
-invariant-loop l = front l.symbols (many symbol_at (length l.tokens - l.counter) (texts l.bytes l.rest)) ≡ many symbol_at (length l.tokens) (texts l.bytes l.tokens)

@@ -1,0 +1,85 @@
+// Box questions, by their answers' first lines.
+use super::words_of;
+use crate::run_diddy;
+use dd_outside::{MemorySink, MemorySource};
+use std::alloc::Global;
+use std::test::Fail;
+
+// The lines with the answers of a run over these bytes.
+fn answer_lines(alloc: Global, script: &str) -> Result<String, Fail> {
+    let words = words_of(alloc, "run")?;
+    let bytes = Vec::from_slice(alloc, script.as_bytes())?;
+    let mut source = MemorySource::new(bytes, 1_000, Vec::new(alloc));
+    let mut sink = MemorySink::new(alloc, 1_000_000, 1_000_000, Vec::new(alloc))?;
+    let _ = run_diddy(alloc, &words, &mut source, &mut sink);
+    let mut lines = String::new(alloc);
+    let output = String::from_utf8(Vec::from_slice(alloc, sink.held_bytes())?)?;
+    for line in output.lines() {
+        if line.starts_with("query ") {
+            lines.push_str(line)?;
+            lines.push('\n')?;
+        }
+    }
+    Ok(lines)
+}
+
+#[test]
+fn answers_box_questions(rt: HostRuntime) -> Result<(), Fail> {
+    let alloc = rt.alloc();
+    let rows = [
+        (
+            "%rule hard o=1 -> (o.rt=0 & o.up=0) %rule row o=1 -> o.rt=0 %contains row hard %contains hard row %equal hard row",
+            "query 1 YES 1\nquery 2 NO 2 1\nquery 3 NO right 2 1\n",
+        ),
+        (
+            "%dim 1 %limits 3 4 10000 %rule dies (o=1 -> o.rt=1) & !(o=1 & o.rt=1 & o.rt.rt=1) %rule zero o=0 %contains zero dies",
+            "query 1 YES 3\n",
+        ),
+        (
+            "%dim 1 %limits 2 4 10000 %rule dies (o=1 -> o.rt=1) & !(o=1 & o.rt=1 & o.rt.rt=1) %rule zero o=0 %contains zero dies",
+            "query 1 UNKNOWN limits\n",
+        ),
+        (
+            "%dim 1 %alphabet 0 1 2 %limits 4 2 10 %rule cyc (o=0 -> o.rt=1) & (o=1 -> o.rt=2) & (o=2 -> o.rt=0) %rule no o!=1 %contains no cyc",
+            "query 1 UNKNOWN limits\n",
+        ),
+        (
+            "%dim 1 %alphabet 0 1 2 %limits 4 3 10 %rule cyc (o=0 -> o.rt=1) & (o=1 -> o.rt=2) & (o=2 -> o.rt=0) %rule no o!=1 %contains no cyc",
+            "query 1 NO 3\n",
+        ),
+        ("%dim 1\n%rule x o=0 & o=1\n%empty x", "query 1 YES 0\n"),
+        (
+            "%rule a !(o=1 & o.rt=1) %rule b o!=1 | o.rt!=1 %equal a b",
+            "query 1 YES 1 1\n",
+        ),
+        (
+            "%rule a o=0 %rule b o=1 %equal a b",
+            "query 1 NO left 1 1\n",
+        ),
+        (
+            "%topology hex %rule full o@o %rule free Ap[o1] (p~o -> !(p=1 & o=1)) %contains free full",
+            "query 1 NO 1 1\n",
+        ),
+        (
+            "%dim 1 %nodes a b %topology (x a [0] b) %rule p !(o.x=1) %rule q o.x!=1 %empty p %empty q",
+            "query 1 NO 1\nquery 2 YES 0\n",
+        ),
+        (
+            "%limits 3 3 10 %rule dies (o=1 -> o.rt=1) & !(o=1 & o.rt=1 & o.rt.rt=1) %rule zero o=0 %contains zero dies",
+            "query 1 YES 3\n",
+        ),
+        (
+            "%dim 3 %rule a o=1 -> (o.rt=0 & o.up=0 & o.fw=0) %rule b o=1 -> o.fw=0 %contains b a",
+            "query 1 YES 1\n",
+        ),
+        (
+            "%alphabet 0 1 2 %rule three Ap[o1] (p~o -> p!=o) %rule diagonal o=o.rt.up %empty three %contains diagonal three",
+            "query 1 NO 2 2\nquery 2 NO 2 2\n",
+        ),
+    ];
+    for (script, answers) in rows {
+        let lines = answer_lines(alloc, script)?;
+        assert_eq!(rt; lines.as_str(), answers, "{script}");
+    }
+    Ok(())
+}
