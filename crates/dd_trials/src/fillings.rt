@@ -1,0 +1,65 @@
+// Every filling of a few cells, by a number.
+ghost use Rattle.std.specs.Prelude.{◌≡◌, ◌<◌, ◌≤◌, length, IfOk};
+ghost use Rattle.std.specs.List.{All};
+
+use dd_formula::Rule;
+use dd_lattice::{Cell, Position, in_order};
+use dd_pattern::Filling;
+use std::alloc::{AllocError, Global};
+use std::test::Fail;
+
+/// The last digits of a number in the base, the very last one first.
+pub(crate) fn digits(
+    alloc: Global,
+    count: usize,
+    base: u32,
+    number: u32,
+) -> Result<Vec<u32>, AllocError>
+    requires { 1 ≤ base }
+    ensures { IfOk result (λ v. All (λ s. s < base) v.items) }
+{
+    let mut rest = number;
+    let mut digits = Vec::new(alloc);
+    for _ in 0..count {
+        digits.push(rest % base)?;
+        rest /= base;
+    }
+    Ok(digits)
+}
+
+/// The filling of the cells with this number: its digits are the symbols of the cells in cell order.
+pub(crate) fn filling(
+    alloc: Global,
+    cells: &[Cell],
+    symbols: u32,
+    number: u32,
+) -> Result<Filling, Fail>
+    requires { 1 ≤ symbols }
+    ensures { IfOk result (λ f. All (λ s. s < symbols) f.symbols) }
+{
+    let cells = in_order(alloc, cells)?;
+    let symbols = digits(alloc, cells.len(), symbols, number)?;
+    if symbols.len() != cells.len() {
+        return Err("a symbol for each cell".into());
+    }
+    Ok(Filling::new(cells, symbols))
+}
+
+/// The cell of a node at the origin.
+pub(crate) fn at_origin(node: u32) -> Cell {
+    Cell {
+        position: Position { x: 0, y: 0, z: 0 },
+        node,
+    }
+}
+
+/// Whether the rule is true at a cell, or `None` where something that it reads there isn't given.
+#[tactic(auto, using(dd_formula::proofs::Reached::filling_below))]
+pub(crate) fn truth(rule: &Rule, filling: &Filling, at: &Cell) -> Result<Option<bool>, Fail>
+    requires { All (λ s. s < rule.now.symbols) filling.now.symbols }
+{
+    if at.node >= rule.nodes() {
+        return Err("a node of the rule".into());
+    }
+    Ok(rule.truth(at, filling))
+}

@@ -1,0 +1,15 @@
+//! Trials of several crates together: scripts, what their rules say, and the gates and clauses of the same rules.
+#![tactic(auto)]
+
+#[cfg(test)]
+mod boxes;
+#[cfg(test)]
+mod clauses;
+#[cfg(test)]
+mod fillings;
+#[cfg(test)]
+mod questions;
+#[cfg(test)]
+mod scripts;
+#[cfg(test)]
+mod signals;

@@ -1,0 +1,64 @@
+// Box questions over small rules, on small boxes.
+ghost use Rattle.std.specs.Prelude.{◌≡◌, ◌≤◌, ◌+◌, IsTrue, IfOk};
+ghost use Rattle.dd_formula.specs.Counts.{cut};
+ghost use Rattle.dd_boxes.specs.Boxes.{Reaches};
+ghost use Rattle.dd_boxes.specs.Counts.{goal_clauses};
+ghost use Rattle.dd_boxes.specs.Goals.{IsGoalFor, breaks};
+ghost use Rattle.dd_boxes.specs.Views.{goal_of};
+
+use dd_boxes::one_box;
+use dd_clause::Cnf;
+use dd_counts::{broken_clauses, place_clauses};
+use dd_formula::Rule;
+use dd_problem::{Goal, box_clauses, least_radius};
+use std::alloc::{AllocError, Global};
+use std::test::Fail;
+
+/// Whether the goal of breaking a rule can be asked of the other.
+pub(crate) fn can_be_asked(premise: &Rule, broken: &Rule) -> bool
+    ensures { IsTrue result → IsGoalFor premise.now (breaks broken.now) }
+{
+    premise.dim() == broken.dim()
+        && premise.nodes() == broken.nodes()
+        && premise.symbols() == broken.symbols()
+}
+
+fn goal_clauses(goal: &Goal) -> u32
+    ensures { result ≡ cut 1000 (goal_clauses (goal_of goal.now)) }
+{
+    match goal {
+        Goal::Breaks(rule) => broken_clauses(rule, 1000),
+        Goal::Always => 0,
+    }
+}
+
+/// Whether the box of a radius holds all that the goal reads.
+fn reaches(alloc: Global, premise: &Rule, goal: &Goal, radius: u32) -> Result<bool, AllocError>
+    ensures { IfOk result (λ found. IsTrue found → Reaches (goal_of goal.now) radius) }
+{
+    one_box(premise, goal, radius);
+    Ok(least_radius(alloc, goal)? <= radius)
+}
+
+/// The clauses of a question on the box of radius 0, or on the line on that of radius 1.
+#[tactic(auto, using(crate::proofs::Counting::few_in_a_box, crate::proofs::Counting::few_at_the_origin))]
+pub(crate) fn clauses_of(
+    alloc: Global,
+    premise: &Rule,
+    goal: &Goal,
+    radius: u32,
+) -> Result<Cnf, Fail>
+    requires { IsGoalFor premise.now (goal_of goal.now) }
+{
+    if !reaches(alloc, premise, goal, radius)? {
+        return Err("a box that holds what the goal reads".into());
+    }
+    if place_clauses(premise, 1000) > 1000 || goal_clauses(goal) > 1000 {
+        return Err("few clauses".into());
+    }
+    match (premise.dim(), radius) {
+        (1, 0 | 1) => Ok(box_clauses(alloc, premise, goal, radius)?),
+        (2, 0) => Ok(box_clauses(alloc, premise, goal, 0)?),
+        _ => Err("a small box".into()),
+    }
+}

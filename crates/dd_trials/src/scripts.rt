@@ -1,0 +1,22 @@
+// Scripts of the tests.
+use dd_script::{Script, parse};
+use std::alloc::{AllocError, Global};
+use std::test::Fail;
+
+/// The parts of a text, one after the other.
+fn joined(alloc: Global, parts: &[&str]) -> Result<Vec<u8>, AllocError> {
+    let mut bytes = Vec::new(alloc);
+    for part in parts {
+        bytes.extend_from_slice(part.as_bytes())?;
+    }
+    Ok(bytes)
+}
+
+/// The script of a text in parts.
+pub(crate) fn script_of(alloc: Global, parts: &[&str]) -> Result<Script, Fail> {
+    let bytes = joined(alloc, parts)?;
+    if bytes.len() > 1_048_576 {
+        return Err("a short script".into());
+    }
+    Ok(parse(alloc, &bytes)?)
+}

@@ -1,0 +1,187 @@
+// The signal of a rule says what its formula says, at every filling of what it reads.
+ghost use Rattle.std.specs.Prelude.{◌≡◌, ◌<◌, ◌≤◌, ◌+◌, length};
+ghost use Rattle.std.specs.List.Sorted.{IsStrictlySortedBy};
+ghost use Rattle.dd_lattice.specs.Order.{cell_cmp};
+
+use crate::fillings::{at_origin, filling, truth};
+use crate::scripts::script_of;
+use dd_circuit::{Circuit, Signal};
+use dd_compile::{Inputs, compile_rule, reads_are_wired};
+use dd_counts::patterns;
+use dd_formula::Rule;
+use dd_lattice::{Cell, Position, in_order};
+use std::alloc::{AllocError, Global};
+use std::process::Abort;
+use std::test::Fail;
+
+/// So many signals, the first one of the variable `first`.
+fn signals_from(alloc: Global, first: u32, count: u32) -> Result<Vec<Signal>, AllocError>
+    requires { first + count ≤ 1000 }
+{
+    let mut signals = Vec::new(alloc);
+    for variable in first..first + count {
+        signals.push(Signal {
+            variable,
+            positive: true,
+        })?;
+    }
+    Ok(signals)
+}
+
+/// One variable for each symbol of each cell.
+fn inputs_of(alloc: Global, cells: &[Cell], symbols: u32) -> Result<Inputs, AllocError>
+    requires ascending { IsStrictlySortedBy cell_cmp cells.now }
+    requires few { length cells.now ≤ 4 }
+    requires symbols { symbols ≤ 16 }
+{
+    let mut inputs = Inputs::new(alloc);
+    let mut next = 1;
+    for cell in cells {
+        inputs.add(*cell, signals_from(alloc, next, symbols)?)?;
+        next += symbols;
+    }
+    Ok(inputs)
+}
+
+/// The gates of the rule at a node of the origin, and their signal.
+fn compiled(
+    alloc: Global,
+    rule: &Rule,
+    node: u32,
+    cells: &[Cell],
+) -> Result<(Circuit, Signal), Fail>
+    requires node { node < rule.now.nodes }
+    requires ascending { IsStrictlySortedBy cell_cmp cells.now }
+{
+    if cells.len() > 4 {
+        return Err("few cells".into());
+    }
+    let inputs = inputs_of(alloc, cells, rule.symbols())?;
+    let mut circuit = Circuit::new(alloc, cells.len() as u32 * rule.symbols());
+    let position = Position { x: 0, y: 0, z: 0 };
+    let at = Cell { position, node };
+    if !reads_are_wired(&circuit, rule, &at, &inputs) {
+        return Err("a variable for each symbol of each cell that is read".into());
+    }
+    let signal = compile_rule(&mut circuit, alloc, rule, &at, &inputs)?;
+    Ok((circuit, signal))
+}
+
+/// The values of the inputs where the cells have these symbols.
+fn input_values(alloc: Global, filled: &[u32], symbols: u32) -> Result<Vec<bool>, AllocError> {
+    let mut values = Vec::new(alloc);
+    for here in filled {
+        for symbol in 0..symbols {
+            values.push(*here == symbol)?;
+        }
+    }
+    Ok(values)
+}
+
+fn value_of(
+    alloc: Global,
+    circuit: &Circuit,
+    signal: Signal,
+    inputs: &[bool],
+) -> Result<bool, Fail> {
+    if inputs.len() != circuit.inputs() as usize {
+        return Err("a value for each input".into());
+    }
+    let values = circuit.value(alloc, inputs)?;
+    let place = signal.variable.checked_sub(1).ok_or("a variable")?;
+    let value = values.get(place as usize).copied();
+    Ok(value.ok_or("a variable of the circuit")? == signal.positive)
+}
+
+/// What the rule and its signal say at a node of the origin, at each filling of what the rule reads there.
+fn truths(alloc: Global, rule: &Rule, node: u32) -> Result<Vec<(Option<bool>, bool)>, Fail>
+    requires { node < rule.now.nodes }
+{
+    let cells = in_order(alloc, rule.reads(node))?;
+    let (circuit, signal) = compiled(alloc, rule, node, &cells)?;
+    let symbols = rule.symbols();
+    let mut truths = Vec::new(alloc);
+    for number in 0..patterns(rule, node, 1000) {
+        let filling = filling(alloc, &cells, symbols, number)?;
+        let inputs = input_values(alloc, filling.symbols(), symbols)?;
+        let value = value_of(alloc, &circuit, signal, &inputs)?;
+        truths.push((truth(rule, &filling, &at_origin(node))?, value))?;
+    }
+    Ok(truths)
+}
+
+/// How often the rule is true. Its signal has to say the same each time.
+fn times_true(rt: &impl Abort, truths: &[(Option<bool>, bool)]) -> usize {
+    for (truth, value) in truths {
+        assert_eq!(rt; *truth, Some(*value));
+    }
+    truths.iter().filter(|(_, value)| *value).count()
+}
+
+/// At how many fillings of what it reads the rule is true, node by node.
+fn times_by_node(rt: &impl Abort, alloc: Global, rule: &Rule) -> Result<Vec<usize>, Fail> {
+    let mut times = Vec::new(alloc);
+    for node in 0..rule.nodes() {
+        let truths = truths(alloc, rule, node)?;
+        times.push(times_true(rt, &truths))?;
+    }
+    Ok(times)
+}
+
+/// The same of the first rule of a script.
+fn times_in(rt: &impl Abort, alloc: Global, script: &[&str]) -> Result<Vec<usize>, Fail> {
+    let script = script_of(alloc, script)?;
+    let rule = script.rules().first().ok_or("a rule")?;
+    times_by_node(rt, alloc, rule)
+}
+
+// The second node has no move x, and the first no move y.
+#[test]
+fn atoms_at_two_nodes(rt: HostRuntime) -> Result<(), Fail> {
+    let head = "%dim 1 %nodes a b %topology (x a [0] b) (y b [1] a) %rule r ";
+    for (formula, first, second) in [
+        ("o=1", 1, 1),
+        ("o.x=1", 1, 0),
+        ("o.y!=1", 0, 1),
+        ("o.x=o", 2, 0),
+        ("o.y!=o", 0, 2),
+        ("o.x~o", 1, 0),
+        ("o~o", 0, 0),
+        ("o@o", 1, 1),
+        ("o.x.y@o", 0, 0),
+        ("o.x:b", 1, 0),
+        ("o:b", 0, 1),
+        ("!(o.x=1)", 1, 1),
+        ("Ap[o1] p=1", 1, 1),
+        ("Ep[o1] p.x=1", 1, 3),
+    ] {
+        let times = times_in(&rt, rt.alloc(), &[head, formula])?;
+        assert_eq!(rt; times.as_slice(), [first, second].as_slice(), "{formula}");
+    }
+    Ok(())
+}
+
+#[test]
+fn formulas_over_three_symbols(rt: HostRuntime) -> Result<(), Fail> {
+    let head = "%dim 1 %alphabet 0 1 2 %rule r ";
+    for (formula, wanted) in [
+        ("!(o=1)", 2),
+        ("o!=2", 2),
+        ("o=1 & o.rt=2", 1),
+        ("o=1 | o.rt=2", 5),
+        ("o=1 -> o.rt=2", 7),
+        ("o=1 <-> o.rt=2", 5),
+        ("o=o.rt", 3),
+        ("o!=o.rt", 6),
+        ("Ap[o1] p=1", 1),
+        ("Ep[o1] p=1", 19),
+        ("Ap[o1] (p~o -> p!=o)", 12),
+        ("Ep[o1] (p=2 & !(p@o))", 15),
+        ("o.rt.rt=o.lt <-> o=2", 15),
+        ("Ap[o1] Eq[o0p0] q=1", 9),
+    ] {
+        let times = times_in(&rt, rt.alloc(), &[head, formula])?;
+        assert_eq!(rt; times.as_slice(), [wanted].as_slice(), "{formula}");
+    }
+    Ok(())
+}
