@@ -3,8 +3,8 @@ ghost use Rattle.std.specs.Prelude.{◌≡◌, ◌+◌, ◌*◌, ◌<◌, ◌≤
 ghost use Rattle.std.specs.List.{sum_by};
 ghost use Rattle.dd_lattice.specs.InOrder.{in_order};
 ghost use Rattle.dd_expansion.specs.declared.fault.ExpansionFault.TheVariants.{Instances};
-ghost use Rattle.dd_expansion.specs.Terms.{balls_of, origin_at};
-ghost use Rattle.dd_expansion.specs.Limits.{fits, depth, IsFormula};
+ghost use Rattle.dd_expansion.specs.Terms.{cell_of, balls_of, origin_at};
+ghost use Rattle.dd_expansion.specs.Limits.{term_fits, fits, depth, IsFormula};
 ghost use Rattle.dd_expansion.specs.Near.{AreNear};
 ghost use Rattle.dd_expansion.specs.Leaves.{instances};
 ghost use Rattle.dd_expansion.specs.Expansion.{expansion, negated, any_of, both_alike};
@@ -15,12 +15,23 @@ use crate::atoms::{
 };
 use crate::expanded::Expanded;
 use crate::fault::ExpansionFault;
-use crate::formulas::{BallOf, Formula};
+use crate::formulas::{BallOf, Formula, Term};
 use crate::terms::{cell_of, cells_of};
 use dd_lattice::{Cell, Position};
 use dd_topology::Topology;
 use dd_values::{Boxed, Items};
 use std::alloc::{AllocError, Global};
+
+/// Where a formula is expanded.
+#[derive(Clone, Copy)]
+struct Scope<'a> {
+    alloc: Global,
+    topology: &'a Topology,
+    /// How many symbols there are.
+    symbols: u32,
+    /// The cells of the variables.
+    env: &'a [Cell],
+}
 
 /// The expansion of a formula over so many symbols at the cell of a node at the origin. `Instances` where it has more
 /// than `most` nodes; it is cut off there.
@@ -39,108 +50,135 @@ pub fn expand(
 {
     let position = Position { x: 0, y: 0, z: 0 };
     let env = [Cell { position, node }];
+    let scope = Scope {
+        alloc,
+        topology,
+        symbols,
+        env: &env,
+    };
     let mut budget = most;
-    expand_in(alloc, topology, symbols, &env, formula, &mut budget)
+    scope.expand(formula, &mut budget)
 }
 
-/// The expansion where the environment gives the variables' cells, paid from the budget.
-#[cycle(expand)]
-#[tactic(auto, using(crate::proofs::Nodes::expansion_layers))]
-fn expand_in(
-    alloc: Global,
-    topology: &Topology,
-    symbols: u32,
-    env: &[Cell],
-    formula: &Formula,
-    budget: &mut u32,
-) -> Result<Expanded, ExpansionFault>
-    requires fits { fits topology.now symbols formula.now (length env.now) ≡ true }
-    requires depth { depth formula.now + length env.now ≤ 65 }
-    requires near { AreNear (12 * length env.now) env.now }
-    ensures { let e = expansion topology.now.edges symbols formula.now env.now in
-        IsPaid budget.old budget.new e (instances e) result }
-{
-    match formula {
-        Formula::Symbol { term, symbol } => {
-            let place = cell_of(topology, env, term);
-            symbol_at(*symbol, place, budget)
+impl<'a> Scope<'a> {
+    /// The cell of a term; `None` where a move is missing.
+    fn cell(&self, term: &Term) -> Option<Cell>
+        requires scope { length self.now.env.now ≤ 65 }
+        requires near { AreNear (12 * length self.now.env.now) self.now.env.now }
+        requires fits { term_fits self.now.topology.now (length self.now.env.now) term.now ≡ true }
+        ensures { result ≡ cell_of self.now.topology.now.edges self.now.env.now term.now }
+    {
+        cell_of(self.topology, self.env, term)
+    }
+
+    /// The expansion of a formula, paid from the budget.
+    #[cycle(expand)]
+    #[tactic(auto, using(crate::proofs::Nodes::expansion_layers))]
+    fn expand(&self, formula: &Formula, budget: &mut u32) -> Result<Expanded, ExpansionFault>
+        requires fits { fits self.now.topology.now self.now.symbols formula.now (length self.now.env.now) ≡ true }
+        requires depth { depth formula.now + length self.now.env.now ≤ 65 }
+        requires near { AreNear (12 * length self.now.env.now) self.now.env.now }
+        ensures { let e = expansion self.now.topology.now.edges self.now.symbols formula.now self.now.env.now in
+            IsPaid budget.old budget.new e (instances e) result }
+    {
+        let Scope { alloc, symbols, .. } = *self;
+        match formula {
+            Formula::Symbol { term, symbol } => symbol_at(*symbol, self.cell(term), budget),
+            Formula::NotSymbol { term, symbol } => {
+                no_symbol_at(alloc, *symbol, self.cell(term), budget)
+            }
+            Formula::Same { left, right } => {
+                same_at(alloc, symbols, self.cell(left), self.cell(right), budget)
+            }
+            Formula::NotSame { left, right } => {
+                not_same_at(alloc, symbols, self.cell(left), self.cell(right), budget)
+            }
+            Formula::Adjacent { left, right } => {
+                adjacent_at(self.topology, self.cell(left), self.cell(right), budget)
+            }
+            Formula::Place { left, right } => place_at(self.cell(left), self.cell(right), budget),
+            Formula::Node { term, node } => node_at(*node, self.cell(term), budget),
+            Formula::Not(inner) => {
+                let part = self.expand(inner.get(), budget)?;
+                negated(alloc, part, budget)
+            }
+            Formula::And(parts) => Ok(Expanded::And(self.expand_all(parts.as_slice(), budget)?)),
+            Formula::Or(parts) => Ok(Expanded::Or(self.expand_all(parts.as_slice(), budget)?)),
+            Formula::Implies(premise, conclusion) => {
+                spend(budget, 2)?;
+                let one = self.expand(premise.get(), budget)?;
+                let other = self.expand(conclusion.get(), budget)?;
+                Ok(implied(alloc, one, other)?)
+            }
+            Formula::Iff(first, second) => {
+                spend(budget, 1)?;
+                let one = self.expand(first.get(), budget)?;
+                let other = self.expand(second.get(), budget)?;
+                Ok(alike(alloc, one, other)?)
+            }
+            Formula::ForAll { balls, body } => {
+                Ok(Expanded::And(self.expand_over(balls.as_slice(), body, budget)?))
+            }
+            Formula::Exists { balls, body } => {
+                Ok(Expanded::Or(self.expand_over(balls.as_slice(), body, budget)?))
+            }
         }
-        Formula::NotSymbol { term, symbol } => {
-            let place = cell_of(topology, env, term);
-            no_symbol_at(alloc, *symbol, place, budget)
+    }
+
+    /// The expansions of the parts of a conjunction or a disjunction. The gate that joins them is paid too.
+    #[cycle(expand)]
+    fn expand_all(
+        &self,
+        formulas: &[Formula],
+        budget: &mut u32,
+    ) -> Result<Items<Expanded>, ExpansionFault>
+        requires fits { fits self.now.topology.now self.now.symbols (Formula.And formulas.now) (length self.now.env.now) ≡ true }
+        requires depth { depth (Formula.And formulas.now) + length self.now.env.now ≤ 65 }
+        requires near { AreNear (12 * length self.now.env.now) self.now.env.now }
+        ensures { let es = self.now.topology.now.edges in
+            IsPaid budget.old budget.new (map (λ f. expansion es self.now.symbols f self.now.env.now) formulas.now)
+            (1 + sum_by (λ f. instances (expansion es self.now.symbols f self.now.env.now)) formulas.now) result }
+    {
+        spend(budget, 1)?;
+        let mut parts = Items::new(self.alloc);
+        for formula in formulas {
+            let part = self.expand(formula, budget)?;
+            parts.push(part)?;
         }
-        Formula::Same { left, right } => {
-            let first = cell_of(topology, env, left);
-            let second = cell_of(topology, env, right);
-            same_at(alloc, symbols, first, second, budget)
+        Ok(parts)
+    }
+
+    /// The expansions of a body for each cell of the union of balls, in cell order. The gate that joins them is paid too.
+    #[cycle(expand)]
+    fn expand_over(
+        &self,
+        balls: &[BallOf],
+        body: &Boxed<Formula>,
+        budget: &mut u32,
+    ) -> Result<Items<Expanded>, ExpansionFault>
+        requires fits { fits self.now.topology.now self.now.symbols (Formula.ForAll balls.now body.now) (length self.now.env.now) ≡ true }
+        requires depth { depth (Formula.ForAll balls.now body.now) + length self.now.env.now ≤ 65 }
+        requires near { AreNear (12 * length self.now.env.now) self.now.env.now }
+        ensures { let es = self.now.topology.now.edges in
+            let cells = in_order (balls_of es self.now.env.now balls.now) in
+            IsPaid budget.old budget.new (map (λ c. expansion es self.now.symbols body.now (self.now.env.now ++ c ∷ [])) cells)
+            (1 + sum_by (λ c. instances (expansion es self.now.symbols body.now (self.now.env.now ++ c ∷ []))) cells) result }
+    {
+        spend(budget, 1)?;
+        let cells = cells_of(self.alloc, self.topology, self.env, balls)?;
+        let mut inner = Vec::from_slice(self.alloc, self.env)?;
+        let mut parts = Items::new(self.alloc);
+        for cell in &cells {
+            inner.push(*cell)?;
+            let inside = Scope {
+                env: &inner,
+                ..*self
+            };
+            let part = inside.expand(body.get(), budget)?;
+            parts.push(part)?;
+            inner.truncate(self.env.len());
         }
-        Formula::NotSame { left, right } => {
-            let first = cell_of(topology, env, left);
-            let second = cell_of(topology, env, right);
-            not_same_at(alloc, symbols, first, second, budget)
-        }
-        Formula::Adjacent { left, right } => {
-            let first = cell_of(topology, env, left);
-            let second = cell_of(topology, env, right);
-            adjacent_at(topology, first, second, budget)
-        }
-        Formula::Place { left, right } => {
-            let first = cell_of(topology, env, left);
-            let second = cell_of(topology, env, right);
-            place_at(first, second, budget)
-        }
-        Formula::Node { term, node } => {
-            let place = cell_of(topology, env, term);
-            node_at(*node, place, budget)
-        }
-        Formula::Not(inner) => {
-            let part = expand_in(alloc, topology, symbols, env, inner.get(), budget)?;
-            negated(alloc, part, budget)
-        }
-        Formula::And(parts) => {
-            let made = expand_all(alloc, topology, symbols, env, parts.as_slice(), budget)?;
-            Ok(Expanded::And(made))
-        }
-        Formula::Or(parts) => {
-            let made = expand_all(alloc, topology, symbols, env, parts.as_slice(), budget)?;
-            Ok(Expanded::Or(made))
-        }
-        Formula::Implies(premise, conclusion) => {
-            spend(budget, 2)?;
-            let one = expand_in(alloc, topology, symbols, env, premise.get(), budget)?;
-            let other = expand_in(alloc, topology, symbols, env, conclusion.get(), budget)?;
-            Ok(implied(alloc, one, other)?)
-        }
-        Formula::Iff(first, second) => {
-            spend(budget, 1)?;
-            let one = expand_in(alloc, topology, symbols, env, first.get(), budget)?;
-            let other = expand_in(alloc, topology, symbols, env, second.get(), budget)?;
-            Ok(alike(alloc, one, other)?)
-        }
-        Formula::ForAll { balls, body } => {
-            let made = expand_over(
-                alloc,
-                topology,
-                symbols,
-                env,
-                balls.as_slice(),
-                body,
-                budget,
-            )?;
-            Ok(Expanded::And(made))
-        }
-        Formula::Exists { balls, body } => {
-            let made = expand_over(
-                alloc,
-                topology,
-                symbols,
-                env,
-                balls.as_slice(),
-                body,
-                budget,
-            )?;
-            Ok(Expanded::Or(made))
-        }
+        Ok(parts)
     }
 }
 
@@ -159,62 +197,4 @@ fn alike(alloc: Global, first: Expanded, second: Expanded) -> Result<Expanded, A
     let one = Boxed::new(alloc, first)?;
     let other = Boxed::new(alloc, second)?;
     Ok(Expanded::Iff(one, other))
-}
-
-/// The expansions of the parts of a conjunction or a disjunction. The gate that joins them is paid too.
-#[cycle(expand)]
-fn expand_all(
-    alloc: Global,
-    topology: &Topology,
-    symbols: u32,
-    env: &[Cell],
-    formulas: &[Formula],
-    budget: &mut u32,
-) -> Result<Items<Expanded>, ExpansionFault>
-    requires fits { fits topology.now symbols (Formula.And formulas.now) (length env.now) ≡ true }
-    requires depth { depth (Formula.And formulas.now) + length env.now ≤ 65 }
-    requires near { AreNear (12 * length env.now) env.now }
-    ensures { let es = topology.now.edges in
-        IsPaid budget.old budget.new (map (λ f. expansion es symbols f env.now) formulas.now)
-        (1 + sum_by (λ f. instances (expansion es symbols f env.now)) formulas.now) result }
-{
-    spend(budget, 1)?;
-    let mut parts = Items::new(alloc);
-    for formula in formulas {
-        let part = expand_in(alloc, topology, symbols, env, formula, budget)?;
-        parts.push(part)?;
-    }
-    Ok(parts)
-}
-
-/// The expansions of a body for each cell of the union of balls, in cell order. The gate that joins them is paid too.
-#[cycle(expand)]
-fn expand_over(
-    alloc: Global,
-    topology: &Topology,
-    symbols: u32,
-    env: &[Cell],
-    balls: &[BallOf],
-    body: &Boxed<Formula>,
-    budget: &mut u32,
-) -> Result<Items<Expanded>, ExpansionFault>
-    requires fits { fits topology.now symbols (Formula.ForAll balls.now body.now) (length env.now) ≡ true }
-    requires depth { depth (Formula.ForAll balls.now body.now) + length env.now ≤ 65 }
-    requires near { AreNear (12 * length env.now) env.now }
-    ensures { let es = topology.now.edges in
-        let cells = in_order (balls_of es env.now balls.now) in
-        IsPaid budget.old budget.new (map (λ c. expansion es symbols body.now (env.now ++ c ∷ [])) cells)
-        (1 + sum_by (λ c. instances (expansion es symbols body.now (env.now ++ c ∷ []))) cells) result }
-{
-    spend(budget, 1)?;
-    let cells = cells_of(alloc, topology, env, balls)?;
-    let mut inner = Vec::from_slice(alloc, env)?;
-    let mut parts = Items::new(alloc);
-    for cell in &cells {
-        inner.push(*cell)?;
-        let part = expand_in(alloc, topology, symbols, &inner, body.get(), budget)?;
-        parts.push(part)?;
-        inner.truncate(env.len());
-    }
-    Ok(parts)
 }

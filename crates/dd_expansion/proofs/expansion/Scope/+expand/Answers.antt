@@ -1,0 +1,159 @@
+use Rattle.std.proofs.Common.{◌≡◌, ◌+◌, ◌*◌, ◌∷◌, ◌++◌, [], ◌<◌, ◌∙◌, ℕ, length, take, ap, sym, subst, refl, arith}
+use Rattle.std.proofs.lemmas.List.{take_at}
+use Rattle.std.proofs.lemmas.Result.{err_from_is_err_and}
+use denote.Param.Weighed.{at_most}
+use Rattle.dd_lattice.specs.declared.position.Cell.{Cell}
+use Rattle.dd_expansion.specs.declared.expanded.Expanded.{Expanded}
+use Rattle.dd_expansion.specs.declared.expanded.Expanded.TheVariants as expanded
+use Rattle.dd_expansion.specs.declared.formulas.Formula.{Formula}
+use Rattle.dd_expansion.specs.Leaves.{instances}
+use Rattle.dd_expansion.specs.Near.{AreNear}
+use Rattle.dd_expansion.specs.Expansion.{expansion}
+use Rattle.dd_expansion.proofs.formulas.Formula.TheLaws.{the_size}
+use Rattle.dd_expansion.proofs.Layers.{expansion_and, expansion_or, expansion_for_all, expansion_exists}
+use Rattle.dd_expansion.proofs.Nodes.{nodes_and, nodes_or, nodes_for_all, nodes_exists}
+use Rattle.dd_expansion.proofs.Parts.{part_fits, part_depth, inner_fits, inner_depth, inner_near, item_near, made_more, paid_more, few_for_all}
+use Rattle.dd_expansion.proofs.expansion.Scope.+expand.Goals as goal
+
+pub expand_all-expand-requires : goal.expand_all-expand-requires
+expand_all-expand-requires t c =
+    let formulas = c.args.formulas.now in
+    let at = c.loop-formula.formula-index in
+    let part = c.formula-item.result in
+    let within : at < length formulas = omega arith in
+    let below = at_most the_size formulas at part within in
+    let size = ap the_size c.formula-item.is in
+    let shallow = part_depth formulas at part within c.formula-item.is in (
+      omega (arith, below, size, c.decreases),
+      (
+        part_fits c.args.self.now.topology.now c.args.self.now.symbols formulas (length c.args.self.now.env.now) at part c.requires.fits within c.formula-item.is,
+        (omega (arith, shallow, c.requires.depth), c.requires.near),
+      ),
+    )
+
+pub expand_all-returns-in_err-part : goal.expand_all-returns-in_err-part
+expand_all-returns-in_err-part t c =
+    let p = err_from_is_err_and c.from_residual-in_err-part.result c.from_residual-in_err-part.ensures.1 in
+    let nodes : Formula → ℕ = λ f. instances (expansion c.args.self.now.topology.now.edges c.args.self.now.symbols f c.args.self.now.env.now) in
+    rw (p.1, p.2)
+    (λ few. few_for_all nodes c.args.formulas.now c.loop-formula.formula-index c.formula-item.result c.loop-formula.budget _ _ (omega arith) c.formula-item.is c.loop-formula.invariant.paid c.in_ok-spend.ensures.ok (c.in_err-part.ensures few))
+
+pub expand_all-loop-formula-preserved : goal.expand_all-loop-formula-preserved
+expand_all-loop-formula-preserved t c =
+    let one : Formula → Expanded = λ f. expansion c.args.self.now.topology.now.edges c.args.self.now.symbols f c.args.self.now.env.now in
+    let nodes : Formula → ℕ = λ f. instances (expansion c.args.self.now.topology.now.edges c.args.self.now.symbols f c.args.self.now.env.now) in
+    let at = c.loop-formula.formula-index in
+    let within : at < length c.args.formulas.now = omega arith in
+    let part = c.in_ok-part.ensures in
+    record {
+      made = made_more one c.args.formulas.now at c.formula-item.result c.loop-formula.parts _ c.in_ok-part.part within c.formula-item.is c.loop-formula.invariant.made part.0 c.in_ok-push.ensures.ok;
+      paid = paid_more nodes c.args.formulas.now at c.formula-item.result c.loop-formula.budget _ _ within c.formula-item.is c.loop-formula.invariant.paid part.1;
+    }
+
+pub expand-returns-in_err-expand_all-in-And : goal.expand-returns-in_err-expand_all-in-And
+expand-returns-in_err-expand_all-in-And t c =
+    let p = err_from_is_err_and c.from_residual-in_err-expand_all-in-And.result c.from_residual-in_err-expand_all-in-And.ensures.1 in
+    let nodes = nodes_and c.args.self.now.topology.now.edges c.args.self.now.symbols c.args.self.now.env.now c.in-And.parts in
+    rw (p.1, p.2, c.in-And.is, nodes, ← c.as_slice.ensures) c.in_err-expand_all-in-And.ensures
+
+pub expand-returns-in_ok-expand_all-in-And : goal.expand-returns-in_ok-expand_all-in-And
+expand-returns-in_ok-expand_all-in-And t c =
+    let whole = expansion_and c.args.self.now.topology.now.edges c.args.self.now.symbols c.in-And.parts c.args.self.now.env.now in
+    let nodes = nodes_and c.args.self.now.topology.now.edges c.args.self.now.symbols c.args.self.now.env.now c.in-And.parts in (
+      rw (c.in-And.is, whole, ← c.as_slice.ensures) (ap expanded.And c.in_ok-expand_all-in-And.ensures.0),
+      rw (c.in-And.is, nodes, ← c.as_slice.ensures) c.in_ok-expand_all-in-And.ensures.1,
+    )
+
+pub expand-returns-in_err-expand_all-in-Or : goal.expand-returns-in_err-expand_all-in-Or
+expand-returns-in_err-expand_all-in-Or t c =
+    let p = err_from_is_err_and c.from_residual-in_err-expand_all-in-Or.result c.from_residual-in_err-expand_all-in-Or.ensures.1 in
+    let nodes = nodes_or c.args.self.now.topology.now.edges c.args.self.now.symbols c.args.self.now.env.now c.in-Or.parts in
+    rw (p.1, p.2, c.in-Or.is, nodes, ← c.as_slice-in-Or.ensures) c.in_err-expand_all-in-Or.ensures
+
+pub expand-returns-in_ok-expand_all-in-Or : goal.expand-returns-in_ok-expand_all-in-Or
+expand-returns-in_ok-expand_all-in-Or t c =
+    let whole = expansion_or c.args.self.now.topology.now.edges c.args.self.now.symbols c.in-Or.parts c.args.self.now.env.now in
+    let nodes = nodes_or c.args.self.now.topology.now.edges c.args.self.now.symbols c.args.self.now.env.now c.in-Or.parts in (
+      rw (c.in-Or.is, whole, ← c.as_slice-in-Or.ensures) (ap expanded.Or c.in_ok-expand_all-in-Or.ensures.0),
+      rw (c.in-Or.is, nodes, ← c.as_slice-in-Or.ensures) c.in_ok-expand_all-in-Or.ensures.1,
+    )
+
+pub expand-returns-in_err-expand_over-in-ForAll : goal.expand-returns-in_err-expand_over-in-ForAll
+expand-returns-in_err-expand_over-in-ForAll t c =
+    let p = err_from_is_err_and c.from_residual-in_err-expand_over-in-ForAll.result c.from_residual-in_err-expand_over-in-ForAll.ensures.1 in
+    let nodes = nodes_for_all c.args.self.now.topology.now.edges c.args.self.now.symbols c.args.self.now.env.now c.in-ForAll.balls c.in-ForAll.body in
+    rw (p.1, p.2, c.in-ForAll.is, nodes, ← c.as_slice-in-ForAll.ensures) c.in_err-expand_over-in-ForAll.ensures
+
+pub expand-returns-in_ok-expand_over-in-ForAll : goal.expand-returns-in_ok-expand_over-in-ForAll
+expand-returns-in_ok-expand_over-in-ForAll t c =
+    let whole = expansion_for_all c.args.self.now.topology.now.edges c.args.self.now.symbols c.in-ForAll.balls c.in-ForAll.body c.args.self.now.env.now in
+    let nodes = nodes_for_all c.args.self.now.topology.now.edges c.args.self.now.symbols c.args.self.now.env.now c.in-ForAll.balls c.in-ForAll.body in (
+      rw (c.in-ForAll.is, whole, ← c.as_slice-in-ForAll.ensures) (ap expanded.And c.in_ok-expand_over-in-ForAll.ensures.0),
+      rw (c.in-ForAll.is, nodes, ← c.as_slice-in-ForAll.ensures) c.in_ok-expand_over-in-ForAll.ensures.1,
+    )
+
+pub expand-returns-in_err-expand_over-in-Exists : goal.expand-returns-in_err-expand_over-in-Exists
+expand-returns-in_err-expand_over-in-Exists t c =
+    let p = err_from_is_err_and c.from_residual-in_err-expand_over-in-Exists.result c.from_residual-in_err-expand_over-in-Exists.ensures.1 in
+    let nodes = nodes_exists c.args.self.now.topology.now.edges c.args.self.now.symbols c.args.self.now.env.now c.in-Exists.balls c.in-Exists.body in
+    rw (p.1, p.2, c.in-Exists.is, nodes, ← c.as_slice-in-Exists.ensures) c.in_err-expand_over-in-Exists.ensures
+
+pub expand-returns-in_ok-expand_over-in-Exists : goal.expand-returns-in_ok-expand_over-in-Exists
+expand-returns-in_ok-expand_over-in-Exists t c =
+    let whole = expansion_exists c.args.self.now.topology.now.edges c.args.self.now.symbols c.in-Exists.balls c.in-Exists.body c.args.self.now.env.now in
+    let nodes = nodes_exists c.args.self.now.topology.now.edges c.args.self.now.symbols c.args.self.now.env.now c.in-Exists.balls c.in-Exists.body in (
+      rw (c.in-Exists.is, whole, ← c.as_slice-in-Exists.ensures) (ap expanded.Or c.in_ok-expand_over-in-Exists.ensures.0),
+      rw (c.in-Exists.is, nodes, ← c.as_slice-in-Exists.ensures) c.in_ok-expand_over-in-Exists.ensures.1,
+    )
+
+pub expand_over-returns-in_err-part : goal.expand_over-returns-in_err-part
+expand_over-returns-in_err-part t c =
+    let p = err_from_is_err_and c.from_residual-in_err-part.result c.from_residual-in_err-part.ensures.1 in
+    let body = c.args.body.now in
+    let env = c.args.self.now.env.now in
+    let cell = c.cell-item.result in
+    let nodes : Cell → ℕ = λ d. instances (expansion c.args.self.now.topology.now.edges c.args.self.now.symbols body (env ++ d ∷ [])) in
+    let scope : c.deref.result.now ≡ env ++ cell ∷ [] = c.deref.ensures.value ∙ (c.in_ok-push.ensures.items ∙ ap (λ l. l ++ cell ∷ []) c.loop-cell.invariant.scope) in
+    let few = rw (c.get.ensures, scope) at c.in_err-part.ensures in
+    let cells = c.deref-cell-items.result.now in
+    let within : c.loop-cell.cell-index < length cells = omega arith in
+    rw (p.1, p.2, ← c.in_ok-cells.ensures.list, ← c.deref-cell-items.ensures.value)
+    (λ fault. few_for_all nodes cells c.loop-cell.cell-index cell c.loop-cell.budget _ _ within c.cell-item.is c.loop-cell.invariant.paid c.in_ok-spend.ensures.ok (few fault))
+
+pub expand_over-loop-cell-preserved : goal.expand_over-loop-cell-preserved
+expand_over-loop-cell-preserved t c =
+    let body = c.args.body.now in
+    let env = c.args.self.now.env.now in
+    let cell = c.cell-item.result in
+    let one : Cell → Expanded = λ d. expansion c.args.self.now.topology.now.edges c.args.self.now.symbols body (env ++ d ∷ []) in
+    let nodes : Cell → ℕ = λ d. instances (expansion c.args.self.now.topology.now.edges c.args.self.now.symbols body (env ++ d ∷ [])) in
+    let pushed = c.in_ok-push.ensures.items ∙ ap (λ l. l ++ cell ∷ []) c.loop-cell.invariant.scope in
+    let scope : c.deref.result.now ≡ env ++ cell ∷ [] = c.deref.ensures.value ∙ pushed in
+    let made = rw (c.get.ensures, scope) at c.in_ok-part.ensures.0 in
+    let paid = rw (c.get.ensures, scope) at c.in_ok-part.ensures.1 in
+    let cells = c.deref-cell-items.result.now in
+    let at = c.loop-cell.cell-index in
+    let within : at < length cells = omega arith in
+    record {
+      scope = c.truncate.ensures.items ∙ (ap (take (length env)) pushed ∙ take_at env (cell ∷ []) (length env) refl);
+      made = made_more one cells at cell c.loop-cell.parts _ c.in_ok-part.part within c.cell-item.is c.loop-cell.invariant.made made c.in_ok-push-2.ensures.ok;
+      paid = paid_more nodes cells at cell c.loop-cell.budget _ _ within c.cell-item.is c.loop-cell.invariant.paid paid;
+    }
+
+pub expand_over-expand-requires : goal.expand_over-expand-requires
+expand_over-expand-requires t c =
+    let env = c.args.self.now.env.now in
+    let cell = c.cell-item.result in
+    let body = c.get.result.now in
+    let scope : c.deref.result.now ≡ env ++ cell ∷ [] = c.deref.ensures.value ∙ (c.in_ok-push.ensures.items ∙ ap (λ l. l ++ cell ∷ []) c.loop-cell.invariant.scope) in
+    let near = subst (AreNear (12 * (length env + 1))) (sym c.deref-cell-items.ensures.value) c.in_ok-cells.ensures.near in
+    let here = item_near (12 * (length env + 1)) c.deref-cell-items.result.now c.loop-cell.cell-index cell near (omega arith) c.cell-item.is in (
+      omega (arith, ap the_size c.get.ensures, c.decreases),
+      (
+        inner_fits c.args.self.now.topology.now c.args.self.now.symbols c.args.balls.now c.args.body.now body env c.deref.result.now cell c.requires.fits c.get.ensures scope,
+        (
+          inner_depth c.args.balls.now c.args.body.now body env c.deref.result.now cell c.requires.depth c.get.ensures scope,
+          inner_near env c.deref.result.now cell c.requires.near here scope,
+        ),
+      ),
+    )
