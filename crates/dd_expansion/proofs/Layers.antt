@@ -71,8 +71,8 @@ pub total-sum : (ns : List ℕ) → total ns ≡ sum ns
 total-sum [] = refl
 total-sum (n ∷ ns) = ap (λ m. n + m) (total-sum ns) ∙ sym (sum_by-cons (λ m. m) n ns)
 
-total-map : (f : Expanded → ℕ) (es : List Expanded) → total (map f es) ≡ sum_by f es
-total-map f es = total-sum (map f es) ∙ sum-map f es
+pub total-map : {X : Type 0} (f : X → ℕ) (xs : List X) → total (map f xs) ≡ sum_by f xs
+total-map f xs = total-sum (map f xs) ∙ sum-map f xs
 
 pub instances_and : (es : List Expanded) → instances (expanded.And es) ≡ 1 + sum_by instances es
 instances_and es =

@@ -1,4 +1,4 @@
--- How many clauses an expansion takes, by its nodes.
+-- How many nodes an expansion has, and how many clauses it takes.
 use Rattle.std.proofs.Common.{◌≡◌, ℕ, ◌+◌, ◌*◌, ◌≤◌, List, [], ◌∷◌, map, length, take, ap, sym, ◌∙◌, arith}
 use Rattle.std.specs.List.{sum_by}
 use Rattle.std.proofs.lemmas.List.{take_all}
@@ -7,7 +7,16 @@ use Rattle.dd_expansion.specs.declared.expanded.Expanded.TheVariants as expanded
 use Rattle.dd_expansion.specs.declared.expanded.Expanded.TheFolds.{fold-roll-Expanded, map-Expanded, ind-Expanded}
 use Rattle.dd_expansion.specs.declared.expanded.Expanded.TheOpen.{Expanded-F}
 use Rattle.dd_expansion.specs.Leaves.{total, instances, instances_step, clause_count, clause_count_step}
-use Rattle.dd_expansion.proofs.Layers.{clause_count_and, clause_count_or}
+use Rattle.dd_expansion.proofs.Layers.{instances_and, instances_or, clause_count_and, clause_count_or}
+
+pub instances_alike : (es : List Expanded) → instances (expanded.Or es) ≡ instances (expanded.And es)
+instances_alike es = instances_or es ∙ sym (instances_and es)
+
+-- the nodes of all parts and the node that joins them
+pub joined : (es : List Expanded) (i n : ℕ) → length es ≤ i → n ≡ 1 + sum_by instances (take i es) → n ≡ instances (expanded.And es)
+joined es i n whole is = is ∙ ap (λ xs. 1 + sum_by instances xs) (take_all i es whole) ∙ sym (instances_and es)
+
+pub ruleset instance_layers = (instances_and, instances_alike)
 
 abbrev HasFew : Expanded → Type 0
 HasFew e = clause_count e + 1 ≤ 4 * instances e

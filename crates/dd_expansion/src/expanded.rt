@@ -1,5 +1,6 @@
 //! Formulas without variables.
-ghost use Rattle.std.specs.Prelude.{◌≡◌, IfOk};
+ghost use Rattle.std.specs.Prelude.{◌≡◌, ◌^◌, ◌<◌, IfOk};
+ghost use Rattle.dd_expansion.specs.Leaves.{instances};
 
 use dd_lattice::Cell;
 use dd_values::{Boxed, Items};
@@ -37,6 +38,23 @@ impl Expanded {
             )),
         }
     }
+
+    /// The number of nodes of this tree.
+    #[cycle(instances)]
+    #[tactic(auto, using(crate::proofs::Sizes::instance_layers))]
+    pub fn instances(&self) -> u32
+        requires { instances self.now < 2 ^ 32 }
+        ensures { result ≡ instances self.now }
+    {
+        match self {
+            Expanded::Constant(_) => 1,
+            Expanded::Leaf { .. } => 1,
+            Expanded::Not(inner) => 1 + inner.get().instances(),
+            Expanded::And(parts) => joined_instances(parts.as_slice()),
+            Expanded::Or(parts) => joined_instances(parts.as_slice()),
+            Expanded::Iff(left, right) => 1 + left.get().instances() + right.get().instances(),
+        }
+    }
 }
 
 #[cycle(copy)]
@@ -55,4 +73,18 @@ fn copy_all(alloc: Global, parts: &[Expanded]) -> Result<Items<Expanded>, AllocE
         copies.push(part.copy(alloc)?)?;
     }
     Ok(copies)
+}
+
+/// The nodes of the parts, and the node that joins them.
+#[cycle(instances)]
+#[tactic(auto, using(crate::proofs::Sizes::instance_layers))]
+fn joined_instances(parts: &[Expanded]) -> u32
+    requires { instances (Expanded.And parts.now) < 2 ^ 32 }
+    ensures { result ≡ instances (Expanded.And parts.now) }
+{
+    let mut nodes = 1;
+    for part in parts {
+        nodes += part.instances();
+    }
+    nodes
 }
