@@ -13,7 +13,7 @@ ghost use Rattle.dd_definition.specs.Parts.{IsCaseOf, case_counts, reach_sizes};
 
 use crate::making::{rule, too_large};
 use dd_expansion::{ExpansionFault, expand};
-use dd_formula::{Automaton, Cases, Formula, Rule, plus, tree_size};
+use dd_formula::{Automaton, Cases, Formula, Rule, plus};
 use dd_naming::{Limit, Refusal};
 use dd_refusal::{CaseOf, Known};
 use dd_topology::Topology;
@@ -35,7 +35,7 @@ fn expansion_size(
     ensures { IfOk result (λ n. n ≡ cut 20000 (instances (expansion_at (local_rule topology.now symbols formula.now) node))) }
 {
     match expand(alloc, topology, symbols, formula, node, MOST_INSTANCES) {
-        Ok(expansion) => Ok(tree_size(&expansion)),
+        Ok(expansion) => Ok(expansion.instances()),
         Err(ExpansionFault::Instances) => Ok(MOST_INSTANCES + 1),
         Err(ExpansionFault::Memory) => Err(AllocError),
     }

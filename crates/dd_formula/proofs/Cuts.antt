@@ -5,8 +5,8 @@ use Rattle.std.proofs.lemmas.List.{take_more, append-nil}
 use Rattle.std.proofs.lemmas.List.Concat.{flat_map-append}
 use Rattle.std.proofs.lemmas.List.Sums.{sum_by_more, sum_by-take-le}
 use Rattle.dd_expansion.specs.Leaves.{total}
+use Rattle.dd_expansion.proofs.Layers.{total-map}
 use Rattle.dd_formula.specs.Counts.{cut}
-use Rattle.dd_formula.proofs.TreeSizes.{total-map}
 
 module _ {X : Type 0} where
   -- one element more

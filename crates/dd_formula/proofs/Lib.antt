@@ -3,7 +3,6 @@ pub mod RuleLaws
 pub mod PartLaws
 pub mod Reached
 pub mod LivesLaws
-pub mod TreeSizes
 pub mod Cuts
 pub mod Reaching
 pub mod AutomatonLaws

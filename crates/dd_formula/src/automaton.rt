@@ -9,7 +9,6 @@ use crate::counts::plus;
 use crate::making::MOST_INSTANCES;
 use crate::rule::Rule;
 use crate::shifting::push_shifted;
-use crate::tree_sizes::tree_size;
 use dd_lattice::{Cell, in_order};
 use dd_values::{Boxed, Items};
 use std::alloc::{AllocError, Global};
@@ -79,7 +78,7 @@ impl Cases {
     {
         let mut nodes = 1;
         for (rule, _) in self.cases.as_slice() {
-            nodes = plus(MOST_INSTANCES, nodes, tree_size(rule.expansion(node)) + 1);
+            nodes = plus(MOST_INSTANCES, nodes, rule.expansion(node).instances() + 1);
         }
         nodes
     }

@@ -10,7 +10,6 @@ mod lives;
 mod making;
 mod rule;
 mod shifting;
-mod tree_sizes;
 
 pub use automaton::{Automaton, Cases};
 pub use counts::plus;
@@ -18,4 +17,3 @@ pub use dd_expansion::{BallOf, Expanded, Formula, Term};
 pub use fault::RuleFault;
 pub use lives::Membership;
 pub use rule::Rule;
-pub use tree_sizes::tree_size;

@@ -8,8 +8,8 @@ use Rattle.dd_formula.proofs.Cuts.{total_more, flat_more}
 use Rattle.dd_formula.proofs.AutomatonLaws.{case_has, rule_nodes, passes_both}
 use Rattle.dd_formula.proofs.automaton.Cases.instances.Goals as goal
 
-pub tree_size-requires : goal.tree_size-requires
-tree_size-requires c =
+pub instances-requires : goal.instances-requires
+instances-requires c =
     let cases : List (LocalRule × ℕ) = c.args.self.now.cases in
     let i = c.loop-rule.rule-index in
     let case : LocalRule × ℕ = c.loop-rule-item.result in
@@ -20,8 +20,8 @@ tree_size-requires c =
     let node : c.args.node < case.0.nodes = omega (arith, nodes, c.requires.below) in
     omega (arith, ap instances c.expansion.ensures.value, c.expansion.ensures.kept.small c.args.node node)
 
-pub overflow_add-tree_size : goal.overflow_add-tree_size
-overflow_add-tree_size c =
+pub overflow_add-instances : goal.overflow_add-instances
+overflow_add-instances c =
     let cases : List (LocalRule × ℕ) = c.args.self.now.cases in
     let i = c.loop-rule.rule-index in
     let case : LocalRule × ℕ = c.loop-rule-item.result in
@@ -30,7 +30,7 @@ overflow_add-tree_size c =
     let below : i < length cases = subst (λ xs. i < length xs) same c.loop-rule-test.true in
     let nodes = rule_nodes c.requires.setting case.0 (case_has c.requires.setting cases c.args.self.now.otherwise i case c.requires.fit below is) in
     let node : c.args.node < case.0.nodes = omega (arith, nodes, c.requires.below) in
-    omega (arith, ap instances c.expansion.ensures.value, c.tree_size.ensures, c.expansion.ensures.kept.small c.args.node node)
+    omega (arith, ap instances c.expansion.ensures.value, c.instances.ensures, c.expansion.ensures.kept.small c.args.node node)
 
 pub loop-rule-preserved : goal.loop-rule-preserved
 loop-rule-preserved c =
@@ -45,7 +45,7 @@ loop-rule-preserved c =
     let nodes = rule_nodes c.requires.setting case.0 (case_has c.requires.setting cases c.args.self.now.otherwise i case c.requires.fit below is) in
     let node : c.args.node < case.0.nodes = omega (arith, nodes, c.requires.below) in
     record {
-      count = omega (arith, more, c.plus-nodes.ensures, c.loop-rule.invariant.count, c.tree_size.ensures, ap instances c.expansion.ensures.value);
+      count = omega (arith, more, c.plus-nodes.ensures, c.loop-rule.invariant.count, c.instances.ensures, ap instances c.expansion.ensures.value);
       near =
           ap (list_all is_near) (flat_more (λ (x : LocalRule × ℕ). reads_at x.0 c.args.node) cases i case below is)
           ∙ passes_both is_near (cases_reads (take i cases) c.args.node) (reads_at case.0 c.args.node) c.loop-rule.invariant.near

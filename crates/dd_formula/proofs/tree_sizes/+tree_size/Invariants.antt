@@ -1,7 +1,0 @@
-use Rattle.std.proofs.Common.{◌≡◌, ◌+◌, take}
-use Rattle.std.specs.List.{sum_by}
-use Rattle.dd_expansion.specs.Leaves.{instances}
-use Rattle.dd_formula.proofs.tree_sizes.+tree_size.Given as goal
-
-abbrev pub invariant-joined_size-loop-part : goal.invariant-joined_size-loop-part
-invariant-joined_size-loop-part l = l.nodes ≡ 1 + sum_by instances (take l.part-index l.parts)
