@@ -4,6 +4,9 @@ pub mod PartLaws
 pub mod Reached
 pub mod LivesLaws
 pub mod Cuts
+pub mod Ranges
+pub mod ReachLaws
 pub mod Reaching
 pub mod AutomatonLaws
 pub mod CompositionLaws
+pub mod FarthestLaws

@@ -1,4 +1,5 @@
 pub mod LocalRule
+pub mod Reach
 pub mod Living
 pub mod Refusals
 pub mod Automata

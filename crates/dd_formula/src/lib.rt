@@ -8,6 +8,7 @@ mod fault;
 mod given;
 mod lives;
 mod making;
+mod reach;
 mod rule;
 mod shifting;
 
@@ -16,4 +17,5 @@ pub use counts::plus;
 pub use dd_expansion::{BallOf, Expanded, Formula, Term};
 pub use fault::RuleFault;
 pub use lives::Membership;
+pub use reach::farthest;
 pub use rule::Rule;

@@ -9,6 +9,7 @@ ghost use Rattle.dd_formula.specs.Refusals.{IsRefusal};
 ghost use Rattle.dd_formula.specs.declared.fault.RuleFault.TheVariants.{Reach, Memory};
 
 use crate::fault::RuleFault;
+use crate::reach::extent;
 use dd_expansion::{Expanded, ExpansionFault, Formula, expand};
 use dd_lattice::Cell;
 use dd_topology::{Edge, Topology};
@@ -80,10 +81,7 @@ fn expand_at_nodes(
 fn is_near(cell: &Cell) -> bool
     ensures { result ≡ is_near cell.now }
 {
-    let position = &cell.position;
-    position.x.unsigned_abs() <= MOST_REACH
-        && position.y.unsigned_abs() <= MOST_REACH
-        && position.z.unsigned_abs() <= MOST_REACH
+    extent(&cell.position) <= MOST_REACH
 }
 
 pub(crate) fn are_near(cells: &[Cell]) -> bool

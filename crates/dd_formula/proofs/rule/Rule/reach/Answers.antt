@@ -1,11 +1,11 @@
 use Rattle.std.proofs.Common.{arith}
 use Rattle.dd_formula.specs.LocalRule.{cells_at}
-use Rattle.dd_query.proofs.FarthestLaws.{radius_more, rule_near}
-use Rattle.dd_query.proofs.aims.rule_radius.Goals as goal
+use Rattle.dd_formula.proofs.FarthestLaws.{radius_more, rule_near}
+use Rattle.dd_formula.proofs.rule.Rule.reach.Goals as goal
 
 pub loop-node-preserved : goal.loop-node-preserved
 loop-node-preserved c =
-    let rule = c.args.rule.now in
+    let rule = c.args.self.now in
     let n = c.loop-node.node in
     let more =
     radius_more (cells_at rule) n c.loop-node.radius c.farthest.result c.max-radius.result c.reads.result.now c.reads.ensures.value c.farthest.ensures

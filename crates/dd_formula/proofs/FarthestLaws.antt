@@ -12,8 +12,8 @@ use Rattle.dd_formula.specs.LocalRule.{LocalRule, IsRule, is_near, reads_at, cel
 use Rattle.dd_formula.specs.Automata.{Setting, IsAutomaton, cells_of}
 use Rattle.dd_formula.specs.declared.automaton.Automaton.{Automaton}
 use Rattle.dd_formula.proofs.AutomatonLaws.{near_cells}
-use Rattle.dd_counts.proofs.Ranges.{range_push}
-use Rattle.dd_query.specs.Limits.{farthest}
+use Rattle.dd_formula.proofs.Ranges.{range_push}
+use Rattle.dd_formula.specs.Reach.{farthest}
 
 pub greater_is : (a b : ℕ) → ord_max nat_cmp a b ≡ max a b
 greater_is a b = search rules

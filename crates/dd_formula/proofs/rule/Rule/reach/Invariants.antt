@@ -1,11 +1,11 @@
 use Rattle.std.proofs.Common.{◌≡◌, ◌≤◌}
 use Rattle.std.specs.List.{flat_map, range_with_len}
 use Rattle.dd_formula.specs.LocalRule.{cells_at}
-use Rattle.dd_query.specs.Limits.{farthest}
-use Rattle.dd_query.proofs.aims.rule_radius.Given as goal
+use Rattle.dd_formula.specs.Reach.{farthest}
+use Rattle.dd_formula.proofs.rule.Rule.reach.Given as goal
 
 abbrev pub invariant-loop-node : goal.invariant-loop-node
 invariant-loop-node l = record {
-  value : l.radius ≡ farthest (flat_map (cells_at l.rule) (range_with_len 0 l.node));
+  value : l.radius ≡ farthest (flat_map (cells_at l.self) (range_with_len 0 l.node));
   near : l.radius ≤ 16;
 }

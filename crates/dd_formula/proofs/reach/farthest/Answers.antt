@@ -1,5 +1,5 @@
-use Rattle.dd_query.proofs.FarthestLaws.{cell_more}
-use Rattle.dd_query.proofs.aims.farthest.Goals as goal
+use Rattle.dd_formula.proofs.FarthestLaws.{cell_more}
+use Rattle.dd_formula.proofs.reach.farthest.Goals as goal
 
 pub loop-cell-preserved : goal.loop-cell-preserved
 loop-cell-preserved c =

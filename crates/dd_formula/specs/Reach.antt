@@ -1,0 +1,22 @@
+-- How far a rule reads.
+use Rattle.std.specs.Prelude.{ℕ, List, map}
+use Rattle.std.specs.List.{flat_map, range_with_len}
+use Rattle.dd_lattice.specs.declared.position.Cell.{Cell}
+use Rattle.dd_topology.specs.Topology.{extent}
+use Rattle.dd_expansion.specs.Limits.{greatest}
+use Rattle.dd_formula.specs.LocalRule.{LocalRule, cells_at}
+
+-- how far the farthest cell lies from the origin
+abbrev pub cell_extent : Cell → ℕ
+cell_extent c = extent c.position
+
+abbrev pub farthest : List Cell → ℕ
+farthest cs = greatest (map cell_extent cs)
+
+-- the cells that a rule reads at all its nodes
+abbrev pub all_cells : LocalRule → List Cell
+all_cells r = flat_map (cells_at r) (range_with_len 0 r.nodes)
+
+-- how far a rule reads, at any node
+abbrev pub reach : LocalRule → ℕ
+reach r = farthest (all_cells r)
