@@ -1,3 +1,2 @@
 pub mod CutLaws
-pub mod Ranges
 pub mod ValueLaws

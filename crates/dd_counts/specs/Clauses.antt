@@ -1,5 +1,5 @@
 -- How many clauses a box question takes, without a bound.
-use Rattle.std.specs.Prelude.{ℕ, ◌+◌, ◌-◌, ◌*◌, ◌/◌, ◌^◌, max, List, map, length}
+use Rattle.std.specs.Prelude.{ℕ, ◌+◌, ◌*◌, ◌^◌, max, List, map, length}
 use Rattle.std.specs.List.{range_with_len}
 use Rattle.dd_lattice.specs.InOrder.{in_order}
 use Rattle.dd_expansion.specs.Leaves.{clause_count, total}
@@ -13,18 +13,6 @@ use Rattle.dd_formula.specs.declared.automaton.Automaton.TheOpen.{Automaton-F}
 -- the clauses of a gate that says that all of k signals hold, or some
 abbrev pub gate_clauses : ℕ → ℕ
 gate_clauses k = k + 1
-
--- those of the gates of a rule at all its nodes
-abbrev pub rule_clauses : LocalRule → ℕ
-rule_clauses r = total (map (λ a. clause_count (expansion_at r a)) (range_with_len 0 r.nodes))
-
--- those of a position: at each node the cell has a symbol, no two symbols, and the rule is true; and the rule's gates
-abbrev pub place_clauses : LocalRule → ℕ
-place_clauses r = r.nodes * (2 + r.symbols * (r.symbols - 1) / 2) + rule_clauses r
-
--- some node of the origin breaks the rule
-abbrev pub broken_clauses : LocalRule → ℕ
-broken_clauses r = rule_clauses r + 1
 
 -- the value of an automaton by m cases: for the i-th case a gate over it and those before it, and a gate over all of them
 -- for the default

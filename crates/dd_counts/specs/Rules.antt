@@ -1,17 +1,14 @@
 -- What is counted of a rule, without a bound.
 use Rattle.std.specs.Prelude.{ℕ, ◌+◌, ◌-◌, ◌*◌, ◌^◌, max, ℤ, pos, ◌-ℤ◌, unsigned_abs, List, length}
 use Rattle.std.specs.Int.{int_min, int_max}
-use Rattle.std.specs.List.{fold, flat_map, range_with_len}
+use Rattle.std.specs.List.{fold}
 use Rattle.dd_lattice.specs.declared.position.Cell.{Cell}
 use Rattle.dd_formula.specs.LocalRule.{LocalRule, cells_at}
+use Rattle.dd_formula.specs.Reach.{all_cells}
 
 -- the ways to fill the cells that a rule reads at a node
 abbrev pub patterns : LocalRule → ℕ → ℕ
 patterns r a = r.symbols ^ length (cells_at r a)
-
--- the cells that a rule reads at all its nodes
-abbrev pub all_cells : LocalRule → List Cell
-all_cells r = flat_map (cells_at r) (range_with_len 0 r.nodes)
 
 -- the lesser of a number and the least x of the cells, and the greater of a number and the greatest x
 abbrev pub least_x : ℤ → List Cell → ℤ

@@ -1,7 +1,7 @@
 //! Counts of the clauses of box questions.
 ghost use Rattle.std.specs.Prelude.{◌≡◌, ◌≤◌, ◌^◌, ◌<◌};
-ghost use Rattle.dd_formula.specs.Counts.{cut};
-ghost use Rattle.dd_counts.specs.Clauses.{rule_clauses, place_clauses, broken_clauses, question_clauses};
+ghost use Rattle.dd_formula.specs.Counts.{cut, rule_clauses, place_clauses, broken_clauses};
+ghost use Rattle.dd_counts.specs.Clauses.{question_clauses};
 
 use crate::arithmetic::{cut_off, power, times};
 use dd_formula::{Rule, plus};

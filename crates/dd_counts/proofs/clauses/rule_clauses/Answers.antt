@@ -1,15 +1,14 @@
-use Rattle.std.proofs.Common.{◌≡◌, ◌+◌, ℕ, map, ap, ◌∙◌, arith}
-use Rattle.std.specs.List.{range_with_len}
-use Rattle.dd_expansion.specs.Leaves.{clause_count, total}
+use Rattle.std.proofs.Common.{◌≡◌, ◌+◌, ℕ, ap, ◌∙◌, arith}
+use Rattle.dd_expansion.specs.Leaves.{clause_count}
 use Rattle.dd_formula.specs.LocalRule.{expansion_at}
-use Rattle.dd_formula.specs.Counts.{cut}
+use Rattle.dd_formula.specs.Counts.{cut, over_nodes}
 use Rattle.dd_formula.proofs.Cuts.{next_cut}
-use Rattle.dd_counts.proofs.Ranges.{total_push}
+use Rattle.dd_formula.proofs.Ranges.{total_push}
 use Rattle.dd_counts.proofs.clauses.rule_clauses.Goals as goal
 
 pub loop-node-preserved : goal.loop-node-preserved
 loop-node-preserved c =
     let at : ℕ → ℕ = λ a. clause_count (expansion_at c.args.rule.now a) in
     let n = c.loop-node.node in
-    next_cut c.args.limit c.loop-node.clauses c.cut_off.result c.plus-clauses.result (total (map at (range_with_len 0 n))) (at n) (total (map at (range_with_len 0 (n + 1))))
+    next_cut c.args.limit c.loop-node.clauses c.cut_off.result c.plus-clauses.result (over_nodes at n) (at n) (over_nodes at (n + 1))
     c.loop-node.invariant (c.cut_off.ensures ∙ ap (cut c.args.limit) c.clause_count.ensures) c.plus-clauses.ensures (total_push at n)

@@ -6,7 +6,7 @@ use Rattle.dd_formula.specs.LocalRule.{LocalRule, expansion_at}
 use Rattle.dd_formula.specs.Counts.{cut}
 use Rattle.dd_formula.proofs.Cuts.{total_more}
 use Rattle.dd_counts.specs.Clauses.{case_clauses}
-use Rattle.dd_counts.proofs.Ranges.{total_push}
+use Rattle.dd_formula.proofs.Ranges.{total_push}
 use Rattle.dd_counts.proofs.ValueLaws.{round, by_case}
 use Rattle.dd_counts.proofs.values.given_clauses.Goals as goal
 
