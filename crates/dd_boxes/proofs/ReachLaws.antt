@@ -1,49 +1,23 @@
 -- The least radius of a rule is how far it reads.
-use Rattle.std.proofs.Common.{◌≡◌, ℕ, zero, suc, ◌+◌, ◌<◌, ◌≤◌, Bool, true, false, List, [], ◌∷◌, get_or, length, take, refl, ap, sym, ◌∙◌, arith, rules, ℤ, pos, inl, inr}
-use Rattle.std.specs.Prelude.{◌&&◌, ◌||◌, nat_le, nat_lt, unsigned_abs, max}
-use Rattle.std.specs.Ordering.{int_eq, nat_cmp, ord_max}
+use Rattle.std.proofs.Common.{◌≡◌, ℕ, ◌≤◌, Bool, true, false, List, [], ◌∷◌, refl, arith, ℤ, pos}
+use Rattle.std.specs.Prelude.{◌&&◌, ◌||◌, nat_lt, unsigned_abs}
+use Rattle.std.specs.Ordering.{int_eq}
 use Rattle.std.specs.List.{list_all}
-use Rattle.std.proofs.Math.Nat.{eq-or-lt_of_le}
 use Rattle.std.proofs.lemmas.Int.{ints}
 use Rattle.std.proofs.lemmas.Bool.{and_parts, and_from, leb-true, le-leb}
 use Rattle.std.proofs.lemmas.Bool.Decides.{nat_tests, Decides-int_eq}
-use Rattle.std.proofs.lemmas.List.Folds.{list_all_more}
 use Rattle.dd_lattice.specs.Boxes.{is_active, spread}
 use Rattle.dd_lattice.specs.declared.position.Cell.{Cell}
-use Rattle.dd_lattice.proofs.InOrderLaws.{list_all-in_order}
 use Rattle.dd_topology.specs.Topology.{extent}
 use Rattle.dd_expansion.specs.Placed.{is_flat}
-use Rattle.dd_formula.specs.LocalRule.{LocalRule, IsRule, reads_at, cells_at, is_of}
-use Rattle.dd_boxes.specs.Goals.{breaks}
+use Rattle.dd_formula.specs.LocalRule.{LocalRule, IsRule, reads_at, is_of}
+use Rattle.dd_formula.specs.Reach.{reach}
+use Rattle.dd_formula.proofs.ReachLaws.{is_within, reads_within, reach_within}
+use Rattle.dd_boxes.specs.Goals.{breaks, always}
 use Rattle.dd_boxes.specs.Fillings.{is_up_to, in_box, is_box_cell}
 use Rattle.dd_boxes.specs.Boxes.{IsLeastRadius}
-use Rattle.dd_boxes.specs.Reach.{is_within, reads_within}
 use Rattle.dd_boxes.proofs.RuleLaws.{list_all_weaker}
 use Rattle.dd_boxes.proofs.CutLaws.{box_parts}
-
-pub max_within : (a b k : ℕ) → nat_le (max a b) k ≡ (nat_le a k && nat_le b k)
-max_within a b k = grind (arith, nat_tests)
-
-greater_is : (a b : ℕ) → ord_max nat_cmp a b ≡ max a b
-greater_is a b = search rules
-
--- one more cell
-pub extent_more : (cells : List Cell) (i a e m k : ℕ) (c : Cell) → i < length cells → c ≡ get_or cells i c → e ≡ extent c.position → m ≡ ord_max nat_cmp a e →
-    nat_le a k ≡ list_all (is_within k) (take i cells) → nat_le m k ≡ list_all (is_within k) (take (i + 1) cells)
-extent_more cells i a e m k c below here is greater so_far =
-    ap (λ g. nat_le g k) (greater ∙ greater_is a e)
-    ∙ (max_within a e k
-    ∙ (ap (λ b. b && nat_le e k) so_far
-    ∙ (ap (λ b. list_all (is_within k) (take i cells) && b) (ap (λ m. nat_le m k) is ∙ ap (is_within k) here)
-    ∙ sym (list_all_more (is_within k) cells i c below))))
-
--- one more node
-pub node_more : (r : LocalRule) (n a e m k : ℕ) (cells : List Cell) → cells ≡ cells_at r n → m ≡ ord_max nat_cmp a e → nat_le a k ≡ reads_within r k n →
-    nat_le e k ≡ list_all (is_within k) cells → nat_le m k ≡ reads_within r k (n + 1)
-node_more r n a e m k cells all greater so_far here =
-    let one : n + 1 ≡ suc n = omega arith in
-    let there : nat_le e k ≡ list_all (is_within k) (reads_at r n) = here ∙ (ap (list_all (is_within k)) all ∙ list_all-in_order (is_within k) (reads_at r n)) in
-    rw one (ap (λ g. nat_le g k) (greater ∙ greater_is a e) ∙ (max_within a e k ∙ rw (so_far, there) refl))
 
 -- a cell of Z^d is in the box of radius k exactly where it is at most k away
 flat_near : (active : Bool) (k : ℕ) (x : ℤ) → (active || int_eq x (pos 0)) ≡ true → unsigned_abs x ≤ k → is_up_to (spread active k) x ≡ true
@@ -88,27 +62,22 @@ list_all_both p q (c ∷ cs) h k =
     let qs = and_parts (q c) (list_all q cs) k in
     rw (ps.0, qs.0, list_all_both p q cs ps.1 qs.1) refl
 
-reads_from : (r : LocalRule) (k n : ℕ) → ((a : ℕ) → a < n → list_all (is_within k) (reads_at r a) ≡ true) → reads_within r k n ≡ true
-reads_from r k zero all = refl
-reads_from r k (suc n) all = and_from _ _ (reads_from r k n (λ a h. all a (omega arith))) (all n (omega arith))
+-- a rule's least radius is how far it reads
+pub reach_is_least : (r : LocalRule) → IsRule r → IsLeastRadius (breaks r) (reach r)
+reach_is_least r ok = record {
+  reaches = λ a node. (let n = reach r in
+      list_all_weaker (λ c. is_of r c && is_within n c) (is_box_cell r n) (box_from_within r n ok.dimension.0) (reads_at r a)
+      (list_all_both (is_of r) (is_within n) (reads_at r a) (ok.placed a node) (reads_within r n a (omega arith) node)));
+  least = λ k reaches.
+      reach_within r k (λ a node. list_all_weaker (is_box_cell r k) (is_within k) (within_from_box r k) (reads_at r a) (reaches a node));
+}
 
-reads_at_node : (r : LocalRule) (k n a : ℕ) → reads_within r k n ≡ true → a < n → list_all (is_within k) (reads_at r a) ≡ true
-reads_at_node r k zero a h below = absurd (omega arith)
-reads_at_node r k (suc n) a h below =
-    let both = and_parts (reads_within r k n) (list_all (is_within k) (reads_at r n)) h in
-    let most : a ≤ n = omega arith in
-    elim (eq-or-lt_of_le most) [
-      | inl same ↦ ap (λ m. list_all (is_within k) (reads_at r m)) same ∙ both.1
-      | inr less ↦ reads_at_node r k n a both.0 less
-    ]
+-- and there is one least radius
+one_least : (y : LocalRule) (m n : ℕ) → IsLeastRadius (breaks y) m → IsLeastRadius (breaks y) n → m ≡ n
+one_least y m n a b = let up : m ≤ n = a.least n b.reaches in let down : n ≤ m = b.least m a.reaches in omega (arith, up, down)
 
-pub least_radius_is : (r : LocalRule) (n nodes : ℕ) → IsRule r → nodes ≡ r.nodes → ((k : ℕ) → nat_le n k ≡ reads_within r k nodes) → IsLeastRadius (breaks r) n
-least_radius_is r n nodes ok all told =
-    let is : (k : ℕ) → nat_le n k ≡ reads_within r k r.nodes = λ k. told k ∙ ap (reads_within r k) all in
-    record {
-      reaches = λ a node.
-          list_all_weaker (λ c. is_of r c && is_within n c) (is_box_cell r n) (box_from_within r n ok.dimension.0) (reads_at r a)
-          (list_all_both (is_of r) (is_within n) (reads_at r a) (ok.placed a node) (reads_at_node r n r.nodes a (sym (is n) ∙ le-leb n n (omega arith)) node));
-      least = λ k reach.
-          leb-true n k (is k ∙ reads_from r k r.nodes (λ a node. list_all_weaker (is_box_cell r k) (is_within k) (within_from_box r k) (reads_at r a) (reach a node)));
-    }
+pub least_is_reach : (y : LocalRule) (least : ℕ) → IsRule y → IsLeastRadius (breaks y) least → least ≡ reach y
+least_is_reach y least ok is = one_least y least (reach y) is (reach_is_least y ok)
+
+pub least_is_none : (least : ℕ) → IsLeastRadius always least → least ≡ 0
+least_is_none least is = let down : least ≤ 0 = is.least 0 tt in omega (arith, down)

@@ -7,8 +7,9 @@ use Rattle.std.proofs.lemmas.Bool.{lt-ltb}
 use Rattle.dd_lattice.specs.Boxes.{is_active, spread, span, centred, volume}
 use Rattle.dd_pattern.specs.Tile.{volume as tile_volume}
 use Rattle.dd_formula.specs.LocalRule.{LocalRule}
+use Rattle.dd_formula.specs.Counts.{place_clauses}
 use Rattle.dd_boxes.specs.Goals.{GoalOf}
-use Rattle.dd_boxes.specs.Counts.{rule_clauses, goal_clauses, cell_clauses, question_clauses}
+use Rattle.dd_boxes.specs.Counts.{goal_clauses, question_clauses}
 use Rattle.dd_boxes.specs.Witnesses.{IsPeriod, ArePeriods}
 use Rattle.dd_problem.specs.Layouts.{torus}
 use Rattle.dd_contain.specs.declared.search.Periods.{Periods}
@@ -20,7 +21,7 @@ sum_up : (n m each rest : ℕ) → n ≤ m → n * each + rest ≤ m * each + re
 sum_up n m each rest le = let most : n * each ≤ m * each = mul-le n each m each le (omega arith) in omega (arith, most)
 
 clauses_up : (x : LocalRule) (g : GoalOf) (n m : ℕ) → n ≤ m → question_clauses x g n ≤ question_clauses x g m
-clauses_up x g n m le = sum_up n m (x.nodes * cell_clauses x.symbols + rule_clauses x) (goal_clauses g) le
+clauses_up x g n m le = sum_up n m (place_clauses x) (goal_clauses g) le
 
 pub fewer : (x : LocalRule) (g : GoalOf) (n m : ℕ) → n ≤ m → question_clauses x g m ≤ 2000000 → question_clauses x g n ≤ 2000000
 fewer x g n m le few = let up : question_clauses x g n ≤ question_clauses x g m = clauses_up x g n m le in at_most (question_clauses x g n) (question_clauses x g m) up few where

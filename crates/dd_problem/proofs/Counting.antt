@@ -17,7 +17,8 @@ use Rattle.dd_compile.proofs.MadeCount.{made_count}
 use Rattle.dd_formula.specs.LocalRule.{LocalRule, expansion_at}
 use Rattle.dd_boxes.specs.Goals.{GoalOf, breaks, always}
 use Rattle.dd_boxes.specs.Boxes.{origin}
-use Rattle.dd_boxes.specs.Counts.{over_nodes, rule_clauses, goal_clauses, cell_clauses, question_clauses}
+use Rattle.dd_formula.specs.Counts.{over_nodes, rule_clauses, cell_clauses}
+use Rattle.dd_boxes.specs.Counts.{goal_clauses, question_clauses}
 use Rattle.dd_problem.specs.Layouts.{Layout, nth_cell, cells_in, fits_in}
 use Rattle.dd_problem.specs.Clauses.{part_gates}
 use Rattle.dd_problem.specs.Problems.{wire, place_maker, premise_part, goal_part, input_count, problem}

@@ -2,7 +2,7 @@
 use Rattle.std.proofs.Common.{◌≡◌, ℕ, zero, suc, ap, ◌+◌, ◌*◌, ◌≤◌, arith}
 use Rattle.dd_lattice.specs.Boxes.{centred, volume}
 use Rattle.dd_formula.specs.LocalRule.{LocalRule}
-use Rattle.dd_counts.specs.Clauses.{place_clauses}
+use Rattle.dd_formula.specs.Counts.{place_clauses}
 use Rattle.dd_boxes.specs.Goals.{GoalOf}
 use Rattle.dd_boxes.specs.Counts.{goal_clauses, question_clauses}
 

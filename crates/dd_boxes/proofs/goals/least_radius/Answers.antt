@@ -1,8 +1,12 @@
-use Rattle.std.proofs.Common.{arith}
+use Rattle.std.proofs.Common.{◌≡◌, sym, subst, arith}
+use Rattle.dd_boxes.specs.Boxes.{IsLeastRadius}
+use Rattle.dd_boxes.specs.Goals.{breaks}
+use Rattle.dd_boxes.proofs.ReachLaws.{reach_is_least}
 use Rattle.dd_boxes.proofs.goals.least_radius.Goals as goal
 
 pub returns-in-Breaks : goal.returns-in-Breaks
-returns-in-Breaks c = rw c.in-Breaks.is c.reach_of.ensures
+returns-in-Breaks c =
+    rw c.in-Breaks.is (subst (IsLeastRadius (breaks c.in-Breaks.rule.now)) (sym c.reach.ensures.value) (reach_is_least c.in-Breaks.rule.now c.reach.ensures.kept))
 
 pub returns-in-Always : goal.returns-in-Always
 returns-in-Always c = rw c.in-Always.is (record { reaches = tt; least = λ k _. omega arith })
