@@ -1,3 +1,2 @@
-pub mod LeastLaws
 pub mod SizeLaws
 pub mod PartLaws

@@ -1,12 +1,13 @@
 -- A question that passes no limit is small: both counts of clauses agree.
-use Rattle.std.proofs.Common.{◌≡◌, ℕ, zero, suc, ◌+◌, ◌*◌, ◌^◌, ◌≤◌, false, max, refl, ap, sym, subst, ◌∙◌, ◌⊎◌, inl, inr, arith, pos}
+use Rattle.std.proofs.Common.{◌≡◌, ℕ, zero, suc, ◌+◌, ◌*◌, ◌^◌, ◌≤◌, false, max, refl, ap, ◌∙◌, arith, pos}
 use Rattle.std.specs.Prelude.{◌-ℤ◌, nat_lt}
 use Rattle.std.proofs.Math.Nat.{pow-zero, pow-suc}
 use Rattle.std.proofs.lemmas.Bool.{ltb-false}
 use Rattle.std.proofs.lemmas.Int.{ints}
 use Rattle.dd_lattice.specs.Boxes.{span, centred, volume}
 use Rattle.dd_formula.specs.LocalRule.{LocalRule, IsRule}
-use Rattle.dd_counts.specs.Clauses.{place_clauses, largest_region}
+use Rattle.dd_formula.specs.Counts.{place_clauses}
+use Rattle.dd_counts.specs.Clauses.{largest_region}
 use Rattle.dd_boxes.specs.Goals.{GoalOf, breaks, always}
 use Rattle.dd_boxes.specs.Boxes.{IsLeastRadius}
 use Rattle.dd_boxes.specs.Counts.{goal_clauses, question_clauses}
@@ -14,7 +15,7 @@ use Rattle.dd_contain.specs.Decided.{volume as product}
 use Rattle.dd_contain.specs.Questions.{greatest_periods, IsSmallQuestion}
 use Rattle.dd_refusal.specs.declared.known.Known.{Known}
 use Rattle.dd_query.specs.Limits.{Aim, anything, breaking, clauses_of, is_long}
-use Rattle.dd_answer.proofs.LeastLaws.{least_is_farthest, least_is_none}
+use Rattle.dd_boxes.proofs.ReachLaws.{least_is_reach, least_is_none}
 
 -- ---- the positions of boxes and of tori as powers
 
@@ -30,52 +31,26 @@ third_power b = let three : b ^ 3 ≡ b ^ 2 * b = pow-suc b 2 in three ∙ ap (�
 side_is : (n : ℕ) → span (pos 0 -ℤ pos n) (pos n) ≡ 2 * n + 1
 side_is n = omega (arith, ints)
 
--- a dimension
-abbrev pub IsDimension : ℕ → Type 0
-IsDimension d = (d ≡ 1) ⊎ ((d ≡ 2) ⊎ (d ≡ 3))
+box_positions : (d n : ℕ) → 1 ≤ d → d ≤ 3 → volume (centred d n) ≡ (2 * n + 1) ^ d
+box_positions zero n low high = absurd (omega arith)
+box_positions (suc zero) n low high = let side = side_is n in rw (first_power (2 * n + 1), side) (omega arith)
+box_positions (suc (suc zero)) n low high = let side = side_is n in rw (second_power (2 * n + 1), side) (omega arith)
+box_positions (suc (suc (suc zero))) n low high = let side = side_is n in rw (third_power (2 * n + 1), side) (omega arith)
+box_positions (suc (suc (suc (suc d)))) n low high = absurd (omega arith)
 
-dimension_is : (d : ℕ) → 1 ≤ d → d ≤ 3 → IsDimension d
-dimension_is zero low high = absurd (omega arith)
-dimension_is (suc zero) low high = inl refl
-dimension_is (suc (suc zero)) low high = inr (inl refl)
-dimension_is (suc (suc (suc zero))) low high = inr (inr refl)
-dimension_is (suc (suc (suc (suc d)))) low high = absurd (omega arith)
-
-line_volume : (n : ℕ) → volume (centred 1 n) ≡ (2 * n + 1) ^ 1
-line_volume n = let side = side_is n in rw (first_power (2 * n + 1), side) (omega arith)
-
-plane_volume : (n : ℕ) → volume (centred 2 n) ≡ (2 * n + 1) ^ 2
-plane_volume n = let side = side_is n in rw (second_power (2 * n + 1), side) (omega arith)
-
-room_volume : (n : ℕ) → volume (centred 3 n) ≡ (2 * n + 1) ^ 3
-room_volume n = let side = side_is n in rw (third_power (2 * n + 1), side) (omega arith)
-
-box_positions : (d n : ℕ) → IsDimension d → volume (centred d n) ≡ (2 * n + 1) ^ d
-box_positions d n (inl is) = subst (λ e. volume (centred e n) ≡ (2 * n + 1) ^ e) (sym is) (line_volume n)
-box_positions d n (inr (inl is)) = subst (λ e. volume (centred e n) ≡ (2 * n + 1) ^ e) (sym is) (plane_volume n)
-box_positions d n (inr (inr is)) = subst (λ e. volume (centred e n) ≡ (2 * n + 1) ^ e) (sym is) (room_volume n)
-
-line_product : (p : ℕ) → product (greatest_periods 1 p) ≡ p ^ 1
-line_product p = rw first_power (omega arith)
-
-plane_product : (p : ℕ) → product (greatest_periods 2 p) ≡ p ^ 2
-plane_product p = rw second_power (omega arith)
-
-room_product : (p : ℕ) → product (greatest_periods 3 p) ≡ p ^ 3
-room_product p = rw third_power (omega arith)
-
-torus_positions : (d p : ℕ) → IsDimension d → product (greatest_periods d p) ≡ p ^ d
-torus_positions d p (inl is) = subst (λ e. product (greatest_periods e p) ≡ p ^ e) (sym is) (line_product p)
-torus_positions d p (inr (inl is)) = subst (λ e. product (greatest_periods e p) ≡ p ^ e) (sym is) (plane_product p)
-torus_positions d p (inr (inr is)) = subst (λ e. product (greatest_periods e p) ≡ p ^ e) (sym is) (room_product p)
+torus_positions : (d p : ℕ) → 1 ≤ d → d ≤ 3 → product (greatest_periods d p) ≡ p ^ d
+torus_positions zero p low high = absurd (omega arith)
+torus_positions (suc zero) p low high = rw first_power (omega arith)
+torus_positions (suc (suc zero)) p low high = rw second_power (omega arith)
+torus_positions (suc (suc (suc zero))) p low high = rw third_power (omega arith)
+torus_positions (suc (suc (suc (suc d)))) p low high = absurd (omega arith)
 
 -- the positions of the largest box or torus, whichever has more
 positions_agree : (d radius p : ℕ) → 1 ≤ d → d ≤ 3 →
     max (volume (centred d radius)) (product (greatest_periods d p)) ≡ largest_region d radius p
 positions_agree d radius p low high =
-    let is = dimension_is d low high in
-    let box = box_positions d radius is in
-    let torus = torus_positions d p is in
+    let box = box_positions d radius low high in
+    let torus = torus_positions d p low high in
     rw (box, torus) refl
 
 -- ---- what is counted
@@ -86,7 +61,7 @@ pub record Aims (g : GoalOf) (aim : Aim) : Type 0 where
   pub clauses : goal_clauses g ≡ aim.clauses
 
 pub aims_at_breaking : (y : LocalRule) → IsRule y → Aims (breaks y) (breaking y)
-aims_at_breaking y ok = record { radius = λ least is. least_is_farthest y least ok is; clauses = refl }
+aims_at_breaking y ok = record { radius = λ least is. least_is_reach y least ok is; clauses = refl }
 
 pub aims_at_anything : Aims always anything
 aims_at_anything = record { radius = least_is_none; clauses = refl }

@@ -3,7 +3,6 @@ pub mod ShapeLaws
 pub mod TextLaws
 pub mod VectorLaws
 pub mod SoundLaws
-pub mod FarthestLaws
 pub mod CutLaws
 pub mod LimitLaws
 pub mod ReadLaws

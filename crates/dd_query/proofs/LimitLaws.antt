@@ -7,7 +7,7 @@ use Rattle.std.proofs.Math.Nat.{eq-or-lt_of_le}
 use Rattle.std.proofs.lemmas.Bool.{cases_Bool, both_ways, and_parts, eqb-true}
 use Rattle.std.proofs.lemmas.Option.{slice_get_read}
 use Rattle.std.proofs.lemmas.List.Folds.{list_any-append}
-use Rattle.dd_counts.proofs.Ranges.{range_push}
+use Rattle.dd_formula.proofs.Ranges.{range_push}
 use Rattle.dd_naming.specs.declared.fault.Fault.{Fault}
 use Rattle.dd_naming.specs.declared.fault.Limit.{Limit}
 use Rattle.dd_naming.specs.declared.fault.Refusal.{Refusal}
@@ -15,12 +15,12 @@ use Rattle.dd_naming.specs.Resolving.{Accepts}
 use Rattle.dd_refusal.specs.declared.known.Known.{Known}
 use Rattle.dd_refusal.specs.Sizes.{over}
 use Rattle.dd_formula.specs.LocalRule.{LocalRule}
-use Rattle.dd_formula.specs.Counts.{cut}
+use Rattle.dd_formula.specs.Counts.{cut, place_clauses}
 use Rattle.dd_formula.specs.Automata.{Setting, IsAutomaton, rule_has}
 use Rattle.dd_formula.specs.Compositions.{HaveNodes}
 use Rattle.dd_formula.specs.declared.automaton.Automaton.{Automaton}
 use Rattle.dd_header.specs.Sound.{numbers_of}
-use Rattle.dd_counts.specs.Clauses.{place_clauses, question_clauses}
+use Rattle.dd_counts.specs.Clauses.{question_clauses}
 use Rattle.dd_query.specs.Limits.{Aim, about, is_long, clauses_of}
 use Rattle.dd_query.specs.Made.{AreMade}
 use Rattle.dd_query.proofs.CutLaws.{passes, cut_question}

@@ -1,15 +1,15 @@
 -- Limits on the work that queries ask for.
-use Rattle.std.specs.Prelude.{ℕ, ◌*◌, List, [], ◌++◌, map, max, Bool, ◌||◌, nat_lt, slice_index, Option}
+use Rattle.std.specs.Prelude.{ℕ, ◌*◌, List, [], ◌++◌, max, Bool, ◌||◌, nat_lt, slice_index, Option}
 use Rattle.std.specs.List.{flat_map, list_any, range_with_len, slice_get}
 use Rattle.std.specs.Option.{option_map_or}
 use Rattle.dd_lattice.specs.declared.position.Cell.{Cell}
-use Rattle.dd_topology.specs.Topology.{extent}
-use Rattle.dd_expansion.specs.Limits.{greatest}
 use Rattle.dd_formula.specs.LocalRule.{LocalRule}
+use Rattle.dd_formula.specs.Reach.{farthest, reach}
+use Rattle.dd_formula.specs.Counts.{place_clauses, broken_clauses}
 use Rattle.dd_formula.specs.Automata.{cells_of}
 use Rattle.dd_formula.specs.declared.automaton.Automaton.{Automaton}
-use Rattle.dd_counts.specs.Rules.{patterns, all_cells, states, longer_states}
-use Rattle.dd_counts.specs.Clauses.{place_clauses, broken_clauses, differ_clauses, question_clauses}
+use Rattle.dd_counts.specs.Rules.{patterns, states, longer_states}
+use Rattle.dd_counts.specs.Clauses.{differ_clauses, question_clauses}
 use Rattle.dd_naming.specs.declared.fault.Fault.{Fault}
 use Rattle.dd_naming.specs.declared.fault.Limit.TheVariants as limit
 use Rattle.dd_refusal.specs.declared.known.Known.{Known}
@@ -18,13 +18,6 @@ use Rattle.dd_query.specs.declared.queries.Query.{Query}
 use Rattle.dd_query.specs.declared.queries.Query.TheVariants as query
 
 -- ---- box questions
-
--- how far the farthest cell lies from the origin
-abbrev pub cell_extent : Cell → ℕ
-cell_extent c = extent c.position
-
-abbrev pub farthest : List Cell → ℕ
-farthest cs = greatest (map cell_extent cs)
 
 -- a goal, by how far it reads and how many clauses it has
 pub record Aim : Type 0 where
@@ -35,7 +28,7 @@ abbrev pub anything : Aim
 anything = record { radius = 0; clauses = 0 }
 
 abbrev pub breaking : LocalRule → Aim
-breaking y = record { radius = farthest (all_cells y); clauses = broken_clauses y }
+breaking y = record { radius = reach y; clauses = broken_clauses y }
 
 -- the cells that an automaton reads at the first n nodes
 abbrev pub automaton_cells : ℕ → Automaton → List Cell

@@ -1,16 +1,14 @@
 //! What box questions look for: how far that reads, and how many clauses it takes.
 ghost use Rattle.std.specs.Prelude.{◌≡◌, ◌≤◌, IfOk};
-ghost use Rattle.dd_topology.specs.Topology.{extent};
 ghost use Rattle.dd_formula.specs.Compositions.{HaveNodes};
-ghost use Rattle.dd_counts.specs.Rules.{all_cells};
+ghost use Rattle.dd_formula.specs.Reach.{farthest};
 ghost use Rattle.dd_header.specs.Sound.{IsSound};
-ghost use Rattle.dd_query.specs.Limits.{farthest, automaton_cells, anything, breaking, differing, is_long};
+ghost use Rattle.dd_query.specs.Limits.{automaton_cells, anything, breaking, differing, is_long};
 ghost use Rattle.dd_query.specs.Limits.{Aim as Goal};
 ghost use Rattle.dd_query.specs.Measured.{HasNodes, IsMeasureOf};
 
 use dd_counts::{broken_clauses, differ_clauses, place_clauses, question_clauses};
-use dd_formula::{Automaton, Rule};
-use dd_lattice::{Cell, Position};
+use dd_formula::{Automaton, Rule, farthest};
 use dd_refusal::Known;
 use std::alloc::{AllocError, Global};
 
@@ -22,37 +20,6 @@ const MOST_CLAUSES: u32 = 2_000_000;
 pub(crate) struct Aim {
     radius: u32,
     clauses: u32,
-}
-
-/// The greatest absolute value of a coordinate.
-fn extent(position: &Position) -> u32
-    ensures { result ≡ extent position.now }
-{
-    let along_y_and_z = position.y.unsigned_abs().max(position.z.unsigned_abs());
-    position.x.unsigned_abs().max(along_y_and_z)
-}
-
-/// How far the farthest of the cells lies from the origin.
-fn farthest(cells: &[Cell]) -> u32
-    ensures { result ≡ farthest cells.now }
-{
-    let mut greatest = 0;
-    for cell in cells {
-        greatest = greatest.max(extent(&cell.position));
-    }
-    greatest
-}
-
-/// How far a rule reads, at any node.
-fn rule_radius(rule: &Rule) -> u32
-    ensures value { result ≡ farthest (all_cells rule.now) }
-    ensures near { result ≤ 16 }
-{
-    let mut radius = 0;
-    for node in 0..rule.nodes() {
-        radius = radius.max(farthest(rule.reads(node)));
-    }
-    radius
 }
 
 /// How far an automaton reads, at any of the nodes.
@@ -83,7 +50,7 @@ pub(crate) fn breaking(rule: &Rule) -> Aim
     ensures { IsMeasureOf result (breaking rule.now) }
 {
     Aim {
-        radius: rule_radius(rule),
+        radius: rule.reach(),
         clauses: broken_clauses(rule, MOST_CLAUSES),
     }
 }

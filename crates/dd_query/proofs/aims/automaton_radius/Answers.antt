@@ -1,6 +1,6 @@
 use Rattle.std.proofs.Common.{◌∙◌, arith}
 use Rattle.dd_formula.specs.Automata.{cells_of}
-use Rattle.dd_query.proofs.FarthestLaws.{radius_more, automaton_near}
+use Rattle.dd_formula.proofs.FarthestLaws.{radius_more, automaton_near}
 use Rattle.dd_query.proofs.aims.automaton_radius.Goals as goal
 
 pub loop-node-preserved : goal.loop-node-preserved

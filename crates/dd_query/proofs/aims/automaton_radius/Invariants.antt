@@ -1,5 +1,6 @@
 use Rattle.std.proofs.Common.{◌≡◌, ◌≤◌}
-use Rattle.dd_query.specs.Limits.{farthest, automaton_cells}
+use Rattle.dd_formula.specs.Reach.{farthest}
+use Rattle.dd_query.specs.Limits.{automaton_cells}
 use Rattle.dd_query.proofs.aims.automaton_radius.Given as goal
 
 abbrev pub invariant-loop-node : goal.invariant-loop-node
