@@ -1,14 +1,16 @@
 -- Variables get values and lose them again.
-use Rattle.std.proofs.Common.{◌≡◌, ◌≢◌, ℕ, zero, suc, ◌+◌, ◌-◌, ◌<◌, ◌≤◌, Bool, true, false, not, ◌||◌, List, [], ◌∷◌, ◌++◌, map, unwrap_or, Option, Some, None, refl, ap, sym, ◌∙◌, subst, length, get_or, set, take, inl, inr, arith, get_or-set_same, get_or-set_other}
-use Rattle.std.specs.Bool.{beq}
-use Rattle.std.proofs.lemmas.Bool.{cases_eq, eq-eqb, ne_eqb, false≢true, false_from_ne_true, and_left}
+use Rattle.std.proofs.Common.{◌≡◌, ◌≢◌, ℕ, zero, suc, ◌+◌, ◌-◌, ◌<◌, ◌≤◌, Bool, true, false, not, ◌||◌, List, [], ◌∷◌, ◌++◌, map, unwrap_or, Option, Some, None, refl, ap, sym, ◌∙◌, subst, length, get_or, set, take, inl, inr, arith, eqb, get_or-set_same, get_or-set_other}
+use Rattle.std.specs.Bool.{beq, IsTrue}
+use Rattle.std.specs.Option.{is_some}
+use Rattle.std.specs.Prelude.{◌↔◌}
+use Rattle.std.proofs.lemmas.Bool.{cases_eq, eq-eqb, eqb-true, ne_eqb, false≢true, false_from_ne_true, and_left}
 use Rattle.std.proofs.lemmas.List.{length-set, length-append, length-take, take-append-le, get_or-take, get_or_append_left, take_all, take_more}
 use Rattle.std.proofs.Math.Seq.{get_or-append_seam, take-append_seam}
 use Rattle.dd_clause.specs.declared.clause.Literal.{Literal}
 use Rattle.dd_clause.specs.Clauses.{IsInRange, negation, true_variables}
 use Rattle.dd_derivation.specs.Derivations.{same_literal, is_among, has_variable}
 use Rattle.dd_solver.specs.declared.trail.Entry.{Entry}
-use Rattle.dd_solver.specs.Entries.{falses}
+use Rattle.dd_solver.specs.Entries.{falses, IsFree, IsFull}
 use Rattle.dd_solver.specs.Values.{value_denies, one_if_some, count_valued, IsValued}
 use Rattle.dd_solver.proofs.Trails.{falses-append, in_falses, at_falses, has_variable-in, in-has_variable, absent, take_shorter, among_snoc}
 
@@ -80,14 +82,14 @@ valued_more trail values e v r f =
       count_ok = omega (arith, c, z, v.count_ok, length-append trail (e ∷ []));
     }
 
+at_most : (xs : List (Option Bool)) → count_valued xs ≤ length xs
+at_most [] = omega arith
+at_most (None ∷ xs) = omega (arith, at_most xs)
+at_most (Some x ∷ xs) = omega (arith, at_most xs)
+
 -- there are no more entries than variables
 pub length_within : (trail : List Entry) (values : List (Option Bool)) → IsValued trail values → length trail ≤ length values
 length_within trail values v = omega (arith, v.count_ok, at_most values)
-  where
-    at_most : (xs : List (Option Bool)) → count_valued xs ≤ length xs
-    at_most [] = omega arith
-    at_most (None ∷ xs) = omega (arith, at_most xs)
-    at_most (Some x ∷ xs) = omega (arith, at_most xs)
 
 -- the last entry is taken back
 pub valued_less : (trail : List Entry) (values : List (Option Bool)) (j : ℕ) (d : Entry) → length trail ≡ j + 1 → IsValued trail values → IsValued (take j trail) (set values ((get_or trail j d).literal.variable - 1) None)
@@ -161,6 +163,37 @@ some_entry trail values v ok a b e = go (get_or values (v - 1) None) refl e
         denies : (x : Bool) → not (beq x (not x)) ≡ true
         denies true = refl
         denies false = refl
+
+-- an entry's variable has a value
+valued_entry : (trail : List Entry) (values : List (Option Bool)) (v : ℕ) → IsValued trail values → 1 ≤ v → v ≤ length values → has_variable v (falses trail) ≡ true → one_if_some (get_or values (v - 1) None) ≡ 1
+valued_entry trail values v ok a b h =
+    let w = in-has_variable (falses trail) v h in
+    let r : IsInRange (length values) w.0 = rw (w.2) (a, b) in
+    let s = denied_valued w.0.positive (get_or values (w.0.variable - 1) None) (ok.values_ok w.0 r ∙ w.1) in
+    subst (λ (n : ℕ). one_if_some (get_or values (n - 1) None) ≡ 1) w.2 s
+
+-- a variable is free exactly where it has no value
+pub free_exactly : (trail : List Entry) (values : List (Option Bool)) (v : ℕ) (o : Option Bool) (b : Bool) → IsValued trail values → 1 ≤ v → v ≤ length values → get_or values (v - 1) None ≡ o → is_some o ≡ not b → IsTrue b ↔ IsFree (length values) trail v
+free_exactly trail values v None true ok a h e s = (λ t. (a, h, no_entry trail values v ok a h e), λ f. refl)
+free_exactly trail values v None false ok a h e s = absurd (false≢true s)
+free_exactly trail values v (Some x) true ok a h e s = absurd (false≢true (sym s))
+free_exactly trail values v (Some x) false ok a h e s = (λ t. absurd (false≢true t), λ f. absurd (false≢true (sym f.2 ∙ some_entry trail values v ok a h (ap one_if_some e))))
+
+-- each variable has a value exactly where there are as many entries as variables
+pub full_exactly : (trail : List Entry) (values : List (Option Bool)) (n m : ℕ) → IsValued trail values → n ≡ length trail → m ≡ length values → IsTrue (eqb n m) ↔ IsFull (length values) trail
+full_exactly trail values n m ok e f = (λ t. λ v a b. some_entry trail values v ok a b (each values (omega (arith, ok.count_ok, eqb-true n m t, e, f)) (v - 1) (omega arith)), λ full. eq-eqb n m (omega (arith, ok.count_ok, every values (λ k l. (
+    let q : k + 1 - 1 ≡ k = omega arith in
+    subst (λ (i : ℕ). one_if_some (get_or values i None) ≡ 1) q (valued_entry trail values (k + 1) ok (omega arith) (omega arith) (full (k + 1) (omega arith) (omega arith))))), e, f)))
+  where
+    each : (xs : List (Option Bool)) → count_valued xs ≡ length xs → (k : ℕ) → k < length xs → one_if_some (get_or xs k None) ≡ 1
+    each [] h k l = absurd (omega arith)
+    each (None ∷ xs) h k l = absurd (omega (arith, h, at_most xs))
+    each (Some x ∷ xs) h zero l = refl
+    each (Some x ∷ xs) h (suc k) l = each xs (omega (arith, h)) k (omega arith)
+
+    every : (xs : List (Option Bool)) → ((k : ℕ) → k < length xs → one_if_some (get_or xs k None) ≡ 1) → count_valued xs ≡ length xs
+    every [] h = refl
+    every (x ∷ xs) h = omega (arith, h 0 (omega arith), every xs (λ k l. h (suc k) (omega arith)))
 
 -- the value of a variable, by its negative literal
 pub value_of : (trail : List Entry) (values : List (Option Bool)) (v : ℕ) → IsValued trail values → 1 ≤ v → v ≤ length values → true_variables (map (λ o. unwrap_or o false) values) v ≡ is_among (falses trail) (record { variable = v; positive = false })

@@ -34,6 +34,10 @@ abbrev pub IsTrail : ℕ → List (Option (List Literal)) → List Entry → Typ
 IsTrail n known trail =
     (k : ℕ) (d : Entry) → k < length trail → EntryOk n known (take k trail) (slice_index_or trail k d)
 
+-- the variable is one of 1..n, and has no value
+abbrev pub IsFree : ℕ → List Entry → ℕ → Type 0
+IsFree n trail v = (1 ≤ v) × (v ≤ n) × (has_variable v (falses trail) ≡ false)
+
 -- each of the variables 1..n has a value
 abbrev pub IsFull : ℕ → List Entry → Type 0
 IsFull n trail = (v : ℕ) → 1 ≤ v → v ≤ n → has_variable v (falses trail) ≡ true

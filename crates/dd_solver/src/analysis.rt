@@ -11,6 +11,7 @@ ghost use Rattle.dd_solver.specs.Entries.{falses, all_known, IsTrail};
 ghost use Rattle.dd_solver.specs.Analysis.{Grows, AreMarked, IsMarkedClause, is_rightly_learned, IsPlace, IsTurn, ChoiceSays, Asserts};
 
 use crate::database::Database;
+use crate::order::Order;
 use crate::trail::{Entry, Trail};
 use dd_clause::Literal;
 use std::alloc::{AllocError, Global};
@@ -175,8 +176,8 @@ fn choose(
     }
 }
 
-/// Learns a clause from the one of this number, whose literals are all false.
-pub fn learn(
+/// Walks down the trail from the clause of this number, whose literals are all false.
+fn walk_down(
     alloc: Global,
     database: &Database,
     trail: &Trail,
@@ -189,9 +190,6 @@ pub fn learn(
     ensures right { IfOk result (λ r. is_rightly_learned (length marked.old) (all_known database.now) r.literals.items r.hints.items ≡ true) }
     ensures turn { IfOk result (λ r. MatchOption r.turn (r.literals.items ≡ []) (Asserts trail.now.entries r.literals.items)) }
 {
-    for mark in marked.iter_mut() {
-        *mark = false;
-    }
     let mut literals: Vec<Literal> = Vec::new(alloc);
     let mut hints: Vec<u64> = Vec::new(alloc);
     let mut turn: Option<Turn> = None;
@@ -221,4 +219,60 @@ pub fn learn(
         hints,
         turn,
     })
+}
+
+/// Whether the literal's variable was marked. Its mark is taken away.
+fn take_mark(marked: &mut [bool], literal: Literal) -> bool {
+    let variable = literal.variable as usize;
+    if variable >= 1 && variable <= marked.len() && marked[variable - 1] {
+        marked[variable - 1] = false;
+        return true;
+    }
+    false
+}
+
+/// Takes the marks of a clause's variables away, and makes those more active whose values a decision led to.
+fn bump_marked(order: &mut Order, trail: &Trail, marked: &mut [bool], literals: &[Literal]) {
+    for literal in literals {
+        if take_mark(marked, *literal) && !trail.is_fixed(literal.variable) {
+            order.bump(literal.variable);
+        }
+    }
+}
+
+/// The same for the clauses of these numbers.
+fn bump_resolved(
+    order: &mut Order,
+    database: &Database,
+    trail: &Trail,
+    marked: &mut [bool],
+    numbers: &[u64],
+) {
+    for number in numbers {
+        if let Some(literals) = database.find_clause(*number) {
+            bump_marked(order, trail, marked, literals);
+        }
+    }
+    order.decay();
+}
+
+/// Learns a clause from the one of this number, whose literals are all false. The variables of the clauses that it
+/// follows by are decided sooner.
+pub fn learn(
+    alloc: Global,
+    database: &Database,
+    trail: &Trail,
+    order: &mut Order,
+    marked: &mut [bool],
+    conflict: u64,
+) -> Result<Learned, AllocError>
+    requires in_range { All (IsClauseInRange (length marked.old)) database.now }
+    requires trail { IsTrail (length marked.old) (all_known database.now) trail.now.entries }
+    requires conflict { hint_finding (all_known database.now) (is_among (falses trail.now.entries)) conflict ≡ Falsified }
+    ensures right { IfOk result (λ r. is_rightly_learned (length marked.old) (all_known database.now) r.literals.items r.hints.items ≡ true) }
+    ensures turn { IfOk result (λ r. MatchOption r.turn (r.literals.items ≡ []) (Asserts trail.now.entries r.literals.items)) }
+{
+    let learned = walk_down(alloc, database, trail, marked, conflict)?;
+    bump_resolved(order, database, trail, marked, learned.hints.as_slice());
+    Ok(learned)
 }

@@ -3,6 +3,7 @@
 
 mod analysis;
 mod database;
+mod order;
 mod propagation;
 mod search;
 mod trail;

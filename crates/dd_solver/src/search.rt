@@ -9,22 +9,25 @@ ghost use Rattle.dd_solver.specs.Answers.{IsAnswer, IsFound, IsRefuted, IsSatisf
 
 use crate::analysis::{Turn, learn};
 use crate::database::Database;
+use crate::order::Order;
 use crate::propagation::Scan;
 use crate::trail::{Entry, Trail};
 use crate::watches::Watches;
-use dd_clause::{Assignment, Clause, Cnf, Literal};
+use dd_clause::{Assignment, Clause, Cnf};
 use dd_derivation::{Outcome, Step};
 use dd_values::Items;
 use std::alloc::{AllocError, Global};
 use std::marker::Model;
 
-/// The clauses, the steps learned so far, the trail, the watched literals, and room for the analysis.
+/// The clauses, the steps learned so far, the trail, the watched literals, the order of decisions, and room for the
+/// analysis.
 #[derive(Drop)]
 pub struct Search<'a> {
     clauses: &'a [Clause],
     steps: Vec<Step>,
     trail: Trail,
     watches: Watches,
+    order: Order,
     marked: Vec<bool>,
 }
 
@@ -59,6 +62,7 @@ impl<'a> Search<'a> {
             steps: Vec::new(alloc),
             trail: Trail::new(alloc, variables)?,
             watches,
+            order: Order::new(alloc, variables)?,
             marked: vec![in alloc; false; variables]?,
         })
     }
@@ -91,14 +95,11 @@ impl<'a> Search<'a> {
         ensures decided { result ≡ Ok true → left self.new < left self.old }
         ensures full { result ≡ Ok false → (self.new ≡ self.old) × IsFull self.new.variables self.new.entries }
     {
-        let Some(variable) = self.trail.find_free() else {
+        let Some(literal) = self.order.choose(&self.trail) else {
             return Ok(false);
         };
         self.trail.assign(Entry {
-            literal: Literal {
-                variable,
-                positive: false,
-            },
+            literal,
             reason: None,
         })?;
         Ok(true)
@@ -116,6 +117,7 @@ impl<'a> Search<'a> {
             alloc,
             &database,
             &self.trail,
+            &mut self.order,
             self.marked.as_mut_slice(),
             conflict,
         )?;
@@ -137,6 +139,7 @@ impl<'a> Search<'a> {
     {
         let number = self.clauses.len() as u64 + self.steps.len() as u64;
         self.watches.cut(turn.place);
+        self.order.put_back_from(&self.trail, turn.place);
         self.trail.undo(turn.place);
         self.trail.assign(Entry {
             literal: turn.literal,

@@ -1,9 +1,9 @@
 // The literals that are true, in the order in which they became so, and the value of each variable. What a trail says
 // of a literal depends on its entries alone; the array of values makes each look cost the same.
-ghost use Rattle.std.specs.Prelude.{◌≡◌, ℕ, ◌+◌, ◌<◌, ◌≤◌, ◌^◌, ◌++◌, ◌∷◌, [], true, false, length, take, slice_set, ◌-◌, IfOk, OnOk, OnErr, MatchOption};
+ghost use Rattle.std.specs.Prelude.{◌≡◌, ℕ, ◌+◌, ◌<◌, ◌≤◌, ◌^◌, ◌++◌, ◌∷◌, [], true, false, length, take, slice_set, ◌-◌, IfOk, OnOk, OnErr, MatchOption, IsTrue, ◌↔◌};
 ghost use Rattle.dd_clause.specs.Clauses.{IsInRange, true_variables};
 ghost use Rattle.dd_derivation.specs.Derivations.{is_among, has_variable};
-ghost use Rattle.dd_solver.specs.Entries.{falses, IsFull};
+ghost use Rattle.dd_solver.specs.Entries.{falses, IsFree, IsFull};
 ghost use Rattle.dd_solver.specs.Values.{IsValued};
 
 use dd_clause::{Assignment, Literal};
@@ -138,10 +138,30 @@ impl Trail {
             .truncate(count_below(self.levels.as_slice(), place));
     }
 
+    /// Whether each variable has a value.
+    pub fn is_full(&self) -> bool
+        ensures { IsTrue result ↔ IsFull self.now.variables self.now.entries }
+    {
+        self.entries.len() == self.values.len()
+    }
+
+    /// Whether there is a variable of this number, and it has no value.
+    pub fn is_free(&self, variable: usize) -> bool
+        ensures { IsTrue result ↔ IsFree self.now.variables self.now.entries variable }
+    {
+        if variable == 0 {
+            return false;
+        }
+        if variable > self.values.len() {
+            return false;
+        }
+        self.values[variable - 1].is_none()
+    }
+
     /// A variable that has no value.
     pub fn find_free(&self) -> Option<u32>
         requires { self.now.variables < 2 ^ 32 }
-        ensures { MatchOption result (IsFull self.now.variables self.now.entries) (λ v. (1 ≤ v) × (v ≤ self.now.variables) × (has_variable v (falses self.now.entries) ≡ false)) }
+        ensures { MatchOption result (IsFull self.now.variables self.now.entries) (IsFree self.now.variables self.now.entries) }
     {
         for i in 0..self.values.len() {
             if self.values[i].is_none() {

@@ -213,7 +213,7 @@ impl Watches {
             }
             Scan::Nothing => self.scanned = count,
         }
-        if let Some(_) = trail.find_free() {
+        if !trail.is_full() {
             return Ok(Scan::Nothing);
         }
         match scan_between(database, trail, 0, count) {

@@ -1,5 +1,5 @@
 use super::*;
-use dd_clause::satisfies;
+use dd_clause::{Literal, satisfies};
 use dd_derivation::{Marks, check_refutation};
 use std::test::Fail;
 

@@ -3,7 +3,7 @@ use Rattle.dd_solver.specs.declared.trail.Entry.{Entry}
 use Rattle.dd_solver.specs.Entries.{all_known, IsTrail}
 use Rattle.dd_solver.specs.Analysis.{marks}
 use Rattle.dd_solver.proofs.Walk.{Walk, walk_start, walk_past, walk_kept, walk_resolved, walk_turn}
-use Rattle.dd_solver.proofs.analysis.learn.Goals as goal
+use Rattle.dd_solver.proofs.analysis.walk_down.Goals as goal
 
 none : Entry
 none = record { literal = record { variable = 0; positive = false }; reason = None }
