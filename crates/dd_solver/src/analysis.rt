@@ -253,11 +253,16 @@ fn bump_resolved(
             bump_marked(order, trail, marked, literals);
         }
     }
-    order.decay();
+}
+
+fn bump_kept(order: &mut Order, literals: &[Literal]) {
+    for literal in literals {
+        order.bump(literal.variable);
+    }
 }
 
 /// Learns a clause from the one of this number, whose literals are all false. The variables of the clauses that it
-/// follows by are decided sooner.
+/// follows by become more active, and its own twice.
 pub fn learn(
     alloc: Global,
     database: &Database,
@@ -274,5 +279,7 @@ pub fn learn(
 {
     let learned = walk_down(alloc, database, trail, marked, conflict)?;
     bump_resolved(order, database, trail, marked, learned.hints.as_slice());
+    bump_kept(order, learned.literals.as_slice());
+    order.decay();
     Ok(learned)
 }

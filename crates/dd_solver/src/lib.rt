@@ -1,4 +1,5 @@
-//! A search that learns clauses: an assignment that satisfies a clause list, or steps that refute it.
+//! A search that learns clauses: an assignment that satisfies a clause list, or steps that refute it. And of the steps
+//! those that a refutation needs.
 #![tactic(auto)]
 
 mod analysis;
@@ -7,6 +8,8 @@ mod order;
 mod propagation;
 mod search;
 mod trail;
+mod trimming;
 mod watches;
 
 pub use search::solve;
+pub use trimming::trimmed;

@@ -36,7 +36,7 @@ pub struct Order {
 }
 
 impl Order {
-    /// All variables wait, in the order of their numbers, and are to be false.
+    /// All variables wait, and are to be false.
     pub fn new(alloc: Global, variables: usize) -> Result<Order, AllocError> {
         let idle = Rank {
             activity: 0,
@@ -214,10 +214,8 @@ impl Order {
         self.increment = (self.increment >> LOST_BITS).max(FIRST_INCREMENT);
     }
 
-    /// The variable took part in a conflict.
-    pub fn bump(&mut self, variable: u32) {
-        let variable = variable as usize;
-        let activity = self.activity(variable).saturating_add(self.increment);
+    fn raise(&mut self, variable: usize, gain: u64) {
+        let activity = self.activity(variable).saturating_add(gain);
         if variable < self.ranks.len() {
             self.ranks[variable].activity = activity;
         }
@@ -230,8 +228,20 @@ impl Order {
         }
     }
 
+    /// The variables stand in a clause of the list. Until there are conflicts, those that stand in most come first.
+    pub fn count(&mut self, literals: &[Literal]) {
+        for literal in literals {
+            self.raise(literal.variable as usize, 1);
+        }
+    }
+
+    /// The variable took part in a conflict.
+    pub fn bump(&mut self, variable: u32) {
+        self.raise(variable as usize, self.increment);
+    }
+
     /// Later conflicts count for more than those before.
     pub fn decay(&mut self) {
-        self.increment = self.increment.saturating_add(self.increment / 16);
+        self.increment = self.increment.saturating_add(self.increment / 64);
     }
 }

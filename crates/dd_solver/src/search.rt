@@ -54,15 +54,17 @@ impl<'a> Search<'a> {
     {
         let variables = variables as usize;
         let mut watches = Watches::new(alloc, variables)?;
+        let mut order = Order::new(alloc, variables)?;
         for clause in clauses {
             watches.add(clause.literals())?;
+            order.count(clause.literals());
         }
         Ok(Search {
             clauses,
             steps: Vec::new(alloc),
             trail: Trail::new(alloc, variables)?,
             watches,
-            order: Order::new(alloc, variables)?,
+            order,
             marked: vec![in alloc; false; variables]?,
         })
     }
