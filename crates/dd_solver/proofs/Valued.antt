@@ -181,9 +181,18 @@ free_exactly trail values v (Some x) false ok a h e s = (λ t. absurd (false≢t
 
 -- each variable has a value exactly where there are as many entries as variables
 pub full_exactly : (trail : List Entry) (values : List (Option Bool)) (n m : ℕ) → IsValued trail values → n ≡ length trail → m ≡ length values → IsTrue (eqb n m) ↔ IsFull (length values) trail
-full_exactly trail values n m ok e f = (λ t. λ v a b. some_entry trail values v ok a b (each values (omega (arith, ok.count_ok, eqb-true n m t, e, f)) (v - 1) (omega arith)), λ full. eq-eqb n m (omega (arith, ok.count_ok, every values (λ k l. (
-    let q : k + 1 - 1 ≡ k = omega arith in
-    subst (λ (i : ℕ). one_if_some (get_or values i None) ≡ 1) q (valued_entry trail values (k + 1) ok (omega arith) (omega arith) (full (k + 1) (omega arith) (omega arith))))), e, f)))
+full_exactly trail values n m ok e f = (
+  λ t. λ v a b. some_entry trail values v ok a b (each values (omega (arith, ok.count_ok, eqb-true n m t, e, f)) (v - 1) (omega arith)),
+  λ full. eq-eqb n m (omega (
+    arith,
+    ok.count_ok,
+    every values (λ k l. (
+        let q : k + 1 - 1 ≡ k = omega arith in
+        subst (λ (i : ℕ). one_if_some (get_or values i None) ≡ 1) q (valued_entry trail values (k + 1) ok (omega arith) (omega arith) (full (k + 1) (omega arith) (omega arith))))),
+    e,
+    f,
+  )),
+)
   where
     each : (xs : List (Option Bool)) → count_valued xs ≡ length xs → (k : ℕ) → k < length xs → one_if_some (get_or xs k None) ≡ 1
     each [] h k l = absurd (omega arith)

@@ -1,5 +1,5 @@
-//! A search that learns clauses: an assignment that satisfies a clause list, or steps that refute it. And of the steps
-//! those that a refutation needs.
+//! A search that learns clauses: an assignment that satisfies a clause list, or steps that refute it; and of such steps
+//! those that are used.
 #![tactic(auto)]
 
 mod analysis;

@@ -105,3 +105,52 @@ pub fn trimmed(alloc: Global, cnf: &Cnf, steps: Items<Step>) -> Result<Items<Ste
     }
     Ok(steps)
 }
+
+#[cfg(test)]
+mod tests {
+    use super::*;
+    use dd_clause::Literal;
+    use std::test::Fail;
+
+    fn clause(alloc: Global, numbers: &[i32]) -> Result<Clause, AllocError> {
+        let mut literals: Vec<Literal> = Vec::new(alloc);
+        for number in numbers {
+            literals.push(Literal {
+                variable: number.unsigned_abs(),
+                positive: *number > 0,
+            })?;
+        }
+        Clause::from_literals(alloc, literals.as_slice())
+    }
+
+    fn step(alloc: Global, numbers: &[i32], hints: &[u64]) -> Result<Step, AllocError> {
+        Ok(Step {
+            clause: clause(alloc, numbers)?,
+            hints: Items::from_slice(alloc, hints)?,
+            deletes: Items::new(alloc),
+        })
+    }
+
+    #[test]
+    fn leaves_out_a_step_that_is_not_used(rt: HostRuntime) -> Result<(), Fail> {
+        let alloc = rt.alloc();
+        let mut cnf = Cnf::new(alloc, 2);
+        for numbers in [[1, 2], [-1, 2], [1, -2], [-1, -2]] {
+            let clause = clause(alloc, numbers.as_slice())?;
+            if cnf.is_in_range(&clause) {
+                cnf.push(clause)?;
+            }
+        }
+        let mut steps = Items::new(alloc);
+        steps.push(step(alloc, [1].as_slice(), [1, 3].as_slice())?)?;
+        steps.push(step(alloc, [2].as_slice(), [1, 2].as_slice())?)?;
+        steps.push(step(alloc, [].as_slice(), [6, 3, 4].as_slice())?)?;
+        let mut marks = Marks::new(alloc, &cnf, steps.as_slice())?;
+        assert!(rt; check_refutation(&cnf, steps.as_slice(), &mut marks));
+        let fewer = trimmed(alloc, &cnf, steps)?;
+        assert_eq!(rt; fewer.len(), 2);
+        assert_eq!(rt; fewer[0].hints.as_slice(), [1, 2].as_slice());
+        assert_eq!(rt; fewer[1].hints.as_slice(), [5, 3, 4].as_slice());
+        Ok(())
+    }
+}

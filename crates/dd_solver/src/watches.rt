@@ -2,7 +2,7 @@
 // that it watches are not false. So only the clauses that watch a literal are looked at when it becomes false, and
 // nothing is undone on a return. What a clause is found to say is looked at exactly, so no promise rests on the watches:
 // one that is missed costs time.
-ghost use Rattle.std.specs.Prelude.{◌≡◌, ◌<◌, ◌^◌, length, IfOk, ⊤};
+ghost use Rattle.std.specs.Prelude.{◌≡◌, ◌<◌, ◌^◌, length, IfOk, MatchOption, ⊤};
 ghost use Rattle.dd_solver.specs.Entries.{all_known, falses, IsFull};
 ghost use Rattle.dd_solver.specs.Search.{Says, AreOpenBetween};
 
@@ -13,29 +13,39 @@ use dd_clause::Literal;
 use dd_derivation::FalseLiterals;
 use std::alloc::{AllocError, Global};
 
-/// The two literals that a clause watches, by their places in the lists.
+/// A clause that watches a literal, by its number, and another of its literals. Where that one is true, the clause needs
+/// no look.
 #[derive(Clone, Copy)]
-struct Pair {
-    first: usize,
-    second: usize,
+struct Watcher {
+    number: u64,
+    other: Literal,
 }
 
-/// For each literal the clauses that watch it; how far the trail is read, and the list of its next literal; and how many
-/// clauses were looked at since they were added.
+/// From where to where the literals of a clause stand.
+#[derive(Clone, Copy)]
+struct Extent {
+    from: usize,
+    to: usize,
+}
+
+/// For each literal the clauses that watch it; the literals of all clauses, those first that a clause watches; how far
+/// the trail is read, and the list of its next literal; and how many clauses were looked at since they were added.
 #[derive(Drop)]
 pub struct Watches {
-    lists: Vec<Vec<u64>>,
-    pairs: Vec<Pair>,
+    lists: Vec<Vec<Watcher>>,
+    literals: Vec<Literal>,
+    extents: Vec<Extent>,
     read: usize,
     at: usize,
     scanned: u64,
 }
 
-/// What is done with a clause whose watched literal became false.
+/// What is done with a clause whose watched literal became false: it stays with the other watched literal true, or it
+/// watches a further literal beside the other, or it may force the other.
 #[derive(Clone, Copy)]
 enum Look {
-    Stays,
-    Moves(usize),
+    Stays(Literal),
+    Moves(Literal, Literal),
     Speaks,
 }
 
@@ -48,24 +58,63 @@ fn is_true(trail: &Trail, literal: Literal) -> bool {
     trail.is_false(literal.negation())
 }
 
-fn watch(lists: &mut Vec<Vec<u64>>, list: usize, number: u64) -> Result<(), AllocError> {
+fn watch(lists: &mut Vec<Vec<Watcher>>, list: usize, watcher: Watcher) -> Result<(), AllocError> {
     if list < lists.len() {
-        lists[list].push(number)?;
+        lists[list].push(watcher)?;
     }
     Ok(())
 }
 
-fn unwatch(lists: &mut Vec<Vec<u64>>, list: usize, at: usize) {
+fn unwatch(lists: &mut Vec<Vec<Watcher>>, list: usize, at: usize) {
     if list < lists.len() && at < lists[list].len() {
         lists[list].swap_remove(at);
     }
 }
 
-fn watcher(lists: &[Vec<u64>], list: usize, at: usize) -> Option<u64> {
+fn set_watcher(lists: &mut Vec<Vec<Watcher>>, list: usize, at: usize, watcher: Watcher) {
+    if list < lists.len() && at < lists[list].len() {
+        lists[list][at] = watcher;
+    }
+}
+
+fn find_watcher(lists: &[Vec<Watcher>], list: usize, at: usize) -> Option<Watcher> {
     if list < lists.len() && at < lists[list].len() {
         return Some(lists[list][at]);
     }
     None
+}
+
+/// The place of the first literal that is not false.
+fn find_not_false(trail: &Trail, literals: &[Literal]) -> Option<usize>
+    ensures { MatchOption result ⊤ (λ place. place < length literals.now) }
+{
+    for (place, literal) in literals.iter().enumerate() {
+        if !trail.is_false(*literal) {
+            return Some(place);
+        }
+    }
+    None
+}
+
+/// Looks in a clause for another literal to watch, in place of the one that became false.
+fn rewatch(trail: &Trail, literals: &mut [Literal], became_false: Literal) -> Look {
+    if literals.len() < 2 {
+        return Look::Stays(became_false);
+    }
+    if literals[0] == became_false {
+        literals.swap(0, 1);
+    }
+    let other = literals[0];
+    if is_true(trail, other) {
+        return Look::Stays(other);
+    }
+    match find_not_false(trail, &literals[2..]) {
+        None => Look::Speaks,
+        Some(place) => {
+            literals.swap(1, 2 + place);
+            Look::Moves(literals[1], other)
+        }
+    }
 }
 
 impl Watches {
@@ -73,13 +122,14 @@ impl Watches {
     pub fn new(alloc: Global, variables: usize) -> Result<Watches, AllocError>
         requires { variables < 2 ^ 32 }
     {
-        let mut lists: Vec<Vec<u64>> = Vec::new(alloc);
+        let mut lists: Vec<Vec<Watcher>> = Vec::new(alloc);
         for _ in 0..2 * variables + 2 {
             lists.push(Vec::new(alloc))?;
         }
         Ok(Watches {
             lists,
-            pairs: Vec::new(alloc),
+            literals: Vec::new(alloc),
+            extents: Vec::new(alloc),
             read: 0,
             at: 0,
             scanned: 0,
@@ -88,18 +138,26 @@ impl Watches {
 
     /// The next clause watches its first two literals.
     pub fn add(&mut self, literals: &[Literal]) -> Result<(), AllocError> {
-        let number = self.pairs.len() as u64 + 1;
-        let mut pair = Pair {
-            first: 0,
-            second: 0,
-        };
+        let number = self.extents.len() as u64 + 1;
         if literals.len() >= 2 {
-            pair.first = list_of(literals[0]);
-            pair.second = list_of(literals[1]);
-            watch(&mut self.lists, pair.first, number)?;
-            watch(&mut self.lists, pair.second, number)?;
+            let first = literals[0];
+            let other = literals[1];
+            watch(&mut self.lists, list_of(first), Watcher { number, other })?;
+            watch(
+                &mut self.lists,
+                list_of(other),
+                Watcher {
+                    number,
+                    other: first,
+                },
+            )?;
         }
-        self.pairs.push(pair)?;
+        let from = self.literals.len();
+        for literal in literals {
+            self.literals.push(*literal)?;
+        }
+        let to = self.literals.len();
+        self.extents.push(Extent { from, to })?;
         Ok(())
     }
 
@@ -109,36 +167,50 @@ impl Watches {
         self.at = 0;
     }
 
-    /// Looks for another literal to watch, in place of the one that became false.
-    fn look(&mut self, database: &Database, trail: &Trail, list: usize, number: u64) -> Look {
-        let Some(literals) = database.find_clause(number) else {
-            return Look::Stays;
-        };
-        if number == 0 || number > self.pairs.len() as u64 {
-            return Look::Stays;
+    fn extent(&self, number: u64) -> Extent {
+        if number >= 1 && number <= self.extents.len() as u64 {
+            return self.extents[(number - 1) as usize];
         }
-        let place = (number - 1) as usize;
-        let pair = self.pairs[place];
-        let other = if pair.first == list {
-            pair.second
-        } else {
-            pair.first
-        };
-        for literal in literals {
-            let next = list_of(*literal);
-            if next == other {
-                if is_true(trail, *literal) {
-                    return Look::Stays;
-                }
-            } else if next != list && !trail.is_false(*literal) {
-                self.pairs[place] = Pair {
-                    first: other,
-                    second: next,
-                };
-                return Look::Moves(next);
+        Extent { from: 0, to: 0 }
+    }
+
+    /// The same in the clause of this number.
+    fn rewatch_in(&mut self, trail: &Trail, number: u64, became_false: Literal) -> Look {
+        let Extent { from, to } = self.extent(number);
+        let literals = self.literals.as_mut_slice();
+        if from <= to && to <= literals.len() {
+            return rewatch(trail, &mut literals[from..to], became_false);
+        }
+        Look::Stays(became_false)
+    }
+
+    /// Goes past a watcher of a literal that became false, unless its clause may force a literal or be falsified.
+    fn pass(
+        &mut self,
+        trail: &Trail,
+        became_false: Literal,
+        watcher: Watcher,
+    ) -> Result<bool, AllocError> {
+        let list = list_of(became_false);
+        let at = self.at;
+        let number = watcher.number;
+        if is_true(trail, watcher.other) {
+            self.at = at.saturating_add(1);
+            return Ok(true);
+        }
+        match self.rewatch_in(trail, number, became_false) {
+            Look::Stays(other) => {
+                set_watcher(&mut self.lists, list, at, Watcher { number, other });
+                self.at = at.saturating_add(1);
+                Ok(true)
             }
+            Look::Moves(next, other) => {
+                unwatch(&mut self.lists, list, at);
+                watch(&mut self.lists, list_of(next), Watcher { number, other })?;
+                Ok(true)
+            }
+            Look::Speaks => Ok(false),
         }
-        Look::Speaks
     }
 
     /// Reads the clauses that watch a literal which became false, on from where they were read to.
@@ -146,29 +218,26 @@ impl Watches {
         &mut self,
         database: &Database,
         trail: &Trail,
-        list: usize,
+        literal: Literal,
     ) -> Result<Scan, AllocError>
         ensures { IfOk result (Says (all_known database.now) (falses trail.now.entries) ⊤) }
     {
+        let list = list_of(literal);
         let count = match self.lists.get(list) {
             None => 0,
             Some(watchers) => watchers.len(),
         };
         for _ in 0..count {
             let at = self.at;
-            let Some(number) = watcher(self.lists.as_slice(), list, at) else {
+            let Some(watcher) = find_watcher(self.lists.as_slice(), list, at) else {
                 break;
             };
-            match self.look(database, trail, list, number) {
-                Look::Stays => self.at = at.saturating_add(1),
-                Look::Moves(next) => {
-                    unwatch(&mut self.lists, list, at);
-                    watch(&mut self.lists, next, number)?;
-                }
-                Look::Speaks => match look_at(database, trail, number) {
-                    Scan::Nothing => self.at = at.saturating_add(1),
+            if !self.pass(trail, literal, watcher)? {
+                self.at = at.saturating_add(1);
+                match look_at(database, trail, watcher.number) {
+                    Scan::Nothing => {}
                     seen => return Ok(seen),
-                },
+                }
             }
         }
         self.at = 0;
@@ -185,7 +254,7 @@ impl Watches {
             if read >= entries.len() {
                 break;
             }
-            match self.read_list(database, trail, list_of(entries[read].literal.negation()))? {
+            match self.read_list(database, trail, entries[read].literal.negation())? {
                 Scan::Nothing => self.read = read.saturating_add(1),
                 seen => return Ok(seen),
             }
