@@ -1,6 +1,7 @@
 // Texts with the command of the first fault, or none where the whole is well formed.
 use crate::{SyntaxFault, read};
 use std::alloc::Global;
+use std::process::Abort;
 use std::test::Fail;
 
 /// The first command that is not well formed, and none where all are.
@@ -11,88 +12,100 @@ fn first_fault(alloc: Global, bytes: &[u8]) -> Option<SyntaxFault> {
     read(alloc, bytes).err()
 }
 
+/// Texts whose commands are all well formed.
+const WELL_FORMED: [&[u8]; 13] = [
+    b"",
+    b"-- only a comment",
+    b"%rule hard o=1 -> (o.rt=0 & o.up=0)\n%conf c [2 2] 1 0 0 1\n%member c hard\n",
+    b"%dim 1 %limits 3 4 10000 %rule dies (o=1 -> o.rt=1) & !(o=1 & o.rt=1 & o.rt.rt=1) %rule zero o=0 %contains zero dies",
+    b"%topology hex %rule full o@o %rule free Ap[o1] (p~o -> !(p=1 & o=1)) %contains free full",
+    b"%dim 1 %auto r when o.lt!=o.rt give 1 else 0 %compose rr r r %same rr r full",
+    b"%dim 1 %nodes a b %topology (x a [0] b) %rule p !(o.x=1) %rule q o:a %empty p %equal p q %forbidden p",
+    b"%density dom [5] %discharge dom 0 0 [1 0] [-1 0] [0 1] [0 -1]",
+    b"%nodes a %alphabet 0 1 2 %weights 1 2 3 %density x []",
+    b"%rule when when=else|give.rule=dim",
+    b"%auto else else else",
+    b"%auto give when give=give give give else give",
+    b"%rule a o=1 --> o=1",
+];
+
 #[test]
-fn tells(rt: HostRuntime) -> Result<(), Fail> {
-    let rows: [(&[u8], Option<u32>); 52] = [
-        (b"", None),
-        (b"-- only a comment", None),
-        (b"x", Some(0)),
-        (b"%", Some(1)),
-        (
-            b"%rule hard o=1 -> (o.rt=0 & o.up=0)\n%conf c [2 2] 1 0 0 1\n%member c hard\n",
-            None,
-        ),
-        (
-            b"%dim 1 %limits 3 4 10000 %rule dies (o=1 -> o.rt=1) & !(o=1 & o.rt=1 & o.rt.rt=1) %rule zero o=0 %contains zero dies",
-            None,
-        ),
-        (
-            b"%topology hex %rule full o@o %rule free Ap[o1] (p~o -> !(p=1 & o=1)) %contains free full",
-            None,
-        ),
-        (
-            b"%dim 1 %auto r when o.lt!=o.rt give 1 else 0 %compose rr r r %same rr r full",
-            None,
-        ),
-        (
-            b"%dim 1 %nodes a b %topology (x a [0] b) %rule p !(o.x=1) %rule q o:a %empty p %equal p q %forbidden p",
-            None,
-        ),
-        (
-            b"%density dom [5] %discharge dom 0 0 [1 0] [-1 0] [0 1] [0 -1]",
-            None,
-        ),
-        (
-            b"%nodes a %alphabet 0 1 2 %weights 1 2 3 %density x []",
-            None,
-        ),
-        (b"%rule a o=1 &", Some(1)),
-        (b"%rule a o=0 %rule a o=1 &", Some(2)),
-        (b"%rule a o=0 &%rule b o=1 \xff", Some(1)),
-        (b"%rule a o=0 %rule b o=1 -- \xff", Some(2)),
-        (b"%rule a o=0 \x01", Some(1)),
-        (b"\x01", Some(0)),
-        (b"x %rule a o=0", Some(0)),
-        (b"%rule a o=0 %dim 2", Some(2)),
-        (b"%dim 2 %dim 2", Some(2)),
-        (b"%alphabet 0 1 %nodes a", Some(2)),
-        (b"%topology line %topology square", Some(2)),
-        (b"%topology star", Some(1)),
-        (b"%topology line cube", Some(1)),
-        (b"%topology (a 0 [1] 0", Some(1)),
-        (b"%topology (0 0 [1] 0)", Some(1)),
-        (b"%nodes", Some(1)),
-        (b"%dim x", Some(1)),
-        (b"%dim 1 2", Some(1)),
-        (b"%limits 1 2", Some(1)),
-        (b"%conf c [-1] 0", Some(1)),
-        (b"%conf c [1]", Some(1)),
-        (b"%density x [-1]", Some(1)),
-        (b"%discharge x 0 0", Some(1)),
-        (b"%discharge x 0 0 [-1", Some(1)),
-        (b"%member c", Some(1)),
-        (b"%member c 1", Some(1)),
-        (b"%empty a b", Some(1)),
-        (b"%queue a", Some(1)),
-        (b"%5", Some(1)),
-        (b"%%empty a", Some(1)),
-        (b"%rule when when=else|give.rule=dim", None),
-        (b"%auto else else else", None),
-        (b"%auto give when give=give give give else give", None),
-        (b"%auto a when o=1 else 0", Some(1)),
-        (b"%auto a when o=1 give 0", Some(1)),
-        (b"%rule a Ap[] o=1", Some(1)),
-        (b"%rule a A1[o1] o=1", Some(1)),
-        (b"%rule a o", Some(1)),
-        (b"%rule a 1=o", Some(1)),
-        (b"%rule a o=1 <--> o=1", Some(1)),
-        (b"%rule a o=1 --> o=1", None),
-    ];
-    for (bytes, fault) in rows {
-        let expected = fault.map(|command| SyntaxFault::At { command });
-        assert_eq!(rt; first_fault(rt.alloc(), bytes), expected);
+fn well_formed_texts_have_no_fault(rt: HostRuntime) {
+    for text in WELL_FORMED {
+        assert_eq!(rt; first_fault(rt.alloc(), text), None);
     }
-    Ok(())
+}
+
+/// Asserts that the first fault of each text is at the command beside it, where 0 is what stands before the first.
+fn assert_first_faults(rt: &impl Abort, alloc: Global, faults: &[(&[u8], u32)]) {
+    for (text, command) in faults {
+        let expected = Some(SyntaxFault::At { command: *command });
+        assert_eq!(rt; first_fault(alloc, text), expected);
+    }
+}
+
+/// Bytes and words that stand where none may, before the first command, in one and behind it.
+const FAULTS_OF_TEXT: [(&[u8], u32); 9] = [
+    (b"x", 0),
+    (b"%", 1),
+    (b"%rule a o=1 &", 1),
+    (b"%rule a o=0 %rule a o=1 &", 2),
+    (b"%rule a o=0 &%rule b o=1 \xff", 1),
+    (b"%rule a o=0 %rule b o=1 -- \xff", 2),
+    (b"%rule a o=0 \x01", 1),
+    (b"\x01", 0),
+    (b"x %rule a o=0", 0),
+];
+
+/// Commands of the header that stand in another order, twice, or with other parts.
+const FAULTS_OF_HEADERS: [(&[u8], u32); 12] = [
+    (b"%rule a o=0 %dim 2", 2),
+    (b"%dim 2 %dim 2", 2),
+    (b"%alphabet 0 1 %nodes a", 2),
+    (b"%topology line %topology square", 2),
+    (b"%topology star", 1),
+    (b"%topology line cube", 1),
+    (b"%topology (a 0 [1] 0", 1),
+    (b"%topology (0 0 [1] 0)", 1),
+    (b"%nodes", 1),
+    (b"%dim x", 1),
+    (b"%dim 1 2", 1),
+    (b"%limits 1 2", 1),
+];
+
+/// Configurations and queries with other parts, and words that are no command.
+const FAULTS_OF_COMMANDS: [(&[u8], u32); 11] = [
+    (b"%conf c [-1] 0", 1),
+    (b"%conf c [1]", 1),
+    (b"%density x [-1]", 1),
+    (b"%discharge x 0 0", 1),
+    (b"%discharge x 0 0 [-1", 1),
+    (b"%member c", 1),
+    (b"%member c 1", 1),
+    (b"%empty a b", 1),
+    (b"%queue a", 1),
+    (b"%5", 1),
+    (b"%%empty a", 1),
+];
+
+/// Rules and automata with no whole formula or case.
+const FAULTS_OF_FORMULAS: [(&[u8], u32); 7] = [
+    (b"%auto a when o=1 else 0", 1),
+    (b"%auto a when o=1 give 0", 1),
+    (b"%rule a Ap[] o=1", 1),
+    (b"%rule a A1[o1] o=1", 1),
+    (b"%rule a o", 1),
+    (b"%rule a 1=o", 1),
+    (b"%rule a o=1 <--> o=1", 1),
+];
+
+#[test]
+fn the_first_fault_is_found(rt: HostRuntime) {
+    let alloc = rt.alloc();
+    assert_first_faults(&rt, alloc, &FAULTS_OF_TEXT);
+    assert_first_faults(&rt, alloc, &FAULTS_OF_HEADERS);
+    assert_first_faults(&rt, alloc, &FAULTS_OF_COMMANDS);
+    assert_first_faults(&rt, alloc, &FAULTS_OF_FORMULAS);
 }
 
 /// Each piece so many times, one after the other.
