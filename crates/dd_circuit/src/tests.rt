@@ -33,6 +33,42 @@ fn a_conjunction_of_two_inputs(rt: HostRuntime) -> Result<(), Fail> {
     Ok(())
 }
 
+/// The values of three inputs, and those of the eight gates below over them.
+const VALUES_OF_GATES: [([bool; 3], [bool; 8]); 8] = [
+    (
+        [false, false, false],
+        [true, false, false, false, true, true, false, true],
+    ),
+    (
+        [true, false, false],
+        [true, true, false, false, false, true, true, true],
+    ),
+    (
+        [false, true, false],
+        [true, false, false, false, true, false, true, false],
+    ),
+    (
+        [true, true, false],
+        [true, true, false, false, false, true, false, true],
+    ),
+    (
+        [false, false, true],
+        [true, false, false, false, true, true, false, true],
+    ),
+    (
+        [true, false, true],
+        [true, true, true, false, false, true, true, false],
+    ),
+    (
+        [false, true, true],
+        [true, false, false, false, true, true, true, true],
+    ),
+    (
+        [true, true, true],
+        [true, true, false, false, false, true, false, true],
+    ),
+];
+
 #[test]
 fn gates_of_no_one_and_three_members(rt: HostRuntime) -> Result<(), Fail> {
     let alloc = rt.alloc();
@@ -45,41 +81,7 @@ fn gates_of_no_one_and_three_members(rt: HostRuntime) -> Result<(), Fail> {
     circuit.or(&[plus(1), minus(2), plus(3)])?;
     circuit.iff(plus(1), minus(2))?;
     circuit.iff(minus(6), plus(9))?;
-    let rows = [
-        (
-            [false, false, false],
-            [true, false, false, false, true, true, false, true],
-        ),
-        (
-            [true, false, false],
-            [true, true, false, false, false, true, true, true],
-        ),
-        (
-            [false, true, false],
-            [true, false, false, false, true, false, true, false],
-        ),
-        (
-            [true, true, false],
-            [true, true, false, false, false, true, false, true],
-        ),
-        (
-            [false, false, true],
-            [true, false, false, false, true, true, false, true],
-        ),
-        (
-            [true, false, true],
-            [true, true, true, false, false, true, true, false],
-        ),
-        (
-            [false, true, true],
-            [true, false, false, false, true, true, true, true],
-        ),
-        (
-            [true, true, true],
-            [true, true, false, false, false, true, false, true],
-        ),
-    ];
-    for (inputs, gates) in rows {
+    for (inputs, gates) in VALUES_OF_GATES {
         let values = circuit.value(alloc, &inputs)?;
         assert_eq!(rt; values.len(), 11);
         assert_eq!(rt; &values[3..], gates.as_slice(), "at {inputs:?}");
