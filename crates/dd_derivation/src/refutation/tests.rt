@@ -1,6 +1,7 @@
 use super::*;
 use dd_clause::Literal;
 use dd_values::Items;
+use std::process::Abort;
 use std::test::Fail;
 
 fn clause_of(alloc: Global, numbers: &[i32]) -> Result<Clause, AllocError> {
@@ -73,68 +74,83 @@ fn check_twice(alloc: Global, clauses: &[i32], steps: &[i32]) -> Result<[bool; 2
     Ok([first, second])
 }
 
-#[test]
-fn follows_the_hints_of_one_step(rt: HostRuntime) -> Result<(), Fail> {
-    let cases: [(&[i32], bool); 14] = [
-        (&[0, 6, 3, 4, 2, 0, 0], true),
-        (&[0, 6, 3, 4, 2, 0, 6, 0], true),
-        (&[0, 6, 3, 4, 2, 0, 1, 2, 3, 4, 5, 6, 0], true),
-        // no step, no hint, a hint left out, one that is too many
-        (&[], false),
-        (&[0, 0, 0], false),
-        (&[0, 6, 4, 2, 0, 0], false),
-        (&[0, 6, 3, 4, 2, 5, 0, 0], false),
-        // a literal that is true already, two that are not false, a number that is not there
-        (&[0, 6, 3, 3, 4, 2, 0, 0], false),
-        (&[0, 1, 6, 3, 4, 2, 0, 0], false),
-        (&[0, 7, 6, 3, 4, 2, 0, 0], false),
-        // a number deleted twice, and one that is not there
-        (&[0, 6, 3, 4, 2, 0, 6, 6, 0], false),
-        (&[0, 6, 3, 4, 2, 0, 7, 0], false),
-        // the last clause is not empty
-        (&[1, 0, 6, 3, 0, 0], false),
-        (&[0, 6, 3, 4, 2, 0, 0, 1, 0, 6, 3, 0, 0], false),
-    ];
-    for (i, (steps, want)) in cases.iter().enumerate() {
-        let found = check_twice(rt.alloc(), GATE_IS_TRUE.as_slice(), steps)?;
-        assert_eq!(rt; found, [*want; 2], "case {i}");
+/// Asserts what is said of each list of steps for the gate, both times.
+fn assert_checks(
+    rt: &impl Abort,
+    alloc: Global,
+    cases: &[(&[i32], bool)],
+) -> Result<(), AllocError> {
+    for (steps, want) in cases {
+        let found = check_twice(alloc, GATE_IS_TRUE.as_slice(), steps)?;
+        assert_eq!(rt; found, [*want; 2], "{steps:?}");
     }
     Ok(())
 }
 
+/// Steps that need no others, and whether they are a refutation.
+const HINTS_OF_ONE_STEP: [(&[i32], bool); 14] = [
+    (&[0, 6, 3, 4, 2, 0, 0], true),
+    (&[0, 6, 3, 4, 2, 0, 6, 0], true),
+    (&[0, 6, 3, 4, 2, 0, 1, 2, 3, 4, 5, 6, 0], true),
+    // no step, no hint, a hint left out, one that is too many
+    (&[], false),
+    (&[0, 0, 0], false),
+    (&[0, 6, 4, 2, 0, 0], false),
+    (&[0, 6, 3, 4, 2, 5, 0, 0], false),
+    // a literal that is true already, two that are not false, a number that is not there
+    (&[0, 6, 3, 3, 4, 2, 0, 0], false),
+    (&[0, 1, 6, 3, 4, 2, 0, 0], false),
+    (&[0, 7, 6, 3, 4, 2, 0, 0], false),
+    // a number deleted twice, and one that is not there
+    (&[0, 6, 3, 4, 2, 0, 6, 6, 0], false),
+    (&[0, 6, 3, 4, 2, 0, 7, 0], false),
+    // the last clause is not empty
+    (&[1, 0, 6, 3, 0, 0], false),
+    (&[0, 6, 3, 4, 2, 0, 0, 1, 0, 6, 3, 0, 0], false),
+];
+
+#[test]
+fn follows_the_hints_of_one_step(rt: HostRuntime) -> Result<(), Fail> {
+    assert_checks(&rt, rt.alloc(), &HINTS_OF_ONE_STEP)?;
+    Ok(())
+}
+
+/// The literals 1 and 2 and then the empty clause, each from what stands before it.
+const BOTH_AND_NOTHING: &[i32] = &[1, 0, 6, 3, 0, 0, 2, 0, 6, 4, 0, 0, 0, 7, 8, 2, 0, 0];
+
+/// Steps that are checked in turn, and whether they are a refutation.
+const STEPS_IN_TURN: [(&[i32], bool); 9] = [
+    (BOTH_AND_NOTHING, true),
+    (
+        &[1, 0, 6, 3, 0, 3, 0, 2, 0, 6, 4, 0, 0, 0, 7, 8, 2, 0, 0],
+        true,
+    ),
+    (&[0, 6, 3, 4, 2, 0, 0, 0, 6, 3, 4, 2, 0, 0], true),
+    // hints on clauses that were deleted, of the list and of a step
+    (
+        &[1, 0, 6, 3, 0, 6, 0, 2, 0, 6, 4, 0, 0, 0, 7, 8, 2, 0, 0],
+        false,
+    ),
+    (
+        &[1, 0, 6, 3, 0, 0, 2, 0, 6, 4, 0, 7, 0, 0, 7, 8, 2, 0, 0],
+        false,
+    ),
+    // a step that deletes itself
+    (&[1, 0, 6, 3, 0, 7, 0, 0, 6, 3, 4, 2, 0, 0], false),
+    // a variable twice, with one sign and with both, and one out of range
+    (&[1, 1, 0, 6, 3, 0, 0, 0, 6, 3, 4, 2, 0, 0], false),
+    (&[1, -1, 0, 6, 3, 0, 0, 0, 6, 3, 4, 2, 0, 0], false),
+    (&[4, 1, 0, 6, 3, 0, 0, 0, 6, 3, 4, 2, 0, 0], false),
+];
+
 #[test]
 fn takes_the_steps_in_turn(rt: HostRuntime) -> Result<(), Fail> {
-    let cases: [(&[i32], bool); 9] = [
-        (
-            &[1, 0, 6, 3, 0, 0, 2, 0, 6, 4, 0, 0, 0, 7, 8, 2, 0, 0],
-            true,
-        ),
-        (
-            &[1, 0, 6, 3, 0, 3, 0, 2, 0, 6, 4, 0, 0, 0, 7, 8, 2, 0, 0],
-            true,
-        ),
-        (&[0, 6, 3, 4, 2, 0, 0, 0, 6, 3, 4, 2, 0, 0], true),
-        // hints on clauses that were deleted, of the list and of a step
-        (
-            &[1, 0, 6, 3, 0, 6, 0, 2, 0, 6, 4, 0, 0, 0, 7, 8, 2, 0, 0],
-            false,
-        ),
-        (
-            &[1, 0, 6, 3, 0, 0, 2, 0, 6, 4, 0, 7, 0, 0, 7, 8, 2, 0, 0],
-            false,
-        ),
-        // a step that deletes itself
-        (&[1, 0, 6, 3, 0, 7, 0, 0, 6, 3, 4, 2, 0, 0], false),
-        // a variable twice, with one sign and with both, and one out of range
-        (&[1, 1, 0, 6, 3, 0, 0, 0, 6, 3, 4, 2, 0, 0], false),
-        (&[1, -1, 0, 6, 3, 0, 0, 0, 6, 3, 4, 2, 0, 0], false),
-        (&[4, 1, 0, 6, 3, 0, 0, 0, 6, 3, 4, 2, 0, 0], false),
-    ];
-    for (i, (steps, want)) in cases.iter().enumerate() {
-        let found = check_twice(rt.alloc(), GATE_IS_TRUE.as_slice(), steps)?;
-        assert_eq!(rt; found, [*want; 2], "case {i}");
-    }
-    // a literal that stands twice in a clause counts once
+    assert_checks(&rt, rt.alloc(), &STEPS_IN_TURN)?;
+    Ok(())
+}
+
+#[test]
+fn a_literal_that_stands_twice_in_a_clause_counts_once(rt: HostRuntime) -> Result<(), Fail> {
     let twice = [1, 1, 0, -1, 0];
     for steps in [[0, 1, 2, 0, 0], [0, 2, 1, 0, 0]] {
         let found = check_twice(rt.alloc(), twice.as_slice(), steps.as_slice())?;
@@ -143,62 +159,47 @@ fn takes_the_steps_in_turn(rt: HostRuntime) -> Result<(), Fail> {
     Ok(())
 }
 
+/// The clauses of 9, and of -9 and 1, each with the first of the list as its hint, and then 1 from both: no variable is 9.
+const OUT_OF_RANGE: &[i32] = &[9, 0, 1, 0, 0, -9, 1, 0, 1, 0, 0, 1, 0, 7, 8, 0, 0];
+
+/// Steps, the place of the one that is checked after those before it, and whether it is right.
+const STEPS_AFTER_EARLIER_ONES: [(&[i32], usize, bool); 10] = [
+    (BOTH_AND_NOTHING, 0, true),
+    (BOTH_AND_NOTHING, 1, true),
+    (BOTH_AND_NOTHING, 2, true),
+    // what an earlier step deletes is gone, also where that step is not right
+    (&[1, 0, 6, 3, 0, 3, 3, 0, 2, 0, 6, 4, 0, 0], 1, true),
+    (&[1, 0, 6, 3, 0, 3, 3, 0, 1, 0, 6, 3, 0, 0], 1, false),
+    (
+        &[1, 0, 6, 3, 0, 8, 0, 2, 0, 6, 4, 0, 0, 0, 7, 8, 2, 0, 0],
+        2,
+        false,
+    ),
+    // earlier steps may name a variable out of range, which hints give a value
+    (OUT_OF_RANGE, 0, false),
+    (OUT_OF_RANGE, 2, true),
+    (
+        &[9, 0, 1, 0, 0, -9, 1, 0, 1, 0, 0, 1, 0, 8, 7, 0, 0],
+        2,
+        true,
+    ),
+    (
+        &[9, 0, 1, 0, 0, -9, 1, 0, 1, 0, 0, 1, 0, 7, 7, 8, 0, 0],
+        2,
+        false,
+    ),
+];
+
 #[test]
 fn checks_a_step_after_earlier_ones(rt: HostRuntime) -> Result<(), Fail> {
-    let cases: [(&[i32], usize, bool); 10] = [
-        (
-            &[1, 0, 6, 3, 0, 0, 2, 0, 6, 4, 0, 0, 0, 7, 8, 2, 0, 0],
-            0,
-            true,
-        ),
-        (
-            &[1, 0, 6, 3, 0, 0, 2, 0, 6, 4, 0, 0, 0, 7, 8, 2, 0, 0],
-            1,
-            true,
-        ),
-        (
-            &[1, 0, 6, 3, 0, 0, 2, 0, 6, 4, 0, 0, 0, 7, 8, 2, 0, 0],
-            2,
-            true,
-        ),
-        // what an earlier step deletes is gone, also where that step is not right
-        (&[1, 0, 6, 3, 0, 3, 3, 0, 2, 0, 6, 4, 0, 0], 1, true),
-        (&[1, 0, 6, 3, 0, 3, 3, 0, 1, 0, 6, 3, 0, 0], 1, false),
-        (
-            &[1, 0, 6, 3, 0, 8, 0, 2, 0, 6, 4, 0, 0, 0, 7, 8, 2, 0, 0],
-            2,
-            false,
-        ),
-        // earlier steps may name a variable out of range, which hints give a value
-        (
-            &[9, 0, 1, 0, 0, -9, 1, 0, 1, 0, 0, 1, 0, 7, 8, 0, 0],
-            0,
-            false,
-        ),
-        (
-            &[9, 0, 1, 0, 0, -9, 1, 0, 1, 0, 0, 1, 0, 7, 8, 0, 0],
-            2,
-            true,
-        ),
-        (
-            &[9, 0, 1, 0, 0, -9, 1, 0, 1, 0, 0, 1, 0, 8, 7, 0, 0],
-            2,
-            true,
-        ),
-        (
-            &[9, 0, 1, 0, 0, -9, 1, 0, 1, 0, 0, 1, 0, 7, 7, 8, 0, 0],
-            2,
-            false,
-        ),
-    ];
     let alloc = rt.alloc();
     let cnf = cnf_of(alloc, GATE_IS_TRUE.as_slice())?;
-    for (i, (steps, index, want)) in cases.iter().enumerate() {
-        let steps = steps_of(alloc, steps)?;
+    for (numbers, index, want) in STEPS_AFTER_EARLIER_ONES {
+        let steps = steps_of(alloc, numbers)?;
         let mut marks = Marks::new(alloc, &cnf, steps.as_slice())?;
-        assert!(rt; *index < steps.len());
-        let is_right = check_step(&cnf, steps.as_slice(), *index, &mut marks);
-        assert_eq!(rt; is_right, *want, "case {i}");
+        assert!(rt; index < steps.len());
+        let is_right = check_step(&cnf, steps.as_slice(), index, &mut marks);
+        assert_eq!(rt; is_right, want, "step {index} of {numbers:?}");
     }
     Ok(())
 }
