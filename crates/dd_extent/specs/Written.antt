@@ -102,7 +102,8 @@ command_extent (command.Limits radius period pivots) = larger (larger (number_ex
 command_extent (command.Rule name f) = larger (word_extent name) (formula_extent f)
 command_extent (command.Automaton name cases symbol) = larger (larger (word_extent name) (largest (map case_extent cases))) (name_extent symbol)
 command_extent (command.Composition name outer inner) = larger (word_extent name) (two_words outer inner)
-command_extent (command.Configuration name periods symbols) = larger (larger (word_extent name) (largest (map number_extent periods))) (largest (map name_extent symbols))
+command_extent (command.Configuration name periods symbols) =
+    larger (larger (word_extent name) (largest (map number_extent periods))) (largest (map name_extent symbols))
 command_extent (command.Member configuration rule) = two_words configuration rule
 command_extent (command.Contains outer inner) = two_words outer inner
 command_extent (command.Equal left right) = two_words left right

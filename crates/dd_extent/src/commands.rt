@@ -1,11 +1,12 @@
 // The extents of commands.
 ghost use Rattle.std.specs.Prelude.{◌≡◌, map, max};
 ghost use Rattle.dd_extent.specs.Extents.{largest};
-ghost use Rattle.dd_extent.specs.Written.{name_extent, number_extent, entry_extent, offset_extent, edge_extent, case_extent, two_words, discharge_extent, command_extent};
+ghost use Rattle.dd_extent.specs.Written.{name_extent, number_extent, entry_extent, offset_extent, edge_extent};
+ghost use Rattle.dd_extent.specs.Written.{case_extent, two_words, command_extent};
 
 use crate::extent::Extent;
 use crate::formulas::{formula, name, number, word};
-use dd_syntax::{Case, Command, Edge, Entry, Name, Number, Offset, Word};
+use dd_syntax::{Case, Command, Edge, Entry, Formula, Name, Number, Offset, Word};
 
 fn names(names: &[Name]) -> Extent
     ensures { result ≡ largest (map name_extent names.now) }
@@ -95,18 +96,49 @@ fn two_words(first: Word, second: Word) -> Extent
     word(first).larger(word(second))
 }
 
-/// A discharge without its vectors.
-fn discharge(rule: Word, radius: Number, margin: Number) -> Extent
-    ensures { result ≡ discharge_extent rule radius margin }
+/// The radius and the margin of a discharge both count as radii.
+fn discharge(rule: Word, radius: Number, margin: Number, vectors: &[Offset]) -> Extent
+    ensures { result ≡ command_extent (Command.Discharge rule radius margin vectors.now) }
 {
     let greatest = radius.value.max(margin.value);
-    Extent {
+    let own = Extent {
         letters: rule.length,
         number: greatest,
         moves: 0,
         radius: greatest,
         balls: 0,
-    }
+    };
+    own.larger(offsets(vectors))
+}
+
+fn limits(radius: Number, period: Number, pivots: Number) -> Extent
+    ensures { result ≡ command_extent (Command.Limits radius period pivots) }
+{
+    number(radius).larger(number(period)).larger(number(pivots))
+}
+
+fn rule(name: Word, written: &Formula) -> Extent
+    ensures { result ≡ command_extent (Command.Rule name written.now) }
+{
+    word(name).larger(formula(written))
+}
+
+fn automaton(called: Word, written: &[Case], default: Name) -> Extent
+    ensures { result ≡ command_extent (Command.Automaton called written.now default) }
+{
+    word(called).larger(cases(written)).larger(name(default))
+}
+
+fn composition(name: Word, outer: Word, inner: Word) -> Extent
+    ensures { result ≡ command_extent (Command.Composition name outer inner) }
+{
+    word(name).larger(two_words(outer, inner))
+}
+
+fn configuration(name: Word, periods: &[Number], symbols: &[Name]) -> Extent
+    ensures { result ≡ command_extent (Command.Configuration name periods.now symbols.now) }
+{
+    word(name).larger(numbers(periods)).larger(names(symbols))
 }
 
 /// The greatest of what a command has, by each measure.
@@ -114,9 +146,9 @@ pub fn command_extent(command: &Command) -> Extent
     ensures { result ≡ command_extent command.now }
 {
     match command {
-        Command::Dimension { number: written } => number(*written),
-        Command::Nodes { names: written } => names(written.as_slice()),
-        Command::Alphabet { names: written } => names(written.as_slice()),
+        Command::Dimension { number: axes } => number(*axes),
+        Command::Nodes { names: nodes } => names(nodes.as_slice()),
+        Command::Alphabet { names: symbols } => names(symbols.as_slice()),
         Command::Topology { .. } => Extent::nothing(),
         Command::Edges { edges: written } => edges(written.as_slice()),
         Command::Weights { weights } => numbers(weights.as_slice()),
@@ -124,45 +156,33 @@ pub fn command_extent(command: &Command) -> Extent
             radius,
             period,
             pivots,
-        } => number(*radius)
-            .larger(number(*period))
-            .larger(number(*pivots)),
-        Command::Rule {
-            name,
-            formula: written,
-        } => word(*name).larger(formula(written)),
+        } => limits(*radius, *period, *pivots),
+        Command::Rule { name, formula } => rule(*name, formula),
         Command::Automaton {
-            name: called,
-            cases: written,
+            name,
+            cases,
             default,
-        } => word(*called)
-            .larger(cases(written.as_slice()))
-            .larger(name(*default)),
-        Command::Composition { name, outer, inner } => word(*name).larger(two_words(
-            *outer, *inner,
-        )),
+        } => automaton(*name, cases.as_slice(), *default),
+        Command::Composition { name, outer, inner } => composition(*name, *outer, *inner),
         Command::Configuration {
             name,
             periods,
             symbols,
-        } => word(*name)
-            .larger(numbers(periods.as_slice()))
-            .larger(names(symbols.as_slice())),
+        } => configuration(*name, periods.as_slice(), symbols.as_slice()),
         Command::Member {
             configuration,
             rule,
         } => two_words(*configuration, *rule),
         Command::Contains { outer, inner } => two_words(*outer, *inner),
         Command::Equal { left, right } => two_words(*left, *right),
-        Command::Empty { rule } => word(*rule),
+        Command::Empty { rule } | Command::Forbidden { rule } => word(*rule),
         Command::Agree { left, right, rule } => two_words(*left, *right).larger(word(*rule)),
-        Command::Forbidden { rule } => word(*rule),
         Command::Density { rule, periods } => word(*rule).larger(numbers(periods.as_slice())),
         Command::Discharge {
             rule,
             radius,
             margin,
             vectors,
-        } => discharge(*rule, *radius, *margin).larger(offsets(vectors.as_slice())),
+        } => discharge(*rule, *radius, *margin, vectors.as_slice()),
     }
 }

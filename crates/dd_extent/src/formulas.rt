@@ -1,7 +1,8 @@
 // The extents of formulas and of what they are made of.
 ghost use Rattle.std.specs.Prelude.{◌≡◌, map};
 ghost use Rattle.dd_extent.specs.Extents.{largest};
-ghost use Rattle.dd_extent.specs.Written.{word_extent, number_extent, name_extent, term_extent, side_extent, atom_extent, ball_extent, quantor_extent, formula_extent};
+ghost use Rattle.dd_extent.specs.Written.{word_extent, number_extent, name_extent, term_extent, side_extent};
+ghost use Rattle.dd_extent.specs.Written.{atom_extent, ball_extent, quantor_extent, formula_extent};
 
 use crate::extent::Extent;
 use dd_syntax::{Atom, Ball, Formula, Name, Number, Side, Term, Word};
