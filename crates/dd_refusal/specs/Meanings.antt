@@ -21,14 +21,18 @@ case_of bytes known c = record { condition = formula_of bytes known.setting c.co
 
 abbrev pub definition_of : List ℕ → Known → Command → Meaning
 definition_of bytes known (command.Rule name f) = meaning.Rule (formula_of bytes known.setting f [])
-definition_of bytes known (command.Automaton name cases symbol) = meaning.Automaton (map (case_of bytes known) cases) (number_in bytes known.setting.symbols symbol)
-definition_of bytes known (command.Composition name outer inner) = meaning.Composition (number_of_word bytes known.automata outer) (number_of_word bytes known.automata inner)
+definition_of bytes known (command.Automaton name cases symbol) =
+    meaning.Automaton (map (case_of bytes known) cases) (number_in bytes known.setting.symbols symbol)
+definition_of bytes known (command.Composition name outer inner) =
+    meaning.Composition (number_of_word bytes known.automata outer) (number_of_word bytes known.automata inner)
 definition_of bytes known (command.Configuration name periods symbols) = meaning.Configuration (map (number_in bytes known.setting.symbols) symbols)
 definition_of bytes known c = meaning.Header
 
 abbrev pub meaning_of : List ℕ → Known → Command → Meaning
-meaning_of bytes known (command.Member configuration rule) = meaning.Member (number_of_word bytes known.configurations configuration) (number_of_word bytes known.rules rule)
-meaning_of bytes known (command.Contains outer inner) = meaning.Contains (number_of_word bytes known.rules outer) (number_of_word bytes known.rules inner)
+meaning_of bytes known (command.Member configuration rule) =
+    meaning.Member (number_of_word bytes known.configurations configuration) (number_of_word bytes known.rules rule)
+meaning_of bytes known (command.Contains outer inner) =
+    meaning.Contains (number_of_word bytes known.rules outer) (number_of_word bytes known.rules inner)
 meaning_of bytes known (command.Equal left right) = meaning.Equal (number_of_word bytes known.rules left) (number_of_word bytes known.rules right)
 meaning_of bytes known (command.Empty rule) = meaning.Empty (number_of_word bytes known.rules rule)
 meaning_of bytes known (command.Agree left right rule) =

@@ -63,7 +63,10 @@ twice_vectors bytes vs = repeats (same_by (vector_key bytes)) twice_vector [] vs
 
 -- rules, automata and configurations share one set of names
 abbrev pub is_defined : List ℕ → Known → Word → Bool
-is_defined bytes known w = is_some (place_of bytes known.rules (name.Word w)) || is_some (place_of bytes known.automata (name.Word w)) || is_some (place_of bytes known.configurations (name.Word w))
+is_defined bytes known w =
+    is_some (place_of bytes known.rules (name.Word w))
+    || is_some (place_of bytes known.automata (name.Word w))
+    || is_some (place_of bytes known.configurations (name.Word w))
 
 abbrev pub named_again : List ℕ → Known → Word → List Fault
 named_again bytes known w = if is_defined bytes known w then fault.Twice (name.Word w) ∷ [] else []

@@ -26,7 +26,8 @@ unknown_in_case bytes known c = unknown_in bytes known.setting c.condition [] ++
 abbrev pub unknown_in_definition : List ℕ → Known → Command → List Fault
 unknown_in_definition bytes known (command.Edges es) = flat_map (no_node bytes known) es
 unknown_in_definition bytes known (command.Rule name f) = unknown_in bytes known.setting f []
-unknown_in_definition bytes known (command.Automaton name cases symbol) = flat_map (unknown_in_case bytes known) cases ++ missing bytes known.setting.symbols symbol
+unknown_in_definition bytes known (command.Automaton name cases symbol) =
+    flat_map (unknown_in_case bytes known) cases ++ missing bytes known.setting.symbols symbol
 unknown_in_definition bytes known (command.Composition name outer inner) = no_name bytes known.automata outer ++ no_name bytes known.automata inner
 unknown_in_definition bytes known (command.Configuration name periods symbols) = flat_map (missing bytes known.setting.symbols) symbols
 unknown_in_definition bytes known c = []
@@ -36,7 +37,8 @@ unknowns bytes known (command.Member configuration rule) = no_name bytes known.c
 unknowns bytes known (command.Contains outer inner) = no_name bytes known.rules outer ++ no_name bytes known.rules inner
 unknowns bytes known (command.Equal left right) = no_name bytes known.rules left ++ no_name bytes known.rules right
 unknowns bytes known (command.Empty rule) = no_name bytes known.rules rule
-unknowns bytes known (command.Agree left right rule) = no_name bytes known.automata left ++ no_name bytes known.automata right ++ no_name bytes known.rules rule
+unknowns bytes known (command.Agree left right rule) =
+    no_name bytes known.automata left ++ no_name bytes known.automata right ++ no_name bytes known.rules rule
 unknowns bytes known (command.Forbidden rule) = no_name bytes known.rules rule
 unknowns bytes known (command.Density rule periods) = no_name bytes known.rules rule
 unknowns bytes known (command.Discharge rule radius margin vectors) = no_name bytes known.rules rule

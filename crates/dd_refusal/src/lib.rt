@@ -12,3 +12,5 @@ mod twices;
 pub use accepting::accept;
 pub use known::{Known, Limits};
 pub use meaning::{CaseOf, Meaning};
+pub use misfits::period_at;
+pub use sizes::refuse_if;

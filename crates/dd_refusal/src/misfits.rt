@@ -2,7 +2,8 @@
 ghost use Rattle.std.specs.Prelude.{◌≡◌, ◌≤◌, ◌*◌, length};
 ghost use Rattle.std.specs.List.{list_all};
 ghost use Rattle.dd_naming.specs.Resolving.{Accepts};
-ghost use Rattle.dd_refusal.specs.Misfits.{unless, kind_dimension, kind_nodes, has_entries, has_offset, period_at, is_product, has_one_less, kind_fits, symbols_fit, misfits};
+ghost use Rattle.dd_refusal.specs.Misfits.{unless, kind_dimension, kind_nodes, kind_fits, has_entries, has_offset};
+ghost use Rattle.dd_refusal.specs.Misfits.{period_at, is_product, symbols_fit, has_one_less, misfits};
 
 use crate::known::Known;
 use dd_naming::{Fault, Refusal};
@@ -66,8 +67,8 @@ fn kind_fits(known: &Known, kind: Kind) -> bool
     !known.nodes_are_given || setting.nodes.count() == kind_nodes(kind)
 }
 
-/// A period, and 1 where there is none.
-fn period_at(periods: &[Number], at: usize) -> u32
+/// The period at this place, counted from 0, and 1 where there is none.
+pub fn period_at(periods: &[Number], at: usize) -> u32
     ensures { result ≡ period_at periods.now at }
 {
     match periods.get(at) {

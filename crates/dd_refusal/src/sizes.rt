@@ -2,13 +2,15 @@
 ghost use Rattle.std.specs.Prelude.{◌≡◌};
 ghost use Rattle.std.specs.List.{list_any};
 ghost use Rattle.dd_naming.specs.Resolving.{Accepts};
-ghost use Rattle.dd_refusal.specs.Sizes.{over, common_sizes, formula_sizes, is_far_entry, is_far, is_far_edge, is_heavy, passes_limits, edge_sizes, header_sizes, is_zero, is_no_strip, body_sizes, sizes};
+ghost use Rattle.dd_refusal.specs.Sizes.{over, is_far_entry, is_far, is_far_edge, is_heavy, is_zero, is_no_strip, passes_limits};
+ghost use Rattle.dd_refusal.specs.Sizes.{common_sizes, formula_sizes, edge_sizes, header_sizes, body_sizes, sizes};
 
 use dd_extent::{Extent, command_extent};
 use dd_naming::{Fault, Limit, Refusal};
 use dd_syntax::{Command, Edge, Entry, Number, Offset};
 
-fn within(passed: bool, limit: Limit) -> Result<(), Refusal>
+/// Refuses a command by a limit that it passes, and accepts it where it does not pass the limit.
+pub fn refuse_if(passed: bool, limit: Limit) -> Result<(), Refusal>
     ensures { Accepts result (over passed limit) }
 {
     if passed {
@@ -21,18 +23,18 @@ fn within(passed: bool, limit: Limit) -> Result<(), Refusal>
 fn common_sizes(number: u32, extent: Extent) -> Result<(), Refusal>
     ensures { Accepts result (common_sizes number extent) }
 {
-    within(number > 1000, Limit::Commands)?;
-    within(extent.letters > 32, Limit::Word)?;
-    within(extent.number > 1_000_000, Limit::Number)
+    refuse_if(number > 1000, Limit::Commands)?;
+    refuse_if(extent.letters > 32, Limit::Word)?;
+    refuse_if(extent.number > 1_000_000, Limit::Number)
 }
 
 #[tactic(auto, using(crate::proofs::Fronts::fronts))]
 fn formula_sizes(extent: Extent) -> Result<(), Refusal>
     ensures { Accepts result (formula_sizes extent) }
 {
-    within(extent.moves > 16, Limit::Moves)?;
-    within(extent.radius > 3, Limit::Radius)?;
-    within(extent.balls > 4, Limit::Balls)
+    refuse_if(extent.moves > 16, Limit::Moves)?;
+    refuse_if(extent.radius > 3, Limit::Radius)?;
+    refuse_if(extent.balls > 4, Limit::Balls)
 }
 
 fn is_far_entry(entry: Entry) -> bool
@@ -96,23 +98,23 @@ fn passes_limits(radius: Number, period: Number, pivots: Number) -> bool
 fn edge_sizes(edges: &[Edge]) -> Result<(), Refusal>
     ensures { Accepts result (edge_sizes edges.now) }
 {
-    within(edges.len() > 64, Limit::Edges)?;
-    within(some_edge_is_far(edges), Limit::Offset)
+    refuse_if(edges.len() > 64, Limit::Edges)?;
+    refuse_if(some_edge_is_far(edges), Limit::Offset)
 }
 
 fn header_sizes(command: &Command) -> Result<(), Refusal>
     ensures { Accepts result (header_sizes command.now) }
 {
     match command {
-        Command::Nodes { names } => within(names.len() > 4, Limit::Nodes),
-        Command::Alphabet { names } => within(names.len() > 16, Limit::Alphabet),
+        Command::Nodes { names } => refuse_if(names.len() > 4, Limit::Nodes),
+        Command::Alphabet { names } => refuse_if(names.len() > 16, Limit::Alphabet),
         Command::Edges { edges } => edge_sizes(edges.as_slice()),
-        Command::Weights { weights } => within(some_is_heavy(weights.as_slice()), Limit::Weight),
+        Command::Weights { weights } => refuse_if(some_is_heavy(weights.as_slice()), Limit::Weight),
         Command::Limits {
             radius,
             period,
             pivots,
-        } => within(passes_limits(*radius, *period, *pivots), Limit::Limits),
+        } => refuse_if(passes_limits(*radius, *period, *pivots), Limit::Limits),
         _ => Ok(()),
     }
 }
@@ -125,14 +127,14 @@ fn body_sizes(command: &Command) -> Result<(), Refusal>
             periods,
             symbols,
             ..
-        } => within(
+        } => refuse_if(
             some_is_zero(periods.as_slice()) || symbols.len() > 65_536,
             Limit::Periods,
         ),
         Command::Density { periods, .. } => {
-            within(some_is_no_strip(periods.as_slice()), Limit::Periods)
+            refuse_if(some_is_no_strip(periods.as_slice()), Limit::Periods)
         }
-        Command::Discharge { vectors, .. } => within(
+        Command::Discharge { vectors, .. } => refuse_if(
             vectors.len() > 16 || some_is_far(vectors.as_slice()),
             Limit::Vectors,
         ),

@@ -5,7 +5,8 @@ ghost use Rattle.std.specs.Str.{IsAscii};
 ghost use Rattle.dd_grammar.specs.Formulas.{greatest};
 ghost use Rattle.dd_naming.specs.Resolving.{Accepts};
 ghost use Rattle.dd_refusal.specs.Meanings.{case_depth};
-ghost use Rattle.dd_refusal.specs.Twices.{is_defined, named_again, twice_in_case, twice_named, edge_key, twice_labelled, entry_text, vector_key, twice_vectors};
+ghost use Rattle.dd_refusal.specs.Twices.{is_defined, named_again, twice_in_case, twice_named};
+ghost use Rattle.dd_refusal.specs.Twices.{edge_key, twice_labelled, entry_text, vector_key, twice_vectors};
 
 use crate::known::Known;
 use dd_naming::{Fault, Refusal, distinct_variables, is_named, name_text};
