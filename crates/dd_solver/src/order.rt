@@ -214,8 +214,10 @@ impl Order {
         self.increment = (self.increment >> LOST_BITS).max(FIRST_INCREMENT);
     }
 
-    fn raise(&mut self, variable: usize, gain: u64) {
-        let activity = self.activity(variable).saturating_add(gain);
+    /// The variable took part in a conflict.
+    pub fn bump(&mut self, variable: u32) {
+        let variable = variable as usize;
+        let activity = self.activity(variable).saturating_add(self.increment);
         if variable < self.ranks.len() {
             self.ranks[variable].activity = activity;
         }
@@ -228,16 +230,21 @@ impl Order {
         }
     }
 
-    /// The variables stand in a clause of the list. Until there are conflicts, those that stand in most come first.
+    /// Counts the variables of a clause of the list.
     pub fn count(&mut self, literals: &[Literal]) {
         for literal in literals {
-            self.raise(literal.variable as usize, 1);
+            let variable = literal.variable as usize;
+            if variable < self.ranks.len() {
+                self.ranks[variable].activity = self.activity(variable).saturating_add(1);
+            }
         }
     }
 
-    /// The variable took part in a conflict.
-    pub fn bump(&mut self, variable: u32) {
-        self.raise(variable as usize, self.increment);
+    /// Puts those variables first that were counted most.
+    pub fn arrange(&mut self) {
+        for place in (0..self.waiting / 2).rev() {
+            self.sink(self.variable_at(place), place);
+        }
     }
 
     /// Later conflicts count for more than those before.

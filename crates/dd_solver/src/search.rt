@@ -59,6 +59,7 @@ impl<'a> Search<'a> {
             watches.add(clause.literals())?;
             order.count(clause.literals());
         }
+        order.arrange();
         Ok(Search {
             clauses,
             steps: Vec::new(alloc),
