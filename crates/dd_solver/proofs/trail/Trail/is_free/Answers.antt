@@ -1,4 +1,4 @@
-use Rattle.std.proofs.Common.{◌≡◌, ◌-◌, None, get_or, arith, sym, ◌∙◌}
+use Rattle.std.proofs.Common.{◌-◌, None, arith, sym, ◌∙◌}
 use Rattle.dd_solver.proofs.Trails.{get_any}
 use Rattle.dd_solver.proofs.Valued.{free_exactly}
 use Rattle.dd_solver.proofs.trail.Trail.is_free.Goals as goal
