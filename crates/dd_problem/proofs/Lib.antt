@@ -19,6 +19,7 @@ pub mod Counting
 pub mod NumberedWires
 pub mod BoxInputs
 pub mod BoxCalls
+pub mod TorusReach
 pub mod TorusInputs
 pub mod TorusCalls
 pub mod SymbolsRead

@@ -21,7 +21,7 @@ use Rattle.dd_boxes.specs.Counts.{question_clauses}
 use Rattle.dd_boxes.specs.Witnesses.{ArePeriods}
 use Rattle.dd_problem.specs.Layouts.{cells_in, torus, torus_cells, torus_layout}
 use Rattle.dd_problem.specs.Problems.{torus_problem}
-use Rattle.dd_problem.specs.Grown.{grown, number_at, numbered_by}
+use Rattle.dd_problem.specs.Grown.{question_reach, grown, near_cells, number_at, numbered_by, numbers_of, torus_inputs}
 use Rattle.dd_problem.specs.Pushed.{AreInputs, is_goal_wired, wired_problem}
 use Rattle.dd_problem.specs.Shows.{ShowsTorus}
 use Rattle.dd_problem.proofs.RangesLeft.{row_within}
@@ -30,15 +30,12 @@ use Rattle.dd_problem.proofs.Counting.{variables_below}
 use Rattle.dd_problem.proofs.NumberedWires.{are_inputs}
 use Rattle.dd_problem.proofs.TorusLayout.{torus_size, some_period, span_is, product_turned, product_small, length-torus_cells}
 use Rattle.dd_problem.proofs.TorusShows.{torus_shows}
-use Rattle.dd_problem.proofs.TorusInputs.{numbers_of, numbers_tile, number_is, near_cells, near_ascends, torus_is_problem, torus_goal_wired}
+use Rattle.dd_problem.proofs.TorusReach.{question_near}
+use Rattle.dd_problem.proofs.TorusInputs.{spread_small, numbers_tile, number_is, near_ascends, torus_is_problem, torus_goal_wired}
 
 -- the question's count is at most two million
 abbrev pub IsFew : LocalRule → GoalOf → List ℕ → Type 0
 IsFew x g periods = question_clauses x g (volume (torus x periods)) ≤ 2000000
-
-spread_most : (b : Bool) → spread b 16 ≤ 16
-spread_most true = omega arith
-spread_most false = omega arith
 
 span_most : (p s : ℕ) → 1 ≤ p → p ≤ 8 → s ≤ 16 → span (pos 0 -ℤ pos s) (pos (p - 1 + s)) ≤ 40
 span_most p s some most small = omega (arith, ints)
@@ -63,7 +60,7 @@ module _ (x : LocalRule) (periods : List ℕ) (rule : IsRule x) (ok : ArePeriods
 
   -- the configuration of the numbers
   numbering_is : (d nodes : ℕ) (items : List ℕ) → d ≡ x.dimension → nodes ≡ x.nodes →
-      items ≡ range_with_len 0 (slice_index periods 2 * slice_index periods 1 * slice_index periods 0 * nodes) → tile d periods nodes items ≡ numbers_of x periods rule ok
+      items ≡ range_with_len 0 (slice_index periods 2 * slice_index periods 1 * slice_index periods 0 * nodes) → tile d periods nodes items ≡ numbers_of x periods
   numbering_is d nodes items dim same is =
       ap (λ k. tile k periods nodes items) dim
       ∙ (ap (λ k. tile x.dimension periods k items) same
@@ -91,85 +88,92 @@ module _ (x : LocalRule) (periods : List ℕ) (rule : IsRule x) (ok : ArePeriods
       let all : box_volume b * nodes ≡ torus_size x periods = ap (λ k. box_volume b * k) same ∙ (ap (λ c. box_volume c * x.nodes) is ∙ ap (λ k. k * x.nodes) volume_is) in
       omega (arith, small, all)
 
-  grown_small : box_volume (grown x.dimension periods) * x.nodes ≤ 2 ^ 24
-  grown_small =
-      let b = grown x.dimension periods in
-      let sx = span_most (slice_index periods 0) (spread (is_active x.dimension 0) 16) on_x.0 on_x.1 (spread_most (is_active x.dimension 0)) in
-      let sy = span_most (slice_index periods 1) (spread (is_active x.dimension 1) 16) on_y.0 on_y.1 (spread_most (is_active x.dimension 1)) in
-      let sz = span_most (slice_index periods 2) (spread (is_active x.dimension 2) 16) on_z.0 on_z.1 (spread_most (is_active x.dimension 2)) in
-      let rest : span b.low.y b.high.y * span b.low.z b.high.z ≤ 1600 = mul-le (span b.low.y b.high.y) (span b.low.z b.high.z) 40 40 sy sz in
-      let all : box_volume b ≤ 64000 = mul-le (span b.low.x b.high.x) (span b.low.y b.high.y * span b.low.z b.high.z) 40 1600 sx rest in
-      let most : box_volume b * x.nodes ≤ 256000 = mul-le (box_volume b) x.nodes 64000 4 all rule.nodes.1 in
-      omega (arith, most)
-
-  pub grown_few : (d nodes : ℕ) (b : Bounds) → d ≡ x.dimension → nodes ≡ x.nodes → b ≡ grown d periods → box_volume b * nodes ≤ 2 ^ 24
-  grown_few d nodes b dim same is =
-      let small = grown_small in
-      let all : box_volume b * nodes ≡ box_volume (grown x.dimension periods) * x.nodes =
-      ap (λ k. box_volume b * k) same ∙ ap (λ c. box_volume c * x.nodes) (is ∙ ap (λ k. grown k periods) dim) in
-      omega (arith, small, all)
-
-  -- the cells of the torus, and those that are read
+  -- the cells of the torus
   pub cells_are : (nodes : ℕ) (b : Bounds) (items cells : List Cell) → nodes ≡ x.nodes → b ≡ fundamental (torus x periods) → items ≡ cells_in b nodes → cells ≡ items →
       cells ≡ torus_cells x periods
   cells_are nodes b items cells same is listed read = read ∙ (listed ∙ (ap (cells_in b) same ∙ ap (λ c. cells_in c x.nodes) is))
 
-  pub near_are : (d nodes : ℕ) (b : Bounds) (items cells : List Cell) → d ≡ x.dimension → nodes ≡ x.nodes → b ≡ grown d periods → items ≡ cells_in b nodes → cells ≡ items →
-      cells ≡ near_cells x periods rule ok
-  near_are d nodes b items cells dim same is listed read =
-      read ∙ (listed ∙ (ap (cells_in b) same ∙ ap (λ c. cells_in c x.nodes) (is ∙ ap (λ k. grown k periods) dim)))
-
-  pub near_in_order : (cells : List Cell) → cells ≡ near_cells x periods rule ok → IsStrictlySortedBy cell_cmp cells
-  near_in_order cells read = subst (IsStrictlySortedBy cell_cmp) (sym read) (near_ascends x periods rule ok)
-
-  near_nodes : All (λ (c : Cell). c.node < x.nodes) (near_cells x periods rule ok)
-  near_nodes = cells_nodes (grown x.dimension periods) x.nodes rule.nodes.0
-
-  pub near_nodes_there : (cells : List Cell) (t : Tile) → cells ≡ near_cells x periods rule ok → t ≡ numbers_of x periods rule ok → All (λ (c : Cell). c.node < t.nodes) cells
-  near_nodes_there cells t read is =
-      subst (All (λ (c : Cell). c.node < t.nodes)) (sym read) (subst (λ (u : Tile). All (λ (c : Cell). c.node < u.nodes) (near_cells x periods rule ok)) (sym is) near_nodes)
-
-  pub wires_are : (s : ℕ) (t : Tile) (cells : List Cell) (w : Wiring) → w ≡ numbered_by s t cells → s ≡ x.symbols → t ≡ numbers_of x periods rule ok → cells ≡ near_cells x periods rule ok →
-      w ≡ numbered_by x.symbols (numbers_of x periods rule ok) (near_cells x periods rule ok)
-  wires_are s t cells w is same numbers read =
-      is ∙ (ap (λ m. numbered_by m t cells) same ∙ (ap (λ u. numbered_by x.symbols u cells) numbers ∙ ap (numbered_by x.symbols (numbers_of x periods rule ok)) read))
-
-  abbrev wires : Wiring
-  wires = numbered_by x.symbols (numbers_of x periods rule ok) (near_cells x periods rule ok)
-
   pub nodes_there : (cells : List Cell) → cells ≡ torus_cells x periods → All (λ (d : Cell). d.node < x.nodes) cells
   nodes_there cells read = subst (All (λ (d : Cell). d.node < x.nodes)) (sym read) (cells_nodes (fundamental (torus x periods)) x.nodes rule.nodes.0)
 
-  number_below : (c : Cell) → c.node < x.nodes → number_at (numbers_of x periods rule ok) c < length (torus_cells x periods)
+  number_below : (c : Cell) → c.node < x.nodes → number_at (numbers_of x periods) c < length (torus_cells x periods)
   number_below c node =
       let is = number_is x periods rule ok c node in
-      let low = index_below (numbers_of x periods rule ok) (numbers_tile x periods rule ok) c node in
+      let low = index_below (numbers_of x periods) (numbers_tile x periods rule ok) c node in
       omega (arith, is, low, length-range_with_len 0 (torus_size x periods), length-torus_cells x periods rule ok)
 
-  input_few : (c : Cell) → c.node < x.nodes → number_at (numbers_of x periods rule ok) c * x.symbols + x.symbols ≤ 2 ^ 24
+  input_few : (c : Cell) → c.node < x.nodes → number_at (numbers_of x periods) c * x.symbols + x.symbols ≤ 2 ^ 24
   input_few c node =
-      let k = number_at (numbers_of x periods rule ok) c in
+      let k = number_at (numbers_of x periods) c in
       let row = row_within x.symbols k (length (torus_cells x periods)) (number_below c node) in
       let most = size_small in
       let all : length (torus_cells x periods) * x.symbols ≤ 65536 * 16 = mul-le (length (torus_cells x periods)) x.symbols 65536 16 (omega (arith, most, length-torus_cells x periods rule ok)) rule.symbols.1 in
       omega (arith, row, all)
 
-  pub numbers_few : (cells : List Cell) (t : Tile) (s : ℕ) → cells ≡ near_cells x periods rule ok → t ≡ numbers_of x periods rule ok → s ≡ x.symbols →
+-- what the premise and the goal read
+module _ (x : LocalRule) (periods : List ℕ) (rule : IsRule x) (ok : ArePeriods x.dimension periods) (g : GoalOf) (good : IsGoalFor x g) where
+  abbrev n : ℕ
+  n = question_reach x g
+
+  abbrev near : List Cell
+  near = near_cells x n periods
+
+  grown_small : box_volume (grown x.dimension n periods) * x.nodes ≤ 2 ^ 24
+  grown_small =
+      let small = question_near x g rule good in
+      let b = grown x.dimension n periods in
+      let sx = span_most (slice_index periods 0) (spread (is_active x.dimension 0) n) (on_x x periods rule ok).0 (on_x x periods rule ok).1 (spread_small (is_active x.dimension 0) n small) in
+      let sy = span_most (slice_index periods 1) (spread (is_active x.dimension 1) n) (on_y x periods rule ok).0 (on_y x periods rule ok).1 (spread_small (is_active x.dimension 1) n small) in
+      let sz = span_most (slice_index periods 2) (spread (is_active x.dimension 2) n) (on_z x periods rule ok).0 (on_z x periods rule ok).1 (spread_small (is_active x.dimension 2) n small) in
+      let rest : span b.low.y b.high.y * span b.low.z b.high.z ≤ 1600 = mul-le (span b.low.y b.high.y) (span b.low.z b.high.z) 40 40 sy sz in
+      let all : box_volume b ≤ 64000 = mul-le (span b.low.x b.high.x) (span b.low.y b.high.y * span b.low.z b.high.z) 40 1600 sx rest in
+      let most : box_volume b * x.nodes ≤ 256000 = mul-le (box_volume b) x.nodes 64000 4 all rule.nodes.1 in
+      omega (arith, most)
+
+  pub grown_few : (d far nodes : ℕ) (b : Bounds) → d ≡ x.dimension → far ≡ n → nodes ≡ x.nodes → b ≡ grown d far periods → box_volume b * nodes ≤ 2 ^ 24
+  grown_few d far nodes b dim reaches same is =
+      let small = grown_small in
+      let all : box_volume b * nodes ≡ box_volume (grown x.dimension n periods) * x.nodes =
+      ap (λ k. box_volume b * k) same ∙ ap (λ c. box_volume c * x.nodes) (is ∙ (ap (λ k. grown k far periods) dim ∙ ap (λ k. grown x.dimension k periods) reaches)) in
+      omega (arith, small, all)
+
+  pub near_are : (d far nodes : ℕ) (b : Bounds) → d ≡ x.dimension → far ≡ n → nodes ≡ x.nodes → b ≡ grown d far periods → cells_in b nodes ≡ near_cells x n periods
+  near_are d far nodes b dim reaches same is =
+      ap (cells_in b) same ∙ ap (λ c. cells_in c x.nodes) (is ∙ (ap (λ k. grown k far periods) dim ∙ ap (λ k. grown x.dimension k periods) reaches))
+
+  pub near_in_order : (cells : List Cell) → cells ≡ near → IsStrictlySortedBy cell_cmp cells
+  near_in_order cells read = subst (IsStrictlySortedBy cell_cmp) (sym read) (near_ascends x periods rule ok g good)
+
+  near_nodes : All (λ (c : Cell). c.node < x.nodes) near
+  near_nodes = cells_nodes (grown x.dimension n periods) x.nodes rule.nodes.0
+
+  pub near_nodes_there : (cells : List Cell) (t : Tile) → cells ≡ near → t ≡ numbers_of x periods → All (λ (c : Cell). c.node < t.nodes) cells
+  near_nodes_there cells t read is =
+      subst (All (λ (c : Cell). c.node < t.nodes)) (sym read) (subst (λ (u : Tile). All (λ (c : Cell). c.node < u.nodes) near) (sym is) near_nodes)
+
+  abbrev wires : Wiring
+  wires = torus_inputs x g periods
+
+  pub wires_are : (s : ℕ) (t : Tile) (cells : List Cell) → s ≡ x.symbols → t ≡ numbers_of x periods → cells ≡ near → numbered_by s t cells ≡ wires
+  wires_are s t cells same numbers read =
+      ap (λ m. numbered_by m t cells) same ∙ (ap (λ u. numbered_by x.symbols u cells) numbers ∙ ap (numbered_by x.symbols (numbers_of x periods)) read)
+
+  pub numbers_few : (cells : List Cell) (t : Tile) (s : ℕ) → cells ≡ near → t ≡ numbers_of x periods → s ≡ x.symbols →
       All (λ c. number_at t c * s + s ≤ 2 ^ 24) cells
   numbers_few cells t s read is same =
       subst (All (λ c. number_at t c * s + s ≤ 2 ^ 24)) (sym read)
-      (subst (λ m. All (λ c. number_at t c * m + m ≤ 2 ^ 24) (near_cells x periods rule ok)) (sym same)
-      (subst (λ (u : Tile). All (λ c. number_at u c * x.symbols + x.symbols ≤ 2 ^ 24) (near_cells x periods rule ok)) (sym is)
-      (All-weaker (λ (c : Cell). c.node < x.nodes) (λ c. number_at (numbers_of x periods rule ok) c * x.symbols + x.symbols ≤ 2 ^ 24) input_few (near_cells x periods rule ok) near_nodes)))
+      (subst (λ m. All (λ c. number_at t c * m + m ≤ 2 ^ 24) near) (sym same)
+      (subst (λ (u : Tile). All (λ c. number_at u c * x.symbols + x.symbols ≤ 2 ^ 24) near) (sym is)
+      (All-weaker (λ (c : Cell). c.node < x.nodes) (λ c. number_at (numbers_of x periods) c * x.symbols + x.symbols ≤ 2 ^ 24) (input_few x periods rule ok) near near_nodes)))
 
   pub signals_there : (cells : List Cell) (w : Wiring) → w ≡ wires → cells ≡ torus_cells x periods → AreInputs (length cells * x.symbols) w
   signals_there cells w is read =
       subst (AreInputs (length cells * x.symbols)) (sym is) (subst (λ (cs : List Cell). AreInputs (length cs * x.symbols) wires) (sym read)
-      (are_inputs x.symbols (length (torus_cells x periods)) (near_cells x periods rule ok) (map (number_at (numbers_of x periods rule ok)) (near_cells x periods rule ok))
-      (All-map (λ k. k < length (torus_cells x periods)) (number_at (numbers_of x periods rule ok)) (near_cells x periods rule ok)
-      (All-weaker (λ (c : Cell). c.node < x.nodes) (λ c. number_at (numbers_of x periods rule ok) c < length (torus_cells x periods)) number_below (near_cells x periods rule ok) near_nodes))))
+      (are_inputs x.symbols (length (torus_cells x periods)) near (map (number_at (numbers_of x periods)) near)
+      (All-map (λ k. k < length (torus_cells x periods)) (number_at (numbers_of x periods)) near
+      (All-weaker (λ (c : Cell). c.node < x.nodes) (λ c. number_at (numbers_of x periods) c < length (torus_cells x periods)) (number_below x periods rule ok) near near_nodes))))
 
-  module _ (g : GoalOf) (good : IsGoalFor x g) (cells : List Cell) (w : Wiring) (is : w ≡ wires) (read : cells ≡ torus_cells x periods) where
+  module _ (cells : List Cell) (w : Wiring) (is : w ≡ wires) (read : cells ≡ torus_cells x periods) where
     pub goal_wired : is_goal_wired w (length cells * x.symbols) g ≡ true
     goal_wired =
         ap (λ v. is_goal_wired v (length cells * x.symbols) g) is
@@ -181,7 +185,7 @@ module _ (x : LocalRule) (periods : List ℕ) (rule : IsRule x) (ok : ArePeriods
     pub variables_few : IsFew x g periods → (wired_problem w x g cells).variables ≤ 2 ^ 24
     variables_few few =
         let all = variables_below (torus_layout x periods) x g (fundamental (torus x periods)) refl in
-        let count = ap (question_clauses x g) volume_is in
+        let count = ap (question_clauses x g) (volume_is x periods rule ok) in
         let same = ap (λ (k : ClauseList). k.variables) problem_is in
         omega (arith, all, count, same, few)
 

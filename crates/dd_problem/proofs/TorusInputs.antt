@@ -23,36 +23,40 @@ use Rattle.dd_pattern.proofs.TileSizes.{index_below}
 use Rattle.dd_expansion.specs.Placed.{is_flat}
 use Rattle.dd_circuit.specs.Circuits.{signal_of}
 use Rattle.dd_compile.specs.Wiring.{wire_of}
-use Rattle.dd_formula.specs.LocalRule.{LocalRule, IsRule, reads_at, is_near, is_of}
+use Rattle.dd_formula.specs.LocalRule.{LocalRule, IsRule, reads_at, is_of}
+use Rattle.dd_formula.specs.Reach.{reach}
+use Rattle.dd_formula.proofs.ReachLaws.{is_within, reads_within}
 use Rattle.dd_boxes.specs.Goals.{GoalOf, breaks, always, IsGoalFor}
 use Rattle.dd_boxes.specs.Boxes.{origin}
 use Rattle.dd_boxes.specs.Witnesses.{IsPeriod, ArePeriods}
-use Rattle.dd_problem.specs.Layouts.{cells_in, torus, torus_cells, torus_layout}
+use Rattle.dd_problem.specs.Layouts.{torus, torus_cells, torus_layout}
 use Rattle.dd_problem.specs.Clauses.{input}
 use Rattle.dd_problem.specs.Problems.{torus_problem}
-use Rattle.dd_problem.specs.Grown.{grown, number_at, numbered_by}
+use Rattle.dd_problem.specs.Grown.{goal_reach, question_reach, grown, near_cells, number_at, numbered_by, numbers_of}
 use Rattle.dd_problem.specs.Pushed.{wired_problem, is_goal_wired}
 use Rattle.dd_problem.proofs.CellOrder.{cells_ascending, cell_there}
 use Rattle.dd_problem.proofs.Matching.{Gives, Matches, GoalMatches, goal_is_wired, wired_is_problem}
 use Rattle.dd_problem.proofs.NumberedWires.{wire_there}
 use Rattle.dd_problem.proofs.TorusLayout.{torus_of, torus_size, some_period, torus_is_tile, torus_is_layout, torus_cell_at}
 use Rattle.dd_problem.proofs.TorusShows.{goal_reads_torus}
+use Rattle.dd_problem.proofs.TorusReach.{question_near, premise_within, goal_within}
 
--- what a rule reads, counted from a place
-abbrev pub near_cell : LocalRule → Cell → Bool
-near_cell x c = is_of x c && is_near c
+-- what is read, counted from a place: cells of Z^d that lie at most n away
+abbrev pub near_cell : LocalRule → ℕ → Cell → Bool
+near_cell x n c = is_of x c && is_within n c
 
-reads_near : (x y : LocalRule) (a : ℕ) → IsRule y → y.dimension ≡ x.dimension → y.nodes ≡ x.nodes → a < y.nodes → list_all (near_cell x) (reads_at y a) ≡ true
-reads_near x y a ok dimension nodes node = both_all (reads_at y a) (ok.placed a node) (ok.short a node)
+reads_near : (x y : LocalRule) (n a : ℕ) → IsRule y → reach y ≤ n → y.dimension ≡ x.dimension → y.nodes ≡ x.nodes → a < y.nodes →
+    list_all (near_cell x n) (reads_at y a) ≡ true
+reads_near x y n a ok far dimension nodes node = both_all (reads_at y a) (ok.placed a node) (reads_within y n a far node)
   where
     one : (c : Cell) → is_of y c ≡ true → is_of x c ≡ true
     one c h = ap (λ d. is_flat d c.position && nat_lt c.node x.nodes) (sym dimension) ∙ (ap (λ n. is_flat y.dimension c.position && nat_lt c.node n) (sym nodes) ∙ h)
 
-    both_all : (cs : List Cell) → list_all (is_of y) cs ≡ true → list_all is_near cs ≡ true → list_all (near_cell x) cs ≡ true
+    both_all : (cs : List Cell) → list_all (is_of y) cs ≡ true → list_all (is_within n) cs ≡ true → list_all (near_cell x n) cs ≡ true
     both_all [] h k = refl
     both_all (c ∷ cs) h k =
         let placed = and_parts (is_of y c) (list_all (is_of y) cs) h in
-        let short = and_parts (is_near c) (list_all is_near cs) k in
+        let short = and_parts (is_within n c) (list_all (is_within n) cs) k in
         and_from _ _ (and_from _ _ (one c placed.0) short.0) (both_all cs placed.1 short.1)
 
 -- along one axis
@@ -60,61 +64,69 @@ record AxisIn (low high v : ℤ) : Type 0 where
   above : low ≤ℤ v
   below : v ≤ℤ high
 
-axis_in : (active : Bool) (p : ℕ) (c v : ℤ) → IsPeriod active p → pos (residue v p) ≡ v → unsigned_abs c ≤ 16 → (active || int_eq c (pos 0)) ≡ true →
-    AxisIn (pos 0 -ℤ pos (spread active 16)) (pos (p - 1 + spread active 16)) (c +ℤ v)
-axis_in true p c v period base near flat =
+axis_in : (active : Bool) (p n : ℕ) (c v : ℤ) → IsPeriod active p → pos (residue v p) ≡ v → unsigned_abs c ≤ n → (active || int_eq c (pos 0)) ≡ true →
+    AxisIn (pos 0 -ℤ pos (spread active n)) (pos (p - 1 + spread active n)) (c +ℤ v)
+axis_in true p n c v period base near flat =
     let small : residue v p < p = residue_below v p (omega (arith, period)) in
     let is = base in
     record { above = omega (arith, ints, small, is, near); below = omega (arith, ints, small, is, near, period) }
-axis_in false p c v period base near flat =
+axis_in false p n c v period base near flat =
     let small : residue v p < p = residue_below v p (omega (arith, period)) in
     let zero_c : c ≡ pos 0 = (Decides-int_eq c (pos 0)).0 flat in
     let is = base in
     record { above = omega (arith, ints, small, is, zero_c, period); below = omega (arith, ints, small, is, zero_c, period) }
 
+pub spread_small : (b : Bool) (n : ℕ) → n ≤ 16 → spread b n ≤ 16
+spread_small true n small = small
+spread_small false n small = omega arith
+
 module _ (x : LocalRule) (periods : List ℕ) (rule : IsRule x) (ok : ArePeriods x.dimension periods) where
-  abbrev zone : Bounds
-  zone = grown x.dimension periods
-
-  -- the configuration of the numbers
-  abbrev pub numbers_of : Tile
-  numbers_of = torus_of x periods (range_with_len 0 (torus_size x periods))
-
-  pub numbers_tile : IsTile numbers_of
+  pub numbers_tile : IsTile (numbers_of x periods)
   numbers_tile = torus_is_tile x periods (range_with_len 0 (torus_size x periods)) rule ok (length-range_with_len 0 (torus_size x periods))
 
-  pub number_is : (c : Cell) → c.node < x.nodes → number_at numbers_of c ≡ tile_index (torus x periods) c
+  pub number_is : (c : Cell) → c.node < x.nodes → number_at (numbers_of x periods) c ≡ tile_index (torus x periods) c
   number_is c node =
       let k = tile_index (torus x periods) c in
-      let low : k < torus_size x periods = omega (arith, index_below numbers_of numbers_tile c node, length-range_with_len 0 (torus_size x periods)) in
+      let low : k < torus_size x periods = omega (arith, index_below (numbers_of x periods) numbers_tile c node, length-range_with_len 0 (torus_size x periods)) in
       let at = get_or-range_with_len 0 (torus_size x periods) k 0 low in
       omega (arith, at)
+
+-- what a question reads has its inputs
+module _ (x : LocalRule) (periods : List ℕ) (rule : IsRule x) (ok : ArePeriods x.dimension periods) (g : GoalOf) (good : IsGoalFor x g) where
+  abbrev n : ℕ
+  n = question_reach x g
+
+  abbrev zone : Bounds
+  zone = grown x.dimension n periods
+
+  abbrev near : List Cell
+  near = near_cells x n periods
+
+  abbrev numbers : Tile
+  numbers = numbers_of x periods
 
   zone_ordered : IsBelow zone.low zone.high
   zone_ordered = record { on_x = omega (arith, ints); on_y = omega (arith, ints); on_z = omega (arith, ints) }
 
   near_within : (v : Place) (c : Cell) → (pos (residue v.x (slice_index periods 0)) ≡ v.x) × (pos (residue v.y (slice_index periods 1)) ≡ v.y) × (pos (residue v.z (slice_index periods 2)) ≡ v.z) →
-      near_cell x c ≡ true → IsWithin zone (moved c.position v)
+      near_cell x n c ≡ true → IsWithin zone (moved c.position v)
   near_within v c base h =
-      let both = and_parts (is_of x c) (is_near c) h in
+      let both = and_parts (is_of x c) (is_within n c) h in
       let flat = (and_parts (is_flat x.dimension c.position) (nat_lt c.node x.nodes) both.0).0 in
       let axes = and_parts (nat_lt 1 x.dimension || int_eq c.position.y (pos 0)) (nat_lt 2 x.dimension || int_eq c.position.z (pos 0)) flat in
-      let far = leb-true (extent c.position) 16 both.1 in
+      let far = leb-true (extent c.position) n both.1 in
       let first : (is_active x.dimension 0 || int_eq c.position.x (pos 0)) ≡ true = ap (λ b. b || int_eq c.position.x (pos 0)) (lt-ltb 0 x.dimension rule.dimension.0) in
-      let on_x = axis_in (is_active x.dimension 0) (slice_index periods 0) c.position.x v.x ok.on_x base.0 (omega (arith, far)) first in
-      let on_y = axis_in (is_active x.dimension 1) (slice_index periods 1) c.position.y v.y ok.on_y base.1 (omega (arith, far)) axes.0 in
-      let on_z = axis_in (is_active x.dimension 2) (slice_index periods 2) c.position.z v.z ok.on_z base.2 (omega (arith, far)) axes.1 in
+      let on_x = axis_in (is_active x.dimension 0) (slice_index periods 0) n c.position.x v.x ok.on_x base.0 (omega (arith, far)) first in
+      let on_y = axis_in (is_active x.dimension 1) (slice_index periods 1) n c.position.y v.y ok.on_y base.1 (omega (arith, far)) axes.0 in
+      let on_z = axis_in (is_active x.dimension 2) (slice_index periods 2) n c.position.z v.z ok.on_z base.2 (omega (arith, far)) axes.1 in
       (record { on_x = on_x.above; on_y = on_y.above; on_z = on_z.above }, record { on_x = on_x.below; on_y = on_y.below; on_z = on_z.below })
-
-  spread_small : (b : Bool) → spread b 16 ≤ 16
-  spread_small true = omega arith
-  spread_small false = omega arith
 
   zone_in_range : (p : Place) → IsWithin zone p → IsInRange p
   zone_in_range p h =
-      let sx = spread_small (is_active x.dimension 0) in
-      let sy = spread_small (is_active x.dimension 1) in
-      let sz = spread_small (is_active x.dimension 2) in
+      let small = question_near x g rule good in
+      let sx = spread_small (is_active x.dimension 0) n small in
+      let sy = spread_small (is_active x.dimension 1) n small in
+      let sz = spread_small (is_active x.dimension 2) n small in
       let px = some_period (is_active x.dimension 0) (slice_index periods 0) ok.on_x in
       let py = some_period (is_active x.dimension 1) (slice_index periods 1) ok.on_y in
       let pz = some_period (is_active x.dimension 2) (slice_index periods 2) ok.on_z in
@@ -122,38 +134,35 @@ module _ (x : LocalRule) (periods : List ℕ) (rule : IsRule x) (ok : ArePeriods
       let u = h.1 in
       ((omega (arith, ints, sx, px, l, u), omega (arith, ints, sx, px, l, u)), (omega (arith, ints, sy, py, l, u), omega (arith, ints, sy, py, l, u)), (omega (arith, ints, sz, pz, l, u), omega (arith, ints, sz, pz, l, u)))
 
-  abbrev pub near_cells : List Cell
-  near_cells = cells_in zone x.nodes
-
-  pub near_ascends : IsStrictlySortedBy cell_cmp near_cells
+  pub near_ascends : IsStrictlySortedBy cell_cmp near
   near_ascends = cells_ascending zone x.nodes zone_ordered rule.nodes.0
 
   near_wire : (c : Cell) (s : ℕ) → IsWithin zone c.position → c.node < x.nodes → s < x.symbols →
-      wire_of (numbered_by x.symbols numbers_of near_cells) c s ≡ Some (signal_of (input x.symbols (tile_index (torus x periods) c) s))
+      wire_of (numbered_by x.symbols numbers near) c s ≡ Some (signal_of (input x.symbols (tile_index (torus x periods) c) s))
   near_wire c s within node below =
       let i = index_in zone c.position * x.nodes + c.node in
       let there = cell_there zone x.nodes c within node in
-      let number = slice_get-map (number_at numbers_of) near_cells i ∙ (ap (option_map (number_at numbers_of)) there ∙ ap (λ k. Some k) (number_is c node)) in
-      wire_there x.symbols near_cells (map (number_at numbers_of) near_cells) near_ascends (length-map near_cells (number_at numbers_of)) c i (tile_index (torus x periods) c) s there number below
+      let number = slice_get-map (number_at numbers) near i ∙ (ap (option_map (number_at numbers)) there ∙ ap (λ k. Some k) (number_is x periods rule ok c node)) in
+      wire_there x.symbols near (map (number_at numbers) near) near_ascends (length-map near (number_at numbers)) c i (tile_index (torus x periods) c) s there number below
 
   torus_gives : (v : Place) → (pos (residue v.x (slice_index periods 0)) ≡ v.x) × (pos (residue v.y (slice_index periods 1)) ≡ v.y) × (pos (residue v.z (slice_index periods 2)) ≡ v.z) →
-      Gives (numbered_by x.symbols numbers_of near_cells) (torus_layout x periods) x.symbols (near_cell x) v
+      Gives (numbered_by x.symbols numbers near) (torus_layout x periods) x.symbols (near_cell x n) v
   torus_gives v base c s h below =
       let d = shifted v c in
       let within = near_within v c base h in
-      let has = (and_parts (is_flat x.dimension c.position) (nat_lt c.node x.nodes) (and_parts (is_of x c) (is_near c) h).0).1 in
-      let wire = wire_of (numbered_by x.symbols numbers_of near_cells) d s in
+      let has = (and_parts (is_flat x.dimension c.position) (nat_lt c.node x.nodes) (and_parts (is_of x c) (is_within n c) h).0).1 in
+      let wire = wire_of (numbered_by x.symbols numbers near) d s in
       ap (λ b. if b then wire else None) (test_from_in_range d.position (zone_in_range d.position within))
       ∙ (near_wire d s within (ltb-true c.node x.nodes has) below
       ∙ sym (ap (λ b. cond b (Some (signal_of (input x.symbols (tile_index (torus x periods) d) s))) None) has))
 
-  torus_matches : (k : ℕ) (d : Cell) → slice_get (torus_cells x periods) k ≡ Some d → Matches (numbered_by x.symbols numbers_of near_cells) (torus_layout x periods) x.symbols (near_cell x) x d
+  torus_matches : (k : ℕ) (d : Cell) → slice_get (torus_cells x periods) k ≡ Some d → Matches (numbered_by x.symbols numbers near) (torus_layout x periods) x.symbols (near_cell x n) x d
   torus_matches k d is =
       let here = torus_cell_at x periods rule ok k d is in
       record {
         node = here.node;
         gives = torus_gives d.position (ap (λ (p : Place). p.x) here.base, ap (λ (p : Place). p.y) here.base, ap (λ (p : Place). p.z) here.base);
-        reads = reads_near x x d.node rule refl refl here.node;
+        reads = reads_near x x n d.node rule (premise_within x g) refl refl here.node;
       }
 
   origin_base : (n : ℕ) → 0 < n → pos (residue (pos 0) n) ≡ pos 0
@@ -161,20 +170,27 @@ module _ (x : LocalRule) (periods : List ℕ) (rule : IsRule x) (ok : ArePeriods
     residue_zero : (m : ℕ) → 0 < m → residue (pos 0) m ≡ 0
     residue_zero m h = residue_small 0 m h
 
-  torus_goal : (g : GoalOf) → IsGoalFor x g → GoalMatches (numbered_by x.symbols numbers_of near_cells) (torus_layout x periods) x.symbols (near_cell x) g
-  torus_goal (breaks y) good = λ a node. record {
-    node = node;
-    gives = torus_gives origin (origin_base (slice_index periods 0) numbers_tile.x_some, origin_base (slice_index periods 1) numbers_tile.y_some, origin_base (slice_index periods 2) numbers_tile.z_some);
-    reads = reads_near x y a good.0 good.1.dimension good.1.nodes node;
-  }
-  torus_goal always good = tt
+  torus_goal : GoalMatches (numbered_by x.symbols numbers near) (torus_layout x periods) x.symbols (near_cell x n) g
+  torus_goal = goal_of g good (goal_within x g) where
+    goal_of : (h : GoalOf) → IsGoalFor x h → goal_reach h ≤ n → GoalMatches (numbered_by x.symbols numbers near) (torus_layout x periods) x.symbols (near_cell x n) h
+    goal_of (breaks y) fits far = λ a node. record {
+      node = node;
+      gives =
+          torus_gives origin (
+            origin_base (slice_index periods 0) (numbers_tile x periods rule ok).x_some,
+            origin_base (slice_index periods 1) (numbers_tile x periods rule ok).y_some,
+            origin_base (slice_index periods 2) (numbers_tile x periods rule ok).z_some,
+          );
+      reads = reads_near x y n a fits.0 far fits.1.dimension fits.1.nodes node;
+    }
+    goal_of always fits far = tt
 
-  pub torus_is_problem : (g : GoalOf) → IsGoalFor x g → wired_problem (numbered_by x.symbols numbers_of near_cells) x g (torus_cells x periods) ≡ torus_problem x g periods
-  torus_is_problem g good =
-      wired_is_problem (numbered_by x.symbols numbers_of near_cells) (torus_layout x periods) x (near_cell x) g rule good (torus_is_layout x periods rule ok)
-      (goal_reads_torus x g periods good) torus_matches (torus_goal g good)
+  pub torus_is_problem : wired_problem (numbered_by x.symbols numbers near) x g (torus_cells x periods) ≡ torus_problem x g periods
+  torus_is_problem =
+      wired_is_problem (numbered_by x.symbols numbers near) (torus_layout x periods) x (near_cell x n) g rule good (torus_is_layout x periods rule ok)
+      (goal_reads_torus x g periods good) torus_matches torus_goal
 
-  pub torus_goal_wired : (g : GoalOf) → IsGoalFor x g → is_goal_wired (numbered_by x.symbols numbers_of near_cells) (length (torus_cells x periods) * x.symbols) g ≡ true
-  torus_goal_wired g good =
-      goal_is_wired (numbered_by x.symbols numbers_of near_cells) (torus_layout x periods) x (near_cell x) g good (torus_is_layout x periods rule ok)
-      (goal_reads_torus x g periods good) (torus_goal g good)
+  pub torus_goal_wired : is_goal_wired (numbered_by x.symbols numbers near) (length (torus_cells x periods) * x.symbols) g ≡ true
+  torus_goal_wired =
+      goal_is_wired (numbered_by x.symbols numbers near) (torus_layout x periods) x (near_cell x n) g good (torus_is_layout x periods rule ok)
+      (goal_reads_torus x g periods good) torus_goal

@@ -1,22 +1,41 @@
 -- The positions that are read from the fundamental box of a torus.
-use Rattle.std.specs.Prelude.{ℕ, ◌+◌, ◌-◌, ◌-ℤ◌, pos, List, map, slice_index}
+use Rattle.std.specs.Prelude.{ℕ, ◌+◌, ◌-◌, ◌*◌, ◌-ℤ◌, pos, max, List, map, slice_index}
+use Rattle.std.specs.List.{range_with_len}
 use Rattle.dd_lattice.specs.Place.{place}
 use Rattle.dd_lattice.specs.Boxes.{Bounds, is_active, spread}
 use Rattle.dd_lattice.specs.declared.position.Cell.{Cell}
-use Rattle.dd_pattern.specs.Tile.{Tile, tile_index}
+use Rattle.dd_pattern.specs.Tile.{Tile, tile, tile_index, volume}
 use Rattle.dd_compile.specs.Wiring.{Wiring}
+use Rattle.dd_formula.specs.LocalRule.{LocalRule}
+use Rattle.dd_formula.specs.Reach.{reach}
+use Rattle.dd_boxes.specs.Goals.{GoalOf, breaks, always}
+use Rattle.dd_problem.specs.Layouts.{cells_in, torus}
 use Rattle.dd_problem.specs.Numbered.{numbered}
 
--- how far beyond the fundamental box along an axis: a rule reads at most 16 away
-abbrev pub margin : ℕ → ℕ → ℕ
-margin d axis = spread (is_active d axis) 16
+-- how far the goal reads, and how far the premise and the goal read
+abbrev pub goal_reach : GoalOf → ℕ
+goal_reach (breaks y) = reach y
+goal_reach always = 0
+
+abbrev pub question_reach : LocalRule → GoalOf → ℕ
+question_reach x g = max (reach x) (goal_reach g)
+
+-- how far beyond the fundamental box along an axis, where nothing is read that lies farther away than n
+abbrev pub margin : ℕ → ℕ → ℕ → ℕ
+margin d n axis = spread (is_active d axis) n
 
 -- the fundamental box, grown by the margin along each axis
-abbrev pub grown : ℕ → List ℕ → Bounds
-grown d periods = record {
-  low = place (pos 0 -ℤ pos (margin d 0)) (pos 0 -ℤ pos (margin d 1)) (pos 0 -ℤ pos (margin d 2));
-  high = place (pos (slice_index periods 0 - 1 + margin d 0)) (pos (slice_index periods 1 - 1 + margin d 1)) (pos (slice_index periods 2 - 1 + margin d 2));
+abbrev pub grown : ℕ → ℕ → List ℕ → Bounds
+grown d n periods = record {
+  low = place (pos 0 -ℤ pos (margin d n 0)) (pos 0 -ℤ pos (margin d n 1)) (pos 0 -ℤ pos (margin d n 2));
+  high =
+      place (pos (slice_index periods 0 - 1 + margin d n 0)) (pos (slice_index periods 1 - 1 + margin d n 1))
+      (pos (slice_index periods 2 - 1 + margin d n 2));
 }
+
+-- the cells that are read from the fundamental box
+abbrev pub near_cells : LocalRule → ℕ → List ℕ → List Cell
+near_cells x n periods = cells_in (grown x.dimension n periods) x.nodes
 
 -- the number that stands at a cell in a periodic configuration
 abbrev pub number_at : Tile → Cell → ℕ
@@ -25,3 +44,11 @@ number_at t c = slice_index t.symbols (tile_index t c)
 -- each cell with the inputs of the number that stands there
 abbrev pub numbered_by : ℕ → Tile → List Cell → Wiring
 numbered_by m t cells = numbered m cells (map (number_at t) cells)
+
+-- the configuration in which each cell of the fundamental box has its number, from 0 in cell order
+abbrev pub numbers_of : LocalRule → List ℕ → Tile
+numbers_of x periods = tile x.dimension periods x.nodes (range_with_len 0 (volume (torus x periods) * x.nodes))
+
+-- what the premise and the goal read, each cell with the inputs of the one at its position modulo the periods
+abbrev pub torus_inputs : LocalRule → GoalOf → List ℕ → Wiring
+torus_inputs x g periods = numbered_by x.symbols (numbers_of x periods) (near_cells x (question_reach x g) periods)

@@ -10,12 +10,13 @@ ghost use Rattle.dd_boxes.specs.Views.{goal_of};
 ghost use Rattle.dd_boxes.specs.Witnesses.{ArePeriods};
 ghost use Rattle.dd_problem.specs.Layouts.{torus};
 ghost use Rattle.dd_problem.specs.Problems.{torus_problem};
-ghost use Rattle.dd_problem.specs.Grown.{margin, grown, number_at, numbered_by};
+ghost use Rattle.dd_problem.specs.Grown.{question_reach, margin, grown, near_cells};
+ghost use Rattle.dd_problem.specs.Grown.{number_at, numbered_by, numbers_of, torus_inputs};
 ghost use Rattle.dd_problem.specs.Shows.{ShowsTorus};
 
 use crate::layouts::{cells_of, symbol_signals};
 use crate::problems::problem;
-use dd_boxes::Goal;
+use dd_boxes::{Goal, least_radius};
 use dd_clause::Cnf;
 use dd_compile::Inputs;
 use dd_formula::Rule;
@@ -23,12 +24,22 @@ use dd_lattice::{Box3, Cell, Position};
 use dd_pattern::{Configuration, Periodic};
 use std::alloc::{AllocError, Global};
 
-/// How far beyond the fundamental box a rule may read along an axis.
-fn margin(axis: u32, dim: u32) -> u32
-    ensures value { result ≡ margin dim axis }
-    ensures small { result ≤ 16 }
+/// How far the premise and the goal read.
+fn question_reach(alloc: Global, premise: &Rule, goal: &Goal) -> Result<u32, AllocError>
+    requires { IsGoalFor premise.now (goal_of goal.now) }
+    ensures value { IfOk result (λ n. n ≡ question_reach premise.now (goal_of goal.now)) }
+    ensures near { IfOk result (λ n. n ≤ 16) }
 {
-    if axis < dim { 16 } else { 0 }
+    let radius = least_radius(alloc, goal)?;
+    Ok(premise.reach().max(radius))
+}
+
+/// How far beyond the fundamental box is read along an axis.
+fn margin(axis: u32, dim: u32, reach: u32) -> u32
+    ensures value { result ≡ margin dim reach axis }
+    ensures small { result ≤ reach }
+{
+    if axis < dim { reach } else { 0 }
 }
 
 /// The box of the positions of which the coordinates run from 0 to the periods less 1.
@@ -49,15 +60,16 @@ fn fundamental(periods: &[u32; 3]) -> Box3
 }
 
 /// The same, with a margin for what is read from it.
-fn grown(dim: u32, periods: &[u32; 3]) -> Box3
+fn grown(dim: u32, reach: u32, periods: &[u32; 3]) -> Box3
+    requires near { reach ≤ 16 }
     requires x { (1 ≤ slice_index periods.now 0) × (slice_index periods.now 0 ≤ 8) }
     requires y { (1 ≤ slice_index periods.now 1) × (slice_index periods.now 1 ≤ 8) }
     requires z { (1 ≤ slice_index periods.now 2) × (slice_index periods.now 2 ≤ 8) }
-    ensures { result ≡ grown dim periods.now }
+    ensures { result ≡ grown dim reach periods.now }
 {
-    let x = margin(0, dim);
-    let y = margin(1, dim);
-    let z = margin(2, dim);
+    let x = margin(0, dim, reach);
+    let y = margin(1, dim, reach);
+    let z = margin(2, dim, reach);
     Box3 {
         low: Position {
             x: -(x as i32),
@@ -70,6 +82,22 @@ fn grown(dim: u32, periods: &[u32; 3]) -> Box3
             z: (periods[2] - 1 + z) as i32,
         },
     }
+}
+
+/// The cells that the premise and the goal read from the fundamental box.
+fn near_cells(
+    alloc: Global,
+    premise: &Rule,
+    goal: &Goal,
+    periods: &[u32; 3],
+) -> Result<Vec<Cell>, AllocError>
+    requires goal { IsGoalFor premise.now (goal_of goal.now) }
+    requires periods { ArePeriods premise.now.dimension periods.now }
+    ensures { IfOk result (λ v. v.items ≡ near_cells premise.now (question_reach premise.now (goal_of goal.now)) periods.now) }
+{
+    let nodes = premise.nodes();
+    let reach = question_reach(alloc, premise, goal)?;
+    cells_of(alloc, &grown(premise.dim(), reach, periods), nodes)
 }
 
 /// Inputs for the cells, each with those of the number that stands there.
@@ -106,8 +134,7 @@ fn counted(alloc: Global, count: u32) -> Result<Vec<u32>, AllocError>
 /// The configuration of these periods in which each cell of the fundamental box has its number, from 0 in cell order.
 fn numbering(alloc: Global, premise: &Rule, periods: [u32; 3]) -> Result<Periodic, AllocError>
     requires { ArePeriods premise.now.dimension periods }
-    ensures { IfOk result (λ t. let k = volume (torus premise.now periods) * premise.now.nodes in
-        t ≡ tile premise.now.dimension periods premise.now.nodes (range_with_len 0 k)) }
+    ensures { IfOk result (λ t. t ≡ numbers_of premise.now periods) }
 {
     let [along_x, along_y, along_z] = periods;
     let nodes = premise.nodes();
@@ -117,6 +144,23 @@ fn numbering(alloc: Global, premise: &Rule, periods: [u32; 3]) -> Result<Periodi
             .ok()
             .unwrap(),
     )
+}
+
+/// Inputs for what the premise and the goal read from the fundamental box: each cell has those of the one at its position
+/// modulo the periods.
+fn torus_inputs(
+    alloc: Global,
+    premise: &Rule,
+    goal: &Goal,
+    periods: [u32; 3],
+) -> Result<Inputs, AllocError>
+    requires goal { IsGoalFor premise.now (goal_of goal.now) }
+    requires periods { ArePeriods premise.now.dimension periods }
+    ensures { IfOk result (λ inputs. inputs ≡ torus_inputs premise.now (goal_of goal.now) periods) }
+{
+    let near = near_cells(alloc, premise, goal, &periods)?;
+    let numbers = numbering(alloc, premise, periods)?;
+    inputs_by_number(alloc, &near, &numbers, premise.symbols())
 }
 
 /// The clauses that ask for a configuration of these periods that lives in the premise's subshift and has the goal at the
@@ -136,8 +180,6 @@ pub fn torus_clauses(
 {
     let nodes = premise.nodes();
     let cells = cells_of(alloc, &fundamental(&periods), nodes)?;
-    let numbers = numbering(alloc, premise, periods)?;
-    let near = cells_of(alloc, &grown(premise.dim(), &periods), nodes)?;
-    let inputs = inputs_by_number(alloc, &near, &numbers, premise.symbols())?;
+    let inputs = torus_inputs(alloc, premise, goal, periods)?;
     problem(alloc, premise, goal, &cells, &inputs)
 }
