@@ -165,7 +165,8 @@ some_entry trail values v ok a b e = go (get_or values (v - 1) None) refl e
         denies false = refl
 
 -- an entry's variable has a value
-valued_entry : (trail : List Entry) (values : List (Option Bool)) (v : ℕ) → IsValued trail values → 1 ≤ v → v ≤ length values → has_variable v (falses trail) ≡ true → one_if_some (get_or values (v - 1) None) ≡ 1
+valued_entry : (trail : List Entry) (values : List (Option Bool)) (v : ℕ) → IsValued trail values → 1 ≤ v → v ≤ length values
+    → has_variable v (falses trail) ≡ true → one_if_some (get_or values (v - 1) None) ≡ 1
 valued_entry trail values v ok a b h =
     let w = in-has_variable (falses trail) v h in
     let r : IsInRange (length values) w.0 = rw (w.2) (a, b) in
@@ -173,14 +174,18 @@ valued_entry trail values v ok a b h =
     subst (λ (n : ℕ). one_if_some (get_or values (n - 1) None) ≡ 1) w.2 s
 
 -- a variable is free exactly where it has no value
-pub free_exactly : (trail : List Entry) (values : List (Option Bool)) (v : ℕ) (o : Option Bool) (b : Bool) → IsValued trail values → 1 ≤ v → v ≤ length values → get_or values (v - 1) None ≡ o → is_some o ≡ not b → IsTrue b ↔ IsFree (length values) trail v
+pub free_exactly : (trail : List Entry) (values : List (Option Bool)) (v : ℕ) (o : Option Bool) (b : Bool) → IsValued trail values
+    → 1 ≤ v → v ≤ length values → get_or values (v - 1) None ≡ o → is_some o ≡ not b → IsTrue b ↔ IsFree (length values) trail v
 free_exactly trail values v None true ok a h e s = (λ t. (a, h, no_entry trail values v ok a h e), λ f. refl)
 free_exactly trail values v None false ok a h e s = absurd (false≢true s)
 free_exactly trail values v (Some x) true ok a h e s = absurd (false≢true (sym s))
-free_exactly trail values v (Some x) false ok a h e s = (λ t. absurd (false≢true t), λ f. absurd (false≢true (sym f.2 ∙ some_entry trail values v ok a h (ap one_if_some e))))
+free_exactly trail values v (Some x) false ok a h e s =
+    let has = some_entry trail values v ok a h (ap one_if_some e) in
+    (λ t. absurd (false≢true t), λ f. absurd (false≢true (sym f.2 ∙ has)))
 
 -- each variable has a value exactly where there are as many entries as variables
-pub full_exactly : (trail : List Entry) (values : List (Option Bool)) (n m : ℕ) → IsValued trail values → n ≡ length trail → m ≡ length values → IsTrue (eqb n m) ↔ IsFull (length values) trail
+pub full_exactly : (trail : List Entry) (values : List (Option Bool)) (n m : ℕ) → IsValued trail values → n ≡ length trail
+    → m ≡ length values → IsTrue (eqb n m) ↔ IsFull (length values) trail
 full_exactly trail values n m ok e f = (
   λ t. λ v a b. some_entry trail values v ok a b (each values (omega (arith, ok.count_ok, eqb-true n m t, e, f)) (v - 1) (omega arith)),
   λ full. eq-eqb n m (omega (
@@ -188,7 +193,9 @@ full_exactly trail values n m ok e f = (
     ok.count_ok,
     every values (λ k l. (
         let q : k + 1 - 1 ≡ k = omega arith in
-        subst (λ (i : ℕ). one_if_some (get_or values i None) ≡ 1) q (valued_entry trail values (k + 1) ok (omega arith) (omega arith) (full (k + 1) (omega arith) (omega arith))))),
+        let has = full (k + 1) (omega arith) (omega arith) in
+        let one = valued_entry trail values (k + 1) ok (omega arith) (omega arith) has in
+        subst (λ (i : ℕ). one_if_some (get_or values i None) ≡ 1) q one)),
     e,
     f,
   )),

@@ -8,4 +8,5 @@ returns c =
     let t = c.self.inside in
     let i = c.args.variable - 1 in
     let e = get_any t.values.items i None c.index.result.now (omega arith) ∙ sym c.index.ensures in
-    rw (← c.self.view_is) (free_exactly t.entries.items t.values.items c.args.variable c.index.result.now c.is_none.result c.self.invariant.0 (omega arith) (omega arith) e c.is_none.ensures)
+    let w = free_exactly t.entries.items t.values.items c.args.variable c.index.result.now c.is_none.result c.self.invariant.0 in
+    rw (← c.self.view_is) (w (omega arith) (omega arith) e c.is_none.ensures)

@@ -5,4 +5,5 @@ use Rattle.dd_solver.proofs.trail.Trail.is_full.Goals as goal
 pub returns : goal.returns
 returns c =
     let t = c.self.inside in
-    rw (← c.self.view_is) (full_exactly t.entries.items t.values.items c.len.result c.len-2.result c.self.invariant.0 (omega (arith, t.entries.ok.0)) (omega (arith, t.values.ok.0)))
+    let w = full_exactly t.entries.items t.values.items c.len.result c.len-2.result c.self.invariant.0 in
+    rw (← c.self.view_is) (w (omega (arith, t.entries.ok.0)) (omega (arith, t.values.ok.0)))
