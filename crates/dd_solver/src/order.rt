@@ -162,7 +162,8 @@ impl Order {
         requires { trail.now.variables < 2 ^ 32 }
         ensures { MatchOption result (IsFull trail.now.variables trail.now.entries) (λ l. IsFree trail.now.variables trail.now.entries l.variable) }
     {
-        for _ in 0..self.waiting {
+        let waiting = if trail.is_full() { 0 } else { self.waiting };
+        for _ in 0..waiting {
             let Some(variable) = self.pop() else {
                 break;
             };
