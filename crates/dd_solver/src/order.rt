@@ -43,8 +43,9 @@ impl Order {
             place: 0,
             value: false,
         };
-        let mut heap: Vec<usize> = Vec::new(alloc);
-        let mut ranks: Vec<Rank> = vec![in alloc; idle; 1]?;
+        let mut heap: Vec<usize> = Vec::with_capacity(alloc, variables)?;
+        let mut ranks: Vec<Rank> = Vec::with_capacity(alloc, variables.saturating_add(1))?;
+        ranks.push(idle)?;
         for place in 0..variables {
             heap.push(place + 1)?;
             ranks.push(Rank { place, ..idle })?;
