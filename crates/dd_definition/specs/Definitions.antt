@@ -38,7 +38,7 @@ automaton_of k cases symbol = automaton.Given (record { cases = map (case_of k) 
 -- the periods of a configuration, and 1 along the axes that the script does not have
 abbrev pub periods_of : Command → List ℕ
 periods_of (command.Configuration name periods symbols) = period_at periods 0 ∷ period_at periods 1 ∷ period_at periods 2 ∷ []
-periods_of c = []
+periods_of c = 1 ∷ 1 ∷ 1 ∷ []
 
 abbrev pub tile_of : Known → Command → List ℕ → Tile
 tile_of k c symbols = tile k.setting.topology.dimension (periods_of c) k.setting.topology.nodes symbols

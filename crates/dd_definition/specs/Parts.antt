@@ -1,14 +1,13 @@
 -- The parts of definitions, and why they are not made.
-use Rattle.std.specs.Prelude.{ℕ, ◌+◌, ◌<◌, List, [], ◌∷◌, length, map, not, Option, Some, None}
+use Rattle.std.specs.Prelude.{ℕ, ◌<◌, List, length, map, not, Option, Some, None}
 use Rattle.std.specs.List.{All}
-use Rattle.dd_grammar.specs.declared.lexeme.Number.{Number}
 use Rattle.dd_expansion.specs.declared.formulas.Formula.{Formula}
 use Rattle.dd_expansion.specs.Limits.{IsFormula}
-use Rattle.dd_formula.specs.Automata.{Setting, Counted, IsAutomaton, cases_reads, case_instances, is_short}
+use Rattle.dd_formula.specs.Automata.{Setting, Counted, IsAutomaton, counted_step, is_short}
 use Rattle.dd_formula.specs.declared.automaton.Automaton.{Automaton}
+use Rattle.dd_formula.specs.declared.automaton.Automaton.TheOpen.{Automaton-F}
 use Rattle.dd_formula.specs.declared.fault.RuleFault.{RuleFault}
 use Rattle.dd_formula.specs.declared.fault.RuleFault.TheVariants as rule_fault
-use Rattle.dd_pattern.specs.Tile.{Tile, tile}
 use Rattle.dd_naming.specs.declared.fault.Fault.{Fault}
 use Rattle.dd_naming.specs.declared.fault.Fault.TheVariants as fault
 use Rattle.dd_naming.specs.declared.fault.Limit.{Limit}
@@ -17,7 +16,6 @@ use Rattle.dd_naming.specs.declared.fault.Refusal.{Refusal}
 use Rattle.dd_naming.specs.declared.fault.Refusal.TheVariants as refusal
 use Rattle.dd_refusal.specs.declared.known.Known.{Known}
 use Rattle.dd_refusal.specs.declared.meaning.CaseOf.{CaseOf}
-use Rattle.dd_refusal.specs.Misfits.{period_at}
 use Rattle.dd_refusal.specs.Sizes.{over}
 use Rattle.dd_definition.specs.Definitions.{case_of}
 
@@ -40,10 +38,9 @@ pub record IsCaseOf (k : Known) (c : CaseOf) : Type 0 where
   pub formula : IsFormulaOf k c.condition
   pub symbol : c.symbol < length k.setting.symbols
 
--- what is counted of an automaton by these cases
+-- what is counted of an automaton by these cases, whatever symbol it gives where none of them is true
 abbrev pub case_counts : Known → List CaseOf → Counted
-case_counts k cases =
-    record { reads = cases_reads (map (case_of k) cases); instances = λ a. case_instances a (map (case_of k) cases) + 1; depth = 0 }
+case_counts k cases = counted_step (Automaton-F.Given (record { cases = map (case_of k) cases; otherwise = 0 }))
 
 -- the limit on reach, where some case passes it
 abbrev pub reach_sizes : ℕ → Counted → List Fault
@@ -58,8 +55,3 @@ pub record AreAutomata (automata : List Automaton) : Type 0 where
 abbrev pub IsComposition : Setting → Option Automaton → Type 0
 IsComposition s None = ⊥
 IsComposition s (Some f) = IsAutomaton s f
-
--- the configuration of these symbols by its periods
-abbrev pub pattern : Known → List Number → List ℕ → Tile
-pattern k periods symbols =
-    tile k.setting.topology.dimension (period_at periods 0 ∷ period_at periods 1 ∷ period_at periods 2 ∷ []) k.setting.topology.nodes symbols

@@ -6,19 +6,19 @@ ghost use Rattle.dd_formula.specs.Automata.{Setting, IsAutomaton};
 ghost use Rattle.dd_pattern.specs.Tile.{IsTile};
 ghost use Rattle.dd_naming.specs.Resolving.{Resolves};
 ghost use Rattle.dd_refusal.specs.Meanings.{meaning_of, IsShallow};
-ghost use Rattle.dd_refusal.specs.Misfits.{period_at};
 ghost use Rattle.dd_header.specs.Sound.{IsSound, IsFaultless, numbers_of};
-ghost use Rattle.dd_definition.specs.Definitions.{rule_of, composition_of, automaton_or_nothing, definition, IsSoundDefinition};
+ghost use Rattle.dd_definition.specs.Definitions.{rule_of, composition_of, periods_of, tile_of};
+ghost use Rattle.dd_definition.specs.Definitions.{automaton_or_nothing, definition, IsSoundDefinition};
 ghost use Rattle.dd_definition.specs.Definitions.{rule_counts, counted_sizes, automaton_sizes, definition_sizes};
-ghost use Rattle.dd_definition.specs.Parts.{too_large, refusal_of, pattern, IsFormulaOf, AreAutomata, IsComposition};
+ghost use Rattle.dd_definition.specs.Parts.{too_large, refusal_of, IsFormulaOf, AreAutomata, IsComposition};
 
 use crate::cases::automaton;
 use crate::definition::Definition;
 use dd_formula::{Automaton, Formula, Rule, RuleFault};
 use dd_naming::{Fault, Limit, Refusal};
 use dd_pattern::Periodic;
-use dd_refusal::{Known, Meaning};
-use dd_syntax::{Command, Number};
+use dd_refusal::{Known, Meaning, period_at};
+use dd_syntax::Command;
 use dd_values::Items;
 use std::alloc::Global;
 
@@ -77,30 +77,32 @@ fn composition(
     }
 }
 
-/// A period, and 1 where there is none.
-fn period_at(periods: &[Number], at: usize) -> u32
-    ensures { result ≡ period_at periods.now at }
+/// The periods of a configuration, and 1 along the axes that the script does not have.
+fn periods_of(command: &Command) -> [u32; 3]
+    ensures { result ≡ periods_of command.now }
 {
-    match periods.get(at) {
-        Some(period) => period.value,
-        None => 1,
+    match command {
+        Command::Configuration { periods, .. } => {
+            let periods = periods.as_slice();
+            [
+                period_at(periods, 0),
+                period_at(periods, 1),
+                period_at(periods, 2),
+            ]
+        }
+        _ => [1, 1, 1],
     }
 }
 
 /// The configuration with these symbols in its fundamental box.
-fn configuration(known: &Known, periods: &[Number], symbols: Items<u32>) -> Periodic
-    requires { IsTile (pattern known.now periods.now symbols) }
-    ensures { result ≡ pattern known.now periods.now symbols }
+fn configuration(known: &Known, command: &Command, symbols: Items<u32>) -> Periodic
+    requires { IsTile (tile_of known.now command.now symbols) }
+    ensures { result ≡ tile_of known.now command.now symbols }
 {
     let topology = &known.setting.topology;
-    let periods = [
-        period_at(periods, 0),
-        period_at(periods, 1),
-        period_at(periods, 2),
-    ];
     match Periodic::new(
         topology.dim(),
-        periods,
+        periods_of(command),
         topology.nodes(),
         symbols.into_vec(),
     ) {
@@ -133,13 +135,9 @@ pub fn define(
             Ok(Definition::Automaton(automaton(alloc, known, cases, default)?))
         }
         Meaning::Composition { outer, inner } => composition(alloc, automata, outer, inner),
-        Meaning::Configuration(symbols) => match command {
-            Command::Configuration { periods, .. } => {
-                let made = configuration(known, periods.as_slice(), symbols);
-                Ok(Definition::Configuration(made))
-            }
-            _ => unreachable!(),
-        },
+        Meaning::Configuration(symbols) => {
+            Ok(Definition::Configuration(configuration(known, command, symbols)))
+        }
         _ => Ok(Definition::Nothing),
     }
 }

@@ -1,12 +1,8 @@
-use Rattle.std.proofs.Common.{List, refl, sym, subst, ◌∙◌}
-use Rattle.dd_pattern.specs.Tile.{IsTile}
-use Rattle.dd_grammar.specs.declared.lexeme.Number.{Number}
-use Rattle.dd_syntax.specs.declared.command.Command.{Command}
+use Rattle.std.proofs.Common.{refl, sym, subst, ◌∙◌}
 use Rattle.dd_naming.specs.Resolving.{Resolves}
 use Rattle.dd_refusal.specs.declared.meaning.Meaning.{Meaning}
 use Rattle.dd_header.specs.Sound.{numbers_of}
-use Rattle.dd_definition.specs.Definitions.{tile_of, definition, definition_sizes, IsSoundDefinition}
-use Rattle.dd_definition.specs.Parts.{pattern}
+use Rattle.dd_definition.specs.Definitions.{definition, definition_sizes, IsSoundDefinition}
 use Rattle.dd_definition.proofs.Commands.{rule_is, automaton_is, configuration_is}
 use Rattle.dd_definition.proofs.making.define.Goals as goal
 
@@ -19,12 +15,12 @@ automaton-requires-clause-cases c =
     let all = automaton_is c.args.bytes.now c.args.known.now c.args.command.now c.in-Automaton.cases c.in-Automaton.default (sym c.in-Automaton.is ∙ c.requires.meaning) c.requires.sound c.requires.faultless c.requires.shallow in
     all.each
 
-pub configuration-made-requires : goal.configuration-made-requires
-configuration-made-requires c =
+pub configuration-requires : goal.configuration-requires
+configuration-requires c =
     let k = c.args.known.now in
     let symbols = c.in-Configuration.symbols in
     let all = configuration_is c.args.bytes.now k c.args.command.now symbols (sym c.in-Configuration.is ∙ c.requires.meaning) c.requires.sound c.requires.faultless in
-    subst (λ (ps : List Number). IsTile (pattern k ps symbols)) (sym c.as_slice.ensures) (subst (λ (x : Command). IsTile (tile_of k x symbols)) c.in-Configuration-command.is all.tile)
+    all.tile
 
 pub returns-in-Composition-clause-exact : goal.returns-in-Composition-clause-exact
 returns-in-Composition-clause-exact c =
@@ -33,8 +29,8 @@ returns-in-Composition-clause-exact c =
     subst (λ (m : Meaning). Resolves c.composition.result (definition_sizes k fs m) (definition k fs c.args.command.now m)) (sym c.in-Composition.is)
     (c.composition.ensures.exact (numbers_of k) c.requires.automata_have)
 
-pub returns-in-Configuration-command-clause-sound : goal.returns-in-Configuration-command-clause-sound
-returns-in-Configuration-command-clause-sound c =
+pub returns-in-Configuration-clause-sound : goal.returns-in-Configuration-clause-sound
+returns-in-Configuration-clause-sound c =
     let k = c.args.known.now in
     let symbols = c.in-Configuration.symbols in
     let all = configuration_is c.args.bytes.now k c.args.command.now symbols (sym c.in-Configuration.is ∙ c.requires.meaning) c.requires.sound c.requires.faultless in
