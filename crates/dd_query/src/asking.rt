@@ -1,7 +1,6 @@
 //! Queries from commands and their meanings.
 ghost use Rattle.std.specs.Prelude.{◌≡◌, false, map, IfOk};
 ghost use Rattle.std.specs.List.{list_any};
-ghost use Rattle.dd_refusal.specs.Misfits.{period_at};
 ghost use Rattle.dd_refusal.specs.Sizes.{is_far};
 ghost use Rattle.dd_header.specs.Offsets.{place_of};
 ghost use Rattle.dd_query.specs.Queries.{strip_of, density_of, discharge_of, query_of};
@@ -10,20 +9,10 @@ ghost use Rattle.dd_query.specs.Asked.{AreClose};
 use crate::queries::Query;
 use dd_header::position_of;
 use dd_lattice::Position;
-use dd_refusal::Meaning;
+use dd_refusal::{Meaning, period_at};
 use dd_syntax::{Command, Number, Offset};
 use dd_values::Items;
 use std::alloc::{AllocError, Global};
-
-/// A period, and 1 where there is none.
-fn period_at(periods: &[Number], at: usize) -> u32
-    ensures { result ≡ period_at periods.now at }
-{
-    match periods.get(at) {
-        Some(period) => period.value,
-        None => 1,
-    }
-}
 
 fn strip_of(periods: &[Number]) -> [u32; 2]
     ensures { result ≡ strip_of periods.now }

@@ -2,7 +2,6 @@
 ghost use Rattle.std.specs.Prelude.{◌≡◌, ◌≤◌, slice_index};
 ghost use Rattle.dd_formula.specs.Compositions.{HaveNodes};
 ghost use Rattle.dd_naming.specs.Resolving.{Accepts};
-ghost use Rattle.dd_refusal.specs.Sizes.{over};
 ghost use Rattle.dd_header.specs.Sound.{IsSound};
 ghost use Rattle.dd_query.specs.Limits.{has_many_patterns, has_many_states, strip_volume};
 ghost use Rattle.dd_query.specs.Limits.{contains_sizes, equal_sizes, empty_sizes, agree_sizes, query_sizes};
@@ -13,8 +12,8 @@ use crate::aims::{anything, breaking, differing, is_long};
 use crate::queries::Query;
 use dd_counts::{longer_states, patterns, states};
 use dd_formula::{Automaton, Rule};
-use dd_naming::{Fault, Limit, Refusal};
-use dd_refusal::Known;
+use dd_naming::{Limit, Refusal};
+use dd_refusal::{Known, refuse_if};
 use std::alloc::Global;
 
 /// The greatest number of patterns at a node.
@@ -24,15 +23,6 @@ const MOST_PATTERNS: u32 = 65_536;
 const MOST_STATES: u32 = 4_096;
 
 const MOST_LONGER_STATES: u32 = 131_072;
-
-fn within(passed: bool, limit: Limit) -> Result<(), Refusal>
-    ensures { Accepts result (over passed limit) }
-{
-    if passed {
-        return Err(Refusal::At(Fault::Size(limit)));
-    }
-    Ok(())
-}
 
 fn has_many_patterns(rule: &Rule) -> bool
     ensures { result ≡ has_many_patterns rule.now }
@@ -64,7 +54,7 @@ fn contains_within(known: &Known, outer: &Rule, inner: &Rule) -> Result<(), Refu
     requires { IsSound known.now }
     ensures { Accepts result (contains_sizes known.now outer.now inner.now) }
 {
-    within(is_long(known, inner, breaking(outer)), Limit::Clauses)
+    refuse_if(is_long(known, inner, breaking(outer)), Limit::Clauses)
 }
 
 fn equal_within(known: &Known, left: &Rule, right: &Rule) -> Result<(), Refusal>
@@ -73,14 +63,14 @@ fn equal_within(known: &Known, left: &Rule, right: &Rule) -> Result<(), Refusal>
 {
     let left_in_right = is_long(known, left, breaking(right));
     let right_in_left = is_long(known, right, breaking(left));
-    within(left_in_right || right_in_left, Limit::Clauses)
+    refuse_if(left_in_right || right_in_left, Limit::Clauses)
 }
 
 fn empty_within(known: &Known, rule: &Rule) -> Result<(), Refusal>
     requires { IsSound known.now }
     ensures { Accepts result (empty_sizes known.now rule.now) }
 {
-    within(is_long(known, rule, anything()), Limit::Clauses)
+    refuse_if(is_long(known, rule, anything()), Limit::Clauses)
 }
 
 fn agree_within(
@@ -95,7 +85,7 @@ fn agree_within(
     ensures { Accepts result (agree_sizes known.now left.now right.now rule.now) }
 {
     let aim = differing(alloc, rule, left, right)?;
-    within(is_long(known, rule, aim), Limit::Clauses)
+    refuse_if(is_long(known, rule, aim), Limit::Clauses)
 }
 
 /// Accepts a query that asks for no more work than may be asked.
@@ -128,11 +118,11 @@ pub(crate) fn is_within_limits(
             &automata[*right as usize],
             &rules[*rule as usize],
         ),
-        Query::Forbidden { rule } => within(
+        Query::Forbidden { rule } => refuse_if(
             has_many_patterns(&rules[*rule as usize]),
             Limit::Patterns,
         ),
-        Query::Density { rule, strip } => within(
+        Query::Density { rule, strip } => refuse_if(
             has_many_states(&rules[*rule as usize], strip_volume(*strip)),
             Limit::States,
         ),

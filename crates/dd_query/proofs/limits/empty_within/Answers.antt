@@ -5,5 +5,5 @@ use Rattle.dd_query.proofs.limits.empty_within.Goals as goal
 
 pub returns : goal.returns
 returns c =
-    accepts_over c.within.result c.is_long.result (is_long c.args.known.now c.args.rule.now anything) limit.Clauses
-    (c.is_long.ensures anything c.anything.ensures) c.within.ensures
+    accepts_over c.refuse_if.result c.is_long.result (is_long c.args.known.now c.args.rule.now anything) limit.Clauses
+    (c.is_long.ensures anything c.anything.ensures) c.refuse_if.ensures

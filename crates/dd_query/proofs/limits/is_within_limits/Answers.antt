@@ -84,20 +84,20 @@ returns-in-Forbidden c =
     let k : Known = c.args.known.now in
     let rules : List LocalRule = c.args.rules.now in
     let automata : List Automaton = c.args.automata.now in
-    let r = c.within.result in
+    let r = c.refuse_if.result in
     let number = subst (HasNumbers k) c.in-Forbidden.is c.requires.numbers in
     let named = c.requires.made.rules_named in
     let x = c.index-rules-rule-in-Forbidden.result in
     subst (λ q. Accepts r (query_sizes k rules automata q)) (sym c.in-Forbidden.is)
     (accepts_at r rules c.in-Forbidden.rule x (λ u. over (has_many_patterns u) limit.Patterns) (omega (arith, number, named)) c.index-rules-rule-in-Forbidden.is
-    (accepts_over r c.has_many_patterns.result (has_many_patterns x) limit.Patterns c.has_many_patterns.ensures c.within.ensures))
+    (accepts_over r c.has_many_patterns.result (has_many_patterns x) limit.Patterns c.has_many_patterns.ensures c.refuse_if.ensures))
 
 pub returns-in-Density : goal.returns-in-Density
 returns-in-Density c =
     let k : Known = c.args.known.now in
     let rules : List LocalRule = c.args.rules.now in
     let automata : List Automaton = c.args.automata.now in
-    let r = c.within-in-Density.result in
+    let r = c.refuse_if-in-Density.result in
     let number = subst (HasNumbers k) c.in-Density.is c.requires.numbers in
     let named = c.requires.made.rules_named in
     let x = c.index-rules-rule-in-Density.result in
@@ -105,4 +105,4 @@ returns-in-Density c =
     subst (λ q. Accepts r (query_sizes k rules automata q)) (sym c.in-Density.is)
     (accepts_at r rules c.in-Density.rule x (λ u. over (has_many_states u (strip_volume strip)) limit.States) (omega (arith, number, named)) c.index-rules-rule-in-Density.is
     (accepts_over r c.has_many_states.result (has_many_states x (strip_volume strip)) limit.States
-    (c.has_many_states.ensures ∙ ap (has_many_states x) c.strip_volume.ensures) c.within-in-Density.ensures))
+    (c.has_many_states.ensures ∙ ap (has_many_states x) c.strip_volume.ensures) c.refuse_if-in-Density.ensures))
