@@ -6,5 +6,5 @@ use Rattle.dd_query.proofs.limits.contains_within.Goals as goal
 pub returns : goal.returns
 returns c =
     let aim = breaking c.args.outer.now in
-    accepts_over c.refuse_if.result c.is_long.result (is_long c.args.known.now c.args.inner.now aim) limit.Clauses (c.is_long.ensures aim c.breaking.ensures)
-    c.refuse_if.ensures
+    accepts_over c.refuse_if.result c.is_long.result (is_long c.args.known.now c.args.inner.now aim) limit.Clauses
+    (c.is_long.ensures aim c.breaking.ensures) c.refuse_if.ensures

@@ -5,7 +5,8 @@ use Rattle.dd_naming.specs.declared.fault.Limit.TheVariants as limit
 use Rattle.dd_naming.specs.Resolving.{Accepts}
 use Rattle.dd_refusal.specs.declared.known.Known.{Known}
 use Rattle.dd_refusal.specs.Sizes.{over}
-use Rattle.dd_query.specs.Limits.{about, contains_sizes, equal_sizes, empty_sizes, agree_sizes, query_sizes, has_many_patterns, has_many_states, strip_volume}
+use Rattle.dd_query.specs.Limits.{about, contains_sizes, equal_sizes, empty_sizes, agree_sizes, query_sizes}
+use Rattle.dd_query.specs.Limits.{has_many_patterns, has_many_states, strip_volume}
 use Rattle.dd_query.specs.Sound.{HasNumbers}
 use Rattle.dd_query.proofs.LimitLaws.{accepts_at, accepts_over, have_nodes}
 use Rattle.dd_query.proofs.limits.is_within_limits.Goals as goal
@@ -14,8 +15,9 @@ pub agree_within-requires-clause-nodes : goal.agree_within-requires-clause-nodes
 agree_within-requires-clause-nodes c =
     let k : Known = c.args.known.now in
     let numbers = subst (HasNumbers k) c.in-Agree.is c.requires.numbers in
-    have_nodes k c.args.rules.now c.args.automata.now c.in-Agree.left c.in-Agree.right c.in-Agree.rule c.index-automata-left.result c.index-automata-right.result
-    c.index-rules-rule-in-Agree.result c.requires.made numbers.0 numbers.1 numbers.2 c.index-automata-left.is c.index-automata-right.is c.index-rules-rule-in-Agree.is
+    have_nodes k c.args.rules.now c.args.automata.now c.in-Agree.left c.in-Agree.right c.in-Agree.rule
+    c.index-automata-left.result c.index-automata-right.result c.index-rules-rule-in-Agree.result c.requires.made numbers.0 numbers.1 numbers.2
+    c.index-automata-left.is c.index-automata-right.is c.index-rules-rule-in-Agree.is
 
 pub returns-in-Contains : goal.returns-in-Contains
 returns-in-Contains c =
@@ -58,7 +60,8 @@ returns-in-Empty c =
     let number = subst (HasNumbers k) c.in-Empty.is c.requires.numbers in
     let named = c.requires.made.rules_named in
     subst (λ q. Accepts r (query_sizes k rules automata q)) (sym c.in-Empty.is)
-    (accepts_at r rules c.in-Empty.rule c.index-rules-rule.result (empty_sizes k) (omega (arith, number, named)) c.index-rules-rule.is c.empty_within.ensures)
+    (accepts_at r rules c.in-Empty.rule c.index-rules-rule.result (empty_sizes k)
+    (omega (arith, number, named)) c.index-rules-rule.is c.empty_within.ensures)
 
 pub returns-in-Agree : goal.returns-in-Agree
 returns-in-Agree c =
@@ -75,7 +78,8 @@ returns-in-Agree c =
     let n = c.in-Agree.right in
     let j = c.in-Agree.rule in
     subst (λ q. Accepts r (query_sizes k rules automata q)) (sym c.in-Agree.is)
-    (accepts_at r automata c.in-Agree.left f (λ a. about automata n (λ b. about rules j (λ u. agree_sizes k a b u))) (omega (arith, numbers.0, named)) c.index-automata-left.is
+    (accepts_at r automata c.in-Agree.left f (λ a. about automata n (λ b. about rules j (λ u. agree_sizes k a b u)))
+    (omega (arith, numbers.0, named)) c.index-automata-left.is
     (accepts_at r automata n g (λ b. about rules j (λ u. agree_sizes k f b u)) (omega (arith, numbers.1, named)) c.index-automata-right.is
     (accepts_at r rules j x (agree_sizes k f g) (omega (arith, numbers.2, ruled)) c.index-rules-rule-in-Agree.is c.agree_within.ensures)))
 
@@ -89,7 +93,8 @@ returns-in-Forbidden c =
     let named = c.requires.made.rules_named in
     let x = c.index-rules-rule-in-Forbidden.result in
     subst (λ q. Accepts r (query_sizes k rules automata q)) (sym c.in-Forbidden.is)
-    (accepts_at r rules c.in-Forbidden.rule x (λ u. over (has_many_patterns u) limit.Patterns) (omega (arith, number, named)) c.index-rules-rule-in-Forbidden.is
+    (accepts_at r rules c.in-Forbidden.rule x (λ u. over (has_many_patterns u) limit.Patterns)
+    (omega (arith, number, named)) c.index-rules-rule-in-Forbidden.is
     (accepts_over r c.has_many_patterns.result (has_many_patterns x) limit.Patterns c.has_many_patterns.ensures c.refuse_if.ensures))
 
 pub returns-in-Density : goal.returns-in-Density
@@ -103,6 +108,7 @@ returns-in-Density c =
     let x = c.index-rules-rule-in-Density.result in
     let strip : List ℕ = c.in-Density.strip in
     subst (λ q. Accepts r (query_sizes k rules automata q)) (sym c.in-Density.is)
-    (accepts_at r rules c.in-Density.rule x (λ u. over (has_many_states u (strip_volume strip)) limit.States) (omega (arith, number, named)) c.index-rules-rule-in-Density.is
+    (accepts_at r rules c.in-Density.rule x (λ u. over (has_many_states u (strip_volume strip)) limit.States)
+    (omega (arith, number, named)) c.index-rules-rule-in-Density.is
     (accepts_over r c.has_many_states.result (has_many_states x (strip_volume strip)) limit.States
     (c.has_many_states.ensures ∙ ap (has_many_states x) c.strip_volume.ensures) c.refuse_if-in-Density.ensures))
