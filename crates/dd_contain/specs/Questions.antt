@@ -2,6 +2,7 @@
 use Rattle.std.specs.Prelude.{ℕ, ◌≡◌, ◌≤◌, true, cond, max, List, [], ◌∷◌}
 use Rattle.dd_derivation.specs.declared.step.Step.{Step}
 use Rattle.dd_derivation.specs.Derivations.{refutes}
+use Rattle.dd_certificate.specs.Bounds.{IsWritableRefutation}
 use Rattle.dd_lattice.specs.Boxes.{is_active, centred, volume}
 use Rattle.dd_pattern.specs.Tile.{Tile, volume as tile_volume}
 use Rattle.dd_formula.specs.LocalRule.{LocalRule}
@@ -18,9 +19,10 @@ use Rattle.dd_contain.specs.Decided.{periods, volume as product, IsDecidedBy}
 abbrev pub along_axes : Periods → List ℕ
 along_axes p = p.x ∷ p.y ∷ p.z ∷ []
 
--- the steps refute the clauses of the box
-abbrev pub Refutes : LocalRule → GoalOf → ℕ → List Step → Type 0
-Refutes x g n steps = let problem = box_problem x g n in refutes problem.variables problem.clauses steps ≡ true
+-- the steps refute the clauses of the box, and an output can hold them
+pub record Refutes (x : LocalRule) (g : GoalOf) (n : ℕ) (steps : List Step) : Type 0 where
+  pub refuting : refutes (box_problem x g n).variables (box_problem x g n).clauses steps ≡ true
+  pub writable : IsWritableRefutation steps
 
 -- the configuration has these periods, lives in the premise's subshift and has the goal at the origin
 abbrev pub Displays : LocalRule → GoalOf → Periods → Tile → Type 0

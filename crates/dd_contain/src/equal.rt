@@ -10,6 +10,7 @@ use crate::questions::decide;
 use dd_boxes::Goal;
 use dd_formula::Rule;
 use dd_pattern::Periodic;
+use dd_refusal::Limits;
 use std::alloc::{AllocError, Global};
 
 /// Which of the two rules is the premise.
@@ -69,22 +70,21 @@ pub fn decide_equal(
     alloc: Global,
     left: &Rule,
     right: &Rule,
-    radius: u32,
-    period: u32,
+    limits: &Limits,
 ) -> Result<Equality, AllocError>
-    requires radius { radius ≤ 8 }
-    requires period { (1 ≤ period) × (period ≤ 8) }
+    requires radius { limits.now.radius ≤ 8 }
+    requires period { (1 ≤ limits.now.period) × (limits.now.period ≤ 8) }
     requires left_goal { IsGoalFor left.now (breaks right.now) }
     requires right_goal { IsGoalFor right.now (breaks left.now) }
-    requires left_small { IsSmallQuestion left.now (breaks right.now) radius period }
-    requires right_small { IsSmallQuestion right.now (breaks left.now) radius period }
-    ensures { IfOk result (IsEqualDecided left.now right.now radius period) }
+    requires left_small { IsSmallQuestion left.now (breaks right.now) limits.now.radius limits.now.period }
+    requires right_small { IsSmallQuestion right.now (breaks left.now) limits.now.radius limits.now.period }
+    ensures { IfOk result (IsEqualDecided left.now right.now limits.now.radius limits.now.period) }
 {
-    match decide(alloc, left, &Goal::Breaks(right), radius, period)? {
+    match decide(alloc, left, &Goal::Breaks(right), limits)? {
         // The right answer would change nothing.
         Decision::No { periodic } => Ok(joined(Decision::No { periodic }, Decision::Unknown)),
         first => {
-            let second = decide(alloc, right, &Goal::Breaks(left), radius, period)?;
+            let second = decide(alloc, right, &Goal::Breaks(left), limits)?;
             Ok(joined(first, second))
         }
     }

@@ -1,21 +1,33 @@
 //! The questions that the search asks of boxes and of periods.
-ghost use Rattle.std.specs.Prelude.{◌≡◌, ◌≤◌, IfOk, IfSome};
+ghost use Rattle.std.specs.Prelude.{◌≡◌, ◌+◌, ◌≤◌, length, IfOk, IfSome};
 ghost use Rattle.dd_formula.specs.LocalRule.{IsRule};
 ghost use Rattle.dd_boxes.specs.Boxes.{Suffices};
 ghost use Rattle.dd_boxes.specs.Goals.{IsGoalFor};
 ghost use Rattle.dd_boxes.specs.Views.{goal_of};
+ghost use Rattle.dd_certificate.specs.Bounds.{most_count};
 ghost use Rattle.dd_contain.specs.Questions.{Refutes, ShowsAt, Displays, AsksRadius, AsksPeriods, greatest_periods, IsSmallQuestion, IsDecided};
 
 use crate::decision::Decision;
 use crate::search::{Periods, Questions, search};
 use dd_boxes::{Goal, least_radius};
+use dd_clause::Cnf;
 use dd_derivation::{Outcome, Step};
 use dd_formula::Rule;
 use dd_pattern::Periodic;
 use dd_problem::{box_clauses, read_torus, torus_clauses};
+use dd_refusal::Limits;
 use dd_solver::solve;
 use dd_values::Items;
 use std::alloc::{AllocError, Global};
+
+/// The number of the last step, where the clauses have the numbers from 1 on and the steps those after them.
+fn last_number(cnf: &Cnf, steps: &[Step]) -> u64
+    ensures value { result ≡ length cnf.now.clauses + length steps.now }
+    ensures few { length cnf.now.clauses + length steps.now ≤ most_count }
+{
+    let clauses = cnf.clauses();
+    clauses.len() as u64 + steps.len() as u64
+}
 
 /// Can a configuration that obeys the premise have the goal?
 #[derive(Clone, Copy)]
@@ -41,7 +53,12 @@ impl<'a> Questions for BoxQuestion<'a> {
     fn refutation(&self, radius: u32) -> Result<Option<Items<Step>>, AllocError> {
         let cnf = box_clauses(self.alloc, self.premise, self.goal, radius)?;
         match solve(self.alloc, &cnf)? {
-            Outcome::Refuted(steps) => Ok(Some(steps)),
+            Outcome::Refuted(steps) => {
+                // The steps name no greater variable, and no greater number of a clause.
+                let _variable = cnf.variables();
+                let _number = last_number(&cnf, steps.as_slice());
+                Ok(Some(steps))
+            }
             Outcome::Found(_) => Ok(None),
         }
     }
@@ -74,26 +91,25 @@ fn greatest_periods(premise: &Rule, period: u32) -> Periods
     }
 }
 
-/// Decides a box question, with boxes of a radius of at most `radius`, or the goal's least radius where that is greater,
-/// and periods of at most `period`: YES with the least radius that suffices; otherwise NO with the first periods, by
+/// Decides a box question, with boxes of at most the limits' radius, or the goal's least radius where that is greater, and
+/// periods of at most the limits': YES with the least radius that suffices; otherwise NO with the first periods, by
 /// volume and then in lexicographic order, of a configuration that obeys the premise and has the goal at the origin;
 /// otherwise unknown.
 pub fn decide(
     alloc: Global,
     premise: &Rule,
     goal: &Goal,
-    radius: u32,
-    period: u32,
+    limits: &Limits,
 ) -> Result<Decision, AllocError>
-    requires radius { radius ≤ 8 }
-    requires period { (1 ≤ period) × (period ≤ 8) }
+    requires radius { limits.now.radius ≤ 8 }
+    requires period { (1 ≤ limits.now.period) × (limits.now.period ≤ 8) }
     requires goal { IsGoalFor premise.now (goal_of goal.now) }
-    requires small { IsSmallQuestion premise.now (goal_of goal.now) radius period }
-    ensures { IfOk result (IsDecided premise.now (goal_of goal.now) radius period) }
+    requires small { IsSmallQuestion premise.now (goal_of goal.now) limits.now.radius limits.now.period }
+    ensures { IfOk result (IsDecided premise.now (goal_of goal.now) limits.now.radius limits.now.period) }
 {
     let least = least_radius(alloc, goal)?;
-    let most = radius.max(least);
-    let tops = greatest_periods(premise, period);
+    let most = limits.radius.max(least);
+    let tops = greatest_periods(premise, limits.period);
     let question = BoxQuestion {
         alloc,
         premise,

@@ -10,19 +10,19 @@ use Rattle.dd_contain.proofs.questions.decide.Goals as goal
 
 pub search-requires-clause-radius : goal.search-requires-clause-radius
 search-requires-clause-radius c =
-    let top : c.max-most.result ≡ max c.args.radius c.in_ok-least.least = search rules in
+    let top : c.max-most.result ≡ max c.args.limits.now.radius c.in_ok-least.least = search rules in
     let small = least_small c.args.premise.now (goal_of c.args.goal.now) c.in_ok-least.least c.requires.goal c.in_ok-least.ensures in
     omega (arith, top, small, c.requires.radius)
 
 pub search-requires-clause-radii : goal.search-requires-clause-radii
 search-requires-clause-radii c =
-    let top : c.max-most.result ≡ max c.args.radius c.in_ok-least.least = search rules in
-    radii_asked c.args.premise.now (goal_of c.args.goal.now) c.args.radius c.args.period c.in_ok-least.least c.requires.goal c.in_ok-least.ensures c.requires.small
+    let top : c.max-most.result ≡ max c.args.limits.now.radius c.in_ok-least.least = search rules in
+    radii_asked c.args.premise.now (goal_of c.args.goal.now) c.args.limits.now.radius c.args.limits.now.period c.in_ok-least.least c.requires.goal c.in_ok-least.ensures c.requires.small
     c.max-most.result top
 
 pub search-requires-clause-periods : goal.search-requires-clause-periods
 search-requires-clause-periods c =
-    periods_asked c.args.premise.now (goal_of c.args.goal.now) c.args.radius c.args.period c.in_ok-least.least c.requires.goal c.in_ok-least.ensures c.requires.small
+    periods_asked c.args.premise.now (goal_of c.args.goal.now) c.args.limits.now.radius c.args.limits.now.period c.in_ok-least.least c.requires.goal c.in_ok-least.ensures c.requires.small
     c.greatest_periods-tops.result c.greatest_periods-tops.ensures.value c.greatest_periods-tops.ensures.kept.dimension.0 c.requires.period.1
 
 pub returns : goal.returns
@@ -32,6 +32,6 @@ returns c =
     let least = c.in_ok-least.least in
     let most = c.max-most.result in
     let tops = c.greatest_periods-tops.result in
-    let top : c.max-most.result ≡ max c.args.radius c.in_ok-least.least = search rules in
-    IfOk-weaker c.search.result (IsDecidedBy (Suffices x g) (Refutes x g) (ShowsAt x g) (Displays x g) least most tops) (IsDecided x g c.args.radius c.args.period)
-    (decided x g c.args.radius c.args.period least c.requires.goal c.in_ok-least.ensures c.requires.small most tops top c.greatest_periods-tops.ensures.value) c.search.ensures
+    let top : c.max-most.result ≡ max c.args.limits.now.radius c.in_ok-least.least = search rules in
+    IfOk-weaker c.search.result (IsDecidedBy (Suffices x g) (Refutes x g) (ShowsAt x g) (Displays x g) least most tops) (IsDecided x g c.args.limits.now.radius c.args.limits.now.period)
+    (decided x g c.args.limits.now.radius c.args.limits.now.period least c.requires.goal c.in_ok-least.ensures c.requires.small most tops top c.greatest_periods-tops.ensures.value) c.search.ensures
