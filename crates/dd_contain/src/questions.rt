@@ -1,10 +1,11 @@
 //! The questions that the search asks of boxes and of periods.
-ghost use Rattle.std.specs.Prelude.{◌≡◌, ◌+◌, ◌≤◌, length, IfOk, IfSome};
+ghost use Rattle.std.specs.Prelude.{◌≡◌, ◌+◌, ◌≤◌, true, length, IfOk, IfSome};
 ghost use Rattle.dd_formula.specs.LocalRule.{IsRule};
 ghost use Rattle.dd_boxes.specs.Boxes.{Suffices};
 ghost use Rattle.dd_boxes.specs.Goals.{IsGoalFor};
 ghost use Rattle.dd_boxes.specs.Views.{goal_of};
-ghost use Rattle.dd_certificate.specs.Bounds.{most_count};
+ghost use Rattle.dd_certificate.specs.Bounds.{most_count, IsWritableRefutation};
+ghost use Rattle.dd_derivation.specs.Derivations.{refutes};
 ghost use Rattle.dd_contain.specs.Questions.{Refutes, ShowsAt, Displays, AsksRadius, AsksPeriods, greatest_periods, IsSmallQuestion, IsDecided};
 
 use crate::decision::Decision;
@@ -16,7 +17,7 @@ use dd_formula::Rule;
 use dd_pattern::Periodic;
 use dd_problem::{box_clauses, read_torus, torus_clauses};
 use dd_refusal::Limits;
-use dd_solver::solve;
+use dd_solver::{solve, trimmed};
 use dd_values::Items;
 use std::alloc::{AllocError, Global};
 
@@ -27,6 +28,19 @@ fn last_number(cnf: &Cnf, steps: &[Step]) -> u64
 {
     let clauses = cnf.clauses();
     clauses.len() as u64 + steps.len() as u64
+}
+
+/// Of steps that refute the clauses, those that the refutation uses. An output can hold them.
+fn evidence(alloc: Global, cnf: &Cnf, steps: Items<Step>) -> Result<Items<Step>, AllocError>
+    requires { refutes cnf.now.variables cnf.now.clauses steps ≡ true }
+    ensures refuting { IfOk result (λ used. refutes cnf.now.variables cnf.now.clauses used ≡ true) }
+    ensures writable { IfOk result IsWritableRefutation }
+{
+    let used = trimmed(alloc, cnf, steps)?;
+    // They name no greater variable, and no greater number of a clause.
+    let _variable = cnf.variables();
+    let _number = last_number(cnf, used.as_slice());
+    Ok(used)
 }
 
 /// Can a configuration that obeys the premise have the goal?
@@ -53,12 +67,7 @@ impl<'a> Questions for BoxQuestion<'a> {
     fn refutation(&self, radius: u32) -> Result<Option<Items<Step>>, AllocError> {
         let cnf = box_clauses(self.alloc, self.premise, self.goal, radius)?;
         match solve(self.alloc, &cnf)? {
-            Outcome::Refuted(steps) => {
-                // The steps name no greater variable, and no greater number of a clause.
-                let _variable = cnf.variables();
-                let _number = last_number(&cnf, steps.as_slice());
-                Ok(Some(steps))
-            }
+            Outcome::Refuted(steps) => Ok(Some(evidence(self.alloc, &cnf, steps)?)),
             Outcome::Found(_) => Ok(None),
         }
     }
