@@ -1,6 +1,6 @@
 -- What the calls give from which the clauses of a torus are made.
 use Rattle.std.proofs.Common.{◌≡◌, ℕ, ◌+◌, ◌-◌, ◌*◌, ◌≤◌, ◌<◌, ◌^◌, true, List, map, length, refl, ap, sym, subst, ◌∙◌, arith, pos, ◌-ℤ◌}
-use Rattle.std.specs.Prelude.{Bool, false, Result, Ok, Err, IfOk, MatchResult, is_ok, slice_index}
+use Rattle.std.specs.Prelude.{Result, Ok, Err, IfOk, MatchResult, is_ok, slice_index}
 use Rattle.std.specs.List.{All, range_with_len}
 use Rattle.std.specs.List.Sorted.{IsStrictlySortedBy}
 use Rattle.std.proofs.lemmas.Int.{ints}

@@ -37,7 +37,7 @@ use Rattle.dd_problem.specs.Pushed.{wired_problem, is_goal_wired}
 use Rattle.dd_problem.proofs.CellOrder.{cells_ascending, cell_there}
 use Rattle.dd_problem.proofs.Matching.{Gives, Matches, GoalMatches, goal_is_wired, wired_is_problem}
 use Rattle.dd_problem.proofs.NumberedWires.{wire_there}
-use Rattle.dd_problem.proofs.TorusLayout.{torus_of, torus_size, some_period, torus_is_tile, torus_is_layout, torus_cell_at}
+use Rattle.dd_problem.proofs.TorusLayout.{torus_size, some_period, torus_is_tile, torus_is_layout, torus_cell_at}
 use Rattle.dd_problem.proofs.TorusShows.{goal_reads_torus}
 use Rattle.dd_problem.proofs.TorusReach.{question_near, premise_within, goal_within}
 

@@ -33,6 +33,7 @@ least_is : (x : LocalRule) (g : GoalOf) (least : ℕ) → IsGoalFor x g → IsLe
 least_is x (breaks y) least good is = least_is_reach y least good.0 is
 least_is x always least good is = least_is_none least is
 
-pub question_is : (x : LocalRule) (g : GoalOf) (far least n : ℕ) → IsGoalFor x g → far ≡ reach x → IsLeastRadius g least → n ≡ max far least → n ≡ question_reach x g
+pub question_is : (x : LocalRule) (g : GoalOf) (far least n : ℕ) → IsGoalFor x g → far ≡ reach x → IsLeastRadius g least →
+    n ≡ max far least → n ≡ question_reach x g
 question_is x g far least n good is_far is greater =
     greater ∙ (ap (λ k. max k least) is_far ∙ ap (max (reach x)) (least_is x g least good is))
