@@ -3,6 +3,7 @@ use super::words_of;
 use crate::run_diddy;
 use dd_outside::{MemorySink, MemorySource};
 use std::alloc::Global;
+use std::process::Abort;
 use std::test::Fail;
 
 // The lines with the answers of a run over these bytes.
@@ -23,63 +24,80 @@ fn answer_lines(alloc: Global, script: &str) -> Result<String, Fail> {
     Ok(lines)
 }
 
+// Asserts that each script has the first lines of answers that stand beside it.
+fn assert_lines(rt: &impl Abort, alloc: Global, rows: &[(&str, &str)]) -> Result<(), Fail> {
+    for (script, answers) in rows {
+        let lines = answer_lines(alloc, script)?;
+        assert_eq!(rt; lines.as_str(), *answers, "{script}");
+    }
+    Ok(())
+}
+
+// Rules that contain others or are equal to them, and the least box that shows that they are not.
+const CONTAINED_OR_EQUAL: [(&str, &str); 5] = [
+    (
+        "%rule hard o=1 -> (o.rt=0 & o.up=0) %rule row o=1 -> o.rt=0 %contains row hard %contains hard row %equal hard row",
+        "query 1 YES 1\nquery 2 NO 2 1\nquery 3 NO right 2 1\n",
+    ),
+    (
+        "%rule a !(o=1 & o.rt=1) %rule b o!=1 | o.rt!=1 %equal a b",
+        "query 1 YES 1 1\n",
+    ),
+    (
+        "%rule a o=0 %rule b o=1 %equal a b",
+        "query 1 NO left 1 1\n",
+    ),
+    (
+        "%dim 3 %rule a o=1 -> (o.rt=0 & o.up=0 & o.fw=0) %rule b o=1 -> o.fw=0 %contains b a",
+        "query 1 YES 1\n",
+    ),
+    (
+        "%alphabet 0 1 2 %rule three Ap[o1] (p~o -> p!=o) %rule diagonal o=o.rt.up %empty three %contains diagonal three",
+        "query 1 NO 2 2\nquery 2 NO 2 2\n",
+    ),
+];
+
+// With limits of boxes and periods that are reached or not.
+const LIMITS_OF_BOXES: [(&str, &str); 5] = [
+    (
+        "%dim 1 %limits 3 4 10000 %rule dies (o=1 -> o.rt=1) & !(o=1 & o.rt=1 & o.rt.rt=1) %rule zero o=0 %contains zero dies",
+        "query 1 YES 3\n",
+    ),
+    (
+        "%dim 1 %limits 2 4 10000 %rule dies (o=1 -> o.rt=1) & !(o=1 & o.rt=1 & o.rt.rt=1) %rule zero o=0 %contains zero dies",
+        "query 1 UNKNOWN limits\n",
+    ),
+    (
+        "%dim 1 %alphabet 0 1 2 %limits 4 2 10 %rule cyc (o=0 -> o.rt=1) & (o=1 -> o.rt=2) & (o=2 -> o.rt=0) %rule no o!=1 %contains no cyc",
+        "query 1 UNKNOWN limits\n",
+    ),
+    (
+        "%dim 1 %alphabet 0 1 2 %limits 4 3 10 %rule cyc (o=0 -> o.rt=1) & (o=1 -> o.rt=2) & (o=2 -> o.rt=0) %rule no o!=1 %contains no cyc",
+        "query 1 NO 3\n",
+    ),
+    (
+        "%limits 3 3 10 %rule dies (o=1 -> o.rt=1) & !(o=1 & o.rt=1 & o.rt.rt=1) %rule zero o=0 %contains zero dies",
+        "query 1 YES 3\n",
+    ),
+];
+
+// Rules of which no configuration is a member, and rules over two nodes.
+const EMPTY_OR_OF_TWO_NODES: [(&str, &str); 3] = [
+    ("%dim 1\n%rule x o=0 & o=1\n%empty x", "query 1 YES 0\n"),
+    (
+        "%topology hex %rule full o@o %rule free Ap[o1] (p~o -> !(p=1 & o=1)) %contains free full",
+        "query 1 NO 1 1\n",
+    ),
+    (
+        "%dim 1 %nodes a b %topology (x a [0] b) %rule p !(o.x=1) %rule q o.x!=1 %empty p %empty q",
+        "query 1 NO 1\nquery 2 YES 0\n",
+    ),
+];
+
 #[test]
 fn answers_box_questions(rt: HostRuntime) -> Result<(), Fail> {
     let alloc = rt.alloc();
-    let rows = [
-        (
-            "%rule hard o=1 -> (o.rt=0 & o.up=0) %rule row o=1 -> o.rt=0 %contains row hard %contains hard row %equal hard row",
-            "query 1 YES 1\nquery 2 NO 2 1\nquery 3 NO right 2 1\n",
-        ),
-        (
-            "%dim 1 %limits 3 4 10000 %rule dies (o=1 -> o.rt=1) & !(o=1 & o.rt=1 & o.rt.rt=1) %rule zero o=0 %contains zero dies",
-            "query 1 YES 3\n",
-        ),
-        (
-            "%dim 1 %limits 2 4 10000 %rule dies (o=1 -> o.rt=1) & !(o=1 & o.rt=1 & o.rt.rt=1) %rule zero o=0 %contains zero dies",
-            "query 1 UNKNOWN limits\n",
-        ),
-        (
-            "%dim 1 %alphabet 0 1 2 %limits 4 2 10 %rule cyc (o=0 -> o.rt=1) & (o=1 -> o.rt=2) & (o=2 -> o.rt=0) %rule no o!=1 %contains no cyc",
-            "query 1 UNKNOWN limits\n",
-        ),
-        (
-            "%dim 1 %alphabet 0 1 2 %limits 4 3 10 %rule cyc (o=0 -> o.rt=1) & (o=1 -> o.rt=2) & (o=2 -> o.rt=0) %rule no o!=1 %contains no cyc",
-            "query 1 NO 3\n",
-        ),
-        ("%dim 1\n%rule x o=0 & o=1\n%empty x", "query 1 YES 0\n"),
-        (
-            "%rule a !(o=1 & o.rt=1) %rule b o!=1 | o.rt!=1 %equal a b",
-            "query 1 YES 1 1\n",
-        ),
-        (
-            "%rule a o=0 %rule b o=1 %equal a b",
-            "query 1 NO left 1 1\n",
-        ),
-        (
-            "%topology hex %rule full o@o %rule free Ap[o1] (p~o -> !(p=1 & o=1)) %contains free full",
-            "query 1 NO 1 1\n",
-        ),
-        (
-            "%dim 1 %nodes a b %topology (x a [0] b) %rule p !(o.x=1) %rule q o.x!=1 %empty p %empty q",
-            "query 1 NO 1\nquery 2 YES 0\n",
-        ),
-        (
-            "%limits 3 3 10 %rule dies (o=1 -> o.rt=1) & !(o=1 & o.rt=1 & o.rt.rt=1) %rule zero o=0 %contains zero dies",
-            "query 1 YES 3\n",
-        ),
-        (
-            "%dim 3 %rule a o=1 -> (o.rt=0 & o.up=0 & o.fw=0) %rule b o=1 -> o.fw=0 %contains b a",
-            "query 1 YES 1\n",
-        ),
-        (
-            "%alphabet 0 1 2 %rule three Ap[o1] (p~o -> p!=o) %rule diagonal o=o.rt.up %empty three %contains diagonal three",
-            "query 1 NO 2 2\nquery 2 NO 2 2\n",
-        ),
-    ];
-    for (script, answers) in rows {
-        let lines = answer_lines(alloc, script)?;
-        assert_eq!(rt; lines.as_str(), answers, "{script}");
-    }
-    Ok(())
+    assert_lines(&rt, alloc, &CONTAINED_OR_EQUAL)?;
+    assert_lines(&rt, alloc, &LIMITS_OF_BOXES)?;
+    assert_lines(&rt, alloc, &EMPTY_OR_OF_TWO_NODES)
 }
