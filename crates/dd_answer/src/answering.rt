@@ -1,6 +1,7 @@
 //! Queries answered one by one.
 ghost use Rattle.std.specs.Prelude.{◌≡◌, true, IfOk, Contains};
 ghost use Rattle.dd_query.specs.declared.queries.Query.TheVariants as query;
+ghost use Rattle.dd_certificate.specs.Bounds.{IsWritable};
 ghost use Rattle.dd_answer.specs.Right.{is_answered, Right};
 
 use crate::boxes::{compared, decided};
@@ -64,8 +65,7 @@ fn empty(alloc: Global, script: &Script, rule: u32) -> Result<Answer, AllocError
     decided(alloc, script, &rules[rule as usize], &Goal::Always)
 }
 
-/// The right answer to a query of a script.
-pub fn answer(alloc: Global, script: &Script, query: &Query) -> Result<Answer, AllocError>
+fn right_answer(alloc: Global, script: &Script, query: &Query) -> Result<Answer, AllocError>
     requires asked { Contains script.now.queries query.now }
     requires answered { is_answered query.now ≡ true }
     ensures { IfOk result (Right script.now query.now) }
@@ -80,4 +80,16 @@ pub fn answer(alloc: Global, script: &Script, query: &Query) -> Result<Answer, A
         Query::Empty { rule } => empty(alloc, script, *rule),
         _ => unreachable!(),
     }
+}
+
+/// The right answer to a query of a script, with each number and each list within the bounds of an output.
+pub fn answer(alloc: Global, script: &Script, query: &Query) -> Result<Answer, AllocError>
+    requires asked { Contains script.now.queries query.now }
+    requires answered { is_answered query.now ≡ true }
+    ensures right { IfOk result (Right script.now query.now) }
+    ensures writable { IfOk result IsWritable }
+{
+    // What a script keeps bounds the answer.
+    let _limits = script.limits();
+    right_answer(alloc, script, query)
 }

@@ -89,7 +89,7 @@ pub(crate) fn decided(
     ensures { IfOk result (IsRightBox script.now premise.now (goal_of goal.now)) }
 {
     let limits = script.limits();
-    let decision = decide(alloc, premise, goal, limits.radius, limits.period)?;
+    let decision = decide(alloc, premise, goal, limits)?;
     written_decision(alloc, decision)
 }
 
@@ -107,6 +107,6 @@ pub(crate) fn compared(
     ensures { IfOk result (IsRightEqual script.now left.now right.now) }
 {
     let limits = script.limits();
-    let equality = decide_equal(alloc, left, right, limits.radius, limits.period)?;
+    let equality = decide_equal(alloc, left, right, limits)?;
     written_equality(alloc, equality)
 }

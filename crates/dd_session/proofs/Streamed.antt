@@ -8,6 +8,7 @@ use Rattle.dd_outside.specs.Bytes.{GainsFront}
 use Rattle.dd_outside.proofs.Told.{front_after}
 use Rattle.dd_certificate.specs.declared.answer.Answer.{Answer}
 use Rattle.dd_certificate.specs.Text.{answer_text}
+use Rattle.dd_certificate.specs.Bounds.{IsWritable}
 use Rattle.dd_query.specs.declared.queries.Query.{Query}
 use Rattle.dd_answer.specs.Right.{Right}
 use Rattle.dd_script.specs.Parts.{Parts}
@@ -30,12 +31,12 @@ AllRight-append s [] rs [] ys p same r = r
 AllRight-append s [] rs (x ∷ xs) ys p same r = absurd p
 AllRight-append s (q ∷ qs) rs [] ys p same r = absurd (omega (arith, same))
 AllRight-append s (q ∷ qs) rs (x ∷ xs) ys p same r =
-    let fewer : length xs ≡ length qs = omega (arith, same) in (p.0, AllRight-append s qs rs xs ys p.1 fewer r)
+    let fewer : length xs ≡ length qs = omega (arith, same) in (p.0, p.1, AllRight-append s qs rs xs ys p.2 fewer r)
 
 AllRight-more : (s : Parts) (qs rs : List Query) (xs : List Answer) → AllRight s qs xs → AllRight s (qs ++ rs) xs
 AllRight-more s qs rs [] p = tt
 AllRight-more s [] rs (x ∷ xs) p = absurd p
-AllRight-more s (q ∷ qs) rs (x ∷ xs) p = (p.0, AllRight-more s qs rs xs p.1)
+AllRight-more s (q ∷ qs) rs (x ∷ xs) p = (p.0, p.1, AllRight-more s qs rs xs p.2)
 
 has_unknown-append : (xs ys : List Answer) → has_unknown (xs ++ ys) ≡ (has_unknown xs || has_unknown ys)
 has_unknown-append [] ys = refl
@@ -50,10 +51,10 @@ has_unknown-append (x ∷ xs) ys =
 
 -- One answer was written.
 pub answered_one : (a b : Option (List ℕ)) (s : Parts) (q : Query) (text : List ℕ) (number : ℕ) (x : Answer) (u : Bool)
-    → Right s q x → u ≡ is_unknown x → text ≡ answer_text number x → Appends a b text → Answered a b s (q ∷ []) number u
-answered_one a b s q text number x u is_right known is_text written = record {
+    → Right s q x → IsWritable x → u ≡ is_unknown x → text ≡ answer_text number x → Appends a b text → Answered a b s (q ∷ []) number u
+answered_one a b s q text number x u is_right fits known is_text written = record {
   answers = x ∷ [];
-  right = (is_right, tt);
+  right = (is_right, fits, tt);
   each = refl;
   unknown_is = or_false (is_unknown x) ∙ sym known;
   appends = subst (Appends a b) (is_text ∙ sym (append-nil (answer_text number x))) written;
@@ -64,10 +65,10 @@ answered_one a b s q text number x u is_right known is_text written = record {
     or_false false = refl
 
 pub front_of_one : (a b : Option (List ℕ)) (s : Parts) (q : Query) (text : List ℕ) (number : ℕ) (x : Answer)
-    → Right s q x → text ≡ answer_text number x → GainsFront a b text → AnsweredFront a b s (q ∷ []) number
-front_of_one a b s q text number x is_right is_text front = record {
+    → Right s q x → IsWritable x → text ≡ answer_text number x → GainsFront a b text → AnsweredFront a b s (q ∷ []) number
+front_of_one a b s q text number x is_right fits is_text front = record {
   answers = x ∷ [];
-  right = (is_right, tt);
+  right = (is_right, fits, tt);
   front = subst (GainsFront a b) (is_text ∙ sym (append-nil (answer_text number x))) front;
 }
 

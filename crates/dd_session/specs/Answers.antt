@@ -4,6 +4,7 @@ use Rattle.std.specs.List.{list_all}
 use Rattle.dd_certificate.specs.declared.answer.Answer.{Answer}
 use Rattle.dd_certificate.specs.declared.answer.Answer.TheVariants as answer
 use Rattle.dd_certificate.specs.Text.{answer_text}
+use Rattle.dd_certificate.specs.Bounds.{IsWritable}
 use Rattle.dd_query.specs.declared.queries.Query.{Query}
 use Rattle.dd_script.specs.Parts.{Parts}
 use Rattle.dd_answer.specs.Right.{Right, is_answered}
@@ -25,11 +26,11 @@ abbrev pub has_unknown : List Answer → Bool
 has_unknown [] = false
 has_unknown (a ∷ answers) = is_unknown a || has_unknown answers
 
--- the answers are right for the first of the queries, in order
+-- the answers are right for the first of the queries, in order, and an output can hold each
 abbrev pub AllRight : Parts → List Query → List Answer → Type 0
 AllRight s queries [] = ⊤
 AllRight s [] (a ∷ answers) = ⊥
-AllRight s (q ∷ queries) (a ∷ answers) = Right s q a × AllRight s queries answers
+AllRight s (q ∷ queries) (a ∷ answers) = Right s q a × IsWritable a × AllRight s queries answers
 
 -- the texts of answers to the queries from a number on
 abbrev pub texts : ℕ → List Answer → List ℕ

@@ -144,7 +144,8 @@ fn run<S: Source, K: Sink>(alloc: Global, source: &mut S, sink: &mut K) -> Statu
 }
 
 /// Runs a session by the words after the program's name, of which there is one, `run`: it reads a
-/// script from the source and writes its output, with an answer to each query, to the sink.
+/// script from the source and writes its output, with a right answer to each query, to the sink. Each number and
+/// each list of an answer is within the bounds of an output.
 ///
 /// An input of more than 1,048,576 bytes is refused by the line `refused long`; one that is no script by
 /// `refused C KIND`, with the number of the command and what is wrong with it; and a script with a query
@@ -161,7 +162,7 @@ pub fn run_diddy<S: Source, K: Sink>(
     ensures untouched { result ≡ Status.BadWords → (source.new ≡ source.old) × (sink.new ≡ sink.old) }
     ensures decided { (bytes : List ℕ) → S.left source.old ≡ Some bytes → Decides bytes result }
 
-    // Every query has a right answer, and the whole output was written.
+    // Every query has a right answer that an output can hold, and the whole output was written.
     ensures definite { result ≡ Status.Definite → RanWhole (S.left source.old) (S.left source.new) (K.held sink.old) (K.held sink.new) false }
     ensures some_unknown { result ≡ Status.SomeUnknown → RanWhole (S.left source.old) (S.left source.new) (K.held sink.old) (K.held sink.new) true }
     ensures refused { result ≡ Status.Refused → RefusedWhole (S.left source.old) (S.left source.new) (K.held sink.old) (K.held sink.new) }
