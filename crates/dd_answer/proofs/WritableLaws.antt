@@ -66,12 +66,14 @@ place_writable d t c some most tile few at =
     let on_z : IsWritableSigned c.position.z = coordinate_fits c.position.z t.along_z tile.z_some short.2 (ap (λ (p : Place). p.z) at.base) in
     let node : IsWritableSigned (pos c.node) = (let below = at.node in omega (arith, below, few)) in
     let each : All IsWritableSigned all = All-cons IsWritableSigned c.position.x (c.position.y ∷ c.position.z ∷ []) on_x
-        (All-cons IsWritableSigned c.position.y (c.position.z ∷ []) on_y (All-cons IsWritableSigned c.position.z [] on_z (All-nil IsWritableSigned))) in
+    (All-cons IsWritableSigned c.position.y (c.position.z ∷ []) on_y (All-cons IsWritableSigned c.position.z [] on_z (All-nil IsWritableSigned))) in
     let many : length (take d all ++ pos c.node ∷ []) ≡ d + 1 =
-    length-append (take d all) (pos c.node ∷ []) ∙ (let those : length (take d all) ≡ d = length-take-le d all most in omega (arith, those)) in
-    (omega (arith, many, some), omega (arith, many, most),
-    All-append IsWritableSigned (take d all) (pos c.node ∷ []) (All-take IsWritableSigned d all each)
-    (All-cons IsWritableSigned (pos c.node) [] node (All-nil IsWritableSigned)))
+    length-append (take d all) (pos c.node ∷ []) ∙ (let those : length (take d all) ≡ d = length-take-le d all most in omega (arith, those)) in (
+      omega (arith, many, some),
+      omega (arith, many, most),
+      All-append IsWritableSigned (take d all) (pos c.node ∷ []) (All-take IsWritableSigned d all each)
+          (All-cons IsWritableSigned (pos c.node) [] node (All-nil IsWritableSigned)),
+    )
 
 member_writable : (x : LocalRule) (t : Tile) (a : Answer) → IsRule x → IsTile t → t.nodes ≤ 4 → IsRightMember x t a → IsWritable a
 member_writable x t answer.Inside rule tile few right = tt
@@ -90,18 +92,19 @@ no_writable : (s : Side) (x : LocalRule) (t : Tile) → IsRule x → IsTile t �
 no_writable s x t rule tile fits on_x on_y on_z =
     let all = t.along_x ∷ t.along_y ∷ t.along_z ∷ [] in
     let each : All IsWritableNumber all = All-cons IsWritableNumber t.along_x (t.along_y ∷ t.along_z ∷ []) (omega (arith, on_x))
-        (All-cons IsWritableNumber t.along_y (t.along_z ∷ []) (omega (arith, on_y))
-        (All-cons IsWritableNumber t.along_z [] (omega (arith, on_z)) (All-nil IsWritableNumber))) in
+    (All-cons IsWritableNumber t.along_y (t.along_z ∷ []) (omega (arith, on_y))
+    (All-cons IsWritableNumber t.along_z [] (omega (arith, on_z)) (All-nil IsWritableNumber))) in
     let low = tile.some_dimension in
     let high = tile.most_dimension in
     let many : length (written_periods t) ≡ t.dimension = length-take-le t.dimension all high in
     let some : 1 ≤ volume t * t.nodes =
     product_some (volume t) t.nodes (product_some (t.along_z * t.along_y) t.along_x (product_some t.along_z t.along_y tile.z_some tile.y_some) tile.x_some) tile.nodes_some in
     let full = tile.full in
-    let alphabet = rule.symbols.1 in
-    (omega (arith, many, high),
-    (omega (arith, many, low), All-take IsWritableNumber t.dimension all each),
-    (omega (arith, some, full), All-weaker (λ (n : ℕ). n < x.symbols) IsWritableNumber (λ n below. omega (arith, below, alphabet)) t.symbols fits.symbols))
+    let alphabet = rule.symbols.1 in (
+      omega (arith, many, high),
+      (omega (arith, many, low), All-take IsWritableNumber t.dimension all each),
+      (omega (arith, some, full), All-weaker (λ (n : ℕ). n < x.symbols) IsWritableNumber (λ n below. omega (arith, below, alphabet)) t.symbols fits.symbols),
+    )
 
 found_writable : (s : Side) (x : LocalRule) (g : GoalOf) (n p : ℕ) (t : Tile) → IsRule x → p ≤ 8 → IsDecided x g n p (decision.No t) → IsWritable (written_no s t)
 found_writable s x g n p t rule few decided =
