@@ -1,5 +1,5 @@
 -- An output can hold each right answer: radii, periods, symbols and places are small, and the steps are those of a refutation.
-use Rattle.std.proofs.Common.{◌≡◌, ℕ, ◌+◌, ◌*◌, ◌≤◌, ◌<◌, Bool, true, false, cond, List, [], ◌∷◌, ◌++◌, length, take, get_or, slice_get, All, Some, ap, sym, subst, ◌∙◌, arith, max, ℤ, pos, unsigned_abs, length-append}
+use Rattle.std.proofs.Common.{◌≡◌, ℕ, ◌+◌, ◌*◌, ◌≤◌, ◌<◌, Bool, true, false, cond, List, [], ◌∷◌, ◌++◌, length, take, slice_get, All, Some, ap, sym, subst, ◌∙◌, arith, max, ℤ, pos, unsigned_abs, length-append}
 use Rattle.std.specs.Prelude.{◌==◌, ◌&&◌}
 use Rattle.std.proofs.lemmas.Bool.{and_parts, eqb-true}
 use Rattle.std.proofs.lemmas.Nat.{mul-le}
@@ -22,9 +22,8 @@ use Rattle.dd_certificate.specs.declared.answer.Side.TheVariants as side
 use Rattle.dd_certificate.specs.Bounds.{IsWritable, IsWritableNumber, IsWritableSigned}
 use Rattle.dd_contain.specs.declared.decision.Decision.{Decision}
 use Rattle.dd_contain.specs.declared.decision.Decision.TheVariants as decision
-use Rattle.dd_contain.specs.declared.equal.Equality.{Equality}
 use Rattle.dd_contain.specs.Questions.{IsDecided}
-use Rattle.dd_contain.specs.Equal.{joined, UnlessNo, IsEqualDecided}
+use Rattle.dd_contain.specs.Equal.{joined, UnlessNo}
 use Rattle.dd_contain.proofs.LimitLaws.{least_small}
 use Rattle.dd_definition.specs.Definitions.{IsConfigurationOf}
 use Rattle.dd_header.specs.Sound.{numbers_of}
