@@ -41,13 +41,10 @@ coordinate_fits z n some few is =
     let same : residue z n ≡ unsigned_abs z = ap unsigned_abs is in
     omega (arith, below, same, few)
 
-product_some : (a b : ℕ) → 1 ≤ a → 1 ≤ b → 1 ≤ a * b
-product_some a b h g = mul-le 1 1 a b h g
-
 -- each period of a configuration is at most the number of its symbols
 periods_few : (x y z nodes : ℕ) → 1 ≤ x → 1 ≤ y → 1 ≤ z → 1 ≤ nodes → z * y * x * nodes ≤ 65536 → (x ≤ 65536) × (y ≤ 65536) × (z ≤ 65536)
 periods_few x y z nodes on_x on_y on_z some few =
-    let plane : 1 ≤ z * y = product_some z y on_z on_y in
+    let plane : 1 ≤ z * y = mul-le 1 1 z y on_z on_y in
     let for_x : 1 * x * 1 ≤ z * y * x * nodes = mul-le (1 * x) 1 (z * y * x) nodes (mul-le 1 x (z * y) x plane (omega arith)) some in
     let for_y : 1 * y * 1 * 1 ≤ z * y * x * nodes =
     mul-le (1 * y * 1) 1 (z * y * x) nodes (mul-le (1 * y) 1 (z * y) x (mul-le 1 y z y on_z (omega arith)) on_x) some in
@@ -97,7 +94,7 @@ no_writable s x t rule tile fits on_x on_y on_z =
     let high = tile.most_dimension in
     let many : length (written_periods t) ≡ t.dimension = length-take-le t.dimension all high in
     let some : 1 ≤ volume t * t.nodes =
-    product_some (volume t) t.nodes (product_some (t.along_z * t.along_y) t.along_x (product_some t.along_z t.along_y tile.z_some tile.y_some) tile.x_some) tile.nodes_some in
+    mul-le 1 1 (volume t) t.nodes (mul-le 1 1 (t.along_z * t.along_y) t.along_x (mul-le 1 1 t.along_z t.along_y tile.z_some tile.y_some) tile.x_some) tile.nodes_some in
     let full = tile.full in
     let alphabet = rule.symbols.1 in (
       omega (arith, many, high),
