@@ -3,7 +3,5 @@
 
 mod evaluation;
 mod gates;
-#[cfg(test)]
-mod tests;
 
 pub use gates::{Circuit, Gate, Signal};

@@ -2,7 +2,5 @@
 #![tactic(auto)]
 
 mod encoding;
-#[cfg(test)]
-mod tests;
 
 pub use encoding::{encode, literal_of, push_clause, push_gate, push_gates};

@@ -4,8 +4,6 @@
 mod compiling;
 mod inputs;
 mod rules;
-#[cfg(test)]
-mod tests;
 
 pub use compiling::{compile_expanded, is_wired};
 pub use inputs::Inputs;

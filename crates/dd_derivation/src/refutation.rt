@@ -195,6 +195,3 @@ pub fn check_step(cnf: &Cnf, steps: &[Step], index: usize, marks: &mut Marks) ->
         marks.variables.as_mut_slice(),
     )
 }
-
-#[cfg(test)]
-mod tests;

@@ -164,6 +164,3 @@ fn in_lowest_terms(num: i128, den: u128) -> Fraction
 {
     Fraction { num, den }
 }
-
-#[cfg(test)]
-mod tests;

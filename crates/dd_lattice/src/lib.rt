@@ -8,8 +8,6 @@ mod merging;
 mod ordering;
 mod position;
 mod region;
-#[cfg(test)]
-mod tests;
 
 pub use bounds::{Box3, centred_box};
 pub use fault::LatticeFault;

@@ -14,6 +14,3 @@ pub use quiet::{QuietSink, QuietSource};
 pub use sink::{Sink, write_whole};
 pub use source::{Source, read_all};
 pub use standard::{StdSink, StdSource};
-
-#[cfg(test)]
-mod tests;

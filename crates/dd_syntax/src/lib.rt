@@ -9,8 +9,6 @@ mod keywords;
 mod laws;
 mod lists;
 mod script;
-#[cfg(test)]
-mod tests;
 
 pub use command::{Case, Command, Edge, Entry, Kind, Offset};
 pub use dd_grammar::{Atom, Ball, Formula, Join, Name, Number, Quantor, Side, Term, Word};

@@ -3,8 +3,6 @@
 
 mod cutting;
 mod piece;
-#[cfg(test)]
-mod tests;
 mod token;
 
 pub use cutting::tokens;

@@ -8,6 +8,8 @@ mod clauses;
 #[cfg(test)]
 mod fillings;
 #[cfg(test)]
+mod inputs;
+#[cfg(test)]
 mod questions;
 #[cfg(test)]
 mod scripts;

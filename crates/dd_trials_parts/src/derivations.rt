@@ -1,0 +1,206 @@
+use dd_clause::{Clause, Cnf, Literal};
+use dd_derivation::{Marks, Step, check_refutation, check_step};
+use dd_values::Items;
+use std::alloc::{AllocError, Global};
+use std::process::Abort;
+use std::test::Fail;
+
+fn clause_of(alloc: Global, numbers: &[i32]) -> Result<Clause, AllocError> {
+    let mut literals = Vec::new(alloc);
+    for number in numbers {
+        literals.push(Literal {
+            variable: number.unsigned_abs(),
+            positive: *number > 0,
+        })?;
+    }
+    Clause::from_literals(alloc, literals.as_slice())
+}
+
+/// The clauses over three variables whose numbers are each ended by 0. A clause out of range is left out.
+fn cnf_of(alloc: Global, numbers: &[i32]) -> Result<Cnf, AllocError> {
+    let mut cnf = Cnf::new(alloc, 3);
+    for clause in numbers.split(|number| *number == 0) {
+        let clause = clause_of(alloc, clause)?;
+        if !clause.literals().is_empty() && cnf.is_in_range(&clause) {
+            cnf.push(clause)?;
+        }
+    }
+    Ok(cnf)
+}
+
+/// The steps whose literals, hints and deletes are each ended by 0.
+fn steps_of(alloc: Global, numbers: &[i32]) -> Result<Vec<Step>, AllocError> {
+    let mut steps = Vec::new(alloc);
+    let mut literals = Vec::new(alloc);
+    let mut hints = Vec::new(alloc);
+    let mut deletes = Vec::new(alloc);
+    let mut part = 0;
+    for number in numbers {
+        if *number != 0 {
+            match part {
+                0 => literals.push(*number)?,
+                1 => hints.push(u64::from(number.unsigned_abs()))?,
+                _ => deletes.push(u64::from(number.unsigned_abs()))?,
+            }
+        } else if part < 2 {
+            part += 1;
+        } else {
+            steps.push(Step {
+                clause: clause_of(alloc, literals.as_slice())?,
+                hints: Items::from_slice(alloc, hints.as_slice())?,
+                deletes: Items::from_slice(alloc, deletes.as_slice())?,
+            })?;
+            literals.clear();
+            hints.clear();
+            deletes.clear();
+            part = 0;
+        }
+    }
+    Ok(steps)
+}
+
+// The variable 3 is the conjunction of 1 and 2, of which one has to be true and one false, and 3 is true.
+const GATE_IS_TRUE: [i32; 18] = [1, 2, 0, -1, -2, 0, -3, 1, 0, -3, 2, 0, 3, -1, -2, 0, 3, 0];
+
+/// What the check says of the steps, and what it says with the same marks after the last step was checked alone.
+fn check_twice(alloc: Global, clauses: &[i32], steps: &[i32]) -> Result<[bool; 2], AllocError> {
+    let cnf = cnf_of(alloc, clauses)?;
+    let steps = steps_of(alloc, steps)?;
+    let mut marks = Marks::new(alloc, &cnf, steps.as_slice())?;
+    let first = check_refutation(&cnf, steps.as_slice(), &mut marks);
+    if !steps.is_empty() {
+        check_step(&cnf, steps.as_slice(), steps.len() - 1, &mut marks);
+    }
+    let second = check_refutation(&cnf, steps.as_slice(), &mut marks);
+    Ok([first, second])
+}
+
+/// Asserts what is said of each list of steps for the gate, both times.
+fn assert_checks(
+    rt: &impl Abort,
+    alloc: Global,
+    cases: &[(&[i32], bool)],
+) -> Result<(), AllocError> {
+    for (steps, want) in cases {
+        let found = check_twice(alloc, GATE_IS_TRUE.as_slice(), steps)?;
+        assert_eq!(rt; found, [*want; 2], "{steps:?}");
+    }
+    Ok(())
+}
+
+/// Steps that need no others, and whether they are a refutation.
+const HINTS_OF_ONE_STEP: [(&[i32], bool); 14] = [
+    (&[0, 6, 3, 4, 2, 0, 0], true),
+    (&[0, 6, 3, 4, 2, 0, 6, 0], true),
+    (&[0, 6, 3, 4, 2, 0, 1, 2, 3, 4, 5, 6, 0], true),
+    // no step, no hint, a hint left out, one that is too many
+    (&[], false),
+    (&[0, 0, 0], false),
+    (&[0, 6, 4, 2, 0, 0], false),
+    (&[0, 6, 3, 4, 2, 5, 0, 0], false),
+    // a literal that is true already, two that are not false, a number that is not there
+    (&[0, 6, 3, 3, 4, 2, 0, 0], false),
+    (&[0, 1, 6, 3, 4, 2, 0, 0], false),
+    (&[0, 7, 6, 3, 4, 2, 0, 0], false),
+    // a number deleted twice, and one that is not there
+    (&[0, 6, 3, 4, 2, 0, 6, 6, 0], false),
+    (&[0, 6, 3, 4, 2, 0, 7, 0], false),
+    // the last clause is not empty
+    (&[1, 0, 6, 3, 0, 0], false),
+    (&[0, 6, 3, 4, 2, 0, 0, 1, 0, 6, 3, 0, 0], false),
+];
+
+#[test]
+fn follows_the_hints_of_one_step(rt: HostRuntime) -> Result<(), Fail> {
+    assert_checks(&rt, rt.alloc(), &HINTS_OF_ONE_STEP)?;
+    Ok(())
+}
+
+/// The literals 1 and 2 and then the empty clause, each from what stands before it.
+const BOTH_AND_NOTHING: &[i32] = &[1, 0, 6, 3, 0, 0, 2, 0, 6, 4, 0, 0, 0, 7, 8, 2, 0, 0];
+
+/// Steps that are checked in turn, and whether they are a refutation.
+const STEPS_IN_TURN: [(&[i32], bool); 9] = [
+    (BOTH_AND_NOTHING, true),
+    (
+        &[1, 0, 6, 3, 0, 3, 0, 2, 0, 6, 4, 0, 0, 0, 7, 8, 2, 0, 0],
+        true,
+    ),
+    (&[0, 6, 3, 4, 2, 0, 0, 0, 6, 3, 4, 2, 0, 0], true),
+    // hints on clauses that were deleted, of the list and of a step
+    (
+        &[1, 0, 6, 3, 0, 6, 0, 2, 0, 6, 4, 0, 0, 0, 7, 8, 2, 0, 0],
+        false,
+    ),
+    (
+        &[1, 0, 6, 3, 0, 0, 2, 0, 6, 4, 0, 7, 0, 0, 7, 8, 2, 0, 0],
+        false,
+    ),
+    // a step that deletes itself
+    (&[1, 0, 6, 3, 0, 7, 0, 0, 6, 3, 4, 2, 0, 0], false),
+    // a variable twice, with one sign and with both, and one out of range
+    (&[1, 1, 0, 6, 3, 0, 0, 0, 6, 3, 4, 2, 0, 0], false),
+    (&[1, -1, 0, 6, 3, 0, 0, 0, 6, 3, 4, 2, 0, 0], false),
+    (&[4, 1, 0, 6, 3, 0, 0, 0, 6, 3, 4, 2, 0, 0], false),
+];
+
+#[test]
+fn takes_the_steps_in_turn(rt: HostRuntime) -> Result<(), Fail> {
+    assert_checks(&rt, rt.alloc(), &STEPS_IN_TURN)?;
+    Ok(())
+}
+
+#[test]
+fn a_literal_that_stands_twice_in_a_clause_counts_once(rt: HostRuntime) -> Result<(), Fail> {
+    let twice = [1, 1, 0, -1, 0];
+    for steps in [[0, 1, 2, 0, 0], [0, 2, 1, 0, 0]] {
+        let found = check_twice(rt.alloc(), twice.as_slice(), steps.as_slice())?;
+        assert_eq!(rt; found, [true; 2]);
+    }
+    Ok(())
+}
+
+/// The clauses of 9, and of -9 and 1, each with the first of the list as its hint, and then 1 from both: no variable is 9.
+const OUT_OF_RANGE: &[i32] = &[9, 0, 1, 0, 0, -9, 1, 0, 1, 0, 0, 1, 0, 7, 8, 0, 0];
+
+/// Steps, the place of the one that is checked after those before it, and whether it is right.
+const STEPS_AFTER_EARLIER_ONES: [(&[i32], usize, bool); 10] = [
+    (BOTH_AND_NOTHING, 0, true),
+    (BOTH_AND_NOTHING, 1, true),
+    (BOTH_AND_NOTHING, 2, true),
+    // what an earlier step deletes is gone, also where that step is not right
+    (&[1, 0, 6, 3, 0, 3, 3, 0, 2, 0, 6, 4, 0, 0], 1, true),
+    (&[1, 0, 6, 3, 0, 3, 3, 0, 1, 0, 6, 3, 0, 0], 1, false),
+    (
+        &[1, 0, 6, 3, 0, 8, 0, 2, 0, 6, 4, 0, 0, 0, 7, 8, 2, 0, 0],
+        2,
+        false,
+    ),
+    // earlier steps may name a variable out of range, which hints give a value
+    (OUT_OF_RANGE, 0, false),
+    (OUT_OF_RANGE, 2, true),
+    (
+        &[9, 0, 1, 0, 0, -9, 1, 0, 1, 0, 0, 1, 0, 8, 7, 0, 0],
+        2,
+        true,
+    ),
+    (
+        &[9, 0, 1, 0, 0, -9, 1, 0, 1, 0, 0, 1, 0, 7, 7, 8, 0, 0],
+        2,
+        false,
+    ),
+];
+
+#[test]
+fn checks_a_step_after_earlier_ones(rt: HostRuntime) -> Result<(), Fail> {
+    let alloc = rt.alloc();
+    let cnf = cnf_of(alloc, GATE_IS_TRUE.as_slice())?;
+    for (numbers, index, want) in STEPS_AFTER_EARLIER_ONES {
+        let steps = steps_of(alloc, numbers)?;
+        let mut marks = Marks::new(alloc, &cnf, steps.as_slice())?;
+        assert!(rt; index < steps.len());
+        let is_right = check_step(&cnf, steps.as_slice(), index, &mut marks);
+        assert_eq!(rt; is_right, want, "step {index} of {numbers:?}");
+    }
+    Ok(())
+}

@@ -1,0 +1,110 @@
+ghost use Rattle.std.specs.Prelude.{◌≡◌};
+ghost use Rattle.dd_circuit.specs.Circuits.{signal_of, opposite};
+
+use dd_circuit::{Circuit, Signal};
+use dd_clause::{Assignment, Cnf, satisfies};
+use dd_cnf::encode;
+use std::alloc::{AllocError, Global};
+use std::process::Abort;
+use std::test::Fail;
+
+fn plus(variable: u32) -> Signal
+    ensures { result ≡ signal_of variable }
+{
+    Signal {
+        variable,
+        positive: true,
+    }
+}
+
+fn minus(variable: u32) -> Signal
+    ensures { result ≡ opposite (signal_of variable) }
+{
+    plus(variable).opposite()
+}
+
+/// The clauses with signed numbers, as in a DIMACS file.
+fn numbered(alloc: Global, cnf: &Cnf) -> Result<Vec<Vec<i64>>, AllocError> {
+    let mut clauses = Vec::new(alloc);
+    for clause in cnf.clauses() {
+        let mut numbers = Vec::new(alloc);
+        for literal in clause.literals() {
+            let variable = i64::from(literal.variable);
+            numbers.push(if literal.positive {
+                variable
+            } else {
+                -variable
+            })?;
+        }
+        clauses.push(numbers)?;
+    }
+    Ok(clauses)
+}
+
+fn assert_clauses(
+    rt: &impl Abort,
+    alloc: Global,
+    cnf: &Cnf,
+    wanted: &[&[i64]],
+) -> Result<(), AllocError> {
+    let clauses = numbered(alloc, cnf)?;
+    assert_eq!(rt; clauses.len(), wanted.len());
+    for (clause, numbers) in clauses.iter().zip(wanted) {
+        assert_eq!(rt; clause.as_slice(), *numbers);
+    }
+    Ok(())
+}
+
+#[test]
+fn a_conjunction_of_two_inputs(rt: HostRuntime) -> Result<(), Fail> {
+    let alloc = rt.alloc();
+    let mut circuit = Circuit::new(alloc, 2);
+    circuit.and(&[plus(1), plus(2)])?;
+    let cnf = encode(alloc, &circuit)?;
+    assert_eq!(rt; cnf.variables(), 3);
+    assert_clauses(&rt, alloc, &cnf, &[&[-3, 1], &[-3, 2], &[3, -1, -2]])?;
+    let values = circuit.value(alloc, &[true, false])?;
+    assert!(rt; satisfies(&cnf, &Assignment::new(values)));
+    Ok(())
+}
+
+#[test]
+fn gates_of_no_one_and_three_members(rt: HostRuntime) -> Result<(), Fail> {
+    let alloc = rt.alloc();
+    let mut circuit = Circuit::new(alloc, 3);
+    circuit.and(&[])?;
+    circuit.and(&[minus(1)])?;
+    circuit.and(&[plus(1), minus(2), plus(3)])?;
+    circuit.or(&[])?;
+    circuit.or(&[minus(1)])?;
+    circuit.or(&[plus(1), minus(2), plus(3)])?;
+    circuit.iff(plus(1), minus(2))?;
+    let cnf = encode(alloc, &circuit)?;
+    assert_eq!(rt; cnf.variables(), 10);
+    assert_clauses(
+        &rt,
+        alloc,
+        &cnf,
+        &[
+            &[4],
+            &[-5, -1],
+            &[5, 1],
+            &[-6, 1],
+            &[-6, -2],
+            &[-6, 3],
+            &[6, -1, 2, -3],
+            &[-7],
+            &[8, 1],
+            &[-8, -1],
+            &[9, -1],
+            &[9, 2],
+            &[9, -3],
+            &[-9, 1, -2, 3],
+            &[-10, -1, -2],
+            &[-10, 1, 2],
+            &[10, 1, -2],
+            &[10, -1, 2],
+        ],
+    )?;
+    Ok(())
+}

@@ -1,0 +1,109 @@
+use dd_fraction::Fraction;
+use std::cmp::Ordering;
+
+const P62: i128 = 4611686018427387904;
+
+const P63: i128 = 9223372036854775808;
+
+const P64: i128 = 18446744073709551616;
+
+const P126: i128 = 85070591730234615865843651857942052864;
+
+const MAX: i128 = i128::MAX;
+
+const MIN: i128 = i128::MIN;
+
+#[derive(Clone, Copy, Debug)]
+enum Call {
+    Over,
+    Add,
+    Sub,
+    Mul,
+    Div,
+}
+
+// `Over` makes each operand's numerators a fraction; the other calls are those of their name.
+fn answer(call: Call, left: &Fraction, right: &Fraction) -> Option<(i128, i128)> {
+    let result = match call {
+        Call::Over => Fraction::new(left.num(), right.num()),
+        Call::Add => left.add(right),
+        Call::Sub => left.sub(right),
+        Call::Mul => left.mul(right),
+        Call::Div => {
+            if right.num() == 0 {
+                None
+            } else {
+                left.div(right)
+            }
+        }
+    };
+    result.map(|fraction| (fraction.num(), fraction.den()))
+}
+
+#[test]
+fn gives_the_exact_fraction_or_none(rt: HostRuntime) {
+    let cases = [
+        (Call::Over, (4, 1), (-6, 1), Some((-2, 3))),
+        (Call::Over, (-4, 1), (-6, 1), Some((2, 3))),
+        (Call::Over, (0, 1), (-5, 1), Some((0, 1))),
+        (Call::Over, (1, 1), (0, 1), None),
+        (Call::Over, (-MAX, 1), (MAX, 1), Some((-1, 1))),
+        (Call::Mul, (6, 4), (10, -9), Some((-5, 3))),
+        (Call::Mul, (P63, 1), (P63, 1), Some((P126, 1))),
+        (Call::Mul, (P64, 1), (P63, 1), None),
+        (Call::Mul, (-P64, 1), (P63, 1), None),
+        // 2^126 / 3 · 3 / 2 is 2^125, and the product of the numerators is 3 · 2^126.
+        (Call::Mul, (P126, 3), (3, 2), None),
+        (Call::Div, (1, 2), (-1, 3), Some((-3, 2))),
+        (Call::Div, (1, P63), (P63, 1), Some((1, P126))),
+        (Call::Div, (P64, 1), (1, P63), None),
+        (Call::Div, (1, P64), (-P63, 1), None),
+        (Call::Add, (1, 2), (1, 3), Some((5, 6))),
+        (Call::Add, (1, 6), (1, 3), Some((1, 2))),
+        (Call::Add, (P126, 1), (P126 - 1, 1), Some((MAX, 1))),
+        (Call::Add, (P126, 1), (P126, 1), None),
+        // Twice 1 / 2^64 is 1 / 2^63, and the product of the denominators is 2^128.
+        (Call::Add, (1, P64), (1, P64), None),
+        // 2^126 - 2^126 / 3 fits, and the cross product 3 · 2^126 does not.
+        (Call::Add, (P126, 1), (-P126, 3), None),
+        (Call::Sub, (1, 2), (1, 3), Some((1, 6))),
+        (Call::Sub, (1, 2), (1, 2), Some((0, 1))),
+        (Call::Sub, (-P126, 1), (P126 - 1, 1), Some((-MAX, 1))),
+        (Call::Sub, (-P126, 1), (P126, 1), None),
+    ];
+    for (call, left, right, want) in cases {
+        let left = Fraction::new(left.0, left.1).expect(&rt, "the left operand is a fraction");
+        let right = Fraction::new(right.0, right.1).expect(&rt, "the right operand is a fraction");
+        assert_eq!(rt;
+            answer(call, &left, &right),
+            want,
+            "{call:?} of {left:?} and {right:?}"
+        );
+    }
+    assert!(rt; Fraction::new(MIN, 1).is_none());
+    assert!(rt; Fraction::new(1, MIN).is_none());
+}
+
+#[test]
+fn compares_where_cross_products_pass_128_bits(rt: HostRuntime) {
+    let cases = [
+        // 1 + 1 / (MAX - 1) and 1 + 1 / (MAX - 2)
+        ((MAX, MAX - 1), (MAX - 1, MAX - 2), Ordering::Less),
+        ((-MAX, MAX - 1), (MAX - 1, 2 - MAX), Ordering::Greater),
+        ((1, -2), (1, 3), Ordering::Less),
+        ((1, 3), (-1, 2), Ordering::Greater),
+        ((-1, 2), (-1, 3), Ordering::Less),
+        ((3, -6), (-1, 2), Ordering::Equal),
+        ((0, 5), (0, -7), Ordering::Equal),
+        ((7, 3), (5, 2), Ordering::Less),
+        ((MAX, P62), (MAX - 1, P62), Ordering::Greater),
+    ];
+    for (left, right, want) in cases {
+        let left = Fraction::new(left.0, left.1).expect(&rt, "the left operand is a fraction");
+        let right = Fraction::new(right.0, right.1).expect(&rt, "the right operand is a fraction");
+        assert_eq!(rt; left.compare(&right), want, "{left:?} against {right:?}");
+    }
+    let least = Fraction::whole(i64::MIN);
+    assert_eq!(rt; (least.num(), least.den()), (-P63, 1));
+    assert_eq!(rt; least.negate().num(), P63);
+}

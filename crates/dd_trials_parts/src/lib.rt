@@ -1,0 +1,23 @@
+//! Trials of the crates that need no script, a module each: tables of cases beside what is proved.
+#![tactic(auto)]
+
+#[cfg(test)]
+mod circuits;
+#[cfg(test)]
+mod clauses;
+#[cfg(test)]
+mod derivations;
+#[cfg(test)]
+mod encodings;
+#[cfg(test)]
+mod fractions;
+#[cfg(test)]
+mod lattice;
+#[cfg(test)]
+mod outside;
+#[cfg(test)]
+mod syntax;
+#[cfg(test)]
+mod tokens;
+#[cfg(test)]
+mod values;

@@ -1,0 +1,49 @@
+use dd_outside::{MemorySink, MemorySource, ReadAllFault, WriteFault, read_all, write_whole};
+use std::test::Fail;
+
+// The limit, the most bytes of a read, the read that fails, and what comes of the bytes `abcd`.
+#[test]
+fn reads_to_the_end_within_a_limit(rt: HostRuntime) -> Result<(), Fail> {
+    let alloc = rt.alloc();
+    let table: [(usize, usize, u64, Result<(), ReadAllFault>); 6] = [
+        (3, 100, 0, Err(ReadAllFault::TooLong)),
+        (4, 100, 0, Ok(())),
+        (4, 1, 0, Ok(())),
+        (0, 1, 0, Err(ReadAllFault::TooLong)),
+        (4, 2, 2, Err(ReadAllFault::ReadFault)),
+        (4, 2, 4, Ok(())),
+    ];
+    for (limit, step, failing, wanted) in table {
+        let bytes = Vec::from_slice(alloc, b"abcd")?;
+        let mut source = MemorySource::new(bytes, step, vec![in alloc; failing]?);
+        match read_all(alloc, &mut source, limit) {
+            Ok(bytes) => {
+                assert_eq!(rt; wanted, Ok(()));
+                assert_eq!(rt; bytes.as_slice(), b"abcd".as_slice());
+            }
+            Err(fault) => assert_eq!(rt; wanted, Err(fault)),
+        }
+    }
+    Ok(())
+}
+
+// The capacity, the most bytes of a write, the write that fails, and how many bytes are held.
+#[test]
+fn writes_up_to_a_fault(rt: HostRuntime) -> Result<(), Fail> {
+    let alloc = rt.alloc();
+    let table: [(usize, usize, u64, usize); 5] = [
+        (10, 100, 0, 4),
+        (10, 1, 0, 4),
+        (3, 2, 0, 3),
+        (10, 1, 3, 2),
+        (0, 1, 0, 0),
+    ];
+    for (capacity, step, failing, held) in table {
+        let mut sink = MemorySink::new(alloc, capacity, step, vec![in alloc; failing]?)?;
+        let outcome = write_whole(&mut sink, b"abcd");
+        assert_eq!(rt; outcome, if held == 4 { Ok(()) } else { Err(WriteFault) });
+        assert_eq!(rt; sink.held_bytes().len(), held);
+        assert!(rt; b"abcd".starts_with(sink.held_bytes()));
+    }
+    Ok(())
+}
