@@ -1,0 +1,2 @@
+autocmd BufRead,BufNewFile *.diddy setfiletype diddy
+autocmd BufRead,BufNewFile *.answer setfiletype diddyanswer
