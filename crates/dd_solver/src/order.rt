@@ -208,12 +208,14 @@ impl Order {
         }
     }
 
-    /// Makes all activities smaller. Their order stays.
+    /// Makes all activities smaller. Some that differed become equal, and then the lesser variable comes first: so the
+    /// heap is arranged again.
     fn rescale(&mut self) {
         for rank in self.ranks.iter_mut() {
             rank.activity >>= LOST_BITS;
         }
         self.increment = (self.increment >> LOST_BITS).max(FIRST_INCREMENT);
+        self.arrange();
     }
 
     /// The variable took part in a conflict.
@@ -242,7 +244,7 @@ impl Order {
         }
     }
 
-    /// Puts those variables first that were counted most.
+    /// Puts the most active variables first.
     pub fn arrange(&mut self) {
         for place in (0..self.waiting / 2).rev() {
             self.sink(self.variable_at(place), place);
