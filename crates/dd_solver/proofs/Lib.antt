@@ -9,3 +9,5 @@ pub mod Rises
 pub mod Derived
 pub mod Moves
 pub mod Right
+pub mod Kept
+pub mod Planned

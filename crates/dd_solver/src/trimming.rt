@@ -1,109 +1,155 @@
 // A search learns clauses that its refutation does not need in the end. Trimming walks from the last step to the first
-// and keeps those that a kept step hints at, as Goldberg and Novikov (2003) do. What comes out is looked at again by the
-// check of refutations, so nothing rests on the walk.
-ghost use Rattle.std.specs.Prelude.{◌≡◌, true, IfOk};
+// and marks those that a marked step hints at, as Goldberg and Novikov (2003) do. What is marked is kept, under new
+// numbers. Nothing is deleted any more, so that each kept hint names the clause that it named before.
+ghost use Rattle.std.specs.Prelude.{◌≡◌, ℕ, suc, ◌+◌, ◌<◌, ◌≤◌, ◌^◌, ◌||◌, [], true, false, length, map, All, IfOk, MatchOption, slice_index_or};
 ghost use Rattle.dd_derivation.specs.Derivations.{refutes};
+ghost use Rattle.dd_solver.specs.Trimming.{is_hint, are_used};
+ghost use Rattle.dd_solver.specs.Marking.{IsMarking, numbers_from, renamed, kept_step, kept_steps};
 
 use dd_clause::{Clause, Cnf};
-use dd_derivation::{Marks, Step, check_refutation};
+use dd_derivation::Step;
 use dd_values::Items;
 use std::alloc::{AllocError, Global};
 
-/// The place among the steps of what a hint names, where `clauses` clauses are numbered before them.
-fn find_place(hint: u64, clauses: usize) -> Option<usize> {
-    let number = hint as usize;
+/// The place among the steps of the clause of this number, where `clauses` clauses are numbered before them.
+fn find_place(number: u64, clauses: usize) -> Option<usize>
+    ensures { MatchOption result (number ≤ clauses) (λ place. number ≡ clauses + place + 1) }
+{
+    let number = number as usize;
     if number > clauses {
         return Some(number - clauses - 1);
     }
     None
 }
 
-/// Marks the steps that are named by the hints.
-fn mark_hints(used: &mut [bool], clauses: usize, hints: &[u64]) {
+/// Marks those of the first `before` steps that the hints name.
+fn mark_hints(marked: &mut [bool], clauses: usize, before: usize, hints: &[u64])
+    requires { before ≤ length marked.old }
+    ensures earlier { (j : ℕ) → j < before → slice_index_or marked.new j false ≡ (slice_index_or marked.old j false || is_hint (clauses + suc j) hints.now) }
+    ensures later { (j : ℕ) → before ≤ j → slice_index_or marked.new j false ≡ slice_index_or marked.old j false }
+{
     for hint in hints {
         if let Some(place) = find_place(*hint, clauses) {
-            if place < used.len() {
-                used[place] = true;
+            if place < before {
+                marked[place] = true;
             }
         }
     }
 }
 
-/// Whether each step is the last one, or named by the hints of one that is used.
-fn find_used(alloc: Global, clauses: usize, steps: &[Step]) -> Result<Vec<bool>, AllocError> {
-    let mut used = vec![in alloc; false; steps.len()]?;
+/// Marks the steps that a marked one needs.
+fn mark_needed(marked: &mut [bool], clauses: usize, steps: &[Step])
+    requires { IsMarking clauses (length steps.now) steps.now marked.old }
+    ensures { IsMarking clauses 0 steps.now marked.new }
+{
     for place in (0..steps.len()).rev() {
-        if place < used.len() {
-            if place + 1 == steps.len() {
-                used[place] = true;
-            }
-            if used[place] {
-                mark_hints(used.as_mut_slice(), clauses, steps[place].hints.as_slice());
-            }
+        if marked[place] {
+            mark_hints(marked, clauses, place, steps[place].hints.as_slice());
         }
     }
-    Ok(used)
 }
 
-/// The number that each step has where only the used ones are left.
-fn find_numbers(alloc: Global, clauses: usize, used: &[bool]) -> Result<Vec<u64>, AllocError> {
+/// Marks the last step, and those that it needs.
+fn mark_used(alloc: Global, clauses: usize, steps: &[Step]) -> Result<Vec<bool>, AllocError>
+    ensures { IfOk result (λ marked. IsMarking clauses 0 steps.now marked.items) }
+{
+    let count = steps.len();
+    let mut marked = vec![in alloc; false; count]?;
+    if count > 0 {
+        marked[count - 1] = true;
+    }
+    mark_needed(marked.as_mut_slice(), clauses, steps);
+    Ok(marked)
+}
+
+/// The number that each marked step has where only those are left.
+fn find_numbers(alloc: Global, clauses: usize, marked: &[bool]) -> Result<Vec<u64>, AllocError>
+    requires { clauses + length marked.now < 2 ^ 64 }
+    ensures { IfOk result (λ numbers. numbers.items ≡ numbers_from clauses marked.now) }
+{
     let mut numbers: Vec<u64> = Vec::new(alloc);
     let mut last = clauses as u64;
-    for is_used in used {
-        if *is_used {
-            last = last.saturating_add(1);
+    for is_marked in marked {
+        if *is_marked {
+            last += 1;
         }
         numbers.push(last)?;
     }
     Ok(numbers)
 }
 
-/// The hints by the new numbers of the steps.
-fn renumber(
+/// The new number of the clause of a number.
+fn new_number(clauses: usize, numbers: &[u64], number: u64) -> u64
+    ensures { result ≡ renamed clauses numbers.now number }
+{
+    match find_place(number, clauses) {
+        Some(place) if place < numbers.len() => numbers[place],
+        _ => number,
+    }
+}
+
+/// A step under new numbers, with nothing deleted.
+fn keep_step(
     alloc: Global,
     clauses: usize,
     numbers: &[u64],
-    hints: &[u64],
-) -> Result<Items<u64>, AllocError> {
-    let mut renumbered: Vec<u64> = Vec::new(alloc);
-    for hint in hints {
-        match find_place(*hint, clauses) {
-            Some(place) if place < numbers.len() => renumbered.push(numbers[place])?,
-            _ => renumbered.push(*hint)?,
-        }
-    }
-    Ok(Items::from_vec(renumbered))
+    step: &Step,
+) -> Result<Step, AllocError>
+    ensures { IfOk result (λ kept. kept ≡ kept_step (renamed clauses numbers.now) step.now) }
+{
+    let hints: Vec<u64> = step
+        .hints
+        .as_slice()
+        .iter()
+        .map(|hint| new_number(clauses, numbers, *hint))
+        .collect(alloc)?;
+    Ok(Step {
+        clause: Clause::from_literals(alloc, step.clause.literals())?,
+        hints: Items::from_vec(hints),
+        deletes: Items::new(alloc),
+    })
 }
 
-/// The steps that the last one uses, with nothing deleted.
-fn keep_used(alloc: Global, clauses: usize, steps: &[Step]) -> Result<Items<Step>, AllocError> {
-    let used = find_used(alloc, clauses, steps)?;
-    let numbers = find_numbers(alloc, clauses, used.as_slice())?;
+/// The marked steps under their new numbers, with nothing deleted.
+fn keep_marked(
+    alloc: Global,
+    clauses: usize,
+    numbers: &[u64],
+    marked: &[bool],
+    steps: &[Step],
+) -> Result<Vec<Step>, AllocError>
+    requires { length marked.now ≡ length steps.now }
+    ensures { IfOk result (λ kept. kept.items ≡ kept_steps (renamed clauses numbers.now) marked.now steps.now) }
+{
     let mut kept: Vec<Step> = Vec::new(alloc);
     for (place, step) in steps.iter().enumerate() {
-        if place < used.len() && used[place] {
-            kept.push(Step {
-                clause: Clause::from_literals(alloc, step.clause.literals())?,
-                hints: renumber(alloc, clauses, numbers.as_slice(), step.hints.as_slice())?,
-                deletes: Items::new(alloc),
-            })?;
+        if marked[place] {
+            kept.push(keep_step(alloc, clauses, numbers, step)?)?;
         }
     }
-    Ok(Items::from_vec(kept))
+    Ok(kept)
 }
 
 /// Of steps that refute the clauses, those that the last one uses, by its hints or by the hints of others. They refute
 /// the clauses too, and delete nothing.
 pub fn trimmed(alloc: Global, cnf: &Cnf, steps: Items<Step>) -> Result<Items<Step>, AllocError>
     requires { refutes cnf.now.variables cnf.now.clauses steps ≡ true }
-    ensures { IfOk result (λ fewer. refutes cnf.now.variables cnf.now.clauses fewer ≡ true) }
+    ensures refutes { IfOk result (λ fewer. refutes cnf.now.variables cnf.now.clauses fewer ≡ true) }
+    ensures no_more { IfOk result (λ fewer. length fewer ≤ length steps) }
+    ensures no_deletes { IfOk result (All (λ step. step.deletes ≡ [])) }
+    ensures used { IfOk result (λ fewer. are_used (suc (length cnf.now.clauses)) fewer ≡ true) }
 {
-    let fewer = keep_used(alloc, cnf.clauses().len(), steps.as_slice())?;
-    let mut marks = Marks::new(alloc, cnf, fewer.as_slice())?;
-    if check_refutation(cnf, fewer.as_slice(), &mut marks) {
-        return Ok(fewer);
-    }
-    Ok(steps)
+    let clauses = cnf.clauses().len();
+    let marked = mark_used(alloc, clauses, steps.as_slice())?;
+    let numbers = find_numbers(alloc, clauses, marked.as_slice())?;
+    let kept = keep_marked(
+        alloc,
+        clauses,
+        numbers.as_slice(),
+        marked.as_slice(),
+        steps.as_slice(),
+    )?;
+    Ok(Items::from_vec(kept))
 }
 
 #[cfg(test)]

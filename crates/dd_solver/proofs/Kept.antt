@@ -1,0 +1,241 @@
+-- The marked steps of a refutation refute too. Each clause that a marked step hints at is marked or one of the list's,
+-- so it is known under its new number when the hint is followed; and what is known there is the same clause.
+use Rattle.std.proofs.Common.{◌≡◌, ℕ, zero, suc, ◌<◌, ◌≤◌, Bool, true, false, cond, ◌&&◌, ◌||◌, List, [], ◌∷◌, ◌++◌, map, Option, Some, None, refl, ap, sym, ◌∙◌, subst, length, inl, inr, ◌⊎◌, arith}
+use Rattle.std.specs.List.{list_all, slice_get, slice_set, All}
+use Rattle.std.specs.Option.{option_map_or, option_and_then}
+use Rattle.std.proofs.lemmas.Bool.{and_parts, and_from, or_cases, or_left, or_right, false≢true, eqb-true, eq-eqb}
+use Rattle.std.proofs.lemmas.List.{length-append}
+use Rattle.std.proofs.lemmas.List.Elements.{All-nil, All-cons}
+use Rattle.std.proofs.lemmas.List.Folds.{list_all-map}
+use Rattle.dd_clause.specs.declared.clause.Literal.{Literal}
+use Rattle.dd_clause.specs.Clauses.{negation}
+use Rattle.dd_derivation.specs.declared.propagation.Finding.{Finding}
+use Rattle.dd_derivation.specs.declared.propagation.Finding.TheVariants.{Falsified, Forced, Open}
+use Rattle.dd_derivation.specs.declared.step.Step.{Step}
+use Rattle.dd_derivation.specs.Derivations.{is_among, finding, clause_of, without, follow, is_conflict, known_after, is_proper, is_right, refutes_from}
+use Rattle.dd_solver.specs.Trimming.{is_hint, is_hinted, are_used}
+use Rattle.dd_solver.specs.Marking.{kept_step, kept_steps}
+
+abbrev pub Known : Type 0
+Known = List (Option (List Literal))
+
+-- a clause that is known, by its place
+
+abbrev at : Known → ℕ → Option (List Literal)
+at known k = option_and_then (λ c. c) (slice_get known k)
+
+push_at : (known : Known) (c x : List Literal) (k : ℕ) → at (known ++ Some c ∷ []) k ≡ Some x → (at known k ≡ Some x) ⊎ ((k ≡ length known) × (c ≡ x))
+push_at [] c x zero h = inr (refl, cc)
+push_at [] c x (suc k) h = absurd (cc)
+push_at (o ∷ known) c x zero h = inl h
+push_at (o ∷ known) c x (suc k) h = elim (push_at known c x k h) [ inl a ↦ inl a | inr b ↦ inr (ap suc b.0, b.1) ]
+
+left_at : (known : Known) (c x : List Literal) (k : ℕ) → at known k ≡ Some x → at (known ++ Some c ∷ []) k ≡ Some x
+left_at [] c x k h = absurd (cc)
+left_at (o ∷ known) c x zero h = h
+left_at (o ∷ known) c x (suc k) h = left_at known c x k h
+
+last_at : (known : Known) (c : List Literal) → at (known ++ Some c ∷ []) (length known) ≡ Some c
+last_at [] c = refl
+last_at (o ∷ known) c = last_at known c
+
+within_at : (known : Known) (x : List Literal) (k : ℕ) → at known k ≡ Some x → k < length known
+within_at [] x k h = absurd (cc)
+within_at (o ∷ known) x zero h = omega arith
+within_at (o ∷ known) x (suc k) h = let w = within_at known x k h in omega arith
+
+less_at : (known : Known) (x : List Literal) (d k : ℕ) → at (slice_set known d None) k ≡ Some x → at known k ≡ Some x
+less_at [] x d k h = h
+less_at (o ∷ known) x zero zero h = absurd (cc)
+less_at (o ∷ known) x zero (suc k) h = h
+less_at (o ∷ known) x (suc d) zero h = h
+less_at (o ∷ known) x (suc d) (suc k) h = less_at known x d k h
+
+-- and by its number
+
+known_push : (known : Known) (c x : List Literal) (h : ℕ) → clause_of (known ++ Some c ∷ []) h ≡ Some x → (clause_of known h ≡ Some x) ⊎ ((h ≡ suc (length known)) × (c ≡ x))
+known_push known c x zero e = absurd (cc)
+known_push known c x (suc k) e = elim (push_at known c x k e) [ inl a ↦ inl a | inr b ↦ inr (ap suc b.0, b.1) ]
+
+known_left : (known : Known) (c x : List Literal) (h : ℕ) → clause_of known h ≡ Some x → clause_of (known ++ Some c ∷ []) h ≡ Some x
+known_left known c x zero e = absurd (cc)
+known_left known c x (suc k) e = left_at known c x k e
+
+known_last : (known : Known) (c : List Literal) (h : ℕ) → h ≡ suc (length known) → clause_of (known ++ Some c ∷ []) h ≡ Some c
+known_last known c h e = rw e (last_at known c)
+
+pub known_within : (known : Known) (x : List Literal) (h : ℕ) → clause_of known h ≡ Some x → h < suc (length known)
+known_within known x zero e = omega arith
+known_within known x (suc k) e = let w = within_at known x k e in omega arith
+
+known_before : (known : Known) (x : List Literal) (ds : List ℕ) (h : ℕ) → clause_of (known_after known ds) h ≡ Some x → clause_of known h ≡ Some x
+known_before known x [] h e = e
+known_before known x (d ∷ ds) h e = one d h (known_before (without known d) x ds h e)
+  where
+    one : (d h : ℕ) → clause_of (without known d) h ≡ Some x → clause_of known h ≡ Some x
+    one zero h e = e
+    one (suc d) zero e = absurd (cc)
+    one (suc d) (suc k) e = less_at known x d k e
+
+length-set : (known : Known) (d : ℕ) → length (slice_set known d None) ≡ length known
+length-set [] d = refl
+length-set (o ∷ known) zero = refl
+length-set (o ∷ known) (suc d) = ap suc (length-set known d)
+
+length-after : (known : Known) (ds : List ℕ) → length (known_after known ds) ≡ length known
+length-after known [] = refl
+length-after known (d ∷ ds) = length-after (without known d) ds ∙ one d
+  where
+    one : (d : ℕ) → length (without known d) ≡ length known
+    one zero = refl
+    one (suc d) = length-set known d
+
+-- the hints, under new numbers of the same clauses, end in the conflict that they ended in
+conflict_renamed : (old new : Known) (rename : ℕ → ℕ) (falses : List Literal) (hints : List ℕ) → ((h : ℕ) (x : List Literal) → is_hint h hints ≡ true → clause_of old h ≡ Some x → clause_of new (rename h) ≡ Some x) → is_conflict old falses hints ≡ true → is_conflict new falses (map rename hints) ≡ true
+conflict_renamed old new rename falses [] a h = h
+conflict_renamed old new rename falses (n ∷ hints) a h = go (λ l e. conflict_renamed old new rename (negation l ∷ falses) hints rest e) (clause_of old n) refl h
+  where
+    rest : (h : ℕ) (x : List Literal) → is_hint h hints ≡ true → clause_of old h ≡ Some x → clause_of new (rename h) ≡ Some x
+    rest h x i e = a h x (or_right _ _ i) e
+
+    next : ((l : Literal) → is_conflict old (negation l ∷ falses) hints ≡ true → is_conflict new (negation l ∷ falses) (map rename hints) ≡ true)
+        → (f : Finding) → follow f (list_all (λ _. false) hints) (λ l. is_conflict old (negation l ∷ falses) hints) ≡ true → follow f (list_all (λ _. false) (map rename hints)) (λ l. is_conflict new (negation l ∷ falses) (map rename hints)) ≡ true
+    next more Falsified e = list_all-map (λ _. false) rename hints ∙ e
+    next more (Forced l) e = more l e
+    next more Open e = absurd (false≢true e)
+
+    go : ((l : Literal) → is_conflict old (negation l ∷ falses) hints ≡ true → is_conflict new (negation l ∷ falses) (map rename hints) ≡ true)
+        → (o : Option (List Literal)) → clause_of old n ≡ o → follow (option_map_or (finding (is_among falses)) o Open) (list_all (λ _. false) hints) (λ l. is_conflict old (negation l ∷ falses) hints) ≡ true → is_conflict new falses (map rename (n ∷ hints)) ≡ true
+    go more None e f = absurd (false≢true f)
+    go more (Some x) e f =
+        let s : clause_of new (rename n) ≡ Some x = a n x (or_left _ _ (eq-eqb n n refl)) e in
+        rw s (next more (finding (is_among falses) x) f)
+
+-- a later marked step hints at the clause of this number
+abbrev pub hinted_by : ℕ → List Bool → List Step → Bool
+hinted_by number [] steps = false
+hinted_by number (m ∷ marked) [] = false
+hinted_by number (m ∷ marked) (s ∷ steps) = (m && is_hint number s.hints) || hinted_by number marked steps
+
+-- What is known of the step of number `next` and of those after it, where the clauses that are kept before it have
+-- numbers up to `last`.
+pub record IsPlanned (keep : ℕ → Bool) (rename : ℕ → ℕ) (next last : ℕ) (m : Bool) (s : Step) (marked : List Bool) (steps : List Step) : Type 0 where
+  pub same : keep next ≡ m
+  pub number : m ≡ true → rename next ≡ suc last
+  pub hints : m ≡ true → (h : ℕ) → h < next → is_hint h s.hints ≡ true → keep h ≡ true
+  pub end : list_all (λ _. false) steps ≡ true → m ≡ true
+  pub needed : m ≡ true → (list_all (λ _. false) steps ≡ true) ⊎ (hinted_by next marked steps ≡ true)
+
+abbrev pub Plan : (keep : ℕ → Bool) (rename : ℕ → ℕ) → ℕ → ℕ → List Bool → List Step → Type 0
+Plan keep rename next last [] steps = Unit {0}
+Plan keep rename next last (m ∷ marked) [] = Unit {0}
+Plan keep rename next last (m ∷ marked) (s ∷ steps) = IsPlanned keep rename next last m s marked steps × Plan keep rename (suc next) (cond m (suc last) last) marked steps
+
+-- what is kept is known under its new number
+abbrev pub Agree : (ℕ → Bool) → (ℕ → ℕ) → Known → Known → Type 0
+Agree keep rename old new = (h : ℕ) (x : List Literal) → keep h ≡ true → clause_of old h ≡ Some x → clause_of new (rename h) ≡ Some x
+
+agree_kept : (keep : ℕ → Bool) (rename : ℕ → ℕ) (old new : Known) (c : List Literal) (ds : List ℕ) → rename (suc (length old)) ≡ suc (length new) → Agree keep rename old new → Agree keep rename (known_after old ds ++ Some c ∷ []) (new ++ Some c ∷ [])
+agree_kept keep rename old new c ds r a h x k e = elim (known_push (known_after old ds) c x h e) [
+  | inl b ↦ known_left new c x (rename h) (a h x k (known_before old x ds h b))
+  | inr b ↦ (let n : h ≡ suc (length old) = b.0 ∙ ap suc (length-after old ds) in
+      known_last new c (rename h) (ap rename n ∙ r) ∙ ap (λ (y : List Literal). Some y) b.1)
+]
+
+agree_left : (keep : ℕ → Bool) (rename : ℕ → ℕ) (old new : Known) (c : List Literal) (ds : List ℕ) → keep (suc (length old)) ≡ false → Agree keep rename old new → Agree keep rename (known_after old ds ++ Some c ∷ []) new
+agree_left keep rename old new c ds f a h x k e = elim (known_push (known_after old ds) c x h e) [
+  | inl b ↦ a h x k (known_before old x ds h b)
+  | inr b ↦ (let n : h ≡ suc (length old) = b.0 ∙ ap suc (length-after old ds) in
+      absurd (false≢true (sym f ∙ sym (ap keep n) ∙ k)))
+]
+
+none_kept : (rename : ℕ → ℕ) (marked : List Bool) (steps : List Step) → list_all (λ _. false) steps ≡ true → list_all (λ _. false) (kept_steps rename marked steps) ≡ true
+none_kept rename [] steps h = refl
+none_kept rename (m ∷ marked) [] h = refl
+none_kept rename (m ∷ marked) (s ∷ steps) h = absurd (false≢true h)
+
+right_kept : (n : ℕ) (keep : ℕ → Bool) (rename : ℕ → ℕ) (old new : Known) (s : Step) → ((h : ℕ) → h < suc (length old) → is_hint h s.hints ≡ true → keep h ≡ true) → Agree keep rename old new → is_right n old s ≡ true → is_right n new (kept_step rename s) ≡ true
+right_kept n keep rename old new s k a r =
+    let q = and_parts (is_proper n s.clause) _ r in
+    let c = (and_parts (is_conflict old s.clause s.hints) _ q.1).0 in
+    and_from _ _ q.0 (and_from _ _ (conflict_renamed old new rename s.clause s.hints (λ h x i e. a h x (k h (known_within old x h e) i) e) c) refl)
+
+-- the clauses after a step
+abbrev after_step : Known → Step → Known
+after_step old s = known_after old s.deletes ++ Some s.clause ∷ []
+
+-- what follows the last step is looked at, or there are more steps
+pub refutes_kept : (n : ℕ) (keep : ℕ → Bool) (rename : ℕ → ℕ) (next last : ℕ) (marked : List Bool) (steps : List Step) (old new : Known) → length marked ≡ length steps → next ≡ suc (length old) → last ≡ length new → Plan keep rename next last marked steps → Agree keep rename old new → refutes_from n old steps ≡ true → refutes_from n new (kept_steps rename marked steps) ≡ true
+refutes_kept n keep rename next last [] [] old new l o w p a r = absurd (false≢true r)
+refutes_kept n keep rename next last [] (s ∷ steps) old new l o w p a r = absurd (omega arith)
+refutes_kept n keep rename next last (m ∷ marked) [] old new l o w p a r = absurd (omega arith)
+refutes_kept n keep rename next last (m ∷ marked) (s ∷ steps) old new l o w p a r =
+    go (λ last' new' w' p' a' e. refutes_kept n keep rename (suc next) last' marked steps (after_step old s) new' (omega arith) long w' p' a' e) m refl
+  where
+    right : (is_right n old s ≡ true) × (((list_all (λ _. false) steps && list_all (λ _. false) s.clause) || refutes_from n (after_step old s) steps) ≡ true)
+    right = and_parts (is_right n old s) _ r
+
+    long : suc next ≡ suc (length (after_step old s))
+    long = ap suc (o ∙ omega (arith, length-append (known_after old s.deletes) (Some s.clause ∷ []), length-after old s.deletes))
+
+    kept : m ≡ true → is_right n new (kept_step rename s) ≡ true
+    kept t = right_kept n keep rename old new s (λ h b i. p.0.hints t h (rw o b) i) a right.0
+
+    go : ((last' : ℕ) (new' : Known) → last' ≡ length new' → Plan keep rename (suc next) last' marked steps → Agree keep rename (after_step old s) new' → refutes_from n (after_step old s) steps ≡ true → refutes_from n new' (kept_steps rename marked steps) ≡ true)
+        → (m' : Bool) → m ≡ m' → refutes_from n new (kept_steps rename (m' ∷ marked) (s ∷ steps)) ≡ true
+    go more true t = and_from _ _ (kept t) (elim (or_cases _ _ right.1) [
+      | inl b ↦ (let e = and_parts (list_all (λ _. false) steps) (list_all (λ _. false) s.clause) b in or_left _ _ (and_from _ _ (none_kept rename marked steps e.0) e.1))
+      | inr b ↦ or_right _ _ (more (suc last) (new ++ Some s.clause ∷ []) (omega (arith, length-append new (Some s.clause ∷ [])))
+          (subst (λ (i : ℕ). Plan keep rename (suc next) i marked steps) (ap (λ (b : Bool). cond b (suc last) last) t) p.1)
+          (agree_kept keep rename old new s.clause s.deletes (sym (ap rename o) ∙ p.0.number t ∙ ap suc w) a) b)
+    ])
+    go more false t = elim (or_cases _ _ right.1) [
+      | inl b ↦ absurd (false≢true (sym t ∙ p.0.end (and_parts (list_all (λ _. false) steps) (list_all (λ _. false) s.clause) b).0))
+      | inr b ↦ more last new w
+          (subst (λ (i : ℕ). Plan keep rename (suc next) i marked steps) (ap (λ (b : Bool). cond b (suc last) last) t) p.1)
+          (agree_left keep rename old new s.clause s.deletes (sym (ap keep o) ∙ p.0.same ∙ t) a) b
+    ]
+
+hint_renamed : (rename : ℕ → ℕ) (number : ℕ) (hints : List ℕ) → is_hint number hints ≡ true → is_hint (rename number) (map rename hints) ≡ true
+hint_renamed rename number [] h = h
+hint_renamed rename number (x ∷ hints) h = elim (or_cases _ _ h) [
+  | inl e ↦ or_left _ _ (eq-eqb (rename x) (rename number) (ap rename (eqb-true x number e)))
+  | inr e ↦ or_right _ _ (hint_renamed rename number hints e)
+]
+
+hinted_kept : (rename : ℕ → ℕ) (number : ℕ) (marked : List Bool) (steps : List Step) → hinted_by number marked steps ≡ true → is_hinted (rename number) (kept_steps rename marked steps) ≡ true
+hinted_kept rename number [] steps h = absurd (false≢true h)
+hinted_kept rename number (m ∷ marked) [] h = absurd (false≢true h)
+hinted_kept rename number (true ∷ marked) (s ∷ steps) h = elim (or_cases _ _ h) [
+  | inl e ↦ or_left _ _ (hint_renamed rename number s.hints e)
+  | inr e ↦ or_right _ _ (hinted_kept rename number marked steps e)
+]
+hinted_kept rename number (false ∷ marked) (s ∷ steps) h = hinted_kept rename number marked steps h
+
+-- each kept step but the last is used
+pub used_kept : (keep : ℕ → Bool) (rename : ℕ → ℕ) (next last : ℕ) (marked : List Bool) (steps : List Step) → Plan keep rename next last marked steps → are_used (suc last) (kept_steps rename marked steps) ≡ true
+used_kept keep rename next last [] steps p = refl
+used_kept keep rename next last (m ∷ marked) [] p = refl
+used_kept keep rename next last (true ∷ marked) (s ∷ steps) p =
+    let first : (list_all (λ _. false) (kept_steps rename marked steps) || is_hinted (suc last) (kept_steps rename marked steps)) ≡ true =
+    elim (p.0.needed refl) [
+      | inl e ↦ or_left _ _ (none_kept rename marked steps e)
+      | inr e ↦ or_right _ _ (subst (λ (i : ℕ). is_hinted i (kept_steps rename marked steps) ≡ true) (p.0.number refl) (hinted_kept rename next marked steps e))
+    ] in
+    and_from _ _ first (used_kept keep rename (suc next) (suc last) marked steps p.1)
+used_kept keep rename next last (false ∷ marked) (s ∷ steps) p = used_kept keep rename (suc next) last marked steps p.1
+
+pub no_more : (rename : ℕ → ℕ) (marked : List Bool) (steps : List Step) → length (kept_steps rename marked steps) ≤ length steps
+no_more rename [] steps = omega arith
+no_more rename (m ∷ marked) [] = omega arith
+no_more rename (true ∷ marked) (s ∷ steps) = omega (arith, no_more rename marked steps)
+no_more rename (false ∷ marked) (s ∷ steps) = omega (arith, no_more rename marked steps)
+
+abbrev pub DeletesNothing : Step → Type 0
+DeletesNothing s = s.deletes ≡ []
+
+pub no_deletes : (rename : ℕ → ℕ) (marked : List Bool) (steps : List Step) → All DeletesNothing (kept_steps rename marked steps)
+no_deletes rename [] steps = All-nil DeletesNothing
+no_deletes rename (m ∷ marked) [] = All-nil DeletesNothing
+no_deletes rename (true ∷ marked) (s ∷ steps) = All-cons DeletesNothing (kept_step rename s) (kept_steps rename marked steps) refl (no_deletes rename marked steps)
+no_deletes rename (false ∷ marked) (s ∷ steps) = no_deletes rename marked steps

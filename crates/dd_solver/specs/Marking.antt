@@ -1,0 +1,44 @@
+-- The steps that a walk from the last to the first marks, and what is made of them.
+use Rattle.std.specs.Prelude.{◌≡◌, ℕ, suc, ◌+◌, ◌-◌, ◌<◌, ◌≤◌, nat_le, Bool, true, false, if◌then◌else◌, List, [], ◌∷◌, map, length, slice_index_or}
+use Rattle.dd_derivation.specs.declared.step.Step.{Step}
+use Rattle.dd_solver.specs.Trimming.{is_hint}
+
+-- a step from the place on, later than the one at j, is marked, and a hint of it is this number
+pub record IsNeeded (place j number : ℕ) (steps : List Step) (marked : List Bool) : Type 0 where
+  pub at : ℕ
+  pub from : place ≤ at
+  pub later : j < at
+  pub within : at < length steps
+  pub is_marked : slice_index_or marked at false ≡ true
+  pub hinted : (d : Step) → is_hint number (slice_index_or steps at d).hints ≡ true
+
+-- The last step is marked, and those that the hints of a marked step from the place on name; each other marked step is
+-- named so. The steps' numbers begin after that of the clauses.
+pub record IsMarking (clauses place : ℕ) (steps : List Step) (marked : List Bool) : Type 0 where
+  pub as_many : length marked ≡ length steps
+  pub last : (j : ℕ) → suc j ≡ length steps → slice_index_or marked j false ≡ true
+  pub closed : (k j : ℕ) (d : Step) → place ≤ k → k < length steps → j < k → slice_index_or marked k false ≡ true
+      → is_hint (clauses + suc j) (slice_index_or steps k d).hints ≡ true → slice_index_or marked j false ≡ true
+  pub needed : (j : ℕ) → suc j < length steps → slice_index_or marked j false ≡ true
+      → IsNeeded place j (clauses + suc j) steps marked
+
+-- the number of the last marked step, or of the last clause, at each step
+abbrev pub numbers_from : ℕ → List Bool → List ℕ
+numbers_from last [] = []
+numbers_from last (m ∷ marked) = let next = if m then suc last else last in next ∷ numbers_from next marked
+
+-- a clause keeps its number, and the step at a place has the one that is given there
+abbrev pub renamed : ℕ → List ℕ → ℕ → ℕ
+renamed clauses numbers number =
+    if nat_le number clauses then number else slice_index_or numbers (number - clauses - 1) number
+
+-- the step under new numbers, with nothing deleted
+abbrev pub kept_step : (ℕ → ℕ) → Step → Step
+kept_step rename s = record { clause = s.clause; hints = map rename s.hints; deletes = [] }
+
+-- the marked steps under new numbers
+abbrev pub kept_steps : (ℕ → ℕ) → List Bool → List Step → List Step
+kept_steps rename [] steps = []
+kept_steps rename (m ∷ marked) [] = []
+kept_steps rename (m ∷ marked) (s ∷ steps) =
+    if m then kept_step rename s ∷ kept_steps rename marked steps else kept_steps rename marked steps
