@@ -1,7 +1,8 @@
 -- A filling is read by the places of its cells.
 use Rattle.std.proofs.Common.{◌≡◌, ◌<◌, ℕ, zero, suc, Bool, true, false, List, [], ◌∷◌, length, get_or, slice_get, Some, None, Ok, Err, Result, ap, sym, subst, refl, ◌∙◌, arith, rules}
+use Rattle.std.specs.Prelude.{IfSome}
 use Rattle.std.specs.Result.{MatchResult}
-use Rattle.std.specs.List.{Contains, position_or_len}
+use Rattle.std.specs.List.{All, Contains, position_or_len}
 use Rattle.std.specs.List.Sorted.{IsStrictlySortedBy, IsBinarySearchResult, IsSearchInRange}
 use Rattle.std.specs.Ordering.{is_eq}
 use Rattle.std.specs.Cmp.{IsTotalOrder, tied_itself}
@@ -15,7 +16,7 @@ use Rattle.dd_lattice.specs.Order.{cell_cmp}
 use Rattle.dd_lattice.proofs.InOrderLaws.{cells_equal}
 use Rattle.dd_lattice.proofs.ListLaws.{Contains-first, Contains-later, sorted_first, sorted_rest}
 use Rattle.dd_lattice.proofs.SearchLaws.{search_tells}
-use Rattle.dd_pattern.specs.Filling.{Filled, IsFilling, IsReadByPlace, filling_look}
+use Rattle.dd_pattern.specs.Filling.{Filled, IsFilling, IsReadByPlace, IsReadBelow, filling_look}
 
 pub cell_total : IsTotalOrder cell_cmp
 cell_total = search (comparing, rules) depth 9
@@ -71,6 +72,14 @@ reads_at_place f ok k d h =
 
 pub read_by_place : (f : Filled) → IsFilling f → IsReadByPlace f
 read_by_place f ok = record { at = reads_at_place f ok; elsewhere = missing_reads_none f ok }
+
+below_at : (n : ℕ) (ss : List ℕ) → All (λ s. s < n) ss → (i : ℕ) → IfSome (slice_get ss i) (λ s. s < n)
+below_at n [] h i = tt
+below_at n (s ∷ ss) h zero = h zero s (omega arith)
+below_at n (s ∷ ss) h (suc i) = below_at n ss (λ k d within. h (suc k) d (omega arith)) i
+
+pub read_below : (f : Filled) → IsReadBelow f
+read_below f n h c = below_at n f.symbols h (place_of f.cells c)
 
 some_is_not_none : (s : ℕ) → Some s ≡ None → ⊥
 some_is_not_none s e = absurd (cc)

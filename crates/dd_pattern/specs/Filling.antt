@@ -1,11 +1,11 @@
 -- Fillings: finitely many cells in cell order, with a symbol each.
 use Rattle.std.specs.Prelude.{◌≡◌, ◌<◌, ℕ, List, Some, None, length, map, slice_get, slice_index_or}
-use Rattle.std.specs.List.{Contains, position_or_len}
+use Rattle.std.specs.List.{All, Contains, position_or_len}
 use Rattle.std.specs.List.Sorted.{IsStrictlySortedBy}
 use Rattle.std.specs.Ordering.{is_eq}
 use Rattle.dd_lattice.specs.declared.position.Cell.{Cell}
 use Rattle.dd_lattice.specs.Order.{cell_cmp}
-use Rattle.dd_pattern.specs.Reading.{Look}
+use Rattle.dd_pattern.specs.Reading.{Look, IsBelow}
 
 pub record Filled : Type 0 where
   pub cells : List Cell
@@ -26,6 +26,10 @@ filling_look f c = slice_get f.symbols (position_or_len (λ d. is_eq (cell_cmp d
 pub record IsReadByPlace (f : Filled) : Type 0 where
   pub at : (k : ℕ) (d : Cell) → k < length f.cells → filling_look f (slice_index_or f.cells k d) ≡ slice_get f.symbols k
   pub elsewhere : (c : Cell) → (Contains f.cells c → ⊥) → filling_look f c ≡ None
+
+-- symbols below n are read as symbols below n
+abbrev pub IsReadBelow : Filled → Type 0
+IsReadBelow f = (n : ℕ) → All (λ s. s < n) f.symbols → IsBelow n (filling_look f)
 
 -- g has exactly these cells, and at each the symbol of f
 pub record IsRestriction (f : Filled) (cs : List Cell) (g : Filled) : Type 0 where

@@ -1,61 +1,43 @@
 -- Periodic configurations: the symbols of one fundamental box, for every cell of Z^d.
-use Rattle.std.specs.Prelude.{ℕ, ◌+◌, ◌*◌, ◌-◌, ◌<◌, ◌≤◌, ◌≡◌, ◌/◌, ◌%◌, List, None, cond, nat_lt, ℤ, pos, ◌+ℤ◌, unsigned_abs, length, slice_get, slice_index}
-use Rattle.std.specs.Int.{int_rem_euclid}
+use Rattle.std.specs.Prelude.{ℕ, ◌+◌, ◌*◌, ◌-◌, ◌<◌, ◌≤◌, ◌≡◌, ◌/◌, ◌%◌, List, None, cond, nat_lt, pos, ◌+ℤ◌, length, slice_get}
 use Rattle.dd_lattice.specs.Place.{Place, place}
 use Rattle.dd_lattice.specs.Cells.{cell}
 use Rattle.dd_lattice.specs.Boxes.{Bounds, IsWithin, index_in}
 use Rattle.dd_lattice.specs.declared.position.Cell.{Cell}
+use Rattle.dd_pattern.specs.declared.periods.Periods.{Periods}
+use Rattle.dd_pattern.specs.Periods.{ArePeriodsIn, volume, residue, unsheared, base_of}
 use Rattle.dd_pattern.specs.Reading.{Look}
 
--- the periods along the axes, and the symbols of the fundamental box in cell order
+-- the periods, and the symbols of the fundamental box in cell order
 pub record Tile : Type 0 where
   pub dimension : ℕ
-  pub along_x : ℕ
-  pub along_y : ℕ
-  pub along_z : ℕ
+  pub periods : Periods
   pub nodes : ℕ
   pub symbols : List ℕ
 
-abbrev pub tile : ℕ → List ℕ → ℕ → List ℕ → Tile
-tile dim periods nodes symbols =
-    record {
-      dimension = dim;
-      along_x = slice_index periods 0;
-      along_y = slice_index periods 1;
-      along_z = slice_index periods 2;
-      nodes = nodes;
-      symbols = symbols;
-    }
-
--- the number of positions of the fundamental box
-abbrev pub volume : Tile → ℕ
-volume t = t.along_z * t.along_y * t.along_x
+abbrev pub tile : ℕ → Periods → ℕ → List ℕ → Tile
+tile dim periods nodes symbols = record { dimension = dim; periods = periods; nodes = nodes; symbols = symbols }
 
 pub record IsTile (t : Tile) : Type 0 where
   pub some_dimension : 0 < t.dimension
   pub most_dimension : t.dimension ≤ 3
-  pub x_some : 0 < t.along_x
-  pub y_some : 0 < t.along_y
-  pub z_some : 0 < t.along_z
-  -- the periods of unused axes
-  pub y_unused : t.dimension < 2 → t.along_y ≡ 1
-  pub z_unused : t.dimension < 3 → t.along_z ≡ 1
+  pub periods : ArePeriodsIn t.dimension t.periods
   pub nodes_some : 0 < t.nodes
-  pub full : length t.symbols ≡ volume t * t.nodes
-  pub small : length t.symbols ≤ 65536
+  pub full : length t.symbols ≡ volume t.periods * t.nodes
 
--- a whole number modulo n
-abbrev pub residue : ℤ → ℕ → ℕ
-residue x n = unsigned_abs (int_rem_euclid x (pos n))
+-- the greatest number of symbols of a fundamental box that a value holds
+abbrev pub most_symbols : ℕ
+most_symbols = 65536
 
--- a position modulo the periods
-abbrev pub base_of : Tile → Place → Place
-base_of t p = place (pos (residue p.x t.along_x)) (pos (residue p.y t.along_y)) (pos (residue p.z t.along_z))
+pub record IsPeriodic (t : Tile) : Type 0 where
+  pub tile : IsTile t
+  pub small : length t.symbols ≤ most_symbols
 
 -- the number of the cell's symbol in the list: x runs fastest among the positions, and the node inside each
 abbrev pub tile_index : Tile → Cell → ℕ
 tile_index t c =
-    ((residue c.position.z t.along_z * t.along_y + residue c.position.y t.along_y) * t.along_x + residue c.position.x t.along_x) * t.nodes + c.node
+    let p = t.periods in
+    ((residue c.position.z p.z * p.y + residue c.position.y p.y) * p.x + residue (unsheared p c.position) p.x) * t.nodes + c.node
 
 -- each cell has the symbol of the same node at its position modulo the periods
 abbrev pub tile_look : Tile → Look
@@ -63,35 +45,41 @@ tile_look t c = cond (nat_lt c.node t.nodes) (slice_get t.symbols (tile_index t 
 
 -- the cells of the fundamental box
 pub record IsInBox (t : Tile) (c : Cell) : Type 0 where
-  pub base : base_of t c.position ≡ c.position
+  pub base : base_of t.periods c.position ≡ c.position
   pub node : c.node < t.nodes
 
 -- the cell of the fundamental box whose symbol stands at i in the list
 abbrev pub cell_in : Tile → ℕ → Cell
 cell_in t i =
-    let p = i / t.nodes in
-    cell (place (pos (p % t.along_x)) (pos (p / t.along_x % t.along_y)) (pos (p / t.along_x / t.along_y))) (i % t.nodes)
+    let p = t.periods in
+    let k = i / t.nodes in
+    cell (place (pos (k % p.x)) (pos (k / p.x % p.y)) (pos (k / p.x / p.y))) (i % t.nodes)
 
 -- the box of the positions whose coordinates lie in 0 to the period less 1
-abbrev pub fundamental : Tile → Bounds
-fundamental t = record { low = place (pos 0) (pos 0) (pos 0); high = place (pos (t.along_x - 1)) (pos (t.along_y - 1)) (pos (t.along_z - 1)) }
+abbrev pub fundamental : Periods → Bounds
+fundamental p = record { low = place (pos 0) (pos 0) (pos 0); high = place (pos (p.x - 1)) (pos (p.y - 1)) (pos (p.z - 1)) }
 
--- x and y differ by a multiple of n
-pub record AreCongruent (n : ℕ) (x y : ℤ) : Type 0 where
-  pub times : ℕ
-  pub times' : ℕ
-  pub is : x +ℤ pos (times * n) ≡ y +ℤ pos (times' * n)
+-- how many times each of the three period vectors is taken
+pub record Times : Type 0 where
+  pub first : ℕ
+  pub second : ℕ
+  pub third : ℕ
 
--- the two positions differ by a multiple of the period on each axis
-pub record IsCongruent (t : Tile) (p q : Place) : Type 0 where
-  pub on_x : AreCongruent t.along_x p.x q.x
-  pub on_y : AreCongruent t.along_y p.y q.y
-  pub on_z : AreCongruent t.along_z p.z q.z
+-- the position with so many of the period vectors added
+abbrev pub with_vectors : Periods → Times → Place → Place
+with_vectors p n v = place (v.x +ℤ pos (n.first * p.x + n.second * p.shear)) (v.y +ℤ pos (n.second * p.y)) (v.z +ℤ pos (n.third * p.z))
+
+-- the two positions differ by a sum of whole multiples of the three period vectors
+pub record IsCongruent (p : Periods) (v w : Place) : Type 0 where
+  pub times : Times
+  pub times' : Times
+  pub is : with_vectors p times v ≡ with_vectors p times' w
 
 -- read modulo the periods, from a list in cell order: each position of Z^d is congruent to its base, which lies in the
 -- fundamental box; a cell has the symbol of the same node at the base; and in the box the symbols stand in cell order
 pub record IsReadModulo (t : Tile) : Type 0 where
-  pub congruent : (p : Place) → IsCongruent t p (base_of t p)
-  pub in_box : (p : Place) → IsWithin (fundamental t) (base_of t p)
-  pub at_base : (c : Cell) → tile_look t c ≡ tile_look t (cell (base_of t c.position) c.node)
-  pub in_order : (p : Place) (a : ℕ) → IsWithin (fundamental t) p → a < t.nodes → tile_look t (cell p a) ≡ slice_get t.symbols (index_in (fundamental t) p * t.nodes + a)
+  pub congruent : (v : Place) → IsCongruent t.periods v (base_of t.periods v)
+  pub in_box : (v : Place) → IsWithin (fundamental t.periods) (base_of t.periods v)
+  pub at_base : (c : Cell) → tile_look t c ≡ tile_look t (cell (base_of t.periods c.position) c.node)
+  pub in_order : (v : Place) (a : ℕ) → IsWithin (fundamental t.periods) v → a < t.nodes →
+      tile_look t (cell v a) ≡ slice_get t.symbols (index_in (fundamental t.periods) v * t.nodes + a)

@@ -2,7 +2,7 @@
 ghost use Rattle.std.specs.Prelude.{◌≡◌, ◌≤◌, length, IfOk, MatchOption};
 ghost use Rattle.std.specs.List.Sorted.{IsStrictlySortedBy};
 ghost use Rattle.dd_lattice.specs.Order.{cell_cmp};
-ghost use Rattle.dd_pattern.specs.Filling.{IsFilling, IsReadByPlace, IsRestriction, IsWanting, filled, filling_look};
+ghost use Rattle.dd_pattern.specs.Filling.{IsFilling, IsReadByPlace, IsReadBelow, IsRestriction, IsWanting, filled, filling_look};
 ghost use Rattle.dd_pattern.specs.Weight.{AreWeights, total_weight};
 
 use crate::reading::Reads;
@@ -47,10 +47,11 @@ impl Filling {
     }
 
     /// The symbols, in the order of the cells.
-    #[tactic(auto, using(crate::proofs::FillingLaws::read_by_place))]
+    #[tactic(auto, using(crate::proofs::FillingLaws::read_by_place, crate::proofs::FillingLaws::read_below))]
     pub fn symbols(&self) -> &[u32]
         ensures value { result.now ≡ self.now.symbols }
         ensures places { IsReadByPlace self.now }
+        ensures below { IsReadBelow self.now }
     {
         self.symbols.as_slice()
     }

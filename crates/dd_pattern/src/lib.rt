@@ -3,11 +3,11 @@
 
 mod filling;
 mod periodic;
+mod periods;
 mod reading;
-#[cfg(test)]
-mod tests;
 mod weight;
 
 pub use filling::Filling;
 pub use periodic::Periodic;
+pub use periods::Periods;
 pub use reading::{Configuration, Reads};

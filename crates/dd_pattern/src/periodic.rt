@@ -1,9 +1,11 @@
 //! Periodic configurations: the symbols of one fundamental box, for every cell of Z^d.
-ghost use Rattle.std.specs.Prelude.{◌≡◌, ◌<◌, ◌≤◌, ◌+◌, ◌*◌, ◌^◌, [], ◌∷◌, length, slice_index, ℤ, pos, IsTrue, ◌↔◌, MatchResult};
+ghost use Rattle.std.specs.Prelude.{◌≡◌, ◌<◌, ◌≤◌, ◌+◌, ◌*◌, ◌^◌, [], ◌∷◌, length, slice_index, pos, IsTrue, ◌↔◌, MatchResult};
 ghost use Rattle.dd_lattice.specs.Place.{place};
-ghost use Rattle.dd_pattern.specs.Tile.{IsTile, IsInBox, IsReadModulo, tile, residue, tile_index, tile_look, cell_in};
+ghost use Rattle.dd_pattern.specs.Periods.{ArePeriodsIn, periods_of, volume, residue, unsheared};
+ghost use Rattle.dd_pattern.specs.Tile.{IsPeriodic, IsInBox, IsReadModulo, most_symbols, tile, tile_index, tile_look, cell_in};
 ghost use Rattle.dd_pattern.specs.Weight.{AreWeights, total_weight};
 
+use crate::periods::{Periods, quotient, residue, unsheared};
 use crate::reading::{Configuration, Reads};
 use crate::weight::weight_of;
 use dd_lattice::{Cell, Position};
@@ -12,36 +14,24 @@ use std::marker::Model;
 /// The greatest number of symbols of a fundamental box.
 const MOST_SYMBOLS: usize = 65_536;
 
-/// A configuration that is read modulo a period on each axis. The periods of unused axes are 1, and the symbols of the
-/// fundamental box, whose coordinates run from 0 to the period less 1, stand in cell order.
+/// A configuration that repeats along its period vectors. The symbols of the fundamental box, whose coordinates run from 0
+/// to the period less 1, stand in cell order.
 #[derive(Debug, Drop)]
 pub struct Periodic {
     dim: u32,
-    along_x: u32,
-    along_y: u32,
-    along_z: u32,
+    periods: Periods,
     nodes: u32,
     symbols: Vec<u32>,
 }
 
 impl Model for Periodic {
-    ghost use Rattle.dd_pattern.specs.Tile.{Tile, IsTile};
+    ghost use Rattle.dd_pattern.specs.Tile.{Tile, IsPeriodic};
 
     ghost Value = { Tile };
 
-    ghost view = { λ p. record { dimension = p.dim; along_x = p.along_x; along_y = p.along_y; along_z = p.along_z; nodes = p.nodes; symbols = p.symbols.items } };
+    ghost view = { λ p. record { dimension = p.dim; periods = p.periods; nodes = p.nodes; symbols = p.symbols.items } };
 
-    ghost invariant = { λ p. IsTile (record { dimension = p.dim; along_x = p.along_x; along_y = p.along_y; along_z = p.along_z; nodes = p.nodes; symbols = p.symbols.items }) };
-}
-
-/// A whole number modulo `n`.
-fn residue(x: i32, n: u32) -> u32
-    requires some { 0 < n }
-    requires small { n ≤ 65536 }
-    ensures value { result ≡ residue x n }
-    ensures below { result < n }
-{
-    x.rem_euclid(n as i32) as u32
+    ghost invariant = { λ p. IsPeriodic (record { dimension = p.dim; periods = p.periods; nodes = p.nodes; symbols = p.symbols.items }) };
 }
 
 /// The number of an entry in a table of rows.
@@ -60,61 +50,66 @@ struct Base {
     z: u32,
 }
 
-fn table_size(x: u32, y: u32, z: u32, nodes: u32) -> u128
-    ensures { result ≡ z * y * x * nodes }
+fn table_size(periods: &Periods, nodes: u32) -> u128
+    ensures { result ≡ volume periods.now * nodes }
 {
-    let rows = z as u64 * y as u64;
-    let rest = x as u64 * nodes as u64;
+    let rows = periods.z as u64 * periods.y as u64;
+    let rest = periods.x as u64 * nodes as u64;
     rows as u128 * rest as u128
 }
 
-fn has_size(x: u32, y: u32, z: u32, nodes: u32, count: usize) -> bool
-    ensures { IsTrue result ↔ (z * y * x * nodes ≡ count) }
+fn has_size(periods: &Periods, nodes: u32, count: usize) -> bool
+    ensures { IsTrue result ↔ (volume periods.now * nodes ≡ count) }
 {
-    table_size(x, y, z, nodes) == count as u128
+    table_size(periods, nodes) == count as u128
 }
 
-/// Whether the periods of unused axes are 1.
-fn are_unused(dim: u32, along_y: u32, along_z: u32) -> bool
-    ensures { IsTrue result ↔ ((dim < 2 → along_y ≡ 1) × (dim < 3 → along_z ≡ 1)) }
+/// Whether the periods of unused axes are 1, and the shear is less than the first period, and 0 in one dimension.
+fn are_used(dim: u32, periods: &Periods) -> bool
+    ensures { IsTrue result ↔ ((dim < 2 → periods.now.y ≡ 1) × (dim < 3 → periods.now.z ≡ 1)
+        × (periods.now.shear < periods.now.x) × (dim < 2 → periods.now.shear ≡ 0)) }
 {
-    if dim < 2 && along_y != 1 {
+    if dim < 2 && (periods.y != 1 || periods.shear != 0) {
         return false;
     }
-    if dim < 3 && along_z != 1 {
+    if dim < 3 && periods.z != 1 {
         return false;
     }
-    true
+    periods.shear < periods.x
+}
+
+/// Whether these are periods in so many dimensions.
+fn are_periods(dim: u32, periods: &Periods) -> bool
+    ensures { IsTrue result ↔ ArePeriodsIn dim periods.now }
+{
+    periods.y != 0 && periods.z != 0 && are_used(dim, periods)
 }
 
 impl Periodic {
     /// The symbols come back where `dim` isn't 1, 2 or 3, where there is no node, where a period is 0 or that of an
-    /// unused axis isn't 1, and where the number of symbols isn't the product of the periods and of `nodes` or passes
-    /// 65,536. It takes no memory.
+    /// unused axis isn't 1, where the shear isn't less than the first period or isn't 0 in one dimension, and where the
+    /// number of symbols isn't the product of the periods and of `nodes` or passes 65,536. It takes no memory.
     pub fn new(
         dim: u32,
         periods: [u32; 3],
+        shear: u32,
         nodes: u32,
         symbols: Vec<u32>,
     ) -> Result<Periodic, Vec<u32>>
-        ensures { let t = tile dim periods nodes symbols.items in
-            MatchResult result (λ p. (p ≡ t) × IsTile t) (λ back. (back ≡ symbols) × (IsTile t → ⊥)) }
+        ensures { let t = tile dim (periods_of periods shear) nodes symbols.items in
+            MatchResult result (λ p. (p ≡ t) × IsPeriodic t) (λ back. (back ≡ symbols) × (IsPeriodic t → ⊥)) }
     {
-        let [along_x, along_y, along_z] = periods;
+        let [x, y, z] = periods;
+        let periods = Periods { x, y, z, shear };
         if dim == 0 || dim > 3 || nodes == 0 || symbols.len() > MOST_SYMBOLS {
             return Err(symbols);
         }
-        if along_x == 0 || along_y == 0 || along_z == 0 || !are_unused(dim, along_y, along_z) {
-            return Err(symbols);
-        }
-        if !has_size(along_x, along_y, along_z, nodes, symbols.len()) {
+        if !are_periods(dim, &periods) || !has_size(&periods, nodes, symbols.len()) {
             return Err(symbols);
         }
         Ok(Periodic {
             dim,
-            along_x,
-            along_y,
-            along_z,
+            periods,
             nodes,
             symbols,
         })
@@ -129,9 +124,16 @@ impl Periodic {
 
     /// The periods, 1 on unused axes.
     pub fn periods(&self) -> [u32; 3]
-        ensures { result ≡ self.now.along_x ∷ self.now.along_y ∷ self.now.along_z ∷ [] }
+        ensures { result ≡ self.now.periods.x ∷ self.now.periods.y ∷ self.now.periods.z ∷ [] }
     {
-        [self.along_x, self.along_y, self.along_z]
+        [self.periods.x, self.periods.y, self.periods.z]
+    }
+
+    /// How far the second period vector goes along x: less than the first period, and 0 in one dimension.
+    pub fn shear(&self) -> u32
+        ensures { result ≡ self.now.periods.shear }
+    {
+        self.periods.shear
     }
 
     /// The number of nodes of a position, at least 1.
@@ -145,7 +147,7 @@ impl Periodic {
     #[tactic(auto, using(crate::proofs::TileLaws::read_modulo))]
     pub fn symbols(&self) -> &[u32]
         ensures value { result.now ≡ self.now.symbols }
-        ensures kept { IsTile self.now }
+        ensures kept { IsPeriodic self.now }
         ensures reads { IsReadModulo self.now }
     {
         self.symbols.as_slice()
@@ -162,14 +164,16 @@ impl Periodic {
 
 impl Periodic {
     fn base(&self, position: &Position) -> Base
-        ensures x { result.x ≡ residue position.now.x self.now.along_x }
-        ensures y { result.y ≡ residue position.now.y self.now.along_y }
-        ensures z { result.z ≡ residue position.now.z self.now.along_z }
+        ensures x { result.x ≡ residue (unsheared self.now.periods position.now) self.now.periods.x }
+        ensures y { result.y ≡ residue position.now.y self.now.periods.y }
+        ensures z { result.z ≡ residue position.now.z self.now.periods.z }
     {
+        let turns = quotient(position.y, self.periods.y);
+        let x = unsheared(position.x, turns, self.periods.shear);
         Base {
-            x: residue(position.x, self.along_x),
-            y: residue(position.y, self.along_y),
-            z: residue(position.z, self.along_z),
+            x: residue(x, self.periods.x),
+            y: residue(position.y as i64, self.periods.y),
+            z: residue(position.z as i64, self.periods.z),
         }
     }
 
@@ -179,8 +183,8 @@ impl Periodic {
         ensures within { result < length self.now.symbols }
     {
         let base = self.base(&cell.position);
-        let row = entry(base.z as usize, self.along_y, base.y);
-        let place = entry(row, self.along_x, base.x);
+        let row = entry(base.z as usize, self.periods.y, base.y);
+        let place = entry(row, self.periods.x, base.x);
         entry(place, self.nodes, cell.node)
     }
 }
@@ -195,11 +199,11 @@ impl Periodic {
         ensures number { tile_index self.now result ≡ number }
     {
         let place = number / self.nodes as usize;
-        let row = place / self.along_x as usize;
+        let row = place / self.periods.x as usize;
         let position = position_of(
-            place % self.along_x as usize,
-            row % self.along_y as usize,
-            row / self.along_y as usize,
+            place % self.periods.x as usize,
+            row % self.periods.y as usize,
+            row / self.periods.y as usize,
         );
         Cell {
             position,

@@ -1,0 +1,39 @@
+-- Periods: the vectors (x, 0, 0), (shear, y, 0) and (0, 0, z), along which a configuration repeats.
+use Rattle.std.specs.Prelude.{ℕ, ◌*◌, ◌<◌, ◌≡◌, List, slice_index, ℤ, pos, ◌-ℤ◌, ◌*ℤ◌, unsigned_abs}
+use Rattle.std.specs.Int.{int_rem_euclid, int_div_euclid}
+use Rattle.dd_lattice.specs.Place.{Place, place}
+use Rattle.dd_pattern.specs.declared.periods.Periods.{Periods}
+
+abbrev pub periods_of : List ℕ → ℕ → Periods
+periods_of along shear = record { x = slice_index along 0; y = slice_index along 1; z = slice_index along 2; shear = shear }
+
+-- the number of positions of the fundamental box
+abbrev pub volume : Periods → ℕ
+volume p = p.z * p.y * p.x
+
+-- periods in d dimensions
+pub record ArePeriodsIn (d : ℕ) (p : Periods) : Type 0 where
+  pub x_some : 0 < p.x
+  pub y_some : 0 < p.y
+  pub z_some : 0 < p.z
+  -- the periods of unused axes
+  pub y_unused : d < 2 → p.y ≡ 1
+  pub z_unused : d < 3 → p.z ≡ 1
+  pub shear_small : p.shear < p.x
+  pub shear_unused : d < 2 → p.shear ≡ 0
+
+-- a whole number modulo n
+abbrev pub residue : ℤ → ℕ → ℕ
+residue x n = unsigned_abs (int_rem_euclid x (pos n))
+
+-- a whole number divided by n, rounded down
+abbrev pub quotient : ℤ → ℕ → ℤ
+quotient x n = int_div_euclid x (pos n)
+
+-- where a position stands along x, once the second period vector is taken from it until its y lies in the box
+abbrev pub unsheared : Periods → Place → ℤ
+unsheared p v = v.x -ℤ quotient v.y p.y *ℤ pos p.shear
+
+-- a position modulo the periods
+abbrev pub base_of : Periods → Place → Place
+base_of p v = place (pos (residue (unsheared p v) p.x)) (pos (residue v.y p.y)) (pos (residue v.z p.z))
