@@ -5,3 +5,5 @@ pub mod Filling
 pub mod Periods
 pub mod Tile
 pub mod Weight
+-- What the loops that list periods add.
+pub mod listing

@@ -1,6 +1,10 @@
 -- Periods: the vectors (x, 0, 0), (shear, y, 0) and (0, 0, z), along which a configuration repeats.
-use Rattle.std.specs.Prelude.{ℕ, ◌*◌, ◌<◌, ◌≡◌, List, slice_index, ℤ, pos, ◌-ℤ◌, ◌*ℤ◌, unsigned_abs}
+use Rattle.std.specs.Prelude.{ℕ, ◌*◌, ◌<◌, ◌≤◌, ◌≡◌, ◌↔◌, List, slice_index, ℤ, pos, ◌-ℤ◌, ◌*ℤ◌, unsigned_abs}
 use Rattle.std.specs.Int.{int_rem_euclid, int_div_euclid}
+use Rattle.std.specs.List.{Contains}
+use Rattle.std.specs.Ordering.{nat_cmp, on, then_cmp}
+use Rattle.std.specs.declared.cmp.Ordering.{Ordering}
+use Rattle.std.specs.declared.cmp.Ordering.TheVariants.{Less}
 use Rattle.dd_lattice.specs.Place.{Place, place}
 use Rattle.dd_pattern.specs.declared.periods.Periods.{Periods}
 
@@ -37,3 +41,23 @@ unsheared p v = v.x -ℤ quotient v.y p.y *ℤ pos p.shear
 -- a position modulo the periods
 abbrev pub base_of : Periods → Place → Place
 base_of p v = place (pos (residue (unsheared p v) p.x)) (pos (residue v.y p.y)) (pos (residue v.z p.z))
+
+-- the order of periods: by volume, then by x, y, z and the shear
+abbrev pub periods_cmp : Periods → Periods → Ordering
+periods_cmp =
+    then_cmp (then_cmp (then_cmp (then_cmp (on volume nat_cmp) (on (λ p. p.x) nat_cmp)) (on (λ p. p.y) nat_cmp)) (on (λ p. p.z) nat_cmp))
+    (on (λ p. p.shear) nat_cmp)
+
+abbrev pub IsBefore : Periods → Periods → Type 0
+IsBefore q p = periods_cmp q p ≡ Less
+
+-- periods in d dimensions that are at most n along each axis
+pub record AreWithin (d n : ℕ) (p : Periods) : Type 0 where
+  pub periods : ArePeriodsIn d p
+  pub x_most : p.x ≤ n
+  pub y_most : p.y ≤ n
+  pub z_most : p.z ≤ n
+
+-- the list has exactly these
+abbrev pub AreAllWithin : ℕ → ℕ → List Periods → Type 0
+AreAllWithin d n ps = (p : Periods) → Contains ps p ↔ AreWithin d n p

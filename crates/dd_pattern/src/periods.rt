@@ -1,16 +1,134 @@
-//! Periods: the vectors along which a configuration repeats.
-ghost use Rattle.std.specs.Prelude.{◌≡◌, ◌<◌, ◌≤◌, ◌+◌, pos, unsigned_abs, ◌*ℤ◌, ◌-ℤ◌};
+//! Periods: the vectors along which a configuration repeats, and their order.
+ghost use Rattle.std.specs.Prelude.{◌≡◌, ◌<◌, ◌≤◌, ◌+◌, ◌*◌, pos, unsigned_abs, ◌*ℤ◌, ◌-ℤ◌, IfOk, OnOk};
+ghost use Rattle.std.proofs.Common.{rules};
+ghost use Rattle.std.specs.Cmp.{partial_order_from_own_ties};
+ghost use Rattle.std.specs.Cmp.Rules.{comparing};
+ghost use Rattle.std.specs.List.Sorted.{IsStrictlySortedBy};
+ghost use Rattle.std.specs.Ordering.{as_partial_cmp};
 ghost use Rattle.dd_lattice.specs.Place.{IsNear};
-ghost use Rattle.dd_pattern.specs.Periods.{residue, quotient};
+ghost use Rattle.dd_pattern.specs.Periods.{residue, quotient, volume, periods_cmp, AreAllWithin};
+ghost use Rattle.dd_pattern.specs.listing.Adding.{IsAdded, HasShear, HasRow, HasPlane, most_along};
+
+use std::alloc::{AllocError, Global};
+use std::cmp::Ordering;
+use std::collections::BTreeSet;
 
 /// The period vectors `(x, 0, 0)`, `(shear, y, 0)` and `(0, 0, z)`. Those of unused axes are 1, and the shear is less
-/// than `x`, and 0 in one dimension.
+/// than `x`, and 0 in one dimension. Their order is by the volume `x * y * z`, then by `x`, `y`, `z` and the shear.
 #[derive(Debug, Clone, Copy, PartialEq, Eq)]
 pub struct Periods {
     pub x: u32,
     pub y: u32,
     pub z: u32,
     pub shear: u32,
+}
+
+impl Periods {
+    /// All periods in `dim` dimensions that are at most `most` along each axis, each with each shear, in their order.
+    pub fn within(alloc: Global, dim: u32, most: u32) -> Result<Vec<Periods>, AllocError>
+        ensures ascending { IfOk result (λ v. IsStrictlySortedBy periods_cmp v.items) }
+        ensures members { IfOk result (λ v. AreAllWithin dim most v.items) }
+    {
+        let mut found = BTreeSet::new(alloc);
+        for x in 0..most {
+            add_plane(&mut found, dim, most, x + 1)?;
+        }
+        listed(alloc, &found)
+    }
+
+    fn volume(&self) -> u128
+        ensures { result ≡ volume self.now }
+    {
+        let rows = self.z as u64 * self.y as u64;
+        rows as u128 * self.x as u128
+    }
+}
+
+impl Ord for Periods {
+    ghost cmp = { periods_cmp };
+
+    ghost total = { Prim.search (comparing, rules) depth 12 };
+
+    ghost matches_partial_cmp = { Prim.search (comparing, rules) depth 12 };
+
+    ghost matches_eq = { Prim.search (comparing, rules) depth 12 };
+
+    fn cmp(&self, other: &Periods) -> Ordering {
+        self.volume()
+            .cmp(&other.volume())
+            .then(self.x.cmp(&other.x))
+            .then(self.y.cmp(&other.y))
+            .then(self.z.cmp(&other.z))
+            .then(self.shear.cmp(&other.shear))
+    }
+}
+
+impl PartialOrd for Periods {
+    ghost partial_cmp = { as_partial_cmp periods_cmp };
+
+    ghost laws = { partial_order_from_own_ties (Prim.search (comparing, rules) depth 12) (Prim.search (comparing, rules) depth 12) };
+
+    fn partial_cmp(&self, other: &Periods) -> Option<Ordering> {
+        Some(self.cmp(other))
+    }
+}
+
+/// How long a period is at most along an axis, where those of active axes are `most` at most.
+fn most_along(dim: u32, axis: u32, most: u32) -> u32
+    ensures { result ≡ most_along dim axis most }
+{
+    if axis < dim { most } else { 1 }
+}
+
+/// Adds the periods with each shear.
+fn add_shears(
+    found: &mut BTreeSet<Periods>,
+    dim: u32,
+    x: u32,
+    y: u32,
+    z: u32,
+) -> Result<(), AllocError>
+    ensures { OnOk result (IsAdded found.old.keys found.new.keys (HasShear (most_along dim 1 x) x y z)) }
+{
+    for shear in 0..most_along(dim, 1, x) {
+        found.insert(Periods { x, y, z, shear })?;
+    }
+    Ok(())
+}
+
+/// Adds the periods with these first two, whose third is at most `high`.
+fn add_row(
+    found: &mut BTreeSet<Periods>,
+    dim: u32,
+    high: u32,
+    x: u32,
+    y: u32,
+) -> Result<(), AllocError>
+    ensures { OnOk result (IsAdded found.old.keys found.new.keys (HasRow dim high x y)) }
+{
+    for z in 0..high {
+        add_shears(found, dim, x, y, z + 1)?;
+    }
+    Ok(())
+}
+
+/// Adds the periods with this first one.
+fn add_plane(found: &mut BTreeSet<Periods>, dim: u32, most: u32, x: u32) -> Result<(), AllocError>
+    ensures { OnOk result (IsAdded found.old.keys found.new.keys (HasPlane dim most x)) }
+{
+    let high = most_along(dim, 2, most);
+    for y in 0..most_along(dim, 1, most) {
+        add_row(found, dim, high, x, y + 1)?;
+    }
+    Ok(())
+}
+
+/// The periods of the set, in their order.
+fn listed(alloc: Global, found: &BTreeSet<Periods>) -> Result<Vec<Periods>, AllocError>
+    ensures list { IfOk result (λ v. v.items ≡ found.now.keys) }
+    ensures ascending { IfOk result (λ v. IsStrictlySortedBy periods_cmp v.items) }
+{
+    found.iter().copied().collect(alloc)
 }
 
 /// A whole number modulo `n`.

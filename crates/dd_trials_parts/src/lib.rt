@@ -16,6 +16,8 @@ mod lattice;
 #[cfg(test)]
 mod outside;
 #[cfg(test)]
+mod patterns;
+#[cfg(test)]
 mod syntax;
 #[cfg(test)]
 mod tokens;

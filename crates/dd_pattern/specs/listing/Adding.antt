@@ -1,0 +1,35 @@
+-- Lists of periods as loops add to them.
+use Rattle.std.specs.Prelude.{ℕ, ◌<◌, ◌≤◌, ◌≡◌, ◌↔◌, ◌⊎◌, List, cond}
+use Rattle.std.specs.List.{Contains}
+use Rattle.dd_lattice.specs.Boxes.{is_active}
+use Rattle.dd_pattern.specs.declared.periods.Periods.{Periods}
+
+-- the second list has what the first has, and the periods that P names
+abbrev pub IsAdded : List Periods → List Periods → (Periods → Type 0) → Type 0
+IsAdded old new P = (q : Periods) → Contains new q ↔ (Contains old q ⊎ P q)
+
+-- n along an active axis, 1 along another
+abbrev pub most_along : ℕ → ℕ → ℕ → ℕ
+most_along d axis n = cond (is_active d axis) n 1
+
+-- these three periods, and a shear less than n
+pub record HasShear (n x y z : ℕ) (q : Periods) : Type 0 where
+  pub at_x : q.x ≡ x
+  pub at_y : q.y ≡ y
+  pub at_z : q.z ≡ z
+  pub shear : q.shear < n
+
+-- as F says of the period f, which is 1 to n
+pub record IsUpTo (F : ℕ → Periods → Type 0) (f : Periods → ℕ) (n : ℕ) (q : Periods) : Type 0 where
+  pub rest : F (f q) q
+  pub some : 1 ≤ f q
+  pub most : f q ≤ n
+
+abbrev pub HasRow : ℕ → ℕ → ℕ → ℕ → Periods → Type 0
+HasRow d n x y = IsUpTo (HasShear (most_along d 1 x) x y) (λ q. q.z) n
+
+abbrev pub HasPlane : ℕ → ℕ → ℕ → Periods → Type 0
+HasPlane d n x = IsUpTo (HasRow d (most_along d 2 n) x) (λ q. q.y) (most_along d 1 n)
+
+abbrev pub HasBox : ℕ → ℕ → ℕ → Periods → Type 0
+HasBox d n k = IsUpTo (HasPlane d n) (λ q. q.x) k
