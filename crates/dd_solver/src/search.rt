@@ -191,6 +191,3 @@ pub fn solve(alloc: Global, cnf: &Cnf) -> Result<Outcome, AllocError>
     let search = Search::new(alloc, cnf.clauses(), cnf.variables())?;
     search.run(alloc)
 }
-
-#[cfg(test)]
-mod tests;

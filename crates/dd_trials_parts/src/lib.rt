@@ -18,6 +18,8 @@ mod outside;
 #[cfg(test)]
 mod patterns;
 #[cfg(test)]
+mod solver;
+#[cfg(test)]
 mod syntax;
 #[cfg(test)]
 mod tokens;

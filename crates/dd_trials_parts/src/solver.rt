@@ -1,0 +1,157 @@
+// Clause lists that are solved, and a refutation that is trimmed. A list is given by its literals as signed numbers, each
+// clause ended by 0.
+use dd_clause::{Clause, Cnf, Literal, satisfies};
+use dd_derivation::{Marks, Outcome, Step, check_refutation};
+use dd_solver::{solve, trimmed};
+use dd_values::Items;
+use std::alloc::{AllocError, Global};
+use std::test::Fail;
+
+fn clause_of(alloc: Global, numbers: &[i32]) -> Result<Clause, AllocError> {
+    let mut literals: Vec<Literal> = Vec::new(alloc);
+    for number in numbers {
+        literals.push(Literal {
+            variable: number.unsigned_abs(),
+            positive: *number > 0,
+        })?;
+    }
+    Clause::from_literals(alloc, literals.as_slice())
+}
+
+/// The clauses of the numbers. One that is out of range is left out.
+fn cnf_of(alloc: Global, variables: u8, numbers: &[i32]) -> Result<Cnf, AllocError> {
+    let mut cnf = Cnf::new(alloc, u32::from(variables));
+    let mut clause: Vec<i32> = Vec::new(alloc);
+    for number in numbers {
+        if *number != 0 {
+            clause.push(*number)?;
+        } else {
+            let made = clause_of(alloc, clause.as_slice())?;
+            if cnf.is_in_range(&made) {
+                cnf.push(made)?;
+            }
+            clause.clear();
+        }
+    }
+    Ok(cnf)
+}
+
+/// That each of some things is in one of the holes, one thing more than there are holes, and no two are in one. The
+/// variable `first + holes * t + h` says that the thing t is in the hole h.
+fn push_crowded(numbers: &mut Vec<i32>, first: i32, holes: i32) -> Result<(), AllocError> {
+    let place = |thing: i32, hole: i32| {
+        first
+            .saturating_add(holes.saturating_mul(thing))
+            .saturating_add(hole)
+    };
+    for thing in 0..holes.saturating_add(1) {
+        for hole in 0..holes {
+            numbers.push(place(thing, hole))?;
+        }
+        numbers.push(0)?;
+        for other in 0..thing {
+            for hole in 0..holes {
+                numbers.push(0i32.saturating_sub(place(thing, hole)))?;
+                numbers.push(0i32.saturating_sub(place(other, hole)))?;
+                numbers.push(0)?;
+            }
+        }
+    }
+    Ok(())
+}
+
+/// The answer, which the checks of assignments and of refutations are asked about.
+fn answer(alloc: Global, cnf: &Cnf) -> Result<&'static str, AllocError> {
+    match solve(alloc, cnf)? {
+        Outcome::Found(assignment) => {
+            if satisfies(cnf, &assignment) {
+                return Ok("found");
+            }
+        }
+        Outcome::Refuted(steps) => {
+            let mut marks = Marks::new(alloc, cnf, steps.as_slice())?;
+            if check_refutation(cnf, steps.as_slice(), &mut marks) {
+                return Ok("refuted");
+            }
+        }
+    }
+    Ok("wrong")
+}
+
+#[test]
+fn finds_or_refutes(rt: HostRuntime) -> Result<(), Fail> {
+    let alloc = rt.alloc();
+    // Seven things in six holes.
+    let mut seven: Vec<i32> = Vec::new(alloc);
+    push_crowded(&mut seven, 1, 6)?;
+    // Four things in three holes, and 40 variables before them with clauses of their own, which most of their values
+    // satisfy. A search that learns nothing refutes the last clauses once for each of these values.
+    let mut four: Vec<i32> = Vec::new(alloc);
+    for pair in 0..20u8 {
+        four.push(i32::from(2 * pair + 1))?;
+        four.push(i32::from(2 * pair + 2))?;
+        four.push(0)?;
+    }
+    push_crowded(&mut four, 41, 3)?;
+    // In the first two the variable 3 is the conjunction of 1 and 2, of which one has to be true and one false.
+    let cases: [(u8, usize, &[i32], &str); 10] = [
+        (
+            3,
+            6,
+            &[1, 2, 0, -1, -2, 0, -3, 1, 0, -3, 2, 0, 3, -1, -2, 0, 3, 0],
+            "refuted",
+        ),
+        (
+            3,
+            5,
+            &[1, 2, 0, -1, -2, 0, -3, 1, 0, -3, 2, 0, 3, -1, -2, 0],
+            "found",
+        ),
+        (0, 0, &[], "found"),
+        (3, 0, &[], "found"),
+        (0, 1, &[0], "refuted"),
+        (1, 2, &[1, 1, 0, -1, 0], "refuted"),
+        (2, 3, &[1, -1, 0, 2, -2, 2, 0, -2, 0], "found"),
+        (
+            3,
+            5,
+            &[1, 2, 3, 0, -1, 2, 0, -2, 3, 0, -3, 1, 0, -1, -2, -3, 0],
+            "refuted",
+        ),
+        (52, 42, four.as_slice(), "refuted"),
+        (42, 133, seven.as_slice(), "refuted"),
+    ];
+    for (variables, count, numbers, want) in cases {
+        let cnf = cnf_of(alloc, variables, numbers)?;
+        assert_eq!(rt; cnf.clauses().len(), count, "of {numbers:?}");
+        assert_eq!(rt; answer(alloc, &cnf)?, want, "of {numbers:?}");
+    }
+    Ok(())
+}
+
+// The first of the three steps is not used, so the others have lesser numbers.
+#[test]
+fn leaves_out_a_step_that_is_not_used(rt: HostRuntime) -> Result<(), Fail> {
+    let alloc = rt.alloc();
+    let cnf = cnf_of(
+        alloc,
+        2,
+        [1, 2, 0, -1, 2, 0, 1, -2, 0, -1, -2, 0].as_slice(),
+    )?;
+    let cases: [(&[i32], &[u64]); 3] = [(&[1], &[1, 3]), (&[2], &[1, 2]), (&[], &[6, 3, 4])];
+    let mut steps = Items::new(alloc);
+    for (clause, hints) in cases {
+        steps.push(Step {
+            clause: clause_of(alloc, clause)?,
+            hints: Items::from_slice(alloc, hints)?,
+            deletes: Items::new(alloc),
+        })?;
+    }
+    let mut marks = Marks::new(alloc, &cnf, steps.as_slice())?;
+    assert!(rt; check_refutation(&cnf, steps.as_slice(), &mut marks));
+    let fewer = trimmed(alloc, &cnf, steps)?;
+    assert_eq!(rt; fewer.len(), 2);
+    assert_eq!(rt; fewer[0].hints.as_slice(), [1, 2].as_slice());
+    assert_eq!(rt; fewer[1].hints.as_slice(), [5, 3, 4].as_slice());
+    Ok(())
+}
