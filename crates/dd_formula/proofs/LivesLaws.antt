@@ -1,11 +1,12 @@
 -- A rule that is true at each cell of the fundamental box is true at every position of Z^d.
 use Rattle.std.proofs.Common.{◌≡◌, ℕ, ◌<◌, length, true, false, ap, sym, ◌∙◌, arith}
-use Rattle.dd_lattice.specs.Place.{Place}
+use Rattle.dd_lattice.specs.Place.{Place, moved}
 use Rattle.dd_lattice.specs.Cells.{cell, shifted}
 use Rattle.dd_lattice.specs.declared.position.Cell.{Cell}
 use Rattle.dd_pattern.specs.Reading.{Look}
-use Rattle.dd_pattern.specs.Tile.{Tile, IsTile, base_of, tile_index, tile_look, cell_in}
-use Rattle.dd_pattern.proofs.Residues.{residue-add}
+use Rattle.dd_pattern.specs.Periods.{base_of}
+use Rattle.dd_pattern.specs.Tile.{Tile, IsTile, tile_index, tile_look, cell_in}
+use Rattle.dd_pattern.proofs.TileLaws.{base_moved, look_same}
 use Rattle.dd_pattern.proofs.TileSizes.{index_below}
 use Rattle.dd_pattern.proofs.BoxLaws.{cell_at_index, cell_of_index, in_box, index_of_cell, before_by_order}
 use Rattle.dd_expansion.specs.Terms.{origin_at}
@@ -20,15 +21,15 @@ true_in r t i = is_true r (cell_in t i) (tile_look t) ≡ true
 same_look : (f g : Look) → ((c : Cell) → f c ≡ g c) → f ≡ g
 same_look f g h = λ i c. h c i
 
-look_at_base : (t : Tile) → IsTile t → (v : Place) (c : Cell) → tile_look t (shifted v c) ≡ tile_look t (shifted (base_of t v) c)
+look_at_base : (t : Tile) → IsTile t → (v : Place) (c : Cell) → tile_look t (shifted v c) ≡ tile_look t (shifted (base_of t.periods v) c)
 look_at_base t ok v c =
-    rw (residue-add c.position.x v.x t.along_x ok.x_some, residue-add c.position.y v.y t.along_y ok.y_some, residue-add c.position.z v.z t.along_z ok.z_some)
+    look_same t (moved c.position v) (moved c.position (base_of t.periods v)) c.node (base_moved t.dimension t.periods ok.periods c.position v)
 
-truth_at_base : (r : LocalRule) (t : Tile) → IsTile t → (v : Place) (a : ℕ) → is_true r (cell v a) (tile_look t) ≡ is_true r (cell (base_of t v) a) (tile_look t)
+truth_at_base : (r : LocalRule) (t : Tile) → IsTile t → (v : Place) (a : ℕ) → is_true r (cell v a) (tile_look t) ≡ is_true r (cell (base_of t.periods v) a) (tile_look t)
 truth_at_base r t ok v a =
     truth_moved_back r v a (tile_look t)
-    ∙ (ap (is_true r (origin_at a)) (same_look (λ c. tile_look t (shifted v c)) (λ c. tile_look t (shifted (base_of t v) c)) (look_at_base t ok v))
-    ∙ sym (truth_moved_back r (base_of t v) a (tile_look t)))
+    ∙ (ap (is_true r (origin_at a)) (same_look (λ c. tile_look t (shifted v c)) (λ c. tile_look t (shifted (base_of t.periods v) c)) (look_at_base t ok v))
+    ∙ sym (truth_moved_back r (base_of t.periods v) a (tile_look t)))
 
 -- what holds at each cell of the box holds everywhere
 pub lives_from_box : (r : LocalRule) (t : Tile) → Fits r t → IsTile t → ((k : ℕ) → k < length t.symbols → true_in r t k) → Lives r t

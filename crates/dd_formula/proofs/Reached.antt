@@ -13,7 +13,8 @@ use Rattle.dd_lattice.proofs.RangeLaws.{test_from_in_range}
 use Rattle.dd_topology.specs.Topology.{extent}
 use Rattle.dd_pattern.specs.Reading.{IsBelow}
 use Rattle.dd_pattern.specs.Filling.{Filled, filling_look}
-use Rattle.dd_pattern.specs.Tile.{Tile, IsTile, IsInBox, residue, tile_index, tile_look}
+use Rattle.dd_pattern.specs.Periods.{residue, unsheared}
+use Rattle.dd_pattern.specs.Tile.{Tile, IsTile, IsPeriodic, IsInBox, tile_index, tile_look}
 use Rattle.dd_pattern.proofs.Residues.{residue_below}
 use Rattle.dd_pattern.proofs.TileSizes.{sizes_of, index_below}
 use Rattle.dd_expansion.specs.Placed.{is_flat}
@@ -36,15 +37,16 @@ some_within [] i h = absurd (omega arith)
 some_within (x ∷ xs) zero h = refl
 some_within (x ∷ xs) (suc i) h = some_within xs i (omega arith)
 
-box_extent : (t : Tile) → IsTile t → (c : Cell) → IsInBox t c → extent c.position ≤ 65536
-box_extent t ok c h =
-    let sizes = sizes_of t ok in
-    let x : pos (residue c.position.x t.along_x) ≡ c.position.x = ap (λ p. p.x) h.base in
-    let y : pos (residue c.position.y t.along_y) ≡ c.position.y = ap (λ p. p.y) h.base in
-    let z : pos (residue c.position.z t.along_z) ≡ c.position.z = ap (λ p. p.z) h.base in
-    let x_in = residue_below c.position.x t.along_x ok.x_some in
-    let y_in = residue_below c.position.y t.along_y ok.y_some in
-    let z_in = residue_below c.position.z t.along_z ok.z_some in
+box_extent : (t : Tile) → IsPeriodic t → (c : Cell) → IsInBox t c → extent c.position ≤ 65536
+box_extent t kept c h =
+    let ok : IsTile t = kept.tile in
+    let sizes = sizes_of t kept in
+    let x : pos (residue (unsheared t.periods c.position) t.periods.x) ≡ c.position.x = ap (λ p. p.x) h.base in
+    let y : pos (residue c.position.y t.periods.y) ≡ c.position.y = ap (λ p. p.y) h.base in
+    let z : pos (residue c.position.z t.periods.z) ≡ c.position.z = ap (λ p. p.z) h.base in
+    let x_in = residue_below (unsheared t.periods c.position) t.periods.x ok.periods.x_some in
+    let y_in = residue_below c.position.y t.periods.y ok.periods.y_some in
+    let z_in = residue_below c.position.z t.periods.z ok.periods.z_some in
     let x_small : unsigned_abs c.position.x ≤ 65536 = omega (arith, ints, sizes.x_small) in
     let y_small : unsigned_abs c.position.y ≤ 65536 = omega (arith, ints, sizes.y_small) in
     let z_small : unsigned_abs c.position.z ≤ 65536 = omega (arith, ints, sizes.z_small) in
@@ -53,13 +55,13 @@ box_extent t ok c h =
 look_given : (t : Tile) → IsTile t → (d : Cell) → d.node < t.nodes → is_some (tile_look t d) ≡ true
 look_given t ok d h = let there : nat_lt d.node t.nodes ≡ true = lt-ltb _ _ h in rw there (some_within t.symbols (tile_index t d) (index_below t ok d h))
 
-read_given : (t : Tile) → IsTile t → (c d : Cell) → IsInBox t c → extent d.position ≤ 16 → d.node < t.nodes → is_some (seen (tile_look t) c.position d) ≡ true
+read_given : (t : Tile) → IsPeriodic t → (c d : Cell) → IsInBox t c → extent d.position ≤ 16 → d.node < t.nodes → is_some (seen (tile_look t) c.position d) ≡ true
 read_given t ok c d h close node =
     let small : extent (moved d.position c.position) ≤ 1048576 = omega (arith, extent_moved d.position c.position, box_extent t ok c h) in
     let there : is_in_range (moved d.position c.position) ≡ true = in_range (moved d.position c.position) small in
-    rw there (look_given t ok (shifted c.position d) node)
+    rw there (look_given t ok.tile (shifted c.position d) node)
 
-all_given : (r : LocalRule) (t : Tile) → Fits r t → IsTile t → (c : Cell) → IsInBox t c → (ds : List Cell) → list_all is_near ds ≡ true → list_all (is_of r) ds ≡ true →
+all_given : (r : LocalRule) (t : Tile) → Fits r t → IsPeriodic t → (c : Cell) → IsInBox t c → (ds : List Cell) → list_all is_near ds ≡ true → list_all (is_of r) ds ≡ true →
     list_all (λ d. is_some (seen (tile_look t) c.position d)) ds ≡ true
 all_given r t fits ok c h [] near placed = refl
 all_given r t fits ok c h (d ∷ ds) near placed =
@@ -70,7 +72,7 @@ all_given r t fits ok c h (d ∷ ds) near placed =
     and_from _ _ (read_given t ok c d h (leb-true _ _ nears.0) exists) (all_given r t fits ok c h ds nears.1 places.1)
 
 -- a rule's reads at each cell of the box have symbols
-pub box_given : (r : LocalRule) (t : Tile) → IsRule r → Fits r t → IsTile t → (c : Cell) → IsInBox t c → is_given r c (tile_look t) ≡ true
+pub box_given : (r : LocalRule) (t : Tile) → IsRule r → Fits r t → IsPeriodic t → (c : Cell) → IsInBox t c → is_given r c (tile_look t) ≡ true
 box_given r t rule fits ok c h =
     let node : c.node < r.nodes = omega (arith, h.node, fits.nodes) in
     all_given r t fits ok c h (reads_at r c.node) (rule.short c.node node) (rule.placed c.node node)

@@ -2,7 +2,7 @@ use Rattle.std.proofs.Common.{◌≡◌, ◌<◌, ℕ, length, Bool, true, false
 use borrow.Author.Count.{below_more}
 use Rattle.std.specs.Prelude.{cond}
 use Rattle.dd_lattice.specs.declared.position.Cell.{Cell}
-use Rattle.dd_pattern.specs.Tile.{Tile, IsTile, cell_in, tile_look}
+use Rattle.dd_pattern.specs.Tile.{Tile, IsPeriodic, cell_in, tile_look}
 use Rattle.dd_pattern.proofs.BoxLaws.{in_box}
 use Rattle.dd_formula.specs.LocalRule.{LocalRule, IsRule, is_true, is_given}
 use Rattle.dd_formula.specs.Living.{Fits}
@@ -11,12 +11,12 @@ use Rattle.dd_formula.proofs.LivesLaws.{true_in, lives_from_box, first_from_box}
 use Rattle.dd_formula.proofs.rule.Rule.member.Goals as goal
 
 -- what the truth at a cell of the box answers: all that is read there is given
-told : (r : LocalRule) (t : Tile) (i : ℕ) (c : Cell) (answer : Option Bool) → IsRule r → Fits r t → IsTile t → i < length t.symbols → c ≡ cell_in t i →
+told : (r : LocalRule) (t : Tile) (i : ℕ) (c : Cell) (answer : Option Bool) → IsRule r → Fits r t → IsPeriodic t → i < length t.symbols → c ≡ cell_in t i →
     answer ≡ cond (is_given r c (tile_look t)) (Some (is_true r c (tile_look t))) None → answer ≡ Some (is_true r (cell_in t i) (tile_look t))
 told r t i c answer rule fits ok within is_cell said =
     said
     ∙ (ap (λ d. cond (is_given r d (tile_look t)) (Some (is_true r d (tile_look t))) None) is_cell
-    ∙ ap (λ b. cond b (Some (is_true r (cell_in t i) (tile_look t))) None) (box_given r t rule fits ok (cell_in t i) (in_box t ok i within)))
+    ∙ ap (λ b. cond b (Some (is_true r (cell_in t i) (tile_look t))) None) (box_given r t rule fits ok (cell_in t i) (in_box t ok.tile i within)))
 
 pub truth-requires : goal.truth-requires
 truth-requires c =
@@ -45,7 +45,7 @@ returns-in-Some-false c =
     let within : number < length t.symbols = omega (arith, ap length count.value, c.loop-number-test.true) in
     let answer = told r t number c.cell_at-cell.result c.truth.result c.truth.ensures.kept c.requires count.kept within c.cell_at-cell.ensures.value c.truth.ensures.value in
     let here : is_true r (cell_in t number) (tile_look t) ≡ false = (let is = c.in-Some-false.is in let no = c.in-Some-false.field-0-test in cc) in
-    rw c.cell_at-cell.ensures.value (first_from_box r t count.kept number within here c.loop-number.invariant)
+    rw c.cell_at-cell.ensures.value (first_from_box r t count.kept.tile number within here c.loop-number.invariant)
 
 pub unreachable-requires : goal.unreachable-requires
 unreachable-requires c =
@@ -64,4 +64,4 @@ returns c =
     let count = c.symbols-number-end.ensures in
     let all : (k : ℕ) → k < length t.symbols → true_in c.args.self.now t k =
     λ k h. c.loop-number.invariant k (omega (arith, ap length count.value, c.loop-number-test.false, h)) in
-    lives_from_box c.args.self.now t c.requires count.kept all
+    lives_from_box c.args.self.now t c.requires count.kept.tile all
