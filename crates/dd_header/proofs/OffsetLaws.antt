@@ -10,7 +10,7 @@ use Rattle.std.proofs.lemmas.Option.{slice_get_past}
 use Rattle.dd_syntax.specs.declared.command.Entry.{Entry}
 use Rattle.dd_syntax.specs.declared.command.Entry.TheVariants as entry
 use Rattle.dd_syntax.specs.declared.command.Offset.{Offset}
-use Rattle.dd_topology.specs.Grid.{reach, is_offset}
+use Rattle.dd_topology.specs.Grid.{edge_reach, is_offset}
 use Rattle.dd_refusal.specs.Sizes.{is_far_entry}
 use Rattle.dd_header.specs.Offsets.{entry_value, coordinate, place_of, IsClose}
 use Rattle.dd_header.proofs.Faultless.{neither}
@@ -39,7 +39,7 @@ le_test : (a b : ℕ) → a ≤ b → nat_le a b ≡ true
 le_test a b h = grind (arith, nat_tests, h)
 
 -- no coordinate is more than 4 in absolute value, and those behind the last entry are 0
-axis_within : (v : Offset) (d axis : ℕ) → IsClose v → length v.entries ≡ d → nat_le (unsigned_abs (coordinate v axis)) (reach d axis) ≡ true
+axis_within : (v : Offset) (d axis : ℕ) → IsClose v → length v.entries ≡ d → nat_le (unsigned_abs (coordinate v axis)) (edge_reach d axis) ≡ true
 axis_within v d axis h many = by (nat_lt axis d) refl
   where
     by : (b : Bool) → nat_lt axis d ≡ b → nat_le (unsigned_abs (coordinate v axis)) (cond b 4 0) ≡ true

@@ -10,7 +10,7 @@ use Rattle.dd_grammar.specs.declared.lexeme.Number.{Number}
 use Rattle.dd_syntax.specs.declared.command.Entry.{Entry}
 use Rattle.dd_syntax.specs.declared.command.Entry.TheVariants as entry
 use Rattle.dd_syntax.specs.declared.command.Offset.{Offset}
-use Rattle.dd_topology.specs.Grid.{reach, is_offset}
+use Rattle.dd_topology.specs.Grid.{edge_reach, is_offset}
 use Rattle.dd_refusal.specs.Misfits.{period_at, has_entries, has_one_less}
 use Rattle.dd_refusal.specs.Sizes.{is_no_strip, is_far_entry, is_far}
 use Rattle.dd_header.specs.Offsets.{entry_value, coordinate, place_of}
@@ -61,7 +61,7 @@ close_at (e ∷ es) (suc axis) h =
     let same : nat_lt (suc axis) (length (e ∷ es)) ≡ nat_lt axis (length es) = one_further axis (length es) in
     rw same (close_at es axis (neither (is_far_entry e) (list_any is_far_entry es) h).1)
 
-on_axis : (d : ℕ) (v : Offset) (axis : ℕ) → is_far v ≡ false → has_entries d v ≡ true → nat_le (unsigned_abs (coordinate v axis)) (reach d axis) ≡ true
+on_axis : (d : ℕ) (v : Offset) (axis : ℕ) → is_far v ≡ false → has_entries d v ≡ true → nat_le (unsigned_abs (coordinate v axis)) (edge_reach d axis) ≡ true
 on_axis d v axis close all =
     le-leb _ _ (rw (← eqb-true (length v.entries) d all) (close_at v.entries axis close))
 

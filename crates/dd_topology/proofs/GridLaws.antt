@@ -7,17 +7,17 @@ use Rattle.std.proofs.lemmas.Bool.Decides.{nat_tests}
 use Rattle.dd_lattice.specs.Place.{Place}
 use Rattle.dd_topology.specs.declared.edge.Edge.{Edge}
 use Rattle.dd_topology.specs.Topology.{extent, are_short}
-use Rattle.dd_topology.specs.Grid.{Grid, IsGrid, reach, is_offset, is_edge}
+use Rattle.dd_topology.specs.Grid.{Grid, IsGrid, edge_reach, is_offset, is_edge}
 
-reach-le : (d axis : ℕ) → reach d axis ≤ 4
-reach-le d axis = by (nat_lt axis d)
+edge_reach-le : (d axis : ℕ) → edge_reach d axis ≤ 4
+edge_reach-le d axis = by (nat_lt axis d)
   where
     by : (b : Bool) → cond b 4 0 ≤ 4
     by true = omega arith
     by false = omega arith
 
-short_axis : (n d axis : ℕ) → nat_le n (reach d axis) ≡ true → n ≤ 4
-short_axis n d axis h = grind (arith, nat_tests, reach-le d axis)
+short_axis : (n d axis : ℕ) → nat_le n (edge_reach d axis) ≡ true → n ≤ 4
+short_axis n d axis h = grind (arith, nat_tests, edge_reach-le d axis)
 
 -- an offset of an edge leads at most 4 along each axis
 short_offset : (d : ℕ) (p : Place) → is_offset d p ≡ true → nat_le (extent p) 4 ≡ true

@@ -7,3 +7,4 @@ pub mod BallLaws
 pub mod GrowthLaws
 pub mod TableLaws
 pub mod GridLaws
+pub mod SetLaws

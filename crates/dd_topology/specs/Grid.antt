@@ -18,11 +18,11 @@ abbrev pub grid : ℕ → ℕ → List (List ℕ) → List Edge → Grid
 grid d nodes labels edges = record { dimension = d; nodes = nodes; labels = labels; edges = edges }
 
 -- how far an edge leads at most along an axis, in d dimensions
-abbrev pub reach : ℕ → ℕ → ℕ
-reach d axis = cond (nat_lt axis d) 4 0
+abbrev pub edge_reach : ℕ → ℕ → ℕ
+edge_reach d axis = cond (nat_lt axis d) 4 0
 
 abbrev pub is_offset : ℕ → Place → Bool
-is_offset d p = nat_le (unsigned_abs p.x) (reach d 0) && nat_le (unsigned_abs p.y) (reach d 1) && nat_le (unsigned_abs p.z) (reach d 2)
+is_offset d p = nat_le (unsigned_abs p.x) (edge_reach d 0) && nat_le (unsigned_abs p.y) (edge_reach d 1) && nat_le (unsigned_abs p.z) (edge_reach d 2)
 
 -- an edge in d dimensions among so many nodes and labels
 abbrev pub is_edge : ℕ → ℕ → ℕ → Edge → Bool

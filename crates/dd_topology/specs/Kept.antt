@@ -1,7 +1,13 @@
--- What a topology keeps beside its edges.
+-- What a topology keeps beside its edges, and how sets are kept.
+use Rattle.std.specs.Prelude.{ℕ, zero, suc, List, [], ◌∷◌, take, drop}
 use Rattle.dd_topology.specs.declared.edge.Edge.{Edge}
 use Rattle.dd_topology.specs.declared.topology.Move.{Move}
 
 -- the move by an edge
 abbrev pub move_of : Edge → Move
 move_of e = record { label = e.label; from = e.from }
+
+-- a flat list as so many rows of m items
+abbrev pub in_rows : {X : Type 0} → ℕ → ℕ → List X → List (List X)
+in_rows zero m xs = []
+in_rows (suc n) m xs = take m xs ∷ in_rows n m (drop m xs)

@@ -6,12 +6,14 @@ mod builtin;
 mod edge;
 mod fault;
 mod names;
+mod sets;
 mod topology;
 
 pub use builtin::Kind;
 pub use edge::Edge;
 pub use fault::TopologyFault;
 pub use names::{NameFault, Names};
+pub use sets::Sets;
 pub use topology::Topology;
 
 #[cfg(test)]

@@ -1,5 +1,5 @@
 //! Topologies, and moves along their edges.
-ghost use Rattle.std.specs.Prelude.{◌≡◌, ◌≤◌, true, length, map, slice_get, Contains, IfOk, IfErr, OnOk, MatchOption};
+ghost use Rattle.std.specs.Prelude.{◌≡◌, ◌↔◌, ◌≤◌, ℕ, true, length, map, slice_get, Contains, IfOk, IfErr, OnOk, MatchOption};
 ghost use Rattle.std.specs.Option.{option_and_then, option_copied};
 ghost use Rattle.std.specs.List.{find, list_all};
 ghost use Rattle.dd_lattice.specs.Place.{IsInRange};
@@ -7,6 +7,7 @@ ghost use Rattle.dd_lattice.specs.declared.position.Cell.{Cell as AnyCell};
 ghost use Rattle.dd_topology.specs.Naming.{number_of};
 ghost use Rattle.dd_topology.specs.Topology.{leaves, step, in_range, IsMove, AreSingle, are_short};
 ghost use Rattle.dd_topology.specs.Grid.{grid, is_edge, IsGrid, IsTopologyFault};
+ghost use Rattle.dd_topology.specs.Balls.{is_adjacent, IsAdjacent, ball, IsInBall};
 ghost use Rattle.dd_topology.specs.Kept.{move_of};
 
 use crate::edge::{Edge, end_of};
@@ -122,9 +123,12 @@ impl Topology {
         self.labels.find(name)
     }
 
-    /// The edges, in the order in which they were given.
+    /// The edges, in the order in which they were given. The lists that definitions over edges make have the cells of the
+    /// relations, past the range of positions too.
     pub fn edges(&self) -> &[Edge]
         ensures edges { result.now ≡ self.now.edges }
+        ensures adjacent { (a : AnyCell) → (b : AnyCell) → (is_adjacent result.now a b ≡ true) ↔ IsAdjacent result.now a b }
+        ensures balls { (c : AnyCell) → (r : ℕ) → (d : AnyCell) → Contains (ball result.now c r) d ↔ IsInBall result.now c r d }
         ensures grid { IsGrid self.now }
         ensures short { are_short 4 result.now ≡ true }
     {

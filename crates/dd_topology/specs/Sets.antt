@@ -1,0 +1,44 @@
+-- Which symbols the nodes allow.
+use Rattle.std.specs.Prelude.{◌≡◌, ℕ, ◌≤◌, ◌==◌, Bool, true, false, List, [], length, map, slice_index_or, slice_set, replicate, All}
+use Rattle.std.specs.List.{list_any, range_with_len}
+
+-- the size of an alphabet, and for each node whether it allows the symbol 0, 1 and so on
+pub record SymbolSets : Type 0 where
+  pub symbols : ℕ
+  pub allowed : List (List Bool)
+
+abbrev pub symbol_sets : ℕ → List (List Bool) → SymbolSets
+symbol_sets m rows = record { symbols = m; allowed = rows }
+
+-- whether the node allows the symbol, by the rows of its answers; false where there is no such node or symbol
+abbrev pub row_allows : List (List Bool) → ℕ → ℕ → Bool
+row_allows rows a t = slice_index_or (slice_index_or rows a []) t false
+
+abbrev pub allows : SymbolSets → ℕ → ℕ → Bool
+allows s a t = row_allows s.allowed a t
+
+-- an answer for each of m symbols, and some symbol is allowed
+pub record IsRow (m : ℕ) (row : List Bool) : Type 0 where
+  pub as_many : length row ≡ m
+  pub some : list_any (λ b. b) row ≡ true
+
+-- sets for so many nodes: each node allows some symbol
+pub record IsSets (n : ℕ) (s : SymbolSets) : Type 0 where
+  pub symbols : 1 ≤ s.symbols
+  pub nodes : length s.allowed ≡ n
+  pub rows : All (IsRow s.symbols) s.allowed
+
+-- each of so many nodes allows each of m symbols
+abbrev pub all_symbols : ℕ → ℕ → SymbolSets
+all_symbols nodes m = symbol_sets m (replicate nodes (replicate m true))
+
+-- the answers of a node that allows exactly the listed ones of m symbols
+abbrev pub is_listed : List ℕ → ℕ → Bool
+is_listed symbols t = list_any (λ s. s == t) symbols
+
+abbrev pub row_of : ℕ → List ℕ → List Bool
+row_of m symbols = map (is_listed symbols) (range_with_len 0 m)
+
+-- the node allows exactly these, and each other node what it allowed
+abbrev pub restricted : SymbolSets → ℕ → List ℕ → SymbolSets
+restricted s a symbols = symbol_sets s.symbols (slice_set s.allowed a (row_of s.symbols symbols))

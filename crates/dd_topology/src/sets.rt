@@ -1,0 +1,97 @@
+//! Which symbols the nodes allow: one answer for each node and each symbol, the nodes in order.
+ghost use Rattle.std.specs.Prelude.{◌≡◌, ◌≤◌, ◌<◌, length, All, IfOk};
+ghost use Rattle.dd_topology.specs.Sets.{all_symbols, restricted, allows, row_of, IsSets};
+
+use std::alloc::{AllocError, Global};
+use std::marker::Model;
+
+/// For each of some nodes the symbols that it allows, at least one.
+#[derive(Debug, Drop)]
+pub struct Sets {
+    nodes: u32,
+    symbols: u32,
+    allowed: Vec<bool>,
+}
+
+impl Model for Sets {
+    ghost use Rattle.std.specs.Prelude.{◌≡◌, ◌*◌, length};
+    ghost use Rattle.dd_topology.specs.Sets.{SymbolSets, symbol_sets, IsSets};
+    ghost use Rattle.dd_topology.specs.Kept.{in_rows};
+
+    ghost Value = { SymbolSets };
+
+    ghost view = { λ s. symbol_sets s.symbols (in_rows s.nodes s.symbols s.allowed.items) };
+
+    ghost invariant = { λ s. IsSets s.nodes (symbol_sets s.symbols (in_rows s.nodes s.symbols s.allowed.items))
+        × (length s.allowed.items ≡ s.nodes * s.symbols) };
+}
+
+/// Answers for exactly these symbols.
+fn allow_listed(row: &mut [bool], symbols: &[u32])
+    requires { All (λ s. s < length row.old) symbols.now }
+    ensures { row.new ≡ row_of (length row.old) symbols.now }
+{
+    for answer in row.iter_mut() {
+        *answer = false;
+    }
+    for symbol in symbols {
+        row[*symbol as usize] = true;
+    }
+}
+
+impl Sets {
+    /// Every node allows every one of so many symbols.
+    pub fn new(alloc: Global, nodes: u32, symbols: u32) -> Result<Sets, AllocError>
+        requires nodes { 1 ≤ nodes }
+        requires symbols { 1 ≤ symbols }
+        ensures sets { IfOk result (λ sets. sets ≡ all_symbols nodes symbols) }
+        ensures kept { IfOk result (λ sets. IsSets nodes sets) }
+    {
+        let count = nodes as usize * symbols as usize;
+        Ok(Sets {
+            nodes,
+            symbols,
+            allowed: vec![in alloc; true; count]?,
+        })
+    }
+
+    /// The node allows exactly these symbols from now on. It takes no memory.
+    pub fn restrict(&mut self, node: u32, symbols: &[u32])
+        requires node { node < length self.old.allowed }
+        requires symbols { All (λ s. s < self.old.symbols) symbols.now }
+        requires some { 1 ≤ length symbols.now }
+        ensures sets { self.new ≡ restricted self.old node symbols.now }
+    {
+        let size = self.symbols as usize;
+        let start = node as usize * size;
+        allow_listed(&mut self.allowed[start..start + size], symbols);
+    }
+
+    /// Whether the node allows the symbol. It takes no memory.
+    pub fn allows(&self, node: u32, symbol: u32) -> bool
+        requires { node < length self.now.allowed }
+        ensures { result ≡ allows self.now node symbol }
+    {
+        let size = self.symbols as usize;
+        symbol < self.symbols && self.allowed[node as usize * size + symbol as usize]
+    }
+
+    /// The size of the alphabet. It takes no memory.
+    pub fn symbols(&self) -> u32
+        ensures value { result ≡ self.now.symbols }
+        ensures kept { IsSets (length self.now.allowed) self.now }
+    {
+        self.symbols
+    }
+
+    /// The same sets once more.
+    pub fn copy(&self, alloc: Global) -> Result<Sets, AllocError>
+        ensures { IfOk result (λ copy. copy ≡ self.now) }
+    {
+        Ok(Sets {
+            nodes: self.nodes,
+            symbols: self.symbols,
+            allowed: self.allowed.clone()?,
+        })
+    }
+}
