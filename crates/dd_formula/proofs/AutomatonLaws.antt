@@ -15,7 +15,7 @@ use Rattle.dd_expansion.specs.Placed.{is_flat}
 use Rattle.dd_expansion.proofs.Placed.{flat_moved}
 use Rattle.dd_expansion.proofs.LeavesAreReads.{same_by_tests}
 use Rattle.dd_formula.specs.LocalRule.{LocalRule, IsRule, reads_at, cells_at, is_near, is_of}
-use Rattle.dd_formula.specs.Automata.{Setting, has_rules, has_rules_step, IsNodesOf, rule_has, is_cell_of, Counted, Checked, counted, counted_step, case_instances, cases_reads, cells_of, fits, fits_step, cases_fit, is_few, is_short, is_shallow, is_within, limits_step, are_within, IsAutomaton}
+use Rattle.dd_formula.specs.Automata.{Setting, has_rules, has_rules_step, IsNodesOf, rule_has, is_cell_of, Counted, Checked, counted, counted_step, case_instances, cases_reads, cells_of, automaton_fits, fits_step, cases_fit, is_few, is_short, is_shallow, is_within, limits_step, are_within, IsAutomaton}
 use Rattle.dd_formula.specs.declared.automaton.Automaton.{Automaton}
 use Rattle.dd_formula.specs.declared.automaton.Automaton.TheVariants as v
 use Rattle.dd_formula.specs.declared.automaton.Automaton.TheFolds.{fold-Automaton, fold-roll-Automaton, ind-Automaton, map-Automaton}
@@ -29,11 +29,11 @@ counted_given c = ap counted (sym (v.rolls-Given c)) ∙ fold-roll-Automaton Cou
 pub counted_composed : (f g : Automaton) → counted (v.Composed f g) ≡ counted_step (Automaton-F.Composed (counted f) (counted g))
 counted_composed f g = ap counted (sym (v.rolls-Composed f g)) ∙ fold-roll-Automaton Counted counted_step (Automaton-F.Composed f g)
 
-pub fits_given : (s : Setting) (c : Cases) → fits s (v.Given c) ≡ cases_fit s c.cases c.otherwise
-fits_given s c = ap (fits s) (sym (v.rolls-Given c)) ∙ fold-roll-Automaton Bool (fits_step s) (Automaton-F.Given c)
+pub fits_given : (s : Setting) (c : Cases) → automaton_fits s (v.Given c) ≡ cases_fit s c.cases c.otherwise
+fits_given s c = ap (automaton_fits s) (sym (v.rolls-Given c)) ∙ fold-roll-Automaton Bool (fits_step s) (Automaton-F.Given c)
 
-pub fits_composed : (s : Setting) (f g : Automaton) → fits s (v.Composed f g) ≡ (fits s f && fits s g)
-fits_composed s f g = ap (fits s) (sym (v.rolls-Composed f g)) ∙ fold-roll-Automaton Bool (fits_step s) (Automaton-F.Composed f g)
+pub fits_composed : (s : Setting) (f g : Automaton) → automaton_fits s (v.Composed f g) ≡ (automaton_fits s f && automaton_fits s g)
+fits_composed s f g = ap (automaton_fits s) (sym (v.rolls-Composed f g)) ∙ fold-roll-Automaton Bool (fits_step s) (Automaton-F.Composed f g)
 
 abbrev pub checks : ℕ → Automaton → Checked
 checks n = fold-Automaton Checked (limits_step n)
@@ -72,14 +72,14 @@ within_composed n f g =
 pub outer_part : (s : Setting) (f g : Automaton) → IsAutomaton s (v.Composed f g) → IsAutomaton s f
 outer_part s f g h = record {
   some = h.some;
-  fits = (and_parts (fits s f) (fits s g) (sym (fits_composed s f g) ∙ h.fits)).0;
+  fits = (and_parts (automaton_fits s f) (automaton_fits s g) (sym (fits_composed s f g) ∙ h.fits)).0;
   within = (and_parts _ _ (and_parts _ _ (sym (within_composed s.nodes f g) ∙ h.within)).0).0;
 }
 
 pub inner_part : (s : Setting) (f g : Automaton) → IsAutomaton s (v.Composed f g) → IsAutomaton s g
 inner_part s f g h = record {
   some = h.some;
-  fits = (and_parts (fits s f) (fits s g) (sym (fits_composed s f g) ∙ h.fits)).1;
+  fits = (and_parts (automaton_fits s f) (automaton_fits s g) (sym (fits_composed s f g) ∙ h.fits)).1;
   within = (and_parts _ _ (and_parts _ _ (sym (within_composed s.nodes f g) ∙ h.within)).0).1;
 }
 
@@ -249,12 +249,12 @@ pub nodes_given : (c : Cases) (r : Option ℕ) → MatchOption r (length c.cases
 nodes_given c None h = has_rules_given c ∙ ap (nat_lt 0) h
 nodes_given c (Some n) h = λ s fit. h s (sym (fits_given s c) ∙ fit)
 
-pub nodes_outer : (f g : Automaton) (n : ℕ) → ((s : Setting) → fits s f ≡ true → s.nodes ≡ n) → (s : Setting) → fits s (v.Composed f g) ≡ true → s.nodes ≡ n
-nodes_outer f g n h s fit = h s (and_parts (fits s f) (fits s g) (sym (fits_composed s f g) ∙ fit)).0
+pub nodes_outer : (f g : Automaton) (n : ℕ) → ((s : Setting) → automaton_fits s f ≡ true → s.nodes ≡ n) → (s : Setting) → automaton_fits s (v.Composed f g) ≡ true → s.nodes ≡ n
+nodes_outer f g n h s fit = h s (and_parts (automaton_fits s f) (automaton_fits s g) (sym (fits_composed s f g) ∙ fit)).0
 
 pub nodes_inner : (f g : Automaton) (r : Option ℕ) → has_rules f ≡ false → IsNodesOf g r → IsNodesOf (v.Composed f g) r
 nodes_inner f g None none h = has_rules_composed f g ∙ (ap (λ b. b || has_rules g) none ∙ h)
-nodes_inner f g (Some n) none h = λ s fit. h s (and_parts (fits s f) (fits s g) (sym (fits_composed s f g) ∙ fit)).1
+nodes_inner f g (Some n) none h = λ s fit. h s (and_parts (automaton_fits s f) (automaton_fits s g) (sym (fits_composed s f g) ∙ fit)).1
 
 -- without rules nothing is read, and all nodes have the same count
 abbrev pub IsUniform : Automaton → Type 0

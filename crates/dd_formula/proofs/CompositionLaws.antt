@@ -1,12 +1,12 @@
 -- Compositions within the limits, and the nodes that are looked at.
-use Rattle.std.proofs.Common.{◌≡◌, ◌<◌, ◌≤◌, ℕ, zero, suc, ◌+◌, Bool, true, false, Result, Ok, Err, List, [], ◌∷◌, refl, ap, sym, ◌∙◌, add-one, arith}
+use Rattle.std.proofs.Common.{◌≡◌, ◌<◌, ◌≤◌, ℕ, zero, suc, ◌+◌, Bool, true, false, Result, Ok, Err, refl, ap, sym, ◌∙◌, add-one, arith}
 use Rattle.std.specs.Prelude.{◌&&◌, ◌||◌, nat_le, OnOk}
 use Rattle.std.specs.List.{list_all, range_with_len}
 use Rattle.std.proofs.lemmas.Bool.{and_from}
 use Rattle.dd_expansion.proofs.ListTests.{and_true}
 use Rattle.dd_formula.specs.LocalRule.{is_near}
-use Rattle.dd_formula.specs.Automata.{Setting, Counted, has_rules, counted, fits, is_few, is_short, is_shallow, are_within, is_within, IsAutomaton}
-use Rattle.dd_formula.specs.Compositions.{StandFor, IsShallow, composition}
+use Rattle.dd_formula.specs.Automata.{Setting, Counted, has_rules, automaton_fits, is_few, is_short, is_shallow, are_within, is_within, IsAutomaton}
+use Rattle.dd_formula.specs.Compositions.{StandFor, PassesDepth, composition}
 use Rattle.dd_formula.specs.declared.automaton.Automaton.{Automaton}
 use Rattle.dd_formula.specs.declared.automaton.Automaton.TheVariants as v
 use Rattle.dd_formula.proofs.AutomatonLaws.{fits_composed, within_composed, has_rules_composed, uniform, range_at}
@@ -63,10 +63,10 @@ stands_one s f g none none' some =
     }
 
 -- a composition within the limits is well formed where its parts are
-pub composition_formed : (s : Setting) (f g : Automaton) → IsAutomaton s f → IsAutomaton s g → IsShallow s.nodes (composition f g) → IsAutomaton s (v.Composed f g)
+pub composition_formed : (s : Setting) (f g : Automaton) → IsAutomaton s f → IsAutomaton s g → PassesDepth s.nodes (composition f g) → IsAutomaton s (v.Composed f g)
 composition_formed s f g outer inner h = record {
   some = outer.some;
-  fits = fits_composed s f g ∙ and_from (fits s f) (fits s g) outer.fits inner.fits;
+  fits = fits_composed s f g ∙ and_from (automaton_fits s f) (automaton_fits s g) outer.fits inner.fits;
   within =
       within_composed s.nodes f g
       ∙ and_from (are_within s.nodes f && are_within s.nodes g) (is_within s.nodes (composition f g))

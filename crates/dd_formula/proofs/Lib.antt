@@ -1,5 +1,6 @@
 pub mod Nodes
 pub mod RuleLaws
+pub mod AllowedLaws
 pub mod PartLaws
 pub mod Reached
 pub mod LivesLaws

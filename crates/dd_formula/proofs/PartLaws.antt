@@ -1,17 +1,17 @@
 -- What a rule keeps follows from its expansions at the nodes.
-use Rattle.std.proofs.Common.{◌≡◌, ◌≤◌, ℕ, ◌⊎◌, inl, inr, true, false, List, [], ◌∷◌, map, sym, subst, ◌∙◌}
+use Rattle.std.proofs.Common.{◌≡◌, ◌≤◌, ℕ, ◌⊎◌, inl, inr, true, false, [], ◌∷◌, map, sym, subst, ◌∙◌}
 use Rattle.std.specs.List.{list_all}
 use Rattle.dd_lattice.specs.InOrder.{in_order}
 use Rattle.dd_topology.specs.Grid.{Grid, IsGrid}
+use Rattle.dd_topology.specs.Sets.{SymbolSets, IsSets}
 use Rattle.dd_expansion.specs.declared.formulas.Formula.{Formula}
-use Rattle.dd_expansion.specs.declared.expanded.Expanded.{Expanded}
 use Rattle.dd_expansion.specs.Terms.{origin_at}
 use Rattle.dd_expansion.specs.Leaves.{leaf_cells}
 use Rattle.dd_expansion.specs.Limits.{IsFormula}
 use Rattle.dd_expansion.proofs.LeafLaws.{leaves_are_cells}
 use Rattle.dd_expansion.proofs.LeavesAreReads.{same_cells, leaves_are_symbols}
 use Rattle.dd_expansion.proofs.Placed.{reads_placed, origin_placed}
-use Rattle.dd_formula.specs.LocalRule.{LocalRule, local_rule, at_nodes, expansion_at, reads_at, cells_at, is_near, IsSmall, IsShort, IsRule, IsFar, IsExpanded}
+use Rattle.dd_formula.specs.LocalRule.{LocalRule, local_rule, at_nodes, expansion_at, reads_at, cells_at, is_near, IsSmall, IsShort, IsRule, IsFar}
 use Rattle.dd_formula.specs.Refusals.{IsRefusal}
 use Rattle.dd_formula.specs.declared.fault.RuleFault.{RuleFault}
 use Rattle.dd_formula.specs.declared.fault.RuleFault.TheVariants.{Reach, Memory}
@@ -41,13 +41,15 @@ module _ (r : LocalRule) (some : 1 ≤ r.symbols) where
   refused_from fault small (inl is) = subst (IsRefusal r) (sym is) tt
   refused_from fault small (inr far) = subst (IsRefusal r) (sym far.0) (small, far_from far.1)
 
-pub rule_from : (g : Grid) (n : ℕ) (f : Formula) → IsGrid g → g.nodes ≤ 4 → (1 ≤ n) × (n ≤ 16) → IsFormula g n f → IsSmall (local_rule g n f) → IsShort (local_rule g n f) → IsRule (local_rule g n f)
-rule_from g n f grid few symbols formula small short = record {
+pub rule_from : (g : Grid) (s : SymbolSets) (f : Formula) → IsGrid g → IsSets g.nodes s → g.nodes ≤ 4 → s.symbols ≤ 16 → IsFormula g s.symbols f →
+    IsSmall (local_rule g s f) → IsShort (local_rule g s f) → IsRule (local_rule g s f)
+rule_from g s f grid sets few symbols formula small short = record {
   dimension = grid.dimension;
   nodes = (grid.nodes, few);
-  symbols = symbols;
+  symbols = (sets.symbols, symbols);
+  allowed = sets;
   small = small;
   short = short;
   placed = λ a below. reads_placed g grid f (origin_at a ∷ []) (origin_placed g a below);
-  known = λ a below. leaves_are_symbols g n f g.edges (origin_at a ∷ []) 1 formula.numbers;
+  known = λ a below. leaves_are_symbols g s.symbols f g.edges (origin_at a ∷ []) 1 formula.numbers;
 }

@@ -1,5 +1,5 @@
 -- What a rule says at a place, by its expansion at the origin and by the symbols that it reads there.
-use Rattle.std.proofs.Common.{◌≡◌, ◌≤◌, ℕ, Bool, true, List, [], ◌∷◌, ap, sym, ◌∙◌, Some, None}
+use Rattle.std.proofs.Common.{◌≡◌, ◌≤◌, ℕ, Bool, true, [], ◌∷◌, ap, sym, ◌∙◌, Some, None}
 use Rattle.std.specs.Prelude.{Option, is_some}
 use Rattle.std.specs.List.{list_all}
 use Rattle.std.proofs.lemmas.Bool.{eqb-true}
@@ -15,7 +15,7 @@ use Rattle.dd_expansion.proofs.Shifting.{truth_shifted}
 use Rattle.dd_expansion.proofs.LeavesAreReads.{leaves_are_reads}
 use Rattle.dd_expansion.proofs.TruthKeeps.{truth_depends}
 use Rattle.dd_expansion.proofs.TruthAt.{at_origin, says_at}
-use Rattle.dd_formula.specs.LocalRule.{LocalRule, IsRule, expansion_at, reads_at, cells_at, is_true}
+use Rattle.dd_formula.specs.LocalRule.{LocalRule, expansion_at, reads_at, cells_at, is_true}
 
 -- the expansion at a node says of the symbols counted from a cell what the rule says at the cell
 pub at_cell : (r : LocalRule) (c : Cell) (look : Look) → IsBelow r.symbols look → holds (expansion_at r c.node) (λ d. look (shifted c.position d)) ≡ is_true r c look

@@ -7,7 +7,7 @@ use Rattle.dd_lattice.specs.declared.position.Cell.{Cell}
 use Rattle.dd_pattern.specs.Reading.{Look}
 use Rattle.dd_expansion.specs.Leaves.{instances, total}
 use Rattle.dd_expansion.specs.Placed.{is_flat}
-use Rattle.dd_formula.specs.LocalRule.{LocalRule, is_true, reads_at, expansion_at, is_near}
+use Rattle.dd_formula.specs.LocalRule.{LocalRule, is_true, reads_at, expansion_at, is_near, most_instances, most_depth}
 use Rattle.dd_formula.specs.declared.automaton.Automaton.{Automaton}
 use Rattle.dd_formula.specs.declared.automaton.Cases.{Cases}
 use Rattle.dd_formula.specs.declared.automaton.Automaton.TheFolds.{fold-Automaton}
@@ -75,8 +75,8 @@ abbrev pub fits_step : Setting → Automaton-F Bool → Bool
 fits_step s (Automaton-F.Given c) = cases_fit s c.cases c.otherwise
 fits_step s (Automaton-F.Composed f g) = f && g
 
-abbrev pub fits : Setting → Automaton → Bool
-fits s = fold-Automaton Bool (fits_step s)
+abbrev pub automaton_fits : Setting → Automaton → Bool
+automaton_fits s = fold-Automaton Bool (fits_step s)
 
 -- whether it has a rule
 abbrev pub has_rules_step : Automaton-F Bool → Bool
@@ -88,17 +88,17 @@ has_rules = fold-Automaton Bool has_rules_step
 
 -- the number of nodes of the automaton's rules, where it has one
 abbrev pub IsNodesOf : Automaton → Option ℕ → Type 0
-IsNodesOf f r = MatchOption r (has_rules f ≡ false) (λ n. (s : Setting) → fits s f ≡ true → s.nodes ≡ n)
+IsNodesOf f r = MatchOption r (has_rules f ≡ false) (λ n. (s : Setting) → automaton_fits s f ≡ true → s.nodes ≡ n)
 
 -- the limits of an automaton, over so many nodes
 abbrev pub is_few : ℕ → Counted → Bool
-is_few nodes f = list_all (λ a. nat_le (f.instances a) 20000) (range_with_len 0 nodes)
+is_few nodes f = list_all (λ a. nat_le (f.instances a) most_instances) (range_with_len 0 nodes)
 
 abbrev pub is_short : ℕ → Counted → Bool
 is_short nodes f = list_all (λ a. list_all is_near (f.reads a)) (range_with_len 0 nodes)
 
 abbrev pub is_shallow : Counted → Bool
-is_shallow f = nat_le f.depth 64
+is_shallow f = nat_le f.depth most_depth
 
 abbrev pub is_within : ℕ → Counted → Bool
 is_within nodes f = is_few nodes f && is_short nodes f && is_shallow f
@@ -121,7 +121,7 @@ are_within nodes f = (fold-Automaton Checked (limits_step nodes) f).within
 -- a well-formed automaton over these numbers
 pub record IsAutomaton (s : Setting) (f : Automaton) : Type 0 where
   pub some : 1 ≤ s.nodes
-  pub fits : fits s f ≡ true
+  pub fits : automaton_fits s f ≡ true
   pub within : are_within s.nodes f ≡ true
 
 -- over some numbers the automaton is well formed, and a is one of the nodes

@@ -33,20 +33,20 @@ pub record StandFor (s : Setting) (f : Counted) (nodes : ℕ) : Type 0 where
   pub short : is_short s.nodes f ≡ is_short nodes f
 
 -- the composition has few instances at each node; it also reads nothing that is too far away; it is also not too deep
-abbrev pub IsFew : ℕ → Counted → Type 0
-IsFew n f = is_few n f ≡ true
+abbrev pub PassesInstances : ℕ → Counted → Type 0
+PassesInstances n f = is_few n f ≡ true
 
-abbrev pub IsShort : ℕ → Counted → Type 0
-IsShort n f = IsFew n f × (is_short n f ≡ true)
+abbrev pub PassesReach : ℕ → Counted → Type 0
+PassesReach n f = PassesInstances n f × (is_short n f ≡ true)
 
-abbrev pub IsShallow : ℕ → Counted → Type 0
-IsShallow n f = IsShort n f × (is_shallow f ≡ true)
+abbrev pub PassesDepth : ℕ → Counted → Type 0
+PassesDepth n f = PassesReach n f × (is_shallow f ≡ true)
 
 -- why it isn't made: too many instances at some node; else a cell that is too far away; else it is too deep
 abbrev pub IsFault : ℕ → Counted → RuleFault → Type 0
 IsFault n f Instances = is_few n f ≡ false
-IsFault n f Reach = IsFew n f × (is_short n f ≡ false)
-IsFault n f Depth = IsShort n f × (is_shallow f ≡ false)
+IsFault n f Reach = PassesInstances n f × (is_short n f ≡ false)
+IsFault n f Depth = PassesReach n f × (is_shallow f ≡ false)
 IsFault n f Memory = Unit {0}
 
 -- cases with so many nodes: each rule has the same numbers, and each symbol that is given is one of the alphabet

@@ -1,8 +1,8 @@
--- Counts, which have no bound, and the same cut off.
-use Rattle.std.specs.Prelude.{ℕ, ◌+◌, ◌-◌, ◌*◌, ◌/◌, min, map}
-use Rattle.std.specs.List.{range_with_len}
+-- Counts of clauses, which have no bound, and the same cut off.
+use Rattle.std.specs.Prelude.{ℕ, ◌+◌, ◌-◌, ◌*◌, ◌/◌, ◌^◌, min, max, not, List, map, length}
+use Rattle.std.specs.List.{filter, range_with_len}
 use Rattle.dd_expansion.specs.Leaves.{clause_count, total}
-use Rattle.dd_formula.specs.LocalRule.{LocalRule, expansion_at}
+use Rattle.dd_formula.specs.LocalRule.{LocalRule, rule_allows, expansion_at}
 
 -- a count up to a limit; each greater count is the first number past the limit
 abbrev pub cut : ℕ → ℕ → ℕ
@@ -16,14 +16,33 @@ over_nodes f n = total (map f (range_with_len 0 n))
 abbrev pub rule_clauses : LocalRule → ℕ
 rule_clauses r = over_nodes (λ a. clause_count (expansion_at r a)) r.nodes
 
+-- the symbols that a node doesn't allow, in order, and how many such pairs of a node and a symbol there are
+abbrev pub disallowed : LocalRule → ℕ → List ℕ
+disallowed r a = filter (λ s. not (rule_allows r a s)) (range_with_len 0 r.symbols)
+
+abbrev pub disallowed_pairs : LocalRule → ℕ
+disallowed_pairs r = over_nodes (λ a. length (disallowed r a)) r.nodes
+
 -- those of a cell: it has a symbol, no two of s symbols, and the rule is true there
 abbrev pub cell_clauses : ℕ → ℕ
 cell_clauses s = 2 + s * (s - 1) / 2
 
--- those of a position: of its cells, and of the rule's gates
+-- those of a position: of its cells, of the symbols that they don't allow, and of the rule's gates
 abbrev pub place_clauses : LocalRule → ℕ
-place_clauses r = r.nodes * cell_clauses r.symbols + rule_clauses r
+place_clauses r = r.nodes * cell_clauses r.symbols + disallowed_pairs r + rule_clauses r
 
 -- some node of a position breaks the rule
 abbrev pub broken_clauses : LocalRule → ℕ
 broken_clauses r = rule_clauses r + 1
+
+-- a question on so many positions, where the goal takes so many clauses
+abbrev pub region_clauses : LocalRule → ℕ → ℕ → ℕ
+region_clauses r goal positions = positions * place_clauses r + goal
+
+-- the positions of the largest box of a question in d dimensions or of its largest torus, whichever has more
+abbrev pub largest_region : ℕ → ℕ → ℕ → ℕ
+largest_region d radius period = max ((2 * radius + 1) ^ d) (period ^ d)
+
+-- the question on the largest of them
+abbrev pub largest_clauses : LocalRule → ℕ → ℕ → ℕ → ℕ
+largest_clauses r goal radius period = region_clauses r goal (largest_region r.dimension radius period)

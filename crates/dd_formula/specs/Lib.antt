@@ -1,7 +1,9 @@
 pub mod LocalRule
+pub mod Allowed
 pub mod Reach
 pub mod Living
 pub mod Refusals
 pub mod Automata
 pub mod Counts
+pub mod ValueCounts
 pub mod Compositions

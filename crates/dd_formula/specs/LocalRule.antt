@@ -1,4 +1,4 @@
--- A local rule: a formula with the topology and the alphabet that it speaks of.
+-- A local rule: a formula with the topology and the alphabets that it speaks of.
 use Rattle.std.specs.Prelude.{ℕ, zero, suc, Bool, ◌<◌, ◌≤◌, ◌≡◌, true, false, ◌&&◌, is_some, nat_le, nat_lt, List, [], ◌∷◌, ◌++◌}
 use Rattle.std.specs.List.{list_all}
 use Rattle.dd_lattice.specs.InOrder.{in_order}
@@ -6,6 +6,7 @@ use Rattle.dd_lattice.specs.declared.position.Cell.{Cell}
 use Rattle.dd_topology.specs.declared.edge.Edge.{Edge}
 use Rattle.dd_topology.specs.Grid.{Grid}
 use Rattle.dd_topology.specs.Topology.{extent}
+use Rattle.dd_topology.specs.Sets.{SymbolSets, symbol_sets, row_allows, IsSets}
 use Rattle.dd_pattern.specs.Reading.{Look}
 use Rattle.dd_expansion.specs.declared.formulas.Formula.{Formula}
 use Rattle.dd_expansion.specs.declared.expanded.Expanded.{Expanded}
@@ -19,14 +20,26 @@ use Rattle.dd_expansion.specs.Placed.{is_flat}
 pub record LocalRule : Type 0 where
   pub dimension : ℕ
   pub nodes : ℕ
-  -- the size of the alphabet
+  -- the size of the alphabet, and for each node whether it allows the symbol 0, 1 and so on
   pub symbols : ℕ
+  pub allowed : List (List Bool)
   pub edges : List Edge
   pub formula : Formula
 
--- a formula over a topology and n symbols
-abbrev pub local_rule : Grid → ℕ → Formula → LocalRule
-local_rule g n f = record { dimension = g.dimension; nodes = g.nodes; symbols = n; edges = g.edges; formula = f }
+-- from its parts
+abbrev pub kept_rule : ℕ → ℕ → SymbolSets → List Edge → Formula → LocalRule
+kept_rule d nodes s edges f = record { dimension = d; nodes = nodes; symbols = s.symbols; allowed = s.allowed; edges = edges; formula = f }
+
+-- a formula over a topology and the symbols that its nodes allow
+abbrev pub local_rule : Grid → SymbolSets → Formula → LocalRule
+local_rule g s f = kept_rule g.dimension g.nodes s g.edges f
+
+abbrev pub sets_of : LocalRule → SymbolSets
+sets_of r = symbol_sets r.symbols r.allowed
+
+-- whether the node allows the symbol
+abbrev pub rule_allows : LocalRule → ℕ → ℕ → Bool
+rule_allows r a s = row_allows r.allowed a s
 
 -- whether the rule is true at a cell, under the symbols that the look gives
 abbrev pub is_true : LocalRule → Cell → Look → Bool
@@ -52,17 +65,27 @@ at_nodes f (suc n) = at_nodes f n ++ f n ∷ []
 abbrev pub cells_at : LocalRule → ℕ → List Cell
 cells_at r a = in_order (reads_at r a)
 
--- at most 16 away from the origin along each axis
+-- the limits of rules and automata: how many nodes an expansion has, how far a cell that is read lies from the origin along
+-- an axis, and how deep compositions are nested
+abbrev pub most_instances : ℕ
+most_instances = 20000
+
+abbrev pub most_reach : ℕ
+most_reach = 16
+
+abbrev pub most_depth : ℕ
+most_depth = 64
+
 abbrev pub is_near : Cell → Bool
-is_near c = nat_le (extent c.position) 16
+is_near c = nat_le (extent c.position) most_reach
 
 -- a cell of Z^d with one of the rule's nodes
 abbrev pub is_of : LocalRule → Cell → Bool
 is_of r c = is_flat r.dimension c.position && nat_lt c.node r.nodes
 
--- the limits of a rule: at each node its expansion has at most 20,000 nodes, and it reads nothing more than 16 away
+-- a rule within them at each node
 abbrev pub IsSmall : LocalRule → Type 0
-IsSmall r = (a : ℕ) → a < r.nodes → instances (expansion_at r a) ≤ 20000
+IsSmall r = (a : ℕ) → a < r.nodes → instances (expansion_at r a) ≤ most_instances
 
 abbrev pub IsShort : LocalRule → Type 0
 IsShort r = (a : ℕ) → a < r.nodes → list_all is_near (reads_at r a) ≡ true
@@ -72,6 +95,7 @@ pub record IsRule (r : LocalRule) : Type 0 where
   pub dimension : (1 ≤ r.dimension) × (r.dimension ≤ 3)
   pub nodes : (1 ≤ r.nodes) × (r.nodes ≤ 4)
   pub symbols : (1 ≤ r.symbols) × (r.symbols ≤ 16)
+  pub allowed : IsSets r.nodes (sets_of r)
   pub small : IsSmall r
   pub short : IsShort r
   -- it reads cells of Z^d
@@ -89,7 +113,7 @@ pub record IsExpanded (r : LocalRule) (es : List Expanded) (cells : List (List C
 pub record IsLarge (r : LocalRule) : Type 0 where
   pub node : ℕ
   pub exists : node < r.nodes
-  pub many : 20000 < instances (expansion_at r node)
+  pub many : most_instances < instances (expansion_at r node)
 
 pub record IsFar (r : LocalRule) : Type 0 where
   pub node : ℕ

@@ -1,5 +1,4 @@
 -- Why a formula is refused as a rule.
-use Rattle.std.specs.Prelude.{◌≡◌}
 use Rattle.dd_formula.specs.LocalRule.{LocalRule, IsSmall, IsLarge, IsFar}
 use Rattle.dd_formula.specs.declared.fault.RuleFault.{RuleFault}
 use Rattle.dd_formula.specs.declared.fault.RuleFault.TheVariants.{Reach, Instances, Depth, Memory}

@@ -30,7 +30,7 @@ pub enum Automaton {
 }
 
 impl Cases {
-    ghost use Rattle.dd_formula.specs.LocalRule.{is_near};
+    ghost use Rattle.dd_formula.specs.LocalRule.{is_near, most_instances};
     ghost use Rattle.dd_formula.specs.Automata.{Setting, HasCaseNode, cases_fit, cases_reads, case_instances, is_cell_of};
     ghost use Rattle.dd_formula.specs.Counts.{cut};
 
@@ -73,7 +73,7 @@ impl Cases {
     /// Cut off. Each rule that is looked at reads nothing that is too far away.
     pub(crate) fn instances(&self, node: u32) -> u32
         requires { HasCaseNode self.now node }
-        ensures count { result ≡ cut 20000 (case_instances node self.now.cases + 1) }
+        ensures count { result ≡ cut most_instances (case_instances node self.now.cases + 1) }
         ensures near { list_all is_near (cases_reads self.now.cases node) ≡ true }
     {
         let mut nodes = 1;
@@ -87,6 +87,7 @@ impl Cases {
 impl Automaton {
     ghost use Rattle.dd_formula.specs.Automata.{Setting, IsAutomaton, HasNode, HaveNode, HasCells, IsNodesOf, counted, cells_of, is_cell_of};
     ghost use Rattle.dd_formula.specs.Counts.{cut};
+    ghost use Rattle.dd_formula.specs.LocalRule.{most_instances};
 
     /// An automaton with the same rules and symbols in every part.
     pub fn copy(&self, alloc: Global) -> Result<Automaton, AllocError>
@@ -158,7 +159,7 @@ impl Automaton {
     #[tactic(auto, using(crate::proofs::AutomatonLaws::layers))]
     pub fn instances(&self, alloc: Global, node: u32) -> Result<u32, AllocError>
         requires { HasNode self.now node }
-        ensures { IfOk result (λ n. n ≡ cut 20000 ((counted self.now).instances node)) }
+        ensures { IfOk result (λ n. n ≡ cut most_instances ((counted self.now).instances node)) }
     {
         match self {
             Automaton::Given(cases) => Ok(cases.instances(node)),
@@ -177,7 +178,7 @@ impl Automaton {
         node: u32,
     ) -> Result<u32, AllocError>
         requires { HaveNode outer.now inner.now node }
-        ensures { IfOk result (λ n. n ≡ cut 20000 ((counted (Automaton.Composed outer.now inner.now)).instances node)) }
+        ensures { IfOk result (λ n. n ≡ cut most_instances ((counted (Automaton.Composed outer.now inner.now)).instances node)) }
     {
         let cells = outer.reads(alloc, node)?;
         let first = outer.instances(alloc, node)?;
@@ -190,7 +191,7 @@ impl Automaton {
     #[cycle(instances)]
     pub(crate) fn instances_from(&self, alloc: Global, cells: &[Cell]) -> Result<u32, AllocError>
         requires { HasCells self.now cells.now }
-        ensures { IfOk result (λ n. n ≡ cut 20000 (total (map (λ c. (counted self.now).instances c.node) cells.now))) }
+        ensures { IfOk result (λ n. n ≡ cut most_instances (total (map (λ c. (counted self.now).instances c.node) cells.now))) }
     {
         let mut sum = 0;
         for cell in cells {

@@ -1,7 +1,7 @@
 //! Compositions of automata.
 ghost use Rattle.std.specs.Prelude.{◌≡◌, true, IfOk, IfErr, OnOk};
 ghost use Rattle.dd_formula.specs.Automata.{Setting, IsAutomaton, is_few, is_short, is_shallow};
-ghost use Rattle.dd_formula.specs.Compositions.{AreAutomata, HaveNodes, OverBoth, StandFor, IsShallow, IsFault, composition};
+ghost use Rattle.dd_formula.specs.Compositions.{AreAutomata, HaveNodes, OverBoth, StandFor, PassesDepth, IsFault, composition};
 
 use crate::automaton::Automaton;
 use crate::fault::RuleFault;
@@ -59,7 +59,7 @@ fn joined(
 /// Whether the composition is within the limits.
 fn tested(alloc: Global, outer: &Automaton, inner: &Automaton) -> Result<(), RuleFault>
     requires { AreAutomata outer.now inner.now }
-    ensures ok { OnOk result (OverBoth outer.now inner.now (λ s. IsShallow s.nodes (composition outer.now inner.now))) }
+    ensures ok { OnOk result (OverBoth outer.now inner.now (λ s. PassesDepth s.nodes (composition outer.now inner.now))) }
     ensures fault { IfErr result (λ fault. OverBoth outer.now inner.now (λ s. IsFault s.nodes (composition outer.now inner.now) fault)) }
 {
     let nodes = node_count(outer, inner);

@@ -1,5 +1,5 @@
 //! Lists with an item for each node: expansions, and the cells that they read.
-ghost use Rattle.std.specs.Prelude.{◌≡◌, ◌<◌, ◌≤◌, ◌⊎◌, true, false, map, IfOk, IfErr, OnOk, IsTrue, ◌↔◌};
+ghost use Rattle.std.specs.Prelude.{◌≡◌, ◌<◌, ◌≤◌, ◌⊎◌, length, true, false, map, IfOk, IfErr, OnOk, IsTrue, ◌↔◌};
 ghost use Rattle.std.specs.List.{list_all};
 ghost use Rattle.dd_lattice.specs.InOrder.{in_order};
 ghost use Rattle.dd_expansion.specs.Limits.{IsFormula};
@@ -12,7 +12,7 @@ use crate::fault::RuleFault;
 use crate::reach::extent;
 use dd_expansion::{Expanded, ExpansionFault, Formula, expand};
 use dd_lattice::Cell;
-use dd_topology::{Edge, Topology};
+use dd_topology::{Edge, Sets, Topology};
 use dd_values::Items;
 use std::alloc::{AllocError, Global};
 
@@ -24,6 +24,7 @@ const MOST_REACH: u32 = 16;
 /// What a rule keeps beside its formula.
 #[derive(Drop)]
 pub(crate) struct Parts {
+    pub(crate) sets: Sets,
     pub(crate) edges: Items<Edge>,
     pub(crate) expansions: Items<Expanded>,
     pub(crate) reads: Items<Items<Cell>>,
@@ -33,20 +34,24 @@ pub(crate) struct Parts {
 pub(crate) fn parts_of(
     alloc: Global,
     topology: &Topology,
-    symbols: u32,
+    sets: &Sets,
     formula: &Formula,
 ) -> Result<Parts, RuleFault>
     requires nodes { topology.now.nodes ≤ 4 }
-    requires symbols { (1 ≤ symbols) × (symbols ≤ 16) }
-    requires formula { IsFormula topology.now symbols formula.now }
+    requires sets { length sets.now.allowed ≡ topology.now.nodes }
+    requires symbols { sets.now.symbols ≤ 16 }
+    requires formula { IsFormula topology.now sets.now.symbols formula.now }
+    ensures sets { IfOk result (λ parts. parts.sets ≡ sets.now) }
     ensures edges { IfOk result (λ parts. parts.edges ≡ topology.now.edges) }
-    ensures ok { IfOk result (λ parts. IsExpanded (local_rule topology.now symbols formula.now) parts.expansions parts.reads) }
-    ensures err { IfErr result (IsRefusal (local_rule topology.now symbols formula.now)) }
+    ensures ok { IfOk result (λ parts. IsExpanded (local_rule topology.now sets.now formula.now) parts.expansions parts.reads) }
+    ensures err { IfErr result (IsRefusal (local_rule topology.now sets.now formula.now)) }
 {
     let edges = Items::from_slice(alloc, topology.edges())?;
-    let expansions = expand_at_nodes(alloc, topology, symbols, formula)?;
+    let copy = sets.copy(alloc)?;
+    let expansions = expand_at_nodes(alloc, topology, sets, formula)?;
     match reads_at_nodes(alloc, expansions.as_slice()) {
         Ok(reads) => Ok(Parts {
+            sets: copy,
             edges,
             expansions,
             reads,
@@ -59,14 +64,15 @@ pub(crate) fn parts_of(
 fn expand_at_nodes(
     alloc: Global,
     topology: &Topology,
-    symbols: u32,
+    sets: &Sets,
     formula: &Formula,
 ) -> Result<Items<Expanded>, RuleFault>
-    requires { IsFormula topology.now symbols formula.now }
-    ensures ok { IfOk result (λ es. es ≡ at_nodes (expansion_at (local_rule topology.now symbols formula.now)) topology.now.nodes) }
-    ensures small { OnOk result (IsSmall (local_rule topology.now symbols formula.now)) }
-    ensures err { IfErr result (IsRefusal (local_rule topology.now symbols formula.now)) }
+    requires { IsFormula topology.now sets.now.symbols formula.now }
+    ensures ok { IfOk result (λ es. es ≡ at_nodes (expansion_at (local_rule topology.now sets.now formula.now)) topology.now.nodes) }
+    ensures small { OnOk result (IsSmall (local_rule topology.now sets.now formula.now)) }
+    ensures err { IfErr result (IsRefusal (local_rule topology.now sets.now formula.now)) }
 {
+    let symbols = sets.symbols();
     let mut expansions = Items::new(alloc);
     for node in 0..topology.nodes() {
         match expand(alloc, topology, symbols, formula, node, MOST_INSTANCES) {

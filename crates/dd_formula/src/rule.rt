@@ -1,9 +1,13 @@
 //! Rules: a formula over a topology and an alphabet, with its expansion and its reads at each node.
-ghost use Rattle.std.specs.Prelude.{◌≡◌, ◌<◌, ◌≤◌, IfOk, IfErr, OnOk, if◌then◌else◌, Some, None};
-ghost use Rattle.dd_pattern.specs.Reading.{IsBelow};
+ghost use Rattle.std.specs.Prelude.{◌≡◌, ◌<◌, ◌≤◌, length, IfOk, IfErr, OnOk, if◌then◌else◌, Some, None};
+ghost use Rattle.dd_lattice.specs.Place.{Place};
+ghost use Rattle.dd_lattice.specs.Cells.{shifted, cell as at_node};
+ghost use Rattle.dd_lattice.specs.InOrder.{in_order};
+ghost use Rattle.dd_pattern.specs.Reading.{Look, IsBelow};
 ghost use Rattle.dd_expansion.specs.Limits.{IsFormula};
-ghost use Rattle.dd_expansion.specs.Leaves.{holds, given, seen, clause_count};
-ghost use Rattle.dd_formula.specs.LocalRule.{local_rule, expansion_at, cells_at, is_true, is_given, IsRule};
+ghost use Rattle.dd_expansion.specs.Leaves.{holds, given, seen, clause_count, leaf_cells};
+ghost use Rattle.dd_formula.specs.LocalRule.{local_rule, rule_allows, expansion_at, cells_at, is_true, is_given, IsRule};
+ghost use Rattle.dd_formula.specs.Allowed.{AreAllowed};
 ghost use Rattle.dd_formula.specs.Refusals.{IsRefusal};
 
 use crate::fault::RuleFault;
@@ -11,7 +15,7 @@ use crate::making::{copy_expansions, copy_reads, parts_of};
 use dd_expansion::{Expanded, Formula};
 use dd_lattice::Cell;
 use dd_pattern::Reads;
-use dd_topology::{Edge, Topology};
+use dd_topology::{Edge, Sets, Topology};
 use dd_values::Items;
 use std::alloc::{AllocError, Global};
 use std::marker::Model;
@@ -22,7 +26,7 @@ use std::marker::Model;
 pub struct Rule {
     dim: u32,
     nodes: u32,
-    symbols: u32,
+    sets: Sets,
     edges: Items<Edge>,
     formula: Formula,
     expansions: Items<Expanded>,
@@ -30,8 +34,7 @@ pub struct Rule {
 }
 
 impl Model for Rule {
-    ghost use Rattle.std.specs.Prelude.{◌≡◌};
-    ghost use Rattle.dd_formula.specs.LocalRule.{LocalRule, IsExpanded};
+    ghost use Rattle.dd_formula.specs.LocalRule.{LocalRule, kept_rule, IsExpanded};
     ghost use Rattle.dd_expansion.specs.contracts.formulas.Formula as formula_type;
     ghost use Rattle.std.specs.Coded.{codes};
 
@@ -39,13 +42,13 @@ impl Model for Rule {
 
     ghost coded = { Prim.hlevel (codes, formula_type.the_row.coded) };
 
-    ghost view = { λ r. record { dimension = r.dim; nodes = r.nodes; symbols = r.symbols; edges = r.edges; formula = r.formula } };
+    ghost view = { λ r. kept_rule r.dim r.nodes r.sets r.edges r.formula };
 
-    ghost invariant = { λ r. IsExpanded (record { dimension = r.dim; nodes = r.nodes; symbols = r.symbols; edges = r.edges; formula = r.formula }) r.expansions r.reads };
+    ghost invariant = { λ r. IsExpanded (kept_rule r.dim r.nodes r.sets r.edges r.formula) r.expansions r.reads };
 }
 
 impl Rule {
-    /// The rule of a formula over a topology and so many symbols.
+    /// The rule of a formula over a topology and the symbols that its nodes allow.
     ///
     /// # Errors
     /// `Instances` where its expansion at some node has more than 20,000 nodes; else `Reach` where a cell is read that lies
@@ -53,21 +56,22 @@ impl Rule {
     pub fn new(
         alloc: Global,
         topology: &Topology,
-        symbols: u32,
+        sets: &Sets,
         formula: Formula,
     ) -> Result<Rule, RuleFault>
         requires nodes { topology.now.nodes ≤ 4 }
-        requires symbols { (1 ≤ symbols) × (symbols ≤ 16) }
-        requires formula { IsFormula topology.now symbols formula }
-        ensures ok { IfOk result (λ rule. rule ≡ local_rule topology.now symbols formula) }
-        ensures rule { OnOk result (IsRule (local_rule topology.now symbols formula)) }
-        ensures err { IfErr result (IsRefusal (local_rule topology.now symbols formula)) }
+        requires sets { length sets.now.allowed ≡ topology.now.nodes }
+        requires symbols { sets.now.symbols ≤ 16 }
+        requires formula { IsFormula topology.now sets.now.symbols formula }
+        ensures ok { IfOk result (λ rule. rule ≡ local_rule topology.now sets.now formula) }
+        ensures rule { OnOk result (IsRule (local_rule topology.now sets.now formula)) }
+        ensures err { IfErr result (IsRefusal (local_rule topology.now sets.now formula)) }
     {
-        let parts = parts_of(alloc, topology, symbols, &formula)?;
+        let parts = parts_of(alloc, topology, sets, &formula)?;
         Ok(Rule {
             dim: topology.dim(),
             nodes: topology.nodes(),
-            symbols,
+            sets: parts.sets,
             edges: parts.edges,
             formula,
             expansions: parts.expansions,
@@ -75,10 +79,11 @@ impl Rule {
         })
     }
 
-    /// A rule with the same formula, topology and alphabet.
+    /// A rule with the same formula, topology and alphabets.
     pub fn copy(&self, alloc: Global) -> Result<Rule, AllocError>
         ensures { IfOk result (λ copy. copy ≡ self.now) }
     {
+        let sets = self.sets.copy(alloc)?;
         let edges = Items::from_slice(alloc, self.edges.as_slice())?;
         let formula = self.formula.copy(alloc)?;
         let expansions = copy_expansions(alloc, self.expansions.as_slice())?;
@@ -86,7 +91,7 @@ impl Rule {
         Ok(Rule {
             dim: self.dim,
             nodes: self.nodes,
-            symbols: self.symbols,
+            sets,
             edges,
             formula,
             expansions,
@@ -109,12 +114,22 @@ impl Rule {
         self.nodes
     }
 
-    /// The size of the alphabet, 1 to 16.
+    /// The size of the alphabet, 1 to 16. Each symbol that a node allows is one of it.
     pub fn symbols(&self) -> u32
         ensures value { result ≡ self.now.symbols }
         ensures kept { IsRule self.now }
+        ensures allowed { (look : Look) → AreAllowed self.now look → IsBelow self.now.symbols look }
     {
-        self.symbols
+        self.sets.symbols()
+    }
+
+    /// Whether the node allows the symbol.
+    pub fn allows(&self, node: u32, symbol: u32) -> bool
+        requires { node < self.now.nodes }
+        ensures value { result ≡ rule_allows self.now node symbol }
+        ensures kept { IsRule self.now }
+    {
+        self.sets.allows(node, symbol)
     }
 
     pub fn formula(&self) -> &Formula
@@ -123,10 +138,13 @@ impl Rule {
         &self.formula
     }
 
-    /// The formula without variables that says the same at the node's cell at the origin.
+    /// The formula without variables that says the same at the node's cells, of cells that are counted from their position.
     pub fn expansion(&self, node: u32) -> &Expanded
         requires { node < self.now.nodes }
         ensures value { result.now ≡ expansion_at self.now node }
+        ensures truth { (look : Look) → IsBelow self.now.symbols look → (v : Place) →
+            holds result.now (λ c. look (shifted v c)) ≡ is_true self.now (at_node v node) look }
+        ensures cells { in_order (leaf_cells result.now) ≡ cells_at self.now node }
         ensures kept { IsRule self.now }
     {
         &self.expansions[node as usize]

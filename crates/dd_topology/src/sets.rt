@@ -86,7 +86,8 @@ impl Sets {
 
     /// The same sets once more.
     pub fn copy(&self, alloc: Global) -> Result<Sets, AllocError>
-        ensures { IfOk result (λ copy. copy ≡ self.now) }
+        ensures value { IfOk result (λ copy. copy ≡ self.now) }
+        ensures kept { IsSets (length self.now.allowed) self.now }
     {
         Ok(Sets {
             nodes: self.nodes,

@@ -1,4 +1,4 @@
-use Rattle.std.proofs.Common.{◌≡◌, ℕ, Bool, true, false, ◌∙◌, ap, sym}
+use Rattle.std.proofs.Common.{◌∙◌, ap, sym}
 use Rattle.std.specs.List.{list_all}
 use Rattle.dd_lattice.proofs.InOrderLaws.{list_all-in_order}
 use Rattle.dd_formula.specs.LocalRule.{is_near}

@@ -1,10 +1,9 @@
-use Rattle.std.proofs.Common.{◌≡◌, ◌<◌, ◌≤◌, ◌+◌, ℕ, Bool, true, false, sym, ap, ◌∙◌, arith}
+use Rattle.std.proofs.Common.{◌<◌, ◌≤◌, sym, ap, ◌∙◌, arith}
 use Rattle.std.specs.Prelude.{nat_le}
 use Rattle.std.specs.List.{list_all}
-use Rattle.std.proofs.lemmas.Bool.{le-leb, lt-leb, both_ways}
+use Rattle.std.proofs.lemmas.Bool.{le-leb, lt-leb}
 use Rattle.dd_formula.specs.LocalRule.{is_near}
-use Rattle.dd_formula.specs.Automata.{counted, case_instances, cases_reads}
-use Rattle.dd_formula.specs.Counts.{cut}
+use Rattle.dd_formula.specs.Automata.{counted}
 use Rattle.dd_formula.specs.declared.automaton.Automaton.TheVariants as v
 use Rattle.dd_formula.proofs.AutomatonLaws.{instances_given, counted_given}
 use Rattle.dd_formula.proofs.CompositionLaws.{passes_more, range_fails}

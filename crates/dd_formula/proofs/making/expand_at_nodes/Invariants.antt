@@ -6,7 +6,7 @@ use Rattle.dd_formula.proofs.making.expand_at_nodes.Given as goal
 -- the expansions at the nodes that were passed, each of at most 20,000 nodes
 abbrev pub invariant-loop-node : goal.invariant-loop-node
 invariant-loop-node l =
-    let r = local_rule l.topology l.symbols l.formula in
+    let r = local_rule l.topology l.sets l.formula in
     record {
       made : l.expansions ≡ at_nodes (expansion_at r) l.node;
       small : (a : ℕ) → a < l.node → instances (expansion_at r a) ≤ 20000;

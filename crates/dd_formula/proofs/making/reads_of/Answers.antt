@@ -1,4 +1,4 @@
-use Rattle.std.proofs.Common.{◌≡◌, true, false, refl, ap, sym, ◌∙◌, inl, inr}
+use Rattle.std.proofs.Common.{◌≡◌, refl, ap, sym, ◌∙◌, inr}
 use Rattle.std.specs.List.{list_all}
 use Rattle.dd_lattice.proofs.InOrderLaws.{list_all-in_order}
 use Rattle.dd_expansion.specs.Leaves.{leaf_cells}

@@ -1,5 +1,5 @@
-use Rattle.std.proofs.Common.{◌≡◌, ◌∙◌, ap, sym, subst, true, false}
-use Rattle.dd_formula.specs.Automata.{Setting, fits, has_rules, IsNodesOf}
+use Rattle.std.proofs.Common.{◌∙◌, ap, sym, subst}
+use Rattle.dd_formula.specs.Automata.{automaton_fits, has_rules, IsNodesOf}
 use Rattle.dd_formula.specs.declared.automaton.Automaton.{Automaton}
 use Rattle.dd_formula.specs.declared.automaton.Automaton.TheVariants as v
 use Rattle.dd_formula.proofs.AutomatonLaws.{nodes_given, nodes_outer, nodes_inner}
@@ -11,7 +11,7 @@ returns-in-Given t c = subst (λ (f : Automaton). IsNodesOf f c.nodes.result) (s
 pub returns-in-Some : goal.returns-in-Some
 returns-in-Some t c s fit =
     nodes_outer c.get.result.now c.in-Composed.inner c.in-Some.nodes c.in-Some.ensures s
-    (ap (fits s) (ap (λ (f : Automaton). v.Composed f c.in-Composed.inner) c.get.ensures ∙ sym c.in-Composed.is) ∙ fit)
+    (ap (automaton_fits s) (ap (λ (f : Automaton). v.Composed f c.in-Composed.inner) c.get.ensures ∙ sym c.in-Composed.is) ∙ fit)
 
 pub returns-in-None : goal.returns-in-None
 returns-in-None t c =

@@ -1,5 +1,5 @@
--- How many clauses a box question takes, without a bound.
-use Rattle.std.specs.Prelude.{ℕ, ◌+◌, ◌*◌, ◌^◌, max, List, map, length}
+-- How many clauses say what an automaton gives a cell, without a bound.
+use Rattle.std.specs.Prelude.{ℕ, ◌+◌, ◌*◌, List, map, length}
 use Rattle.std.specs.List.{range_with_len}
 use Rattle.dd_lattice.specs.InOrder.{in_order}
 use Rattle.dd_expansion.specs.Leaves.{clause_count, total}
@@ -55,11 +55,3 @@ differ_at n f g a = value_clauses n f a + value_clauses n g a + n * gate_clauses
 -- they differ at some of the nodes
 abbrev pub differ_clauses : ℕ → ℕ → Automaton → Automaton → ℕ
 differ_clauses n nodes f g = total (map (differ_at n f g) (range_with_len 0 nodes)) + 1
-
--- the positions of the largest box of a question in d dimensions or of its largest torus, whichever has more
-abbrev pub largest_region : ℕ → ℕ → ℕ → ℕ
-largest_region d radius period = max ((2 * radius + 1) ^ d) (period ^ d)
-
--- a question with so many clauses for each position and so many for its goal
-abbrev pub question_clauses : ℕ → ℕ → ℕ → ℕ → ℕ → ℕ
-question_clauses d radius period place goal = largest_region d radius period * place + goal

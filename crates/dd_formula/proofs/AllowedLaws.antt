@@ -1,0 +1,40 @@
+-- Allowed symbols are symbols of the alphabet.
+use Rattle.std.proofs.Common.{◌≡◌, ◌<◌, ◌≤◌, ℕ, Bool, true, false, List, [], length, get_or, ap, arith, Some, None, inl, inr}
+use Rattle.std.specs.Prelude.{Option, IfSome}
+use Rattle.std.proofs.Math.ListN.{get_or-eq_default}
+use Rattle.std.proofs.lemmas.Bool.{cases_lt}
+use Rattle.std.proofs.lemmas.List.Elements.{All-get_or}
+use Rattle.dd_pattern.specs.Reading.{Look, IsBelow}
+use Rattle.dd_topology.specs.Sets.{SymbolSets, row_allows, IsRow, IsSets}
+use Rattle.dd_formula.specs.LocalRule.{LocalRule, rule_allows, IsRule}
+use Rattle.dd_formula.specs.Allowed.{AreAllowed}
+
+nothing_past : (row : List Bool) (t : ℕ) → get_or row t false ≡ true → t < length row
+nothing_past row t h = elim (cases_lt t (length row)) [ inl low ↦ low | inr high ↦ absurd (let past = get_or-eq_default row false high in cc) ]
+
+allowed_in_row : (n : ℕ) (s : SymbolSets) (a t : ℕ) → IsSets n s → a < length s.allowed → row_allows s.allowed a t ≡ true → t < s.symbols
+allowed_in_row n s a t ok below h =
+    let row = get_or s.allowed a [] in
+    let is : IsRow s.symbols row = All-get_or (IsRow s.symbols) s.allowed a [] below ok.rows in
+    let within = nothing_past row t h in
+    omega (arith, within, is.as_many)
+
+empty_row : (row : List Bool) (t : ℕ) → row ≡ [] → get_or row t false ≡ false
+empty_row row t none = get_or-eq_default row false (let few : length row ≡ 0 = ap length none in let past : length row ≤ t = omega arith in past)
+
+no_row : (rows : List (List Bool)) (a t : ℕ) → length rows ≤ a → row_allows rows a t ≡ false
+no_row rows a t high = empty_row (get_or rows a []) t (get_or-eq_default rows [] high)
+
+pub allowed_below : (r : LocalRule) → IsRule r → (a s : ℕ) → rule_allows r a s ≡ true → s < r.symbols
+allowed_below r ok a s h =
+    elim (cases_lt a (length r.allowed)) [
+      | inl low ↦ allowed_in_row r.nodes _ a s ok.allowed low h
+      | inr high ↦ absurd (let none = no_row r.allowed a s high in cc)
+    ]
+
+given_below : (r : LocalRule) → IsRule r → (a : ℕ) (o : Option ℕ) → IfSome o (λ s. rule_allows r a s ≡ true) → IfSome o (λ s. s < r.symbols)
+given_below r ok a None h = tt
+given_below r ok a (Some s) h = allowed_below r ok a s h
+
+pub look_below : (r : LocalRule) → IsRule r → (look : Look) → AreAllowed r look → IsBelow r.symbols look
+look_below r ok look allowed c = given_below r ok c.node (look c) (allowed c)

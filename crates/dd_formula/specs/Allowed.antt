@@ -1,0 +1,13 @@
+-- Symbols that the nodes of a rule allow.
+use Rattle.std.specs.Prelude.{◌≡◌, true, IfSome}
+use Rattle.dd_lattice.specs.declared.position.Cell.{Cell}
+use Rattle.dd_pattern.specs.Reading.{Look}
+use Rattle.dd_pattern.specs.Tile.{Tile, tile_look}
+use Rattle.dd_formula.specs.LocalRule.{LocalRule, rule_allows}
+
+-- each symbol that is given is one that the cell's node allows
+abbrev pub AreAllowed : LocalRule → Look → Type 0
+AreAllowed r look = (c : Cell) → IfSome (look c) (λ s. rule_allows r c.node s ≡ true)
+
+abbrev pub HasAllowed : LocalRule → Tile → Type 0
+HasAllowed r t = AreAllowed r (tile_look t)
