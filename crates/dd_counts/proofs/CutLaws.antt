@@ -20,7 +20,7 @@ times_large l x (suc y) lt =
 pub cut_times_left : (l x y : ℕ) → cut l (cut l x * y) ≡ cut l (x * y)
 cut_times_left l x y = elim (cases_lt l x) [ inl lt ↦ times_large l x y lt | inr le ↦ times_small l x y le ]
 
-cut_times_right : (l x y : ℕ) → cut l (x * cut l y) ≡ cut l (x * y)
+pub cut_times_right : (l x y : ℕ) → cut l (x * cut l y) ≡ cut l (x * y)
 cut_times_right l x y = ap (cut l) (mul_comm x (cut l y)) ∙ (cut_times_left l y x ∙ ap (cut l) (mul_comm y x))
 
 pub cut_power : (l x n : ℕ) → cut l (cut l x ^ n) ≡ cut l (x ^ n)

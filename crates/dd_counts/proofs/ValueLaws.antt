@@ -1,5 +1,5 @@
 -- The clauses of an automaton's value, by those of its parts.
-use Rattle.std.proofs.Common.{◌≡◌, ℕ, zero, suc, ◌+◌, ◌*◌, List, [], ◌∷◌, map, length, refl, ap, sym, ◌∙◌, arith}
+use Rattle.std.proofs.Common.{◌≡◌, ℕ, zero, suc, ◌+◌, ◌*◌, map, refl, ap, sym, ◌∙◌, arith}
 use Rattle.std.specs.List.{range_with_len}
 use Rattle.dd_lattice.specs.InOrder.{in_order}
 use Rattle.dd_lattice.specs.declared.position.Cell.{Cell}
@@ -11,7 +11,7 @@ use Rattle.dd_formula.specs.declared.automaton.Automaton.TheVariants as v
 use Rattle.dd_formula.specs.declared.automaton.Automaton.TheFolds.{fold-Automaton, fold-roll-Automaton, ind-Automaton, map-Automaton}
 use Rattle.dd_formula.specs.declared.automaton.Automaton.TheOpen.{Automaton-F}
 use Rattle.dd_formula.specs.declared.automaton.Cases.{Cases}
-use Rattle.dd_counts.specs.Clauses.{Valued, valued_step, value_clauses, given_clauses, gate_clauses, choice_clauses, giving_clauses}
+use Rattle.dd_formula.specs.ValueCounts.{Valued, valued_step, value_clauses, given_clauses, gate_clauses, choice_clauses, giving_clauses}
 
 abbrev valued : ℕ → Automaton → Valued
 valued n = fold-Automaton Valued (valued_step n)

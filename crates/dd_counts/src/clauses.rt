@@ -1,7 +1,6 @@
 //! Counts of the clauses of box questions.
-ghost use Rattle.std.specs.Prelude.{◌≡◌, ◌≤◌, ◌^◌, ◌<◌};
-ghost use Rattle.dd_formula.specs.Counts.{cut, rule_clauses, place_clauses, broken_clauses};
-ghost use Rattle.dd_counts.specs.Clauses.{question_clauses};
+ghost use Rattle.std.specs.Prelude.{◌≡◌, ◌≤◌, ◌^◌, ◌<◌, ℕ, length};
+ghost use Rattle.dd_formula.specs.Counts.{cut, rule_clauses, disallowed, disallowed_pairs, place_clauses, broken_clauses, largest_clauses};
 
 use crate::arithmetic::{cut_off, power, times};
 use dd_formula::{Rule, plus};
@@ -18,6 +17,33 @@ fn rule_clauses(rule: &Rule, limit: u32) -> u32
     clauses
 }
 
+/// How many symbols the node doesn't allow.
+fn disallowed_at(rule: &Rule, node: u32) -> u32
+    requires { node < rule.now.nodes }
+    ensures count { result ≡ length (disallowed rule.now node) }
+    ensures few { result ≤ 16 }
+{
+    let mut count = 0;
+    for symbol in 0..rule.symbols() {
+        if !rule.allows(node, symbol) {
+            count += 1;
+        }
+    }
+    count
+}
+
+/// How many pairs of a node and a symbol that it doesn't allow there are.
+fn disallowed_pairs(rule: &Rule) -> u32
+    ensures count { result ≡ disallowed_pairs rule.now }
+    ensures few { result ≤ 64 }
+{
+    let mut count = 0;
+    for node in 0..rule.nodes() {
+        count += disallowed_at(rule, node);
+    }
+    count
+}
+
 /// The clauses for one position at which the rule is to be true.
 pub fn place_clauses(rule: &Rule, limit: u32) -> u32
     requires { limit < 2 ^ 31 }
@@ -25,7 +51,11 @@ pub fn place_clauses(rule: &Rule, limit: u32) -> u32
 {
     let symbols = rule.symbols();
     let cells = rule.nodes() * (2 + symbols * (symbols - 1) / 2);
-    plus(limit, cells, rule_clauses(rule, limit))
+    plus(
+        limit,
+        cells + disallowed_pairs(rule),
+        rule_clauses(rule, limit),
+    )
 }
 
 /// The clauses that say that some node of the origin breaks the rule.
@@ -36,20 +66,15 @@ pub fn broken_clauses(rule: &Rule, limit: u32) -> u32
     plus(limit, rule_clauses(rule, limit), 1)
 }
 
-/// The clauses of a box question up to a radius and a period, where each position and the goal have so many.
-pub fn question_clauses(
-    dim: u32,
-    radius: u32,
-    period: u32,
-    place: u32,
-    goal: u32,
-    limit: u32,
-) -> u32
+/// The clauses of a box question up to a radius and a period. The goal's count may be cut off.
+pub fn question_clauses(premise: &Rule, goal: u32, radius: u32, period: u32, limit: u32) -> u32
     requires radius { radius < 2 ^ 31 }
     requires limit { limit < 2 ^ 31 }
-    ensures { result ≡ cut limit (question_clauses dim radius period place goal) }
+    ensures { (g : ℕ) → goal ≡ cut limit g → result ≡ cut limit (largest_clauses premise.now g radius period) }
 {
-    let in_box = power(limit, 2 * radius + 1, dim as u64);
-    let in_torus = power(limit, period, dim as u64);
+    let dim = u64::from(premise.dim());
+    let in_box = power(limit, 2 * radius + 1, dim);
+    let in_torus = power(limit, period, dim);
+    let place = place_clauses(premise, limit);
     plus(limit, times(limit, in_box.max(in_torus), place), goal)
 }

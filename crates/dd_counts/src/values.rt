@@ -4,7 +4,7 @@ ghost use Rattle.dd_expansion.specs.Leaves.{total};
 ghost use Rattle.dd_formula.specs.Automata.{HasNode, HaveNode, HasCells, HasCaseNode};
 ghost use Rattle.dd_formula.specs.Counts.{cut};
 ghost use Rattle.dd_formula.specs.Compositions.{HaveNodes};
-ghost use Rattle.dd_counts.specs.Clauses.{given_clauses, value_clauses, differ_at, differ_clauses};
+ghost use Rattle.dd_formula.specs.ValueCounts.{given_clauses, value_clauses, differ_at, differ_clauses};
 
 use crate::arithmetic::cut_off;
 use dd_formula::{Automaton, Cases, plus};

@@ -1,4 +1,4 @@
-use Rattle.std.proofs.Common.{◌≡◌, ◌+◌, ℕ, ap, ◌∙◌, arith}
+use Rattle.std.proofs.Common.{◌+◌, ℕ, ap, ◌∙◌}
 use Rattle.dd_expansion.specs.Leaves.{clause_count}
 use Rattle.dd_formula.specs.LocalRule.{expansion_at}
 use Rattle.dd_formula.specs.Counts.{cut, over_nodes}

@@ -1,4 +1,4 @@
-use Rattle.std.proofs.Common.{◌≡◌, ◌^◌, ◌+◌, ◌∙◌, ap}
+use Rattle.std.proofs.Common.{◌^◌, ◌+◌, ◌∙◌, ap}
 use Rattle.dd_formula.specs.Counts.{cut}
 use Rattle.dd_counts.specs.Rules.{slices, window}
 use Rattle.dd_counts.proofs.CutLaws.{cut_power}

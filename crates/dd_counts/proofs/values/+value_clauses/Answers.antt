@@ -1,4 +1,4 @@
-use Rattle.std.proofs.Common.{◌≡◌, ◌<◌, ◌+◌, true, List, ℕ, length, map, take, get_or, ap, sym, ◌∙◌, subst, arith}
+use Rattle.std.proofs.Common.{◌≡◌, ◌+◌, List, ℕ, map, take, ap, sym, ◌∙◌, subst, arith}
 use Rattle.std.specs.List.{list_all}
 use Rattle.dd_lattice.specs.declared.position.Cell.{Cell}
 use Rattle.dd_expansion.specs.Leaves.{total}
@@ -9,7 +9,7 @@ use Rattle.dd_formula.specs.Automata.{Setting, IsAutomaton, counted, cells_of, i
 use Rattle.dd_formula.specs.Counts.{cut}
 use Rattle.dd_formula.proofs.Cuts.{total_more, next_cut}
 use Rattle.dd_formula.proofs.AutomatonLaws.{depth_composed, outer_part, inner_part, near_cells}
-use Rattle.dd_counts.specs.Clauses.{value_clauses}
+use Rattle.dd_formula.specs.ValueCounts.{value_clauses}
 use Rattle.dd_counts.proofs.ValueLaws.{value_composed}
 use Rattle.dd_counts.proofs.values.+value_clauses.Goals as goal
 

@@ -1,7 +1,7 @@
-use Rattle.std.proofs.Common.{◌≡◌, ◌+◌, ℕ, map, arith}
+use Rattle.std.proofs.Common.{◌+◌, ℕ, map, arith}
 use Rattle.std.specs.List.{range_with_len}
 use Rattle.dd_expansion.specs.Leaves.{total}
-use Rattle.dd_counts.specs.Clauses.{differ_at}
+use Rattle.dd_formula.specs.ValueCounts.{differ_at}
 use Rattle.dd_formula.proofs.Cuts.{next_cut}
 use Rattle.dd_formula.proofs.Ranges.{total_push}
 use Rattle.dd_counts.proofs.values.differ_clauses.Goals as goal

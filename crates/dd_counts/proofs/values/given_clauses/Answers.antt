@@ -1,11 +1,11 @@
-use Rattle.std.proofs.Common.{◌≡◌, ◌<◌, ◌≤◌, ◌+◌, List, ℕ, map, length, take, get_or, ap, sym, ◌∙◌, subst, arith}
+use Rattle.std.proofs.Common.{◌≡◌, ◌<◌, ◌≤◌, ◌+◌, List, ℕ, map, length, take, get_or, ap, ◌∙◌, subst, arith}
 use Rattle.std.specs.List.{range_with_len}
 use Rattle.std.proofs.lemmas.List.{take_all}
 use Rattle.dd_expansion.specs.Leaves.{clause_count, total}
 use Rattle.dd_formula.specs.LocalRule.{LocalRule, expansion_at}
 use Rattle.dd_formula.specs.Counts.{cut}
 use Rattle.dd_formula.proofs.Cuts.{total_more}
-use Rattle.dd_counts.specs.Clauses.{case_clauses}
+use Rattle.dd_formula.specs.ValueCounts.{case_clauses}
 use Rattle.dd_formula.proofs.Ranges.{total_push}
 use Rattle.dd_counts.proofs.ValueLaws.{round, by_case}
 use Rattle.dd_counts.proofs.values.given_clauses.Goals as goal
