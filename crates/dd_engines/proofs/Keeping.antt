@@ -1,0 +1,64 @@
+-- What a round keeps, and rounds one after the other.
+use Rattle.std.proofs.Common.{◌≢◌, List, [], ◌∷◌, refl, sym, ◌∙◌, ⊎_elim, arith}
+use Rattle.dd_engines.specs.Rounds.{Seen, AskedOnce, AskedSince, Later, Round, End, found, nothing, memory, all_asked, was_found, before_asking, at_asking, gave_nothing, was_dropped, Kept, none_left, stayed, let_go, FirstAsked, nobody, first, later}
+
+asked_later : (old new : Seen) → AskedOnce old new → Later old new
+asked_later old new once = record {
+  same = once.same;
+  asked = ⊎_elim (λ more. omega (arith, more)) (λ full. omega (arith, full.0, full.1)) once.asked;
+  given = once.given;
+}
+
+same_later : (e : Seen) → Later e e
+same_later e = record { same = refl; asked = omega arith; given = omega arith }
+
+later_later : (a b c : Seen) → Later a b → Later b c → Later a c
+later_later a b c p q = record { same = q.same ∙ p.same; asked = omega (arith, p.asked, q.asked); given = omega (arith, p.given, q.given) }
+
+pub kept_same : (all : List Seen) → Kept all all
+kept_same [] = none_left
+kept_same (e ∷ rest) = stayed e e rest rest (same_later e) (kept_same rest)
+
+pub kept_from_round : (before after : List Seen) (end : End) → Round before after end → Kept before after
+kept_from_round _ _ _ (all_asked end not_found) = none_left
+kept_from_round _ _ _ (was_found old new rest once rose) = stayed old new rest rest (asked_later old new once) (kept_same rest)
+kept_from_round _ _ _ (before_asking all) = kept_same all
+kept_from_round _ _ _ (at_asking old new rest once) = stayed old new rest rest (asked_later old new once) (kept_same rest)
+kept_from_round _ _ _ (gave_nothing old new before after end once same more) = stayed old new before after (asked_later old new once) (kept_from_round before after end more)
+kept_from_round _ _ _ (was_dropped old before after end unsound more) = let_go old before after unsound (kept_from_round before after end more)
+
+pub kept_kept : (a b c : List Seen) → Kept a b → Kept b c → Kept a c
+kept_kept _ _ c none_left q = q
+kept_kept _ _ _ (stayed old mid before middle p ps) (stayed _ new _ after q qs) = stayed old new before after (later_later old mid new p q) (kept_kept before middle after ps qs)
+kept_kept _ _ c (stayed old mid before middle p ps) (let_go _ _ _ unsound qs) = let_go old before c (sym p.same ∙ unsound) (kept_kept before middle c ps qs)
+kept_kept _ b c (let_go old before _ unsound ps) q = let_go old before c unsound (kept_kept before b c ps q)
+
+asked_since : (old new : Seen) → AskedOnce old new → AskedSince old new
+asked_since old new once = record {
+  later = asked_later old new once;
+  asked = ⊎_elim (λ more. omega (arith, more)) (λ full. omega (arith, full.0, full.1)) once.asked;
+}
+
+since_later : (a b c : Seen) → Later a b → AskedSince b c → AskedSince a c
+since_later a b c p q = record { later = later_later a b c p q.later; asked = omega (arith, p.asked, q.asked) }
+
+-- what was asked last was asked since the beginning
+pub first_after : (a b c : List Seen) → Kept a b → FirstAsked b c → FirstAsked a c
+first_after a _ _ kept (nobody _) = nobody a
+first_after _ _ _ (stayed old mid before middle p ps) (first _ new _ after q) = first old new before after (since_later old mid new p q)
+first_after _ _ c (stayed old mid before middle p ps) (later _ _ _ q) = later old before c (first_after before middle c ps q)
+first_after _ b c (let_go old before _ unsound ps) q = later old before c (first_after before b c ps q)
+
+first_asked : (before after : List Seen) (end : End) → Round before after end → end ≢ memory → FirstAsked before after
+first_asked _ _ _ (all_asked end not_found) _ = nobody []
+first_asked _ _ _ (was_found old new rest once rose) _ = first old new rest rest (asked_since old new once)
+first_asked _ _ _ (before_asking all) not_memory = absurd (not_memory refl)
+first_asked _ _ _ (at_asking old new rest once) not_memory = absurd (not_memory refl)
+first_asked _ _ _ (gave_nothing old new before after end once same more) _ = first old new before after (asked_since old new once)
+first_asked _ _ _ (was_dropped old before after end unsound more) not_memory = later old before after (first_asked before after end more not_memory)
+
+pub first_asked_found : (before after : List Seen) → Round before after found → FirstAsked before after
+first_asked_found before after round = first_asked before after found round (λ e. cc e)
+
+pub first_asked_nothing : (before after : List Seen) → Round before after nothing → FirstAsked before after
+first_asked_nothing before after round = first_asked before after nothing round (λ e. cc e)

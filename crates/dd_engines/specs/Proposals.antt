@@ -1,0 +1,41 @@
+-- Which proposals are right.
+use Rattle.std.specs.Prelude.{◌≡◌, ℕ, ◌≤◌, Bool, true, List, length, Result, Ok, Err, Option, Some, None}
+use Rattle.dd_values.specs.Counts.{Rose}
+use Rattle.dd_clause.specs.Clauses.{ClauseList, Satisfies, true_variables}
+use Rattle.dd_derivation.specs.declared.step.Outcome.{Outcome}
+use Rattle.dd_derivation.specs.declared.step.Outcome.TheVariants.{Found, Refuted}
+use Rattle.dd_derivation.specs.declared.step.Step.{Step}
+use Rattle.dd_derivation.specs.Derivations.{refutes}
+use Rattle.dd_engines.specs.declared.engine.Proposal.{Proposal}
+use Rattle.dd_engines.specs.declared.engine.Proposal.TheVariants.{Nothing, Found as Proposed, Refutation}
+use Rattle.dd_engines.specs.Rounds.{End, found, nothing, memory}
+
+-- there is one value for each variable, and by them each clause is true
+abbrev pub IsSatisfying : ClauseList → List Bool → Type 0
+IsSatisfying cnf values = (length values ≡ cnf.variables) × Satisfies (true_variables values) cnf.clauses
+
+-- the steps refute the clauses
+abbrev pub IsRefuting : ClauseList → List Step → Type 0
+IsRefuting cnf steps = refutes cnf.variables cnf.clauses steps ≡ true
+
+-- a proposal keeps its word
+abbrev pub IsRight : ClauseList → Proposal → Type 0
+IsRight cnf Nothing = Unit {0}
+IsRight cnf (Proposed values) = IsSatisfying cnf values
+IsRight cnf (Refutation steps) = IsRefuting cnf steps
+
+-- the count of what was given, after a proposal
+abbrev pub GivenAfter : ℕ → ℕ → Proposal → Type 0
+GivenAfter old new Nothing = new ≡ old
+GivenAfter old new (Proposed values) = (old ≤ new) × Rose old new
+GivenAfter old new (Refutation steps) = (old ≤ new) × Rose old new
+
+abbrev pub IsRightOutcome : ClauseList → Outcome → Type 0
+IsRightOutcome cnf (Found values) = IsSatisfying cnf values
+IsRightOutcome cnf (Refuted steps) = IsRefuting cnf steps
+
+-- how a round ends, by its answer
+abbrev pub end_of : {E : Type 0} → Result (Option Outcome) E → End
+end_of (Ok (Some outcome)) = found
+end_of (Ok None) = nothing
+end_of (Err e) = memory

@@ -1,0 +1,59 @@
+-- What asking does to a list of engines.
+use Rattle.std.specs.Prelude.{◌≡◌, ◌≢◌, ◌⊎◌, ℕ, ◌+◌, ◌-◌, ◌^◌, ◌≤◌, List, [], ◌∷◌, Bool, false}
+use Rattle.dd_values.specs.Counts.{Rose}
+
+-- An engine as contracts see it: how often it was asked, how often it proposed something, and whether its proposals are
+-- right.
+pub record Seen : Type 0 where
+  pub asked : ℕ
+  pub given : ℕ
+  pub sound : Bool
+
+-- a count of 64 bits rose by one, or stands at its greatest number
+abbrev pub RisesByOne : ℕ → ℕ → Type 0
+RisesByOne old new = (new ≡ old + 1) ⊎ ((old ≡ 2 ^ 64 - 1) × (new ≡ 2 ^ 64 - 1))
+
+-- the same engine, asked once more
+pub record AskedOnce (old new : Seen) : Type 0 where
+  pub same : new.sound ≡ old.sound
+  pub asked : RisesByOne old.asked new.asked
+  pub given : old.given ≤ new.given
+
+-- the same engine, at a later time
+pub record Later (old new : Seen) : Type 0 where
+  pub same : new.sound ≡ old.sound
+  pub asked : old.asked ≤ new.asked
+  pub given : old.given ≤ new.given
+
+-- How a round ends: a proposal is right, none is, or memory is wanting.
+pub data End : Type 0 where
+  found : End
+  nothing : End
+  memory : End
+
+-- The engines are asked from the first on, each at most once, until one gives a right proposal. One that isn't sound may
+-- be dropped, the others stay in order.
+pub data Round : List Seen → List Seen → End → Type 0 where
+  all_asked : (end : End) → end ≢ found → Round [] [] end
+  was_found : (old new : Seen) (rest : List Seen) → AskedOnce old new → Rose old.given new.given → Round (old ∷ rest) (new ∷ rest) found
+  before_asking : (all : List Seen) → Round all all memory
+  at_asking : (old new : Seen) (rest : List Seen) → AskedOnce old new → Round (old ∷ rest) (new ∷ rest) memory
+  gave_nothing : (old new : Seen) (before after : List Seen) (end : End) → AskedOnce old new → new.given ≡ old.given → Round before after end → Round (old ∷ before) (new ∷ after) end
+  was_dropped : (old : Seen) (before after : List Seen) (end : End) → old.sound ≡ false → Round before after end → Round (old ∷ before) after end
+
+-- The engines at a later time: each that is sound is still there, in order, and no number has fallen.
+pub data Kept : List Seen → List Seen → Type 0 where
+  none_left : Kept [] []
+  stayed : (old new : Seen) (before after : List Seen) → Later old new → Kept before after → Kept (old ∷ before) (new ∷ after)
+  let_go : (old : Seen) (before after : List Seen) → old.sound ≡ false → Kept before after → Kept (old ∷ before) after
+
+-- the same engine, asked since
+pub record AskedSince (old new : Seen) : Type 0 where
+  pub later : Later old new
+  pub asked : Rose old.asked new.asked
+
+-- If an engine is left, the first one was asked since.
+pub data FirstAsked : List Seen → List Seen → Type 0 where
+  nobody : (before : List Seen) → FirstAsked before []
+  first : (old new : Seen) (before after : List Seen) → AskedSince old new → FirstAsked (old ∷ before) (new ∷ after)
+  later : (old : Seen) (before after : List Seen) → FirstAsked before after → FirstAsked (old ∷ before) after

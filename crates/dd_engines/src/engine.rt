@@ -1,0 +1,53 @@
+//! What an engine is: it proposes something of a clause list, and whoever asks looks at it again. So an engine may be of
+//! any kind, may guess and may be wrong.
+ghost use Rattle.std.specs.Prelude.{◌≡◌, ◌-◌, ◌^◌, ◌≤◌, ℕ, Bool, true, IfOk, OnErr};
+ghost use Rattle.dd_engines.specs.Proposals.{IsRight, GivenAfter};
+ghost use Rattle.dd_engines.specs.Rounds.{RisesByOne};
+
+use dd_clause::{Assignment, Cnf};
+use dd_derivation::Step;
+use dd_values::Items;
+use std::alloc::{AllocError, Global};
+
+/// What an engine proposes of a clause list: nothing, an assignment that is to satisfy it, or steps that are to refute
+/// it.
+#[derive(Debug, Drop)]
+pub enum Proposal {
+    Nothing,
+    Found(Assignment),
+    Refutation(Items<Step>),
+}
+
+/// A helper of the search, with a state of its own.
+pub trait Engine: Drop {
+    /// How often it was asked. The count stops at its greatest number.
+    ghost asked: { Self → ℕ };
+
+    /// How often it proposed something. The count stops at its greatest number.
+    ghost given: { Self → ℕ };
+
+    /// Whether each of its proposals is right.
+    ghost sound: { Self → Bool };
+
+    /// Proposes something of the clauses, or nothing. After want of memory nothing was proposed.
+    fn propose(&mut self, alloc: Global, cnf: &Cnf) -> Result<Proposal, AllocError>
+        ensures asked { RisesByOne (asked self.old) (asked self.new) }
+        ensures given { IfOk result (GivenAfter (given self.old) (given self.new)) }
+        ensures no_memory { OnErr result (given self.new ≡ given self.old) }
+        ensures fits { (asked self.new ≤ 2 ^ 64 - 1) × (given self.new ≤ 2 ^ 64 - 1) }
+        ensures same { sound self.new ≡ sound self.old }
+        ensures right { sound self.old ≡ true → IfOk result (IsRight cnf.now) };
+}
+
+/// A boxed engine, of any kind.
+impl Engine for Box<dyn Engine> {
+    ghost asked = { λ b. (Engine-box b).asked b.value };
+
+    ghost given = { λ b. (Engine-box b).given b.value };
+
+    ghost sound = { λ b. (Engine-box b).sound b.value };
+
+    fn propose(&mut self, alloc: Global, cnf: &Cnf) -> Result<Proposal, AllocError> {
+        (**self).propose(alloc, cnf)
+    }
+}

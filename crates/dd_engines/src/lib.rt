@@ -1,0 +1,10 @@
+//! Engines that propose what there is to say of a clause list, and a roster of them that is asked in turn.
+#![tactic(auto)]
+
+mod engine;
+mod laws;
+mod roster;
+
+pub use engine::{Engine, Proposal};
+pub use laws::{first_asked_earlier, kept_is_reflexive, kept_is_transitive, rounds_keep};
+pub use roster::Roster;

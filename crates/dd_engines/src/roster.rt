@@ -1,0 +1,88 @@
+//! A roster of engines, which are asked from the first on until a proposal is right. One whose proposal is wrong is
+//! dropped. What comes out is right whatever the engines claim, since each proposal is looked at here.
+ghost use Rattle.std.specs.Prelude.{◌≡◌, length, IfOk, OnOk, IfSome};
+ghost use Rattle.dd_engines.specs.Rounds.{AskedOnce, Round, Kept, FirstAsked};
+ghost use Rattle.dd_engines.specs.Rosters.{seen, seen_all, roster_seen};
+ghost use Rattle.dd_engines.specs.Proposals.{IsRightOutcome, end_of};
+ghost use Rattle.dd_engines.specs.asking.Shown.{Shows};
+
+use crate::engine::{Engine, Proposal};
+use dd_clause::{Cnf, satisfies};
+use dd_derivation::{Marks, Outcome, check_refutation};
+use std::alloc::{AllocError, Global};
+
+/// Engines that are asked in turn. Contracts see of each how often it was asked, how often it proposed something, and
+/// whether it is sound.
+#[derive(Drop)]
+pub struct Roster<E = Box<dyn Engine>> {
+    engines: Vec<E>,
+}
+
+/// What one asking showed.
+pub enum Asked {
+    Right(Outcome),
+    Silent,
+    Wrong,
+}
+
+/// Asks one engine, and looks at what it proposes.
+fn ask_one<E: Engine>(alloc: Global, cnf: &Cnf, engine: &mut E) -> Result<Asked, AllocError>
+    ensures once { AskedOnce (seen E.asked E.given E.sound engine.old) (seen E.asked E.given E.sound engine.new) }
+    ensures shows { IfOk result (Shows cnf.now (seen E.asked E.given E.sound engine.old) (seen E.asked E.given E.sound engine.new)) }
+{
+    match engine.propose(alloc, cnf)? {
+        Proposal::Nothing => Ok(Asked::Silent),
+        Proposal::Found(assignment) => {
+            if satisfies(cnf, &assignment) {
+                Ok(Asked::Right(Outcome::Found(assignment)))
+            } else {
+                Ok(Asked::Wrong)
+            }
+        }
+        Proposal::Refutation(steps) => {
+            let mut marks = Marks::new(alloc, cnf, steps.as_slice())?;
+            if check_refutation(cnf, steps.as_slice(), &mut marks) {
+                Ok(Asked::Right(Outcome::Refuted(steps)))
+            } else {
+                Ok(Asked::Wrong)
+            }
+        }
+    }
+}
+
+impl<E: Engine> Roster<E> {
+    /// The engines in their order. It takes no memory.
+    pub fn new(engines: Vec<E>) -> Self
+        ensures { roster_seen E.asked E.given E.sound result ≡ seen_all E.asked E.given E.sound engines.items }
+    {
+        Roster { engines }
+    }
+
+    /// How many engines are left.
+    pub fn count(&self) -> usize
+        ensures { result ≡ length (roster_seen E.asked E.given E.sound self.now) }
+    {
+        self.engines.len()
+    }
+
+    /// Asks the engines from the first on, each at most once, until a proposal is right, and gives that one. An engine
+    /// whose proposal is not right is dropped; the others stay in order, also after want of memory.
+    pub fn ask(&mut self, alloc: Global, cnf: &Cnf) -> Result<Option<Outcome>, AllocError>
+        ensures right { IfOk result (λ answer. IfSome answer (IsRightOutcome cnf.now)) }
+        ensures round { Round (roster_seen E.asked E.given E.sound self.old) (roster_seen E.asked E.given E.sound self.new) (end_of result) }
+        ensures kept { Kept (roster_seen E.asked E.given E.sound self.old) (roster_seen E.asked E.given E.sound self.new) }
+        ensures first { OnOk result (FirstAsked (roster_seen E.asked E.given E.sound self.old) (roster_seen E.asked E.given E.sound self.new)) }
+    {
+        let mut place = 0;
+        while place < self.engines.len() {
+            match ask_one(alloc, cnf, &mut self.engines[place])? {
+                Asked::Right(outcome) => return Ok(Some(outcome)),
+                Asked::Silent => place += 1,
+                Asked::Wrong => {
+                    let _ = self.engines.remove(place);
+                }
+            }
+        }
+        Ok(None)
+    }
+}
