@@ -2,7 +2,13 @@
 pub mod Rounds
 -- which proposals and outcomes are right
 pub mod Proposals
+-- the counts of an engine
+pub mod Tallies
 -- a roster as contracts see it
 pub mod Rosters
+-- refutations by a single step
+pub mod SingleSteps
 -- what the asking of one engine shows
 pub mod asking
+-- what follows by unit propagation from nothing
+pub mod propagation

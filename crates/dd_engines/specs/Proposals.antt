@@ -24,11 +24,15 @@ IsRight cnf Nothing = Unit {0}
 IsRight cnf (Proposed values) = IsSatisfying cnf values
 IsRight cnf (Refutation steps) = IsRefuting cnf steps
 
+-- a count has not fallen, and rose
+abbrev pub RisesOn : ℕ → ℕ → Type 0
+RisesOn old new = (old ≤ new) × Rose old new
+
 -- the count of what was given, after a proposal
 abbrev pub GivenAfter : ℕ → ℕ → Proposal → Type 0
 GivenAfter old new Nothing = new ≡ old
-GivenAfter old new (Proposed values) = (old ≤ new) × Rose old new
-GivenAfter old new (Refutation steps) = (old ≤ new) × Rose old new
+GivenAfter old new (Proposed values) = RisesOn old new
+GivenAfter old new (Refutation steps) = RisesOn old new
 
 abbrev pub IsRightOutcome : ClauseList → Outcome → Type 0
 IsRightOutcome cnf (Found values) = IsSatisfying cnf values

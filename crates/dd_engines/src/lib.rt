@@ -3,8 +3,14 @@
 
 mod engine;
 mod laws;
+mod occurrences;
+mod propagation;
+mod propagator;
 mod roster;
+mod tally;
 
 pub use engine::{Engine, Proposal};
 pub use laws::{first_asked_earlier, kept_is_reflexive, kept_is_transitive, rounds_keep};
+pub use propagator::Propagator;
 pub use roster::Roster;
+pub use tally::Tally;

@@ -1,0 +1,12 @@
+use Rattle.std.proofs.Common.{List, subst}
+use Rattle.std.specs.List.{All}
+use Rattle.dd_clause.specs.declared.clause.Literal.{Literal}
+use Rattle.dd_engines.specs.propagation.Following.{IsSettled}
+use Rattle.dd_engines.proofs.Following.{settled_has_no_step}
+use Rattle.dd_engines.proofs.propagation.single_step.Goals as goal
+
+pub returns-in-Settled : goal.returns-in-Settled
+returns-in-Settled c =
+    let values = c.passes.trail.values.items in
+    let passed = rw c.in-Settled.is at c.in_ok-pass.ensures.passed in
+    settled_has_no_step c.args.cnf.now values (subst (λ (cs : List (List Literal)). All (IsSettled values) cs) c.clauses-clauses.ensures.value passed.1)

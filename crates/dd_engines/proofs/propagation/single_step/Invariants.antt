@@ -1,0 +1,12 @@
+use Rattle.std.proofs.Common.{◌≡◌, length}
+use Rattle.dd_engines.specs.propagation.Following.{Follows, unknowns}
+use Rattle.dd_engines.proofs.propagation.single_step.Given as goal
+
+abbrev pub invariant-passes : goal.invariant-passes
+invariant-passes l = record {
+  follows : Follows l.clauses l.trail.hints.items l.trail.values.items;
+  long : length l.trail.values.items ≡ length l.initial.trail.values.items;
+}
+
+abbrev pub decreases-passes : goal.decreases-passes
+decreases-passes l = unknowns l.trail.values.items

@@ -1,0 +1,216 @@
+//! Unit propagation from nothing: a clause with one literal that is not false makes it true, until a clause has none.
+//! Passes over all clauses go on until one changes nothing. Counts of the literals that are left bring each new literal
+//! at once to the clauses that it leaves with one, so the second pass already finds nothing, and all is linear.
+ghost use Rattle.std.specs.Prelude.{◌≡◌, ◌+◌, ◌<◌, ◌≤◌, [], ℕ, List, All, length, IfOk, MatchOption};
+ghost use Rattle.dd_clause.specs.Clauses.{IsClauseInRange};
+ghost use Rattle.dd_clause.specs.declared.clause.Literal.{Literal};
+ghost use Rattle.dd_engines.specs.Proposals.{IsRefuting};
+ghost use Rattle.dd_engines.specs.SingleSteps.{IsSingleStep};
+ghost use Rattle.dd_engines.specs.propagation.Following.{is_false_by, Follows, Looked, Went, Passed};
+
+use crate::occurrences::Occurrences;
+use dd_clause::{Clause, Cnf, Literal};
+use dd_derivation::{FalseLiterals, Finding, Step, find};
+use dd_values::Items;
+use std::alloc::{AllocError, Global};
+
+/// What follows so far: the values of the variables that have one, and the clauses that gave them, by number from 1.
+#[derive(Drop)]
+struct Trail {
+    values: Vec<Option<bool>>,
+    hints: Vec<u64>,
+}
+
+impl FalseLiterals for Trail {
+    ghost is_false = { λ trail. is_false_by trail.values.items };
+
+    fn is_false(&self, literal: Literal) -> bool {
+        let variable = literal.variable as usize;
+        if variable == 0 || variable > self.values.len() {
+            return false;
+        }
+        match self.values[variable - 1] {
+            Some(value) => value != literal.positive,
+            None => false,
+        }
+    }
+}
+
+impl Trail {
+    fn new(alloc: Global, variables: usize) -> Result<Trail, AllocError>
+        ensures values { IfOk result (λ trail. length trail.values.items ≡ variables) }
+        ensures follows { IfOk result (λ trail. (clauses : List (List Literal)) → Follows clauses trail.hints.items trail.values.items) }
+    {
+        Ok(Trail {
+            values: vec![in alloc; None; variables]?,
+            hints: Vec::new(alloc),
+        })
+    }
+
+    /// Looks at a clause, and takes in what it says.
+    fn look(&mut self, clauses: &[Clause], number: usize) -> Result<Finding, AllocError>
+        requires in_range { All (IsClauseInRange (length self.old.values.items)) clauses.now }
+        requires follows { Follows clauses.now self.old.hints.items self.old.values.items }
+        ensures looked { IfOk result (Looked clauses.now number self.old.hints.items self.old.values.items self.new.hints.items self.new.values.items) }
+        ensures long { length self.new.values.items ≡ length self.old.values.items }
+    {
+        let Some(clause) = clauses.get(number) else {
+            return Ok(Finding::Open);
+        };
+        let finding = find(self, clause.literals());
+        match finding {
+            Finding::Open => {}
+            Finding::Falsified => self.hints.push(number as u64 + 1)?,
+            Finding::Forced(literal) => {
+                self.hints.push(number as u64 + 1)?;
+                self.values[literal.variable as usize - 1] = Some(literal.positive);
+            }
+        }
+        Ok(finding)
+    }
+}
+
+/// What a turn of propagation came to.
+enum Progress {
+    /// A clause has no literal left. It is the last hint.
+    Conflict,
+    /// More literals became true.
+    More,
+    /// Nothing changed.
+    Settled,
+}
+
+/// How many literals of each clause are not known to be false, and the clauses that wait with one.
+#[derive(Drop)]
+struct Counts {
+    occurrences: Occurrences,
+    left: Vec<usize>,
+    waiting: Vec<usize>,
+}
+
+impl Counts {
+    fn new(alloc: Global, cnf: &Cnf) -> Result<Counts, AllocError> {
+        let occurrences = Occurrences::new(alloc, cnf)?;
+        let mut left = vec![in alloc; 0usize; cnf.clauses().len()]?;
+        for variable in 1..=cnf.variables() {
+            for positive in [false, true] {
+                let literal = Literal { variable, positive };
+                let mut last = None;
+                for number in occurrences.of(literal) {
+                    if last != Some(*number) {
+                        if let Some(count) = left.get_mut(*number) {
+                            *count = count.saturating_add(1);
+                        }
+                    }
+                    last = Some(*number);
+                }
+            }
+        }
+        Ok(Counts {
+            occurrences,
+            left,
+            waiting: Vec::new(alloc),
+        })
+    }
+
+    /// Counts a literal that is false now, once for each clause.
+    fn falsify(&mut self, literal: Literal) -> Result<(), AllocError> {
+        let mut last = None;
+        for number in self.occurrences.of(literal) {
+            if last != Some(*number) {
+                if let Some(count) = self.left.get_mut(*number) {
+                    *count = count.saturating_sub(1);
+                    if *count == 1 {
+                        self.waiting.push(*number)?;
+                    }
+                }
+            }
+            last = Some(*number);
+        }
+        Ok(())
+    }
+}
+
+/// Looks at a clause, and at those that wait after it, each of which waits at most once.
+fn follow(
+    counts: &mut Counts,
+    trail: &mut Trail,
+    clauses: &[Clause],
+    number: usize,
+) -> Result<Progress, AllocError>
+    requires in_range { All (IsClauseInRange (length trail.old.values.items)) clauses.now }
+    requires follows { Follows clauses.now trail.old.hints.items trail.old.values.items }
+    ensures looked { IfOk result (Went clauses.now number trail.old.hints.items trail.old.values.items trail.new.hints.items trail.new.values.items) }
+    ensures long { length trail.new.values.items ≡ length trail.old.values.items }
+{
+    match trail.look(clauses, number)? {
+        Finding::Falsified => return Ok(Progress::Conflict),
+        Finding::Open => return Ok(Progress::Settled),
+        Finding::Forced(literal) => counts.falsify(literal.negation())?,
+    }
+    'waiting: for _ in clauses {
+        let Some(next) = counts.waiting.pop() else {
+            break;
+        };
+        match trail.look(clauses, next)? {
+            Finding::Falsified => return Ok(Progress::Conflict),
+            Finding::Open => {}
+            Finding::Forced(literal) => counts.falsify(literal.negation())?,
+        }
+    }
+    Ok(Progress::More)
+}
+
+/// Looks at each clause.
+fn pass(counts: &mut Counts, trail: &mut Trail, clauses: &[Clause]) -> Result<Progress, AllocError>
+    requires in_range { All (IsClauseInRange (length trail.old.values.items)) clauses.now }
+    requires follows { Follows clauses.now trail.old.hints.items trail.old.values.items }
+    ensures passed { IfOk result (Passed clauses.now trail.old.values.items trail.new.hints.items trail.new.values.items) }
+    ensures long { length trail.new.values.items ≡ length trail.old.values.items }
+{
+    let mut is_settled = true;
+    for number in 0..clauses.len() {
+        match follow(counts, trail, clauses, number)? {
+            Progress::Conflict => return Ok(Progress::Conflict),
+            Progress::More => is_settled = false,
+            Progress::Settled => {}
+        }
+    }
+    Ok(if is_settled {
+        Progress::Settled
+    } else {
+        Progress::More
+    })
+}
+
+/// The step whose hints these are, and whose clause is empty.
+fn step_of(alloc: Global, hints: Vec<u64>) -> Result<Step, AllocError>
+    ensures clause { IfOk result (λ step. step.clause ≡ []) }
+    ensures hints { IfOk result (λ step. step.hints ≡ hints.items) }
+    ensures deletes { IfOk result (λ step. step.deletes ≡ []) }
+{
+    Ok(Step {
+        clause: Clause::from_literals(alloc, &[])?,
+        hints: Items::from_vec(hints),
+        deletes: Items::new(alloc),
+    })
+}
+
+/// A single step that refutes the clauses, exactly where there is one.
+pub fn single_step(alloc: Global, cnf: &Cnf) -> Result<Option<Step>, AllocError>
+    ensures { IfOk result (λ found. MatchOption found ((step : _) → IsSingleStep cnf.now step → ⊥) (IsSingleStep cnf.now)) }
+{
+    let mut trail = Trail::new(alloc, cnf.variables() as usize)?;
+    let mut counts = Counts::new(alloc, cnf)?;
+    let clauses = cnf.clauses();
+    'passes: loop {
+        match pass(&mut counts, &mut trail, clauses)? {
+            Progress::Conflict => {
+                let Trail { hints, .. } = trail;
+                return Ok(Some(step_of(alloc, hints)?));
+            }
+            Progress::More => {}
+            Progress::Settled => return Ok(None),
+        }
+    }
+}
