@@ -1,0 +1,8 @@
+use Rattle.std.proofs.Common.{◌≡◌, ℕ, ◌<◌, length, arith, sym, ap, ◌∙◌}
+use Rattle.dd_simplex.proofs.LineSteps.{back_sizes}
+use Rattle.dd_simplex.proofs.line.pivot_lines.Goals as goal
+
+pub substitute_each-requires-2-clause-sizes : goal.substitute_each-requires-2-clause-sizes
+substitute_each-requires-2-clause-sizes c =
+    back_sizes c.args.lines.now c.in-Some.back.now c.in-Some.leaving.now c.solve.new.self c.args.r c.args.entering c.args.e c.requires.line
+    (sym c.split_at_mut-front.ensures.back ∙ c.in-Some.ensures.cases.0) c.requires.sizes (c.solve.ensures.value c.if-not-solve.false)

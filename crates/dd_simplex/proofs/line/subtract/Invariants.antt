@@ -1,0 +1,11 @@
+use Rattle.std.proofs.Common.{◌≡◌, ℕ, Bool, true, take, drop, ◌++◌, length}
+use Rattle.dd_fraction.specs.Exact.{Exact}
+use Rattle.dd_simplex.specs.table.Lines.{less, do_all_less_fit}
+use Rattle.dd_simplex.proofs.line.subtract.Given as goal
+
+-- what is left to do, from the cells as they stand
+abbrev pub invariant-loop-i : goal.invariant-loop-i
+invariant-loop-i l = record {
+  fits : do_all_less_fit l.factor l.initial.cells l.others ≡ do_all_less_fit l.factor (drop l.i l.cells) (drop l.i l.others);
+  whole : less l.factor l.initial.cells l.others ≡ take l.i l.cells ++ less l.factor (drop l.i l.cells) (drop l.i l.others);
+}

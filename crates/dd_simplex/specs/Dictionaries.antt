@@ -1,0 +1,56 @@
+-- A dictionary gives some variables, the basic ones, and the objective z in terms of the others:
+-- x_v = bound v - Σ_w entry v w · x_w and z = value + Σ_w cost w · x_w, over the variables w that aren't basic (Dantzig,
+-- Linear Programming and Extensions, 1963; in this form Chvátal, Linear Programming, 1983).
+-- Column j is the variable j, and the slack of row k is the variable columns + k.
+use Rattle.std.specs.Prelude.{◌≡◌, ℕ, ◌+◌, ◌-◌, length, Bool, not, ◌&&◌, ◌||◌, cond}
+use Rattle.std.specs.Bool.{nat_eq, nat_lt}
+use Rattle.dd_fraction.specs.Exact.{Exact, plus, times, minus, inverse}
+use Rattle.dd_simplex.specs.Programs.{LinearProgram, coefficient, bound_at, unit, zero_of, one_of}
+
+pub record Dictionary : Type 0 where
+  pub is_basic : ℕ → Bool
+  pub bound : ℕ → Exact
+  pub entry : ℕ → ℕ → Exact
+  pub value : Exact
+  pub cost : ℕ → Exact
+
+-- how many variables there are
+abbrev pub count : LinearProgram → ℕ
+count p = p.columns + length p.rows
+
+-- the slacks are basic, and the objective is column 0
+abbrev pub start : LinearProgram → Dictionary
+start p = record {
+  is_basic = λ v. not (nat_lt v p.columns);
+  bound = λ v. bound_at p (v - p.columns);
+  entry = λ v w. coefficient p (v - p.columns) w;
+  value = zero_of;
+  cost = λ w. unit 0 w;
+}
+
+abbrev pub quotient : Exact → Exact → Exact
+quotient a b = times a (inverse b)
+
+abbrev pub less_product : Exact → Exact → Exact → Exact
+less_product a q b = plus a (minus (times q b))
+
+-- the row of the entering variable: that of the leaving one, solved for it
+abbrev pub new_bound : Dictionary → ℕ → ℕ → Exact
+new_bound d e r = quotient (d.bound r) (d.entry r e)
+
+abbrev pub new_entry : Dictionary → ℕ → ℕ → ℕ → Exact
+new_entry d e r w = quotient (cond (nat_eq w r) one_of (d.entry r w)) (d.entry r e)
+
+-- what becomes of a coefficient a at w in a line whose coefficient at the entering variable is q
+abbrev pub replaced : Dictionary → ℕ → ℕ → Exact → ℕ → Exact → Exact
+replaced d e r q w a = cond (nat_eq w r) (minus (times q (new_entry d e r w))) (less_product a q (new_entry d e r w))
+
+-- the dictionary after the variables e and r have changed places
+abbrev pub pivoted : Dictionary → ℕ → ℕ → Dictionary
+pivoted d e r = record {
+  is_basic = λ v. nat_eq v e || (d.is_basic v && not (nat_eq v r));
+  bound = λ v. cond (nat_eq v e) (new_bound d e r) (less_product (d.bound v) (d.entry v e) (new_bound d e r));
+  entry = λ v w. cond (nat_eq v e) (new_entry d e r w) (replaced d e r (d.entry v e) w (d.entry v w));
+  value = plus d.value (times (d.cost e) (new_bound d e r));
+  cost = λ w. replaced d e r (d.cost e) w (d.cost w);
+}

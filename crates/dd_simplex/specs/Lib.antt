@@ -1,0 +1,8 @@
+-- linear programs, their columns and duals, and what is best
+pub mod Programs
+-- the dictionary of a simplex run, and one pivot of it
+pub mod Dictionaries
+-- the run by Bland's rule, with a limit on its pivots and on its numbers
+pub mod Runs
+-- what the code keeps of a dictionary
+pub mod table

@@ -1,0 +1,136 @@
+-- The run by Bland's rule (1977): of the variables that may enter, or leave, the one of the least number. It stops with
+-- the best value, at a limit on its pivots, or where one of its numbers passes 2^127 - 1 in absolute value.
+use Rattle.std.specs.Prelude.{◌≡◌, ℕ, zero, suc, ◌+◌, ◌<◌, List, length, Bool, true, false, not, ◌&&◌, ◌||◌, cond, Option, Some, None}
+use Rattle.std.specs.Bool.{nat_eq}
+use Rattle.std.specs.Int.RustNames.{int_lt}
+use Rattle.std.specs.Ordering.{is_gt}
+use lib.IntN.{pos}
+use Rattle.dd_fraction.specs.Exact.{Exact, plus, times, minus, inverse}
+use Rattle.dd_fraction.specs.Order.{exact_cmp}
+use Rattle.dd_fraction.specs.Checked.{does_product_fit, does_sum_fit}
+use Rattle.dd_simplex.specs.Programs.{LinearProgram, IsProgram, fraction_at, zero_of, one_of}
+use Rattle.dd_simplex.specs.Dictionaries.{Dictionary, count, start, pivoted, quotient, new_bound, new_entry}
+
+abbrev pub is_over : Exact → Bool
+is_over a = int_lt (pos 0) a.num
+
+-- true of each number below n
+abbrev pub all_below : (ℕ → Bool) → ℕ → Bool
+all_below f zero = true
+all_below f (suc n) = all_below f n && f n
+
+abbrev pub or_else : Option ℕ → Option ℕ → Option ℕ
+or_else None o = o
+or_else (Some m) o = Some m
+
+-- the least number below n of which it is true
+abbrev pub first_below : (ℕ → Bool) → ℕ → Option ℕ
+first_below f zero = None
+first_below f (suc n) = or_else (first_below f n) (cond (f n) (Some n) None)
+
+abbrev pub may_enter : Dictionary → ℕ → Bool
+may_enter d w = not (d.is_basic w) && is_over (d.cost w)
+
+-- of the first n variables, the one that enters
+abbrev pub entering : ℕ → Dictionary → Option ℕ
+entering n d = first_below (may_enter d) n
+
+-- how far the entering variable e can grow before v falls to 0
+abbrev pub ratio : Dictionary → ℕ → ℕ → Exact
+ratio d e v = quotient (d.bound v) (d.entry v e)
+
+abbrev pub limits : Dictionary → ℕ → ℕ → Bool
+limits d e v = d.is_basic v && is_over (d.entry v e)
+
+-- v limits e, and no variable has a smaller ratio
+abbrev pub may_leave : ℕ → Dictionary → ℕ → ℕ → Bool
+may_leave n d e v =
+    limits d e v && all_below (λ u. not (limits d e u) || not (is_gt (exact_cmp (ratio d e v) (ratio d e u)))) n
+
+abbrev pub leaving : ℕ → Dictionary → ℕ → Option ℕ
+leaving n d e = first_below (may_leave n d e) n
+
+-- the numbers of a quotient, and of `a - q · b`
+abbrev pub does_quotient_fit : Exact → Exact → Bool
+does_quotient_fit a b = does_product_fit a (inverse b)
+
+abbrev pub does_less_fit : Exact → Exact → Exact → Bool
+does_less_fit a q b = does_product_fit q b && does_sum_fit a (minus (times q b))
+
+-- the numbers of the ratios
+abbrev pub do_ratios_fit : ℕ → Dictionary → ℕ → Bool
+do_ratios_fit n d e = all_below (λ v. not (limits d e v) || does_quotient_fit (d.bound v) (d.entry v e)) n
+
+-- those of the entering variable's row: the quotient of 1 stands where the leaving variable comes to stand
+abbrev pub does_row_fit : ℕ → Dictionary → ℕ → ℕ → Bool
+does_row_fit n d e r =
+    does_quotient_fit (d.bound r) (d.entry r e)
+    && all_below (λ w. d.is_basic w || does_quotient_fit (cond (nat_eq w e) one_of (d.entry r w)) (d.entry r e)) n
+
+-- those of the coefficients a of a line whose coefficient at e is q
+abbrev pub do_coefficients_fit : ℕ → Dictionary → ℕ → ℕ → Exact → (ℕ → Exact) → Bool
+do_coefficients_fit n d e r q a =
+    all_below (λ w. d.is_basic w || cond (nat_eq w e) (does_product_fit q (new_entry d e r r)) (does_less_fit (a w) q (new_entry d e r w))) n
+
+-- those of the other rows
+abbrev pub do_others_fit : ℕ → Dictionary → ℕ → ℕ → Bool
+do_others_fit n d e r =
+    all_below (λ v. (not (d.is_basic v) || nat_eq v r)
+    || (does_less_fit (d.bound v) (d.entry v e) (new_bound d e r) && do_coefficients_fit n d e r (d.entry v e) (d.entry v))) n
+
+-- those of the objective
+abbrev pub does_objective_fit : ℕ → Dictionary → ℕ → ℕ → Bool
+does_objective_fit n d e r =
+    (does_product_fit (d.cost e) (new_bound d e r) && does_sum_fit d.value (times (d.cost e) (new_bound d e r)))
+    && do_coefficients_fit n d e r (d.cost e) d.cost
+
+abbrev pub does_turn_fit : ℕ → Dictionary → ℕ → ℕ → Bool
+does_turn_fit n d e r =
+    do_ratios_fit n d e && (does_row_fit n d e r && (do_others_fit n d e r && does_objective_fit n d e r))
+
+-- how a run stops: at a dictionary with no cost over 0, by a number, at the limit, or since nothing limits what enters
+pub data Stop : Type 0 where
+  Ends : Dictionary → Stop
+  Overflows : Stop
+  Pivots : Stop
+  Unbounded : Stop
+
+-- a turn in which e enters, and then the run that follows
+abbrev pub turn : (Dictionary → Stop) → ℕ → Dictionary → ℕ → Option ℕ → Stop
+turn next n d e None = Unbounded
+turn next n d e (Some r) = cond (does_turn_fit n d e r) (next (pivoted d e r)) Overflows
+
+abbrev pub turn_or_end : (ℕ → Stop) → Dictionary → Option ℕ → Stop
+turn_or_end go_on d None = Ends d
+turn_or_end go_on d (Some e) = go_on e
+
+-- the run of at most k pivots
+abbrev pub run : ℕ → ℕ → Dictionary → Stop
+run n zero d = turn_or_end (λ e. Pivots) d (entering n d)
+run n (suc k) d = turn_or_end (λ e. turn (run n k) n d e (leaving n d e)) d (entering n d)
+
+abbrev pub stop_of : LinearProgram → ℕ → Stop
+stop_of p k = run (count p) k (start p)
+
+-- a column's value, and a row's dual
+abbrev pub column_of : Dictionary → ℕ → Exact
+column_of d j = cond (d.is_basic j) (d.bound j) zero_of
+
+abbrev pub dual_of : LinearProgram → Dictionary → ℕ → Exact
+dual_of p d k = cond (d.is_basic (p.columns + k)) zero_of (minus (d.cost (p.columns + k)))
+
+-- the run ends with the value, the columns and the duals
+pub record RunEnds (p : LinearProgram) (k : ℕ) (value : Exact) (columns duals : List Exact) : Type 0 where
+  pub dictionary : Dictionary
+  pub ends : stop_of p k ≡ Ends dictionary
+  pub value_is : value ≡ dictionary.value
+  pub width : length columns ≡ p.columns
+  pub columns_are : (j : ℕ) → j < p.columns → fraction_at columns j ≡ column_of dictionary j
+  pub height : length duals ≡ length p.rows
+  pub duals_are : (i : ℕ) → i < length p.rows → fraction_at duals i ≡ dual_of p dictionary i
+
+abbrev pub RunOverflows : LinearProgram → ℕ → Type 0
+RunOverflows p k = stop_of p k ≡ Overflows
+
+abbrev pub RunPivots : LinearProgram → ℕ → Type 0
+RunPivots p k = stop_of p k ≡ Pivots

@@ -1,0 +1,9 @@
+//! Linear programs over exact fractions, maximised by Bland's pivot rule.
+#![tactic(auto)]
+
+mod fault;
+mod line;
+mod program;
+
+pub use fault::SimplexFault;
+pub use program::Program;

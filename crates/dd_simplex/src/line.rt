@@ -1,0 +1,136 @@
+// A line of a dictionary: a basic variable in terms of the others.
+ghost use Rattle.std.specs.Prelude.{◌≡◌, ◌≢◌, ◌<◌, true, List, length, map};
+ghost use Rattle.std.specs.List.{list_all, All};
+ghost use lib.IntN.{pos};
+ghost use Rattle.dd_fraction.specs.Exact.{Exact, times, inverse};
+ghost use Rattle.dd_fraction.specs.Checked.{does_product_fit};
+ghost use Rattle.dd_simplex.specs.Programs.{fraction_at};
+ghost use Rattle.dd_simplex.specs.table.Lines.{less, do_all_less_fit, solved_line, does_solved_fit, changed_line, does_changed_fit, line_at, changed_lines, do_lines_fit};
+
+use dd_fraction::Fraction;
+use std::marker::Model;
+
+/// `basic = bound - sum of cell times variable`, over the variables that aren't basic.
+#[derive(Drop)]
+pub struct Line {
+    pub basic: usize,
+    pub bound: Fraction,
+    pub cells: Vec<Fraction>,
+}
+
+impl Model for Line {
+    ghost use Rattle.dd_simplex.specs.table.Lines.{Line as LineValue};
+
+    ghost Value = { LineValue };
+
+    ghost view = { λ l. record { basic = l.basic; bound = l.bound; cells = l.cells.items } };
+}
+
+impl Line {
+    /// Solves the line for the variable at the place `e`. False where a number is too large.
+    pub fn solve(&mut self, e: usize, entering: usize) -> bool
+        requires place { e < length self.old.cells }
+        requires cell { (fraction_at self.old.cells e).num ≢ pos 0 }
+        ensures fits { result ≡ does_solved_fit e self.old }
+        ensures value { result ≡ true → self.new ≡ solved_line entering e self.old }
+    {
+        let cell = self.cells[e];
+        let Some(bound) = self.bound.div(&cell) else {
+            return false
+        };
+        self.bound = bound;
+        self.basic = entering;
+        self.cells[e] = Fraction::whole(1);
+        divide(self.cells.as_mut_slice(), &cell)
+    }
+
+    /// Puts the solved line in place of the variable at the place `e`. False where a number is too large.
+    pub fn substitute(&mut self, e: usize, pivot: &Line) -> bool
+        requires place { e < length self.old.cells }
+        requires size { length self.old.cells ≡ length pivot.now.cells }
+        ensures fits { result ≡ does_changed_fit e pivot.now self.old }
+        ensures value { result ≡ true → self.new ≡ changed_line e pivot.now self.old }
+    {
+        let factor = self.cells[e];
+        let Some(product) = factor.mul(&pivot.bound) else {
+            return false
+        };
+        let Some(bound) = self.bound.sub(&product) else {
+            return false
+        };
+        self.bound = bound;
+        self.cells[e] = Fraction::whole(0);
+        subtract(self.cells.as_mut_slice(), &factor, pivot.cells.as_slice())
+    }
+}
+
+/// Divides each cell. False where a number is too large; then some cells are divided.
+fn divide(cells: &mut [Fraction], by: &Fraction) -> bool
+    requires { by.now.num ≢ pos 0 }
+    ensures fits { result ≡ list_all (λ a. does_product_fit a (inverse by.now)) cells.old }
+    ensures value { result ≡ true → cells.new ≡ map (λ a. times a (inverse by.now)) cells.old }
+{
+    for i in 0..cells.len() {
+        let Some(quotient) = cells[i].div(by) else {
+            return false
+        };
+        cells[i] = quotient;
+    }
+    true
+}
+
+/// Takes a multiple of the other cells from each cell. False where a number is too large; then some cells are changed.
+pub fn subtract(cells: &mut [Fraction], factor: &Fraction, others: &[Fraction]) -> bool
+    requires { length cells.old ≡ length others.now }
+    ensures fits { result ≡ do_all_less_fit factor.now cells.old others.now }
+    ensures value { result ≡ true → cells.new ≡ less factor.now cells.old others.now }
+{
+    for i in 0..cells.len() {
+        let Some(product) = factor.mul(&others[i]) else {
+            return false
+        };
+        let Some(difference) = cells[i].sub(&product) else {
+            return false
+        };
+        cells[i] = difference;
+    }
+    true
+}
+
+/// Puts the solved line into each line. False where a number is too large.
+fn substitute_each(lines: &mut [Line], e: usize, pivot: &Line) -> bool
+    requires place { e < length pivot.now.cells }
+    requires sizes { All (λ l. length l.cells ≡ length pivot.now.cells) lines.old }
+    ensures fits { result ≡ list_all (does_changed_fit e pivot.now) lines.old }
+    ensures value { result ≡ true → lines.new ≡ map (changed_line e pivot.now) lines.old }
+{
+    for i in 0..lines.len() {
+        if !lines[i].substitute(e, pivot) {
+            return false;
+        }
+    }
+    true
+}
+
+/// The lines of a pivot: that at `r` is solved for the variable at `e`, and put into the others. False where a number is
+/// too large.
+pub fn pivot_lines(lines: &mut [Line], e: usize, r: usize, entering: usize) -> bool
+    requires line { r < length lines.old }
+    requires place { e < length (line_at lines.old r).cells }
+    requires cell { (fraction_at (line_at lines.old r).cells e).num ≢ pos 0 }
+    requires sizes { All (λ l. length l.cells ≡ length (line_at lines.old r).cells) lines.old }
+    ensures fits { result ≡ do_lines_fit e r entering lines.old }
+    ensures value { result ≡ true → lines.new ≡ changed_lines e r entering lines.old }
+{
+    let (front, rest) = lines.split_at_mut(r);
+    let Some((leaving, back)) = rest.split_first_mut() else {
+        return false
+    };
+    if !leaving.solve(e, entering) {
+        return false;
+    }
+    if !substitute_each(front, e, leaving) {
+        return false;
+    }
+    substitute_each(back, e, leaving)
+}

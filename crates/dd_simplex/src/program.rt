@@ -1,0 +1,82 @@
+// A linear program, row by row.
+ghost use Rattle.std.specs.Prelude.{◌≡◌, [], ◌∷◌, ◌++◌, ◌<◌, length, IfOk, OnOk, OnErr};
+ghost use lib.IntN.{pos};
+ghost use lib.Signed.{◌≤ℤ◌};
+ghost use Rattle.dd_fraction.specs.Order.{IsNonneg};
+ghost use Rattle.dd_simplex.specs.Programs.{LinearProgram, Row, IsProgram, cap_row};
+
+use dd_fraction::Fraction;
+use std::alloc::{AllocError, Global};
+use std::marker::Model;
+
+/// Fractions times the columns sum to at most the bound.
+#[derive(Debug, Drop)]
+pub struct Constraint {
+    pub coefficients: Vec<Fraction>,
+    pub bound: Fraction,
+}
+
+impl Model for Constraint {
+    ghost use Rattle.dd_simplex.specs.Programs.{Row};
+
+    ghost Value = { Row };
+
+    ghost view = { λ c. record { coefficients = c.coefficients.items; bound = c.bound } };
+}
+
+/// A linear program in columns of at least 0: column 0 is to be as large as possible. Its first row is "column 0 at most
+/// a cap".
+#[derive(Debug, Drop)]
+pub struct Program {
+    columns: u32,
+    rows: Vec<Constraint>,
+}
+
+impl Model for Program {
+    ghost use Rattle.dd_simplex.specs.Programs.{LinearProgram, IsProgram};
+
+    ghost Value = { LinearProgram };
+
+    ghost view = { λ p. record { columns = p.columns; rows = p.rows.items } };
+
+    ghost invariant = { λ p. IsProgram (record { columns = p.columns; rows = p.rows.items }) };
+}
+
+impl Program {
+    /// The program of at least one column whose one row is "column 0 at most `cap`", for a cap of at least 0.
+    pub fn new(alloc: Global, columns: u32, cap: i64) -> Result<Program, AllocError>
+        requires columns { 0 < columns }
+        requires cap { pos 0 ≤ℤ cap }
+        ensures { IfOk result (λ program. program ≡ record { columns = columns; rows = cap_row columns cap ∷ [] }) }
+    {
+        let mut coefficients = Vec::with_capacity(alloc, columns as usize)?;
+        coefficients.push(Fraction::whole(1))?;
+        coefficients.resize(columns as usize, Fraction::whole(0))?;
+        let bound = Fraction::whole(cap);
+        let rows = vec![in alloc;
+            Constraint {
+                coefficients,
+                bound
+            },
+        ]?;
+        Ok(Program { columns, rows })
+    }
+
+    /// Adds the row "the sum of coefficient times column is at most `bound`", with one coefficient for each column and a
+    /// bound of at least 0. After want of memory the program is as it was.
+    pub fn row(&mut self, coefficients: Vec<Fraction>, bound: Fraction) -> Result<(), AllocError>
+        requires size { length coefficients.items ≡ self.old.columns }
+        requires bound { IsNonneg bound }
+        ensures ok { OnOk result (self.new ≡ record {
+          columns = self.old.columns;
+          rows = self.old.rows ++ record { coefficients = coefficients.items; bound = bound } ∷ [];
+        }) }
+        ensures err { OnErr result (self.new ≡ self.old) }
+    {
+        self.rows.push(Constraint {
+            coefficients,
+            bound,
+        })?;
+        Ok(())
+    }
+}
