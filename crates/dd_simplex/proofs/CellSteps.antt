@@ -1,15 +1,15 @@
 -- Steps of the loops over cells.
-use Rattle.std.proofs.Common.{◌≡◌, ℕ, zero, suc, ◌+◌, ◌<◌, ◌≤◌, List, [], ◌∷◌, ◌++◌, length, take, drop, get_or, Option, Some, None, Bool, true, false, cond, ◌&&◌, refl, sym, ap, subst, ◌∙◌, arith, length-take, drop-cons, add-one, append_assoc}
+use Rattle.std.proofs.Common.{◌≡◌, ℕ, ◌+◌, ◌<◌, List, [], ◌∷◌, ◌++◌, length, take, drop, get_or, Option, Some, None, Bool, true, false, cond, ◌&&◌, refl, sym, ap, subst, ◌∙◌, arith, drop-cons, add-one, append_assoc}
 use Rattle.std.specs.Prelude.{map}
 use Rattle.std.specs.List.{slice_set, list_all}
-use Rattle.std.proofs.lemmas.List.{length-map, length-set, get_or-drop, take_more_set, drop-set-lt}
+use Rattle.std.proofs.lemmas.List.{length-map, length-set, take_more_set, drop-set-lt}
 use Rattle.std.proofs.lemmas.List.Edits.{map_over_more}
 use Rattle.std.proofs.lemmas.List.Folds.{list_all_more}
-use Rattle.std.proofs.lemmas.Grind.{common_steps, elements, pieces}
+use Rattle.std.proofs.lemmas.Grind.{common_steps}
 use Rattle.dd_fraction.specs.Exact.{Exact, times, plus, minus}
 use Rattle.dd_simplex.specs.table.Lines.{less, do_all_less_fit}
-use lib.IntN.{ℤ, pos, neg_ℤ, ◌+ℤ◌, ◌*ℤ◌, *ℤ-one, +ℤ_idl, one}
-use Rattle.std.proofs.Common.{◌^◌, ◌*◌}
+use lib.IntN.{pos, neg_ℤ, ◌+ℤ◌, ◌*ℤ◌, *ℤ-one, +ℤ_idl, one}
+use Rattle.std.proofs.Common.{◌^◌}
 use Rattle.dd_fraction.specs.Exact.{inverse}
 use Rattle.std.specs.Int.RustNames.{unsigned_abs}
 use Rattle.std.proofs.lemmas.Int.{ints}

@@ -1,10 +1,12 @@
 -- The rows behind the leaving one.
-use Rattle.std.proofs.Common.{◌≡◌, ℕ, zero, suc, ◌+◌, ◌<◌, List, [], ◌∷◌, ◌++◌, length, take, drop, add-one, get_or, refl, sym, ap, subst, ◌∙◌, arith, drop-cons}
+use Rattle.std.proofs.Common.{◌≡◌, ℕ, zero, suc, ◌+◌, ◌<◌, List, [], ◌∷◌, ◌++◌, length, take, drop, add-one, refl, sym, ap, subst, ◌∙◌, arith, drop-cons}
 use Rattle.std.specs.Prelude.{map}
 use Rattle.std.specs.List.{All, slice_set}
 use Rattle.std.proofs.lemmas.List.Elements.{All-drop, All-weaker}
-use Rattle.dd_simplex.specs.table.Lines.{Line, line_at, solved_line}
-use Rattle.dd_simplex.specs.Programs.{zero_of}
+use Rattle.dd_simplex.specs.table.Lines.{Line, Table, line_at, other_at, solved_line, changed_line, changed_lines, changed_table, less}
+use Rattle.dd_simplex.specs.Programs.{zero_of, fraction_at}
+use Rattle.dd_fraction.specs.Exact.{Exact, plus, times}
+use Rattle.std.proofs.lemmas.List.{length-map, get_or-set_same}
 use Rattle.dd_simplex.proofs.CellSteps.{solved_size}
 
 pub back_sizes : (rows back : List Line) (leaving new : Line) (r v e : ℕ) → r < length rows → drop r rows ≡ leaving ∷ back
@@ -26,3 +28,23 @@ rows_go f (x ∷ xs) (suc r) p h = ap (λ t. f x ∷ t) (rows_go f xs r p (omega
 
 pub rows_turned : {A B : Type 0} (f : A → B) (xs : List A) (r : ℕ) (p : B) → r < length xs → map f (take r xs) ++ p ∷ map f (drop (r + 1) xs) ≡ slice_set (map f xs) r p
 rows_turned f xs r p h = rw add-one (rows_go f xs r p h)
+
+-- the solved line, where it comes to stand
+pub changed_at : (lines : List Line) (e r v : ℕ) → r < length lines → line_at (changed_lines e r v lines) r ≡ solved_line v e (line_at lines r)
+changed_at lines e r v h =
+    let pivot = solved_line v e (line_at lines r) in
+    ap (λ (ls : List Line). line_at ls r) (rows_turned (changed_line e pivot) lines r pivot h) ∙ get_or-set_same (map (changed_line e pivot) lines) r pivot _ (simp length-map h)
+
+abbrev pub table_of : List Line → List ℕ → Exact → List Exact → Table
+table_of lines others value costs = record { lines = lines; others = others; value = value; costs = costs }
+
+pub table_is : (t : Table) (e r : ℕ) (lines : List Line) (pivot : Line) (others : List ℕ) (value : Exact) (costs : List Exact) → r < length t.lines
+    → lines ≡ changed_lines e r (other_at t.others e) t.lines → pivot ≡ line_at lines r → others ≡ slice_set t.others e (line_at t.lines r).basic
+    → value ≡ plus t.value (times (fraction_at t.costs e) pivot.bound) → costs ≡ less (fraction_at t.costs e) (slice_set t.costs e zero_of) pivot.cells
+    → table_of lines others value costs ≡ changed_table e r t
+table_is t e r lines pivot others value costs h ls p os v cs =
+    let c = fraction_at t.costs e in
+    let s : pivot ≡ solved_line (other_at t.others e) e (line_at t.lines r) = p ∙ (ap (λ (xs : List Line). line_at xs r) ls ∙ changed_at t.lines e r (other_at t.others e) h) in
+    let v2 = v ∙ ap (λ (l : Line). plus t.value (times c l.bound)) s in
+    let c2 = cs ∙ ap (λ (l : Line). less c (slice_set t.costs e zero_of) l.cells) s in
+    λ i. record { lines = ls i; others = os i; value = v2 i; costs = c2 i }

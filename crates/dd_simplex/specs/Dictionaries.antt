@@ -2,7 +2,7 @@
 -- x_v = bound v - Σ_w entry v w · x_w and z = value + Σ_w cost w · x_w, over the variables w that aren't basic (Dantzig,
 -- Linear Programming and Extensions, 1963; in this form Chvátal, Linear Programming, 1983).
 -- Column j is the variable j, and the slack of row k is the variable columns + k.
-use Rattle.std.specs.Prelude.{◌≡◌, ℕ, ◌+◌, ◌-◌, length, Bool, not, ◌&&◌, ◌||◌, cond}
+use Rattle.std.specs.Prelude.{ℕ, ◌+◌, ◌-◌, length, Bool, not, ◌&&◌, ◌||◌, cond}
 use Rattle.std.specs.Bool.{nat_eq, nat_lt}
 use Rattle.dd_fraction.specs.Exact.{Exact, plus, times, minus, inverse}
 use Rattle.dd_simplex.specs.Programs.{LinearProgram, coefficient, bound_at, unit, zero_of, one_of}

@@ -4,6 +4,7 @@
 mod fault;
 mod line;
 mod program;
+mod tableau;
 
 pub use fault::SimplexFault;
 pub use program::Program;

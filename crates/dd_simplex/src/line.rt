@@ -27,6 +27,12 @@ impl Model for Line {
 }
 
 impl Line {
+    pub fn variable(&self) -> usize
+        ensures { result ≡ self.now.basic }
+    {
+        self.basic
+    }
+
     /// Solves the line for the variable at the place `e`. False where a number is too large.
     pub fn solve(&mut self, e: usize, entering: usize) -> bool
         requires place { e < length self.old.cells }

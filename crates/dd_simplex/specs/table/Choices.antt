@@ -1,12 +1,13 @@
 -- The choice of a place by an order.
-use Rattle.std.specs.Prelude.{◌≡◌, ℕ, ◌<◌, ◌≤◌, List, length, Bool, true, false, Option, Some, None}
-use Rattle.std.specs.List.{All}
+use Rattle.std.specs.Prelude.{◌≡◌, ℕ, ◌<◌, ◌≤◌, List, length, Bool, true, false, ◌&&◌, ◌||◌, Option, Some, None}
+use Rattle.std.specs.Bool.{nat_lt}
+use Rattle.std.specs.Ordering.{is_lt, is_eq}
 use Rattle.dd_fraction.specs.Exact.{Exact, times, inverse}
-use Rattle.dd_fraction.specs.Order.{IsAtMost, IsBelow}
+use Rattle.dd_fraction.specs.Order.{IsAtMost, exact_cmp}
 use Rattle.dd_fraction.specs.Checked.{does_product_fit}
 use Rattle.dd_simplex.specs.Programs.{fraction_at}
 use Rattle.dd_simplex.specs.Runs.{is_over}
-use Rattle.dd_simplex.specs.table.Lines.{Line, Table, line_at, other_at}
+use Rattle.dd_simplex.specs.table.Lines.{Line, line_at, other_at}
 
 -- of the first n places, one that fits and stands before each other that fits; none where none fits
 abbrev pub IsChosen : (ℕ → Bool) → (ℕ → ℕ → Type 0) → ℕ → Option ℕ → Type 0
@@ -26,9 +27,21 @@ abbrev pub line_ratio : List Line → ℕ → ℕ → Exact
 line_ratio lines e i = times (line_at lines i).bound (inverse (fraction_at (line_at lines i).cells e))
 
 -- the smaller ratio, and of equal ones the smaller variable
-pub record LeavesBefore (lines : List Line) (e i j : ℕ) : Type 0 where
-  pub ratio : IsAtMost (line_ratio lines e i) (line_ratio lines e j)
-  pub tie : IsAtMost (line_ratio lines e j) (line_ratio lines e i) → (line_at lines i).basic ≤ (line_at lines j).basic
+abbrev pub does_precede : Exact → ℕ → Exact → ℕ → Bool
+does_precede a v b w = let o = exact_cmp a b in is_lt o || (is_eq o && nat_lt v w)
+
+pub record Precedes (a : Exact) (v : ℕ) (b : Exact) (w : ℕ) : Type 0 where
+  pub ratio : IsAtMost a b
+  pub tie : IsAtMost b a → v ≤ w
+
+abbrev pub LeavesBefore : List Line → ℕ → ℕ → ℕ → Type 0
+LeavesBefore lines e i j =
+    Precedes (line_ratio lines e i) (line_at lines i).basic (line_ratio lines e j) (line_at lines j).basic
+
+-- the least ratio is that of the line chosen
+abbrev pub IsRatioOf : List Line → ℕ → Exact → Option ℕ → Type 0
+IsRatioOf lines e a None = a ≡ a
+IsRatioOf lines e a (Some r) = a ≡ line_ratio lines e r
 
 abbrev pub DoRatiosFit : List Line → ℕ → ℕ → Type 0
 DoRatiosFit lines e n =

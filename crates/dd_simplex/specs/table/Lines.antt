@@ -1,5 +1,5 @@
 -- What the code keeps of a dictionary: its lines, and one pivot of them, place by place.
-use Rattle.std.specs.Prelude.{◌≡◌, ℕ, ◌+◌, List, [], ◌∷◌, ◌++◌, length, map, take, drop, Bool, true, ◌&&◌, slice_index_or, slice_set}
+use Rattle.std.specs.Prelude.{ℕ, ◌+◌, List, [], ◌∷◌, ◌++◌, map, take, drop, Bool, true, ◌&&◌, slice_index_or, slice_set}
 use Rattle.std.specs.List.{list_all}
 use Rattle.dd_fraction.specs.Exact.{Exact, plus, times, minus, inverse}
 use Rattle.dd_fraction.specs.Checked.{does_product_fit, does_sum_fit}
@@ -74,6 +74,12 @@ do_lines_fit e r entering lines =
     && (list_all (does_changed_fit e pivot) (take r lines) && list_all (does_changed_fit e pivot) (drop (r + 1) lines))
 
 -- the objective
+abbrev pub does_objective_fit : ℕ → Line → Exact → List Exact → Bool
+does_objective_fit e pivot value costs =
+    let c = fraction_at costs e in
+    (does_product_fit c pivot.bound && does_sum_fit value (times c pivot.bound))
+    && do_all_less_fit c (slice_set costs e zero_of) pivot.cells
+
 abbrev pub changed_table : ℕ → ℕ → Table → Table
 changed_table e r t =
     let leaving = line_at t.lines r in
@@ -89,7 +95,4 @@ changed_table e r t =
 abbrev pub does_table_fit : ℕ → ℕ → Table → Bool
 does_table_fit e r t =
     let pivot = solved_line (other_at t.others e) e (line_at t.lines r) in
-    let c = fraction_at t.costs e in
-    do_lines_fit e r (other_at t.others e) t.lines
-    && ((does_product_fit c pivot.bound && does_sum_fit t.value (times c pivot.bound))
-    && do_all_less_fit c (slice_set t.costs e zero_of) pivot.cells)
+    do_lines_fit e r (other_at t.others e) t.lines && does_objective_fit e pivot t.value t.costs

@@ -1,10 +1,9 @@
 -- A table stands for a dictionary.
-use Rattle.std.specs.Prelude.{◌≡◌, ℕ, ◌<◌, List, length, Bool, true, false}
-use Rattle.dd_fraction.specs.Exact.{Exact}
+use Rattle.std.specs.Prelude.{◌≡◌, ℕ, ◌<◌, length, true, false}
 use Rattle.dd_fraction.specs.Checked.{IsFraction}
-use Rattle.dd_simplex.specs.Programs.{LinearProgram, fraction_at}
-use Rattle.dd_simplex.specs.Dictionaries.{Dictionary, count}
-use Rattle.dd_simplex.specs.table.Lines.{Line, Table, line_at, other_at}
+use Rattle.dd_simplex.specs.Programs.{fraction_at}
+use Rattle.dd_simplex.specs.Dictionaries.{Dictionary}
+use Rattle.dd_simplex.specs.table.Lines.{Table, line_at, other_at}
 
 -- lines and costs are as long as there are other variables, and hold fractions
 pub record IsTable (t : Table) : Type 0 where

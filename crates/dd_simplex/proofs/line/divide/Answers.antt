@@ -1,4 +1,4 @@
-use Rattle.std.proofs.Common.{◌≡◌, ℕ, ◌<◌, length, arith}
+use Rattle.std.proofs.Common.{◌<◌, length, arith}
 use Rattle.dd_fraction.specs.Exact.{inverse}
 use Rattle.dd_simplex.proofs.CellSteps.{divide_step}
 use Rattle.dd_simplex.proofs.line.divide.Goals as goal

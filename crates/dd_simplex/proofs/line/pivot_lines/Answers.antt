@@ -1,4 +1,4 @@
-use Rattle.std.proofs.Common.{◌≡◌, ℕ, ◌<◌, length, arith, sym, ap, ◌∙◌}
+use Rattle.std.proofs.Common.{sym, ◌∙◌}
 use Rattle.dd_simplex.proofs.LineSteps.{back_sizes}
 use Rattle.dd_simplex.proofs.line.pivot_lines.Goals as goal
 

@@ -1,4 +1,4 @@
-use Rattle.std.proofs.Common.{◌≡◌, ℕ, ◌<◌, length, arith, sym, ap, ◌∙◌}
+use Rattle.std.proofs.Common.{◌<◌, length, arith, sym, ap, ◌∙◌}
 use Rattle.dd_fraction.specs.Checked.{checked_product}
 use Rattle.dd_simplex.proofs.CellSteps.{subtract_step, subtract_stops}
 use Rattle.dd_simplex.proofs.line.subtract.Goals as goal

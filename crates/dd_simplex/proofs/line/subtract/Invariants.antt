@@ -1,5 +1,4 @@
-use Rattle.std.proofs.Common.{◌≡◌, ℕ, Bool, true, take, drop, ◌++◌, length}
-use Rattle.dd_fraction.specs.Exact.{Exact}
+use Rattle.std.proofs.Common.{◌≡◌, take, drop, ◌++◌}
 use Rattle.dd_simplex.specs.table.Lines.{less, do_all_less_fit}
 use Rattle.dd_simplex.proofs.line.subtract.Given as goal
 

@@ -1,0 +1,140 @@
+// A dictionary as the run keeps it: its lines, its other variables and the objective.
+ghost use Rattle.std.specs.Prelude.{◌≡◌, ◌≢◌, ◌<◌, true, false, length, Option, Some, None, MatchResult, IfErr, slice_set};
+ghost use Rattle.std.specs.List.{All};
+ghost use lib.IntN.{pos};
+ghost use Rattle.dd_simplex.specs.declared.fault.SimplexFault.TheVariants.{Overflow};
+ghost use Rattle.dd_fraction.specs.Exact.{plus, times};
+ghost use Rattle.dd_simplex.specs.Programs.{fraction_at, zero_of};
+ghost use Rattle.dd_simplex.specs.table.Lines.{Line as LineValue, Table, line_at, changed_table, does_table_fit, does_objective_fit, less};
+ghost use Rattle.dd_simplex.specs.table.Choices.{IsChosen, does_enter, EntersBefore, does_limit, LeavesBefore, DoRatiosFit, HasMisfit, does_precede};
+
+use crate::fault::SimplexFault;
+use crate::line::{Line, pivot_lines, subtract};
+use dd_fraction::Fraction;
+use std::cmp::Ordering;
+use std::marker::Model;
+
+/// The basic variables by lines, and the objective `value + sum of cost times variable`, in terms of the others.
+#[derive(Drop)]
+pub struct Tableau {
+    pub lines: Vec<Line>,
+    pub others: Vec<usize>,
+    pub value: Fraction,
+    pub costs: Vec<Fraction>,
+}
+
+impl Model for Tableau {
+    ghost use Rattle.dd_simplex.specs.table.Lines.{Table};
+
+    ghost Value = { Table };
+
+    ghost view = { λ t. record { lines = t.lines.items; others = t.others.items; value = t.value; costs = t.costs.items } };
+}
+
+impl Tableau {
+    /// Makes the variable at the place `e` basic in the line `r`. False where a number is too large; then the tableau is
+    /// half changed.
+    pub fn pivot(&mut self, e: usize, r: usize) -> bool
+        requires line { r < length self.old.lines }
+        requires place { e < length self.old.others }
+        requires cell { (fraction_at (line_at self.old.lines r).cells e).num ≢ pos 0 }
+        requires costs { length self.old.costs ≡ length self.old.others }
+        requires sizes { All (λ l. length l.cells ≡ length self.old.others) self.old.lines }
+        ensures fits { result ≡ does_table_fit e r self.old }
+        ensures value { result ≡ true → self.new ≡ changed_table e r self.old }
+    {
+        let entering = self.others[e];
+        let leaving = self.lines[r].basic;
+        if !pivot_lines(self.lines.as_mut_slice(), e, r, entering) {
+            return false;
+        }
+        self.others[e] = leaving;
+        pivot_objective(
+            &mut self.value,
+            self.costs.as_mut_slice(),
+            e,
+            &self.lines[r],
+        )
+    }
+}
+
+/// Puts the solved line into the objective. False where a number is too large.
+fn pivot_objective(value: &mut Fraction, costs: &mut [Fraction], e: usize, pivot: &Line) -> bool
+    requires place { e < length costs.old }
+    requires size { length costs.old ≡ length pivot.now.cells }
+    ensures fits { result ≡ does_objective_fit e pivot.now value.old costs.old }
+    ensures value { result ≡ true → value.new ≡ plus value.old (times (fraction_at costs.old e) pivot.now.bound) }
+    ensures costs { result ≡ true → costs.new ≡ less (fraction_at costs.old e) (slice_set costs.old e zero_of) pivot.now.cells }
+{
+    let factor = costs[e];
+    let Some(product) = factor.mul(&pivot.bound) else {
+        return false
+    };
+    let Some(sum) = value.add(&product) else {
+        return false
+    };
+    *value = sum;
+    costs[e] = Fraction::whole(0);
+    subtract(costs, &factor, pivot.cells.as_slice())
+}
+
+/// The place of the least variable whose cost is over 0.
+pub fn entering(costs: &[Fraction], others: &[usize]) -> Option<usize>
+    requires { length costs.now ≡ length others.now }
+    ensures { IsChosen (does_enter costs.now) (EntersBefore others.now) (length costs.now) result }
+{
+    let mut chosen: Option<usize> = None;
+    for j in 0..costs.len() {
+        if costs[j].num() <= 0 {
+            continue;
+        }
+        match chosen {
+            Some(first) if others[first] < others[j] => {}
+            _ => chosen = Some(j),
+        }
+    }
+    chosen
+}
+
+/// The line with the least ratio of bound to cell at the place `e`, over the lines whose cell is over 0, and of equal
+/// ratios that of the least variable. Overflow where a number of a ratio is too large.
+pub fn leaving(lines: &[Line], e: usize) -> Result<Option<usize>, SimplexFault>
+    requires sizes { All (λ (l : LineValue). e < length l.cells) lines.now }
+    ensures line { MatchResult result
+        (λ chosen. DoRatiosFit lines.now e (length lines.now)
+        × IsChosen (does_limit lines.now e) (LeavesBefore lines.now e) (length lines.now) chosen)
+        (λ fault. HasMisfit lines.now e) }
+    ensures fault { IfErr result (λ fault. fault ≡ Overflow) }
+{
+    let mut chosen: Option<usize> = None;
+    let mut least = Fraction::whole(0);
+    for i in 0..lines.len() {
+        let line = &lines[i];
+        let cell = line.cells[e];
+        if cell.num() <= 0 {
+            continue;
+        }
+        let Some(ratio) = line.bound.div(&cell) else {
+            return Err(SimplexFault::Overflow)
+        };
+        match chosen {
+            Some(place) if !precedes(&ratio, line.basic, &least, lines[place].variable()) => {}
+            _ => {
+                chosen = Some(i);
+                least = ratio;
+            }
+        }
+    }
+    Ok(chosen)
+}
+
+/// Whether the first ratio is smaller, or the ratios are equal and its variable is the smaller one.
+fn precedes(ratio: &Fraction, variable: usize, other: &Fraction, other_variable: usize) -> bool
+    ensures { result ≡ does_precede ratio.now variable other.now other_variable }
+{
+    match ratio.compare(other) {
+        Ordering::Less => true,
+        Ordering::Equal => variable < other_variable,
+        Ordering::Greater => false,
+    }
+}
