@@ -1,3 +1,6 @@
 pub mod CellSteps
-pub mod LineSteps
 pub mod Choosing
+pub mod Equations
+pub mod Firsts
+pub mod LineSteps
+pub mod Totals

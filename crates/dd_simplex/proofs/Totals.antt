@@ -1,0 +1,81 @@
+-- Sums over the first n numbers.
+use Rattle.std.proofs.Common.{◌≡◌, ◌≢◌, ℕ, zero, suc, ◌+◌, ◌<◌, ◌≤◌, ⊎_elim, refl, sym, ap, subst, ◌∙◌, arith}
+use Rattle.std.proofs.lemmas.Bool.{cases_eq}
+use Rattle.std.proofs.lemmas.Int.{ints}
+use lib.IntN.{pos}
+use Rattle.dd_fraction.specs.Exact.{Exact, plus, times, minus, low, whole_of}
+use Rattle.dd_fraction.specs.Order.{IsNonneg}
+use Rattle.dd_fraction.proofs.Laws.{plus_comm, plus_assoc, times_comm, times_plus, plus_times, zero_plus, plus_zero, zero_times, times_zero, times_one, times_assoc, plus_four, plus_low_left, plus_low_right, low_plus, minus_times}
+use Rattle.dd_fraction.proofs.Lowest.{zero_is, one_is}
+use Rattle.dd_fraction.proofs.OrderLaws.{nonneg_plus}
+use Rattle.dd_simplex.specs.Programs.{total, zero_of, one_of}
+
+pub zero_zero : plus zero_of zero_of ≡ zero_of
+zero_zero = zero_plus zero_of ∙ zero_is
+
+pub zero_nonneg : IsNonneg zero_of
+zero_nonneg = record { sign = omega (arith, ints) }
+
+pub total_low : (f : ℕ → Exact) (n : ℕ) → low (total f n) ≡ total f n
+total_low f zero = zero_is
+total_low f (suc n) = low_plus (total f n) (f n)
+
+pub total_same : (f g : ℕ → Exact) (n : ℕ) → ((v : ℕ) → v < n → f v ≡ g v) → total f n ≡ total g n
+total_same f g zero h = refl
+total_same f g (suc n) h = λ i. plus (total_same f g n (λ v p. h v (omega (arith, p))) i) (h n (omega arith) i)
+
+pub total_none : (f : ℕ → Exact) (n : ℕ) → ((v : ℕ) → v < n → f v ≡ zero_of) → total f n ≡ zero_of
+total_none f zero h = refl
+total_none f (suc n) h = (λ i. plus (total_none f n (λ v p. h v (omega (arith, p))) i) (h n (omega arith) i)) ∙ zero_zero
+
+pub total_plus : (f g : ℕ → Exact) (n : ℕ) → total (λ v. plus (f v) (g v)) n ≡ plus (total f n) (total g n)
+total_plus f g zero = sym zero_zero
+total_plus f g (suc n) = ap (λ (t : Exact). plus t (plus (f n) (g n))) (total_plus f g n) ∙ plus_four (total f n) (total g n) (f n) (g n)
+
+pub total_times : (k : Exact) (f : ℕ → Exact) (n : ℕ) → total (λ v. times k (f v)) n ≡ times k (total f n)
+total_times k f zero = sym (times_zero k)
+total_times k f (suc n) = ap (λ (t : Exact). plus t (times k (f n))) (total_times k f n) ∙ sym (times_plus k (total f n) (f n))
+
+-- one term alone
+pub total_pick : (f : ℕ → Exact) (w n : ℕ) → w < n → ((v : ℕ) → v < n → v ≢ w → f v ≡ zero_of) → total f n ≡ low (f w)
+total_pick f w zero p h = absurd (omega (arith, p))
+total_pick f w (suc n) p h = ⊎_elim
+    (λ (s : n ≡ w).
+    (λ i. plus (total_none f n (λ v q. h v (omega (arith, q)) (λ (t : v ≡ w). omega (arith, q, s, t))) i) (f (s i)))
+    ∙ zero_plus (f w))
+    (λ (s : n ≢ w).
+    (λ i. plus (total_pick f w n (omega (arith, p, s)) (λ v q. h v (omega (arith, q))) i) (h n (omega arith) s i))
+    ∙ (plus_low_left (f w) zero_of ∙ plus_zero (f w)))
+    (cases_eq n w)
+
+-- the first n, and then m more
+pub total_split : (f : ℕ → Exact) (n m : ℕ) → total f (n + m) ≡ plus (total f n) (total (λ k. f (n + k)) m)
+total_split f n zero = ap (total f) (add_zero n) ∙ (sym (total_low f n) ∙ sym (plus_zero (total f n)))
+  where
+    add_zero : (n : ℕ) → n + 0 ≡ n
+    add_zero n = omega arith
+total_split f n (suc m) =
+    ap (total f) (add_suc n m) ∙ (ap (λ (t : Exact). plus t (f (n + m))) (total_split f n m) ∙ plus_assoc (total f n) (total (λ k. f (n + k)) m) (f (n + m)))
+  where
+    add_suc : (n m : ℕ) → n + suc m ≡ suc (n + m)
+    add_suc n m = omega arith
+
+pub total_nonneg : (f : ℕ → Exact) (n : ℕ) → ((v : ℕ) → v < n → IsNonneg (f v)) → IsNonneg (total f n)
+total_nonneg f zero h = zero_nonneg
+total_nonneg f (suc n) h = nonneg_plus (total f n) (f n) (total_nonneg f n (λ v p. h v (omega (arith, p)))) (h n (omega arith))
+
+-- sums of coefficient times value: a scaled one, and one with a multiple of another
+pub sum_scaled : (f g x : ℕ → Exact) (k : Exact) (n : ℕ) → ((w : ℕ) → w < n → f w ≡ times (g w) k)
+    → total (λ w. times (f w) (x w)) n ≡ times (total (λ w. times (g w) (x w)) n) k
+sum_scaled f g x k n h =
+    total_same (λ w. times (f w) (x w)) (λ w. times k (times (g w) (x w))) n
+    (λ w p. ap (λ (t : Exact). times t (x w)) (h w p ∙ times_comm (g w) k) ∙ times_assoc k (g w) (x w))
+    ∙ (total_times k (λ w. times (g w) (x w)) n ∙ times_comm k (total (λ w. times (g w) (x w)) n))
+
+pub sum_with : (f g b x : ℕ → Exact) (q : Exact) (n : ℕ) → ((w : ℕ) → w < n → f w ≡ plus (g w) (times q (b w)))
+    → total (λ w. times (f w) (x w)) n ≡ plus (total (λ w. times (g w) (x w)) n) (times q (total (λ w. times (b w) (x w)) n))
+sum_with f g b x q n h =
+    total_same (λ w. times (f w) (x w)) (λ w. plus (times (g w) (x w)) (times q (times (b w) (x w)))) n
+    (λ w p. ap (λ (t : Exact). times t (x w)) (h w p) ∙ (plus_times (g w) (times q (b w)) (x w) ∙ ap (plus (times (g w) (x w))) (times_assoc q (b w) (x w))))
+    ∙ (total_plus (λ w. times (g w) (x w)) (λ w. times q (times (b w) (x w))) n
+    ∙ ap (plus (total (λ w. times (g w) (x w)) n)) (total_times q (λ w. times (b w) (x w)) n))
