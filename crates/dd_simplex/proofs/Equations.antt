@@ -37,7 +37,7 @@ pub record IsTurn (n : ℕ) (d : Dictionary) (e r : ℕ) : Type 0 where
   pub basic : d.is_basic r ≡ true
   pub positive : IsPositive (d.entry r e)
 
-true_false : true ≡ false → ⊥
+pub true_false : true ≡ false → ⊥
 true_false e = absurd cc
 
 eq_same : (v w : ℕ) → v ≡ w → nat_eq v w ≡ true
@@ -46,7 +46,7 @@ eq_same v w h = grind arith
 eq_other : (v w : ℕ) → v ≢ w → nat_eq v w ≡ false
 eq_other v w h = grind arith
 
-apart : (d : Dictionary) (v w : ℕ) → d.is_basic v ≡ true → d.is_basic w ≡ false → v ≢ w
+pub apart : (d : Dictionary) (v w : ℕ) → d.is_basic v ≡ true → d.is_basic w ≡ false → v ≢ w
 apart d v w p q s = true_false (sym p ∙ (ap d.is_basic s ∙ q))
 
 -- who is basic after the pivot

@@ -3,4 +3,5 @@ pub mod Choosing
 pub mod Equations
 pub mod Firsts
 pub mod LineSteps
+pub mod Reaching
 pub mod Totals

@@ -1,5 +1,6 @@
 -- Sums over the first n numbers.
-use Rattle.std.proofs.Common.{◌≡◌, ◌≢◌, ℕ, zero, suc, ◌+◌, ◌<◌, ◌≤◌, ⊎_elim, refl, sym, ap, subst, ◌∙◌, arith}
+use Rattle.std.proofs.Common.{◌≡◌, ◌≢◌, ℕ, zero, suc, ◌+◌, ◌<◌, ◌≤◌, Bool, true, false, cond, ⊎_elim, refl, sym, ap, subst, ◌∙◌, arith}
+use Rattle.std.specs.Bool.{nat_eq}
 use Rattle.std.proofs.lemmas.Bool.{cases_eq}
 use Rattle.std.proofs.lemmas.Int.{ints}
 use lib.IntN.{pos}
@@ -9,6 +10,12 @@ use Rattle.dd_fraction.proofs.Laws.{plus_comm, plus_assoc, times_comm, times_plu
 use Rattle.dd_fraction.proofs.Lowest.{zero_is, one_is}
 use Rattle.dd_fraction.proofs.OrderLaws.{nonneg_plus}
 use Rattle.dd_simplex.specs.Programs.{total, zero_of, one_of}
+
+pub eq_same : (v : ℕ) → nat_eq v v ≡ true
+eq_same v = grind arith
+
+pub eq_other : (v w : ℕ) → v ≢ w → nat_eq v w ≡ false
+eq_other v w h = grind arith
 
 pub zero_zero : plus zero_of zero_of ≡ zero_of
 zero_zero = zero_plus zero_of ∙ zero_is
@@ -79,3 +86,38 @@ sum_with f g b x q n h =
     (λ w p. ap (λ (t : Exact). times t (x w)) (h w p) ∙ (plus_times (g w) (times q (b w)) (x w) ∙ ap (plus (times (g w) (x w))) (times_assoc q (b w) (x w))))
     ∙ (total_plus (λ w. times (g w) (x w)) (λ w. times q (times (b w) (x w))) n
     ∙ ap (plus (total (λ w. times (g w) (x w)) n)) (total_times q (λ w. times (b w) (x w)) n))
+
+low_each : (f : ℕ → Exact) (n : ℕ) → total (λ v. low (f v)) n ≡ total f n
+low_each f zero = refl
+low_each f (suc n) = plus_low_right (total (λ v. low (f v)) n) (f n) ∙ ap (λ (t : Exact). plus t (f n)) (low_each f n)
+
+-- two terms alone
+pub total_two : (f : ℕ → Exact) (a b n : ℕ) → a < n → b < n → a ≢ b → ((v : ℕ) → v < n → v ≢ a → v ≢ b → f v ≡ zero_of) → total f n ≡ plus (f a) (f b)
+total_two f a b n p q ab h =
+    sym (low_each f n)
+    ∙ (total_same (λ v. low (f v)) (λ v. plus (at a v) (at b v)) n split
+    ∙ (total_plus (at a) (at b) n
+    ∙ ((λ i. plus (alone a p i) (alone b q i)) ∙ (plus_low_left (f a) (low (f b)) ∙ plus_low_right (f a) (f b)))))
+  where
+    at : ℕ → ℕ → Exact
+    at a v = cond (nat_eq v a) (f v) zero_of
+
+    same : (a : ℕ) → at a a ≡ f a
+    same a = ap (λ (t : Bool). cond t (f a) zero_of) (eq_same a)
+
+    other : (a v : ℕ) → v ≢ a → at a v ≡ zero_of
+    other a v k = ap (λ (t : Bool). cond t (f v) zero_of) (eq_other v a k)
+
+    alone : (a : ℕ) → a < n → total (at a) n ≡ low (f a)
+    alone a p = total_pick (at a) a n p (λ v _ k. other a v k) ∙ ap low (same a)
+
+    split : (v : ℕ) → v < n → low (f v) ≡ plus (at a v) (at b v)
+    split v r = ⊎_elim
+        (λ (s : v ≡ a). subst (λ (u : ℕ). low (f u) ≡ plus (at a u) (at b u)) (sym s)
+        (sym ((λ i. plus (same a i) (other b a ab i)) ∙ plus_zero (f a))))
+        (λ (k : v ≢ a). ⊎_elim
+        (λ (s : v ≡ b). subst (λ (u : ℕ). low (f u) ≡ plus (at a u) (at b u)) (sym s)
+        (sym ((λ i. plus (other a b (λ (u : b ≡ a). ab (sym u)) i) (same b i)) ∙ zero_plus (f b))))
+        (λ (l : v ≢ b). ap low (h v r k l) ∙ (zero_is ∙ sym ((λ i. plus (other a v k i) (other b v l i)) ∙ zero_zero)))
+        (cases_eq v b))
+        (cases_eq v a)
