@@ -1,7 +1,9 @@
 pub mod CellSteps
 pub mod Choosing
+pub mod Endings
 pub mod Equations
 pub mod Firsts
 pub mod LineSteps
 pub mod Reaching
 pub mod Totals
+pub mod Unbounded

@@ -243,9 +243,3 @@ leaving_is n d e r g h =
           let this : limits d e v ≡ true = rw (b, positive_over (d.entry v e) s) refl in
           at_most_test (ratio d e r) (ratio d e v) (ap (λ (t : Bool). not t || not (is_gt (exact_cmp (ratio d e r) (ratio d e v)))) (sym this) ∙ at);
     }
-
--- ---- something always leaves
--- Nothing limits the entering variable: then it could grow for ever, the basic variables with it, and column 0 too. But the
--- first row says that column 0 and its slack, both not below 0, sum to the cap.
-ray : Dictionary → ℕ → ℕ → Exact
-ray d e w = cond (nat_eq w e) one_of (cond (d.is_basic w) (minus (d.entry w e)) zero_of)

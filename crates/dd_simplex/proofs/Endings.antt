@@ -1,0 +1,266 @@
+-- At the end: the columns are feasible, the duals are, and both are worth the value, so that no columns give more.
+use Rattle.std.proofs.Common.{◌≡◌, ◌≢◌, ℕ, zero, suc, ◌+◌, ◌-◌, ◌<◌, ◌≤◌, List, length, Bool, true, false, cond, Option, Some, None, ⊎_elim, refl, sym, ap, subst, ◌∙◌, arith}
+use Rattle.std.specs.Bool.{nat_eq, nat_lt}
+use Rattle.std.proofs.lemmas.Bool.{cases_eq}
+use Rattle.std.proofs.lemmas.Int.{ints}
+use lib.IntN.{pos}
+use Rattle.dd_fraction.specs.Exact.{Exact, plus, times, minus, low}
+use Rattle.dd_fraction.specs.Order.{IsNonneg, IsAtMost}
+use Rattle.dd_fraction.proofs.Laws.{plus_comm, plus_assoc, zero_plus, plus_zero, zero_times, times_zero, times_one, one_times, plus_minus, plus_undo, plus_cancel, plus_low_left, plus_low_right, low_plus, low_times, minus_minus, minus_plus, minus_times, minus_times_right}
+use Rattle.dd_fraction.proofs.Lowest.{low_low, zero_is}
+use Rattle.dd_fraction.proofs.OrderLaws.{nonneg_lowest, nonneg_plus, nonneg_times, at_most_gap, at_most_from_gap}
+use Rattle.dd_simplex.specs.Programs.{LinearProgram, IsProgram, IsFeasible, AreDuals, IsBest, dual_worth, fraction_at, coefficient, bound_at, unit, total, zero_of, one_of}
+use Rattle.dd_simplex.specs.Dictionaries.{Dictionary, count, start}
+use Rattle.dd_simplex.specs.Runs.{entering, column_of, dual_of}
+use Rattle.dd_simplex.proofs.Totals.{eq_same, eq_other, total_low, total_same, total_none, total_pick, total_split, total_nonneg, zero_nonneg, zero_zero}
+use Rattle.dd_simplex.proofs.Equations.{coefficient_in, price, left_side, Holds, objective}
+use Rattle.dd_simplex.proofs.Reaching.{IsReached, start_holds, start_says, entering_none}
+
+-- ---- orders from sums
+at_most_from_sum : (a y b : Exact) → plus a y ≡ low b → IsNonneg y → IsAtMost a b
+at_most_from_sum a y b e p = at_most_from_gap a b (subst IsNonneg (sym gap) (nonneg_lowest y.num y.den p.sign))
+  where
+    gap : plus b (minus a) ≡ low y
+    gap =
+        sym (plus_low_left b (minus a))
+        ∙ (ap (λ (t : Exact). plus t (minus a)) (sym e)
+        ∙ (plus_comm (plus a y) (minus a) ∙ (ap (λ (t : Exact). plus (minus a) (plus t y)) (sym (minus_minus a)) ∙ plus_undo (minus a) y)))
+
+at_most_from_less : (x z u : Exact) → plus z x ≡ low u → IsNonneg (minus x) → IsAtMost u z
+at_most_from_less x z u e p = at_most_from_sum u (minus x) z same p
+  where
+    same : plus u (minus x) ≡ low z
+    same =
+        sym (plus_low_left u (minus x))
+        ∙ (ap (λ (t : Exact). plus t (minus x)) (sym e ∙ plus_comm z x)
+        ∙ (plus_comm (plus x z) (minus x) ∙ (ap (λ (t : Exact). plus (minus x) (plus t z)) (sym (minus_minus x)) ∙ plus_undo (minus x) z)))
+
+minus_zero : minus zero_of ≡ zero_of
+minus_zero = refl
+
+total_minus : (f : ℕ → Exact) (n : ℕ) → total (λ v. minus (f v)) n ≡ minus (total f n)
+total_minus f zero = refl
+total_minus f (suc n) = ap (λ (t : Exact). plus t (minus (f n))) (total_minus f n) ∙ sym (minus_plus (total f n) (f n))
+
+-- ---- values of the columns and the slacks
+abbrev pub joined : LinearProgram → (ℕ → Exact) → (ℕ → Exact) → ℕ → Exact
+joined p u s w = cond (nat_lt w p.columns) (u w) (s (w - p.columns))
+
+joined_column : (p : LinearProgram) (u s : ℕ → Exact) (j : ℕ) → j < p.columns → joined p u s j ≡ u j
+joined_column p u s j h = ap (λ (b : Bool). cond b (u j) (s (j - p.columns))) (lt_yes j p.columns h)
+  where
+    lt_yes : (v n : ℕ) → v < n → nat_lt v n ≡ true
+    lt_yes v n p = grind (arith, p)
+
+joined_slack : (p : LinearProgram) (u s : ℕ → Exact) (k : ℕ) → joined p u s (p.columns + k) ≡ s k
+joined_slack p u s k = ap (λ (b : Bool). cond b (u (p.columns + k)) (s (p.columns + k - p.columns))) (lt_no (p.columns + k) p.columns (omega arith)) ∙ ap s (take_off p.columns k)
+  where
+    lt_no : (v n : ℕ) → n ≤ v → nat_lt v n ≡ false
+    lt_no v n p = grind (arith, p)
+
+    take_off : (n k : ℕ) → n + k - n ≡ k
+    take_off n k = omega arith
+
+module _ (p : LinearProgram) (d : Dictionary) (g : IsProgram p) (r : IsReached p d) where
+  n : ℕ
+  n = p.columns
+
+  m : ℕ
+  m = length p.rows
+
+  -- columns u and slacks s that meet the rows with σ times their bounds
+  Meets : Exact → (ℕ → Exact) → (ℕ → Exact) → Type 0
+  Meets σ u s = (k : ℕ) → k < length p.rows → plus (total (λ j. times (coefficient p k j) (u j)) p.columns) (s k) ≡ times σ (bound_at p k)
+
+  abbrev slack_price : ℕ → Exact
+  slack_price k = price d (p.columns + k)
+
+  worth_at : (σ : Exact) (u s : ℕ → Exact)
+      → ((k : ℕ) → k < length p.rows → plus (total (λ j. times (coefficient p k j) (u j)) p.columns) (s k) ≡ times σ (bound_at p k))
+      → plus (times σ d.value) (plus (total (λ j. times (price d j) (u j)) p.columns) (total (λ k. times (slack_price k) (s k)) (length p.rows))) ≡ low (u 0)
+  worth_at σ u s h =
+      sym (ap (plus (times σ d.value)) (total_split (λ w. times (price d w) (x w)) p.columns (length p.rows) ∙ (λ i. plus (columns i) (slacks i))))
+      ∙ (r.worth σ x (start_holds p σ x rows) ∙ ap low (joined_column p u s 0 g.wide))
+    where
+      x : ℕ → Exact
+      x = joined p u s
+
+      columns : total (λ w. times (price d w) (x w)) p.columns ≡ total (λ j. times (price d j) (u j)) p.columns
+      columns = total_same (λ w. times (price d w) (x w)) (λ j. times (price d j) (u j)) p.columns (λ j q. ap (times (price d j)) (joined_column p u s j q))
+
+      slacks : total (λ k. times (price d (p.columns + k)) (x (p.columns + k))) (length p.rows) ≡ total (λ k. times (slack_price k) (s k)) (length p.rows)
+      slacks = total_same (λ k. times (price d (p.columns + k)) (x (p.columns + k))) (λ k. times (slack_price k) (s k)) (length p.rows) (λ k q. ap (times (slack_price k)) (joined_slack p u s k))
+
+      rows : (k : ℕ) → k < length p.rows → plus (total (λ j. times (coefficient p k j) (x j)) p.columns) (x (p.columns + k)) ≡ times σ (bound_at p k)
+      rows k q =
+          (λ i. plus (total_same (λ j. times (coefficient p k j) (x j)) (λ j. times (coefficient p k j) (u j)) p.columns (λ j t. ap (times (coefficient p k j)) (joined_column p u s j t)) i) (joined_slack p u s k i))
+          ∙ h k q
+
+  dual_price : (k : ℕ) → dual_of p d k ≡ minus (price d (p.columns + k))
+  dual_price k = by (d.is_basic (p.columns + k))
+    where
+      by : (b : Bool) → cond b zero_of (minus (d.cost (p.columns + k))) ≡ minus (cond b zero_of (d.cost (p.columns + k)))
+      by true = refl
+      by false = refl
+
+  -- ---- the duals
+  duals_worth : total (λ k. times (dual_of p d k) (bound_at p k)) (length p.rows) ≡ low d.value
+  duals_worth =
+      total_same (λ k. times (dual_of p d k) (bound_at p k)) (λ k. minus (times (slack_price k) (bound_at p k))) (length p.rows)
+      (λ k q. ap (λ (t : Exact). times t (bound_at p k)) (dual_price k) ∙ sym (minus_times (slack_price k) (bound_at p k)))
+      ∙ (total_minus (λ k. times (slack_price k) (bound_at p k)) (length p.rows)
+      ∙ (sym low_q ∙ sym (plus_cancel d.value (minus Q) Q (sum ∙ sym (plus_comm (minus Q) Q ∙ plus_minus Q)))))
+    where
+      Q : Exact
+      Q = total (λ k. times (slack_price k) (bound_at p k)) (length p.rows)
+
+      low_q : low (minus Q) ≡ minus Q
+      low_q = ap low (sym (total_minus (λ k. times (slack_price k) (bound_at p k)) (length p.rows))) ∙ (total_low (λ k. minus (times (slack_price k) (bound_at p k))) (length p.rows) ∙ total_minus (λ k. times (slack_price k) (bound_at p k)) (length p.rows))
+
+      none : (f : ℕ → Exact) (l : ℕ) → total (λ j. times (f j) zero_of) l ≡ zero_of
+      none f l = total_none (λ j. times (f j) zero_of) l (λ j _. times_zero (f j))
+
+      meets : (k : ℕ) → k < length p.rows → plus (total (λ j. times (coefficient p k j) zero_of) p.columns) (bound_at p k) ≡ times one_of (bound_at p k)
+      meets k q = ap (λ (t : Exact). plus t (bound_at p k)) (none (coefficient p k) p.columns) ∙ (zero_plus (bound_at p k) ∙ sym (one_times (bound_at p k)))
+
+      sum : plus d.value Q ≡ zero_of
+      sum =
+          sym (plus_low_left d.value Q)
+          ∙ (ap (λ (t : Exact). plus t Q) (sym (one_times d.value))
+          ∙ (ap (plus (times one_of d.value)) (sym (total_low (λ k. times (slack_price k) (bound_at p k)) (length p.rows)) ∙ (sym (zero_plus Q) ∙ ap (λ (t : Exact). plus t Q) (sym (none (price d) p.columns))))
+          ∙ (worth_at one_of (λ j. zero_of) (bound_at p) meets ∙ zero_is)))
+
+  duals_sum : entering (count p) d ≡ None → (j : ℕ) → j < p.columns → IsAtMost (unit 0 j) (total (λ k. times (dual_of p d k) (coefficient p k j)) (length p.rows))
+  duals_sum h j q = at_most_from_less (price d j) S (unit 0 j) sum (entering_none (count p) d j h (omega (arith, q)))
+    where
+      u : ℕ → Exact
+      u w = unit w j
+
+      S : Exact
+      S = total (λ k. times (dual_of p d k) (coefficient p k j)) (length p.rows)
+
+      picked : (f : ℕ → Exact) → total (λ w. times (f w) (unit w j)) p.columns ≡ low (f j)
+      picked f =
+          total_pick (λ w. times (f w) (unit w j)) j p.columns q (λ w _ k. ap (λ (b : Bool). times (f w) (cond b one_of zero_of)) (eq_other w j k) ∙ times_zero (f w))
+          ∙ (ap low (ap (λ (b : Bool). times (f j) (cond b one_of zero_of)) (eq_same j) ∙ times_one (f j)) ∙ low_low _ _)
+
+      meets : (k : ℕ) → k < length p.rows → plus (total (λ w. times (coefficient p k w) (unit w j)) p.columns) (minus (coefficient p k j)) ≡ times zero_of (bound_at p k)
+      meets k t = ap (λ (y : Exact). plus y (minus (coefficient p k j))) (picked (coefficient p k)) ∙ (plus_low_left (coefficient p k j) (minus (coefficient p k j)) ∙ (plus_minus (coefficient p k j) ∙ sym (zero_times (bound_at p k))))
+
+      slacks : total (λ k. times (slack_price k) (minus (coefficient p k j))) (length p.rows) ≡ S
+      slacks = total_same (λ k. times (slack_price k) (minus (coefficient p k j))) (λ k. times (dual_of p d k) (coefficient p k j)) (length p.rows)
+          (λ k t. sym (minus_times_right (slack_price k) (coefficient p k j)) ∙ (minus_times (slack_price k) (coefficient p k j) ∙ ap (λ (y : Exact). times y (coefficient p k j)) (sym (dual_price k))))
+
+      sum : plus S (price d j) ≡ low (unit 0 j)
+      sum =
+          plus_comm S (price d j)
+          ∙ (sym (low_plus (price d j) S)
+          ∙ (sym (zero_plus (plus (price d j) S))
+          ∙ ((λ i. plus (sym (zero_times d.value) i) ((sym (plus_low_left (price d j) S) ∙ (λ k. plus (sym (picked (price d)) k) (sym slacks k))) i))
+          ∙ worth_at zero_of (λ w. unit w j) (λ k. minus (coefficient p k j)) meets)))
+
+  -- ---- no columns give more
+  no_more : entering (count p) d ≡ None → (xs : List Exact) → IsFeasible p xs → IsAtMost (fraction_at xs 0) d.value
+  no_more h xs f = at_most_from_less X d.value (fraction_at xs 0) sum less
+    where
+      u : ℕ → Exact
+      u = fraction_at xs
+
+      s : ℕ → Exact
+      s k = plus (bound_at p k) (minus (total (λ j. times (coefficient p k j) (fraction_at xs j)) p.columns))
+
+      A : Exact
+      A = total (λ j. times (price d j) (fraction_at xs j)) p.columns
+
+      B : Exact
+      B = total (λ k. times (slack_price k) (s k)) (length p.rows)
+
+      X : Exact
+      X = plus A B
+
+      meets : (k : ℕ) → k < length p.rows → plus (total (λ j. times (coefficient p k j) (fraction_at xs j)) p.columns) (s k) ≡ times one_of (bound_at p k)
+      meets k q =
+          let T = total (λ j. times (coefficient p k j) (fraction_at xs j)) p.columns in
+          ap (plus T) (plus_comm (bound_at p k) (minus T)) ∙ (plus_undo T (bound_at p k) ∙ sym (one_times (bound_at p k)))
+
+      sum : plus d.value X ≡ low (fraction_at xs 0)
+      sum = sym (plus_low_left d.value X) ∙ (ap (λ (t : Exact). plus t X) (sym (one_times d.value)) ∙ worth_at one_of (fraction_at xs) s meets)
+
+      term : (w : ℕ) → w < count p → (y : Exact) → IsNonneg y → IsNonneg (minus (times (price d w) y))
+      term w q y t = subst IsNonneg (sym (minus_times (price d w) y)) (nonneg_times (minus (price d w)) y (entering_none (count p) d w h q) t)
+
+      a : IsNonneg (minus A)
+      a = subst IsNonneg (total_minus (λ j. times (price d j) (fraction_at xs j)) p.columns)
+          (total_nonneg (λ j. minus (times (price d j) (fraction_at xs j))) p.columns (λ j q. term j (omega (arith, q)) (fraction_at xs j) (f.signs j q)))
+
+      b : IsNonneg (minus B)
+      b = subst IsNonneg (total_minus (λ k. times (slack_price k) (s k)) (length p.rows))
+          (total_nonneg (λ k. minus (times (slack_price k) (s k))) (length p.rows) (λ k q. term (p.columns + k) (omega (arith, q)) (s k) (at_most_gap _ (bound_at p k) (f.rows k q))))
+
+      less : IsNonneg (minus X)
+      less = subst IsNonneg (sym (minus_plus A B)) (nonneg_plus (minus A) (minus B) a b)
+
+  -- ---- the columns
+  columns_hold : Holds (count p) d one_of (column_of d)
+  columns_hold v q b =
+      total_pick (λ w. times (coefficient_in d v w) (column_of d w)) v (count p) q other
+      ∙ (ap low at ∙ low_times one_of (d.bound v))
+    where
+      at : times (coefficient_in d v v) (column_of d v) ≡ times one_of (d.bound v)
+      at = rw (eq_same v, b) refl
+
+      other : (w : ℕ) → w < count p → w ≢ v → times (coefficient_in d v w) (column_of d w) ≡ zero_of
+      other w _ k = by (d.is_basic w) refl
+        where
+          by : (t : Bool) → d.is_basic w ≡ t → times (coefficient_in d v w) (column_of d w) ≡ zero_of
+          by true s = rw (eq_other w v k, s) (zero_times (d.bound w))
+          by false s = rw (eq_other w v k, s) (times_zero (d.entry v w))
+
+  column_nonneg : (w : ℕ) → w < count p → IsNonneg (column_of d w)
+  column_nonneg w q = by (d.is_basic w) refl
+    where
+      by : (t : Bool) → d.is_basic w ≡ t → IsNonneg (column_of d w)
+      by true s = rw s (r.bounds w q s)
+      by false s = rw s zero_nonneg
+
+  columns_meet : (k : ℕ) → k < length p.rows → IsAtMost (total (λ j. times (coefficient p k j) (column_of d j)) p.columns) (bound_at p k)
+  columns_meet k q =
+      at_most_from_sum _ (column_of d (p.columns + k)) (bound_at p k)
+      (start_says p one_of (column_of d) (r.back one_of (column_of d) columns_hold) k q ∙ one_times (bound_at p k))
+      (column_nonneg (p.columns + k) (omega (arith, q)))
+
+  first_column : low (column_of d 0) ≡ low d.value
+  first_column =
+      sym (r.worth one_of (column_of d) (r.back one_of (column_of d) columns_hold))
+      ∙ ((λ i. plus (one_times d.value i) (total_none (λ w. times (price d w) (column_of d w)) (count p) none i)) ∙ (plus_zero (low d.value) ∙ low_low _ _))
+    where
+      none : (w : ℕ) → w < count p → times (price d w) (column_of d w) ≡ zero_of
+      none w _ = by (d.is_basic w) refl
+        where
+          by : (t : Bool) → d.is_basic w ≡ t → times (price d w) (column_of d w) ≡ zero_of
+          by true s = rw s (zero_times (d.bound w))
+          by false s = rw s (times_zero (d.cost w))
+
+  -- ---- all of it
+  pub is_best : entering (count p) d ≡ None → (columns duals : List Exact) → length columns ≡ p.columns → ((j : ℕ) → j < p.columns → fraction_at columns j ≡ column_of d j)
+      → length duals ≡ length p.rows → ((k : ℕ) → k < length p.rows → fraction_at duals k ≡ dual_of p d k)
+      → low d.value ≡ d.value → low (column_of d 0) ≡ column_of d 0 → IsBest p d.value columns duals
+  is_best h columns duals sc c sd y v f = record {
+    feasible = record {
+      size = sc;
+      signs = λ j q. subst IsNonneg (sym (c j q)) (column_nonneg j (omega (arith, q)));
+      rows = λ k q. subst (λ (t : Exact). IsAtMost t (bound_at p k))
+          (total_same (λ j. times (coefficient p k j) (column_of d j)) (λ j. times (coefficient p k j) (fraction_at columns j)) p.columns (λ j t. ap (times (coefficient p k j)) (sym (c j t))))
+          (columns_meet k q);
+    };
+    dual = record {
+      size = sd;
+      signs = λ k q. subst IsNonneg (sym (y k q ∙ dual_price k)) (entering_none (count p) d (p.columns + k) h (omega (arith, q)));
+      sums = λ j q. subst (IsAtMost (unit 0 j))
+          (total_same (λ k. times (dual_of p d k) (coefficient p k j)) (λ k. times (fraction_at duals k) (coefficient p k j)) (length p.rows) (λ k t. ap (λ (z : Exact). times z (coefficient p k j)) (sym (y k t))))
+          (duals_sum h j q);
+    };
+    column = c 0 g.wide ∙ (sym f ∙ (first_column ∙ v));
+    worth = total_same (λ k. times (fraction_at duals k) (bound_at p k)) (λ k. times (dual_of p d k) (bound_at p k)) (length p.rows) (λ k t. ap (λ (z : Exact). times z (bound_at p k)) (y k t)) ∙ (duals_worth ∙ v);
+    best = no_more h;
+  }
