@@ -1,5 +1,5 @@
 -- The answers that an output can hold: each number within bounds, and each list with as many entries as its line allows.
-use Rattle.std.specs.Prelude.{ℕ, ℤ, ◌≤◌, ◌^◌, ◌-◌, List, All, length, unsigned_abs}
+use Rattle.std.specs.Prelude.{ℕ, ℤ, ◌≡◌, ◌≤◌, ◌⊎◌, ◌^◌, ◌-◌, List, All, length, unsigned_abs}
 use Rattle.dd_clause.specs.Clauses.{IsInRange}
 use Rattle.dd_derivation.specs.declared.step.Step.{Step}
 use Rattle.dd_certificate.specs.declared.answer.Listed.{Listed}
@@ -44,13 +44,18 @@ IsWritablePattern p = IsWritableNumber p.node × All IsWritableNumber p.symbols
 abbrev pub IsWritableList : List ℕ → Type 0
 IsWritableList ns = (1 ≤ length ns) × All IsWritableNumber ns
 
+-- a single period has no shear
+abbrev pub HasShear : List ℕ → ℕ → Type 0
+HasShear periods shear = (shear ≡ 0) ⊎ (2 ≤ length periods)
+
 abbrev pub IsWritable : Answer → Type 0
 IsWritable answer.Inside = Unit {0}
 IsWritable (answer.Outside place) = (2 ≤ length place) × (length place ≤ 4) × All IsWritableSigned place
 IsWritable (answer.Yes radius steps) = IsWritableNumber radius × IsWritableRefutation steps
 IsWritable (answer.YesBoth left right left_steps right_steps) =
     IsWritableNumber left × IsWritableNumber right × IsWritableRefutation left_steps × IsWritableRefutation right_steps
-IsWritable (answer.No side periods symbols) = (length periods ≤ 3) × IsWritableList periods × IsWritableList symbols
+IsWritable (answer.No side periods shear symbols) =
+    (length periods ≤ 3) × IsWritableList periods × IsWritableNumber shear × HasShear periods shear × IsWritableList symbols
 IsWritable (answer.Unknown reason) = Unit {0}
 IsWritable (answer.List patterns) = (length patterns ≤ most_number) × All IsWritablePattern patterns
 IsWritable (answer.Density numerator denominator cycle potentials) =

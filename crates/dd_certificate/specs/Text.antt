@@ -1,5 +1,5 @@
 -- The text of an answer: lines of words with one space between two of them, each line ended by a line feed.
-use Rattle.std.specs.Prelude.{ℕ, ℤ, List, [], ◌∷◌, ◌++◌, length, codes, if◌then◌else◌}
+use Rattle.std.specs.Prelude.{ℕ, ℤ, List, [], ◌∷◌, ◌++◌, length, codes, ◌==◌, if◌then◌else◌}
 use Rattle.std.specs.List.{flat_map}
 use Rattle.std.specs.Fmt.{decimal, signed_decimal}
 use Rattle.dd_clause.specs.declared.clause.Literal.{Literal}
@@ -22,9 +22,13 @@ after_space n = codes " " ++ decimal n
 abbrev pub signed_after_space : ℤ → List ℕ
 signed_after_space z = codes " " ++ signed_decimal z
 
+-- numbers, each after a space
+abbrev pub spaced_out : List ℕ → List ℕ
+spaced_out ns = flat_map after_space ns
+
 -- the numbers that a line ends with
 abbrev pub numbers_to_end : List ℕ → List ℕ
-numbers_to_end ns = flat_map after_space ns ++ line_feed
+numbers_to_end ns = spaced_out ns ++ line_feed
 
 abbrev pub signed_to_end : List ℤ → List ℕ
 signed_to_end zs = flat_map signed_after_space zs ++ line_feed
@@ -74,12 +78,20 @@ reason_text reason.Large = codes "large"
 reason_text reason.Overflow = codes "overflow"
 reason_text reason.Pivots = codes "pivots"
 
+-- a shear of 0 is not said
+abbrev pub shear_text : ℕ → List ℕ
+shear_text shear = if shear == 0 then [] else (codes " shear " ++ decimal shear)
+
 -- the node, and then the symbols
 abbrev pub pattern_text : Listed → List ℕ
 pattern_text p = codes "pattern " ++ (decimal p.node ++ numbers_to_end p.symbols)
 
 abbrev pub yes_both_text : ℕ → ℕ → List ℕ
 yes_both_text left right = codes "YES " ++ (decimal left ++ (codes " " ++ (decimal right ++ line_feed)))
+
+-- the side, the periods and the shear
+abbrev pub no_text : Side → List ℕ → ℕ → List ℕ
+no_text side periods shear = codes "NO" ++ (side_text side ++ (spaced_out periods ++ (shear_text shear ++ line_feed)))
 
 -- a line's first word, and one number
 abbrev pub number_line : List ℕ → ℕ → List ℕ
@@ -95,7 +107,7 @@ verdict_text answer.Inside = codes "IN\n"
 verdict_text (answer.Outside place) = codes "OUT" ++ signed_to_end place
 verdict_text (answer.Yes radius steps) = number_line (codes "YES ") radius
 verdict_text (answer.YesBoth left right left_steps right_steps) = yes_both_text left right
-verdict_text (answer.No side periods symbols) = codes "NO" ++ (side_text side ++ numbers_to_end periods)
+verdict_text (answer.No side periods shear symbols) = no_text side periods shear
 verdict_text (answer.Unknown reason) = codes "UNKNOWN " ++ (reason_text reason ++ line_feed)
 verdict_text (answer.List patterns) = number_line (codes "LIST ") (length patterns)
 verdict_text (answer.Density numerator denominator cycle potentials) = codes "DENSITY " ++ fraction_to_end numerator denominator
@@ -119,7 +131,7 @@ further_lines answer.Inside = []
 further_lines (answer.Outside place) = []
 further_lines (answer.Yes radius steps) = refutation_text steps
 further_lines (answer.YesBoth left right left_steps right_steps) = refutation_text left_steps ++ refutation_text right_steps
-further_lines (answer.No side periods symbols) = numbers_line (codes "conf") symbols
+further_lines (answer.No side periods shear symbols) = numbers_line (codes "conf") symbols
 further_lines (answer.Unknown reason) = []
 further_lines (answer.List patterns) = flat_map pattern_text patterns
 further_lines (answer.Density numerator denominator cycle potentials) = density_lines cycle potentials

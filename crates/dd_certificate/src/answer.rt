@@ -54,10 +54,13 @@ pub enum Answer {
         left_steps: Items<Step>,
         right_steps: Items<Step>,
     },
-    /// It is not so: a configuration with these periods, as the symbols of one of its boxes in the order of the cells.
+    /// It is not so: a configuration with these periods and this shear, as the symbols of one of its boxes in the order of
+    /// the cells. The shear moves along the first axis, once for each period along the second. It is 0 where there is one
+    /// period only.
     No {
         side: Side,
         periods: Items<u64>,
+        shear: u64,
         symbols: Items<u64>,
     },
     Unknown {
@@ -67,14 +70,15 @@ pub enum Answer {
     List {
         patterns: Items<Listed>,
     },
-    /// The least mean weight of a configuration, with a cycle of this mean and potentials that no edge undercuts.
+    /// The least mean weight of a position of the strip over the configurations that live in the subshift and have the
+    /// strip's periods, as a fraction, with a cycle of states that has this mean and potentials that no edge undercuts.
     Density {
         numerator: u64,
         denominator: u64,
         cycle: Items<u64>,
         potentials: Items<i64>,
     },
-    /// There is no configuration: each edge leads to a smaller rank.
+    /// No configuration with the strip's periods lives in the subshift: each edge leads to a smaller rank.
     Empty {
         ranks: Items<u64>,
     },

@@ -65,14 +65,16 @@ fn configurations(alloc: Global) -> Result<Vec<(Answer, &'static str, &'static s
         "query 7 OUT -12 -9223372036854775808 9223372036854775807 3\n",
         "",
     ))?;
-    for (side, first) in [
-        (Side::Whole, "query 7 NO 2 1\n"),
-        (Side::Left, "query 7 NO left 2 1\n"),
-        (Side::Right, "query 7 NO right 2 1\n"),
+    for (side, shear, first) in [
+        (Side::Whole, 0, "query 7 NO 2 1\n"),
+        (Side::Whole, 1, "query 7 NO 2 1 shear 1\n"),
+        (Side::Left, 0, "query 7 NO left 2 1\n"),
+        (Side::Right, 12, "query 7 NO right 2 1 shear 12\n"),
     ] {
         let no = Answer::No {
             side,
             periods: Items::from_slice(alloc, &[2, 1])?,
+            shear,
             symbols: Items::from_slice(alloc, &[1, 0])?,
         };
         rows.push((no, first, "conf 1 0\n"))?;

@@ -10,14 +10,17 @@ ghost use Rattle.dd_certificate.specs.Text.{
   fraction_to_end,
   further_lines,
   line_feed,
+  no_text,
   number_line,
   numbers_line,
   numbers_to_end,
   pattern_text,
   reason_text,
   refutation_text,
+  shear_text,
   side_text,
   signed_to_end,
+  spaced_out,
   verdict_text,
   yes_both_text,
 };
@@ -28,14 +31,22 @@ use crate::refutation::push_refutation;
 use dd_derivation::Step;
 use std::alloc::{AllocError, Global};
 
-/// Ends a line by these numbers, each after a space.
-fn push_numbers_to_end(text: &mut Vec<u8>, numbers: &[u64]) -> Result<(), AllocError>
-    ensures { OnOk result (text.new.items ≡ text.old.items ++ numbers_to_end numbers.now) }
+/// Puts numbers at the end of a text, each after a space.
+fn push_numbers(text: &mut Vec<u8>, numbers: &[u64]) -> Result<(), AllocError>
+    ensures { OnOk result (text.new.items ≡ text.old.items ++ spaced_out numbers.now) }
 {
     for number in numbers {
         text.push(b' ')?;
         push_decimal(text, *number)?;
     }
+    Ok(())
+}
+
+/// Ends a line by these numbers, each after a space.
+fn push_numbers_to_end(text: &mut Vec<u8>, numbers: &[u64]) -> Result<(), AllocError>
+    ensures { OnOk result (text.new.items ≡ text.old.items ++ numbers_to_end numbers.now) }
+{
+    push_numbers(text, numbers)?;
     text.push(b'\n')?;
     Ok(())
 }
@@ -114,12 +125,26 @@ fn push_yes_both(text: &mut Vec<u8>, left: u64, right: u64) -> Result<(), AllocE
     Ok(())
 }
 
-fn push_no(text: &mut Vec<u8>, side: Side, periods: &[u64]) -> Result<(), AllocError>
-    ensures { OnOk result (text.new.items ≡ text.old.items ++ (codes "NO" ++ (side_text side ++ numbers_to_end periods.now))) }
+/// Says a shear of at least 1.
+fn push_shear(text: &mut Vec<u8>, shear: u64) -> Result<(), AllocError>
+    ensures { OnOk result (text.new.items ≡ text.old.items ++ shear_text shear) }
+{
+    if shear != 0 {
+        text.extend_from_slice(b" shear ")?;
+        push_decimal(text, shear)?;
+    }
+    Ok(())
+}
+
+fn push_no(text: &mut Vec<u8>, side: Side, periods: &[u64], shear: u64) -> Result<(), AllocError>
+    ensures { OnOk result (text.new.items ≡ text.old.items ++ no_text side periods.now shear) }
 {
     text.extend_from_slice(b"NO")?;
     text.extend_from_slice(side_word(side))?;
-    push_numbers_to_end(text, periods)
+    push_numbers(text, periods)?;
+    push_shear(text, shear)?;
+    text.push(b'\n')?;
+    Ok(())
 }
 
 fn push_unknown(text: &mut Vec<u8>, reason: Reason) -> Result<(), AllocError>
@@ -160,7 +185,12 @@ fn push_verdict(text: &mut Vec<u8>, answer: &Answer) -> Result<(), AllocError>
         Answer::Outside { place } => push_outside(text, place.as_slice()),
         Answer::Yes { radius, .. } => push_number_line(text, b"YES ", *radius),
         Answer::YesBoth { left, right, .. } => push_yes_both(text, *left, *right),
-        Answer::No { side, periods, .. } => push_no(text, *side, periods.as_slice()),
+        Answer::No {
+            side,
+            periods,
+            shear,
+            ..
+        } => push_no(text, *side, periods.as_slice(), *shear),
         Answer::Unknown { reason } => push_unknown(text, *reason),
         Answer::List { patterns } => push_number_line(text, b"LIST ", patterns.len() as u64),
         Answer::Density {
