@@ -1,0 +1,292 @@
+-- What is read of formulas is written so.
+use Rattle.std.proofs.Common.{◌≡◌, ℕ, zero, suc, ◌-◌, Bool, true, List, [], ◌∷◌, ◌++◌, map, length, drop, Option, Some, None, refl, sym, ap, subst, ◌∙◌, append_assoc, arith, le-leb, leb-true, inl, inr}
+use Rattle.std.specs.Prelude.{nat_le, cond, ◌&&◌}
+use Rattle.std.specs.List.{flat_map, list_all}
+use Rattle.dd_written.specs.declared.lexeme.Mark.{Mark}
+use Rattle.dd_written.specs.declared.lexeme.Mark.TheVariants as mark
+use Rattle.dd_written.specs.declared.lexeme.Word.{Word}
+use Rattle.dd_written.specs.declared.lexeme.Lexeme.{Lexeme}
+use Rattle.dd_written.specs.declared.lexeme.Lexeme.TheVariants as lexeme
+use Rattle.dd_written.specs.declared.tree.Name.{Name}
+use Rattle.dd_written.specs.declared.tree.Term.{Term}
+use Rattle.dd_written.specs.declared.tree.Side.{Side}
+use Rattle.dd_written.specs.declared.tree.Side.TheVariants as side
+use Rattle.dd_written.specs.declared.tree.Atom.{Atom}
+use Rattle.dd_written.specs.declared.tree.Atom.TheVariants as atom
+use Rattle.dd_written.specs.declared.tree.Ball.{Ball}
+use Rattle.dd_written.specs.declared.tree.Quantor.{Quantor}
+use Rattle.dd_written.specs.declared.tree.Quantor.TheVariants as quantor
+use Rattle.dd_written.specs.declared.tree.Join.{Join}
+use Rattle.dd_written.specs.declared.tree.Join.TheVariants as join
+use Rattle.dd_written.specs.declared.tree.Formula.{Formula, roll-Formula}
+use Rattle.dd_written.specs.declared.tree.Formula.TheFolds.{map-Formula, ind-Formula}
+use Rattle.dd_written.specs.declared.tree.Formula.TheOpen.{Formula-F}
+use Rattle.dd_written.specs.Formulas.{text, stands, stands_step, name_lexeme, move_text, term_text, side_text, atom_text, ball_text, capital, sign, rank, depth, IsFormula}
+use Rattle.dd_written.specs.reading.Readers.{Reader, ◌>>=◌, ReadsAll}
+use Rattle.dd_written.specs.reading.Atoms.{name_at, moves_at, term_at, side_at, after_term, atom_at, leaf_at, balls_at, quantor_end, quantor_at}
+use Rattle.dd_written.specs.reading.Formulas.{begins, more_at, close, list_at, or_at, implies_end, implies_at, iff_more, whole_at, not_at, quantified_at, group_end, nested_at, unary_at, formula_at}
+use Rattle.dd_written.proofs.Layers.{text_of, stands_of}
+use Rattle.dd_written.proofs.Options.{bind_some, some_is, and_is, chosen}
+use Rattle.dd_written.proofs.Many.{many_sound}
+
+pub name_sound : (tokens : List Lexeme) (n : Name) (rest : List Lexeme) → name_at tokens ≡ Some (n, rest) → tokens ≡ name_lexeme n ∷ rest
+name_sound (lexeme.Word w ∷ tokens) n rest e = subst (λ (x : Name × List Lexeme). lexeme.Word w ∷ tokens ≡ name_lexeme x.0 ∷ x.1) (some_is _ _ e) refl
+name_sound (lexeme.Number m ∷ tokens) n rest e = subst (λ (x : Name × List Lexeme). lexeme.Number m ∷ tokens ≡ name_lexeme x.0 ∷ x.1) (some_is _ _ e) refl
+name_sound tokens n rest e = absurd cc
+
+moves_sound : (tokens : List Lexeme) → tokens ≡ flat_map move_text (moves_at tokens).0 ++ (moves_at tokens).1
+moves_sound (lexeme.Mark mark.Dot ∷ lexeme.Word label ∷ tokens) = ap (λ (ts : List Lexeme). lexeme.Mark mark.Dot ∷ lexeme.Word label ∷ ts) (moves_sound tokens)
+moves_sound tokens = refl
+
+balls_sound : (tokens : List Lexeme) → tokens ≡ flat_map ball_text (balls_at tokens).0 ++ (balls_at tokens).1
+balls_sound (lexeme.Word middle ∷ lexeme.Number radius ∷ tokens) = ap (λ (ts : List Lexeme). lexeme.Word middle ∷ lexeme.Number radius ∷ ts) (balls_sound tokens)
+balls_sound tokens = refl
+
+term_sound : (tokens : List Lexeme) (t : Term) (rest : List Lexeme) → term_at tokens ≡ Some (t, rest) → tokens ≡ term_text t ++ rest
+term_sound (lexeme.Word first ∷ tokens) t rest e =
+    subst (λ (x : Term × List Lexeme). lexeme.Word first ∷ tokens ≡ term_text x.0 ++ x.1) (some_is _ _ e) (ap (λ (ts : List Lexeme). lexeme.Word first ∷ ts) (moves_sound tokens))
+term_sound tokens t rest e = absurd cc
+
+side_sound : (tokens : List Lexeme) (s : Side) (rest : List Lexeme) → side_at tokens ≡ Some (s, rest) → tokens ≡ side_text s ++ rest
+side_sound (lexeme.Number n ∷ tokens) s rest e = subst (λ (x : Side × List Lexeme). lexeme.Number n ∷ tokens ≡ side_text x.0 ++ x.1) (some_is _ _ e) refl
+side_sound tokens s rest e =
+    let b = bind_some (term_at tokens) (λ t. Some (side.Term t.0, t.1)) (s, rest) e in
+    subst (λ (x : Side × List Lexeme). tokens ≡ side_text x.0 ++ x.1) (some_is _ _ b.2) (term_sound tokens b.0.0 b.0.1 b.1)
+
+-- a term, a mark, and what stands behind it
+behind_mark : (t : Term) (m : Mark) (part tokens rest : List Lexeme) → tokens ≡ part ++ rest → term_text t ++ lexeme.Mark m ∷ tokens ≡ (term_text t ++ lexeme.Mark m ∷ part) ++ rest
+behind_mark t m part tokens rest e = ap (λ (ts : List Lexeme). term_text t ++ lexeme.Mark m ∷ ts) e ∙ sym (append_assoc (term_text t) (lexeme.Mark m ∷ part) rest)
+
+abbrev IsAtomText : List Lexeme → Atom × List Lexeme → Type 0
+IsAtomText tokens x = tokens ≡ atom_text x.0 ++ x.1
+
+after_sound : (t : Term) (tokens : List Lexeme) (x : Atom × List Lexeme) → after_term t tokens ≡ Some x → IsAtomText (term_text t ++ tokens) x
+after_sound t (lexeme.Mark mark.Equal ∷ tokens) x e =
+    let b = bind_some (side_at tokens) (λ s. Some (atom.Equal t s.0, s.1)) x e in
+    subst (IsAtomText (term_text t ++ lexeme.Mark mark.Equal ∷ tokens)) (some_is _ _ b.2) (behind_mark t mark.Equal (side_text b.0.0) tokens b.0.1 (side_sound tokens b.0.0 b.0.1 b.1))
+after_sound t (lexeme.Mark mark.NotEqual ∷ tokens) x e =
+    let b = bind_some (side_at tokens) (λ s. Some (atom.NotEqual t s.0, s.1)) x e in
+    subst (IsAtomText (term_text t ++ lexeme.Mark mark.NotEqual ∷ tokens)) (some_is _ _ b.2) (behind_mark t mark.NotEqual (side_text b.0.0) tokens b.0.1 (side_sound tokens b.0.0 b.0.1 b.1))
+after_sound t (lexeme.Mark mark.Tilde ∷ tokens) x e =
+    let b = bind_some (term_at tokens) (λ u. Some (atom.Adjacent t u.0, u.1)) x e in
+    subst (IsAtomText (term_text t ++ lexeme.Mark mark.Tilde ∷ tokens)) (some_is _ _ b.2) (behind_mark t mark.Tilde (term_text b.0.0) tokens b.0.1 (term_sound tokens b.0.0 b.0.1 b.1))
+after_sound t (lexeme.Mark mark.At ∷ tokens) x e =
+    let b = bind_some (term_at tokens) (λ u. Some (atom.Same t u.0, u.1)) x e in
+    subst (IsAtomText (term_text t ++ lexeme.Mark mark.At ∷ tokens)) (some_is _ _ b.2) (behind_mark t mark.At (term_text b.0.0) tokens b.0.1 (term_sound tokens b.0.0 b.0.1 b.1))
+after_sound t (lexeme.Mark mark.Colon ∷ tokens) x e =
+    let b = bind_some (name_at tokens) (λ n. Some (atom.AtNode t n.0, n.1)) x e in
+    subst (IsAtomText (term_text t ++ lexeme.Mark mark.Colon ∷ tokens)) (some_is _ _ b.2) (behind_mark t mark.Colon (name_lexeme b.0.0 ∷ []) tokens b.0.1 (name_sound tokens b.0.0 b.0.1 b.1))
+after_sound t tokens x e = absurd cc
+
+atom_sound : (tokens : List Lexeme) (x : Atom × List Lexeme) → atom_at tokens ≡ Some x → IsAtomText tokens x
+atom_sound tokens x e =
+    let b = bind_some (term_at tokens) (λ t. after_term t.0 t.1) x e in
+    term_sound tokens b.0.0 b.0.1 b.1 ∙ after_sound b.0.0 b.0.1 x b.2
+
+-- the tokens are a formula that may stand at a place, and what is left
+abbrev pub Takes : List Lexeme → ℕ → Formula × List Lexeme → Type 0
+Takes tokens place x = (tokens ≡ text x.0 ++ x.1) × (stands x.0 place ≡ true)
+
+abbrev pub IsSound : Reader Formula → ℕ → Type 0
+IsSound reader place = (tokens : List Lexeme) (x : Formula × List Lexeme) → reader tokens ≡ Some x → Takes tokens place x
+
+-- what each kind takes, from what its parts take
+leaf_takes : (place : ℕ) (a : Atom) (tokens rest : List Lexeme) → tokens ≡ atom_text a ++ rest → Takes tokens place (roll-Formula (Formula-F.Atom a), rest)
+leaf_takes place a tokens rest spelled = (spelled ∙ ap (λ (ts : List Lexeme). ts ++ rest) (sym (text_of (Formula-F.Atom a))), rw (stands_of (Formula-F.Atom a)) refl)
+
+leaf_sound : (place : ℕ) → IsSound leaf_at place
+leaf_sound place tokens x e =
+    let b = bind_some (atom_at tokens) (λ a. Some (roll-Formula (Formula-F.Atom a.0), a.1)) x e in
+    subst (Takes tokens place) (some_is _ _ b.2) (leaf_takes place b.0.0 tokens b.0.1 (atom_sound tokens b.0 b.1))
+
+not_takes : (place : ℕ) (f : Formula) (tokens rest : List Lexeme) → Takes tokens 0 (f, rest) → Takes (lexeme.Mark mark.Not ∷ tokens) place (roll-Formula (Formula-F.Not f), rest)
+not_takes place f tokens rest inner = (rw (text_of (Formula-F.Not f), inner.0) refl, rw (stands_of (Formula-F.Not f)) inner.1)
+
+-- the balls are one or more
+abbrev Quantifies : List Lexeme → (Word × List Ball) × List Lexeme → Type 0
+Quantifies tokens x = (tokens ≡ lexeme.Word x.0.0 ∷ lexeme.Mark mark.OpenList ∷ (flat_map ball_text x.0.1 ++ lexeme.Mark mark.CloseList ∷ x.1)) × (nat_le 1 (length x.0.1) ≡ true)
+
+quantified_takes : (q : Quantor) (place : ℕ) (h : Word × List Ball) (f : Formula) (tokens rest after : List Lexeme) → Quantifies tokens (h, rest) → Takes rest 0 (f, after)
+    → Takes (lexeme.Mark (capital q) ∷ tokens) place (roll-Formula (Formula-F.Quantified q h.0 h.1 f), after)
+quantified_takes q place h f tokens rest after head inner =
+    (rw (text_of (Formula-F.Quantified q h.0 h.1 f), head.0, inner.0) (ap (λ (ts : List Lexeme). lexeme.Mark (capital q) ∷ lexeme.Word h.0 ∷ lexeme.Mark mark.OpenList ∷ ts) (sym (append_assoc (flat_map ball_text h.1) (lexeme.Mark mark.CloseList ∷ text f) after))), rw (stands_of (Formula-F.Quantified q h.0 h.1 f), head.1, inner.1) refl)
+
+group_takes : (place : ℕ) (f : Formula) (tokens rest : List Lexeme) → Takes tokens 4 (f, lexeme.Mark mark.Close ∷ rest) → Takes (lexeme.Mark mark.Open ∷ tokens) place (roll-Formula (Formula-F.Group f), rest)
+group_takes place f tokens rest inner =
+    (rw (text_of (Formula-F.Group f), inner.0) (ap (λ (ts : List Lexeme). lexeme.Mark mark.Open ∷ ts) (sym (append_assoc (text f) (lexeme.Mark mark.Close ∷ []) rest))), rw (stands_of (Formula-F.Group f)) inner.1)
+
+implies_takes : (f g : Formula) (before tokens rest : List Lexeme) → Takes before 2 (f, lexeme.Mark mark.Arrow ∷ tokens) → Takes tokens 3 (g, rest) → Takes before 3 (roll-Formula (Formula-F.Implies f g), rest)
+implies_takes f g before tokens rest first second = (
+  first.0 ∙ ap (λ (ts : List Lexeme). text f ++ lexeme.Mark mark.Arrow ∷ ts) second.0 ∙ sym (append_assoc (text f) (lexeme.Mark mark.Arrow ∷ text g) rest) ∙ ap (λ (ts : List Lexeme). ts ++ rest) (sym (text_of (Formula-F.Implies f g))),
+  rw (stands_of (Formula-F.Implies f g), first.1, second.1) refl,
+)
+
+iff_takes : (f g : Formula) (before tokens rest : List Lexeme) → Takes before 4 (f, lexeme.Mark mark.BothWays ∷ tokens) → Takes tokens 3 (g, rest) → Takes before 4 (roll-Formula (Formula-F.Iff f g), rest)
+iff_takes f g before tokens rest first second = (
+  first.0 ∙ ap (λ (ts : List Lexeme). text f ++ lexeme.Mark mark.BothWays ∷ ts) second.0 ∙ sym (append_assoc (text f) (lexeme.Mark mark.BothWays ∷ text g) rest) ∙ ap (λ (ts : List Lexeme). ts ++ rest) (sym (text_of (Formula-F.Iff f g))),
+  rw (stands_of (Formula-F.Iff f g), first.1, second.1) refl,
+)
+
+end_sound : (variable : Word) (balls : List Ball) (tokens : List Lexeme) (x : (Word × List Ball) × List Lexeme) → quantor_end variable balls tokens ≡ Some x
+    → Quantifies (lexeme.Word variable ∷ lexeme.Mark mark.OpenList ∷ (flat_map ball_text balls ++ tokens)) x
+end_sound variable (b ∷ bs) (lexeme.Mark mark.CloseList ∷ tokens) x e =
+    subst (Quantifies (lexeme.Word variable ∷ lexeme.Mark mark.OpenList ∷ (flat_map ball_text (b ∷ bs) ++ lexeme.Mark mark.CloseList ∷ tokens))) (some_is _ _ e) (refl, le-leb 1 (suc (length bs)) (omega arith))
+end_sound variable balls tokens x e = absurd cc
+
+quantor_sound : (tokens : List Lexeme) (x : (Word × List Ball) × List Lexeme) → quantor_at tokens ≡ Some x → Quantifies tokens x
+quantor_sound (lexeme.Word variable ∷ lexeme.Mark mark.OpenList ∷ tokens) x e =
+    subst (λ (ts : List Lexeme). Quantifies (lexeme.Word variable ∷ lexeme.Mark mark.OpenList ∷ ts) x) (sym (balls_sound tokens)) (end_sound variable (balls_at tokens).0 (balls_at tokens).1 x e)
+quantor_sound tokens x e = absurd cc
+
+module _ (unary : Reader Formula) (sound : IsSound unary 0) where
+  not_sound : (place : ℕ) (tokens : List Lexeme) (x : Formula × List Lexeme) → not_at unary tokens ≡ Some x → Takes (lexeme.Mark mark.Not ∷ tokens) place x
+  not_sound place tokens x e =
+      let b = bind_some (unary tokens) (λ f. Some (roll-Formula (Formula-F.Not f.0), f.1)) x e in
+      subst (Takes (lexeme.Mark mark.Not ∷ tokens) place) (some_is _ _ b.2) (not_takes place b.0.0 tokens b.0.1 (sound tokens b.0 b.1))
+
+  quantified_sound : (q : Quantor) (place : ℕ) (tokens : List Lexeme) (x : Formula × List Lexeme) → quantified_at unary q tokens ≡ Some x → Takes (lexeme.Mark (capital q) ∷ tokens) place x
+  quantified_sound q place tokens x e =
+      let b = bind_some (quantor_at tokens) (λ h. unary h.1 >>= λ f. Some (roll-Formula (Formula-F.Quantified q h.0.0 h.0.1 f.0), f.1)) x e in
+      let d = bind_some (unary b.0.1) (λ f. Some (roll-Formula (Formula-F.Quantified q b.0.0.0 b.0.0.1 f.0), f.1)) x b.2 in
+      subst (Takes (lexeme.Mark (capital q) ∷ tokens) place) (some_is _ _ d.2) (quantified_takes q place b.0.0 d.0.0 tokens b.0.1 d.0.1 (quantor_sound tokens b.0 b.1) (sound b.0.1 d.0 d.1))
+
+-- what may stand at a place may stand at the next
+abbrev AlsoNext : Formula → Type 0
+AlsoNext f = (place : ℕ) → stands f place ≡ true → stands f (suc place) ≡ true
+
+le_next : (n place : ℕ) → nat_le n place ≡ true → nat_le n (suc place) ≡ true
+le_next n place e = le-leb n (suc place) (omega (arith, leb-true n place e))
+
+next_step : (x : Formula-F Formula) (place : ℕ) → stands_step (map-Formula Formula (ℕ → Bool) stands x) place ≡ true → stands_step (map-Formula Formula (ℕ → Bool) stands x) (suc place) ≡ true
+next_step (Formula-F.Atom a) place e = e
+next_step (Formula-F.Not f) place e = e
+next_step (Formula-F.Quantified q variable balls f) place e = e
+next_step (Formula-F.Group f) place e = e
+next_step (Formula-F.List j fs) place e =
+    let a = and_is (nat_le (rank j) place && nat_le 2 (length (map stands fs))) (list_all (λ f. f (rank j - 1)) (map stands fs)) e in
+    let b = and_is (nat_le (rank j) place) (nat_le 2 (length (map stands fs))) a.0 in
+    rw (le_next (rank j) place b.0, b.1, a.1) refl
+next_step (Formula-F.Implies f g) place e =
+    let a = and_is (nat_le 3 place && stands f 2) (stands g 3) e in
+    let b = and_is (nat_le 3 place) (stands f 2) a.0 in
+    rw (le_next 3 place b.0, b.1, a.1) refl
+next_step (Formula-F.Iff f g) place e =
+    let a = and_is (nat_le 4 place && stands f 4) (stands g 3) e in
+    let b = and_is (nat_le 4 place) (stands f 4) a.0 in
+    rw (le_next 4 place b.0, b.1, a.1) refl
+
+stands_more : (f : Formula) → AlsoNext f
+stands_more = ind-Formula AlsoNext (λ x y is place e. rw (stands_of x) (next_step x place (sym (ap (λ (h : ℕ → Bool). h place) (stands_of x)) ∙ e)))
+
+takes_more : (tokens : List Lexeme) (place : ℕ) (x : Formula × List Lexeme) → Takes tokens place x → Takes tokens (suc place) x
+takes_more tokens place x takes = (takes.0, stands_more x.0 place takes.1)
+
+-- ---- lists
+
+-- the members behind the first, each behind its sign
+abbrev pub more_text : Join → List Formula → List Lexeme
+more_text j fs = flat_map (λ u. lexeme.Mark (sign j) ∷ u) (map text fs)
+
+begins_sound : (j : Join) (tokens : List Lexeme) → begins j tokens ≡ true → tokens ≡ lexeme.Mark (sign j) ∷ drop 1 tokens
+begins_sound join.And (lexeme.Mark mark.And ∷ tokens) e = refl
+begins_sound join.Or (lexeme.Mark mark.Or ∷ tokens) e = refl
+begins_sound j tokens e = absurd cc
+
+-- a member behind its sign, which may stand at a place
+abbrev IsMember : Join → ℕ → Formula → List Lexeme → List Lexeme → Type 0
+IsMember j place f tokens rest = (tokens ≡ lexeme.Mark (sign j) ∷ (text f ++ rest)) × (stands f place ≡ true)
+
+abbrev TakesMore : Join → List Lexeme → ℕ → List Formula × List Lexeme → Type 0
+TakesMore j tokens place x = (tokens ≡ more_text j x.0 ++ x.1) × (list_all (λ (h : ℕ → Bool). h place) (map stands x.0) ≡ true)
+
+members_take : (j : Join) (place : ℕ) (fs : List Formula) (tokens rest : List Lexeme) → ReadsAll (IsMember j place) fs tokens rest → TakesMore j tokens place (fs, rest)
+members_take j place [] tokens rest all = (all, refl)
+members_take j place (f ∷ fs) tokens rest all =
+    let others = members_take j place fs all.0 rest all.2 in
+    (all.1.0 ∙ ap (λ (ts : List Lexeme). lexeme.Mark (sign j) ∷ (text f ++ ts)) others.0 ∙ ap (λ (ts : List Lexeme). lexeme.Mark (sign j) ∷ ts) (sym (append_assoc (text f) (more_text j fs) rest)), rw (all.1.1, others.1) refl)
+
+member_sound : (j : Join) (member : Reader Formula) (place : ℕ) → IsSound member place → (tokens : List Lexeme) (f : Formula) (rest : List Lexeme) → begins j tokens ≡ true → member (drop 1 tokens) ≡ Some (f, rest) → IsMember j place f tokens rest
+member_sound j member place sound tokens f rest e is =
+    let takes = sound (drop 1 tokens) (f, rest) is in
+    (begins_sound j tokens e ∙ ap (λ (ts : List Lexeme). lexeme.Mark (sign j) ∷ ts) takes.0, takes.1)
+
+more_sound : (j : Join) (member : Reader Formula) (place : ℕ) → IsSound member place → (n : ℕ) (tokens : List Lexeme) (x : List Formula × List Lexeme) → more_at j member n tokens ≡ Some x → TakesMore j tokens place x
+more_sound j member place sound n tokens x e =
+    members_take j place x.0 tokens x.1 (many_sound (IsMember j place) (begins j) (λ ts. member (drop 1 ts)) (member_sound j member place sound) n tokens x.0 x.1 e)
+
+close_takes : (j : Join) (place : ℕ) (f : Formula) (fs : List Formula) (tokens rest after : List Lexeme) → rank j ≡ suc place → Takes tokens place (f, rest) → TakesMore j rest place (fs, after)
+    → Takes tokens (suc place) (close j f fs, after)
+close_takes j place f [] tokens rest after ranked first others = (first.0 ∙ ap (λ (ts : List Lexeme). text f ++ ts) others.0, stands_more f place first.1)
+close_takes j place f (g ∷ gs) tokens rest after ranked first others =
+    let before : rank j - 1 ≡ place = omega (arith, ranked) in
+    let two : nat_le 2 (length (map stands (f ∷ g ∷ gs))) ≡ true = le-leb 2 (length (map stands (f ∷ g ∷ gs))) (omega arith) in
+    let fits : nat_le (rank j) (suc place) ≡ true = le-leb (rank j) (suc place) (omega (arith, ranked)) in
+    let all : list_all (λ (h : ℕ → Bool). h (rank j - 1)) (map stands (f ∷ g ∷ gs)) ≡ true = subst (λ (p : ℕ). list_all (λ (h : ℕ → Bool). h p) (map stands (f ∷ g ∷ gs)) ≡ true) (sym before) (rw first.1 others.1) in (
+      first.0 ∙ ap (λ (ts : List Lexeme). text f ++ ts) others.0 ∙ sym (append_assoc (text f) (more_text j (g ∷ gs)) after) ∙ ap (λ (ts : List Lexeme). ts ++ after) (sym (text_of (Formula-F.List j (f ∷ g ∷ gs)))),
+      ap (λ (h : ℕ → Bool). h (suc place)) (stands_of (Formula-F.List j (f ∷ g ∷ gs))) ∙ rw (fits, two) all,
+    )
+
+list_sound : (j : Join) (member : Reader Formula) (place : ℕ) → rank j ≡ suc place → IsSound member place → IsSound (list_at j member) (suc place)
+list_sound j member place ranked sound tokens x e =
+    let b = bind_some (member tokens) (λ f. more_at j member (length f.1) f.1 >>= λ m. Some (close j f.0 m.0, m.1)) x e in
+    let d = bind_some (more_at j member (length b.0.1) b.0.1) (λ m. Some (close j b.0.0 m.0, m.1)) x b.2 in
+    subst (Takes tokens (suc place)) (some_is _ _ d.2) (close_takes j place b.0.0 d.0.0 tokens b.0.1 d.0.1 ranked (sound tokens b.0 b.1) (more_sound j member place sound (length b.0.1) b.0.1 d.0 d.1))
+
+-- ---- arrows
+
+implies_end_sound : (next : Reader Formula) → IsSound next 3 → (f : Formula) (before tokens : List Lexeme) (x : Formula × List Lexeme) → Takes before 2 (f, tokens) → implies_end f next tokens ≡ Some x → Takes before 3 x
+implies_end_sound next sound f before (lexeme.Mark mark.Arrow ∷ tokens) x first e =
+    let b = bind_some (next tokens) (λ g. Some (roll-Formula (Formula-F.Implies f g.0), g.1)) x e in
+    subst (Takes before 3) (some_is _ _ b.2) (implies_takes f b.0.0 before tokens b.0.1 first (sound tokens b.0 b.1))
+implies_end_sound next sound f before tokens x first e = subst (Takes before 3) (some_is _ _ e) (takes_more before 2 (f, tokens) first)
+
+implies_sound : (part : Reader Formula) → IsSound part 2 → (n : ℕ) → IsSound (implies_at part n) 3
+implies_sound part sound zero tokens x e = takes_more tokens 2 x (sound tokens x e)
+implies_sound part sound (suc n) tokens x e =
+    let b = bind_some (part tokens) (λ f. implies_end f.0 (implies_at part n) f.1) x e in
+    implies_end_sound (implies_at part n) (implies_sound part sound n) b.0.0 tokens b.0.1 x (sound tokens b.0 b.1) b.2
+
+iff_more_sound : (part : Reader Formula) → IsSound part 3 → (n : ℕ) (f : Formula) (before tokens : List Lexeme) (x : Formula × List Lexeme) → Takes before 4 (f, tokens) → iff_more part n f tokens ≡ Some x → Takes before 4 x
+iff_more_sound part sound zero f before tokens x first e = subst (Takes before 4) (some_is _ _ e) first
+iff_more_sound part sound (suc n) f before (lexeme.Mark mark.BothWays ∷ tokens) x first e =
+    let b = bind_some (part tokens) (λ g. iff_more part n (roll-Formula (Formula-F.Iff f g.0)) g.1) x e in
+    iff_more_sound part sound n (roll-Formula (Formula-F.Iff f b.0.0)) before b.0.1 x (iff_takes f b.0.0 before tokens b.0.1 first (sound tokens b.0 b.1)) b.2
+iff_more_sound part sound (suc n) f before tokens x first e = subst (Takes before 4) (some_is _ _ e) first
+
+whole_sound : (unary : Reader Formula) (n : ℕ) → IsSound unary 0 → IsSound (whole_at unary n) 4
+whole_sound unary n sound tokens x e =
+    let part = implies_sound (or_at unary) (list_sound join.Or (list_at join.And unary) 1 refl (list_sound join.And unary 0 refl sound)) n in
+    let b = bind_some (implies_at (or_at unary) n tokens) (λ f. iff_more (implies_at (or_at unary) n) n f.0 f.1) x e in
+    iff_more_sound (implies_at (or_at unary) n) part n b.0.0 tokens b.0.1 x (takes_more tokens 3 b.0 (part tokens b.0 b.1)) b.2
+
+group_end_sound : (place : ℕ) (f : Formula) (before tokens : List Lexeme) (x : Formula × List Lexeme) → Takes before 4 (f, tokens) → group_end f tokens ≡ Some x → Takes (lexeme.Mark mark.Open ∷ before) place x
+group_end_sound place f before (lexeme.Mark mark.Close ∷ tokens) x inner e = subst (Takes (lexeme.Mark mark.Open ∷ before) place) (some_is _ _ e) (group_takes place f before tokens inner)
+group_end_sound place f before tokens x inner e = absurd cc
+
+nested_sound : (unary : Reader Formula) (n place : ℕ) → IsSound unary 0 → IsSound (nested_at unary n) place
+nested_sound unary n place sound (lexeme.Mark mark.Not ∷ tokens) x e = not_sound unary sound place tokens x e
+nested_sound unary n place sound (lexeme.Mark mark.All ∷ tokens) x e = quantified_sound unary sound quantor.All place tokens x e
+nested_sound unary n place sound (lexeme.Mark mark.Exists ∷ tokens) x e = quantified_sound unary sound quantor.Exists place tokens x e
+nested_sound unary n place sound (lexeme.Mark mark.Open ∷ tokens) x e =
+    let b = bind_some (whole_at unary n tokens) (λ f. group_end f.0 f.1) x e in
+    group_end_sound place b.0.0 tokens b.0.1 x (whole_sound unary n sound tokens b.0 b.1) b.2
+nested_sound unary n place sound tokens x e = leaf_sound place tokens x e
+
+unary_sound : (budget : ℕ) → IsSound (unary_at budget) 0
+unary_sound zero tokens x e = leaf_sound 0 tokens x e
+unary_sound (suc budget) tokens x e = nested_sound (unary_at budget) budget 0 (unary_sound budget) tokens x e
+
+abbrev nothing : {X : Type 0} → Option X
+nothing = None
+
+nothing_some : {X : Type 0} (x : X) → nothing {X = X} ≡ Some x → ⊥
+nothing_some x e = absurd cc
+
+pub formula_sound : (tokens : List Lexeme) (x : Formula × List Lexeme) → formula_at tokens ≡ Some x → (tokens ≡ text x.0 ++ x.1) × IsFormula x.0
+formula_sound tokens x e =
+    let b = bind_some (whole_at (unary_at 64) 64 tokens) (λ f. cond (nat_le (depth f.0) 64) (Some f) None) x e in
+    let s = whole_sound (unary_at 64) 64 (unary_sound 64) tokens b.0 b.1 in
+    elim (chosen (nat_le (depth b.0.0) 64) (Some b.0) None (Some x) b.2) [
+      | inl within ↦ subst (λ (x : Formula × List Lexeme). (tokens ≡ text x.0 ++ x.1) × IsFormula x.0) (some_is _ _ within.1) (s.0, record { grouped = s.1; shallow = leb-true (depth b.0.0) 64 within.0 })
+      | inr deep ↦ absurd (nothing_some x deep.1)
+    ]

@@ -1,0 +1,117 @@
+-- Formulas: what each is written as, where each may stand without parentheses, and how deep each is.
+use Rattle.std.specs.Prelude.{◌≡◌, ℕ, ◌+◌, ◌-◌, ◌≤◌, List, [], ◌∷◌, ◌++◌, length, Bool, true, ◌&&◌, nat_le, max, min}
+use Rattle.std.specs.List.{flat_map, list_all}
+use Rattle.dd_written.specs.declared.lexeme.Mark.{Mark}
+use Rattle.dd_written.specs.declared.lexeme.Mark.TheVariants as mark
+use Rattle.dd_written.specs.declared.lexeme.Word.{Word}
+use Rattle.dd_written.specs.declared.lexeme.Lexeme.{Lexeme}
+use Rattle.dd_written.specs.declared.lexeme.Lexeme.TheVariants as lexeme
+use Rattle.dd_written.specs.declared.tree.Name.{Name}
+use Rattle.dd_written.specs.declared.tree.Name.TheVariants as name
+use Rattle.dd_written.specs.declared.tree.Term.{Term}
+use Rattle.dd_written.specs.declared.tree.Side.{Side}
+use Rattle.dd_written.specs.declared.tree.Side.TheVariants as side
+use Rattle.dd_written.specs.declared.tree.Atom.{Atom}
+use Rattle.dd_written.specs.declared.tree.Atom.TheVariants as atom
+use Rattle.dd_written.specs.declared.tree.Ball.{Ball}
+use Rattle.dd_written.specs.declared.tree.Quantor.{Quantor}
+use Rattle.dd_written.specs.declared.tree.Quantor.TheVariants as quantor
+use Rattle.dd_written.specs.declared.tree.Join.{Join}
+use Rattle.dd_written.specs.declared.tree.Join.TheVariants as join
+use Rattle.dd_written.specs.declared.tree.Formula.{Formula}
+use Rattle.dd_written.specs.declared.tree.Formula.TheFolds.{fold-Formula}
+use Rattle.dd_written.specs.declared.tree.Formula.TheOpen.{Formula-F}
+
+abbrev pub name_lexeme : Name → Lexeme
+name_lexeme (name.Word w) = lexeme.Word w
+name_lexeme (name.Number n) = lexeme.Number n
+
+abbrev pub move_text : Word → List Lexeme
+move_text label = lexeme.Mark mark.Dot ∷ lexeme.Word label ∷ []
+
+abbrev pub term_text : Term → List Lexeme
+term_text t = lexeme.Word t.first ∷ flat_map move_text t.moves
+
+abbrev pub side_text : Side → List Lexeme
+side_text (side.Term t) = term_text t
+side_text (side.Number n) = lexeme.Number n ∷ []
+
+abbrev pub atom_text : Atom → List Lexeme
+atom_text (atom.Equal t s) = term_text t ++ lexeme.Mark mark.Equal ∷ side_text s
+atom_text (atom.NotEqual t s) = term_text t ++ lexeme.Mark mark.NotEqual ∷ side_text s
+atom_text (atom.Adjacent t u) = term_text t ++ lexeme.Mark mark.Tilde ∷ term_text u
+atom_text (atom.Same t u) = term_text t ++ lexeme.Mark mark.At ∷ term_text u
+atom_text (atom.AtNode t n) = term_text t ++ lexeme.Mark mark.Colon ∷ name_lexeme n ∷ []
+
+abbrev pub ball_text : Ball → List Lexeme
+ball_text b = lexeme.Word b.middle ∷ lexeme.Number b.radius ∷ []
+
+abbrev pub capital : Quantor → Mark
+capital quantor.All = mark.All
+capital quantor.Exists = mark.Exists
+
+abbrev pub sign : Join → Mark
+sign join.And = mark.And
+sign join.Or = mark.Or
+
+-- texts with a mark between each two
+abbrev pub joined : Mark → List (List Lexeme) → List Lexeme
+joined m [] = []
+joined m (t ∷ ts) = t ++ flat_map (λ u. lexeme.Mark m ∷ u) ts
+
+abbrev pub text_step : Formula-F (List Lexeme) → List Lexeme
+text_step (Formula-F.Atom a) = atom_text a
+text_step (Formula-F.Not f) = lexeme.Mark mark.Not ∷ f
+text_step (Formula-F.Quantified q variable balls f) = lexeme.Mark (capital q) ∷ lexeme.Word variable ∷ lexeme.Mark mark.OpenList ∷ flat_map ball_text balls ++ lexeme.Mark mark.CloseList ∷ f
+text_step (Formula-F.Group f) = lexeme.Mark mark.Open ∷ f ++ lexeme.Mark mark.Close ∷ []
+text_step (Formula-F.List j fs) = joined (sign j) fs
+text_step (Formula-F.Implies f g) = f ++ lexeme.Mark mark.Arrow ∷ g
+text_step (Formula-F.Iff f g) = f ++ lexeme.Mark mark.BothWays ∷ g
+
+-- the tokens of a formula
+abbrev pub text : Formula → List Lexeme
+text = fold-Formula (List Lexeme) text_step
+
+-- The places of a formula, from the tightest: 0 behind `!` and a quantifier and as a member of an `&` list, 1 as a member
+-- of an `|` list, 2 left of `->`, 3 right of `->` and right of `<->`, 4 left of `<->`, in parentheses and alone.
+abbrev pub rank : Join → ℕ
+rank join.And = 1
+rank join.Or = 2
+
+-- whether a formula may stand at such a place without parentheses
+abbrev pub stands_step : Formula-F (ℕ → Bool) → ℕ → Bool
+stands_step (Formula-F.Atom a) place = true
+stands_step (Formula-F.Not f) place = f 0
+stands_step (Formula-F.Quantified q variable balls f) place = nat_le 1 (length balls) && f 0
+stands_step (Formula-F.Group f) place = f 4
+stands_step (Formula-F.List j fs) place = nat_le (rank j) place && nat_le 2 (length fs) && list_all (λ f. f (rank j - 1)) fs
+stands_step (Formula-F.Implies f g) place = nat_le 3 place && f 2 && g 3
+stands_step (Formula-F.Iff f g) place = nat_le 4 place && f 4 && g 3
+
+abbrev pub stands : Formula → ℕ → Bool
+stands = fold-Formula (ℕ → Bool) stands_step
+
+abbrev pub greatest : List ℕ → ℕ
+greatest [] = 0
+greatest (d ∷ ds) = max d (greatest ds)
+
+abbrev pub depth_step : Formula-F ℕ → ℕ
+depth_step (Formula-F.Atom a) = 0
+depth_step (Formula-F.Not d) = 1 + d
+depth_step (Formula-F.Quantified q variable balls d) = 1 + d
+depth_step (Formula-F.Group d) = 1 + d
+depth_step (Formula-F.List j ds) = 1 + greatest ds
+depth_step (Formula-F.Implies d e) = 1 + max d e
+depth_step (Formula-F.Iff d e) = 1 + max d e
+
+abbrev pub depth : Formula → ℕ
+depth = fold-Formula ℕ depth_step
+
+-- a depth, cut off at the first number over the limit
+abbrev pub cut : ℕ → ℕ
+cut n = min n 65
+
+-- A formula that stands alone, each of its parts at its place, and of a depth within the limit.
+pub record IsFormula (f : Formula) : Type 0 where
+  pub grouped : stands f 4 ≡ true
+  pub shallow : depth f ≤ 64

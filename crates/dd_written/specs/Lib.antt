@@ -1,0 +1,8 @@
+-- the tokens of a script as the grammar sees them
+pub mod Lexemes
+-- the texts of words and numbers, and the values of numbers
+pub mod Values
+-- formulas as they are written
+pub mod Formulas
+-- mirrors of the readers
+pub mod reading

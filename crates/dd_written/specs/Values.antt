@@ -1,0 +1,30 @@
+-- The texts of words and numbers, and the values of numbers.
+use Rattle.std.specs.Prelude.{ℕ, ◌+◌, ◌-◌, ◌*◌, List, [], ◌∷◌, take, drop, ◌==◌, if◌then◌else◌}
+use Rattle.dd_written.specs.declared.lexeme.Word.{Word}
+use Rattle.dd_written.specs.declared.lexeme.Number.{Number}
+use Rattle.dd_written.specs.declared.tree.Name.{Name}
+use Rattle.dd_written.specs.declared.tree.Name.TheVariants as name
+
+abbrev pub word_text : List ℕ → Word → List ℕ
+word_text bytes w = take w.length (drop w.start bytes)
+
+abbrev pub number_text : List ℕ → Number → List ℕ
+number_text bytes n = take n.length (drop n.start bytes)
+
+abbrev pub name_text : List ℕ → Name → List ℕ
+name_text bytes (name.Word w) = word_text bytes w
+name_text bytes (name.Number n) = number_text bytes n
+
+-- the value of more digits, behind some of this value
+abbrev pub decimal : ℕ → List ℕ → ℕ
+decimal value [] = value
+decimal value (digit ∷ digits) = decimal (value * 10 + (digit - 48)) digits
+
+-- without a hyphen before it
+abbrev pub unsigned : List ℕ → List ℕ
+unsigned [] = []
+unsigned (b ∷ bytes) = if b == 45 then bytes else b ∷ bytes
+
+-- the absolute value of a number as it is written
+abbrev pub value : List ℕ → Number → ℕ
+value bytes n = decimal 0 (unsigned (number_text bytes n))

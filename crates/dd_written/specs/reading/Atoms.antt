@@ -1,0 +1,79 @@
+-- Reading atoms, and what stands before the body of a quantifier.
+use Rattle.std.specs.Prelude.{List, [], ◌∷◌, Some, None}
+use Rattle.dd_written.specs.declared.lexeme.Mark.TheVariants as mark
+use Rattle.dd_written.specs.declared.lexeme.Word.{Word}
+use Rattle.dd_written.specs.declared.lexeme.Lexeme.{Lexeme}
+use Rattle.dd_written.specs.declared.lexeme.Lexeme.TheVariants as lexeme
+use Rattle.dd_written.specs.declared.tree.Name.{Name}
+use Rattle.dd_written.specs.declared.tree.Name.TheVariants as name
+use Rattle.dd_written.specs.declared.tree.Term.{Term}
+use Rattle.dd_written.specs.declared.tree.Side.{Side}
+use Rattle.dd_written.specs.declared.tree.Side.TheVariants as side
+use Rattle.dd_written.specs.declared.tree.Atom.{Atom}
+use Rattle.dd_written.specs.declared.tree.Atom.TheVariants as atom
+use Rattle.dd_written.specs.declared.tree.Ball.{Ball}
+use Rattle.dd_written.specs.declared.tree.Formula.{Formula, roll-Formula}
+use Rattle.dd_written.specs.declared.tree.Formula.TheOpen.{Formula-F}
+use Rattle.dd_written.specs.reading.Readers.{◌>>=◌, Reader}
+
+abbrev pub name_at : Reader Name
+name_at (lexeme.Word w ∷ tokens) = Some (name.Word w, tokens)
+name_at (lexeme.Number n ∷ tokens) = Some (name.Number n, tokens)
+name_at tokens = None
+
+-- as many moves as stand there
+abbrev pub moves_at : List Lexeme → List Word × List Lexeme
+moves_at (lexeme.Mark mark.Dot ∷ lexeme.Word label ∷ tokens) = (label ∷ (moves_at tokens).0, (moves_at tokens).1)
+moves_at tokens = ([], tokens)
+
+abbrev pub term_at : Reader Term
+term_at (lexeme.Word first ∷ tokens) = Some (record { first = first; moves = (moves_at tokens).0 }, (moves_at tokens).1)
+term_at tokens = None
+
+abbrev pub side_at : Reader Side
+side_at (lexeme.Number n ∷ tokens) = Some (side.Number n, tokens)
+side_at tokens = do
+  t ← term_at tokens
+  Some (side.Term t.0, t.1)
+
+abbrev pub after_term : Term → Reader Atom
+after_term t (lexeme.Mark mark.Equal ∷ tokens) = do
+  s ← side_at tokens
+  Some (atom.Equal t s.0, s.1)
+after_term t (lexeme.Mark mark.NotEqual ∷ tokens) = do
+  s ← side_at tokens
+  Some (atom.NotEqual t s.0, s.1)
+after_term t (lexeme.Mark mark.Tilde ∷ tokens) = do
+  u ← term_at tokens
+  Some (atom.Adjacent t u.0, u.1)
+after_term t (lexeme.Mark mark.At ∷ tokens) = do
+  u ← term_at tokens
+  Some (atom.Same t u.0, u.1)
+after_term t (lexeme.Mark mark.Colon ∷ tokens) = do
+  n ← name_at tokens
+  Some (atom.AtNode t n.0, n.1)
+after_term t tokens = None
+
+abbrev pub atom_at : Reader Atom
+atom_at tokens = do
+  t ← term_at tokens
+  after_term t.0 t.1
+
+abbrev pub leaf_at : Reader Formula
+leaf_at tokens = do
+  a ← atom_at tokens
+  Some (roll-Formula (Formula-F.Atom a.0), a.1)
+
+abbrev pub balls_at : List Lexeme → List Ball × List Lexeme
+balls_at (lexeme.Word middle ∷ lexeme.Number radius ∷ tokens) = (record { middle = middle; radius = radius } ∷ (balls_at tokens).0, (balls_at tokens).1)
+balls_at tokens = ([], tokens)
+
+abbrev pub quantor_end : Word → List Ball → Reader (Word × List Ball)
+quantor_end variable [] tokens = None
+quantor_end variable (b ∷ bs) (lexeme.Mark mark.CloseList ∷ tokens) = Some ((variable, b ∷ bs), tokens)
+quantor_end variable (b ∷ bs) tokens = None
+
+-- the variable and the balls of a quantifier, behind its capital
+abbrev pub quantor_at : Reader (Word × List Ball)
+quantor_at (lexeme.Word variable ∷ lexeme.Mark mark.OpenList ∷ tokens) = quantor_end variable (balls_at tokens).0 (balls_at tokens).1
+quantor_at tokens = None

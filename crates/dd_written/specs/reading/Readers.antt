@@ -1,0 +1,37 @@
+-- Reading from left to right, one token ahead.
+use Rattle.std.specs.Prelude.{◌≡◌, ℕ, zero, suc, List, [], ◌∷◌, ◌++◌, Bool, Option, Some, None, Result, Ok, Err, if◌then◌else◌}
+use Rattle.dd_written.specs.declared.fault.ReadFault.{ReadFault}
+use Rattle.dd_written.specs.declared.fault.ReadFault.TheVariants as faults
+use Rattle.dd_written.specs.declared.lexeme.Lexeme.{Lexeme}
+
+-- What was read from the front, and what is left; or nothing, where nothing of this kind stands there.
+abbrev pub Reader : Type 0 → Type 0
+Reader X = List Lexeme → Option (X × List Lexeme)
+
+infixl 10 ◌>>=◌
+abbrev pub ◌>>=◌ : {A B : Type 0} → Option A → (A → Option B) → Option B
+(Some x) >>= f = f x
+None >>= f = None
+
+-- What a function returned, seen by view, is what reading gives, unless memory ran out.
+abbrev pub Fails : {Y : Type 0} → ReadFault → Option Y → Type 0
+Fails faults.Memory read = Unit {0}
+Fails faults.Syntax read = read ≡ None
+
+abbrev pub Gives : {X Y : Type 0} → (X → Y) → Result X ReadFault → Option Y → Type 0
+Gives view (Ok x) read = read ≡ Some (view x)
+Gives view (Err e) read = Fails e read
+
+-- at most n of a kind, each where its beginning stands
+abbrev pub many : {X : Type 0} → (List Lexeme → Bool) → Reader X → ℕ → Reader (List X)
+many begins item zero tokens = Some ([], tokens)
+many begins item (suc n) tokens = if begins tokens then (item tokens >>= λ x. many begins item n x.1 >>= λ m. Some (x.0 ∷ m.0, m.1)) else Some ([], tokens)
+
+-- what was read before, and what is read
+abbrev pub with_front : {X : Type 0} → List X → Option (List X × List Lexeme) → Option (List X × List Lexeme)
+with_front front read = read >>= λ x. Some (front ++ x.0, x.1)
+
+-- one behind the other, each from some tokens to what stands behind it
+abbrev pub ReadsAll : {X : Type 0} → (X → List Lexeme → List Lexeme → Type 0) → List X → List Lexeme → List Lexeme → Type 0
+ReadsAll reads [] tokens rest = tokens ≡ rest
+ReadsAll reads (x ∷ xs) tokens rest = (between : List Lexeme) × reads x tokens between × ReadsAll reads xs between rest

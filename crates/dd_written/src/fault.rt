@@ -1,0 +1,24 @@
+// Why nothing was read.
+ghost use Rattle.std.specs.Prelude.{◌≡◌};
+ghost use Rattle.dd_written.specs.declared.fault.ReadFault.TheVariants.{Memory};
+
+use std::alloc::AllocError;
+use thiserror::Error;
+
+/// Why nothing was read of the tokens.
+#[derive(Debug, Drop, Error)]
+pub enum ReadFault {
+    /// The tokens are no text of what was asked for.
+    #[error("not well formed")]
+    Syntax,
+    #[error("out of memory")]
+    Memory,
+}
+
+impl From<AllocError> for ReadFault {
+    ghost from_gives = { λ _ fault. fault ≡ Memory };
+
+    fn from(_error: AllocError) -> ReadFault {
+        ReadFault::Memory
+    }
+}

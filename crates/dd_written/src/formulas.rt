@@ -1,0 +1,438 @@
+// Formulas, read from left to right.
+ghost use Rattle.std.specs.Prelude.{◌≡◌, ◌+◌, ◌<◌, ◌≤◌, length, Some};
+ghost use Rattle.dd_written.specs.reading.Readers.{Gives, with_front};
+ghost use Rattle.dd_written.specs.reading.Atoms.{name_at, moves_at, term_at, side_at, after_term, atom_at, leaf_at, balls_at, quantor_end, quantor_at};
+ghost use Rattle.dd_written.specs.reading.Formulas.{begins, more_at, list_end, list_at, member_at, or_at, implies_end, implies_at, iff_end, iff_more, whole_at, not_at, quantified_at, group_end, group_at, nested_at, unary_at, formula_at};
+
+use crate::depth::capped_depth;
+use crate::fault::ReadFault;
+use crate::lexeme::{Lexeme, Mark, Word};
+use crate::tree::{Atom, Ball, Formula, Join, Name, Quantor, Side, Term};
+use dd_values::{Boxed, Items};
+use std::alloc::Global;
+
+/// The name at the front, and the tokens behind it.
+pub fn read_name(tokens: &[Lexeme]) -> Result<(Name, &[Lexeme]), ReadFault>
+    ensures { Gives (λ x. (x.0, x.1.now)) result (name_at tokens.now) }
+{
+    match tokens {
+        [Lexeme::Word(word), rest @ ..] => Ok((Name::Word(*word), rest)),
+        [Lexeme::Number(number), rest @ ..] => Ok((Name::Number(*number), rest)),
+        _ => Err(ReadFault::Syntax),
+    }
+}
+
+fn moves(alloc: Global, tokens: &[Lexeme]) -> Result<(Items<Word>, &[Lexeme]), ReadFault>
+    ensures { Gives (λ x. (x.0, x.1.now)) result (Some (moves_at tokens.now)) }
+{
+    let mut moves = Items::new(alloc);
+    let mut rest = tokens;
+    while let [Lexeme::Mark(Mark::Dot), Lexeme::Word(label), after @ ..] = rest {
+        moves.push(*label)?;
+        rest = after;
+    }
+    Ok((moves, rest))
+}
+
+fn term(alloc: Global, tokens: &[Lexeme]) -> Result<(Term, &[Lexeme]), ReadFault>
+    ensures { Gives (λ x. (x.0, x.1.now)) result (term_at tokens.now) }
+{
+    match tokens {
+        [Lexeme::Word(first), rest @ ..] => {
+            let (moves, rest) = moves(alloc, rest)?;
+            let term = Term {
+                first: *first,
+                moves,
+            };
+            Ok((term, rest))
+        }
+        _ => Err(ReadFault::Syntax),
+    }
+}
+
+fn side(alloc: Global, tokens: &[Lexeme]) -> Result<(Side, &[Lexeme]), ReadFault>
+    ensures { Gives (λ x. (x.0, x.1.now)) result (side_at tokens.now) }
+{
+    match tokens {
+        [Lexeme::Number(number), rest @ ..] => Ok((Side::Number(*number), rest)),
+        _ => {
+            let (term, rest) = term(alloc, tokens)?;
+            Ok((Side::Term(term), rest))
+        }
+    }
+}
+
+fn after_term(alloc: Global, term: Term, tokens: &[Lexeme]) -> Result<(Atom, &[Lexeme]), ReadFault>
+    ensures { Gives (λ x. (x.0, x.1.now)) result (after_term term tokens.now) }
+{
+    match tokens {
+        [Lexeme::Mark(Mark::Equal), rest @ ..] => {
+            let (side, rest) = side(alloc, rest)?;
+            Ok((Atom::Equal { term, side }, rest))
+        }
+        [Lexeme::Mark(Mark::NotEqual), rest @ ..] => {
+            let (side, rest) = side(alloc, rest)?;
+            Ok((Atom::NotEqual { term, side }, rest))
+        }
+        [Lexeme::Mark(Mark::Tilde), rest @ ..] => {
+            let (right, rest) = self::term(alloc, rest)?;
+            Ok((Atom::Adjacent { left: term, right }, rest))
+        }
+        [Lexeme::Mark(Mark::At), rest @ ..] => {
+            let (right, rest) = self::term(alloc, rest)?;
+            Ok((Atom::Same { left: term, right }, rest))
+        }
+        [Lexeme::Mark(Mark::Colon), rest @ ..] => {
+            let (node, rest) = read_name(rest)?;
+            Ok((Atom::AtNode { term, node }, rest))
+        }
+        _ => Err(ReadFault::Syntax),
+    }
+}
+
+fn atom(alloc: Global, tokens: &[Lexeme]) -> Result<(Atom, &[Lexeme]), ReadFault>
+    ensures { Gives (λ x. (x.0, x.1.now)) result (atom_at tokens.now) }
+{
+    let (term, rest) = term(alloc, tokens)?;
+    after_term(alloc, term, rest)
+}
+
+fn leaf(alloc: Global, tokens: &[Lexeme]) -> Result<(Formula, &[Lexeme]), ReadFault>
+    ensures { Gives (λ x. (x.0, x.1.now)) result (leaf_at tokens.now) }
+{
+    let (atom, rest) = atom(alloc, tokens)?;
+    Ok((Formula::Atom(atom), rest))
+}
+
+fn balls(alloc: Global, tokens: &[Lexeme]) -> Result<(Items<Ball>, &[Lexeme]), ReadFault>
+    ensures { Gives (λ x. (x.0, x.1.now)) result (Some (balls_at tokens.now)) }
+{
+    let mut balls = Items::new(alloc);
+    let mut rest = tokens;
+    while let [Lexeme::Word(middle), Lexeme::Number(radius), after @ ..] = rest {
+        balls.push(Ball {
+            middle: *middle,
+            radius: *radius,
+        })?;
+        rest = after;
+    }
+    Ok((balls, rest))
+}
+
+fn quantor_end(
+    variable: Word,
+    balls: Items<Ball>,
+    tokens: &[Lexeme],
+) -> Result<((Word, Items<Ball>), &[Lexeme]), ReadFault>
+    ensures { Gives (λ x. (x.0, x.1.now)) result (quantor_end variable balls tokens.now) }
+{
+    if balls.is_empty() {
+        return Err(ReadFault::Syntax);
+    }
+    match tokens {
+        [Lexeme::Mark(Mark::CloseList), rest @ ..] => Ok(((variable, balls), rest)),
+        _ => Err(ReadFault::Syntax),
+    }
+}
+
+/// The variable and the balls of a quantifier, behind its capital.
+fn quantor(alloc: Global, tokens: &[Lexeme]) -> Result<((Word, Items<Ball>), &[Lexeme]), ReadFault>
+    ensures { Gives (λ x. (x.0, x.1.now)) result (quantor_at tokens.now) }
+{
+    match tokens {
+        [
+            Lexeme::Word(variable),
+            Lexeme::Mark(Mark::OpenList),
+            rest @ ..,
+        ] => {
+            let (balls, rest) = balls(alloc, rest)?;
+            quantor_end(*variable, balls, rest)
+        }
+        _ => Err(ReadFault::Syntax),
+    }
+}
+
+fn begins(join: Join, tokens: &[Lexeme]) -> bool
+    ensures { result ≡ begins join tokens.now }
+{
+    match join {
+        Join::And => matches!(tokens, [Lexeme::Mark(Mark::And), ..]),
+        Join::Or => matches!(tokens, [Lexeme::Mark(Mark::Or), ..]),
+    }
+}
+
+/// A formula of the tightest place. The budget bounds how many stand in one another.
+#[cycle(read)]
+fn unary(alloc: Global, budget: u32, tokens: &[Lexeme]) -> Result<(Formula, &[Lexeme]), ReadFault>
+    requires { budget ≤ 64 }
+    ensures { Gives (λ x. (x.0, x.1.now)) result (unary_at budget tokens.now) }
+{
+    if budget == 0 {
+        return leaf(alloc, tokens);
+    }
+    nested(alloc, budget - 1, tokens)
+}
+
+#[cycle(read)]
+fn nested(alloc: Global, budget: u32, tokens: &[Lexeme]) -> Result<(Formula, &[Lexeme]), ReadFault>
+    requires { budget < 64 }
+    ensures { Gives (λ x. (x.0, x.1.now)) result (nested_at (unary_at budget) budget tokens.now) }
+{
+    match tokens {
+        [Lexeme::Mark(Mark::Not), rest @ ..] => negated(alloc, budget, rest),
+        [Lexeme::Mark(Mark::All), rest @ ..] => quantified(alloc, budget, Quantor::All, rest),
+        [Lexeme::Mark(Mark::Exists), rest @ ..] => quantified(alloc, budget, Quantor::Exists, rest),
+        [Lexeme::Mark(Mark::Open), rest @ ..] => group(alloc, budget, rest),
+        _ => leaf(alloc, tokens),
+    }
+}
+
+#[cycle(read)]
+fn negated(alloc: Global, budget: u32, tokens: &[Lexeme]) -> Result<(Formula, &[Lexeme]), ReadFault>
+    requires { budget < 64 }
+    ensures { Gives (λ x. (x.0, x.1.now)) result (not_at (unary_at budget) tokens.now) }
+{
+    let (negated, rest) = unary(alloc, budget, tokens)?;
+    Ok((Formula::Not(Boxed::new(alloc, negated)?), rest))
+}
+
+#[cycle(read)]
+fn quantified(
+    alloc: Global,
+    budget: u32,
+    quantor: Quantor,
+    tokens: &[Lexeme],
+) -> Result<(Formula, &[Lexeme]), ReadFault>
+    requires { budget < 64 }
+    ensures { Gives (λ x. (x.0, x.1.now)) result (quantified_at (unary_at budget) quantor tokens.now) }
+{
+    let ((variable, balls), rest) = self::quantor(alloc, tokens)?;
+    let (scope, rest) = unary(alloc, budget, rest)?;
+    let body = Boxed::new(alloc, scope)?;
+    Ok((
+        Formula::Quantified {
+            quantor,
+            variable,
+            balls,
+            body,
+        },
+        rest,
+    ))
+}
+
+fn group_end(
+    alloc: Global,
+    inner: Formula,
+    tokens: &[Lexeme],
+) -> Result<(Formula, &[Lexeme]), ReadFault>
+    ensures { Gives (λ x. (x.0, x.1.now)) result (group_end inner tokens.now) }
+{
+    match tokens {
+        [Lexeme::Mark(Mark::Close), rest @ ..] => {
+            Ok((Formula::Group(Boxed::new(alloc, inner)?), rest))
+        }
+        _ => Err(ReadFault::Syntax),
+    }
+}
+
+#[cycle(read)]
+fn group(alloc: Global, budget: u32, tokens: &[Lexeme]) -> Result<(Formula, &[Lexeme]), ReadFault>
+    requires { budget < 64 }
+    ensures { Gives (λ x. (x.0, x.1.now)) result (group_at (unary_at budget) budget tokens.now) }
+{
+    let (inner, rest) = whole(alloc, budget, tokens)?;
+    group_end(alloc, inner, rest)
+}
+
+/// A formula that may stand alone, as far as it goes, and the tokens behind it. The budget bounds how many of `!`, quantifiers
+/// and parentheses stand in one another, and how many arrows of a kind follow one another.
+#[cycle(read)]
+fn whole(alloc: Global, budget: u32, tokens: &[Lexeme]) -> Result<(Formula, &[Lexeme]), ReadFault>
+    requires { budget ≤ 64 }
+    ensures { Gives (λ x. (x.0, x.1.now)) result (whole_at (unary_at budget) budget tokens.now) }
+{
+    let (first, rest) = implication(alloc, budget, budget, tokens)?;
+    equivalence(alloc, budget, budget, first, rest)
+}
+
+/// What was read goes on by double arrows, as many as the limit allows.
+#[cycle(read)]
+fn equivalence(
+    alloc: Global,
+    budget: u32,
+    limit: u32,
+    first: Formula,
+    tokens: &[Lexeme],
+) -> Result<(Formula, &[Lexeme]), ReadFault>
+    requires few { budget ≤ 64 }
+    requires within { limit ≤ 64 }
+    ensures { Gives (λ x. (x.0, x.1.now)) result (iff_more (implies_at (or_at (unary_at budget)) budget) limit first tokens.now) }
+{
+    if limit == 0 {
+        return Ok((first, tokens));
+    }
+    equivalence_end(alloc, budget, limit - 1, first, tokens)
+}
+
+#[cycle(read)]
+fn equivalence_end(
+    alloc: Global,
+    budget: u32,
+    limit: u32,
+    left: Formula,
+    tokens: &[Lexeme],
+) -> Result<(Formula, &[Lexeme]), ReadFault>
+    requires few { budget ≤ 64 }
+    requires within { limit < 64 }
+    ensures { Gives (λ x. (x.0, x.1.now)) result (iff_end (implies_at (or_at (unary_at budget)) budget) (iff_more (implies_at (or_at (unary_at budget)) budget) limit) left tokens.now) }
+{
+    match tokens {
+        [Lexeme::Mark(Mark::BothWays), rest @ ..] => {
+            let (right, rest) = implication(alloc, budget, budget, rest)?;
+            let left = Boxed::new(alloc, left)?;
+            let right = Boxed::new(alloc, right)?;
+            equivalence(alloc, budget, limit, Formula::Iff { left, right }, rest)
+        }
+        _ => Ok((left, tokens)),
+    }
+}
+
+/// Members of an `|` list with at most so many arrows between them.
+#[cycle(read)]
+fn implication(
+    alloc: Global,
+    budget: u32,
+    limit: u32,
+    tokens: &[Lexeme],
+) -> Result<(Formula, &[Lexeme]), ReadFault>
+    requires few { budget ≤ 64 }
+    requires within { limit ≤ 64 }
+    ensures { Gives (λ x. (x.0, x.1.now)) result (implies_at (or_at (unary_at budget)) limit tokens.now) }
+{
+    let (premise, rest) = list(alloc, budget, Join::Or, tokens)?;
+    if limit == 0 {
+        return Ok((premise, rest));
+    }
+    implication_end(alloc, budget, limit - 1, premise, rest)
+}
+
+#[cycle(read)]
+fn implication_end(
+    alloc: Global,
+    budget: u32,
+    limit: u32,
+    premise: Formula,
+    tokens: &[Lexeme],
+) -> Result<(Formula, &[Lexeme]), ReadFault>
+    requires few { budget ≤ 64 }
+    requires within { limit < 64 }
+    ensures { Gives (λ x. (x.0, x.1.now)) result (implies_end premise (implies_at (or_at (unary_at budget)) limit) tokens.now) }
+{
+    match tokens {
+        [Lexeme::Mark(Mark::Arrow), rest @ ..] => {
+            let (conclusion, rest) = implication(alloc, budget, limit, rest)?;
+            let premise = Boxed::new(alloc, premise)?;
+            let conclusion = Boxed::new(alloc, conclusion)?;
+            let implied = Formula::Implies {
+                premise,
+                conclusion,
+            };
+            Ok((implied, rest))
+        }
+        _ => Ok((premise, tokens)),
+    }
+}
+
+/// A member of such a list: those of an `|` list are `&` lists.
+#[cycle(read)]
+fn member(
+    alloc: Global,
+    budget: u32,
+    join: Join,
+    tokens: &[Lexeme],
+) -> Result<(Formula, &[Lexeme]), ReadFault>
+    requires { budget ≤ 64 }
+    ensures { Gives (λ x. (x.0, x.1.now)) result (member_at join (unary_at budget) tokens.now) }
+{
+    match join {
+        Join::And => unary(alloc, budget, tokens),
+        Join::Or => list(alloc, budget, Join::And, tokens),
+    }
+}
+
+/// One member, or a list of two or more with the sign between them.
+#[cycle(read)]
+fn list(
+    alloc: Global,
+    budget: u32,
+    join: Join,
+    tokens: &[Lexeme],
+) -> Result<(Formula, &[Lexeme]), ReadFault>
+    requires { budget ≤ 64 }
+    ensures { Gives (λ x. (x.0, x.1.now)) result (list_at join (member_at join (unary_at budget)) tokens.now) }
+{
+    let (first, rest) = member(alloc, budget, join, tokens)?;
+    list_end(alloc, budget, join, first, rest)
+}
+
+#[cycle(read)]
+#[tactic(auto, using(crate::proofs::Rounds::lists))]
+fn list_end(
+    alloc: Global,
+    budget: u32,
+    join: Join,
+    first: Formula,
+    tokens: &[Lexeme],
+) -> Result<(Formula, &[Lexeme]), ReadFault>
+    requires { budget ≤ 64 }
+    ensures { Gives (λ x. (x.0, x.1.now)) result (list_end join (member_at join (unary_at budget)) first tokens.now) }
+{
+    if !begins(join, tokens) {
+        return Ok((first, tokens));
+    }
+    let mut front = Items::new(alloc);
+    front.push(first)?;
+    let (members, rest) = more_members(alloc, budget, join, front, tokens)?;
+    Ok((Formula::List { join, members }, rest))
+}
+
+#[cycle(read)]
+fn more_members(
+    alloc: Global,
+    budget: u32,
+    join: Join,
+    front: Items<Formula>,
+    tokens: &[Lexeme],
+) -> Result<(Items<Formula>, &[Lexeme]), ReadFault>
+    requires { budget ≤ 64 }
+    ensures { Gives (λ x. (x.0, x.1.now)) result (with_front front (more_at join (member_at join (unary_at budget)) (length tokens.now) tokens.now)) }
+{
+    let mut members = front;
+    let mut rest = tokens;
+    for _ in 0..tokens.len() {
+        if !begins(join, rest) {
+            return Ok((members, rest));
+        }
+        let (next, after) = member(alloc, budget, join, rest.split_at(1).1)?;
+        members.push(next)?;
+        rest = after;
+    }
+    Ok((members, rest))
+}
+
+/// The greatest depth of a formula.
+const MOST_DEEP: u32 = 64;
+
+/// A formula of a depth of at most 64 at the front, as far as it goes, and the tokens behind it.
+///
+/// # Errors
+/// No formula of such a depth stands there, or want of memory.
+pub fn read_formula(alloc: Global, tokens: &[Lexeme]) -> Result<(Formula, &[Lexeme]), ReadFault>
+    ensures { Gives (λ x. (x.0, x.1.now)) result (formula_at tokens.now) }
+{
+    let (formula, rest) = whole(alloc, MOST_DEEP, tokens)?;
+    if capped_depth(&formula) > MOST_DEEP {
+        return Err(ReadFault::Syntax);
+    }
+    Ok((formula, rest))
+}

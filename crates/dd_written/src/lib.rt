@@ -1,0 +1,21 @@
+//! The grammar of formulas: from bytes to tokens, and from tokens to formulas as they are written.
+#![tactic(auto)]
+
+mod depth;
+mod fault;
+mod formulas;
+mod laws;
+mod lexeme;
+mod lexing;
+mod text;
+mod tree;
+mod words;
+
+pub use fault::ReadFault;
+pub use formulas::{read_formula, read_name};
+pub use laws::{ascii_bytes, formula_is_read};
+pub use lexeme::{Lexeme, Mark, Number, Word};
+pub use lexing::lexemes;
+pub use text::{Text, name_text, number_value};
+pub use tree::{Atom, Ball, Formula, Join, Name, Quantor, Side, Term};
+pub use words::{behind_word, same_bytes, starts_word, word_bytes};

@@ -1,0 +1,100 @@
+//! The text of a script, in which names and numbers stand.
+ghost use Rattle.std.specs.Prelude.{◌≡◌, ◌≤◌, take, drop, length, min, IfOk};
+ghost use Rattle.std.specs.Str.{IsAscii};
+ghost use Rattle.dd_written.specs.Values.{name_text, decimal, unsigned, value};
+
+use crate::lexeme::Number;
+use crate::tree::Name;
+use crate::words::part;
+use dd_values::Items;
+use std::alloc::{AllocError, Global};
+use std::marker::Model;
+use std::str;
+
+/// The bytes of a script, all of them ASCII.
+#[derive(Debug, Drop)]
+pub struct Text {
+    bytes: Items<u8>,
+}
+
+impl Model for Text {
+    ghost use Rattle.std.specs.Prelude.{ℕ, List};
+    ghost use Rattle.std.specs.Str.{IsAscii};
+
+    ghost Value = { List ℕ };
+
+    ghost view = { λ text. text.bytes };
+
+    ghost invariant = { λ text. IsAscii text.bytes };
+}
+
+/// Bytes as a text.
+#[tactic(auto, using(crate::proofs::Ascii::ascii))]
+fn as_text(bytes: &[u8]) -> &str
+    requires { IsAscii bytes.now }
+    ensures { result.now ≡ bytes.now }
+{
+    match str::from_utf8(bytes) {
+        Ok(text) => text,
+        Err(_) => unreachable!(),
+    }
+}
+
+/// The digits of a number, without a hyphen before them.
+fn unsigned(written: &[u8]) -> &[u8]
+    ensures { result.now ≡ unsigned written.now }
+{
+    match written {
+        [b'-', digits @ ..] => digits,
+        _ => written,
+    }
+}
+
+/// The value of digits, and the greatest number of 32 bits for all that are greater.
+fn decimal(digits: &[u8]) -> u32
+    ensures { result ≡ min (decimal 0 digits.now) 4294967295 }
+{
+    let mut value: u32 = 0;
+    for digit in digits {
+        value = value
+            .saturating_mul(10)
+            .saturating_add(digit.saturating_sub(b'0') as u32);
+    }
+    value
+}
+
+impl Text {
+    /// The text of these bytes.
+    pub fn new(alloc: Global, bytes: &[u8]) -> Result<Text, AllocError>
+        requires { IsAscii bytes.now }
+        ensures { IfOk result (λ text. text ≡ bytes.now) }
+    {
+        let bytes = Items::from_slice(alloc, bytes)?;
+        Ok(Text { bytes })
+    }
+
+    /// So many bytes from a place on, as far as there are.
+    #[tactic(auto, using(crate::proofs::Ascii::ascii))]
+    pub fn part(&self, start: u32, length: u32) -> &str
+        ensures { result.now ≡ take length (drop start self.now) }
+    {
+        as_text(part(self.bytes.as_slice(), start, length))
+    }
+}
+
+/// The text of a name.
+pub fn name_text(text: &Text, name: Name) -> &str
+    ensures { result.now ≡ name_text text.now name }
+{
+    match name {
+        Name::Word(word) => text.part(word.start, word.length),
+        Name::Number(number) => text.part(number.start, number.length),
+    }
+}
+
+/// The absolute value of a number, and the greatest number of 32 bits for all that are greater.
+pub fn number_value(text: &Text, number: Number) -> u32
+    ensures { result ≡ min (value text.now number) 4294967295 }
+{
+    decimal(unsigned(part(text.bytes.as_slice(), number.start, number.length)))
+}

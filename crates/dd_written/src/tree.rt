@@ -1,0 +1,91 @@
+// Formulas as they are written.
+use crate::lexeme::{Number, Word};
+use dd_values::{Boxed, Items};
+
+/// A name: a word or a number.
+#[derive(Clone, Copy, Debug, PartialEq, Eq)]
+pub enum Name {
+    Word(Word),
+    Number(Number),
+}
+
+/// A variable and the moves from it, by their labels: `o.rt.up`.
+#[derive(Debug, Drop)]
+pub struct Term {
+    pub first: Word,
+    pub moves: Items<Word>,
+}
+
+/// What stands on the right of `=` and `!=`. A single word is a term without moves, though it may name a symbol.
+#[derive(Debug, Drop)]
+pub enum Side {
+    Term(Term),
+    Number(Number),
+}
+
+/// A formula without parts.
+#[derive(Debug, Drop)]
+pub enum Atom {
+    /// `term = side`
+    Equal { term: Term, side: Side },
+    /// `term != side`
+    NotEqual { term: Term, side: Side },
+    /// `left ~ right`
+    Adjacent { left: Term, right: Term },
+    /// `left @ right`
+    Same { left: Term, right: Term },
+    /// `term : node`
+    AtNode { term: Term, node: Name },
+}
+
+/// A ball of a quantifier: its middle and its radius.
+#[derive(Clone, Copy, Debug, PartialEq, Eq)]
+pub struct Ball {
+    pub middle: Word,
+    pub radius: Number,
+}
+
+/// Whether a quantifier speaks of all cells or of some.
+#[derive(Clone, Copy, Debug, PartialEq, Eq)]
+pub enum Quantor {
+    All,
+    Exists,
+}
+
+/// What joins the members of a list.
+#[derive(Clone, Copy, Debug, PartialEq, Eq)]
+pub enum Join {
+    And,
+    Or,
+}
+
+/// A formula as it is written, with its parentheses.
+#[derive(Debug, Drop)]
+pub enum Formula {
+    Atom(Atom),
+    Not(Boxed<Formula>),
+    Quantified {
+        quantor: Quantor,
+        variable: Word,
+        /// One or more.
+        balls: Items<Ball>,
+        body: Boxed<Formula>,
+    },
+    /// A formula in parentheses.
+    Group(Boxed<Formula>),
+    /// Two or more members with `&` or `|` between them.
+    List {
+        join: Join,
+        members: Items<Formula>,
+    },
+    /// `premise -> conclusion`, grouped to the right.
+    Implies {
+        premise: Boxed<Formula>,
+        conclusion: Boxed<Formula>,
+    },
+    /// `left <-> right`, grouped to the left.
+    Iff {
+        left: Boxed<Formula>,
+        right: Boxed<Formula>,
+    },
+}
