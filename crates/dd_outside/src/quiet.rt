@@ -1,5 +1,5 @@
 // A source and a sink that never fail.
-ghost use Rattle.std.specs.Prelude.{◌≡◌, ◌≤◌, None, Some, length, drop};
+ghost use Rattle.std.specs.Prelude.{◌≡◌, ◌<◌, ◌≤◌, None, Some, length, drop, IfOk};
 ghost use Rattle.dd_outside.specs.Bytes.{zero_fits};
 
 use crate::faults::Failed;
@@ -46,13 +46,23 @@ impl QuietSink {
 }
 
 impl Sink for QuietSink {
+    ghost use Rattle.std.specs.Io.{WritesAtMost};
+    ghost use Rattle.std.specs.Io.KnownBytes.{WriteAppends};
+    ghost use Rattle.dd_values.specs.Counts.{HasCause};
+
     ghost held = { λ _. None };
 
     ghost faults = { λ _. 0 };
 
     ghost fits = { λ _. zero_fits };
 
-    fn write(&mut self, piece: &[u8]) -> Result<usize, Failed> {
+    fn write(&mut self, piece: &[u8]) -> Result<usize, Failed>
+        ensures bound { WritesAtMost result piece.now }
+        ensures some { IfOk result (λ count. 0 < length piece.now → 0 < count) }
+        ensures bytes { WriteAppends None None result piece.now }
+        ensures cause { HasCause 0 0 result }
+        ensures whole { result ≡ Ok (length piece.now) }
+    {
         Ok(piece.len())
     }
 }

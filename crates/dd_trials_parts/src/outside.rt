@@ -1,4 +1,7 @@
-use dd_outside::{MemorySink, MemorySource, ReadAllFault, WriteFault, read_all, write_whole};
+use dd_outside::{
+    MemorySink, MemorySource, QuietSink, QuietSource, ReadAllFault, Sink, WriteFault, read_all,
+    write_whole,
+};
 use std::test::Fail;
 
 // The limit, the most bytes of a read, the read that fails, and what comes of the bytes `abcd`.
@@ -44,6 +47,23 @@ fn writes_up_to_a_fault(rt: HostRuntime) -> Result<(), Fail> {
         assert_eq!(rt; outcome, if held == 4 { Ok(()) } else { Err(WriteFault) });
         assert_eq!(rt; sink.held_bytes().len(), held);
         assert!(rt; b"abcd".starts_with(sink.held_bytes()));
+    }
+    Ok(())
+}
+
+// The quiet source gives all its bytes, and the quiet sink takes each piece whole.
+#[test]
+fn the_quiet_ones_never_fail(rt: HostRuntime) -> Result<(), Fail> {
+    let alloc = rt.alloc();
+    let mut sink = QuietSink::new();
+    for text in ["", "a", "abcd"] {
+        let mut source = QuietSource::new(Vec::from_slice(alloc, text.as_bytes())?);
+        match read_all(alloc, &mut source, 4) {
+            Ok(bytes) => assert_eq!(rt; bytes.as_slice(), text.as_bytes()),
+            Err(fault) => assert_eq!(rt; Err::<(), ReadAllFault>(fault), Ok(())),
+        }
+        assert_eq!(rt; sink.write(text.as_bytes()), Ok(text.len()));
+        assert_eq!(rt; write_whole(&mut sink, text.as_bytes()), Ok(()));
     }
     Ok(())
 }
