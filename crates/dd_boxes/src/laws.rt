@@ -1,13 +1,14 @@
 //! The law of one box.
+ghost use Rattle.std.specs.Prelude.{ℕ};
 ghost use Rattle.dd_boxes.specs.Laws.{OneBox};
 ghost use Rattle.dd_boxes.specs.Views.{goal_of};
 
 use crate::goals::Goal;
 use dd_formula::Rule;
 
-/// Does nothing; its contract is the law of the box of a radius: where no admissible filling of it has the goal at the
+/// Does nothing; its contract is the law of the box of each radius: where no admissible filling of it has the goal at the
 /// origin, no admissible filling of any domain has it round any position whose box it fills, and no configuration of the
 /// premise has it anywhere.
-pub fn one_box(_premise: &Rule, _goal: &Goal, _radius: u32)
-    ensures { OneBox _premise.now (goal_of _goal.now) _radius }
+pub fn one_box(_premise: &Rule, _goal: &Goal)
+    ensures { (radius : ℕ) → OneBox _premise.now (goal_of _goal.now) radius }
 {}

@@ -3,6 +3,8 @@
 
 mod goals;
 mod laws;
+mod limits;
 
 pub use goals::{Goal, least_radius};
 pub use laws::one_box;
+pub use limits::Limits;

@@ -18,7 +18,7 @@ use Rattle.dd_topology.specs.Builtin.{grid_of, square}
 use Rattle.dd_naming.specs.declared.setting.Setting.{Setting}
 use Rattle.dd_naming.specs.Texts.{name_text, number_in}
 use Rattle.dd_refusal.specs.declared.known.Known.{Known}
-use Rattle.dd_refusal.specs.declared.known.Limits.{Limits}
+use Rattle.dd_boxes.specs.declared.limits.Limits.{Limits}
 use Rattle.dd_header.specs.Offsets.{place_of}
 
 abbrev pub setting : List (List ℕ) → List (List ℕ) → Grid → Setting

@@ -4,8 +4,9 @@ ghost use Rattle.dd_header.specs.After.{start};
 ghost use Rattle.dd_header.specs.Sound.{IsSound};
 
 use crate::names::{zero, zero_and_one};
+use dd_boxes::Limits;
 use dd_naming::Setting;
-use dd_refusal::{Known, Limits};
+use dd_refusal::Known;
 use dd_topology::{Kind, Names, Topology};
 use dd_values::Items;
 use std::alloc::{AllocError, Global};

@@ -12,7 +12,8 @@ ghost use Rattle.dd_header.specs.Sound.{IsSound, IsFaultless};
 
 use crate::names::names_of;
 use crate::topologies::{default_topology, kind_names, kind_of, topology_by};
-use dd_refusal::{Known, Limits};
+use dd_boxes::Limits;
+use dd_refusal::Known;
 use dd_syntax::{Edge, Kind, Name, Number};
 use dd_topology::{Names, Topology};
 use dd_values::Items;

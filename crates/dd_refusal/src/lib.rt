@@ -10,7 +10,8 @@ mod sizes;
 mod twices;
 
 pub use accepting::accept;
-pub use known::{Known, Limits};
+pub use dd_boxes::Limits;
+pub use known::Known;
 pub use meaning::{CaseOf, Meaning};
 pub use misfits::period_at;
 pub use sizes::refuse_if;

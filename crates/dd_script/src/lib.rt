@@ -7,9 +7,9 @@ mod parsing;
 mod script;
 mod walking;
 
+pub use dd_boxes::Limits;
 pub use dd_naming::Limit;
 pub use dd_query::Query;
-pub use dd_refusal::Limits;
 pub use fault::{ScriptFault, ScriptKind};
 pub use laws::{one_refusal, one_script, spelled_or_refused};
 pub use parsing::parse;

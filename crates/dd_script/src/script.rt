@@ -1,9 +1,10 @@
 // Scripts.
+use dd_boxes::Limits;
 use dd_formula::{Automaton, Rule};
 use dd_lattice::Position;
 use dd_pattern::Periodic;
 use dd_query::Query;
-use dd_refusal::{Known, Limits};
+use dd_refusal::Known;
 use dd_topology::{Names, Topology};
 use dd_values::Items;
 use std::marker::Model;

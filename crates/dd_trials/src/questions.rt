@@ -36,7 +36,7 @@ fn goal_clauses(goal: &Goal) -> u32
 fn reaches(alloc: Global, premise: &Rule, goal: &Goal, radius: u32) -> Result<bool, AllocError>
     ensures { IfOk result (λ found. IsTrue found → Reaches (goal_of goal.now) radius) }
 {
-    one_box(premise, goal, radius);
+    one_box(premise, goal);
     Ok(least_radius(alloc, goal)? <= radius)
 }
 
