@@ -3,10 +3,12 @@
 
 mod answer;
 mod decimal;
+mod laws;
 mod refutation;
 #[cfg(test)]
 mod tests;
 mod writing;
 
 pub use answer::{Answer, Listed, Reason, Side};
+pub use laws::refutations_fit;
 pub use writing::{answer_line, write_answer};
