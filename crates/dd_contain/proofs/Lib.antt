@@ -2,3 +2,4 @@ pub mod OrderLaws
 pub mod CountLaws
 pub mod LimitLaws
 pub mod ShownLaws
+pub mod AnswerLaws

@@ -14,8 +14,9 @@ use Rattle.dd_boxes.proofs.ReachLaws.{box_from_within}
 use Rattle.dd_boxes.proofs.FromBox.{from_least}
 use Rattle.dd_contain.specs.declared.search.Periods.{Periods}
 use Rattle.dd_contain.specs.declared.decision.Decision.{Decision}
+use Rattle.dd_contain.specs.declared.decision.Decision.TheVariants.{Yes, No, Unknown}
 use Rattle.dd_contain.specs.Decided.{volume as product, IsDecidedBy, AsksRadii, AsksPeriods as AsksAllPeriods}
-use Rattle.dd_contain.specs.Questions.{AsksRadius, AsksPeriods, Refutes, ShowsAt, Displays, greatest_periods, IsSmallQuestion, IsDecided}
+use Rattle.dd_contain.specs.Questions.{AsksRadius, AsksPeriods, Refutes, RefutesByNumbers, ShowsAt, Displays, greatest_periods, IsSmallQuestion, IsDecided, HasNumbers}
 use Rattle.dd_contain.proofs.CountLaws.{fewer, volume_up, are_periods, torus_up}
 
 -- a rule reads nothing further than 16 away, so the least radius is at most 16
@@ -55,9 +56,28 @@ module _ (x : LocalRule) (g : GoalOf) (n p least : ℕ) (ok : IsGoalFor x g) (is
             fewer x g (c * b * a) (max greatest (product all)) (omega (arith, up)) (small least is));
       })
 
+  at_limits : (most : ℕ) (tops : Periods) → most ≡ max n least → tops ≡ greatest_periods x.dimension p → (decision : Decision) →
+      IsDecidedBy (Suffices x g) (RefutesByNumbers x g) (ShowsAt x g) (Displays x g) least most tops decision →
+      IsDecidedBy (Suffices x g) (RefutesByNumbers x g) (ShowsAt x g) (Displays x g) least (max n least) (greatest_periods x.dimension p) decision
+  at_limits most tops top all decision by =
+      subst (λ t. IsDecidedBy (Suffices x g) (RefutesByNumbers x g) (ShowsAt x g) (Displays x g) least (max n least) t decision) all
+      (subst (λ m. IsDecidedBy (Suffices x g) (RefutesByNumbers x g) (ShowsAt x g) (Displays x g) least m tops decision) top by)
+
+  -- what the search finds is the decision
+  found : (tops : Periods) (decision : Decision) → IsDecidedBy (Suffices x g) (RefutesByNumbers x g) (ShowsAt x g) (Displays x g) least (max n least) tops decision →
+      IsDecidedBy (Suffices x g) (Refutes x g) (ShowsAt x g) (Displays x g) least (max n least) tops decision
+  found tops (Yes m steps) by = (by.0, by.1.refuting)
+  found tops (No tile) by = by
+  found tops Unknown by = by
+
   pub decided : (most : ℕ) (tops : Periods) → most ≡ max n least → tops ≡ greatest_periods x.dimension p → (decision : Decision) →
-      IsDecidedBy (Suffices x g) (Refutes x g) (ShowsAt x g) (Displays x g) least most tops decision → IsDecided x g n p decision
+      IsDecidedBy (Suffices x g) (RefutesByNumbers x g) (ShowsAt x g) (Displays x g) least most tops decision → IsDecided x g n p decision
   decided most tops top all decision by =
-      let at_top : IsDecidedBy (Suffices x g) (Refutes x g) (ShowsAt x g) (Displays x g) least (max n least) tops decision =
-      subst (λ m. IsDecidedBy (Suffices x g) (Refutes x g) (ShowsAt x g) (Displays x g) least m tops decision) top by in
-      (least, is, subst (λ t. IsDecidedBy (Suffices x g) (Refutes x g) (ShowsAt x g) (Displays x g) least (max n least) t decision) all at_top)
+      (least, is, found (greatest_periods x.dimension p) decision (at_limits most tops top all decision by))
+
+-- and its evidence is numbered
+pub numbered : (x : LocalRule) (g : GoalOf) (least most : ℕ) (tops : Periods) (decision : Decision) →
+    IsDecidedBy (Suffices x g) (RefutesByNumbers x g) (ShowsAt x g) (Displays x g) least most tops decision → HasNumbers x g decision
+numbered x g least most tops (Yes m steps) by = by.1.numbered
+numbered x g least most tops (No tile) by = tt
+numbered x g least most tops Unknown by = tt

@@ -7,7 +7,8 @@ use Rattle.dd_contain.specs.declared.decision.Decision.TheVariants.{Yes, No, Unk
 use Rattle.dd_contain.specs.declared.equal.Side.TheVariants.{Left, Right}
 use Rattle.dd_contain.specs.declared.equal.Equality.{Equality}
 use Rattle.dd_contain.specs.declared.equal.Equality.TheVariants.{Yes as Same, No as Differ, Unknown as Open}
-use Rattle.dd_contain.specs.Questions.{IsDecided}
+use Rattle.dd_problem.specs.Problems.{box_problem}
+use Rattle.dd_contain.specs.Questions.{IsDecided, AreNumbered}
 
 -- two answers as one: NO left where the left one is NO, else NO right where the right one is, else YES where both are
 abbrev pub joined : Decision → Decision → Equality
@@ -33,3 +34,10 @@ pub record IsEqualDecided (x y : LocalRule) (n p : ℕ) (equality : Equality) : 
   pub left_decided : IsDecided x (breaks y) n p left
   pub right_decided : UnlessNo left (IsDecided y (breaks x) n p right)
   pub join : equality ≡ joined left right
+
+-- the evidence of a YES is numbered
+abbrev pub HasBothNumbers : LocalRule → LocalRule → Equality → Type 0
+HasBothNumbers x y (Same left right) =
+    AreNumbered (box_problem x (breaks y) left.radius) left.steps × AreNumbered (box_problem y (breaks x) right.radius) right.steps
+HasBothNumbers x y (Differ side tile) = Unit {0}
+HasBothNumbers x y Open = Unit {0}

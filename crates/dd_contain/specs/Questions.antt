@@ -1,8 +1,8 @@
 -- Box questions: which radii suffice, and which periods show the goal.
-use Rattle.std.specs.Prelude.{ℕ, ◌≡◌, ◌≤◌, true, cond, max, List, [], ◌∷◌}
+use Rattle.std.specs.Prelude.{ℕ, ◌≡◌, ◌≤◌, ◌+◌, ◌-◌, ◌^◌, true, cond, max, length, List, [], ◌∷◌}
 use Rattle.dd_derivation.specs.declared.step.Step.{Step}
 use Rattle.dd_derivation.specs.Derivations.{refutes}
-use Rattle.dd_certificate.specs.Bounds.{IsWritableRefutation}
+use Rattle.dd_clause.specs.Clauses.{ClauseList}
 use Rattle.dd_lattice.specs.Boxes.{is_active, centred, volume}
 use Rattle.dd_pattern.specs.Tile.{Tile, volume as tile_volume}
 use Rattle.dd_formula.specs.LocalRule.{LocalRule}
@@ -14,15 +14,25 @@ use Rattle.dd_boxes.specs.Counts.{question_clauses}
 use Rattle.dd_problem.specs.Layouts.{torus}
 use Rattle.dd_contain.specs.declared.search.Periods.{Periods}
 use Rattle.dd_contain.specs.declared.decision.Decision.{Decision}
+use Rattle.dd_contain.specs.declared.decision.Decision.TheVariants.{Yes, No, Unknown}
 use Rattle.dd_contain.specs.Decided.{periods, volume as product, IsDecidedBy}
 
 abbrev pub along_axes : Periods → List ℕ
 along_axes p = p.x ∷ p.y ∷ p.z ∷ []
 
--- the steps refute the clauses of the box, and an output can hold them
-pub record Refutes (x : LocalRule) (g : GoalOf) (n : ℕ) (steps : List Step) : Type 0 where
-  pub refuting : refutes (box_problem x g n).variables (box_problem x g n).clauses steps ≡ true
-  pub writable : IsWritableRefutation steps
+-- the steps refute the clauses of the box
+abbrev pub Refutes : LocalRule → GoalOf → ℕ → List Step → Type 0
+Refutes x g n steps = refutes (box_problem x g n).variables (box_problem x g n).clauses steps ≡ true
+
+-- the variables are at most 2^24, and the clauses and the steps after them have numbers of 64 bits
+pub record AreNumbered (clauses : ClauseList) (steps : List Step) : Type 0 where
+  pub variables : clauses.variables ≤ 2 ^ 24
+  pub numbers : length clauses.clauses + length steps ≤ 2 ^ 64 - 1
+
+-- both
+pub record RefutesByNumbers (x : LocalRule) (g : GoalOf) (n : ℕ) (steps : List Step) : Type 0 where
+  pub refuting : Refutes x g n steps
+  pub numbered : AreNumbered (box_problem x g n) steps
 
 -- the configuration has these periods, lives in the premise's subshift and has the goal at the origin
 abbrev pub Displays : LocalRule → GoalOf → Periods → Tile → Type 0
@@ -56,3 +66,9 @@ abbrev pub IsDecided : LocalRule → GoalOf → ℕ → ℕ → Decision → Typ
 IsDecided x g n p decision =
     (least : ℕ) × IsLeastRadius g least
     × IsDecidedBy (Suffices x g) (Refutes x g) (ShowsAt x g) (Displays x g) least (max n least) (greatest_periods x.dimension p) decision
+
+-- the evidence of a YES is numbered
+abbrev pub HasNumbers : LocalRule → GoalOf → Decision → Type 0
+HasNumbers x g (Yes n steps) = AreNumbered (box_problem x g n) steps
+HasNumbers x g (No tile) = Unit {0}
+HasNumbers x g Unknown = Unit {0}

@@ -3,14 +3,13 @@
 ghost use Rattle.std.specs.Prelude.{◌≡◌, ◌≤◌, IfOk};
 ghost use Rattle.dd_boxes.specs.Goals.{breaks, IsGoalFor};
 ghost use Rattle.dd_contain.specs.Questions.{IsSmallQuestion};
-ghost use Rattle.dd_contain.specs.Equal.{joined, IsEqualDecided};
+ghost use Rattle.dd_contain.specs.Equal.{joined, IsEqualDecided, HasBothNumbers};
 
 use crate::decision::{Decision, Enough};
 use crate::questions::decide;
-use dd_boxes::Goal;
+use dd_boxes::{Goal, Limits};
 use dd_formula::Rule;
 use dd_pattern::Periodic;
-use dd_refusal::Limits;
 use std::alloc::{AllocError, Global};
 
 /// Which of the two rules is the premise.
@@ -78,7 +77,8 @@ pub fn decide_equal(
     requires right_goal { IsGoalFor right.now (breaks left.now) }
     requires left_small { IsSmallQuestion left.now (breaks right.now) limits.now.radius limits.now.period }
     requires right_small { IsSmallQuestion right.now (breaks left.now) limits.now.radius limits.now.period }
-    ensures { IfOk result (IsEqualDecided left.now right.now limits.now.radius limits.now.period) }
+    ensures decided { IfOk result (IsEqualDecided left.now right.now limits.now.radius limits.now.period) }
+    ensures numbered { IfOk result (HasBothNumbers left.now right.now) }
 {
     match decide(alloc, left, &Goal::Breaks(right), limits)? {
         // The right answer would change nothing.

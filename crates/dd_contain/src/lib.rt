@@ -3,9 +3,11 @@
 
 mod decision;
 mod equal;
+mod laws;
 mod questions;
 mod search;
 
 pub use decision::{Decision, Enough};
 pub use equal::{Equality, Side, decide_equal};
+pub use laws::trichotomy;
 pub use questions::decide;

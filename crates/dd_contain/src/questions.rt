@@ -1,22 +1,20 @@
 //! The questions that the search asks of boxes and of periods.
-ghost use Rattle.std.specs.Prelude.{◌≡◌, ◌+◌, ◌≤◌, true, length, IfOk, IfSome};
+ghost use Rattle.std.specs.Prelude.{◌≡◌, ◌+◌, ◌-◌, ◌^◌, ◌≤◌, true, length, IfOk, IfSome};
 ghost use Rattle.dd_formula.specs.LocalRule.{IsRule};
 ghost use Rattle.dd_boxes.specs.Boxes.{Suffices};
 ghost use Rattle.dd_boxes.specs.Goals.{IsGoalFor};
 ghost use Rattle.dd_boxes.specs.Views.{goal_of};
-ghost use Rattle.dd_certificate.specs.Bounds.{most_count, IsWritableRefutation};
 ghost use Rattle.dd_derivation.specs.Derivations.{refutes};
-ghost use Rattle.dd_contain.specs.Questions.{Refutes, ShowsAt, Displays, AsksRadius, AsksPeriods, greatest_periods, IsSmallQuestion, IsDecided};
+ghost use Rattle.dd_contain.specs.Questions.{AreNumbered, RefutesByNumbers, ShowsAt, Displays, AsksRadius, AsksPeriods, greatest_periods, IsSmallQuestion, IsDecided, HasNumbers};
 
 use crate::decision::Decision;
 use crate::search::{Periods, Questions, search};
-use dd_boxes::{Goal, least_radius};
+use dd_boxes::{Goal, Limits, least_radius};
 use dd_clause::Cnf;
 use dd_derivation::{Outcome, Step};
 use dd_formula::Rule;
 use dd_pattern::Periodic;
 use dd_problem::{box_clauses, read_torus, torus_clauses};
-use dd_refusal::Limits;
 use dd_solver::{solve, trimmed};
 use dd_values::Items;
 use std::alloc::{AllocError, Global};
@@ -24,20 +22,20 @@ use std::alloc::{AllocError, Global};
 /// The number of the last step, where the clauses have the numbers from 1 on and the steps those after them.
 fn last_number(cnf: &Cnf, steps: &[Step]) -> u64
     ensures value { result ≡ length cnf.now.clauses + length steps.now }
-    ensures few { length cnf.now.clauses + length steps.now ≤ most_count }
+    ensures few { length cnf.now.clauses + length steps.now ≤ 2 ^ 64 - 1 }
 {
     let clauses = cnf.clauses();
     clauses.len() as u64 + steps.len() as u64
 }
 
-/// Of steps that refute the clauses, those that the refutation uses. An output can hold them.
+/// Of steps that refute the clauses, those that the refutation uses.
 fn evidence(alloc: Global, cnf: &Cnf, steps: Items<Step>) -> Result<Items<Step>, AllocError>
     requires { refutes cnf.now.variables cnf.now.clauses steps ≡ true }
     ensures refuting { IfOk result (λ used. refutes cnf.now.variables cnf.now.clauses used ≡ true) }
-    ensures writable { IfOk result IsWritableRefutation }
+    ensures numbered { IfOk result (AreNumbered cnf.now) }
 {
     let used = trimmed(alloc, cnf, steps)?;
-    // They name no greater variable, and no greater number of a clause.
+    // Read for their bounds alone.
     let _variable = cnf.variables();
     let _number = last_number(cnf, used.as_slice());
     Ok(used)
@@ -54,7 +52,7 @@ struct BoxQuestion<'a> {
 impl<'a> Questions for BoxQuestion<'a> {
     ghost suffices = { λ q n. Suffices q.premise.now (goal_of q.goal.now) n };
 
-    ghost refutes = { λ q n steps. Refutes q.premise.now (goal_of q.goal.now) n steps };
+    ghost refutes = { λ q n steps. RefutesByNumbers q.premise.now (goal_of q.goal.now) n steps };
 
     ghost shows = { λ q p. ShowsAt q.premise.now (goal_of q.goal.now) p };
 
@@ -114,7 +112,8 @@ pub fn decide(
     requires period { (1 ≤ limits.now.period) × (limits.now.period ≤ 8) }
     requires goal { IsGoalFor premise.now (goal_of goal.now) }
     requires small { IsSmallQuestion premise.now (goal_of goal.now) limits.now.radius limits.now.period }
-    ensures { IfOk result (IsDecided premise.now (goal_of goal.now) limits.now.radius limits.now.period) }
+    ensures decided { IfOk result (IsDecided premise.now (goal_of goal.now) limits.now.radius limits.now.period) }
+    ensures numbered { IfOk result (HasNumbers premise.now (goal_of goal.now)) }
 {
     let least = least_radius(alloc, goal)?;
     let most = limits.radius.max(least);

@@ -1,7 +1,7 @@
 use Rattle.std.proofs.Common.{◌≡◌, subst}
 use Rattle.std.proofs.lemmas.Result.{IfOk-weaker}
 use Rattle.dd_contain.specs.Equal.{IsEqualDecided}
-use Rattle.dd_refusal.specs.declared.known.Limits.{Limits}
+use Rattle.dd_boxes.specs.declared.limits.Limits.{Limits}
 use Rattle.dd_answer.specs.Right.{written_equality, IsRightEqual}
 use Rattle.dd_answer.proofs.boxes.compared.Goals as goal
 

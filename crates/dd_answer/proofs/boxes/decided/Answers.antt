@@ -2,7 +2,7 @@ use Rattle.std.proofs.Common.{◌≡◌, subst}
 use Rattle.std.proofs.lemmas.Result.{IfOk-weaker}
 use Rattle.dd_boxes.specs.Views.{goal_of}
 use Rattle.dd_contain.specs.Questions.{IsDecided}
-use Rattle.dd_refusal.specs.declared.known.Limits.{Limits}
+use Rattle.dd_boxes.specs.declared.limits.Limits.{Limits}
 use Rattle.dd_answer.specs.Right.{written_decision, IsRightBox}
 use Rattle.dd_answer.proofs.boxes.decided.Goals as goal
 

@@ -1,7 +1,10 @@
 use Rattle.std.proofs.Common.{rules}
 use Rattle.dd_contain.specs.declared.decision.Decision.{Decision}
 use Rattle.dd_contain.specs.declared.decision.Decision.TheVariants.{Yes, No, Unknown}
-use Rattle.dd_contain.specs.Equal.{UnlessNo}
+use Rattle.dd_formula.specs.LocalRule.{LocalRule}
+use Rattle.dd_boxes.specs.Goals.{breaks}
+use Rattle.dd_contain.specs.Questions.{HasNumbers}
+use Rattle.dd_contain.specs.Equal.{UnlessNo, joined, HasBothNumbers}
 use Rattle.dd_contain.proofs.equal.decide_equal.Goals as goal
 
 unless_no : (d : Decision) (P : Type 0) → P → UnlessNo d P
@@ -9,11 +12,27 @@ unless_no (No tile) P h = tt
 unless_no (Yes n steps) P h = h
 unless_no Unknown P h = h
 
-pub returns-in_ok-second-in_default : goal.returns-in_ok-second-in_default
-returns-in_ok-second-in_default c = record {
+pub returns-in_ok-second-in_default-clause-decided : goal.returns-in_ok-second-in_default-clause-decided
+returns-in_ok-second-in_default-clause-decided c = record {
   left = c.in_default.first;
   right = c.in_ok-second-in_default.second;
   left_decided = search rules;
-  right_decided = unless_no c.in_default.first _ c.in_ok-second-in_default.ensures;
+  right_decided = unless_no c.in_default.first _ c.in_ok-second-in_default.ensures.decided;
   join = search rules;
 }
+
+both_numbered : (x y : LocalRule) (left right : Decision) → HasNumbers x (breaks y) left → HasNumbers y (breaks x) right → HasBothNumbers x y (joined left right)
+both_numbered x y (No tile) right h k = tt
+both_numbered x y (Yes n steps) (No tile) h k = tt
+both_numbered x y Unknown (No tile) h k = tt
+both_numbered x y (Yes n steps) (Yes m others) h k = (h, k)
+both_numbered x y (Yes n steps) Unknown h k = tt
+both_numbered x y Unknown (Yes m others) h k = tt
+both_numbered x y Unknown Unknown h k = tt
+
+pub returns-in_ok-second-in_default-clause-numbered : goal.returns-in_ok-second-in_default-clause-numbered
+returns-in_ok-second-in_default-clause-numbered c =
+    let first : HasNumbers c.args.left.now (breaks c.args.right.now) c.in_default.first = search rules in
+    let both = both_numbered c.args.left.now c.args.right.now c.in_default.first c.in_ok-second-in_default.second
+    first c.in_ok-second-in_default.ensures.numbered in
+    search rules

@@ -4,8 +4,8 @@ use Rattle.std.proofs.lemmas.Result.{IfOk-weaker}
 use Rattle.dd_boxes.specs.Boxes.{Suffices}
 use Rattle.dd_boxes.specs.Views.{goal_of}
 use Rattle.dd_contain.specs.Decided.{IsDecidedBy}
-use Rattle.dd_contain.specs.Questions.{Refutes, ShowsAt, Displays, IsDecided}
-use Rattle.dd_contain.proofs.LimitLaws.{least_small, radii_asked, periods_asked, decided}
+use Rattle.dd_contain.specs.Questions.{RefutesByNumbers, ShowsAt, Displays, IsDecided, HasNumbers}
+use Rattle.dd_contain.proofs.LimitLaws.{least_small, radii_asked, periods_asked, decided, numbered}
 use Rattle.dd_contain.proofs.questions.decide.Goals as goal
 
 pub search-requires-clause-radius : goal.search-requires-clause-radius
@@ -25,13 +25,24 @@ search-requires-clause-periods c =
     periods_asked c.args.premise.now (goal_of c.args.goal.now) c.args.limits.now.radius c.args.limits.now.period c.in_ok-least.least c.requires.goal c.in_ok-least.ensures c.requires.small
     c.greatest_periods-tops.result c.greatest_periods-tops.ensures.value c.greatest_periods-tops.ensures.kept.dimension.0 c.requires.period.1
 
-pub returns : goal.returns
-returns c =
+pub returns-clause-decided : goal.returns-clause-decided
+returns-clause-decided c =
     let x = c.args.premise.now in
     let g = goal_of c.args.goal.now in
     let least = c.in_ok-least.least in
     let most = c.max-most.result in
     let tops = c.greatest_periods-tops.result in
     let top : c.max-most.result ≡ max c.args.limits.now.radius c.in_ok-least.least = search rules in
-    IfOk-weaker c.search.result (IsDecidedBy (Suffices x g) (Refutes x g) (ShowsAt x g) (Displays x g) least most tops) (IsDecided x g c.args.limits.now.radius c.args.limits.now.period)
+    IfOk-weaker c.search.result (IsDecidedBy (Suffices x g) (RefutesByNumbers x g) (ShowsAt x g) (Displays x g) least most tops)
+    (IsDecided x g c.args.limits.now.radius c.args.limits.now.period)
     (decided x g c.args.limits.now.radius c.args.limits.now.period least c.requires.goal c.in_ok-least.ensures c.requires.small most tops top c.greatest_periods-tops.ensures.value) c.search.ensures
+
+pub returns-clause-numbered : goal.returns-clause-numbered
+returns-clause-numbered c =
+    let x = c.args.premise.now in
+    let g = goal_of c.args.goal.now in
+    let least = c.in_ok-least.least in
+    let most = c.max-most.result in
+    let tops = c.greatest_periods-tops.result in
+    IfOk-weaker c.search.result (IsDecidedBy (Suffices x g) (RefutesByNumbers x g) (ShowsAt x g) (Displays x g) least most tops) (HasNumbers x g)
+    (numbered x g least most tops) c.search.ensures
