@@ -42,7 +42,7 @@ pub record Never (x : LocalRule) (g : GoalOf) (n : ℕ) : Type 0 where
 abbrev pub IsInNoConfiguration : LocalRule → GoalOf → Type 0
 IsInNoConfiguration x g = (look : Look) → IsConfiguration x look → Obeys x look → (v : Place) → is_flat x.dimension v ≡ true → HasGoal g look v → ⊥
 
--- nor does any periodic configuration that lives in the rule's subshift, of any periods
+-- nor does any periodic configuration that lives in the rule's subshift, of any periods and shear
 abbrev pub IsInNoTile : LocalRule → GoalOf → Type 0
 IsInNoTile x g = (t : Tile) → IsTile t → Fits x t → Lives x t → (v : Place) → is_flat x.dimension v ≡ true → HasGoal g (tile_look t) v → ⊥
 
