@@ -1,5 +1,5 @@
 -- The part of a filling that lies in a moved box.
-use Rattle.std.proofs.Common.{◌≡◌, ℕ, ◌<◌, ◌≤◌, Bool, true, false, refl, ap, sym, ◌∙◌, None, arith, ℤ, pos, ◌+ℤ◌}
+use Rattle.std.proofs.Common.{◌≡◌, ℕ, ◌≤◌, Bool, true, false, refl, ap, sym, ◌∙◌, None, arith, ℤ, pos, ◌+ℤ◌}
 use Rattle.std.specs.Prelude.{cond, ◌&&◌, ◌||◌, Option, is_some, IfSome, nat_lt, unsigned_abs}
 use Rattle.std.specs.Ordering.{int_eq}
 use Rattle.std.proofs.lemmas.Int.{ints}
@@ -9,10 +9,11 @@ use Rattle.dd_lattice.specs.Place.{Place, moved}
 use Rattle.dd_lattice.specs.Cells.{cell, shifted}
 use Rattle.dd_lattice.specs.Boxes.{is_active, spread}
 use Rattle.dd_lattice.specs.declared.position.Cell.{Cell}
-use Rattle.dd_pattern.specs.Reading.{Look, IsBelow}
+use Rattle.dd_pattern.specs.Reading.{Look}
 use Rattle.dd_expansion.specs.Placed.{is_flat}
-use Rattle.dd_formula.specs.LocalRule.{LocalRule, reads_at}
-use Rattle.dd_boxes.specs.Fillings.{fits, Admissible, is_up_to, in_box, is_box_cell, IsBoxFilling}
+use Rattle.dd_formula.specs.LocalRule.{LocalRule, rule_allows, reads_at}
+use Rattle.dd_formula.specs.Allowed.{AreAllowed}
+use Rattle.dd_boxes.specs.Fillings.{place_fits, Admissible, is_up_to, in_box, is_box_cell, IsBoxFilling}
 use Rattle.dd_boxes.specs.Boxes.{Covers}
 use Rattle.dd_boxes.proofs.RuleLaws.{from_place, shifted_twice, reads_given, keeps_at, list_all_weaker}
 
@@ -82,16 +83,16 @@ pub cond_domain : (b : Bool) (o : Option ℕ) → (b ≡ true → is_some o ≡ 
 cond_domain true o h = h refl
 cond_domain false o h = refl
 
-cond_symbols : (b : Bool) (o : Option ℕ) (n : ℕ) → IfSome o (λ s. s < n) → IfSome (cond b o None) (λ s. s < n)
-cond_symbols true o n h = h
-cond_symbols false o n h = tt
+cond_symbols : (P : ℕ → Type 0) (b : Bool) (o : Option ℕ) → IfSome o P → IfSome (cond b o None) P
+cond_symbols P true o h = h
+cond_symbols P false o h = tt
 
-pub cut_below : (x : LocalRule) (n m : ℕ) (look : Look) (v : Place) → IsBelow m look → IsBelow m (cut x n look v)
-cut_below x n m look v ok c = cond_symbols (is_box_cell x n c) (look (shifted v c)) m (ok (shifted v c))
+pub cut_allowed : (x : LocalRule) (n : ℕ) (look : Look) (v : Place) → AreAllowed x look → AreAllowed x (cut x n look v)
+cut_allowed x n look v ok c = cond_symbols (λ s. rule_allows x c.node s ≡ true) (is_box_cell x n c) (look (shifted v c)) (ok (shifted v c))
 
-pub cut_is_filling : (x : LocalRule) (n : ℕ) (look : Look) (v : Place) → IsBelow x.symbols look → Covers x n look v → IsBoxFilling x n (cut x n look v)
+pub cut_is_filling : (x : LocalRule) (n : ℕ) (look : Look) (v : Place) → AreAllowed x look → Covers x n look v → IsBoxFilling x n (cut x n look v)
 cut_is_filling x n look v ok covers =
-    record { domain = λ c. cond_domain (is_box_cell x n c) (look (shifted v c)) (covers c); symbols = cut_below x n x.symbols look v ok }
+    record { domain = λ c. cond_domain (is_box_cell x n c) (look (shifted v c)) (covers c); allowed = cut_allowed x n look v ok }
 
 -- counted from u in the cut, that is from u + v in the filling
 pub cut_near : (x : LocalRule) (n : ℕ) (look : Look) (u v : Place) (c : Cell) → is_some (from_place (cut x n look v) u c) ≡ true →
@@ -101,7 +102,7 @@ cut_near x n look u v c h = cut_agrees x n look v (shifted u c) h ∙ ap look (s
 cut_some : (x : LocalRule) (n : ℕ) (look : Look) (u v : Place) (c : Cell) → is_some (from_place (cut x n look v) u c) ≡ true → is_some (from_place look (moved u v) c) ≡ true
 cut_some x n look u v c h = ap is_some (sym (cut_near x n look u v c h)) ∙ h
 
-cut_fits : (x : LocalRule) (n : ℕ) (look : Look) (u v : Place) (a : ℕ) → fits x (cut x n look v) (cell u a) ≡ true → fits x look (cell (moved u v) a) ≡ true
+cut_fits : (x : LocalRule) (n : ℕ) (look : Look) (u v : Place) (a : ℕ) → place_fits x (cut x n look v) (cell u a) ≡ true → place_fits x look (cell (moved u v) a) ≡ true
 cut_fits x n look u v a h =
     let less = cut x n look v in
     let both = and_parts (is_some (less (cell u a))) (reads_given x less u a) h in

@@ -1,9 +1,8 @@
 -- What no admissible filling of one box has at the origin, no admissible filling has anywhere.
-use Rattle.std.proofs.Common.{◌≡◌, ℕ, ◌<◌, ◌≤◌, Bool, true, false, List, length, refl, ap, sym, ◌∙◌, Some, None}
-use Rattle.std.specs.Prelude.{cond, ◌&&◌, ◌||◌, Option, is_some, IfSome, nat_lt, slice_get}
-use Rattle.std.specs.List.{All}
+use Rattle.std.proofs.Common.{◌≡◌, ℕ, ◌<◌, ◌≤◌, Bool, true, false, length, refl, ap, sym, ◌∙◌}
+use Rattle.std.specs.Prelude.{◌&&◌, ◌||◌, is_some, nat_lt, slice_get}
 use Rattle.std.proofs.lemmas.Bool.{and_parts, lt-ltb, ltb-true}
-use Rattle.std.proofs.lemmas.Option.{slice_get-get_or, slice_get_within, get_or_from_slice_get}
+use Rattle.std.proofs.lemmas.Option.{slice_get-get_or}
 use Rattle.dd_lattice.specs.Place.{Place}
 use Rattle.dd_lattice.specs.Cells.{shifted}
 use Rattle.dd_lattice.specs.declared.position.Cell.{Cell}
@@ -12,6 +11,7 @@ use Rattle.dd_pattern.specs.Tile.{Tile, IsTile, tile_look, tile_index}
 use Rattle.dd_pattern.proofs.TileSizes.{index_below}
 use Rattle.dd_expansion.specs.Placed.{is_flat}
 use Rattle.dd_formula.specs.LocalRule.{LocalRule, reads_at}
+use Rattle.dd_formula.specs.Allowed.{HasAllowed}
 use Rattle.dd_formula.specs.Living.{Fits}
 use Rattle.dd_boxes.specs.Goals.{GoalOf, breaks, always, HasGoal, AreAlike, IsGoalFor}
 use Rattle.dd_boxes.specs.Fillings.{in_box, is_box_cell, IsConfiguration}
@@ -62,33 +62,23 @@ configuration_covers x n look v full flat c h =
 
 pub never_in_configuration : (x : LocalRule) (g : GoalOf) (n : ℕ) → Never x g n → IsInNoConfiguration x g
 never_in_configuration x g n never look full obeys v flat there =
-    never.nowhere look full.symbols (λ u a level node _. obeys u a level node) v flat (configuration_covers x n look v full flat) there
+    never.nowhere look full.allowed (λ u a level node _. obeys u a level node) v flat (configuration_covers x n look v full flat) there
 
 -- a periodic configuration is one
 look_is_some : (t : Tile) (c : Cell) → tile_index t c < length t.symbols → is_some (slice_get t.symbols (tile_index t c)) ≡ true
 look_is_some t c below = ap is_some (slice_get-get_or t.symbols (tile_index t c) 0 below)
 
-symbol_below : (n : ℕ) (ss : List ℕ) (i : ℕ) (o : Option ℕ) → All (λ s. s < n) ss → slice_get ss i ≡ o → IfSome o (λ s. s < n)
-symbol_below n ss i None all is = tt
-symbol_below n ss i (Some s) all is =
-    let at = get_or_from_slice_get ss i s s is in
-    rw at at (all i s (slice_get_within ss i s is))
-
-cond_below : (b : Bool) (o : Option ℕ) (n : ℕ) → IfSome o (λ s. s < n) → IfSome (cond b o None) (λ s. s < n)
-cond_below true o n h = h
-cond_below false o n h = tt
-
-pub tile_is_configuration : (x : LocalRule) (t : Tile) → IsTile t → Fits x t → IsConfiguration x (tile_look t)
-tile_is_configuration x t ok fit = record {
+pub tile_is_configuration : (x : LocalRule) (t : Tile) → IsTile t → Fits x t → HasAllowed x t → IsConfiguration x (tile_look t)
+tile_is_configuration x t ok fit allowed = record {
   everywhere = λ c flat node.
       (let below : c.node < t.nodes = rw fit.nodes node in
       rw (lt-ltb c.node t.nodes below) (look_is_some t c (index_below t ok c below)));
-  symbols = λ c. cond_below (nat_lt c.node t.nodes) (slice_get t.symbols (tile_index t c)) x.symbols (symbol_below x.symbols t.symbols (tile_index t c) _ fit.symbols refl);
+  allowed = allowed;
 }
 
 pub never_in_tile : (x : LocalRule) (g : GoalOf) (n : ℕ) → Never x g n → IsInNoTile x g
-never_in_tile x g n never t ok fit lives v flat there =
-    never_in_configuration x g n never (tile_look t) (tile_is_configuration x t ok fit) lives v flat there
+never_in_tile x g n never t ok fit allowed lives v flat there =
+    never_in_configuration x g n never (tile_look t) (tile_is_configuration x t ok fit allowed) lives v flat there
 
 pub holds_nowhere : (x : LocalRule) (g : GoalOf) (n : ℕ) → IsGoalFor x g → Reaches g n → Suffices x g n → HoldsNowhere x g n
 holds_nowhere x g n ok reach suffices =
@@ -102,7 +92,7 @@ reaches_more always n m le reach = tt
 
 pub suffices_more : (x : LocalRule) (g : GoalOf) (n m : ℕ) → IsGoalFor x g → Reaches g n → n ≤ m → Suffices x g n → Suffices x g m
 suffices_more x g n m ok reach le suffices look filling admissible there =
-    (never_from_box x g n ok reach suffices).nowhere look filling.symbols admissible origin (flat_origin (nat_lt 1 x.dimension) (nat_lt 2 x.dimension))
+    (never_from_box x g n ok reach suffices).nowhere look filling.allowed admissible origin (flat_origin (nat_lt 1 x.dimension) (nat_lt 2 x.dimension))
     (λ c h. ap (λ d. is_some (look d)) (shifted_by_origin c) ∙ (filling.domain c ∙ wider_box x n m c le h)) there
   where
     flat_origin : (y z : Bool) → ((y || true) && (z || true)) ≡ true

@@ -4,10 +4,11 @@ use Rattle.std.specs.List.{list_all}
 use Rattle.dd_lattice.specs.Place.{Place, place}
 use Rattle.dd_lattice.specs.Cells.{shifted}
 use Rattle.dd_lattice.specs.declared.position.Cell.{Cell}
-use Rattle.dd_pattern.specs.Reading.{Look, IsBelow}
+use Rattle.dd_pattern.specs.Reading.{Look}
 use Rattle.dd_pattern.specs.Tile.{Tile, IsTile, tile_look}
 use Rattle.dd_expansion.specs.Placed.{is_flat}
 use Rattle.dd_formula.specs.LocalRule.{LocalRule, reads_at}
+use Rattle.dd_formula.specs.Allowed.{AreAllowed, HasAllowed}
 use Rattle.dd_formula.specs.Living.{Fits, Obeys, Lives}
 use Rattle.dd_boxes.specs.Goals.{GoalOf, breaks, always, HasGoal}
 use Rattle.dd_boxes.specs.Fillings.{Admissible, is_box_cell, IsBoxFilling, IsConfiguration}
@@ -36,7 +37,7 @@ Covers x n look v = (c : Cell) → is_box_cell x n c ≡ true → is_some (look 
 -- round which it fills a box of radius n
 pub record Never (x : LocalRule) (g : GoalOf) (n : ℕ) : Type 0 where
   pub reaches : Reaches g n
-  pub nowhere : (look : Look) → IsBelow x.symbols look → Admissible x look → (v : Place) → is_flat x.dimension v ≡ true → Covers x n look v → HasGoal g look v → ⊥
+  pub nowhere : (look : Look) → AreAllowed x look → Admissible x look → (v : Place) → is_flat x.dimension v ≡ true → Covers x n look v → HasGoal g look v → ⊥
 
 -- no configuration that obeys the rule at every place of Z^d has the goal at any position of Z^d
 abbrev pub IsInNoConfiguration : LocalRule → GoalOf → Type 0
@@ -44,7 +45,7 @@ IsInNoConfiguration x g = (look : Look) → IsConfiguration x look → Obeys x l
 
 -- nor does any periodic configuration that lives in the rule's subshift, of any periods and shear
 abbrev pub IsInNoTile : LocalRule → GoalOf → Type 0
-IsInNoTile x g = (t : Tile) → IsTile t → Fits x t → Lives x t → (v : Place) → is_flat x.dimension v ≡ true → HasGoal g (tile_look t) v → ⊥
+IsInNoTile x g = (t : Tile) → IsTile t → Fits x t → HasAllowed x t → Lives x t → (v : Place) → is_flat x.dimension v ≡ true → HasGoal g (tile_look t) v → ⊥
 
 -- what a box that suffices shows
 pub record HoldsNowhere (x : LocalRule) (g : GoalOf) (n : ℕ) : Type 0 where

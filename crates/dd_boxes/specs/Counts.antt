@@ -1,6 +1,6 @@
 -- How many clauses a box question takes at most.
-use Rattle.std.specs.Prelude.{ℕ, ◌+◌, ◌*◌}
-use Rattle.dd_formula.specs.Counts.{place_clauses, broken_clauses}
+use Rattle.std.specs.Prelude.{ℕ}
+use Rattle.dd_formula.specs.Counts.{broken_clauses, region_clauses}
 use Rattle.dd_formula.specs.LocalRule.{LocalRule}
 use Rattle.dd_boxes.specs.Goals.{GoalOf, breaks, always}
 
@@ -11,4 +11,8 @@ goal_clauses always = 0
 
 -- the clauses of a question on so many positions
 abbrev pub question_clauses : LocalRule → GoalOf → ℕ → ℕ
-question_clauses x g positions = positions * place_clauses x + goal_clauses g
+question_clauses x g positions = region_clauses x (goal_clauses g) positions
+
+-- at most so many may be made
+abbrev pub most_clauses : ℕ
+most_clauses = 2000000

@@ -1,22 +1,24 @@
--- Fillings: symbols for the cells of a domain. A look is a filling of those cells to which it gives a symbol.
+-- Fillings: symbols for the cells of a domain, each one that the cell's node allows. A look is a filling of those cells to
+-- which it gives a symbol.
 use Rattle.std.specs.Prelude.{ℕ, ◌<◌, ◌≡◌, ◌&&◌, Bool, true, is_some, nat_lt, nat_le, ℤ, unsigned_abs}
 use Rattle.std.specs.List.{list_all}
 use Rattle.dd_lattice.specs.Place.{Place}
 use Rattle.dd_lattice.specs.Cells.{cell, shifted}
 use Rattle.dd_lattice.specs.Boxes.{is_active, spread}
 use Rattle.dd_lattice.specs.declared.position.Cell.{Cell}
-use Rattle.dd_pattern.specs.Reading.{Look, IsBelow}
+use Rattle.dd_pattern.specs.Reading.{Look}
 use Rattle.dd_expansion.specs.Placed.{is_flat}
 use Rattle.dd_formula.specs.LocalRule.{LocalRule, is_true, reads_at}
+use Rattle.dd_formula.specs.Allowed.{AreAllowed}
 
--- the cell, and each cell that the rule reads there, has a symbol
-abbrev pub fits : LocalRule → Look → Cell → Bool
-fits x look c = is_some (look c) && list_all (λ d. is_some (look (shifted c.position d))) (reads_at x c.node)
+-- the place fits: the cell, and each cell that the rule reads there, has a symbol
+abbrev pub place_fits : LocalRule → Look → Cell → Bool
+place_fits x look c = is_some (look c) && list_all (λ d. is_some (look (shifted c.position d))) (reads_at x c.node)
 
 -- the rule is true at each place of Z^d that fits
 abbrev pub Admissible : LocalRule → Look → Type 0
 Admissible x look =
-    (v : Place) (a : ℕ) → is_flat x.dimension v ≡ true → a < x.nodes → fits x look (cell v a) ≡ true → is_true x (cell v a) look ≡ true
+    (v : Place) (a : ℕ) → is_flat x.dimension v ≡ true → a < x.nodes → place_fits x look (cell v a) ≡ true → is_true x (cell v a) look ≡ true
 
 abbrev pub is_up_to : ℕ → ℤ → Bool
 is_up_to n c = nat_le (unsigned_abs c) n
@@ -30,12 +32,12 @@ in_box d n p =
 abbrev pub is_box_cell : LocalRule → ℕ → Cell → Bool
 is_box_cell x n c = in_box x.dimension n c.position && nat_lt c.node x.nodes
 
--- exactly the cells of B(n) have symbols
+-- exactly the cells of B(n) have symbols, allowed ones
 pub record IsBoxFilling (x : LocalRule) (n : ℕ) (look : Look) : Type 0 where
   pub domain : (c : Cell) → is_some (look c) ≡ is_box_cell x n c
-  pub symbols : IsBelow x.symbols look
+  pub allowed : AreAllowed x look
 
--- each cell of Z^d has a symbol
+-- each cell of Z^d has a symbol, one that its node allows
 pub record IsConfiguration (x : LocalRule) (look : Look) : Type 0 where
   pub everywhere : (c : Cell) → is_flat x.dimension c.position ≡ true → c.node < x.nodes → is_some (look c) ≡ true
-  pub symbols : IsBelow x.symbols look
+  pub allowed : AreAllowed x look

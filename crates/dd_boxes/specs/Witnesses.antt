@@ -5,6 +5,7 @@ use Rattle.dd_pattern.specs.declared.periods.Periods.{Periods}
 use Rattle.dd_pattern.specs.Periods.{AreWithin}
 use Rattle.dd_pattern.specs.Tile.{Tile, IsTile, tile_look}
 use Rattle.dd_formula.specs.LocalRule.{LocalRule}
+use Rattle.dd_formula.specs.Allowed.{HasAllowed}
 use Rattle.dd_formula.specs.Living.{Fits, Lives}
 use Rattle.dd_boxes.specs.Goals.{GoalOf, HasGoal}
 use Rattle.dd_boxes.specs.Fillings.{Admissible, IsBoxFilling}
@@ -16,10 +17,11 @@ pub record IsBoxWitness (x : LocalRule) (g : GoalOf) (n : ℕ) (look : Look) : T
   pub admissible : Admissible x look
   pub goal : HasGoal g look origin
 
--- a periodic configuration that lives in the rule's subshift and has the goal at the origin
+-- a periodic configuration of allowed symbols that lives in the rule's subshift and has the goal at the origin
 pub record IsWitness (x : LocalRule) (g : GoalOf) (t : Tile) : Type 0 where
   pub tile : IsTile t
   pub fits : Fits x t
+  pub allowed : HasAllowed x t
   pub lives : Lives x t
   pub goal : HasGoal g (tile_look t) origin
 
