@@ -1,3 +1,4 @@
 pub mod SizeLaws
 pub mod PartLaws
 pub mod WritableLaws
+pub mod AgreeLaws

@@ -1,1 +1,5 @@
+-- which answers are right, and what all right answers to a query have in common
 pub mod Right
+pub mod Laws
+-- which decisions an output can hold
+pub mod Writable

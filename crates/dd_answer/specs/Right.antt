@@ -60,7 +60,7 @@ abbrev pub written_periods : Tile → List ℕ
 written_periods t = take t.dimension (t.along_x ∷ t.along_y ∷ t.along_z ∷ [])
 
 abbrev pub written_no : Side → Tile → Answer
-written_no s t = answer.No s (written_periods t) t.symbols
+written_no s t = answer.No s (written_periods t) 0 t.symbols
 
 abbrev pub written_decision : Decision → Answer
 written_decision (decision.Yes n steps) = answer.Yes n steps
@@ -86,6 +86,11 @@ pub record IsRightEqual (s : Parts) (x y : LocalRule) (a : Answer) : Type 0 wher
   pub equality : Equality
   pub decided : IsEqualDecided x y s.known.limits.radius s.known.limits.period equality
   pub written : a ≡ written_equality equality
+
+-- no definite answer: a stated limit was met
+abbrev pub is_unknown : Answer → Bool
+is_unknown (answer.Unknown reason) = true
+is_unknown a = false
 
 -- ---- all queries
 

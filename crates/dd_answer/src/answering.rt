@@ -29,7 +29,8 @@ fn member(
     rule: u32,
 ) -> Result<Answer, AllocError>
     requires { Contains script.now.queries (query.Member configuration rule) }
-    ensures { IfOk result (Right script.now (query.Member configuration rule)) }
+    ensures right { IfOk result (Right script.now (query.Member configuration rule)) }
+    ensures writable { IfOk result IsWritable }
 {
     let rules = script.rules();
     let configurations = script.configurations();
@@ -42,7 +43,8 @@ fn member(
 
 fn contains(alloc: Global, script: &Script, outer: u32, inner: u32) -> Result<Answer, AllocError>
     requires { Contains script.now.queries (query.Contains outer inner) }
-    ensures { IfOk result (Right script.now (query.Contains outer inner)) }
+    ensures right { IfOk result (Right script.now (query.Contains outer inner)) }
+    ensures writable { IfOk result IsWritable }
 {
     let rules = script.rules();
     let goal = Goal::Breaks(&rules[outer as usize]);
@@ -51,7 +53,8 @@ fn contains(alloc: Global, script: &Script, outer: u32, inner: u32) -> Result<An
 
 fn equal(alloc: Global, script: &Script, left: u32, right: u32) -> Result<Answer, AllocError>
     requires { Contains script.now.queries (query.Equal left right) }
-    ensures { IfOk result (Right script.now (query.Equal left right)) }
+    ensures right { IfOk result (Right script.now (query.Equal left right)) }
+    ensures writable { IfOk result IsWritable }
 {
     let rules = script.rules();
     compared(alloc, script, &rules[left as usize], &rules[right as usize])
@@ -59,16 +62,19 @@ fn equal(alloc: Global, script: &Script, left: u32, right: u32) -> Result<Answer
 
 fn empty(alloc: Global, script: &Script, rule: u32) -> Result<Answer, AllocError>
     requires { Contains script.now.queries (query.Empty rule) }
-    ensures { IfOk result (Right script.now (query.Empty rule)) }
+    ensures right { IfOk result (Right script.now (query.Empty rule)) }
+    ensures writable { IfOk result IsWritable }
 {
     let rules = script.rules();
     decided(alloc, script, &rules[rule as usize], &Goal::Always)
 }
 
-fn right_answer(alloc: Global, script: &Script, query: &Query) -> Result<Answer, AllocError>
+/// The right answer to a query of a script, with each number and each list within the bounds of an output.
+pub fn answer(alloc: Global, script: &Script, query: &Query) -> Result<Answer, AllocError>
     requires asked { Contains script.now.queries query.now }
     requires answered { is_answered query.now ≡ true }
-    ensures { IfOk result (Right script.now query.now) }
+    ensures right { IfOk result (Right script.now query.now) }
+    ensures writable { IfOk result IsWritable }
 {
     match query {
         Query::Member {
@@ -80,16 +86,4 @@ fn right_answer(alloc: Global, script: &Script, query: &Query) -> Result<Answer,
         Query::Empty { rule } => empty(alloc, script, *rule),
         _ => unreachable!(),
     }
-}
-
-/// The right answer to a query of a script, with each number and each list within the bounds of an output.
-pub fn answer(alloc: Global, script: &Script, query: &Query) -> Result<Answer, AllocError>
-    requires asked { Contains script.now.queries query.now }
-    requires answered { is_answered query.now ≡ true }
-    ensures right { IfOk result (Right script.now query.now) }
-    ensures writable { IfOk result IsWritable }
-{
-    // What a script keeps bounds the answer.
-    let _limits = script.limits();
-    right_answer(alloc, script, query)
 }

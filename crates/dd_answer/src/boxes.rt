@@ -1,12 +1,14 @@
 //! Answers to box questions.
-ghost use Rattle.std.specs.Prelude.{◌≡◌, ◌≤◌, IfOk};
+ghost use Rattle.std.specs.Prelude.{◌≡◌, ◌≤◌, All, IfOk};
 ghost use Rattle.dd_boxes.specs.Goals.{IsGoalFor, breaks};
 ghost use Rattle.dd_boxes.specs.Views.{goal_of};
 ghost use Rattle.dd_contain.specs.Questions.{IsSmallQuestion};
+ghost use Rattle.dd_certificate.specs.Bounds.{IsWritable, IsWritableNumber};
+ghost use Rattle.dd_answer.specs.Writable.{IsWritableDecision, IsWritableEquality};
 ghost use Rattle.dd_answer.specs.Right.{side_of, written_no, written_decision, written_equality, IsRightBox, IsRightEqual};
 
 use dd_boxes::Goal;
-use dd_certificate::{Answer, Reason, Side};
+use dd_certificate::{Answer, Reason, Side, refutations_fit};
 use dd_contain::{Decision, Equality, Side as Half, decide, decide_equal};
 use dd_formula::Rule;
 use dd_pattern::Periodic;
@@ -16,7 +18,8 @@ use std::alloc::{AllocError, Global};
 
 /// The same numbers, as the answer has them.
 fn widened(alloc: Global, numbers: &[u32]) -> Result<Items<u64>, AllocError>
-    ensures { IfOk result (λ wide. wide ≡ numbers.now) }
+    ensures same { IfOk result (λ wide. wide ≡ numbers.now) }
+    ensures writable { IfOk result (All IsWritableNumber) }
 {
     let wide: Vec<u64> = numbers.iter().map(|n| u64::from(*n)).collect(alloc)?;
     Ok(Items::from_vec(wide))
@@ -24,7 +27,8 @@ fn widened(alloc: Global, numbers: &[u32]) -> Result<Items<u64>, AllocError>
 
 /// NO, by a configuration: its periods along the axes that there are, and its symbols.
 fn written_no(alloc: Global, side: Side, periodic: &Periodic) -> Result<Answer, AllocError>
-    ensures { IfOk result (λ answer. answer ≡ written_no side periodic.now) }
+    ensures same { IfOk result (λ answer. answer ≡ written_no side periodic.now) }
+    ensures writable { IfOk result IsWritable }
 {
     let symbols = widened(alloc, periodic.symbols())?;
     let all = periodic.periods();
@@ -32,12 +36,15 @@ fn written_no(alloc: Global, side: Side, periodic: &Periodic) -> Result<Answer, 
     Ok(Answer::No {
         side,
         periods,
+        shear: 0,
         symbols,
     })
 }
 
 fn written_decision(alloc: Global, decision: Decision) -> Result<Answer, AllocError>
-    ensures { IfOk result (λ answer. answer ≡ written_decision decision) }
+    requires { IsWritableDecision decision }
+    ensures same { IfOk result (λ answer. answer ≡ written_decision decision) }
+    ensures writable { IfOk result IsWritable }
 {
     match decision {
         Decision::Yes { radius, steps } => Ok(Answer::Yes {
@@ -61,7 +68,9 @@ fn side_of(half: Half) -> Side
 }
 
 fn written_equality(alloc: Global, equality: Equality) -> Result<Answer, AllocError>
-    ensures { IfOk result (λ answer. answer ≡ written_equality equality) }
+    requires { IsWritableEquality equality }
+    ensures same { IfOk result (λ answer. answer ≡ written_equality equality) }
+    ensures writable { IfOk result IsWritable }
 {
     match equality {
         Equality::Yes { left, right } => Ok(Answer::YesBoth {
@@ -86,9 +95,11 @@ pub(crate) fn decided(
 ) -> Result<Answer, AllocError>
     requires goal { IsGoalFor premise.now (goal_of goal.now) }
     requires small { let limits = script.now.known.limits in IsSmallQuestion premise.now (goal_of goal.now) limits.radius limits.period }
-    ensures { IfOk result (IsRightBox script.now premise.now (goal_of goal.now)) }
+    ensures right { IfOk result (IsRightBox script.now premise.now (goal_of goal.now)) }
+    ensures writable { IfOk result IsWritable }
 {
     let limits = script.limits();
+    refutations_fit();
     let decision = decide(alloc, premise, goal, limits)?;
     written_decision(alloc, decision)
 }
@@ -104,9 +115,11 @@ pub(crate) fn compared(
     requires right_goal { IsGoalFor right.now (breaks left.now) }
     requires left_small { let limits = script.now.known.limits in IsSmallQuestion left.now (breaks right.now) limits.radius limits.period }
     requires right_small { let limits = script.now.known.limits in IsSmallQuestion right.now (breaks left.now) limits.radius limits.period }
-    ensures { IfOk result (IsRightEqual script.now left.now right.now) }
+    ensures right { IfOk result (IsRightEqual script.now left.now right.now) }
+    ensures writable { IfOk result IsWritable }
 {
     let limits = script.limits();
+    refutations_fit();
     let equality = decide_equal(alloc, left, right, limits)?;
     written_equality(alloc, equality)
 }

@@ -1,6 +1,7 @@
 //! Answers to queries of membership.
 ghost use Rattle.std.specs.Prelude.{◌≡◌, ◌≤◌, IfOk};
 ghost use Rattle.dd_formula.specs.Living.{Fits};
+ghost use Rattle.dd_certificate.specs.Bounds.{IsWritable};
 ghost use Rattle.dd_answer.specs.Right.{written_cell, IsRightMember};
 
 use dd_certificate::Answer;
@@ -29,12 +30,15 @@ fn written_cell(alloc: Global, dim: u32, cell: &Cell) -> Result<Items<i64>, Allo
 /// Whether a configuration lives in a rule's subshift; otherwise the first cell at which the rule is false.
 pub(crate) fn member(alloc: Global, rule: &Rule, periodic: &Periodic) -> Result<Answer, AllocError>
     requires { Fits rule.now periodic.now }
-    ensures { IfOk result (IsRightMember rule.now periodic.now) }
+    ensures right { IfOk result (IsRightMember rule.now periodic.now) }
+    ensures writable { IfOk result IsWritable }
 {
     match rule.member(periodic) {
         Membership::Inside => Ok(Answer::Inside),
         Membership::Outside(cell) => {
+            // Read for what their types keep.
             let _nodes = rule.nodes();
+            let _symbols = periodic.symbols();
             let place = written_cell(alloc, rule.dim(), &cell)?;
             Ok(Answer::Outside { place })
         }

@@ -14,7 +14,7 @@ use std::alloc::AllocError;
 
 /// The periods along the three axes.
 #[derive(Debug, Clone, Copy, PartialEq, Eq)]
-pub(crate) struct Periods {
+pub struct Periods {
     pub x: u32,
     pub y: u32,
     pub z: u32,

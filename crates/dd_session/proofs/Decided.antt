@@ -1,13 +1,15 @@
 -- What the bytes of a source decide.
-use Rattle.std.proofs.Common.{◌≡◌, ◌⊎◌, inl, inr, ℕ, suc, ◌≤◌, List, Bool, true, false, ◌++◌, None, Some, sym, ◌∙◌, ap, subst, length, arith, append-nil, length-append}
+use Rattle.std.proofs.Common.{◌≡◌, ◌≢◌, inl, inr, ℕ, suc, ◌+◌, ◌≤◌, List, [], Bool, refl, true, false, ◌++◌, None, Some, sym, ◌∙◌, ap, subst, length, arith, append-nil, length-append}
+use Rattle.std.proofs.KnownBytes.{Consumes-nil}
 use Rattle.std.specs.declared.option.Option.{Option}
-use Rattle.dd_outside.specs.Bytes.{ReadToEnd, GivesMore}
+use Rattle.dd_outside.specs.Bytes.{ReadToEnd, GivesMore, GivesAtMost}
 use Rattle.dd_script.specs.Parts.{Parts}
-use Rattle.dd_script.proofs.ScriptLaws.{one_script, never_both}
+use Rattle.dd_script.specs.Scripts.{Spells, RefusedAs, Kind}
 use Rattle.dd_session.specs.declared.status.Status.{Status}
-use Rattle.dd_session.specs.declared.status.Status.TheVariants.{Definite, SomeUnknown, Refused}
+use Rattle.dd_session.specs.declared.status.Status.TheVariants.{Definite, SomeUnknown, Refused, ReadFault, WriteFault, Memory, BadWords, Rejected}
 use Rattle.dd_session.specs.Answers.{are_answered}
-use Rattle.dd_session.specs.Runs.{IsAccepted, IsRunnable, Decides, RanWhole, RanShort, RefusedWhole, RefusedShort, ShortRun, WholeRefusal, ShortRefusal, IsRefused, IsRefusedBy, too_long, no_run, no_script, not_answered, most_bytes}
+use Rattle.dd_session.specs.Output.{long_line}
+use Rattle.dd_session.specs.Runs.{Told, RefusedBy, RanOver, Ended, IsAccepted, IsAcceptedAs, IsRunnable, Decides, RanWhole, RefusedWhole, IsRefused, IsRefusedBy, too_long, no_run, no_script, not_answered, most_bytes}
 
 -- What was read to the end is what was told.
 told_bytes : (bytes given : List ℕ) (left : Option (List ℕ)) → ReadToEnd (Some bytes) left given → bytes ≡ given
@@ -18,59 +20,99 @@ told_more : (bytes : List ℕ) (left : Option (List ℕ)) (limit : ℕ) → Give
 told_more bytes None limit more = absurd more.consumed
 told_more bytes (Some rest) limit more = omega (arith, ap length more.consumed, length-append more.given rest, more.many)
 
-refused_not_runnable : (bytes line : List ℕ) (s : Parts) → IsRefusedBy bytes line → ¬ IsRunnable bytes s
-refused_not_runnable bytes line s (no_script n k refused is) runnable = never_both bytes s n k runnable.spelled refused
-refused_not_runnable bytes line s (not_answered t spelled none is) runnable =
-    let same : s ≡ t = one_script bytes s t runnable.spelled spelled in
-    let both : true ≡ false = sym runnable.answered ∙ ap are_answered same ∙ none in
-    absurd (cc both)
+-- bytes spell one script at most, and are not refused then
+abbrev OneScript : Type 0
+OneScript = (bytes : List ℕ) (s t : Parts) → Spells bytes s → Spells bytes t → s ≡ t
 
-not_accepted : (bytes line : List ℕ) (left : Option (List ℕ)) → IsRefused (Some bytes) left line → ¬ IsAccepted bytes
-not_accepted bytes line left (too_long more is) accepted = absurd (omega (arith, told_more bytes left most_bytes more, accepted.short))
-not_accepted bytes line left (no_run given to_end short refused) accepted =
-    refused_not_runnable bytes line accepted.script
-    (subst (λ (l : List ℕ). IsRefusedBy l line) (sym (told_bytes bytes given left to_end)) refused) accepted.runnable
+abbrev NeverBoth : Type 0
+NeverBoth = (bytes : List ℕ) (s : Parts) (n : ℕ) (k : Kind) → Spells bytes s → RefusedAs bytes n k → ⊥
 
-ran_accepted : (bytes : List ℕ) (left held_old held_new : Option (List ℕ)) (has : Bool)
-    → RanWhole (Some bytes) left held_old held_new has → IsAccepted bytes
-ran_accepted bytes left held_old held_new has ran =
-    let same : bytes ≡ ran.bytes = told_bytes bytes ran.bytes left ran.read in record {
-      short = rw same ran.short;
-      script = ran.run.script;
-      runnable = subst (λ (l : List ℕ). IsRunnable l ran.run.script) (sym same) ran.run.runnable;
-    }
+module _ (one_script : OneScript) (never_both : NeverBoth) where
+  refused_not_runnable : (bytes line : List ℕ) (s : Parts) → IsRefusedBy bytes line → ¬ IsRunnable bytes s
+  refused_not_runnable bytes line s (no_script n k refused is) runnable = never_both bytes s n k runnable.spelled refused
+  refused_not_runnable bytes line s (not_answered t spelled none is) runnable =
+      let same : s ≡ t = one_script bytes s t runnable.spelled spelled in
+      let both : true ≡ false = sym runnable.answered ∙ ap are_answered same ∙ none in
+      absurd (cc both)
 
-pub decided : (told left held_old held_new : Option (List ℕ)) (status : Status)
-    → (status ≡ Definite → RanWhole told left held_old held_new false)
-    → (status ≡ SomeUnknown → RanWhole told left held_old held_new true)
-    → (status ≡ Refused → RefusedWhole told left held_old held_new)
-    → (bytes : List ℕ) → told ≡ Some bytes → Decides bytes status
-decided told left held_old held_new status definite some_unknown refused bytes is = record {
-  definite = λ e. ran_accepted bytes left held_old held_new false (subst (λ t. RanWhole t left held_old held_new false) is (definite e));
-  some_unknown = λ e. ran_accepted bytes left held_old held_new true (subst (λ t. RanWhole t left held_old held_new true) is (some_unknown e));
-  refused = λ e.
-      let whole : RefusedWhole (Some bytes) left held_old held_new = subst (λ t. RefusedWhole t left held_old held_new) is (refused e) in
-      not_accepted bytes whole.line left whole.refused;
-}
+  not_accepted : (bytes line : List ℕ) (left : Option (List ℕ)) → IsRefused (Some bytes) left line → ¬ IsAccepted bytes
+  not_accepted bytes line left (too_long more is) accepted = absurd (omega (arith, told_more bytes left most_bytes more, accepted.short))
+  not_accepted bytes line left (no_run given to_end short refused) accepted =
+      refused_not_runnable bytes line accepted.script
+      (subst (λ (l : List ℕ). IsRefusedBy l line) (sym (told_bytes bytes given left to_end)) refused) accepted.runnable
 
--- An input that is refused was read to its end.
-pub refused_read : (left_old left_new held_old held_new : Option (List ℕ)) (given bytes : List ℕ) → ReadToEnd left_old left_new given
-    → length given ≤ most_bytes → bytes ≡ given → WholeRefusal held_old held_new bytes → RefusedWhole left_old left_new held_old held_new
-refused_read left_old left_new held_old held_new given bytes to_end short same refusal = record {
-  line = refusal.line;
-  refused = no_run given to_end short (subst (λ (l : List ℕ). IsRefusedBy l refusal.line) same refusal.refused);
-  appends = refusal.appends;
-}
+  ran_accepted : (bytes : List ℕ) (left held_old held_new : Option (List ℕ)) (has : Bool)
+      → RanWhole (Some bytes) left held_old held_new has → IsAcceptedAs has bytes
+  ran_accepted bytes left held_old held_new has ran =
+      let same : bytes ≡ ran.bytes = told_bytes bytes ran.bytes left ran.read in
+      record {
+        accepted = record {
+          short = rw same ran.short;
+          script = ran.run.script;
+          runnable = subst (λ (l : List ℕ). IsRunnable l ran.run.script) (sym same) ran.run.runnable;
+        };
+        open = ran.run.open;
+      }
 
--- An input was read to its end, and the sink failed.
-pub cut_in_run : (left_old left_new held_old held_new : Option (List ℕ)) (given bytes : List ℕ) → ReadToEnd left_old left_new given
-    → length given ≤ most_bytes → bytes ≡ given → ShortRun held_old held_new bytes ⊎ ShortRefusal held_old held_new bytes
-    → RanShort left_old left_new held_old held_new ⊎ RefusedShort left_old left_new held_old held_new
-cut_in_run left_old left_new held_old held_new given bytes to_end short same (inl run) =
-    inl record { bytes = given; read = to_end; short = short; run = subst (ShortRun held_old held_new) same run }
-cut_in_run left_old left_new held_old held_new given bytes to_end short same (inr refusal) =
-    inr record {
-      line = refusal.line;
-      refused = no_run given to_end short (subst (λ (l : List ℕ). IsRefusedBy l refusal.line) same refusal.refused);
-      front = refusal.front;
-    }
+  pub decided : {S K : Type 0} (source : Told S) (sink : Told K) (status : Status) → Ended source sink status
+      → (bytes : List ℕ) → source.bytes_old ≡ Some bytes → Decides bytes status
+  decided source sink status ended bytes is = record {
+    definite = λ e.
+        (let ran : RanWhole source.bytes_old source.bytes_new sink.bytes_old sink.bytes_new false = subst (Ended source sink) e ended in
+        ran_accepted bytes source.bytes_new sink.bytes_old sink.bytes_new false (subst (λ t. RanWhole t source.bytes_new sink.bytes_old sink.bytes_new false) is ran));
+    some_unknown = λ e.
+        (let ran : RanWhole source.bytes_old source.bytes_new sink.bytes_old sink.bytes_new true = subst (Ended source sink) e ended in
+        ran_accepted bytes source.bytes_new sink.bytes_old sink.bytes_new true (subst (λ t. RanWhole t source.bytes_new sink.bytes_old sink.bytes_new true) is ran));
+    refused = λ e.
+        (let ran : RefusedWhole source.bytes_old source.bytes_new sink.bytes_old sink.bytes_new = subst (Ended source sink) e ended in
+        let whole : RefusedWhole (Some bytes) source.bytes_new sink.bytes_old sink.bytes_new = subst (λ t. RefusedWhole t source.bytes_new sink.bytes_old sink.bytes_new) is ran in
+        not_accepted bytes whole.line source.bytes_new whole.refused);
+  }
+
+-- ---- how a session ended, by how the run over the bytes ended
+
+-- The input was read to its end.
+pub ended_run : {S K : Type 0} (source : Told S) (sink : Told K) (given bytes : List ℕ) (status : Status) → ReadToEnd source.bytes_old source.bytes_new given
+    → length given ≤ most_bytes → bytes ≡ given → RanOver sink bytes status → Ended source sink status
+ended_run source sink given bytes status to_end short same ran = by_status status (subst (λ (l : List ℕ). RanOver sink l status) same ran) where
+  no_line : (line : List ℕ) → IsRefusedBy given line → IsRefused source.bytes_old source.bytes_new line
+  no_line line refused = no_run given to_end short refused
+
+  by_status : (status : Status) → RanOver sink given status → Ended source sink status
+  by_status Definite run = record { bytes = given; read = to_end; short = short; run = run }
+  by_status SomeUnknown run = record { bytes = given; read = to_end; short = short; run = run }
+  by_status Refused run = record { line = run.line; refused = no_line run.line run.refused; appends = run.appends }
+  by_status WriteFault (inl run, failed) = (inl record { bytes = given; read = to_end; short = short; run = run }, failed)
+  by_status WriteFault (inr run, failed) = (inr record { line = run.line; refused = no_line run.line run.refused; front = run.front }, failed)
+  by_status Memory (inl run) = inl record { bytes = given; read = to_end; short = short; run = run }
+  by_status Memory (inr kept) = inr kept
+  by_status ReadFault run = absurd run
+  by_status BadWords run = absurd run
+  by_status Rejected run = absurd run
+
+-- The input was too long.
+pub ended_long : {S K : Type 0} (source : Told S) (sink : Told K) (status : Status) → GivesMore source.bytes_old source.bytes_new most_bytes
+    → RefusedBy sink long_line status → Ended source sink status
+ended_long source sink Refused more wrote = record { line = long_line; refused = too_long more refl; appends = wrote }
+ended_long source sink WriteFault more wrote = (inr record { line = long_line; refused = too_long more refl; front = wrote.0 }, wrote.1)
+ended_long source sink Definite more wrote = absurd wrote
+ended_long source sink SomeUnknown more wrote = absurd wrote
+ended_long source sink ReadFault more wrote = absurd wrote
+ended_long source sink Memory more wrote = absurd wrote
+ended_long source sink BadWords more wrote = absurd wrote
+ended_long source sink Rejected more wrote = absurd wrote
+
+-- no run ends by bad words
+pub never_ran : {K : Type 0} (sink : Told K) (bytes : List ℕ) (status : Status) → RanOver sink bytes status → status ≢ BadWords
+never_ran sink bytes status ran is = let none : ⊥ = subst (RanOver sink bytes) is ran in none
+
+pub never_refused : {K : Type 0} (sink : Told K) (line : List ℕ) (status : Status) → RefusedBy sink line status → status ≢ BadWords
+never_refused sink line status wrote is = let none : ⊥ = subst (RefusedBy sink line) is wrote in none
+
+-- ---- how much was taken
+
+pub took_all : (old new : Option (List ℕ)) (bytes : List ℕ) → ReadToEnd old new bytes → length bytes ≤ most_bytes → GivesAtMost old new (most_bytes + 1)
+took_all old new bytes to_end short = record { given = bytes; consumed = to_end.consumed; few = omega (arith, short) }
+
+pub took_none : (a : Option (List ℕ)) → GivesAtMost a a (most_bytes + 1)
+took_none a = record { given = []; consumed = Consumes-nil a; few = omega arith }

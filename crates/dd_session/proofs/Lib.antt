@@ -1,5 +1,6 @@
 pub mod Asked
 pub mod Decided
 pub mod Numbered
+pub mod Open
 pub mod Refused
 pub mod Streamed

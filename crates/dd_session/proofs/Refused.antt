@@ -1,13 +1,12 @@
 -- Why bytes are refused, by what their reader told.
-use Rattle.std.proofs.Common.{◌≡◌, ℕ, List, string_bytes, subst}
-use Rattle.std.specs.declared.option.Option.{Option}
-use Rattle.std.specs.Io.KnownBytes.{Appends}
-use Rattle.dd_outside.specs.Bytes.{GainsFront}
+use Rattle.std.proofs.Common.{◌≡◌, ℕ, List, string_bytes, subst, inr}
 use Rattle.dd_script.specs.declared.fault.ScriptKind.{ScriptKind}
 use Rattle.dd_script.specs.declared.fault.ScriptKind.TheVariants as refused
 use Rattle.dd_script.specs.Scripts.{IsRefusedAs, syntax, unknown, twice, dimension, size}
+use Rattle.dd_session.specs.declared.status.Status.{Status}
+use Rattle.dd_session.specs.declared.status.Status.TheVariants.{Definite, SomeUnknown, Refused, ReadFault, WriteFault, Memory, BadWords, Rejected}
 use Rattle.dd_session.specs.Output.{IsLineOf}
-use Rattle.dd_session.specs.Runs.{IsRefusedBy, no_script, WholeRefusal, ShortRefusal}
+use Rattle.dd_session.specs.Runs.{IsRefusedBy, no_script, Told, RefusedBy, RanOver}
 
 refused_by : (bytes : List ℕ) (n : ℕ) (kind : ScriptKind) (line : List ℕ)
     → IsRefusedAs bytes n kind → IsLineOf n kind line → IsRefusedBy bytes line
@@ -18,13 +17,18 @@ refused_by bytes n refused.Dimension line fault is = no_script n dimension fault
 refused_by bytes n (refused.Size l) line fault is = no_script n (size l) fault is
 refused_by bytes n refused.Memory line fault is = absurd is
 
--- the line for a refusal was written; or a front of it
-pub refusal_written : (a b : Option (List ℕ)) (bytes : List ℕ) (n : ℕ) (kind : ScriptKind) (line text : List ℕ)
-    → IsRefusedAs bytes n kind → IsLineOf n kind line → text ≡ line → Appends a b text → WholeRefusal a b bytes
-refusal_written a b bytes n kind line text fault is same written =
-    record { line = line; refused = refused_by bytes n kind line fault is; appends = subst (Appends a b) same written }
+-- the line for a refusal was written, or a front of it
+pub refusal_over : {K : Type 0} (sink : Told K) (bytes line : List ℕ) (status : Status) → IsRefusedBy bytes line → RefusedBy sink line status → RanOver sink bytes status
+refusal_over sink bytes line Refused why wrote = record { line = line; refused = why; appends = wrote }
+refusal_over sink bytes line WriteFault why wrote = (inr record { line = line; refused = why; front = wrote.0 }, wrote.1)
+refusal_over sink bytes line Definite why wrote = absurd wrote
+refusal_over sink bytes line SomeUnknown why wrote = absurd wrote
+refusal_over sink bytes line ReadFault why wrote = absurd wrote
+refusal_over sink bytes line Memory why wrote = absurd wrote
+refusal_over sink bytes line BadWords why wrote = absurd wrote
+refusal_over sink bytes line Rejected why wrote = absurd wrote
 
-pub refusal_cut : (a b : Option (List ℕ)) (bytes : List ℕ) (n : ℕ) (kind : ScriptKind) (line text : List ℕ)
-    → IsRefusedAs bytes n kind → IsLineOf n kind line → text ≡ line → GainsFront a b text → ShortRefusal a b bytes
-refusal_cut a b bytes n kind line text fault is same front =
-    record { line = line; refused = refused_by bytes n kind line fault is; front = subst (GainsFront a b) same front }
+pub line_over : {K : Type 0} (sink : Told K) (bytes : List ℕ) (n : ℕ) (kind : ScriptKind) (line text : List ℕ) (status : Status)
+    → IsRefusedAs bytes n kind → IsLineOf n kind line → text ≡ line → RefusedBy sink text status → RanOver sink bytes status
+line_over sink bytes n kind line text status fault is same wrote =
+    refusal_over sink bytes line status (refused_by bytes n kind line fault is) (subst (λ (l : List ℕ). RefusedBy sink l status) same wrote)

@@ -1,13 +1,12 @@
 -- The answers of a run, and their texts.
-use Rattle.std.specs.Prelude.{ℕ, ◌+◌, List, [], ◌∷◌, ◌++◌, Bool, true, false, ◌||◌, ⊤}
-use Rattle.std.specs.List.{list_all}
+use Rattle.std.specs.Prelude.{◌≡◌, ℕ, ◌+◌, List, [], ◌∷◌, ◌++◌, Bool, true, false, ◌||◌, ⊤}
+use Rattle.std.specs.List.{list_all, Contains}
 use Rattle.dd_certificate.specs.declared.answer.Answer.{Answer}
-use Rattle.dd_certificate.specs.declared.answer.Answer.TheVariants as answer
 use Rattle.dd_certificate.specs.Text.{answer_text}
 use Rattle.dd_certificate.specs.Bounds.{IsWritable}
 use Rattle.dd_query.specs.declared.queries.Query.{Query}
 use Rattle.dd_script.specs.Parts.{Parts}
-use Rattle.dd_answer.specs.Right.{Right, is_answered}
+use Rattle.dd_answer.specs.Right.{Right, is_answered, is_unknown}
 
 -- The greatest number of queries of a script.
 abbrev pub most_queries : ℕ
@@ -17,11 +16,7 @@ most_queries = 1000
 abbrev pub are_answered : Parts → Bool
 are_answered s = list_all is_answered s.queries
 
--- no definite answer: a stated limit was met
-abbrev pub is_unknown : Answer → Bool
-is_unknown (answer.Unknown reason) = true
-is_unknown a = false
-
+-- some answer is that it is not known
 abbrev pub has_unknown : List Answer → Bool
 has_unknown [] = false
 has_unknown (a ∷ answers) = is_unknown a || has_unknown answers
@@ -31,6 +26,15 @@ abbrev pub AllRight : Parts → List Query → List Answer → Type 0
 AllRight s queries [] = ⊤
 AllRight s [] (a ∷ answers) = ⊥
 AllRight s (q ∷ queries) (a ∷ answers) = Right s q a × IsWritable a × AllRight s queries answers
+
+-- some query of the script has no definite answer: a right answer to it is that it is not known
+abbrev pub IsOpen : Parts → Type 0
+IsOpen s = (q : Query) × Contains s.queries q × ((a : Answer) × Right s q a × (is_unknown a ≡ true))
+
+-- whether that is so
+abbrev pub IsOpenAs : Bool → Parts → Type 0
+IsOpenAs true s = IsOpen s
+IsOpenAs false s = IsOpen s → ⊥
 
 -- the texts of answers to the queries from a number on
 abbrev pub texts : ℕ → List Answer → List ℕ

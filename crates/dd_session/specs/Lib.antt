@@ -1,3 +1,5 @@
+-- what a run reads and writes, by its status
+pub mod Runs
+-- right answers, and the texts of outputs
 pub mod Answers
 pub mod Output
-pub mod Runs

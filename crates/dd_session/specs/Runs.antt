@@ -1,15 +1,16 @@
 -- What a run read and wrote, by how it ended.
-use Rattle.std.specs.Prelude.{◌≡◌, ◌⊎◌, ℕ, ◌≤◌, List, [], ◌++◌, length, Bool, true, false}
+use Rattle.std.specs.Prelude.{◌≡◌, ◌⊎◌, ℕ, ◌+◌, ◌≤◌, List, [], ◌++◌, length, Bool, true, false}
 use Rattle.std.specs.declared.option.Option.{Option}
 use Rattle.std.specs.Io.KnownBytes.{Appends}
+use Rattle.dd_values.specs.Counts.{Rose}
 use Rattle.dd_outside.specs.Bytes.{GainsFront, ReadToEnd, GivesMore}
 use Rattle.dd_certificate.specs.declared.answer.Answer.{Answer}
 use Rattle.dd_query.specs.declared.queries.Query.{Query}
 use Rattle.dd_script.specs.Parts.{Parts}
 use Rattle.dd_script.specs.Scripts.{Spells, RefusedAs, Kind}
 use Rattle.dd_session.specs.declared.status.Status.{Status}
-use Rattle.dd_session.specs.declared.status.Status.TheVariants.{Definite, SomeUnknown, Refused}
-use Rattle.dd_session.specs.Answers.{AllRight, are_answered, has_unknown, texts}
+use Rattle.dd_session.specs.declared.status.Status.TheVariants.{Definite, SomeUnknown, Refused, ReadFault, WriteFault, Memory, BadWords, Rejected}
+use Rattle.dd_session.specs.Answers.{AllRight, IsOpen, IsOpenAs, are_answered, has_unknown, texts}
 use Rattle.dd_session.specs.Output.{header, end_line, output_of, early_line, long_line, refused_line}
 
 -- The greatest number of bytes of a script.
@@ -52,11 +53,12 @@ pub record IsRunnable (bytes : List ℕ) (s : Parts) : Type 0 where
   pub spelled : Spells bytes s
   pub answered : are_answered s ≡ true
 
--- The bytes are such a script, and its whole output was written.
+-- The bytes are such a script, its whole output was written, and it has or has not a query without a definite answer.
 pub record WholeRun (old new : Option (List ℕ)) (bytes : List ℕ) (has : Bool) : Type 0 where
   pub script : Parts
   pub runnable : IsRunnable bytes script
   pub output : WholeOutput old new bytes script has
+  pub open : IsOpenAs has script
 
 -- The bytes are such a script, and a front of its output was written.
 pub record ShortRun (old new : Option (List ℕ)) (bytes : List ℕ) : Type 0 where
@@ -119,8 +121,74 @@ pub record RefusedShort (left_old left_new held_old held_new : Option (List ℕ)
   pub refused : IsRefused left_old left_new line
   pub front : GainsFront held_old held_new line
 
+-- ---- by the status
+
+-- A source or a sink before and after a call: itself, the bytes that it tells, and how often it has failed.
+pub record Told (X : Type 0) : Type 0 where
+  pub old : X
+  pub new : X
+  pub bytes_old : Option (List ℕ)
+  pub bytes_new : Option (List ℕ)
+  pub faults_old : ℕ
+  pub faults_new : ℕ
+
+abbrev pub told : {X : Type 0} → (X → Option (List ℕ)) → (X → ℕ) → X → X → Told X
+told bytes faults old new =
+    record { old = old; new = new; bytes_old = bytes old; bytes_new = bytes new; faults_old = faults old; faults_new = faults new }
+
+abbrev pub IsKept : {X : Type 0} → Told X → Type 0
+IsKept side = side.new ≡ side.old
+
+abbrev pub Failed : {X : Type 0} → Told X → Type 0
+Failed side = Rose side.faults_old side.faults_new
+
+-- A line for an input that is refused was written, or a front of it.
+abbrev pub RefusedBy : {K : Type 0} → Told K → List ℕ → Status → Type 0
+RefusedBy sink line Refused = Appends sink.bytes_old sink.bytes_new line
+RefusedBy sink line WriteFault = GainsFront sink.bytes_old sink.bytes_new line × Failed sink
+RefusedBy sink line Definite = ⊥
+RefusedBy sink line SomeUnknown = ⊥
+RefusedBy sink line ReadFault = ⊥
+RefusedBy sink line Memory = ⊥
+RefusedBy sink line BadWords = ⊥
+RefusedBy sink line Rejected = ⊥
+
+-- What was written of a run over these bytes, by its status.
+abbrev pub RanOver : {K : Type 0} → Told K → List ℕ → Status → Type 0
+RanOver sink bytes Definite = WholeRun sink.bytes_old sink.bytes_new bytes false
+RanOver sink bytes SomeUnknown = WholeRun sink.bytes_old sink.bytes_new bytes true
+RanOver sink bytes Refused = WholeRefusal sink.bytes_old sink.bytes_new bytes
+RanOver sink bytes WriteFault = (ShortRun sink.bytes_old sink.bytes_new bytes ⊎ ShortRefusal sink.bytes_old sink.bytes_new bytes) × Failed sink
+RanOver sink bytes Memory = ShortRun sink.bytes_old sink.bytes_new bytes ⊎ IsKept sink
+RanOver sink bytes ReadFault = ⊥
+RanOver sink bytes BadWords = ⊥
+RanOver sink bytes Rejected = ⊥
+
+-- The status of a run to the end, by whether some answer is that it is not known.
+abbrev pub status_of : Bool → Status
+status_of true = SomeUnknown
+status_of false = Definite
+
+-- What a session read and wrote, by its status. A fault comes only where the source or the sink failed in this call.
+abbrev pub Ended : {S K : Type 0} → Told S → Told K → Status → Type 0
+Ended source sink Definite = RanWhole source.bytes_old source.bytes_new sink.bytes_old sink.bytes_new false
+Ended source sink SomeUnknown = RanWhole source.bytes_old source.bytes_new sink.bytes_old sink.bytes_new true
+Ended source sink Refused = RefusedWhole source.bytes_old source.bytes_new sink.bytes_old sink.bytes_new
+Ended source sink ReadFault = IsKept sink × Failed source
+Ended source sink WriteFault =
+    (RanShort source.bytes_old source.bytes_new sink.bytes_old sink.bytes_new
+    ⊎ RefusedShort source.bytes_old source.bytes_new sink.bytes_old sink.bytes_new) × Failed sink
+Ended source sink Memory = RanShort source.bytes_old source.bytes_new sink.bytes_old sink.bytes_new ⊎ IsKept sink
+Ended source sink BadWords = IsKept source × IsKept sink
+Ended source sink Rejected = ⊥
+
+-- The bytes are a script that is run, and some query of it has no definite answer, or none is so.
+pub record IsAcceptedAs (has : Bool) (bytes : List ℕ) : Type 0 where
+  pub accepted : IsAccepted bytes
+  pub open : IsOpenAs has accepted.script
+
 -- What the bytes decide of the status, where the source told them.
 pub record Decides (bytes : List ℕ) (status : Status) : Type 0 where
-  pub definite : status ≡ Definite → IsAccepted bytes
-  pub some_unknown : status ≡ SomeUnknown → IsAccepted bytes
+  pub definite : status ≡ Definite → IsAcceptedAs false bytes
+  pub some_unknown : status ≡ SomeUnknown → IsAcceptedAs true bytes
   pub refused : status ≡ Refused → ¬ IsAccepted bytes

@@ -1,9 +1,9 @@
 // The output of a script, each part written as soon as it is made.
 ghost use Rattle.std.specs.Prelude.{◌≡◌, ◌≤◌, ◌∷◌, [], true, length, Contains, IfOk, OnErr, IsErrOf};
 ghost use Rattle.dd_values.specs.Counts.{Rose};
-ghost use Rattle.dd_answer.specs.Right.{is_answered};
+ghost use Rattle.dd_answer.specs.Right.{is_answered, is_unknown};
 ghost use Rattle.dd_session.specs.declared.stream.RunFault.TheVariants.{WriteFault, Memory};
-ghost use Rattle.dd_session.specs.Answers.{are_answered, is_unknown, most_queries};
+ghost use Rattle.dd_session.specs.Answers.{are_answered, most_queries};
 ghost use Rattle.dd_session.specs.Runs.{Answered, AnsweredFront, WholeOutput, CutShort, IsRunnable};
 
 use crate::output::header_text;

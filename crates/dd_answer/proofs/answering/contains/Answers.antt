@@ -10,12 +10,12 @@ decided-requires-clause-small c =
     contains_small c.args.script.now c.rules-rules.ensures.kept c.rules-rules.result.now c.rules-rules.ensures.value c.args.outer c.args.inner
     c.index-rules-outer.result c.index-rules-inner.result c.requires c.index-rules-outer.is c.index-rules-inner.is
 
-pub returns : goal.returns
-returns c =
+pub returns-clause-right : goal.returns-clause-right
+returns-clause-right c =
     let s = c.args.script.now in
     let y = c.index-rules-outer.result in
     let x = c.index-rules-inner.result in
     IfOk-weaker c.decided.result (IsRightBox s x (breaks y)) (Right s (query.Contains c.args.outer c.args.inner))
     (contains_right s c.rules-rules.ensures.kept c.rules-rules.result.now c.rules-rules.ensures.value c.args.outer c.args.inner
     y x c.requires c.index-rules-outer.is c.index-rules-inner.is)
-    c.decided.ensures
+    c.decided.ensures.right

@@ -10,10 +10,10 @@ decided-requires-clause-small c =
     empty_small c.args.script.now c.rules-rules.ensures.kept c.rules-rules.result.now c.rules-rules.ensures.value c.args.rule
     c.index-rules-rule.result c.requires c.index-rules-rule.is
 
-pub returns : goal.returns
-returns c =
+pub returns-clause-right : goal.returns-clause-right
+returns-clause-right c =
     let s = c.args.script.now in
     let x = c.index-rules-rule.result in
     IfOk-weaker c.decided.result (IsRightBox s x always) (Right s (query.Empty c.args.rule))
     (empty_right s c.rules-rules.ensures.kept c.rules-rules.result.now c.rules-rules.ensures.value c.args.rule x c.requires c.index-rules-rule.is)
-    c.decided.ensures
+    c.decided.ensures.right

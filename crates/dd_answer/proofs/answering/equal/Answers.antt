@@ -14,12 +14,12 @@ compared-requires-clause-right_small c =
     right_small c.args.script.now c.rules-rules.ensures.kept c.rules-rules.result.now c.rules-rules.ensures.value c.args.left c.args.right
     c.index-rules-left.result c.index-rules-right.result c.requires c.index-rules-left.is c.index-rules-right.is
 
-pub returns : goal.returns
-returns c =
+pub returns-clause-right : goal.returns-clause-right
+returns-clause-right c =
     let s = c.args.script.now in
     let x = c.index-rules-left.result in
     let y = c.index-rules-right.result in
     IfOk-weaker c.compared.result (IsRightEqual s x y) (Right s (query.Equal c.args.left c.args.right))
     (equal_right s c.rules-rules.ensures.kept c.rules-rules.result.now c.rules-rules.ensures.value c.args.left c.args.right
     x y c.requires c.index-rules-left.is c.index-rules-right.is)
-    c.compared.ensures
+    c.compared.ensures.right

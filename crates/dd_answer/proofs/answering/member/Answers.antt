@@ -4,8 +4,8 @@ use Rattle.dd_answer.specs.Right.{Right, IsRightMember}
 use Rattle.dd_answer.proofs.PartLaws.{member_right}
 use Rattle.dd_answer.proofs.answering.member.Goals as goal
 
-pub returns : goal.returns
-returns c =
+pub returns-clause-right : goal.returns-clause-right
+returns-clause-right c =
     let s = c.args.script.now in
     let x = c.index-rules-rule.result in
     let t = c.index-configurations-configuration.result in
@@ -13,4 +13,4 @@ returns c =
     (member_right s c.rules-rules.ensures.kept c.rules-rules.result.now c.rules-rules.ensures.value
     c.configurations-configurations.result.now c.configurations-configurations.ensures.value c.args.configuration c.args.rule
     t x c.requires c.index-configurations-configuration.is c.index-rules-rule.is)
-    c.member.ensures
+    c.member.ensures.right

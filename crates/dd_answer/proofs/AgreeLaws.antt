@@ -1,0 +1,335 @@
+-- Two right answers to a query differ in their evidence alone: a least radius, first periods and a first cell are one.
+use Rattle.std.proofs.Common.{◌≡◌, ℕ, ◌<◌, ◌≤◌, ◌||◌, ◌&&◌, Bool, true, false, List, [], ℤ, pos, Some, refl, ap, sym, subst, ◌∙◌, arith, inl, inr}
+use Rattle.std.specs.Prelude.{◌==◌, ◌⊎◌, max, nat_lt, slice_get}
+use Rattle.std.specs.Ordering.{int_eq}
+use Rattle.std.specs.declared.cmp.Ordering.{Ordering}
+use Rattle.std.specs.declared.cmp.Ordering.TheVariants.{Less, Equal, Greater}
+use Rattle.std.specs.List.{All}
+use Rattle.std.specs.Cmp.{IsTotalOrder}
+use Rattle.std.proofs.lemmas.Bool.{and_parts, eqb-true, cases_order, ltb-false, false≢true}
+use Rattle.std.proofs.lemmas.Cmp.{nat_cmp_total, int_cmp_total, on_total, then_total}
+use Rattle.std.proofs.lemmas.Option.{slice_get_within, get_or_from_slice_get}
+use Rattle.dd_lattice.specs.declared.position.Cell.{Cell}
+use Rattle.dd_lattice.specs.Place.{Place}
+use Rattle.dd_lattice.specs.Order.{cell_cmp}
+use Rattle.dd_lattice.proofs.InOrderLaws.{cells_equal}
+use Rattle.dd_pattern.specs.Tile.{Tile, IsTile, IsInBox, residue}
+use Rattle.dd_pattern.proofs.Residues.{residue_below}
+use Rattle.dd_expansion.specs.Placed.{is_flat}
+use Rattle.dd_formula.specs.LocalRule.{LocalRule}
+use Rattle.dd_formula.specs.Automata.{rule_has}
+use Rattle.dd_formula.specs.Living.{Lives, IsFirstFalse}
+use Rattle.dd_boxes.specs.Goals.{GoalOf, breaks, always}
+use Rattle.dd_boxes.specs.Boxes.{Suffices}
+use Rattle.dd_certificate.specs.declared.answer.Answer.{Answer}
+use Rattle.dd_certificate.specs.declared.answer.Answer.TheVariants as answer
+use Rattle.dd_certificate.specs.Text.{answer_line}
+use Rattle.dd_contain.specs.declared.decision.Decision.{Decision}
+use Rattle.dd_contain.specs.declared.decision.Decision.TheVariants as decision
+use Rattle.dd_contain.specs.declared.equal.Equality.{Equality}
+use Rattle.dd_contain.specs.declared.search.Periods.{Periods}
+use Rattle.dd_contain.specs.Decided.{periods, volume, IsBefore, IsLeast, IsFirst, IsDecidedBy}
+use Rattle.dd_contain.specs.Questions.{Refutes, ShowsAt, Displays, greatest_periods, IsDecided}
+use Rattle.dd_contain.specs.Equal.{joined, UnlessNo, IsEqualDecided}
+use Rattle.dd_definition.specs.Definitions.{IsConfigurationOf}
+use Rattle.dd_header.specs.Sound.{numbers_of}
+use Rattle.dd_query.specs.declared.queries.Query.{Query}
+use Rattle.dd_query.specs.declared.queries.Query.TheVariants as query
+use Rattle.dd_script.specs.Parts.{Parts, IsScriptOf}
+use Rattle.dd_answer.specs.Right.{Right, OfRule, OfConfiguration, IsRightMember, IsRightBox, IsRightEqual, written_cell, written_decision, written_equality, is_unknown}
+use Rattle.dd_answer.specs.Laws.{SayTheSame}
+
+-- ---- the least and the first are one
+
+least_one : (S : ℕ → Type 0) (low high n m : ℕ) → IsLeast S low high n → IsLeast S low high m → n ≡ m
+least_one S low high n m one other = elim (cases_order n m) [
+  | inl same ↦ same
+  | inr apart ↦ (elim apart [
+    | inl less ↦ absurd (other.first n one.low less one.holds)
+    | inr more ↦ absurd (one.first m other.low more other.holds)
+  ])
+]
+
+-- one of two periods is before the other, or they are the same
+in_order : (p q : Periods) → IsBefore p q ⊎ (IsBefore q p ⊎ (p ≡ q))
+in_order p q = elim (cases_order (volume p) (volume q)) [
+  | inl size ↦ (elim (cases_order p.x q.x) [
+    | inl x ↦ (elim (cases_order p.y q.y) [
+      | inl y ↦ (elim (cases_order p.z q.z) [
+        | inl z ↦ inr (inr (ap (λ a. periods a p.y p.z) x ∙ (ap (λ b. periods q.x b p.z) y ∙ ap (λ c. periods q.x q.y c) z)))
+        | inr apart ↦ (elim apart [
+          | inl less ↦ inl (inr (size, inr (x, inr (y, less))))
+          | inr more ↦ inr (inl (inr (sym size, inr (sym x, inr (sym y, more)))))
+        ])
+      ])
+      | inr apart ↦ (elim apart [
+        | inl less ↦ inl (inr (size, inr (x, inl less)))
+        | inr more ↦ inr (inl (inr (sym size, inr (sym x, inl more))))
+      ])
+    ])
+    | inr apart ↦ (elim apart [
+      | inl less ↦ inl (inr (size, inl less))
+      | inr more ↦ inr (inl (inr (sym size, inl more)))
+    ])
+  ])
+  | inr apart ↦ (elim apart [
+    | inl less ↦ inl (inl less)
+    | inr more ↦ inr (inl (inl more))
+  ])
+]
+
+first_one : (T : Periods → Type 0) (most p q : Periods) → IsFirst T most p → IsFirst T most q → p ≡ q
+first_one T most p q one other = elim (in_order p q) [
+  | inl less ↦ absurd (other.first p one.within less one.shows)
+  | inr rest ↦ (elim rest [
+    | inl more ↦ absurd (one.first q other.within more other.shows)
+    | inr same ↦ same
+  ])
+]
+
+-- ---- decisions without their evidence
+
+abbrev bare_tile : Tile → Tile
+bare_tile t = record { dimension = t.dimension; along_x = t.along_x; along_y = t.along_y; along_z = t.along_z; nodes = t.nodes; symbols = [] }
+
+abbrev bare : Decision → Decision
+bare (decision.Yes n steps) = decision.Yes n []
+bare (decision.No t) = decision.No (bare_tile t)
+bare decision.Unknown = decision.Unknown
+
+same_tile : (x : LocalRule) (g : GoalOf) (p q : Periods) (t u : Tile) → p ≡ q → Displays x g p t → Displays x g q u → bare_tile t ≡ bare_tile u
+same_tile x g p q t u same one other =
+    let dimension : t.dimension ≡ u.dimension = one.1.fits.dimension ∙ sym other.1.fits.dimension in
+    let nodes : t.nodes ≡ u.nodes = one.1.fits.nodes ∙ sym other.1.fits.nodes in
+    let on_x : t.along_x ≡ u.along_x = one.0.on_x ∙ (ap (λ (r : Periods). r.x) same ∙ sym other.0.on_x) in
+    let on_y : t.along_y ≡ u.along_y = one.0.on_y ∙ (ap (λ (r : Periods). r.y) same ∙ sym other.0.on_y) in
+    let on_z : t.along_z ≡ u.along_z = one.0.on_z ∙ (ap (λ (r : Periods). r.z) same ∙ sym other.0.on_z) in
+    cc (dimension, nodes, on_x, on_y, on_z)
+
+module _ (x : LocalRule) (g : GoalOf) (least most : ℕ) (tops : Periods) where
+  abbrev Decides : Decision → Type 0
+  Decides d = IsDecidedBy (Suffices x g) (Refutes x g) (ShowsAt x g) (Displays x g) least most tops d
+
+  one_decision : (d e : Decision) → Decides d → Decides e → bare d ≡ bare e
+  one_decision (decision.Yes n steps) (decision.Yes m others) h k = ap (λ r. decision.Yes r []) (least_one (Suffices x g) least most n m h.0 k.0)
+  one_decision (decision.Yes n steps) (decision.No u) h k = absurd (k.0 n h.0.low h.0.high h.0.holds)
+  one_decision (decision.Yes n steps) decision.Unknown h k = absurd (k.0 n h.0.low h.0.high h.0.holds)
+  one_decision (decision.No t) (decision.Yes m others) h k = absurd (h.0 m k.0.low k.0.high k.0.holds)
+  one_decision (decision.No t) (decision.No u) h k =
+      ap (λ r. decision.No r) (same_tile x g h.1.0 k.1.0 t u (first_one (ShowsAt x g) tops h.1.0 k.1.0 h.1.1 k.1.1) h.1.2 k.1.2)
+  one_decision (decision.No t) decision.Unknown h k = absurd (k.1 h.1.0 h.1.1.within h.1.1.shows)
+  one_decision decision.Unknown (decision.Yes m others) h k = absurd (h.0 m k.0.low k.0.high k.0.holds)
+  one_decision decision.Unknown (decision.No u) h k = absurd (h.1 k.1.0 k.1.1.within k.1.1.shows)
+  one_decision decision.Unknown decision.Unknown h k = refl
+
+decided_alike : (x : LocalRule) (g : GoalOf) (n p : ℕ) (d e : Decision) → IsDecided x g n p d → IsDecided x g n p e → bare d ≡ bare e
+decided_alike x g n p d e h k =
+    let up : h.0 ≤ k.0 = h.1.least k.0 k.1.reaches in
+    let down : k.0 ≤ h.0 = k.1.least h.0 h.1.reaches in
+    let same : k.0 ≡ h.0 = omega (arith, up, down) in
+    one_decision x g h.0 (max n h.0) (greatest_periods x.dimension p) d e h.2
+    (subst (λ l. IsDecidedBy (Suffices x g) (Refutes x g) (ShowsAt x g) (Displays x g) l (max n l) (greatest_periods x.dimension p) e) same k.2)
+
+-- ---- the answers of box questions
+
+decision_line : (number : ℕ) (d : Decision) → answer_line number (written_decision d) ≡ answer_line number (written_decision (bare d))
+decision_line number (decision.Yes n steps) = refl
+decision_line number (decision.No t) = refl
+decision_line number decision.Unknown = refl
+
+decision_unknown : (d : Decision) → is_unknown (written_decision d) ≡ is_unknown (written_decision (bare d))
+decision_unknown (decision.Yes n steps) = refl
+decision_unknown (decision.No t) = refl
+decision_unknown decision.Unknown = refl
+
+box_agree : (s : Parts) (x : LocalRule) (g : GoalOf) (a b : Answer) → IsRightBox s x g a → IsRightBox s x g b → SayTheSame a b
+box_agree s x g a b h k =
+    let same = decided_alike x g s.known.limits.radius s.known.limits.period h.decision k.decision h.decided k.decided in
+    record {
+      line = λ number.
+          ap (answer_line number) h.written ∙ (decision_line number h.decision
+          ∙ (ap (λ d. answer_line number (written_decision d)) same
+          ∙ (sym (decision_line number k.decision) ∙ sym (ap (answer_line number) k.written))));
+      unknown =
+          ap is_unknown h.written ∙ (decision_unknown h.decision
+          ∙ (ap (λ d. is_unknown (written_decision d)) same
+          ∙ (sym (decision_unknown k.decision) ∙ sym (ap is_unknown k.written))));
+    }
+
+-- ---- the answers of questions of equality
+
+joined_line : (number : ℕ) (l r : Decision) → answer_line number (written_equality (joined l r)) ≡ answer_line number (written_equality (joined (bare l) (bare r)))
+joined_line number (decision.No t) r = refl
+joined_line number (decision.Yes n steps) (decision.No t) = refl
+joined_line number decision.Unknown (decision.No t) = refl
+joined_line number (decision.Yes n steps) (decision.Yes m others) = refl
+joined_line number (decision.Yes n steps) decision.Unknown = refl
+joined_line number decision.Unknown (decision.Yes m others) = refl
+joined_line number decision.Unknown decision.Unknown = refl
+
+joined_unknown : (l r : Decision) → is_unknown (written_equality (joined l r)) ≡ is_unknown (written_equality (joined (bare l) (bare r)))
+joined_unknown (decision.No t) r = refl
+joined_unknown (decision.Yes n steps) (decision.No t) = refl
+joined_unknown decision.Unknown (decision.No t) = refl
+joined_unknown (decision.Yes n steps) (decision.Yes m others) = refl
+joined_unknown (decision.Yes n steps) decision.Unknown = refl
+joined_unknown decision.Unknown (decision.Yes m others) = refl
+joined_unknown decision.Unknown decision.Unknown = refl
+
+unless_bare : (d : Decision) (P : Type 0) → UnlessNo (bare d) P ≡ UnlessNo d P
+unless_bare (decision.Yes n steps) P = refl
+unless_bare (decision.No t) P = refl
+unless_bare decision.Unknown P = refl
+
+-- where the left decision is NO the right one does not matter
+joined_bare : (l r k : Decision) → UnlessNo l (bare r ≡ bare k) → joined (bare l) (bare r) ≡ joined (bare l) (bare k)
+joined_bare (decision.No t) r k same = refl
+joined_bare (decision.Yes n steps) r k same = ap (joined (decision.Yes n [])) same
+joined_bare decision.Unknown r k same = ap (joined decision.Unknown) same
+
+unless_both : (d : Decision) (P Q R : Type 0) → (P → Q → R) → UnlessNo d P → UnlessNo d Q → UnlessNo d R
+unless_both (decision.Yes n steps) P Q R f h k = f h k
+unless_both (decision.No t) P Q R f h k = tt
+unless_both decision.Unknown P Q R f h k = f h k
+
+equal_bare : (x y : LocalRule) (n p : ℕ) (one other : Equality) (h : IsEqualDecided x y n p one) (k : IsEqualDecided x y n p other) →
+    joined (bare h.left) (bare h.right) ≡ joined (bare k.left) (bare k.right)
+equal_bare x y n p one other h k =
+    let left : bare h.left ≡ bare k.left = decided_alike x (breaks y) n p h.left k.left h.left_decided k.left_decided in
+    let P : Type 0 = IsDecided y (breaks x) n p h.right in
+    let Q : Type 0 = IsDecided y (breaks x) n p k.right in
+    let theirs : UnlessNo (bare k.left) Q = subst (λ (T : Type 0). T) (sym (unless_bare k.left Q)) k.right_decided in
+    let ours : UnlessNo h.left Q = subst (λ (T : Type 0). T) (unless_bare h.left Q) (subst (λ d. UnlessNo d Q) (sym left) theirs) in
+    joined_bare h.left h.right k.right
+    (unless_both h.left P Q (bare h.right ≡ bare k.right) (decided_alike y (breaks x) n p h.right k.right) h.right_decided ours)
+    ∙ ap (λ d. joined d (bare k.right)) left
+
+equal_agree : (s : Parts) (x y : LocalRule) (a b : Answer) → IsRightEqual s x y a → IsRightEqual s x y b → SayTheSame a b
+equal_agree s x y a b h k =
+    let one = h.decided in
+    let other = k.decided in
+    let same = equal_bare x y s.known.limits.radius s.known.limits.period h.equality k.equality one other in
+    let a_is = h.written ∙ ap written_equality one.join in
+    let b_is = k.written ∙ ap written_equality other.join in
+    record {
+      line = λ number.
+          ap (answer_line number) a_is ∙ (joined_line number one.left one.right
+          ∙ (ap (λ e. answer_line number (written_equality e)) same
+          ∙ (sym (joined_line number other.left other.right) ∙ sym (ap (answer_line number) b_is))));
+      unknown =
+          ap is_unknown a_is ∙ (joined_unknown one.left one.right
+          ∙ (ap (λ e. is_unknown (written_equality e)) same
+          ∙ (sym (joined_unknown other.left other.right) ∙ sym (ap is_unknown b_is))));
+    }
+
+-- ---- membership
+
+cells_total : IsTotalOrder cell_cmp
+cells_total =
+    then_total
+    (on_total (λ (c : Cell). c.position)
+    (then_total (then_total (on_total (λ (p : Place). p.z) int_cmp_total) (on_total (λ (p : Place). p.y) int_cmp_total)) (on_total (λ (p : Place). p.x) int_cmp_total)))
+    (on_total (λ (c : Cell). c.node) nat_cmp_total)
+
+first_cell : (x : LocalRule) (t : Tile) (c d : Cell) → IsFirstFalse x t c → IsFirstFalse x t d → c ≡ d
+first_cell x t c d one other = cases (cell_cmp c d) refl where
+  cases : (o : Ordering) → cell_cmp c d ≡ o → c ≡ d
+  cases Less is = absurd (false≢true (sym one.here ∙ other.before c one.within is))
+  cases Equal is = cells_equal c d is
+  cases Greater is =
+      let back : cell_cmp d c ≡ Less = cells_total.antisymm d c ∙ cc is in
+      absurd (false≢true (sym other.here ∙ one.before d other.within back))
+
+-- the cells of the fundamental box are cells of Z^d
+axis_flat : (unused : Bool) (z : ℤ) → (unused ≡ false → z ≡ pos 0) → (unused || int_eq z (pos 0)) ≡ true
+axis_flat true z is = refl
+axis_flat false z is = ap (λ (c : ℤ). int_eq c (pos 0)) (is refl)
+
+base_flat : (z : ℤ) (n : ℕ) → n ≡ 1 → pos (residue z n) ≡ z → z ≡ pos 0
+base_flat z n one is =
+    let below : residue z n < n = residue_below z n (omega (arith, one)) in
+    let none : residue z n ≡ 0 = omega (arith, below, one) in
+    sym is ∙ ap pos none
+
+both : (a b : Bool) → a ≡ true → b ≡ true → (a && b) ≡ true
+both true b here there = there
+both false b here there = here
+
+flat_in_box : (t : Tile) (c : Cell) → IsTile t → IsInBox t c → is_flat t.dimension c.position ≡ true
+flat_in_box t c tile at =
+    both (nat_lt 1 t.dimension || int_eq c.position.y (pos 0)) (nat_lt 2 t.dimension || int_eq c.position.z (pos 0))
+    (axis_flat (nat_lt 1 t.dimension) c.position.y
+    (λ unused. base_flat c.position.y t.along_y (tile.y_unused (let low = ltb-false 1 t.dimension unused in omega (arith, low))) (ap (λ (p : Place). p.y) at.base)))
+    (axis_flat (nat_lt 2 t.dimension) c.position.z
+    (λ unused. base_flat c.position.z t.along_z (tile.z_unused (let low = ltb-false 2 t.dimension unused in omega (arith, low))) (ap (λ (p : Place). p.z) at.base)))
+
+module _ (x : LocalRule) (t : Tile) (tile : IsTile t) (dimension : t.dimension ≡ x.dimension) (nodes : t.nodes ≡ x.nodes) where
+  not_both : (c : Cell) → Lives x t → IsFirstFalse x t c → ⊥
+  not_both c lives first =
+      let flat : is_flat x.dimension c.position ≡ true = subst (λ d. is_flat d c.position ≡ true) dimension (flat_in_box t c tile first.within) in
+      let node : c.node < x.nodes = subst (λ n. c.node < n) nodes first.within.node in
+      false≢true (sym first.here ∙ lives c.position c.node flat node)
+
+  member_agree : (a b : Answer) → IsRightMember x t a → IsRightMember x t b → SayTheSame a b
+  member_agree answer.Inside answer.Inside h k = record { line = λ number. refl; unknown = refl }
+  member_agree answer.Inside (answer.Outside there) h k = absurd (not_both k.0 h k.1)
+  member_agree (answer.Outside here) answer.Inside h k = absurd (not_both h.0 k h.1)
+  member_agree (answer.Outside here) (answer.Outside there) h k =
+      let same : here ≡ there = h.2 ∙ (ap (written_cell x.dimension) (first_cell x t h.0 k.0 h.1 k.1) ∙ sym k.2) in
+      record { line = λ number. ap (λ p. answer_line number (answer.Outside p)) same; unknown = refl }
+  member_agree answer.Inside b h k = absurd k
+  member_agree (answer.Outside here) b h k = absurd k
+  member_agree a b h k = absurd h
+
+-- ---- the queries of a script
+
+some_one : {X : Type 0} (xs : List X) (n : ℕ) (x y : X) → slice_get xs n ≡ Some x → slice_get xs n ≡ Some y → x ≡ y
+some_one xs n x y here there = cc
+
+module _ (s : Parts) where
+  -- both speak of the same rule
+  of_one_rule : (n : ℕ) (P Q : LocalRule → Type 0) (G : Type 0) → OfRule s n P → OfRule s n Q →
+      ((r : LocalRule) → slice_get s.rules n ≡ Some r → P r → Q r → G) → G
+  of_one_rule n P Q G h k then = then h.rule h.stands h.holds (subst Q (some_one s.rules n k.rule h.rule k.stands h.stands) k.holds)
+
+  of_one_configuration : (n : ℕ) (P Q : Tile → Type 0) (G : Type 0) → OfConfiguration s n P → OfConfiguration s n Q →
+      ((t : Tile) → slice_get s.configurations n ≡ Some t → P t → Q t → G) → G
+  of_one_configuration n P Q G h k then = then h.tile h.stands h.holds (subst Q (some_one s.configurations n k.tile h.tile k.stands h.stands) k.holds)
+
+  boxes_agree : (m n : ℕ) (g : LocalRule → GoalOf) (a b : Answer) → OfRule s m (λ y. OfRule s n (λ x. IsRightBox s x (g y) a)) →
+      OfRule s m (λ y. OfRule s n (λ x. IsRightBox s x (g y) b)) → SayTheSame a b
+  boxes_agree m n g a b h k =
+      of_one_rule m (λ y. OfRule s n (λ x. IsRightBox s x (g y) a)) (λ y. OfRule s n (λ x. IsRightBox s x (g y) b)) (SayTheSame a b) h k
+      (λ y _ one other. of_one_rule n (λ x. IsRightBox s x (g y) a) (λ x. IsRightBox s x (g y) b) (SayTheSame a b) one other
+      (λ x _ here there. box_agree s x (g y) a b here there))
+
+module _ (s : Parts) (ok : IsScriptOf s) where
+  -- a fact of all items, at the item with a number
+  at_number : {X : Type 0} (P : X → Type 0) (xs : List X) (n : ℕ) (x : X) → All P xs → slice_get xs n ≡ Some x → P x
+  at_number P xs n x all stands = subst P (get_or_from_slice_get xs n x x stands) (all n x (slice_get_within xs n x stands))
+
+  -- a rule of the script has its dimension and its nodes
+  has_parts : (r : LocalRule) → rule_has (numbers_of s.known) r ≡ true → (r.dimension ≡ s.known.setting.topology.dimension) × (r.nodes ≡ s.known.setting.topology.nodes)
+  has_parts r has =
+      let n = numbers_of s.known in
+      let two = and_parts (r.dimension == n.dimension && r.nodes == n.nodes) (r.symbols == n.symbols) has in
+      let each = and_parts (r.dimension == n.dimension) (r.nodes == n.nodes) two.0 in
+      (eqb-true r.dimension n.dimension each.0, eqb-true r.nodes n.nodes each.1)
+
+  pub right_agree : (q : Query) (a b : Answer) → Right s q a → Right s q b → SayTheSame a b
+  right_agree (query.Member configuration rule) a b h k =
+      of_one_rule s rule (λ x. OfConfiguration s configuration (λ t. IsRightMember x t a)) (λ x. OfConfiguration s configuration (λ t. IsRightMember x t b))
+      (SayTheSame a b) h k
+      (λ x x_is one other. of_one_configuration s configuration (λ t. IsRightMember x t a) (λ t. IsRightMember x t b) (SayTheSame a b) one other
+      (λ t t_is here there.
+      let made = at_number (IsConfigurationOf s.known) s.configurations configuration t ok.configurations t_is in
+      let has = has_parts x (at_number (λ (r : LocalRule). rule_has (numbers_of s.known) r ≡ true) s.rules rule x ok.made.rules_have x_is) in
+      member_agree x t made.tile (made.dimension ∙ sym has.0) (made.nodes ∙ sym has.1) a b here there))
+  right_agree (query.Contains outer inner) a b h k = boxes_agree s outer inner breaks a b h k
+  right_agree (query.Equal left right) a b h k =
+      of_one_rule s left (λ x. OfRule s right (λ y. IsRightEqual s x y a)) (λ x. OfRule s right (λ y. IsRightEqual s x y b)) (SayTheSame a b) h k
+      (λ x _ one other. of_one_rule s right (λ y. IsRightEqual s x y a) (λ y. IsRightEqual s x y b) (SayTheSame a b) one other
+      (λ y _ here there. equal_agree s x y a b here there))
+  right_agree (query.Empty rule) a b h k =
+      of_one_rule s rule (λ x. IsRightBox s x always a) (λ x. IsRightBox s x always b) (SayTheSame a b) h k (λ x _ here there. box_agree s x always a b here there)
+  right_agree q a b h k = absurd h

@@ -1,0 +1,5 @@
+use Rattle.dd_answer.proofs.AgreeLaws.{right_agree}
+use Rattle.dd_answer.proofs.laws.one_line.Goals as goal
+
+pub returns : goal.returns
+returns c = right_agree c.args.script.now c.limits-limits.ensures.kept

@@ -1,0 +1,16 @@
+-- The decisions that an output can hold.
+use Rattle.dd_certificate.specs.Bounds.{IsWritableRefutation}
+use Rattle.dd_contain.specs.declared.decision.Decision.{Decision}
+use Rattle.dd_contain.specs.declared.decision.Decision.TheVariants as decision
+use Rattle.dd_contain.specs.declared.equal.Equality.{Equality}
+use Rattle.dd_contain.specs.declared.equal.Equality.TheVariants as equality
+
+abbrev pub IsWritableDecision : Decision → Type 0
+IsWritableDecision (decision.Yes n steps) = IsWritableRefutation steps
+IsWritableDecision (decision.No t) = Unit {0}
+IsWritableDecision decision.Unknown = Unit {0}
+
+abbrev pub IsWritableEquality : Equality → Type 0
+IsWritableEquality (equality.Yes left right) = IsWritableRefutation left.steps × IsWritableRefutation right.steps
+IsWritableEquality (equality.No h t) = Unit {0}
+IsWritableEquality equality.Unknown = Unit {0}

@@ -1,0 +1,60 @@
+-- Whether some query has no definite answer, by the right answers that were found.
+use Rattle.std.proofs.Common.{◌≡◌, ℕ, zero, suc, ◌+◌, ◌<◌, List, [], ◌∷◌, length, get_or, Bool, true, false, ◌||◌, refl, sym, ◌∙◌, ap, subst, arith, inl, inr}
+use Rattle.std.specs.Prelude.{◌⊎◌}
+use Rattle.std.specs.List.{Contains}
+use Rattle.std.proofs.lemmas.Bool.{false≢true, or_cases}
+use Rattle.std.specs.declared.option.Option.{Option}
+use Rattle.dd_certificate.specs.declared.answer.Answer.{Answer}
+use Rattle.dd_query.specs.declared.queries.Query.{Query}
+use Rattle.dd_script.specs.Parts.{Parts}
+use Rattle.dd_answer.specs.Right.{Right, is_unknown}
+use Rattle.dd_answer.specs.Laws.{SayTheSame}
+use Rattle.dd_session.specs.Answers.{AllRight, IsOpen, IsOpenAs, has_unknown}
+use Rattle.dd_session.specs.Runs.{IsRunnable, WholeOutput, WholeRun}
+
+abbrev AnswersAgree : Parts → Type 0
+AnswersAgree s = (q : Query) (a b : Answer) → Right s q a → Right s q b → SayTheSame a b
+
+-- a query among these with a right answer that is not known
+abbrev IsOpenIn : Parts → List Query → Type 0
+IsOpenIn s queries = (q : Query) × Contains queries q × ((a : Answer) × Right s q a × (is_unknown a ≡ true))
+
+later : (s : Parts) (q : Query) (queries : List Query) → IsOpenIn s queries → IsOpenIn s (q ∷ queries)
+later s q queries (p, (i, below, is), found) = (p, (suc i, omega (arith, below), is), found)
+
+open_from : (s : Parts) (queries : List Query) (answers : List Answer) → AllRight s queries answers → has_unknown answers ≡ true → IsOpenIn s queries
+open_from s queries [] right has = absurd (false≢true has)
+open_from s [] (a ∷ answers) right has = absurd right
+open_from s (q ∷ queries) (a ∷ answers) right has = elim (or_cases (is_unknown a) (has_unknown answers) has) [
+  | inl here ↦ (q, (0, omega arith, refl), (a, right.0, here))
+  | inr rest ↦ later s q queries (open_from s queries answers right.2 rest)
+]
+
+or_none : (a b : Bool) → (a || b) ≡ false → (a ≡ false) × (b ≡ false)
+or_none true b none = absurd (false≢true (sym none))
+or_none false b none = (refl, none)
+
+none_open : (s : Parts) (queries : List Query) (answers : List Answer) → AnswersAgree s → AllRight s queries answers → length answers ≡ length queries →
+    has_unknown answers ≡ false → (q : Query) (i : ℕ) → i < length queries → get_or queries i q ≡ q → (b : Answer) → Right s q b → is_unknown b ≡ true → ⊥
+none_open s [] answers agree right each none q i below is b told unknown = omega (arith, below)
+none_open s (p ∷ queries) [] agree right each none q i below is b told unknown = absurd (omega (arith, each))
+none_open s (p ∷ queries) (a ∷ answers) agree right each none q zero below is b told unknown =
+    let same = (agree q a b (subst (λ r. Right s r a) is right.0) told).unknown in
+    false≢true (sym (or_none (is_unknown a) (has_unknown answers) none).0 ∙ (same ∙ unknown))
+none_open s (p ∷ queries) (a ∷ answers) agree right each none q (suc i) below is b told unknown =
+    none_open s queries answers agree right.2 (omega (arith, each)) (or_none (is_unknown a) (has_unknown answers) none).1 q i (omega (arith, below)) is b told unknown
+
+open_as : (s : Parts) (answers : List Answer) (has : Bool) → AnswersAgree s → AllRight s s.queries answers → length answers ≡ length s.queries →
+    has_unknown answers ≡ has → IsOpenAs has s
+open_as s answers true agree right each is = open_from s s.queries answers right is
+open_as s answers false agree right each is = λ (q, (i, below, at), (b, told, unknown)). none_open s s.queries answers agree right each is q i below at b told unknown
+
+-- a whole run over a script
+pub whole_run : (old new : Option (List ℕ)) (bytes : List ℕ) (s : Parts) (has : Bool) → AnswersAgree s → IsRunnable bytes s → WholeOutput old new bytes s has →
+    WholeRun old new bytes has
+whole_run old new bytes s has agree runnable output = record {
+  script = s;
+  runnable = runnable;
+  output = output;
+  open = open_as s output.answers has agree output.right output.each output.unknown_is;
+}
