@@ -4,6 +4,8 @@ pub mod Endings
 pub mod Equations
 pub mod Firsts
 pub mod LineSteps
+pub mod Places
 pub mod Reaching
+pub mod Standing
 pub mod Totals
 pub mod Unbounded

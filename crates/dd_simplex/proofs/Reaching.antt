@@ -206,7 +206,7 @@ entering_none n d w h q = by (d.is_basic w) refl
         let g : is_over (d.cost w) ≡ false = ap (λ (b : Bool). not b && is_over (d.cost w)) (sym e) ∙ f in
         rw e (not_over (d.cost w) g)
 
-at_most_test : (a b : Exact) → not (is_gt (exact_cmp a b)) ≡ true → IsAtMost a b
+pub at_most_test : (a b : Exact) → not (is_gt (exact_cmp a b)) ≡ true → IsAtMost a b
 at_most_test a b h = ⊎_elim
     (λ (s : IsBelow b a). let k : not (is_gt Greater) ≡ true = ap (λ (o : Ordering). not (is_gt o)) (sym (exact_cmp-above a b s)) ∙ h in absurd cc)
     (λ (s : IsAtMost a b). s)
