@@ -1,14 +1,19 @@
-//! The output text: the answers to queries, and how they are written.
+//! The output text: the answers to queries, how they are written, and how an output is read again. Bytes that are no output
+//! are refused at the first byte with which no output goes on.
 #![tactic(auto)]
 
 mod answer;
 mod decimal;
+mod fault;
 mod laws;
+mod lexing;
+mod lists;
 mod refutation;
 #[cfg(test)]
 mod tests;
 mod writing;
 
-pub use answer::{Answer, Listed, Reason, Side};
+pub use answer::{Answer, Listed, Output, Reason, Side};
+pub use fault::CertificateFault;
 pub use laws::refutations_fit;
 pub use writing::{answer_line, write_answer};

@@ -1,0 +1,7 @@
+-- How a text is read from left to right: mirrors of the reader, and the text that completes what was read at each place.
+pub mod Stops
+pub mod Forms
+pub mod Lists
+pub mod Grammar
+pub mod Whole
+pub mod Seen
