@@ -1,6 +1,6 @@
 -- Symbols that are read from an assignment.
 use Rattle.std.proofs.Common.{◌≡◌, ℕ, suc, ◌+◌, ◌*◌, ◌-◌, ◌<◌, Bool, true, false, List, [], ◌∷◌, ◌++◌, length, get_or, ap, sym, subst, ◌∙◌, arith, inl, inr, length-append}
-use Rattle.std.specs.Prelude.{◌==◌, slice_index_or, slice_index, Option, Some, None, Result, Ok, Err, MatchResult, is_ok}
+use Rattle.std.specs.Prelude.{◌==◌, slice_index_or, Option, Some, None, Result, Ok, Err, MatchResult, is_ok}
 use Rattle.std.specs.Result.{result_ok}
 use Rattle.std.specs.List.{All}
 use Rattle.std.proofs.lemmas.Bool.{cases_lt}
@@ -9,13 +9,15 @@ use Rattle.std.proofs.Math.Seq.{get_or-append_seam}
 use Rattle.std.proofs.lemmas.List.{ext_get_or}
 use Rattle.std.proofs.lemmas.Option.{slice_get-get_or}
 use Rattle.dd_clause.specs.Clauses.{true_variables}
-use Rattle.dd_pattern.specs.Tile.{Tile, IsTile, tile}
+use Rattle.dd_pattern.specs.declared.periods.Periods.{Periods}
+use Rattle.dd_pattern.specs.Periods.{volume}
+use Rattle.dd_pattern.specs.Tile.{Tile, IsPeriodic, tile}
 use Rattle.dd_expansion.specs.Truth.{is_symbol}
 use Rattle.dd_formula.specs.LocalRule.{LocalRule, IsRule}
 use Rattle.dd_formula.specs.Living.{Fits}
 use Rattle.dd_boxes.specs.Witnesses.{ArePeriods, HasPeriods}
 use Rattle.dd_problem.proofs.Wiring.{some_same}
-use Rattle.dd_problem.proofs.TorusLayout.{torus_of, torus_is_tile}
+use Rattle.dd_problem.proofs.TorusLayout.{torus_of, torus_is_periodic}
 use Rattle.dd_problem.proofs.TorusCalls.{tile_ok}
 use Rattle.dd_problem.specs.Clauses.{input}
 use Rattle.dd_problem.specs.Symbols.{IsSymbolRead, HasOneEach, AreRead, AreAllRead}
@@ -86,26 +88,26 @@ same_symbol set m symbols others read other below same k h =
     let also : set (input m k s) ≡ (get_or symbols k 0 == s) = read k s within small ∙ ap (is_symbol s) (slice_get-get_or symbols k 0 within) in
     sym (equal_from (get_or symbols k 0) s (sym also ∙ yes))
 
-same_tile : (t u : Tile) → t.dimension ≡ u.dimension → t.along_x ≡ u.along_x → t.along_y ≡ u.along_y → t.along_z ≡ u.along_z → t.nodes ≡ u.nodes → t.symbols ≡ u.symbols → t ≡ u
-same_tile t u d x y z n s = λ i. record { dimension = d i; along_x = x i; along_y = y i; along_z = z i; nodes = n i; symbols = s i }
+same_tile : (t u : Tile) → t.dimension ≡ u.dimension → t.periods ≡ u.periods → t.nodes ≡ u.nodes → t.symbols ≡ u.symbols → t ≡ u
+same_tile t u d p n s = λ i. record { dimension = d i; periods = p i; nodes = n i; symbols = s i }
 
 -- a configuration that is made is the one that is asked for
-pub made_is : {B : Type 0} (r : Result Tile B) (o : Option Tile) (t u : Tile) (S : B → Type 0) → MatchResult r (λ p. (p ≡ u) × IsTile u) (λ back. S back × (IsTile u → ⊥)) →
+pub made_is : {B : Type 0} (r : Result Tile B) (o : Option Tile) (t u : Tile) (S : B → Type 0) → MatchResult r (λ p. (p ≡ u) × IsPeriodic u) (λ back. S back × (IsPeriodic u → ⊥)) →
     o ≡ result_ok r → o ≡ Some t → t ≡ u
 made_is (Ok a) o t u S h ok is = some_same t a (sym is ∙ ok) ∙ h.0
 made_is (Err e) o t u S h ok is = absurd (let no : Some t ≡ None = sym is ∙ ok in cc)
 
-module _ (x : LocalRule) (periods : List ℕ) (rule : IsRule x) (ok : ArePeriods x.dimension periods) where
+module _ (x : LocalRule) (periods : Periods) (rule : IsRule x) (ok : ArePeriods x.dimension periods) where
   read_is : (d nodes : ℕ) (items : List ℕ) → d ≡ x.dimension → nodes ≡ x.nodes → tile d periods nodes items ≡ torus_of x periods items
   read_is d nodes items dim same = ap (λ k. tile k periods nodes items) dim ∙ ap (λ k. tile x.dimension periods k items) same
 
   pub read_made : {B : Type 0} (r : Result Tile B) (S : B → Type 0) (d nodes : ℕ) (items : List ℕ) → d ≡ x.dimension → nodes ≡ x.nodes →
-      length items ≡ slice_index periods 2 * slice_index periods 1 * slice_index periods 0 * nodes →
-      MatchResult r (λ p. (p ≡ tile d periods nodes items) × IsTile (tile d periods nodes items)) (λ back. S back × (IsTile (tile d periods nodes items) → ⊥)) → is_ok r ≡ true
+      length items ≡ volume periods * nodes →
+      MatchResult r (λ p. (p ≡ tile d periods nodes items) × IsPeriodic (tile d periods nodes items)) (λ back. S back × (IsPeriodic (tile d periods nodes items) → ⊥)) → is_ok r ≡ true
   read_made r S d nodes items dim same full h =
       tile_ok x periods rule ok r (tile d periods nodes items) S h
-      (subst IsTile (sym (read_is d nodes items dim same))
-      (torus_is_tile x periods items rule ok (full ∙ ap (λ k. slice_index periods 2 * slice_index periods 1 * slice_index periods 0 * k) same)))
+      (subst IsPeriodic (sym (read_is d nodes items dim same))
+      (torus_is_periodic x periods items rule ok (full ∙ ap (λ k. volume periods * k) same)))
 
   pub read_only : (set : ℕ → Bool) (d nodes : ℕ) (items : List ℕ) (t u : Tile) → d ≡ x.dimension → nodes ≡ x.nodes → t ≡ tile d periods nodes items → AreRead set x.symbols items →
       HasPeriods periods u → Fits x u → AreRead set x.symbols u.symbols → length u.symbols ≡ length t.symbols → u ≡ t
@@ -113,7 +115,7 @@ module _ (x : LocalRule) (periods : List ℕ) (rule : IsRule x) (ok : ArePeriods
       let whole : t ≡ torus_of x periods items = is ∙ read_is d nodes items dim same in
       let count : length u.symbols ≡ length items = full ∙ ap (λ (v : Tile). length v.symbols) whole in
       let symbols = ext_get_or 0 u.symbols items count (same_symbol set x.symbols items u.symbols read other fit.symbols count) in
-      same_tile u (torus_of x periods items) fit.dimension p.on_x p.on_y p.on_z fit.nodes symbols ∙ sym whole
+      same_tile u (torus_of x periods items) fit.dimension p fit.nodes symbols ∙ sym whole
 
 pub read_there : (values found : List Bool) (m symbols n : ℕ) (items : List ℕ) → values ≡ found → m ≡ symbols → AreAllRead (true_variables values) m n items →
     AreRead (true_variables found) symbols items

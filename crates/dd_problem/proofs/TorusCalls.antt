@@ -1,6 +1,6 @@
 -- What the calls give from which the clauses of a torus are made.
 use Rattle.std.proofs.Common.{◌≡◌, ℕ, ◌+◌, ◌-◌, ◌*◌, ◌≤◌, ◌<◌, ◌^◌, true, List, map, length, refl, ap, sym, subst, ◌∙◌, arith, pos, ◌-ℤ◌}
-use Rattle.std.specs.Prelude.{Result, Ok, Err, IfOk, MatchResult, is_ok, slice_index}
+use Rattle.std.specs.Prelude.{Result, Ok, Err, IfOk, MatchResult, is_ok}
 use Rattle.std.specs.List.{All, range_with_len}
 use Rattle.std.specs.List.Sorted.{IsStrictlySortedBy}
 use Rattle.std.proofs.lemmas.Int.{ints}
@@ -11,7 +11,9 @@ use Rattle.std.proofs.lemmas.Result.{IfOk-weaker}
 use Rattle.dd_lattice.specs.Order.{cell_cmp}
 use Rattle.dd_lattice.specs.Boxes.{Bounds, is_active, spread, span, volume as box_volume}
 use Rattle.dd_lattice.specs.declared.position.Cell.{Cell}
-use Rattle.dd_pattern.specs.Tile.{Tile, IsTile, tile, volume, fundamental}
+use Rattle.dd_pattern.specs.declared.periods.Periods.{Periods}
+use Rattle.dd_pattern.specs.Periods.{volume}
+use Rattle.dd_pattern.specs.Tile.{Tile, IsPeriodic, tile, fundamental}
 use Rattle.dd_pattern.proofs.TileSizes.{index_below}
 use Rattle.dd_clause.specs.Clauses.{ClauseList}
 use Rattle.dd_compile.specs.Wiring.{Wiring}
@@ -19,7 +21,7 @@ use Rattle.dd_formula.specs.LocalRule.{LocalRule, IsRule}
 use Rattle.dd_boxes.specs.Goals.{GoalOf, IsGoalFor}
 use Rattle.dd_boxes.specs.Counts.{question_clauses}
 use Rattle.dd_boxes.specs.Witnesses.{ArePeriods}
-use Rattle.dd_problem.specs.Layouts.{cells_in, torus, torus_cells, torus_layout}
+use Rattle.dd_problem.specs.Layouts.{cells_in, torus_cells, torus_layout}
 use Rattle.dd_problem.specs.Problems.{torus_problem}
 use Rattle.dd_problem.specs.Grown.{question_reach, grown, near_cells, number_at, numbered_by, numbers_of, torus_inputs}
 use Rattle.dd_problem.specs.Pushed.{AreInputs, is_goal_wired, wired_problem}
@@ -28,78 +30,69 @@ use Rattle.dd_problem.proofs.RangesLeft.{row_within}
 use Rattle.dd_problem.proofs.CellOrder.{cells_nodes}
 use Rattle.dd_problem.proofs.Counting.{variables_below}
 use Rattle.dd_problem.proofs.NumberedWires.{are_inputs}
-use Rattle.dd_problem.proofs.TorusLayout.{torus_size, some_period, span_is, product_turned, product_small, length-torus_cells}
+use Rattle.dd_problem.proofs.TorusLayout.{torus_size, span_is, product_turned, product_small, length-torus_cells}
 use Rattle.dd_problem.proofs.TorusShows.{torus_shows}
 use Rattle.dd_problem.proofs.TorusReach.{question_near}
 use Rattle.dd_problem.proofs.TorusInputs.{spread_small, numbers_tile, number_is, near_ascends, torus_is_problem, torus_goal_wired}
 
 -- the question's count is at most two million
-abbrev pub IsFew : LocalRule → GoalOf → List ℕ → Type 0
-IsFew x g periods = question_clauses x g (volume (torus x periods)) ≤ 2000000
+abbrev pub IsFew : LocalRule → GoalOf → Periods → Type 0
+IsFew x g periods = question_clauses x g (volume periods) ≤ 2000000
 
 span_most : (p s : ℕ) → 1 ≤ p → p ≤ 8 → s ≤ 16 → span (pos 0 -ℤ pos s) (pos (p - 1 + s)) ≤ 40
 span_most p s some most small = omega (arith, ints)
 
-module _ (x : LocalRule) (periods : List ℕ) (rule : IsRule x) (ok : ArePeriods x.dimension periods) where
-  pub on_x : (1 ≤ slice_index periods 0) × (slice_index periods 0 ≤ 8)
-  on_x = some_period (is_active x.dimension 0) (slice_index periods 0) ok.on_x
-
-  pub on_y : (1 ≤ slice_index periods 1) × (slice_index periods 1 ≤ 8)
-  on_y = some_period (is_active x.dimension 1) (slice_index periods 1) ok.on_y
-
-  pub on_z : (1 ≤ slice_index periods 2) × (slice_index periods 2 ≤ 8)
-  on_z = some_period (is_active x.dimension 2) (slice_index periods 2) ok.on_z
-
-  volume_is : box_volume (fundamental (torus x periods)) ≡ volume (torus x periods)
+module _ (x : LocalRule) (periods : Periods) (rule : IsRule x) (ok : ArePeriods x.dimension periods) where
+  volume_is : box_volume (fundamental periods) ≡ volume periods
   volume_is =
-      rw (span_is (slice_index periods 0) (on_x.0), span_is (slice_index periods 1) (on_y.0), span_is (slice_index periods 2) (on_z.0))
-      (product_turned (slice_index periods 0) (slice_index periods 1) (slice_index periods 2))
+      rw (span_is periods.x ok.periods.x_some, span_is periods.y (ok.periods.y_some), span_is periods.z (ok.periods.z_some))
+      (product_turned periods.x periods.y periods.z)
 
   pub size_small : torus_size x periods ≤ 65536
-  size_small = product_small (slice_index periods 2) (slice_index periods 1) (slice_index periods 0) x.nodes on_z.1 on_y.1 on_x.1 rule.nodes.1
+  size_small = product_small periods.z periods.y periods.x x.nodes ok.z_most ok.y_most ok.x_most rule.nodes.1
 
   -- the configuration of the numbers
   numbering_is : (d nodes : ℕ) (items : List ℕ) → d ≡ x.dimension → nodes ≡ x.nodes →
-      items ≡ range_with_len 0 (slice_index periods 2 * slice_index periods 1 * slice_index periods 0 * nodes) → tile d periods nodes items ≡ numbers_of x periods
+      items ≡ range_with_len 0 (volume periods * nodes) → tile d periods nodes items ≡ numbers_of x periods
   numbering_is d nodes items dim same is =
       ap (λ k. tile k periods nodes items) dim
       ∙ (ap (λ k. tile x.dimension periods k items) same
-      ∙ ap (tile x.dimension periods x.nodes) (is ∙ ap (λ k. range_with_len 0 (slice_index periods 2 * slice_index periods 1 * slice_index periods 0 * k)) same))
+      ∙ ap (tile x.dimension periods x.nodes) (is ∙ ap (λ k. range_with_len 0 (volume periods * k)) same))
 
-  pub count_fits : (nodes : ℕ) → nodes ≡ x.nodes → slice_index periods 2 * slice_index periods 1 * slice_index periods 0 * nodes ≤ 65536
+  pub count_fits : (nodes : ℕ) → nodes ≡ x.nodes → volume periods * nodes ≤ 65536
   count_fits nodes same =
       let all = size_small in
-      let is = ap (λ k. slice_index periods 2 * slice_index periods 1 * slice_index periods 0 * k) same in
+      let is = ap (λ k. volume periods * k) same in
       omega (arith, all, is)
 
-  pub tile_ok : {B : Type 0} (r : Result Tile B) (t : Tile) (S : B → Type 0) → MatchResult r (λ p. (p ≡ t) × IsTile t) (λ back. S back × (IsTile t → ⊥)) → IsTile t → is_ok r ≡ true
+  pub tile_ok : {B : Type 0} (r : Result Tile B) (t : Tile) (S : B → Type 0) → MatchResult r (λ p. (p ≡ t) × IsPeriodic t) (λ back. S back × (IsPeriodic t → ⊥)) → IsPeriodic t → is_ok r ≡ true
   tile_ok (Ok a) t S h tile = refl
   tile_ok (Err e) t S h tile = absurd (h.1 tile)
 
   pub numbering_made : {B : Type 0} (r : Result Tile B) (S : B → Type 0) (d nodes : ℕ) (items : List ℕ) → d ≡ x.dimension → nodes ≡ x.nodes →
-      items ≡ range_with_len 0 (slice_index periods 2 * slice_index periods 1 * slice_index periods 0 * nodes) →
-      MatchResult r (λ p. (p ≡ tile d periods nodes items) × IsTile (tile d periods nodes items)) (λ back. S back × (IsTile (tile d periods nodes items) → ⊥)) → is_ok r ≡ true
+      items ≡ range_with_len 0 (volume periods * nodes) →
+      MatchResult r (λ p. (p ≡ tile d periods nodes items) × IsPeriodic (tile d periods nodes items)) (λ back. S back × (IsPeriodic (tile d periods nodes items) → ⊥)) → is_ok r ≡ true
   numbering_made r S d nodes items dim same is h =
-      tile_ok r (tile d periods nodes items) S h (subst IsTile (sym (numbering_is d nodes items dim same is)) (numbers_tile x periods rule ok))
+      tile_ok r (tile d periods nodes items) S h (subst IsPeriodic (sym (numbering_is d nodes items dim same is)) (numbers_tile x periods rule ok))
 
-  pub cells_few : (nodes : ℕ) (b : Bounds) → nodes ≡ x.nodes → b ≡ fundamental (torus x periods) → box_volume b * nodes ≤ 2 ^ 24
+  pub cells_few : (nodes : ℕ) (b : Bounds) → nodes ≡ x.nodes → b ≡ fundamental periods → box_volume b * nodes ≤ 2 ^ 24
   cells_few nodes b same is =
       let small = size_small in
       let all : box_volume b * nodes ≡ torus_size x periods = ap (λ k. box_volume b * k) same ∙ (ap (λ c. box_volume c * x.nodes) is ∙ ap (λ k. k * x.nodes) volume_is) in
       omega (arith, small, all)
 
   -- the cells of the torus
-  pub cells_are : (nodes : ℕ) (b : Bounds) (items cells : List Cell) → nodes ≡ x.nodes → b ≡ fundamental (torus x periods) → items ≡ cells_in b nodes → cells ≡ items →
+  pub cells_are : (nodes : ℕ) (b : Bounds) (items cells : List Cell) → nodes ≡ x.nodes → b ≡ fundamental periods → items ≡ cells_in b nodes → cells ≡ items →
       cells ≡ torus_cells x periods
   cells_are nodes b items cells same is listed read = read ∙ (listed ∙ (ap (cells_in b) same ∙ ap (λ c. cells_in c x.nodes) is))
 
   pub nodes_there : (cells : List Cell) → cells ≡ torus_cells x periods → All (λ (d : Cell). d.node < x.nodes) cells
-  nodes_there cells read = subst (All (λ (d : Cell). d.node < x.nodes)) (sym read) (cells_nodes (fundamental (torus x periods)) x.nodes rule.nodes.0)
+  nodes_there cells read = subst (All (λ (d : Cell). d.node < x.nodes)) (sym read) (cells_nodes (fundamental periods) x.nodes rule.nodes.0)
 
   number_below : (c : Cell) → c.node < x.nodes → number_at (numbers_of x periods) c < length (torus_cells x periods)
   number_below c node =
       let is = number_is x periods rule ok c node in
-      let low = index_below (numbers_of x periods) (numbers_tile x periods rule ok) c node in
+      let low = index_below (numbers_of x periods) (numbers_tile x periods rule ok).tile c node in
       omega (arith, is, low, length-range_with_len 0 (torus_size x periods), length-torus_cells x periods rule ok)
 
   input_few : (c : Cell) → c.node < x.nodes → number_at (numbers_of x periods) c * x.symbols + x.symbols ≤ 2 ^ 24
@@ -111,7 +104,7 @@ module _ (x : LocalRule) (periods : List ℕ) (rule : IsRule x) (ok : ArePeriods
       omega (arith, row, all)
 
 -- what the premise and the goal read
-module _ (x : LocalRule) (periods : List ℕ) (rule : IsRule x) (ok : ArePeriods x.dimension periods) (g : GoalOf) (good : IsGoalFor x g) where
+module _ (x : LocalRule) (periods : Periods) (rule : IsRule x) (ok : ArePeriods x.dimension periods) (g : GoalOf) (good : IsGoalFor x g) where
   abbrev n : ℕ
   n = question_reach x g
 
@@ -122,9 +115,9 @@ module _ (x : LocalRule) (periods : List ℕ) (rule : IsRule x) (ok : ArePeriods
   grown_small =
       let small = question_near x g rule good in
       let b = grown x.dimension n periods in
-      let sx = span_most (slice_index periods 0) (spread (is_active x.dimension 0) n) (on_x x periods rule ok).0 (on_x x periods rule ok).1 (spread_small (is_active x.dimension 0) n small) in
-      let sy = span_most (slice_index periods 1) (spread (is_active x.dimension 1) n) (on_y x periods rule ok).0 (on_y x periods rule ok).1 (spread_small (is_active x.dimension 1) n small) in
-      let sz = span_most (slice_index periods 2) (spread (is_active x.dimension 2) n) (on_z x periods rule ok).0 (on_z x periods rule ok).1 (spread_small (is_active x.dimension 2) n small) in
+      let sx = span_most periods.x (spread (is_active x.dimension 0) n) ok.periods.x_some ok.x_most (spread_small (is_active x.dimension 0) n small) in
+      let sy = span_most periods.y (spread (is_active x.dimension 1) n) ok.periods.y_some ok.y_most (spread_small (is_active x.dimension 1) n small) in
+      let sz = span_most periods.z (spread (is_active x.dimension 2) n) ok.periods.z_some ok.z_most (spread_small (is_active x.dimension 2) n small) in
       let rest : span b.low.y b.high.y * span b.low.z b.high.z ≤ 1600 = mul-le (span b.low.y b.high.y) (span b.low.z b.high.z) 40 40 sy sz in
       let all : box_volume b ≤ 64000 = mul-le (span b.low.x b.high.x) (span b.low.y b.high.y * span b.low.z b.high.z) 40 1600 sx rest in
       let most : box_volume b * x.nodes ≤ 256000 = mul-le (box_volume b) x.nodes 64000 4 all rule.nodes.1 in
@@ -184,7 +177,7 @@ module _ (x : LocalRule) (periods : List ℕ) (rule : IsRule x) (ok : ArePeriods
 
     pub variables_few : IsFew x g periods → (wired_problem w x g cells).variables ≤ 2 ^ 24
     variables_few few =
-        let all = variables_below (torus_layout x periods) x g (fundamental (torus x periods)) refl in
+        let all = variables_below (torus_layout x periods) x g (fundamental periods) refl in
         let count = ap (question_clauses x g) (volume_is x periods rule ok) in
         let same = ap (λ (k : ClauseList). k.variables) problem_is in
         omega (arith, all, count, same, few)

@@ -1,11 +1,11 @@
 -- The inputs of the cells near a fundamental box are those of the torus.
-use Rattle.std.proofs.Common.{◌≡◌, ℕ, ◌+◌, ◌*◌, ◌<◌, ◌≤◌, Bool, true, false, List, [], ◌∷◌, map, length, refl, ap, sym, ◌∙◌, arith, Some, None, pos, ◌-◌, ◌-ℤ◌, ◌+ℤ◌, ◌≤ℤ◌, ℤ, if◌then◌else◌, option_map}
-use Rattle.std.specs.Prelude.{cond, ◌&&◌, ◌||◌, nat_lt, slice_get, slice_index, unsigned_abs}
+use Rattle.std.proofs.Common.{◌≡◌, ℕ, suc, ◌+◌, ◌*◌, ◌<◌, ◌≤◌, Bool, true, false, List, [], ◌∷◌, map, length, refl, ap, sym, ◌∙◌, arith, Some, None, pos, ◌-◌, ◌-ℤ◌, ◌+ℤ◌, ◌≤ℤ◌, ℤ, if◌then◌else◌, option_map}
+use Rattle.std.specs.Prelude.{cond, ◌&&◌, ◌||◌, nat_lt, slice_get, unsigned_abs, ◌*ℤ◌}
 use Rattle.std.specs.Ordering.{int_eq}
 use Rattle.std.specs.List.{list_all, range_with_len}
 use Rattle.std.specs.List.Sorted.{IsStrictlySortedBy}
 use Rattle.std.proofs.lemmas.Int.{ints}
-use Rattle.std.proofs.lemmas.Bool.{and_parts, and_from, ltb-true, lt-ltb, leb-true}
+use Rattle.std.proofs.lemmas.Bool.{and_parts, and_from, ltb-true, ltb-false, lt-ltb, leb-true}
 use Rattle.std.proofs.lemmas.Bool.Decides.{Decides-int_eq}
 use Rattle.std.proofs.lemmas.List.{length-map}
 use Rattle.std.proofs.lemmas.List.FromFn.{length-range_with_len, get_or-range_with_len}
@@ -17,8 +17,11 @@ use Rattle.dd_lattice.specs.Boxes.{Bounds, IsBelow, IsWithin, is_active, spread,
 use Rattle.dd_lattice.specs.declared.position.Cell.{Cell}
 use Rattle.dd_lattice.proofs.RangeLaws.{test_from_in_range}
 use Rattle.dd_topology.specs.Topology.{extent}
-use Rattle.dd_pattern.specs.Tile.{Tile, IsTile, residue, tile_index}
-use Rattle.dd_pattern.proofs.Residues.{residue_below, residue_small}
+use Rattle.dd_pattern.specs.declared.periods.Periods.{Periods}
+use Rattle.dd_pattern.specs.Periods.{residue, unsheared, base_of}
+use Rattle.dd_pattern.specs.Tile.{Tile, IsPeriodic, tile_index}
+use Rattle.dd_pattern.proofs.Residues.{residue_below, residue_small, quotient_small}
+use Rattle.dd_pattern.proofs.TileLaws.{place_same}
 use Rattle.dd_pattern.proofs.TileSizes.{index_below}
 use Rattle.dd_expansion.specs.Placed.{is_flat}
 use Rattle.dd_circuit.specs.Circuits.{signal_of}
@@ -28,7 +31,7 @@ use Rattle.dd_formula.specs.Reach.{reach}
 use Rattle.dd_formula.proofs.ReachLaws.{is_within, reads_within}
 use Rattle.dd_boxes.specs.Goals.{GoalOf, breaks, always, IsGoalFor}
 use Rattle.dd_boxes.specs.Boxes.{origin}
-use Rattle.dd_boxes.specs.Witnesses.{IsPeriod, ArePeriods}
+use Rattle.dd_boxes.specs.Witnesses.{ArePeriods}
 use Rattle.dd_problem.specs.Layouts.{torus, torus_cells, torus_layout}
 use Rattle.dd_problem.specs.Clauses.{input}
 use Rattle.dd_problem.specs.Problems.{torus_problem}
@@ -37,7 +40,7 @@ use Rattle.dd_problem.specs.Pushed.{wired_problem, is_goal_wired}
 use Rattle.dd_problem.proofs.CellOrder.{cells_ascending, cell_there}
 use Rattle.dd_problem.proofs.Matching.{Gives, Matches, GoalMatches, goal_is_wired, wired_is_problem}
 use Rattle.dd_problem.proofs.NumberedWires.{wire_there}
-use Rattle.dd_problem.proofs.TorusLayout.{torus_size, some_period, torus_is_tile, torus_is_layout, torus_cell_at}
+use Rattle.dd_problem.proofs.TorusLayout.{torus_size, torus_is_periodic, torus_is_layout, torus_cell_at}
 use Rattle.dd_problem.proofs.TorusShows.{goal_reads_torus}
 use Rattle.dd_problem.proofs.TorusReach.{question_near, premise_within, goal_within}
 
@@ -64,35 +67,40 @@ record AxisIn (low high v : ℤ) : Type 0 where
   above : low ≤ℤ v
   below : v ≤ℤ high
 
-axis_in : (active : Bool) (p n : ℕ) (c v : ℤ) → IsPeriod active p → pos (residue v p) ≡ v → unsigned_abs c ≤ n → (active || int_eq c (pos 0)) ≡ true →
+axis_in : (active : Bool) (p n : ℕ) (c v w : ℤ) → 0 < p → (active ≡ false → p ≡ 1) → pos (residue w p) ≡ v → unsigned_abs c ≤ n → (active || int_eq c (pos 0)) ≡ true →
     AxisIn (pos 0 -ℤ pos (spread active n)) (pos (p - 1 + spread active n)) (c +ℤ v)
-axis_in true p n c v period base near flat =
-    let small : residue v p < p = residue_below v p (omega (arith, period)) in
+axis_in true p n c v w some unused base near flat =
+    let small : residue w p < p = residue_below w p some in
     let is = base in
-    record { above = omega (arith, ints, small, is, near); below = omega (arith, ints, small, is, near, period) }
-axis_in false p n c v period base near flat =
-    let small : residue v p < p = residue_below v p (omega (arith, period)) in
+    record { above = omega (arith, ints, small, is, near); below = omega (arith, ints, small, is, near) }
+axis_in false p n c v w some unused base near flat =
+    let small : residue w p < p = residue_below w p some in
+    let one : p ≡ 1 = unused refl in
     let zero_c : c ≡ pos 0 = (Decides-int_eq c (pos 0)).0 flat in
     let is = base in
-    record { above = omega (arith, ints, small, is, zero_c, period); below = omega (arith, ints, small, is, zero_c, period) }
+    record { above = omega (arith, ints, small, is, zero_c, one); below = omega (arith, ints, small, is, zero_c, one) }
+
+-- an axis that isn't active is past the dimension
+idle : (d axis : ℕ) → is_active d axis ≡ false → d < suc axis
+idle d axis f = let most : d ≤ axis = ltb-false axis d f in omega arith
 
 pub spread_small : (b : Bool) (n : ℕ) → n ≤ 16 → spread b n ≤ 16
 spread_small true n small = small
 spread_small false n small = omega arith
 
-module _ (x : LocalRule) (periods : List ℕ) (rule : IsRule x) (ok : ArePeriods x.dimension periods) where
-  pub numbers_tile : IsTile (numbers_of x periods)
-  numbers_tile = torus_is_tile x periods (range_with_len 0 (torus_size x periods)) rule ok (length-range_with_len 0 (torus_size x periods))
+module _ (x : LocalRule) (periods : Periods) (rule : IsRule x) (ok : ArePeriods x.dimension periods) where
+  pub numbers_tile : IsPeriodic (numbers_of x periods)
+  numbers_tile = torus_is_periodic x periods (range_with_len 0 (torus_size x periods)) rule ok (length-range_with_len 0 (torus_size x periods))
 
   pub number_is : (c : Cell) → c.node < x.nodes → number_at (numbers_of x periods) c ≡ tile_index (torus x periods) c
   number_is c node =
       let k = tile_index (torus x periods) c in
-      let low : k < torus_size x periods = omega (arith, index_below (numbers_of x periods) numbers_tile c node, length-range_with_len 0 (torus_size x periods)) in
+      let low : k < torus_size x periods = omega (arith, index_below (numbers_of x periods) numbers_tile.tile c node, length-range_with_len 0 (torus_size x periods)) in
       let at = get_or-range_with_len 0 (torus_size x periods) k 0 low in
       omega (arith, at)
 
 -- what a question reads has its inputs
-module _ (x : LocalRule) (periods : List ℕ) (rule : IsRule x) (ok : ArePeriods x.dimension periods) (g : GoalOf) (good : IsGoalFor x g) where
+module _ (x : LocalRule) (periods : Periods) (rule : IsRule x) (ok : ArePeriods x.dimension periods) (g : GoalOf) (good : IsGoalFor x g) where
   abbrev n : ℕ
   n = question_reach x g
 
@@ -108,17 +116,23 @@ module _ (x : LocalRule) (periods : List ℕ) (rule : IsRule x) (ok : ArePeriods
   zone_ordered : IsBelow zone.low zone.high
   zone_ordered = record { on_x = omega (arith, ints); on_y = omega (arith, ints); on_z = omega (arith, ints) }
 
-  near_within : (v : Place) (c : Cell) → (pos (residue v.x (slice_index periods 0)) ≡ v.x) × (pos (residue v.y (slice_index periods 1)) ≡ v.y) × (pos (residue v.z (slice_index periods 2)) ≡ v.z) →
-      near_cell x n c ≡ true → IsWithin zone (moved c.position v)
+  near_within : (v : Place) (c : Cell) → base_of periods v ≡ v → near_cell x n c ≡ true → IsWithin zone (moved c.position v)
   near_within v c base h =
       let both = and_parts (is_of x c) (is_within n c) h in
       let flat = (and_parts (is_flat x.dimension c.position) (nat_lt c.node x.nodes) both.0).0 in
       let axes = and_parts (nat_lt 1 x.dimension || int_eq c.position.y (pos 0)) (nat_lt 2 x.dimension || int_eq c.position.z (pos 0)) flat in
       let far = leb-true (extent c.position) n both.1 in
-      let first : (is_active x.dimension 0 || int_eq c.position.x (pos 0)) ≡ true = ap (λ b. b || int_eq c.position.x (pos 0)) (lt-ltb 0 x.dimension rule.dimension.0) in
-      let on_x = axis_in (is_active x.dimension 0) (slice_index periods 0) n c.position.x v.x ok.on_x base.0 (omega (arith, far)) first in
-      let on_y = axis_in (is_active x.dimension 1) (slice_index periods 1) n c.position.y v.y ok.on_y base.1 (omega (arith, far)) axes.0 in
-      let on_z = axis_in (is_active x.dimension 2) (slice_index periods 2) n c.position.z v.z ok.on_z base.2 (omega (arith, far)) axes.1 in
+      let used : is_active x.dimension 0 ≡ true = lt-ltb 0 x.dimension rule.dimension.0 in
+      let first : (is_active x.dimension 0 || int_eq c.position.x (pos 0)) ≡ true = ap (λ b. b || int_eq c.position.x (pos 0)) used in
+      let at_x = ap (λ (p : Place). p.x) base in
+      let at_y = ap (λ (p : Place). p.y) base in
+      let at_z = ap (λ (p : Place). p.z) base in
+      let on_x =
+      axis_in (is_active x.dimension 0) periods.x n c.position.x v.x (unsheared periods v) ok.periods.x_some (λ f. absurd (let t = used in cc)) at_x (omega (arith, far)) first in
+      let on_y =
+      axis_in (is_active x.dimension 1) periods.y n c.position.y v.y v.y ok.periods.y_some (λ f. ok.periods.y_unused (idle x.dimension 1 f)) at_y (omega (arith, far)) axes.0 in
+      let on_z =
+      axis_in (is_active x.dimension 2) periods.z n c.position.z v.z v.z ok.periods.z_some (λ f. ok.periods.z_unused (idle x.dimension 2 f)) at_z (omega (arith, far)) axes.1 in
       (record { on_x = on_x.above; on_y = on_y.above; on_z = on_z.above }, record { on_x = on_x.below; on_y = on_y.below; on_z = on_z.below })
 
   zone_in_range : (p : Place) → IsWithin zone p → IsInRange p
@@ -127,9 +141,9 @@ module _ (x : LocalRule) (periods : List ℕ) (rule : IsRule x) (ok : ArePeriods
       let sx = spread_small (is_active x.dimension 0) n small in
       let sy = spread_small (is_active x.dimension 1) n small in
       let sz = spread_small (is_active x.dimension 2) n small in
-      let px = some_period (is_active x.dimension 0) (slice_index periods 0) ok.on_x in
-      let py = some_period (is_active x.dimension 1) (slice_index periods 1) ok.on_y in
-      let pz = some_period (is_active x.dimension 2) (slice_index periods 2) ok.on_z in
+      let px = ok.x_most in
+      let py = ok.y_most in
+      let pz = ok.z_most in
       let l = h.0 in
       let u = h.1 in
       ((omega (arith, ints, sx, px, l, u), omega (arith, ints, sx, px, l, u)), (omega (arith, ints, sy, py, l, u), omega (arith, ints, sy, py, l, u)), (omega (arith, ints, sz, pz, l, u), omega (arith, ints, sz, pz, l, u)))
@@ -145,7 +159,7 @@ module _ (x : LocalRule) (periods : List ℕ) (rule : IsRule x) (ok : ArePeriods
       let number = slice_get-map (number_at numbers) near i ∙ (ap (option_map (number_at numbers)) there ∙ ap (λ k. Some k) (number_is x periods rule ok c node)) in
       wire_there x.symbols near (map (number_at numbers) near) near_ascends (length-map near (number_at numbers)) c i (tile_index (torus x periods) c) s there number below
 
-  torus_gives : (v : Place) → (pos (residue v.x (slice_index periods 0)) ≡ v.x) × (pos (residue v.y (slice_index periods 1)) ≡ v.y) × (pos (residue v.z (slice_index periods 2)) ≡ v.z) →
+  torus_gives : (v : Place) → base_of periods v ≡ v →
       Gives (numbered_by x.symbols numbers near) (torus_layout x periods) x.symbols (near_cell x n) v
   torus_gives v base c s h below =
       let d = shifted v c in
@@ -161,26 +175,28 @@ module _ (x : LocalRule) (periods : List ℕ) (rule : IsRule x) (ok : ArePeriods
       let here = torus_cell_at x periods rule ok k d is in
       record {
         node = here.node;
-        gives = torus_gives d.position (ap (λ (p : Place). p.x) here.base, ap (λ (p : Place). p.y) here.base, ap (λ (p : Place). p.z) here.base);
+        gives = torus_gives d.position here.base;
         reads = reads_near x x n d.node rule (premise_within x g) refl refl here.node;
       }
 
-  origin_base : (n : ℕ) → 0 < n → pos (residue (pos 0) n) ≡ pos 0
-  origin_base n some = ap pos (residue_zero n some) where
-    residue_zero : (m : ℕ) → 0 < m → residue (pos 0) m ≡ 0
-    residue_zero m h = residue_small 0 m h
+  -- the origin is its own base
+  at_zero : (m : ℕ) → 0 < m → pos (residue (pos 0) m) ≡ pos 0
+  at_zero m some = ap pos (residue_small 0 m some)
+
+  unsheared_origin : unsheared periods origin ≡ pos 0
+  unsheared_origin = ap (λ k. pos 0 -ℤ k *ℤ pos periods.shear) (quotient_small 0 periods.y ok.periods.y_some) ∙ omega (arith, ints)
+
+  origin_base : base_of periods origin ≡ origin
+  origin_base =
+      place_same _ _ _ _ _ _ (ap (λ u. pos (residue u periods.x)) unsheared_origin ∙ at_zero periods.x ok.periods.x_some) (at_zero periods.y ok.periods.y_some)
+      (at_zero periods.z ok.periods.z_some)
 
   torus_goal : GoalMatches (numbered_by x.symbols numbers near) (torus_layout x periods) x.symbols (near_cell x n) g
   torus_goal = goal_of g good (goal_within x g) where
     goal_of : (h : GoalOf) → IsGoalFor x h → goal_reach h ≤ n → GoalMatches (numbered_by x.symbols numbers near) (torus_layout x periods) x.symbols (near_cell x n) h
     goal_of (breaks y) fits far = λ a node. record {
       node = node;
-      gives =
-          torus_gives origin (
-            origin_base (slice_index periods 0) (numbers_tile x periods rule ok).x_some,
-            origin_base (slice_index periods 1) (numbers_tile x periods rule ok).y_some,
-            origin_base (slice_index periods 2) (numbers_tile x periods rule ok).z_some,
-          );
+      gives = torus_gives origin origin_base;
       reads = reads_near x y n a fits.0 far fits.1.dimension fits.1.nodes node;
     }
     goal_of always fits far = tt

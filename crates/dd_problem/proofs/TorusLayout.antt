@@ -1,45 +1,38 @@
 -- The cells of a torus, and that a periodic configuration is read by their numbers.
 use Rattle.std.proofs.Common.{◌≡◌, ℕ, suc, ◌*◌, ◌<◌, ◌≤◌, Bool, true, false, List, map, length, refl, ap, sym, subst, ◌∙◌, arith, mul_comm, ◌-◌, ◌%◌, ◌+ℤ◌, [], ◌∷◌, Some, ℤ, pos}
-use Rattle.std.specs.Prelude.{◌||◌, nat_lt, slice_get, slice_index}
+use Rattle.std.specs.Prelude.{◌||◌, nat_lt, slice_get}
 use Rattle.std.specs.Ordering.{int_eq}
 use Rattle.std.proofs.lemmas.Int.{ints}
 use Rattle.std.specs.List.{range_with_len}
 use Rattle.std.proofs.lemmas.Nat.{mul-le}
 use Rattle.std.proofs.lemmas.Bool.{and_from, ltb-true, ltb-false}
-use Rattle.std.proofs.lemmas.Bool.Decides.{Decides-int_eq, nat_tests}
+use Rattle.std.proofs.lemmas.Bool.Decides.{Decides-int_eq}
 use Rattle.std.proofs.lemmas.Option.{slice_get_within}
 use Rattle.std.proofs.lemmas.List.FromFn.{length-map-range_with_len}
-use Rattle.dd_lattice.specs.Place.{Place, place}
+use Rattle.dd_lattice.specs.Place.{Place, place, moved}
 use Rattle.dd_lattice.specs.Cells.{cell, shifted}
-use Rattle.dd_lattice.specs.Boxes.{is_active, span}
+use Rattle.dd_lattice.specs.Boxes.{span}
 use Rattle.dd_lattice.specs.declared.position.Cell.{Cell}
-use Rattle.dd_pattern.specs.Tile.{Tile, IsTile, tile, residue, base_of, tile_index, tile_look, cell_in, fundamental, IsInBox}
-use Rattle.dd_pattern.proofs.Residues.{residue-add, residue_below}
+use Rattle.dd_pattern.specs.declared.periods.Periods.{Periods}
+use Rattle.dd_pattern.specs.Periods.{volume, residue, base_of}
+use Rattle.dd_pattern.specs.Tile.{Tile, IsTile, IsPeriodic, tile, tile_index, tile_look, cell_in, fundamental, IsInBox}
+use Rattle.dd_pattern.proofs.Residues.{residue_below}
+use Rattle.dd_pattern.proofs.TileLaws.{base_moved, look_same}
 use Rattle.dd_pattern.proofs.TileSizes.{index_below}
 use Rattle.dd_pattern.proofs.BoxLaws.{cell_at_index, in_box}
 use Rattle.dd_expansion.specs.Placed.{is_flat}
 use Rattle.dd_formula.specs.LocalRule.{LocalRule, IsRule}
-use Rattle.dd_boxes.specs.Witnesses.{IsPeriod, ArePeriods}
+use Rattle.dd_boxes.specs.Witnesses.{ArePeriods}
 use Rattle.dd_problem.specs.Layouts.{nth_cell, torus, torus_cells, torus_layout}
 use Rattle.dd_problem.proofs.Reading.{IsLayout, slice_of_range}
 use Rattle.dd_problem.proofs.Wiring.{some_same}
 
 -- the configuration of these symbols
-abbrev pub torus_of : LocalRule → List ℕ → List ℕ → Tile
+abbrev pub torus_of : LocalRule → Periods → List ℕ → Tile
 torus_of x periods symbols = tile x.dimension periods x.nodes symbols
 
-abbrev pub torus_size : LocalRule → List ℕ → ℕ
-torus_size x periods = slice_index periods 2 * slice_index periods 1 * slice_index periods 0 * x.nodes
-
-pub some_period : (active : Bool) (p : ℕ) → IsPeriod active p → (1 ≤ p) × (p ≤ 8)
-some_period true p h = h
-some_period false p h = (omega (arith, h), omega (arith, h))
-
-unused_period : (d axis p : ℕ) → IsPeriod (is_active d axis) p → d < suc axis → p ≡ 1
-unused_period d axis p h few = inactive (is_active d axis) p h (grind (arith, nat_tests)) where
-  inactive : (b : Bool) (q : ℕ) → IsPeriod b q → b ≡ false → q ≡ 1
-  inactive true q h f = absurd (cc)
-  inactive false q h f = h
+abbrev pub torus_size : LocalRule → Periods → ℕ
+torus_size x periods = volume periods * x.nodes
 
 pub product_small : (a b c n : ℕ) → a ≤ 8 → b ≤ 8 → c ≤ 8 → n ≤ 4 → a * b * c * n ≤ 65536
 product_small a b c n ha hb hc hn =
@@ -48,25 +41,18 @@ product_small a b c n ha hb hc hn =
     let third : a * b * c * n ≤ 2048 = mul-le (a * b * c) n 512 4 second hn in
     omega arith
 
-pub torus_is_tile : (x : LocalRule) (periods symbols : List ℕ) → IsRule x → ArePeriods x.dimension periods → length symbols ≡ torus_size x periods →
+pub torus_is_tile : (x : LocalRule) (periods : Periods) (symbols : List ℕ) → IsRule x → ArePeriods x.dimension periods → length symbols ≡ torus_size x periods →
     IsTile (torus_of x periods symbols)
 torus_is_tile x periods symbols rule ok full =
-    let on_x = some_period (is_active x.dimension 0) (slice_index periods 0) ok.on_x in
-    let on_y = some_period (is_active x.dimension 1) (slice_index periods 1) ok.on_y in
-    let on_z = some_period (is_active x.dimension 2) (slice_index periods 2) ok.on_z in
-    let small = product_small (slice_index periods 2) (slice_index periods 1) (slice_index periods 0) x.nodes on_z.1 on_y.1 on_x.1 rule.nodes.1 in
-    record {
-      some_dimension = rule.dimension.0;
-      most_dimension = rule.dimension.1;
-      x_some = on_x.0;
-      y_some = on_y.0;
-      z_some = on_z.0;
-      y_unused = unused_period x.dimension 1 (slice_index periods 1) ok.on_y;
-      z_unused = unused_period x.dimension 2 (slice_index periods 2) ok.on_z;
-      nodes_some = rule.nodes.0;
-      full = full;
-      small = rw full small;
-    }
+    record { some_dimension = rule.dimension.0; most_dimension = rule.dimension.1; periods = ok.periods; nodes_some = rule.nodes.0; full = full }
+
+-- and a small one
+pub torus_is_periodic : (x : LocalRule) (periods : Periods) (symbols : List ℕ) → IsRule x → ArePeriods x.dimension periods → length symbols ≡ torus_size x periods →
+    IsPeriodic (torus_of x periods symbols)
+torus_is_periodic x periods symbols rule ok full = record {
+  tile = torus_is_tile x periods symbols rule ok full;
+  small = rw full (product_small periods.z periods.y periods.x x.nodes ok.z_most ok.y_most ok.x_most rule.nodes.1);
+}
 
 -- the cells of the fundamental box are those whose symbols stand in the list of a configuration
 pub span_is : (n : ℕ) → 0 < n → span (pos 0) (pos (n - 1)) ≡ n
@@ -85,31 +71,31 @@ map_alike f g same (x ∷ xs) = rw (same x, map_alike f g same xs) refl
 pub product_turned : (x y z : ℕ) → x * (y * z) ≡ z * y * x
 product_turned x y z = ap (λ k. x * k) (mul_comm y z) ∙ mul_comm x (z * y)
 
-nth_is : (x : LocalRule) (periods : List ℕ) → (0 < slice_index periods 0) × (0 < slice_index periods 1) × (0 < slice_index periods 2) → (k : ℕ) →
-    nth_cell (fundamental (torus x periods)) x.nodes k ≡ cell_in (torus x periods) k
-nth_is x periods some k = rw (span_is (slice_index periods 0) some.0, span_is (slice_index periods 1) some.1) (cell_from_zero _ _ _ (k % x.nodes))
+nth_is : (x : LocalRule) (periods : Periods) → (0 < periods.x) × (0 < periods.y) × (0 < periods.z) → (k : ℕ) →
+    nth_cell (fundamental periods) x.nodes k ≡ cell_in (torus x periods) k
+nth_is x periods some k = rw (span_is periods.x some.0, span_is periods.y some.1) (cell_from_zero _ _ _ (k % x.nodes))
 
-cells_listed : (x : LocalRule) (periods : List ℕ) → (0 < slice_index periods 0) × (0 < slice_index periods 1) × (0 < slice_index periods 2) →
+cells_listed : (x : LocalRule) (periods : Periods) → (0 < periods.x) × (0 < periods.y) × (0 < periods.z) →
     torus_cells x periods ≡ map (cell_in (torus x periods)) (range_with_len 0 (torus_size x periods))
 cells_listed x periods some =
-    map_alike (nth_cell (fundamental (torus x periods)) x.nodes) (cell_in (torus x periods)) (nth_is x periods some) _
+    map_alike (nth_cell (fundamental periods) x.nodes) (cell_in (torus x periods)) (nth_is x periods some) _
     ∙ ap (λ n. map (cell_in (torus x periods)) (range_with_len 0 (n * x.nodes)))
-    (rw (span_is (slice_index periods 0) some.0, span_is (slice_index periods 1) some.1, span_is (slice_index periods 2) some.2)
-    (product_turned (slice_index periods 0) (slice_index periods 1) (slice_index periods 2)))
+    (rw (span_is periods.x some.0, span_is periods.y some.1, span_is periods.z some.2)
+    (product_turned periods.x periods.y periods.z))
 
 -- a configuration of the same periods with the symbol 0 everywhere
-abbrev zeros : LocalRule → List ℕ → List ℕ
+abbrev zeros : LocalRule → Periods → List ℕ
 zeros x periods = map (λ _. 0) (range_with_len 0 (torus_size x periods))
 
-length-zeros : (x : LocalRule) (periods : List ℕ) → length (zeros x periods) ≡ torus_size x periods
+length-zeros : (x : LocalRule) (periods : Periods) → length (zeros x periods) ≡ torus_size x periods
 length-zeros x periods = length-map-range_with_len (λ _. 0) 0 (torus_size x periods)
 
-module _ (x : LocalRule) (periods : List ℕ) (rule : IsRule x) (ok : ArePeriods x.dimension periods) where
+module _ (x : LocalRule) (periods : Periods) (rule : IsRule x) (ok : ArePeriods x.dimension periods) where
   blank : IsTile (torus_of x periods (zeros x periods))
   blank = torus_is_tile x periods (zeros x periods) rule ok (length-zeros x periods)
 
   listed : torus_cells x periods ≡ map (cell_in (torus x periods)) (range_with_len 0 (torus_size x periods))
-  listed = cells_listed x periods (blank.x_some, blank.y_some, blank.z_some)
+  listed = cells_listed x periods (ok.periods.x_some, ok.periods.y_some, ok.periods.z_some)
 
   pub length-torus_cells : length (torus_cells x periods) ≡ torus_size x periods
   length-torus_cells = ap length listed ∙ length-map-range_with_len (cell_in (torus x periods)) 0 (torus_size x periods)
@@ -123,7 +109,7 @@ module _ (x : LocalRule) (periods : List ℕ) (rule : IsRule x) (ok : ArePeriods
   }
 
   -- the cell with the number of a cell is at its position modulo the periods
-  pub torus_cell_there : (v : Place) (a : ℕ) → a < x.nodes → slice_get (torus_cells x periods) (tile_index (torus x periods) (cell v a)) ≡ Some (cell (base_of (torus x periods) v) a)
+  pub torus_cell_there : (v : Place) (a : ℕ) → a < x.nodes → slice_get (torus_cells x periods) (tile_index (torus x periods) (cell v a)) ≡ Some (cell (base_of periods v) a)
   torus_cell_there v a node =
       ap (λ cs. slice_get cs (tile_index (torus x periods) (cell v a))) listed
       ∙ (slice_of_range (cell_in (torus x periods)) (torus_size x periods) (tile_index (torus x periods) (cell v a)) (index_within (cell v a) node)
@@ -154,18 +140,14 @@ module _ (x : LocalRule) (periods : List ℕ) (rule : IsRule x) (ok : ArePeriods
       let base = (torus_cell_at k d is).base in
       let p = d.position in
       and_from (nat_lt 1 x.dimension || int_eq p.y (pos 0)) (nat_lt 2 x.dimension || int_eq p.z (pos 0))
-      (flat_axis (nat_lt 1 x.dimension) p.y (slice_index periods 1) (λ f. blank.y_unused (few 1 f)) blank.y_some (ap (λ q. q.y) base))
-      (flat_axis (nat_lt 2 x.dimension) p.z (slice_index periods 2) (λ f. blank.z_unused (few 2 f)) blank.z_some (ap (λ q. q.z) base))
+      (flat_axis (nat_lt 1 x.dimension) p.y periods.y (λ f. ok.periods.y_unused (few 1 f)) ok.periods.y_some (ap (λ q. q.y) base))
+      (flat_axis (nat_lt 2 x.dimension) p.z periods.z (λ f. ok.periods.z_unused (few 2 f)) ok.periods.z_some (ap (λ q. q.z) base))
     where
       few : (axis : ℕ) → nat_lt axis x.dimension ≡ false → x.dimension < suc axis
       few axis f = let most : x.dimension ≤ axis = ltb-false _ _ f in omega arith
 
   -- what is read round a position is what is read round it modulo the periods
   pub look_periodic : (symbols : List ℕ) (v : Place) (c : Cell) →
-      tile_look (torus_of x periods symbols) (shifted (base_of (torus x periods) v) c) ≡ tile_look (torus_of x periods symbols) (shifted v c)
+      tile_look (torus_of x periods symbols) (shifted (base_of periods v) c) ≡ tile_look (torus_of x periods symbols) (shifted v c)
   look_periodic symbols v c =
-      rw (
-        residue-add c.position.x v.x (slice_index periods 0) blank.x_some,
-        residue-add c.position.y v.y (slice_index periods 1) blank.y_some,
-        residue-add c.position.z v.z (slice_index periods 2) blank.z_some,
-      ) refl
+      sym (look_same (torus_of x periods symbols) (moved c.position v) (moved c.position (base_of periods v)) c.node (base_moved x.dimension periods ok.periods c.position v))

@@ -6,7 +6,9 @@ use Rattle.std.proofs.lemmas.Bool.{and_parts, ltb-true, lt-ltb}
 use Rattle.std.proofs.lemmas.Option.{slice_get-get_or}
 use Rattle.dd_lattice.specs.Cells.{cell, shifted}
 use Rattle.dd_lattice.specs.declared.position.Cell.{Cell}
-use Rattle.dd_pattern.specs.Tile.{Tile, base_of, tile_index, tile_look}
+use Rattle.dd_pattern.specs.declared.periods.Periods.{Periods}
+use Rattle.dd_pattern.specs.Periods.{base_of}
+use Rattle.dd_pattern.specs.Tile.{Tile, tile_index, tile_look}
 use Rattle.dd_pattern.proofs.TileSizes.{index_below}
 use Rattle.dd_expansion.specs.Placed.{is_flat}
 use Rattle.dd_formula.specs.LocalRule.{LocalRule, IsRule, is_true, reads_at, is_of}
@@ -31,11 +33,11 @@ node_of r c h = (and_parts (is_flat r.dimension c.position) (nat_lt c.node r.nod
 reads_nodes : (r : LocalRule) (a : ℕ) → IsRule r → a < r.nodes → list_all (λ c. nat_lt c.node r.nodes) (reads_at r a) ≡ true
 reads_nodes r a ok node = list_all_weaker (is_of r) (λ c. nat_lt c.node r.nodes) (node_of r) (reads_at r a) (ok.placed a node)
 
-pub goal_reads_torus : (x : LocalRule) (g : GoalOf) (periods : List ℕ) → IsGoalFor x g → HasReads (torus_layout x periods) g
+pub goal_reads_torus : (x : LocalRule) (g : GoalOf) (periods : Periods) → IsGoalFor x g → HasReads (torus_layout x periods) g
 goal_reads_torus x (breaks y) periods ok = λ a node. ap (λ n. list_all (λ c. nat_lt c.node n) (reads_at y a)) (sym ok.1.nodes) ∙ reads_nodes y a ok.0 node
 goal_reads_torus x always periods ok = tt
 
-module _ (x : LocalRule) (g : GoalOf) (periods : List ℕ) (rule : IsRule x) (goal : IsGoalFor x g) (ok : ArePeriods x.dimension periods) where
+module _ (x : LocalRule) (g : GoalOf) (periods : Periods) (rule : IsRule x) (goal : IsGoalFor x g) (ok : ArePeriods x.dimension periods) where
   torus_is_wired : IsWired (torus_layout x periods) x g
   torus_is_wired =
       wired_layout (torus_layout x periods) x g rule goal (torus_is_layout x periods rule ok) (λ k d is. (torus_cell_at x periods rule ok k d is).node)
@@ -56,7 +58,7 @@ module _ (x : LocalRule) (g : GoalOf) (periods : List ℕ) (rule : IsRule x) (go
       Lives x (torus_of x periods symbols)
   lives_from_holds symbols full holds v a flat node =
       let look = tile_look (torus_of x periods symbols) in
-      let base = base_of (torus x periods) v in
+      let base = base_of periods v in
       let there = filter_at (λ d. is_true x d look) (fits_in (torus_layout x periods) x) (torus_cells x periods) (tile_index (torus x periods) (cell v a)) (cell base a)
       holds (torus_cell_there x periods rule ok v a node) (reads_nodes x a rule node) in
       sym (keeps_at x look look base v a (λ c _. look_periodic x periods rule ok symbols v c)
@@ -83,7 +85,7 @@ module _ (x : LocalRule) (g : GoalOf) (periods : List ℕ) (rule : IsRule x) (go
 
   -- a configuration of these periods is that of its symbols
   same_tile : (t : Tile) → HasPeriods periods t → Fits x t → torus_of x periods t.symbols ≡ t
-  same_tile t has fit = rw (sym has.on_x, sym has.on_y, sym has.on_z, sym fit.dimension, sym fit.nodes) refl
+  same_tile t has fit = rw (sym has, sym fit.dimension, sym fit.nodes) refl
 
   pub torus_shows : ShowsTorus (problem_clauses (torus_layout x periods) x g) x g periods
   torus_shows =
@@ -92,7 +94,7 @@ module _ (x : LocalRule) (g : GoalOf) (periods : List ℕ) (rule : IsRule x) (go
         each = λ set satisfied.
             (let ss = read_symbols set x.symbols (length l.places) in
             let read = problem_read set l x g torus_is_wired (is_satisfied-Satisfies set (problem_clauses l x g) satisfied) in
-            (torus_of x periods ss, record { on_x = refl; on_y = refl; on_z = refl }, witness_from_stands ss read.0, read.1));
+            (torus_of x periods ss, refl, witness_from_stands ss read.0, read.1));
         every = λ t has witness.
             (let same = same_tile t has witness.fits in
             let stands = stands_from_witness t.symbols (subst (IsWitness x g) (sym same) witness) in

@@ -4,12 +4,14 @@ use Rattle.std.specs.List.{range_with_len}
 use Rattle.dd_lattice.specs.Place.{place}
 use Rattle.dd_lattice.specs.Boxes.{Bounds, is_active, spread}
 use Rattle.dd_lattice.specs.declared.position.Cell.{Cell}
-use Rattle.dd_pattern.specs.Tile.{Tile, tile, tile_index, volume}
+use Rattle.dd_pattern.specs.declared.periods.Periods.{Periods}
+use Rattle.dd_pattern.specs.Periods.{volume}
+use Rattle.dd_pattern.specs.Tile.{Tile, tile, tile_index}
 use Rattle.dd_compile.specs.Wiring.{Wiring}
 use Rattle.dd_formula.specs.LocalRule.{LocalRule}
 use Rattle.dd_formula.specs.Reach.{reach}
 use Rattle.dd_boxes.specs.Goals.{GoalOf, breaks, always}
-use Rattle.dd_problem.specs.Layouts.{cells_in, torus}
+use Rattle.dd_problem.specs.Layouts.{cells_in}
 use Rattle.dd_problem.specs.Numbered.{numbered}
 
 -- how far the goal reads, and how far the premise and the goal read
@@ -25,16 +27,14 @@ abbrev pub margin : ℕ → ℕ → ℕ → ℕ
 margin d n axis = spread (is_active d axis) n
 
 -- the fundamental box, grown by the margin along each axis
-abbrev pub grown : ℕ → ℕ → List ℕ → Bounds
+abbrev pub grown : ℕ → ℕ → Periods → Bounds
 grown d n periods = record {
   low = place (pos 0 -ℤ pos (margin d n 0)) (pos 0 -ℤ pos (margin d n 1)) (pos 0 -ℤ pos (margin d n 2));
-  high =
-      place (pos (slice_index periods 0 - 1 + margin d n 0)) (pos (slice_index periods 1 - 1 + margin d n 1))
-      (pos (slice_index periods 2 - 1 + margin d n 2));
+  high = place (pos (periods.x - 1 + margin d n 0)) (pos (periods.y - 1 + margin d n 1)) (pos (periods.z - 1 + margin d n 2));
 }
 
 -- the cells that are read from the fundamental box
-abbrev pub near_cells : LocalRule → ℕ → List ℕ → List Cell
+abbrev pub near_cells : LocalRule → ℕ → Periods → List Cell
 near_cells x n periods = cells_in (grown x.dimension n periods) x.nodes
 
 -- the number that stands at a cell in a periodic configuration
@@ -46,9 +46,9 @@ abbrev pub numbered_by : ℕ → Tile → List Cell → Wiring
 numbered_by m t cells = numbered m cells (map (number_at t) cells)
 
 -- the configuration in which each cell of the fundamental box has its number, from 0 in cell order
-abbrev pub numbers_of : LocalRule → List ℕ → Tile
-numbers_of x periods = tile x.dimension periods x.nodes (range_with_len 0 (volume (torus x periods) * x.nodes))
+abbrev pub numbers_of : LocalRule → Periods → Tile
+numbers_of x periods = tile x.dimension periods x.nodes (range_with_len 0 (volume periods * x.nodes))
 
 -- what the premise and the goal read, each cell with the inputs of the one at its position modulo the periods
-abbrev pub torus_inputs : LocalRule → GoalOf → List ℕ → Wiring
+abbrev pub torus_inputs : LocalRule → GoalOf → Periods → Wiring
 torus_inputs x g periods = numbered_by x.symbols (numbers_of x periods) (near_cells x (question_reach x g) periods)

@@ -4,6 +4,7 @@ use Rattle.std.specs.List.{list_all, range_with_len}
 use Rattle.dd_lattice.specs.Cells.{cell, shifted}
 use Rattle.dd_lattice.specs.Boxes.{Bounds, centred, volume, index_in, place_in}
 use Rattle.dd_lattice.specs.declared.position.Cell.{Cell}
+use Rattle.dd_pattern.specs.declared.periods.Periods.{Periods}
 use Rattle.dd_pattern.specs.Tile.{Tile, tile, tile_index, fundamental}
 use Rattle.dd_formula.specs.LocalRule.{LocalRule, reads_at}
 use Rattle.dd_boxes.specs.Fillings.{is_box_cell}
@@ -33,13 +34,13 @@ abbrev pub box_layout : LocalRule → ℕ → Layout
 box_layout x n = record { has = is_box_cell x n; index = box_index x n; places = box_cells x n }
 
 -- those of a fundamental box; every cell has the number of the one at its position modulo the periods
-abbrev pub torus : LocalRule → List ℕ → Tile
+abbrev pub torus : LocalRule → Periods → Tile
 torus x periods = tile x.dimension periods x.nodes []
 
-abbrev pub torus_cells : LocalRule → List ℕ → List Cell
-torus_cells x periods = cells_in (fundamental (torus x periods)) x.nodes
+abbrev pub torus_cells : LocalRule → Periods → List Cell
+torus_cells x periods = cells_in (fundamental periods) x.nodes
 
-abbrev pub torus_layout : LocalRule → List ℕ → Layout
+abbrev pub torus_layout : LocalRule → Periods → Layout
 torus_layout x periods = record { has = λ c. nat_lt c.node x.nodes; index = tile_index (torus x periods); places = torus_cells x periods }
 
 -- each cell that the rule reads at the place is one of the layout's

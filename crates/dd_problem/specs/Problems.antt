@@ -9,6 +9,7 @@ use Rattle.dd_clause.specs.Clauses.{ClauseList}
 use Rattle.dd_circuit.specs.declared.gates.Signal.{Signal}
 use Rattle.dd_circuit.specs.Circuits.{signal_of}
 use Rattle.dd_compile.specs.Compiling.{Maker, made}
+use Rattle.dd_pattern.specs.declared.periods.Periods.{Periods}
 use Rattle.dd_formula.specs.LocalRule.{LocalRule, expansion_at}
 use Rattle.dd_boxes.specs.Goals.{GoalOf, breaks, always}
 use Rattle.dd_boxes.specs.Boxes.{origin}
@@ -52,5 +53,5 @@ problem l x g = record {
 abbrev pub box_problem : LocalRule → GoalOf → ℕ → ClauseList
 box_problem x g n = problem (box_layout x n) x g
 
-abbrev pub torus_problem : LocalRule → GoalOf → List ℕ → ClauseList
+abbrev pub torus_problem : LocalRule → GoalOf → Periods → ClauseList
 torus_problem x g periods = problem (torus_layout x periods) x g

@@ -1,6 +1,7 @@
 -- What it is for clauses to say what a box question asks.
 use Rattle.std.specs.Prelude.{◌≡◌, ◌<◌, ℕ, Bool, true, List}
 use Rattle.dd_lattice.specs.declared.position.Cell.{Cell}
+use Rattle.dd_pattern.specs.declared.periods.Periods.{Periods}
 use Rattle.dd_pattern.specs.Reading.{Look}
 use Rattle.dd_pattern.specs.Tile.{Tile}
 use Rattle.dd_expansion.specs.Truth.{is_symbol}
@@ -34,7 +35,7 @@ pub record Decides (clauses : List (List Literal)) (x : LocalRule) (g : GoalOf) 
   pub suffices : AreRefuted clauses → Suffices x g n
   pub refuted : Suffices x g n → AreRefuted clauses
 
--- The same for the periodic configurations of these periods that live and have the goal at the origin.
-pub record ShowsTorus (clauses : List (List Literal)) (x : LocalRule) (g : GoalOf) (periods : List ℕ) : Type 0 where
+-- The same for the periodic configurations of these periods and shear that live and have the goal at the origin.
+pub record ShowsTorus (clauses : List (List Literal)) (x : LocalRule) (g : GoalOf) (periods : Periods) : Type 0 where
   pub each : (set : ℕ → Bool) → Satisfies set clauses → (t : Tile) × HasPeriods periods t × IsWitness x g t × AreRead set x.symbols t.symbols
   pub every : (t : Tile) → HasPeriods periods t → IsWitness x g t → (set : ℕ → Bool) × Satisfies set clauses × AreRead set x.symbols t.symbols

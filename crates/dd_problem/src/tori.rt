@@ -1,14 +1,14 @@
 //! Box questions on a torus.
-ghost use Rattle.std.specs.Prelude.{◌≡◌, ◌≤◌, ◌<◌, ◌+◌, ◌*◌, ◌^◌, [], slice_index, All, IfOk};
+ghost use Rattle.std.specs.Prelude.{◌≡◌, ◌≤◌, ◌<◌, ◌+◌, ◌*◌, ◌^◌, All, IfOk};
 ghost use Rattle.std.specs.List.{range_with_len};
 ghost use Rattle.std.specs.List.Sorted.{IsStrictlySortedBy};
 ghost use Rattle.dd_lattice.specs.Order.{cell_cmp};
-ghost use Rattle.dd_pattern.specs.Tile.{tile, volume, fundamental};
+ghost use Rattle.dd_pattern.specs.Periods.{periods_of, volume};
+ghost use Rattle.dd_pattern.specs.Tile.{fundamental};
 ghost use Rattle.dd_boxes.specs.Goals.{IsGoalFor};
 ghost use Rattle.dd_boxes.specs.Counts.{question_clauses};
 ghost use Rattle.dd_boxes.specs.Views.{goal_of};
 ghost use Rattle.dd_boxes.specs.Witnesses.{ArePeriods};
-ghost use Rattle.dd_problem.specs.Layouts.{torus};
 ghost use Rattle.dd_problem.specs.Problems.{torus_problem};
 ghost use Rattle.dd_problem.specs.Grown.{question_reach, margin, grown, near_cells};
 ghost use Rattle.dd_problem.specs.Grown.{number_at, numbered_by, numbers_of, torus_inputs};
@@ -21,7 +21,7 @@ use dd_clause::Cnf;
 use dd_compile::Inputs;
 use dd_formula::Rule;
 use dd_lattice::{Box3, Cell, Position};
-use dd_pattern::{Configuration, Periodic};
+use dd_pattern::{Configuration, Periodic, Periods};
 use std::alloc::{AllocError, Global};
 
 /// How far the premise and the goal read.
@@ -43,28 +43,28 @@ fn margin(axis: u32, dim: u32, reach: u32) -> u32
 }
 
 /// The box of the positions of which the coordinates run from 0 to the periods less 1.
-fn fundamental(periods: &[u32; 3]) -> Box3
-    requires x { (1 ≤ slice_index periods.now 0) × (slice_index periods.now 0 ≤ 8) }
-    requires y { (1 ≤ slice_index periods.now 1) × (slice_index periods.now 1 ≤ 8) }
-    requires z { (1 ≤ slice_index periods.now 2) × (slice_index periods.now 2 ≤ 8) }
-    ensures { result ≡ fundamental (tile 1 periods.now 1 []) }
+fn fundamental(periods: &Periods) -> Box3
+    requires x { (1 ≤ periods.now.x) × (periods.now.x ≤ 8) }
+    requires y { (1 ≤ periods.now.y) × (periods.now.y ≤ 8) }
+    requires z { (1 ≤ periods.now.z) × (periods.now.z ≤ 8) }
+    ensures { result ≡ fundamental periods.now }
 {
     Box3 {
         low: Position { x: 0, y: 0, z: 0 },
         high: Position {
-            x: periods[0] as i32 - 1,
-            y: periods[1] as i32 - 1,
-            z: periods[2] as i32 - 1,
+            x: periods.x as i32 - 1,
+            y: periods.y as i32 - 1,
+            z: periods.z as i32 - 1,
         },
     }
 }
 
 /// The same, with a margin for what is read from it.
-fn grown(dim: u32, reach: u32, periods: &[u32; 3]) -> Box3
+fn grown(dim: u32, reach: u32, periods: &Periods) -> Box3
     requires near { reach ≤ 16 }
-    requires x { (1 ≤ slice_index periods.now 0) × (slice_index periods.now 0 ≤ 8) }
-    requires y { (1 ≤ slice_index periods.now 1) × (slice_index periods.now 1 ≤ 8) }
-    requires z { (1 ≤ slice_index periods.now 2) × (slice_index periods.now 2 ≤ 8) }
+    requires x { (1 ≤ periods.now.x) × (periods.now.x ≤ 8) }
+    requires y { (1 ≤ periods.now.y) × (periods.now.y ≤ 8) }
+    requires z { (1 ≤ periods.now.z) × (periods.now.z ≤ 8) }
     ensures { result ≡ grown dim reach periods.now }
 {
     let x = margin(0, dim, reach);
@@ -77,9 +77,9 @@ fn grown(dim: u32, reach: u32, periods: &[u32; 3]) -> Box3
             z: -(z as i32),
         },
         high: Position {
-            x: (periods[0] - 1 + x) as i32,
-            y: (periods[1] - 1 + y) as i32,
-            z: (periods[2] - 1 + z) as i32,
+            x: (periods.x - 1 + x) as i32,
+            y: (periods.y - 1 + y) as i32,
+            z: (periods.z - 1 + z) as i32,
         },
     }
 }
@@ -89,7 +89,7 @@ fn near_cells(
     alloc: Global,
     premise: &Rule,
     goal: &Goal,
-    periods: &[u32; 3],
+    periods: &Periods,
 ) -> Result<Vec<Cell>, AllocError>
     requires goal { IsGoalFor premise.now (goal_of goal.now) }
     requires periods { ArePeriods premise.now.dimension periods.now }
@@ -132,15 +132,15 @@ fn counted(alloc: Global, count: u32) -> Result<Vec<u32>, AllocError>
 }
 
 /// The configuration of these periods in which each cell of the fundamental box has its number, from 0 in cell order.
-fn numbering(alloc: Global, premise: &Rule, periods: [u32; 3]) -> Result<Periodic, AllocError>
-    requires { ArePeriods premise.now.dimension periods }
-    ensures { IfOk result (λ t. t ≡ numbers_of premise.now periods) }
+fn numbering(alloc: Global, premise: &Rule, periods: &Periods) -> Result<Periodic, AllocError>
+    requires { ArePeriods premise.now.dimension periods.now }
+    ensures { IfOk result (λ t. t ≡ numbers_of premise.now periods.now) }
 {
-    let [along_x, along_y, along_z] = periods;
     let nodes = premise.nodes();
-    let numbers = counted(alloc, along_z * along_y * along_x * nodes)?;
+    let numbers = counted(alloc, periods.z * periods.y * periods.x * nodes)?;
+    let along = [periods.x, periods.y, periods.z];
     Ok(
-        Periodic::new(premise.dim(), periods, nodes, numbers)
+        Periodic::new(premise.dim(), along, periods.shear, nodes, numbers)
             .ok()
             .unwrap(),
     )
@@ -152,34 +152,37 @@ fn torus_inputs(
     alloc: Global,
     premise: &Rule,
     goal: &Goal,
-    periods: [u32; 3],
+    periods: &Periods,
 ) -> Result<Inputs, AllocError>
     requires goal { IsGoalFor premise.now (goal_of goal.now) }
-    requires periods { ArePeriods premise.now.dimension periods }
-    ensures { IfOk result (λ inputs. inputs ≡ torus_inputs premise.now (goal_of goal.now) periods) }
+    requires periods { ArePeriods premise.now.dimension periods.now }
+    ensures { IfOk result (λ inputs. inputs ≡ torus_inputs premise.now (goal_of goal.now) periods.now) }
 {
-    let near = near_cells(alloc, premise, goal, &periods)?;
+    let near = near_cells(alloc, premise, goal, periods)?;
     let numbers = numbering(alloc, premise, periods)?;
     inputs_by_number(alloc, &near, &numbers, premise.symbols())
 }
 
-/// The clauses that ask for a configuration of these periods that lives in the premise's subshift and has the goal at the
-/// origin. The variable `1 + k * symbols + s` says that the `k`-th cell of the fundamental box, from 0 in cell order, has
-/// the symbol `s`, and the gates follow.
+/// The clauses that ask for a configuration of these periods and this shear that lives in the premise's subshift and has
+/// the goal at the origin. The variable `1 + k * symbols + s` says that the `k`-th cell of the fundamental box, from 0 in
+/// cell order, has the symbol `s`, and the gates follow.
 pub fn torus_clauses(
     alloc: Global,
     premise: &Rule,
     goal: &Goal,
     periods: [u32; 3],
+    shear: u32,
 ) -> Result<Cnf, AllocError>
     requires goal { IsGoalFor premise.now (goal_of goal.now) }
-    requires periods { ArePeriods premise.now.dimension periods }
-    requires few { question_clauses premise.now (goal_of goal.now) (volume (torus premise.now periods)) ≤ 2000000 }
-    ensures exact { IfOk result (λ cnf. cnf ≡ torus_problem premise.now (goal_of goal.now) periods) }
-    ensures shows { IfOk result (λ cnf. ShowsTorus cnf.clauses premise.now (goal_of goal.now) periods) }
+    requires periods { ArePeriods premise.now.dimension (periods_of periods shear) }
+    requires few { question_clauses premise.now (goal_of goal.now) (volume (periods_of periods shear)) ≤ 2000000 }
+    ensures exact { IfOk result (λ cnf. cnf ≡ torus_problem premise.now (goal_of goal.now) (periods_of periods shear)) }
+    ensures shows { IfOk result (λ cnf. ShowsTorus cnf.clauses premise.now (goal_of goal.now) (periods_of periods shear)) }
 {
+    let [x, y, z] = periods;
+    let torus = Periods { x, y, z, shear };
     let nodes = premise.nodes();
-    let cells = cells_of(alloc, &fundamental(&periods), nodes)?;
-    let inputs = torus_inputs(alloc, premise, goal, periods)?;
+    let cells = cells_of(alloc, &fundamental(&torus), nodes)?;
+    let inputs = torus_inputs(alloc, premise, goal, &torus)?;
     problem(alloc, premise, goal, &cells, &inputs)
 }

@@ -1,10 +1,10 @@
 //! The configuration that a satisfying assignment of a torus's clauses stands for.
-ghost use Rattle.std.specs.Prelude.{◌≡◌, ◌≤◌, ◌<◌, ◌+◌, ◌*◌, ℕ, length, All, IfOk};
+ghost use Rattle.std.specs.Prelude.{◌≡◌, ◌<◌, ◌*◌, ℕ, false, length, slice_index_or, All, IfOk};
 ghost use Rattle.dd_clause.specs.Clauses.{true_variables};
-ghost use Rattle.dd_pattern.specs.Tile.{Tile, volume};
+ghost use Rattle.dd_pattern.specs.Periods.{periods_of, volume};
+ghost use Rattle.dd_pattern.specs.Tile.{Tile};
 ghost use Rattle.dd_formula.specs.Living.{Fits};
 ghost use Rattle.dd_boxes.specs.Witnesses.{ArePeriods, HasPeriods};
-ghost use Rattle.dd_problem.specs.Layouts.{torus};
 ghost use Rattle.dd_problem.specs.Symbols.{AreAllRead, AreRead, HasOneEach, IsSymbolRead};
 
 use dd_clause::Assignment;
@@ -12,15 +12,21 @@ use dd_formula::Rule;
 use dd_pattern::Periodic;
 use std::alloc::{AllocError, Global};
 
+/// Whether the value is there, and true.
+fn is_true(values: &[bool], input: usize) -> bool
+    ensures { result ≡ slice_index_or values.now input false }
+{
+    input < values.len() && values[input]
+}
+
 /// The symbol of the cell with this number: the one of which the input is true.
 fn symbol_read(values: &[bool], number: u32, symbols: u32) -> u32
-    requires one { (s : ℕ) × IsSymbolRead (true_variables values.now) symbols number s }
-    requires full { number * symbols + symbols ≤ length values.now }
+    requires { (s : ℕ) × IsSymbolRead (true_variables values.now) symbols number s }
     ensures { IsSymbolRead (true_variables values.now) symbols number result }
 {
     for symbol in 0..symbols {
         let input = u64::from(number) * u64::from(symbols) + u64::from(symbol);
-        if values[input as usize] {
+        if is_true(values, input as usize) {
             return symbol;
         }
     }
@@ -34,8 +40,7 @@ fn symbols_read(
     count: u32,
     symbols: u32,
 ) -> Result<Vec<u32>, AllocError>
-    requires one_each { HasOneEach (true_variables values.now) symbols count }
-    requires full { count * symbols ≤ length values.now }
+    requires { HasOneEach (true_variables values.now) symbols count }
     ensures { IfOk result (λ v. AreAllRead (true_variables values.now) symbols count v.items) }
 {
     let mut read = Vec::with_capacity(alloc, count as usize)?;
@@ -45,20 +50,21 @@ fn symbols_read(
     Ok(read)
 }
 
-/// The configuration of these periods in which each cell of the fundamental box has the symbol of which the input is true.
+/// The configuration of these periods and this shear in which each cell of the fundamental box has the symbol of which the
+/// input is true.
 pub fn read_torus(
     alloc: Global,
     premise: &Rule,
     periods: [u32; 3],
+    shear: u32,
     found: &Assignment,
 ) -> Result<Periodic, AllocError>
-    requires periods { ArePeriods premise.now.dimension periods }
-    requires full { volume (torus premise.now periods) * premise.now.nodes * premise.now.symbols ≤ length found.now }
-    requires one_each { HasOneEach (true_variables found.now) premise.now.symbols (volume (torus premise.now periods) * premise.now.nodes) }
+    requires periods { ArePeriods premise.now.dimension (periods_of periods shear) }
+    requires one_each { HasOneEach (true_variables found.now) premise.now.symbols (volume (periods_of periods shear) * premise.now.nodes) }
     ensures read { IfOk result (λ t. AreRead (true_variables found.now) premise.now.symbols t.symbols) }
-    ensures periods { IfOk result (λ t. HasPeriods periods t) }
+    ensures periods { IfOk result (λ t. HasPeriods (periods_of periods shear) t) }
     ensures fits { IfOk result (λ t. Fits premise.now t) }
-    ensures only { IfOk result (λ t. (u : Tile) → HasPeriods periods u → Fits premise.now u →
+    ensures only { IfOk result (λ t. (u : Tile) → HasPeriods (periods_of periods shear) u → Fits premise.now u →
         AreRead (true_variables found.now) premise.now.symbols u.symbols → length u.symbols ≡ length t.symbols → u ≡ t) }
 {
     let [along_x, along_y, along_z] = periods;
@@ -66,7 +72,7 @@ pub fn read_torus(
     let count = along_z * along_y * along_x * nodes;
     let symbols = symbols_read(alloc, found.values(), count, premise.symbols())?;
     Ok(
-        Periodic::new(premise.dim(), periods, nodes, symbols)
+        Periodic::new(premise.dim(), periods, shear, nodes, symbols)
             .ok()
             .unwrap(),
     )

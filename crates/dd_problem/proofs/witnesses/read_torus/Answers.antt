@@ -1,6 +1,6 @@
 use Rattle.std.proofs.Common.{◌≡◌, ◌*◌, ap, ◌∙◌, arith, sym, subst}
-use Rattle.std.specs.Prelude.{slice_index}
 use Rattle.dd_clause.specs.Clauses.{true_variables}
+use Rattle.dd_pattern.specs.Periods.{periods_of, volume}
 use Rattle.dd_pattern.specs.Tile.{Tile, tile}
 use Rattle.dd_problem.specs.Symbols.{AreRead}
 use Rattle.dd_problem.proofs.TorusCalls.{count_fits}
@@ -9,38 +9,38 @@ use Rattle.dd_problem.proofs.witnesses.read_torus.Goals as goal
 
 pub overflow_mul-count-3 : goal.overflow_mul-count-3
 overflow_mul-count-3 c =
-    let all = count_fits c.args.premise.now c.args.periods c.nodes-nodes.ensures.kept c.requires.periods c.nodes-nodes.result c.nodes-nodes.ensures.value in
+    let all = count_fits c.args.premise.now (periods_of c.args.periods c.args.shear) c.nodes-nodes.ensures.kept c.requires.periods c.nodes-nodes.result c.nodes-nodes.ensures.value in
     omega (arith, all)
 
-pub symbols_read-requires-clause-one_each : goal.symbols_read-requires-clause-one_each
-symbols_read-requires-clause-one_each c =
-    let p = c.args.periods in
-    one_each_there c.values.result.now c.args.found.now c.symbols.result c.args.premise.now.symbols (slice_index p 2 * slice_index p 1 * slice_index p 0 * c.nodes-nodes.result)
-    (slice_index p 2 * slice_index p 1 * slice_index p 0 * c.args.premise.now.nodes) c.values.ensures c.symbols.ensures.value
-    (ap (λ k. slice_index p 2 * slice_index p 1 * slice_index p 0 * k) c.nodes-nodes.ensures.value) c.requires.one_each
+pub symbols_read-requires : goal.symbols_read-requires
+symbols_read-requires c =
+    let p = periods_of c.args.periods c.args.shear in
+    one_each_there c.values.result.now c.args.found.now c.symbols.result c.args.premise.now.symbols (volume p * c.nodes-nodes.result)
+    (volume p * c.args.premise.now.nodes) c.values.ensures c.symbols.ensures.value
+    (ap (λ k. volume p * k) c.nodes-nodes.ensures.value) c.requires.one_each
 
 pub unwrap-requires : goal.unwrap-requires
 unwrap-requires c =
     c.ok.ensures.variant
-    ∙ read_made c.args.premise.now c.args.periods c.nodes-nodes.ensures.kept c.requires.periods c.new.result (λ back. back ≡ c.in_ok-symbols.symbols) c.dim.result c.nodes-nodes.result
+    ∙ read_made c.args.premise.now (periods_of c.args.periods c.args.shear) c.nodes-nodes.ensures.kept c.requires.periods c.new.result (λ back. back ≡ c.in_ok-symbols.symbols) c.dim.result c.nodes-nodes.result
     c.in_ok-symbols.symbols.items c.dim.ensures c.nodes-nodes.ensures.value c.in_ok-symbols.ensures.0 c.new.ensures
 
 pub returns-clause-read : goal.returns-clause-read
 returns-clause-read c =
-    let t = made_is c.new.result c.ok.result c.unwrap.result (tile c.dim.result c.args.periods c.nodes-nodes.result c.in_ok-symbols.symbols.items) (λ back. back ≡ c.in_ok-symbols.symbols)
+    let t = made_is c.new.result c.ok.result c.unwrap.result (tile c.dim.result (periods_of c.args.periods c.args.shear) c.nodes-nodes.result c.in_ok-symbols.symbols.items) (λ back. back ≡ c.in_ok-symbols.symbols)
     c.new.ensures c.ok.ensures.value c.unwrap.ensures in
-    let p = c.args.periods in
+    let p = periods_of c.args.periods c.args.shear in
     subst (λ (v : Tile). AreRead (true_variables c.args.found.now) c.args.premise.now.symbols v.symbols) (sym t)
-    (read_there c.values.result.now c.args.found.now c.symbols.result c.args.premise.now.symbols (slice_index p 2 * slice_index p 1 * slice_index p 0 * c.nodes-nodes.result)
+    (read_there c.values.result.now c.args.found.now c.symbols.result c.args.premise.now.symbols (volume p * c.nodes-nodes.result)
     c.in_ok-symbols.symbols.items c.values.ensures c.symbols.ensures.value c.in_ok-symbols.ensures)
 
 pub returns-clause-only : goal.returns-clause-only
 returns-clause-only c = λ u periods fits read same.
-    let t = made_is c.new.result c.ok.result c.unwrap.result (tile c.dim.result c.args.periods c.nodes-nodes.result c.in_ok-symbols.symbols.items) (λ back. back ≡ c.in_ok-symbols.symbols)
+    let t = made_is c.new.result c.ok.result c.unwrap.result (tile c.dim.result (periods_of c.args.periods c.args.shear) c.nodes-nodes.result c.in_ok-symbols.symbols.items) (λ back. back ≡ c.in_ok-symbols.symbols)
     c.new.ensures c.ok.ensures.value c.unwrap.ensures in
-    let p = c.args.periods in
-    read_only c.args.premise.now c.args.periods c.nodes-nodes.ensures.kept c.requires.periods (true_variables c.args.found.now) c.dim.result c.nodes-nodes.result
+    let p = periods_of c.args.periods c.args.shear in
+    read_only c.args.premise.now (periods_of c.args.periods c.args.shear) c.nodes-nodes.ensures.kept c.requires.periods (true_variables c.args.found.now) c.dim.result c.nodes-nodes.result
     c.in_ok-symbols.symbols.items c.unwrap.result u c.dim.ensures c.nodes-nodes.ensures.value t
-    (read_there c.values.result.now c.args.found.now c.symbols.result c.args.premise.now.symbols (slice_index p 2 * slice_index p 1 * slice_index p 0 * c.nodes-nodes.result)
+    (read_there c.values.result.now c.args.found.now c.symbols.result c.args.premise.now.symbols (volume p * c.nodes-nodes.result)
     c.in_ok-symbols.symbols.items c.values.ensures c.symbols.ensures.value c.in_ok-symbols.ensures)
     periods fits read same
