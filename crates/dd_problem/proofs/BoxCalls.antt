@@ -18,7 +18,7 @@ use Rattle.dd_problem.specs.Problems.{box_problem}
 use Rattle.dd_problem.specs.Numbered.{in_turn}
 use Rattle.dd_problem.specs.Pushed.{AreInputs, is_goal_wired, wired_problem}
 use Rattle.dd_problem.specs.Shows.{Shows, Decides}
-use Rattle.dd_problem.proofs.Wiring.{some_same}
+use Rattle.dd_problem.proofs.Filtered.{some_same}
 use Rattle.dd_problem.proofs.BoxShows.{box_shows, shown_decides}
 use Rattle.dd_problem.proofs.BoxInputs.{radius_small, box_made, box_ascends, all_box_nodes, box_is_problem, box_goal_wired, box_inputs, box_few}
 

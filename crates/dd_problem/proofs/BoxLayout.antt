@@ -15,7 +15,7 @@ use Rattle.dd_boxes.specs.Fillings.{in_box, is_box_cell}
 use Rattle.dd_boxes.proofs.OneBoxLaws.{box_is_centred}
 use Rattle.dd_problem.specs.Layouts.{nth_cell, box_index, box_cells, box_layout}
 use Rattle.dd_problem.proofs.Reading.{IsLayout, slice_of_range}
-use Rattle.dd_problem.proofs.Wiring.{some_same}
+use Rattle.dd_problem.proofs.Filtered.{some_same}
 
 pub box_within : (d n : ℕ) (p : Place) → in_box d n p ≡ true → IsWithin (centred d n) p
 box_within d n p h = (centred_members d n p).1 ((box_is_centred d n p).0 h)
@@ -71,12 +71,15 @@ in_the_box x n k h =
 index_back : (x : LocalRule) (n k : ℕ) → box_index x n (box_cell x n k) ≡ k
 index_back x n k = rw (index_of_place (centred x.dimension n) (k / x.nodes)) (div-add-mod' k x.nodes)
 
-pub box_is_layout : (x : LocalRule) (n : ℕ) → IsLayout (box_layout x n)
-box_is_layout x n = record { within = λ c h. (let low = index_within x n c h in omega (arith, length-box_cells x n)) }
-
 -- the cell with a cell's number is the cell
 pub box_cell_there : (x : LocalRule) (n : ℕ) (c : Cell) → is_box_cell x n c ≡ true → slice_get (box_cells x n) (box_index x n c) ≡ Some c
 box_cell_there x n c h = slice_of_range (box_cell x n) (box_size x n) (box_index x n c) (index_within x n c h) ∙ ap (λ d. Some d) (cell_at x n c h)
+
+pub box_is_layout : (x : LocalRule) (n : ℕ) → IsLayout (box_layout x n)
+box_is_layout x n = record {
+  within = λ c h. (let low = index_within x n c h in omega (arith, length-box_cells x n));
+  node = λ c h. (c, box_cell_there x n c h, refl);
+}
 
 pub box_cell_at : (x : LocalRule) (n k : ℕ) (c : Cell) → slice_get (box_cells x n) k ≡ Some c → (is_box_cell x n c ≡ true) × (box_index x n c ≡ k)
 box_cell_at x n k c is =

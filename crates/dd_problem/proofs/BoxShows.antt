@@ -9,7 +9,8 @@ use Rattle.std.proofs.lemmas.Option.{slice_get-map, slice_get-get_or, get_or_fro
 use Rattle.dd_lattice.specs.Cells.{cell, shifted}
 use Rattle.dd_lattice.specs.declared.position.Cell.{Cell}
 use Rattle.dd_pattern.specs.Reading.{Look}
-use Rattle.dd_formula.specs.LocalRule.{LocalRule, IsRule, is_true, reads_at}
+use Rattle.dd_formula.specs.LocalRule.{LocalRule, rule_allows, IsRule, is_true, reads_at}
+use Rattle.dd_formula.proofs.AllowedLaws.{look_below as look_below_alphabet}
 use Rattle.dd_clause.specs.declared.clause.Literal.{Literal}
 use Rattle.dd_cnf.proofs.ModelLaws.{Satisfies-is_satisfied, is_satisfied-Satisfies}
 use Rattle.dd_boxes.specs.Goals.{GoalOf, breaks, always, IsGoalFor}
@@ -23,9 +24,10 @@ use Rattle.dd_problem.specs.Problems.{problem_clauses}
 use Rattle.dd_problem.specs.Symbols.{AreSymbols, AreRead, look_of}
 use Rattle.dd_problem.specs.Shows.{IsReadFrom, Shows, Decides}
 use Rattle.dd_problem.proofs.Parted.{premise_holds, goal_holds}
-use Rattle.dd_problem.proofs.Reading.{Stands, IsWired, look_below, read_symbols, problem_read}
+use Rattle.dd_problem.proofs.Reading.{Stands, IsWired, look_allowed, read_symbols, problem_read}
 use Rattle.dd_problem.proofs.Writing.{assignment, problem_written}
-use Rattle.dd_problem.proofs.Wiring.{filter_all, filter_at, goal_from_test, test_from_goal, HasReads, wired_layout}
+use Rattle.dd_problem.proofs.Filtered.{filter_all, filter_at}
+use Rattle.dd_problem.proofs.Wiring.{goal_from_test, test_from_goal, HasReads, wired_layout}
 use Rattle.dd_problem.proofs.BoxLayout.{box_is_layout, box_cell_there, box_cell_at}
 
 pub goal_reads_box : (x : LocalRule) (g : GoalOf) (n : ℕ) → IsGoalFor x g → Reaches g n → HasReads (box_layout x n) g
@@ -67,12 +69,12 @@ cond_some : (b : Bool) (o : Option ℕ) → (b ≡ true → is_some o ≡ true) 
 cond_some true o h = h refl
 cond_some false o h = refl
 
-pub look_is_filling : (x : LocalRule) (n : ℕ) (symbols : List ℕ) → AreSymbols x.symbols (length (box_cells x n)) symbols → IsBoxFilling x n (look_of (box_layout x n) symbols)
+pub look_is_filling : (x : LocalRule) (n : ℕ) (symbols : List ℕ) → AreSymbols x (box_cells x n) symbols → IsBoxFilling x n (look_of (box_layout x n) symbols)
 look_is_filling x n symbols ok = record {
   domain = λ c.
       cond_some (is_box_cell x n c) (slice_get symbols (box_index x n c))
       (λ h. some_within symbols (box_index x n c) (let low = (box_is_layout x n).within c h in omega (arith, ok.as_many)));
-  symbols = look_below (box_layout x n) x.symbols symbols ok.below;
+  allowed = look_allowed (box_layout x n) x symbols (box_is_layout x n) ok;
 }
 
 -- the symbols of a filling, by the cells' numbers
@@ -106,12 +108,12 @@ look_is x n look filling c =
 look_same : (x : LocalRule) (n : ℕ) (look : Look) → IsBoxFilling x n look → look_of (box_layout x n) (symbols_of x n look) ≡ look
 look_same x n look filling = λ i c. look_is x n look filling c i
 
-below_from : (o : Option ℕ) (m : ℕ) → IfSome o (λ s. s < m) → is_some o ≡ true → unwrap_or o 0 < m
-below_from None m h some = absurd (cc)
-below_from (Some s) m h some = h
+allowed_from : (P : ℕ → Type 0) (o : Option ℕ) → IfSome o P → is_some o ≡ true → P (unwrap_or o 0)
+allowed_from P None h some = absurd (cc)
+allowed_from P (Some s) h some = h
 
-symbols_fit : (x : LocalRule) (n : ℕ) (look : Look) → IsBoxFilling x n look → AreSymbols x.symbols (length (box_cells x n)) (symbols_of x n look)
-symbols_fit x n look filling = record {
+symbols_fit : (x : LocalRule) (n : ℕ) (look : Look) → IsRule x → IsBoxFilling x n look → AreSymbols x (box_cells x n) (symbols_of x n look)
+symbols_fit x n look rule filling = record {
   as_many = length-map (box_cells x n) (symbol_or_zero look);
   below = λ k d h.
       (let within : k < length (box_cells x n) = omega (arith, length-map (box_cells x n) (symbol_or_zero look)) in
@@ -120,7 +122,12 @@ symbols_fit x n look filling = record {
       let here = (box_cell_at x n k c there).0 in
       let at = get_or_from_slice_get (symbols_of x n look) k (symbol_or_zero look c) d
       (slice_get-map (symbol_or_zero look) (box_cells x n) k ∙ ap (option_map (symbol_or_zero look)) there) in
-      rw at (below_from (look c) x.symbols (filling.symbols c) (filling.domain c ∙ here)));
+      rw at (allowed_from (λ s. s < x.symbols) (look c) (look_below_alphabet x rule look filling.allowed c) (filling.domain c ∙ here)));
+  allowed = λ k c there.
+      (let here = (box_cell_at x n k c there).0 in
+      let at = get_or_from_slice_get (symbols_of x n look) k (symbol_or_zero look c) 0
+      (slice_get-map (symbol_or_zero look) (box_cells x n) k ∙ ap (option_map (symbol_or_zero look)) there) in
+      rw at (allowed_from (λ s. rule_allows x c.node s ≡ true) (look c) (filling.allowed c) (filling.domain c ∙ here)));
 }
 
 -- read by the cells, and by their numbers
@@ -149,7 +156,7 @@ box_shows x g n rule ok reach =
       every = λ look witness.
           (let ss = symbols_of x n look in
           let same = look_same x n look witness.filling in
-          let fit = symbols_fit x n look witness.filling in
+          let fit = symbols_fit x n look rule witness.filling in
           let premise = ap (premise_holds l x) same ∙ holds_from_admissible x n look witness.filling witness.admissible in
           let goal = ap (goal_holds g) same ∙ test_from_goal g look witness.goal in
           let stands : Stands l x g ss = record { symbols_fit = fit; premise = premise; goal = goal } in

@@ -17,7 +17,7 @@ use Rattle.dd_compile.proofs.MadeCount.{made_count}
 use Rattle.dd_formula.specs.LocalRule.{LocalRule, expansion_at}
 use Rattle.dd_boxes.specs.Goals.{GoalOf, breaks, always}
 use Rattle.dd_boxes.specs.Boxes.{origin}
-use Rattle.dd_formula.specs.Counts.{over_nodes, rule_clauses, cell_clauses}
+use Rattle.dd_formula.specs.Counts.{over_nodes, rule_clauses, cell_clauses, disallowed_pairs}
 use Rattle.dd_boxes.specs.Counts.{goal_clauses, question_clauses}
 use Rattle.dd_problem.specs.Layouts.{Layout, nth_cell, cells_in, fits_in}
 use Rattle.dd_problem.specs.Clauses.{part_gates}
@@ -163,13 +163,15 @@ variables_below l x g b places =
     let inputs : n ≡ v * x.nodes * x.symbols = ap (λ k. k * x.symbols) count in
     let fewer : v * x.nodes * x.symbols ≤ v * x.nodes * cell_clauses x.symbols = mul-le (v * x.nodes) x.symbols (v * x.nodes) (cell_clauses x.symbols) (omega arith) (symbols_below x.symbols) in
     let turned : v * x.nodes * cell_clauses x.symbols ≡ v * (x.nodes * cell_clauses x.symbols) = mul_assoc v x.nodes (cell_clauses x.symbols) in
-    let spread = mul-add v (x.nodes * cell_clauses x.symbols) (rule_clauses x) in
-    omega (arith, split, premise, cells, goal, inputs, fewer, turned, spread)
+    let spread = mul-add v (x.nodes * cell_clauses x.symbols + disallowed_pairs x) (rule_clauses x) in
+    let more = mul-add v (x.nodes * cell_clauses x.symbols) (disallowed_pairs x) in
+    omega (arith, split, premise, cells, goal, inputs, fewer, turned, spread, more)
 
 -- and the positions too
 pub positions_below : (x : LocalRule) (g : GoalOf) (v : ℕ) → 1 ≤ x.nodes → v ≤ question_clauses x g v
 positions_below x g v some =
-    let spread = mul-add v (x.nodes * cell_clauses x.symbols) (rule_clauses x) in
+    let spread = mul-add v (x.nodes * cell_clauses x.symbols + disallowed_pairs x) (rule_clauses x) in
+    let more = mul-add v (x.nodes * cell_clauses x.symbols) (disallowed_pairs x) in
     let one : 1 * 1 ≤ x.nodes * cell_clauses x.symbols = mul-le 1 1 x.nodes (cell_clauses x.symbols) some (omega arith) in
     let least : v * 1 ≤ v * (x.nodes * cell_clauses x.symbols) = mul-le v 1 v (x.nodes * cell_clauses x.symbols) (omega arith) (omega (arith, one)) in
-    omega (arith, spread, least)
+    omega (arith, spread, more, least)

@@ -1,4 +1,5 @@
 pub mod OneHot
+pub mod Filtered
 pub mod RangesLeft
 pub mod PlacesLeft
 pub mod NodesLeft

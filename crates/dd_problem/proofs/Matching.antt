@@ -163,7 +163,7 @@ wired_is_problem w l x p g rule ok layout reads places goal =
     (same_test w l x.symbols p x d rule refl layout match, λ fit. same_part d (same_maker w l x.symbols p x d rule refl layout match fit)))) in
     let last = goal_same w l x p g ok layout reads goal in
     λ i. (let parts : List Part = premise i ++ last i ∷ [] in
-    record { variables = n + length (part_gates n parts); clauses = cell_clauses x.symbols (length l.places) ++ part_clauses n parts })
+    record { variables = n + length (part_gates n parts); clauses = cell_clauses x l.places ++ part_clauses n parts })
   where
     same_part : (d : Cell) → compiled w d.position (expansion_at x d.node) ≡ place_maker l x.symbols x d → wired_part w x d ≡ premise_part l x d
     same_part d h = λ i. record { makers = h i ∷ []; tail = units }

@@ -18,7 +18,7 @@ use Rattle.dd_problem.specs.Pushed.{AreInputs}
 use Rattle.dd_problem.specs.Numbered.{symbol_signals, numbered}
 use Rattle.dd_problem.proofs.RangesLeft.{row_within}
 use Rattle.dd_problem.proofs.Reading.{slice_of_range}
-use Rattle.dd_problem.proofs.Wiring.{some_same}
+use Rattle.dd_problem.proofs.Filtered.{some_same}
 use Rattle.dd_problem.proofs.CellOrder.{All-range}
 
 -- a range holds its numbers in turn

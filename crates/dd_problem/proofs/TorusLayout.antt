@@ -19,13 +19,13 @@ use Rattle.dd_pattern.specs.Tile.{Tile, IsTile, IsPeriodic, tile, tile_index, ti
 use Rattle.dd_pattern.proofs.Residues.{residue_below}
 use Rattle.dd_pattern.proofs.TileLaws.{base_moved, look_same}
 use Rattle.dd_pattern.proofs.TileSizes.{index_below}
-use Rattle.dd_pattern.proofs.BoxLaws.{cell_at_index, in_box}
+use Rattle.dd_pattern.proofs.BoxLaws.{cell_at_index, in_box, index_of_cell}
 use Rattle.dd_expansion.specs.Placed.{is_flat}
 use Rattle.dd_formula.specs.LocalRule.{LocalRule, IsRule}
 use Rattle.dd_boxes.specs.Witnesses.{ArePeriods}
 use Rattle.dd_problem.specs.Layouts.{nth_cell, torus, torus_cells, torus_layout}
 use Rattle.dd_problem.proofs.Reading.{IsLayout, slice_of_range}
-use Rattle.dd_problem.proofs.Wiring.{some_same}
+use Rattle.dd_problem.proofs.Filtered.{some_same}
 
 -- the configuration of these symbols
 abbrev pub torus_of : LocalRule → Periods → List ℕ → Tile
@@ -103,17 +103,18 @@ module _ (x : LocalRule) (periods : Periods) (rule : IsRule x) (ok : ArePeriods 
   index_within : (c : Cell) → c.node < x.nodes → tile_index (torus x periods) c < torus_size x periods
   index_within c node = rw (← length-zeros x periods) (index_below (torus_of x periods (zeros x periods)) blank c node)
 
-  pub torus_is_layout : IsLayout (torus_layout x periods)
-  torus_is_layout = record {
-    within = λ c h. (let low = index_within c (ltb-true c.node x.nodes h) in omega (arith, length-torus_cells));
-  }
-
   -- the cell with the number of a cell is at its position modulo the periods
   pub torus_cell_there : (v : Place) (a : ℕ) → a < x.nodes → slice_get (torus_cells x periods) (tile_index (torus x periods) (cell v a)) ≡ Some (cell (base_of periods v) a)
   torus_cell_there v a node =
       ap (λ cs. slice_get cs (tile_index (torus x periods) (cell v a))) listed
       ∙ (slice_of_range (cell_in (torus x periods)) (torus_size x periods) (tile_index (torus x periods) (cell v a)) (index_within (cell v a) node)
       ∙ ap (λ d. Some d) (cell_at_index (torus_of x periods (zeros x periods)) blank v a node))
+
+  pub torus_is_layout : IsLayout (torus_layout x periods)
+  torus_is_layout = record {
+    within = λ c h. (let low = index_within c (ltb-true c.node x.nodes h) in omega (arith, length-torus_cells));
+    node = λ c h. (cell (base_of (torus x periods) c.position) c.node, torus_cell_there c.position c.node (ltb-true c.node x.nodes h), refl);
+  }
 
   place_is_cell : (k : ℕ) (d : Cell) → slice_get (torus_cells x periods) k ≡ Some d → (k < length (zeros x periods)) × (d ≡ cell_in (torus x periods) k)
   place_is_cell k d is =
@@ -126,6 +127,12 @@ module _ (x : LocalRule) (periods : Periods) (rule : IsRule x) (ok : ArePeriods 
   torus_cell_at k d is =
       let here = place_is_cell k d is in
       subst (IsInBox (torus_of x periods (zeros x periods))) (sym here.1) (in_box (torus_of x periods (zeros x periods)) blank k here.0)
+
+  -- with its number
+  pub torus_index_at : (k : ℕ) (d : Cell) → slice_get (torus_cells x periods) k ≡ Some d → tile_index (torus x periods) d ≡ k
+  torus_index_at k d is =
+      let here = place_is_cell k d is in
+      ap (tile_index (torus x periods)) here.1 ∙ index_of_cell (torus_of x periods (zeros x periods)) blank k here.0
 
   -- and so one of Z^d
   flat_axis : (active : Bool) (p : ℤ) (n : ℕ) → (active ≡ false → n ≡ 1) → 0 < n → pos (residue p n) ≡ p → (active || int_eq p (pos 0)) ≡ true

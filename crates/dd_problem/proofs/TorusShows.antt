@@ -1,9 +1,9 @@
 -- The clauses of a torus say what the question asks of the configurations of its periods.
-use Rattle.std.proofs.Common.{◌≡◌, ℕ, ◌<◌, true, List, length, refl, ap, sym, subst, ◌∙◌}
-use Rattle.std.specs.Prelude.{is_some, nat_lt}
+use Rattle.std.proofs.Common.{◌≡◌, ℕ, ◌<◌, true, List, length, get_or, refl, ap, sym, subst, ◌∙◌, arith, Some}
+use Rattle.std.specs.Prelude.{is_some, IfSome, nat_lt, slice_get}
 use Rattle.std.specs.List.{list_all}
 use Rattle.std.proofs.lemmas.Bool.{and_parts, ltb-true, lt-ltb}
-use Rattle.std.proofs.lemmas.Option.{slice_get-get_or}
+use Rattle.std.proofs.lemmas.Option.{slice_get-get_or, slice_get_within}
 use Rattle.dd_lattice.specs.Cells.{cell, shifted}
 use Rattle.dd_lattice.specs.declared.position.Cell.{Cell}
 use Rattle.dd_pattern.specs.declared.periods.Periods.{Periods}
@@ -11,7 +11,7 @@ use Rattle.dd_pattern.specs.Periods.{base_of}
 use Rattle.dd_pattern.specs.Tile.{Tile, tile_index, tile_look}
 use Rattle.dd_pattern.proofs.TileSizes.{index_below}
 use Rattle.dd_expansion.specs.Placed.{is_flat}
-use Rattle.dd_formula.specs.LocalRule.{LocalRule, IsRule, is_true, reads_at, is_of}
+use Rattle.dd_formula.specs.LocalRule.{LocalRule, rule_allows, IsRule, is_true, reads_at, is_of}
 use Rattle.dd_formula.specs.Living.{Fits, Lives}
 use Rattle.dd_cnf.proofs.ModelLaws.{Satisfies-is_satisfied, is_satisfied-Satisfies}
 use Rattle.dd_boxes.specs.Goals.{GoalOf, breaks, always, IsGoalFor}
@@ -21,10 +21,11 @@ use Rattle.dd_problem.specs.Layouts.{torus, torus_cells, torus_layout, fits_in}
 use Rattle.dd_problem.specs.Problems.{problem_clauses}
 use Rattle.dd_problem.specs.Shows.{ShowsTorus}
 use Rattle.dd_problem.proofs.Parted.{premise_holds}
-use Rattle.dd_problem.proofs.Reading.{Stands, IsWired, read_symbols, problem_read}
+use Rattle.dd_problem.proofs.Reading.{Stands, IsWired, look_allowed, read_symbols, problem_read}
 use Rattle.dd_problem.proofs.Writing.{assignment, problem_written}
-use Rattle.dd_problem.proofs.Wiring.{filter_all, filter_at, goal_from_test, test_from_goal, HasReads, wired_layout}
-use Rattle.dd_problem.proofs.TorusLayout.{torus_of, torus_size, length-torus_cells, torus_is_tile, torus_is_layout, torus_cell_there, torus_cell_at, flat_place, look_periodic}
+use Rattle.dd_problem.proofs.Filtered.{filter_all, filter_at}
+use Rattle.dd_problem.proofs.Wiring.{goal_from_test, test_from_goal, HasReads, wired_layout}
+use Rattle.dd_problem.proofs.TorusLayout.{torus_of, torus_size, length-torus_cells, torus_is_tile, torus_is_layout, torus_cell_there, torus_cell_at, torus_index_at, flat_place, look_periodic}
 
 -- a rule reads cells with nodes that there are
 node_of : (r : LocalRule) (c : Cell) → is_of r c ≡ true → nat_lt c.node r.nodes ≡ true
@@ -72,13 +73,23 @@ module _ (x : LocalRule) (g : GoalOf) (periods : Periods) (rule : IsRule x) (goa
       record {
         tile = torus_is_tile x periods symbols rule ok full;
         fits = record { dimension = refl; nodes = refl; symbols = stands.symbols_fit.below };
+        allowed = look_allowed (torus_layout x periods) x symbols (torus_is_layout x periods rule ok) stands.symbols_fit;
         lives = lives_from_holds symbols full stands.premise;
         goal = goal_from_test g (tile_look (torus_of x periods symbols)) stands.goal;
       }
 
   stands_from_witness : (symbols : List ℕ) → IsWitness x g (torus_of x periods symbols) → Stands (torus_layout x periods) x g symbols
   stands_from_witness symbols witness = record {
-    symbols_fit = record { as_many = witness.tile.full ∙ sym (length-torus_cells x periods rule ok); below = witness.fits.symbols };
+    symbols_fit = record {
+      as_many = witness.tile.full ∙ sym (length-torus_cells x periods rule ok);
+      below = witness.fits.symbols;
+      allowed = λ k d is.
+          (let within : k < length symbols = (let low = slice_get_within (torus_cells x periods) k d is in omega (arith, witness.tile.full, length-torus_cells x periods rule ok)) in
+          let number : slice_get symbols (tile_index (torus x periods) d) ≡ Some (get_or symbols k 0) =
+          ap (slice_get symbols) (torus_index_at x periods rule ok k d is) ∙ slice_get-get_or symbols k 0 within in
+          let look : tile_look (torus_of x periods symbols) d ≡ Some (get_or symbols k 0) = rw (lt-ltb d.node x.nodes (torus_cell_at x periods rule ok k d is).node) number in
+          subst (λ o. IfSome o (λ s. rule_allows x d.node s ≡ true)) look (witness.allowed d));
+    };
     premise = holds_from_lives symbols witness.lives;
     goal = test_from_goal g (tile_look (torus_of x periods symbols)) witness.goal;
   }

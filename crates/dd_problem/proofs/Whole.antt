@@ -113,14 +113,14 @@ places_clauses w x cells start b =
 
 pub whole : (w : Wiring) (x : LocalRule) (g : GoalOf) (cells : List Cell) (start now end : Network) (none some most all : ClauseList) → Begins (length cells * x.symbols) start →
     Placed w x cells now → end.inputs ≡ now.inputs → end.gates ≡ now.gates ++ part_gates (size now) (wired_goal w g ∷ []) → all.variables ≡ size end → none.clauses ≡ [] →
-    some.clauses ≡ none.clauses ++ cell_clauses x.symbols (length cells) →
+    some.clauses ≡ none.clauses ++ cell_clauses x cells →
     most.clauses ≡ some.clauses ++ part_clauses (size start) (wired_parts w start.inputs x cells) →
     all.clauses ≡ most.clauses ++ part_clauses (size now) (wired_goal w g ∷ []) → all ≡ wired_problem w x g cells
 whole w x g cells start now end none some most all b p inputs gates wide nothing first second third =
     let n = length cells * x.symbols in
     let ps = all_parts w x cells in
     let q = last_part w g in
-    let cs = cell_clauses x.symbols (length cells) in
+    let cs = cell_clauses x cells in
     let before = n + length (part_gates n ps) in
     let so_far : most.clauses ≡ cs ++ part_clauses n ps =
     second ∙ (ap (λ ks. some.clauses ++ ks) (places_clauses w x cells start b) ∙ ap (λ ks. ks ++ part_clauses n ps) (first ∙ ap (λ ks. ks ++ cs) nothing)) in

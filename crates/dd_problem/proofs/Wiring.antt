@@ -1,6 +1,6 @@
 -- Where all that is read has inputs.
 use Rattle.std.proofs.Common.{◌≡◌, ℕ, zero, suc, ◌+◌, ◌<◌, ◌≤◌, Bool, true, false, List, [], ◌∷◌, map, refl, ap, sym, subst, ◌∙◌, arith, Some, None, inl, inr}
-use Rattle.std.specs.Prelude.{not, cond, ◌&&◌, ◌||◌, ◌⊎◌, Option, nat_lt, slice_get}
+use Rattle.std.specs.Prelude.{not, ◌&&◌, ◌||◌, ◌⊎◌, Option, nat_lt, slice_get}
 use Rattle.std.proofs.Math.Nat.{eq-or-lt_of_le}
 use Rattle.std.specs.List.{list_all, list_any, filter, range_with_len}
 use Rattle.std.proofs.lemmas.Bool.{and_parts, and_from, or_cases}
@@ -16,31 +16,9 @@ use Rattle.dd_formula.specs.LocalRule.{LocalRule, IsRule, is_true, reads_at, exp
 use Rattle.dd_boxes.specs.Goals.{GoalOf, breaks, always, HasGoal, IsGoalFor}
 use Rattle.dd_boxes.specs.Boxes.{origin}
 use Rattle.dd_problem.specs.Layouts.{Layout, fits_in}
+use Rattle.dd_problem.proofs.Filtered.{filter_all}
 use Rattle.dd_problem.proofs.Parted.{reads_inputs, goal_holds, goal_reads, HasItsSymbols, job_reads}
 use Rattle.dd_problem.proofs.Reading.{IsLayout, IsWired}
-
--- a test of a filtered list, from its members and back
-filter_step : (p : Cell → Bool) (d : Cell) (b : Bool) (rest : List Cell) → (b ≡ true → p d ≡ true) → list_all p rest ≡ true → list_all p (cond b (d ∷ rest) rest) ≡ true
-filter_step p d true rest here there = rw (here refl, there) refl
-filter_step p d false rest here there = there
-
-pub filter_all : (p q : Cell → Bool) (cells : List Cell) → ((k : ℕ) (d : Cell) → slice_get cells k ≡ Some d → q d ≡ true → p d ≡ true) → list_all p (filter q cells) ≡ true
-filter_all p q [] h = refl
-filter_all p q (d ∷ cells) h = filter_step p d (q d) (filter q cells) (h 0 d refl) (filter_all p q cells (λ k e is. h (suc k) e is))
-
-filter_from : (p : Cell → Bool) (d : Cell) (b : Bool) (rest : List Cell) → list_all p (cond b (d ∷ rest) rest) ≡ true → (b ≡ true → p d ≡ true) × (list_all p rest ≡ true)
-filter_from p d true rest h = let both = and_parts (p d) (list_all p rest) h in ((λ _. both.0), both.1)
-filter_from p d false rest h = ((λ e. absurd (cc)), h)
-
-pub some_same : {A : Type 0} (a b : A) → Some a ≡ Some b → a ≡ b
-some_same a b h = cc
-
-pub filter_at : (p q : Cell → Bool) (cells : List Cell) (k : ℕ) (d : Cell) → list_all p (filter q cells) ≡ true → slice_get cells k ≡ Some d → q d ≡ true → p d ≡ true
-filter_at p q [] k d h is fit = absurd (cc)
-filter_at p q (c ∷ cells) zero d h is fit =
-    let e = some_same c d is in
-    ap p (sym e) ∙ (filter_from p c (q c) (filter q cells) h).0 (ap q e ∙ fit)
-filter_at p q (c ∷ cells) (suc k) d h is fit = filter_at p q cells k d (filter_from p c (q c) (filter q cells) h).1 is fit
 
 -- a test of a range
 pub all_of_range : (p : ℕ → Bool) (n a : ℕ) → ((k : ℕ) → k < a + n → p k ≡ true) → list_all p (range_with_len a n) ≡ true

@@ -1,17 +1,18 @@
 -- The assignment of symbols, and the clauses that it satisfies.
-use Rattle.std.proofs.Common.{◌≡◌, ℕ, zero, suc, ◌+◌, ◌*◌, ◌<◌, ◌≤◌, Bool, true, false, List, [], ◌∷◌, map, length, refl, ap, ◌∙◌, arith, Some, None}
-use Rattle.std.specs.Prelude.{◌-◌, ◌/◌, ◌%◌, Option, nat_lt, slice_get}
-use Rattle.std.specs.List.{list_all, flat_map, range_with_len}
-use Rattle.std.proofs.lemmas.Bool.{and_parts, and_from, ltb-true}
+use Rattle.std.proofs.Common.{◌≡◌, ℕ, suc, ◌+◌, ◌*◌, ◌<◌, ◌≤◌, Bool, true, false, List, [], ◌∷◌, map, length, get_or, refl, ap, sym, subst, ◌∙◌, arith, Some, None}
+use Rattle.std.specs.Prelude.{◌-◌, ◌/◌, ◌%◌, ◌==◌, not, Option, nat_lt, slice_get}
+use Rattle.std.specs.List.{list_all, range_with_len}
+use Rattle.std.proofs.lemmas.Bool.{and_parts, and_from, eqb-true, ltb-true}
 use Rattle.std.proofs.lemmas.List.Folds.{list_all-append}
 use Rattle.std.proofs.lemmas.Nat.{mod-mul-add, div-mul-add, mul-add-lt}
-use Rattle.std.proofs.lemmas.Option.{slice_get-get_or}
+use Rattle.std.proofs.lemmas.Option.{slice_get-get_or, slice_get_within}
 use Rattle.std.proofs.lemmas.List.FromFn.{get_or-map-range_with_len, length-map-range_with_len}
 use Rattle.dd_lattice.specs.Place.{Place}
 use Rattle.dd_lattice.specs.Cells.{cell, shifted}
 use Rattle.dd_lattice.specs.declared.position.Cell.{Cell}
 use Rattle.dd_expansion.specs.Truth.{is_symbol}
-use Rattle.dd_formula.specs.LocalRule.{LocalRule, expansion_at}
+use Rattle.dd_formula.specs.LocalRule.{LocalRule, rule_allows, expansion_at}
+use Rattle.dd_formula.specs.Counts.{disallowed}
 use Rattle.dd_clause.specs.Clauses.{is_clause_true}
 use Rattle.dd_circuit.specs.declared.gates.Gate.{Gate}
 use Rattle.dd_circuit.specs.Circuits.{AreGates, agrees}
@@ -23,10 +24,11 @@ use Rattle.dd_compile.specs.Compiling.{all_made}
 use Rattle.dd_boxes.specs.Goals.{GoalOf, breaks, always}
 use Rattle.dd_boxes.specs.Boxes.{origin}
 use Rattle.dd_problem.specs.Layouts.{Layout}
-use Rattle.dd_problem.specs.Clauses.{input, inputs_of, one_hot, cell_clauses, part_gates, part_clauses}
+use Rattle.dd_problem.specs.Clauses.{input, inputs_of, one_hot, none_of, symbol_clauses, clauses_from, cell_clauses, part_gates, part_clauses}
 use Rattle.dd_problem.specs.Problems.{wire, place_maker, goal_part, problem_parts, problem_clauses, input_count}
 use Rattle.dd_problem.specs.Symbols.{AreSymbols, AreRead, look_of}
 use Rattle.dd_compile.proofs.MadeFits.{made_fits}
+use Rattle.dd_problem.proofs.Filtered.{none_all}
 use Rattle.dd_problem.proofs.OneHot.{one_hot_law, hot_made}
 use Rattle.dd_problem.proofs.Parts.{parts_law, PartFits, parts_fit}
 use Rattle.dd_problem.proofs.Parted.{has_input, reads_inputs, goal_reads, jobs, job_part, job_reads, parts_by_jobs, parts_say}
@@ -55,24 +57,42 @@ inputs_written symbols m n gates full k s h l =
     ∙ (get_or-map-range_with_len (guess symbols m) 1 count (input m k s - 1) (input m k s) false (omega arith) (omega arith)
     ∙ rw (e, div-mul-add k m s l, mod-mul-add k m s l) refl)
 
-cells_all : (set : ℕ → Bool) (m n a : ℕ) → ((k : ℕ) → a ≤ k → k < a + n → is_satisfied set (one_hot (inputs_of m k)) ≡ true) →
-    is_satisfied set (flat_map (λ k. one_hot (inputs_of m k)) (range_with_len a n)) ≡ true
-cells_all set m zero a hot = refl
-cells_all set m (suc n) a hot =
-    list_all-append (is_clause_true set) (one_hot (inputs_of m a)) (flat_map (λ k. one_hot (inputs_of m k)) (range_with_len (a + 1) n))
-    ∙ and_from _ _ (hot a (omega arith) (omega arith)) (cells_all set m n (a + 1) (λ k p q. hot k (omega arith) (omega arith)))
+cells_all : (set : ℕ → Bool) (x : LocalRule) (cells : List Cell) (a : ℕ) →
+    ((k : ℕ) (d : Cell) → slice_get cells k ≡ Some d → is_satisfied set (symbol_clauses x (a + k) d.node) ≡ true) → is_satisfied set (clauses_from x a cells) ≡ true
+cells_all set x [] a each = refl
+cells_all set x (c ∷ cells) a each =
+    let here : a + 0 ≡ a = omega arith in
+    list_all-append (is_clause_true set) (symbol_clauses x a c.node) (clauses_from x (a + 1) cells)
+    ∙ and_from _ _ (ap (λ j. is_satisfied set (symbol_clauses x j c.node)) (sym here) ∙ each 0 c refl)
+    (cells_all set x cells (a + 1) (λ k d is. (let later : a + suc k ≡ a + 1 + k = omega arith in
+    subst (λ j. is_satisfied set (symbol_clauses x j d.node) ≡ true) later (each (suc k) d is))))
 
 hot_cell : (set : ℕ → Bool) (m k t : ℕ) (o : Option ℕ) → o ≡ Some t → t < m → ((s : ℕ) → s < m → set (input m k s) ≡ is_symbol s o) → is_satisfied set (one_hot (inputs_of m k)) ≡ true
 hot_cell set m k t o is below says =
     let hot = hot_made set (input m k) t m 0 (λ s p q. says s (omega arith) ∙ ap (is_symbol s) is) (omega arith) (omega arith) in
     one_hot_law set (inputs_of m k) ∙ and_from _ _ hot.0 hot.1
 
-cells_written : (set : ℕ → Bool) (m n : ℕ) (symbols : List ℕ) → AreSymbols m n symbols → AreRead set m symbols → is_satisfied set (cell_clauses m n) ≡ true
-cells_written set m n symbols ok read =
-    let full = ok.as_many in
-    cells_all set m n 0 (λ k p q.
-    (let within : k < length symbols = omega arith in
-    hot_cell set m k _ (slice_get symbols k) (slice_get-get_or symbols k 0 within) (ok.below k 0 within) (λ s l. read k s within l)))
+-- a symbol that isn't allowed isn't the cell's
+other_symbol : (x : LocalRule) (node s t : ℕ) → rule_allows x node t ≡ true → not (rule_allows x node s) ≡ true → (b : Bool) → (t == s) ≡ b → b ≡ false
+other_symbol x node s t allowed isn't false is = refl
+other_symbol x node s t allowed isn't true is =
+    let same : t ≡ s = eqb-true t s is in
+    let both : not true ≡ true = ap not (sym allowed ∙ ap (rule_allows x node) same) ∙ isn't in
+    absurd (cc)
+
+cells_written : (set : ℕ → Bool) (x : LocalRule) (cells : List Cell) (symbols : List ℕ) → AreSymbols x cells symbols → AreRead set x.symbols symbols → is_satisfied set (cell_clauses x cells) ≡ true
+cells_written set x cells symbols ok read =
+    let m = x.symbols in
+    cells_all set x cells 0 (λ k d is.
+    (let here : k ≡ 0 + k = omega arith in
+    let within : k < length symbols = omega (arith, slice_get_within cells k d is, ok.as_many) in
+    let t = get_or symbols k 0 in
+    let there : slice_get symbols k ≡ Some t = slice_get-get_or symbols k 0 within in
+    let hot = hot_cell set m k t (slice_get symbols k) there (ok.below k 0 within) (λ s l. read k s within l) in
+    let none = none_all set (input m k) (λ s. not (rule_allows x d.node s)) m (λ s l isn't.
+    read k s within l ∙ (ap (is_symbol s) there ∙ other_symbol x d.node s t (ok.allowed k d is) isn't (t == s) refl)) in
+    subst (λ j. is_satisfied set (symbol_clauses x j d.node) ≡ true) here
+    (list_all-append (is_clause_true set) (one_hot (inputs_of m k)) (none_of m k (disallowed x d.node)) ∙ and_from _ _ hot none)))
 
 -- the gates of the parts are over the inputs and earlier gates
 input_in_range : (k s m n : ℕ) → k < n → s < m → (1 ≤ input m k s) × (input m k s ≤ n * m)
@@ -129,8 +149,8 @@ problem_written l x g wired symbols stands =
     let agree : agrees set n gs ≡ true =
     agrees-values_from gs (guesses symbols m (length l.places)) n (length-map-range_with_len (guess symbols m) 1 (length l.places * m)) (gates_fit l x g wired) in
     let said = parts_say set l x g look below (wired.alphabet look below) tell wired.reads agree in (
-      list_all-append (is_clause_true set) (cell_clauses m (length l.places)) (part_clauses n ps)
-          ∙ and_from _ _ (cells_written set m (length l.places) symbols stands.symbols_fit read)
+      list_all-append (is_clause_true set) (cell_clauses x l.places) (part_clauses n ps)
+          ∙ and_from _ _ (cells_written set x l.places symbols stands.symbols_fit read)
           (parts_law set n ps ∙ and_from _ _ agree (said ∙ and_from _ _ stands.premise stands.goal)),
       read,
     )

@@ -1,11 +1,14 @@
--- Clauses that say that each cell has one symbol, and clauses over the signals of gates.
+-- Clauses that say that each cell has one symbol, an allowed one, and clauses over the signals of gates.
 use Rattle.std.specs.Prelude.{ℕ, suc, ◌+◌, ◌*◌, true, false, List, [], ◌∷◌, ◌++◌, map, length}
-use Rattle.std.specs.List.{flat_map, range_with_len}
+use Rattle.std.specs.List.{flat_map, enumerate_from, range_with_len}
+use Rattle.dd_lattice.specs.declared.position.Cell.{Cell}
 use Rattle.dd_clause.specs.declared.clause.Literal.{Literal}
 use Rattle.dd_circuit.specs.declared.gates.Signal.{Signal}
 use Rattle.dd_circuit.specs.declared.gates.Gate.{Gate}
 use Rattle.dd_cnf.specs.Encoding.{literal, literal_of, opposing, gates_clauses}
 use Rattle.dd_compile.specs.Compiling.{AllMade, Maker, all_made}
+use Rattle.dd_formula.specs.LocalRule.{LocalRule}
+use Rattle.dd_formula.specs.Counts.{disallowed}
 
 -- the variable that says that the cell with the number k has the symbol s, of m symbols
 abbrev pub input : ℕ → ℕ → ℕ → ℕ
@@ -23,9 +26,20 @@ pairs (v ∷ vs) = map (λ w. literal v false ∷ literal w false ∷ []) vs ++ 
 abbrev pub one_hot : List ℕ → List (List Literal)
 one_hot vs = map (λ v. literal v true) vs ∷ pairs vs
 
--- each of the first n cells has one of m symbols
-abbrev pub cell_clauses : ℕ → ℕ → List (List Literal)
-cell_clauses m n = flat_map (λ k. one_hot (inputs_of m k)) (range_with_len 0 n)
+-- the cell with the number k has none of these of m symbols
+abbrev pub none_of : ℕ → ℕ → List ℕ → List (List Literal)
+none_of m k symbols = map (λ s. literal (input m k s) false ∷ []) symbols
+
+-- the cell with the number k, at this node, has one symbol, and none that its node doesn't allow
+abbrev pub symbol_clauses : LocalRule → ℕ → ℕ → List (List Literal)
+symbol_clauses x k node = one_hot (inputs_of x.symbols k) ++ none_of x.symbols k (disallowed x node)
+
+-- so does each of the cells, which have the numbers 0, 1, .. in their order
+abbrev pub clauses_from : LocalRule → ℕ → List Cell → List (List Literal)
+clauses_from x first cells = flat_map (λ numbered. symbol_clauses x numbered.0 numbered.1.node) (enumerate_from first cells)
+
+abbrev pub cell_clauses : LocalRule → List Cell → List (List Literal)
+cell_clauses x cells = clauses_from x 0 cells
 
 -- gates, and then clauses over their signals
 pub record Part : Type 0 where

@@ -41,7 +41,7 @@ abbrev pub input_count : Layout → LocalRule → ℕ
 input_count l x = length l.places * x.symbols
 
 abbrev pub problem_clauses : Layout → LocalRule → GoalOf → List (List Literal)
-problem_clauses l x g = cell_clauses x.symbols (length l.places) ++ part_clauses (input_count l x) (problem_parts l x g)
+problem_clauses l x g = cell_clauses x l.places ++ part_clauses (input_count l x) (problem_parts l x g)
 
 -- the inputs are the first variables, and the gates follow
 abbrev pub problem : Layout → LocalRule → GoalOf → ClauseList

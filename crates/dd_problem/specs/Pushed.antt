@@ -46,4 +46,4 @@ abbrev pub wired_problem : Wiring → LocalRule → GoalOf → List Cell → Cla
 wired_problem w x g cells =
     let n = length cells * x.symbols in
     let parts = wired_parts w n x cells ++ wired_goal w g ∷ [] in
-    record { variables = n + length (part_gates n parts); clauses = cell_clauses x.symbols (length cells) ++ part_clauses n parts }
+    record { variables = n + length (part_gates n parts); clauses = cell_clauses x cells ++ part_clauses n parts }

@@ -1,15 +1,18 @@
 -- Symbols for the cells of a layout, by the cells' numbers.
-use Rattle.std.specs.Prelude.{ℕ, ◌≡◌, ◌<◌, ◌==◌, Bool, List, None, cond, length, slice_get, slice_index_or}
+use Rattle.std.specs.Prelude.{ℕ, ◌≡◌, ◌<◌, ◌==◌, Bool, true, List, Some, None, cond, length, slice_get, slice_index, slice_index_or}
 use Rattle.std.specs.List.{All}
+use Rattle.dd_lattice.specs.declared.position.Cell.{Cell}
 use Rattle.dd_pattern.specs.Reading.{Look}
+use Rattle.dd_formula.specs.LocalRule.{LocalRule, rule_allows}
 use Rattle.dd_expansion.specs.Truth.{is_symbol}
 use Rattle.dd_problem.specs.Layouts.{Layout}
 use Rattle.dd_problem.specs.Clauses.{input}
 
--- one of m symbols for each of n cells
-pub record AreSymbols (m n : ℕ) (symbols : List ℕ) : Type 0 where
-  pub as_many : length symbols ≡ n
-  pub below : All (λ s. s < m) symbols
+-- one symbol for each of the cells, which its node allows
+pub record AreSymbols (x : LocalRule) (cells : List Cell) (symbols : List ℕ) : Type 0 where
+  pub as_many : length symbols ≡ length cells
+  pub below : All (λ s. s < x.symbols) symbols
+  pub allowed : (k : ℕ) (c : Cell) → slice_get cells k ≡ Some c → rule_allows x c.node (slice_index symbols k) ≡ true
 
 -- of the inputs of each cell exactly that of its symbol is true
 abbrev pub AreRead : (ℕ → Bool) → ℕ → List ℕ → Type 0

@@ -1,11 +1,14 @@
-//! Clauses that say that each cell has exactly one symbol.
-ghost use Rattle.std.specs.Prelude.{◌≡◌, ◌≤◌, ◌<◌, ◌+◌, ◌-◌, ◌*◌, ◌^◌, ◌∷◌, ◌++◌, [], map, true, false, OnOk};
+//! Clauses that say that each cell has exactly one symbol, which its node allows.
+ghost use Rattle.std.specs.Prelude.{◌≡◌, ◌≤◌, ◌<◌, ◌+◌, ◌-◌, ◌*◌, ◌^◌, ◌∷◌, ◌++◌, [], map, true, false, length, All, OnOk};
 ghost use Rattle.std.specs.List.{range_with_len};
 ghost use Rattle.dd_cnf.specs.Encoding.{literal};
-ghost use Rattle.dd_problem.specs.Clauses.{pairs, one_hot, cell_clauses};
+ghost use Rattle.dd_formula.specs.Counts.{disallowed};
+ghost use Rattle.dd_problem.specs.Clauses.{pairs, none_of, symbol_clauses, cell_clauses};
 
 use dd_clause::{Cnf, Literal};
 use dd_cnf::push_clause;
+use dd_formula::Rule;
+use dd_lattice::Cell;
 use std::alloc::{AllocError, Global};
 
 fn negative(variable: u32) -> Literal
@@ -71,24 +74,70 @@ fn push_some(alloc: Global, cnf: &mut Cnf, from: u32, end: u32) -> Result<(), Al
     push_clause(alloc, cnf, &literals)
 }
 
-/// Adds the clauses that say that each of `cells` cells has one of `symbols` symbols. After want of memory some may have
-/// been added.
+/// Adds the clauses that say that the cell with this number has none of the symbols that its node doesn't allow.
+fn push_disallowed(
+    alloc: Global,
+    cnf: &mut Cnf,
+    premise: &Rule,
+    number: u32,
+    node: u32,
+) -> Result<(), AllocError>
+    requires node { node < premise.now.nodes }
+    requires few { number * premise.now.symbols + premise.now.symbols ≤ 2 ^ 24 }
+    requires wide { number * premise.now.symbols + premise.now.symbols ≤ cnf.old.variables }
+    ensures variables { cnf.new.variables ≡ cnf.old.variables }
+    ensures ok { OnOk result (cnf.new.clauses ≡
+        cnf.old.clauses ++ none_of premise.now.symbols number (disallowed premise.now node)) }
+{
+    let symbols = premise.symbols();
+    for symbol in 0..symbols {
+        if !premise.allows(node, symbol) {
+            push_clause(alloc, cnf, &[negative(number * symbols + symbol + 1)])?;
+        }
+    }
+    Ok(())
+}
+
+/// Adds the clauses that say that the cell with this number has one symbol, which its node allows.
+fn push_cell(
+    alloc: Global,
+    cnf: &mut Cnf,
+    premise: &Rule,
+    number: u32,
+    node: u32,
+) -> Result<(), AllocError>
+    requires node { node < premise.now.nodes }
+    requires few { number * premise.now.symbols + premise.now.symbols ≤ 2 ^ 24 }
+    requires wide { number * premise.now.symbols + premise.now.symbols ≤ cnf.old.variables }
+    ensures variables { cnf.new.variables ≡ cnf.old.variables }
+    ensures ok { OnOk result (cnf.new.clauses ≡ cnf.old.clauses ++ symbol_clauses premise.now number node) }
+{
+    let from = number * premise.symbols() + 1;
+    let end = from + premise.symbols();
+    push_some(alloc, cnf, from, end)?;
+    push_pairs(alloc, cnf, from, end)?;
+    push_disallowed(alloc, cnf, premise, number, node)
+}
+
+/// Adds the clauses that say that each of the cells has one symbol, which its node allows. After want of memory some may
+/// have been added.
 pub(crate) fn push_cells(
     alloc: Global,
     cnf: &mut Cnf,
-    cells: u32,
-    symbols: u32,
+    premise: &Rule,
+    cells: &[Cell],
 ) -> Result<(), AllocError>
-    requires few { cells * symbols ≤ 2 ^ 24 }
-    requires wide { cells * symbols ≤ cnf.old.variables }
+    requires nodes { All (λ c. c.node < premise.now.nodes) cells.now }
+    requires count { length cells.now < 2 ^ 32 }
+    requires few { length cells.now * premise.now.symbols ≤ 2 ^ 24 }
+    requires wide { length cells.now * premise.now.symbols ≤ cnf.old.variables }
     ensures variables { cnf.new.variables ≡ cnf.old.variables }
-    ensures ok { OnOk result (cnf.new.clauses ≡ cnf.old.clauses ++ cell_clauses symbols cells) }
+    ensures ok { OnOk result (cnf.new.clauses ≡ cnf.old.clauses ++ cell_clauses premise.now cells.now) }
 {
-    for cell in 0..cells {
-        let from = cell * symbols + 1;
-        let end = from + symbols;
-        push_some(alloc, cnf, from, end)?;
-        push_pairs(alloc, cnf, from, end)?;
+    let mut number = 0;
+    for cell in cells {
+        push_cell(alloc, cnf, premise, number, cell.node)?;
+        number += 1;
     }
     Ok(())
 }

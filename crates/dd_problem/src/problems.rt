@@ -13,7 +13,7 @@ use dd_formula::Rule;
 use dd_lattice::Cell;
 use std::alloc::{AllocError, Global};
 
-/// The clauses that say that each of the cells has one symbol, that the premise is true at each cell where all that it
+/// The clauses that say that each of the cells has one symbol, which its node allows, that the premise is true at each cell where all that it
 /// reads has inputs, and that the goal holds at the origin.
 pub(crate) fn problem(
     alloc: Global,
@@ -31,7 +31,7 @@ pub(crate) fn problem(
     let count = (cells.len() * premise.symbols() as usize) as u32;
     let mut circuit = Circuit::new(alloc, count);
     let mut cnf = Cnf::new(alloc, count);
-    push_cells(alloc, &mut cnf, cells.len() as u32, premise.symbols())?;
+    push_cells(alloc, &mut cnf, premise, cells)?;
     push_places(alloc, &mut cnf, &mut circuit, premise, cells, inputs)?;
     push_goal(alloc, &mut cnf, &mut circuit, goal, inputs)?;
     Ok(cnf)

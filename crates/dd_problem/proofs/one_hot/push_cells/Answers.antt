@@ -1,12 +1,14 @@
-use Rattle.std.proofs.Common.{◌∙◌, ◌+◌, ◌*◌, refl}
+use Rattle.std.proofs.Common.{◌++◌, ap, ◌∙◌, arith}
+use Rattle.dd_problem.specs.Clauses.{symbol_clauses}
 use Rattle.dd_problem.proofs.RangesLeft.{cells_step}
 use Rattle.dd_problem.proofs.one_hot.push_cells.Goals as goal
 
 pub loop-cell-preserved : goal.loop-cell-preserved
 loop-cell-preserved c = record {
-  variables = c.in_ok-push_pairs.ensures.variables ∙ (c.in_ok-push_some.ensures.variables ∙ c.loop-cell.invariant.variables);
+  number = omega arith;
+  variables = c.in_ok-push_cell.ensures.variables ∙ c.loop-cell.invariant.variables;
   clauses =
-      cells_step c.args.symbols c.loop-cell.cell (c.loop-cell.cell * c.args.symbols + 1) (c.loop-cell.cell * c.args.symbols + 1 + c.args.symbols) c.args.cnf.now.clauses
-      c.loop-cell.cnf.clauses c.push_some.new.cnf.clauses c.push_pairs.new.cnf.clauses refl refl c.loop-cell.invariant.clauses c.in_ok-push_some.ensures.ok
-      c.in_ok-push_pairs.ensures.ok;
+      cells_step c.args.premise.now c.args.cells.now c.loop-cell.cell-index c.cell-item.result c.args.cnf.now.clauses c.loop-cell.cnf.clauses c.push_cell.new.cnf.clauses c.loop-cell-test.true
+      c.cell-item.is c.loop-cell.invariant.clauses
+      (c.in_ok-push_cell.ensures.ok ∙ ap (λ k. c.loop-cell.cnf.clauses ++ symbol_clauses c.args.premise.now k c.cell-item.result.node) c.loop-cell.invariant.number);
 }

@@ -1,6 +1,5 @@
-use Rattle.std.proofs.Common.{◌*◌, ◌^◌, ◌++◌, length, ap, ◌∙◌}
+use Rattle.std.proofs.Common.{◌*◌, ◌^◌, length, ap, ◌∙◌}
 use Rattle.dd_boxes.specs.Views.{goal_of}
-use Rattle.dd_problem.specs.Clauses.{cell_clauses}
 use Rattle.dd_problem.proofs.Whole.{Begins, placed, places_room, goal_room, goal_there, whole}
 use Rattle.dd_problem.proofs.problems.problem.Goals as goal
 
@@ -35,4 +34,4 @@ returns c =
     c.push_cells.new.cnf c.push_places.new.cnf c.push_goal.new.cnf begin
     (placed c.args.inputs.now c.args.premise.now c.args.cells.now c.new-circuit.result c.push_places.new.circuit begin done.inputs done.gates) last.inputs last.gates last.wide
     c.new-cnf.ensures.clauses
-    (c.in_ok-push_cells.ensures.ok ∙ ap (λ m. c.new-cnf.result.clauses ++ cell_clauses m (length c.args.cells.now)) c.symbols-2.ensures.value) done.clauses last.clauses
+    c.in_ok-push_cells.ensures.ok done.clauses last.clauses

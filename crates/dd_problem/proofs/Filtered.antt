@@ -1,0 +1,62 @@
+-- A test of a filtered list, and variables of which none is true.
+use Rattle.std.proofs.Common.{◌≡◌, ℕ, zero, suc, ◌+◌, ◌<◌, Bool, true, false, List, [], ◌∷◌, map, refl, ap, sym, ◌∙◌, arith, Some}
+use Rattle.std.specs.Prelude.{not, cond, ◌&&◌, ◌||◌, slice_get}
+use Rattle.std.specs.List.{list_all, filter, range_with_len}
+use Rattle.std.proofs.lemmas.Bool.{and_parts}
+use Rattle.std.proofs.lemmas.Option.{slice_get_read, slice_get_within}
+use Rattle.std.proofs.lemmas.List.FromFn.{get_or-range_with_len, length-range_with_len}
+use Rattle.dd_clause.specs.Clauses.{is_clause_true}
+use Rattle.dd_cnf.specs.Encoding.{literal}
+use Rattle.dd_cnf.specs.Models.{is_satisfied}
+
+pub some_same : {A : Type 0} (a b : A) → Some a ≡ Some b → a ≡ b
+some_same a b h = cc
+
+module _ {X : Type 0} where
+  -- from its members and back
+  filter_step : (p : X → Bool) (d : X) (b : Bool) (rest : List X) → (b ≡ true → p d ≡ true) → list_all p rest ≡ true → list_all p (cond b (d ∷ rest) rest) ≡ true
+  filter_step p d true rest here there = rw (here refl, there) refl
+  filter_step p d false rest here there = there
+
+  pub filter_all : (p q : X → Bool) (xs : List X) → ((k : ℕ) (d : X) → slice_get xs k ≡ Some d → q d ≡ true → p d ≡ true) → list_all p (filter q xs) ≡ true
+  filter_all p q [] h = refl
+  filter_all p q (d ∷ xs) h = filter_step p d (q d) (filter q xs) (h 0 d refl) (filter_all p q xs (λ k e is. h (suc k) e is))
+
+  filter_from : (p : X → Bool) (d : X) (b : Bool) (rest : List X) → list_all p (cond b (d ∷ rest) rest) ≡ true → (b ≡ true → p d ≡ true) × (list_all p rest ≡ true)
+  filter_from p d true rest h = let both = and_parts (p d) (list_all p rest) h in ((λ _. both.0), both.1)
+  filter_from p d false rest h = ((λ e. absurd (cc)), h)
+
+  pub filter_at : (p q : X → Bool) (xs : List X) (k : ℕ) (d : X) → list_all p (filter q xs) ≡ true → slice_get xs k ≡ Some d → q d ≡ true → p d ≡ true
+  filter_at p q [] k d h is fit = absurd (cc)
+  filter_at p q (c ∷ xs) zero d h is fit =
+      let e = some_same c d is in
+      ap p (sym e) ∙ (filter_from p c (q c) (filter q xs) h).0 (ap q e ∙ fit)
+  filter_at p q (c ∷ xs) (suc k) d h is fit = filter_at p q xs k d (filter_from p c (q c) (filter q xs) h).1 is fit
+
+  all-map : {Y : Type 0} (p : Y → Bool) (f : X → Y) (xs : List X) → list_all p (map f xs) ≡ list_all (λ x. p (f x)) xs
+  all-map p f [] = refl
+  all-map p f (x ∷ xs) = ap (λ b. p (f x) && b) (all-map p f xs)
+
+range_get : (m k : ℕ) → k < m → slice_get (range_with_len 0 m) k ≡ Some k
+range_get m k h = slice_get_read (range_with_len 0 m) m k k (sym (length-range_with_len 0 m)) h (sym (get_or-range_with_len 0 m k k h ∙ (let e : 0 + k ≡ k = omega arith in e)))
+
+only_false : (b : Bool) → (not b || false) ≡ true → b ≡ false
+only_false true h = sym h
+only_false false h = refl
+
+-- of the variables that pass a test none is true
+module _ (set : ℕ → Bool) (v : ℕ → ℕ) (q : ℕ → Bool) (m : ℕ) where
+  pub none_at : is_satisfied set (map (λ s. literal (v s) false ∷ []) (filter q (range_with_len 0 m))) ≡ true → (s : ℕ) → s < m → q s ≡ true → set (v s) ≡ false
+  none_at h s below passes =
+      only_false (set (v s))
+      (filter_at (λ t. not (set (v t)) || false) q (range_with_len 0 m) s s
+      (sym (all-map (is_clause_true set) (λ t. literal (v t) false ∷ []) (filter q (range_with_len 0 m))) ∙ h) (range_get m s below) passes)
+
+  pub none_all : ((s : ℕ) → s < m → q s ≡ true → set (v s) ≡ false) → is_satisfied set (map (λ s. literal (v s) false ∷ []) (filter q (range_with_len 0 m))) ≡ true
+  none_all h =
+      all-map (is_clause_true set) (λ t. literal (v t) false ∷ []) (filter q (range_with_len 0 m))
+      ∙ filter_all (λ t. not (set (v t)) || false) q (range_with_len 0 m) (λ k s is passes.
+      (let within = slice_get_within (range_with_len 0 m) k s is in
+      let below : k < m = omega (arith, within, length-range_with_len 0 m) in
+      let same : s ≡ k = some_same s k (sym is ∙ range_get m k below) in
+      rw (h s (omega arith) passes) refl))
