@@ -1,6 +1,7 @@
 pub mod Forcing
 pub mod Trails
 pub mod Valued
+pub mod Denied
 pub mod Numbers
 pub mod Leads
 pub mod Turns

@@ -1,5 +1,6 @@
--- Variables get values and lose them again.
-use Rattle.std.proofs.Common.{◌≡◌, ◌≢◌, ℕ, zero, suc, ◌+◌, ◌-◌, ◌<◌, ◌≤◌, Bool, true, false, not, ◌||◌, List, [], ◌∷◌, ◌++◌, map, unwrap_or, Option, Some, None, refl, ap, sym, ◌∙◌, subst, length, get_or, set, take, inl, inr, arith, eqb, get_or-set_same, get_or-set_other}
+-- A trail whose variables are distinct and in range gives each of them a value, so there are no more entries than
+-- variables; and where there are as many, each variable has one.
+use Rattle.std.proofs.Common.{◌≡◌, ◌≢◌, ℕ, zero, suc, ◌+◌, ◌-◌, ◌<◌, ◌≤◌, Bool, true, false, not, ◌||◌, List, [], ◌∷◌, ◌++◌, map, unwrap_or, Option, Some, None, refl, ap, sym, ◌∙◌, subst, length, get_or, set, take, inl, inr, arith, eqb, add-one, get_or-set_same, get_or-set_other}
 use Rattle.std.specs.Bool.{beq, IsTrue}
 use Rattle.std.specs.Option.{is_some}
 use Rattle.std.specs.Prelude.{◌↔◌}
@@ -11,8 +12,32 @@ use Rattle.dd_clause.specs.Clauses.{IsInRange, negation, true_variables}
 use Rattle.dd_derivation.specs.Derivations.{same_literal, is_among, has_variable}
 use Rattle.dd_solver.specs.declared.trail.Entry.{Entry}
 use Rattle.dd_solver.specs.Entries.{falses, IsFree, IsFull}
-use Rattle.dd_solver.specs.Values.{value_denies, one_if_some, count_valued, IsValued}
+use Rattle.dd_solver.specs.Values.{IsNewTo}
 use Rattle.dd_solver.proofs.Trails.{falses-append, in_falses, at_falses, has_variable-in, in-has_variable, absent, take_shorter, among_snoc}
+
+-- a variable with this value makes its literal of this sign false
+abbrev pub value_denies : Bool → Option Bool → Bool
+value_denies positive None = false
+value_denies positive (Some value) = not (beq value positive)
+
+-- the literal is false where the variable k has the value at k - 1
+abbrev pub is_denied : List (Option Bool) → Literal → Bool
+is_denied values l = value_denies l.positive (get_or values (l.variable - 1) None)
+
+abbrev pub one_if_some : Option Bool → ℕ
+one_if_some None = 0
+one_if_some (Some _) = 1
+
+-- how many variables have a value
+abbrev pub count_valued : List (Option Bool) → ℕ
+count_valued [] = 0
+count_valued (v ∷ values) = one_if_some v + count_valued values
+
+-- the values are those that make the trail's literals true, whose variables are distinct
+pub record IsValued (trail : List Entry) (values : List (Option Bool)) : Type 0 where
+  pub news : (k : ℕ) (d : Entry) → k < length trail → IsNewTo (length values) (take k trail) (get_or trail k d)
+  pub values_ok : (l : Literal) → IsInRange (length values) l → is_denied values l ≡ is_among (falses trail) l
+  pub count_ok : count_valued values ≡ length trail
 
 none : Entry
 none = record { literal = record { variable = 0; positive = false }; reason = None }
@@ -55,7 +80,7 @@ among_same trail x e q f = rw (absent trail x e.variable q f, eq-eqb x.variable 
 among_other : (trail : List Literal) (x e : Literal) → x.variable ≢ e.variable → is_among (negation e ∷ trail) x ≡ is_among trail x
 among_other trail x e n = or_first (same_literal x (negation e)) (is_among trail x) (and_left _ _ (ne_eqb x.variable e.variable n))
 
-falses-snoc : (trail : List Entry) (e : Entry) (x : Literal) → is_among (falses (trail ++ e ∷ [])) x ≡ is_among (negation e.literal ∷ falses trail) x
+pub falses-snoc : (trail : List Entry) (e : Entry) (x : Literal) → is_among (falses (trail ++ e ∷ [])) x ≡ is_among (negation e.literal ∷ falses trail) x
 falses-snoc trail e x = ap (λ (xs : List Literal). is_among xs x) (falses-append trail (e ∷ [])) ∙ among_snoc (falses trail) (negation e.literal) x
 
 pub valued_more : (trail : List Entry) (values : List (Option Bool)) (e : Entry) → IsValued trail values → IsInRange (length values) e.literal → has_variable e.literal.variable (falses trail) ≡ false → IsValued (trail ++ e ∷ []) (set values (e.literal.variable - 1) (Some e.literal.positive))
@@ -91,29 +116,6 @@ at_most (Some x ∷ xs) = omega (arith, at_most xs)
 pub length_within : (trail : List Entry) (values : List (Option Bool)) → IsValued trail values → length trail ≤ length values
 length_within trail values v = omega (arith, v.count_ok, at_most values)
 
--- the last entry is taken back
-pub valued_less : (trail : List Entry) (values : List (Option Bool)) (j : ℕ) (d : Entry) → length trail ≡ j + 1 → IsValued trail values → IsValued (take j trail) (set values ((get_or trail j d).literal.variable - 1) None)
-valued_less trail values j d l v =
-    let e = get_or trail j d in
-    let i = e.literal.variable - 1 in
-    let new = v.news j d (omega arith) in
-    let lt : i < length values = let r = new.0 in omega arith in
-    let whole : trail ≡ take j trail ++ e ∷ [] = sym (take_all (j + 1) trail (omega arith)) ∙ take_more trail j d (omega arith) in
-    let last : is_among (falses trail) (negation e.literal) ≡ true = at_falses trail j d (omega arith) in
-    let one : one_if_some (get_or values i None) ≡ 1 = denied_valued (not e.literal.positive) (get_or values i None) (v.values_ok (negation e.literal) new.0 ∙ last) in
-    let c = count-set values i None lt in
-    record {
-      news = λ k d' h. (let b : k < j = omega (arith, length-take j trail) in
-          rw (length-set values i None, get_or-take j trail k d' b, take_shorter trail k j (omega arith)) (v.news k d' (omega arith)));
-      values_ok = λ x h. (let h' : IsInRange (length values) x = rw (length-set values i None) at h in
-          elim (cases_eq x.variable e.literal.variable) [
-            | inl q ↦ rw (ap (λ (n : ℕ). n - 1) q, get_or-set_same values i None None lt) (sym (absent (falses (take j trail)) x e.literal.variable q new.1))
-            | inr n ↦ (let o : x.variable - 1 ≢ i = λ z. n (let r = new.0 in omega arith) in
-                rw (get_or-set_other values i (x.variable - 1) None None o) (v.values_ok x h' ∙ ap (λ (t : List Entry). is_among (falses t) x) whole ∙ falses-snoc (take j trail) e x ∙ among_other (falses (take j trail)) x e.literal n))
-          ]);
-      count_ok = omega (arith, c, one, v.count_ok, length-take j trail);
-    }
-
 -- a further variable that has no value
 pub valued_wider : (values : List (Option Bool)) → IsValued [] values → IsValued [] (values ++ None ∷ [])
 valued_wider values v = record {
@@ -135,20 +137,6 @@ valued_wider values v = record {
 
 pub valued_none : IsValued [] []
 valued_none = record { news = λ k d h. absurd (omega arith); values_ok = λ x r. refl; count_ok = refl }
-
--- no literal out of range is false
-pub out_of_range : (trail : List Entry) (values : List (Option Bool)) (x : Literal) → IsValued trail values → (IsInRange (length values) x → ⊥) → is_among (falses trail) x ≡ false
-out_of_range trail values x v n = false_from_ne_true _ (λ h.
-    let w = in_falses trail x h in
-    n (subst (IsInRange (length values)) (w.2 none) (v.news w.0 none w.1).0))
-
--- a variable with no value is no entry's
-pub no_entry : (trail : List Entry) (values : List (Option Bool)) (v : ℕ) → IsValued trail values → 1 ≤ v → v ≤ length values → get_or values (v - 1) None ≡ None → has_variable v (falses trail) ≡ false
-no_entry trail values v ok a b e = false_from_ne_true _ (λ h.
-    let w = in-has_variable (falses trail) v h in
-    let r : IsInRange (length values) w.0 = rw (w.2) (a, b) in
-    let u : get_or values (w.0.variable - 1) None ≡ None = rw (w.2) e in
-    false≢true (sym (ap (value_denies w.0.positive) u) ∙ ok.values_ok w.0 r ∙ w.1))
 
 -- a variable with a value is an entry's
 pub some_entry : (trail : List Entry) (values : List (Option Bool)) (v : ℕ) → IsValued trail values → 1 ≤ v → v ≤ length values → one_if_some (get_or values (v - 1) None) ≡ 1 → has_variable v (falses trail) ≡ true
@@ -172,16 +160,6 @@ valued_entry trail values v ok a b h =
     let r : IsInRange (length values) w.0 = rw (w.2) (a, b) in
     let s = denied_valued w.0.positive (get_or values (w.0.variable - 1) None) (ok.values_ok w.0 r ∙ w.1) in
     subst (λ (n : ℕ). one_if_some (get_or values (n - 1) None) ≡ 1) w.2 s
-
--- a variable is free exactly where it has no value
-pub free_exactly : (trail : List Entry) (values : List (Option Bool)) (v : ℕ) (o : Option Bool) (b : Bool) → IsValued trail values
-    → 1 ≤ v → v ≤ length values → get_or values (v - 1) None ≡ o → is_some o ≡ not b → IsTrue b ↔ IsFree (length values) trail v
-free_exactly trail values v None true ok a h e s = (λ t. (a, h, no_entry trail values v ok a h e), λ f. refl)
-free_exactly trail values v None false ok a h e s = absurd (false≢true s)
-free_exactly trail values v (Some x) true ok a h e s = absurd (false≢true (sym s))
-free_exactly trail values v (Some x) false ok a h e s =
-    let has = some_entry trail values v ok a h (ap one_if_some e) in
-    (λ t. absurd (false≢true t), λ f. absurd (false≢true (sym f.2 ∙ has)))
 
 -- each variable has a value exactly where there are as many entries as variables
 pub full_exactly : (trail : List Entry) (values : List (Option Bool)) (n m : ℕ) → IsValued trail values → n ≡ length trail
@@ -211,16 +189,23 @@ full_exactly trail values n m ok e f = (
     every [] h = refl
     every (x ∷ xs) h = omega (arith, h 0 (omega arith), every xs (λ k l. h (suc k) (omega arith)))
 
--- the value of a variable, by its negative literal
-pub value_of : (trail : List Entry) (values : List (Option Bool)) (v : ℕ) → IsValued trail values → 1 ≤ v → v ≤ length values → true_variables (map (λ o. unwrap_or o false) values) v ≡ is_among (falses trail) (record { variable = v; positive = false })
-value_of trail values v ok a b = get_map values (v - 1) (omega arith) ∙ denies (get_or values (v - 1) None) ∙ ok.values_ok (record { variable = v; positive = false }) (a, b)
+-- the values of a trail
+pub valued_of : (n : ℕ) (trail : List Entry) → ((k : ℕ) (d : Entry) → k < length trail → IsNewTo n (take k trail) (get_or trail k d)) → (values : List (Option Bool)) × (length values ≡ n) × IsValued trail values
+valued_of n trail news =
+    let w = go (length trail) (omega arith) in
+    (w.0, w.1, subst (λ (t : List Entry). IsValued t w.0) (take_all (length trail) trail (omega arith)) w.2)
   where
-    get_map : (xs : List (Option Bool)) (k : ℕ) → k < length xs → get_or (map (λ o. unwrap_or o false) xs) k false ≡ unwrap_or (get_or xs k None) false
-    get_map [] k h = absurd (omega arith)
-    get_map (x ∷ xs) zero h = refl
-    get_map (x ∷ xs) (suc k) h = get_map xs k (omega arith)
+    blank : (m : ℕ) → (values : List (Option Bool)) × (length values ≡ m) × IsValued [] values
+    blank zero = ([], refl, valued_none)
+    blank (suc m) = let w = blank m in (w.0 ++ None ∷ [], omega (arith, length-append w.0 (None ∷ []), w.1), valued_wider w.0 w.2)
 
-    denies : (o : Option Bool) → unwrap_or o false ≡ value_denies false o
-    denies None = refl
-    denies (Some true) = refl
-    denies (Some false) = refl
+    go : (j : ℕ) → j ≤ length trail → (values : List (Option Bool)) × (length values ≡ n) × IsValued (take j trail) values
+    go zero h = blank n
+    go (suc j) h =
+        let w = go j (omega arith) in
+        let e = get_or trail j none in
+        let new = news j none (omega arith) in
+        let o : Option Bool = Some e.literal.positive in
+        let more = valued_more (take j trail) w.0 e w.2 (rw (w.1) new.0) new.1 in
+        let all : take j trail ++ e ∷ [] ≡ take (suc j) trail = sym (take_more trail j none (omega arith)) ∙ ap (λ (i : ℕ). take i trail) (add-one j) in
+        (set w.0 (e.literal.variable - 1) o, length-set w.0 (e.literal.variable - 1) o ∙ w.1, subst (λ (t : List Entry). IsValued t (set w.0 (e.literal.variable - 1) o)) all more)

@@ -1,10 +1,10 @@
-// The literals that are true, in the order in which they became so, and the value of each variable. What a trail says
-// of a literal depends on its entries alone; the array of values makes each look cost the same.
+// The literals that are true, in the order in which they became so, and which literals are false. What a trail says
+// of a literal depends on its entries alone; one truth value for each literal makes each look cost the same.
 ghost use Rattle.std.specs.Prelude.{◌≡◌, ℕ, ◌+◌, ◌<◌, ◌≤◌, ◌^◌, ◌++◌, ◌∷◌, [], true, false, length, take, slice_set, ◌-◌, IfOk, OnOk, OnErr, MatchOption, IsTrue, ◌↔◌};
 ghost use Rattle.dd_clause.specs.Clauses.{IsInRange, true_variables};
 ghost use Rattle.dd_derivation.specs.Derivations.{is_among, has_variable};
 ghost use Rattle.dd_solver.specs.Entries.{falses, IsFree, IsFull};
-ghost use Rattle.dd_solver.specs.Values.{IsValued};
+ghost use Rattle.dd_solver.specs.Values.{code, IsDenied};
 
 use dd_clause::{Assignment, Literal};
 use dd_derivation::FalseLiterals;
@@ -18,52 +18,39 @@ pub struct Entry {
     pub reason: Option<u64>,
 }
 
-/// The entries, with the value of each variable, its entry's place, and the places of the decisions.
+/// The entries; for each literal whether it is false; of each variable its entry's place, and the places of the decisions.
 #[derive(Drop)]
 pub struct Trail {
+    variables: usize,
     entries: Vec<Entry>,
-    values: Vec<Option<bool>>,
+    denied: Vec<bool>,
     places: Vec<usize>,
     levels: Vec<usize>,
 }
 
 impl Model for Trail {
-    ghost use Rattle.std.specs.Prelude.{◌≡◌, length};
     ghost use Rattle.dd_solver.specs.Entries.{EntryList};
-    ghost use Rattle.dd_solver.specs.Values.{IsValued};
+    ghost use Rattle.dd_solver.specs.Values.{IsDenied};
 
     ghost Value = { EntryList };
 
-    ghost view = { λ t. record { variables = length t.values.items; entries = t.entries.items } };
+    ghost view = { λ t. record { variables = t.variables; entries = t.entries.items } };
 
-    ghost invariant = { λ t. IsValued t.entries.items t.values.items × (length t.places.items ≡ length t.values.items) };
+    ghost invariant = { λ t. IsDenied t.variables t.entries.items t.denied.items };
 }
 
-fn no_values(alloc: Global, variables: usize) -> Result<Vec<Option<bool>>, AllocError>
-    ensures length { IfOk result (λ values. length values.items ≡ variables) }
-    ensures valued { IfOk result (λ values. IsValued [] values.items) }
+/// The place of a literal in a list of all of them.
+pub fn place_of(literal: Literal) -> usize
+    ensures { result ≡ code literal }
 {
-    let mut values: Vec<Option<bool>> = Vec::new(alloc);
-    for i in 0..variables {
-        values.push(None)?;
-    }
-    Ok(values)
+    let place = 2 * literal.variable as usize;
+    if literal.positive { place + 1 } else { place }
 }
 
-fn set_value(values: &mut Vec<Option<bool>>, variable: u32, value: Option<bool>)
-    requires low { 1 ≤ variable }
-    requires high { variable ≤ length values.old.items }
-    ensures { values.new.items ≡ slice_set values.old.items (variable - 1) value }
-{
-    values[variable as usize - 1] = value;
-}
-
-fn set_place(places: &mut Vec<usize>, variable: u32, place: usize)
-    ensures { length places.new.items ≡ length places.old.items }
-{
+fn set_place(places: &mut Vec<usize>, variable: u32, place: usize) {
     let variable = variable as usize;
-    if variable >= 1 && variable <= places.len() {
-        places[variable - 1] = place;
+    if variable < places.len() {
+        places[variable] = place;
     }
 }
 
@@ -88,13 +75,15 @@ fn count_below(levels: &[usize], place: usize) -> usize {
 impl Trail {
     /// No entries over this many variables.
     pub fn new(alloc: Global, variables: usize) -> Result<Trail, AllocError>
+        requires { variables < 2 ^ 32 }
         ensures variables { IfOk result (λ trail. trail.variables ≡ variables) }
         ensures entries { IfOk result (λ trail. trail.entries ≡ []) }
     {
         Ok(Trail {
+            variables,
             entries: Vec::new(alloc),
-            values: no_values(alloc, variables)?,
-            places: vec![in alloc; 0; variables]?,
+            denied: vec![in alloc; false; 2 * variables + 2]?,
+            places: vec![in alloc; 0; variables + 1]?,
             levels: Vec::new(alloc),
         })
     }
@@ -117,9 +106,8 @@ impl Trail {
         let place = self.entries.len();
         note_decision(&mut self.levels, entry, place)?;
         self.entries.push(entry)?;
-        let variable = entry.literal.variable;
-        set_value(&mut self.values, variable, Some(entry.literal.positive));
-        set_place(&mut self.places, variable, place);
+        set_place(&mut self.places, entry.literal.variable, place);
+        self.denied[place_of(entry.literal.negation())] = true;
         Ok(())
     }
 
@@ -131,7 +119,7 @@ impl Trail {
         while self.entries.len() > place {
             let last = self.entries.len() - 1;
             let entry = self.entries[last];
-            set_value(&mut self.values, entry.literal.variable, None);
+            self.denied[place_of(entry.literal.negation())] = false;
             self.entries.truncate(last);
         }
         self.levels
@@ -142,20 +130,17 @@ impl Trail {
     pub fn is_full(&self) -> bool
         ensures { IsTrue result ↔ IsFull self.now.variables self.now.entries }
     {
-        self.entries.len() == self.values.len()
+        self.entries.len() == self.variables
     }
 
     /// Whether there is a variable of this number, and it has no value.
     pub fn is_free(&self, variable: usize) -> bool
         ensures { IsTrue result ↔ IsFree self.now.variables self.now.entries variable }
     {
-        if variable == 0 {
+        if variable == 0 || variable > self.variables {
             return false;
         }
-        if variable > self.values.len() {
-            return false;
-        }
-        self.values[variable - 1].is_none()
+        !self.denied[2 * variable] && !self.denied[2 * variable + 1]
     }
 
     /// A variable that has no value.
@@ -163,8 +148,8 @@ impl Trail {
         requires { self.now.variables < 2 ^ 32 }
         ensures { MatchOption result (IsFull self.now.variables self.now.entries) (IsFree self.now.variables self.now.entries) }
     {
-        for i in 0..self.values.len() {
-            if self.values[i].is_none() {
+        for i in 0..self.variables {
+            if self.is_free(i + 1) {
                 return Some(i as u32 + 1);
             }
         }
@@ -177,8 +162,8 @@ impl Trail {
         ensures values { IfOk result (λ values. (v : ℕ) → 1 ≤ v → v ≤ self.now.variables → true_variables values v ≡ is_among (falses self.now.entries) (record { variable = v; positive = false })) }
     {
         let mut values: Vec<bool> = Vec::new(alloc);
-        for value in &self.values {
-            values.push(value.unwrap_or(false))?;
+        for i in 0..self.variables {
+            values.push(self.denied[2 * i + 2])?;
         }
         Ok(Assignment::new(values))
     }
@@ -199,10 +184,15 @@ impl Trail {
         }
     }
 
+    /// Whether the literal at this place of a list of all of them is false.
+    pub fn is_false_at(&self, place: usize) -> bool {
+        place < self.denied.len() && self.denied[place]
+    }
+
     fn place(&self, variable: u32) -> usize {
         let variable = variable as usize;
-        if variable >= 1 && variable <= self.places.len() {
-            return self.places[variable - 1];
+        if variable < self.places.len() {
+            return self.places[variable];
         }
         0
     }
@@ -212,17 +202,7 @@ impl FalseLiterals for Trail {
     ghost is_false = { λ t. is_among (falses t.entries) };
 
     fn is_false(&self, literal: Literal) -> bool {
-        let count = self.values.len();
-        let variable = literal.variable as usize;
-        if variable == 0 {
-            return false;
-        }
-        if variable > count {
-            return false;
-        }
-        match self.values[variable - 1] {
-            None => false,
-            Some(value) => value != literal.positive,
-        }
+        let place = place_of(literal);
+        place < self.denied.len() && self.denied[place]
     }
 }

@@ -8,17 +8,48 @@ ghost use Rattle.dd_solver.specs.Search.{Says, AreOpenBetween};
 
 use crate::database::Database;
 use crate::propagation::{Scan, look_at, scan_between};
-use crate::trail::Trail;
+use crate::trail::{Trail, place_of};
 use dd_clause::Literal;
-use dd_derivation::FalseLiterals;
 use std::alloc::{AllocError, Global};
+
+/// A literal in four bytes: its place in a list of all literals.
+#[derive(Clone, Copy, PartialEq, Eq)]
+struct Code {
+    place: u32,
+}
+
+impl Code {
+    fn new(literal: Literal) -> Code {
+        Code {
+            place: u32::try_from(place_of(literal)).unwrap_or(0),
+        }
+    }
+
+    fn negation(self) -> Code {
+        Code {
+            place: self.place ^ 1,
+        }
+    }
+
+    fn place(self) -> usize {
+        self.place as usize
+    }
+
+    fn is_false(self, trail: &Trail) -> bool {
+        trail.is_false_at(self.place())
+    }
+
+    fn is_true(self, trail: &Trail) -> bool {
+        self.negation().is_false(trail)
+    }
+}
 
 /// A clause that watches a literal, by its number, and another of its literals. Where that one is true, the clause needs
 /// no look.
 #[derive(Clone, Copy)]
 struct Watcher {
-    number: u64,
-    other: Literal,
+    number: u32,
+    other: Code,
 }
 
 /// From where to where the literals of a clause stand.
@@ -33,7 +64,7 @@ struct Extent {
 #[derive(Drop)]
 pub struct Watches {
     lists: Vec<Vec<Watcher>>,
-    literals: Vec<Literal>,
+    literals: Vec<Code>,
     extents: Vec<Extent>,
     read: usize,
     at: usize,
@@ -44,40 +75,35 @@ pub struct Watches {
 /// watches a further literal beside the other, or it may force the other.
 #[derive(Clone, Copy)]
 enum Look {
-    Stays(Literal),
-    Moves(Literal, Literal),
+    Stays(Code),
+    Moves(Code, Code),
     Speaks,
 }
 
-/// The place of a literal's list.
-fn list_of(literal: Literal) -> usize {
-    2 * literal.variable as usize + usize::from(literal.positive)
-}
-
-fn is_true(trail: &Trail, literal: Literal) -> bool {
-    trail.is_false(literal.negation())
-}
-
-fn watch(lists: &mut Vec<Vec<Watcher>>, list: usize, watcher: Watcher) -> Result<(), AllocError> {
+fn watch(lists: &mut Vec<Vec<Watcher>>, literal: Code, watcher: Watcher) -> Result<(), AllocError> {
+    let list = literal.place();
     if list < lists.len() {
         lists[list].push(watcher)?;
     }
     Ok(())
 }
 
-fn unwatch(lists: &mut Vec<Vec<Watcher>>, list: usize, at: usize) {
+fn unwatch(lists: &mut Vec<Vec<Watcher>>, literal: Code, at: usize) {
+    let list = literal.place();
     if list < lists.len() && at < lists[list].len() {
         lists[list].swap_remove(at);
     }
 }
 
-fn set_watcher(lists: &mut Vec<Vec<Watcher>>, list: usize, at: usize, watcher: Watcher) {
+fn set_watcher(lists: &mut Vec<Vec<Watcher>>, literal: Code, at: usize, watcher: Watcher) {
+    let list = literal.place();
     if list < lists.len() && at < lists[list].len() {
         lists[list][at] = watcher;
     }
 }
 
-fn find_watcher(lists: &[Vec<Watcher>], list: usize, at: usize) -> Option<Watcher> {
+fn find_watcher(lists: &[Vec<Watcher>], literal: Code, at: usize) -> Option<Watcher> {
+    let list = literal.place();
     if list < lists.len() && at < lists[list].len() {
         return Some(lists[list][at]);
     }
@@ -85,11 +111,11 @@ fn find_watcher(lists: &[Vec<Watcher>], list: usize, at: usize) -> Option<Watche
 }
 
 /// The place of the first literal that is not false.
-fn find_not_false(trail: &Trail, literals: &[Literal]) -> Option<usize>
+fn find_not_false(trail: &Trail, literals: &[Code]) -> Option<usize>
     ensures { MatchOption result ⊤ (λ place. place < length literals.now) }
 {
     for (place, literal) in literals.iter().enumerate() {
-        if !trail.is_false(*literal) {
+        if !literal.is_false(trail) {
             return Some(place);
         }
     }
@@ -97,7 +123,7 @@ fn find_not_false(trail: &Trail, literals: &[Literal]) -> Option<usize>
 }
 
 /// Looks in a clause for another literal to watch, in place of the one that became false.
-fn rewatch(trail: &Trail, literals: &mut [Literal], became_false: Literal) -> Look {
+fn rewatch(trail: &Trail, literals: &mut [Code], became_false: Code) -> Look {
     if literals.len() < 2 {
         return Look::Stays(became_false);
     }
@@ -105,7 +131,7 @@ fn rewatch(trail: &Trail, literals: &mut [Literal], became_false: Literal) -> Lo
         literals.swap(0, 1);
     }
     let other = literals[0];
-    if is_true(trail, other) {
+    if other.is_true(trail) {
         return Look::Stays(other);
     }
     match find_not_false(trail, &literals[2..]) {
@@ -138,26 +164,21 @@ impl Watches {
 
     /// The next clause watches its first two literals.
     pub fn add(&mut self, literals: &[Literal]) -> Result<(), AllocError> {
-        let number = self.extents.len() as u64 + 1;
-        if literals.len() >= 2 {
-            let first = literals[0];
-            let other = literals[1];
-            watch(&mut self.lists, list_of(first), Watcher { number, other })?;
-            watch(
-                &mut self.lists,
-                list_of(other),
-                Watcher {
-                    number,
-                    other: first,
-                },
-            )?;
-        }
         let from = self.literals.len();
         for literal in literals {
-            self.literals.push(*literal)?;
+            self.literals.push(Code::new(*literal))?;
         }
         let to = self.literals.len();
         self.extents.push(Extent { from, to })?;
+        let number = u32::try_from(self.extents.len()).unwrap_or(0);
+        if literals.len() >= 2 {
+            let first = Code::new(literals[0]);
+            let second = Code::new(literals[1]);
+            let other = second;
+            watch(&mut self.lists, first, Watcher { number, other })?;
+            let other = first;
+            watch(&mut self.lists, second, Watcher { number, other })?;
+        }
         Ok(())
     }
 
@@ -167,15 +188,16 @@ impl Watches {
         self.at = 0;
     }
 
-    fn extent(&self, number: u64) -> Extent {
-        if number >= 1 && number <= self.extents.len() as u64 {
-            return self.extents[(number - 1) as usize];
+    fn extent(&self, number: u32) -> Extent {
+        let number = number as usize;
+        if number >= 1 && number <= self.extents.len() {
+            return self.extents[number - 1];
         }
         Extent { from: 0, to: 0 }
     }
 
     /// The same in the clause of this number.
-    fn rewatch_in(&mut self, trail: &Trail, number: u64, became_false: Literal) -> Look {
+    fn rewatch_in(&mut self, trail: &Trail, number: u32, became_false: Code) -> Look {
         let Extent { from, to } = self.extent(number);
         let literals = self.literals.as_mut_slice();
         if from <= to && to <= literals.len() {
@@ -184,79 +206,59 @@ impl Watches {
         Look::Stays(became_false)
     }
 
-    /// Goes past a watcher of a literal that became false, unless its clause may force a literal or be falsified.
+    /// Goes past a watcher of a literal that became false. False where its clause may be falsified or force a literal.
     fn pass(
         &mut self,
         trail: &Trail,
-        became_false: Literal,
+        became_false: Code,
         watcher: Watcher,
     ) -> Result<bool, AllocError> {
-        let list = list_of(became_false);
         let at = self.at;
         let number = watcher.number;
-        if is_true(trail, watcher.other) {
+        if watcher.other.is_true(trail) {
             self.at = at.saturating_add(1);
             return Ok(true);
         }
         match self.rewatch_in(trail, number, became_false) {
             Look::Stays(other) => {
-                set_watcher(&mut self.lists, list, at, Watcher { number, other });
+                set_watcher(&mut self.lists, became_false, at, Watcher { number, other });
                 self.at = at.saturating_add(1);
                 Ok(true)
             }
             Look::Moves(next, other) => {
-                unwatch(&mut self.lists, list, at);
-                watch(&mut self.lists, list_of(next), Watcher { number, other })?;
+                unwatch(&mut self.lists, became_false, at);
+                watch(&mut self.lists, next, Watcher { number, other })?;
                 Ok(true)
             }
-            Look::Speaks => Ok(false),
-        }
-    }
-
-    /// Reads the clauses that watch a literal which became false, on from where they were read to.
-    fn read_list(
-        &mut self,
-        database: &Database,
-        trail: &Trail,
-        literal: Literal,
-    ) -> Result<Scan, AllocError>
-        ensures { IfOk result (Says (all_known database.now) (falses trail.now.entries) ⊤) }
-    {
-        let list = list_of(literal);
-        let count = match self.lists.get(list) {
-            None => 0,
-            Some(watchers) => watchers.len(),
-        };
-        for _ in 0..count {
-            let at = self.at;
-            let Some(watcher) = find_watcher(self.lists.as_slice(), list, at) else {
-                break;
-            };
-            if !self.pass(trail, literal, watcher)? {
+            Look::Speaks => {
                 self.at = at.saturating_add(1);
-                match look_at(database, trail, watcher.number) {
-                    Scan::Nothing => {}
-                    seen => return Ok(seen),
-                }
+                Ok(false)
             }
         }
-        self.at = 0;
-        Ok(Scan::Nothing)
     }
 
-    /// Reads on in the trail, until a clause is falsified or forces a literal.
+    /// Reads the trail on from where it was read to, until a clause is falsified or forces a literal: of each literal
+    /// that became false all watchers are passed.
     fn read(&mut self, database: &Database, trail: &Trail) -> Result<Scan, AllocError>
         ensures { IfOk result (Says (all_known database.now) (falses trail.now.entries) ⊤) }
     {
         let entries = trail.entries();
-        for _ in 0..entries.len() {
+        for _ in 0..u64::MAX {
             let read = self.read;
             if read >= entries.len() {
                 break;
             }
-            match self.read_list(database, trail, entries[read].literal.negation())? {
-                Scan::Nothing => self.read = read.saturating_add(1),
-                seen => return Ok(seen),
+            let became_false = Code::new(entries[read].literal).negation();
+            let Some(watcher) = find_watcher(self.lists.as_slice(), became_false, self.at) else {
+                self.read = read.saturating_add(1);
+                self.at = 0;
+                continue;
+            };
+            if !self.pass(trail, became_false, watcher)? {
+                match look_at(database, trail, u64::from(watcher.number)) {
+                    Scan::Nothing => {}
+                    seen => return Ok(seen),
+                }
             }
         }
         Ok(Scan::Nothing)

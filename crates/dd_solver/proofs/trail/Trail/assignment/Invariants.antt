@@ -1,5 +1,8 @@
-use Rattle.std.proofs.Common.{◌≡◌, map, take, unwrap_or, false}
+use Rattle.std.proofs.Common.{◌≡◌, ℕ, ◌+◌, ◌*◌, ◌<◌, length, get_or, false}
 use Rattle.dd_solver.proofs.trail.Trail.assignment.Given as goal
 
-abbrev pub invariant-loop-value : goal.invariant-loop-value
-invariant-loop-value l = l.values.items ≡ map (λ o. unwrap_or o false) (take l.value-index l.value-items)
+abbrev pub invariant-loop-i : goal.invariant-loop-i
+invariant-loop-i l = record {
+  as_many : length l.values.items ≡ l.i;
+  values : (k : ℕ) → k < l.i → get_or l.values.items k false ≡ get_or l.self-inside.denied.items (2 * k + 2) false;
+}

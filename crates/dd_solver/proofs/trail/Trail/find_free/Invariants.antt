@@ -1,6 +1,7 @@
-use Rattle.std.proofs.Common.{◌≡◌, ℕ, ◌<◌, get_or, None}
-use Rattle.dd_solver.specs.Values.{one_if_some}
+use Rattle.std.proofs.Common.{◌≡◌, ℕ, ◌+◌, ◌<◌, true}
+use Rattle.dd_derivation.specs.Derivations.{has_variable}
+use Rattle.dd_solver.specs.Entries.{falses}
 use Rattle.dd_solver.proofs.trail.Trail.find_free.Given as goal
 
 abbrev pub invariant-loop-i : goal.invariant-loop-i
-invariant-loop-i l = (k : ℕ) → k < l.i → one_if_some (get_or l.self-inside.values.items k None) ≡ 1
+invariant-loop-i l = (k : ℕ) → k < l.i → has_variable (k + 1) (falses l.self.entries) ≡ true

@@ -1,12 +1,23 @@
-use Rattle.std.proofs.Common.{◌-◌, None, arith, sym, ◌∙◌}
+use Rattle.std.proofs.Common.{◌≡◌, ◌+◌, ◌*◌, true, false, get_or, sym, ◌∙◌, refl, arith}
+use Rattle.dd_solver.proofs.Denied.{free_exactly}
 use Rattle.dd_solver.proofs.Trails.{get_any}
-use Rattle.dd_solver.proofs.Valued.{free_exactly}
 use Rattle.dd_solver.proofs.trail.Trail.is_free.Goals as goal
 
-pub returns : goal.returns
-returns c =
+pub returns-then-not-index : goal.returns-then-not-index
+returns-then-not-index c =
     let t = c.self.inside in
-    let i = c.args.variable - 1 in
-    let e = get_any t.values.items i None c.index.result.now (omega arith) ∙ sym c.index.ensures in
-    let w = free_exactly t.entries.items t.values.items c.args.variable c.index.result.now c.is_none.result c.self.invariant.0 in
-    rw (← c.self.view_is) (w (omega arith) (omega arith) e c.is_none.ensures)
+    let v = c.args.variable in
+    let denied = t.denied.items in
+    let many = c.self.invariant.as_many in
+    let low : get_or denied (2 * v) false ≡ false = get_any denied (2 * v) false c.index.result.now (omega arith) ∙ sym c.index.ensures ∙ c.if-not-index.true in
+    let high = get_any denied (2 * v + 1) false c.index-then-not-index.result.now (omega arith) ∙ sym c.index-then-not-index.ensures in
+    rw (← c.self.view_is) (free_exactly t.variables t.entries.items denied v false c.index-then-not-index.result.now c.self.invariant (omega arith) (omega arith) low high)
+
+pub returns-else-not-index : goal.returns-else-not-index
+returns-else-not-index c =
+    let t = c.self.inside in
+    let v = c.args.variable in
+    let denied = t.denied.items in
+    let many = c.self.invariant.as_many in
+    let low : get_or denied (2 * v) false ≡ true = get_any denied (2 * v) false c.index.result.now (omega arith) ∙ sym c.index.ensures ∙ c.if-not-index.false in
+    rw (← c.self.view_is, c.if-not-index.false) (free_exactly t.variables t.entries.items denied v true (get_or denied (2 * v + 1) false) c.self.invariant (omega arith) (omega arith) low refl)

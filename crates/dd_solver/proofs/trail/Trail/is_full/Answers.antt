@@ -1,9 +1,8 @@
 use Rattle.std.proofs.Common.{arith}
-use Rattle.dd_solver.proofs.Valued.{full_exactly}
+use Rattle.dd_solver.proofs.Denied.{full}
 use Rattle.dd_solver.proofs.trail.Trail.is_full.Goals as goal
 
 pub returns : goal.returns
 returns c =
     let t = c.self.inside in
-    let w = full_exactly t.entries.items t.values.items c.len.result c.len-2.result c.self.invariant.0 in
-    rw (← c.self.view_is) (w (omega (arith, t.entries.ok.0)) (omega (arith, t.values.ok.0)))
+    rw (← c.self.view_is) (full t.variables t.entries.items t.denied.items c.len.result c.self.invariant (omega (arith, t.entries.ok.0)))

@@ -1,8 +1,8 @@
-use Rattle.std.proofs.Common.{◌-◌, None, set, take, sym, ◌∙◌, subst, arith}
-use Rattle.std.proofs.lemmas.List.{length-set}
+use Rattle.std.proofs.Common.{◌-◌, false, set, take, sym, ◌∙◌, subst, arith}
+use Rattle.dd_clause.specs.Clauses.{negation}
 use Rattle.dd_solver.specs.declared.trail.Entry.{Entry}
-use Rattle.dd_solver.specs.Values.{IsValued}
-use Rattle.dd_solver.proofs.Valued.{valued_less}
+use Rattle.dd_solver.specs.Values.{IsDenied, code}
+use Rattle.dd_solver.proofs.Denied.{denied_less}
 use Rattle.dd_solver.proofs.Trails.{take_shorter}
 use Rattle.dd_solver.proofs.trail.Trail.undo.Goals as goal
 
@@ -12,12 +12,7 @@ loop-self-preserved c =
     let t = s.entries.items in
     let j = c.len-last.result - 1 in
     let e = c.index-entry.result.now in
-    let v = valued_less t s.values.items j e (omega (arith, s.entries.ok.0)) c.loop-self.invariant.valued in
-    let v' = subst (λ (x : Entry). IsValued (take j t) (set s.values.items (x.literal.variable - 1) None)) (sym c.index-entry.ensures) v in
-    let n = length-set s.values.items (e.literal.variable - 1) None in
-    rw (c.truncate.ensures.items, c.set_value.ensures) (record {
-      valued = v';
-      places = c.loop-self.invariant.places ∙ sym n;
-      variables = n ∙ c.loop-self.invariant.variables;
-      kept = take_shorter t c.args.place j (omega arith) ∙ c.loop-self.invariant.kept;
-    })
+    let v = denied_less s.variables t s.denied.items j e (omega (arith, s.entries.ok.0)) c.loop-self.invariant.denied in
+    let v' = subst (λ (x : Entry). IsDenied s.variables (take j t) (set s.denied.items (code (negation x.literal)) false)) (sym c.index-entry.ensures) v in
+    let kept = take_shorter t c.args.place j (omega arith) ∙ c.loop-self.invariant.kept in
+    rw (c.truncate.ensures.items, c.place_of.ensures, c.negation.ensures) (record { denied = v'; variables = c.loop-self.invariant.variables; kept = kept })
