@@ -261,8 +261,36 @@ fn bump_kept(order: &mut Order, literals: &[Literal]) {
     }
 }
 
+/// Marks the variables of the clauses that forced the values of these literals' variables.
+fn mark_reasons(database: &Database, trail: &Trail, marked: &mut [bool], literals: &[Literal])
+    requires { All (IsClauseInRange (length marked.old)) database.now }
+{
+    for literal in literals {
+        if let Some(reason) = trail.reason(literal.variable) {
+            mark_clause(database, trail, marked, reason);
+        }
+    }
+}
+
+/// Makes each of these variables more active once, and takes its mark away.
+fn bump_reasons(
+    order: &mut Order,
+    database: &Database,
+    trail: &Trail,
+    marked: &mut [bool],
+    literals: &[Literal],
+) {
+    for literal in literals {
+        if let Some(reason) = trail.reason(literal.variable) {
+            if let Some(literals) = database.find_clause(reason) {
+                bump_marked(order, trail, marked, literals);
+            }
+        }
+    }
+}
+
 /// Learns a clause from the one of this number, whose literals are all false. The variables of the clauses that it
-/// follows by become more active, and its own twice.
+/// follows by become more active, its own twice, and then each variable of the clauses that forced its own.
 pub fn learn(
     alloc: Global,
     database: &Database,
@@ -279,7 +307,10 @@ pub fn learn(
 {
     let learned = walk_down(alloc, database, trail, marked, conflict)?;
     bump_resolved(order, database, trail, marked, learned.hints.as_slice());
-    bump_kept(order, learned.literals.as_slice());
+    let literals = learned.literals.as_slice();
+    bump_kept(order, literals);
+    mark_reasons(database, trail, marked, literals);
+    bump_reasons(order, database, trail, marked, literals);
     order.decay();
     Ok(learned)
 }

@@ -168,6 +168,15 @@ impl Trail {
         Ok(Assignment::new(values))
     }
 
+    /// The number of the clause that forced the variable's value.
+    pub fn reason(&self, variable: u32) -> Option<u64> {
+        let place = self.place(variable);
+        if place < self.entries.len() {
+            return self.entries[place].reason;
+        }
+        None
+    }
+
     /// Whether the variable has its value by clauses alone, with no decision before it.
     pub fn is_fixed(&self, variable: u32) -> bool {
         match self.levels.first() {

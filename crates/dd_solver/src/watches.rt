@@ -55,8 +55,8 @@ struct Watcher {
 /// From where to where the literals of a clause stand.
 #[derive(Clone, Copy)]
 struct Extent {
-    from: usize,
-    to: usize,
+    from: u32,
+    to: u32,
 }
 
 /// For each literal the clauses that watch it; the literals of all clauses, those first that a clause watches; how far
@@ -164,11 +164,11 @@ impl Watches {
 
     /// The next clause watches its first two literals.
     pub fn add(&mut self, literals: &[Literal]) -> Result<(), AllocError> {
-        let from = self.literals.len();
+        let from = u32::try_from(self.literals.len()).unwrap_or(0);
         for literal in literals {
             self.literals.push(Code::new(*literal))?;
         }
-        let to = self.literals.len();
+        let to = u32::try_from(self.literals.len()).unwrap_or(0);
         self.extents.push(Extent { from, to })?;
         let number = u32::try_from(self.extents.len()).unwrap_or(0);
         if literals.len() >= 2 {
@@ -198,7 +198,9 @@ impl Watches {
 
     /// The same in the clause of this number.
     fn rewatch_in(&mut self, trail: &Trail, number: u32, became_false: Code) -> Look {
-        let Extent { from, to } = self.extent(number);
+        let extent = self.extent(number);
+        let from = extent.from as usize;
+        let to = extent.to as usize;
         let literals = self.literals.as_mut_slice();
         if from <= to && to <= literals.len() {
             return rewatch(trail, &mut literals[from..to], became_false);
