@@ -4,6 +4,7 @@ pub mod Endings
 pub mod Equations
 pub mod Firsts
 pub mod LineSteps
+pub mod PivotStanding
 pub mod PivotTests
 pub mod Places
 pub mod Reaching
