@@ -9,5 +9,6 @@ pub mod PivotTests
 pub mod Places
 pub mod Reaching
 pub mod Standing
+pub mod Starting
 pub mod Totals
 pub mod Unbounded

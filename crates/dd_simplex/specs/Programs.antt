@@ -24,8 +24,11 @@ one_of = whole_of (pos 1)
 abbrev pub fraction_at : List Exact → ℕ → Exact
 fraction_at xs i = slice_index_or xs i zero_of
 
+abbrev pub row_in : List Row → ℕ → Row
+row_in rows k = slice_index_or rows k (record { coefficients = []; bound = zero_of })
+
 abbrev pub row_at : LinearProgram → ℕ → Row
-row_at p k = slice_index_or p.rows k (record { coefficients = []; bound = zero_of })
+row_at p k = row_in p.rows k
 
 abbrev pub coefficient : LinearProgram → ℕ → ℕ → Exact
 coefficient p k j = fraction_at (row_at p k).coefficients j

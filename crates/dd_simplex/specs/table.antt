@@ -1,3 +1,4 @@
 pub mod Choices
 pub mod Lines
 pub mod Standing
+pub mod Steps

@@ -4,6 +4,7 @@
 mod fault;
 mod line;
 mod program;
+mod start;
 mod tableau;
 
 pub use fault::SimplexFault;

@@ -1,5 +1,5 @@
 // A linear program, row by row.
-ghost use Rattle.std.specs.Prelude.{◌≡◌, [], ◌∷◌, ◌++◌, ◌<◌, length, IfOk, OnOk, OnErr};
+ghost use Rattle.std.specs.Prelude.{◌≡◌, [], ◌∷◌, ◌++◌, ◌<◌, ◌^◌, length, IfOk, OnOk, OnErr};
 ghost use lib.IntN.{pos};
 ghost use lib.Signed.{◌≤ℤ◌};
 ghost use Rattle.dd_fraction.specs.Order.{IsNonneg};
@@ -78,5 +78,20 @@ impl Program {
             bound,
         })?;
         Ok(())
+    }
+
+    /// How many columns there are.
+    pub(crate) fn columns(&self) -> usize
+        ensures columns { result ≡ self.now.columns }
+        ensures few { result < 2 ^ 32 }
+        ensures program { IsProgram self.now }
+    {
+        self.columns as usize
+    }
+
+    pub(crate) fn rows(&self) -> &[Constraint]
+        ensures { result.now ≡ self.now.rows }
+    {
+        self.rows.as_slice()
     }
 }

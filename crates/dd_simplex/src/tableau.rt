@@ -1,11 +1,13 @@
 // A dictionary as the run keeps it: its lines, its other variables and the objective.
-ghost use Rattle.std.specs.Prelude.{◌≡◌, ◌≢◌, ◌<◌, true, false, length, Option, Some, None, MatchResult, IfErr, slice_set};
+ghost use Rattle.std.specs.Prelude.{◌≡◌, ◌≢◌, ◌<◌, true, false, length, Option, Some, None, ℕ, MatchResult, IfOk, IfErr, slice_set};
 ghost use Rattle.std.specs.List.{All};
 ghost use lib.IntN.{pos};
 ghost use Rattle.dd_simplex.specs.declared.fault.SimplexFault.TheVariants.{Overflow};
 ghost use Rattle.dd_fraction.specs.Exact.{plus, times};
 ghost use Rattle.dd_simplex.specs.Programs.{fraction_at, zero_of};
 ghost use Rattle.dd_simplex.specs.table.Lines.{Line as LineValue, Table, line_at, changed_table, does_table_fit, does_objective_fit, less};
+ghost use Rattle.dd_simplex.specs.table.Standing.{IsTable};
+ghost use Rattle.dd_simplex.specs.table.Steps.{DoesEnter, HasTurned, IsStuck};
 ghost use Rattle.dd_simplex.specs.table.Choices.{IsChosen, does_enter, EntersBefore, does_limit, LeavesBefore, DoRatiosFit, HasMisfit, does_precede};
 
 use crate::fault::SimplexFault;
@@ -32,6 +34,36 @@ impl Model for Tableau {
 }
 
 impl Tableau {
+    /// One turn by Bland's rule: true where a pivot was made, false where the tableau is at its end. Overflow where a
+    /// number is too large; then the tableau is half changed.
+    pub fn turn(&mut self) -> Result<bool, SimplexFault>
+        requires { IsTable self.old }
+        ensures end { IfOk result (λ more. more ≡ false → DoesEnter self.old None × (self.new ≡ self.old)) }
+        ensures turned { IfOk result (λ more. more ≡ true → HasTurned self.old self.new) }
+        ensures stuck { IfErr result (λ fault. (fault ≡ Overflow) × IsStuck self.old) }
+    {
+        let Some(e) = entering(self.costs.as_slice(), self.others.as_slice()) else {
+            return Ok(false)
+        };
+        let Some(r) = leaving(self.lines.as_slice(), e)? else {
+            // Never in a run, since the first row limits column 0.
+            return Err(SimplexFault::Overflow)
+        };
+        if !self.pivot(e, r) {
+            return Err(SimplexFault::Overflow);
+        }
+        Ok(true)
+    }
+
+    /// Whether no variable enters.
+    pub fn is_at_end(&self) -> bool
+        requires { IsTable self.now }
+        ensures end { result ≡ true → DoesEnter self.now None }
+        ensures more { result ≡ false → (j : ℕ) × DoesEnter self.now (Some j) }
+    {
+        entering(self.costs.as_slice(), self.others.as_slice()).is_none()
+    }
+
     /// Makes the variable at the place `e` basic in the line `r`. False where a number is too large; then the tableau is
     /// half changed.
     pub fn pivot(&mut self, e: usize, r: usize) -> bool

@@ -1,0 +1,77 @@
+-- One turn of the code, and the tables at a run's start and end.
+use Rattle.std.specs.Prelude.{◌≡◌, ℕ, ◌+◌, ◌-◌, ◌<◌, ◌≤◌, ◌⊎◌, List, length, Bool, true, false, not, ◌&&◌, cond, Option, Some, None}
+use Rattle.std.specs.Bool.{nat_lt}
+use Rattle.dd_fraction.specs.Exact.{Exact, minus}
+use Rattle.dd_fraction.specs.Checked.{IsFraction}
+use Rattle.dd_simplex.specs.Programs.{LinearProgram, Row, row_at, row_in, coefficient, bound_at, unit, fraction_at, zero_of}
+use Rattle.dd_simplex.specs.Dictionaries.{Dictionary, count, start}
+use Rattle.dd_simplex.specs.Runs.{run, stop_of}
+use Rattle.dd_simplex.specs.table.Lines.{Line, Table, line_at, other_at, changed_table, does_table_fit}
+use Rattle.dd_simplex.specs.table.Choices.{IsChosen, does_enter, EntersBefore, does_limit, LeavesBefore, DoRatiosFit, HasMisfit}
+use Rattle.dd_simplex.specs.table.Standing.{IsTable, StandsFor}
+
+abbrev pub DoesEnter : Table → Option ℕ → Type 0
+DoesEnter t o = IsChosen (does_enter t.costs) (EntersBefore t.others) (length t.costs) o
+
+abbrev pub DoesLeave : Table → ℕ → Option ℕ → Type 0
+DoesLeave t e o = IsChosen (does_limit t.lines e) (LeavesBefore t.lines e) (length t.lines) o
+
+-- a pivot was made, all of whose numbers fit
+pub record HasTurned (old new : Table) : Type 0 where
+  pub place : ℕ
+  pub line : ℕ
+  pub enters : DoesEnter old (Some place)
+  pub ratios : DoRatiosFit old.lines place (length old.lines)
+  pub leaves : DoesLeave old place (Some line)
+  pub fit : does_table_fit place line old ≡ true
+  pub pivoted : new ≡ changed_table place line old
+
+pub record HasLeft (t : Table) (e : ℕ) : Type 0 where
+  pub line : ℕ
+  pub ratios : DoRatiosFit t.lines e (length t.lines)
+  pub leaves : DoesLeave t e (Some line)
+  pub misfit : does_table_fit e line t ≡ false
+
+-- no pivot could be made: a ratio's number doesn't fit, nothing leaves, or a number of the pivot doesn't fit
+pub record IsStuck (t : Table) : Type 0 where
+  pub place : ℕ
+  pub enters : DoesEnter t (Some place)
+  pub reason : HasMisfit t.lines place ⊎ (DoesLeave t place None ⊎ HasLeft t place)
+
+-- the table of the start
+abbrev pub line_of : LinearProgram → ℕ → Line
+line_of p i = record { basic = p.columns + i; bound = bound_at p i; cells = (row_at p i).coefficients }
+
+pub record IsStart (p : LinearProgram) (t : Table) : Type 0 where
+  pub height : length t.lines ≡ length p.rows
+  pub lines : (i : ℕ) → i < length p.rows → line_at t.lines i ≡ line_of p i
+  pub width : length t.others ≡ p.columns
+  pub others : (j : ℕ) → j < p.columns → other_at t.others j ≡ j
+  pub costs_size : length t.costs ≡ p.columns
+  pub costs : (j : ℕ) → j < p.columns → fraction_at t.costs j ≡ unit 0 j
+  pub value : t.value ≡ zero_of
+  pub fractions : (i j : ℕ) → i < length p.rows → j < p.columns → IsFraction (coefficient p i j)
+  pub bounds : (i : ℕ) → i < length p.rows → IsFraction (bound_at p i)
+
+-- a line whose basic variable is v has the numbers of a row, which are fractions
+pub record IsLineOf (row : Row) (v : ℕ) (l : Line) : Type 0 where
+  pub is : l ≡ record { basic = v; bound = row.bound; cells = row.coefficients }
+  pub bound : IsFraction row.bound
+  pub fractions : (j : ℕ) → j < length row.coefficients → IsFraction (fraction_at row.coefficients j)
+
+pub record AreLinesOf (rows : List Row) (columns : ℕ) (lines : List Line) : Type 0 where
+  pub size : length lines ≡ length rows
+  pub each : (i : ℕ) → i < length rows → IsLineOf (row_in rows i) (columns + i) (line_at lines i)
+
+-- what is left of the run from the table is the rest of the program's run
+pub record IsAlong (p : LinearProgram) (pivots left : ℕ) (t : Table) : Type 0 where
+  pub dictionary : Dictionary
+  pub stands : StandsFor (count p) t dictionary
+  pub rest : run (count p) left dictionary ≡ stop_of p pivots
+
+-- the columns that the first i lines give, and the duals that the first i other variables give
+abbrev pub column_so_far : (ℕ → ℕ) → Dictionary → ℕ → ℕ → Exact
+column_so_far line d i j = cond (d.is_basic j && nat_lt (line j) i) (d.bound j) zero_of
+
+abbrev pub dual_so_far : (ℕ → ℕ) → ℕ → Dictionary → ℕ → ℕ → Exact
+dual_so_far column n d i k = cond (not (d.is_basic (n + k)) && nat_lt (column (n + k)) i) (minus (d.cost (n + k))) zero_of
