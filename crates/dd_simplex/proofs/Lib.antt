@@ -12,3 +12,4 @@ pub mod Standing
 pub mod Starting
 pub mod Totals
 pub mod Unbounded
+pub mod Valuing

@@ -8,6 +8,8 @@ use lib.IntN.{pos}
 use Rattle.dd_fraction.specs.Exact.{Exact, times, minus, inverse}
 use Rattle.dd_fraction.specs.Order.{exact_cmp}
 use Rattle.dd_fraction.specs.Checked.{does_product_fit, does_sum_fit}
+use Rattle.dd_simplex.specs.declared.fault.SimplexFault.{SimplexFault}
+use Rattle.dd_simplex.specs.declared.fault.SimplexFault.TheVariants as fault
 use Rattle.dd_simplex.specs.Programs.{LinearProgram, fraction_at, zero_of, one_of}
 use Rattle.dd_simplex.specs.Dictionaries.{Dictionary, count, start, pivoted, quotient, new_bound, new_entry}
 
@@ -92,7 +94,7 @@ does_turn_fit n d e r =
 pub data Stop : Type 0 where
   Ends : Dictionary → Stop
   Overflows : Stop
-  Pivots : Stop
+  AtLimit : Stop
   Unbounded : Stop
 
 -- a turn in which e enters, and then the run that follows
@@ -106,7 +108,7 @@ turn_or_end go_on d (Some e) = go_on e
 
 -- the run of at most k pivots
 abbrev pub run : ℕ → ℕ → Dictionary → Stop
-run n zero d = turn_or_end (λ e. Pivots) d (entering n d)
+run n zero d = turn_or_end (λ e. AtLimit) d (entering n d)
 run n (suc k) d = turn_or_end (λ e. turn (run n k) n d e (leaving n d e)) d (entering n d)
 
 abbrev pub stop_of : LinearProgram → ℕ → Stop
@@ -133,4 +135,10 @@ abbrev pub RunOverflows : LinearProgram → ℕ → Type 0
 RunOverflows p k = stop_of p k ≡ Overflows
 
 abbrev pub RunPivots : LinearProgram → ℕ → Type 0
-RunPivots p k = stop_of p k ≡ Pivots
+RunPivots p k = stop_of p k ≡ AtLimit
+
+-- what each refusal says of the run
+abbrev pub IsRefusal : LinearProgram → ℕ → SimplexFault → Type 0
+IsRefusal p k fault.Overflow = RunOverflows p k
+IsRefusal p k fault.Pivots = RunPivots p k
+IsRefusal p k fault.Memory = Unit {0}

@@ -2,3 +2,4 @@ pub mod Choices
 pub mod Lines
 pub mod Standing
 pub mod Steps
+pub mod Values

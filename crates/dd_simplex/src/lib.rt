@@ -4,8 +4,10 @@
 mod fault;
 mod line;
 mod program;
+mod solution;
 mod start;
 mod tableau;
 
 pub use fault::SimplexFault;
 pub use program::Program;
+pub use solution::Solved;

@@ -62,16 +62,3 @@ pub record IsLineOf (row : Row) (v : ℕ) (l : Line) : Type 0 where
 pub record AreLinesOf (rows : List Row) (columns : ℕ) (lines : List Line) : Type 0 where
   pub size : length lines ≡ length rows
   pub each : (i : ℕ) → i < length rows → IsLineOf (row_in rows i) (columns + i) (line_at lines i)
-
--- what is left of the run from the table is the rest of the program's run
-pub record IsAlong (p : LinearProgram) (pivots left : ℕ) (t : Table) : Type 0 where
-  pub dictionary : Dictionary
-  pub stands : StandsFor (count p) t dictionary
-  pub rest : run (count p) left dictionary ≡ stop_of p pivots
-
--- the columns that the first i lines give, and the duals that the first i other variables give
-abbrev pub column_so_far : (ℕ → ℕ) → Dictionary → ℕ → ℕ → Exact
-column_so_far line d i j = cond (d.is_basic j && nat_lt (line j) i) (d.bound j) zero_of
-
-abbrev pub dual_so_far : (ℕ → ℕ) → ℕ → Dictionary → ℕ → ℕ → Exact
-dual_so_far column n d i k = cond (not (d.is_basic (n + k)) && nat_lt (column (n + k)) i) (minus (d.cost (n + k))) zero_of

@@ -1,0 +1,119 @@
+-- One line more gives one column more; one other variable more gives one dual more.
+use Rattle.std.proofs.Common.{◌≡◌, ◌≢◌, ℕ, zero, suc, ◌+◌, ◌-◌, ◌<◌, ◌≤◌, List, length, Bool, true, false, not, ◌&&◌, cond, ⊎_elim, refl, sym, ap, subst, ◌∙◌, arith}
+use Rattle.std.specs.Bool.{nat_lt}
+use Rattle.std.specs.List.{slice_set}
+use Rattle.std.proofs.lemmas.Bool.{cases_eq}
+use Rattle.std.proofs.lemmas.List.{length-set}
+use Rattle.dd_fraction.specs.Exact.{Exact, minus}
+use Rattle.dd_simplex.specs.Programs.{fraction_at, zero_of}
+use Rattle.dd_simplex.specs.Dictionaries.{Dictionary}
+use Rattle.dd_simplex.specs.table.Lines.{Line, Table, line_at, other_at}
+use Rattle.dd_simplex.specs.table.Standing.{StandsFor}
+use Rattle.dd_simplex.specs.table.Values.{column_so_far, dual_so_far, GiveColumns, GiveDuals}
+use Rattle.dd_simplex.proofs.Equations.{true_false}
+use Rattle.dd_simplex.proofs.Places.{set_here, set_else}
+
+lt_more : (a i : ℕ) → a ≢ i → nat_lt a (i + 1) ≡ nat_lt a i
+lt_more a i h = grind (arith, h)
+
+not_below : (k : ℕ) → nat_lt k 0 ≡ false
+not_below k = grind arith
+
+lt_here : (i : ℕ) → nat_lt i (i + 1) ≡ true
+lt_here i = grind arith
+
+lt_yes : (a i : ℕ) → a < i → nat_lt a i ≡ true
+lt_yes a i p = grind (arith, p)
+
+-- ---- columns
+column_else : (n : ℕ) (t : Table) (d : Dictionary) (s : StandsFor n t d) (i j : ℕ) → j < n → i < length t.lines → j ≢ (line_at t.lines i).basic
+    → column_so_far s.line d i j ≡ column_so_far s.line d (i + 1) j
+column_else n t d s i j p q h = by (d.is_basic j) refl
+  where
+    by : (b : Bool) → d.is_basic j ≡ b → column_so_far s.line d i j ≡ column_so_far s.line d (i + 1) j
+    by false e = rw e refl
+    by true e =
+        let o : s.line j ≢ i = λ (x : s.line j ≡ i). h (sym (s.line_is j p e) ∙ ap (λ (k : ℕ). (line_at t.lines k).basic) x) in
+        ap (λ (b : Bool). cond (d.is_basic j && b) (d.bound j) zero_of) (sym (lt_more (s.line j) i o))
+
+column_here : (n : ℕ) (t : Table) (d : Dictionary) (s : StandsFor n t d) (i : ℕ) → i < length t.lines
+    → (line_at t.lines i).bound ≡ column_so_far s.line d (i + 1) (line_at t.lines i).basic
+column_here n t d s i q =
+    sym ((λ z. cond (s.basic_is i q z && (ap (λ (k : ℕ). nat_lt k (i + 1)) (s.basic_line i q) ∙ lt_here i) z) (s.bounds i q z) zero_of))
+
+pub columns_set : (lines : List Line) (c i : ℕ) (values : List Exact) (b : ℕ) (a : Exact) → i < length lines → b ≡ (line_at lines i).basic → a ≡ (line_at lines i).bound → b < c
+    → GiveColumns lines c i values → GiveColumns lines c (i + 1) (slice_set values b a)
+columns_set lines c i values b a q sb sa r g = record {
+  size = length-set values b a ∙ g.size;
+  each = λ n t d s e m j p.
+      let inside : i < length t.lines = let z = ap length e in omega (arith, z, q) in
+      let name : b ≡ (line_at t.lines i).basic = sb ∙ ap (λ (ls : List Line). (line_at ls i).basic) (sym e) in
+      let bound : a ≡ (line_at t.lines i).bound = sa ∙ ap (λ (ls : List Line). (line_at ls i).bound) (sym e) in
+      ⊎_elim
+      (λ (x : j ≡ b). subst (λ (k : ℕ). fraction_at (slice_set values b a) k ≡ column_so_far s.line d (i + 1) k) (sym x)
+      (set_here values b a (let z = g.size in omega (arith, r, z)) ∙ (bound ∙ (column_here n t d s i inside ∙ ap (column_so_far s.line d (i + 1)) (sym name)))))
+      (λ (x : j ≢ b). set_else values b j a x ∙ (g.each n t d s e m j p ∙ column_else n t d s i j (omega (arith, p, m)) inside (λ (y : j ≡ (line_at t.lines i).basic). x (y ∙ sym name))))
+      (cases_eq j b);
+}
+
+pub columns_skip : (lines : List Line) (c i : ℕ) (values : List Exact) (b : ℕ) → i < length lines → b ≡ (line_at lines i).basic → c ≤ b
+    → GiveColumns lines c i values → GiveColumns lines c (i + 1) values
+columns_skip lines c i values b q sb r g = record {
+  size = g.size;
+  each = λ n t d s e m j p.
+      let inside : i < length t.lines = let z = ap length e in omega (arith, z, q) in
+      let name : b ≡ (line_at t.lines i).basic = sb ∙ ap (λ (ls : List Line). (line_at ls i).basic) (sym e) in
+      g.each n t d s e m j p ∙ column_else n t d s i j (omega (arith, p, m)) inside (λ (y : j ≡ (line_at t.lines i).basic). omega (arith, y, name, p, r));
+}
+
+pub columns_none : (lines : List Line) (c : ℕ) (values : List Exact) → length values ≡ c → ((j : ℕ) → j < c → fraction_at values j ≡ zero_of) → GiveColumns lines c 0 values
+columns_none lines c values h z = record { size = h; each = λ n t d s e m j p. z j p ∙ none (d.is_basic j) (s.line j) (d.bound j) }
+  where
+    none : (b : Bool) (k : ℕ) (a : Exact) → zero_of ≡ cond (b && nat_lt k 0) a zero_of
+    none true k a = ap (λ (b : Bool). cond b a zero_of) (sym (not_below k))
+    none false k a = refl
+
+-- ---- duals
+dual_else : (n : ℕ) (t : Table) (d : Dictionary) (s : StandsFor n t d) (i w : ℕ) → w < n → i < length t.others → w ≢ other_at t.others i
+    → dual_so_far s.column d i w ≡ dual_so_far s.column d (i + 1) w
+dual_else n t d s i w p q h = by (d.is_basic w) refl
+  where
+    by : (b : Bool) → d.is_basic w ≡ b → dual_so_far s.column d i w ≡ dual_so_far s.column d (i + 1) w
+    by true e = rw e refl
+    by false e =
+        let o : s.column w ≢ i = λ (x : s.column w ≡ i). h (sym (s.column_is w p e) ∙ ap (other_at t.others) x) in
+        ap (λ (b : Bool). cond (not (d.is_basic w) && b) (minus (d.cost w)) zero_of) (sym (lt_more (s.column w) i o))
+
+dual_here : (n : ℕ) (t : Table) (d : Dictionary) (s : StandsFor n t d) (i : ℕ) → i < length t.others
+    → minus (fraction_at t.costs i) ≡ dual_so_far s.column d (i + 1) (other_at t.others i)
+dual_here n t d s i q =
+    sym ((λ z. cond (not (s.other_is i q z) && (ap (λ (k : ℕ). nat_lt k (i + 1)) (s.other_column i q) ∙ lt_here i) z) (minus (s.costs i q z)) zero_of))
+
+pub duals_set : (t : Table) (c i : ℕ) (duals : List Exact) (w : ℕ) (a : Exact) → i < length t.others → w ≡ other_at t.others i → a ≡ minus (fraction_at t.costs i)
+    → c ≤ w → w < c + length t.lines → GiveDuals t c i duals → GiveDuals t c (i + 1) (slice_set duals (w - c) a)
+duals_set t c i duals w a q sw sa r v g = record {
+  size = length-set duals (w - c) a ∙ g.size;
+  each = λ n d s m k p. ⊎_elim
+      (λ (x : k ≡ w - c). subst (λ (y : ℕ). fraction_at (slice_set duals (w - c) a) y ≡ dual_so_far s.column d (i + 1) (c + y)) (sym x)
+      (set_here duals (w - c) a (let z = g.size in omega (arith, r, v, z)) ∙ (sa ∙ (dual_here n t d s i q ∙ ap (dual_so_far s.column d (i + 1)) (sym sw ∙ sym (put_on c w r))))))
+      (λ (x : k ≢ w - c). set_else duals (w - c) k a x
+      ∙ (g.each n d s m k p ∙ dual_else n t d s i (c + k) (omega (arith, p, m)) q (λ (y : c + k ≡ other_at t.others i). x (let z = y ∙ sym sw in omega (arith, z)))))
+      (cases_eq k (w - c));
+}
+  where
+    put_on : (n v : ℕ) → n ≤ v → n + (v - n) ≡ v
+    put_on n v p = omega arith
+
+pub duals_skip : (t : Table) (c i : ℕ) (duals : List Exact) (w : ℕ) → i < length t.others → w ≡ other_at t.others i → w < c
+    → GiveDuals t c i duals → GiveDuals t c (i + 1) duals
+duals_skip t c i duals w q sw r g = record {
+  size = g.size;
+  each = λ n d s m k p. g.each n d s m k p ∙ dual_else n t d s i (c + k) (omega (arith, p, m)) q (λ (y : c + k ≡ other_at t.others i). let z = y ∙ sym sw in omega (arith, z, r));
+}
+
+pub duals_none : (t : Table) (c : ℕ) (duals : List Exact) → length duals ≡ length t.lines → ((k : ℕ) → k < length t.lines → fraction_at duals k ≡ zero_of) → GiveDuals t c 0 duals
+duals_none t c duals h z = record { size = h; each = λ n d s m k p. z k p ∙ none (d.is_basic (c + k)) (s.column (c + k)) (minus (d.cost (c + k))) }
+  where
+    none : (b : Bool) (k : ℕ) (a : Exact) → zero_of ≡ cond (not b && nat_lt k 0) a zero_of
+    none true k a = refl
+    none false k a = ap (λ (b : Bool). cond b a zero_of) (sym (not_below k))

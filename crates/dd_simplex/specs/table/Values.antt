@@ -1,0 +1,25 @@
+-- The columns and the duals, as far as a loop over lines, or over the other variables, has come.
+use Rattle.std.specs.Prelude.{◌≡◌, ℕ, ◌+◌, ◌<◌, ◌≤◌, List, length, not, ◌&&◌, cond}
+use Rattle.std.specs.Bool.{nat_lt}
+use Rattle.dd_fraction.specs.Exact.{Exact, minus}
+use Rattle.dd_simplex.specs.Programs.{fraction_at, zero_of}
+use Rattle.dd_simplex.specs.Dictionaries.{Dictionary}
+use Rattle.dd_simplex.specs.table.Lines.{Line, Table}
+use Rattle.dd_simplex.specs.table.Standing.{StandsFor}
+
+abbrev pub column_so_far : (ℕ → ℕ) → Dictionary → ℕ → ℕ → Exact
+column_so_far line d i j = cond (d.is_basic j && nat_lt (line j) i) (d.bound j) zero_of
+
+abbrev pub dual_so_far : (ℕ → ℕ) → Dictionary → ℕ → ℕ → Exact
+dual_so_far column d i w = cond (not (d.is_basic w) && nat_lt (column w) i) (minus (d.cost w)) zero_of
+
+-- the columns that the first i lines give, whatever the lines stand for
+pub record GiveColumns (lines : List Line) (columns i : ℕ) (values : List Exact) : Type 0 where
+  pub size : length values ≡ columns
+  pub each : (n : ℕ) (t : Table) (d : Dictionary) (s : StandsFor n t d) → t.lines ≡ lines → columns ≤ n
+      → (j : ℕ) → j < columns → fraction_at values j ≡ column_so_far s.line d i j
+
+pub record GiveDuals (t : Table) (columns i : ℕ) (duals : List Exact) : Type 0 where
+  pub size : length duals ≡ length t.lines
+  pub each : (n : ℕ) (d : Dictionary) (s : StandsFor n t d) → columns + length t.lines ≤ n
+      → (k : ℕ) → k < length t.lines → fraction_at duals k ≡ dual_so_far s.column d i (columns + k)

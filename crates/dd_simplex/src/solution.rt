@@ -1,0 +1,73 @@
+// The columns and the duals that a dictionary gives.
+ghost use Rattle.std.specs.Prelude.{◌≡◌, ℕ, ◌+◌, ◌<◌, ◌≤◌, length, IfOk};
+ghost use Rattle.dd_simplex.specs.table.Lines.{other_at};
+ghost use Rattle.dd_simplex.specs.table.Values.{GiveColumns, GiveDuals};
+
+use crate::line::Line;
+use crate::tableau::Tableau;
+use dd_fraction::Fraction;
+use dd_values::Items;
+use std::alloc::{AllocError, Global};
+
+/// The best columns of a program, their value, and duals of the same value: one for each row, of at least 0, whose
+/// multiples of the rows sum to at least 1 in column 0 and at least 0 in every other.
+#[derive(Debug, Drop)]
+pub struct Solved {
+    pub value: Fraction,
+    pub columns: Items<Fraction>,
+    pub duals: Items<Fraction>,
+}
+
+/// What the tableau gives: a basic variable has its bound and each other one 0, and a slack's dual is its cost turned
+/// round.
+pub fn solution(alloc: Global, tableau: &Tableau, columns: usize) -> Result<Solved, AllocError>
+    requires costs { length tableau.now.costs ≡ length tableau.now.others }
+    requires others { (j : ℕ) → j < length tableau.now.others → other_at tableau.now.others j < columns + length tableau.now.lines }
+    ensures value { IfOk result (λ solved. solved.value ≡ tableau.now.value) }
+    ensures columns { IfOk result (λ solved. GiveColumns tableau.now.lines columns (length tableau.now.lines) solved.columns) }
+    ensures duals { IfOk result (λ solved. GiveDuals tableau.now columns (length tableau.now.others) solved.duals) }
+{
+    Ok(Solved {
+        value: tableau.value,
+        columns: column_values(alloc, tableau.lines.as_slice(), columns)?,
+        duals: dual_values(alloc, tableau, columns)?,
+    })
+}
+
+fn column_values(
+    alloc: Global,
+    lines: &[Line],
+    columns: usize,
+) -> Result<Items<Fraction>, AllocError>
+    ensures { IfOk result (λ values. GiveColumns lines.now columns (length lines.now) values) }
+{
+    let mut values = Vec::with_capacity(alloc, columns)?;
+    values.resize(columns, Fraction::whole(0))?;
+    for i in 0..lines.len() {
+        let line = &lines[i];
+        if line.basic < columns {
+            values[line.basic] = line.bound;
+        }
+    }
+    Ok(Items::from_vec(values))
+}
+
+fn dual_values(
+    alloc: Global,
+    tableau: &Tableau,
+    columns: usize,
+) -> Result<Items<Fraction>, AllocError>
+    requires costs { length tableau.now.costs ≡ length tableau.now.others }
+    requires others { (j : ℕ) → j < length tableau.now.others → other_at tableau.now.others j < columns + length tableau.now.lines }
+    ensures { IfOk result (λ duals. GiveDuals tableau.now columns (length tableau.now.others) duals) }
+{
+    let mut duals = Vec::with_capacity(alloc, tableau.lines.len())?;
+    duals.resize(tableau.lines.len(), Fraction::whole(0))?;
+    for j in 0..tableau.others.len() {
+        let variable = tableau.others[j];
+        if variable >= columns {
+            duals[variable - columns] = tableau.costs[j].negate();
+        }
+    }
+    Ok(Items::from_vec(duals))
+}
