@@ -112,18 +112,20 @@ yes_from (answer.Yes n steps) good = ((n, last steps), yes_is n steps, (good.0.0
 yes_from (answer.YesBoth n m l r) good = ((n, item (m, (l, r))), yes_both_is n m l r, (good.0.0, ((omega arith, good.0.1), (good.0.2, good.0.3))), refl)
 yes_from a good = absurd (omega (arith, good.1))
 
-yes_good : Good (Row 89) body_text grammar.yes_row
-unfolding grammar.yes_row
-yes_good =
-    let f = both (number 0 most_number 10) (both grammar.refutation grammar.refutation) in
-    let two : Good BothFit both_text f =
+both_good : Good BothFit both_text grammar.right_and_refutations
+unfolding grammar.right_and_refutations
+both_good =
     good_both (Within 0 most_number) (ended_number 10) (number 0 most_number 10)
     (λ (p : List Step × List Step). IsWritableRefutation p.0 × IsWritableRefutation p.1) (λ p. refutation_text p.0 ++ refutation_text p.1) (both grammar.refutation grammar.refutation)
     (good_number 0 most_number 10 (omega arith) (omega arith) (omega arith) refl)
-    (good_both IsWritableRefutation refutation_text grammar.refutation IsWritableRefutation refutation_text grammar.refutation refutation_good refutation_good) in
-    good_mapped YesFits (λ x. codes "YES " ++ yes_fork x) (after (codes "YES ") (forked most_number grammar.refutation f)) (Row 89) body_text grammar.yes_of
-    (good_after (codes "YES ") YesFits yes_fork (forked most_number grammar.refutation f)
-    (good_forked IsWritableRefutation refutation_text grammar.refutation BothFit both_text f refutation_good two most_number (omega arith)))
+    (good_both IsWritableRefutation refutation_text grammar.refutation IsWritableRefutation refutation_text grammar.refutation refutation_good refutation_good)
+
+yes_good : Good (Row 89) body_text grammar.yes_row
+unfolding grammar.yes_row
+yes_good =
+    good_mapped YesFits (λ x. codes "YES " ++ yes_fork x) (after (codes "YES ") (forked most_number grammar.refutation grammar.right_and_refutations)) (Row 89) body_text grammar.yes_of
+    (good_after (codes "YES ") YesFits yes_fork (forked most_number grammar.refutation grammar.right_and_refutations)
+    (good_forked IsWritableRefutation refutation_text grammar.refutation BothFit both_text grammar.right_and_refutations refutation_good both_good most_number (omega arith)))
     yes_to yes_from
 
 -- ---- NO
@@ -212,19 +214,21 @@ density_from (answer.Density p q cycle zs) good =
     (((p, q), (cycle, zs)), density_is p q cycle zs good.0.4, (((omega arith, good.0.0), good.0.1), ((good.0.3.0, good.0.2, good.0.3.1), (good.0.4, tt, good.0.5))), refl)
 density_from a good = absurd (omega (arith, good.1))
 
+states_good : Good (λ (x : List ℕ × List ℤ). CycleFits x.0 × PotentialsFit x.1) (λ x. codes "cycle " ++ (cycle_text x.0 ++ (codes "potentials " ++ line_rest signed_decimal x.1))) grammar.cycle_and_potentials
+unfolding grammar.cycle_and_potentials
+states_good =
+    let potentials = after (codes "potentials ") (integers 1 None) in
+    good_after (codes "cycle ") (λ (x : List ℕ × List ℤ). CycleFits x.0 × PotentialsFit x.1) (λ x. cycle_text x.0 ++ (codes "potentials " ++ line_rest signed_decimal x.1)) (both grammar.cycle potentials)
+    (good_both CycleFits cycle_text grammar.cycle PotentialsFit (λ zs. codes "potentials " ++ line_rest signed_decimal zs) potentials cycle_good
+    (good_after (codes "potentials ") PotentialsFit (line_rest signed_decimal) (integers 1 None) (integers_good 1 None (omega arith) tt)))
+
 density_good : Good (Row 68) body_text grammar.density_row
 unfolding grammar.density_row
 density_good =
-    let potentials = after (codes "potentials ") (integers 1 None) in
-    let cycle = after (codes "cycle ") (both grammar.cycle potentials) in
-    let t : List ℕ × List ℤ → List ℕ = λ x. cycle_text x.0 ++ (codes "potentials " ++ line_rest signed_decimal x.1) in
-    let F : List ℕ × List ℤ → Type 0 = λ x. CycleFits x.0 × PotentialsFit x.1 in
-    good_mapped DensityFits (λ x. codes "DENSITY " ++ density_rest x) (after (codes "DENSITY ") (both grammar.fraction cycle)) (Row 68) body_text grammar.density_of
-    (good_after (codes "DENSITY ") DensityFits density_rest (both grammar.fraction cycle)
-    (good_both FractionFits fraction_text grammar.fraction F (λ x. codes "cycle " ++ t x) cycle fraction_good
-    (good_after (codes "cycle ") F t (both grammar.cycle potentials)
-    (good_both CycleFits cycle_text grammar.cycle PotentialsFit (λ zs. codes "potentials " ++ line_rest signed_decimal zs) potentials cycle_good
-    (good_after (codes "potentials ") PotentialsFit (line_rest signed_decimal) (integers 1 None) (integers_good 1 None (omega arith) tt))))))
+    good_mapped DensityFits (λ x. codes "DENSITY " ++ density_rest x) (after (codes "DENSITY ") (both grammar.fraction grammar.cycle_and_potentials)) (Row 68) body_text grammar.density_of
+    (good_after (codes "DENSITY ") DensityFits density_rest (both grammar.fraction grammar.cycle_and_potentials)
+    (good_both FractionFits fraction_text grammar.fraction (λ (x : List ℕ × List ℤ). CycleFits x.0 × PotentialsFit x.1)
+    (λ x. codes "cycle " ++ (cycle_text x.0 ++ (codes "potentials " ++ line_rest signed_decimal x.1))) grammar.cycle_and_potentials fraction_good states_good))
     (λ x good. (density_is x.0.0 x.0.1 x.1.0 x.1.1 good.1.1.0, ((good.0.0.1, good.0.1, good.1.0.1, (good.1.0.0, good.1.0.2), good.1.1.0, good.1.1.2), refl))) density_from
 
 empty_is : (ns : List ℕ) → 1 ≤ length ns → body_text (answer.Empty ns) ≡ codes "EMPTY\nranks " ++ numbers_rest ns
@@ -257,25 +261,32 @@ bound_from (answer.Bound p q c amounts duals) good =
     (((p, q), (c, (amounts, duals))), bound_is p q c amounts duals good.0.4.0, (((omega arith, good.0.0), good.0.1), (good.0.2, (good.0.3, (good.0.4.0, tt, good.0.4.1)))), refl)
 bound_from a good = absurd (omega (arith, good.1))
 
+abbrev DualsFit : List ℕ × List ℕ → Type 0
+DualsFit x = All IsWritableNumber x.0 × NumbersFit x.1
+
+abbrev duals_rest : List ℕ × List ℕ → List ℕ
+duals_rest x = numbers_to_end x.0 ++ (codes "duals " ++ numbers_rest x.1)
+
+duals_good : Good DualsFit (λ x. codes "amounts" ++ duals_rest x) grammar.amounts_and_duals
+unfolding grammar.amounts_and_duals
+duals_good =
+    let duals = after (codes "duals ") (numbers 1 None) in
+    good_after (codes "amounts") DualsFit duals_rest (both grammar.amounts duals)
+    (good_both (All IsWritableNumber) numbers_to_end grammar.amounts NumbersFit (λ ns. codes "duals " ++ numbers_rest ns) duals amounts_good
+    (good_after (codes "duals ") NumbersFit numbers_rest (numbers 1 None) line_good))
+
 bound_good : Good (Row 66) body_text grammar.bound_row
 unfolding grammar.bound_row
 bound_good =
-    let duals = after (codes "duals ") (numbers 1 None) in
-    let amounts = after (codes "amounts") (both grammar.amounts duals) in
-    let common = after (codes "denominator ") (both (number 1 most_number 10) amounts) in
-    let F : List ℕ × List ℕ → Type 0 = λ x. All IsWritableNumber x.0 × NumbersFit x.1 in
-    let t : List ℕ × List ℕ → List ℕ = λ x. numbers_to_end x.0 ++ (codes "duals " ++ numbers_rest x.1) in
-    let G : ℕ × (List ℕ × List ℕ) → Type 0 = λ x. Within 1 most_number x.0 × F x.1 in
-    let u : ℕ × (List ℕ × List ℕ) → List ℕ = λ x. ended_number 10 x.0 ++ (codes "amounts" ++ t x.1) in
+    let common = after (codes "denominator ") (both (number 1 most_number 10) grammar.amounts_and_duals) in
+    let G : ℕ × (List ℕ × List ℕ) → Type 0 = λ x. Within 1 most_number x.0 × DualsFit x.1 in
+    let u : ℕ × (List ℕ × List ℕ) → List ℕ = λ x. ended_number 10 x.0 ++ (codes "amounts" ++ duals_rest x.1) in
     good_mapped BoundFits (λ x. codes "BOUND " ++ bound_rest x) (after (codes "BOUND ") (both grammar.fraction common)) (Row 66) body_text grammar.bound_of
     (good_after (codes "BOUND ") BoundFits bound_rest (both grammar.fraction common)
     (good_both FractionFits fraction_text grammar.fraction G (λ x. codes "denominator " ++ u x) common fraction_good
-    (good_after (codes "denominator ") G u (both (number 1 most_number 10) amounts)
-    (good_both (Within 1 most_number) (ended_number 10) (number 1 most_number 10) F (λ x. codes "amounts" ++ t x) amounts
-    (good_number 1 most_number 10 (omega arith) (omega arith) (omega arith) refl)
-    (good_after (codes "amounts") F t (both grammar.amounts duals)
-    (good_both (All IsWritableNumber) numbers_to_end grammar.amounts NumbersFit (λ ns. codes "duals " ++ numbers_rest ns) duals amounts_good
-    (good_after (codes "duals ") NumbersFit numbers_rest (numbers 1 None) line_good)))))))
+    (good_after (codes "denominator ") G u (both (number 1 most_number 10) grammar.amounts_and_duals)
+    (good_both (Within 1 most_number) (ended_number 10) (number 1 most_number 10) DualsFit (λ x. codes "amounts" ++ duals_rest x) grammar.amounts_and_duals
+    (good_number 1 most_number 10 (omega arith) (omega arith) (omega arith) refl) duals_good))))
     (λ x good. (bound_is x.0.0 x.0.1 x.1.0 x.1.1.0 x.1.1.1 good.1.1.1.0, ((good.0.0.1, good.0.1, good.1.0, good.1.1.0, (good.1.1.1.0, good.1.1.1.2)), refl))) bound_from
 
 -- ---- the table

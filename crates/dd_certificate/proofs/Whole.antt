@@ -2,6 +2,7 @@
 use Rattle.std.proofs.Common.{◌≡◌, ℕ, zero, suc, ◌+◌, ◌-◌, ◌<◌, ◌≤◌, List, [], ◌∷◌, ◌++◌, length, length-append, take, drop, Result, Ok, Err, Bool, true, false, cond, ◌⊎◌, inl, inr, refl, sym, ap, subst, ◌∙◌, append_assoc, arith}
 use Rattle.std.specs.Prelude.{◌==◌}
 use Rattle.std.proofs.lemmas.Bool.{eqb-true, ne_eqb}
+use Rattle.std.proofs.lemmas.Bool.Decides.{leb_tells}
 use Rattle.std.proofs.lemmas.List.{append-nil, nil_from_length, take_at, drop_at}
 use Rattle.std.proofs.Math.Seq.{take-add}
 use Rattle.dd_certificate.specs.declared.answer.Output.{Output}
@@ -148,3 +149,22 @@ completed_by front more good (Err s) e = completed_from front more good s e s.le
 
 pub completes : (front more : List ℕ) → IsWellFormed (front ++ more) → IsWellFormed (front ++ completion front)
 completes front more good = completed_by front more good (all_at front) refl
+
+le_or_lt : (n m : ℕ) → (n ≤ m) ⊎ (m < n)
+le_or_lt n m = elim (leb_tells n m) [
+  | inl is ↦ inl is.1
+  | inr other ↦ inr other.1
+]
+
+-- two offsets of the same bytes: the longer one would be a longer front
+no_less : (bytes : List ℕ) (m n : ℕ) → IsOffset bytes m → IsOffset bytes n → n ≤ m
+no_less bytes m n one two = elim (le_or_lt n m) [
+  | inl le ↦ le
+  | inr lt ↦ absurd (one.no_longer n (completion bytes) lt two.within two.begins)
+]
+
+pub one_offset : (bytes : List ℕ) (m n : ℕ) → IsOffset bytes m → IsOffset bytes n → m ≡ n
+one_offset bytes m n one two =
+    let up = no_less bytes m n one two in
+    let down = no_less bytes n m two one in
+    omega (arith, up, down)

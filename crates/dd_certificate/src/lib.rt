@@ -3,12 +3,17 @@
 #![tactic(auto)]
 
 mod answer;
+mod bodies;
 mod decimal;
+mod derivations;
 mod fault;
 mod laws;
 mod lexing;
 mod lists;
+mod promises;
+mod reading;
 mod refutation;
+mod sides;
 #[cfg(test)]
 mod tests;
 mod writing;
@@ -16,4 +21,6 @@ mod writing;
 pub use answer::{Answer, Listed, Output, Reason, Side};
 pub use fault::CertificateFault;
 pub use laws::refutations_fit;
+pub use promises::{completes, one_offset, one_output};
+pub use reading::read_output;
 pub use writing::{answer_line, write_answer};

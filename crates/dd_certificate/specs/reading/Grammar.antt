@@ -131,8 +131,12 @@ inside_row = mapped inside_of (word (codes "IN\n"))
 unfoldable pub outside_row : Form Answer
 outside_row = mapped outside_of (after (codes "OUT ") (integers 2 (Some 4)))
 
+-- the second radius, and both refutations
+unfoldable pub right_and_refutations : Form (ℕ × (List Step × List Step))
+right_and_refutations = both (number 0 most_number 10) (both refutation refutation)
+
 unfoldable pub yes_row : Form Answer
-yes_row = mapped yes_of (after (codes "YES ") (forked most_number refutation (both (number 0 most_number 10) (both refutation refutation))))
+yes_row = mapped yes_of (after (codes "YES ") (forked most_number refutation right_and_refutations))
 
 unfoldable pub no_row : Form Answer
 no_row = mapped no_of (after (codes "NO ") (both side_and_periods (after (codes "conf ") (numbers 1 None))))
@@ -143,15 +147,20 @@ unknown_row = mapped unknown_of (after (codes "UNKNOWN ") reason_word)
 unfoldable pub list_row : Form Answer
 list_row = mapped list_of (after (codes "LIST ") (counted 0 most_number pattern))
 
+unfoldable pub cycle_and_potentials : Form (List ℕ × List ℤ)
+cycle_and_potentials = after (codes "cycle ") (both cycle (after (codes "potentials ") (integers 1 None)))
+
 unfoldable pub density_row : Form Answer
-density_row = mapped density_of (after (codes "DENSITY ") (both fraction (after (codes "cycle ") (both cycle (after (codes "potentials ") (integers 1 None))))))
+density_row = mapped density_of (after (codes "DENSITY ") (both fraction cycle_and_potentials))
 
 unfoldable pub empty_row : Form Answer
 empty_row = mapped empty_of (after (codes "EMPTY\nranks ") (numbers 1 None))
 
+unfoldable pub amounts_and_duals : Form (List ℕ × List ℕ)
+amounts_and_duals = after (codes "amounts") (both amounts (after (codes "duals ") (numbers 1 None)))
+
 unfoldable pub bound_row : Form Answer
-bound_row = mapped bound_of (after (codes "BOUND ") (both fraction (after (codes "denominator ") (both (number 1 most_number 10)
-    (after (codes "amounts") (both amounts (after (codes "duals ") (numbers 1 None))))))))
+bound_row = mapped bound_of (after (codes "BOUND ") (both fraction (after (codes "denominator ") (both (number 1 most_number 10) amounts_and_duals))))
 
 -- the rows, by the first bytes I, O, Y, U, L, D, E, B and N
 unfoldable pub answer_form : Form Answer

@@ -2,7 +2,10 @@
 use Rattle.std.specs.Prelude.{ℕ, ℤ, Option, Some, None, Bool, cond}
 use Rattle.dd_clause.specs.declared.clause.Literal.{Literal}
 use Rattle.dd_certificate.specs.declared.answer.Answer.{Answer}
+use Rattle.dd_certificate.specs.declared.sides.PeriodEntry.{PeriodEntry}
+use Rattle.dd_certificate.specs.declared.sides.PeriodEntry.TheVariants as entry
 use Rattle.dd_certificate.specs.reading.Stops.{Entry, item, last}
+use Rattle.dd_certificate.specs.reading.Grammar.{PeriodsEnd, ends, shears}
 
 -- an item of a list, or its end
 abbrev pub seen : {A : Type 0} → Option A → Entry A (Unit {0})
@@ -24,3 +27,8 @@ line_seen n is_last = cond is_last (last n) (item n)
 
 abbrev pub signed_seen : ℤ → Bool → Entry ℤ ℤ
 signed_seen n is_last = cond is_last (last n) (item n)
+
+abbrev pub period_seen : PeriodEntry → Entry ℕ PeriodsEnd
+period_seen (entry.Period n) = item n
+period_seen (entry.Last n) = last (ends n)
+period_seen (entry.Shear n) = last (shears n)
