@@ -92,10 +92,3 @@ pub enum Answer {
         duals: Items<u64>,
     },
 }
-
-/// What a run writes: the script, and the answers to its queries in order.
-#[derive(Debug, Drop)]
-pub struct Output {
-    pub script: Items<u8>,
-    pub answers: Items<Answer>,
-}

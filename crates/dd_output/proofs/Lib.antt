@@ -1,0 +1,17 @@
+pub mod Laws
+pub mod Tokens
+pub mod Numbers
+pub mod Entries
+pub mod Loops
+pub mod Counts
+pub mod Forms
+pub mod Tables
+pub mod Signs
+pub mod EndedLists
+pub mod Lines
+pub mod Steps
+pub mod Periods
+pub mod Rows
+pub mod AnswerRows
+pub mod Outputs
+pub mod Whole

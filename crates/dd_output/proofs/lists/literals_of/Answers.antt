@@ -1,0 +1,18 @@
+use Rattle.std.proofs.Common.{◌≡◌, ℕ, ◌++◌, ◌∷◌, [], Ok, length}
+use Rattle.dd_output.specs.reading.Stops.{Entry, item, entries_at}
+use Rattle.dd_output.specs.reading.Lists.{literal_entry}
+use Rattle.dd_output.proofs.Loops.{goes_on, with_front}
+use Rattle.dd_output.proofs.EndedLists.{literal_unrolls}
+use Rattle.dd_output.proofs.lists.literals_of.Goals as goal
+
+pub loop-literals-smaller : goal.loop-literals-smaller
+loop-literals-smaller c =
+    let is : literal_entry c.loop-literals.rest.now ≡ Ok (item c.in-Some.literal, c.in_ok-entry.after.now) = rw c.in-Some.is at c.in_ok-entry.ensures in
+    literal_unrolls.shorter 0 c.loop-literals.rest.now c.in-Some.literal c.in_ok-entry.after.now is
+
+pub loop-literals-preserved : goal.loop-literals-preserved
+loop-literals-preserved c =
+    let is : literal_entry c.loop-literals.rest.now ≡ Ok (item c.in-Some.literal, c.in_ok-entry.after.now) = rw c.in-Some.is at c.in_ok-entry.ensures in
+    let pushed : c.push.new.self.items ≡ c.loop-literals.literals.items ++ c.in-Some.literal ∷ [] = c.in_ok-push-in-Some.ensures.items in
+    rw pushed (goes_on (λ _. literal_entry) literal_unrolls c.loop-literals.literals.items c.loop-literals.rest.now c.in-Some.literal c.in_ok-entry.after.now
+    (entries_at (λ _. literal_entry) 0 c.args.bytes.now) is c.loop-literals.invariant)

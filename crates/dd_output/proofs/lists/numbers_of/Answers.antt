@@ -1,0 +1,22 @@
+use Rattle.std.proofs.Common.{◌≡◌, ℕ, ◌++◌, ◌∷◌, [], Ok, length}
+use Rattle.dd_output.specs.reading.Stops.{Entry, item, entries_at}
+use Rattle.dd_output.specs.reading.Lists.{line_entry}
+use Rattle.dd_output.proofs.Loops.{goes_on, with_front}
+use Rattle.dd_output.proofs.Lines.{numbers_unroll}
+use Rattle.dd_output.proofs.lists.numbers_of.Goals as goal
+
+pub loop-numbers-smaller : goal.loop-numbers-smaller
+loop-numbers-smaller c =
+    let entry = line_entry c.args.least c.args.most in
+    let is : entry (length c.loop-numbers.numbers) c.loop-numbers.rest.now ≡ Ok (item c.in_ok-number.number, c.in_ok-number.after.now) =
+    rw (← c.len.ensures) (rw c.if-is_last.false at c.in_ok-number.ensures) in
+    (numbers_unroll c.args.least c.args.most c.requires.some c.requires.room).shorter (length c.loop-numbers.numbers) c.loop-numbers.rest.now c.in_ok-number.number c.in_ok-number.after.now is
+
+pub loop-numbers-preserved : goal.loop-numbers-preserved
+loop-numbers-preserved c =
+    let entry = line_entry c.args.least c.args.most in
+    let is : entry (length c.loop-numbers.numbers) c.loop-numbers.rest.now ≡ Ok (item c.in_ok-number.number, c.in_ok-number.after.now) =
+    rw (← c.len.ensures) (rw c.if-is_last.false at c.in_ok-number.ensures) in
+    let pushed : c.push.new.self ≡ c.loop-numbers.numbers ++ c.in_ok-number.number ∷ [] = c.in_ok-push.ensures.ok in
+    rw pushed (goes_on entry (numbers_unroll c.args.least c.args.most c.requires.some c.requires.room) c.loop-numbers.numbers c.loop-numbers.rest.now c.in_ok-number.number c.in_ok-number.after.now
+    (entries_at entry 0 c.args.bytes.now) is c.loop-numbers.invariant)

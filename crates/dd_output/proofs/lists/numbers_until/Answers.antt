@@ -1,0 +1,18 @@
+use Rattle.std.proofs.Common.{◌≡◌, ℕ, ◌++◌, ◌∷◌, [], Ok, length}
+use Rattle.dd_output.specs.reading.Stops.{Entry, item, entries_at}
+use Rattle.dd_output.specs.reading.Lists.{number_entry}
+use Rattle.dd_output.proofs.Loops.{goes_on, with_front}
+use Rattle.dd_output.proofs.EndedLists.{hint_unrolls}
+use Rattle.dd_output.proofs.lists.numbers_until.Goals as goal
+
+pub loop-numbers-smaller : goal.loop-numbers-smaller
+loop-numbers-smaller c =
+    let is : number_entry c.args.end c.loop-numbers.rest.now ≡ Ok (item c.in-Some.number, c.in_ok-entry.after.now) = rw c.in-Some.is at c.in_ok-entry.ensures in
+    (hint_unrolls c.args.end).shorter 0 c.loop-numbers.rest.now c.in-Some.number c.in_ok-entry.after.now is
+
+pub loop-numbers-preserved : goal.loop-numbers-preserved
+loop-numbers-preserved c =
+    let is : number_entry c.args.end c.loop-numbers.rest.now ≡ Ok (item c.in-Some.number, c.in_ok-entry.after.now) = rw c.in-Some.is at c.in_ok-entry.ensures in
+    let pushed : c.push.new.self ≡ c.loop-numbers.numbers ++ c.in-Some.number ∷ [] = c.in_ok-push-in-Some.ensures.ok in
+    rw pushed (goes_on (λ _. number_entry c.args.end) (hint_unrolls c.args.end) c.loop-numbers.numbers c.loop-numbers.rest.now c.in-Some.number c.in_ok-entry.after.now
+    (entries_at (λ _. number_entry c.args.end) 0 c.args.bytes.now) is c.loop-numbers.invariant)

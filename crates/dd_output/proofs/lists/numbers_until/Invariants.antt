@@ -1,0 +1,11 @@
+use Rattle.std.proofs.Common.{◌≡◌, ℕ, length}
+use Rattle.dd_output.specs.reading.Stops.{entries_at}
+use Rattle.dd_output.specs.reading.Lists.{number_entry}
+use Rattle.dd_output.proofs.Loops.{with_front}
+use Rattle.dd_output.proofs.lists.numbers_until.Given as goal
+
+abbrev pub invariant-loop-numbers : goal.invariant-loop-numbers
+invariant-loop-numbers l = with_front l.numbers (entries_at (λ _. number_entry l.end) (length l.numbers) l.rest) ≡ entries_at (λ _. number_entry l.end) 0 l.bytes
+
+abbrev pub decreases-loop-numbers : goal.decreases-loop-numbers
+decreases-loop-numbers l = length l.rest

@@ -1,0 +1,6 @@
+-- whole outputs, and which bytes are well formed
+pub mod Outputs
+-- the offset of bytes that are not
+pub mod Offsets
+-- the reader's steps, and what completes a text at each place
+pub mod reading

@@ -1,0 +1,22 @@
+-- What bytes spell, and how many of them begin an output where they are none.
+use Rattle.std.specs.Prelude.{◌≡◌, ℕ, ◌<◌, ◌≤◌, List, ◌++◌, length, take, Result, Ok, Err}
+use Rattle.dd_output.specs.declared.output.Output.{Output}
+use Rattle.dd_output.specs.declared.fault.CertificateFault.{CertificateFault}
+use Rattle.dd_output.specs.declared.fault.CertificateFault.TheVariants as faults
+use Rattle.dd_output.specs.Outputs.{output_text, IsWritableOutput, IsWellFormed}
+use Rattle.dd_output.specs.reading.Whole.{completion}
+
+-- The longest front of the bytes that begins a well-formed output has this length, and the stated text completes it.
+pub record IsOffset (bytes : List ℕ) (offset : ℕ) : Type 0 where
+  pub within : offset ≤ length bytes
+  pub begins : IsWellFormed (take offset bytes ++ completion bytes)
+  pub no_longer : (n : ℕ) (more : List ℕ) → offset < n → n ≤ length bytes → IsWellFormed (take n bytes ++ more) → ⊥
+
+abbrev pub IsRefused : List ℕ → CertificateFault → Type 0
+IsRefused bytes faults.Memory = Unit {0}
+IsRefused bytes (faults.Malformed offset) = (IsWellFormed bytes → ⊥) × IsOffset bytes offset
+
+-- the one output that the bytes spell; else the offset where they are none
+abbrev pub ReadsOutput : List ℕ → Result Output CertificateFault → Type 0
+ReadsOutput bytes (Ok o) = IsWritableOutput o × (bytes ≡ output_text o)
+ReadsOutput bytes (Err fault) = IsRefused bytes fault

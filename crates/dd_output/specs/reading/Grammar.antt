@@ -1,0 +1,167 @@
+-- The lines of an output, as a table: a row for each kind of answer.
+use Rattle.std.specs.Prelude.{ℕ, ℤ, zero, suc, ◌+◌, ◌-◌, List, [], ◌∷◌, ◌++◌, length, Bool, true, false, cond, ◌==◌, nat_lt, Option, Some, None, Result, Ok, Err, codes, replicate}
+use Rattle.std.specs.Fmt.{decimal}
+use Rattle.dd_clause.specs.declared.clause.Literal.{Literal}
+use Rattle.dd_derivation.specs.declared.step.Step.{Step}
+use Rattle.dd_certificate.specs.declared.answer.Side.{Side}
+use Rattle.dd_certificate.specs.declared.answer.Side.TheVariants as side
+use Rattle.dd_certificate.specs.declared.answer.Reason.{Reason}
+use Rattle.dd_certificate.specs.declared.answer.Reason.TheVariants as reason
+use Rattle.dd_certificate.specs.declared.answer.Listed.{Listed}
+use Rattle.dd_certificate.specs.declared.answer.Answer.{Answer}
+use Rattle.dd_certificate.specs.declared.answer.Answer.TheVariants as answer
+use Rattle.dd_certificate.specs.Bounds.{most_number, most_count}
+use Rattle.dd_output.specs.reading.Stops.{Read, ◌>>=◌, Stop, stop, before, word_at, number_at, bytes_at, then_at, after_at, map_at, Entry, item, last, entries_at, choice_at}
+use Rattle.dd_output.specs.reading.Forms.{Form, nothing, word, number, both, after, mapped, either, counted, forked, table}
+use Rattle.dd_output.specs.reading.Lists.{literals, numbers_until, items_of, ended, numbers, integers, zeros}
+
+-- ---- refutations
+
+abbrev pub step_of : List Literal × (List ℕ × List ℕ) → Step
+step_of x = record { clause = x.0; hints = x.1.0; deletes = x.1.1 }
+
+unfoldable pub step : Form Step
+step = mapped step_of (after (codes "step ") (both literals (both (numbers_until 32) (numbers_until 10))))
+
+unfoldable pub refutation : Form (List Step)
+refutation = after (codes "refutation ") (counted 1 most_count step)
+
+-- ---- periods, and the shear that may follow two or three of them
+
+pub data PeriodsEnd : Type 0 where
+  ends : ℕ → PeriodsEnd
+  shears : ℕ → PeriodsEnd
+
+abbrev pub period_of : ℕ × ℕ → Entry ℕ PeriodsEnd
+period_of n = cond (n.1 == 10) (last (ends n.0)) (item n.0)
+
+abbrev pub period_at : List ℕ → Read (Entry ℕ PeriodsEnd)
+period_at = map_at period_of (number_at 0 most_number 10 32 nothing)
+
+abbrev pub shear_of : ℕ → Entry ℕ PeriodsEnd
+shear_of n = last (shears n)
+
+abbrev pub shear_at : List ℕ → Read (Entry ℕ PeriodsEnd)
+shear_at = map_at shear_of (after (codes "shear ") (number 1 most_number 10)).read
+
+-- at the place k, from 0
+unfoldable pub period_entry : ℕ → List ℕ → Read (Entry ℕ PeriodsEnd)
+period_entry k bytes = cond (nat_lt k 2) (period_at bytes) (cond (nat_lt k 3) (choice_at 115 shear_at period_at bytes) (shear_at bytes))
+
+abbrev pub periods_of : List ℕ × PeriodsEnd → List ℕ × ℕ
+periods_of (ps, ends n) = (ps ++ n ∷ [], 0)
+periods_of (ps, shears n) = (ps, n)
+
+unfoldable pub periods : Form (List ℕ × ℕ)
+periods = record { read = map_at periods_of (entries_at period_entry 0); least = 48 ∷ 10 ∷ [] }
+
+-- ---- answers
+
+abbrev pub inside_of : Unit {0} → Answer
+inside_of _ = answer.Inside
+
+abbrev pub outside_of : List ℤ → Answer
+outside_of place = answer.Outside place
+
+abbrev pub yes_of : ℕ × Entry (ℕ × (List Step × List Step)) (List Step) → Answer
+yes_of (radius, last steps) = answer.Yes radius steps
+yes_of (left, item x) = answer.YesBoth left x.0 x.1.0 x.1.1
+
+abbrev pub sided : Side → Form (Side × (List ℕ × ℕ))
+sided s = mapped (λ x. (s, x)) periods
+
+unfoldable pub side_and_periods : Form (Side × (List ℕ × ℕ))
+side_and_periods = either 108 (after (codes "left ") (sided side.Left)) (either 114 (after (codes "right ") (sided side.Right)) (sided side.Whole))
+
+abbrev pub no_of : (Side × (List ℕ × ℕ)) × List ℕ → Answer
+no_of x = answer.No x.0.0 x.0.1.0 x.0.1.1 x.1
+
+abbrev pub reason_form : List ℕ → Reason → Form Reason
+reason_form w r = mapped (λ _. r) (word w)
+
+unfoldable pub reason_word : Form Reason
+reason_word = either 111 (reason_form (codes "overflow\n") reason.Overflow) (either 112 (reason_form (codes "pivots\n") reason.Pivots)
+    (after (codes "l") (either 97 (reason_form (codes "arge\n") reason.Large) (reason_form (codes "imits\n") reason.Limits))))
+
+abbrev pub unknown_of : Reason → Answer
+unknown_of r = answer.Unknown r
+
+abbrev pub pattern_of : ℕ × Entry (List ℕ) (Unit {0}) → Listed
+pattern_of (node, last u) = record { node = node; symbols = [] }
+pattern_of (node, item symbols) = record { node = node; symbols = symbols }
+
+unfoldable pub pattern : Form Listed
+pattern = mapped pattern_of (after (codes "pattern ") (forked most_number (word []) (numbers 1 None)))
+
+abbrev pub list_of : List Listed → Answer
+list_of patterns = answer.List patterns
+
+unfoldable pub fraction : Form (ℕ × ℕ)
+fraction = both (number 0 most_number 47) (number 1 most_number 10)
+
+abbrev pub cycle_of : (ℕ × ℕ) × List ℕ → List ℕ
+cycle_of x = x.1
+
+-- the number of states, and so many of them
+unfoldable pub cycle : Form (List ℕ)
+cycle = record {
+  read = map_at cycle_of (then_at (number_at 1 most_number 32 32 zeros) (λ n. (numbers n.0 (Some n.0)).read));
+  least = 49 ∷ 32 ∷ 48 ∷ 10 ∷ [];
+}
+
+abbrev pub density_of : (ℕ × ℕ) × (List ℕ × List ℤ) → Answer
+density_of x = answer.Density x.0.0 x.0.1 x.1.0 x.1.1
+
+abbrev pub empty_of : List ℕ → Answer
+empty_of ranks = answer.Empty ranks
+
+abbrev pub none_of : Unit {0} → List ℕ
+none_of _ = []
+
+-- any number of numbers
+unfoldable pub amounts : Form (List ℕ)
+amounts = either 10 (mapped none_of (word (codes "\n"))) (after (codes " ") (numbers 1 None))
+
+abbrev pub bound_of : (ℕ × ℕ) × (ℕ × (List ℕ × List ℕ)) → Answer
+bound_of x = answer.Bound x.0.0 x.0.1 x.1.0 x.1.1.0 x.1.1.1
+
+unfoldable pub inside_row : Form Answer
+inside_row = mapped inside_of (word (codes "IN\n"))
+
+unfoldable pub outside_row : Form Answer
+outside_row = mapped outside_of (after (codes "OUT ") (integers 2 (Some 4)))
+
+-- the second radius, and both refutations
+unfoldable pub right_and_refutations : Form (ℕ × (List Step × List Step))
+right_and_refutations = both (number 0 most_number 10) (both refutation refutation)
+
+unfoldable pub yes_row : Form Answer
+yes_row = mapped yes_of (after (codes "YES ") (forked most_number refutation right_and_refutations))
+
+unfoldable pub no_row : Form Answer
+no_row = mapped no_of (after (codes "NO ") (both side_and_periods (after (codes "conf ") (numbers 1 None))))
+
+unfoldable pub unknown_row : Form Answer
+unknown_row = mapped unknown_of (after (codes "UNKNOWN ") reason_word)
+
+unfoldable pub list_row : Form Answer
+list_row = mapped list_of (after (codes "LIST ") (counted 0 most_number pattern))
+
+unfoldable pub cycle_and_potentials : Form (List ℕ × List ℤ)
+cycle_and_potentials = after (codes "cycle ") (both cycle (after (codes "potentials ") (integers 1 None)))
+
+unfoldable pub density_row : Form Answer
+density_row = mapped density_of (after (codes "DENSITY ") (both fraction cycle_and_potentials))
+
+unfoldable pub empty_row : Form Answer
+empty_row = mapped empty_of (after (codes "EMPTY\nranks ") (numbers 1 None))
+
+unfoldable pub amounts_and_duals : Form (List ℕ × List ℕ)
+amounts_and_duals = after (codes "amounts") (both amounts (after (codes "duals ") (numbers 1 None)))
+
+unfoldable pub bound_row : Form Answer
+bound_row = mapped bound_of (after (codes "BOUND ") (both fraction (after (codes "denominator ") (both (number 1 most_number 10) amounts_and_duals))))
+
+-- the rows, by the first bytes I, O, Y, U, L, D, E, B and N
+unfoldable pub answer_form : Form Answer
+answer_form = table (79, outside_row) ((89, yes_row) ∷ (78, no_row) ∷ (85, unknown_row) ∷ (76, list_row) ∷ (68, density_row) ∷ (69, empty_row) ∷ (66, bound_row) ∷ (73, inside_row) ∷ [])

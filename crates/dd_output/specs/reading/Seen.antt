@@ -1,0 +1,34 @@
+-- What the values of the reader stand for.
+use Rattle.std.specs.Prelude.{ℕ, ℤ, Option, Some, None, Bool, cond}
+use Rattle.dd_clause.specs.declared.clause.Literal.{Literal}
+use Rattle.dd_certificate.specs.declared.answer.Answer.{Answer}
+use Rattle.dd_output.specs.declared.sides.PeriodEntry.{PeriodEntry}
+use Rattle.dd_output.specs.declared.sides.PeriodEntry.TheVariants as entry
+use Rattle.dd_output.specs.reading.Stops.{Entry, item, last}
+use Rattle.dd_output.specs.reading.Grammar.{PeriodsEnd, ends, shears}
+
+-- an item of a list, or its end
+abbrev pub seen : {A : Type 0} → Option A → Entry A (Unit {0})
+seen None = last tt
+seen (Some x) = item x
+
+abbrev pub literal_seen : Option Literal → Entry Literal (Unit {0})
+literal_seen = seen
+
+abbrev pub number_seen : Option ℕ → Entry ℕ (Unit {0})
+number_seen = seen
+
+abbrev pub answer_seen : Option Answer → Entry Answer (Unit {0})
+answer_seen = seen
+
+-- a number, and whether it is the line's last
+abbrev pub line_seen : ℕ → Bool → Entry ℕ ℕ
+line_seen n is_last = cond is_last (last n) (item n)
+
+abbrev pub signed_seen : ℤ → Bool → Entry ℤ ℤ
+signed_seen n is_last = cond is_last (last n) (item n)
+
+abbrev pub period_seen : PeriodEntry → Entry ℕ PeriodsEnd
+period_seen (entry.Period n) = item n
+period_seen (entry.Last n) = last (ends n)
+period_seen (entry.Shear n) = last (shears n)

@@ -1,0 +1,62 @@
+// Refutations, read step by step.
+ghost use Rattle.std.specs.Prelude.{◌≡◌};
+ghost use Rattle.dd_certificate.specs.Bounds.{most_count};
+ghost use Rattle.dd_output.specs.reading.Stops.{Gives, number_at, many_at, copies};
+ghost use Rattle.dd_output.specs.reading.Grammar.{step, refutation};
+
+use crate::fault::ReadFault;
+use crate::lexing::{number_at, word_at};
+use crate::lists::{literals_of, numbers_until};
+use dd_clause::Clause;
+use dd_derivation::Step;
+use dd_values::Items;
+use std::alloc::Global;
+
+#[tactic(auto, unfolding(crate::specs::reading::Grammar::step))]
+fn step_of(alloc: Global, bytes: &[u8]) -> Result<(Step, &[u8]), ReadFault>
+    ensures { Gives (λ x. (x.0, x.1.now)) result (step.read bytes.now) }
+{
+    let rest = word_at(bytes, b"step ")?;
+    let (literals, rest) = literals_of(alloc, rest)?;
+    let (hints, rest) = numbers_until(alloc, rest, b' ')?;
+    let (deletes, rest) = numbers_until(alloc, rest, b'\n')?;
+    let clause = Clause::from_literals(alloc, literals.as_slice())?;
+    Ok((
+        Step {
+            clause,
+            hints,
+            deletes,
+        },
+        rest,
+    ))
+}
+
+#[tactic(auto, using(crate::proofs::Counts::number_any))]
+fn count_of_steps(bytes: &[u8]) -> Result<(u64, u8, &[u8]), ReadFault>
+    ensures { Gives (λ x. ((x.0, x.1), x.2.now)) result (number_at 1 most_count 10 10 (λ n. copies n step.least) bytes.now) }
+{
+    number_at(bytes, 1, u64::MAX, b'\n', b'\n')
+}
+
+fn steps_of(alloc: Global, count: u64, bytes: &[u8]) -> Result<(Items<Step>, &[u8]), ReadFault>
+    ensures { Gives (λ x. (x.0, x.1.now)) result (many_at step.read step.least count bytes.now) }
+{
+    let mut steps = Items::new(alloc);
+    let mut rest = bytes;
+    for _ in 0..count {
+        let (step, after) = step_of(alloc, rest)?;
+        steps.push(step)?;
+        rest = after;
+    }
+    Ok((steps, rest))
+}
+
+/// The number of steps, and then the steps.
+#[tactic(auto, unfolding(crate::specs::reading::Grammar::refutation))]
+pub(crate) fn refutation_of(alloc: Global, bytes: &[u8]) -> Result<(Items<Step>, &[u8]), ReadFault>
+    ensures { Gives (λ x. (x.0, x.1.now)) result (refutation.read bytes.now) }
+{
+    let rest = word_at(bytes, b"refutation ")?;
+    let (count, _, rest) = count_of_steps(rest)?;
+    steps_of(alloc, count, rest)
+}

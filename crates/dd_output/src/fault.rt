@@ -1,0 +1,38 @@
+// Why a text could not be read.
+ghost use Rattle.std.specs.Prelude.{◌≡◌};
+ghost use Rattle.dd_output.specs.declared.fault.ReadFault.TheVariants.{Memory};
+
+use std::alloc::{AllocError, AllocFailed};
+
+/// Why an output could not be read.
+#[derive(Clone, Copy, Debug, PartialEq, Eq)]
+pub enum CertificateFault {
+    /// The bytes are no output. As many as are given here begin one, and one more of them does not.
+    Malformed(u64),
+    /// There is no memory for the output.
+    Memory,
+}
+
+/// What stopped the reading inside.
+#[derive(Debug, Drop)]
+pub(crate) enum ReadFault {
+    Memory,
+    /// So many bytes were not read.
+    Stopped(usize),
+}
+
+impl From<AllocError> for ReadFault {
+    ghost from_gives = { λ _ fault. fault ≡ Memory };
+
+    fn from(_: AllocError) -> ReadFault {
+        ReadFault::Memory
+    }
+}
+
+impl<T: Drop> From<AllocFailed<T>> for ReadFault {
+    ghost from_gives = { λ _ fault. fault ≡ Memory };
+
+    fn from(_: AllocFailed<T>) -> ReadFault {
+        ReadFault::Memory
+    }
+}

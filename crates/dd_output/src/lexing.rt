@@ -1,0 +1,128 @@
+// The tokens of a text: words, numbers and raw bytes. Each takes the byte that ends it, so that no text of a token is a front of
+// another. A reader is handed the bytes and hands back what it did not read.
+ghost use Rattle.std.specs.Prelude.{◌≡◌, ◌<◌, ◌≤◌, ◌^◌, ◌-◌, ◌*◌, ◌+◌, true, length, [], IfOk};
+ghost use Rattle.dd_output.specs.reading.Stops.{Gives, is_digit, goes_on, starts, word_at, digits_at, number_at, bytes_at, begins};
+
+use crate::fault::ReadFault;
+
+/// The bytes begin with this one.
+pub(crate) fn begins(bytes: &[u8], first: u8) -> bool
+    ensures { result ≡ begins first bytes.now }
+{
+    match bytes {
+        [] => false,
+        [byte, ..] => *byte == first,
+    }
+}
+
+/// The bytes after a word.
+pub(crate) fn word_at<'a>(bytes: &'a [u8], word: &[u8]) -> Result<&'a [u8], ReadFault>
+    ensures { Gives (λ rest. (tt, rest.now)) result (word_at word.now bytes.now) }
+{
+    match word {
+        [] => Ok(bytes),
+        [first, others @ ..] => match bytes {
+            [] => Err(ReadFault::Stopped(0)),
+            [byte, rest @ ..] => {
+                if *byte == *first {
+                    word_at(rest, others)
+                } else {
+                    Err(ReadFault::Stopped(bytes.len()))
+                }
+            }
+        },
+    }
+}
+
+fn is_digit(byte: u8) -> bool
+    ensures { result ≡ is_digit byte }
+{
+    b'0' <= byte && byte <= b'9'
+}
+
+/// A number with one more digit.
+fn next(number: u64, digit: u8) -> u128
+    requires { is_digit digit ≡ true }
+    ensures { result ≡ number * 10 + (digit - 48) }
+{
+    u128::from(number) * 10 + u128::from(digit - b'0')
+}
+
+fn goes_on(bound: u64, number: u64, byte: u8) -> bool
+    ensures { result ≡ goes_on bound number byte }
+{
+    is_digit(byte) && (0 < number && next(number, byte) <= u128::from(bound))
+}
+
+fn starts(low: u64, bound: u64, byte: u8) -> bool
+    ensures { result ≡ starts low bound byte }
+{
+    is_digit(byte) && (low <= u64::from(byte - b'0') && u64::from(byte - b'0') <= bound)
+}
+
+/// The digits after the first one, up to one of the two bytes that can end the number.
+fn digits_at(
+    bytes: &[u8],
+    bound: u64,
+    end: u8,
+    other: u8,
+    first: u64,
+) -> Result<(u64, u8, &[u8]), ReadFault>
+    requires { first ≤ bound }
+    ensures value { Gives (λ x. ((x.0, x.1), x.2.now)) result (digits_at bound end other (λ _. []) first bytes.now) }
+    ensures from { IfOk result (λ x. first ≤ x.0) }
+    ensures within { IfOk result (λ x. x.0 ≤ bound) }
+{
+    let mut number = first;
+    let mut rest = bytes;
+    loop {
+        match rest {
+            [] => return Err(ReadFault::Stopped(0)),
+            [byte, after @ ..] => {
+                if *byte == end || *byte == other {
+                    return Ok((number, *byte, after));
+                }
+                if !goes_on(bound, number, *byte) {
+                    return Err(ReadFault::Stopped(rest.len()));
+                }
+                number = next(number, *byte) as u64;
+                rest = after;
+            }
+        }
+    }
+}
+
+/// A number from `low`, which is 0 or 1, to `bound`, the byte that ends it, and the bytes after that.
+pub(crate) fn number_at(
+    bytes: &[u8],
+    low: u64,
+    bound: u64,
+    end: u8,
+    other: u8,
+) -> Result<(u64, u8, &[u8]), ReadFault>
+    ensures value { Gives (λ x. ((x.0, x.1), x.2.now)) result (number_at low bound end other (λ _. []) bytes.now) }
+    ensures from { IfOk result (λ x. low ≤ x.0) }
+    ensures within { IfOk result (λ x. x.0 ≤ bound) }
+{
+    match bytes {
+        [] => Err(ReadFault::Stopped(0)),
+        [byte, rest @ ..] => {
+            if starts(low, bound, *byte) {
+                digits_at(rest, bound, end, other, u64::from(*byte - b'0'))
+            } else {
+                Err(ReadFault::Stopped(bytes.len()))
+            }
+        }
+    }
+}
+
+/// So many bytes, and those after them.
+pub(crate) fn bytes_at(bytes: &[u8], count: usize) -> Result<(&[u8], &[u8]), ReadFault>
+    ensures { Gives (λ x. (x.0.now, x.1.now)) result (bytes_at count bytes.now) }
+{
+    if count <= bytes.len() {
+        Ok(bytes.split_at(count))
+    } else {
+        Err(ReadFault::Stopped(0))
+    }
+}

@@ -1,0 +1,18 @@
+//! Whole outputs, read back. Bytes that are no output are refused at the first byte with which no output goes on. The grammar is a
+//! table of lines: each of them knows a text that completes it, so that the offset is exact.
+#![tactic(auto)]
+
+mod bodies;
+mod derivations;
+mod fault;
+mod lexing;
+mod lists;
+mod output;
+mod promises;
+mod reading;
+mod sides;
+
+pub use fault::CertificateFault;
+pub use output::Output;
+pub use promises::{completes, one_offset, one_output};
+pub use reading::read_output;

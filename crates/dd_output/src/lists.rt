@@ -1,0 +1,263 @@
+// Lists in a text: those that a 0 ends, and the numbers that a line ends with.
+ghost use Rattle.std.specs.Prelude.{◌≡◌, ◌≤◌, ◌-◌, [], suc};
+ghost use Rattle.dd_certificate.specs.Bounds.{most_number};
+ghost use Rattle.dd_output.specs.reading.Stops.{Gives, number_at, map_at};
+ghost use Rattle.dd_output.specs.reading.Lists.{
+  literal_entry,
+  number_entry,
+  literals,
+  numbers_until,
+  AtMost,
+  end_at,
+  other_at,
+  zeros,
+  line_entry,
+  numbers,
+  minus_of,
+  signed_at,
+  signed_entry,
+  integers,
+};
+ghost use Rattle.dd_output.specs.reading.Seen.{literal_seen, number_seen, line_seen, signed_seen};
+
+use crate::fault::ReadFault;
+use crate::lexing::{begins, number_at, word_at};
+use dd_clause::Literal;
+use dd_values::Items;
+use std::alloc::Global;
+
+/// The greatest variable of a literal.
+const MOST_VARIABLE: u64 = 16_777_216;
+
+/// The greatest number of most lines.
+pub(crate) const MOST_NUMBER: u64 = 1_099_511_627_776;
+
+/// A literal, or nothing at the end of a list.
+fn literal_entry(bytes: &[u8]) -> Result<(Option<Literal>, &[u8]), ReadFault>
+    ensures { Gives (λ x. (literal_seen x.0, x.1.now)) result (literal_entry bytes.now) }
+{
+    if begins(bytes, b'0') {
+        let rest = word_at(bytes, b"0 ")?;
+        Ok((None, rest))
+    } else if begins(bytes, b'-') {
+        let rest = word_at(bytes, b"-")?;
+        let (variable, _, rest) = number_at(rest, 1, MOST_VARIABLE, b' ', b' ')?;
+        Ok((
+            Some(Literal {
+                variable: variable as u32,
+                positive: false,
+            }),
+            rest,
+        ))
+    } else {
+        let (variable, _, rest) = number_at(bytes, 1, MOST_VARIABLE, b' ', b' ')?;
+        Ok((
+            Some(Literal {
+                variable: variable as u32,
+                positive: true,
+            }),
+            rest,
+        ))
+    }
+}
+
+/// A clause's number, or nothing at the end of a list.
+fn number_entry(bytes: &[u8], end: u8) -> Result<(Option<u64>, &[u8]), ReadFault>
+    ensures { Gives (λ x. (number_seen x.0, x.1.now)) result (number_entry end bytes.now) }
+{
+    if begins(bytes, b'0') {
+        let rest = word_at(bytes, &[b'0', end])?;
+        Ok((None, rest))
+    } else {
+        let (number, _, rest) = number_at(bytes, 1, u64::MAX, b' ', b' ')?;
+        Ok((Some(number), rest))
+    }
+}
+
+/// Literals up to the 0 that ends them.
+pub(crate) fn literals_of(alloc: Global, bytes: &[u8]) -> Result<(Vec<Literal>, &[u8]), ReadFault>
+    ensures { Gives (λ x. (x.0.items, x.1.now)) result (literals.read bytes.now) }
+{
+    let mut literals = Vec::new(alloc);
+    let mut rest = bytes;
+    loop {
+        let (entry, after) = literal_entry(rest)?;
+        rest = after;
+        match entry {
+            Some(literal) => literals.push(literal)?,
+            None => return Ok((literals, rest)),
+        }
+    }
+}
+
+/// Numbers of clauses up to the 0 that ends them, and the byte after it.
+pub(crate) fn numbers_until(
+    alloc: Global,
+    bytes: &[u8],
+    end: u8,
+) -> Result<(Items<u64>, &[u8]), ReadFault>
+    ensures { Gives (λ x. (x.0, x.1.now)) result ((numbers_until end).read bytes.now) }
+{
+    let mut numbers = Items::new(alloc);
+    let mut rest = bytes;
+    loop {
+        let (entry, after) = number_entry(rest, end)?;
+        rest = after;
+        match entry {
+            Some(number) => numbers.push(number)?,
+            None => return Ok((numbers, rest)),
+        }
+    }
+}
+
+/// The byte that ends the number at a place, from 0, where a line has at least so many: a space before the last that it has to
+/// have, and then a line feed.
+fn end_at(least: u64, place: u64) -> u8
+    ensures { result ≡ end_at least place }
+{
+    if u128::from(place) + 1 < u128::from(least) {
+        b' '
+    } else {
+        b'\n'
+    }
+}
+
+/// The other byte that can end it: a line feed after as many as there may be, and else a space.
+fn other_at(most: Option<u64>, place: u64) -> u8
+    ensures { result ≡ other_at most place }
+{
+    match most {
+        Some(most) if u128::from(most) <= u128::from(place) + 1 => b'\n',
+        _ => b' ',
+    }
+}
+
+/// The number at a place of a line, and the byte that ends it.
+#[tactic(auto, using(crate::proofs::Counts::number_any))]
+fn number_in_line(
+    bytes: &[u8],
+    least: u64,
+    most: Option<u64>,
+    place: u64,
+) -> Result<(u64, u8, &[u8]), ReadFault>
+    ensures { Gives (λ x. ((x.0, x.1), x.2.now)) result (number_at 0 most_number (end_at least place) (other_at most place) (λ _. zeros (least - suc place)) bytes.now) }
+{
+    number_at(
+        bytes,
+        0,
+        MOST_NUMBER,
+        end_at(least, place),
+        other_at(most, place),
+    )
+}
+
+/// A number of a line, and whether it is the last.
+#[tactic(auto, unfolding(crate::specs::reading::Lists::line_entry))]
+fn line_entry(
+    bytes: &[u8],
+    least: u64,
+    most: Option<u64>,
+    place: u64,
+) -> Result<(u64, bool, &[u8]), ReadFault>
+    ensures { Gives (λ x. (line_seen x.0 x.1, x.2.now)) result (line_entry least most place bytes.now) }
+{
+    let (number, end, rest) = number_in_line(bytes, least, most, place)?;
+    Ok((number, end == b'\n', rest))
+}
+
+/// The numbers that a line ends with: at least so many, and at most so many where there is a most.
+#[tactic(auto, unfolding(crate::specs::reading::Lists::numbers))]
+pub(crate) fn numbers_of(
+    alloc: Global,
+    bytes: &[u8],
+    least: u64,
+    most: Option<u64>,
+) -> Result<(Items<u64>, &[u8]), ReadFault>
+    requires some { 1 ≤ least }
+    requires room { AtMost most least }
+    ensures { Gives (λ x. (x.0, x.1.now)) result ((numbers least most).read bytes.now) }
+{
+    let mut numbers = Items::new(alloc);
+    let mut rest = bytes;
+    loop {
+        let (number, is_last, after) = line_entry(rest, least, most, numbers.len() as u64)?;
+        rest = after;
+        numbers.push(number)?;
+        if is_last {
+            return Ok((numbers, rest));
+        }
+    }
+}
+
+/// A number after a minus sign.
+fn minus_at(bytes: &[u8], end: u8, other: u8) -> Result<(i64, u8, &[u8]), ReadFault>
+    ensures { Gives (λ x. ((x.0, x.1), x.2.now)) result (map_at minus_of (number_at 1 most_number end other (λ _. [])) bytes.now) }
+{
+    let (number, end, rest) = number_at(bytes, 1, MOST_NUMBER, end, other)?;
+    Ok((-(number as i64), end, rest))
+}
+
+/// A number that may have a minus sign, the byte that ends it, and the bytes after that.
+#[tactic(auto, unfolding(crate::specs::reading::Lists::signed_at))]
+fn signed_at(bytes: &[u8], end: u8, other: u8) -> Result<(i64, u8, &[u8]), ReadFault>
+    ensures { Gives (λ x. ((x.0, x.1), x.2.now)) result (signed_at most_number end other [] bytes.now) }
+{
+    if begins(bytes, b'-') {
+        let rest = word_at(bytes, b"-")?;
+        minus_at(rest, end, other)
+    } else {
+        let (number, end, rest) = number_at(bytes, 0, MOST_NUMBER, end, other)?;
+        Ok((number as i64, end, rest))
+    }
+}
+
+/// The signed number at a place of a line, and the byte that ends it.
+#[tactic(auto, using(crate::proofs::Counts::signed_any))]
+fn signed_in_line(
+    bytes: &[u8],
+    least: u64,
+    most: Option<u64>,
+    place: u64,
+) -> Result<(i64, u8, &[u8]), ReadFault>
+    ensures { Gives (λ x. ((x.0, x.1), x.2.now)) result (signed_at most_number (end_at least place) (other_at most place) (zeros (least - suc place)) bytes.now) }
+{
+    signed_at(bytes, end_at(least, place), other_at(most, place))
+}
+
+/// A signed number of a line, and whether it is the last.
+#[tactic(auto, unfolding(crate::specs::reading::Lists::signed_entry))]
+fn signed_entry(
+    bytes: &[u8],
+    least: u64,
+    most: Option<u64>,
+    place: u64,
+) -> Result<(i64, bool, &[u8]), ReadFault>
+    ensures { Gives (λ x. (signed_seen x.0 x.1, x.2.now)) result (signed_entry least most place bytes.now) }
+{
+    let (number, end, rest) = signed_in_line(bytes, least, most, place)?;
+    Ok((number, end == b'\n', rest))
+}
+
+/// The same as `numbers_of`, where each number may have a minus sign.
+#[tactic(auto, unfolding(crate::specs::reading::Lists::integers))]
+pub(crate) fn integers_of(
+    alloc: Global,
+    bytes: &[u8],
+    least: u64,
+    most: Option<u64>,
+) -> Result<(Items<i64>, &[u8]), ReadFault>
+    requires some { 1 ≤ least }
+    requires room { AtMost most least }
+    ensures { Gives (λ x. (x.0, x.1.now)) result ((integers least most).read bytes.now) }
+{
+    let mut numbers = Items::new(alloc);
+    let mut rest = bytes;
+    loop {
+        let (number, is_last, after) = signed_entry(rest, least, most, numbers.len() as u64)?;
+        rest = after;
+        numbers.push(number)?;
+        if is_last {
+            return Ok((numbers, rest));
+        }
+    }
+}

@@ -1,0 +1,10 @@
+// What a run writes.
+use dd_certificate::Answer;
+use dd_values::Items;
+
+/// A script, and the answers to its queries in order.
+#[derive(Debug, Drop)]
+pub struct Output {
+    pub script: Items<u8>,
+    pub answers: Items<Answer>,
+}

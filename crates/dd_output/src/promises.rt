@@ -1,0 +1,21 @@
+// Laws of outputs and their texts, for callers.
+ghost use Rattle.std.specs.Prelude.{◌≡◌, ◌++◌, ℕ, List, Ok};
+ghost use Rattle.dd_output.specs.declared.output.Output.{Output};
+ghost use Rattle.dd_output.specs.Outputs.{output_text, IsWritableOutput, IsWellFormed};
+ghost use Rattle.dd_output.specs.Offsets.{IsOffset};
+ghost use Rattle.dd_output.specs.reading.Whole.{completion};
+
+/// Each text is the text of one output only.
+pub fn one_output()
+    ensures { (a b : Output) → IsWritableOutput a → IsWritableOutput b → output_text a ≡ output_text b → a ≡ b }
+{}
+
+/// Bytes have one offset at most.
+pub fn one_offset()
+    ensures { (bytes : List ℕ) (m n : ℕ) → IsOffset bytes m → IsOffset bytes n → m ≡ n }
+{}
+
+/// What was read of an output, followed by the text that completes it, is well formed.
+pub fn completes()
+    ensures { (front more : List ℕ) → IsWellFormed (front ++ more) → IsWellFormed (front ++ completion front) }
+{}

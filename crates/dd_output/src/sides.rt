@@ -1,0 +1,103 @@
+// The periods of a configuration, the shear that may follow two or three of them, and the side of a query that they stand for.
+ghost use Rattle.std.specs.Prelude.{◌≡◌};
+ghost use Rattle.dd_output.specs.reading.Stops.{Gives};
+ghost use Rattle.dd_output.specs.reading.Grammar.{period_at, shear_at, period_entry, periods, side_and_periods};
+ghost use Rattle.dd_output.specs.reading.Seen.{period_seen};
+
+use dd_certificate::Side;
+use crate::fault::ReadFault;
+use crate::lexing::{begins, number_at, word_at};
+use crate::lists::MOST_NUMBER;
+use dd_values::Items;
+use std::alloc::Global;
+
+/// What stands after a space of the periods' line.
+#[derive(Clone, Copy, Debug)]
+pub(crate) enum PeriodEntry {
+    /// A period, and a space after it.
+    Period(u64),
+    /// A period, and the end of the line.
+    Last(u64),
+    /// The shear, and the end of the line.
+    Shear(u64),
+}
+
+fn period_at(bytes: &[u8]) -> Result<(PeriodEntry, &[u8]), ReadFault>
+    ensures { Gives (λ x. (period_seen x.0, x.1.now)) result (period_at bytes.now) }
+{
+    let (period, end, rest) = number_at(bytes, 0, MOST_NUMBER, b'\n', b' ')?;
+    if end == b'\n' {
+        Ok((PeriodEntry::Last(period), rest))
+    } else {
+        Ok((PeriodEntry::Period(period), rest))
+    }
+}
+
+fn shear_at(bytes: &[u8]) -> Result<(PeriodEntry, &[u8]), ReadFault>
+    ensures { Gives (λ x. (period_seen x.0, x.1.now)) result (shear_at bytes.now) }
+{
+    let rest = word_at(bytes, b"shear ")?;
+    let (shear, _, rest) = number_at(rest, 1, MOST_NUMBER, b'\n', b'\n')?;
+    Ok((PeriodEntry::Shear(shear), rest))
+}
+
+/// The entry at this place, from 0.
+#[tactic(auto, unfolding(crate::specs::reading::Grammar::period_entry))]
+fn period_entry(bytes: &[u8], place: u64) -> Result<(PeriodEntry, &[u8]), ReadFault>
+    ensures { Gives (λ x. (period_seen x.0, x.1.now)) result (period_entry place bytes.now) }
+{
+    if place < 2 {
+        period_at(bytes)
+    } else if place < 3 {
+        if begins(bytes, b's') {
+            shear_at(bytes)
+        } else {
+            period_at(bytes)
+        }
+    } else {
+        shear_at(bytes)
+    }
+}
+
+/// The periods and the shear, up to the end of their line.
+#[tactic(auto, unfolding(crate::specs::reading::Grammar::periods))]
+fn periods_of(alloc: Global, bytes: &[u8]) -> Result<(Items<u64>, u64, &[u8]), ReadFault>
+    ensures { Gives (λ x. ((x.0, x.1), x.2.now)) result (periods.read bytes.now) }
+{
+    let mut periods = Items::new(alloc);
+    let mut rest = bytes;
+    loop {
+        let (entry, after) = period_entry(rest, periods.len() as u64)?;
+        rest = after;
+        match entry {
+            PeriodEntry::Period(period) => periods.push(period)?,
+            PeriodEntry::Last(period) => {
+                periods.push(period)?;
+                return Ok((periods, 0, rest));
+            }
+            PeriodEntry::Shear(shear) => return Ok((periods, shear, rest)),
+        }
+    }
+}
+
+/// The side, where one is said, and then the periods and the shear.
+#[tactic(auto, unfolding(crate::specs::reading::Grammar::side_and_periods))]
+pub(crate) fn side_and_periods_of(
+    alloc: Global,
+    bytes: &[u8],
+) -> Result<(Side, Items<u64>, u64, &[u8]), ReadFault>
+    ensures { Gives (λ x. ((x.0, (x.1, x.2)), x.3.now)) result (side_and_periods.read bytes.now) }
+{
+    if begins(bytes, b'l') {
+        let rest = word_at(bytes, b"left ")?;
+        let (periods, shear, rest) = periods_of(alloc, rest)?;
+        Ok((Side::Left, periods, shear, rest))
+    } else if begins(bytes, b'r') {
+        let rest = word_at(bytes, b"right ")?;
+        let (periods, shear, rest) = periods_of(alloc, rest)?;
+        Ok((Side::Right, periods, shear, rest))
+    } else {
+        let (periods, shear, rest) = periods_of(alloc, bytes)?;
+        Ok((Side::Whole, periods, shear, rest))
+    }
+}
