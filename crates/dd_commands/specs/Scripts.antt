@@ -1,0 +1,79 @@
+-- Scripts: commands in order, or the first that is not well formed.
+use Rattle.std.specs.Prelude.{◌≡◌, ℕ, zero, suc, ◌≤◌, List, [], ◌∷◌, Bool, true, false, Result, Ok, Err, All, Contains}
+use Rattle.std.specs.List.{list_all}
+use Rattle.dd_written.specs.declared.lexeme.Mark.TheVariants as mark
+use Rattle.dd_written.specs.declared.lexeme.Lexeme.{Lexeme}
+use Rattle.dd_written.specs.declared.lexeme.Lexeme.TheVariants as lexeme
+use Rattle.dd_commands.specs.declared.script.Written.{Written}
+use Rattle.dd_commands.specs.declared.script.Syntax.{Syntax}
+use Rattle.dd_commands.specs.declared.fault.SyntaxFault.{SyntaxFault}
+use Rattle.dd_commands.specs.declared.fault.SyntaxFault.TheVariants as fault
+use Rattle.dd_commands.specs.Heads.{head_of, stage, next_stage}
+use Rattle.dd_commands.specs.Commands.{IsCommand}
+use Rattle.dd_written.specs.Lexemes.{lexemes_of}
+
+-- what stands before the first command, and each command without its mark
+abbrev pub parts : List Lexeme → List Lexeme × List (List Lexeme)
+parts [] = ([], [])
+parts (lexeme.Mark mark.Percent ∷ tokens) = ([], (parts tokens).0 ∷ (parts tokens).1)
+parts (t ∷ tokens) = (t ∷ (parts tokens).0, (parts tokens).1)
+
+-- a token, and no byte that belongs to none
+abbrev pub is_whole : Lexeme → Bool
+is_whole (lexeme.Word w) = true
+is_whole (lexeme.Number n) = true
+is_whole (lexeme.Negative n) = true
+is_whole (lexeme.Mark m) = true
+is_whole lexeme.Stray = false
+
+abbrev pub stage_of : Written → ℕ
+stage_of w = stage (head_of w.command)
+
+abbrev pub next_of : Written → ℕ
+next_of w = next_stage (head_of w.command)
+
+-- a part is a command that may stand at this place or a later one
+pub record MayStand (bytes : List ℕ) (from : ℕ) (part : List Lexeme) (w : Written) : Type 0 where
+  pub tokens : w.tokens ≡ part
+  pub whole : list_all is_whole part ≡ true
+  pub is : IsCommand bytes w.command part
+  pub ordered : from ≤ stage_of w
+
+abbrev pub AreCommands : List ℕ → ℕ → List (List Lexeme) → List Written → Type 0
+AreCommands bytes from [] [] = Unit {0}
+AreCommands bytes from [] (w ∷ ws) = ⊥
+AreCommands bytes from (p ∷ ps) [] = ⊥
+AreCommands bytes from (p ∷ ps) (w ∷ ws) = MayStand bytes from p w × AreCommands bytes (next_of w) ps ws
+
+-- the first part that is no command which may stand there, by its place
+abbrev pub IsFirstBad : List ℕ → ℕ → List (List Lexeme) → ℕ → Type 0
+IsFirstBad bytes from [] place = ⊥
+IsFirstBad bytes from (p ∷ ps) zero = (w : Written) → MayStand bytes from p w → ⊥
+IsFirstBad bytes from (p ∷ ps) (suc place) = (w : Written) × MayStand bytes from p w × IsFirstBad bytes (next_of w) ps place
+
+-- nothing stands before the first command, and the parts are the commands
+abbrev pub AreWritten : List ℕ → List Lexeme → List Written → Type 0
+AreWritten bytes tokens ws = ((parts tokens).0 ≡ []) × AreCommands bytes 0 (parts tokens).1 ws
+
+-- commands are numbered from 1, and 0 is what stands before the first
+abbrev pub IsBadCommand : List ℕ → List Lexeme → ℕ → Type 0
+IsBadCommand bytes tokens zero = (parts tokens).0 ≡ [] → ⊥
+IsBadCommand bytes tokens (suc place) = ((parts tokens).0 ≡ []) × IsFirstBad bytes 0 (parts tokens).1 place
+
+-- the bytes are the script that the tree writes down
+abbrev pub IsScript : List ℕ → Syntax → Type 0
+IsScript bytes s = (s.text ≡ bytes) × AreWritten bytes (lexemes_of bytes) s.commands
+
+-- the first command that is not well formed
+abbrev pub IsFault : List ℕ → ℕ → Type 0
+IsFault bytes n = IsBadCommand bytes (lexemes_of bytes) n
+
+abbrev pub Tells : List ℕ → Result Syntax SyntaxFault → Type 0
+Tells bytes (Ok s) = IsScript bytes s
+Tells bytes (Err (fault.At n)) = IsFault bytes n
+Tells bytes (Err fault.Memory) = Unit {0}
+
+-- the command is written in a text: its tokens are among those of the text
+pub record IsWritten (bytes : List ℕ) (w : Written) : Type 0 where
+  pub is : IsCommand bytes w.command w.tokens
+  pub among : All (λ t. Contains (lexemes_of bytes) t) w.tokens

@@ -1,0 +1,4 @@
+pub mod Heads
+pub mod Vectors
+pub mod Commands
+pub mod Parts

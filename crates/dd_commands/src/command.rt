@@ -1,0 +1,102 @@
+// Commands as they are written.
+use crate::table::Question;
+use dd_topology::Kind;
+use dd_values::Items;
+use dd_written::{Formula, Name, Number, Word};
+
+/// An entry of a vector.
+#[derive(Clone, Copy, Debug, PartialEq, Eq)]
+pub enum Entry {
+    Number(Number),
+    Negative(Number),
+}
+
+/// Whole numbers in brackets.
+#[derive(Debug, Drop)]
+pub struct Vector {
+    pub entries: Items<Entry>,
+}
+
+/// An edge of a topology: `(label from [offset] to)`.
+#[derive(Debug, Drop)]
+pub struct Edge {
+    pub label: Word,
+    pub from: Name,
+    pub offset: Vector,
+    pub to: Name,
+}
+
+/// A case of an automaton: `when condition give symbol`.
+#[derive(Debug, Drop)]
+pub struct Case {
+    pub condition: Formula,
+    pub symbol: Name,
+}
+
+/// A question with what stands behind its first word: as many words, numbers and vectors as its row says.
+#[derive(Debug, Drop)]
+pub struct Request {
+    pub question: Question,
+    pub words: Items<Word>,
+    pub numbers: Items<Number>,
+    pub vectors: Items<Vector>,
+}
+
+/// A command, without its `%` and its first word.
+#[derive(Debug, Drop)]
+pub enum Command {
+    Dimension {
+        number: Number,
+    },
+    /// One name or more.
+    Nodes {
+        names: Items<Name>,
+    },
+    /// One name or more.
+    Alphabet {
+        names: Items<Name>,
+    },
+    Topology {
+        kind: Kind,
+    },
+    /// One edge or more.
+    Edges {
+        edges: Items<Edge>,
+    },
+    /// One symbol or more.
+    Only {
+        node: Name,
+        symbols: Items<Name>,
+    },
+    /// One weight or more.
+    Weights {
+        weights: Items<Number>,
+    },
+    Limits {
+        radius: Number,
+        period: Number,
+        pivots: Number,
+    },
+    Rule {
+        name: Word,
+        formula: Formula,
+    },
+    Automaton {
+        name: Word,
+        cases: Items<Case>,
+        default: Name,
+    },
+    Composition {
+        name: Word,
+        outer: Word,
+        inner: Word,
+    },
+    /// Periods and shear without negative numbers, and one symbol or more.
+    Configuration {
+        name: Word,
+        periods: Vector,
+        shear: Option<Vector>,
+        symbols: Items<Name>,
+    },
+    Query(Request),
+}

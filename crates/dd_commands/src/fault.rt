@@ -1,0 +1,24 @@
+// Why nothing was read.
+ghost use Rattle.std.specs.Prelude.{◌≡◌};
+ghost use Rattle.dd_commands.specs.declared.fault.SyntaxFault.TheVariants.{Memory};
+
+use std::alloc::AllocError;
+use thiserror::Error;
+
+/// Why a script has no syntax tree.
+#[derive(Clone, Copy, Debug, PartialEq, Eq, Error)]
+pub enum SyntaxFault {
+    /// This command is the first that is not well formed. Commands are numbered from 1; 0 is what stands before the first.
+    #[error("command {command} is not well formed")]
+    At { command: u32 },
+    #[error("out of memory")]
+    Memory,
+}
+
+impl From<AllocError> for SyntaxFault {
+    ghost from_gives = { λ _ fault. fault ≡ Memory };
+
+    fn from(_error: AllocError) -> SyntaxFault {
+        SyntaxFault::Memory
+    }
+}

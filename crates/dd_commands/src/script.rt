@@ -1,0 +1,205 @@
+//! The script, command by command.
+ghost use Rattle.std.specs.Prelude.{◌≡◌, [], ◌∷◌, ◌+◌, ◌<◌, ◌≤◌, length, IfOk, All};
+ghost use Rattle.std.specs.List.{prefix_len, list_all};
+ghost use Rattle.dd_commands.specs.Heads.{stage, is_once, next_stage, head_of};
+ghost use Rattle.dd_commands.specs.Scripts.{parts, is_whole, stage_of, next_of, MayStand, IsWritten, Tells};
+ghost use Rattle.dd_commands.specs.reading.Parts.{is_inside, Decides, Told};
+
+use crate::bodies::command;
+use crate::command::Command;
+use crate::fault::SyntaxFault;
+use crate::head::Head;
+use dd_values::Items;
+use dd_written::{Lexeme, Mark, ReadFault, Text, ascii_bytes, formula_is_read, lexemes};
+use std::alloc::Global;
+
+/// A command and its tokens, behind its mark.
+#[derive(Debug, Drop)]
+pub struct Written {
+    pub tokens: Items<Lexeme>,
+    pub command: Command,
+}
+
+/// What is written in a script: its text, and its commands in order. Commands are numbered from 1, as they stand.
+#[derive(Debug, Drop)]
+pub struct Syntax {
+    pub text: Text,
+    pub commands: Items<Written>,
+}
+
+fn is_inside(token: Lexeme) -> bool
+    ensures { result ≡ is_inside token }
+{
+    !matches!(token, Lexeme::Mark(Mark::Percent))
+}
+
+/// How many tokens stand before the next mark of a command.
+fn part_length(tokens: &[Lexeme]) -> usize
+    ensures value { result ≡ prefix_len is_inside tokens.now }
+    ensures within { result ≤ length tokens.now }
+{
+    tokens.iter().take_while(|token| is_inside(**token)).count()
+}
+
+/// The part behind a mark, and what follows it.
+fn next_part(tokens: &[Lexeme]) -> (&[Lexeme], &[Lexeme])
+    requires some { 0 < length tokens.now }
+    requires at_mark { (parts tokens.now).0 ≡ [] }
+    ensures part { (parts tokens.now).1 ≡ result.0.now ∷ (parts result.1.now).1 }
+    ensures at_mark { (parts result.1.now).0 ≡ [] }
+    ensures shorter { length result.1.now < length tokens.now }
+{
+    let after = tokens.split_at(1).1;
+    after.split_at(part_length(after))
+}
+
+impl Head {
+    /// The place in the order of commands: each stands behind all of a lower place.
+    fn stage(self) -> u32
+        ensures value { result ≡ stage self }
+        ensures within { result ≤ 7 }
+    {
+        match self {
+            Head::Dimension => 0,
+            Head::Nodes => 1,
+            Head::Alphabet => 2,
+            Head::Topology => 3,
+            Head::Only => 4,
+            Head::Weights => 5,
+            Head::Limits => 6,
+            Head::Rule
+            | Head::Automaton
+            | Head::Composition
+            | Head::Configuration
+            | Head::Question(_) => 7,
+        }
+    }
+
+    /// Whether a script may give such a command only once.
+    fn is_once(self) -> bool
+        ensures { result ≡ is_once self }
+    {
+        match self {
+            Head::Dimension
+            | Head::Nodes
+            | Head::Alphabet
+            | Head::Topology
+            | Head::Weights
+            | Head::Limits => true,
+            Head::Only
+            | Head::Rule
+            | Head::Automaton
+            | Head::Composition
+            | Head::Configuration
+            | Head::Question(_) => false,
+        }
+    }
+
+    /// The first place at which a command may stand behind this one.
+    fn next_stage(self) -> u32
+        ensures { result ≡ next_stage self }
+    {
+        if self.is_once() {
+            self.stage() + 1
+        } else {
+            self.stage()
+        }
+    }
+}
+
+impl Command {
+    fn head(&self) -> Head
+        ensures { result ≡ head_of self.now }
+    {
+        match self {
+            Command::Dimension { .. } => Head::Dimension,
+            Command::Nodes { .. } => Head::Nodes,
+            Command::Alphabet { .. } => Head::Alphabet,
+            Command::Topology { .. } | Command::Edges { .. } => Head::Topology,
+            Command::Only { .. } => Head::Only,
+            Command::Weights { .. } => Head::Weights,
+            Command::Limits { .. } => Head::Limits,
+            Command::Rule { .. } => Head::Rule,
+            Command::Automaton { .. } => Head::Automaton,
+            Command::Composition { .. } => Head::Composition,
+            Command::Configuration { .. } => Head::Configuration,
+            Command::Query(request) => Head::Question(request.question),
+        }
+    }
+}
+
+/// Whether a token is one, and no byte that belongs to none.
+fn is_whole(token: Lexeme) -> bool
+    ensures { result ≡ is_whole token }
+{
+    !matches!(token, Lexeme::Stray)
+}
+
+fn are_whole(part: &[Lexeme]) -> bool
+    ensures { result ≡ list_all is_whole part.now }
+{
+    part.iter().all(|token| is_whole(*token))
+}
+
+/// A command that may stand at this place or a later one.
+fn command_from(
+    alloc: Global,
+    bytes: &[u8],
+    from: u32,
+    part: &[Lexeme],
+) -> Result<Written, ReadFault>
+    ensures { Decides result (MayStand bytes.now from part.now) }
+{
+    formula_is_read();
+    if !are_whole(part) {
+        return Err(ReadFault::Syntax);
+    }
+    let command = command(alloc, bytes, part)?;
+    if command.head().stage() < from {
+        return Err(ReadFault::Syntax);
+    }
+    let tokens = Items::from_slice(alloc, part)?;
+    Ok(Written { tokens, command })
+}
+
+fn commands(alloc: Global, bytes: &[u8], tokens: &[Lexeme]) -> Result<Items<Written>, SyntaxFault>
+    requires { length tokens.now ≤ 1048577 }
+    ensures { Told bytes.now tokens.now result }
+{
+    if part_length(tokens) > 0 {
+        return Err(SyntaxFault::At { command: 0 });
+    }
+    let mut commands = Items::new(alloc);
+    let mut number = 0;
+    let mut from = 0;
+    let mut rest = tokens;
+    while !rest.is_empty() {
+        let (part, next) = next_part(rest);
+        match command_from(alloc, bytes, from, part) {
+            Ok(written) => {
+                from = written.command.head().next_stage();
+                commands.push(written)?;
+            }
+            Err(ReadFault::Memory) => return Err(SyntaxFault::Memory),
+            Err(ReadFault::Syntax) => return Err(SyntaxFault::At {
+                command: number + 1,
+            }),
+        }
+        number += 1;
+        rest = next;
+    }
+    Ok(commands)
+}
+
+/// The syntax tree of a script of at most 1,048,576 bytes, or the first command that is not well formed.
+pub fn read(alloc: Global, bytes: &[u8]) -> Result<Syntax, SyntaxFault>
+    requires { length bytes.now ≤ 1048576 }
+    ensures tells { Tells bytes.now result }
+    ensures written { IfOk result (λ s. All (IsWritten s.text) s.commands) }
+{
+    ascii_bytes();
+    let lexemes = lexemes(alloc, bytes)?;
+    let commands = commands(alloc, bytes, lexemes.as_slice())?;
+    let text = Text::new(alloc, bytes)?;
+    Ok(Syntax { text, commands })
+}
