@@ -85,7 +85,7 @@ pub record IsRequest (r : Request) : Type 0 where
   pub vectors : AreLists (row r.question).lists r.vectors
 
 abbrev pub request_text : Request → List Lexeme
-request_text r = map lexeme.Word r.words ++ map lexeme.Number r.numbers ++ flat_map vector_text r.vectors
+request_text r = map lexeme.Word r.words ++ (map lexeme.Number r.numbers ++ flat_map vector_text r.vectors)
 
 -- ---- commands
 
@@ -104,7 +104,7 @@ IsBody bytes (command.Automaton name cases symbol) tokens = (rest : List Lexeme)
 IsBody bytes (command.Composition name outer inner) tokens = tokens ≡ lexeme.Word name ∷ lexeme.Word outer ∷ lexeme.Word inner ∷ []
 IsBody bytes (command.Configuration name periods shear symbols) tokens =
     (1 ≤ length symbols) × (is_plain periods ≡ true) × IsPlainShear shear
-    × (tokens ≡ lexeme.Word name ∷ vector_text periods ++ shear_text shear ++ map name_lexeme symbols)
+    × (tokens ≡ lexeme.Word name ∷ vector_text periods ++ (shear_text shear ++ map name_lexeme symbols))
 IsBody bytes (command.Query r) tokens = IsRequest r × (tokens ≡ request_text r)
 
 -- the tokens behind the mark
