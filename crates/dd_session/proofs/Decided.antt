@@ -51,7 +51,7 @@ module _ (one_script : OneScript) (never_both : NeverBoth) where
           script = ran.run.script;
           runnable = subst (λ (l : List ℕ). IsRunnable l ran.run.script) (sym same) ran.run.runnable;
         };
-        open = ran.run.open;
+        is_open = ran.run.is_open;
       }
 
   pub decided : {S K : Type 0} (source : Told S) (sink : Told K) (status : Status) → Ended source sink status

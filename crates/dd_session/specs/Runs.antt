@@ -1,5 +1,5 @@
 -- What a run read and wrote, by how it ended.
-use Rattle.std.specs.Prelude.{◌≡◌, ◌⊎◌, ℕ, ◌+◌, ◌≤◌, List, [], ◌++◌, length, Bool, true, false}
+use Rattle.std.specs.Prelude.{◌≡◌, ◌⊎◌, ℕ, ◌≤◌, List, [], ◌++◌, length, Bool, true, false}
 use Rattle.std.specs.declared.option.Option.{Option}
 use Rattle.std.specs.Io.KnownBytes.{Appends}
 use Rattle.dd_values.specs.Counts.{Rose}
@@ -10,7 +10,7 @@ use Rattle.dd_script.specs.Parts.{Parts}
 use Rattle.dd_script.specs.Scripts.{Spells, RefusedAs, Kind}
 use Rattle.dd_session.specs.declared.status.Status.{Status}
 use Rattle.dd_session.specs.declared.status.Status.TheVariants.{Definite, SomeUnknown, Refused, ReadFault, WriteFault, Memory, BadWords, Rejected}
-use Rattle.dd_session.specs.Answers.{AllRight, IsOpen, IsOpenAs, are_answered, has_unknown, texts}
+use Rattle.dd_session.specs.Answers.{AllRight, IsOpenAs, are_answered, has_unknown, texts}
 use Rattle.dd_session.specs.Output.{header, end_line, output_of, early_line, long_line, refused_line}
 
 -- The greatest number of bytes of a script.
@@ -58,7 +58,7 @@ pub record WholeRun (old new : Option (List ℕ)) (bytes : List ℕ) (has : Bool
   pub script : Parts
   pub runnable : IsRunnable bytes script
   pub output : WholeOutput old new bytes script has
-  pub open : IsOpenAs has script
+  pub is_open : IsOpenAs has script
 
 -- The bytes are such a script, and a front of its output was written.
 pub record ShortRun (old new : Option (List ℕ)) (bytes : List ℕ) : Type 0 where
@@ -185,7 +185,7 @@ Ended source sink Rejected = ⊥
 -- The bytes are a script that is run, and some query of it has no definite answer, or none is so.
 pub record IsAcceptedAs (has : Bool) (bytes : List ℕ) : Type 0 where
   pub accepted : IsAccepted bytes
-  pub open : IsOpenAs has accepted.script
+  pub is_open : IsOpenAs has accepted.script
 
 -- What the bytes decide of the status, where the source told them.
 pub record Decides (bytes : List ℕ) (status : Status) : Type 0 where

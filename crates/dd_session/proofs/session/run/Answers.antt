@@ -1,4 +1,4 @@
-use Rattle.dd_session.proofs.Decided.{ended_run, ended_long, never_ran, never_refused, took_all}
+use Rattle.dd_session.proofs.Decided.{ended_run, never_ran, took_all}
 use Rattle.dd_session.proofs.session.run.Goals as goal
 
 pub returns-in-Ok-clause-ended : goal.returns-in-Ok-clause-ended

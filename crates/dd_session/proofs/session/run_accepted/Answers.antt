@@ -1,0 +1,6 @@
+use Rattle.dd_session.proofs.Open.{whole_over}
+use Rattle.dd_session.proofs.session.run_accepted.Goals as goal
+
+pub returns-in-Ok-clause-ran : goal.returns-in-Ok-clause-ran
+returns-in-Ok-clause-ran g c =
+    whole_over _ c.args.bytes.now c.args.script.now c.in-Ok.has_unknown _ c.one_line.ensures c.requires c.in-Ok.ensures.whole c.status_of.ensures
