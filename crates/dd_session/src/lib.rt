@@ -8,6 +8,3 @@ mod stream;
 
 pub use session::run_diddy;
 pub use status::Status;
-
-#[cfg(test)]
-mod tests;

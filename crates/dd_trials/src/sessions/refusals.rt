@@ -1,6 +1,6 @@
 // Texts that are refused, and how their lines go on.
 use super::run_on;
-use crate::Status;
+use dd_session::Status;
 use std::alloc::Global;
 use std::process::Abort;
 use std::test::Fail;
@@ -37,11 +37,6 @@ const NOT_WELL_FORMED: [(&[u8], &str); 17] = [
     (b"%rule a o=0 early", "1 syntax"),
 ];
 
-#[test]
-fn refuses_what_is_not_well_formed(rt: HostRuntime) -> Result<(), Fail> {
-    assert_refused(&rt, rt.alloc(), &NOT_WELL_FORMED)
-}
-
 // Names that are unknown or given twice.
 const FAULTS_OF_NAMES: [(&[u8], &str); 13] = [
     (b"%rule a o=0 %member c a", "2 unknown c"),
@@ -73,13 +68,6 @@ const FAULTS_OF_NUMBERS: [(&[u8], &str); 9] = [
     (b"%conf c [0 1] 0", "1 dimension"),
     (b"%rule a o=0 %density a [1 1]", "2 dimension"),
 ];
-
-#[test]
-fn refuses_faults_of_names_and_numbers(rt: HostRuntime) -> Result<(), Fail> {
-    let alloc = rt.alloc();
-    assert_refused(&rt, alloc, &FAULTS_OF_NAMES)?;
-    assert_refused(&rt, alloc, &FAULTS_OF_NUMBERS)
-}
 
 // With limits that are just not passed, by queries that are not answered.
 const PAST_A_LIMIT: [(&[u8], &str); 18] = [
@@ -117,6 +105,10 @@ const PAST_A_LIMIT: [(&[u8], &str); 18] = [
 ];
 
 #[test]
-fn refuses_what_passes_a_limit(rt: HostRuntime) -> Result<(), Fail> {
-    assert_refused(&rt, rt.alloc(), &PAST_A_LIMIT)
+fn refuses_what_is_no_script(rt: HostRuntime) -> Result<(), Fail> {
+    let alloc = rt.alloc();
+    assert_refused(&rt, alloc, &NOT_WELL_FORMED)?;
+    assert_refused(&rt, alloc, &FAULTS_OF_NAMES)?;
+    assert_refused(&rt, alloc, &FAULTS_OF_NUMBERS)?;
+    assert_refused(&rt, alloc, &PAST_A_LIMIT)
 }

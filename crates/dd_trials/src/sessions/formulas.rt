@@ -1,10 +1,10 @@
 // What formulas say, by configurations in which they are true, or false first at a cell that was found by hand.
-use super::{assert_answers, run_on};
+use super::run_on;
 use std::alloc::{AllocError, Global};
 use std::test::Fail;
 
 // A formula at both nodes of the hexagonal lattice, and a move that is missing at the second node.
-const NODES_AND_MOVES: [(&str, &str); 5] = [
+pub(crate) const NODES_AND_MOVES: [(&str, &str); 5] = [
     // A formula at both nodes of the hexagonal lattice.
     (
         "%topology hex %rule free Ap[o1] (p~o -> !(p=1 & o=1)) %conf c [1 1] 1 0 %member c free",
@@ -30,7 +30,7 @@ const NODES_AND_MOVES: [(&str, &str); 5] = [
 ];
 
 // Domination on each of the built-in topologies.
-const DOMINATION: [(&str, &str); 6] = [
+pub(crate) const DOMINATION: [(&str, &str); 6] = [
     (
         "%dim 1 %rule dom Ep[o1] p=1 %conf c [3] 0 1 0 %conf d [4] 0 1 0 0 %member c dom %member d dom",
         "query 1 IN\nquery 2 OUT 3 0\n",
@@ -57,15 +57,8 @@ const DOMINATION: [(&str, &str); 6] = [
     ),
 ];
 
-#[test]
-fn formulas_speak_of_nodes_and_moves(rt: HostRuntime) -> Result<(), Fail> {
-    let alloc = rt.alloc();
-    assert_answers(&rt, alloc, &NODES_AND_MOVES)?;
-    assert_answers(&rt, alloc, &DOMINATION)
-}
-
 // Each atom, true and false.
-const ATOMS: [(&str, &str); 5] = [
+pub(crate) const ATOMS: [(&str, &str); 5] = [
     (
         "%dim 1 %conf c [2] 0 1 %rule a o=0 %rule b o!=1 %rule d o=0 | o=1 %member c a %member c b %member c d",
         "query 1 OUT 1 0\nquery 2 OUT 1 0\nquery 3 IN\n",
@@ -89,7 +82,7 @@ const ATOMS: [(&str, &str); 5] = [
 ];
 
 // Each connective, and quantifiers over one ball and over two.
-const CONNECTIVES_AND_QUANTIFIERS: [(&str, &str); 2] = [
+pub(crate) const CONNECTIVES_AND_QUANTIFIERS: [(&str, &str); 2] = [
     // Each connective.
     (
         "%dim 1 %alphabet 0 1 2 3 %conf c [4] 0 1 2 3 %rule a !(o=1 | o=2) -> (o=0 | o=3) %rule b (o=0 | o=1) <-> (o!=2 & o!=3) %rule d o=0 | o=1 -> o=1 %rule e o=0 <-> o=1 <-> o=2 %member c a %member c b %member c d %member c e",
@@ -101,13 +94,6 @@ const CONNECTIVES_AND_QUANTIFIERS: [(&str, &str); 2] = [
         "query 1 IN\nquery 2 OUT 2 0\n",
     ),
 ];
-
-#[test]
-fn each_atom_connective_and_quantifier(rt: HostRuntime) -> Result<(), Fail> {
-    let alloc = rt.alloc();
-    assert_answers(&rt, alloc, &ATOMS)?;
-    assert_answers(&rt, alloc, &CONNECTIVES_AND_QUANTIFIERS)
-}
 
 // A node that is further than a rule may read from the node two moves away.
 const FAR: &str = "p.rt.rt.rt.rt.rt.rt.rt.rt.rt.rt.rt.rt.rt.rt.rt";

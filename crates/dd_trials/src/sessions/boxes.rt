@@ -1,18 +1,18 @@
 // Box questions, by their answers' first lines.
 use super::words_of;
-use crate::run_diddy;
 use dd_outside::{MemorySink, MemorySource};
+use dd_session::{Status, run_diddy};
 use std::alloc::Global;
 use std::process::Abort;
 use std::test::Fail;
 
-// The lines with the answers of a run over these bytes.
-fn answer_lines(alloc: Global, script: &str) -> Result<String, Fail> {
+// The status of a run over these bytes, and the first lines of its answers.
+fn answer_lines(alloc: Global, script: &str) -> Result<(Status, String), Fail> {
     let words = words_of(alloc, "run")?;
     let bytes = Vec::from_slice(alloc, script.as_bytes())?;
     let mut source = MemorySource::new(bytes, 1_000, Vec::new(alloc));
     let mut sink = MemorySink::new(alloc, 1_000_000, 1_000_000, Vec::new(alloc))?;
-    let _ = run_diddy(alloc, &words, &mut source, &mut sink);
+    let status = run_diddy(alloc, &words, &mut source, &mut sink);
     let mut lines = String::new(alloc);
     let output = String::from_utf8(Vec::from_slice(alloc, sink.held_bytes())?)?;
     for line in output.lines() {
@@ -21,14 +21,21 @@ fn answer_lines(alloc: Global, script: &str) -> Result<String, Fail> {
             lines.push('\n')?;
         }
     }
-    Ok(lines)
+    Ok((status, lines))
 }
 
-// Asserts that each script has the first lines of answers that stand beside it.
+// Asserts that each script has the first lines of answers that stand beside it, and the status that tells whether one is
+// unknown.
 fn assert_lines(rt: &impl Abort, alloc: Global, rows: &[(&str, &str)]) -> Result<(), Fail> {
     for (script, answers) in rows {
-        let lines = answer_lines(alloc, script)?;
+        let (status, lines) = answer_lines(alloc, script)?;
         assert_eq!(rt; lines.as_str(), *answers, "{script}");
+        let wanted = if answers.contains("UNKNOWN") {
+            Status::SomeUnknown
+        } else {
+            Status::Definite
+        };
+        assert_eq!(rt; status, wanted, "{script}");
     }
     Ok(())
 }
@@ -58,7 +65,7 @@ const CONTAINED_OR_EQUAL: [(&str, &str); 5] = [
 ];
 
 // With limits of boxes and periods that are reached or not.
-const LIMITS_OF_BOXES: [(&str, &str); 5] = [
+const LIMITS_OF_BOXES: [(&str, &str); 6] = [
     (
         "%dim 1 %limits 3 4 10000 %rule dies (o=1 -> o.rt=1) & !(o=1 & o.rt=1 & o.rt.rt=1) %rule zero o=0 %contains zero dies",
         "query 1 YES 3\n",
@@ -74,6 +81,11 @@ const LIMITS_OF_BOXES: [(&str, &str); 5] = [
     (
         "%dim 1 %alphabet 0 1 2 %limits 4 3 10 %rule cyc (o=0 -> o.rt=1) & (o=1 -> o.rt=2) & (o=2 -> o.rt=0) %rule no o!=1 %contains no cyc",
         "query 1 NO 3\n",
+    ),
+    // A definite answer after one that is unknown.
+    (
+        "%dim 1 %alphabet 0 1 2 %limits 4 2 10 %rule cyc (o=0 -> o.rt=1) & (o=1 -> o.rt=2) & (o=2 -> o.rt=0) %rule no o!=1 %contains no cyc %empty no",
+        "query 1 UNKNOWN limits\nquery 2 NO 1\n",
     ),
     (
         "%limits 3 3 10 %rule dies (o=1 -> o.rt=1) & !(o=1 & o.rt=1 & o.rt.rt=1) %rule zero o=0 %contains zero dies",

@@ -1,7 +1,7 @@
 // Whole runs that no clause tells: what scripts mean and how texts are refused, in words of the outside, and that each
 // fault is answered where it comes.
-use crate::{Status, run_diddy};
 use dd_outside::{MemorySink, MemorySource};
+use dd_session::{Status, run_diddy};
 use std::alloc::{AllocError, Global};
 use std::process::Abort;
 use std::test::Fail;
@@ -123,7 +123,11 @@ fn answers_queries_of_membership(rt: HostRuntime) -> Result<(), Fail> {
     assert_answers(&rt, alloc, &NO_QUERIES)?;
     assert_answers(&rt, alloc, &MEMBERS)?;
     assert_answers(&rt, alloc, &MEMBERS_ELSEWHERE)?;
-    assert_answers(&rt, alloc, &WORDS_AND_TOKENS)
+    assert_answers(&rt, alloc, &WORDS_AND_TOKENS)?;
+    assert_answers(&rt, alloc, &formulas::NODES_AND_MOVES)?;
+    assert_answers(&rt, alloc, &formulas::DOMINATION)?;
+    assert_answers(&rt, alloc, &formulas::ATOMS)?;
+    assert_answers(&rt, alloc, &formulas::CONNECTIVES_AND_QUANTIFIERS)
 }
 
 #[test]
