@@ -3,3 +3,8 @@ pub mod Asking
 pub mod Literals
 pub mod Following
 pub mod Passing
+pub mod Counting
+pub mod Flipping
+pub mod Finding
+pub mod Places
+pub mod Walking

@@ -8,7 +8,13 @@ pub mod Tallies
 pub mod Rosters
 -- refutations by a single step
 pub mod SingleSteps
+-- a walk through assignments
+pub mod Walks
+-- how many flips a walker makes
+pub mod Walkers
 -- what the asking of one engine shows
 pub mod asking
 -- what follows by unit propagation from nothing
 pub mod propagation
+-- how many literals of each clause are true
+pub mod walking

@@ -8,9 +8,13 @@ mod propagation;
 mod propagator;
 mod roster;
 mod tally;
+mod truths;
+mod walk;
+mod walker;
 
 pub use engine::{Engine, Proposal};
 pub use laws::{first_asked_earlier, kept_is_reflexive, kept_is_transitive, rounds_keep};
 pub use propagator::Propagator;
 pub use roster::Roster;
 pub use tally::Tally;
+pub use walker::Walker;

@@ -1,0 +1,6 @@
+-- How many flips a walker makes at most.
+use Rattle.std.specs.Prelude.{ℕ}
+use Rattle.dd_engines.specs.declared.walker.Walker.{Walker}
+
+abbrev pub flips_of : Walker → ℕ
+flips_of walker = walker.flips

@@ -1,0 +1,49 @@
+-- A walk through assignments: each flip makes a literal of the first clause without a true literal true.
+use Rattle.std.specs.Prelude.{◌≡◌, ℕ, zero, suc, ◌+◌, ◌-◌, ◌%◌, ◌<◌, ◌≤◌, Bool, false, not, List, Option, Some, length, replicate, slice_get, slice_set}
+use Rattle.std.specs.List.{find}
+use Rattle.std.specs.Option.{option_map, option_and_then}
+use Rattle.dd_clause.specs.declared.clause.Literal.{Literal}
+use Rattle.dd_clause.specs.Clauses.{ClauseList, is_clause_true, true_variables}
+use Rattle.dd_engines.specs.declared.engine.Proposal.{Proposal}
+use Rattle.dd_engines.specs.declared.engine.Proposal.TheVariants.{Nothing, Found, Refutation}
+use Rattle.dd_engines.specs.Proposals.{IsSatisfying}
+
+-- the clause has no true literal
+abbrev pub is_unsatisfied : List Bool → List Literal → Bool
+is_unsatisfied values clause = not (is_clause_true (true_variables values) clause)
+
+-- the first clause without a true literal, if there is one
+abbrev pub first_unsatisfied : List Bool → List (List Literal) → Option (List Literal)
+first_unsatisfied values clauses = find (is_unsatisfied values) clauses
+
+-- the values with a literal made true
+abbrev pub made_true : List Bool → Literal → List Bool
+made_true values l = slice_set values (l.variable - 1) l.positive
+
+-- Flip number k makes the clause's literal number k modulo its length true. An empty clause has none.
+abbrev pub flipped : ℕ → List Bool → List Literal → Option (List Bool)
+flipped k values clause = option_map (made_true values) (slice_get clause (k % length clause))
+
+-- The values after k flips, from all variables false on. There are none where an earlier flip finds no clause without a
+-- true literal, or an empty one.
+abbrev pub after : ClauseList → ℕ → Option (List Bool)
+after cnf zero = Some (replicate cnf.variables false)
+after cnf (suc k) = option_and_then (λ values. option_and_then (flipped k values) (first_unsatisfied values cnf.clauses)) (after cnf k)
+
+-- after none of the first so many flips the values satisfy the clauses
+abbrev pub NoneBefore : ClauseList → ℕ → Type 0
+NoneBefore cnf count = (k : ℕ) (values : List Bool) → k < count → after cnf k ≡ Some values → IsSatisfying cnf values → ⊥
+
+-- the values are the first on the walk that satisfy the clauses
+pub record IsFirst (cnf : ClauseList) (flips : ℕ) (values : List Bool) : Type 0 where
+  pub count : ℕ
+  pub few : count ≤ flips
+  pub reached : after cnf count ≡ Some values
+  pub satisfying : IsSatisfying cnf values
+  pub none_before : NoneBefore cnf count
+
+-- the first assignment of the walk, after at most so many flips, that satisfies the clauses; nothing where none does
+abbrev pub ProposesFirst : ClauseList → ℕ → Proposal → Type 0
+ProposesFirst cnf flips Nothing = NoneBefore cnf (flips + 1)
+ProposesFirst cnf flips (Found values) = IsFirst cnf flips values
+ProposesFirst cnf flips (Refutation steps) = ⊥

@@ -1,0 +1,63 @@
+-- How many literals of each clause are true, where each literal stands, and how a flip changes the numbers.
+use Rattle.std.specs.Prelude.{◌≡◌, ℕ, ◌+◌, ◌-◌, ◌*◌, ◌^◌, ◌<◌, ◌≤◌, ◌==◌, min, if◌then◌else◌, Bool, false, List, [], ◌∷◌, ◌++◌, length, replicate, count_by, slice_get, slice_index_or, slice_set}
+use Rattle.std.specs.Option.{option_map_or}
+use Rattle.dd_clause.specs.declared.clause.Literal.{Literal}
+use Rattle.dd_clause.specs.Clauses.{is_true, true_variables}
+use Rattle.dd_derivation.specs.Derivations.{same_literal}
+
+-- how many literals of the clause are true
+abbrev pub true_count : List Bool → List Literal → ℕ
+true_count values clause = count_by (is_true (true_variables values)) clause
+
+-- how often the clause has the literal
+abbrev pub times_in : Literal → List Literal → ℕ
+times_in l clause = count_by (same_literal l) clause
+
+-- the numbers, from first on, of the clauses that have the literal, once for each time
+abbrev pub standing : Literal → ℕ → List (List Literal) → List ℕ
+standing l first [] = []
+standing l first (c ∷ cs) = replicate (times_in l c) first ++ standing l (first + 1) cs
+
+-- the place of a literal's list: each variable has two
+abbrev pub place_of : Literal → ℕ
+place_of l = 2 * (l.variable - 1) + (if l.positive then 1 else 0)
+
+abbrev pub HasPlace : List (List ℕ) → Literal → Type 0
+HasPlace lists l = (1 ≤ l.variable) × (place_of l < length lists)
+
+abbrev pub list_of : List (List ℕ) → Literal → List ℕ
+list_of lists l = slice_index_or lists (place_of l) []
+
+-- each literal's list has the clauses where it stands
+abbrev pub Stands : List (List ℕ) → List (List Literal) → Type 0
+Stands lists clauses = (l : Literal) → HasPlace lists l → list_of lists l ≡ standing l 0 clauses
+
+-- a count of 64 bits, one more or one less
+abbrev pub more : ℕ → ℕ
+more count = min (count + 1) (2 ^ 64 - 1)
+
+abbrev pub less : ℕ → ℕ
+less count = count - 1
+
+-- the counts with those at these places changed, in turn
+abbrev pub changed : (ℕ → ℕ) → List ℕ → List ℕ → List ℕ
+changed f [] counts = counts
+changed f (k ∷ ks) counts = changed f ks (slice_set counts k (f (slice_index_or counts k 0)))
+
+-- the place has a count of 0
+abbrev pub is_none_at : List ℕ → ℕ → Bool
+is_none_at counts k = option_map_or (λ count. count == 0) (slice_get counts k) false
+
+-- exactly the places with a count of 0 are listed
+abbrev pub IsListed : List ℕ → (ℕ → Bool) → Type 0
+IsListed counts listed = (k : ℕ) → listed k ≡ is_none_at counts k
+
+-- no place has a count of 0
+abbrev pub NoneIsNone : List ℕ → Type 0
+NoneIsNone counts = (k : ℕ) → is_none_at counts k ≡ false
+
+-- the first place with a count of 0
+pub record IsFirstNone (counts : List ℕ) (place : ℕ) : Type 0 where
+  pub within : place < length counts
+  pub none : slice_index_or counts place 0 ≡ 0
+  pub before : (k : ℕ) → k < place → is_none_at counts k ≡ false

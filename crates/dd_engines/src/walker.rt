@@ -1,0 +1,64 @@
+//! The engine that walks: it tries the assignments of one walk, and keeps nothing of it. The walk is that of local search
+//! (Selman, Levesque and Mitchell 1992), with no chance in it.
+ghost use Rattle.std.specs.Prelude.{◌≡◌, ◌-◌, ◌^◌, ◌≤◌, true, IfOk, OnErr};
+ghost use Rattle.dd_engines.specs.Proposals.{IsRight, GivenAfter};
+ghost use Rattle.dd_engines.specs.Rounds.{RisesByOne};
+ghost use Rattle.dd_engines.specs.Walkers.{flips_of};
+ghost use Rattle.dd_engines.specs.Walks.{ProposesFirst};
+
+use crate::engine::{Engine, Proposal};
+use crate::tally::Tally;
+use crate::walk::first_found;
+use dd_clause::Cnf;
+use std::alloc::{AllocError, Global};
+
+/// Proposes the first assignment that satisfies, on a walk of at most so many flips. It starts with all variables false.
+/// The flip number k, from 0, takes the first clause without a true literal and makes its literal number k modulo its
+/// length true. Where none of these assignments satisfies, or the clause taken is empty, it proposes nothing.
+#[derive(Drop)]
+pub struct Walker {
+    flips: u32,
+    tally: Tally,
+}
+
+impl Walker {
+    pub fn new(flips: u32) -> Self
+        ensures flips { flips_of result ≡ flips }
+        ensures asked { ⟦<Walker as Engine>⟧.asked result ≡ 0 }
+        ensures given { ⟦<Walker as Engine>⟧.given result ≡ 0 }
+        ensures sound { ⟦<Walker as Engine>⟧.sound result ≡ true }
+    {
+        Walker {
+            flips,
+            tally: Tally::new(),
+        }
+    }
+}
+
+impl Engine for Walker {
+    ghost asked = { λ engine. engine.tally.asked };
+
+    ghost given = { λ engine. engine.tally.given };
+
+    ghost sound = { λ _. true };
+
+    fn propose(&mut self, alloc: Global, cnf: &Cnf) -> Result<Proposal, AllocError>
+        ensures asked { RisesByOne (⟦<Walker as Engine>⟧.asked self.old) (⟦<Walker as Engine>⟧.asked self.new) }
+        ensures given { IfOk result (GivenAfter (⟦<Walker as Engine>⟧.given self.old) (⟦<Walker as Engine>⟧.given self.new)) }
+        ensures no_memory { OnErr result (⟦<Walker as Engine>⟧.given self.new ≡ ⟦<Walker as Engine>⟧.given self.old) }
+        ensures fits { (⟦<Walker as Engine>⟧.asked self.new ≤ 2 ^ 64 - 1) × (⟦<Walker as Engine>⟧.given self.new ≤ 2 ^ 64 - 1) }
+        ensures same { ⟦<Walker as Engine>⟧.sound self.new ≡ ⟦<Walker as Engine>⟧.sound self.old }
+        ensures right { ⟦<Walker as Engine>⟧.sound self.old ≡ true → IfOk result (IsRight cnf.now) }
+        ensures exact { IfOk result (ProposesFirst cnf.now (flips_of self.old)) }
+        ensures flips { flips_of self.new ≡ flips_of self.old }
+    {
+        self.tally.ask();
+        match first_found(alloc, cnf, self.flips)? {
+            Some(assignment) => {
+                self.tally.give();
+                Ok(Proposal::Found(assignment))
+            }
+            None => Ok(Proposal::Nothing),
+        }
+    }
+}
