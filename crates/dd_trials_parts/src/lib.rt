@@ -10,6 +10,8 @@ mod derivations;
 #[cfg(test)]
 mod encodings;
 #[cfg(test)]
+mod engines;
+#[cfg(test)]
 mod fractions;
 #[cfg(test)]
 mod lattice;
