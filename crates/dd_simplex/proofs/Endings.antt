@@ -1,19 +1,16 @@
 -- At the end: the columns are feasible, the duals are, and both are worth the value, so that no columns give more.
-use Rattle.std.proofs.Common.{◌≡◌, ◌≢◌, ℕ, zero, suc, ◌+◌, ◌-◌, ◌<◌, ◌≤◌, List, length, Bool, true, false, cond, Option, Some, None, ⊎_elim, refl, sym, ap, subst, ◌∙◌, arith}
-use Rattle.std.specs.Bool.{nat_eq, nat_lt}
-use Rattle.std.proofs.lemmas.Bool.{cases_eq}
-use Rattle.std.proofs.lemmas.Int.{ints}
-use lib.IntN.{pos}
+use Rattle.std.proofs.Common.{◌≡◌, ◌≢◌, ℕ, zero, suc, ◌+◌, ◌-◌, ◌<◌, ◌≤◌, List, length, Bool, true, false, cond, None, refl, sym, ap, subst, ◌∙◌, arith}
+use Rattle.std.specs.Bool.{nat_lt}
 use Rattle.dd_fraction.specs.Exact.{Exact, plus, times, minus, low}
 use Rattle.dd_fraction.specs.Order.{IsNonneg, IsAtMost}
-use Rattle.dd_fraction.proofs.Laws.{plus_comm, plus_assoc, zero_plus, plus_zero, zero_times, times_zero, times_one, one_times, plus_minus, plus_undo, plus_cancel, plus_low_left, plus_low_right, low_plus, low_times, minus_minus, minus_plus, minus_times, minus_times_right}
+use Rattle.dd_fraction.proofs.Laws.{plus_comm, zero_plus, plus_zero, zero_times, times_zero, times_one, one_times, plus_minus, plus_undo, plus_cancel, plus_low_left, low_plus, low_times, minus_minus, minus_plus, minus_times, minus_times_right}
 use Rattle.dd_fraction.proofs.Lowest.{low_low, zero_is}
 use Rattle.dd_fraction.proofs.OrderLaws.{nonneg_lowest, nonneg_plus, nonneg_times, at_most_gap, at_most_from_gap}
-use Rattle.dd_simplex.specs.Programs.{LinearProgram, IsProgram, IsFeasible, AreDuals, IsBest, dual_worth, fraction_at, coefficient, bound_at, unit, total, zero_of, one_of}
-use Rattle.dd_simplex.specs.Dictionaries.{Dictionary, count, start}
+use Rattle.dd_simplex.specs.Programs.{LinearProgram, IsProgram, IsFeasible, IsBest, fraction_at, coefficient, bound_at, unit, total, zero_of, one_of}
+use Rattle.dd_simplex.specs.Dictionaries.{Dictionary, count}
 use Rattle.dd_simplex.specs.Runs.{entering, column_of, dual_of}
-use Rattle.dd_simplex.proofs.Totals.{eq_same, eq_other, total_low, total_same, total_none, total_pick, total_split, total_nonneg, zero_nonneg, zero_zero}
-use Rattle.dd_simplex.proofs.Equations.{coefficient_in, price, left_side, Holds, objective}
+use Rattle.dd_simplex.proofs.Totals.{eq_same, eq_other, total_low, total_same, total_none, total_pick, total_split, total_nonneg, zero_nonneg}
+use Rattle.dd_simplex.proofs.Equations.{coefficient_in, price, Holds}
 use Rattle.dd_simplex.proofs.Reaching.{IsReached, start_holds, start_says, entering_none}
 
 -- ---- orders from sums

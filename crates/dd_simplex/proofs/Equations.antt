@@ -1,15 +1,14 @@
 -- What a dictionary says of its variables: an equation for each basic one, and the objective. A pivot keeps what it says.
-use Rattle.std.proofs.Common.{◌≡◌, ◌≢◌, ℕ, zero, suc, ◌+◌, ◌<◌, ◌≤◌, Bool, true, false, not, ◌&&◌, ◌||◌, cond, ⊎_elim, refl, sym, ap, subst, ◌∙◌, arith}
+use Rattle.std.proofs.Common.{◌≡◌, ◌≢◌, ℕ, ◌<◌, Bool, true, false, ◌&&◌, cond, ⊎_elim, refl, sym, ap, subst, ◌∙◌, arith}
 use Rattle.std.specs.Bool.{nat_eq}
 use Rattle.std.proofs.lemmas.Bool.{cases_eq}
-use lib.IntN.{pos}
-use Rattle.dd_fraction.specs.Exact.{Exact, plus, times, minus, inverse, low, whole_of}
-use Rattle.dd_fraction.specs.Order.{IsNonneg, IsPositive}
-use Rattle.dd_fraction.proofs.Laws.{plus_comm, plus_assoc, times_comm, times_assoc, times_plus, plus_times, zero_plus, plus_zero, zero_times, times_zero, times_one, one_times, plus_minus, plus_four, plus_cancel, plus_low_left, plus_low_right, times_low_left, times_low_right, low_plus, low_times, minus_times, minus_times_right, minus_plus}
+use Rattle.dd_fraction.specs.Exact.{Exact, plus, times, minus, inverse, low}
+use Rattle.dd_fraction.specs.Order.{IsPositive}
+use Rattle.dd_fraction.proofs.Laws.{times_comm, times_assoc, times_plus, zero_plus, plus_zero, zero_times, times_zero, times_one, plus_minus, plus_four, plus_cancel, plus_low_right, low_plus, low_times, minus_times}
 use Rattle.dd_fraction.proofs.Lowest.{zero_is, one_is}
 use Rattle.dd_fraction.proofs.OrderLaws.{times_inverse_positive}
 use Rattle.dd_simplex.specs.Programs.{total, zero_of, one_of}
-use Rattle.dd_simplex.specs.Dictionaries.{Dictionary, pivoted, quotient, new_bound, new_entry, less_product}
+use Rattle.dd_simplex.specs.Dictionaries.{Dictionary, pivoted, new_bound, new_entry, less_product}
 use Rattle.dd_simplex.proofs.Totals.{sum_scaled, sum_with, total_low}
 
 -- the coefficient of w in the equation of the basic variable v, and in the objective

@@ -8,6 +8,7 @@ pub mod PivotStanding
 pub mod PivotTests
 pub mod Places
 pub mod Reaching
+pub mod Running
 pub mod Standing
 pub mod Starting
 pub mod Totals

@@ -1,19 +1,17 @@
 -- The pivot of a table, number by number: its cells and its tests are those of the dictionary that it stands for.
-use Rattle.std.proofs.Common.{◌≡◌, ◌≢◌, ℕ, zero, suc, ◌+◌, ◌<◌, ◌≤◌, ◌^◌, List, length, take, drop, get_or, Bool, true, false, not, ◌&&◌, ◌||◌, cond, Option, Some, None, ⊎_elim, refl, sym, ap, subst, ◌∙◌, arith}
+use Rattle.std.proofs.Common.{◌≡◌, ◌≢◌, ℕ, ◌+◌, ◌<◌, List, length, take, drop, Bool, true, false, not, ◌&&◌, ◌||◌, cond, Some, None, ⊎_elim, refl, sym, ap, subst, ◌∙◌, arith}
 use Rattle.std.specs.Bool.{nat_eq}
 use Rattle.std.specs.List.{slice_set, list_all}
 use Rattle.std.proofs.lemmas.Bool.{cases_eq}
 use Rattle.std.proofs.lemmas.List.{length-set}
-use Rattle.std.proofs.lemmas.Int.{ints}
-use lib.IntN.{pos}
 use Rattle.dd_fraction.specs.Exact.{Exact, plus, times, minus, inverse, low}
-use Rattle.dd_fraction.specs.Checked.{IsFraction, does_product_fit, does_sum_fit, checked_product, checked_sum}
+use Rattle.dd_fraction.specs.Checked.{IsFraction, does_product_fit, does_sum_fit}
 use Rattle.dd_fraction.proofs.Laws.{zero_plus, low_times, minus_times, IsLowest-times}
 use Rattle.dd_fraction.proofs.FractionFacts.{IsFraction-checked_product, IsFraction-checked_sum, IsFraction-minus}
 use Rattle.dd_simplex.specs.Programs.{fraction_at, zero_of, one_of}
-use Rattle.dd_simplex.specs.Dictionaries.{Dictionary, pivoted, new_bound, new_entry, less_product, quotient, replaced}
+use Rattle.dd_simplex.specs.Dictionaries.{Dictionary, new_bound, new_entry, less_product}
 use Rattle.dd_simplex.specs.Runs.{all_below, does_quotient_fit, does_less_fit, does_row_fit, do_coefficients_fit, do_others_fit, does_objective_fit}
-use Rattle.dd_simplex.specs.table.Lines.{Line, Table, line_at, other_at, less, do_all_less_fit, solved_line, changed_line, does_solved_fit, does_changed_fit, do_lines_fit, does_table_fit}
+use Rattle.dd_simplex.specs.table.Lines.{Line, Table, line_at, other_at, less, do_all_less_fit, solved_line, does_solved_fit, does_changed_fit, does_table_fit}
 use Rattle.dd_simplex.specs.table.Lines.{does_objective_fit as does_table_objective_fit}
 use Rattle.dd_simplex.specs.table.Standing.{IsTable, StandsFor}
 use Rattle.dd_simplex.proofs.CellSteps.{emptied_fits, solved_size}

@@ -1,18 +1,15 @@
 -- Lists of the code place by place: what a loop over cells made, and whether its numbers fit.
-use Rattle.std.proofs.Common.{◌≡◌, ◌≢◌, ℕ, zero, suc, ◌+◌, ◌<◌, ◌≤◌, List, [], ◌∷◌, ◌++◌, length, get_or, take, drop, Bool, true, false, ◌&&◌, cond, ⊎_elim, refl, sym, ap, subst, ◌∙◌, arith}
+use Rattle.std.proofs.Common.{◌≡◌, ◌≢◌, ℕ, zero, suc, ◌+◌, ◌<◌, List, [], ◌∷◌, length, get_or, take, drop, Bool, true, ◌&&◌, refl, sym, ap, ◌∙◌, arith}
 use Rattle.std.specs.Prelude.{map}
-use Rattle.std.specs.List.{slice_set, slice_index_or, list_all}
+use Rattle.std.specs.List.{slice_set, list_all}
 use Rattle.std.proofs.lemmas.List.{length-map, length-set, get_or-set_same, get_or-set_other}
-use Rattle.std.proofs.lemmas.Bool.{cases_eq}
-use Rattle.dd_fraction.specs.Exact.{Exact, plus, times, minus, inverse}
-use Rattle.dd_fraction.specs.Checked.{does_product_fit, does_sum_fit}
+use Rattle.dd_fraction.specs.Exact.{Exact, times, inverse}
 use Rattle.dd_simplex.specs.Programs.{fraction_at, zero_of, one_of}
 use Rattle.dd_simplex.specs.Dictionaries.{less_product}
 use Rattle.dd_simplex.specs.Runs.{does_less_fit}
-use Rattle.dd_simplex.specs.table.Lines.{Line, Table, line_at, other_at, less, do_all_less_fit, solved_line, changed_line, changed_lines, changed_table, does_changed_fit, does_solved_fit, do_lines_fit}
+use Rattle.dd_simplex.specs.table.Lines.{Line, line_at, less, do_all_less_fit, solved_line, changed_line, changed_lines}
 use Rattle.dd_simplex.proofs.Firsts.{and_left, and_right, and_both}
 use Rattle.dd_simplex.proofs.LineSteps.{rows_turned}
-use Rattle.dd_simplex.proofs.CellSteps.{solved_size}
 
 pub map_at : {A B : Type 0} (f : A → B) (xs : List A) (i : ℕ) (a : A) (b : B) → i < length xs → get_or (map f xs) i b ≡ f (get_or xs i a)
 map_at f [] i a b p = absurd (omega (arith, p))

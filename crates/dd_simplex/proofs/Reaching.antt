@@ -1,6 +1,6 @@
 -- What holds of each dictionary that a run comes to.
-use Rattle.std.proofs.Common.{◌≡◌, ◌≢◌, ℕ, zero, suc, ◌+◌, ◌-◌, ◌<◌, ◌≤◌, length, Bool, true, false, not, ◌&&◌, ◌||◌, cond, Option, Some, None, ◌⊎◌, inl, inr, ⊎_elim, refl, sym, ap, subst, ◌∙◌, arith}
-use Rattle.std.specs.Bool.{nat_eq, nat_lt}
+use Rattle.std.proofs.Common.{◌≡◌, ◌≢◌, ℕ, zero, suc, ◌+◌, ◌-◌, ◌<◌, ◌≤◌, length, Bool, true, false, not, ◌&&◌, ◌||◌, Some, None, ◌⊎◌, inl, inr, ⊎_elim, refl, sym, ap, subst, ◌∙◌, arith}
+use Rattle.std.specs.Bool.{nat_lt}
 use Rattle.std.specs.Ordering.{is_gt}
 use Rattle.std.specs.Int.RustNames.{int_lt}
 use Rattle.std.specs.declared.cmp.Ordering.{Ordering}
@@ -9,16 +9,16 @@ use Rattle.std.proofs.lemmas.Bool.{cases_eq}
 use Rattle.std.proofs.lemmas.Int.{ints}
 use lib.IntN.{ℤ, pos, negsuc, neg_ℤ}
 use lib.Signed.{◌≤ℤ◌, ◌<ℤ◌}
-use Rattle.dd_fraction.specs.Exact.{Exact, plus, times, minus, inverse, low, whole_of}
+use Rattle.dd_fraction.specs.Exact.{Exact, plus, times, minus, inverse, low}
 use Rattle.dd_fraction.specs.Order.{IsNonneg, IsPositive, IsAtMost, IsBelow, exact_cmp}
-use Rattle.dd_fraction.proofs.Laws.{plus_comm, plus_assoc, times_comm, times_assoc, times_plus, zero_plus, plus_zero, zero_times, times_zero, times_one, one_times, plus_minus, plus_low_left, plus_low_right, low_plus, low_times, minus_times, minus_times_right}
-use Rattle.dd_fraction.proofs.Lowest.{zero_is, one_is, low_low}
-use Rattle.dd_fraction.proofs.OrderLaws.{nonneg_plus, nonneg_times, positive_nonneg, positive_inverse, times_inverse_positive, at_most_gap, below_or_at_most, below_not_at_most, exact_cmp_ranked, exact_cmp-above, nonneg_lowest, positive_lowest, positive_plus}
-use Rattle.dd_simplex.specs.Programs.{LinearProgram, IsProgram, coefficient, bound_at, unit, total, zero_of, one_of}
-use Rattle.dd_simplex.specs.Dictionaries.{Dictionary, count, start, pivoted, quotient, new_bound, less_product}
-use Rattle.dd_simplex.specs.Runs.{is_over, may_enter, entering, ratio, limits, may_leave, leaving, all_below, first_below}
-use Rattle.dd_simplex.proofs.Totals.{eq_same, eq_other, total_low, total_same, total_none, total_pick, total_two, total_split, zero_nonneg}
-use Rattle.dd_simplex.proofs.Firsts.{and_left, and_right, all_at, all_true, first_some, first_none, smallest, IsSmallest}
+use Rattle.dd_fraction.proofs.Laws.{times_comm, times_assoc, times_plus, zero_plus, zero_times, times_zero, one_times, plus_low_left, plus_low_right, minus_times, minus_times_right}
+use Rattle.dd_fraction.proofs.Lowest.{low_low}
+use Rattle.dd_fraction.proofs.OrderLaws.{nonneg_plus, nonneg_times, positive_nonneg, positive_inverse, times_inverse_positive, at_most_gap, below_or_at_most, below_not_at_most, exact_cmp_ranked, exact_cmp-above}
+use Rattle.dd_simplex.specs.Programs.{LinearProgram, IsProgram, coefficient, bound_at, total, zero_of, one_of}
+use Rattle.dd_simplex.specs.Dictionaries.{Dictionary, count, start, pivoted, new_bound, less_product}
+use Rattle.dd_simplex.specs.Runs.{is_over, may_enter, entering, ratio, limits, may_leave, leaving, all_below}
+use Rattle.dd_simplex.proofs.Totals.{eq_same, eq_other, total_same, total_pick, total_split, zero_nonneg}
+use Rattle.dd_simplex.proofs.Firsts.{and_left, and_right, all_at, first_some, first_none}
 use Rattle.dd_simplex.proofs.Equations.{coefficient_in, price, left_side, Holds, objective, IsTurn, turn_forth, turn_back, turn_objective, then_other, then_leaving, apart, true_false}
 
 pub record IsReached (p : LinearProgram) (d : Dictionary) : Type 0 where

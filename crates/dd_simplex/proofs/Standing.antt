@@ -1,17 +1,12 @@
 -- The code's choices, and its tests of numbers, are those of the dictionary that its table stands for.
-use Rattle.std.proofs.Common.{◌≡◌, ◌≢◌, ℕ, zero, suc, ◌+◌, ◌<◌, ◌≤◌, List, length, Bool, true, false, not, ◌&&◌, ◌||◌, cond, Option, Some, None, ◌⊎◌, inl, inr, ⊎_elim, refl, sym, ap, subst, ◌∙◌, arith}
-use Rattle.std.specs.Bool.{nat_eq}
+use Rattle.std.proofs.Common.{◌≡◌, ℕ, ◌<◌, ◌≤◌, length, Bool, true, false, not, ◌&&◌, ◌||◌, Option, Some, None, refl, sym, ap, subst, ◌∙◌, arith}
 use Rattle.std.specs.Ordering.{is_gt}
-use Rattle.std.specs.List.{slice_set}
-use Rattle.std.proofs.lemmas.Bool.{cases_eq}
-use Rattle.dd_fraction.specs.Exact.{Exact, plus, times, minus, inverse}
-use Rattle.dd_fraction.specs.Order.{IsPositive, IsAtMost, IsBelow, exact_cmp}
-use Rattle.dd_fraction.specs.Checked.{does_product_fit, does_sum_fit}
-use Rattle.dd_fraction.proofs.OrderLaws.{below_or_at_most, at_most_below, below_not_at_most, at_most_trans}
-use Rattle.dd_simplex.specs.Programs.{fraction_at, zero_of, one_of}
-use Rattle.dd_simplex.specs.Dictionaries.{Dictionary, pivoted, new_bound, new_entry, less_product, quotient}
-use Rattle.dd_simplex.specs.Runs.{is_over, may_enter, entering, ratio, limits, may_leave, leaving, all_below, first_below, do_ratios_fit, does_quotient_fit}
-use Rattle.dd_simplex.specs.table.Lines.{Line, Table, line_at, other_at}
+use Rattle.dd_fraction.specs.Exact.{Exact, times, inverse}
+use Rattle.dd_fraction.specs.Order.{IsAtMost, exact_cmp}
+use Rattle.dd_simplex.specs.Programs.{fraction_at}
+use Rattle.dd_simplex.specs.Dictionaries.{Dictionary}
+use Rattle.dd_simplex.specs.Runs.{is_over, may_enter, entering, ratio, limits, may_leave, leaving, all_below, do_ratios_fit, does_quotient_fit}
+use Rattle.dd_simplex.specs.table.Lines.{Table, line_at, other_at}
 use Rattle.dd_simplex.specs.table.Choices.{IsChosen, does_enter, EntersBefore, does_limit, LeavesBefore, line_ratio, DoRatiosFit, HasMisfit}
 use Rattle.dd_simplex.specs.table.Standing.{IsTable, StandsFor}
 use Rattle.dd_simplex.proofs.Firsts.{and_left, and_right, and_both, all_at, all_true, all_false, first_is, first_absent}

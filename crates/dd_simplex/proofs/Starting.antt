@@ -1,19 +1,15 @@
 -- The table of the start stands for the dictionary of the start.
-use Rattle.std.proofs.Common.{◌≡◌, ◌≢◌, ℕ, zero, suc, ◌+◌, ◌-◌, ◌<◌, ◌≤◌, ◌^◌, List, length, Bool, true, false, not, cond, ⊎_elim, refl, sym, ap, subst, ◌∙◌, arith}
-use Rattle.std.specs.Bool.{nat_eq, nat_lt}
-use Rattle.std.specs.Int.RustNames.{unsigned_abs}
-use Rattle.std.proofs.lemmas.Bool.{cases_eq}
+use Rattle.std.proofs.Common.{◌≡◌, ℕ, ◌+◌, ◌-◌, ◌<◌, ◌≤◌, length, Bool, true, false, cond, sym, ap, subst, ◌∙◌, arith}
+use Rattle.std.specs.Bool.{nat_eq}
 use lib.IntN.{pos}
-use Rattle.dd_fraction.specs.Exact.{Exact}
 use Rattle.dd_fraction.specs.Checked.{IsFraction}
 use Rattle.dd_fraction.proofs.Results.{IsFraction-whole}
-use Rattle.dd_simplex.specs.Programs.{LinearProgram, IsProgram, row_at, coefficient, bound_at, unit, fraction_at, zero_of, one_of}
-use Rattle.dd_simplex.specs.Dictionaries.{Dictionary, count, start}
-use Rattle.dd_simplex.specs.table.Lines.{Line, Table, line_at, other_at}
+use Rattle.dd_simplex.specs.Programs.{LinearProgram, IsProgram, coefficient, bound_at, unit, fraction_at, zero_of, one_of}
+use Rattle.dd_simplex.specs.Dictionaries.{count, start}
+use Rattle.dd_simplex.specs.table.Lines.{Line, Table, line_at}
 use Rattle.dd_simplex.specs.table.Standing.{IsTable, StandsFor}
-use Rattle.dd_simplex.specs.table.Steps.{IsStart, line_of}
+use Rattle.dd_simplex.specs.table.Steps.{IsStart}
 use Rattle.dd_simplex.proofs.Reaching.{start_column, start_slack}
-use Rattle.dd_simplex.proofs.Totals.{eq_same, eq_other}
 
 module _ (p : LinearProgram) (t : Table) (g : IsProgram p) (h : IsStart p t) where
   zero_fraction : IsFraction zero_of

@@ -1,15 +1,14 @@
 -- Sums over the first n numbers.
-use Rattle.std.proofs.Common.{◌≡◌, ◌≢◌, ℕ, zero, suc, ◌+◌, ◌<◌, ◌≤◌, Bool, true, false, cond, ⊎_elim, refl, sym, ap, subst, ◌∙◌, arith}
+use Rattle.std.proofs.Common.{◌≡◌, ◌≢◌, ℕ, zero, suc, ◌+◌, ◌<◌, Bool, true, false, cond, ⊎_elim, refl, sym, ap, subst, ◌∙◌, arith}
 use Rattle.std.specs.Bool.{nat_eq}
 use Rattle.std.proofs.lemmas.Bool.{cases_eq}
 use Rattle.std.proofs.lemmas.Int.{ints}
-use lib.IntN.{pos}
-use Rattle.dd_fraction.specs.Exact.{Exact, plus, times, minus, low, whole_of}
+use Rattle.dd_fraction.specs.Exact.{Exact, plus, times, low}
 use Rattle.dd_fraction.specs.Order.{IsNonneg}
-use Rattle.dd_fraction.proofs.Laws.{plus_comm, plus_assoc, times_comm, times_plus, plus_times, zero_plus, plus_zero, zero_times, times_zero, times_one, times_assoc, plus_four, plus_low_left, plus_low_right, low_plus, minus_times}
-use Rattle.dd_fraction.proofs.Lowest.{zero_is, one_is}
+use Rattle.dd_fraction.proofs.Laws.{plus_assoc, times_comm, times_plus, plus_times, zero_plus, plus_zero, times_zero, times_assoc, plus_four, plus_low_left, plus_low_right, low_plus}
+use Rattle.dd_fraction.proofs.Lowest.{zero_is}
 use Rattle.dd_fraction.proofs.OrderLaws.{nonneg_plus}
-use Rattle.dd_simplex.specs.Programs.{total, zero_of, one_of}
+use Rattle.dd_simplex.specs.Programs.{total, zero_of}
 
 pub eq_same : (v : ℕ) → nat_eq v v ≡ true
 eq_same v = grind arith

@@ -1,22 +1,21 @@
 -- Something always leaves. If nothing limited the entering variable, it could grow for ever, the basic variables with it,
 -- and column 0 too. But the first row says that column 0 and its slack, both not below 0, sum to the cap.
-use Rattle.std.proofs.Common.{◌≡◌, ◌≢◌, ℕ, zero, suc, ◌+◌, ◌<◌, ◌≤◌, length, Bool, true, false, not, ◌&&◌, ◌||◌, cond, Option, Some, None, ⊎_elim, refl, sym, ap, subst, ◌∙◌, arith}
+use Rattle.std.proofs.Common.{◌≡◌, ◌≢◌, ℕ, ◌+◌, ◌<◌, Bool, true, false, not, ◌&&◌, ◌||◌, cond, None, ⊎_elim, refl, sym, ap, subst, ◌∙◌, arith}
 use Rattle.std.specs.Bool.{nat_eq}
 use Rattle.std.specs.Ordering.{is_gt}
 use Rattle.std.proofs.lemmas.Bool.{cases_eq}
 use Rattle.std.proofs.lemmas.Int.{ints}
-use lib.IntN.{pos}
 use Rattle.dd_fraction.specs.Exact.{Exact, plus, times, minus, low}
-use Rattle.dd_fraction.specs.Order.{IsNonneg, IsPositive, IsAtMost, exact_cmp}
-use Rattle.dd_fraction.proofs.Laws.{plus_comm, zero_plus, zero_times, times_zero, times_one, one_times, plus_minus, plus_low_left, plus_low_right, low_times}
+use Rattle.dd_fraction.specs.Order.{IsNonneg, IsPositive, exact_cmp}
+use Rattle.dd_fraction.proofs.Laws.{plus_comm, zero_plus, zero_times, times_zero, times_one, one_times, plus_minus, plus_low_left, plus_low_right}
 use Rattle.dd_fraction.proofs.Lowest.{low_low}
 use Rattle.dd_fraction.proofs.OrderLaws.{positive_lowest, positive_plus}
 use Rattle.dd_simplex.specs.Programs.{LinearProgram, IsProgram, coefficient, bound_at, total, zero_of, one_of}
-use Rattle.dd_simplex.specs.Dictionaries.{Dictionary, count, start}
+use Rattle.dd_simplex.specs.Dictionaries.{Dictionary, count}
 use Rattle.dd_simplex.specs.Runs.{is_over, ratio, limits, may_leave, leaving, all_below}
 use Rattle.dd_simplex.proofs.Totals.{eq_same, eq_other, total_pick, total_two, zero_nonneg}
 use Rattle.dd_simplex.proofs.Firsts.{and_both, all_true, first_none, smallest, IsSmallest}
-use Rattle.dd_simplex.proofs.Equations.{coefficient_in, price, left_side, Holds, objective, apart}
+use Rattle.dd_simplex.proofs.Equations.{coefficient_in, price, Holds, objective, apart}
 use Rattle.dd_simplex.proofs.Reaching.{IsReached, Enters, start_says, not_over, test_at_most}
 
 -- each variable's part, when e grows by 1

@@ -1,5 +1,5 @@
 -- One line more gives one column more; one other variable more gives one dual more.
-use Rattle.std.proofs.Common.{◌≡◌, ◌≢◌, ℕ, zero, suc, ◌+◌, ◌-◌, ◌<◌, ◌≤◌, List, length, Bool, true, false, not, ◌&&◌, cond, ⊎_elim, refl, sym, ap, subst, ◌∙◌, arith}
+use Rattle.std.proofs.Common.{◌≡◌, ◌≢◌, ℕ, ◌+◌, ◌-◌, ◌<◌, ◌≤◌, List, length, Bool, true, false, not, ◌&&◌, cond, ⊎_elim, refl, sym, ap, subst, ◌∙◌, arith}
 use Rattle.std.specs.Bool.{nat_lt}
 use Rattle.std.specs.List.{slice_set}
 use Rattle.std.proofs.lemmas.Bool.{cases_eq}
@@ -10,7 +10,6 @@ use Rattle.dd_simplex.specs.Dictionaries.{Dictionary}
 use Rattle.dd_simplex.specs.table.Lines.{Line, Table, line_at, other_at}
 use Rattle.dd_simplex.specs.table.Standing.{StandsFor}
 use Rattle.dd_simplex.specs.table.Values.{column_so_far, dual_so_far, GiveColumns, GiveDuals}
-use Rattle.dd_simplex.proofs.Equations.{true_false}
 use Rattle.dd_simplex.proofs.Places.{set_here, set_else}
 
 lt_more : (a i : ℕ) → a ≢ i → nat_lt a (i + 1) ≡ nat_lt a i

@@ -1,4 +1,8 @@
-// Why a run has no result.
+//! Why a run has no result.
+ghost use Rattle.std.specs.Prelude.{◌≡◌};
+ghost use Rattle.dd_simplex.specs.declared.fault.SimplexFault.TheVariants.{Memory};
+
+use std::alloc::AllocError;
 use thiserror::Error;
 
 #[derive(Clone, Copy, Debug, PartialEq, Eq, Error)]
@@ -11,4 +15,12 @@ pub enum SimplexFault {
     Pivots,
     #[error("out of memory")]
     Memory,
+}
+
+impl From<AllocError> for SimplexFault {
+    ghost from_gives = { λ _ fault. fault ≡ Memory };
+
+    fn from(_error: AllocError) -> SimplexFault {
+        SimplexFault::Memory
+    }
 }

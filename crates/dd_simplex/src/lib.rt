@@ -4,10 +4,12 @@
 mod fault;
 mod line;
 mod program;
+mod simplex;
 mod solution;
 mod start;
 mod tableau;
 
 pub use fault::SimplexFault;
 pub use program::Program;
+pub use simplex::maximise;
 pub use solution::Solved;

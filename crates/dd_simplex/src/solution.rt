@@ -20,7 +20,7 @@ pub struct Solved {
 
 /// What the tableau gives: a basic variable has its bound and each other one 0, and a slack's dual is its cost turned
 /// round.
-pub fn solution(alloc: Global, tableau: &Tableau, columns: usize) -> Result<Solved, AllocError>
+pub fn read_off(alloc: Global, tableau: &Tableau, columns: usize) -> Result<Solved, AllocError>
     requires costs { length tableau.now.costs ≡ length tableau.now.others }
     requires others { (j : ℕ) → j < length tableau.now.others → other_at tableau.now.others j < columns + length tableau.now.lines }
     ensures value { IfOk result (λ solved. solved.value ≡ tableau.now.value) }

@@ -12,7 +12,7 @@ use dd_fraction::Fraction;
 use std::alloc::{AllocError, Global};
 
 /// The tableau of the start.
-pub fn start(alloc: Global, program: &Program) -> Result<Tableau, AllocError>
+pub fn first_tableau(alloc: Global, program: &Program) -> Result<Tableau, AllocError>
     ensures { IfOk result (λ tableau. IsStart program.now tableau) }
 {
     let columns = program.columns();

@@ -1,14 +1,9 @@
 -- One turn of the code, and the tables at a run's start and end.
-use Rattle.std.specs.Prelude.{◌≡◌, ℕ, ◌+◌, ◌-◌, ◌<◌, ◌≤◌, ◌⊎◌, List, length, Bool, true, false, not, ◌&&◌, cond, Option, Some, None}
-use Rattle.std.specs.Bool.{nat_lt}
-use Rattle.dd_fraction.specs.Exact.{Exact, minus}
+use Rattle.std.specs.Prelude.{◌≡◌, ℕ, ◌+◌, ◌<◌, ◌⊎◌, List, length, true, false, Option, Some, None}
 use Rattle.dd_fraction.specs.Checked.{IsFraction}
 use Rattle.dd_simplex.specs.Programs.{LinearProgram, Row, row_at, row_in, coefficient, bound_at, unit, fraction_at, zero_of}
-use Rattle.dd_simplex.specs.Dictionaries.{Dictionary, count, start}
-use Rattle.dd_simplex.specs.Runs.{run, stop_of}
 use Rattle.dd_simplex.specs.table.Lines.{Line, Table, line_at, other_at, changed_table, does_table_fit}
 use Rattle.dd_simplex.specs.table.Choices.{IsChosen, does_enter, EntersBefore, does_limit, LeavesBefore, DoRatiosFit, HasMisfit}
-use Rattle.dd_simplex.specs.table.Standing.{IsTable, StandsFor}
 
 abbrev pub DoesEnter : Table → Option ℕ → Type 0
 DoesEnter t o = IsChosen (does_enter t.costs) (EntersBefore t.others) (length t.costs) o

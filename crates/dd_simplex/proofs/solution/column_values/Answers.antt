@@ -1,6 +1,5 @@
-use Rattle.std.proofs.Common.{◌≡◌, ℕ, ◌+◌, ◌<◌, ◌≤◌, List, [], length, sym, ap, subst, ◌∙◌, arith}
+use Rattle.std.proofs.Common.{◌≡◌, ℕ, ◌<◌, List, [], length, ap, subst, ◌∙◌, arith}
 use Rattle.std.proofs.lemmas.List.{get_or_default}
-use Rattle.dd_fraction.specs.Exact.{Exact}
 use Rattle.dd_simplex.specs.Programs.{zero_of}
 use Rattle.dd_simplex.specs.table.Lines.{Line}
 use Rattle.dd_simplex.specs.table.Values.{GiveColumns}
@@ -16,10 +15,12 @@ loop-i-preserved c =
     let line = c.line.view_is ∙ (c.index-lines-i.is ∙ get_or_default lines i _ (record { basic = 0; bound = zero_of; cells = [] }) p) in
     let basic = ap (λ (l : Line). l.basic) line in
     let bound = ap (λ (l : Line). l.bound) line in
-    elim c.if-line-columns.branch [ then-line-columns w ↦
-        rw w.values-is (columns_set lines c.args.columns i c.loop-i.values.items c.line.inside.basic c.line.inside.bound p basic bound w.if-line-columns.true c.loop-i.invariant)
+    elim c.if-line-columns.branch [
+      | then-line-columns w ↦
+          rw w.values-is (columns_set lines c.args.columns i c.loop-i.values.items c.line.inside.basic c.line.inside.bound p basic bound w.if-line-columns.true c.loop-i.invariant)
       | else-line-columns w ↦
-        rw w.values-is (columns_skip lines c.args.columns i c.loop-i.values.items c.line.inside.basic p basic w.if-line-columns.false c.loop-i.invariant) ]
+          rw w.values-is (columns_skip lines c.args.columns i c.loop-i.values.items c.line.inside.basic p basic w.if-line-columns.false c.loop-i.invariant)
+    ]
 
 pub returns : goal.returns
 returns c =

@@ -1,4 +1,3 @@
-use Rattle.std.proofs.Common.{◌≡◌, ℕ}
 use Rattle.dd_simplex.specs.table.Values.{GiveColumns}
 use Rattle.dd_simplex.proofs.solution.column_values.Given as goal
 

@@ -1,7 +1,7 @@
-use Rattle.std.proofs.Common.{◌≡◌, ℕ, ◌+◌, ◌<◌, ◌≤◌, List, [], length, get_or, sym, ap, subst, ◌∙◌, arith}
+use Rattle.std.proofs.Common.{◌≡◌, ℕ, ◌+◌, ◌<◌, List, length, get_or, sym, ap, subst, ◌∙◌, arith}
 use Rattle.std.proofs.lemmas.List.{get_or_default}
 use Rattle.dd_fraction.specs.Exact.{Exact, minus}
-use Rattle.dd_simplex.specs.Programs.{zero_of, fraction_at}
+use Rattle.dd_simplex.specs.Programs.{zero_of}
 use Rattle.dd_simplex.specs.table.Lines.{Table, other_at}
 use Rattle.dd_simplex.specs.table.Values.{GiveDuals}
 use Rattle.dd_simplex.proofs.Valuing.{duals_set, duals_skip}
@@ -21,12 +21,14 @@ loop-j-preserved c =
     let q : j < length t.costs = let z = c.requires.costs in omega (arith, z, p) in
     let within : c.index-variable.result.now < c.args.columns + length t.lines =
     subst (λ (v : ℕ). v < c.args.columns + length t.lines) (sym name) (c.requires.others j p) in
-    elim c.if-variable-columns.branch [ then-variable-columns w ↦ (
-        let cost = w.index.ensures ∙ (ap (λ (xs : List Exact). get_or xs j w.index.result.now) costs ∙ get_or_default t.costs j _ zero_of q) in
-        rw w.duals-is
-        (duals_set t c.args.columns j c.loop-j.duals.items c.index-variable.result.now w.negate.result p name (w.negate.ensures ∙ ap minus cost) w.if-variable-columns.true within c.loop-j.invariant))
+    elim c.if-variable-columns.branch [
+      | then-variable-columns w ↦ (
+          let cost = w.index.ensures ∙ (ap (λ (xs : List Exact). get_or xs j w.index.result.now) costs ∙ get_or_default t.costs j _ zero_of q) in
+          rw w.duals-is
+          (duals_set t c.args.columns j c.loop-j.duals.items c.index-variable.result.now w.negate.result p name (w.negate.ensures ∙ ap minus cost) w.if-variable-columns.true within c.loop-j.invariant))
       | else-variable-columns w ↦
-        rw w.duals-is (duals_skip t c.args.columns j c.loop-j.duals.items c.index-variable.result.now p name w.if-variable-columns.false c.loop-j.invariant) ]
+          rw w.duals-is (duals_skip t c.args.columns j c.loop-j.duals.items c.index-variable.result.now p name w.if-variable-columns.false c.loop-j.invariant)
+    ]
 
 pub returns : goal.returns
 returns c =

@@ -1,4 +1,3 @@
-use Rattle.std.proofs.Common.{◌≡◌, ℕ}
 use Rattle.dd_simplex.specs.table.Values.{GiveDuals}
 use Rattle.dd_simplex.proofs.solution.dual_values.Given as goal
 

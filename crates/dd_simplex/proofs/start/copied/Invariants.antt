@@ -1,4 +1,4 @@
-use Rattle.std.proofs.Common.{◌≡◌, ℕ, ◌<◌, take, length}
+use Rattle.std.proofs.Common.{◌≡◌, ℕ, ◌<◌, take}
 use Rattle.dd_fraction.specs.Checked.{IsFraction}
 use Rattle.dd_simplex.specs.Programs.{fraction_at}
 use Rattle.dd_simplex.proofs.start.copied.Given as goal

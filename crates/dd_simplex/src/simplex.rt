@@ -1,0 +1,31 @@
+// The run: turns by Bland's rule, until nothing enters.
+ghost use Rattle.std.specs.Prelude.{◌≡◌, IfOk, IfErr};
+ghost use Rattle.dd_simplex.specs.Programs.{IsBest};
+ghost use Rattle.dd_simplex.specs.Runs.{RunEnds, IsRefusal};
+
+use crate::fault::SimplexFault;
+use crate::program::Program;
+use crate::solution::{Solved, read_off};
+use crate::start::first_tableau;
+use std::alloc::{AllocError, Global};
+
+/// Maximises column 0 by Bland's rule (1977) in at most `pivots` pivots. The columns are at least 0 and meet each row, and
+/// no others give more: the duals have the same value. Overflow exactly where a number of the run passes 2^127 - 1 in
+/// absolute value, and Pivots exactly where the run is not at its end after that many pivots.
+pub fn maximise(alloc: Global, program: &Program, pivots: u32) -> Result<Solved, SimplexFault>
+    ensures ends { IfOk result (λ solved. RunEnds program.now pivots solved.value solved.columns solved.duals) }
+    ensures best { IfOk result (λ solved. IsBest program.now solved.value solved.columns solved.duals) }
+    ensures refusal { IfErr result (λ fault. IsRefusal program.now pivots fault) }
+{
+    let columns = program.columns();
+    let mut tableau = first_tableau(alloc, program)?;
+    for _ in 0..pivots {
+        if !tableau.turn()? {
+            return Ok(read_off(alloc, &tableau, columns)?);
+        }
+    }
+    if !tableau.is_at_end() {
+        return Err(SimplexFault::Pivots);
+    }
+    Ok(read_off(alloc, &tableau, columns)?)
+}
