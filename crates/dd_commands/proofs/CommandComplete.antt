@@ -1,5 +1,5 @@
 -- What is written of commands is read.
-use Rattle.std.proofs.Common.{◌≡◌, ℕ, zero, suc, ◌+◌, ◌≤◌, ◌<◌, Bool, true, false, List, [], ◌∷◌, ◌++◌, map, length, Option, Some, None, refl, sym, ap, subst, ◌∙◌, append_assoc, arith, codes, bytes_eq}
+use Rattle.std.proofs.Common.{◌≡◌, ℕ, ◌+◌, ◌≤◌, ◌<◌, Bool, true, false, List, [], ◌∷◌, ◌++◌, map, length, Option, Some, None, refl, sym, ap, subst, ◌∙◌, append_assoc, arith, codes, bytes_eq}
 use Rattle.std.specs.List.{flat_map}
 use Rattle.std.proofs.lemmas.List.{append-nil, length-append}
 use Rattle.std.proofs.lemmas.Slice.Eq.{bytes_eq-Decides}
@@ -32,7 +32,7 @@ use Rattle.dd_written.specs.Formulas.{text, name_lexeme, IsFormula}
 use Rattle.dd_written.specs.reading.Readers.{◌>>=◌, Reader, many, ReadsAll}
 use Rattle.dd_written.specs.reading.Words.{starts_word, behind_word}
 use Rattle.dd_written.specs.reading.Atoms.{name_at}
-use Rattle.dd_written.specs.reading.Formulas.{formula_at, ends}
+use Rattle.dd_written.specs.reading.Formulas.{ends}
 use Rattle.dd_written.specs.reading.Laws.{FormulasAreRead}
 use Rattle.dd_commands.specs.Table.{row}
 use Rattle.dd_commands.specs.Heads.{head_text, head_of, kind_text}

@@ -6,3 +6,4 @@ pub mod CommandComplete
 pub mod Whole
 pub mod Parts
 pub mod OneTree
+pub mod Texts

@@ -9,9 +9,7 @@ use crate::keywords::{head, kind};
 use crate::requests::request;
 use crate::vectors::{alone, edges, names, numbers, plain, shear, some_alone};
 use dd_values::Items;
-use dd_written::{
-    Lexeme, Name, ReadFault, behind_word, read_formula, read_name, starts_word,
-};
+use dd_written::{Lexeme, Name, ReadFault, behind_word, read_formula, read_name, starts_word};
 use std::alloc::Global;
 
 fn case<'a>(
@@ -153,15 +151,13 @@ fn composition(tokens: &[Lexeme]) -> Result<Command, ReadFault>
     ensures { Gives (λ x. x) result (composition_of tokens.now) }
 {
     match tokens {
-        [
-            Lexeme::Word(name),
-            Lexeme::Word(outer),
-            Lexeme::Word(inner),
-        ] => Ok(Command::Composition {
-            name: *name,
-            outer: *outer,
-            inner: *inner,
-        }),
+        [Lexeme::Word(name), Lexeme::Word(outer), Lexeme::Word(inner)] => Ok(
+            Command::Composition {
+                name: *name,
+                outer: *outer,
+                inner: *inner,
+            },
+        ),
         _ => Err(ReadFault::Syntax),
     }
 }

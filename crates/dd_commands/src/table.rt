@@ -46,7 +46,6 @@ pub(crate) const QUESTIONS: [Question; 8] = [
     Question::Discharge,
 ];
 
-
 impl Question {
     /// The row of a question: its first word, what its further words name, how many numbers follow, and which vectors.
     pub fn row(self) -> (&'static [u8], &'static [Role], usize, Lists)
@@ -56,11 +55,21 @@ impl Question {
         ensures lists { result.3 ≡ (row self).lists }
     {
         match self {
-            Question::Member => (b"member", &[Role::Configuration, Role::Rule], 0, Lists::None),
+            Question::Member => (
+                b"member",
+                &[Role::Configuration, Role::Rule],
+                0,
+                Lists::None,
+            ),
             Question::Contains => (b"contains", &[Role::Rule, Role::Rule], 0, Lists::None),
             Question::Equal => (b"equal", &[Role::Rule, Role::Rule], 0, Lists::None),
             Question::Empty => (b"empty", &[Role::Rule], 0, Lists::None),
-            Question::Agree => (b"same", &[Role::Automaton, Role::Automaton, Role::Rule], 0, Lists::None),
+            Question::Agree => (
+                b"same",
+                &[Role::Automaton, Role::Automaton, Role::Rule],
+                0,
+                Lists::None,
+            ),
             Question::Forbidden => (b"forbidden", &[Role::Rule], 0, Lists::None),
             Question::Density => (b"density", &[Role::Rule], 0, Lists::Strip),
             Question::Discharge => (b"discharge", &[Role::Rule], 2, Lists::Vectors),

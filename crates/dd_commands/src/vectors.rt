@@ -5,8 +5,8 @@ ghost use Rattle.dd_commands.specs.Commands.{is_plain_entry, is_plain};
 ghost use Rattle.dd_commands.specs.reading.Vectors.{alone, some_alone, is_name, is_number, number_at, is_entry, entry_at, names_at, numbers_at, entries_at, vector_end, vector_at, plain_at, is_vector, vectors_at, shear_at, edge_start, edge_end, edge_at, is_edge, edges_at, names_of};
 
 use crate::command::{Edge, Entry, Vector};
-use dd_written::{Lexeme, Mark, Name, Number, ReadFault, Word, read_name};
 use dd_values::Items;
+use dd_written::{Lexeme, Mark, Name, Number, ReadFault, Word, read_name};
 use std::alloc::Global;
 
 fn is_name(tokens: &[Lexeme]) -> bool
@@ -128,10 +128,7 @@ pub(crate) fn names(alloc: Global, tokens: &[Lexeme]) -> Result<Items<Name>, Rea
     some_alone(names, rest)
 }
 
-fn vector_end(
-    entries: Items<Entry>,
-    tokens: &[Lexeme],
-) -> Result<(Vector, &[Lexeme]), ReadFault>
+fn vector_end(entries: Items<Entry>, tokens: &[Lexeme]) -> Result<(Vector, &[Lexeme]), ReadFault>
     ensures { Gives (λ x. (x.0, x.1.now)) result (vector_end entries tokens.now) }
 {
     match tokens {
