@@ -44,28 +44,26 @@ impl Code {
     }
 }
 
-/// A clause that watches a literal, by its number, and another of its literals. Where that one is true, the clause needs
-/// no look.
+/// Stands behind the literals of each clause. It is no literal's, and never false.
+const END: Code = Code { place: 0 };
+
+/// A clause that watches a literal, by the place of its literals, and another of its literals. Where that one is true,
+/// the clause needs no look.
 #[derive(Clone, Copy)]
 struct Watcher {
-    number: u32,
+    clause: u32,
     other: Code,
 }
 
-/// From where to where the literals of a clause stand.
-#[derive(Clone, Copy)]
-struct Extent {
-    from: u32,
-    to: u32,
-}
-
-/// For each literal the clauses that watch it; the literals of all clauses, those first that a clause watches; how far
-/// the trail is read, and the list of its next literal; and how many clauses were looked at since they were added.
+/// For each literal the clauses that watch it; the literals of all clauses, those first that a clause watches, and beside
+/// each its clause's number; how many clauses there are; how far the trail is read, and the list of its next literal; and
+/// how many clauses were looked at since they were added.
 #[derive(Drop)]
 pub struct Watches {
     lists: Vec<Vec<Watcher>>,
     literals: Vec<Code>,
-    extents: Vec<Extent>,
+    numbers: Vec<u64>,
+    count: u64,
     read: usize,
     at: usize,
     scanned: u64,
@@ -110,36 +108,42 @@ fn find_watcher(lists: &[Vec<Watcher>], literal: Code, at: usize) -> Option<Watc
     None
 }
 
-/// The place of the first literal that is not false.
-fn find_not_false(trail: &Trail, literals: &[Code]) -> Option<usize>
+/// The first place, from one on, of a literal that is not false.
+fn find_not_false(trail: &Trail, literals: &[Code], from: usize) -> Option<usize>
     ensures { MatchOption result ⊤ (λ place. place < length literals.now) }
 {
-    for (place, literal) in literals.iter().enumerate() {
-        if !literal.is_false(trail) {
+    for place in from..literals.len() {
+        if !literals[place].is_false(trail) {
             return Some(place);
         }
     }
     None
 }
 
-/// Looks in a clause for another literal to watch, in place of the one that became false.
-fn rewatch(trail: &Trail, literals: &mut [Code], became_false: Code) -> Look {
-    if literals.len() < 2 {
+/// Looks in the clause at a place for another literal to watch, in place of the one that became false.
+fn rewatch(trail: &Trail, literals: &mut [Code], clause: u32, became_false: Code) -> Look {
+    let first = clause as usize;
+    let second = first + 1;
+    if second >= literals.len() {
         return Look::Stays(became_false);
     }
-    if literals[0] == became_false {
-        literals.swap(0, 1);
-    }
-    let other = literals[0];
+    let other = if literals[first] == became_false {
+        literals[second]
+    } else {
+        literals[first]
+    };
     if other.is_true(trail) {
         return Look::Stays(other);
     }
-    match find_not_false(trail, &literals[2..]) {
-        None => Look::Speaks,
-        Some(place) => {
-            literals.swap(1, 2 + place);
-            Look::Moves(literals[1], other)
+    match find_not_false(trail, literals, second + 1) {
+        Some(place) if literals[place] != END => {
+            let next = literals[place];
+            literals[first] = other;
+            literals[second] = next;
+            literals[place] = became_false;
+            Look::Moves(next, other)
         }
+        _ => Look::Speaks,
     }
 }
 
@@ -155,7 +159,8 @@ impl Watches {
         Ok(Watches {
             lists,
             literals: Vec::new(alloc),
-            extents: Vec::new(alloc),
+            numbers: Vec::new(alloc),
+            count: 0,
             read: 0,
             at: 0,
             scanned: 0,
@@ -164,20 +169,21 @@ impl Watches {
 
     /// The next clause watches its first two literals.
     pub fn add(&mut self, literals: &[Literal]) -> Result<(), AllocError> {
-        let from = u32::try_from(self.literals.len()).unwrap_or(0);
+        let clause = u32::try_from(self.literals.len()).unwrap_or(0);
+        self.count = self.count.saturating_add(1);
         for literal in literals {
             self.literals.push(Code::new(*literal))?;
+            self.numbers.push(self.count)?;
         }
-        let to = u32::try_from(self.literals.len()).unwrap_or(0);
-        self.extents.push(Extent { from, to })?;
-        let number = u32::try_from(self.extents.len()).unwrap_or(0);
+        self.literals.push(END)?;
+        self.numbers.push(self.count)?;
         if literals.len() >= 2 {
             let first = Code::new(literals[0]);
             let second = Code::new(literals[1]);
             let other = second;
-            watch(&mut self.lists, first, Watcher { number, other })?;
+            watch(&mut self.lists, first, Watcher { clause, other })?;
             let other = first;
-            watch(&mut self.lists, second, Watcher { number, other })?;
+            watch(&mut self.lists, second, Watcher { clause, other })?;
         }
         Ok(())
     }
@@ -188,24 +194,13 @@ impl Watches {
         self.at = 0;
     }
 
-    fn extent(&self, number: u32) -> Extent {
-        let number = number as usize;
-        if number >= 1 && number <= self.extents.len() {
-            return self.extents[number - 1];
+    /// The number of the clause at a place.
+    fn number(&self, clause: u32) -> u64 {
+        let clause = clause as usize;
+        if clause < self.numbers.len() {
+            return self.numbers[clause];
         }
-        Extent { from: 0, to: 0 }
-    }
-
-    /// The same in the clause of this number.
-    fn rewatch_in(&mut self, trail: &Trail, number: u32, became_false: Code) -> Look {
-        let extent = self.extent(number);
-        let from = extent.from as usize;
-        let to = extent.to as usize;
-        let literals = self.literals.as_mut_slice();
-        if from <= to && to <= literals.len() {
-            return rewatch(trail, &mut literals[from..to], became_false);
-        }
-        Look::Stays(became_false)
+        0
     }
 
     /// Goes past a watcher of a literal that became false. False where its clause may be falsified or force a literal.
@@ -216,20 +211,20 @@ impl Watches {
         watcher: Watcher,
     ) -> Result<bool, AllocError> {
         let at = self.at;
-        let number = watcher.number;
+        let clause = watcher.clause;
         if watcher.other.is_true(trail) {
             self.at = at.saturating_add(1);
             return Ok(true);
         }
-        match self.rewatch_in(trail, number, became_false) {
+        match rewatch(trail, self.literals.as_mut_slice(), clause, became_false) {
             Look::Stays(other) => {
-                set_watcher(&mut self.lists, became_false, at, Watcher { number, other });
+                set_watcher(&mut self.lists, became_false, at, Watcher { clause, other });
                 self.at = at.saturating_add(1);
                 Ok(true)
             }
             Look::Moves(next, other) => {
                 unwatch(&mut self.lists, became_false, at);
-                watch(&mut self.lists, next, Watcher { number, other })?;
+                watch(&mut self.lists, next, Watcher { clause, other })?;
                 Ok(true)
             }
             Look::Speaks => {
@@ -257,7 +252,7 @@ impl Watches {
                 continue;
             };
             if !self.pass(trail, became_false, watcher)? {
-                match look_at(database, trail, u64::from(watcher.number)) {
+                match look_at(database, trail, self.number(watcher.clause)) {
                     Scan::Nothing => {}
                     seen => return Ok(seen),
                 }
