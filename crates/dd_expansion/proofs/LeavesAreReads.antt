@@ -25,7 +25,7 @@ use Rattle.dd_expansion.specs.declared.expanded.Expanded.TheOpen.{Expanded-F}
 use Rattle.dd_expansion.specs.Terms.{cell_of, same_cell, balls_of}
 use Rattle.dd_expansion.specs.Reads.{Reading, both_cells, reads, reads_step}
 use Rattle.dd_expansion.specs.Leaves.{LeafTest, leaves_pass, leaves_pass_step, leaf_cells}
-use Rattle.dd_expansion.specs.Limits.{fits, fits_step, term_fits, balls_fit}
+use Rattle.dd_expansion.specs.Limits.{formula_fits, fits_step, term_fits, balls_fit}
 use Rattle.dd_expansion.specs.Expansion.{constant, leaf, negated, all_of, any_of, both_alike, at_cell, at_cells, both_have, equal_at, expansion, expansion_step, Expansion}
 use Rattle.dd_expansion.proofs.ListTests.{and_true, list_all-alike, list_all-flat_map, all_pass, any_by_all}
 use Rattle.dd_expansion.proofs.LeafLaws.{leaves_are_cells}
@@ -202,7 +202,7 @@ equal_below : (n : ℕ) (c d : Cell) → leaves_pass (by_symbol n) (equal_at n c
 equal_below n c d = leaves_of_equal (by_symbol n) n c d ∙ range_below 0 n n (omega arith)
 
 abbrev AreBelow : Grid → ℕ → Formula → Type 0
-AreBelow g n f = (es : List Edge) (env : List Cell) (scope : ℕ) → fits g n f scope ≡ true → leaves_pass (λ c s. nat_lt s n) (expansion es n f env) ≡ true
+AreBelow g n f = (es : List Edge) (env : List Cell) (scope : ℕ) → formula_fits g n f scope ≡ true → leaves_pass (λ c s. nat_lt s n) (expansion es n f env) ≡ true
 
 abbrev Fitting : Grid → ℕ → Type 0
 Fitting g n = (f : Formula) × AreBelow g n f
@@ -211,20 +211,20 @@ abbrev fitting_layer : (g : Grid) (n : ℕ) → Formula-F (Fitting g n) → Form
 fitting_layer g n y = map-Formula (Fitting g n) Formula (λ e. e.0) y
 
 module _ (g : Grid) (n : ℕ) (es : List Edge) (env : List Cell) where
-  all_below : (fs : List (Fitting g n)) (scope : ℕ) → list_all (λ f. f scope) (map (fits g n) (map (λ e. e.0) fs)) ≡ true →
+  all_below : (fs : List (Fitting g n)) (scope : ℕ) → list_all (λ f. f scope) (map (formula_fits g n) (map (λ e. e.0) fs)) ≡ true →
       list_all (leaves_pass (by_symbol n)) (map (λ e. e env) (map (expansion es n) (map (λ e. e.0) fs))) ≡ true
   all_below [] scope h = refl
   all_below (f ∷ fs) scope h =
-      let both = and_parts (fits g n f.0 scope) (list_all (λ f. f scope) (map (fits g n) (map (λ e. e.0) fs))) h in
+      let both = and_parts (formula_fits g n f.0 scope) (list_all (λ f. f scope) (map (formula_fits g n) (map (λ e. e.0) fs))) h in
       and_from _ _ (f.1 es env scope both.0) (all_below fs scope both.1)
 
-  each_below : (f : Fitting g n) (scope : ℕ) (cs : List Cell) → fits g n f.0 (scope + 1) ≡ true →
+  each_below : (f : Fitting g n) (scope : ℕ) (cs : List Cell) → formula_fits g n f.0 (scope + 1) ≡ true →
       list_all (leaves_pass (by_symbol n)) (map (λ c. expansion es n f.0 (env ++ c ∷ [])) (in_order cs)) ≡ true
   each_below f scope cs h =
       leaves_of_each (by_symbol n) (expansion es n f.0) env cs
       ∙ all_pass (λ c. leaves_pass (by_symbol n) (expansion es n f.0 (env ++ c ∷ []))) (λ c. f.1 es (env ++ c ∷ []) (scope + 1) h) cs
 
-  step_below : (y : Formula-F (Fitting g n)) (scope : ℕ) → fits_step g n (map-Formula Formula (ℕ → Bool) (fits g n) (fitting_layer g n y)) scope ≡ true →
+  step_below : (y : Formula-F (Fitting g n)) (scope : ℕ) → fits_step g n (map-Formula Formula (ℕ → Bool) (formula_fits g n) (fitting_layer g n y)) scope ≡ true →
       leaves_pass (by_symbol n) (expansion_step es n (map-Formula Formula Expansion (expansion es n) (fitting_layer g n y)) env) ≡ true
   step_below (Formula-F.Symbol t s) scope h =
       let both = and_parts (term_fits g scope t) (nat_lt s n) h in
@@ -244,17 +244,17 @@ module _ (g : Grid) (n : ℕ) (es : List Edge) (env : List Cell) where
   step_below (Formula-F.And fs) scope h = leaves_of_all (by_symbol n) (map (λ e. e env) (map (expansion es n) (map (λ e. e.0) fs))) ∙ all_below fs scope h
   step_below (Formula-F.Or fs) scope h = leaves_of_any (by_symbol n) (map (λ e. e env) (map (expansion es n) (map (λ e. e.0) fs))) ∙ all_below fs scope h
   step_below (Formula-F.Implies f f') scope h =
-      let both = and_parts (fits g n f.0 scope) (fits g n f'.0 scope) h in
+      let both = and_parts (formula_fits g n f.0 scope) (formula_fits g n f'.0 scope) h in
       leaves_of_any (by_symbol n) (negated (expansion es n f.0 env) ∷ expansion es n f'.0 env ∷ [])
       ∙ rw (leaves_of_negated (by_symbol n) (expansion es n f.0 env), f.1 es env scope both.0, f'.1 es env scope both.1)
   step_below (Formula-F.Iff f f') scope h =
-      let both = and_parts (fits g n f.0 scope) (fits g n f'.0 scope) h in
+      let both = and_parts (formula_fits g n f.0 scope) (formula_fits g n f'.0 scope) h in
       leaves_of_both (by_symbol n) (expansion es n f.0 env) (expansion es n f'.0 env) ∙ rw (f.1 es env scope both.0, f'.1 es env scope both.1)
   step_below (Formula-F.ForAll bs f) scope h =
-      let both = and_parts (balls_fit scope bs) (fits g n f.0 (scope + 1)) h in
+      let both = and_parts (balls_fit scope bs) (formula_fits g n f.0 (scope + 1)) h in
       leaves_of_all (by_symbol n) (map (λ c. expansion es n f.0 (env ++ c ∷ [])) (in_order (balls_of es env bs))) ∙ each_below f scope (balls_of es env bs) both.1
   step_below (Formula-F.Exists bs f) scope h =
-      let both = and_parts (balls_fit scope bs) (fits g n f.0 (scope + 1)) h in
+      let both = and_parts (balls_fit scope bs) (formula_fits g n f.0 (scope + 1)) h in
       leaves_of_any (by_symbol n) (map (λ c. expansion es n f.0 (env ++ c ∷ [])) (in_order (balls_of es env bs))) ∙ each_below f scope (balls_of es env bs) both.1
 
 -- where the formula fits, the symbol of each leaf is one that there is

@@ -14,7 +14,7 @@ use Rattle.dd_expansion.specs.declared.formulas.Formula.{Formula}
 use Rattle.dd_expansion.specs.declared.formulas.Formula.TheVariants as formula
 use Rattle.dd_expansion.specs.declared.formulas.Formula.TheFolds.{fold-roll-Formula}
 use Rattle.dd_expansion.specs.declared.formulas.Formula.TheOpen.{Formula-F}
-use Rattle.dd_expansion.specs.Limits.{balls_fit, fits, fits_step, greatest, depth, depth_step}
+use Rattle.dd_expansion.specs.Limits.{balls_fit, formula_fits, fits_step, greatest, depth, depth_step}
 use Rattle.dd_expansion.specs.Near.{AreNear}
 use Rattle.dd_expansion.proofs.Layers.{fits_and, depth_and}
 
@@ -24,9 +24,9 @@ all_at test (x ∷ xs) zero d h within = (and_parts _ _ h).0
 all_at test (x ∷ xs) (suc i) d h within = all_at test xs i d (and_parts _ _ h).1 (omega arith)
 
 -- each part of a conjunction that fits fits
-pub part_fits : (g : Grid) (n : ℕ) (fs : List Formula) (scope i : ℕ) (f : Formula) → fits g n (formula.And fs) scope ≡ true → i < length fs → f ≡ get_or fs i f → fits g n f scope ≡ true
+pub part_fits : (g : Grid) (n : ℕ) (fs : List Formula) (scope i : ℕ) (f : Formula) → formula_fits g n (formula.And fs) scope ≡ true → i < length fs → f ≡ get_or fs i f → formula_fits g n f scope ≡ true
 part_fits g n fs scope i f h within is =
-    ap (λ x. fits g n x scope) is ∙ all_at (λ x. fits g n x scope) fs i f (sym (fits_and g n fs scope) ∙ h) within
+    ap (λ x. formula_fits g n x scope) is ∙ all_at (λ x. formula_fits g n x scope) fs i f (sym (fits_and g n fs scope) ∙ h) within
 
 greatest_at : (fs : List Formula) (i : ℕ) (d : Formula) → i < length fs → depth (get_or fs i d) ≤ greatest (map depth fs)
 greatest_at [] i d within = absurd (omega arith)
@@ -45,10 +45,10 @@ part_depth fs i f within is =
     omega (arith, ap depth is, greatest_at fs i f within, whole, least)
 
 -- the balls and the body of a quantifier
-pub quantified_fits : (g : Grid) (n : ℕ) (bs : List BallOf) (f : Formula) (scope : ℕ) → fits g n (formula.ForAll bs f) scope ≡ true → (balls_fit scope bs ≡ true) × (fits g n f (scope + 1) ≡ true)
+pub quantified_fits : (g : Grid) (n : ℕ) (bs : List BallOf) (f : Formula) (scope : ℕ) → formula_fits g n (formula.ForAll bs f) scope ≡ true → (balls_fit scope bs ≡ true) × (formula_fits g n f (scope + 1) ≡ true)
 quantified_fits g n bs f scope h =
     let opened = ap (λ x. x scope) (fold-roll-Formula (ℕ → Bool) (fits_step g n) (Formula-F.ForAll bs f)) in
-    and_parts _ _ (sym opened ∙ (ap (λ x. fits g n x scope) (formula.rolls-ForAll bs f) ∙ h))
+    and_parts _ _ (sym opened ∙ (ap (λ x. formula_fits g n x scope) (formula.rolls-ForAll bs f) ∙ h))
 
 pub quantified_depth : (bs : List BallOf) (f : Formula) → depth (formula.ForAll bs f) ≡ 1 + depth f
 quantified_depth bs f = ap depth (sym (formula.rolls-ForAll bs f)) ∙ fold-roll-Formula ℕ depth_step (Formula-F.ForAll bs f)
@@ -69,11 +69,11 @@ map_more f xs i d within = ap (map f) (take_more xs i d within) ∙ map-append f
 longer : (env inner : List Cell) (c : Cell) → inner ≡ env ++ c ∷ [] → length env + 1 ≡ length inner
 longer env inner c is = sym (ap length is ∙ length-append env (c ∷ []))
 
-pub inner_fits : (g : Grid) (n : ℕ) (bs : List BallOf) (body f : Formula) (env inner : List Cell) (c : Cell) → fits g n (formula.ForAll bs body) (length env) ≡ true → f ≡ body → inner ≡ env ++ c ∷ [] →
-    fits g n f (length inner) ≡ true
+pub inner_fits : (g : Grid) (n : ℕ) (bs : List BallOf) (body f : Formula) (env inner : List Cell) (c : Cell) → formula_fits g n (formula.ForAll bs body) (length env) ≡ true → f ≡ body → inner ≡ env ++ c ∷ [] →
+    formula_fits g n f (length inner) ≡ true
 inner_fits g n bs body f env inner c h same is =
-    let P : ℕ → Type 0 = λ m. fits g n f m ≡ true in
-    subst P (longer env inner c is) (ap (λ x. fits g n x (length env + 1)) same ∙ (quantified_fits g n bs body (length env) h).1)
+    let P : ℕ → Type 0 = λ m. formula_fits g n f m ≡ true in
+    subst P (longer env inner c is) (ap (λ x. formula_fits g n x (length env + 1)) same ∙ (quantified_fits g n bs body (length env) h).1)
 
 pub inner_depth : (bs : List BallOf) (body f : Formula) (env inner : List Cell) (c : Cell) → depth (formula.ForAll bs body) + length env ≤ 65 → f ≡ body → inner ≡ env ++ c ∷ [] → depth f + length inner ≤ 65
 inner_depth bs body f env inner c h same is = omega (arith, h, quantified_depth bs body, ap depth same, longer env inner c is)

@@ -8,16 +8,29 @@ use Rattle.dd_expansion.specs.declared.formulas.Formula.{Formula}
 use Rattle.dd_expansion.specs.declared.formulas.Formula.TheFolds.{fold-Formula}
 use Rattle.dd_expansion.specs.declared.formulas.Formula.TheOpen.{Formula-F}
 
--- a term of one of the variables in scope, with at most 16 moves, each by a label that there is
-abbrev pub term_fits : Grid → ℕ → Term → Bool
-term_fits g scope t = nat_lt t.variable scope && nat_le (length t.moves) 16 && list_all (λ l. nat_lt l (length g.labels)) t.moves
+-- how many moves a term has at most, how many balls a quantifier and of which radius, and how deep a formula is
+abbrev pub most_moves : ℕ
+most_moves = 16
 
--- at most 4 balls, each round one of the variables in scope and of a radius of at most 3
+abbrev pub most_balls : ℕ
+most_balls = 4
+
+abbrev pub most_ball_radius : ℕ
+most_ball_radius = 3
+
+abbrev pub most_nested : ℕ
+most_nested = 64
+
+-- a term of one of the variables in scope, each of its moves by a label that there is
+abbrev pub term_fits : Grid → ℕ → Term → Bool
+term_fits g scope t = nat_lt t.variable scope && nat_le (length t.moves) most_moves && list_all (λ l. nat_lt l (length g.labels)) t.moves
+
+-- balls round variables in scope
 abbrev pub ball_fits : ℕ → BallOf → Bool
-ball_fits scope b = nat_lt b.variable scope && nat_le b.radius 3
+ball_fits scope b = nat_lt b.variable scope && nat_le b.radius most_ball_radius
 
 abbrev pub balls_fit : ℕ → List BallOf → Bool
-balls_fit scope bs = nat_le (length bs) 4 && list_all (ball_fits scope) bs
+balls_fit scope bs = nat_le (length bs) most_balls && list_all (ball_fits scope) bs
 
 abbrev pub fits_step : Grid → ℕ → Formula-F (ℕ → Bool) → ℕ → Bool
 fits_step g n (Formula-F.Symbol t s) scope = term_fits g scope t && nat_lt s n
@@ -37,8 +50,8 @@ fits_step g n (Formula-F.Exists bs f) scope = balls_fit scope bs && f (scope + 1
 
 -- where so many variables are in scope, each variable, label, node and symbol of the formula is one that there is, and
 -- terms and balls are within their limits
-abbrev pub fits : Grid → ℕ → Formula → ℕ → Bool
-fits g n = fold-Formula (ℕ → Bool) (fits_step g n)
+abbrev pub formula_fits : Grid → ℕ → Formula → ℕ → Bool
+formula_fits g n = fold-Formula (ℕ → Bool) (fits_step g n)
 
 abbrev pub greatest : List ℕ → ℕ
 greatest [] = 0
@@ -69,5 +82,5 @@ depth = fold-Formula ℕ depth_step
 
 -- a formula with one free variable over a topology and n symbols
 pub record IsFormula (g : Grid) (n : ℕ) (f : Formula) : Type 0 where
-  pub numbers : fits g n f 1 ≡ true
-  pub depth : depth f ≤ 64
+  pub numbers : formula_fits g n f 1 ≡ true
+  pub depth : depth f ≤ most_nested

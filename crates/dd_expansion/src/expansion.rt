@@ -4,7 +4,7 @@ ghost use Rattle.std.specs.List.{sum_by};
 ghost use Rattle.dd_lattice.specs.InOrder.{in_order};
 ghost use Rattle.dd_expansion.specs.declared.fault.ExpansionFault.TheVariants.{Instances};
 ghost use Rattle.dd_expansion.specs.Terms.{cell_of, balls_of, origin_at};
-ghost use Rattle.dd_expansion.specs.Limits.{term_fits, fits, depth, IsFormula};
+ghost use Rattle.dd_expansion.specs.Limits.{term_fits, formula_fits, depth, IsFormula};
 ghost use Rattle.dd_expansion.specs.Near.{AreNear};
 ghost use Rattle.dd_expansion.specs.Leaves.{instances};
 ghost use Rattle.dd_expansion.specs.Expansion.{expansion, negated, any_of, both_alike};
@@ -75,7 +75,7 @@ impl<'a> Scope<'a> {
     #[cycle(expand)]
     #[tactic(auto, using(crate::proofs::Nodes::expansion_layers))]
     fn expand(&self, formula: &Formula, budget: &mut u32) -> Result<Expanded, ExpansionFault>
-        requires fits { fits self.now.topology.now self.now.symbols formula.now (length self.now.env.now) ≡ true }
+        requires fits { formula_fits self.now.topology.now self.now.symbols formula.now (length self.now.env.now) ≡ true }
         requires depth { depth formula.now + length self.now.env.now ≤ 65 }
         requires near { AreNear (12 * length self.now.env.now) self.now.env.now }
         ensures { let e = expansion self.now.topology.now.edges self.now.symbols formula.now self.now.env.now in
@@ -132,7 +132,7 @@ impl<'a> Scope<'a> {
         formulas: &[Formula],
         budget: &mut u32,
     ) -> Result<Items<Expanded>, ExpansionFault>
-        requires fits { fits self.now.topology.now self.now.symbols (Formula.And formulas.now) (length self.now.env.now) ≡ true }
+        requires fits { formula_fits self.now.topology.now self.now.symbols (Formula.And formulas.now) (length self.now.env.now) ≡ true }
         requires depth { depth (Formula.And formulas.now) + length self.now.env.now ≤ 65 }
         requires near { AreNear (12 * length self.now.env.now) self.now.env.now }
         ensures { let es = self.now.topology.now.edges in
@@ -156,7 +156,7 @@ impl<'a> Scope<'a> {
         body: &Boxed<Formula>,
         budget: &mut u32,
     ) -> Result<Items<Expanded>, ExpansionFault>
-        requires fits { fits self.now.topology.now self.now.symbols (Formula.ForAll balls.now body.now) (length self.now.env.now) ≡ true }
+        requires fits { formula_fits self.now.topology.now self.now.symbols (Formula.ForAll balls.now body.now) (length self.now.env.now) ≡ true }
         requires depth { depth (Formula.ForAll balls.now body.now) + length self.now.env.now ≤ 65 }
         requires near { AreNear (12 * length self.now.env.now) self.now.env.now }
         ensures { let es = self.now.topology.now.edges in

@@ -12,19 +12,19 @@ use Rattle.dd_compile.specs.Wiring.{Wiring}
 use Rattle.dd_formula.specs.LocalRule.{LocalRule, IsRule}
 use Rattle.dd_boxes.specs.Goals.{GoalOf, IsGoalFor}
 use Rattle.dd_boxes.specs.Boxes.{Reaches}
-use Rattle.dd_boxes.specs.Counts.{question_clauses}
+use Rattle.dd_boxes.specs.Counts.{question_clauses, most_clauses}
 use Rattle.dd_problem.specs.Layouts.{cells_in, box_cells}
 use Rattle.dd_problem.specs.Problems.{box_problem}
 use Rattle.dd_problem.specs.Numbered.{in_turn}
 use Rattle.dd_problem.specs.Pushed.{AreInputs, is_goal_wired, wired_problem}
-use Rattle.dd_problem.specs.Shows.{Shows, Decides}
+use Rattle.dd_problem.specs.Shows.{Shows, DecidesBox}
 use Rattle.dd_problem.proofs.Filtered.{some_same}
 use Rattle.dd_problem.proofs.BoxShows.{box_shows, shown_decides}
 use Rattle.dd_problem.proofs.BoxInputs.{radius_small, box_made, box_ascends, all_box_nodes, box_is_problem, box_goal_wired, box_inputs, box_few}
 
 -- the question's count is at most two million
 abbrev pub IsFew : LocalRule → GoalOf → ℕ → Type 0
-IsFew x g n = question_clauses x g (volume (centred x.dimension n)) ≤ 2000000
+IsFew x g n = question_clauses x g (volume (centred x.dimension n)) ≤ most_clauses
 
 -- the cells are those of the box
 pub cells_are : (x : LocalRule) (g : GoalOf) (n : ℕ) (o : Option Bounds) (d nodes : ℕ) (b : Bounds) (items cells : List Cell) → IsRule x → IsFew x g n → d ≡ x.dimension →
@@ -94,5 +94,5 @@ module _ {E : Type 0} (x : LocalRule) (g : GoalOf) (n : ℕ) (cells : List Cell)
   pub showing : IfOk r (λ cnf. Shows cnf.clauses x g n)
   showing = if_ok r (λ cnf. cnf ≡ box_problem x g n) (λ cnf. Shows cnf.clauses x g n) shown exactly
 
-  pub deciding : IfOk r (λ cnf. Decides cnf.clauses x g n)
-  deciding = if_ok r (λ cnf. cnf ≡ box_problem x g n) (λ cnf. Decides cnf.clauses x g n) (λ cnf h. shown_decides cnf.clauses x g n (shown cnf h)) exactly
+  pub deciding : IfOk r (λ cnf. DecidesBox cnf.clauses x g n)
+  deciding = if_ok r (λ cnf. cnf ≡ box_problem x g n) (λ cnf. DecidesBox cnf.clauses x g n) (λ cnf h. shown_decides cnf.clauses x g n (shown cnf h)) exactly

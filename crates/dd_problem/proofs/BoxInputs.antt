@@ -21,7 +21,7 @@ use Rattle.dd_formula.specs.LocalRule.{LocalRule, IsRule, reads_at}
 use Rattle.dd_boxes.specs.Goals.{GoalOf, breaks, always, IsGoalFor}
 use Rattle.dd_boxes.specs.Fillings.{in_box, is_box_cell}
 use Rattle.dd_boxes.specs.Boxes.{origin, Reaches}
-use Rattle.dd_boxes.specs.Counts.{question_clauses}
+use Rattle.dd_boxes.specs.Counts.{question_clauses, most_clauses}
 use Rattle.dd_problem.specs.Layouts.{box_index, box_cells, box_layout}
 use Rattle.dd_problem.specs.Clauses.{input}
 use Rattle.dd_problem.specs.Problems.{box_problem}
@@ -58,14 +58,14 @@ volume_wide d n some =
     let all : span b.low.x b.high.x * 1 ≤ volume b = mul-le (span b.low.x b.high.x) 1 (span b.low.x b.high.x) (span b.low.y b.high.y * span b.low.z b.high.z) (omega arith) (omega (arith, rest)) in
     omega (arith, wide, all)
 
-pub radius_small : (x : LocalRule) (g : GoalOf) (n : ℕ) → IsRule x → question_clauses x g (volume (centred x.dimension n)) ≤ 2000000 → n ≤ 1048576
+pub radius_small : (x : LocalRule) (g : GoalOf) (n : ℕ) → IsRule x → question_clauses x g (volume (centred x.dimension n)) ≤ most_clauses → n ≤ 1048576
 radius_small x g n rule few =
     let wide = volume_wide x.dimension n rule.dimension.0 in
     let positions = positions_below x g (volume (centred x.dimension n)) rule.nodes.0 in
     omega (arith, wide, positions, few)
 
 -- the box is made
-pub box_made : (x : LocalRule) (g : GoalOf) (n : ℕ) (o : Option Bounds) → IsRule x → question_clauses x g (volume (centred x.dimension n)) ≤ 2000000 →
+pub box_made : (x : LocalRule) (g : GoalOf) (n : ℕ) (o : Option Bounds) → IsRule x → question_clauses x g (volume (centred x.dimension n)) ≤ most_clauses →
     o ≡ (if nat_le n 1048576 then Some (centred x.dimension n) else None) → o ≡ Some (centred x.dimension n)
 box_made x g n o rule few is = is ∙ ap (λ b. if b then Some (centred x.dimension n) else None) (le-leb n 1048576 (radius_small x g n rule few))
 
@@ -137,5 +137,5 @@ box_goal_wired x g n rule ok reach small =
 pub box_inputs : (x : LocalRule) (n : ℕ) → AreInputs (length (box_cells x n) * x.symbols) (in_turn x.symbols (box_cells x n))
 box_inputs x n = are_inputs x.symbols (length (box_cells x n)) (box_cells x n) (range_with_len 0 (length (box_cells x n))) (turns_below (length (box_cells x n)))
 
-pub box_few : (x : LocalRule) (g : GoalOf) (n : ℕ) → question_clauses x g (volume (centred x.dimension n)) ≤ 2000000 → (box_problem x g n).variables ≤ 2000000
+pub box_few : (x : LocalRule) (g : GoalOf) (n : ℕ) → question_clauses x g (volume (centred x.dimension n)) ≤ most_clauses → (box_problem x g n).variables ≤ most_clauses
 box_few x g n few = let below = variables_below (box_layout x n) x g (centred x.dimension n) refl in omega (arith, below, few)

@@ -22,7 +22,7 @@ use Rattle.dd_boxes.proofs.FromBox.{box_alike}
 use Rattle.dd_problem.specs.Layouts.{box_index, box_cells, box_layout, fits_in}
 use Rattle.dd_problem.specs.Problems.{problem_clauses}
 use Rattle.dd_problem.specs.Symbols.{AreSymbols, AreRead, look_of}
-use Rattle.dd_problem.specs.Shows.{IsReadFrom, Shows, Decides}
+use Rattle.dd_problem.specs.Shows.{IsReadFrom, Shows, DecidesBox}
 use Rattle.dd_problem.proofs.Parted.{premise_holds, goal_holds}
 use Rattle.dd_problem.proofs.Reading.{Stands, IsWired, look_allowed, read_symbols, problem_read}
 use Rattle.dd_problem.proofs.Writing.{assignment, problem_written}
@@ -168,7 +168,7 @@ box_shows x g n rule ok reach =
     }
 
 -- clauses that show a box are refuted exactly where it suffices
-pub shown_decides : (clauses : List (List Literal)) (x : LocalRule) (g : GoalOf) (n : ℕ) → Shows clauses x g n → Decides clauses x g n
+pub shown_decides : (clauses : List (List Literal)) (x : LocalRule) (g : GoalOf) (n : ℕ) → Shows clauses x g n → DecidesBox clauses x g n
 shown_decides clauses x g n shows = record {
   suffices = λ refuted look filling admissible goal.
       (let found = shows.every look (record { filling = filling; admissible = admissible; goal = goal }) in refuted found.0 found.1);

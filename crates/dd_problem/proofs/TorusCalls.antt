@@ -19,7 +19,7 @@ use Rattle.dd_clause.specs.Clauses.{ClauseList}
 use Rattle.dd_compile.specs.Wiring.{Wiring}
 use Rattle.dd_formula.specs.LocalRule.{LocalRule, IsRule}
 use Rattle.dd_boxes.specs.Goals.{GoalOf, IsGoalFor}
-use Rattle.dd_boxes.specs.Counts.{question_clauses}
+use Rattle.dd_boxes.specs.Counts.{question_clauses, most_clauses}
 use Rattle.dd_boxes.specs.Witnesses.{ArePeriods}
 use Rattle.dd_problem.specs.Layouts.{cells_in, torus_cells, torus_layout}
 use Rattle.dd_problem.specs.Problems.{torus_problem}
@@ -37,7 +37,7 @@ use Rattle.dd_problem.proofs.TorusInputs.{spread_small, numbers_tile, number_is,
 
 -- the question's count is at most two million
 abbrev pub IsFew : LocalRule → GoalOf → Periods → Type 0
-IsFew x g periods = question_clauses x g (volume periods) ≤ 2000000
+IsFew x g periods = question_clauses x g (volume periods) ≤ most_clauses
 
 span_most : (p s : ℕ) → 1 ≤ p → p ≤ 8 → s ≤ 16 → span (pos 0 -ℤ pos s) (pos (p - 1 + s)) ≤ 40
 span_most p s some most small = omega (arith, ints)

@@ -113,7 +113,7 @@ module _ (x : LocalRule) (periods : Periods) (rule : IsRule x) (ok : ArePeriods 
   pub torus_is_layout : IsLayout (torus_layout x periods)
   torus_is_layout = record {
     within = λ c h. (let low = index_within c (ltb-true c.node x.nodes h) in omega (arith, length-torus_cells));
-    node = λ c h. (cell (base_of (torus x periods) c.position) c.node, torus_cell_there c.position c.node (ltb-true c.node x.nodes h), refl);
+    node = λ c h. (cell (base_of periods c.position) c.node, torus_cell_there c.position c.node (ltb-true c.node x.nodes h), refl);
   }
 
   place_is_cell : (k : ℕ) (d : Cell) → slice_get (torus_cells x periods) k ≡ Some d → (k < length (zeros x periods)) × (d ≡ cell_in (torus x periods) k)

@@ -1,8 +1,11 @@
+-- Which cells have inputs; the clauses over them, and those of a whole question on a box and on a torus.
 pub mod Layouts
 pub mod Clauses
 pub mod Problems
+-- Symbols by the numbers of cells, and what it is for clauses to say what a question asks.
 pub mod Symbols
 pub mod Shows
+-- The same clauses over the inputs that the code keeps.
 pub mod Pushed
 pub mod Numbered
 pub mod Grown

@@ -31,7 +31,7 @@ abbrev pub AreRefuted : List (List Literal) → Type 0
 AreRefuted clauses = (set : ℕ → Bool) → Satisfies set clauses → ⊥
 
 -- so the clauses are refuted exactly where the box suffices
-pub record Decides (clauses : List (List Literal)) (x : LocalRule) (g : GoalOf) (n : ℕ) : Type 0 where
+pub record DecidesBox (clauses : List (List Literal)) (x : LocalRule) (g : GoalOf) (n : ℕ) : Type 0 where
   pub suffices : AreRefuted clauses → Suffices x g n
   pub refuted : Suffices x g n → AreRefuted clauses
 

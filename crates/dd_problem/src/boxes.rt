@@ -3,10 +3,10 @@ ghost use Rattle.std.specs.Prelude.{◌≡◌, ◌≤◌, IfOk};
 ghost use Rattle.dd_lattice.specs.Boxes.{centred, volume};
 ghost use Rattle.dd_boxes.specs.Goals.{IsGoalFor};
 ghost use Rattle.dd_boxes.specs.Boxes.{Reaches};
-ghost use Rattle.dd_boxes.specs.Counts.{question_clauses};
+ghost use Rattle.dd_boxes.specs.Counts.{question_clauses, most_clauses};
 ghost use Rattle.dd_boxes.specs.Views.{goal_of};
 ghost use Rattle.dd_problem.specs.Problems.{box_problem};
-ghost use Rattle.dd_problem.specs.Shows.{Shows, Decides};
+ghost use Rattle.dd_problem.specs.Shows.{Shows, DecidesBox};
 
 use crate::layouts::{cells_of, inputs_in_turn};
 use crate::problems::problem;
@@ -27,10 +27,10 @@ pub fn box_clauses(
 ) -> Result<Cnf, AllocError>
     requires goal { IsGoalFor premise.now (goal_of goal.now) }
     requires reaches { Reaches (goal_of goal.now) radius }
-    requires few { question_clauses premise.now (goal_of goal.now) (volume (centred premise.now.dimension radius)) ≤ 2000000 }
+    requires few { question_clauses premise.now (goal_of goal.now) (volume (centred premise.now.dimension radius)) ≤ most_clauses }
     ensures exact { IfOk result (λ cnf. cnf ≡ box_problem premise.now (goal_of goal.now) radius) }
     ensures shows { IfOk result (λ cnf. Shows cnf.clauses premise.now (goal_of goal.now) radius) }
-    ensures decides { IfOk result (λ cnf. Decides cnf.clauses premise.now (goal_of goal.now) radius) }
+    ensures decides { IfOk result (λ cnf. DecidesBox cnf.clauses premise.now (goal_of goal.now) radius) }
 {
     let symbols = premise.symbols();
     let bounds = centred_box(premise.dim(), radius).unwrap();

@@ -6,7 +6,7 @@ ghost use Rattle.dd_lattice.specs.Order.{cell_cmp};
 ghost use Rattle.dd_pattern.specs.Periods.{periods_of, volume};
 ghost use Rattle.dd_pattern.specs.Tile.{fundamental};
 ghost use Rattle.dd_boxes.specs.Goals.{IsGoalFor};
-ghost use Rattle.dd_boxes.specs.Counts.{question_clauses};
+ghost use Rattle.dd_boxes.specs.Counts.{question_clauses, most_clauses};
 ghost use Rattle.dd_boxes.specs.Views.{goal_of};
 ghost use Rattle.dd_boxes.specs.Witnesses.{ArePeriods};
 ghost use Rattle.dd_problem.specs.Problems.{torus_problem};
@@ -175,7 +175,7 @@ pub fn torus_clauses(
 ) -> Result<Cnf, AllocError>
     requires goal { IsGoalFor premise.now (goal_of goal.now) }
     requires periods { ArePeriods premise.now.dimension (periods_of periods shear) }
-    requires few { question_clauses premise.now (goal_of goal.now) (volume (periods_of periods shear)) ≤ 2000000 }
+    requires few { question_clauses premise.now (goal_of goal.now) (volume (periods_of periods shear)) ≤ most_clauses }
     ensures exact { IfOk result (λ cnf. cnf ≡ torus_problem premise.now (goal_of goal.now) (periods_of periods shear)) }
     ensures shows { IfOk result (λ cnf. ShowsTorus cnf.clauses premise.now (goal_of goal.now) (periods_of periods shear)) }
 {

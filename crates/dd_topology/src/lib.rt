@@ -15,6 +15,3 @@ pub use fault::TopologyFault;
 pub use names::{NameFault, Names};
 pub use sets::Sets;
 pub use topology::Topology;
-
-#[cfg(test)]
-mod tests;

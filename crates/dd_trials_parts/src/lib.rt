@@ -26,4 +26,6 @@ mod syntax;
 #[cfg(test)]
 mod tokens;
 #[cfg(test)]
+mod topologies;
+#[cfg(test)]
 mod values;
