@@ -10,7 +10,8 @@ use Rattle.dd_simplex.specs.Programs.{LinearProgram, IsProgram, IsFeasible, IsBe
 use Rattle.dd_simplex.specs.Dictionaries.{Dictionary, count}
 use Rattle.dd_simplex.specs.Runs.{entering, column_of, dual_of}
 use Rattle.dd_simplex.proofs.Totals.{eq_same, eq_other, total_low, total_same, total_none, total_pick, total_split, total_nonneg, zero_nonneg}
-use Rattle.dd_simplex.proofs.Equations.{coefficient_in, price, Holds}
+use Rattle.dd_simplex.specs.Laws.{coefficient_in, price}
+use Rattle.dd_simplex.proofs.Equations.{Holds}
 use Rattle.dd_simplex.proofs.Reaching.{IsReached, start_holds, start_says, entering_none}
 
 -- ---- orders from sums
@@ -72,12 +73,38 @@ module _ (p : LinearProgram) (d : Dictionary) (g : IsProgram p) (r : IsReached p
   abbrev slack_price : ℕ → Exact
   slack_price k = price d (p.columns + k)
 
+  joined_meets : (σ : Exact) (u s : ℕ → Exact)
+      → ((k : ℕ) → k < length p.rows → plus (total (λ j. times (coefficient p k j) (u j)) p.columns) (s k) ≡ times σ (bound_at p k))
+      → (k : ℕ) → k < length p.rows → plus (total (λ j. times (coefficient p k j) (joined p u s j)) p.columns) (joined p u s (p.columns + k)) ≡ times σ (bound_at p k)
+  joined_meets σ u s h k q =
+      (λ i. plus (total_same (λ j. times (coefficient p k j) (joined p u s j)) (λ j. times (coefficient p k j) (u j)) p.columns (λ j t. ap (times (coefficient p k j)) (joined_column p u s j t)) i) (joined_slack p u s k i))
+      ∙ h k q
+
+  -- columns of 0, with the bounds as slacks
+  nothing : (f : ℕ → Exact) (l : ℕ) → total (λ j. times (f j) zero_of) l ≡ zero_of
+  nothing f l = total_none (λ j. times (f j) zero_of) l (λ j _. times_zero (f j))
+
+  nothing_meets : (k : ℕ) → k < length p.rows → plus (total (λ j. times (coefficient p k j) zero_of) p.columns) (bound_at p k) ≡ times one_of (bound_at p k)
+  nothing_meets k q = ap (λ (t : Exact). plus t (bound_at p k)) (nothing (coefficient p k) p.columns) ∙ (zero_plus (bound_at p k) ∙ sym (one_times (bound_at p k)))
+
+  -- one column of 1, with its coefficients turned round as slacks
+  column_alone : (j : ℕ) → j < p.columns → (f : ℕ → Exact) → total (λ w. times (f w) (unit w j)) p.columns ≡ low (f j)
+  column_alone j q f =
+      total_pick (λ w. times (f w) (unit w j)) j p.columns q (λ w _ k. ap (λ (b : Bool). times (f w) (cond b one_of zero_of)) (eq_other w j k) ∙ times_zero (f w))
+      ∙ (ap low (ap (λ (b : Bool). times (f j) (cond b one_of zero_of)) (eq_same j) ∙ times_one (f j)) ∙ low_low _ _)
+
+  column_meets : (j : ℕ) → j < p.columns → (k : ℕ) → k < length p.rows
+      → plus (total (λ w. times (coefficient p k w) (unit w j)) p.columns) (minus (coefficient p k j)) ≡ times zero_of (bound_at p k)
+  column_meets j q k t =
+      ap (λ (y : Exact). plus y (minus (coefficient p k j))) (column_alone j q (coefficient p k))
+      ∙ (plus_low_left (coefficient p k j) (minus (coefficient p k j)) ∙ (plus_minus (coefficient p k j) ∙ sym (zero_times (bound_at p k))))
+
   worth_at : (σ : Exact) (u s : ℕ → Exact)
       → ((k : ℕ) → k < length p.rows → plus (total (λ j. times (coefficient p k j) (u j)) p.columns) (s k) ≡ times σ (bound_at p k))
       → plus (times σ d.value) (plus (total (λ j. times (price d j) (u j)) p.columns) (total (λ k. times (slack_price k) (s k)) (length p.rows))) ≡ low (u 0)
   worth_at σ u s h =
       sym (ap (plus (times σ d.value)) (total_split (λ w. times (price d w) (x w)) p.columns (length p.rows) ∙ (λ i. plus (columns i) (slacks i))))
-      ∙ (r.worth σ x (start_holds p σ x rows) ∙ ap low (joined_column p u s 0 g.wide))
+      ∙ (r.worth σ x (start_holds p σ x (joined_meets σ u s h)) ∙ ap low (joined_column p u s 0 g.wide))
     where
       x : ℕ → Exact
       x = joined p u s
@@ -87,11 +114,6 @@ module _ (p : LinearProgram) (d : Dictionary) (g : IsProgram p) (r : IsReached p
 
       slacks : total (λ k. times (price d (p.columns + k)) (x (p.columns + k))) (length p.rows) ≡ total (λ k. times (slack_price k) (s k)) (length p.rows)
       slacks = total_same (λ k. times (price d (p.columns + k)) (x (p.columns + k))) (λ k. times (slack_price k) (s k)) (length p.rows) (λ k q. ap (times (slack_price k)) (joined_slack p u s k))
-
-      rows : (k : ℕ) → k < length p.rows → plus (total (λ j. times (coefficient p k j) (x j)) p.columns) (x (p.columns + k)) ≡ times σ (bound_at p k)
-      rows k q =
-          (λ i. plus (total_same (λ j. times (coefficient p k j) (x j)) (λ j. times (coefficient p k j) (u j)) p.columns (λ j t. ap (times (coefficient p k j)) (joined_column p u s j t)) i) (joined_slack p u s k i))
-          ∙ h k q
 
   dual_price : (k : ℕ) → dual_of p d k ≡ minus (price d (p.columns + k))
   dual_price k = by (d.is_basic (p.columns + k))
@@ -114,35 +136,21 @@ module _ (p : LinearProgram) (d : Dictionary) (g : IsProgram p) (r : IsReached p
       low_q : low (minus Q) ≡ minus Q
       low_q = ap low (sym (total_minus (λ k. times (slack_price k) (bound_at p k)) (length p.rows))) ∙ (total_low (λ k. minus (times (slack_price k) (bound_at p k))) (length p.rows) ∙ total_minus (λ k. times (slack_price k) (bound_at p k)) (length p.rows))
 
-      none : (f : ℕ → Exact) (l : ℕ) → total (λ j. times (f j) zero_of) l ≡ zero_of
-      none f l = total_none (λ j. times (f j) zero_of) l (λ j _. times_zero (f j))
-
-      meets : (k : ℕ) → k < length p.rows → plus (total (λ j. times (coefficient p k j) zero_of) p.columns) (bound_at p k) ≡ times one_of (bound_at p k)
-      meets k q = ap (λ (t : Exact). plus t (bound_at p k)) (none (coefficient p k) p.columns) ∙ (zero_plus (bound_at p k) ∙ sym (one_times (bound_at p k)))
-
       sum : plus d.value Q ≡ zero_of
       sum =
           sym (plus_low_left d.value Q)
           ∙ (ap (λ (t : Exact). plus t Q) (sym (one_times d.value))
-          ∙ (ap (plus (times one_of d.value)) (sym (total_low (λ k. times (slack_price k) (bound_at p k)) (length p.rows)) ∙ (sym (zero_plus Q) ∙ ap (λ (t : Exact). plus t Q) (sym (none (price d) p.columns))))
-          ∙ (worth_at one_of (λ j. zero_of) (bound_at p) meets ∙ zero_is)))
+          ∙ (ap (plus (times one_of d.value)) (sym (total_low (λ k. times (slack_price k) (bound_at p k)) (length p.rows)) ∙ (sym (zero_plus Q) ∙ ap (λ (t : Exact). plus t Q) (sym (nothing (price d) p.columns))))
+          ∙ (worth_at one_of (λ j. zero_of) (bound_at p) nothing_meets ∙ zero_is)))
 
-  duals_sum : entering (count p) d ≡ None → (j : ℕ) → j < p.columns → IsAtMost (unit 0 j) (total (λ k. times (dual_of p d k) (coefficient p k j)) (length p.rows))
-  duals_sum h j q = at_most_from_less (price d j) S (unit 0 j) sum (entering_none (count p) d j h (omega (arith, q)))
+  duals_equation : (j : ℕ) → j < p.columns → plus (total (λ k. times (dual_of p d k) (coefficient p k j)) (length p.rows)) (price d j) ≡ low (unit 0 j)
+  duals_equation j q = sum
     where
       u : ℕ → Exact
       u w = unit w j
 
       S : Exact
       S = total (λ k. times (dual_of p d k) (coefficient p k j)) (length p.rows)
-
-      picked : (f : ℕ → Exact) → total (λ w. times (f w) (unit w j)) p.columns ≡ low (f j)
-      picked f =
-          total_pick (λ w. times (f w) (unit w j)) j p.columns q (λ w _ k. ap (λ (b : Bool). times (f w) (cond b one_of zero_of)) (eq_other w j k) ∙ times_zero (f w))
-          ∙ (ap low (ap (λ (b : Bool). times (f j) (cond b one_of zero_of)) (eq_same j) ∙ times_one (f j)) ∙ low_low _ _)
-
-      meets : (k : ℕ) → k < length p.rows → plus (total (λ w. times (coefficient p k w) (unit w j)) p.columns) (minus (coefficient p k j)) ≡ times zero_of (bound_at p k)
-      meets k t = ap (λ (y : Exact). plus y (minus (coefficient p k j))) (picked (coefficient p k)) ∙ (plus_low_left (coefficient p k j) (minus (coefficient p k j)) ∙ (plus_minus (coefficient p k j) ∙ sym (zero_times (bound_at p k))))
 
       slacks : total (λ k. times (slack_price k) (minus (coefficient p k j))) (length p.rows) ≡ S
       slacks = total_same (λ k. times (slack_price k) (minus (coefficient p k j))) (λ k. times (dual_of p d k) (coefficient p k j)) (length p.rows)
@@ -153,8 +161,69 @@ module _ (p : LinearProgram) (d : Dictionary) (g : IsProgram p) (r : IsReached p
           plus_comm S (price d j)
           ∙ (sym (low_plus (price d j) S)
           ∙ (sym (zero_plus (plus (price d j) S))
-          ∙ ((λ i. plus (sym (zero_times d.value) i) ((sym (plus_low_left (price d j) S) ∙ (λ k. plus (sym (picked (price d)) k) (sym slacks k))) i))
-          ∙ worth_at zero_of (λ w. unit w j) (λ k. minus (coefficient p k j)) meets)))
+          ∙ ((λ i. plus (sym (zero_times d.value) i) ((sym (plus_low_left (price d j) S) ∙ (λ k. plus (sym (column_alone j q (price d)) k) (sym slacks k))) i))
+          ∙ worth_at zero_of (λ w. unit w j) (λ k. minus (coefficient p k j)) (column_meets j q))))
+
+  duals_sum : entering (count p) d ≡ None → (j : ℕ) → j < p.columns → IsAtMost (unit 0 j) (total (λ k. times (dual_of p d k) (coefficient p k j)) (length p.rows))
+  duals_sum h j q = at_most_from_less (price d j) (total (λ k. times (dual_of p d k) (coefficient p k j)) (length p.rows)) (unit 0 j) (duals_equation j q) (entering_none (count p) d j h (omega (arith, q)))
+
+  pub reduced_column : (j : ℕ) → j < p.columns → plus (price d j) (total (λ k. times (minus (price d (p.columns + k))) (coefficient p k j)) (length p.rows)) ≡ low (unit 0 j)
+  reduced_column j q =
+      ap (plus (price d j)) (sym (total_same (λ k. times (dual_of p d k) (coefficient p k j)) (λ k. times (minus (price d (p.columns + k))) (coefficient p k j)) (length p.rows) (λ k _. ap (λ (t : Exact). times t (coefficient p k j)) (dual_price k))))
+      ∙ (plus_comm (price d j) (total (λ k. times (dual_of p d k) (coefficient p k j)) (length p.rows)) ∙ duals_equation j q)
+
+  pub reduced_value : low d.value ≡ total (λ k. times (minus (price d (p.columns + k))) (bound_at p k)) (length p.rows)
+  reduced_value =
+      sym duals_worth
+      ∙ total_same (λ k. times (dual_of p d k) (bound_at p k)) (λ k. times (minus (price d (p.columns + k))) (bound_at p k)) (length p.rows) (λ k _. ap (λ (t : Exact). times t (bound_at p k)) (dual_price k))
+
+  -- ---- rows as combinations of the program's
+  side_at : (σ : Exact) (u s : ℕ → Exact)
+      → ((k : ℕ) → k < length p.rows → plus (total (λ j. times (coefficient p k j) (u j)) p.columns) (s k) ≡ times σ (bound_at p k))
+      → (v : ℕ) → v < count p → d.is_basic v ≡ true
+      → plus (total (λ j. times (coefficient_in d v j) (u j)) p.columns) (total (λ k. times (coefficient_in d v (p.columns + k)) (s k)) (length p.rows)) ≡ times σ (d.bound v)
+  side_at σ u s h v q b =
+      sym (total_split (λ w. times (coefficient_in d v w) (joined p u s w)) p.columns (length p.rows) ∙ (λ i. plus (columns i) (slacks i)))
+      ∙ r.forth σ (joined p u s) (start_holds p σ (joined p u s) (joined_meets σ u s h)) v q b
+    where
+      columns : total (λ w. times (coefficient_in d v w) (joined p u s w)) p.columns ≡ total (λ j. times (coefficient_in d v j) (u j)) p.columns
+      columns = total_same (λ w. times (coefficient_in d v w) (joined p u s w)) (λ j. times (coefficient_in d v j) (u j)) p.columns (λ j t. ap (times (coefficient_in d v j)) (joined_column p u s j t))
+
+      slacks : total (λ k. times (coefficient_in d v (p.columns + k)) (joined p u s (p.columns + k))) (length p.rows) ≡ total (λ k. times (coefficient_in d v (p.columns + k)) (s k)) (length p.rows)
+      slacks = total_same (λ k. times (coefficient_in d v (p.columns + k)) (joined p u s (p.columns + k))) (λ k. times (coefficient_in d v (p.columns + k)) (s k)) (length p.rows)
+          (λ k t. ap (times (coefficient_in d v (p.columns + k))) (joined_slack p u s k))
+
+  pub combined_bound : (v : ℕ) → v < count p → d.is_basic v ≡ true → low (d.bound v) ≡ total (λ k. times (coefficient_in d v (p.columns + k)) (bound_at p k)) (length p.rows)
+  combined_bound v q b =
+      sym (one_times (d.bound v))
+      ∙ (sym (side_at one_of (λ _. zero_of) (bound_at p) nothing_meets v q b)
+      ∙ (ap (λ (t : Exact). plus t B) (nothing (coefficient_in d v) p.columns) ∙ (zero_plus B ∙ total_low (λ k. times (coefficient_in d v (p.columns + k)) (bound_at p k)) (length p.rows))))
+    where
+      B : Exact
+      B = total (λ k. times (coefficient_in d v (p.columns + k)) (bound_at p k)) (length p.rows)
+
+  pub combined_column : (v : ℕ) → v < count p → d.is_basic v ≡ true → (j : ℕ) → j < p.columns
+      → low (coefficient_in d v j) ≡ total (λ k. times (coefficient_in d v (p.columns + k)) (coefficient p k j)) (length p.rows)
+  combined_column v q b j t =
+      plus_cancel c S (minus S) (both ∙ sym (plus_minus S)) ∙ total_low (λ k. times (coefficient_in d v (p.columns + k)) (coefficient p k j)) (length p.rows)
+    where
+      c : Exact
+      c = coefficient_in d v j
+
+      S : Exact
+      S = total (λ k. times (coefficient_in d v (p.columns + k)) (coefficient p k j)) (length p.rows)
+
+      slacks : total (λ k. times (coefficient_in d v (p.columns + k)) (minus (coefficient p k j))) (length p.rows) ≡ minus S
+      slacks =
+          total_same (λ k. times (coefficient_in d v (p.columns + k)) (minus (coefficient p k j))) (λ k. minus (times (coefficient_in d v (p.columns + k)) (coefficient p k j))) (length p.rows)
+          (λ k _. sym (minus_times_right (coefficient_in d v (p.columns + k)) (coefficient p k j)))
+          ∙ total_minus (λ k. times (coefficient_in d v (p.columns + k)) (coefficient p k j)) (length p.rows)
+
+      both : plus c (minus S) ≡ zero_of
+      both =
+          sym (plus_low_left c (minus S))
+          ∙ ((λ i. plus (sym (column_alone j t (coefficient_in d v)) i) (sym slacks i))
+          ∙ (side_at zero_of (λ w. unit w j) (λ k. minus (coefficient p k j)) (column_meets j t) v q b ∙ zero_times (d.bound v)))
 
   -- ---- no columns give more
   no_more : entering (count p) d ≡ None → (xs : List Exact) → IsFeasible p xs → IsAtMost (fraction_at xs 0) d.value

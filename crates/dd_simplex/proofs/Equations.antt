@@ -9,14 +9,8 @@ use Rattle.dd_fraction.proofs.Lowest.{zero_is, one_is}
 use Rattle.dd_fraction.proofs.OrderLaws.{times_inverse_positive}
 use Rattle.dd_simplex.specs.Programs.{total, zero_of, one_of}
 use Rattle.dd_simplex.specs.Dictionaries.{Dictionary, pivoted, new_bound, new_entry, less_product}
+use Rattle.dd_simplex.specs.Laws.{coefficient_in, price}
 use Rattle.dd_simplex.proofs.Totals.{sum_scaled, sum_with, total_low}
-
--- the coefficient of w in the equation of the basic variable v, and in the objective
-abbrev pub coefficient_in : Dictionary → ℕ → ℕ → Exact
-coefficient_in d v w = cond (nat_eq w v) one_of (cond (d.is_basic w) zero_of (d.entry v w))
-
-abbrev pub price : Dictionary → ℕ → Exact
-price d w = cond (d.is_basic w) zero_of (d.cost w)
 
 abbrev pub left_side : ℕ → Dictionary → (ℕ → Exact) → ℕ → Exact
 left_side n d x v = total (λ w. times (coefficient_in d v w) (x w)) n

@@ -9,6 +9,7 @@ pub mod PivotTests
 pub mod Places
 pub mod Reaching
 pub mod Running
+pub mod Soundness
 pub mod Standing
 pub mod Starting
 pub mod Totals

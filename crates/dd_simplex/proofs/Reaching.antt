@@ -19,7 +19,8 @@ use Rattle.dd_simplex.specs.Dictionaries.{Dictionary, count, start, pivoted, new
 use Rattle.dd_simplex.specs.Runs.{is_over, may_enter, entering, ratio, limits, may_leave, leaving, all_below}
 use Rattle.dd_simplex.proofs.Totals.{eq_same, eq_other, total_same, total_pick, total_split, zero_nonneg}
 use Rattle.dd_simplex.proofs.Firsts.{and_left, and_right, all_at, first_some, first_none}
-use Rattle.dd_simplex.proofs.Equations.{coefficient_in, price, left_side, Holds, objective, IsTurn, turn_forth, turn_back, turn_objective, then_other, then_leaving, apart, true_false}
+use Rattle.dd_simplex.specs.Laws.{coefficient_in, price}
+use Rattle.dd_simplex.proofs.Equations.{left_side, Holds, objective, IsTurn, turn_forth, turn_back, turn_objective, then_other, then_leaving, apart, true_false}
 
 pub record IsReached (p : LinearProgram) (d : Dictionary) : Type 0 where
   pub bounds : (v : ℕ) → v < count p → d.is_basic v ≡ true → IsNonneg (d.bound v)

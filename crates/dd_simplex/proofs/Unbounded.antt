@@ -15,7 +15,8 @@ use Rattle.dd_simplex.specs.Dictionaries.{Dictionary, count}
 use Rattle.dd_simplex.specs.Runs.{is_over, ratio, limits, may_leave, leaving, all_below}
 use Rattle.dd_simplex.proofs.Totals.{eq_same, eq_other, total_pick, total_two, zero_nonneg}
 use Rattle.dd_simplex.proofs.Firsts.{and_both, all_true, first_none, smallest, IsSmallest}
-use Rattle.dd_simplex.proofs.Equations.{coefficient_in, price, Holds, objective, apart}
+use Rattle.dd_simplex.specs.Laws.{coefficient_in, price}
+use Rattle.dd_simplex.proofs.Equations.{Holds, objective, apart}
 use Rattle.dd_simplex.proofs.Reaching.{IsReached, Enters, start_says, not_over, test_at_most}
 
 -- each variable's part, when e grows by 1

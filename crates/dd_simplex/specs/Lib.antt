@@ -4,5 +4,7 @@ pub mod Programs
 pub mod Dictionaries
 -- the run by Bland's rule, with a limit on its pivots and on its numbers
 pub mod Runs
+-- how a run stops, and what its dictionaries are
+pub mod Laws
 -- what the code keeps of a dictionary
 pub mod table

@@ -2,6 +2,7 @@
 #![tactic(auto)]
 
 mod fault;
+mod laws;
 mod line;
 mod program;
 mod simplex;
@@ -10,6 +11,7 @@ mod start;
 mod tableau;
 
 pub use fault::SimplexFault;
+pub use laws::{one_stop, sound_pivots};
 pub use program::Program;
 pub use simplex::maximise;
 pub use solution::Solved;

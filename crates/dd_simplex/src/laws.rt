@@ -1,0 +1,20 @@
+//! Laws of runs.
+ghost use Rattle.dd_simplex.specs.Laws.{HasOneStop, AreSound};
+
+use crate::program::Program;
+
+/// Does nothing; its contract is the law that a run stops in one way: it ends with one result, a number of it passes
+/// 2^127 - 1, or it comes to its limit of pivots.
+pub fn one_stop(_program: &Program, _pivots: u32)
+    ensures { HasOneStop _program.now _pivots }
+{
+    let _columns = _program.columns();
+}
+
+/// Does nothing; its contract is the law of the dictionaries on the way: their rows and objective are combinations of the
+/// program's rows, no bound falls below 0, and a variable always leaves, so that no run is unbounded.
+pub fn sound_pivots(_program: &Program)
+    ensures { AreSound _program.now }
+{
+    let _columns = _program.columns();
+}
