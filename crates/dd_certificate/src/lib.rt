@@ -5,8 +5,6 @@ mod answer;
 mod decimal;
 mod laws;
 mod refutation;
-#[cfg(test)]
-mod tests;
 mod writing;
 
 pub use answer::{Answer, Listed, Reason, Side};

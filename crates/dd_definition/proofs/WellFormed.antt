@@ -28,7 +28,7 @@ use Rattle.dd_expansion.specs.declared.formulas.BallOf.{BallOf}
 use Rattle.dd_expansion.specs.declared.formulas.Formula.{Formula, roll-Formula}
 use Rattle.dd_expansion.specs.declared.formulas.Formula.TheFolds.{fold-roll-Formula, map-Formula}
 use Rattle.dd_expansion.specs.declared.formulas.Formula.TheOpen.{Formula-F}
-use Rattle.dd_expansion.specs.Limits.{term_fits, ball_fits, balls_fit, fits, fits_step}
+use Rattle.dd_expansion.specs.Limits.{term_fits, ball_fits, balls_fit, formula_fits, fits_step}
 use Rattle.dd_naming.specs.declared.fault.Fault.{Fault}
 use Rattle.dd_naming.specs.declared.setting.Setting.{Setting}
 use Rattle.dd_naming.specs.Texts.{missing, number_in, unknown_variable}

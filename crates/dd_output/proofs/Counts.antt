@@ -1,10 +1,10 @@
 -- Numbers that tell how much follows, and loops over a count.
-use Rattle.std.proofs.Common.{◌≡◌, ℕ, zero, suc, ◌+◌, ◌-◌, ◌*◌, ◌<◌, ◌≤◌, List, [], ◌∷◌, ◌++◌, length, Result, Ok, Err, Bool, true, false, cond, refl, sym, ap, ◌∙◌, append_assoc, arith}
+use Rattle.std.proofs.Common.{◌≡◌, ℕ, suc, ◌+◌, ◌-◌, ◌*◌, ◌<◌, ◌≤◌, List, [], ◌∷◌, ◌++◌, length, Result, Ok, Err, Bool, true, false, cond, refl, sym, ap, ◌∙◌, append_assoc, arith}
 use Rattle.std.specs.Prelude.{◌==◌, ◌||◌}
 use Rattle.std.proofs.lemmas.List.{append-nil}
 use Rattle.dd_output.specs.declared.fault.ReadFault.{ReadFault}
 use Rattle.dd_output.specs.declared.fault.ReadFault.TheVariants as faults
-use Rattle.dd_output.specs.reading.Stops.{Stop, stop, Read, ◌>>=◌, before, Gives, Fails, StoppedAt, goes_on, starts, digits_at, number_at, map_at, then_at, copies, many_at, begins, word_at}
+use Rattle.dd_output.specs.reading.Stops.{Stop, Read, ◌>>=◌, before, Gives, Fails, goes_on, starts, digits_at, number_at, copies, many_at, begins, word_at}
 use Rattle.std.specs.Prelude.{ℤ}
 use Rattle.dd_output.specs.reading.Lists.{minus_of, plus_of, signed_at}
 use Rattle.dd_output.proofs.Loops.{fails_then, fails_before}

@@ -1,20 +1,20 @@
 -- The laws of the lists of a step, each ended by a 0.
-use Rattle.std.proofs.Common.{◌≡◌, ℕ, zero, suc, ◌+◌, ◌-◌, ◌*◌, ◌/◌, ◌%◌, ◌^◌, ◌<◌, ◌≤◌, List, [], ◌∷◌, ◌++◌, length, length-append, Result, Ok, Err, Bool, true, false, cond, ◌⊎◌, inl, inr, refl, sym, ap, subst, ◌∙◌, append_assoc, arith}
-use Rattle.std.specs.Prelude.{◌==◌, codes, All}
+use Rattle.std.proofs.Common.{◌≡◌, ℕ, suc, ◌^◌, ◌<◌, ◌≤◌, List, [], ◌∷◌, ◌++◌, length, length-append, Bool, true, false, ◌⊎◌, inl, inr, refl, sym, ap, ◌∙◌, append_assoc, arith}
+use Rattle.std.specs.Prelude.{◌==◌, All}
 use Rattle.std.specs.Fmt.{decimal}
 use Rattle.std.specs.List.{flat_map, AllByRecursion}
-use Rattle.std.proofs.lemmas.Bool.{ne_eqb, eq-eqb}
-use Rattle.std.proofs.lemmas.Fmt.{decimal_digit, decimal_by_steps}
+use Rattle.std.proofs.lemmas.Bool.{ne_eqb}
+use Rattle.std.proofs.lemmas.Fmt.{decimal_digit}
 use Rattle.std.proofs.lemmas.List.Concat.{flat_map-cons}
 use Rattle.dd_clause.specs.declared.clause.Literal.{Literal}
 use Rattle.dd_clause.specs.Clauses.{IsInRange}
-use Rattle.dd_output.specs.reading.Stops.{Stop, stop, Read, before, word_at, is_digit, number_at, bytes_at, then_at, after_at, map_at, many_at, copies, Entry, item, last, entries_at, choice_at}
+use Rattle.dd_output.specs.reading.Stops.{Read, before, word_at, number_at, after_at, map_at, Entry, item, last, entries_at}
 use Rattle.dd_certificate.specs.Text.{literal_text, spaced_literal, spaced, literals_to_zero, numbers_to_zero}
 use Rattle.dd_certificate.specs.Bounds.{most_variable, most_count, IsWritableHint}
 use Rattle.std.proofs.lemmas.List.Elements.{All-from_recursion, recursion_from_All}
 use Rattle.dd_output.specs.reading.Forms.{Form, nothing}
 use Rattle.dd_output.specs.reading.Lists.{variable_at, literal_entry, number_entry, positive_of, negative_of, entry_of, ended, items_of, literals, numbers_until}
-use Rattle.dd_output.proofs.Laws.{Halts, Reads, before_reads, map_reads, same_reads, choice_reads}
+use Rattle.dd_output.proofs.Laws.{Reads, before_reads, map_reads, same_reads, choice_reads}
 use Rattle.dd_output.proofs.Tokens.{word_reads, after_reads}
 use Rattle.dd_output.proofs.Numbers.{IsEnd, number_reads}
 use Rattle.dd_output.proofs.Entries.{entries_text, AllFrom, entry_fits, entry_text, entries_reads, shorter, unrolled_item}

@@ -1,17 +1,17 @@
 -- Forms that are good: what they read are the texts of the values that fit, each the text of one value, and where reading stops
 -- there is a text that completes what was read. A form that is put together of good ones is good.
-use Rattle.std.proofs.Common.{◌≡◌, ℕ, zero, suc, ◌+◌, ◌<◌, ◌≤◌, ◌^◌, List, [], ◌∷◌, ◌++◌, length, Result, Ok, Err, Bool, true, false, cond, inl, inr, ◌⊎◌, refl, sym, ap, subst, ◌∙◌, append_assoc, arith}
-use Rattle.std.specs.Prelude.{replicate, All, ◌==◌, ◌&&◌, ◌||◌, not}
+use Rattle.std.proofs.Common.{◌≡◌, ℕ, zero, suc, ◌+◌, ◌<◌, ◌≤◌, ◌^◌, List, [], ◌∷◌, ◌++◌, length, Bool, true, false, cond, inl, inr, ◌⊎◌, refl, sym, ap, subst, ◌∙◌, append_assoc, arith}
+use Rattle.std.specs.Prelude.{replicate, All, ◌==◌}
 use Rattle.std.specs.Fmt.{decimal}
 use Rattle.std.specs.List.{flat_map, AllByRecursion}
-use Rattle.std.proofs.lemmas.Bool.{eqb-true, eq-eqb, ne_eqb, and_parts, false≢true}
+use Rattle.std.proofs.lemmas.Bool.{eqb-true, eq-eqb, false≢true}
 use Rattle.std.proofs.lemmas.Fmt.{decimal_digit}
-use Rattle.std.proofs.lemmas.List.{length-replicate, append-nil}
+use Rattle.std.proofs.lemmas.List.{length-replicate}
 use Rattle.std.proofs.lemmas.List.Concat.{flat_map-cons}
 use Rattle.std.proofs.lemmas.List.Elements.{All-from_recursion, recursion_from_All}
-use Rattle.dd_output.specs.reading.Stops.{Stop, stop, Read, before, word_at, is_digit, number_at, then_at, after_at, map_at, many_at, copies, Entry, item, last, choice_at}
-use Rattle.dd_output.specs.reading.Forms.{Form, nothing, word, number, both, after, mapped, either, counted_of, counted, last_of, item_of, fork_of, forked, table}
-use Rattle.dd_output.proofs.Laws.{Halts, Reads, before_reads, then_reads, map_reads, same_reads, many_reads, choice_reads}
+use Rattle.dd_output.specs.reading.Stops.{Read, before, word_at, is_digit, number_at, then_at, map_at, many_at, copies, Entry, item, last}
+use Rattle.dd_output.specs.reading.Forms.{Form, nothing, word, number, both, after, mapped, either, counted_of, counted, last_of, item_of, fork_of, forked}
+use Rattle.dd_output.proofs.Laws.{Reads, before_reads, then_reads, map_reads, same_reads, many_reads, choice_reads}
 use Rattle.dd_output.proofs.Tokens.{word_reads, after_reads}
 use Rattle.dd_output.proofs.Numbers.{IsEnd, number_reads}
 

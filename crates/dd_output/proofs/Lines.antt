@@ -1,16 +1,15 @@
 -- The law of the numbers that a line ends with: at least so many, and at most so many where there is a most.
-use Rattle.std.proofs.Common.{◌≡◌, ℕ, zero, suc, ◌+◌, ◌-◌, ◌^◌, ◌<◌, ◌≤◌, List, [], ◌∷◌, ◌++◌, length, drop, Option, Some, None, Result, Ok, Err, Bool, true, false, cond, inl, inr, ◌⊎◌, refl, sym, ap, subst, ◌∙◌, append_assoc, length-append, arith}
-use Rattle.std.specs.Prelude.{ℤ, pos, negsuc, unsigned_abs, ◌==◌, nat_lt, nat_le, All}
+use Rattle.std.proofs.Common.{◌≡◌, ℕ, zero, suc, ◌+◌, ◌-◌, ◌<◌, ◌≤◌, List, [], ◌∷◌, ◌++◌, length, drop, Option, Some, None, Bool, true, false, cond, inl, inr, ◌⊎◌, refl, sym, ap, subst, ◌∙◌, append_assoc, length-append, arith}
+use Rattle.std.specs.Prelude.{ℤ, pos, ◌==◌, nat_lt, All}
 use Rattle.std.specs.Fmt.{decimal, signed_decimal}
 use Rattle.std.specs.List.{flat_map, AllByRecursion}
-use Rattle.std.proofs.lemmas.Bool.{eq-eqb, ne_eqb, lt-ltb, ltb-true, ltb-false, leb-true, leb-false, lt-leb, le-leb, false≢true, cases_Bool, cond-true, cond-false}
+use Rattle.std.proofs.lemmas.Bool.{eq-eqb, ne_eqb, lt-ltb, ltb-true, ltb-false, leb-true, leb-false, lt-leb, false≢true, cond-true, cond-false}
 use Rattle.std.proofs.lemmas.Fmt.{decimal_digit}
 use Rattle.std.proofs.lemmas.List.{append-nil}
 use Rattle.std.proofs.lemmas.List.Concat.{flat_map-cons}
 use Rattle.std.proofs.lemmas.List.Elements.{All-from_recursion, recursion_from_All}
 use Rattle.dd_certificate.specs.Bounds.{most_number, IsWritableNumber, IsWritableSigned}
-use Rattle.dd_output.specs.reading.Stops.{Stop, Read, ◌>>=◌, is_digit, number_at, map_at, Entry, item, last, entries_at}
-use Rattle.dd_output.specs.reading.Forms.{Form}
+use Rattle.dd_output.specs.reading.Stops.{Read, is_digit, number_at, map_at, Entry, item, last, entries_at}
 use Rattle.dd_output.specs.reading.Lists.{AtMost, is_last, end_at, other_at, zeros, line_entry_of, line_of, line_entry, numbers, signed_at, signed_entry, integers}
 use Rattle.dd_output.proofs.Laws.{Reads, map_reads, same_reads}
 use Rattle.dd_output.proofs.Numbers.{IsEnd, number_reads}

@@ -1,9 +1,9 @@
 -- Loops that read one entry after the other.
-use Rattle.std.proofs.Common.{◌≡◌, ℕ, zero, suc, ◌+◌, ◌<◌, List, [], ◌∷◌, ◌++◌, length, length-append, Result, Ok, Err, refl, sym, ap, ◌∙◌, append_assoc, arith}
+use Rattle.std.proofs.Common.{◌≡◌, ℕ, suc, ◌<◌, List, [], ◌∷◌, ◌++◌, length, length-append, Result, Ok, Err, refl, sym, ap, ◌∙◌, append_assoc, arith}
 use Rattle.std.proofs.lemmas.List.{append-nil}
 use Rattle.dd_output.specs.declared.fault.ReadFault.{ReadFault}
 use Rattle.dd_output.specs.declared.fault.ReadFault.TheVariants as faults
-use Rattle.dd_output.specs.reading.Stops.{Stop, stop, Read, ◌>>=◌, Fails, StoppedAt, Entry, item, last, entries_at, until_at, next_at, before}
+use Rattle.dd_output.specs.reading.Stops.{Stop, Read, ◌>>=◌, Fails, Entry, item, last, entries_at, until_at, next_at, before}
 
 -- what was read before, and what is still read
 abbrev pub with_front : {A B : Type 0} → List A → Read (List A × B) → Read (List A × B)

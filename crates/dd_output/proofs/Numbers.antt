@@ -1,12 +1,12 @@
 -- The law of numbers: decimal, without a leading zero, within bounds, and the byte after.
-use Rattle.std.proofs.Common.{◌≡◌, ℕ, zero, suc, ◌+◌, ◌-◌, ◌*◌, ◌/◌, ◌%◌, ◌^◌, ◌<◌, ◌≤◌, List, [], ◌∷◌, ◌++◌, length, Result, Ok, Err, Bool, true, false, cond, ◌⊎◌, inl, inr, refl, sym, ap, subst, ◌∙◌, append_assoc, arith}
+use Rattle.std.proofs.Common.{◌≡◌, ℕ, ◌+◌, ◌-◌, ◌*◌, ◌/◌, ◌%◌, ◌^◌, ◌<◌, ◌≤◌, List, [], ◌∷◌, ◌++◌, Result, Ok, Err, Bool, true, false, cond, ◌⊎◌, inl, inr, refl, sym, ap, subst, ◌∙◌, append_assoc, arith}
 use Rattle.std.specs.Prelude.{◌==◌, ◌&&◌, ◌||◌, nat_le, nat_lt}
 use Rattle.std.specs.Fmt.{decimal}
-use Rattle.std.proofs.lemmas.Bool.{eqb-true, eq-eqb, ne_eqb, leb-true, le-leb, lt-leb, leb-false, lt-ltb, ltb-true, and_parts, and_from, and_left, and_right, or_from, or_left, or_right, or_cases, both_ways}
+use Rattle.std.proofs.lemmas.Bool.{eqb-true, eq-eqb, ne_eqb, leb-true, le-leb, lt-ltb, ltb-true, and_parts, and_from, or_from, or_left, or_right, or_cases, both_ways}
 use Rattle.std.proofs.lemmas.Fmt.{decimal_digit, decimal_step, decimal_by_steps}
 use Rattle.std.proofs.lemmas.List.{append-nil}
 use Rattle.dd_output.specs.reading.Stops.{Stop, stop, Read, is_digit, goes_on, starts, digits_at, number_at}
-use Rattle.dd_output.proofs.Laws.{Halts, Reads, done, ok_is}
+use Rattle.dd_output.proofs.Laws.{Halts, Reads}
 use Rattle.dd_output.proofs.Tokens.{chosen_ok, chosen_err}
 
 digit_bounds : (b : ℕ) → is_digit b ≡ true → (48 ≤ b) × (b ≤ 57)

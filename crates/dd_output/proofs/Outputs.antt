@@ -1,25 +1,24 @@
 -- The laws of the answers, the script and the whole output.
-use Rattle.std.proofs.Common.{◌≡◌, ℕ, zero, suc, ◌+◌, ◌-◌, ◌<◌, ◌≤◌, ◌^◌, List, [], ◌∷◌, ◌++◌, length, length-append, drop, Result, Ok, Err, Bool, true, false, cond, ◌⊎◌, inl, inr, refl, sym, ap, subst, ◌∙◌, append_assoc, arith}
+use Rattle.std.proofs.Common.{◌≡◌, ℕ, suc, ◌+◌, ◌<◌, ◌≤◌, List, [], ◌∷◌, ◌++◌, length, drop, false, ◌⊎◌, inl, inr, refl, sym, ap, ◌∙◌, append_assoc, arith}
 use Rattle.std.specs.Prelude.{◌==◌, codes, nat_lt, replicate}
 use Rattle.std.specs.Fmt.{decimal}
-use Rattle.std.specs.List.{flat_map, AllByRecursion}
+use Rattle.std.specs.List.{AllByRecursion}
 use Rattle.std.proofs.lemmas.Fmt.{decimal_digit}
-use Rattle.std.proofs.lemmas.Bool.{ltb-true, ltb-false, lt-ltb}
-use Rattle.std.proofs.lemmas.List.{append-nil, length-replicate}
+use Rattle.std.proofs.lemmas.Bool.{ltb-true, ltb-false}
+use Rattle.std.proofs.lemmas.List.{length-replicate}
 use Rattle.dd_certificate.specs.declared.answer.Answer.{Answer}
 use Rattle.dd_certificate.specs.declared.answer.Answer.TheVariants as answer
-use Rattle.dd_output.specs.declared.output.Output.{Output}
 use Rattle.std.proofs.lemmas.List.Elements.{All-from_recursion, recursion_from_All}
 use Rattle.dd_certificate.specs.Text.{line_feed, verdict_text, further_lines, answer_text}
 use Rattle.dd_certificate.specs.Bounds.{IsWritable}
-use Rattle.dd_output.specs.Outputs.{most_script, most_queries, header, answers_text, end_line, output_text, IsWritableOutput}
-use Rattle.dd_output.specs.reading.Stops.{Stop, stop, Read, ◌>>=◌, before, word_at, is_digit, number_at, bytes_at, then_at, after_at, map_at, Entry, item, last, entries_at, choice_at}
+use Rattle.dd_output.specs.Outputs.{most_script, most_queries, answers_text, end_line, output_text, IsWritableOutput}
+use Rattle.dd_output.specs.reading.Stops.{Read, before, word_at, number_at, bytes_at, then_at, after_at, map_at, Entry, item, last, entries_at}
 use Rattle.dd_output.specs.reading.Lists.{items_of, ended}
 use Rattle.dd_output.specs.reading.Grammar.{answer_form}
-use Rattle.dd_output.specs.reading.Whole.{answer_entry_of, query_text, open_entry, answer_entry, answers_at, script_of, script_at, output_of, head_text, output_at, all_at}
-use Rattle.dd_output.proofs.Laws.{Halts, Reads, before_reads, then_reads, map_reads, same_reads, choice_reads, bind_ok, bind_err, ok_is}
+use Rattle.dd_output.specs.reading.Whole.{answer_entry_of, query_text, open_entry, answer_entry, answers_at, script_of, script_at, output_of, head_text, output_at}
+use Rattle.dd_output.proofs.Laws.{Reads, before_reads, then_reads, map_reads, same_reads, choice_reads}
 use Rattle.dd_output.proofs.Tokens.{word_reads, bytes_reads, after_reads}
-use Rattle.dd_output.proofs.Numbers.{IsEnd, number_reads}
+use Rattle.dd_output.proofs.Numbers.{number_reads}
 use Rattle.dd_output.proofs.Entries.{entries_text, AllFrom, entry_fits, entry_text, entries_reads, shorter, unrolled_item}
 use Rattle.dd_output.proofs.Loops.{Unrolls}
 use Rattle.dd_output.proofs.EndedLists.{IsList, list_more}

@@ -1,33 +1,27 @@
 -- The laws of the parts of answers, and of each row of the table of answers.
-use Rattle.std.proofs.Common.{◌≡◌, ℕ, zero, suc, ◌+◌, ◌^◌, ◌<◌, ◌≤◌, List, [], ◌∷◌, ◌++◌, length, drop, Option, Some, None, Bool, true, false, inl, inr, ◌⊎◌, refl, sym, ap, subst, ◌∙◌, append_assoc, arith}
+use Rattle.std.proofs.Common.{◌≡◌, ℕ, ◌≤◌, List, [], ◌∷◌, ◌++◌, length, drop, Some, None, false, inl, inr, ◌⊎◌, refl, sym, ap, subst, ◌∙◌, append_assoc, arith}
 use Rattle.std.specs.Prelude.{ℤ, codes, All, ◌==◌}
 use Rattle.std.specs.Fmt.{decimal, signed_decimal}
 use Rattle.std.proofs.lemmas.Bool.{ne_eqb}
 use Rattle.std.proofs.lemmas.Fmt.{decimal_digit}
-use Rattle.std.proofs.lemmas.List.{append-nil}
 use Rattle.std.proofs.lemmas.List.Elements.{All-nil, All-cons}
-use Rattle.dd_derivation.specs.declared.step.Step.{Step}
 use Rattle.dd_certificate.specs.declared.answer.Side.{Side}
 use Rattle.dd_certificate.specs.declared.answer.Side.TheVariants as side
 use Rattle.dd_certificate.specs.declared.answer.Reason.{Reason}
 use Rattle.dd_certificate.specs.declared.answer.Reason.TheVariants as reason
-use Rattle.dd_certificate.specs.declared.answer.Listed.{Listed}
-use Rattle.dd_certificate.specs.declared.answer.Answer.{Answer}
-use Rattle.dd_certificate.specs.declared.answer.Answer.TheVariants as answer
-use Rattle.dd_certificate.specs.Text.{line_feed, numbers_to_end, signed_to_end, fraction_to_end, refutation_text, side_text, reason_text, spaced_out, shear_text, pattern_text, verdict_text, further_lines}
-use Rattle.dd_certificate.specs.Bounds.{most_number, IsWritableNumber, IsWritableSigned, IsWritableDenominator, IsWritableRefutation, IsWritablePattern, IsWritableList, IsWritable}
-use Rattle.dd_output.specs.reading.Stops.{Read, number_at, then_at, map_at, Entry, item, last}
-use Rattle.dd_output.specs.reading.Forms.{Form, word, number, both, after, mapped, either, counted, forked, table}
-use Rattle.dd_output.specs.reading.Lists.{zeros, numbers, integers}
+use Rattle.dd_certificate.specs.Text.{line_feed, numbers_to_end, signed_to_end, fraction_to_end, side_text, reason_text, spaced_out, shear_text, pattern_text}
+use Rattle.dd_certificate.specs.Bounds.{most_number, IsWritableNumber, IsWritablePattern}
+use Rattle.dd_output.specs.reading.Stops.{number_at, then_at, Entry, item, last}
+use Rattle.dd_output.specs.reading.Forms.{word, number, both, after, mapped, either, forked}
+use Rattle.dd_output.specs.reading.Lists.{zeros, numbers}
+use Rattle.dd_output.specs.reading.Periods.{periods}
 use Rattle.dd_output.specs.reading.Grammar as grammar
-use Rattle.dd_output.proofs.Laws.{Reads, then_reads, same_reads}
-use Rattle.dd_output.proofs.Numbers.{IsEnd, number_reads}
-use Rattle.dd_output.proofs.Signs.{FirstDigit, first_digit}
-use Rattle.dd_output.proofs.Lines.{line_rest, LineFits, numbers_good, integers_good}
-use Rattle.dd_output.proofs.Steps.{step_good, refutation_good}
+use Rattle.dd_output.proofs.Laws.{Reads, then_reads}
+use Rattle.dd_output.proofs.Numbers.{number_reads}
+use Rattle.dd_output.proofs.Signs.{first_digit}
+use Rattle.dd_output.proofs.Lines.{line_rest, LineFits, numbers_good}
 use Rattle.dd_output.proofs.Periods.{PeriodsFit, periods_rest, periods_good}
-use Rattle.dd_output.proofs.Tables.{Keyed, is_among, are_apart, GoodRows, good_table}
-use Rattle.dd_output.proofs.Forms.{IsText, ReadsText, Good, good_word, good_same, good_mapped, good_number, good_both, good_after, good_either, good_counted, good_forked, CountedIn, counted_text, ForkFits, fork_text, Within, ended_number, InBounds, number_text, only, anything, text_map}
+use Rattle.dd_output.proofs.Forms.{IsText, ReadsText, Good, good_word, good_same, good_mapped, good_number, good_both, good_after, good_either, good_forked, ForkFits, fork_text, Within, ended_number, InBounds, number_text, only, anything, text_map}
 
 -- ---- lines
 
@@ -199,7 +193,7 @@ sided_is (side.Right, x) good = refl
 
 one_side : (s : Side) → Good (OnSide s) (λ x. periods_rest x.1) (grammar.sided s)
 one_side s =
-    good_mapped PeriodsFit periods_rest grammar.periods (OnSide s) (λ x. periods_rest x.1) (λ x. (s, x)) periods_good
+    good_mapped PeriodsFit periods_rest periods (OnSide s) (λ x. periods_rest x.1) (λ x. (s, x)) periods_good
     (λ x good. (refl, (refl, good))) (λ y good. (y.1, refl, good.1, ap (λ (s : Side). (s, y.1)) (sym good.0)))
 
 worded_side : (s : Side) (w : List ℕ) → ((x : List ℕ × ℕ) → PeriodsFit x → sided_rest (s, x) ≡ w ++ periods_rest x) → Good (OnSide s) sided_rest (after w (grammar.sided s))

@@ -1,10 +1,10 @@
 -- The law of signed numbers.
-use Rattle.std.proofs.Common.{◌≡◌, ℕ, zero, suc, ◌+◌, ◌-◌, ◌/◌, ◌%◌, ◌^◌, ◌<◌, ◌≤◌, List, [], ◌∷◌, ◌++◌, length, Bool, true, false, inl, inr, ◌⊎◌, refl, sym, ap, subst, ◌∙◌, append_assoc, arith}
+use Rattle.std.proofs.Common.{◌≡◌, ℕ, suc, ◌+◌, ◌-◌, ◌%◌, ◌^◌, ◌<◌, ◌≤◌, List, [], ◌∷◌, ◌++◌, false, inl, inr, ◌⊎◌, refl, ap, subst, arith}
 use Rattle.std.specs.Prelude.{ℤ, pos, negsuc, unsigned_abs, ◌==◌}
 use Rattle.std.specs.Fmt.{decimal, signed_decimal}
 use Rattle.std.proofs.lemmas.Bool.{ne_eqb}
 use Rattle.std.proofs.lemmas.Fmt.{decimal_digit, decimal_by_steps}
-use Rattle.dd_output.specs.reading.Stops.{Read, is_digit, number_at, after_at, map_at, choice_at}
+use Rattle.dd_output.specs.reading.Stops.{is_digit, number_at, after_at, map_at}
 use Rattle.dd_output.specs.reading.Lists.{minus_of, plus_of, signed_at}
 use Rattle.dd_output.proofs.Laws.{Reads, map_reads, same_reads, choice_reads}
 use Rattle.dd_output.proofs.Tokens.{after_reads}

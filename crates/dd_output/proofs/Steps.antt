@@ -1,16 +1,14 @@
 -- The laws of steps and refutations.
-use Rattle.std.proofs.Common.{◌≡◌, ℕ, ◌+◌, ◌^◌, ◌<◌, ◌≤◌, List, [], ◌∷◌, ◌++◌, length, refl, arith}
+use Rattle.std.proofs.Common.{ℕ, List, ◌++◌, refl, arith}
 use Rattle.std.specs.Prelude.{codes, All}
-use Rattle.std.specs.Fmt.{decimal}
 use Rattle.dd_clause.specs.declared.clause.Literal.{Literal}
 use Rattle.dd_clause.specs.Clauses.{IsInRange}
-use Rattle.dd_derivation.specs.declared.step.Step.{Step}
 use Rattle.dd_certificate.specs.Text.{literals_to_zero, numbers_to_zero, step_text, refutation_text}
 use Rattle.dd_certificate.specs.Bounds.{most_variable, most_count, IsWritableHint, IsWritableStep, IsWritableRefutation}
-use Rattle.dd_output.specs.reading.Forms.{Form, both, after, mapped, counted}
+use Rattle.dd_output.specs.reading.Forms.{both, after, counted}
 use Rattle.dd_output.specs.reading.Lists.{literals, numbers_until}
 use Rattle.dd_output.specs.reading.Grammar.{step_of, step, refutation}
-use Rattle.dd_output.proofs.Forms.{Good, good_same, good_mapped, good_both, good_after, good_counted, CountedIn, counted_text}
+use Rattle.dd_output.proofs.Forms.{Good, good_mapped, good_both, good_after, good_counted, counted_text}
 use Rattle.dd_output.proofs.EndedLists.{literals_good, numbers_until_good}
 
 abbrev FitsLists : List Literal × (List ℕ × List ℕ) → Type 0

@@ -1,8 +1,8 @@
 -- A table of rows that are good, each of a byte of its own, is good.
-use Rattle.std.proofs.Common.{◌≡◌, ℕ, List, [], ◌∷◌, ◌++◌, Bool, true, false, inl, inr, ◌⊎◌, refl, sym, ap, ◌∙◌}
+use Rattle.std.proofs.Common.{◌≡◌, ℕ, List, [], ◌∷◌, Bool, true, false, inl, inr, ◌⊎◌, refl, sym, ap, ◌∙◌}
 use Rattle.std.specs.Prelude.{◌==◌, ◌&&◌, ◌||◌, not}
 use Rattle.std.proofs.lemmas.Bool.{eqb-true, eq-eqb, ne_eqb, and_parts, false≢true, or_left, or_right, or_cases}
-use Rattle.dd_output.specs.reading.Forms.{Form, either, table}
+use Rattle.dd_output.specs.reading.Forms.{Form, table}
 use Rattle.dd_output.proofs.Forms.{Good, good_same, good_either}
 
 -- the byte is that of one of the rows

@@ -1,12 +1,10 @@
 -- The laws of words, numbers and raw bytes.
-use Rattle.std.proofs.Common.{◌≡◌, ℕ, zero, suc, ◌+◌, ◌-◌, ◌*◌, ◌/◌, ◌%◌, ◌^◌, ◌<◌, ◌≤◌, List, [], ◌∷◌, ◌++◌, length, take, drop, Result, Ok, Err, Bool, true, false, cond, ◌⊎◌, inl, inr, refl, sym, ap, subst, ◌∙◌, append_assoc, arith}
-use Rattle.std.specs.Prelude.{◌==◌, ◌&&◌, ◌||◌, nat_le, nat_lt, replicate}
-use Rattle.std.specs.Fmt.{decimal}
-use Rattle.std.proofs.lemmas.Bool.{eqb-true, eq-eqb, ne_eqb, leb-true, le-leb, leb-false, lt-ltb, ltb-true, and_parts, and_from, or_from, or_left, or_right, or_cases, cases_Bool}
-use Rattle.std.proofs.lemmas.Fmt.{decimal_digit, decimal_step, decimal_by_steps}
+use Rattle.std.proofs.Common.{◌≡◌, ℕ, ◌-◌, ◌<◌, ◌≤◌, List, [], ◌∷◌, ◌++◌, length, take, drop, Result, Ok, Err, Bool, true, false, cond, ◌⊎◌, inl, inr, refl, sym, ap, subst, ◌∙◌, append_assoc, arith}
+use Rattle.std.specs.Prelude.{◌==◌, nat_le, replicate}
+use Rattle.std.proofs.lemmas.Bool.{eqb-true, eq-eqb, leb-true, le-leb, leb-false}
 use Rattle.std.proofs.lemmas.List.{append-nil, take-append-drop, take_at, drop_at, length-append, length-replicate, length-take}
-use Rattle.dd_output.specs.reading.Stops.{Stop, stop, Read, ◌>>=◌, before, word_at, is_digit, goes_on, starts, digits_at, number_at, bytes_at, after_at}
-use Rattle.dd_output.proofs.Laws.{Halts, Reads, done, ok_is, bind_ok, bind_err, before_ok, before_err}
+use Rattle.dd_output.specs.reading.Stops.{Stop, stop, Read, before, word_at, bytes_at, after_at}
+use Rattle.dd_output.proofs.Laws.{Halts, Reads, ok_is, bind_ok, bind_err, before_ok, before_err}
 
 pub chosen_ok : {A : Type 0} (b : Bool) (r : Result A Stop) (d : Stop) (y : A) → cond b r (Err d) ≡ Ok y → (b ≡ true) × (r ≡ Ok y)
 chosen_ok true r d y e = (refl, e)

@@ -1,16 +1,18 @@
 -- All of the bytes: one value a text, and where a text is malformed.
-use Rattle.std.proofs.Common.{◌≡◌, ℕ, zero, suc, ◌+◌, ◌-◌, ◌<◌, ◌≤◌, List, [], ◌∷◌, ◌++◌, length, length-append, take, drop, Result, Ok, Err, Bool, true, false, cond, ◌⊎◌, inl, inr, refl, sym, ap, subst, ◌∙◌, append_assoc, arith}
+use Rattle.std.proofs.Common.{◌≡◌, ℕ, suc, ◌+◌, ◌-◌, ◌<◌, ◌≤◌, List, [], ◌∷◌, ◌++◌, length, length-append, take, Result, Ok, Err, Bool, true, false, cond, ◌⊎◌, inl, inr, refl, sym, ap, subst, ◌∙◌, append_assoc, arith}
 use Rattle.std.specs.Prelude.{◌==◌}
-use Rattle.std.proofs.lemmas.Bool.{eqb-true, ne_eqb}
+use Rattle.std.proofs.lemmas.Bool.{eqb-true}
 use Rattle.std.proofs.lemmas.Bool.Decides.{leb_tells}
 use Rattle.std.proofs.lemmas.List.{append-nil, nil_from_length, take_at, drop_at}
 use Rattle.std.proofs.Math.Seq.{take-add}
 use Rattle.dd_output.specs.declared.output.Output.{Output}
-use Rattle.dd_output.specs.reading.Stops.{Stop, stop, Read, ◌>>=◌, StoppedAt}
+use Rattle.dd_output.specs.reading.Stops.{Stop, stop, StoppedAt}
 use Rattle.dd_output.specs.Outputs.{output_text, IsWritableOutput, IsWellFormed}
-use Rattle.dd_output.specs.Offsets.{IsOffset}
+use Rattle.dd_output.specs.Offsets.{IsOffset, ReadsOutput}
+use Rattle.dd_output.specs.declared.fault.CertificateFault.{CertificateFault}
+use Rattle.dd_output.specs.declared.fault.CertificateFault.TheVariants as faults
 use Rattle.dd_output.specs.reading.Whole.{output_at, all_at, missing_of, completion}
-use Rattle.dd_output.proofs.Laws.{Halts, bind_ok, bind_err, ok_is}
+use Rattle.dd_output.proofs.Laws.{bind_ok, bind_err, ok_is}
 use Rattle.dd_output.proofs.Outputs.{output_reads}
 
 ended_ok : {A : Type 0} (b : Bool) (x y : A) (s : Stop) → cond b (Ok x) (Err s) ≡ Ok y → (b ≡ true) × (x ≡ y)
@@ -168,3 +170,8 @@ one_offset bytes m n one two =
     let up = no_less bytes m n one two in
     let down = no_less bytes n m two one in
     omega (arith, up, down)
+
+pub read_again : (o : Output) (read : Result Output CertificateFault) → IsWritableOutput o → ReadsOutput (output_text o) read → (read ≡ Ok o) ⊎ (read ≡ Err faults.Memory)
+read_again o (Ok p) fits good = inl (ap (λ (x : Output). Ok x) (unique p o good.0 fits (sym good.1)))
+read_again o (Err faults.Memory) fits good = inr refl
+read_again o (Err (faults.Malformed n)) fits good = absurd (good.0 (o, fits, refl))

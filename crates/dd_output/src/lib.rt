@@ -14,5 +14,5 @@ mod sides;
 
 pub use fault::CertificateFault;
 pub use output::Output;
-pub use promises::{completes, one_offset, one_output};
+pub use promises::{completes, one_offset, one_output, read_again};
 pub use reading::read_output;

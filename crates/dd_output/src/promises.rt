@@ -1,13 +1,20 @@
 // Laws of outputs and their texts, for callers.
-ghost use Rattle.std.specs.Prelude.{◌≡◌, ◌++◌, ℕ, List, Ok};
+ghost use Rattle.std.specs.Prelude.{◌≡◌, ◌++◌, ◌⊎◌, ℕ, List, Result, Ok, Err};
 ghost use Rattle.dd_output.specs.declared.output.Output.{Output};
 ghost use Rattle.dd_output.specs.Outputs.{output_text, IsWritableOutput, IsWellFormed};
-ghost use Rattle.dd_output.specs.Offsets.{IsOffset};
+ghost use Rattle.dd_output.specs.Offsets.{IsOffset, ReadsOutput};
+ghost use Rattle.dd_output.specs.declared.fault.CertificateFault.{CertificateFault};
+ghost use Rattle.dd_output.specs.declared.fault.CertificateFault.TheVariants as faults;
 ghost use Rattle.dd_output.specs.reading.Whole.{completion};
 
 /// Each text is the text of one output only.
 pub fn one_output()
     ensures { (a b : Output) → IsWritableOutput a → IsWritableOutput b → output_text a ≡ output_text b → a ≡ b }
+{}
+
+/// What is read of the text of an output is that output, where there is memory for it.
+pub fn read_again()
+    ensures { (o : Output) (read : Result Output CertificateFault) → IsWritableOutput o → ReadsOutput (output_text o) read → (read ≡ Ok o) ⊎ (read ≡ Err faults.Memory) }
 {}
 
 /// Bytes have one offset at most.

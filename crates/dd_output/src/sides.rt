@@ -1,7 +1,8 @@
 // The periods of a configuration, the shear that may follow two or three of them, and the side of a query that they stand for.
 ghost use Rattle.std.specs.Prelude.{◌≡◌};
 ghost use Rattle.dd_output.specs.reading.Stops.{Gives};
-ghost use Rattle.dd_output.specs.reading.Grammar.{period_at, shear_at, period_entry, periods, side_and_periods};
+ghost use Rattle.dd_output.specs.reading.Periods.{period_at, shear_at, period_entry, periods};
+ghost use Rattle.dd_output.specs.reading.Grammar.{side_and_periods};
 ghost use Rattle.dd_output.specs.reading.Seen.{period_seen};
 
 use dd_certificate::Side;
@@ -42,7 +43,7 @@ fn shear_at(bytes: &[u8]) -> Result<(PeriodEntry, &[u8]), ReadFault>
 }
 
 /// The entry at this place, from 0.
-#[tactic(auto, unfolding(crate::specs::reading::Grammar::period_entry))]
+#[tactic(auto, unfolding(crate::specs::reading::Periods::period_entry))]
 fn period_entry(bytes: &[u8], place: u64) -> Result<(PeriodEntry, &[u8]), ReadFault>
     ensures { Gives (λ x. (period_seen x.0, x.1.now)) result (period_entry place bytes.now) }
 {
@@ -60,7 +61,7 @@ fn period_entry(bytes: &[u8], place: u64) -> Result<(PeriodEntry, &[u8]), ReadFa
 }
 
 /// The periods and the shear, up to the end of their line.
-#[tactic(auto, unfolding(crate::specs::reading::Grammar::periods))]
+#[tactic(auto, unfolding(crate::specs::reading::Periods::periods))]
 fn periods_of(alloc: Global, bytes: &[u8]) -> Result<(Items<u64>, u64, &[u8]), ReadFault>
     ensures { Gives (λ x. ((x.0, x.1), x.2.now)) result (periods.read bytes.now) }
 {

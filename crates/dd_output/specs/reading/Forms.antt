@@ -1,5 +1,5 @@
 -- Forms of text: each is read by one reader, and has a least text, which completes an output where nothing of it was read.
-use Rattle.std.specs.Prelude.{ℕ, zero, suc, ◌+◌, List, [], ◌∷◌, ◌++◌, Bool, true, false, cond, ◌==◌, ◌&&◌, not}
+use Rattle.std.specs.Prelude.{ℕ, ◌+◌, List, [], ◌∷◌, ◌++◌, cond, ◌==◌}
 use Rattle.dd_output.specs.reading.Stops.{Read, before, word_at, number_at, then_at, after_at, map_at, many_at, copies, Entry, item, last, choice_at}
 
 pub record Form (A : Type 0) : Type 0 where

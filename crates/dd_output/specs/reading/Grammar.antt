@@ -1,6 +1,5 @@
 -- The lines of an output, as a table: a row for each kind of answer.
-use Rattle.std.specs.Prelude.{ℕ, ℤ, zero, suc, ◌+◌, ◌-◌, List, [], ◌∷◌, ◌++◌, length, Bool, true, false, cond, ◌==◌, nat_lt, Option, Some, None, Result, Ok, Err, codes, replicate}
-use Rattle.std.specs.Fmt.{decimal}
+use Rattle.std.specs.Prelude.{ℕ, ℤ, List, [], ◌∷◌, Some, None, codes}
 use Rattle.dd_clause.specs.declared.clause.Literal.{Literal}
 use Rattle.dd_derivation.specs.declared.step.Step.{Step}
 use Rattle.dd_certificate.specs.declared.answer.Side.{Side}
@@ -11,9 +10,10 @@ use Rattle.dd_certificate.specs.declared.answer.Listed.{Listed}
 use Rattle.dd_certificate.specs.declared.answer.Answer.{Answer}
 use Rattle.dd_certificate.specs.declared.answer.Answer.TheVariants as answer
 use Rattle.dd_certificate.specs.Bounds.{most_number, most_count}
-use Rattle.dd_output.specs.reading.Stops.{Read, ◌>>=◌, Stop, stop, before, word_at, number_at, bytes_at, then_at, after_at, map_at, Entry, item, last, entries_at, choice_at}
-use Rattle.dd_output.specs.reading.Forms.{Form, nothing, word, number, both, after, mapped, either, counted, forked, table}
-use Rattle.dd_output.specs.reading.Lists.{literals, numbers_until, items_of, ended, numbers, integers, zeros}
+use Rattle.dd_output.specs.reading.Stops.{number_at, then_at, map_at, Entry, item, last}
+use Rattle.dd_output.specs.reading.Forms.{Form, word, number, both, after, mapped, either, counted, forked, table}
+use Rattle.dd_output.specs.reading.Periods.{periods}
+use Rattle.dd_output.specs.reading.Lists.{literals, numbers_until, numbers, integers, zeros}
 
 -- ---- refutations
 
@@ -25,35 +25,6 @@ step = mapped step_of (after (codes "step ") (both literals (both (numbers_until
 
 unfoldable pub refutation : Form (List Step)
 refutation = after (codes "refutation ") (counted 1 most_count step)
-
--- ---- periods, and the shear that may follow two or three of them
-
-pub data PeriodsEnd : Type 0 where
-  ends : ℕ → PeriodsEnd
-  shears : ℕ → PeriodsEnd
-
-abbrev pub period_of : ℕ × ℕ → Entry ℕ PeriodsEnd
-period_of n = cond (n.1 == 10) (last (ends n.0)) (item n.0)
-
-abbrev pub period_at : List ℕ → Read (Entry ℕ PeriodsEnd)
-period_at = map_at period_of (number_at 0 most_number 10 32 nothing)
-
-abbrev pub shear_of : ℕ → Entry ℕ PeriodsEnd
-shear_of n = last (shears n)
-
-abbrev pub shear_at : List ℕ → Read (Entry ℕ PeriodsEnd)
-shear_at = map_at shear_of (after (codes "shear ") (number 1 most_number 10)).read
-
--- at the place k, from 0
-unfoldable pub period_entry : ℕ → List ℕ → Read (Entry ℕ PeriodsEnd)
-period_entry k bytes = cond (nat_lt k 2) (period_at bytes) (cond (nat_lt k 3) (choice_at 115 shear_at period_at bytes) (shear_at bytes))
-
-abbrev pub periods_of : List ℕ × PeriodsEnd → List ℕ × ℕ
-periods_of (ps, ends n) = (ps ++ n ∷ [], 0)
-periods_of (ps, shears n) = (ps, n)
-
-unfoldable pub periods : Form (List ℕ × ℕ)
-periods = record { read = map_at periods_of (entries_at period_entry 0); least = 48 ∷ 10 ∷ [] }
 
 -- ---- answers
 

@@ -1,5 +1,5 @@
 -- Lists in a text: those that a 0 ends, and the numbers that a line ends with.
-use Rattle.std.specs.Prelude.{ℕ, ℤ, pos, negsuc, zero, suc, ◌+◌, ◌-◌, ◌≤◌, List, [], ◌∷◌, ◌++◌, Bool, true, false, cond, ◌==◌, nat_lt, nat_le, Option, Some, None}
+use Rattle.std.specs.Prelude.{ℕ, ℤ, pos, negsuc, zero, suc, ◌-◌, ◌≤◌, List, [], ◌∷◌, ◌++◌, Bool, true, false, cond, ◌==◌, nat_lt, nat_le, Option, Some, None}
 use Rattle.dd_clause.specs.declared.clause.Literal.{Literal}
 use Rattle.dd_certificate.specs.Bounds.{most_number, most_count, most_variable}
 use Rattle.dd_output.specs.reading.Stops.{Read, before, word_at, number_at, after_at, map_at, Entry, item, last, entries_at, choice_at}

@@ -5,7 +5,7 @@ use Rattle.dd_certificate.specs.declared.answer.Answer.{Answer}
 use Rattle.dd_output.specs.declared.sides.PeriodEntry.{PeriodEntry}
 use Rattle.dd_output.specs.declared.sides.PeriodEntry.TheVariants as entry
 use Rattle.dd_output.specs.reading.Stops.{Entry, item, last}
-use Rattle.dd_output.specs.reading.Grammar.{PeriodsEnd, ends, shears}
+use Rattle.dd_output.specs.reading.Periods.{PeriodsEnd, ends, shears}
 
 -- an item of a list, or its end
 abbrev pub seen : {A : Type 0} → Option A → Entry A (Unit {0})

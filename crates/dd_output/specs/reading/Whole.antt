@@ -1,5 +1,5 @@
 -- Reading a whole output, and the text that completes what can be read of one.
-use Rattle.std.specs.Prelude.{ℕ, suc, List, [], ◌∷◌, ◌++◌, length, Bool, cond, ◌==◌, nat_lt, Result, Ok, Err, codes, replicate}
+use Rattle.std.specs.Prelude.{ℕ, suc, List, [], ◌∷◌, ◌++◌, length, cond, ◌==◌, nat_lt, Result, Ok, Err, codes, replicate}
 use Rattle.std.specs.Fmt.{decimal}
 use Rattle.dd_certificate.specs.declared.answer.Answer.{Answer}
 use Rattle.dd_output.specs.declared.output.Output.{Output}

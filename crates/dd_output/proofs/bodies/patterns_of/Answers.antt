@@ -1,4 +1,4 @@
-use Rattle.std.proofs.Common.{◌≡◌, ◌-◌, ◌++◌, ◌∷◌, []}
+use Rattle.std.proofs.Common.{◌≡◌, ◌++◌, ◌∷◌, []}
 use Rattle.dd_output.specs.reading.Stops.{many_at}
 use Rattle.dd_output.specs.reading.Grammar.{pattern}
 use Rattle.dd_output.proofs.Counts.{many_on}

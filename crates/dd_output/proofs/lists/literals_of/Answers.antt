@@ -1,7 +1,7 @@
-use Rattle.std.proofs.Common.{◌≡◌, ℕ, ◌++◌, ◌∷◌, [], Ok, length}
-use Rattle.dd_output.specs.reading.Stops.{Entry, item, entries_at}
+use Rattle.std.proofs.Common.{◌≡◌, ◌++◌, ◌∷◌, [], Ok}
+use Rattle.dd_output.specs.reading.Stops.{item, entries_at}
 use Rattle.dd_output.specs.reading.Lists.{literal_entry}
-use Rattle.dd_output.proofs.Loops.{goes_on, with_front}
+use Rattle.dd_output.proofs.Loops.{goes_on}
 use Rattle.dd_output.proofs.EndedLists.{literal_unrolls}
 use Rattle.dd_output.proofs.lists.literals_of.Goals as goal
 

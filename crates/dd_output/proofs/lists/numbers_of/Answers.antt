@@ -1,7 +1,7 @@
-use Rattle.std.proofs.Common.{◌≡◌, ℕ, ◌++◌, ◌∷◌, [], Ok, length}
-use Rattle.dd_output.specs.reading.Stops.{Entry, item, entries_at}
+use Rattle.std.proofs.Common.{◌≡◌, ◌++◌, ◌∷◌, [], Ok, length}
+use Rattle.dd_output.specs.reading.Stops.{item, entries_at}
 use Rattle.dd_output.specs.reading.Lists.{line_entry}
-use Rattle.dd_output.proofs.Loops.{goes_on, with_front}
+use Rattle.dd_output.proofs.Loops.{goes_on}
 use Rattle.dd_output.proofs.Lines.{numbers_unroll}
 use Rattle.dd_output.proofs.lists.numbers_of.Goals as goal
 

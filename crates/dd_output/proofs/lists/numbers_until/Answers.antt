@@ -1,7 +1,7 @@
-use Rattle.std.proofs.Common.{◌≡◌, ℕ, ◌++◌, ◌∷◌, [], Ok, length}
-use Rattle.dd_output.specs.reading.Stops.{Entry, item, entries_at}
+use Rattle.std.proofs.Common.{◌≡◌, ◌++◌, ◌∷◌, [], Ok}
+use Rattle.dd_output.specs.reading.Stops.{item, entries_at}
 use Rattle.dd_output.specs.reading.Lists.{number_entry}
-use Rattle.dd_output.proofs.Loops.{goes_on, with_front}
+use Rattle.dd_output.proofs.Loops.{goes_on}
 use Rattle.dd_output.proofs.EndedLists.{hint_unrolls}
 use Rattle.dd_output.proofs.lists.numbers_until.Goals as goal
 

@@ -1,4 +1,4 @@
-use Rattle.std.proofs.Common.{◌≡◌, ℕ, length}
+use Rattle.std.proofs.Common.{◌≡◌, length}
 use Rattle.dd_output.specs.reading.Stops.{entries_at}
 use Rattle.dd_output.specs.reading.Whole.{answer_entry}
 use Rattle.dd_output.proofs.Loops.{with_front}

@@ -1,7 +1,7 @@
-use Rattle.std.proofs.Common.{◌≡◌, ℕ, ◌++◌, ◌∷◌, [], Ok, length}
-use Rattle.dd_output.specs.reading.Stops.{Entry, item, entries_at}
-use Rattle.dd_output.specs.reading.Grammar.{period_entry}
-use Rattle.dd_output.proofs.Loops.{goes_on, with_front}
+use Rattle.std.proofs.Common.{◌≡◌, ◌++◌, ◌∷◌, [], Ok, length}
+use Rattle.dd_output.specs.reading.Stops.{item, entries_at}
+use Rattle.dd_output.specs.reading.Periods.{period_entry}
+use Rattle.dd_output.proofs.Loops.{goes_on}
 use Rattle.dd_output.proofs.Periods.{periods_unroll}
 use Rattle.dd_output.proofs.sides.periods_of.Goals as goal
 

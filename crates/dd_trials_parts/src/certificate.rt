@@ -1,0 +1,321 @@
+// An answer of each kind, with its first line and the lines that follow, written by hand. Outputs read back, and texts that are
+// none with the number of their bytes that begin one, counted by hand.
+use dd_certificate::{Answer, Listed, Reason, Side, answer_line, write_answer};
+use dd_clause::{Clause, Literal};
+use dd_derivation::Step;
+use dd_output::{CertificateFault, Output, read_output};
+use dd_values::Items;
+use std::alloc::{AllocError, Global};
+use std::test::Fail;
+
+/// One step, with the clause of these literals.
+fn steps(
+    alloc: Global,
+    literals: &[i32],
+    hints: &[u64],
+    deletes: &[u64],
+) -> Result<Items<Step>, AllocError> {
+    let mut clause = Vec::new(alloc);
+    for number in literals {
+        clause.push(Literal {
+            variable: number.unsigned_abs(),
+            positive: *number > 0,
+        })?;
+    }
+    let mut steps = Items::new(alloc);
+    steps.push(Step {
+        clause: Clause::from_literals(alloc, clause.as_slice())?,
+        hints: Items::from_slice(alloc, hints)?,
+        deletes: Items::from_slice(alloc, deletes)?,
+    })?;
+    Ok(steps)
+}
+
+fn proofs(alloc: Global) -> Result<Vec<(Answer, &'static str, &'static str)>, AllocError> {
+    let mut rows = Vec::new(alloc);
+    let yes = Answer::Yes {
+        radius: 0,
+        steps: steps(alloc, &[], &[6, 3, 4, 2], &[])?,
+    };
+    let yes_both = Answer::YesBoth {
+        left: 3,
+        right: 10,
+        left_steps: steps(alloc, &[-16777216, 2], &[u64::MAX], &[10, 9])?,
+        right_steps: steps(alloc, &[], &[1], &[])?,
+    };
+    rows.push((yes, "query 7 YES 0\n", "refutation 1\nstep 0 6 3 4 2 0 0\n"))?;
+    rows.push((
+        yes_both,
+        "query 7 YES 3 10\n",
+        "refutation 1\nstep -16777216 2 0 18446744073709551615 0 10 9 0\nrefutation 1\nstep 0 1 0 0\n",
+    ))?;
+    Ok(rows)
+}
+
+fn configurations(alloc: Global) -> Result<Vec<(Answer, &'static str, &'static str)>, AllocError> {
+    let mut rows = Vec::new(alloc);
+    rows.push((Answer::Inside, "query 7 IN\n", ""))?;
+    let origin = Answer::Outside {
+        place: Items::from_slice(alloc, &[0, 0, 0])?,
+    };
+    rows.push((origin, "query 7 OUT 0 0 0\n", ""))?;
+    let far = Answer::Outside {
+        place: Items::from_slice(alloc, &[-12, -1_099_511_627_776, 1_099_511_627_776, 3])?,
+    };
+    rows.push((far, "query 7 OUT -12 -1099511627776 1099511627776 3\n", ""))?;
+    for (side, shear, first) in [
+        (Side::Whole, 0, "query 7 NO 2 1\n"),
+        (Side::Whole, 1, "query 7 NO 2 1 shear 1\n"),
+        (Side::Left, 0, "query 7 NO left 2 1\n"),
+        (Side::Right, 12, "query 7 NO right 2 1 shear 12\n"),
+    ] {
+        let no = Answer::No {
+            side,
+            periods: Items::from_slice(alloc, &[2, 1])?,
+            shear,
+            symbols: Items::from_slice(alloc, &[1, 0])?,
+        };
+        rows.push((no, first, "conf 1 0\n"))?;
+    }
+    for (reason, first) in [
+        (Reason::Limits, "query 7 UNKNOWN limits\n"),
+        (Reason::Large, "query 7 UNKNOWN large\n"),
+        (Reason::Overflow, "query 7 UNKNOWN overflow\n"),
+        (Reason::Pivots, "query 7 UNKNOWN pivots\n"),
+    ] {
+        rows.push((Answer::Unknown { reason }, first, ""))?;
+    }
+    Ok(rows)
+}
+
+fn lists(alloc: Global) -> Result<Vec<(Answer, &'static str, &'static str)>, AllocError> {
+    let mut rows = Vec::new(alloc);
+    let mut patterns = Items::new(alloc);
+    patterns.push(Listed {
+        node: 0,
+        symbols: Items::from_slice(alloc, &[1, 0, 1])?,
+    })?;
+    patterns.push(Listed {
+        node: 12,
+        symbols: Items::new(alloc),
+    })?;
+    rows.push((
+        Answer::List { patterns },
+        "query 7 LIST 2\n",
+        "pattern 0 1 0 1\npattern 12\n",
+    ))?;
+    let density = Answer::Density {
+        numerator: 1,
+        denominator: 2,
+        cycle: Items::from_slice(alloc, &[0, 1])?,
+        potentials: Items::from_slice(alloc, &[0, -1])?,
+    };
+    rows.push((
+        density,
+        "query 7 DENSITY 1/2\n",
+        "cycle 2 0 1\npotentials 0 -1\n",
+    ))?;
+    let empty = Answer::Empty {
+        ranks: Items::from_slice(alloc, &[1, 0])?,
+    };
+    rows.push((empty, "query 7 EMPTY\n", "ranks 1 0\n"))?;
+    let bound = Answer::Bound {
+        numerator: 1,
+        denominator: 2,
+        common: 2,
+        amounts: Items::from_slice(alloc, &[0, 1])?,
+        duals: Items::from_slice(alloc, &[0, 1, 1])?,
+    };
+    rows.push((
+        bound,
+        "query 7 BOUND 1/2\n",
+        "denominator 2\namounts 0 1\nduals 0 1 1\n",
+    ))?;
+    Ok(rows)
+}
+
+#[test]
+fn writes_each_kind(rt: HostRuntime) -> Result<(), Fail> {
+    let alloc = rt.alloc();
+    for rows in [proofs(alloc)?, configurations(alloc)?, lists(alloc)?] {
+        for (answer, first, further) in &rows {
+            let line = answer_line(alloc, 7, answer)?;
+            assert_eq!(rt; line.as_slice(), first.as_bytes());
+            let text = write_answer(alloc, 7, answer)?;
+            let whole = format!(in alloc; "{first}{further}")?;
+            assert_eq!(rt; text.as_slice(), whole.as_bytes());
+        }
+    }
+    Ok(())
+}
+
+/// Of a text that is no output, as many of its bytes as begin one.
+fn refused_at(alloc: Global, text: &[u8]) -> Option<u64> {
+    match read_output(alloc, text) {
+        Err(CertificateFault::Malformed(at)) => Some(at),
+        _ => None,
+    }
+}
+
+fn written(alloc: Global, output: &Output) -> Result<Vec<u8>, AllocError> {
+    let mut text = format!(in alloc; "diddy 1\nscript {}\n", output.script.len())?.into_bytes();
+    text.extend_from_slice(output.script.as_slice())?;
+    text.push(b'\n')?;
+    let mut number = 0u32;
+    for answer in output.answers.as_slice() {
+        number = number.wrapping_add(1);
+        let answer = write_answer(alloc, number, answer)?;
+        text.extend_from_slice(answer.as_slice())?;
+    }
+    text.extend_from_slice(b"end\n")?;
+    Ok(text)
+}
+
+const SCRIPT: &str = "%dim 1\n%rule x o=0 & o=1\n%empty x\n";
+
+const LINES: &str = "query 1 YES 0\nrefutation 1\nstep 0 6 3 4 2 0 0\nend\n";
+
+#[test]
+fn reads_what_was_written(rt: HostRuntime) -> Result<(), Fail> {
+    let alloc = rt.alloc();
+    for rows in [proofs(alloc)?, configurations(alloc)?, lists(alloc)?] {
+        for (answer, _, _) in &rows {
+            let answer = write_answer(alloc, 1, answer)?;
+            let mut text = Vec::new(alloc);
+            text.extend_from_slice(b"diddy 1\nscript 5\n%dim \n")?;
+            text.extend_from_slice(answer.as_slice())?;
+            text.extend_from_slice(b"end\n")?;
+            match read_output(alloc, text.as_slice()) {
+                Ok(output) => {
+                    assert_eq!(rt; output.script.as_slice(), b"%dim ".as_slice());
+                    assert_eq!(rt; written(alloc, &output)?.as_slice(), text.as_slice());
+                }
+                Err(_) => assert!(rt; false),
+            }
+        }
+    }
+    Ok(())
+}
+
+#[test]
+fn refuses_cut_texts(rt: HostRuntime) -> Result<(), Fail> {
+    let alloc = rt.alloc();
+    let text = format!(in alloc; "diddy 1\nscript 34\n{SCRIPT}\n{LINES}")?;
+    let bytes = text.as_bytes();
+    assert_eq!(rt; bytes.len(), 103);
+    assert_eq!(rt; refused_at(alloc, bytes), None);
+    for cut in 0..103usize {
+        let (front, _) = bytes.split_at(cut.min(bytes.len()));
+        assert_eq!(rt; refused_at(alloc, front), Some(cut as u64));
+    }
+    Ok(())
+}
+
+#[test]
+fn refuses_altered_texts(rt: HostRuntime) -> Result<(), Fail> {
+    let alloc = rt.alloc();
+    for (head, lines, at) in [
+        ("diddy 2\nscript 34\n", LINES, 6),
+        ("diddy 1\nscript 35\n", LINES, 53),
+        ("diddy 1\nscript 33\n", LINES, 52),
+        ("diddy 1\nscript 034\n", LINES, 16),
+        ("diddy 1\nscript 1048577\n", LINES, 21),
+        ("diddy 1\nscript 34\n", "query 2 YES 0\n", 59),
+        ("diddy 1\nscript 34\n", "query 1 YES 0\nrefutation 0\n", 78),
+        (
+            "diddy 1\nscript 34\n",
+            "query 1 YES 0\nrefutation 1\nstep -0 6 0 0\n",
+            86,
+        ),
+        (
+            "diddy 1\nscript 34\n",
+            "query 1 YES 0\nrefutation 1\nstep 00 6 0 0\n",
+            86,
+        ),
+        (
+            "diddy 1\nscript 34\n",
+            "query 1 YES 0\nrefutation 1\nstep  0 6 0 0\n",
+            85,
+        ),
+        (
+            "diddy 1\nscript 34\n",
+            "query 1 YES 0\nrefutation 1\nstep 16777217 0 6 0 0\n",
+            92,
+        ),
+        (
+            "diddy 1\nscript 34\n",
+            "query 1 YES 0\nrefutation 1\nstep 0 18446744073709551616 0 0\n",
+            106,
+        ),
+        ("diddy 1\nscript 34\n", "query 1 YES 1099511627777\n", 77),
+        (
+            "diddy 1\nscript 34\n",
+            "query 1 YES 0\nrefutation 1\nstep 0 6 3 4 2 0 0\n",
+            99,
+        ),
+        (
+            "diddy 1\nscript 34\n",
+            "query 1 YES 0\nrefutation 1\nstep 0 6 3 4 2 0 0\nend\n\n",
+            103,
+        ),
+    ] {
+        let text = format!(in alloc; "{head}{SCRIPT}\n{lines}")?;
+        assert_eq!(rt;
+            refused_at(alloc, text.as_bytes()),
+            Some(at),
+            "{head}{lines}"
+        );
+    }
+    Ok(())
+}
+
+#[test]
+fn refuses_faulty_answers(rt: HostRuntime) -> Result<(), Fail> {
+    let alloc = rt.alloc();
+    for (answer, at) in [
+        ("NONE\n", 2),
+        ("NO 2 shear 1\n", 5),
+        ("NO 2 1 shear 0\n", 13),
+        ("NO 1 1 1 1\n", 9),
+        ("NO lefter 1\n", 7),
+        ("OUT 1\n", 5),
+        ("OUT -0 0\n", 5),
+        ("OUT 0 0 0 0 0\n", 11),
+        ("YES 1  1\n", 6),
+        ("YES 1 1\nrefutation 1\nstep 0 0 0\nend\n", 32),
+        ("UNKNOWN lost\n", 9),
+        ("LIST 2\npattern 0 1\nend\n", 19),
+        ("DENSITY 1/0\n", 10),
+        ("DENSITY 1/2\ncycle 0\n", 18),
+        ("DENSITY 1/2\ncycle 2 0\n", 21),
+        ("DENSITY 1/2\ncycle 1 0 1\n", 21),
+        ("EMPTY\nranks\n", 11),
+        ("BOUND 1/2\ndenominator 0\n", 22),
+        ("BOUND 1/2\ndenominator 2\namounts\nduals\n", 37),
+    ] {
+        let text = format!(in alloc; "diddy 1\nscript 0\n\nquery 1 {answer}")?;
+        assert_eq!(rt;
+            refused_at(alloc, text.as_bytes()),
+            Some(at + 26),
+            "{answer}"
+        );
+    }
+    Ok(())
+}
+
+#[test]
+fn counts_queries(rt: HostRuntime) -> Result<(), Fail> {
+    let alloc = rt.alloc();
+    let mut text = Vec::new(alloc);
+    text.extend_from_slice(b"diddy 1\nscript 0\n\n")?;
+    for number in 1..=1000u32 {
+        text.extend_from_slice(format!(in alloc; "query {number} IN\n")?.as_bytes())?;
+    }
+    let whole = text.len() as u64;
+    let mut ended = text.clone()?;
+    ended.extend_from_slice(b"end\n")?;
+    assert_eq!(rt; refused_at(alloc, ended.as_slice()), None);
+    text.extend_from_slice(b"query 1001 IN\nend\n")?;
+    assert_eq!(rt; refused_at(alloc, text.as_slice()), Some(whole));
+    Ok(())
+}
