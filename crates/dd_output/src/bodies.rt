@@ -5,12 +5,12 @@ ghost use Rattle.dd_output.specs.reading.Stops.{Gives, number_at, many_at, copie
 ghost use Rattle.dd_output.specs.reading.Lists.{zeros};
 ghost use Rattle.dd_output.specs.reading.Grammar as grammar;
 
-use dd_certificate::{Answer, Listed, Reason};
 use crate::derivations::refutation_of;
 use crate::fault::ReadFault;
 use crate::lexing::{begins, number_at, word_at};
 use crate::lists::{MOST_NUMBER, integers_of, numbers_of};
 use crate::sides::side_and_periods_of;
+use dd_certificate::{Answer, Listed, Reason};
 use dd_derivation::Step;
 use dd_values::Items;
 use std::alloc::Global;

@@ -14,11 +14,11 @@ ghost use Rattle.dd_output.specs.reading.Whole.{
   all_at,
 };
 
-use crate::output::Output;
 use crate::bodies::answer_of;
-use dd_certificate::{Answer, push_decimal};
 use crate::fault::{CertificateFault, ReadFault};
 use crate::lexing::{begins, bytes_at, number_at, word_at};
+use crate::output::Output;
+use dd_certificate::{Answer, push_decimal};
 use dd_values::Items;
 use std::alloc::Global;
 

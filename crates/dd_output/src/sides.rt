@@ -5,10 +5,10 @@ ghost use Rattle.dd_output.specs.reading.Periods.{period_at, shear_at, period_en
 ghost use Rattle.dd_output.specs.reading.Grammar.{side_and_periods};
 ghost use Rattle.dd_output.specs.reading.Seen.{period_seen};
 
-use dd_certificate::Side;
 use crate::fault::ReadFault;
 use crate::lexing::{begins, number_at, word_at};
 use crate::lists::MOST_NUMBER;
+use dd_certificate::Side;
 use dd_values::Items;
 use std::alloc::Global;
 
