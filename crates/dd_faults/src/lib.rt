@@ -1,0 +1,11 @@
+//! What is wrong with a command that is well formed. All its faults are one list in the order of its text, and it is refused for
+//! the first of the least rank: unknown names come before what is given twice, then dimensions, then limits in their order.
+#![tactic(auto)]
+
+mod atoms;
+mod context;
+mod fault;
+mod names;
+
+pub use context::{Context, Known, Setting};
+pub use fault::{Fault, Limit, Refusal, refuse_if};
