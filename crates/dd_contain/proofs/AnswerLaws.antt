@@ -9,7 +9,7 @@ use Rattle.dd_boxes.specs.Laws.{OneBox}
 use Rattle.dd_contain.specs.declared.decision.Decision.{Decision}
 use Rattle.dd_contain.specs.declared.decision.Decision.TheVariants.{Yes, No, Unknown}
 use Rattle.dd_contain.specs.Decided.{IsDecidedBy}
-use Rattle.dd_contain.specs.Questions.{Refutes, ShowsAt, Displays, greatest_periods, IsDecided}
+use Rattle.dd_contain.specs.Questions.{Refutes, ShowsAt, Displays, IsDecided}
 use Rattle.dd_contain.specs.Laws.{IsShown, Trichotomy}
 
 flat_origin : (d : ℕ) → is_flat d origin ≡ true
@@ -29,7 +29,7 @@ module _ (x : LocalRule) (g : GoalOf) (each : (radius : ℕ) → OneBox x g radi
   never_both n p reach suffices shown =
       let tile = shown.2.0 in
       let witness = shown.2.1.1 in
-      ((each n).nowhere ok reach suffices).tiles tile witness.tile witness.fits witness.lives origin (flat_origin x.dimension) witness.goal
+      ((each n).nowhere ok reach suffices).tiles tile witness.tile witness.fits witness.allowed witness.lives origin (flat_origin x.dimension) witness.goal
 
   module _ (n p least : ℕ) (is : IsLeastRadius g least) where
     abbrev most : ℕ
@@ -38,7 +38,7 @@ module _ (x : LocalRule) (g : GoalOf) (each : (radius : ℕ) → OneBox x g radi
     reached : Reaches g most
     reached = reaches least most is (omega arith)
 
-    told : (decision : Decision) → IsDecidedBy (Suffices x g) (Refutes x g) (ShowsAt x g) (Displays x g) least most (greatest_periods x.dimension p) decision →
+    told : (decision : Decision) → IsDecidedBy (Suffices x g) (Refutes x g) (ShowsAt x g) (Displays x g) least most x.dimension p decision →
         Trichotomy x g most p decision
     told (Yes m steps) by =
         let enough : Suffices x g most = (each m).larger ok (reaches least m is by.0.low) by.0.holds most by.0.high in
@@ -73,4 +73,4 @@ module _ (x : LocalRule) (g : GoalOf) (each : (radius : ℕ) → OneBox x g radi
       let down : decided.0 ≤ least = decided.1.least least is.reaches in
       let same : decided.0 ≡ least = omega (arith, up, down) in
       told n p least is decision
-      (subst (λ k. IsDecidedBy (Suffices x g) (Refutes x g) (ShowsAt x g) (Displays x g) k (max n k) (greatest_periods x.dimension p) decision) same decided.2)
+      (subst (λ k. IsDecidedBy (Suffices x g) (Refutes x g) (ShowsAt x g) (Displays x g) k (max n k) x.dimension p decision) same decided.2)

@@ -1,20 +1,16 @@
 -- What the search asks is small where the largest of the question's limits is.
-use Rattle.std.proofs.Common.{◌≡◌, ℕ, ◌+◌, ◌*◌, ◌≤◌, Bool, true, false, sym, subst, arith, pos}
-use Rattle.std.specs.Prelude.{◌-ℤ◌, cond}
+use Rattle.std.proofs.Common.{◌≡◌, ℕ, zero, suc, ◌+◌, ◌*◌, ◌^◌, ◌≤◌, ap, ◌∙◌, arith, pos}
+use Rattle.std.specs.Prelude.{◌-ℤ◌}
+use Rattle.std.proofs.Math.Nat.{pow-zero, pow-suc}
 use Rattle.std.proofs.lemmas.Int.{ints}
 use Rattle.std.proofs.lemmas.Nat.{mul-le}
-use Rattle.std.proofs.lemmas.Bool.{lt-ltb}
-use Rattle.dd_lattice.specs.Boxes.{is_active, spread, span, centred, volume}
-use Rattle.dd_pattern.specs.Tile.{volume as tile_volume}
+use Rattle.dd_lattice.specs.Boxes.{span, centred, volume}
+use Rattle.dd_pattern.specs.declared.periods.Periods.{Periods}
+use Rattle.dd_pattern.specs.Periods.{AreWithin, volume as tile_volume}
 use Rattle.dd_formula.specs.LocalRule.{LocalRule}
-use Rattle.dd_formula.specs.Counts.{place_clauses}
+use Rattle.dd_formula.specs.Counts.{place_clauses, largest_region, largest_clauses}
 use Rattle.dd_boxes.specs.Goals.{GoalOf}
-use Rattle.dd_boxes.specs.Counts.{goal_clauses, question_clauses}
-use Rattle.dd_boxes.specs.Witnesses.{IsPeriod, ArePeriods}
-use Rattle.dd_problem.specs.Layouts.{torus}
-use Rattle.dd_contain.specs.declared.search.Periods.{Periods}
-use Rattle.dd_contain.specs.Decided.{periods, volume as product}
-use Rattle.dd_contain.specs.Questions.{along_axes}
+use Rattle.dd_boxes.specs.Counts.{goal_clauses, question_clauses, most_clauses}
 
 -- more positions take more clauses
 sum_up : (n m each rest : ℕ) → n ≤ m → n * each + rest ≤ m * each + rest
@@ -23,58 +19,73 @@ sum_up n m each rest le = let most : n * each ≤ m * each = mul-le n each m eac
 clauses_up : (x : LocalRule) (g : GoalOf) (n m : ℕ) → n ≤ m → question_clauses x g n ≤ question_clauses x g m
 clauses_up x g n m le = sum_up n m (place_clauses x) (goal_clauses g) le
 
-pub fewer : (x : LocalRule) (g : GoalOf) (n m : ℕ) → n ≤ m → question_clauses x g m ≤ 2000000 → question_clauses x g n ≤ 2000000
-fewer x g n m le few = let up : question_clauses x g n ≤ question_clauses x g m = clauses_up x g n m le in at_most (question_clauses x g n) (question_clauses x g m) up few where
-  at_most : (a b : ℕ) → a ≤ b → b ≤ 2000000 → a ≤ 2000000
-  at_most a b h k = omega arith
+at_most : (a b : ℕ) → a ≤ b → b ≤ most_clauses → a ≤ most_clauses
+at_most a b h k = omega (arith, h, k)
+
+pub fewer : (x : LocalRule) (g : GoalOf) (radius period n : ℕ) → n ≤ largest_region x.dimension radius period →
+    largest_clauses x (goal_clauses g) radius period ≤ most_clauses → question_clauses x g n ≤ most_clauses
+fewer x g radius period n le few =
+    at_most (question_clauses x g n) (question_clauses x g (largest_region x.dimension radius period)) (clauses_up x g n (largest_region x.dimension radius period) le) few
+
+-- ---- the positions of boxes and of tori as powers
+
+first_power : (b : ℕ) → b ^ 1 ≡ b
+first_power b = let none = pow-zero b in let one : b ^ 1 ≡ b ^ 0 * b = pow-suc b 0 in one ∙ (ap (λ m. m * b) none ∙ (omega arith))
+
+second_power : (b : ℕ) → b ^ 2 ≡ b * b
+second_power b = let two : b ^ 2 ≡ b ^ 1 * b = pow-suc b 1 in two ∙ ap (λ m. m * b) (first_power b)
+
+third_power : (b : ℕ) → b ^ 3 ≡ b * b * b
+third_power b = let three : b ^ 3 ≡ b ^ 2 * b = pow-suc b 2 in three ∙ ap (λ m. m * b) (second_power b)
+
+side_is : (n : ℕ) → span (pos 0 -ℤ pos n) (pos n) ≡ 2 * n + 1
+side_is n = omega (arith, ints)
+
+box_positions : (d n : ℕ) → 1 ≤ d → d ≤ 3 → volume (centred d n) ≡ (2 * n + 1) ^ d
+box_positions zero n low high = absurd (omega arith)
+box_positions (suc zero) n low high = let side = side_is n in rw (first_power (2 * n + 1), side) (omega arith)
+box_positions (suc (suc zero)) n low high = let side = side_is n in rw (second_power (2 * n + 1), side) (omega arith)
+box_positions (suc (suc (suc zero))) n low high = let side = side_is n in rw (third_power (2 * n + 1), side) (omega arith)
+box_positions (suc (suc (suc (suc d)))) n low high = absurd (omega arith)
 
 -- a larger box has more positions
-side_is : (s : ℕ) → span (pos 0 -ℤ pos s) (pos s) ≡ 2 * s + 1
-side_is s = omega (arith, ints)
+squares_up : (a b : ℕ) → a ≤ b → a * a ≤ b * b
+squares_up a b le = mul-le a a b b le le
 
-spread_up : (active : Bool) (n m : ℕ) → n ≤ m → spread active n ≤ spread active m
-spread_up true n m le = le
-spread_up false n m le = omega arith
+cubes_up : (a b : ℕ) → a ≤ b → a * a * a ≤ b * b * b
+cubes_up a b le = mul-le (a * a) a (b * b) b (squares_up a b le) le
 
-abbrev side : Bool → ℕ → ℕ
-side active n = span (pos 0 -ℤ pos (spread active n)) (pos (spread active n))
+powers_up : (d a b : ℕ) → 1 ≤ d → d ≤ 3 → a ≤ b → a ^ d ≤ b ^ d
+powers_up zero a b low high le = absurd (omega arith)
+powers_up (suc zero) a b low high le = rw (first_power a, first_power b) le
+powers_up (suc (suc zero)) a b low high le = rw (second_power a, second_power b) (squares_up a b le)
+powers_up (suc (suc (suc zero))) a b low high le = rw (third_power a, third_power b) (cubes_up a b le)
+powers_up (suc (suc (suc (suc d)))) a b low high le = absurd (omega arith)
 
-side_up : (active : Bool) (n m : ℕ) → n ≤ m → side active n ≤ side active m
-side_up active n m le =
-    let up = spread_up active n m le in
-    let one = side_is (spread active n) in
-    let two = side_is (spread active m) in
-    omega (arith, up, one, two)
+pub box_up : (d n m p : ℕ) → 1 ≤ d → d ≤ 3 → n ≤ m → volume (centred d n) ≤ largest_region d m p
+box_up d n m p low high le =
+    let is = box_positions d n low high in
+    let up = powers_up d (2 * n + 1) (2 * m + 1) low high (omega (arith, le)) in
+    omega (arith, is, up)
 
-pub volume_up : (d n m : ℕ) → n ≤ m → volume (centred d n) ≤ volume (centred d m)
-volume_up d n m le =
-    let x = is_active d 0 in
-    let y = is_active d 1 in
-    let z = is_active d 2 in
-    mul-le (side x n) (side y n * side z n) (side x m) (side y m * side z m) (side_up x n m le) (mul-le (side y n) (side z n) (side y m) (side z m) (side_up y n m le) (side_up z n m le))
+-- and no torus of the periods has more than the largest
+line_up : (x y z p : ℕ) → x ≤ p → y ≡ 1 → z ≡ 1 → z * y * x ≤ p
+line_up x y z p on_x on_y on_z = rw (on_y, on_z) (omega (arith, on_x))
 
--- the periods that are tried
-is_period : (active : Bool) (p k : ℕ) → p ≤ 8 → 1 ≤ k → k ≤ cond active p 1 → IsPeriod active k
-is_period true p k most some le = (some, omega arith)
-is_period false p k most some le = omega arith
+plane_up : (x y z p : ℕ) → x ≤ p → y ≤ p → z ≡ 1 → z * y * x ≤ p * p
+plane_up x y z p on_x on_y on_z = rw on_z (let one : 1 * y ≤ p = omega (arith, on_y) in mul-le (1 * y) x p p one on_x)
 
-pub are_periods : (d p x y z : ℕ) → 1 ≤ d → p ≤ 8 → 1 ≤ x → x ≤ p → 1 ≤ y → y ≤ cond (is_active d 1) p 1 → 1 ≤ z → z ≤ cond (is_active d 2) p 1 →
-    ArePeriods d (along_axes (periods x y z))
-are_periods d p x y z some most x_some x_most y_some y_most z_some z_most =
-    let first : IsPeriod true x = (x_some, omega arith) in
-    record {
-      on_x = subst (λ b. IsPeriod b x) (sym (lt-ltb 0 d some)) first;
-      on_y = is_period (is_active d 1) p y most y_some y_most;
-      on_z = is_period (is_active d 2) p z most z_some z_most;
-    }
+space_up : (x y z p : ℕ) → x ≤ p → y ≤ p → z ≤ p → z * y * x ≤ p * p * p
+space_up x y z p on_x on_y on_z = mul-le (z * y) x (p * p) p (mul-le z y p p on_z on_y) on_x
 
--- no torus of them has more positions than the largest
-product_up : (x y z a b c : ℕ) → x ≤ a → y ≤ b → z ≤ c → z * y * x ≤ a * b * c
-product_up x y z a b c on_x on_y on_z =
-    let plane : z * y ≤ c * b = mul-le z y c b on_z on_y in
-    let all : z * y * x ≤ c * b * a = mul-le (z * y) x (c * b) a plane on_x in
-    let turned : c * b * a ≡ a * b * c = omega arith in
-    omega (arith, all, turned)
+torus_positions : (d p : ℕ) (q : Periods) → 1 ≤ d → d ≤ 3 → AreWithin d p q → tile_volume q ≤ p ^ d
+torus_positions zero p q low high within = absurd (omega arith)
+torus_positions (suc zero) p q low high within =
+    rw (first_power p) (line_up q.x q.y q.z p within.x_most (within.periods.y_unused (omega arith)) (within.periods.z_unused (omega arith)))
+torus_positions (suc (suc zero)) p q low high within =
+    rw (second_power p) (plane_up q.x q.y q.z p within.x_most within.y_most (within.periods.z_unused (omega arith)))
+torus_positions (suc (suc (suc zero))) p q low high within = rw (third_power p) (space_up q.x q.y q.z p within.x_most within.y_most within.z_most)
+torus_positions (suc (suc (suc (suc d)))) p q low high within = absurd (omega arith)
 
-pub torus_up : (x : LocalRule) (tops : Periods) (a b c : ℕ) → a ≤ tops.x → b ≤ tops.y → c ≤ tops.z → tile_volume (torus x (along_axes (periods a b c))) ≤ product tops
-torus_up x tops a b c on_x on_y on_z = product_up a b c tops.x tops.y tops.z on_x on_y on_z
+pub torus_up : (d n p : ℕ) (q : Periods) → 1 ≤ d → d ≤ 3 → AreWithin d p q → tile_volume q ≤ largest_region d n p
+torus_up d n p q low high within = let up = torus_positions d p q low high within in omega (arith, up)

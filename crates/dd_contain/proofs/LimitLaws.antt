@@ -1,5 +1,5 @@
 -- From a question's limits to what the search asks, and from what it finds to the decision.
-use Rattle.std.proofs.Common.{◌≡◌, ℕ, ◌*◌, ◌<◌, ◌≤◌, true, get_or, sym, subst, arith}
+use Rattle.std.proofs.Common.{◌≡◌, ℕ, ◌<◌, ◌≤◌, true, get_or, subst, arith}
 use Rattle.std.specs.Prelude.{◌&&◌, max}
 use Rattle.std.specs.List.{list_all}
 use Rattle.std.proofs.lemmas.Bool.{and_from}
@@ -12,12 +12,14 @@ use Rattle.dd_boxes.specs.Boxes.{Suffices, IsLeastRadius}
 use Rattle.dd_boxes.proofs.RuleLaws.{list_all_weaker}
 use Rattle.dd_boxes.proofs.ReachLaws.{box_from_within}
 use Rattle.dd_boxes.proofs.FromBox.{from_least}
-use Rattle.dd_contain.specs.declared.search.Periods.{Periods}
+use Rattle.dd_pattern.specs.declared.periods.Periods.{Periods}
+use Rattle.dd_pattern.specs.Periods.{AreWithin, volume as tile_volume}
 use Rattle.dd_contain.specs.declared.decision.Decision.{Decision}
 use Rattle.dd_contain.specs.declared.decision.Decision.TheVariants.{Yes, No, Unknown}
-use Rattle.dd_contain.specs.Decided.{volume as product, IsDecidedBy, AsksRadii, AsksPeriods as AsksAllPeriods}
-use Rattle.dd_contain.specs.Questions.{AsksRadius, AsksPeriods, Refutes, RefutesByNumbers, ShowsAt, Displays, greatest_periods, IsSmallQuestion, IsDecided, HasNumbers}
-use Rattle.dd_contain.proofs.CountLaws.{fewer, volume_up, are_periods, torus_up}
+use Rattle.dd_contain.specs.Decided.{IsDecidedBy}
+use Rattle.dd_contain.specs.searching.Listed.{AsksRadii, AsksWithin}
+use Rattle.dd_contain.specs.Questions.{AsksRadius, AsksPeriods, Refutes, RefutesByNumbers, ShowsAt, Displays, IsSmallQuestion, IsDecided, HasNumbers}
+use Rattle.dd_contain.proofs.CountLaws.{fewer, box_up, torus_up}
 
 -- a rule reads nothing further than 16 away, so the least radius is at most 16
 reads_near : (y : LocalRule) (a : ℕ) → IsRule y → a < y.nodes → list_all (λ c. is_of y c && is_near c) (reads_at y a) ≡ true
@@ -32,52 +34,47 @@ least_small x (breaks y) least ok is =
     is.least 16 (λ a node. list_all_weaker (λ c. is_of y c && is_near c) (is_box_cell y 16) (box_from_within y 16 ok.0.dimension.0) (reads_at y a) (reads_near y a ok.0 node))
 least_small x always least ok is = let none : least ≤ 0 = is.least 0 tt in omega (arith, none)
 
-module _ (x : LocalRule) (g : GoalOf) (n p least : ℕ) (ok : IsGoalFor x g) (is : IsLeastRadius g least) (small : IsSmallQuestion x g n p) where
+within_most : (d p m : ℕ) (q : Periods) → p ≤ m → AreWithin d p q → AreWithin d m q
+within_most d p m q le within =
+    let x = within.x_most in
+    let y = within.y_most in
+    let z = within.z_most in
+    record { periods = within.periods; x_most = omega (arith, x, le); y_most = omega (arith, y, le); z_most = omega (arith, z, le) }
+
+module _ (x : LocalRule) (g : GoalOf) (n p least : ℕ) (rule : IsRule x) (ok : IsGoalFor x g) (is : IsLeastRadius g least) (small : IsSmallQuestion x g n p) where
   pub radii_asked : (most : ℕ) → most ≡ max n least → AsksRadii (AsksRadius x g) least most
   radii_asked most top k low high = record {
     goal = ok;
     reaches = from_least g least k is low;
-    few =
-        (let greatest = volume (centred x.dimension (max n least)) in
-        let up : volume (centred x.dimension k) ≤ greatest = volume_up x.dimension k (max n least) (omega (arith, high, top)) in
-        let tops = product (greatest_periods x.dimension p) in
-        fewer x g (volume (centred x.dimension k)) (max greatest tops) (omega (arith, up)) (small least is));
+    few = fewer x g (max n least) p (volume (centred x.dimension k)) (box_up x.dimension k (max n least) p rule.dimension.0 rule.dimension.1 (omega (arith, high, top))) (small least is);
   }
 
-  pub periods_asked : (tops : Periods) → tops ≡ greatest_periods x.dimension p → 1 ≤ x.dimension → p ≤ 8 → AsksAllPeriods (AsksPeriods x g) tops
-  periods_asked tops top some most = subst (AsksAllPeriods (AsksPeriods x g)) (sym top) (λ a b c x_some x_most y_some y_most z_some z_most.
-      record {
-        goal = ok;
-        periods = are_periods x.dimension p a b c some most x_some x_most y_some y_most z_some z_most;
-        few =
-            (let greatest = volume (centred x.dimension (max n least)) in
-            let all = greatest_periods x.dimension p in
-            let up = torus_up x all a b c x_most y_most z_most in
-            fewer x g (c * b * a) (max greatest (product all)) (omega (arith, up)) (small least is));
-      })
-
-  at_limits : (most : ℕ) (tops : Periods) → most ≡ max n least → tops ≡ greatest_periods x.dimension p → (decision : Decision) →
-      IsDecidedBy (Suffices x g) (RefutesByNumbers x g) (ShowsAt x g) (Displays x g) least most tops decision →
-      IsDecidedBy (Suffices x g) (RefutesByNumbers x g) (ShowsAt x g) (Displays x g) least (max n least) (greatest_periods x.dimension p) decision
-  at_limits most tops top all decision by =
-      subst (λ t. IsDecidedBy (Suffices x g) (RefutesByNumbers x g) (ShowsAt x g) (Displays x g) least (max n least) t decision) all
-      (subst (λ m. IsDecidedBy (Suffices x g) (RefutesByNumbers x g) (ShowsAt x g) (Displays x g) least m tops decision) top by)
+  pub periods_asked : p ≤ 8 → AsksWithin (AsksPeriods x g) x.dimension p
+  periods_asked most q within = record {
+    goal = ok;
+    periods = within_most x.dimension p 8 q most within;
+    few = fewer x g (max n least) p (tile_volume q) (torus_up x.dimension (max n least) p q rule.dimension.0 rule.dimension.1 within) (small least is);
+  }
 
   -- what the search finds is the decision
-  found : (tops : Periods) (decision : Decision) → IsDecidedBy (Suffices x g) (RefutesByNumbers x g) (ShowsAt x g) (Displays x g) least (max n least) tops decision →
-      IsDecidedBy (Suffices x g) (Refutes x g) (ShowsAt x g) (Displays x g) least (max n least) tops decision
-  found tops (Yes m steps) by = (by.0, by.1.refuting)
-  found tops (No tile) by = by
-  found tops Unknown by = by
-
-  pub decided : (most : ℕ) (tops : Periods) → most ≡ max n least → tops ≡ greatest_periods x.dimension p → (decision : Decision) →
-      IsDecidedBy (Suffices x g) (RefutesByNumbers x g) (ShowsAt x g) (Displays x g) least most tops decision → IsDecided x g n p decision
-  decided most tops top all decision by =
-      (least, is, found (greatest_periods x.dimension p) decision (at_limits most tops top all decision by))
+  pub decided : (most : ℕ) → most ≡ max n least → (decision : Decision) →
+      IsDecidedBy (Suffices x g) (RefutesByNumbers x g) (ShowsAt x g) (Displays x g) least most x.dimension p decision → IsDecided x g n p decision
+  decided most top decision by = (
+    least,
+    is,
+    found decision
+        (subst (λ m. IsDecidedBy (Suffices x g) (RefutesByNumbers x g) (ShowsAt x g) (Displays x g) least m x.dimension p decision) top by),
+  )
+    where
+      found : (decision : Decision) → IsDecidedBy (Suffices x g) (RefutesByNumbers x g) (ShowsAt x g) (Displays x g) least (max n least) x.dimension p decision →
+          IsDecidedBy (Suffices x g) (Refutes x g) (ShowsAt x g) (Displays x g) least (max n least) x.dimension p decision
+      found (Yes m steps) by = (by.0, by.1.refuting)
+      found (No tile) by = by
+      found Unknown by = by
 
 -- and its evidence is numbered
-pub numbered : (x : LocalRule) (g : GoalOf) (least most : ℕ) (tops : Periods) (decision : Decision) →
-    IsDecidedBy (Suffices x g) (RefutesByNumbers x g) (ShowsAt x g) (Displays x g) least most tops decision → HasNumbers x g decision
-numbered x g least most tops (Yes m steps) by = by.1.numbered
-numbered x g least most tops (No tile) by = tt
-numbered x g least most tops Unknown by = tt
+pub numbered : (x : LocalRule) (g : GoalOf) (least most d p : ℕ) (decision : Decision) →
+    IsDecidedBy (Suffices x g) (RefutesByNumbers x g) (ShowsAt x g) (Displays x g) least most d p decision → HasNumbers x g decision
+numbered x g least most d p (Yes m steps) by = by.1.numbered
+numbered x g least most d p (No tile) by = tt
+numbered x g least most d p Unknown by = tt

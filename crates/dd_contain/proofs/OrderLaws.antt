@@ -1,54 +1,84 @@
--- The search goes through the periods by volume and then in lexicographic order.
-use Rattle.std.proofs.Common.{◌≡◌, ℕ, ◌+◌, ◌*◌, ◌<◌, ◌≤◌, refl, ◌∙◌, arith, inl, inr}
-use Rattle.std.proofs.lemmas.Nat.{mul-le}
-use Rattle.dd_contain.specs.declared.search.Periods.{Periods}
-use Rattle.dd_contain.specs.Decided.{volume, IsWithin, IsFirst, NoneWithin}
-use Rattle.dd_contain.specs.Order.{NoZ, NoY, NoV, IsFirstX}
+-- The first of a list of periods in their order, of all that there are, is the first of all.
+use Rattle.std.proofs.Common.{◌≡◌, ℕ, ◌+◌, ◌<◌, List, length, get_or, Some, refl, sym, subst, arith, inl, inr, Contains}
+use Rattle.std.specs.Prelude.{slice_get}
+use Rattle.std.specs.List.Sorted.{IsStrictlySortedBy}
+use Rattle.std.specs.Cmp.{IsTotalOrder}
+use Rattle.std.proofs.lemmas.Bool.{cases_order}
+use Rattle.std.proofs.lemmas.Cmp.{nat_cmp_total, on_total, then_total, tied_itself}
+use Rattle.std.proofs.lemmas.Map.Keys.{Less-from_sorted}
+use Rattle.std.proofs.lemmas.Option.{slice_get_within, slice_get_read, get_or_from_slice_get}
+use Rattle.dd_pattern.specs.declared.periods.Periods.{Periods}
+use Rattle.dd_pattern.specs.Periods.{volume, periods_cmp, IsBefore, AreAllWithin}
+use Rattle.dd_contain.specs.Decided.{IsFirst, NoneWithin}
+use Rattle.dd_contain.specs.searching.Listed.{NoneBefore, IsFirstOf}
 
-product_some : (a b : ℕ) → 1 ≤ a → 1 ≤ b → 1 ≤ a * b
-product_some a b h g = mul-le 1 1 a b h g
+periods_total : IsTotalOrder periods_cmp
+periods_total =
+    then_total
+    (then_total
+    (then_total (then_total (on_total volume nat_cmp_total) (on_total (λ (p : Periods). p.x) nat_cmp_total)) (on_total (λ (p : Periods). p.y) nat_cmp_total))
+    (on_total (λ (p : Periods). p.z) nat_cmp_total))
+    (on_total (λ (p : Periods). p.shear) nat_cmp_total)
 
-product_up : (a b m n : ℕ) → a ≤ m → b ≤ n → a * b ≤ m * n
-product_up a b m n h g = mul-le a b m n h g
+-- nothing is before itself, nor before what is before it
+never_itself : (p : Periods) → IsBefore p p → ⊥
+never_itself p before = let tied = tied_itself periods_total p in absurd (cc (tied, before))
 
-volume_some : (most q : Periods) → IsWithin most q → 1 ≤ volume q
-volume_some most q w = product_some (q.x * q.y) q.z (product_some q.x q.y w.0.0 w.1.0) w.2.0
+never_back : (p q : Periods) → IsBefore p q → IsBefore q p → ⊥
+never_back p q one other = never_itself p (periods_total.trans p q p one other)
 
-volume_below : (most q : Periods) → most.x ≤ 8 → most.y ≤ 8 → most.z ≤ 8 → IsWithin most q → volume q < 513
-volume_below most q x y z w =
-    let qx = w.0.1 in
-    let qy = w.1.1 in
-    let qz = w.2.1 in
-    let plane : q.x * q.y ≤ 8 * 8 = product_up q.x q.y 8 8 (omega (arith, qx, x)) (omega (arith, qy, y)) in
-    let all : q.x * q.y * q.z ≤ 64 * 8 = product_up (q.x * q.y) q.z 64 8 (omega (arith, plane)) (omega (arith, qz, z)) in
-    omega (arith, all)
+-- one more has been asked
+pub none_more : (T : Periods → Type 0) (ps : List Periods) (n m : ℕ) (p : Periods) → n < length ps → p ≡ get_or ps n p → m ≡ n + 1 → NoneBefore T ps n → (T p → ⊥) →
+    NoneBefore T ps m
+none_more T ps n m p there is next none here k q below stands shows = elim (cases_order k n) [
+  | inl same ↦
+      (let mine : slice_get ps n ≡ Some p = slice_get_read ps (length ps) n p refl there is in
+      let at : slice_get ps n ≡ Some q = subst (λ i. slice_get ps i ≡ Some q) same stands in
+      let alike : q ≡ p = cc (mine, at) in
+      here (subst T alike shows))
+  | inr apart ↦ (elim apart [
+    | inl less ↦ none k q less stands shows
+    | inr more ↦ absurd (omega (arith, more, below, next))
+  ])
+]
 
-up : (a b : ℕ) → a ≤ b → a < b + 1
-up a b h = omega arith
+pub first_here : (T : Periods → Type 0) (ps : List Periods) (n : ℕ) (p : Periods) → n < length ps → p ≡ get_or ps n p → NoneBefore T ps n → T p → IsFirstOf T ps p
+first_here T ps n p there is none shows = record { place = n; stands = slice_get_read ps (length ps) n p refl there is; shows = shows; before = none }
 
-pub none_from : (T : Periods → Type 0) (most : Periods) → most.x ≤ 8 → most.y ≤ 8 → most.z ≤ 8 → NoV T most 513 → NoneWithin T most
-none_from T most x y z none q w shows =
-    none (volume q) (volume_some most q w) (volume_below most q x y z w) q.x w.0.0 (up q.x most.x w.0.1) q.y w.1.0 (up q.y most.y w.1.1) q.z w.2.0 (up q.z most.z w.2.1) refl shows
+-- an item of the list
+listed : (ps : List Periods) (q : Periods) → Contains ps q → (k : ℕ) × (k < length ps) × (slice_get ps k ≡ Some q)
+listed ps q there = (there.0, there.1, slice_get_read ps (length ps) there.0 q refl there.1 (sym there.2))
 
-pub first_from : (T : Periods → Type 0) (most : Periods) (size : ℕ) (p : Periods) → NoV T most size → IsFirstX T most size p → IsFirst T most p
-first_from T most size p none at =
-    let along = at.along_y.along_z in
-    record {
-      within = ((at.low, at.high), (at.along_y.low, at.along_y.high), (along.low, along.high));
-      shows = along.shows;
-      first = λ q w before shows. elim before [
-        | inl smaller ↦
-            (let v = along.is_volume in
-            none (volume q) (volume_some most q w) (omega (arith, smaller, v)) q.x w.0.0 (up q.x most.x w.0.1) q.y w.1.0 (up q.y most.y w.1.1) q.z w.2.0 (up q.z most.z w.2.1) refl shows)
-        | inr same ↦
-            (let size_is : volume q ≡ size = same.0 ∙ along.is_volume in
-            elim same.1 [
-              | inl x ↦ at.before q.x w.0.0 x q.y w.1.0 (up q.y most.y w.1.1) q.z w.2.0 (up q.z most.z w.2.1) size_is shows
-              | inr rest ↦
-                  (elim rest.1 [
-                    | inl y ↦ (let h : NoY T most size q.x p.y = rw (rest.0) at.along_y.before in h q.y w.1.0 y q.z w.2.0 (up q.z most.z w.2.1) size_is shows)
-                    | inr last ↦ (let h : NoZ T size q.x q.y p.z = rw (rest.0, last.0) along.before in h q.z w.2.0 last.1 size_is shows)
-                  ])
-            ])
-      ];
-    }
+item : (ps : List Periods) (k : ℕ) (q : Periods) → slice_get ps k ≡ Some q → Contains ps q
+item ps k q stands = (k, slice_get_within ps k q stands, get_or_from_slice_get ps k q q stands)
+
+module _ (T : Periods → Type 0) (d most : ℕ) (ps : List Periods) (ascending : IsStrictlySortedBy periods_cmp ps) (all : AreAllWithin d most ps) where
+  pub none_from : NoneBefore T ps (length ps) → NoneWithin T d most
+  none_from none q within shows =
+      let at = listed ps q ((all q).1 within) in
+      none at.0 q at.1 at.2 shows
+
+  pub first_from : (p : Periods) → IsFirstOf T ps p → IsFirst T d most p
+  first_from p first = record {
+    within = (all p).0 (item ps first.place p first.stands);
+    shows = first.shows;
+    first = λ q within before shows.
+        (let at = listed ps q ((all q).1 within) in
+        let below : first.place < length ps = slice_get_within ps first.place p first.stands in
+        elim (cases_order at.0 first.place) [
+          | inl same ↦
+              (let mine : slice_get ps at.0 ≡ Some p = subst (λ i. slice_get ps i ≡ Some p) (sym same) first.stands in
+              let theirs = at.2 in
+              let alike : q ≡ p = cc (mine, theirs) in
+              never_itself p (subst (λ r. IsBefore r p) alike before))
+          | inr apart ↦ (elim apart [
+            | inl less ↦ first.before at.0 q less at.2 shows
+            | inr more ↦
+                (let up = Less-from_sorted periods_cmp ps first.place at.0 p ascending more at.1 in
+                let mine : get_or ps first.place p ≡ p = get_or_from_slice_get ps first.place p p first.stands in
+                let theirs : get_or ps at.0 p ≡ q = get_or_from_slice_get ps at.0 q p at.2 in
+                let after : IsBefore p q = subst (λ r. IsBefore r q) mine (subst (λ r. IsBefore (get_or ps first.place p) r) theirs up) in
+                never_back p q after before)
+          ])
+        ]);
+  }

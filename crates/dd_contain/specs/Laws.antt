@@ -3,11 +3,11 @@ use Rattle.std.specs.Prelude.{ℕ, ◌↔◌}
 use Rattle.dd_formula.specs.LocalRule.{LocalRule}
 use Rattle.dd_boxes.specs.Goals.{GoalOf}
 use Rattle.dd_boxes.specs.Boxes.{Suffices}
-use Rattle.dd_contain.specs.declared.search.Periods.{Periods}
+use Rattle.dd_pattern.specs.declared.periods.Periods.{Periods}
+use Rattle.dd_pattern.specs.Periods.{AreWithin}
 use Rattle.dd_contain.specs.declared.decision.Decision.{Decision}
 use Rattle.dd_contain.specs.declared.decision.Decision.TheVariants.{Yes, No, Unknown}
-use Rattle.dd_contain.specs.Decided.{IsWithin}
-use Rattle.dd_contain.specs.Questions.{ShowsAt, greatest_periods}
+use Rattle.dd_contain.specs.Questions.{ShowsAt}
 
 abbrev pub IsYes : Decision → Type 0
 IsYes (Yes n steps) = Unit {0}
@@ -24,9 +24,9 @@ IsOpen (Yes n steps) = ⊥
 IsOpen (No tile) = ⊥
 IsOpen Unknown = Unit {0}
 
--- some configuration of periods up to p lives in the premise's subshift and has the goal at the origin
+-- some configuration of periods up to p, with some shear, lives in the premise's subshift and has the goal at the origin
 abbrev pub IsShown : LocalRule → GoalOf → ℕ → Type 0
-IsShown x g p = (q : Periods) × IsWithin (greatest_periods x.dimension p) q × ShowsAt x g q
+IsShown x g p = (q : Periods) × AreWithin x.dimension p q × ShowsAt x g q
 
 -- what the largest box, of the radius most, and the configurations of periods up to p make of the answer
 pub record Trichotomy (x : LocalRule) (g : GoalOf) (most p : ℕ) (decision : Decision) : Type 0 where

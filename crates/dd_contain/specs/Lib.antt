@@ -1,5 +1,9 @@
+-- what is decided of a box question
 pub mod Decided
-pub mod Order
 pub mod Questions
+-- of two rules
 pub mod Equal
+-- and when each answer comes
 pub mod Laws
+-- the search
+pub mod searching

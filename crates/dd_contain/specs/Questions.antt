@@ -1,24 +1,22 @@
 -- Box questions: which radii suffice, and which periods show the goal.
-use Rattle.std.specs.Prelude.{ℕ, ◌≡◌, ◌≤◌, ◌+◌, ◌-◌, ◌^◌, true, cond, max, length, List, [], ◌∷◌}
+use Rattle.std.specs.Prelude.{ℕ, ◌≡◌, ◌≤◌, ◌+◌, ◌-◌, ◌^◌, true, max, length, List}
+use Rattle.dd_clause.specs.Clauses.{ClauseList}
 use Rattle.dd_derivation.specs.declared.step.Step.{Step}
 use Rattle.dd_derivation.specs.Derivations.{refutes}
-use Rattle.dd_clause.specs.Clauses.{ClauseList}
-use Rattle.dd_lattice.specs.Boxes.{is_active, centred, volume}
-use Rattle.dd_pattern.specs.Tile.{Tile, volume as tile_volume}
+use Rattle.dd_lattice.specs.Boxes.{centred, volume}
+use Rattle.dd_pattern.specs.declared.periods.Periods.{Periods}
+use Rattle.dd_pattern.specs.Periods.{volume as tile_volume}
+use Rattle.dd_pattern.specs.Tile.{Tile}
+use Rattle.dd_formula.specs.Counts.{largest_clauses}
 use Rattle.dd_formula.specs.LocalRule.{LocalRule}
 use Rattle.dd_boxes.specs.Goals.{GoalOf, IsGoalFor}
 use Rattle.dd_boxes.specs.Boxes.{Suffices, Reaches, IsLeastRadius}
 use Rattle.dd_boxes.specs.Witnesses.{IsWitness, HasPeriods, ArePeriods}
+use Rattle.dd_boxes.specs.Counts.{goal_clauses, question_clauses, most_clauses}
 use Rattle.dd_problem.specs.Problems.{box_problem}
-use Rattle.dd_boxes.specs.Counts.{question_clauses}
-use Rattle.dd_problem.specs.Layouts.{torus}
-use Rattle.dd_contain.specs.declared.search.Periods.{Periods}
 use Rattle.dd_contain.specs.declared.decision.Decision.{Decision}
 use Rattle.dd_contain.specs.declared.decision.Decision.TheVariants.{Yes, No, Unknown}
-use Rattle.dd_contain.specs.Decided.{periods, volume as product, IsDecidedBy}
-
-abbrev pub along_axes : Periods → List ℕ
-along_axes p = p.x ∷ p.y ∷ p.z ∷ []
+use Rattle.dd_contain.specs.Decided.{IsDecidedBy}
 
 -- the steps refute the clauses of the box
 abbrev pub Refutes : LocalRule → GoalOf → ℕ → List Step → Type 0
@@ -36,7 +34,7 @@ pub record RefutesByNumbers (x : LocalRule) (g : GoalOf) (n : ℕ) (steps : List
 
 -- the configuration has these periods, lives in the premise's subshift and has the goal at the origin
 abbrev pub Displays : LocalRule → GoalOf → Periods → Tile → Type 0
-Displays x g p t = HasPeriods (along_axes p) t × IsWitness x g t
+Displays x g p t = HasPeriods p t × IsWitness x g t
 
 abbrev pub ShowsAt : LocalRule → GoalOf → Periods → Type 0
 ShowsAt x g p = (t : Tile) × Displays x g p t
@@ -45,27 +43,22 @@ ShowsAt x g p = (t : Tile) × Displays x g p t
 pub record AsksRadius (x : LocalRule) (g : GoalOf) (n : ℕ) : Type 0 where
   pub goal : IsGoalFor x g
   pub reaches : Reaches g n
-  pub few : question_clauses x g (volume (centred x.dimension n)) ≤ 2000000
+  pub few : question_clauses x g (volume (centred x.dimension n)) ≤ most_clauses
 
 pub record AsksPeriods (x : LocalRule) (g : GoalOf) (p : Periods) : Type 0 where
   pub goal : IsGoalFor x g
-  pub periods : ArePeriods x.dimension (along_axes p)
-  pub few : question_clauses x g (tile_volume (torus x (along_axes p))) ≤ 2000000
-
--- the greatest periods: P along the active axes, and 1 along the others
-abbrev pub greatest_periods : ℕ → ℕ → Periods
-greatest_periods d p = periods p (cond (is_active d 1) p 1) (cond (is_active d 2) p 1)
+  pub periods : ArePeriods x.dimension p
+  pub few : question_clauses x g (tile_volume p) ≤ most_clauses
 
 -- with the limits n and p the question takes at most 2,000,000 clauses
 abbrev pub IsSmallQuestion : LocalRule → GoalOf → ℕ → ℕ → Type 0
-IsSmallQuestion x g n p =
-    (least : ℕ) → IsLeastRadius g least → question_clauses x g (max (volume (centred x.dimension (max n least))) (product (greatest_periods x.dimension p))) ≤ 2000000
+IsSmallQuestion x g n p = (least : ℕ) → IsLeastRadius g least → largest_clauses x (goal_clauses g) (max n least) p ≤ most_clauses
 
 -- the least radius that suffices, from the goal's least radius on; else the first periods that show the goal; else unknown
 abbrev pub IsDecided : LocalRule → GoalOf → ℕ → ℕ → Decision → Type 0
 IsDecided x g n p decision =
     (least : ℕ) × IsLeastRadius g least
-    × IsDecidedBy (Suffices x g) (Refutes x g) (ShowsAt x g) (Displays x g) least (max n least) (greatest_periods x.dimension p) decision
+    × IsDecidedBy (Suffices x g) (Refutes x g) (ShowsAt x g) (Displays x g) least (max n least) x.dimension p decision
 
 -- the evidence of a YES is numbered
 abbrev pub HasNumbers : LocalRule → GoalOf → Decision → Type 0

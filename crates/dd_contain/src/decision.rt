@@ -15,7 +15,7 @@ pub struct Enough {
 pub enum Decision {
     /// The least radius that suffices, with steps that refute the clauses of its box.
     Yes { radius: u32, steps: Items<Step> },
-    /// A configuration of the first periods that has the goal at the origin.
+    /// A configuration of the first periods and shear that has the goal at the origin.
     No { periodic: Periodic },
     /// Neither within the limits.
     Unknown,

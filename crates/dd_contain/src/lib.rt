@@ -11,4 +11,3 @@ pub use decision::{Decision, Enough};
 pub use equal::{Equality, Side, decide_equal};
 pub use laws::trichotomy;
 pub use questions::decide;
-pub use search::Periods;

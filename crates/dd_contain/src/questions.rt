@@ -1,19 +1,18 @@
 //! The questions that the search asks of boxes and of periods.
 ghost use Rattle.std.specs.Prelude.{◌≡◌, ◌+◌, ◌-◌, ◌^◌, ◌≤◌, true, length, IfOk, IfSome};
-ghost use Rattle.dd_formula.specs.LocalRule.{IsRule};
 ghost use Rattle.dd_boxes.specs.Boxes.{Suffices};
 ghost use Rattle.dd_boxes.specs.Goals.{IsGoalFor};
 ghost use Rattle.dd_boxes.specs.Views.{goal_of};
 ghost use Rattle.dd_derivation.specs.Derivations.{refutes};
-ghost use Rattle.dd_contain.specs.Questions.{AreNumbered, RefutesByNumbers, ShowsAt, Displays, AsksRadius, AsksPeriods, greatest_periods, IsSmallQuestion, IsDecided, HasNumbers};
+ghost use Rattle.dd_contain.specs.Questions.{AreNumbered, RefutesByNumbers, ShowsAt, Displays, AsksRadius, AsksPeriods, IsSmallQuestion, IsDecided, HasNumbers};
 
 use crate::decision::Decision;
-use crate::search::{Periods, Questions, search};
+use crate::search::{Questions, search};
 use dd_boxes::{Goal, Limits, least_radius};
 use dd_clause::Cnf;
 use dd_derivation::{Outcome, Step};
 use dd_formula::Rule;
-use dd_pattern::Periodic;
+use dd_pattern::{Periodic, Periods};
 use dd_problem::{box_clauses, read_torus, torus_clauses};
 use dd_solver::{solve, trimmed};
 use dd_values::Items;
@@ -72,10 +71,10 @@ impl<'a> Questions for BoxQuestion<'a> {
 
     fn configuration(&self, at: &Periods) -> Result<Option<Periodic>, AllocError> {
         let periods = [at.x, at.y, at.z];
-        let cnf = torus_clauses(self.alloc, self.premise, self.goal, periods)?;
+        let cnf = torus_clauses(self.alloc, self.premise, self.goal, periods, at.shear)?;
         match solve(self.alloc, &cnf)? {
             Outcome::Found(found) => {
-                let periodic = read_torus(self.alloc, self.premise, periods, &found)?;
+                let periodic = read_torus(self.alloc, self.premise, periods, at.shear, &found)?;
                 let _symbols = periodic.symbols();
                 Ok(Some(periodic))
             }
@@ -84,22 +83,8 @@ impl<'a> Questions for BoxQuestion<'a> {
     }
 }
 
-/// The greatest periods that are tried: `period` along the premise's axes, and 1 along the others.
-fn greatest_periods(premise: &Rule, period: u32) -> Periods
-    ensures value { result ≡ greatest_periods premise.now.dimension period }
-    ensures kept { IsRule premise.now }
-{
-    let dim = premise.dim();
-    let _nodes = premise.nodes();
-    Periods {
-        x: period,
-        y: if dim > 1 { period } else { 1 },
-        z: if dim > 2 { period } else { 1 },
-    }
-}
-
 /// Decides a box question, with boxes of at most the limits' radius, or the goal's least radius where that is greater, and
-/// periods of at most the limits': YES with the least radius that suffices; otherwise NO with the first periods, by
+/// periods of at most the limits': YES with the least radius that suffices; otherwise NO with the first periods and shear, by
 /// volume and then in lexicographic order, of a configuration that obeys the premise and has the goal at the origin;
 /// otherwise unknown.
 pub fn decide(
@@ -117,11 +102,12 @@ pub fn decide(
 {
     let least = least_radius(alloc, goal)?;
     let most = limits.radius.max(least);
-    let tops = greatest_periods(premise, limits.period);
+    // Read for what its type keeps.
+    let _symbols = premise.symbols();
     let question = BoxQuestion {
         alloc,
         premise,
         goal,
     };
-    search(&question, least, most, &tops)
+    search(alloc, &question, least, most, premise.dim(), limits.period)
 }

@@ -1,24 +1,16 @@
 //! The search for the least radius, then for the first periods.
-ghost use Rattle.std.specs.Prelude.{◌≡◌, ◌≤◌, ◌<◌, ◌*◌, ◌+◌, ℕ, List, IfOk, MatchOption};
+ghost use Rattle.std.specs.Prelude.{◌≡◌, ◌≤◌, ◌<◌, ℕ, List, length, IfOk, MatchOption};
 ghost use Rattle.dd_derivation.specs.declared.step.Step.{Step as AnyStep};
+ghost use Rattle.dd_pattern.specs.declared.periods.Periods.{Periods as AnyPeriods};
 ghost use Rattle.dd_pattern.specs.Tile.{Tile};
-ghost use Rattle.dd_contain.specs.declared.search.Periods.{Periods as AnyPeriods};
-ghost use Rattle.dd_contain.specs.Decided.{periods, NoneIn, IsLeast, NoneWithin, IsFirst, IsDecidedBy, AsksRadii, AsksPeriods};
-ghost use Rattle.dd_contain.specs.Order.{NoZ, NoY, NoX, IsFirstZ, IsFirstY, IsFirstX};
+ghost use Rattle.dd_contain.specs.Decided.{NoneIn, IsLeast, NoneWithin, IsFirst, IsDecidedBy};
+ghost use Rattle.dd_contain.specs.searching.Listed.{NoneBefore, IsFirstOf, AsksRadii, AsksListed, AsksWithin};
 
 use crate::decision::{Decision, Enough};
 use dd_derivation::Step;
-use dd_pattern::Periodic;
+use dd_pattern::{Periodic, Periods};
 use dd_values::Items;
-use std::alloc::AllocError;
-
-/// The periods along the three axes.
-#[derive(Debug, Clone, Copy, PartialEq, Eq)]
-pub struct Periods {
-    pub x: u32,
-    pub y: u32,
-    pub z: u32,
-}
+use std::alloc::{AllocError, Global};
 
 /// What the search asks of a radius and of periods. Each answer comes with its evidence.
 pub(crate) trait Questions {
@@ -39,7 +31,7 @@ pub(crate) trait Questions {
         requires { asks_radius self.now radius }
         ensures { IfOk result (λ found. MatchOption found (suffices self.now radius → ⊥) (λ steps. suffices self.now radius × refutes self.now radius steps)) };
 
-    fn configuration(&self, at: &crate::search::Periods) -> Result<Option<Periodic>, AllocError>
+    fn configuration(&self, at: &Periods) -> Result<Option<Periodic>, AllocError>
         requires { asks_periods self.now at.now }
         ensures { IfOk result (λ found. MatchOption found (shows self.now at.now → ⊥) (λ tile. shows self.now at.now × displays self.now at.now tile)) };
 }
@@ -69,117 +61,55 @@ fn first_radius<Q: Questions>(
     Ok(None)
 }
 
-fn volume(x: u32, y: u32, z: u32) -> u128
-    ensures { result ≡ x * y * z }
+/// The first of the periods that show the goal.
+fn first_listed<Q: Questions>(questions: &Q, all: &[Periods]) -> Result<Option<Shown>, AllocError>
+    requires { AsksListed (Q.asks_periods questions.now) all.now }
+    ensures { IfOk result (λ found. MatchOption found (NoneBefore (Q.shows questions.now) all.now (length all.now))
+        (λ shown. IsFirstOf (Q.shows questions.now) all.now shown.at × Q.displays questions.now shown.at shown.periodic)) }
 {
-    let plane = x as u64 * y as u64;
-    plane as u128 * z as u128
+    for at in all {
+        if let Some(periodic) = questions.configuration(at)? {
+            return Ok(Some(Shown { at: *at, periodic }));
+        }
+    }
+    Ok(None)
 }
 
-fn first_z<Q: Questions>(
+fn first_periods<Q: Questions>(
+    alloc: Global,
     questions: &Q,
-    most: &Periods,
-    size: u32,
-    x: u32,
-    y: u32,
+    dim: u32,
+    most: u32,
 ) -> Result<Option<Shown>, AllocError>
-    requires z { most.now.z ≤ 8 }
-    requires asks { (z : ℕ) → 1 ≤ z → z ≤ most.now.z → Q.asks_periods questions.now (periods x y z) }
-    ensures { IfOk result (λ found. MatchOption found (NoZ (Q.shows questions.now) size x y (most.now.z + 1))
-        (λ shown. IsFirstZ (Q.shows questions.now) most.now size x y shown.at × Q.displays questions.now shown.at shown.periodic)) }
+    requires { AsksWithin (Q.asks_periods questions.now) dim most }
+    ensures { IfOk result (λ found. MatchOption found (NoneWithin (Q.shows questions.now) dim most)
+        (λ shown. IsFirst (Q.shows questions.now) dim most shown.at × Q.displays questions.now shown.at shown.periodic)) }
 {
-    for z in 1..most.z + 1 {
-        if volume(x, y, z) == size as u128 {
-            let at = Periods { x, y, z };
-            if let Some(periodic) = questions.configuration(&at)? {
-                return Ok(Some(Shown { at, periodic }));
-            }
-        }
-    }
-    Ok(None)
+    let all = Periods::within(alloc, dim, most)?;
+    first_listed(questions, &all)
 }
 
-fn first_y<Q: Questions>(
-    questions: &Q,
-    most: &Periods,
-    size: u32,
-    x: u32,
-) -> Result<Option<Shown>, AllocError>
-    requires y { most.now.y ≤ 8 }
-    requires z { most.now.z ≤ 8 }
-    requires asks { (y z : ℕ) → 1 ≤ y → y ≤ most.now.y → 1 ≤ z → z ≤ most.now.z → Q.asks_periods questions.now (periods x y z) }
-    ensures { IfOk result (λ found. MatchOption found (NoY (Q.shows questions.now) most.now size x (most.now.y + 1))
-        (λ shown. IsFirstY (Q.shows questions.now) most.now size x shown.at × Q.displays questions.now shown.at shown.periodic)) }
-{
-    for y in 1..most.y + 1 {
-        let found = first_z(questions, most, size, x, y)?;
-        if let Some(shown) = found {
-            return Ok(Some(shown));
-        }
-    }
-    Ok(None)
-}
-
-fn first_x<Q: Questions>(
-    questions: &Q,
-    most: &Periods,
-    size: u32,
-) -> Result<Option<Shown>, AllocError>
-    requires x { most.now.x ≤ 8 }
-    requires y { most.now.y ≤ 8 }
-    requires z { most.now.z ≤ 8 }
-    requires asks { AsksPeriods (Q.asks_periods questions.now) most.now }
-    ensures { IfOk result (λ found. MatchOption found (NoX (Q.shows questions.now) most.now size (most.now.x + 1))
-        (λ shown. IsFirstX (Q.shows questions.now) most.now size shown.at × Q.displays questions.now shown.at shown.periodic)) }
-{
-    for x in 1..most.x + 1 {
-        let found = first_y(questions, most, size, x)?;
-        if let Some(shown) = found {
-            return Ok(Some(shown));
-        }
-    }
-    Ok(None)
-}
-
-fn first_periods<Q: Questions>(questions: &Q, most: &Periods) -> Result<Option<Shown>, AllocError>
-    requires x { most.now.x ≤ 8 }
-    requires y { most.now.y ≤ 8 }
-    requires z { most.now.z ≤ 8 }
-    requires asks { AsksPeriods (Q.asks_periods questions.now) most.now }
-    ensures { IfOk result (λ found. MatchOption found (NoneWithin (Q.shows questions.now) most.now)
-        (λ shown. IsFirst (Q.shows questions.now) most.now shown.at × Q.displays questions.now shown.at shown.periodic)) }
-{
-    for size in 1..513 {
-        let found = first_x(questions, most, size)?;
-        if let Some(shown) = found {
-            return Ok(Some(shown));
-        }
-    }
-    Ok(None)
-}
-
-/// The least radius from `least` to `most` that suffices; else the first periods, by volume and then in lexicographic
-/// order, that show the goal.
+/// The least radius from `least` to `most` that suffices; else the first periods in `dim` dimensions, at most `period` along
+/// each axis, that show the goal, by volume and then in lexicographic order, the shear last.
 pub(crate) fn search<Q: Questions>(
+    alloc: Global,
     questions: &Q,
     least: u32,
     most: u32,
-    tops: &Periods,
+    dim: u32,
+    period: u32,
 ) -> Result<Decision, AllocError>
     requires radius { most < 2147483648 }
-    requires x { tops.now.x ≤ 8 }
-    requires y { tops.now.y ≤ 8 }
-    requires z { tops.now.z ≤ 8 }
     requires radii { AsksRadii (Q.asks_radius questions.now) least most }
-    requires periods { AsksPeriods (Q.asks_periods questions.now) tops.now }
-    ensures { IfOk result (IsDecidedBy (Q.suffices questions.now) (Q.refutes questions.now) (Q.shows questions.now) (Q.displays questions.now) least most tops.now) }
+    requires periods { AsksWithin (Q.asks_periods questions.now) dim period }
+    ensures { IfOk result (IsDecidedBy (Q.suffices questions.now) (Q.refutes questions.now) (Q.shows questions.now) (Q.displays questions.now) least most dim period) }
 {
     match first_radius(questions, least, most)? {
         Some(enough) => Ok(Decision::Yes {
             radius: enough.radius,
             steps: enough.steps,
         }),
-        None => match first_periods(questions, tops)? {
+        None => match first_periods(alloc, questions, dim, period)? {
             Some(shown) => Ok(Decision::No {
                 periodic: shown.periodic,
             }),

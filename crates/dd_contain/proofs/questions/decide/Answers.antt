@@ -1,10 +1,11 @@
-use Rattle.std.proofs.Common.{◌≡◌, arith, rules}
-use Rattle.std.specs.Prelude.{max}
+use Rattle.std.proofs.Common.{◌≡◌, arith, rules, subst, sym}
+use Rattle.std.specs.Prelude.{max, IfOk}
 use Rattle.std.proofs.lemmas.Result.{IfOk-weaker}
 use Rattle.dd_boxes.specs.Boxes.{Suffices}
 use Rattle.dd_boxes.specs.Views.{goal_of}
 use Rattle.dd_contain.specs.Decided.{IsDecidedBy}
-use Rattle.dd_contain.specs.Questions.{RefutesByNumbers, ShowsAt, Displays, IsDecided, HasNumbers}
+use Rattle.dd_contain.specs.searching.Listed.{AsksWithin}
+use Rattle.dd_contain.specs.Questions.{AsksPeriods, RefutesByNumbers, ShowsAt, Displays, IsDecided, HasNumbers}
 use Rattle.dd_contain.proofs.LimitLaws.{least_small, radii_asked, periods_asked, decided, numbered}
 use Rattle.dd_contain.proofs.questions.decide.Goals as goal
 
@@ -17,13 +18,15 @@ search-requires-clause-radius c =
 pub search-requires-clause-radii : goal.search-requires-clause-radii
 search-requires-clause-radii c =
     let top : c.max-most.result ≡ max c.args.limits.now.radius c.in_ok-least.least = search rules in
-    radii_asked c.args.premise.now (goal_of c.args.goal.now) c.args.limits.now.radius c.args.limits.now.period c.in_ok-least.least c.requires.goal c.in_ok-least.ensures c.requires.small
-    c.max-most.result top
+    radii_asked c.args.premise.now (goal_of c.args.goal.now) c.args.limits.now.radius c.args.limits.now.period c.in_ok-least.least
+    c.symbols-symbols.ensures.kept c.requires.goal c.in_ok-least.ensures c.requires.small c.max-most.result top
 
 pub search-requires-clause-periods : goal.search-requires-clause-periods
 search-requires-clause-periods c =
-    periods_asked c.args.premise.now (goal_of c.args.goal.now) c.args.limits.now.radius c.args.limits.now.period c.in_ok-least.least c.requires.goal c.in_ok-least.ensures c.requires.small
-    c.greatest_periods-tops.result c.greatest_periods-tops.ensures.value c.greatest_periods-tops.ensures.kept.dimension.0 c.requires.period.1
+    let x = c.args.premise.now in
+    let asked = periods_asked x (goal_of c.args.goal.now) c.args.limits.now.radius c.args.limits.now.period c.in_ok-least.least
+    c.symbols-symbols.ensures.kept c.requires.goal c.in_ok-least.ensures c.requires.small c.requires.period.1 in
+    subst (λ d. AsksWithin (AsksPeriods x (goal_of c.args.goal.now)) d c.args.limits.now.period) (sym c.dim.ensures) asked
 
 pub returns-clause-decided : goal.returns-clause-decided
 returns-clause-decided c =
@@ -31,11 +34,11 @@ returns-clause-decided c =
     let g = goal_of c.args.goal.now in
     let least = c.in_ok-least.least in
     let most = c.max-most.result in
-    let tops = c.greatest_periods-tops.result in
+    let p = c.args.limits.now.period in
     let top : c.max-most.result ≡ max c.args.limits.now.radius c.in_ok-least.least = search rules in
-    IfOk-weaker c.search.result (IsDecidedBy (Suffices x g) (RefutesByNumbers x g) (ShowsAt x g) (Displays x g) least most tops)
-    (IsDecided x g c.args.limits.now.radius c.args.limits.now.period)
-    (decided x g c.args.limits.now.radius c.args.limits.now.period least c.requires.goal c.in_ok-least.ensures c.requires.small most tops top c.greatest_periods-tops.ensures.value) c.search.ensures
+    IfOk-weaker c.search.result (IsDecidedBy (Suffices x g) (RefutesByNumbers x g) (ShowsAt x g) (Displays x g) least most x.dimension p) (IsDecided x g c.args.limits.now.radius p)
+    (decided x g c.args.limits.now.radius p least c.symbols-symbols.ensures.kept c.requires.goal c.in_ok-least.ensures c.requires.small most top)
+    (subst (λ d. IfOk c.search.result (IsDecidedBy (Suffices x g) (RefutesByNumbers x g) (ShowsAt x g) (Displays x g) least most d p)) c.dim.ensures c.search.ensures)
 
 pub returns-clause-numbered : goal.returns-clause-numbered
 returns-clause-numbered c =
@@ -43,6 +46,7 @@ returns-clause-numbered c =
     let g = goal_of c.args.goal.now in
     let least = c.in_ok-least.least in
     let most = c.max-most.result in
-    let tops = c.greatest_periods-tops.result in
-    IfOk-weaker c.search.result (IsDecidedBy (Suffices x g) (RefutesByNumbers x g) (ShowsAt x g) (Displays x g) least most tops) (HasNumbers x g)
-    (numbered x g least most tops) c.search.ensures
+    let d = c.dim.result in
+    let p = c.args.limits.now.period in
+    IfOk-weaker c.search.result (IsDecidedBy (Suffices x g) (RefutesByNumbers x g) (ShowsAt x g) (Displays x g) least most d p) (HasNumbers x g)
+    (numbered x g least most d p) c.search.ensures

@@ -1,0 +1,25 @@
+-- How far the search has come in a list of periods, and what may be asked.
+use Rattle.std.specs.Prelude.{ℕ, ◌<◌, ◌≤◌, ◌≡◌, List, Some, slice_get}
+use Rattle.std.specs.List.{Contains}
+use Rattle.dd_pattern.specs.declared.periods.Periods.{Periods}
+use Rattle.dd_pattern.specs.Periods.{AreWithin}
+
+-- none of the first n shows the goal
+abbrev pub NoneBefore : (Periods → Type 0) → List Periods → ℕ → Type 0
+NoneBefore T ps n = (k : ℕ) (q : Periods) → k < n → slice_get ps k ≡ Some q → T q → ⊥
+
+-- p is the first in the list with T
+pub record IsFirstOf (T : Periods → Type 0) (ps : List Periods) (p : Periods) : Type 0 where
+  pub place : ℕ
+  pub stands : slice_get ps place ≡ Some p
+  pub shows : T p
+  pub before : NoneBefore T ps place
+
+abbrev pub AsksRadii : (ℕ → Type 0) → ℕ → ℕ → Type 0
+AsksRadii A least most = (n : ℕ) → least ≤ n → n ≤ most → A n
+
+abbrev pub AsksListed : (Periods → Type 0) → List Periods → Type 0
+AsksListed A ps = (p : Periods) → Contains ps p → A p
+
+abbrev pub AsksWithin : (Periods → Type 0) → ℕ → ℕ → Type 0
+AsksWithin A d n = (p : Periods) → AreWithin d n p → A p
