@@ -1,7 +1,8 @@
 -- Two right answers to a query differ in their evidence alone: a least radius, first periods and a first cell are one.
 use Rattle.std.proofs.Common.{◌≡◌, ℕ, ◌<◌, ◌≤◌, ◌||◌, ◌&&◌, Bool, true, false, List, [], ℤ, pos, Some, refl, ap, sym, subst, ◌∙◌, arith, inl, inr}
 use Rattle.std.specs.Prelude.{◌==◌, ◌⊎◌, max, nat_lt, slice_get}
-use Rattle.std.specs.Ordering.{int_eq}
+use Rattle.std.specs.Ordering.{int_eq, ordering_then, nat_cmp}
+use Rattle.std.proofs.lemmas.Map.Lookups.{exact_unsigned}
 use Rattle.std.specs.declared.cmp.Ordering.{Ordering}
 use Rattle.std.specs.declared.cmp.Ordering.TheVariants.{Less, Equal, Greater}
 use Rattle.std.specs.List.{All}
@@ -13,7 +14,9 @@ use Rattle.dd_lattice.specs.declared.position.Cell.{Cell}
 use Rattle.dd_lattice.specs.Place.{Place}
 use Rattle.dd_lattice.specs.Order.{cell_cmp}
 use Rattle.dd_lattice.proofs.InOrderLaws.{cells_equal}
-use Rattle.dd_pattern.specs.Tile.{Tile, IsTile, IsInBox, residue}
+use Rattle.dd_pattern.specs.declared.periods.Periods.{Periods}
+use Rattle.dd_pattern.specs.Periods.{volume, periods_cmp, residue, IsBefore}
+use Rattle.dd_pattern.specs.Tile.{Tile, IsTile, IsInBox}
 use Rattle.dd_pattern.proofs.Residues.{residue_below}
 use Rattle.dd_expansion.specs.Placed.{is_flat}
 use Rattle.dd_formula.specs.LocalRule.{LocalRule}
@@ -27,9 +30,8 @@ use Rattle.dd_certificate.specs.Text.{answer_line}
 use Rattle.dd_contain.specs.declared.decision.Decision.{Decision}
 use Rattle.dd_contain.specs.declared.decision.Decision.TheVariants as decision
 use Rattle.dd_contain.specs.declared.equal.Equality.{Equality}
-use Rattle.dd_contain.specs.declared.search.Periods.{Periods}
-use Rattle.dd_contain.specs.Decided.{periods, volume, IsBefore, IsLeast, IsFirst, IsDecidedBy}
-use Rattle.dd_contain.specs.Questions.{Refutes, ShowsAt, Displays, greatest_periods, IsDecided}
+use Rattle.dd_contain.specs.Decided.{IsLeast, IsFirst, IsDecidedBy}
+use Rattle.dd_contain.specs.Questions.{Refutes, ShowsAt, Displays, IsDecided}
 use Rattle.dd_contain.specs.Equal.{joined, UnlessNo, IsEqualDecided}
 use Rattle.dd_definition.specs.Definitions.{IsConfigurationOf}
 use Rattle.dd_header.specs.Sound.{numbers_of}
@@ -50,36 +52,49 @@ least_one S low high n m one other = elim (cases_order n m) [
   ])
 ]
 
+-- periods that compare equal are equal
+both_equal : (a b : Ordering) → ordering_then a b ≡ Equal → (a ≡ Equal) × (b ≡ Equal)
+both_equal Less b h = absurd (cc)
+both_equal Equal b h = (refl, h)
+both_equal Greater b h = absurd (cc)
+
+abbrev sheared : ℕ → ℕ → ℕ → ℕ → Periods
+sheared x y z shear = record { x = x; y = y; z = z; shear = shear }
+
+periods_equal : (p q : Periods) → periods_cmp p q ≡ Equal → p ≡ q
+periods_equal p q h =
+    let sizes = nat_cmp (volume p) (volume q) in
+    let xs = nat_cmp p.x q.x in
+    let ys = nat_cmp p.y q.y in
+    let zs = nat_cmp p.z q.z in
+    let all = both_equal (ordering_then (ordering_then (ordering_then sizes xs) ys) zs) (nat_cmp p.shear q.shear) h in
+    let to_z = both_equal (ordering_then (ordering_then sizes xs) ys) zs all.0 in
+    let to_y = both_equal (ordering_then sizes xs) ys to_z.0 in
+    let to_x = both_equal sizes xs to_y.0 in
+    let x = exact_unsigned p.x q.x to_x.1 in
+    let y = exact_unsigned p.y q.y to_y.1 in
+    let z = exact_unsigned p.z q.z to_z.1 in
+    let shear = exact_unsigned p.shear q.shear all.1 in
+    ap (λ a. sheared a p.y p.z p.shear) x ∙ (ap (λ b. sheared q.x b p.z p.shear) y ∙ (ap (λ c. sheared q.x q.y c p.shear) z ∙ ap (λ d. sheared q.x q.y q.z d) shear))
+
+periods_total : IsTotalOrder periods_cmp
+periods_total =
+    then_total
+    (then_total
+    (then_total (then_total (on_total volume nat_cmp_total) (on_total (λ (p : Periods). p.x) nat_cmp_total)) (on_total (λ (p : Periods). p.y) nat_cmp_total))
+    (on_total (λ (p : Periods). p.z) nat_cmp_total))
+    (on_total (λ (p : Periods). p.shear) nat_cmp_total)
+
 -- one of two periods is before the other, or they are the same
 in_order : (p q : Periods) → IsBefore p q ⊎ (IsBefore q p ⊎ (p ≡ q))
-in_order p q = elim (cases_order (volume p) (volume q)) [
-  | inl size ↦ (elim (cases_order p.x q.x) [
-    | inl x ↦ (elim (cases_order p.y q.y) [
-      | inl y ↦ (elim (cases_order p.z q.z) [
-        | inl z ↦ inr (inr (ap (λ a. periods a p.y p.z) x ∙ (ap (λ b. periods q.x b p.z) y ∙ ap (λ c. periods q.x q.y c) z)))
-        | inr apart ↦ (elim apart [
-          | inl less ↦ inl (inr (size, inr (x, inr (y, less))))
-          | inr more ↦ inr (inl (inr (sym size, inr (sym x, inr (sym y, more)))))
-        ])
-      ])
-      | inr apart ↦ (elim apart [
-        | inl less ↦ inl (inr (size, inr (x, inl less)))
-        | inr more ↦ inr (inl (inr (sym size, inr (sym x, inl more))))
-      ])
-    ])
-    | inr apart ↦ (elim apart [
-      | inl less ↦ inl (inr (size, inl less))
-      | inr more ↦ inr (inl (inr (sym size, inl more)))
-    ])
-  ])
-  | inr apart ↦ (elim apart [
-    | inl less ↦ inl (inl less)
-    | inr more ↦ inr (inl (inl more))
-  ])
-]
+in_order p q = cases (periods_cmp p q) refl where
+  cases : (o : Ordering) → periods_cmp p q ≡ o → IsBefore p q ⊎ (IsBefore q p ⊎ (p ≡ q))
+  cases Less is = inl is
+  cases Equal is = inr (inr (periods_equal p q is))
+  cases Greater is = let back : periods_cmp q p ≡ Less = periods_total.antisymm q p ∙ cc is in inr (inl back)
 
-first_one : (T : Periods → Type 0) (most p q : Periods) → IsFirst T most p → IsFirst T most q → p ≡ q
-first_one T most p q one other = elim (in_order p q) [
+first_one : (T : Periods → Type 0) (d n : ℕ) (p q : Periods) → IsFirst T d n p → IsFirst T d n q → p ≡ q
+first_one T d n p q one other = elim (in_order p q) [
   | inl less ↦ absurd (other.first p one.within less one.shows)
   | inr rest ↦ (elim rest [
     | inl more ↦ absurd (one.first q other.within more other.shows)
@@ -90,7 +105,7 @@ first_one T most p q one other = elim (in_order p q) [
 -- ---- decisions without their evidence
 
 abbrev bare_tile : Tile → Tile
-bare_tile t = record { dimension = t.dimension; along_x = t.along_x; along_y = t.along_y; along_z = t.along_z; nodes = t.nodes; symbols = [] }
+bare_tile t = record { dimension = t.dimension; periods = t.periods; nodes = t.nodes; symbols = [] }
 
 abbrev bare : Decision → Decision
 bare (decision.Yes n steps) = decision.Yes n []
@@ -101,14 +116,12 @@ same_tile : (x : LocalRule) (g : GoalOf) (p q : Periods) (t u : Tile) → p ≡ 
 same_tile x g p q t u same one other =
     let dimension : t.dimension ≡ u.dimension = one.1.fits.dimension ∙ sym other.1.fits.dimension in
     let nodes : t.nodes ≡ u.nodes = one.1.fits.nodes ∙ sym other.1.fits.nodes in
-    let on_x : t.along_x ≡ u.along_x = one.0.on_x ∙ (ap (λ (r : Periods). r.x) same ∙ sym other.0.on_x) in
-    let on_y : t.along_y ≡ u.along_y = one.0.on_y ∙ (ap (λ (r : Periods). r.y) same ∙ sym other.0.on_y) in
-    let on_z : t.along_z ≡ u.along_z = one.0.on_z ∙ (ap (λ (r : Periods). r.z) same ∙ sym other.0.on_z) in
-    cc (dimension, nodes, on_x, on_y, on_z)
+    let periods : t.periods ≡ u.periods = one.0 ∙ (same ∙ sym other.0) in
+    cc (dimension, nodes, periods)
 
-module _ (x : LocalRule) (g : GoalOf) (least most : ℕ) (tops : Periods) where
+module _ (x : LocalRule) (g : GoalOf) (least most p : ℕ) where
   abbrev Decides : Decision → Type 0
-  Decides d = IsDecidedBy (Suffices x g) (Refutes x g) (ShowsAt x g) (Displays x g) least most tops d
+  Decides d = IsDecidedBy (Suffices x g) (Refutes x g) (ShowsAt x g) (Displays x g) least most x.dimension p d
 
   one_decision : (d e : Decision) → Decides d → Decides e → bare d ≡ bare e
   one_decision (decision.Yes n steps) (decision.Yes m others) h k = ap (λ r. decision.Yes r []) (least_one (Suffices x g) least most n m h.0 k.0)
@@ -116,7 +129,7 @@ module _ (x : LocalRule) (g : GoalOf) (least most : ℕ) (tops : Periods) where
   one_decision (decision.Yes n steps) decision.Unknown h k = absurd (k.0 n h.0.low h.0.high h.0.holds)
   one_decision (decision.No t) (decision.Yes m others) h k = absurd (h.0 m k.0.low k.0.high k.0.holds)
   one_decision (decision.No t) (decision.No u) h k =
-      ap (λ r. decision.No r) (same_tile x g h.1.0 k.1.0 t u (first_one (ShowsAt x g) tops h.1.0 k.1.0 h.1.1 k.1.1) h.1.2 k.1.2)
+      ap (λ r. decision.No r) (same_tile x g h.1.0 k.1.0 t u (first_one (ShowsAt x g) x.dimension p h.1.0 k.1.0 h.1.1 k.1.1) h.1.2 k.1.2)
   one_decision (decision.No t) decision.Unknown h k = absurd (k.1 h.1.0 h.1.1.within h.1.1.shows)
   one_decision decision.Unknown (decision.Yes m others) h k = absurd (h.0 m k.0.low k.0.high k.0.holds)
   one_decision decision.Unknown (decision.No u) h k = absurd (h.1 k.1.0 k.1.1.within k.1.1.shows)
@@ -127,8 +140,8 @@ decided_alike x g n p d e h k =
     let up : h.0 ≤ k.0 = h.1.least k.0 k.1.reaches in
     let down : k.0 ≤ h.0 = k.1.least h.0 h.1.reaches in
     let same : k.0 ≡ h.0 = omega (arith, up, down) in
-    one_decision x g h.0 (max n h.0) (greatest_periods x.dimension p) d e h.2
-    (subst (λ l. IsDecidedBy (Suffices x g) (Refutes x g) (ShowsAt x g) (Displays x g) l (max n l) (greatest_periods x.dimension p) e) same k.2)
+    one_decision x g h.0 (max n h.0) p d e h.2
+    (subst (λ l. IsDecidedBy (Suffices x g) (Refutes x g) (ShowsAt x g) (Displays x g) l (max n l) x.dimension p e) same k.2)
 
 -- ---- the answers of box questions
 
@@ -259,9 +272,9 @@ flat_in_box : (t : Tile) (c : Cell) → IsTile t → IsInBox t c → is_flat t.d
 flat_in_box t c tile at =
     both (nat_lt 1 t.dimension || int_eq c.position.y (pos 0)) (nat_lt 2 t.dimension || int_eq c.position.z (pos 0))
     (axis_flat (nat_lt 1 t.dimension) c.position.y
-    (λ unused. base_flat c.position.y t.along_y (tile.y_unused (let low = ltb-false 1 t.dimension unused in omega (arith, low))) (ap (λ (p : Place). p.y) at.base)))
+    (λ unused. base_flat c.position.y t.periods.y (tile.periods.y_unused (let low = ltb-false 1 t.dimension unused in omega (arith, low))) (ap (λ (p : Place). p.y) at.base)))
     (axis_flat (nat_lt 2 t.dimension) c.position.z
-    (λ unused. base_flat c.position.z t.along_z (tile.z_unused (let low = ltb-false 2 t.dimension unused in omega (arith, low))) (ap (λ (p : Place). p.z) at.base)))
+    (λ unused. base_flat c.position.z t.periods.z (tile.periods.z_unused (let low = ltb-false 2 t.dimension unused in omega (arith, low))) (ap (λ (p : Place). p.z) at.base)))
 
 module _ (x : LocalRule) (t : Tile) (tile : IsTile t) (dimension : t.dimension ≡ x.dimension) (nodes : t.nodes ≡ x.nodes) where
   not_both : (c : Cell) → Lives x t → IsFirstFalse x t c → ⊥

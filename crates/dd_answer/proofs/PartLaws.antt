@@ -81,7 +81,7 @@ module _ (s : Parts) (ok : IsScriptOf s) (rs : List LocalRule) (same : rs ≡ s.
         ∙ about_is s.rules inner x (λ q. contains_sizes s.known y q) inner_at.stands)
         ∙ (sound (query.Contains outer inner) there).sizes in
         let few = not_over (is_long s.known x (breaking y)) limit.Clauses here in
-        small_question s.known x (breaks y) (breaking y) inner_at.rule (aims_at_breaking y outer_at.rule) few
+        small_question s.known x (breaks y) (breaking y) (aims_at_breaking y outer_at.rule) few
 
     pub contains_right : (a : Answer) → IsRightBox s x (breaks y) a → Right s (query.Contains outer inner) a
     contains_right a right = record { rule = y; stands = outer_at.stands; holds = record { rule = x; stands = inner_at.stands; holds = right } }
@@ -106,10 +106,10 @@ module _ (s : Parts) (ok : IsScriptOf s) (rs : List LocalRule) (same : rs ≡ s.
         neither one other (not_over (one || other) limit.Clauses here)
 
     pub left_small : IsSmallQuestion x (breaks y) s.known.limits.radius s.known.limits.period
-    left_small = small_question s.known x (breaks y) (breaking y) left_at.rule (aims_at_breaking y right_at.rule) neither_long.0
+    left_small = small_question s.known x (breaks y) (breaking y) (aims_at_breaking y right_at.rule) neither_long.0
 
     pub right_small : IsSmallQuestion y (breaks x) s.known.limits.radius s.known.limits.period
-    right_small = small_question s.known y (breaks x) (breaking x) right_at.rule (aims_at_breaking x left_at.rule) neither_long.1
+    right_small = small_question s.known y (breaks x) (breaking x) (aims_at_breaking x left_at.rule) neither_long.1
 
     pub equal_right : (a : Answer) → IsRightEqual s x y a → Right s (query.Equal left right) a
     equal_right a told = record { rule = x; stands = left_at.stands; holds = record { rule = y; stands = right_at.stands; holds = told } }
@@ -123,7 +123,7 @@ module _ (s : Parts) (ok : IsScriptOf s) (rs : List LocalRule) (same : rs ≡ s.
     empty_small =
         let here : empty_sizes s.known x ≡ [] =
         sym (about_is s.rules n x (empty_sizes s.known) alone_at.stands) ∙ (sound (query.Empty n) there).sizes in
-        small_question s.known x always anything alone_at.rule aims_at_anything (not_over (is_long s.known x anything) limit.Clauses here)
+        small_question s.known x always anything aims_at_anything (not_over (is_long s.known x anything) limit.Clauses here)
 
     pub empty_right : (a : Answer) → IsRightBox s x always a → Right s (query.Empty n) a
     empty_right a right = record { rule = x; stands = alone_at.stands; holds = right }

@@ -5,7 +5,8 @@ use Rattle.std.proofs.lemmas.List.{length-take-le}
 use Rattle.std.proofs.lemmas.List.Elements.{All-nil, All-cons, All-append, All-take}
 use Rattle.dd_lattice.specs.declared.position.Cell.{Cell}
 use Rattle.dd_lattice.specs.Place.{Place}
-use Rattle.dd_pattern.specs.Tile.{Tile, IsTile, IsInBox, volume, residue}
+use Rattle.dd_pattern.specs.Periods.{volume, residue, unsheared}
+use Rattle.dd_pattern.specs.Tile.{Tile, IsPeriodic, IsInBox}
 use Rattle.dd_pattern.proofs.Residues.{residue_below}
 use Rattle.dd_clause.specs.declared.clause.Literal.{Literal}
 use Rattle.dd_derivation.specs.declared.step.Step.{Step}
@@ -27,10 +28,10 @@ use Rattle.dd_answer.specs.Writable.{IsWritableDecision, IsWritableEquality}
 -- ---- places
 
 -- a coordinate in the fundamental box
-coordinate_fits : (z : ℤ) (n : ℕ) → 0 < n → n ≤ 65536 → pos (residue z n) ≡ z → IsWritableSigned z
-coordinate_fits z n some few is =
-    let below : residue z n < n = residue_below z n some in
-    let same : residue z n ≡ unsigned_abs z = ap unsigned_abs is in
+coordinate_fits : (z w : ℤ) (n : ℕ) → 0 < n → n ≤ 65536 → pos (residue w n) ≡ z → IsWritableSigned z
+coordinate_fits z w n some few is =
+    let below : residue w n < n = residue_below w n some in
+    let same : residue w n ≡ unsigned_abs z = ap unsigned_abs is in
     omega (arith, below, same, few)
 
 -- each period of a configuration is at most the number of its symbols
@@ -44,14 +45,17 @@ periods_few x y z nodes on_x on_y on_z some few =
     mul-le (z * 1 * 1) 1 (z * y * x) nodes (mul-le (z * 1) 1 (z * y) x (mul-le z 1 z y (omega arith) on_y) on_x) some in
     (omega (arith, for_x, few), omega (arith, for_y, few), omega (arith, for_z, few))
 
-place_writable : (d : ℕ) (t : Tile) (c : Cell) → 1 ≤ d → d ≤ 3 → IsTile t → t.nodes ≤ 65536 → IsInBox t c → IsWritable (answer.Outside (written_cell d c))
-place_writable d t c some most tile few at =
+place_writable : (d : ℕ) (t : Tile) (c : Cell) → 1 ≤ d → d ≤ 3 → IsPeriodic t → t.nodes ≤ 65536 → IsInBox t c → IsWritable (answer.Outside (written_cell d c))
+place_writable d t c some most periodic few at =
     let all = c.position.x ∷ c.position.y ∷ c.position.z ∷ [] in
-    let size : volume t * t.nodes ≤ 65536 = (let full = tile.full in let small = tile.small in omega (arith, full, small)) in
-    let short = periods_few t.along_x t.along_y t.along_z t.nodes tile.x_some tile.y_some tile.z_some tile.nodes_some size in
-    let on_x : IsWritableSigned c.position.x = coordinate_fits c.position.x t.along_x tile.x_some short.0 (ap (λ (p : Place). p.x) at.base) in
-    let on_y : IsWritableSigned c.position.y = coordinate_fits c.position.y t.along_y tile.y_some short.1 (ap (λ (p : Place). p.y) at.base) in
-    let on_z : IsWritableSigned c.position.z = coordinate_fits c.position.z t.along_z tile.z_some short.2 (ap (λ (p : Place). p.z) at.base) in
+    let tile = periodic.tile in
+    let p = t.periods in
+    let are = tile.periods in
+    let size : volume p * t.nodes ≤ 65536 = (let full = tile.full in let small = periodic.small in omega (arith, full, small)) in
+    let short = periods_few p.x p.y p.z t.nodes are.x_some are.y_some are.z_some tile.nodes_some size in
+    let on_x : IsWritableSigned c.position.x = coordinate_fits c.position.x (unsheared p c.position) p.x are.x_some short.0 (ap (λ (q : Place). q.x) at.base) in
+    let on_y : IsWritableSigned c.position.y = coordinate_fits c.position.y c.position.y p.y are.y_some short.1 (ap (λ (q : Place). q.y) at.base) in
+    let on_z : IsWritableSigned c.position.z = coordinate_fits c.position.z c.position.z p.z are.z_some short.2 (ap (λ (q : Place). q.z) at.base) in
     let node : IsWritableSigned (pos c.node) = (let below = at.node in omega (arith, below, few)) in
     let each : All IsWritableSigned all = All-cons IsWritableSigned c.position.x (c.position.y ∷ c.position.z ∷ []) on_x
     (All-cons IsWritableSigned c.position.y (c.position.z ∷ []) on_y (All-cons IsWritableSigned c.position.z [] on_z (All-nil IsWritableSigned))) in
@@ -64,7 +68,7 @@ place_writable d t c some most tile few at =
     )
 
 -- the first cell at which the rule is false
-pub outside_fits : (x : LocalRule) (t : Tile) (c : Cell) (place : List ℤ) → IsRule x → IsTile t → Fits x t → IsFirstFalse x t c → place ≡ written_cell x.dimension c →
+pub outside_fits : (x : LocalRule) (t : Tile) (c : Cell) (place : List ℤ) → IsRule x → IsPeriodic t → Fits x t → IsFirstFalse x t c → place ≡ written_cell x.dimension c →
     IsWritable (answer.Outside place)
 outside_fits x t c place rule tile fits first is =
     let same : t.nodes ≡ x.nodes = fits.nodes in

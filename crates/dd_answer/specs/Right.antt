@@ -57,10 +57,10 @@ IsRightMember x t a = ⊥
 
 -- the periods along the axes that there are
 abbrev pub written_periods : Tile → List ℕ
-written_periods t = take t.dimension (t.along_x ∷ t.along_y ∷ t.along_z ∷ [])
+written_periods t = take t.dimension (t.periods.x ∷ t.periods.y ∷ t.periods.z ∷ [])
 
 abbrev pub written_no : Side → Tile → Answer
-written_no s t = answer.No s (written_periods t) 0 t.symbols
+written_no s t = answer.No s (written_periods t) t.periods.shear t.symbols
 
 abbrev pub written_decision : Decision → Answer
 written_decision (decision.Yes n steps) = answer.Yes n steps

@@ -25,7 +25,7 @@ fn widened(alloc: Global, numbers: &[u32]) -> Result<Items<u64>, AllocError>
     Ok(Items::from_vec(wide))
 }
 
-/// NO, by a configuration: its periods along the axes that there are, and its symbols.
+/// NO, by a configuration: its periods along the axes that there are, its shear and its symbols.
 fn written_no(alloc: Global, side: Side, periodic: &Periodic) -> Result<Answer, AllocError>
     ensures same { IfOk result (λ answer. answer ≡ written_no side periodic.now) }
     ensures writable { IfOk result IsWritable }
@@ -36,7 +36,7 @@ fn written_no(alloc: Global, side: Side, periodic: &Periodic) -> Result<Answer, 
     Ok(Answer::No {
         side,
         periods,
-        shear: 0,
+        shear: u64::from(periodic.shear()),
         symbols,
     })
 }

@@ -10,6 +10,8 @@ use Rattle.dd_formula.specs.LocalRule.{LocalRule, local_rule, reads_at, expansio
 use Rattle.dd_formula.specs.Automata.{Counted, IsAutomaton, counted, is_few, is_short, is_shallow, rule_has}
 use Rattle.dd_formula.specs.declared.automaton.Automaton.{Automaton}
 use Rattle.dd_formula.specs.declared.automaton.Automaton.TheVariants as automaton
+use Rattle.dd_topology.specs.Sets.{all_symbols}
+use Rattle.dd_pattern.specs.Periods.{periods_of as with_shear}
 use Rattle.dd_pattern.specs.Tile.{Tile, IsTile, tile}
 use Rattle.dd_naming.specs.declared.fault.Fault.{Fault}
 use Rattle.dd_naming.specs.declared.fault.Limit.TheVariants as limit
@@ -25,9 +27,9 @@ use Rattle.dd_definition.specs.declared.definition.Definition.TheVariants as def
 
 -- ---- what is defined
 
--- the rule of a formula over the script's topology and symbols
+-- the rule of a formula over the script's topology and symbols, each of which every node allows
 abbrev pub rule_of : Known → Formula → LocalRule
-rule_of k f = local_rule k.setting.topology (length k.setting.symbols) f
+rule_of k f = local_rule k.setting.topology (all_symbols k.setting.topology.nodes (length k.setting.symbols)) f
 
 abbrev pub case_of : Known → CaseOf → LocalRule × ℕ
 case_of k c = (rule_of k c.condition, c.symbol)
@@ -41,7 +43,7 @@ periods_of (command.Configuration name periods symbols) = period_at periods 0 �
 periods_of c = 1 ∷ 1 ∷ 1 ∷ []
 
 abbrev pub tile_of : Known → Command → List ℕ → Tile
-tile_of k c symbols = tile k.setting.topology.dimension (periods_of c) k.setting.topology.nodes symbols
+tile_of k c symbols = tile k.setting.topology.dimension (with_shear (periods_of c) 0) k.setting.topology.nodes symbols
 
 -- the composition of two automata by their numbers
 abbrev pub composition_of : List Automaton → ℕ → ℕ → Option Automaton

@@ -5,11 +5,11 @@ use Rattle.std.specs.Option.{option_map_or}
 use Rattle.dd_lattice.specs.declared.position.Cell.{Cell}
 use Rattle.dd_formula.specs.LocalRule.{LocalRule}
 use Rattle.dd_formula.specs.Reach.{farthest, reach}
-use Rattle.dd_formula.specs.Counts.{place_clauses, broken_clauses}
+use Rattle.dd_formula.specs.Counts.{broken_clauses, largest_clauses}
+use Rattle.dd_formula.specs.ValueCounts.{differ_clauses}
 use Rattle.dd_formula.specs.Automata.{cells_of}
 use Rattle.dd_formula.specs.declared.automaton.Automaton.{Automaton}
 use Rattle.dd_counts.specs.Rules.{patterns, states, longer_states}
-use Rattle.dd_counts.specs.Clauses.{differ_clauses, question_clauses}
 use Rattle.dd_naming.specs.declared.fault.Fault.{Fault}
 use Rattle.dd_naming.specs.declared.fault.Limit.TheVariants as limit
 use Rattle.dd_refusal.specs.declared.known.Known.{Known}
@@ -43,7 +43,7 @@ differing x f g =
 
 -- the clauses of a question with this premise, in the largest box or torus that may be tried
 abbrev pub clauses_of : Known → LocalRule → Aim → ℕ
-clauses_of k x g = question_clauses x.dimension (max k.limits.radius g.radius) k.limits.period (place_clauses x) g.clauses
+clauses_of k x g = largest_clauses x g.clauses (max k.limits.radius g.radius) k.limits.period
 
 abbrev pub is_long : Known → LocalRule → Aim → Bool
 is_long k x g = nat_lt 2000000 (clauses_of k x g)
