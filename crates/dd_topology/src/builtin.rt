@@ -56,7 +56,7 @@ impl Topology {
 fn line(alloc: Global) -> Result<Topology, AllocError>
     ensures { IfOk result (λ topology. topology ≡ line) }
 {
-    let edges = [link(0, by(1, 0, 0)), link(1, by(-1, 0, 0))];
+    let edges = [link(0, 1, 0, 0), link(1, -1, 0, 0)];
     made(alloc, 1, 1, &["rt", "lt"], &edges)
 }
 
@@ -64,10 +64,10 @@ fn square(alloc: Global) -> Result<Topology, AllocError>
     ensures { IfOk result (λ topology. topology ≡ square) }
 {
     let edges = [
-        link(0, by(0, 1, 0)),
-        link(1, by(0, -1, 0)),
-        link(2, by(1, 0, 0)),
-        link(3, by(-1, 0, 0)),
+        link(0, 0, 1, 0),
+        link(1, 0, -1, 0),
+        link(2, 1, 0, 0),
+        link(3, -1, 0, 0),
     ];
     made(alloc, 2, 1, &["up", "dn", "rt", "lt"], &edges)
 }
@@ -76,14 +76,14 @@ fn king(alloc: Global) -> Result<Topology, AllocError>
     ensures { IfOk result (λ topology. topology ≡ king) }
 {
     let edges = [
-        link(0, by(0, 1, 0)),
-        link(1, by(0, -1, 0)),
-        link(2, by(1, 0, 0)),
-        link(3, by(-1, 0, 0)),
-        link(4, by(1, 1, 0)),
-        link(5, by(-1, 1, 0)),
-        link(6, by(1, -1, 0)),
-        link(7, by(-1, -1, 0)),
+        link(0, 0, 1, 0),
+        link(1, 0, -1, 0),
+        link(2, 1, 0, 0),
+        link(3, -1, 0, 0),
+        link(4, 1, 1, 0),
+        link(5, -1, 1, 0),
+        link(6, 1, -1, 0),
+        link(7, -1, -1, 0),
     ];
     made(
         alloc,
@@ -98,12 +98,12 @@ fn triangle(alloc: Global) -> Result<Topology, AllocError>
     ensures { IfOk result (λ topology. topology ≡ triangle) }
 {
     let edges = [
-        link(0, by(0, 1, 0)),
-        link(1, by(0, -1, 0)),
-        link(2, by(1, 0, 0)),
-        link(3, by(-1, 0, 0)),
-        link(4, by(1, 1, 0)),
-        link(5, by(-1, -1, 0)),
+        link(0, 0, 1, 0),
+        link(1, 0, -1, 0),
+        link(2, 1, 0, 0),
+        link(3, -1, 0, 0),
+        link(4, 1, 1, 0),
+        link(5, -1, -1, 0),
     ];
     made(alloc, 2, 1, &["up", "dn", "rt", "lt", "ne", "sw"], &edges)
 }
@@ -112,12 +112,12 @@ fn hex(alloc: Global) -> Result<Topology, AllocError>
     ensures { IfOk result (λ topology. topology ≡ hex) }
 {
     let edges = [
-        forth(0, by(0, 0, 0)),
-        back(0, by(0, 0, 0)),
-        forth(1, by(-1, 0, 0)),
-        back(1, by(1, 0, 0)),
-        forth(2, by(0, -1, 0)),
-        back(2, by(0, 1, 0)),
+        forth(0, 0, 0, 0),
+        back(0, 0, 0, 0),
+        forth(1, -1, 0, 0),
+        back(1, 1, 0, 0),
+        forth(2, 0, -1, 0),
+        back(2, 0, 1, 0),
     ];
     made(alloc, 2, 2, &["a", "b", "c"], &edges)
 }
@@ -126,55 +126,51 @@ fn cube(alloc: Global) -> Result<Topology, AllocError>
     ensures { IfOk result (λ topology. topology ≡ cube) }
 {
     let edges = [
-        link(0, by(1, 0, 0)),
-        link(1, by(-1, 0, 0)),
-        link(2, by(0, 1, 0)),
-        link(3, by(0, -1, 0)),
-        link(4, by(0, 0, 1)),
-        link(5, by(0, 0, -1)),
+        link(0, 1, 0, 0),
+        link(1, -1, 0, 0),
+        link(2, 0, 1, 0),
+        link(3, 0, -1, 0),
+        link(4, 0, 0, 1),
+        link(5, 0, 0, -1),
     ];
     made(alloc, 3, 1, &["rt", "lt", "up", "dn", "fw", "bk"], &edges)
 }
 
-fn by(x: i32, y: i32, z: i32) -> Position
-    requires { IsInRange (place x y z) }
-    ensures { result ≡ place x y z }
-{
-    Position { x, y, z }
-}
-
 /// An edge between cells of one node.
-fn link(label: u32, offset: Position) -> Edge
-    ensures { result ≡ link label offset }
+fn link(label: u32, x: i32, y: i32, z: i32) -> Edge
+    requires { IsInRange (place x y z) }
+    ensures { result ≡ link label (place x y z) }
 {
     Edge {
         label,
         from: 0,
-        offset,
+        offset: Position { x, y, z },
         to: 0,
     }
 }
 
 /// An edge from a first node to a second.
-fn forth(label: u32, offset: Position) -> Edge
-    ensures { result ≡ forth label offset }
+fn forth(label: u32, x: i32, y: i32, z: i32) -> Edge
+    requires { IsInRange (place x y z) }
+    ensures { result ≡ forth label (place x y z) }
 {
     Edge {
         label,
         from: 0,
-        offset,
+        offset: Position { x, y, z },
         to: 1,
     }
 }
 
 /// An edge from a second node to a first.
-fn back(label: u32, offset: Position) -> Edge
-    ensures { result ≡ back label offset }
+fn back(label: u32, x: i32, y: i32, z: i32) -> Edge
+    requires { IsInRange (place x y z) }
+    ensures { result ≡ back label (place x y z) }
 {
     Edge {
         label,
         from: 1,
-        offset,
+        offset: Position { x, y, z },
         to: 0,
     }
 }
