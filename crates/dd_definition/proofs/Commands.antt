@@ -17,7 +17,7 @@ use Rattle.dd_extent.specs.declared.extent.Extent.{Extent}
 use Rattle.dd_extent.specs.Extents.{larger, largest}
 use Rattle.dd_extent.specs.Written.{word_extent, name_extent, formula_extent, case_extent, command_extent}
 use Rattle.dd_expansion.specs.declared.formulas.Formula.{Formula}
-use Rattle.dd_pattern.specs.Tile.{IsTile}
+use Rattle.dd_pattern.specs.Tile.{IsPeriodic}
 use Rattle.dd_naming.specs.declared.fault.Limit.{Limit}
 use Rattle.dd_naming.specs.declared.fault.Limit.TheVariants as limit
 use Rattle.dd_naming.specs.Texts.{missing, number_in}
@@ -186,7 +186,7 @@ unless_none true none = refl
 unless_none false none = absurd cc
 
 pub record IsPattern (k : Known) (c : Command) (symbols : List ℕ) : Type 0 where
-  pub tile : IsTile (tile_of k c symbols)
+  pub tile : IsPeriodic (tile_of k c symbols)
   pub below : All (λ s. s < length k.setting.symbols) symbols
 
 -- a configuration's periods and symbols
@@ -209,15 +209,21 @@ configuration_is bytes k (command.Configuration w ps ns) symbols is sound faultl
     let count : length symbols ≡ length ns = sym (ap length same) ∙ length-map ns (number_in bytes k.setting.symbols) in
     record {
       tile = record {
-        some_dimension = omega (arith, sound.grid.dimension.0);
-        most_dimension = sound.grid.dimension.1;
-        x_some = periods.x_some;
-        y_some = periods.y_some;
-        z_some = periods.z_some;
-        y_unused = λ h. periods.y_unused (omega (arith, h, dimension));
-        z_unused = λ h. periods.z_unused (omega (arith, h, dimension));
-        nodes_some = omega (arith, sound.grid.nodes);
-        full = omega (arith, count, size, by_periods, by_nodes);
+        tile = record {
+          some_dimension = omega (arith, sound.grid.dimension.0);
+          most_dimension = sound.grid.dimension.1;
+          periods = record {
+            x_some = periods.x_some;
+            y_some = periods.y_some;
+            z_some = periods.z_some;
+            y_unused = λ h. periods.y_unused (omega (arith, dimension, h));
+            z_unused = λ h. periods.z_unused (omega (arith, dimension, h));
+            shear_small = periods.x_some;
+            shear_unused = λ h. refl;
+          };
+          nodes_some = omega (arith, sound.grid.nodes);
+          full = omega (arith, count, size, by_periods, by_nodes);
+        };
         small = omega (arith, count, small);
       };
       below = subst (All (λ s. s < length k.setting.symbols)) same (number_of_each bytes k.setting.symbols ns here.unknown);

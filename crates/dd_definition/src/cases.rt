@@ -1,6 +1,7 @@
 // Automata by cases.
 ghost use Rattle.std.specs.Prelude.{◌≡◌, ◌<◌, true, length, map, OnOk, IfOk};
 ghost use Rattle.std.specs.List.{All};
+ghost use Rattle.dd_topology.specs.Sets.{all_symbols};
 ghost use Rattle.dd_expansion.specs.Leaves.{instances};
 ghost use Rattle.dd_expansion.specs.Limits.{IsFormula};
 ghost use Rattle.dd_formula.specs.Counts.{cut};
@@ -32,7 +33,7 @@ fn expansion_size(
     node: u32,
 ) -> Result<u32, AllocError>
     requires { IsFormula topology.now symbols formula.now }
-    ensures { IfOk result (λ n. n ≡ cut 20000 (instances (expansion_at (local_rule topology.now symbols formula.now) node))) }
+    ensures { IfOk result (λ n. n ≡ cut 20000 (instances (expansion_at (local_rule topology.now (all_symbols topology.now.nodes symbols) formula.now) node))) }
 {
     match expand(alloc, topology, symbols, formula, node, MOST_INSTANCES) {
         Ok(expansion) => Ok(expansion.instances()),

@@ -3,7 +3,8 @@ ghost use Rattle.std.specs.Prelude.{◌≡◌, ◌<◌, length, OnOk};
 ghost use Rattle.std.specs.List.{All};
 ghost use Rattle.dd_formula.specs.LocalRule.{IsRule};
 ghost use Rattle.dd_formula.specs.Automata.{Setting, IsAutomaton};
-ghost use Rattle.dd_pattern.specs.Tile.{IsTile};
+ghost use Rattle.dd_pattern.specs.Tile.{IsPeriodic};
+ghost use Rattle.dd_topology.specs.Sets.{all_symbols};
 ghost use Rattle.dd_naming.specs.Resolving.{Resolves};
 ghost use Rattle.dd_refusal.specs.Meanings.{meaning_of, IsShallow};
 ghost use Rattle.dd_header.specs.Sound.{IsSound, IsFaultless, numbers_of};
@@ -19,6 +20,7 @@ use dd_naming::{Fault, Limit, Refusal};
 use dd_pattern::Periodic;
 use dd_refusal::{Known, Meaning, period_at};
 use dd_syntax::Command;
+use dd_topology::Sets;
 use dd_values::Items;
 use std::alloc::Global;
 
@@ -40,7 +42,21 @@ fn refusal_of(fault: RuleFault) -> Refusal
     }
 }
 
-/// The rule of a formula over the script's topology and symbols.
+/// The rule of a formula over the script's topology and these sets.
+fn rule_over(alloc: Global, known: &Known, sets: &Sets, formula: Formula) -> Result<Rule, Refusal>
+    requires sound { IsSound known.now }
+    requires sets { sets.now ≡ all_symbols known.now.setting.topology.nodes (length known.now.setting.symbols) }
+    requires formula { IsFormulaOf known.now formula }
+    ensures exact { let rule = rule_of known.now formula in Resolves result (counted_sizes rule.nodes (rule_counts rule)) rule }
+    ensures rule { OnOk result (IsRule (rule_of known.now formula)) }
+{
+    match Rule::new(alloc, &known.setting.topology, sets, formula) {
+        Ok(rule) => Ok(rule),
+        Err(fault) => Err(refusal_of(fault)),
+    }
+}
+
+/// The rule of a formula over the script's topology and symbols, each of which every node allows.
 pub(crate) fn rule(alloc: Global, known: &Known, formula: Formula) -> Result<Rule, Refusal>
     requires sound { IsSound known.now }
     requires formula { IsFormulaOf known.now formula }
@@ -48,10 +64,8 @@ pub(crate) fn rule(alloc: Global, known: &Known, formula: Formula) -> Result<Rul
     ensures rule { OnOk result (IsRule (rule_of known.now formula)) }
 {
     let setting = &known.setting;
-    match Rule::new(alloc, &setting.topology, setting.symbols.count(), formula) {
-        Ok(rule) => Ok(rule),
-        Err(fault) => Err(refusal_of(fault)),
-    }
+    let sets = Sets::new(alloc, setting.topology.nodes(), setting.symbols.count())?;
+    rule_over(alloc, known, &sets, formula)
 }
 
 /// The composition of two automata by their numbers.
@@ -96,13 +110,14 @@ fn periods_of(command: &Command) -> [u32; 3]
 
 /// The configuration with these symbols in its fundamental box.
 fn configuration(known: &Known, command: &Command, symbols: Items<u32>) -> Periodic
-    requires { IsTile (tile_of known.now command.now symbols) }
+    requires { IsPeriodic (tile_of known.now command.now symbols) }
     ensures { result ≡ tile_of known.now command.now symbols }
 {
     let topology = &known.setting.topology;
     match Periodic::new(
         topology.dim(),
         periods_of(command),
+        0,
         topology.nodes(),
         symbols.into_vec(),
     ) {

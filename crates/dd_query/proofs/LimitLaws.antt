@@ -15,15 +15,14 @@ use Rattle.dd_naming.specs.Resolving.{Accepts}
 use Rattle.dd_refusal.specs.declared.known.Known.{Known}
 use Rattle.dd_refusal.specs.Sizes.{over}
 use Rattle.dd_formula.specs.LocalRule.{LocalRule}
-use Rattle.dd_formula.specs.Counts.{cut, place_clauses}
+use Rattle.dd_formula.specs.Counts.{cut, largest_clauses}
 use Rattle.dd_formula.specs.Automata.{Setting, IsAutomaton, rule_has}
 use Rattle.dd_formula.specs.Compositions.{HaveNodes}
 use Rattle.dd_formula.specs.declared.automaton.Automaton.{Automaton}
 use Rattle.dd_header.specs.Sound.{numbers_of}
-use Rattle.dd_counts.specs.Clauses.{question_clauses}
 use Rattle.dd_query.specs.Limits.{Aim, about, is_long, clauses_of}
 use Rattle.dd_query.specs.Made.{AreMade}
-use Rattle.dd_query.proofs.CutLaws.{passes, cut_question}
+use Rattle.dd_query.proofs.CutLaws.{passes}
 
 -- what is said of an item at its place
 pub accepts_at : {X : Type 0} (r : Result (Unit {0}) Refusal) (xs : List X) (n : ℕ) (x : X) (faults : X → List Fault) → n < length xs → x ≡ get_or xs n x
@@ -83,13 +82,8 @@ some_at p n a below here = some_from p 0 n a (omega arith) (omega arith) here
 pub accepts_over : (r : Result (Unit {0}) Refusal) (a b : Bool) (l : Limit) → a ≡ b → Accepts r (over a l) → Accepts r (over b l)
 accepts_over r a b l same h = subst (λ (t : Bool). Accepts r (over t l)) same h
 
-pub long_is : (k : Known) (x : LocalRule) (g : Aim) (dim radius place far clauses count : ℕ) → dim ≡ x.dimension → radius ≡ max k.limits.radius far → far ≡ g.radius
-    → place ≡ cut 2000000 (place_clauses x) → clauses ≡ cut 2000000 g.clauses → count ≡ cut 2000000 (question_clauses dim radius k.limits.period place clauses)
-    → nat_lt 2000000 count ≡ is_long k x g
-long_is k x g dim radius place far clauses count d greater r p c is =
+pub long_is : (k : Known) (x : LocalRule) (g : Aim) (radius far count : ℕ) → radius ≡ max k.limits.radius far → far ≡ g.radius
+    → count ≡ cut 2000000 (largest_clauses x g.clauses radius k.limits.period) → nat_lt 2000000 count ≡ is_long k x g
+long_is k x g radius far count greater r is =
     let most : radius ≡ max k.limits.radius g.radius = greater ∙ ap (max k.limits.radius) r in
-    passes 2000000 (clauses_of k x g) count
-    (is
-    ∙ (ap (λ e. cut 2000000 (question_clauses e radius k.limits.period place clauses)) d
-    ∙ (ap (λ e. cut 2000000 (question_clauses x.dimension e k.limits.period place clauses)) most
-    ∙ cut_question 2000000 x.dimension (max k.limits.radius g.radius) k.limits.period (place_clauses x) g.clauses place clauses p c)))
+    passes 2000000 (clauses_of k x g) count (is ∙ ap (λ e. cut 2000000 (largest_clauses x g.clauses e k.limits.period)) most)

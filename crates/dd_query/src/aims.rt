@@ -7,7 +7,7 @@ ghost use Rattle.dd_query.specs.Limits.{automaton_cells, anything, breaking, dif
 ghost use Rattle.dd_query.specs.Limits.{Aim as Goal};
 ghost use Rattle.dd_query.specs.Measured.{HasNodes, IsMeasureOf};
 
-use dd_counts::{broken_clauses, differ_clauses, place_clauses, question_clauses};
+use dd_counts::{broken_clauses, differ_clauses, question_clauses};
 use dd_formula::{Automaton, Rule, farthest};
 use dd_refusal::Known;
 use std::alloc::{AllocError, Global};
@@ -84,14 +84,6 @@ pub(crate) fn is_long(known: &Known, premise: &Rule, aim: Aim) -> bool
 {
     let limits = &known.limits;
     let radius = limits.radius.max(aim.radius);
-    let place = place_clauses(premise, MOST_CLAUSES);
-    let clauses = question_clauses(
-        premise.dim(),
-        radius,
-        limits.period,
-        place,
-        aim.clauses,
-        MOST_CLAUSES,
-    );
+    let clauses = question_clauses(premise, aim.clauses, radius, limits.period, MOST_CLAUSES);
     clauses > MOST_CLAUSES
 }

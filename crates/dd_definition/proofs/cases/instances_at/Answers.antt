@@ -1,4 +1,5 @@
 use Rattle.std.proofs.Common.{◌≡◌, ◌+◌, ap, ◌∙◌, arith}
+use Rattle.dd_topology.specs.Sets.{all_symbols}
 use Rattle.dd_expansion.specs.Leaves.{instances}
 use Rattle.dd_formula.specs.LocalRule.{local_rule, expansion_at}
 use Rattle.dd_formula.specs.Counts.{cut}
@@ -13,7 +14,7 @@ returns-then-sum-gt-MOST_INSTANCES c =
     let x = c.case-item.result in
     let more = cases_more k c.args.cases.now i x c.args.node c.loop-case-test.true c.case-item.is in
     let size : c.in_ok-size.size ≡ cut 20000 (instances (expansion_at (rule_of k x.condition) c.args.node)) =
-    c.in_ok-size.ensures ∙ ap (λ n. cut 20000 (instances (expansion_at (local_rule k.setting.topology n x.condition) c.args.node))) c.count-symbols.ensures.number in
+    c.in_ok-size.ensures ∙ ap (λ n. cut 20000 (instances (expansion_at (local_rule k.setting.topology (all_symbols k.setting.topology.nodes n) x.condition) c.args.node))) c.count-symbols.ensures.number in
     omega (arith, more, size, cases_at_most k c.args.cases.now (i + 1) c.args.node, c.loop-case.invariant, c.plus-sum.ensures, c.if-sum-gt-MOST_INSTANCES.true)
 
 pub loop-case-preserved : goal.loop-case-preserved
@@ -23,5 +24,5 @@ loop-case-preserved c =
     let x = c.case-item.result in
     let more = cases_more k c.args.cases.now i x c.args.node c.loop-case-test.true c.case-item.is in
     let size : c.in_ok-size.size ≡ cut 20000 (instances (expansion_at (rule_of k x.condition) c.args.node)) =
-    c.in_ok-size.ensures ∙ ap (λ n. cut 20000 (instances (expansion_at (local_rule k.setting.topology n x.condition) c.args.node))) c.count-symbols.ensures.number in
+    c.in_ok-size.ensures ∙ ap (λ n. cut 20000 (instances (expansion_at (local_rule k.setting.topology (all_symbols k.setting.topology.nodes n) x.condition) c.args.node))) c.count-symbols.ensures.number in
     omega (arith, more, size, c.loop-case.invariant, c.plus-sum.ensures)

@@ -39,4 +39,4 @@ returns-in-Configuration-clause-sound c =
     let all = configuration_is c.args.bytes.now k c.args.command.now symbols (sym c.in-Configuration.is ∙ c.requires.meaning)
     c.requires.sound c.requires.faultless in
     subst (λ (m : Meaning). IsSoundDefinition k (definition k c.args.automata.now c.args.command.now m)) (sym c.in-Configuration.is)
-    (record { tile = all.tile; dimension = refl; nodes = refl; symbols = all.below })
+    (record { tile = all.tile.tile; dimension = refl; nodes = refl; symbols = all.below })
