@@ -1,5 +1,5 @@
 // Box questions, by their answers' first lines.
-use super::words_of;
+use super::{assert_answers, words_of};
 use dd_outside::{MemorySink, MemorySource};
 use dd_session::{Status, run_diddy};
 use std::alloc::Global;
@@ -106,10 +106,17 @@ const EMPTY_OR_OF_TWO_NODES: [(&str, &str); 3] = [
     ),
 ];
 
+// Six symbols in an order that repeats only along a sheared vector: the least periods come with a shear.
+const SHEARED: [(&str, &str); 1] = [(
+    "%alphabet 0 1 2 3 4 5 %limits 0 3 10 %rule six (o=0 -> o.rt=2 & o.up=5) & (o=1 -> o.rt=3 & o.up=0) & (o=2 -> o.rt=4 & o.up=1) & (o=3 -> o.rt=5 & o.up=2) & (o=4 -> o.rt=0 & o.up=3) & (o=5 -> o.rt=1 & o.up=4) %rule no o!=1 %contains no six",
+    "query 1 NO 3 2 shear 1\nconf 1 3 5 0 2 4\n",
+)];
+
 #[test]
 fn answers_box_questions(rt: HostRuntime) -> Result<(), Fail> {
     let alloc = rt.alloc();
     assert_lines(&rt, alloc, &CONTAINED_OR_EQUAL)?;
     assert_lines(&rt, alloc, &LIMITS_OF_BOXES)?;
-    assert_lines(&rt, alloc, &EMPTY_OR_OF_TWO_NODES)
+    assert_lines(&rt, alloc, &EMPTY_OR_OF_TWO_NODES)?;
+    assert_answers(&rt, alloc, &SHEARED)
 }
