@@ -1,9 +1,12 @@
+-- Rules, the symbols that their nodes allow, how far they read, which configurations live in them, and why none is made.
 pub mod LocalRule
 pub mod Allowed
 pub mod Reach
 pub mod Living
 pub mod Refusals
+-- Automata: their values and reads, compositions, and why these are refused.
 pub mod Automata
+pub mod Compositions
+-- How many clauses a question takes.
 pub mod Counts
 pub mod ValueCounts
-pub mod Compositions
