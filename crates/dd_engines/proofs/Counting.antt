@@ -1,20 +1,13 @@
--- Counts of true literals, changed in turn.
-use Rattle.std.proofs.Common.{◌≡◌, ◌↔◌, ℕ, zero, suc, ◌+◌, ◌<◌, ◌≤◌, Bool, true, false, List, [], ◌∷◌, Option, Some, None, IsTrue, length, get_or, drop, refl, sym, ◌∙◌, arith}
-use Rattle.std.proofs.Math.ListN.{set}
+-- The first clause without a true literal, as the set that lists them says.
+use Rattle.std.proofs.Common.{◌≡◌, ◌↔◌, ℕ, zero, suc, ◌<◌, ◌≤◌, Bool, true, false, List, [], ◌∷◌, Option, Some, None, IsTrue, length, get_or, refl, sym, ◌∙◌, arith}
 use Rattle.std.specs.List.{list_any}
 use Rattle.std.specs.Option.{IsSome, IfSome, MatchOption, option_copied}
 use Rattle.std.specs.Ordering.{nat_cmp, is_gt}
 use Rattle.std.specs.BTreeSet.{BTreeSet, contains, IsLowerBound}
 use Rattle.std.proofs.lemmas.Bool.{eqb-true, false≢true, false_from_ne_true}
 use Rattle.std.proofs.lemmas.Grind.{common_steps}
-use Rattle.std.proofs.lemmas.List.{drop_more}
 use denote.Bor.{Bor}
-use Rattle.dd_engines.specs.walking.Truths.{changed, is_none_at, IsListed, NoneIsNone, IsFirstNone}
-
--- one more place is changed
-pub changed_more : (f : ℕ → ℕ) (xs : List ℕ) (i : ℕ) (now whole : List ℕ) → i < length xs → changed f (drop i xs) now ≡ whole
-    → changed f (drop (i + 1) xs) (set now (get_or xs i 0) (f (get_or now (get_or xs i 0) 0))) ≡ whole
-changed_more f xs i now whole lt h = rw (drop_more xs i 0 lt) at h
+use Rattle.dd_engines.specs.walking.Truths.{is_none_at, IsListed, NoneIsNone, IsFirstNone}
 
 record NoneAt (counts : List ℕ) (k : ℕ) : Type 0 where
   within : k < length counts

@@ -149,9 +149,6 @@ follows_more cs hints values k c l follows at range forced =
       fewer = fewer values l within free;
     }
 
-pub more_more : (cs : List (List Literal)) (values between : List (Option Bool)) (hints new_hints : List ℕ) (new_values : List (Option Bool)) → FollowsMore cs values hints between → FollowsMore cs between new_hints new_values → FollowsMore cs values new_hints new_values
-more_more cs values between hints new_hints new_values p q = record { follows = q.follows; fewer = omega (arith, p.fewer, q.fewer) }
-
 -- a clause is falsified
 pub ends_at : (cs : List (List Literal)) (hints : List ℕ) (values : List (Option Bool)) (k : ℕ) (c : List Literal) → Follows cs hints values → slice_get cs k ≡ Some c → finding (is_false_by values) c ≡ Falsified → Ends cs (hints ++ (k + 1) ∷ [])
 ends_at cs hints values k c follows at falsified =
@@ -260,6 +257,3 @@ settled_has_no_step cnf values all step single =
       | inr f ↦ absurd (false≢true f)
     ] in
     false≢true (sym (no_conflict cnf.clauses (is_false_by values) all step.hints [] (λ l h. absurd (false≢true h))) ∙ (rw empty at conflict))
-
-pub single_from_end : (cnf : ClauseList) (hints : List ℕ) (step : Step) → step.clause ≡ [] → step.hints ≡ hints → step.deletes ≡ [] → Ends cnf.clauses hints → IsSingleStep cnf step
-single_from_end cnf hints step clause at deletes ends = rw (clause, at, deletes, ends) refl

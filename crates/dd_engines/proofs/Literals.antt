@@ -1,7 +1,7 @@
 -- Literals that are the same.
 use Rattle.std.proofs.Common.{◌≡◌, ℕ, Bool, true, false, refl}
 use Rattle.std.specs.Bool.{beq}
-use Rattle.std.proofs.lemmas.Bool.{eqb-true, eq-eqb, and_from, and_parts}
+use Rattle.std.proofs.lemmas.Bool.{eqb-true, and_parts}
 use Rattle.dd_clause.specs.declared.clause.Literal.{Literal}
 use Rattle.dd_derivation.specs.Derivations.{same_literal}
 
@@ -20,13 +20,6 @@ made-eq v w p q e f = cc
 pub literal-eq : (a b : Literal) → a.variable ≡ b.variable → a.positive ≡ b.positive → a ≡ b
 unfolding made
 literal-eq a b v s = made-eq a.variable b.variable a.positive b.positive v s
-
-beq-refl : (b : Bool) → beq b b ≡ true
-beq-refl true = refl
-beq-refl false = refl
-
-pub same_literal-refl : (l : Literal) → same_literal l l ≡ true
-same_literal-refl l = and_from _ _ (eq-eqb l.variable l.variable refl) (beq-refl l.positive)
 
 pub same_literal-eq : (a b : Literal) → same_literal a b ≡ true → a ≡ b
 same_literal-eq a b h =

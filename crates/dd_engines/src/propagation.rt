@@ -88,22 +88,28 @@ struct Counts {
     waiting: Vec<usize>,
 }
 
+/// Counts one literal more of each of these clauses. A clause that stands there several times, in a row, has it once.
+fn count_once(left: &mut [usize], numbers: &[usize]) {
+    let mut last = None;
+    for number in numbers {
+        if last == Some(*number) {
+            continue;
+        }
+        last = Some(*number);
+        // Each number is that of a clause, so it has a count.
+        if let Some(count) = left.get_mut(*number) {
+            *count = count.saturating_add(1);
+        }
+    }
+}
+
 impl Counts {
     fn new(alloc: Global, cnf: &Cnf) -> Result<Counts, AllocError> {
         let occurrences = Occurrences::new(alloc, cnf)?;
         let mut left = vec![in alloc; 0usize; cnf.clauses().len()]?;
         for variable in 1..=cnf.variables() {
             for positive in [false, true] {
-                let literal = Literal { variable, positive };
-                let mut last = None;
-                for number in occurrences.of(literal) {
-                    if last != Some(*number) {
-                        if let Some(count) = left.get_mut(*number) {
-                            *count = count.saturating_add(1);
-                        }
-                    }
-                    last = Some(*number);
-                }
+                count_once(&mut left, occurrences.of(Literal { variable, positive }));
             }
         }
         Ok(Counts {
@@ -113,19 +119,22 @@ impl Counts {
         })
     }
 
-    /// Counts a literal that is false now, once for each clause.
+    /// Counts a literal that is false now, once for each clause that has it.
     fn falsify(&mut self, literal: Literal) -> Result<(), AllocError> {
         let mut last = None;
         for number in self.occurrences.of(literal) {
-            if last != Some(*number) {
-                if let Some(count) = self.left.get_mut(*number) {
-                    *count = count.saturating_sub(1);
-                    if *count == 1 {
-                        self.waiting.push(*number)?;
-                    }
-                }
+            if last == Some(*number) {
+                continue;
             }
             last = Some(*number);
+            // Each number is that of a clause, so it has a count.
+            let Some(count) = self.left.get_mut(*number) else {
+                continue;
+            };
+            *count = count.saturating_sub(1);
+            if *count == 1 {
+                self.waiting.push(*number)?;
+            }
         }
         Ok(())
     }
