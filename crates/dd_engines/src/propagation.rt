@@ -1,10 +1,9 @@
 //! Unit propagation from nothing: a clause with one literal that is not false makes it true, until a clause has none.
 //! Passes over all clauses go on until one changes nothing. Counts of the literals that are left bring each new literal
 //! at once to the clauses that it leaves with one, so the second pass already finds nothing, and all is linear.
-ghost use Rattle.std.specs.Prelude.{◌≡◌, ◌+◌, ◌<◌, ◌≤◌, [], ℕ, List, All, length, IfOk, MatchOption};
+ghost use Rattle.std.specs.Prelude.{◌≡◌, [], List, All, length, IfOk, MatchOption};
 ghost use Rattle.dd_clause.specs.Clauses.{IsClauseInRange};
 ghost use Rattle.dd_clause.specs.declared.clause.Literal.{Literal};
-ghost use Rattle.dd_engines.specs.Proposals.{IsRefuting};
 ghost use Rattle.dd_engines.specs.SingleSteps.{IsSingleStep};
 ghost use Rattle.dd_engines.specs.propagation.Following.{is_false_by, Follows, Looked, Went, Passed};
 

@@ -5,7 +5,6 @@ ghost use Rattle.std.specs.Ordering.{nat_cmp};
 ghost use Rattle.std.specs.BTreeSet.{contains};
 ghost use Rattle.dd_clause.specs.Clauses.{IsInRange, is_true, true_variables};
 ghost use Rattle.dd_engines.specs.Walks.{made_true, IsFirst, NoneBefore};
-ghost use Rattle.dd_engines.specs.walking.Truths.{true_count};
 ghost use Rattle.dd_engines.specs.walking.Walking.{Walks};
 
 use crate::occurrences::Occurrences;
