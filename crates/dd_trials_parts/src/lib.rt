@@ -22,6 +22,8 @@ mod outside;
 #[cfg(test)]
 mod patterns;
 #[cfg(test)]
+mod simplex;
+#[cfg(test)]
 mod solver;
 #[cfg(test)]
 mod syntax;
