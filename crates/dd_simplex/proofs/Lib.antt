@@ -3,6 +3,7 @@ pub mod Choosing
 pub mod Endings
 pub mod Equations
 pub mod Firsts
+pub mod Idle
 pub mod LineSteps
 pub mod PivotStanding
 pub mod PivotTests

@@ -1,17 +1,13 @@
 -- The laws of runs.
-use Rattle.std.proofs.Common.{◌≡◌, ◌≢◌, ℕ, zero, suc, ◌+◌, ◌-◌, ◌<◌, ◌≤◌, List, [], ◌∷◌, length, get_or, Bool, true, false, cond, Option, Some, None, ◌⊎◌, inl, inr, ⊎_elim, refl, sym, ap, subst, ◌∙◌, arith}
+use Rattle.std.proofs.Common.{◌≡◌, ℕ, zero, suc, ◌+◌, ◌<◌, List, [], ◌∷◌, length, Bool, true, false, cond, Option, Some, None, ◌⊎◌, inl, inr, ⊎_elim, refl, sym, ap, subst, ◌∙◌, arith}
 use Rattle.std.proofs.lemmas.List.{ext_get_or}
-use lib.IntN.{pos}
-use Rattle.dd_fraction.specs.Exact.{Exact, plus, times, minus, low}
-use Rattle.dd_fraction.specs.Order.{IsNonneg}
-use Rattle.dd_fraction.proofs.Laws.{plus_comm, zero_plus, plus_zero, zero_times, times_zero, one_times, times_one, plus_minus, plus_undo, plus_cancel, plus_low_left, plus_low_right, low_plus, low_times, minus_times, minus_times_right, minus_minus}
-use Rattle.dd_fraction.proofs.Lowest.{low_low, zero_is}
-use Rattle.dd_simplex.specs.Programs.{LinearProgram, IsProgram, fraction_at, coefficient, bound_at, unit, total, zero_of, one_of}
+use Rattle.dd_fraction.specs.Exact.{Exact}
+use Rattle.dd_simplex.specs.Programs.{LinearProgram, IsProgram, fraction_at, zero_of}
 use Rattle.dd_simplex.specs.Dictionaries.{Dictionary, count, start, pivoted}
-use Rattle.dd_simplex.specs.Runs.{entering, leaving, does_turn_fit, Stop, Ends, Overflows, AtLimit, Unbounded, turn, turn_or_end, run, stop_of, RunEnds, RunOverflows, RunPivots, column_of, dual_of}
-use Rattle.dd_simplex.specs.Laws.{DoesEnd, HasOneStop, after, after_turn, leaving_for, IsCombination, IsReducedObjective, IsSound, coefficient_in, price}
+use Rattle.dd_simplex.specs.Runs.{entering, leaving, does_turn_fit, Stop, Ends, Overflows, AtLimit, Unbounded, turn, turn_or_end, run, stop_of, RunOverflows, RunPivots, column_of, dual_of}
+use Rattle.dd_simplex.specs.Laws.{DoesEnd, HasOneStop, after, after_turn, leaving_for, IsSound}
 use Rattle.dd_simplex.proofs.Endings.{reduced_column, reduced_value, combined_column, combined_bound}
-use Rattle.dd_simplex.proofs.Reaching.{IsReached, Enters, entering_is, leaving_is, reached_start, reached_pivot}
+use Rattle.dd_simplex.proofs.Reaching.{IsReached, entering_is, leaving_is, reached_start, reached_pivot}
 use Rattle.dd_simplex.proofs.Unbounded.{always_leaves}
 
 -- ---- how a run stops

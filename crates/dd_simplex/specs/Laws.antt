@@ -1,5 +1,5 @@
 -- Laws of runs: how they stop, and what each dictionary on the way is.
-use Rattle.std.specs.Prelude.{◌≡◌, ℕ, zero, suc, ◌+◌, ◌<◌, ◌⊎◌, List, length, Bool, true, cond, Option, Some, None}
+use Rattle.std.specs.Prelude.{◌≡◌, ℕ, zero, suc, ◌+◌, ◌<◌, ◌⊎◌, List, length, true, cond, Option, Some, None}
 use Rattle.std.specs.Bool.{nat_eq}
 use Rattle.dd_fraction.specs.Exact.{Exact, plus, times, minus, low}
 use Rattle.dd_fraction.specs.Order.{IsNonneg}

@@ -5,7 +5,7 @@ ghost use lib.IntN.{pos};
 ghost use Rattle.dd_fraction.specs.Exact.{Exact, times, inverse};
 ghost use Rattle.dd_fraction.specs.Checked.{does_product_fit};
 ghost use Rattle.dd_simplex.specs.Programs.{fraction_at};
-ghost use Rattle.dd_simplex.specs.table.Lines.{less, do_all_less_fit, solved_line, does_solved_fit, changed_line, does_changed_fit, line_at, changed_lines, do_lines_fit};
+ghost use Rattle.dd_simplex.specs.table.Lines.{IsIdle, less, do_all_less_fit, solved_line, does_solved_fit, changed_line, does_changed_fit, line_at, changed_lines, do_lines_fit};
 
 use dd_fraction::Fraction;
 use std::marker::Model;
@@ -92,6 +92,9 @@ pub fn subtract(cells: &mut [Fraction], factor: &Fraction, others: &[Fraction]) 
     ensures value { result ≡ true → cells.new ≡ less factor.now cells.old others.now }
 {
     for i in 0..cells.len() {
+        if is_idle(&cells[i], factor, &others[i]) {
+            continue;
+        }
         let Some(product) = factor.mul(&others[i]) else {
             return false
         };
@@ -101,6 +104,17 @@ pub fn subtract(cells: &mut [Fraction], factor: &Fraction, others: &[Fraction]) 
         cells[i] = difference;
     }
     true
+}
+
+/// Whether taking `factor` times `other` from the cell changes nothing, since one of the two is 0. The cell's numerator is
+/// read for its facts alone: the fraction is in lowest terms, with numbers that fit.
+fn is_idle(cell: &Fraction, factor: &Fraction, other: &Fraction) -> bool
+    ensures { result ≡ true → IsIdle cell.now factor.now other.now }
+{
+    let _num = cell.num();
+    let num = factor.num();
+    let other_num = other.num();
+    num == 0 || other_num == 0
 }
 
 /// Puts the solved line into each line. False where a number is too large.

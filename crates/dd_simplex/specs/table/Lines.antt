@@ -1,5 +1,5 @@
 -- What the code keeps of a dictionary: its lines, and one pivot of them, place by place.
-use Rattle.std.specs.Prelude.{ℕ, ◌+◌, List, [], ◌∷◌, ◌++◌, map, take, drop, Bool, true, ◌&&◌, slice_index_or, slice_set}
+use Rattle.std.specs.Prelude.{◌≡◌, true, ℕ, ◌+◌, List, [], ◌∷◌, ◌++◌, map, take, drop, Bool, true, ◌&&◌, slice_index_or, slice_set}
 use Rattle.std.specs.List.{list_all}
 use Rattle.dd_fraction.specs.Exact.{Exact, plus, times, minus, inverse}
 use Rattle.dd_fraction.specs.Checked.{does_product_fit, does_sum_fit}
@@ -96,3 +96,8 @@ abbrev pub does_table_fit : ℕ → ℕ → Table → Bool
 does_table_fit e r t =
     let pivot = solved_line (other_at t.others e) e (line_at t.lines r) in
     do_lines_fit e r (other_at t.others e) t.lines && does_objective_fit e pivot t.value t.costs
+
+-- taking q · b from a changes nothing, and no number of it is too large
+pub record IsIdle (a q b : Exact) : Type 0 where
+  pub fit : (does_product_fit q b && does_sum_fit a (minus (times q b))) ≡ true
+  pub value : plus a (minus (times q b)) ≡ a

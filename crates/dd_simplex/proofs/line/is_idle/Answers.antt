@@ -1,0 +1,24 @@
+use Rattle.std.proofs.Common.{◌≡◌, true, nat_eq, sym, ap, ◌∙◌, rules, arith, to_z, of_z}
+use Rattle.std.specs.Int.{w128}
+use Rattle.std.proofs.lemmas.Int.{to_z-of_z}
+use lib.IntN.{ℤ, pos}
+use mir.Val.{SFits}
+use Rattle.dd_simplex.proofs.Idle.{idle_left, idle_right}
+use Rattle.dd_simplex.proofs.line.is_idle.Goals as goal
+
+zero_from : (x : ℤ) → SFits w128 x → nat_eq (of_z w128 x) 0 ≡ true → x ≡ pos 0
+zero_from x f h =
+    let z : of_z w128 x ≡ 0 = grind (arith, h) in
+    sym (to_z-of_z w128 x f) ∙ ap (to_z w128) z
+
+pub returns-then-num-eq0 : goal.returns-then-num-eq0
+returns-then-num-eq0 c = λ h.
+    let fits : SFits w128 c.num-num-2.result = search rules in
+    idle_left c.args.cell.now c.args.factor.now c.args.other.now c.num-num.ensures.fraction c.num-num-2.ensures.fraction c.num-other_num.ensures.fraction
+    (sym c.num-num-2.ensures.value ∙ zero_from c.num-num-2.result fits h)
+
+pub returns-else-num-eq0 : goal.returns-else-num-eq0
+returns-else-num-eq0 c = λ h.
+    let fits : SFits w128 c.num-other_num.result = search rules in
+    idle_right c.args.cell.now c.args.factor.now c.args.other.now c.num-num.ensures.fraction c.num-num-2.ensures.fraction c.num-other_num.ensures.fraction
+    (sym c.num-other_num.ensures.value ∙ zero_from c.num-other_num.result fits h)
