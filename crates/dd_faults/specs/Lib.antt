@@ -4,3 +4,9 @@ pub mod Order
 pub mod Names
 -- the faults of formulas
 pub mod Formulas
+-- what is given twice
+pub mod Repeats
+-- the faults of commands
+pub mod Commands
+-- what comes of adding to what was seen
+pub mod walk

@@ -5,7 +5,12 @@
 mod atoms;
 mod context;
 mod fault;
+mod formulas;
+mod header;
 mod names;
+mod numbers;
+mod requests;
+mod twice;
 
 pub use context::{Context, Known, Setting};
 pub use fault::{Fault, Limit, Refusal, refuse_if};
