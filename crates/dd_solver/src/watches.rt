@@ -1,7 +1,8 @@
 // Two watched literals (Moskewicz, Madigan, Zhao, Zhang and Malik 2001): a clause needs no look while the two literals
 // that it watches are not false. So only the clauses that watch a literal are looked at when it becomes false, and
 // nothing is undone on a return. What a clause is found to say is looked at exactly, so no promise rests on the watches:
-// one that is missed costs time.
+// one that is missed costs time. Nor does an invariant say that the places kept here are within their lists: the tests
+// below that look are never false.
 ghost use Rattle.std.specs.Prelude.{◌≡◌, ◌<◌, ◌^◌, length, IfOk, MatchOption, ⊤};
 ghost use Rattle.dd_solver.specs.Entries.{all_known, falses, IsFull};
 ghost use Rattle.dd_solver.specs.Search.{Says, AreOpenBetween};
@@ -70,12 +71,12 @@ pub struct Watches {
 }
 
 /// What is done with a clause whose watched literal became false: it stays with the other watched literal true, or it
-/// watches a further literal beside the other, or it may force the other.
+/// watches a further literal beside the other, or all but the other are false.
 #[derive(Clone, Copy)]
 enum Look {
     Stays(Code),
     Moves(Code, Code),
-    Speaks,
+    AllFalse,
 }
 
 fn watch(lists: &mut Vec<Vec<Watcher>>, literal: Code, watcher: Watcher) -> Result<(), AllocError> {
@@ -143,7 +144,7 @@ fn rewatch(trail: &Trail, literals: &mut [Code], clause: u32, became_false: Code
             literals[place] = became_false;
             Look::Moves(next, other)
         }
-        _ => Look::Speaks,
+        _ => Look::AllFalse,
     }
 }
 
@@ -227,7 +228,7 @@ impl Watches {
                 watch(&mut self.lists, next, Watcher { clause, other })?;
                 Ok(true)
             }
-            Look::Speaks => {
+            Look::AllFalse => {
                 self.at = at.saturating_add(1);
                 Ok(false)
             }
