@@ -63,8 +63,8 @@ struct Watcher {
 pub struct Watches {
     lists: Vec<Vec<Watcher>>,
     literals: Vec<Code>,
-    numbers: Vec<u64>,
-    count: u64,
+    numbers: Vec<u32>,
+    count: u32,
     read: usize,
     at: usize,
     scanned: u64,
@@ -199,7 +199,7 @@ impl Watches {
     fn number(&self, clause: u32) -> u64 {
         let clause = clause as usize;
         if clause < self.numbers.len() {
-            return self.numbers[clause];
+            return u64::from(self.numbers[clause]);
         }
         0
     }
