@@ -40,7 +40,7 @@ use Rattle.dd_definition.proofs.Modest.{IsModest, first_modest, second_modest, a
 module _ (bytes : List ℕ) (s : Setting) (same : s.topology.nodes ≡ length s.nodes) where
   -- with so many variables in scope
   abbrev its_fits : Formula → ℕ → Bool
-  its_fits = fits s.topology (length s.symbols)
+  its_fits = formula_fits s.topology (length s.symbols)
 
   rolled : (x : Formula-F Formula) (k : ℕ) → fits_step s.topology (length s.symbols) (map-Formula Formula (ℕ → Bool) its_fits x) k ≡ true → its_fits (roll-Formula x) k ≡ true
   rolled x k h = ap (λ (t : ℕ → Bool). t k) (fold-roll-Formula (ℕ → Bool) (fits_step s.topology (length s.symbols)) x) ∙ h

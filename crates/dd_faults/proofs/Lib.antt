@@ -1,0 +1,4 @@
+pub mod Noting
+pub mod Layers
+pub mod Repeats
+pub mod Nodes

@@ -1,0 +1,62 @@
+-- The faults of formulas, in the order of the text.
+use Rattle.std.specs.Prelude.{ℕ, List, [], ◌∷◌, ◌++◌, length, Bool, not, ◌&&◌, ◌==◌, nat_lt, if◌then◌else◌}
+use Rattle.std.specs.List.{flat_map}
+use Rattle.dd_written.specs.declared.lexeme.Word.{Word}
+use Rattle.dd_written.specs.declared.tree.Name.TheVariants as name
+use Rattle.dd_written.specs.declared.tree.Term.{Term}
+use Rattle.dd_written.specs.declared.tree.Side.{Side}
+use Rattle.dd_written.specs.declared.tree.Side.TheVariants as side
+use Rattle.dd_written.specs.declared.tree.Atom.{Atom}
+use Rattle.dd_written.specs.declared.tree.Atom.TheVariants as atom
+use Rattle.dd_written.specs.declared.tree.Ball.{Ball}
+use Rattle.dd_written.specs.declared.tree.Formula.{Formula}
+use Rattle.dd_written.specs.declared.tree.Formula.TheFolds.{fold-Formula}
+use Rattle.dd_written.specs.declared.tree.Formula.TheOpen.{Formula-F}
+use Rattle.dd_written.specs.Values.{value}
+use Rattle.dd_faults.specs.declared.fault.Limit.TheVariants as limit
+use Rattle.dd_faults.specs.declared.fault.Fault.{Fault}
+use Rattle.dd_faults.specs.declared.fault.Fault.TheVariants as fault
+use Rattle.dd_faults.specs.declared.context.Context.{Context}
+use Rattle.dd_faults.specs.Order.{when, over}
+use Rattle.dd_faults.specs.Names.{missing, is_variable, unknown_variable}
+
+abbrev pub unknown_label : Context → Word → List Fault
+unknown_label x w = missing x.text x.known.setting.topology.labels (name.Word w)
+
+abbrev pub term_faults : Context → List Word → Term → List Fault
+term_faults x scope t = unknown_variable x.text scope t.first ++ (flat_map (unknown_label x) t.moves ++ over (nat_lt 16 (length t.moves)) limit.Moves)
+
+-- a single word that is no variable names a symbol
+abbrev pub names_symbol : List ℕ → List Word → Term → Bool
+names_symbol bytes scope t = length t.moves == 0 && not (is_variable bytes scope t.first)
+
+abbrev pub side_faults : Context → List Word → Side → List Fault
+side_faults x scope (side.Number n) = missing x.text x.known.setting.symbols (name.Number n)
+side_faults x scope (side.Term t) = if names_symbol x.text scope t then missing x.text x.known.setting.symbols (name.Word t.first) else term_faults x scope t
+
+abbrev pub atom_faults : Context → List Word → Atom → List Fault
+atom_faults x scope (atom.Equal t r) = term_faults x scope t ++ side_faults x scope r
+atom_faults x scope (atom.NotEqual t r) = term_faults x scope t ++ side_faults x scope r
+atom_faults x scope (atom.Adjacent t u) = term_faults x scope t ++ term_faults x scope u
+atom_faults x scope (atom.Same t u) = term_faults x scope t ++ term_faults x scope u
+atom_faults x scope (atom.AtNode t n) = term_faults x scope t ++ missing x.text x.known.setting.nodes n
+
+abbrev pub ball_faults : Context → List Word → Ball → List Fault
+ball_faults x scope b = unknown_variable x.text scope b.middle ++ over (nat_lt 3 (value x.text b.radius)) limit.Radius
+
+-- a quantifier's variable is in scope in its body, and not in its balls
+abbrev pub quantor_faults : Context → List Word → Word → List Ball → List Fault
+quantor_faults x scope w balls =
+    when (is_variable x.text scope w) (fault.Twice (name.Word w)) ++ (over (nat_lt 4 (length balls)) limit.Balls ++ flat_map (ball_faults x scope) balls)
+
+abbrev pub faults_step : Context → Formula-F (List Word → List Fault) → List Word → List Fault
+faults_step x (Formula-F.Atom a) scope = atom_faults x scope a
+faults_step x (Formula-F.Not f) scope = f scope
+faults_step x (Formula-F.Quantified q w balls f) scope = quantor_faults x scope w balls ++ f (scope ++ w ∷ [])
+faults_step x (Formula-F.Group f) scope = f scope
+faults_step x (Formula-F.List j fs) scope = flat_map (λ f. f scope) fs
+faults_step x (Formula-F.Implies f g) scope = f scope ++ g scope
+faults_step x (Formula-F.Iff f g) scope = f scope ++ g scope
+
+abbrev pub formula_faults : Context → Formula → List Word → List Fault
+formula_faults x = fold-Formula (List Word → List Fault) (faults_step x)

@@ -1,0 +1,12 @@
+-- the one order of faults
+pub mod Order
+-- names and variables by their texts
+pub mod Names
+-- the faults of formulas
+pub mod Formulas
+-- what is given twice
+pub mod Repeats
+-- the faults of commands
+pub mod Commands
+-- what comes of adding to what was seen
+pub mod walk

@@ -1,0 +1,75 @@
+-- The one order of faults.
+use Rattle.std.specs.Prelude.{◌≡◌, ℕ, ◌+◌, List, [], ◌∷◌, Bool, Option, Some, None, Result, Ok, Err, nat_lt, if◌then◌else◌}
+use Rattle.dd_faults.specs.declared.fault.Limit.{Limit}
+use Rattle.dd_faults.specs.declared.fault.Limit.TheVariants as limit
+use Rattle.dd_faults.specs.declared.fault.Fault.{Fault}
+use Rattle.dd_faults.specs.declared.fault.Fault.TheVariants as fault
+use Rattle.dd_faults.specs.declared.fault.Refusal.{Refusal}
+use Rattle.dd_faults.specs.declared.fault.Refusal.TheVariants as refusal
+
+-- the limits in their order
+abbrev pub limit_rank : Limit → ℕ
+limit_rank limit.Commands = 0
+limit_rank limit.Word = 1
+limit_rank limit.Number = 2
+limit_rank limit.Nodes = 3
+limit_rank limit.Alphabet = 4
+limit_rank limit.Edges = 5
+limit_rank limit.Offset = 6
+limit_rank limit.Weight = 7
+limit_rank limit.Limits = 8
+limit_rank limit.Moves = 9
+limit_rank limit.Radius = 10
+limit_rank limit.Balls = 11
+limit_rank limit.Instances = 12
+limit_rank limit.Reach = 13
+limit_rank limit.Depth = 14
+limit_rank limit.Periods = 15
+limit_rank limit.Vectors = 16
+limit_rank limit.Patterns = 17
+limit_rank limit.States = 18
+limit_rank limit.Clauses = 19
+
+-- unknown names, then what is given twice, then dimensions, then limits
+abbrev pub rank : Fault → ℕ
+rank (fault.Unknown n) = 0
+rank (fault.Twice n) = 1
+rank fault.TwiceVector = 1
+rank fault.Dimension = 2
+rank (fault.Size l) = 3 + limit_rank l
+
+-- a fault that comes later counts only where its rank is less
+abbrev pub better : Option Fault → Fault → Option Fault
+better None f = Some f
+better (Some g) f = if nat_lt (rank f) (rank g) then Some f else Some g
+
+abbrev pub noted : Option Fault → List Fault → Option Fault
+noted found [] = found
+noted found (f ∷ fs) = noted (better found f) fs
+
+-- the first fault of the least rank
+abbrev pub first_fault : List Fault → Option Fault
+first_fault fs = noted None fs
+
+-- the fault, where it is one
+abbrev pub when : Bool → Fault → List Fault
+when holds f = if holds then f ∷ [] else []
+
+-- the limit, where it is passed
+abbrev pub over : Bool → Limit → List Fault
+over passed l = when passed (fault.Size l)
+
+-- refused for this fault; or memory ran out
+abbrev pub Refuses : Refusal → Option Fault → Type 0
+Refuses refusal.Memory found = Unit {0}
+Refuses (refusal.At f) found = found ≡ Some f
+
+-- accepted where there is no fault, and else refused for it
+abbrev pub Accepts : {X : Type 0} → Result X Refusal → Option Fault → Type 0
+Accepts (Ok x) found = found ≡ None
+Accepts (Err e) found = Refuses e found
+
+-- what is meant, where there is no fault, and else refused for the first
+abbrev pub Resolves : {X : Type 0} → Result X Refusal → List Fault → X → Type 0
+Resolves (Ok x) faults meaning = (faults ≡ []) × (x ≡ meaning)
+Resolves (Err e) faults meaning = Refuses e (first_fault faults)

@@ -1,0 +1,131 @@
+//! The faults of terms, atoms and what stands before the body of a quantifier.
+ghost use Rattle.std.specs.Prelude.{◌≡◌};
+ghost use Rattle.std.specs.List.{flat_map};
+ghost use Rattle.dd_faults.specs.Order.{noted};
+ghost use Rattle.dd_faults.specs.Formulas.{unknown_label, term_faults, names_symbol, side_faults, atom_faults, ball_faults, quantor_faults};
+
+use crate::context::Context;
+use crate::fault::{Fault, Limit, note_if, note_over};
+use crate::names::{is_variable, note_missing, note_variable};
+use dd_written::{Atom, Ball, Name, Side, Term, Word, name_text, number_value};
+
+fn label(context: &Context, word: Word, found: &mut Option<Fault>)
+    ensures { found.new ≡ noted found.old (unknown_label context.now word) }
+{
+    let name = Name::Word(word);
+    let topology = &context.known.setting.topology;
+    let unknown = topology.label(name_text(&context.text, name)).is_none();
+    note_if(found, unknown, Fault::Unknown(name));
+}
+
+#[tactic(auto, using(crate::proofs::Noting::notes))]
+fn labels(context: &Context, moves: &[Word], found: &mut Option<Fault>)
+    ensures { found.new ≡ noted found.old (flat_map (unknown_label context.now) moves.now) }
+{
+    for word in moves {
+        label(context, *word, found);
+    }
+}
+
+#[tactic(auto, using(crate::proofs::Noting::notes))]
+fn term(context: &Context, scope: &[Word], term: &Term, found: &mut Option<Fault>)
+    ensures { found.new ≡ noted found.old (term_faults context.now scope.now term.now) }
+{
+    note_variable(&context.text, scope, term.first, found);
+    labels(context, term.moves.as_slice(), found);
+    note_over(found, term.moves.len() > 16, Limit::Moves);
+}
+
+/// Whether a term is a single word that is no variable.
+fn names_symbol(context: &Context, scope: &[Word], term: &Term) -> bool
+    ensures { result ≡ names_symbol context.now.text scope.now term.now }
+{
+    term.moves.len() == 0 && !is_variable(&context.text, scope, term.first)
+}
+
+fn side(context: &Context, scope: &[Word], side: &Side, found: &mut Option<Fault>)
+    ensures { found.new ≡ noted found.old (side_faults context.now scope.now side.now) }
+{
+    let symbols = &context.known.setting.symbols;
+    match side {
+        Side::Number(number) => {
+            note_missing(&context.text, symbols, Name::Number(*number), found);
+        }
+        Side::Term(term) => {
+            if names_symbol(context, scope, term) {
+                note_missing(&context.text, symbols, Name::Word(term.first), found);
+            } else {
+                self::term(context, scope, term, found);
+            }
+        }
+    }
+}
+
+#[tactic(auto, using(crate::proofs::Noting::notes))]
+pub(crate) fn atom(context: &Context, scope: &[Word], atom: &Atom, found: &mut Option<Fault>)
+    ensures { found.new ≡ noted found.old (atom_faults context.now scope.now atom.now) }
+{
+    match atom {
+        Atom::Equal {
+            term: left,
+            side: right,
+        } => {
+            term(context, scope, left, found);
+            side(context, scope, right, found);
+        }
+        Atom::NotEqual {
+            term: left,
+            side: right,
+        } => {
+            term(context, scope, left, found);
+            side(context, scope, right, found);
+        }
+        Atom::Adjacent { left, right } => {
+            term(context, scope, left, found);
+            term(context, scope, right, found);
+        }
+        Atom::Same { left, right } => {
+            term(context, scope, left, found);
+            term(context, scope, right, found);
+        }
+        Atom::AtNode { term: left, node } => {
+            term(context, scope, left, found);
+            note_missing(&context.text, &context.known.setting.nodes, *node, found);
+        }
+    }
+}
+
+#[tactic(auto, using(crate::proofs::Noting::notes))]
+fn ball(context: &Context, scope: &[Word], ball: &Ball, found: &mut Option<Fault>)
+    ensures { found.new ≡ noted found.old (ball_faults context.now scope.now ball.now) }
+{
+    note_variable(&context.text, scope, ball.middle, found);
+    let radius = number_value(&context.text, ball.radius);
+    note_over(found, radius > 3, Limit::Radius);
+}
+
+#[tactic(auto, using(crate::proofs::Noting::notes))]
+fn balls(context: &Context, scope: &[Word], balls: &[Ball], found: &mut Option<Fault>)
+    ensures { found.new ≡ noted found.old (flat_map (ball_faults context.now scope.now) balls.now) }
+{
+    for written in balls {
+        ball(context, scope, written, found);
+    }
+}
+
+/// What stands before the body of a quantifier.
+#[tactic(auto, using(crate::proofs::Noting::notes))]
+pub(crate) fn quantor(
+    context: &Context,
+    scope: &[Word],
+    variable: Word,
+    written: &[Ball],
+    found: &mut Option<Fault>,
+)
+    ensures { found.new ≡ noted found.old (quantor_faults context.now scope.now variable written.now) }
+{
+    let bound = is_variable(&context.text, scope, variable);
+    note_if(found, bound, Fault::Twice(Name::Word(variable)));
+    note_over(found, written.len() > 4, Limit::Balls);
+    balls(context, scope, written, found);
+}

@@ -1,0 +1,18 @@
+//! What is wrong with a command that is well formed. All its faults are one list in the order of its text, and it is refused for
+//! the first of the least rank: unknown names come before what is given twice, then dimensions, then limits in their order.
+#![tactic(auto)]
+
+mod atoms;
+mod cases;
+mod context;
+mod fault;
+mod formulas;
+mod header;
+mod names;
+mod numbers;
+mod requests;
+mod symbols;
+mod twice;
+
+pub use context::{Context, Known, Setting};
+pub use fault::{Fault, Limit, Refusal, refuse_if};

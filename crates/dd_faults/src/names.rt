@@ -1,0 +1,67 @@
+//! Names by their texts.
+ghost use Rattle.std.specs.Prelude.{◌≡◌, is_some, position, bytes_eq};
+ghost use Rattle.dd_written.specs.Values.{word_text};
+ghost use Rattle.dd_faults.specs.Order.{noted};
+ghost use Rattle.dd_faults.specs.Names.{place_of, missing, is_variable, unknown_variable, named_again};
+
+use crate::context::Known;
+use crate::fault::{Fault, note_if};
+use dd_topology::Names;
+use dd_written::{Name, Text, Word, name_text};
+
+/// Whether a name is among others.
+pub(crate) fn is_named(text: &Text, names: &Names, name: Name) -> bool
+    ensures { result ≡ is_some (place_of text.now names.now name) }
+{
+    names.find(name_text(text, name)).is_some()
+}
+
+/// Notes a name that is none of the names.
+pub(crate) fn note_missing(text: &Text, names: &Names, name: Name, found: &mut Option<Fault>)
+    ensures { found.new ≡ noted found.old (missing text.now names.now name) }
+{
+    note_if(found, !is_named(text, names, name), Fault::Unknown(name));
+}
+
+/// The first place of a text among those of words.
+fn place_among(text: &Text, words: &[Word], wanted: &str) -> Option<usize>
+    ensures { result ≡ position (λ v. bytes_eq (word_text text.now v) wanted.now) words.now }
+{
+    words
+        .iter()
+        .position(|word| text.part(word.start, word.length) == wanted)
+}
+
+/// Whether a word is a variable.
+#[tactic(auto, using(crate::proofs::Noting::some_map))]
+pub(crate) fn is_variable(text: &Text, scope: &[Word], word: Word) -> bool
+    ensures { result ≡ is_variable text.now scope.now word }
+{
+    let wanted = text.part(word.start, word.length);
+    if wanted == "o" {
+        return true;
+    }
+    place_among(text, scope, wanted).is_some()
+}
+
+/// Notes a word that is no variable.
+pub(crate) fn note_variable(text: &Text, scope: &[Word], word: Word, found: &mut Option<Fault>)
+    ensures { found.new ≡ noted found.old (unknown_variable text.now scope.now word) }
+{
+    note_if(
+        found,
+        !is_variable(text, scope, word),
+        Fault::Unknown(Name::Word(word)),
+    );
+}
+
+/// Notes a name that a rule, an automaton or a configuration has already.
+pub(crate) fn note_defined(text: &Text, known: &Known, word: Word, found: &mut Option<Fault>)
+    ensures { found.new ≡ noted found.old (named_again text.now known.now word) }
+{
+    let name = Name::Word(word);
+    let defined = is_named(text, &known.rules, name)
+        || is_named(text, &known.automata, name)
+        || is_named(text, &known.configurations, name);
+    note_if(found, defined, Fault::Twice(name));
+}
