@@ -1,0 +1,152 @@
+-- The extensions of no symbols are all breaking fillings.
+use Rattle.std.proofs.Common.{◌≡◌, ◌<◌, ◌≤◌, ◌+◌, ℕ, zero, suc, Bool, true, false, cond, List, [], ◌∷◌, ◌++◌, length, get_or, refl, sym, ◌∙◌, ap, subst, inl, inr, arith}
+use Rattle.std.specs.List.{Contains, flat_map, range_with_len}
+use Rattle.std.specs.List.Sorted.{IsStrictlySortedBy}
+use Rattle.std.specs.Ordering.{nat_cmp}
+use Rattle.std.specs.Cmp.Lexicographic.{slice_cmp}
+use Rattle.std.specs.declared.cmp.Ordering.TheVariants.{Less}
+use Rattle.std.proofs.Math.ListN.{get_or-eq_default}
+use Rattle.std.proofs.lemmas.Bool.{and_parts, and_from, cases_lt, false≢true}
+use Rattle.std.proofs.lemmas.List.{append_assoc, append-nil}
+use Rattle.std.proofs.lemmas.List.Elements.{All-get_or}
+use Rattle.dd_lattice.specs.declared.position.Cell.{Cell}
+use Rattle.dd_topology.specs.Sets.{row_allows, IsRow}
+use Rattle.dd_formula.specs.LocalRule.{LocalRule, rule_allows, cells_at, IsRule}
+use Rattle.dd_forbidden.specs.Breaking.{are_allowed, is_kept, IsBreaking, BreakingFillings}
+use Rattle.dd_forbidden.specs.listing.Extensions.{extensions}
+use Rattle.dd_forbidden.proofs.Lists.{contains_first, contains_nil, cons_cases, sorted_append, IsOfPart, of_part, part_of, range_has, range_from, less_at}
+
+-- allowed symbols are symbols of the alphabet
+
+nothing_past : (row : List Bool) (t : ℕ) → get_or row t false ≡ true → t < length row
+nothing_past row t h = elim (cases_lt t (length row)) [ inl low ↦ low | inr high ↦ absurd (let past = get_or-eq_default row false high in cc) ]
+
+allowed_in_row : (r : LocalRule) (a t : ℕ) → IsRule r → a < length r.allowed → rule_allows r a t ≡ true → t < r.symbols
+allowed_in_row r a t ok below h =
+    let row = get_or r.allowed a [] in
+    let is : IsRow r.symbols row = All-get_or (IsRow r.symbols) r.allowed a [] below ok.allowed.rows in
+    let within = nothing_past row t h in
+    omega (arith, within, is.as_many)
+
+empty_row : (row : List Bool) (t : ℕ) → row ≡ [] → get_or row t false ≡ false
+empty_row row t none = get_or-eq_default row false (let few : length row ≡ 0 = ap length none in let past : length row ≤ t = omega arith in past)
+
+no_row : (rows : List (List Bool)) (a t : ℕ) → length rows ≤ a → row_allows rows a t ≡ false
+no_row rows a t high = empty_row (get_or rows a []) t (get_or-eq_default rows [] high)
+
+allowed_below : (r : LocalRule) → IsRule r → (a s : ℕ) → rule_allows r a s ≡ true → s < r.symbols
+allowed_below r ok a s h =
+    elim (cases_lt a (length r.allowed)) [
+      | inl low ↦ allowed_in_row r a s ok low h
+      | inr high ↦ absurd (let none = no_row r.allowed a s high in cc)
+    ]
+
+-- a breaking filling that begins with some symbols
+record Extends (r : LocalRule) (a : ℕ) (cs : List Cell) (start ss : List ℕ) : Type 0 where
+  rest : List ℕ
+  is : ss ≡ start ++ rest
+  allowed : are_allowed r cs rest ≡ true
+  broken : is_kept r a ss ≡ false
+
+abbrev branch : LocalRule → ℕ → Cell → List Cell → List ℕ → ℕ → List (List ℕ)
+branch r a c cs start s = cond (rule_allows r c.node s) (extensions r a cs (start ++ s ∷ [])) []
+
+whole : (r : LocalRule) (a : ℕ) (start ss : List ℕ) (b : Bool) → is_kept r a start ≡ b → Contains (cond b [] (start ∷ [])) ss → Extends r a [] start ss
+whole r a start ss true h c = absurd (contains_nil ss c)
+whole r a start ss false h c = elim (cons_cases start [] ss c) [
+  | inl same ↦ record { rest = []; is = sym same ∙ sym (append-nil start); allowed = refl; broken = ap (is_kept r a) (sym same) ∙ h }
+  | inr none ↦ absurd (contains_nil ss none)
+]
+
+longer : (r : LocalRule) (a : ℕ) (c : Cell) (cs : List Cell) (start ss : List ℕ) (s : ℕ) → rule_allows r c.node s ≡ true →
+    Extends r a cs (start ++ s ∷ []) ss → Extends r a (c ∷ cs) start ss
+longer r a c cs start ss s h e = record {
+  rest = s ∷ e.rest;
+  is = e.is ∙ append_assoc start (s ∷ []) e.rest;
+  allowed = and_from (rule_allows r c.node s) (are_allowed r cs e.rest) h e.allowed;
+  broken = e.broken;
+}
+
+in_branch : (r : LocalRule) (a : ℕ) (c : Cell) (cs : List Cell) (start ss : List ℕ) (s : ℕ) (b : Bool) → rule_allows r c.node s ≡ b →
+    ((start : List ℕ) → Contains (extensions r a cs start) ss → Extends r a cs start ss) →
+    Contains (cond b (extensions r a cs (start ++ s ∷ [])) []) ss → Extends r a cs (start ++ s ∷ []) ss × (rule_allows r c.node s ≡ true)
+in_branch r a c cs start ss s true h below d = (below (start ++ s ∷ []) d, h)
+in_branch r a c cs start ss s false h below d = absurd (contains_nil ss d)
+
+extends : (r : LocalRule) (a : ℕ) (cs : List Cell) (start ss : List ℕ) → Contains (extensions r a cs start) ss → Extends r a cs start ss
+extends r a [] start ss d = whole r a start ss (is_kept r a start) refl d
+extends r a (c ∷ cs) start ss d =
+    let o = of_part (branch r a c cs start) (range_with_len 0 r.symbols) ss d in
+    let e = in_branch r a c cs start ss o.part (rule_allows r c.node o.part) refl (λ begun. extends r a cs begun ss) o.within in
+    longer r a c cs start ss o.part e.1 e.0
+
+listed : (r : LocalRule) → IsRule r → (a : ℕ) (cs : List Cell) (start rest : List ℕ) → are_allowed r cs rest ≡ true → is_kept r a (start ++ rest) ≡ false →
+    Contains (extensions r a cs start) (start ++ rest)
+listed r ok a [] start [] al br =
+    let same = append-nil start in
+    let kept : is_kept r a start ≡ false = ap (is_kept r a) (sym same) ∙ br in
+    rw (same, kept) (contains_first start [])
+listed r ok a [] start (s ∷ rest) al br = absurd (false≢true al)
+listed r ok a (c ∷ cs) start [] al br = absurd (false≢true al)
+listed r ok a (c ∷ cs) start (s ∷ rest) al br =
+    let both = and_parts (rule_allows r c.node s) (are_allowed r cs rest) al in
+    let whole = append_assoc start (s ∷ []) rest in
+    let below = listed r ok a cs (start ++ s ∷ []) rest both.1 (ap (is_kept r a) whole ∙ br) in
+    let begun : Contains (extensions r a cs (start ++ s ∷ [])) (start ++ s ∷ rest) = subst (Contains (extensions r a cs (start ++ s ∷ []))) whole below in
+    let here : Contains (branch r a c cs start s) (start ++ s ∷ rest) = rw both.0 begun in
+    part_of (branch r a c cs start) (range_with_len 0 r.symbols) s (start ++ s ∷ rest) (range_has r.symbols s (allowed_below r ok c.node s both.0)) here
+
+abbrev Ascends : List (List ℕ) → Type 0
+Ascends lists = IsStrictlySortedBy (slice_cmp nat_cmp) lists
+
+none_ascends : Ascends []
+unfolding IsStrictlySortedBy
+none_ascends = tt
+
+one_ascends : (ss : List ℕ) → Ascends (ss ∷ [])
+unfolding IsStrictlySortedBy
+one_ascends ss = (tt, tt)
+
+whole_ascends : (ss : List ℕ) (b : Bool) → Ascends (cond b [] (ss ∷ []))
+whole_ascends ss true = none_ascends
+whole_ascends ss false = one_ascends ss
+
+branch_ascends : (lists : List (List ℕ)) (b : Bool) → Ascends lists → Ascends (cond b lists [])
+branch_ascends lists true up = up
+branch_ascends lists false up = none_ascends
+
+before : (r : LocalRule) (a : ℕ) (c : Cell) (cs : List Cell) (start : List ℕ) (k s : ℕ) (ps qs : List ℕ) → k < s →
+    Contains (branch r a c cs start k) ps → Contains (branch r a c cs start s) qs → slice_cmp nat_cmp ps qs ≡ Less
+before r a c cs start k s ps qs less p q =
+    let e = in_branch r a c cs start ps k (rule_allows r c.node k) refl (λ begun. extends r a cs begun ps) p in
+    let f = in_branch r a c cs start qs s (rule_allows r c.node s) refl (λ begun. extends r a cs begun qs) q in
+    let first = longer r a c cs start ps k e.1 e.0 in
+    let second = longer r a c cs start qs s f.1 f.0 in
+    ap (λ x. slice_cmp nat_cmp x qs) (e.0.is ∙ append_assoc start (k ∷ []) e.0.rest)
+    ∙ (ap (slice_cmp nat_cmp (start ++ k ∷ e.0.rest)) (f.0.is ∙ append_assoc start (s ∷ []) f.0.rest) ∙ less_at start k s e.0.rest f.0.rest less)
+
+branches_ascend : (r : LocalRule) (a : ℕ) (c : Cell) (cs : List Cell) (start : List ℕ) → ((s : ℕ) → Ascends (branch r a c cs start s)) →
+    (n k : ℕ) → Ascends (flat_map (branch r a c cs start) (range_with_len k n))
+branches_ascend r a c cs start each zero k = none_ascends
+branches_ascend r a c cs start each (suc n) k =
+    let f = branch r a c cs start in
+    sorted_append (slice_cmp nat_cmp) (f k) (flat_map f (range_with_len (k + 1) n)) (each k) (branches_ascend r a c cs start each n (k + 1))
+    (λ ps qs p q.
+    let o = of_part f (range_with_len (k + 1) n) qs q in
+    let later = range_from (k + 1) n o.part o.listed in
+    before r a c cs start k o.part ps qs (omega (arith, later)) p o.within)
+
+ascends : (r : LocalRule) (a : ℕ) (cs : List Cell) (start : List ℕ) → Ascends (extensions r a cs start)
+ascends r a [] start = whole_ascends start (is_kept r a start)
+ascends r a (c ∷ cs) start =
+    branches_ascend r a c cs start (λ s. branch_ascends (extensions r a cs (start ++ s ∷ [])) (rule_allows r c.node s) (ascends r a cs (start ++ s ∷ []))) r.symbols 0
+
+breaking_from : (r : LocalRule) (a : ℕ) (ss : List ℕ) → Extends r a (cells_at r a) [] ss → IsBreaking r a ss
+breaking_from r a ss e = record { allowed = ap (are_allowed r (cells_at r a)) e.is ∙ e.allowed; broken = e.broken }
+
+pub breaking_fillings : (r : LocalRule) → IsRule r → (a : ℕ) → BreakingFillings r a (extensions r a (cells_at r a) [])
+breaking_fillings r ok a = record {
+  ascending = ascends r a (cells_at r a) [];
+  only = λ ss d. breaking_from r a ss (extends r a (cells_at r a) [] ss d);
+  each = λ ss is. listed r ok a (cells_at r a) [] ss is.allowed is.broken;
+}

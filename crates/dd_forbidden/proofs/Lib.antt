@@ -1,0 +1,5 @@
+pub mod Layers
+pub mod Lists
+pub mod Powers
+pub mod ExtensionLaws
+pub mod Steps

@@ -1,0 +1,54 @@
+-- The fillings of a rule's reads under which the rule is false.
+use Rattle.std.specs.Prelude.{ℕ, ◌^◌, ◌≡◌, ◌&&◌, nat_lt, Bool, true, false, List, [], ◌∷◌, map, length}
+use Rattle.std.specs.List.{Contains}
+use Rattle.std.specs.List.Sorted.{IsStrictlySortedBy}
+use Rattle.std.specs.Ordering.{nat_cmp}
+use Rattle.std.specs.Cmp.Lexicographic.{slice_cmp}
+use Rattle.dd_lattice.specs.declared.position.Cell.{Cell}
+use Rattle.dd_pattern.specs.Filling.{Filled, filled, filling_look}
+use Rattle.dd_expansion.specs.Terms.{origin_at}
+use Rattle.dd_formula.specs.LocalRule.{LocalRule, rule_allows, is_true, cells_at}
+use Rattle.dd_forbidden.specs.declared.fault.ForbiddenFault.{ForbiddenFault}
+use Rattle.dd_forbidden.specs.declared.fault.ForbiddenFault.TheVariants.{Size, Memory}
+
+-- each cell has a symbol that its node allows, and no symbol is left over
+abbrev pub are_allowed : LocalRule → List Cell → List ℕ → Bool
+are_allowed r [] [] = true
+are_allowed r [] (s ∷ ss) = false
+are_allowed r (c ∷ cs) [] = false
+are_allowed r (c ∷ cs) (s ∷ ss) = rule_allows r c.node s && are_allowed r cs ss
+
+-- whether the rule is true at the node's cell at the origin, where the cells that it reads have these symbols
+abbrev pub is_kept : LocalRule → ℕ → List ℕ → Bool
+is_kept r a ss = is_true r (origin_at a) (filling_look (filled (cells_at r a) ss))
+
+-- the number of fillings of so many cells with so many symbols passes 65,536
+abbrev pub passes : ℕ → ℕ → Bool
+passes symbols cells = nat_lt 65536 (symbols ^ cells)
+
+abbrev pub is_large : LocalRule → ℕ → Bool
+is_large r a = passes r.symbols (length (cells_at r a))
+
+-- symbols for the cells that are read, under which the rule is false
+pub record IsBreaking (r : LocalRule) (a : ℕ) (ss : List ℕ) : Type 0 where
+  pub allowed : are_allowed r (cells_at r a) ss ≡ true
+  pub broken : is_kept r a ss ≡ false
+
+-- all of them in lexicographic order, each once
+pub record BreakingFillings (r : LocalRule) (a : ℕ) (lists : List (List ℕ)) : Type 0 where
+  pub ascending : IsStrictlySortedBy (slice_cmp nat_cmp) lists
+  pub only : (ss : List ℕ) → Contains lists ss → IsBreaking r a ss
+  pub each : (ss : List ℕ) → IsBreaking r a ss → Contains lists ss
+
+-- as fillings of the cells that are read
+pub record AreBreakingFillings (r : LocalRule) (a : ℕ) (fs : List Filled) : Type 0 where
+  pub symbols : List (List ℕ)
+  pub fillings : fs ≡ map (filled (cells_at r a)) symbols
+  pub breaking : BreakingFillings r a symbols
+  -- there are few enough
+  pub few : is_large r a ≡ false
+
+-- why there is no list
+abbrev pub IsFault : LocalRule → ℕ → ForbiddenFault → Type 0
+IsFault r a Size = is_large r a ≡ true
+IsFault r a Memory = is_large r a ≡ false

@@ -1,0 +1,74 @@
+//! The search: cell by cell each symbol that the cell's node allows, in order.
+ghost use Rattle.std.specs.Prelude.{[], ◌≡◌, ◌<◌, ◌+◌, ◌++◌, length, map, OnOk};
+ghost use Rattle.std.specs.List.Sorted.{IsStrictlySortedBy};
+ghost use Rattle.dd_lattice.specs.Order.{cell_cmp};
+ghost use Rattle.dd_pattern.specs.Filling.{filled};
+ghost use Rattle.dd_formula.specs.LocalRule.{cells_at};
+ghost use Rattle.dd_forbidden.specs.listing.Extensions.{extensions, AreOf, AreSymbols};
+
+use crate::truth::is_true;
+use dd_formula::Rule;
+use dd_lattice::Cell;
+use dd_pattern::Filling;
+use dd_values::Items;
+use std::alloc::{AllocError, Global};
+
+/// Appends the breaking fillings that begin with these symbols, where the rest of the cells has none yet.
+pub(crate) fn extend(
+    alloc: Global,
+    rule: &Rule,
+    node: u32,
+    cells: &[Cell],
+    rest: &[Cell],
+    symbols: &mut Items<u32>,
+    found: &mut Items<Filling>,
+) -> Result<(), AllocError>
+    requires node { node < rule.now.nodes }
+    requires cells { cells.now ≡ cells_at rule.now node }
+    requires ascending { IsStrictlySortedBy cell_cmp cells.now }
+    requires rest { AreOf rule.now rest.now }
+    requires length { length symbols.old + length rest.now ≡ length (cells_at rule.now node) }
+    requires symbols { AreSymbols rule.now symbols.old }
+    ensures found { OnOk result (found.new ≡ found.old ++ map (filled (cells_at rule.now node)) (extensions rule.now node rest.now symbols.old)) }
+    ensures symbols { OnOk result (symbols.new ≡ symbols.old) }
+{
+    let Some((cell, later)) = rest.split_first() else {
+        return push_breaking(alloc, rule, node, cells, symbols.as_slice(), found);
+    };
+    for symbol in 0..rule.symbols() {
+        if rule.allows(cell.node, symbol) {
+            symbols.push(symbol)?;
+            extend(alloc, rule, node, cells, later, symbols, found)?;
+            symbols.pop();
+        }
+    }
+    Ok(())
+}
+
+/// Appends the filling with these symbols, unless the rule is true under it.
+fn push_breaking(
+    alloc: Global,
+    rule: &Rule,
+    node: u32,
+    cells: &[Cell],
+    symbols: &[u32],
+    found: &mut Items<Filling>,
+) -> Result<(), AllocError>
+    requires node { node < rule.now.nodes }
+    requires cells { cells.now ≡ cells_at rule.now node }
+    requires ascending { IsStrictlySortedBy cell_cmp cells.now }
+    requires length { length symbols.now ≡ length (cells_at rule.now node) }
+    requires symbols { AreSymbols rule.now symbols.now }
+    ensures { OnOk result (found.new ≡ found.old ++ map (filled (cells_at rule.now node)) (extensions rule.now node [] symbols.now)) }
+{
+    let expansion = rule.expansion(node);
+    let _below = rule.symbols();
+    let filling = Filling::new(
+        Vec::from_slice(alloc, cells)?,
+        Vec::from_slice(alloc, symbols)?,
+    );
+    if !is_true(expansion, &filling) {
+        found.push(filling)?;
+    }
+    Ok(())
+}
