@@ -60,7 +60,7 @@ const CONTAINED_OR_EQUAL: [(&str, &str); 5] = [
     ),
     (
         "%alphabet 0 1 2 %rule three Ap[o1] (p~o -> p!=o) %rule diagonal o=o.rt.up %empty three %contains diagonal three",
-        "query 1 NO 2 2\nquery 2 NO 2 2\n",
+        "query 1 NO 2 1 shear 1\nquery 2 NO 3 1 shear 2\n",
     ),
 ];
 
