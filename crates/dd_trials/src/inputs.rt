@@ -1,14 +1,11 @@
-// Inputs by cell and symbol, and the one gate of a conjunction.
+// Inputs by cell and symbol.
 ghost use Rattle.std.specs.Prelude.{◌≡◌, pos, IfSome};
 ghost use Rattle.dd_lattice.specs.Place.{place};
 ghost use Rattle.dd_lattice.specs.Cells.{cell};
 
-use crate::scripts::script_of;
-use crate::signals::compiled;
-use dd_circuit::{Gate, Signal};
+use dd_circuit::Signal;
 use dd_compile::Inputs;
-use dd_lattice::{Cell, Position, in_order};
-use dd_values::Items;
+use dd_lattice::{Cell, Position};
 use std::alloc::Global;
 use std::test::Fail;
 
@@ -55,22 +52,5 @@ fn inputs_by_cell_and_symbol(rt: HostRuntime) -> Result<(), Fail> {
         let cell = cell_at(x).ok_or("in range")?;
         assert_eq!(rt; inputs.get(&cell, symbol), signal, "at {x}, {symbol}");
     }
-    Ok(())
-}
-
-#[test]
-fn one_gate_over_two_inputs(rt: HostRuntime) -> Result<(), Fail> {
-    let alloc = rt.alloc();
-    let script = script_of(alloc, &["%dim 1 %rule x o=0 & o=1"])?;
-    let rule = script.rules().first().ok_or("a rule")?;
-    let _nodes = rule.nodes();
-    let cells = in_order(alloc, rule.reads(0))?;
-    let (circuit, signal) = compiled(alloc, rule, 0, &cells)?;
-    let both = Gate::And(Items::from_slice(alloc, &[plus(1), plus(2)])?);
-    assert_eq!(rt; signal, plus(3));
-    assert!(rt; circuit.gates() == [both].as_slice());
-    assert_eq!(rt; circuit.inputs(), 2);
-    let values = circuit.value(alloc, &[true, false])?;
-    assert_eq!(rt; values.as_slice(), [true, false, false].as_slice());
     Ok(())
 }

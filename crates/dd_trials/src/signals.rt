@@ -44,7 +44,7 @@ fn inputs_of(alloc: Global, cells: &[Cell], symbols: u32) -> Result<Inputs, Allo
 }
 
 /// The gates of the rule at a node of the origin, and their signal.
-pub(crate) fn compiled(
+fn compiled(
     alloc: Global,
     rule: &Rule,
     node: u32,
