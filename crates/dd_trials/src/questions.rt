@@ -4,6 +4,7 @@ ghost use Rattle.dd_formula.specs.Counts.{cut};
 ghost use Rattle.dd_boxes.specs.Boxes.{Reaches};
 ghost use Rattle.dd_boxes.specs.Counts.{goal_clauses};
 ghost use Rattle.dd_boxes.specs.Goals.{IsGoalFor, breaks};
+ghost use Rattle.dd_boxes.specs.Laws.{OneBox};
 ghost use Rattle.dd_boxes.specs.Views.{goal_of};
 
 use dd_boxes::one_box;
@@ -32,11 +33,18 @@ fn goal_clauses(goal: &Goal) -> u32
     }
 }
 
+/// Does nothing; its contract is the law of the box of one radius.
+fn one_radius(premise: &Rule, goal: &Goal, _radius: u32)
+    ensures { OneBox premise.now (goal_of goal.now) _radius }
+{
+    one_box(premise, goal);
+}
+
 /// Whether the box of a radius holds all that the goal reads.
 fn reaches(alloc: Global, premise: &Rule, goal: &Goal, radius: u32) -> Result<bool, AllocError>
     ensures { IfOk result (λ found. IsTrue found → Reaches (goal_of goal.now) radius) }
 {
-    one_box(premise, goal);
+    one_radius(premise, goal, radius);
     Ok(least_radius(alloc, goal)? <= radius)
 }
 
