@@ -11,7 +11,8 @@ use Rattle.dd_circuit.specs.declared.gates.Signal.{Signal}
 use Rattle.dd_circuit.specs.declared.gates.Gate.{Gate}
 use Rattle.dd_circuit.specs.declared.gates.Gate.TheVariants.{And, Or, Iff}
 use Rattle.dd_circuit.specs.Circuits.{Network, IsSignal, IsGate, AreGates, signal_value, gate_value, agrees}
-use Rattle.dd_circuit.specs.Valuations.{true_variables, values_from, AreValues}
+use Rattle.dd_circuit.specs.Valuations.{values_from, AreValues}
+use Rattle.dd_values.specs.Variables.{true_variables}
 use Rattle.dd_circuit.proofs.GateLists.{gate_at}
 
 -- two assignments agree on the variables 1..n

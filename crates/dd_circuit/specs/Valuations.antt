@@ -1,11 +1,8 @@
 -- The values of all variables of a circuit.
-use Rattle.std.specs.Prelude.{◌≡◌, ℕ, ◌-◌, Bool, true, false, List, [], ◌∷◌, ◌++◌, length, take, slice_index_or}
+use Rattle.std.specs.Prelude.{◌≡◌, ℕ, Bool, true, List, [], ◌∷◌, ◌++◌, length, take}
+use Rattle.dd_values.specs.Variables.{true_variables}
 use Rattle.dd_circuit.specs.declared.gates.Gate.{Gate}
 use Rattle.dd_circuit.specs.Circuits.{Network, size, gate_value, agrees}
-
--- the value of each variable in a list of values, in which variable 1 comes first
-abbrev pub true_variables : List Bool → ℕ → Bool
-true_variables values variable = slice_index_or values (variable - 1) false
 
 -- the values of all variables, from those of the first: gate by gate, each over the values before it
 abbrev pub values_from : List Bool → List Gate → List Bool

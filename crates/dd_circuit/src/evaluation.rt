@@ -2,7 +2,8 @@
 ghost use Rattle.std.specs.Prelude.{◌≡◌, Bool, List, length, All, IfOk};
 ghost use Rattle.std.specs.List.{list_all, list_any};
 ghost use Rattle.dd_circuit.specs.Circuits.{IsSignal, IsGate, signal_value, gate_value};
-ghost use Rattle.dd_circuit.specs.Valuations.{true_variables, values_from, AreValues};
+ghost use Rattle.dd_circuit.specs.Valuations.{values_from, AreValues};
+ghost use Rattle.dd_values.specs.Variables.{true_variables};
 
 use crate::gates::{Circuit, Gate, Signal};
 use std::alloc::{AllocError, Global};

@@ -1,5 +1,5 @@
 -- Literals, clauses, lists of clauses, and what it is to satisfy them.
-use Rattle.std.specs.Prelude.{◌≡◌, ℕ, ◌-◌, ◌≤◌, Bool, true, false, not, if◌then◌else◌, List, All, slice_index_or}
+use Rattle.std.specs.Prelude.{◌≡◌, ℕ, ◌≤◌, Bool, true, not, if◌then◌else◌, List, All}
 use Rattle.std.specs.List.{list_any}
 use Rattle.dd_clause.specs.declared.clause.Literal.{Literal}
 
@@ -27,10 +27,6 @@ is_clause_true set clause = list_any (is_true set) clause
 -- the set of true variables satisfies the clauses: each has a true literal
 abbrev pub Satisfies : (ℕ → Bool) → List (List Literal) → Type 0
 Satisfies set clauses = All (λ clause. is_clause_true set clause ≡ true) clauses
-
--- the variables that a list of values makes true: the variable k has the value at k - 1
-abbrev pub true_variables : List Bool → ℕ → Bool
-true_variables values k = slice_index_or values (k - 1) false
 
 -- a number of variables, and clauses over them
 pub record ClauseList : Type 0 where

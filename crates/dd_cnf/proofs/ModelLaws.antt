@@ -2,7 +2,8 @@
 use Rattle.std.proofs.Common.{◌≡◌, ℕ, Bool, true, List, refl, sym, ◌∙◌, ◌+◌, ◌++◌, [], drop, add-zero}
 use Rattle.std.proofs.lemmas.List.Sums.{AllPass-from_list_all, list_all-from_AllPass}
 use Rattle.dd_clause.specs.declared.clause.Literal.{Literal}
-use Rattle.dd_clause.specs.Clauses.{is_clause_true, Satisfies, true_variables, ClauseList}
+use Rattle.dd_clause.specs.Clauses.{is_clause_true, Satisfies, ClauseList}
+use Rattle.dd_values.specs.Variables.{true_variables}
 use Rattle.dd_circuit.specs.Circuits.{Network, AreGates, size}
 use Rattle.dd_circuit.specs.Valuations.{values_from}
 use Rattle.dd_circuit.proofs.ValueLaws.{are_values}

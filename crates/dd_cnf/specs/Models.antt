@@ -2,7 +2,8 @@
 use Rattle.std.specs.Prelude.{◌≡◌, ℕ, Bool, List, length, take}
 use Rattle.std.specs.List.{list_all}
 use Rattle.dd_clause.specs.declared.clause.Literal.{Literal}
-use Rattle.dd_clause.specs.Clauses.{is_clause_true, Satisfies, true_variables, ClauseList}
+use Rattle.dd_clause.specs.Clauses.{is_clause_true, Satisfies, ClauseList}
+use Rattle.dd_values.specs.Variables.{true_variables}
 use Rattle.dd_circuit.specs.Circuits.{Network}
 use Rattle.dd_circuit.specs.Valuations.{AreValues}
 

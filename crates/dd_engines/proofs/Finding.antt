@@ -5,7 +5,8 @@ use Rattle.std.proofs.lemmas.Bool.{cases_Bool, ne_eqb, false≢true, not-true, n
 use Rattle.std.proofs.lemmas.List.Sums.{sum_by-cons}
 use Rattle.std.proofs.lemmas.List.Elements.{All-cons, All-nil}
 use Rattle.dd_clause.specs.declared.clause.Literal.{Literal}
-use Rattle.dd_clause.specs.Clauses.{is_true, is_clause_true, true_variables, Satisfies}
+use Rattle.dd_clause.specs.Clauses.{is_true, is_clause_true, Satisfies}
+use Rattle.dd_values.specs.Variables.{true_variables}
 use Rattle.dd_engines.specs.Walks.{is_unsatisfied, first_unsatisfied}
 use Rattle.dd_engines.specs.walking.Truths.{true_count, is_none_at, NoneIsNone}
 

@@ -10,7 +10,8 @@ use Rattle.std.proofs.lemmas.Grind.{get_or-set_at}
 use Rattle.std.proofs.lemmas.List.Sums.{sum_by-cons}
 use Rattle.std.proofs.lemmas.List.Elements.{All-head, All-tail}
 use Rattle.dd_clause.specs.declared.clause.Literal.{Literal}
-use Rattle.dd_clause.specs.Clauses.{negation, IsInRange, IsClauseInRange, is_true, true_variables}
+use Rattle.dd_clause.specs.Clauses.{negation, IsInRange, IsClauseInRange, is_true}
+use Rattle.dd_values.specs.Variables.{true_variables}
 use Rattle.dd_derivation.specs.Derivations.{same_literal}
 use Rattle.dd_engines.specs.Walks.{made_true}
 use Rattle.dd_engines.specs.walking.Truths.{true_count, times_in, standing, more, less, changed}

@@ -8,7 +8,8 @@ use Rattle.std.proofs.lemmas.List.Sums.{sum_by-cons}
 use Rattle.std.proofs.lemmas.List.Elements.{All-weaker, All-same}
 use Rattle.std.proofs.lemmas.Option.{slice_get-get_or}
 use Rattle.dd_clause.specs.declared.clause.Literal.{Literal}
-use Rattle.dd_clause.specs.Clauses.{ClauseList, negation, IsInRange, IsClauseInRange, is_true, true_variables, Satisfies}
+use Rattle.dd_clause.specs.Clauses.{ClauseList, negation, IsInRange, IsClauseInRange, is_true, Satisfies}
+use Rattle.dd_values.specs.Variables.{true_variables}
 use Rattle.dd_engines.specs.Walks.{made_true, first_unsatisfied, after, NoneBefore, IsFirst}
 use Rattle.dd_engines.specs.walking.Truths.{true_count, standing, more, less, changed, HasPlace, list_of, IsListed, NoneIsNone, IsFirstNone}
 use Rattle.dd_engines.specs.walking.Walking.{Walks}

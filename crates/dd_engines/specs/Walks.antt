@@ -3,7 +3,8 @@ use Rattle.std.specs.Prelude.{◌≡◌, ℕ, zero, suc, ◌+◌, ◌-◌, ◌%�
 use Rattle.std.specs.List.{find}
 use Rattle.std.specs.Option.{option_map, option_and_then}
 use Rattle.dd_clause.specs.declared.clause.Literal.{Literal}
-use Rattle.dd_clause.specs.Clauses.{ClauseList, is_clause_true, true_variables}
+use Rattle.dd_clause.specs.Clauses.{ClauseList, is_clause_true}
+use Rattle.dd_values.specs.Variables.{true_variables}
 use Rattle.dd_engines.specs.declared.engine.Proposal.{Proposal}
 use Rattle.dd_engines.specs.declared.engine.Proposal.TheVariants.{Nothing, Found, Refutation}
 use Rattle.dd_engines.specs.Proposals.{IsSatisfying}

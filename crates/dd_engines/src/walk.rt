@@ -3,7 +3,8 @@
 ghost use Rattle.std.specs.Prelude.{◌≡◌, ◌+◌, false, length, replicate, IfOk, OnOk, MatchOption};
 ghost use Rattle.std.specs.Ordering.{nat_cmp};
 ghost use Rattle.std.specs.BTreeSet.{contains};
-ghost use Rattle.dd_clause.specs.Clauses.{IsInRange, is_true, true_variables};
+ghost use Rattle.dd_clause.specs.Clauses.{IsInRange, is_true};
+ghost use Rattle.dd_values.specs.Variables.{true_variables};
 ghost use Rattle.dd_engines.specs.Walks.{made_true, IsFirst, NoneBefore};
 ghost use Rattle.dd_engines.specs.walking.Walking.{Walks};
 

@@ -8,7 +8,7 @@ use Rattle.std.proofs.Math.ListN.{get_or-append}
 use Rattle.std.proofs.Math.Seq.{get_or-append_seam}
 use Rattle.std.proofs.lemmas.List.{ext_get_or}
 use Rattle.std.proofs.lemmas.Option.{slice_get-get_or}
-use Rattle.dd_clause.specs.Clauses.{true_variables}
+use Rattle.dd_values.specs.Variables.{true_variables}
 use Rattle.dd_pattern.specs.declared.periods.Periods.{Periods}
 use Rattle.dd_pattern.specs.Periods.{volume}
 use Rattle.dd_pattern.specs.Tile.{Tile, IsPeriodic, tile}

@@ -16,7 +16,8 @@ use Rattle.dd_formula.specs.Counts.{disallowed}
 use Rattle.dd_clause.specs.Clauses.{is_clause_true}
 use Rattle.dd_circuit.specs.declared.gates.Gate.{Gate}
 use Rattle.dd_circuit.specs.Circuits.{AreGates, agrees}
-use Rattle.dd_circuit.specs.Valuations.{true_variables, values_from}
+use Rattle.dd_circuit.specs.Valuations.{values_from}
+use Rattle.dd_values.specs.Variables.{true_variables}
 use Rattle.dd_circuit.proofs.ValueLaws.{values_from-alike, agrees-values_from}
 use Rattle.dd_circuit.proofs.GateLists.{AreGates-append}
 use Rattle.dd_cnf.specs.Models.{is_satisfied}

@@ -1,6 +1,6 @@
 //! The configuration that a satisfying assignment of a torus's clauses stands for.
 ghost use Rattle.std.specs.Prelude.{◌≡◌, ◌<◌, ◌*◌, ℕ, false, length, slice_index_or, All, IfOk};
-ghost use Rattle.dd_clause.specs.Clauses.{true_variables};
+ghost use Rattle.dd_values.specs.Variables.{true_variables};
 ghost use Rattle.dd_pattern.specs.Periods.{periods_of, volume};
 ghost use Rattle.dd_pattern.specs.Tile.{Tile};
 ghost use Rattle.dd_formula.specs.Living.{Fits};

@@ -1,7 +1,8 @@
 -- What it is for an answer to be right.
 use Rattle.std.specs.Prelude.{◌≡◌, ℕ, Bool, true, List, length}
 use Rattle.dd_clause.specs.declared.clause.Literal.{Literal}
-use Rattle.dd_clause.specs.Clauses.{Satisfies, true_variables}
+use Rattle.dd_clause.specs.Clauses.{Satisfies}
+use Rattle.dd_values.specs.Variables.{true_variables}
 use Rattle.dd_derivation.specs.declared.step.Outcome.{Outcome}
 use Rattle.dd_derivation.specs.declared.step.Outcome.TheVariants.{Found, Refuted}
 use Rattle.dd_derivation.specs.Derivations.{refutes}

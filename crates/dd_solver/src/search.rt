@@ -2,7 +2,8 @@
 // back to where it forces a literal; else decide a variable. Each learned clause is a step of a refutation. It ends
 // since the trail, read as a number in base 3, rises at each propagation, decision and return.
 ghost use Rattle.std.specs.Prelude.{◌≡◌, ℕ, ◌+◌, ◌<◌, ◌≤◌, ◌^◌, [], true, false, length, All, IfOk, OnOk, MatchOption, IsTrue, ◌↔◌};
-ghost use Rattle.dd_clause.specs.Clauses.{IsClauseInRange, Satisfies, true_variables};
+ghost use Rattle.dd_clause.specs.Clauses.{IsClauseInRange, Satisfies};
+ghost use Rattle.dd_values.specs.Variables.{true_variables};
 ghost use Rattle.dd_solver.specs.Entries.{IsFull};
 ghost use Rattle.dd_solver.specs.Search.{State, AreOpen, IsFalsified, IsForced, GoesOn, left};
 ghost use Rattle.dd_solver.specs.Answers.{IsAnswer, IsFound, IsRefuted, IsSatisfiable};

@@ -1,7 +1,8 @@
 // The literals that are true, in the order in which they became so, and which literals are false. What a trail says
 // of a literal depends on its entries alone; one truth value for each literal makes each look cost the same.
 ghost use Rattle.std.specs.Prelude.{◌≡◌, ℕ, ◌+◌, ◌<◌, ◌≤◌, ◌^◌, ◌++◌, ◌∷◌, [], true, false, length, take, slice_set, ◌-◌, IfOk, OnOk, OnErr, MatchOption, IsTrue, ◌↔◌};
-ghost use Rattle.dd_clause.specs.Clauses.{IsInRange, true_variables};
+ghost use Rattle.dd_clause.specs.Clauses.{IsInRange};
+ghost use Rattle.dd_values.specs.Variables.{true_variables};
 ghost use Rattle.dd_derivation.specs.Derivations.{is_among, has_variable};
 ghost use Rattle.dd_solver.specs.Entries.{falses, IsFree, IsFull};
 ghost use Rattle.dd_solver.specs.Values.{code, IsDenied};

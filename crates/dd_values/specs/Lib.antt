@@ -1,2 +1,3 @@
 pub mod Counts
+pub mod Variables
 pub mod formers

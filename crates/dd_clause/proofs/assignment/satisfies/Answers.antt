@@ -2,7 +2,8 @@ use Rattle.std.proofs.Common.{◌≡◌, List, true, get_or, arith}
 use Rattle.std.proofs.lemmas.List.Elements.{All-more}
 use Rattle.std.proofs.lemmas.Grind.{elements}
 use Rattle.dd_clause.specs.declared.clause.Literal.{Literal}
-use Rattle.dd_clause.specs.Clauses.{is_clause_true, true_variables}
+use Rattle.dd_clause.specs.Clauses.{is_clause_true}
+use Rattle.dd_values.specs.Variables.{true_variables}
 use Rattle.dd_clause.proofs.assignment.satisfies.Goals as goal
 
 pub loop-clause-preserved : goal.loop-clause-preserved

@@ -1,5 +1,6 @@
 use Rattle.std.proofs.Common.{take}
-use Rattle.dd_clause.specs.Clauses.{Satisfies, true_variables}
+use Rattle.dd_clause.specs.Clauses.{Satisfies}
+use Rattle.dd_values.specs.Variables.{true_variables}
 use Rattle.dd_clause.proofs.assignment.satisfies.Given as goal
 
 abbrev pub invariant-loop-clause : goal.invariant-loop-clause

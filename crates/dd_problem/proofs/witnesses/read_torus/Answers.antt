@@ -1,5 +1,5 @@
 use Rattle.std.proofs.Common.{◌≡◌, ◌*◌, ap, ◌∙◌, arith, sym, subst}
-use Rattle.dd_clause.specs.Clauses.{true_variables}
+use Rattle.dd_values.specs.Variables.{true_variables}
 use Rattle.dd_pattern.specs.Periods.{periods_of, volume}
 use Rattle.dd_pattern.specs.Tile.{Tile, tile}
 use Rattle.dd_problem.specs.Symbols.{AreRead}

@@ -1,5 +1,5 @@
 use Rattle.std.proofs.Common.{◌≡◌, ◌+◌, ◌*◌, ap, sym, ◌∙◌, arith}
-use Rattle.dd_clause.specs.Clauses.{true_variables}
+use Rattle.dd_values.specs.Variables.{true_variables}
 use Rattle.dd_problem.proofs.SymbolsRead.{input_value, here_read, none_read}
 use Rattle.dd_problem.proofs.witnesses.symbol_read.Goals as goal
 

@@ -1,4 +1,4 @@
-use Rattle.dd_clause.specs.Clauses.{true_variables}
+use Rattle.dd_values.specs.Variables.{true_variables}
 use Rattle.dd_problem.specs.Symbols.{AreAllRead}
 use Rattle.dd_problem.proofs.witnesses.symbols_read.Given as goal
 

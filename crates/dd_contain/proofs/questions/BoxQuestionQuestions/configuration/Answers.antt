@@ -1,4 +1,4 @@
-use Rattle.dd_clause.specs.Clauses.{true_variables}
+use Rattle.dd_values.specs.Variables.{true_variables}
 use Rattle.dd_boxes.specs.Views.{goal_of}
 use Rattle.dd_contain.proofs.ShownLaws.{one_each, read_shows}
 use Rattle.dd_contain.proofs.questions.BoxQuestionQuestions.configuration.Goals as goal

@@ -1,5 +1,6 @@
 use Rattle.std.proofs.Common.{◌≡◌, ℕ, ◌≤◌, true, false, length, subst, sym}
-use Rattle.dd_clause.specs.Clauses.{Satisfies, true_variables}
+use Rattle.dd_clause.specs.Clauses.{Satisfies}
+use Rattle.dd_values.specs.Variables.{true_variables}
 use Rattle.dd_derivation.specs.Derivations.{is_among, has_variable}
 use Rattle.dd_solver.specs.Entries.{falses}
 use Rattle.dd_solver.specs.Search.{State, AreOpen}
