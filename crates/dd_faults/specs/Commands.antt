@@ -1,14 +1,11 @@
 -- The faults of commands, in the order of their text.
-use Rattle.std.specs.Prelude.{◌≡◌, ℕ, ◌≤◌, ◌+◌, ◌*◌, ◌%◌, List, [], ◌∷◌, ◌++◌, length, Bool, true, false, not, ◌&&◌, ◌||◌, ◌==◌, nat_le, nat_lt, Option, Some, None, slice_get, if◌then◌else◌}
+use Rattle.std.specs.Prelude.{ℕ, ◌+◌, List, [], ◌++◌, length, Bool, false, not, ◌&&◌, ◌||◌, ◌==◌, nat_le, nat_lt}
 use Rattle.std.specs.List.{flat_map, list_any, zip}
 use Rattle.std.specs.Option.{option_map_or}
 use Rattle.dd_topology.specs.declared.builtin.Kind.{Kind}
 use Rattle.dd_topology.specs.declared.builtin.Kind.TheVariants as kind
-use Rattle.dd_topology.specs.Sets.{allows}
 use Rattle.dd_written.specs.declared.lexeme.Word.{Word}
 use Rattle.dd_written.specs.declared.lexeme.Number.{Number}
-use Rattle.dd_written.specs.declared.lexeme.Lexeme.{Lexeme}
-use Rattle.dd_written.specs.declared.lexeme.Lexeme.TheVariants as lexeme
 use Rattle.dd_written.specs.declared.tree.Name.{Name}
 use Rattle.dd_written.specs.declared.tree.Name.TheVariants as name
 use Rattle.dd_written.specs.Values.{value}
@@ -16,7 +13,6 @@ use Rattle.dd_commands.specs.declared.table.Role.{Role}
 use Rattle.dd_commands.specs.declared.table.Lists.{Lists}
 use Rattle.dd_commands.specs.declared.table.Lists.TheVariants as lists
 use Rattle.dd_commands.specs.declared.command.Entry.{Entry}
-use Rattle.dd_commands.specs.declared.command.Entry.TheVariants as entry
 use Rattle.dd_commands.specs.declared.command.Vector.{Vector}
 use Rattle.dd_commands.specs.declared.command.Edge.{Edge}
 use Rattle.dd_commands.specs.declared.command.Case.{Case}
@@ -31,41 +27,11 @@ use Rattle.dd_faults.specs.declared.fault.Fault.TheVariants as fault
 use Rattle.dd_faults.specs.declared.context.Known.{Known}
 use Rattle.dd_faults.specs.declared.context.Context.{Context}
 use Rattle.dd_faults.specs.Order.{when, over}
+pub use Rattle.dd_faults.specs.Numbers.{unless, dimension_of, token_faults, entry_number, entry_value, has_entries, is_far}
+pub use Rattle.dd_faults.specs.Boxes.{HasSets, is_allowed, symbol_faults, product, period_at, shear_of, shear_fits, box_fits, box_faults}
 use Rattle.dd_faults.specs.Names.{place_of, missing, named, named_again}
 use Rattle.dd_faults.specs.Formulas.{formula_faults}
 use Rattle.dd_faults.specs.Repeats.{twice_named, twice_labelled, twice_vectors}
-
-abbrev pub unless : Bool → List Fault
-unless fits = when (not fits) fault.Dimension
-
-abbrev pub dimension_of : Known → ℕ
-dimension_of k = k.setting.topology.dimension
-
--- ---- tokens
-
-abbrev pub token_faults : List ℕ → Lexeme → List Fault
-token_faults bytes (lexeme.Word w) = over (nat_lt 32 w.length) limit.Word
-token_faults bytes (lexeme.Number n) = over (nat_lt 1000000 (value bytes n)) limit.Number
-token_faults bytes (lexeme.Negative n) = over (nat_lt 1000000 (value bytes n)) limit.Number
-token_faults bytes (lexeme.Mark m) = []
-token_faults bytes lexeme.Stray = []
-
--- ---- vectors
-
--- the number of an entry, without its sign
-abbrev pub entry_number : Entry → Number
-entry_number (entry.Number n) = n
-entry_number (entry.Negative n) = n
-
-abbrev pub entry_value : List ℕ → Entry → ℕ
-entry_value bytes e = value bytes (entry_number e)
-
-abbrev pub has_entries : ℕ → Vector → Bool
-has_entries d v = length v.entries == d
-
--- an entry of more than 4 in absolute value
-abbrev pub is_far : List ℕ → Vector → Bool
-is_far bytes v = list_any (λ e. nat_lt 4 (entry_value bytes e)) v.entries
 
 -- ---- the header
 
@@ -110,47 +76,6 @@ passes_limits radius period pivots = nat_lt 8 radius || nat_lt period 1 || nat_l
 
 abbrev pub case_faults : Context → Case → List Fault
 case_faults x c = formula_faults x c.condition [] ++ missing x.text x.known.setting.symbols c.symbol
-
--- there is a node, and each node has its symbols
-abbrev pub HasSets : Known → Type 0
-HasSets k = (1 ≤ length k.setting.nodes) × (length k.setting.sets.allowed ≡ length k.setting.nodes)
-
--- whether the name is that of a symbol that the node allows
-abbrev pub is_allowed : Context → ℕ → Name → Bool
-is_allowed x a n = option_map_or (λ t. allows x.known.setting.sets a t) (place_of x.text x.known.setting.symbols n) false
-
--- symbols from the k-th on: the nodes stand innermost
-abbrev pub symbol_faults : Context → ℕ → List Name → List Fault
-symbol_faults x k [] = []
-symbol_faults x k (n ∷ ns) = when (not (is_allowed x (k % length x.known.setting.nodes) n)) (fault.Unknown n) ++ symbol_faults x (k + 1) ns
-
-abbrev pub product : List ℕ → List Entry → ℕ
-product bytes [] = 1
-product bytes (e ∷ es) = entry_value bytes e * product bytes es
-
--- the value of the entry for an axis, and 1 where there is none
-abbrev pub period_at : List ℕ → Vector → ℕ → ℕ
-period_at bytes v axis = option_map_or (entry_value bytes) (slice_get v.entries axis) 1
-
--- the shear, and 0 where none is given
-abbrev pub shear_of : List ℕ → Option Vector → ℕ
-shear_of bytes None = 0
-shear_of bytes (Some v) = option_map_or (entry_value bytes) (slice_get v.entries 0) 0
-
--- a second list has one entry, and there is a second axis
-abbrev pub shear_fits : ℕ → Option Vector → Bool
-shear_fits d None = true
-shear_fits d (Some v) = nat_le 2 d && has_entries 1 v
-
-abbrev pub box_fits : Context → Vector → Option Vector → ℕ → Bool
-box_fits x periods shear count =
-    has_entries (dimension_of x.known) periods && shear_fits (dimension_of x.known) shear && product x.text periods.entries * length x.known.setting.nodes == count
-
--- where the numbers of entries fit, no period is 0, since there is a symbol
-abbrev pub box_faults : Context → Vector → Option Vector → ℕ → List Fault
-box_faults x periods shear count =
-    if box_fits x periods shear count then over (nat_lt 65536 count || nat_le (period_at x.text periods 0) (shear_of x.text shear)) limit.Periods
-    else fault.Dimension ∷ []
 
 -- ---- questions
 

@@ -6,7 +6,13 @@ pub mod Names
 pub mod Formulas
 -- what is given twice
 pub mod Repeats
+-- the faults of tokens, numbers and vectors
+pub mod Numbers
+-- the faults of configurations
+pub mod Boxes
 -- the faults of commands
 pub mod Commands
+-- what every script keeps
+pub mod Sound
 -- what comes of adding to what was seen
 pub mod walk

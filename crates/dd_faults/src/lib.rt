@@ -3,7 +3,10 @@
 #![tactic(auto)]
 
 mod atoms;
+mod boxes;
 mod cases;
+mod checking;
+mod commands;
 mod context;
 mod fault;
 mod formulas;
@@ -14,5 +17,6 @@ mod requests;
 mod symbols;
 mod twice;
 
+pub use checking::check;
 pub use context::{Context, Known, Setting};
 pub use fault::{Fault, Limit, Refusal, refuse_if};

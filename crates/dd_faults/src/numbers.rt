@@ -39,7 +39,7 @@ pub(crate) fn tokens(text: &Text, tokens: &[Lexeme], found: &mut Option<Fault>)
 }
 
 /// The absolute value of an entry, and the greatest number of 32 bits for all that are greater.
-fn entry_value(text: &Text, entry: Entry) -> u32
+pub(crate) fn entry_value(text: &Text, entry: Entry) -> u32
     ensures { result ≡ min (entry_value text.now entry) 4294967295 }
 {
     match entry {

@@ -1,0 +1,56 @@
+-- The faults of the symbols, periods and shears of configurations.
+use Rattle.std.specs.Prelude.{◌≡◌, ℕ, ◌≤◌, ◌+◌, ◌*◌, ◌%◌, List, [], ◌∷◌, ◌++◌, length, Bool, true, false, not, ◌&&◌, ◌||◌, ◌==◌, nat_le, nat_lt, Option, Some, None, slice_get, if◌then◌else◌}
+use Rattle.std.specs.Option.{option_map_or}
+use Rattle.dd_topology.specs.Sets.{allows}
+use Rattle.dd_written.specs.declared.tree.Name.{Name}
+use Rattle.dd_commands.specs.declared.command.Entry.{Entry}
+use Rattle.dd_commands.specs.declared.command.Vector.{Vector}
+use Rattle.dd_faults.specs.declared.fault.Limit.TheVariants as limit
+use Rattle.dd_faults.specs.declared.fault.Fault.{Fault}
+use Rattle.dd_faults.specs.declared.fault.Fault.TheVariants as fault
+use Rattle.dd_faults.specs.declared.context.Known.{Known}
+use Rattle.dd_faults.specs.declared.context.Context.{Context}
+use Rattle.dd_faults.specs.Order.{when, over}
+use Rattle.dd_faults.specs.Names.{place_of}
+use Rattle.dd_faults.specs.Numbers.{dimension_of, entry_value, has_entries}
+
+-- there is a node, and each node has its symbols
+abbrev pub HasSets : Known → Type 0
+HasSets k = (1 ≤ length k.setting.nodes) × (length k.setting.sets.allowed ≡ length k.setting.nodes)
+
+-- whether the name is that of a symbol that the node allows
+abbrev pub is_allowed : Context → ℕ → Name → Bool
+is_allowed x a n = option_map_or (λ t. allows x.known.setting.sets a t) (place_of x.text x.known.setting.symbols n) false
+
+-- symbols from the k-th on: the nodes stand innermost
+abbrev pub symbol_faults : Context → ℕ → List Name → List Fault
+symbol_faults x k [] = []
+symbol_faults x k (n ∷ ns) = when (not (is_allowed x (k % length x.known.setting.nodes) n)) (fault.Unknown n) ++ symbol_faults x (k + 1) ns
+
+abbrev pub product : List ℕ → List Entry → ℕ
+product bytes [] = 1
+product bytes (e ∷ es) = entry_value bytes e * product bytes es
+
+-- the value of the entry for an axis, and 1 where there is none
+abbrev pub period_at : List ℕ → Vector → ℕ → ℕ
+period_at bytes v axis = option_map_or (entry_value bytes) (slice_get v.entries axis) 1
+
+-- the shear, and 0 where none is given
+abbrev pub shear_of : List ℕ → Option Vector → ℕ
+shear_of bytes None = 0
+shear_of bytes (Some v) = option_map_or (entry_value bytes) (slice_get v.entries 0) 0
+
+-- a second list has one entry, and there is a second axis
+abbrev pub shear_fits : ℕ → Option Vector → Bool
+shear_fits d None = true
+shear_fits d (Some v) = nat_le 2 d && has_entries 1 v
+
+abbrev pub box_fits : Context → Vector → Option Vector → ℕ → Bool
+box_fits x periods shear count =
+    has_entries (dimension_of x.known) periods && shear_fits (dimension_of x.known) shear && product x.text periods.entries * length x.known.setting.nodes == count
+
+-- where the numbers of entries fit, no period is 0, since there is a symbol
+abbrev pub box_faults : Context → Vector → Option Vector → ℕ → List Fault
+box_faults x periods shear count =
+    if box_fits x periods shear count then over (nat_lt 65536 count || nat_le (period_at x.text periods 0) (shear_of x.text shear)) limit.Periods
+    else fault.Dimension ∷ []
