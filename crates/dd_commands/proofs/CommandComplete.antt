@@ -38,7 +38,7 @@ use Rattle.dd_commands.specs.Table.{row}
 use Rattle.dd_commands.specs.Heads.{head_text, head_of, kind_text}
 use Rattle.dd_commands.specs.Commands.{entry_lexeme, vector_text, is_plain, shear_text, IsPlainShear, edge_text, IsBehind, IsCase, AreCases, AreLists, IsRequest, request_text, IsBody, IsCommand}
 use Rattle.dd_commands.specs.reading.Vectors.{some_alone, exactly, word_at, is_name, is_number, number_at, is_entry, entry_at, names_at, numbers_at, vector_end, vector_at, plain_at, is_vector, shear_at, edge_at, is_edge, names_of}
-use Rattle.dd_commands.specs.reading.Heads.{plain_at as plain_head_at, question_at, head_at, kind_at}
+use Rattle.dd_commands.specs.reading.Heads.{head_at, kind_at}
 use Rattle.dd_commands.specs.reading.Commands.{case_at, cases_at, otherwise_of, lists_of, request_of, edges_of, topology_of, only_of, weights_of, rule_of, automaton_of, configuration_of, body_of, command_of}
 use Rattle.dd_commands.proofs.Many.{many_again, ByText, texts_stand}
 
@@ -146,7 +146,8 @@ behind_again bytes wanted tokens rest b = ap (behind_word bytes wanted) b.2 ∙ 
 starts_again : (bytes wanted : List ℕ) (tokens rest : List Lexeme) → IsBehind bytes wanted tokens rest → starts_word bytes wanted tokens ≡ true
 starts_again bytes wanted tokens rest b = ap (starts_word bytes wanted) b.2 ∙ same_text (word_text bytes b.0) wanted b.1
 
-question_again : (q : Question) → question_at (row q).word ≡ Some q
+-- no question begins with the word of another command
+question_again : (q : Question) → head_at (row q).word ≡ Some (head.Question q)
 question_again question.Member = refl
 question_again question.Contains = refl
 question_again question.Equal = refl
@@ -155,17 +156,6 @@ question_again question.Agree = refl
 question_again question.Forbidden = refl
 question_again question.Density = refl
 question_again question.Discharge = refl
-
--- no question begins with the word of another command
-question_no_other : (q : Question) → plain_head_at (row q).word ≡ None
-question_no_other question.Member = refl
-question_no_other question.Contains = refl
-question_no_other question.Equal = refl
-question_no_other question.Empty = refl
-question_no_other question.Agree = refl
-question_no_other question.Forbidden = refl
-question_no_other question.Density = refl
-question_no_other question.Discharge = refl
 
 head_again : (h : Head) → head_at (head_text h) ≡ Some h
 head_again head.Dimension = refl
@@ -179,7 +169,7 @@ head_again head.Rule = refl
 head_again head.Automaton = refl
 head_again head.Composition = refl
 head_again head.Configuration = refl
-head_again (head.Question q) = rw (question_no_other q, question_again q) refl
+head_again (head.Question q) = question_again q
 
 kind_again : (k : Kind) → kind_at (kind_text k) ≡ Some k
 kind_again kind.Line = refl
