@@ -1,8 +1,9 @@
-pub mod FaultlessLaws
+pub mod Nils
+pub mod WordLaws
+pub mod EntryLaws
 pub mod ShapeLaws
 pub mod TextLaws
 pub mod VectorLaws
-pub mod SoundLaws
+pub mod AskedLaws
 pub mod CutLaws
 pub mod LimitLaws
-pub mod ReadLaws

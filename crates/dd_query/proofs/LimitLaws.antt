@@ -8,35 +8,35 @@ use Rattle.std.proofs.lemmas.Bool.{cases_Bool, both_ways, and_parts, eqb-true}
 use Rattle.std.proofs.lemmas.Option.{slice_get_read}
 use Rattle.std.proofs.lemmas.List.Folds.{list_any-append}
 use Rattle.dd_formula.proofs.Ranges.{range_push}
-use Rattle.dd_naming.specs.declared.fault.Fault.{Fault}
-use Rattle.dd_naming.specs.declared.fault.Limit.{Limit}
-use Rattle.dd_naming.specs.declared.fault.Refusal.{Refusal}
-use Rattle.dd_naming.specs.Resolving.{Accepts}
-use Rattle.dd_refusal.specs.declared.known.Known.{Known}
-use Rattle.dd_refusal.specs.Sizes.{over}
+use Rattle.dd_boxes.specs.Counts.{most_clauses}
+use Rattle.dd_faults.specs.declared.fault.Fault.{Fault}
+use Rattle.dd_faults.specs.declared.fault.Limit.{Limit}
+use Rattle.dd_faults.specs.declared.fault.Refusal.{Refusal}
+use Rattle.dd_faults.specs.Order.{over, first_fault, Accepts}
+use Rattle.dd_faults.specs.declared.context.Known.{Known}
 use Rattle.dd_formula.specs.LocalRule.{LocalRule}
 use Rattle.dd_formula.specs.Counts.{cut, largest_clauses}
 use Rattle.dd_formula.specs.Automata.{Setting, IsAutomaton, rule_has}
 use Rattle.dd_formula.specs.Compositions.{HaveNodes}
 use Rattle.dd_formula.specs.declared.automaton.Automaton.{Automaton}
-use Rattle.dd_header.specs.Sound.{numbers_of}
 use Rattle.dd_query.specs.Limits.{Aim, about, is_long, clauses_of}
-use Rattle.dd_query.specs.Made.{AreMade}
+use Rattle.dd_query.specs.Made.{numbers_of, IsRuleOf, AreMade}
 use Rattle.dd_query.proofs.CutLaws.{passes}
 
 -- what is said of an item at its place
 pub accepts_at : {X : Type 0} (r : Result (Unit {0}) Refusal) (xs : List X) (n : ℕ) (x : X) (faults : X → List Fault) → n < length xs → x ≡ get_or xs n x
-    → Accepts r (faults x) → Accepts r (about xs n faults)
+    → Accepts r (first_fault (faults x)) → Accepts r (first_fault (about xs n faults))
 accepts_at r xs n x faults below is h =
     let there : slice_get xs n ≡ Some x = slice_get_read xs (length xs) n x refl below is in
-    subst (λ (o : Option _). Accepts r (option_map_or faults o [])) (sym there) h
+    subst (λ (o : Option _). Accepts r (first_fault (option_map_or faults o []))) (sym there) h
 
 automaton_at : (s : Setting) (fs : List Automaton) (n : ℕ) (f : Automaton) → All (IsAutomaton s) fs → n < length fs → f ≡ get_or fs n f → IsAutomaton s f
 automaton_at s fs n f all below is = subst (IsAutomaton s) (sym is) (all n f below)
 
-rule_at : (s : Setting) (rs : List LocalRule) (n : ℕ) (r : LocalRule) → All (λ r. rule_has s r ≡ true) rs → n < length rs → r ≡ get_or rs n r → r.nodes ≡ s.nodes
-rule_at s rs n r all below is =
-    let has : rule_has s r ≡ true = ap (rule_has s) is ∙ all n r below in
+rule_at : (k : Known) (rs : List LocalRule) (n : ℕ) (r : LocalRule) → All (IsRuleOf k) rs → n < length rs → r ≡ get_or rs n r → r.nodes ≡ k.setting.topology.nodes
+rule_at k rs n r all below is =
+    let s = numbers_of k in
+    let has : rule_has s r ≡ true = ap (rule_has s) is ∙ (all n r below).has in
     let front = and_parts (r.dimension == s.dimension && r.nodes == s.nodes) (r.symbols == s.symbols) has in
     eqb-true r.nodes s.nodes (and_parts (r.dimension == s.dimension) (r.nodes == s.nodes) front.0).1
 
@@ -46,7 +46,7 @@ pub have_nodes : (k : Known) (rs : List LocalRule) (fs : List Automaton) (m n j 
 have_nodes k rs fs m n j f g r made bm bn bj isf isg isr =
     let named = made.automata_named in
     let ruled = made.rules_named in
-    let same : r.nodes ≡ (numbers_of k).nodes = rule_at (numbers_of k) rs j r made.rules_have (omega arith) isr in
+    let same : r.nodes ≡ (numbers_of k).nodes = rule_at k rs j r made.rules_have (omega arith) isr in
     record {
       both =
           record {
@@ -79,11 +79,11 @@ pub some_at : (p : ℕ → Bool) (n a : ℕ) → a < n → p a ≡ true → list
 some_at p n a below here = some_from p 0 n a (omega arith) (omega arith) here
 
 -- a limit that is passed where another test says so
-pub accepts_over : (r : Result (Unit {0}) Refusal) (a b : Bool) (l : Limit) → a ≡ b → Accepts r (over a l) → Accepts r (over b l)
-accepts_over r a b l same h = subst (λ (t : Bool). Accepts r (over t l)) same h
+pub accepts_over : (r : Result (Unit {0}) Refusal) (a b : Bool) (l : Limit) → a ≡ b → Accepts r (first_fault (over a l)) → Accepts r (first_fault (over b l))
+accepts_over r a b l same h = subst (λ (t : Bool). Accepts r (first_fault (over t l))) same h
 
 pub long_is : (k : Known) (x : LocalRule) (g : Aim) (radius far count : ℕ) → radius ≡ max k.limits.radius far → far ≡ g.radius
-    → count ≡ cut 2000000 (largest_clauses x g.clauses radius k.limits.period) → nat_lt 2000000 count ≡ is_long k x g
+    → count ≡ cut most_clauses (largest_clauses x g.clauses radius k.limits.period) → nat_lt most_clauses count ≡ is_long k x g
 long_is k x g radius far count greater r is =
     let most : radius ≡ max k.limits.radius g.radius = greater ∙ ap (max k.limits.radius) r in
-    passes 2000000 (clauses_of k x g) count (is ∙ ap (λ e. cut 2000000 (largest_clauses x g.clauses e k.limits.period)) most)
+    passes most_clauses (clauses_of k x g) count (is ∙ ap (λ e. cut most_clauses (largest_clauses x g.clauses e k.limits.period)) most)

@@ -1,92 +1,135 @@
--- The strips and the vectors of commands without a fault.
-use Rattle.std.proofs.Common.{◌≡◌, ◌≤◌, ◌+◌, ℕ, zero, suc, true, false, List, [], ◌∷◌, length, map, refl, ap, arith}
-use Rattle.std.specs.Prelude.{◌||◌, nat_lt, nat_le, cond, pos, unsigned_abs}
-use Rattle.std.specs.List.{list_any, list_all, slice_get}
+-- The strips and the vectors of questions without a fault.
+use Rattle.std.proofs.Common.{◌≡◌, ◌≤◌, ◌+◌, ℕ, zero, suc, true, false, List, [], ◌∷◌, None, length, map, refl, ap, arith}
+use Rattle.std.specs.Prelude.{◌==◌, ◌≢◌, nat_lt, nat_le, cond, pos, ◌-ℤ◌, unsigned_abs, slice_get, slice_index, AllPairs}
+use Rattle.std.specs.List.{list_any, list_all, flat_map}
 use Rattle.std.specs.Option.{option_map_or}
 use Rattle.std.proofs.lemmas.Bool.{eqb-true, ltb-false, lt-ltb, le-leb, and_parts, and_from}
 use Rattle.std.proofs.lemmas.Bool.Decides.{nat_tests}
 use Rattle.std.proofs.lemmas.Int.{ints}
-use Rattle.dd_grammar.specs.declared.lexeme.Number.{Number}
-use Rattle.dd_syntax.specs.declared.command.Entry.{Entry}
-use Rattle.dd_syntax.specs.declared.command.Entry.TheVariants as entry
-use Rattle.dd_syntax.specs.declared.command.Offset.{Offset}
 use Rattle.dd_topology.specs.Grid.{edge_reach, is_offset}
-use Rattle.dd_refusal.specs.Misfits.{period_at, has_entries, has_one_less}
-use Rattle.dd_refusal.specs.Sizes.{is_no_strip, is_far_entry, is_far}
-use Rattle.dd_header.specs.Offsets.{entry_value, coordinate, place_of}
-use Rattle.dd_query.specs.Queries.{strip_of}
+use Rattle.dd_written.specs.declared.lexeme.Number.{Number}
+use Rattle.dd_written.specs.Values.{value}
+use Rattle.dd_commands.specs.declared.command.Entry.{Entry}
+use Rattle.dd_commands.specs.declared.command.Entry.TheVariants as entry
+use Rattle.dd_commands.specs.declared.command.Vector.{Vector}
+use Rattle.dd_faults.specs.declared.fault.Limit.TheVariants as limit
+use Rattle.dd_faults.specs.declared.context.Context.{Context}
+use Rattle.dd_faults.specs.Order.{over}
+use Rattle.dd_faults.specs.Commands.{unless, dimension_of, entry_value, has_entries, is_far, radius_faults, is_no_strip, strip_faults, vector_faults}
+use Rattle.dd_query.specs.Vectors.{signed_value, coordinate, place_of}
+use Rattle.dd_query.specs.Queries.{periods_of}
 use Rattle.dd_query.specs.Sound.{IsStrip, AreVectors}
-use Rattle.dd_header.proofs.Faultless.{neither}
+use Rattle.dd_query.proofs.Nils.{both_nil, fits, within, neither}
+
+-- ---- numbers
+
+pub value_small : (x : Context) (ns : List Number) (i : ℕ) → flat_map (radius_faults x) ns ≡ [] → slice_index (map (value x.text) ns) i ≤ 3
+value_small x [] i none = omega arith
+value_small x (n ∷ ns) zero none = ltb-false 3 (value x.text n) (within (nat_lt 3 (value x.text n)) limit.Radius (both_nil (radius_faults x n) (flat_map (radius_faults x) ns) none).0)
+value_small x (n ∷ ns) (suc i) none = value_small x ns i (both_nil (radius_faults x n) (flat_map (radius_faults x) ns) none).1
+
+pub no_value : (f : Number → ℕ) (ns : List Number) (i : ℕ) → None ≡ slice_get ns i → slice_index (map f ns) i ≡ 0
+no_value f [] i h = refl
+no_value f (n ∷ ns) zero h = absurd cc
+no_value f (n ∷ ns) (suc i) h = no_value f ns i h
 
 -- ---- strips
 
-period_within : (ps : List Number) (j : ℕ) → list_any is_no_strip ps ≡ false → (1 ≤ period_at ps j) × (period_at ps j ≤ 64)
-period_within [] j h = (omega arith, omega arith)
-period_within (p ∷ ps) zero h =
-    let here = neither (nat_lt p.value 1) (nat_lt 64 p.value) (neither (is_no_strip p) (list_any is_no_strip ps) h).0 in
-    (ltb-false p.value 1 here.0, ltb-false 64 p.value here.1)
-period_within (p ∷ ps) (suc j) h = period_within ps j (neither (is_no_strip p) (list_any is_no_strip ps) h).1
+abbrev entry_at : List ℕ → List Entry → ℕ → ℕ
+entry_at bytes es axis = option_map_or (entry_value bytes) (slice_get es axis) 1
 
-no_period : (ps : List Number) (j : ℕ) → length ps ≤ j → period_at ps j ≡ 1
-no_period [] j h = refl
-no_period (p ∷ ps) zero h = absurd (omega arith)
-no_period (p ∷ ps) (suc j) h = no_period ps j (omega arith)
+period_within : (bytes : List ℕ) (es : List Entry) (j : ℕ) → list_any (is_no_strip bytes) es ≡ false → (1 ≤ entry_at bytes es j) × (entry_at bytes es j ≤ 64)
+period_within bytes [] j h = (omega arith, omega arith)
+period_within bytes (e ∷ es) zero h =
+    let here = neither (nat_lt (entry_value bytes e) 1) (nat_lt 64 (entry_value bytes e)) (neither (is_no_strip bytes e) (list_any (is_no_strip bytes) es) h).0 in
+    (ltb-false (entry_value bytes e) 1 here.0, ltb-false 64 (entry_value bytes e) here.1)
+period_within bytes (e ∷ es) (suc j) h = period_within bytes es j (neither (is_no_strip bytes e) (list_any (is_no_strip bytes) es) h).1
 
-pub strip_is : (d : ℕ) (ps : List Number) → has_one_less d ps ≡ true → list_any is_no_strip ps ≡ false → IsStrip d (strip_of ps)
-strip_is d ps one short =
-    let less : length ps + 1 ≡ d = eqb-true (length ps + 1) d one in
+no_period : (bytes : List ℕ) (es : List Entry) (j : ℕ) → length es ≤ j → entry_at bytes es j ≡ 1
+no_period bytes [] j h = refl
+no_period bytes (e ∷ es) zero h = absurd (omega arith)
+no_period bytes (e ∷ es) (suc j) h = no_period bytes es j (omega arith)
+
+-- the one vector of a strip
+pub strip_is : (x : Context) (v : Vector) → flat_map (strip_faults x) (v ∷ []) ≡ [] → IsStrip (dimension_of x.known) (periods_of x.text (v ∷ []))
+strip_is x v none =
+    let d = dimension_of x.known in
+    let both = both_nil (unless (length v.entries + 1 == d)) (over (list_any (is_no_strip x.text) v.entries) limit.Periods) (both_nil (strip_faults x v) [] none).0 in
+    let less : length v.entries + 1 ≡ d = eqb-true (length v.entries + 1) d (fits (length v.entries + 1 == d) both.0) in
+    let short = within (list_any (is_no_strip x.text) v.entries) limit.Periods both.1 in
     record {
-      second = period_within ps 0 short;
-      third = period_within ps 1 short;
-      no_second = λ h. no_period ps 0 (omega (arith, less, h));
-      no_third = λ h. no_period ps 1 (omega (arith, less, h));
+      second = period_within x.text v.entries 0 short;
+      third = period_within x.text v.entries 1 short;
+      no_second = λ h. no_period x.text v.entries 0 (omega (arith, less, h));
+      no_third = λ h. no_period x.text v.entries 1 (omega (arith, less, h));
     }
 
 -- ---- vectors
 
-close_entry : (e : Entry) → is_far_entry e ≡ false → unsigned_abs (entry_value e) ≤ 4
-close_entry (entry.Number n) h = ltb-false 4 n.value h
-close_entry (entry.Negative n) h = let small : n.value ≤ 4 = ltb-false 4 n.value h in omega (arith, ints, small)
+close_entry : (bytes : List ℕ) (e : Entry) → nat_lt 4 (entry_value bytes e) ≡ false → unsigned_abs (signed_value bytes e) ≤ 4
+close_entry bytes (entry.Number n) h = ltb-false 4 (value bytes n) h
+close_entry bytes (entry.Negative n) h = negated (value bytes n) (ltb-false 4 (value bytes n) h)
+  where
+    negated : (m : ℕ) → m ≤ 4 → unsigned_abs (pos 0 -ℤ pos m) ≤ 4
+    negated zero small = omega arith
+    negated (suc m) small = omega (arith, ints, small)
 
 one_further : (a b : ℕ) → nat_lt (suc a) (suc b) ≡ nat_lt a b
 one_further a b = grind (arith, nat_tests)
 
-close_at : (es : List Entry) (axis : ℕ) → list_any is_far_entry es ≡ false →
-    unsigned_abs (option_map_or entry_value (slice_get es axis) (pos 0)) ≤ cond (nat_lt axis (length es)) 4 0
-close_at [] axis h = omega (arith, ints)
-close_at (e ∷ es) zero h =
+close_at : (bytes : List ℕ) (es : List Entry) (axis : ℕ) → list_any (λ e. nat_lt 4 (entry_value bytes e)) es ≡ false →
+    unsigned_abs (option_map_or (signed_value bytes) (slice_get es axis) (pos 0)) ≤ cond (nat_lt axis (length es)) 4 0
+close_at bytes [] axis h = omega (arith, ints)
+close_at bytes (e ∷ es) zero h =
     let inside : nat_lt 0 (length (e ∷ es)) ≡ true = lt-ltb 0 (length (e ∷ es)) (omega arith) in
-    rw inside (close_entry e (neither (is_far_entry e) (list_any is_far_entry es) h).0)
-close_at (e ∷ es) (suc axis) h =
+    rw inside (close_entry bytes e (neither (nat_lt 4 (entry_value bytes e)) (list_any (λ a. nat_lt 4 (entry_value bytes a)) es) h).0)
+close_at bytes (e ∷ es) (suc axis) h =
     let same : nat_lt (suc axis) (length (e ∷ es)) ≡ nat_lt axis (length es) = one_further axis (length es) in
-    rw same (close_at es axis (neither (is_far_entry e) (list_any is_far_entry es) h).1)
+    rw same (close_at bytes es axis (neither (nat_lt 4 (entry_value bytes e)) (list_any (λ a. nat_lt 4 (entry_value bytes a)) es) h).1)
 
-on_axis : (d : ℕ) (v : Offset) (axis : ℕ) → is_far v ≡ false → has_entries d v ≡ true → nat_le (unsigned_abs (coordinate v axis)) (edge_reach d axis) ≡ true
-on_axis d v axis close all =
-    le-leb _ _ (rw (← eqb-true (length v.entries) d all) (close_at v.entries axis close))
+on_axis : (bytes : List ℕ) (d : ℕ) (v : Vector) (axis : ℕ) → is_far bytes v ≡ false → has_entries d v ≡ true → nat_le (unsigned_abs (coordinate bytes v axis)) (edge_reach d axis) ≡ true
+on_axis bytes d v axis close all =
+    le-leb _ _ (rw (← eqb-true (length v.entries) d all) (close_at bytes v.entries axis close))
 
-offset_is : (d : ℕ) (v : Offset) → is_far v ≡ false → has_entries d v ≡ true → is_offset d (place_of v) ≡ true
-offset_is d v close all =
-    and_from _ _ (and_from _ _ (on_axis d v 0 close all) (on_axis d v 1 close all)) (on_axis d v 2 close all)
+offset_is : (bytes : List ℕ) (d : ℕ) (v : Vector) → is_far bytes v ≡ false → has_entries d v ≡ true → is_offset d (place_of bytes v) ≡ true
+offset_is bytes d v close all =
+    and_from _ _ (and_from _ _ (on_axis bytes d v 0 close all) (on_axis bytes d v 1 close all)) (on_axis bytes d v 2 close all)
 
-offsets_are : (d : ℕ) (vs : List Offset) → list_any is_far vs ≡ false → list_all (has_entries d) vs ≡ true → list_all (is_offset d) (map place_of vs) ≡ true
-offsets_are d [] close all = refl
-offsets_are d (v ∷ vs) close all =
-    let near = neither (is_far v) (list_any is_far vs) close in
+offsets_are : (bytes : List ℕ) (d : ℕ) (vs : List Vector) → list_any (is_far bytes) vs ≡ false → list_all (has_entries d) vs ≡ true → list_all (is_offset d) (map (place_of bytes) vs) ≡ true
+offsets_are bytes d [] close all = refl
+offsets_are bytes d (v ∷ vs) close all =
+    let near = neither (is_far bytes v) (list_any (is_far bytes) vs) close in
     let entries = and_parts (has_entries d v) (list_all (has_entries d) vs) all in
-    and_from _ _ (offset_is d v near.0 entries.0) (offsets_are d vs near.1 entries.1)
+    and_from _ _ (offset_is bytes d v near.0 entries.0) (offsets_are bytes d vs near.1 entries.1)
 
-same_length : (vs : List Offset) → length (map place_of vs) ≡ length vs
-same_length [] = refl
-same_length (v ∷ vs) = ap suc (same_length vs)
+same_length : (bytes : List ℕ) (vs : List Vector) → length (map (place_of bytes) vs) ≡ length vs
+same_length bytes [] = refl
+same_length bytes (v ∷ vs) = ap suc (same_length bytes vs)
 
-pub vectors_are : (d : ℕ) (vs : List Offset) → 1 ≤ length vs → (nat_lt 16 (length vs) || list_any is_far vs) ≡ false → list_all (has_entries d) vs ≡ true → AreVectors d (map place_of vs)
-vectors_are d vs some small all =
-    let parts = neither (nat_lt 16 (length vs)) (list_any is_far vs) small in
-    let same = same_length vs in
-    let few : length vs ≤ 16 = ltb-false 16 (length vs) parts.0 in
+-- vectors without a fault are short, and have an entry for each axis
+pub all_close : (x : Context) (vs : List Vector) → flat_map (vector_faults x) vs ≡ [] → list_any (is_far x.text) vs ≡ false
+all_close x [] none = refl
+all_close x (v ∷ vs) none =
+    let both = both_nil (vector_faults x v) (flat_map (vector_faults x) vs) none in
+    let here = within (is_far x.text v) limit.Vectors (both_nil (unless (has_entries (dimension_of x.known) v)) (over (is_far x.text v) limit.Vectors) both.0).1 in
+    rw here (all_close x vs both.1)
+
+pub all_whole : (x : Context) (vs : List Vector) → flat_map (vector_faults x) vs ≡ [] → list_all (has_entries (dimension_of x.known)) vs ≡ true
+all_whole x [] none = refl
+all_whole x (v ∷ vs) none =
+    let d = dimension_of x.known in
+    let both = both_nil (vector_faults x v) (flat_map (vector_faults x) vs) none in
+    let here = fits (has_entries d v) (both_nil (unless (has_entries d v)) (over (is_far x.text v) limit.Vectors) both.0).0 in
+    and_from (has_entries d v) (list_all (has_entries d) vs) here (all_whole x vs both.1)
+
+pub vectors_are : (x : Context) (vs : List Vector) → 1 ≤ length vs → flat_map (vector_faults x) vs ≡ [] → over (nat_lt 16 (length vs)) limit.Vectors ≡ [] →
+    AllPairs (λ u v. u ≢ v) (map (place_of x.text) vs) → AreVectors (dimension_of x.known) (map (place_of x.text) vs)
+vectors_are x vs some none small distinct =
+    let same = same_length x.text vs in
+    let few : length vs ≤ 16 = ltb-false 16 (length vs) (within (nat_lt 16 (length vs)) limit.Vectors small) in
     record {
       some = omega (arith, same, some);
       few = omega (arith, same, few);
-      short = offsets_are d vs parts.1 all;
+      short = offsets_are x.text (dimension_of x.known) vs (all_close x vs none) (all_whole x vs none);
+      distinct = distinct;
     }

@@ -1,8 +1,8 @@
 -- The numbers of a script up to 4 are written in one way: by their digit, and behind a `-` where they are negative.
-use Rattle.std.proofs.Common.{◌≡◌, ◌<◌, ◌≤◌, ◌+◌, ◌-◌, ◌*◌, ℕ, zero, suc, Bool, true, false, List, [], ◌∷◌, ◌++◌, length, map, min, take, drop, get_or, Contains, Option, Some, None, refl, ap, sym, ◌∙◌, subst, inl, inr, add-one, arith}
+use Rattle.std.proofs.Common.{◌≡◌, ◌<◌, ◌≤◌, ◌+◌, ◌-◌, ◌*◌, ℕ, zero, suc, Bool, true, false, List, [], ◌∷◌, ◌++◌, length, map, take, drop, get_or, Contains, Option, Some, None, refl, ap, sym, ◌∙◌, subst, inl, inr, add-one, arith}
 use Rattle.std.specs.Prelude.{◌&&◌, ◌==◌, nat_le, if◌then◌else◌}
 use Rattle.std.specs.List.{AllByRecursion, prefix_len}
-use Rattle.std.proofs.lemmas.Bool.{and_parts, and_cases, and_from, eq-eqb, eqb-true, leb-true, le-leb, both_ways, cases_eq}
+use Rattle.std.proofs.lemmas.Bool.{and_parts, and_cases, and_from, eq-eqb, eqb-true, leb-true, le-leb, both_ways, cases_eq, cases_Bool}
 use Rattle.dd_tokens.specs.declared.token.Token.{Token}
 use Rattle.dd_tokens.specs.declared.token.Tokens.{Tokens}
 use Rattle.dd_tokens.specs.declared.token.TokenKind.{TokenKind}
@@ -10,11 +10,11 @@ use Rattle.dd_tokens.specs.declared.token.TokenKind.TheVariants as kind
 use Rattle.dd_tokens.specs.declared.piece.Piece.{Piece}
 use Rattle.dd_tokens.specs.declared.piece.Piece.TheVariants as piece
 use Rattle.dd_tokens.specs.Format.{is_blank, is_letter, is_digit, is_sign, starts, starts_positive, is_pair, is_both_ways, is_comment, comment, number, front, first, size, with_piece, tokens_after, tokens_of}
-use Rattle.dd_grammar.specs.declared.lexeme.Mark.{Mark}
-use Rattle.dd_grammar.specs.declared.lexeme.Lexeme.{Lexeme}
-use Rattle.dd_grammar.specs.declared.lexeme.Lexeme.TheVariants as lexeme
-use Rattle.dd_grammar.specs.Lexemes.{token_text, decimal, marked, mark_at, lexeme_of, lexemes_of, stray}
-use Rattle.dd_refusal.specs.Twices.{number_text}
+use Rattle.dd_written.specs.declared.lexeme.Mark.{Mark}
+use Rattle.dd_written.specs.declared.lexeme.Lexeme.{Lexeme}
+use Rattle.dd_written.specs.declared.lexeme.Lexeme.TheVariants as lexeme
+use Rattle.dd_written.specs.Lexemes.{token_text, marked, mark_at, lexeme_of, lexemes_of, stray}
+use Rattle.dd_written.specs.Values.{number_text, decimal, unsigned, value}
 
 -- ---- tokens
 
@@ -164,31 +164,43 @@ decimal_grows : (value : ℕ) (digits : List ℕ) → value ≤ decimal value di
 decimal_grows value [] = omega arith
 decimal_grows value (d ∷ digits) = let more = decimal_grows (value * 10 + (d - 48)) digits in omega (arith, more)
 
-one_digit : (d : ℕ) (rest : List ℕ) (value : ℕ) → 48 ≤ d → (d ≡ 48 → rest ≡ []) → value ≡ min (decimal 0 (d ∷ rest)) 1000001 → value ≤ 4 → d ∷ rest ≡ (48 + value) ∷ []
-one_digit d [] value low alone is small = let same : d ≡ 48 + value = omega (arith, low, is, small) in ap (λ a. a ∷ []) same
-one_digit d (e ∷ rest) value low alone is small =
+one_digit : (d : ℕ) (rest : List ℕ) (v : ℕ) → 48 ≤ d → (d ≡ 48 → rest ≡ []) → v ≡ decimal 0 (d ∷ rest) → v ≤ 4 → d ∷ rest ≡ (48 + v) ∷ []
+one_digit d [] v low alone is small = let same : d ≡ 48 + v = omega (arith, low, is, small) in ap (λ a. a ∷ []) same
+one_digit d (e ∷ rest) v low alone is small =
     let grown = decimal_grows ((0 * 10 + (d - 48)) * 10 + (e - 48)) rest in
     elim (cases_eq d 48) [
       | inl nought ↦ absurd (let none = alone nought in cc)
       | inr other ↦ absurd (omega (arith, grown, is, small, low, other))
     ]
 
+-- a digit is no hyphen
+no_hyphen : (d : ℕ) (rest : List ℕ) → 48 ≤ d → unsigned (d ∷ rest) ≡ d ∷ rest
+no_hyphen d rest low =
+    elim (cases_Bool (d == 45)) [
+      | inl hyphen ↦ absurd (let is = eqb-true d 45 hyphen in omega (arith, is, low))
+      | inr none ↦ rw none refl
+    ]
+
 -- what is known of the text of a token that is a number of at most 4
 abbrev pub IsSmallText : List ℕ → Lexeme → Type 0
-IsSmallText bytes (lexeme.Number n) = n.value ≤ 4 → number_text bytes n ≡ (48 + n.value) ∷ []
-IsSmallText bytes (lexeme.Negative n) = n.value ≤ 4 → (1 ≤ n.value) × (number_text bytes n ≡ 45 ∷ (48 + n.value) ∷ [])
-IsSmallText bytes l = Unit {0}
+IsSmallText bytes (lexeme.Number n) = value bytes n ≤ 4 → number_text bytes n ≡ (48 + value bytes n) ∷ []
+IsSmallText bytes (lexeme.Negative n) = value bytes n ≤ 4 → (1 ≤ value bytes n) × (number_text bytes n ≡ 45 ∷ (48 + value bytes n) ∷ [])
+IsSmallText bytes (lexeme.Word w) = Unit {0}
+IsSmallText bytes (lexeme.Mark m) = Unit {0}
+IsSmallText bytes lexeme.Stray = Unit {0}
 
-small_number : (text : List ℕ) (value : ℕ) → IsNumberText text → value ≡ min (decimal 0 text) 1000001 → value ≤ 4 → text ≡ (48 + value) ∷ []
-small_number text value h is small =
-    h.is ∙ one_digit h.digit h.rest value h.within.0 h.alone (is ∙ ap (λ (t : List ℕ). min (decimal 0 t) 1000001) h.is) small
+small_number : (text : List ℕ) (v : ℕ) → IsNumberText text → v ≡ decimal 0 (unsigned text) → v ≤ 4 → text ≡ (48 + v) ∷ []
+small_number text v h is small =
+    h.is
+    ∙ one_digit h.digit h.rest v h.within.0 h.alone
+    (is ∙ (ap (λ (t : List ℕ). decimal 0 (unsigned t)) h.is ∙ ap (decimal 0) (no_hyphen h.digit h.rest h.within.0))) small
 
-small_negative : (text : List ℕ) (value : ℕ) → IsNegativeText text → value ≡ min (decimal 0 (drop 1 text)) 1000001 → value ≤ 4 → (1 ≤ value) × (text ≡ 45 ∷ (48 + value) ∷ [])
-small_negative text value h is small =
-    let digits : h.digit ∷ h.rest ≡ (48 + value) ∷ [] =
-    one_digit h.digit h.rest value (omega (arith, h.within.0)) (λ nought. absurd (omega (arith, h.within.0, nought)))
-    (is ∙ ap (λ (t : List ℕ). min (decimal 0 (drop 1 t)) 1000001) h.is) small in
-    let same : h.digit ≡ 48 + value = cc in
+small_negative : (text : List ℕ) (v : ℕ) → IsNegativeText text → v ≡ decimal 0 (unsigned text) → v ≤ 4 → (1 ≤ v) × (text ≡ 45 ∷ (48 + v) ∷ [])
+small_negative text v h is small =
+    let digits : h.digit ∷ h.rest ≡ (48 + v) ∷ [] =
+    one_digit h.digit h.rest v (omega (arith, h.within.0)) (λ nought. absurd (omega (arith, h.within.0, nought)))
+    (is ∙ ap (λ (t : List ℕ). decimal 0 (unsigned t)) h.is) small in
+    let same : h.digit ≡ 48 + v = cc in
     (omega (arith, same, h.within.0), h.is ∙ ap (λ ds. 45 ∷ ds) digits)
 
 marked_text : (bytes : List ℕ) (m : Option Mark) → IsSmallText bytes (marked m)

@@ -1,7 +1,7 @@
 -- Vectors of a discharge that are written differently are different.
-use Rattle.std.proofs.Common.{◌≡◌, ◌≢◌, ◌<◌, ◌≤◌, ◌+◌, ℕ, zero, suc, Bool, true, false, List, [], ◌∷◌, ◌++◌, length, map, get_or, refl, ap, sym, ◌∙◌, subst, inl, inr, arith}
-use Rattle.std.specs.Prelude.{ℤ, pos, AllPairs, if◌then◌else◌, codes, nat_lt}
-use Rattle.std.specs.List.{All, list_any, list_all, flat_map, slice_get}
+use Rattle.std.proofs.Common.{◌≡◌, ◌≢◌, ◌<◌, ◌≤◌, ◌+◌, ℕ, zero, suc, Bool, true, false, List, [], ◌∷◌, ◌++◌, length, map, get_or, Contains, refl, ap, sym, ◌∙◌, subst, inl, inr, arith}
+use Rattle.std.specs.Prelude.{ℤ, pos, AllPairs, if◌then◌else◌, codes, nat_lt, slice_get, bytes_eq}
+use Rattle.std.specs.List.{All, list_any, list_all, flat_map}
 use Rattle.std.specs.Option.{option_map_or}
 use Rattle.std.proofs.Math.Nat.{eq-or-lt_of_le}
 use Rattle.std.proofs.Math.Seq.{get_or-append_seam, append_snoc}
@@ -11,27 +11,34 @@ use Rattle.std.proofs.lemmas.List.{get_or_append_left, get_or-map, length-append
 use Rattle.std.proofs.lemmas.List.Folds.{list_any_at}
 use Rattle.std.proofs.lemmas.Slice.Eq.{bytes_eq-Decides}
 use Rattle.dd_lattice.specs.Place.{Place}
-use Rattle.dd_grammar.specs.declared.lexeme.Number.{Number}
-use Rattle.dd_syntax.specs.declared.command.Entry.{Entry}
-use Rattle.dd_syntax.specs.declared.command.Entry.TheVariants as entry
-use Rattle.dd_syntax.specs.declared.command.Offset.{Offset}
-use Rattle.dd_syntax.specs.Commands.{entry_lexeme}
-use Rattle.dd_naming.specs.declared.fault.Fault.{Fault}
-use Rattle.dd_refusal.specs.Misfits.{has_entries}
-use Rattle.dd_refusal.specs.Sizes.{is_far_entry, is_far}
-use Rattle.dd_refusal.specs.Twices.{repeats, same_by, entry_text, entry_key, vector_key, twice_vector, twice_vectors}
-use Rattle.dd_header.specs.Offsets.{entry_value, coordinate, place_of}
-use Rattle.dd_header.proofs.Faultless.{both_nil, neither}
-use Rattle.dd_query.specs.Asked.{IsReadFrom}
+use Rattle.dd_written.specs.Lexemes.{lexemes_of}
+use Rattle.dd_written.specs.Values.{value}
+use Rattle.dd_commands.specs.declared.command.Entry.{Entry}
+use Rattle.dd_commands.specs.declared.command.Entry.TheVariants as entry
+use Rattle.dd_commands.specs.declared.command.Vector.{Vector}
+use Rattle.dd_commands.specs.Commands.{entry_lexeme}
+use Rattle.dd_faults.specs.declared.fault.Fault.{Fault}
+use Rattle.dd_faults.specs.Repeats.{first_repeat, entry_text, entry_key, vector_key, twice_vector, twice_vectors}
+use Rattle.dd_faults.specs.Commands.{entry_value, has_entries, is_far}
+use Rattle.dd_query.specs.Vectors.{signed_value, coordinate, place_of}
+use Rattle.dd_query.proofs.Nils.{neither}
 use Rattle.dd_query.proofs.TextLaws.{IsSmallText, lexeme_small}
+
+-- each entry of a vector is a token of the text
+abbrev pub IsReadFrom : List ℕ → Vector → Type 0
+IsReadFrom bytes v = All (λ e. Contains (lexemes_of bytes) (entry_lexeme e)) v.entries
 
 -- ---- repeats
 
-no_twice_here : (b : Bool) (f : Fault) → (if b then f ∷ [] else []) ≡ [] → b ≡ false
-no_twice_here true f e = absurd cc
-no_twice_here false f e = refl
+module _ {X : Type 0} (key : X → List ℕ) (f : X → Fault) where
+  abbrev same : X → X → Bool
+  same x y = bytes_eq (key x) (key y)
 
-module _ {X : Type 0} (same : X → X → Bool) (f : X → Fault) where
+  -- where there is no repeat, the first is none of those before it, and there is none behind it
+  none_here : (b : Bool) (x : X) (rest : List Fault) → (if b then f x ∷ [] else rest) ≡ [] → (b ≡ false) × (rest ≡ [])
+  none_here true x rest e = absurd cc
+  none_here false x rest e = (refl, e)
+
   unlike_one : (x : X) (before : List X) (i : ℕ) (d : X) → list_any (same x) before ≡ false → i < length before → same x (get_or before i d) ≡ false
   unlike_one x before i d none below =
       elim (cases_Bool (same x (get_or before i d))) [
@@ -40,17 +47,17 @@ module _ {X : Type 0} (same : X → X → Bool) (f : X → Fault) where
       ]
 
   -- an element and one before it
-  pub unlike : (before xs : List X) (i j : ℕ) (d : X) → repeats same f before xs ≡ [] → i < j → length before ≤ j → j < length (before ++ xs) →
+  pub unlike : (before xs : List X) (i j : ℕ) (d : X) → first_repeat key f before xs ≡ [] → i < j → length before ≤ j → j < length (before ++ xs) →
       same (get_or (before ++ xs) j d) (get_or (before ++ xs) i d) ≡ false
   unlike before [] i j d none less low high = absurd (omega (arith, length-append before [], less, low, high))
   unlike before (x ∷ xs) i j d none less low high =
-      let both = both_nil (if list_any (same x) before then f x ∷ [] else []) (repeats same f (before ++ x ∷ []) xs) none in
+      let both = none_here (list_any (same x) before) x (first_repeat key f (before ++ x ∷ []) xs) none in
       let moved : (before ++ x ∷ []) ++ xs ≡ before ++ x ∷ xs = append_snoc before x xs in
       elim (eq-or-lt_of_le low) [
         | inl here ↦
             let at : get_or (before ++ x ∷ xs) j d ≡ x = ap (λ k. get_or (before ++ x ∷ xs) k d) (sym here) ∙ get_or-append_seam before x xs d in
             let earlier : get_or (before ++ x ∷ xs) i d ≡ get_or before i d = get_or_append_left before (x ∷ xs) d i (omega (arith, here, less)) in
-            ap (λ y. same y (get_or (before ++ x ∷ xs) i d)) at ∙ (ap (same x) earlier ∙ unlike_one x before i d (no_twice_here (list_any (same x) before) (f x) both.0) (omega (arith, here, less)))
+            ap (λ y. same y (get_or (before ++ x ∷ xs) i d)) at ∙ (ap (same x) earlier ∙ unlike_one x before i d both.0 (omega (arith, here, less)))
         | inr later ↦
             let one = length-append before (x ∷ []) in
             subst (λ (ys : List X). same (get_or ys j d) (get_or ys i d) ≡ false) moved
@@ -59,26 +66,26 @@ module _ {X : Type 0} (same : X → X → Bool) (f : X → Fault) where
 
 -- ---- entries
 
-small_value : (n : Number) → nat_lt 4 n.value ≡ false → n.value ≤ 4
-small_value n near = ltb-false 4 n.value near
+abbrev is_far_entry : List ℕ → Entry → Bool
+is_far_entry bytes e = nat_lt 4 (entry_value bytes e)
 
-same_text : (bytes : List ℕ) (a b : Entry) → IsSmallText bytes (entry_lexeme a) → IsSmallText bytes (entry_lexeme b) → is_far_entry a ≡ false → is_far_entry b ≡ false →
-    entry_value a ≡ entry_value b → entry_text bytes a ≡ entry_text bytes b
+same_text : (bytes : List ℕ) (a b : Entry) → IsSmallText bytes (entry_lexeme a) → IsSmallText bytes (entry_lexeme b) → is_far_entry bytes a ≡ false → is_far_entry bytes b ≡ false →
+    signed_value bytes a ≡ signed_value bytes b → entry_text bytes a ≡ entry_text bytes b
 same_text bytes (entry.Number m) (entry.Number n) h g near nearby is =
-    let same : m.value ≡ n.value = omega (arith, ints, is) in
-    h (small_value m near) ∙ (ap (λ v. (48 + v) ∷ []) same ∙ sym (g (small_value n nearby)))
+    let same : value bytes m ≡ value bytes n = omega (arith, ints, is) in
+    h (ltb-false 4 (value bytes m) near) ∙ (ap (λ v. (48 + v) ∷ []) same ∙ sym (g (ltb-false 4 (value bytes n) nearby)))
 same_text bytes (entry.Number m) (entry.Negative n) h g near nearby is =
-    let some = (g (small_value n nearby)).0 in
+    let some = (g (ltb-false 4 (value bytes n) nearby)).0 in
     absurd (omega (arith, ints, is, some))
 same_text bytes (entry.Negative m) (entry.Number n) h g near nearby is =
-    let some = (h (small_value m near)).0 in
+    let some = (h (ltb-false 4 (value bytes m) near)).0 in
     absurd (omega (arith, ints, is, some))
 same_text bytes (entry.Negative m) (entry.Negative n) h g near nearby is =
-    let same : m.value ≡ n.value = omega (arith, ints, is) in
-    (h (small_value m near)).1 ∙ (ap (λ v. 45 ∷ (48 + v) ∷ []) same ∙ sym (g (small_value n nearby)).1)
+    let same : value bytes m ≡ value bytes n = omega (arith, ints, is) in
+    (h (ltb-false 4 (value bytes m) near)).1 ∙ (ap (λ v. 45 ∷ (48 + v) ∷ []) same ∙ sym (g (ltb-false 4 (value bytes n) nearby)).1)
 
-abbrev value_at : List Entry → ℕ → ℤ
-value_at es axis = option_map_or entry_value (slice_get es axis) (pos 0)
+abbrev number_at : List ℕ → List Entry → ℕ → ℤ
+number_at bytes es axis = option_map_or (signed_value bytes) (slice_get es axis) (pos 0)
 
 abbrev AreRead : List ℕ → List Entry → Type 0
 AreRead bytes es = (i : ℕ) (d : Entry) → i < length es → IsSmallText bytes (entry_lexeme (get_or es i d))
@@ -86,14 +93,14 @@ AreRead bytes es = (i : ℕ) (d : Entry) → i < length es → IsSmallText bytes
 tail_read : (bytes : List ℕ) (e : Entry) (es : List Entry) → AreRead bytes (e ∷ es) → AreRead bytes es
 tail_read bytes e es h = λ i d below. h (suc i) d (omega (arith, below))
 
-same_key : (bytes : List ℕ) (es fs : List Entry) → length es ≡ length fs → ((axis : ℕ) → axis < length es → value_at es axis ≡ value_at fs axis) → AreRead bytes es → AreRead bytes fs →
-    list_any is_far_entry es ≡ false → list_any is_far_entry fs ≡ false → flat_map (entry_key bytes) es ≡ flat_map (entry_key bytes) fs
+same_key : (bytes : List ℕ) (es fs : List Entry) → length es ≡ length fs → ((axis : ℕ) → axis < length es → number_at bytes es axis ≡ number_at bytes fs axis) → AreRead bytes es → AreRead bytes fs →
+    list_any (is_far_entry bytes) es ≡ false → list_any (is_far_entry bytes) fs ≡ false → flat_map (entry_key bytes) es ≡ flat_map (entry_key bytes) fs
 same_key bytes [] [] long is h g near nearby = refl
 same_key bytes [] (b ∷ fs) long is h g near nearby = absurd (omega (arith, long))
 same_key bytes (a ∷ es) [] long is h g near nearby = absurd (omega (arith, long))
 same_key bytes (a ∷ es) (b ∷ fs) long is h g near nearby =
-    let one = neither (is_far_entry a) (list_any is_far_entry es) near in
-    let other = neither (is_far_entry b) (list_any is_far_entry fs) nearby in
+    let one = neither (is_far_entry bytes a) (list_any (is_far_entry bytes) es) near in
+    let other = neither (is_far_entry bytes b) (list_any (is_far_entry bytes) fs) nearby in
     let text : entry_text bytes a ≡ entry_text bytes b = same_text bytes a b (h 0 a (omega arith)) (g 0 b (omega arith)) one.0 other.0 (is 0 (omega arith)) in
     let rest : flat_map (entry_key bytes) es ≡ flat_map (entry_key bytes) fs =
     same_key bytes es fs (omega (arith, long)) (λ axis below. is (suc axis) (omega (arith, below))) (tail_read bytes a es h) (tail_read bytes b fs g) one.1 other.1 in
@@ -101,48 +108,48 @@ same_key bytes (a ∷ es) (b ∷ fs) long is h g near nearby =
 
 -- ---- vectors
 
-same_at : (u v : Offset) → place_of u ≡ place_of v → (axis : ℕ) → axis < 3 → coordinate u axis ≡ coordinate v axis
-same_at u v is zero below = ap (λ (p : Place). p.x) is
-same_at u v is (suc zero) below = ap (λ (p : Place). p.y) is
-same_at u v is (suc (suc zero)) below = ap (λ (p : Place). p.z) is
-same_at u v is (suc (suc (suc axis))) below = absurd (omega (arith, below))
+same_at : (bytes : List ℕ) (u v : Vector) → place_of bytes u ≡ place_of bytes v → (axis : ℕ) → axis < 3 → coordinate bytes u axis ≡ coordinate bytes v axis
+same_at bytes u v is zero below = ap (λ (p : Place). p.x) is
+same_at bytes u v is (suc zero) below = ap (λ (p : Place). p.y) is
+same_at bytes u v is (suc (suc zero)) below = ap (λ (p : Place). p.z) is
+same_at bytes u v is (suc (suc (suc axis))) below = absurd (omega (arith, below))
 
-read_entries : (bytes : List ℕ) (v : Offset) → IsReadFrom bytes v → AreRead bytes v.entries
+read_entries : (bytes : List ℕ) (v : Vector) → IsReadFrom bytes v → AreRead bytes v.entries
 read_entries bytes v read = λ i d below. lexeme_small bytes (entry_lexeme (get_or v.entries i d)) (read i d below)
 
 -- two vectors with one place have one text
-one_text : (bytes : List ℕ) (d : ℕ) (u v : Offset) → d ≤ 3 → has_entries d u ≡ true → has_entries d v ≡ true → is_far u ≡ false → is_far v ≡ false → IsReadFrom bytes u → IsReadFrom bytes v →
-    place_of u ≡ place_of v → vector_key bytes u ≡ vector_key bytes v
+one_text : (bytes : List ℕ) (d : ℕ) (u v : Vector) → d ≤ 3 → has_entries d u ≡ true → has_entries d v ≡ true → is_far bytes u ≡ false → is_far bytes v ≡ false → IsReadFrom bytes u → IsReadFrom bytes v →
+    place_of bytes u ≡ place_of bytes v → vector_key bytes u ≡ vector_key bytes v
 one_text bytes d u v small long longer near nearby read reads is =
     let m : length u.entries ≡ d = eqb-true (length u.entries) d long in
     let n : length v.entries ≡ d = eqb-true (length v.entries) d longer in
-    same_key bytes u.entries v.entries (m ∙ sym n) (λ axis below. same_at u v is axis (omega (arith, below, m, small)))
+    same_key bytes u.entries v.entries (m ∙ sym n) (λ axis below. same_at bytes u v is axis (omega (arith, below, m, small)))
     (read_entries bytes u read) (read_entries bytes v reads) near nearby
 
-at_index : (p : Offset → Bool) (vs : List Offset) (i : ℕ) (d : Offset) → list_all p vs ≡ true → i < length vs → p (get_or vs i d) ≡ true
+at_index : (p : Vector → Bool) (vs : List Vector) (i : ℕ) (d : Vector) → list_all p vs ≡ true → i < length vs → p (get_or vs i d) ≡ true
 at_index p [] i d h below = absurd (omega (arith, below))
 at_index p (v ∷ vs) zero d h below = (and_parts (p v) (list_all p vs) h).0
 at_index p (v ∷ vs) (suc i) d h below = at_index p vs i d (and_parts (p v) (list_all p vs) h).1 (omega (arith, below))
 
-none_at : (p : Offset → Bool) (vs : List Offset) (i : ℕ) (d : Offset) → list_any p vs ≡ false → i < length vs → p (get_or vs i d) ≡ false
+none_at : (p : Vector → Bool) (vs : List Vector) (i : ℕ) (d : Vector) → list_any p vs ≡ false → i < length vs → p (get_or vs i d) ≡ false
 none_at p [] i d h below = absurd (omega (arith, below))
 none_at p (v ∷ vs) zero d h below = (neither (p v) (list_any p vs) h).0
 none_at p (v ∷ vs) (suc i) d h below = none_at p vs i d (neither (p v) (list_any p vs) h).1 (omega (arith, below))
 
-nothing : Offset
+nothing : Vector
 nothing = record { entries = [] }
 
-pub vectors_differ : (bytes : List ℕ) (d : ℕ) (vs : List Offset) → d ≤ 3 → list_all (has_entries d) vs ≡ true → list_any is_far vs ≡ false → All (IsReadFrom bytes) vs → twice_vectors bytes vs ≡ [] →
-    AllPairs (λ u v. u ≢ v) (map place_of vs)
+pub vectors_differ : (bytes : List ℕ) (d : ℕ) (vs : List Vector) → d ≤ 3 → list_all (has_entries d) vs ≡ true → list_any (is_far bytes) vs ≡ false → All (IsReadFrom bytes) vs → twice_vectors bytes vs ≡ [] →
+    AllPairs (λ u v. u ≢ v) (map (place_of bytes) vs)
 vectors_differ bytes d vs small long near read none = λ i j default less below same.
-    let many : length (map place_of vs) ≡ length vs = length-map vs place_of in
+    let many : length (map (place_of bytes) vs) ≡ length vs = length-map vs (place_of bytes) in
     let bi : i < length vs = omega (arith, many, below, less) in
     let bj : j < length vs = omega (arith, many, below) in
     let u = get_or vs i nothing in
     let v = get_or vs j nothing in
-    let places : place_of u ≡ place_of v = sym (get_or-map place_of vs i nothing default bi) ∙ (same ∙ get_or-map place_of vs j nothing default bj) in
+    let places : place_of bytes u ≡ place_of bytes v = sym (get_or-map (place_of bytes) vs i nothing default bi) ∙ (same ∙ get_or-map (place_of bytes) vs j nothing default bj) in
     let text : vector_key bytes u ≡ vector_key bytes v =
-    one_text bytes d u v small (at_index (has_entries d) vs i nothing long bi) (at_index (has_entries d) vs j nothing long bj) (none_at is_far vs i nothing near bi) (none_at is_far vs j nothing near bj)
+    one_text bytes d u v small (at_index (has_entries d) vs i nothing long bi) (at_index (has_entries d) vs j nothing long bj) (none_at (is_far bytes) vs i nothing near bi) (none_at (is_far bytes) vs j nothing near bj)
     (read i nothing bi) (read j nothing bj) places in
-    let other : same_by (vector_key bytes) v u ≡ false = unlike (same_by (vector_key bytes)) twice_vector [] vs i j nothing none less (omega arith) bj in
-    both_ways (same_by (vector_key bytes) v u) other ((bytes_eq-Decides (vector_key bytes v) (vector_key bytes u)).1 (sym text))
+    let other : bytes_eq (vector_key bytes v) (vector_key bytes u) ≡ false = unlike (vector_key bytes) twice_vector [] vs i j nothing none less (omega arith) bj in
+    both_ways (bytes_eq (vector_key bytes v) (vector_key bytes u)) other ((bytes_eq-Decides (vector_key bytes v) (vector_key bytes u)).1 (sym text))

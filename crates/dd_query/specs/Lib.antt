@@ -1,6 +1,14 @@
-pub mod Made
+-- the positions that vectors stand for
+pub mod Vectors
+-- the queries that questions ask
 pub mod Queries
-pub mod Asked
+-- limits on the work that queries ask for
 pub mod Limits
-pub mod Measured
+-- the rules and automata of a script, made
+pub mod Made
+-- what each query of a script keeps
 pub mod Sound
+-- questions as a script asks them
+pub mod Asked
+-- goals as they are measured
+pub mod measuring

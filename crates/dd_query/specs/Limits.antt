@@ -1,5 +1,5 @@
 -- Limits on the work that queries ask for.
-use Rattle.std.specs.Prelude.{ℕ, ◌*◌, List, [], ◌++◌, max, Bool, ◌||◌, nat_lt, slice_index, Option}
+use Rattle.std.specs.Prelude.{ℕ, ◌*◌, List, [], ◌++◌, max, Bool, ◌||◌, nat_lt, slice_index}
 use Rattle.std.specs.List.{flat_map, list_any, range_with_len, slice_get}
 use Rattle.std.specs.Option.{option_map_or}
 use Rattle.dd_lattice.specs.declared.position.Cell.{Cell}
@@ -10,12 +10,23 @@ use Rattle.dd_formula.specs.ValueCounts.{differ_clauses}
 use Rattle.dd_formula.specs.Automata.{cells_of}
 use Rattle.dd_formula.specs.declared.automaton.Automaton.{Automaton}
 use Rattle.dd_counts.specs.Rules.{patterns, states, longer_states}
-use Rattle.dd_naming.specs.declared.fault.Fault.{Fault}
-use Rattle.dd_naming.specs.declared.fault.Limit.TheVariants as limit
-use Rattle.dd_refusal.specs.declared.known.Known.{Known}
-use Rattle.dd_refusal.specs.Sizes.{over}
+use Rattle.dd_boxes.specs.Counts.{most_clauses}
+use Rattle.dd_faults.specs.declared.fault.Fault.{Fault}
+use Rattle.dd_faults.specs.declared.fault.Limit.TheVariants as limit
+use Rattle.dd_faults.specs.declared.context.Known.{Known}
+use Rattle.dd_faults.specs.Order.{over}
 use Rattle.dd_query.specs.declared.queries.Query.{Query}
 use Rattle.dd_query.specs.declared.queries.Query.TheVariants as query
+
+-- the greatest numbers of patterns at a node, of states of a transfer graph, and of fillings of one slice more
+abbrev pub most_patterns : ℕ
+most_patterns = 65536
+
+abbrev pub most_states : ℕ
+most_states = 4096
+
+abbrev pub most_longer_states : ℕ
+most_longer_states = 131072
 
 -- ---- box questions
 
@@ -46,15 +57,15 @@ abbrev pub clauses_of : Known → LocalRule → Aim → ℕ
 clauses_of k x g = largest_clauses x g.clauses (max k.limits.radius g.radius) k.limits.period
 
 abbrev pub is_long : Known → LocalRule → Aim → Bool
-is_long k x g = nat_lt 2000000 (clauses_of k x g)
+is_long k x g = nat_lt most_clauses (clauses_of k x g)
 
 -- ---- queries
 
 abbrev pub has_many_patterns : LocalRule → Bool
-has_many_patterns r = list_any (λ a. nat_lt 65536 (patterns r a)) (range_with_len 0 r.nodes)
+has_many_patterns r = list_any (λ a. nat_lt most_patterns (patterns r a)) (range_with_len 0 r.nodes)
 
 abbrev pub has_many_states : LocalRule → ℕ → Bool
-has_many_states r volume = nat_lt 4096 (states r volume) || nat_lt 131072 (longer_states r volume)
+has_many_states r volume = nat_lt most_states (states r volume) || nat_lt most_longer_states (longer_states r volume)
 
 abbrev pub strip_volume : List ℕ → ℕ
 strip_volume strip = slice_index strip 0 * slice_index strip 1
@@ -76,6 +87,7 @@ abbrev pub agree_sizes : Known → Automaton → Automaton → LocalRule → Lis
 agree_sizes k f g x = over (is_long k x (differing x f g)) limit.Clauses
 
 abbrev pub query_sizes : Known → List LocalRule → List Automaton → Query → List Fault
+query_sizes k rules automata (query.Member configuration rule) = []
 query_sizes k rules automata (query.Contains outer inner) = about rules outer (λ y. about rules inner (λ x. contains_sizes k y x))
 query_sizes k rules automata (query.Equal left right) = about rules left (λ x. about rules right (λ y. equal_sizes k x y))
 query_sizes k rules automata (query.Empty rule) = about rules rule (empty_sizes k)
@@ -83,8 +95,4 @@ query_sizes k rules automata (query.Agree left right rule) =
     about automata left (λ f. about automata right (λ g. about rules rule (λ x. agree_sizes k f g x)))
 query_sizes k rules automata (query.Forbidden rule) = about rules rule (λ r. over (has_many_patterns r) limit.Patterns)
 query_sizes k rules automata (query.Density rule strip) = about rules rule (λ r. over (has_many_states r (strip_volume strip)) limit.States)
-query_sizes k rules automata q = []
-
--- of a command, where it makes a query
-abbrev pub asked_sizes : Known → List LocalRule → List Automaton → Option Query → List Fault
-asked_sizes k rules automata q = option_map_or (query_sizes k rules automata) q []
+query_sizes k rules automata (query.Discharge rule radius margin vectors) = []

@@ -2,14 +2,23 @@
 use Rattle.std.specs.Prelude.{◌≡◌, true, List, length}
 use Rattle.std.specs.List.{All}
 use Rattle.dd_formula.specs.LocalRule.{LocalRule}
-use Rattle.dd_formula.specs.Automata.{IsAutomaton, rule_has}
+use Rattle.dd_formula.specs.Automata.{Setting as Numbers, IsAutomaton, rule_has}
 use Rattle.dd_formula.specs.declared.automaton.Automaton.{Automaton}
-use Rattle.dd_refusal.specs.declared.known.Known.{Known}
-use Rattle.dd_header.specs.Sound.{numbers_of}
+use Rattle.dd_faults.specs.declared.context.Known.{Known}
 
--- one for each name, and each has the script's dimension, nodes and symbols
+-- the numbers that the rules, automata and configurations of a script have in common
+abbrev pub numbers_of : Known → Numbers
+numbers_of k = record { dimension = k.setting.topology.dimension; nodes = k.setting.topology.nodes; symbols = length k.setting.symbols }
+
+-- a rule over the script's topology, whose nodes allow the symbols that the script's nodes do
+pub record IsRuleOf (k : Known) (r : LocalRule) : Type 0 where
+  pub has : rule_has (numbers_of k) r ≡ true
+  pub edges : r.edges ≡ k.setting.topology.edges
+  pub allowed : r.allowed ≡ k.setting.sets.allowed
+
+-- one for each name, and each is one of the script
 pub record AreMade (k : Known) (rules : List LocalRule) (automata : List Automaton) : Type 0 where
   pub rules_named : length rules ≡ length k.rules
   pub automata_named : length automata ≡ length k.automata
-  pub rules_have : All (λ r. rule_has (numbers_of k) r ≡ true) rules
+  pub rules_have : All (IsRuleOf k) rules
   pub automata_have : All (IsAutomaton (numbers_of k)) automata

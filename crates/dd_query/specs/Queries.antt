@@ -1,34 +1,60 @@
--- The queries that commands make.
-use Rattle.std.specs.Prelude.{ℕ, List, [], ◌∷◌, map, Option, Some, None}
-use Rattle.dd_grammar.specs.declared.lexeme.Number.{Number}
-use Rattle.dd_syntax.specs.declared.command.Command.{Command}
-use Rattle.dd_syntax.specs.declared.command.Command.TheVariants as command
-use Rattle.dd_refusal.specs.declared.meaning.Meaning.{Meaning}
-use Rattle.dd_refusal.specs.declared.meaning.Meaning.TheVariants as meaning
-use Rattle.dd_refusal.specs.Misfits.{period_at}
-use Rattle.dd_header.specs.Offsets.{place_of}
+-- The queries that questions ask.
+use Rattle.std.specs.Prelude.{ℕ, List, [], ◌∷◌, map, slice_index}
+use Rattle.std.specs.List.{zip}
+use Rattle.dd_lattice.specs.Place.{Place}
+use Rattle.dd_written.specs.declared.lexeme.Word.{Word}
+use Rattle.dd_written.specs.declared.tree.Name.TheVariants as name
+use Rattle.dd_written.specs.Values.{value}
+use Rattle.dd_commands.specs.declared.table.Role.{Role}
+use Rattle.dd_commands.specs.declared.table.Question.{Question}
+use Rattle.dd_commands.specs.declared.table.Question.TheVariants as question
+use Rattle.dd_commands.specs.declared.command.Vector.{Vector}
+use Rattle.dd_commands.specs.declared.command.Request.{Request}
+use Rattle.dd_commands.specs.Table.{row}
+use Rattle.dd_faults.specs.declared.context.Context.{Context}
+use Rattle.dd_faults.specs.Names.{number_in, named}
+use Rattle.dd_faults.specs.Commands.{period_at}
+use Rattle.dd_query.specs.Vectors.{place_of}
 use Rattle.dd_query.specs.declared.queries.Query.{Query}
 use Rattle.dd_query.specs.declared.queries.Query.TheVariants as query
 
--- a strip's periods: 1 where a dimension is missing
-abbrev pub strip_of : List Number → List ℕ
-strip_of periods = period_at periods 0 ∷ period_at periods 1 ∷ []
+-- the number of what a word names, among what has its role
+abbrev pub number_of_word : Context → Role × Word → ℕ
+number_of_word x w = number_in x.text (named x.known w.0) (name.Word w.1)
 
-abbrev pub density_of : Command → ℕ → Option Query
-density_of (command.Density name periods) rule = Some (query.Density rule (strip_of periods))
-density_of c rule = None
+-- the numbers of the words, by their roles in the table
+abbrev pub numbers_of_words : Context → Request → List ℕ
+numbers_of_words x r = map (number_of_word x) (zip (row r.question).names r.words)
 
-abbrev pub discharge_of : Command → ℕ → Option Query
-discharge_of (command.Discharge name radius margin vectors) rule = Some (query.Discharge rule radius.value margin.value (map place_of vectors))
-discharge_of c rule = None
+-- the number of the word at this place
+abbrev pub word_at : Context → Request → ℕ → ℕ
+word_at x r place = slice_index (numbers_of_words x r) place
 
-abbrev pub query_of : Command → Meaning → Option Query
-query_of c (meaning.Member configuration rule) = Some (query.Member configuration rule)
-query_of c (meaning.Contains outer inner) = Some (query.Contains outer inner)
-query_of c (meaning.Equal left right) = Some (query.Equal left right)
-query_of c (meaning.Empty rule) = Some (query.Empty rule)
-query_of c (meaning.Agree left right rule) = Some (query.Agree left right rule)
-query_of c (meaning.Forbidden rule) = Some (query.Forbidden rule)
-query_of c (meaning.Density rule) = density_of c rule
-query_of c (meaning.Discharge rule) = discharge_of c rule
-query_of c m = None
+-- the value of the number at this place
+abbrev pub value_at : Context → Request → ℕ → ℕ
+value_at x r place = slice_index (map (value x.text) r.numbers) place
+
+-- the periods of a strip along the second and the third axis, and 1 where there is no such axis
+abbrev pub periods_of : List ℕ → List Vector → List ℕ
+periods_of bytes [] = 1 ∷ 1 ∷ []
+periods_of bytes (v ∷ vs) = period_at bytes v 0 ∷ period_at bytes v 1 ∷ []
+
+abbrev pub strip_of : Context → Request → List ℕ
+strip_of x r = periods_of x.text r.vectors
+
+abbrev pub places_of : Context → Request → List Place
+places_of x r = map (place_of x.text) r.vectors
+
+-- what each question asks
+abbrev pub asked : Question → Context → Request → Query
+asked question.Member x r = query.Member (word_at x r 0) (word_at x r 1)
+asked question.Contains x r = query.Contains (word_at x r 0) (word_at x r 1)
+asked question.Equal x r = query.Equal (word_at x r 0) (word_at x r 1)
+asked question.Empty x r = query.Empty (word_at x r 0)
+asked question.Agree x r = query.Agree (word_at x r 0) (word_at x r 1) (word_at x r 2)
+asked question.Forbidden x r = query.Forbidden (word_at x r 0)
+asked question.Density x r = query.Density (word_at x r 0) (strip_of x r)
+asked question.Discharge x r = query.Discharge (word_at x r 0) (value_at x r 0) (value_at x r 1) (places_of x r)
+
+abbrev pub query_of : Context → Request → Query
+query_of x r = asked r.question x r

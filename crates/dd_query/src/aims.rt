@@ -1,15 +1,16 @@
 //! What box questions look for: how far that reads, and how many clauses it takes.
 ghost use Rattle.std.specs.Prelude.{◌≡◌, ◌≤◌, IfOk};
+ghost use Rattle.dd_formula.specs.LocalRule.{most_reach};
 ghost use Rattle.dd_formula.specs.Compositions.{HaveNodes};
 ghost use Rattle.dd_formula.specs.Reach.{farthest};
-ghost use Rattle.dd_header.specs.Sound.{IsSound};
+ghost use Rattle.dd_faults.specs.Sound.{IsSound};
 ghost use Rattle.dd_query.specs.Limits.{automaton_cells, anything, breaking, differing, is_long};
 ghost use Rattle.dd_query.specs.Limits.{Aim as Goal};
-ghost use Rattle.dd_query.specs.Measured.{HasNodes, IsMeasureOf};
+ghost use Rattle.dd_query.specs.measuring.Measured.{HasNodes, IsMeasureOf};
 
 use dd_counts::{broken_clauses, differ_clauses, question_clauses};
+use dd_faults::Known;
 use dd_formula::{Automaton, Rule, farthest};
-use dd_refusal::Known;
 use std::alloc::{AllocError, Global};
 
 /// The greatest number of clauses of a box question.
@@ -26,7 +27,7 @@ pub(crate) struct Aim {
 fn automaton_radius(alloc: Global, automaton: &Automaton, nodes: u32) -> Result<u32, AllocError>
     requires { HasNodes automaton.now nodes }
     ensures value { IfOk result (λ n. n ≡ farthest (automaton_cells nodes automaton.now)) }
-    ensures near { IfOk result (λ n. n ≤ 16) }
+    ensures near { IfOk result (λ n. n ≤ most_reach) }
 {
     let mut radius = 0;
     for node in 0..nodes {
@@ -79,7 +80,7 @@ pub(crate) fn differing(
 /// Whether the question with this premise and this goal has too many clauses, in the largest box or torus that may be tried.
 pub(crate) fn is_long(known: &Known, premise: &Rule, aim: Aim) -> bool
     requires sound { IsSound known.now }
-    requires near { aim.radius ≤ 16 }
+    requires near { aim.radius ≤ most_reach }
     ensures { (g : Goal) → IsMeasureOf aim g → result ≡ is_long known.now premise.now g }
 {
     let limits = &known.limits;

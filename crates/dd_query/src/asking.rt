@@ -1,106 +1,142 @@
-//! Queries from commands and their meanings.
-ghost use Rattle.std.specs.Prelude.{◌≡◌, false, map, IfOk};
+//! Queries from questions, within the limits on their work.
+ghost use Rattle.std.specs.Prelude.{◌≡◌, [], false, map, min, IfOk};
 ghost use Rattle.std.specs.List.{list_any};
-ghost use Rattle.dd_refusal.specs.Sizes.{is_far};
-ghost use Rattle.dd_header.specs.Offsets.{place_of};
-ghost use Rattle.dd_query.specs.Queries.{strip_of, density_of, discharge_of, query_of};
-ghost use Rattle.dd_query.specs.Asked.{AreClose};
+ghost use Rattle.dd_commands.specs.declared.table.Question.TheVariants as question;
+ghost use Rattle.dd_faults.specs.Order.{Resolves};
+ghost use Rattle.dd_faults.specs.Names.{number_in};
+ghost use Rattle.dd_faults.specs.Commands.{is_far, request_faults};
+ghost use Rattle.dd_faults.specs.Sound.{IsSound};
+ghost use Rattle.dd_query.specs.Vectors.{place_of};
+ghost use Rattle.dd_query.specs.Queries.{word_at, value_at, periods_of, query_of};
+ghost use Rattle.dd_query.specs.Asked.{IsAsked};
+ghost use Rattle.dd_query.specs.Limits.{query_sizes};
+ghost use Rattle.dd_query.specs.Made.{AreMade};
+ghost use Rattle.dd_query.specs.Sound.{IsStrip, IsWithin, IsSoundQuery};
 
+use crate::limits::is_within_limits;
 use crate::queries::Query;
-use dd_header::position_of;
+use crate::vectors::{period_at, position_of};
+use dd_commands::{Question, Request, Vector};
+use dd_faults::{Context, Refusal};
+use dd_formula::{Automaton, Rule};
 use dd_lattice::Position;
-use dd_refusal::{Meaning, period_at};
-use dd_syntax::{Command, Number, Offset};
+use dd_topology::Names;
 use dd_values::Items;
+use dd_written::{Name, Text, name_text, number_value};
 use std::alloc::{AllocError, Global};
 
-fn strip_of(periods: &[Number]) -> [u32; 2]
-    ensures { result ≡ strip_of periods.now }
+fn number_in(text: &Text, names: &Names, name: Name) -> u32
+    ensures { result ≡ number_in text.now names.now name }
 {
-    [period_at(periods, 0), period_at(periods, 1)]
+    names.find(name_text(text, name)).unwrap_or(0)
 }
 
-fn density(command: &Command, rule: u32) -> Option<Query>
-    ensures { result ≡ density_of command.now rule }
+/// The number of what the word at a place names.
+fn word_at(context: &Context, request: &Request, place: usize) -> u32
+    ensures { result ≡ word_at context.now request.now place }
 {
-    match command {
-        Command::Density { periods, .. } => Some(Query::Density {
-            rule,
-            strip: strip_of(periods.as_slice()),
-        }),
-        _ => None,
+    let (_, roles, _, _) = request.question.row();
+    let Some(role) = roles.get(place) else {
+        return 0;
+    };
+    match request.words.get(place) {
+        Some(word) => number_in(&context.text, context.known.named(*role), Name::Word(*word)),
+        None => 0,
     }
 }
 
-fn positions(alloc: Global, vectors: &[Offset]) -> Result<Items<Position>, AllocError>
-    requires { list_any is_far vectors.now ≡ false }
-    ensures { IfOk result (λ places. places ≡ map place_of vectors.now) }
+/// The value of the number at a place, and the greatest number of 32 bits for all that are greater.
+fn value_at(context: &Context, request: &Request, place: usize) -> u32
+    ensures { result ≡ min (value_at context.now request.now place) 4294967295 }
+{
+    match request.numbers.get(place) {
+        Some(number) => number_value(&context.text, *number),
+        None => 0,
+    }
+}
+
+/// The periods of a strip along the second and the third axis.
+fn strip_of(context: &Context, vectors: &[Vector]) -> [u32; 2]
+    requires { IsStrip context.now.known.setting.topology.dimension (periods_of context.now.text vectors.now) }
+    ensures { result ≡ periods_of context.now.text vectors.now }
+{
+    match vectors {
+        [periods, ..] => [
+            period_at(&context.text, periods, 0),
+            period_at(&context.text, periods, 1),
+        ],
+        _ => [1, 1],
+    }
+}
+
+fn positions(alloc: Global, text: &Text, vectors: &[Vector]) -> Result<Items<Position>, AllocError>
+    requires { list_any (is_far text.now) vectors.now ≡ false }
+    ensures { IfOk result (λ places. places ≡ map (place_of text.now) vectors.now) }
 {
     let mut places = Items::new(alloc);
     for vector in vectors {
-        places.push(position_of(vector))?;
+        places.push(position_of(text, vector))?;
     }
     Ok(places)
 }
 
-fn discharge(alloc: Global, command: &Command, rule: u32) -> Result<Option<Query>, AllocError>
-    requires { AreClose command.now }
-    ensures { IfOk result (λ q. q ≡ discharge_of command.now rule) }
+/// The query that a question asks.
+fn asked(alloc: Global, context: &Context, request: &Request) -> Result<Query, AllocError>
+    requires within { IsWithin context.now.known (query_of context.now request.now) }
+    requires close { request.now.question ≡ question.Discharge → list_any (is_far context.now.text) request.now.vectors ≡ false }
+    ensures { IfOk result (λ q. q ≡ query_of context.now request.now) }
 {
-    match command {
-        Command::Discharge {
-            radius,
-            margin,
-            vectors,
-            ..
-        } => Ok(Some(Query::Discharge {
-            rule,
-            radius: radius.value,
-            margin: margin.value,
-            vectors: positions(alloc, vectors.as_slice())?,
-        })),
-        _ => Ok(None),
-    }
+    let first = word_at(context, request, 0);
+    let second = word_at(context, request, 1);
+    Ok(match request.question {
+        Question::Member => Query::Member {
+            configuration: first,
+            rule: second,
+        },
+        Question::Contains => Query::Contains {
+            outer: first,
+            inner: second,
+        },
+        Question::Equal => Query::Equal {
+            left: first,
+            right: second,
+        },
+        Question::Empty => Query::Empty { rule: first },
+        Question::Agree => Query::Agree {
+            left: first,
+            right: second,
+            rule: word_at(context, request, 2),
+        },
+        Question::Forbidden => Query::Forbidden { rule: first },
+        Question::Density => Query::Density {
+            rule: first,
+            strip: strip_of(context, request.vectors.as_slice()),
+        },
+        Question::Discharge => Query::Discharge {
+            rule: first,
+            radius: value_at(context, request, 0),
+            margin: value_at(context, request, 1),
+            vectors: positions(alloc, &context.text, request.vectors.as_slice())?,
+        },
+    })
 }
 
-/// The query that a command with this meaning makes, if it makes one.
-pub(crate) fn asked(
+/// The query that a question without a fault asks, within the limits on its work.
+pub fn ask(
     alloc: Global,
-    command: &Command,
-    meaning: &Meaning,
-) -> Result<Option<Query>, AllocError>
-    requires { AreClose command.now }
-    ensures { IfOk result (λ q. q ≡ query_of command.now meaning.now) }
+    context: &Context,
+    rules: &[Rule],
+    automata: &[Automaton],
+    request: &Request,
+) -> Result<Query, Refusal>
+    requires sound { IsSound context.now.known }
+    requires made { AreMade context.now.known rules.now automata.now }
+    requires written { IsAsked context.now.text request.now }
+    requires faultless { request_faults context.now request.now ≡ [] }
+    ensures exact { let q = query_of context.now request.now in Resolves result (query_sizes context.now.known rules.now automata.now q) q }
+    ensures sound { IfOk result (IsSoundQuery context.now.known rules.now automata.now) }
 {
-    match meaning {
-        Meaning::Member {
-            configuration,
-            rule,
-        } => Ok(Some(Query::Member {
-            configuration: *configuration,
-            rule: *rule,
-        })),
-        Meaning::Contains { outer, inner } => Ok(Some(Query::Contains {
-            outer: *outer,
-            inner: *inner,
-        })),
-        Meaning::Equal { left, right } => Ok(Some(Query::Equal {
-            left: *left,
-            right: *right,
-        })),
-        Meaning::Empty(rule) => Ok(Some(Query::Empty { rule: *rule })),
-        Meaning::Agree { left, right, rule } => Ok(Some(Query::Agree {
-            left: *left,
-            right: *right,
-            rule: *rule,
-        })),
-        Meaning::Forbidden(rule) => Ok(Some(Query::Forbidden { rule: *rule })),
-        Meaning::Density(rule) => Ok(density(command, *rule)),
-        Meaning::Discharge(rule) => discharge(alloc, command, *rule),
-        Meaning::Header
-        | Meaning::Rule(_)
-        | Meaning::Automaton { .. }
-        | Meaning::Composition { .. }
-        | Meaning::Configuration(_) => Ok(None),
-    }
+    let query = asked(alloc, context, request)?;
+    is_within_limits(alloc, &context.known, rules, automata, &query)?;
+    Ok(query)
 }

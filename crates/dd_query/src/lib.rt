@@ -4,8 +4,9 @@
 mod aims;
 mod asking;
 mod limits;
-mod making;
 mod queries;
+mod vectors;
 
-pub use making::query;
+pub use asking::ask;
 pub use queries::Query;
+pub use vectors::{entry_value, period_at, position_of};

@@ -1,19 +1,18 @@
 //! Limits on the work that queries ask for.
 ghost use Rattle.std.specs.Prelude.{◌≡◌, ◌≤◌, slice_index};
 ghost use Rattle.dd_formula.specs.Compositions.{HaveNodes};
-ghost use Rattle.dd_naming.specs.Resolving.{Accepts};
-ghost use Rattle.dd_header.specs.Sound.{IsSound};
+ghost use Rattle.dd_faults.specs.Order.{first_fault, Accepts};
+ghost use Rattle.dd_faults.specs.Sound.{IsSound};
 ghost use Rattle.dd_query.specs.Limits.{has_many_patterns, has_many_states, strip_volume};
 ghost use Rattle.dd_query.specs.Limits.{contains_sizes, equal_sizes, empty_sizes, agree_sizes, query_sizes};
 ghost use Rattle.dd_query.specs.Made.{AreMade};
-ghost use Rattle.dd_query.specs.Sound.{HasNumbers, HasShape};
+ghost use Rattle.dd_query.specs.Sound.{longest_period, IsWithin};
 
 use crate::aims::{anything, breaking, differing, is_long};
 use crate::queries::Query;
 use dd_counts::{longer_states, patterns, states};
+use dd_faults::{Known, Limit, Refusal, refuse_if};
 use dd_formula::{Automaton, Rule};
-use dd_naming::{Limit, Refusal};
-use dd_refusal::{Known, refuse_if};
 use std::alloc::Global;
 
 /// The greatest number of patterns at a node.
@@ -43,8 +42,8 @@ fn has_many_states(rule: &Rule, volume: u32) -> bool
 }
 
 fn strip_volume(strip: [u32; 2]) -> u32
-    requires second { slice_index strip 0 ≤ 64 }
-    requires third { slice_index strip 1 ≤ 64 }
+    requires second { slice_index strip 0 ≤ longest_period }
+    requires third { slice_index strip 1 ≤ longest_period }
     ensures { result ≡ strip_volume strip }
 {
     strip[0] * strip[1]
@@ -52,14 +51,14 @@ fn strip_volume(strip: [u32; 2]) -> u32
 
 fn contains_within(known: &Known, outer: &Rule, inner: &Rule) -> Result<(), Refusal>
     requires { IsSound known.now }
-    ensures { Accepts result (contains_sizes known.now outer.now inner.now) }
+    ensures { Accepts result (first_fault (contains_sizes known.now outer.now inner.now)) }
 {
     refuse_if(is_long(known, inner, breaking(outer)), Limit::Clauses)
 }
 
 fn equal_within(known: &Known, left: &Rule, right: &Rule) -> Result<(), Refusal>
     requires { IsSound known.now }
-    ensures { Accepts result (equal_sizes known.now left.now right.now) }
+    ensures { Accepts result (first_fault (equal_sizes known.now left.now right.now)) }
 {
     let left_in_right = is_long(known, left, breaking(right));
     let right_in_left = is_long(known, right, breaking(left));
@@ -68,7 +67,7 @@ fn equal_within(known: &Known, left: &Rule, right: &Rule) -> Result<(), Refusal>
 
 fn empty_within(known: &Known, rule: &Rule) -> Result<(), Refusal>
     requires { IsSound known.now }
-    ensures { Accepts result (empty_sizes known.now rule.now) }
+    ensures { Accepts result (first_fault (empty_sizes known.now rule.now)) }
 {
     refuse_if(is_long(known, rule, anything()), Limit::Clauses)
 }
@@ -82,7 +81,7 @@ fn agree_within(
 ) -> Result<(), Refusal>
     requires sound { IsSound known.now }
     requires nodes { HaveNodes left.now right.now rule.now.nodes }
-    ensures { Accepts result (agree_sizes known.now left.now right.now rule.now) }
+    ensures { Accepts result (first_fault (agree_sizes known.now left.now right.now rule.now)) }
 {
     let aim = differing(alloc, rule, left, right)?;
     refuse_if(is_long(known, rule, aim), Limit::Clauses)
@@ -98,9 +97,8 @@ pub(crate) fn is_within_limits(
 ) -> Result<(), Refusal>
     requires sound { IsSound known.now }
     requires made { AreMade known.now rules.now automata.now }
-    requires numbers { HasNumbers known.now query.now }
-    requires shape { HasShape known.now.setting.topology.dimension query.now }
-    ensures { Accepts result (query_sizes known.now rules.now automata.now query.now) }
+    requires within { IsWithin known.now query.now }
+    ensures { Accepts result (first_fault (query_sizes known.now rules.now automata.now query.now)) }
 {
     match query {
         Query::Member { .. } | Query::Discharge { .. } => Ok(()),

@@ -3,6 +3,7 @@ use Rattle.dd_formula.specs.declared.automaton.Automaton.{Automaton}
 use Rattle.dd_formula.specs.Counts.{cut}
 use Rattle.dd_formula.specs.Reach.{farthest}
 use Rattle.dd_formula.specs.ValueCounts.{differ_clauses}
+use Rattle.dd_boxes.specs.Counts.{most_clauses}
 use Rattle.dd_query.specs.Limits.{automaton_cells}
 use Rattle.dd_formula.proofs.FarthestLaws.{farthest-append}
 use Rattle.dd_query.proofs.aims.differing.Goals as goal
@@ -22,6 +23,6 @@ returns c =
       near = omega (arith, c.max.ensures, c.in_ok-left_radius.ensures.near, c.in_ok-right_radius.ensures.near);
       clauses =
           c.in_ok-clauses.ensures
-          ∙ (ap (λ n. cut 2000000 (differ_clauses n c.nodes-nodes.result f g)) c.symbols-symbols.ensures.value
-          ∙ ap (λ n. cut 2000000 (differ_clauses rule.symbols n f g)) c.nodes-nodes.ensures.value);
+          ∙ (ap (λ n. cut most_clauses (differ_clauses n c.nodes-nodes.result f g)) c.symbols-symbols.ensures.value
+          ∙ ap (λ n. cut most_clauses (differ_clauses rule.symbols n f g)) c.nodes-nodes.ensures.value);
     }

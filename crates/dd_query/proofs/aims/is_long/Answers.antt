@@ -1,5 +1,5 @@
 use Rattle.dd_query.specs.Limits.{Aim}
-use Rattle.dd_query.specs.Measured.{IsMeasureOf}
+use Rattle.dd_query.specs.measuring.Measured.{IsMeasureOf}
 use Rattle.dd_query.proofs.LimitLaws.{long_is}
 use Rattle.dd_query.proofs.aims.is_long.Goals as goal
 

@@ -1,4 +1,4 @@
-use Rattle.dd_naming.specs.declared.fault.Limit.TheVariants as limit
+use Rattle.dd_faults.specs.declared.fault.Limit.TheVariants as limit
 use Rattle.dd_query.specs.Limits.{is_long, differing}
 use Rattle.dd_query.proofs.LimitLaws.{accepts_over}
 use Rattle.dd_query.proofs.limits.agree_within.Goals as goal

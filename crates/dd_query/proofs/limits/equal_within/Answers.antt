@@ -1,6 +1,6 @@
 use Rattle.std.proofs.Common.{◌≡◌, rules, ap, ◌∙◌}
 use Rattle.std.specs.Prelude.{◌||◌}
-use Rattle.dd_naming.specs.declared.fault.Limit.TheVariants as limit
+use Rattle.dd_faults.specs.declared.fault.Limit.TheVariants as limit
 use Rattle.dd_query.specs.Limits.{is_long, breaking}
 use Rattle.dd_query.proofs.LimitLaws.{accepts_over}
 use Rattle.dd_query.proofs.limits.equal_within.Goals as goal

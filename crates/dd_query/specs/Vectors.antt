@@ -1,0 +1,26 @@
+-- Vectors as they are written, and the positions that they stand for.
+use Rattle.std.specs.Prelude.{◌≡◌, ℕ, List, false, ℤ, pos, ◌-ℤ◌}
+use Rattle.std.specs.List.{slice_get}
+use Rattle.std.specs.Option.{option_map_or}
+use Rattle.dd_lattice.specs.Place.{Place, place}
+use Rattle.dd_commands.specs.declared.command.Entry.{Entry}
+use Rattle.dd_commands.specs.declared.command.Entry.TheVariants as entry
+use Rattle.dd_commands.specs.declared.command.Vector.{Vector}
+use Rattle.dd_written.specs.Values.{value}
+use Rattle.dd_faults.specs.Commands.{is_far}
+
+-- the number of an entry, with its sign
+abbrev pub signed_value : List ℕ → Entry → ℤ
+signed_value bytes (entry.Number n) = pos (value bytes n)
+signed_value bytes (entry.Negative n) = pos 0 -ℤ pos (value bytes n)
+
+-- the number of the entry for an axis, and 0 where there is none
+abbrev pub coordinate : List ℕ → Vector → ℕ → ℤ
+coordinate bytes v axis = option_map_or (signed_value bytes) (slice_get v.entries axis) (pos 0)
+
+abbrev pub place_of : List ℕ → Vector → Place
+place_of bytes v = place (coordinate bytes v 0) (coordinate bytes v 1) (coordinate bytes v 2)
+
+-- no entry is more than 4 in absolute value
+abbrev pub IsClose : List ℕ → Vector → Type 0
+IsClose bytes v = is_far bytes v ≡ false
