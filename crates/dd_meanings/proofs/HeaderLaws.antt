@@ -1,0 +1,214 @@
+-- What the commands of the header have where they have no fault.
+use Rattle.std.proofs.Common.{◌≡◌, ℕ, ◌≤◌, ◌<◌, Bool, true, false, cond, eqb, nat_lt, List, [], ◌∷◌, ◌++◌, length, map, slice_index_or, refl, sym, ap, ◌∙◌, subst, arith}
+use Rattle.std.specs.Prelude.{◌==◌, ◌||◌, ◌&&◌, nat_le, not, min}
+use Rattle.std.specs.List.{All, flat_map}
+use Rattle.std.proofs.lemmas.Bool.{and_parts, eqb-true}
+use Rattle.std.proofs.lemmas.Bool.Decides.{nat_tests}
+use Rattle.std.proofs.lemmas.List.{length-map}
+use Rattle.std.proofs.lemmas.List.Elements.{All-nil, All-cons, All-get_or}
+use Rattle.dd_written.specs.declared.lexeme.Number.{Number}
+use Rattle.dd_written.specs.declared.tree.Name.{Name}
+use Rattle.dd_written.specs.Values.{value, name_text}
+use Rattle.dd_commands.specs.declared.command.Command.TheVariants as command
+use Rattle.dd_topology.specs.declared.builtin.Kind.{Kind}
+use Rattle.dd_topology.specs.declared.builtin.Kind.TheVariants as kind
+use Rattle.dd_topology.specs.Naming.{AreDistinct}
+use Rattle.dd_topology.specs.Grid.{Grid, IsGrid, grid}
+use Rattle.dd_topology.specs.Builtin.{grid_of}
+use Rattle.dd_faults.specs.declared.fault.Limit.TheVariants as limit
+use Rattle.dd_faults.specs.declared.context.Context.{Context}
+use Rattle.dd_faults.specs.Order.{over}
+use Rattle.dd_faults.specs.Names.{missing, number_in}
+use Rattle.dd_faults.specs.Repeats.{twice_named}
+use Rattle.dd_faults.specs.Commands.{unless, dimension_of, kind_dimension, kind_nodes, kind_fits, weight_faults, restricted_again, passes_limits, faults_of}
+use Rattle.dd_meanings.specs.Topologies.{plain_kind, default_grid, kind_names}
+use Rattle.dd_meanings.specs.Definitions.{symbol_of}
+use Rattle.dd_meanings.specs.Meanings.{limits}
+use Rattle.dd_meanings.specs.Sound.{IsGridOf, AreNames, IsRestriction, AreWeights, AreLimits}
+use Rattle.dd_meanings.proofs.Nothing.{both_nil, fits, within, neither}
+use Rattle.dd_meanings.proofs.NameLaws.{number_below}
+
+at_most : (a b : ℕ) → nat_lt a b ≡ false → b ≤ a
+at_most a b e = grind (arith, nat_tests, e)
+
+le_from : (a b : ℕ) → nat_le a b ≡ true → a ≤ b
+le_from a b e = grind (arith, nat_tests, e)
+
+-- ---- the dimension
+
+pub dimension_within : (x : Context) (n : Number) → faults_of x (command.Dimension n) ≡ [] → (1 ≤ value x.text n) × (value x.text n ≤ 3)
+dimension_within x n h =
+    let both = and_parts (nat_le 1 (value x.text n)) (nat_le (value x.text n) 3) (fits (nat_le 1 (value x.text n) && nat_le (value x.text n) 3) h) in
+    (le_from 1 (value x.text n) both.0, le_from (value x.text n) 3 both.1)
+
+pub uncut : (n m : ℕ) → m ≡ min n 4294967295 → n ≤ 1000000 → m ≡ n
+uncut n m is le = omega (arith, is, le)
+
+pub value_next : (bytes : List ℕ) (ns : List Number) (i : ℕ) (d : Number) (m : ℕ) → All (λ n. value bytes n ≤ 1000) ns → i < length ns → m ≡ min (value bytes (slice_index_or ns i d)) 4294967295 → m ≡ value bytes (slice_index_or ns i d)
+value_next bytes ns i d m light lt is = let small = All-get_or (λ n. value bytes n ≤ 1000) ns i d lt light in uncut (value bytes (slice_index_or ns i d)) m is (omega (arith, small))
+
+plain_nodes : (d : ℕ) → (grid_of (plain_kind d)).nodes ≡ 1
+plain_nodes d = by (eqb d 1) (eqb d 3)
+  where
+    by : (b c : Bool) → (grid_of (cond b kind.Line (cond c kind.Cube kind.Square))).nodes ≡ 1
+    by true c = refl
+    by false true = refl
+    by false false = refl
+
+-- the default topology has the nodes that it is asked for
+pub default_nodes : (d n : ℕ) → (default_grid d n).nodes ≡ n
+default_nodes d n = by (eqb n 1) refl
+  where
+    by : (b : Bool) → eqb n 1 ≡ b → (cond b (grid_of (plain_kind d)) (grid d n [] [])).nodes ≡ n
+    by true e = plain_nodes d ∙ sym (eqb-true n 1 e)
+    by false e = refl
+
+pub default_sound : (d n : ℕ) (g : Grid) → IsGrid g → g ≡ default_grid d n → IsGridOf n (default_grid d n)
+default_sound d n g sound is = record { grid = subst IsGrid is sound; nodes = default_nodes d n }
+
+pub default_is : (x : Context) (n : Number) (d m : ℕ) (g : Grid) → faults_of x (command.Dimension n) ≡ [] → d ≡ min (value x.text n) 4294967295 → m ≡ length x.known.setting.nodes → g ≡ default_grid d m
+    → g ≡ default_grid (value x.text n) (length x.known.setting.nodes)
+default_is x n d m g h is many at =
+    let both = dimension_within x n h in
+    let same : d ≡ value x.text n = uncut (value x.text n) d is (omega (arith, both.1)) in
+    at ∙ (ap (λ k. default_grid k m) same ∙ ap (default_grid (value x.text n)) many)
+
+pub nodes_sound : (x : Context) (written : List Name) (names : List (List ℕ)) (d m : ℕ) (g : Grid) → names ≡ map (name_text x.text) written → d ≡ dimension_of x.known → m ≡ length names → g ≡ default_grid d m → IsGrid g
+    → IsGridOf (length (map (name_text x.text) written)) (default_grid (dimension_of x.known) (length written))
+nodes_sound x written names d m g named dims many at sound =
+    let count : m ≡ length written = many ∙ (ap length named ∙ length-map written (name_text x.text)) in
+    let is : g ≡ default_grid (dimension_of x.known) (length written) = at ∙ (ap (λ k. default_grid k m) dims ∙ ap (default_grid (dimension_of x.known)) count) in
+    record { grid = subst IsGrid is sound; nodes = default_nodes (dimension_of x.known) (length written) ∙ sym (length-map written (name_text x.text)) }
+
+-- ---- names
+
+pub few_nodes : (x : Context) (names : List Name) → faults_of x (command.Nodes names) ≡ [] → length names ≤ 4
+few_nodes x names h =
+    let shape = unless (x.later || nat_le (length names) 1) in
+    let many = over (nat_lt 4 (length names)) limit.Nodes in
+    at_most 4 (length names) (within (nat_lt 4 (length names)) limit.Nodes (both_nil shape many (both_nil (twice_named x.text names) (shape ++ many) h).1).1)
+
+pub nodes_once : (x : Context) (names : List Name) → faults_of x (command.Nodes names) ≡ [] → twice_named x.text names ≡ []
+nodes_once x names h =
+    let shape = unless (x.later || nat_le (length names) 1) in
+    let many = over (nat_lt 4 (length names)) limit.Nodes in
+    (both_nil (twice_named x.text names) (shape ++ many) h).0
+
+pub few_symbols : (x : Context) (names : List Name) → faults_of x (command.Alphabet names) ≡ [] → length names ≤ 16
+few_symbols x names h = at_most 16 (length names) (within (nat_lt 16 (length names)) limit.Alphabet (both_nil (twice_named x.text names) (over (nat_lt 16 (length names)) limit.Alphabet) h).1)
+
+pub symbols_once : (x : Context) (names : List Name) → faults_of x (command.Alphabet names) ≡ [] → twice_named x.text names ≡ []
+symbols_once x names h = (both_nil (twice_named x.text names) (over (nat_lt 16 (length names)) limit.Alphabet) h).0
+
+pub names_are : (bytes : List ℕ) (most : ℕ) (written : List Name) (names : List (List ℕ)) → names ≡ map (name_text bytes) written → 1 ≤ length written → length written ≤ most → AreDistinct names → AreNames most (map (name_text bytes) written)
+names_are bytes most written names is some few distinct =
+    let many : length (map (name_text bytes) written) ≡ length written = length-map written (name_text bytes) in
+    record { some = omega (arith, many, some); few = omega (arith, many, few); distinct = subst AreDistinct is distinct }
+
+-- ---- kinds
+
+kind_has : (t : Kind) → (grid_of t).nodes ≡ length (kind_names t)
+kind_has kind.Line = refl
+kind_has kind.Square = refl
+kind_has kind.King = refl
+kind_has kind.Triangle = refl
+kind_has kind.Hex = refl
+kind_has kind.Cube = refl
+
+kind_counts : (t : Kind) → (grid_of t).nodes ≡ kind_nodes t
+kind_counts kind.Line = refl
+kind_counts kind.Square = refl
+kind_counts kind.King = refl
+kind_counts kind.Triangle = refl
+kind_counts kind.Hex = refl
+kind_counts kind.Cube = refl
+
+few_names : (t : Kind) → (1 ≤ length (kind_names t)) × (length (kind_names t) ≤ 4)
+few_names kind.Line = (omega arith, omega arith)
+few_names kind.Square = (omega arith, omega arith)
+few_names kind.King = (omega arith, omega arith)
+few_names kind.Triangle = (omega arith, omega arith)
+few_names kind.Hex = (omega arith, omega arith)
+few_names kind.Cube = (omega arith, omega arith)
+
+pub kind_sound : (t : Kind) (g : Grid) (names : List (List ℕ)) → IsGrid g → g ≡ grid_of t → AreDistinct names → names ≡ kind_names t → AreNames 4 (kind_names t) × IsGridOf (length (kind_names t)) (grid_of t)
+kind_sound t g names sound is distinct named = (
+  record { some = (few_names t).0; few = (few_names t).1; distinct = subst AreDistinct named distinct },
+  record { grid = subst IsGrid is sound; nodes = kind_has t },
+)
+
+given : (b c : Bool) → b ≡ true → (not b || c) ≡ true → c ≡ true
+given true c is h = h
+given false c is h = absurd cc
+
+-- nodes that are given are as many as those of a kind that fits
+pub given_sound : (x : Context) (t : Kind) (g : Grid) → faults_of x (command.Topology t) ≡ [] → x.known.nodes_are_given ≡ true → IsGrid g → g ≡ grid_of t → IsGridOf (length x.known.setting.nodes) (grid_of t)
+given_sound x t g h is sound at =
+    let k = x.known in
+    let both = and_parts (kind_dimension t == dimension_of k) (not k.nodes_are_given || length k.setting.nodes == kind_nodes t) (fits (kind_fits k t) h) in
+    record {
+      grid = subst IsGrid at sound;
+      nodes = kind_counts t ∙ sym (eqb-true (length k.setting.nodes) (kind_nodes t) (given k.nodes_are_given (length k.setting.nodes == kind_nodes t) is both.1));
+    }
+
+-- ---- symbols of a node
+
+symbols_below : (x : Context) (ns : List Name) → flat_map (missing x.text x.known.setting.symbols) ns ≡ [] → All (λ s. s < length x.known.setting.symbols) (map (symbol_of x) ns)
+symbols_below x [] none = All-nil (λ s. s < length x.known.setting.symbols)
+symbols_below x (n ∷ ns) none =
+    let names = x.known.setting.symbols in
+    let both = both_nil (missing x.text names n) (flat_map (missing x.text names) ns) none in
+    All-cons (λ s. s < length names) (symbol_of x n) (map (symbol_of x) ns) (number_below x.text names n both.0) (symbols_below x ns both.1)
+
+pub restriction_is : (x : Context) (node : Name) (symbols : List Name) → 1 ≤ length symbols → faults_of x (command.Only node symbols) ≡ []
+    → IsRestriction x.known (number_in x.text x.known.setting.nodes node) (map (symbol_of x) symbols)
+restriction_is x node symbols some h =
+    let unknown = missing x.text x.known.setting.nodes node in
+    let again = restricted_again x node in
+    let none = flat_map (missing x.text x.known.setting.symbols) symbols in
+    let twice = twice_named x.text symbols in
+    let first = both_nil unknown (again ++ (none ++ twice)) h in
+    let second = both_nil again (none ++ twice) first.1 in
+    let third = both_nil none twice second.1 in
+    let many : length (map (symbol_of x) symbols) ≡ length symbols = length-map symbols (symbol_of x) in
+    record { exists = number_below x.text x.known.setting.nodes node first.0; some = omega (arith, many, some); below = symbols_below x symbols third.0 }
+
+-- ---- weights and limits
+
+weight_light : (x : Context) (n : Number) → weight_faults x n ≡ [] → value x.text n ≤ 1000
+weight_light x n h = at_most 1000 (value x.text n) (within (nat_lt 1000 (value x.text n)) limit.Weight h)
+
+all_light : (x : Context) (ns : List Number) → flat_map (weight_faults x) ns ≡ [] → All (λ n. value x.text n ≤ 1000) ns
+all_light x [] h = All-nil (λ n. value x.text n ≤ 1000)
+all_light x (n ∷ ns) h =
+    let both = both_nil (weight_faults x n) (flat_map (weight_faults x) ns) h in
+    All-cons (λ n. value x.text n ≤ 1000) n ns (weight_light x n both.0) (all_light x ns both.1)
+
+light_values : (x : Context) (ns : List Number) → flat_map (weight_faults x) ns ≡ [] → All (λ w. w ≤ 1000) (map (value x.text) ns)
+light_values x [] h = All-nil (λ w. w ≤ 1000)
+light_values x (n ∷ ns) h =
+    let both = both_nil (weight_faults x n) (flat_map (weight_faults x) ns) h in
+    All-cons (λ w. w ≤ 1000) (value x.text n) (map (value x.text) ns) (weight_light x n both.0) (light_values x ns both.1)
+
+module _ (x : Context) (ns : List Number) (h : faults_of x (command.Weights ns) ≡ []) where
+  weight_parts : (unless (length ns == length x.known.setting.symbols) ≡ []) × (flat_map (weight_faults x) ns ≡ [])
+  weight_parts = both_nil (unless (length ns == length x.known.setting.symbols)) (flat_map (weight_faults x) ns) h
+
+  pub weights_light : All (λ n. value x.text n ≤ 1000) ns
+  weights_light = all_light x ns weight_parts.1
+
+  pub weights_are : AreWeights x.known (map (value x.text) ns)
+  weights_are = record {
+    each = length-map ns (value x.text) ∙ eqb-true (length ns) (length x.known.setting.symbols) (fits (length ns == length x.known.setting.symbols) weight_parts.0);
+    light = light_values x ns weight_parts.1;
+  }
+
+pub limits_are : (x : Context) (radius period pivots : Number) → faults_of x (command.Limits radius period pivots) ≡ [] → AreLimits (limits (value x.text radius) (value x.text period) (value x.text pivots))
+limits_are x radius period pivots h =
+    let r = value x.text radius in
+    let p = value x.text period in
+    let v = value x.text pivots in
+    let all = neither (nat_lt 8 r || nat_lt p 1 || nat_lt 8 p) (nat_lt 100000 v) (within (passes_limits r p v) limit.Limits h) in
+    let front = neither (nat_lt 8 r || nat_lt p 1) (nat_lt 8 p) all.0 in
+    let first = neither (nat_lt 8 r) (nat_lt p 1) front.0 in
+    record { radius = at_most 8 r first.0; period = (at_most p 1 first.1, at_most 8 p front.1); pivots = at_most 100000 v all.1 }

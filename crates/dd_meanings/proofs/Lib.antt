@@ -1,0 +1,15 @@
+pub mod Nothing
+pub mod Making
+pub mod Layers
+pub mod NameLaws
+pub mod OffsetLaws
+pub mod EdgeLaws
+pub mod HeaderLaws
+pub mod WrittenLaws
+pub mod DefinedLaws
+pub mod Depths
+pub mod WellFormed
+pub mod SizeLaws
+pub mod CaseLists
+pub mod DefinitionLaws
+pub mod ConfigurationLaws

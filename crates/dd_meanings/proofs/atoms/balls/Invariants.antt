@@ -1,0 +1,6 @@
+use Rattle.std.proofs.Common.{◌≡◌, take, map}
+use Rattle.dd_meanings.specs.Formulas.{ball_of}
+use Rattle.dd_meanings.proofs.atoms.balls.Given as goal
+
+abbrev pub invariant-loop-written : goal.invariant-loop-written
+invariant-loop-written l = l.made ≡ map (ball_of l.context l.scope) (take l.written-index l.balls)

@@ -1,0 +1,8 @@
+use Rattle.dd_faults.specs.Commands.{edge_faults}
+use Rattle.dd_meanings.proofs.Nothing.{none_item}
+use Rattle.dd_meanings.proofs.EdgeLaws.{close_edge}
+use Rattle.dd_meanings.proofs.topologies.edges_of.Goals as goal
+
+pub edge_of-next-requires : goal.edge_of-next-requires
+edge_of-next-requires c =
+    close_edge c.args.context.now c.edge-item.result (none_item (edge_faults c.args.context.now) c.args.written.now c.loop-edge.edge-index c.edge-item.result c.loop-edge-test.true c.edge-item.is c.requires)

@@ -1,0 +1,74 @@
+-- What commands define, and the limits on its counts.
+use Rattle.std.specs.Prelude.{ℕ, List, [], ◌∷◌, ◌++◌, map, not, Option, unwrap_or}
+use Rattle.std.specs.List.{slice_get}
+use Rattle.dd_pattern.specs.Periods.{periods_of as with_shear}
+use Rattle.dd_pattern.specs.Tile.{Tile, tile}
+use Rattle.dd_expansion.specs.Leaves.{instances}
+use Rattle.dd_formula.specs.LocalRule.{LocalRule, local_rule, reads_at, expansion_at}
+use Rattle.dd_formula.specs.Automata.{Counted, counted, is_few, is_short, is_shallow}
+use Rattle.dd_formula.specs.declared.automaton.Automaton.{Automaton}
+use Rattle.dd_formula.specs.declared.automaton.Automaton.TheVariants as automaton
+use Rattle.dd_written.specs.declared.lexeme.Word.{Word}
+use Rattle.dd_written.specs.declared.tree.Name.{Name}
+use Rattle.dd_written.specs.declared.tree.Name.TheVariants as name
+use Rattle.dd_written.specs.declared.tree.Formula.{Formula}
+use Rattle.dd_commands.specs.declared.command.Case.{Case}
+use Rattle.dd_commands.specs.declared.command.Vector.{Vector}
+use Rattle.dd_faults.specs.declared.fault.Limit.TheVariants as limit
+use Rattle.dd_faults.specs.declared.fault.Fault.{Fault}
+use Rattle.dd_faults.specs.declared.context.Context.{Context}
+use Rattle.dd_faults.specs.Order.{over}
+use Rattle.dd_faults.specs.Names.{number_in}
+use Rattle.dd_faults.specs.Commands.{dimension_of, period_at, shear_of}
+use Rattle.dd_meanings.specs.Formulas.{formula_of}
+
+-- ---- what is defined
+
+-- the rule of a formula over the script's topology and the symbols that its nodes allow
+abbrev pub rule_of : Context → Formula → LocalRule
+rule_of x f = local_rule x.known.setting.topology x.known.setting.sets (formula_of x f [])
+
+abbrev pub symbol_of : Context → Name → ℕ
+symbol_of x n = number_in x.text x.known.setting.symbols n
+
+abbrev pub case_of : Context → Case → LocalRule × ℕ
+case_of x c = (rule_of x c.condition, symbol_of x c.symbol)
+
+abbrev pub automaton_of : Context → List Case → Name → Automaton
+automaton_of x cases symbol = automaton.Given (record { cases = map (case_of x) cases; otherwise = symbol_of x symbol })
+
+-- the automaton with a number; where there is none, one without cases
+abbrev pub automaton_at : List Automaton → ℕ → Automaton
+automaton_at automata n = unwrap_or (slice_get automata n) (automaton.Given (record { cases = []; otherwise = 0 }))
+
+abbrev pub automaton_named : Context → List Automaton → Word → Automaton
+automaton_named x automata w = automaton_at automata (number_in x.text x.known.automata (name.Word w))
+
+-- the second automaton, and then the first
+abbrev pub composition_of : Context → List Automaton → Word → Word → Automaton
+composition_of x automata outer inner = automaton.Composed (automaton_named x automata outer) (automaton_named x automata inner)
+
+-- the periods of a configuration, and 1 along the axes that the script does not have
+abbrev pub periods_of : List ℕ → Vector → List ℕ
+periods_of bytes v = period_at bytes v 0 ∷ period_at bytes v 1 ∷ period_at bytes v 2 ∷ []
+
+-- the symbols stand in cell order; without a second list the shear is 0
+abbrev pub tile_of : Context → Vector → Option Vector → List Name → Tile
+tile_of x periods shear symbols =
+    tile (dimension_of x.known) (with_shear (periods_of x.text periods) (shear_of x.text shear)) x.known.setting.topology.nodes (map (symbol_of x) symbols)
+
+-- ---- its counts
+
+-- what is counted of a rule
+abbrev pub rule_counts : LocalRule → Counted
+rule_counts r = record { reads = reads_at r; instances = λ a. instances (expansion_at r a); depth = 0 }
+
+-- instances before reach, and reach before depth
+abbrev pub count_faults : ℕ → Counted → List Fault
+count_faults nodes f = over (not (is_few nodes f)) limit.Instances ++ (over (not (is_short nodes f)) limit.Reach ++ over (not (is_shallow f)) limit.Depth)
+
+abbrev pub rule_faults : LocalRule → List Fault
+rule_faults r = count_faults r.nodes (rule_counts r)
+
+abbrev pub automaton_faults : Context → Automaton → List Fault
+automaton_faults x f = count_faults x.known.setting.topology.nodes (counted f)

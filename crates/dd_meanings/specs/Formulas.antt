@@ -1,0 +1,79 @@
+-- Formulas with numbers in place of names.
+use Rattle.std.specs.Prelude.{ℕ, List, [], ◌∷◌, ◌++◌, map, unwrap_or, if◌then◌else◌}
+use Rattle.dd_written.specs.declared.lexeme.Word.{Word}
+use Rattle.dd_written.specs.declared.tree.Name.TheVariants as name
+use Rattle.dd_written.specs.declared.tree.Term.{Term as WrittenTerm}
+use Rattle.dd_written.specs.declared.tree.Side.{Side}
+use Rattle.dd_written.specs.declared.tree.Side.TheVariants as side
+use Rattle.dd_written.specs.declared.tree.Atom.{Atom}
+use Rattle.dd_written.specs.declared.tree.Atom.TheVariants as atom
+use Rattle.dd_written.specs.declared.tree.Ball.{Ball}
+use Rattle.dd_written.specs.declared.tree.Quantor.{Quantor}
+use Rattle.dd_written.specs.declared.tree.Quantor.TheVariants as quantor
+use Rattle.dd_written.specs.declared.tree.Join.{Join}
+use Rattle.dd_written.specs.declared.tree.Join.TheVariants as join
+use Rattle.dd_written.specs.declared.tree.Formula.{Formula as Written}
+use Rattle.dd_written.specs.declared.tree.Formula.TheFolds.{fold-Formula}
+use Rattle.dd_written.specs.declared.tree.Formula.TheOpen.{Formula-F as Written-F}
+use Rattle.dd_written.specs.Values.{value}
+use Rattle.dd_expansion.specs.declared.formulas.Term.{Term}
+use Rattle.dd_expansion.specs.declared.formulas.BallOf.{BallOf}
+use Rattle.dd_expansion.specs.declared.formulas.Formula.{Formula, roll-Formula}
+use Rattle.dd_expansion.specs.declared.formulas.Formula.TheOpen.{Formula-F}
+use Rattle.dd_faults.specs.declared.context.Context.{Context}
+use Rattle.dd_faults.specs.Names.{number_in, variable_of}
+use Rattle.dd_faults.specs.Formulas.{names_symbol}
+
+-- the number of a word that is a variable
+abbrev pub variable_number : List ℕ → List Word → Word → ℕ
+variable_number bytes scope w = unwrap_or (variable_of bytes scope w) 0
+
+abbrev pub label_of : Context → Word → ℕ
+label_of x w = number_in x.text x.known.setting.topology.labels (name.Word w)
+
+abbrev pub term_of : Context → List Word → WrittenTerm → Term
+term_of x scope t = record { variable = variable_number x.text scope t.first; moves = map (label_of x) t.moves }
+
+-- what is said of a term and a symbol, or of two terms
+abbrev pub with_side : (Term → ℕ → Formula) → (Term → Term → Formula) → Context → List Word → Term → Side → Formula
+with_side symbol same x scope t (side.Number n) = symbol t (number_in x.text x.known.setting.symbols (name.Number n))
+with_side symbol same x scope t (side.Term u) =
+    if names_symbol x.text scope u then symbol t (number_in x.text x.known.setting.symbols (name.Word u.first)) else same t (term_of x scope u)
+
+abbrev pub equal_of : Context → List Word → Term → Side → Formula
+equal_of = with_side (λ t n. roll-Formula (Formula-F.Symbol t n)) (λ t u. roll-Formula (Formula-F.Same t u))
+
+abbrev pub not_equal_of : Context → List Word → Term → Side → Formula
+not_equal_of = with_side (λ t n. roll-Formula (Formula-F.NotSymbol t n)) (λ t u. roll-Formula (Formula-F.NotSame t u))
+
+abbrev pub atom_of : Context → List Word → Atom → Formula
+atom_of x scope (atom.Equal t r) = equal_of x scope (term_of x scope t) r
+atom_of x scope (atom.NotEqual t r) = not_equal_of x scope (term_of x scope t) r
+atom_of x scope (atom.Adjacent t u) = roll-Formula (Formula-F.Adjacent (term_of x scope t) (term_of x scope u))
+atom_of x scope (atom.Same t u) = roll-Formula (Formula-F.Place (term_of x scope t) (term_of x scope u))
+atom_of x scope (atom.AtNode t n) = roll-Formula (Formula-F.Node (term_of x scope t) (number_in x.text x.known.setting.nodes n))
+
+abbrev pub ball_of : Context → List Word → Ball → BallOf
+ball_of x scope b = record { variable = variable_number x.text scope b.middle; radius = value x.text b.radius }
+
+abbrev pub joined_of : Join → List Formula → Formula
+joined_of join.And fs = roll-Formula (Formula-F.And fs)
+joined_of join.Or fs = roll-Formula (Formula-F.Or fs)
+
+abbrev pub quantified_of : Quantor → List BallOf → Formula → Formula
+quantified_of quantor.All balls f = roll-Formula (Formula-F.ForAll balls f)
+quantified_of quantor.Exists balls f = roll-Formula (Formula-F.Exists balls f)
+
+-- in a scope; a quantifier's variable is in scope in its body, and not in its balls; parentheses leave nothing behind
+abbrev pub formula_step : Context → Written-F (List Word → Formula) → List Word → Formula
+formula_step x (Written-F.Atom a) scope = atom_of x scope a
+formula_step x (Written-F.Not f) scope = roll-Formula (Formula-F.Not (f scope))
+formula_step x (Written-F.Quantified q w balls f) scope = quantified_of q (map (ball_of x scope) balls) (f (scope ++ w ∷ []))
+formula_step x (Written-F.Group f) scope = f scope
+formula_step x (Written-F.List j fs) scope = joined_of j (map (λ f. f scope) fs)
+formula_step x (Written-F.Implies f g) scope = roll-Formula (Formula-F.Implies (f scope) (g scope))
+formula_step x (Written-F.Iff f g) scope = roll-Formula (Formula-F.Iff (f scope) (g scope))
+
+-- the formula that is meant, in a scope
+abbrev pub formula_of : Context → Written → List Word → Formula
+formula_of x = fold-Formula (List Word → Formula) (formula_step x)

@@ -1,0 +1,12 @@
+-- what each command means, and the limits of it
+pub mod Meanings
+-- what each meaning keeps
+pub mod Sound
+-- what is defined, and its counts
+pub mod Definitions
+-- formulas with numbers in place of names
+pub mod Formulas
+-- topologies
+pub mod Topologies
+-- the parts of definitions as they are made
+pub mod making

@@ -1,0 +1,73 @@
+-- What each meaning keeps.
+use Rattle.std.specs.Prelude.{ℕ, ◌≡◌, ◌<◌, ◌≤◌, ◌%◌, true, List, length, slice_index, Contains}
+use Rattle.std.specs.List.{All}
+use Rattle.dd_topology.specs.Naming.{AreDistinct}
+use Rattle.dd_topology.specs.Grid.{Grid, IsGrid}
+use Rattle.dd_topology.specs.Sets.{allows}
+use Rattle.dd_boxes.specs.declared.limits.Limits.{Limits}
+use Rattle.dd_pattern.specs.Tile.{Tile, IsTile}
+use Rattle.dd_formula.specs.LocalRule.{LocalRule, IsRule}
+use Rattle.dd_formula.specs.Automata.{IsAutomaton}
+use Rattle.dd_formula.specs.declared.automaton.Automaton.{Automaton}
+use Rattle.dd_written.specs.declared.lexeme.Word.{Word}
+use Rattle.dd_written.specs.Values.{word_text}
+use Rattle.dd_faults.specs.declared.context.Known.{Known}
+use Rattle.dd_faults.specs.declared.context.Context.{Context}
+use Rattle.dd_query.specs.Made.{numbers_of, IsRuleOf}
+use Rattle.dd_query.specs.Sound.{IsSoundQuery}
+use Rattle.dd_meanings.specs.declared.meaning.Meaning.{Meaning}
+use Rattle.dd_meanings.specs.declared.meaning.Meaning.TheVariants as meant
+
+-- a topology of so many nodes
+pub record IsGridOf (n : ℕ) (g : Grid) : Type 0 where
+  pub grid : IsGrid g
+  pub nodes : g.nodes ≡ n
+
+-- one name at least, so many at most, and none twice
+pub record AreNames (most : ℕ) (names : List (List ℕ)) : Type 0 where
+  pub some : 1 ≤ length names
+  pub few : length names ≤ most
+  pub distinct : AreDistinct names
+
+-- one of the nodes, and some of the symbols
+pub record IsRestriction (k : Known) (node : ℕ) (symbols : List ℕ) : Type 0 where
+  pub exists : node < length k.setting.nodes
+  pub some : 1 ≤ length symbols
+  pub below : All (λ s. s < length k.setting.symbols) symbols
+
+-- one for each symbol, none over 1,000
+pub record AreWeights (k : Known) (weights : List ℕ) : Type 0 where
+  pub each : length weights ≡ length k.setting.symbols
+  pub light : All (λ w. w ≤ 1000) weights
+
+pub record AreLimits (l : Limits) : Type 0 where
+  pub radius : l.radius ≤ 8
+  pub period : (1 ≤ l.period) × (l.period ≤ 8)
+  pub pivots : l.pivots ≤ 100000
+
+-- a name that no rule, automaton or configuration has
+pub record IsNew (x : Context) (w : Word) : Type 0 where
+  pub rules : ¬ Contains x.known.rules (word_text x.text w)
+  pub automata : ¬ Contains x.known.automata (word_text x.text w)
+  pub configurations : ¬ Contains x.known.configurations (word_text x.text w)
+
+-- a configuration of the script's dimension and nodes, each cell with a symbol that its node allows
+pub record IsConfigurationOf (k : Known) (t : Tile) : Type 0 where
+  pub tile : IsTile t
+  pub dimension : t.dimension ≡ k.setting.topology.dimension
+  pub nodes : t.nodes ≡ k.setting.topology.nodes
+  pub symbols : All (λ s. s < length k.setting.symbols) t.symbols
+  -- the nodes stand innermost
+  pub allowed : (i : ℕ) → i < length t.symbols → allows k.setting.sets (i % t.nodes) (slice_index t.symbols i) ≡ true
+
+abbrev pub IsSoundMeaning : Context → List LocalRule → List Automaton → Meaning → Type 0
+IsSoundMeaning x rules automata (meant.Topology g) = IsGridOf (length x.known.setting.nodes) g
+IsSoundMeaning x rules automata (meant.Nodes names given g) = AreNames 4 names × IsGridOf (length names) g
+IsSoundMeaning x rules automata (meant.Symbols names) = AreNames 16 names
+IsSoundMeaning x rules automata (meant.Only node symbols) = IsRestriction x.known node symbols
+IsSoundMeaning x rules automata (meant.Weights ws) = AreWeights x.known ws
+IsSoundMeaning x rules automata (meant.Limits l) = AreLimits l
+IsSoundMeaning x rules automata (meant.Rule name r) = IsNew x name × IsRule r × IsRuleOf x.known r
+IsSoundMeaning x rules automata (meant.Automaton name f) = IsNew x name × IsAutomaton (numbers_of x.known) f
+IsSoundMeaning x rules automata (meant.Configuration name t) = IsNew x name × IsConfigurationOf x.known t
+IsSoundMeaning x rules automata (meant.Query q) = IsSoundQuery x.known rules automata q

@@ -1,0 +1,218 @@
+//! Terms, atoms and balls with numbers in place of names.
+ghost use Rattle.std.specs.Prelude.{◌≡◌, ◌≤◌, [], length, map, position, bytes_eq, IfOk};
+ghost use Rattle.std.specs.List.{flat_map};
+ghost use Rattle.dd_written.specs.Values.{word_text};
+ghost use Rattle.dd_faults.specs.Names.{number_in, variable_of};
+ghost use Rattle.dd_faults.specs.Formulas.{names_symbol, ball_faults};
+ghost use Rattle.dd_meanings.specs.Formulas.{variable_number, label_of, term_of, equal_of, not_equal_of, atom_of, ball_of};
+
+use crate::names::number_in;
+use dd_expansion::{BallOf, Formula, Term};
+use dd_faults::Context;
+use dd_values::Items;
+use dd_written::{Atom, Ball, Name, Side, Term as Written, Text, Word, name_text, number_value};
+use std::alloc::{AllocError, Global};
+
+/// The first place of a text among those of words.
+fn place_among(text: &Text, words: &[Word], wanted: &str) -> Option<usize>
+    ensures { result ≡ position (λ v. bytes_eq (word_text text.now v) wanted.now) words.now }
+{
+    words
+        .iter()
+        .position(|word| text.part(word.start, word.length) == wanted)
+}
+
+/// The number of a variable, where the word is one.
+fn variable_of(text: &Text, scope: &[Word], word: Word) -> Option<u32>
+    requires { length scope.now ≤ 64 }
+    ensures { result ≡ variable_of text.now scope.now word }
+{
+    let wanted = text.part(word.start, word.length);
+    if wanted == "o" {
+        return Some(0);
+    }
+    match place_among(text, scope, wanted) {
+        Some(place) => Some(place as u32 + 1),
+        None => None,
+    }
+}
+
+/// The number of a variable, and 0 where the word is none.
+fn variable(text: &Text, scope: &[Word], word: Word) -> u32
+    requires { length scope.now ≤ 64 }
+    ensures { result ≡ variable_number text.now scope.now word }
+{
+    variable_of(text, scope, word).unwrap_or(0)
+}
+
+fn label(context: &Context, word: Word) -> u32
+    ensures { result ≡ label_of context.now word }
+{
+    let text = name_text(&context.text, Name::Word(word));
+    context.known.setting.topology.label(text).unwrap_or(0)
+}
+
+fn labels(alloc: Global, context: &Context, moves: &[Word]) -> Result<Items<u32>, AllocError>
+    ensures { IfOk result (λ labels. labels ≡ map (label_of context.now) moves.now) }
+{
+    let mut labels = Items::new(alloc);
+    for word in moves {
+        labels.push(label(context, *word))?;
+    }
+    Ok(labels)
+}
+
+fn term(
+    alloc: Global,
+    context: &Context,
+    scope: &[Word],
+    term: &Written,
+) -> Result<Term, AllocError>
+    requires { length scope.now ≤ 64 }
+    ensures { IfOk result (λ t. t ≡ term_of context.now scope.now term.now) }
+{
+    let variable = variable(&context.text, scope, term.first);
+    let moves = labels(alloc, context, term.moves.as_slice())?;
+    Ok(Term { variable, moves })
+}
+
+/// Whether a term is a single word that is no variable.
+fn names_symbol(context: &Context, scope: &[Word], term: &Written) -> bool
+    requires { length scope.now ≤ 64 }
+    ensures { result ≡ names_symbol context.now.text scope.now term.now }
+{
+    term.moves.len() == 0 && variable_of(&context.text, scope, term.first).is_none()
+}
+
+fn symbol(context: &Context, name: Name) -> u32
+    ensures { result ≡ number_in context.now.text context.now.known.setting.symbols name }
+{
+    number_in(&context.text, &context.known.setting.symbols, name)
+}
+
+/// A term has the symbol, or that of the term, on the right.
+fn equal(
+    alloc: Global,
+    context: &Context,
+    scope: &[Word],
+    term: Term,
+    side: &Side,
+) -> Result<Formula, AllocError>
+    requires { length scope.now ≤ 64 }
+    ensures { IfOk result (λ f. f ≡ equal_of context.now scope.now term side.now) }
+{
+    match side {
+        Side::Number(number) => Ok(Formula::Symbol {
+            term,
+            symbol: symbol(context, Name::Number(*number)),
+        }),
+        Side::Term(written) => {
+            if names_symbol(context, scope, written) {
+                let symbol = symbol(context, Name::Word(written.first));
+                return Ok(Formula::Symbol { term, symbol });
+            }
+            let right = self::term(alloc, context, scope, written)?;
+            Ok(Formula::Same { left: term, right })
+        }
+    }
+}
+
+/// A term has another symbol than what stands on the right.
+fn not_equal(
+    alloc: Global,
+    context: &Context,
+    scope: &[Word],
+    term: Term,
+    side: &Side,
+) -> Result<Formula, AllocError>
+    requires { length scope.now ≤ 64 }
+    ensures { IfOk result (λ f. f ≡ not_equal_of context.now scope.now term side.now) }
+{
+    match side {
+        Side::Number(number) => Ok(Formula::NotSymbol {
+            term,
+            symbol: symbol(context, Name::Number(*number)),
+        }),
+        Side::Term(written) => {
+            if names_symbol(context, scope, written) {
+                let symbol = symbol(context, Name::Word(written.first));
+                return Ok(Formula::NotSymbol { term, symbol });
+            }
+            let right = self::term(alloc, context, scope, written)?;
+            Ok(Formula::NotSame { left: term, right })
+        }
+    }
+}
+
+pub(crate) fn atom(
+    alloc: Global,
+    context: &Context,
+    scope: &[Word],
+    atom: &Atom,
+) -> Result<Formula, AllocError>
+    requires { length scope.now ≤ 64 }
+    ensures { IfOk result (λ f. f ≡ atom_of context.now scope.now atom.now) }
+{
+    match atom {
+        Atom::Equal {
+            term: written,
+            side,
+        } => {
+            let term = term(alloc, context, scope, written)?;
+            equal(alloc, context, scope, term, side)
+        }
+        Atom::NotEqual {
+            term: written,
+            side,
+        } => {
+            let term = term(alloc, context, scope, written)?;
+            not_equal(alloc, context, scope, term, side)
+        }
+        Atom::Adjacent { left, right } => {
+            let left = term(alloc, context, scope, left)?;
+            let right = term(alloc, context, scope, right)?;
+            Ok(Formula::Adjacent { left, right })
+        }
+        Atom::Same { left, right } => {
+            let left = term(alloc, context, scope, left)?;
+            let right = term(alloc, context, scope, right)?;
+            Ok(Formula::Place { left, right })
+        }
+        Atom::AtNode {
+            term: written,
+            node,
+        } => {
+            let term = term(alloc, context, scope, written)?;
+            let node = number_in(&context.text, &context.known.setting.nodes, *node);
+            Ok(Formula::Node { term, node })
+        }
+    }
+}
+
+fn ball(context: &Context, scope: &[Word], ball: &Ball) -> BallOf
+    requires few { length scope.now ≤ 64 }
+    requires faultless { ball_faults context.now scope.now ball.now ≡ [] }
+    ensures { result ≡ ball_of context.now scope.now ball.now }
+{
+    BallOf {
+        variable: variable(&context.text, scope, ball.middle),
+        radius: number_value(&context.text, ball.radius),
+    }
+}
+
+pub(crate) fn balls(
+    alloc: Global,
+    context: &Context,
+    scope: &[Word],
+    balls: &[Ball],
+) -> Result<Items<BallOf>, AllocError>
+    requires few { length scope.now ≤ 64 }
+    requires faultless { flat_map (ball_faults context.now scope.now) balls.now ≡ [] }
+    ensures { IfOk result (λ made. made ≡ map (ball_of context.now scope.now) balls.now) }
+{
+    let mut made = Items::new(alloc);
+    for written in balls {
+        made.push(ball(context, scope, written))?;
+    }
+    Ok(made)
+}

@@ -1,0 +1,122 @@
+//! Formulas with numbers in place of names.
+ghost use Rattle.std.specs.Prelude.{◌≡◌, ◌+◌, ◌≤◌, [], ◌∷◌, ◌++◌, length, map, IfOk};
+ghost use Rattle.std.specs.List.{flat_map};
+ghost use Rattle.dd_written.specs.Formulas.{depth, greatest};
+ghost use Rattle.dd_faults.specs.Formulas.{formula_faults};
+ghost use Rattle.dd_meanings.specs.Formulas.{formula_of, joined_of, quantified_of};
+
+use crate::atoms::{atom, balls};
+use dd_expansion::{BallOf, Formula};
+use dd_faults::Context;
+use dd_values::{Boxed, Items};
+use dd_written::{Formula as Written, Join, Quantor, Word};
+use std::alloc::{AllocError, Global};
+
+/// The scope in the body of a quantifier.
+fn within(alloc: Global, scope: &[Word], variable: Word) -> Result<Items<Word>, AllocError>
+    ensures { IfOk result (λ inner. inner ≡ scope.now ++ variable ∷ []) }
+{
+    let mut inner = Items::from_slice(alloc, scope)?;
+    inner.push(variable)?;
+    Ok(inner)
+}
+
+fn joined(join: Join, members: Items<Formula>) -> Formula
+    ensures { result ≡ joined_of join members }
+{
+    match join {
+        Join::And => Formula::And(members),
+        Join::Or => Formula::Or(members),
+    }
+}
+
+fn quantified(quantor: Quantor, balls: Items<BallOf>, body: Boxed<Formula>) -> Formula
+    ensures { result ≡ quantified_of quantor balls body }
+{
+    match quantor {
+        Quantor::All => Formula::ForAll { balls, body },
+        Quantor::Exists => Formula::Exists { balls, body },
+    }
+}
+
+/// The formula that a written one without faults means in a scope.
+#[cycle(meaning)]
+#[tactic(auto, using(crate::proofs::Layers::layers))]
+fn formula_in(
+    alloc: Global,
+    context: &Context,
+    scope: &[Word],
+    formula: &Written,
+) -> Result<Formula, AllocError>
+    requires shallow { length scope.now + depth formula.now ≤ 64 }
+    requires faultless { formula_faults context.now formula.now scope.now ≡ [] }
+    ensures { IfOk result (λ f. f ≡ formula_of context.now formula.now scope.now) }
+{
+    match formula {
+        Written::Atom(written) => atom(alloc, context, scope, written),
+        Written::Not(inner) => {
+            let negated = formula_in(alloc, context, scope, inner.get())?;
+            Ok(Formula::Not(Boxed::new(alloc, negated)?))
+        }
+        Written::Quantified {
+            quantor,
+            variable,
+            balls: written,
+            body,
+        } => {
+            let balls = balls(alloc, context, scope, written.as_slice())?;
+            let inner = within(alloc, scope, *variable)?;
+            let body = formula_in(alloc, context, inner.as_slice(), body.get())?;
+            Ok(quantified(*quantor, balls, Boxed::new(alloc, body)?))
+        }
+        Written::Group(inner) => formula_in(alloc, context, scope, inner.get()),
+        Written::List { join, members } => {
+            let members = members_in(alloc, context, scope, members.as_slice())?;
+            Ok(joined(*join, members))
+        }
+        Written::Implies {
+            premise,
+            conclusion,
+        } => {
+            let premise = formula_in(alloc, context, scope, premise.get())?;
+            let conclusion = formula_in(alloc, context, scope, conclusion.get())?;
+            Ok(Formula::Implies(Boxed::new(alloc, premise)?, Boxed::new(alloc, conclusion)?))
+        }
+        Written::Iff { left, right } => {
+            let left = formula_in(alloc, context, scope, left.get())?;
+            let right = formula_in(alloc, context, scope, right.get())?;
+            Ok(Formula::Iff(Boxed::new(alloc, left)?, Boxed::new(alloc, right)?))
+        }
+    }
+}
+
+#[cycle(meaning)]
+fn members_in(
+    alloc: Global,
+    context: &Context,
+    scope: &[Word],
+    members: &[Written],
+) -> Result<Items<Formula>, AllocError>
+    requires shallow { length scope.now + greatest (map depth members.now) ≤ 64 }
+    requires faultless { flat_map (λ f. formula_faults context.now f scope.now) members.now ≡ [] }
+    ensures { IfOk result (λ made. made ≡ map (λ f. formula_of context.now f scope.now) members.now) }
+{
+    let mut made = Items::new(alloc);
+    for member in members {
+        made.push(formula_in(alloc, context, scope, member)?)?;
+    }
+    Ok(made)
+}
+
+/// The formula that a written one without faults means, with the origin as its free variable.
+pub(crate) fn formula(
+    alloc: Global,
+    context: &Context,
+    written: &Written,
+) -> Result<Formula, AllocError>
+    requires shallow { depth written.now ≤ 64 }
+    requires faultless { formula_faults context.now written.now [] ≡ [] }
+    ensures { IfOk result (λ f. f ≡ formula_of context.now written.now []) }
+{
+    formula_in(alloc, context, &[], written)
+}

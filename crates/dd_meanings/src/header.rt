@@ -1,0 +1,167 @@
+//! What the commands of the header mean.
+ghost use Rattle.std.specs.Prelude.{◌≡◌, ◌≤◌, [], length, map, IfOk, OnOk};
+ghost use Rattle.std.specs.List.{All};
+ghost use Rattle.dd_written.specs.Values.{value};
+ghost use Rattle.dd_commands.specs.declared.command.Command.TheVariants as command;
+ghost use Rattle.dd_faults.specs.Order.{Resolves};
+ghost use Rattle.dd_faults.specs.Sound.{IsSound};
+ghost use Rattle.dd_faults.specs.Commands.{faults_of};
+ghost use Rattle.dd_meanings.specs.Definitions.{symbol_of};
+ghost use Rattle.dd_meanings.specs.Meanings.{meaning};
+ghost use Rattle.dd_meanings.specs.Sound.{IsSoundMeaning};
+
+use crate::meaning::Meaning;
+use crate::names::{names_of, number_in};
+use crate::topologies::{default_topology, kind_names, topology_by};
+use dd_boxes::Limits;
+use dd_commands::Edge;
+use dd_faults::{Context, Refusal};
+use dd_topology::{Kind, Topology};
+use dd_values::Items;
+use dd_written::{Name, Number, number_value};
+use std::alloc::{AllocError, Global};
+
+pub(crate) fn dimension(
+    alloc: Global,
+    context: &Context,
+    number: Number,
+) -> Result<Meaning, Refusal>
+    requires sound { IsSound context.now.known }
+    requires faultless { faults_of context.now (command.Dimension number) ≡ [] }
+    ensures exact { Resolves result [] (meaning context.now [] [] (command.Dimension number)) }
+    ensures sound { OnOk result (IsSoundMeaning context.now [] [] (meaning context.now [] [] (command.Dimension number))) }
+{
+    let dimension = number_value(&context.text, number);
+    let nodes = context.known.setting.nodes.count();
+    let topology = default_topology(alloc, dimension, nodes)?;
+    let _dimension = topology.dim();
+    Ok(Meaning::Topology(topology))
+}
+
+pub(crate) fn nodes(alloc: Global, context: &Context, names: &[Name]) -> Result<Meaning, Refusal>
+    requires sound { IsSound context.now.known }
+    requires some { 1 ≤ length names.now }
+    requires faultless { faults_of context.now (command.Nodes names.now) ≡ [] }
+    ensures exact { Resolves result [] (meaning context.now [] [] (command.Nodes names.now)) }
+    ensures sound { OnOk result (IsSoundMeaning context.now [] [] (meaning context.now [] [] (command.Nodes names.now))) }
+{
+    let nodes = names_of(alloc, &context.text, names)?;
+    let dimension = context.known.setting.topology.dim();
+    let topology = default_topology(alloc, dimension, nodes.count())?;
+    let _dimension = topology.dim();
+    Ok(Meaning::Nodes {
+        nodes,
+        given: true,
+        topology,
+    })
+}
+
+pub(crate) fn alphabet(alloc: Global, context: &Context, names: &[Name]) -> Result<Meaning, Refusal>
+    requires some { 1 ≤ length names.now }
+    requires faultless { faults_of context.now (command.Alphabet names.now) ≡ [] }
+    ensures exact { Resolves result [] (meaning context.now [] [] (command.Alphabet names.now)) }
+    ensures sound { OnOk result (IsSoundMeaning context.now [] [] (meaning context.now [] [] (command.Alphabet names.now))) }
+{
+    let symbols = names_of(alloc, &context.text, names)?;
+    let _count = symbols.count();
+    Ok(Meaning::Symbols(symbols))
+}
+
+pub(crate) fn kind(alloc: Global, context: &Context, kind: Kind) -> Result<Meaning, Refusal>
+    requires faultless { faults_of context.now (command.Topology kind) ≡ [] }
+    ensures exact { Resolves result [] (meaning context.now [] [] (command.Topology kind)) }
+    ensures sound { OnOk result (IsSoundMeaning context.now [] [] (meaning context.now [] [] (command.Topology kind))) }
+{
+    let topology = Topology::builtin(alloc, kind)?;
+    let _dimension = topology.dim();
+    if context.known.nodes_are_given {
+        return Ok(Meaning::Topology(topology));
+    }
+    let nodes = kind_names(alloc, kind)?;
+    let _count = nodes.count();
+    Ok(Meaning::Nodes {
+        nodes,
+        given: false,
+        topology,
+    })
+}
+
+pub(crate) fn edges(alloc: Global, context: &Context, edges: &[Edge]) -> Result<Meaning, Refusal>
+    requires sound { IsSound context.now.known }
+    requires faultless { faults_of context.now (command.Edges edges.now) ≡ [] }
+    ensures exact { Resolves result [] (meaning context.now [] [] (command.Edges edges.now)) }
+    ensures sound { OnOk result (IsSoundMeaning context.now [] [] (meaning context.now [] [] (command.Edges edges.now))) }
+{
+    let topology = topology_by(alloc, context, edges)?;
+    let _dimension = topology.dim();
+    Ok(Meaning::Topology(topology))
+}
+
+/// The numbers of symbols.
+pub(crate) fn symbols_of(
+    alloc: Global,
+    context: &Context,
+    names: &[Name],
+) -> Result<Items<u32>, AllocError>
+    ensures { IfOk result (λ symbols. symbols ≡ map (symbol_of context.now) names.now) }
+{
+    let mut symbols = Items::new(alloc);
+    for name in names {
+        symbols.push(number_in(&context.text, &context.known.setting.symbols, *name))?;
+    }
+    Ok(symbols)
+}
+
+pub(crate) fn only(
+    alloc: Global,
+    context: &Context,
+    node: Name,
+    symbols: &[Name],
+) -> Result<Meaning, Refusal>
+    requires some { 1 ≤ length symbols.now }
+    requires faultless { faults_of context.now (command.Only node symbols.now) ≡ [] }
+    ensures exact { Resolves result [] (meaning context.now [] [] (command.Only node symbols.now)) }
+    ensures sound { OnOk result (IsSoundMeaning context.now [] [] (meaning context.now [] [] (command.Only node symbols.now))) }
+{
+    let node = number_in(&context.text, &context.known.setting.nodes, node);
+    let symbols = symbols_of(alloc, context, symbols)?;
+    Ok(Meaning::Only { node, symbols })
+}
+
+/// The values of numbers that are within a limit.
+fn values_of(alloc: Global, context: &Context, numbers: &[Number]) -> Result<Items<u32>, AllocError>
+    requires { All (λ n. value context.now.text n ≤ 1000) numbers.now }
+    ensures { IfOk result (λ values. values ≡ map (value context.now.text) numbers.now) }
+{
+    let mut values = Items::new(alloc);
+    for number in numbers {
+        values.push(number_value(&context.text, *number))?;
+    }
+    Ok(values)
+}
+
+pub(crate) fn weights(
+    alloc: Global,
+    context: &Context,
+    weights: &[Number],
+) -> Result<Meaning, Refusal>
+    requires faultless { faults_of context.now (command.Weights weights.now) ≡ [] }
+    ensures exact { Resolves result [] (meaning context.now [] [] (command.Weights weights.now)) }
+    ensures sound { OnOk result (IsSoundMeaning context.now [] [] (meaning context.now [] [] (command.Weights weights.now))) }
+{
+    let weights = values_of(alloc, context, weights)?;
+    Ok(Meaning::Weights(weights))
+}
+
+pub(crate) fn limits(context: &Context, radius: Number, period: Number, pivots: Number) -> Meaning
+    requires { faults_of context.now (command.Limits radius period pivots) ≡ [] }
+    ensures exact { result ≡ meaning context.now [] [] (command.Limits radius period pivots) }
+    ensures sound { IsSoundMeaning context.now [] [] (meaning context.now [] [] (command.Limits radius period pivots)) }
+{
+    let text = &context.text;
+    Meaning::Limits(Limits {
+        radius: number_value(text, radius),
+        period: number_value(text, period),
+        pivots: number_value(text, pivots),
+    })
+}

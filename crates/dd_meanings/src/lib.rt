@@ -1,0 +1,17 @@
+//! What commands without faults mean: topologies, names, sets, weights and limits of the header; rules, automata and configurations;
+//! and queries. What is too large by its counts alone is refused here.
+#![tactic(auto)]
+
+mod atoms;
+mod cases;
+mod defined;
+mod definitions;
+mod formulas;
+mod header;
+mod meaning;
+mod meanings;
+mod names;
+mod topologies;
+
+pub use meaning::Meaning;
+pub use meanings::mean;

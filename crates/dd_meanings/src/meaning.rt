@@ -1,0 +1,44 @@
+// What a command means.
+use dd_boxes::Limits;
+use dd_formula::{Automaton, Rule};
+use dd_pattern::Periodic;
+use dd_query::Query;
+use dd_topology::{Names, Topology};
+use dd_values::Items;
+use dd_written::Word;
+
+/// What a command means.
+#[derive(Drop)]
+pub enum Meaning {
+    /// A topology of the nodes that there are.
+    Topology(Topology),
+    /// Nodes with their topology, and whether a command named them.
+    Nodes {
+        nodes: Names,
+        given: bool,
+        topology: Topology,
+    },
+    /// The names of the symbols.
+    Symbols(Names),
+    /// The symbols that a node allows.
+    Only {
+        node: u32,
+        symbols: Items<u32>,
+    },
+    /// One for each symbol.
+    Weights(Items<u32>),
+    Limits(Limits),
+    Rule {
+        name: Word,
+        rule: Rule,
+    },
+    Automaton {
+        name: Word,
+        automaton: Automaton,
+    },
+    Configuration {
+        name: Word,
+        configuration: Periodic,
+    },
+    Query(Query),
+}

@@ -1,0 +1,60 @@
+//! Lists of names.
+ghost use Rattle.std.specs.Prelude.{◌≡◌, ◌≤◌, ◌<◌, ◌^◌, ◌-◌, [], ◌∷◌, ◌++◌, length, map, codes, Contains, IfOk, OnOk};
+ghost use Rattle.dd_written.specs.Values.{name_text};
+ghost use Rattle.dd_faults.specs.Names.{number_in};
+ghost use Rattle.dd_faults.specs.Repeats.{twice_named};
+
+use dd_topology::{NameFault, Names};
+use dd_written::{Name, Text, name_text};
+use std::alloc::{AllocError, Global};
+
+/// Adds a name that is not there yet.
+pub(crate) fn add_new(alloc: Global, names: &mut Names, text: &str) -> Result<(), AllocError>
+    requires few { length names.old < 2 ^ 32 - 1 }
+    requires new { ¬ Contains names.old text.now }
+    ensures { OnOk result (names.new ≡ names.old ++ text.now ∷ []) }
+{
+    match names.add(String::from_str(alloc, text)?) {
+        Ok(_) => Ok(()),
+        Err(NameFault::Twice(_)) => unreachable!(),
+        Err(NameFault::Memory(_)) => Err(AllocError),
+    }
+}
+
+/// The name 0.
+pub(crate) fn zero(alloc: Global) -> Result<Names, AllocError>
+    ensures { IfOk result (λ names. names ≡ codes "0" ∷ []) }
+{
+    let mut names = Names::new(alloc);
+    add_new(alloc, &mut names, "0")?;
+    Ok(names)
+}
+
+/// The names 0 and 1.
+pub(crate) fn zero_and_one(alloc: Global) -> Result<Names, AllocError>
+    ensures { IfOk result (λ names. names ≡ codes "0" ∷ codes "1" ∷ []) }
+{
+    let mut names = zero(alloc)?;
+    add_new(alloc, &mut names, "1")?;
+    Ok(names)
+}
+
+/// The texts of names of which none is given twice.
+pub(crate) fn names_of(alloc: Global, text: &Text, written: &[Name]) -> Result<Names, AllocError>
+    requires few { length written.now ≤ 16 }
+    requires distinct { twice_named text.now written.now ≡ [] }
+    ensures { IfOk result (λ names. names ≡ map (name_text text.now) written.now) }
+{
+    let mut names = Names::new(alloc);
+    for name in written {
+        add_new(alloc, &mut names, name_text(text, *name))?;
+    }
+    Ok(names)
+}
+
+/// The number of a name, and 0 where it is none of the names.
+pub(crate) fn number_in(text: &Text, names: &Names, name: Name) -> u32
+    ensures { result ≡ number_in text.now names.now name }
+{
+    names.find(name_text(text, name)).unwrap_or(0)
+}
