@@ -1,9 +1,11 @@
-mod Ascii
-pub mod Nils
-pub mod Stray
-pub mod Fitting
+pub mod Ranges
+pub mod Extending
 pub mod Kept
-pub mod Steps
-pub mod Judging
+pub mod Header
+pub mod Firsts
+pub mod Places
+pub mod Stepping
+pub mod Sofar
 pub mod Telling
+pub mod OneOfBoth
 pub mod ScriptLaws

@@ -1,53 +1,57 @@
--- How it is told that bytes spell a script, or why they spell none.
-use Rattle.std.proofs.Common.{◌≡◌, ℕ, ◌≤◌, List, length, sym, subst}
-use Rattle.dd_syntax.specs.declared.command.Command.{Command}
-use Rattle.dd_syntax.specs.declared.script.Syntax.{Syntax}
-use Rattle.std.specs.Prelude.{Err}
-use Rattle.dd_syntax.specs.declared.fault.SyntaxFault.{SyntaxFault}
-use Rattle.dd_syntax.specs.declared.fault.SyntaxFault.TheVariants as fault
-use Rattle.dd_syntax.specs.Scripts.{IsScript, IsFault, Tells}
-use Rattle.dd_naming.specs.declared.fault.Fault.{Fault}
-use Rattle.dd_naming.specs.declared.fault.Refusal.{Refusal}
-use Rattle.dd_naming.specs.declared.fault.Refusal.TheVariants as refusal
+-- How a fault is told.
+use Rattle.std.proofs.Common.{◌≡◌, ℕ, List, refl, sym, subst, ◌∙◌}
+use Rattle.std.specs.Prelude.{All, Err}
+use Rattle.dd_commands.specs.declared.script.Written.{Written}
+use Rattle.dd_commands.specs.declared.script.Syntax.{Syntax}
+use Rattle.dd_commands.specs.declared.fault.SyntaxFault.{SyntaxFault}
+use Rattle.dd_commands.specs.declared.fault.SyntaxFault.TheVariants as unread
+use Rattle.dd_commands.specs.Scripts.{IsScript, IsWritten, Tells, parts}
+use Rattle.dd_written.specs.Lexemes.{lexemes_of}
+use Rattle.dd_faults.specs.declared.fault.Fault.{Fault}
+use Rattle.dd_faults.specs.declared.fault.Refusal.{Refusal}
+use Rattle.dd_faults.specs.declared.fault.Refusal.TheVariants as refusal
+use Rattle.dd_script.specs.declared.draft.Draft.{Draft}
+use Rattle.dd_script.specs.declared.fault.ScriptFault.{ScriptFault}
 use Rattle.dd_script.specs.declared.fault.ScriptKind.{ScriptKind}
 use Rattle.dd_script.specs.declared.fault.ScriptKind.TheVariants as refused
-use Rattle.dd_script.specs.declared.walking.Stop.{Stop}
 use Rattle.dd_script.specs.Parts.{Parts}
-use Rattle.dd_script.specs.Walk.{faults_of}
-use Rattle.dd_script.specs.Scripts.{Spells, HasFault, Kind, dimension, size, kind_of, IsRefusedAs}
-use Rattle.dd_script.specs.Standing.{AreFit}
-use Rattle.dd_script.specs.Stops.{StopsAt, IsScriptFor, IsStopFor, IsStopIn, IsKindOf}
-use Rattle.dd_script.proofs.Fitting.{fit_script}
+use Rattle.dd_script.specs.Scripts.{Spells, HasFault, kind_of, IsRefusedAs, IsRefusal}
+use Rattle.dd_script.specs.drafting.Standing.{AreOrdered}
+use Rattle.dd_script.specs.drafting.Drafts.{parts_of, Ends, Stops, StopsIn, IsKindOf, IsUnread}
+use Rattle.dd_script.proofs.Sofar.{ordered}
 
-pub at_fault : (bytes : List ℕ) (e : SyntaxFault) (n : ℕ) → e ≡ fault.At n → Tells bytes (Err e) → IsFault bytes n
-at_fault bytes e n is tells = subst (λ (x : SyntaxFault). Tells bytes (Err x)) is tells
+pub each_written : (text t : List ℕ) (ws vs : List Written) → t ≡ text → vs ≡ ws → All (IsWritten text) ws → All (IsWritten t) vs
+each_written text t ws vs same_text same all =
+    subst (λ (x : List ℕ). All (IsWritten x) vs) (sym same_text) (subst (All (IsWritten text)) (sym same) all)
 
-pub fit_at : (bytes : List ℕ) (tree : Syntax) (cs : List Command) → IsScript bytes tree → length bytes ≤ 1048576 → cs ≡ tree.commands → AreFit bytes 0 cs
-fit_at bytes tree cs written few same = subst (AreFit bytes 0) (sym same) (fit_script bytes tree written few)
+pub in_order : (text : List ℕ) (tree : Syntax) (ws : List Written) → IsScript text tree → ws ≡ tree.commands → AreOrdered 0 ws
+in_order text tree ws written same = subst (AreOrdered 0) (sym same) (ordered text 0 (parts (lexemes_of text)).1 tree.commands written.1.1)
 
-pub spelled : (bytes : List ℕ) (tree : Syntax) (cs : List Command) (s : Parts) → IsScript bytes tree → cs ≡ tree.commands → IsScriptFor bytes cs s → Spells bytes s
-spelled bytes tree cs s written same script =
-    let here : IsScriptFor bytes tree.commands s = subst (λ (ds : List Command). IsScriptFor bytes ds s) same script in
-    record { tree = tree; written = written; faultless = here.faultless; meaning = here.script }
+pub spelled : (text : List ℕ) (tree : Syntax) (ws : List Written) (d : Draft) (t : Parts) → IsScript text tree → ws ≡ tree.commands → Ends text ws d → t ≡ parts_of d → Spells text t
+spelled text tree ws d t written same ends made =
+    let here : Ends text tree.commands d = subst (λ (vs : List Written). Ends text vs d) same ends in
+    record { tree = tree; written = written; faultless = here.faultless; meaning = made ∙ here.script }
 
-pub stop_in : (bytes : List ℕ) (tree : Syntax) (cs : List Command) (stop : Stop) → IsScript bytes tree → cs ≡ tree.commands → IsStopFor bytes cs stop → IsStopIn bytes stop
-stop_in bytes tree cs stop written same stops =
-    record { tree = tree; written = written; stops = (subst (λ (ds : List Command). IsStopFor bytes ds stop) same stops).stops }
+-- where the walk stops
+pub stops_in : (text : List ℕ) (tree : Syntax) (ws : List Written) (d : Draft) (r : Refusal) → IsScript text tree → ws ≡ tree.commands → Stops text ws d r → StopsIn d.context.text d.context.number r
+stops_in text tree ws d refusal.Memory written same stops = tt
+stops_in text tree ws d (refusal.At f) written same stops =
+    let here : Stops text tree.commands d (refusal.At f) = subst (λ (vs : List Written). Stops text vs d (refusal.At f)) same stops in
+    subst (λ (t : List ℕ). HasFault t d.context.number (kind_of t f)) (sym here.0) (record { tree = tree; written = written; found = f; comes_first = here.1; is = refl })
 
-fault_at : (bytes : List ℕ) (stop : Stop) (f : Fault) → IsStopIn bytes stop → stop.refusal ≡ refusal.At f → (k : Kind) → k ≡ kind_of bytes f → HasFault bytes stop.command k
-fault_at bytes stop f is at k e =
-    record {
-      tree = is.tree;
-      written = is.written;
-      found = f;
-      comes_first = subst (λ (r : Refusal). StopsAt stop.command r (faults_of bytes is.tree.commands)) at is.stops;
-      is = e;
-    }
+-- the text of the refusal is that of the draft
+pub of_text : (text : List ℕ) (ws : List Written) (d : Draft) (r : Refusal) (e : ScriptFault) → Stops text ws d r → IsRefusal d.context.text e → IsRefusal text e
+of_text text ws d refusal.Memory e stops is = subst (λ (t : List ℕ). IsRefusal t e) stops is
+of_text text ws d (refusal.At f) e stops is = subst (λ (t : List ℕ). IsRefusal t e) stops.0 is
 
-pub told : (bytes : List ℕ) (stop : Stop) (f : Fault) → IsStopIn bytes stop → stop.refusal ≡ refusal.At f → (kind : ScriptKind) → IsKindOf bytes f kind → IsRefusedAs bytes stop.command kind
-told bytes stop f is at refused.Syntax e = absurd e
-told bytes stop f is at (refused.Unknown text) e = fault_at bytes stop f is at _ e
-told bytes stop f is at (refused.Twice text) e = fault_at bytes stop f is at _ e
-told bytes stop f is at refused.Dimension e = fault_at bytes stop f is at dimension e
-told bytes stop f is at (refused.Size l) e = fault_at bytes stop f is at (size l) e
-told bytes stop f is at refused.Memory e = absurd e
+pub told : (text : List ℕ) (n : ℕ) (f : Fault) → HasFault text n (kind_of text f) → (kind : ScriptKind) → IsKindOf text f kind → IsRefusedAs text n kind
+told text n f has refused.Syntax e = absurd e
+told text n f has (refused.Unknown name) e = subst (HasFault text n) (sym e) has
+told text n f has (refused.Twice name) e = subst (HasFault text n) (sym e) has
+told text n f has refused.Dimension e = subst (HasFault text n) (sym e) has
+told text n f has (refused.Size l) e = subst (HasFault text n) (sym e) has
+told text n f has refused.Memory e = absurd e
+
+pub is_unread : (bytes : List ℕ) (fault : SyntaxFault) (e : ScriptFault) → Tells bytes (Err fault) → IsUnread fault e → IsRefusal bytes e
+is_unread bytes (unread.At n) e tells is = subst (IsRefusal bytes) (sym is) tells
+is_unread bytes unread.Memory e tells is = subst (IsRefusal bytes) (sym is) refl

@@ -1,5 +1,8 @@
+-- the parts of a script, and what every script keeps
 pub mod Parts
+-- what each command leaves, and the first fault
 pub mod Walk
+-- which bytes spell a script, and how all others are refused
 pub mod Scripts
-pub mod Standing
-pub mod Stops
+-- scripts as far as their commands have been gone through
+pub mod drafting

@@ -1,23 +1,22 @@
 -- Which bytes spell a script, and how all others are refused.
-use Rattle.std.specs.Prelude.{ℕ, ◌≡◌, List, [], Some, string_bytes, codes}
-use Rattle.dd_syntax.specs.declared.script.Syntax.{Syntax}
-use Rattle.dd_syntax.specs.Scripts.{IsScript, IsFault}
-use Rattle.dd_naming.specs.declared.fault.Limit.{Limit}
-use Rattle.dd_naming.specs.declared.fault.Fault.{Fault}
-use Rattle.dd_naming.specs.declared.fault.Fault.TheVariants as fault
-use Rattle.dd_naming.specs.Resolving.{first}
-use Rattle.dd_naming.specs.Texts.{name_text}
+use Rattle.std.specs.Prelude.{ℕ, ◌≡◌, List, Some, None, string_bytes, codes}
+use Rattle.dd_written.specs.Values.{name_text}
+use Rattle.dd_commands.specs.declared.script.Syntax.{Syntax}
+use Rattle.dd_commands.specs.Scripts.{IsScript, IsFault}
+use Rattle.dd_faults.specs.declared.fault.Limit.{Limit}
+use Rattle.dd_faults.specs.declared.fault.Fault.{Fault}
+use Rattle.dd_faults.specs.declared.fault.Fault.TheVariants as fault
 use Rattle.dd_script.specs.declared.fault.ScriptKind.{ScriptKind}
 use Rattle.dd_script.specs.declared.fault.ScriptKind.TheVariants as refused
 use Rattle.dd_script.specs.declared.fault.ScriptFault.{ScriptFault}
 use Rattle.dd_script.specs.Parts.{Parts}
-use Rattle.dd_script.specs.Walk.{located, faults_of, script_of}
+use Rattle.dd_script.specs.Walk.{located, first_of, script_of}
 
 -- the bytes are a text of the grammar, with this meaning, and without a fault
 pub record Spells (bytes : List ℕ) (s : Parts) : Type 0 where
   pub tree : Syntax
   pub written : IsScript bytes tree
-  pub faultless : faults_of bytes tree.commands ≡ []
+  pub faultless : first_of bytes tree.commands ≡ None
   pub meaning : s ≡ script_of bytes tree.commands
 
 -- Why a text is refused.
@@ -41,13 +40,16 @@ pub record HasFault (bytes : List ℕ) (n : ℕ) (k : Kind) : Type 0 where
   pub tree : Syntax
   pub written : IsScript bytes tree
   pub found : Fault
-  pub comes_first : first (faults_of bytes tree.commands) ≡ Some (located n found)
+  pub comes_first : first_of bytes tree.commands ≡ Some (located n found)
   pub is : k ≡ kind_of bytes found
 
 -- how the bytes are refused: by the first command that is not well formed, else by the first fault
 abbrev pub RefusedAs : List ℕ → ℕ → Kind → Type 0
 RefusedAs bytes n syntax = IsFault bytes n
-RefusedAs bytes n k = HasFault bytes n k
+RefusedAs bytes n (unknown text) = HasFault bytes n (unknown text)
+RefusedAs bytes n (twice text) = HasFault bytes n (twice text)
+RefusedAs bytes n dimension = HasFault bytes n dimension
+RefusedAs bytes n (size l) = HasFault bytes n (size l)
 
 -- refused so; or memory was wanting
 abbrev pub IsRefusedAs : List ℕ → ℕ → ScriptKind → Type 0

@@ -1,64 +1,90 @@
--- The commands of a script one after the other: what each adds, and its faults.
-use Rattle.std.specs.Prelude.{ℕ, ◌+◌, List, [], ◌∷◌, ◌++◌, map, Bool, true, false, Option}
-use Rattle.std.specs.List.{list_any}
-use Rattle.std.specs.Option.{option_map_or}
-use Rattle.dd_syntax.specs.declared.command.Command.{Command}
-use Rattle.dd_syntax.specs.declared.command.Command.TheVariants as command
-use Rattle.dd_formula.specs.LocalRule.{LocalRule}
-use Rattle.dd_formula.specs.declared.automaton.Automaton.{Automaton}
-use Rattle.dd_pattern.specs.Tile.{Tile}
-use Rattle.dd_naming.specs.declared.fault.Fault.{Fault}
-use Rattle.dd_refusal.specs.declared.meaning.Meaning.{Meaning}
-use Rattle.dd_refusal.specs.Meanings.{meaning_of}
-use Rattle.dd_refusal.specs.Faults.{plain_faults}
-use Rattle.dd_header.specs.After.{start as known_start, after}
-use Rattle.dd_definition.specs.declared.definition.Definition.{Definition}
-use Rattle.dd_definition.specs.declared.definition.Definition.TheVariants as definition
-use Rattle.dd_definition.specs.Definitions.{definition as defined, definition_sizes}
-use Rattle.dd_query.specs.Queries.{query_of}
-use Rattle.dd_query.specs.Limits.{asked_sizes}
+-- The commands of a script one after the other: what each leaves, and the first fault.
+use Rattle.std.specs.Prelude.{ℕ, ◌+◌, List, [], ◌∷◌, ◌++◌, length, Bool, false, ◌==◌, Option, None, codes}
+use Rattle.std.specs.List.{list_any, range_with_len}
+use Rattle.std.specs.Option.{option_or, option_map}
+use Rattle.dd_topology.specs.Builtin.{square}
+use Rattle.dd_topology.specs.Sets.{all_symbols, restricted}
+use Rattle.dd_written.specs.Values.{word_text}
+use Rattle.dd_commands.specs.declared.head.Head.TheVariants as head
+use Rattle.dd_commands.specs.declared.script.Written.{Written}
+use Rattle.dd_commands.specs.Heads.{stage}
+use Rattle.dd_commands.specs.Scripts.{stage_of}
+use Rattle.dd_faults.specs.declared.fault.Fault.{Fault}
+use Rattle.dd_faults.specs.declared.context.Known.{Known}
+use Rattle.dd_faults.specs.declared.context.Context.{Context}
+use Rattle.dd_faults.specs.Order.{first_fault}
+use Rattle.dd_faults.specs.Commands.{written_faults}
+use Rattle.dd_meanings.specs.declared.meaning.Meaning.{Meaning}
+use Rattle.dd_meanings.specs.declared.meaning.Meaning.TheVariants as meaning
+use Rattle.dd_meanings.specs.Meanings.{meaning as meaning_of, counted_sizes}
 use Rattle.dd_script.specs.Parts.{Parts}
 
--- a script without commands
+-- ---- where a script has said nothing
+
+-- the square grid with the node 0, and the symbols 0 and 1 with their numbers as weights
+abbrev pub known_start : Known
+known_start =
+    record {
+      setting = record { nodes = codes "0" ∷ []; symbols = codes "0" ∷ codes "1" ∷ []; topology = square; sets = all_symbols 1 2 };
+      nodes_are_given = false;
+      restricted = [];
+      weights = 0 ∷ 1 ∷ [];
+      limits = record { radius = 4; period = 4; pivots = 10000 };
+      rules = [];
+      automata = [];
+      configurations = [];
+    }
+
 abbrev pub start : Parts
 start = record { known = known_start; rules = []; automata = []; configurations = []; queries = [] }
 
-abbrev pub rules_in : Definition → List LocalRule
-rules_in (definition.Rule r) = r ∷ []
-rules_in d = []
+-- ---- what a command leaves
 
-abbrev pub automata_in : Definition → List Automaton
-automata_in (definition.Automaton f) = f ∷ []
-automata_in d = []
-
-abbrev pub configurations_in : Definition → List Tile
-configurations_in (definition.Configuration t) = t ∷ []
-configurations_in d = []
-
-abbrev pub listed : {X : Type 0} → Option X → List X
-listed o = option_map_or (λ x. x ∷ []) o []
-
--- with one command more, of this meaning
-abbrev pub with : List ℕ → Parts → Command → Meaning → Parts
-with bytes s c m =
-    record {
-      known = after bytes s.known c;
-      rules = s.rules ++ rules_in (defined s.known s.automata c m);
-      automata = s.automata ++ automata_in (defined s.known s.automata c m);
-      configurations = s.configurations ++ configurations_in (defined s.known s.automata c m);
-      queries = s.queries ++ listed (query_of c m);
+-- each node allows each symbol, and none is restricted
+abbrev pub unrestricted : Known → Known
+unrestricted k =
+    record k {
+      setting = record (k.setting) { sets = all_symbols (length k.setting.nodes) (length k.setting.symbols) };
+      restricted = [];
     }
 
-abbrev pub next : List ℕ → Parts → Command → Parts
-next bytes s c = with bytes s c (meaning_of bytes s.known c)
+-- The script with a command more, of this meaning. Where nodes or symbols change, each node allows each symbol anew; and
+-- where symbols change, the weight of each is its number.
+abbrev pub with : List ℕ → Parts → Meaning → Parts
+with bytes s (meaning.Topology g) = record s { known = record (s.known) { setting = record (s.known.setting) { topology = g } } }
+with bytes s (meaning.Nodes nodes given g) =
+    record s { known = unrestricted (record (s.known) { setting = record (s.known.setting) { nodes = nodes; topology = g }; nodes_are_given = given }) }
+with bytes s (meaning.Symbols symbols) =
+    record s { known = unrestricted (record (s.known) { setting = record (s.known.setting) { symbols = symbols }; weights = range_with_len 0 (length symbols) }) }
+with bytes s (meaning.Only node symbols) =
+    record s {
+      known = record (s.known) {
+        setting = record (s.known.setting) { sets = restricted s.known.setting.sets node symbols };
+        restricted = s.known.restricted ++ node ∷ [];
+      };
+    }
+with bytes s (meaning.Weights weights) = record s { known = record (s.known) { weights = weights } }
+with bytes s (meaning.Limits limits) = record s { known = record (s.known) { limits = limits } }
+with bytes s (meaning.Rule name rule) = record s { known = record (s.known) { rules = s.known.rules ++ word_text bytes name ∷ [] }; rules = s.rules ++ rule ∷ [] }
+with bytes s (meaning.Automaton name automaton) =
+    record s { known = record (s.known) { automata = s.known.automata ++ word_text bytes name ∷ [] }; automata = s.automata ++ automaton ∷ [] }
+with bytes s (meaning.Configuration name configuration) =
+    record s { known = record (s.known) { configurations = s.known.configurations ++ word_text bytes name ∷ [] }; configurations = s.configurations ++ configuration ∷ [] }
+with bytes s (meaning.Query query) = record s { queries = s.queries ++ query ∷ [] }
 
--- the limits on counts
-abbrev pub counted_sizes : Parts → Command → Meaning → List Fault
-counted_sizes s c m = definition_sizes s.known s.automata m ++ asked_sizes s.known s.rules s.automata (query_of c m)
+-- ---- one command after the other
 
--- the faults of the command with the number n; later: whether the script has a topology command
-abbrev pub faults : List ℕ → Bool → ℕ → Parts → Command → List Fault
-faults bytes later n s c = plain_faults bytes later n s.known c ++ counted_sizes s c (meaning_of bytes s.known c)
+-- where the command with the number n stands; later: whether the script has a topology command
+abbrev pub context : List ℕ → Bool → ℕ → Parts → Context
+context bytes later n s = record { text = bytes; later = later; number = n; known = s.known }
+
+-- the first fault of what is written, and where there is none the first limit on counts that is passed
+abbrev pub fault_of : List ℕ → Bool → ℕ → Parts → Written → Option Fault
+fault_of bytes later n s w =
+    option_or (first_fault (written_faults (context bytes later n s) w)) (first_fault (counted_sizes (context bytes later n s) s.rules s.automata w.command))
+
+abbrev pub next : List ℕ → Bool → ℕ → Parts → Written → Parts
+next bytes later n s w = with bytes s (meaning_of (context bytes later n s) s.rules s.automata w.command)
 
 -- a fault, with its command's number
 pub record Located : Type 0 where
@@ -68,26 +94,26 @@ pub record Located : Type 0 where
 abbrev pub located : ℕ → Fault → Located
 located n f = record { command = n; fault = f }
 
--- the faults of the commands from the number n on
-abbrev pub all_faults : List ℕ → Bool → ℕ → Parts → List Command → List Located
-all_faults bytes later n s [] = []
-all_faults bytes later n s (c ∷ cs) = map (located n) (faults bytes later n s c) ++ all_faults bytes later (n + 1) (next bytes s c) cs
+-- the first fault of the commands from the number n on
+abbrev pub first_from : List ℕ → Bool → ℕ → Parts → List Written → Option Located
+first_from bytes later n s [] = None
+first_from bytes later n s (w ∷ ws) = option_or (option_map (located n) (fault_of bytes later n s w)) (first_from bytes later (n + 1) (next bytes later n s w) ws)
 
 -- a script with these commands more
-abbrev pub after_all : List ℕ → Parts → List Command → Parts
-after_all bytes s [] = s
-after_all bytes s (c ∷ cs) = after_all bytes (next bytes s c) cs
+abbrev pub after_all : List ℕ → Bool → ℕ → Parts → List Written → Parts
+after_all bytes later n s [] = s
+after_all bytes later n s (w ∷ ws) = after_all bytes later (n + 1) (next bytes later n s w) ws
 
-abbrev pub is_topology : Command → Bool
-is_topology (command.Topology k) = true
-is_topology (command.Edges es) = true
-is_topology c = false
+-- whether it is a topology command, by its place
+abbrev pub is_topology : Written → Bool
+is_topology w = stage_of w == stage head.Topology
 
-abbrev pub has_topology : List Command → Bool
-has_topology cs = list_any is_topology cs
+abbrev pub has_topology : List Written → Bool
+has_topology ws = list_any is_topology ws
 
-abbrev pub faults_of : List ℕ → List Command → List Located
-faults_of bytes cs = all_faults bytes (has_topology cs) 1 start cs
+-- commands are numbered from 1
+abbrev pub first_of : List ℕ → List Written → Option Located
+first_of bytes ws = first_from bytes (has_topology ws) 1 start ws
 
-abbrev pub script_of : List ℕ → List Command → Parts
-script_of bytes cs = after_all bytes start cs
+abbrev pub script_of : List ℕ → List Written → Parts
+script_of bytes ws = after_all bytes (has_topology ws) 1 start ws

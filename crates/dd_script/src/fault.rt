@@ -1,5 +1,5 @@
 // Why a text is no script.
-use dd_naming::Limit;
+use dd_faults::Limit;
 
 /// What is wrong with a command.
 #[derive(Debug, Drop)]

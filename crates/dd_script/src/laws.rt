@@ -3,18 +3,31 @@ ghost use Rattle.std.specs.Prelude.{◌≡◌, ◌≤◌, ◌⊎◌, ℕ, List, 
 ghost use Rattle.dd_script.specs.Parts.{Parts};
 ghost use Rattle.dd_script.specs.Scripts.{Spells, RefusedAs, Kind};
 
+use dd_commands::{one_fault, one_tree, tree_or_fault};
+use dd_written::formula_is_read;
+
 /// Bytes spell one script at most.
 pub fn one_script()
     ensures { (bytes : List ℕ) (s t : Parts) → Spells bytes s → Spells bytes t → s ≡ t }
-{}
+{
+    one_tree();
+}
 
 /// Bytes are refused in one way at most.
 pub fn one_refusal()
     ensures { (bytes : List ℕ) (m n : ℕ) (k l : Kind) → RefusedAs bytes m k → RefusedAs bytes n l → (m ≡ n) × (k ≡ l) }
-{}
+{
+    one_tree();
+    one_fault();
+    tree_or_fault();
+}
 
 /// Bytes that spell a script are not refused, and all others of an allowed length are.
 pub fn spelled_or_refused()
     ensures never_both { (bytes : List ℕ) (s : Parts) (n : ℕ) (k : Kind) → Spells bytes s → RefusedAs bytes n k → ⊥ }
     ensures either { (bytes : List ℕ) → length bytes ≤ 1048576 → ((s : Parts) × Spells bytes s) ⊎ ((n : ℕ) × (k : Kind) × RefusedAs bytes n k) }
-{}
+{
+    one_tree();
+    tree_or_fault();
+    formula_is_read();
+}

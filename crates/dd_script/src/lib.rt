@@ -1,14 +1,16 @@
 //! Scripts: from bytes to rules, automata, configurations and queries.
 #![tactic(auto)]
 
+mod draft;
 mod fault;
+mod known;
 mod laws;
 mod parsing;
 mod script;
 mod walking;
 
 pub use dd_boxes::Limits;
-pub use dd_naming::Limit;
+pub use dd_faults::Limit;
 pub use dd_query::Query;
 pub use fault::{ScriptFault, ScriptKind};
 pub use laws::{one_refusal, one_script, spelled_or_refused};

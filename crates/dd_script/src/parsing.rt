@@ -1,29 +1,30 @@
 // Reading scripts.
-ghost use Rattle.std.specs.Prelude.{◌≡◌, ◌≤◌, length, IfOk, IfErr};
-ghost use Rattle.std.specs.Str.{IsAscii};
+ghost use Rattle.std.specs.Prelude.{◌≡◌, ◌≤◌, length, All, IfOk, IfErr};
+ghost use Rattle.dd_commands.specs.Scripts.{IsScript, IsWritten};
 ghost use Rattle.dd_script.specs.Scripts.{Spells, IsRefusal};
-ghost use Rattle.dd_script.specs.Stops.{IsStopIn, IsKindOf};
+ghost use Rattle.dd_script.specs.drafting.Drafts.{StopsIn, IsKindOf, IsUnread};
 
+use crate::draft::Draft;
 use crate::fault::{ScriptFault, ScriptKind};
 use crate::script::Script;
-use crate::walking::{Stop, walk};
-use dd_naming::{Fault, Refusal, name_text};
-use dd_syntax::{SyntaxFault, read};
+use crate::walking::{has_topology, walk};
+use dd_commands::{Syntax, SyntaxFault, read};
+use dd_faults::{Context, Fault, Refusal};
+use dd_written::{Text, name_text};
 use std::alloc::{AllocError, Global};
 
 /// The kind of a fault, with the text of the name.
-fn kind_of(alloc: Global, bytes: &[u8], fault: Fault) -> Result<ScriptKind, AllocError>
-    requires { IsAscii bytes.now }
-    ensures { IfOk result (IsKindOf bytes.now fault) }
+fn kind_of(alloc: Global, text: &Text, fault: Fault) -> Result<ScriptKind, AllocError>
+    ensures { IfOk result (IsKindOf text.now fault) }
 {
     match fault {
         Fault::Unknown(name) => {
-            let text = String::from_str(alloc, name_text(bytes, name))?;
-            Ok(ScriptKind::Unknown(text))
+            let name = String::from_str(alloc, name_text(text, name))?;
+            Ok(ScriptKind::Unknown(name))
         }
         Fault::Twice(name) => {
-            let text = String::from_str(alloc, name_text(bytes, name))?;
-            Ok(ScriptKind::Twice(text))
+            let name = String::from_str(alloc, name_text(text, name))?;
+            Ok(ScriptKind::Twice(name))
         }
         Fault::TwiceVector => Ok(ScriptKind::Twice(String::from_str(alloc, "vector")?)),
         Fault::Dimension => Ok(ScriptKind::Dimension),
@@ -41,21 +42,52 @@ fn memory() -> ScriptFault
     }
 }
 
-/// Why the commands made no script.
-fn told(alloc: Global, bytes: &[u8], stop: Stop) -> ScriptFault
-    requires ascii { IsAscii bytes.now }
-    requires stop { IsStopIn bytes.now stop }
-    ensures { IsRefusal bytes.now result }
+/// Why a text is not well formed.
+fn unread(fault: SyntaxFault) -> ScriptFault
+    ensures { IsUnread fault result }
 {
-    match stop.refusal {
+    match fault {
+        SyntaxFault::Memory => memory(),
+        SyntaxFault::At { command } => ScriptFault {
+            command,
+            kind: ScriptKind::Syntax,
+        },
+    }
+}
+
+/// Why the commands make no script: the refusal of the command that stands here.
+fn told(alloc: Global, context: &Context, refusal: Refusal) -> ScriptFault
+    requires { StopsIn context.now.text context.now.number refusal }
+    ensures { IsRefusal context.now.text result }
+{
+    match refusal {
         Refusal::Memory => memory(),
-        Refusal::At(fault) => match kind_of(alloc, bytes, fault) {
+        Refusal::At(fault) => match kind_of(alloc, &context.text, fault) {
             Ok(kind) => ScriptFault {
-                command: stop.command,
+                command: context.number,
                 kind,
             },
             Err(_) => memory(),
         },
+    }
+}
+
+/// The script of what is written, or why it makes none.
+fn script_of(alloc: Global, syntax: Syntax) -> Result<Script, ScriptFault>
+    requires written { IsScript syntax.text syntax }
+    requires each { All (IsWritten syntax.text) syntax.commands }
+    ensures spelled { IfOk result (Spells syntax.text) }
+    ensures refused { IfErr result (IsRefusal syntax.text) }
+{
+    let Syntax { text, commands } = syntax;
+    let later = has_topology(commands.as_slice());
+    let mut draft = match Draft::new(alloc, text, later) {
+        Ok(draft) => draft,
+        Err(_) => return Err(memory()),
+    };
+    match walk(alloc, &mut draft, commands.as_slice()) {
+        Ok(()) => Ok(draft.into_script()),
+        Err(refusal) => Err(told(alloc, &draft.context, refusal)),
     }
 }
 
@@ -70,18 +102,8 @@ pub fn parse(alloc: Global, bytes: &[u8]) -> Result<Script, ScriptFault>
     ensures spelled { IfOk result (Spells bytes.now) }
     ensures refused { IfErr result (IsRefusal bytes.now) }
 {
-    let syntax = match read(alloc, bytes) {
-        Ok(syntax) => syntax,
-        Err(SyntaxFault::Memory) => return Err(memory()),
-        Err(SyntaxFault::At { command }) => {
-            return Err(ScriptFault {
-                command,
-                kind: ScriptKind::Syntax,
-            });
-        }
-    };
-    match walk(alloc, bytes, syntax.commands.as_slice()) {
-        Ok(script) => Ok(script),
-        Err(stop) => Err(told(alloc, bytes, stop)),
+    match read(alloc, bytes) {
+        Ok(syntax) => script_of(alloc, syntax),
+        Err(fault) => Err(unread(fault)),
     }
 }

@@ -1,11 +1,11 @@
 // Scripts.
 use dd_boxes::Limits;
+use dd_faults::Known;
 use dd_formula::{Automaton, Rule};
 use dd_lattice::Position;
 use dd_pattern::Periodic;
 use dd_query::Query;
-use dd_refusal::Known;
-use dd_topology::{Names, Topology};
+use dd_topology::{Names, Sets, Topology};
 use dd_values::Items;
 use std::marker::Model;
 
@@ -69,6 +69,14 @@ impl Script {
         ensures kept { IsScriptOf self.now }
     {
         &self.known.setting.topology
+    }
+
+    /// Which symbols each node allows.
+    pub fn sets(&self) -> &Sets
+        ensures value { result.now ≡ self.now.known.setting.sets }
+        ensures kept { IsScriptOf self.now }
+    {
+        &self.known.setting.sets
     }
 
     /// One weight for each symbol.

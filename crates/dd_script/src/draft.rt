@@ -1,0 +1,150 @@
+//! A script as far as its commands have been gone through.
+ghost use Rattle.std.specs.Prelude.{◌≡◌, ◌+◌, OnOk, IfOk, MatchResult};
+ghost use Rattle.dd_commands.specs.Scripts.{IsWritten};
+ghost use Rattle.dd_faults.specs.Sound.{IsSound, HasFewer};
+ghost use Rattle.dd_meanings.specs.Sound.{IsSoundMeaning};
+ghost use Rattle.dd_script.specs.Parts.{IsScriptOf};
+ghost use Rattle.dd_script.specs.Walk.{start};
+ghost use Rattle.dd_script.specs.drafting.Standing.{IsReady};
+ghost use Rattle.dd_script.specs.drafting.Drafts.{parts_of, draft_of, with_meaning, Leaves, Stays};
+
+use crate::known::{add_name, restrict, set_nodes, set_symbols, start};
+use crate::script::Script;
+use dd_commands::Written;
+use dd_faults::{Context, Refusal, check};
+use dd_formula::{Automaton, Rule};
+use dd_meanings::{Meaning, mean};
+use dd_pattern::Periodic;
+use dd_query::Query;
+use dd_values::Items;
+use dd_written::Text;
+use std::alloc::{AllocError, Global};
+
+/// A script as far as its commands have been gone through, and where the next command stands.
+#[derive(Drop)]
+pub(crate) struct Draft {
+    pub(crate) context: Context,
+    pub(crate) rules: Items<Rule>,
+    pub(crate) automata: Items<Automaton>,
+    pub(crate) configurations: Items<Periodic>,
+    pub(crate) queries: Items<Query>,
+}
+
+impl Draft {
+    /// Before the first command of a text. `later` is whether it has a topology command.
+    pub(crate) fn new(alloc: Global, text: Text, later: bool) -> Result<Draft, AllocError>
+        ensures begun { IfOk result (λ begun. begun ≡ draft_of text later 1 start) }
+        ensures kept { OnOk result (IsScriptOf start) }
+    {
+        let known = start(alloc)?;
+        Ok(Draft {
+            context: Context {
+                text,
+                later,
+                number: 1,
+                known,
+            },
+            rules: Items::new(alloc),
+            automata: Items::new(alloc),
+            configurations: Items::new(alloc),
+            queries: Items::new(alloc),
+        })
+    }
+
+    /// Adds what a command means.
+    fn add(&mut self, alloc: Global, meaning: Meaning) -> Result<(), AllocError>
+        requires sound { IsSound self.old.context.known }
+        requires meaning { IsSoundMeaning self.old.context self.old.rules self.old.automata meaning }
+        requires few { HasFewer 1000 self.old.context.known }
+        ensures added { OnOk result (self.new ≡ with_meaning self.old meaning) }
+        ensures text { self.new.context.text ≡ self.old.context.text }
+    {
+        match meaning {
+            Meaning::Topology(topology) => {
+                self.context.known.setting.topology = topology;
+                Ok(())
+            }
+            Meaning::Nodes {
+                nodes,
+                given,
+                topology,
+            } => set_nodes(alloc, &mut self.context.known, nodes, given, topology),
+            Meaning::Symbols(symbols) => set_symbols(alloc, &mut self.context.known, symbols),
+            Meaning::Only { node, symbols } => {
+                restrict(&mut self.context.known, node, symbols.as_slice())
+            }
+            Meaning::Weights(weights) => {
+                self.context.known.weights = weights;
+                Ok(())
+            }
+            Meaning::Limits(limits) => {
+                self.context.known.limits = limits;
+                Ok(())
+            }
+            Meaning::Rule { name, rule } => {
+                let context = &mut self.context;
+                add_name(alloc, &context.text, &mut context.known.rules, name)?;
+                self.rules.push(rule)
+            }
+            Meaning::Automaton { name, automaton } => {
+                let context = &mut self.context;
+                add_name(alloc, &context.text, &mut context.known.automata, name)?;
+                self.automata.push(automaton)
+            }
+            Meaning::Configuration {
+                name,
+                configuration,
+            } => {
+                let context = &mut self.context;
+                add_name(
+                    alloc,
+                    &context.text,
+                    &mut context.known.configurations,
+                    name,
+                )?;
+                self.configurations.push(configuration)
+            }
+            Meaning::Query(query) => self.queries.push(query),
+        }
+    }
+
+    /// Goes behind the next command; or refuses it for its first fault, and stays where it is.
+    pub(crate) fn step(&mut self, alloc: Global, written: &Written) -> Result<(), Refusal>
+        requires written { IsWritten self.old.context.text written.now }
+        requires script { IsScriptOf (parts_of self.old) }
+        requires ready { IsReady (parts_of self.old) written.now }
+        requires few { HasFewer self.old.context.number self.old.context.known }
+        ensures { MatchResult result (λ _. Leaves self.old written.now self.new) (Stays self.old written.now self.new) }
+    {
+        check(alloc, &self.context, written)?;
+        let rules = self.rules.as_slice();
+        let automata = self.automata.as_slice();
+        let meaning = mean(alloc, &self.context, rules, automata, written)?;
+        self.add(alloc, meaning)?;
+        // Each node allows some symbols.
+        let _symbols = self.context.known.setting.sets.symbols();
+        self.context.number += 1;
+        Ok(())
+    }
+
+    /// The script behind the last command.
+    pub(crate) fn into_script(self) -> Script
+        requires { IsScriptOf (parts_of self) }
+        ensures { result ≡ parts_of self }
+    {
+        let Draft {
+            context,
+            rules,
+            automata,
+            configurations,
+            queries,
+        } = self;
+        Script {
+            known: context.known,
+            rules,
+            automata,
+            configurations,
+            queries,
+        }
+    }
+}

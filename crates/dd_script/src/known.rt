@@ -1,0 +1,161 @@
+//! What is known where a script has said nothing, and what commands change of it.
+ghost use Rattle.std.specs.Prelude.{◌≡◌, ◌-◌, ◌^◌, ◌<◌, ◌≤◌, [], ◌∷◌, ◌++◌, length, codes, All, Contains, IfOk, OnOk};
+ghost use Rattle.std.specs.List.{range_with_len};
+ghost use Rattle.dd_topology.specs.Sets.{restricted};
+ghost use Rattle.dd_written.specs.Values.{word_text};
+ghost use Rattle.dd_faults.specs.Sound.{IsSound};
+ghost use Rattle.dd_script.specs.Walk.{known_start, unrestricted};
+
+use dd_boxes::Limits;
+use dd_faults::{Known, Setting};
+use dd_topology::{Kind, NameFault, Names, Sets, Topology};
+use dd_values::Items;
+use dd_written::{Name, Text, Word, name_text};
+use std::alloc::{AllocError, Global};
+
+/// Adds a name that is not there yet.
+fn add_text(alloc: Global, names: &mut Names, text: &str) -> Result<(), AllocError>
+    requires few { length names.old < 2 ^ 32 - 1 }
+    requires new { ¬ Contains names.old text.now }
+    ensures { OnOk result (names.new ≡ names.old ++ text.now ∷ []) }
+{
+    match names.add(String::from_str(alloc, text)?) {
+        Ok(_) => Ok(()),
+        Err(NameFault::Twice(_)) => unreachable!(),
+        Err(NameFault::Memory(_)) => Err(AllocError),
+    }
+}
+
+/// Adds the text of a word that is not there yet.
+pub(crate) fn add_name(
+    alloc: Global,
+    text: &Text,
+    names: &mut Names,
+    name: Word,
+) -> Result<(), AllocError>
+    requires few { length names.old < 2 ^ 32 - 1 }
+    requires new { ¬ Contains names.old (word_text text.now name) }
+    ensures { OnOk result (names.new ≡ names.old ++ word_text text.now name ∷ []) }
+{
+    add_text(alloc, names, name_text(text, Name::Word(name)))
+}
+
+/// The name 0.
+fn zero(alloc: Global) -> Result<Names, AllocError>
+    ensures { IfOk result (λ names. names ≡ codes "0" ∷ []) }
+{
+    let mut names = Names::new(alloc);
+    add_text(alloc, &mut names, "0")?;
+    Ok(names)
+}
+
+/// The names 0 and 1.
+fn zero_and_one(alloc: Global) -> Result<Names, AllocError>
+    ensures { IfOk result (λ names. names ≡ codes "0" ∷ codes "1" ∷ []) }
+{
+    let mut names = zero(alloc)?;
+    add_text(alloc, &mut names, "1")?;
+    Ok(names)
+}
+
+/// What holds where a script has said nothing: the square grid with the node 0, and the symbols 0 and 1 with their numbers as
+/// weights.
+pub(crate) fn start(alloc: Global) -> Result<Known, AllocError>
+    ensures known { IfOk result (λ known. known ≡ known_start) }
+    ensures sound { OnOk result (IsSound known_start) }
+{
+    let nodes = zero(alloc)?;
+    let symbols = zero_and_one(alloc)?;
+    let topology = Topology::builtin(alloc, Kind::Square)?;
+    let _dimension = topology.dim();
+    let sets = Sets::new(alloc, 1, 2)?;
+    let weights = Items::from_slice(alloc, &[0, 1])?;
+    Ok(Known {
+        setting: Setting {
+            nodes,
+            symbols,
+            topology,
+            sets,
+        },
+        nodes_are_given: false,
+        restricted: Items::new(alloc),
+        weights,
+        limits: Limits {
+            radius: 4,
+            period: 4,
+            pivots: 10_000,
+        },
+        rules: Names::new(alloc),
+        automata: Names::new(alloc),
+        configurations: Names::new(alloc),
+    })
+}
+
+/// The numbers below a number.
+fn numbers_below(alloc: Global, count: u32) -> Result<Items<u32>, AllocError>
+    ensures { IfOk result (λ numbers. numbers ≡ range_with_len 0 count) }
+{
+    let mut numbers = Items::new(alloc);
+    for number in 0..count {
+        numbers.push(number)?;
+    }
+    Ok(numbers)
+}
+
+/// Each node allows each symbol anew.
+fn allow_all(alloc: Global, known: &mut Known) -> Result<(), AllocError>
+    requires nodes { 1 ≤ length known.old.setting.nodes }
+    requires symbols { 1 ≤ length known.old.setting.symbols }
+    ensures { OnOk result (known.new ≡ unrestricted known.old) }
+{
+    let nodes = known.setting.nodes.count();
+    let symbols = known.setting.symbols.count();
+    known.setting.sets = Sets::new(alloc, nodes, symbols)?;
+    known.restricted = Items::new(alloc);
+    Ok(())
+}
+
+/// Other nodes, with their topology.
+pub(crate) fn set_nodes(
+    alloc: Global,
+    known: &mut Known,
+    nodes: Names,
+    given: bool,
+    topology: Topology,
+) -> Result<(), AllocError>
+    requires nodes { 1 ≤ length nodes }
+    requires symbols { 1 ≤ length known.old.setting.symbols }
+    ensures { OnOk result (known.new ≡ unrestricted (record (known.old) { setting = record (known.old.setting) { nodes = nodes; topology = topology }; nodes_are_given = given })) }
+{
+    known.setting.nodes = nodes;
+    known.setting.topology = topology;
+    known.nodes_are_given = given;
+    allow_all(alloc, known)
+}
+
+/// Other symbols, each with its number as weight.
+pub(crate) fn set_symbols(
+    alloc: Global,
+    known: &mut Known,
+    symbols: Names,
+) -> Result<(), AllocError>
+    requires nodes { 1 ≤ length known.old.setting.nodes }
+    requires symbols { 1 ≤ length symbols }
+    ensures { OnOk result (known.new ≡ unrestricted (record (known.old) { setting = record (known.old.setting) { symbols = symbols }; weights = range_with_len 0 (length symbols) })) }
+{
+    known.weights = numbers_below(alloc, symbols.count())?;
+    known.setting.symbols = symbols;
+    allow_all(alloc, known)
+}
+
+/// A node allows exactly these symbols, and is restricted.
+pub(crate) fn restrict(known: &mut Known, node: u32, symbols: &[u32]) -> Result<(), AllocError>
+    requires node { node < length known.old.setting.sets.allowed }
+    requires symbols { All (λ s. s < known.old.setting.sets.symbols) symbols.now }
+    requires some { 1 ≤ length symbols.now }
+    ensures { OnOk result (known.new ≡ record (known.old) { setting = record (known.old.setting) { sets = restricted known.old.setting.sets node symbols.now }; restricted = known.old.restricted ++ node ∷ [] }) }
+{
+    known.restricted.push(node)?;
+    known.setting.sets.restrict(node, symbols);
+    Ok(())
+}
