@@ -1,8 +1,0 @@
-pub mod NameLaws
-pub mod Modest
-pub mod WellFormed
-pub mod Depths
-pub mod SizeLaws
-pub mod Commands
-pub mod Compositions
-pub mod CaseLists

@@ -1,8 +1,0 @@
-use Rattle.std.proofs.Common.{ap, ◌∙◌}
-use Rattle.dd_extent.specs.Written.{edge_extent}
-use Rattle.dd_extent.proofs.Largest.{next_is}
-use Rattle.dd_extent.proofs.commands.edges.Goals as goal
-
-pub loop-written-preserved : goal.loop-written-preserved
-loop-written-preserved c =
-    next_is edge_extent _ _ c.written-item.result _ _ _ c.loop-written-test.true c.loop-written.invariant (c.edge.ensures ∙ ap edge_extent c.written-item.is) c.larger-extent.ensures

@@ -1,6 +1,0 @@
-use Rattle.dd_extent.specs.Written.{name_extent}
-use Rattle.dd_extent.proofs.Largest.{next_is}
-use Rattle.dd_extent.proofs.commands.names.Goals as goal
-
-pub loop-written-preserved : goal.loop-written-preserved
-loop-written-preserved c = next_is name_extent _ _ _ _ _ _ c.loop-written-test.true c.loop-written.invariant c.name.ensures c.larger-extent.ensures

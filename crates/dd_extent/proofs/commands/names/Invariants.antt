@@ -1,7 +1,0 @@
-use Rattle.std.proofs.Common.{◌≡◌, take, map}
-use Rattle.dd_extent.specs.Extents.{largest}
-use Rattle.dd_extent.specs.Written.{name_extent}
-use Rattle.dd_extent.proofs.commands.names.Given as goal
-
-abbrev pub invariant-loop-written : goal.invariant-loop-written
-invariant-loop-written l = l.extent ≡ largest (map name_extent (take l.written-index l.names))

@@ -1,8 +1,0 @@
-pub mod Options
-pub mod Rounds
-pub mod Digits
-pub mod Depths
-pub mod Layers
-pub mod Many
-pub mod Sound
-pub mod Complete

@@ -1,6 +1,0 @@
-use Rattle.std.proofs.Common.{◌≡◌, ◌≤◌, take, map}
-use Rattle.dd_grammar.specs.Formulas.{depth, greatest, cut}
-use Rattle.dd_grammar.proofs.depth.+measure.Given as goal
-
-abbrev pub invariant-greatest-loop-member : goal.invariant-greatest-loop-member
-invariant-greatest-loop-member l = (l.greatest ≤ 65) × (l.greatest ≡ cut (greatest (map depth (take l.member-index l.members))))

@@ -1,6 +1,0 @@
-use Rattle.std.proofs.Common.{◌≡◌, take, map}
-use Rattle.dd_naming.specs.Texts.{name_text}
-use Rattle.dd_header.proofs.names.names_of.Given as goal
-
-abbrev pub invariant-loop-name : goal.invariant-loop-name
-invariant-loop-name l = l.names ≡ map (name_text l.bytes) (take l.name-index l.written)

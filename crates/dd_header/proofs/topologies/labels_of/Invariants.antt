@@ -1,9 +1,0 @@
-use Rattle.std.proofs.Common.{◌≡◌, ◌≤◌, drop, map, length}
-use Rattle.dd_header.specs.After.{first_seen, label_text, labels_of}
-use Rattle.dd_header.proofs.topologies.labels_of.Given as goal
-
-abbrev pub invariant-loop-edge : goal.invariant-loop-edge
-invariant-loop-edge l = record {
-  rest : first_seen l.labels (map (label_text l.bytes) (drop l.edge-index l.edges)) ≡ labels_of l.bytes l.edges;
-  few : length l.labels ≤ l.edge-index;
-}

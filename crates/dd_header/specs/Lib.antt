@@ -1,4 +1,0 @@
-pub mod Offsets
-pub mod After
-pub mod Edges
-pub mod Sound

@@ -1,4 +1,0 @@
-pub mod Texts
-pub mod Resolving
-pub mod Atoms
-pub mod Formulas

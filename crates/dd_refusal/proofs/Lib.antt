@@ -1,4 +1,0 @@
-pub mod Fronts
-pub mod Products
-pub mod Greatest
-pub mod Repeats

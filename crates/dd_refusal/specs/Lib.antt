@@ -1,6 +1,0 @@
-pub mod Sizes
-pub mod Misfits
-pub mod Unknowns
-pub mod Twices
-pub mod Faults
-pub mod Meanings

@@ -1,5 +1,0 @@
-pub mod CommandSound
-pub mod CommandComplete
-pub mod OneTree
-pub mod Whole
-pub mod Parts
