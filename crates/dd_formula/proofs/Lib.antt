@@ -11,3 +11,5 @@ pub mod Reaching
 pub mod AutomatonLaws
 pub mod CompositionLaws
 pub mod FarthestLaws
+pub mod ValueLaws
+pub mod SeenLaws

@@ -25,7 +25,7 @@ use Rattle.dd_formula.specs.Living.{Fits}
 extent_moved : (p by : Place) → extent (moved p by) ≤ extent p + extent by
 extent_moved p by = omega (arith, ints)
 
-in_range : (p : Place) → extent p ≤ 1048576 → is_in_range p ≡ true
+pub in_range : (p : Place) → extent p ≤ 1048576 → is_in_range p ≡ true
 in_range p h =
     let x : IsNear p.x = (omega (arith, ints), omega (arith, ints)) in
     let y : IsNear p.y = (omega (arith, ints), omega (arith, ints)) in
@@ -55,7 +55,7 @@ box_extent t kept c h =
 look_given : (t : Tile) → IsTile t → (d : Cell) → d.node < t.nodes → is_some (tile_look t d) ≡ true
 look_given t ok d h = let there : nat_lt d.node t.nodes ≡ true = lt-ltb _ _ h in rw there (some_within t.symbols (tile_index t d) (index_below t ok d h))
 
-read_given : (t : Tile) → IsPeriodic t → (c d : Cell) → IsInBox t c → extent d.position ≤ 16 → d.node < t.nodes → is_some (seen (tile_look t) c.position d) ≡ true
+pub read_given : (t : Tile) → IsPeriodic t → (c d : Cell) → IsInBox t c → extent d.position ≤ 16 → d.node < t.nodes → is_some (seen (tile_look t) c.position d) ≡ true
 read_given t ok c d h close node =
     let small : extent (moved d.position c.position) ≤ 1048576 = omega (arith, extent_moved d.position c.position, box_extent t ok c h) in
     let there : is_in_range (moved d.position c.position) ≡ true = in_range (moved d.position c.position) small in
@@ -77,7 +77,7 @@ box_given r t rule fits ok c h =
     let node : c.node < r.nodes = omega (arith, h.node, fits.nodes) in
     all_given r t fits ok c h (reads_at r c.node) (rule.short c.node node) (rule.placed c.node node)
 
-below_at : (n : ℕ) (xs : List ℕ) → All (λ s. s < n) xs → (i : ℕ) → IfSome (slice_get xs i) (λ s. s < n)
+pub below_at : (n : ℕ) (xs : List ℕ) → All (λ s. s < n) xs → (i : ℕ) → IfSome (slice_get xs i) (λ s. s < n)
 below_at n [] h i = tt
 below_at n (x ∷ xs) h zero = h zero x (omega arith)
 below_at n (x ∷ xs) h (suc i) = below_at n xs (λ k d within. h (suc k) d (omega arith)) i

@@ -6,7 +6,10 @@ pub mod Living
 pub mod Refusals
 -- Automata: their values and reads, compositions, and why these are refused.
 pub mod Automata
+pub mod Values
 pub mod Compositions
 -- How many clauses a question takes.
 pub mod Counts
 pub mod ValueCounts
+-- what the evaluation of compositions keeps
+pub mod valuing

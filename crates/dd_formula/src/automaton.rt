@@ -1,8 +1,10 @@
 //! Cellular automata.
 ghost use Rattle.std.specs.Prelude.{◌≡◌, ◌+◌, ◌<◌, true, length, IfOk, MatchOption, map};
 ghost use Rattle.std.specs.List.{list_all, flat_map};
+ghost use Rattle.std.specs.List.Sorted.{IsStrictlySortedBy};
 ghost use Rattle.dd_lattice.specs.Cells.{shifted};
 ghost use Rattle.dd_lattice.specs.InOrder.{in_order};
+ghost use Rattle.dd_lattice.specs.Order.{cell_cmp};
 ghost use Rattle.dd_expansion.specs.Leaves.{total};
 
 use crate::counts::plus;
@@ -50,6 +52,7 @@ impl Cases {
     fn reads(&self, alloc: Global, node: u32) -> Result<Vec<Cell>, AllocError>
         requires { HasCaseNode self.now node }
         ensures list { IfOk result (λ v. v.items ≡ in_order (cases_reads self.now.cases node)) }
+        ensures order { IfOk result (λ v. IsStrictlySortedBy cell_cmp v.items) }
         ensures placed { IfOk result (λ v. (s : Setting) → cases_fit s self.now.cases self.now.otherwise ≡ true → node < s.nodes →
             list_all (is_cell_of s) v.items ≡ true) }
     {
@@ -109,6 +112,7 @@ impl Automaton {
     pub fn reads(&self, alloc: Global, node: u32) -> Result<Vec<Cell>, AllocError>
         requires { HasNode self.now node }
         ensures list { IfOk result (λ v. v.items ≡ cells_of self.now node) }
+        ensures order { IfOk result (λ v. IsStrictlySortedBy cell_cmp v.items) }
         ensures placed { IfOk result (λ v. (s : Setting) → IsAutomaton s self.now → node < s.nodes → list_all (is_cell_of s) v.items ≡ true) }
     {
         match self {
@@ -129,6 +133,7 @@ impl Automaton {
     ) -> Result<Vec<Cell>, AllocError>
         requires { HaveNode outer.now inner.now node }
         ensures list { IfOk result (λ v. v.items ≡ cells_of (Automaton.Composed outer.now inner.now) node) }
+        ensures order { IfOk result (λ v. IsStrictlySortedBy cell_cmp v.items) }
         ensures placed { IfOk result (λ v. (s : Setting) → IsAutomaton s outer.now → IsAutomaton s inner.now → node < s.nodes →
             list_all (is_cell_of s) v.items ≡ true) }
     {
@@ -141,6 +146,7 @@ impl Automaton {
     pub(crate) fn reads_from(&self, alloc: Global, cells: &[Cell]) -> Result<Vec<Cell>, AllocError>
         requires { HasCells self.now cells.now }
         ensures list { IfOk result (λ v. v.items ≡ in_order (flat_map (λ c. map (shifted c.position) (cells_of self.now c.node)) cells.now)) }
+        ensures order { IfOk result (λ v. IsStrictlySortedBy cell_cmp v.items) }
         ensures placed { IfOk result (λ v. (s : Setting) → IsAutomaton s self.now → list_all (is_cell_of s) cells.now ≡ true →
             list_all (is_cell_of s) v.items ≡ true) }
     {

@@ -8,9 +8,11 @@ mod fault;
 mod given;
 mod lives;
 mod making;
+mod placed;
 mod reach;
 mod rule;
 mod shifting;
+mod values;
 
 pub use automaton::{Automaton, Cases};
 pub use counts::plus;

@@ -1,0 +1,182 @@
+-- The image of a configuration, from its fundamental box and through compositions.
+use Rattle.std.proofs.Common.{◌≡◌, ◌<◌, ℕ, zero, suc, ◌+◌, Bool, true, false, List, [], ◌∷◌, ◌++◌, Some, None, cond, length, slice_get, ap, sym, ◌∙◌, refl, subst, arith, inl, inr}
+use Rattle.std.specs.Prelude.{◌⊎◌, nat_lt, is_some, IfSome, Option}
+use Rattle.std.specs.List.{list_all, All}
+use Rattle.std.proofs.Math.Nat.{eq-or-lt_of_le}
+use Rattle.std.proofs.lemmas.Bool.{and_parts, and_from, ltb-true, lt-ltb, leb-true}
+use Rattle.dd_lattice.specs.Place.{Place, moved}
+use Rattle.dd_lattice.specs.Cells.{cell, shifted}
+use Rattle.dd_lattice.specs.declared.position.Cell.{Cell}
+use Rattle.dd_pattern.specs.Periods.{base_of, periods_of}
+use Rattle.dd_pattern.specs.Reading.{Look, IsBelow}
+use Rattle.dd_pattern.specs.Tile.{Tile, IsTile, IsPeriodic, IsInBox, tile, tile_index, tile_look, cell_in}
+use Rattle.dd_pattern.proofs.TileLaws.{base_moved, look_same}
+use Rattle.dd_pattern.proofs.TileSizes.{index_below}
+use Rattle.dd_pattern.proofs.BoxLaws.{cell_at_index}
+use Rattle.dd_expansion.specs.Truth.{are_equal}
+use Rattle.dd_expansion.specs.Placed.{is_flat}
+use Rattle.dd_expansion.proofs.ListTests.{list_all-weaker}
+use Rattle.dd_formula.specs.LocalRule.{is_near}
+use Rattle.dd_formula.specs.Automata.{Setting, Counted, IsAutomaton, value, counted, cases_reads, is_cell_of}
+use Rattle.dd_formula.specs.Values.{IsPlaced, CasesArePlaced, HasCasesLook, are_given}
+use Rattle.dd_formula.specs.declared.automaton.Automaton.{Automaton}
+use Rattle.dd_formula.specs.declared.automaton.Automaton.TheVariants as v
+use Rattle.dd_formula.specs.declared.automaton.Cases.{Cases}
+use Rattle.dd_formula.proofs.AutomatonLaws.{counted_given, near_reads, fits_given, outer_part, inner_part}
+use Rattle.dd_formula.proofs.Reached.{read_given, below_at}
+use Rattle.dd_formula.proofs.ValueLaws.{value_composed, value_by_reads, value_below, equal_values}
+use Rattle.dd_automaton.specs.Images.{numbers_of, IsDefinedOn, IsImage}
+
+-- a cell with one of the nodes has a symbol
+look_some : (t : Tile) → IsTile t → (c : Cell) → c.node < t.nodes → is_some (tile_look t c) ≡ true
+look_some t ok c node = ap (λ b. is_some (cond b (slice_get t.symbols (tile_index t c)) None)) (lt-ltb c.node t.nodes node) ∙ some_at t.symbols (tile_index t c) (index_below t ok c node)
+  where
+    some_at : (xs : List ℕ) (i : ℕ) → i < length xs → is_some (slice_get xs i) ≡ true
+    some_at [] i h = absurd (omega arith)
+    some_at (x ∷ xs) zero h = refl
+    some_at (x ∷ xs) (suc i) h = some_at xs i (omega arith)
+
+equal_to_some : (a b : Option ℕ) → a ≡ b → is_some a ≡ true → are_equal a b ≡ true
+equal_to_some None b e h = absurd (cc)
+equal_to_some (Some x) b e h = subst (λ o. are_equal (Some x) o ≡ true) e (equal_values x x refl)
+
+node_of : (s : Setting) (c : Cell) → is_cell_of s c ≡ true → c.node < s.nodes
+node_of s c h = ltb-true c.node s.nodes (and_parts (is_flat s.dimension c.position) (nat_lt c.node s.nodes) h).1
+
+-- the value at a cell is the value at the cell of the fundamental box
+pub value_at_base : (f : Automaton) (t : Tile) (n : ℕ) → IsTile t → IsAutomaton (numbers_of t n) f → IsPlaced f → (w : Place) (a : ℕ) → a < t.nodes →
+    value f (tile_look t) (cell w a) ≡ value f (tile_look t) (cell (base_of t.periods w) a)
+value_at_base f t n ok formed placed w a node =
+    let base = base_of t.periods w in
+    value_by_reads f a w base (tile_look t) (tile_look t)
+    (list_all-weaker (is_cell_of (numbers_of t n)) (λ d. are_equal (tile_look t (shifted w d)) (tile_look t (shifted base d)))
+    (λ d here. equal_to_some (tile_look t (shifted w d)) (tile_look t (shifted base d))
+    (look_same t (moved d.position w) (moved d.position base) d.node (base_moved t.dimension t.periods ok.periods d.position w))
+    (look_some t ok (shifted w d) (node_of (numbers_of t n) d here)))
+    ((counted f).reads a) (placed (numbers_of t n) formed a node))
+
+-- the symbols of the box decide the image
+pub image_from_box : (f : Automaton) (t : Tile) (n : ℕ) → IsTile t → IsAutomaton (numbers_of t n) f → IsPlaced f → (ss : List ℕ) → length ss ≡ length t.symbols →
+    ((k : ℕ) → k < length t.symbols → slice_get ss k ≡ Some (value f (tile_look t) (cell_in t k))) → IsImage f t (tile t.dimension t.periods t.nodes ss)
+image_from_box f t n ok formed placed ss as_many each = record {
+  dimension = refl;
+  periods = refl;
+  nodes = refl;
+  values = λ c node.
+      let k = tile_index t c in
+      ap (λ b. cond b (slice_get ss k) None) (lt-ltb c.node t.nodes node)
+      ∙ (each k (index_below t ok c node)
+      ∙ ap Some (ap (value f (tile_look t)) (cell_at_index t ok c.position c.node node) ∙ sym (value_at_base f t n ok formed placed c.position c.node node)));
+  below = λ m well. below_by m ss (λ k h.
+      subst (λ o. IfSome o (λ s. s < m)) (sym (each k (omega (arith, as_many)))) (value_below (numbers_of t m) f well.fits (tile_look t) (cell_in t k)));
+}
+  where
+    below_by : (m : ℕ) (xs : List ℕ) → ((k : ℕ) → k < length xs → IfSome (slice_get xs k) (λ s. s < m)) → All (λ s. s < m) xs
+    below_by m [] h k d within = absurd (omega arith)
+    below_by m (x ∷ xs) h zero d within = h zero (omega arith)
+    below_by m (x ∷ xs) h (suc k) d within = below_by m xs (λ j below. h (suc j) (omega arith)) k d (omega arith)
+
+-- and it is a configuration again
+pub image_periodic : (t : Tile) → IsPeriodic t → (ss : List ℕ) → length ss ≡ length t.symbols → IsPeriodic (tile t.dimension t.periods t.nodes ss)
+image_periodic t kept ss as_many = record {
+  tile = record {
+    some_dimension = kept.tile.some_dimension;
+    most_dimension = kept.tile.most_dimension;
+    periods = kept.tile.periods;
+    nodes_some = kept.tile.nodes_some;
+    full = as_many ∙ kept.tile.full;
+  };
+  small = omega (arith, as_many, kept.small);
+}
+
+-- the configuration gives symbols of the alphabet, and what is read at the cells of the box is there
+pub tile_is_below : (n : ℕ) (t : Tile) → All (λ s. s < n) t.symbols → IsBelow n (tile_look t)
+tile_is_below n t h c = by (nat_lt c.node t.nodes)
+  where
+    by : (b : Bool) → IfSome (cond b (slice_get t.symbols (tile_index t c)) None) (λ s. s < n)
+    by true = below_at n t.symbols h (tile_index t c)
+    by false = tt
+
+given_all : (t : Tile) (s : Setting) → IsPeriodic t → s.nodes ≡ t.nodes → (c : Cell) → IsInBox t c → (ds : List Cell) → list_all is_near ds ≡ true → list_all (is_cell_of s) ds ≡ true →
+    are_given (tile_look t) c.position ds ≡ true
+given_all t s ok same c h [] near placed = refl
+given_all t s ok same c h (d ∷ ds) near placed =
+    let nears = and_parts (is_near d) (list_all is_near ds) near in
+    let places = and_parts (is_cell_of s d) (list_all (is_cell_of s) ds) placed in
+    let node = node_of s d places.0 in
+    and_from _ _ (read_given t ok c d h (leb-true _ _ nears.0) (omega (arith, node, same))) (given_all t s ok same c h ds nears.1 places.1)
+
+pub cases_look : (cases : Cases) (t : Tile) → IsDefinedOn (v.Given cases) t → IsPeriodic t → CasesArePlaced cases → (c : Cell) → IsInBox t c → HasCasesLook cases c (tile_look t)
+cases_look cases t h ok placed c within =
+    let s = numbers_of t h.symbols in
+    let fit = sym (fits_given s cases) ∙ h.formed.fits in
+    record {
+      setting = s;
+      fit = fit;
+      below = within.node;
+      symbols = tile_is_below h.symbols t h.below;
+      given =
+          given_all t s ok refl c within (cases_reads cases.cases c.node)
+          (sym (ap (λ (k : Counted). list_all is_near (k.reads c.node)) (counted_given cases)) ∙ near_reads s (v.Given cases) h.formed c.node within.node)
+          (placed s fit c.node within.node);
+    }
+
+-- the image of the image
+pub defined_inner : (f g : Automaton) (t : Tile) → IsDefinedOn (v.Composed f g) t → IsDefinedOn g t
+defined_inner f g t h = record { symbols = h.symbols; formed = inner_part (numbers_of t h.symbols) f g h.formed; below = h.below }
+
+same_numbers : (t u : Tile) (n : ℕ) → u.dimension ≡ t.dimension → u.nodes ≡ t.nodes → numbers_of t n ≡ numbers_of u n
+same_numbers t u n d a = ap (λ x. record { dimension = x; nodes = t.nodes; symbols = n }) (sym d) ∙ ap (λ x. record { dimension = u.dimension; nodes = x; symbols = n }) (sym a)
+
+pub defined_outer : (f g : Automaton) (t u : Tile) → IsDefinedOn (v.Composed f g) t → IsImage g t u → IsDefinedOn f u
+defined_outer f g t u h image = record {
+  symbols = h.symbols;
+  formed = subst (λ s. IsAutomaton s f) (same_numbers t u h.symbols image.dimension image.nodes) (outer_part (numbers_of t h.symbols) f g h.formed);
+  below = image.below h.symbols (inner_part (numbers_of t h.symbols) f g h.formed);
+}
+
+pub image_composed : (f g : Automaton) (t u w : Tile) → IsDefinedOn (v.Composed f g) t → IsPlaced f → IsImage g t u → IsImage f u w → IsImage (v.Composed f g) t w
+image_composed f g t u w h placed first second = record {
+  dimension = second.dimension ∙ first.dimension;
+  periods = second.periods ∙ first.periods;
+  nodes = second.nodes ∙ first.nodes;
+  values = λ c node.
+      let s = numbers_of t h.symbols in
+      let given : Look = λ d. Some (value g (tile_look t) d) in
+      let reads = list_all-weaker (is_cell_of s) (λ d. are_equal (tile_look u (shifted c.position d)) (given (shifted c.position d)))
+      (λ d here. equal_to_some (tile_look u (shifted c.position d)) (given (shifted c.position d)) (first.values (shifted c.position d) (node_of s d here)) (ap is_some (first.values (shifted c.position d) (node_of s d here))))
+      ((counted f).reads c.node) (placed s (outer_part s f g h.formed) c.node node) in
+      second.values c (omega (arith, node, first.nodes))
+      ∙ ap Some (value_by_reads f c.node c.position c.position (tile_look u) given reads ∙ sym (value_composed f g (tile_look t) c));
+  below = λ n well. second.below n (subst (λ s. IsAutomaton s f) (same_numbers t u n first.dimension first.nodes) (outer_part (numbers_of t n) f g well));
+}
+
+-- one value more
+get_before : (xs : List ℕ) (x k : ℕ) → k < length xs → slice_get (xs ++ x ∷ []) k ≡ slice_get xs k
+get_before [] x k h = absurd (omega arith)
+get_before (y ∷ ys) x zero h = refl
+get_before (y ∷ ys) x (suc k) h = get_before ys x k (omega arith)
+
+get_last : (xs : List ℕ) (x k : ℕ) → length xs ≡ k → slice_get (xs ++ x ∷ []) k ≡ Some x
+get_last [] x zero h = refl
+get_last [] x (suc k) h = absurd (omega arith)
+get_last (y ∷ ys) x zero h = absurd (omega arith)
+get_last (y ∷ ys) x (suc k) h = get_last ys x k (omega arith)
+
+pub value_more : (h : ℕ → ℕ) (xs ys : List ℕ) (x n : ℕ) → ys ≡ xs ++ x ∷ [] → length xs ≡ n → x ≡ h n → ((k : ℕ) → k < n → slice_get xs k ≡ Some (h k)) →
+    (k : ℕ) → k < n + 1 → slice_get ys k ≡ Some (h k)
+value_more h xs ys x n is long here before k below =
+    ap (λ zs. slice_get zs k) is ∙ by (eq-or-lt_of_le (omega arith))
+  where
+    by : (k ≡ n) ⊎ (k < n) → slice_get (xs ++ x ∷ []) k ≡ Some (h k)
+    by (inl same) = get_last xs x k (omega (arith, long, same)) ∙ ap Some (here ∙ ap h (sym same))
+    by (inr less) = get_before xs x k (omega (arith, long, less)) ∙ before k less
+
+-- the tile by the numbers that the program reads
+pub tile_again : (t : Tile) (d shear n : ℕ) (ps ss : List ℕ) → d ≡ t.dimension → ps ≡ t.periods.x ∷ t.periods.y ∷ t.periods.z ∷ [] → shear ≡ t.periods.shear → n ≡ t.nodes →
+    tile d (periods_of ps shear) n ss ≡ tile t.dimension t.periods t.nodes ss
+tile_again t d shear n ps ss one two three four =
+    ap (λ x. tile x (periods_of ps shear) n ss) one
+    ∙ (ap (λ x. tile t.dimension (periods_of x shear) n ss) two
+    ∙ (ap (λ x. tile t.dimension (periods_of (t.periods.x ∷ t.periods.y ∷ t.periods.z ∷ []) x) n ss) three
+    ∙ ap (λ x. tile t.dimension t.periods x ss) four))

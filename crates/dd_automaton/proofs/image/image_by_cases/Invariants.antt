@@ -1,0 +1,11 @@
+use Rattle.std.proofs.Common.{◌≡◌, ◌<◌, ℕ, Some, length, slice_get}
+use Rattle.dd_pattern.specs.Tile.{tile_look, cell_in}
+use Rattle.dd_formula.specs.Automata.{first_case}
+use Rattle.dd_automaton.proofs.image.image_by_cases.Given as goal
+
+-- the values at the cells that were passed
+abbrev pub invariant-loop-number : goal.invariant-loop-number
+invariant-loop-number l = record {
+  as_many : length l.symbols.items ≡ l.number;
+  values : (k : ℕ) → k < l.number → slice_get l.symbols.items k ≡ Some (first_case l.cases.cases l.cases.otherwise (tile_look l.periodic) (cell_in l.periodic k));
+}

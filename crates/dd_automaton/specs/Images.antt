@@ -1,0 +1,27 @@
+-- The image of a periodic configuration under an automaton.
+use Rattle.std.specs.Prelude.{ℕ, ◌<◌, ◌≡◌, Some}
+use Rattle.std.specs.List.{All}
+use Rattle.dd_lattice.specs.declared.position.Cell.{Cell}
+use Rattle.dd_pattern.specs.Tile.{Tile, tile_look}
+use Rattle.dd_formula.specs.Automata.{Setting, IsAutomaton, value}
+use Rattle.dd_formula.specs.declared.automaton.Automaton.{Automaton}
+
+-- the configuration's numbers, with an alphabet of so many symbols
+abbrev pub numbers_of : Tile → ℕ → Setting
+numbers_of t n = record { dimension = t.dimension; nodes = t.nodes; symbols = n }
+
+-- over the configuration's numbers, and an alphabet that has its symbols, the automaton is well formed
+pub record IsDefinedOn (f : Automaton) (t : Tile) : Type 0 where
+  pub symbols : ℕ
+  pub formed : IsAutomaton (numbers_of t symbols) f
+  pub below : All (λ s. s < symbols) t.symbols
+
+-- of the same dimension, periods, shear and nodes, with the automaton's value at each cell of each position
+pub record IsImage (f : Automaton) (t u : Tile) : Type 0 where
+  pub dimension : u.dimension ≡ t.dimension
+  -- the shear is one of their numbers
+  pub periods : u.periods ≡ t.periods
+  pub nodes : u.nodes ≡ t.nodes
+  pub values : (c : Cell) → c.node < t.nodes → tile_look u c ≡ Some (value f (tile_look t) c)
+  -- the values are symbols of each alphabet over which the automaton is well formed
+  pub below : (n : ℕ) → IsAutomaton (numbers_of t n) f → All (λ s. s < n) u.symbols

@@ -1,0 +1,2 @@
+-- The image of a configuration: the automaton's value at every cell.
+pub mod Images

@@ -1,0 +1,52 @@
+//! The image of a periodic configuration under an automaton.
+ghost use Rattle.std.specs.Prelude.{IfOk};
+ghost use Rattle.dd_automaton.specs.Images.{IsDefinedOn, IsImage};
+
+use dd_formula::{Automaton, Cases};
+use dd_pattern::Periodic;
+use std::alloc::{AllocError, Global};
+
+/// The configuration that has at every cell the automaton's value, with the same periods and shear. A value may be a
+/// symbol that the cell's node doesn't allow.
+pub fn apply(
+    alloc: Global,
+    automaton: &Automaton,
+    periodic: &Periodic,
+) -> Result<Periodic, AllocError>
+    requires { IsDefinedOn automaton.now periodic.now }
+    ensures { IfOk result (IsImage automaton.now periodic.now) }
+{
+    match automaton {
+        Automaton::Given(cases) => image_by_cases(alloc, cases, periodic),
+        Automaton::Composed(outer, inner) => {
+            // Made for its fact: the outer automaton keeps to its nodes.
+            outer.get().reads_are_placed();
+            let between = apply(alloc, inner.get(), periodic)?;
+            apply(alloc, outer.get(), &between)
+        }
+    }
+}
+
+/// The same of an automaton that is given by cases.
+fn image_by_cases(alloc: Global, cases: &Cases, periodic: &Periodic) -> Result<Periodic, AllocError>
+    requires { IsDefinedOn (Automaton.Given cases.now) periodic.now }
+    ensures { IfOk result (IsImage (Automaton.Given cases.now) periodic.now) }
+{
+    // Made for its fact: the rules keep to their nodes.
+    cases.reads_are_placed();
+    let count = periodic.symbols().len();
+    let mut symbols = Vec::with_capacity(alloc, count)?;
+    for number in 0..count {
+        symbols.push(cases.value(&periodic.cell_at(number), periodic))?;
+    }
+    match Periodic::new(
+        periodic.dim(),
+        periodic.periods(),
+        periodic.shear(),
+        periodic.nodes(),
+        symbols,
+    ) {
+        Ok(image) => Ok(image),
+        Err(_) => unreachable!(),
+    }
+}

@@ -1,0 +1,6 @@
+//! Cellular automata on periodic configurations.
+#![tactic(auto)]
+
+mod image;
+
+pub use image::apply;

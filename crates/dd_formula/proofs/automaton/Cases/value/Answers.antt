@@ -1,0 +1,63 @@
+use Rattle.std.proofs.Common.{◌≡◌, ◌<◌, ℕ, List, length, get_or, true, false, sym, ◌∙◌, ap, subst, arith}
+use Rattle.dd_formula.specs.LocalRule.{LocalRule, is_true}
+use Rattle.dd_pattern.specs.Reading.{IsBelow}
+use Rattle.dd_formula.proofs.AutomatonLaws.{case_has, rule_nodes}
+use Rattle.dd_formula.proofs.ValueLaws.{case_step, case_given, rule_symbols, told}
+use Rattle.dd_formula.proofs.automaton.Cases.value.Goals as goal
+
+pub truth-requires : goal.truth-requires
+truth-requires g c =
+    let cases : List (LocalRule × ℕ) = c.args.self.now.cases in
+    let i = c.loop-rule.rule-index in
+    let case : LocalRule × ℕ = c.loop-rule-item.result in
+    let same : c.as_slice-rule-items.result.now ≡ cases = c.as_slice-rule-items.ensures in
+    let is : case ≡ get_or cases i case = c.loop-rule-item.is ∙ ap (λ xs. get_or xs i case) same in
+    let below : i < length cases = subst (λ xs. i < length xs) same c.loop-rule-test.true in
+    let s = c.requires.setting in
+    let has = case_has s cases c.args.self.now.otherwise i case c.requires.fit below is in
+    let nodes = rule_nodes s case.0 has in record {
+      node = omega (arith, nodes, c.requires.below);
+      symbols = subst (λ n. IsBelow n (g.R.Reads.symbols c.args.read.now)) (sym (rule_symbols s case.0 has)) c.requires.symbols;
+    }
+
+pub returns-in-Some-true : goal.returns-in-Some-true
+returns-in-Some-true g c =
+    let cases : List (LocalRule × ℕ) = c.args.self.now.cases in
+    let i = c.loop-rule.rule-index in
+    let case : LocalRule × ℕ = c.loop-rule-item.result in
+    let look = g.R.Reads.symbols c.args.read.now in
+    let at = c.args.at.now in
+    let same : c.as_slice-rule-items.result.now ≡ cases = c.as_slice-rule-items.ensures in
+    let is : case ≡ get_or cases i case = c.loop-rule-item.is ∙ ap (λ xs. get_or xs i case) same in
+    let below : i < length cases = subst (λ xs. i < length xs) same c.loop-rule-test.true in
+    let answer = told case.0 at look c.truth.result (case_given cases look at.position at.node i case c.requires.given below is) c.truth.ensures.value in
+    let here : is_true case.0 at look ≡ true = (let was = c.in-Some-true.is in let yes = c.in-Some-true.field-0-test in cc) in
+    sym (c.loop-rule.invariant ∙ case_step cases c.args.self.now.otherwise look at i case true below is here)
+
+pub loop-rule-preserved : goal.loop-rule-preserved
+loop-rule-preserved g c =
+    let cases : List (LocalRule × ℕ) = c.args.self.now.cases in
+    let i = c.loop-rule.rule-index in
+    let case : LocalRule × ℕ = c.loop-rule-item.result in
+    let look = g.R.Reads.symbols c.args.read.now in
+    let at = c.args.at.now in
+    let same : c.as_slice-rule-items.result.now ≡ cases = c.as_slice-rule-items.ensures in
+    let is : case ≡ get_or cases i case = c.loop-rule-item.is ∙ ap (λ xs. get_or xs i case) same in
+    let below : i < length cases = subst (λ xs. i < length xs) same c.loop-rule-test.true in
+    let answer = told case.0 at look c.truth.result (case_given cases look at.position at.node i case c.requires.given below is) c.truth.ensures.value in
+    let here : is_true case.0 at look ≡ false = (let was = c.in-Some-false.is in let no = c.in-Some-false.field-0-test in cc) in
+    c.loop-rule.invariant ∙ case_step cases c.args.self.now.otherwise look at i case false below is here
+
+pub unreachable-requires : goal.unreachable-requires
+unreachable-requires g c =
+    let cases : List (LocalRule × ℕ) = c.args.self.now.cases in
+    let i = c.loop-rule.rule-index in
+    let case : LocalRule × ℕ = c.loop-rule-item.result in
+    let look = g.R.Reads.symbols c.args.read.now in
+    let at = c.args.at.now in
+    let same : c.as_slice-rule-items.result.now ≡ cases = c.as_slice-rule-items.ensures in
+    let is : case ≡ get_or cases i case = c.loop-rule-item.is ∙ ap (λ xs. get_or xs i case) same in
+    let below : i < length cases = subst (λ xs. i < length xs) same c.loop-rule-test.true in
+    let answer = told case.0 at look c.truth.result (case_given cases look at.position at.node i case c.requires.given below is) c.truth.ensures.value in
+    let was = c.in-None.is in
+    absurd (cc)

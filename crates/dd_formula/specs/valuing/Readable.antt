@@ -1,0 +1,41 @@
+-- What the recursion over compositions keeps: all that is read near the origin has symbols of the alphabet.
+use Rattle.std.specs.Prelude.{ℕ, ◌<◌, ◌≡◌, true, List}
+use Rattle.std.specs.List.{list_all}
+use Rattle.dd_lattice.specs.Place.{Place}
+use Rattle.dd_lattice.specs.declared.position.Cell.{Cell}
+use Rattle.dd_pattern.specs.Reading.{Look, IsBelow}
+use Rattle.dd_pattern.specs.Filling.{Filled, filling_look}
+use Rattle.dd_expansion.specs.Leaves.{seen}
+use Rattle.dd_expansion.specs.Terms.{origin_at}
+use Rattle.dd_expansion.specs.Truth.{are_equal}
+use Rattle.dd_formula.specs.Automata.{Setting, IsAutomaton, is_cell_of}
+use Rattle.dd_formula.specs.Values.{HasLook, is_read}
+use Rattle.dd_formula.specs.declared.automaton.Automaton.{Automaton}
+use Rattle.dd_formula.specs.declared.automaton.Automaton.TheVariants as v
+
+-- an automaton at a node of the origin
+pub record IsReadable (f : Automaton) (a : ℕ) (look : Look) : Type 0 where
+  pub has : HasLook f (origin_at a) look
+  pub given : is_read f (origin_at a) look ≡ true
+
+-- of the composition of two automata
+pub record AreReadable (f g : Automaton) (a : ℕ) (look : Look) : Type 0 where
+  pub setting : Setting
+  pub outer : IsAutomaton setting f
+  pub inner : IsAutomaton setting g
+  pub below : a < setting.nodes
+  pub symbols : IsBelow setting.symbols look
+  pub given : is_read (v.Composed f g) (origin_at a) look ≡ true
+
+-- and of an automaton at several cells
+pub record IsReadableAt (f : Automaton) (cs : List Cell) (look : Look) : Type 0 where
+  pub setting : Setting
+  pub formed : IsAutomaton setting f
+  pub cells : list_all (is_cell_of setting) cs ≡ true
+  pub symbols : IsBelow setting.symbols look
+  pub given : list_all (λ c. is_read f c look) cs ≡ true
+
+-- the filling gives the cells the symbols that are seen from v
+pub record IsSeen (look : Look) (v : Place) (cs : List Cell) (f : Filled) : Type 0 where
+  pub seen : list_all (λ d. are_equal (filling_look f d) (seen look v d)) cs ≡ true
+  pub below : (n : ℕ) → IsBelow n look → IsBelow n (filling_look f)
