@@ -8,3 +8,6 @@ pub mod CompiledLaws
 pub mod FewGates
 pub mod RuleWiring
 pub mod RuleSays
+pub mod ChoiceLaws
+pub mod CaseGates
+pub mod CaseRules

@@ -48,14 +48,14 @@ all_say (e ∷ es) set wires p look n tell wired ok =
     let both = and_parts (agrees set n gs) (agrees set (n + length gs) hs) (sym (agrees-append set n gs hs) ∙ ok) in
     rw (e.1 set wires p look n tell w.0 both.0, all_say es set wires p look (n + length gs) tell w.1 both.1) refl
 
-same_from_beq : (a b : Bool) → beq a b ≡ true → a ≡ b
+pub same_from_beq : (a b : Bool) → beq a b ≡ true → a ≡ b
 same_from_beq true true h = refl
 same_from_beq true false h = sym h
 same_from_beq false true h = h
 same_from_beq false false h = refl
 
 -- the last gate has its value, and those before it agree
-last_gate : (set : ℕ → Bool) (n : ℕ) (gs : List Gate) (g : Gate) → agrees set n (then_gate n gs g).gates ≡ true →
+pub last_gate : (set : ℕ → Bool) (n : ℕ) (gs : List Gate) (g : Gate) → agrees set n (then_gate n gs g).gates ≡ true →
     (agrees set n gs ≡ true) × (signal_value set (then_gate n gs g).signal ≡ gate_value set g)
 last_gate set n gs g ok =
     let both = and_parts (agrees set n gs) (agrees set (n + length gs) (g ∷ [])) (sym (agrees-append set n gs (g ∷ [])) ∙ ok) in
@@ -71,7 +71,7 @@ list_any-as-map : {X : Type 0} (p : X → Bool) (xs : List X) → list_any p xs 
 list_any-as-map p [] = refl
 list_any-as-map p (x ∷ xs) = rw (list_any-as-map p xs) refl
 
-opposite_value : (set : ℕ → Bool) (s : Signal) → signal_value set (opposite s) ≡ not (signal_value set s)
+pub opposite_value : (set : ℕ → Bool) (s : Signal) → signal_value set (opposite s) ≡ not (signal_value set s)
 opposite_value set s = go s.positive (set s.variable) where
   go : (p v : Bool) → (if not p then v else not v) ≡ not (if p then v else not v)
   go true v = refl

@@ -1,3 +1,7 @@
+-- The signals of cells, and the gates of formulas and rules over them.
 pub mod Wiring
 pub mod Compiling
 pub mod RuleSignals
+-- The gates of the value of an automaton by cases, and what they say.
+pub mod ValueGates
+pub mod ValueSignals
