@@ -1,0 +1,6 @@
+-- states, slices and edges of a transfer graph
+pub mod Graphs
+-- windows of a strip, and which of them are edges
+pub mod Windows
+-- what the public call promises
+pub mod Transfers

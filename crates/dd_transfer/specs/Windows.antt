@@ -1,0 +1,107 @@
+-- Windows of a strip: slices at x = 0, 1 and so on, which are read modulo the strip's periods in the other axes.
+use Rattle.std.specs.Prelude.{◌≡◌, ℕ, zero, suc, ◌+◌, ◌*◌, ◌/◌, ◌%◌, ◌<◌, ◌≤◌, ◌&&◌, cond, nat_lt, int_le, true, List, [], ◌∷◌, ◌++◌, Option, None, slice_get, slice_index_or, length, false, Bool, ◌↔◌, pos, ℤ, ◌-ℤ◌, unsigned_abs}
+use Rattle.std.specs.List.{All}
+use Rattle.dd_lattice.specs.Place.{Place, place}
+use Rattle.dd_lattice.specs.Cells.{cell}
+use Rattle.dd_lattice.specs.declared.position.Cell.{Cell}
+use Rattle.dd_pattern.specs.Reading.{Look}
+use Rattle.dd_pattern.specs.Periods.{residue}
+use Rattle.dd_expansion.specs.Placed.{is_flat}
+use Rattle.dd_formula.specs.LocalRule.{LocalRule, is_true}
+use Rattle.dd_formula.specs.Allowed.{AreAllowed}
+use Rattle.dd_formula.specs.Reach.{all_cells}
+use Rattle.dd_counts.specs.Rules.{least_x, window}
+use Rattle.dd_transfer.specs.declared.strip.Strip.{Strip}
+
+-- a number's digits in a base, so many of them, the most significant first
+abbrev pub digits : ℕ → ℕ → ℕ → List ℕ
+digits base zero number = []
+digits base (suc count) number = digits base count (number / base) ++ number % base ∷ []
+
+abbrev pub strip_of : ℕ → ℕ → ℕ → Strip
+strip_of y z nodes = record { y = y; z = z; nodes = nodes }
+
+-- a strip of a rule: periods of 1 to 64, and 1 to 4 nodes
+pub record IsSized (s : Strip) : Type 0 where
+  pub y_some : 0 < s.y
+  pub z_some : 0 < s.z
+  pub nodes_some : 0 < s.nodes
+  pub y_most : s.y ≤ 64
+  pub z_most : s.z ≤ 64
+  pub nodes_most : s.nodes ≤ 4
+
+-- it has the rule's nodes, and is as wide as one position along each axis past the dimension
+pub record IsFor (r : LocalRule) (s : Strip) : Type 0 where
+  pub sized : IsSized s
+  pub nodes : s.nodes ≡ r.nodes
+  pub y_unused : r.dimension < 2 → s.y ≡ 1
+  pub z_unused : r.dimension < 3 → s.z ≡ 1
+
+-- the positions of a slice, and its cells
+abbrev pub positions : Strip → ℕ
+positions s = s.y * s.z
+
+abbrev pub cells : Strip → ℕ
+cells s = s.nodes * positions s
+
+-- a cell's place in its slice: in cell order
+abbrev pub slice_index_of : Strip → Cell → ℕ
+slice_index_of s c = (residue c.position.z s.z * s.y + residue c.position.y s.y) * s.nodes + c.node
+
+-- its place in a window: slice by slice
+abbrev pub window_index : Strip → Cell → ℕ
+window_index s c = unsigned_abs c.position.x * cells s + slice_index_of s c
+
+-- the symbols of the cells of a window, from x = 0 on
+abbrev pub window_look : Strip → List ℕ → Look
+window_look s symbols c = cond (int_le (pos 0) c.position.x && nat_lt c.node s.nodes) (slice_get symbols (window_index s c)) None
+
+-- a window: its strip and its symbols
+pub record Shown : Type 0 where
+  pub strip : Strip
+  pub symbols : List ℕ
+
+abbrev pub shown : Strip → List ℕ → Shown
+shown strip symbols = record { strip = strip; symbols = symbols }
+
+abbrev pub shown_look : Shown → Look
+shown_look w = window_look w.strip w.symbols
+
+-- the cells of a window: of one slice more than a state has
+abbrev pub window_cells : LocalRule → Strip → ℕ
+window_cells r s = (window r + 1) * cells s
+
+-- the symbols of the window of a number, whose first cell is the most significant digit
+abbrev pub numbered : LocalRule → Strip → ℕ → Look
+numbered r s number = window_look s (digits r.symbols (window_cells r s) number)
+
+-- the rule is true at each place at a position along x
+abbrev pub IsTrueAlong : LocalRule → ℤ → Look → Type 0
+IsTrueAlong r x look = (v : Place) (a : ℕ) → v.x ≡ x → is_flat r.dimension v ≡ true → a < r.nodes → is_true r (cell v a) look ≡ true
+
+-- where the rule stands in a window: what it reads there begins in the first slice
+abbrev pub stand : LocalRule → ℤ
+stand r = pos 0 -ℤ least_x (pos 0) (all_cells r)
+
+-- each symbol is allowed at its node, and the rule is true where it stands
+pub record IsKept (r : LocalRule) (look : Look) : Type 0 where
+  pub allowed : AreAllowed r look
+  pub true_there : IsTrueAlong r (stand r) look
+
+abbrev pub IsWindow : LocalRule → Strip → ℕ → Type 0
+IsWindow r s number = IsKept r (numbered r s number)
+
+-- the window of a rule: as many symbols as it has cells, each of the alphabet
+pub record IsFull (r : LocalRule) (w : Shown) : Type 0 where
+  pub strip_for : IsFor r w.strip
+  pub cells_are : length w.symbols ≡ window_cells r w.strip
+  pub known : All (λ x. x < r.symbols) w.symbols
+
+-- the cell of a slice at a place in cell order
+abbrev pub cell_at : Strip → ℤ → ℕ → Cell
+cell_at s x i = let k = i / s.nodes in cell (place x (pos (k % s.y)) (pos (k / s.y))) (i % s.nodes)
+
+-- the list says of each window below a number whether the rule keeps it
+pub record AreWindows (r : LocalRule) (s : Strip) (n : ℕ) (windows : List Bool) : Type 0 where
+  pub each : length windows ≡ n
+  pub tells : (k : ℕ) → k < n → (slice_index_or windows k false ≡ true) ↔ IsWindow r s k

@@ -1,0 +1,150 @@
+//! The transfer graph of a rule over a strip.
+ghost use Rattle.std.specs.Prelude.{◌≡◌, ◌<◌, ◌≤◌, ℕ, IfOk, IfErr, length, slice_index};
+ghost use Rattle.dd_counts.specs.Rules.{slices, states, longer_states};
+ghost use Rattle.dd_pattern.specs.Weight.{AreWeights, total_weight};
+ghost use Rattle.dd_formula.specs.LocalRule.{IsRule};
+ghost use Rattle.dd_transfer.specs.Windows.{IsFor, AreWindows, cells, positions};
+ghost use Rattle.dd_transfer.specs.Transfers.{IsStrip, HasWeights, IsGraphOf, IsFault, strip_for, slice_weight};
+
+use crate::deciding::is_kept;
+use crate::fault::TransferFault;
+use crate::graphs::Graph;
+use crate::standing::stand;
+use crate::strip::Strip;
+use crate::windows::{Window, write_digits};
+use dd_counts::{longer_states, states, window};
+use dd_formula::Rule;
+use std::alloc::{AllocError, Global};
+
+/// The greatest numbers of states, and of windows, which are states with a slice more.
+const MOST_STATES: u32 = 4096;
+
+const MOST_WINDOWS: u32 = 131_072;
+
+/// The transfer graph of a rule over a strip with these periods in the second and the third axis, where each symbol weighs
+/// as much as its weight says.
+///
+/// # Errors
+/// `Size` where there are more than 4,096 states or more than 131,072 states and slices; else `Memory`.
+pub fn graph(
+    alloc: Global,
+    rule: &Rule,
+    strip: [u32; 2],
+    weights: &[u32],
+) -> Result<Graph, TransferFault>
+    requires strip { IsStrip rule.now strip }
+    requires weights { HasWeights rule.now weights.now }
+    ensures ok { IfOk result (IsGraphOf rule.now (strip_for rule.now strip) weights.now) }
+    ensures err { IfErr result (IsFault rule.now (strip_for rule.now strip)) }
+{
+    let strip = Strip {
+        y: strip[0],
+        z: strip[1],
+        nodes: rule.nodes(),
+    };
+    let states = states(rule, strip.positions(), MOST_STATES);
+    if states > MOST_STATES {
+        return Err(TransferFault::Size);
+    }
+    let count = longer_states(rule, strip.positions(), MOST_WINDOWS);
+    if count > MOST_WINDOWS {
+        return Err(TransferFault::Size);
+    }
+    Ok(graph_of(alloc, rule, strip, weights, states, count)?)
+}
+
+/// The same with so many states and windows.
+fn graph_of(
+    alloc: Global,
+    rule: &Rule,
+    strip: Strip,
+    weights: &[u32],
+    most: u32,
+    count: u32,
+) -> Result<Graph, AllocError>
+    requires kept { IsRule rule.now }
+    requires strip { IsFor rule.now strip }
+    requires weights { HasWeights rule.now weights.now }
+    requires states { most ≡ states rule.now (positions strip) }
+    requires count { count ≡ longer_states rule.now (positions strip) }
+    requires few { most ≤ 4096 }
+    requires small { count ≤ 131072 }
+    ensures { IfOk result (IsGraphOf rule.now strip weights.now) }
+{
+    let slices = count / most;
+    let windows = kept_windows(alloc, rule, strip, count)?;
+    let weights = slice_weights(alloc, rule, strip, weights, slices)?;
+    Ok(Graph::new(most, slices, windows, weights))
+}
+
+/// For each window, by its number, whether the rule keeps it.
+fn kept_windows(
+    alloc: Global,
+    rule: &Rule,
+    strip: Strip,
+    count: u32,
+) -> Result<Vec<bool>, AllocError>
+    requires { IsFor rule.now strip }
+    ensures { IfOk result (λ v. AreWindows rule.now strip count v.items) }
+{
+    let cells = (window(rule) + 1) * strip.cells() as u64;
+    let mut window = Window::new(strip, zeros(alloc, cells as usize)?);
+    let stand = stand(rule);
+    let mut kept = Vec::new(alloc);
+    for number in 0..count {
+        window.write(rule.symbols(), number);
+        kept.push(is_kept(rule, &window, stand))?;
+    }
+    Ok(kept)
+}
+
+/// What each slice weighs.
+fn slice_weights(
+    alloc: Global,
+    rule: &Rule,
+    strip: Strip,
+    weights: &[u32],
+    slices: u32,
+) -> Result<Vec<u64>, AllocError>
+    requires strip { IsFor rule.now strip }
+    requires weights { HasWeights rule.now weights.now }
+    ensures each { IfOk result (λ v. length v.items ≡ slices) }
+    ensures weighs { IfOk result (λ v. (t : ℕ) → t < slices → slice_index v.items t ≡ slice_weight rule.now strip weights.now t) }
+{
+    let mut symbols = zeros(alloc, strip.cells() as usize)?;
+    let mut sums = Vec::new(alloc);
+    for slice in 0..slices {
+        sums.push(slice_weight(symbols.as_mut_slice(), rule, strip, weights, slice))?;
+    }
+    Ok(sums)
+}
+
+/// What a slice weighs; the list takes the symbols of its cells.
+fn slice_weight(symbols: &mut [u32], rule: &Rule, strip: Strip, weights: &[u32], slice: u32) -> u64
+    requires strip { IsFor rule.now strip }
+    requires weights { HasWeights rule.now weights.now }
+    requires cells { length symbols.old ≡ cells strip }
+    ensures { result ≡ slice_weight rule.now strip weights.now slice }
+{
+    write_digits(symbols, rule.symbols(), slice);
+    weight_of(symbols, weights)
+}
+
+fn zeros(alloc: Global, count: usize) -> Result<Vec<u32>, AllocError>
+    ensures { IfOk result (λ v. length v.items ≡ count) }
+{
+    vec![in alloc; 0; count]
+}
+
+/// The sum of the symbols' weights.
+fn weight_of(symbols: &[u32], weights: &[u32]) -> u64
+    requires weights { AreWeights weights.now symbols.now }
+    requires few { length symbols.now ≤ 16384 }
+    ensures { result ≡ total_weight weights.now symbols.now }
+{
+    let mut total = 0;
+    for symbol in symbols {
+        total += weights[*symbol as usize] as u64;
+    }
+    total
+}

@@ -1,0 +1,87 @@
+//! Transfer graphs: which windows are edges, and what each slice weighs.
+ghost use Rattle.std.specs.Prelude.{◌≡◌, ◌<◌, ◌*◌, length};
+ghost use Rattle.dd_transfer.specs.Graphs.{transfer, IsTransfer, next_of, target, weight_at, window_of};
+
+use std::marker::Model;
+
+/// A state is a row of slices, numbered with the first slice as the most significant digit. An edge by a slice leads from
+/// a state to the state that has this slice behind it and its first slice no more.
+#[derive(Debug, Drop)]
+pub struct Graph {
+    states: u32,
+    slices: u32,
+    windows: Vec<bool>,
+    weights: Vec<u64>,
+}
+
+impl Model for Graph {
+    ghost use Rattle.dd_transfer.specs.Graphs.{Transfer, IsTransfer, transfer};
+
+    ghost Value = { Transfer };
+
+    ghost view = { λ g. transfer g.states g.slices g.windows.items g.weights.items };
+
+    ghost invariant = { λ g. IsTransfer (transfer g.states g.slices g.windows.items g.weights.items) };
+}
+
+impl Graph {
+    pub(crate) fn new(states: u32, slices: u32, windows: Vec<bool>, weights: Vec<u64>) -> Graph
+        requires { IsTransfer (transfer states slices windows.items weights.items) }
+        ensures { result ≡ transfer states slices windows.items weights.items }
+    {
+        Graph {
+            states,
+            slices,
+            windows,
+            weights,
+        }
+    }
+
+    /// The number of states, 1 to 4,096. The readers take no memory.
+    pub fn states(&self) -> u32
+        ensures value { result ≡ self.now.states }
+        ensures kept { IsTransfer self.now }
+    {
+        self.states
+    }
+
+    /// The number of slices. With the states it makes at most 131,072 windows.
+    pub fn slices(&self) -> u32
+        ensures value { result ≡ self.now.slices }
+        ensures kept { IsTransfer self.now }
+    {
+        self.slices
+    }
+
+    /// Where the edge of a window leads, where the window is one.
+    fn target(&self, window: u32) -> Option<u32>
+        requires { window < self.now.states * self.now.slices }
+        ensures { result ≡ target self.now window }
+    {
+        if self.windows[window as usize] {
+            Some(window % self.states)
+        } else {
+            None
+        }
+    }
+
+    /// The state to which the edge from a state by a slice leads; `None` exactly where there is no such edge.
+    pub fn next(&self, state: u32, slice: u32) -> Option<u32>
+        ensures value { result ≡ next_of self.now state slice }
+        ensures kept { IsTransfer self.now }
+    {
+        if state >= self.states || slice >= self.slices {
+            return None;
+        }
+        self.target(state * self.slices + slice)
+    }
+
+    /// What a slice weighs.
+    pub fn slice_weight(&self, slice: u32) -> u64
+        requires { slice < self.now.slices }
+        ensures value { result ≡ weight_at self.now slice }
+        ensures kept { IsTransfer self.now }
+    {
+        self.weights[slice as usize]
+    }
+}

@@ -1,0 +1,14 @@
+//! Transfer graphs of strips: states of some slices, and an edge for each slice that may follow one.
+#![tactic(auto)]
+
+mod building;
+mod deciding;
+mod fault;
+mod graphs;
+mod standing;
+mod strip;
+mod windows;
+
+pub use building::graph;
+pub use fault::TransferFault;
+pub use graphs::Graph;

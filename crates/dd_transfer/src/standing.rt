@@ -1,0 +1,47 @@
+//! Where a rule stands in a window.
+ghost use Rattle.std.specs.Prelude.{◌≡◌, pos, ◌≤ℤ◌};
+ghost use Rattle.dd_counts.specs.Rules.{least_x};
+ghost use Rattle.dd_formula.specs.LocalRule.{IsRule};
+ghost use Rattle.dd_formula.specs.Reach.{all_cells};
+ghost use Rattle.dd_transfer.specs.Windows.{stand};
+
+use dd_formula::Rule;
+use dd_lattice::Cell;
+
+fn x_of(cell: &Cell) -> i32
+    ensures { result ≡ cell.now.position.x }
+{
+    cell.position.x
+}
+
+fn least_x(from: i32, cells: &[Cell]) -> i32
+    ensures { result ≡ least_x from cells.now }
+{
+    let mut least = from;
+    for cell in cells {
+        least = least.min(x_of(cell));
+    }
+    least
+}
+
+/// The least x of a cell that the rule reads, 0 among them.
+fn least_read(rule: &Rule) -> i32
+    ensures value { result ≡ least_x (pos 0) (all_cells rule.now) }
+    ensures kept { IsRule rule.now }
+{
+    let mut least = 0;
+    for node in 0..rule.nodes() {
+        least = least_x(least, rule.reads(node));
+    }
+    least
+}
+
+/// The x of the places whose reads begin in the first slice of a window.
+pub(crate) fn stand(rule: &Rule) -> i32
+    ensures value { result ≡ stand rule.now }
+    ensures some { pos 0 ≤ℤ result }
+    ensures near { result ≤ℤ pos 16 }
+{
+    let least = least_read(rule);
+    -least
+}
