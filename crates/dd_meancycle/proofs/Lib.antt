@@ -1,0 +1,9 @@
+pub mod LevelLaws
+pub mod WalkLaws
+pub mod Assembly
+pub mod Gentle
+pub mod TurnLaws
+pub mod Karp
+pub mod Steps
+pub mod EdgeLaws
+pub mod Confirmed

@@ -1,0 +1,23 @@
+use Rattle.std.proofs.Common.{◌≡◌, ◌≤◌, ◌<◌, ◌+◌, ◌*◌, ◌%◌, ◌^◌, ◌++◌, ◌∷◌, [], ℕ, List, length, take, get_or, Some, arith, refl, ap, sym, subst, ◌∙◌}
+use Rattle.std.proofs.lemmas.List.{take_more}
+use Rattle.dd_transfer.specs.Graphs.{next_of, weight_at}
+use Rattle.dd_meancycle.specs.Means.{IsPath, weight_of}
+use Rattle.dd_meancycle.proofs.EdgeLaws.{weight_small, step}
+use Rattle.dd_meancycle.proofs.Confirmed.{path_push, weight_push}
+use Rattle.dd_meancycle.proofs.confirming.cycle_weight.Goals as goal
+
+pub loop-state-preserved : goal.loop-state-preserved
+loop-state-preserved c =
+    let g = c.args.graph.now in
+    let cycle = c.args.cycle.now in
+    let i = c.loop-state.state-index in
+    let s = get_or cycle i 0 in
+    let more : take (i + 1) cycle ≡ take i cycle ++ s ∷ [] = take_more cycle i 0 c.loop-state-test.true in
+    let edge : next_of g c.loop-state.from (s % g.slices) ≡ Some s = c.if-not-leads.ensures.value.0 refl in
+    let weighs : c.slice_weight.result ≡ weight_at g (s % g.slices) = c.slice_weight.ensures.value ∙ ap (λ (n : ℕ). weight_at g (s % n)) c.slices.ensures.value in
+    let few = weight_small g (s % g.slices) c.slices.ensures.kept (step g c.loop-state.from (s % g.slices) s edge).slice in
+    record {
+      path = subst (λ (ss : List ℕ). IsPath g c.in_ok-last.field-0.now ss s) (sym more) (path_push g (take i cycle) c.in_ok-last.field-0.now c.loop-state.from s c.loop-state.invariant.path edge);
+      sum = (let all = ap (weight_of g) more ∙ weight_push g (take i cycle) s in omega (arith, all, weighs, c.loop-state.invariant.sum));
+      small = omega (arith, few, weighs, c.loop-state.invariant.small);
+    }

@@ -1,0 +1,55 @@
+-- Closed walks of a transfer graph, and what shows that none has a smaller mean.
+use Rattle.std.specs.Prelude.{◌≡◌, ℕ, ◌+◌, ◌*◌, ◌%◌, ◌<◌, ◌≤◌, ◌^◌, ℤ, pos, ◌-ℤ◌, ◌≤ℤ◌, unsigned_abs, List, [], ◌∷◌, length, slice_index, slice_index_or, Some}
+use Rattle.std.specs.Int.{IsGcd}
+use Rattle.dd_transfer.specs.Graphs.{Transfer, next_of, weight_at}
+use Rattle.dd_meancycle.specs.declared.least.Mean.{Mean}
+use Rattle.dd_meancycle.specs.declared.least.Mean.TheVariants.{Least, NoCycle}
+
+-- each state has an edge to the next: from u through the states to v
+abbrev pub IsPath : Transfer → ℕ → List ℕ → ℕ → Type 0
+IsPath g u [] v = u ≡ v
+IsPath g u (s ∷ ss) v = (next_of g u (s % g.slices) ≡ Some s) × IsPath g s ss v
+
+-- the weights of the states' last slices, which are their numbers modulo the slices
+abbrev pub weight_of : Transfer → List ℕ → ℕ
+weight_of g [] = 0
+weight_of g (s ∷ ss) = weight_at g (s % g.slices) + weight_of g ss
+
+-- each state has an edge to the next, and the last one to the first
+pub record IsCycle (g : Transfer) (states : List ℕ) : Type 0 where
+  pub last : ℕ
+  pub closed : IsPath g last states last
+  pub turns : 0 < length states
+
+abbrev pub potential : List ℤ → ℕ → ℤ
+potential ps v = slice_index_or ps v (pos 0)
+
+-- along each edge the potential rises by at most l times its weight less m
+abbrev pub ArePotentials : Transfer → ℕ → ℕ → List ℤ → Type 0
+ArePotentials g m l ps = (u t v : ℕ) → next_of g u t ≡ Some v → (potential ps v -ℤ potential ps u) ≤ℤ (pos (l * weight_at g t) -ℤ pos m)
+
+-- along each edge the rank falls
+abbrev pub AreRanks : Transfer → List ℕ → Type 0
+AreRanks g ranks = (u t v : ℕ) → next_of g u t ≡ Some v → slice_index ranks v < slice_index ranks u
+
+-- a cycle whose mean is m / l in lowest terms, and potentials; no cycle has a smaller mean
+pub record IsLeast (g : Transfer) (m l : ℕ) (cycle : List ℕ) (ps : List ℤ) : Type 0 where
+  pub cycle_is : IsCycle g cycle
+  pub short : length cycle ≤ g.states
+  pub mean : weight_of g cycle * l ≡ m * length cycle
+  pub lowest : IsGcd m l 1
+  pub positive : 0 < l
+  pub each : length ps ≡ g.states
+  pub potentials : ArePotentials g m l ps
+  pub bounded : (v : ℕ) → v < g.states → unsigned_abs (potential ps v) ≤ 2 ^ 40
+  pub least : (states : List ℕ) → IsCycle g states → m * length states ≤ l * weight_of g states
+
+-- ranks, and no cycle
+pub record IsAcyclic (g : Transfer) (ranks : List ℕ) : Type 0 where
+  pub each : length ranks ≡ g.states
+  pub ranks_fall : AreRanks g ranks
+  pub none : (states : List ℕ) → IsCycle g states → ⊥
+
+abbrev pub IsMeanOf : Transfer → Mean → Type 0
+IsMeanOf g (Least m l cycle ps) = IsLeast g m l cycle ps
+IsMeanOf g (NoCycle ranks) = IsAcyclic g ranks

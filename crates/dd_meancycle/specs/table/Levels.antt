@@ -1,0 +1,52 @@
+-- The least weights of walks by length.
+use Rattle.std.specs.Prelude.{◌≡◌, ℕ, zero, suc, ◌+◌, ◌*◌, ◌<◌, ◌≤◌, ◌^◌, min, List, [], ◌∷◌, length, Option, Some, None, slice_index_or, slice_set, replicate}
+use Rattle.std.specs.List.{fold}
+use Rattle.dd_meancycle.specs.declared.edges.Edge.{Edge}
+
+abbrev pub at : List (Option ℕ) → ℕ → Option ℕ
+at row v = slice_index_or row v None
+
+abbrev pub lowered : Option ℕ → ℕ → Option ℕ
+lowered None x = Some x
+lowered (Some y) x = Some (min y x)
+
+abbrev pub lower_at : Option ℕ → List (Option ℕ) → Edge → List (Option ℕ)
+lower_at None row e = row
+lower_at (Some a) row e = slice_set row e.to (lowered (at row e.to) (a + e.weight))
+
+-- the row after the edge e, from the walks that are one edge shorter
+abbrev pub relaxed : List (Option ℕ) → List (Option ℕ) → Edge → List (Option ℕ)
+relaxed prev row e = lower_at (at prev e.from) row e
+
+abbrev pub level : List Edge → List (Option ℕ) → List (Option ℕ)
+level edges prev = fold (relaxed prev) (replicate (length prev) None) edges
+
+abbrev pub row : List Edge → ℕ → ℕ → List (Option ℕ)
+row edges n zero = replicate n (Some 0)
+row edges n (suc k) = level edges (row edges n k)
+
+-- the least weight of a walk of k edges to v
+abbrev pub least : List Edge → ℕ → ℕ → ℕ → Option ℕ
+least edges n k v = at (row edges n k) v
+
+-- the levels are the rows
+abbrev pub AreRows : List Edge → ℕ → List (List (Option ℕ)) → Type 0
+AreRows edges n levels = (k : ℕ) → k < length levels → slice_index_or levels k [] ≡ row edges n k
+
+abbrev pub weight_at : List (List (Option ℕ)) → ℕ → ℕ → Option ℕ
+weight_at levels k v = at (slice_index_or levels k []) v
+
+abbrev pub IsAtMost : Option ℕ → ℕ → Type 0
+IsAtMost None x = ⊥
+IsAtMost (Some y) x = y ≤ x
+
+abbrev pub IsUpToIn : ℕ → Option ℕ → Type 0
+IsUpToIn bound None = Unit {0}
+IsUpToIn bound (Some a) = a ≤ bound
+
+abbrev pub IsUpTo : ℕ → List (Option ℕ) → Type 0
+IsUpTo bound row = (v : ℕ) → IsUpToIn bound (at row v)
+
+-- an edge between states below n, and a walk of n such edges weighs little
+abbrev pub IsEdgeOf : ℕ → Edge → Type 0
+IsEdgeOf n e = (e.from < n) × (e.to < n) × (e.weight < 2 ^ 31) × (n * e.weight ≤ 2 ^ 25)

@@ -1,0 +1,34 @@
+-- The edges of a transfer graph as a list.
+use Rattle.std.specs.Prelude.{◌≡◌, ℕ, ◌*◌, ◌/◌, ◌%◌, ◌<◌, List, map, ℤ, pos, ◌-ℤ◌, ◌≤ℤ◌, Option, Some}
+use Rattle.std.specs.Option.{option_map}
+use Rattle.std.specs.List.{Contains, All}
+use Rattle.dd_transfer.specs.Graphs.{Transfer, next_of, weight_at}
+use Rattle.dd_meancycle.specs.Means.{potential}
+use Rattle.dd_meancycle.specs.declared.edges.Edge.{Edge}
+use Rattle.dd_meancycle.specs.declared.table.EdgeMean.{EdgeMean}
+use Rattle.dd_meancycle.specs.declared.table.EdgeMean.TheVariants as edge_mean
+use Rattle.dd_meancycle.specs.declared.least.Mean.{Mean}
+use Rattle.dd_meancycle.specs.declared.least.Mean.TheVariants.{Least, NoCycle}
+
+-- the edge of the window of a number, where it is one
+abbrev pub edge_at : Transfer → ℕ → Option Edge
+edge_at g number = option_map (λ v. record { from = number / g.slices; to = v; weight = weight_at g (number % g.slices) }) (next_of g (number / g.slices) (number % g.slices))
+
+-- the list has exactly the graph's edges, as far as the number n
+pub record AreEdgesTo (g : Transfer) (n : ℕ) (edges : List Edge) : Type 0 where
+  pub each : (e : Edge) → Contains edges e → (number : ℕ) × (number < n) × (edge_at g number ≡ Some e)
+  pub all : (number : ℕ) (e : Edge) → number < n → edge_at g number ≡ Some e → Contains edges e
+
+abbrev pub AreEdges : Transfer → List Edge → Type 0
+AreEdges g edges = AreEdgesTo g (g.states * g.slices) edges
+
+-- along each of the edges the potential rises by at most l times its weight less m
+abbrev pub IsRisen : ℕ → ℕ → List ℤ → List Edge → Type 0
+IsRisen m l ps edges = All (λ e. (potential ps e.to -ℤ potential ps e.from) ≤ℤ (pos (l * e.weight) -ℤ pos m)) edges
+
+-- the same answer by the states to which the cycle's edges lead
+abbrev pub IsInStates : EdgeMean → Mean → Type 0
+IsInStates (edge_mean.Least m l cycle ps) (Least a b states qs) = (a ≡ m) × (b ≡ l) × (states ≡ map (λ e. e.to) cycle.items) × (qs ≡ map pos ps.items)
+IsInStates (edge_mean.Least m l cycle ps) (NoCycle qs) = ⊥
+IsInStates (edge_mean.NoCycle rs) (Least a b states qs) = ⊥
+IsInStates (edge_mean.NoCycle rs) (NoCycle qs) = qs ≡ rs.items

@@ -1,0 +1,105 @@
+-- What the table of least weights says of means.
+use Rattle.std.specs.Prelude.{◌≡◌, ℕ, suc, ◌∷◌, ◌+◌, ◌-◌, ◌*◌, ◌<◌, ◌≤◌, List, [], length, Option, Some, None, slice_index_or, ◌⊎◌, Bool, true, false, ◌^◌, is_some, ◌&&◌, ◌==◌}
+use Rattle.std.specs.List.{Contains}
+use Rattle.std.specs.Int.{IsGcd}
+use Rattle.dd_meancycle.specs.declared.edges.Edge.{Edge}
+use Rattle.dd_meancycle.specs.declared.rises.Ratio.{Ratio}
+use Rattle.dd_meancycle.specs.declared.rises.Steep.{Steep}
+use Rattle.dd_meancycle.specs.table.Levels.{at, weight_at, least}
+use Rattle.dd_meancycle.specs.table.Walks.{IsWalk, AreAmong, weight_of}
+
+-- the state has a place in each level up to the last, and a walk of no edges
+pub record Reads (levels : List (List (Option ℕ))) (last v : ℕ) : Type 0 where
+  pub levels_to : last < length levels
+  pub within : (k : ℕ) → k ≤ last → v < length (slice_index_or levels k [])
+  pub start : weight_at levels 0 v ≡ Some 0
+
+-- no walk's rise to the longest has a greater mean, and one has this
+pub record IsSteepest (levels : List (List (Option ℕ))) (last v weight run : ℕ) : Type 0 where
+  pub end : ℕ
+  pub ends : weight_at levels last v ≡ Some end
+  pub above : (k before : ℕ) → k < last → weight_at levels k v ≡ Some before → end * run ≤ before * run + weight * (last - k)
+  pub at_length : ℕ
+  pub at_weight : ℕ
+  pub shorter : at_length < last
+  pub from : weight_at levels at_length v ≡ Some at_weight
+  pub rise : at_weight + weight ≡ end
+  pub run_is : run + at_length ≡ last
+
+pub record IsPotential (levels : List (List (Option ℕ))) (last v m l p : ℕ) : Type 0 where
+  pub least : (k before : ℕ) → k < last → weight_at levels k v ≡ Some before → p ≤ l * before + m * (last - k)
+  pub at_length : ℕ
+  pub at_weight : ℕ
+  pub shorter : at_length < last
+  pub from : weight_at levels at_length v ≡ Some at_weight
+  pub is : p ≡ l * at_weight + m * (last - at_length)
+
+abbrev pub IsSteeper : Ratio → ℕ → Option ℕ → ℕ → Ratio → Type 0
+IsSteeper best end None run r = r ≡ best
+IsSteeper best end (Some b) run r = (end * r.length ≤ b * r.length + r.weight * run) × ((r ≡ best) ⊎ ((b + r.weight ≡ end) × (r.length ≡ run) × (best.weight * run < r.weight * best.length)))
+
+abbrev pub IsLesser : ℕ → Option ℕ → ℕ → ℕ → ℕ → ℕ → Type 0
+IsLesser best None m l run r = r ≡ best
+IsLesser best (Some b) m l run r = (r ≤ best) × (r ≤ l * b + m * run) × ((r ≡ best) ⊎ (r ≡ l * b + m * run))
+
+abbrev pub arrives : Option ℕ → ℕ → ℕ → Bool
+arrives None weight end = false
+arrives (Some a) weight end = (a + weight) == end
+
+abbrev pub is_back : List (Option ℕ) → ℕ → ℕ → Edge → Bool
+is_back before state weight e = (e.to == state) && arrives (at before e.from) e.weight weight
+
+abbrev pub IsGentler : Option Steep → ℕ → Option Ratio → Option Steep → Type 0
+IsGentler best state None r = r ≡ best
+IsGentler None state (Some h) r = r ≡ Some (record { state = state; mean = h })
+IsGentler (Some o) state (Some h) r = ((r ≡ Some o) × (o.mean.weight * h.length ≤ h.weight * o.mean.length)) ⊎ ((r ≡ Some (record { state = state; mean = h })) × (h.weight * o.mean.length < o.mean.weight * h.length))
+
+-- the longest walk to v goes round the cycle
+pub record IsTurn (edges : List Edge) (n v end : ℕ) (cycle : List Edge) : Type 0 where
+  pub at_state : ℕ
+  pub before : ℕ
+  pub weight : ℕ
+  pub rest : List Edge
+  pub among : AreAmong edges cycle
+  pub closed : IsWalk at_state cycle at_state
+  pub rest_among : AreAmong edges rest
+  pub rest_walk : IsWalk at_state rest v
+  pub before_is : least edges n before at_state ≡ Some weight
+  pub turns : 0 < length cycle
+  pub lengths : (before + length cycle) + length rest ≡ n
+  pub weights : (weight + weight_of cycle) + weight_of rest ≡ end
+
+abbrev pub marked : List (Option ℕ) → ℕ
+marked [] = 0
+marked (None ∷ os) = marked os
+marked (Some r ∷ os) = suc (marked os)
+
+abbrev pub HasRiseIn : List (List (Option ℕ)) → ℕ → ℕ → ℕ → ℕ → ℕ → Type 0
+HasRiseIn levels last m l v end = (k : ℕ) × (before : ℕ) × (k < last) × (weight_at levels k v ≡ Some before) × (before * l + m * (last - k) ≤ end * l)
+
+-- among the states below i with a longest walk, s has the least steepest rise
+pub record IsGentlest (levels : List (List (Option ℕ))) (last i : ℕ) (s : Steep) : Type 0 where
+  pub below : s.state < i
+  pub steepest : IsSteepest levels last s.state s.mean.weight s.mean.length
+  pub rises : (v end : ℕ) → v < i → weight_at levels last v ≡ Some end → HasRiseIn levels last s.mean.weight s.mean.length v end
+  pub small_weight : s.mean.weight < 2 ^ 32
+  pub small_length : s.mean.length < 2 ^ 31
+
+abbrev pub LeastSoFar : List (List (Option ℕ)) → ℕ → ℕ → Option Steep → Type 0
+LeastSoFar levels last i None = (v : ℕ) → v < i → weight_at levels last v ≡ None
+LeastSoFar levels last i (Some s) = IsGentlest levels last i s
+
+pub record IsReduced (mean r : Ratio) : Type 0 where
+  pub same : mean.weight * r.length ≡ r.weight * mean.length
+  pub lowest : IsGcd r.weight r.length 1
+  pub positive : 0 < r.length
+  pub short : r.length ≤ mean.length
+  pub light : r.weight ≤ mean.weight
+
+pub record IsHeight (levels : List (List (Option ℕ))) (last v h : ℕ) : Type 0 where
+  pub below : h < last
+  pub here : is_some (weight_at levels h v) ≡ true
+  pub greatest : (k : ℕ) → k < last → is_some (weight_at levels k v) ≡ true → k ≤ h
+
+abbrev pub IsRank : List (List (Option ℕ)) → ℕ → ℕ → ℕ → Type 0
+IsRank levels last v r = (h : ℕ) × IsHeight levels last v h × (r + h ≡ last)

@@ -1,0 +1,120 @@
+//! The exact check of a cycle and potentials: they show a graph's least mean, or they are turned down.
+ghost use Rattle.std.specs.Prelude.{◌≡◌, ℕ, ◌*◌, ◌%◌, ◌<◌, ◌≤◌, ◌^◌, ◌↔◌, IsTrue, IfSome, length, pos, ◌-ℤ◌, ◌≤ℤ◌, unsigned_abs, Some};
+ghost use Rattle.std.specs.List.{All};
+ghost use Rattle.dd_transfer.specs.Graphs.{next_of, IsTransfer};
+ghost use Rattle.dd_meancycle.specs.Means.{IsCycle, IsLeast, potential, weight_of};
+ghost use Rattle.dd_meancycle.specs.table.Levels.{IsEdgeOf};
+ghost use Rattle.dd_meancycle.specs.table.Lists.{AreEdges, IsRisen};
+
+use crate::edges::Edge;
+use crate::rises::{Ratio, reduced};
+use dd_transfer::Graph;
+
+/// The greatest absolute value of a potential, 2^40.
+const MOST_POTENTIAL: u64 = 1_099_511_627_776;
+
+/// Whether an edge leads from a state to another, by the other's last slice.
+fn leads(graph: &Graph, from: u32, to: u32) -> bool
+    ensures value { IsTrue result ↔ (next_of graph.now from (to % graph.now.slices) ≡ Some to) }
+    ensures kept { IsTransfer graph.now }
+{
+    match graph.next(from, to % graph.slices()) {
+        Some(state) => state == to,
+        None => false,
+    }
+}
+
+/// What a cycle weighs; `None` where it isn't closed.
+fn cycle_weight(graph: &Graph, cycle: &[u32]) -> Option<u64>
+    requires { length cycle.now ≤ 4096 }
+    ensures { IfSome result (λ w. IsCycle graph.now cycle.now × (w ≡ weight_of graph.now cycle.now)) }
+{
+    let last = *cycle.last()?;
+    let mut from = last;
+    let mut weight = 0;
+    for state in cycle {
+        if !leads(graph, from, *state) {
+            return None;
+        }
+        from = *state;
+        weight += graph.slice_weight(from % graph.slices());
+    }
+    if from == last { Some(weight) } else { None }
+}
+
+/// Whether a potential rises by at most `l * weight - m`.
+fn is_rise(from: i64, to: i64, l: u64, weight: u32, m: u64) -> bool
+    ensures { IsTrue result ↔ ((to -ℤ from) ≤ℤ (pos (l * weight) -ℤ pos m)) }
+{
+    let product = l as u128 * weight as u128;
+    let most = product as i128 - m as i128;
+    let rise = to as i128 - from as i128;
+    if rise > most {
+        return false;
+    }
+    true
+}
+
+/// Whether the potential rises so along an edge.
+fn is_risen(edge: &Edge, potentials: &[i64], mean: Ratio) -> bool
+    requires { IsEdgeOf (length potentials.now) edge.now }
+    ensures { IsTrue result → (potential potentials.now edge.now.to -ℤ potential potentials.now edge.now.from) ≤ℤ (pos (mean.length * edge.now.weight) -ℤ pos mean.weight) }
+{
+    let from = potentials[edge.from as usize];
+    let to = potentials[edge.to as usize];
+    is_rise(from, to, mean.length, edge.weight, mean.weight)
+}
+
+/// Whether the potentials rise so along each edge.
+fn are_risen(edges: &[Edge], potentials: &[i64], mean: Ratio) -> bool
+    requires { All (IsEdgeOf (length potentials.now)) edges.now }
+    ensures { IsTrue result → IsRisen mean.weight mean.length potentials.now edges.now }
+{
+    for edge in edges {
+        if !is_risen(edge, potentials, mean) {
+            return false;
+        }
+    }
+    true
+}
+
+fn is_bounded(potential: &i64) -> bool
+    ensures { IsTrue result → unsigned_abs potential.now ≤ 2 ^ 40 }
+{
+    potential.unsigned_abs() <= MOST_POTENTIAL
+}
+
+/// Whether each potential is at most 2^40 in absolute value.
+fn are_bounded(potentials: &[i64]) -> bool
+    ensures { IsTrue result → All (λ p. unsigned_abs p ≤ 2 ^ 40) potentials.now }
+{
+    for potential in potentials {
+        if !is_bounded(potential) {
+            return false;
+        }
+    }
+    true
+}
+
+/// The mean of a cycle in lowest terms, where the cycle and the potentials show that it is the graph's least one.
+pub(crate) fn confirmed(
+    graph: &Graph,
+    edges: &[Edge],
+    cycle: &[u32],
+    potentials: &[i64],
+) -> Option<Ratio>
+    requires { AreEdges graph.now edges.now }
+    ensures { IfSome result (λ r. IsLeast graph.now r.weight r.length cycle.now potentials.now) }
+{
+    if cycle.len() > graph.states() as usize || potentials.len() != graph.states() as usize {
+        return None;
+    }
+    let weight = cycle_weight(graph, cycle)?;
+    let length = cycle.len() as u64;
+    let mean = reduced(Ratio { weight, length });
+    if are_bounded(potentials) && are_risen(edges, potentials, mean) {
+        Some(mean)
+    } else {
+        None
+    }
+}

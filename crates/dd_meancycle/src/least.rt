@@ -1,0 +1,111 @@
+//! The least mean of the cycles of a transfer graph.
+ghost use Rattle.std.specs.Prelude.{◌≡◌, ℕ, ◌<◌, ◌≤◌, ◌^◌, IfOk, IfSome, length, map, pos, slice_index};
+ghost use Rattle.std.specs.List.{All};
+ghost use Rattle.dd_transfer.specs.Graphs.{IsTransfer};
+ghost use Rattle.dd_meancycle.specs.Means.{IsMeanOf};
+ghost use Rattle.dd_meancycle.specs.table.Lists.{AreEdges, IsInStates};
+ghost use Rattle.dd_meancycle.specs.table.LeastMean.{IsMean, IsSmallMean};
+
+use crate::confirming::confirmed;
+use crate::edges::{Edge, edges};
+use crate::seeking::{Found, sought};
+use crate::table::{EdgeMean, table_mean};
+use dd_transfer::Graph;
+use dd_values::Items;
+use std::alloc::{AllocError, Global};
+
+/// What a graph has: a cycle of least mean, in lowest terms, with potentials; or ranks that fall along each edge.
+#[derive(Debug, Drop)]
+pub enum Mean {
+    /// The cycle has at most as many states as the graph. There is a potential for each state, at most 2^40 in absolute
+    /// value: along an edge it rises by at most the denominator times the weight of the edge less the numerator.
+    Least {
+        numerator: u64,
+        denominator: u64,
+        cycle: Items<u32>,
+        potentials: Items<i64>,
+    },
+    /// One rank for each state.
+    NoCycle {
+        ranks: Items<u32>,
+    },
+}
+
+fn targets(alloc: Global, cycle: &[Edge]) -> Result<Vec<u32>, AllocError>
+    ensures { IfOk result (λ v. v.items ≡ map (λ e. e.to) cycle.now) }
+{
+    cycle.iter().map(|e| e.to).collect(alloc)
+}
+
+fn signed(alloc: Global, potentials: &[u64]) -> Result<Vec<i64>, AllocError>
+    requires { All (λ p. p ≤ 2 ^ 40) potentials.now }
+    ensures { IfOk result (λ v. v.items ≡ map pos potentials.now) }
+{
+    let mut numbers = Vec::new(alloc);
+    for potential in potentials {
+        numbers.push(*potential as i64)?;
+    }
+    Ok(numbers)
+}
+
+fn in_states(alloc: Global, mean: EdgeMean) -> Result<Mean, AllocError>
+    requires { IsSmallMean mean }
+    ensures { IfOk result (λ m. IsInStates mean m) }
+{
+    match mean {
+        EdgeMean::NoCycle { ranks } => Ok(Mean::NoCycle {
+            ranks: Items::from_vec(ranks),
+        }),
+        EdgeMean::Least {
+            numerator,
+            denominator,
+            cycle,
+            potentials,
+        } => {
+            let cycle = targets(alloc, cycle.as_slice())?;
+            let potentials = signed(alloc, potentials.as_slice())?;
+            Ok(Mean::Least {
+                numerator,
+                denominator,
+                cycle: Items::from_vec(cycle),
+                potentials: Items::from_vec(potentials),
+            })
+        }
+    }
+}
+
+/// A cycle of least mean with its potentials; or ranks, exactly where the graph has no cycle.
+pub fn least_mean(alloc: Global, graph: &Graph) -> Result<Mean, AllocError>
+    ensures { IfOk result (IsMeanOf graph.now) }
+{
+    let edges = edges(alloc, graph)?;
+    let found = sought(alloc, graph.states(), edges.as_slice())?;
+    match confirmed_mean(graph, edges.as_slice(), found) {
+        Some(mean) => Ok(mean),
+        None => mean_over(alloc, graph, edges.as_slice()),
+    }
+}
+
+/// What was found, where the exact check confirms it.
+fn confirmed_mean(graph: &Graph, edges: &[Edge], found: Found) -> Option<Mean>
+    requires { AreEdges graph.now edges.now }
+    ensures { IfSome result (IsMeanOf graph.now) }
+{
+    let Found { cycle, potentials } = found;
+    let mean = confirmed(graph, edges, cycle.as_slice(), potentials.as_slice())?;
+    Some(Mean::Least {
+        numerator: mean.weight,
+        denominator: mean.length,
+        cycle,
+        potentials,
+    })
+}
+
+/// The same by the table of all lengths.
+fn mean_over(alloc: Global, graph: &Graph, edges: &[Edge]) -> Result<Mean, AllocError>
+    requires edges { AreEdges graph.now edges.now }
+    ensures { IfOk result (IsMeanOf graph.now) }
+{
+    let mean = table_mean(alloc, graph.states(), edges)?;
+    in_states(alloc, mean)
+}

@@ -1,0 +1,122 @@
+//! The least weights of walks by their length.
+ghost use Rattle.std.specs.Prelude.{◌≡◌, ℕ, ◌+◌, ◌<◌, ◌^◌, length, IfOk, slice_index_or, replicate, vec_len, Some, None, []};
+ghost use Rattle.std.specs.List.{fold, All};
+ghost use Rattle.dd_meancycle.specs.table.Levels.{level, relaxed, lowered, IsUpTo, IsEdgeOf, AreRows, weight_at};
+
+use crate::edges::Edge;
+use std::alloc::{AllocError, Global};
+use std::marker::Model;
+
+/// The least weight of a walk of one length to each state, `None` where there is none.
+#[derive(Drop)]
+pub(crate) struct Level {
+    least: Vec<Option<u32>>,
+}
+
+impl Model for Level {
+    ghost use Rattle.std.specs.Prelude.{List, Option, ℕ};
+
+    ghost Value = { List (Option ℕ) };
+
+    ghost view = { λ l. l.least.items };
+}
+
+fn lower(best: Option<u32>, here: u32) -> u32
+    ensures { Some result ≡ lowered best here }
+{
+    match best {
+        Some(best) => best.min(here),
+        None => here,
+    }
+}
+
+/// Takes the edge into account.
+fn relax(prev: &[Option<u32>], row: &mut [Option<u32>], edge: &Edge)
+    requires from { edge.now.from < length prev.now }
+    requires to { edge.now.to < length row.old }
+    requires small { IsUpTo (2 ^ 31) prev.now }
+    requires light { edge.now.weight < 2 ^ 31 }
+    ensures { row.new ≡ relaxed prev.now row.old edge.now }
+{
+    let Some(before) = prev[edge.from as usize] else {
+        return
+    };
+    let place = edge.to as usize;
+    let here = before + edge.weight;
+    let best = row[place];
+    row[place] = Some(lower(best, here));
+}
+
+fn relax_all(prev: &[Option<u32>], row: &mut [Option<u32>], edges: &[Edge])
+    requires edges { All (IsEdgeOf (length prev.now)) edges.now }
+    requires same { length row.old ≡ length prev.now }
+    requires small { IsUpTo (2 ^ 31) prev.now }
+    ensures { row.new ≡ fold (relaxed prev.now) row.old edges.now }
+{
+    for edge in edges {
+        relax(prev, row, edge);
+    }
+}
+
+fn filled(alloc: Global, states: usize, start: Option<u32>) -> Result<Vec<Option<u32>>, AllocError>
+    ensures { IfOk result (λ r. r.items ≡ replicate states start) }
+{
+    vec![in alloc; start; states]
+}
+
+impl Level {
+    fn as_slice(&self) -> &[Option<u32>]
+        ensures { result.now ≡ self.now }
+    {
+        self.least.as_slice()
+    }
+
+    fn start(alloc: Global, states: usize) -> Result<Level, AllocError>
+        ensures { IfOk result (λ l. l ≡ replicate states (Some 0)) }
+    {
+        let least = filled(alloc, states, Some(0))?;
+        Ok(Level { least })
+    }
+
+    fn next(&self, alloc: Global, edges: &[Edge]) -> Result<Level, AllocError>
+        requires edges { All (IsEdgeOf (length self.now)) edges.now }
+        requires small { IsUpTo (2 ^ 31) self.now }
+        ensures { IfOk result (λ l. l ≡ level edges.now self.now) }
+    {
+        let prev = self.as_slice();
+        let mut least = filled(alloc, prev.len(), None)?;
+        relax_all(prev, least.as_mut_slice(), edges);
+        Ok(Level { least })
+    }
+}
+
+/// The least weight of a walk of `k` edges to the state.
+pub(crate) fn weight_at(levels: &[Level], k: usize, state: u32) -> Option<u32>
+    requires k { k < length levels.now }
+    requires state { state < length (slice_index_or levels.now k []) }
+    ensures { result ≡ weight_at levels.now k state }
+{
+    let level = levels[k].as_slice();
+    level[state as usize]
+}
+
+pub(crate) fn levels(alloc: Global, states: u32, edges: &[Edge]) -> Result<Vec<Level>, AllocError>
+    requires edges { All (IsEdgeOf states) edges.now }
+    ensures rows { IfOk result (λ ls. AreRows edges.now states ls.items) }
+    ensures len { IfOk result (λ ls. vec_len ls ≡ states + 1) }
+{
+    let mut levels = Vec::new(alloc);
+    levels.push(Level::start(alloc, states as usize)?)?;
+    for k in 0..states as usize {
+        let next = levels[k].next(alloc, edges)?;
+        levels.push(next)?;
+    }
+    Ok(levels)
+}
+
+pub(crate) fn row_of(levels: &[Level], k: usize) -> &[Option<u32>]
+    requires { k < length levels.now }
+    ensures { result.now ≡ slice_index_or levels.now k [] }
+{
+    levels[k].as_slice()
+}

@@ -1,0 +1,13 @@
+//! The least mean of the cycles of a transfer graph, by a cycle and potentials; or ranks where there is no cycle.
+#![tactic(auto)]
+
+mod confirming;
+mod edges;
+mod least;
+mod levels;
+mod rises;
+mod seeking;
+mod table;
+mod turning;
+
+pub use least::{Mean, least_mean};

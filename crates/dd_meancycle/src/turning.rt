@@ -1,0 +1,93 @@
+//! A cycle on a walk of the table's greatest length.
+ghost use Rattle.std.specs.Prelude.{◌≡◌, ℕ, ◌+◌, ◌<◌, ◌≤◌, ◌^◌, length, IfOk, replicate, reverse, Some, None, drop};
+ghost use Rattle.std.specs.List.{All, find};
+ghost use Rattle.dd_meancycle.specs.table.Levels.{IsEdgeOf, AreRows, weight_at};
+ghost use Rattle.dd_meancycle.specs.table.Rises.{is_back, IsTurn};
+
+use crate::edges::Edge;
+use crate::levels::{Level, row_of, weight_at};
+use std::alloc::{AllocError, Global};
+
+/// Whether the edge makes a walk of weight `weight` to the state.
+fn is_back(before: &[Option<u32>], state: u32, weight: u32, edge: &Edge) -> bool
+    requires { edge.now.from < length before.now }
+    ensures { result ≡ is_back before.now state weight edge.now }
+{
+    if edge.to != state {
+        return false;
+    }
+    match before[edge.from as usize] {
+        Some(start) => start as u64 + edge.weight as u64 == weight as u64,
+        None => false,
+    }
+}
+
+/// An edge by which a least walk of `k + 1` edges comes to the state.
+fn back_edge(edges: &[Edge], before: &[Option<u32>], state: u32, weight: u32) -> Option<Edge>
+    requires edges { All (IsEdgeOf (length before.now)) edges.now }
+    ensures { result ≡ find (is_back before.now state weight) edges.now }
+{
+    for edge in edges {
+        if is_back(before, state, weight, edge) {
+            return Some(*edge);
+        }
+    }
+    None
+}
+
+fn reversed(alloc: Global, path: &[Edge]) -> Result<Vec<Edge>, AllocError>
+    ensures { IfOk result (λ v. v.items ≡ reverse path.now) }
+{
+    path.iter().rev().copied().collect(alloc)
+}
+
+fn cycle_from(alloc: Global, path: &[Edge], start: usize) -> Result<Vec<Edge>, AllocError>
+    requires { start ≤ length path.now }
+    ensures { IfOk result (λ v. v.items ≡ reverse (drop start path.now)) }
+{
+    reversed(alloc, &path[start..])
+}
+
+/// A cycle on a least walk of `last` edges to the state.
+pub(crate) fn turn(
+    alloc: Global,
+    edges: &[Edge],
+    levels: &[Level],
+    last: usize,
+    state: u32,
+) -> Result<Vec<Edge>, AllocError>
+    requires edges { All (IsEdgeOf last) edges.now }
+    requires rows { AreRows edges.now last levels.now }
+    requires len { length levels.now ≡ last + 1 }
+    requires state { state < last }
+    requires few { last < 2 ^ 31 }
+    ensures { IfOk result (λ c. (end : ℕ) → weight_at levels.now last state ≡ Some end → IsTurn edges.now last state end c.items) }
+{
+    let mut path = Vec::new(alloc);
+    let Some(end) = weight_at(levels, last, state) else {
+        return Ok(path)
+    };
+    let mut seen = unseen(alloc, last)?;
+    let mut at = state;
+    let mut weight = end;
+    for step in 0..last {
+        seen[at as usize] = Some(path.len());
+        let before = row_of(levels, last - 1 - step);
+        let Some(edge) = back_edge(edges, before, at, weight) else {
+            return Ok(path)
+        };
+        path.push(edge)?;
+        at = edge.from;
+        weight -= edge.weight;
+        if let Some(start) = seen[at as usize] {
+            return cycle_from(alloc, path.as_slice(), start);
+        }
+    }
+    Ok(path)
+}
+
+fn unseen(alloc: Global, states: usize) -> Result<Vec<Option<usize>>, AllocError>
+    ensures { IfOk result (λ r. r.items ≡ replicate states None) }
+{
+    vec![in alloc; None; states]
+}
