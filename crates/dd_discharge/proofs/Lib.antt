@@ -1,0 +1,9 @@
+pub mod NumberLaws
+pub mod Lists
+pub mod Ready
+pub mod Growing
+pub mod Chosen
+pub mod Steps
+pub mod DomainLaws
+pub mod GroundLaws
+pub mod AdmissibleLaws

@@ -1,0 +1,74 @@
+use Rattle.std.proofs.Common.{◌≡◌, ◌<◌, ◌+◌, ℕ, List, length, sym, ◌∙◌, ap, subst, take, map, get_or, arith}
+use Rattle.std.proofs.lemmas.List.{get_or_default}
+use Rattle.std.specs.Bool.{nat_eq}
+use Rattle.std.specs.List.{All, flat_map}
+use Rattle.std.proofs.lemmas.Result.{err_from_is_err_and}
+use Rattle.std.proofs.lemmas.List.Elements.{All-filter, All-weaker}
+use Rattle.dd_lattice.specs.Order.{cell_cmp}
+use Rattle.dd_lattice.specs.declared.position.Cell.{Cell}
+use Rattle.dd_formula.specs.LocalRule.{LocalRule}
+use Rattle.dd_discharge.specs.Fillings.{fillings, most_fillings, HasManyFillings}
+use Rattle.dd_discharge.specs.listing.Levels.{AreOf, IsWord, chosen, settled, last_number, extended}
+use Rattle.dd_discharge.proofs.Lists.{sorted_take}
+use Rattle.dd_discharge.proofs.Chosen.{chosen_by}
+use Rattle.dd_discharge.proofs.Growing.{fillings_are, level_next, few_next}
+use Rattle.dd_discharge.proofs.Steps.{on_large_weaker}
+use Rattle.dd_discharge.proofs.search.fillings.Goals as goal
+
+pub next_level-requires-clause-ascending : goal.next_level-requires-clause-ascending
+next_level-requires-clause-ascending c = sorted_take cell_cmp (c.loop-k.k + 1) c.args.cells.now c.requires.ascending
+
+settle : (x : LocalRule) (cells places taken : List Cell) (ns slice : List ℕ) (k : ℕ) → taken ≡ places → places ≡ chosen slice cells k → slice ≡ ns →
+    ns ≡ map (last_number x cells) cells → taken ≡ settled x cells k
+settle x cells places taken ns slice k a b d e = a ∙ (b ∙ (ap (λ (ms : List ℕ). chosen ms cells k) (d ∙ e) ∙ chosen_by (last_number x cells) cells k))
+
+pub next_level-requires-clause-places : goal.next_level-requires-clause-places
+next_level-requires-clause-places c =
+    let x = c.args.rule.now in
+    let cells = c.args.cells.now in
+    let k = c.loop-k.k in
+    let is = settle x cells c.in_ok-places.places c.as_slice-in-loop-k.result.now c.in_ok-numbers.numbers.items c.as_slice.result.now k
+    c.as_slice-in-loop-k.ensures c.in_ok-places.ensures c.as_slice.ensures.value c.in_ok-numbers.ensures in
+    subst (AreOf x) (sym is) (All-filter (λ d. nat_eq (last_number x cells d) k) (λ d. d.node < x.nodes) cells c.requires.nodes)
+
+abbrev AreBelow : ℕ → List (List ℕ) → Type 0
+AreBelow n lists = All (λ ss. All (λ s. s < n) ss) lists
+
+pub next_level-requires-clause-symbols : goal.next_level-requires-clause-symbols
+next_level-requires-clause-symbols c =
+    let x = c.args.rule.now in
+    let first = take c.loop-k.k c.args.cells.now in
+    subst (AreBelow x.symbols) (sym (c.as_slice-in-loop-k-2.ensures ∙ c.loop-k.invariant.0))
+    (All-weaker (IsWord x (length first)) (λ ss. All (λ s. s < x.symbols) ss) (λ ss w. w.below) (fillings x first) (fillings_are x first))
+
+pub returns-in_err-level-clause-err : goal.returns-in_err-level-clause-err
+returns-in_err-level-clause-err c =
+    let x = c.args.rule.now in
+    let cells = c.args.cells.now in
+    let k = c.loop-k.k in
+    let is = settle x cells c.in_ok-places.places c.as_slice-in-loop-k.result.now c.in_ok-numbers.numbers.items c.as_slice.result.now k
+    c.as_slice-in-loop-k.ensures c.in_ok-places.ensures c.as_slice.ensures.value c.in_ok-numbers.ensures in
+    let cell = get_or cells k c.index-cells-k.result in
+    let more = level_next x cells c.requires.ascending c.requires.near k cell c.loop-k-test.true (get_or_default cells k cell c.index-cells-k.result c.loop-k-test.true) c.as_slice-in-loop-k.result.now
+    c.as_slice-in-loop-k-2.result.now is (c.as_slice-in-loop-k-2.ensures ∙ c.loop-k.invariant.0) in
+    let next = flat_map (extended x (take (k + 1) cells) c.as_slice-in-loop-k.result.now cell.node) c.as_slice-in-loop-k-2.result.now in
+    let sizes = ap length more in
+    let p = err_from_is_err_and c.from_residual-in_err-level.result c.from_residual-in_err-level.ensures.1 in
+    rw (p.1, p.2)
+    (on_large_weaker c.in_err-level.field-0.0 (most_fillings < length next) (HasManyFillings x cells)
+    (λ h. record { cells = k + 1; many = omega (arith, sizes, h) }) c.in_err-level.ensures.err)
+
+pub loop-k-preserved : goal.loop-k-preserved
+loop-k-preserved c =
+    let x = c.args.rule.now in
+    let cells = c.args.cells.now in
+    let k = c.loop-k.k in
+    let is = settle x cells c.in_ok-places.places c.as_slice-in-loop-k.result.now c.in_ok-numbers.numbers.items c.as_slice.result.now k
+    c.as_slice-in-loop-k.ensures c.in_ok-places.ensures c.as_slice.ensures.value c.in_ok-numbers.ensures in
+    let cell = get_or cells k c.index-cells-k.result in
+    let more = level_next x cells c.requires.ascending c.requires.near k cell c.loop-k-test.true (get_or_default cells k cell c.index-cells-k.result c.loop-k-test.true) c.as_slice-in-loop-k.result.now
+    c.as_slice-in-loop-k-2.result.now is (c.as_slice-in-loop-k-2.ensures ∙ c.loop-k.invariant.0) in
+    let whole = c.in_ok-level.ensures.ok ∙ more in
+    let sizes = ap length whole in
+    let few = c.in_ok-level.ensures.few in
+    (whole, few_next x cells k c.loop-k.invariant.1 (omega (arith, sizes, few)))

@@ -1,0 +1,26 @@
+-- What a discharge may be asked.
+use Rattle.std.specs.Prelude.{ℕ, ◌≤◌, ◌≡◌, true, unsigned_abs, List, length}
+use Rattle.std.specs.List.{All, IsDistinct}
+use Rattle.std.specs.Ordering.{is_eq}
+use Rattle.dd_lattice.specs.Place.{Place}
+use Rattle.dd_lattice.specs.Order.{place_cmp}
+use Rattle.dd_expansion.specs.Placed.{is_flat}
+use Rattle.dd_formula.specs.LocalRule.{LocalRule}
+
+-- along each axis at most 4, and 0 past the dimension
+pub record IsVector (d : ℕ) (v : Place) : Type 0 where
+  pub on_x : unsigned_abs v.x ≤ 4
+  pub on_y : unsigned_abs v.y ≤ 4
+  pub on_z : unsigned_abs v.z ≤ 4
+  pub flat : is_flat d v ≡ true
+
+pub record AreVectors (d : ℕ) (vs : List Place) : Type 0 where
+  pub some : 1 ≤ length vs
+  pub few : length vs ≤ 16
+  pub distinct : IsDistinct (λ p q. is_eq (place_cmp p q)) vs
+  pub each : All (IsVector d) vs
+
+-- a weight for each symbol
+pub record AreWeightsFor (x : LocalRule) (ws : List ℕ) : Type 0 where
+  pub as_many : length ws ≡ x.symbols
+  pub small : All (λ w. w ≤ 1000) ws

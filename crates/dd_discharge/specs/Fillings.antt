@@ -1,0 +1,43 @@
+-- The admissible fillings of a list of cells, in the lexicographic order of their symbols.
+use Rattle.std.specs.Prelude.{ℕ, ◌≤◌, ◌<◌, Bool, not, ◌||◌, List, [], ◌∷◌, map, filter, length, take}
+use Rattle.std.specs.List.{flat_map, range_with_len, list_all}
+use Rattle.dd_lattice.specs.declared.position.Cell.{Cell}
+use Rattle.dd_pattern.specs.Reading.{Look}
+use Rattle.dd_pattern.specs.Filling.{filled, filling_look}
+use Rattle.dd_formula.specs.LocalRule.{LocalRule, rule_allows, is_true}
+use Rattle.dd_boxes.specs.Fillings.{place_fits}
+
+-- the symbols of the cells, in their order
+abbrev pub look_of : List Cell → List ℕ → Look
+look_of cs ss = filling_look (filled cs ss)
+
+-- the symbols that a node allows
+abbrev pub choices : LocalRule → ℕ → List ℕ
+choices x a = filter (rule_allows x a) (range_with_len 0 x.symbols)
+
+-- all lists of symbols that the nodes of the cells allow
+abbrev pub words : LocalRule → List Cell → List (List ℕ)
+words x [] = [] ∷ []
+words x (c ∷ cs) = flat_map (λ s. map (λ ss. s ∷ ss) (words x cs)) (choices x c.node)
+
+-- the rule is true at the place, if this fits
+abbrev pub is_kept : LocalRule → Look → Cell → Bool
+is_kept x look c = not (place_fits x look c) || is_true x c look
+
+-- it is so at each place of the cells; no other place fits
+abbrev pub is_admissible : LocalRule → List Cell → List ℕ → Bool
+is_admissible x cs ss = list_all (is_kept x (look_of cs ss)) cs
+
+abbrev pub fillings : LocalRule → List Cell → List (List ℕ)
+fillings x cs = filter (is_admissible x cs) (words x cs)
+
+abbrev pub most_fillings : ℕ
+most_fillings = 65536
+
+-- the first so many cells have too many
+pub record HasManyFillings (x : LocalRule) (cs : List Cell) : Type 0 where
+  pub cells : ℕ
+  pub many : most_fillings < length (fillings x (take cells cs))
+
+abbrev pub HasFewFillings : LocalRule → List Cell → Type 0
+HasFewFillings x cs = (k : ℕ) → k ≤ length cs → length (fillings x (take k cs)) ≤ most_fillings

@@ -1,0 +1,53 @@
+//! Why a rule has no program along some vectors, or this no bound.
+ghost use Rattle.std.specs.Prelude.{◌≡◌};
+
+use dd_lattice::LatticeFault;
+use std::alloc::AllocError;
+use thiserror::Error;
+
+/// Why the program of a rule was not made.
+#[derive(Clone, Copy, Debug, PartialEq, Eq, Error)]
+pub enum RowsFault {
+    /// Some first cells have more than 65,536 admissible fillings, or there are more than 2,048 rows or 256 columns.
+    #[error("the program of the discharge is too large")]
+    Large,
+    #[error("out of memory")]
+    Memory,
+}
+
+impl From<AllocError> for RowsFault {
+    ghost use Rattle.dd_discharge.specs.declared.fault.RowsFault.TheVariants.{Memory};
+
+    ghost from_gives = { λ _ fault. fault ≡ Memory };
+
+    fn from(_error: AllocError) -> RowsFault {
+        RowsFault::Memory
+    }
+}
+
+impl From<LatticeFault> for RowsFault {
+    ghost use Rattle.dd_discharge.specs.declared.fault.RowsFault.TheVariants.{Memory};
+
+    ghost from_gives = { λ _ fault. fault ≡ Memory };
+
+    /// The regions of a discharge lie near the origin, so that they fail by want of memory alone.
+    fn from(_fault: LatticeFault) -> RowsFault {
+        RowsFault::Memory
+    }
+}
+
+/// Why a rule has no bound.
+#[derive(Clone, Copy, Debug, PartialEq, Eq, Error)]
+pub enum DischargeFault {
+    /// The program passes a limit on its size.
+    #[error("the program of the discharge is too large")]
+    Large,
+    /// A number of the run passes 2^127 - 1 in absolute value, or one of its end passes 2^40.
+    #[error("a number of the discharge is too large")]
+    Overflow,
+    /// The run needs more pivots than its limit.
+    #[error("the run of the discharge passes its limit of pivots")]
+    Pivots,
+    #[error("out of memory")]
+    Memory,
+}

@@ -1,0 +1,19 @@
+//! Discharging bounds: the domain on which a rule is discharged along some vectors, and its admissible fillings. The linear program that
+//! they give, and its best value, are defined in `specs/`.
+#![tactic(auto)]
+
+mod bound;
+mod domain;
+mod fault;
+mod laws;
+mod numbers;
+mod partial;
+mod rows;
+mod search;
+
+pub use bound::Bound;
+pub use domain::ground;
+pub use fault::{DischargeFault, RowsFault};
+pub use laws::the_admissible;
+pub use rows::{Row, Rows};
+pub use search::fillings;

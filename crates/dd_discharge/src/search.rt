@@ -1,0 +1,208 @@
+//! The search for fillings: cell by cell, all fillings of the first cells.
+ghost use Rattle.std.specs.Prelude.{◌≡◌, ◌<◌, ◌≤◌, ◌+◌, ◌++◌, [], ◌∷◌, length, map, IfOk, OnOk, IfErr, All};
+ghost use Rattle.std.specs.List.{flat_map};
+ghost use Rattle.std.specs.List.Sorted.{IsStrictlySortedBy};
+ghost use Rattle.dd_lattice.specs.Order.{cell_cmp};
+ghost use Rattle.dd_lattice.specs.Cells.{shifted};
+ghost use Rattle.dd_formula.specs.LocalRule.{LocalRule};
+ghost use Rattle.dd_discharge.specs.Faults.{OnLarge};
+ghost use Rattle.dd_discharge.specs.Fillings.{fillings, HasManyFillings, HasFewFillings, most_fillings};
+ghost use Rattle.dd_discharge.specs.listing.Levels.{AreOf, AreInRange, are_true, extended, chosen, last_number, number_of};
+
+use crate::fault::RowsFault;
+use crate::numbers::number_of;
+use crate::partial::Partial;
+use dd_formula::Rule;
+use dd_lattice::{Cell, shift};
+use dd_values::Items;
+use std::alloc::{AllocError, Global};
+
+/// The greatest number of admissible fillings of the first cells.
+const MOST_FILLINGS: usize = 65_536;
+
+/// Whether the rule is true at each of the places that are given.
+fn are_true(rule: &Rule, cells: &[Cell], places: &[Cell], symbols: &[u32]) -> bool
+    requires ascending { IsStrictlySortedBy cell_cmp cells.now }
+    requires places { AreOf rule.now places.now }
+    requires symbols { All (λ s. s < rule.now.symbols) symbols.now }
+    ensures { result ≡ are_true rule.now cells.now places.now symbols.now }
+{
+    let filling = Partial::new(cells, symbols);
+    for place in places {
+        if !rule.truth(place, &filling).unwrap_or(true) {
+            return false;
+        }
+    }
+    true
+}
+
+/// The symbols and one more.
+fn with_symbol(alloc: Global, symbols: &[u32], symbol: u32) -> Result<Items<u32>, AllocError>
+    ensures { IfOk result (λ longer. longer ≡ symbols.now ++ symbol ∷ []) }
+{
+    let mut longer = Vec::with_capacity(alloc, symbols.len() + 1)?;
+    longer.extend_from_slice(symbols)?;
+    longer.push(symbol)?;
+    Ok(Items::from_vec(longer))
+}
+
+/// Puts the symbols with each one more under which the rule stays true at the places.
+fn extend(
+    alloc: Global,
+    rule: &Rule,
+    cells: &[Cell],
+    places: &[Cell],
+    node: u32,
+    symbols: &[u32],
+    next: &mut Items<Items<u32>>,
+) -> Result<(), RowsFault>
+    requires node { node < rule.now.nodes }
+    requires ascending { IsStrictlySortedBy cell_cmp cells.now }
+    requires places { AreOf rule.now places.now }
+    requires symbols { All (λ s. s < rule.now.symbols) symbols.now }
+    requires few { length next.old ≤ most_fillings }
+    ensures ok { OnOk result (next.new ≡ next.old ++ extended rule.now cells.now places.now node symbols.now) }
+    ensures few { OnOk result (length next.new ≤ most_fillings) }
+    ensures err { IfErr result (λ fault. OnLarge fault (most_fillings < length (next.old ++ extended rule.now cells.now places.now node symbols.now))) }
+{
+    for symbol in 0..rule.symbols() {
+        if rule.allows(node, symbol) {
+            let longer = with_symbol(alloc, symbols, symbol)?;
+            if are_true(rule, cells, places, longer.as_slice()) {
+                if next.len() == MOST_FILLINGS {
+                    return Err(RowsFault::Large);
+                }
+                next.push(longer)?;
+            }
+        }
+    }
+    Ok(())
+}
+
+/// The fillings of one cell more.
+fn next_level(
+    alloc: Global,
+    rule: &Rule,
+    cells: &[Cell],
+    places: &[Cell],
+    node: u32,
+    level: &[Items<u32>],
+) -> Result<Items<Items<u32>>, RowsFault>
+    requires node { node < rule.now.nodes }
+    requires ascending { IsStrictlySortedBy cell_cmp cells.now }
+    requires places { AreOf rule.now places.now }
+    requires symbols { All (λ ss. All (λ s. s < rule.now.symbols) ss) level.now }
+    ensures ok { IfOk result (λ next. next ≡ flat_map (extended rule.now cells.now places.now node) level.now) }
+    ensures few { IfOk result (λ next. length next ≤ most_fillings) }
+    ensures err { IfErr result (λ fault. OnLarge fault (most_fillings < length (flat_map (extended rule.now cells.now places.now node) level.now))) }
+{
+    let mut next = Items::new(alloc);
+    for symbols in level {
+        extend(
+            alloc,
+            rule,
+            cells,
+            places,
+            node,
+            symbols.as_slice(),
+            &mut next,
+        )?;
+    }
+    Ok(next)
+}
+
+/// For each of the cells, the greatest number of it and of those that the rule reads there.
+fn last_numbers(alloc: Global, rule: &Rule, cells: &[Cell]) -> Result<Vec<usize>, AllocError>
+    requires ascending { IsStrictlySortedBy cell_cmp cells.now }
+    requires nodes { AreOf rule.now cells.now }
+    requires near { AreInRange cells.now }
+    ensures { IfOk result (λ numbers. numbers.items ≡ map (last_number rule.now cells.now) cells.now) }
+{
+    let mut numbers = Vec::with_capacity(alloc, cells.len())?;
+    for cell in cells {
+        numbers.push(last_number(rule, cells, cell))?;
+    }
+    Ok(numbers)
+}
+
+/// The greatest number of the cell and of those that the rule reads there.
+fn last_number(rule: &Rule, cells: &[Cell], cell: &Cell) -> usize
+    requires ascending { IsStrictlySortedBy cell_cmp cells.now }
+    requires node { cell.now.node < rule.now.nodes }
+    requires near { AreInRange cells.now }
+    ensures { result ≡ last_number rule.now cells.now cell.now }
+{
+    let mut last = number_of(cells, cell);
+    for read in rule.reads(cell.node) {
+        last = last.max(number_of_read(cells, cell, read));
+    }
+    last
+}
+
+/// The number of a cell that is read at a cell.
+pub(crate) fn number_of_read(cells: &[Cell], cell: &Cell, read: &Cell) -> usize
+    requires ascending { IsStrictlySortedBy cell_cmp cells.now }
+    requires near { AreInRange cells.now }
+    ensures { result ≡ number_of cells.now (shifted cell.now.position read.now) }
+{
+    match shift(&read.position, &cell.position) {
+        Some(position) => number_of(
+            cells,
+            &Cell {
+                position,
+                node: read.node,
+            },
+        ),
+        None => cells.len(),
+    }
+}
+
+/// The cells that have the number, by the number of each cell.
+fn chosen(
+    alloc: Global,
+    numbers: &[usize],
+    cells: &[Cell],
+    number: usize,
+) -> Result<Items<Cell>, AllocError>
+    requires { length numbers.now ≡ length cells.now }
+    ensures { IfOk result (λ places. places ≡ chosen numbers.now cells.now number) }
+{
+    let mut places = Items::new(alloc);
+    for i in 0..cells.len() {
+        if numbers[i] == number {
+            places.push(cells[i])?;
+        }
+    }
+    Ok(places)
+}
+
+/// All fillings of the cells with symbols that their nodes allow, under which the rule is true at each place that fits, in
+/// the lexicographic order of their symbols.
+///
+/// # Errors
+/// `Large` where the first so many cells have more than 65,536 of them; else `Memory`.
+pub fn fillings(alloc: Global, rule: &Rule, cells: &[Cell]) -> Result<Items<Items<u32>>, RowsFault>
+    requires ascending { IsStrictlySortedBy cell_cmp cells.now }
+    requires nodes { AreOf rule.now cells.now }
+    requires near { AreInRange cells.now }
+    ensures ok { IfOk result (λ found. found ≡ fillings rule.now cells.now) }
+    ensures few { OnOk result (HasFewFillings rule.now cells.now) }
+    ensures err { IfErr result (λ fault. OnLarge fault (HasManyFillings rule.now cells.now)) }
+{
+    let numbers = last_numbers(alloc, rule, cells)?;
+    let mut level = Items::new(alloc);
+    level.push(Items::new(alloc))?;
+    for k in 0..cells.len() {
+        let places = chosen(alloc, numbers.as_slice(), cells, k)?;
+        let node = cells[k].node;
+        level = next_level(
+            alloc,
+            rule,
+            &cells[..k + 1],
+            places.as_slice(),
+            node,
+            level.as_slice(),
+        )?;
+    }
+    Ok(level)
+}
