@@ -1,0 +1,13 @@
+pub mod FirstCells
+pub mod Periodics
+pub mod Claiming
+pub mod Writable
+pub mod Deciding
+pub mod Counting
+pub mod Narrowing
+pub mod PlaceLaws
+pub mod Giving
+pub mod Asking
+pub mod QueryLaws
+pub mod Verdicts
+pub mod Certifying

@@ -1,0 +1,18 @@
+-- Symbols as numbers of 32 bits.
+use Rattle.std.proofs.Common.{◌≡◌, ℕ, ◌<◌, ◌≤◌, List, length, take, get_or, ◌∙◌, arith}
+use Rattle.std.specs.List.{All}
+use Rattle.std.proofs.lemmas.List.{take_all}
+use Rattle.std.proofs.lemmas.List.Elements.{All-from_get_or}
+
+-- the list has the first i symbols, each below the size
+pub record IsNarrowed (symbols : List ℕ) (size i : ℕ) (list : List ℕ) : Type 0 where
+  pub read : list ≡ take i symbols
+  pub below : (k : ℕ) → k < i → get_or symbols k 0 < size
+
+pub all_narrowed : (symbols : List ℕ) (size i : ℕ) (list : List ℕ) → length symbols ≤ i → IsNarrowed symbols size i list →
+    (list ≡ symbols) × All (λ s. s < size) symbols
+all_narrowed symbols size i list past told =
+    (told.read ∙ take_all i symbols past, All-from_get_or (λ s. s < size) symbols 0 (λ k h. told.below k (omega (arith, h, past))))
+
+pub not_narrowed : (symbols : List ℕ) (size i : ℕ) → i < length symbols → size ≤ get_or symbols i 0 → All (λ s. s < size) symbols → ⊥
+not_narrowed symbols size i within high all = let low : get_or symbols i 0 < size = all i 0 within in omega (arith, low, high)

@@ -1,0 +1,5 @@
+use Rattle.dd_checker.proofs.Certifying.{certified}
+use Rattle.dd_checker.proofs.laws.certified.Goals as goal
+
+pub returns : goal.returns
+returns c = certified c.args.script.now c.limits-limits.ensures.kept

@@ -1,0 +1,22 @@
+use Rattle.std.proofs.Common.{subst, sym}
+use Rattle.dd_formula.specs.Living.{Fits}
+use Rattle.dd_boxes.specs.Views.{goal_of}
+use Rattle.dd_checker.proofs.Deciding.{nothing_holds}
+use Rattle.dd_checker.proofs.Giving.{given_from, shown_decides}
+use Rattle.dd_checker.proofs.witnesses.check_no.Goals as goal
+
+pub returns-in-None : goal.returns-in-None
+returns-in-None c =
+    let none = rw c.in-None.is at c.in_ok-given.ensures in
+    nothing_holds _ (λ w. none (given_from c.args.limits.now c.args.premise.now (goal_of c.args.goal.now) c.args.periods.now c.args.shear c.args.symbols.now w))
+
+pub shows-requires-clause-fits : goal.shows-requires-clause-fits
+shows-requires-clause-fits c =
+    let made = rw c.in-Some.is at c.in_ok-given.ensures in
+    subst (Fits c.args.premise.now) (sym made.0) made.1.fits
+
+pub returns-in-Some : goal.returns-in-Some
+returns-in-Some c =
+    let made = rw c.in-Some.is at c.in_ok-given.ensures in
+    shown_decides c.args.limits.now c.args.premise.now (goal_of c.args.goal.now) c.args.periods.now c.args.shear c.args.symbols.now c.in-Some.periodic
+    c.shows.result made c.shows.ensures

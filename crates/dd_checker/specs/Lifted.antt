@@ -1,0 +1,50 @@
+-- What a YES says of configurations that no data holds.
+use Rattle.std.specs.Prelude.{ℕ, ◌≡◌, ◌<◌, ◌&&◌, Bool, true, false, cond, nat_lt, Some, None, IsSomeAnd}
+use Rattle.dd_lattice.specs.Place.{Place}
+use Rattle.dd_lattice.specs.declared.position.Cell.{Cell}
+use Rattle.dd_topology.specs.Sets.{allows}
+use Rattle.dd_pattern.specs.Reading.{Look}
+use Rattle.dd_expansion.specs.Placed.{is_flat}
+use Rattle.dd_formula.specs.LocalRule.{LocalRule}
+use Rattle.dd_formula.specs.Living.{Obeys}
+use Rattle.dd_boxes.specs.Goals.{GoalOf, breaks, HasGoal}
+use Rattle.dd_certificate.specs.declared.answer.Answer.{Answer}
+use Rattle.dd_certificate.specs.declared.answer.Answer.TheVariants as answer
+use Rattle.dd_script.specs.Parts.{Parts}
+use Rattle.dd_checker.specs.Questions.{Asked, membership, box, equality, asked, query_at}
+
+abbrev pub is_yes : Answer → Bool
+is_yes answer.Inside = false
+is_yes (answer.Outside place) = false
+is_yes (answer.Yes radius steps) = true
+is_yes (answer.YesBoth left right left_steps right_steps) = true
+is_yes (answer.No s periods shear symbols) = false
+is_yes (answer.Unknown r) = false
+is_yes (answer.List patterns) = false
+is_yes (answer.Density numerator denominator cycle potentials) = false
+is_yes (answer.Empty ranks) = false
+is_yes (answer.Bound numerator denominator common amounts duals) = false
+
+-- the symbols of all cells of Z^d with one of the nodes
+abbrev pub whole_look : ℕ → ℕ → (Cell → ℕ) → Look
+whole_look d nodes symbol_of c = cond (is_flat d c.position && nat_lt c.node nodes) (Some (symbol_of c)) None
+
+-- a symbol for each cell of Z^d with one of the script's nodes, one that the node allows
+pub record IsWhole (s : Parts) (nodes : ℕ) (symbol_of : Cell → ℕ) : Type 0 where
+  pub same_nodes : nodes ≡ s.known.setting.topology.nodes
+  pub allowed : (c : Cell) → is_flat s.known.setting.topology.dimension c.position ≡ true → c.node < nodes →
+      allows s.known.setting.sets c.node (symbol_of c) ≡ true
+
+-- where the configuration obeys the premise, the goal does not hold at v
+abbrev pub IsNotAt : LocalRule → GoalOf → Look → Place → Type 0
+IsNotAt x g look v = Obeys x look → HasGoal g look v → ⊥
+
+-- of each goal that is asked for; no YES answers a question of membership
+abbrev pub IsAskedNotAt : Asked → Look → Place → Type 0
+IsAskedNotAt (membership x t) look v = ⊥
+IsAskedNotAt (box x g) look v = IsNotAt x g look v
+IsAskedNotAt (equality x y) look v = IsNotAt x (breaks y) look v × IsNotAt y (breaks x) look v
+
+-- the same of the goals that the query with a number, from 1, asks for
+abbrev pub IsNowhereAt : Parts → ℕ → Look → Place → Type 0
+IsNowhereAt s number look v = IsSomeAnd (query_at s number) (λ q. IsSomeAnd (asked s q) (λ k. IsAskedNotAt k look v))

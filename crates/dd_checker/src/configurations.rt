@@ -1,0 +1,110 @@
+//! What periodic configurations show. Nothing here takes memory.
+ghost use Rattle.std.specs.Prelude.{◌≡◌, ◌<◌, ◌↔◌, not, IsTrue};
+ghost use Rattle.dd_lattice.specs.Cells.{cell};
+ghost use Rattle.dd_pattern.specs.Tile.{tile_look};
+ghost use Rattle.dd_formula.specs.LocalRule.{is_true};
+ghost use Rattle.dd_formula.specs.Allowed.{HasAllowed};
+ghost use Rattle.dd_formula.specs.Living.{Fits, Lives};
+ghost use Rattle.dd_boxes.specs.Goals.{breaks, HasGoal, AreAlike, IsGoalFor};
+ghost use Rattle.dd_boxes.specs.Boxes.{origin};
+ghost use Rattle.dd_boxes.specs.Views.{goal_of};
+ghost use Rattle.dd_boxes.specs.Witnesses.{IsWitness};
+
+use dd_boxes::Goal;
+use dd_formula::{Membership, Rule};
+use dd_lattice::{Cell, Position};
+use dd_pattern::Periodic;
+
+/// Whether each symbol of the fundamental box is one that its node allows.
+fn has_allowed(rule: &Rule, periodic: &Periodic) -> bool
+    requires { Fits rule.now periodic.now }
+    ensures { IsTrue result ↔ HasAllowed rule.now periodic.now }
+{
+    let symbols = periodic.symbols();
+    for number in 0..symbols.len() {
+        let cell = periodic.cell_at(number);
+        if !rule.allows(cell.node, symbols[number]) {
+            return false;
+        }
+    }
+    true
+}
+
+pub(crate) fn lives(rule: &Rule, periodic: &Periodic) -> bool
+    requires { Fits rule.now periodic.now }
+    ensures { IsTrue result ↔ Lives rule.now periodic.now }
+{
+    match rule.member(periodic) {
+        Membership::Inside => true,
+        Membership::Outside(_) => {
+            // Read for what its type keeps.
+            let _symbols = periodic.symbols();
+            false
+        }
+    }
+}
+
+/// Whether the rule is false at the origin with this node.
+fn is_broken_at(rule: &Rule, node: u32, periodic: &Periodic) -> bool
+    requires node { node < rule.now.nodes }
+    requires fits { Fits rule.now periodic.now }
+    ensures { result ≡ not (is_true rule.now (cell origin node) (tile_look periodic.now)) }
+{
+    // Read for what its type keeps.
+    let _symbols = periodic.symbols();
+    let position = Position { x: 0, y: 0, z: 0 };
+    match rule.truth(&Cell { position, node }, periodic) {
+        Some(is_true) => !is_true,
+        None => unreachable!(),
+    }
+}
+
+/// Whether the rule is false at the origin, at some node.
+fn is_broken(rule: &Rule, periodic: &Periodic) -> bool
+    requires { Fits rule.now periodic.now }
+    ensures { IsTrue result ↔ HasGoal (breaks rule.now) (tile_look periodic.now) origin }
+{
+    for node in 0..rule.nodes() {
+        if is_broken_at(rule, node, periodic) {
+            return true;
+        }
+    }
+    false
+}
+
+/// Whether each symbol of the configuration is one that its node allows in the premise, it lives in the premise's subshift,
+/// and some node of the origin breaks the goal. It takes no memory.
+pub fn check_periodic(premise: &Rule, goal: &Rule, periodic: &Periodic) -> bool
+    requires fits { Fits premise.now periodic.now }
+    requires alike { AreAlike premise.now goal.now }
+    ensures { IsTrue result ↔ IsWitness premise.now (breaks goal.now) periodic.now }
+{
+    // Read for what its type keeps.
+    let _symbols = periodic.symbols();
+    if !has_allowed(premise, periodic) {
+        return false;
+    }
+    if !lives(premise, periodic) {
+        return false;
+    }
+    is_broken(goal, periodic)
+}
+
+/// The same of any goal.
+pub(crate) fn shows(premise: &Rule, goal: &Goal, periodic: &Periodic) -> bool
+    requires fits { Fits premise.now periodic.now }
+    requires goal { IsGoalFor premise.now (goal_of goal.now) }
+    ensures { IsTrue result ↔ IsWitness premise.now (goal_of goal.now) periodic.now }
+{
+    match goal {
+        Goal::Breaks(rule) => check_periodic(premise, rule, periodic),
+        Goal::Always => {
+            // Read for what its type keeps.
+            let _symbols = periodic.symbols();
+            if !has_allowed(premise, periodic) {
+                return false;
+            }
+            lives(premise, periodic)
+        }
+    }
+}

@@ -1,0 +1,50 @@
+//! Laws of certificates, as contracts of calls that do nothing.
+ghost use Rattle.std.specs.Prelude.{◌≡◌, ◌≤◌, ℕ, true};
+ghost use Rattle.dd_pattern.specs.Tile.{Tile, IsTile};
+ghost use Rattle.dd_expansion.specs.Placed.{is_flat};
+ghost use Rattle.dd_formula.specs.LocalRule.{LocalRule};
+ghost use Rattle.dd_formula.specs.Living.{Fits};
+ghost use Rattle.dd_certificate.specs.declared.answer.Answer.{Answer as AnyAnswer};
+ghost use Rattle.dd_checker.specs.Evidence.{IsWrittenBack};
+ghost use Rattle.dd_checker.specs.Certificates.{IsCertificate};
+ghost use Rattle.dd_checker.specs.Claims.{Claim};
+ghost use Rattle.dd_checker.specs.Lifted.{is_yes, whole_look, IsWhole, IsNowhereAt};
+
+use dd_certificate::Answer;
+use dd_lattice::Position;
+use dd_pattern::Configuration;
+use dd_script::Script;
+
+/// Does nothing; its contract says that the numbers that write a configuration in an answer give it back.
+pub fn written_back()
+    ensures { (x : LocalRule) (t : Tile) → IsTile t → Fits x t → IsWrittenBack x t }
+{}
+
+/// Does nothing; its contract says that what a certificate claims is true.
+pub fn certified(script: &Script)
+    ensures { (number : ℕ) (answer : AnyAnswer) → IsCertificate script.now number answer → Claim script.now number answer }
+{
+    // Read for what its type keeps.
+    let _limits = script.limits();
+}
+
+/// Does nothing; its contract draws the conclusion of a YES that is a certificate for any configuration, also for one that no
+/// data holds: where it obeys the premise of a side at every place of Z^d, that side's goal does not hold at `place`. It
+/// takes no memory.
+pub fn lifted<C: Configuration>(
+    script: &Script,
+    _query: u32,
+    _answer: &Answer,
+    _configuration: &C,
+    _place: &Position,
+)
+    requires certificate { IsCertificate script.now _query _answer.now }
+    requires yes { is_yes _answer.now ≡ true }
+    requires whole { IsWhole script.now (C.nodes _configuration.now) (C.symbol_of _configuration.now) }
+    requires flat { is_flat script.now.known.setting.topology.dimension _place.now ≡ true }
+    ensures { IsNowhereAt script.now _query
+        (whole_look script.now.known.setting.topology.dimension (C.nodes _configuration.now) (C.symbol_of _configuration.now)) _place.now }
+{
+    // Read for what its type keeps.
+    let _limits = script.limits();
+}

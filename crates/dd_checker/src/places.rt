@@ -1,0 +1,69 @@
+//! Answers to queries of membership. Nothing here takes memory.
+ghost use Rattle.std.specs.Prelude.{◌≡◌, ◌≤◌, ◌↔◌, [], ◌∷◌, pos, IsTrue};
+ghost use Rattle.dd_formula.specs.Living.{Fits};
+ghost use Rattle.dd_checker.specs.Evidence.{written_cell, IsOutside, IsMemberCertificate};
+
+use crate::configurations::lives;
+use dd_certificate::Answer;
+use dd_formula::{Membership, Rule};
+use dd_lattice::Cell;
+use dd_pattern::Periodic;
+
+fn coordinates(cell: &Cell) -> [i64; 3]
+    ensures { result ≡ cell.now.position.x ∷ cell.now.position.y ∷ cell.now.position.z ∷ [] }
+{
+    let position = &cell.position;
+    [
+        i64::from(position.x),
+        i64::from(position.y),
+        i64::from(position.z),
+    ]
+}
+
+fn is_node(number: &i64, node: u32) -> bool
+    ensures { IsTrue result ↔ (number.now ≡ pos node) }
+{
+    *number == i64::from(node)
+}
+
+/// Whether these are the coordinates of the cell along the axes that there are, and then its node.
+fn is_place(dim: u32, cell: &Cell, place: &[i64]) -> bool
+    requires { dim ≤ 3 }
+    ensures { IsTrue result ↔ (place.now ≡ written_cell dim cell.now) }
+{
+    let coordinates = coordinates(cell);
+    let count = dim as usize;
+    if place.len() != count + 1 {
+        return false;
+    }
+    if !is_node(&place[count], cell.node) {
+        return false;
+    }
+    place[..count] == coordinates[..count]
+}
+
+/// Whether the place is that of the first cell at which the rule is false.
+fn is_outside(rule: &Rule, periodic: &Periodic, place: &[i64]) -> bool
+    requires { Fits rule.now periodic.now }
+    ensures { IsTrue result ↔ IsOutside rule.now periodic.now place.now }
+{
+    // Read for what their types keep.
+    let _nodes = rule.nodes();
+    let _symbols = periodic.symbols();
+    match rule.member(periodic) {
+        Membership::Inside => false,
+        Membership::Outside(cell) => is_place(rule.dim(), &cell, place),
+    }
+}
+
+/// Whether an answer is a certificate of whether a configuration lives in a rule's subshift.
+pub(crate) fn check_member(rule: &Rule, periodic: &Periodic, answer: &Answer) -> bool
+    requires { Fits rule.now periodic.now }
+    ensures { IsTrue result ↔ IsMemberCertificate rule.now periodic.now answer.now }
+{
+    match answer {
+        Answer::Inside => lives(rule, periodic),
+        Answer::Outside { place } => is_outside(rule, periodic, place.as_slice()),
+        _ => false,
+    }
+}

@@ -1,0 +1,76 @@
+//! YES to a box question: a radius, and steps that refute the clauses of its box.
+ghost use Rattle.std.specs.Prelude.{◌≡◌, ◌≤◌, ◌+◌, ◌-◌, ◌^◌, ◌↔◌, length, IsTrue, IfOk};
+ghost use Rattle.dd_lattice.specs.Boxes.{centred, volume};
+ghost use Rattle.dd_boxes.specs.Goals.{IsGoalFor};
+ghost use Rattle.dd_boxes.specs.Boxes.{Reaches};
+ghost use Rattle.dd_boxes.specs.Counts.{question_clauses, most_clauses};
+ghost use Rattle.dd_boxes.specs.Views.{goal_of};
+ghost use Rattle.dd_certificate.specs.Bounds.{IsWritableRefutation};
+ghost use Rattle.dd_checker.specs.Evidence.{Refutes, IsYes};
+ghost use Rattle.dd_checker.specs.Sizes.{AreLimits, IsAskable};
+
+use dd_boxes::{Goal, Limits, least_radius};
+use dd_certificate::refutations_fit;
+use dd_clause::Cnf;
+use dd_derivation::{Marks, Step, check_refutation};
+use dd_formula::Rule;
+use dd_problem::box_clauses;
+use std::alloc::{AllocError, Global};
+
+/// The number of the last step, where the clauses have the numbers from 1 on and the steps those after them.
+fn last_number(cnf: &Cnf, steps: &[Step]) -> u64
+    ensures value { result ≡ length cnf.now.clauses + length steps.now }
+    ensures few { length cnf.now.clauses + length steps.now ≤ 2 ^ 64 - 1 }
+{
+    let clauses = cnf.clauses();
+    clauses.len() as u64 + steps.len() as u64
+}
+
+/// Whether the steps refute the clauses of the box of this radius.
+fn refutes(
+    alloc: Global,
+    premise: &Rule,
+    goal: &Goal,
+    radius: u32,
+    steps: &[Step],
+) -> Result<bool, AllocError>
+    requires goal { IsGoalFor premise.now (goal_of goal.now) }
+    requires reaches { Reaches (goal_of goal.now) radius }
+    requires few { question_clauses premise.now (goal_of goal.now) (volume (centred premise.now.dimension radius)) ≤ most_clauses }
+    ensures exact { IfOk result (λ refuted. IsTrue refuted ↔ Refutes premise.now (goal_of goal.now) radius steps.now) }
+    ensures writable { IfOk result (λ refuted. IsTrue refuted → IsWritableRefutation steps.now) }
+{
+    refutations_fit();
+    let cnf = box_clauses(alloc, premise, goal, radius)?;
+    // Read for their bounds alone.
+    let _variable = cnf.variables();
+    let _number = last_number(&cnf, steps);
+    let mut marks = Marks::new(alloc, &cnf, steps)?;
+    Ok(check_refutation(&cnf, steps, &mut marks))
+}
+
+/// Whether the radius is one that was asked for, and the steps refute the clauses of its box.
+pub(crate) fn check_yes(
+    alloc: Global,
+    premise: &Rule,
+    goal: &Goal,
+    limits: &Limits,
+    radius: u64,
+    steps: &[Step],
+) -> Result<bool, AllocError>
+    requires { IsAskable limits.now premise.now (goal_of goal.now) }
+    ensures exact { IfOk result (λ accepted. IsTrue accepted ↔ IsYes limits.now premise.now (goal_of goal.now) radius steps.now) }
+    ensures writable { IfOk result (λ accepted. IsTrue accepted → IsWritableRefutation steps.now) }
+{
+    // Read for what its type keeps.
+    let _symbols = premise.symbols();
+    let least = least_radius(alloc, goal)?;
+    let most = limits.radius.max(least);
+    if radius < u64::from(least) {
+        return Ok(false);
+    }
+    if radius > u64::from(most) {
+        return Ok(false);
+    }
+    refutes(alloc, premise, goal, radius as u32, steps)
+}
