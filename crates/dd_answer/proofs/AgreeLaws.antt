@@ -33,8 +33,8 @@ use Rattle.dd_contain.specs.declared.equal.Equality.{Equality}
 use Rattle.dd_contain.specs.Decided.{IsLeast, IsFirst, IsDecidedBy}
 use Rattle.dd_contain.specs.Questions.{Refutes, ShowsAt, Displays, IsDecided}
 use Rattle.dd_contain.specs.Equal.{joined, UnlessNo, IsEqualDecided}
-use Rattle.dd_definition.specs.Definitions.{IsConfigurationOf}
-use Rattle.dd_header.specs.Sound.{numbers_of}
+use Rattle.dd_meanings.specs.Sound.{IsConfigurationOf}
+use Rattle.dd_query.specs.Made.{numbers_of, IsRuleOf}
 use Rattle.dd_query.specs.declared.queries.Query.{Query}
 use Rattle.dd_query.specs.declared.queries.Query.TheVariants as query
 use Rattle.dd_script.specs.Parts.{Parts, IsScriptOf}
@@ -336,7 +336,7 @@ module _ (s : Parts) (ok : IsScriptOf s) where
       (λ x x_is one other. of_one_configuration s configuration (λ t. IsRightMember x t a) (λ t. IsRightMember x t b) (SayTheSame a b) one other
       (λ t t_is here there.
       let made = at_number (IsConfigurationOf s.known) s.configurations configuration t ok.configurations t_is in
-      let has = has_parts x (at_number (λ (r : LocalRule). rule_has (numbers_of s.known) r ≡ true) s.rules rule x ok.made.rules_have x_is) in
+      let has = has_parts x (at_number (IsRuleOf s.known) s.rules rule x ok.made.rules_have x_is).has in
       member_agree x t made.tile (made.dimension ∙ sym has.0) (made.nodes ∙ sym has.1) a b here there))
   right_agree (query.Contains outer inner) a b h k = boxes_agree s outer inner breaks a b h k
   right_agree (query.Equal left right) a b h k =

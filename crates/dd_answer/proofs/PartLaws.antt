@@ -8,10 +8,10 @@ use Rattle.dd_pattern.specs.Tile.{Tile}
 use Rattle.dd_formula.specs.LocalRule.{LocalRule, IsRule}
 use Rattle.dd_boxes.specs.Goals.{breaks, always}
 use Rattle.dd_contain.specs.Questions.{IsSmallQuestion}
-use Rattle.dd_naming.specs.declared.fault.Limit.{Limit}
-use Rattle.dd_naming.specs.declared.fault.Limit.TheVariants as limit
-use Rattle.dd_naming.specs.declared.fault.Fault.{Fault}
-use Rattle.dd_refusal.specs.Sizes.{over}
+use Rattle.dd_faults.specs.declared.fault.Limit.{Limit}
+use Rattle.dd_faults.specs.declared.fault.Limit.TheVariants as limit
+use Rattle.dd_faults.specs.declared.fault.Fault.{Fault}
+use Rattle.dd_faults.specs.Order.{over}
 use Rattle.dd_query.specs.declared.queries.Query.{Query}
 use Rattle.dd_query.specs.declared.queries.Query.TheVariants as query
 use Rattle.dd_query.specs.Limits.{anything, breaking, is_long, about, contains_sizes, equal_sizes, empty_sizes}
@@ -57,7 +57,7 @@ module _ (s : Parts) (ok : IsScriptOf s) (rs : List LocalRule) (same : rs ≡ s.
       Contains s.queries (query.Member configuration rule) → t ≡ get_or ts configuration t → x ≡ get_or rs rule x → (a : Answer) →
       IsRightMember x t a → Right s (query.Member configuration rule) a
   member_right ts all configuration rule t x there t_is x_is a right =
-      let numbers = (sound (query.Member configuration rule) there).numbers in
+      let numbers = (sound (query.Member configuration rule) there).within in
       let below : configuration < length s.configurations = rw ok.configurations_named numbers.0 in
       record {
         rule = x;
@@ -69,10 +69,10 @@ module _ (s : Parts) (ok : IsScriptOf s) (rs : List LocalRule) (same : rs ≡ s.
   module _ (outer inner : ℕ) (y x : LocalRule) (there : Contains s.queries (query.Contains outer inner))
       (y_is : y ≡ get_or rs outer y) (x_is : x ≡ get_or rs inner x) where
     outer_at : IsRuleAt s outer y
-    outer_at = rule_at outer y (sound (query.Contains outer inner) there).numbers.0 y_is
+    outer_at = rule_at outer y (sound (query.Contains outer inner) there).within.0 y_is
 
     inner_at : IsRuleAt s inner x
-    inner_at = rule_at inner x (sound (query.Contains outer inner) there).numbers.1 x_is
+    inner_at = rule_at inner x (sound (query.Contains outer inner) there).within.1 x_is
 
     pub contains_small : IsSmallQuestion x (breaks y) s.known.limits.radius s.known.limits.period
     contains_small =
@@ -90,10 +90,10 @@ module _ (s : Parts) (ok : IsScriptOf s) (rs : List LocalRule) (same : rs ≡ s.
   module _ (left right : ℕ) (x y : LocalRule) (there : Contains s.queries (query.Equal left right))
       (x_is : x ≡ get_or rs left x) (y_is : y ≡ get_or rs right y) where
     left_at : IsRuleAt s left x
-    left_at = rule_at left x (sound (query.Equal left right) there).numbers.0 x_is
+    left_at = rule_at left x (sound (query.Equal left right) there).within.0 x_is
 
     right_at : IsRuleAt s right y
-    right_at = rule_at right y (sound (query.Equal left right) there).numbers.1 y_is
+    right_at = rule_at right y (sound (query.Equal left right) there).within.1 y_is
 
     neither_long : (is_long s.known x (breaking y) ≡ false) × (is_long s.known y (breaking x) ≡ false)
     neither_long =
@@ -117,7 +117,7 @@ module _ (s : Parts) (ok : IsScriptOf s) (rs : List LocalRule) (same : rs ≡ s.
   -- a query of emptiness
   module _ (n : ℕ) (x : LocalRule) (there : Contains s.queries (query.Empty n)) (x_is : x ≡ get_or rs n x) where
     alone_at : IsRuleAt s n x
-    alone_at = rule_at n x (sound (query.Empty n) there).numbers x_is
+    alone_at = rule_at n x (sound (query.Empty n) there).within x_is
 
     pub empty_small : IsSmallQuestion x always s.known.limits.radius s.known.limits.period
     empty_small =

@@ -8,7 +8,7 @@ use Rattle.dd_boxes.specs.Goals.{GoalOf, breaks, always}
 use Rattle.dd_boxes.specs.Boxes.{IsLeastRadius}
 use Rattle.dd_boxes.specs.Counts.{goal_clauses, most_clauses}
 use Rattle.dd_contain.specs.Questions.{IsSmallQuestion}
-use Rattle.dd_refusal.specs.declared.known.Known.{Known}
+use Rattle.dd_faults.specs.declared.context.Known.{Known}
 use Rattle.dd_query.specs.Limits.{Aim, anything, breaking, clauses_of, is_long}
 use Rattle.dd_boxes.proofs.ReachLaws.{least_is_reach, least_is_none}
 
