@@ -15,9 +15,14 @@ and_right false b is = absurd (cc is)
 pub asked_at : (queries : List Query) (done : ℕ) (q : Query) → done < length queries → q ≡ get_or queries done q → Contains queries q
 asked_at queries done q less is = (done, less, sym is)
 
+-- a query passes a test that all pass
+pub passes_at : (test : Query → Bool) (queries : List Query) (done : ℕ) (q : Query)
+    → done < length queries → q ≡ get_or queries done q → list_all test queries ≡ true → test q ≡ true
+passes_at test [] done q less is all = absurd (omega (arith, less))
+passes_at test (x ∷ xs) zero q less is all =
+    subst (λ (p : Query). test p ≡ true) (sym is) (and_left (test x) (list_all test xs) all)
+passes_at test (x ∷ xs) (suc n) q less is all = passes_at test xs n q (omega (arith, less)) is (and_right (test x) (list_all test xs) all)
+
 pub answered_at : (queries : List Query) (done : ℕ) (q : Query)
     → done < length queries → q ≡ get_or queries done q → list_all is_answered queries ≡ true → is_answered q ≡ true
-answered_at [] done q less is all = absurd (omega (arith, less))
-answered_at (x ∷ xs) zero q less is all =
-    subst (λ (p : Query). is_answered p ≡ true) (sym is) (and_left (is_answered x) (list_all is_answered xs) all)
-answered_at (x ∷ xs) (suc n) q less is all = answered_at xs n q (omega (arith, less)) is (and_right (is_answered x) (list_all is_answered xs) all)
+answered_at queries done q less is all = passes_at is_answered queries done q less is all

@@ -12,19 +12,19 @@ use Rattle.dd_session.specs.Output.{long_line}
 use Rattle.dd_session.specs.Runs.{Told, RefusedBy, RanOver, Ended, IsAccepted, IsAcceptedAs, IsRunnable, Decides, RanWhole, RefusedWhole, IsRefused, IsRefusedBy, too_long, no_run, no_script, not_answered, most_bytes}
 
 -- What was read to the end is what was told.
-told_bytes : (bytes given : List ℕ) (left : Option (List ℕ)) → ReadToEnd (Some bytes) left given → bytes ≡ given
+pub told_bytes : (bytes given : List ℕ) (left : Option (List ℕ)) → ReadToEnd (Some bytes) left given → bytes ≡ given
 told_bytes bytes given None to_end = absurd to_end.consumed
 told_bytes bytes given (Some rest) to_end = to_end.consumed ∙ ap (λ (l : List ℕ). given ++ l) to_end.at_end ∙ append-nil given
 
-told_more : (bytes : List ℕ) (left : Option (List ℕ)) (limit : ℕ) → GivesMore (Some bytes) left limit → suc limit ≤ length bytes
+pub told_more : (bytes : List ℕ) (left : Option (List ℕ)) (limit : ℕ) → GivesMore (Some bytes) left limit → suc limit ≤ length bytes
 told_more bytes None limit more = absurd more.consumed
 told_more bytes (Some rest) limit more = omega (arith, ap length more.consumed, length-append more.given rest, more.many)
 
 -- bytes spell one script at most, and are not refused then
-abbrev OneScript : Type 0
+abbrev pub OneScript : Type 0
 OneScript = (bytes : List ℕ) (s t : Parts) → Spells bytes s → Spells bytes t → s ≡ t
 
-abbrev NeverBoth : Type 0
+abbrev pub NeverBoth : Type 0
 NeverBoth = (bytes : List ℕ) (s : Parts) (n : ℕ) (k : Kind) → Spells bytes s → RefusedAs bytes n k → ⊥
 
 module _ (one_script : OneScript) (never_both : NeverBoth) where

@@ -1,6 +1,10 @@
 pub mod Asked
+pub mod CheckEnds
+pub mod CheckedOver
 pub mod Decided
+pub mod Judging
 pub mod Numbered
 pub mod Open
 pub mod Refused
 pub mod Streamed
+pub mod Words

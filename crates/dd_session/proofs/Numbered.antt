@@ -1,100 +1,107 @@
 -- A script has no more queries than commands, and no more commands than the limit on them.
-use Rattle.std.proofs.Common.{◌≡◌, ℕ, ◌+◌, ◌≤◌, List, [], ◌∷◌, ◌++◌, length, map, Bool, true, false, Option, None, Some, nat_lt, refl, sym, subst, arith, length-append}
+use Rattle.std.proofs.Common.{◌≡◌, ℕ, ◌+◌, ◌≤◌, List, [], ◌∷◌, ◌++◌, length, Bool, true, false, Option, None, Some, nat_lt, refl, sym, subst, arith, length-append}
+use Rattle.std.specs.Prelude.{if◌then◌else◌}
+use Rattle.std.specs.List.{flat_map}
+use Rattle.std.specs.Option.{option_or, option_map}
 use Rattle.std.proofs.lemmas.Bool.{ltb-false}
-use Rattle.dd_syntax.specs.declared.command.Command.{Command}
-use Rattle.dd_naming.specs.declared.fault.Limit.{Limit}
-use Rattle.dd_naming.specs.declared.fault.Limit.TheVariants as limit
-use Rattle.dd_extent.specs.declared.extent.Extent.{Extent}
-use Rattle.dd_extent.specs.Written.{command_extent}
-use Rattle.dd_refusal.specs.Unknowns.{unknowns}
-use Rattle.dd_refusal.specs.Twices.{twices}
-use Rattle.dd_refusal.specs.Misfits.{misfits}
-use Rattle.dd_refusal.specs.Sizes.{over, common_sizes, header_sizes, formula_sizes, body_sizes, sizes}
-use Rattle.dd_refusal.specs.Faults.{plain_faults}
-use Rattle.dd_refusal.specs.Meanings.{meaning_of}
+use Rattle.dd_commands.specs.declared.script.Written.{Written}
+use Rattle.dd_faults.specs.declared.fault.Limit.TheVariants as limit
+use Rattle.dd_faults.specs.declared.fault.Fault.{Fault}
+use Rattle.dd_faults.specs.declared.fault.Fault.TheVariants as fault
+use Rattle.dd_faults.specs.declared.context.Context.{Context}
+use Rattle.dd_faults.specs.Order.{rank, over, better, noted, first_fault}
+use Rattle.dd_faults.specs.Commands.{token_faults, faults_of, written_faults}
+use Rattle.dd_meanings.specs.declared.meaning.Meaning.{Meaning}
+use Rattle.dd_meanings.specs.declared.meaning.Meaning.TheVariants as meaning
+use Rattle.dd_meanings.specs.Meanings.{meaning as meaning_of, counted_sizes}
 use Rattle.dd_query.specs.declared.queries.Query.{Query}
-use Rattle.dd_query.specs.Queries.{query_of}
 use Rattle.dd_script.specs.Parts.{Parts}
-use Rattle.dd_script.specs.Walk.{start, listed, next, counted_sizes, faults, Located, located, all_faults, after_all, has_topology, script_of}
+use Rattle.dd_script.specs.Walk.{start, with, context, fault_of, next, Located, located, first_from, after_all, has_topology, script_of}
 use Rattle.dd_script.specs.Scripts.{Spells}
 use Rattle.dd_session.specs.Answers.{most_queries}
 
--- ---- where nothing is joined, there is nothing in the parts
+-- ---- where nothing is found, nothing is found first
 
-front_none : {X : Type 0} (xs ys : List X) → xs ++ ys ≡ [] → xs ≡ []
-front_none [] ys is = refl
-front_none (x ∷ xs) ys is = absurd (cc is)
+front_none : {X : Type 0} (a b : Option X) → option_or a b ≡ None → a ≡ None
+front_none None b is = refl
+front_none (Some x) b is = absurd (cc is)
 
-back_none : {X : Type 0} (xs ys : List X) → xs ++ ys ≡ [] → ys ≡ []
-back_none [] ys is = is
-back_none (x ∷ xs) ys is = absurd (cc is)
+back_none : {X : Type 0} (a b : Option X) → option_or a b ≡ None → b ≡ None
+back_none None b is = is
+back_none (Some x) b is = absurd (cc is)
 
-none_mapped : {X Y : Type 0} (f : X → Y) (xs : List X) → map f xs ≡ [] → xs ≡ []
-none_mapped f [] is = refl
-none_mapped f (x ∷ xs) is = absurd (cc is)
+none_mapped : {X Y : Type 0} (f : X → Y) (a : Option X) → option_map f a ≡ None → a ≡ None
+none_mapped f None is = refl
+none_mapped f (Some x) is = absurd (cc is)
 
 -- ---- the number of a command without a fault
 
-not_over : (passed : Bool) (l : Limit) → over passed l ≡ [] → passed ≡ false
-not_over true l is = absurd (cc is)
-not_over false l is = refl
+either : (b : Bool) (f g : Fault) → (h : Fault) × ((if b then Some g else Some f) ≡ Some h)
+either true f g = (g, refl)
+either false f g = (f, refl)
 
-within_common : (n : ℕ) (e : Extent) → common_sizes n e ≡ [] → nat_lt 1000 n ≡ false
-within_common n e is =
-    not_over (nat_lt 1000 n) limit.Commands (front_none (over (nat_lt 1000 n) limit.Commands) (over (nat_lt 32 e.letters) limit.Word)
-    (front_none (over (nat_lt 1000 n) limit.Commands ++ over (nat_lt 32 e.letters) limit.Word) (over (nat_lt 1000000 e.number) limit.Number) is))
+better_some : (f g : Fault) → (h : Fault) × (better (Some f) g ≡ Some h)
+better_some f g = either (nat_lt (rank g) (rank f)) f g
 
-within_sizes : (n : ℕ) (c : Command) → sizes n c ≡ [] → nat_lt 1000 n ≡ false
-within_sizes n c is =
-    let e : Extent = command_extent c in
-    within_common n e (front_none (common_sizes n e) (header_sizes c) (front_none (common_sizes n e ++ header_sizes c) (formula_sizes e)
-    (front_none (common_sizes n e ++ header_sizes c ++ formula_sizes e) (body_sizes c) is)))
+still_some : (f : Fault) (fs : List Fault) → noted (Some f) fs ≡ None → ⊥
+still_some f [] is = absurd (cc is)
+still_some f (g ∷ fs) is =
+    let more = better_some f g in still_some more.0 fs (subst (λ (o : Option Fault). noted o fs ≡ None) more.1 is)
 
-within_faults : (bytes : List ℕ) (later : Bool) (n : ℕ) (s : Parts) (c : Command) → faults bytes later n s c ≡ [] → nat_lt 1000 n ≡ false
-within_faults bytes later n s c is =
-    within_sizes n c (back_none (unknowns bytes s.known c ++ twices bytes s.known c ++ misfits later s.known c) (sizes n c)
-    (front_none (plain_faults bytes later n s.known c) (counted_sizes s c (meaning_of bytes s.known c)) is))
+not_over : (passed : Bool) (rest : List Fault) → first_fault (over passed limit.Commands ++ rest) ≡ None → passed ≡ false
+not_over true rest is = absurd (still_some (fault.Size limit.Commands) rest is)
+not_over false rest is = refl
 
-few_numbered : (n : ℕ) → nat_lt 1000 n ≡ false → n ≤ 1000
-few_numbered n is = ltb-false 1000 n is
+within : (x : Context) (w : Written) → first_fault (written_faults x w) ≡ None → nat_lt 1000 x.number ≡ false
+within x w is = not_over (nat_lt 1000 x.number) (flat_map (token_faults x.text) w.tokens ++ faults_of x w.command) is
+
+few_numbered : (bytes : List ℕ) (later : Bool) (n : ℕ) (s : Parts) (w : Written) → fault_of bytes later n s w ≡ None → n ≤ 1000
+few_numbered bytes later n s w is =
+    let x = context bytes later n s in
+    ltb-false 1000 n (within x w (front_none (first_fault (written_faults x w)) (first_fault (counted_sizes x s.rules s.automata w.command)) is))
 
 -- ---- the commands
 
-few_commands : (bytes : List ℕ) (later : Bool) (n : ℕ) (s : Parts) (cs : List Command)
-    → n ≤ 1001 → all_faults bytes later n s cs ≡ [] → n + length cs ≤ 1001
+few_commands : (bytes : List ℕ) (later : Bool) (n : ℕ) (s : Parts) (ws : List Written) → n ≤ 1001 → first_from bytes later n s ws ≡ None → n + length ws ≤ 1001
 few_commands bytes later n s [] before none = omega (arith, before)
-few_commands bytes later n s (c ∷ cs) before none =
-    let here : List Located = map (located n) (faults bytes later n s c) in
-    let rest : List Located = all_faults bytes later (n + 1) (next bytes s c) cs in
-    let number : n ≤ 1000 =
-    few_numbered n (within_faults bytes later n s c (none_mapped (located n) (faults bytes later n s c) (front_none here rest none))) in
-    let more : n + 1 + length cs ≤ 1001 = few_commands bytes later (n + 1) (next bytes s c) cs (omega (arith, number)) (back_none here rest none) in
+few_commands bytes later n s (w ∷ ws) before none =
+    let here : Option Located = option_map (located n) (fault_of bytes later n s w) in
+    let rest : Option Located = first_from bytes later (n + 1) (next bytes later n s w) ws in
+    let number : n ≤ 1000 = few_numbered bytes later n s w (none_mapped (located n) (fault_of bytes later n s w) (front_none here rest none)) in
+    let more : n + 1 + length ws ≤ 1001 = few_commands bytes later (n + 1) (next bytes later n s w) ws (omega (arith, number)) (back_none here rest none) in
     omega (arith, more)
 
 -- ---- the queries
 
-one_listed : (o : Option Query) → length (listed o) ≤ 1
-one_listed None = omega arith
-one_listed (Some q) = omega arith
+one_more : (qs : List Query) (q : Query) → length (qs ++ q ∷ []) ≤ length qs + 1
+one_more qs q = omega (arith, length-append qs (q ∷ []))
 
-more_queries : (before : List Query) (o : Option Query) (more all : ℕ)
-    → all ≤ length (before ++ listed o) + more → all ≤ length before + (1 + more)
-more_queries before o more all is = omega (arith, is, length-append before (listed o), one_listed o)
+one_query : (bytes : List ℕ) (s : Parts) (m : Meaning) → length (with bytes s m).queries ≤ length s.queries + 1
+one_query bytes s (meaning.Topology g) = omega arith
+one_query bytes s (meaning.Nodes nodes given g) = omega arith
+one_query bytes s (meaning.Symbols symbols) = omega arith
+one_query bytes s (meaning.Only node symbols) = omega arith
+one_query bytes s (meaning.Weights weights) = omega arith
+one_query bytes s (meaning.Limits limits) = omega arith
+one_query bytes s (meaning.Rule name rule) = omega arith
+one_query bytes s (meaning.Automaton name automaton) = omega arith
+one_query bytes s (meaning.Configuration name configuration) = omega arith
+one_query bytes s (meaning.Query query) = one_more s.queries query
 
-few_made : (bytes : List ℕ) (s : Parts) (cs : List Command) → length (after_all bytes s cs).queries ≤ length s.queries + length cs
-few_made bytes s [] = omega arith
-few_made bytes s (c ∷ cs) =
-    let all : ℕ = length (after_all bytes (next bytes s c) cs).queries in
-    let made : all ≤ length s.queries + (1 + length cs) =
-    more_queries s.queries (query_of c (meaning_of bytes s.known c)) (length cs) all (few_made bytes (next bytes s c) cs) in
-    omega (arith, made)
+few_made : (bytes : List ℕ) (later : Bool) (n : ℕ) (s : Parts) (ws : List Written) → length (after_all bytes later n s ws).queries ≤ length s.queries + length ws
+few_made bytes later n s [] = omega arith
+few_made bytes later n s (w ∷ ws) =
+    let after = next bytes later n s w in
+    let one : length after.queries ≤ length s.queries + 1 = one_query bytes s (meaning_of (context bytes later n s) s.rules s.automata w.command) in
+    let more : length (after_all bytes later (n + 1) after ws).queries ≤ length after.queries + length ws = few_made bytes later (n + 1) after ws in
+    omega (arith, one, more)
 
 within_few : (commands queries : ℕ) → 1 + commands ≤ 1001 → queries ≤ 0 + commands → queries ≤ most_queries
 within_few commands queries few made = omega (arith, few, made)
 
 pub few_queries : (bytes : List ℕ) (s : Parts) → Spells bytes s → length s.queries ≤ most_queries
 few_queries bytes s spelled =
-    let commands : List Command = spelled.tree.commands in
+    let ws : List Written = spelled.tree.commands in
     subst (λ (p : Parts). length p.queries ≤ most_queries) (sym spelled.meaning)
-    (within_few (length commands) (length (script_of bytes commands).queries)
-    (few_commands bytes (has_topology commands) 1 start commands (omega arith) spelled.faultless) (few_made bytes start commands))
+    (within_few (length ws) (length (script_of bytes ws).queries)
+    (few_commands bytes (has_topology ws) 1 start ws (omega arith) spelled.faultless) (few_made bytes (has_topology ws) 1 start ws))

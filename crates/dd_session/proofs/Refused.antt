@@ -5,11 +5,11 @@ use Rattle.dd_script.specs.declared.fault.ScriptKind.TheVariants as refused
 use Rattle.dd_script.specs.Scripts.{IsRefusedAs, syntax, unknown, twice, dimension, size}
 use Rattle.dd_session.specs.declared.status.Status.{Status}
 use Rattle.dd_session.specs.declared.status.Status.TheVariants.{Definite, SomeUnknown, Refused, ReadFault, WriteFault, Memory, BadWords, Rejected}
-use Rattle.dd_session.specs.Output.{IsLineOf}
+use Rattle.dd_session.specs.Output.{IsLineOf, refused_words}
 use Rattle.dd_session.specs.Runs.{IsRefusedBy, no_script, Told, RefusedBy, RanOver}
 
 refused_by : (bytes : List ℕ) (n : ℕ) (kind : ScriptKind) (line : List ℕ)
-    → IsRefusedAs bytes n kind → IsLineOf n kind line → IsRefusedBy bytes line
+    → IsRefusedAs bytes n kind → IsLineOf refused_words n kind line → IsRefusedBy bytes line
 refused_by bytes n refused.Syntax line fault is = no_script n syntax fault is
 refused_by bytes n (refused.Unknown name) line fault is = no_script n (unknown (string_bytes name)) fault is
 refused_by bytes n (refused.Twice name) line fault is = no_script n (twice (string_bytes name)) fault is
@@ -29,6 +29,6 @@ refusal_over sink bytes line BadWords why wrote = absurd wrote
 refusal_over sink bytes line Rejected why wrote = absurd wrote
 
 pub line_over : {K : Type 0} (sink : Told K) (bytes : List ℕ) (n : ℕ) (kind : ScriptKind) (line text : List ℕ) (status : Status)
-    → IsRefusedAs bytes n kind → IsLineOf n kind line → text ≡ line → RefusedBy sink text status → RanOver sink bytes status
+    → IsRefusedAs bytes n kind → IsLineOf refused_words n kind line → text ≡ line → RefusedBy sink text status → RanOver sink bytes status
 line_over sink bytes n kind line text status fault is same wrote =
     refusal_over sink bytes line status (refused_by bytes n kind line fault is) (subst (λ (l : List ℕ). RefusedBy sink l status) same wrote)

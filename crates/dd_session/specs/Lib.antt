@@ -1,5 +1,12 @@
+-- the words that a session has
+pub mod Words
 -- what a run reads and writes, by its status
 pub mod Runs
 -- right answers, and the texts of outputs
 pub mod Answers
 pub mod Output
+-- what a check reads and writes, by its status; which answers it accepts, and its lines
+pub mod Checked
+pub mod Checks
+-- the check of answers one by one
+pub mod checking

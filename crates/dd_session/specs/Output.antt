@@ -1,8 +1,8 @@
 -- The texts that a run writes.
 use Rattle.std.specs.Prelude.{◌≡◌, ℕ, List, ◌++◌, codes, length, string_bytes}
 use Rattle.std.specs.Fmt.{decimal}
-use Rattle.dd_naming.specs.declared.fault.Limit.{Limit}
-use Rattle.dd_naming.specs.declared.fault.Limit.TheVariants as limit
+use Rattle.dd_faults.specs.declared.fault.Limit.{Limit}
+use Rattle.dd_faults.specs.declared.fault.Limit.TheVariants as limit
 use Rattle.dd_certificate.specs.declared.answer.Answer.{Answer}
 use Rattle.dd_script.specs.declared.fault.ScriptKind.{ScriptKind}
 use Rattle.dd_script.specs.declared.fault.ScriptKind.TheVariants as refused
@@ -59,15 +59,19 @@ kind_text (twice name) = codes "twice " ++ name
 kind_text dimension = codes "dimension"
 kind_text (size l) = codes "size " ++ limit_text l
 
--- no script: the number of the command, and what is wrong with it
-abbrev pub refused_line : ℕ → Kind → List ℕ
-refused_line command k = codes "refused " ++ (decimal command ++ (codes " " ++ (kind_text k ++ codes "\n")))
+-- no script: these words, the number of the command, and what is wrong with it
+abbrev pub refused_line : List ℕ → ℕ → Kind → List ℕ
+refused_line words command k = words ++ (codes " " ++ (decimal command ++ (codes " " ++ (kind_text k ++ codes "\n"))))
+
+-- the words in the answer to a script, which is none
+abbrev pub refused_words : List ℕ
+refused_words = codes "refused"
 
 -- this is the line for what was found wrong with a command; want of memory has no line
-abbrev pub IsLineOf : ℕ → ScriptKind → List ℕ → Type 0
-IsLineOf command refused.Syntax line = line ≡ refused_line command syntax
-IsLineOf command (refused.Unknown name) line = line ≡ refused_line command (unknown (string_bytes name))
-IsLineOf command (refused.Twice name) line = line ≡ refused_line command (twice (string_bytes name))
-IsLineOf command refused.Dimension line = line ≡ refused_line command dimension
-IsLineOf command (refused.Size l) line = line ≡ refused_line command (size l)
-IsLineOf command refused.Memory line = ⊥
+abbrev pub IsLineOf : List ℕ → ℕ → ScriptKind → List ℕ → Type 0
+IsLineOf words command refused.Syntax line = line ≡ refused_line words command syntax
+IsLineOf words command (refused.Unknown name) line = line ≡ refused_line words command (unknown (string_bytes name))
+IsLineOf words command (refused.Twice name) line = line ≡ refused_line words command (twice (string_bytes name))
+IsLineOf words command refused.Dimension line = line ≡ refused_line words command dimension
+IsLineOf words command (refused.Size l) line = line ≡ refused_line words command (size l)
+IsLineOf words command refused.Memory line = ⊥

@@ -1,10 +1,13 @@
-//! Whole runs: from the bytes of a script to the bytes of its answers.
+//! Whole runs, from the bytes of a script to the bytes of its answers, and the check of such an output.
 #![tactic(auto)]
 
+mod checking;
+mod checks;
 mod output;
 mod session;
 mod status;
 mod stream;
 
+pub use checks::check_diddy;
 pub use session::run_diddy;
 pub use status::Status;

@@ -43,21 +43,22 @@ fn limit_text(limit: Limit) -> &'static str
     }
 }
 
-/// The line for a text that is no script. Want of memory has none.
+/// The line for a text that is no script, from these words on. Want of memory has none.
 pub(crate) fn refused_text(
     alloc: Global,
+    words: &str,
     command: u32,
     kind: &ScriptKind,
 ) -> Result<String, AllocError>
-    ensures { IfOk result (λ line. IsLineOf command kind.now (string_bytes line)) }
+    ensures { IfOk result (λ line. IsLineOf words.now command kind.now (string_bytes line)) }
 {
     match kind {
-        ScriptKind::Syntax => format!(in alloc; "refused {command} syntax\n"),
-        ScriptKind::Unknown(name) => format!(in alloc; "refused {command} unknown {name}\n"),
-        ScriptKind::Twice(name) => format!(in alloc; "refused {command} twice {name}\n"),
-        ScriptKind::Dimension => format!(in alloc; "refused {command} dimension\n"),
+        ScriptKind::Syntax => format!(in alloc; "{words} {command} syntax\n"),
+        ScriptKind::Unknown(name) => format!(in alloc; "{words} {command} unknown {name}\n"),
+        ScriptKind::Twice(name) => format!(in alloc; "{words} {command} twice {name}\n"),
+        ScriptKind::Dimension => format!(in alloc; "{words} {command} dimension\n"),
         ScriptKind::Size(limit) => {
-            format!(in alloc; "refused {command} size {}\n", limit_text(*limit))
+            format!(in alloc; "{words} {command} size {}\n", limit_text(*limit))
         }
         ScriptKind::Memory => Err(AllocError),
     }

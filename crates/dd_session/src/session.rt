@@ -3,8 +3,12 @@ ghost use Rattle.std.specs.Prelude.{◌≡◌, ◌≢◌, ◌+◌, ◌≤◌, �
 ghost use Rattle.dd_outside.specs.Bytes.{GivesAtMost};
 ghost use Rattle.dd_script.specs.Scripts.{Spells};
 ghost use Rattle.dd_session.specs.Answers.{are_answered};
+ghost use Rattle.dd_session.specs.Checks.{most_checked};
+ghost use Rattle.dd_session.specs.Checked.{CheckEnded, CheckDecides};
+ghost use Rattle.dd_session.specs.Words.{IsOnly, AreBad};
 ghost use Rattle.dd_session.specs.Runs.{told, status_of, RefusedBy, RanOver, Ended, Decides, IsRunnable, most_bytes};
 
+use crate::checks::check_diddy;
 use crate::output::refused_text;
 use crate::status::Status;
 use crate::stream::{RunFault, run_script};
@@ -22,17 +26,17 @@ fn is_text(word: &String, text: &str) -> bool
     word.as_str() == text
 }
 
-fn is_run(words: &[String]) -> bool
-    ensures { IsTrue result ↔ map string_bytes words.now ≡ codes "run" ∷ [] }
+fn is_only(words: &[String], text: &str) -> bool
+    ensures { IsTrue result ↔ IsOnly text.now (map string_bytes words.now) }
 {
     match words {
-        [word] => is_text(word, "run"),
+        [word] => is_text(word, text),
         _ => false,
     }
 }
 
-// Writes the line of an input that is refused.
-fn refuse<K: Sink>(sink: &mut K, line: &[u8]) -> Status
+/// Writes the line of an input that is refused.
+pub(crate) fn refuse<K: Sink>(sink: &mut K, line: &[u8]) -> Status
     ensures wrote { RefusedBy (told K.held K.faults sink.old sink.new) line.now result }
     ensures later { K.faults sink.old ≤ K.faults sink.new }
 {
@@ -56,8 +60,8 @@ fn run_accepted<K: Sink>(alloc: Global, bytes: &[u8], script: &Script, sink: &mu
     }
 }
 
-// The status of a run to the end.
-fn status_of(has_unknown: bool) -> Status
+/// The status of a run to the end.
+pub(crate) fn status_of(has_unknown: bool) -> Status
     ensures { result ≡ status_of has_unknown }
 {
     if has_unknown {
@@ -93,7 +97,7 @@ fn run_bytes<K: Sink>(alloc: Global, bytes: &[u8], sink: &mut K) -> Status
 {
     match parse(alloc, bytes) {
         Ok(script) => run_parsed(alloc, bytes, &script, sink),
-        Err(fault) => match refused_text(alloc, fault.command, &fault.kind) {
+        Err(fault) => match refused_text(alloc, "refused", fault.command, &fault.kind) {
             Ok(line) => refuse(sink, line.as_bytes()),
             Err(AllocError) => Status::Memory,
         },
@@ -116,14 +120,14 @@ fn run<S: Source, K: Sink>(alloc: Global, source: &mut S, sink: &mut K) -> Statu
     }
 }
 
-/// Runs a session by the words after the program's name, of which there is one, `run`: it reads a
+/// Runs a session by the words after the program's name, of which there is one, `run` or `check`. With `run` it reads a
 /// script from the source and writes its output, with a right answer to each query, to the sink. Each number and
 /// each list of an answer is within the bounds of an output. Some answer is that it is not known exactly where the status
-/// says so, and this is a matter of the script.
+/// says so, and this is a matter of the script. With `check` it does what `check_diddy` does. Other words do nothing.
 ///
-/// An input of more than 1,048,576 bytes is refused by the line `refused long`; one that is no script by
+/// With `run`, an input of more than 1,048,576 bytes is refused by the line `refused long`; one that is no script by
 /// `refused C KIND`, with the number of the command and what is wrong with it; and a script with a query
-/// of a kind that is not answered by `refused early`. Nothing is run then. Other words do nothing. Where
+/// of a kind that is not answered by `refused early`. Nothing is run then. Where
 /// the source fails, nothing is written; where the sink fails or memory is wanting, a front of what was
 /// to be written may have been. At most 1,048,577 bytes are taken from the source.
 pub fn run_diddy<S: Source, K: Sink>(
@@ -132,18 +136,31 @@ pub fn run_diddy<S: Source, K: Sink>(
     source: &mut S,
     sink: &mut K,
 ) -> Status
-    ensures bad_words { result ≡ Status.BadWords ↔ ¬ (map string_bytes words.now ≡ codes "run" ∷ []) }
-    ensures ended { Ended (told S.left S.faults source.old source.new) (told K.held K.faults sink.old sink.new) result }
-    ensures decided { (bytes : List ℕ) → S.left source.old ≡ Some bytes → Decides bytes result }
+    ensures bad_words { result ≡ Status.BadWords ↔ AreBad (map string_bytes words.now) }
+    ensures kept { result ≡ Status.BadWords → (source.new ≡ source.old) × (sink.new ≡ sink.old) }
 
-    ensures taken { GivesAtMost (S.left source.old) (S.left source.new) (most_bytes + 1) }
+    ensures ran { IsOnly (codes "run") (map string_bytes words.now) →
+        Ended (told S.left S.faults source.old source.new) (told K.held K.faults sink.old sink.new) result }
+    ensures run_decided { IsOnly (codes "run") (map string_bytes words.now) →
+        (bytes : List ℕ) → S.left source.old ≡ Some bytes → Decides bytes result }
+    ensures run_taken { IsOnly (codes "run") (map string_bytes words.now) → GivesAtMost (S.left source.old) (S.left source.new) (most_bytes + 1) }
+
+    ensures checked { IsOnly (codes "check") (map string_bytes words.now) →
+        CheckEnded (told S.left S.faults source.old source.new) (told K.held K.faults sink.old sink.new) result }
+    ensures check_decided { IsOnly (codes "check") (map string_bytes words.now) →
+        (bytes : List ℕ) → S.left source.old ≡ Some bytes → CheckDecides bytes result }
+    ensures check_taken { IsOnly (codes "check") (map string_bytes words.now) → GivesAtMost (S.left source.old) (S.left source.new) (most_checked + 1) }
+
     ensures source_faults { S.faults source.old ≤ S.faults source.new }
     ensures sink_faults { K.faults sink.old ≤ K.faults sink.new }
 {
-    if !is_run(words) {
-        return Status::BadWords;
+    if is_only(words, "run") {
+        one_script();
+        spelled_or_refused();
+        return run(alloc, source, sink);
     }
-    one_script();
-    spelled_or_refused();
-    run(alloc, source, sink)
+    if is_only(words, "check") {
+        return check_diddy(alloc, source, sink);
+    }
+    Status::BadWords
 }

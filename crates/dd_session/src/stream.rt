@@ -36,7 +36,8 @@ impl From<dd_outside::WriteFault> for RunFault {
     }
 }
 
-fn is_unknown(answer: &Answer) -> bool
+/// Whether the answer is that it is not known.
+pub(crate) fn is_unknown(answer: &Answer) -> bool
     ensures { result ≡ is_unknown answer.now }
 {
     matches!(answer, Answer::Unknown { .. })

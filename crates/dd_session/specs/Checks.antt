@@ -1,0 +1,128 @@
+-- What the check of an output writes, by its bytes.
+use Rattle.std.specs.Prelude.{◌≡◌, ◌⊎◌, ℕ, zero, suc, ◌+◌, ◌-◌, ◌≤◌, ◌<◌, max, List, [], ◌∷◌, ◌++◌, length, codes, Bool, true, false, IsSomeAnd}
+use Rattle.std.specs.List.{list_all, slice_get}
+use Rattle.std.specs.Fmt.{decimal}
+use Rattle.dd_certificate.specs.declared.answer.Answer.{Answer}
+use Rattle.dd_output.specs.declared.output.Output.{Output}
+use Rattle.dd_output.specs.Outputs.{output_text, IsWritableOutput, IsWellFormed}
+use Rattle.dd_output.specs.Offsets.{IsOffset}
+use Rattle.dd_script.specs.Parts.{Parts}
+use Rattle.dd_script.specs.Scripts.{Spells, RefusedAs, Kind}
+use Rattle.dd_checker.specs.Questions.{is_checked}
+use Rattle.dd_checker.specs.Certificates.{IsCertificate}
+use Rattle.dd_checker.specs.Claims.{Claim}
+use Rattle.dd_session.specs.Answers.{has_unknown}
+use Rattle.dd_session.specs.Output.{refused_line}
+
+-- The greatest number of bytes of an output that is checked.
+abbrev pub most_checked : ℕ
+most_checked = 268435456
+
+-- ---- the lines
+
+abbrev pub accepted_line : ℕ → List ℕ
+accepted_line number = codes "query " ++ (decimal number ++ codes " accepted\n")
+
+abbrev pub rejected_line : ℕ → List ℕ
+rejected_line number = codes "query " ++ (decimal number ++ codes " rejected\n")
+
+-- after the lines of all queries: how many they are
+abbrev pub checked_line : ℕ → List ℕ
+checked_line count = codes "checked " ++ (decimal count ++ codes "\n")
+
+-- the lines for the first queries, all accepted
+abbrev pub accepted_lines : ℕ → List ℕ
+accepted_lines zero = []
+accepted_lines (suc done) = accepted_lines done ++ accepted_line (done + 1)
+
+-- for bytes that are no output: how many of them begin one
+abbrev pub offset_line : ℕ → List ℕ
+offset_line offset = codes "refused at " ++ (decimal offset ++ codes "\n")
+
+-- for an output whose script is none
+abbrev pub script_line : ℕ → Kind → List ℕ
+script_line command k = refused_line (codes "refused script") command k
+
+-- for an output whose script has a query of a kind that is not checked
+abbrev pub script_early_line : List ℕ
+script_early_line = codes "refused script early\n"
+
+-- ---- which answers are accepted
+
+-- the answers to all queries of the script are of a kind that is checked
+abbrev pub are_checked : Parts → Bool
+are_checked s = list_all is_checked s.queries
+
+-- there is an answer with this number, from 1, and it is a certificate for the query with the number, which there is
+abbrev pub IsAcceptedAt : Parts → List Answer → ℕ → Type 0
+IsAcceptedAt s answers number = IsSomeAnd (slice_get answers (number - 1)) (λ a. IsCertificate s number a)
+
+-- there is an answer with this number, and what it claims is true
+abbrev pub IsTrueAt : Parts → List Answer → ℕ → Type 0
+IsTrueAt s answers number = IsSomeAnd (slice_get answers (number - 1)) (λ a. Claim s number a)
+
+-- the first answers are accepted
+abbrev pub AcceptedTo : Parts → List Answer → ℕ → Type 0
+AcceptedTo s answers done = (number : ℕ) → 1 ≤ number → number ≤ done → IsAcceptedAt s answers number
+
+-- There is one answer to each query, a certificate, and what it claims is true.
+pub record AllAccepted (s : Parts) (answers : List Answer) : Type 0 where
+  pub each : length answers ≡ length s.queries
+  pub accepted : AcceptedTo s answers (length answers)
+  pub claims : (number : ℕ) → 1 ≤ number → number ≤ length answers → IsTrueAt s answers number
+
+-- After so many that are accepted comes a query or an answer, and there is not both of them, or the answer is no certificate.
+pub record FirstRejected (s : Parts) (answers : List Answer) (done : ℕ) : Type 0 where
+  pub within : done < max (length s.queries) (length answers)
+  pub before : AcceptedTo s answers done
+  pub rejected : ¬ IsAcceptedAt s answers (done + 1)
+
+-- ---- the bytes
+
+-- The bytes are the text of this output, which is within bounds.
+pub record IsOutput (bytes : List ℕ) (o : Output) : Type 0 where
+  pub writable : IsWritableOutput o
+  pub text_is : bytes ≡ output_text o
+
+-- And its script is this one, of which each query is of a kind that is checked.
+pub record IsCheckable (bytes : List ℕ) (o : Output) (s : Parts) : Type 0 where
+  pub output : IsOutput bytes o
+  pub spelled : Spells o.script s
+  pub checked : are_checked s ≡ true
+
+-- Bytes of a length that is allowed are refused by this line.
+pub data IsRefusedOutput (bytes : List ℕ) (line : List ℕ) : Type 0 where
+  malformed : (offset : ℕ) → ¬ IsWellFormed bytes → IsOffset bytes offset → line ≡ offset_line offset → IsRefusedOutput bytes line
+  no_script : (o : Output) → IsOutput bytes o → (command : ℕ) (k : Kind) → RefusedAs o.script command k → line ≡ script_line command k
+      → IsRefusedOutput bytes line
+  not_checked : (o : Output) → IsOutput bytes o → (s : Parts) → Spells o.script s → are_checked s ≡ false → line ≡ script_early_line
+      → IsRefusedOutput bytes line
+
+-- How the text goes on after the lines of the first queries, which are accepted: by the line of the first rejected query, or
+-- by the last line. Where the check was broken off it may go on in no way.
+pub data IsEnding (s : Parts) (answers : List Answer) (done : ℕ) (ending : List ℕ) : Type 0 where
+  broken_off : ending ≡ [] → IsEnding s answers done ending
+  rejected : FirstRejected s answers done → ending ≡ rejected_line (done + 1) → IsEnding s answers done ending
+  finished : AllAccepted s answers → done ≡ length answers → ending ≡ checked_line done → IsEnding s answers done ending
+
+-- The bytes are such an output; each query is accepted, and some answer is that it is not known, or none is so.
+pub record IsAllAccepted (has : Bool) (bytes : List ℕ) : Type 0 where
+  pub output : Output
+  pub script : Parts
+  pub checkable : IsCheckable bytes output script
+  pub accepted : AllAccepted script output.answers
+  pub unknown_is : has_unknown output.answers ≡ has
+
+-- The bytes are such an output, and after so many accepted queries comes one that is rejected.
+pub record IsRejectedAfter (done : ℕ) (bytes : List ℕ) : Type 0 where
+  pub output : Output
+  pub script : Parts
+  pub checkable : IsCheckable bytes output script
+  pub rejected : FirstRejected script output.answers done
+
+-- The bytes are such an output of a length that is allowed.
+pub record IsCheckedOutput (bytes : List ℕ) : Type 0 where
+  pub short : length bytes ≤ most_checked
+  pub output : Output
+  pub script : Parts
+  pub checkable : IsCheckable bytes output script

@@ -1,0 +1,2 @@
+-- The check of answers, one after the other.
+pub mod Judged

@@ -1,0 +1,64 @@
+-- What is written of the answers of a script that are checked in order.
+use Rattle.std.specs.Prelude.{◌≡◌, ℕ, ◌+◌, max, List, [], ◌++◌, length, Bool, true, false}
+use Rattle.std.specs.declared.option.Option.{Option}
+use Rattle.std.specs.Io.KnownBytes.{Appends}
+use Rattle.dd_outside.specs.Bytes.{GainsFront}
+use Rattle.dd_certificate.specs.declared.answer.Answer.{Answer}
+use Rattle.dd_script.specs.Parts.{Parts}
+use Rattle.dd_session.specs.declared.status.Status.{Status}
+use Rattle.dd_session.specs.declared.status.Status.TheVariants.{Rejected}
+use Rattle.dd_session.specs.Runs.{status_of}
+use Rattle.dd_session.specs.Checks.{accepted_line, rejected_line, accepted_lines, checked_line, IsAcceptedAt, AcceptedTo, AllAccepted, FirstRejected}
+
+-- Whether the answer with a number is accepted.
+abbrev pub IsJudged : Parts → List Answer → ℕ → Bool → Type 0
+IsJudged s answers number true = IsAcceptedAt s answers number
+IsJudged s answers number false = ¬ IsAcceptedAt s answers number
+
+abbrev pub verdict_line : ℕ → Bool → List ℕ
+verdict_line number true = accepted_line number
+verdict_line number false = rejected_line number
+
+-- The line for the query with a number was written.
+pub record Judged (old new : Option (List ℕ)) (s : Parts) (answers : List Answer) (number : ℕ) (accepted : Bool) : Type 0 where
+  pub judged : IsJudged s answers number accepted
+  pub appends : Appends old new (verdict_line number accepted)
+
+-- A front of that line was written.
+pub data JudgedFront (old new : Option (List ℕ)) (s : Parts) (answers : List Answer) (number : ℕ) : Type 0 where
+  nothing : GainsFront old new [] → JudgedFront old new s answers number
+  part : (accepted : Bool) → IsJudged s answers number accepted → GainsFront old new (verdict_line number accepted) → JudgedFront old new s answers number
+
+-- The numbers of the queries and of the answers go to here.
+abbrev pub most_of : Parts → List Answer → ℕ
+most_of s answers = max (length s.queries) (length answers)
+
+-- The lines up to the first rejected query were written.
+pub record RejectedHere (old new : Option (List ℕ)) (s : Parts) (answers : List Answer) : Type 0 where
+  pub done : ℕ
+  pub rejected : FirstRejected s answers done
+  pub appends : Appends old new (accepted_lines done ++ rejected_line (done + 1))
+
+-- The lines of all queries were written, each accepted.
+pub record AcceptedEach (old new : Option (List ℕ)) (s : Parts) (answers : List Answer) : Type 0 where
+  pub accepted : AcceptedTo s answers (most_of s answers)
+  pub appends : Appends old new (accepted_lines (most_of s answers))
+
+-- The lines of all queries, and the last line, were written.
+pub record AcceptedAll (old new : Option (List ℕ)) (s : Parts) (answers : List Answer) : Type 0 where
+  pub all : AllAccepted s answers
+  pub appends : Appends old new (accepted_lines (length answers) ++ checked_line (length answers))
+
+-- All are accepted, or there is a first one that is rejected.
+abbrev pub EachJudged : Option (List ℕ) → Option (List ℕ) → Parts → List Answer → Bool → Type 0
+EachJudged old new s answers true = AcceptedEach old new s answers
+EachJudged old new s answers false = RejectedHere old new s answers
+
+abbrev pub AllJudged : Option (List ℕ) → Option (List ℕ) → Parts → List Answer → Bool → Type 0
+AllJudged old new s answers true = AcceptedAll old new s answers
+AllJudged old new s answers false = RejectedHere old new s answers
+
+-- The status of a check to the end, by whether all are accepted and whether some answer is that it is not known.
+abbrev pub checked_status : Bool → Bool → Status
+checked_status true has = status_of has
+checked_status false has = Rejected

@@ -1,0 +1,140 @@
+// The check of the answers of an output, each line written as soon as it is known.
+ghost use Rattle.std.specs.Prelude.{◌≡◌, ◌≤◌, true, length, IfOk, OnErr, IsErrOf, string_bytes};
+ghost use Rattle.dd_values.specs.Counts.{Rose};
+ghost use Rattle.std.specs.List.{list_any};
+ghost use Rattle.dd_answer.specs.Right.{is_unknown};
+ghost use Rattle.dd_session.specs.Answers.{most_queries};
+ghost use Rattle.dd_session.specs.Checks.{are_checked};
+ghost use Rattle.dd_session.specs.Checked.{CheckFront};
+ghost use Rattle.dd_session.specs.checking.Judged.{
+  verdict_line,
+  IsJudged,
+  Judged,
+  JudgedFront,
+  EachJudged,
+  AllJudged,
+};
+
+use crate::stream::{RunFault, is_unknown};
+use dd_certificate::Answer;
+use dd_checker::{Verdict, certified, check_answer, is_checked};
+use dd_outside::{Sink, write_whole};
+use dd_script::Script;
+use std::alloc::{AllocError, Global};
+
+/// Whether the answers to all queries are of a kind that is checked.
+pub(crate) fn are_checked(script: &Script) -> bool
+    ensures { result ≡ are_checked script.now }
+{
+    script.queries().iter().all(|query| is_checked(query))
+}
+
+/// Whether some answer is that it is not known.
+pub(crate) fn has_unknown(answers: &[Answer]) -> bool
+    ensures { result ≡ list_any is_unknown answers.now }
+{
+    answers.iter().any(|answer| is_unknown(answer))
+}
+
+// The line for a query by its number.
+fn verdict_line(alloc: Global, number: u32, accepted: bool) -> Result<String, AllocError>
+    ensures { IfOk result (λ line. string_bytes line ≡ verdict_line number accepted) }
+{
+    if accepted {
+        format!(in alloc; "query {number} accepted\n")
+    } else {
+        format!(in alloc; "query {number} rejected\n")
+    }
+}
+
+// Whether there are a query and an answer with the number, and the answer is a certificate.
+fn is_accepted(
+    alloc: Global,
+    script: &Script,
+    answers: &[Answer],
+    number: u32,
+) -> Result<bool, AllocError>
+    requires numbered { 1 ≤ number }
+    requires checked { are_checked script.now ≡ true }
+    ensures { IfOk result (λ accepted. IsJudged script.now answers.now number accepted) }
+{
+    let place = number as usize - 1;
+    let queries = script.queries();
+    if place >= answers.len() || place >= queries.len() {
+        return Ok(false);
+    }
+    let verdict = check_answer(alloc, script, number, &answers[place])?;
+    Ok(verdict == Verdict::Accepted)
+}
+
+// Checks one answer, and writes its line. True where it is accepted.
+fn check_one<K: Sink>(
+    alloc: Global,
+    script: &Script,
+    answers: &[Answer],
+    number: u32,
+    sink: &mut K,
+) -> Result<bool, RunFault>
+    requires numbered { 1 ≤ number }
+    requires checked { are_checked script.now ≡ true }
+    ensures wrote { IfOk result (λ accepted. Judged (K.held sink.old) (K.held sink.new) script.now answers.now number accepted) }
+    ensures cut { OnErr result (JudgedFront (K.held sink.old) (K.held sink.new) script.now answers.now number) }
+    ensures later { K.faults sink.old ≤ K.faults sink.new }
+    ensures write_fault { IsErrOf result RunFault.WriteFault → Rose (K.faults sink.old) (K.faults sink.new) }
+{
+    let accepted = is_accepted(alloc, script, answers, number)?;
+    let line = verdict_line(alloc, number, accepted)?;
+    write_whole(sink, line.as_bytes())?;
+    Ok(accepted)
+}
+
+// Checks the answers in order, up to the first that is rejected. True where all are accepted.
+fn check_each<K: Sink>(
+    alloc: Global,
+    script: &Script,
+    answers: &[Answer],
+    sink: &mut K,
+) -> Result<bool, RunFault>
+    requires few_queries { length script.now.queries ≤ most_queries }
+    requires few_answers { length answers.now ≤ most_queries }
+    requires checked { are_checked script.now ≡ true }
+    ensures wrote { IfOk result (EachJudged (K.held sink.old) (K.held sink.new) script.now answers.now) }
+    ensures cut { OnErr result (CheckFront (K.held sink.old) (K.held sink.new) script.now answers.now) }
+    ensures later { K.faults sink.old ≤ K.faults sink.new }
+    ensures write_fault { IsErrOf result RunFault.WriteFault → Rose (K.faults sink.old) (K.faults sink.new) }
+{
+    let most = script.queries().len().max(answers.len());
+    for done in 0..most {
+        let accepted = check_one(alloc, script, answers, done as u32 + 1, sink)?;
+        if !accepted {
+            return Ok(false);
+        }
+    }
+    Ok(true)
+}
+
+/// Checks the answers in order, up to the first that is rejected, and writes how many they are where all are accepted. True
+/// then.
+pub(crate) fn check_all<K: Sink>(
+    alloc: Global,
+    script: &Script,
+    answers: &[Answer],
+    sink: &mut K,
+) -> Result<bool, RunFault>
+    requires few_queries { length script.now.queries ≤ most_queries }
+    requires few_answers { length answers.now ≤ most_queries }
+    requires checked { are_checked script.now ≡ true }
+    ensures wrote { IfOk result (AllJudged (K.held sink.old) (K.held sink.new) script.now answers.now) }
+    ensures cut { OnErr result (CheckFront (K.held sink.old) (K.held sink.new) script.now answers.now) }
+    ensures later { K.faults sink.old ≤ K.faults sink.new }
+    ensures write_fault { IsErrOf result RunFault.WriteFault → Rose (K.faults sink.old) (K.faults sink.new) }
+{
+    certified(script);
+    let are_accepted = check_each(alloc, script, answers, sink)?;
+    if !are_accepted {
+        return Ok(false);
+    }
+    let line = format!(in alloc; "checked {}\n", answers.len())?;
+    write_whole(sink, line.as_bytes())?;
+    Ok(true)
+}

@@ -1,0 +1,124 @@
+// The check of a whole output.
+ghost use Rattle.std.specs.Prelude.{◌≡◌, ◌+◌, ◌≤◌, ℕ, List, Some};
+ghost use Rattle.dd_outside.specs.Bytes.{GivesAtMost};
+ghost use Rattle.dd_output.specs.Outputs.{output_text, IsWritableOutput};
+ghost use Rattle.dd_script.specs.Scripts.{Spells};
+ghost use Rattle.dd_session.specs.Answers.{has_unknown};
+ghost use Rattle.dd_session.specs.Runs.{told};
+ghost use Rattle.dd_session.specs.Checks.{most_checked};
+ghost use Rattle.dd_session.specs.Checked.{CheckedOver, CheckEnded, CheckDecides};
+ghost use Rattle.dd_session.specs.checking.Judged.{checked_status};
+
+use crate::checking::{are_checked, check_all, has_unknown};
+use crate::output::refused_text;
+use crate::session::{refuse, status_of};
+use crate::status::Status;
+use crate::stream::RunFault;
+use dd_certificate::Answer;
+use dd_output::{CertificateFault, Output, one_output, read_output};
+use dd_outside::{ReadAllFault, Sink, Source, read_all};
+use dd_script::{Script, one_script, parse, spelled_or_refused};
+use std::alloc::{AllocError, Global};
+
+// The greatest number of bytes of an output that is checked.
+const MOST_CHECKED: usize = 268_435_456;
+
+// The status of a check to the end.
+fn checked_status(accepted: bool, answers: &[Answer]) -> Status
+    ensures { result ≡ checked_status accepted (has_unknown answers.now) }
+{
+    if accepted {
+        status_of(has_unknown(answers))
+    } else {
+        Status::Rejected
+    }
+}
+
+// Checks an output whose script is known, or refuses it where a query is of a kind that is not checked.
+fn check_script<K: Sink>(alloc: Global, output: &Output, script: &Script, sink: &mut K) -> Status
+    requires writable { IsWritableOutput output.now }
+    requires spelled { Spells output.now.script script.now }
+    ensures checked { CheckedOver (told K.held K.faults sink.old sink.new) (output_text output.now) result }
+    ensures later { K.faults sink.old ≤ K.faults sink.new }
+{
+    if !are_checked(script) {
+        return refuse(sink, b"refused script early\n");
+    }
+    let answers = output.answers.as_slice();
+    match check_all(alloc, script, answers, sink) {
+        Ok(accepted) => checked_status(accepted, answers),
+        Err(RunFault::WriteFault) => Status::WriteFault,
+        Err(RunFault::Memory) => Status::Memory,
+    }
+}
+
+// Checks an output.
+fn check_output<K: Sink>(alloc: Global, output: &Output, sink: &mut K) -> Status
+    requires { IsWritableOutput output.now }
+    ensures checked { CheckedOver (told K.held K.faults sink.old sink.new) (output_text output.now) result }
+    ensures later { K.faults sink.old ≤ K.faults sink.new }
+{
+    match parse(alloc, output.script.as_slice()) {
+        Ok(script) => check_script(alloc, output, &script, sink),
+        Err(fault) => match refused_text(alloc, "refused script", fault.command, &fault.kind) {
+            Ok(line) => refuse(sink, line.as_bytes()),
+            Err(AllocError) => Status::Memory,
+        },
+    }
+}
+
+// Checks an input that is not too long.
+fn check_bytes<K: Sink>(alloc: Global, bytes: &[u8], sink: &mut K) -> Status
+    ensures checked { CheckedOver (told K.held K.faults sink.old sink.new) bytes.now result }
+    ensures later { K.faults sink.old ≤ K.faults sink.new }
+{
+    match read_output(alloc, bytes) {
+        Ok(output) => check_output(alloc, &output, sink),
+        Err(CertificateFault::Malformed(offset)) => {
+            match format!(in alloc; "refused at {offset}\n") {
+                Ok(line) => refuse(sink, line.as_bytes()),
+                Err(AllocError) => Status::Memory,
+            }
+        }
+        Err(CertificateFault::Memory) => Status::Memory,
+    }
+}
+
+// Checks what the source gives.
+fn check<S: Source, K: Sink>(alloc: Global, source: &mut S, sink: &mut K) -> Status
+    ensures ended { CheckEnded (told S.left S.faults source.old source.new) (told K.held K.faults sink.old sink.new) result }
+    ensures taken { GivesAtMost (S.left source.old) (S.left source.new) (most_checked + 1) }
+    ensures source_faults { S.faults source.old ≤ S.faults source.new }
+    ensures sink_faults { K.faults sink.old ≤ K.faults sink.new }
+{
+    match read_all(alloc, source, MOST_CHECKED) {
+        Ok(bytes) => check_bytes(alloc, &bytes, sink),
+        Err(ReadAllFault::TooLong) => refuse(sink, b"refused long\n"),
+        Err(ReadAllFault::ReadFault) => Status::ReadFault,
+        Err(ReadAllFault::Memory) => Status::Memory,
+    }
+}
+
+/// Reads an output from the source, checks the answer to each query of its script, and writes what it found, line by line.
+///
+/// An input of more than 268,435,456 bytes is refused by the line `refused long`; bytes that are no output by `refused at
+/// OFFSET`, with the number of bytes that begin one; an output whose script is none by `refused script C KIND`, with the
+/// number of the command and what is wrong with it; and one with a query of a kind that is not checked by `refused script
+/// early`. Else the line `query K accepted` is written for each query in order, and then `checked COUNT`: each answer is a
+/// certificate then, and what it claims of all infinite configurations is true. At the first query whose answer is no
+/// certificate, or that has none, and at the first answer to no query, the line `query K rejected` ends the check.
+///
+/// Where the source fails, nothing is written; where the sink fails or memory is wanting, a front of what was to be written
+/// may have been. At most 268,435,457 bytes are taken from the source.
+pub fn check_diddy<S: Source, K: Sink>(alloc: Global, source: &mut S, sink: &mut K) -> Status
+    ensures ended { CheckEnded (told S.left S.faults source.old source.new) (told K.held K.faults sink.old sink.new) result }
+    ensures decided { (bytes : List ℕ) → S.left source.old ≡ Some bytes → CheckDecides bytes result }
+    ensures taken { GivesAtMost (S.left source.old) (S.left source.new) (most_checked + 1) }
+    ensures source_faults { S.faults source.old ≤ S.faults source.new }
+    ensures sink_faults { K.faults sink.old ≤ K.faults sink.new }
+{
+    one_output();
+    one_script();
+    spelled_or_refused();
+    check(alloc, source, sink)
+}
