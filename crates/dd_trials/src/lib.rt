@@ -1,4 +1,4 @@
-//! Trials of several crates together: scripts, what their rules say, the gates and clauses of the same rules, and whole runs.
+//! Trials of several crates together: scripts, what their rules say, and the gates and clauses of the same rules.
 #![tactic(auto)]
 
 #[cfg(test)]
@@ -13,7 +13,5 @@ mod inputs;
 mod questions;
 #[cfg(test)]
 mod scripts;
-#[cfg(test)]
-mod sessions;
 #[cfg(test)]
 mod signals;

@@ -1,5 +1,5 @@
 // Texts with the command of the first fault, or none where the whole is well formed.
-use dd_syntax::{SyntaxFault, read};
+use dd_commands::{SyntaxFault, read};
 use std::alloc::Global;
 use std::process::Abort;
 use std::test::Fail;
@@ -13,7 +13,7 @@ fn first_fault(alloc: Global, bytes: &[u8]) -> Option<SyntaxFault> {
 }
 
 /// Texts whose commands are all well formed.
-const WELL_FORMED: [&[u8]; 13] = [
+const WELL_FORMED: [&[u8]; 15] = [
     b"",
     b"-- only a comment",
     b"%rule hard o=1 -> (o.rt=0 & o.up=0)\n%conf c [2 2] 1 0 0 1\n%member c hard\n",
@@ -27,6 +27,8 @@ const WELL_FORMED: [&[u8]; 13] = [
     b"%auto else else else",
     b"%auto give when give=give give give else give",
     b"%rule a o=1 --> o=1",
+    b"%topology hex %only 1 0 %only 0 0 1 %weights 1 2",
+    b"%conf c [3 1] [2] 1 2 0",
 ];
 
 #[test]
@@ -58,7 +60,7 @@ const FAULTS_OF_TEXT: [(&[u8], u32); 9] = [
 ];
 
 /// Commands of the header that stand in another order, twice, or with other parts.
-const FAULTS_OF_HEADERS: [(&[u8], u32); 12] = [
+const FAULTS_OF_HEADERS: [(&[u8], u32); 15] = [
     (b"%rule a o=0 %dim 2", 2),
     (b"%dim 2 %dim 2", 2),
     (b"%alphabet 0 1 %nodes a", 2),
@@ -71,12 +73,17 @@ const FAULTS_OF_HEADERS: [(&[u8], u32); 12] = [
     (b"%dim x", 1),
     (b"%dim 1 2", 1),
     (b"%limits 1 2", 1),
+    (b"%only 0", 1),
+    (b"%only 0 0 %topology square", 2),
+    (b"%weights 1 2 %only 0 0", 2),
 ];
 
 /// Configurations and queries with other parts, and words that are no command.
-const FAULTS_OF_COMMANDS: [(&[u8], u32); 11] = [
+const FAULTS_OF_COMMANDS: [(&[u8], u32); 13] = [
     (b"%conf c [-1] 0", 1),
     (b"%conf c [1]", 1),
+    (b"%conf c [1 1] [-1] 0", 1),
+    (b"%conf c [1 1] [0] [0] 0", 1),
     (b"%density x [-1]", 1),
     (b"%discharge x 0 0", 1),
     (b"%discharge x 0 0 [-1", 1),

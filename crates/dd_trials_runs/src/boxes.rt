@@ -1,0 +1,136 @@
+// Box questions, by their answers' first lines.
+use crate::runs::{assert_answers, words_of};
+use dd_outside::{MemorySink, MemorySource};
+use dd_session::{Status, run_diddy};
+use std::alloc::Global;
+use std::process::Abort;
+use std::test::Fail;
+
+// The status of a run over these bytes, and the first lines of its answers.
+fn answer_lines(alloc: Global, script: &str) -> Result<(Status, String), Fail> {
+    let words = words_of(alloc, "run")?;
+    let bytes = Vec::from_slice(alloc, script.as_bytes())?;
+    let mut source = MemorySource::new(bytes, 1_000, Vec::new(alloc));
+    let mut sink = MemorySink::new(alloc, 1_000_000, 1_000_000, Vec::new(alloc))?;
+    let status = run_diddy(alloc, &words, &mut source, &mut sink);
+    let mut lines = String::new(alloc);
+    let output = String::from_utf8(Vec::from_slice(alloc, sink.held_bytes())?)?;
+    for line in output.lines() {
+        if line.starts_with("query ") {
+            lines.push_str(line)?;
+            lines.push('\n')?;
+        }
+    }
+    Ok((status, lines))
+}
+
+// Asserts that each script has the first lines of answers that stand beside it, and the status that tells whether one is
+// unknown.
+fn assert_lines(rt: &impl Abort, alloc: Global, rows: &[(&str, &str)]) -> Result<(), Fail> {
+    for (script, answers) in rows {
+        let (status, lines) = answer_lines(alloc, script)?;
+        assert_eq!(rt; lines.as_str(), *answers, "{script}");
+        let wanted = if answers.contains("UNKNOWN") {
+            Status::SomeUnknown
+        } else {
+            Status::Definite
+        };
+        assert_eq!(rt; status, wanted, "{script}");
+    }
+    Ok(())
+}
+
+// Rules that contain others or are equal to them, and the least box that shows that they are not.
+const CONTAINED_OR_EQUAL: [(&str, &str); 5] = [
+    (
+        "%rule hard o=1 -> (o.rt=0 & o.up=0) %rule row o=1 -> o.rt=0 %contains row hard %contains hard row %equal hard row",
+        "query 1 YES 1\nquery 2 NO 2 1\nquery 3 NO right 2 1\n",
+    ),
+    (
+        "%rule a !(o=1 & o.rt=1) %rule b o!=1 | o.rt!=1 %equal a b",
+        "query 1 YES 1 1\n",
+    ),
+    (
+        "%rule a o=0 %rule b o=1 %equal a b",
+        "query 1 NO left 1 1\n",
+    ),
+    (
+        "%dim 3 %rule a o=1 -> (o.rt=0 & o.up=0 & o.fw=0) %rule b o=1 -> o.fw=0 %contains b a",
+        "query 1 YES 1\n",
+    ),
+    (
+        "%alphabet 0 1 2 %rule three Ap[o1] (p~o -> p!=o) %rule diagonal o=o.rt.up %empty three %contains diagonal three",
+        "query 1 NO 2 1 shear 1\nquery 2 NO 3 1 shear 2\n",
+    ),
+];
+
+// With limits of boxes and periods that are reached or not.
+const LIMITS_OF_BOXES: [(&str, &str); 6] = [
+    (
+        "%dim 1 %limits 3 4 10000 %rule dies (o=1 -> o.rt=1) & !(o=1 & o.rt=1 & o.rt.rt=1) %rule zero o=0 %contains zero dies",
+        "query 1 YES 3\n",
+    ),
+    (
+        "%dim 1 %limits 2 4 10000 %rule dies (o=1 -> o.rt=1) & !(o=1 & o.rt=1 & o.rt.rt=1) %rule zero o=0 %contains zero dies",
+        "query 1 UNKNOWN limits\n",
+    ),
+    (
+        "%dim 1 %alphabet 0 1 2 %limits 4 2 10 %rule cyc (o=0 -> o.rt=1) & (o=1 -> o.rt=2) & (o=2 -> o.rt=0) %rule no o!=1 %contains no cyc",
+        "query 1 UNKNOWN limits\n",
+    ),
+    (
+        "%dim 1 %alphabet 0 1 2 %limits 4 3 10 %rule cyc (o=0 -> o.rt=1) & (o=1 -> o.rt=2) & (o=2 -> o.rt=0) %rule no o!=1 %contains no cyc",
+        "query 1 NO 3\n",
+    ),
+    // A definite answer after one that is unknown.
+    (
+        "%dim 1 %alphabet 0 1 2 %limits 4 2 10 %rule cyc (o=0 -> o.rt=1) & (o=1 -> o.rt=2) & (o=2 -> o.rt=0) %rule no o!=1 %contains no cyc %empty no",
+        "query 1 UNKNOWN limits\nquery 2 NO 1\n",
+    ),
+    (
+        "%limits 3 3 10 %rule dies (o=1 -> o.rt=1) & !(o=1 & o.rt=1 & o.rt.rt=1) %rule zero o=0 %contains zero dies",
+        "query 1 YES 3\n",
+    ),
+];
+
+// Rules of which no configuration is a member, and rules over two nodes.
+const EMPTY_OR_OF_TWO_NODES: [(&str, &str); 3] = [
+    ("%dim 1\n%rule x o=0 & o=1\n%empty x", "query 1 YES 0\n"),
+    (
+        "%topology hex %rule full o@o %rule free Ap[o1] (p~o -> !(p=1 & o=1)) %contains free full",
+        "query 1 NO 1 1\n",
+    ),
+    (
+        "%dim 1 %nodes a b %topology (x a [0] b) %rule p !(o.x=1) %rule q o.x!=1 %empty p %empty q",
+        "query 1 NO 1\nquery 2 YES 0\n",
+    ),
+];
+
+// Six symbols in an order that repeats only along a sheared vector: the least periods come with a shear.
+const SHEARED: [(&str, &str); 1] = [(
+    "%alphabet 0 1 2 3 4 5 %limits 0 3 10 %rule six (o=0 -> o.rt=2 & o.up=5) & (o=1 -> o.rt=3 & o.up=0) & (o=2 -> o.rt=4 & o.up=1) & (o=3 -> o.rt=5 & o.up=2) & (o=4 -> o.rt=0 & o.up=3) & (o=5 -> o.rt=1 & o.up=4) %rule no o!=1 %contains no six",
+    "query 1 NO 3 2 shear 1\nconf 1 3 5 0 2 4\n",
+)];
+
+// Nodes that allow some symbols alone.
+const RESTRICTED: [(&str, &str); 2] = [
+    // The second node is always 0.
+    (
+        "%topology hex %only 1 0 %rule full o@o %rule free Ap[o1] (p~o -> !(p=1 & o=1)) %contains free full",
+        "query 1 YES 1\n",
+    ),
+    (
+        "%alphabet 0 1 2 %only 0 0 2 %rule a o!=1 %empty a",
+        "query 1 NO 1 1\n",
+    ),
+];
+
+#[test]
+fn answers_box_questions(rt: HostRuntime) -> Result<(), Fail> {
+    let alloc = rt.alloc();
+    assert_lines(&rt, alloc, &CONTAINED_OR_EQUAL)?;
+    assert_lines(&rt, alloc, &LIMITS_OF_BOXES)?;
+    assert_lines(&rt, alloc, &EMPTY_OR_OF_TWO_NODES)?;
+    assert_lines(&rt, alloc, &RESTRICTED)?;
+    assert_answers(&rt, alloc, &SHEARED)
+}

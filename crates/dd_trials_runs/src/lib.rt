@@ -1,0 +1,18 @@
+//! Trials of whole runs that no clause tells: what scripts mean and how texts are refused, in words of the outside, and that each
+//! fault is answered where it comes.
+#![tactic(auto)]
+
+#[cfg(test)]
+mod boxes;
+#[cfg(test)]
+mod checks;
+#[cfg(test)]
+mod formulas;
+#[cfg(test)]
+mod members;
+#[cfg(test)]
+mod refusals;
+#[cfg(test)]
+mod runs;
+#[cfg(test)]
+mod statuses;

@@ -1,0 +1,151 @@
+// Texts that are refused, and how their lines go on.
+use crate::runs::run_on;
+use dd_session::Status;
+use std::alloc::{AllocError, Global};
+use std::process::Abort;
+use std::test::Fail;
+
+// Asserts that each text is refused, and that its line goes on as is said beside it.
+fn assert_refused(rt: &impl Abort, alloc: Global, rows: &[(&[u8], &str)]) -> Result<(), Fail> {
+    for (text, rest) in rows {
+        let (status, output) = run_on(alloc, text)?;
+        assert_eq!(rt; status, Status::Refused, "{rest}");
+        let line = format!(in alloc; "refused {rest}\n")?;
+        assert_eq!(rt; output.as_slice(), line.as_bytes(), "{rest}");
+    }
+    Ok(())
+}
+
+// What no script is, by its bytes, its tokens or its commands.
+const NOT_WELL_FORMED: [(&[u8], &str); 17] = [
+    (b"x", "0 syntax"),
+    (b"%", "1 syntax"),
+    (b"%rule a o=1 &", "1 syntax"),
+    (b"%rule a o=0 %rule a o=1 &", "2 syntax"),
+    (b"%member c a %rule", "2 syntax"),
+    (b"%rule a & %rule b o=01", "1 syntax"),
+    (b"%rule a o=01", "1 syntax"),
+    (b"%conf c [01 1] 0", "1 syntax"),
+    (b"%conf c [-1 1] 0", "1 syntax"),
+    (b"%rule a o=0 %discharge a 0 0 [-0 1]", "2 syntax"),
+    (b"%rule a o=0 <--> o=1", "1 syntax"),
+    (b"%rule a o=0 %dim 2", "2 syntax"),
+    (b"%topology ring", "1 syntax"),
+    (b"%rule a o=0 -- \xc3\xa9\n", "1 syntax"),
+    (b"-- 100% \x80", "0 syntax"),
+    (b"%rule a o=0 %equal a", "2 syntax"),
+    (b"%rule a o=0 early", "1 syntax"),
+];
+
+// Names that are unknown or given twice.
+const FAULTS_OF_NAMES: [(&[u8], &str); 13] = [
+    (b"%rule a o=0 %member c a", "2 unknown c"),
+    (b"%rule a o=2", "1 unknown 2"),
+    (b"%rule a o.no=0", "1 unknown no"),
+    (b"%rule a Ap[q1] p=1", "1 unknown q"),
+    // A quantified variable is known in the body alone.
+    (b"%rule a Ap[p1] p=1", "1 unknown p"),
+    // What is unknown comes before what is given twice and before limits.
+    (b"%rule a o=0 %rule a o=2", "2 unknown 2"),
+    (b"%rule a o=1000001", "1 unknown 1000001"),
+    (b"%rule a o=0 %rule a o=1", "2 twice a"),
+    (b"%rule a o=0 %conf a [1 1] 0", "2 twice a"),
+    (b"%rule a Ao[o1] o=1", "1 twice o"),
+    (b"%alphabet 0 0", "1 twice 0"),
+    (b"%topology (e 0 [1 0] 0) (e 0 [0 1] 0)", "1 twice e"),
+    (b"%rule a o=0 %discharge a 0 0 [] []", "2 twice vector"),
+];
+
+// Another number of dimensions, nodes, weights or symbols.
+const FAULTS_OF_NUMBERS: [(&[u8], &str); 9] = [
+    (b"%dim 4", "1 dimension"),
+    (b"%dim 1000001", "1 dimension"),
+    (b"%dim 1 %topology hex", "2 dimension"),
+    (b"%nodes 0 1", "1 dimension"),
+    (b"%weights 1", "1 dimension"),
+    (b"%conf c [1] 0", "1 dimension"),
+    (b"%conf c [1 1] 0 0", "1 dimension"),
+    (b"%conf c [0 1] 0", "1 dimension"),
+    (b"%rule a o=0 %density a [1 1]", "2 dimension"),
+];
+
+// Symbols that their nodes do not allow, nodes that are restricted twice, and shears.
+const FAULTS_OF_NODES_AND_SHEARS: [(&[u8], &str); 9] = [
+    (
+        b"%alphabet 0 1 2 %only 0 0 2 %rule a o!=1 %empty a %conf c [1 1] 1",
+        "5 unknown 1",
+    ),
+    (b"%only 1 0", "1 unknown 1"),
+    (b"%only 0 2", "1 unknown 2"),
+    (b"%topology hex %only 1 0 0", "2 twice 0"),
+    (b"%only 0 0 %only 0 1 1", "2 twice 0"),
+    (b"%dim 1 %conf c [2] [1] 0 1", "2 dimension"),
+    (b"%conf c [2 1] [1 0] 0 1", "1 dimension"),
+    (b"%alphabet 0 1 2 %conf c [3 1] [3] 1 2 0", "2 size periods"),
+    (b"%conf c [3 1] [-1] 0 1 0", "1 syntax"),
+];
+
+// With limits that are just not passed, by queries that are not answered.
+const PAST_A_LIMIT: [(&[u8], &str); 18] = [
+    (
+        b"%rule aaaaaaaaaaaaaaaaaaaaaaaaaaaaaaaaa o=0",
+        "1 size word",
+    ),
+    (b"%alphabet 0 1000001", "1 size number"),
+    (b"%weights 0 1000001", "1 size number"),
+    (b"%weights 0 1001", "1 size weight"),
+    (b"%topology (e 0 [5 0] 0)", "1 size offset"),
+    (b"%limits 9 4 10", "1 size limits"),
+    (b"%limits 8 0 10", "1 size limits"),
+    (b"%rule a Ap[o4] p=0", "1 size radius"),
+    (b"%rule a Ap[o1o1o1o1o1] p=0", "1 size balls"),
+    (b"%rule a o=0 %density a [65]", "2 size periods"),
+    (b"%rule a o=0 %discharge a 0 0 [5 0]", "2 size vectors"),
+    (b"%rule big Ep[o3] p=1 %forbidden big", "2 size patterns"),
+    (b"%rule dom Ep[o1] p=1 %density dom [6]", "2 size states"),
+    (b"%rule dom Ep[o1] p=1 %density dom [5]", "early"),
+    (
+        b"%rule hard o=1 -> (o.rt=0 & o.up=0) %density hard [9]",
+        "2 size states",
+    ),
+    (
+        b"%rule hard o=1 -> (o.rt=0 & o.up=0) %density hard [8]",
+        "early",
+    ),
+    // A fault is told before a query that is not answered.
+    (b"%rule a o=0 %forbidden a %rule a o=0", "3 twice a"),
+    (
+        b"%rule a o=0 %conf z [1 1] 0 %member z a %forbidden a",
+        "early",
+    ),
+];
+
+#[test]
+fn refuses_what_is_no_script(rt: HostRuntime) -> Result<(), Fail> {
+    let alloc = rt.alloc();
+    assert_refused(&rt, alloc, &NOT_WELL_FORMED)?;
+    assert_refused(&rt, alloc, &FAULTS_OF_NAMES)?;
+    assert_refused(&rt, alloc, &FAULTS_OF_NUMBERS)?;
+    assert_refused(&rt, alloc, &FAULTS_OF_NODES_AND_SHEARS)?;
+    assert_refused(&rt, alloc, &PAST_A_LIMIT)
+}
+
+// A period of 2,000,000, and so many symbols.
+fn long_configuration(alloc: Global, symbols: usize) -> Result<Vec<u8>, AllocError> {
+    let mut text = Vec::new(alloc);
+    text.extend_from_slice(b"%dim 1 %alphabet 0 a %conf c [2000000] ")?;
+    for place in 0..symbols {
+        text.push(if place % 2 == 0 { b'0' } else { b'a' })?;
+    }
+    Ok(text)
+}
+
+// Products of periods are compared as they are written, also where a period passes the limit on numbers.
+#[test]
+fn a_long_period_is_no_shorter_one(rt: HostRuntime) -> Result<(), Fail> {
+    let alloc = rt.alloc();
+    let text = long_configuration(alloc, 1_000_001)?;
+    let (_, output) = run_on(alloc, &text)?;
+    assert_eq!(rt; output.as_slice(), b"refused 3 dimension\n".as_slice());
+    Ok(())
+}
