@@ -4,3 +4,5 @@ pub mod Graphs
 pub mod Windows
 -- what the public call promises
 pub mod Transfers
+-- what certifies the least density of a strip
+pub mod Certificates
