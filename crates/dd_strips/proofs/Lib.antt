@@ -1,0 +1,4 @@
+pub mod Worked
+pub mod Sums
+pub mod Residues
+pub mod Extremes
