@@ -7,8 +7,7 @@ use Rattle.std.proofs.Math.Nat.{mod-eq_of_lt, pow-suc, one-le-pow}
 use Rattle.std.proofs.lemmas.Int.{ints}
 use Rattle.std.proofs.lemmas.Bool.{ltb-true}
 use Rattle.std.proofs.lemmas.Nat.{mul-add-lt, mod-mul-add, div-mul-add, div-add-mod', div_below, mod_below}
-use Rattle.std.proofs.lemmas.List.{ext_get_or, length-append}
-use Rattle.std.proofs.lemmas.List.Elements.{All-push}
+use Rattle.std.proofs.lemmas.List.{ext_get_or}
 use Rattle.std.proofs.lemmas.List.FromFn.{length-map-range_with_len, get_or-map-range_with_len}
 use Rattle.dd_pattern.specs.declared.periods.Periods.{Periods}
 use Rattle.dd_pattern.specs.Periods.{residue, volume}
@@ -20,23 +19,14 @@ use Rattle.dd_transfer.specs.declared.strip.Strip.{Strip}
 use Rattle.dd_transfer.specs.Windows.{IsFor, IsWindow, cells, positions, digits, stand}
 use Rattle.dd_transfer.specs.Transfers.{slice_weight}
 use Rattle.dd_transfer.specs.Certificates.{IsClosedWalk, last_slice, walk_weight}
-use Rattle.dd_transfer.specs.Slices.{IsKeptFrom, AreDigits, AreEdgesOf, cell_from, symbols_from, number_of, slices_from, window_from}
+use Rattle.dd_transfer.specs.Slices.{IsKeptFrom, cell_from, symbols_from, number_of, slices_from, window_from}
+use Rattle.dd_transfer.specs.Laws.{AreDigits, AreEdgesOf}
 use Rattle.dd_strips.specs.Strips.{LivesOnStrip, slices_weight, tile_weight}
 use Rattle.dd_strips.proofs.Residues.{residue_below, residue_small}
 use Rattle.dd_strips.proofs.Sums.{total, total-same, total-first}
 use Rattle.dd_strips.proofs.Modular.{mod_of_power, mod_longer, mod_of_none}
 use Rattle.dd_strips.proofs.Tiles.{IsOnStrip, slice_symbol, tile_has, period_total}
 use Rattle.dd_strips.proofs.Rounds.{state_at, joined_round, Follows, follows}
-
--- digits
-digits_below : (base count n : ℕ) → 0 < base → All (λ d. d < base) (digits base count n)
-digits_below base zero n some = λ k d lt. absurd (omega arith)
-digits_below base (suc count) n some =
-    All-push (λ d. d < base) (digits base count (n / base)) (n % base) (digits_below base count (n / base) some) (mod_below n base some)
-
-length-digits : (base count n : ℕ) → length (digits base count n) ≡ count
-length-digits base zero n = refl
-length-digits base (suc count) n = let rest = length-digits base count (n / base) in omega (arith, rest, length-append (digits base count (n / base)) (n % base ∷ []))
 
 below_at : (n : ℕ) (xs : List ℕ) (k : ℕ) → 0 < n → All (λ d. d < n) xs → slice_index xs k < n
 below_at n [] k some all = some
@@ -63,7 +53,7 @@ abbrev pub tile_of : LocalRule → Strip → List ℕ → Tile
 tile_of r s walk =
     tile r.dimension (periods_for s (length walk)) s.nodes (map (symbol_of r s walk) (range_with_len 0 (volume (periods_for s (length walk)) * s.nodes)))
 
-module _ (r : LocalRule) (s : Strip) (walk : List ℕ) (rule : IsRule r) (for : IsFor r s) (closed : IsClosedWalk r s walk) where
+module _ (r : LocalRule) (s : Strip) (walk : List ℕ) (rule : IsRule r) (for : IsFor r s) (numbers : AreDigits r.symbols) (closed : IsClosedWalk r s walk) where
   is_tile : IsTile (tile_of r s walk)
   is_tile = record {
     some_dimension = rule.dimension.0;
@@ -82,7 +72,7 @@ module _ (r : LocalRule) (s : Strip) (walk : List ℕ) (rule : IsRule r) (for : 
   }
 
   symbol_below : (k : ℕ) → symbol_of r s walk k < r.symbols
-  symbol_below k = below_at r.symbols (digits r.symbols (cells s) (last_slice r s (slice_index walk (k / s.nodes % length walk)))) (k / s.nodes / length walk * s.nodes + k % s.nodes) rule.symbols.0 (digits_below r.symbols (cells s) (last_slice r s (slice_index walk (k / s.nodes % length walk))) rule.symbols.0)
+  symbol_below k = below_at r.symbols (digits r.symbols (cells s) (last_slice r s (slice_index walk (k / s.nodes % length walk)))) (k / s.nodes / length walk * s.nodes + k % s.nodes) rule.symbols.0 (numbers.below (cells s) (last_slice r s (slice_index walk (k / s.nodes % length walk))) rule.symbols.0)
 
   all_known : All (λ d. d < r.symbols) (tile_of r s walk).symbols
   all_known k d lt =
@@ -129,13 +119,13 @@ module _ (r : LocalRule) (s : Strip) (walk : List ℕ) (rule : IsRule r) (for : 
       let ds = digits r.symbols (cells s) (last_slice r s (state_at r s walk x)) in
       let n = 1 * cells s in
       let f_len = length-map-range_with_len f 0 n in
-      let d_len = length-digits r.symbols (cells s) (last_slice r s (state_at r s walk x)) in
+      let d_len = numbers.each (cells s) (last_slice r s (state_at r s walk x)) in
       ext_get_or 0 (map f (range_with_len 0 n)) ds (omega (arith, f_len, d_len))
       (λ k lt.
       let below : k < n = omega (arith, lt, f_len) in
       get_or-map-range_with_len f 0 n k k 0 below (omega arith) ∙ symbol_there x k (omega (arith, below)))
 
-  module _ (numbers : AreDigits r.symbols) (edges : AreEdgesOf r s (tile_look (tile_of r s walk))) where
+  module _ (edges : AreEdgesOf r s (tile_look (tile_of r s walk))) where
     step_at : (x : ℤ) → Follows r s (state_at r s walk x) (state_at r s walk (x +ℤ pos 1))
     step_at x = follows r s (state_at r s walk x) (state_at r s walk (x +ℤ pos 1)) (joined_round r s walk closed x)
 

@@ -13,7 +13,8 @@ use Rattle.dd_transfer.specs.declared.strip.Strip.{Strip}
 use Rattle.dd_transfer.specs.Windows.{IsFor, positions}
 use Rattle.dd_transfer.specs.Transfers.{IsStrip, strip_for}
 use Rattle.dd_transfer.specs.Certificates.{ArePotentials, IsDensityCertificate, IsEmptyCertificate, potential_of, walk_weight}
-use Rattle.dd_transfer.specs.Slices.{RepeatsAcross, AreDigits, AreEdgesOf, state_from, number_of}
+use Rattle.dd_transfer.specs.Slices.{RepeatsAcross, state_from, number_of}
+use Rattle.dd_transfer.specs.Laws.{AreDigits, AreEdgesOf}
 use Rattle.dd_strips.specs.Strips.{IsAdmissibleStrip, LivesOnStrip, LivesNowhere, slices_weight, tile_weight}
 use Rattle.dd_strips.specs.Claims.{IsHeavy, IsShortStrip, StripLeast, StripEmpty, spread_of}
 use Rattle.dd_strips.proofs.Walks.{IsStep, walk_weighs, walk_is_heavy, walk_is_short}
@@ -133,7 +134,7 @@ module _ (r : LocalRule) (s : Strip) (rule : IsRule r) (for : IsFor r s) (edges 
   -- the closed walk is a configuration of its mean
   module _ (numbers : AreDigits r.symbols) (ws : List ℕ) (p q : ℕ) (walk : List ℕ) (ps : List ℤ) (c : IsDensityCertificate r s ws p q walk ps) where
     cycle_edges : AreEdgesOf r s (tile_look (tile_of r s walk))
-    cycle_edges = edges (tile_look (tile_of r s walk)) (tile_repeats r s (tile_of r s walk) for (on_strip r s walk rule for c.closed))
+    cycle_edges = edges (tile_look (tile_of r s walk)) (tile_repeats r s (tile_of r s walk) for (on_strip r s walk rule for numbers c.closed))
 
     density_of : (t : Tile) → LivesOnStrip r s t → p * volume t.periods ≤ q * tile_weight ws t
     density_of t on =
@@ -145,14 +146,14 @@ module _ (r : LocalRule) (s : Strip) (rule : IsRule r) (for : IsFor r s) (edges 
     cycle_density =
         let here : p * (positions s * length walk) ≡ q * walk_weight r s ws walk = exactly p q c.m c.l (length walk) (positions s) (walk_weight r s ws walk) c.mean.positive c.density.same c.mean.same in
         ap (λ (v : ℕ). p * v) (volume_is s (tile_of r s walk) refl refl)
-        ∙ (here ∙ ap (λ (w : ℕ). q * w) (sym (cycle_weighs r s walk rule for c.closed numbers cycle_edges ws)))
+        ∙ (here ∙ ap (λ (w : ℕ). q * w) (sym (cycle_weighs r s walk rule for numbers c.closed cycle_edges ws)))
 
     pub strip_least_law : StripLeast r s ws p q c.l c.m (spread_of ps)
     strip_least_law = record {
       density = record {
         positive = c.density.positive;
         some = tile_of r s walk;
-        lives = lives_on_strip r s walk rule for c.closed numbers cycle_edges;
+        lives = lives_on_strip r s walk rule for numbers c.closed cycle_edges;
         density = cycle_density;
         least = density_of;
       };

@@ -9,3 +9,4 @@ pub mod Modular
 pub mod Rounds
 pub mod Cycles
 pub mod Densities
+pub mod OneDensity

@@ -15,7 +15,8 @@ use Rattle.dd_pattern.specs.Tile.{Tile, IsTile, tile_index, tile_look}
 use Rattle.dd_formula.specs.LocalRule.{LocalRule}
 use Rattle.dd_transfer.specs.declared.strip.Strip.{Strip}
 use Rattle.dd_transfer.specs.Windows.{IsFor, cells, positions, cell_at}
-use Rattle.dd_transfer.specs.Slices.{RepeatsAcross, HasSlices, AreEdgesOf, across, cell_from, symbols_from}
+use Rattle.dd_transfer.specs.Slices.{RepeatsAcross, HasSlices, across, cell_from, symbols_from}
+use Rattle.dd_transfer.specs.Laws.{AreEdgesOf}
 use Rattle.dd_strips.specs.Strips.{slices_weight, tile_weight}
 use Rattle.dd_strips.proofs.Residues.{residue_below, residue_small, residue_round}
 use Rattle.dd_strips.proofs.Sums.{total, total-same, total-rows, total-turned, total-round, sum_by-listed, sum_by-places}

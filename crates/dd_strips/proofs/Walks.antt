@@ -15,7 +15,8 @@ use Rattle.dd_transfer.specs.declared.strip.Strip.{Strip}
 use Rattle.dd_transfer.specs.Windows.{cells, positions}
 use Rattle.dd_transfer.specs.Transfers.{IsEdge, slice_weight}
 use Rattle.dd_transfer.specs.Certificates.{ArePotentials, IsEmptyCertificate, potential_of}
-use Rattle.dd_transfer.specs.Slices.{HasSlices, IsKeptFrom, AreEdgesOf, cell_from, symbols_from, slices_from, state_from}
+use Rattle.dd_transfer.specs.Slices.{HasSlices, IsKeptFrom, cell_from, symbols_from, slices_from, state_from}
+use Rattle.dd_transfer.specs.Laws.{AreEdgesOf}
 use Rattle.dd_strips.specs.Strips.{slices_weight}
 use Rattle.dd_strips.specs.Claims.{lowest, highest, spread_of}
 use Rattle.dd_strips.proofs.Extremes.{lowest_least, highest_greatest, at_most_greatest}

@@ -1,10 +1,13 @@
 //! The laws of strips, as contracts of calls that do nothing.
-ghost use Rattle.std.specs.Prelude.{ℕ, ℤ, List, ◌+◌};
+ghost use Rattle.std.specs.Prelude.{ℕ, ℤ, List, ◌+◌, ◌≡◌};
+ghost use Rattle.std.specs.Int.{IsGcd};
 ghost use Rattle.dd_expansion.specs.Limits.{greatest};
 ghost use Rattle.dd_formula.specs.LocalRule.{LocalRule, IsRule};
 ghost use Rattle.dd_counts.specs.Rules.{window};
 ghost use Rattle.dd_transfer.specs.Transfers.{IsStrip, strip_for};
 ghost use Rattle.dd_transfer.specs.Certificates.{IsDensityCertificate, IsEmptyCertificate};
+ghost use Rattle.dd_transfer.specs.declared.strip.Strip.{Strip};
+ghost use Rattle.dd_strips.specs.Strips.{IsLeastDensity};
 ghost use Rattle.dd_strips.specs.Claims.{StripLeast, StripEmpty, spread_of};
 
 use dd_transfer::slices_are_walks;
@@ -27,3 +30,9 @@ pub fn strip_empty()
 {
     slices_are_walks();
 }
+
+/// Does nothing; its contract says that a strip has one least density: two fractions in lowest terms that are it are the same.
+pub fn one_density()
+    ensures { (r : LocalRule) (s : Strip) (ws : List ℕ) (p q a b : ℕ) → IsLeastDensity r s ws p q → IsLeastDensity r s ws a b →
+        IsGcd p q 1 → IsGcd a b 1 → (p ≡ a) × (q ≡ b) }
+{}

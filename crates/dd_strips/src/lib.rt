@@ -3,4 +3,4 @@
 
 mod laws;
 
-pub use laws::{strip_empty, strip_least};
+pub use laws::{one_density, strip_empty, strip_least};

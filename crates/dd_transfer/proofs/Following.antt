@@ -18,7 +18,8 @@ use Rattle.dd_counts.specs.Rules.{least_x, greatest_x, slices, states, window}
 use Rattle.dd_transfer.specs.declared.strip.Strip.{Strip}
 use Rattle.dd_transfer.specs.Windows.{IsFor, IsKept, IsWindow, positions, window_look, numbered, stand}
 use Rattle.dd_transfer.specs.Transfers.{IsEdge}
-use Rattle.dd_transfer.specs.Slices.{RepeatsAcross, IsInSlices, HasSlices, IsKeptFrom, AreEdgesOf, slices_from, state_from, window_from}
+use Rattle.dd_transfer.specs.Slices.{RepeatsAcross, IsInSlices, HasSlices, IsKeptFrom, slices_from, state_from, window_from}
+use Rattle.dd_transfer.specs.Laws.{AreEdgesOf}
 use Rattle.dd_transfer.proofs.Stands.{between, le_from, least_low, greatest_high, reads_between, within_window}
 use Rattle.dd_transfer.proofs.Slicing.{given, symbols_joined, slices_joined, slices_longer, slices_below, digits_from, slice_weighs}
 use Rattle.dd_transfer.proofs.Moving.{along, part, IsInside, place_same, plus_zero, if_some, part_same, part_inside, moved_inside, truth_same}

@@ -9,7 +9,9 @@ use Rattle.std.proofs.lemmas.List.FromFn.{map-range_with_len_more, length-map-ra
 use Rattle.std.proofs.lemmas.List.Elements.{All-head, All-tail}
 use Rattle.std.proofs.lemmas.List.Sums.{fold-append}
 use Rattle.dd_transfer.specs.Windows.{digits}
-use Rattle.dd_transfer.specs.Slices.{number_of, AreDigits}
+use Rattle.dd_transfer.specs.Slices.{number_of}
+use Rattle.dd_transfer.specs.Laws.{AreDigits}
+use Rattle.dd_transfer.proofs.Digits.{digits_length, digits_below}
 
 abbrev pub step : ℕ → ℕ → ℕ → ℕ
 step base n d = n * base + d
@@ -76,7 +78,7 @@ number_below base (d ∷ ds) ok =
     omega (arith, rest, whole, room, pow-suc base (length ds))
 
 pub are_digits : (base : ℕ) → AreDigits base
-are_digits base = record { digits_of = digits_of base; number_is = number_is base; joined = joined base }
+are_digits base = record { each = digits_length base; below = digits_below base; digits_of = digits_of base; number_is = number_is base; joined = joined base }
 
 -- lists of the values of a function at the first numbers
 abbrev pub listed : (ℕ → ℕ) → ℕ → List ℕ

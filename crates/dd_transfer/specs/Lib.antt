@@ -8,3 +8,4 @@ pub mod Transfers
 pub mod Certificates
 -- the slices of a look, and the edges that they make
 pub mod Slices
+pub mod Laws
