@@ -4,7 +4,7 @@ use Rattle.std.specs.Int.{int_min, int_max}
 use Rattle.std.specs.List.{fold}
 use Rattle.std.proofs.lemmas.Int.{ints}
 use Rattle.dd_expansion.specs.Limits.{greatest}
-use Rattle.dd_strips.specs.Claims.{lowest, highest}
+use Rattle.dd_strips.specs.Claims.{least_potential, greatest_potential}
 
 min_left : (x y : ℤ) → int_min x y ≤ℤ x
 min_left x y = grind (arith, ints)
@@ -39,12 +39,12 @@ fold_greatest p [] k h = absurd (omega arith)
 fold_greatest p (q ∷ ps) zero h = along _ _ _ (max_right p q) (fold_high (int_max p q) ps)
 fold_greatest p (q ∷ ps) (suc k) h = fold_greatest (int_max p q) ps k (omega arith)
 
-pub lowest_least : (ps : List ℤ) (k : ℕ) → k < length ps → lowest ps ≤ℤ get_or ps k (pos 0)
+pub lowest_least : (ps : List ℤ) (k : ℕ) → k < length ps → least_potential ps ≤ℤ get_or ps k (pos 0)
 lowest_least [] k h = absurd (omega arith)
 lowest_least (p ∷ ps) zero h = fold_low p ps
 lowest_least (p ∷ ps) (suc k) h = fold_least p ps k (omega arith)
 
-pub highest_greatest : (ps : List ℤ) (k : ℕ) → k < length ps → get_or ps k (pos 0) ≤ℤ highest ps
+pub highest_greatest : (ps : List ℤ) (k : ℕ) → k < length ps → get_or ps k (pos 0) ≤ℤ greatest_potential ps
 highest_greatest [] k h = absurd (omega arith)
 highest_greatest (p ∷ ps) zero h = fold_high p ps
 highest_greatest (p ∷ ps) (suc k) h = fold_greatest p ps k (omega arith)

@@ -18,7 +18,7 @@ use Rattle.dd_transfer.specs.Certificates.{ArePotentials, IsEmptyCertificate, po
 use Rattle.dd_transfer.specs.Slices.{HasSlices, IsKeptFrom, cell_from, symbols_from, slices_from, state_from}
 use Rattle.dd_transfer.specs.Laws.{AreEdgesOf}
 use Rattle.dd_strips.specs.Strips.{slices_weight}
-use Rattle.dd_strips.specs.Claims.{lowest, highest, spread_of}
+use Rattle.dd_strips.specs.Claims.{least_potential, greatest_potential, spread_of}
 use Rattle.dd_strips.proofs.Extremes.{lowest_least, highest_greatest, at_most_greatest}
 
 -- the window from x on is there, and the rule keeps it
@@ -106,7 +106,7 @@ module _ (r : LocalRule) (s : Strip) (look : Look) (edges : AreEdgesOf r s look)
         let v = state_from r s look (x +ℤ pos (suc i)) in
         let v_lt : v < states r (positions s) =
         subst (λ (z : ℤ). state_from r s look z < states r (positions s)) (one_more x i) (subst (λ (n : ℕ). n < states r (positions s)) (sym last.leads) (mod_below _ _ (some_state (state_from r s look x) _ first.state))) in
-        bounded (potential_of ps u) (potential_of ps v) (lowest ps) (highest ps) (m * suc i) (l * slices_weight s ws look (x +ℤ pos (window r)) (suc i)) (walk_weighs x (suc i) steps)
+        bounded (potential_of ps u) (potential_of ps v) (least_potential ps) (greatest_potential ps) (m * suc i) (l * slices_weight s ws look (x +ℤ pos (window r)) (suc i)) (walk_weighs x (suc i) steps)
         (lowest_least ps v (omega (arith, v_lt, potentials.each))) (highest_greatest ps u (omega (arith, first.state, potentials.each)))
       where
         some_state : (u n : ℕ) → u < n → 0 < n

@@ -27,14 +27,14 @@ pub record StripEmpty (r : LocalRule) (s : Strip) (k : ℕ) : Type 0 where
   pub short : IsShortStrip r s k
   pub nowhere : LivesNowhere r s
 
-abbrev pub lowest : List ℤ → ℤ
-lowest [] = pos 0
-lowest (p ∷ ps) = fold int_min p ps
+abbrev pub least_potential : List ℤ → ℤ
+least_potential [] = pos 0
+least_potential (p ∷ ps) = fold int_min p ps
 
-abbrev pub highest : List ℤ → ℤ
-highest [] = pos 0
-highest (p ∷ ps) = fold int_max p ps
+abbrev pub greatest_potential : List ℤ → ℤ
+greatest_potential [] = pos 0
+greatest_potential (p ∷ ps) = fold int_max p ps
 
 -- the greatest potential less the least
 abbrev pub spread_of : List ℤ → ℕ
-spread_of ps = unsigned_abs (highest ps -ℤ lowest ps)
+spread_of ps = unsigned_abs (greatest_potential ps -ℤ least_potential ps)
