@@ -1,0 +1,2 @@
+//! Strips of every length: what a closed walk of a transfer graph and its potentials, or ranks, say of them.
+#![tactic(auto)]
