@@ -1,10 +1,31 @@
-// The greatest common divisor, by Euclid's rule.
-ghost use Rattle.std.specs.Prelude.{◌≡◌, ◌<◌, ◌≤◌, ◌^◌};
+// The greatest common divisor, by Euclid's rule: in machine words, once both numbers fit 64 bits.
+ghost use Rattle.std.specs.Prelude.{◌≡◌, ◌<◌, ◌≤◌, ◌/◌, ◌^◌};
 ghost use Rattle.std.specs.Int.RustNames.{unsigned_abs, int_div};
 ghost use lib.IntN.{pos};
 ghost use Rattle.dd_fraction.specs.Divisor.{greatest_common};
 
+const WORD: u128 = 18_446_744_073_709_551_615;
+
 pub fn greatest_common_divisor(a: u128, b: u128) -> u128
+    ensures { result ≡ greatest_common a b }
+{
+    let mut x = a;
+    let mut y = b;
+    while y > WORD {
+        let rest = x % y;
+        x = y;
+        y = rest;
+    }
+    if x <= WORD {
+        return word_divisor(x as u64, y as u64) as u128;
+    }
+    if y == 0 {
+        return x;
+    }
+    word_divisor(y as u64, (x % y) as u64) as u128
+}
+
+fn word_divisor(a: u64, b: u64) -> u64
     ensures { result ≡ greatest_common a b }
 {
     let mut x = a;
@@ -32,5 +53,19 @@ pub fn quotient(num: i128, divisor: u128) -> i128
     requires below { divisor < 2 ^ 127 }
     ensures { result ≡ int_div num (pos divisor) }
 {
-    num / divisor as i128
+    let divisor = divisor as i128;
+    match (i64::try_from(num), i64::try_from(divisor)) {
+        (Ok(num), Ok(divisor)) => i128::from(num / divisor),
+        _ => num / divisor,
+    }
+}
+
+pub fn size_quotient(size: u128, divisor: u128) -> u128
+    requires { 0 < divisor }
+    ensures { result ≡ size / divisor }
+{
+    match (u64::try_from(size), u64::try_from(divisor)) {
+        (Ok(size), Ok(divisor)) => u128::from(size / divisor),
+        _ => size / divisor,
+    }
 }
