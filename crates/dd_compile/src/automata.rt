@@ -21,7 +21,7 @@ use crate::values::compile_cases;
 use dd_circuit::{Circuit, Signal};
 use dd_formula::Automaton;
 use dd_lattice;
-use dd_lattice::shift;
+use dd_lattice::{Position, shift};
 use std::alloc::{AllocError, Global};
 
 /// Adds the gates of the automaton's value at a cell over an alphabet of so many symbols, and gives for each symbol the signal
@@ -151,11 +151,22 @@ fn compile_inner(
 {
     let mut values = Inputs::new(alloc);
     for cell in cells {
-        let position = shift(&cell.position, &at.position).unwrap();
-        let node = cell.node;
-        let there = dd_lattice::Cell { position, node };
+        let there = cell_near(cell, &at.position);
         let signals = compile_near(circuit, alloc, automaton, symbols, &there, inputs)?;
         values.add(there, signals)?;
     }
     Ok(values)
+}
+
+/// The cell that is counted from a position.
+fn cell_near(cell: &dd_lattice::Cell, at: &Position) -> dd_lattice::Cell
+    requires near { is_near cell.now ≡ true }
+    requires inside { extent at.now ≤ 2 ^ 20 - 16 }
+    ensures { result ≡ shifted at.now cell.now }
+{
+    let Some(position) = shift(&cell.position, at) else {
+        unreachable!()
+    };
+    let node = cell.node;
+    dd_lattice::Cell { position, node }
 }
