@@ -1,19 +1,18 @@
 -- The windows of an admissible filling of a strip are steps: what the rule reads in them is there, so it is true there.
-use Rattle.std.proofs.Common.{◌≡◌, ℕ, ◌+◌, ◌<◌, ◌≤◌, Bool, true, false, List, [], length, get_or, ℤ, pos, ◌+ℤ◌, ◌≤ℤ◌, Option, Some, None, refl, ap, sym, ◌∙◌, arith, inl, inr}
-use Rattle.std.specs.Prelude.{◌<ℤ◌, ◌&&◌, int_le, int_lt, nat_lt, is_some, IfSome, IsSomeAnd}
+use Rattle.std.proofs.Common.{◌≡◌, ℕ, ◌+◌, ◌<◌, ◌≤◌, Bool, true, false, List, [], length, get_or, ℤ, pos, ◌+ℤ◌, ◌≤ℤ◌, Option, Some, None, ap, ◌∙◌, arith, inl, inr}
+use Rattle.std.specs.Prelude.{◌<ℤ◌, int_le, int_lt, is_some, IfSome, IsSomeAnd}
 use Rattle.std.proofs.Math.ListN.{get_or-eq_default}
 use Rattle.std.proofs.lemmas.Int.{ints}
 use Rattle.std.proofs.lemmas.Bool.{and_from, lt-ltb, cases_lt}
 use Rattle.std.proofs.lemmas.List.Elements.{All-get_or}
-use Rattle.dd_lattice.specs.declared.position.Cell.{Cell}
 use Rattle.dd_topology.specs.Sets.{IsRow, row_allows}
 use Rattle.dd_pattern.specs.Reading.{Look}
 use Rattle.dd_formula.specs.LocalRule.{LocalRule, IsRule, rule_allows}
 use Rattle.dd_counts.specs.Rules.{window}
 use Rattle.dd_transfer.specs.declared.strip.Strip.{Strip}
-use Rattle.dd_transfer.specs.Slices.{HasSlices, IsInSlices, AreEdgesOf}
+use Rattle.dd_transfer.specs.Slices.{HasSlices, AreEdgesOf}
 use Rattle.dd_strips.specs.Strips.{IsAdmissibleStrip, is_slice_cell}
-use Rattle.dd_strips.proofs.Walks.{IsStep, AreSteps}
+use Rattle.dd_strips.proofs.Walks.{AreSteps}
 
 -- an allowed symbol is one of the alphabet
 within_row : (row : List Bool) (t : ℕ) → get_or row t false ≡ true → t < length row

@@ -5,3 +5,7 @@ pub mod Extremes
 pub mod Walks
 pub mod Fillings
 pub mod Tiles
+pub mod Modular
+pub mod Rounds
+pub mod Cycles
+pub mod Densities

@@ -1,21 +1,21 @@
 -- Configurations with the strip's periods and no shear: every slice of them is there, they repeat after their period in the first
 -- axis, and so many slices, wherever they begin, weigh what the fundamental box does.
-use Rattle.std.proofs.Common.{◌≡◌, ℕ, zero, suc, ◌+◌, ◌*◌, ◌/◌, ◌%◌, ◌<◌, ◌≤◌, Bool, true, List, [], ◌∷◌, length, map, get_or, ℤ, pos, ◌+ℤ◌, ◌≤ℤ◌, Option, Some, None, refl, ap, sym, ◌∙◌, subst, arith}
+use Rattle.std.proofs.Common.{◌≡◌, ℕ, zero, suc, ◌+◌, ◌*◌, ◌/◌, ◌%◌, ◌<◌, Bool, List, [], ◌∷◌, length, map, get_or, ℤ, pos, ◌+ℤ◌, Option, None, refl, ap, sym, ◌∙◌, arith}
 use Rattle.std.specs.Prelude.{◌-ℤ◌, ◌*ℤ◌, cond, nat_lt, slice_get, slice_index, unwrap_or, IsSomeAnd, sum_by}
 use Rattle.std.specs.List.{All, range_with_len}
 use Rattle.std.proofs.Math.Nat.{mod-eq_of_lt, div-eq_of_lt}
 use Rattle.std.proofs.lemmas.Int.{ints}
 use Rattle.std.proofs.lemmas.Bool.{lt-ltb}
 use Rattle.std.proofs.lemmas.Nat.{mul-add-lt, mod-mul-add, div-mul-add, div-add-mod', mod_below, div_below}
-use Rattle.dd_lattice.specs.Place.{Place, place}
+use Rattle.dd_lattice.specs.Place.{place}
 use Rattle.dd_lattice.specs.Cells.{cell}
 use Rattle.dd_lattice.specs.declared.position.Cell.{Cell}
-use Rattle.dd_pattern.specs.Periods.{residue, quotient, unsheared, volume}
+use Rattle.dd_pattern.specs.Periods.{residue, quotient}
 use Rattle.dd_pattern.specs.Tile.{Tile, IsTile, tile_index, tile_look}
 use Rattle.dd_formula.specs.LocalRule.{LocalRule}
 use Rattle.dd_transfer.specs.declared.strip.Strip.{Strip}
 use Rattle.dd_transfer.specs.Windows.{IsFor, cells, positions, cell_at}
-use Rattle.dd_transfer.specs.Slices.{RepeatsAcross, HasSlices, AreEdgesOf, across, cell_from, symbols_from, slices_from}
+use Rattle.dd_transfer.specs.Slices.{RepeatsAcross, HasSlices, AreEdgesOf, across, cell_from, symbols_from}
 use Rattle.dd_strips.specs.Strips.{slices_weight, tile_weight}
 use Rattle.dd_strips.proofs.Residues.{residue_below, residue_small, residue_round}
 use Rattle.dd_strips.proofs.Sums.{total, total-same, total-rows, total-turned, total-round, sum_by-listed, sum_by-places}
@@ -115,29 +115,29 @@ module _ (r : LocalRule) (s : Strip) (t : Tile) (for : IsFor r s) (on : IsOnStri
       ap (λ (f : ℕ → ℕ). map f (range_with_len 0 (n * cells s))) (λ i k. same k i)
 
   -- the symbol of a cell of a slice
-  slice_symbol : (i k : ℕ) → i < t.periods.x → k < cells s → unwrap_or (tile_look t (cell_from s (pos i) k)) 0 ≡ get_or t.symbols ((k / s.nodes * t.periods.x + i) * s.nodes + k % s.nodes) 0
-  slice_symbol i k i_lt k_lt =
+  pub slice_symbol : (x : ℤ) (k : ℕ) → k < cells s →
+      unwrap_or (tile_look t (cell_from s x k)) 0 ≡ get_or t.symbols ((k / s.nodes * t.periods.x + residue x t.periods.x) * s.nodes + k % s.nodes) 0
+  slice_symbol x k k_lt =
       let p = t.periods in
+      let i = residue x p.x in
       let row = k / s.nodes in
-      let c = cell_at s (pos i) k in
-      let first : cell_from s (pos i) k ≡ c =
-      ap (λ (q : ℕ). cell_at s (pos i +ℤ pos q) (k % cells s)) (div-eq_of_lt k_lt)
-      ∙ (ap (λ (j : ℕ). cell_at s (pos i +ℤ pos 0) j) (mod-eq_of_lt k_lt) ∙ ap (λ (z : ℤ). cell_at s z k) (plus_zero (pos i))) in
+      let c = cell_at s x k in
+      let first : cell_from s x k ≡ c =
+      ap (λ (q : ℕ). cell_at s (x +ℤ pos q) (k % cells s)) (div-eq_of_lt k_lt)
+      ∙ (ap (λ (j : ℕ). cell_at s (x +ℤ pos 0) j) (mod-eq_of_lt k_lt) ∙ ap (λ (z : ℤ). cell_at s z k) (plus_zero x)) in
       let rows : row < s.y * s.z = div_below k s.nodes (s.y * s.z) for.sized.nodes_some (omega arith) in
       let y_lt : row % s.y < s.y = mod_below row s.y for.sized.y_some in
       let z_lt : row / s.y < s.z = div_below row s.y s.z for.sized.y_some (omega arith) in
       let node : k % s.nodes < t.nodes = omega (arith, mod_below k s.nodes for.sized.nodes_some, on.nodes) in
-      let x_is : residue (pos i) p.x ≡ i = residue_small i p.x i_lt in
       let y_is : residue (pos (row % s.y)) p.y ≡ row % s.y = residue_small (row % s.y) p.y (omega (arith, y_lt, on.y_period)) in
       let z_is : residue (pos (row / s.y)) p.z ≡ row / s.y = residue_small (row / s.y) p.z (omega (arith, z_lt, on.z_period)) in
       let at : tile_index t c ≡ (row * p.x + i) * s.nodes + k % s.nodes =
       index_straight c
-      ∙ (ap (λ (v : ℕ). spot t v (residue (pos (row % s.y)) p.y) (residue (pos (row / s.y)) p.z) (k % s.nodes)) x_is
       ∙ (ap (λ (v : ℕ). spot t i v (residue (pos (row / s.y)) p.z) (k % s.nodes)) y_is
       ∙ (ap (λ (v : ℕ). spot t i (row % s.y) v (k % s.nodes)) z_is
       ∙ (ap (λ (v : ℕ). ((row / s.y * v + row % s.y) * p.x + i) * t.nodes + k % s.nodes) on.y_period
       ∙ (ap (λ (v : ℕ). ((row / s.y * s.y + row % s.y) * p.x + i) * v + k % s.nodes) on.nodes
-      ∙ ap (λ (v : ℕ). (v * p.x + i) * s.nodes + k % s.nodes) (div-add-mod' row s.y)))))) in
+      ∙ ap (λ (v : ℕ). (v * p.x + i) * s.nodes + k % s.nodes) (div-add-mod' row s.y))))) in
       ap (λ (d : Cell). unwrap_or (tile_look t d) 0) first
       ∙ (ap (λ (b : Bool). unwrap_or (cond b (slice_get t.symbols (tile_index t c)) None) 0) (lt-ltb _ _ node)
       ∙ (value_at t.symbols (tile_index t c) ∙ ap (λ (n : ℕ). get_or t.symbols n 0) at))
@@ -158,7 +158,8 @@ module _ (r : LocalRule) (s : Strip) (t : Tile) (for : IsFor r s) (on : IsOnStri
         let many : 1 * cells s ≡ positions s * s.nodes = omega arith in
         sum_by-listed (slice_index ws) f (1 * cells s)
         ∙ (ap (total (λ k. slice_index ws (f k))) many
-        ∙ (total-same (λ k. slice_index ws (f k)) g (positions s * s.nodes) (λ k below. ap (slice_index ws) (slice_symbol i k lt (omega (arith, below))))
+        ∙ (total-same (λ k. slice_index ws (f k)) g (positions s * s.nodes) (λ k below. ap (slice_index ws) (slice_symbol (pos i) k (omega (arith, below)))
+        ∙ ap (λ (v : ℕ). at ((k / s.nodes * t.periods.x + v) * s.nodes + k % s.nodes)) (residue_small i t.periods.x lt))
         ∙ (total-rows g (positions s) s.nodes
         ∙ total-same (λ row. total (λ a. g (row * s.nodes + a)) s.nodes) (λ row. here row i) (positions s)
         (λ row _. total-same (λ a. g (row * s.nodes + a)) (λ a. at ((row * t.periods.x + i) * s.nodes + a)) s.nodes

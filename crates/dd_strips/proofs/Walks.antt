@@ -1,6 +1,6 @@
 -- Slices that the rule keeps are a walk: along it the potentials rise by at most l times what the slices weigh less m for each, and
 -- the ranks fall. Both are sums over the edges, which telescope.
-use Rattle.std.proofs.Common.{◌≡◌, ℕ, zero, suc, ◌+◌, ◌*◌, ◌%◌, ◌<◌, ◌≤◌, List, ◌++◌, length, map, ℤ, pos, ◌+ℤ◌, ◌≤ℤ◌, unsigned_abs, refl, ap, sym, ◌∙◌, subst, arith}
+use Rattle.std.proofs.Common.{◌≡◌, ℕ, zero, suc, ◌+◌, ◌*◌, ◌<◌, ◌≤◌, List, map, ℤ, pos, ◌+ℤ◌, ◌≤ℤ◌, unsigned_abs, ap, sym, ◌∙◌, subst, arith}
 use Rattle.std.specs.Prelude.{◌<ℤ◌, ◌-ℤ◌, slice_index, unwrap_or}
 use Rattle.std.specs.List.{range_with_len}
 use Rattle.std.proofs.lemmas.Int.{ints}
@@ -15,7 +15,7 @@ use Rattle.dd_transfer.specs.declared.strip.Strip.{Strip}
 use Rattle.dd_transfer.specs.Windows.{cells, positions}
 use Rattle.dd_transfer.specs.Transfers.{IsEdge, slice_weight}
 use Rattle.dd_transfer.specs.Certificates.{ArePotentials, IsEmptyCertificate, potential_of}
-use Rattle.dd_transfer.specs.Slices.{HasSlices, IsInSlices, IsKeptFrom, AreEdgesOf, cell_from, symbols_from, slices_from, state_from}
+use Rattle.dd_transfer.specs.Slices.{HasSlices, IsKeptFrom, AreEdgesOf, cell_from, symbols_from, slices_from, state_from}
 use Rattle.dd_strips.specs.Strips.{slices_weight}
 use Rattle.dd_strips.specs.Claims.{lowest, highest, spread_of}
 use Rattle.dd_strips.proofs.Extremes.{lowest_least, highest_greatest, at_most_greatest}

@@ -1,5 +1,5 @@
 -- A worked row: the strip of one position and one node, with the symbol 1 at each even x and 0 at each odd one.
-use Rattle.std.proofs.Common.{◌≡◌, ℕ, ◌+◌, ◌%◌, [], ◌∷◌, ℤ, pos, negsuc, unsigned_abs, Some, refl}
+use Rattle.std.proofs.Common.{◌≡◌, ◌+◌, ◌%◌, [], ◌∷◌, pos, negsuc, unsigned_abs, Some, refl}
 use Rattle.dd_pattern.specs.Reading.{Look}
 use Rattle.dd_transfer.specs.Windows.{strip_of}
 use Rattle.dd_strips.specs.Strips.{slices_weight}

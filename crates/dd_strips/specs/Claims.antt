@@ -1,5 +1,5 @@
 -- What a certificate says of the strips of every length.
-use Rattle.std.specs.Prelude.{◌≡◌, ℕ, ◌+◌, ◌*◌, ◌≤◌, ℤ, pos, ◌+ℤ◌, ◌-ℤ◌, unsigned_abs, List, [], ◌∷◌}
+use Rattle.std.specs.Prelude.{ℕ, ◌+◌, ◌*◌, ◌≤◌, ℤ, pos, ◌+ℤ◌, ◌-ℤ◌, unsigned_abs, List, [], ◌∷◌}
 use Rattle.std.specs.Int.{int_min, int_max}
 use Rattle.std.specs.List.{fold}
 use Rattle.dd_pattern.specs.Reading.{Look}

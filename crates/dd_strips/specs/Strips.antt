@@ -1,5 +1,5 @@
 -- Strips: fillings of some slices, and configurations that repeat with the strip's periods in the axes after the first.
-use Rattle.std.specs.Prelude.{◌≡◌, ℕ, ◌+◌, ◌*◌, ◌<◌, ◌≤◌, ◌&&◌, Bool, ℤ, pos, ◌+ℤ◌, int_le, int_lt, nat_lt, is_some, List}
+use Rattle.std.specs.Prelude.{◌≡◌, ℕ, ◌*◌, ◌<◌, ◌≤◌, ◌&&◌, Bool, ℤ, pos, ◌+ℤ◌, int_le, int_lt, nat_lt, is_some, List}
 use Rattle.dd_lattice.specs.declared.position.Cell.{Cell}
 use Rattle.dd_pattern.specs.Reading.{Look}
 use Rattle.dd_pattern.specs.Periods.{volume}

@@ -1,6 +1,6 @@
 -- The windows of a look are edges of the transfer graph exactly where the rule is kept in them.
-use Rattle.std.proofs.Common.{◌≡◌, ℕ, ◌+◌, ◌-◌, ◌*◌, ◌%◌, ◌^◌, ◌<◌, ◌≤◌, Bool, true, List, [], ◌∷◌, ℤ, pos, ◌+ℤ◌, ◌≤ℤ◌, unsigned_abs, Option, refl, ap, sym, ◌∙◌, subst, arith}
-use Rattle.std.specs.Prelude.{◌<ℤ◌, ◌-ℤ◌, ◌↔◌, ◌&&◌, ◌||◌, max, nat_lt, is_some, IfSome}
+use Rattle.std.proofs.Common.{◌≡◌, ℕ, ◌+◌, ◌*◌, ◌%◌, ◌^◌, ◌<◌, true, List, [], ◌∷◌, ℤ, pos, ◌+ℤ◌, ◌≤ℤ◌, unsigned_abs, Option, refl, ap, sym, ◌∙◌, subst, arith}
+use Rattle.std.specs.Prelude.{◌<ℤ◌, ◌-ℤ◌, ◌↔◌, ◌&&◌, ◌||◌, nat_lt, is_some, IfSome}
 use Rattle.std.specs.List.{list_all}
 use Rattle.std.specs.Ordering.{int_eq}
 use Rattle.std.proofs.lemmas.Bool.{and_parts, and_from, ltb-true}
@@ -16,7 +16,7 @@ use Rattle.dd_formula.specs.LocalRule.{LocalRule, IsRule, is_of, is_true, reads_
 use Rattle.dd_formula.specs.Reach.{all_cells}
 use Rattle.dd_counts.specs.Rules.{least_x, greatest_x, slices, states, window}
 use Rattle.dd_transfer.specs.declared.strip.Strip.{Strip}
-use Rattle.dd_transfer.specs.Windows.{IsFor, IsKept, IsTrueAlong, IsWindow, positions, window_look, numbered, stand}
+use Rattle.dd_transfer.specs.Windows.{IsFor, IsKept, IsWindow, positions, window_look, numbered, stand}
 use Rattle.dd_transfer.specs.Transfers.{IsEdge}
 use Rattle.dd_transfer.specs.Slices.{RepeatsAcross, IsInSlices, HasSlices, IsKeptFrom, AreEdgesOf, slices_from, state_from, window_from}
 use Rattle.dd_transfer.proofs.Stands.{between, le_from, least_low, greatest_high, reads_between, within_window}

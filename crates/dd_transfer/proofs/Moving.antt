@@ -1,9 +1,8 @@
 -- The window of a look from x on says of the symbols, counted from x, what the look says: the rule is kept in the one exactly where
 -- it is kept in the other.
 use Rattle.std.proofs.Common.{◌≡◌, ℕ, zero, suc, ◌+◌, ◌*◌, ◌/◌, ◌%◌, ◌<◌, ◌≤◌, Bool, true, false, List, [], ◌∷◌, length, ℤ, pos, ◌+ℤ◌, ◌≤ℤ◌, unsigned_abs, Option, Some, None, refl, ap, sym, ◌∙◌, subst, arith, inl, inr}
-use Rattle.std.specs.Prelude.{◌<ℤ◌, ◌-ℤ◌, ◌↔◌, ◌&&◌, ◌||◌, cond, int_le, nat_lt, is_some, slice_get, unwrap_or, IfSome}
+use Rattle.std.specs.Prelude.{◌<ℤ◌, ◌&&◌, cond, int_le, nat_lt, is_some, slice_get, unwrap_or, IfSome}
 use Rattle.std.specs.List.{list_all}
-use Rattle.std.specs.Ordering.{int_eq}
 use Rattle.std.proofs.lemmas.Int.{ints}
 use Rattle.std.proofs.lemmas.Bool.{and_parts, and_from, cases_lt, lt-ltb, ltb-true}
 use Rattle.std.proofs.lemmas.Nat.{mul-add-lt, mod-mul-add, div-mul-add}
@@ -14,18 +13,17 @@ use Rattle.dd_lattice.specs.declared.position.Cell.{Cell}
 use Rattle.dd_pattern.specs.Reading.{Look}
 use Rattle.dd_pattern.specs.Periods.{residue}
 use Rattle.dd_expansion.specs.Placed.{is_flat}
-use Rattle.dd_formula.specs.LocalRule.{LocalRule, IsRule, is_of, is_true, reads_at, rule_allows}
-use Rattle.dd_formula.specs.Allowed.{AreAllowed}
+use Rattle.dd_formula.specs.LocalRule.{LocalRule, IsRule, is_of, is_true, reads_at}
 use Rattle.dd_formula.specs.Reach.{all_cells}
 use Rattle.dd_formula.proofs.RuleLaws.{truth_by_given}
 use Rattle.dd_counts.specs.Rules.{least_x, greatest_x, window}
 use Rattle.dd_transfer.specs.declared.strip.Strip.{Strip}
-use Rattle.dd_transfer.specs.Windows.{IsFor, IsKept, IsTrueAlong, IsWindow, cells, cell_at, slice_index_of, window_index, window_look, numbered, stand}
-use Rattle.dd_transfer.specs.Slices.{RepeatsAcross, IsInSlices, HasSlices, IsKeptFrom, across, cell_from, symbols_from, window_from}
+use Rattle.dd_transfer.specs.Windows.{IsFor, cells, cell_at, slice_index_of, window_index, window_look, stand}
+use Rattle.dd_transfer.specs.Slices.{RepeatsAcross, IsInSlices, HasSlices, across, cell_from, symbols_from}
 use Rattle.dd_transfer.proofs.Stands.{between, le_from, le_to, reads_between, within_window}
 use Rattle.dd_transfer.proofs.Places.{slice_below, cell_at_index}
 use Rattle.dd_transfer.proofs.Numbers.{listed-at, length-listed}
-use Rattle.dd_transfer.proofs.Slicing.{Given, given, symbol_from, symbol_given, digits_from}
+use Rattle.dd_transfer.proofs.Slicing.{given, symbol_from, symbol_given}
 
 -- the position x along the first axis
 abbrev pub along : ℤ → Place
