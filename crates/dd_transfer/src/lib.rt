@@ -12,3 +12,4 @@ mod windows;
 pub use building::graph;
 pub use fault::TransferFault;
 pub use graphs::Graph;
+pub use strip::Strip;
