@@ -93,9 +93,9 @@ pub(crate) fn decided(
     premise: &Rule,
     goal: &Goal,
 ) -> Result<Answer, AllocError>
-    requires goal { IsGoalFor premise.now (goal_of goal.now) }
-    requires small { let limits = script.now.known.limits in IsSmallQuestion premise.now (goal_of goal.now) limits.radius limits.period }
-    ensures right { IfOk result (IsRightBox script.now premise.now (goal_of goal.now)) }
+    requires goal { IsGoalFor premise.now (goal_of premise.now goal.now) }
+    requires small { let limits = script.now.known.limits in IsSmallQuestion premise.now (goal_of premise.now goal.now) limits.radius limits.period }
+    ensures right { IfOk result (IsRightBox script.now premise.now (goal_of premise.now goal.now)) }
     ensures writable { IfOk result IsWritable }
 {
     let limits = script.limits();

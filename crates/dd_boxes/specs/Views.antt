@@ -1,8 +1,13 @@
--- The goal that a value of the program stands for.
-use Rattle.dd_boxes.specs.Goals.{GoalOf, breaks, always}
+-- The goal that a value of the program stands for, in questions about a rule.
+use Rattle.dd_formula.specs.LocalRule.{LocalRule}
+use Rattle.dd_boxes.specs.Goals.{GoalOf, breaks, always, IsGoalFor}
 use Rattle.dd_boxes.specs.declared.goals.Goal.{Goal}
 use Rattle.dd_boxes.specs.declared.goals.Goal.TheVariants.{Breaks, Always}
 
-abbrev pub goal_of : Goal → GoalOf
-goal_of (Breaks y) = breaks y.now
-goal_of Always = always
+abbrev pub goal_of : LocalRule → Goal → GoalOf
+goal_of x (Breaks y) = breaks y.now
+goal_of x Always = always
+
+-- it is a goal for questions about some rule
+abbrev pub IsGoal : Goal → Type 0
+IsGoal g = (x : LocalRule) × IsGoalFor x (goal_of x g)

@@ -1,7 +1,9 @@
 //! What a box question looks for at the origin, and how far that reads.
 ghost use Rattle.std.specs.Prelude.{IfOk};
 ghost use Rattle.dd_boxes.specs.Boxes.{IsLeastRadius};
-ghost use Rattle.dd_boxes.specs.Views.{goal_of};
+ghost use Rattle.dd_boxes.specs.Goals.{IsGoalFor};
+ghost use Rattle.dd_boxes.specs.Views.{goal_of, IsGoal};
+ghost use Rattle.dd_formula.specs.LocalRule.{LocalRule, IsRule};
 
 use dd_formula::Rule;
 use std::alloc::{AllocError, Global};
@@ -16,7 +18,8 @@ pub enum Goal<'a> {
 
 /// The least radius of a box that holds all cells that the goal reads at the origin's nodes.
 pub fn least_radius(_alloc: Global, goal: &Goal) -> Result<u32, AllocError>
-    ensures { IfOk result (λ n. IsLeastRadius (goal_of goal.now) n) }
+    requires { IsGoal goal.now }
+    ensures { IfOk result (λ n. (x : LocalRule) → IsRule x → IsGoalFor x (goal_of x goal.now) → IsLeastRadius (goal_of x goal.now) n) }
 {
     match goal {
         Goal::Breaks(rule) => Ok(rule.reach()),

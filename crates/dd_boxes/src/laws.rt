@@ -10,5 +10,5 @@ use dd_formula::Rule;
 /// origin, no admissible filling of any domain has it round any position whose box it fills, and no configuration of the
 /// premise has it anywhere.
 pub fn one_box(_premise: &Rule, _goal: &Goal)
-    ensures { (radius : ℕ) → OneBox _premise.now (goal_of _goal.now) radius }
+    ensures { (radius : ℕ) → OneBox _premise.now (goal_of _premise.now _goal.now) radius }
 {}

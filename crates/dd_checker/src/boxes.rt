@@ -34,8 +34,8 @@ pub(crate) fn check_box(
     answer: &Answer,
 ) -> Result<bool, AllocError>
     requires limits { AreLimits limits.now }
-    requires askable { IsAskable limits.now premise.now (goal_of goal.now) }
-    ensures { IfOk result (λ accepted. IsTrue accepted ↔ (IsWritable answer.now × IsBoxCertificate limits.now premise.now (goal_of goal.now) answer.now)) }
+    requires askable { IsAskable limits.now premise.now (goal_of premise.now goal.now) }
+    ensures { IfOk result (λ accepted. IsTrue accepted ↔ (IsWritable answer.now × IsBoxCertificate limits.now premise.now (goal_of premise.now goal.now) answer.now)) }
 {
     // Read for what its type keeps.
     let _symbols = premise.symbols();

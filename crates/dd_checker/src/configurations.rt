@@ -93,8 +93,8 @@ pub fn check_periodic(premise: &Rule, goal: &Rule, periodic: &Periodic) -> bool
 /// The same of any goal.
 pub(crate) fn shows(premise: &Rule, goal: &Goal, periodic: &Periodic) -> bool
     requires fits { Fits premise.now periodic.now }
-    requires goal { IsGoalFor premise.now (goal_of goal.now) }
-    ensures { IsTrue result ↔ IsWitness premise.now (goal_of goal.now) periodic.now }
+    requires goal { IsGoalFor premise.now (goal_of premise.now goal.now) }
+    ensures { IsTrue result ↔ IsWitness premise.now (goal_of premise.now goal.now) periodic.now }
 {
     match goal {
         Goal::Breaks(rule) => check_periodic(premise, rule, periodic),

@@ -34,10 +34,10 @@ fn refutes(
     radius: u32,
     steps: &[Step],
 ) -> Result<bool, AllocError>
-    requires goal { IsGoalFor premise.now (goal_of goal.now) }
-    requires reaches { Reaches (goal_of goal.now) radius }
-    requires few { question_clauses premise.now (goal_of goal.now) (volume (centred premise.now.dimension radius)) ≤ most_clauses }
-    ensures exact { IfOk result (λ refuted. IsTrue refuted ↔ Refutes premise.now (goal_of goal.now) radius steps.now) }
+    requires goal { IsGoalFor premise.now (goal_of premise.now goal.now) }
+    requires reaches { Reaches (goal_of premise.now goal.now) radius }
+    requires few { question_clauses premise.now (goal_of premise.now goal.now) (volume (centred premise.now.dimension radius)) ≤ most_clauses }
+    ensures exact { IfOk result (λ refuted. IsTrue refuted ↔ Refutes premise.now (goal_of premise.now goal.now) radius steps.now) }
     ensures writable { IfOk result (λ refuted. IsTrue refuted → IsWritableRefutation steps.now) }
 {
     refutations_fit();
@@ -58,8 +58,8 @@ pub(crate) fn check_yes(
     radius: u64,
     steps: &[Step],
 ) -> Result<bool, AllocError>
-    requires { IsAskable limits.now premise.now (goal_of goal.now) }
-    ensures exact { IfOk result (λ accepted. IsTrue accepted ↔ IsYes limits.now premise.now (goal_of goal.now) radius steps.now) }
+    requires { IsAskable limits.now premise.now (goal_of premise.now goal.now) }
+    ensures exact { IfOk result (λ accepted. IsTrue accepted ↔ IsYes limits.now premise.now (goal_of premise.now goal.now) radius steps.now) }
     ensures writable { IfOk result (λ accepted. IsTrue accepted → IsWritableRefutation steps.now) }
 {
     // Read for what its type keeps.

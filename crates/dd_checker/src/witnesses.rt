@@ -103,8 +103,8 @@ pub(crate) fn check_no(
     symbols: &[u64],
 ) -> Result<bool, AllocError>
     requires limits { AreLimits limits.now }
-    requires goal { IsGoalFor premise.now (goal_of goal.now) }
-    ensures { IfOk result (λ accepted. IsTrue accepted ↔ IsNo limits.now premise.now (goal_of goal.now) periods.now shear symbols.now) }
+    requires goal { IsGoalFor premise.now (goal_of premise.now goal.now) }
+    ensures { IfOk result (λ accepted. IsTrue accepted ↔ IsNo limits.now premise.now (goal_of premise.now goal.now) periods.now shear symbols.now) }
 {
     match given(alloc, premise, limits.period, periods, shear, symbols)? {
         None => Ok(false),

@@ -11,3 +11,6 @@ pub mod RuleSays
 pub mod ChoiceLaws
 pub mod CaseGates
 pub mod CaseRules
+pub mod ValueParts
+pub mod Composing
+pub mod Composed

@@ -14,9 +14,9 @@ use dd_formula::Rule;
 /// no admissible filling with the goal at the origin, NO exactly where some configuration of the stated periods lives and
 /// has the goal at the origin, unknown exactly where neither holds, and never are both so.
 pub fn trichotomy(premise: &Rule, goal: &Goal)
-    requires { IsGoalFor premise.now (goal_of goal.now) }
-    ensures { (n p least : ℕ) (decision : AnyDecision) → IsLeastRadius (goal_of goal.now) least → IsDecided premise.now (goal_of goal.now) n p decision
-        → Trichotomy premise.now (goal_of goal.now) (max n least) p decision }
+    requires { IsGoalFor premise.now (goal_of premise.now goal.now) }
+    ensures { (n p least : ℕ) (decision : AnyDecision) → IsLeastRadius (goal_of premise.now goal.now) least → IsDecided premise.now (goal_of premise.now goal.now) n p decision
+        → Trichotomy premise.now (goal_of premise.now goal.now) (max n least) p decision }
 {
     one_box(premise, goal);
 }

@@ -49,17 +49,17 @@ struct BoxQuestion<'a> {
 }
 
 impl<'a> Questions for BoxQuestion<'a> {
-    ghost suffices = { λ q n. Suffices q.premise.now (goal_of q.goal.now) n };
+    ghost suffices = { λ q n. Suffices q.premise.now (goal_of q.premise.now q.goal.now) n };
 
-    ghost refutes = { λ q n steps. RefutesByNumbers q.premise.now (goal_of q.goal.now) n steps };
+    ghost refutes = { λ q n steps. RefutesByNumbers q.premise.now (goal_of q.premise.now q.goal.now) n steps };
 
-    ghost shows = { λ q p. ShowsAt q.premise.now (goal_of q.goal.now) p };
+    ghost shows = { λ q p. ShowsAt q.premise.now (goal_of q.premise.now q.goal.now) p };
 
-    ghost displays = { λ q p t. Displays q.premise.now (goal_of q.goal.now) p t };
+    ghost displays = { λ q p t. Displays q.premise.now (goal_of q.premise.now q.goal.now) p t };
 
-    ghost asks_radius = { λ q n. AsksRadius q.premise.now (goal_of q.goal.now) n };
+    ghost asks_radius = { λ q n. AsksRadius q.premise.now (goal_of q.premise.now q.goal.now) n };
 
-    ghost asks_periods = { λ q p. AsksPeriods q.premise.now (goal_of q.goal.now) p };
+    ghost asks_periods = { λ q p. AsksPeriods q.premise.now (goal_of q.premise.now q.goal.now) p };
 
     fn refutation(&self, radius: u32) -> Result<Option<Items<Step>>, AllocError> {
         let cnf = box_clauses(self.alloc, self.premise, self.goal, radius)?;
@@ -95,10 +95,10 @@ pub fn decide(
 ) -> Result<Decision, AllocError>
     requires radius { limits.now.radius ≤ 8 }
     requires period { (1 ≤ limits.now.period) × (limits.now.period ≤ 8) }
-    requires goal { IsGoalFor premise.now (goal_of goal.now) }
-    requires small { IsSmallQuestion premise.now (goal_of goal.now) limits.now.radius limits.now.period }
-    ensures decided { IfOk result (IsDecided premise.now (goal_of goal.now) limits.now.radius limits.now.period) }
-    ensures numbered { IfOk result (HasNumbers premise.now (goal_of goal.now)) }
+    requires goal { IsGoalFor premise.now (goal_of premise.now goal.now) }
+    requires small { IsSmallQuestion premise.now (goal_of premise.now goal.now) limits.now.radius limits.now.period }
+    ensures decided { IfOk result (IsDecided premise.now (goal_of premise.now goal.now) limits.now.radius limits.now.period) }
+    ensures numbered { IfOk result (HasNumbers premise.now (goal_of premise.now goal.now)) }
 {
     let least = least_radius(alloc, goal)?;
     let most = limits.radius.max(least);

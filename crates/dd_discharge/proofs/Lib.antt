@@ -7,3 +7,12 @@ pub mod Steps
 pub mod DomainLaws
 pub mod GroundLaws
 pub mod AdmissibleLaws
+pub mod WholeNumbers
+pub mod Totals
+pub mod Duality
+pub mod Multiples
+pub mod Over
+pub mod Certified
+pub mod Printing
+pub mod BestBounds
+pub mod Tabulated

@@ -2,7 +2,9 @@
 //! they give, and its best value, are defined in `specs/`.
 #![tactic(auto)]
 
+mod best;
 mod bound;
+mod denominators;
 mod domain;
 mod fault;
 mod laws;
@@ -14,6 +16,6 @@ mod search;
 pub use bound::Bound;
 pub use domain::ground;
 pub use fault::{DischargeFault, RowsFault};
-pub use laws::the_admissible;
+pub use laws::{best_bound, the_admissible};
 pub use rows::{Row, Rows};
 pub use search::fillings;

@@ -25,12 +25,12 @@ pub fn box_clauses(
     goal: &Goal,
     radius: u32,
 ) -> Result<Cnf, AllocError>
-    requires goal { IsGoalFor premise.now (goal_of goal.now) }
-    requires reaches { Reaches (goal_of goal.now) radius }
-    requires few { question_clauses premise.now (goal_of goal.now) (volume (centred premise.now.dimension radius)) ≤ most_clauses }
-    ensures exact { IfOk result (λ cnf. cnf ≡ box_problem premise.now (goal_of goal.now) radius) }
-    ensures shows { IfOk result (λ cnf. Shows cnf.clauses premise.now (goal_of goal.now) radius) }
-    ensures decides { IfOk result (λ cnf. DecidesBox cnf.clauses premise.now (goal_of goal.now) radius) }
+    requires goal { IsGoalFor premise.now (goal_of premise.now goal.now) }
+    requires reaches { Reaches (goal_of premise.now goal.now) radius }
+    requires few { question_clauses premise.now (goal_of premise.now goal.now) (volume (centred premise.now.dimension radius)) ≤ most_clauses }
+    ensures exact { IfOk result (λ cnf. cnf ≡ box_problem premise.now (goal_of premise.now goal.now) radius) }
+    ensures shows { IfOk result (λ cnf. Shows cnf.clauses premise.now (goal_of premise.now goal.now) radius) }
+    ensures decides { IfOk result (λ cnf. DecidesBox cnf.clauses premise.now (goal_of premise.now goal.now) radius) }
 {
     let symbols = premise.symbols();
     let bounds = centred_box(premise.dim(), radius).unwrap();

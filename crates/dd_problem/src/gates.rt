@@ -162,19 +162,20 @@ pub(crate) fn push_goal(
     alloc: Global,
     cnf: &mut Cnf,
     circuit: &mut Circuit,
+    premise: &Rule,
     goal: &Goal,
     inputs: &Inputs,
 ) -> Result<(), AllocError>
     requires wide { cnf.old.variables ≡ size circuit.old }
-    requires wired { is_goal_wired inputs.now (size circuit.old) (goal_of goal.now) ≡ true }
+    requires wired { is_goal_wired inputs.now (size circuit.old) (goal_of premise.now goal.now) ≡ true }
     requires few { size circuit.old
-        + length (part_gates (size circuit.old) (wired_goal inputs.now (goal_of goal.now) ∷ [])) ≤ 2 ^ 24 }
+        + length (part_gates (size circuit.old) (wired_goal inputs.now (goal_of premise.now goal.now) ∷ [])) ≤ 2 ^ 24 }
     ensures inputs { circuit.new.inputs ≡ circuit.old.inputs }
     ensures wide { OnOk result (cnf.new.variables ≡ size circuit.new) }
     ensures gates { OnOk result (circuit.new.gates ≡ circuit.old.gates
-        ++ part_gates (size circuit.old) (wired_goal inputs.now (goal_of goal.now) ∷ [])) }
+        ++ part_gates (size circuit.old) (wired_goal inputs.now (goal_of premise.now goal.now) ∷ [])) }
     ensures clauses { OnOk result (cnf.new.clauses ≡ cnf.old.clauses
-        ++ part_clauses (size circuit.old) (wired_goal inputs.now (goal_of goal.now) ∷ [])) }
+        ++ part_clauses (size circuit.old) (wired_goal inputs.now (goal_of premise.now goal.now) ∷ [])) }
 {
     match goal {
         Goal::Breaks(rule) => {

@@ -24,15 +24,15 @@ pub(crate) fn problem(
 ) -> Result<Cnf, AllocError>
     requires nodes { All (λ d. d.node < premise.now.nodes) cells.now }
     requires signals { AreInputs (length cells.now * premise.now.symbols) inputs.now }
-    requires wired { is_goal_wired inputs.now (length cells.now * premise.now.symbols) (goal_of goal.now) ≡ true }
-    requires few { (wired_problem inputs.now premise.now (goal_of goal.now) cells.now).variables ≤ 2 ^ 24 }
-    ensures { IfOk result (λ cnf. cnf ≡ wired_problem inputs.now premise.now (goal_of goal.now) cells.now) }
+    requires wired { is_goal_wired inputs.now (length cells.now * premise.now.symbols) (goal_of premise.now goal.now) ≡ true }
+    requires few { (wired_problem inputs.now premise.now (goal_of premise.now goal.now) cells.now).variables ≤ 2 ^ 24 }
+    ensures { IfOk result (λ cnf. cnf ≡ wired_problem inputs.now premise.now (goal_of premise.now goal.now) cells.now) }
 {
     let count = (cells.len() * premise.symbols() as usize) as u32;
     let mut circuit = Circuit::new(alloc, count);
     let mut cnf = Cnf::new(alloc, count);
     push_cells(alloc, &mut cnf, premise, cells)?;
     push_places(alloc, &mut cnf, &mut circuit, premise, cells, inputs)?;
-    push_goal(alloc, &mut cnf, &mut circuit, goal, inputs)?;
+    push_goal(alloc, &mut cnf, &mut circuit, premise, goal, inputs)?;
     Ok(cnf)
 }

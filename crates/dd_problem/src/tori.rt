@@ -26,8 +26,8 @@ use std::alloc::{AllocError, Global};
 
 /// How far the premise and the goal read.
 fn question_reach(alloc: Global, premise: &Rule, goal: &Goal) -> Result<u32, AllocError>
-    requires { IsGoalFor premise.now (goal_of goal.now) }
-    ensures value { IfOk result (λ n. n ≡ question_reach premise.now (goal_of goal.now)) }
+    requires { IsGoalFor premise.now (goal_of premise.now goal.now) }
+    ensures value { IfOk result (λ n. n ≡ question_reach premise.now (goal_of premise.now goal.now)) }
     ensures near { IfOk result (λ n. n ≤ 16) }
 {
     let radius = least_radius(alloc, goal)?;
@@ -91,9 +91,9 @@ fn near_cells(
     goal: &Goal,
     periods: &Periods,
 ) -> Result<Vec<Cell>, AllocError>
-    requires goal { IsGoalFor premise.now (goal_of goal.now) }
+    requires goal { IsGoalFor premise.now (goal_of premise.now goal.now) }
     requires periods { ArePeriods premise.now.dimension periods.now }
-    ensures { IfOk result (λ v. v.items ≡ near_cells premise.now (question_reach premise.now (goal_of goal.now)) periods.now) }
+    ensures { IfOk result (λ v. v.items ≡ near_cells premise.now (question_reach premise.now (goal_of premise.now goal.now)) periods.now) }
 {
     let nodes = premise.nodes();
     let reach = question_reach(alloc, premise, goal)?;
@@ -154,9 +154,9 @@ fn torus_inputs(
     goal: &Goal,
     periods: &Periods,
 ) -> Result<Inputs, AllocError>
-    requires goal { IsGoalFor premise.now (goal_of goal.now) }
+    requires goal { IsGoalFor premise.now (goal_of premise.now goal.now) }
     requires periods { ArePeriods premise.now.dimension periods.now }
-    ensures { IfOk result (λ inputs. inputs ≡ torus_inputs premise.now (goal_of goal.now) periods.now) }
+    ensures { IfOk result (λ inputs. inputs ≡ torus_inputs premise.now (goal_of premise.now goal.now) periods.now) }
 {
     let near = near_cells(alloc, premise, goal, periods)?;
     let numbers = numbering(alloc, premise, periods)?;
@@ -173,11 +173,11 @@ pub fn torus_clauses(
     periods: [u32; 3],
     shear: u32,
 ) -> Result<Cnf, AllocError>
-    requires goal { IsGoalFor premise.now (goal_of goal.now) }
+    requires goal { IsGoalFor premise.now (goal_of premise.now goal.now) }
     requires periods { ArePeriods premise.now.dimension (periods_of periods shear) }
-    requires few { question_clauses premise.now (goal_of goal.now) (volume (periods_of periods shear)) ≤ most_clauses }
-    ensures exact { IfOk result (λ cnf. cnf ≡ torus_problem premise.now (goal_of goal.now) (periods_of periods shear)) }
-    ensures shows { IfOk result (λ cnf. ShowsTorus cnf.clauses premise.now (goal_of goal.now) (periods_of periods shear)) }
+    requires few { question_clauses premise.now (goal_of premise.now goal.now) (volume (periods_of periods shear)) ≤ most_clauses }
+    ensures exact { IfOk result (λ cnf. cnf ≡ torus_problem premise.now (goal_of premise.now goal.now) (periods_of periods shear)) }
+    ensures shows { IfOk result (λ cnf. ShowsTorus cnf.clauses premise.now (goal_of premise.now goal.now) (periods_of periods shear)) }
 {
     let [x, y, z] = periods;
     let torus = Periods { x, y, z, shear };

@@ -6,3 +6,5 @@ pub mod Windows
 pub mod Transfers
 -- what certifies the least density of a strip
 pub mod Certificates
+-- the slices of a look, and the edges that they make
+pub mod Slices

@@ -151,7 +151,7 @@ fn compared(
     goal: &Goal,
     radius: u32,
 ) -> Result<([u32; 8], [u32; 8]), Fail>
-    requires { IsGoalFor premise.now (goal_of goal.now) }
+    requires { IsGoalFor premise.now (goal_of premise.now goal.now) }
 {
     let cells = box_cells(alloc, premise, radius)?;
     let cnf = clauses_of(alloc, premise, goal, radius)?;

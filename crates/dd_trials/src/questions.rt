@@ -24,8 +24,8 @@ pub(crate) fn can_be_asked(premise: &Rule, broken: &Rule) -> bool
         && premise.symbols() == broken.symbols()
 }
 
-fn goal_clauses(goal: &Goal) -> u32
-    ensures { result ≡ cut 1000 (goal_clauses (goal_of goal.now)) }
+fn goal_clauses(premise: &Rule, goal: &Goal) -> u32
+    ensures { result ≡ cut 1000 (goal_clauses (goal_of premise.now goal.now)) }
 {
     match goal {
         Goal::Breaks(rule) => broken_clauses(rule, 1000),
@@ -35,16 +35,19 @@ fn goal_clauses(goal: &Goal) -> u32
 
 /// Does nothing; its contract is the law of the box of one radius.
 fn one_radius(premise: &Rule, goal: &Goal, _radius: u32)
-    ensures { OneBox premise.now (goal_of goal.now) _radius }
+    ensures { OneBox premise.now (goal_of premise.now goal.now) _radius }
 {
     one_box(premise, goal);
 }
 
 /// Whether the box of a radius holds all that the goal reads.
 fn reaches(alloc: Global, premise: &Rule, goal: &Goal, radius: u32) -> Result<bool, AllocError>
-    ensures { IfOk result (λ found. IsTrue found → Reaches (goal_of goal.now) radius) }
+    requires { IsGoalFor premise.now (goal_of premise.now goal.now) }
+    ensures { IfOk result (λ found. IsTrue found → Reaches (goal_of premise.now goal.now) radius) }
 {
     one_radius(premise, goal, radius);
+    // Read for what its type keeps.
+    let _symbols = premise.symbols();
     Ok(least_radius(alloc, goal)? <= radius)
 }
 
@@ -56,12 +59,12 @@ pub(crate) fn clauses_of(
     goal: &Goal,
     radius: u32,
 ) -> Result<Cnf, Fail>
-    requires { IsGoalFor premise.now (goal_of goal.now) }
+    requires { IsGoalFor premise.now (goal_of premise.now goal.now) }
 {
     if !reaches(alloc, premise, goal, radius)? {
         return Err("a box that holds what the goal reads".into());
     }
-    if place_clauses(premise, 1000) > 1000 || goal_clauses(goal) > 1000 {
+    if place_clauses(premise, 1000) > 1000 || goal_clauses(premise, goal) > 1000 {
         return Err("few clauses".into());
     }
     match (premise.dim(), radius) {

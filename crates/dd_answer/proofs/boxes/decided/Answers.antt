@@ -11,7 +11,7 @@ pub returns-clause-right : goal.returns-clause-right
 returns-clause-right c =
     let s = c.args.script.now in
     let x = c.args.premise.now in
-    let g = goal_of c.args.goal.now in
+    let g = goal_of c.args.premise.now c.args.goal.now in
     let decision = c.in_ok-decision.decision in
     IfOk-weaker c.written_decision.result (λ a. a ≡ written_decision decision) (IsRightBox s x g)
     (λ a is. record {
@@ -24,5 +24,5 @@ returns-clause-right c =
 pub written_decision-requires : goal.written_decision-requires
 written_decision-requires c =
     let told = c.in_ok-decision.ensures in
-    decision_fits c.refutations_fit.ensures c.args.premise.now (goal_of c.args.goal.now) c.limits-limits.result.now.radius c.limits-limits.result.now.period
+    decision_fits c.refutations_fit.ensures c.args.premise.now (goal_of c.args.premise.now c.args.goal.now) c.limits-limits.result.now.radius c.limits-limits.result.now.period
     c.in_ok-decision.decision told.decided told.numbered

@@ -8,7 +8,7 @@ use Rattle.dd_checker.proofs.witnesses.check_no.Goals as goal
 pub returns-in-None : goal.returns-in-None
 returns-in-None c =
     let none = rw c.in-None.is at c.in_ok-given.ensures in
-    nothing_holds _ (λ w. none (given_from c.args.limits.now c.args.premise.now (goal_of c.args.goal.now) c.args.periods.now c.args.shear c.args.symbols.now w))
+    nothing_holds _ (λ w. none (given_from c.args.limits.now c.args.premise.now (goal_of c.args.premise.now c.args.goal.now) c.args.periods.now c.args.shear c.args.symbols.now w))
 
 pub shows-requires-clause-fits : goal.shows-requires-clause-fits
 shows-requires-clause-fits c =
@@ -18,5 +18,5 @@ shows-requires-clause-fits c =
 pub returns-in-Some : goal.returns-in-Some
 returns-in-Some c =
     let made = rw c.in-Some.is at c.in_ok-given.ensures in
-    shown_decides c.args.limits.now c.args.premise.now (goal_of c.args.goal.now) c.args.periods.now c.args.shear c.args.symbols.now c.in-Some.periodic
+    shown_decides c.args.limits.now c.args.premise.now (goal_of c.args.premise.now c.args.goal.now) c.args.periods.now c.args.shear c.args.symbols.now c.in-Some.periodic
     c.shows.result made c.shows.ensures
