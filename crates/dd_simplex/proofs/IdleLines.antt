@@ -1,5 +1,5 @@
 -- A line whose cell in the entering column is 0 stays as it is, and no number of it is too large.
-use Rattle.std.proofs.Common.{◌≡◌, ◌≢◌, ℕ, suc, ◌<◌, List, [], ◌∷◌, length, drop, true, ◌&&◌, refl, sym, ap, subst, ◌∙◌, arith, drop-cons}
+use Rattle.std.proofs.Common.{◌≡◌, ◌≢◌, ℕ, suc, ◌<◌, List, [], ◌∷◌, length, drop, true, ◌&&◌, refl, sym, ap, subst, ◌∙◌, arith}
 use Rattle.std.specs.List.{slice_set, list_all, All}
 use Rattle.std.proofs.lemmas.List.{set-get_or}
 use Rattle.std.proofs.lemmas.List.Elements.{All-get_or, All-from_get_or, All-set, All-map, All-drop}
@@ -13,6 +13,7 @@ use Rattle.dd_simplex.specs.table.Lines.{Line, Table, HasFractions, line_at, les
 use Rattle.dd_simplex.specs.table.Standing.{IsTable}
 use Rattle.dd_simplex.proofs.Firsts.{and_left, and_right, and_both}
 use Rattle.dd_simplex.proofs.Idle.{idle_left, zero_fraction_is}
+use Rattle.dd_simplex.proofs.LineSteps.{parted}
 use Rattle.dd_simplex.proofs.Places.{list_at}
 use Rattle.dd_simplex.proofs.PivotTests.{product_fraction}
 
@@ -70,13 +71,6 @@ table_fractions t k =
       bound = k.bounds i p;
       cells = All-from_get_or IsFraction (line_at t.lines i).cells zero_of (λ j q. k.fractions i j p (let z = k.cells i p in omega (arith, z, q)));
     })
-
--- the leaving line and those behind it
-parted : (rows back : List Line) (leaving : Line) (r : ℕ) → r < length rows → drop r rows ≡ leaving ∷ back → (leaving ≡ line_at rows r) × (back ≡ drop (suc r) rows)
-parted rows back leaving r p s =
-    let at : drop r rows ≡ line_at rows r ∷ drop (suc r) rows = drop-cons rows r (record { basic = 0; bound = zero_of; cells = [] }) p in
-    let both : leaving ∷ back ≡ line_at rows r ∷ drop (suc r) rows = sym s ∙ at in
-    (cc, cc)
 
 pub back_fractions : (rows back : List Line) (leaving : Line) (r : ℕ) → r < length rows → drop r rows ≡ leaving ∷ back → All HasFractions rows → All HasFractions back
 back_fractions rows back leaving r p s h =
