@@ -16,3 +16,5 @@ pub mod Certified
 pub mod Printing
 pub mod BestBounds
 pub mod Tabulated
+pub mod Shapes
+pub mod Discharges

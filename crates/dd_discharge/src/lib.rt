@@ -5,17 +5,21 @@
 mod best;
 mod bound;
 mod denominators;
+mod discharging;
 mod domain;
 mod fault;
 mod laws;
 mod numbers;
 mod partial;
+mod program;
 mod rows;
 mod search;
 
 pub use bound::Bound;
+pub use discharging::discharge;
 pub use domain::ground;
 pub use fault::{DischargeFault, RowsFault};
 pub use laws::{best_bound, the_admissible};
+pub use program::program_of;
 pub use rows::{Row, Rows};
 pub use search::fillings;
