@@ -7,3 +7,8 @@ pub mod Steps
 pub mod DomainLaws
 pub mod GroundLaws
 pub mod AdmissibleLaws
+pub mod SortedLists
+pub mod Collected
+pub mod SparseLaws
+pub mod RowLaws
+pub mod ProgramLaws
