@@ -18,3 +18,8 @@ pub mod BestBounds
 pub mod Tabulated
 pub mod Shapes
 pub mod Discharges
+pub mod SortedLists
+pub mod Collected
+pub mod SparseLaws
+pub mod RowLaws
+pub mod ProgramLaws
