@@ -16,3 +16,10 @@ pub mod Certified
 pub mod Printing
 pub mod BestBounds
 pub mod Tabulated
+pub mod Shapes
+pub mod Discharges
+pub mod SortedLists
+pub mod Collected
+pub mod SparseLaws
+pub mod RowLaws
+pub mod ProgramLaws

@@ -1,6 +1,7 @@
 -- Why there is no program of a rule, or no bound.
 use Rattle.dd_discharge.specs.declared.fault.RowsFault.{RowsFault}
 use Rattle.dd_discharge.specs.declared.fault.RowsFault.TheVariants.{Large, Memory}
+use Rattle.dd_discharge.specs.declared.fault.RowsFault.TheVariants as rows
 use Rattle.dd_discharge.specs.declared.fault.DischargeFault.{DischargeFault}
 use Rattle.dd_discharge.specs.declared.fault.DischargeFault.TheVariants as fault
 use Rattle.dd_simplex.specs.declared.fault.SimplexFault.{SimplexFault}
@@ -23,3 +24,8 @@ abbrev pub fault_of_run : SimplexFault → DischargeFault
 fault_of_run simplex.Overflow = fault.Overflow
 fault_of_run simplex.Pivots = fault.Pivots
 fault_of_run simplex.Memory = fault.Memory
+
+-- and that of a program
+abbrev pub fault_of_rows : RowsFault → DischargeFault
+fault_of_rows rows.Large = fault.Large
+fault_of_rows rows.Memory = fault.Memory

@@ -76,3 +76,16 @@ impl From<SimplexFault> for DischargeFault {
         }
     }
 }
+
+impl From<RowsFault> for DischargeFault {
+    ghost use Rattle.dd_discharge.specs.Faults.{fault_of_rows};
+
+    ghost from_gives = { λ error fault. fault ≡ fault_of_rows error };
+
+    fn from(error: RowsFault) -> DischargeFault {
+        match error {
+            RowsFault::Large => DischargeFault::Large,
+            RowsFault::Memory => DischargeFault::Memory,
+        }
+    }
+}
