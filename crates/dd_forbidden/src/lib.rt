@@ -3,9 +3,11 @@
 
 mod breaking;
 mod fault;
+mod laws;
 mod search;
 mod size;
 mod truth;
 
 pub use breaking::forbidden;
 pub use fault::ForbiddenFault;
+pub use laws::{known_symbols, one_list, short_list};
