@@ -1,15 +1,14 @@
 -- Two right answers to a query differ in their evidence alone: a least radius, first periods and a first cell are one.
-use Rattle.std.proofs.Common.{◌≡◌, ℕ, ◌<◌, ◌≤◌, ◌||◌, ◌&&◌, Bool, true, false, List, [], ℤ, pos, Some, refl, ap, sym, subst, ◌∙◌, arith, inl, inr}
-use Rattle.std.specs.Prelude.{◌==◌, ◌⊎◌, max, nat_lt, slice_get}
+use Rattle.std.proofs.Common.{◌≡◌, ℕ, ◌<◌, ◌≤◌, ◌||◌, ◌&&◌, Bool, true, false, List, [], ℤ, pos, Some, None, refl, ap, sym, subst, ◌∙◌, arith, inl, inr}
+use Rattle.std.specs.Prelude.{◌⊎◌, max, nat_lt, Option, IsSomeAnd}
 use Rattle.std.specs.Ordering.{int_eq, ordering_then, nat_cmp}
 use Rattle.std.proofs.lemmas.Map.Lookups.{exact_unsigned}
 use Rattle.std.specs.declared.cmp.Ordering.{Ordering}
 use Rattle.std.specs.declared.cmp.Ordering.TheVariants.{Less, Equal, Greater}
-use Rattle.std.specs.List.{All}
+use Rattle.std.specs.List.{Contains}
 use Rattle.std.specs.Cmp.{IsTotalOrder}
-use Rattle.std.proofs.lemmas.Bool.{and_parts, eqb-true, cases_order, ltb-false, false≢true}
+use Rattle.std.proofs.lemmas.Bool.{cases_order, ltb-false, false≢true}
 use Rattle.std.proofs.lemmas.Cmp.{nat_cmp_total, int_cmp_total, on_total, then_total}
-use Rattle.std.proofs.lemmas.Option.{slice_get_within, get_or_from_slice_get}
 use Rattle.dd_lattice.specs.declared.position.Cell.{Cell}
 use Rattle.dd_lattice.specs.Place.{Place}
 use Rattle.dd_lattice.specs.Order.{cell_cmp}
@@ -20,10 +19,11 @@ use Rattle.dd_pattern.specs.Tile.{Tile, IsTile, IsInBox}
 use Rattle.dd_pattern.proofs.Residues.{residue_below}
 use Rattle.dd_expansion.specs.Placed.{is_flat}
 use Rattle.dd_formula.specs.LocalRule.{LocalRule}
-use Rattle.dd_formula.specs.Automata.{rule_has}
 use Rattle.dd_formula.specs.Living.{Lives, IsFirstFalse}
-use Rattle.dd_boxes.specs.Goals.{GoalOf, breaks, always}
+use Rattle.dd_boxes.specs.declared.limits.Limits.{Limits}
+use Rattle.dd_boxes.specs.Goals.{GoalOf, breaks}
 use Rattle.dd_boxes.specs.Boxes.{Suffices}
+use Rattle.dd_certificate.specs.declared.answer.Listed.{Listed}
 use Rattle.dd_certificate.specs.declared.answer.Answer.{Answer}
 use Rattle.dd_certificate.specs.declared.answer.Answer.TheVariants as answer
 use Rattle.dd_certificate.specs.Text.{answer_line}
@@ -33,12 +33,14 @@ use Rattle.dd_contain.specs.declared.equal.Equality.{Equality}
 use Rattle.dd_contain.specs.Decided.{IsLeast, IsFirst, IsDecidedBy}
 use Rattle.dd_contain.specs.Questions.{Refutes, ShowsAt, Displays, IsDecided}
 use Rattle.dd_contain.specs.Equal.{joined, UnlessNo, IsEqualDecided}
-use Rattle.dd_meanings.specs.Sound.{IsConfigurationOf}
-use Rattle.dd_query.specs.Made.{numbers_of, IsRuleOf}
 use Rattle.dd_query.specs.declared.queries.Query.{Query}
-use Rattle.dd_query.specs.declared.queries.Query.TheVariants as query
-use Rattle.dd_script.specs.Parts.{Parts, IsScriptOf}
-use Rattle.dd_answer.specs.Right.{Right, OfRule, OfConfiguration, IsRightMember, IsRightBox, IsRightEqual, written_cell, written_decision, written_equality, is_unknown}
+use Rattle.dd_script.specs.Parts.{Parts}
+use Rattle.dd_script.specs.Questions.{Asked, membership, box, equality, listing, asked}
+use Rattle.dd_script.specs.Asking.{IsSoundAsked, AreSound}
+use Rattle.dd_evidence.specs.Cells.{written_cell}
+use Rattle.dd_evidence.specs.Lists.{IsListOf}
+use Rattle.dd_evidence.specs.Answers.{IsMemberCertificate, IsListCertificate}
+use Rattle.dd_answer.specs.Right.{Right, IsRightTo, IsRightBox, IsRightEqual, written_decision, written_equality, is_unknown}
 use Rattle.dd_answer.specs.Laws.{SayTheSame}
 
 -- ---- the least and the first are one
@@ -155,9 +157,9 @@ decision_unknown (decision.Yes n steps) = refl
 decision_unknown (decision.No t) = refl
 decision_unknown decision.Unknown = refl
 
-box_agree : (s : Parts) (x : LocalRule) (g : GoalOf) (a b : Answer) → IsRightBox s x g a → IsRightBox s x g b → SayTheSame a b
-box_agree s x g a b h k =
-    let same = decided_alike x g s.known.limits.radius s.known.limits.period h.decision k.decision h.decided k.decided in
+box_agree : (l : Limits) (x : LocalRule) (g : GoalOf) (a b : Answer) → IsRightBox l x g a → IsRightBox l x g b → SayTheSame a b
+box_agree l x g a b h k =
+    let same = decided_alike x g l.radius l.period h.decision k.decision h.decided k.decided in
     record {
       line = λ number.
           ap (answer_line number) h.written ∙ (decision_line number h.decision
@@ -217,11 +219,11 @@ equal_bare x y n p one other h k =
     (unless_both h.left P Q (bare h.right ≡ bare k.right) (decided_alike y (breaks x) n p h.right k.right) h.right_decided ours)
     ∙ ap (λ d. joined d (bare k.right)) left
 
-equal_agree : (s : Parts) (x y : LocalRule) (a b : Answer) → IsRightEqual s x y a → IsRightEqual s x y b → SayTheSame a b
-equal_agree s x y a b h k =
+equal_agree : (l : Limits) (x y : LocalRule) (a b : Answer) → IsRightEqual l x y a → IsRightEqual l x y b → SayTheSame a b
+equal_agree l x y a b h k =
     let one = h.decided in
     let other = k.decided in
-    let same = equal_bare x y s.known.limits.radius s.known.limits.period h.equality k.equality one other in
+    let same = equal_bare x y l.radius l.period h.decision k.decision one other in
     let a_is = h.written ∙ ap written_equality one.join in
     let b_is = k.written ∙ ap written_equality other.join in
     record {
@@ -283,7 +285,7 @@ module _ (x : LocalRule) (t : Tile) (tile : IsTile t) (dimension : t.dimension �
       let node : c.node < x.nodes = subst (λ n. c.node < n) nodes first.within.node in
       false≢true (sym first.here ∙ lives c.position c.node flat node)
 
-  member_agree : (a b : Answer) → IsRightMember x t a → IsRightMember x t b → SayTheSame a b
+  member_agree : (a b : Answer) → IsMemberCertificate x t a → IsMemberCertificate x t b → SayTheSame a b
   member_agree answer.Inside answer.Inside h k = record { line = λ number. refl; unknown = refl }
   member_agree answer.Inside (answer.Outside there) h k = absurd (not_both k.0 h k.1)
   member_agree (answer.Outside here) answer.Inside h k = absurd (not_both h.0 k h.1)
@@ -294,55 +296,32 @@ module _ (x : LocalRule) (t : Tile) (tile : IsTile t) (dimension : t.dimension �
   member_agree (answer.Outside here) b h k = absurd k
   member_agree a b h k = absurd h
 
+-- ---- forbidden patterns
+
+abbrev pub AreOneList : Type 0
+AreOneList = (x : LocalRule) (some others : List Listed) → IsListOf x some → IsListOf x others → some ≡ others
+
+list_agree : AreOneList → (x : LocalRule) (a b : Answer) → IsListCertificate x a → IsListCertificate x b → SayTheSame a b
+list_agree one x (answer.List some) (answer.List others) h k =
+    record { line = λ number. ap (λ ps. answer_line number (answer.List ps)) (one x some others h k); unknown = refl }
+list_agree one x (answer.List some) b h k = absurd k
+list_agree one x a b h k = absurd h
+
 -- ---- the queries of a script
 
-some_one : {X : Type 0} (xs : List X) (n : ℕ) (x y : X) → slice_get xs n ≡ Some x → slice_get xs n ≡ Some y → x ≡ y
-some_one xs n x y here there = cc
+-- both are of the same item
+both_of_one : {X : Type 0} (o : Option X) (P Q : X → Type 0) (G : Type 0) → IsSomeAnd o P → IsSomeAnd o Q → ((x : X) → o ≡ Some x → P x → Q x → G) → G
+both_of_one (Some x) P Q G p q then = then x refl p q
+both_of_one None P Q G p q then = absurd p
 
-module _ (s : Parts) where
-  -- both speak of the same rule
-  of_one_rule : (n : ℕ) (P Q : LocalRule → Type 0) (G : Type 0) → OfRule s n P → OfRule s n Q →
-      ((r : LocalRule) → slice_get s.rules n ≡ Some r → P r → Q r → G) → G
-  of_one_rule n P Q G h k then = then h.rule h.stands h.holds (subst Q (some_one s.rules n k.rule h.rule k.stands h.stands) k.holds)
+module _ (s : Parts) (sound : AreSound s) (one : AreOneList) where
+  asked_agree : (k : Asked) (a b : Answer) → IsSoundAsked s.known k → IsRightTo s.known.limits k a → IsRightTo s.known.limits k b → SayTheSame a b
+  asked_agree (membership x t) a b ok h k = member_agree x t ok.1 ok.2.dimension ok.2.nodes a b h k
+  asked_agree (box x g) a b ok h k = box_agree s.known.limits x g a b h k
+  asked_agree (equality x y) a b ok h k = equal_agree s.known.limits x y a b h k
+  asked_agree (listing x) a b ok h k = list_agree one x a b h k
 
-  of_one_configuration : (n : ℕ) (P Q : Tile → Type 0) (G : Type 0) → OfConfiguration s n P → OfConfiguration s n Q →
-      ((t : Tile) → slice_get s.configurations n ≡ Some t → P t → Q t → G) → G
-  of_one_configuration n P Q G h k then = then h.tile h.stands h.holds (subst Q (some_one s.configurations n k.tile h.tile k.stands h.stands) k.holds)
-
-  boxes_agree : (m n : ℕ) (g : LocalRule → GoalOf) (a b : Answer) → OfRule s m (λ y. OfRule s n (λ x. IsRightBox s x (g y) a)) →
-      OfRule s m (λ y. OfRule s n (λ x. IsRightBox s x (g y) b)) → SayTheSame a b
-  boxes_agree m n g a b h k =
-      of_one_rule m (λ y. OfRule s n (λ x. IsRightBox s x (g y) a)) (λ y. OfRule s n (λ x. IsRightBox s x (g y) b)) (SayTheSame a b) h k
-      (λ y _ one other. of_one_rule n (λ x. IsRightBox s x (g y) a) (λ x. IsRightBox s x (g y) b) (SayTheSame a b) one other
-      (λ x _ here there. box_agree s x (g y) a b here there))
-
-module _ (s : Parts) (ok : IsScriptOf s) where
-  -- a fact of all items, at the item with a number
-  at_number : {X : Type 0} (P : X → Type 0) (xs : List X) (n : ℕ) (x : X) → All P xs → slice_get xs n ≡ Some x → P x
-  at_number P xs n x all stands = subst P (get_or_from_slice_get xs n x x stands) (all n x (slice_get_within xs n x stands))
-
-  -- a rule of the script has its dimension and its nodes
-  has_parts : (r : LocalRule) → rule_has (numbers_of s.known) r ≡ true → (r.dimension ≡ s.known.setting.topology.dimension) × (r.nodes ≡ s.known.setting.topology.nodes)
-  has_parts r has =
-      let n = numbers_of s.known in
-      let two = and_parts (r.dimension == n.dimension && r.nodes == n.nodes) (r.symbols == n.symbols) has in
-      let each = and_parts (r.dimension == n.dimension) (r.nodes == n.nodes) two.0 in
-      (eqb-true r.dimension n.dimension each.0, eqb-true r.nodes n.nodes each.1)
-
-  pub right_agree : (q : Query) (a b : Answer) → Right s q a → Right s q b → SayTheSame a b
-  right_agree (query.Member configuration rule) a b h k =
-      of_one_rule s rule (λ x. OfConfiguration s configuration (λ t. IsRightMember x t a)) (λ x. OfConfiguration s configuration (λ t. IsRightMember x t b))
-      (SayTheSame a b) h k
-      (λ x x_is one other. of_one_configuration s configuration (λ t. IsRightMember x t a) (λ t. IsRightMember x t b) (SayTheSame a b) one other
-      (λ t t_is here there.
-      let made = at_number (IsConfigurationOf s.known) s.configurations configuration t ok.configurations t_is in
-      let has = has_parts x (at_number (IsRuleOf s.known) s.rules rule x ok.made.rules_have x_is).has in
-      member_agree x t made.tile (made.dimension ∙ sym has.0) (made.nodes ∙ sym has.1) a b here there))
-  right_agree (query.Contains outer inner) a b h k = boxes_agree s outer inner breaks a b h k
-  right_agree (query.Equal left right) a b h k =
-      of_one_rule s left (λ x. OfRule s right (λ y. IsRightEqual s x y a)) (λ x. OfRule s right (λ y. IsRightEqual s x y b)) (SayTheSame a b) h k
-      (λ x _ one other. of_one_rule s right (λ y. IsRightEqual s x y a) (λ y. IsRightEqual s x y b) (SayTheSame a b) one other
-      (λ y _ here there. equal_agree s x y a b here there))
-  right_agree (query.Empty rule) a b h k =
-      of_one_rule s rule (λ x. IsRightBox s x always a) (λ x. IsRightBox s x always b) (SayTheSame a b) h k (λ x _ here there. box_agree s x always a b here there)
-  right_agree q a b h k = absurd h
+  pub right_agree : (q : Query) (a b : Answer) → Contains s.queries q → Right s q a → Right s q b → SayTheSame a b
+  right_agree q a b there h k =
+      both_of_one (asked s q) (λ j. IsRightTo s.known.limits j a) (λ j. IsRightTo s.known.limits j b) (SayTheSame a b) h k
+      (λ j is right other. asked_agree j a b (sound q j there is) right other)

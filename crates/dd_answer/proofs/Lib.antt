@@ -1,4 +1,3 @@
-pub mod SizeLaws
-pub mod PartLaws
 pub mod WritableLaws
 pub mod AgreeLaws
+pub mod QueryLaws

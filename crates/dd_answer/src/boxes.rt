@@ -1,18 +1,18 @@
 //! Answers to box questions.
 ghost use Rattle.std.specs.Prelude.{◌≡◌, ◌≤◌, All, IfOk};
-ghost use Rattle.dd_boxes.specs.Goals.{IsGoalFor, breaks};
+ghost use Rattle.dd_boxes.specs.Goals.{breaks};
 ghost use Rattle.dd_boxes.specs.Views.{goal_of};
-ghost use Rattle.dd_contain.specs.Questions.{IsSmallQuestion};
 ghost use Rattle.dd_certificate.specs.Bounds.{IsWritable, IsWritableNumber};
+ghost use Rattle.dd_meanings.specs.Sound.{AreLimits};
+ghost use Rattle.dd_script.specs.Asking.{IsAskable};
 ghost use Rattle.dd_answer.specs.Writable.{IsWritableDecision, IsWritableEquality};
 ghost use Rattle.dd_answer.specs.Right.{side_of, written_no, written_decision, written_equality, IsRightBox, IsRightEqual};
 
-use dd_boxes::Goal;
+use dd_boxes::{Goal, Limits};
 use dd_certificate::{Answer, Reason, Side, refutations_fit};
 use dd_contain::{Decision, Equality, Side as Half, decide, decide_equal};
 use dd_formula::Rule;
 use dd_pattern::Periodic;
-use dd_script::Script;
 use dd_values::Items;
 use std::alloc::{AllocError, Global};
 
@@ -86,39 +86,36 @@ fn written_equality(alloc: Global, equality: Equality) -> Result<Answer, AllocEr
     }
 }
 
-/// What a box question comes to within the script's limits.
+/// What a box question comes to within the limits.
 pub(crate) fn decided(
     alloc: Global,
-    script: &Script,
     premise: &Rule,
     goal: &Goal,
+    limits: &Limits,
 ) -> Result<Answer, AllocError>
-    requires goal { IsGoalFor premise.now (goal_of premise.now goal.now) }
-    requires small { let limits = script.now.known.limits in IsSmallQuestion premise.now (goal_of premise.now goal.now) limits.radius limits.period }
-    ensures right { IfOk result (IsRightBox script.now premise.now (goal_of premise.now goal.now)) }
+    requires limits { AreLimits limits.now }
+    requires askable { IsAskable limits.now premise.now (goal_of premise.now goal.now) }
+    ensures right { IfOk result (IsRightBox limits.now premise.now (goal_of premise.now goal.now)) }
     ensures writable { IfOk result IsWritable }
 {
-    let limits = script.limits();
     refutations_fit();
     let decision = decide(alloc, premise, goal, limits)?;
     written_decision(alloc, decision)
 }
 
-/// Whether two rules allow the same configurations, within the script's limits.
+/// Whether two rules allow the same configurations, within the limits.
 pub(crate) fn compared(
     alloc: Global,
-    script: &Script,
     left: &Rule,
     right: &Rule,
+    limits: &Limits,
 ) -> Result<Answer, AllocError>
-    requires left_goal { IsGoalFor left.now (breaks right.now) }
-    requires right_goal { IsGoalFor right.now (breaks left.now) }
-    requires left_small { let limits = script.now.known.limits in IsSmallQuestion left.now (breaks right.now) limits.radius limits.period }
-    requires right_small { let limits = script.now.known.limits in IsSmallQuestion right.now (breaks left.now) limits.radius limits.period }
-    ensures right { IfOk result (IsRightEqual script.now left.now right.now) }
+    requires limits { AreLimits limits.now }
+    requires left { IsAskable limits.now left.now (breaks right.now) }
+    requires right { IsAskable limits.now right.now (breaks left.now) }
+    ensures right { IfOk result (IsRightEqual limits.now left.now right.now) }
     ensures writable { IfOk result IsWritable }
 {
-    let limits = script.limits();
     refutations_fit();
     let equality = decide_equal(alloc, left, right, limits)?;
     written_equality(alloc, equality)

@@ -1,16 +1,18 @@
 //! What all right answers to a query have in common.
+ghost use Rattle.std.specs.Prelude.{Contains};
 ghost use Rattle.dd_certificate.specs.declared.answer.Answer.{Answer as AnyAnswer};
 ghost use Rattle.dd_query.specs.declared.queries.Query.{Query as AnyQuery};
 ghost use Rattle.dd_answer.specs.Right.{Right};
 ghost use Rattle.dd_answer.specs.Laws.{SayTheSame};
 
+use dd_evidence::one_list;
 use dd_script::Script;
 
-/// Does nothing; its contract says that all right answers to a query have the same line. They differ in their evidence alone,
+/// Does nothing; its contract says that all right answers to a query of the script have the same line. They differ in their evidence alone,
 /// so whether the right answer is that nothing is known within the limits is a matter of the script.
 pub fn one_line(script: &Script)
-    ensures { (query : AnyQuery) (a b : AnyAnswer) → Right script.now query a → Right script.now query b → SayTheSame a b }
+    ensures { (query : AnyQuery) (a b : AnyAnswer) → Contains script.now.queries query → Right script.now query a → Right script.now query b → SayTheSame a b }
 {
-    // Read for what its type keeps.
-    let _limits = script.limits();
+    script.sound_questions();
+    one_list();
 }

@@ -4,8 +4,9 @@
 mod answering;
 mod boxes;
 mod laws;
+mod lists;
 mod members;
 
-pub use answering::{answer, is_answered};
+pub use answering::answer;
 pub use dd_certificate::Answer;
 pub use laws::one_line;

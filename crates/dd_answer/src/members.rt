@@ -2,9 +2,11 @@
 ghost use Rattle.std.specs.Prelude.{◌≡◌, ◌≤◌, IfOk};
 ghost use Rattle.dd_formula.specs.Living.{Fits};
 ghost use Rattle.dd_certificate.specs.Bounds.{IsWritable};
-ghost use Rattle.dd_answer.specs.Right.{written_cell, IsRightMember};
+ghost use Rattle.dd_evidence.specs.Cells.{written_cell};
+ghost use Rattle.dd_evidence.specs.Answers.{IsMemberCertificate};
 
 use dd_certificate::Answer;
+use dd_evidence::places_fit;
 use dd_formula::{Membership, Rule};
 use dd_lattice::Cell;
 use dd_pattern::Periodic;
@@ -30,9 +32,10 @@ fn written_cell(alloc: Global, dim: u32, cell: &Cell) -> Result<Items<i64>, Allo
 /// Whether a configuration lives in a rule's subshift; otherwise the first cell at which the rule is false.
 pub(crate) fn member(alloc: Global, rule: &Rule, periodic: &Periodic) -> Result<Answer, AllocError>
     requires { Fits rule.now periodic.now }
-    ensures right { IfOk result (IsRightMember rule.now periodic.now) }
+    ensures right { IfOk result (IsMemberCertificate rule.now periodic.now) }
     ensures writable { IfOk result IsWritable }
 {
+    places_fit();
     match rule.member(periodic) {
         Membership::Inside => Ok(Answer::Inside),
         Membership::Outside(cell) => {

@@ -1,8 +1,8 @@
 -- What is a certificate of a query of a script claims what is true, also of configurations that no data holds.
 use Rattle.std.proofs.Common.{◌≡◌, ℕ, ◌-◌, ◌<◌, Bool, true, false, List, refl, ap, sym, subst, ◌∙◌, arith, Some, None}
-use Rattle.std.specs.Prelude.{Option, IsSomeAnd, IfSome, cond, ◌&&◌, is_some, nat_lt}
-use Rattle.std.specs.List.{slice_get}
-use Rattle.std.proofs.lemmas.Bool.{and_from, lt-ltb, ltb-true, false≢true}
+use Rattle.std.specs.Prelude.{Option, IsSomeAnd, IfSome, cond, ◌&&◌, ◌==◌, is_some, nat_lt}
+use Rattle.std.specs.List.{Contains, slice_get}
+use Rattle.std.proofs.lemmas.Bool.{and_from, and_parts, eqb-true, lt-ltb, ltb-true, false≢true}
 use Rattle.std.proofs.lemmas.Option.{slice_get_within, get_or_from_slice_get}
 use Rattle.dd_lattice.specs.declared.position.Cell.{Cell}
 use Rattle.dd_lattice.specs.Place.{Place}
@@ -16,38 +16,49 @@ use Rattle.dd_boxes.specs.Goals.{GoalOf, breaks}
 use Rattle.dd_boxes.specs.Fillings.{IsConfiguration}
 use Rattle.dd_boxes.specs.Boxes.{HoldsNowhere}
 use Rattle.dd_query.specs.declared.queries.Query.{Query}
-use Rattle.dd_query.specs.Sound.{IsSoundQuery}
-use Rattle.dd_script.specs.Parts.{Parts, IsScriptOf}
+use Rattle.dd_query.specs.Made.{numbers_of}
+use Rattle.dd_faults.specs.declared.context.Known.{Known}
+use Rattle.dd_script.specs.Parts.{Parts}
 use Rattle.dd_certificate.specs.declared.answer.Answer.{Answer}
 use Rattle.dd_certificate.specs.declared.answer.Answer.TheVariants as answer
-use Rattle.dd_checker.specs.Questions.{Asked, membership, box, equality, asked, query_at}
+use Rattle.dd_script.specs.Questions.{Asked, membership, box, equality, listing, asked, query_at}
+use Rattle.dd_script.specs.Asking.{IsOf, IsSoundAsked, AreSound}
 use Rattle.dd_checker.specs.Certificates.{IsCertificateOf, IsCertificateFor, IsCertificate}
-use Rattle.dd_checker.specs.Holding.{MemberClaim, BoxClaim, EqualClaim}
-use Rattle.dd_checker.specs.Claims.{ClaimOf, ClaimFor, Claim}
+use Rattle.dd_checker.specs.Holding.{MemberClaim, BoxClaim, EqualClaim, ListClaim}
+use Rattle.dd_checker.specs.Claims.{ClaimOf, Claim}
 use Rattle.dd_checker.specs.Lifted.{is_yes, whole_look, IsWhole, IsNotAt, IsAskedNotAt, IsNowhereAt}
-use Rattle.dd_checker.proofs.Asking.{IsOf, setting_of, IsSoundAsked, asked_then}
+use Rattle.dd_checker.proofs.Listing.{ListedBreak, list_claims}
 use Rattle.dd_checker.proofs.Claiming.{member_claims, box_claims, equal_claims}
 
 some_then : {X : Type 0} (o : Option X) (P Q : X → Type 0) → ((x : X) → o ≡ Some x → P x → Q x) → IsSomeAnd o P → IsSomeAnd o Q
 some_then (Some x) P Q h p = h x refl p
 some_then None P Q h p = p
 
-pub query_sound : (s : Parts) → IsScriptOf s → (n : ℕ) (q : Query) → slice_get s.queries n ≡ Some q → IsSoundQuery s.known s.rules s.automata q
-query_sound s ok n q is =
-    subst (IsSoundQuery s.known s.rules s.automata) (get_or_from_slice_get s.queries n q q is) (ok.queries n q (slice_get_within s.queries n q is))
+-- the query stands in the script
+query_there : (s : Parts) (n : ℕ) (q : Query) → slice_get s.queries n ≡ Some q → Contains s.queries q
+query_there s n q is = (n, slice_get_within s.queries n q is, get_or_from_slice_get s.queries n q q is)
 
-asked_claims : (s : Parts) (a : Answer) (k : Asked) → IsSoundAsked s.known k → IsCertificateOf s.known.limits k a → ClaimOf k a
-asked_claims s a (membership x t) sound h = member_claims x t a h
-asked_claims s a (box x g) sound h = box_claims s.known.limits x g a sound.0.rule sound.1.goal h
-asked_claims s a (equality x y) sound h = equal_claims s.known.limits x y sound.0.rule sound.1.rule sound.2.goal sound.3.goal a h
+module _ (s : Parts) (sound : AreSound s) (listed : ListedBreak) where
+  asked_claims : (a : Answer) (k : Asked) → IsSoundAsked s.known k → IsCertificateOf s.known.limits k a → ClaimOf k a
+  asked_claims a (membership x t) ok h = member_claims x t a h
+  asked_claims a (box x g) ok h = box_claims s.known.limits x g a ok.0.rule ok.1.goal h
+  asked_claims a (equality x y) ok h = equal_claims s.known.limits x y ok.0.rule ok.1.rule ok.2.goal ok.3.goal a h
+  asked_claims a (listing x) ok h = list_claims listed x a h
 
--- a certificate of a query claims what is true
-pub certified : (s : Parts) → IsScriptOf s → (number : ℕ) (a : Answer) → IsCertificate s number a → Claim s number a
-certified s ok number a h =
-    some_then (query_at s number) (λ q. IsCertificateFor s q a) (λ q. ClaimFor s q a)
-    (λ q is both.
-    asked_then s ok q (query_sound s ok (number - 1) q is) (λ k. IsCertificateOf s.known.limits k a) (λ k. ClaimOf k a) (asked_claims s a) both.1)
-    h
+  -- what follows from a certificate of each sound question follows from one of a query
+  certificate_then : (number : ℕ) (a : Answer) (P : Asked → Type 0) →
+      ((k : Asked) → IsSoundAsked s.known k → IsCertificateOf s.known.limits k a → P k) →
+      IsCertificate s number a → IsSomeAnd (query_at s number) (λ q. IsSomeAnd (asked s q) P)
+  certificate_then number a P then h =
+      some_then (query_at s number) (λ q. IsCertificateFor s q a) (λ q. IsSomeAnd (asked s q) P)
+      (λ q is both.
+      some_then (asked s q) (λ k. IsCertificateOf s.known.limits k a) P
+      (λ k asks told. then k (sound q k (query_there s (number - 1) q is) asks) told) both.1)
+      h
+
+  -- a certificate of a query claims what is true
+  pub certified : (number : ℕ) (a : Answer) → IsCertificate s number a → Claim s number a
+  certified number a h = certificate_then number a (λ k. ClaimOf k a) (asked_claims a) h
 
 -- ---- configurations
 
@@ -65,7 +76,18 @@ yes_cases P one both (answer.Density numerator denominator cycle potentials) h =
 yes_cases P one both (answer.Empty ranks) h = absurd (false≢true h)
 yes_cases P one both (answer.Bound numerator denominator common amounts duals) h = absurd (false≢true h)
 
-module _ (s : Parts) (ok : IsScriptOf s) (nodes : ℕ) (symbol_of : Cell → ℕ) (whole : IsWhole s nodes symbol_of) where
+record HasSetting (k : Known) (x : LocalRule) : Type 0 where
+  dimension : x.dimension ≡ k.setting.topology.dimension
+  nodes : x.nodes ≡ k.setting.topology.nodes
+
+setting_of : (k : Known) (x : LocalRule) → IsOf k x → HasSetting k x
+setting_of k x of =
+    let n = numbers_of k in
+    let two = and_parts ((x.dimension == n.dimension) && (x.nodes == n.nodes)) (x.symbols == n.symbols) of.of.has in
+    let each = and_parts (x.dimension == n.dimension) (x.nodes == n.nodes) two.0 in
+    record { dimension = eqb-true _ _ each.0; nodes = eqb-true _ _ each.1 }
+
+module _ (s : Parts) (sound : AreSound s) (listed : ListedBreak) (nodes : ℕ) (symbol_of : Cell → ℕ) (whole : IsWhole s nodes symbol_of) where
   abbrev look : Look
   look = whole_look s.known.setting.topology.dimension nodes symbol_of
 
@@ -96,21 +118,20 @@ module _ (s : Parts) (ok : IsScriptOf s) (nodes : ℕ) (symbol_of : Cell → ℕ
         nowhere.configurations look (look_whole x of) obeys v level there
 
     asked_not_at : (a : Answer) → is_yes a ≡ true → (k : Asked) → IsSoundAsked s.known k → ClaimOf k a → IsAskedNotAt k look v
-    asked_not_at a told (membership x t) sound =
+    asked_not_at a told (membership x t) ok =
         yes_cases (λ b. MemberClaim x t b → ⊥) (λ n steps claim. claim) (λ n m steps others claim. claim) a told
-    asked_not_at a told (box x g) sound =
-        yes_cases (λ b. BoxClaim x g b → IsNotAt x g look v) (λ n steps claim. not_at x g n sound.0 claim) (λ n m steps others claim. absurd claim) a told
-    asked_not_at a told (equality x y) sound =
+    asked_not_at a told (box x g) ok =
+        yes_cases (λ b. BoxClaim x g b → IsNotAt x g look v) (λ n steps claim. not_at x g n ok.0 claim) (λ n m steps others claim. absurd claim) a told
+    asked_not_at a told (equality x y) ok =
         yes_cases (λ b. EqualClaim x y b → IsNotAt x (breaks y) look v × IsNotAt y (breaks x) look v)
         (λ n steps claim. absurd claim)
-        (λ n m steps others claim. (not_at x (breaks y) n sound.0 claim.0, not_at y (breaks x) m sound.1 claim.1))
+        (λ n m steps others claim. (not_at x (breaks y) n ok.0 claim.0, not_at y (breaks x) m ok.1 claim.1))
         a told
+    asked_not_at a told (listing x) ok =
+        yes_cases (λ b. ListClaim x b → ⊥) (λ n steps claim. claim) (λ n m steps others claim. claim) a told
 
     -- a YES that is a certificate says that the goal does not hold at v
     pub lifted_law : (number : ℕ) (a : Answer) → is_yes a ≡ true → IsCertificate s number a → IsNowhereAt s number look v
     lifted_law number a told h =
-        some_then (query_at s number) (λ q. IsCertificateFor s q a) (λ q. IsSomeAnd (asked s q) (λ k. IsAskedNotAt k look v))
-        (λ q is both.
-        asked_then s ok q (query_sound s ok (number - 1) q is) (λ k. IsCertificateOf s.known.limits k a) (λ k. IsAskedNotAt k look v)
-        (λ k sound certificate. asked_not_at a told k sound (asked_claims s a k sound certificate)) both.1)
-        h
+        certificate_then s sound listed number a (λ k. IsAskedNotAt k look v)
+        (λ k ok certificate. asked_not_at a told k ok (asked_claims s sound listed a k ok certificate)) h

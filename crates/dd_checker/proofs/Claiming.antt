@@ -14,7 +14,8 @@ use Rattle.dd_certificate.specs.declared.answer.Side.TheVariants as side
 use Rattle.dd_certificate.specs.declared.answer.Side.{Side}
 use Rattle.dd_certificate.specs.declared.answer.Answer.{Answer}
 use Rattle.dd_certificate.specs.declared.answer.Answer.TheVariants as answer
-use Rattle.dd_checker.specs.Evidence.{IsMemberCertificate, IsBoxCertificate, IsEqualCertificate, IsYes, IsNoOfSide}
+use Rattle.dd_evidence.specs.Answers.{IsMemberCertificate}
+use Rattle.dd_checker.specs.Evidence.{IsBoxCertificate, IsEqualCertificate, IsYes, IsNoOfSide}
 use Rattle.dd_checker.specs.Holding.{MemberClaim, BoxClaim, EqualClaim, SideClaim}
 
 -- Where the steps refute the clauses of a box, no admissible filling of it has the goal at the origin, so the goal holds

@@ -13,7 +13,7 @@ use Rattle.dd_boxes.specs.Boxes.{IsLeastRadius}
 use Rattle.dd_boxes.specs.Counts.{goal_clauses, question_clauses, most_clauses}
 use Rattle.dd_derivation.specs.declared.step.Step.{Step}
 use Rattle.dd_checker.specs.Evidence.{IsYes}
-use Rattle.dd_checker.specs.Sizes.{IsAskable}
+use Rattle.dd_script.specs.Asking.{IsAskable}
 
 -- ---- the positions of boxes as powers
 

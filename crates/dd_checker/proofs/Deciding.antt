@@ -12,11 +12,14 @@ use Rattle.dd_certificate.specs.declared.answer.Side.{Side}
 use Rattle.dd_certificate.specs.declared.answer.Side.TheVariants as side
 use Rattle.dd_certificate.specs.declared.answer.Reason.{Reason}
 use Rattle.dd_certificate.specs.declared.answer.Reason.TheVariants as reason
+use Rattle.dd_certificate.specs.declared.answer.Listed.{Listed}
 use Rattle.dd_certificate.specs.declared.answer.Answer.{Answer}
 use Rattle.dd_certificate.specs.declared.answer.Answer.TheVariants as answer
 use Rattle.dd_certificate.specs.Bounds.{IsWritable, IsWritableRefutation}
-use Rattle.dd_checker.specs.Evidence.{IsMemberCertificate, IsYes, IsNo, IsNoOfSide, IsBoxCertificate, IsEqualCertificate}
-use Rattle.dd_checker.specs.Sizes.{AreLimits}
+use Rattle.dd_evidence.specs.Lists.{IsListOf}
+use Rattle.dd_evidence.specs.Answers.{IsMemberCertificate, IsListCertificate}
+use Rattle.dd_checker.specs.Evidence.{IsYes, IsNo, IsNoOfSide, IsBoxCertificate, IsEqualCertificate}
+use Rattle.dd_meanings.specs.Sound.{AreLimits}
 use Rattle.dd_checker.proofs.Writable.{radius_writable, no_writable}
 
 -- what follows from two facts of the value in an `Ok`
@@ -69,6 +72,18 @@ other_member x t (answer.List patterns) here there h = h
 other_member x t (answer.Density numerator denominator cycle potentials) here there h = h
 other_member x t (answer.Empty ranks) here there h = h
 other_member x t (answer.Bound numerator denominator common amounts duals) here there h = h
+
+pub other_list : (x : LocalRule) (a : Answer) → ((patterns : List Listed) → a ≡ answer.List patterns → ⊥) → IsListCertificate x a → ⊥
+other_list x answer.Inside here h = h
+other_list x (answer.Outside place) here h = h
+other_list x (answer.Yes radius steps) here h = h
+other_list x (answer.YesBoth left right left_steps right_steps) here h = h
+other_list x (answer.No s periods shear symbols) here h = h
+other_list x (answer.Unknown r) here h = h
+other_list x (answer.List patterns) here h = here patterns refl
+other_list x (answer.Density numerator denominator cycle potentials) here h = h
+other_list x (answer.Empty ranks) here h = h
+other_list x (answer.Bound numerator denominator common amounts duals) here h = h
 
 module _ (l : Limits) (x y : LocalRule) (g : GoalOf) where
   pub other_box : (a : Answer) → ((n : ℕ) (steps : List Step) → a ≡ answer.Yes n steps → ⊥) →
@@ -173,3 +188,24 @@ module _ {E : Type 0} (l : Limits) (x y : LocalRule) (limits : AreLimits l) (lef
         λ both. k.1 both.1.1,
       ))
       exact fit)
+
+-- of the steps as they are taken
+pub both_result : {E : Type 0} (l : Limits) (x y : LocalRule) (n m : ℕ) (left_taken steps right_taken others : List Step) → left_taken ≡ steps → right_taken ≡ others →
+    (r : Result Bool E) →
+    IfOk r (λ b. (b ≡ true) ↔ (IsWritable (answer.YesBoth n m left_taken right_taken) × IsEqualCertificate l x y (answer.YesBoth n m left_taken right_taken))) →
+    IfOk r (λ b. (b ≡ true) ↔ (IsWritable (answer.YesBoth n m steps others) × IsEqualCertificate l x y (answer.YesBoth n m steps others)))
+both_result l x y n m left_taken steps right_taken others left_same right_same r exact =
+    let P : List Step → List Step → Type 0 =
+    λ ss os. IfOk r (λ b. (b ≡ true) ↔ (IsWritable (answer.YesBoth n m ss os) × IsEqualCertificate l x y (answer.YesBoth n m ss os))) in
+    subst (λ (ss : List Step). P ss others) left_same (subst (λ (os : List Step). P left_taken os) right_same exact)
+
+-- ---- forbidden patterns
+
+pub list_result : {E : Type 0} (x : LocalRule) → ((patterns : List Listed) → IsListOf x patterns → IsWritable (answer.List patterns)) →
+    (taken patterns : List Listed) → taken ≡ patterns → (r : Result Bool E) → IfOk r (λ b. (b ≡ true) ↔ IsListOf x taken) →
+    IfOk r (λ b. (b ≡ true) ↔ (IsWritable (answer.List patterns) × IsListCertificate x (answer.List patterns)))
+list_result x writable taken patterns same r exact =
+    subst (λ (ps : List Listed). IfOk r (λ b. (b ≡ true) ↔ (IsWritable (answer.List ps) × IsListCertificate x (answer.List ps)))) same
+    (IfOk-weaker r (λ b. (b ≡ true) ↔ IsListOf x taken)
+    (λ b. (b ≡ true) ↔ (IsWritable (answer.List taken) × IsListCertificate x (answer.List taken)))
+    (λ b told. (λ h. (writable taken (told.0 h), told.0 h), λ both. told.1 both.1)) exact)

@@ -1,43 +1,21 @@
--- The numbers that write a configuration give it back.
-use Rattle.std.proofs.Common.{◌≡◌, ℕ, zero, suc, ◌*◌, ◌<◌, ◌≤◌, Bool, true, List, [], ◌∷◌, length, take, refl, ap, sym, subst, ◌∙◌, arith}
+-- The configuration that is made of the numbers of an answer.
+use Rattle.std.proofs.Common.{◌≡◌, ℕ, ◌*◌, ◌<◌, ◌≤◌, Bool, true, List, [], ◌∷◌, length, refl, ap, sym, subst, ◌∙◌, arith}
 use Rattle.std.specs.Prelude.{◌↔◌, slice_index_or}
 use Rattle.std.specs.List.{All}
 use Rattle.std.proofs.lemmas.Nat.{mul-le}
-use Rattle.std.proofs.lemmas.List.{length-take-le}
 use Rattle.dd_pattern.specs.declared.periods.Periods.{Periods}
 use Rattle.dd_pattern.specs.Periods.{AreWithin, periods_of, volume}
-use Rattle.dd_pattern.specs.Tile.{Tile, tile, IsTile, IsPeriodic}
+use Rattle.dd_pattern.specs.Tile.{Tile, tile, IsPeriodic}
 use Rattle.dd_formula.specs.LocalRule.{LocalRule, IsRule}
-use Rattle.dd_formula.specs.Living.{Fits}
 use Rattle.dd_boxes.specs.declared.limits.Limits.{Limits}
 use Rattle.dd_boxes.specs.Goals.{GoalOf}
 use Rattle.dd_boxes.specs.Witnesses.{IsWitness}
-use Rattle.dd_checker.specs.Evidence.{given_periods, given_tile, written_periods, IsWrittenBack, IsNo}
-use Rattle.dd_checker.specs.Sizes.{IsGiven}
+use Rattle.dd_evidence.specs.Tiles.{given_periods, given_tile}
+use Rattle.dd_checker.specs.Evidence.{IsNo}
+use Rattle.dd_checker.specs.Given.{IsGiven}
 
 abbrev sheared : ℕ → ℕ → ℕ → ℕ → Periods
 sheared x y z shear = record { x = x; y = y; z = z; shear = shear }
-
-periods_back : (d x y z shear : ℕ) → 1 ≤ d → d ≤ 3 → (d < 2 → y ≡ 1) → (d < 3 → z ≡ 1) → given_periods (take d (x ∷ y ∷ z ∷ [])) shear ≡ sheared x y z shear
-periods_back zero x y z shear low high no_y no_z = absurd (omega arith)
-periods_back (suc zero) x y z shear low high no_y no_z =
-    ap (λ b. sheared x b 1 shear) (sym (no_y (omega arith))) ∙ ap (λ c. sheared x y c shear) (sym (no_z (omega arith)))
-periods_back (suc (suc zero)) x y z shear low high no_y no_z = ap (λ c. sheared x y c shear) (sym (no_z (omega arith)))
-periods_back (suc (suc (suc zero))) x y z shear low high no_y no_z = refl
-periods_back (suc (suc (suc (suc d)))) x y z shear low high no_y no_z = absurd (omega arith)
-
-pub written_back : (x : LocalRule) (t : Tile) → IsTile t → Fits x t → IsWrittenBack x t
-written_back x t ok fits =
-    let p = t.periods in
-    let are = ok.periods in
-    let periods : given_periods (written_periods t) p.shear ≡ p =
-    periods_back t.dimension p.x p.y p.z p.shear ok.some_dimension ok.most_dimension are.y_unused are.z_unused in
-    record {
-      as_many = length-take-le t.dimension (p.x ∷ p.y ∷ p.z ∷ []) ok.most_dimension ∙ fits.dimension;
-      same =
-          ap (λ (q : Periods). tile x.dimension q x.nodes t.symbols) periods
-          ∙ (ap (λ d. tile d p x.nodes t.symbols) (sym fits.dimension) ∙ ap (λ n. tile t.dimension p n t.symbols) (sym fits.nodes));
-    }
 
 -- ---- the configuration that the code makes of the numbers
 

@@ -7,7 +7,7 @@ pub mod Counting
 pub mod Narrowing
 pub mod PlaceLaws
 pub mod Giving
-pub mod Asking
+pub mod Listing
 pub mod QueryLaws
 pub mod Verdicts
 pub mod Certifying

@@ -10,7 +10,7 @@ use Rattle.dd_formula.specs.LocalRule.{LocalRule}
 use Rattle.dd_lattice.specs.declared.position.Cell.{Cell}
 use Rattle.dd_pattern.specs.Tile.{Tile}
 use Rattle.dd_formula.specs.Living.{IsFirstFalse}
-use Rattle.dd_checker.specs.Evidence.{written_cell, IsOutside}
+use Rattle.dd_evidence.specs.Cells.{written_cell, IsOutside}
 use Rattle.dd_checker.proofs.FirstCells.{first_cell}
 
 -- d coordinates of xs, and then n

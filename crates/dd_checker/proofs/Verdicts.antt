@@ -9,8 +9,8 @@ use Rattle.dd_certificate.specs.declared.answer.Answer.{Answer}
 use Rattle.dd_query.specs.declared.queries.Query.{Query}
 use Rattle.dd_script.specs.Parts.{Parts}
 use Rattle.dd_checker.specs.declared.verdict.Verdict.TheVariants as verdict
-use Rattle.dd_checker.specs.Questions.{is_checked, query_at, IsChecked}
-use Rattle.dd_checker.specs.Certificates.{IsCertificateFor, IsCertificate}
+use Rattle.dd_script.specs.Questions.{is_asked, query_at}
+use Rattle.dd_checker.specs.Certificates.{IsCertificateFor, IsCertificate, IsChecked}
 
 some_within : {X : Type 0} (xs : List X) (i : ℕ) (P : X → Type 0) → IsSomeAnd (slice_get xs i) P → i < length xs
 some_within xs i P h = cases (slice_get xs i) refl h where
@@ -20,7 +20,7 @@ some_within xs i P h = cases (slice_get xs i) refl h where
 
 module _ (s : Parts) (number : ℕ) (checked : IsChecked s number) where
   pub index_within : number - 1 < length s.queries
-  index_within = some_within s.queries (number - 1) (λ q. is_checked q ≡ true) checked.checked
+  index_within = some_within s.queries (number - 1) (λ q. is_asked q ≡ true) checked.checked
 
   module _ (qs : List Query) (same : qs ≡ s.queries) (q : Query) (is : q ≡ get_or qs (number - 1) q) where
     query_is : query_at s number ≡ Some q
@@ -30,8 +30,8 @@ module _ (s : Parts) (number : ℕ) (checked : IsChecked s number) where
     query_stands =
         subst (Contains s.queries) (sym (is ∙ ap (λ xs. get_or xs (number - 1) q) same)) (Contains-get_or s.queries (number - 1) q index_within)
 
-    pub query_checked : is_checked q ≡ true
-    query_checked = subst (λ (o : Option Query). IsSomeAnd o (λ p. is_checked p ≡ true)) query_is checked.checked
+    pub query_checked : is_asked q ≡ true
+    query_checked = subst (λ (o : Option Query). IsSomeAnd o (λ p. is_asked p ≡ true)) query_is checked.checked
 
     module _ (a : Answer) (b : Bool) (told : (b ≡ true) ↔ IsCertificateFor s q a) where
       from_query : IsCertificateFor s q a → IsCertificate s number a

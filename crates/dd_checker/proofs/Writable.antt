@@ -1,18 +1,13 @@
 -- An output can hold each certificate: its numbers are small, and the steps are those of a refutation.
-use Rattle.std.proofs.Common.{◌≡◌, ℕ, zero, suc, ◌+◌, ◌*◌, ◌≤◌, ◌<◌, true, List, [], ◌∷◌, ◌++◌, length, take, get_or, ap, sym, subst, ◌∙◌, arith, ℤ, pos, unsigned_abs, length-append, inl, inr}
+use Rattle.std.proofs.Common.{◌≡◌, ℕ, zero, suc, ◌*◌, ◌≤◌, ◌<◌, true, List, length, get_or, arith, ℤ, inl, inr}
 use Rattle.std.specs.Prelude.{◌&&◌}
 use Rattle.std.specs.List.{All, list_all}
 use Rattle.std.proofs.lemmas.Bool.{and_from, cases_lt}
 use Rattle.std.proofs.lemmas.Nat.{mul-le}
-use Rattle.std.proofs.lemmas.List.{length-take-le}
-use Rattle.std.proofs.lemmas.List.Elements.{All-nil, All-cons, All-append, All-take, All-from_get_or}
+use Rattle.std.proofs.lemmas.List.Elements.{All-from_get_or}
 use Rattle.std.proofs.lemmas.List.Sums.{AllPass-from_list_all, list_all-from_AllPass}
-use Rattle.dd_lattice.specs.declared.position.Cell.{Cell}
-use Rattle.dd_lattice.specs.Place.{Place}
-use Rattle.dd_pattern.specs.Periods.{volume, residue, unsheared}
-use Rattle.dd_pattern.specs.Tile.{Tile, IsPeriodic, IsInBox}
-use Rattle.dd_pattern.proofs.Residues.{residue_below}
-use Rattle.dd_pattern.proofs.TileSizes.{sizes_of}
+use Rattle.dd_pattern.specs.Periods.{volume}
+use Rattle.dd_pattern.specs.Tile.{Tile, IsPeriodic}
 use Rattle.dd_derivation.specs.declared.step.Step.{Step}
 use Rattle.dd_formula.specs.LocalRule.{LocalRule, IsRule, is_near, is_of, reads_at}
 use Rattle.dd_formula.specs.Living.{Fits}
@@ -25,50 +20,20 @@ use Rattle.dd_boxes.proofs.ReachLaws.{box_from_within}
 use Rattle.dd_certificate.specs.declared.answer.Side.{Side}
 use Rattle.dd_certificate.specs.declared.answer.Answer.{Answer}
 use Rattle.dd_certificate.specs.declared.answer.Answer.TheVariants as answer
-use Rattle.dd_certificate.specs.Bounds.{IsWritable, IsWritableNumber, IsWritableSigned, HasShear}
-use Rattle.dd_checker.specs.Evidence.{written_cell, given_periods, IsOutside, IsMemberCertificate, IsYes, IsNo}
-use Rattle.dd_checker.specs.Sizes.{AreLimits}
+use Rattle.dd_certificate.specs.Bounds.{IsWritable, IsWritableNumber, HasShear}
+use Rattle.dd_evidence.specs.Cells.{IsOutside}
+use Rattle.dd_evidence.specs.Tiles.{given_periods}
+use Rattle.dd_evidence.specs.Answers.{IsMemberCertificate}
+use Rattle.dd_checker.specs.Evidence.{IsYes, IsNo}
+use Rattle.dd_meanings.specs.Sound.{AreLimits}
 
 -- ---- places
 
--- a coordinate in the fundamental box
-coordinate_fits : (z w : ℤ) (n : ℕ) → 0 < n → n ≤ 65536 → pos (residue w n) ≡ z → IsWritableSigned z
-coordinate_fits z w n some few is =
-    let below : residue w n < n = residue_below w n some in
-    let same : residue w n ≡ unsigned_abs z = ap unsigned_abs is in
-    omega (arith, below, same, few)
-
-place_writable : (d : ℕ) (t : Tile) (c : Cell) → 1 ≤ d → d ≤ 3 → IsPeriodic t → t.nodes ≤ 65536 → IsInBox t c → IsWritable (answer.Outside (written_cell d c))
-place_writable d t c some most periodic few at =
-    let all = c.position.x ∷ c.position.y ∷ c.position.z ∷ [] in
-    let p = t.periods in
-    let are = periodic.tile.periods in
-    let sizes = sizes_of t periodic in
-    let on_x : IsWritableSigned c.position.x = coordinate_fits c.position.x (unsheared p c.position) p.x are.x_some sizes.x_small (ap (λ (q : Place). q.x) at.base) in
-    let on_y : IsWritableSigned c.position.y = coordinate_fits c.position.y c.position.y p.y are.y_some sizes.y_small (ap (λ (q : Place). q.y) at.base) in
-    let on_z : IsWritableSigned c.position.z = coordinate_fits c.position.z c.position.z p.z are.z_some sizes.z_small (ap (λ (q : Place). q.z) at.base) in
-    let node : IsWritableSigned (pos c.node) = (let below = at.node in omega (arith, below, few)) in
-    let each : All IsWritableSigned all = All-cons IsWritableSigned c.position.x (c.position.y ∷ c.position.z ∷ []) on_x
-    (All-cons IsWritableSigned c.position.y (c.position.z ∷ []) on_y (All-cons IsWritableSigned c.position.z [] on_z (All-nil IsWritableSigned))) in
-    let many : length (take d all ++ pos c.node ∷ []) ≡ d + 1 =
-    length-append (take d all) (pos c.node ∷ []) ∙ (let those : length (take d all) ≡ d = length-take-le d all most in omega (arith, those)) in (
-      omega (arith, many, some),
-      omega (arith, many, most),
-      All-append IsWritableSigned (take d all) (pos c.node ∷ []) (All-take IsWritableSigned d all each)
-          (All-cons IsWritableSigned (pos c.node) [] node (All-nil IsWritableSigned)),
-    )
-
-module _ (x : LocalRule) (t : Tile) (rule : IsRule x) (periodic : IsPeriodic t) (fits : Fits x t) where
-  outside_writable : (place : List ℤ) → IsOutside x t place → IsWritable (answer.Outside place)
-  outside_writable place at =
-      let same : t.nodes ≡ x.nodes = fits.nodes in
-      let few : x.nodes ≤ 4 = rule.nodes.1 in
-      subst (λ (p : List ℤ). IsWritable (answer.Outside p)) (sym at.2)
-      (place_writable x.dimension t at.0 rule.dimension.0 rule.dimension.1 periodic (omega (arith, same, few)) at.1.within)
-
+module _ (fit : (x : LocalRule) (t : Tile) (place : List ℤ) → IsRule x → IsPeriodic t → Fits x t → IsOutside x t place → IsWritable (answer.Outside place))
+    (x : LocalRule) (t : Tile) (rule : IsRule x) (periodic : IsPeriodic t) (fits : Fits x t) where
   pub member_writable : (a : Answer) → IsMemberCertificate x t a → IsWritable a
   member_writable answer.Inside h = tt
-  member_writable (answer.Outside place) h = outside_writable place h
+  member_writable (answer.Outside place) h = fit x t place rule periodic fits h
   member_writable (answer.Yes radius steps) h = absurd h
   member_writable (answer.YesBoth left right left_steps right_steps) h = absurd h
   member_writable (answer.No s periods shear symbols) h = absurd h
@@ -104,9 +69,9 @@ radius_writable l x g n steps limits ok told =
 module _ (l : Limits) (x : LocalRule) (g : GoalOf) (along : List ℕ) (shear : ℕ) (symbols : List ℕ) (limits : AreLimits l) (rule : IsRule x)
     (told : IsNo l x g along shear symbols) where
   period_writable : (i : ℕ) → i < length along → IsWritableNumber (get_or along i 1)
-  period_writable zero h = let le = told.periods.x_most in let most = limits.period in omega (arith, le, most)
-  period_writable (suc zero) h = let le = told.periods.y_most in let most = limits.period in omega (arith, le, most)
-  period_writable (suc (suc zero)) h = let le = told.periods.z_most in let most = limits.period in omega (arith, le, most)
+  period_writable zero h = let le = told.periods.x_most in let most = limits.period.1 in omega (arith, le, most)
+  period_writable (suc zero) h = let le = told.periods.y_most in let most = limits.period.1 in omega (arith, le, most)
+  period_writable (suc (suc zero)) h = let le = told.periods.z_most in let most = limits.period.1 in omega (arith, le, most)
   period_writable (suc (suc (suc i))) h = let many = told.as_many in let most = rule.dimension.1 in absurd (omega (arith, many, most, h))
 
   has_shear : HasShear along shear
@@ -132,7 +97,7 @@ module _ (l : Limits) (x : LocalRule) (g : GoalOf) (along : List ℕ) (shear : �
   shear_writable =
       let below = told.periods.periods.shear_small in
       let le = told.periods.x_most in
-      let most = limits.period in
+      let most = limits.period.1 in
       omega (arith, below, le, most)
 
   pub no_writable : (s : Side) → IsWritable (answer.No s along shear symbols)

@@ -1,11 +1,7 @@
--- Which answers to a question are certificates.
-use Rattle.std.specs.Prelude.{ℕ, ◌≡◌, ◌≤◌, true, max, ℤ, pos, List, [], ◌∷◌, ◌++◌, length, take, slice_index_or}
-use Rattle.dd_lattice.specs.declared.position.Cell.{Cell}
-use Rattle.dd_pattern.specs.declared.periods.Periods.{Periods}
+-- Which answers to a box question are certificates.
+use Rattle.std.specs.Prelude.{ℕ, ◌≡◌, ◌≤◌, true, max, List, length}
 use Rattle.dd_pattern.specs.Periods.{AreWithin}
-use Rattle.dd_pattern.specs.Tile.{Tile, tile}
 use Rattle.dd_formula.specs.LocalRule.{LocalRule}
-use Rattle.dd_formula.specs.Living.{Lives, IsFirstFalse}
 use Rattle.dd_derivation.specs.declared.step.Step.{Step}
 use Rattle.dd_derivation.specs.Derivations.{refutes}
 use Rattle.dd_boxes.specs.declared.limits.Limits.{Limits}
@@ -13,35 +9,12 @@ use Rattle.dd_boxes.specs.Goals.{GoalOf, breaks}
 use Rattle.dd_boxes.specs.Boxes.{IsLeastRadius}
 use Rattle.dd_boxes.specs.Witnesses.{IsWitness}
 use Rattle.dd_problem.specs.Problems.{box_problem}
+use Rattle.dd_evidence.specs.Tiles.{given_periods, given_tile}
 use Rattle.dd_certificate.specs.declared.answer.Side.{Side}
 use Rattle.dd_certificate.specs.declared.answer.Side.TheVariants as side
 use Rattle.dd_certificate.specs.declared.answer.Reason.TheVariants as reason
 use Rattle.dd_certificate.specs.declared.answer.Answer.{Answer}
 use Rattle.dd_certificate.specs.declared.answer.Answer.TheVariants as answer
-
--- ---- membership
-
--- the coordinates of a cell of Z^d, and then its node
-abbrev pub written_cell : ℕ → Cell → List ℤ
-written_cell d c = take d (c.position.x ∷ c.position.y ∷ c.position.z ∷ []) ++ pos c.node ∷ []
-
--- the place is that of the first cell of the fundamental box at which the rule is false
-abbrev pub IsOutside : LocalRule → Tile → List ℤ → Type 0
-IsOutside x t place = (c : Cell) × IsFirstFalse x t c × (place ≡ written_cell x.dimension c)
-
-abbrev pub IsMemberCertificate : LocalRule → Tile → Answer → Type 0
-IsMemberCertificate x t answer.Inside = Lives x t
-IsMemberCertificate x t (answer.Outside place) = IsOutside x t place
-IsMemberCertificate x t (answer.Yes radius steps) = ⊥
-IsMemberCertificate x t (answer.YesBoth left right left_steps right_steps) = ⊥
-IsMemberCertificate x t (answer.No s periods shear symbols) = ⊥
-IsMemberCertificate x t (answer.Unknown r) = ⊥
-IsMemberCertificate x t (answer.List patterns) = ⊥
-IsMemberCertificate x t (answer.Density numerator denominator cycle potentials) = ⊥
-IsMemberCertificate x t (answer.Empty ranks) = ⊥
-IsMemberCertificate x t (answer.Bound numerator denominator common amounts duals) = ⊥
-
--- ---- box questions
 
 -- the steps refute the clauses that ask for an admissible filling of B(n) with the goal at the origin
 abbrev pub Refutes : LocalRule → GoalOf → ℕ → List Step → Type 0
@@ -55,24 +28,6 @@ pub record IsYes (l : Limits) (x : LocalRule) (g : GoalOf) (n : ℕ) (steps : Li
   pub low : least ≤ n
   pub high : n ≤ max l.radius least
   pub refuting : Refutes x g n steps
-
--- the periods that an answer gives, 1 along an axis for which it gives none
-abbrev pub given_periods : List ℕ → ℕ → Periods
-given_periods along shear =
-    record { x = slice_index_or along 0 1; y = slice_index_or along 1 1; z = slice_index_or along 2 1; shear = shear }
-
--- the configuration that it gives
-abbrev pub given_tile : LocalRule → List ℕ → ℕ → List ℕ → Tile
-given_tile x along shear symbols = tile x.dimension (given_periods along shear) x.nodes symbols
-
--- the periods of a configuration along the axes that there are, as an answer gives them
-abbrev pub written_periods : Tile → List ℕ
-written_periods t = take t.dimension (t.periods.x ∷ t.periods.y ∷ t.periods.z ∷ [])
-
--- what is written of a configuration gives it back
-pub record IsWrittenBack (x : LocalRule) (t : Tile) : Type 0 where
-  pub as_many : length (written_periods t) ≡ x.dimension
-  pub same : given_tile x (written_periods t) t.periods.shear t.symbols ≡ t
 
 -- there is a period for each axis, of at most the limit, and a shear less than the first; and the configuration has allowed
 -- symbols, lives in the premise's subshift and has the goal at the origin

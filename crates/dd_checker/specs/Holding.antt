@@ -1,17 +1,24 @@
 -- What the answers to a question claim.
-use Rattle.std.specs.Prelude.{ℕ, ◌≡◌, false, ℤ, List}
+use Rattle.std.specs.Prelude.{ℕ, ◌≡◌, ◌<◌, ◌↔◌, true, false, ℤ, List, Some, map, Contains}
+use Rattle.dd_lattice.specs.Place.{Place}
+use Rattle.dd_lattice.specs.Cells.{cell, shifted}
 use Rattle.dd_lattice.specs.declared.position.Cell.{Cell}
+use Rattle.dd_pattern.specs.Reading.{Look}
 use Rattle.dd_pattern.specs.Tile.{Tile, tile_look}
-use Rattle.dd_formula.specs.LocalRule.{LocalRule, is_true}
+use Rattle.dd_formula.specs.LocalRule.{LocalRule, is_true, cells_at}
 use Rattle.dd_formula.specs.Living.{Lives}
+use Rattle.dd_forbidden.specs.Breaking.{are_allowed}
 use Rattle.dd_boxes.specs.Goals.{GoalOf, breaks}
 use Rattle.dd_boxes.specs.Boxes.{HoldsNowhere}
 use Rattle.dd_boxes.specs.Witnesses.{IsWitness}
 use Rattle.dd_certificate.specs.declared.answer.Side.{Side}
 use Rattle.dd_certificate.specs.declared.answer.Side.TheVariants as side
+use Rattle.dd_certificate.specs.declared.answer.Listed.{Listed}
 use Rattle.dd_certificate.specs.declared.answer.Answer.{Answer}
 use Rattle.dd_certificate.specs.declared.answer.Answer.TheVariants as answer
-use Rattle.dd_checker.specs.Evidence.{written_cell, given_tile}
+use Rattle.dd_evidence.specs.Cells.{written_cell}
+use Rattle.dd_evidence.specs.Tiles.{given_tile}
+use Rattle.dd_evidence.specs.Lists.{listed}
 
 -- ---- membership
 
@@ -64,3 +71,26 @@ EqualClaim x y (answer.List patterns) = ⊥
 EqualClaim x y (answer.Density numerator denominator cycle potentials) = ⊥
 EqualClaim x y (answer.Empty ranks) = ⊥
 EqualClaim x y (answer.Bound numerator denominator common amounts duals) = ⊥
+
+-- ---- forbidden patterns
+
+-- the cells that the rule reads at a node, counted from v, have these symbols
+abbrev pub AreReadAt : LocalRule → Look → Place → ℕ → List ℕ → Type 0
+AreReadAt x look v a ss = map (λ c. look (shifted v c)) (cells_at x a) ≡ map Some ss
+
+-- wherever these are symbols that their nodes allow, the rule is false exactly where they are a listed pattern
+abbrev pub TellsBreaking : LocalRule → List Listed → Type 0
+TellsBreaking x patterns = (look : Look) (v : Place) (a : ℕ) (ss : List ℕ) → a < x.nodes → AreReadAt x look v a ss →
+    are_allowed x (cells_at x a) ss ≡ true → (is_true x (cell v a) look ≡ false) ↔ Contains patterns (listed a ss)
+
+abbrev pub ListClaim : LocalRule → Answer → Type 0
+ListClaim x answer.Inside = ⊥
+ListClaim x (answer.Outside place) = ⊥
+ListClaim x (answer.Yes radius steps) = ⊥
+ListClaim x (answer.YesBoth left right left_steps right_steps) = ⊥
+ListClaim x (answer.No s periods shear symbols) = ⊥
+ListClaim x (answer.Unknown r) = Unit {0}
+ListClaim x (answer.List patterns) = TellsBreaking x patterns
+ListClaim x (answer.Density numerator denominator cycle potentials) = ⊥
+ListClaim x (answer.Empty ranks) = ⊥
+ListClaim x (answer.Bound numerator denominator common amounts duals) = ⊥

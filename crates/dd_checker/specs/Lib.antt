@@ -1,5 +1,4 @@
--- what the queries of a script ask, which answers to them are certificates, and what those claim
-pub mod Questions
+-- which answers to the queries of a script are certificates, and what those claim
 pub mod Certificates
 pub mod Claims
 -- the same of one question
@@ -7,5 +6,5 @@ pub mod Evidence
 pub mod Holding
 -- what a YES says of any configuration
 pub mod Lifted
--- which questions can be checked
-pub mod Sizes
+-- the numbers of configurations
+pub mod Given

@@ -11,7 +11,7 @@ use Rattle.dd_boxes.specs.Goals.{GoalOf, breaks, HasGoal}
 use Rattle.dd_certificate.specs.declared.answer.Answer.{Answer}
 use Rattle.dd_certificate.specs.declared.answer.Answer.TheVariants as answer
 use Rattle.dd_script.specs.Parts.{Parts}
-use Rattle.dd_checker.specs.Questions.{Asked, membership, box, equality, asked, query_at}
+use Rattle.dd_script.specs.Questions.{Asked, membership, box, equality, listing, asked, query_at}
 
 abbrev pub is_yes : Answer → Bool
 is_yes answer.Inside = false
@@ -39,11 +39,12 @@ pub record IsWhole (s : Parts) (nodes : ℕ) (symbol_of : Cell → ℕ) : Type 0
 abbrev pub IsNotAt : LocalRule → GoalOf → Look → Place → Type 0
 IsNotAt x g look v = Obeys x look → HasGoal g look v → ⊥
 
--- of each goal that is asked for; no YES answers a question of membership
+-- of each goal that is asked for; no YES answers a question without one
 abbrev pub IsAskedNotAt : Asked → Look → Place → Type 0
 IsAskedNotAt (membership x t) look v = ⊥
 IsAskedNotAt (box x g) look v = IsNotAt x g look v
 IsAskedNotAt (equality x y) look v = IsNotAt x (breaks y) look v × IsNotAt y (breaks x) look v
+IsAskedNotAt (listing x) look v = ⊥
 
 -- the same of the goals that the query with a number, from 1, asks for
 abbrev pub IsNowhereAt : Parts → ℕ → Look → Place → Type 0

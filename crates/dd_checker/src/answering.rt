@@ -1,90 +1,20 @@
 //! Answers to the queries of scripts.
 ghost use Rattle.std.specs.Prelude.{◌≡◌, ◌↔◌, true, IsTrue, IfOk, Contains};
-ghost use Rattle.dd_query.specs.declared.queries.Query.TheVariants as query;
-ghost use Rattle.dd_checker.specs.Questions.{is_checked, IsChecked};
-ghost use Rattle.dd_checker.specs.Certificates.{IsCertificateFor, IsCertificate};
+ghost use Rattle.dd_script.specs.Questions.{is_asked};
+ghost use Rattle.dd_checker.specs.Certificates.{IsCertificateFor, IsCertificate, IsChecked};
 ghost use Rattle.dd_checker.specs.Claims.{Claim};
 
 use crate::boxes::{check_box, check_equal};
+use crate::laws::certified;
+use crate::lists::check_list;
 use crate::places::check_member;
 use crate::verdict::Verdict;
-use dd_boxes::Goal;
 use dd_certificate::Answer;
 use dd_query::Query;
-use dd_script::Script;
+use dd_script::{Question, Script};
 use std::alloc::{AllocError, Global};
 
-/// Whether answers to queries of this kind are checked.
-pub fn is_checked(query: &Query) -> bool
-    ensures { result ≡ is_checked query.now }
-{
-    matches!(
-        query,
-        Query::Member { .. } | Query::Contains { .. } | Query::Equal { .. } | Query::Empty { .. }
-    )
-}
-
-fn member(script: &Script, configuration: u32, rule: u32, answer: &Answer) -> bool
-    requires { Contains script.now.queries (query.Member configuration rule) }
-    ensures { IsTrue result ↔ IsCertificateFor script.now (query.Member configuration rule) answer.now }
-{
-    let rules = script.rules();
-    let configurations = script.configurations();
-    let rule = &rules[rule as usize];
-    let periodic = &configurations[configuration as usize];
-    // Read for what their types keep.
-    let _nodes = rule.nodes();
-    let _symbols = periodic.symbols();
-    check_member(rule, periodic, answer)
-}
-
-fn contains(
-    alloc: Global,
-    script: &Script,
-    outer: u32,
-    inner: u32,
-    answer: &Answer,
-) -> Result<bool, AllocError>
-    requires { Contains script.now.queries (query.Contains outer inner) }
-    ensures { IfOk result (λ accepted. IsTrue accepted ↔ IsCertificateFor script.now (query.Contains outer inner) answer.now) }
-{
-    let rules = script.rules();
-    let goal = Goal::Breaks(&rules[outer as usize]);
-    let limits = script.limits();
-    check_box(alloc, &rules[inner as usize], &goal, limits, answer)
-}
-
-fn equal(
-    alloc: Global,
-    script: &Script,
-    left: u32,
-    right: u32,
-    answer: &Answer,
-) -> Result<bool, AllocError>
-    requires { Contains script.now.queries (query.Equal left right) }
-    ensures { IfOk result (λ accepted. IsTrue accepted ↔ IsCertificateFor script.now (query.Equal left right) answer.now) }
-{
-    let rules = script.rules();
-    let limits = script.limits();
-    check_equal(
-        alloc,
-        &rules[left as usize],
-        &rules[right as usize],
-        limits,
-        answer,
-    )
-}
-
-fn empty(alloc: Global, script: &Script, rule: u32, answer: &Answer) -> Result<bool, AllocError>
-    requires { Contains script.now.queries (query.Empty rule) }
-    ensures { IfOk result (λ accepted. IsTrue accepted ↔ IsCertificateFor script.now (query.Empty rule) answer.now) }
-{
-    let rules = script.rules();
-    let limits = script.limits();
-    check_box(alloc, &rules[rule as usize], &Goal::Always, limits, answer)
-}
-
-/// Whether an answer is a certificate of a query.
+/// Whether an answer is a certificate of a query, one that an output can hold.
 fn check_query(
     alloc: Global,
     script: &Script,
@@ -92,18 +22,18 @@ fn check_query(
     answer: &Answer,
 ) -> Result<bool, AllocError>
     requires stands { Contains script.now.queries query.now }
-    requires checked { is_checked query.now ≡ true }
+    requires asked { is_asked query.now ≡ true }
     ensures { IfOk result (λ accepted. IsTrue accepted ↔ IsCertificateFor script.now query.now answer.now) }
 {
-    match query {
-        Query::Member {
-            configuration,
+    let limits = script.limits();
+    match script.question(query) {
+        Question::Membership {
             rule,
-        } => Ok(member(script, *configuration, *rule, answer)),
-        Query::Contains { outer, inner } => contains(alloc, script, *outer, *inner, answer),
-        Query::Equal { left, right } => equal(alloc, script, *left, *right, answer),
-        Query::Empty { rule } => empty(alloc, script, *rule, answer),
-        _ => unreachable!(),
+            configuration,
+        } => Ok(check_member(rule, configuration, answer)),
+        Question::Box { premise, goal } => check_box(alloc, premise, &goal, limits, answer),
+        Question::Equality { left, right } => check_equal(alloc, left, right, limits, answer),
+        Question::Listing { rule } => check_list(alloc, rule, answer),
     }
 }
 
@@ -119,6 +49,7 @@ pub fn check_answer(
     ensures exact { IfOk result (λ verdict. (verdict ≡ Verdict.Accepted) ↔ IsCertificate script.now query answer.now) }
     ensures claim { IfOk result (λ verdict. verdict ≡ Verdict.Accepted → Claim script.now query answer.now) }
 {
+    certified(script);
     let queries = script.queries();
     let number = query as usize - 1;
     let accepted = check_query(alloc, script, &queries[number], answer)?;

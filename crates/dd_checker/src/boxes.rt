@@ -2,14 +2,17 @@
 ghost use Rattle.std.specs.Prelude.{◌≡◌, ◌↔◌, IsTrue, IfOk};
 ghost use Rattle.dd_boxes.specs.Goals.{breaks};
 ghost use Rattle.dd_boxes.specs.Views.{goal_of};
+ghost use Rattle.dd_certificate.specs.declared.answer.Answer.TheVariants as answer;
 ghost use Rattle.dd_certificate.specs.Bounds.{IsWritable};
 ghost use Rattle.dd_checker.specs.Evidence.{IsNoOfSide, IsBoxCertificate, IsEqualCertificate};
-ghost use Rattle.dd_checker.specs.Sizes.{AreLimits, IsAskable};
+ghost use Rattle.dd_script.specs.Asking.{IsAskable};
+ghost use Rattle.dd_meanings.specs.Sound.{AreLimits};
 
 use crate::refutations::check_yes;
 use crate::witnesses::check_no;
 use dd_boxes::{Goal, Limits};
 use dd_certificate::{Answer, Reason, Side};
+use dd_derivation::Step;
 use dd_formula::Rule;
 use std::alloc::{AllocError, Global};
 
@@ -96,6 +99,34 @@ fn check_side(
     }
 }
 
+/// Whether both radii are such as were asked for, and the steps refute the clauses of their boxes.
+fn check_both(
+    alloc: Global,
+    left: &Rule,
+    right: &Rule,
+    limits: &Limits,
+    left_radius: u64,
+    right_radius: u64,
+    left_steps: &[Step],
+    right_steps: &[Step],
+) -> Result<bool, AllocError>
+    requires limits { AreLimits limits.now }
+    requires left { IsAskable limits.now left.now (breaks right.now) }
+    requires right { IsAskable limits.now right.now (breaks left.now) }
+    ensures { IfOk result (λ accepted. IsTrue accepted ↔ (IsWritable (answer.YesBoth left_radius right_radius left_steps.now right_steps.now)
+        × IsEqualCertificate limits.now left.now right.now (answer.YesBoth left_radius right_radius left_steps.now right_steps.now))) }
+{
+    // Read for what their types keep.
+    let _left = left.symbols();
+    let _right = right.symbols();
+    let goal = Goal::Breaks(right);
+    if !check_yes(alloc, left, &goal, limits, left_radius, left_steps)? {
+        return Ok(false);
+    }
+    let goal = Goal::Breaks(left);
+    check_yes(alloc, right, &goal, limits, right_radius, right_steps)
+}
+
 /// Whether an answer is a certificate of whether two rules allow the same configurations, one that an output can hold.
 pub(crate) fn check_equal(
     alloc: Global,
@@ -118,28 +149,16 @@ pub(crate) fn check_equal(
             right: right_radius,
             left_steps,
             right_steps,
-        } => {
-            let goal = Goal::Breaks(right);
-            if !check_yes(
-                alloc,
-                left,
-                &goal,
-                limits,
-                *left_radius,
-                left_steps.as_slice(),
-            )? {
-                return Ok(false);
-            }
-            let goal = Goal::Breaks(left);
-            check_yes(
-                alloc,
-                right,
-                &goal,
-                limits,
-                *right_radius,
-                right_steps.as_slice(),
-            )
-        }
+        } => check_both(
+            alloc,
+            left,
+            right,
+            limits,
+            *left_radius,
+            *right_radius,
+            left_steps.as_slice(),
+            right_steps.as_slice(),
+        ),
         Answer::No {
             side,
             periods,

@@ -1,24 +1,16 @@
 //! Laws of certificates, as contracts of calls that do nothing.
-ghost use Rattle.std.specs.Prelude.{◌≡◌, ◌≤◌, ℕ, true};
-ghost use Rattle.dd_pattern.specs.Tile.{Tile, IsTile};
+ghost use Rattle.std.specs.Prelude.{◌≡◌, ℕ, true};
 ghost use Rattle.dd_expansion.specs.Placed.{is_flat};
-ghost use Rattle.dd_formula.specs.LocalRule.{LocalRule};
-ghost use Rattle.dd_formula.specs.Living.{Fits};
 ghost use Rattle.dd_certificate.specs.declared.answer.Answer.{Answer as AnyAnswer};
-ghost use Rattle.dd_checker.specs.Evidence.{IsWrittenBack};
 ghost use Rattle.dd_checker.specs.Certificates.{IsCertificate};
 ghost use Rattle.dd_checker.specs.Claims.{Claim};
 ghost use Rattle.dd_checker.specs.Lifted.{is_yes, whole_look, IsWhole, IsNowhereAt};
 
 use dd_certificate::Answer;
+use dd_evidence::listed_break;
 use dd_lattice::Position;
 use dd_pattern::Configuration;
 use dd_script::Script;
-
-/// Does nothing; its contract says that the numbers that write a configuration in an answer give it back.
-pub fn written_back()
-    ensures { (x : LocalRule) (t : Tile) → IsTile t → Fits x t → IsWrittenBack x t }
-{}
 
 /// Does nothing; its contract says that what a certificate claims is true.
 pub fn certified(script: &Script)
@@ -26,6 +18,8 @@ pub fn certified(script: &Script)
 {
     // Read for what its type keeps.
     let _limits = script.limits();
+    script.sound_questions();
+    listed_break();
 }
 
 /// Does nothing; its contract draws the conclusion of a YES that is a certificate for any configuration, also for one that no
@@ -47,4 +41,6 @@ pub fn lifted<C: Configuration>(
 {
     // Read for what its type keeps.
     let _limits = script.limits();
+    script.sound_questions();
+    listed_break();
 }

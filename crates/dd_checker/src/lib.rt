@@ -5,13 +5,14 @@ mod answering;
 mod boxes;
 mod configurations;
 mod laws;
+mod lists;
 mod places;
 mod refutations;
 mod verdict;
 mod witnesses;
 
-pub use answering::{check_answer, is_checked};
+pub use answering::check_answer;
 pub use configurations::check_periodic;
 pub use dd_certificate::Answer;
-pub use laws::{certified, lifted, written_back};
+pub use laws::{certified, lifted};
 pub use verdict::Verdict;

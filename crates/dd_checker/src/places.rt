@@ -1,10 +1,13 @@
 //! Answers to queries of membership. Nothing here takes memory.
 ghost use Rattle.std.specs.Prelude.{◌≡◌, ◌≤◌, ◌↔◌, [], ◌∷◌, pos, IsTrue};
 ghost use Rattle.dd_formula.specs.Living.{Fits};
-ghost use Rattle.dd_checker.specs.Evidence.{written_cell, IsOutside, IsMemberCertificate};
+ghost use Rattle.dd_certificate.specs.Bounds.{IsWritable};
+ghost use Rattle.dd_evidence.specs.Cells.{written_cell, IsOutside};
+ghost use Rattle.dd_evidence.specs.Answers.{IsMemberCertificate};
 
 use crate::configurations::lives;
 use dd_certificate::Answer;
+use dd_evidence::places_fit;
 use dd_formula::{Membership, Rule};
 use dd_lattice::Cell;
 use dd_pattern::Periodic;
@@ -57,7 +60,7 @@ fn is_outside(rule: &Rule, periodic: &Periodic, place: &[i64]) -> bool
 }
 
 /// Whether an answer is a certificate of whether a configuration lives in a rule's subshift.
-pub(crate) fn check_member(rule: &Rule, periodic: &Periodic, answer: &Answer) -> bool
+fn is_member_certificate(rule: &Rule, periodic: &Periodic, answer: &Answer) -> bool
     requires { Fits rule.now periodic.now }
     ensures { IsTrue result ↔ IsMemberCertificate rule.now periodic.now answer.now }
 {
@@ -66,4 +69,16 @@ pub(crate) fn check_member(rule: &Rule, periodic: &Periodic, answer: &Answer) ->
         Answer::Outside { place } => is_outside(rule, periodic, place.as_slice()),
         _ => false,
     }
+}
+
+/// The same, of one that an output can hold, as it can hold each.
+pub(crate) fn check_member(rule: &Rule, periodic: &Periodic, answer: &Answer) -> bool
+    requires { Fits rule.now periodic.now }
+    ensures { IsTrue result ↔ (IsWritable answer.now × IsMemberCertificate rule.now periodic.now answer.now) }
+{
+    places_fit();
+    // Read for what their types keep.
+    let _nodes = rule.nodes();
+    let _symbols = periodic.symbols();
+    is_member_certificate(rule, periodic, answer)
 }

@@ -7,7 +7,7 @@ ghost use Rattle.dd_boxes.specs.Counts.{question_clauses, most_clauses};
 ghost use Rattle.dd_boxes.specs.Views.{goal_of};
 ghost use Rattle.dd_certificate.specs.Bounds.{IsWritableRefutation};
 ghost use Rattle.dd_checker.specs.Evidence.{Refutes, IsYes};
-ghost use Rattle.dd_checker.specs.Sizes.{AreLimits, IsAskable};
+ghost use Rattle.dd_script.specs.Asking.{IsAskable};
 
 use dd_boxes::{Goal, Limits, least_radius};
 use dd_certificate::refutations_fit;

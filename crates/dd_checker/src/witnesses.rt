@@ -3,8 +3,10 @@ ghost use Rattle.std.specs.Prelude.{◌≡◌, ◌≤◌, ◌<◌, ◌↔◌, le
 ghost use Rattle.dd_pattern.specs.Periods.{AreWithin};
 ghost use Rattle.dd_boxes.specs.Goals.{IsGoalFor};
 ghost use Rattle.dd_boxes.specs.Views.{goal_of};
-ghost use Rattle.dd_checker.specs.Evidence.{given_periods, given_tile, IsNo};
-ghost use Rattle.dd_checker.specs.Sizes.{AreLimits, IsGiven};
+ghost use Rattle.dd_evidence.specs.Tiles.{given_periods, given_tile};
+ghost use Rattle.dd_checker.specs.Evidence.{IsNo};
+ghost use Rattle.dd_meanings.specs.Sound.{AreLimits};
+ghost use Rattle.dd_checker.specs.Given.{IsGiven};
 
 use crate::configurations::shows;
 use dd_boxes::{Goal, Limits};

@@ -34,7 +34,7 @@ empty_row row t none = get_or-eq_default row false (let few : length row ≡ 0 =
 no_row : (rows : List (List Bool)) (a t : ℕ) → length rows ≤ a → row_allows rows a t ≡ false
 no_row rows a t high = empty_row (get_or rows a []) t (get_or-eq_default rows [] high)
 
-allowed_below : (r : LocalRule) → IsRule r → (a s : ℕ) → rule_allows r a s ≡ true → s < r.symbols
+pub allowed_below : (r : LocalRule) → IsRule r → (a s : ℕ) → rule_allows r a s ≡ true → s < r.symbols
 allowed_below r ok a s h =
     elim (cases_lt a (length r.allowed)) [
       | inl low ↦ allowed_in_row r a s ok low h

@@ -4,3 +4,4 @@ pub mod Powers
 pub mod ExtensionLaws
 pub mod Steps
 pub mod SettledLaws
+pub mod OneList

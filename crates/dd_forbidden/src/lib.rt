@@ -3,6 +3,7 @@
 
 mod breaking;
 mod fault;
+mod laws;
 mod search;
 mod settling;
 mod size;
@@ -10,3 +11,4 @@ mod truth;
 
 pub use breaking::forbidden;
 pub use fault::ForbiddenFault;
+pub use laws::{known_symbols, one_list, short_list};

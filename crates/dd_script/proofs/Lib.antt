@@ -9,3 +9,4 @@ pub mod Sofar
 pub mod Telling
 pub mod OneOfBoth
 pub mod ScriptLaws
+pub mod Asking

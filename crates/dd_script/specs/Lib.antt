@@ -2,6 +2,9 @@
 pub mod Parts
 -- what each command leaves, and the first fault
 pub mod Walk
+-- what the queries ask, and what is known of it
+pub mod Questions
+pub mod Asking
 -- which bytes spell a script, and how all others are refused
 pub mod Scripts
 -- scripts as far as their commands have been gone through

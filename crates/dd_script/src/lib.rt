@@ -6,13 +6,15 @@ mod fault;
 mod known;
 mod laws;
 mod parsing;
+mod question;
 mod script;
 mod walking;
 
-pub use dd_boxes::Limits;
+pub use dd_boxes::{Goal, Limits};
 pub use dd_faults::Limit;
 pub use dd_query::Query;
 pub use fault::{ScriptFault, ScriptKind};
 pub use laws::{one_refusal, one_script, spelled_or_refused};
 pub use parsing::parse;
+pub use question::{Question, is_asked};
 pub use script::Script;

@@ -1,5 +1,6 @@
 // Scripts.
-use dd_boxes::Limits;
+use crate::question::Question;
+use dd_boxes::{Goal, Limits};
 use dd_faults::Known;
 use dd_formula::{Automaton, Rule};
 use dd_lattice::Position;
@@ -38,6 +39,7 @@ impl Model for Script {
 /// The readers take no memory.
 impl Script {
     ghost use Rattle.std.specs.Prelude.{◌≡◌};
+    ghost use Rattle.dd_meanings.specs.Sound.{AreLimits};
     ghost use Rattle.dd_script.specs.Parts.{IsScriptOf};
 
     /// The dimension: 1, 2 or 3.
@@ -90,6 +92,7 @@ impl Script {
     pub fn limits(&self) -> &Limits
         ensures value { result.now ≡ self.now.known.limits }
         ensures kept { IsScriptOf self.now }
+        ensures within { AreLimits result.now }
     {
         &self.known.limits
     }
@@ -120,5 +123,55 @@ impl Script {
         ensures kept { IsScriptOf self.now }
     {
         self.queries.as_slice()
+    }
+}
+
+/// What the queries ask. Nothing here takes memory.
+impl Script {
+    ghost use Rattle.std.specs.Prelude.{◌≡◌, true, Contains};
+    ghost use Rattle.dd_script.specs.Questions.{is_asked};
+    ghost use Rattle.dd_script.specs.Asking.{asked_of, Asks, AreSound};
+
+    /// What a query of the script asks.
+    pub fn question(&self, query: &Query) -> Question<'_>
+        requires stands { Contains self.now.queries query.now }
+        requires asked { is_asked query.now ≡ true }
+        ensures { Asks self.now query.now (asked_of result) }
+    {
+        let rules = self.rules();
+        let configurations = self.configurations();
+        match query {
+            Query::Member {
+                configuration,
+                rule,
+            } => Question::Membership {
+                rule: &rules[*rule as usize],
+                configuration: &configurations[*configuration as usize],
+            },
+            Query::Contains { outer, inner } => Question::Box {
+                premise: &rules[*inner as usize],
+                goal: Goal::Breaks(&rules[*outer as usize]),
+            },
+            Query::Equal { left, right } => Question::Equality {
+                left: &rules[*left as usize],
+                right: &rules[*right as usize],
+            },
+            Query::Empty { rule } => Question::Box {
+                premise: &rules[*rule as usize],
+                goal: Goal::Always,
+            },
+            Query::Forbidden { rule } => Question::Listing {
+                rule: &rules[*rule as usize],
+            },
+            _ => unreachable!(),
+        }
+    }
+
+    /// Does nothing; its contract says that what the queries ask is sound.
+    pub fn sound_questions(&self)
+        ensures { AreSound self.now }
+    {
+        // Read for what its type keeps.
+        let _limits = self.limits();
     }
 }

@@ -2,7 +2,7 @@
 use Rattle.std.proofs.Common.{◌≡◌, ℕ, zero, suc, ◌<◌, List, [], ◌∷◌, length, get_or, Bool, true, false, ◌&&◌, refl, sym, subst, arith, Contains}
 use Rattle.std.specs.List.{list_all}
 use Rattle.dd_query.specs.declared.queries.Query.{Query}
-use Rattle.dd_answer.specs.Right.{is_answered}
+use Rattle.dd_script.specs.Questions.{is_asked}
 
 and_left : (a b : Bool) → (a && b) ≡ true → a ≡ true
 and_left true b is = refl
@@ -24,5 +24,5 @@ passes_at test (x ∷ xs) zero q less is all =
 passes_at test (x ∷ xs) (suc n) q less is all = passes_at test xs n q (omega (arith, less)) is (and_right (test x) (list_all test xs) all)
 
 pub answered_at : (queries : List Query) (done : ℕ) (q : Query)
-    → done < length queries → q ≡ get_or queries done q → list_all is_answered queries ≡ true → is_answered q ≡ true
-answered_at queries done q less is all = passes_at is_answered queries done q less is all
+    → done < length queries → q ≡ get_or queries done q → list_all is_asked queries ≡ true → is_asked q ≡ true
+answered_at queries done q less is all = passes_at is_asked queries done q less is all

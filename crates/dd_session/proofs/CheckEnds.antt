@@ -11,7 +11,8 @@ use Rattle.dd_session.specs.declared.status.Status.{Status}
 use Rattle.dd_session.specs.declared.status.Status.TheVariants.{Definite, SomeUnknown, Refused, ReadFault, WriteFault, Memory, BadWords, Rejected}
 use Rattle.dd_session.specs.Output.{long_line}
 use Rattle.dd_session.specs.Runs.{Told, RefusedBy}
-use Rattle.dd_session.specs.Checks.{most_checked, are_checked, IsOutput, IsCheckable, IsRefusedOutput, malformed, no_script, not_checked, IsCheckedOutput}
+use Rattle.dd_session.specs.Answers.{are_asked}
+use Rattle.dd_session.specs.Checks.{most_checked, IsOutput, IsCheckable, IsRefusedOutput, malformed, no_script, not_checked, IsCheckedOutput}
 use Rattle.dd_session.specs.Checked.{CheckedOver, CheckEnded, CheckDecides, WholeCheck, WholeRejection, WholeRefusedOutput, Read}
 use Rattle.dd_session.proofs.Decided.{OneScript, NeverBoth, told_bytes, told_more}
 
@@ -54,7 +55,7 @@ took_output old new bytes to_end short = record { given = bytes; consumed = to_e
 -- ---- what the bytes decide
 
 -- a text is of one output at most
-abbrev OneOutput : Type 0
+abbrev pub OneOutput : Type 0
 OneOutput = (a b : Output) → IsWritableOutput a → IsWritableOutput b → output_text a ≡ output_text b → a ≡ b
 
 too_long : (bytes : List ℕ) (left : Option (List ℕ)) → GivesMore (Some bytes) left most_checked → ¬ IsCheckedOutput bytes
@@ -76,7 +77,7 @@ module _ (one_output : OneOutput) (one_script : OneScript) (never_both : NeverBo
   refused_not_checkable bytes line o s (not_checked p of_p t spelled none is) can =
       let same : p ≡ o = same_output bytes p o of_p can.output in
       let one : t ≡ s = one_script o.script t s (subst (λ (q : Output). Spells q.script t) same spelled) can.spelled in
-      let both : false ≡ true = sym none ∙ ap are_checked one ∙ can.checked in
+      let both : false ≡ true = sym none ∙ ap are_asked one ∙ can.checked in
       absurd (cc both)
 
   -- what holds of the bytes that were given holds of those that were told

@@ -7,7 +7,7 @@ use Rattle.dd_script.specs.Parts.{Parts}
 use Rattle.dd_script.specs.Scripts.{Spells, RefusedAs, Kind}
 use Rattle.dd_session.specs.declared.status.Status.{Status}
 use Rattle.dd_session.specs.declared.status.Status.TheVariants.{Definite, SomeUnknown, Refused, ReadFault, WriteFault, Memory, BadWords, Rejected}
-use Rattle.dd_session.specs.Answers.{are_answered}
+use Rattle.dd_session.specs.Answers.{are_asked}
 use Rattle.dd_session.specs.Output.{long_line}
 use Rattle.dd_session.specs.Runs.{Told, RefusedBy, RanOver, Ended, IsAccepted, IsAcceptedAs, IsRunnable, Decides, RanWhole, RefusedWhole, IsRefused, IsRefusedBy, too_long, no_run, no_script, not_answered, most_bytes}
 
@@ -32,7 +32,7 @@ module _ (one_script : OneScript) (never_both : NeverBoth) where
   refused_not_runnable bytes line s (no_script n k refused is) runnable = never_both bytes s n k runnable.spelled refused
   refused_not_runnable bytes line s (not_answered t spelled none is) runnable =
       let same : s ≡ t = one_script bytes s t runnable.spelled spelled in
-      let both : true ≡ false = sym runnable.answered ∙ ap are_answered same ∙ none in
+      let both : true ≡ false = sym runnable.answered ∙ ap are_asked same ∙ none in
       absurd (cc both)
 
   not_accepted : (bytes line : List ℕ) (left : Option (List ℕ)) → IsRefused (Some bytes) left line → ¬ IsAccepted bytes

@@ -15,11 +15,12 @@ use Rattle.dd_script.specs.Parts.{Parts}
 use Rattle.dd_answer.specs.Right.{is_unknown}
 use Rattle.dd_checker.specs.declared.verdict.Verdict.{Verdict}
 use Rattle.dd_checker.specs.declared.verdict.Verdict.TheVariants.{Accepted}
-use Rattle.dd_checker.specs.Questions.{is_checked, query_at, IsChecked}
+use Rattle.dd_script.specs.Questions.{is_asked, query_at}
+use Rattle.dd_checker.specs.Certificates.{IsChecked}
 use Rattle.dd_checker.specs.Certificates.{IsCertificate, IsCertificateFor}
 use Rattle.dd_checker.specs.Claims.{Claim}
-use Rattle.dd_session.specs.Answers.{has_unknown}
-use Rattle.dd_session.specs.Checks.{accepted_line, rejected_line, accepted_lines, checked_line, are_checked, IsAcceptedAt, IsTrueAt, AcceptedTo, AllAccepted, FirstRejected, IsEnding, broken_off, rejected, finished}
+use Rattle.dd_session.specs.Answers.{are_asked, has_unknown}
+use Rattle.dd_session.specs.Checks.{accepted_line, rejected_line, accepted_lines, checked_line, IsAcceptedAt, IsTrueAt, AcceptedTo, AllAccepted, FirstRejected, IsEnding, broken_off, rejected, finished}
 use Rattle.dd_session.specs.Checked.{CheckFront}
 use Rattle.dd_session.specs.checking.Judged.{IsJudged, verdict_line, Judged, JudgedFront, nothing, part, most_of, RejectedHere, AcceptedEach, AcceptedAll, EachJudged, AllJudged}
 use Rattle.dd_session.proofs.Asked.{passes_at}
@@ -52,14 +53,14 @@ past_answers s answers n past accepted = omega (arith, past, (accepted_within s 
 pub past_queries : (s : Parts) (answers : List Answer) (n : ℕ) → length s.queries ≤ n - 1 → ¬ IsAcceptedAt s answers n
 past_queries s answers n past accepted = omega (arith, past, (accepted_within s answers n accepted).1)
 
-checked_there : (queries : List Query) (i : ℕ) → i < length queries → list_all is_checked queries ≡ true
-    → IsSomeAnd (slice_get queries i) (λ q. is_checked q ≡ true)
+checked_there : (queries : List Query) (i : ℕ) → i < length queries → list_all is_asked queries ≡ true
+    → IsSomeAnd (slice_get queries i) (λ q. is_asked q ≡ true)
 checked_there queries i less all = elim (slice_get_cases queries i).1 [
-  | inl (q, below, there, is) ↦ some_from (slice_get queries i) (λ q. is_checked q ≡ true) q there (passes_at is_checked queries i q less (sym is) all)
+  | inl (q, below, there, is) ↦ some_from (slice_get queries i) (λ q. is_asked q ≡ true) q there (passes_at is_asked queries i q less (sym is) all)
   | inr (past, none) ↦ absurd (omega (arith, less, past))
 ]
 
-pub is_checked_at : (s : Parts) (n : ℕ) → 1 ≤ n → n - 1 < length s.queries → are_checked s ≡ true → IsChecked s n
+pub is_checked_at : (s : Parts) (n : ℕ) → 1 ≤ n → n - 1 < length s.queries → are_asked s ≡ true → IsChecked s n
 is_checked_at s n numbered less all = record { numbered = numbered; checked = checked_there s.queries (n - 1) less all }
 
 -- the answer with the number is the one that was checked

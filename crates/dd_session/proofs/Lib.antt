@@ -8,3 +8,4 @@ pub mod Open
 pub mod Refused
 pub mod Streamed
 pub mod Words
+pub mod Again

@@ -13,7 +13,7 @@ use Rattle.dd_session.specs.declared.status.Status.{Status}
 use Rattle.dd_session.specs.Runs.{Told, RanOver, IsRunnable, WholeOutput, WholeRun, status_of}
 
 abbrev AnswersAgree : Parts → Type 0
-AnswersAgree s = (q : Query) (a b : Answer) → Right s q a → Right s q b → SayTheSame a b
+AnswersAgree s = (q : Query) (a b : Answer) → Contains s.queries q → Right s q a → Right s q b → SayTheSame a b
 
 -- a query among these with a right answer that is not known
 abbrev IsOpenIn : Parts → List Query → Type 0
@@ -35,19 +35,19 @@ or_none true b none = absurd (false≢true (sym none))
 or_none false b none = (refl, none)
 
 none_open : (s : Parts) (queries : List Query) (answers : List Answer) → AnswersAgree s → AllRight s queries answers → length answers ≡ length queries →
-    has_unknown answers ≡ false → (q : Query) (i : ℕ) → i < length queries → get_or queries i q ≡ q → (b : Answer) → Right s q b → is_unknown b ≡ true → ⊥
-none_open s [] answers agree right each none q i below is b told unknown = omega (arith, below)
-none_open s (p ∷ queries) [] agree right each none q i below is b told unknown = absurd (omega (arith, each))
-none_open s (p ∷ queries) (a ∷ answers) agree right each none q zero below is b told unknown =
-    let same = (agree q a b (subst (λ r. Right s r a) is right.0) told).unknown in
+    has_unknown answers ≡ false → (q : Query) → Contains s.queries q → (i : ℕ) → i < length queries → get_or queries i q ≡ q → (b : Answer) → Right s q b → is_unknown b ≡ true → ⊥
+none_open s [] answers agree right each none q there i below is b told unknown = omega (arith, below)
+none_open s (p ∷ queries) [] agree right each none q there i below is b told unknown = absurd (omega (arith, each))
+none_open s (p ∷ queries) (a ∷ answers) agree right each none q there zero below is b told unknown =
+    let same = (agree q a b there (subst (λ r. Right s r a) is right.0) told).unknown in
     false≢true (sym (or_none (is_unknown a) (has_unknown answers) none).0 ∙ (same ∙ unknown))
-none_open s (p ∷ queries) (a ∷ answers) agree right each none q (suc i) below is b told unknown =
-    none_open s queries answers agree right.2 (omega (arith, each)) (or_none (is_unknown a) (has_unknown answers) none).1 q i (omega (arith, below)) is b told unknown
+none_open s (p ∷ queries) (a ∷ answers) agree right each none q there (suc i) below is b told unknown =
+    none_open s queries answers agree right.2 (omega (arith, each)) (or_none (is_unknown a) (has_unknown answers) none).1 q there i (omega (arith, below)) is b told unknown
 
 open_as : (s : Parts) (answers : List Answer) (has : Bool) → AnswersAgree s → AllRight s s.queries answers → length answers ≡ length s.queries →
     has_unknown answers ≡ has → IsOpenAs has s
 open_as s answers true agree right each is = open_from s s.queries answers right is
-open_as s answers false agree right each is = λ (q, (i, below, at), (b, told, unknown)). none_open s s.queries answers agree right each is q i below at b told unknown
+open_as s answers false agree right each is = λ (q, (i, below, at), (b, told, unknown)). none_open s s.queries answers agree right each is q (i, below, at) i below at b told unknown
 
 -- a whole run over a script
 whole_run : (old new : Option (List ℕ)) (bytes : List ℕ) (s : Parts) (has : Bool) → AnswersAgree s → IsRunnable bytes s → WholeOutput old new bytes s has →

@@ -6,15 +6,16 @@ use Rattle.dd_certificate.specs.Text.{answer_text}
 use Rattle.dd_certificate.specs.Bounds.{IsWritable}
 use Rattle.dd_query.specs.declared.queries.Query.{Query}
 use Rattle.dd_script.specs.Parts.{Parts}
-use Rattle.dd_answer.specs.Right.{Right, is_answered, is_unknown}
+use Rattle.dd_script.specs.Questions.{is_asked}
+use Rattle.dd_answer.specs.Right.{Right, is_unknown}
 
 -- The greatest number of queries of a script.
 abbrev pub most_queries : ℕ
 most_queries = 1000
 
--- all queries of the script are of a kind that is answered
-abbrev pub are_answered : Parts → Bool
-are_answered s = list_all is_answered s.queries
+-- all queries of the script are of a kind that is answered, and whose answers are checked
+abbrev pub are_asked : Parts → Bool
+are_asked s = list_all is_asked s.queries
 
 -- some answer is that it is not known
 abbrev pub has_unknown : List Answer → Bool

@@ -1,6 +1,6 @@
 -- What the check of an output writes, by its bytes.
 use Rattle.std.specs.Prelude.{◌≡◌, ◌⊎◌, ℕ, zero, suc, ◌+◌, ◌-◌, ◌≤◌, ◌<◌, max, List, [], ◌∷◌, ◌++◌, length, codes, Bool, true, false, IsSomeAnd}
-use Rattle.std.specs.List.{list_all, slice_get}
+use Rattle.std.specs.List.{slice_get}
 use Rattle.std.specs.Fmt.{decimal}
 use Rattle.dd_certificate.specs.declared.answer.Answer.{Answer}
 use Rattle.dd_output.specs.declared.output.Output.{Output}
@@ -8,10 +8,9 @@ use Rattle.dd_output.specs.Outputs.{output_text, IsWritableOutput, IsWellFormed}
 use Rattle.dd_output.specs.Offsets.{IsOffset}
 use Rattle.dd_script.specs.Parts.{Parts}
 use Rattle.dd_script.specs.Scripts.{Spells, RefusedAs, Kind}
-use Rattle.dd_checker.specs.Questions.{is_checked}
 use Rattle.dd_checker.specs.Certificates.{IsCertificate}
 use Rattle.dd_checker.specs.Claims.{Claim}
-use Rattle.dd_session.specs.Answers.{has_unknown}
+use Rattle.dd_session.specs.Answers.{are_asked, has_unknown}
 use Rattle.dd_session.specs.Output.{refused_line}
 
 -- The greatest number of bytes of an output that is checked.
@@ -49,10 +48,6 @@ script_early_line = codes "refused script early\n"
 
 -- ---- which answers are accepted
 
--- the answers to all queries of the script are of a kind that is checked
-abbrev pub are_checked : Parts → Bool
-are_checked s = list_all is_checked s.queries
-
 -- there is an answer with this number, from 1, and it is a certificate for the query with the number, which there is
 abbrev pub IsAcceptedAt : Parts → List Answer → ℕ → Type 0
 IsAcceptedAt s answers number = IsSomeAnd (slice_get answers (number - 1)) (λ a. IsCertificate s number a)
@@ -88,14 +83,14 @@ pub record IsOutput (bytes : List ℕ) (o : Output) : Type 0 where
 pub record IsCheckable (bytes : List ℕ) (o : Output) (s : Parts) : Type 0 where
   pub output : IsOutput bytes o
   pub spelled : Spells o.script s
-  pub checked : are_checked s ≡ true
+  pub checked : are_asked s ≡ true
 
 -- Bytes of a length that is allowed are refused by this line.
 pub data IsRefusedOutput (bytes : List ℕ) (line : List ℕ) : Type 0 where
   malformed : (offset : ℕ) → ¬ IsWellFormed bytes → IsOffset bytes offset → line ≡ offset_line offset → IsRefusedOutput bytes line
   no_script : (o : Output) → IsOutput bytes o → (command : ℕ) (k : Kind) → RefusedAs o.script command k → line ≡ script_line command k
       → IsRefusedOutput bytes line
-  not_checked : (o : Output) → IsOutput bytes o → (s : Parts) → Spells o.script s → are_checked s ≡ false → line ≡ script_early_line
+  not_checked : (o : Output) → IsOutput bytes o → (s : Parts) → Spells o.script s → are_asked s ≡ false → line ≡ script_early_line
       → IsRefusedOutput bytes line
 
 -- How the text goes on after the lines of the first queries, which are accepted: by the line of the first rejected query, or

@@ -8,5 +8,7 @@ pub mod Output
 -- what a check reads and writes, by its status; which answers it accepts, and its lines
 pub mod Checked
 pub mod Checks
+-- that a check accepts what a run wrote
+pub mod Agreement
 -- the check of answers one by one
 pub mod checking

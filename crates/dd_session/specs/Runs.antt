@@ -10,7 +10,7 @@ use Rattle.dd_script.specs.Parts.{Parts}
 use Rattle.dd_script.specs.Scripts.{Spells, RefusedAs, Kind}
 use Rattle.dd_session.specs.declared.status.Status.{Status}
 use Rattle.dd_session.specs.declared.status.Status.TheVariants.{Definite, SomeUnknown, Refused, ReadFault, WriteFault, Memory, BadWords, Rejected}
-use Rattle.dd_session.specs.Answers.{AllRight, IsOpenAs, are_answered, has_unknown, texts}
+use Rattle.dd_session.specs.Answers.{AllRight, IsOpenAs, are_asked, has_unknown, texts}
 use Rattle.dd_session.specs.Output.{header, end_line, output_of, early_line, long_line, refused_line, refused_words}
 
 -- The greatest number of bytes of a script.
@@ -51,7 +51,7 @@ pub record CutShort (old new : Option (List ℕ)) (bytes : List ℕ) (s : Parts)
 -- The bytes are a script of which each query is answered.
 pub record IsRunnable (bytes : List ℕ) (s : Parts) : Type 0 where
   pub spelled : Spells bytes s
-  pub answered : are_answered s ≡ true
+  pub answered : are_asked s ≡ true
 
 -- The bytes are such a script, its whole output was written, and it has or has not a query without a definite answer.
 pub record WholeRun (old new : Option (List ℕ)) (bytes : List ℕ) (has : Bool) : Type 0 where
@@ -89,7 +89,7 @@ pub record IsAccepted (bytes : List ℕ) : Type 0 where
 -- Bytes of a length that is allowed are refused by this line: they are no script, or some query is not answered.
 pub data IsRefusedBy (bytes : List ℕ) (line : List ℕ) : Type 0 where
   no_script : (command : ℕ) (k : Kind) → RefusedAs bytes command k → line ≡ refused_line refused_words command k → IsRefusedBy bytes line
-  not_answered : (s : Parts) → Spells bytes s → are_answered s ≡ false → line ≡ early_line → IsRefusedBy bytes line
+  not_answered : (s : Parts) → Spells bytes s → are_asked s ≡ false → line ≡ early_line → IsRefusedBy bytes line
 
 -- The bytes are refused, and the line for them was written.
 pub record WholeRefusal (old new : Option (List ℕ)) (bytes : List ℕ) : Type 0 where

@@ -4,7 +4,7 @@ ghost use Rattle.dd_values.specs.Counts.{Rose};
 ghost use Rattle.std.specs.List.{list_any};
 ghost use Rattle.dd_answer.specs.Right.{is_unknown};
 ghost use Rattle.dd_session.specs.Answers.{most_queries};
-ghost use Rattle.dd_session.specs.Checks.{are_checked};
+ghost use Rattle.dd_session.specs.Answers.{are_asked};
 ghost use Rattle.dd_session.specs.Checked.{CheckFront};
 ghost use Rattle.dd_session.specs.checking.Judged.{
   verdict_line,
@@ -17,17 +17,10 @@ ghost use Rattle.dd_session.specs.checking.Judged.{
 
 use crate::stream::{RunFault, is_unknown};
 use dd_certificate::Answer;
-use dd_checker::{Verdict, certified, check_answer, is_checked};
+use dd_checker::{Verdict, certified, check_answer};
 use dd_outside::{Sink, write_whole};
 use dd_script::Script;
 use std::alloc::{AllocError, Global};
-
-/// Whether the answers to all queries are of a kind that is checked.
-pub(crate) fn are_checked(script: &Script) -> bool
-    ensures { result ≡ are_checked script.now }
-{
-    script.queries().iter().all(|query| is_checked(query))
-}
 
 /// Whether some answer is that it is not known.
 pub(crate) fn has_unknown(answers: &[Answer]) -> bool
@@ -55,7 +48,7 @@ fn is_accepted(
     number: u32,
 ) -> Result<bool, AllocError>
     requires numbered { 1 ≤ number }
-    requires checked { are_checked script.now ≡ true }
+    requires checked { are_asked script.now ≡ true }
     ensures { IfOk result (λ accepted. IsJudged script.now answers.now number accepted) }
 {
     let place = number as usize - 1;
@@ -76,7 +69,7 @@ fn check_one<K: Sink>(
     sink: &mut K,
 ) -> Result<bool, RunFault>
     requires numbered { 1 ≤ number }
-    requires checked { are_checked script.now ≡ true }
+    requires checked { are_asked script.now ≡ true }
     ensures wrote { IfOk result (λ accepted. Judged (K.held sink.old) (K.held sink.new) script.now answers.now number accepted) }
     ensures cut { OnErr result (JudgedFront (K.held sink.old) (K.held sink.new) script.now answers.now number) }
     ensures later { K.faults sink.old ≤ K.faults sink.new }
@@ -97,7 +90,7 @@ fn check_each<K: Sink>(
 ) -> Result<bool, RunFault>
     requires few_queries { length script.now.queries ≤ most_queries }
     requires few_answers { length answers.now ≤ most_queries }
-    requires checked { are_checked script.now ≡ true }
+    requires checked { are_asked script.now ≡ true }
     ensures wrote { IfOk result (EachJudged (K.held sink.old) (K.held sink.new) script.now answers.now) }
     ensures cut { OnErr result (CheckFront (K.held sink.old) (K.held sink.new) script.now answers.now) }
     ensures later { K.faults sink.old ≤ K.faults sink.new }
@@ -123,7 +116,7 @@ pub(crate) fn check_all<K: Sink>(
 ) -> Result<bool, RunFault>
     requires few_queries { length script.now.queries ≤ most_queries }
     requires few_answers { length answers.now ≤ most_queries }
-    requires checked { are_checked script.now ≡ true }
+    requires checked { are_asked script.now ≡ true }
     ensures wrote { IfOk result (AllJudged (K.held sink.old) (K.held sink.new) script.now answers.now) }
     ensures cut { OnErr result (CheckFront (K.held sink.old) (K.held sink.new) script.now answers.now) }
     ensures later { K.faults sink.old ≤ K.faults sink.new }

@@ -9,9 +9,9 @@ ghost use Rattle.dd_session.specs.Checks.{most_checked};
 ghost use Rattle.dd_session.specs.Checked.{CheckedOver, CheckEnded, CheckDecides};
 ghost use Rattle.dd_session.specs.checking.Judged.{checked_status};
 
-use crate::checking::{are_checked, check_all, has_unknown};
+use crate::checking::{check_all, has_unknown};
 use crate::output::refused_text;
-use crate::session::{refuse, status_of};
+use crate::session::{are_asked, refuse, status_of};
 use crate::status::Status;
 use crate::stream::RunFault;
 use dd_certificate::Answer;
@@ -41,7 +41,7 @@ fn check_script<K: Sink>(alloc: Global, output: &Output, script: &Script, sink: 
     ensures checked { CheckedOver (told K.held K.faults sink.old sink.new) (output_text output.now) result }
     ensures later { K.faults sink.old ≤ K.faults sink.new }
 {
-    if !are_checked(script) {
+    if !are_asked(script) {
         return refuse(sink, b"refused script early\n");
     }
     let answers = output.answers.as_slice();

@@ -3,11 +3,13 @@
 
 mod checking;
 mod checks;
+mod laws;
 mod output;
 mod session;
 mod status;
 mod stream;
 
 pub use checks::check_diddy;
+pub use laws::runs_are_accepted;
 pub use session::run_diddy;
 pub use status::Status;

@@ -2,7 +2,7 @@
 ghost use Rattle.std.specs.Prelude.{◌≡◌, ◌≢◌, ◌+◌, ◌≤◌, ◌↔◌, ℕ, List, Some, IsTrue, [], ◌∷◌, map, codes, string_bytes, length};
 ghost use Rattle.dd_outside.specs.Bytes.{GivesAtMost};
 ghost use Rattle.dd_script.specs.Scripts.{Spells};
-ghost use Rattle.dd_session.specs.Answers.{are_answered};
+ghost use Rattle.dd_session.specs.Answers.{are_asked};
 ghost use Rattle.dd_session.specs.Checks.{most_checked};
 ghost use Rattle.dd_session.specs.Checked.{CheckEnded, CheckDecides};
 ghost use Rattle.dd_session.specs.Words.{IsOnly, AreBad};
@@ -12,9 +12,9 @@ use crate::checks::check_diddy;
 use crate::output::refused_text;
 use crate::status::Status;
 use crate::stream::{RunFault, run_script};
-use dd_answer::{is_answered, one_line};
+use dd_answer::one_line;
 use dd_outside::{ReadAllFault, Sink, Source, WriteFault, read_all, write_whole};
-use dd_script::{Script, one_script, parse, spelled_or_refused};
+use dd_script::{Script, is_asked, one_script, parse, spelled_or_refused};
 use std::alloc::{AllocError, Global};
 
 // The greatest number of bytes of a script.
@@ -71,10 +71,11 @@ pub(crate) fn status_of(has_unknown: bool) -> Status
     }
 }
 
-fn are_answered(script: &Script) -> bool
-    ensures { result ≡ are_answered script.now }
+/// Whether all queries are of a kind that is answered, and whose answers are checked.
+pub(crate) fn are_asked(script: &Script) -> bool
+    ensures { result ≡ are_asked script.now }
 {
-    script.queries().iter().all(|query| is_answered(query))
+    script.queries().iter().all(|query| is_asked(query))
 }
 
 // Runs a script, or refuses it where a query is of a kind that is not answered.
@@ -83,7 +84,7 @@ fn run_parsed<K: Sink>(alloc: Global, bytes: &[u8], script: &Script, sink: &mut 
     ensures ran { RanOver (told K.held K.faults sink.old sink.new) bytes.now result }
     ensures later { K.faults sink.old ≤ K.faults sink.new }
 {
-    if !are_answered(script) {
+    if !are_asked(script) {
         return refuse(sink, b"refused early\n");
     }
     run_accepted(alloc, bytes, script, sink)

@@ -1,9 +1,10 @@
 // The output of a script, each part written as soon as it is made.
 ghost use Rattle.std.specs.Prelude.{◌≡◌, ◌≤◌, ◌∷◌, [], true, length, Contains, IfOk, OnErr, IsErrOf};
 ghost use Rattle.dd_values.specs.Counts.{Rose};
-ghost use Rattle.dd_answer.specs.Right.{is_answered, is_unknown};
+ghost use Rattle.dd_script.specs.Questions.{is_asked};
+ghost use Rattle.dd_answer.specs.Right.{is_unknown};
 ghost use Rattle.dd_session.specs.declared.stream.RunFault.TheVariants.{WriteFault, Memory};
-ghost use Rattle.dd_session.specs.Answers.{are_answered, most_queries};
+ghost use Rattle.dd_session.specs.Answers.{are_asked, most_queries};
 ghost use Rattle.dd_session.specs.Runs.{Answered, AnsweredFront, WholeOutput, CutShort, IsRunnable};
 
 use crate::output::header_text;
@@ -52,7 +53,7 @@ fn answer_one<K: Sink>(
     sink: &mut K,
 ) -> Result<bool, RunFault>
     requires asked { Contains script.now.queries query.now }
-    requires answered { is_answered query.now ≡ true }
+    requires answered { is_asked query.now ≡ true }
     ensures wrote { IfOk result (λ unknown. Answered (K.held sink.old) (K.held sink.new) script.now (query.now ∷ []) number unknown) }
     ensures cut { OnErr result (AnsweredFront (K.held sink.old) (K.held sink.new) script.now (query.now ∷ []) number) }
     ensures later { K.faults sink.old ≤ K.faults sink.new }
@@ -68,7 +69,7 @@ fn answer_one<K: Sink>(
 #[tactic(auto, using(crate::proofs::Asked::asked_at, crate::proofs::Asked::answered_at, crate::proofs::Streamed::answered_next))]
 fn answer_all<K: Sink>(alloc: Global, script: &Script, sink: &mut K) -> Result<bool, RunFault>
     requires few { length script.now.queries ≤ most_queries }
-    requires answered { are_answered script.now ≡ true }
+    requires answered { are_asked script.now ≡ true }
     ensures wrote { IfOk result (λ unknown. Answered (K.held sink.old) (K.held sink.new) script.now script.now.queries 1 unknown) }
     ensures cut { OnErr result (AnsweredFront (K.held sink.old) (K.held sink.new) script.now script.now.queries 1) }
     ensures later { K.faults sink.old ≤ K.faults sink.new }

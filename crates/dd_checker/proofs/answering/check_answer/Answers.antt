@@ -1,5 +1,4 @@
 use Rattle.std.proofs.Common.{length, ap, arith}
-use Rattle.dd_checker.proofs.Certifying.{certified}
 use Rattle.dd_checker.proofs.Verdicts.{index_within, query_stands, query_checked, accepted, accepts, rejects}
 use Rattle.dd_checker.proofs.answering.check_answer.Goals as goal
 
@@ -13,8 +12,8 @@ check_query-requires-clause-stands c =
     query_stands c.args.script.now c.args.query c.requires c.queries-queries.result.now c.queries-queries.ensures.value
     c.index-queries-number.result c.index-queries-number.is
 
-pub check_query-requires-clause-checked : goal.check_query-requires-clause-checked
-check_query-requires-clause-checked c =
+pub check_query-requires-clause-asked : goal.check_query-requires-clause-asked
+check_query-requires-clause-asked c =
     query_checked c.args.script.now c.args.query c.requires c.queries-queries.result.now c.queries-queries.ensures.value
     c.index-queries-number.result c.index-queries-number.is
 
@@ -26,7 +25,7 @@ returns-then-accepted c =
       exact = accepts s n c.requires c.queries-queries.result.now c.queries-queries.ensures.value c.index-queries-number.result
           c.index-queries-number.is c.args.answer.now c.in_ok-accepted.accepted c.in_ok-accepted.ensures c.if-accepted.true;
       claim = λ _.
-          certified s c.queries-queries.ensures.kept n c.args.answer.now
+          c.certified.ensures n c.args.answer.now
           (accepted s n c.requires c.queries-queries.result.now c.queries-queries.ensures.value c.index-queries-number.result
           c.index-queries-number.is c.args.answer.now c.in_ok-accepted.accepted c.in_ok-accepted.ensures c.if-accepted.true);
     }

@@ -1,22 +1,13 @@
 use Rattle.dd_boxes.specs.Goals.{breaks}
-use Rattle.dd_checker.proofs.Deciding.{nothing_holds, side_result, left_fails, right_result, unknown_decides_both, other_equal}
+use Rattle.dd_checker.proofs.Deciding.{nothing_holds, side_result, both_result, unknown_decides_both, other_equal}
 use Rattle.dd_checker.proofs.boxes.check_equal.Goals as goal
 
-pub returns-then-not-branch : goal.returns-then-not-branch
-returns-then-not-branch c =
+pub returns-in-YesBoth : goal.returns-in-YesBoth
+returns-in-YesBoth c =
     rw c.in-YesBoth.is
-    (left_fails c.args.limits.now c.args.left.now c.args.right.now c.requires.limits c.symbols-left.ensures.kept c.symbols-right.ensures.kept
-    c.requires.left.goal c.requires.right.goal c.in-YesBoth.left_radius c.in-YesBoth.right_radius c.as_slice.result.now c.in-YesBoth.left_steps
-    c.in-YesBoth.right_steps c.as_slice.ensures c.in_ok-check_yes-in-YesBoth.field-0 c.in_ok-check_yes-in-YesBoth.ensures.exact c.if-not-branch.true)
-
-pub returns-else-not-branch : goal.returns-else-not-branch
-returns-else-not-branch c =
-    rw c.in-YesBoth.is
-    (right_result c.args.limits.now c.args.left.now c.args.right.now c.requires.limits c.symbols-left.ensures.kept c.symbols-right.ensures.kept
-    c.requires.left.goal c.requires.right.goal c.in-YesBoth.left_radius c.in-YesBoth.right_radius c.as_slice.result.now c.in-YesBoth.left_steps
-    c.as_slice-in-YesBoth.result.now c.in-YesBoth.right_steps c.as_slice.ensures c.as_slice-in-YesBoth.ensures
-    c.in_ok-check_yes-in-YesBoth.field-0 c.in_ok-check_yes-in-YesBoth.ensures.exact c.in_ok-check_yes-in-YesBoth.ensures.writable c.if-not-branch.false
-    c.check_yes-in-YesBoth.result c.check_yes-in-YesBoth.ensures.exact c.check_yes-in-YesBoth.ensures.writable)
+    (both_result c.args.limits.now c.args.left.now c.args.right.now c.in-YesBoth.left_radius c.in-YesBoth.right_radius c.as_slice.result.now
+    c.in-YesBoth.left_steps c.as_slice-in-YesBoth.result.now c.in-YesBoth.right_steps c.as_slice.ensures c.as_slice-in-YesBoth.ensures
+    c.check_both.result c.check_both.ensures)
 
 pub returns-in-No : goal.returns-in-No
 returns-in-No c =

@@ -1,4 +1,4 @@
-use Rattle.std.proofs.Common.{ℕ, ◌<◌, length, get_or, false, true, ap, sym, ◌∙◌, arith, refl}
+use Rattle.std.proofs.Common.{ℕ, ◌<◌, length, get_or, ap, sym, ◌∙◌, arith, refl}
 use borrow.Author.Count.{below_more}
 use Rattle.std.proofs.lemmas.Bool.{false≢true}
 use Rattle.dd_checker.proofs.Periodics.{IsAllowedAt, allowed_is, allowed_from_box, box_from_allowed}

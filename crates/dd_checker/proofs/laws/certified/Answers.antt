@@ -2,4 +2,4 @@ use Rattle.dd_checker.proofs.Certifying.{certified}
 use Rattle.dd_checker.proofs.laws.certified.Goals as goal
 
 pub returns : goal.returns
-returns c = certified c.args.script.now c.limits-limits.ensures.kept
+returns c = certified c.args.script.now c.sound_questions.ensures c.listed_break.ensures

@@ -1,17 +1,9 @@
-use Rattle.std.proofs.Common.{◌≡◌, true, List, ℤ, subst}
-use Rattle.std.specs.Prelude.{◌↔◌}
-use Rattle.dd_checker.specs.Evidence.{IsOutside}
-use Rattle.dd_checker.proofs.Deciding.{nothing_holds, other_member}
+use Rattle.dd_checker.proofs.Writable.{member_writable}
 use Rattle.dd_checker.proofs.places.check_member.Goals as goal
 
-pub returns-in-Inside : goal.returns-in-Inside
-returns-in-Inside c = rw c.in-Inside.is c.lives.ensures
-
-pub returns-in-Outside : goal.returns-in-Outside
-returns-in-Outside c =
-    rw c.in-Outside.is
-    (subst (λ (place : List ℤ). (c.is_outside.result ≡ true) ↔ IsOutside c.args.rule.now c.args.periodic.now place) c.as_slice.ensures c.is_outside.ensures)
-
-pub returns-in_default : goal.returns-in_default
-returns-in_default c =
-    nothing_holds _ (other_member c.args.rule.now c.args.periodic.now c.args.answer.now c.in_default.not-Inside c.in_default.not-Outside)
+pub returns : goal.returns
+returns c =
+    let exact = c.is_member_certificate.ensures in
+    let writable = member_writable c.places_fit.ensures c.args.rule.now c.args.periodic.now c.nodes-nodes.ensures.kept c.symbols-symbols.ensures.kept
+    c.requires c.args.answer.now in
+    (λ h. (writable (exact.0 h), exact.0 h), λ both. exact.1 both.1)

@@ -1,0 +1,94 @@
+-- A right answer is a certificate: what is decided of a box has the radius and the refutation of a YES, and the
+-- configuration of a NO is given back by what is written of it.
+use Rattle.std.proofs.Common.{◌≡◌, ℕ, List, max, refl, ap, sym, subst, ◌∙◌, Some, None}
+use Rattle.std.specs.Prelude.{Option, IsSomeAnd}
+use Rattle.dd_derivation.specs.declared.step.Step.{Step}
+use Rattle.dd_pattern.specs.declared.periods.Periods.{Periods}
+use Rattle.dd_pattern.specs.Periods.{AreWithin}
+use Rattle.dd_pattern.specs.Tile.{Tile, IsTile}
+use Rattle.dd_formula.specs.LocalRule.{LocalRule}
+use Rattle.dd_formula.specs.Living.{Fits}
+use Rattle.dd_boxes.specs.declared.limits.Limits.{Limits}
+use Rattle.dd_boxes.specs.Goals.{GoalOf, breaks}
+use Rattle.dd_boxes.specs.Boxes.{Suffices, IsLeastRadius}
+use Rattle.dd_boxes.specs.Witnesses.{IsWitness}
+use Rattle.dd_certificate.specs.declared.answer.Answer.{Answer}
+use Rattle.dd_certificate.specs.declared.answer.Answer.TheVariants as answer
+use Rattle.dd_certificate.specs.declared.answer.Side.TheVariants as side
+use Rattle.dd_certificate.specs.Bounds.{IsWritable}
+use Rattle.dd_contain.specs.declared.decision.Decision.{Decision}
+use Rattle.dd_contain.specs.declared.decision.Decision.TheVariants as decision
+use Rattle.dd_contain.specs.declared.equal.Equality.{Equality}
+use Rattle.dd_contain.specs.Decided.{IsLeast}
+use Rattle.dd_contain.specs.Questions.{Displays, IsDecided}
+use Rattle.dd_contain.specs.Equal.{joined, UnlessNo, IsEqualDecided}
+use Rattle.dd_query.specs.declared.queries.Query.{Query}
+use Rattle.dd_script.specs.Parts.{Parts}
+use Rattle.dd_script.specs.Questions.{Asked, membership, box, equality, listing, asked}
+use Rattle.dd_evidence.specs.Tiles.{given_periods, written_periods, IsWrittenBack}
+use Rattle.dd_answer.specs.Right.{Right, IsRightTo, IsRightBox, IsRightEqual, written_decision, written_equality}
+use Rattle.dd_checker.specs.Evidence.{Refutes, IsYes, IsNo, IsBoxCertificate, IsEqualCertificate}
+use Rattle.dd_checker.specs.Certificates.{IsCertificateOf, IsCertificateFor}
+
+abbrev AreWrittenBack : Type 0
+AreWrittenBack = (x : LocalRule) (t : Tile) → IsTile t → Fits x t → IsWrittenBack x t
+
+module _ (back : AreWrittenBack) (l : Limits) where
+  yes_of : (x : LocalRule) (g : GoalOf) (least n : ℕ) (steps : List Step) → IsLeastRadius g least → IsLeast (Suffices x g) least (max l.radius least) n →
+      Refutes x g n steps → IsYes l x g n steps
+  yes_of x g least n steps is first refuting = record { least = least; is_least = is; low = first.low; high = first.high; refuting = refuting }
+
+  no_of : (x : LocalRule) (g : GoalOf) (q : Periods) (t : Tile) → AreWithin x.dimension l.period q → Displays x g q t →
+      IsNo l x g (written_periods t) t.periods.shear t.symbols
+  no_of x g q t within shows =
+      let written = back x t shows.1.tile shows.1.fits in
+      let periods : given_periods (written_periods t) t.periods.shear ≡ q = ap (λ (u : Tile). u.periods) written.same ∙ shows.0 in
+      record {
+        as_many = written.as_many;
+        periods = subst (AreWithin x.dimension l.period) (sym periods) within;
+        witness = subst (IsWitness x g) (sym written.same) shows.1;
+      }
+
+  -- a decided answer to a box question
+  decided_no : (x : LocalRule) (g : GoalOf) (t : Tile) → IsDecided x g l.radius l.period (decision.No t) → IsNo l x g (written_periods t) t.periods.shear t.symbols
+  decided_no x g t h = no_of x g h.2.1.0 t h.2.1.1.within h.2.1.2
+
+  decided_yes : (x : LocalRule) (g : GoalOf) (n : ℕ) (steps : List Step) → IsDecided x g l.radius l.period (decision.Yes n steps) → IsYes l x g n steps
+  decided_yes x g n steps h = yes_of x g h.0 n steps h.1 h.2.0 h.2.1
+
+  decided_is : (x : LocalRule) (g : GoalOf) (d : Decision) → IsDecided x g l.radius l.period d → IsBoxCertificate l x g (written_decision d)
+  decided_is x g (decision.Yes n steps) h = decided_yes x g n steps h
+  decided_is x g (decision.No t) h = (refl, decided_no x g t h)
+  decided_is x g decision.Unknown h = refl
+
+  joined_is : (x y : LocalRule) (left right : Decision) → IsDecided x (breaks y) l.radius l.period left →
+      UnlessNo left (IsDecided y (breaks x) l.radius l.period right) → IsEqualCertificate l x y (written_equality (joined left right))
+  joined_is x y (decision.No t) right h k = decided_no x (breaks y) t h
+  joined_is x y (decision.Yes n steps) (decision.No t) h k = decided_no y (breaks x) t k
+  joined_is x y decision.Unknown (decision.No t) h k = decided_no y (breaks x) t k
+  joined_is x y (decision.Yes n steps) (decision.Yes m others) h k = (decided_yes x (breaks y) n steps h, decided_yes y (breaks x) m others k)
+  joined_is x y (decision.Yes n steps) decision.Unknown h k = refl
+  joined_is x y decision.Unknown (decision.Yes m others) h k = refl
+  joined_is x y decision.Unknown decision.Unknown h k = refl
+
+  box_is : (x : LocalRule) (g : GoalOf) (a : Answer) → IsRightBox l x g a → IsBoxCertificate l x g a
+  box_is x g a right = subst (IsBoxCertificate l x g) (sym right.written) (decided_is x g right.decision right.decided)
+
+  equal_is : (x y : LocalRule) (a : Answer) → IsRightEqual l x y a → IsEqualCertificate l x y a
+  equal_is x y a right =
+      let both = right.decided in
+      subst (IsEqualCertificate l x y) (sym (right.written ∙ ap written_equality both.join)) (joined_is x y both.left both.right both.left_decided both.right_decided)
+
+  right_is : (k : Asked) (a : Answer) → IsRightTo l k a → IsCertificateOf l k a
+  right_is (membership x t) a right = right
+  right_is (box x g) a right = box_is x g a right
+  right_is (equality x y) a right = equal_is x y a right
+  right_is (listing x) a right = right
+
+some_then : {X : Type 0} (o : Option X) (P Q : X → Type 0) → ((x : X) → P x → Q x) → IsSomeAnd o P → IsSomeAnd o Q
+some_then (Some x) P Q h p = h x p
+some_then None P Q h p = p
+
+pub right_is_certificate : AreWrittenBack → (s : Parts) (q : Query) (a : Answer) → IsWritable a → Right s q a → IsCertificateFor s q a
+right_is_certificate back s q a writable right =
+    (writable, some_then (asked s q) (λ k. IsRightTo s.known.limits k a) (λ k. IsCertificateOf s.known.limits k a) (λ k. right_is back s.known.limits k a) right)

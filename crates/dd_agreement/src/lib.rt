@@ -1,0 +1,6 @@
+//! That what a run answers the check accepts.
+#![tactic(auto)]
+
+mod laws;
+
+pub use laws::right_is_certificate;

@@ -1,0 +1,43 @@
+use Rattle.std.proofs.Common.{sym, subst}
+use Rattle.dd_boxes.specs.declared.limits.Limits.{Limits}
+use Rattle.dd_boxes.specs.Goals.{breaks}
+use Rattle.dd_boxes.specs.Views.{goal_of}
+use Rattle.dd_script.specs.Questions.{membership, box, equality, listing}
+use Rattle.dd_script.specs.Asking.{IsAskable}
+use Rattle.dd_answer.proofs.QueryLaws.{right_for}
+use Rattle.dd_answer.proofs.answering.answer.Goals as goal
+
+pub member-requires : goal.member-requires
+member-requires c = c.in-Membership.ensures.sound.2
+
+pub decided-requires-clause-askable : goal.decided-requires-clause-askable
+decided-requires-clause-askable c =
+    subst (λ (l : Limits). IsAskable l c.in-Box.premise.now (goal_of c.in-Box.premise.now c.in-Box.goal)) (sym c.limits-limits.ensures.value) c.in-Box.ensures.sound.1
+
+pub compared-requires-clause-left : goal.compared-requires-clause-left
+compared-requires-clause-left c =
+    subst (λ (l : Limits). IsAskable l c.in-Equality.left.now (breaks c.in-Equality.right.now)) (sym c.limits-limits.ensures.value) c.in-Equality.ensures.sound.2
+
+pub compared-requires-clause-right : goal.compared-requires-clause-right
+compared-requires-clause-right c =
+    subst (λ (l : Limits). IsAskable l c.in-Equality.right.now (breaks c.in-Equality.left.now)) (sym c.limits-limits.ensures.value) c.in-Equality.ensures.sound.3
+
+pub returns-in-Membership-clause-right : goal.returns-in-Membership-clause-right
+returns-in-Membership-clause-right c =
+    right_for c.args.script.now c.args.query.now (membership c.in-Membership.rule.now c.in-Membership.configuration.now) c.limits-limits.result.now
+    c.member.result c.in-Membership.ensures.is c.limits-limits.ensures.value c.member.ensures.right
+
+pub returns-in-Box-clause-right : goal.returns-in-Box-clause-right
+returns-in-Box-clause-right c =
+    right_for c.args.script.now c.args.query.now (box c.in-Box.premise.now (goal_of c.in-Box.premise.now c.in-Box.goal)) c.limits-limits.result.now
+    c.decided.result c.in-Box.ensures.is c.limits-limits.ensures.value c.decided.ensures.right
+
+pub returns-in-Equality-clause-right : goal.returns-in-Equality-clause-right
+returns-in-Equality-clause-right c =
+    right_for c.args.script.now c.args.query.now (equality c.in-Equality.left.now c.in-Equality.right.now) c.limits-limits.result.now
+    c.compared.result c.in-Equality.ensures.is c.limits-limits.ensures.value c.compared.ensures.right
+
+pub returns-in-Listing-clause-right : goal.returns-in-Listing-clause-right
+returns-in-Listing-clause-right c =
+    right_for c.args.script.now c.args.query.now (listing c.in-Listing.rule.now) c.limits-limits.result.now
+    c.listed.result c.in-Listing.ensures.is c.limits-limits.ensures.value c.listed.ensures.right

@@ -1,0 +1,4 @@
+pub mod Tiles
+pub mod Places
+pub mod Lists
+pub mod Patterns

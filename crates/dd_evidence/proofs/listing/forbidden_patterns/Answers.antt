@@ -1,0 +1,6 @@
+use Rattle.dd_evidence.proofs.Patterns.{next_node}
+use Rattle.dd_evidence.proofs.listing.forbidden_patterns.Goals as goal
+
+pub loop-node-preserved : goal.loop-node-preserved
+loop-node-preserved c =
+    next_node c.args.rule.now c.loop-node.node c.loop-node.patterns _ c.loop-node.invariant c.in_ok-push_node.ensures

@@ -1,0 +1,45 @@
+//! Laws of what answers write, as contracts of calls that do nothing.
+ghost use Rattle.std.specs.Prelude.{◌≡◌, ◌<◌, ◌↔◌, ℕ, ℤ, List, Contains};
+ghost use Rattle.dd_pattern.specs.Tile.{Tile, IsTile, IsPeriodic};
+ghost use Rattle.dd_formula.specs.LocalRule.{LocalRule, IsRule};
+ghost use Rattle.dd_formula.specs.Living.{Fits};
+ghost use Rattle.dd_certificate.specs.declared.answer.Listed.{Listed as AnyListed};
+ghost use Rattle.dd_certificate.specs.declared.answer.Answer.TheVariants as answer;
+ghost use Rattle.dd_certificate.specs.Bounds.{IsWritable};
+ghost use Rattle.dd_forbidden.specs.Breaking.{IsBreaking};
+ghost use Rattle.dd_script.specs.Asking.{HasFewPatterns};
+ghost use Rattle.dd_evidence.specs.Cells.{IsOutside};
+ghost use Rattle.dd_evidence.specs.Tiles.{IsWrittenBack};
+ghost use Rattle.dd_evidence.specs.Lists.{listed, IsListOf};
+
+/// Does nothing; its contract says that the numbers that write a configuration in an answer give it back.
+pub fn written_back()
+    ensures { (x : LocalRule) (t : Tile) → IsTile t → Fits x t → IsWrittenBack x t }
+{}
+
+/// Does nothing; its contract says that an output can hold the place of the first cell at which a rule is false.
+pub fn places_fit()
+    ensures { (x : LocalRule) (t : Tile) (place : List ℤ) → IsRule x → IsPeriodic t → Fits x t → IsOutside x t place → IsWritable (answer.Outside place) }
+{}
+
+/// Does nothing; its contract says that the patterns that a rule forbids are listed in one way.
+pub fn one_list()
+    ensures { (x : LocalRule) (some others : List AnyListed) → IsListOf x some → IsListOf x others → some ≡ others }
+{
+    dd_forbidden::one_list();
+}
+
+/// Does nothing; its contract says that the patterns listed at a node are the fillings that break the rule there.
+pub fn listed_break()
+    ensures { (x : LocalRule) (patterns : List AnyListed) (a : ℕ) (ss : List ℕ) → IsListOf x patterns → a < x.nodes →
+        Contains patterns (listed a ss) ↔ IsBreaking x a ss }
+{}
+
+/// Does nothing; its contract says that an output can hold the list, where at each node the cells that the rule reads have
+/// few fillings.
+pub fn lists_fit()
+    ensures { (x : LocalRule) (patterns : List AnyListed) → IsRule x → HasFewPatterns x → IsListOf x patterns → IsWritable (answer.List patterns) }
+{
+    dd_forbidden::short_list();
+    dd_forbidden::known_symbols();
+}

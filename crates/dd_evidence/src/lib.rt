@@ -1,0 +1,8 @@
+//! What answers write of the parts of a script: cells, configurations, and the patterns that rules forbid.
+#![tactic(auto)]
+
+mod laws;
+mod listing;
+
+pub use laws::{listed_break, lists_fit, one_list, places_fit, written_back};
+pub use listing::forbidden_patterns;

@@ -1,0 +1,72 @@
+//! The patterns that a rule forbids.
+ghost use Rattle.std.specs.Prelude.{◌≡◌, ◌<◌, IfOk, OnOk};
+ghost use Rattle.dd_script.specs.Asking.{HasFewPatterns};
+ghost use Rattle.dd_forbidden.specs.Breaking.{AreBreakingFillings};
+ghost use Rattle.dd_evidence.specs.Lists.{listed, IsListedAfter, IsListOf};
+
+use dd_certificate::Listed;
+use dd_forbidden::{ForbiddenFault, forbidden};
+use dd_formula::Rule;
+use dd_pattern::Filling;
+use dd_values::Items;
+use std::alloc::{AllocError, Global};
+
+fn listed(alloc: Global, node: u32, filling: &Filling) -> Result<Listed, AllocError>
+    ensures { IfOk result (λ pattern. pattern ≡ listed node filling.now.symbols) }
+{
+    let symbols: Vec<u64> = filling
+        .symbols()
+        .iter()
+        .map(|symbol| u64::from(*symbol))
+        .collect(alloc)?;
+    Ok(Listed {
+        node: u64::from(node),
+        symbols: Items::from_vec(symbols),
+    })
+}
+
+/// All fillings that break the rule at the node.
+fn breaking(alloc: Global, rule: &Rule, node: u32) -> Result<Vec<Filling>, AllocError>
+    requires node { node < rule.now.nodes }
+    requires few { HasFewPatterns rule.now }
+    ensures { IfOk result (λ found. AreBreakingFillings rule.now node found.items) }
+{
+    match forbidden(alloc, rule, node) {
+        Ok(found) => Ok(found),
+        Err(ForbiddenFault::Size) => unreachable!(),
+        Err(ForbiddenFault::Memory) => Err(AllocError),
+    }
+}
+
+/// Appends the patterns of one node.
+fn push_node(
+    alloc: Global,
+    rule: &Rule,
+    node: u32,
+    patterns: &mut Items<Listed>,
+) -> Result<(), AllocError>
+    requires node { node < rule.now.nodes }
+    requires few { HasFewPatterns rule.now }
+    ensures { OnOk result (IsListedAfter rule.now node (λ before. before ≡ patterns.old) patterns.new) }
+{
+    let found = breaking(alloc, rule, node)?;
+    for filling in &found {
+        let pattern = listed(alloc, node, filling)?;
+        patterns.push(pattern)?;
+    }
+    Ok(())
+}
+
+/// The patterns that a rule forbids: node by node all fillings of the cells that it reads there that break it, in the
+/// lexicographic order of their symbols. Where it reads nothing at a node and is false there, this is the pattern without
+/// symbols.
+pub fn forbidden_patterns(alloc: Global, rule: &Rule) -> Result<Items<Listed>, AllocError>
+    requires { HasFewPatterns rule.now }
+    ensures { IfOk result (IsListOf rule.now) }
+{
+    let mut patterns = Items::new(alloc);
+    for node in 0..rule.nodes() {
+        push_node(alloc, rule, node, &mut patterns)?;
+    }
+    Ok(patterns)
+}

@@ -1,0 +1,43 @@
+use Rattle.std.proofs.Common.{subst}
+use Rattle.dd_query.specs.declared.queries.Query.{Query}
+use Rattle.dd_query.specs.declared.queries.Query.TheVariants as query
+use Rattle.dd_boxes.specs.Goals.{breaks, always}
+use Rattle.std.specs.List.{Contains}
+use Rattle.dd_script.specs.Questions.{membership, box, equality, listing}
+use Rattle.dd_script.specs.Asking.{Asks}
+use Rattle.dd_script.proofs.Asking.{member_asks, contains_asks, equal_asks, empty_asks, listing_asks}
+use Rattle.dd_script.proofs.script.Script.question.Goals as goal
+
+pub returns-in-Contains : goal.returns-in-Contains
+returns-in-Contains c =
+    let s = c.args.self.now in
+    let y = c.index-rules-outer.result in
+    let x = c.index-rules-inner.result in
+    rw c.in-Contains.is
+    (contains_asks s c.rules-rules.ensures.kept c.rules-rules.result.now c.rules-rules.ensures.value c.in-Contains.outer c.in-Contains.inner y x
+    (subst (Contains s.queries) c.in-Contains.is c.requires.stands) c.index-rules-outer.is c.index-rules-inner.is)
+
+pub returns-in-Equal : goal.returns-in-Equal
+returns-in-Equal c =
+    let s = c.args.self.now in
+    let x = c.index-rules-left.result in
+    let y = c.index-rules-right.result in
+    rw c.in-Equal.is
+    (equal_asks s c.rules-rules.ensures.kept c.rules-rules.result.now c.rules-rules.ensures.value c.in-Equal.left c.in-Equal.right x y
+    (subst (Contains s.queries) c.in-Equal.is c.requires.stands) c.index-rules-left.is c.index-rules-right.is)
+
+pub returns-in-Empty : goal.returns-in-Empty
+returns-in-Empty c =
+    let s = c.args.self.now in
+    let x = c.index-rules-rule-in-Empty.result in
+    rw c.in-Empty.is
+    (empty_asks s c.rules-rules.ensures.kept c.rules-rules.result.now c.rules-rules.ensures.value c.in-Empty.rule x
+    (subst (Contains s.queries) c.in-Empty.is c.requires.stands) c.index-rules-rule-in-Empty.is)
+
+pub returns-in-Forbidden : goal.returns-in-Forbidden
+returns-in-Forbidden c =
+    let s = c.args.self.now in
+    let x = c.index-rules-rule-in-Forbidden.result in
+    rw c.in-Forbidden.is
+    (listing_asks s c.rules-rules.ensures.kept c.rules-rules.result.now c.rules-rules.ensures.value c.in-Forbidden.rule x
+    (subst (Contains s.queries) c.in-Forbidden.is c.requires.stands) c.index-rules-rule-in-Forbidden.is)

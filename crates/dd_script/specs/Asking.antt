@@ -1,0 +1,58 @@
+-- What is known of each question that a script asks.
+use Rattle.std.specs.Prelude.{ℕ, ◌≤◌, ◌<◌, ◌≡◌, Some, max}
+use Rattle.std.specs.List.{Contains}
+use Rattle.dd_pattern.specs.Tile.{IsTile}
+use Rattle.dd_formula.specs.LocalRule.{LocalRule, IsRule}
+use Rattle.dd_formula.specs.Living.{Fits}
+use Rattle.dd_formula.specs.Counts.{largest_clauses}
+use Rattle.dd_counts.specs.Rules.{patterns}
+use Rattle.dd_boxes.specs.declared.limits.Limits.{Limits}
+use Rattle.dd_boxes.specs.Goals.{GoalOf, breaks, IsGoalFor}
+use Rattle.dd_boxes.specs.Boxes.{IsLeastRadius}
+use Rattle.dd_boxes.specs.Counts.{goal_clauses, most_clauses}
+use Rattle.dd_boxes.specs.Views.{goal_of}
+use Rattle.dd_faults.specs.declared.context.Known.{Known}
+use Rattle.dd_query.specs.declared.queries.Query.{Query}
+use Rattle.dd_query.specs.Limits.{most_patterns}
+use Rattle.dd_query.specs.Made.{IsRuleOf}
+use Rattle.dd_script.specs.declared.question.Question.{Question}
+use Rattle.dd_script.specs.declared.question.Question.TheVariants as question
+use Rattle.dd_script.specs.Parts.{Parts}
+use Rattle.dd_script.specs.Questions.{Asked, membership, box, equality, listing, asked}
+
+-- the question that a value of the program stands for
+abbrev pub asked_of : Question → Asked
+asked_of (question.Membership rule configuration) = membership rule.now configuration.now
+asked_of (question.Box premise goal) = box premise.now (goal_of premise.now goal)
+asked_of (question.Equality left right) = equality left.now right.now
+asked_of (question.Listing rule) = listing rule.now
+
+-- a rule of the script
+pub record IsOf (k : Known) (x : LocalRule) : Type 0 where
+  pub rule : IsRule x
+  pub of : IsRuleOf k x
+
+-- a goal for the premise, on whose largest box and torus the question takes at most 2,000,000 clauses
+pub record IsAskable (l : Limits) (x : LocalRule) (g : GoalOf) : Type 0 where
+  pub goal : IsGoalFor x g
+  pub small : (least : ℕ) → IsLeastRadius g least → largest_clauses x (goal_clauses g) (max l.radius least) l.period ≤ most_clauses
+
+-- at each node the cells that the rule reads have few fillings
+abbrev pub HasFewPatterns : LocalRule → Type 0
+HasFewPatterns x = (a : ℕ) → a < x.nodes → patterns x a ≤ most_patterns
+
+-- the rules are the script's and go together, and the question passes no limit
+abbrev pub IsSoundAsked : Known → Asked → Type 0
+IsSoundAsked k (membership x t) = IsRule x × IsTile t × Fits x t
+IsSoundAsked k (box x g) = IsOf k x × IsAskable k.limits x g
+IsSoundAsked k (equality x y) = IsOf k x × IsOf k y × IsAskable k.limits x (breaks y) × IsAskable k.limits y (breaks x)
+IsSoundAsked k (listing x) = IsOf k x × HasFewPatterns x
+
+-- this is what the query asks, and it is sound
+pub record Asks (s : Parts) (q : Query) (k : Asked) : Type 0 where
+  pub is : asked s q ≡ Some k
+  pub sound : IsSoundAsked s.known k
+
+-- what the queries of the script ask is sound
+abbrev pub AreSound : Parts → Type 0
+AreSound s = (q : Query) (k : Asked) → Contains s.queries q → asked s q ≡ Some k → IsSoundAsked s.known k

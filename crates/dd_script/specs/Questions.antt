@@ -1,0 +1,51 @@
+-- What the queries of a script ask.
+use Rattle.std.specs.Prelude.{ℕ, ◌-◌, Bool, true, false, Option, Some, None, option_map}
+use Rattle.std.specs.List.{slice_get}
+use Rattle.dd_pattern.specs.Tile.{Tile}
+use Rattle.dd_formula.specs.LocalRule.{LocalRule}
+use Rattle.dd_boxes.specs.Goals.{GoalOf, breaks, always}
+use Rattle.dd_query.specs.declared.queries.Query.{Query}
+use Rattle.dd_query.specs.declared.queries.Query.TheVariants as query
+use Rattle.dd_script.specs.Parts.{Parts}
+
+pub data Asked : Type 0 where
+  -- does the configuration live in the rule's subshift?
+  membership : LocalRule → Tile → Asked
+  -- can a configuration that obeys the rule have the goal?
+  box : LocalRule → GoalOf → Asked
+  -- can a configuration of either rule break the other?
+  equality : LocalRule → LocalRule → Asked
+  -- which symbols of the cells that the rule reads at a node break it there?
+  listing : LocalRule → Asked
+
+-- something of two items, where both are there
+abbrev pub of_both : {X Y Z : Type 0} → (X → Y → Z) → Option X → Option Y → Option Z
+of_both f (Some x) (Some y) = Some (f x y)
+of_both f (Some x) None = None
+of_both f None y = None
+
+-- what the query asks, where its rules and its configuration are there; nothing yet of the other kinds of queries
+abbrev pub asked : Parts → Query → Option Asked
+asked s (query.Member configuration rule) = of_both membership (slice_get s.rules rule) (slice_get s.configurations configuration)
+asked s (query.Contains outer inner) = of_both (λ x y. box x (breaks y)) (slice_get s.rules inner) (slice_get s.rules outer)
+asked s (query.Equal left right) = of_both equality (slice_get s.rules left) (slice_get s.rules right)
+asked s (query.Empty rule) = option_map (λ x. box x always) (slice_get s.rules rule)
+asked s (query.Agree left right rule) = None
+asked s (query.Forbidden rule) = option_map listing (slice_get s.rules rule)
+asked s (query.Density rule strip) = None
+asked s (query.Discharge rule radius margin vectors) = None
+
+-- the kinds of queries that are answered, and whose answers are checked
+abbrev pub is_asked : Query → Bool
+is_asked (query.Member configuration rule) = true
+is_asked (query.Contains outer inner) = true
+is_asked (query.Equal left right) = true
+is_asked (query.Empty rule) = true
+is_asked (query.Agree left right rule) = false
+is_asked (query.Forbidden rule) = true
+is_asked (query.Density rule strip) = false
+is_asked (query.Discharge rule radius margin vectors) = false
+
+-- the query with a number, from 1
+abbrev pub query_at : Parts → ℕ → Option Query
+query_at s number = slice_get s.queries (number - 1)

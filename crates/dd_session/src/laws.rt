@@ -1,0 +1,27 @@
+// That what a run writes a check accepts.
+ghost use Rattle.std.specs.Prelude.{◌≡◌, ◌≤◌, ℕ, List, Bool, length};
+ghost use Rattle.dd_session.specs.declared.status.Status.{Status as AnyStatus};
+ghost use Rattle.dd_session.specs.Runs.{status_of};
+ghost use Rattle.dd_session.specs.Checks.{most_checked, IsAllAccepted};
+ghost use Rattle.dd_session.specs.Checked.{CheckDecides};
+ghost use Rattle.dd_session.specs.Agreement.{IsRunOutput, IsJudgement};
+
+use dd_agreement::right_is_certificate;
+use dd_checker::certified;
+use dd_output::one_output;
+use dd_script::{Script, one_script};
+
+/// Does nothing; its contract says that the whole output of a run over a script, of at most 268,435,456 bytes, is accepted by
+/// a check that comes to its end, with the run's status.
+pub fn runs_are_accepted(script: &Script)
+    ensures accepted { (bytes text : List ℕ) (has : Bool) → IsRunOutput bytes script.now has text → IsAllAccepted has text }
+    ensures same_status { (bytes text : List ℕ) (has : Bool) (status : AnyStatus) → IsRunOutput bytes script.now has text → length text ≤ most_checked →
+        CheckDecides text status → IsJudgement status → status ≡ status_of has }
+{
+    // Read for what its type keeps.
+    let _limits = script.limits();
+    right_is_certificate();
+    certified(script);
+    one_output();
+    one_script();
+}
