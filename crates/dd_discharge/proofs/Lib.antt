@@ -23,3 +23,5 @@ pub mod Collected
 pub mod SparseLaws
 pub mod RowLaws
 pub mod ProgramLaws
+pub mod Sides
+pub mod OneProgram

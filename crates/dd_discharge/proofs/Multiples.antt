@@ -10,9 +10,9 @@ use Rattle.std.proofs.Math.Seq.{drop-length}
 use Rattle.std.specs.List.{fold}
 use Rattle.std.proofs.lemmas.Nat.{mod_below}
 use Rattle.std.proofs.lemmas.Nat.Gcd.{IsGcd-from_zero, IsGcd-from_mod, dvd_trans, dvd_refl, le_of_dvd}
-use Rattle.std.proofs.Math.Nat.{div-mul_cancel, dvd-mul_left}
+use Rattle.std.proofs.Math.Nat.{div-mul_cancel, dvd-mul_left, div-one}
 use Rattle.dd_fraction.specs.Divisor.{common_within, greatest_common}
-use Rattle.dd_fraction.specs.Exact.{Exact, den_of, lowest}
+use Rattle.dd_fraction.specs.Exact.{Exact, den_of, lowest, IsLowest}
 use Rattle.dd_fraction.specs.Checked.{IsFraction, does_pair_fit, fraction_of}
 use Rattle.dd_discharge.specs.Denominators.{least_common, joined, common_denominator, most_printed, printed}
 
@@ -137,3 +137,33 @@ joined_past n c i xs x z p e h none =
 
 pub joined_whole : (n c : ℕ) (xs : List Exact) → c ≤ most_printed → fold joined n xs ≡ fold joined c (drop (length xs) xs) → Some c ≡ printed (fold joined n xs)
 joined_whole n c xs p h = let same : c ≡ fold joined n xs = sym (h ∙ ap (fold joined c) (drop-length xs)) in printed_some c p ∙ ap printed same
+
+-- a fraction in lowest terms is its own reduction
+reduced_alone : (q g d : ℕ) → q * g ≡ d → 0 < d → q ≡ d → g ≡ 1
+reduced_alone q zero d e p s = absurd (omega (arith, e, p))
+reduced_alone q (suc zero) d e p s = refl
+reduced_alone zero (suc (suc g)) d e p s = absurd (omega (arith, s, p))
+reduced_alone (suc q) (suc (suc g)) d e p s = absurd (omega (arith, e, s))
+
+over_nothing : (n d : ℕ) (r : Exact) → Some r ≡ fraction_of (pos n) (pos d) → 0 < d
+over_nothing n zero r e = absurd cc
+over_nothing n (suc d) r e = omega arith
+
+pub own_reduction : (n d : ℕ) (r : Exact) → Some r ≡ fraction_of (pos n) (pos d) → r.den ≡ d → IsLowest (record { num = pos n; den = d })
+unfolding lowest
+own_reduction n d r e s =
+    let p = over_nothing n d r e in
+    let one : max 1 d ≡ d = omega (arith, p) in
+    let is : r.den ≡ max 1 d / greatest_common n (max 1 d) = ap (λ (a : Exact). a.den) (ratio_is n d r e) in
+    let whole : max 1 d / greatest_common n (max 1 d) * greatest_common n (max 1 d) ≡ max 1 d = div-mul_cancel (greatest_common n (max 1 d)) (greatest_common-is n (max 1 d)).1 in
+    let alone : greatest_common n (max 1 d) ≡ 1 = reduced_alone (max 1 d / greatest_common n (max 1 d)) (greatest_common n (max 1 d)) (max 1 d) whole (omega arith) (sym is ∙ (s ∙ sym one)) in
+    record { positive = p; alone = subst (λ (m : ℕ). greatest_common n m ≡ 1) one alone }
+
+pub no_reduction : (n d : ℕ) (r : Exact) → Some r ≡ fraction_of (pos n) (pos d) → (r.den ≡ d → ⊥) → IsLowest (record { num = pos n; den = d }) → ⊥
+unfolding lowest
+no_reduction n d r e differ l =
+    let p = l.positive in
+    let one : max 1 d ≡ d = omega (arith, p) in
+    let is : r.den ≡ max 1 d / greatest_common n (max 1 d) = ap (λ (a : Exact). a.den) (ratio_is n d r e) in
+    let alone = l.alone in
+    differ (is ∙ (ap (λ (m : ℕ). m / greatest_common n m) one ∙ (ap (λ (g : ℕ). d / g) alone ∙ div-one d)))

@@ -1,7 +1,10 @@
 -- Sums of whole numbers.
-use Rattle.std.proofs.Common.{◌≡◌, ℕ, zero, suc, ◌+◌, ◌<◌, ◌≤◌, refl, sym, ap, ◌∙◌, arith}
-use lib.IntN.{ℤ, pos, ◌+ℤ◌, ◌*ℤ◌, *ℤ-zero}
+use Rattle.std.proofs.Common.{◌≡◌, ℕ, zero, suc, ◌+◌, ◌*◌, ◌^◌, ◌<◌, ◌≤◌, refl, sym, ap, ◌∙◌, arith}
+use lib.IntN.{ℤ, pos, ◌+ℤ◌, ◌-ℤ◌, ◌*ℤ◌, *ℤ-zero}
 use lib.Signed.{◌≤ℤ◌}
+use mir.Val.{SFits}
+use Rattle.std.specs.Int.{w64, w128}
+use Rattle.std.specs.Int.RustNames.{unsigned_abs}
 use Rattle.std.proofs.lemmas.Int.{ints}
 use Rattle.dd_discharge.specs.Amounts.{total_below}
 use Rattle.dd_discharge.proofs.WholeNumbers.{times_sum}
@@ -56,3 +59,15 @@ total_alone f (suc (suc n)) z h =
     let rest = total_alone f (suc n) (omega arith) (λ j q r. h j q (omega arith)) in
     let last = h (suc n) (omega arith) (omega arith) in
     omega (arith, ints, rest, last)
+
+pub total_more : (f : ℕ → ℤ) (i : ℕ) (s t : ℤ) → s ≡ total_below f i → t ≡ f i → s +ℤ t ≡ total_below f (i + 1)
+total_more f i s t p q = (λ j. p j +ℤ q j) ∙ ap (total_below f) (next i)
+  where
+    next : (i : ℕ) → suc i ≡ i + 1
+    next i = omega arith
+
+pub unit_fits : (z : ℤ) → unsigned_abs z ≤ 1 → SFits w64 z
+unit_fits z p = omega (arith, ints, p)
+
+pub sum_fits : (s t : ℤ) (n : ℕ) → n ≤ 2048 → (pos 0 -ℤ pos (n * 2 ^ 80)) ≤ℤ s → s ≤ℤ pos (n * 2 ^ 80) → (pos 0 -ℤ pos (2 ^ 80)) ≤ℤ t → t ≤ℤ pos (2 ^ 80) → SFits w128 (s +ℤ t)
+sum_fits s t n few a b d e = omega (arith, ints)

@@ -59,3 +59,7 @@ pub record IsCertified (rows : List Row) (columns : ℕ) (b : Bound) : Type 0 wh
 abbrev pub HoldAtMost : List Row → ℕ → ℕ → ℕ → Type 0
 HoldAtMost rows columns p q =
     (common : ℕ) (held : ℤ) (amounts : List ℕ) → 1 ≤ common → MeetRows rows columns common held amounts → (held *ℤ pos q) ≤ℤ pos (p * common)
+
+-- a bound from its parts
+abbrev pub bound_claimed : ℕ → ℕ → ℕ → List ℕ → List ℕ → Bound
+bound_claimed p q n amounts duals = record { numerator = p; denominator = q; common = n; amounts = amounts; duals = duals }

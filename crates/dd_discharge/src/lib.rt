@@ -4,6 +4,9 @@
 
 mod best;
 mod bound;
+mod check;
+mod checking;
+mod claimed;
 mod denominators;
 mod discharging;
 mod domain;
@@ -19,6 +22,8 @@ mod sparse;
 mod views;
 
 pub use bound::Bound;
+pub use checking::check_bound;
+pub use claimed::ClaimedBound;
 pub use discharging::discharge;
 pub use domain::ground;
 pub use fault::{DischargeFault, RowsFault};

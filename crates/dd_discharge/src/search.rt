@@ -1,6 +1,6 @@
 //! The search for fillings: cell by cell, all fillings of the first cells.
 ghost use Rattle.std.specs.Prelude.{◌≡◌, ◌<◌, ◌≤◌, ◌+◌, ◌++◌, [], ◌∷◌, length, map, IfOk, OnOk, IfErr, All};
-ghost use Rattle.std.specs.List.{flat_map};
+ghost use Rattle.std.specs.List.{flat_map, range_with_len};
 ghost use Rattle.std.specs.List.Sorted.{IsStrictlySortedBy};
 ghost use Rattle.dd_lattice.specs.Order.{cell_cmp};
 ghost use Rattle.dd_lattice.specs.Cells.{shifted};
@@ -157,20 +157,32 @@ pub(crate) fn number_of_read(cells: &[Cell], cell: &Cell, read: &Cell) -> usize
     }
 }
 
-/// The cells that have the number, by the number of each cell.
-fn chosen(
+/// So many empty lists.
+fn empty_lists(alloc: Global, count: usize) -> Result<Vec<Items<Cell>>, AllocError>
+    ensures { IfOk result (λ lists. lists.items ≡ map (chosen [] []) (range_with_len 0 count)) }
+{
+    let mut lists = Vec::with_capacity(alloc, count)?;
+    for _number in 0..count {
+        lists.push(Items::new(alloc))?;
+    }
+    Ok(lists)
+}
+
+/// For each number of a cell the cells that have it, by the number of each cell.
+fn places_by_number(
     alloc: Global,
     numbers: &[usize],
     cells: &[Cell],
-    number: usize,
-) -> Result<Items<Cell>, AllocError>
+) -> Result<Vec<Items<Cell>>, AllocError>
     requires { length numbers.now ≡ length cells.now }
-    ensures { IfOk result (λ places. places ≡ chosen numbers.now cells.now number) }
+    ensures { IfOk result (λ places. places.items ≡ map (chosen numbers.now cells.now) (range_with_len 0 (length cells.now))) }
 {
-    let mut places = Items::new(alloc);
+    let mut places = empty_lists(alloc, cells.len())?;
     for i in 0..cells.len() {
-        if numbers[i] == number {
-            places.push(cells[i])?;
+        let number = numbers[i];
+        if number < places.len() {
+            let list = &mut places[number];
+            list.push(cells[i])?;
         }
     }
     Ok(places)
@@ -190,16 +202,16 @@ pub fn fillings(alloc: Global, rule: &Rule, cells: &[Cell]) -> Result<Items<Item
     ensures err { IfErr result (λ fault. OnLarge fault (HasManyFillings rule.now cells.now)) }
 {
     let numbers = last_numbers(alloc, rule, cells)?;
+    let places = places_by_number(alloc, numbers.as_slice(), cells)?;
     let mut level = Items::new(alloc);
     level.push(Items::new(alloc))?;
     for k in 0..cells.len() {
-        let places = chosen(alloc, numbers.as_slice(), cells, k)?;
         let node = cells[k].node;
         level = next_level(
             alloc,
             rule,
             &cells[..k + 1],
-            places.as_slice(),
+            places[k].as_slice(),
             node,
             level.as_slice(),
         )?;

@@ -1,7 +1,8 @@
 use Rattle.std.proofs.Common.{◌≡◌, ◌<◌, ◌+◌, ℕ, List, length, sym, ◌∙◌, ap, subst, take, map, get_or, arith}
 use Rattle.std.proofs.lemmas.List.{get_or_default}
 use Rattle.std.specs.Bool.{nat_eq}
-use Rattle.std.specs.List.{All, flat_map}
+use Rattle.std.proofs.lemmas.List.FromFn.{get_or-map-range_with_len, length-map-range_with_len}
+use Rattle.std.specs.List.{range_with_len, All, flat_map}
 use Rattle.std.proofs.lemmas.Result.{err_from_is_err_and}
 use Rattle.std.proofs.lemmas.List.Elements.{All-filter, All-weaker}
 use Rattle.dd_lattice.specs.Order.{cell_cmp}
@@ -18,17 +19,28 @@ use Rattle.dd_discharge.proofs.search.fillings.Goals as goal
 pub next_level-requires-clause-ascending : goal.next_level-requires-clause-ascending
 next_level-requires-clause-ascending c = sorted_take cell_cmp (c.loop-k.k + 1) c.args.cells.now c.requires.ascending
 
-settle : (x : LocalRule) (cells places taken : List Cell) (ns slice : List ℕ) (k : ℕ) → taken ≡ places → places ≡ chosen slice cells k → slice ≡ ns →
-    ns ≡ map (last_number x cells) cells → taken ≡ settled x cells k
-settle x cells places taken ns slice k a b d e = a ∙ (b ∙ (ap (λ (ms : List ℕ). chosen ms cells k) (d ∙ e) ∙ chosen_by (last_number x cells) cells k))
+settle : (x : LocalRule) (cells taken item : List Cell) (ns slice : List ℕ) (all : List (List Cell)) (k : ℕ) → k < length cells → taken ≡ item → item ≡ get_or all k item →
+    all ≡ map (chosen slice cells) (range_with_len 0 (length cells)) → slice ≡ ns → ns ≡ map (last_number x cells) cells → taken ≡ settled x cells k
+settle x cells taken item ns slice all k below a at b d e =
+    a ∙ (at ∙ (ap (λ ls. get_or ls k item) b
+    ∙ (get_or-map-range_with_len (chosen slice cells) 0 (length cells) k k item below (omega arith)
+    ∙ (ap (λ (ms : List ℕ). chosen ms cells k) (d ∙ e) ∙ chosen_by (last_number x cells) cells k))))
+
+pub index-requires : goal.index-requires
+index-requires c =
+    let cells = c.args.cells.now in
+    let size = ap length c.in_ok-places.ensures ∙ length-map-range_with_len (chosen c.as_slice.result.now cells) 0 (length cells) in
+    let within = c.in_ok-places.places.ok.0 in
+    let below = c.loop-k-test.true in
+    omega (arith, size, within, below)
 
 pub next_level-requires-clause-places : goal.next_level-requires-clause-places
 next_level-requires-clause-places c =
     let x = c.args.rule.now in
     let cells = c.args.cells.now in
     let k = c.loop-k.k in
-    let is = settle x cells c.in_ok-places.places c.as_slice-in-loop-k.result.now c.in_ok-numbers.numbers.items c.as_slice.result.now k
-    c.as_slice-in-loop-k.ensures c.in_ok-places.ensures c.as_slice.ensures.value c.in_ok-numbers.ensures in
+    let is = settle x cells c.as_slice-in-loop-k.result.now c.index.result.now c.in_ok-numbers.numbers.items c.as_slice.result.now c.in_ok-places.places.items k
+    c.loop-k-test.true c.as_slice-in-loop-k.ensures c.index.ensures c.in_ok-places.ensures c.as_slice.ensures.value c.in_ok-numbers.ensures in
     subst (AreOf x) (sym is) (All-filter (λ d. nat_eq (last_number x cells d) k) (λ d. d.node < x.nodes) cells c.requires.nodes)
 
 abbrev AreBelow : ℕ → List (List ℕ) → Type 0
@@ -46,8 +58,8 @@ returns-in_err-level-clause-err c =
     let x = c.args.rule.now in
     let cells = c.args.cells.now in
     let k = c.loop-k.k in
-    let is = settle x cells c.in_ok-places.places c.as_slice-in-loop-k.result.now c.in_ok-numbers.numbers.items c.as_slice.result.now k
-    c.as_slice-in-loop-k.ensures c.in_ok-places.ensures c.as_slice.ensures.value c.in_ok-numbers.ensures in
+    let is = settle x cells c.as_slice-in-loop-k.result.now c.index.result.now c.in_ok-numbers.numbers.items c.as_slice.result.now c.in_ok-places.places.items k
+    c.loop-k-test.true c.as_slice-in-loop-k.ensures c.index.ensures c.in_ok-places.ensures c.as_slice.ensures.value c.in_ok-numbers.ensures in
     let cell = get_or cells k c.index-cells-k.result in
     let more = level_next x cells c.requires.ascending c.requires.near k cell c.loop-k-test.true (get_or_default cells k cell c.index-cells-k.result c.loop-k-test.true) c.as_slice-in-loop-k.result.now
     c.as_slice-in-loop-k-2.result.now is (c.as_slice-in-loop-k-2.ensures ∙ c.loop-k.invariant.0) in
@@ -63,8 +75,8 @@ loop-k-preserved c =
     let x = c.args.rule.now in
     let cells = c.args.cells.now in
     let k = c.loop-k.k in
-    let is = settle x cells c.in_ok-places.places c.as_slice-in-loop-k.result.now c.in_ok-numbers.numbers.items c.as_slice.result.now k
-    c.as_slice-in-loop-k.ensures c.in_ok-places.ensures c.as_slice.ensures.value c.in_ok-numbers.ensures in
+    let is = settle x cells c.as_slice-in-loop-k.result.now c.index.result.now c.in_ok-numbers.numbers.items c.as_slice.result.now c.in_ok-places.places.items k
+    c.loop-k-test.true c.as_slice-in-loop-k.ensures c.index.ensures c.in_ok-places.ensures c.as_slice.ensures.value c.in_ok-numbers.ensures in
     let cell = get_or cells k c.index-cells-k.result in
     let more = level_next x cells c.requires.ascending c.requires.near k cell c.loop-k-test.true (get_or_default cells k cell c.index-cells-k.result c.loop-k-test.true) c.as_slice-in-loop-k.result.now
     c.as_slice-in-loop-k-2.result.now is (c.as_slice-in-loop-k-2.ensures ∙ c.loop-k.invariant.0) in

@@ -1,0 +1,48 @@
+//! Whether a claimed bound of a rule along some vectors is certified.
+ghost use Rattle.std.specs.Prelude.{◌≡◌, ◌≤◌, IfOk, true, false};
+ghost use Rattle.dd_discharge.specs.Asked.{AreVectors, AreWeightsFor};
+ghost use Rattle.dd_discharge.specs.Amounts.{bound_claimed};
+ghost use Rattle.dd_discharge.specs.Denominators.{most_printed};
+ghost use Rattle.dd_discharge.specs.Certificates.{IsBoundCertificate};
+
+use crate::check::is_certified;
+use crate::claimed::ClaimedBound;
+use crate::fault::RowsFault;
+use crate::program::program_of;
+use dd_formula::Rule;
+use dd_lattice::Position;
+use std::alloc::{AllocError, Global};
+
+/// Whether the bound is certified for the rule along the vectors: its program is within its limits, the bound is in lowest terms
+/// over a divisor of the common denominator, the amounts hold it, and the duals, which are worth it, show that no amounts hold
+/// more.
+pub fn check_bound(
+    alloc: Global,
+    rule: &Rule,
+    weights: &[u32],
+    radius: u32,
+    margin: u32,
+    vectors: &[Position],
+    claimed: &ClaimedBound,
+) -> Result<bool, AllocError>
+    requires weights { AreWeightsFor rule.now weights.now }
+    requires radius { radius ≤ 3 }
+    requires margin { margin ≤ 3 }
+    requires vectors { AreVectors rule.now.dimension vectors.now }
+    requires numerator { claimed.now.numerator ≤ most_printed }
+    requires common { claimed.now.common ≤ most_printed }
+    ensures yes { IfOk result (λ accepted. accepted ≡ true → IsBoundCertificate rule.now weights.now radius margin vectors.now
+        (bound_claimed claimed.now.numerator claimed.now.denominator claimed.now.common claimed.now.amounts.now claimed.now.duals.now)) }
+    ensures no { IfOk result (λ accepted. accepted ≡ false → IsBoundCertificate rule.now weights.now radius margin vectors.now
+        (bound_claimed claimed.now.numerator claimed.now.denominator claimed.now.common claimed.now.amounts.now claimed.now.duals.now) → ⊥) }
+{
+    // Read for what its type keeps.
+    let _nodes = rule.nodes();
+    let program = match program_of(alloc, rule, weights, radius, margin, vectors) {
+        Ok(program) => program,
+        Err(RowsFault::Large) => return Ok(false),
+        Err(RowsFault::Memory) => return Err(AllocError),
+    };
+    let columns = 1 + vectors.len() * program.patterns.len();
+    Ok(is_certified(program.rows.as_slice(), columns, claimed))
+}
