@@ -4,6 +4,7 @@ ghost use Rattle.std.specs.Int.RustNames.{unsigned_abs, int_div};
 ghost use lib.IntN.{pos};
 ghost use Rattle.dd_fraction.specs.Divisor.{greatest_common};
 
+/// The greatest number of 64 bits.
 const WORD: u128 = 18_446_744_073_709_551_615;
 
 pub fn greatest_common_divisor(a: u128, b: u128) -> u128
