@@ -115,7 +115,7 @@ const PAST_A_LIMIT: [(&[u8], &str); 18] = [
     // A fault is told before a query that is not answered.
     (b"%rule a o=0 %forbidden a %rule a o=0", "3 twice a"),
     (
-        b"%rule a o=0 %conf z [1 1] 0 %member z a %forbidden a",
+        b"%rule a o=0 %conf z [1 1] 0 %member z a %density a [1]",
         "early",
     ),
 ];
