@@ -7,6 +7,8 @@ mod boxes;
 #[cfg(test)]
 mod checks;
 #[cfg(test)]
+mod forbidden;
+#[cfg(test)]
 mod formulas;
 #[cfg(test)]
 mod members;
