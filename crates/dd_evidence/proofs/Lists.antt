@@ -105,8 +105,8 @@ module _ (x : LocalRule) (a : ℕ) (ss : List ℕ) where
       elim (Contains-append_cases is.before (map (listed n) is.here) (listed a ss) here) [
         | inl early ↦ breaks_at n is.before is.is_before early
         | inr late ↦
-          let found = listed_from n a is.here ss late in
-          subst (λ (m : ℕ). IsBreaking x m ss) found.0 (is.breaking.only ss found.1)
+            let found = listed_from n a is.here ss late in
+            subst (λ (m : ℕ). IsBreaking x m ss) found.0 (is.breaking.only ss found.1)
       ]
 
   listed_at : (n : ℕ) (patterns : List Listed) → IsListTo x n patterns → a < n → IsBreaking x a ss → Contains patterns (listed a ss)
@@ -116,11 +116,11 @@ module _ (x : LocalRule) (a : ℕ) (ss : List ℕ) where
       (elim (cases_lt a n) [
         | inl low ↦ Contains-append_left is.before (map (listed n) is.here) (listed a ss) (listed_at n is.before is.is_before low breaking)
         | inr high ↦
-          let same : a ≡ n = omega (arith, high, below) in
-          let here : Contains is.here ss = is.breaking.each ss (subst (λ (m : ℕ). IsBreaking x m ss) same breaking) in
-          let found : Contains (map (listed n) is.here) (listed a ss) =
-          subst (λ (m : ℕ). Contains (map (listed n) is.here) (listed m ss)) (sym same) (listed_to n is.here ss here) in
-          Contains-append_right is.before (map (listed n) is.here) (listed a ss) found
+            let same : a ≡ n = omega (arith, high, below) in
+            let here : Contains is.here ss = is.breaking.each ss (subst (λ (m : ℕ). IsBreaking x m ss) same breaking) in
+            let found : Contains (map (listed n) is.here) (listed a ss) =
+            subst (λ (m : ℕ). Contains (map (listed n) is.here) (listed m ss)) (sym same) (listed_to n is.here ss here) in
+            Contains-append_right is.before (map (listed n) is.here) (listed a ss) found
       ])
 
 pub listed_break : (x : LocalRule) (patterns : List Listed) (a : ℕ) (ss : List ℕ) → IsListOf x patterns → a < x.nodes →
