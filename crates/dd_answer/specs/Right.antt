@@ -19,9 +19,10 @@ use Rattle.dd_contain.specs.Questions.{IsDecided}
 use Rattle.dd_contain.specs.Equal.{IsEqualDecided}
 use Rattle.dd_query.specs.declared.queries.Query.{Query}
 use Rattle.dd_script.specs.Parts.{Parts}
-use Rattle.dd_script.specs.Questions.{Asked, membership, box, equality, listing, asked}
+use Rattle.dd_script.specs.Questions.{Asked, membership, box, equality, listing, density, discharge, asked}
 use Rattle.dd_evidence.specs.Tiles.{written_periods}
 use Rattle.dd_evidence.specs.Answers.{IsMemberCertificate, IsListCertificate}
+use Rattle.dd_answer.specs.Bounds.{IsRightDensity, IsRightDischarge}
 
 -- ---- box questions
 
@@ -61,6 +62,8 @@ IsRightTo l (membership x t) a = IsMemberCertificate x t a
 IsRightTo l (box x g) a = IsRightBox l x g a
 IsRightTo l (equality x y) a = IsRightEqual l x y a
 IsRightTo l (listing x) a = IsListCertificate x a
+IsRightTo l (density x strip ws) a = IsRightDensity x strip ws a
+IsRightTo l (discharge x radius margin vs ws) a = IsRightDischarge x radius margin vs ws l.pivots a
 
 -- the answer to what the query asks, within the script's limits
 abbrev pub Right : Parts → Query → Answer → Type 0

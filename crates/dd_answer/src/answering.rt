@@ -5,6 +5,8 @@ ghost use Rattle.dd_script.specs.Questions.{is_asked};
 ghost use Rattle.dd_answer.specs.Right.{Right};
 
 use crate::boxes::{compared, decided};
+use crate::densities::least;
+use crate::discharges::discharged;
 use crate::lists::listed;
 use crate::members::member;
 use dd_certificate::Answer;
@@ -28,5 +30,17 @@ pub fn answer(alloc: Global, script: &Script, query: &Query) -> Result<Answer, A
         Question::Box { premise, goal } => decided(alloc, premise, &goal, limits),
         Question::Equality { left, right } => compared(alloc, left, right, limits),
         Question::Listing { rule } => listed(alloc, rule),
+        Question::Density {
+            rule,
+            strip,
+            weights,
+        } => least(alloc, rule, strip, weights),
+        Question::Discharge {
+            rule,
+            radius,
+            margin,
+            vectors,
+            weights,
+        } => discharged(alloc, rule, radius, margin, vectors, weights, limits.pivots),
     }
 }

@@ -21,13 +21,15 @@ use Rattle.dd_faults.specs.declared.context.Known.{Known}
 use Rattle.dd_script.specs.Parts.{Parts}
 use Rattle.dd_certificate.specs.declared.answer.Answer.{Answer}
 use Rattle.dd_certificate.specs.declared.answer.Answer.TheVariants as answer
-use Rattle.dd_script.specs.Questions.{Asked, membership, box, equality, listing, asked, query_at}
+use Rattle.dd_script.specs.Questions.{Asked, membership, box, equality, listing, density, discharge, asked, query_at}
 use Rattle.dd_script.specs.Asking.{IsOf, IsSoundAsked, AreSound}
 use Rattle.dd_checker.specs.Certificates.{IsCertificateOf, IsCertificateFor, IsCertificate}
 use Rattle.dd_checker.specs.Holding.{MemberClaim, BoxClaim, EqualClaim, ListClaim}
+use Rattle.dd_checker.specs.Bounds.{StripClaim, DischargeClaim}
 use Rattle.dd_checker.specs.Claims.{ClaimOf, Claim}
 use Rattle.dd_checker.specs.Lifted.{is_yes, whole_look, IsWhole, IsNotAt, IsAskedNotAt, IsNowhereAt}
 use Rattle.dd_checker.proofs.Listing.{ListedBreak, list_claims}
+use Rattle.dd_checker.proofs.Weighing.{BoundLaws, strip_claims, discharge_claims}
 use Rattle.dd_checker.proofs.Claiming.{member_claims, box_claims, equal_claims}
 
 some_then : {X : Type 0} (o : Option X) (P Q : X → Type 0) → ((x : X) → o ≡ Some x → P x → Q x) → IsSomeAnd o P → IsSomeAnd o Q
@@ -38,12 +40,14 @@ some_then None P Q h p = p
 query_there : (s : Parts) (n : ℕ) (q : Query) → slice_get s.queries n ≡ Some q → Contains s.queries q
 query_there s n q is = (n, slice_get_within s.queries n q is, get_or_from_slice_get s.queries n q q is)
 
-module _ (s : Parts) (sound : AreSound s) (listed : ListedBreak) where
+module _ (s : Parts) (sound : AreSound s) (listed : ListedBreak) (laws : BoundLaws) where
   asked_claims : (a : Answer) (k : Asked) → IsSoundAsked s.known k → IsCertificateOf s.known.limits k a → ClaimOf k a
   asked_claims a (membership x t) ok h = member_claims x t a h
   asked_claims a (box x g) ok h = box_claims s.known.limits x g a ok.0.rule ok.1.goal h
   asked_claims a (equality x y) ok h = equal_claims s.known.limits x y ok.0.rule ok.1.rule ok.2.goal ok.3.goal a h
   asked_claims a (listing x) ok h = list_claims listed x a h
+  asked_claims a (density x strip ws) ok h = strip_claims laws x strip ws ok.0.rule ok.1.strip a h
+  asked_claims a (discharge x radius margin vs ws) ok h = discharge_claims laws x radius margin vs ws a h
 
   -- what follows from a certificate of each sound question follows from one of a query
   certificate_then : (number : ℕ) (a : Answer) (P : Asked → Type 0) →
@@ -87,7 +91,7 @@ setting_of k x of =
     let each = and_parts (x.dimension == n.dimension) (x.nodes == n.nodes) two.0 in
     record { dimension = eqb-true _ _ each.0; nodes = eqb-true _ _ each.1 }
 
-module _ (s : Parts) (sound : AreSound s) (listed : ListedBreak) (nodes : ℕ) (symbol_of : Cell → ℕ) (whole : IsWhole s nodes symbol_of) where
+module _ (s : Parts) (sound : AreSound s) (listed : ListedBreak) (laws : BoundLaws) (nodes : ℕ) (symbol_of : Cell → ℕ) (whole : IsWhole s nodes symbol_of) where
   abbrev look : Look
   look = whole_look s.known.setting.topology.dimension nodes symbol_of
 
@@ -129,9 +133,13 @@ module _ (s : Parts) (sound : AreSound s) (listed : ListedBreak) (nodes : ℕ) (
         a told
     asked_not_at a told (listing x) ok =
         yes_cases (λ b. ListClaim x b → ⊥) (λ n steps claim. claim) (λ n m steps others claim. claim) a told
+    asked_not_at a told (density x strip ws) ok =
+        yes_cases (λ b. StripClaim x strip ws b → ⊥) (λ n steps claim. claim) (λ n m steps others claim. claim) a told
+    asked_not_at a told (discharge x radius margin vs ws) ok =
+        yes_cases (λ b. DischargeClaim x radius margin vs ws b → ⊥) (λ n steps claim. claim) (λ n m steps others claim. claim) a told
 
     -- a YES that is a certificate says that the goal does not hold at v
     pub lifted_law : (number : ℕ) (a : Answer) → is_yes a ≡ true → IsCertificate s number a → IsNowhereAt s number look v
     lifted_law number a told h =
-        certificate_then s sound listed number a (λ k. IsAskedNotAt k look v)
-        (λ k ok certificate. asked_not_at a told k ok (asked_claims s sound listed a k ok certificate)) h
+        certificate_then s sound listed laws number a (λ k. IsAskedNotAt k look v)
+        (λ k ok certificate. asked_not_at a told k ok (asked_claims s sound listed laws a k ok certificate)) h

@@ -5,6 +5,8 @@ ghost use Rattle.dd_checker.specs.Certificates.{IsCertificateFor, IsCertificate,
 ghost use Rattle.dd_checker.specs.Claims.{Claim};
 
 use crate::boxes::{check_box, check_equal};
+use crate::densities::check_strip;
+use crate::discharges::check_discharge;
 use crate::laws::certified;
 use crate::lists::check_list;
 use crate::places::check_member;
@@ -34,6 +36,18 @@ fn check_query(
         Question::Box { premise, goal } => check_box(alloc, premise, &goal, limits, answer),
         Question::Equality { left, right } => check_equal(alloc, left, right, limits, answer),
         Question::Listing { rule } => check_list(alloc, rule, answer),
+        Question::Density {
+            rule,
+            strip,
+            weights,
+        } => check_strip(alloc, rule, strip, weights, answer),
+        Question::Discharge {
+            rule,
+            radius,
+            margin,
+            vectors,
+            weights,
+        } => check_discharge(alloc, rule, radius, margin, vectors, weights, answer),
     }
 }
 

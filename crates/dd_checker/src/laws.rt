@@ -7,10 +7,12 @@ ghost use Rattle.dd_checker.specs.Claims.{Claim};
 ghost use Rattle.dd_checker.specs.Lifted.{is_yes, whole_look, IsWhole, IsNowhereAt};
 
 use dd_certificate::Answer;
+use dd_discharge::best_bound;
 use dd_evidence::listed_break;
 use dd_lattice::Position;
 use dd_pattern::Configuration;
 use dd_script::Script;
+use dd_strips::{strip_empty, strip_least};
 
 /// Does nothing; its contract says that what a certificate claims is true.
 pub fn certified(script: &Script)
@@ -20,6 +22,9 @@ pub fn certified(script: &Script)
     let _limits = script.limits();
     script.sound_questions();
     listed_break();
+    strip_least();
+    strip_empty();
+    best_bound();
 }
 
 /// Does nothing; its contract draws the conclusion of a YES that is a certificate for any configuration, also for one that no
@@ -43,4 +48,7 @@ pub fn lifted<C: Configuration>(
     let _limits = script.limits();
     script.sound_questions();
     listed_break();
+    strip_least();
+    strip_empty();
+    best_bound();
 }

@@ -4,8 +4,11 @@
 mod answering;
 mod boxes;
 mod configurations;
+mod densities;
+mod discharges;
 mod laws;
 mod lists;
+mod numbers;
 mod places;
 mod refutations;
 mod verdict;

@@ -25,3 +25,4 @@ pub mod RowLaws
 pub mod ProgramLaws
 pub mod Sides
 pub mod OneProgram
+pub mod Outcomes

@@ -6,6 +6,7 @@ pub mod Patterns
 pub mod Programs
 pub mod Denominators
 pub mod Bounds
+pub mod Outcomes
 -- what certifies a bound, and that none is better
 pub mod Amounts
 pub mod Certificates

@@ -2,16 +2,18 @@
 use Rattle.std.proofs.Common.{◌≡◌, ℕ, ◌≤◌, Bool, true, false, List, [], max, refl, ap, sym, subst, ◌∙◌, arith, Some, None}
 use Rattle.std.specs.Prelude.{◌<◌, ◌||◌, ◌&&◌, ◌==◌, nat_lt, Option, option_map, length, get_or}
 use Rattle.std.specs.List.{All, Contains, slice_get, list_any, range_with_len}
-use Rattle.std.proofs.lemmas.Bool.{and_parts, eqb-true, ltb-false, false≢true}
+use Rattle.std.proofs.lemmas.Bool.{and_parts, or_parts, eqb-true, ltb-false, false≢true}
 use Rattle.std.proofs.lemmas.List.Elements.{All-contains}
 use Rattle.std.proofs.lemmas.List.Folds.{list_any_at}
 use Rattle.std.proofs.lemmas.List.FromFn.{length-range_with_len, get_or-range_with_len}
 use Rattle.std.proofs.lemmas.Option.{slice_get_within, slice_get_read, get_or_from_slice_get}
+use Rattle.dd_lattice.specs.Place.{Place}
 use Rattle.dd_pattern.specs.Tile.{Tile}
 use Rattle.dd_formula.specs.LocalRule.{LocalRule, IsRule}
 use Rattle.dd_formula.specs.Living.{Fits}
 use Rattle.dd_formula.specs.Counts.{largest_clauses}
 use Rattle.dd_formula.specs.Automata.{Setting, rule_has}
+use Rattle.dd_discharge.specs.Asked.{AreVectors}
 use Rattle.dd_boxes.specs.Goals.{GoalOf, breaks, always, AreAlike, IsGoalFor}
 use Rattle.dd_boxes.specs.Boxes.{IsLeastRadius}
 use Rattle.dd_boxes.specs.Counts.{goal_clauses, most_clauses}
@@ -26,11 +28,12 @@ use Rattle.dd_query.specs.declared.queries.Query.{Query}
 use Rattle.dd_query.specs.declared.queries.Query.TheVariants as query
 use Rattle.dd_query.specs.Made.{numbers_of, IsRuleOf}
 use Rattle.dd_counts.specs.Rules.{patterns}
-use Rattle.dd_query.specs.Limits.{Aim, anything, breaking, clauses_of, is_long, about, most_patterns, has_many_patterns, contains_sizes, equal_sizes, empty_sizes}
+use Rattle.dd_query.specs.Limits.{Aim, anything, breaking, clauses_of, is_long, about, most_patterns, has_many_patterns, has_many_states, strip_volume, contains_sizes, equal_sizes, empty_sizes}
 use Rattle.dd_query.specs.Sound.{IsSoundQuery}
 use Rattle.dd_script.specs.Parts.{Parts, IsScriptOf}
-use Rattle.dd_script.specs.Questions.{Asked, membership, box, equality, listing, of_both, asked}
+use Rattle.dd_script.specs.Questions.{Asked, membership, box, equality, listing, density, discharge, of_both, asked}
 use Rattle.dd_script.specs.Asking.{IsOf, IsAskable, HasFewPatterns, IsSoundAsked, Asks}
+use Rattle.dd_script.proofs.Measures.{strip_of, few_states, has_weights, weights_for, vectors_of}
 
 -- ---- rules of a script
 
@@ -90,10 +93,6 @@ breaking_askable k x y here there few = askable k x (breaks y) (breaking y) (the
 not_over : (b : Bool) (l : Limit) → over b l ≡ [] → b ≡ false
 not_over true l h = cc
 not_over false l h = refl
-
-neither : (a b : Bool) → (a || b) ≡ false → (a ≡ false) × (b ≡ false)
-neither true b h = absurd (cc)
-neither false b h = (refl, h)
 
 about_is : {X : Type 0} (xs : List X) (n : ℕ) (x : X) (f : X → List Fault) → slice_get xs n ≡ Some x → about xs n f ≡ f x
 about_is xs n x f is = rw is refl
@@ -169,7 +168,7 @@ module _ (s : Parts) (ok : IsScriptOf s) where
       sym (about_is s.rules left x (λ r. about s.rules right (λ q. equal_sizes s.known r q)) x_is
       ∙ about_is s.rules right y (λ q. equal_sizes s.known x q) y_is)
       ∙ sound.sizes in
-      let both = neither one other (not_over (one || other) limit.Clauses sizes) in
+      let both = or_parts one other (not_over (one || other) limit.Clauses sizes) in
       (here, there, breaking_askable s.known x y here there both.0, breaking_askable s.known y x there here both.1)
 
   empty_sound : (rule : ℕ) (x : LocalRule) → IsSoundQuery s.known s.rules s.automata (query.Empty rule) → slice_get s.rules rule ≡ Some x →
@@ -185,6 +184,38 @@ module _ (s : Parts) (ok : IsScriptOf s) where
       let sizes : over (has_many_patterns x) limit.Patterns ≡ [] =
       sym (about_is s.rules rule x (λ r. over (has_many_patterns r) limit.Patterns) x_is) ∙ sound.sizes in
       (rule_of rule x x_is, few_patterns x (not_over (has_many_patterns x) limit.Patterns sizes))
+
+  density_sound : (rule : ℕ) (strip : List ℕ) (x : LocalRule) → IsSoundQuery s.known s.rules s.automata (query.Density rule strip) →
+      slice_get s.rules rule ≡ Some x → IsSoundAsked s.known (density x strip s.known.weights)
+  density_sound rule strip x sound x_is =
+      let here = rule_of rule x x_is in
+      let has = setting_of s.known x here in
+      let many = has_many_states x (strip_volume strip) in
+      let sizes : over many limit.States ≡ [] =
+      sym (about_is s.rules rule x (λ r. over (has_many_states r (strip_volume strip)) limit.States) x_is) ∙ sound.sizes in (
+        here,
+        record {
+          strip = strip_of x s.known.setting.topology.dimension strip has.dimension sound.within.1;
+          weights = has_weights x s.known.weights (length s.known.setting.symbols) ok.known.weights has.symbols ok.known.light;
+          few = few_states x (strip_volume strip) (not_over many limit.States sizes);
+        },
+      )
+
+  discharge_sound : (rule radius margin : ℕ) (vectors : List Place) (x : LocalRule) →
+      IsSoundQuery s.known s.rules s.automata (query.Discharge rule radius margin vectors) → slice_get s.rules rule ≡ Some x →
+      IsSoundAsked s.known (discharge x radius margin vectors s.known.weights)
+  discharge_sound rule radius margin vectors x sound x_is =
+      let here = rule_of rule x x_is in
+      let has = setting_of s.known x here in
+      let d = s.known.setting.topology.dimension in (
+        here,
+        record {
+          radius = sound.within.1;
+          margin = sound.within.2;
+          vectors = subst (λ (n : ℕ). AreVectors n vectors) (sym has.dimension) (vectors_of d vectors ok.known.grid.dimension.0 sound.within.3);
+          weights = weights_for x s.known.weights (length s.known.setting.symbols) ok.known.weights has.symbols ok.known.light;
+        },
+      )
 
   both_then : {X Y : Type 0} (f : X → Y → Asked) (a : Option X) (b : Option Y) (k : Asked) →
       ((x : X) (y : Y) → a ≡ Some x → b ≡ Some y → IsSoundAsked s.known (f x y)) → of_both f a b ≡ Some k → IsSoundAsked s.known k
@@ -207,8 +238,11 @@ module _ (s : Parts) (ok : IsScriptOf s) where
   asked_sound (query.Empty rule) k sound is = one_then (λ x. box x always) (slice_get s.rules rule) k (λ x x_is. empty_sound rule x sound x_is) is
   asked_sound (query.Agree left right rule) k sound is = absurd (cc is)
   asked_sound (query.Forbidden rule) k sound is = one_then listing (slice_get s.rules rule) k (λ x x_is. listing_sound rule x sound x_is) is
-  asked_sound (query.Density rule strip) k sound is = absurd (cc is)
-  asked_sound (query.Discharge rule radius margin vectors) k sound is = absurd (cc is)
+  asked_sound (query.Density rule strip) k sound is =
+      one_then (λ x. density x strip s.known.weights) (slice_get s.rules rule) k (λ x x_is. density_sound rule strip x sound x_is) is
+  asked_sound (query.Discharge rule radius margin vectors) k sound is =
+      one_then (λ x. discharge x radius margin vectors s.known.weights) (slice_get s.rules rule) k
+      (λ x x_is. discharge_sound rule radius margin vectors x sound x_is) is
 
   sound_at : (q : Query) → Contains s.queries q → IsSoundQuery s.known s.rules s.automata q
   sound_at q there = All-contains (IsSoundQuery s.known s.rules s.automata) s.queries q ok.queries there
@@ -256,3 +290,22 @@ module _ (s : Parts) (ok : IsScriptOf s) where
     pub listing_asks : (rule : ℕ) (x : LocalRule) → Contains s.queries (query.Forbidden rule) → x ≡ get_or rs rule x → Asks s (query.Forbidden rule) (listing x)
     listing_asks rule x there x_is =
         asks (query.Forbidden rule) (listing x) there (ap (option_map listing) (rule_at rule x (sound_at (query.Forbidden rule) there).within x_is))
+
+    pub density_asks : (rule : ℕ) (strip ws : List ℕ) (x : LocalRule) → ws ≡ s.known.weights → Contains s.queries (query.Density rule strip) →
+        x ≡ get_or rs rule x → Asks s (query.Density rule strip) (density x strip ws)
+    density_asks rule strip ws x same_ws there x_is =
+        let named = (sound_at (query.Density rule strip) there).within.0 in
+        subst (λ (us : List ℕ). Asks s (query.Density rule strip) (density x strip us)) (sym same_ws)
+        (asks (query.Density rule strip) (density x strip s.known.weights) there
+        (ap (option_map (λ y. density y strip s.known.weights)) (rule_at rule x named x_is)))
+
+    pub discharge_asks : (rule radius margin : ℕ) (vectors given : List Place) (ws : List ℕ) (x : LocalRule) → given ≡ vectors → ws ≡ s.known.weights →
+        Contains s.queries (query.Discharge rule radius margin vectors) → x ≡ get_or rs rule x →
+        Asks s (query.Discharge rule radius margin vectors) (discharge x radius margin given ws)
+    discharge_asks rule radius margin vectors given ws x same_vectors same_ws there x_is =
+        let q = query.Discharge rule radius margin vectors in
+        let named = (sound_at q there).within.0 in
+        subst (λ (us : List ℕ). Asks s q (discharge x radius margin given us)) (sym same_ws)
+        (subst (λ (vs : List Place). Asks s q (discharge x radius margin vs s.known.weights)) (sym same_vectors)
+        (asks q (discharge x radius margin vectors s.known.weights) there
+        (ap (option_map (λ y. discharge y radius margin vectors s.known.weights)) (rule_at rule x named x_is))))

@@ -1,6 +1,7 @@
 -- What the queries of a script ask.
-use Rattle.std.specs.Prelude.{ℕ, ◌-◌, Bool, true, false, Option, Some, None, option_map}
+use Rattle.std.specs.Prelude.{ℕ, ◌-◌, List, Bool, true, false, Option, Some, None, option_map}
 use Rattle.std.specs.List.{slice_get}
+use Rattle.dd_lattice.specs.Place.{Place}
 use Rattle.dd_pattern.specs.Tile.{Tile}
 use Rattle.dd_formula.specs.LocalRule.{LocalRule}
 use Rattle.dd_boxes.specs.Goals.{GoalOf, breaks, always}
@@ -17,6 +18,11 @@ pub data Asked : Type 0 where
   equality : LocalRule → LocalRule → Asked
   -- which symbols of the cells that the rule reads at a node break it there?
   listing : LocalRule → Asked
+  -- with these weights, what do the configurations with these periods in the axes after the first weigh at least a position?
+  density : LocalRule → List ℕ → List ℕ → Asked
+  -- with these weights, what can each position hold at least, once each has given along these vectors amounts that the pattern
+  -- of this radius around it determines, on a domain grown by this margin?
+  discharge : LocalRule → ℕ → ℕ → List Place → List ℕ → Asked
 
 -- something of two items, where both are there
 abbrev pub of_both : {X Y Z : Type 0} → (X → Y → Z) → Option X → Option Y → Option Z
@@ -32,8 +38,8 @@ asked s (query.Equal left right) = of_both equality (slice_get s.rules left) (sl
 asked s (query.Empty rule) = option_map (λ x. box x always) (slice_get s.rules rule)
 asked s (query.Agree left right rule) = None
 asked s (query.Forbidden rule) = option_map listing (slice_get s.rules rule)
-asked s (query.Density rule strip) = None
-asked s (query.Discharge rule radius margin vectors) = None
+asked s (query.Density rule strip) = option_map (λ x. density x strip s.known.weights) (slice_get s.rules rule)
+asked s (query.Discharge rule radius margin vectors) = option_map (λ x. discharge x radius margin vectors s.known.weights) (slice_get s.rules rule)
 
 -- the kinds of queries that are answered, and whose answers are checked
 abbrev pub is_asked : Query → Bool
@@ -43,8 +49,8 @@ is_asked (query.Equal left right) = true
 is_asked (query.Empty rule) = true
 is_asked (query.Agree left right rule) = false
 is_asked (query.Forbidden rule) = true
-is_asked (query.Density rule strip) = false
-is_asked (query.Discharge rule radius margin vectors) = false
+is_asked (query.Density rule strip) = true
+is_asked (query.Discharge rule radius margin vectors) = true
 
 -- the query with a number, from 1
 abbrev pub query_at : Parts → ℕ → Option Query

@@ -133,7 +133,7 @@ impl Script {
     ghost use Rattle.dd_script.specs.Asking.{asked_of, Asks, AreSound};
 
     /// What a query of the script asks.
-    pub fn question(&self, query: &Query) -> Question<'_>
+    pub fn question<'a>(&'a self, query: &'a Query) -> Question<'a>
         requires stands { Contains self.now.queries query.now }
         requires asked { is_asked query.now ≡ true }
         ensures { Asks self.now query.now (asked_of result) }
@@ -162,6 +162,23 @@ impl Script {
             },
             Query::Forbidden { rule } => Question::Listing {
                 rule: &rules[*rule as usize],
+            },
+            Query::Density { rule, strip } => Question::Density {
+                rule: &rules[*rule as usize],
+                strip: *strip,
+                weights: self.weights(),
+            },
+            Query::Discharge {
+                rule,
+                radius,
+                margin,
+                vectors,
+            } => Question::Discharge {
+                rule: &rules[*rule as usize],
+                radius: *radius,
+                margin: *margin,
+                vectors: vectors.as_slice(),
+                weights: self.weights(),
             },
             _ => unreachable!(),
         }

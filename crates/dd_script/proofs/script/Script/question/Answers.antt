@@ -5,7 +5,7 @@ use Rattle.dd_boxes.specs.Goals.{breaks, always}
 use Rattle.std.specs.List.{Contains}
 use Rattle.dd_script.specs.Questions.{membership, box, equality, listing}
 use Rattle.dd_script.specs.Asking.{Asks}
-use Rattle.dd_script.proofs.Asking.{member_asks, contains_asks, equal_asks, empty_asks, listing_asks}
+use Rattle.dd_script.proofs.Asking.{member_asks, contains_asks, equal_asks, empty_asks, listing_asks, density_asks, discharge_asks}
 use Rattle.dd_script.proofs.script.Script.question.Goals as goal
 
 pub returns-in-Contains : goal.returns-in-Contains
@@ -41,3 +41,20 @@ returns-in-Forbidden c =
     rw c.in-Forbidden.is
     (listing_asks s c.rules-rules.ensures.kept c.rules-rules.result.now c.rules-rules.ensures.value c.in-Forbidden.rule x
     (subst (Contains s.queries) c.in-Forbidden.is c.requires.stands) c.index-rules-rule-in-Forbidden.is)
+
+pub returns-in-Density : goal.returns-in-Density
+returns-in-Density c =
+    let s = c.args.self.now in
+    let x = c.index-rules-rule-in-Density.result in
+    rw c.in-Density.is
+    (density_asks s c.rules-rules.ensures.kept c.rules-rules.result.now c.rules-rules.ensures.value c.in-Density.rule c.in-Density.strip c.weights.result.now x
+    c.weights.ensures.value (subst (Contains s.queries) c.in-Density.is c.requires.stands) c.index-rules-rule-in-Density.is)
+
+pub returns-in-Discharge : goal.returns-in-Discharge
+returns-in-Discharge c =
+    let s = c.args.self.now in
+    let x = c.index-rules-rule-in-Discharge.result in
+    rw c.in-Discharge.is
+    (discharge_asks s c.rules-rules.ensures.kept c.rules-rules.result.now c.rules-rules.ensures.value c.in-Discharge.rule c.in-Discharge.radius c.in-Discharge.margin
+    c.in-Discharge.vectors c.as_slice.result.now c.weights-in-Discharge.result.now x c.as_slice.ensures c.weights-in-Discharge.ensures.value
+    (subst (Contains s.queries) c.in-Discharge.is c.requires.stands) c.index-rules-rule-in-Discharge.is)
