@@ -20,7 +20,7 @@ use Rattle.dd_density.specs.Densities.{IsCertified, IsSmall}
 use Rattle.dd_discharge.specs.declared.bound.Bound.{Bound}
 use Rattle.dd_discharge.specs.declared.fault.DischargeFault.{DischargeFault}
 use Rattle.dd_discharge.specs.declared.fault.DischargeFault.TheVariants as fault
-use Rattle.dd_discharge.specs.Denominators.{IsSmallBound}
+use Rattle.dd_discharge.specs.Printed.{IsSmallBound}
 use Rattle.dd_discharge.specs.Bounds.{IsBoundOf, IsDischargeFault}
 use Rattle.dd_discharge.specs.Certificates.{IsBoundCertificate}
 use Rattle.dd_discharge.specs.Outcomes.{HasOneOutcome}

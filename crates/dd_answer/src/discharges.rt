@@ -1,7 +1,7 @@
 //! Answers to queries of discharging.
 ghost use Rattle.std.specs.Prelude.{◌≡◌, IfOk, IfErr};
 ghost use Rattle.dd_certificate.specs.Bounds.{IsWritable};
-ghost use Rattle.dd_discharge.specs.Denominators.{IsSmallBound};
+ghost use Rattle.dd_discharge.specs.Printed.{IsSmallBound};
 ghost use Rattle.dd_script.specs.Asking.{IsDischargeable};
 ghost use Rattle.dd_answer.specs.Bounds.{written_bound, IsReasonOf, IsRightDischarge};
 

@@ -25,4 +25,5 @@ pub mod RowLaws
 pub mod ProgramLaws
 pub mod Sides
 pub mod OneProgram
+pub mod SmallBounds
 pub mod Outcomes

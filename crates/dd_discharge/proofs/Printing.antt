@@ -6,8 +6,8 @@ use lib.Signed.{◌≤ℤ◌}
 use Rattle.std.specs.Int.RustNames.{unsigned_abs}
 use Rattle.std.specs.List.{fold, All, Any}
 use Rattle.std.proofs.lemmas.Int.{ints}
-use Rattle.std.proofs.lemmas.List.{take_more, length-map, map-append, get_or-append-add}
-use Rattle.std.proofs.lemmas.List.Elements.{All-append, All-map, All-nil}
+use Rattle.std.proofs.lemmas.List.{take_more, map-append, get_or-append-add}
+use Rattle.std.proofs.lemmas.List.Elements.{All-append, All-nil}
 use Rattle.std.proofs.lemmas.List.Sums.{fold-append}
 use Rattle.std.proofs.lemmas.Nat.Gcd.{le_of_dvd}
 use Rattle.std.proofs.lemmas.Grind.{common_steps}
@@ -22,7 +22,7 @@ use Rattle.dd_discharge.specs.declared.bound.Bound.{Bound}
 use Rattle.dd_discharge.specs.declared.fault.DischargeFault.{DischargeFault}
 use Rattle.dd_discharge.specs.declared.fault.DischargeFault.TheVariants as fault
 use Rattle.dd_discharge.specs.Faults.{OnOverflow}
-use Rattle.dd_discharge.specs.Denominators.{joined, common_denominator, numerator_over, most_printed, printed, ArePrinted, HasUnprinted, IsPrintedAs, IsSmallBound}
+use Rattle.dd_discharge.specs.Denominators.{joined, common_denominator, numerator_over, most_printed, printed, ArePrinted, HasUnprinted, IsPrintedAs}
 use Rattle.dd_discharge.proofs.Multiples.{printed_is, printed_none, unprinted, joined_above, joined_grows, each_divides, den_above}
 
 -- ---- the least common denominator of two lists
@@ -169,23 +169,3 @@ printed_as v xs ys n m p q amounts duals g e pe qe ae ap_all de dp_all = record 
   amounts_are = ae;
   duals_are = de;
 }
-
-pub small_bound : (v : Exact) (xs ys : List Exact) (n m : ℕ) (p q : ℕ) (amounts duals : List ℕ) → Given v xs ys n → Some m ≡ printed (numerator_over n v) → p ≡ unsigned_abs v.num → q ≡ v.den
-    → amounts ≡ map (numerator_over n) (drop 1 xs) → All (λ a. numerator_over n a ≤ most_printed) (drop 1 xs)
-    → duals ≡ map (numerator_over n) ys → All (λ a. numerator_over n a ≤ most_printed) ys → 0 < length ys
-    → IsSmallBound (record { numerator = p; denominator = q; common = n; amounts = amounts; duals = duals })
-small_bound v xs ys n m p q amounts duals g e pe qe ae ap_all de dp_all some =
-    let above = g.fraction.above in
-    let den = small_denominator v xs ys n g in
-    let num = small_numerator v xs ys n m g e in
-    let n_some = common_some (xs ++ ys) n g.common in
-    let is = printed_is (common_denominator (xs ++ ys)) n g.common in
-    let many : length duals ≡ length ys = ap length de ∙ length-map ys (numerator_over n) in
-    record {
-      numerator = omega (arith, pe, num);
-      denominator = (omega (arith, qe, above), omega (arith, qe, den));
-      common = (omega (arith, n_some), omega (arith, is.0, is.1));
-      amounts = subst (All (λ k. k ≤ most_printed)) (sym ae) (All-map (λ k. k ≤ most_printed) (numerator_over n) (drop 1 xs) ap_all);
-      duals = subst (All (λ k. k ≤ most_printed)) (sym de) (All-map (λ k. k ≤ most_printed) (numerator_over n) ys dp_all);
-      some_dual = omega (arith, many, some);
-    }

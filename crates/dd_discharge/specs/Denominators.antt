@@ -1,5 +1,5 @@
 -- Fractions of at least 0 over their least common denominator, as a bound is printed.
-use Rattle.std.specs.Prelude.{ℕ, ◌*◌, ◌/◌, ◌<◌, ◌≤◌, ◌^◌, ◌≡◌, ◌⊎◌, pos, List, ◌++◌, map, length, drop, unsigned_abs, Option, Some, None, cond, nat_le}
+use Rattle.std.specs.Prelude.{ℕ, ◌*◌, ◌/◌, ◌<◌, ◌≤◌, ◌^◌, ◌≡◌, ◌⊎◌, pos, List, ◌++◌, map, drop, unsigned_abs, Option, Some, None, cond, nat_le}
 use Rattle.std.specs.List.{fold, All, Any}
 use Rattle.dd_fraction.specs.Divisor.{greatest_common}
 use Rattle.dd_fraction.specs.Exact.{Exact, den_of}
@@ -43,12 +43,3 @@ pub record IsPrintedAs (value : Exact) (columns duals : List Exact) (b : Bound) 
   pub common_is : b.common ≡ common_denominator (columns ++ duals)
   pub amounts_are : b.amounts ≡ map (numerator_over b.common) (drop 1 columns)
   pub duals_are : b.duals ≡ map (numerator_over b.common) duals
-
--- each number of the bound can be printed, its denominators are from 1 on, and it has a dual
-pub record IsSmallBound (b : Bound) : Type 0 where
-  pub numerator : b.numerator ≤ most_printed
-  pub denominator : (1 ≤ b.denominator) × (b.denominator ≤ most_printed)
-  pub common : (1 ≤ b.common) × (b.common ≤ most_printed)
-  pub amounts : All (λ n. n ≤ most_printed) b.amounts
-  pub duals : All (λ n. n ≤ most_printed) b.duals
-  pub some_dual : 1 ≤ length b.duals

@@ -5,6 +5,7 @@ pub mod Fillings
 pub mod Patterns
 pub mod Programs
 pub mod Denominators
+pub mod Printed
 pub mod Bounds
 pub mod Outcomes
 -- what certifies a bound, and that none is better

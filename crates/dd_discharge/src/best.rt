@@ -2,7 +2,7 @@
 ghost use Rattle.std.specs.Prelude.{◌≡◌, ◌<◌, map, IfOk, IfErr, OnOk};
 ghost use Rattle.dd_fraction.specs.Exact.{whole_of};
 ghost use Rattle.dd_discharge.specs.Amounts.{IsCertified};
-ghost use Rattle.dd_discharge.specs.Denominators.{IsSmallBound};
+ghost use Rattle.dd_discharge.specs.Printed.{IsSmallBound};
 ghost use Rattle.dd_discharge.specs.Bounds.{in_fractions, EndsWith, GivesNone};
 ghost use Rattle.dd_discharge.specs.listing.Tables.{AreRowsOf};
 

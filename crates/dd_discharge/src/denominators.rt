@@ -4,7 +4,8 @@ ghost use Rattle.std.specs.List.{fold, All, Any};
 ghost use Rattle.dd_fraction.specs.Exact.{den_of};
 ghost use Rattle.dd_fraction.specs.Order.{IsNonneg};
 ghost use Rattle.dd_simplex.specs.Programs.{fraction_at};
-ghost use Rattle.dd_discharge.specs.Denominators.{least_common, joined, common_denominator, numerator_over, most_printed, printed, HasUnprinted, IsPrintedAs, IsSmallBound};
+ghost use Rattle.dd_discharge.specs.Denominators.{least_common, joined, common_denominator, numerator_over, most_printed, printed, HasUnprinted, IsPrintedAs};
+ghost use Rattle.dd_discharge.specs.Printed.{IsSmallBound};
 ghost use Rattle.dd_discharge.specs.Faults.{OnOverflow};
 
 use crate::bound::Bound;

@@ -1,9 +1,5 @@
 // Forbidden patterns: the lists that runs write, and what a check makes of each, and of lists that are not theirs.
-use crate::runs::{assert_answers, run_on};
-use dd_outside::{MemorySink, MemorySource};
-use dd_session::{Status, check_diddy};
-use std::alloc::Global;
-use std::process::Abort;
+use crate::runs::{assert_accepted, assert_answers, assert_checks};
 use std::test::Fail;
 
 // Scripts, and the lines of their answers.
@@ -51,42 +47,11 @@ const CHECKED: [(&str, bool); 5] = [
     ("query 1 UNKNOWN limits\n", false),
 ];
 
-fn status_of_check(alloc: Global, bytes: &[u8]) -> Result<Status, Fail> {
-    let mut source = MemorySource::new(Vec::from_slice(alloc, bytes)?, 7, Vec::new(alloc));
-    let mut sink = MemorySink::new(alloc, 400, 5, Vec::new(alloc))?;
-    Ok(check_diddy(alloc, &mut source, &mut sink))
-}
-
-// Asserts that a check accepts the output of a run over each script.
-fn assert_accepted(rt: &impl Abort, alloc: Global, rows: &[(&str, &str)]) -> Result<(), Fail> {
-    for (script, _) in rows {
-        let (status, output) = run_on(alloc, script.as_bytes())?;
-        assert_eq!(rt; status_of_check(alloc, &output)?, status, "{script}");
-    }
-    Ok(())
-}
-
 #[test]
 fn lists_forbidden_patterns(rt: HostRuntime) -> Result<(), Fail> {
     let alloc = rt.alloc();
     assert_answers(&rt, alloc, &LISTS)?;
     assert_accepted(&rt, alloc, &LISTS)?;
     let (script, _) = LISTS[0];
-    for (answers, accepted) in CHECKED {
-        let output = format!(in alloc;
-            "diddy 1\nscript {}\n{script}\n{answers}end\n",
-            script.len()
-        )?;
-        let wanted = if accepted {
-            Status::Definite
-        } else {
-            Status::Rejected
-        };
-        assert_eq!(&rt;
-            status_of_check(alloc, output.as_bytes())?,
-            wanted,
-            "{answers}"
-        );
-    }
-    Ok(())
+    assert_checks(&rt, alloc, script, &CHECKED)
 }

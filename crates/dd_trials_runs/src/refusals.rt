@@ -85,8 +85,8 @@ const FAULTS_OF_NODES_AND_SHEARS: [(&[u8], &str); 9] = [
     (b"%conf c [3 1] [-1] 0 1 0", "1 syntax"),
 ];
 
-// With limits that are just not passed, by queries that are not answered.
-const PAST_A_LIMIT: [(&[u8], &str); 18] = [
+// Limits that are passed, and a query that is not answered.
+const PAST_A_LIMIT: [(&[u8], &str); 16] = [
     (
         b"%rule aaaaaaaaaaaaaaaaaaaaaaaaaaaaaaaaa o=0",
         "1 size word",
@@ -103,19 +103,14 @@ const PAST_A_LIMIT: [(&[u8], &str); 18] = [
     (b"%rule a o=0 %discharge a 0 0 [5 0]", "2 size vectors"),
     (b"%rule big Ep[o3] p=1 %forbidden big", "2 size patterns"),
     (b"%rule dom Ep[o1] p=1 %density dom [6]", "2 size states"),
-    (b"%rule dom Ep[o1] p=1 %density dom [5]", "early"),
     (
         b"%rule hard o=1 -> (o.rt=0 & o.up=0) %density hard [9]",
         "2 size states",
     ),
-    (
-        b"%rule hard o=1 -> (o.rt=0 & o.up=0) %density hard [8]",
-        "early",
-    ),
     // A fault is told before a query that is not answered.
     (b"%rule a o=0 %forbidden a %rule a o=0", "3 twice a"),
     (
-        b"%rule a o=0 %conf z [1 1] 0 %member z a %density a [1]",
+        b"%rule a o=0 %conf z [1 1] 0 %auto n else 0 %member z a %same n n a",
         "early",
     ),
 ];
