@@ -3,7 +3,7 @@ use Rattle.std.proofs.Common.{◌≡◌, ℕ, zero, suc, ◌+◌, ◌*◌, ◌^�
 use Rattle.std.specs.Prelude.{◌⊎◌, unsigned_abs}
 use Rattle.std.specs.Int.{IsGcd}
 use Rattle.std.specs.List.{All}
-use Rattle.std.proofs.Math.Nat.{pow-pos}
+use Rattle.std.proofs.Math.Nat.{one-le-pow}
 use Rattle.dd_lattice.specs.Place.{Place}
 use Rattle.dd_expansion.specs.Limits.{greatest}
 use Rattle.dd_formula.specs.LocalRule.{LocalRule, IsRule}
@@ -55,7 +55,7 @@ density_right least empty x strip ws rule narrow (density.Empty ranks) h =
 -- a transfer graph has a state
 some_state : (x : LocalRule) (s : Strip) → IsRule x → 1 ≤ states x (positions s)
 some_state x s rule =
-    pow-pos (slices x (positions s)) (window x) (pow-pos x.symbols (x.nodes * positions s) (let some = rule.symbols.0 in omega (arith, some)))
+    one-le-pow (window x) (slices x (positions s)) (one-le-pow (x.nodes * positions s) x.symbols rule.symbols.0)
 
 pub density_fits : (x : LocalRule) (strip ws : List ℕ) → IsRule x → IsNarrow x strip ws → (d : Density) →
     IsCertified x (strip_for x strip) ws d → IsSmall x (strip_for x strip) d → IsWritable (written_density d)
@@ -64,11 +64,13 @@ density_fits x strip ws rule narrow (density.Least p q walk potentials) h small 
     let few = narrow.few.0 in
     let short = small.short in
     let some = some_state x s rule in
-    let each = h.potentials.each in (
+    let each = h.potentials.each in
+    let above = h.density.positive in
+    let turn = h.closed.some in (
       small.numerator,
-      (h.density.positive, small.denominator),
+      (omega (arith, above), small.denominator),
       omega (arith, short, few),
-      (h.closed.some, small.walked),
+      (omega (arith, turn), small.walked),
       omega (arith, each, some),
       small.potentials,
     )

@@ -7,7 +7,7 @@ ghost use Rattle.dd_certificate.specs.Bounds.{IsWritable};
 ghost use Rattle.dd_script.specs.Asking.{IsNarrow};
 ghost use Rattle.dd_checker.specs.Bounds.{IsStripCertificate};
 
-use crate::numbers::{are_signed, is_denominator, is_list, is_number, is_short};
+use crate::numbers::{is_denominator, is_list, is_number, is_short, is_signed_list};
 use dd_certificate::Answer;
 use dd_density::{check_density, check_empty};
 use dd_formula::Rule;
@@ -17,13 +17,19 @@ use std::alloc::{AllocError, Global};
 fn is_writable(numerator: u64, denominator: u64, cycle: &[u64], potentials: &[i64]) -> bool
     ensures { IsTrue result ↔ IsWritable (answer.Density numerator denominator cycle.now potentials.now) }
 {
-    if !is_number(numerator) || !is_denominator(denominator) {
+    if !is_number(numerator) {
         return false;
     }
-    if !is_short(cycle) || !is_list(cycle) || potentials.is_empty() {
+    if !is_denominator(denominator) {
         return false;
     }
-    are_signed(potentials)
+    if !is_short(cycle) {
+        return false;
+    }
+    if !is_list(cycle) {
+        return false;
+    }
+    is_signed_list(potentials)
 }
 
 /// Whether the cycle and the potentials show that this is the least density, and an output can hold them.

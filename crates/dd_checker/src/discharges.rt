@@ -7,7 +7,7 @@ ghost use Rattle.dd_discharge.specs.Certificates.{IsBoundCertificate};
 ghost use Rattle.dd_script.specs.Asking.{IsDischargeable};
 ghost use Rattle.dd_checker.specs.Bounds.{IsDischargeReason, IsDischargeCertificate};
 
-use crate::numbers::{are_numbers, is_denominator, is_list, is_number};
+use crate::numbers::{are_denominators, are_numbers, is_list, is_number};
 use dd_certificate::{Answer, Reason};
 use dd_discharge::{ClaimedBound, check_bound};
 use dd_formula::Rule;
@@ -18,10 +18,13 @@ use std::alloc::{AllocError, Global};
 fn is_writable(claimed: &ClaimedBound) -> bool
     ensures { IsTrue result ↔ IsWritable (answer.Bound claimed.now.numerator claimed.now.denominator claimed.now.common claimed.now.amounts.now claimed.now.duals.now) }
 {
-    if !is_number(claimed.numerator) || !is_denominator(claimed.denominator) {
+    if !is_number(claimed.numerator) {
         return false;
     }
-    if !is_denominator(claimed.common) || !are_numbers(claimed.amounts) {
+    if !are_denominators(claimed.denominator, claimed.common) {
+        return false;
+    }
+    if !are_numbers(claimed.amounts) {
         return false;
     }
     is_list(claimed.duals)

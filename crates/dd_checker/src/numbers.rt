@@ -24,6 +24,15 @@ pub(crate) fn is_denominator(number: u64) -> bool
     1 <= number && number <= MOST_NUMBER
 }
 
+pub(crate) fn are_denominators(one: u64, other: u64) -> bool
+    ensures { IsTrue result ↔ (IsWritableDenominator one × IsWritableDenominator other) }
+{
+    if !is_denominator(one) {
+        return false;
+    }
+    is_denominator(other)
+}
+
 pub(crate) fn are_numbers(numbers: &[u64]) -> bool
     ensures { IsTrue result ↔ All IsWritableNumber numbers.now }
 {
@@ -35,7 +44,7 @@ pub(crate) fn are_numbers(numbers: &[u64]) -> bool
     true
 }
 
-pub(crate) fn are_signed(numbers: &[i64]) -> bool
+fn are_signed(numbers: &[i64]) -> bool
     ensures { IsTrue result ↔ All IsWritableSigned numbers.now }
 {
     for number in numbers {
@@ -54,6 +63,16 @@ pub(crate) fn is_list(numbers: &[u64]) -> bool
         return false;
     }
     are_numbers(numbers)
+}
+
+/// The same, with signs.
+pub(crate) fn is_signed_list(numbers: &[i64]) -> bool
+    ensures { IsTrue result ↔ ((1 ≤ length numbers.now) × All IsWritableSigned numbers.now) }
+{
+    if numbers.is_empty() {
+        return false;
+    }
+    are_signed(numbers)
 }
 
 /// Not too many.

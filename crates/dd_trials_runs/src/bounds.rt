@@ -1,6 +1,6 @@
 // Least densities of strips, and discharging: values that are known, what a check makes of the answers of runs, and of answers that
 // are not theirs.
-use crate::runs::{assert_accepted, assert_answers, assert_checks, assert_lines};
+use crate::runs::{assert_answers, assert_checked_lines, assert_checks};
 use std::test::Fail;
 
 // Scripts, and the first lines of their answers.
@@ -125,10 +125,8 @@ const CHECKED_RANKS: [(&str, bool); 3] = [
 #[test]
 fn weighs_strips_and_discharges(rt: HostRuntime) -> Result<(), Fail> {
     let alloc = rt.alloc();
-    assert_lines(&rt, alloc, &DENSITIES)?;
-    assert_lines(&rt, alloc, &DISCHARGES)?;
-    assert_accepted(&rt, alloc, &DENSITIES)?;
-    assert_accepted(&rt, alloc, &DISCHARGES)?;
+    assert_checked_lines(&rt, alloc, &DENSITIES)?;
+    assert_checked_lines(&rt, alloc, &DISCHARGES)?;
     assert_answers(&rt, alloc, &BOUND_OF_COVERS)?;
     assert_checks(&rt, alloc, COVERS, &CHECKED)?;
     assert_checks(&rt, alloc, STUCK, &CHECKED_RANKS)

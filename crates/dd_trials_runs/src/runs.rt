@@ -78,18 +78,42 @@ fn status_with(answers: &str) -> Status {
     }
 }
 
-/// Asserts that each script has the first lines of answers that stand beside it, and the status that tells whether one is
-/// unknown.
+/// Asserts that the script has these first lines of answers, and the status that tells whether one is unknown; and gives both
+/// the status and the output.
+fn assert_run(
+    rt: &impl Abort,
+    alloc: Global,
+    script: &str,
+    answers: &str,
+) -> Result<(Status, Vec<u8>), Fail> {
+    let (status, output) = long_run_on(alloc, script)?;
+    let lines = answer_lines(alloc, &output)?;
+    assert_eq!(rt; lines.as_str(), answers, "{script}");
+    assert_eq!(rt; status, status_with(answers), "{script}");
+    Ok((status, output))
+}
+
+/// Asserts that each script has the first lines of answers that stand beside it.
 pub(crate) fn assert_lines(
     rt: &impl Abort,
     alloc: Global,
     rows: &[(&str, &str)],
 ) -> Result<(), Fail> {
     for (script, answers) in rows {
-        let (status, output) = long_run_on(alloc, script)?;
-        let lines = answer_lines(alloc, &output)?;
-        assert_eq!(rt; lines.as_str(), *answers, "{script}");
-        assert_eq!(rt; status, status_with(answers), "{script}");
+        assert_run(rt, alloc, script, answers)?;
+    }
+    Ok(())
+}
+
+/// The same, and that a check accepts the whole output.
+pub(crate) fn assert_checked_lines(
+    rt: &impl Abort,
+    alloc: Global,
+    rows: &[(&str, &str)],
+) -> Result<(), Fail> {
+    for (script, answers) in rows {
+        let (status, output) = assert_run(rt, alloc, script, answers)?;
+        assert_eq!(rt; status_of_check(alloc, &output)?, status, "{script}");
     }
     Ok(())
 }

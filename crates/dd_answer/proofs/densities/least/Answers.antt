@@ -18,3 +18,12 @@ returns-clause-writable c =
     let ws = c.args.weights.now in
     subst IsWritable (sym c.written_density.ensures)
     (density_fits x c.args.strip ws c.nodes-nodes.ensures.kept c.requires c.in_ok-density.density c.in_ok-density.ensures.certified c.in_ok-density.ensures.small)
+
+pub least_density-requires-clause-strip : goal.least_density-requires-clause-strip
+least_density-requires-clause-strip c = c.requires.strip
+
+pub least_density-requires-clause-weights : goal.least_density-requires-clause-weights
+least_density-requires-clause-weights c = c.requires.weights
+
+pub least_density-requires-clause-few : goal.least_density-requires-clause-few
+least_density-requires-clause-few c = c.requires.few

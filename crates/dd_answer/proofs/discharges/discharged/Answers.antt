@@ -8,7 +8,22 @@ returns-in-Ok-clause-right c =
     subst (IsRightDischarge c.args.rule.now c.args.radius c.args.margin c.args.vectors.now c.args.weights.now c.args.pivots) (sym c.written_bound.ensures.same)
     (record { ends = c.in-Ok.ensures.ok; certificate = c.in-Ok.ensures.certificate })
 
-pub returns-clause-right : goal.returns-clause-right
-returns-clause-right c =
+pub returns-in-Err-clause-right : goal.returns-in-Err-clause-right
+returns-in-Err-clause-right c =
     reason_right c.args.rule.now c.args.radius c.args.margin c.args.vectors.now c.args.weights.now c.args.pivots c.in-Err.fault c.in_ok-reason.reason
-    c.in-Err.ensures c.in_ok-reason.ensures
+    c.in-Err.ensures.err c.in_ok-reason.ensures
+
+pub discharge-requires-clause-weights : goal.discharge-requires-clause-weights
+discharge-requires-clause-weights c = c.requires.weights
+
+pub discharge-requires-clause-radius : goal.discharge-requires-clause-radius
+discharge-requires-clause-radius c = c.requires.radius
+
+pub discharge-requires-clause-margin : goal.discharge-requires-clause-margin
+discharge-requires-clause-margin c = c.requires.margin
+
+pub discharge-requires-clause-vectors : goal.discharge-requires-clause-vectors
+discharge-requires-clause-vectors c = c.requires.vectors
+
+pub written_bound-requires : goal.written_bound-requires
+written_bound-requires c = c.in-Ok.ensures.small
