@@ -44,7 +44,7 @@ fn is_bound(
     ensures { IfOk result (λ accepted. IsTrue accepted ↔
         (IsWritable (answer.Bound claimed.now.numerator claimed.now.denominator claimed.now.common claimed.now.amounts.now claimed.now.duals.now)
         × IsBoundCertificate rule.now weights.now radius margin vectors.now
-            (bound_claimed claimed.now.numerator claimed.now.denominator claimed.now.common claimed.now.amounts.now claimed.now.duals.now))) }
+        (bound_claimed claimed.now.numerator claimed.now.denominator claimed.now.common claimed.now.amounts.now claimed.now.duals.now))) }
 {
     if !is_writable(claimed) {
         return Ok(false);

@@ -47,14 +47,14 @@ same_end p k a b =
     }
 
 module _ (p : LinearProgram) (k : ℕ) where
-  end_of : (b : Bound) → EndsWith p k b → DoesEnd p k
+  abbrev end_of : (b : Bound) → EndsWith p k b → DoesEnd p k
   end_of b e = record { value = e.value; columns = e.columns; duals = e.duals; ends = e.ends }
 
-  unprinted_end : EndsUnprinted p k → DoesEnd p k
+  abbrev unprinted_end : EndsUnprinted p k → DoesEnd p k
   unprinted_end e = record { value = e.value; columns = e.columns; duals = e.duals; ends = e.ends }
 
-  one_bound : (b c : Bound) → EndsWith p k b → EndsWith p k c → b ≡ c
-  one_bound b c h g =
+  same_bound : (b c : Bound) → EndsWith p k b → EndsWith p k c → b ≡ c
+  same_bound b c h g =
       let s = same_end p k (end_of b h) (end_of c g) in
       let numerators : b.numerator ≡ c.numerator =
       ap unsigned_abs (h.printed.numerator_is ∙ (ap (λ (a : Exact). a.num) s.value ∙ sym g.printed.numerator_is)) in
@@ -62,10 +62,12 @@ module _ (p : LinearProgram) (k : ℕ) where
       h.printed.denominator_is ∙ (ap (λ (a : Exact). a.den) s.value ∙ sym g.printed.denominator_is) in
       let both : h.columns ++ h.duals ≡ g.columns ++ g.duals = λ i. s.columns i ++ s.duals i in
       let commons : b.common ≡ c.common = h.printed.common_is ∙ (ap common_denominator both ∙ sym g.printed.common_is) in
-      let amounts : b.amounts ≡ c.amounts =
-      h.printed.amounts_are ∙ ((λ i. map (numerator_over (commons i)) (drop 1 (s.columns i))) ∙ sym g.printed.amounts_are) in
-      let duals : b.duals ≡ c.duals =
-      h.printed.duals_are ∙ ((λ i. map (numerator_over (commons i)) (s.duals i)) ∙ sym g.printed.duals_are) in
+      let columns_over : map (numerator_over b.common) (drop 1 h.columns) ≡ map (numerator_over c.common) (drop 1 g.columns) =
+      λ i. map (numerator_over (commons i)) (drop 1 (s.columns i)) in
+      let duals_over : map (numerator_over b.common) h.duals ≡ map (numerator_over c.common) g.duals =
+      λ i. map (numerator_over (commons i)) (s.duals i) in
+      let amounts : b.amounts ≡ c.amounts = h.printed.amounts_are ∙ (columns_over ∙ sym g.printed.amounts_are) in
+      let duals : b.duals ≡ c.duals = h.printed.duals_are ∙ (duals_over ∙ sym g.printed.duals_are) in
       λ i. record { numerator = numerators i; denominator = denominators i; common = commons i; amounts = amounts i; duals = duals i }
 
   ends_apart : DoesEnd p k → RunOverflows p k → ⊥
@@ -81,11 +83,15 @@ module _ (p : LinearProgram) (k : ℕ) where
   bound_not_over b h (inl o) = ends_apart (end_of b h) o
   bound_not_over b h (inr e) =
       let s = same_end p k (end_of b h) (unprinted_end e) in
-      printed_all (e.columns ++ e.duals) (subst ArePrinted (λ i. s.columns i ++ s.duals i) h.printed.printed) e.unprinted
+      let both : h.columns ++ h.duals ≡ e.columns ++ e.duals = λ i. s.columns i ++ s.duals i in
+      printed_all (e.columns ++ e.duals) (subst ArePrinted both h.printed.printed) e.unprinted
     where
       printed_all : (xs : List Exact) → ArePrinted xs → HasUnprinted xs → ⊥
       printed_all xs are (inl large) = let few = are.denominator in omega (arith, few, large)
-      printed_all xs are (inr (a, n, within, is, large)) = let few = are.numerators n a within in absurd (cc (few, is, large))
+      printed_all xs are (inr (j, a, within, is, large)) =
+          let few = are.numerators j a within in
+          let same = ap (numerator_over (common_denominator xs)) is in
+          omega (arith, few, same, large)
 
   over_not_stopped : RunOverflows p k ⊎ EndsUnprinted p k → RunPivots p k → ⊥
   over_not_stopped (inl o) stops = over_before o stops
@@ -106,7 +112,7 @@ module _ (x : LocalRule) (ws : List ℕ) (radius margin : ℕ) (vs : List Place)
   pub one_outcome : HasOneOutcome x ws radius margin vs pivots
   one_outcome = record {
     one_bound = λ b c h g.
-        one_bound (run_of g.program) pivots b c (at_one (λ l. EndsWith l pivots b) h.program g.program h.is_program g.is_program h.ends) g.ends;
+        same_bound (run_of g.program) pivots b c (at_one (λ l. EndsWith l pivots b) h.program g.program h.is_program g.is_program h.ends) g.ends;
     not_large = λ b h large. never_large x ws radius margin vs h.program h.is_program large;
     not_over = λ b h o.
         bound_not_over (run_of o.program) pivots b (at_one (λ l. EndsWith l pivots b) h.program o.program h.is_program o.is_program h.ends) o.over;
