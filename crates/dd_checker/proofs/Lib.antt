@@ -8,6 +8,7 @@ pub mod Narrowing
 pub mod PlaceLaws
 pub mod Giving
 pub mod Listing
+pub mod Numbers
 pub mod Weighing
 pub mod QueryLaws
 pub mod Verdicts

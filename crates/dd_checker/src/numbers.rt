@@ -1,5 +1,6 @@
 //! Whether an output can hold the numbers of an answer.
-ghost use Rattle.std.specs.Prelude.{◌≤◌, ◌↔◌, length, All, IsTrue};
+ghost use Rattle.std.specs.Prelude.{◌≡◌, ◌≤◌, ◌↔◌, nat_le, unsigned_abs, length, All, IsTrue};
+ghost use Rattle.std.specs.List.{list_all};
 ghost use Rattle.dd_certificate.specs.Bounds.{most_number, IsWritableNumber, IsWritableSigned, IsWritableDenominator, IsWritableList};
 
 /// The greatest number of most lines.
@@ -9,12 +10,6 @@ pub(crate) fn is_number(number: u64) -> bool
     ensures { IsTrue result ↔ IsWritableNumber number }
 {
     number <= MOST_NUMBER
-}
-
-fn is_signed(number: i64) -> bool
-    ensures { IsTrue result ↔ IsWritableSigned number }
-{
-    number.unsigned_abs() <= MOST_NUMBER
 }
 
 /// From 1 on.
@@ -33,26 +28,34 @@ pub(crate) fn are_denominators(one: u64, other: u64) -> bool
     is_denominator(other)
 }
 
+fn is_small(number: &u64) -> bool
+    ensures { result ≡ nat_le number.now most_number }
+{
+    *number <= MOST_NUMBER
+}
+
+fn are_small(numbers: &[u64]) -> bool
+    ensures { result ≡ list_all (λ n. nat_le n most_number) numbers.now }
+{
+    numbers.iter().all(|number| is_small(number))
+}
+
+fn is_small_signed(number: &i64) -> bool
+    ensures { result ≡ nat_le (unsigned_abs number.now) most_number }
+{
+    number.unsigned_abs() <= MOST_NUMBER
+}
+
+fn are_small_signed(numbers: &[i64]) -> bool
+    ensures { result ≡ list_all (λ z. nat_le (unsigned_abs z) most_number) numbers.now }
+{
+    numbers.iter().all(|number| is_small_signed(number))
+}
+
 pub(crate) fn are_numbers(numbers: &[u64]) -> bool
     ensures { IsTrue result ↔ All IsWritableNumber numbers.now }
 {
-    for number in numbers {
-        if !is_number(*number) {
-            return false;
-        }
-    }
-    true
-}
-
-fn are_signed(numbers: &[i64]) -> bool
-    ensures { IsTrue result ↔ All IsWritableSigned numbers.now }
-{
-    for number in numbers {
-        if !is_signed(*number) {
-            return false;
-        }
-    }
-    true
+    are_small(numbers)
 }
 
 /// Numbers, one at least.
@@ -62,17 +65,17 @@ pub(crate) fn is_list(numbers: &[u64]) -> bool
     if numbers.is_empty() {
         return false;
     }
-    are_numbers(numbers)
+    are_small(numbers)
 }
 
-/// The same, with signs.
+/// Signed numbers, one at least.
 pub(crate) fn is_signed_list(numbers: &[i64]) -> bool
     ensures { IsTrue result ↔ ((1 ≤ length numbers.now) × All IsWritableSigned numbers.now) }
 {
     if numbers.is_empty() {
         return false;
     }
-    are_signed(numbers)
+    are_small_signed(numbers)
 }
 
 /// Not too many.
