@@ -47,10 +47,10 @@ abbrev pub HasFewPatterns : LocalRule → Type 0
 HasFewPatterns x = (a : ℕ) → a < x.nodes → patterns x a ≤ most_patterns
 
 -- the strip's transfer graph has few states and windows, and each symbol has a weight
-pub record IsNarrow (x : LocalRule) (strip ws : List ℕ) : Type 0 where
-  pub strip : IsStrip x strip
+pub record IsNarrow (x : LocalRule) (periods ws : List ℕ) : Type 0 where
+  pub strip : IsStrip x periods
   pub weights : HasWeights x ws
-  pub few : IsFew x (strip_for x strip)
+  pub few : IsFew x (strip_for x periods)
 
 -- the patterns and vectors are small, and each symbol has a weight
 pub record IsDischargeable (x : LocalRule) (radius margin : ℕ) (vs : List Place) (ws : List ℕ) : Type 0 where
