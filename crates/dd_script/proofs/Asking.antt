@@ -212,7 +212,7 @@ module _ (s : Parts) (ok : IsScriptOf s) where
         record {
           radius = sound.within.1;
           margin = sound.within.2;
-          vectors = subst (λ (n : ℕ). AreVectors n vectors) (sym has.dimension) (vectors_of d vectors ok.known.grid.dimension.0 sound.within.3);
+          vectors = subst (λ (n : ℕ). AreVectors n vectors) (sym has.dimension) (vectors_of d vectors sound.within.3);
           weights = weights_for x s.known.weights (length s.known.setting.symbols) ok.known.weights has.symbols ok.known.light;
         },
       )

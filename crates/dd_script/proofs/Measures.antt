@@ -71,8 +71,8 @@ on_axis false z h = none z (leb-true (unsigned_abs z) 0 h) where
   none (pos (suc n)) le = absurd (omega (arith, le))
   none (negsuc n) le = absurd (omega (arith, le))
 
-vector_of : (d : ℕ) (v : Place) → 1 ≤ d → is_offset d v ≡ true → IsVector d v
-vector_of d v some h =
+vector_of : (d : ℕ) (v : Place) → is_offset d v ≡ true → IsVector d v
+vector_of d v h =
     let all = and_parts (nat_le (unsigned_abs v.x) (edge_reach d 0) && nat_le (unsigned_abs v.y) (edge_reach d 1)) (nat_le (unsigned_abs v.z) (edge_reach d 2)) h in
     let two = and_parts (nat_le (unsigned_abs v.x) (edge_reach d 0)) (nat_le (unsigned_abs v.y) (edge_reach d 1)) all.0 in
     let on_x = on_axis (nat_lt 0 d) v.x two.0 in
@@ -85,10 +85,10 @@ vector_of d v some h =
       flat = and_from (nat_lt 1 d || int_eq v.y (pos 0)) (nat_lt 2 d || int_eq v.z (pos 0)) on_y.1 on_z.1;
     }
 
-pub vectors_of : (d : ℕ) (vs : List Place) → 1 ≤ d → AreVectorsIn d vs → AreVectors d vs
-vectors_of d vs some h = record {
+pub vectors_of : (d : ℕ) (vs : List Place) → AreVectorsIn d vs → AreVectors d vs
+vectors_of d vs h = record {
   some = h.some;
   few = h.few;
   distinct = IsDistinct-from_AllPairs same_place vs h.distinct;
-  each = All-weaker (λ v. is_offset d v ≡ true) (IsVector d) (λ v is. vector_of d v some is) vs (AllPass-from_list_all (is_offset d) vs h.short);
+  each = All-weaker (λ v. is_offset d v ≡ true) (IsVector d) (λ v is. vector_of d v is) vs (AllPass-from_list_all (is_offset d) vs h.short);
 }
