@@ -1,19 +1,20 @@
 -- How far the farthest of cells lies, list by list.
-use Rattle.std.proofs.Common.{◌≡◌, ◌<◌, ◌≤◌, ◌+◌, ℕ, max, true, List, [], ◌∷◌, ◌++◌, length, take, get_or, ap, sym, ◌∙◌, arith, rules}
+use Rattle.std.proofs.Common.{◌≡◌, ◌<◌, ◌≤◌, ◌+◌, ℕ, zero, suc, max, true, false, refl, List, [], ◌∷◌, ◌++◌, length, take, get_or, ap, sym, ◌∙◌, arith, rules}
 use Rattle.std.specs.List.{list_all, flat_map, range_with_len}
 use Rattle.std.specs.Ordering.{nat_cmp, ord_max}
 use Rattle.std.proofs.lemmas.Bool.{and_parts, leb-true}
 use Rattle.std.proofs.lemmas.List.{take_more, append-nil}
-use Rattle.std.proofs.lemmas.List.Concat.{flat_map-append}
+use Rattle.std.proofs.lemmas.List.Concat.{flat_map-append, flat_map-cons}
 use Rattle.dd_lattice.specs.declared.position.Cell.{Cell}
+use Rattle.dd_lattice.specs.InOrder.{in_order}
 use Rattle.dd_lattice.proofs.InOrderLaws.{list_all-in_order}
 use Rattle.dd_topology.specs.Topology.{extent}
 use Rattle.dd_formula.specs.LocalRule.{LocalRule, IsRule, is_near, reads_at, cells_at}
-use Rattle.dd_formula.specs.Automata.{Setting, IsAutomaton, cells_of}
+use Rattle.dd_formula.specs.Automata.{Setting, IsAutomaton, cells_of, has_rules}
 use Rattle.dd_formula.specs.declared.automaton.Automaton.{Automaton}
-use Rattle.dd_formula.proofs.AutomatonLaws.{near_cells}
+use Rattle.dd_formula.proofs.AutomatonLaws.{near_cells, uniform}
 use Rattle.dd_formula.proofs.Ranges.{range_push}
-use Rattle.dd_formula.specs.Reach.{farthest}
+use Rattle.dd_formula.specs.Reach.{farthest, automaton_reach}
 
 pub greater_is : (a b : ℕ) → ord_max nat_cmp a b ≡ max a b
 greater_is a b = search rules
@@ -70,3 +71,11 @@ pub radius_more : (at : ℕ → List Cell) (n old e new : ℕ) (cells : List Cel
 radius_more at n old e new cells is far greater near so_far =
     let here : e ≡ farthest (at n) = far ∙ ap farthest is in
     (node_more at n old e new cells is far greater so_far.0, still_near old e new greater so_far.1 (omega (arith, here, near)))
+
+-- an automaton without rules reads nothing
+nothing_at : (at : ℕ → List Cell) → ((a : ℕ) → at a ≡ []) → (m n : ℕ) → farthest (flat_map at (range_with_len m n)) ≡ 0
+nothing_at at none m zero = refl
+nothing_at at none m (suc n) = ap farthest (flat_map-cons at m (range_with_len (m + 1) n) ∙ ap (λ cs. cs ++ flat_map at (range_with_len (m + 1) n)) (none m)) ∙ nothing_at at none (m + 1) n
+
+pub bare_reach : (f : Automaton) (n : ℕ) → has_rules f ≡ false → automaton_reach n f ≡ 0
+bare_reach f n none = nothing_at (cells_of f) (λ a. ap in_order ((uniform f none).0 a)) 0 n

@@ -1,4 +1,4 @@
--- How far a rule reads, and what it reads within a distance.
+-- How far rules and automata read, and what they read within a distance.
 use Rattle.std.proofs.Common.{◌≡◌, ℕ, zero, suc, ◌+◌, ◌<◌, ◌≤◌, Bool, true, List, [], ◌∷◌, refl, ap, sym, ◌∙◌, arith, inl, inr}
 use Rattle.std.specs.Prelude.{◌&&◌, nat_le, max}
 use Rattle.std.specs.List.{list_all, flat_map, range_with_len}
@@ -11,7 +11,9 @@ use Rattle.dd_lattice.specs.declared.position.Cell.{Cell}
 use Rattle.dd_lattice.proofs.InOrderLaws.{list_all-in_order}
 use Rattle.dd_topology.specs.Topology.{extent}
 use Rattle.dd_formula.specs.LocalRule.{LocalRule, IsRule, reads_at, cells_at}
-use Rattle.dd_formula.specs.Reach.{farthest, all_cells, reach}
+use Rattle.dd_formula.specs.Automata.{counted, cells_of}
+use Rattle.dd_formula.specs.Reach.{farthest, all_cells, reach, automaton_cells, automaton_reach}
+use Rattle.dd_formula.specs.declared.automaton.Automaton.{Automaton}
 
 -- at most k away from the origin along each axis
 abbrev pub is_within : ℕ → Cell → Bool
@@ -68,3 +70,19 @@ reach_within r k all =
 
 pub reach_near : (r : LocalRule) → IsRule r → reach r ≤ 16
 reach_near r ok = reach_within r 16 ok.short
+
+-- the same of an automaton at the first n nodes
+automaton_nodes : (f : Automaton) (n k : ℕ) → nat_le (automaton_reach n f) k ≡ list_all (λ a. list_all (is_within k) (cells_of f a)) (range_with_len 0 n)
+automaton_nodes f n k = all_within k (automaton_cells n f) ∙ list_all-flat_map (is_within k) (cells_of f) (range_with_len 0 n)
+
+pub automaton_reads_within : (f : Automaton) (n k a : ℕ) → automaton_reach n f ≤ k → a < n → list_all (is_within k) ((counted f).reads a) ≡ true
+automaton_reads_within f n k a far node =
+    let all = sym (automaton_nodes f n k) ∙ le-leb (automaton_reach n f) k far in
+    sym (list_all-in_order (is_within k) ((counted f).reads a))
+    ∙ number_of_all (λ b. list_all (is_within k) (cells_of f b)) 0 n a all (omega arith) (omega (arith, node))
+
+pub automaton_reach_within : (f : Automaton) (n k : ℕ) → ((a : ℕ) → a < n → list_all (is_within k) ((counted f).reads a) ≡ true) → automaton_reach n f ≤ k
+automaton_reach_within f n k all =
+    leb-true (automaton_reach n f) k (automaton_nodes f n k
+    ∙ all_numbers (λ a. list_all (is_within k) (cells_of f a)) 0 n
+    (λ a below. list_all-in_order (is_within k) ((counted f).reads a) ∙ all a (omega (arith, below))))

@@ -124,6 +124,12 @@ pub record IsAutomaton (s : Setting) (f : Automaton) : Type 0 where
   pub fits : automaton_fits s f ≡ true
   pub within : are_within s.nodes f ≡ true
 
+-- over some numbers the automaton is well formed, and there are at least so many nodes
+pub record HasNodes (f : Automaton) (nodes : ℕ) : Type 0 where
+  pub setting : Setting
+  pub formed : IsAutomaton setting f
+  pub few : nodes ≤ setting.nodes
+
 -- over some numbers the automaton is well formed, and a is one of the nodes
 pub record HasNode (f : Automaton) (a : ℕ) : Type 0 where
   pub setting : Setting

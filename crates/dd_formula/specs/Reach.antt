@@ -1,10 +1,12 @@
--- How far a rule reads.
+-- How far rules and automata read.
 use Rattle.std.specs.Prelude.{ℕ, List, map}
 use Rattle.std.specs.List.{flat_map, range_with_len}
 use Rattle.dd_lattice.specs.declared.position.Cell.{Cell}
 use Rattle.dd_topology.specs.Topology.{extent}
 use Rattle.dd_expansion.specs.Limits.{greatest}
 use Rattle.dd_formula.specs.LocalRule.{LocalRule, cells_at}
+use Rattle.dd_formula.specs.Automata.{cells_of}
+use Rattle.dd_formula.specs.declared.automaton.Automaton.{Automaton}
 
 -- how far the farthest cell lies from the origin
 abbrev pub cell_extent : Cell → ℕ
@@ -20,3 +22,10 @@ all_cells r = flat_map (cells_at r) (range_with_len 0 r.nodes)
 -- how far a rule reads, at any node
 abbrev pub reach : LocalRule → ℕ
 reach r = farthest (all_cells r)
+
+-- the cells that an automaton reads at the first n nodes, and how far it reads there
+abbrev pub automaton_cells : ℕ → Automaton → List Cell
+automaton_cells n f = flat_map (cells_of f) (range_with_len 0 n)
+
+abbrev pub automaton_reach : ℕ → Automaton → ℕ
+automaton_reach n f = farthest (automaton_cells n f)

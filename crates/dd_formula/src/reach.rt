@@ -1,11 +1,14 @@
-//! How far rules read.
-ghost use Rattle.std.specs.Prelude.{◌≡◌, ◌≤◌};
+//! How far rules and automata read.
+ghost use Rattle.std.specs.Prelude.{◌≡◌, ◌≤◌, IfOk};
 ghost use Rattle.dd_topology.specs.Topology.{extent};
 ghost use Rattle.dd_formula.specs.LocalRule.{IsRule};
-ghost use Rattle.dd_formula.specs.Reach.{farthest, reach};
+ghost use Rattle.dd_formula.specs.Automata.{Setting, IsAutomaton, HasNodes};
+ghost use Rattle.dd_formula.specs.Reach.{farthest, reach, automaton_reach};
 
+use crate::automaton::Automaton;
 use crate::rule::Rule;
 use dd_lattice::{Cell, Position};
+use std::alloc::{AllocError, Global};
 
 /// The greatest absolute value of a coordinate.
 pub(crate) fn extent(position: &Position) -> u32
@@ -38,5 +41,32 @@ impl Rule {
             radius = radius.max(farthest(self.reads(node)));
         }
         radius
+    }
+}
+
+impl Automaton {
+    /// How far the automaton reads from the origin, at the first nodes.
+    pub fn reach_at(&self, alloc: Global, nodes: u32) -> Result<u32, AllocError>
+        requires { HasNodes self.now nodes }
+        ensures value { IfOk result (λ n. n ≡ automaton_reach nodes self.now) }
+        ensures near { IfOk result (λ n. n ≤ 16) }
+    {
+        let mut radius = 0;
+        for node in 0..nodes {
+            radius = radius.max(farthest(&self.reads(alloc, node)?));
+        }
+        Ok(radius)
+    }
+
+    /// How far the automaton reads from the origin, at any node. One without rules reads nothing.
+    pub fn reach(&self, alloc: Global) -> Result<u32, AllocError>
+        requires { (s : Setting) × IsAutomaton s self.now }
+        ensures value { IfOk result (λ n. (s : Setting) → IsAutomaton s self.now → n ≡ automaton_reach s.nodes self.now) }
+        ensures near { IfOk result (λ n. n ≤ 16) }
+    {
+        match self.nodes() {
+            Some(nodes) => self.reach_at(alloc, nodes),
+            None => Ok(0),
+        }
     }
 }

@@ -1,13 +1,11 @@
 -- Limits on the work that queries ask for.
 use Rattle.std.specs.Prelude.{ℕ, ◌*◌, List, [], ◌++◌, max, Bool, ◌||◌, nat_lt, slice_index}
-use Rattle.std.specs.List.{flat_map, list_any, range_with_len, slice_get}
+use Rattle.std.specs.List.{list_any, range_with_len, slice_get}
 use Rattle.std.specs.Option.{option_map_or}
-use Rattle.dd_lattice.specs.declared.position.Cell.{Cell}
 use Rattle.dd_formula.specs.LocalRule.{LocalRule}
-use Rattle.dd_formula.specs.Reach.{farthest, reach}
+use Rattle.dd_formula.specs.Reach.{farthest, reach, automaton_cells}
 use Rattle.dd_formula.specs.Counts.{broken_clauses, largest_clauses}
 use Rattle.dd_formula.specs.ValueCounts.{differ_clauses}
-use Rattle.dd_formula.specs.Automata.{cells_of}
 use Rattle.dd_formula.specs.declared.automaton.Automaton.{Automaton}
 use Rattle.dd_counts.specs.Rules.{patterns, states, longer_states}
 use Rattle.dd_boxes.specs.Counts.{most_clauses}
@@ -40,10 +38,6 @@ anything = record { radius = 0; clauses = 0 }
 
 abbrev pub breaking : LocalRule → Aim
 breaking y = record { radius = reach y; clauses = broken_clauses y }
-
--- the cells that an automaton reads at the first n nodes
-abbrev pub automaton_cells : ℕ → Automaton → List Cell
-automaton_cells n f = flat_map (cells_of f) (range_with_len 0 n)
 
 abbrev pub differing : LocalRule → Automaton → Automaton → Aim
 differing x f g =

@@ -2,15 +2,14 @@
 ghost use Rattle.std.specs.Prelude.{◌≡◌, ◌≤◌, IfOk};
 ghost use Rattle.dd_formula.specs.LocalRule.{most_reach};
 ghost use Rattle.dd_formula.specs.Compositions.{HaveNodes};
-ghost use Rattle.dd_formula.specs.Reach.{farthest};
 ghost use Rattle.dd_faults.specs.Sound.{IsSound};
-ghost use Rattle.dd_query.specs.Limits.{automaton_cells, anything, breaking, differing, is_long};
+ghost use Rattle.dd_query.specs.Limits.{anything, breaking, differing, is_long};
 ghost use Rattle.dd_query.specs.Limits.{Aim as Goal};
-ghost use Rattle.dd_query.specs.measuring.Measured.{HasNodes, IsMeasureOf};
+ghost use Rattle.dd_query.specs.measuring.Measured.{IsMeasureOf};
 
 use dd_counts::{broken_clauses, differ_clauses, question_clauses};
 use dd_faults::Known;
-use dd_formula::{Automaton, Rule, farthest};
+use dd_formula::{Automaton, Rule};
 use std::alloc::{AllocError, Global};
 
 /// The greatest number of clauses of a box question.
@@ -21,19 +20,6 @@ const MOST_CLAUSES: u32 = 2_000_000;
 pub(crate) struct Aim {
     radius: u32,
     clauses: u32,
-}
-
-/// How far an automaton reads, at any of the nodes.
-fn automaton_radius(alloc: Global, automaton: &Automaton, nodes: u32) -> Result<u32, AllocError>
-    requires { HasNodes automaton.now nodes }
-    ensures value { IfOk result (λ n. n ≡ farthest (automaton_cells nodes automaton.now)) }
-    ensures near { IfOk result (λ n. n ≤ most_reach) }
-{
-    let mut radius = 0;
-    for node in 0..nodes {
-        radius = radius.max(farthest(&automaton.reads(alloc, node)?));
-    }
-    Ok(radius)
 }
 
 /// The goal that always holds.
@@ -68,8 +54,8 @@ pub(crate) fn differing(
 {
     let nodes = premise.nodes();
     let symbols = premise.symbols();
-    let left_radius = automaton_radius(alloc, left, nodes)?;
-    let right_radius = automaton_radius(alloc, right, nodes)?;
+    let left_radius = left.reach_at(alloc, nodes)?;
+    let right_radius = right.reach_at(alloc, nodes)?;
     let clauses = differ_clauses(alloc, left, right, nodes, symbols, MOST_CLAUSES)?;
     Ok(Aim {
         radius: left_radius.max(right_radius),

@@ -2,17 +2,9 @@
 use Rattle.std.specs.Prelude.{ℕ, ◌≡◌, ◌≤◌}
 use Rattle.dd_formula.specs.LocalRule.{most_reach}
 use Rattle.dd_formula.specs.Counts.{cut}
-use Rattle.dd_formula.specs.Automata.{Setting, IsAutomaton}
-use Rattle.dd_formula.specs.declared.automaton.Automaton.{Automaton}
 use Rattle.dd_boxes.specs.Counts.{most_clauses}
 use Rattle.dd_query.specs.declared.aims.Aim.{Aim as Measure}
 use Rattle.dd_query.specs.Limits.{Aim}
-
--- over some numbers the automaton is well formed, and there are at least so many nodes
-pub record HasNodes (f : Automaton) (nodes : ℕ) : Type 0 where
-  pub setting : Setting
-  pub formed : IsAutomaton setting f
-  pub few : nodes ≤ setting.nodes
 
 -- how far a goal reads, and how many clauses it has
 pub record IsMeasureOf (m : Measure) (g : Aim) : Type 0 where

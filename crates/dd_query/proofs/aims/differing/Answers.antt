@@ -1,10 +1,9 @@
 use Rattle.std.proofs.Common.{◌≡◌, ap, ◌∙◌, arith}
 use Rattle.dd_formula.specs.declared.automaton.Automaton.{Automaton}
 use Rattle.dd_formula.specs.Counts.{cut}
-use Rattle.dd_formula.specs.Reach.{farthest}
+use Rattle.dd_formula.specs.Reach.{farthest, automaton_cells}
 use Rattle.dd_formula.specs.ValueCounts.{differ_clauses}
 use Rattle.dd_boxes.specs.Counts.{most_clauses}
-use Rattle.dd_query.specs.Limits.{automaton_cells}
 use Rattle.dd_formula.proofs.FarthestLaws.{farthest-append}
 use Rattle.dd_query.proofs.aims.differing.Goals as goal
 

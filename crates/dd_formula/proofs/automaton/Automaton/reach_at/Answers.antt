@@ -1,11 +1,12 @@
 use Rattle.std.proofs.Common.{◌∙◌, arith}
 use Rattle.dd_formula.specs.Automata.{cells_of}
+use Rattle.dd_formula.specs.declared.automaton.Automaton.{Automaton}
 use Rattle.dd_formula.proofs.FarthestLaws.{radius_more, automaton_near}
-use Rattle.dd_query.proofs.aims.automaton_radius.Goals as goal
+use Rattle.dd_formula.proofs.automaton.Automaton.reach_at.Goals as goal
 
 pub loop-node-preserved : goal.loop-node-preserved
 loop-node-preserved c =
-    let automaton = c.args.automaton.now in
+    let automaton : Automaton = c.args.self.now in
     let n = c.loop-node.node in
     let more =
     radius_more (cells_of automaton) n c.loop-node.radius c.farthest.result c.max-radius.result c.deref.result.now
