@@ -29,7 +29,7 @@ in_range p h =
     test_from_in_range p (x, y, z)
 
 -- what a rule reads near a place of this extent is in the range of positions
-pub near_in_range : (v : Place) (d : Cell) → extent v ≤ 1046528 → is_near d ≡ true → is_in_range (moved d.position v) ≡ true
+pub near_in_range : (v : Place) (d : Cell) → extent v ≤ 1048560 → is_near d ≡ true → is_in_range (moved d.position v) ≡ true
 near_in_range v d inner near =
     let close = leb-true (extent d.position) 16 near in
     in_range (moved d.position v) (omega (arith, extent_moved d.position v, close, inner))
@@ -47,7 +47,7 @@ symbol_wired n k (Some ss) s h below =
     let within = ltb-true s k below in
     signal_at n ss s (omega (arith, long, within)) both.1
 
-leaf_wired : (n k : ℕ) (w : Wiring) (v : Place) (d : Cell) (s : ℕ) → extent v ≤ 1046528 → (are_signals n k (signals_of w (shifted v d)) && (is_near d && nat_lt s k)) ≡ true →
+leaf_wired : (n k : ℕ) (w : Wiring) (v : Place) (d : Cell) (s : ℕ) → extent v ≤ 1048560 → (are_signals n k (signals_of w (shifted v d)) && (is_near d && nat_lt s k)) ≡ true →
     is_wire n (wires_near w v d s) ≡ true
 leaf_wired n k w v d s inner h =
     let all = and_parts (are_signals n k (signals_of w (shifted v d))) (is_near d && nat_lt s k) h in
@@ -55,7 +55,7 @@ leaf_wired n k w v d s inner h =
     let there = near_in_range v d inner rest.0 in
     rw there (symbol_wired n k (signals_of w (shifted v d)) s all.0 rest.1)
 
-module _ (n : ℕ) (w : Wiring) (r : LocalRule) (rule : IsRule r) (c : Cell) (exists : c.node < r.nodes) (inner : extent c.position ≤ 1046528) where
+module _ (n : ℕ) (w : Wiring) (r : LocalRule) (rule : IsRule r) (c : Cell) (exists : c.node < r.nodes) (inner : extent c.position ≤ 1048560) where
   has : Cell → Bool
   has d = are_signals n r.symbols (signals_of w (shifted c.position d))
 
@@ -72,7 +72,7 @@ module _ (n : ℕ) (w : Wiring) (r : LocalRule) (rule : IsRule r) (c : Cell) (ex
       leaves_weaken e (λ d s. signals d s && (near d s && known d s)) (λ d s. is_wire n (wires_near w c.position d s)) (λ d s. leaf_wired n r.symbols w c.position d s inner) three
 
 -- a test behind the test of the range, of cells near the origin
-in_range_all : (v : Place) → extent v ≤ 1046528 → (test : Cell → Bool) (ds : List Cell) → list_all is_near ds ≡ true →
+in_range_all : (v : Place) → extent v ≤ 1048560 → (test : Cell → Bool) (ds : List Cell) → list_all is_near ds ≡ true →
     list_all (λ d. if is_in_range (moved d.position v) then test d else false) ds ≡ list_all test ds
 in_range_all v inner test [] near = refl
 in_range_all v inner test (d ∷ ds) near =
@@ -81,7 +81,7 @@ in_range_all v inner test (d ∷ ds) near =
     rw there (ap (λ b. test d && b) (in_range_all v inner test ds both.1))
 
 -- the same of the cells that a rule reads
-pub tested_reads : (r : LocalRule) → IsRule r → (c : Cell) → c.node < r.nodes → extent c.position ≤ 1046528 → (test : Cell → Bool) (cs : List Cell) → cs ≡ cells_at r c.node →
+pub tested_reads : (r : LocalRule) → IsRule r → (c : Cell) → c.node < r.nodes → extent c.position ≤ 1048560 → (test : Cell → Bool) (cs : List Cell) → cs ≡ cells_at r c.node →
     list_all (λ d. if is_in_range (moved d.position c.position) then test d else false) cs ≡ list_all test (reads_at r c.node)
 tested_reads r rule c exists inner test cs is =
     ap (list_all (λ d. if is_in_range (moved d.position c.position) then test d else false)) is

@@ -2,6 +2,8 @@
 pub mod Wiring
 pub mod Compiling
 pub mod RuleSignals
--- The gates of the value of an automaton by cases, and what they say.
+-- The gates of the value of an automaton, and what they say.
 pub mod ValueGates
 pub mod ValueSignals
+-- what the recursion over compositions keeps
+pub mod composing

@@ -1,15 +1,21 @@
--- The gates of the value of an automaton by cases at a cell, over the signals of cells, as a function of the number of
--- variables before them.
+-- The gates of the value of an automaton at a cell, over the signals of cells, as a function of the number of variables before
+-- them.
 use Rattle.std.specs.Prelude.{ℕ, zero, suc, ◌+◌, ◌==◌, if◌then◌else◌, List, [], ◌∷◌, ◌++◌, map, length}
 use Rattle.std.specs.List.{range_with_len}
+use Rattle.dd_lattice.specs.Cells.{shifted}
+use Rattle.dd_lattice.specs.InOrder.{in_order}
 use Rattle.dd_lattice.specs.declared.position.Cell.{Cell}
 use Rattle.dd_formula.specs.LocalRule.{LocalRule, expansion_at}
+use Rattle.dd_formula.specs.Automata.{Counted, counted_step}
+use Rattle.dd_formula.specs.declared.automaton.Automaton.{Automaton}
 use Rattle.dd_formula.specs.declared.automaton.Cases.{Cases}
+use Rattle.dd_formula.specs.declared.automaton.Automaton.TheFolds.{fold-Automaton}
+use Rattle.dd_formula.specs.declared.automaton.Automaton.TheOpen.{Automaton-F}
 use Rattle.dd_circuit.specs.declared.gates.Signal.{Signal}
 use Rattle.dd_circuit.specs.declared.gates.Gate.{Gate}
 use Rattle.dd_circuit.specs.declared.gates.Gate.TheVariants.{And, Or}
 use Rattle.dd_circuit.specs.Circuits.{signal_of, opposite}
-use Rattle.dd_compile.specs.Wiring.{Wiring}
+use Rattle.dd_compile.specs.Wiring.{Wiring, unwired, with_cell}
 use Rattle.dd_compile.specs.Compiling.{AllMade, all_made, compiled}
 
 -- the signals of the k variables after the first n
@@ -40,12 +46,54 @@ giving s (x ∷ xs) (f ∷ fs) = if x == s then f ∷ giving s xs fs else giving
 abbrev pub symbol_gates : ℕ → List ℕ → List Signal → List Gate
 symbol_gates k xs fs = map (λ s. Or (giving s xs fs)) (range_with_len 0 k)
 
--- The value over an alphabet of k symbols, by the signals of the cells: first the rules, then the choices, then the symbols, of
--- which each has the signal of its gate.
-abbrev pub given_made : ℕ → Cases → Wiring → Cell → ℕ → AllMade
+-- the signals of a value, by symbol, and its gates: over the signals of cells, at a cell, from the number of variables before
+abbrev pub ValueMaker : Type 0
+ValueMaker = Wiring → Cell → ℕ → AllMade
+
+-- The value of an automaton by cases over an alphabet of k symbols: first the rules, then the choices, then the symbols, of which
+-- each has the signal of its gate.
+abbrev pub given_made : ℕ → Cases → ValueMaker
 given_made k c w at n =
     let rules = rules_made w at c.cases n in
     let first = n + length rules.gates in
     let chosen = choices [] rules.signals in
     let second = first + length chosen in
     record { signals = fresh second k; gates = (rules.gates ++ chosen) ++ symbol_gates k (given_symbols c.cases c.otherwise) (fresh first (length chosen)) }
+
+-- signals of cells, and the gates that are added for them
+pub record WiredMade : Type 0 where
+  pub wiring : Wiring
+  pub gates : List Gate
+
+-- to the cells of v come some others, one after the other, each with the signals of its value over w
+abbrev pub inner_made : ValueMaker → Wiring → Wiring → List Cell → ℕ → WiredMade
+inner_made g w v [] n = record { wiring = v; gates = [] }
+inner_made g w v (c ∷ cs) n =
+    let here = g w c n in
+    let rest = inner_made g w (with_cell v c here.signals) cs (n + length here.gates) in
+    record { wiring = rest.wiring; gates = here.gates ++ rest.gates }
+
+-- The value of a composition: first the second automaton's value, anew, at each of the cells that the first reads there, then the
+-- first's over these.
+abbrev pub composed_made : List Cell → ValueMaker → ValueMaker → ValueMaker
+composed_made reads f g w at n =
+    let inner = inner_made g w unwired (map (shifted at.position) reads) n in
+    let outer = f inner.wiring at (n + length inner.gates) in
+    record { signals = outer.signals; gates = inner.gates ++ outer.gates }
+
+-- what is counted of an automaton, and what its value makes
+pub record Gated : Type 0 where
+  pub counts : Counted
+  pub made : ValueMaker
+
+abbrev pub gated_step : ℕ → Automaton-F Gated → Gated
+gated_step k (Automaton-F.Given c) = record { counts = counted_step (Automaton-F.Given c); made = given_made k c }
+gated_step k (Automaton-F.Composed f g) =
+    record {
+      counts = counted_step (Automaton-F.Composed f.counts g.counts);
+      made = λ w at. composed_made (in_order (f.counts.reads at.node)) f.made g.made w at;
+    }
+
+-- the value of an automaton over an alphabet of k symbols
+abbrev pub value_made : ℕ → Automaton → ValueMaker
+value_made k f = (fold-Automaton Gated (gated_step k) f).made

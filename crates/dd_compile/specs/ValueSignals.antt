@@ -6,7 +6,8 @@ use Rattle.dd_lattice.specs.declared.position.Cell.{Cell}
 use Rattle.dd_pattern.specs.Reading.{Look, IsBelow}
 use Rattle.dd_expansion.specs.Truth.{is_symbol}
 use Rattle.dd_formula.specs.LocalRule.{LocalRule, is_true}
-use Rattle.dd_formula.specs.Automata.{Setting, cases_fit, cases_reads, first_case}
+use Rattle.dd_formula.specs.Automata.{Setting, IsAutomaton, cases_fit, cases_reads, counted, first_case, value}
+use Rattle.dd_formula.specs.declared.automaton.Automaton.{Automaton}
 use Rattle.dd_formula.specs.declared.automaton.Cases.{Cases}
 use Rattle.dd_circuit.specs.declared.gates.Signal.{Signal}
 use Rattle.dd_circuit.specs.Circuits.{Network, signal_value, agrees}
@@ -17,6 +18,13 @@ use Rattle.dd_compile.specs.RuleSignals.{are_signals}
 pub record HasCasesSymbols (c : Cases) (k a : ℕ) : Type 0 where
   pub setting : Setting
   pub fit : cases_fit setting c.cases c.otherwise ≡ true
+  pub below : a < setting.nodes
+  pub all : setting.symbols ≡ k
+
+-- over some numbers with an alphabet of k symbols the automaton is well formed, and a is one of the nodes
+pub record HasSymbols (f : Automaton) (k a : ℕ) : Type 0 where
+  pub setting : Setting
+  pub formed : IsAutomaton setting f
   pub below : a < setting.nodes
   pub all : setting.symbols ≡ k
 
@@ -51,3 +59,10 @@ pub record SaysCases (circuit : Network) (w : Wiring) (k : ℕ) (cases : Cases) 
   pub one_each : length signals ≡ k
   pub says : (set : ℕ → Bool) (look : Look) → agrees set circuit.inputs circuit.gates ≡ true → IsBelow k look → TellsCells set w (cases_reads cases.cases c.node) c look →
       SaysWhich set signals (first_case cases.cases cases.otherwise look c)
+
+-- Where the circuit's gates have their values, and the inputs tell the symbols that the automaton reads at c, each of k symbols has
+-- a signal, which says whether the automaton's value at c is that symbol.
+pub record SaysValue (circuit : Network) (w : Wiring) (k : ℕ) (f : Automaton) (c : Cell) (signals : List Signal) : Type 0 where
+  pub one_each : length signals ≡ k
+  pub says : (set : ℕ → Bool) (look : Look) → agrees set circuit.inputs circuit.gates ≡ true → IsBelow k look → TellsCells set w ((counted f).reads c.node) c look →
+      SaysWhich set signals (value f look c)

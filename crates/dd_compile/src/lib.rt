@@ -1,11 +1,13 @@
-//! Formulas without variables as gates, over the signals that say which symbol a cell has.
+//! Formulas without variables, rules and values of automata as gates, over the signals that say which symbol a cell has.
 #![tactic(auto)]
 
+mod automata;
 mod compiling;
 mod inputs;
 mod rules;
 mod values;
 
+pub use automata::{compile_value, value_gates};
 pub use compiling::{compile_expanded, is_wired};
 pub use inputs::Inputs;
 pub use rules::{compile_rule, reads_are_wired};

@@ -51,7 +51,7 @@ fn are_cells_wired(
 /// 20,000.
 pub fn reads_are_wired(circuit: &Circuit, rule: &Rule, at: &Cell, inputs: &Inputs) -> bool
     requires node { at.now.node < rule.now.nodes }
-    requires near { extent at.now.position ≤ 2 ^ 20 - 2048 }
+    requires near { extent at.now.position ≤ 2 ^ 20 - 16 }
     ensures value { result ≡ are_reads_wired (size circuit.now) inputs.now rule.now at.now }
     ensures few { gate_count (expansion_at rule.now at.now.node) ≤ 20000 }
 {
@@ -69,7 +69,7 @@ pub fn compile_rule(
     inputs: &Inputs,
 ) -> Result<Signal, AllocError>
     requires node { at.now.node < rule.now.nodes }
-    requires near { extent at.now.position ≤ 2 ^ 20 - 2048 }
+    requires near { extent at.now.position ≤ 2 ^ 20 - 16 }
     requires wired { are_reads_wired (size circuit.old) inputs.now rule.now at.now ≡ true }
     requires few { size circuit.old + gate_count (expansion_at rule.now at.now.node) ≤ 2 ^ 24 }
     ensures extends { Extends circuit.old circuit.new }

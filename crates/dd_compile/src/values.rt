@@ -25,7 +25,7 @@ pub fn compile_cases(
     inputs: &Inputs,
 ) -> Result<Vec<Signal>, AllocError>
     requires cases { HasCasesSymbols cases.now symbols at.now.node }
-    requires near { extent at.now.position ≤ 2 ^ 20 - 2048 }
+    requires near { extent at.now.position ≤ 2 ^ 20 - 16 }
     requires wired { are_wired_there (size circuit.old) symbols inputs.now (cases_reads cases.now.cases at.now.node) at.now ≡ true }
     requires few { size circuit.old + length (given_made symbols cases.now inputs.now at.now (size circuit.old)).gates ≤ 2 ^ 24 }
     ensures extends { Extends circuit.old circuit.new }
@@ -50,7 +50,7 @@ fn compile_rules(
     inputs: &Inputs,
 ) -> Result<Vec<Signal>, AllocError>
     requires wired { AreCasesWired (size circuit.old) inputs.now cases.now at.now }
-    requires near { extent at.now.position ≤ 2 ^ 20 - 2048 }
+    requires near { extent at.now.position ≤ 2 ^ 20 - 16 }
     requires few { size circuit.old + length (rules_made inputs.now at.now cases.now.cases (size circuit.old)).gates ≤ 2 ^ 24 }
     ensures extends { Extends circuit.old circuit.new }
     ensures gates { IfOk result (λ _. circuit.new.gates ≡

@@ -1,0 +1,41 @@
+-- What the gates of a composition ask of its two automata, and what stands once the inner one's values are made.
+use Rattle.std.specs.Prelude.{ℕ, ◌≡◌, ◌<◌, true, List, length, map, slice_index_or}
+use Rattle.std.specs.List.{All, list_all}
+use Rattle.dd_lattice.specs.Cells.{shifted}
+use Rattle.dd_lattice.specs.declared.position.Cell.{Cell}
+use Rattle.dd_formula.specs.Automata.{Setting, IsAutomaton, counted, is_cell_of}
+use Rattle.dd_formula.specs.declared.automaton.Automaton.{Automaton}
+use Rattle.dd_circuit.specs.declared.gates.Signal.{Signal}
+use Rattle.dd_circuit.specs.Circuits.{Network, IsSignal, size}
+use Rattle.dd_compile.specs.Wiring.{Wiring}
+use Rattle.dd_compile.specs.ValueSignals.{SaysValue, are_wired_there}
+
+-- over some numbers with an alphabet of k symbols both automata are well formed, and a is one of the nodes
+pub record HaveSymbols (f g : Automaton) (k a : ℕ) : Type 0 where
+  pub setting : Setting
+  pub outer : IsAutomaton setting f
+  pub inner : IsAutomaton setting g
+  pub below : a < setting.nodes
+  pub all : setting.symbols ≡ k
+
+-- over some numbers with an alphabet of k symbols the automaton is well formed, and these are cells that it may be asked at
+pub record HasSymbolsAt (f : Automaton) (k : ℕ) (cs : List Cell) : Type 0 where
+  pub setting : Setting
+  pub formed : IsAutomaton setting f
+  pub cells : list_all (is_cell_of setting) cs ≡ true
+  pub all : setting.symbols ≡ k
+
+-- what the automaton reads at each of these cells, which are counted from at, has its signals
+abbrev pub AreWired : ℕ → ℕ → Wiring → Automaton → List Cell → Cell → Type 0
+AreWired n k w f cs at = list_all (λ c. are_wired_there n k w ((counted f).reads c.node) (shifted at.position c)) cs ≡ true
+
+-- the signals of the circuit that say what the automaton's value at a cell is
+pub record IsValued (circuit : Network) (w : Wiring) (k : ℕ) (f : Automaton) (c : Cell) (signals : List Signal) : Type 0 where
+  pub says : SaysValue circuit w k f c signals
+  pub in_range : All (IsSignal (size circuit)) signals
+
+-- each of these cells, counted from at, has such signals
+pub record AreValues (circuit : Network) (w : Wiring) (k : ℕ) (f : Automaton) (cs : List Cell) (at : Cell) (v : Wiring) : Type 0 where
+  pub cells : v.cells ≡ map (shifted at.position) cs
+  pub as_many : length v.signals ≡ length cs
+  pub each : (j : ℕ) (c : Cell) (ss : List Signal) → j < length cs → IsValued circuit w k f (shifted at.position (slice_index_or cs j c)) (slice_index_or v.signals j ss)
