@@ -30,7 +30,7 @@ use Rattle.dd_compile.proofs.ChoiceLaws.{pick, picked, chosen_says, gates_say, f
 use Rattle.dd_compile.proofs.CaseGates.{itself, next_is, taken_is}
 
 -- what holds of the values of a circuit holds of its first gates
-agrees_before : (now new : Network) (set : ℕ → Bool) → Extends now new → agrees set new.inputs new.gates ≡ true → agrees set now.inputs now.gates ≡ true
+pub agrees_before : (now new : Network) (set : ℕ → Bool) → Extends now new → agrees set new.inputs new.gates ≡ true → agrees set now.inputs now.gates ≡ true
 agrees_before now new set more ok =
     let whole : agrees set now.inputs (now.gates ++ more.added) ≡ true = sym (ap (λ n. agrees set n new.gates) more.inputs ∙ ap (agrees set now.inputs) more.gates) ∙ ok in
     (and_parts (agrees set now.inputs now.gates) (agrees set (size now) more.added) (sym (agrees-append set now.inputs now.gates more.added) ∙ whole)).0
@@ -51,7 +51,7 @@ signal_more n m more s h =
     let within = leb-true s.variable n both.1 in
     and_from (nat_le 1 s.variable) (nat_le s.variable m) both.0 (le-leb s.variable m (omega arith))
 
-signals_more : (n m k : ℕ) → n ≤ m → (o : Option (List Signal)) → are_signals n k o ≡ true → are_signals m k o ≡ true
+pub signals_more : (n m k : ℕ) → n ≤ m → (o : Option (List Signal)) → are_signals n k o ≡ true → are_signals m k o ≡ true
 signals_more n m k more None h = h
 signals_more n m k more (Some ss) h =
     let both = and_parts (length ss == k) (list_all (is_signal n) ss) h in
@@ -175,6 +175,9 @@ made_length : (ms : List Maker) (n : ℕ) → length (all_made ms n).signals ≡
 made_length [] n = refl
 made_length (m ∷ ms) n = ap suc (made_length ms (n + length (m n).gates))
 
+pub rules_length : (w : Wiring) (at : Cell) (cases : List (LocalRule × ℕ)) (n : ℕ) → length (rules_made w at cases n).signals ≡ length cases
+rules_length w at cases n = made_length (map (made_at w at) cases) n ∙ length-map cases (made_at w at)
+
 -- The gates of the rules, the choices and the symbols are those of the value, and the last say which symbol it is.
 module _ (k : ℕ) (c : Cases) (w : Wiring) (at : Cell) (start one two new : Network) (rules chosen : List Signal) (xs : List ℕ) (signals : List Signal) where
   pub record Steps : Type 0 where
@@ -234,7 +237,7 @@ module _ (k : ℕ) (c : Cases) (w : Wiring) (at : Cell) (start one two new : Net
           says setting set look has.fit (agrees_before one two set h.second before_two) (subst (λ n. IsBelow n look) (sym has.all) below) tells in
           let chosen_ok = agrees_added one two set (choices [] rules) h.second.inputs h.choice_gates before_two in
           let symbols_ok = agrees_added two new set (symbol_gates k xs chosen) h.third.inputs h.gates agreed in
-          let many : length rules ≡ length c.cases = ap length h.rules_are ∙ (made_length (map (made_at w at) c.cases) (size start) ∙ length-map c.cases (made_at w at)) in
+          let many : length rules ≡ length c.cases = ap length h.rules_are ∙ (rules_length w at c.cases (size start)) in
           let both = length-append (map (λ (case : LocalRule × ℕ). case.1) c.cases) (c.otherwise ∷ []) in
           let each = length-map c.cases (λ (case : LocalRule × ℕ). case.1) in
           let listed = ap length h.given_are in
@@ -276,7 +279,7 @@ pub asks : (k : ℕ) (c : Cases) (w : Wiring) (at : Cell) (n one two : ℕ) (rul
 asks k c w at n one two rules chosen xs few is_one rules_are is_two chosen_are given_are =
     let all = value_length k c w at n in
     let same = ap (λ ys. length (choices [] ys)) rules_are in
-    let many : length rules ≡ length c.cases = ap length rules_are ∙ (made_length (map (made_at w at) c.cases) n ∙ length-map c.cases (made_at w at)) in
+    let many : length rules ≡ length c.cases = ap length rules_are ∙ (rules_length w at c.cases n) in
     let both = length-append (map (λ (case : LocalRule × ℕ). case.1) c.cases) (c.otherwise ∷ []) in
     let each = length-map c.cases (λ (case : LocalRule × ℕ). case.1) in
     let listed = ap length given_are in

@@ -11,3 +11,4 @@ pub mod RuleSays
 pub mod ChoiceLaws
 pub mod CaseGates
 pub mod CaseRules
+pub mod ValueParts

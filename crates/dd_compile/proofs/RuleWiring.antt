@@ -18,7 +18,7 @@ use Rattle.dd_compile.specs.Wiring.{Wiring, signal_for, signals_of}
 use Rattle.dd_compile.specs.Compiling.{is_wire, are_wired, wires_near}
 use Rattle.dd_compile.specs.RuleSignals.{is_signal, are_signals, are_reads_wired}
 
-extent_moved : (p by : Place) → extent (moved p by) ≤ extent p + extent by
+pub extent_moved : (p by : Place) → extent (moved p by) ≤ extent p + extent by
 extent_moved p by = omega (arith, ints)
 
 in_range : (p : Place) → extent p ≤ 1048576 → is_in_range p ≡ true

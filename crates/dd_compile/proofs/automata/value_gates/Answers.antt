@@ -1,0 +1,5 @@
+use Rattle.dd_compile.proofs.ValueParts.{few_gates}
+use Rattle.dd_compile.proofs.automata.value_gates.Goals as goal
+
+pub returns : goal.returns
+returns c = few_gates c.args._symbols c.args._automaton.now
