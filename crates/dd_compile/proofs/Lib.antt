@@ -12,3 +12,7 @@ pub mod ChoiceLaws
 pub mod CaseGates
 pub mod CaseRules
 pub mod ValueParts
+pub mod Composing
+pub mod Composed
+pub mod SaidRules
+pub mod SaidComposed

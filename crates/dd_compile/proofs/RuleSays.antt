@@ -37,7 +37,7 @@ among cs d h =
     let found = some_passes (λ x. is_eq (cell_cmp x d)) cs h in
     subst (Contains cs) (cells_equal found.0 d ((Equal-is (cell_cmp found.0 d)).0 found.2)) found.1
 
-members_pass : (test : Cell → Bool) (cs : List Cell) → ((d : Cell) → Contains cs d → test d ≡ true) → list_all test cs ≡ true
+pub members_pass : (test : Cell → Bool) (cs : List Cell) → ((d : Cell) → Contains cs d → test d ≡ true) → list_all test cs ≡ true
 members_pass test [] h = refl
 members_pass test (d ∷ cs) h = and_from _ _ (h d (Contains-first d cs)) (members_pass test cs (λ x there. h x (Contains-later d cs x there)))
 

@@ -1,10 +1,10 @@
 -- The gates of an automaton's value, by its parts, and how many there are.
-use Rattle.std.proofs.Common.{◌≡◌, ◌≤◌, ℕ, ◌+◌, List, [], ◌∷◌, map, length, refl, ap, sym, ◌∙◌, subst, arith, length-append}
+use Rattle.std.proofs.Common.{◌≡◌, ◌≤◌, ℕ, ◌+◌, List, [], ◌∷◌, map, length, ap, sym, ◌∙◌, subst, arith, length-append}
 use Rattle.dd_lattice.specs.Cells.{shifted}
 use Rattle.dd_lattice.specs.InOrder.{in_order}
 use Rattle.dd_lattice.specs.Place.{Place}
 use Rattle.dd_lattice.specs.declared.position.Cell.{Cell}
-use Rattle.dd_expansion.specs.Leaves.{total, clause_count}
+use Rattle.dd_expansion.specs.Leaves.{total}
 use Rattle.dd_formula.specs.LocalRule.{LocalRule, expansion_at}
 use Rattle.dd_formula.specs.Automata.{Counted, counted, counted_step, cells_of}
 use Rattle.dd_formula.specs.ValueCounts.{Valued, valued_step, value_clauses, given_clauses, case_clauses}
@@ -14,8 +14,8 @@ use Rattle.dd_formula.specs.declared.automaton.Automaton.TheVariants as v
 use Rattle.dd_formula.specs.declared.automaton.Automaton.TheFolds.{fold-Automaton, fold-roll-Automaton, ind-Automaton, map-Automaton}
 use Rattle.dd_formula.specs.declared.automaton.Automaton.TheOpen.{Automaton-F}
 use Rattle.dd_compile.specs.Wiring.{Wiring, with_cell}
-use Rattle.dd_compile.specs.Compiling.{AllMade, Maker, all_made, certain, compiled, wires_near}
-use Rattle.dd_compile.specs.ValueGates.{ValueMaker, Gated, gated_step, rules_made, choices, given_made, inner_made, composed_made, value_made}
+use Rattle.dd_compile.specs.Compiling.{AllMade, certain, compiled, wires_near}
+use Rattle.dd_compile.specs.ValueGates.{ValueMaker, Gated, gated_step, rules_made, given_made, inner_made, composed_made, value_made}
 use Rattle.dd_compile.proofs.MadeCount.{made_count}
 use Rattle.dd_compile.proofs.FewGates.{gates_below}
 use Rattle.dd_compile.proofs.ChoiceLaws.{choices_length}
@@ -121,7 +121,7 @@ few_inner g most few w values p (c ∷ cs) n =
     let both = length-append one.gates (inner_made g w more (map (shifted p) cs) (n + length one.gates)).gates in
     omega (arith, here, rest, both)
 
-pub composed_length : (k : ℕ) (f g : Automaton) (w : Wiring) (at : Cell) (n : ℕ) →
+composed_length : (k : ℕ) (f g : Automaton) (w : Wiring) (at : Cell) (n : ℕ) →
     let inner = inner_made (value_made k g) w (record { cells = []; signals = [] }) (map (shifted at.position) (cells_of f at.node)) n in
     length (value_made k (v.Composed f g) w at n).gates ≡ length inner.gates + length (value_made k f inner.wiring at (n + length inner.gates)).gates
 composed_length k f g w at n =

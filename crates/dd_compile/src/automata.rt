@@ -17,9 +17,11 @@ ghost use Rattle.dd_compile.specs.ValueSignals.{HasSymbols, SaysValue, are_wired
 ghost use Rattle.dd_compile.specs.composing.Parts.{AreValues, AreWired, HasSymbolsAt, HaveSymbols};
 
 use crate::inputs::Inputs;
+use crate::values::compile_cases;
 use dd_circuit::{Circuit, Signal};
 use dd_formula::Automaton;
 use dd_lattice;
+use dd_lattice::{Position, shift};
 use std::alloc::{AllocError, Global};
 
 /// Adds the gates of the automaton's value at a cell over an alphabet of so many symbols, and gives for each symbol the signal
@@ -28,7 +30,7 @@ use std::alloc::{AllocError, Global};
 /// have gained gates.
 pub fn compile_value(
     circuit: &mut Circuit,
-    _alloc: Global,
+    alloc: Global,
     automaton: &Automaton,
     symbols: u32,
     at: &dd_lattice::Cell,
@@ -45,7 +47,7 @@ pub fn compile_value(
     ensures in_range { IfOk result (λ v. All (IsSignal (size circuit.new)) v.items) }
     ensures says { IfOk result (λ v. SaysValue circuit.new inputs.now symbols automaton.now at.now v.items) }
 {
-    Err(AllocError)
+    compile_near(circuit, alloc, automaton, symbols, at, inputs)
 }
 
 /// Does nothing; its contract is the law of the number of gates: a value has no more gates than clauses.
@@ -53,3 +55,118 @@ pub fn value_gates(_automaton: &Automaton, _symbols: u32)
     ensures { (w : Wiring) (at : Cell) (n : ℕ) →
         length (value_made _symbols _automaton.now w at n).gates ≤ value_clauses _symbols _automaton.now at.node }
 {}
+
+/// The same at a cell near enough to the origin that nothing that compositions of this depth read leaves the range of positions.
+#[cycle(compile_near)]
+fn compile_near(
+    circuit: &mut Circuit,
+    alloc: Global,
+    automaton: &Automaton,
+    symbols: u32,
+    at: &dd_lattice::Cell,
+    inputs: &Inputs,
+) -> Result<Vec<Signal>, AllocError>
+    requires automaton { HasSymbols automaton.now symbols at.now.node }
+    requires near { extent at.now.position + 16 * (counted automaton.now).depth + 16 ≤ 2 ^ 20 }
+    requires wired { are_wired_there (size circuit.old) symbols inputs.now ((counted automaton.now).reads at.now.node) at.now ≡ true }
+    requires few { size circuit.old + length (value_made symbols automaton.now inputs.now at.now (size circuit.old)).gates ≤ 2 ^ 24 }
+    ensures extends { Extends circuit.old circuit.new }
+    ensures gates { IfOk result (λ _. circuit.new.gates ≡
+        circuit.old.gates ++ (value_made symbols automaton.now inputs.now at.now (size circuit.old)).gates) }
+    ensures signals { IfOk result (λ v. v.items ≡ (value_made symbols automaton.now inputs.now at.now (size circuit.old)).signals) }
+    ensures in_range { IfOk result (λ v. All (IsSignal (size circuit.new)) v.items) }
+    ensures says { IfOk result (λ v. SaysValue circuit.new inputs.now symbols automaton.now at.now v.items) }
+{
+    match automaton {
+        Automaton::Given(cases) => compile_cases(circuit, alloc, cases, symbols, at, inputs),
+        Automaton::Composed(outer, inner) => {
+            compile_composed(
+                circuit,
+                alloc,
+                outer.get(),
+                inner.get(),
+                symbols,
+                at,
+                inputs,
+            )
+        }
+    }
+}
+
+/// The same of the composition of two automata.
+#[cycle(compile_near)]
+fn compile_composed(
+    circuit: &mut Circuit,
+    alloc: Global,
+    outer: &Automaton,
+    inner: &Automaton,
+    symbols: u32,
+    at: &dd_lattice::Cell,
+    inputs: &Inputs,
+) -> Result<Vec<Signal>, AllocError>
+    requires automata { HaveSymbols outer.now inner.now symbols at.now.node }
+    requires near { extent at.now.position + 16 * max (counted outer.now).depth (counted inner.now).depth + 32 ≤ 2 ^ 20 }
+    requires wired { are_wired_there (size circuit.old) symbols inputs.now
+        ((counted (Automaton.Composed outer.now inner.now)).reads at.now.node) at.now ≡ true }
+    requires few { size circuit.old
+        + length (value_made symbols (Automaton.Composed outer.now inner.now) inputs.now at.now (size circuit.old)).gates ≤ 2 ^ 24 }
+    ensures extends { Extends circuit.old circuit.new }
+    ensures gates { IfOk result (λ _. circuit.new.gates ≡ circuit.old.gates
+        ++ (value_made symbols (Automaton.Composed outer.now inner.now) inputs.now at.now (size circuit.old)).gates) }
+    ensures signals { IfOk result (λ v.
+        v.items ≡ (value_made symbols (Automaton.Composed outer.now inner.now) inputs.now at.now (size circuit.old)).signals) }
+    ensures in_range { IfOk result (λ v. All (IsSignal (size circuit.new)) v.items) }
+    ensures says { IfOk result (λ v. SaysValue circuit.new inputs.now symbols (Automaton.Composed outer.now inner.now) at.now v.items) }
+{
+    let cells = outer.reads(alloc, at.node)?;
+    let values = compile_inner(circuit, alloc, inner, symbols, at, cells.as_slice(), inputs)?;
+    compile_near(circuit, alloc, outer, symbols, at, &values)
+}
+
+/// Adds the gates of the automaton's values at the cells, which are counted from `at`, one after the other, and gives the cells with
+/// the signals of their values.
+#[cycle(compile_near)]
+fn compile_inner(
+    circuit: &mut Circuit,
+    alloc: Global,
+    automaton: &Automaton,
+    symbols: u32,
+    at: &dd_lattice::Cell,
+    cells: &[dd_lattice::Cell],
+    inputs: &Inputs,
+) -> Result<Inputs, AllocError>
+    requires automaton { HasSymbolsAt automaton.now symbols cells.now }
+    requires ascending { IsStrictlySortedBy cell_cmp cells.now }
+    requires near { list_all is_near cells.now ≡ true }
+    requires inside { extent at.now.position + 16 * (counted automaton.now).depth + 32 ≤ 2 ^ 20 }
+    requires wired { AreWired (size circuit.old) symbols inputs.now automaton.now cells.now at.now }
+    requires few { size circuit.old + length (inner_made (value_made symbols automaton.now) inputs.now unwired
+        (map (shifted at.now.position) cells.now) (size circuit.old)).gates ≤ 2 ^ 24 }
+    ensures extends { Extends circuit.old circuit.new }
+    ensures gates { IfOk result (λ _. circuit.new.gates ≡ circuit.old.gates ++ (inner_made (value_made symbols automaton.now)
+        inputs.now unwired (map (shifted at.now.position) cells.now) (size circuit.old)).gates) }
+    ensures wiring { IfOk result (λ v. v ≡ (inner_made (value_made symbols automaton.now)
+        inputs.now unwired (map (shifted at.now.position) cells.now) (size circuit.old)).wiring) }
+    ensures values { IfOk result (AreValues circuit.new inputs.now symbols automaton.now cells.now at.now) }
+{
+    let mut values = Inputs::new(alloc);
+    for cell in cells {
+        let there = cell_near(cell, &at.position);
+        let signals = compile_near(circuit, alloc, automaton, symbols, &there, inputs)?;
+        values.add(there, signals)?;
+    }
+    Ok(values)
+}
+
+/// The cell that is counted from a position.
+fn cell_near(cell: &dd_lattice::Cell, at: &Position) -> dd_lattice::Cell
+    requires near { is_near cell.now ≡ true }
+    requires inside { extent at.now ≤ 2 ^ 20 - 16 }
+    ensures { result ≡ shifted at.now cell.now }
+{
+    let Some(position) = shift(&cell.position, at) else {
+        unreachable!()
+    };
+    let node = cell.node;
+    dd_lattice::Cell { position, node }
+}

@@ -14,7 +14,7 @@ use Rattle.dd_topology.specs.Sets.{row_allows, IsRow}
 use Rattle.dd_formula.specs.LocalRule.{LocalRule, rule_allows, cells_at, IsRule}
 use Rattle.dd_forbidden.specs.Breaking.{are_allowed, is_kept, IsBreaking, BreakingFillings}
 use Rattle.dd_forbidden.specs.listing.Extensions.{extensions}
-use Rattle.dd_forbidden.proofs.Lists.{contains_first, contains_nil, cons_cases, sorted_append, IsOfPart, of_part, part_of, range_has, range_from, less_at}
+use Rattle.dd_forbidden.proofs.Lists.{contains_first, contains_nil, cons_cases, sorted_append, of_part, part_of, range_has, range_from, less_at}
 
 -- allowed symbols are symbols of the alphabet
 

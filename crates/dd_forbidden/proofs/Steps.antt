@@ -1,5 +1,5 @@
 -- A step of the search.
-use Rattle.std.proofs.Common.{◌≡◌, ◌<◌, ◌≤◌, ◌+◌, ℕ, zero, suc, Bool, true, false, cond, List, [], ◌∷◌, ◌++◌, length, map, slice_get, refl, sym, ◌∙◌, ap, arith, Some, None, ℤ, pos, ◌+ℤ◌}
+use Rattle.std.proofs.Common.{◌≡◌, ◌<◌, ◌+◌, ℕ, zero, suc, true, List, [], ◌∷◌, ◌++◌, length, map, slice_get, refl, sym, ◌∙◌, ap, arith, Some, None, ℤ, pos, ◌+ℤ◌}
 use Rattle.std.specs.Prelude.{Option, IfSome, MatchOption, All}
 use Rattle.std.specs.List.{flat_map, range_with_len, position_or_len, fold, list_all}
 use Rattle.std.specs.BTreeSet.{insert_key}

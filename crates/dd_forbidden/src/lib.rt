@@ -4,6 +4,7 @@
 mod breaking;
 mod fault;
 mod search;
+mod settling;
 mod size;
 mod truth;
 

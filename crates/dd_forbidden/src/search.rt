@@ -1,11 +1,13 @@
-//! The search: cell by cell each symbol that the cell's node allows, in order.
-ghost use Rattle.std.specs.Prelude.{[], ◌≡◌, ◌<◌, ◌+◌, ◌++◌, length, map, OnOk};
+//! The search: cell by cell each symbol that the cell's node allows, in order. A branch ends where the symbols so far settle that
+//! the rule is true, and where they settle that it is false all of its fillings are listed.
+ghost use Rattle.std.specs.Prelude.{[], ◌∷◌, ◌≡◌, ◌<◌, ◌+◌, ◌++◌, length, map, OnOk};
 ghost use Rattle.std.specs.List.Sorted.{IsStrictlySortedBy};
 ghost use Rattle.dd_lattice.specs.Order.{cell_cmp};
 ghost use Rattle.dd_pattern.specs.Filling.{filled};
 ghost use Rattle.dd_formula.specs.LocalRule.{cells_at};
-ghost use Rattle.dd_forbidden.specs.listing.Extensions.{extensions, AreOf, AreSymbols};
+ghost use Rattle.dd_forbidden.specs.listing.Extensions.{completions, extensions, AreOf, AreSymbols};
 
+use crate::settling::settled;
 use crate::truth::is_true;
 use dd_formula::Rule;
 use dd_lattice::Cell;
@@ -35,10 +37,43 @@ pub(crate) fn extend(
     let Some((cell, later)) = rest.split_first() else {
         return push_breaking(alloc, rule, node, cells, symbols.as_slice(), found);
     };
+    match settled(rule.expansion(node), cells, symbols.as_slice()) {
+        Some(true) => return Ok(()),
+        Some(false) => return complete(alloc, rule, cells, rest, symbols, found),
+        None => {}
+    }
     for symbol in 0..rule.symbols() {
         if rule.allows(cell.node, symbol) {
             symbols.push(symbol)?;
             extend(alloc, rule, node, cells, later, symbols, found)?;
+            symbols.pop();
+        }
+    }
+    Ok(())
+}
+
+/// Appends the fillings that begin with these symbols, whether the rule is true under them or not.
+fn complete(
+    alloc: Global,
+    rule: &Rule,
+    cells: &[Cell],
+    rest: &[Cell],
+    symbols: &mut Items<u32>,
+    found: &mut Items<Filling>,
+) -> Result<(), AllocError>
+    requires ascending { IsStrictlySortedBy cell_cmp cells.now }
+    requires rest { AreOf rule.now rest.now }
+    requires length { length symbols.old + length rest.now ≡ length cells.now }
+    ensures found { OnOk result (found.new ≡ found.old ++ map (filled cells.now) (completions rule.now rest.now symbols.old)) }
+    ensures symbols { OnOk result (symbols.new ≡ symbols.old) }
+{
+    let Some((next, later)) = rest.split_first() else {
+        return push_filling(alloc, cells, symbols.as_slice(), found);
+    };
+    for symbol in 0..rule.symbols() {
+        if rule.allows(next.node, symbol) {
+            symbols.push(symbol)?;
+            complete(alloc, rule, cells, later, symbols, found)?;
             symbols.pop();
         }
     }
@@ -63,12 +98,24 @@ fn push_breaking(
 {
     let expansion = rule.expansion(node);
     let _below = rule.symbols();
-    let filling = Filling::new(
-        Vec::from_slice(alloc, cells)?,
-        Vec::from_slice(alloc, symbols)?,
-    );
-    if !is_true(expansion, &filling) {
-        found.push(filling)?;
+    if is_true(expansion, cells, symbols) {
+        return Ok(());
     }
-    Ok(())
+    push_filling(alloc, cells, symbols, found)
+}
+
+/// Appends the filling with these symbols.
+fn push_filling(
+    alloc: Global,
+    cells: &[Cell],
+    symbols: &[u32],
+    found: &mut Items<Filling>,
+) -> Result<(), AllocError>
+    requires ascending { IsStrictlySortedBy cell_cmp cells.now }
+    requires length { length symbols.now ≡ length cells.now }
+    ensures { OnOk result (found.new ≡ found.old ++ filled cells.now symbols.now ∷ []) }
+{
+    let cells = Vec::from_slice(alloc, cells)?;
+    let symbols = Vec::from_slice(alloc, symbols)?;
+    found.push(Filling::new(cells, symbols))
 }

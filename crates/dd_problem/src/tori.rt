@@ -181,7 +181,8 @@ pub fn torus_clauses(
     ensures exact { IfOk result (λ cnf. cnf ≡ torus_problem premise.now (goal_of premise.now goal.now) (periods_of periods shear)) }
     ensures shows { IfOk result (λ cnf. ShowsTorus cnf.clauses premise.now (goal_of premise.now goal.now) (periods_of periods shear)) }
 {
-    told_goal(alloc, premise, goal)?;
+    // Made for its facts: the gates of the goal say what it asks.
+    told_goal(premise, goal);
     let [x, y, z] = periods;
     let torus = Periods { x, y, z, shear };
     let nodes = premise.nodes();

@@ -1,5 +1,5 @@
 -- What the gates of a composition ask of its two automata, and what stands once the inner one's values are made.
-use Rattle.std.specs.Prelude.{ℕ, ◌≡◌, ◌<◌, true, List, length, map, slice_index_or}
+use Rattle.std.specs.Prelude.{ℕ, ◌≡◌, ◌<◌, true, List, [], ◌∷◌, map}
 use Rattle.std.specs.List.{All, list_all}
 use Rattle.dd_lattice.specs.Cells.{shifted}
 use Rattle.dd_lattice.specs.declared.position.Cell.{Cell}
@@ -34,8 +34,13 @@ pub record IsValued (circuit : Network) (w : Wiring) (k : ℕ) (f : Automaton) (
   pub says : SaysValue circuit w k f c signals
   pub in_range : All (IsSignal (size circuit)) signals
 
--- each of these cells, counted from at, has such signals
+-- each of these cells, counted from at, has such signals among these, in the same order
+abbrev pub AreValued : Network → Wiring → ℕ → Automaton → Cell → List Cell → List (List Signal) → Type 0
+AreValued circuit w k f at [] [] = Unit {0}
+AreValued circuit w k f at [] (ss ∷ sss) = ⊥
+AreValued circuit w k f at (c ∷ cs) [] = ⊥
+AreValued circuit w k f at (c ∷ cs) (ss ∷ sss) = IsValued circuit w k f (shifted at.position c) ss × AreValued circuit w k f at cs sss
+
 pub record AreValues (circuit : Network) (w : Wiring) (k : ℕ) (f : Automaton) (cs : List Cell) (at : Cell) (v : Wiring) : Type 0 where
   pub cells : v.cells ≡ map (shifted at.position) cs
-  pub as_many : length v.signals ≡ length cs
-  pub each : (j : ℕ) (c : Cell) (ss : List Signal) → j < length cs → IsValued circuit w k f (shifted at.position (slice_index_or cs j c)) (slice_index_or v.signals j ss)
+  pub each : AreValued circuit w k f at cs v.signals

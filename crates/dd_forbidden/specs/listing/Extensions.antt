@@ -16,3 +16,8 @@ AreOf r cs = All (λ c. c.node < r.nodes) cs
 abbrev pub extensions : LocalRule → ℕ → List Cell → List ℕ → List (List ℕ)
 extensions r a [] ss = cond (is_kept r a ss) [] (ss ∷ [])
 extensions r a (c ∷ cs) ss = flat_map (λ s. cond (rule_allows r c.node s) (extensions r a cs (ss ++ s ∷ [])) []) (range_with_len 0 r.symbols)
+
+-- all fillings that begin with some symbols, whether the rule is true under them or not
+abbrev pub completions : LocalRule → List Cell → List ℕ → List (List ℕ)
+completions r [] ss = ss ∷ []
+completions r (c ∷ cs) ss = flat_map (λ s. cond (rule_allows r c.node s) (completions r cs (ss ++ s ∷ [])) []) (range_with_len 0 r.symbols)

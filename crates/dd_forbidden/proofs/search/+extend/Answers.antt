@@ -1,9 +1,10 @@
-use Rattle.std.proofs.Common.{◌≡◌, ◌<◌, ◌++◌, ◌∷◌, [], ℕ, List, true, false, cond, map, length, ap, sym, subst, ◌∙◌, arith}
+use Rattle.std.proofs.Common.{◌≡◌, ◌<◌, ◌++◌, ◌∷◌, [], ℕ, List, true, false, cond, map, length, OnOk, ap, sym, subst, ◌∙◌, arith}
 use Rattle.std.proofs.lemmas.List.{append-nil, length-append}
 use Rattle.std.proofs.lemmas.List.Elements.{All-push}
 use Rattle.dd_pattern.specs.Filling.{filled}
 use Rattle.dd_formula.specs.LocalRule.{rule_allows, cells_at}
-use Rattle.dd_forbidden.specs.listing.Extensions.{extensions, AreSymbols, AreOf}
+use Rattle.dd_forbidden.specs.listing.Extensions.{completions, extensions, AreSymbols, AreOf}
+use Rattle.dd_forbidden.proofs.SettledLaws.{all_broken, none_broken, settled_so}
 use Rattle.dd_forbidden.proofs.Steps.{rest_of, one_more, taken_off}
 use Rattle.dd_forbidden.proofs.search.+extend.Goals.{then-allows+in_ok-push+in_ok-extend, else-allows}
 use Rattle.dd_forbidden.proofs.search.+extend.Goals as goal
@@ -63,3 +64,26 @@ loop-symbol-preserved t c =
                 c.loop-symbol.invariant.1 (w.found-is ∙ sym (append-nil c.loop-symbol.found)) is,
           )
     ]
+
+pub returns-in-Some-true-clause-found : goal.returns-in-Some-true-clause-found
+returns-in-Some-true-clause-found t c =
+    let r = c.args.rule.now in
+    let a = c.args.node in
+    let ss = c.args.symbols.now in
+    let found = c.args.found.now in
+    let settled =
+    settled_so r a c.expansion.result.now c.args.cells.now ss c.as_slice-2.result.now true c.in-Some-true.field-0 c.expansion.ensures.truth c.requires.cells c.as_slice-2.ensures
+    c.in-Some-true.field-0-test c.in-Some-true.ensures in
+    sym (ap (λ lists. found ++ map (filled (cells_at r a)) lists) (none_broken r a c.args.rest.now ss c.requires.symbols settled) ∙ append-nil found)
+
+pub returns-in-Some-false-clause-found : goal.returns-in-Some-false-clause-found
+returns-in-Some-false-clause-found t c =
+    let r = c.args.rule.now in
+    let a = c.args.node in
+    let ss = c.args.symbols.now in
+    let found = c.args.found.now in
+    let settled =
+    settled_so r a c.expansion.result.now c.args.cells.now ss c.as_slice-2.result.now false c.in-Some-false.field-0 c.expansion.ensures.truth c.requires.cells c.as_slice-2.ensures
+    c.in-Some-false.field-0-test c.in-Some-false.ensures in
+    subst (λ lists. OnOk c.complete.result (c.complete.new.found ≡ found ++ map (filled (cells_at r a)) lists)) (sym (all_broken r a c.args.rest.now ss c.requires.symbols settled))
+    (subst (λ cs. OnOk c.complete.result (c.complete.new.found ≡ found ++ map (filled cs) (completions r c.args.rest.now ss))) c.requires.cells c.complete.ensures.found)

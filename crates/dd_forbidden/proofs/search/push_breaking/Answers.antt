@@ -1,32 +1,29 @@
-use Rattle.std.proofs.Common.{◌≡◌, ◌++◌, ◌∷◌, [], Bool, true, false, cond, map, ap, sym, ◌∙◌}
+use Rattle.std.proofs.Common.{◌≡◌, ◌++◌, ◌∷◌, [], true, false, OnOk, ap, sym, subst, ◌∙◌}
 use Rattle.std.proofs.lemmas.List.{append-nil}
-use Rattle.dd_pattern.specs.Filling.{Filled, filled, filling_look}
+use Rattle.dd_pattern.specs.Filling.{filled, filling_look}
 use Rattle.dd_expansion.specs.Leaves.{holds}
-use Rattle.dd_formula.specs.LocalRule.{cells_at}
 use Rattle.dd_forbidden.specs.Breaking.{is_kept}
 use Rattle.dd_forbidden.proofs.Steps.{kept_here}
 use Rattle.dd_forbidden.proofs.search.push_breaking.Goals as goal
 
-pub returns-in_ok-push : goal.returns-in_ok-push
-returns-in_ok-push c =
+pub returns-then-is_true : goal.returns-then-is_true
+returns-then-is_true c =
     let r = c.args.rule.now in
     let a = c.args.node in
+    let ss = c.args.symbols.now in
     let e = c.expansion-expansion.result.now in
-    let is : c.new-filling.result ≡ filled (cells_at r a) c.args.symbols.now =
-    c.new-filling.ensures ∙ (ap (λ cs. filled cs c.in_ok-from_slice-2.field-0.items) (c.in_ok-from_slice.ensures.items ∙ c.requires.cells) ∙ ap (filled (cells_at r a)) c.in_ok-from_slice-2.ensures.items) in
-    let kept : is_kept r a c.args.symbols.now ≡ false =
-    sym (kept_here r a e c.args.symbols.now c.expansion-expansion.ensures.truth c.requires.symbols)
-    ∙ (ap (λ (f : Filled). holds e (filling_look f)) (sym is) ∙ (sym c.is_true.ensures ∙ c.if-not-is_true.true)) in
-    rw kept (c.in_ok-push.ensures.ok ∙ ap (λ (f : Filled). c.args.found.now ++ f ∷ []) is)
-
-pub returns-else-not-is_true : goal.returns-else-not-is_true
-returns-else-not-is_true c =
-    let r = c.args.rule.now in
-    let a = c.args.node in
-    let e = c.expansion-expansion.result.now in
-    let is : c.new-filling.result ≡ filled (cells_at r a) c.args.symbols.now =
-    c.new-filling.ensures ∙ (ap (λ cs. filled cs c.in_ok-from_slice-2.field-0.items) (c.in_ok-from_slice.ensures.items ∙ c.requires.cells) ∙ ap (filled (cells_at r a)) c.in_ok-from_slice-2.ensures.items) in
-    let kept : is_kept r a c.args.symbols.now ≡ true =
-    sym (kept_here r a e c.args.symbols.now c.expansion-expansion.ensures.truth c.requires.symbols)
-    ∙ (ap (λ (f : Filled). holds e (filling_look f)) (sym is) ∙ (sym c.is_true.ensures ∙ c.if-not-is_true.false)) in
+    let kept : is_kept r a ss ≡ true =
+    sym (kept_here r a e ss c.expansion-expansion.ensures.truth c.requires.symbols)
+    ∙ (ap (λ cs. holds e (filling_look (filled cs ss))) (sym c.requires.cells) ∙ (sym c.is_true.ensures ∙ c.if-is_true.true)) in
     rw kept (sym (append-nil c.args.found.now))
+
+pub returns : goal.returns
+returns c =
+    let r = c.args.rule.now in
+    let a = c.args.node in
+    let ss = c.args.symbols.now in
+    let e = c.expansion-expansion.result.now in
+    let kept : is_kept r a ss ≡ false =
+    sym (kept_here r a e ss c.expansion-expansion.ensures.truth c.requires.symbols)
+    ∙ (ap (λ cs. holds e (filling_look (filled cs ss))) (sym c.requires.cells) ∙ (sym c.is_true.ensures ∙ c.if-is_true.false)) in
+    rw kept (subst (λ cs. OnOk c.push_filling.result (c.push_filling.new.found ≡ c.args.found.now ++ filled cs ss ∷ [])) c.requires.cells c.push_filling.ensures)
