@@ -1,5 +1,5 @@
 -- What an automaton reads at the origin of a periodic configuration is there.
-use Rattle.std.proofs.Common.{◌≡◌, ◌<◌, ℕ, true, List, length, Option, Some, None, if◌then◌else◌, refl, ap, sym, ◌∙◌, subst, arith, pos}
+use Rattle.std.proofs.Common.{◌≡◌, ◌<◌, ℕ, true, Option, Some, None, if◌then◌else◌, refl, ap, sym, ◌∙◌, arith, pos}
 use Rattle.std.specs.Prelude.{◌-ℤ◌, ◌*ℤ◌}
 use Rattle.std.proofs.lemmas.Int.{ints}
 use Rattle.dd_lattice.specs.Place.{Place, place}
