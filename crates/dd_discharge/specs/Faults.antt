@@ -1,8 +1,31 @@
--- Why there is no program of a rule.
+-- Why there is no program of a rule, or no bound.
 use Rattle.dd_discharge.specs.declared.fault.RowsFault.{RowsFault}
 use Rattle.dd_discharge.specs.declared.fault.RowsFault.TheVariants.{Large, Memory}
+use Rattle.dd_discharge.specs.declared.fault.RowsFault.TheVariants as rows
+use Rattle.dd_discharge.specs.declared.fault.DischargeFault.{DischargeFault}
+use Rattle.dd_discharge.specs.declared.fault.DischargeFault.TheVariants as fault
+use Rattle.dd_simplex.specs.declared.fault.SimplexFault.{SimplexFault}
+use Rattle.dd_simplex.specs.declared.fault.SimplexFault.TheVariants as simplex
 
 -- it is large only for the reason
 abbrev pub OnLarge : RowsFault → Type 0 → Type 0
 OnLarge Large reason = reason
 OnLarge Memory reason = Unit {0}
+
+-- it overflows only for the reason
+abbrev pub OnOverflow : DischargeFault → Type 0 → Type 0
+OnOverflow fault.Large reason = ⊥
+OnOverflow fault.Overflow reason = reason
+OnOverflow fault.Pivots reason = ⊥
+OnOverflow fault.Memory reason = Unit {0}
+
+-- the fault of a run
+abbrev pub fault_of_run : SimplexFault → DischargeFault
+fault_of_run simplex.Overflow = fault.Overflow
+fault_of_run simplex.Pivots = fault.Pivots
+fault_of_run simplex.Memory = fault.Memory
+
+-- and that of a program
+abbrev pub fault_of_rows : RowsFault → DischargeFault
+fault_of_rows rows.Large = fault.Large
+fault_of_rows rows.Memory = fault.Memory

@@ -4,7 +4,11 @@ pub mod Domains
 pub mod Fillings
 pub mod Patterns
 pub mod Programs
+pub mod Denominators
 pub mod Bounds
+-- what certifies a bound, and that none is better
+pub mod Amounts
+pub mod Certificates
 -- why there is none
 pub mod Faults
 -- that the fillings are the admissible ones

@@ -1,2 +1,4 @@
 pub mod Levels
 pub mod Views
+pub mod Tables
+pub mod Sparse

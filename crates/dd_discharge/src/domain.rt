@@ -1,5 +1,5 @@
 //! The domain of a discharge, grown by its margin.
-ghost use Rattle.std.specs.Prelude.{◌≡◌, ◌<◌, ◌≤◌, IfOk, [], pos, ◌-ℤ◌};
+ghost use Rattle.std.specs.Prelude.{◌≡◌, ◌<◌, ◌≤◌, IfOk, IfErr, [], pos, ◌-ℤ◌};
 ghost use Rattle.std.specs.List.Sorted.{IsStrictlySortedBy};
 ghost use Rattle.dd_lattice.specs.Place.{IsNear};
 ghost use Rattle.dd_lattice.specs.Order.{cell_cmp};
@@ -40,6 +40,7 @@ fn box_region(alloc: Global, dim: u32, radius: u32) -> Result<Region, RowsFault>
     requires radius { radius ≤ 3 }
     ensures list { IfOk result (λ region. region ≡ positions_of (centred dim radius)) }
     ensures members { IfOk result (IsRegionOf (IsInDomain dim radius [])) }
+    ensures memory { IfErr result (λ fault. fault ≡ RowsFault.Memory) }
 {
     let Some(bounds) = centred_box(dim, radius) else {
         return Err(RowsFault::Memory);
@@ -53,7 +54,8 @@ fn domain(alloc: Global, dim: u32, radius: u32, vectors: &[Position]) -> Result<
     requires least { 1 ≤ dim }
     requires most { dim ≤ 3 }
     requires radius { radius ≤ 3 }
-    ensures { IfOk result (IsRegionOf (IsInDomain dim radius vectors.now)) }
+    ensures members { IfOk result (IsRegionOf (IsInDomain dim radius vectors.now)) }
+    ensures memory { IfErr result (λ fault. fault ≡ RowsFault.Memory) }
 {
     let around = box_region(alloc, dim, radius)?;
     let mut all = box_region(alloc, dim, radius)?;
@@ -80,7 +82,20 @@ fn cells_on(alloc: Global, nodes: u32, positions: &[Position]) -> Result<Items<C
     Ok(cells)
 }
 
-/// The cells of the domain grown by the margin, in cell order.
+/// The cells of the box of the radius, in cell order.
+pub(crate) fn box_cells(alloc: Global, rule: &Rule, radius: u32) -> Result<Items<Cell>, RowsFault>
+    requires { radius ≤ 3 }
+    ensures cells { IfOk result (λ cells. cells ≡ box_cells rule.now radius) }
+    ensures memory { IfErr result (λ fault. fault ≡ RowsFault.Memory) }
+{
+    let dim = rule.dim();
+    let nodes = rule.nodes();
+    let region = box_region(alloc, dim, radius)?;
+    let cells = cells_on(alloc, nodes, region.list())?;
+    Ok(cells)
+}
+
+/// The cells of the domain grown by the margin, in cell order. It fails for want of memory alone.
 pub fn ground(
     alloc: Global,
     rule: &Rule,
@@ -93,6 +108,7 @@ pub fn ground(
     ensures order { IfOk result (IsStrictlySortedBy cell_cmp) }
     ensures nodes { IfOk result (AreOf rule.now) }
     ensures near { IfOk result AreInRange }
+    ensures memory { IfErr result (λ fault. fault ≡ RowsFault.Memory) }
 {
     let dim = rule.dim();
     let nodes = rule.nodes();

@@ -2,6 +2,7 @@
 ghost use Rattle.std.specs.Prelude.{◌≡◌};
 
 use dd_lattice::LatticeFault;
+use dd_simplex::SimplexFault;
 use std::alloc::AllocError;
 use thiserror::Error;
 
@@ -50,4 +51,41 @@ pub enum DischargeFault {
     Pivots,
     #[error("out of memory")]
     Memory,
+}
+
+impl From<AllocError> for DischargeFault {
+    ghost use Rattle.dd_discharge.specs.declared.fault.DischargeFault.TheVariants.{Memory};
+
+    ghost from_gives = { λ _ fault. fault ≡ Memory };
+
+    fn from(_error: AllocError) -> DischargeFault {
+        DischargeFault::Memory
+    }
+}
+
+impl From<SimplexFault> for DischargeFault {
+    ghost use Rattle.dd_discharge.specs.Faults.{fault_of_run};
+
+    ghost from_gives = { λ error fault. fault ≡ fault_of_run error };
+
+    fn from(error: SimplexFault) -> DischargeFault {
+        match error {
+            SimplexFault::Overflow => DischargeFault::Overflow,
+            SimplexFault::Pivots => DischargeFault::Pivots,
+            SimplexFault::Memory => DischargeFault::Memory,
+        }
+    }
+}
+
+impl From<RowsFault> for DischargeFault {
+    ghost use Rattle.dd_discharge.specs.Faults.{fault_of_rows};
+
+    ghost from_gives = { λ error fault. fault ≡ fault_of_rows error };
+
+    fn from(error: RowsFault) -> DischargeFault {
+        match error {
+            RowsFault::Large => DischargeFault::Large,
+            RowsFault::Memory => DischargeFault::Memory,
+        }
+    }
 }

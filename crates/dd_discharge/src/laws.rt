@@ -1,7 +1,11 @@
-//! Laws of the fillings that a program rests on.
-ghost use Rattle.std.specs.Prelude.{List};
+//! Laws of the fillings that a program rests on, and of bounds.
+ghost use Rattle.std.specs.Prelude.{ℕ, List};
+ghost use Rattle.dd_lattice.specs.Place.{Place};
 ghost use Rattle.dd_lattice.specs.declared.position.Cell.{Cell};
+ghost use Rattle.dd_formula.specs.LocalRule.{LocalRule};
+ghost use Rattle.dd_discharge.specs.declared.bound.Bound.{Bound as AnyBound};
 ghost use Rattle.dd_discharge.specs.Laws.{AreCellsOf, AreTheAdmissible};
+ghost use Rattle.dd_discharge.specs.Certificates.{IsBoundCertificate, BestOf};
 
 use dd_formula::Rule;
 
@@ -10,4 +14,12 @@ use dd_formula::Rule;
 #[tactic(auto, using(crate::proofs::AdmissibleLaws::the_admissible))]
 pub fn the_admissible(_rule: &Rule)
     ensures { (cs : List Cell) → AreCellsOf _rule.now cs → AreTheAdmissible _rule.now cs }
+{}
+
+/// Does nothing; its contract is the law of certificates: a bound that is certified is the best, since no amounts over any
+/// common denominator that meet the rows hold more.
+#[tactic(auto, using(crate::proofs::BestBounds::best_bound))]
+pub fn best_bound()
+    ensures { (x : LocalRule) (weights : List ℕ) (radius margin : ℕ) (vectors : List Place) (bound : AnyBound) →
+        IsBoundCertificate x weights radius margin vectors bound → BestOf x weights radius margin vectors bound.numerator bound.denominator }
 {}

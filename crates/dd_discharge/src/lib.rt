@@ -1,19 +1,28 @@
-//! Discharging bounds: the domain on which a rule is discharged along some vectors, and its admissible fillings. The linear program that
-//! they give, and its best value, are defined in `specs/`.
+//! Discharging bounds: the domain on which a rule is discharged along some vectors, its admissible fillings, the linear program that
+//! they give, its best bound, and what certifies it.
 #![tactic(auto)]
 
+mod best;
 mod bound;
+mod denominators;
+mod discharging;
 mod domain;
 mod fault;
 mod laws;
 mod numbers;
 mod partial;
+mod pattern;
+mod program;
 mod rows;
 mod search;
+mod sparse;
+mod views;
 
 pub use bound::Bound;
+pub use discharging::discharge;
 pub use domain::ground;
 pub use fault::{DischargeFault, RowsFault};
-pub use laws::the_admissible;
+pub use laws::{best_bound, the_admissible};
+pub use program::program_of;
 pub use rows::{Row, Rows};
 pub use search::fillings;

@@ -12,7 +12,7 @@ use Rattle.dd_fraction.specs.Divisor.{greatest_common}
 use Rattle.dd_fraction.specs.Exact.{Exact, lowest, times, plus}
 use Rattle.dd_fraction.specs.Checked.{IsFraction, is_bounded, bounded, bounded_size, checked_product, checked_sum}
 use Rattle.dd_fraction.proofs.Divisors.{greatest_common-is, greatest_common-step, greatest_common-zero, greatest_common_alone, quotient_above}
-use Rattle.dd_fraction.proofs.Lowest.{size_over, lowest_at}
+use Rattle.dd_fraction.proofs.Lowest.{size_over, lowest_at, low_lowest}
 
 -- ---- lowest terms within the bounds
 pub lowest_fraction : (n : ℤ) (d : ℕ) → 0 < d → d < 2 ^ 127 → unsigned_abs n < 2 ^ 127
@@ -36,6 +36,9 @@ lowest_made n r d g e f p q s = rw (f, e) (lowest_fraction n d p q s)
 pub lowest_result : (n r : ℤ) (d g : ℕ) → g ≡ greatest_common (unsigned_abs n) d → r ≡ int_div n (pos g)
     → 0 < d → lowest n d ≡ record { num = r; den = d / g }
 lowest_result n r d g e f p = rw (f, e) (lowest_at n d p)
+
+pub lowest_alone : (n : ℤ) (d : ℕ) → 0 < d → greatest_common (unsigned_abs n) d ≡ 1 → lowest n d ≡ record { num = n; den = d }
+lowest_alone n d p e = low_lowest (record { num = n; den = d }) (record { positive = p; alone = e })
 
 alone_turned : (a b : ℕ) → greatest_common a b ≡ 1 → greatest_common b a ≡ 1
 alone_turned a b e =
@@ -67,6 +70,9 @@ greatest_common-one a =
 pub IsFraction-whole : (n : ℤ) → unsigned_abs n < 2 ^ 127 → IsFraction (record { num = n; den = 1 })
 IsFraction-whole n p =
     record { above = omega arith; below = omega arith; bounded = p; alone = greatest_common-one (unsigned_abs n) }
+
+pub lowest_whole : (n : ℤ) → lowest n 1 ≡ record { num = n; den = 1 }
+lowest_whole n = lowest_alone n 1 (omega arith) (greatest_common-one (unsigned_abs n))
 
 pub whole_fraction : (n : ℤ) → SFits w64 n → IsFraction (record { num = n; den = 1 })
 whole_fraction n f = IsFraction-whole n (omega (arith, ints, f))

@@ -1,9 +1,26 @@
 // Sums and products that stay within 2^127 - 1 in absolute value: -2^127 is left out, so each number has its opposite.
-ghost use Rattle.std.specs.Prelude.{◌≡◌, ◌*◌};
+ghost use Rattle.std.specs.Prelude.{◌≡◌, ◌*◌, true};
 ghost use lib.IntN.{◌*ℤ◌, ◌+ℤ◌};
-ghost use Rattle.dd_fraction.specs.Checked.{bounded, bounded_size};
+ghost use Rattle.dd_fraction.specs.Checked.{is_bounded, bounded, bounded_size};
 
 pub fn product(a: i128, b: i128) -> Option<i128>
+    ensures { result ≡ bounded (a *ℤ b) }
+{
+    match (i64::try_from(a), i64::try_from(b)) {
+        (Ok(a), Ok(b)) => Some(word_product(a, b)),
+        _ => wide_product(a, b),
+    }
+}
+
+/// A product of machine words, which is always bounded.
+fn word_product(a: i64, b: i64) -> i128
+    ensures value { result ≡ a *ℤ b }
+    ensures bounded { is_bounded (a *ℤ b) ≡ true }
+{
+    i128::from(a) * i128::from(b)
+}
+
+fn wide_product(a: i128, b: i128) -> Option<i128>
     ensures { result ≡ bounded (a *ℤ b) }
 {
     match a.checked_mul(b) {
@@ -24,8 +41,27 @@ pub fn sum(a: i128, b: i128) -> Option<i128>
 pub fn size_product(a: u128, b: u128) -> Option<u128>
     ensures { result ≡ bounded_size (a * b) }
 {
+    match (u64::try_from(a), u64::try_from(b)) {
+        (Ok(a), Ok(b)) => if_bounded(u128::from(a) * u128::from(b)),
+        _ => wide_size_product(a, b),
+    }
+}
+
+fn wide_size_product(a: u128, b: u128) -> Option<u128>
+    ensures { result ≡ bounded_size (a * b) }
+{
     match a.checked_mul(b) {
-        Some(product) if product <= i128::MAX as u128 => Some(product),
-        _ => None,
+        Some(product) => if_bounded(product),
+        None => None,
+    }
+}
+
+fn if_bounded(size: u128) -> Option<u128>
+    ensures { result ≡ bounded_size size }
+{
+    if size <= i128::MAX as u128 {
+        Some(size)
+    } else {
+        None
     }
 }

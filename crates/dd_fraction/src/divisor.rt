@@ -1,20 +1,76 @@
-// The greatest common divisor, by Euclid's rule.
-ghost use Rattle.std.specs.Prelude.{◌≡◌, ◌<◌, ◌≤◌, ◌^◌};
+// The greatest common divisor, by Euclid's rule: in machine words, once both numbers fit 64 bits.
+ghost use Rattle.std.specs.Prelude.{◌≡◌, ℕ, ◌%◌, ◌<◌, ◌≤◌, ◌/◌, ◌^◌};
 ghost use Rattle.std.specs.Int.RustNames.{unsigned_abs, int_div};
 ghost use lib.IntN.{pos};
 ghost use Rattle.dd_fraction.specs.Divisor.{greatest_common};
+
+const WORD: u128 = 18_446_744_073_709_551_615;
 
 pub fn greatest_common_divisor(a: u128, b: u128) -> u128
     ensures { result ≡ greatest_common a b }
 {
     let mut x = a;
     let mut y = b;
-    while y != 0 {
+    while y > WORD {
         let rest = x % y;
         x = y;
         y = rest;
     }
+    if x <= WORD {
+        return word_divisor(x as u64, y as u64) as u128;
+    }
+    if y == 0 {
+        return x;
+    }
+    word_divisor(y as u64, (x % y) as u64) as u128
+}
+
+/// Where one number is odd, without a division (Stein 1967).
+fn word_divisor(a: u64, b: u64) -> u64
+    ensures { result ≡ greatest_common a b }
+{
+    if b == 0 {
+        return a;
+    }
+    let rest = a % b;
+    if rest == 0 {
+        return b;
+    }
+    if b % 2 == 1 {
+        return odd_divisor(b, rest);
+    }
+    if rest % 2 == 1 {
+        return odd_divisor(rest, b);
+    }
+    word_divisor(b / 2, rest / 2) * 2
+}
+
+fn odd_divisor(a: u64, b: u64) -> u64
+    requires { a % 2 ≡ 1 }
+    ensures { result ≡ greatest_common a b }
+{
+    let mut x = a;
+    let mut y = b;
+    while y != 0 {
+        let odd = without_twos(y);
+        if odd < x {
+            y = x - odd;
+            x = odd;
+        } else {
+            y = odd - x;
+        }
+    }
     x
+}
+
+/// A number other than 0 without its factors of 2.
+fn without_twos(n: u64) -> u64
+    requires { 0 < n }
+    ensures odd { result % 2 ≡ 1 }
+    ensures below { result ≤ n }
+    ensures same { (x : ℕ) → x % 2 ≡ 1 → greatest_common x n ≡ greatest_common x result }
+{
+    n >> n.trailing_zeros()
 }
 
 /// The greatest common divisor of the two numbers of a fraction.
@@ -32,5 +88,19 @@ pub fn quotient(num: i128, divisor: u128) -> i128
     requires below { divisor < 2 ^ 127 }
     ensures { result ≡ int_div num (pos divisor) }
 {
-    num / divisor as i128
+    let divisor = divisor as i128;
+    match (i64::try_from(num), i64::try_from(divisor)) {
+        (Ok(num), Ok(divisor)) => i128::from(num / divisor),
+        _ => num / divisor,
+    }
+}
+
+pub fn size_quotient(size: u128, divisor: u128) -> u128
+    requires { 0 < divisor }
+    ensures { result ≡ size / divisor }
+{
+    match (u64::try_from(size), u64::try_from(divisor)) {
+        (Ok(size), Ok(divisor)) => u128::from(size / divisor),
+        _ => size / divisor,
+    }
 }

@@ -7,7 +7,7 @@ ghost use Rattle.dd_fraction.specs.Order.{exact_cmp};
 ghost use Rattle.dd_fraction.specs.Checked.{IsFraction, checked_product, checked_quotient, checked_sum, fraction_of};
 
 use crate::bounded::{product, size_product, sum};
-use crate::divisor::{common_divisor, quotient};
+use crate::divisor::{common_divisor, quotient, size_quotient};
 use crate::ratio::compare_ratios;
 use std::cmp::Ordering;
 use std::marker::Model;
@@ -154,8 +154,14 @@ fn reduced(num: i128, den: u128) -> Fraction
     requires below { den < 2 ^ 127 }
     ensures { result ≡ lowest num den }
 {
+    if den == 1 {
+        return in_lowest_terms(num, 1);
+    }
     let divisor = common_divisor(num, den);
-    in_lowest_terms(quotient(num, divisor), den / divisor)
+    if divisor == 1 {
+        return in_lowest_terms(num, den);
+    }
+    in_lowest_terms(quotient(num, divisor), size_quotient(den, divisor))
 }
 
 fn in_lowest_terms(num: i128, den: u128) -> Fraction

@@ -3,7 +3,9 @@
 
 mod bounded;
 mod divisor;
+mod field_laws;
 mod fraction;
 mod ratio;
 
+pub use field_laws::{opposite_laws, order_laws, ordered_field_laws, product_laws, sum_laws};
 pub use fraction::Fraction;

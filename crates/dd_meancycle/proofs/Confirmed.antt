@@ -6,10 +6,10 @@ use Rattle.std.proofs.lemmas.List.{take_all}
 use Rattle.dd_transfer.specs.Graphs.{Transfer, IsTransfer, next_of, weight_at}
 use Rattle.dd_meancycle.specs.declared.edges.Edge.{Edge}
 use Rattle.dd_meancycle.specs.declared.rises.Ratio.{Ratio}
-use Rattle.dd_meancycle.specs.Means.{IsPath, IsCycle, IsLeast, ArePotentials, potential, weight_of}
-use Rattle.dd_meancycle.specs.table.Lists.{AreEdges, IsRisen}
+use Rattle.dd_meancycle.specs.Means.{IsPath, IsCycle, IsLeast, IsAcyclic, ArePotentials, AreRanks, potential, weight_of}
+use Rattle.dd_meancycle.specs.table.Lists.{AreEdges, IsRisen, IsFallen}
 use Rattle.dd_meancycle.specs.table.Rises.{IsReduced}
-use Rattle.dd_meancycle.proofs.EdgeLaws.{edge_of, cycle_least}
+use Rattle.dd_meancycle.proofs.EdgeLaws.{edge_of, cycle_least, no_cycle}
 
 -- what holds of all items that were passed holds of all
 pub all_taken : {X : Type 0} (P : X → Type 0) (xs : List X) (i : ℕ) → length xs ≤ i → All P (take i xs) → All P xs
@@ -40,3 +40,10 @@ confirmed_is g edges cycle ps whole mean are is_cycle weight len short reduced e
       bounded = λ v lt. small v (pos 0) (omega (arith, lt, each));
       least = cycle_least g mean.weight mean.length ps pot;
     }
+
+-- ranks that fall along each edge of the list
+pub ranks_are : (g : Transfer) (edges : List Edge) (ranks : List ℕ) → AreEdges g edges → length ranks ≡ g.states → IsFallen ranks edges → IsAcyclic g ranks
+ranks_are g edges ranks are each fallen =
+    let fall : AreRanks g ranks = λ u t v h.
+    All-contains (λ (e : Edge). get_or ranks e.to 0 < get_or ranks e.from 0) edges (record { from = u; to = v; weight = weight_at g t }) fallen (edge_of g edges u t v are h) in
+    record { each = each; ranks_fall = fall; none = no_cycle g ranks fall }

@@ -1,10 +1,11 @@
-//! The exact check of a cycle and potentials: they show a graph's least mean, or they are turned down.
-ghost use Rattle.std.specs.Prelude.{◌≡◌, ℕ, ◌*◌, ◌%◌, ◌<◌, ◌≤◌, ◌^◌, ◌↔◌, IsTrue, IfSome, length, pos, ◌-ℤ◌, ◌≤ℤ◌, unsigned_abs, Some};
+//! The exact check of a cycle and potentials, which show a graph's least mean, or of ranks, which show that it has no cycle; or
+//! they are turned down.
+ghost use Rattle.std.specs.Prelude.{◌≡◌, ℕ, ◌*◌, ◌%◌, ◌<◌, ◌≤◌, ◌^◌, ◌↔◌, IsTrue, IfSome, length, slice_index, pos, ◌-ℤ◌, ◌≤ℤ◌, unsigned_abs, Some};
 ghost use Rattle.std.specs.List.{All};
 ghost use Rattle.dd_transfer.specs.Graphs.{next_of, IsTransfer};
-ghost use Rattle.dd_meancycle.specs.Means.{IsCycle, IsLeast, potential, weight_of};
+ghost use Rattle.dd_meancycle.specs.Means.{IsCycle, IsLeast, IsAcyclic, potential, weight_of};
 ghost use Rattle.dd_meancycle.specs.table.Levels.{IsEdgeOf};
-ghost use Rattle.dd_meancycle.specs.table.Lists.{AreEdges, IsRisen};
+ghost use Rattle.dd_meancycle.specs.table.Lists.{AreEdges, IsRisen, IsFallen};
 
 use crate::edges::Edge;
 use crate::rises::{Ratio, reduced};
@@ -117,4 +118,35 @@ pub(crate) fn confirmed(
     } else {
         None
     }
+}
+
+/// Whether the rank falls along an edge.
+fn is_fallen(edge: &Edge, ranks: &[u32]) -> bool
+    requires { IsEdgeOf (length ranks.now) edge.now }
+    ensures { IsTrue result → slice_index ranks.now edge.now.to < slice_index ranks.now edge.now.from }
+{
+    ranks[edge.to as usize] < ranks[edge.from as usize]
+}
+
+fn are_fallen(edges: &[Edge], ranks: &[u32]) -> bool
+    requires { All (IsEdgeOf (length ranks.now)) edges.now }
+    ensures { IsTrue result → IsFallen ranks.now edges.now }
+{
+    for edge in edges {
+        if !is_fallen(edge, ranks) {
+            return false;
+        }
+    }
+    true
+}
+
+/// Whether there is a rank for each state, and each falls along each edge.
+pub(crate) fn are_ranks(graph: &Graph, edges: &[Edge], ranks: &[u32]) -> bool
+    requires { AreEdges graph.now edges.now }
+    ensures { IsTrue result → IsAcyclic graph.now ranks.now }
+{
+    if ranks.len() != graph.states() as usize {
+        return false;
+    }
+    are_fallen(edges, ranks)
 }

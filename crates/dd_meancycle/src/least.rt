@@ -6,8 +6,9 @@ ghost use Rattle.dd_meancycle.specs.Means.{IsMeanOf};
 ghost use Rattle.dd_meancycle.specs.table.Lists.{AreEdges, IsInStates};
 ghost use Rattle.dd_meancycle.specs.table.LeastMean.{IsMean, IsSmallMean};
 
-use crate::confirming::confirmed;
+use crate::confirming::{are_ranks, confirmed};
 use crate::edges::{Edge, edges};
+use crate::ordering::sought_ranks;
 use crate::seeking::{Found, sought};
 use crate::table::{EdgeMean, table_mean};
 use dd_transfer::Graph;
@@ -79,14 +80,39 @@ pub fn least_mean(alloc: Global, graph: &Graph) -> Result<Mean, AllocError>
     ensures { IfOk result (IsMeanOf graph.now) }
 {
     let edges = edges(alloc, graph)?;
-    let found = sought(alloc, graph.states(), edges.as_slice())?;
-    match confirmed_mean(graph, edges.as_slice(), found) {
+    match sought_mean(alloc, graph, edges.as_slice())? {
         Some(mean) => Ok(mean),
         None => mean_over(alloc, graph, edges.as_slice()),
     }
 }
 
-/// What was found, where the exact check confirms it.
+/// What the search finds, where the exact check confirms it.
+fn sought_mean(alloc: Global, graph: &Graph, edges: &[Edge]) -> Result<Option<Mean>, AllocError>
+    requires { AreEdges graph.now edges.now }
+    ensures { IfOk result (λ found. IfSome found (IsMeanOf graph.now)) }
+{
+    match sought_ranks(alloc, graph.states(), edges)? {
+        Some(ranks) => Ok(confirmed_ranks(graph, edges, ranks)),
+        None => {
+            let found = sought(alloc, graph.states(), edges)?;
+            Ok(confirmed_mean(graph, edges, found))
+        }
+    }
+}
+
+/// No cycle, where the exact check confirms the ranks.
+fn confirmed_ranks(graph: &Graph, edges: &[Edge], ranks: Items<u32>) -> Option<Mean>
+    requires { AreEdges graph.now edges.now }
+    ensures { IfSome result (IsMeanOf graph.now) }
+{
+    if are_ranks(graph, edges, ranks.as_slice()) {
+        Some(Mean::NoCycle { ranks })
+    } else {
+        None
+    }
+}
+
+/// A cycle and potentials, where the exact check confirms them.
 fn confirmed_mean(graph: &Graph, edges: &[Edge], found: Found) -> Option<Mean>
     requires { AreEdges graph.now edges.now }
     ensures { IfSome result (IsMeanOf graph.now) }

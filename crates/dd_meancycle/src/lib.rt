@@ -5,6 +5,7 @@ mod confirming;
 mod edges;
 mod least;
 mod levels;
+mod ordering;
 mod rises;
 mod seeking;
 mod table;

@@ -1,7 +1,9 @@
-//! The search for a cycle and potentials, whose answer is checked afterwards: the mean falls from cycle to cycle, each found
-//! where potentials that are relaxed with a mean don't come to rest (after E. Lawler, 1976).
+//! The search for a cycle of least mean and potentials: the mean falls from cycle to cycle, each found where potentials that are
+//! lowered along the edges with the last cycle's mean don't come to rest (after E. Lawler, 1976). What is found is checked
+//! afterwards, so no contract says what it is.
 
 use crate::edges::Edge;
+use crate::rises::{Ratio, reduced};
 use dd_values::Items;
 use std::alloc::{AllocError, Global};
 
@@ -15,12 +17,18 @@ pub(crate) struct Found {
 /// How many rounds of relaxation there are at most, before the search is given up.
 const MOST_ROUNDS: u32 = 4096;
 
-/// The mean with which potentials are relaxed: so much weight over so many edges.
+/// The mean with which potentials are lowered: so much weight over so many edges.
 #[derive(Clone, Copy)]
 struct Slope {
     weight: i64,
     length: i64,
 }
+
+/// Steeper than each edge, so that the first cycle is found at once.
+const STEEPEST: Slope = Slope {
+    weight: 1 << 40,
+    length: 1,
+};
 
 /// Lowers potentials along the edges, and marks the last edge by which each was lowered. Whether one was.
 fn lower_all(
@@ -116,25 +124,39 @@ fn cycle_through(
     state: u32,
 ) -> Result<(Items<u32>, Slope), AllocError> {
     let mut back = Vec::new(alloc);
-    let mut slope = Slope {
-        weight: 0,
-        length: 0,
-    };
+    let mut weight = 0u64;
     let mut at = state;
     for _ in 0..parents.len() {
         let Some(edge) = parent(parents, at) else {
             break;
         };
         back.push(at)?;
-        slope.weight = slope.weight.wrapping_add(edge.weight as i64);
-        slope.length = slope.length.wrapping_add(1);
+        weight = weight.wrapping_add(edge.weight as u64);
         at = edge.from;
         if at == state {
             break;
         }
     }
+    let length = back.len() as u64;
     let states = reversed(alloc, back.as_slice())?;
-    Ok((states, slope))
+    Ok((states, slope_of(weight, length)))
+}
+
+/// The mean in lowest terms, as the check of the potentials takes it.
+fn slope_of(weight: u64, length: u64) -> Slope {
+    if length == 0 {
+        return STEEPEST;
+    }
+    let mean = reduced(Ratio { weight, length });
+    Slope {
+        weight: signed(mean.weight),
+        length: signed(mean.length),
+    }
+}
+
+/// A number as a signed one; a cycle's weight and length are far below the greatest.
+fn signed(number: u64) -> i64 {
+    i64::try_from(number).unwrap_or(i64::MAX)
 }
 
 fn reversed(alloc: Global, states: &[u32]) -> Result<Items<u32>, AllocError> {
@@ -146,13 +168,9 @@ fn reversed(alloc: Global, states: &[u32]) -> Result<Items<u32>, AllocError> {
 pub(crate) fn sought(alloc: Global, states: u32, edges: &[Edge]) -> Result<Found, AllocError> {
     let count = states as usize;
     let mut potentials = vec![in alloc; 0i64; count]?;
-    let mut cycle = Items::new(alloc);
-    // Steeper than each edge, so that the first cycle is found at once.
-    let mut slope = Slope {
-        weight: 1 << 40,
-        length: 1,
-    };
     let mut parents = vec![in alloc; None; count]?;
+    let mut cycle = Items::new(alloc);
+    let mut slope = STEEPEST;
     for _ in 0..MOST_ROUNDS {
         if !lower_all(
             edges,
@@ -163,9 +181,7 @@ pub(crate) fn sought(alloc: Global, states: u32, edges: &[Edge]) -> Result<Found
             break;
         }
         if let Some(state) = state_on_cycle(alloc, parents.as_slice())? {
-            let (states, mean) = cycle_through(alloc, parents.as_slice(), state)?;
-            cycle = states;
-            slope = mean;
+            (cycle, slope) = cycle_through(alloc, parents.as_slice(), state)?;
             potentials = vec![in alloc; 0i64; count]?;
             parents = vec![in alloc; None; count]?;
         }

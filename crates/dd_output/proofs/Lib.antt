@@ -15,3 +15,4 @@ pub mod Rows
 pub mod AnswerRows
 pub mod Outputs
 pub mod Whole
+pub mod Written

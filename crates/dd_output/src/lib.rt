@@ -11,8 +11,10 @@ mod output;
 mod promises;
 mod reading;
 mod sides;
+mod writing;
 
 pub use fault::CertificateFault;
 pub use output::Output;
 pub use promises::{completes, one_offset, one_output, read_again};
 pub use reading::read_output;
+pub use writing::write_output;

@@ -1,7 +1,9 @@
 -- A product with 0 has no number that its factors have not, and changes nothing.
-use Rattle.std.proofs.Common.{◌≡◌, ℕ, ◌*◌, ◌%◌, true, refl, sym, ap, subst, ◌∙◌, arith}
+use Rattle.std.proofs.Common.{◌≡◌, ℕ, ◌*◌, ◌%◌, true, nat_eq, refl, sym, ap, subst, ◌∙◌, arith}
 use Rattle.std.specs.Int.RustNames.{unsigned_abs}
-use Rattle.std.proofs.lemmas.Int.{ints}
+use Rattle.std.proofs.lemmas.Int.{ints, to_z-of_z}
+use Rattle.std.specs.Int.{w128}
+use mir.Val.{SFits, to_z, of_z}
 use lib.IntN.{ℤ, pos, ◌+ℤ◌, ◌*ℤ◌}
 use Rattle.dd_fraction.specs.Divisor.{greatest_common}
 use Rattle.dd_fraction.specs.Exact.{Exact, plus, minus}
@@ -25,6 +27,12 @@ zero_fraction_is b f e = exact_same b zero_of e den
         sym (greatest_common-zero b.den)
         ∙ (ap (greatest_common b.den) (sym left)
         ∙ (sym (greatest_common-step 0 b.den f.above) ∙ (ap (λ (z : ℤ). greatest_common (unsigned_abs z) b.den) (sym e) ∙ f.alone)))
+
+-- a signed number whose bits are 0
+pub zero_from : (x : ℤ) → SFits w128 x → nat_eq (of_z w128 x) 0 ≡ true → x ≡ pos 0
+zero_from x f h =
+    let z : of_z w128 x ≡ 0 = grind (arith, h) in
+    sym (to_z-of_z w128 x f) ∙ ap (to_z w128) z
 
 bounded_zero : is_bounded (pos 0) ≡ true
 bounded_zero = refl

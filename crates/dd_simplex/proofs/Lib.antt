@@ -4,6 +4,7 @@ pub mod Endings
 pub mod Equations
 pub mod Firsts
 pub mod Idle
+pub mod IdleLines
 pub mod LineSteps
 pub mod PivotStanding
 pub mod PivotTests

@@ -9,16 +9,20 @@ use Rattle.dd_fraction.specs.Exact.{Exact, plus, times}
 use Rattle.std.proofs.lemmas.List.{length-map, get_or-set_same}
 use Rattle.dd_simplex.proofs.CellSteps.{solved_size}
 
+-- the leaving line and those behind it
+pub parted : (rows back : List Line) (leaving : Line) (r : ℕ) → r < length rows → drop r rows ≡ leaving ∷ back → (leaving ≡ line_at rows r) × (back ≡ drop (suc r) rows)
+parted rows back leaving r p s =
+    let at : drop r rows ≡ line_at rows r ∷ drop (suc r) rows = drop-cons rows r (record { basic = 0; bound = zero_of; cells = [] }) p in
+    let both : leaving ∷ back ≡ line_at rows r ∷ drop (suc r) rows = sym s ∙ at in
+    (cc, cc)
+
 pub back_sizes : (rows back : List Line) (leaving new : Line) (r v e : ℕ) → r < length rows → drop r rows ≡ leaving ∷ back
     → All (λ l. length l.cells ≡ length (line_at rows r).cells) rows → new ≡ solved_line v e leaving → All (λ l. length l.cells ≡ length new.cells) back
 back_sizes rows back leaving new r v e p s sizes n =
-    let at : drop r rows ≡ line_at rows r ∷ drop (suc r) rows = drop-cons rows r (record { basic = 0; bound = zero_of; cells = [] }) p in
-    let both : leaving ∷ back ≡ line_at rows r ∷ drop (suc r) rows = sym s ∙ at in
-    let same : back ≡ drop (suc r) rows = cc in
-    let first : leaving ≡ line_at rows r = cc in
-    let size : length new.cells ≡ length (line_at rows r).cells = ap (λ (l : Line). length l.cells) n ∙ solved_size v e leaving _ (ap (λ (l : Line). length l.cells) first) in
+    let parts = parted rows back leaving r p s in
+    let size : length new.cells ≡ length (line_at rows r).cells = ap (λ (l : Line). length l.cells) n ∙ solved_size v e leaving _ (ap (λ (l : Line). length l.cells) parts.0) in
     All-weaker (λ l. length l.cells ≡ length (line_at rows r).cells) (λ l. length l.cells ≡ length new.cells) (λ l h. h ∙ sym size) back
-    (subst (All (λ l. length l.cells ≡ length (line_at rows r).cells)) (sym same) (All-drop (λ l. length l.cells ≡ length (line_at rows r).cells) (suc r) rows sizes))
+    (subst (All (λ l. length l.cells ≡ length (line_at rows r).cells)) (sym parts.1) (All-drop (λ l. length l.cells ≡ length (line_at rows r).cells) (suc r) rows sizes))
 
 -- the rows after a turn, as the dictionary has them
 rows_go : {A B : Type 0} (f : A → B) (xs : List A) (r : ℕ) (p : B) → r < length xs → map f (take r xs) ++ p ∷ map f (drop (suc r) xs) ≡ slice_set (map f xs) r p

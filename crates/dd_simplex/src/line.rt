@@ -5,7 +5,7 @@ ghost use lib.IntN.{pos};
 ghost use Rattle.dd_fraction.specs.Exact.{Exact, times, inverse};
 ghost use Rattle.dd_fraction.specs.Checked.{does_product_fit};
 ghost use Rattle.dd_simplex.specs.Programs.{fraction_at};
-ghost use Rattle.dd_simplex.specs.table.Lines.{IsIdle, less, do_all_less_fit, solved_line, does_solved_fit, changed_line, does_changed_fit, line_at, changed_lines, do_lines_fit};
+ghost use Rattle.dd_simplex.specs.table.Lines.{IsIdle, HasFractions, less, do_all_less_fit, solved_line, does_solved_fit, changed_line, does_changed_fit, line_at, changed_lines, do_lines_fit};
 
 use dd_fraction::Fraction;
 use std::marker::Model;
@@ -50,8 +50,24 @@ impl Line {
         divide(self.cells.as_mut_slice(), &cell)
     }
 
-    /// Puts the solved line in place of the variable at the place `e`. False where a number is too large.
+    /// Puts the solved line in place of the variable at the place `e`. False where a number is too large. A line without
+    /// this variable is not touched.
     pub fn substitute(&mut self, e: usize, pivot: &Line) -> bool
+        requires place { e < length self.old.cells }
+        requires size { length self.old.cells ≡ length pivot.now.cells }
+        requires own { HasFractions self.old }
+        requires pivot { HasFractions pivot.now }
+        ensures fits { result ≡ does_changed_fit e pivot.now self.old }
+        ensures value { result ≡ true → self.new ≡ changed_line e pivot.now self.old }
+    {
+        if is_zero(&self.cells[e]) {
+            return true;
+        }
+        self.take_multiple(e, pivot)
+    }
+
+    /// Takes the solved line, times the cell at `e`, from the line.
+    fn take_multiple(&mut self, e: usize, pivot: &Line) -> bool
         requires place { e < length self.old.cells }
         requires size { length self.old.cells ≡ length pivot.now.cells }
         ensures fits { result ≡ does_changed_fit e pivot.now self.old }
@@ -68,6 +84,12 @@ impl Line {
         self.cells[e] = Fraction::whole(0);
         subtract(self.cells.as_mut_slice(), &factor, pivot.cells.as_slice())
     }
+}
+
+fn is_zero(fraction: &Fraction) -> bool
+    ensures { result ≡ true → fraction.now.num ≡ pos 0 }
+{
+    fraction.num() == 0
 }
 
 /// Divides each cell. False where a number is too large; then some cells are divided.
@@ -121,6 +143,8 @@ fn is_idle(cell: &Fraction, factor: &Fraction, other: &Fraction) -> bool
 fn substitute_each(lines: &mut [Line], e: usize, pivot: &Line) -> bool
     requires place { e < length pivot.now.cells }
     requires sizes { All (λ l. length l.cells ≡ length pivot.now.cells) lines.old }
+    requires fractions { All HasFractions lines.old }
+    requires pivot { HasFractions pivot.now }
     ensures fits { result ≡ list_all (does_changed_fit e pivot.now) lines.old }
     ensures value { result ≡ true → lines.new ≡ map (changed_line e pivot.now) lines.old }
 {
@@ -139,6 +163,7 @@ pub fn pivot_lines(lines: &mut [Line], e: usize, r: usize, entering: usize) -> b
     requires place { e < length (line_at lines.old r).cells }
     requires cell { (fraction_at (line_at lines.old r).cells e).num ≢ pos 0 }
     requires sizes { All (λ l. length l.cells ≡ length (line_at lines.old r).cells) lines.old }
+    requires fractions { All HasFractions lines.old }
     ensures fits { result ≡ do_lines_fit e r entering lines.old }
     ensures value { result ≡ true → lines.new ≡ changed_lines e r entering lines.old }
 {

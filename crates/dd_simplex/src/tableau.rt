@@ -5,7 +5,7 @@ ghost use lib.IntN.{pos};
 ghost use Rattle.dd_simplex.specs.declared.fault.SimplexFault.TheVariants.{Overflow};
 ghost use Rattle.dd_fraction.specs.Exact.{plus, times};
 ghost use Rattle.dd_simplex.specs.Programs.{fraction_at, zero_of};
-ghost use Rattle.dd_simplex.specs.table.Lines.{Line as LineValue, Table, line_at, changed_table, does_table_fit, does_objective_fit, less};
+ghost use Rattle.dd_simplex.specs.table.Lines.{HasFractions, Line as LineValue, Table, line_at, changed_table, does_table_fit, does_objective_fit, less};
 ghost use Rattle.dd_simplex.specs.table.Standing.{IsTable};
 ghost use Rattle.dd_simplex.specs.table.Steps.{DoesEnter, HasTurned, IsStuck};
 ghost use Rattle.dd_simplex.specs.table.Choices.{IsChosen, does_enter, EntersBefore, does_limit, LeavesBefore, DoRatiosFit, HasMisfit, does_precede};
@@ -67,6 +67,7 @@ impl Tableau {
     /// Makes the variable at the place `e` basic in the line `r`. False where a number is too large; then the tableau is
     /// half changed.
     pub fn pivot(&mut self, e: usize, r: usize) -> bool
+        requires fractions { All HasFractions self.old.lines }
         requires line { r < length self.old.lines }
         requires place { e < length self.old.others }
         requires cell { (fraction_at (line_at self.old.lines r).cells e).num ≢ pos 0 }

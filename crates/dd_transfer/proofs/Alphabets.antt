@@ -44,7 +44,7 @@ all_allowed r w full h c =
 abbrev pub cell_of : Strip → ℕ → Cell
 cell_of s k = cell_at s (pos (k / cells s)) (k % cells s)
 
-some_cells : (s : Strip) → IsSized s → 0 < cells s
+pub some_cells : (s : Strip) → IsSized s → 0 < cells s
 some_cells s sized = positive s.nodes s.y s.z sized.nodes_some sized.y_some sized.z_some
   where
     positive : (a b c : ℕ) → 0 < a → 0 < b → 0 < c → 0 < a * (b * c)

@@ -5,3 +5,7 @@ pub mod Truths
 pub mod Alphabets
 pub mod Sizes
 pub mod Written
+pub mod Numbers
+pub mod Slicing
+pub mod Moving
+pub mod Following

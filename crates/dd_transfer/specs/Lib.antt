@@ -4,3 +4,8 @@ pub mod Graphs
 pub mod Windows
 -- what the public call promises
 pub mod Transfers
+-- what certifies the least density of a strip
+pub mod Certificates
+-- the slices of a look, and the edges that they make
+pub mod Slices
+pub mod Laws

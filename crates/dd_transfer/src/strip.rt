@@ -8,7 +8,7 @@ use dd_lattice::{Cell, Position};
 /// The periods of a strip in the axes after the first, and the nodes of a position. A slice has the cells of one `x` whose
 /// other coordinates are at least 0 and less than the periods.
 #[derive(Debug, Clone, Copy)]
-pub(crate) struct Strip {
+pub struct Strip {
     pub y: u32,
     pub z: u32,
     pub nodes: u32,

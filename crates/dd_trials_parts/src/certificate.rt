@@ -3,7 +3,7 @@
 use dd_certificate::{Answer, Listed, Reason, Side, answer_line, write_answer};
 use dd_clause::{Clause, Literal};
 use dd_derivation::Step;
-use dd_output::{CertificateFault, Output, read_output};
+use dd_output::{CertificateFault, read_output, write_output};
 use dd_values::Items;
 use std::alloc::{AllocError, Global};
 use std::test::Fail;
@@ -157,20 +157,6 @@ fn refused_at(alloc: Global, text: &[u8]) -> Option<u64> {
     }
 }
 
-fn written(alloc: Global, output: &Output) -> Result<Vec<u8>, AllocError> {
-    let mut text = format!(in alloc; "diddy 1\nscript {}\n", output.script.len())?.into_bytes();
-    text.extend_from_slice(output.script.as_slice())?;
-    text.push(b'\n')?;
-    let mut number = 0u32;
-    for answer in output.answers.as_slice() {
-        number = number.wrapping_add(1);
-        let answer = write_answer(alloc, number, answer)?;
-        text.extend_from_slice(answer.as_slice())?;
-    }
-    text.extend_from_slice(b"end\n")?;
-    Ok(text)
-}
-
 const SCRIPT: &str = "%dim 1\n%rule x o=0 & o=1\n%empty x\n";
 
 const LINES: &str = "query 1 YES 0\nrefutation 1\nstep 0 6 3 4 2 0 0\nend\n";
@@ -188,7 +174,7 @@ fn reads_what_was_written(rt: HostRuntime) -> Result<(), Fail> {
             match read_output(alloc, text.as_slice()) {
                 Ok(output) => {
                     assert_eq!(rt; output.script.as_slice(), b"%dim ".as_slice());
-                    assert_eq!(rt; written(alloc, &output)?.as_slice(), text.as_slice());
+                    assert_eq!(rt; write_output(alloc, &output)?.as_slice(), text.as_slice());
                 }
                 Err(_) => assert!(rt; false),
             }

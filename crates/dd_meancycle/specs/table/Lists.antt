@@ -1,5 +1,5 @@
 -- The edges of a transfer graph as a list.
-use Rattle.std.specs.Prelude.{◌≡◌, ℕ, ◌*◌, ◌/◌, ◌%◌, ◌<◌, List, map, ℤ, pos, ◌-ℤ◌, ◌≤ℤ◌, Option, Some}
+use Rattle.std.specs.Prelude.{◌≡◌, ℕ, ◌*◌, ◌/◌, ◌%◌, ◌<◌, List, map, slice_index, ℤ, pos, ◌-ℤ◌, ◌≤ℤ◌, Option, Some}
 use Rattle.std.specs.Option.{option_map}
 use Rattle.std.specs.List.{Contains, All}
 use Rattle.dd_transfer.specs.Graphs.{Transfer, next_of, weight_at}
@@ -25,6 +25,10 @@ AreEdges g edges = AreEdgesTo g (g.states * g.slices) edges
 -- along each of the edges the potential rises by at most l times its weight less m
 abbrev pub IsRisen : ℕ → ℕ → List ℤ → List Edge → Type 0
 IsRisen m l ps edges = All (λ e. (potential ps e.to -ℤ potential ps e.from) ≤ℤ (pos (l * e.weight) -ℤ pos m)) edges
+
+-- along each of the edges the rank falls
+abbrev pub IsFallen : List ℕ → List Edge → Type 0
+IsFallen ranks edges = All (λ e. slice_index ranks e.to < slice_index ranks e.from) edges
 
 -- the same answer by the states to which the cycle's edges lead
 abbrev pub IsInStates : EdgeMean → Mean → Type 0

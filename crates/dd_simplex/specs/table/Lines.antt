@@ -1,8 +1,8 @@
 -- What the code keeps of a dictionary: its lines, and one pivot of them, place by place.
 use Rattle.std.specs.Prelude.{◌≡◌, true, ℕ, ◌+◌, List, [], ◌∷◌, ◌++◌, map, take, drop, Bool, true, ◌&&◌, slice_index_or, slice_set}
-use Rattle.std.specs.List.{list_all}
+use Rattle.std.specs.List.{list_all, All}
 use Rattle.dd_fraction.specs.Exact.{Exact, plus, times, minus, inverse}
-use Rattle.dd_fraction.specs.Checked.{does_product_fit, does_sum_fit}
+use Rattle.dd_fraction.specs.Checked.{IsFraction, does_product_fit, does_sum_fit}
 use Rattle.dd_simplex.specs.Programs.{fraction_at, zero_of, one_of}
 
 -- `basic = bound - Σ cell · other`
@@ -96,6 +96,11 @@ abbrev pub does_table_fit : ℕ → ℕ → Table → Bool
 does_table_fit e r t =
     let pivot = solved_line (other_at t.others e) e (line_at t.lines r) in
     do_lines_fit e r (other_at t.others e) t.lines && does_objective_fit e pivot t.value t.costs
+
+-- the numbers of a line are in lowest terms, and at most 2^127 - 1 in absolute value
+pub record HasFractions (l : Line) : Type 0 where
+  pub bound : IsFraction l.bound
+  pub cells : All IsFraction l.cells
 
 -- taking q · b from a changes nothing, and no number of it is too large
 pub record IsIdle (a q b : Exact) : Type 0 where

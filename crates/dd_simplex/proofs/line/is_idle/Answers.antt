@@ -1,15 +1,8 @@
-use Rattle.std.proofs.Common.{◌≡◌, true, nat_eq, sym, ap, ◌∙◌, rules, arith, to_z, of_z}
+use Rattle.std.proofs.Common.{sym, ◌∙◌, rules}
 use Rattle.std.specs.Int.{w128}
-use Rattle.std.proofs.lemmas.Int.{to_z-of_z}
-use lib.IntN.{ℤ, pos}
 use mir.Val.{SFits}
-use Rattle.dd_simplex.proofs.Idle.{idle_left, idle_right}
+use Rattle.dd_simplex.proofs.Idle.{zero_from, idle_left, idle_right}
 use Rattle.dd_simplex.proofs.line.is_idle.Goals as goal
-
-zero_from : (x : ℤ) → SFits w128 x → nat_eq (of_z w128 x) 0 ≡ true → x ≡ pos 0
-zero_from x f h =
-    let z : of_z w128 x ≡ 0 = grind (arith, h) in
-    sym (to_z-of_z w128 x f) ∙ ap (to_z w128) z
 
 pub returns-then-num-eq0 : goal.returns-then-num-eq0
 returns-then-num-eq0 c = λ h.

@@ -1,0 +1,58 @@
+-- The edges of a transfer graph.
+use Rattle.std.proofs.Common.{◌≡◌, ℕ, ◌+◌, ◌*◌, ◌/◌, ◌%◌, ◌<◌, ◌≤◌, ◌^◌, Bool, true, false, cond, Some, None, arith, refl, sym, ap, ◌∙◌}
+use Rattle.std.specs.Prelude.{◌&&◌, nat_lt, slice_index_or}
+use Rattle.std.proofs.lemmas.Bool.Decides.{nat_tests}
+use Rattle.std.proofs.lemmas.Nat.{mod-mul-add, mod_below}
+use Rattle.std.proofs.Math.Nat.{mul-le-mul_right}
+use Rattle.dd_transfer.specs.Graphs.{Transfer, IsTransfer, target, next_of, window_of, weight_at}
+
+-- what an edge of a graph is
+pub record Step (g : Transfer) (u t v : ℕ) : Type 0 where
+  pub state : u < g.states
+  pub slice : t < g.slices
+  pub leads : v ≡ window_of g u t % g.states
+
+led : (open_ : Bool) (x v : ℕ) → cond open_ (Some x) None ≡ Some v → v ≡ x
+led true x v h = cc
+led false x v h = absurd (cc)
+
+step_at : (g : Transfer) (u t v : ℕ) (p q : Bool) → nat_lt u g.states ≡ p → nat_lt t g.slices ≡ q → cond (p && q) (target g (window_of g u t)) None ≡ Some v → Step g u t v
+step_at g u t v true true p q h = record {
+  state = grind (arith, nat_tests);
+  slice = grind (arith, nat_tests);
+  leads = led (slice_index_or g.windows (window_of g u t) false) (window_of g u t % g.states) v h;
+}
+step_at g u t v true false p q h = absurd (cc)
+step_at g u t v false true p q h = absurd (cc)
+step_at g u t v false false p q h = absurd (cc)
+
+pub step : (g : Transfer) (u t v : ℕ) → next_of g u t ≡ Some v → Step g u t v
+step g u t v h = step_at g u t v (nat_lt u g.states) (nat_lt t g.slices) refl refl h
+
+pub below_states : (g : Transfer) (u t v : ℕ) → IsTransfer g → next_of g u t ≡ Some v → v < g.states
+below_states g u t v well h = rw (step g u t v h).leads (mod_below (window_of g u t) g.states well.some_state)
+
+-- a state's last slice is its number modulo the slices
+mod_of_multiple : (x s n : ℕ) → 0 < s → 0 < n → n % s ≡ 0 → x % n % s ≡ x % s
+mod_of_multiple x s n some more h =
+    let q = x / n in
+    let k = n / s in
+    let split : x ≡ q * n + x % n = omega arith in
+    let whole : n ≡ k * s = omega arith in
+    let r = x % n % s in
+    let j = x % n / s in
+    let inner : x % n ≡ j * s + r = omega arith in
+    let all : x ≡ (q * k + j) * s + r = (let p : q * n ≡ q * (k * s) = ap (λ (z : ℕ). q * z) whole in omega arith) in
+    let small : r < s = mod_below (x % n) s some in
+    sym (ap (λ (z : ℕ). z % s) all ∙ mod-mul-add (q * k + j) s r small)
+
+pub last_slice : (g : Transfer) (u t v : ℕ) → IsTransfer g → next_of g u t ≡ Some v → v % g.slices ≡ t
+last_slice g u t v well h =
+    let s = step g u t v h in
+    ap (λ (x : ℕ). x % g.slices) s.leads ∙ (mod_of_multiple (window_of g u t) g.slices g.states well.some_slice well.some_state well.divides ∙ mod-mul-add u g.slices t s.slice)
+
+-- a slice weighs at most 2^25
+pub weight_small : (g : Transfer) (t : ℕ) → IsTransfer g → t < g.slices → weight_at g t ≤ 2 ^ 25
+weight_small g t well lt =
+    let once : 1 * weight_at g t ≤ g.states * weight_at g t = mul-le-mul_right (weight_at g t) well.some_state in
+    omega (arith, once, well.light t lt)

@@ -1,0 +1,27 @@
+-- What the least density of a strip is answered with.
+use Rattle.std.specs.Prelude.{ℕ, ◌≤◌, ◌^◌, ℤ, unsigned_abs, List, length}
+use Rattle.std.specs.List.{All}
+use Rattle.dd_formula.specs.LocalRule.{LocalRule}
+use Rattle.dd_counts.specs.Rules.{states}
+use Rattle.dd_transfer.specs.declared.strip.Strip.{Strip}
+use Rattle.dd_transfer.specs.Windows.{positions}
+use Rattle.dd_transfer.specs.Certificates.{IsDensityCertificate, IsEmptyCertificate}
+use Rattle.dd_density.specs.declared.answer.Density.{Density}
+use Rattle.dd_density.specs.declared.answer.Density.TheVariants.{Least, Empty}
+
+-- the density with what certifies it, or what shows that there is none
+abbrev pub IsCertified : LocalRule → Strip → List ℕ → Density → Type 0
+IsCertified r s weights (Least p q walk ps) = IsDensityCertificate r s weights p q walk ps
+IsCertified r s weights (Empty ranks) = IsEmptyCertificate r s ranks
+
+-- no number is greater than 2^40, and no walk has more states than the graph
+pub record IsSmallLeast (r : LocalRule) (s : Strip) (p q : ℕ) (walk : List ℕ) (ps : List ℤ) : Type 0 where
+  pub numerator : p ≤ 2 ^ 40
+  pub denominator : q ≤ 2 ^ 40
+  pub short : length walk ≤ states r (positions s)
+  pub walked : All (λ u. u ≤ 2 ^ 40) walk
+  pub potentials : All (λ x. unsigned_abs x ≤ 2 ^ 40) ps
+
+abbrev pub IsSmall : LocalRule → Strip → Density → Type 0
+IsSmall r s (Least p q walk ps) = IsSmallLeast r s p q walk ps
+IsSmall r s (Empty ranks) = All (λ x. x ≤ 2 ^ 40) ranks

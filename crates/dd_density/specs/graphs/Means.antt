@@ -1,0 +1,25 @@
+-- The density of a least mean over the positions of a slice.
+use Rattle.std.specs.Prelude.{◌≡◌, ℕ, ◌*◌, ◌<◌, ◌≤◌, ◌^◌, List, ℤ}
+use Rattle.std.specs.List.{All}
+use Rattle.dd_transfer.specs.Certificates.{IsLowest}
+use Rattle.dd_meancycle.specs.declared.least.Mean.{Mean}
+use Rattle.dd_meancycle.specs.declared.least.Mean.TheVariants as mean
+use Rattle.dd_density.specs.declared.answer.Density.{Density}
+use Rattle.dd_density.specs.declared.answer.Density.TheVariants.{Least, Empty}
+
+-- a mean of small numbers, also over so many positions
+abbrev pub IsMeanOver : ℕ → Mean → Type 0
+IsMeanOver volume (mean.Least m l cycle ps) = (0 < l * volume) × (l * volume ≤ 2 ^ 40) × (m ≤ 2 ^ 40)
+IsMeanOver volume (mean.NoCycle ranks) = Unit {0}
+
+pub record IsDensityOf (volume m l : ℕ) (cycle : List ℕ) (ps : List ℤ) (p q : ℕ) (walk : List ℕ) (qs : List ℤ) : Type 0 where
+  pub density : IsLowest p q m (l * volume)
+  pub walk_is : walk ≡ cycle
+  pub potentials_are : qs ≡ ps
+  pub small : All (λ u. u < 2 ^ 32) walk
+
+abbrev pub IsOfMean : ℕ → Mean → Density → Type 0
+IsOfMean volume (mean.Least m l cycle ps) (Least p q walk qs) = IsDensityOf volume m l cycle ps p q walk qs
+IsOfMean volume (mean.Least m l cycle ps) (Empty ranks) = ⊥
+IsOfMean volume (mean.NoCycle ranks) (Least p q walk qs) = ⊥
+IsOfMean volume (mean.NoCycle ranks) (Empty given) = (given ≡ ranks) × All (λ x. x < 2 ^ 32) given

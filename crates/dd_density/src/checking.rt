@@ -1,0 +1,47 @@
+//! The checks of what certifies the least density of a strip.
+ghost use Rattle.std.specs.Prelude.{◌↔◌, IsTrue, IfOk};
+ghost use Rattle.dd_transfer.specs.Transfers.{IsStrip, HasWeights, IsFew, strip_for};
+ghost use Rattle.dd_transfer.specs.Certificates.{IsDensityCertificate, IsEmptyCertificate};
+
+use crate::claims::{are_ranks, is_shown};
+use crate::strips::{graph_of, no_weights};
+use dd_formula::Rule;
+use std::alloc::{AllocError, Global};
+
+/// Whether a closed walk of states and a potential for each state show that `numerator / denominator`, in lowest terms, is the
+/// least density of the configurations of a strip, where each symbol weighs as much as its weight says.
+pub fn check_density(
+    alloc: Global,
+    rule: &Rule,
+    strip: [u32; 2],
+    weights: &[u32],
+    numerator: u64,
+    denominator: u64,
+    walk: &[u64],
+    potentials: &[i64],
+) -> Result<bool, AllocError>
+    requires strip { IsStrip rule.now strip }
+    requires weights { HasWeights rule.now weights.now }
+    requires few { IsFew rule.now (strip_for rule.now strip) }
+    ensures { IfOk result (λ b. IsTrue b ↔ IsDensityCertificate rule.now (strip_for rule.now strip) weights.now numerator denominator walk.now potentials.now) }
+{
+    let graph = graph_of(alloc, rule, strip, weights)?;
+    let volume = strip[0] * strip[1];
+    Ok(is_shown(&graph, volume, numerator, denominator, walk, potentials))
+}
+
+/// Whether a rank for each state falls along each edge, so that the strip has no configuration with a period along it.
+pub fn check_empty(
+    alloc: Global,
+    rule: &Rule,
+    strip: [u32; 2],
+    ranks: &[u64],
+) -> Result<bool, AllocError>
+    requires strip { IsStrip rule.now strip }
+    requires few { IsFew rule.now (strip_for rule.now strip) }
+    ensures { IfOk result (λ b. IsTrue b ↔ IsEmptyCertificate rule.now (strip_for rule.now strip) ranks.now) }
+{
+    let weights = no_weights(alloc, rule)?;
+    let graph = graph_of(alloc, rule, strip, weights.as_slice())?;
+    Ok(are_ranks(&graph, ranks))
+}

@@ -1,0 +1,33 @@
+//! The transfer graph of a strip that isn't too large.
+ghost use Rattle.std.specs.Prelude.{◌≡◌, IfOk, replicate};
+ghost use Rattle.dd_transfer.specs.Transfers.{IsStrip, HasWeights, IsGraphOf, IsFew, strip_for};
+
+use dd_formula::Rule;
+use dd_transfer::{Graph, TransferFault, graph};
+use std::alloc::{AllocError, Global};
+
+/// The transfer graph of a strip that isn't too large.
+pub(crate) fn graph_of(
+    alloc: Global,
+    rule: &Rule,
+    strip: [u32; 2],
+    weights: &[u32],
+) -> Result<Graph, AllocError>
+    requires strip { IsStrip rule.now strip }
+    requires weights { HasWeights rule.now weights.now }
+    requires few { IsFew rule.now (strip_for rule.now strip) }
+    ensures { IfOk result (IsGraphOf rule.now (strip_for rule.now strip) weights.now) }
+{
+    match graph(alloc, rule, strip, weights) {
+        Ok(graph) => Ok(graph),
+        Err(TransferFault::Memory) => Err(AllocError),
+        Err(TransferFault::Size) => unreachable!(),
+    }
+}
+
+/// The weight 0 for each symbol.
+pub(crate) fn no_weights(alloc: Global, rule: &Rule) -> Result<Vec<u32>, AllocError>
+    ensures { IfOk result (λ ws. HasWeights rule.now ws.items) }
+{
+    vec![in alloc; 0; rule.symbols() as usize]
+}

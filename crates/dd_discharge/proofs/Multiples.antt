@@ -1,0 +1,139 @@
+-- Least common denominators: each denominator divides them.
+use Rattle.std.proofs.Common.{◌≡◌, ℕ, zero, suc, ◌+◌, ◌*◌, ◌/◌, ◌%◌, ◌<◌, ◌≤◌, List, [], ◌∷◌, length, get_or, drop, drop-cons, max, Bool, true, false, cond, Some, None, refl, sym, ap, subst, ◌∙◌, arith}
+use Prim.Native.Nat.{◌∣◌}
+use lib.IntN.{ℤ, pos}
+use Rattle.std.specs.Int.{IsGcd}
+use Rattle.std.specs.Int.RustNames.{unsigned_abs}
+use Rattle.std.proofs.lemmas.Bool.{lt-leb, le-leb, leb-true, leb-false}
+use Rattle.std.proofs.Math.Dec.{leb}
+use Rattle.std.proofs.Math.Seq.{drop-length}
+use Rattle.std.specs.List.{fold}
+use Rattle.std.proofs.lemmas.Nat.{mod_below}
+use Rattle.std.proofs.lemmas.Nat.Gcd.{IsGcd-from_zero, IsGcd-from_mod, dvd_trans, dvd_refl, le_of_dvd}
+use Rattle.std.proofs.Math.Nat.{div-mul_cancel, dvd-mul_left}
+use Rattle.dd_fraction.specs.Divisor.{common_within, greatest_common}
+use Rattle.dd_fraction.specs.Exact.{Exact, den_of, lowest}
+use Rattle.dd_fraction.specs.Checked.{IsFraction, does_pair_fit, fraction_of}
+use Rattle.dd_discharge.specs.Denominators.{least_common, joined, common_denominator, most_printed, printed}
+
+-- ---- Euclid's rule gives the greatest common divisor
+is_common : (n a b : ℕ) → b < n → IsGcd a b (common_within n a b)
+is_common zero a b p = absurd (omega (arith, p))
+is_common (suc n) a zero p = IsGcd-from_zero a 0 refl
+is_common (suc n) a (suc b) p =
+    let r : a % suc b < suc b = mod_below a (suc b) (omega arith) in
+    IsGcd-from_mod a (suc b) _ (is_common n (suc b) (a % suc b) (omega (arith, p, r)))
+
+pub greatest_common-is : (a b : ℕ) → IsGcd a b (greatest_common a b)
+unfolding greatest_common
+greatest_common-is a b = is_common (suc b) a b (omega arith)
+
+-- ---- a least common multiple is a multiple of both
+crossed : (p q g : ℕ) {a b : ℕ} → p * g ≡ a → q * g ≡ b → q * a ≡ p * b
+crossed p q g {a} {b} x y = omega (arith, ap (λ (t : ℕ). q * t) x, ap (λ (t : ℕ). p * t) y)
+
+pub least_common_front : (a b : ℕ) → a ∣ least_common a b
+least_common_front a b =
+    let g = greatest_common a b in
+    let d = greatest_common-is a b in
+    subst (λ (n : ℕ). a ∣ n) (crossed (a / g) (b / g) g (div-mul_cancel g d.0) (div-mul_cancel g d.1)) (dvd-mul_left a (b / g))
+
+pub least_common_back : (a b : ℕ) → b ∣ least_common a b
+least_common_back a b = dvd-mul_left b (a / greatest_common a b)
+
+positive_product : (x y : ℕ) → 0 < x → 0 < y → 0 < x * y
+positive_product x y p q = grind arith
+
+front_of : (q g : ℕ) {a : ℕ} → q * g ≡ a → 0 < a → 0 < q
+front_of zero g e p = absurd (omega (arith, e, p))
+front_of (suc q) g e p = omega arith
+
+pub least_common_above : (a b : ℕ) → 0 < a → 0 < b → 0 < least_common a b
+least_common_above a b p q =
+    let g = greatest_common a b in
+    positive_product (a / g) b (front_of (a / g) g (div-mul_cancel g (greatest_common-is a b).0) p) q
+
+-- ---- over a list
+pub den_above : (a : Exact) → 0 < den_of a
+den_above a = omega arith
+
+pub joined_above : (n : ℕ) (xs : List Exact) → 0 < n → 0 < fold joined n xs
+joined_above n [] p = p
+joined_above n (x ∷ xs) p = joined_above (joined n x) xs (least_common_above n (den_of x) p (den_above x))
+
+joined_divides : (n : ℕ) (xs : List Exact) → n ∣ fold joined n xs
+joined_divides n [] = dvd_refl n
+joined_divides n (x ∷ xs) = dvd_trans n (least_common_front n (den_of x)) (joined_divides (joined n x) xs)
+
+-- more denominators, and no smaller common one
+pub joined_grows : (n : ℕ) (xs : List Exact) → 0 < n → n ≤ fold joined n xs
+joined_grows n xs p = le_of_dvd (joined_above n xs p) (joined_divides n xs)
+
+pub each_divides : (n : ℕ) (xs : List Exact) (k : ℕ) (d : Exact) → k < length xs → den_of (get_or xs k d) ∣ fold joined n xs
+each_divides n [] k d p = absurd (omega (arith, p))
+each_divides n (x ∷ xs) zero d p = dvd_trans (den_of x) (least_common_back n (den_of x)) (joined_divides (joined n x) xs)
+each_divides n (x ∷ xs) (suc k) d p = each_divides (joined n x) xs k d (omega (arith, p))
+
+-- over the denominator d in lowest terms, n leaves what the two have not in common
+pub ratio_num : (n d : ℕ) (r : Exact) → 0 < d → r ≡ lowest (pos n) d → unsigned_abs r.num * d ≡ least_common n (max 1 d)
+unfolding lowest
+ratio_num n d r p e =
+    let s : max 1 d ≡ d = omega (arith, p) in
+    ap (λ (a : Exact). unsigned_abs a.num * d) e ∙ ap (λ (t : ℕ). n / greatest_common n (max 1 d) * t) (sym s)
+
+some_is : (b : Bool) (x r : Exact) → Some r ≡ cond b (Some x) None → r ≡ x
+some_is true x r e = cc
+some_is false x r e = absurd cc
+
+pub ratio_is : (n d : ℕ) (r : Exact) → Some r ≡ fraction_of (pos n) (pos d) → r ≡ lowest (pos n) d
+ratio_is n d r e = some_is (does_pair_fit (pos n) (pos d)) (lowest (pos n) d) r e
+
+-- ---- what can be printed
+pub printed_none : (n : ℕ) → most_printed < n → None ≡ printed n
+printed_none n p = rw (lt-leb n most_printed p) refl
+
+pub printed_some : (n : ℕ) → n ≤ most_printed → Some n ≡ printed n
+printed_some n p = rw (le-leb n most_printed p) refl
+
+-- the product that is tested, and the least common multiple
+pub multiple_is : (n : ℕ) (a r : Exact) (x y s t : ℤ) (u v : ℕ) → IsFraction a → x ≡ pos n → y ≡ pos a.den → Some r ≡ fraction_of x y
+    → s ≡ r.num → u ≡ unsigned_abs s → t ≡ pos a.den → v ≡ unsigned_abs t → u * v ≡ joined n a
+multiple_is n a r x y s t u v f px py pr ps pu pt pv =
+    let e : r ≡ lowest (pos n) a.den = ratio_is n a.den r (subst (λ (w : ℤ). Some r ≡ fraction_of (pos n) w) py (subst (λ (w : ℤ). Some r ≡ fraction_of w y) px pr)) in
+    let left : u ≡ unsigned_abs r.num = pu ∙ ap unsigned_abs ps in
+    let right : v ≡ a.den = pv ∙ ap unsigned_abs pt in
+    rw (left, right) (ratio_num n a.den r f.above e)
+
+pub printed_is : (n m : ℕ) → Some m ≡ printed n → (m ≡ n) × (n ≤ most_printed)
+printed_is n m e = by (leb n most_printed) refl e
+  where
+    by : (t : Bool) → leb n most_printed ≡ t → Some m ≡ cond t (Some n) None → (m ≡ n) × (n ≤ most_printed)
+    by true l e = (cc, leb-true n most_printed l)
+    by false l e = absurd cc
+
+pub unprinted : (n : ℕ) → None ≡ printed n → most_printed < n
+unprinted n e = by (leb n most_printed) refl e
+  where
+    by : (t : Bool) → leb n most_printed ≡ t → None ≡ cond t (Some n) None → most_printed < n
+    by true l e = absurd cc
+    by false l e = leb-false n most_printed l
+
+-- one fraction more
+pub joined_more : (n c i : ℕ) (xs : List Exact) (x : Exact) → i < length xs → x ≡ get_or xs i x → fold joined n xs ≡ fold joined c (drop i xs)
+    → fold joined n xs ≡ fold joined (joined c x) (drop (i + 1) xs)
+joined_more n c i xs x p e h = h ∙ (ap (fold joined c) (drop-cons xs i x p) ∙ (ap (λ (y : Exact). fold joined (joined c y) (drop (suc i) xs)) (sym e) ∙ ap (λ (k : ℕ). fold joined (joined c x) (drop k xs)) (next i)))
+  where
+    next : (i : ℕ) → suc i ≡ i + 1
+    next i = omega arith
+
+-- where a denominator on the way can't be printed, the last one can't
+pub joined_past : (n c i : ℕ) (xs : List Exact) (x : Exact) → 0 < c → i < length xs → x ≡ get_or xs i x → fold joined n xs ≡ fold joined c (drop i xs)
+    → None ≡ printed (joined c x) → None ≡ printed (fold joined n xs)
+joined_past n c i xs x z p e h none =
+    let more = joined_more n c i xs x p e h in
+    let grows = joined_grows (joined c x) (drop (i + 1) xs) (least_common_above c (den_of x) z (den_above x)) in
+    let past = unprinted (joined c x) none in
+    printed_none (fold joined n xs) (omega (arith, more, grows, past))
+
+pub joined_whole : (n c : ℕ) (xs : List Exact) → c ≤ most_printed → fold joined n xs ≡ fold joined c (drop (length xs) xs) → Some c ≡ printed (fold joined n xs)
+joined_whole n c xs p h = let same : c ≡ fold joined n xs = sym (h ∙ ap (fold joined c) (drop-length xs)) in printed_some c p ∙ ap printed same

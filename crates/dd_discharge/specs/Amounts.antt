@@ -1,0 +1,61 @@
+-- What is held and the amounts as whole numbers over a common denominator, and duals that show that no others hold more. Column 0
+-- is what is held, each other column an amount.
+use Rattle.std.specs.Prelude.{ℕ, zero, suc, ◌+◌, ◌*◌, ◌/◌, ◌%◌, ◌<◌, ◌≤◌, ◌≡◌, ℤ, pos, ◌+ℤ◌, ◌*ℤ◌, ◌≤ℤ◌, List, [], length, slice_index, slice_index_or}
+use Rattle.dd_fraction.specs.Exact.{IsLowest}
+use Rattle.dd_discharge.specs.declared.rows.Row.{Row}
+use Rattle.dd_discharge.specs.declared.bound.Bound.{Bound}
+
+-- f 0 + .. + f (n - 1)
+abbrev pub total_below : (ℕ → ℤ) → ℕ → ℤ
+total_below f zero = pos 0
+total_below f (suc n) = total_below f n +ℤ f n
+
+abbrev pub row_in : List Row → ℕ → Row
+row_in rows k = slice_index_or rows k (record { coefficients = []; bound = 0 })
+
+-- that of the column j in the row k
+abbrev pub coefficient_in : List Row → ℕ → ℕ → ℤ
+coefficient_in rows k j = slice_index_or (row_in rows k).coefficients j (pos 0)
+
+-- the value of a column
+abbrev pub column_value : ℤ → List ℕ → ℕ → ℤ
+column_value held amounts zero = held
+column_value held amounts (suc j) = pos (slice_index amounts j)
+
+-- each row holds when its right side is multiplied by the common denominator
+pub record MeetRows (rows : List Row) (columns common : ℕ) (held : ℤ) (amounts : List ℕ) : Type 0 where
+  pub size : 1 + length amounts ≡ columns
+  pub each : (k : ℕ) → k < length rows
+      → total_below (λ j. coefficient_in rows k j *ℤ column_value held amounts j) columns ≤ℤ pos (common * (row_in rows k).bound)
+
+-- the sum of dual times coefficient in a column
+abbrev pub column_sum : List Row → List ℕ → ℕ → ℤ
+column_sum rows duals j = total_below (λ k. pos (slice_index duals k) *ℤ coefficient_in rows k j) (length rows)
+
+-- the sum of dual times right side
+abbrev pub dual_worth : List Row → List ℕ → ℤ
+dual_worth rows duals = total_below (λ k. pos (slice_index duals k * (row_in rows k).bound)) (length rows)
+
+-- a dual for each row
+pub record AreDualsOver (rows : List Row) (columns common : ℕ) (duals : List ℕ) : Type 0 where
+  pub size : length duals ≡ length rows
+  pub first : pos common ≤ℤ column_sum rows duals 0
+  pub others : (j : ℕ) → 1 ≤ j → j < columns → pos 0 ≤ℤ column_sum rows duals j
+
+-- what is held, over the common denominator
+abbrev pub held_over : Bound → ℕ
+held_over b = b.numerator * (b.common / b.denominator)
+
+-- the bound is in lowest terms over a divisor of the common denominator, the amounts hold it, and the duals are worth it
+pub record IsCertified (rows : List Row) (columns : ℕ) (b : Bound) : Type 0 where
+  pub lowest : IsLowest (record { num = pos b.numerator; den = b.denominator })
+  pub some : 1 ≤ b.common
+  pub divides : b.common % b.denominator ≡ 0
+  pub amounts : MeetRows rows columns b.common (pos (held_over b)) b.amounts
+  pub duals : AreDualsOver rows columns b.common b.duals
+  pub equal : dual_worth rows b.duals ≡ pos (held_over b)
+
+-- no amounts over any common denominator hold more than p over q
+abbrev pub HoldAtMost : List Row → ℕ → ℕ → ℕ → Type 0
+HoldAtMost rows columns p q =
+    (common : ℕ) (held : ℤ) (amounts : List ℕ) → 1 ≤ common → MeetRows rows columns common held amounts → (held *ℤ pos q) ≤ℤ pos (p * common)

@@ -1,0 +1,45 @@
+-- Fractions of at least 0 over their least common denominator, as a bound is printed.
+use Rattle.std.specs.Prelude.{ℕ, ◌*◌, ◌/◌, ◌<◌, ◌≤◌, ◌^◌, ◌≡◌, ◌⊎◌, pos, List, ◌++◌, map, drop, unsigned_abs, Option, Some, None, cond, nat_le}
+use Rattle.std.specs.List.{fold, All, Any}
+use Rattle.dd_fraction.specs.Divisor.{greatest_common}
+use Rattle.dd_fraction.specs.Exact.{Exact, den_of}
+use Rattle.dd_discharge.specs.declared.bound.Bound.{Bound}
+
+abbrev pub least_common : ℕ → ℕ → ℕ
+least_common a b = a / greatest_common a b * b
+
+-- with the denominator of one fraction more
+abbrev pub joined : ℕ → Exact → ℕ
+joined n a = least_common n (den_of a)
+
+-- the least common denominator
+abbrev pub common_denominator : List Exact → ℕ
+common_denominator xs = fold joined 1 xs
+
+-- the numerator over the denominator n, of a fraction of at least 0 whose denominator divides n
+abbrev pub numerator_over : ℕ → Exact → ℕ
+numerator_over n a = unsigned_abs a.num * (n / den_of a)
+
+abbrev pub most_printed : ℕ
+most_printed = 2 ^ 40
+
+-- a number, if it can be printed
+abbrev pub printed : ℕ → Option ℕ
+printed n = cond (nat_le n most_printed) (Some n) None
+
+-- the denominator and each numerator can be printed
+pub record ArePrinted (xs : List Exact) : Type 0 where
+  pub denominator : common_denominator xs ≤ most_printed
+  pub numerators : All (λ a. numerator_over (common_denominator xs) a ≤ most_printed) xs
+
+abbrev pub HasUnprinted : List Exact → Type 0
+HasUnprinted xs = (most_printed < common_denominator xs) ⊎ Any (λ a. most_printed < numerator_over (common_denominator xs) a) xs
+
+-- the value, the columns after the first as amounts, and the duals
+pub record IsPrintedAs (value : Exact) (columns duals : List Exact) (b : Bound) : Type 0 where
+  pub printed : ArePrinted (columns ++ duals)
+  pub numerator_is : pos b.numerator ≡ value.num
+  pub denominator_is : b.denominator ≡ value.den
+  pub common_is : b.common ≡ common_denominator (columns ++ duals)
+  pub amounts_are : b.amounts ≡ map (numerator_over b.common) (drop 1 columns)
+  pub duals_are : b.duals ≡ map (numerator_over b.common) duals

@@ -1,0 +1,16 @@
+-- The shape of a program's rows.
+use Rattle.std.specs.Prelude.{ℕ, ◌-◌, ◌<◌, ◌≤◌, ◌≡◌, pos, unsigned_abs, List, ◌∷◌, length, replicate}
+use Rattle.std.specs.List.{All}
+use Rattle.dd_discharge.specs.declared.rows.Row.{Row}
+use Rattle.dd_discharge.specs.Amounts.{row_in}
+
+-- each has a coefficient from -1 to 1 for each column; the first says that no position holds more than a cap
+pub record AreRowsOf (columns : ℕ) (rows : List Row) : Type 0 where
+  pub wide : 0 < columns
+  pub narrow : columns ≤ 256
+  pub some : 0 < length rows
+  pub few : length rows ≤ 2048
+  pub sizes : (k : ℕ) → k < length rows → length (row_in rows k).coefficients ≡ columns
+  pub units : (k : ℕ) → k < length rows → All (λ a. unsigned_abs a ≤ 1) (row_in rows k).coefficients
+  pub bounds : (k : ℕ) → k < length rows → (row_in rows k).bound ≤ 4000
+  pub cap : (row_in rows 0).coefficients ≡ pos 1 ∷ replicate (columns - 1) (pos 0)

@@ -1,0 +1,45 @@
+//! The best bound of a rule along some vectors.
+ghost use Rattle.std.specs.Prelude.{◌≤◌, IfOk, IfErr};
+ghost use Rattle.dd_discharge.specs.Asked.{AreVectors, AreWeightsFor};
+ghost use Rattle.dd_discharge.specs.Bounds.{IsBoundOf, IsDischargeFault};
+ghost use Rattle.dd_discharge.specs.Certificates.{IsBoundCertificate};
+
+use crate::best::best_of;
+use crate::bound::Bound;
+use crate::fault::DischargeFault;
+use crate::program::program_of;
+use dd_formula::Rule;
+use dd_lattice::Position;
+use std::alloc::Global;
+
+/// The most that each position can hold at least, once each has given along each vector an amount that its pattern determines:
+/// the value of the rule's program, with the amounts, and with the duals that show that no amounts hold more. The run is the
+/// pivot run of `dd_simplex` with at most `pivots` pivots.
+///
+/// # Errors
+/// `Large` where the program passes a limit on its size; else `Overflow` where a number of the run passes 2^127 - 1, or one of
+/// its end over the least common denominator 2^40; else `Pivots` where the run is not at its end after that many pivots; or
+/// `Memory`.
+pub fn discharge(
+    alloc: Global,
+    rule: &Rule,
+    weights: &[u32],
+    radius: u32,
+    margin: u32,
+    vectors: &[Position],
+    pivots: u32,
+) -> Result<Bound, DischargeFault>
+    requires weights { AreWeightsFor rule.now weights.now }
+    requires radius { radius ≤ 3 }
+    requires margin { margin ≤ 3 }
+    requires vectors { AreVectors rule.now.dimension vectors.now }
+    ensures ok { IfOk result (IsBoundOf rule.now weights.now radius margin vectors.now pivots) }
+    ensures certificate { IfOk result (IsBoundCertificate rule.now weights.now radius margin vectors.now) }
+    ensures err { IfErr result (IsDischargeFault rule.now weights.now radius margin vectors.now pivots) }
+{
+    // Read for what its type keeps.
+    let _nodes = rule.nodes();
+    let program = program_of(alloc, rule, weights, radius, margin, vectors)?;
+    let columns = 1 + vectors.len() * program.patterns.len();
+    best_of(alloc, program.rows.as_slice(), columns as u32, pivots)
+}

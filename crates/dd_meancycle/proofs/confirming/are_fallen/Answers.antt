@@ -1,0 +1,15 @@
+use Rattle.std.proofs.Common.{◌<◌, get_or}
+use Rattle.std.proofs.lemmas.List.Elements.{All-more}
+use Rattle.dd_meancycle.specs.declared.edges.Edge.{Edge}
+use Rattle.dd_meancycle.proofs.Confirmed.{all_taken}
+use Rattle.dd_meancycle.proofs.confirming.are_fallen.Goals as goal
+
+pub loop-edge-preserved : goal.loop-edge-preserved
+loop-edge-preserved c =
+    All-more (λ (e : Edge). get_or c.args.ranks.now e.to 0 < get_or c.args.ranks.now e.from 0)
+    c.args.edges.now c.loop-edge.edge-index _ c.loop-edge-test.true c.loop-edge.invariant (c.is_fallen.ensures c.if-not-is_fallen.false)
+
+pub returns : goal.returns
+returns c = λ yes.
+    all_taken (λ (e : Edge). get_or c.args.ranks.now e.to 0 < get_or c.args.ranks.now e.from 0)
+    c.args.edges.now c.loop-edge.edge-index c.loop-edge-test.false c.loop-edge.invariant

@@ -1,0 +1,12 @@
+pub mod Worked
+pub mod Sums
+pub mod Residues
+pub mod Extremes
+pub mod Walks
+pub mod Fillings
+pub mod Tiles
+pub mod Modular
+pub mod Rounds
+pub mod Cycles
+pub mod Densities
+pub mod OneDensity

@@ -1,0 +1,48 @@
+-- Whole numbers modulo a number.
+use Rattle.std.proofs.Common.{◌≡◌, ℕ, ◌+◌, ◌*◌, ◌%◌, ◌/◌, ◌<◌, ◌≤◌, ℤ, pos, ◌+ℤ◌, unsigned_abs, arith, refl, ap, sym, ◌∙◌}
+use Rattle.std.proofs.Math.Nat.{mul-le-mul_left, mod-lt, mod-eq_of_lt, add-mul-mod_self_right}
+use Rattle.std.proofs.lemmas.Int.{ints, int_rem_euclid_is}
+use Rattle.std.proofs.lemmas.Nat.{div-add-mod'}
+use Rattle.dd_pattern.specs.Periods.{residue}
+
+-- x with enough multiples of n added
+record Raised (x : ℤ) (n : ℕ) : Type 0 where
+  natural : ℕ
+  is : x +ℤ pos (unsigned_abs x * n) ≡ pos natural
+
+raised : (x : ℤ) (n : ℕ) → 0 < n → Raised x n
+raised x n h =
+    let one : unsigned_abs x * 1 ≤ unsigned_abs x * n = mul-le-mul_left (unsigned_abs x) h in
+    record { natural = unsigned_abs (x +ℤ pos (unsigned_abs x * n)); is = omega (arith, ints) }
+
+residue_is : (x : ℤ) (n k m : ℕ) → 0 < n → x +ℤ pos (k * n) ≡ pos m → residue x n ≡ m % n
+residue_is x n k m h e = ap unsigned_abs (int_rem_euclid_is x (pos n) n k m h refl e)
+
+pub residue_below : (x : ℤ) (n : ℕ) → 0 < n → residue x n < n
+residue_below x n h = let p = raised x n h in rw (residue_is x n (unsigned_abs x) p.natural h p.is) (mod-lt p.natural h)
+
+pub residue_small : (k n : ℕ) → k < n → residue (pos k) n ≡ k
+residue_small k n h = mod-eq_of_lt h
+
+-- it is the same n further
+pub residue_round : (x : ℤ) (n : ℕ) → 0 < n → residue (x +ℤ pos n) n ≡ residue x n
+residue_round x n h =
+    let p = raised x n h in
+    let a = unsigned_abs x in
+    let whole : x +ℤ pos (a * n) ≡ pos p.natural = p.is in
+    let more : (x +ℤ pos n) +ℤ pos (a * n) ≡ pos (p.natural + 1 * n) = omega (arith, ints) in
+    residue_is (x +ℤ pos n) n a (p.natural + 1 * n) h more ∙ (add-mul-mod_self_right p.natural 1 n ∙ sym (residue_is x n a p.natural h whole))
+
+-- and one further it is one more, or begins anew
+pub residue_next : (x : ℤ) (n : ℕ) → 0 < n → residue (x +ℤ pos 1) n ≡ (residue x n + 1) % n
+residue_next x n h =
+    let p = raised x n h in
+    let a = unsigned_abs x in
+    let more : (x +ℤ pos 1) +ℤ pos (a * n) ≡ pos (p.natural + 1) = omega (arith, ints, p.is) in
+    let here : residue x n ≡ p.natural % n = residue_is x n a p.natural h p.is in
+    residue_is (x +ℤ pos 1) n a (p.natural + 1) h more ∙ (next p.natural n ∙ ap (λ (k : ℕ). (k + 1) % n) (sym here))
+  where
+    next : (m n : ℕ) → (m + 1) % n ≡ (m % n + 1) % n
+    next m n =
+        let e : m + 1 ≡ (m % n + 1) + m / n * n = omega (arith, div-add-mod' m n) in
+        ap (λ (k : ℕ). k % n) e ∙ add-mul-mod_self_right (m % n + 1) (m / n) n

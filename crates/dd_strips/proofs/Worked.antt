@@ -1,0 +1,53 @@
+-- Worked rows: the definitions on small rules and looks.
+use Rattle.std.proofs.Common.{◌≡◌, ◌+◌, ◌%◌, true, false, [], ◌∷◌, pos, negsuc, unsigned_abs, Some, refl, ap, arith}
+use Rattle.dd_lattice.specs.Place.{place}
+use Rattle.dd_lattice.specs.Cells.{cell}
+use Rattle.dd_lattice.specs.declared.position.Cell.{Cell}
+use Rattle.dd_pattern.specs.Reading.{Look}
+use Rattle.dd_pattern.specs.Tile.{Tile, tile, tile_look}
+use Rattle.dd_expansion.specs.declared.formulas.Formula.{Formula, roll-Formula}
+use Rattle.dd_expansion.specs.declared.formulas.Formula.TheFolds.{fold-roll-Formula}
+use Rattle.dd_expansion.specs.declared.formulas.Formula.TheOpen.{Formula-F}
+use Rattle.dd_expansion.specs.Truth.{Truth, truth_step}
+use Rattle.dd_formula.specs.LocalRule.{LocalRule, is_true}
+use Rattle.dd_transfer.specs.Windows.{strip_of}
+use Rattle.dd_strips.specs.Strips.{LivesNowhere, is_slice_cell, slices_weight, tile_weight}
+use Rattle.dd_strips.specs.Claims.{spread_of}
+
+-- a rule of the line, over the symbols 0 and 1
+abbrev line : Formula → LocalRule
+line f = record { dimension = 1; nodes = 1; symbols = 2; allowed = (true ∷ true ∷ []) ∷ []; edges = []; formula = f }
+
+-- three slices from -1 on: x is -1, 0 or 1
+in_slices : is_slice_cell (line (roll-Formula (Formula-F.And []))) (negsuc 0) 3 (cell (place (pos 1) (pos 0) (pos 0)) 0) ≡ true
+in_slices = refl
+
+past_slices : is_slice_cell (line (roll-Formula (Formula-F.And []))) (negsuc 0) 3 (cell (place (pos 2) (pos 0) (pos 0)) 0) ≡ false
+past_slices = refl
+
+-- the symbol 1 at each even x and 0 at each odd one: of five slices from -2 on three have a 1
+abbrev alternating : Look
+alternating c = Some ((unsigned_abs c.position.x + 1) % 2)
+
+three_of_five : slices_weight (strip_of 1 1 1) (0 ∷ 2 ∷ []) alternating (negsuc 1) 5 ≡ 6
+three_of_five = refl
+
+spread_is : spread_of (pos 1 ∷ negsuc 1 ∷ pos 3 ∷ pos 0 ∷ []) ≡ 5
+spread_is = refl
+
+-- on the strip of one position lives the configuration 0 1 0 1 .. of the rule that is always true
+abbrev two : Tile
+two = tile 1 (record { x = 2; y = 1; z = 1; shear = 0 }) 1 (0 ∷ 1 ∷ [])
+
+two_weighs : tile_weight (3 ∷ 4 ∷ []) two ≡ 7
+two_weighs = refl
+
+-- and nothing lives on any strip of the rule that is never true
+never_true : (look : Look) (c : Cell) → is_true (line (roll-Formula (Formula-F.Or []))) c look ≡ false
+never_true look c = ap (λ (t : Truth). t (c ∷ []) look) (fold-roll-Formula Truth (truth_step []) (Formula-F.Or []))
+
+none_lives : LivesNowhere (line (roll-Formula (Formula-F.Or []))) (strip_of 1 1 1)
+none_lives t on =
+    let false_there = never_true (tile_look t) (cell (place (pos 0) (pos 0) (pos 0)) 0) in
+    let true_there = on.lives (place (pos 0) (pos 0) (pos 0)) 0 refl (omega arith) in
+    absurd (cc)

@@ -1,0 +1,40 @@
+-- What a certificate says of the strips of every length.
+use Rattle.std.specs.Prelude.{ℕ, ◌+◌, ◌*◌, ◌≤◌, ℤ, pos, ◌+ℤ◌, ◌-ℤ◌, unsigned_abs, List, [], ◌∷◌}
+use Rattle.std.specs.Int.{int_min, int_max}
+use Rattle.std.specs.List.{fold}
+use Rattle.dd_pattern.specs.Reading.{Look}
+use Rattle.dd_formula.specs.LocalRule.{LocalRule}
+use Rattle.dd_counts.specs.Rules.{window}
+use Rattle.dd_transfer.specs.declared.strip.Strip.{Strip}
+use Rattle.dd_strips.specs.Strips.{IsAdmissibleStrip, slices_weight, IsLeastDensity, LivesNowhere}
+
+-- l times the weight of the last j slices of an admissible filling is at least m times j, but for the spread
+abbrev pub IsHeavy : LocalRule → Strip → List ℕ → ℕ → ℕ → ℕ → Type 0
+IsHeavy r s ws m l spread =
+    (j : ℕ) (x : ℤ) (look : Look) → IsAdmissibleStrip r s x (j + window r) look → m * j ≤ l * slices_weight s ws look (x +ℤ pos (window r)) j + spread
+
+-- the least density of the strip is p / q, and no strip of whatever length is lighter but for the spread
+pub record StripLeast (r : LocalRule) (s : Strip) (ws : List ℕ) (p q l m spread : ℕ) : Type 0 where
+  pub density : IsLeastDensity r s ws p q
+  pub heavy : IsHeavy r s ws m l spread
+
+-- no admissible filling of the strip has more than k slices
+abbrev pub IsShortStrip : LocalRule → Strip → ℕ → Type 0
+IsShortStrip r s k = (n : ℕ) (x : ℤ) (look : Look) → IsAdmissibleStrip r s x n look → n ≤ k
+
+-- and so no configuration lives on it
+pub record StripEmpty (r : LocalRule) (s : Strip) (k : ℕ) : Type 0 where
+  pub short : IsShortStrip r s k
+  pub nowhere : LivesNowhere r s
+
+abbrev pub least_potential : List ℤ → ℤ
+least_potential [] = pos 0
+least_potential (p ∷ ps) = fold int_min p ps
+
+abbrev pub greatest_potential : List ℤ → ℤ
+greatest_potential [] = pos 0
+greatest_potential (p ∷ ps) = fold int_max p ps
+
+-- the greatest potential less the least
+abbrev pub spread_of : List ℤ → ℕ
+spread_of ps = unsigned_abs (greatest_potential ps -ℤ least_potential ps)

@@ -1,0 +1,6 @@
+use Rattle.dd_transfer.proofs.Numbers.{are_digits}
+use Rattle.dd_transfer.proofs.Following.{are_edges}
+use Rattle.dd_transfer.proofs.laws.slices_are_walks.Goals as goal
+
+pub returns : goal.returns
+returns c = record { digits = are_digits; edges = are_edges }

@@ -1,0 +1,37 @@
+-- The laws of slices: what the transfer graph says of the slices of a look.
+use Rattle.std.specs.Prelude.{◌≡◌, ◌↔◌, ℕ, ◌+◌, ◌*◌, ◌<◌, ◌^◌, true, ℤ, pos, ◌+ℤ◌, List, ◌++◌, length, is_some, ◌&&◌}
+use Rattle.std.specs.List.{All, list_all}
+use Rattle.dd_lattice.specs.Place.{Place}
+use Rattle.dd_lattice.specs.Cells.{cell, shifted}
+use Rattle.dd_pattern.specs.Reading.{Look}
+use Rattle.dd_pattern.specs.Weight.{total_weight}
+use Rattle.dd_formula.specs.LocalRule.{LocalRule, reads_at}
+use Rattle.dd_counts.specs.Rules.{slices, window}
+use Rattle.dd_transfer.specs.declared.strip.Strip.{Strip}
+use Rattle.dd_transfer.specs.Windows.{positions, digits, stand, IsWindow}
+use Rattle.dd_transfer.specs.Transfers.{IsEdge, slice_weight}
+use Rattle.dd_transfer.specs.Slices.{HasSlices, IsKeptFrom, symbols_from, number_of, slices_from, state_from, window_from}
+
+-- numbers and their digits
+pub record AreDigits (base : ℕ) : Type 0 where
+  pub each : (count n : ℕ) → length (digits base count n) ≡ count
+  pub below : (count n : ℕ) → 0 < base → All (λ d. d < base) (digits base count n)
+  pub digits_of : (ds : List ℕ) → All (λ d. d < base) ds → digits base (length ds) (number_of base ds) ≡ ds
+  pub number_is : (count n : ℕ) → n < base ^ count → number_of base (digits base count n) ≡ n
+  pub joined : (ds es : List ℕ) → number_of base (ds ++ es) ≡ number_of base ds * base ^ length es + number_of base es
+
+-- what the transfer graph says of the slices of a look that repeats across the strip
+pub record AreEdgesOf (r : LocalRule) (s : Strip) (look : Look) : Type 0 where
+  -- slices from x on are the first ones and those behind them, and their number is that of the first ones with the last one's
+  pub joined : (x : ℤ) (m n : ℕ) → symbols_from s look x (m + n) ≡ symbols_from s look x m ++ symbols_from s look (x +ℤ pos m) n
+  pub longer : (x : ℤ) (n : ℕ) → slices_from r s look x (n + 1) ≡ slices_from r s look x n * slices r (positions s) + slices_from r s look (x +ℤ pos n) 1
+  -- a slice weighs what its symbols weigh
+  pub weight : (ws : List ℕ) (x : ℤ) → HasSlices r look x 1 → slice_weight r s ws (slices_from r s look x 1) ≡ total_weight ws (symbols_from s look x 1)
+  -- the window from x on has all that the rule reads where it stands
+  pub reads : (x : ℤ) (v : Place) (a : ℕ) → HasSlices r look x (window r + 1) → v.x ≡ x +ℤ stand r → a < r.nodes →
+      (is_some (look (cell v a)) && list_all (λ d. is_some (look (shifted v d))) (reads_at r a)) ≡ true
+  -- it is one of the rule exactly where it is kept
+  pub windows : (x : ℤ) → HasSlices r look x (window r + 1) → IsWindow r s (window_from r s look x) ↔ IsKeptFrom r look x
+  -- and then its last slice leads from the state at x to the state at the next x
+  pub edges : (x : ℤ) → HasSlices r look x (window r + 1) → IsKeptFrom r look x →
+      IsEdge r s (state_from r s look x) (slices_from r s look (x +ℤ pos (window r)) 1) (state_from r s look (x +ℤ pos 1))

@@ -1,0 +1,58 @@
+-- Slices of a look: the symbols of its cells at one x after another, with the other coordinates read modulo the strip's periods;
+-- and the states and windows that they make.
+use Rattle.std.specs.Prelude.{◌≡◌, ℕ, ◌+◌, ◌*◌, ◌/◌, ◌%◌, ◌<◌, true, ℤ, pos, ◌+ℤ◌, ◌≤ℤ◌, ◌<ℤ◌, List, map, unwrap_or, IfSome, IsSomeAnd}
+use Rattle.std.specs.List.{fold, range_with_len}
+use Rattle.dd_lattice.specs.Place.{Place, place}
+use Rattle.dd_lattice.specs.Cells.{cell}
+use Rattle.dd_lattice.specs.declared.position.Cell.{Cell}
+use Rattle.dd_pattern.specs.Periods.{residue}
+use Rattle.dd_pattern.specs.Reading.{Look}
+use Rattle.dd_formula.specs.LocalRule.{LocalRule, rule_allows}
+use Rattle.dd_counts.specs.Rules.{window}
+use Rattle.dd_transfer.specs.declared.strip.Strip.{Strip}
+use Rattle.dd_transfer.specs.Windows.{cells, cell_at, stand, IsTrueAlong}
+
+-- where a position is read: modulo the strip's periods
+abbrev pub across : Strip → Place → Place
+across s v = place v.x (pos (residue v.y s.y)) (pos (residue v.z s.z))
+
+-- cells that are the same modulo the strip's periods have the same symbol
+abbrev pub RepeatsAcross : Strip → Look → Type 0
+RepeatsAcross s look = (c : Cell) → look c ≡ look (cell (across s c.position) c.node)
+
+-- the cell lies in n slices from x on
+pub record IsInSlices (x : ℤ) (n : ℕ) (c : Cell) : Type 0 where
+  pub from : x ≤ℤ c.position.x
+  pub before : c.position.x <ℤ (x +ℤ pos n)
+
+-- each cell of n slices from x on has a symbol of the alphabet
+abbrev pub HasSlices : LocalRule → Look → ℤ → ℕ → Type 0
+HasSlices r look x n = (c : Cell) → IsInSlices x n c → c.node < r.nodes → IsSomeAnd (look c) (λ d. d < r.symbols)
+
+-- the cells of the slices from x on, slice by slice, and in a slice in cell order
+abbrev pub cell_from : Strip → ℤ → ℕ → Cell
+cell_from s x k = cell_at s (x +ℤ pos (k / cells s)) (k % cells s)
+
+-- the symbols of n slices from x on, in this order
+abbrev pub symbols_from : Strip → Look → ℤ → ℕ → List ℕ
+symbols_from s look x n = map (λ k. unwrap_or (look (cell_from s x k)) 0) (range_with_len 0 (n * cells s))
+
+-- the number with these digits, the most significant first
+abbrev pub number_of : ℕ → List ℕ → ℕ
+number_of base ds = fold (λ n d. n * base + d) 0 ds
+
+-- the number of n slices from x on
+abbrev pub slices_from : LocalRule → Strip → Look → ℤ → ℕ → ℕ
+slices_from r s look x n = number_of r.symbols (symbols_from s look x n)
+
+-- the state of the slices from x on, and the window
+abbrev pub state_from : LocalRule → Strip → Look → ℤ → ℕ
+state_from r s look x = slices_from r s look x (window r)
+
+abbrev pub window_from : LocalRule → Strip → Look → ℤ → ℕ
+window_from r s look x = slices_from r s look x (window r + 1)
+
+-- in the window from x on each symbol is allowed at its node, and the rule is true where what it reads begins in the first slice
+pub record IsKeptFrom (r : LocalRule) (look : Look) (x : ℤ) : Type 0 where
+  pub allowed : (c : Cell) → IsInSlices x (window r + 1) c → c.node < r.nodes → IfSome (look c) (λ d. rule_allows r c.node d ≡ true)
+  pub true_there : IsTrueAlong r (x +ℤ stand r) look

@@ -1,0 +1,15 @@
+//! Laws of transfer graphs, as contracts of calls that do nothing.
+ghost use Rattle.std.specs.Prelude.{ℕ};
+ghost use Rattle.dd_pattern.specs.Reading.{Look};
+ghost use Rattle.dd_formula.specs.LocalRule.{LocalRule, IsRule};
+ghost use Rattle.dd_transfer.specs.declared.strip.Strip.{Strip};
+ghost use Rattle.dd_transfer.specs.Windows.{IsFor};
+ghost use Rattle.dd_transfer.specs.Slices.{RepeatsAcross};
+ghost use Rattle.dd_transfer.specs.Laws.{AreDigits, AreEdgesOf};
+
+/// Does nothing; its contract says what the edges of a transfer graph are of the slices of a look: wherever a look that repeats
+/// across the strip is kept by the rule, slice after slice, these slices are a walk through the graph.
+pub fn slices_are_walks()
+    ensures digits { (base : ℕ) → AreDigits base }
+    ensures edges { (r : LocalRule) (s : Strip) (look : Look) → IsRule r → IsFor r s → RepeatsAcross s look → AreEdgesOf r s look }
+{}
