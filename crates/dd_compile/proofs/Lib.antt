@@ -14,3 +14,5 @@ pub mod CaseRules
 pub mod ValueParts
 pub mod Composing
 pub mod Composed
+pub mod SaidRules
+pub mod SaidComposed
