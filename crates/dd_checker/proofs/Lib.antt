@@ -1,5 +1,6 @@
 pub mod FirstCells
 pub mod Periodics
+pub mod Differing
 pub mod Claiming
 pub mod Writable
 pub mod Deciding

@@ -3,7 +3,8 @@ use Rattle.std.specs.Prelude.{ℕ, ◌-◌, Bool, true, false, Option, Some, Non
 use Rattle.std.specs.List.{slice_get}
 use Rattle.dd_pattern.specs.Tile.{Tile}
 use Rattle.dd_formula.specs.LocalRule.{LocalRule}
-use Rattle.dd_boxes.specs.Goals.{GoalOf, breaks, always}
+use Rattle.dd_boxes.specs.Goals.{GoalOf, breaks, differ, always}
+use Rattle.dd_boxes.specs.Views.{numbers_of}
 use Rattle.dd_query.specs.declared.queries.Query.{Query}
 use Rattle.dd_query.specs.declared.queries.Query.TheVariants as query
 use Rattle.dd_script.specs.Parts.{Parts}
@@ -24,13 +25,19 @@ of_both f (Some x) (Some y) = Some (f x y)
 of_both f (Some x) None = None
 of_both f None y = None
 
--- what the query asks, where its rules and its configuration are there; nothing yet of the other kinds of queries
+-- something of three
+abbrev pub of_three : {X Y Z W : Type 0} → (X → Y → Z → W) → Option X → Option Y → Option Z → Option W
+of_three f (Some x) y z = of_both (f x) y z
+of_three f None y z = None
+
+-- what the query asks, where its rules, its automata and its configuration are there; nothing yet of the other kinds of queries
 abbrev pub asked : Parts → Query → Option Asked
 asked s (query.Member configuration rule) = of_both membership (slice_get s.rules rule) (slice_get s.configurations configuration)
 asked s (query.Contains outer inner) = of_both (λ x y. box x (breaks y)) (slice_get s.rules inner) (slice_get s.rules outer)
 asked s (query.Equal left right) = of_both equality (slice_get s.rules left) (slice_get s.rules right)
 asked s (query.Empty rule) = option_map (λ x. box x always) (slice_get s.rules rule)
-asked s (query.Agree left right rule) = None
+asked s (query.Agree left right rule) =
+    of_three (λ x f g. box x (differ (numbers_of x) f g)) (slice_get s.rules rule) (slice_get s.automata left) (slice_get s.automata right)
 asked s (query.Forbidden rule) = option_map listing (slice_get s.rules rule)
 asked s (query.Density rule strip) = None
 asked s (query.Discharge rule radius margin vectors) = None
@@ -41,7 +48,7 @@ is_asked (query.Member configuration rule) = true
 is_asked (query.Contains outer inner) = true
 is_asked (query.Equal left right) = true
 is_asked (query.Empty rule) = true
-is_asked (query.Agree left right rule) = false
+is_asked (query.Agree left right rule) = true
 is_asked (query.Forbidden rule) = true
 is_asked (query.Density rule strip) = false
 is_asked (query.Discharge rule radius margin vectors) = false

@@ -41,6 +41,7 @@ pub fn is_asked(query: &Query) -> bool
             | Query::Contains { .. }
             | Query::Equal { .. }
             | Query::Empty { .. }
+            | Query::Agree { .. }
             | Query::Forbidden { .. }
     )
 }

@@ -139,6 +139,7 @@ impl Script {
         ensures { Asks self.now query.now (asked_of result) }
     {
         let rules = self.rules();
+        let automata = self.automata();
         let configurations = self.configurations();
         match query {
             Query::Member {
@@ -159,6 +160,10 @@ impl Script {
             Query::Empty { rule } => Question::Box {
                 premise: &rules[*rule as usize],
                 goal: Goal::Always,
+            },
+            Query::Agree { left, right, rule } => Question::Box {
+                premise: &rules[*rule as usize],
+                goal: Goal::Differ(&automata[*left as usize], &automata[*right as usize]),
             },
             Query::Forbidden { rule } => Question::Listing {
                 rule: &rules[*rule as usize],

@@ -1,11 +1,11 @@
 use Rattle.std.proofs.Common.{subst}
 use Rattle.dd_query.specs.declared.queries.Query.{Query}
 use Rattle.dd_query.specs.declared.queries.Query.TheVariants as query
-use Rattle.dd_boxes.specs.Goals.{breaks, always}
+use Rattle.dd_boxes.specs.Goals.{breaks, differ, always}
 use Rattle.std.specs.List.{Contains}
 use Rattle.dd_script.specs.Questions.{membership, box, equality, listing}
 use Rattle.dd_script.specs.Asking.{Asks}
-use Rattle.dd_script.proofs.Asking.{member_asks, contains_asks, equal_asks, empty_asks, listing_asks}
+use Rattle.dd_script.proofs.Asking.{member_asks, contains_asks, equal_asks, empty_asks, agree_asks, listing_asks}
 use Rattle.dd_script.proofs.script.Script.question.Goals as goal
 
 pub returns-in-Contains : goal.returns-in-Contains
@@ -33,6 +33,17 @@ returns-in-Empty c =
     rw c.in-Empty.is
     (empty_asks s c.rules-rules.ensures.kept c.rules-rules.result.now c.rules-rules.ensures.value c.in-Empty.rule x
     (subst (Contains s.queries) c.in-Empty.is c.requires.stands) c.index-rules-rule-in-Empty.is)
+
+pub returns-in-Agree : goal.returns-in-Agree
+returns-in-Agree c =
+    let s = c.args.self.now in
+    let x = c.index-rules-rule-in-Agree.result in
+    let f = c.index-automata-left.result in
+    let g = c.index-automata-right.result in
+    rw c.in-Agree.is
+    (agree_asks s c.rules-rules.ensures.kept c.rules-rules.result.now c.rules-rules.ensures.value c.automata-automata.result.now c.automata-automata.ensures.value
+    c.in-Agree.left c.in-Agree.right c.in-Agree.rule f g x
+    (subst (Contains s.queries) c.in-Agree.is c.requires.stands) c.index-automata-left.is c.index-automata-right.is c.index-rules-rule-in-Agree.is)
 
 pub returns-in-Forbidden : goal.returns-in-Forbidden
 returns-in-Forbidden c =
