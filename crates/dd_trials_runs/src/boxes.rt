@@ -6,15 +6,21 @@ use std::alloc::Global;
 use std::process::Abort;
 use std::test::Fail;
 
-// The status of a run over these bytes, and the first lines of its answers.
-fn answer_lines(alloc: Global, script: &str) -> Result<(Status, String), Fail> {
+/// The status of a run over a script, and its output, which may be long.
+pub(crate) fn long_run(alloc: Global, script: &str) -> Result<(Status, Vec<u8>), Fail> {
     let words = words_of(alloc, "run")?;
     let bytes = Vec::from_slice(alloc, script.as_bytes())?;
     let mut source = MemorySource::new(bytes, 1_000, Vec::new(alloc));
     let mut sink = MemorySink::new(alloc, 1_000_000, 1_000_000, Vec::new(alloc))?;
     let status = run_diddy(alloc, &words, &mut source, &mut sink);
+    Ok((status, Vec::from_slice(alloc, sink.held_bytes())?))
+}
+
+/// The status of a run over a script, and the first lines of its answers.
+pub(crate) fn answer_lines(alloc: Global, script: &str) -> Result<(Status, String), Fail> {
+    let (status, output) = long_run(alloc, script)?;
     let mut lines = String::new(alloc);
-    let output = String::from_utf8(Vec::from_slice(alloc, sink.held_bytes())?)?;
+    let output = String::from_utf8(output)?;
     for line in output.lines() {
         if line.starts_with("query ") {
             lines.push_str(line)?;
@@ -24,9 +30,13 @@ fn answer_lines(alloc: Global, script: &str) -> Result<(Status, String), Fail> {
     Ok((status, lines))
 }
 
-// Asserts that each script has the first lines of answers that stand beside it, and the status that tells whether one is
-// unknown.
-fn assert_lines(rt: &impl Abort, alloc: Global, rows: &[(&str, &str)]) -> Result<(), Fail> {
+/// Asserts that each script has the first lines of answers that stand beside it, and the status that tells whether one is
+/// unknown.
+pub(crate) fn assert_lines(
+    rt: &impl Abort,
+    alloc: Global,
+    rows: &[(&str, &str)],
+) -> Result<(), Fail> {
     for (script, answers) in rows {
         let (status, lines) = answer_lines(alloc, script)?;
         assert_eq!(rt; lines.as_str(), *answers, "{script}");

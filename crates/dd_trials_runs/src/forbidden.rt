@@ -1,7 +1,6 @@
 // Forbidden patterns: the lists that runs write, and what a check makes of each, and of lists that are not theirs.
-use crate::runs::{assert_answers, run_on};
-use dd_outside::{MemorySink, MemorySource};
-use dd_session::{Status, check_diddy};
+use crate::runs::{assert_answers, run_on, status_of_check};
+use dd_session::Status;
 use std::alloc::Global;
 use std::process::Abort;
 use std::test::Fail;
@@ -50,12 +49,6 @@ const CHECKED: [(&str, bool); 5] = [
     ("query 1 LIST 0\n", false),
     ("query 1 UNKNOWN limits\n", false),
 ];
-
-fn status_of_check(alloc: Global, bytes: &[u8]) -> Result<Status, Fail> {
-    let mut source = MemorySource::new(Vec::from_slice(alloc, bytes)?, 7, Vec::new(alloc));
-    let mut sink = MemorySink::new(alloc, 400, 5, Vec::new(alloc))?;
-    Ok(check_diddy(alloc, &mut source, &mut sink))
-}
 
 // Asserts that a check accepts the output of a run over each script.
 fn assert_accepted(rt: &impl Abort, alloc: Global, rows: &[(&str, &str)]) -> Result<(), Fail> {

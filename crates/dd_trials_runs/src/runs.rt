@@ -1,6 +1,6 @@
 // Whole runs over bytes in memory.
 use dd_outside::{MemorySink, MemorySource};
-use dd_session::{Status, run_diddy};
+use dd_session::{Status, check_diddy, run_diddy};
 use std::alloc::{AllocError, Global};
 use std::process::Abort;
 use std::test::Fail;
@@ -25,8 +25,15 @@ pub(crate) fn run_on(alloc: Global, bytes: &[u8]) -> Result<(Status, Vec<u8>), A
     Ok((status, Vec::from_slice(alloc, sink.held_bytes())?))
 }
 
+/// The status of a check of these bytes.
+pub(crate) fn status_of_check(alloc: Global, bytes: &[u8]) -> Result<Status, AllocError> {
+    let mut source = MemorySource::new(Vec::from_slice(alloc, bytes)?, 7, Vec::new(alloc));
+    let mut sink = MemorySink::new(alloc, 400, 5, Vec::new(alloc))?;
+    Ok(check_diddy(alloc, &mut source, &mut sink))
+}
+
 /// The whole output for a script with these lines of answers.
-fn output_of(alloc: Global, script: &str, answers: &str) -> Result<String, AllocError> {
+pub(crate) fn output_of(alloc: Global, script: &str, answers: &str) -> Result<String, AllocError> {
     let length = script.len();
     format!(in alloc; "diddy 1\nscript {length}\n{script}\n{answers}end\n")
 }
