@@ -205,20 +205,20 @@ fn compared(
     Ok((found, admissible(alloc, premise, goal, &cells)?))
 }
 
-/// The same of the first query.
+/// The same of the script's first box question.
 fn compared_query(
     alloc: Global,
     script: &Script,
     radius: u32,
 ) -> Result<([u32; 8], [u32; 8]), Fail> {
-    let queries = script.queries();
-    if queries.is_empty() || !is_asked(&queries[0]) {
-        return Err("a query that is asked".into());
+    for query in script.queries() {
+        if is_asked(query) {
+            if let Question::Box { premise, goal } = script.question(query) {
+                return compared(alloc, premise, &goal, radius);
+            }
+        }
     }
-    match script.question(&queries[0]) {
-        Question::Box { premise, goal } => compared(alloc, premise, &goal, radius),
-        _ => Err("a box question".into()),
-    }
+    Err("a box question".into())
 }
 
 fn compared_script(
@@ -249,10 +249,34 @@ fn every_assignment(rt: HostRuntime) -> Result<(), Fail> {
         ("%dim 1", "o=1 -> o.rt=0", "%empty x", 1, 5),
         ("%dim 1", "o.lt=o.rt", "%empty x", 1, 4),
         ("%dim 1", "Ep[o1] p=1", "%empty x", 1, 7),
-        ("%dim 1", "o=1 -> o.rt=0", "%rule y o=1 -> o.lt=0 %contains y x", 1, 0),
-        ("%dim 1", "o=1 -> o.rt=0", "%rule y Ep[o1] p=1 %contains y x", 1, 1),
-        ("%dim 1", "o.lt=o.rt", "%rule y o=1 -> o.rt=0 %contains y x", 1, 1),
-        ("%dim 1", "Ep[o1] p=1", "%rule y o.lt=o.rt %contains y x", 1, 4),
+        (
+            "%dim 1",
+            "o=1 -> o.rt=0",
+            "%rule y o=1 -> o.lt=0 %contains y x",
+            1,
+            0,
+        ),
+        (
+            "%dim 1",
+            "o=1 -> o.rt=0",
+            "%rule y Ep[o1] p=1 %contains y x",
+            1,
+            1,
+        ),
+        (
+            "%dim 1",
+            "o.lt=o.rt",
+            "%rule y o=1 -> o.rt=0 %contains y x",
+            1,
+            1,
+        ),
+        (
+            "%dim 1",
+            "Ep[o1] p=1",
+            "%rule y o.lt=o.rt %contains y x",
+            1,
+            4,
+        ),
         (two, "o:a -> o.x=1", "%empty x", 0, 2),
         (two, "o:a -> o.x=1", "%rule y o=1 %contains y x", 0, 1),
         (two, "o.x=1 | o.y=0", "%empty x", 0, 1),

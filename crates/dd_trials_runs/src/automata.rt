@@ -73,7 +73,11 @@ fn compares_automata(rt: HostRuntime) -> Result<(), Fail> {
         } else {
             Status::Rejected
         };
-        assert_eq!(&rt; status_of_check(alloc, output.as_bytes())?, wanted, "{answers}");
+        assert_eq!(&rt;
+            status_of_check(alloc, output.as_bytes())?,
+            wanted,
+            "{answers}"
+        );
     }
     Ok(())
 }
@@ -94,9 +98,9 @@ fn push_elementary(
     for cells in 1..8u32 {
         let (left, here, right) = ((cells >> 2) & 1, (cells >> 1) & 1, cells & 1);
         let value = (number >> cells) & 1;
-        text.push_str(
-            format!(in alloc; " when o.lt={left} & o={here} & o.rt={right} give {value}")?.as_str(),
-        )?;
+        text.push_str(format!(in alloc;
+            " when o.lt={left} & o={here} & o.rt={right} give {value}"
+        )?.as_str())?;
     }
     let value = number & 1;
     text.push_str(format!(in alloc; " else {value}\n")?.as_str())
@@ -110,10 +114,9 @@ fn commuting(alloc: Global, first: u32) -> Result<String, AllocError> {
     )?;
     for (number, name) in (0..16u32).zip(NAMES) {
         push_elementary(alloc, &mut text, name, first.saturating_add(number))?;
-        text.push_str(
-            format!(in alloc; "%compose l{name} f{name} s\n%compose r{name} s f{name}\n%same l{name} r{name} full\n")?
-                .as_str(),
-        )?;
+        text.push_str(format!(in alloc;
+            "%compose l{name} f{name} s\n%compose r{name} s f{name}\n%same l{name} r{name} full\n"
+        )?.as_str())?;
     }
     Ok(text)
 }

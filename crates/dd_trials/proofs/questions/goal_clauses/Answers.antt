@@ -11,7 +11,7 @@ pub differ_clauses-requires-clause-nodes : goal.differ_clauses-requires-clause-n
 differ_clauses-requires-clause-nodes c =
     let x = c.args.premise.now in
     let over : AreOver x (numbers_of x) c.in-Differ.left.now c.in-Differ.right.now = subst (λ g. IsGoalFor x (goal_of x g)) c.in-Differ.is c.requires in
-    record { both = record { setting = numbers_of x; left = over.left; right = over.right }; few = omega (arith, c.nodes.ensures.value) }
+    record { both = record { setting = numbers_of x; outer = over.left; inner = over.right }; few = omega (arith, c.nodes.ensures.value) }
 
 pub returns-in-Differ : goal.returns-in-Differ
 returns-in-Differ c =
