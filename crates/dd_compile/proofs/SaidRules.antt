@@ -1,7 +1,7 @@
 -- The gates of cases say their value wherever they stand.
-use Rattle.std.proofs.Common.{◌≡◌, ◌<◌, ◌≤◌, ℕ, zero, suc, ◌+◌, ◌*◌, Bool, true, List, [], ◌∷◌, ◌++◌, map, length, get_or, refl, ap, sym, ◌∙◌, subst, arith, length-append}
+use Rattle.std.proofs.Common.{◌≡◌, ◌<◌, ◌≤◌, ℕ, zero, suc, ◌+◌, ◌*◌, Bool, true, List, [], ◌∷◌, ◌++◌, map, length, refl, ap, sym, ◌∙◌, subst, arith, length-append}
 use Rattle.std.specs.Prelude.{◌==◌, ◌&&◌, nat_lt}
-use Rattle.std.specs.List.{list_all, All, Contains, range_with_len}
+use Rattle.std.specs.List.{list_all, All, range_with_len}
 use Rattle.std.proofs.lemmas.Bool.{and_parts}
 use Rattle.std.proofs.lemmas.List.{map-append}
 use Rattle.std.proofs.lemmas.List.Folds.{list_all-append}
@@ -11,7 +11,7 @@ use Rattle.dd_lattice.specs.declared.position.Cell.{Cell}
 use Rattle.dd_topology.specs.Topology.{extent}
 use Rattle.dd_pattern.specs.Reading.{Look, IsBelow}
 use Rattle.dd_formula.specs.LocalRule.{LocalRule, IsRule, is_true, expansion_at, reads_at}
-use Rattle.dd_formula.specs.Automata.{Setting, IsAutomaton, Counted, counted, cases_fit, cases_reads, rule_has}
+use Rattle.dd_formula.specs.Automata.{Setting, Counted, counted, cases_fit, cases_reads, rule_has}
 use Rattle.dd_formula.specs.declared.automaton.Automaton.{Automaton}
 use Rattle.dd_formula.specs.declared.automaton.Automaton.TheVariants as v
 use Rattle.dd_formula.specs.declared.automaton.Cases.{Cases}
@@ -19,31 +19,25 @@ use Rattle.dd_formula.proofs.AutomatonLaws.{rule_nodes, fits_given, counted_give
 use Rattle.dd_formula.proofs.ValueLaws.{rule_symbols}
 use Rattle.dd_circuit.specs.declared.gates.Signal.{Signal}
 use Rattle.dd_circuit.specs.declared.gates.Gate.{Gate}
-use Rattle.dd_circuit.specs.declared.gates.Gate.TheVariants.{And, Or}
+use Rattle.dd_circuit.specs.declared.gates.Gate.TheVariants.{Or}
 use Rattle.dd_circuit.specs.Circuits.{Network, IsSignal, AreGates, size, signal_value, agrees, opposite}
 use Rattle.dd_circuit.proofs.ValueLaws.{agrees-append}
 use Rattle.dd_circuit.proofs.GateLists.{AreGates-append}
 use Rattle.dd_compile.specs.Wiring.{Wiring, signals_of}
-use Rattle.dd_compile.specs.Compiling.{Extends, AllMade, compiled, are_wired, wires_near}
+use Rattle.dd_compile.specs.Compiling.{AllMade, compiled, are_wired, wires_near}
 use Rattle.dd_compile.specs.RuleSignals.{are_signals, are_reads_wired}
-use Rattle.dd_compile.specs.ValueGates.{fresh, choices, giving, symbol_gates, given_symbols, rules_made, given_made, value_made}
+use Rattle.dd_compile.specs.ValueGates.{fresh, choices, giving, symbol_gates, given_symbols, rules_made, value_made}
 use Rattle.dd_compile.specs.ValueSignals.{TellsCells, CasesSay, SaysValue, are_wired_there}
 use Rattle.dd_compile.specs.Valued.{IsMadeValue, SaysNear}
 use Rattle.dd_compile.proofs.CompiledLaws.{compiled_fits}
 use Rattle.dd_compile.proofs.RuleWiring.{leaves_wired}
 use Rattle.dd_compile.proofs.RuleSays.{rule_says}
 use Rattle.dd_compile.proofs.CaseGates.{with_first, giving_in_range}
-use Rattle.dd_compile.proofs.CaseRules.{Steps, value_gates, value_signals, value_in_range, value_says, signals_more}
-use Rattle.dd_compile.proofs.ChoiceLaws.{fresh_in_range, choices_length}
+use Rattle.dd_compile.proofs.CaseRules.{Steps, value_gates, value_signals, value_in_range, value_says}
+use Rattle.dd_compile.proofs.StillWired.{still_wired}
+use Rattle.dd_compile.proofs.ChoiceLaws.{fresh_in_range}
 use Rattle.dd_compile.proofs.Composed.{cases_say}
 use Rattle.dd_compile.proofs.ValueParts.{made_given}
-
-pub still_wired : (n m k : ℕ) (w : Wiring) (c : Cell) → n ≤ m → (ds : List Cell) → are_wired_there n k w ds c ≡ true → are_wired_there m k w ds c ≡ true
-still_wired n m k w c more [] h = refl
-still_wired n m k w c more (d ∷ ds) h =
-    let o = signals_of w (shifted c.position d) in
-    let both = and_parts (are_signals n k o) (are_wired_there n k w ds c) h in
-    rw (signals_more n m k more o both.0, still_wired n m k w c more ds both.1) refl
 
 -- gates and signals of a circuit of inputs alone are those of a value
 pub of_network : (n k : ℕ) (f : Automaton) (w : Wiring) (at : Cell) (gs : List Gate) (ss : List Signal) (m : AllMade) → AreGates n gs → SaysValue (record { inputs = n; gates = gs }) w k f at ss →

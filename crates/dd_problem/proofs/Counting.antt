@@ -8,11 +8,9 @@ use Rattle.std.proofs.lemmas.Nat.{mul-le, mod-mul-add, mod_below, div-add-mod'}
 use Rattle.dd_lattice.specs.Boxes.{Bounds, volume}
 use Rattle.dd_lattice.specs.Cells.{cell}
 use Rattle.dd_lattice.specs.declared.position.Cell.{Cell}
-use Rattle.dd_expansion.specs.declared.expanded.Expanded.{Expanded}
-use Rattle.dd_expansion.specs.declared.expanded.Expanded.TheFolds.{fold-roll-Expanded, map-Expanded, ind-Expanded}
-use Rattle.dd_expansion.specs.declared.expanded.Expanded.TheOpen.{Expanded-F}
-use Rattle.dd_expansion.specs.Leaves.{total, clause_count, clause_count_step}
-use Rattle.dd_compile.specs.Compiling.{AllMade, all_made, gate_count, gate_count_step}
+use Rattle.dd_expansion.specs.Leaves.{total, clause_count}
+use Rattle.dd_compile.specs.Compiling.{AllMade, all_made}
+use Rattle.dd_compile.proofs.FewGates.{gates_below}
 use Rattle.dd_compile.proofs.MadeCount.{made_count}
 use Rattle.dd_formula.specs.LocalRule.{LocalRule, expansion_at}
 use Rattle.dd_formula.specs.ValueCounts.{differ_at}
@@ -33,31 +31,6 @@ use Rattle.dd_problem.specs.Problems.{wire, place_maker, premise_part, goal_part
 use Rattle.dd_problem.specs.Differing.{apart, differ_made}
 use Rattle.dd_problem.proofs.PlacesLeft.{part_gates-append}
 use Rattle.dd_problem.proofs.CellOrder.{length-cells_in}
-
--- at least one clause for each gate
-abbrev HasEnough : Expanded → Type 0
-HasEnough e = gate_count e ≤ clause_count e
-
-abbrev Known : Type 0
-Known = (e : Expanded) × HasEnough e
-
-abbrev layer : Expanded-F Known → Expanded-F Expanded
-layer y = map-Expanded Known Expanded (λ e. e.0) y
-
-parts_enough : (es : List Known) → total (map gate_count (map (λ e. e.0) es)) ≤ total (map clause_count (map (λ e. e.0) es))
-parts_enough [] = omega arith
-parts_enough (e ∷ es) = omega (arith, parts_enough es, e.1)
-
-step_enough : (y : Expanded-F Known) → gate_count_step (map-Expanded Expanded ℕ gate_count (layer y)) ≤ clause_count_step (map-Expanded Expanded ℕ clause_count (layer y))
-step_enough (Expanded-F.Constant b) = omega arith
-step_enough (Expanded-F.Leaf c s) = omega arith
-step_enough (Expanded-F.Not e) = omega (arith, e.1)
-step_enough (Expanded-F.And es) = omega (arith, parts_enough es)
-step_enough (Expanded-F.Or es) = omega (arith, parts_enough es)
-step_enough (Expanded-F.Iff e f) = omega (arith, e.1, f.1)
-
-gates_below : (e : Expanded) → gate_count e ≤ clause_count e
-gates_below = ind-Expanded HasEnough (λ x y is. rw (fold-roll-Expanded ℕ gate_count_step x, fold-roll-Expanded ℕ clause_count_step x, ← is) (step_enough y))
 
 -- the gates of a rule at several cells, and at several nodes of one position
 abbrev at_cell : LocalRule → Cell → ℕ

@@ -1,6 +1,6 @@
 -- Where the layout has inputs for what automata read at the origin, the gates of their values are and say what they should.
-use Rattle.std.proofs.Common.{◌≡◌, ℕ, zero, suc, ◌+◌, ◌*◌, ◌<◌, ◌≤◌, ◌^◌, ◌-◌, Bool, true, List, [], ◌∷◌, map, length, refl, ap, sym, subst, ◌∙◌, arith, inl, inr, Some, eq-eqb}
-use Rattle.std.specs.Prelude.{◌&&◌, ◌==◌, not, Option, nat_le, slice_get}
+use Rattle.std.proofs.Common.{◌≡◌, ℕ, zero, suc, ◌+◌, ◌*◌, ◌<◌, ◌≤◌, ◌^◌, ◌-◌, Bool, true, List, [], ◌∷◌, length, refl, ap, sym, subst, ◌∙◌, arith, inl, inr, Some, eq-eqb}
+use Rattle.std.specs.Prelude.{◌&&◌, ◌==◌, not, nat_le, slice_get}
 use Rattle.std.specs.List.{Contains, list_all, range_with_len}
 use Rattle.std.proofs.lemmas.Int.{ints}
 use Rattle.std.proofs.lemmas.Bool.{and_parts, and_from, le-leb}
@@ -10,7 +10,6 @@ use Rattle.std.proofs.lemmas.List.FromFn.{length-map-range_with_len}
 use Rattle.dd_lattice.specs.Cells.{cell, shifted}
 use Rattle.dd_lattice.specs.declared.position.Cell.{Cell}
 use Rattle.dd_lattice.proofs.ListLaws.{Contains-first, Contains-later, Contains-nil, Contains-cons_cases}
-use Rattle.dd_topology.specs.Topology.{extent}
 use Rattle.dd_pattern.specs.Reading.{Look, IsBelow}
 use Rattle.dd_expansion.specs.Truth.{is_symbol}
 use Rattle.dd_formula.specs.Automata.{Setting, IsAutomaton, counted, value}
@@ -18,12 +17,11 @@ use Rattle.dd_formula.specs.declared.automaton.Automaton.{Automaton}
 use Rattle.dd_formula.proofs.ValueLaws.{value_below}
 use Rattle.dd_circuit.specs.declared.gates.Signal.{Signal}
 use Rattle.dd_circuit.specs.Circuits.{AreGates, signal_of, signal_value, agrees}
-use Rattle.dd_compile.specs.Wiring.{Wiring, signals_of, signal_for}
+use Rattle.dd_compile.specs.Wiring.{signals_of, signal_for}
 use Rattle.dd_compile.specs.RuleSignals.{is_signal, are_signals}
 use Rattle.dd_compile.specs.ValueGates.{value_made}
 use Rattle.dd_compile.specs.ValueSignals.{TellsCells, are_wired_there}
 use Rattle.dd_compile.specs.Valued.{IsMadeValue, SaysItsValue}
-use Rattle.dd_compile.proofs.CaseRules.{signals_more}
 use Rattle.dd_boxes.specs.Goals.{GoalOf, breaks, differ, always}
 use Rattle.dd_boxes.specs.Boxes.{origin}
 use Rattle.dd_problem.specs.Layouts.{Layout}
@@ -63,14 +61,6 @@ passes_member test [] d h there = absurd (Contains-nil d there)
 passes_member test (e ∷ ds) d h there =
     let both = and_parts (test e) (list_all test ds) h in
     elim (Contains-cons_cases e ds d there) [ inl same ↦ ap test (sym same) ∙ both.0 | inr later ↦ passes_member test ds d both.1 later ]
-
--- what is wired among some variables is so among more
-pub wired_among_more : (n m k : ℕ) (w : Wiring) (c : Cell) → n ≤ m → (ds : List Cell) → are_wired_there n k w ds c ≡ true → are_wired_there m k w ds c ≡ true
-wired_among_more n m k w c more [] h = refl
-wired_among_more n m k w c more (d ∷ ds) h =
-    let o = signals_of w (shifted c.position d) in
-    let both = and_parts (are_signals n k o) (are_wired_there n k w ds c) h in
-    and_from (are_signals m k o) (are_wired_there m k w ds c) (signals_more n m k more o both.0) (wired_among_more n m k w c more ds both.1)
 
 all_inputs : (p : Signal → Bool) (m k : ℕ) (n j : ℕ) → ((s : ℕ) → s < j + n → p (signal_of (input m k s)) ≡ true) → list_all (λ s. p (signal_of (input m k s))) (range_with_len j n) ≡ true
 all_inputs p m k n j h = ranged (λ s. p (signal_of (input m k s))) n j h

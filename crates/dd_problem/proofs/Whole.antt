@@ -15,7 +15,7 @@ use Rattle.dd_compile.specs.ValueSignals.{are_wired_there}
 use Rattle.dd_boxes.specs.Goals.{GoalOf, breaks, differ, always}
 use Rattle.dd_boxes.specs.Boxes.{origin}
 use Rattle.dd_problem.specs.Clauses.{Part, cell_clauses, part_gates, part_clauses}
-use Rattle.dd_problem.proofs.ValueWires.{wired_among_more}
+use Rattle.dd_compile.proofs.StillWired.{still_wired}
 use Rattle.dd_problem.specs.Pushed.{are_both_wired, is_wired_at, is_goal_wired, wired_parts, wired_goal, wired_problem}
 use Rattle.dd_problem.proofs.PlacesLeft.{part_gates-append, part_clauses-append}
 use Rattle.dd_problem.proofs.Wiring.{all_of_range, range_at}
@@ -29,8 +29,8 @@ goal_wired_more w n m (differ s f g) more h =
     all_of_range (are_both_wired w m s f g) s.nodes 0
     (λ a below. (let here = range_at (are_both_wired w n s f g) s.nodes 0 a h (omega arith) below in
     let both = and_parts (are_wired_there n s.symbols w ((counted f).reads a) (cell origin a)) (are_wired_there n s.symbols w ((counted g).reads a) (cell origin a)) here in
-    and_from _ _ (wired_among_more n m s.symbols w (cell origin a) more ((counted f).reads a) both.0)
-    (wired_among_more n m s.symbols w (cell origin a) more ((counted g).reads a) both.1)))
+    and_from _ _ (still_wired n m s.symbols w (cell origin a) more ((counted f).reads a) both.0)
+    (still_wired n m s.symbols w (cell origin a) more ((counted g).reads a) both.1)))
 goal_wired_more w n m always more h = refl
 
 -- a circuit of inputs alone

@@ -15,7 +15,7 @@ use Rattle.dd_compile.specs.ValueSignals.{are_wired_there}
 use Rattle.dd_compile.proofs.ChoiceLaws.{fresh_in_range}
 use Rattle.dd_boxes.specs.Boxes.{origin}
 use Rattle.dd_problem.specs.Differing.{apart, differ_made}
-use Rattle.dd_problem.proofs.ValueWires.{wired_among_more}
+use Rattle.dd_compile.proofs.StillWired.{still_wired}
 use Rattle.dd_problem.proofs.DifferSteps.{is_one, second_few, apart_few, last_few, parts_below, differ_gates, differ_signal}
 use Rattle.dd_problem.proofs.differing.compile_differ.Goals as goal
 
@@ -30,7 +30,7 @@ compile_value-requires-2-clause-wired c =
     let e = c.in_ok-first.ensures in
     let n = is_one k c.args.left.now g w at c.args.circuit.now c.compile_value.new.circuit e.extends.inputs e.gates in
     ap (λ j. are_wired_there (size c.compile_value.new.circuit) j w ((counted g).reads c.args.node) at) c.symbols-symbols.ensures.value
-    ∙ wired_among_more (size c.args.circuit.now) (size c.compile_value.new.circuit) c.args.premise.now.symbols w at (omega (arith, n)) ((counted g).reads c.args.node) both.1
+    ∙ still_wired (size c.args.circuit.now) (size c.compile_value.new.circuit) c.args.premise.now.symbols w at (omega (arith, n)) ((counted g).reads c.args.node) both.1
 
 pub compile_value-requires-2-clause-few : goal.compile_value-requires-2-clause-few
 compile_value-requires-2-clause-few c =

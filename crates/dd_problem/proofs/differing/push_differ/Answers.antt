@@ -8,7 +8,7 @@ use Rattle.dd_compile.specs.Compiling.{Maker}
 use Rattle.dd_compile.specs.ValueSignals.{are_wired_there}
 use Rattle.dd_boxes.specs.Boxes.{origin}
 use Rattle.dd_problem.specs.Differing.{differ_made}
-use Rattle.dd_problem.proofs.ValueWires.{wired_among_more}
+use Rattle.dd_compile.proofs.StillWired.{still_wired}
 use Rattle.dd_problem.proofs.NodesLeft.{node_few, node_step, nodes_done, nodes_gates, true_in_range, on_ok}
 use Rattle.dd_problem.proofs.differing.push_differ.Goals as goal
 
@@ -23,8 +23,8 @@ push_apart-requires-clause-wired c =
     let m = size c.loop-node.circuit in
     let node : a < x.nodes = omega (arith, c.loop-node-test.true, c.nodes-nodes.ensures.value) in
     let both = and_parts (are_wired_there n x.symbols w ((counted f).reads a) (cell origin a)) (are_wired_there n x.symbols w ((counted g).reads a) (cell origin a)) (c.requires.wired a node) in
-    and_from _ _ (wired_among_more n m x.symbols w (cell origin a) c.loop-node.invariant.more ((counted f).reads a) both.0)
-    (wired_among_more n m x.symbols w (cell origin a) c.loop-node.invariant.more ((counted g).reads a) both.1)
+    and_from _ _ (still_wired n m x.symbols w (cell origin a) c.loop-node.invariant.more ((counted f).reads a) both.0)
+    (still_wired n m x.symbols w (cell origin a) c.loop-node.invariant.more ((counted g).reads a) both.1)
 
 pub push_apart-requires-clause-few : goal.push_apart-requires-clause-few
 push_apart-requires-clause-few c =
