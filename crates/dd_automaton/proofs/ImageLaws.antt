@@ -97,7 +97,7 @@ tile_is_below n t h c = by (nat_lt c.node t.nodes)
     by true = below_at n t.symbols h (tile_index t c)
     by false = tt
 
-given_all : (t : Tile) (s : Setting) → IsPeriodic t → s.nodes ≡ t.nodes → (c : Cell) → IsInBox t c → (ds : List Cell) → list_all is_near ds ≡ true → list_all (is_cell_of s) ds ≡ true →
+pub given_all : (t : Tile) (s : Setting) → IsPeriodic t → s.nodes ≡ t.nodes → (c : Cell) → IsInBox t c → (ds : List Cell) → list_all is_near ds ≡ true → list_all (is_cell_of s) ds ≡ true →
     are_given (tile_look t) c.position ds ≡ true
 given_all t s ok same c h [] near placed = refl
 given_all t s ok same c h (d ∷ ds) near placed =

@@ -3,6 +3,7 @@ use Rattle.std.specs.Prelude.{ℕ, ◌<◌, ◌≡◌, Some}
 use Rattle.std.specs.List.{All}
 use Rattle.dd_lattice.specs.declared.position.Cell.{Cell}
 use Rattle.dd_pattern.specs.Tile.{Tile, tile_look}
+use Rattle.dd_expansion.specs.Terms.{origin_at}
 use Rattle.dd_formula.specs.Automata.{Setting, IsAutomaton, value}
 use Rattle.dd_formula.specs.declared.automaton.Automaton.{Automaton}
 
@@ -25,3 +26,7 @@ pub record IsImage (f : Automaton) (t u : Tile) : Type 0 where
   pub values : (c : Cell) → c.node < t.nodes → tile_look u c ≡ Some (value f (tile_look t) c)
   -- the values are symbols of each alphabet over which the automaton is well formed
   pub below : (n : ℕ) → IsAutomaton (numbers_of t n) f → All (λ s. s < n) u.symbols
+
+-- the automata give different symbols at some node of the origin
+abbrev pub DifferAtOrigin : Automaton → Automaton → Tile → Type 0
+DifferAtOrigin f g t = (a : ℕ) × (a < t.nodes) × (value f (tile_look t) (origin_at a) ≡ value g (tile_look t) (origin_at a) → ⊥)

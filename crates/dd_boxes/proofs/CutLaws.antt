@@ -60,16 +60,18 @@ wider_axis : (active : Bool) (n m : ℕ) (x : ℤ) → n ≤ m → is_up_to (spr
 wider_axis true n m x le h = let small : unsigned_abs x ≤ n = leb-true _ _ h in le-leb _ _ (omega arith)
 wider_axis false n m x le h = h
 
-pub wider_box : (x : LocalRule) (n m : ℕ) (c : Cell) → n ≤ m → is_box_cell x n c ≡ true → is_box_cell x m c ≡ true
-wider_box x n m c le h =
-    let d = x.dimension in
+pub wider_cells : (d nodes n m : ℕ) (c : Cell) → n ≤ m → (in_box d n c.position && nat_lt c.node nodes) ≡ true → (in_box d m c.position && nat_lt c.node nodes) ≡ true
+wider_cells d nodes n m c le h =
     let p = c.position in
-    let both = and_parts (in_box d n p) (nat_lt c.node x.nodes) h in
+    let both = and_parts (in_box d n p) (nat_lt c.node nodes) h in
     let parts = box_parts d n p both.0 in
     let first = wider_axis (is_active d 0) n m p.x le parts.0 in
     let second = wider_axis (is_active d 1) n m p.y le parts.1 in
     let third = wider_axis (is_active d 2) n m p.z le parts.2 in
-    and_from (in_box d m p) (nat_lt c.node x.nodes) (and_from _ _ (and_from _ _ first second) third) both.1
+    and_from (in_box d m p) (nat_lt c.node nodes) (and_from _ _ (and_from _ _ first second) third) both.1
+
+pub wider_box : (x : LocalRule) (n m : ℕ) (c : Cell) → n ≤ m → is_box_cell x n c ≡ true → is_box_cell x m c ≡ true
+wider_box x n m c le h = wider_cells x.dimension x.nodes n m c le h
 
 -- the part of a filling in B(n) moved by v, counted from v
 abbrev pub cut : LocalRule → ℕ → Look → Place → Look

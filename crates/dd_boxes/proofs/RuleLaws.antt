@@ -1,6 +1,6 @@
--- What a rule says at a place, by the symbols of the cells that it reads there.
-use Rattle.std.proofs.Common.{◌≡◌, ℕ, Bool, true, List, [], ◌∷◌, refl, ap, sym, ◌∙◌, arith, ℤ, pos, ◌+ℤ◌}
-use Rattle.std.specs.Prelude.{is_some}
+-- What a rule says and an automaton gives at a place, by the symbols of the cells that they read there.
+use Rattle.std.proofs.Common.{◌≡◌, ℕ, Bool, true, List, [], ◌∷◌, Some, None, refl, subst, ap, sym, ◌∙◌, arith, ℤ, pos, ◌+ℤ◌}
+use Rattle.std.specs.Prelude.{Option, is_some}
 use Rattle.std.specs.List.{list_all}
 use Rattle.std.proofs.lemmas.Int.{ints}
 use Rattle.std.proofs.lemmas.Bool.{and_parts, and_from}
@@ -9,9 +9,13 @@ use Rattle.dd_lattice.specs.Cells.{cell, shifted}
 use Rattle.dd_lattice.specs.declared.position.Cell.{Cell}
 use Rattle.dd_pattern.specs.Reading.{Look}
 use Rattle.dd_expansion.specs.Terms.{origin_at}
+use Rattle.dd_expansion.specs.Truth.{are_equal}
 use Rattle.dd_expansion.proofs.TruthKeeps.{truth_keeps}
 use Rattle.dd_expansion.proofs.TruthAt.{at_origin}
 use Rattle.dd_formula.specs.LocalRule.{LocalRule, is_true, reads_at}
+use Rattle.dd_formula.specs.Automata.{value, counted}
+use Rattle.dd_formula.specs.declared.automaton.Automaton.{Automaton}
+use Rattle.dd_formula.proofs.ValueLaws.{value_by_reads, equal_values}
 
 -- the symbols, by cells that are counted from v
 abbrev pub from_place : Look → Place → Look
@@ -61,3 +65,16 @@ list_all_weaker p q weaker [] h = refl
 list_all_weaker p q weaker (x ∷ xs) h =
     let both = and_parts (p x) (list_all p xs) h in
     and_from (q x) (list_all q xs) (weaker x both.0) (list_all_weaker p q weaker xs both.1)
+
+-- and the automaton gives the same
+equal_to_some : (a b : Option ℕ) → a ≡ b → is_some a ≡ true → are_equal a b ≡ true
+equal_to_some None b e h = absurd (cc)
+equal_to_some (Some x) b e h = subst (λ o. are_equal (Some x) o ≡ true) e (equal_values x x refl)
+
+pub value_keeps : (f : Automaton) (less more : Look) (u v : Place) (a : ℕ) →
+    ((c : Cell) → is_some (from_place less u c) ≡ true → from_place less u c ≡ from_place more v c) →
+    list_all (λ c. is_some (from_place less u c)) ((counted f).reads a) ≡ true → value f less (cell u a) ≡ value f more (cell v a)
+value_keeps f less more u v a same h =
+    value_by_reads f a u v less more
+    (list_all_weaker (λ c. is_some (from_place less u c)) (λ c. are_equal (less (shifted u c)) (more (shifted v c)))
+    (λ c some. equal_to_some (from_place less u c) (from_place more v c) (same c some) some) ((counted f).reads a) h)

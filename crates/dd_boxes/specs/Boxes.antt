@@ -10,8 +10,9 @@ use Rattle.dd_expansion.specs.Placed.{is_flat}
 use Rattle.dd_formula.specs.LocalRule.{LocalRule, reads_at}
 use Rattle.dd_formula.specs.Allowed.{AreAllowed, HasAllowed}
 use Rattle.dd_formula.specs.Living.{Fits, Obeys, Lives}
-use Rattle.dd_boxes.specs.Goals.{GoalOf, breaks, always, HasGoal}
-use Rattle.dd_boxes.specs.Fillings.{Admissible, is_box_cell, IsBoxFilling, IsConfiguration}
+use Rattle.dd_formula.specs.Automata.{counted}
+use Rattle.dd_boxes.specs.Goals.{GoalOf, breaks, differ, always, HasGoal}
+use Rattle.dd_boxes.specs.Fillings.{Admissible, is_box_cell, is_cell_within, IsBoxFilling, IsConfiguration}
 
 abbrev pub origin : Place
 origin = place (pos 0) (pos 0) (pos 0)
@@ -23,6 +24,8 @@ Suffices x g n = (look : Look) → IsBoxFilling x n look → Admissible x look �
 -- B(n) holds each cell that the goal reads at the origin
 abbrev pub Reaches : GoalOf → ℕ → Type 0
 Reaches (breaks y) n = (a : ℕ) → a < y.nodes → list_all (is_box_cell y n) (reads_at y a) ≡ true
+Reaches (differ s f g) n =
+    (a : ℕ) → a < s.nodes → (list_all (is_cell_within s n) ((counted f).reads a) ≡ true) × (list_all (is_cell_within s n) ((counted g).reads a) ≡ true)
 Reaches always n = Unit {0}
 
 pub record IsLeastRadius (g : GoalOf) (n : ℕ) : Type 0 where

@@ -10,6 +10,7 @@ use Rattle.dd_pattern.specs.Reading.{Look}
 use Rattle.dd_expansion.specs.Placed.{is_flat}
 use Rattle.dd_formula.specs.LocalRule.{LocalRule, is_true, reads_at}
 use Rattle.dd_formula.specs.Allowed.{AreAllowed}
+use Rattle.dd_formula.specs.Automata.{Setting}
 
 -- the place fits: the cell, and each cell that the rule reads there, has a symbol
 abbrev pub place_fits : LocalRule → Look → Cell → Bool
@@ -31,6 +32,10 @@ in_box d n p =
 -- the cells of B(n), with each node
 abbrev pub is_box_cell : LocalRule → ℕ → Cell → Bool
 is_box_cell x n c = in_box x.dimension n c.position && nat_lt c.node x.nodes
+
+-- the same over the numbers of automata
+abbrev pub is_cell_within : Setting → ℕ → Cell → Bool
+is_cell_within s n c = in_box s.dimension n c.position && nat_lt c.node s.nodes
 
 -- exactly the cells of B(n) have symbols, allowed ones
 pub record IsBoxFilling (x : LocalRule) (n : ℕ) (look : Look) : Type 0 where

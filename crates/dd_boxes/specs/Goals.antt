@@ -4,15 +4,20 @@ use Rattle.dd_lattice.specs.Place.{Place}
 use Rattle.dd_lattice.specs.Cells.{cell}
 use Rattle.dd_pattern.specs.Reading.{Look}
 use Rattle.dd_formula.specs.LocalRule.{LocalRule, IsRule, is_true}
+use Rattle.dd_formula.specs.Automata.{Setting, IsAutomaton, value}
+use Rattle.dd_formula.specs.declared.automaton.Automaton.{Automaton}
 
 pub data GoalOf : Type 0 where
   -- some node of the position breaks the rule
   breaks : LocalRule → GoalOf
+  -- the values of two automata over these numbers are different at some node of the position
+  differ : Setting → Automaton → Automaton → GoalOf
   always : GoalOf
 
 -- the goal holds at the position v, under the symbols that the look gives
 abbrev pub HasGoal : GoalOf → Look → Place → Type 0
 HasGoal (breaks y) look v = (a : ℕ) × (a < y.nodes) × (is_true y (cell v a) look ≡ false)
+HasGoal (differ s f g) look v = (a : ℕ) × (a < s.nodes) × (value f look (cell v a) ≡ value g look (cell v a) → ⊥)
 HasGoal always look v = Unit {0}
 
 -- two rules of one dimension, over the same nodes and the same alphabet
@@ -21,7 +26,16 @@ pub record AreAlike (x y : LocalRule) : Type 0 where
   pub nodes : y.nodes ≡ x.nodes
   pub symbols : y.symbols ≡ x.symbols
 
+-- the numbers are the rule's, and both automata are well formed over them
+pub record AreOver (x : LocalRule) (s : Setting) (f g : Automaton) : Type 0 where
+  pub dimension : s.dimension ≡ x.dimension
+  pub nodes : s.nodes ≡ x.nodes
+  pub symbols : s.symbols ≡ x.symbols
+  pub left : IsAutomaton s f
+  pub right : IsAutomaton s g
+
 -- a goal for questions about a rule
 abbrev pub IsGoalFor : LocalRule → GoalOf → Type 0
 IsGoalFor x (breaks y) = IsRule y × AreAlike x y
+IsGoalFor x (differ s f g) = AreOver x s f g
 IsGoalFor x always = Unit {0}

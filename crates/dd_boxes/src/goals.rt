@@ -5,7 +5,7 @@ ghost use Rattle.dd_boxes.specs.Goals.{IsGoalFor};
 ghost use Rattle.dd_boxes.specs.Views.{goal_of, IsGoal};
 ghost use Rattle.dd_formula.specs.LocalRule.{LocalRule, IsRule};
 
-use dd_formula::Rule;
+use dd_formula::{Automaton, Rule};
 use std::alloc::{AllocError, Global};
 
 /// What may hold at a position of a configuration.
@@ -13,16 +13,26 @@ use std::alloc::{AllocError, Global};
 pub enum Goal<'a> {
     /// Some node of the position breaks the rule.
     Breaks(&'a Rule),
+    /// The values of the two automata are different at some node of the position.
+    Differ(&'a Automaton, &'a Automaton),
     Always,
 }
 
 /// The least radius of a box that holds all cells that the goal reads at the origin's nodes.
-pub fn least_radius(_alloc: Global, goal: &Goal) -> Result<u32, AllocError>
+pub fn least_radius(alloc: Global, goal: &Goal) -> Result<u32, AllocError>
     requires { IsGoal goal.now }
     ensures { IfOk result (λ n. (x : LocalRule) → IsRule x → IsGoalFor x (goal_of x goal.now) → IsLeastRadius (goal_of x goal.now) n) }
 {
     match goal {
         Goal::Breaks(rule) => Ok(rule.reach()),
+        Goal::Differ(left, right) => {
+            // Made for their facts: each automaton keeps to its nodes.
+            left.reads_are_placed();
+            right.reads_are_placed();
+            let left_radius = left.reach(alloc)?;
+            let right_radius = right.reach(alloc)?;
+            Ok(left_radius.max(right_radius))
+        }
         Goal::Always => Ok(0),
     }
 }

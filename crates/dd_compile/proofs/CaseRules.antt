@@ -35,7 +35,7 @@ agrees_before now new set more ok =
     let whole : agrees set now.inputs (now.gates ++ more.added) ≡ true = sym (ap (λ n. agrees set n new.gates) more.inputs ∙ ap (agrees set now.inputs) more.gates) ∙ ok in
     (and_parts (agrees set now.inputs now.gates) (agrees set (size now) more.added) (sym (agrees-append set now.inputs now.gates more.added) ∙ whole)).0
 
-agrees_added : (now new : Network) (set : ℕ → Bool) (added : List Gate) → new.inputs ≡ now.inputs → new.gates ≡ now.gates ++ added → agrees set new.inputs new.gates ≡ true → agrees set (size now) added ≡ true
+pub agrees_added : (now new : Network) (set : ℕ → Bool) (added : List Gate) → new.inputs ≡ now.inputs → new.gates ≡ now.gates ++ added → agrees set new.inputs new.gates ≡ true → agrees set (size now) added ≡ true
 agrees_added now new set added inputs gates ok =
     let whole : agrees set now.inputs (now.gates ++ added) ≡ true = sym (ap (λ n. agrees set n new.gates) inputs ∙ ap (agrees set now.inputs) gates) ∙ ok in
     (and_parts (agrees set now.inputs now.gates) (agrees set (size now) added) (sym (agrees-append set now.inputs now.gates added) ∙ whole)).1

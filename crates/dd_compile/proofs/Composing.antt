@@ -1,7 +1,7 @@
 -- The values of the inner automaton of a composition, one after the other.
 use Rattle.std.proofs.Common.{◌≡◌, ◌<◌, ◌≤◌, ℕ, ◌+◌, ◌*◌, true, List, [], ◌∷◌, ◌++◌, map, length, take, drop, get_or, refl, ap, sym, ◌∙◌, subst, arith, length-append, append_assoc}
 use Rattle.std.specs.List.{All, list_all}
-use Rattle.std.proofs.lemmas.Bool.{and_parts, and_from, leb-true}
+use Rattle.std.proofs.lemmas.Bool.{leb-true}
 use Rattle.std.proofs.lemmas.List.{map-append, take_all, drop_all}
 use Rattle.std.proofs.lemmas.List.Elements.{All-weaker}
 use Rattle.dd_lattice.specs.Place.{moved}
@@ -15,15 +15,15 @@ use Rattle.dd_formula.proofs.AutomatonLaws.{passes_at}
 use Rattle.dd_circuit.specs.declared.gates.Signal.{Signal}
 use Rattle.dd_circuit.specs.declared.gates.Gate.{Gate}
 use Rattle.dd_circuit.specs.Circuits.{Network, IsSignal, size}
-use Rattle.dd_compile.specs.Wiring.{Wiring, unwired, with_cell, signals_of}
+use Rattle.dd_compile.specs.Wiring.{Wiring, unwired, with_cell}
 use Rattle.dd_compile.specs.Compiling.{Extends}
-use Rattle.dd_compile.specs.RuleSignals.{are_signals}
 use Rattle.dd_compile.specs.ValueGates.{WiredMade, inner_made, value_made}
 use Rattle.dd_compile.specs.ValueSignals.{SaysValue, are_wired_there}
 use Rattle.dd_compile.specs.composing.Parts.{AreWired, AreValued, AreValues, IsValued}
 use Rattle.dd_compile.proofs.Progress.{size-append, Extends-trans}
 use Rattle.dd_compile.proofs.CaseGates.{itself, next_is, taken_is}
-use Rattle.dd_compile.proofs.CaseRules.{agrees_before, signals_more}
+use Rattle.dd_compile.proofs.CaseRules.{agrees_before}
+use Rattle.dd_compile.proofs.StillWired.{still_wired}
 use Rattle.dd_compile.proofs.RuleWiring.{extent_moved}
 
 -- what stands of values stands when gates have come
@@ -43,14 +43,6 @@ valued_more now new w k f at [] (x ∷ sss) c ss more h here = absurd h
 valued_more now new w k f at (d ∷ cs) [] c ss more h here = absurd h
 valued_more now new w k f at (d ∷ cs) (x ∷ sss) c ss more h here =
     (still_valued now new w k f (shifted at.position d) x more h.0, valued_more now new w k f at cs sss c ss more h.1 here)
-
--- what is wired stays wired
-still_wired : (n m k : ℕ) (w : Wiring) (c : Cell) → n ≤ m → (ds : List Cell) → are_wired_there n k w ds c ≡ true → are_wired_there m k w ds c ≡ true
-still_wired n m k w c more [] h = refl
-still_wired n m k w c more (d ∷ ds) h =
-    let o = signals_of w (shifted c.position d) in
-    let both = and_parts (are_signals n k o) (are_wired_there n k w ds c) h in
-    and_from (are_signals m k o) (are_wired_there m k w ds c) (signals_more n m k more o both.0) (still_wired n m k w c more ds both.1)
 
 abbrev pub there_of : Cell → List Cell → List Cell
 there_of at cs = map (shifted at.position) cs

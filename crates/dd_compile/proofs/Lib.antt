@@ -11,6 +11,9 @@ pub mod RuleSays
 pub mod ChoiceLaws
 pub mod CaseGates
 pub mod CaseRules
+pub mod StillWired
 pub mod ValueParts
 pub mod Composing
 pub mod Composed
+pub mod SaidRules
+pub mod SaidComposed

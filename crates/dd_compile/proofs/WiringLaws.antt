@@ -41,6 +41,12 @@ missing_reads_none_too w ok c s absent =
     let none = missing_reads_none (filled w.cells zeros) (record { ascending = ok.ascending; as_many = as_many }) c absent in
     ap (λ o. signal_for o s) (none_from_map (slice_get w.signals (place_of w.cells c)) (sym (slice_get-map zero_for w.signals (place_of w.cells c)) ∙ none))
 
+-- each cell has the signals at its place
+pub signals_at_place : (w : Wiring) → IsWiring w → (k : ℕ) (d : Cell) → k < length w.cells → signals_of w (get_or w.cells k d) ≡ slice_get w.signals k
+signals_at_place w ok k d h =
+    let c = get_or w.cells k d in
+    ap (slice_get w.signals) (place_found w.cells ok.ascending k c h (get_or_default w.cells k c d h))
+
 pub read_by_place : (w : Wiring) → IsWiring w → IsReadByPlace w
 read_by_place w ok = record { at = reads_at_place w ok; elsewhere = missing_reads_none_too w ok }
 

@@ -5,5 +5,6 @@ pub mod RuleSignals
 -- The gates of the value of an automaton, and what they say.
 pub mod ValueGates
 pub mod ValueSignals
+pub mod Valued
 -- what the recursion over compositions keeps
 pub mod composing

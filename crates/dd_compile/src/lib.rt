@@ -4,11 +4,13 @@
 mod automata;
 mod compiling;
 mod inputs;
+mod laws;
 mod rules;
 mod values;
 
 pub use automata::{compile_value, value_gates};
 pub use compiling::{compile_expanded, is_wired};
 pub use inputs::Inputs;
+pub use laws::says_its_value;
 pub use rules::{compile_rule, reads_are_wired};
 pub use values::compile_cases;

@@ -18,16 +18,18 @@ use Rattle.dd_circuit.specs.declared.gates.Signal.{Signal}
 use Rattle.dd_circuit.specs.Circuits.{signal_of}
 use Rattle.dd_compile.specs.Wiring.{wire_of}
 use Rattle.dd_formula.specs.LocalRule.{LocalRule, IsRule, reads_at}
-use Rattle.dd_boxes.specs.Goals.{GoalOf, breaks, always, IsGoalFor}
+use Rattle.dd_boxes.specs.Goals.{GoalOf, breaks, differ, always}
 use Rattle.dd_boxes.specs.Fillings.{in_box, is_box_cell}
 use Rattle.dd_boxes.specs.Boxes.{origin, Reaches}
 use Rattle.dd_boxes.specs.Counts.{question_clauses, most_clauses}
+use Rattle.dd_problem.specs.Told.{IsToldGoal}
 use Rattle.dd_problem.specs.Layouts.{box_index, box_cells, box_layout}
 use Rattle.dd_problem.specs.Clauses.{input}
 use Rattle.dd_problem.specs.Problems.{box_problem}
 use Rattle.dd_problem.specs.Numbered.{in_turn}
 use Rattle.dd_problem.specs.Pushed.{wired_problem, AreInputs, is_goal_wired}
 use Rattle.dd_problem.proofs.BoxLayout.{box_within, bounds_ordered, box_is_layout, box_cell_there, box_cell_at}
+use Rattle.dd_problem.proofs.BoxValues.{box_values}
 use Rattle.dd_problem.proofs.BoxShows.{goal_reads_box}
 use Rattle.dd_problem.proofs.CellOrder.{cells_ascending}
 use Rattle.dd_problem.proofs.Counting.{positions_below, variables_below}
@@ -118,21 +120,22 @@ box_nodes x n k d is = ltb-true d.node x.nodes (and_parts (in_box x.dimension n 
 pub all_box_nodes : (x : LocalRule) (n : ℕ) → All (λ (d : Cell). d.node < x.nodes) (box_cells x n)
 all_box_nodes x n = λ k d h. box_nodes x n k (get_or (box_cells x n) k d) (slice_get-get_or (box_cells x n) k d h)
 
-box_goal : (x : LocalRule) (g : GoalOf) (n : ℕ) → IsRule x → IsGoalFor x g → n ≤ 1048576 → GoalMatches (in_turn x.symbols (box_cells x n)) (box_layout x n) x.symbols (λ _. true) g
+box_goal : (x : LocalRule) (g : GoalOf) (n : ℕ) → IsRule x → IsToldGoal x g → n ≤ 1048576 → GoalMatches (in_turn x.symbols (box_cells x n)) (box_layout x n) x.symbols (λ _. true) g
 box_goal x (breaks y) n rule ok small = λ a node. record { node = node; gives = box_gives x n rule small origin; reads = all_pass (reads_at y a) }
+box_goal x (differ s f g) n rule ok small = refl
 box_goal x always n rule ok small = tt
 
-pub box_is_problem : (x : LocalRule) (g : GoalOf) (n : ℕ) → IsRule x → IsGoalFor x g → Reaches g n → n ≤ 1048576 →
+pub box_is_problem : (x : LocalRule) (g : GoalOf) (n : ℕ) → IsRule x → IsToldGoal x g → Reaches g n → n ≤ 1048576 →
     wired_problem (in_turn x.symbols (box_cells x n)) x g (box_cells x n) ≡ box_problem x g n
 box_is_problem x g n rule ok reach small =
     wired_is_problem (in_turn x.symbols (box_cells x n)) (box_layout x n) x (λ _. true) g rule ok (box_is_layout x n) (goal_reads_box x g n ok reach)
     (λ k d is. record { node = box_nodes x n k d is; gives = box_gives x n rule small d.position; reads = all_pass (reads_at x d.node) })
     (box_goal x g n rule ok small)
 
-pub box_goal_wired : (x : LocalRule) (g : GoalOf) (n : ℕ) → IsRule x → IsGoalFor x g → Reaches g n → n ≤ 1048576 →
+pub box_goal_wired : (x : LocalRule) (g : GoalOf) (n : ℕ) → IsRule x → IsToldGoal x g → Reaches g n → n ≤ 1048576 →
     is_goal_wired (in_turn x.symbols (box_cells x n)) (length (box_cells x n) * x.symbols) g ≡ true
 box_goal_wired x g n rule ok reach small =
-    goal_is_wired (in_turn x.symbols (box_cells x n)) (box_layout x n) x (λ _. true) g ok (box_is_layout x n) (goal_reads_box x g n ok reach) (box_goal x g n rule ok small)
+    goal_is_wired (in_turn x.symbols (box_cells x n)) (box_layout x n) x (λ _. true) g ok (box_is_layout x n) (goal_reads_box x g n ok reach) (box_values x n rule g ok reach) (box_goal x g n rule ok small)
 
 pub box_inputs : (x : LocalRule) (n : ℕ) → AreInputs (length (box_cells x n) * x.symbols) (in_turn x.symbols (box_cells x n))
 box_inputs x n = are_inputs x.symbols (length (box_cells x n)) (box_cells x n) (range_with_len 0 (length (box_cells x n))) (turns_below (length (box_cells x n)))

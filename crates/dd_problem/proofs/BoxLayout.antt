@@ -14,8 +14,8 @@ use Rattle.dd_formula.specs.LocalRule.{LocalRule}
 use Rattle.dd_boxes.specs.Fillings.{in_box, is_box_cell}
 use Rattle.dd_boxes.proofs.OneBoxLaws.{box_is_centred}
 use Rattle.dd_problem.specs.Layouts.{nth_cell, box_index, box_cells, box_layout}
-use Rattle.dd_problem.proofs.Reading.{IsLayout, slice_of_range}
-use Rattle.dd_problem.proofs.Filtered.{some_same}
+use Rattle.dd_problem.proofs.Reading.{IsLayout}
+use Rattle.dd_problem.proofs.Filtered.{some_same, slice_of_range}
 
 pub box_within : (d n : ℕ) (p : Place) → in_box d n p ≡ true → IsWithin (centred d n) p
 box_within d n p h = (centred_members d n p).1 ((box_is_centred d n p).0 h)

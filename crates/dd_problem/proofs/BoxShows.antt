@@ -13,12 +13,13 @@ use Rattle.dd_formula.specs.LocalRule.{LocalRule, rule_allows, IsRule, is_true, 
 use Rattle.dd_formula.proofs.AllowedLaws.{look_below as look_below_alphabet}
 use Rattle.dd_clause.specs.declared.clause.Literal.{Literal}
 use Rattle.dd_cnf.proofs.ModelLaws.{Satisfies-is_satisfied, is_satisfied-Satisfies}
-use Rattle.dd_boxes.specs.Goals.{GoalOf, breaks, always, IsGoalFor}
+use Rattle.dd_boxes.specs.Goals.{GoalOf, breaks, differ, always}
 use Rattle.dd_boxes.specs.Fillings.{Admissible, in_box, is_box_cell, IsBoxFilling}
 use Rattle.dd_boxes.specs.Boxes.{origin, Reaches}
 use Rattle.dd_boxes.proofs.RuleLaws.{shifted_by_origin, list_all_weaker}
 use Rattle.dd_boxes.proofs.CutLaws.{flat_box}
 use Rattle.dd_boxes.proofs.FromBox.{box_alike}
+use Rattle.dd_problem.specs.Told.{IsToldGoal}
 use Rattle.dd_problem.specs.Layouts.{box_index, box_cells, box_layout, fits_in}
 use Rattle.dd_problem.specs.Problems.{problem_clauses}
 use Rattle.dd_problem.specs.Symbols.{AreSymbols, AreRead, look_of}
@@ -28,19 +29,21 @@ use Rattle.dd_problem.proofs.Reading.{Stands, IsWired, look_allowed, read_symbol
 use Rattle.dd_problem.proofs.Writing.{assignment, problem_written}
 use Rattle.dd_problem.proofs.Filtered.{filter_all, filter_at}
 use Rattle.dd_problem.proofs.Wiring.{goal_from_test, test_from_goal, HasReads, wired_layout}
+use Rattle.dd_problem.proofs.BoxValues.{box_values}
 use Rattle.dd_problem.proofs.BoxLayout.{box_is_layout, box_cell_there, box_cell_at}
 
-pub goal_reads_box : (x : LocalRule) (g : GoalOf) (n : ℕ) → IsGoalFor x g → Reaches g n → HasReads (box_layout x n) g
+pub goal_reads_box : (x : LocalRule) (g : GoalOf) (n : ℕ) → IsToldGoal x g → Reaches g n → HasReads (box_layout x n) g
 goal_reads_box x (breaks y) n ok reach = λ a node.
     list_all_weaker (is_box_cell y n) (λ c. is_box_cell x n (shifted origin c))
     (λ c h. ap (is_box_cell x n) (shifted_by_origin c) ∙ (sym (box_alike x y n c ok.1) ∙ h)) (reads_at y a) (reach a node)
+goal_reads_box x (differ s f g) n ok reach = tt
 goal_reads_box x always n ok reach = tt
 
-pub box_is_wired : (x : LocalRule) (g : GoalOf) (n : ℕ) → IsRule x → IsGoalFor x g → Reaches g n → IsWired (box_layout x n) x g
+pub box_is_wired : (x : LocalRule) (g : GoalOf) (n : ℕ) → IsRule x → IsToldGoal x g → Reaches g n → IsWired (box_layout x n) x g
 box_is_wired x g n rule ok reach =
     wired_layout (box_layout x n) x g rule ok (box_is_layout x n)
     (λ k d is. ltb-true d.node x.nodes (and_parts (in_box x.dimension n d.position) (nat_lt d.node x.nodes) (box_cell_at x n k d is).0).1)
-    (goal_reads_box x g n ok reach)
+    (goal_reads_box x g n ok reach) (box_values x n rule g ok reach)
 
 -- a look whose domain is the box is admissible exactly where the premise holds at all places of the layout where it fits
 holds_from_admissible : (x : LocalRule) (n : ℕ) (look : Look) → IsBoxFilling x n look → Admissible x look → premise_holds (box_layout x n) x look ≡ true
@@ -136,7 +139,7 @@ read_by_cells : (set : ℕ → Bool) (x : LocalRule) (n : ℕ) (symbols : List �
 read_by_cells set x n symbols full read c s here below =
     rw here (read (box_index x n c) s (let low = (box_is_layout x n).within c here in omega arith) below)
 
-pub box_shows : (x : LocalRule) (g : GoalOf) (n : ℕ) → IsRule x → IsGoalFor x g → Reaches g n → Shows (problem_clauses (box_layout x n) x g) x g n
+pub box_shows : (x : LocalRule) (g : GoalOf) (n : ℕ) → IsRule x → IsToldGoal x g → Reaches g n → Shows (problem_clauses (box_layout x n) x g) x g n
 box_shows x g n rule ok reach =
     let l = box_layout x n in
     let wired = box_is_wired x g n rule ok reach in

@@ -22,7 +22,7 @@ use Rattle.dd_lattice.specs.declared.position.Cell.{Cell}
 use Rattle.dd_lattice.proofs.BoxLaws.{index_below, place_at_index}
 use Rattle.dd_lattice.proofs.PositionLaws.{first_ascending}
 use Rattle.dd_problem.specs.Layouts.{nth_cell, cells_in}
-use Rattle.dd_problem.proofs.Reading.{slice_of_range}
+use Rattle.dd_problem.proofs.Filtered.{slice_of_range}
 
 -- a fact of each number of a range
 pub All-range : (P : ℕ → Type 0) (n a : ℕ) → ((k : ℕ) → a ≤ k → k < a + n → P k) → All P (range_with_len a n)

@@ -8,47 +8,29 @@ use Rattle.std.proofs.lemmas.Nat.{mul-le, mod-mul-add, mod_below, div-add-mod'}
 use Rattle.dd_lattice.specs.Boxes.{Bounds, volume}
 use Rattle.dd_lattice.specs.Cells.{cell}
 use Rattle.dd_lattice.specs.declared.position.Cell.{Cell}
-use Rattle.dd_expansion.specs.declared.expanded.Expanded.{Expanded}
-use Rattle.dd_expansion.specs.declared.expanded.Expanded.TheFolds.{fold-roll-Expanded, map-Expanded, ind-Expanded}
-use Rattle.dd_expansion.specs.declared.expanded.Expanded.TheOpen.{Expanded-F}
-use Rattle.dd_expansion.specs.Leaves.{total, clause_count, clause_count_step}
-use Rattle.dd_compile.specs.Compiling.{all_made, gate_count, gate_count_step}
+use Rattle.dd_expansion.specs.Leaves.{total, clause_count}
+use Rattle.dd_compile.specs.Compiling.{AllMade, all_made}
+use Rattle.dd_compile.proofs.FewGates.{gates_below}
 use Rattle.dd_compile.proofs.MadeCount.{made_count}
 use Rattle.dd_formula.specs.LocalRule.{LocalRule, expansion_at}
-use Rattle.dd_boxes.specs.Goals.{GoalOf, breaks, always}
+use Rattle.dd_formula.specs.ValueCounts.{differ_at}
+use Rattle.dd_formula.specs.declared.automaton.Automaton.{Automaton}
+use Rattle.dd_circuit.specs.declared.gates.Signal.{Signal}
+use Rattle.dd_circuit.specs.declared.gates.Gate.TheVariants.{Or}
+use Rattle.dd_compile.specs.Wiring.{Wiring}
+use Rattle.dd_compile.specs.ValueGates.{fresh, value_made}
+use Rattle.dd_compile.proofs.ChoiceLaws.{fresh_length}
+use Rattle.dd_compile.proofs.ValueParts.{by_forms, made_given, made_composed, few_gates}
+use Rattle.dd_boxes.specs.Goals.{GoalOf, breaks, differ, always}
 use Rattle.dd_boxes.specs.Boxes.{origin}
 use Rattle.dd_formula.specs.Counts.{over_nodes, rule_clauses, cell_clauses, disallowed_pairs}
 use Rattle.dd_boxes.specs.Counts.{goal_clauses, question_clauses}
 use Rattle.dd_problem.specs.Layouts.{Layout, nth_cell, cells_in, fits_in}
 use Rattle.dd_problem.specs.Clauses.{part_gates}
 use Rattle.dd_problem.specs.Problems.{wire, place_maker, premise_part, goal_part, input_count, problem}
+use Rattle.dd_problem.specs.Differing.{apart, differ_made}
 use Rattle.dd_problem.proofs.PlacesLeft.{part_gates-append}
 use Rattle.dd_problem.proofs.CellOrder.{length-cells_in}
-
--- at least one clause for each gate
-abbrev HasEnough : Expanded → Type 0
-HasEnough e = gate_count e ≤ clause_count e
-
-abbrev Known : Type 0
-Known = (e : Expanded) × HasEnough e
-
-abbrev layer : Expanded-F Known → Expanded-F Expanded
-layer y = map-Expanded Known Expanded (λ e. e.0) y
-
-parts_enough : (es : List Known) → total (map gate_count (map (λ e. e.0) es)) ≤ total (map clause_count (map (λ e. e.0) es))
-parts_enough [] = omega arith
-parts_enough (e ∷ es) = omega (arith, parts_enough es, e.1)
-
-step_enough : (y : Expanded-F Known) → gate_count_step (map-Expanded Expanded ℕ gate_count (layer y)) ≤ clause_count_step (map-Expanded Expanded ℕ clause_count (layer y))
-step_enough (Expanded-F.Constant b) = omega arith
-step_enough (Expanded-F.Leaf c s) = omega arith
-step_enough (Expanded-F.Not e) = omega (arith, e.1)
-step_enough (Expanded-F.And es) = omega (arith, parts_enough es)
-step_enough (Expanded-F.Or es) = omega (arith, parts_enough es)
-step_enough (Expanded-F.Iff e f) = omega (arith, e.1, f.1)
-
-gates_below : (e : Expanded) → gate_count e ≤ clause_count e
-gates_below = ind-Expanded HasEnough (λ x y is. rw (fold-roll-Expanded ℕ gate_count_step x, fold-roll-Expanded ℕ clause_count_step x, ← is) (step_enough y))
 
 -- the gates of a rule at several cells, and at several nodes of one position
 abbrev at_cell : LocalRule → Cell → ℕ
@@ -81,10 +63,52 @@ node_gates l m y (a ∷ nodes) n =
     let all = length-append gs (all_made (map (λ b. place_maker l m y (cell origin b)) nodes) (n + length gs)).gates in
     omega (arith, here, below, rest, all)
 
+-- and of two values
+value_signals : (k : ℕ) (f : Automaton) (w : Wiring) (at : Cell) (n : ℕ) → length (value_made k f w at n).signals ≡ k
+value_signals k =
+    by_forms (λ f. (w : Wiring) (at : Cell) (n : ℕ) → length (value_made k f w at n).signals ≡ k)
+    (λ c w at n. ap (λ (m : AllMade). length m.signals) (made_given k c w at n) ∙ fresh_length _ k)
+    (λ f g first second w at n. ap (λ (m : AllMade). length m.signals) (made_composed k f g w at n) ∙ first _ at _)
+
+apart_few : (xs ys : List Signal) → length (apart xs ys) ≤ length xs
+apart_few [] ys = omega arith
+apart_few (x ∷ xs) [] = omega arith
+apart_few (x ∷ xs) (y ∷ ys) = let rest = apart_few xs ys in omega (arith, rest)
+
+two_values : (k : ℕ) (f g : Automaton) (w : Wiring) (at : Cell) (n : ℕ) → length (differ_made k f g w at n).gates ≤ differ_at k f g at.node
+two_values k f g w at n =
+    let first = value_made k f w at n in
+    let second = n + length first.gates in
+    let next = value_made k g w at second in
+    let each = apart first.signals next.signals in
+    let l1 = length-append first.gates next.gates in
+    let l2 = length-append (first.gates ++ next.gates) each in
+    let l3 = length-append ((first.gates ++ next.gates) ++ each) (Or (fresh (second + length next.gates) (length each)) ∷ []) in
+    let few = few_gates k f w at n in
+    let fewer = few_gates k g w at second in
+    let many = apart_few first.signals next.signals in
+    let count = value_signals k f w at n in
+    omega (arith, l1, l2, l3, few, fewer, many, count)
+
+differ_gates : (k : ℕ) (f g : Automaton) (w : Wiring) (nodes : List ℕ) (n : ℕ) →
+    length (all_made (map (λ a. differ_made k f g w (cell origin a)) nodes) n).gates ≤ total (map (differ_at k f g) nodes)
+differ_gates k f g w [] n = omega arith
+differ_gates k f g w (a ∷ nodes) n =
+    let gs = (differ_made k f g w (cell origin a) n).gates in
+    let here = two_values k f g w (cell origin a) n in
+    let rest = differ_gates k f g w nodes (n + length gs) in
+    let all = length-append gs (all_made (map (λ b. differ_made k f g w (cell origin b)) nodes) (n + length gs)).gates in
+    omega (arith, here, rest, all)
+
 goal_gates : (l : Layout) (m : ℕ) (g : GoalOf) (n : ℕ) → length (part_gates n (goal_part l m g ∷ [])) ≤ goal_clauses g
 goal_gates l m (breaks y) n =
     let gs = (all_made (map (λ a. place_maker l m y (cell origin a)) (range_with_len 0 y.nodes)) n).gates in
     let all = node_gates l m y (range_with_len 0 y.nodes) n in
+    let one = length-append gs [] in
+    omega (arith, all, one)
+goal_gates l m (differ s f g) n =
+    let gs = (all_made (map (λ a. differ_made s.symbols f g l.inputs (cell origin a)) (range_with_len 0 s.nodes)) n).gates in
+    let all = differ_gates s.symbols f g l.inputs (range_with_len 0 s.nodes) n in
     let one = length-append gs [] in
     omega (arith, all, one)
 goal_gates l m always n = omega arith

@@ -4,10 +4,15 @@ use Rattle.std.specs.Prelude.{not, cond, ◌&&◌, ◌||◌, slice_get}
 use Rattle.std.specs.List.{list_all, filter, range_with_len}
 use Rattle.std.proofs.lemmas.Bool.{and_parts}
 use Rattle.std.proofs.lemmas.Option.{slice_get_read, slice_get_within}
-use Rattle.std.proofs.lemmas.List.FromFn.{get_or-range_with_len, length-range_with_len}
+use Rattle.std.proofs.lemmas.List.FromFn.{get_or-range_with_len, length-range_with_len, get_or-map-range_with_len, length-map-range_with_len}
 use Rattle.dd_clause.specs.Clauses.{is_clause_true}
 use Rattle.dd_cnf.specs.Encoding.{literal}
 use Rattle.dd_cnf.specs.Models.{is_satisfied}
+
+-- the places of a range
+pub slice_of_range : {X : Type 0} (f : ℕ → X) (n k : ℕ) → k < n → slice_get (map f (range_with_len 0 n)) k ≡ Some (f k)
+slice_of_range f n k h =
+    slice_get_read (map f (range_with_len 0 n)) n k (f k) (sym (length-map-range_with_len f 0 n)) h (sym (get_or-map-range_with_len f 0 n k k (f k) h (omega arith)))
 
 pub some_same : {A : Type 0} (a b : A) → Some a ≡ Some b → a ≡ b
 some_same a b h = cc

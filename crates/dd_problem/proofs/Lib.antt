@@ -4,11 +4,16 @@ pub mod RangesLeft
 pub mod PlacesLeft
 pub mod NodesLeft
 pub mod Parts
+pub mod DifferLaws
+pub mod Parting
+pub mod DifferSteps
+pub mod ValueWires
 pub mod Parted
 pub mod Reading
 pub mod Writing
 pub mod Wiring
 pub mod BoxLayout
+pub mod BoxValues
 pub mod BoxShows
 pub mod TorusLayout
 pub mod TorusShows

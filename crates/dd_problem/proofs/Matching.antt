@@ -17,12 +17,17 @@ use Rattle.dd_compile.specs.Wiring.{Wiring}
 use Rattle.dd_compile.specs.Compiling.{made, wires_near, is_wire, certain, compiled, wire_or_zero}
 use Rattle.dd_compile.proofs.MadeCount.{made_same}
 use Rattle.dd_formula.specs.LocalRule.{LocalRule, IsRule, reads_at, expansion_at}
-use Rattle.dd_boxes.specs.Goals.{GoalOf, breaks, always, IsGoalFor}
+use Rattle.dd_boxes.specs.Goals.{GoalOf, breaks, differ, always}
 use Rattle.dd_boxes.specs.Boxes.{origin}
+use Rattle.dd_problem.specs.Told.{IsToldGoal}
 use Rattle.dd_problem.specs.Layouts.{Layout, fits_in}
-use Rattle.dd_problem.specs.Clauses.{input, Part, cell_clauses, part_gates, part_clauses, units, some_false}
+use Rattle.dd_problem.specs.Clauses.{input, Part, cell_clauses, part_gates, part_clauses, units, some_true, some_false}
 use Rattle.dd_problem.specs.Problems.{wire, place_maker, premise_part, goal_part, input_count, problem}
-use Rattle.dd_problem.specs.Pushed.{is_wired_at, is_goal_wired, wired_part, wired_parts, wired_goal, wired_problem}
+use Rattle.dd_formula.specs.Automata.{counted}
+use Rattle.dd_compile.specs.ValueSignals.{are_wired_there}
+use Rattle.dd_problem.specs.Differing.{differ_made}
+use Rattle.dd_problem.proofs.ValueWires.{GoalWired, value_is_wired}
+use Rattle.dd_problem.specs.Pushed.{are_both_wired, is_wired_at, is_goal_wired, wired_part, wired_parts, wired_goal, wired_problem}
 use Rattle.dd_problem.proofs.RangesLeft.{row_within}
 use Rattle.dd_problem.proofs.Reading.{IsLayout}
 use Rattle.dd_problem.proofs.Wiring.{HasReads, all_of_range}
@@ -137,25 +142,36 @@ range_same f g (suc n) a h = λ i. h a (omega arith) i ∷ range_same f g n (a +
 -- the goal at the origin
 abbrev pub GoalMatches : Wiring → Layout → ℕ → (Cell → Bool) → GoalOf → Type 0
 GoalMatches w l m p (breaks y) = (a : ℕ) → a < y.nodes → Matches w l m p y (cell origin a)
+GoalMatches w l m p (differ s f g) = w ≡ l.inputs
 GoalMatches w l m p always = Unit {0}
 
-goal_same : (w : Wiring) (l : Layout) (x : LocalRule) (p : Cell → Bool) (g : GoalOf) → IsGoalFor x g → IsLayout l → HasReads l g → GoalMatches w l x.symbols p g →
+goal_same : (w : Wiring) (l : Layout) (x : LocalRule) (p : Cell → Bool) (g : GoalOf) → IsToldGoal x g → IsLayout l → HasReads l g → GoalMatches w l x.symbols p g →
     wired_goal w g ≡ goal_part l x.symbols g
 goal_same w l x p (breaks y) ok layout reads match =
     let makers = range_same (λ a. compiled w origin (expansion_at y a)) (λ a. place_maker l x.symbols y (cell origin a)) y.nodes 0
     (λ a below. (let node : a < y.nodes = omega arith in same_maker w l x.symbols p y (cell origin a) ok.0 (sym ok.1.symbols) layout (match a node) (reads a node))) in
     λ i. record { makers = makers i; tail = some_false }
+goal_same w l x p (differ s f g) ok layout reads match =
+    λ i. record { makers = map (λ a. differ_made s.symbols f g (match i) (cell origin a)) (range_with_len 0 s.nodes); tail = some_true }
 goal_same w l x p always ok layout reads match = refl
 
-pub goal_is_wired : (w : Wiring) (l : Layout) (x : LocalRule) (p : Cell → Bool) (g : GoalOf) → IsGoalFor x g → IsLayout l → HasReads l g → GoalMatches w l x.symbols p g →
+pub goal_is_wired : (w : Wiring) (l : Layout) (x : LocalRule) (p : Cell → Bool) (g : GoalOf) → IsToldGoal x g → IsLayout l → HasReads l g → GoalWired l x.symbols g → GoalMatches w l x.symbols p g →
     is_goal_wired w (length l.places * x.symbols) g ≡ true
-goal_is_wired w l x p (breaks y) ok layout reads match =
+goal_is_wired w l x p (breaks y) ok layout reads values match =
     all_of_range (λ a. is_wired_at w (length l.places * x.symbols) y (cell origin a)) y.nodes 0
     (λ a below. (let node : a < y.nodes = omega arith in same_test w l x.symbols p y (cell origin a) ok.0 (sym ok.1.symbols) layout (match a node) ∙ reads a node))
-goal_is_wired w l x p always ok layout reads match = refl
+goal_is_wired w l x p (differ s f g) ok layout reads values match =
+    let n = length l.places * x.symbols in
+    let same = ap (λ k. length l.places * k) values.symbols in
+    all_of_range (are_both_wired w n s f g) s.nodes 0
+    (λ a below. (let node : a < s.nodes = omega arith in
+    and_from _ _
+    (ap (λ v. are_wired_there n s.symbols v ((counted f).reads a) (cell origin a)) match ∙ value_is_wired l layout.within s f values.left a node n (omega (arith, same)))
+    (ap (λ v. are_wired_there n s.symbols v ((counted g).reads a) (cell origin a)) match ∙ value_is_wired l layout.within s g values.right a node n (omega (arith, same)))))
+goal_is_wired w l x p always ok layout reads values match = refl
 
 -- all clauses
-pub wired_is_problem : (w : Wiring) (l : Layout) (x : LocalRule) (p : Cell → Bool) (g : GoalOf) → IsRule x → IsGoalFor x g → IsLayout l → HasReads l g →
+pub wired_is_problem : (w : Wiring) (l : Layout) (x : LocalRule) (p : Cell → Bool) (g : GoalOf) → IsRule x → IsToldGoal x g → IsLayout l → HasReads l g →
     ((k : ℕ) (d : Cell) → slice_get l.places k ≡ Some d → Matches w l x.symbols p x d) → GoalMatches w l x.symbols p g → wired_problem w x g l.places ≡ problem l x g
 wired_is_problem w l x p g rule ok layout reads places goal =
     let n = input_count l x in

@@ -11,14 +11,13 @@ use Rattle.dd_lattice.specs.Order.{cell_cmp}
 use Rattle.dd_lattice.specs.declared.position.Cell.{Cell}
 use Rattle.dd_circuit.specs.declared.gates.Signal.{Signal}
 use Rattle.dd_circuit.specs.Circuits.{IsSignal, signal_of}
-use Rattle.dd_compile.specs.Wiring.{IsWiring, signal_for, wire_of}
-use Rattle.dd_compile.proofs.WiringLaws.{read_by_place}
+use Rattle.dd_compile.specs.Wiring.{IsWiring, signal_for, signals_of, wire_of}
+use Rattle.dd_compile.proofs.WiringLaws.{read_by_place, signals_at_place}
 use Rattle.dd_problem.specs.Clauses.{input}
 use Rattle.dd_problem.specs.Pushed.{AreInputs}
 use Rattle.dd_problem.specs.Numbered.{symbol_signals, numbered}
 use Rattle.dd_problem.proofs.RangesLeft.{row_within}
-use Rattle.dd_problem.proofs.Reading.{slice_of_range}
-use Rattle.dd_problem.proofs.Filtered.{some_same}
+use Rattle.dd_problem.proofs.Filtered.{some_same, slice_of_range}
 use Rattle.dd_problem.proofs.CellOrder.{All-range}
 
 -- a range holds its numbers in turn
@@ -44,6 +43,13 @@ module _ (m : ℕ) (cells : List Cell) (numbers : List ℕ) (up : IsStrictlySort
       ∙ ((read_by_place (numbered m cells numbers) wiring).at i c s (slice_get_within cells i c is)
       ∙ (ap (λ o. signal_for o s) (slice_get-map (symbol_signals m) numbers i ∙ ap (option_map (symbol_signals m)) number)
       ∙ slice_of_range (λ t. signal_of (input m k t)) m s below))
+
+  pub signals_there : (c : Cell) (i k : ℕ) → slice_get cells i ≡ Some c → slice_get numbers i ≡ Some k → signals_of (numbered m cells numbers) c ≡ Some (symbol_signals m k)
+  signals_there c i k is number =
+      let here : get_or cells i c ≡ c = get_or_from_slice_get cells i c c is in
+      ap (signals_of (numbered m cells numbers)) (sym here)
+      ∙ (signals_at_place (numbered m cells numbers) wiring i c (slice_get_within cells i c is)
+      ∙ (slice_get-map (symbol_signals m) numbers i ∙ ap (option_map (symbol_signals m)) number))
 
   pub wire_absent : (c : Cell) (s : ℕ) → (Contains cells c → ⊥) → wire_of (numbered m cells numbers) c s ≡ None
   wire_absent c s absent = (read_by_place (numbered m cells numbers) wiring).elsewhere c s absent

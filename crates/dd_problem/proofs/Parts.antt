@@ -34,18 +34,18 @@ parts_law set n (p ∷ ps) =
     ∙ (rw (gates_law set n gs, list_all-append (is_clause_true set) ts (part_clauses m ps), parts_law set m ps, agrees-append set n gs (part_gates m ps))
     (four (agrees set n gs) (is_satisfied set ts) (agrees set m (part_gates m ps)) (tests set m ps)))
 
--- where the part's gates agree, its clauses say b
-abbrev pub PartSays : (ℕ → Bool) → Part → Bool → Type 0
-PartSays set p b = (n : ℕ) → agrees set n (made_by p n).gates ≡ true → is_satisfied set (p.tail (made_by p n).signals) ≡ b
+-- where the part's gates agree, after at least m variables, its clauses say b
+abbrev pub PartSays : (ℕ → Bool) → ℕ → Part → Bool → Type 0
+PartSays set m p b = (n : ℕ) → m ≤ n → agrees set n (made_by p n).gates ≡ true → is_satisfied set (p.tail (made_by p n).signals) ≡ b
 
-pub tests_law : {D : Type 0} (set : ℕ → Bool) (part : D → Part) (q b : D → Bool) → ((d : D) → q d ≡ true → PartSays set (part d) (b d)) →
-    (ds : List D) (n : ℕ) → list_all q ds ≡ true → agrees set n (part_gates n (map part ds)) ≡ true → tests set n (map part ds) ≡ list_all b ds
-tests_law set part q b say [] n h ok = refl
-tests_law set part q b say (d ∷ ds) n h ok =
+pub tests_law : {D : Type 0} (set : ℕ → Bool) (m : ℕ) (part : D → Part) (q b : D → Bool) → ((d : D) → q d ≡ true → PartSays set m (part d) (b d)) →
+    (ds : List D) (n : ℕ) → m ≤ n → list_all q ds ≡ true → agrees set n (part_gates n (map part ds)) ≡ true → tests set n (map part ds) ≡ list_all b ds
+tests_law set m part q b say [] n le h ok = refl
+tests_law set m part q b say (d ∷ ds) n le h ok =
     let gs = (made_by (part d) n).gates in
     let qs = and_parts (q d) (list_all q ds) h in
     let both = and_parts (agrees set n gs) (agrees set (n + length gs) (part_gates (n + length gs) (map part ds))) (sym (agrees-append set n gs (part_gates (n + length gs) (map part ds))) ∙ ok) in
-    rw (say d qs.0 n both.0, tests_law set part q b say ds (n + length gs) qs.1 both.1) refl
+    rw (say d qs.0 n le both.0, tests_law set m part q b say ds (n + length gs) (omega arith) qs.1 both.1) refl
 
 -- the gates of each part are over the inputs and earlier gates
 abbrev pub PartFits : ℕ → Part → Type 0

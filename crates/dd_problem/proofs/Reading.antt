@@ -21,9 +21,10 @@ use Rattle.dd_problem.specs.Layouts.{Layout}
 use Rattle.dd_problem.specs.Clauses.{input, inputs_of, one_hot, none_of, symbol_clauses, clauses_from, cell_clauses, part_gates, part_clauses}
 use Rattle.dd_problem.specs.Problems.{problem_parts, problem_clauses, input_count}
 use Rattle.dd_problem.specs.Symbols.{AreSymbols, AreRead, look_of}
-use Rattle.dd_problem.proofs.Filtered.{some_same, none_at}
+use Rattle.dd_problem.proofs.Filtered.{some_same, slice_of_range, none_at}
 use Rattle.dd_problem.proofs.OneHot.{one_hot_law, at_most_one, hot_at, hot_below}
 use Rattle.dd_problem.proofs.Parts.{tests, parts_law}
+use Rattle.dd_problem.proofs.ValueWires.{GoalWired}
 use Rattle.dd_problem.proofs.Parted.{InputsTell, goal_holds, HasItsSymbols, jobs, job_reads, premise_holds, parts_say}
 
 -- the symbol of each cell: the place of its first true input
@@ -68,10 +69,6 @@ cell_there : (cells : List Cell) (k : ℕ) → k < length cells → (d : Cell) �
 cell_there [] k h = absurd (omega arith)
 cell_there (c ∷ cells) zero h = (c, refl)
 cell_there (c ∷ cells) (suc k) h = cell_there cells k (omega arith)
-
-pub slice_of_range : {X : Type 0} (f : ℕ → X) (n k : ℕ) → k < n → slice_get (map f (range_with_len 0 n)) k ≡ Some (f k)
-slice_of_range f n k h =
-    slice_get_read (map f (range_with_len 0 n)) n k (f k) (sym (length-map-range_with_len f 0 n)) h (sym (get_or-map-range_with_len f 0 n k k (f k) h (omega arith)))
 
 -- the one true input says of each input whether it is true
 hot_input : (set : ℕ → Bool) (m k s : ℕ) → is_satisfied set (one_hot (inputs_of m k)) ≡ true → s < m → set (input m k s) ≡ (read_symbol set m k == s)
@@ -168,10 +165,11 @@ pub record Stands (l : Layout) (x : LocalRule) (g : GoalOf) (symbols : List ℕ)
   pub premise : premise_holds l x (look_of l symbols) ≡ true
   pub goal : goal_holds g (look_of l symbols) ≡ true
 
--- each leaf of the premise where it fits, and of the goal, has its input; and the goal's alphabet is the premise's
+-- each leaf of the premise where it fits, and what the goal reads, has its inputs; and the goal's alphabet is the premise's
 pub record IsWired (l : Layout) (x : LocalRule) (g : GoalOf) : Type 0 where
   pub layout : IsLayout l
   pub reads : list_all (job_reads l x g) (jobs l x) ≡ true
+  pub values : GoalWired l x.symbols g
   pub alphabet : (look : Look) → IsBelow x.symbols look → HasItsSymbols g look
 
 pub problem_read : (set : ℕ → Bool) (l : Layout) (x : LocalRule) (g : GoalOf) → IsWired l x g → is_satisfied set (problem_clauses l x g) ≡ true →
@@ -190,5 +188,5 @@ problem_read set l x g wired ok =
     let tell = told_by_inputs set l m ss wired.layout symbols.as_many read in
     let parts = and_parts (agrees set n (part_gates n ps)) (tests set n ps) (sym (parts_law set n ps) ∙ both.1) in
     let holds = and_parts (premise_holds l x look) (goal_holds g look)
-    (sym (parts_say set l x g look below (wired.alphabet look below) tell wired.reads parts.0) ∙ parts.1) in
+    (sym (parts_say set l x g look below wired.layout.within wired.values (wired.alphabet look below) tell wired.reads parts.0) ∙ parts.1) in
     (record { symbols_fit = symbols; premise = holds.0; goal = holds.1 }, read)

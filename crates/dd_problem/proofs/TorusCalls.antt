@@ -18,10 +18,12 @@ use Rattle.dd_pattern.proofs.TileSizes.{index_below}
 use Rattle.dd_clause.specs.Clauses.{ClauseList}
 use Rattle.dd_compile.specs.Wiring.{Wiring}
 use Rattle.dd_formula.specs.LocalRule.{LocalRule, IsRule}
-use Rattle.dd_boxes.specs.Goals.{GoalOf, IsGoalFor}
+use Rattle.dd_boxes.specs.Goals.{GoalOf}
 use Rattle.dd_boxes.specs.Counts.{question_clauses, most_clauses}
 use Rattle.dd_boxes.specs.Witnesses.{ArePeriods}
-use Rattle.dd_problem.specs.Layouts.{cells_in, torus_cells, torus_layout}
+use Rattle.dd_problem.specs.Told.{IsToldGoal}
+use Rattle.dd_problem.specs.Layouts.{cells_in, torus_cells}
+use Rattle.dd_problem.specs.Grown.{torus_layout}
 use Rattle.dd_problem.specs.Problems.{torus_problem}
 use Rattle.dd_problem.specs.Grown.{question_reach, grown, near_cells, number_at, numbered_by, numbers_of, torus_inputs}
 use Rattle.dd_problem.specs.Pushed.{AreInputs, is_goal_wired, wired_problem}
@@ -33,7 +35,7 @@ use Rattle.dd_problem.proofs.NumberedWires.{are_inputs}
 use Rattle.dd_problem.proofs.TorusLayout.{torus_size, span_is, product_turned, product_small, length-torus_cells}
 use Rattle.dd_problem.proofs.TorusShows.{torus_shows}
 use Rattle.dd_problem.proofs.TorusReach.{question_near}
-use Rattle.dd_problem.proofs.TorusInputs.{spread_small, numbers_tile, number_is, near_ascends, torus_is_problem, torus_goal_wired}
+use Rattle.dd_problem.proofs.TorusInputs.{spread_small, numbers_tile, number_is, near_ascends, torus_values, torus_is_problem, torus_goal_wired}
 
 -- the question's count is at most two million
 abbrev pub IsFew : LocalRule → GoalOf → Periods → Type 0
@@ -104,7 +106,7 @@ module _ (x : LocalRule) (periods : Periods) (rule : IsRule x) (ok : ArePeriods 
       omega (arith, row, all)
 
 -- what the premise and the goal read
-module _ (x : LocalRule) (periods : Periods) (rule : IsRule x) (ok : ArePeriods x.dimension periods) (g : GoalOf) (good : IsGoalFor x g) where
+module _ (x : LocalRule) (periods : Periods) (rule : IsRule x) (ok : ArePeriods x.dimension periods) (g : GoalOf) (good : IsToldGoal x g) where
   abbrev n : ℕ
   n = question_reach x g
 
@@ -177,7 +179,7 @@ module _ (x : LocalRule) (periods : Periods) (rule : IsRule x) (ok : ArePeriods 
 
     pub variables_few : IsFew x g periods → (wired_problem w x g cells).variables ≤ 2 ^ 24
     variables_few few =
-        let all = variables_below (torus_layout x periods) x g (fundamental periods) refl in
+        let all = variables_below (torus_layout x g periods) x g (fundamental periods) refl in
         let count = ap (question_clauses x g) (volume_is x periods rule ok) in
         let same = ap (λ (k : ClauseList). k.variables) problem_is in
         omega (arith, all, count, same, few)
@@ -188,4 +190,4 @@ module _ (x : LocalRule) (periods : Periods) (rule : IsRule x) (ok : ArePeriods 
     pub showing : {E : Type 0} (r : Result ClauseList E) → IfOk r (λ cnf. cnf ≡ wired_problem w x g cells) → IfOk r (λ cnf. ShowsTorus cnf.clauses x g periods)
     showing r made =
         IfOk-weaker r (λ cnf. cnf ≡ torus_problem x g periods) (λ cnf. ShowsTorus cnf.clauses x g periods)
-        (λ cnf h. subst (λ (k : ClauseList). ShowsTorus k.clauses x g periods) (sym h) (torus_shows x g periods rule good ok)) (exactly r made)
+        (λ cnf h. subst (λ (k : ClauseList). ShowsTorus k.clauses x g periods) (sym h) (torus_shows x g periods rule good ok (torus_values x periods rule ok g good))) (exactly r made)

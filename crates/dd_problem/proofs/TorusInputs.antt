@@ -2,7 +2,7 @@
 use Rattle.std.proofs.Common.{◌≡◌, ℕ, suc, ◌+◌, ◌*◌, ◌<◌, ◌≤◌, Bool, true, false, List, [], ◌∷◌, map, length, refl, ap, sym, ◌∙◌, arith, Some, None, pos, ◌-◌, ◌-ℤ◌, ◌+ℤ◌, ◌≤ℤ◌, ℤ, if◌then◌else◌, option_map}
 use Rattle.std.specs.Prelude.{cond, ◌&&◌, ◌||◌, nat_lt, slice_get, unsigned_abs, ◌*ℤ◌}
 use Rattle.std.specs.Ordering.{int_eq}
-use Rattle.std.specs.List.{list_all, range_with_len}
+use Rattle.std.specs.List.{Contains, list_all, range_with_len}
 use Rattle.std.specs.List.Sorted.{IsStrictlySortedBy}
 use Rattle.std.proofs.lemmas.Int.{ints}
 use Rattle.std.proofs.lemmas.Bool.{and_parts, and_from, ltb-true, ltb-false, lt-ltb, leb-true}
@@ -25,21 +25,28 @@ use Rattle.dd_pattern.proofs.TileLaws.{place_same}
 use Rattle.dd_pattern.proofs.TileSizes.{index_below}
 use Rattle.dd_expansion.specs.Placed.{is_flat}
 use Rattle.dd_circuit.specs.Circuits.{signal_of}
-use Rattle.dd_compile.specs.Wiring.{wire_of}
+use Rattle.dd_compile.specs.Wiring.{signals_of, wire_of}
 use Rattle.dd_formula.specs.LocalRule.{LocalRule, IsRule, reads_at, is_of}
-use Rattle.dd_formula.specs.Reach.{reach}
-use Rattle.dd_formula.proofs.ReachLaws.{is_within, reads_within}
-use Rattle.dd_boxes.specs.Goals.{GoalOf, breaks, always, IsGoalFor}
+use Rattle.dd_formula.specs.Reach.{reach, automaton_reach}
+use Rattle.dd_formula.specs.Automata.{Setting, IsAutomaton, counted, is_cell_of}
+use Rattle.dd_formula.specs.Values.{IsPlaced}
+use Rattle.dd_formula.specs.declared.automaton.Automaton.{Automaton}
+use Rattle.dd_formula.proofs.ReachLaws.{is_within, reads_within, automaton_reads_within}
+use Rattle.dd_boxes.specs.Goals.{GoalOf, breaks, differ, always, AreOver}
 use Rattle.dd_boxes.specs.Boxes.{origin}
 use Rattle.dd_boxes.specs.Witnesses.{ArePeriods}
-use Rattle.dd_problem.specs.Layouts.{torus, torus_cells, torus_layout}
+use Rattle.dd_problem.specs.Told.{IsToldGoal}
+use Rattle.dd_problem.specs.Layouts.{torus, torus_cells}
+use Rattle.dd_problem.specs.Grown.{torus_layout}
 use Rattle.dd_problem.specs.Clauses.{input}
 use Rattle.dd_problem.specs.Problems.{torus_problem}
 use Rattle.dd_problem.specs.Grown.{goal_reach, question_reach, grown, near_cells, number_at, numbered_by, numbers_of}
 use Rattle.dd_problem.specs.Pushed.{wired_problem, is_goal_wired}
 use Rattle.dd_problem.proofs.CellOrder.{cells_ascending, cell_there}
 use Rattle.dd_problem.proofs.Matching.{Gives, Matches, GoalMatches, goal_is_wired, wired_is_problem}
-use Rattle.dd_problem.proofs.NumberedWires.{wire_there}
+use Rattle.dd_problem.proofs.NumberedWires.{wire_there, signals_there}
+use Rattle.dd_problem.specs.Numbered.{symbol_signals}
+use Rattle.dd_problem.proofs.ValueWires.{HasInputs, GoalWired, passes_member}
 use Rattle.dd_problem.proofs.TorusLayout.{torus_size, torus_is_periodic, torus_is_layout, torus_cell_at}
 use Rattle.dd_problem.proofs.TorusShows.{goal_reads_torus}
 use Rattle.dd_problem.proofs.TorusReach.{question_near, premise_within, goal_within}
@@ -100,7 +107,7 @@ module _ (x : LocalRule) (periods : Periods) (rule : IsRule x) (ok : ArePeriods 
       omega (arith, at)
 
 -- what a question reads has its inputs
-module _ (x : LocalRule) (periods : Periods) (rule : IsRule x) (ok : ArePeriods x.dimension periods) (g : GoalOf) (good : IsGoalFor x g) where
+module _ (x : LocalRule) (periods : Periods) (rule : IsRule x) (ok : ArePeriods x.dimension periods) (g : GoalOf) (good : IsToldGoal x g) where
   abbrev n : ℕ
   n = question_reach x g
 
@@ -160,7 +167,7 @@ module _ (x : LocalRule) (periods : Periods) (rule : IsRule x) (ok : ArePeriods 
       wire_there x.symbols near (map (number_at numbers) near) near_ascends (length-map near (number_at numbers)) c i (tile_index (torus x periods) c) s there number below
 
   torus_gives : (v : Place) → base_of periods v ≡ v →
-      Gives (numbered_by x.symbols numbers near) (torus_layout x periods) x.symbols (near_cell x n) v
+      Gives (numbered_by x.symbols numbers near) (torus_layout x g periods) x.symbols (near_cell x n) v
   torus_gives v base c s h below =
       let d = shifted v c in
       let within = near_within v c base h in
@@ -170,7 +177,7 @@ module _ (x : LocalRule) (periods : Periods) (rule : IsRule x) (ok : ArePeriods 
       ∙ (near_wire d s within (ltb-true c.node x.nodes has) below
       ∙ sym (ap (λ b. cond b (Some (signal_of (input x.symbols (tile_index (torus x periods) d) s))) None) has))
 
-  torus_matches : (k : ℕ) (d : Cell) → slice_get (torus_cells x periods) k ≡ Some d → Matches (numbered_by x.symbols numbers near) (torus_layout x periods) x.symbols (near_cell x n) x d
+  torus_matches : (k : ℕ) (d : Cell) → slice_get (torus_cells x periods) k ≡ Some d → Matches (numbered_by x.symbols numbers near) (torus_layout x g periods) x.symbols (near_cell x n) x d
   torus_matches k d is =
       let here = torus_cell_at x periods rule ok k d is in
       record {
@@ -191,22 +198,53 @@ module _ (x : LocalRule) (periods : Periods) (rule : IsRule x) (ok : ArePeriods 
       place_same _ _ _ _ _ _ (ap (λ u. pos (residue u periods.x)) unsheared_origin ∙ at_zero periods.x ok.periods.x_some) (at_zero periods.y ok.periods.y_some)
       (at_zero periods.z ok.periods.z_some)
 
-  torus_goal : GoalMatches (numbered_by x.symbols numbers near) (torus_layout x periods) x.symbols (near_cell x n) g
+  torus_goal : GoalMatches (numbered_by x.symbols numbers near) (torus_layout x g periods) x.symbols (near_cell x n) g
   torus_goal = goal_of g good (goal_within x g) where
-    goal_of : (h : GoalOf) → IsGoalFor x h → goal_reach h ≤ n → GoalMatches (numbered_by x.symbols numbers near) (torus_layout x periods) x.symbols (near_cell x n) h
+    goal_of : (h : GoalOf) → IsToldGoal x h → goal_reach h ≤ n → GoalMatches (numbered_by x.symbols numbers near) (torus_layout x g periods) x.symbols (near_cell x n) h
     goal_of (breaks y) fits far = λ a node. record {
       node = node;
       gives = torus_gives origin origin_base;
       reads = reads_near x y n a fits.0 far fits.1.dimension fits.1.nodes node;
     }
+    goal_of (differ s f h) fits far = refl
     goal_of always fits far = tt
+
+  -- and what automata read at the origin
+  near_signals : (c : Cell) → IsWithin zone c.position → c.node < x.nodes → signals_of (numbered_by x.symbols numbers near) c ≡ Some (symbol_signals x.symbols (tile_index (torus x periods) c))
+  near_signals c within node =
+      let i = index_in zone c.position * x.nodes + c.node in
+      let there = cell_there zone x.nodes c within node in
+      let number = slice_get-map (number_at numbers) near i ∙ (ap (option_map (number_at numbers)) there ∙ ap (λ k. Some k) (number_is x periods rule ok c node)) in
+      signals_there x.symbols near (map (number_at numbers) near) near_ascends (length-map near (number_at numbers)) c i (tile_index (torus x periods) c) there number
+
+  value_has : (s : Setting) (f h : Automaton) → AreOver x s f h → (e : Automaton) → IsAutomaton s e → IsPlaced e → automaton_reach s.nodes e ≤ n → (a : ℕ) → a < s.nodes → (d : Cell) →
+      Contains ((counted e).reads a) d → HasInputs (torus_layout x g periods) s.symbols (shifted origin d)
+  value_has s f h over e formed placed far a node d there =
+      let c = shifted origin d in
+      let of : is_of x d ≡ true =
+      ap (λ k. is_flat k d.position && nat_lt d.node x.nodes) (sym over.dimension)
+      ∙ (ap (λ k. is_flat s.dimension d.position && nat_lt d.node k) (sym over.nodes) ∙ passes_member (is_cell_of s) ((counted e).reads a) d (placed s formed a node) there) in
+      let near_there : near_cell x n d ≡ true = and_from (is_of x d) (is_within n d) of (passes_member (is_within n) ((counted e).reads a) d (automaton_reads_within e s.nodes n a far node) there) in
+      let has : nat_lt d.node x.nodes ≡ true = (and_parts (is_flat x.dimension d.position) (nat_lt d.node x.nodes) of).1 in
+      (has, near_signals c (near_within origin d origin_base near_there) (ltb-true d.node x.nodes has) ∙ ap (λ m. Some (symbol_signals m (tile_index (torus x periods) c))) (sym over.symbols))
+
+  pub torus_values : GoalWired (torus_layout x g periods) x.symbols g
+  torus_values = told g good (goal_within x g) where
+    told : (h : GoalOf) → IsToldGoal x h → goal_reach h ≤ n → GoalWired (torus_layout x g periods) x.symbols h
+    told (breaks y) fits far = tt
+    told (differ s e h) fits far = record {
+      symbols = fits.over.symbols;
+      left = record { formed = fits.over.left; says = fits.left_says; inputs = value_has s e h fits.over e fits.over.left fits.left_placed (omega (arith, far)) };
+      right = record { formed = fits.over.right; says = fits.right_says; inputs = value_has s e h fits.over h fits.over.right fits.right_placed (omega (arith, far)) };
+    }
+    told always fits far = tt
 
   pub torus_is_problem : wired_problem (numbered_by x.symbols numbers near) x g (torus_cells x periods) ≡ torus_problem x g periods
   torus_is_problem =
-      wired_is_problem (numbered_by x.symbols numbers near) (torus_layout x periods) x (near_cell x n) g rule good (torus_is_layout x periods rule ok)
+      wired_is_problem (numbered_by x.symbols numbers near) (torus_layout x g periods) x (near_cell x n) g rule good (torus_is_layout x periods rule ok g)
       (goal_reads_torus x g periods good) torus_matches torus_goal
 
   pub torus_goal_wired : is_goal_wired (numbered_by x.symbols numbers near) (length (torus_cells x periods) * x.symbols) g ≡ true
   torus_goal_wired =
-      goal_is_wired (numbered_by x.symbols numbers near) (torus_layout x periods) x (near_cell x n) g good (torus_is_layout x periods rule ok)
-      (goal_reads_torus x g periods good) torus_goal
+      goal_is_wired (numbered_by x.symbols numbers near) (torus_layout x g periods) x (near_cell x n) g good (torus_is_layout x periods rule ok g)
+      (goal_reads_torus x g periods good) torus_values torus_goal

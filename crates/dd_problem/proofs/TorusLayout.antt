@@ -22,10 +22,12 @@ use Rattle.dd_pattern.proofs.TileSizes.{index_below}
 use Rattle.dd_pattern.proofs.BoxLaws.{cell_at_index, in_box, index_of_cell}
 use Rattle.dd_expansion.specs.Placed.{is_flat}
 use Rattle.dd_formula.specs.LocalRule.{LocalRule, IsRule}
+use Rattle.dd_boxes.specs.Goals.{GoalOf}
 use Rattle.dd_boxes.specs.Witnesses.{ArePeriods}
-use Rattle.dd_problem.specs.Layouts.{nth_cell, torus, torus_cells, torus_layout}
-use Rattle.dd_problem.proofs.Reading.{IsLayout, slice_of_range}
-use Rattle.dd_problem.proofs.Filtered.{some_same}
+use Rattle.dd_problem.specs.Layouts.{nth_cell, torus, torus_cells}
+use Rattle.dd_problem.specs.Grown.{torus_layout}
+use Rattle.dd_problem.proofs.Reading.{IsLayout}
+use Rattle.dd_problem.proofs.Filtered.{some_same, slice_of_range}
 
 -- the configuration of these symbols
 abbrev pub torus_of : LocalRule → Periods → List ℕ → Tile
@@ -110,8 +112,8 @@ module _ (x : LocalRule) (periods : Periods) (rule : IsRule x) (ok : ArePeriods 
       ∙ (slice_of_range (cell_in (torus x periods)) (torus_size x periods) (tile_index (torus x periods) (cell v a)) (index_within (cell v a) node)
       ∙ ap (λ d. Some d) (cell_at_index (torus_of x periods (zeros x periods)) blank v a node))
 
-  pub torus_is_layout : IsLayout (torus_layout x periods)
-  torus_is_layout = record {
+  pub torus_is_layout : (g : GoalOf) → IsLayout (torus_layout x g periods)
+  torus_is_layout g = record {
     within = λ c h. (let low = index_within c (ltb-true c.node x.nodes h) in omega (arith, length-torus_cells));
     node = λ c h. (cell (base_of periods c.position) c.node, torus_cell_there c.position c.node (ltb-true c.node x.nodes h), refl);
   }

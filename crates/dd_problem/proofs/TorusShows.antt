@@ -14,12 +14,15 @@ use Rattle.dd_expansion.specs.Placed.{is_flat}
 use Rattle.dd_formula.specs.LocalRule.{LocalRule, rule_allows, IsRule, is_true, reads_at, is_of}
 use Rattle.dd_formula.specs.Living.{Fits, Lives}
 use Rattle.dd_cnf.proofs.ModelLaws.{Satisfies-is_satisfied, is_satisfied-Satisfies}
-use Rattle.dd_boxes.specs.Goals.{GoalOf, breaks, always, IsGoalFor}
+use Rattle.dd_boxes.specs.Goals.{GoalOf, breaks, differ, always}
 use Rattle.dd_boxes.specs.Witnesses.{ArePeriods, HasPeriods, IsWitness}
 use Rattle.dd_boxes.proofs.RuleLaws.{keeps_at, list_all_weaker}
-use Rattle.dd_problem.specs.Layouts.{torus, torus_cells, torus_layout, fits_in}
+use Rattle.dd_problem.specs.Told.{IsToldGoal}
+use Rattle.dd_problem.specs.Layouts.{torus, torus_cells, fits_in}
+use Rattle.dd_problem.specs.Grown.{torus_layout}
 use Rattle.dd_problem.specs.Problems.{problem_clauses}
 use Rattle.dd_problem.specs.Shows.{ShowsTorus}
+use Rattle.dd_problem.proofs.ValueWires.{GoalWired}
 use Rattle.dd_problem.proofs.Parted.{premise_holds}
 use Rattle.dd_problem.proofs.Reading.{Stands, IsWired, look_allowed, read_symbols, problem_read}
 use Rattle.dd_problem.proofs.Writing.{assignment, problem_written}
@@ -34,20 +37,21 @@ node_of r c h = (and_parts (is_flat r.dimension c.position) (nat_lt c.node r.nod
 reads_nodes : (r : LocalRule) (a : ℕ) → IsRule r → a < r.nodes → list_all (λ c. nat_lt c.node r.nodes) (reads_at r a) ≡ true
 reads_nodes r a ok node = list_all_weaker (is_of r) (λ c. nat_lt c.node r.nodes) (node_of r) (reads_at r a) (ok.placed a node)
 
-pub goal_reads_torus : (x : LocalRule) (g : GoalOf) (periods : Periods) → IsGoalFor x g → HasReads (torus_layout x periods) g
+pub goal_reads_torus : (x : LocalRule) (g : GoalOf) (periods : Periods) → IsToldGoal x g → HasReads (torus_layout x g periods) g
 goal_reads_torus x (breaks y) periods ok = λ a node. ap (λ n. list_all (λ c. nat_lt c.node n) (reads_at y a)) (sym ok.1.nodes) ∙ reads_nodes y a ok.0 node
+goal_reads_torus x (differ s f g) periods ok = tt
 goal_reads_torus x always periods ok = tt
 
-module _ (x : LocalRule) (g : GoalOf) (periods : Periods) (rule : IsRule x) (goal : IsGoalFor x g) (ok : ArePeriods x.dimension periods) where
-  torus_is_wired : IsWired (torus_layout x periods) x g
+module _ (x : LocalRule) (g : GoalOf) (periods : Periods) (rule : IsRule x) (goal : IsToldGoal x g) (ok : ArePeriods x.dimension periods) (values : GoalWired (torus_layout x g periods) x.symbols g) where
+  torus_is_wired : IsWired (torus_layout x g periods) x g
   torus_is_wired =
-      wired_layout (torus_layout x periods) x g rule goal (torus_is_layout x periods rule ok) (λ k d is. (torus_cell_at x periods rule ok k d is).node)
-      (goal_reads_torus x g periods goal)
+      wired_layout (torus_layout x g periods) x g rule goal (torus_is_layout x periods rule ok g) (λ k d is. (torus_cell_at x periods rule ok k d is).node)
+      (goal_reads_torus x g periods goal) values
 
   -- the rule is true everywhere exactly where it is at all places of the layout
-  holds_from_lives : (symbols : List ℕ) → Lives x (torus_of x periods symbols) → premise_holds (torus_layout x periods) x (tile_look (torus_of x periods symbols)) ≡ true
+  holds_from_lives : (symbols : List ℕ) → Lives x (torus_of x periods symbols) → premise_holds (torus_layout x g periods) x (tile_look (torus_of x periods symbols)) ≡ true
   holds_from_lives symbols lives =
-      filter_all (λ d. is_true x d (tile_look (torus_of x periods symbols))) (fits_in (torus_layout x periods) x) (torus_cells x periods)
+      filter_all (λ d. is_true x d (tile_look (torus_of x periods symbols))) (fits_in (torus_layout x g periods) x) (torus_cells x periods)
       (λ k d is _. lives d.position d.node (flat_place x periods rule ok k d is) (torus_cell_at x periods rule ok k d is).node)
 
   has_symbol : (symbols : List ℕ) → length symbols ≡ torus_size x periods → (c : Cell) → c.node < x.nodes → is_some (tile_look (torus_of x periods symbols) c) ≡ true
@@ -55,30 +59,30 @@ module _ (x : LocalRule) (g : GoalOf) (periods : Periods) (rule : IsRule x) (goa
       rw (lt-ltb c.node x.nodes node)
       (ap is_some (slice_get-get_or symbols (tile_index (torus x periods) c) 0 (index_below (torus_of x periods symbols) (torus_is_tile x periods symbols rule ok full) c node)))
 
-  lives_from_holds : (symbols : List ℕ) → length symbols ≡ torus_size x periods → premise_holds (torus_layout x periods) x (tile_look (torus_of x periods symbols)) ≡ true →
+  lives_from_holds : (symbols : List ℕ) → length symbols ≡ torus_size x periods → premise_holds (torus_layout x g periods) x (tile_look (torus_of x periods symbols)) ≡ true →
       Lives x (torus_of x periods symbols)
   lives_from_holds symbols full holds v a flat node =
       let look = tile_look (torus_of x periods symbols) in
       let base = base_of periods v in
-      let there = filter_at (λ d. is_true x d look) (fits_in (torus_layout x periods) x) (torus_cells x periods) (tile_index (torus x periods) (cell v a)) (cell base a)
+      let there = filter_at (λ d. is_true x d look) (fits_in (torus_layout x g periods) x) (torus_cells x periods) (tile_index (torus x periods) (cell v a)) (cell base a)
       holds (torus_cell_there x periods rule ok v a node) (reads_nodes x a rule node) in
       sym (keeps_at x look look base v a (λ c _. look_periodic x periods rule ok symbols v c)
       (list_all_weaker (λ c. nat_lt c.node x.nodes) (λ c. is_some (look (shifted base c)))
       (λ c h. has_symbol symbols full (shifted base c) (ltb-true c.node x.nodes h)) (reads_at x a) (reads_nodes x a rule node)))
       ∙ there
 
-  witness_from_stands : (symbols : List ℕ) → Stands (torus_layout x periods) x g symbols → IsWitness x g (torus_of x periods symbols)
+  witness_from_stands : (symbols : List ℕ) → Stands (torus_layout x g periods) x g symbols → IsWitness x g (torus_of x periods symbols)
   witness_from_stands symbols stands =
       let full : length symbols ≡ torus_size x periods = stands.symbols_fit.as_many ∙ length-torus_cells x periods rule ok in
       record {
         tile = torus_is_tile x periods symbols rule ok full;
         fits = record { dimension = refl; nodes = refl; symbols = stands.symbols_fit.below };
-        allowed = look_allowed (torus_layout x periods) x symbols (torus_is_layout x periods rule ok) stands.symbols_fit;
+        allowed = look_allowed (torus_layout x g periods) x symbols (torus_is_layout x periods rule ok g) stands.symbols_fit;
         lives = lives_from_holds symbols full stands.premise;
         goal = goal_from_test g (tile_look (torus_of x periods symbols)) stands.goal;
       }
 
-  stands_from_witness : (symbols : List ℕ) → IsWitness x g (torus_of x periods symbols) → Stands (torus_layout x periods) x g symbols
+  stands_from_witness : (symbols : List ℕ) → IsWitness x g (torus_of x periods symbols) → Stands (torus_layout x g periods) x g symbols
   stands_from_witness symbols witness = record {
     symbols_fit = record {
       as_many = witness.tile.full ∙ sym (length-torus_cells x periods rule ok);
@@ -98,9 +102,9 @@ module _ (x : LocalRule) (g : GoalOf) (periods : Periods) (rule : IsRule x) (goa
   same_tile : (t : Tile) → HasPeriods periods t → Fits x t → torus_of x periods t.symbols ≡ t
   same_tile t has fit = rw (sym has, sym fit.dimension, sym fit.nodes) refl
 
-  pub torus_shows : ShowsTorus (problem_clauses (torus_layout x periods) x g) x g periods
+  pub torus_shows : ShowsTorus (problem_clauses (torus_layout x g periods) x g) x g periods
   torus_shows =
-      let l = torus_layout x periods in
+      let l = torus_layout x g periods in
       record {
         each = λ set satisfied.
             (let ss = read_symbols set x.symbols (length l.places) in

@@ -9,10 +9,14 @@ use Rattle.dd_compile.specs.Wiring.{Wiring}
 use Rattle.dd_compile.specs.Compiling.{wires_near}
 use Rattle.dd_compile.proofs.Layers.{wired_more}
 use Rattle.dd_formula.specs.LocalRule.{LocalRule, expansion_at}
-use Rattle.dd_boxes.specs.Goals.{GoalOf, breaks, always}
+use Rattle.std.proofs.lemmas.Bool.{and_parts, and_from}
+use Rattle.dd_formula.specs.Automata.{counted}
+use Rattle.dd_compile.specs.ValueSignals.{are_wired_there}
+use Rattle.dd_boxes.specs.Goals.{GoalOf, breaks, differ, always}
 use Rattle.dd_boxes.specs.Boxes.{origin}
 use Rattle.dd_problem.specs.Clauses.{Part, cell_clauses, part_gates, part_clauses}
-use Rattle.dd_problem.specs.Pushed.{is_wired_at, is_goal_wired, wired_parts, wired_goal, wired_problem}
+use Rattle.dd_compile.proofs.StillWired.{still_wired}
+use Rattle.dd_problem.specs.Pushed.{are_both_wired, is_wired_at, is_goal_wired, wired_parts, wired_goal, wired_problem}
 use Rattle.dd_problem.proofs.PlacesLeft.{part_gates-append, part_clauses-append}
 use Rattle.dd_problem.proofs.Wiring.{all_of_range, range_at}
 
@@ -21,6 +25,12 @@ pub goal_wired_more : (w : Wiring) (n m : ℕ) (g : GoalOf) → n ≤ m → is_g
 goal_wired_more w n m (breaks y) more h =
     all_of_range (λ a. is_wired_at w m y (cell origin a)) y.nodes 0
     (λ a below. wired_more n m (wires_near w origin) (expansion_at y a) more (range_at (λ b. is_wired_at w n y (cell origin b)) y.nodes 0 a h (omega arith) below))
+goal_wired_more w n m (differ s f g) more h =
+    all_of_range (are_both_wired w m s f g) s.nodes 0
+    (λ a below. (let here = range_at (are_both_wired w n s f g) s.nodes 0 a h (omega arith) below in
+    let both = and_parts (are_wired_there n s.symbols w ((counted f).reads a) (cell origin a)) (are_wired_there n s.symbols w ((counted g).reads a) (cell origin a)) here in
+    and_from _ _ (still_wired n m s.symbols w (cell origin a) more ((counted f).reads a) both.0)
+    (still_wired n m s.symbols w (cell origin a) more ((counted g).reads a) both.1)))
 goal_wired_more w n m always more h = refl
 
 -- a circuit of inputs alone

@@ -1,9 +1,9 @@
 -- Where all that is read has inputs.
-use Rattle.std.proofs.Common.{◌≡◌, ℕ, zero, suc, ◌+◌, ◌<◌, ◌≤◌, Bool, true, false, List, [], ◌∷◌, map, refl, ap, sym, subst, ◌∙◌, arith, Some, None, inl, inr}
-use Rattle.std.specs.Prelude.{not, ◌&&◌, ◌||◌, ◌⊎◌, Option, nat_lt, slice_get}
+use Rattle.std.proofs.Common.{◌≡◌, ℕ, zero, suc, ◌+◌, ◌<◌, ◌≤◌, Bool, true, false, List, [], ◌∷◌, map, refl, ap, sym, subst, ◌∙◌, arith, Some, None, inl, inr, eq-eqb}
+use Rattle.std.specs.Prelude.{not, ◌&&◌, ◌||◌, ◌==◌, ◌⊎◌, Option, nat_lt, slice_get}
 use Rattle.std.proofs.Math.Nat.{eq-or-lt_of_le}
 use Rattle.std.specs.List.{list_all, list_any, filter, range_with_len}
-use Rattle.std.proofs.lemmas.Bool.{and_parts, and_from, or_cases}
+use Rattle.std.proofs.lemmas.Bool.{and_parts, and_from, or_cases, both_ways, eqb-true}
 use Rattle.std.proofs.lemmas.List.Folds.{list_all-append}
 use Rattle.dd_lattice.specs.Cells.{cell, shifted}
 use Rattle.dd_lattice.specs.declared.position.Cell.{Cell}
@@ -13,10 +13,13 @@ use Rattle.dd_expansion.specs.Leaves.{leaves_pass}
 use Rattle.dd_expansion.proofs.LeafLaws.{leaves_both}
 use Rattle.dd_expansion.proofs.LeavesAreReads.{leaves_are_reads}
 use Rattle.dd_formula.specs.LocalRule.{LocalRule, IsRule, is_true, reads_at, expansion_at}
-use Rattle.dd_boxes.specs.Goals.{GoalOf, breaks, always, HasGoal, IsGoalFor}
+use Rattle.dd_boxes.specs.Goals.{GoalOf, breaks, differ, always, HasGoal}
 use Rattle.dd_boxes.specs.Boxes.{origin}
+use Rattle.dd_problem.specs.Told.{IsToldGoal}
 use Rattle.dd_problem.specs.Layouts.{Layout, fits_in}
 use Rattle.dd_problem.proofs.Filtered.{filter_all}
+use Rattle.dd_formula.specs.Automata.{value}
+use Rattle.dd_problem.proofs.ValueWires.{GoalWired}
 use Rattle.dd_problem.proofs.Parted.{reads_inputs, goal_holds, goal_reads, HasItsSymbols, job_reads}
 use Rattle.dd_problem.proofs.Reading.{IsLayout, IsWired}
 
@@ -65,12 +68,25 @@ goal_from_test (breaks y) look h =
     let r = any_range (λ a. not (is_true y (cell origin a) look)) y.nodes 0 h in
     let below = r.1 in
     (r.0, omega arith, not_true (is_true y (cell origin r.0) look) r.2)
+goal_from_test (differ s f g) look h =
+    let r = any_range (λ a. not (value f look (cell origin a) == value g look (cell origin a))) s.nodes 0 h in
+    let below = r.1 in
+    let other = not_true (value f look (cell origin r.0) == value g look (cell origin r.0)) r.2 in
+    (r.0, omega arith, λ same. both_ways (value f look (cell origin r.0) == value g look (cell origin r.0)) other (eq-eqb (value f look (cell origin r.0)) (value g look (cell origin r.0)) same))
 goal_from_test always look h = tt
 
 pub test_from_goal : (g : GoalOf) (look : Look) → HasGoal g look origin → goal_holds g look ≡ true
 test_from_goal (breaks y) look h =
     let below = h.1 in
     none_of_range (λ a. not (is_true y (cell origin a) look)) y.nodes 0 h.0 (omega arith) (omega arith) (ap not h.2)
+test_from_goal (differ s f g) look h =
+    let below = h.1 in
+    none_of_range (λ a. not (value f look (cell origin a) == value g look (cell origin a))) s.nodes 0 h.0 (omega arith) (omega arith)
+    (not_same (value f look (cell origin h.0)) (value g look (cell origin h.0)) h.2 (value f look (cell origin h.0) == value g look (cell origin h.0)) refl)
+  where
+    not_same : (u v : ℕ) → (u ≡ v → ⊥) → (b : Bool) → (u == v) ≡ b → not (u == v) ≡ true
+    not_same u v apart true is = absurd (apart (eqb-true u v is))
+    not_same u v apart false is = ap not is
 test_from_goal always look h = refl
 
 -- a rule's leaves ask for symbols of the alphabet, at the cells that it reads
@@ -88,22 +104,26 @@ some_all p (d ∷ ds) = ap (λ b. p (Some d) && b) (some_all p ds)
 -- the goal reads cells of the layout at the origin
 abbrev pub HasReads : Layout → GoalOf → Type 0
 HasReads l (breaks y) = (a : ℕ) → a < y.nodes → list_all (λ c. l.has (shifted origin c)) (reads_at y a) ≡ true
+HasReads l (differ s f g) = Unit {0}
 HasReads l always = Unit {0}
 
-goal_is_read : (l : Layout) (x : LocalRule) (g : GoalOf) → IsGoalFor x g → HasReads l g → goal_reads l x.symbols g ≡ true
+goal_is_read : (l : Layout) (x : LocalRule) (g : GoalOf) → IsToldGoal x g → HasReads l g → goal_reads l x.symbols g ≡ true
 goal_is_read l x (breaks y) ok there =
     all_of_range (λ a. reads_inputs l x.symbols y (cell origin a)) y.nodes 0
     (λ a below. (let node : a < y.nodes = omega arith in place_reads l x.symbols y (cell origin a) ok.0 (sym ok.1.symbols) node (there a node)))
+goal_is_read l x (differ s f g) ok there = refl
 goal_is_read l x always ok there = refl
 
-goal_alphabet : (x : LocalRule) (g : GoalOf) (look : Look) → IsGoalFor x g → IsBelow x.symbols look → HasItsSymbols g look
+goal_alphabet : (x : LocalRule) (g : GoalOf) (look : Look) → IsToldGoal x g → IsBelow x.symbols look → HasItsSymbols g look
 goal_alphabet x (breaks y) look ok below = subst (λ m. IsBelow m look) (sym ok.1.symbols) below
+goal_alphabet x (differ s f g) look ok below = subst (λ m. IsBelow m look) (sym ok.over.symbols) below
 goal_alphabet x always look ok below = tt
 
-pub wired_layout : (l : Layout) (x : LocalRule) (g : GoalOf) → IsRule x → IsGoalFor x g → IsLayout l → ((k : ℕ) (d : Cell) → slice_get l.places k ≡ Some d → d.node < x.nodes) →
-    HasReads l g → IsWired l x g
-wired_layout l x g rule ok layout nodes there = record {
+pub wired_layout : (l : Layout) (x : LocalRule) (g : GoalOf) → IsRule x → IsToldGoal x g → IsLayout l → ((k : ℕ) (d : Cell) → slice_get l.places k ≡ Some d → d.node < x.nodes) →
+    HasReads l g → GoalWired l x.symbols g → IsWired l x g
+wired_layout l x g rule ok layout nodes there values = record {
   layout = layout;
+  values = values;
   reads =
       list_all-append (job_reads l x g) (map (λ d. Some d) (filter (fits_in l x) l.places)) (None ∷ [])
       ∙ and_from _ _

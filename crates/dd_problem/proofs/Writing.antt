@@ -1,5 +1,5 @@
 -- The assignment of symbols, and the clauses that it satisfies.
-use Rattle.std.proofs.Common.{◌≡◌, ℕ, suc, ◌+◌, ◌*◌, ◌<◌, ◌≤◌, Bool, true, false, List, [], ◌∷◌, map, length, get_or, refl, ap, sym, subst, ◌∙◌, arith, Some, None}
+use Rattle.std.proofs.Common.{◌≡◌, ℕ, zero, suc, ◌+◌, ◌*◌, ◌<◌, ◌≤◌, Bool, true, false, List, [], ◌∷◌, map, length, get_or, refl, ap, sym, subst, ◌∙◌, arith, Some, None}
 use Rattle.std.specs.Prelude.{◌-◌, ◌/◌, ◌%◌, ◌==◌, not, Option, nat_lt, slice_get}
 use Rattle.std.specs.List.{list_all, range_with_len}
 use Rattle.std.proofs.lemmas.Bool.{and_parts, and_from, eqb-true, ltb-true}
@@ -22,7 +22,9 @@ use Rattle.dd_circuit.proofs.ValueLaws.{values_from-alike, agrees-values_from}
 use Rattle.dd_circuit.proofs.GateLists.{AreGates-append}
 use Rattle.dd_cnf.specs.Models.{is_satisfied}
 use Rattle.dd_compile.specs.Compiling.{all_made}
-use Rattle.dd_boxes.specs.Goals.{GoalOf, breaks, always}
+use Rattle.dd_formula.specs.Automata.{Setting}
+use Rattle.dd_formula.specs.declared.automaton.Automaton.{Automaton}
+use Rattle.dd_boxes.specs.Goals.{GoalOf, breaks, differ, always}
 use Rattle.dd_boxes.specs.Boxes.{origin}
 use Rattle.dd_problem.specs.Layouts.{Layout}
 use Rattle.dd_problem.specs.Clauses.{input, inputs_of, one_hot, none_of, symbol_clauses, clauses_from, cell_clauses, part_gates, part_clauses}
@@ -32,7 +34,8 @@ use Rattle.dd_compile.proofs.MadeFits.{made_fits}
 use Rattle.dd_problem.proofs.Filtered.{none_all}
 use Rattle.dd_problem.proofs.OneHot.{one_hot_law, hot_made}
 use Rattle.dd_problem.proofs.Parts.{parts_law, PartFits, parts_fit}
-use Rattle.dd_problem.proofs.Parted.{has_input, reads_inputs, goal_reads, jobs, job_part, job_reads, parts_by_jobs, parts_say}
+use Rattle.dd_problem.proofs.ValueWires.{AreValuesWired, GoalWired, differ_gates_fit}
+use Rattle.dd_problem.proofs.Parted.{has_input, differ_at, reads_inputs, goal_reads, jobs, job_part, job_reads, parts_by_jobs, parts_say}
 use Rattle.dd_problem.proofs.Reading.{IsLayout, IsWired, Stands, told_by_inputs, look_below}
 
 -- whether the variable of a cell and a symbol is true
@@ -115,13 +118,22 @@ nodes_fit l m r v (a ∷ nodes) n ok le wired =
     AreGates-append n gs (all_made (map (λ b. place_maker l m r (cell v b)) nodes) (n + length gs)).gates (place_fits l m r (cell v a) n ok le w.0)
     (nodes_fit l m r v nodes (n + length gs) ok (omega arith) w.1)
 
-goal_fits : (l : Layout) (m : ℕ) (g : GoalOf) → IsLayout l → goal_reads l m g ≡ true → PartFits (length l.places * m) (goal_part l m g)
-goal_fits l m (breaks y) ok wired n le = nodes_fit l m y origin (range_with_len 0 y.nodes) n ok le wired
-goal_fits l m always ok wired n le = tt
+differ_fit : (l : Layout) (m : ℕ) (s : Setting) (f g : Automaton) → IsLayout l → AreValuesWired l m s f g → (k j n : ℕ) → j + k ≤ s.nodes → length l.places * m ≤ n →
+    AreGates n (all_made (map (differ_at l s f g) (range_with_len j k)) n).gates
+differ_fit l m s f g ok wired zero j n few le = tt
+differ_fit l m s f g ok wired (suc k) j n few le =
+    let gs = (differ_at l s f g j n).gates in
+    AreGates-append n gs (all_made (map (differ_at l s f g) (range_with_len (j + 1) k)) (n + length gs)).gates
+    (differ_gates_fit l ok.within m s f g wired j (omega arith) n le) (differ_fit l m s f g ok wired k (j + 1) (n + length gs) (omega arith) (omega arith))
 
-job_fits : (l : Layout) (x : LocalRule) (g : GoalOf) → IsLayout l → (j : Option Cell) → job_reads l x g j ≡ true → PartFits (input_count l x) (job_part l x g j)
-job_fits l x g ok (Some d) wired n le = AreGates-append n (place_maker l x.symbols x d n).gates [] (place_fits l x.symbols x d n ok le wired) tt
-job_fits l x g ok None wired n le = goal_fits l x.symbols g ok wired n le
+goal_fits : (l : Layout) (m : ℕ) (g : GoalOf) → IsLayout l → GoalWired l m g → goal_reads l m g ≡ true → PartFits (length l.places * m) (goal_part l m g)
+goal_fits l m (differ s f g) ok values wired n le = differ_fit l m s f g ok values s.nodes 0 n (omega arith) le
+goal_fits l m (breaks y) ok values wired n le = nodes_fit l m y origin (range_with_len 0 y.nodes) n ok le wired
+goal_fits l m always ok values wired n le = tt
+
+job_fits : (l : Layout) (x : LocalRule) (g : GoalOf) → IsLayout l → GoalWired l x.symbols g → (j : Option Cell) → job_reads l x g j ≡ true → PartFits (input_count l x) (job_part l x g j)
+job_fits l x g ok values (Some d) wired n le = AreGates-append n (place_maker l x.symbols x d n).gates [] (place_fits l x.symbols x d n ok le wired) tt
+job_fits l x g ok values None wired n le = goal_fits l x.symbols g ok values wired n le
 
 abbrev pub problem_gates : Layout → LocalRule → GoalOf → List Gate
 problem_gates l x g = part_gates (input_count l x) (problem_parts l x g)
@@ -129,7 +141,7 @@ problem_gates l x g = part_gates (input_count l x) (problem_parts l x g)
 pub gates_fit : (l : Layout) (x : LocalRule) (g : GoalOf) → IsWired l x g → AreGates (input_count l x) (problem_gates l x g)
 gates_fit l x g wired =
     rw (← parts_by_jobs l x g)
-    (parts_fit (input_count l x) (job_part l x g) (job_reads l x g) (job_fits l x g wired.layout) (jobs l x) (input_count l x) (omega arith) wired.reads)
+    (parts_fit (input_count l x) (job_part l x g) (job_reads l x g) (job_fits l x g wired.layout wired.values) (jobs l x) (input_count l x) (omega arith) wired.reads)
 
 abbrev pub assignment : Layout → LocalRule → GoalOf → List ℕ → ℕ → Bool
 assignment l x g symbols = written symbols x.symbols (length l.places) (problem_gates l x g)
@@ -149,7 +161,7 @@ problem_written l x g wired symbols stands =
     let tell = told_by_inputs set l m symbols wired.layout stands.symbols_fit.as_many read in
     let agree : agrees set n gs ≡ true =
     agrees-values_from gs (guesses symbols m (length l.places)) n (length-map-range_with_len (guess symbols m) 1 (length l.places * m)) (gates_fit l x g wired) in
-    let said = parts_say set l x g look below (wired.alphabet look below) tell wired.reads agree in (
+    let said = parts_say set l x g look below wired.layout.within wired.values (wired.alphabet look below) tell wired.reads agree in (
       list_all-append (is_clause_true set) (cell_clauses x l.places) (part_clauses n ps)
           ∙ and_from _ _ (cells_written set x l.places symbols stands.symbols_fit read)
           (parts_law set n ps ∙ and_from _ _ agree (said ∙ and_from _ _ stands.premise stands.goal)),

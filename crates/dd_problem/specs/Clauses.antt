@@ -66,3 +66,7 @@ units ss = map (λ s. literal_of s ∷ []) ss
 -- some signal is false
 abbrev pub some_false : List Signal → List (List Literal)
 some_false ss = map opposing ss ∷ []
+
+-- some signal is true
+abbrev pub some_true : List Signal → List (List Literal)
+some_true ss = map literal_of ss ∷ []

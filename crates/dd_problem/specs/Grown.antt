@@ -1,5 +1,5 @@
--- The positions that are read from the fundamental box of a torus.
-use Rattle.std.specs.Prelude.{ℕ, ◌+◌, ◌-◌, ◌*◌, ◌-ℤ◌, pos, max, List, map, slice_index}
+-- The positions that are read from the fundamental box of a torus, and its layout.
+use Rattle.std.specs.Prelude.{ℕ, nat_lt, ◌+◌, ◌-◌, ◌*◌, ◌-ℤ◌, pos, max, List, map, slice_index}
 use Rattle.std.specs.List.{range_with_len}
 use Rattle.dd_lattice.specs.Place.{place}
 use Rattle.dd_lattice.specs.Boxes.{Bounds, is_active, spread}
@@ -9,14 +9,15 @@ use Rattle.dd_pattern.specs.Periods.{volume}
 use Rattle.dd_pattern.specs.Tile.{Tile, tile, tile_index}
 use Rattle.dd_compile.specs.Wiring.{Wiring}
 use Rattle.dd_formula.specs.LocalRule.{LocalRule}
-use Rattle.dd_formula.specs.Reach.{reach}
-use Rattle.dd_boxes.specs.Goals.{GoalOf, breaks, always}
-use Rattle.dd_problem.specs.Layouts.{cells_in}
+use Rattle.dd_formula.specs.Reach.{reach, automaton_reach}
+use Rattle.dd_boxes.specs.Goals.{GoalOf, breaks, differ, always}
+use Rattle.dd_problem.specs.Layouts.{Layout, cells_in, torus, torus_cells}
 use Rattle.dd_problem.specs.Numbered.{numbered}
 
 -- how far the goal reads, and how far the premise and the goal read
 abbrev pub goal_reach : GoalOf → ℕ
 goal_reach (breaks y) = reach y
+goal_reach (differ s f g) = max (automaton_reach s.nodes f) (automaton_reach s.nodes g)
 goal_reach always = 0
 
 abbrev pub question_reach : LocalRule → GoalOf → ℕ
@@ -52,3 +53,12 @@ numbers_of x periods = tile x.dimension periods x.nodes (range_with_len 0 (volum
 -- what the premise and the goal read, each cell with the inputs of the one at its position modulo the periods
 abbrev pub torus_inputs : LocalRule → GoalOf → Periods → Wiring
 torus_inputs x g periods = numbered_by x.symbols (numbers_of x periods) (near_cells x (question_reach x g) periods)
+
+-- every cell has the number of the one at its position modulo the periods
+abbrev pub torus_layout : LocalRule → GoalOf → Periods → Layout
+torus_layout x g periods = record {
+  has = λ c. nat_lt c.node x.nodes;
+  index = tile_index (torus x periods);
+  places = torus_cells x periods;
+  inputs = torus_inputs x g periods;
+}

@@ -1,20 +1,23 @@
 -- Which cells have inputs, and in which order.
-use Rattle.std.specs.Prelude.{ℕ, ◌+◌, ◌*◌, ◌/◌, ◌%◌, Bool, nat_lt, List, [], map}
+use Rattle.std.specs.Prelude.{ℕ, ◌+◌, ◌*◌, ◌/◌, ◌%◌, Bool, List, [], map}
 use Rattle.std.specs.List.{list_all, range_with_len}
 use Rattle.dd_lattice.specs.Cells.{cell, shifted}
 use Rattle.dd_lattice.specs.Boxes.{Bounds, centred, volume, index_in, place_in}
 use Rattle.dd_lattice.specs.declared.position.Cell.{Cell}
 use Rattle.dd_pattern.specs.declared.periods.Periods.{Periods}
-use Rattle.dd_pattern.specs.Tile.{Tile, tile, tile_index, fundamental}
+use Rattle.dd_pattern.specs.Tile.{Tile, tile, fundamental}
 use Rattle.dd_formula.specs.LocalRule.{LocalRule, reads_at}
 use Rattle.dd_boxes.specs.Fillings.{is_box_cell}
+use Rattle.dd_compile.specs.Wiring.{Wiring}
+use Rattle.dd_problem.specs.Numbered.{in_turn}
 
--- the cells whose symbols the inputs say, the number of each cell that is read, from 0, and the places, in the order of
--- their numbers
+-- The cells whose symbols the inputs say, the number of each cell that is read, from 0, and the places, in the order of
+-- their numbers; and each of the cells with its inputs as signals.
 pub record Layout : Type 0 where
   pub has : Cell → Bool
   pub index : Cell → ℕ
   pub places : List Cell
+  pub inputs : Wiring
 
 -- the cells of a box of positions in cell order: the nodes of a position stand together
 abbrev pub nth_cell : Bounds → ℕ → ℕ → Cell
@@ -31,17 +34,14 @@ abbrev pub box_cells : LocalRule → ℕ → List Cell
 box_cells x n = cells_in (centred x.dimension n) x.nodes
 
 abbrev pub box_layout : LocalRule → ℕ → Layout
-box_layout x n = record { has = is_box_cell x n; index = box_index x n; places = box_cells x n }
+box_layout x n = record { has = is_box_cell x n; index = box_index x n; places = box_cells x n; inputs = in_turn x.symbols (box_cells x n) }
 
--- those of a fundamental box; every cell has the number of the one at its position modulo the periods
+-- those of a fundamental box
 abbrev pub torus : LocalRule → Periods → Tile
 torus x periods = tile x.dimension periods x.nodes []
 
 abbrev pub torus_cells : LocalRule → Periods → List Cell
 torus_cells x periods = cells_in (fundamental periods) x.nodes
-
-abbrev pub torus_layout : LocalRule → Periods → Layout
-torus_layout x periods = record { has = λ c. nat_lt c.node x.nodes; index = tile_index (torus x periods); places = torus_cells x periods }
 
 -- each cell that the rule reads at the place is one of the layout's
 abbrev pub fits_in : Layout → LocalRule → Cell → Bool

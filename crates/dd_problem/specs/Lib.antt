@@ -1,6 +1,7 @@
 -- Which cells have inputs; the clauses over them, and those of a whole question on a box and on a torus.
 pub mod Layouts
 pub mod Clauses
+pub mod Differing
 pub mod Problems
 -- Symbols by the numbers of cells, and what it is for clauses to say what a question asks.
 pub mod Symbols
@@ -9,3 +10,5 @@ pub mod Shows
 pub mod Pushed
 pub mod Numbered
 pub mod Grown
+-- what is known of goals while their clauses are made
+pub mod Told

@@ -11,10 +11,12 @@ use Rattle.dd_circuit.specs.Circuits.{signal_of}
 use Rattle.dd_compile.specs.Compiling.{Maker, made}
 use Rattle.dd_pattern.specs.declared.periods.Periods.{Periods}
 use Rattle.dd_formula.specs.LocalRule.{LocalRule, expansion_at}
-use Rattle.dd_boxes.specs.Goals.{GoalOf, breaks, always}
+use Rattle.dd_boxes.specs.Goals.{GoalOf, breaks, differ, always}
 use Rattle.dd_boxes.specs.Boxes.{origin}
-use Rattle.dd_problem.specs.Layouts.{Layout, fits_in, box_layout, torus_layout}
-use Rattle.dd_problem.specs.Clauses.{input, cell_clauses, Part, part_gates, part_clauses, units, some_false}
+use Rattle.dd_problem.specs.Layouts.{Layout, fits_in, box_layout}
+use Rattle.dd_problem.specs.Grown.{torus_layout}
+use Rattle.dd_problem.specs.Differing.{differ_made}
+use Rattle.dd_problem.specs.Clauses.{input, cell_clauses, Part, part_gates, part_clauses, units, some_true, some_false}
 
 -- the signal that says that a cell, counted from v, has the symbol s of m
 abbrev pub wire : Layout → ℕ → Place → Cell → ℕ → Signal
@@ -31,6 +33,8 @@ premise_part l x d = record { makers = place_maker l x.symbols x d ∷ []; tail 
 -- the goal holds at the origin
 abbrev pub goal_part : Layout → ℕ → GoalOf → Part
 goal_part l m (breaks y) = record { makers = map (λ a. place_maker l m y (cell origin a)) (range_with_len 0 y.nodes); tail = some_false }
+goal_part l m (differ s f g) =
+    record { makers = map (λ a. differ_made s.symbols f g l.inputs (cell origin a)) (range_with_len 0 s.nodes); tail = some_true }
 goal_part l m always = record { makers = []; tail = λ _. [] }
 
 -- the premise at each place where it fits, in their order, and then the goal
@@ -54,4 +58,4 @@ abbrev pub box_problem : LocalRule → GoalOf → ℕ → ClauseList
 box_problem x g n = problem (box_layout x n) x g
 
 abbrev pub torus_problem : LocalRule → GoalOf → Periods → ClauseList
-torus_problem x g periods = problem (torus_layout x periods) x g
+torus_problem x g periods = problem (torus_layout x g periods) x g

@@ -1,5 +1,5 @@
 -- The clauses of a problem over the signals of any inputs.
-use Rattle.std.specs.Prelude.{ℕ, ◌+◌, ◌*◌, ◌≡◌, Bool, true, List, [], ◌∷◌, ◌++◌, map, length, Some}
+use Rattle.std.specs.Prelude.{ℕ, ◌+◌, ◌*◌, ◌≡◌, ◌&&◌, Bool, true, List, [], ◌∷◌, ◌++◌, map, length, Some}
 use Rattle.std.specs.List.{list_all, filter, range_with_len}
 use Rattle.dd_lattice.specs.Place.{Place}
 use Rattle.dd_lattice.specs.Cells.{cell}
@@ -10,9 +10,13 @@ use Rattle.dd_circuit.specs.Circuits.{IsSignal}
 use Rattle.dd_compile.specs.Wiring.{Wiring, wire_of}
 use Rattle.dd_compile.specs.Compiling.{wires_near, are_wired, compiled}
 use Rattle.dd_formula.specs.LocalRule.{LocalRule, expansion_at}
-use Rattle.dd_boxes.specs.Goals.{GoalOf, breaks, always}
+use Rattle.dd_formula.specs.Automata.{Setting, counted}
+use Rattle.dd_formula.specs.declared.automaton.Automaton.{Automaton}
+use Rattle.dd_compile.specs.ValueSignals.{are_wired_there}
+use Rattle.dd_boxes.specs.Goals.{GoalOf, breaks, differ, always}
+use Rattle.dd_problem.specs.Differing.{differ_made}
 use Rattle.dd_boxes.specs.Boxes.{origin}
-use Rattle.dd_problem.specs.Clauses.{cell_clauses, Part, part_gates, part_clauses, units, some_false}
+use Rattle.dd_problem.specs.Clauses.{cell_clauses, Part, part_gates, part_clauses, units, some_true, some_false}
 
 -- each signal is one of the first n variables
 abbrev pub AreInputs : ℕ → Wiring → Type 0
@@ -33,13 +37,24 @@ wired_parts w n x cells = map (wired_part w x) (filter (is_wired_at w n x) cells
 abbrev pub broken_part : Wiring → LocalRule → Place → Part
 broken_part w y v = record { makers = map (λ a. compiled w v (expansion_at y a)) (range_with_len 0 y.nodes); tail = some_false }
 
+-- the values of two automata are different at some node of the origin
+abbrev pub differ_part : Wiring → Setting → Automaton → Automaton → Part
+differ_part w s f g = record { makers = map (λ a. differ_made s.symbols f g w (cell origin a)) (range_with_len 0 s.nodes); tail = some_true }
+
 abbrev pub wired_goal : Wiring → GoalOf → Part
 wired_goal w (breaks y) = broken_part w y origin
+wired_goal w (differ s f g) = differ_part w s f g
 wired_goal w always = record { makers = []; tail = λ _. [] }
+
+-- what both automata read at a node of the origin has its signals
+abbrev pub are_both_wired : Wiring → ℕ → Setting → Automaton → Automaton → ℕ → Bool
+are_both_wired w n s f g a =
+    are_wired_there n s.symbols w ((counted f).reads a) (cell origin a) && are_wired_there n s.symbols w ((counted g).reads a) (cell origin a)
 
 -- what the goal asks at the origin has its signal
 abbrev pub is_goal_wired : Wiring → ℕ → GoalOf → Bool
 is_goal_wired w n (breaks y) = list_all (λ a. is_wired_at w n y (cell origin a)) (range_with_len 0 y.nodes)
+is_goal_wired w n (differ s f g) = list_all (are_both_wired w n s f g) (range_with_len 0 s.nodes)
 is_goal_wired w n always = true
 
 abbrev pub wired_problem : Wiring → LocalRule → GoalOf → List Cell → ClauseList

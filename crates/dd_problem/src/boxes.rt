@@ -8,6 +8,7 @@ ghost use Rattle.dd_boxes.specs.Views.{goal_of};
 ghost use Rattle.dd_problem.specs.Problems.{box_problem};
 ghost use Rattle.dd_problem.specs.Shows.{Shows, DecidesBox};
 
+use crate::goals::told_goal;
 use crate::layouts::{cells_of, inputs_in_turn};
 use crate::problems::problem;
 use dd_boxes::Goal;
@@ -32,6 +33,8 @@ pub fn box_clauses(
     ensures shows { IfOk result (λ cnf. Shows cnf.clauses premise.now (goal_of premise.now goal.now) radius) }
     ensures decides { IfOk result (λ cnf. DecidesBox cnf.clauses premise.now (goal_of premise.now goal.now) radius) }
 {
+    // Made for its facts: the gates of the goal say what it asks.
+    told_goal(premise, goal);
     let symbols = premise.symbols();
     let bounds = centred_box(premise.dim(), radius).unwrap();
     let cells = cells_of(alloc, &bounds, premise.nodes())?;

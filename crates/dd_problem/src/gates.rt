@@ -4,13 +4,14 @@ ghost use Rattle.dd_circuit.specs.Circuits.{IsSignal, size};
 ghost use Rattle.dd_cnf.specs.Encoding.{gates_clauses};
 ghost use Rattle.dd_compile.specs.Compiling.{are_wired, compiled, gate_count, wires_near};
 ghost use Rattle.dd_formula.specs.LocalRule.{expansion_at};
-ghost use Rattle.dd_boxes.specs.Goals.{breaks};
+ghost use Rattle.dd_boxes.specs.Goals.{breaks, IsGoalFor};
 ghost use Rattle.dd_boxes.specs.Boxes.{origin};
 ghost use Rattle.dd_problem.specs.Clauses.{part_gates, part_clauses};
 ghost use Rattle.dd_problem.specs.Pushed.{AreInputs, is_wired_at, wired_part, wired_parts, broken_part, wired_goal, is_goal_wired};
 ghost use Rattle.dd_boxes.specs.Views.{goal_of};
 ghost use Rattle.dd_lattice.specs.Cells.{cell};
 
+use crate::differing::push_differ;
 use dd_boxes::Goal;
 use dd_circuit::{Circuit, Signal};
 use dd_clause::Cnf;
@@ -167,6 +168,7 @@ pub(crate) fn push_goal(
     inputs: &Inputs,
 ) -> Result<(), AllocError>
     requires wide { cnf.old.variables ≡ size circuit.old }
+    requires goal { IsGoalFor premise.now (goal_of premise.now goal.now) }
     requires wired { is_goal_wired inputs.now (size circuit.old) (goal_of premise.now goal.now) ≡ true }
     requires few { size circuit.old
         + length (part_gates (size circuit.old) (wired_goal inputs.now (goal_of premise.now goal.now) ∷ [])) ≤ 2 ^ 24 }
@@ -181,6 +183,9 @@ pub(crate) fn push_goal(
         Goal::Breaks(rule) => {
             let origin = Position { x: 0, y: 0, z: 0 };
             push_some_false(alloc, cnf, circuit, rule, &origin, inputs)
+        }
+        Goal::Differ(left, right) => {
+            push_differ(alloc, cnf, circuit, premise, left, right, inputs)
         }
         Goal::Always => Ok(()),
     }

@@ -2,7 +2,9 @@
 #![tactic(auto)]
 
 mod boxes;
+mod differing;
 mod gates;
+mod goals;
 mod layouts;
 mod one_hot;
 mod problems;

@@ -1,5 +1,6 @@
 //! All clauses of a problem.
 ghost use Rattle.std.specs.Prelude.{◌≡◌, ◌≤◌, ◌<◌, ◌*◌, ◌^◌, true, length, All, IfOk};
+ghost use Rattle.dd_boxes.specs.Goals.{IsGoalFor};
 ghost use Rattle.dd_boxes.specs.Views.{goal_of};
 ghost use Rattle.dd_problem.specs.Pushed.{AreInputs, is_goal_wired, wired_problem};
 
@@ -24,6 +25,7 @@ pub(crate) fn problem(
 ) -> Result<Cnf, AllocError>
     requires nodes { All (λ d. d.node < premise.now.nodes) cells.now }
     requires signals { AreInputs (length cells.now * premise.now.symbols) inputs.now }
+    requires goal { IsGoalFor premise.now (goal_of premise.now goal.now) }
     requires wired { is_goal_wired inputs.now (length cells.now * premise.now.symbols) (goal_of premise.now goal.now) ≡ true }
     requires few { (wired_problem inputs.now premise.now (goal_of premise.now goal.now) cells.now).variables ≤ 2 ^ 24 }
     ensures { IfOk result (λ cnf. cnf ≡ wired_problem inputs.now premise.now (goal_of premise.now goal.now) cells.now) }

@@ -13,7 +13,9 @@ ghost use Rattle.dd_problem.specs.Problems.{torus_problem};
 ghost use Rattle.dd_problem.specs.Grown.{question_reach, margin, grown, near_cells};
 ghost use Rattle.dd_problem.specs.Grown.{number_at, numbered_by, numbers_of, torus_inputs};
 ghost use Rattle.dd_problem.specs.Shows.{ShowsTorus};
+ghost use Rattle.dd_problem.specs.Told.{IsToldGoal};
 
+use crate::goals::told_goal;
 use crate::layouts::{cells_of, symbol_signals};
 use crate::problems::problem;
 use dd_boxes::{Goal, least_radius};
@@ -26,7 +28,7 @@ use std::alloc::{AllocError, Global};
 
 /// How far the premise and the goal read.
 fn question_reach(alloc: Global, premise: &Rule, goal: &Goal) -> Result<u32, AllocError>
-    requires { IsGoalFor premise.now (goal_of premise.now goal.now) }
+    requires { IsToldGoal premise.now (goal_of premise.now goal.now) }
     ensures value { IfOk result (λ n. n ≡ question_reach premise.now (goal_of premise.now goal.now)) }
     ensures near { IfOk result (λ n. n ≤ 16) }
 {
@@ -91,7 +93,7 @@ fn near_cells(
     goal: &Goal,
     periods: &Periods,
 ) -> Result<Vec<Cell>, AllocError>
-    requires goal { IsGoalFor premise.now (goal_of premise.now goal.now) }
+    requires goal { IsToldGoal premise.now (goal_of premise.now goal.now) }
     requires periods { ArePeriods premise.now.dimension periods.now }
     ensures { IfOk result (λ v. v.items ≡ near_cells premise.now (question_reach premise.now (goal_of premise.now goal.now)) periods.now) }
 {
@@ -154,7 +156,7 @@ fn torus_inputs(
     goal: &Goal,
     periods: &Periods,
 ) -> Result<Inputs, AllocError>
-    requires goal { IsGoalFor premise.now (goal_of premise.now goal.now) }
+    requires goal { IsToldGoal premise.now (goal_of premise.now goal.now) }
     requires periods { ArePeriods premise.now.dimension periods.now }
     ensures { IfOk result (λ inputs. inputs ≡ torus_inputs premise.now (goal_of premise.now goal.now) periods.now) }
 {
@@ -179,6 +181,8 @@ pub fn torus_clauses(
     ensures exact { IfOk result (λ cnf. cnf ≡ torus_problem premise.now (goal_of premise.now goal.now) (periods_of periods shear)) }
     ensures shows { IfOk result (λ cnf. ShowsTorus cnf.clauses premise.now (goal_of premise.now goal.now) (periods_of periods shear)) }
 {
+    // Made for its facts: the gates of the goal say what it asks.
+    told_goal(premise, goal);
     let [x, y, z] = periods;
     let torus = Periods { x, y, z, shear };
     let nodes = premise.nodes();

@@ -40,7 +40,7 @@ problem-requires-clause-wired c =
     let second = cells_are c.args.premise.now (goal_of c.args.premise.now c.args.goal.now) c.args.radius c.centred_box.result c.dim.result c.nodes.result c.unwrap-bounds.result c.in_ok-cells.cells.items c.deref-2.result.now
     c.symbols-symbols.ensures.kept c.requires.few c.dim.ensures c.centred_box.ensures.value c.unwrap-bounds.ensures c.nodes.ensures.value c.in_ok-cells.ensures c.deref-2.ensures.value in
     let inputs = inputs_are c.args.premise.now c.args.radius c.symbols-symbols.result c.deref.result.now c.in_ok-inputs.inputs c.in_ok-inputs.ensures c.symbols-symbols.ensures.value first in
-    goal_wired c.args.premise.now (goal_of c.args.premise.now c.args.goal.now) c.args.radius c.deref-2.result.now c.in_ok-inputs.inputs c.symbols-symbols.ensures.kept c.requires.goal c.requires.reaches c.requires.few inputs second
+    goal_wired c.args.premise.now (goal_of c.args.premise.now c.args.goal.now) c.args.radius c.deref-2.result.now c.in_ok-inputs.inputs c.symbols-symbols.ensures.kept c.told_goal.ensures c.requires.reaches c.requires.few inputs second
 
 pub problem-requires-clause-few : goal.problem-requires-clause-few
 problem-requires-clause-few c =
@@ -49,7 +49,7 @@ problem-requires-clause-few c =
     let second = cells_are c.args.premise.now (goal_of c.args.premise.now c.args.goal.now) c.args.radius c.centred_box.result c.dim.result c.nodes.result c.unwrap-bounds.result c.in_ok-cells.cells.items c.deref-2.result.now
     c.symbols-symbols.ensures.kept c.requires.few c.dim.ensures c.centred_box.ensures.value c.unwrap-bounds.ensures c.nodes.ensures.value c.in_ok-cells.ensures c.deref-2.ensures.value in
     let inputs = inputs_are c.args.premise.now c.args.radius c.symbols-symbols.result c.deref.result.now c.in_ok-inputs.inputs c.in_ok-inputs.ensures c.symbols-symbols.ensures.value first in
-    variables_few c.args.premise.now (goal_of c.args.premise.now c.args.goal.now) c.args.radius c.deref-2.result.now c.in_ok-inputs.inputs c.symbols-symbols.ensures.kept c.requires.goal c.requires.reaches c.requires.few inputs second
+    variables_few c.args.premise.now (goal_of c.args.premise.now c.args.goal.now) c.args.radius c.deref-2.result.now c.in_ok-inputs.inputs c.symbols-symbols.ensures.kept c.told_goal.ensures c.requires.reaches c.requires.few inputs second
 
 pub returns-clause-exact : goal.returns-clause-exact
 returns-clause-exact c =
@@ -58,7 +58,7 @@ returns-clause-exact c =
     let second = cells_are c.args.premise.now (goal_of c.args.premise.now c.args.goal.now) c.args.radius c.centred_box.result c.dim.result c.nodes.result c.unwrap-bounds.result c.in_ok-cells.cells.items c.deref-2.result.now
     c.symbols-symbols.ensures.kept c.requires.few c.dim.ensures c.centred_box.ensures.value c.unwrap-bounds.ensures c.nodes.ensures.value c.in_ok-cells.ensures c.deref-2.ensures.value in
     let inputs = inputs_are c.args.premise.now c.args.radius c.symbols-symbols.result c.deref.result.now c.in_ok-inputs.inputs c.in_ok-inputs.ensures c.symbols-symbols.ensures.value first in
-    exactly c.args.premise.now (goal_of c.args.premise.now c.args.goal.now) c.args.radius c.deref-2.result.now c.in_ok-inputs.inputs c.symbols-symbols.ensures.kept c.requires.goal c.requires.reaches c.requires.few inputs second c.problem.result c.problem.ensures
+    exactly c.args.premise.now (goal_of c.args.premise.now c.args.goal.now) c.args.radius c.deref-2.result.now c.in_ok-inputs.inputs c.symbols-symbols.ensures.kept c.told_goal.ensures c.requires.reaches c.requires.few inputs second c.problem.result c.problem.ensures
 
 pub returns-clause-shows : goal.returns-clause-shows
 returns-clause-shows c =
@@ -67,7 +67,7 @@ returns-clause-shows c =
     let second = cells_are c.args.premise.now (goal_of c.args.premise.now c.args.goal.now) c.args.radius c.centred_box.result c.dim.result c.nodes.result c.unwrap-bounds.result c.in_ok-cells.cells.items c.deref-2.result.now
     c.symbols-symbols.ensures.kept c.requires.few c.dim.ensures c.centred_box.ensures.value c.unwrap-bounds.ensures c.nodes.ensures.value c.in_ok-cells.ensures c.deref-2.ensures.value in
     let inputs = inputs_are c.args.premise.now c.args.radius c.symbols-symbols.result c.deref.result.now c.in_ok-inputs.inputs c.in_ok-inputs.ensures c.symbols-symbols.ensures.value first in
-    showing c.args.premise.now (goal_of c.args.premise.now c.args.goal.now) c.args.radius c.deref-2.result.now c.in_ok-inputs.inputs c.symbols-symbols.ensures.kept c.requires.goal c.requires.reaches c.requires.few inputs second c.problem.result c.problem.ensures
+    showing c.args.premise.now (goal_of c.args.premise.now c.args.goal.now) c.args.radius c.deref-2.result.now c.in_ok-inputs.inputs c.symbols-symbols.ensures.kept c.told_goal.ensures c.requires.reaches c.requires.few inputs second c.problem.result c.problem.ensures
 
 pub returns-clause-decides : goal.returns-clause-decides
 returns-clause-decides c =
@@ -76,4 +76,4 @@ returns-clause-decides c =
     let second = cells_are c.args.premise.now (goal_of c.args.premise.now c.args.goal.now) c.args.radius c.centred_box.result c.dim.result c.nodes.result c.unwrap-bounds.result c.in_ok-cells.cells.items c.deref-2.result.now
     c.symbols-symbols.ensures.kept c.requires.few c.dim.ensures c.centred_box.ensures.value c.unwrap-bounds.ensures c.nodes.ensures.value c.in_ok-cells.ensures c.deref-2.ensures.value in
     let inputs = inputs_are c.args.premise.now c.args.radius c.symbols-symbols.result c.deref.result.now c.in_ok-inputs.inputs c.in_ok-inputs.ensures c.symbols-symbols.ensures.value first in
-    deciding c.args.premise.now (goal_of c.args.premise.now c.args.goal.now) c.args.radius c.deref-2.result.now c.in_ok-inputs.inputs c.symbols-symbols.ensures.kept c.requires.goal c.requires.reaches c.requires.few inputs second c.problem.result c.problem.ensures
+    deciding c.args.premise.now (goal_of c.args.premise.now c.args.goal.now) c.args.radius c.deref-2.result.now c.in_ok-inputs.inputs c.symbols-symbols.ensures.kept c.told_goal.ensures c.requires.reaches c.requires.few inputs second c.problem.result c.problem.ensures

@@ -4,7 +4,20 @@ use Rattle.dd_lattice.specs.Cells.{cell}
 use Rattle.dd_boxes.specs.Boxes.{origin}
 use Rattle.dd_problem.specs.Pushed.{is_wired_at}
 use Rattle.dd_problem.proofs.Wiring.{range_at}
+use Rattle.std.proofs.Common.{subst}
+use Rattle.dd_boxes.specs.Goals.{IsGoalFor}
+use Rattle.dd_boxes.specs.Views.{goal_of, numbers_of}
+use Rattle.dd_problem.specs.Pushed.{are_both_wired}
 use Rattle.dd_problem.proofs.gates.push_goal.Goals as goal
+
+pub push_differ-requires-clause-over : goal.push_differ-requires-clause-over
+push_differ-requires-clause-over c = subst (λ g. IsGoalFor c.args.premise.now (goal_of c.args.premise.now g)) c.in-Differ.is c.requires.goal
+
+pub push_differ-requires-clause-wired : goal.push_differ-requires-clause-wired
+push_differ-requires-clause-wired c = λ a below.
+    let x = c.args.premise.now in
+    let all = rw c.in-Differ.is at c.requires.wired in
+    range_at (are_both_wired c.args.inputs.now (size c.args.circuit.now) (numbers_of x) c.in-Differ.left.now c.in-Differ.right.now) x.nodes 0 a all (omega arith) (omega arith)
 
 pub push_some_false-requires-clause-wired : goal.push_some_false-requires-clause-wired
 push_some_false-requires-clause-wired c = λ a below.

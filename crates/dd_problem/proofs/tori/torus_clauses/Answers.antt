@@ -20,7 +20,7 @@ problem-requires-clause-signals c =
     let cells =
     cells_are c.args.premise.now (periods_of c.args.periods c.args.shear) c.nodes-nodes.ensures.kept c.requires.periods c.nodes-nodes.result c.fundamental.result
     c.in_ok-cells.cells.items c.deref.result.now c.nodes-nodes.ensures.value c.fundamental.ensures c.in_ok-cells.ensures c.deref.ensures.value in
-    signals_there c.args.premise.now (periods_of c.args.periods c.args.shear) c.nodes-nodes.ensures.kept c.requires.periods (goal_of c.args.premise.now c.args.goal.now) c.requires.goal
+    signals_there c.args.premise.now (periods_of c.args.periods c.args.shear) c.nodes-nodes.ensures.kept c.requires.periods (goal_of c.args.premise.now c.args.goal.now) c.told_goal.ensures
     c.deref.result.now c.in_ok-inputs.inputs c.in_ok-inputs.ensures cells
 
 pub problem-requires-clause-wired : goal.problem-requires-clause-wired
@@ -28,7 +28,7 @@ problem-requires-clause-wired c =
     let cells =
     cells_are c.args.premise.now (periods_of c.args.periods c.args.shear) c.nodes-nodes.ensures.kept c.requires.periods c.nodes-nodes.result c.fundamental.result
     c.in_ok-cells.cells.items c.deref.result.now c.nodes-nodes.ensures.value c.fundamental.ensures c.in_ok-cells.ensures c.deref.ensures.value in
-    goal_wired c.args.premise.now (periods_of c.args.periods c.args.shear) c.nodes-nodes.ensures.kept c.requires.periods (goal_of c.args.premise.now c.args.goal.now) c.requires.goal
+    goal_wired c.args.premise.now (periods_of c.args.periods c.args.shear) c.nodes-nodes.ensures.kept c.requires.periods (goal_of c.args.premise.now c.args.goal.now) c.told_goal.ensures
     c.deref.result.now c.in_ok-inputs.inputs c.in_ok-inputs.ensures cells
 
 pub problem-requires-clause-few : goal.problem-requires-clause-few
@@ -36,7 +36,7 @@ problem-requires-clause-few c =
     let cells =
     cells_are c.args.premise.now (periods_of c.args.periods c.args.shear) c.nodes-nodes.ensures.kept c.requires.periods c.nodes-nodes.result c.fundamental.result
     c.in_ok-cells.cells.items c.deref.result.now c.nodes-nodes.ensures.value c.fundamental.ensures c.in_ok-cells.ensures c.deref.ensures.value in
-    variables_few c.args.premise.now (periods_of c.args.periods c.args.shear) c.nodes-nodes.ensures.kept c.requires.periods (goal_of c.args.premise.now c.args.goal.now) c.requires.goal
+    variables_few c.args.premise.now (periods_of c.args.periods c.args.shear) c.nodes-nodes.ensures.kept c.requires.periods (goal_of c.args.premise.now c.args.goal.now) c.told_goal.ensures
     c.deref.result.now c.in_ok-inputs.inputs c.in_ok-inputs.ensures cells c.requires.few
 
 pub returns-clause-exact : goal.returns-clause-exact
@@ -44,7 +44,7 @@ returns-clause-exact c =
     let cells =
     cells_are c.args.premise.now (periods_of c.args.periods c.args.shear) c.nodes-nodes.ensures.kept c.requires.periods c.nodes-nodes.result c.fundamental.result
     c.in_ok-cells.cells.items c.deref.result.now c.nodes-nodes.ensures.value c.fundamental.ensures c.in_ok-cells.ensures c.deref.ensures.value in
-    exactly c.args.premise.now (periods_of c.args.periods c.args.shear) c.nodes-nodes.ensures.kept c.requires.periods (goal_of c.args.premise.now c.args.goal.now) c.requires.goal
+    exactly c.args.premise.now (periods_of c.args.periods c.args.shear) c.nodes-nodes.ensures.kept c.requires.periods (goal_of c.args.premise.now c.args.goal.now) c.told_goal.ensures
     c.deref.result.now c.in_ok-inputs.inputs c.in_ok-inputs.ensures cells c.problem.result c.problem.ensures
 
 pub returns-clause-shows : goal.returns-clause-shows
@@ -52,5 +52,5 @@ returns-clause-shows c =
     let cells =
     cells_are c.args.premise.now (periods_of c.args.periods c.args.shear) c.nodes-nodes.ensures.kept c.requires.periods c.nodes-nodes.result c.fundamental.result
     c.in_ok-cells.cells.items c.deref.result.now c.nodes-nodes.ensures.value c.fundamental.ensures c.in_ok-cells.ensures c.deref.ensures.value in
-    showing c.args.premise.now (periods_of c.args.periods c.args.shear) c.nodes-nodes.ensures.kept c.requires.periods (goal_of c.args.premise.now c.args.goal.now) c.requires.goal
+    showing c.args.premise.now (periods_of c.args.periods c.args.shear) c.nodes-nodes.ensures.kept c.requires.periods (goal_of c.args.premise.now c.args.goal.now) c.told_goal.ensures
     c.deref.result.now c.in_ok-inputs.inputs c.in_ok-inputs.ensures cells c.problem.result c.problem.ensures

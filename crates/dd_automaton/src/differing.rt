@@ -1,0 +1,54 @@
+//! Whether two automata give different symbols.
+ghost use Rattle.std.specs.Prelude.{◌≡◌, ◌<◌, ◌↔◌, IsTrue, IfOk};
+ghost use Rattle.dd_pattern.specs.Tile.{tile_look};
+ghost use Rattle.dd_expansion.specs.Terms.{origin_at};
+ghost use Rattle.dd_formula.specs.Automata.{value};
+ghost use Rattle.dd_automaton.specs.Images.{IsDefinedOn, DifferAtOrigin};
+
+use dd_formula::Automaton;
+use dd_lattice::{Cell, Position};
+use dd_pattern::Periodic;
+use std::alloc::{AllocError, Global};
+
+/// The symbol that the automaton gives the origin with this node.
+fn value_at_origin(
+    alloc: Global,
+    automaton: &Automaton,
+    node: u32,
+    periodic: &Periodic,
+) -> Result<u32, AllocError>
+    requires defined { IsDefinedOn automaton.now periodic.now }
+    requires node { node < periodic.now.nodes }
+    ensures { IfOk result (λ s. s ≡ value automaton.now (tile_look periodic.now) (origin_at node)) }
+{
+    // Made for its fact: the automaton keeps to its nodes.
+    automaton.reads_are_placed();
+    // Read for what its type keeps.
+    let _symbols = periodic.symbols();
+    let position = Position { x: 0, y: 0, z: 0 };
+    match automaton.value(alloc, &Cell { position, node }, periodic)? {
+        Some(symbol) => Ok(symbol),
+        None => unreachable!(),
+    }
+}
+
+/// Whether two automata give different symbols at some node of the origin.
+pub fn differ_at_origin(
+    alloc: Global,
+    left: &Automaton,
+    right: &Automaton,
+    periodic: &Periodic,
+) -> Result<bool, AllocError>
+    requires left { IsDefinedOn left.now periodic.now }
+    requires right { IsDefinedOn right.now periodic.now }
+    ensures { IfOk result (λ differ. IsTrue differ ↔ DifferAtOrigin left.now right.now periodic.now) }
+{
+    for node in 0..periodic.nodes() {
+        let first = value_at_origin(alloc, left, node, periodic)?;
+        let second = value_at_origin(alloc, right, node, periodic)?;
+        if first != second {
+            return Ok(true);
+        }
+    }
+    Ok(false)
+}

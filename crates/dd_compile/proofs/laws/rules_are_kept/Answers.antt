@@ -1,0 +1,24 @@
+use Rattle.std.proofs.Common.{◌≡◌, ◌<◌, ◌≤◌, ℕ, List, length, take, get_or, ap, sym, ◌∙◌, subst}
+use Rattle.std.specs.List.{All}
+use Rattle.std.proofs.lemmas.List.{take_all}
+use Rattle.std.proofs.lemmas.List.Elements.{All-push}
+use Rattle.dd_formula.specs.LocalRule.{LocalRule, IsRule}
+use Rattle.dd_compile.proofs.CaseGates.{taken_is}
+use Rattle.dd_compile.proofs.laws.rules_are_kept.Goals as goal
+
+pub loop-rule-preserved : goal.loop-rule-preserved
+loop-rule-preserved c =
+    let cases : List (LocalRule × ℕ) = c.args.cases.now.cases in
+    let i = c.loop-rule.rule-index in
+    let case : LocalRule × ℕ = c.loop-rule-item.result in
+    let same : c.as_slice-rule-items.result.now ≡ cases = c.as_slice-rule-items.ensures in
+    let is : case ≡ get_or cases i case = c.loop-rule-item.is ∙ ap (λ xs. get_or xs i case) same in
+    let below : i < length cases = subst (λ xs. i < length xs) same c.loop-rule-test.true in
+    subst (All (λ (x : LocalRule × ℕ). IsRule x.0)) (sym (taken_is cases i case below is))
+    (All-push (λ (x : LocalRule × ℕ). IsRule x.0) (take i cases) case c.loop-rule.invariant c.nodes-nodes.ensures.kept)
+
+pub returns : goal.returns
+returns c =
+    let cases : List (LocalRule × ℕ) = c.args.cases.now.cases in
+    let i = c.loop-rule.rule-index in
+    subst (All (λ (x : LocalRule × ℕ). IsRule x.0)) (take_all i cases (subst (λ xs. length xs ≤ i) c.as_slice-rule-items.ensures c.loop-rule-test.false)) c.loop-rule.invariant

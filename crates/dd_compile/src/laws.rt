@@ -1,0 +1,38 @@
+//! What the gates of an automaton's value keep.
+ghost use Rattle.std.specs.List.{All};
+ghost use Rattle.dd_formula.specs.LocalRule.{IsRule};
+ghost use Rattle.dd_compile.specs.Valued.{SaysNear, SaysItsValue};
+
+use dd_formula::{Automaton, Cases};
+
+/// Only looks at the rules, for what they keep.
+fn rules_are_kept(cases: &Cases)
+    ensures { All (λ case. IsRule case.0) cases.now.cases }
+{
+    for (rule, _) in cases.cases.as_slice() {
+        // Made for its fact: what a rule keeps.
+        let _nodes = rule.nodes();
+    }
+}
+
+/// Only looks at the rules, for what they keep: near the origin the gates of the automaton's value say its value.
+fn says_near(automaton: &Automaton)
+    ensures { SaysNear automaton.now }
+{
+    match automaton {
+        Automaton::Given(cases) => rules_are_kept(cases),
+        Automaton::Composed(outer, inner) => {
+            outer.get().reads_are_placed();
+            says_near(outer.get());
+            says_near(inner.get());
+        }
+    }
+}
+
+/// Only looks at the rules, for what they keep: the gates of the automaton's value are gates over earlier variables, and
+/// their signals say its value, wherever they stand.
+pub fn says_its_value(automaton: &Automaton)
+    ensures { SaysItsValue automaton.now }
+{
+    says_near(automaton);
+}

@@ -1,0 +1,27 @@
+-- The gates that say that the values of two automata at a cell are different.
+use Rattle.std.specs.Prelude.{ℕ, suc, ◌+◌, List, [], ◌∷◌, ◌++◌, length}
+use Rattle.dd_lattice.specs.declared.position.Cell.{Cell}
+use Rattle.dd_formula.specs.declared.automaton.Automaton.{Automaton}
+use Rattle.dd_circuit.specs.declared.gates.Signal.{Signal}
+use Rattle.dd_circuit.specs.declared.gates.Gate.{Gate}
+use Rattle.dd_circuit.specs.declared.gates.Gate.TheVariants.{And, Or}
+use Rattle.dd_circuit.specs.Circuits.{opposite}
+use Rattle.dd_compile.specs.Wiring.{Wiring}
+use Rattle.dd_compile.specs.Compiling.{Maker, then_gate}
+use Rattle.dd_compile.specs.ValueGates.{fresh, value_made}
+
+-- symbol by symbol a gate that says that it is the first value and not the second
+abbrev pub apart : List Signal → List Signal → List Gate
+apart [] ys = []
+apart (x ∷ xs) [] = []
+apart (x ∷ xs) (y ∷ ys) = And (x ∷ opposite y ∷ []) ∷ apart xs ys
+
+-- the first value, the second, a gate for each of k symbols, and a gate that says that one of these is true
+abbrev pub differ_made : ℕ → Automaton → Automaton → Wiring → Cell → Maker
+differ_made k f g w at n =
+    let left = value_made k f w at n in
+    let second = n + length left.gates in
+    let right = value_made k g w at second in
+    let third = second + length right.gates in
+    let each = apart left.signals right.signals in
+    then_gate n ((left.gates ++ right.gates) ++ each) (Or (fresh third (length each)))

@@ -1,0 +1,141 @@
+//! The values of two automata as gates and clauses that say that they are different.
+ghost use Rattle.std.specs.Prelude.{◌≡◌, ◌≤◌, ◌<◌, ◌+◌, ◌^◌, ◌∷◌, ◌++◌, ℕ, [], true, length, All, IfOk, OnOk};
+ghost use Rattle.dd_lattice.specs.Cells.{cell};
+ghost use Rattle.dd_formula.specs.Automata.{Setting, IsAutomaton};
+ghost use Rattle.dd_circuit.specs.Circuits.{IsSignal, size};
+ghost use Rattle.dd_cnf.specs.Encoding.{gates_clauses};
+ghost use Rattle.dd_compile.specs.ValueGates.{fresh};
+ghost use Rattle.dd_boxes.specs.Boxes.{origin};
+ghost use Rattle.dd_boxes.specs.Goals.{AreOver};
+ghost use Rattle.dd_boxes.specs.Views.{numbers_of};
+ghost use Rattle.dd_problem.specs.Clauses.{part_gates, part_clauses};
+ghost use Rattle.dd_problem.specs.Differing.{apart, differ_made};
+ghost use Rattle.dd_problem.specs.Pushed.{are_both_wired, differ_part};
+
+use dd_circuit::{Circuit, Signal};
+use dd_clause::Cnf;
+use dd_cnf::{literal_of, push_clause, push_gates};
+use dd_compile::{Inputs, compile_value};
+use dd_formula::{Automaton, Rule};
+use dd_lattice::{Cell, Position};
+use std::alloc::{AllocError, Global};
+
+/// Adds for each symbol a gate that says that the first signal is true and the second isn't.
+fn compile_apart(
+    circuit: &mut Circuit,
+    alloc: Global,
+    first: &[Signal],
+    second: &[Signal],
+) -> Result<Vec<Signal>, AllocError>
+    requires as_many { length second.now ≡ length first.now }
+    requires few { size circuit.old + length first.now ≤ 2 ^ 24 }
+    requires first { All (IsSignal (size circuit.old)) first.now }
+    requires second { All (IsSignal (size circuit.old)) second.now }
+    ensures inputs { circuit.new.inputs ≡ circuit.old.inputs }
+    ensures gates { IfOk result (λ _. circuit.new.gates ≡ circuit.old.gates ++ apart first.now second.now) }
+    ensures signals { IfOk result (λ v. v.items ≡ fresh (size circuit.old) (length (apart first.now second.now))) }
+{
+    let mut signals = Vec::with_capacity(alloc, first.len())?;
+    for number in 0..first.len() {
+        let signal = circuit.and(&[first[number], second[number].opposite()])?;
+        signals.push(signal)?;
+    }
+    Ok(signals)
+}
+
+/// Adds the gates of both values at a node of the origin, and gives the signal that says that they are different.
+fn compile_differ(
+    circuit: &mut Circuit,
+    alloc: Global,
+    premise: &Rule,
+    left: &Automaton,
+    right: &Automaton,
+    node: u32,
+    inputs: &Inputs,
+) -> Result<Signal, AllocError>
+    requires over { AreOver premise.now (numbers_of premise.now) left.now right.now }
+    requires node { node < premise.now.nodes }
+    requires wired { are_both_wired inputs.now (size circuit.old) (numbers_of premise.now) left.now right.now node ≡ true }
+    requires few { size circuit.old
+        + length (differ_made premise.now.symbols left.now right.now inputs.now (cell origin node) (size circuit.old)).gates ≤ 2 ^ 24 }
+    ensures inputs { circuit.new.inputs ≡ circuit.old.inputs }
+    ensures gates { IfOk result (λ _. circuit.new.gates ≡ circuit.old.gates
+        ++ (differ_made premise.now.symbols left.now right.now inputs.now (cell origin node) (size circuit.old)).gates) }
+    ensures signal { IfOk result (λ s.
+        s ≡ (differ_made premise.now.symbols left.now right.now inputs.now (cell origin node) (size circuit.old)).signal) }
+    ensures in_range { IfOk result (λ s. IsSignal (size circuit.new) s) }
+{
+    let symbols = premise.symbols();
+    let position = Position { x: 0, y: 0, z: 0 };
+    let at = Cell { position, node };
+    let first = compile_value(circuit, alloc, left, symbols, &at, inputs)?;
+    let second = compile_value(circuit, alloc, right, symbols, &at, inputs)?;
+    let apart = compile_apart(circuit, alloc, &first, &second)?;
+    circuit.or(&apart)
+}
+
+/// The same, with the clauses of the gates.
+fn push_apart(
+    alloc: Global,
+    cnf: &mut Cnf,
+    circuit: &mut Circuit,
+    premise: &Rule,
+    left: &Automaton,
+    right: &Automaton,
+    node: u32,
+    inputs: &Inputs,
+) -> Result<Signal, AllocError>
+    requires over { AreOver premise.now (numbers_of premise.now) left.now right.now }
+    requires node { node < premise.now.nodes }
+    requires wide { cnf.old.variables ≡ size circuit.old }
+    requires wired { are_both_wired inputs.now (size circuit.old) (numbers_of premise.now) left.now right.now node ≡ true }
+    requires few { size circuit.old
+        + length (differ_made premise.now.symbols left.now right.now inputs.now (cell origin node) (size circuit.old)).gates ≤ 2 ^ 24 }
+    ensures inputs { circuit.new.inputs ≡ circuit.old.inputs }
+    ensures wide { IfOk result (λ _. cnf.new.variables ≡ size circuit.new) }
+    ensures gates { IfOk result (λ _. circuit.new.gates ≡ circuit.old.gates
+        ++ (differ_made premise.now.symbols left.now right.now inputs.now (cell origin node) (size circuit.old)).gates) }
+    ensures clauses { IfOk result (λ _. cnf.new.clauses ≡ cnf.old.clauses ++ gates_clauses (size circuit.old)
+        (differ_made premise.now.symbols left.now right.now inputs.now (cell origin node) (size circuit.old)).gates) }
+    ensures signal { IfOk result (λ s.
+        s ≡ (differ_made premise.now.symbols left.now right.now inputs.now (cell origin node) (size circuit.old)).signal) }
+    ensures in_range { IfOk result (λ s. IsSignal (size circuit.new) s) }
+{
+    let before = circuit.gates().len();
+    let signal = compile_differ(circuit, alloc, premise, left, right, node, inputs)?;
+    cnf.widen(circuit.variables());
+    push_gates(alloc, cnf, circuit, before)?;
+    Ok(signal)
+}
+
+/// Adds the gates of both values at each node of the origin, and the clause that says that they are different at some node.
+pub(crate) fn push_differ(
+    alloc: Global,
+    cnf: &mut Cnf,
+    circuit: &mut Circuit,
+    premise: &Rule,
+    left: &Automaton,
+    right: &Automaton,
+    inputs: &Inputs,
+) -> Result<(), AllocError>
+    requires over { AreOver premise.now (numbers_of premise.now) left.now right.now }
+    requires wide { cnf.old.variables ≡ size circuit.old }
+    requires wired { (a : ℕ) → a < premise.now.nodes →
+        are_both_wired inputs.now (size circuit.old) (numbers_of premise.now) left.now right.now a ≡ true }
+    requires few { size circuit.old
+        + length (part_gates (size circuit.old) (differ_part inputs.now (numbers_of premise.now) left.now right.now ∷ [])) ≤ 2 ^ 24 }
+    ensures inputs { circuit.new.inputs ≡ circuit.old.inputs }
+    ensures wide { OnOk result (cnf.new.variables ≡ size circuit.new) }
+    ensures gates { OnOk result (circuit.new.gates ≡ circuit.old.gates
+        ++ part_gates (size circuit.old) (differ_part inputs.now (numbers_of premise.now) left.now right.now ∷ [])) }
+    ensures clauses { OnOk result (cnf.new.clauses ≡ cnf.old.clauses
+        ++ part_clauses (size circuit.old) (differ_part inputs.now (numbers_of premise.now) left.now right.now ∷ [])) }
+{
+    let nodes = premise.nodes();
+    let mut literals = Vec::with_capacity(alloc, nodes as usize)?;
+    for node in 0..nodes {
+        let signal = push_apart(alloc, cnf, circuit, premise, left, right, node, inputs)?;
+        literals.push(literal_of(signal))?;
+    }
+    push_clause(alloc, cnf, &literals)
+}
