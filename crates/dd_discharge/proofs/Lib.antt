@@ -6,6 +6,7 @@ pub mod Chosen
 pub mod Steps
 pub mod DomainLaws
 pub mod GroundLaws
+pub mod Reach
 pub mod AdmissibleLaws
 pub mod WholeNumbers
 pub mod Totals
@@ -25,3 +26,5 @@ pub mod RowLaws
 pub mod ProgramLaws
 pub mod Sides
 pub mod OneProgram
+pub mod SmallBounds
+pub mod Outcomes

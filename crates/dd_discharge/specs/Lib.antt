@@ -5,7 +5,9 @@ pub mod Fillings
 pub mod Patterns
 pub mod Programs
 pub mod Denominators
+pub mod Printed
 pub mod Bounds
+pub mod Outcomes
 -- what certifies a bound, and that none is better
 pub mod Amounts
 pub mod Certificates

@@ -2,3 +2,4 @@ pub mod Levels
 pub mod Views
 pub mod Tables
 pub mod Sparse
+pub mod Shown

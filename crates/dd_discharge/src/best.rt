@@ -2,6 +2,7 @@
 ghost use Rattle.std.specs.Prelude.{◌≡◌, ◌<◌, map, IfOk, IfErr, OnOk};
 ghost use Rattle.dd_fraction.specs.Exact.{whole_of};
 ghost use Rattle.dd_discharge.specs.Amounts.{IsCertified};
+ghost use Rattle.dd_discharge.specs.Printed.{IsSmallBound};
 ghost use Rattle.dd_discharge.specs.Bounds.{in_fractions, EndsWith, GivesNone};
 ghost use Rattle.dd_discharge.specs.listing.Tables.{AreRowsOf};
 
@@ -48,6 +49,7 @@ pub(crate) fn best_of(
     requires { AreRowsOf columns rows.now }
     ensures ends { IfOk result (EndsWith (in_fractions columns rows.now) pivots) }
     ensures certified { IfOk result (IsCertified rows.now columns) }
+    ensures small { IfOk result IsSmallBound }
     ensures err { IfErr result (GivesNone (in_fractions columns rows.now) pivots) }
 {
     let program = linear_program(alloc, rows, columns)?;

@@ -5,6 +5,7 @@ ghost use Rattle.dd_fraction.specs.Exact.{den_of};
 ghost use Rattle.dd_fraction.specs.Order.{IsNonneg};
 ghost use Rattle.dd_simplex.specs.Programs.{fraction_at};
 ghost use Rattle.dd_discharge.specs.Denominators.{least_common, joined, common_denominator, numerator_over, most_printed, printed, HasUnprinted, IsPrintedAs};
+ghost use Rattle.dd_discharge.specs.Printed.{IsSmallBound};
 ghost use Rattle.dd_discharge.specs.Faults.{OnOverflow};
 
 use crate::bound::Bound;
@@ -101,7 +102,9 @@ pub(crate) fn bound_of(
     requires some { 0 < length columns.now }
     requires first { fraction_at columns.now 0 ≡ value.now }
     requires sign { IsNonneg value.now }
+    requires some_dual { 0 < length duals.now }
     ensures ok { IfOk result (IsPrintedAs value.now columns.now duals.now) }
+    ensures small { IfOk result IsSmallBound }
     ensures err { IfErr result (λ fault. OnOverflow fault (HasUnprinted (columns.now ++ duals.now))) }
 {
     let Some(common) = common_denominator(columns, duals) else {

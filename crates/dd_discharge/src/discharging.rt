@@ -1,6 +1,7 @@
 //! The best bound of a rule along some vectors.
 ghost use Rattle.std.specs.Prelude.{◌≤◌, IfOk, IfErr};
 ghost use Rattle.dd_discharge.specs.Asked.{AreVectors, AreWeightsFor};
+ghost use Rattle.dd_discharge.specs.Printed.{IsSmallBound};
 ghost use Rattle.dd_discharge.specs.Bounds.{IsBoundOf, IsDischargeFault};
 ghost use Rattle.dd_discharge.specs.Certificates.{IsBoundCertificate};
 
@@ -35,6 +36,7 @@ pub fn discharge(
     requires vectors { AreVectors rule.now.dimension vectors.now }
     ensures ok { IfOk result (IsBoundOf rule.now weights.now radius margin vectors.now pivots) }
     ensures certificate { IfOk result (IsBoundCertificate rule.now weights.now radius margin vectors.now) }
+    ensures small { IfOk result IsSmallBound }
     ensures err { IfErr result (IsDischargeFault rule.now weights.now radius margin vectors.now pivots) }
 {
     // Read for what its type keeps.

@@ -1,16 +1,17 @@
 //! The domain of a discharge, grown by its margin.
-ghost use Rattle.std.specs.Prelude.{◌≡◌, ◌<◌, ◌≤◌, IfOk, IfErr, [], pos, ◌-ℤ◌};
+ghost use Rattle.std.specs.Prelude.{◌≡◌, ◌<◌, ◌≤◌, IfOk, IfErr, [], pos, ◌-ℤ◌, All};
 ghost use Rattle.std.specs.List.Sorted.{IsStrictlySortedBy};
 ghost use Rattle.dd_lattice.specs.Place.{IsNear};
 ghost use Rattle.dd_lattice.specs.Order.{cell_cmp};
 ghost use Rattle.dd_lattice.specs.Boxes.{centred, positions_of};
 ghost use Rattle.dd_lattice.specs.Regions.{IsRegion, IsRegionOf, IsMoved};
+ghost use Rattle.dd_discharge.specs.Asked.{IsVector, AreVectors};
 ghost use Rattle.dd_discharge.specs.listing.Levels.{AreOf, AreInRange};
 ghost use Rattle.dd_discharge.specs.Domains.{IsInDomain, IsInGround, IsGround, cells_on, box_cells, opposite};
 
 use crate::fault::RowsFault;
 use dd_formula::Rule;
-use dd_lattice::{Cell, Position, Region, centred_box, positions};
+use dd_lattice::{Cell, LatticeFault, Position, Region, centred_box, positions};
 use dd_values::Items;
 use std::alloc::{AllocError, Global};
 
@@ -54,13 +55,19 @@ fn domain(alloc: Global, dim: u32, radius: u32, vectors: &[Position]) -> Result<
     requires least { 1 ≤ dim }
     requires most { dim ≤ 3 }
     requires radius { radius ≤ 3 }
+    requires vectors { All (IsVector dim) vectors.now }
     ensures members { IfOk result (IsRegionOf (IsInDomain dim radius vectors.now)) }
     ensures memory { IfErr result (λ fault. fault ≡ RowsFault.Memory) }
 {
     let around = box_region(alloc, dim, radius)?;
     let mut all = box_region(alloc, dim, radius)?;
     for vector in vectors {
-        let moved = around.shifted(alloc, &opposite(vector))?;
+        let moved = match around.shifted(alloc, &opposite(vector)) {
+            Ok(moved) => moved,
+            Err(LatticeFault::Memory) => return Err(RowsFault::Memory),
+            // Positions of the box lie within 3 of the origin, and vectors reach 4.
+            Err(LatticeFault::Range) => unreachable!(),
+        };
         all = all.union(alloc, &moved)?;
     }
     Ok(all)
@@ -104,6 +111,8 @@ pub fn ground(
     vectors: &[Position],
 ) -> Result<Items<Cell>, RowsFault>
     requires radius { radius ≤ 3 }
+    requires margin { margin ≤ 3 }
+    requires vectors { AreVectors rule.now.dimension vectors.now }
     ensures ground { IfOk result (IsGround rule.now radius margin vectors.now) }
     ensures order { IfOk result (IsStrictlySortedBy cell_cmp) }
     ensures nodes { IfOk result (AreOf rule.now) }
@@ -113,7 +122,12 @@ pub fn ground(
     let dim = rule.dim();
     let nodes = rule.nodes();
     let near = domain(alloc, dim, radius, vectors)?;
-    let region = near.grow(alloc, dim, margin)?;
+    let region = match near.grow(alloc, dim, margin) {
+        Ok(region) => region,
+        Err(LatticeFault::Memory) => return Err(RowsFault::Memory),
+        // Positions of the domain lie within 7 of the origin.
+        Err(LatticeFault::Range) => unreachable!(),
+    };
     let positions = region.list();
     let cells = cells_on(alloc, nodes, positions)?;
     Ok(cells)

@@ -1,7 +1,6 @@
 //! Why a rule has no program along some vectors, or this no bound.
 ghost use Rattle.std.specs.Prelude.{◌≡◌};
 
-use dd_lattice::LatticeFault;
 use dd_simplex::SimplexFault;
 use std::alloc::AllocError;
 use thiserror::Error;
@@ -22,17 +21,6 @@ impl From<AllocError> for RowsFault {
     ghost from_gives = { λ _ fault. fault ≡ Memory };
 
     fn from(_error: AllocError) -> RowsFault {
-        RowsFault::Memory
-    }
-}
-
-impl From<LatticeFault> for RowsFault {
-    ghost use Rattle.dd_discharge.specs.declared.fault.RowsFault.TheVariants.{Memory};
-
-    ghost from_gives = { λ _ fault. fault ≡ Memory };
-
-    /// The regions of a discharge lie near the origin, so that they fail by want of memory alone.
-    fn from(_fault: LatticeFault) -> RowsFault {
         RowsFault::Memory
     }
 }

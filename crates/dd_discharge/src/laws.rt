@@ -5,6 +5,7 @@ ghost use Rattle.dd_lattice.specs.declared.position.Cell.{Cell};
 ghost use Rattle.dd_formula.specs.LocalRule.{LocalRule};
 ghost use Rattle.dd_discharge.specs.declared.bound.Bound.{Bound as AnyBound};
 ghost use Rattle.dd_discharge.specs.Laws.{AreCellsOf, AreTheAdmissible};
+ghost use Rattle.dd_discharge.specs.Outcomes.{HasOneOutcome};
 ghost use Rattle.dd_discharge.specs.Certificates.{IsBoundCertificate, BestOf};
 
 use dd_formula::Rule;
@@ -22,4 +23,10 @@ pub fn the_admissible(_rule: &Rule)
 pub fn best_bound()
     ensures { (x : LocalRule) (weights : List ℕ) (radius margin : ℕ) (vectors : List Place) (bound : AnyBound) →
         IsBoundCertificate x weights radius margin vectors bound → BestOf x weights radius margin vectors bound.numerator bound.denominator }
+{}
+
+/// Does nothing; its contract is the law that a discharge comes to one thing: to one bound, or to one reason why there is none.
+#[tactic(auto, using(crate::proofs::Outcomes::one_outcome))]
+pub fn one_outcome()
+    ensures { (x : LocalRule) (weights : List ℕ) (radius margin : ℕ) (vectors : List Place) (pivots : ℕ) → HasOneOutcome x weights radius margin vectors pivots }
 {}

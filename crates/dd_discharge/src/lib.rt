@@ -27,7 +27,7 @@ pub use claimed::ClaimedBound;
 pub use discharging::discharge;
 pub use domain::ground;
 pub use fault::{DischargeFault, RowsFault};
-pub use laws::{best_bound, the_admissible};
+pub use laws::{best_bound, one_outcome, the_admissible};
 pub use program::program_of;
 pub use rows::{Row, Rows};
 pub use search::fillings;

@@ -1,5 +1,5 @@
 //! Patterns: the symbols of a box around a position, and lists of distinct ones in lexicographic order.
-ghost use Rattle.std.specs.Prelude.{◌≡◌, ◌≤◌, ◌∷◌, [], Some, length, nat_eq, slice_get, unwrap_or, IfOk, OnOk};
+ghost use Rattle.std.specs.Prelude.{◌≡◌, ◌≤◌, ◌∷◌, [], Some, length, nat_eq, IfOk, OnOk};
 ghost use Rattle.std.specs.Ordering.{nat_cmp};
 ghost use Rattle.std.specs.Cmp as comparisons;
 ghost use Rattle.std.specs.Cmp.Lexicographic.{slice_cmp, pointwise, nat_list_cmp_total, nat_list_eq_equiv, texts_ties, texts_po};
@@ -13,18 +13,8 @@ use std::alloc::{AllocError, Global};
 use std::cmp::Ordering;
 use std::marker::Model;
 
-/// The symbol with the number; no cell that is looked for lies outside those that have one.
-fn symbol_at(symbols: &[u32], number: usize) -> u32
-    ensures { result ≡ unwrap_or (slice_get symbols.now number) 0 }
-{
-    match symbols.get(number) {
-        Some(symbol) => *symbol,
-        None => 0,
-    }
-}
-
 /// The symbols of a box in cell order. Patterns are ordered lexicographically.
-#[derive(Debug, Drop)]
+#[derive(Drop)]
 pub(crate) struct Pattern {
     symbols: Vec<u32>,
 }
@@ -91,7 +81,9 @@ impl Pattern {
     {
         self.symbols.clear();
         for number in numbers {
-            self.symbols.push(symbol_at(symbols, *number))?;
+            // No cell that is looked for lies outside those that have a symbol.
+            self.symbols
+                .push(symbols.get(*number).copied().unwrap_or(0))?;
         }
         Ok(())
     }
@@ -100,13 +92,6 @@ impl Pattern {
         ensures { result.now ≡ self.now }
     {
         self.symbols.as_slice()
-    }
-
-    fn copy(&self, alloc: Global) -> Result<Pattern, AllocError>
-        ensures { IfOk result (λ copy. copy ≡ self.now) }
-    {
-        let symbols = Vec::from_slice(alloc, self.symbols.as_slice())?;
-        Ok(Pattern { symbols })
     }
 }
 
@@ -152,8 +137,8 @@ impl Patterns {
         match self.list.as_slice().binary_search(pattern) {
             Ok(_) => Ok(()),
             Err(place) => {
-                let copy = pattern.copy(alloc)?;
-                self.list.insert(place, copy)?;
+                let symbols = Vec::from_slice(alloc, pattern.symbols())?;
+                self.list.insert(place, Pattern { symbols })?;
                 Ok(())
             }
         }

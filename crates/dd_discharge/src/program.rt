@@ -9,6 +9,7 @@ ghost use Rattle.dd_discharge.specs.Patterns.{in_lexicographic_order};
 ghost use Rattle.dd_discharge.specs.Programs.{IsProgramOf, IsRowsFault, add_row, first_seen, column_count, most_columns, most_rows};
 ghost use Rattle.dd_discharge.specs.listing.Views.{symbols_at, patterns_seen, with_patterns};
 ghost use Rattle.dd_discharge.specs.listing.Sparse.{dense, exchanges_of, asked_row, asked_rows, IsSparse, AreSparse, IsWithRow};
+ghost use Rattle.dd_discharge.specs.listing.Shown.{IsProgramShown, IsLargeShown};
 
 use crate::domain::ground;
 use crate::fault::RowsFault;
@@ -186,6 +187,29 @@ fn greatest_weight(weights: &[u32]) -> u32
     most
 }
 
+/// The program of the fillings: the patterns that they show, and the distinct rows that they ask.
+fn program_shown(
+    alloc: Global,
+    fillings: &[Items<u32>],
+    views: &Views,
+    weights: &[u32],
+    heaviest: u64,
+) -> Result<Rows, RowsFault>
+    requires known { All (λ ss. All (λ s. s < length weights.now) ss) fillings.now }
+    requires some { 1 ≤ length weights.now }
+    requires small { All (λ w. w ≤ 1000) weights.now }
+    requires nodes { length views.now.centre ≤ 4 }
+    ensures ok { IfOk result (IsProgramShown views.now weights.now heaviest fillings.now) }
+    ensures err { IfErr result (λ fault. OnLarge fault (IsLargeShown views.now weights.now heaviest fillings.now)) }
+{
+    let patterns = all_patterns(alloc, fillings, views)?;
+    let rows = distinct_rows(alloc, fillings, views, &patterns, weights, heaviest)?;
+    Ok(Rows {
+        patterns: patterns.lists(alloc)?,
+        rows: dense_rows(alloc, &rows, patterns.len())?,
+    })
+}
+
 /// The program of a rule along the vectors, for a domain of the radius grown by the margin. Each symbol has a weight.
 ///
 /// # Errors
@@ -210,17 +234,5 @@ pub fn program_of(
     let cells = ground(alloc, rule, radius, margin, vectors)?;
     let fillings = fillings(alloc, rule, cells.as_slice())?;
     let views = Views::new(alloc, rule, cells.as_slice(), radius, vectors)?;
-    let patterns = all_patterns(alloc, fillings.as_slice(), &views)?;
-    let rows = distinct_rows(
-        alloc,
-        fillings.as_slice(),
-        &views,
-        &patterns,
-        weights,
-        heaviest,
-    )?;
-    Ok(Rows {
-        patterns: patterns.lists(alloc)?,
-        rows: dense_rows(alloc, &rows, patterns.len())?,
-    })
+    program_shown(alloc, fillings.as_slice(), &views, weights, heaviest)
 }

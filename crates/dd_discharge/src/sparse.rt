@@ -13,14 +13,14 @@ use dd_values::Items;
 use std::alloc::{AllocError, Global};
 
 /// The numbers of the patterns by which the origin gives along a vector and receives along it, where these differ.
-#[derive(Clone, Copy, Debug, PartialEq, Eq, Hash)]
+#[derive(Clone, Copy, PartialEq, Eq, Hash)]
 pub(crate) struct Exchange {
     gives: usize,
     receives: usize,
 }
 
 /// A row: for each vector what is exchanged along it, and the right side.
-#[derive(Debug, PartialEq, Eq, Hash, Drop)]
+#[derive(PartialEq, Eq, Hash, Drop)]
 pub(crate) struct SparseRow {
     exchanges: Vec<Option<Exchange>>,
     bound: u64,

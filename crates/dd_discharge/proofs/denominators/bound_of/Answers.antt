@@ -9,6 +9,7 @@ use Rattle.dd_fraction.specs.Exact.{Exact}
 use Rattle.dd_discharge.specs.Denominators.{numerator_over, most_printed, printed, common_denominator, HasUnprinted}
 use Rattle.dd_discharge.proofs.Multiples.{printed_is}
 use Rattle.dd_discharge.proofs.Printing.{Given, small_numerator, small_denominator, signed_is, are_printed, unprinted_at, unprinted_value, any_back, any_later, tail_is, over_from, printed_as}
+use Rattle.dd_discharge.proofs.SmallBounds.{small_bound}
 use Rattle.dd_discharge.proofs.denominators.bound_of.Goals as goal
 
 pub overflow_cast-result : goal.overflow_cast-result
@@ -73,3 +74,20 @@ returns-clause-ok c =
     (c.in_ok-amounts.ensures.value ∙ ap (map (numerator_over n)) (tail_is xs))
     (subst (All (λ a. numerator_over n a ≤ most_printed)) (tail_is xs) c.in_ok-amounts.ensures.printed)
     c.in_ok-duals.ensures.value c.in_ok-duals.ensures.printed
+
+pub returns-clause-small : goal.returns-clause-small
+returns-clause-small c =
+    let v = c.args.value.now in
+    let xs = c.args.columns.now in
+    let ys = c.args.duals.now in
+    let n = c.in-Some.common in
+    let num : SFits w128 c.num.result = search rules in
+    let den : SFits w128 c.den.result = search rules in
+    let g : Given v xs ys n = record { fraction = c.num.ensures.fraction; some = c.requires.some; first = c.requires.first; sign = c.requires.sign; common = sym c.in-Some.is ∙ c.common_denominator.ensures } in
+    let num_is : c.unsigned_abs.result ≡ unsigned_abs v.num = c.unsigned_abs.ensures.value ∙ ap unsigned_abs (to_z-of_z w128 c.num.result num ∙ c.num.ensures.value) in
+    let den_is : c.unsigned_abs-2.result ≡ v.den = c.unsigned_abs-2.ensures.value ∙ ap unsigned_abs (to_z-of_z w128 c.den.result den ∙ c.den.ensures.value) in
+    small_bound v xs ys n c.in-Some-numerator_over._held c.unsigned_abs.result c.unsigned_abs-2.result c.in_ok-amounts.amounts c.in_ok-duals.duals g
+    (sym c.in-Some-numerator_over.is ∙ c.numerator_over.ensures) num_is den_is
+    (c.in_ok-amounts.ensures.value ∙ ap (map (numerator_over n)) (tail_is xs))
+    (subst (All (λ a. numerator_over n a ≤ most_printed)) (tail_is xs) c.in_ok-amounts.ensures.printed)
+    c.in_ok-duals.ensures.value c.in_ok-duals.ensures.printed c.requires.some_dual
