@@ -1,0 +1,59 @@
+-- Side(n): how many positions it has, and how many of them receive from it.
+use Rattle.std.proofs.Common.{◌≡◌, ℕ, zero, suc, ◌-◌, ◌*◌, ◌^◌, ◌≤◌, Bool, true, false, refl, ap, ◌∙◌, arith}
+use Rattle.std.specs.Prelude.{ℤ, pos, unsigned_abs, ◌||◌, nat_lt}
+use Rattle.std.specs.Ordering.{int_eq}
+use Rattle.std.proofs.lemmas.Bool.{and_parts, lt-ltb}
+use Rattle.std.proofs.Math.Nat.{pow-zero, pow-suc}
+use Rattle.std.proofs.lemmas.Bool.Decides.{Decides-int_eq}
+use Rattle.dd_lattice.specs.Place.{Place}
+use Rattle.dd_lattice.specs.Boxes.{is_active}
+use Rattle.dd_expansion.specs.Placed.{is_flat}
+use Rattle.dd_sides.specs.Sums.{box_sum, volume, from_outside}
+use Rattle.dd_sides.specs.Sides.{run, side}
+use Rattle.dd_sides.specs.Boundaries.{left_on, inner_count, outer_count}
+use Rattle.dd_sides.proofs.BoxLaws.{kept}
+use Rattle.dd_sides.proofs.CountLaws.{outside_count}
+
+first_power : (b : ℕ) → b ^ 1 ≡ b
+first_power b = let none = pow-zero b in let one : b ^ 1 ≡ b ^ 0 * b = pow-suc b 0 in one ∙ (ap (λ m. m * b) none ∙ (omega arith))
+
+second_power : (b : ℕ) → b ^ 2 ≡ b * b
+second_power b = let two : b ^ 2 ≡ b ^ 1 * b = pow-suc b 1 in two ∙ ap (λ m. m * b) (first_power b)
+
+third_power : (b : ℕ) → b ^ 3 ≡ b * b * b
+third_power b = let three : b ^ 3 ≡ b ^ 2 * b = pow-suc b 2 in three ∙ ap (λ m. m * b) (second_power b)
+
+-- a box has three, two or one of its axes active
+pub side_volume : (d n : ℕ) → 1 ≤ d → d ≤ 3 → volume (side d n) ≡ n ^ d
+side_volume zero n low high = absurd (omega arith)
+side_volume (suc zero) n low high = rw (first_power n) (omega arith)
+side_volume (suc (suc zero)) n low high = rw (second_power n) (omega arith)
+side_volume (suc (suc (suc zero))) n low high = rw (third_power n) (omega arith)
+side_volume (suc (suc (suc (suc d)))) n low high = absurd (omega arith)
+
+left_is : (active : Bool) (n : ℕ) (c : ℤ) → (active || int_eq c (pos 0)) ≡ true → run active n - unsigned_abs c ≡ left_on active n c
+left_is true n c h = refl
+left_is false n c h = let zero_there : c ≡ pos 0 = (Decides-int_eq c (pos 0)).0 h in rw zero_there refl
+
+pub first_active : (d : ℕ) → 1 ≤ d → is_active d 0 ≡ true
+first_active zero low = absurd (omega arith)
+first_active (suc d) low = lt-ltb 0 (suc d) (omega arith)
+
+left_first : (active : Bool) (n : ℕ) (c : ℤ) → active ≡ true → run active n - unsigned_abs c ≡ left_on active n c
+left_first true n c h = refl
+left_first false n c h = absurd (cc)
+
+turned : (a b c p q r : ℕ) → a ≡ p → b ≡ q → c ≡ r → c * (b * a) ≡ p * (q * r)
+turned a b c p q r e f g = rw (e, f, g) (omega arith)
+
+pub kept_is : (d n : ℕ) (v : Place) → 1 ≤ d → is_flat d v ≡ true → kept (side d n) v ≡ inner_count d n v
+kept_is d n v low flat =
+    let parts = and_parts (nat_lt 1 d || int_eq v.y (pos 0)) (nat_lt 2 d || int_eq v.z (pos 0)) flat in
+    turned _ _ _ _ _ _ (left_first (is_active d 0) n v.x (first_active d low)) (left_is (is_active d 1) n v.y parts.0) (left_is (is_active d 2) n v.z parts.1)
+
+pub side_count : (d n : ℕ) (u v : Place) → 1 ≤ d → d ≤ 3 → is_flat d v ≡ true → box_sum (side d n) u (from_outside (side d n) u v) ≡ outer_count d n v
+side_count d n u v low high flat =
+    let a = outside_count (side d n) u v in
+    let b = side_volume d n low high in
+    let c = kept_is d n v low flat in
+    omega (arith, a, b, c)

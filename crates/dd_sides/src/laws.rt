@@ -1,0 +1,39 @@
+//! The laws of boxes of every side, as contracts of calls that do nothing.
+ghost use Rattle.std.specs.Prelude.{ℕ, List, ◌≤◌, ◌≡◌, true};
+ghost use Rattle.dd_lattice.specs.Place.{Place};
+ghost use Rattle.dd_expansion.specs.Placed.{is_flat};
+ghost use Rattle.dd_formula.specs.LocalRule.{LocalRule, IsRule};
+ghost use Rattle.dd_discharge.specs.declared.bound.Bound.{Bound};
+ghost use Rattle.dd_discharge.specs.Asked.{AreVectors};
+ghost use Rattle.dd_discharge.specs.Certificates.{IsBoundCertificate};
+ghost use Rattle.dd_sides.specs.Sums.{Size, box_sum, giver, from_outside};
+ghost use Rattle.dd_sides.specs.Sides.{side, IsSide};
+ghost use Rattle.dd_sides.specs.Boundaries.{outer_count};
+ghost use Rattle.dd_sides.specs.Lifted.{HoldsOnSides};
+
+/// Does nothing; its contract says what the boxes of side n are: they have the positions of `Side(n)`, moved to u, a sum over one
+/// takes each of these once, and grown by e one has the positions that are within e of these.
+#[tactic(auto, using(crate::proofs::SideParts::side_is))]
+pub fn sides_are()
+    ensures { (d n : ℕ) (u : Place) → 1 ≤ d → 1 ≤ n → is_flat d u ≡ true → IsSide d n u }
+{}
+
+/// Does nothing; its contract says that what the positions of a box receive along a vector is what the positions of the box
+/// moved by its opposite give.
+#[tactic(auto, using(crate::proofs::BoxLaws::box_moved))]
+pub fn received_is_given()
+    ensures { (s : Size) (u v : Place) (give : Place → ℕ) → box_sum s u (λ p. give (giver v p)) ≡ box_sum s (giver v u) give }
+{}
+
+/// Does nothing; its contract says how many positions of a box of side n receive along a vector from outside it.
+#[tactic(auto, using(crate::proofs::SideLaws::side_count))]
+pub fn boundary_count()
+    ensures { (d n : ℕ) (u v : Place) → 1 ≤ d → d ≤ 3 → is_flat d v ≡ true →
+        box_sum (side d n) u (from_outside (side d n) u v) ≡ outer_count d n v }
+{}
+
+/// Does nothing; its contract says that a certified bound holds over every box, of whatever side and at whatever position.
+pub fn bound_holds()
+    ensures { (x : LocalRule) (ws : List ℕ) (radius margin : ℕ) (vs : List Place) (b : Bound) → IsRule x → AreVectors x.dimension vs →
+        IsBoundCertificate x ws radius margin vs b → HoldsOnSides x ws radius margin vs b }
+{}
