@@ -1,21 +1,26 @@
 -- What the queries of a script ask is sound: the rules are the script's and alike, and the questions pass no limit.
 use Rattle.std.proofs.Common.{◌≡◌, ℕ, ◌≤◌, Bool, true, false, List, [], max, refl, ap, sym, subst, ◌∙◌, arith, Some, None}
 use Rattle.std.specs.Prelude.{◌<◌, ◌||◌, ◌&&◌, ◌==◌, nat_lt, Option, option_map, length, get_or}
-use Rattle.std.specs.List.{All, Contains, slice_get, list_any, range_with_len}
-use Rattle.std.proofs.lemmas.Bool.{and_parts, eqb-true, ltb-false, false≢true}
+use Rattle.std.specs.List.{Contains, slice_get, range_with_len}
+use Rattle.std.proofs.lemmas.Bool.{and_parts, or_parts, eqb-true, ltb-false, false≢true}
 use Rattle.std.proofs.lemmas.List.Elements.{All-contains}
 use Rattle.std.proofs.lemmas.List.Folds.{list_any_at}
 use Rattle.std.proofs.lemmas.List.FromFn.{length-range_with_len, get_or-range_with_len}
 use Rattle.std.proofs.lemmas.Option.{slice_get_within, slice_get_read, get_or_from_slice_get}
+use Rattle.dd_lattice.specs.Place.{Place}
 use Rattle.dd_pattern.specs.Tile.{Tile}
 use Rattle.dd_formula.specs.LocalRule.{LocalRule, IsRule}
-use Rattle.dd_formula.specs.Living.{Fits}
 use Rattle.dd_formula.specs.Counts.{largest_clauses}
-use Rattle.dd_formula.specs.Automata.{Setting, rule_has}
-use Rattle.dd_boxes.specs.Goals.{GoalOf, breaks, always, AreAlike, IsGoalFor}
+use Rattle.dd_formula.specs.Automata.{Setting, IsAutomaton, rule_has}
+use Rattle.dd_formula.specs.Reach.{automaton_cells}
+use Rattle.dd_formula.specs.declared.automaton.Automaton.{Automaton}
+use Rattle.dd_formula.proofs.FarthestLaws.{farthest-append}
+use Rattle.dd_discharge.specs.Asked.{AreVectors}
+use Rattle.dd_boxes.specs.Goals.{GoalOf, breaks, differ, always, AreAlike, IsGoalFor}
+use Rattle.dd_boxes.specs.Views.{numbers_of as numbers_of_rule}
 use Rattle.dd_boxes.specs.Boxes.{IsLeastRadius}
 use Rattle.dd_boxes.specs.Counts.{goal_clauses, most_clauses}
-use Rattle.dd_boxes.proofs.ReachLaws.{least_is_reach, least_is_none}
+use Rattle.dd_boxes.proofs.ReachLaws.{least_is_reach, least_is_none, least_is_farthest}
 use Rattle.dd_faults.specs.declared.fault.Fault.{Fault}
 use Rattle.dd_faults.specs.declared.fault.Limit.{Limit}
 use Rattle.dd_faults.specs.declared.fault.Limit.TheVariants as limit
@@ -26,11 +31,12 @@ use Rattle.dd_query.specs.declared.queries.Query.{Query}
 use Rattle.dd_query.specs.declared.queries.Query.TheVariants as query
 use Rattle.dd_query.specs.Made.{numbers_of, IsRuleOf}
 use Rattle.dd_counts.specs.Rules.{patterns}
-use Rattle.dd_query.specs.Limits.{Aim, anything, breaking, clauses_of, is_long, about, most_patterns, has_many_patterns, contains_sizes, equal_sizes, empty_sizes}
+use Rattle.dd_query.specs.Limits.{Aim, anything, breaking, differing, clauses_of, is_long, about, most_patterns, has_many_patterns, has_many_states, strip_volume, contains_sizes, equal_sizes, empty_sizes, agree_sizes}
 use Rattle.dd_query.specs.Sound.{IsSoundQuery}
 use Rattle.dd_script.specs.Parts.{Parts, IsScriptOf}
-use Rattle.dd_script.specs.Questions.{Asked, membership, box, equality, listing, of_both, asked}
+use Rattle.dd_script.specs.Questions.{Asked, membership, box, equality, listing, density, discharge, of_both, of_three, asked}
 use Rattle.dd_script.specs.Asking.{IsOf, IsAskable, HasFewPatterns, IsSoundAsked, Asks}
+use Rattle.dd_script.proofs.Measures.{strip_of, few_states, has_weights, weights_for, vectors_of}
 
 -- ---- rules of a script
 
@@ -71,6 +77,13 @@ aims_at_breaking y ok = record { radius = λ least is. least_is_reach y least ok
 aims_at_anything : Aims always anything
 aims_at_anything = record { radius = least_is_none; clauses = refl }
 
+aims_at_differing : (x : LocalRule) (f g : Automaton) → IsRule x → Aims (differ (numbers_of_rule x) f g) (differing x f g)
+aims_at_differing x f g ok = record {
+  radius = λ least is.
+      least_is_farthest (numbers_of_rule x) f g ok.dimension.0 least is ∙ sym (farthest-append (automaton_cells x.nodes f) (automaton_cells x.nodes g));
+  clauses = refl;
+}
+
 at_most : (n m : ℕ) → n ≡ m → nat_lt most_clauses m ≡ false → n ≤ most_clauses
 at_most n m is few = let le : m ≤ most_clauses = ltb-false most_clauses m few in omega (arith, is, le)
 
@@ -87,13 +100,28 @@ askable k x g aim goal aims few = record {
 breaking_askable : (k : Known) (x y : LocalRule) → IsOf k x → IsOf k y → is_long k x (breaking y) ≡ false → IsAskable k.limits x (breaks y)
 breaking_askable k x y here there few = askable k x (breaks y) (breaking y) (there.rule, alike k x y here there) (aims_at_breaking y there.rule) few
 
+abbrev setting : ℕ → ℕ → ℕ → Setting
+setting d n m = record { dimension = d; nodes = n; symbols = m }
+
+-- the script's numbers are those of each of its rules
+over_rule : (k : Known) (x : LocalRule) (f : Automaton) → IsOf k x → IsAutomaton (numbers_of k) f → IsAutomaton (numbers_of_rule x) f
+over_rule k x f of formed =
+    let n = numbers_of k in
+    let has = setting_of k x of in
+    subst (λ d. IsAutomaton (setting d x.nodes x.symbols) f) (sym has.dimension)
+    (subst (λ a. IsAutomaton (setting n.dimension a x.symbols) f) (sym has.nodes)
+    (subst (λ m. IsAutomaton (setting n.dimension n.nodes m) f) (sym has.symbols) formed))
+
+differing_askable : (k : Known) (x : LocalRule) (f g : Automaton) → IsOf k x → IsAutomaton (numbers_of k) f → IsAutomaton (numbers_of k) g →
+    is_long k x (differing x f g) ≡ false → IsAskable k.limits x (differ (numbers_of_rule x) f g)
+differing_askable k x f g of left right few =
+    askable k x (differ (numbers_of_rule x) f g) (differing x f g)
+    (record { dimension = refl; nodes = refl; symbols = refl; left = over_rule k x f of left; right = over_rule k x g of right })
+    (aims_at_differing x f g of.rule) few
+
 not_over : (b : Bool) (l : Limit) → over b l ≡ [] → b ≡ false
 not_over true l h = cc
 not_over false l h = refl
-
-neither : (a b : Bool) → (a || b) ≡ false → (a ≡ false) × (b ≡ false)
-neither true b h = absurd (cc)
-neither false b h = (refl, h)
 
 about_is : {X : Type 0} (xs : List X) (n : ℕ) (x : X) (f : X → List Fault) → slice_get xs n ≡ Some x → about xs n f ≡ f x
 about_is xs n x f is = rw is refl
@@ -119,6 +147,10 @@ stands_at xs all n x same below is = slice_get_read all (length all) n x refl be
 
 both_there : {X Y Z : Type 0} (f : X → Y → Z) (a : Option X) (b : Option Y) (x : X) (y : Y) → a ≡ Some x → b ≡ Some y → of_both f a b ≡ Some (f x y)
 both_there f a b x y a_is b_is = ap (λ o. of_both f o b) a_is ∙ ap (of_both f (Some x)) b_is
+
+three_there : {X Y Z W : Type 0} (f : X → Y → Z → W) (a : Option X) (b : Option Y) (c : Option Z) (x : X) (y : Y) (z : Z) →
+    a ≡ Some x → b ≡ Some y → c ≡ Some z → of_three f a b c ≡ Some (f x y z)
+three_there f a b c x y z a_is b_is c_is = ap (λ o. of_three f o b c) a_is ∙ both_there (f x) b c y z b_is c_is
 
 module _ (s : Parts) (ok : IsScriptOf s) where
   rule_of : (n : ℕ) (x : LocalRule) → slice_get s.rules n ≡ Some x → IsOf s.known x
@@ -169,7 +201,7 @@ module _ (s : Parts) (ok : IsScriptOf s) where
       sym (about_is s.rules left x (λ r. about s.rules right (λ q. equal_sizes s.known r q)) x_is
       ∙ about_is s.rules right y (λ q. equal_sizes s.known x q) y_is)
       ∙ sound.sizes in
-      let both = neither one other (not_over (one || other) limit.Clauses sizes) in
+      let both = or_parts one other (not_over (one || other) limit.Clauses sizes) in
       (here, there, breaking_askable s.known x y here there both.0, breaking_askable s.known y x there here both.1)
 
   empty_sound : (rule : ℕ) (x : LocalRule) → IsSoundQuery s.known s.rules s.automata (query.Empty rule) → slice_get s.rules rule ≡ Some x →
@@ -179,6 +211,23 @@ module _ (s : Parts) (ok : IsScriptOf s) where
       let sizes : empty_sizes s.known x ≡ [] = sym (about_is s.rules rule x (empty_sizes s.known) x_is) ∙ sound.sizes in
       (here, askable s.known x always anything tt aims_at_anything (not_over (is_long s.known x anything) limit.Clauses sizes))
 
+  automaton_of : (n : ℕ) (f : Automaton) → slice_get s.automata n ≡ Some f → IsAutomaton (numbers_of s.known) f
+  automaton_of n f is =
+      let below = slice_get_within s.automata n f is in
+      subst (IsAutomaton (numbers_of s.known)) (get_or_from_slice_get s.automata n f f is) (ok.made.automata_have n f below)
+
+  agree_sound : (left right rule : ℕ) (x : LocalRule) (f g : Automaton) → IsSoundQuery s.known s.rules s.automata (query.Agree left right rule) →
+      slice_get s.rules rule ≡ Some x → slice_get s.automata left ≡ Some f → slice_get s.automata right ≡ Some g →
+      IsSoundAsked s.known (box x (differ (numbers_of_rule x) f g))
+  agree_sound left right rule x f g sound x_is f_is g_is =
+      let here = rule_of rule x x_is in
+      let sizes : agree_sizes s.known f g x ≡ [] =
+      sym (about_is s.automata left f (λ h. about s.automata right (λ j. about s.rules rule (λ y. agree_sizes s.known h j y))) f_is
+      ∙ (about_is s.automata right g (λ j. about s.rules rule (λ y. agree_sizes s.known f j y)) g_is
+      ∙ about_is s.rules rule x (λ y. agree_sizes s.known f g y) x_is))
+      ∙ sound.sizes in
+      (here, differing_askable s.known x f g here (automaton_of left f f_is) (automaton_of right g g_is) (not_over (is_long s.known x (differing x f g)) limit.Clauses sizes))
+
   listing_sound : (rule : ℕ) (x : LocalRule) → IsSoundQuery s.known s.rules s.automata (query.Forbidden rule) → slice_get s.rules rule ≡ Some x →
       IsSoundAsked s.known (listing x)
   listing_sound rule x sound x_is =
@@ -186,11 +235,48 @@ module _ (s : Parts) (ok : IsScriptOf s) where
       sym (about_is s.rules rule x (λ r. over (has_many_patterns r) limit.Patterns) x_is) ∙ sound.sizes in
       (rule_of rule x x_is, few_patterns x (not_over (has_many_patterns x) limit.Patterns sizes))
 
+  density_sound : (rule : ℕ) (strip : List ℕ) (x : LocalRule) → IsSoundQuery s.known s.rules s.automata (query.Density rule strip) →
+      slice_get s.rules rule ≡ Some x → IsSoundAsked s.known (density x strip s.known.weights)
+  density_sound rule strip x sound x_is =
+      let here = rule_of rule x x_is in
+      let has = setting_of s.known x here in
+      let many = has_many_states x (strip_volume strip) in
+      let sizes : over many limit.States ≡ [] =
+      sym (about_is s.rules rule x (λ r. over (has_many_states r (strip_volume strip)) limit.States) x_is) ∙ sound.sizes in (
+        here,
+        record {
+          strip = strip_of x s.known.setting.topology.dimension strip has.dimension sound.within.1;
+          weights = has_weights x s.known.weights (length s.known.setting.symbols) ok.known.weights has.symbols ok.known.light;
+          few = few_states x (strip_volume strip) (not_over many limit.States sizes);
+        },
+      )
+
+  discharge_sound : (rule radius margin : ℕ) (vectors : List Place) (x : LocalRule) →
+      IsSoundQuery s.known s.rules s.automata (query.Discharge rule radius margin vectors) → slice_get s.rules rule ≡ Some x →
+      IsSoundAsked s.known (discharge x radius margin vectors s.known.weights)
+  discharge_sound rule radius margin vectors x sound x_is =
+      let here = rule_of rule x x_is in
+      let has = setting_of s.known x here in
+      let d = s.known.setting.topology.dimension in (
+        here,
+        record {
+          radius = sound.within.1;
+          margin = sound.within.2;
+          vectors = subst (λ (n : ℕ). AreVectors n vectors) (sym has.dimension) (vectors_of d vectors sound.within.3);
+          weights = weights_for x s.known.weights (length s.known.setting.symbols) ok.known.weights has.symbols ok.known.light;
+        },
+      )
+
   both_then : {X Y : Type 0} (f : X → Y → Asked) (a : Option X) (b : Option Y) (k : Asked) →
       ((x : X) (y : Y) → a ≡ Some x → b ≡ Some y → IsSoundAsked s.known (f x y)) → of_both f a b ≡ Some k → IsSoundAsked s.known k
   both_then f (Some x) (Some y) k h is = subst (IsSoundAsked s.known) (cc is) (h x y refl refl)
   both_then f (Some x) None k h is = absurd (cc is)
   both_then f None b k h is = absurd (cc is)
+
+  three_then : {X Y Z : Type 0} (f : X → Y → Z → Asked) (a : Option X) (b : Option Y) (c : Option Z) (k : Asked) →
+      ((x : X) (y : Y) (z : Z) → a ≡ Some x → b ≡ Some y → c ≡ Some z → IsSoundAsked s.known (f x y z)) → of_three f a b c ≡ Some k → IsSoundAsked s.known k
+  three_then f (Some x) b c k h is = both_then (f x) b c k (λ y z b_is c_is. h x y z refl b_is c_is) is
+  three_then f None b c k h is = absurd (cc is)
 
   one_then : {X : Type 0} (f : X → Asked) (a : Option X) (k : Asked) →
       ((x : X) → a ≡ Some x → IsSoundAsked s.known (f x)) → option_map f a ≡ Some k → IsSoundAsked s.known k
@@ -205,10 +291,15 @@ module _ (s : Parts) (ok : IsScriptOf s) where
   asked_sound (query.Equal left right) k sound is =
       both_then equality (slice_get s.rules left) (slice_get s.rules right) k (λ x y x_is y_is. equal_sound left right x y sound x_is y_is) is
   asked_sound (query.Empty rule) k sound is = one_then (λ x. box x always) (slice_get s.rules rule) k (λ x x_is. empty_sound rule x sound x_is) is
-  asked_sound (query.Agree left right rule) k sound is = absurd (cc is)
+  asked_sound (query.Agree left right rule) k sound is =
+      three_then (λ x f g. box x (differ (numbers_of_rule x) f g)) (slice_get s.rules rule) (slice_get s.automata left) (slice_get s.automata right) k
+      (λ x f g x_is f_is g_is. agree_sound left right rule x f g sound x_is f_is g_is) is
   asked_sound (query.Forbidden rule) k sound is = one_then listing (slice_get s.rules rule) k (λ x x_is. listing_sound rule x sound x_is) is
-  asked_sound (query.Density rule strip) k sound is = absurd (cc is)
-  asked_sound (query.Discharge rule radius margin vectors) k sound is = absurd (cc is)
+  asked_sound (query.Density rule strip) k sound is =
+      one_then (λ x. density x strip s.known.weights) (slice_get s.rules rule) k (λ x x_is. density_sound rule strip x sound x_is) is
+  asked_sound (query.Discharge rule radius margin vectors) k sound is =
+      one_then (λ x. discharge x radius margin vectors s.known.weights) (slice_get s.rules rule) k
+      (λ x x_is. discharge_sound rule radius margin vectors x sound x_is) is
 
   sound_at : (q : Query) → Contains s.queries q → IsSoundQuery s.known s.rules s.automata q
   sound_at q there = All-contains (IsSoundQuery s.known s.rules s.automata) s.queries q ok.queries there
@@ -224,16 +315,6 @@ module _ (s : Parts) (ok : IsScriptOf s) where
   module _ (rs : List LocalRule) (same : rs ≡ s.rules) where
     rule_at : (n : ℕ) (x : LocalRule) → n < length s.known.rules → x ≡ get_or rs n x → slice_get s.rules n ≡ Some x
     rule_at n x named is = stands_at rs s.rules n x same (rw ok.made.rules_named named) is
-
-    pub member_asks : (ts : List Tile) → ts ≡ s.configurations → (configuration rule : ℕ) (t : Tile) (x : LocalRule) →
-        Contains s.queries (query.Member configuration rule) → t ≡ get_or ts configuration t → x ≡ get_or rs rule x →
-        Asks s (query.Member configuration rule) (membership x t)
-    member_asks ts all configuration rule t x there t_is x_is =
-        let numbers = (sound_at (query.Member configuration rule) there).within in
-        let below : configuration < length s.configurations = rw ok.configurations_named numbers.0 in
-        asks (query.Member configuration rule) (membership x t) there
-        (both_there membership (slice_get s.rules rule) (slice_get s.configurations configuration) x t (rule_at rule x numbers.1 x_is)
-        (stands_at ts s.configurations configuration t all below t_is))
 
     pub contains_asks : (outer inner : ℕ) (y x : LocalRule) → Contains s.queries (query.Contains outer inner) → y ≡ get_or rs outer y → x ≡ get_or rs inner x →
         Asks s (query.Contains outer inner) (box x (breaks y))
@@ -253,6 +334,36 @@ module _ (s : Parts) (ok : IsScriptOf s) where
     empty_asks rule x there x_is =
         asks (query.Empty rule) (box x always) there (ap (option_map (λ y. box y always)) (rule_at rule x (sound_at (query.Empty rule) there).within x_is))
 
+    pub agree_asks : (fs : List Automaton) → fs ≡ s.automata → (left right rule : ℕ) (f g : Automaton) (x : LocalRule) →
+        Contains s.queries (query.Agree left right rule) → f ≡ get_or fs left f → g ≡ get_or fs right g → x ≡ get_or rs rule x →
+        Asks s (query.Agree left right rule) (box x (differ (numbers_of_rule x) f g))
+    agree_asks fs all left right rule f g x there f_is g_is x_is =
+        let numbers = (sound_at (query.Agree left right rule) there).within in
+        let first : left < length s.automata = rw ok.made.automata_named numbers.0 in
+        let second : right < length s.automata = rw ok.made.automata_named numbers.1 in
+        asks (query.Agree left right rule) (box x (differ (numbers_of_rule x) f g)) there
+        (three_there (λ y h j. box y (differ (numbers_of_rule y) h j)) (slice_get s.rules rule) (slice_get s.automata left) (slice_get s.automata right) x f g
+        (rule_at rule x numbers.2 x_is) (stands_at fs s.automata left f all first f_is) (stands_at fs s.automata right g all second g_is))
+
     pub listing_asks : (rule : ℕ) (x : LocalRule) → Contains s.queries (query.Forbidden rule) → x ≡ get_or rs rule x → Asks s (query.Forbidden rule) (listing x)
     listing_asks rule x there x_is =
         asks (query.Forbidden rule) (listing x) there (ap (option_map listing) (rule_at rule x (sound_at (query.Forbidden rule) there).within x_is))
+
+    pub density_asks : (rule : ℕ) (strip ws : List ℕ) (x : LocalRule) → ws ≡ s.known.weights → Contains s.queries (query.Density rule strip) →
+        x ≡ get_or rs rule x → Asks s (query.Density rule strip) (density x strip ws)
+    density_asks rule strip ws x same_ws there x_is =
+        let named = (sound_at (query.Density rule strip) there).within.0 in
+        subst (λ (us : List ℕ). Asks s (query.Density rule strip) (density x strip us)) (sym same_ws)
+        (asks (query.Density rule strip) (density x strip s.known.weights) there
+        (ap (option_map (λ y. density y strip s.known.weights)) (rule_at rule x named x_is)))
+
+    pub discharge_asks : (rule radius margin : ℕ) (vectors given : List Place) (ws : List ℕ) (x : LocalRule) → given ≡ vectors → ws ≡ s.known.weights →
+        Contains s.queries (query.Discharge rule radius margin vectors) → x ≡ get_or rs rule x →
+        Asks s (query.Discharge rule radius margin vectors) (discharge x radius margin given ws)
+    discharge_asks rule radius margin vectors given ws x same_vectors same_ws there x_is =
+        let q = query.Discharge rule radius margin vectors in
+        let named = (sound_at q there).within.0 in
+        subst (λ (us : List ℕ). Asks s q (discharge x radius margin given us)) (sym same_ws)
+        (subst (λ (vs : List Place). Asks s q (discharge x radius margin vs s.known.weights)) (sym same_vectors)
+        (asks q (discharge x radius margin vectors s.known.weights) there
+        (ap (option_map (λ y. discharge y radius margin vectors s.known.weights)) (rule_at rule x named x_is))))

@@ -9,4 +9,5 @@ pub mod Sofar
 pub mod Telling
 pub mod OneOfBoth
 pub mod ScriptLaws
+pub mod Measures
 pub mod Asking

@@ -16,5 +16,5 @@ pub use dd_query::Query;
 pub use fault::{ScriptFault, ScriptKind};
 pub use laws::{one_refusal, one_script, spelled_or_refused};
 pub use parsing::parse;
-pub use question::{Question, is_asked};
+pub use question::Question;
 pub use script::Script;

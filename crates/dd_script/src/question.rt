@@ -1,13 +1,10 @@
 // What the queries of a script ask.
-ghost use Rattle.std.specs.Prelude.{◌≡◌};
-ghost use Rattle.dd_script.specs.Questions.{is_asked};
-
 use dd_boxes::Goal;
 use dd_formula::Rule;
+use dd_lattice::Position;
 use dd_pattern::Periodic;
-use dd_query::Query;
 
-/// What a query asks, by the rules and the configuration that it names.
+/// What a query asks, by the rules and the configuration that it names, its strip or its vectors, and the script's weights.
 #[derive(Clone, Copy)]
 pub enum Question<'a> {
     /// Does the configuration live in the rule's subshift?
@@ -29,18 +26,19 @@ pub enum Question<'a> {
     Listing {
         rule: &'a Rule,
     },
-}
-
-/// Whether queries of this kind are answered, and their answers checked.
-pub fn is_asked(query: &Query) -> bool
-    ensures { result ≡ is_asked query.now }
-{
-    matches!(
-        query,
-        Query::Member { .. }
-            | Query::Contains { .. }
-            | Query::Equal { .. }
-            | Query::Empty { .. }
-            | Query::Forbidden { .. }
-    )
+    /// What do the configurations with these periods in the axes after the first weigh at least a position?
+    Density {
+        rule: &'a Rule,
+        strip: [u32; 2],
+        weights: &'a [u32],
+    },
+    /// What can each position hold at least, once each has given along these vectors amounts that the pattern of this radius
+    /// around it determines, on a domain grown by this margin?
+    Discharge {
+        rule: &'a Rule,
+        radius: u32,
+        margin: u32,
+        vectors: &'a [Position],
+        weights: &'a [u32],
+    },
 }

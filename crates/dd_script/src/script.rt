@@ -128,17 +128,17 @@ impl Script {
 
 /// What the queries ask. Nothing here takes memory.
 impl Script {
-    ghost use Rattle.std.specs.Prelude.{◌≡◌, true, Contains};
-    ghost use Rattle.dd_script.specs.Questions.{is_asked};
+    ghost use Rattle.std.specs.Prelude.{Contains};
     ghost use Rattle.dd_script.specs.Asking.{asked_of, Asks, AreSound};
 
-    /// What a query of the script asks.
-    pub fn question(&self, query: &Query) -> Question<'_>
-        requires stands { Contains self.now.queries query.now }
-        requires asked { is_asked query.now ≡ true }
+    /// What a query of the script asks, of whichever kind it is: with the rules, automata and configurations themselves in place of
+    /// their numbers, and with the script's weights where something is weighed.
+    pub fn question<'a>(&'a self, query: &'a Query) -> Question<'a>
+        requires { Contains self.now.queries query.now }
         ensures { Asks self.now query.now (asked_of result) }
     {
         let rules = self.rules();
+        let automata = self.automata();
         let configurations = self.configurations();
         match query {
             Query::Member {
@@ -160,10 +160,30 @@ impl Script {
                 premise: &rules[*rule as usize],
                 goal: Goal::Always,
             },
+            Query::Agree { left, right, rule } => Question::Box {
+                premise: &rules[*rule as usize],
+                goal: Goal::Differ(&automata[*left as usize], &automata[*right as usize]),
+            },
             Query::Forbidden { rule } => Question::Listing {
                 rule: &rules[*rule as usize],
             },
-            _ => unreachable!(),
+            Query::Density { rule, strip } => Question::Density {
+                rule: &rules[*rule as usize],
+                strip: *strip,
+                weights: self.weights(),
+            },
+            Query::Discharge {
+                rule,
+                radius,
+                margin,
+                vectors,
+            } => Question::Discharge {
+                rule: &rules[*rule as usize],
+                radius: *radius,
+                margin: *margin,
+                vectors: vectors.as_slice(),
+                weights: self.weights(),
+            },
         }
     }
 
