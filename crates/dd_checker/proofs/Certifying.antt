@@ -1,9 +1,8 @@
 -- What is a certificate of a query of a script claims what is true, also of configurations that no data holds.
 use Rattle.std.proofs.Common.{◌≡◌, ℕ, ◌-◌, ◌<◌, Bool, true, false, List, refl, ap, sym, subst, ◌∙◌, arith, Some, None}
 use Rattle.std.specs.Prelude.{Option, IsSomeAnd, IfSome, cond, ◌&&◌, ◌==◌, is_some, nat_lt}
-use Rattle.std.specs.List.{Contains, slice_get}
+use Rattle.std.specs.List.{All}
 use Rattle.std.proofs.lemmas.Bool.{and_from, and_parts, eqb-true, lt-ltb, ltb-true, false≢true}
-use Rattle.std.proofs.lemmas.Option.{slice_get_within, get_or_from_slice_get}
 use Rattle.dd_lattice.specs.declared.position.Cell.{Cell}
 use Rattle.dd_lattice.specs.Place.{Place}
 use Rattle.dd_topology.specs.Sets.{row_allows}
@@ -15,45 +14,45 @@ use Rattle.dd_formula.specs.Allowed.{AreAllowed}
 use Rattle.dd_boxes.specs.Goals.{GoalOf, breaks}
 use Rattle.dd_boxes.specs.Fillings.{IsConfiguration}
 use Rattle.dd_boxes.specs.Boxes.{HoldsNowhere}
-use Rattle.dd_query.specs.declared.queries.Query.{Query}
 use Rattle.dd_query.specs.Made.{numbers_of}
 use Rattle.dd_faults.specs.declared.context.Known.{Known}
 use Rattle.dd_script.specs.Parts.{Parts}
 use Rattle.dd_certificate.specs.declared.answer.Answer.{Answer}
 use Rattle.dd_certificate.specs.declared.answer.Answer.TheVariants as answer
-use Rattle.dd_script.specs.Questions.{Asked, membership, box, equality, listing, asked, query_at}
+use Rattle.dd_script.specs.Questions.{Asked, membership, box, equality, listing, density, discharge, asked, query_at}
 use Rattle.dd_script.specs.Asking.{IsOf, IsSoundAsked, AreSound}
 use Rattle.dd_checker.specs.Certificates.{IsCertificateOf, IsCertificateFor, IsCertificate}
 use Rattle.dd_checker.specs.Holding.{MemberClaim, BoxClaim, EqualClaim, ListClaim}
+use Rattle.dd_checker.specs.Bounds.{StripClaim, DischargeClaim}
 use Rattle.dd_checker.specs.Claims.{ClaimOf, Claim}
 use Rattle.dd_checker.specs.Lifted.{is_yes, whole_look, IsWhole, IsNotAt, IsAskedNotAt, IsNowhereAt}
+use Rattle.dd_checker.proofs.ToldGoals.{IsTold, IsToldAsked, stands_at, asked_told}
 use Rattle.dd_checker.proofs.Listing.{ListedBreak, list_claims}
+use Rattle.dd_checker.proofs.Weighing.{BoundLaws, strip_claims, discharge_claims}
 use Rattle.dd_checker.proofs.Claiming.{member_claims, box_claims, equal_claims}
 
 some_then : {X : Type 0} (o : Option X) (P Q : X → Type 0) → ((x : X) → o ≡ Some x → P x → Q x) → IsSomeAnd o P → IsSomeAnd o Q
 some_then (Some x) P Q h p = h x refl p
 some_then None P Q h p = p
 
--- the query stands in the script
-query_there : (s : Parts) (n : ℕ) (q : Query) → slice_get s.queries n ≡ Some q → Contains s.queries q
-query_there s n q is = (n, slice_get_within s.queries n q is, get_or_from_slice_get s.queries n q q is)
-
-module _ (s : Parts) (sound : AreSound s) (listed : ListedBreak) where
-  asked_claims : (a : Answer) (k : Asked) → IsSoundAsked s.known k → IsCertificateOf s.known.limits k a → ClaimOf k a
-  asked_claims a (membership x t) ok h = member_claims x t a h
-  asked_claims a (box x g) ok h = box_claims s.known.limits x g a ok.0.rule ok.1.goal h
-  asked_claims a (equality x y) ok h = equal_claims s.known.limits x y ok.0.rule ok.1.rule ok.2.goal ok.3.goal a h
-  asked_claims a (listing x) ok h = list_claims listed x a h
+module _ (s : Parts) (sound : AreSound s) (told : All IsTold s.automata) (listed : ListedBreak) (laws : BoundLaws) where
+  asked_claims : (a : Answer) (k : Asked) → IsSoundAsked s.known k → IsToldAsked k → IsCertificateOf s.known.limits k a → ClaimOf k a
+  asked_claims a (membership x t) ok gates h = member_claims x t a h
+  asked_claims a (box x g) ok gates h = box_claims s.known.limits x g a ok.0.rule ok.1.goal (gates ok.1.goal) h
+  asked_claims a (equality x y) ok gates h = equal_claims s.known.limits x y ok.0.rule ok.1.rule ok.2.goal ok.3.goal a h
+  asked_claims a (listing x) ok gates h = list_claims listed x a h
+  asked_claims a (density x strip ws) ok gates h = strip_claims laws x strip ws ok.0.rule ok.1.strip a h
+  asked_claims a (discharge x radius margin vs ws) ok gates h = discharge_claims laws x radius margin vs ws ok.0.rule ok.1.vectors a h
 
   -- what follows from a certificate of each sound question follows from one of a query
   certificate_then : (number : ℕ) (a : Answer) (P : Asked → Type 0) →
-      ((k : Asked) → IsSoundAsked s.known k → IsCertificateOf s.known.limits k a → P k) →
+      ((k : Asked) → IsSoundAsked s.known k → IsToldAsked k → IsCertificateOf s.known.limits k a → P k) →
       IsCertificate s number a → IsSomeAnd (query_at s number) (λ q. IsSomeAnd (asked s q) P)
   certificate_then number a P then h =
       some_then (query_at s number) (λ q. IsCertificateFor s q a) (λ q. IsSomeAnd (asked s q) P)
       (λ q is both.
       some_then (asked s q) (λ k. IsCertificateOf s.known.limits k a) P
-      (λ k asks told. then k (sound q k (query_there s (number - 1) q is) asks) told) both.1)
+      (λ k asks shown. then k (sound q k (stands_at s.queries (number - 1) q is) asks) (asked_told s told q k asks) shown) both.1)
       h
 
   -- a certificate of a query claims what is true
@@ -87,7 +86,7 @@ setting_of k x of =
     let each = and_parts (x.dimension == n.dimension) (x.nodes == n.nodes) two.0 in
     record { dimension = eqb-true _ _ each.0; nodes = eqb-true _ _ each.1 }
 
-module _ (s : Parts) (sound : AreSound s) (listed : ListedBreak) (nodes : ℕ) (symbol_of : Cell → ℕ) (whole : IsWhole s nodes symbol_of) where
+module _ (s : Parts) (sound : AreSound s) (gates : All IsTold s.automata) (listed : ListedBreak) (laws : BoundLaws) (nodes : ℕ) (symbol_of : Cell → ℕ) (whole : IsWhole s nodes symbol_of) where
   abbrev look : Look
   look = whole_look s.known.setting.topology.dimension nodes symbol_of
 
@@ -129,9 +128,13 @@ module _ (s : Parts) (sound : AreSound s) (listed : ListedBreak) (nodes : ℕ) (
         a told
     asked_not_at a told (listing x) ok =
         yes_cases (λ b. ListClaim x b → ⊥) (λ n steps claim. claim) (λ n m steps others claim. claim) a told
+    asked_not_at a told (density x strip ws) ok =
+        yes_cases (λ b. StripClaim x strip ws b → ⊥) (λ n steps claim. claim) (λ n m steps others claim. claim) a told
+    asked_not_at a told (discharge x radius margin vs ws) ok =
+        yes_cases (λ b. DischargeClaim x radius margin vs ws b → ⊥) (λ n steps claim. claim) (λ n m steps others claim. claim) a told
 
     -- a YES that is a certificate says that the goal does not hold at v
     pub lifted_law : (number : ℕ) (a : Answer) → is_yes a ≡ true → IsCertificate s number a → IsNowhereAt s number look v
     lifted_law number a told h =
-        certificate_then s sound listed number a (λ k. IsAskedNotAt k look v)
-        (λ k ok certificate. asked_not_at a told k ok (asked_claims s sound listed a k ok certificate)) h
+        certificate_then s sound gates listed laws number a (λ k. IsAskedNotAt k look v)
+        (λ k ok kept certificate. asked_not_at a told k ok (asked_claims s sound gates listed laws a k ok kept certificate)) h

@@ -9,6 +9,7 @@ use Rattle.dd_boxes.specs.Boxes.{Suffices, HoldsNowhere}
 use Rattle.dd_boxes.proofs.FromBox.{from_least, holds_nowhere}
 use Rattle.dd_pattern.specs.Tile.{Tile}
 use Rattle.dd_problem.specs.Problems.{box_problem}
+use Rattle.dd_problem.specs.Told.{IsToldGoal}
 use Rattle.dd_problem.proofs.BoxShows.{box_shows, shown_decides}
 use Rattle.dd_certificate.specs.declared.answer.Side.TheVariants as side
 use Rattle.dd_certificate.specs.declared.answer.Side.{Side}
@@ -20,11 +21,12 @@ use Rattle.dd_checker.specs.Holding.{MemberClaim, BoxClaim, EqualClaim, SideClai
 
 -- Where the steps refute the clauses of a box, no admissible filling of it has the goal at the origin, so the goal holds
 -- nowhere.
-pub yes_claims : (l : Limits) (x : LocalRule) (g : GoalOf) (n : ℕ) (steps : List Step) → IsRule x → IsGoalFor x g → IsYes l x g n steps → HoldsNowhere x g n
-yes_claims l x g n steps rule ok told =
+pub yes_claims : (l : Limits) (x : LocalRule) (g : GoalOf) (n : ℕ) (steps : List Step) → IsRule x → IsGoalFor x g → IsToldGoal x g → IsYes l x g n steps →
+    HoldsNowhere x g n
+yes_claims l x g n steps rule ok gates told =
     let p = box_problem x g n in
     let reach = from_least g told.least n told.is_least told.low in
-    let decides = shown_decides p.clauses x g n (box_shows x g n rule ok reach) in
+    let decides = shown_decides p.clauses x g n (box_shows x g n rule gates reach) in
     let suffices : Suffices x g n = decides.suffices (refutes_sound p.variables p.clauses steps told.refuting) in
     holds_nowhere x g n ok reach suffices
 
@@ -40,17 +42,17 @@ member_claims x t (answer.Density numerator denominator cycle potentials) h = h
 member_claims x t (answer.Empty ranks) h = h
 member_claims x t (answer.Bound numerator denominator common amounts duals) h = h
 
-pub box_claims : (l : Limits) (x : LocalRule) (g : GoalOf) (a : Answer) → IsRule x → IsGoalFor x g → IsBoxCertificate l x g a → BoxClaim x g a
-box_claims l x g answer.Inside rule ok h = h
-box_claims l x g (answer.Outside place) rule ok h = h
-box_claims l x g (answer.Yes radius steps) rule ok h = yes_claims l x g radius steps rule ok h
-box_claims l x g (answer.YesBoth left right left_steps right_steps) rule ok h = h
-box_claims l x g (answer.No s periods shear symbols) rule ok h = h.1.witness
-box_claims l x g (answer.Unknown r) rule ok h = tt
-box_claims l x g (answer.List patterns) rule ok h = h
-box_claims l x g (answer.Density numerator denominator cycle potentials) rule ok h = h
-box_claims l x g (answer.Empty ranks) rule ok h = h
-box_claims l x g (answer.Bound numerator denominator common amounts duals) rule ok h = h
+pub box_claims : (l : Limits) (x : LocalRule) (g : GoalOf) (a : Answer) → IsRule x → IsGoalFor x g → IsToldGoal x g → IsBoxCertificate l x g a → BoxClaim x g a
+box_claims l x g answer.Inside rule ok gates h = h
+box_claims l x g (answer.Outside place) rule ok gates h = h
+box_claims l x g (answer.Yes radius steps) rule ok gates h = yes_claims l x g radius steps rule ok gates h
+box_claims l x g (answer.YesBoth left right left_steps right_steps) rule ok gates h = h
+box_claims l x g (answer.No s periods shear symbols) rule ok gates h = h.1.witness
+box_claims l x g (answer.Unknown r) rule ok gates h = tt
+box_claims l x g (answer.List patterns) rule ok gates h = h
+box_claims l x g (answer.Density numerator denominator cycle potentials) rule ok gates h = h
+box_claims l x g (answer.Empty ranks) rule ok gates h = h
+box_claims l x g (answer.Bound numerator denominator common amounts duals) rule ok gates h = h
 
 side_claims : (l : Limits) (x y : LocalRule) (s : Side) (periods : List ℕ) (shear : ℕ) (symbols : List ℕ) → IsNoOfSide l x y s periods shear symbols →
     SideClaim x y s periods shear symbols
@@ -64,7 +66,7 @@ module _ (l : Limits) (x y : LocalRule) (left_rule : IsRule x) (right_rule : IsR
   equal_claims (answer.Outside place) h = h
   equal_claims (answer.Yes radius steps) h = h
   equal_claims (answer.YesBoth left right left_steps right_steps) h =
-      (yes_claims l x (breaks y) left left_steps left_rule left_goal h.0, yes_claims l y (breaks x) right right_steps right_rule right_goal h.1)
+      (yes_claims l x (breaks y) left left_steps left_rule left_goal left_goal h.0, yes_claims l y (breaks x) right right_steps right_rule right_goal right_goal h.1)
   equal_claims (answer.No s periods shear symbols) h = side_claims l x y s periods shear symbols h
   equal_claims (answer.Unknown r) h = tt
   equal_claims (answer.List patterns) h = h

@@ -35,7 +35,7 @@ module _ (l : Limits) (x : LocalRule) (g : GoalOf) (limits : AreLimits l) (rule 
   pub yes_decides : (n : ℕ) (steps : List Step) (b : Bool) → (b ≡ true) ↔ IsYes l x g n steps → (b ≡ true → IsWritableRefutation steps) →
       (b ≡ true) ↔ (IsWritable (answer.Yes n steps) × IsBoxCertificate l x g (answer.Yes n steps))
   yes_decides n steps b exact writable = (
-    λ h. ((radius_writable l x g n steps limits ok (exact.0 h), writable h), exact.0 h),
+    λ h. ((radius_writable l x g n steps limits rule ok (exact.0 h), writable h), exact.0 h),
     λ both. exact.1 both.1,
   )
 
@@ -182,7 +182,7 @@ module _ {E : Type 0} (l : Limits) (x y : LocalRule) (limits : AreLimits l) (lef
       (if_both r (λ c. (c ≡ true) ↔ IsYes l y (breaks x) m right_taken) (λ c. c ≡ true → IsWritableRefutation right_taken) (λ c. whole c right_taken)
       (λ c k w. (
         λ h. (
-          (radius_writable l x (breaks y) n steps limits left_goal here, radius_writable l y (breaks x) m right_taken limits right_goal (k.0 h), here_fits, w h),
+          (radius_writable l x (breaks y) n steps limits left_rule left_goal here, radius_writable l y (breaks x) m right_taken limits right_rule right_goal (k.0 h), here_fits, w h),
           (here, k.0 h),
         ),
         λ both. k.1 both.1.1,

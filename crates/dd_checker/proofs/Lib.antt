@@ -1,5 +1,6 @@
 pub mod FirstCells
 pub mod Periodics
+pub mod Differing
 pub mod Claiming
 pub mod Writable
 pub mod Deciding
@@ -8,6 +9,10 @@ pub mod Narrowing
 pub mod PlaceLaws
 pub mod Giving
 pub mod Listing
+pub mod SmallNumbers
+pub mod WholeSides
+pub mod Weighing
+pub mod ToldGoals
 pub mod QueryLaws
 pub mod Verdicts
 pub mod Certifying

@@ -1,22 +1,20 @@
 -- An output can hold each certificate: its numbers are small, and the steps are those of a refutation.
-use Rattle.std.proofs.Common.{◌≡◌, ℕ, zero, suc, ◌*◌, ◌≤◌, ◌<◌, true, List, length, get_or, arith, ℤ, inl, inr}
-use Rattle.std.specs.Prelude.{◌&&◌}
-use Rattle.std.specs.List.{All, list_all}
-use Rattle.std.proofs.lemmas.Bool.{and_from, cases_lt}
+use Rattle.std.proofs.Common.{◌≡◌, ℕ, zero, suc, ◌*◌, ◌≤◌, ◌<◌, List, length, get_or, sym, subst, arith, ℤ, inl, inr}
+use Rattle.std.specs.List.{All}
+use Rattle.std.proofs.lemmas.Bool.{cases_lt}
 use Rattle.std.proofs.lemmas.Nat.{mul-le}
 use Rattle.std.proofs.lemmas.List.Elements.{All-from_get_or}
-use Rattle.std.proofs.lemmas.List.Sums.{AllPass-from_list_all, list_all-from_AllPass}
 use Rattle.dd_pattern.specs.Periods.{volume}
 use Rattle.dd_pattern.specs.Tile.{Tile, IsPeriodic}
 use Rattle.dd_derivation.specs.declared.step.Step.{Step}
-use Rattle.dd_formula.specs.LocalRule.{LocalRule, IsRule, is_near, is_of, reads_at}
+use Rattle.dd_formula.specs.LocalRule.{LocalRule, IsRule}
 use Rattle.dd_formula.specs.Living.{Fits}
+use Rattle.dd_formula.proofs.AutomatonLaws.{near_reads}
+use Rattle.dd_formula.proofs.ReachLaws.{reach_near, automaton_reach_within}
 use Rattle.dd_boxes.specs.declared.limits.Limits.{Limits}
-use Rattle.dd_boxes.specs.Goals.{GoalOf, breaks, always, IsGoalFor}
-use Rattle.dd_boxes.specs.Fillings.{is_box_cell}
+use Rattle.dd_boxes.specs.Goals.{GoalOf, breaks, differ, always, IsGoalFor}
 use Rattle.dd_boxes.specs.Boxes.{IsLeastRadius}
-use Rattle.dd_boxes.proofs.RuleLaws.{list_all_weaker}
-use Rattle.dd_boxes.proofs.ReachLaws.{box_from_within}
+use Rattle.dd_boxes.proofs.ReachLaws.{least_is_reach, least_is_farthest, least_is_none}
 use Rattle.dd_certificate.specs.declared.answer.Side.{Side}
 use Rattle.dd_certificate.specs.declared.answer.Answer.{Answer}
 use Rattle.dd_certificate.specs.declared.answer.Answer.TheVariants as answer
@@ -43,23 +41,20 @@ module _ (fit : (x : LocalRule) (t : Tile) (place : List ℤ) → IsRule x → I
   member_writable (answer.Empty ranks) h = absurd h
   member_writable (answer.Bound numerator denominator common amounts duals) h = absurd h
 
--- ---- radii: a rule reads nothing farther than 16 away, so the least radius is at most 16
+-- ---- radii: rules and automata read nothing farther than 16 away, so the least radius is at most 16
 
-reads_near : (y : LocalRule) (a : ℕ) → IsRule y → a < y.nodes → list_all (λ c. is_of y c && is_near c) (reads_at y a) ≡ true
-reads_near y a rule node =
-    let placed = AllPass-from_list_all (is_of y) (reads_at y a) (rule.placed a node) in
-    let near = AllPass-from_list_all is_near (reads_at y a) (rule.short a node) in
-    list_all-from_AllPass (λ c. is_of y c && is_near c) (reads_at y a) (λ i c h.
-    and_from (is_of y (get_or (reads_at y a) i c)) (is_near (get_or (reads_at y a) i c)) (placed i c h) (near i c h))
+pub least_small : (x : LocalRule) (g : GoalOf) (least : ℕ) → IsRule x → IsGoalFor x g → IsLeastRadius g least → least ≤ 16
+least_small x (breaks y) least rule ok is = let far = least_is_reach y least ok.0 is in let near = reach_near y ok.0 in omega (arith, far, near)
+least_small x (differ s f g) least rule ok is =
+    let far = least_is_farthest s f g (subst (λ d. 1 ≤ d) (sym ok.dimension) rule.dimension.0) least is in
+    let left = automaton_reach_within f s.nodes 16 (near_reads s f ok.left) in
+    let right = automaton_reach_within g s.nodes 16 (near_reads s g ok.right) in
+    omega (arith, far, left, right)
+least_small x always least rule ok is = let none = least_is_none least is in omega (arith, none)
 
-pub least_small : (x : LocalRule) (g : GoalOf) (least : ℕ) → IsGoalFor x g → IsLeastRadius g least → least ≤ 16
-least_small x (breaks y) least ok is =
-    is.least 16 (λ a node. list_all_weaker (λ c. is_of y c && is_near c) (is_box_cell y 16) (box_from_within y 16 ok.0.dimension.0) (reads_at y a) (reads_near y a ok.0 node))
-least_small x always least ok is = let none : least ≤ 0 = is.least 0 tt in omega (arith, none)
-
-pub radius_writable : (l : Limits) (x : LocalRule) (g : GoalOf) (n : ℕ) (steps : List Step) → AreLimits l → IsGoalFor x g → IsYes l x g n steps → IsWritableNumber n
-radius_writable l x g n steps limits ok told =
-    let least = least_small x g told.least ok told.is_least in
+pub radius_writable : (l : Limits) (x : LocalRule) (g : GoalOf) (n : ℕ) (steps : List Step) → AreLimits l → IsRule x → IsGoalFor x g → IsYes l x g n steps → IsWritableNumber n
+radius_writable l x g n steps limits rule ok told =
+    let least = least_small x g told.least rule ok told.is_least in
     let most = limits.radius in
     let high = told.high in
     omega (arith, least, most, high)

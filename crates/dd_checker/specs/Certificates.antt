@@ -1,19 +1,23 @@
 -- Which answers to the queries of a script are certificates.
-use Rattle.std.specs.Prelude.{ℕ, ◌≡◌, ◌≤◌, true, IsSomeAnd}
+use Rattle.std.specs.Prelude.{ℕ, ◌≤◌, length, IsSomeAnd}
 use Rattle.dd_boxes.specs.declared.limits.Limits.{Limits}
 use Rattle.dd_certificate.specs.declared.answer.Answer.{Answer}
 use Rattle.dd_certificate.specs.Bounds.{IsWritable}
 use Rattle.dd_query.specs.declared.queries.Query.{Query}
 use Rattle.dd_script.specs.Parts.{Parts}
-use Rattle.dd_script.specs.Questions.{Asked, membership, box, equality, listing, asked, is_asked, query_at}
+use Rattle.dd_script.specs.Questions.{Asked, membership, box, equality, listing, density, discharge, asked, query_at}
 use Rattle.dd_evidence.specs.Answers.{IsMemberCertificate, IsListCertificate}
 use Rattle.dd_checker.specs.Evidence.{IsBoxCertificate, IsEqualCertificate}
+use Rattle.dd_checker.specs.Bounds.{IsStripCertificate, IsDischargeCertificate}
 
+-- of what is asked, within these limits
 abbrev pub IsCertificateOf : Limits → Asked → Answer → Type 0
 IsCertificateOf l (membership x t) a = IsMemberCertificate x t a
 IsCertificateOf l (box x g) a = IsBoxCertificate l x g a
 IsCertificateOf l (equality x y) a = IsEqualCertificate l x y a
 IsCertificateOf l (listing x) a = IsListCertificate x a
+IsCertificateOf l (density x strip ws) a = IsStripCertificate x strip ws a
+IsCertificateOf l (discharge x radius margin vs ws) a = IsDischargeCertificate x radius margin vs ws a
 
 -- an output can hold the answer, and it is a certificate of what the query asks, within the script's limits
 abbrev pub IsCertificateFor : Parts → Query → Answer → Type 0
@@ -23,7 +27,7 @@ IsCertificateFor s q a = IsWritable a × IsSomeAnd (asked s q) (λ k. IsCertific
 abbrev pub IsCertificate : Parts → ℕ → Answer → Type 0
 IsCertificate s number a = IsSomeAnd (query_at s number) (λ q. IsCertificateFor s q a)
 
--- there is a query with the number, of a kind whose answers are checked
-pub record IsChecked (s : Parts) (number : ℕ) : Type 0 where
+-- there is a query with the number
+pub record HasQuery (s : Parts) (number : ℕ) : Type 0 where
   pub numbered : 1 ≤ number
-  pub checked : IsSomeAnd (query_at s number) (λ q. is_asked q ≡ true)
+  pub within : number ≤ length s.queries

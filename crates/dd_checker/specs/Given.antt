@@ -1,5 +1,5 @@
 -- The numbers of configurations.
-use Rattle.std.specs.Prelude.{ℕ, ◌≡◌, ◌≤◌, List, length}
+use Rattle.std.specs.Prelude.{ℕ, ◌≡◌, List, length}
 use Rattle.dd_pattern.specs.Periods.{AreWithin}
 use Rattle.dd_pattern.specs.Tile.{IsTile}
 use Rattle.dd_formula.specs.Living.{Fits}

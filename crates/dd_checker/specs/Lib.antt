@@ -4,6 +4,7 @@ pub mod Claims
 -- the same of one question
 pub mod Evidence
 pub mod Holding
+pub mod Bounds
 -- what a YES says of any configuration
 pub mod Lifted
 -- the numbers of configurations

@@ -11,8 +11,9 @@ use Rattle.dd_boxes.specs.Goals.{GoalOf, breaks, HasGoal}
 use Rattle.dd_certificate.specs.declared.answer.Answer.{Answer}
 use Rattle.dd_certificate.specs.declared.answer.Answer.TheVariants as answer
 use Rattle.dd_script.specs.Parts.{Parts}
-use Rattle.dd_script.specs.Questions.{Asked, membership, box, equality, listing, asked, query_at}
+use Rattle.dd_script.specs.Questions.{Asked, membership, box, equality, listing, density, discharge, asked, query_at}
 
+-- of one question, or of both of an equality
 abbrev pub is_yes : Answer → Bool
 is_yes answer.Inside = false
 is_yes (answer.Outside place) = false
@@ -45,6 +46,8 @@ IsAskedNotAt (membership x t) look v = ⊥
 IsAskedNotAt (box x g) look v = IsNotAt x g look v
 IsAskedNotAt (equality x y) look v = IsNotAt x (breaks y) look v × IsNotAt y (breaks x) look v
 IsAskedNotAt (listing x) look v = ⊥
+IsAskedNotAt (density x strip ws) look v = ⊥
+IsAskedNotAt (discharge x radius margin vs ws) look v = ⊥
 
 -- the same of the goals that the query with a number, from 1, asks for
 abbrev pub IsNowhereAt : Parts → ℕ → Look → Place → Type 0

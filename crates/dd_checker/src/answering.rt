@@ -1,10 +1,11 @@
 //! Answers to the queries of scripts.
-ghost use Rattle.std.specs.Prelude.{◌≡◌, ◌↔◌, true, IsTrue, IfOk, Contains};
-ghost use Rattle.dd_script.specs.Questions.{is_asked};
-ghost use Rattle.dd_checker.specs.Certificates.{IsCertificateFor, IsCertificate, IsChecked};
+ghost use Rattle.std.specs.Prelude.{◌≡◌, ◌↔◌, IsTrue, IfOk, Contains};
+ghost use Rattle.dd_checker.specs.Certificates.{IsCertificateFor, IsCertificate, HasQuery};
 ghost use Rattle.dd_checker.specs.Claims.{Claim};
 
 use crate::boxes::{check_box, check_equal};
+use crate::densities::check_strip;
+use crate::discharges::check_discharge;
 use crate::laws::certified;
 use crate::lists::check_list;
 use crate::places::check_member;
@@ -21,8 +22,7 @@ fn check_query(
     query: &Query,
     answer: &Answer,
 ) -> Result<bool, AllocError>
-    requires stands { Contains script.now.queries query.now }
-    requires asked { is_asked query.now ≡ true }
+    requires { Contains script.now.queries query.now }
     ensures { IfOk result (λ accepted. IsTrue accepted ↔ IsCertificateFor script.now query.now answer.now) }
 {
     let limits = script.limits();
@@ -34,6 +34,18 @@ fn check_query(
         Question::Box { premise, goal } => check_box(alloc, premise, &goal, limits, answer),
         Question::Equality { left, right } => check_equal(alloc, left, right, limits, answer),
         Question::Listing { rule } => check_list(alloc, rule, answer),
+        Question::Density {
+            rule,
+            strip,
+            weights,
+        } => check_strip(alloc, rule, strip, weights, answer),
+        Question::Discharge {
+            rule,
+            radius,
+            margin,
+            vectors,
+            weights,
+        } => check_discharge(alloc, rule, radius, margin, vectors, weights, answer),
     }
 }
 
@@ -45,7 +57,7 @@ pub fn check_answer(
     query: u32,
     answer: &Answer,
 ) -> Result<Verdict, AllocError>
-    requires { IsChecked script.now query }
+    requires { HasQuery script.now query }
     ensures exact { IfOk result (λ verdict. (verdict ≡ Verdict.Accepted) ↔ IsCertificate script.now query answer.now) }
     ensures claim { IfOk result (λ verdict. verdict ≡ Verdict.Accepted → Claim script.now query answer.now) }
 {

@@ -1,5 +1,5 @@
-//! What periodic configurations show. Nothing here takes memory.
-ghost use Rattle.std.specs.Prelude.{◌≡◌, ◌<◌, ◌↔◌, not, IsTrue};
+//! What periodic configurations show.
+ghost use Rattle.std.specs.Prelude.{◌≡◌, ◌<◌, ◌↔◌, not, IsTrue, IfOk};
 ghost use Rattle.dd_lattice.specs.Cells.{cell};
 ghost use Rattle.dd_pattern.specs.Tile.{tile_look};
 ghost use Rattle.dd_formula.specs.LocalRule.{is_true};
@@ -10,10 +10,12 @@ ghost use Rattle.dd_boxes.specs.Boxes.{origin};
 ghost use Rattle.dd_boxes.specs.Views.{goal_of};
 ghost use Rattle.dd_boxes.specs.Witnesses.{IsWitness};
 
+use dd_automaton::differ_at_origin;
 use dd_boxes::Goal;
 use dd_formula::{Membership, Rule};
 use dd_lattice::{Cell, Position};
 use dd_pattern::Periodic;
+use std::alloc::{AllocError, Global};
 
 /// Whether each symbol of the fundamental box is one that its node allows.
 fn has_allowed(rule: &Rule, periodic: &Periodic) -> bool
@@ -42,6 +44,17 @@ pub(crate) fn lives(rule: &Rule, periodic: &Periodic) -> bool
             false
         }
     }
+}
+
+/// Whether it has allowed symbols alone, and lives in the rule's subshift.
+fn inhabits(rule: &Rule, periodic: &Periodic) -> bool
+    requires { Fits rule.now periodic.now }
+    ensures { IsTrue result ↔ (HasAllowed rule.now periodic.now × Lives rule.now periodic.now) }
+{
+    if !has_allowed(rule, periodic) {
+        return false;
+    }
+    lives(rule, periodic)
 }
 
 /// Whether the rule is false at the origin with this node.
@@ -81,30 +94,33 @@ pub fn check_periodic(premise: &Rule, goal: &Rule, periodic: &Periodic) -> bool
 {
     // Read for what its type keeps.
     let _symbols = periodic.symbols();
-    if !has_allowed(premise, periodic) {
-        return false;
-    }
-    if !lives(premise, periodic) {
+    if !inhabits(premise, periodic) {
         return false;
     }
     is_broken(goal, periodic)
 }
 
-/// The same of any goal.
-pub(crate) fn shows(premise: &Rule, goal: &Goal, periodic: &Periodic) -> bool
+/// The same of any goal. The values of automata take memory.
+pub(crate) fn shows(
+    alloc: Global,
+    premise: &Rule,
+    goal: &Goal,
+    periodic: &Periodic,
+) -> Result<bool, AllocError>
     requires fits { Fits premise.now periodic.now }
     requires goal { IsGoalFor premise.now (goal_of premise.now goal.now) }
-    ensures { IsTrue result ↔ IsWitness premise.now (goal_of premise.now goal.now) periodic.now }
+    ensures { IfOk result (λ shown. IsTrue shown ↔ IsWitness premise.now (goal_of premise.now goal.now) periodic.now) }
 {
+    // Read for what its type keeps.
+    let _symbols = periodic.symbols();
     match goal {
-        Goal::Breaks(rule) => check_periodic(premise, rule, periodic),
-        Goal::Always => {
-            // Read for what its type keeps.
-            let _symbols = periodic.symbols();
-            if !has_allowed(premise, periodic) {
-                return false;
+        Goal::Breaks(rule) => Ok(check_periodic(premise, rule, periodic)),
+        Goal::Differ(left, right) => {
+            if !inhabits(premise, periodic) {
+                return Ok(false);
             }
-            lives(premise, periodic)
+            differ_at_origin(alloc, left, right, periodic)
         }
+        Goal::Always => Ok(inhabits(premise, periodic)),
     }
 }

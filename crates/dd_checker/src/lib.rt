@@ -2,10 +2,14 @@
 #![tactic(auto)]
 
 mod answering;
+mod automata;
 mod boxes;
 mod configurations;
+mod densities;
+mod discharges;
 mod laws;
 mod lists;
+mod numbers;
 mod places;
 mod refutations;
 mod verdict;

@@ -110,6 +110,6 @@ pub(crate) fn check_no(
 {
     match given(alloc, premise, limits.period, periods, shear, symbols)? {
         None => Ok(false),
-        Some(periodic) => Ok(shows(premise, goal, &periodic)),
+        Some(periodic) => shows(alloc, premise, goal, &periodic),
     }
 }

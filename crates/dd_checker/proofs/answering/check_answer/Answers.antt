@@ -1,5 +1,5 @@
 use Rattle.std.proofs.Common.{length, ap, arith}
-use Rattle.dd_checker.proofs.Verdicts.{index_within, query_stands, query_checked, accepted, accepts, rejects}
+use Rattle.dd_checker.proofs.Verdicts.{index_within, query_stands, accepted, accepts, rejects}
 use Rattle.dd_checker.proofs.answering.check_answer.Goals as goal
 
 pub bounds-queries-number : goal.bounds-queries-number
@@ -7,14 +7,9 @@ bounds-queries-number c =
     let within = index_within c.args.script.now c.args.query c.requires in
     omega (arith, within, ap length c.queries-queries.ensures.value)
 
-pub check_query-requires-clause-stands : goal.check_query-requires-clause-stands
-check_query-requires-clause-stands c =
+pub check_query-requires : goal.check_query-requires
+check_query-requires c =
     query_stands c.args.script.now c.args.query c.requires c.queries-queries.result.now c.queries-queries.ensures.value
-    c.index-queries-number.result c.index-queries-number.is
-
-pub check_query-requires-clause-asked : goal.check_query-requires-clause-asked
-check_query-requires-clause-asked c =
-    query_checked c.args.script.now c.args.query c.requires c.queries-queries.result.now c.queries-queries.ensures.value
     c.index-queries-number.result c.index-queries-number.is
 
 pub returns-then-accepted : goal.returns-then-accepted

@@ -2,7 +2,7 @@ use Rattle.std.proofs.Common.{sym, subst}
 use Rattle.dd_boxes.specs.declared.limits.Limits.{Limits}
 use Rattle.dd_boxes.specs.Goals.{breaks}
 use Rattle.dd_boxes.specs.Views.{goal_of}
-use Rattle.dd_script.specs.Questions.{membership, box, equality, listing}
+use Rattle.dd_script.specs.Questions.{membership, box, equality, listing, density, discharge}
 use Rattle.dd_script.specs.Asking.{IsAskable}
 use Rattle.dd_checker.proofs.QueryLaws.{test_for, decided_for}
 use Rattle.dd_checker.proofs.answering.check_query.Goals as goal
@@ -47,3 +47,20 @@ pub returns-in-Listing : goal.returns-in-Listing
 returns-in-Listing c =
     decided_for c.args.script.now c.args.query.now (listing c.in-Listing.rule.now) c.args.answer.now
     c.limits-limits.result.now c.in-Listing.ensures.is c.limits-limits.ensures.value c.check_list.result c.check_list.ensures
+
+pub check_strip-requires : goal.check_strip-requires
+check_strip-requires c = c.in-Density.ensures.sound.1
+
+pub check_discharge-requires : goal.check_discharge-requires
+check_discharge-requires c = c.in-Discharge.ensures.sound.1
+
+pub returns-in-Density : goal.returns-in-Density
+returns-in-Density c =
+    decided_for c.args.script.now c.args.query.now (density c.in-Density.rule.now c.in-Density.strip c.in-Density.weights.now) c.args.answer.now
+    c.limits-limits.result.now c.in-Density.ensures.is c.limits-limits.ensures.value c.check_strip.result c.check_strip.ensures
+
+pub returns-in-Discharge : goal.returns-in-Discharge
+returns-in-Discharge c =
+    decided_for c.args.script.now c.args.query.now
+    (discharge c.in-Discharge.rule.now c.in-Discharge.radius c.in-Discharge.margin c.in-Discharge.vectors.now c.in-Discharge.weights.now) c.args.answer.now
+    c.limits-limits.result.now c.in-Discharge.ensures.is c.limits-limits.ensures.value c.check_discharge.result c.check_discharge.ensures

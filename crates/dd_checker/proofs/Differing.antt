@@ -1,0 +1,40 @@
+-- Whether the values of two automata differ at the origin of a configuration that fits the premise.
+use Rattle.std.proofs.Common.{◌≡◌, ℕ, ◌<◌, Bool, true, sym, subst}
+use Rattle.std.specs.Prelude.{◌↔◌}
+use Rattle.dd_pattern.specs.Tile.{Tile, IsTile}
+use Rattle.dd_formula.specs.LocalRule.{LocalRule}
+use Rattle.dd_formula.specs.Allowed.{HasAllowed}
+use Rattle.dd_formula.specs.Living.{Fits, Lives}
+use Rattle.dd_formula.specs.Automata.{Setting, IsAutomaton}
+use Rattle.dd_formula.specs.declared.automaton.Automaton.{Automaton}
+use Rattle.dd_boxes.specs.Goals.{differ}
+use Rattle.dd_boxes.specs.Views.{numbers_of}
+use Rattle.dd_boxes.specs.Witnesses.{IsWitness}
+use Rattle.dd_automaton.specs.Images.{IsDefinedOn, DifferAtOrigin}
+
+abbrev setting : ℕ → ℕ → ℕ → Setting
+setting d n s = record { dimension = d; nodes = n; symbols = s }
+
+module _ (x : LocalRule) (t : Tile) (fits : Fits x t) where
+  -- the configuration's numbers are the premise's
+  pub defined : (f : Automaton) → IsAutomaton (numbers_of x) f → IsDefinedOn f t
+  defined f formed = record {
+    symbols = x.symbols;
+    formed = subst (λ d. IsAutomaton (setting d t.nodes x.symbols) f) (sym fits.dimension)
+        (subst (λ n. IsAutomaton (setting x.dimension n x.symbols) f) (sym fits.nodes) formed);
+    below = fits.symbols;
+  }
+
+  -- of one that lives in the premise's subshift, the test decides whether it shows the goal
+  pub difference_decides : (f g : Automaton) → IsTile t → HasAllowed x t → Lives x t → (b : Bool) → (b ≡ true) ↔ DifferAtOrigin f g t →
+      (b ≡ true) ↔ IsWitness x (differ (numbers_of x) f g) t
+  difference_decides f g tile allowed lives b told = (
+    λ h. (let found = told.0 h in record {
+      tile = tile;
+      fits = fits;
+      allowed = allowed;
+      lives = lives;
+      goal = (found.0, subst (λ n. found.0 < n) fits.nodes found.1, found.2);
+    }),
+    λ w. told.1 (w.goal.0, subst (λ n. w.goal.0 < n) (sym fits.nodes) w.goal.1, w.goal.2),
+  )

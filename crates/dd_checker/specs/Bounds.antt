@@ -1,0 +1,107 @@
+-- Which answers to questions of least densities and of discharging are certificates, and what they claim.
+use Rattle.std.specs.Prelude.{ℕ, ◌+◌, ◌*◌, ◌^◌, ◌≤◌, ◌≡◌, true, ℤ, List, length}
+use Rattle.dd_lattice.specs.Place.{Place}
+use Rattle.dd_pattern.specs.Reading.{Look}
+use Rattle.dd_expansion.specs.Limits.{greatest}
+use Rattle.dd_expansion.specs.Placed.{is_flat}
+use Rattle.dd_formula.specs.LocalRule.{LocalRule}
+use Rattle.dd_formula.specs.Living.{Obeys}
+use Rattle.dd_boxes.specs.Fillings.{IsConfiguration}
+use Rattle.dd_counts.specs.Rules.{window}
+use Rattle.dd_transfer.specs.Transfers.{strip_for}
+use Rattle.dd_transfer.specs.Certificates.{IsLowest, walk_weight, IsDensityCertificate, IsEmptyCertificate}
+use Rattle.dd_strips.specs.Claims.{StripLeast, StripEmpty, spread_of}
+use Rattle.dd_discharge.specs.declared.bound.Bound.{Bound}
+use Rattle.dd_discharge.specs.Amounts.{bound_claimed, held_over}
+use Rattle.dd_discharge.specs.Certificates.{IsBoundCertificate, BestOf}
+use Rattle.dd_sides.specs.Sides.{side_weight}
+use Rattle.dd_sides.specs.Boundaries.{boundary}
+use Rattle.dd_sides.specs.Lifted.{HoldsOnSides}
+use Rattle.dd_certificate.specs.declared.answer.Reason.{Reason}
+use Rattle.dd_certificate.specs.declared.answer.Reason.TheVariants as reason
+use Rattle.dd_certificate.specs.declared.answer.Answer.{Answer}
+use Rattle.dd_certificate.specs.declared.answer.Answer.TheVariants as answer
+
+-- ---- least densities: a closed walk through the strip's transfer graph, with potentials that show that none is lighter; or ranks
+-- that show that there is none
+
+-- a certificate of the least density, or of there being none
+abbrev pub IsStripCertificate : LocalRule → List ℕ → List ℕ → Answer → Type 0
+IsStripCertificate x strip ws answer.Inside = ⊥
+IsStripCertificate x strip ws (answer.Outside place) = ⊥
+IsStripCertificate x strip ws (answer.Yes radius steps) = ⊥
+IsStripCertificate x strip ws (answer.YesBoth left right left_steps right_steps) = ⊥
+IsStripCertificate x strip ws (answer.No s periods shear symbols) = ⊥
+IsStripCertificate x strip ws (answer.Unknown r) = ⊥
+IsStripCertificate x strip ws (answer.List patterns) = ⊥
+IsStripCertificate x strip ws (answer.Density numerator denominator cycle potentials) =
+    IsDensityCertificate x (strip_for x strip) ws numerator denominator cycle potentials
+IsStripCertificate x strip ws (answer.Empty ranks) = IsEmptyCertificate x (strip_for x strip) ranks
+IsStripCertificate x strip ws (answer.Bound numerator denominator common amounts duals) = ⊥
+
+-- p / q is the least density of all configurations on the strip; and with m / l the cycle's mean, no strip of whatever length is
+-- lighter than its slices times this, but for the spread of the potentials
+pub record IsLeastOnStrip (x : LocalRule) (strip ws : List ℕ) (p q : ℕ) (cycle : List ℕ) (potentials : List ℤ) : Type 0 where
+  pub m : ℕ
+  pub l : ℕ
+  pub mean : IsLowest m l (walk_weight x (strip_for x strip) ws cycle) (length cycle)
+  pub least : StripLeast x (strip_for x strip) ws p q l m (spread_of potentials)
+
+-- what such an answer claims
+abbrev pub StripClaim : LocalRule → List ℕ → List ℕ → Answer → Type 0
+StripClaim x strip ws answer.Inside = ⊥
+StripClaim x strip ws (answer.Outside place) = ⊥
+StripClaim x strip ws (answer.Yes radius steps) = ⊥
+StripClaim x strip ws (answer.YesBoth left right left_steps right_steps) = ⊥
+StripClaim x strip ws (answer.No s periods shear symbols) = ⊥
+StripClaim x strip ws (answer.Unknown r) = Unit {0}
+StripClaim x strip ws (answer.List patterns) = ⊥
+StripClaim x strip ws (answer.Density numerator denominator cycle potentials) = IsLeastOnStrip x strip ws numerator denominator cycle potentials
+StripClaim x strip ws (answer.Empty ranks) = StripEmpty x (strip_for x strip) (greatest ranks + window x)
+StripClaim x strip ws (answer.Bound numerator denominator common amounts duals) = ⊥
+
+-- ---- discharging: amounts that hold the bound, with duals that show that no amounts hold more
+
+-- why a discharge may have no bound
+abbrev pub IsDischargeReason : Reason → Type 0
+IsDischargeReason reason.Limits = ⊥
+IsDischargeReason reason.Large = Unit {0}
+IsDischargeReason reason.Overflow = Unit {0}
+IsDischargeReason reason.Pivots = Unit {0}
+
+-- a certificate of the bound, or a reason why there may be none
+abbrev pub IsDischargeCertificate : LocalRule → ℕ → ℕ → List Place → List ℕ → Answer → Type 0
+IsDischargeCertificate x radius margin vs ws answer.Inside = ⊥
+IsDischargeCertificate x radius margin vs ws (answer.Outside place) = ⊥
+IsDischargeCertificate x radius margin vs ws (answer.Yes n steps) = ⊥
+IsDischargeCertificate x radius margin vs ws (answer.YesBoth left right left_steps right_steps) = ⊥
+IsDischargeCertificate x radius margin vs ws (answer.No s periods shear symbols) = ⊥
+IsDischargeCertificate x radius margin vs ws (answer.Unknown r) = IsDischargeReason r
+IsDischargeCertificate x radius margin vs ws (answer.List patterns) = ⊥
+IsDischargeCertificate x radius margin vs ws (answer.Density numerator denominator cycle potentials) = ⊥
+IsDischargeCertificate x radius margin vs ws (answer.Empty ranks) = ⊥
+IsDischargeCertificate x radius margin vs ws (answer.Bound numerator denominator common amounts duals) =
+    IsBoundCertificate x ws radius margin vs (bound_claimed numerator denominator common amounts duals)
+
+-- What a bound p / q says. Of the program: no amounts that meet its rows hold more. Of the lattice: wherever in Z^d Side(n) lies, for
+-- each n, each admissible filling of the positions within reach of it weighs on it at least p / q for each of its n^d positions, but
+-- for what these may receive from outside it; so does each configuration that obeys the rule at every position.
+pub record IsBestBound (x : LocalRule) (ws : List ℕ) (radius margin : ℕ) (vs : List Place) (b : Bound) : Type 0 where
+  pub best : BestOf x ws radius margin vs b.numerator b.denominator
+  pub sides : HoldsOnSides x ws radius margin vs b
+  pub configurations : (n : ℕ) (u : Place) (look : Look) → 1 ≤ n → is_flat x.dimension u ≡ true → IsConfiguration x look → Obeys x look
+      → held_over b * n ^ x.dimension ≤ b.common * side_weight x ws look n u + boundary x.dimension n (length sides.program.patterns) vs b.amounts
+
+-- what such an answer claims
+abbrev pub DischargeClaim : LocalRule → ℕ → ℕ → List Place → List ℕ → Answer → Type 0
+DischargeClaim x radius margin vs ws answer.Inside = ⊥
+DischargeClaim x radius margin vs ws (answer.Outside place) = ⊥
+DischargeClaim x radius margin vs ws (answer.Yes n steps) = ⊥
+DischargeClaim x radius margin vs ws (answer.YesBoth left right left_steps right_steps) = ⊥
+DischargeClaim x radius margin vs ws (answer.No s periods shear symbols) = ⊥
+DischargeClaim x radius margin vs ws (answer.Unknown r) = Unit {0}
+DischargeClaim x radius margin vs ws (answer.List patterns) = ⊥
+DischargeClaim x radius margin vs ws (answer.Density numerator denominator cycle potentials) = ⊥
+DischargeClaim x radius margin vs ws (answer.Empty ranks) = ⊥
+DischargeClaim x radius margin vs ws (answer.Bound numerator denominator common amounts duals) =
+    IsBestBound x ws radius margin vs (bound_claimed numerator denominator common amounts duals)

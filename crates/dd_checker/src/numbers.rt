@@ -1,0 +1,86 @@
+//! Whether an output can hold the numbers of an answer.
+ghost use Rattle.std.specs.Prelude.{◌≡◌, ◌≤◌, ◌↔◌, nat_le, unsigned_abs, length, All, IsTrue};
+ghost use Rattle.std.specs.List.{list_all};
+ghost use Rattle.dd_certificate.specs.Bounds.{most_number, IsWritableNumber, IsWritableSigned, IsWritableDenominator, IsWritableList};
+
+/// The greatest number of most lines.
+const MOST_NUMBER: u64 = 1 << 40;
+
+pub(crate) fn is_number(number: u64) -> bool
+    ensures { IsTrue result ↔ IsWritableNumber number }
+{
+    number <= MOST_NUMBER
+}
+
+/// From 1 on.
+pub(crate) fn is_denominator(number: u64) -> bool
+    ensures { IsTrue result ↔ IsWritableDenominator number }
+{
+    1 <= number && number <= MOST_NUMBER
+}
+
+pub(crate) fn are_denominators(one: u64, other: u64) -> bool
+    ensures { IsTrue result ↔ (IsWritableDenominator one × IsWritableDenominator other) }
+{
+    if !is_denominator(one) {
+        return false;
+    }
+    is_denominator(other)
+}
+
+fn is_small(number: &u64) -> bool
+    ensures { result ≡ nat_le number.now most_number }
+{
+    *number <= MOST_NUMBER
+}
+
+fn are_small(numbers: &[u64]) -> bool
+    ensures { result ≡ list_all (λ n. nat_le n most_number) numbers.now }
+{
+    numbers.iter().all(|number| is_small(number))
+}
+
+fn is_small_signed(number: &i64) -> bool
+    ensures { result ≡ nat_le (unsigned_abs number.now) most_number }
+{
+    number.unsigned_abs() <= MOST_NUMBER
+}
+
+fn are_small_signed(numbers: &[i64]) -> bool
+    ensures { result ≡ list_all (λ z. nat_le (unsigned_abs z) most_number) numbers.now }
+{
+    numbers.iter().all(|number| is_small_signed(number))
+}
+
+pub(crate) fn are_numbers(numbers: &[u64]) -> bool
+    ensures { IsTrue result ↔ All IsWritableNumber numbers.now }
+{
+    are_small(numbers)
+}
+
+/// Numbers, one at least.
+pub(crate) fn is_list(numbers: &[u64]) -> bool
+    ensures { IsTrue result ↔ IsWritableList numbers.now }
+{
+    if numbers.is_empty() {
+        return false;
+    }
+    are_small(numbers)
+}
+
+/// Signed numbers, one at least.
+pub(crate) fn is_signed_list(numbers: &[i64]) -> bool
+    ensures { IsTrue result ↔ ((1 ≤ length numbers.now) × All IsWritableSigned numbers.now) }
+{
+    if numbers.is_empty() {
+        return false;
+    }
+    are_small_signed(numbers)
+}
+
+/// Not too many.
+pub(crate) fn is_short(numbers: &[u64]) -> bool
+    ensures { IsTrue result ↔ (length numbers.now ≤ most_number) }
+{
+    numbers.len() as u64 <= MOST_NUMBER
+}
