@@ -2,6 +2,7 @@
 -- configuration of a NO is given back by what is written of it.
 use Rattle.std.proofs.Common.{◌≡◌, ℕ, List, max, refl, ap, sym, subst, ◌∙◌, Some, None}
 use Rattle.std.specs.Prelude.{Option, IsSomeAnd}
+use Rattle.dd_lattice.specs.Place.{Place}
 use Rattle.dd_derivation.specs.declared.step.Step.{Step}
 use Rattle.dd_pattern.specs.declared.periods.Periods.{Periods}
 use Rattle.dd_pattern.specs.Periods.{AreWithin}
@@ -14,21 +15,54 @@ use Rattle.dd_boxes.specs.Boxes.{Suffices, IsLeastRadius}
 use Rattle.dd_boxes.specs.Witnesses.{IsWitness}
 use Rattle.dd_certificate.specs.declared.answer.Answer.{Answer}
 use Rattle.dd_certificate.specs.declared.answer.Answer.TheVariants as answer
-use Rattle.dd_certificate.specs.declared.answer.Side.TheVariants as side
+use Rattle.dd_certificate.specs.declared.answer.Reason.{Reason}
+use Rattle.dd_certificate.specs.declared.answer.Reason.TheVariants as reason
 use Rattle.dd_certificate.specs.Bounds.{IsWritable}
 use Rattle.dd_contain.specs.declared.decision.Decision.{Decision}
 use Rattle.dd_contain.specs.declared.decision.Decision.TheVariants as decision
-use Rattle.dd_contain.specs.declared.equal.Equality.{Equality}
 use Rattle.dd_contain.specs.Decided.{IsLeast}
 use Rattle.dd_contain.specs.Questions.{Displays, IsDecided}
-use Rattle.dd_contain.specs.Equal.{joined, UnlessNo, IsEqualDecided}
+use Rattle.dd_contain.specs.Equal.{joined, UnlessNo}
 use Rattle.dd_query.specs.declared.queries.Query.{Query}
 use Rattle.dd_script.specs.Parts.{Parts}
-use Rattle.dd_script.specs.Questions.{Asked, membership, box, equality, listing, asked}
+use Rattle.dd_script.specs.Questions.{Asked, membership, box, equality, listing, density, discharge, asked}
 use Rattle.dd_evidence.specs.Tiles.{given_periods, written_periods, IsWrittenBack}
 use Rattle.dd_answer.specs.Right.{Right, IsRightTo, IsRightBox, IsRightEqual, written_decision, written_equality}
+use Rattle.dd_answer.specs.Bounds.{IsRightDensity, IsRightReason, IsRightDischarge}
+use Rattle.dd_checker.specs.Bounds.{IsStripCertificate, IsDischargeReason, IsDischargeCertificate}
 use Rattle.dd_checker.specs.Evidence.{Refutes, IsYes, IsNo, IsBoxCertificate, IsEqualCertificate}
 use Rattle.dd_checker.specs.Certificates.{IsCertificateOf, IsCertificateFor}
+
+density_is : (x : LocalRule) (strip ws : List ℕ) (a : Answer) → IsRightDensity x strip ws a → IsStripCertificate x strip ws a
+density_is x strip ws answer.Inside h = h
+density_is x strip ws (answer.Outside place) h = h
+density_is x strip ws (answer.Yes radius steps) h = h
+density_is x strip ws (answer.YesBoth left right left_steps right_steps) h = h
+density_is x strip ws (answer.No s periods shear symbols) h = h
+density_is x strip ws (answer.Unknown r) h = h
+density_is x strip ws (answer.List patterns) h = h
+density_is x strip ws (answer.Density numerator denominator cycle potentials) h = h.certificate
+density_is x strip ws (answer.Empty ranks) h = h.certificate
+density_is x strip ws (answer.Bound numerator denominator common amounts duals) h = h
+
+module _ (x : LocalRule) (radius margin : ℕ) (vs : List Place) (ws : List ℕ) (pivots : ℕ) where
+  reason_is : (r : Reason) → IsRightReason x radius margin vs ws pivots r → IsDischargeReason r
+  reason_is reason.Limits h = h
+  reason_is reason.Large h = tt
+  reason_is reason.Overflow h = tt
+  reason_is reason.Pivots h = tt
+
+  discharge_is : (a : Answer) → IsRightDischarge x radius margin vs ws pivots a → IsDischargeCertificate x radius margin vs ws a
+  discharge_is answer.Inside h = h
+  discharge_is (answer.Outside place) h = h
+  discharge_is (answer.Yes n steps) h = h
+  discharge_is (answer.YesBoth left right left_steps right_steps) h = h
+  discharge_is (answer.No s periods shear symbols) h = h
+  discharge_is (answer.Unknown r) h = reason_is r h
+  discharge_is (answer.List patterns) h = h
+  discharge_is (answer.Density numerator denominator cycle potentials) h = h
+  discharge_is (answer.Empty ranks) h = h
+  discharge_is (answer.Bound numerator denominator common amounts duals) h = h.certificate
 
 abbrev AreWrittenBack : Type 0
 AreWrittenBack = (x : LocalRule) (t : Tile) → IsTile t → Fits x t → IsWrittenBack x t
@@ -84,6 +118,8 @@ module _ (back : AreWrittenBack) (l : Limits) where
   right_is (box x g) a right = box_is x g a right
   right_is (equality x y) a right = equal_is x y a right
   right_is (listing x) a right = right
+  right_is (density x strip ws) a right = density_is x strip ws a right
+  right_is (discharge x radius margin vs ws) a right = discharge_is x radius margin vs ws l.pivots a right
 
 some_then : {X : Type 0} (o : Option X) (P Q : X → Type 0) → ((x : X) → P x → Q x) → IsSomeAnd o P → IsSomeAnd o Q
 some_then (Some x) P Q h p = h x p

@@ -11,6 +11,7 @@ use Rattle.std.proofs.lemmas.Bool.{cases_order, ltb-false, false≢true}
 use Rattle.std.proofs.lemmas.Cmp.{nat_cmp_total, int_cmp_total, on_total, then_total}
 use Rattle.dd_lattice.specs.declared.position.Cell.{Cell}
 use Rattle.dd_lattice.specs.Place.{Place}
+use Rattle.dd_discharge.specs.Outcomes.{HasOneOutcome}
 use Rattle.dd_lattice.specs.Order.{cell_cmp}
 use Rattle.dd_lattice.proofs.InOrderLaws.{cells_equal}
 use Rattle.dd_pattern.specs.declared.periods.Periods.{Periods}
@@ -35,13 +36,14 @@ use Rattle.dd_contain.specs.Questions.{Refutes, ShowsAt, Displays, IsDecided}
 use Rattle.dd_contain.specs.Equal.{joined, UnlessNo, IsEqualDecided}
 use Rattle.dd_query.specs.declared.queries.Query.{Query}
 use Rattle.dd_script.specs.Parts.{Parts}
-use Rattle.dd_script.specs.Questions.{Asked, membership, box, equality, listing, asked}
+use Rattle.dd_script.specs.Questions.{Asked, membership, box, equality, listing, density, discharge, asked}
 use Rattle.dd_script.specs.Asking.{IsSoundAsked, AreSound}
 use Rattle.dd_evidence.specs.Cells.{written_cell}
 use Rattle.dd_evidence.specs.Lists.{IsListOf}
 use Rattle.dd_evidence.specs.Answers.{IsMemberCertificate, IsListCertificate}
 use Rattle.dd_answer.specs.Right.{Right, IsRightTo, IsRightBox, IsRightEqual, written_decision, written_equality, is_unknown}
 use Rattle.dd_answer.specs.Laws.{SayTheSame}
+use Rattle.dd_answer.proofs.Measuring.{IsOneDensity, density_agree, discharge_agree}
 
 -- ---- the least and the first are one
 
@@ -314,12 +316,18 @@ both_of_one : {X : Type 0} (o : Option X) (P Q : X → Type 0) (G : Type 0) → 
 both_of_one (Some x) P Q G p q then = then x refl p q
 both_of_one None P Q G p q then = absurd p
 
-module _ (s : Parts) (sound : AreSound s) (one : AreOneList) where
+abbrev pub HaveOneOutcome : Type 0
+HaveOneOutcome = (x : LocalRule) (ws : List ℕ) (radius margin : ℕ) (vs : List Place) (pivots : ℕ) → HasOneOutcome x ws radius margin vs pivots
+
+module _ (s : Parts) (sound : AreSound s) (one : AreOneList) (density_one : IsOneDensity) (outcome_one : HaveOneOutcome) where
   asked_agree : (k : Asked) (a b : Answer) → IsSoundAsked s.known k → IsRightTo s.known.limits k a → IsRightTo s.known.limits k b → SayTheSame a b
   asked_agree (membership x t) a b ok h k = member_agree x t ok.1 ok.2.dimension ok.2.nodes a b h k
   asked_agree (box x g) a b ok h k = box_agree s.known.limits x g a b h k
   asked_agree (equality x y) a b ok h k = equal_agree s.known.limits x y a b h k
   asked_agree (listing x) a b ok h k = list_agree one x a b h k
+  asked_agree (density x strip ws) a b ok h k = density_agree density_one x strip ws a b h k
+  asked_agree (discharge x radius margin vs ws) a b ok h k =
+      discharge_agree x radius margin vs ws s.known.limits.pivots (outcome_one x ws radius margin vs s.known.limits.pivots) a b h k
 
   pub right_agree : (q : Query) (a b : Answer) → Contains s.queries q → Right s q a → Right s q b → SayTheSame a b
   right_agree q a b there h k =

@@ -1,3 +1,4 @@
 pub mod WritableLaws
+pub mod Measuring
 pub mod AgreeLaws
 pub mod QueryLaws

@@ -1,5 +1,6 @@
 -- which answers are right, and what all right answers to a query have in common
 pub mod Right
+pub mod Bounds
 pub mod Laws
 -- which decisions an output can hold
 pub mod Writable

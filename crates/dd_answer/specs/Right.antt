@@ -19,24 +19,29 @@ use Rattle.dd_contain.specs.Questions.{IsDecided}
 use Rattle.dd_contain.specs.Equal.{IsEqualDecided}
 use Rattle.dd_query.specs.declared.queries.Query.{Query}
 use Rattle.dd_script.specs.Parts.{Parts}
-use Rattle.dd_script.specs.Questions.{Asked, membership, box, equality, listing, asked}
+use Rattle.dd_script.specs.Questions.{Asked, membership, box, equality, listing, density, discharge, asked}
 use Rattle.dd_evidence.specs.Tiles.{written_periods}
 use Rattle.dd_evidence.specs.Answers.{IsMemberCertificate, IsListCertificate}
+use Rattle.dd_answer.specs.Bounds.{IsRightDensity, IsRightDischarge}
 
 -- ---- box questions
 
+-- NO, by a configuration: its periods along the axes that there are, its shear and its symbols
 abbrev pub written_no : Side → Tile → Answer
 written_no s t = answer.No s (written_periods t) t.periods.shear t.symbols
 
+-- a decision as it is answered
 abbrev pub written_decision : Decision → Answer
 written_decision (decision.Yes n steps) = answer.Yes n steps
 written_decision (decision.No t) = written_no side.Whole t
 written_decision decision.Unknown = answer.Unknown reason.Limits
 
+-- the side of an equality as it is answered
 abbrev pub side_of : Half → Side
 side_of half.Left = side.Left
 side_of half.Right = side.Right
 
+-- the decision of an equality as it is answered
 abbrev pub written_equality : Equality → Answer
 written_equality (equal.Yes left right) = answer.YesBoth left.radius right.radius left.steps right.steps
 written_equality (equal.No h t) = written_no (side_of h) t
@@ -48,6 +53,7 @@ pub record IsRightBox (l : Limits) (x : LocalRule) (g : GoalOf) (a : Answer) : T
   pub decided : IsDecided x g l.radius l.period decision
   pub written : a ≡ written_decision decision
 
+-- what the question of equality comes to within the limits
 pub record IsRightEqual (l : Limits) (x y : LocalRule) (a : Answer) : Type 0 where
   pub decision : Equality
   pub decided : IsEqualDecided x y l.radius l.period decision
@@ -61,6 +67,8 @@ IsRightTo l (membership x t) a = IsMemberCertificate x t a
 IsRightTo l (box x g) a = IsRightBox l x g a
 IsRightTo l (equality x y) a = IsRightEqual l x y a
 IsRightTo l (listing x) a = IsListCertificate x a
+IsRightTo l (density x strip ws) a = IsRightDensity x strip ws a
+IsRightTo l (discharge x radius margin vs ws) a = IsRightDischarge x radius margin vs ws l.pivots a
 
 -- the answer to what the query asks, within the script's limits
 abbrev pub Right : Parts → Query → Answer → Type 0

@@ -5,8 +5,10 @@ ghost use Rattle.dd_query.specs.declared.queries.Query.{Query as AnyQuery};
 ghost use Rattle.dd_answer.specs.Right.{Right};
 ghost use Rattle.dd_answer.specs.Laws.{SayTheSame};
 
+use dd_discharge::one_outcome;
 use dd_evidence::one_list;
 use dd_script::Script;
+use dd_strips::one_density;
 
 /// Does nothing; its contract says that all right answers to a query of the script have the same line. They differ in their evidence alone,
 /// so whether the right answer is that nothing is known within the limits is a matter of the script.
@@ -15,4 +17,6 @@ pub fn one_line(script: &Script)
 {
     script.sound_questions();
     one_list();
+    one_density();
+    one_outcome();
 }

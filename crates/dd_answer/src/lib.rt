@@ -3,6 +3,8 @@
 
 mod answering;
 mod boxes;
+mod densities;
+mod discharges;
 mod laws;
 mod lists;
 mod members;

@@ -2,7 +2,7 @@ use Rattle.std.proofs.Common.{sym, subst}
 use Rattle.dd_boxes.specs.declared.limits.Limits.{Limits}
 use Rattle.dd_boxes.specs.Goals.{breaks}
 use Rattle.dd_boxes.specs.Views.{goal_of}
-use Rattle.dd_script.specs.Questions.{membership, box, equality, listing}
+use Rattle.dd_script.specs.Questions.{membership, box, equality, listing, density, discharge}
 use Rattle.dd_script.specs.Asking.{IsAskable}
 use Rattle.dd_answer.proofs.QueryLaws.{right_for}
 use Rattle.dd_answer.proofs.answering.answer.Goals as goal
@@ -41,3 +41,20 @@ pub returns-in-Listing-clause-right : goal.returns-in-Listing-clause-right
 returns-in-Listing-clause-right c =
     right_for c.args.script.now c.args.query.now (listing c.in-Listing.rule.now) c.limits-limits.result.now
     c.listed.result c.in-Listing.ensures.is c.limits-limits.ensures.value c.listed.ensures.right
+
+pub least-requires : goal.least-requires
+least-requires c = c.in-Density.ensures.sound.1
+
+pub discharged-requires : goal.discharged-requires
+discharged-requires c = c.in-Discharge.ensures.sound.1
+
+pub returns-in-Density-clause-right : goal.returns-in-Density-clause-right
+returns-in-Density-clause-right c =
+    right_for c.args.script.now c.args.query.now (density c.in-Density.rule.now c.in-Density.strip c.in-Density.weights.now) c.limits-limits.result.now
+    c.least.result c.in-Density.ensures.is c.limits-limits.ensures.value c.least.ensures.right
+
+pub returns-in-Discharge-clause-right : goal.returns-in-Discharge-clause-right
+returns-in-Discharge-clause-right c =
+    right_for c.args.script.now c.args.query.now
+    (discharge c.in-Discharge.rule.now c.in-Discharge.radius c.in-Discharge.margin c.in-Discharge.vectors.now c.in-Discharge.weights.now) c.limits-limits.result.now
+    c.discharged.result c.in-Discharge.ensures.is c.limits-limits.ensures.value c.discharged.ensures.right
