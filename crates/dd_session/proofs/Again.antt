@@ -85,14 +85,13 @@ all_accepted are s answers claims right each =
 
 pub run_accepted : AreCertificates → (s : Parts) → ClaimsAreTrue s → (bytes text : List ℕ) (has : Bool) → IsRunOutput bytes s has text → IsAllAccepted has text
 run_accepted are s claims bytes text has run =
-    let few : length run.answers ≤ 1000 = (let most = few_queries bytes s run.runnable.spelled in let each = run.each in omega (arith, most, each)) in
+    let few : length run.answers ≤ 1000 = (let most = few_queries bytes s run.spelled in let each = run.each in omega (arith, most, each)) in
     record {
       output = output bytes run.answers;
       script = s;
       checkable = record {
         output = record { writable = (run.short, few, all_writable s s.queries run.answers run.right); text_is = run.text_is ∙ text_same bytes run.answers };
-        spelled = run.runnable.spelled;
-        checked = run.runnable.answered;
+        spelled = run.spelled;
       };
       accepted = all_accepted are s run.answers claims run.right run.each;
       unknown_is = run.unknown_is;

@@ -11,10 +11,9 @@ use Rattle.dd_session.specs.declared.status.Status.{Status}
 use Rattle.dd_session.specs.declared.status.Status.TheVariants.{Definite, SomeUnknown, Refused, ReadFault, WriteFault, Memory, BadWords, Rejected}
 use Rattle.dd_session.specs.Output.{long_line}
 use Rattle.dd_session.specs.Runs.{Told, RefusedBy}
-use Rattle.dd_session.specs.Answers.{are_asked}
-use Rattle.dd_session.specs.Checks.{most_checked, IsOutput, IsCheckable, IsRefusedOutput, malformed, no_script, not_checked, IsCheckedOutput}
+use Rattle.dd_session.specs.Checks.{most_checked, IsOutput, IsCheckable, IsRefusedOutput, malformed, no_script, IsCheckedOutput}
 use Rattle.dd_session.specs.Checked.{CheckedOver, CheckEnded, CheckDecides, WholeCheck, WholeRejection, WholeRefusedOutput, Read}
-use Rattle.dd_session.proofs.Decided.{OneScript, NeverBoth, told_bytes, told_more}
+use Rattle.dd_session.proofs.Decided.{NeverBoth, told_bytes, told_more}
 
 -- The input was read to its end.
 pub ended_check : {S K : Type 0} (source : Told S) (sink : Told K) (given bytes : List ℕ) (status : Status)
@@ -65,7 +64,7 @@ too_long bytes left more can = omega (arith, told_more bytes left most_checked m
 pub never_bad : {S K : Type 0} (source : Told S) (sink : Told K) (status : Status) → CheckEnded source sink status → status ≢ BadWords
 never_bad source sink status ended is = let none : ⊥ = subst (CheckEnded source sink) is ended in none
 
-module _ (one_output : OneOutput) (one_script : OneScript) (never_both : NeverBoth) where
+module _ (one_output : OneOutput) (never_both : NeverBoth) where
   same_output : (bytes : List ℕ) (a b : Output) → IsOutput bytes a → IsOutput bytes b → a ≡ b
   same_output bytes a b of_a of_b = one_output a b of_a.writable of_b.writable (sym of_a.text_is ∙ of_b.text_is)
 
@@ -74,11 +73,6 @@ module _ (one_output : OneOutput) (one_script : OneScript) (never_both : NeverBo
   refused_not_checkable bytes line o s (no_script p of_p n k refused is) can =
       let same : p ≡ o = same_output bytes p o of_p can.output in
       never_both o.script s n k can.spelled (subst (λ (q : Output). RefusedAs q.script n k) same refused)
-  refused_not_checkable bytes line o s (not_checked p of_p t spelled none is) can =
-      let same : p ≡ o = same_output bytes p o of_p can.output in
-      let one : t ≡ s = one_script o.script t s (subst (λ (q : Output). Spells q.script t) same spelled) can.spelled in
-      let both : false ≡ true = sym none ∙ ap are_asked one ∙ can.checked in
-      absurd (cc both)
 
   -- what holds of the bytes that were given holds of those that were told
   of_told : (bytes : List ℕ) (left : Option (List ℕ)) (P : List ℕ → Type 0) → Read (Some bytes) left P → (length bytes ≤ most_checked) × P bytes

@@ -12,10 +12,10 @@ use Rattle.dd_script.specs.Parts.{Parts}
 use Rattle.dd_script.specs.Scripts.{Spells, IsRefusedAs, syntax, unknown, twice, dimension, size}
 use Rattle.dd_session.specs.declared.status.Status.{Status}
 use Rattle.dd_session.specs.declared.status.Status.TheVariants.{Definite, SomeUnknown, Refused, ReadFault, WriteFault, Memory, BadWords, Rejected}
-use Rattle.dd_session.specs.Answers.{are_asked, has_unknown}
+use Rattle.dd_session.specs.Answers.{has_unknown}
 use Rattle.dd_session.specs.Output.{IsLineOf}
 use Rattle.dd_session.specs.Runs.{Told, RefusedBy, status_of}
-use Rattle.dd_session.specs.Checks.{offset_line, script_early_line, IsOutput, IsCheckable, IsRefusedOutput, malformed, no_script, not_checked}
+use Rattle.dd_session.specs.Checks.{offset_line, IsOutput, IsCheckable, IsRefusedOutput, malformed, no_script}
 use Rattle.dd_session.specs.Checked.{CheckFront, ShortCheck, CheckedOver}
 use Rattle.dd_session.specs.checking.Judged.{RejectedHere, AcceptedAll, AllJudged, checked_status}
 
@@ -40,12 +40,6 @@ pub offset_over : {K : Type 0} (sink : Told K) (bytes line text : List ℕ) (off
 offset_over sink bytes line text offset status none is same wrote =
     refused_over sink bytes line status (malformed offset none.0 none.1 is) (subst (λ (l : List ℕ). RefusedBy sink l status) same wrote)
 
--- the script has a query of a kind that is not checked
-pub early_over : {K : Type 0} (sink : Told K) (o : Output) (s : Parts) (status : Status) → IsWritableOutput o → Spells o.script s → are_asked s ≡ false
-    → RefusedBy sink script_early_line status → CheckedOver sink (output_text o) status
-early_over sink o s status writable spelled none wrote =
-    refused_over sink (output_text o) script_early_line status (not_checked o (output_itself o writable) s spelled none refl) wrote
-
 refused_script : (o : Output) (n : ℕ) (kind : ScriptKind) (line : List ℕ) → IsWritableOutput o
     → IsRefusedAs o.script n kind → IsLineOf (codes "refused script") n kind line → IsRefusedOutput (output_text o) line
 refused_script o n refused.Syntax line writable fault is = no_script o (output_itself o writable) n syntax fault is
@@ -68,46 +62,46 @@ script_over sink o bytes n kind line text status writable of fault is same wrote
     refused_over sink (output_text o) line status
     (refused_script o n kind line writable (subst (λ (l : List ℕ). IsRefusedAs l n kind) of fault) is) (subst (λ (l : List ℕ). RefusedBy sink l status) same wrote)
 
-checkable : (o : Output) (s : Parts) → IsWritableOutput o → Spells o.script s → are_asked s ≡ true → IsCheckable (output_text o) o s
-checkable o s writable spelled all = record { output = output_itself o writable; spelled = spelled; checked = all }
+checkable : (o : Output) (s : Parts) → IsWritableOutput o → Spells o.script s → IsCheckable (output_text o) o s
+checkable o s writable spelled = record { output = output_itself o writable; spelled = spelled }
 
 -- all queries were accepted
 accepted_over : {K : Type 0} (sink : Told K) (o : Output) (s : Parts) (has : Bool) (status : Status) → IsWritableOutput o → Spells o.script s
-    → are_asked s ≡ true → AcceptedAll sink.bytes_old sink.bytes_new s o.answers → has ≡ has_unknown o.answers → status ≡ status_of has
+    → AcceptedAll sink.bytes_old sink.bytes_new s o.answers → has ≡ has_unknown o.answers → status ≡ status_of has
     → CheckedOver sink (output_text o) status
-accepted_over sink o s true status writable spelled all accepted is status_is =
+accepted_over sink o s true status writable spelled accepted is status_is =
     subst (CheckedOver sink (output_text o)) (sym status_is)
     (record {
-      all = record { output = o; script = s; checkable = checkable o s writable spelled all; accepted = accepted.all; unknown_is = sym is };
+      all = record { output = o; script = s; checkable = checkable o s writable spelled; accepted = accepted.all; unknown_is = sym is };
       appends = accepted.appends;
     })
-accepted_over sink o s false status writable spelled all accepted is status_is =
+accepted_over sink o s false status writable spelled accepted is status_is =
     subst (CheckedOver sink (output_text o)) (sym status_is)
     (record {
-      all = record { output = o; script = s; checkable = checkable o s writable spelled all; accepted = accepted.all; unknown_is = sym is };
+      all = record { output = o; script = s; checkable = checkable o s writable spelled; accepted = accepted.all; unknown_is = sym is };
       appends = accepted.appends;
     })
 
 -- a query was rejected
 rejected_over : {K : Type 0} (sink : Told K) (o : Output) (s : Parts) (status : Status) → IsWritableOutput o → Spells o.script s
-    → are_asked s ≡ true → RejectedHere sink.bytes_old sink.bytes_new s o.answers → status ≡ Rejected → CheckedOver sink (output_text o) status
-rejected_over sink o s status writable spelled all here status_is =
+    → RejectedHere sink.bytes_old sink.bytes_new s o.answers → status ≡ Rejected → CheckedOver sink (output_text o) status
+rejected_over sink o s status writable spelled here status_is =
     subst (CheckedOver sink (output_text o)) (sym status_is)
     (record {
       done = here.done;
-      rejected = record { output = o; script = s; checkable = checkable o s writable spelled all; rejected = here.rejected };
+      rejected = record { output = o; script = s; checkable = checkable o s writable spelled; rejected = here.rejected };
       appends = here.appends;
     })
 
 -- the check came to its end
 pub judged_over : {K : Type 0} (sink : Told K) (o : Output) (s : Parts) (answers : List Answer) (accepted : Bool) (status : Status) → IsWritableOutput o
-    → Spells o.script s → are_asked s ≡ true → answers ≡ o.answers → AllJudged sink.bytes_old sink.bytes_new s answers accepted
+    → Spells o.script s → answers ≡ o.answers → AllJudged sink.bytes_old sink.bytes_new s answers accepted
     → status ≡ checked_status accepted (has_unknown answers) → CheckedOver sink (output_text o) status
-judged_over sink o s answers true status writable spelled all same judged is =
-    accepted_over sink o s (has_unknown answers) status writable spelled all
+judged_over sink o s answers true status writable spelled same judged is =
+    accepted_over sink o s (has_unknown answers) status writable spelled
     (subst (λ (l : List Answer). AcceptedAll sink.bytes_old sink.bytes_new s l) same judged) (ap has_unknown same) is
-judged_over sink o s answers false status writable spelled all same judged is =
-    rejected_over sink o s status writable spelled all
+judged_over sink o s answers false status writable spelled same judged is =
+    rejected_over sink o s status writable spelled
     (subst (λ (l : List Answer). RejectedHere sink.bytes_old sink.bytes_new s l) same judged) is
 
 pub few_answers : (o : Output) (answers : List Answer) → IsWritableOutput o → answers ≡ o.answers → length answers ≤ 1000
@@ -115,11 +109,11 @@ few_answers o answers writable is = rw is writable.1
 
 -- the check was broken off
 pub short_over : (old new : Option (List ℕ)) (o : Output) (s : Parts) (answers : List Answer) → IsWritableOutput o → Spells o.script s
-    → are_asked s ≡ true → answers ≡ o.answers → CheckFront old new s answers → ShortCheck old new (output_text o)
-short_over old new o s answers writable spelled all same front = record {
+    → answers ≡ o.answers → CheckFront old new s answers → ShortCheck old new (output_text o)
+short_over old new o s answers writable spelled same front = record {
   output = o;
   script = s;
-  checkable = checkable o s writable spelled all;
+  checkable = checkable o s writable spelled;
   front = subst (CheckFront old new s) same front;
 }
 

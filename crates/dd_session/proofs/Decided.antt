@@ -7,9 +7,8 @@ use Rattle.dd_script.specs.Parts.{Parts}
 use Rattle.dd_script.specs.Scripts.{Spells, RefusedAs, Kind}
 use Rattle.dd_session.specs.declared.status.Status.{Status}
 use Rattle.dd_session.specs.declared.status.Status.TheVariants.{Definite, SomeUnknown, Refused, ReadFault, WriteFault, Memory, BadWords, Rejected}
-use Rattle.dd_session.specs.Answers.{are_asked}
 use Rattle.dd_session.specs.Output.{long_line}
-use Rattle.dd_session.specs.Runs.{Told, RefusedBy, RanOver, Ended, IsAccepted, IsAcceptedAs, IsRunnable, Decides, RanWhole, RefusedWhole, IsRefused, IsRefusedBy, too_long, no_run, no_script, not_answered, most_bytes}
+use Rattle.dd_session.specs.Runs.{Told, RefusedBy, RanOver, Ended, IsAccepted, IsAcceptedAs, Decides, RanWhole, RefusedWhole, IsRefused, IsRefusedBy, too_long, no_run, most_bytes}
 
 -- What was read to the end is what was told.
 pub told_bytes : (bytes given : List ℕ) (left : Option (List ℕ)) → ReadToEnd (Some bytes) left given → bytes ≡ given
@@ -27,19 +26,15 @@ OneScript = (bytes : List ℕ) (s t : Parts) → Spells bytes s → Spells bytes
 abbrev pub NeverBoth : Type 0
 NeverBoth = (bytes : List ℕ) (s : Parts) (n : ℕ) (k : Kind) → Spells bytes s → RefusedAs bytes n k → ⊥
 
-module _ (one_script : OneScript) (never_both : NeverBoth) where
-  refused_not_runnable : (bytes line : List ℕ) (s : Parts) → IsRefusedBy bytes line → ¬ IsRunnable bytes s
-  refused_not_runnable bytes line s (no_script n k refused is) runnable = never_both bytes s n k runnable.spelled refused
-  refused_not_runnable bytes line s (not_answered t spelled none is) runnable =
-      let same : s ≡ t = one_script bytes s t runnable.spelled spelled in
-      let both : true ≡ false = sym runnable.answered ∙ ap are_asked same ∙ none in
-      absurd (cc both)
+module _ (never_both : NeverBoth) where
+  refused_no_script : (bytes line : List ℕ) (s : Parts) → IsRefusedBy bytes line → ¬ Spells bytes s
+  refused_no_script bytes line s refused spelled = never_both bytes s refused.command refused.kind spelled refused.no_script
 
   not_accepted : (bytes line : List ℕ) (left : Option (List ℕ)) → IsRefused (Some bytes) left line → ¬ IsAccepted bytes
   not_accepted bytes line left (too_long more is) accepted = absurd (omega (arith, told_more bytes left most_bytes more, accepted.short))
   not_accepted bytes line left (no_run given to_end short refused) accepted =
-      refused_not_runnable bytes line accepted.script
-      (subst (λ (l : List ℕ). IsRefusedBy l line) (sym (told_bytes bytes given left to_end)) refused) accepted.runnable
+      refused_no_script bytes line accepted.script
+      (subst (λ (l : List ℕ). IsRefusedBy l line) (sym (told_bytes bytes given left to_end)) refused) accepted.spelled
 
   ran_accepted : (bytes : List ℕ) (left held_old held_new : Option (List ℕ)) (has : Bool)
       → RanWhole (Some bytes) left held_old held_new has → IsAcceptedAs has bytes
@@ -49,7 +44,7 @@ module _ (one_script : OneScript) (never_both : NeverBoth) where
         accepted = record {
           short = rw same ran.short;
           script = ran.run.script;
-          runnable = subst (λ (l : List ℕ). IsRunnable l ran.run.script) (sym same) ran.run.runnable;
+          spelled = subst (λ (l : List ℕ). Spells l ran.run.script) (sym same) ran.run.spelled;
         };
         is_open = ran.run.is_open;
       }

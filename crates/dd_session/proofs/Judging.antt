@@ -1,12 +1,12 @@
 -- The check of answers, one after the other.
 use Rattle.std.proofs.Common.{◌≡◌, ◌⊎◌, inl, inr, ℕ, suc, ◌+◌, ◌-◌, ◌<◌, ◌≤◌, max, List, [], ◌∷◌, ◌++◌, length, get_or, Bool, true, false, ◌||◌, None, Some, refl, sym, ◌∙◌, ap, subst, arith, append-nil, add-one}
 use Rattle.std.specs.Prelude.{◌↔◌, IsSomeAnd, Result, Ok, Err, OnErr}
-use Rattle.std.specs.List.{slice_get, list_all, list_any}
+use Rattle.std.specs.List.{slice_get, list_any}
 use Rattle.std.specs.declared.option.Option.{Option}
 use Rattle.std.specs.Io.KnownBytes.{Appends}
 use Rattle.std.proofs.KnownBytes.{Appends-trans}
 use Rattle.std.proofs.lemmas.Bool.{cases_lt}
-use Rattle.std.proofs.lemmas.Option.{slice_get_cases, slice_get_within, slice_get_read}
+use Rattle.std.proofs.lemmas.Option.{slice_get_within, slice_get_read}
 use Rattle.dd_outside.specs.Bytes.{GainsFront}
 use Rattle.dd_outside.proofs.Told.{front_after}
 use Rattle.dd_certificate.specs.declared.answer.Answer.{Answer}
@@ -15,15 +15,13 @@ use Rattle.dd_script.specs.Parts.{Parts}
 use Rattle.dd_answer.specs.Right.{is_unknown}
 use Rattle.dd_checker.specs.declared.verdict.Verdict.{Verdict}
 use Rattle.dd_checker.specs.declared.verdict.Verdict.TheVariants.{Accepted}
-use Rattle.dd_script.specs.Questions.{is_asked, query_at}
-use Rattle.dd_checker.specs.Certificates.{IsChecked}
-use Rattle.dd_checker.specs.Certificates.{IsCertificate, IsCertificateFor}
+use Rattle.dd_script.specs.Questions.{query_at}
+use Rattle.dd_checker.specs.Certificates.{HasQuery, IsCertificate, IsCertificateFor}
 use Rattle.dd_checker.specs.Claims.{Claim}
-use Rattle.dd_session.specs.Answers.{are_asked, has_unknown}
+use Rattle.dd_session.specs.Answers.{has_unknown}
 use Rattle.dd_session.specs.Checks.{accepted_line, rejected_line, accepted_lines, checked_line, IsAcceptedAt, IsTrueAt, AcceptedTo, AllAccepted, FirstRejected, IsEnding, broken_off, rejected, finished}
 use Rattle.dd_session.specs.Checked.{CheckFront}
 use Rattle.dd_session.specs.checking.Judged.{IsJudged, verdict_line, Judged, JudgedFront, nothing, part, most_of, RejectedHere, AcceptedEach, AcceptedAll, EachJudged, AllJudged}
-use Rattle.dd_session.proofs.Asked.{passes_at}
 
 -- ---- a fact of what is there
 
@@ -53,15 +51,8 @@ past_answers s answers n past accepted = omega (arith, past, (accepted_within s 
 pub past_queries : (s : Parts) (answers : List Answer) (n : ℕ) → length s.queries ≤ n - 1 → ¬ IsAcceptedAt s answers n
 past_queries s answers n past accepted = omega (arith, past, (accepted_within s answers n accepted).1)
 
-checked_there : (queries : List Query) (i : ℕ) → i < length queries → list_all is_asked queries ≡ true
-    → IsSomeAnd (slice_get queries i) (λ q. is_asked q ≡ true)
-checked_there queries i less all = elim (slice_get_cases queries i).1 [
-  | inl (q, below, there, is) ↦ some_from (slice_get queries i) (λ q. is_asked q ≡ true) q there (passes_at is_asked queries i q less (sym is) all)
-  | inr (past, none) ↦ absurd (omega (arith, less, past))
-]
-
-pub is_checked_at : (s : Parts) (n : ℕ) → 1 ≤ n → n - 1 < length s.queries → are_asked s ≡ true → IsChecked s n
-is_checked_at s n numbered less all = record { numbered = numbered; checked = checked_there s.queries (n - 1) less all }
+pub has_query_at : (s : Parts) (n : ℕ) → 1 ≤ n → n - 1 < length s.queries → HasQuery s n
+has_query_at s n numbered less = record { numbered = numbered; within = omega (arith, numbered, less) }
 
 -- the answer with the number is the one that was checked
 at_number : (s : Parts) (answers : List Answer) (n : ℕ) (a : Answer) → slice_get answers (n - 1) ≡ Some a → IsAcceptedAt s answers n → IsCertificate s n a

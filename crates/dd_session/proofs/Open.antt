@@ -6,11 +6,12 @@ use Rattle.std.specs.declared.option.Option.{Option}
 use Rattle.dd_certificate.specs.declared.answer.Answer.{Answer}
 use Rattle.dd_query.specs.declared.queries.Query.{Query}
 use Rattle.dd_script.specs.Parts.{Parts}
+use Rattle.dd_script.specs.Scripts.{Spells}
 use Rattle.dd_answer.specs.Right.{Right, is_unknown}
 use Rattle.dd_answer.specs.Laws.{SayTheSame}
 use Rattle.dd_session.specs.Answers.{AllRight, IsOpenAs, has_unknown}
 use Rattle.dd_session.specs.declared.status.Status.{Status}
-use Rattle.dd_session.specs.Runs.{Told, RanOver, IsRunnable, WholeOutput, WholeRun, status_of}
+use Rattle.dd_session.specs.Runs.{Told, RanOver, WholeOutput, WholeRun, status_of}
 
 abbrev AnswersAgree : Parts → Type 0
 AnswersAgree s = (q : Query) (a b : Answer) → Contains s.queries q → Right s q a → Right s q b → SayTheSame a b
@@ -50,19 +51,19 @@ open_as s answers true agree right each is = open_from s s.queries answers right
 open_as s answers false agree right each is = λ (q, (i, below, at), (b, told, unknown)). none_open s s.queries answers agree right each is q (i, below, at) i below at b told unknown
 
 -- a whole run over a script
-whole_run : (old new : Option (List ℕ)) (bytes : List ℕ) (s : Parts) (has : Bool) → AnswersAgree s → IsRunnable bytes s → WholeOutput old new bytes s has →
+whole_run : (old new : Option (List ℕ)) (bytes : List ℕ) (s : Parts) (has : Bool) → AnswersAgree s → Spells bytes s → WholeOutput old new bytes s has →
     WholeRun old new bytes has
-whole_run old new bytes s has agree runnable output = record {
+whole_run old new bytes s has agree spelled output = record {
   script = s;
-  runnable = runnable;
+  spelled = spelled;
   output = output;
   is_open = open_as s output.answers has agree output.right output.each output.unknown_is;
 }
 
 -- the status of a whole run
-pub whole_over : {K : Type 0} (sink : Told K) (bytes : List ℕ) (s : Parts) (has : Bool) (status : Status) → AnswersAgree s → IsRunnable bytes s →
+pub whole_over : {K : Type 0} (sink : Told K) (bytes : List ℕ) (s : Parts) (has : Bool) (status : Status) → AnswersAgree s → Spells bytes s →
     WholeOutput sink.bytes_old sink.bytes_new bytes s has → status ≡ status_of has → RanOver sink bytes status
-whole_over sink bytes s true status agree runnable output is =
-    subst (RanOver sink bytes) (sym is) (whole_run sink.bytes_old sink.bytes_new bytes s true agree runnable output)
-whole_over sink bytes s false status agree runnable output is =
-    subst (RanOver sink bytes) (sym is) (whole_run sink.bytes_old sink.bytes_new bytes s false agree runnable output)
+whole_over sink bytes s true status agree spelled output is =
+    subst (RanOver sink bytes) (sym is) (whole_run sink.bytes_old sink.bytes_new bytes s true agree spelled output)
+whole_over sink bytes s false status agree spelled output is =
+    subst (RanOver sink bytes) (sym is) (whole_run sink.bytes_old sink.bytes_new bytes s false agree spelled output)

@@ -2,19 +2,22 @@
 use Rattle.std.proofs.Common.{◌≡◌, ℕ, List, string_bytes, subst, inr}
 use Rattle.dd_script.specs.declared.fault.ScriptKind.{ScriptKind}
 use Rattle.dd_script.specs.declared.fault.ScriptKind.TheVariants as refused
-use Rattle.dd_script.specs.Scripts.{IsRefusedAs, syntax, unknown, twice, dimension, size}
+use Rattle.dd_script.specs.Scripts.{IsRefusedAs, RefusedAs, Kind, syntax, unknown, twice, dimension, size}
 use Rattle.dd_session.specs.declared.status.Status.{Status}
 use Rattle.dd_session.specs.declared.status.Status.TheVariants.{Definite, SomeUnknown, Refused, ReadFault, WriteFault, Memory, BadWords, Rejected}
-use Rattle.dd_session.specs.Output.{IsLineOf, refused_words}
-use Rattle.dd_session.specs.Runs.{IsRefusedBy, no_script, Told, RefusedBy, RanOver}
+use Rattle.dd_session.specs.Output.{IsLineOf, refused_line, refused_words}
+use Rattle.dd_session.specs.Runs.{IsRefusedBy, Told, RefusedBy, RanOver}
+
+no_script : (bytes : List ℕ) (n : ℕ) (k : Kind) (line : List ℕ) → RefusedAs bytes n k → line ≡ refused_line refused_words n k → IsRefusedBy bytes line
+no_script bytes n k line refused is = record { command = n; kind = k; no_script = refused; line_is = is }
 
 refused_by : (bytes : List ℕ) (n : ℕ) (kind : ScriptKind) (line : List ℕ)
     → IsRefusedAs bytes n kind → IsLineOf refused_words n kind line → IsRefusedBy bytes line
-refused_by bytes n refused.Syntax line fault is = no_script n syntax fault is
-refused_by bytes n (refused.Unknown name) line fault is = no_script n (unknown (string_bytes name)) fault is
-refused_by bytes n (refused.Twice name) line fault is = no_script n (twice (string_bytes name)) fault is
-refused_by bytes n refused.Dimension line fault is = no_script n dimension fault is
-refused_by bytes n (refused.Size l) line fault is = no_script n (size l) fault is
+refused_by bytes n refused.Syntax line fault is = no_script bytes n syntax line fault is
+refused_by bytes n (refused.Unknown name) line fault is = no_script bytes n (unknown (string_bytes name)) line fault is
+refused_by bytes n (refused.Twice name) line fault is = no_script bytes n (twice (string_bytes name)) line fault is
+refused_by bytes n refused.Dimension line fault is = no_script bytes n dimension line fault is
+refused_by bytes n (refused.Size l) line fault is = no_script bytes n (size l) line fault is
 refused_by bytes n refused.Memory line fault is = absurd is
 
 -- the line for a refusal was written, or a front of it

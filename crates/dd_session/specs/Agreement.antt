@@ -2,16 +2,17 @@
 use Rattle.std.specs.Prelude.{◌≡◌, ◌≤◌, ℕ, List, length, Bool}
 use Rattle.dd_certificate.specs.declared.answer.Answer.{Answer}
 use Rattle.dd_script.specs.Parts.{Parts}
+use Rattle.dd_script.specs.Scripts.{Spells}
 use Rattle.dd_session.specs.declared.status.Status.{Status}
 use Rattle.dd_session.specs.declared.status.Status.TheVariants.{Definite, SomeUnknown, Refused, ReadFault, WriteFault, Memory, BadWords, Rejected}
 use Rattle.dd_session.specs.Answers.{AllRight, has_unknown}
 use Rattle.dd_session.specs.Output.{output_of}
-use Rattle.dd_session.specs.Runs.{IsRunnable, most_bytes}
+use Rattle.dd_session.specs.Runs.{most_bytes}
 
 -- The bytes are this script, and the text is the whole output of a run over them, with a right answer to each query; some
 -- answer is that it is not known, or none is so.
 pub record IsRunOutput (bytes : List ℕ) (s : Parts) (has : Bool) (text : List ℕ) : Type 0 where
-  pub runnable : IsRunnable bytes s
+  pub spelled : Spells bytes s
   pub short : length bytes ≤ most_bytes
   pub answers : List Answer
   pub right : AllRight s s.queries answers

@@ -1,21 +1,16 @@
 -- The answers of a run, and their texts.
 use Rattle.std.specs.Prelude.{◌≡◌, ℕ, ◌+◌, List, [], ◌∷◌, ◌++◌, Bool, true, false, ◌||◌, ⊤}
-use Rattle.std.specs.List.{list_all, Contains}
+use Rattle.std.specs.List.{Contains}
 use Rattle.dd_certificate.specs.declared.answer.Answer.{Answer}
 use Rattle.dd_certificate.specs.Text.{answer_text}
 use Rattle.dd_certificate.specs.Bounds.{IsWritable}
 use Rattle.dd_query.specs.declared.queries.Query.{Query}
 use Rattle.dd_script.specs.Parts.{Parts}
-use Rattle.dd_script.specs.Questions.{is_asked}
 use Rattle.dd_answer.specs.Right.{Right, is_unknown}
 
 -- The greatest number of queries of a script.
 abbrev pub most_queries : ℕ
 most_queries = 1000
-
--- all queries of the script are of a kind that is answered, and whose answers are checked
-abbrev pub are_asked : Parts → Bool
-are_asked s = list_all is_asked s.queries
 
 -- some answer is that it is not known
 abbrev pub has_unknown : List Answer → Bool

@@ -10,7 +10,7 @@ use Rattle.dd_script.specs.Parts.{Parts}
 use Rattle.dd_script.specs.Scripts.{Spells, RefusedAs, Kind}
 use Rattle.dd_checker.specs.Certificates.{IsCertificate}
 use Rattle.dd_checker.specs.Claims.{Claim}
-use Rattle.dd_session.specs.Answers.{are_asked, has_unknown}
+use Rattle.dd_session.specs.Answers.{has_unknown}
 use Rattle.dd_session.specs.Output.{refused_line}
 
 -- The greatest number of bytes of an output that is checked.
@@ -41,10 +41,6 @@ offset_line offset = codes "refused at " ++ (decimal offset ++ codes "\n")
 -- for an output whose script is none
 abbrev pub script_line : ℕ → Kind → List ℕ
 script_line command k = refused_line (codes "refused script") command k
-
--- for an output whose script has a query of a kind that is not checked
-abbrev pub script_early_line : List ℕ
-script_early_line = codes "refused script early\n"
 
 -- ---- which answers are accepted
 
@@ -79,18 +75,15 @@ pub record IsOutput (bytes : List ℕ) (o : Output) : Type 0 where
   pub writable : IsWritableOutput o
   pub text_is : bytes ≡ output_text o
 
--- And its script is this one, of which each query is of a kind that is checked.
+-- And its script is this one.
 pub record IsCheckable (bytes : List ℕ) (o : Output) (s : Parts) : Type 0 where
   pub output : IsOutput bytes o
   pub spelled : Spells o.script s
-  pub checked : are_asked s ≡ true
 
 -- Bytes of a length that is allowed are refused by this line.
 pub data IsRefusedOutput (bytes : List ℕ) (line : List ℕ) : Type 0 where
   malformed : (offset : ℕ) → ¬ IsWellFormed bytes → IsOffset bytes offset → line ≡ offset_line offset → IsRefusedOutput bytes line
   no_script : (o : Output) → IsOutput bytes o → (command : ℕ) (k : Kind) → RefusedAs o.script command k → line ≡ script_line command k
-      → IsRefusedOutput bytes line
-  not_checked : (o : Output) → IsOutput bytes o → (s : Parts) → Spells o.script s → are_asked s ≡ false → line ≡ script_early_line
       → IsRefusedOutput bytes line
 
 -- How the text goes on after the lines of the first queries, which are accepted: by the line of the first rejected query, or

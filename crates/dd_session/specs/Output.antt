@@ -26,10 +26,6 @@ output_of bytes answers = header bytes ++ texts 1 answers ++ end_line
 abbrev pub long_line : List ℕ
 long_line = codes "refused long\n"
 
--- with a query of a kind that is not answered
-abbrev pub early_line : List ℕ
-early_line = codes "refused early\n"
-
 abbrev pub limit_text : Limit → List ℕ
 limit_text limit.Commands = codes "commands"
 limit_text limit.Word = codes "word"

@@ -10,8 +10,8 @@ use Rattle.dd_script.specs.Parts.{Parts}
 use Rattle.dd_script.specs.Scripts.{Spells, RefusedAs, Kind}
 use Rattle.dd_session.specs.declared.status.Status.{Status}
 use Rattle.dd_session.specs.declared.status.Status.TheVariants.{Definite, SomeUnknown, Refused, ReadFault, WriteFault, Memory, BadWords, Rejected}
-use Rattle.dd_session.specs.Answers.{AllRight, IsOpenAs, are_asked, has_unknown, texts}
-use Rattle.dd_session.specs.Output.{header, end_line, output_of, early_line, long_line, refused_line, refused_words}
+use Rattle.dd_session.specs.Answers.{AllRight, IsOpenAs, has_unknown, texts}
+use Rattle.dd_session.specs.Output.{header, end_line, output_of, long_line, refused_line, refused_words}
 
 -- The greatest number of bytes of a script.
 abbrev pub most_bytes : ℕ
@@ -48,22 +48,17 @@ pub record CutShort (old new : Option (List ℕ)) (bytes : List ℕ) (s : Parts)
   pub ending_is : (ending ≡ []) ⊎ ((ending ≡ end_line) × (length answers ≡ length s.queries))
   pub front : GainsFront old new (header bytes ++ texts 1 answers ++ ending)
 
--- The bytes are a script of which each query is answered.
-pub record IsRunnable (bytes : List ℕ) (s : Parts) : Type 0 where
-  pub spelled : Spells bytes s
-  pub answered : are_asked s ≡ true
-
--- The bytes are such a script, its whole output was written, and it has or has not a query without a definite answer.
+-- The bytes are a script, its whole output was written, and it has or has not a query without a definite answer.
 pub record WholeRun (old new : Option (List ℕ)) (bytes : List ℕ) (has : Bool) : Type 0 where
   pub script : Parts
-  pub runnable : IsRunnable bytes script
+  pub spelled : Spells bytes script
   pub output : WholeOutput old new bytes script has
   pub is_open : IsOpenAs has script
 
--- The bytes are such a script, and a front of its output was written.
+-- The bytes are a script, and a front of its output was written.
 pub record ShortRun (old new : Option (List ℕ)) (bytes : List ℕ) : Type 0 where
   pub script : Parts
-  pub runnable : IsRunnable bytes script
+  pub spelled : Spells bytes script
   pub output : CutShort old new bytes script
 
 -- The source gave a script to its end, and the sink gained the whole output with a right answer for each query.
@@ -80,16 +75,18 @@ pub record RanShort (left_old left_new held_old held_new : Option (List ℕ)) : 
   pub short : length bytes ≤ most_bytes
   pub run : ShortRun held_old held_new bytes
 
--- The bytes are a script of a length that is allowed, and each query is answered.
+-- The bytes are a script of a length that is allowed.
 pub record IsAccepted (bytes : List ℕ) : Type 0 where
   pub short : length bytes ≤ most_bytes
   pub script : Parts
-  pub runnable : IsRunnable bytes script
+  pub spelled : Spells bytes script
 
--- Bytes of a length that is allowed are refused by this line: they are no script, or some query is not answered.
-pub data IsRefusedBy (bytes : List ℕ) (line : List ℕ) : Type 0 where
-  no_script : (command : ℕ) (k : Kind) → RefusedAs bytes command k → line ≡ refused_line refused_words command k → IsRefusedBy bytes line
-  not_answered : (s : Parts) → Spells bytes s → are_asked s ≡ false → line ≡ early_line → IsRefusedBy bytes line
+-- Bytes of a length that is allowed are no script, and this is the line for them.
+pub record IsRefusedBy (bytes : List ℕ) (line : List ℕ) : Type 0 where
+  pub command : ℕ
+  pub kind : Kind
+  pub no_script : RefusedAs bytes command kind
+  pub line_is : line ≡ refused_line refused_words command kind
 
 -- The bytes are refused, and the line for them was written.
 pub record WholeRefusal (old new : Option (List ℕ)) (bytes : List ℕ) : Type 0 where

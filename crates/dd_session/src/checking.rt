@@ -1,10 +1,9 @@
 // The check of the answers of an output, each line written as soon as it is known.
-ghost use Rattle.std.specs.Prelude.{◌≡◌, ◌≤◌, true, length, IfOk, OnErr, IsErrOf, string_bytes};
+ghost use Rattle.std.specs.Prelude.{◌≡◌, ◌≤◌, length, IfOk, OnErr, IsErrOf, string_bytes};
 ghost use Rattle.dd_values.specs.Counts.{Rose};
 ghost use Rattle.std.specs.List.{list_any};
 ghost use Rattle.dd_answer.specs.Right.{is_unknown};
 ghost use Rattle.dd_session.specs.Answers.{most_queries};
-ghost use Rattle.dd_session.specs.Answers.{are_asked};
 ghost use Rattle.dd_session.specs.Checked.{CheckFront};
 ghost use Rattle.dd_session.specs.checking.Judged.{
   verdict_line,
@@ -47,8 +46,7 @@ fn is_accepted(
     answers: &[Answer],
     number: u32,
 ) -> Result<bool, AllocError>
-    requires numbered { 1 ≤ number }
-    requires checked { are_asked script.now ≡ true }
+    requires { 1 ≤ number }
     ensures { IfOk result (λ accepted. IsJudged script.now answers.now number accepted) }
 {
     let place = number as usize - 1;
@@ -68,8 +66,7 @@ fn check_one<K: Sink>(
     number: u32,
     sink: &mut K,
 ) -> Result<bool, RunFault>
-    requires numbered { 1 ≤ number }
-    requires checked { are_asked script.now ≡ true }
+    requires { 1 ≤ number }
     ensures wrote { IfOk result (λ accepted. Judged (K.held sink.old) (K.held sink.new) script.now answers.now number accepted) }
     ensures cut { OnErr result (JudgedFront (K.held sink.old) (K.held sink.new) script.now answers.now number) }
     ensures later { K.faults sink.old ≤ K.faults sink.new }
@@ -90,7 +87,6 @@ fn check_each<K: Sink>(
 ) -> Result<bool, RunFault>
     requires few_queries { length script.now.queries ≤ most_queries }
     requires few_answers { length answers.now ≤ most_queries }
-    requires checked { are_asked script.now ≡ true }
     ensures wrote { IfOk result (EachJudged (K.held sink.old) (K.held sink.new) script.now answers.now) }
     ensures cut { OnErr result (CheckFront (K.held sink.old) (K.held sink.new) script.now answers.now) }
     ensures later { K.faults sink.old ≤ K.faults sink.new }
@@ -116,7 +112,6 @@ pub(crate) fn check_all<K: Sink>(
 ) -> Result<bool, RunFault>
     requires few_queries { length script.now.queries ≤ most_queries }
     requires few_answers { length answers.now ≤ most_queries }
-    requires checked { are_asked script.now ≡ true }
     ensures wrote { IfOk result (AllJudged (K.held sink.old) (K.held sink.new) script.now answers.now) }
     ensures cut { OnErr result (CheckFront (K.held sink.old) (K.held sink.new) script.now answers.now) }
     ensures later { K.faults sink.old ≤ K.faults sink.new }

@@ -11,13 +11,13 @@ ghost use Rattle.dd_session.specs.checking.Judged.{checked_status};
 
 use crate::checking::{check_all, has_unknown};
 use crate::output::refused_text;
-use crate::session::{are_asked, refuse, status_of};
+use crate::session::{refuse, status_of};
 use crate::status::Status;
 use crate::stream::RunFault;
 use dd_certificate::Answer;
 use dd_output::{CertificateFault, Output, one_output, read_output};
 use dd_outside::{ReadAllFault, Sink, Source, read_all};
-use dd_script::{Script, one_script, parse, spelled_or_refused};
+use dd_script::{Script, parse, spelled_or_refused};
 use std::alloc::{AllocError, Global};
 
 // The greatest number of bytes of an output that is checked.
@@ -34,16 +34,13 @@ fn checked_status(accepted: bool, answers: &[Answer]) -> Status
     }
 }
 
-// Checks an output whose script is known, or refuses it where a query is of a kind that is not checked.
+// Checks an output whose script is known.
 fn check_script<K: Sink>(alloc: Global, output: &Output, script: &Script, sink: &mut K) -> Status
     requires writable { IsWritableOutput output.now }
     requires spelled { Spells output.now.script script.now }
     ensures checked { CheckedOver (told K.held K.faults sink.old sink.new) (output_text output.now) result }
     ensures later { K.faults sink.old ≤ K.faults sink.new }
 {
-    if !are_asked(script) {
-        return refuse(sink, b"refused script early\n");
-    }
     let answers = output.answers.as_slice();
     match check_all(alloc, script, answers, sink) {
         Ok(accepted) => checked_status(accepted, answers),
@@ -102,11 +99,11 @@ fn check<S: Source, K: Sink>(alloc: Global, source: &mut S, sink: &mut K) -> Sta
 /// Reads an output from the source, checks the answer to each query of its script, and writes what it found, line by line.
 ///
 /// An input of more than 268,435,456 bytes is refused by the line `refused long`; bytes that are no output by `refused at
-/// OFFSET`, with the number of bytes that begin one; an output whose script is none by `refused script C KIND`, with the
-/// number of the command and what is wrong with it; and one with a query of a kind that is not checked by `refused script
-/// early`. Else the line `query K accepted` is written for each query in order, and then `checked COUNT`: each answer is a
-/// certificate then, and what it claims of all infinite configurations is true. At the first query whose answer is no
-/// certificate, or that has none, and at the first answer to no query, the line `query K rejected` ends the check.
+/// OFFSET`, with the number of bytes that begin one; and an output whose script is none by `refused script C KIND`, with the
+/// number of the command and what is wrong with it. Else the line `query K accepted` is written for each query in order, and
+/// then `checked COUNT`: each answer is a certificate then, and what it claims of all infinite configurations is true. At the
+/// first query whose answer is no certificate, or that has none, and at the first answer to no query, the line `query K
+/// rejected` ends the check.
 ///
 /// Where the source fails, nothing is written; where the sink fails or memory is wanting, a front of what was to be written
 /// may have been. At most 268,435,457 bytes are taken from the source.
@@ -118,7 +115,6 @@ pub fn check_diddy<S: Source, K: Sink>(alloc: Global, source: &mut S, sink: &mut
     ensures sink_faults { K.faults sink.old ≤ K.faults sink.new }
 {
     one_output();
-    one_script();
     spelled_or_refused();
     check(alloc, source, sink)
 }

@@ -2,11 +2,10 @@
 ghost use Rattle.std.specs.Prelude.{◌≡◌, ◌≢◌, ◌+◌, ◌≤◌, ◌↔◌, ℕ, List, Some, IsTrue, [], ◌∷◌, map, codes, string_bytes, length};
 ghost use Rattle.dd_outside.specs.Bytes.{GivesAtMost};
 ghost use Rattle.dd_script.specs.Scripts.{Spells};
-ghost use Rattle.dd_session.specs.Answers.{are_asked};
 ghost use Rattle.dd_session.specs.Checks.{most_checked};
 ghost use Rattle.dd_session.specs.Checked.{CheckEnded, CheckDecides};
 ghost use Rattle.dd_session.specs.Words.{IsOnly, AreBad};
-ghost use Rattle.dd_session.specs.Runs.{told, status_of, RefusedBy, RanOver, Ended, Decides, IsRunnable, most_bytes};
+ghost use Rattle.dd_session.specs.Runs.{told, status_of, RefusedBy, RanOver, Ended, Decides, most_bytes};
 
 use crate::checks::check_diddy;
 use crate::output::refused_text;
@@ -14,7 +13,7 @@ use crate::status::Status;
 use crate::stream::{RunFault, run_script};
 use dd_answer::one_line;
 use dd_outside::{ReadAllFault, Sink, Source, WriteFault, read_all, write_whole};
-use dd_script::{Script, is_asked, one_script, parse, spelled_or_refused};
+use dd_script::{Script, parse, spelled_or_refused};
 use std::alloc::{AllocError, Global};
 
 // The greatest number of bytes of a script.
@@ -48,7 +47,7 @@ pub(crate) fn refuse<K: Sink>(sink: &mut K, line: &[u8]) -> Status
 
 // Runs an accepted script.
 fn run_accepted<K: Sink>(alloc: Global, bytes: &[u8], script: &Script, sink: &mut K) -> Status
-    requires { IsRunnable bytes.now script.now }
+    requires { Spells bytes.now script.now }
     ensures ran { RanOver (told K.held K.faults sink.old sink.new) bytes.now result }
     ensures later { K.faults sink.old ≤ K.faults sink.new }
 {
@@ -71,25 +70,6 @@ pub(crate) fn status_of(has_unknown: bool) -> Status
     }
 }
 
-/// Whether all queries are of a kind that is answered, and whose answers are checked.
-pub(crate) fn are_asked(script: &Script) -> bool
-    ensures { result ≡ are_asked script.now }
-{
-    script.queries().iter().all(|query| is_asked(query))
-}
-
-// Runs a script, or refuses it where a query is of a kind that is not answered.
-fn run_parsed<K: Sink>(alloc: Global, bytes: &[u8], script: &Script, sink: &mut K) -> Status
-    requires { Spells bytes.now script.now }
-    ensures ran { RanOver (told K.held K.faults sink.old sink.new) bytes.now result }
-    ensures later { K.faults sink.old ≤ K.faults sink.new }
-{
-    if !are_asked(script) {
-        return refuse(sink, b"refused early\n");
-    }
-    run_accepted(alloc, bytes, script, sink)
-}
-
 // Runs an input that is not too long.
 fn run_bytes<K: Sink>(alloc: Global, bytes: &[u8], sink: &mut K) -> Status
     requires { length bytes.now ≤ most_bytes }
@@ -97,7 +77,7 @@ fn run_bytes<K: Sink>(alloc: Global, bytes: &[u8], sink: &mut K) -> Status
     ensures later { K.faults sink.old ≤ K.faults sink.new }
 {
     match parse(alloc, bytes) {
-        Ok(script) => run_parsed(alloc, bytes, &script, sink),
+        Ok(script) => run_accepted(alloc, bytes, &script, sink),
         Err(fault) => match refused_text(alloc, "refused", fault.command, &fault.kind) {
             Ok(line) => refuse(sink, line.as_bytes()),
             Err(AllocError) => Status::Memory,
@@ -126,9 +106,8 @@ fn run<S: Source, K: Sink>(alloc: Global, source: &mut S, sink: &mut K) -> Statu
 /// each list of an answer is within the bounds of an output. Some answer is that it is not known exactly where the status
 /// says so, and this is a matter of the script. With `check` it does what `check_diddy` does. Other words do nothing.
 ///
-/// With `run`, an input of more than 1,048,576 bytes is refused by the line `refused long`; one that is no script by
-/// `refused C KIND`, with the number of the command and what is wrong with it; and a script with a query
-/// of a kind that is not answered by `refused early`. Nothing is run then. Where
+/// With `run`, an input of more than 1,048,576 bytes is refused by the line `refused long`, and one that is no script by
+/// `refused C KIND`, with the number of the command and what is wrong with it. Nothing is run then. Where
 /// the source fails, nothing is written; where the sink fails or memory is wanting, a front of what was
 /// to be written may have been. At most 1,048,577 bytes are taken from the source.
 pub fn run_diddy<S: Source, K: Sink>(
@@ -156,7 +135,6 @@ pub fn run_diddy<S: Source, K: Sink>(
     ensures sink_faults { K.faults sink.old ≤ K.faults sink.new }
 {
     if is_only(words, "run") {
-        one_script();
         spelled_or_refused();
         return run(alloc, source, sink);
     }

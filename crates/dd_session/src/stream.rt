@@ -1,11 +1,11 @@
 // The output of a script, each part written as soon as it is made.
-ghost use Rattle.std.specs.Prelude.{◌≡◌, ◌≤◌, ◌∷◌, [], true, length, Contains, IfOk, OnErr, IsErrOf};
+ghost use Rattle.std.specs.Prelude.{◌≡◌, ◌≤◌, ◌∷◌, [], length, Contains, IfOk, OnErr, IsErrOf};
 ghost use Rattle.dd_values.specs.Counts.{Rose};
-ghost use Rattle.dd_script.specs.Questions.{is_asked};
+ghost use Rattle.dd_script.specs.Scripts.{Spells};
 ghost use Rattle.dd_answer.specs.Right.{is_unknown};
 ghost use Rattle.dd_session.specs.declared.stream.RunFault.TheVariants.{WriteFault, Memory};
-ghost use Rattle.dd_session.specs.Answers.{are_asked, most_queries};
-ghost use Rattle.dd_session.specs.Runs.{Answered, AnsweredFront, WholeOutput, CutShort, IsRunnable};
+ghost use Rattle.dd_session.specs.Answers.{most_queries};
+ghost use Rattle.dd_session.specs.Runs.{Answered, AnsweredFront, WholeOutput, CutShort};
 
 use crate::output::header_text;
 use dd_answer::answer;
@@ -52,8 +52,7 @@ fn answer_one<K: Sink>(
     number: u32,
     sink: &mut K,
 ) -> Result<bool, RunFault>
-    requires asked { Contains script.now.queries query.now }
-    requires answered { is_asked query.now ≡ true }
+    requires { Contains script.now.queries query.now }
     ensures wrote { IfOk result (λ unknown. Answered (K.held sink.old) (K.held sink.new) script.now (query.now ∷ []) number unknown) }
     ensures cut { OnErr result (AnsweredFront (K.held sink.old) (K.held sink.new) script.now (query.now ∷ []) number) }
     ensures later { K.faults sink.old ≤ K.faults sink.new }
@@ -66,10 +65,9 @@ fn answer_one<K: Sink>(
 }
 
 // Answers all queries in order, and writes each text before the next answer is made. True where an answer is unknown.
-#[tactic(auto, using(crate::proofs::Asked::asked_at, crate::proofs::Asked::answered_at, crate::proofs::Streamed::answered_next))]
+#[tactic(auto, using(crate::proofs::Asked::asked_at, crate::proofs::Streamed::answered_next))]
 fn answer_all<K: Sink>(alloc: Global, script: &Script, sink: &mut K) -> Result<bool, RunFault>
-    requires few { length script.now.queries ≤ most_queries }
-    requires answered { are_asked script.now ≡ true }
+    requires { length script.now.queries ≤ most_queries }
     ensures wrote { IfOk result (λ unknown. Answered (K.held sink.old) (K.held sink.new) script.now script.now.queries 1 unknown) }
     ensures cut { OnErr result (AnsweredFront (K.held sink.old) (K.held sink.new) script.now script.now.queries 1) }
     ensures later { K.faults sink.old ≤ K.faults sink.new }
@@ -90,7 +88,7 @@ pub(crate) fn run_script<K: Sink>(
     script: &Script,
     sink: &mut K,
 ) -> Result<bool, RunFault>
-    requires { IsRunnable bytes.now script.now }
+    requires { Spells bytes.now script.now }
     ensures whole { IfOk result (λ unknown. WholeOutput (K.held sink.old) (K.held sink.new) bytes.now script.now unknown) }
     ensures cut { OnErr result (CutShort (K.held sink.old) (K.held sink.new) bytes.now script.now) }
     ensures later { K.faults sink.old ≤ K.faults sink.new }

@@ -4,5 +4,5 @@ use Rattle.dd_session.proofs.checks.check_diddy.Goals as goal
 
 pub returns-clause-decided : goal.returns-clause-decided
 returns-clause-decided g c =
-    check_decided c.one_output.ensures c.one_script.ensures c.spelled_or_refused.ensures.never_both
+    check_decided c.one_output.ensures c.spelled_or_refused.ensures.never_both
     (told g.S.Source.left g.S.Source.faults c.args.source.now c.check.new.source) (told g.K.Sink.held g.K.Sink.faults c.args.sink.now c.check.new.sink) _ c.check.ensures.ended

@@ -1,15 +1,6 @@
-use Rattle.std.proofs.Common.{◌≡◌, inl, true, false, rules}
-use Rattle.dd_output.specs.Outputs.{output_text}
-use Rattle.dd_session.specs.Answers.{are_asked}
-use Rattle.dd_session.specs.Checked.{ShortCheck}
 use Rattle.dd_session.proofs.Numbered.{few_queries}
-use Rattle.dd_session.proofs.CheckedOver.{early_over, judged_over, short_over, few_answers}
+use Rattle.dd_session.proofs.CheckedOver.{judged_over, few_answers}
 use Rattle.dd_session.proofs.checks.check_script.Goals as goal
-
-pub returns-then-not-are_asked-clause-checked : goal.returns-then-not-are_asked-clause-checked
-returns-then-not-are_asked-clause-checked g c =
-    let none : are_asked c.args.script.now ≡ false = search rules in
-    early_over _ c.args.output.now c.args.script.now _ c.requires.writable c.requires.spelled none c.refuse.ensures.wrote
 
 pub check_all-requires-clause-few_queries : goal.check_all-requires-clause-few_queries
 check_all-requires-clause-few_queries g c = few_queries c.args.output.now.script c.args.script.now c.requires.spelled
@@ -19,6 +10,5 @@ check_all-requires-clause-few_answers g c = few_answers c.args.output.now c.as_s
 
 pub returns-in-Ok-clause-checked : goal.returns-in-Ok-clause-checked
 returns-in-Ok-clause-checked g c =
-    let all : are_asked c.args.script.now ≡ true = search rules in
-    judged_over _ c.args.output.now c.args.script.now c.as_slice-answers.result.now c.in-Ok.accepted _ c.requires.writable c.requires.spelled all
+    judged_over _ c.args.output.now c.args.script.now c.as_slice-answers.result.now c.in-Ok.accepted _ c.requires.writable c.requires.spelled
     c.as_slice-answers.ensures c.in-Ok.ensures.wrote c.checked_status.ensures

@@ -12,7 +12,7 @@ pub returns-then-is_only-clause-kept : goal.returns-then-is_only-clause-kept
 returns-then-is_only-clause-kept g c = λ e. absurd (c.run.ensures.ran e)
 
 pub returns-then-is_only-clause-run_decided : goal.returns-then-is_only-clause-run_decided
-returns-then-is_only-clause-run_decided g c = λ _. decided c.one_script.ensures c.spelled_or_refused.ensures.never_both _ _ _ c.run.ensures.ended
+returns-then-is_only-clause-run_decided g c = λ _. decided c.spelled_or_refused.ensures.never_both _ _ _ c.run.ensures.ended
 
 pub returns-then-is_only-clause-checked : goal.returns-then-is_only-clause-checked
 returns-then-is_only-clause-checked g c = λ other. absurd (different _ (c.is_only.ensures.0 c.if-is_only.true) other)

@@ -4,8 +4,8 @@ use Rattle.dd_session.proofs.Numbered.{few_queries}
 use Rattle.dd_session.proofs.Streamed.{cut_at_start, cut_in_header, cut_in_answers, cut_at_end}
 use Rattle.dd_session.proofs.stream.run_script.Goals as goal
 
-pub answer_all-requires-clause-few : goal.answer_all-requires-clause-few
-answer_all-requires-clause-few g c = few_queries c.args.bytes.now c.args.script.now c.requires.spelled
+pub answer_all-requires : goal.answer_all-requires
+answer_all-requires g c = few_queries c.args.bytes.now c.args.script.now c.requires
 
 pub returns-in_err-header-clause-cut : goal.returns-in_err-header-clause-cut
 returns-in_err-header-clause-cut g c =
