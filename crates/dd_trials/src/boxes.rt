@@ -1,17 +1,19 @@
 // A box of at most three cells: the assignments that satisfy its clauses are the admissible fillings with the goal.
 ghost use Rattle.std.specs.Prelude.{◌<◌, ◌≤◌, IfSome};
 ghost use Rattle.std.specs.List.{All};
-ghost use Rattle.dd_boxes.specs.Goals.{IsGoalFor};
-ghost use Rattle.dd_boxes.specs.Views.{goal_of};
+ghost use Rattle.dd_formula.specs.Automata.{IsAutomaton};
+ghost use Rattle.dd_boxes.specs.Goals.{IsGoalFor, AreOver};
+ghost use Rattle.dd_boxes.specs.Views.{numbers_of, goal_of};
 
 use crate::fillings::{at_origin, digits, filling, truth};
-use crate::questions::{can_be_asked, clauses_of};
+use crate::questions::clauses_of;
 use crate::scripts::script_of;
 use dd_clause::{Assignment, Cnf, satisfies};
-use dd_formula::Rule;
+use dd_formula::{Automaton, Rule};
 use dd_lattice::{Cell, centred_box, positions};
 use dd_pattern::Filling;
 use dd_problem::Goal;
+use dd_script::{Question, Script};
 use std::alloc::{AllocError, Global};
 use std::test::Fail;
 
@@ -96,7 +98,46 @@ fn is_broken(rule: &Rule, filling: &Filling) -> Result<bool, Fail>
     Ok(false)
 }
 
-fn has_goal(goal: &Goal, filling: &Filling) -> Result<bool, Fail> {
+/// The symbol that the automaton gives a node of the origin, or `None` where something that it reads isn't given.
+fn value(
+    alloc: Global,
+    premise: &Rule,
+    automaton: &Automaton,
+    node: u32,
+    filling: &Filling,
+) -> Result<Option<u32>, AllocError>
+    requires formed { IsAutomaton (numbers_of premise.now) automaton.now }
+    requires node { node < premise.now.nodes }
+    requires below { All (λ s. s < premise.now.symbols) filling.now.symbols }
+{
+    automaton.value(alloc, &at_origin(node), filling)
+}
+
+/// Whether the automata give different symbols at some node of the origin.
+fn differ(
+    alloc: Global,
+    premise: &Rule,
+    left: &Automaton,
+    right: &Automaton,
+    filling: &Filling,
+) -> Result<bool, AllocError>
+    requires over { AreOver premise.now (numbers_of premise.now) left.now right.now }
+    requires below { All (λ s. s < premise.now.symbols) filling.now.symbols }
+{
+    for node in 0..premise.nodes() {
+        let first = value(alloc, premise, left, node, filling)?;
+        let second = value(alloc, premise, right, node, filling)?;
+        if first != second {
+            return Ok(true);
+        }
+    }
+    Ok(false)
+}
+
+fn has_goal(alloc: Global, premise: &Rule, goal: &Goal, filling: &Filling) -> Result<bool, Fail>
+    requires goal { IsGoalFor premise.now (goal_of premise.now goal.now) }
+    requires below { All (λ s. s < premise.now.symbols) filling.now.symbols }
+{
     match goal {
         Goal::Breaks(rule) => {
             if !filling.symbols().iter().all(|s| *s < rule.symbols()) {
@@ -104,6 +145,7 @@ fn has_goal(goal: &Goal, filling: &Filling) -> Result<bool, Fail> {
             }
             is_broken(rule, filling)
         }
+        Goal::Differ(left, right) => Ok(differ(alloc, premise, left, right, filling)?),
         Goal::Always => Ok(true),
     }
 }
@@ -129,7 +171,9 @@ fn box_cells(alloc: Global, rule: &Rule, radius: u32) -> Result<Vec<Cell>, Fail>
 }
 
 /// Which fillings of the cells are admissible and have the goal at the origin, by number: 1 where one is, else 0.
-fn admissible(alloc: Global, rule: &Rule, goal: &Goal, cells: &[Cell]) -> Result<[u32; 8], Fail> {
+fn admissible(alloc: Global, rule: &Rule, goal: &Goal, cells: &[Cell]) -> Result<[u32; 8], Fail>
+    requires { IsGoalFor rule.now (goal_of rule.now goal.now) }
+{
     let fillings = match cells.len() {
         1 => 2,
         2 => 4,
@@ -139,7 +183,9 @@ fn admissible(alloc: Global, rule: &Rule, goal: &Goal, cells: &[Cell]) -> Result
     let mut wanted = [0; 8];
     for (number, times) in (0..fillings).zip(wanted.iter_mut()) {
         let filling = filling(alloc, cells, rule.symbols(), number)?;
-        *times = u32::from(is_admissible(rule, &filling, cells)? && has_goal(goal, &filling)?);
+        *times = u32::from(
+            is_admissible(rule, &filling, cells)? && has_goal(alloc, rule, goal, &filling)?,
+        );
     }
     Ok(wanted)
 }
@@ -159,19 +205,18 @@ fn compared(
     Ok((found, admissible(alloc, premise, goal, &cells)?))
 }
 
-/// The same for rules: the first is the premise, and the goal is to break the second, if there is one.
-fn compared_rules(
+/// The same of the script's first box question.
+fn compared_query(
     alloc: Global,
-    rules: &[Rule],
+    script: &Script,
     radius: u32,
 ) -> Result<([u32; 8], [u32; 8]), Fail> {
-    match rules {
-        [premise] => compared(alloc, premise, &Goal::Always, radius),
-        [premise, broken] if can_be_asked(premise, broken) => {
-            compared(alloc, premise, &Goal::Breaks(broken), radius)
+    for query in script.queries() {
+        if let Question::Box { premise, goal } = script.question(query) {
+            return compared(alloc, premise, &goal, radius);
         }
-        _ => Err("one rule, or two over the same cells".into()),
     }
+    Err("a box question".into())
 }
 
 fn compared_script(
@@ -180,7 +225,7 @@ fn compared_script(
     radius: u32,
 ) -> Result<([u32; 8], [u32; 8]), Fail> {
     let script = script_of(alloc, script)?;
-    compared_rules(alloc, script.rules(), radius)
+    compared_query(alloc, &script, radius)
 }
 
 fn total(counts: &[u32; 8]) -> u32 {
@@ -191,29 +236,60 @@ fn total(counts: &[u32; 8]) -> u32 {
     total
 }
 
-// A topology, a premise, a rule that the goal breaks, a radius, and the number of admissible fillings with the goal.
+// A topology, a premise, a query with the rules and automata that it names, a radius, and the number of admissible fillings with the goal.
 #[test]
 fn every_assignment(rt: HostRuntime) -> Result<(), Fail> {
     let two = "%dim 1 %nodes a b %topology (x a [0] b) (y b [0] a)";
-    for (head, premise, broken, radius, wanted) in [
-        ("%dim 1", "o=1 -> o.rt=0", "", 1, 5),
-        ("%dim 1", "o.lt=o.rt", "", 1, 4),
-        ("%dim 1", "Ep[o1] p=1", "", 1, 7),
-        ("%dim 1", "o=1 -> o.rt=0", "%rule y o=1 -> o.lt=0", 1, 0),
-        ("%dim 1", "o=1 -> o.rt=0", "%rule y Ep[o1] p=1", 1, 1),
-        ("%dim 1", "o.lt=o.rt", "%rule y o=1 -> o.rt=0", 1, 1),
-        ("%dim 1", "Ep[o1] p=1", "%rule y o.lt=o.rt", 1, 4),
-        (two, "o:a -> o.x=1", "", 0, 2),
-        (two, "o:a -> o.x=1", "%rule y o=1", 0, 1),
-        (two, "o.x=1 | o.y=0", "", 0, 1),
-        ("%dim 2", "o=1", "", 0, 1),
-        ("%dim 2", "o=1 & o.rt=0", "", 0, 2),
-        ("%dim 2", "o=1 -> o.up=0", "%rule y o=0", 0, 1),
+    let id = "%auto f when o=1 give 1 else 0 %auto g else 0 %same f g x";
+    let opposite = "%auto f when o=1 give 1 else 0 %auto g when o=1 give 0 else 1 %same f g x";
+    let twice = "%auto f when o=1 give 0 else 1 %compose h f f %auto g else 0 %same h g x";
+    for (head, premise, query, radius, wanted) in [
+        ("%dim 1", "o=1 -> o.rt=0", "%empty x", 1, 5),
+        ("%dim 1", "o.lt=o.rt", "%empty x", 1, 4),
+        ("%dim 1", "Ep[o1] p=1", "%empty x", 1, 7),
+        (
+            "%dim 1",
+            "o=1 -> o.rt=0",
+            "%rule y o=1 -> o.lt=0 %contains y x",
+            1,
+            0,
+        ),
+        (
+            "%dim 1",
+            "o=1 -> o.rt=0",
+            "%rule y Ep[o1] p=1 %contains y x",
+            1,
+            1,
+        ),
+        (
+            "%dim 1",
+            "o.lt=o.rt",
+            "%rule y o=1 -> o.rt=0 %contains y x",
+            1,
+            1,
+        ),
+        (
+            "%dim 1",
+            "Ep[o1] p=1",
+            "%rule y o.lt=o.rt %contains y x",
+            1,
+            4,
+        ),
+        (two, "o:a -> o.x=1", "%empty x", 0, 2),
+        (two, "o:a -> o.x=1", "%rule y o=1 %contains y x", 0, 1),
+        (two, "o.x=1 | o.y=0", "%empty x", 0, 1),
+        ("%dim 2", "o=1", "%empty x", 0, 1),
+        ("%dim 2", "o=1 & o.rt=0", "%empty x", 0, 2),
+        ("%dim 2", "o=1 -> o.up=0", "%rule y o=0 %contains y x", 0, 1),
+        ("%dim 1", "o@o", id, 0, 1),
+        ("%dim 1", "o=0", id, 0, 0),
+        ("%dim 1", "o@o", opposite, 0, 2),
+        ("%dim 1", "o=1", twice, 0, 1),
     ] {
-        let script = [head, " %rule x ", premise, " ", broken];
+        let script = [head, " %rule x ", premise, " ", query];
         let (found, fillings) = compared_script(rt.alloc(), &script, radius)?;
-        assert_eq!(rt; found, fillings, "{premise} {broken}");
-        assert_eq!(rt; total(&found), wanted, "{premise} {broken}");
+        assert_eq!(rt; found, fillings, "{premise} {query}");
+        assert_eq!(rt; total(&found), wanted, "{premise} {query}");
     }
     Ok(())
 }

@@ -46,7 +46,9 @@ pub(crate) fn filling(
 }
 
 /// The cell of a node at the origin.
-pub(crate) fn at_origin(node: u32) -> Cell {
+pub(crate) fn at_origin(node: u32) -> Cell
+    ensures { result.node ≡ node }
+{
     Cell {
         position: Position { x: 0, y: 0, z: 0 },
         node,

@@ -3,33 +3,28 @@ ghost use Rattle.std.specs.Prelude.{◌≡◌, ◌≤◌, ◌+◌, IsTrue, IfOk}
 ghost use Rattle.dd_formula.specs.Counts.{cut};
 ghost use Rattle.dd_boxes.specs.Boxes.{Reaches};
 ghost use Rattle.dd_boxes.specs.Counts.{goal_clauses};
-ghost use Rattle.dd_boxes.specs.Goals.{IsGoalFor, breaks};
+ghost use Rattle.dd_boxes.specs.Goals.{IsGoalFor};
 ghost use Rattle.dd_boxes.specs.Laws.{OneBox};
 ghost use Rattle.dd_boxes.specs.Views.{goal_of};
 
 use dd_boxes::one_box;
 use dd_clause::Cnf;
-use dd_counts::{broken_clauses, place_clauses};
+use dd_counts::{broken_clauses, differ_clauses, place_clauses};
 use dd_formula::Rule;
 use dd_problem::{Goal, box_clauses, least_radius};
 use std::alloc::{AllocError, Global};
 use std::test::Fail;
 
-/// Whether the goal of breaking a rule can be asked of the other.
-pub(crate) fn can_be_asked(premise: &Rule, broken: &Rule) -> bool
-    ensures { IsTrue result → IsGoalFor premise.now (breaks broken.now) }
-{
-    premise.dim() == broken.dim()
-        && premise.nodes() == broken.nodes()
-        && premise.symbols() == broken.symbols()
-}
-
-fn goal_clauses(premise: &Rule, goal: &Goal) -> u32
-    ensures { result ≡ cut 1000 (goal_clauses (goal_of premise.now goal.now)) }
+fn goal_clauses(alloc: Global, premise: &Rule, goal: &Goal) -> Result<u32, AllocError>
+    requires { IsGoalFor premise.now (goal_of premise.now goal.now) }
+    ensures { IfOk result (λ n. n ≡ cut 1000 (goal_clauses (goal_of premise.now goal.now))) }
 {
     match goal {
-        Goal::Breaks(rule) => broken_clauses(rule, 1000),
-        Goal::Always => 0,
+        Goal::Breaks(rule) => Ok(broken_clauses(rule, 1000)),
+        Goal::Differ(left, right) => {
+            differ_clauses(alloc, left, right, premise.nodes(), premise.symbols(), 1000)
+        }
+        Goal::Always => Ok(0),
     }
 }
 
@@ -64,7 +59,8 @@ pub(crate) fn clauses_of(
     if !reaches(alloc, premise, goal, radius)? {
         return Err("a box that holds what the goal reads".into());
     }
-    if place_clauses(premise, 1000) > 1000 || goal_clauses(premise, goal) > 1000 {
+    let goals = goal_clauses(alloc, premise, goal)?;
+    if place_clauses(premise, 1000) > 1000 || goals > 1000 {
         return Err("few clauses".into());
     }
     match (premise.dim(), radius) {

@@ -1,44 +1,6 @@
 // Box questions, by their answers' first lines.
-use crate::runs::{assert_answers, words_of};
-use dd_outside::{MemorySink, MemorySource};
-use dd_session::{Status, run_diddy};
-use std::alloc::Global;
-use std::process::Abort;
+use crate::runs::{assert_answers, assert_lines};
 use std::test::Fail;
-
-// The status of a run over these bytes, and the first lines of its answers.
-fn answer_lines(alloc: Global, script: &str) -> Result<(Status, String), Fail> {
-    let words = words_of(alloc, "run")?;
-    let bytes = Vec::from_slice(alloc, script.as_bytes())?;
-    let mut source = MemorySource::new(bytes, 1_000, Vec::new(alloc));
-    let mut sink = MemorySink::new(alloc, 1_000_000, 1_000_000, Vec::new(alloc))?;
-    let status = run_diddy(alloc, &words, &mut source, &mut sink);
-    let mut lines = String::new(alloc);
-    let output = String::from_utf8(Vec::from_slice(alloc, sink.held_bytes())?)?;
-    for line in output.lines() {
-        if line.starts_with("query ") {
-            lines.push_str(line)?;
-            lines.push('\n')?;
-        }
-    }
-    Ok((status, lines))
-}
-
-// Asserts that each script has the first lines of answers that stand beside it, and the status that tells whether one is
-// unknown.
-fn assert_lines(rt: &impl Abort, alloc: Global, rows: &[(&str, &str)]) -> Result<(), Fail> {
-    for (script, answers) in rows {
-        let (status, lines) = answer_lines(alloc, script)?;
-        assert_eq!(rt; lines.as_str(), *answers, "{script}");
-        let wanted = if answers.contains("UNKNOWN") {
-            Status::SomeUnknown
-        } else {
-            Status::Definite
-        };
-        assert_eq!(rt; status, wanted, "{script}");
-    }
-    Ok(())
-}
 
 // Rules that contain others or are equal to them, and the least box that shows that they are not.
 const CONTAINED_OR_EQUAL: [(&str, &str); 5] = [

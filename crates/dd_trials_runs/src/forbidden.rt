@@ -1,13 +1,9 @@
 // Forbidden patterns: the lists that runs write, and what a check makes of each, and of lists that are not theirs.
-use crate::runs::{assert_answers, run_on};
-use dd_outside::{MemorySink, MemorySource};
-use dd_session::{Status, check_diddy};
-use std::alloc::Global;
-use std::process::Abort;
+use crate::runs::{assert_answers, assert_checks};
 use std::test::Fail;
 
 // Scripts, and the lines of their answers.
-const LISTS: [(&str, &str); 6] = [
+const LISTS: [(&str, &str); 10] = [
     // The cells are the origin, the one to the right and the one above.
     (
         "%rule hard o=1 -> (o.rt=0 & o.up=0) %forbidden hard",
@@ -29,10 +25,28 @@ const LISTS: [(&str, &str); 6] = [
         "%dim 1 %alphabet 0 1 2 %only 0 0 2 %rule a o=1 | o.rt=0 %forbidden a",
         "query 1 LIST 2\npattern 0 0 2\npattern 0 2 2\n",
     ),
+    // A third symbol that isn't allowed leaves the three patterns as they were; where it is allowed, there are eight.
+    (
+        "%alphabet 0 1 2 %only 0 0 1 %rule hard o=1 -> (o.rt=0 & o.up=0) %forbidden hard",
+        "query 1 LIST 3\npattern 0 1 0 1\npattern 0 1 1 0\npattern 0 1 1 1\n",
+    ),
+    (
+        "%alphabet 0 1 2 %rule hard o=1 -> (o.rt=0 & o.up=0) %forbidden hard",
+        "query 1 LIST 8\npattern 0 1 0 1\npattern 0 1 0 2\npattern 0 1 1 0\npattern 0 1 1 1\npattern 0 1 1 2\npattern 0 1 2 0\npattern 0 1 2 1\npattern 0 1 2 2\n",
+    ),
     // One node after the other.
     (
         "%topology hex %rule free Ap[o1] (p~o -> !(p=1 & o=1)) %rule q o=0 %forbidden q",
         "query 1 LIST 2\npattern 0 1\npattern 1 1\n",
+    ),
+    // Each node has its own allowed symbols, and the cells that it reads have theirs.
+    (
+        "%dim 1 %nodes a b %topology (x a [0] b) (x b [0] a) %only b 1 %rule p o=0 %forbidden p",
+        "query 1 LIST 2\npattern 0 1\npattern 1 1\n",
+    ),
+    (
+        "%dim 1 %nodes a b %topology (x a [0] b) (x b [0] a) %only b 1 %rule p o=o.x %forbidden p",
+        "query 1 LIST 2\npattern 0 0 1\npattern 1 0 1\n",
     ),
 ];
 
@@ -51,42 +65,10 @@ const CHECKED: [(&str, bool); 5] = [
     ("query 1 UNKNOWN limits\n", false),
 ];
 
-fn status_of_check(alloc: Global, bytes: &[u8]) -> Result<Status, Fail> {
-    let mut source = MemorySource::new(Vec::from_slice(alloc, bytes)?, 7, Vec::new(alloc));
-    let mut sink = MemorySink::new(alloc, 400, 5, Vec::new(alloc))?;
-    Ok(check_diddy(alloc, &mut source, &mut sink))
-}
-
-// Asserts that a check accepts the output of a run over each script.
-fn assert_accepted(rt: &impl Abort, alloc: Global, rows: &[(&str, &str)]) -> Result<(), Fail> {
-    for (script, _) in rows {
-        let (status, output) = run_on(alloc, script.as_bytes())?;
-        assert_eq!(rt; status_of_check(alloc, &output)?, status, "{script}");
-    }
-    Ok(())
-}
-
 #[test]
 fn lists_forbidden_patterns(rt: HostRuntime) -> Result<(), Fail> {
     let alloc = rt.alloc();
     assert_answers(&rt, alloc, &LISTS)?;
-    assert_accepted(&rt, alloc, &LISTS)?;
     let (script, _) = LISTS[0];
-    for (answers, accepted) in CHECKED {
-        let output = format!(in alloc;
-            "diddy 1\nscript {}\n{script}\n{answers}end\n",
-            script.len()
-        )?;
-        let wanted = if accepted {
-            Status::Definite
-        } else {
-            Status::Rejected
-        };
-        assert_eq!(&rt;
-            status_of_check(alloc, output.as_bytes())?,
-            wanted,
-            "{answers}"
-        );
-    }
-    Ok(())
+    assert_checks(&rt, alloc, script, &CHECKED)
 }

@@ -3,9 +3,15 @@
 #![tactic(auto)]
 
 #[cfg(test)]
+mod automata;
+#[cfg(test)]
+mod bounds;
+#[cfg(test)]
 mod boxes;
 #[cfg(test)]
 mod checks;
+#[cfg(test)]
+mod densities;
 #[cfg(test)]
 mod forbidden;
 #[cfg(test)]

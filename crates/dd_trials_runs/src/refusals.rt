@@ -38,8 +38,9 @@ const NOT_WELL_FORMED: [(&[u8], &str); 17] = [
 ];
 
 // Names that are unknown or given twice.
-const FAULTS_OF_NAMES: [(&[u8], &str); 13] = [
+const FAULTS_OF_NAMES: [(&[u8], &str); 15] = [
     (b"%rule a o=0 %member c a", "2 unknown c"),
+    (b"%rule a o=0 %auto n else 0 %same n m a", "3 unknown m"),
     (b"%rule a o=2", "1 unknown 2"),
     (b"%rule a o.no=0", "1 unknown no"),
     (b"%rule a Ap[q1] p=1", "1 unknown q"),
@@ -49,6 +50,8 @@ const FAULTS_OF_NAMES: [(&[u8], &str); 13] = [
     (b"%rule a o=0 %rule a o=2", "2 unknown 2"),
     (b"%rule a o=1000001", "1 unknown 1000001"),
     (b"%rule a o=0 %rule a o=1", "2 twice a"),
+    // Nothing is answered before a fault.
+    (b"%rule a o=0 %forbidden a %rule a o=0", "3 twice a"),
     (b"%rule a o=0 %conf a [1 1] 0", "2 twice a"),
     (b"%rule a Ao[o1] o=1", "1 twice o"),
     (b"%alphabet 0 0", "1 twice 0"),
@@ -85,8 +88,8 @@ const FAULTS_OF_NODES_AND_SHEARS: [(&[u8], &str); 9] = [
     (b"%conf c [3 1] [-1] 0 1 0", "1 syntax"),
 ];
 
-// With limits that are just not passed, by queries that are not answered.
-const PAST_A_LIMIT: [(&[u8], &str); 18] = [
+// Limits that are passed.
+const PAST_A_LIMIT: [(&[u8], &str); 15] = [
     (
         b"%rule aaaaaaaaaaaaaaaaaaaaaaaaaaaaaaaaa o=0",
         "1 size word",
@@ -103,20 +106,13 @@ const PAST_A_LIMIT: [(&[u8], &str); 18] = [
     (b"%rule a o=0 %discharge a 0 0 [5 0]", "2 size vectors"),
     (b"%rule big Ep[o3] p=1 %forbidden big", "2 size patterns"),
     (b"%rule dom Ep[o1] p=1 %density dom [6]", "2 size states"),
-    (b"%rule dom Ep[o1] p=1 %density dom [5]", "early"),
     (
         b"%rule hard o=1 -> (o.rt=0 & o.up=0) %density hard [9]",
         "2 size states",
     ),
     (
-        b"%rule hard o=1 -> (o.rt=0 & o.up=0) %density hard [8]",
-        "early",
-    ),
-    // A fault is told before a query that is not answered.
-    (b"%rule a o=0 %forbidden a %rule a o=0", "3 twice a"),
-    (
-        b"%rule a o=0 %conf z [1 1] 0 %member z a %density a [1]",
-        "early",
+        b"%dim 3 %limits 8 8 10 %rule big Ap[o3] p=o %auto n else 0 %same n n big",
+        "5 size clauses",
     ),
 ];
 

@@ -1,6 +1,6 @@
 // Whole runs over bytes in memory.
 use dd_outside::{MemorySink, MemorySource};
-use dd_session::{Status, run_diddy};
+use dd_session::{Status, check_diddy, run_diddy};
 use std::alloc::{AllocError, Global};
 use std::process::Abort;
 use std::test::Fail;
@@ -20,28 +20,113 @@ pub(crate) fn words_of(alloc: Global, word: &str) -> Result<Vec<String>, AllocEr
 pub(crate) fn run_on(alloc: Global, bytes: &[u8]) -> Result<(Status, Vec<u8>), AllocError> {
     let words = words_of(alloc, "run")?;
     let mut source = MemorySource::new(Vec::from_slice(alloc, bytes)?, 7, Vec::new(alloc));
-    let mut sink = MemorySink::new(alloc, 400, 5, Vec::new(alloc))?;
+    let mut sink = MemorySink::new(alloc, 1_000_000, 5, Vec::new(alloc))?;
     let status = run_diddy(alloc, &words, &mut source, &mut sink);
     Ok((status, Vec::from_slice(alloc, sink.held_bytes())?))
 }
 
-/// The whole output for a script with these lines of answers.
+// The status of a check of these bytes.
+fn check_of(alloc: Global, bytes: &[u8]) -> Result<Status, AllocError> {
+    let mut source = MemorySource::new(Vec::from_slice(alloc, bytes)?, 7, Vec::new(alloc));
+    let mut sink = MemorySink::new(alloc, 400, 5, Vec::new(alloc))?;
+    Ok(check_diddy(alloc, &mut source, &mut sink))
+}
+
+// The status of a run or a check with these lines of answers, all right.
+fn status_with(answers: &str) -> Status {
+    if answers.contains("UNKNOWN") {
+        Status::SomeUnknown
+    } else {
+        Status::Definite
+    }
+}
+
+// The whole output for a script with these lines of answers.
 fn output_of(alloc: Global, script: &str, answers: &str) -> Result<String, AllocError> {
     let length = script.len();
     format!(in alloc; "diddy 1\nscript {length}\n{script}\n{answers}end\n")
 }
 
-/// Asserts that each script has the lines of answers beside it, all of them definite.
+// The whole output of a run over a script. Asserts that the run and a check of that output end as these lines of answers say.
+fn checked_output(
+    rt: &impl Abort,
+    alloc: Global,
+    script: &str,
+    answers: &str,
+) -> Result<Vec<u8>, Fail> {
+    let (status, output) = run_on(alloc, script.as_bytes())?;
+    assert_eq!(rt; status, status_with(answers), "{script}");
+    assert_eq!(rt; check_of(alloc, &output)?, status, "{script}");
+    Ok(output)
+}
+
+// The first lines of the answers of an output.
+fn first_lines(alloc: Global, output: Vec<u8>) -> Result<String, Fail> {
+    let mut lines = String::new(alloc);
+    for line in String::from_utf8(output)?.lines() {
+        if line.starts_with("query ") {
+            lines.push_str(line)?;
+            lines.push('\n')?;
+        }
+    }
+    Ok(lines)
+}
+
+/// Asserts that a run over the script gives answers with these first lines, and that a check accepts its output.
+pub(crate) fn assert_first_lines(
+    rt: &impl Abort,
+    alloc: Global,
+    script: &str,
+    answers: &str,
+) -> Result<(), Fail> {
+    let output = checked_output(rt, alloc, script, answers)?;
+    let lines = first_lines(alloc, output)?;
+    assert_eq!(rt; lines.as_str(), answers, "{script}");
+    Ok(())
+}
+
+/// Asserts that each script has the first lines of answers beside it, and that a check accepts the output.
+pub(crate) fn assert_lines(
+    rt: &impl Abort,
+    alloc: Global,
+    rows: &[(&str, &str)],
+) -> Result<(), Fail> {
+    for (script, answers) in rows {
+        assert_first_lines(rt, alloc, script, answers)?;
+    }
+    Ok(())
+}
+
+/// Asserts that each script has the lines of answers beside it, and that a check accepts the output.
 pub(crate) fn assert_answers(
     rt: &impl Abort,
     alloc: Global,
     rows: &[(&str, &str)],
 ) -> Result<(), Fail> {
     for (script, answers) in rows {
-        let (status, output) = run_on(alloc, script.as_bytes())?;
-        assert_eq!(rt; status, Status::Definite, "{script}");
+        let output = checked_output(rt, alloc, script, answers)?;
         let wanted = output_of(alloc, script, answers)?;
         assert_eq!(rt; output.as_slice(), wanted.as_bytes(), "{script}");
+    }
+    Ok(())
+}
+
+/// Asserts what a check makes of outputs for this script with each of these lines of answers: that it accepts them, or rejects
+/// one.
+pub(crate) fn assert_checks(
+    rt: &impl Abort,
+    alloc: Global,
+    script: &str,
+    rows: &[(&str, bool)],
+) -> Result<(), Fail> {
+    for (answers, accepted) in rows {
+        let output = output_of(alloc, script, answers)?;
+        let wanted = if *accepted {
+            status_with(answers)
+        } else {
+            Status::Rejected
+        };
+        assert_eq!(rt; check_of(alloc, output.as_bytes())?, wanted, "{answers}");
     }
     Ok(())
 }

@@ -1,0 +1,140 @@
+// Whether two automata agree on a rule's configurations: what runs answer, and what a check makes of the answers.
+use crate::runs::{assert_answers, assert_checks, assert_first_lines, assert_lines};
+use std::alloc::{AllocError, Global};
+use std::test::Fail;
+
+// Scripts, and the first lines of their answers.
+const AGREEMENTS: [(&str, &str); 6] = [
+    // The exclusive or of the neighbours, squared.
+    (
+        "%dim 1 %rule full o@o %auto r when o.lt!=o.rt give 1 else 0 %compose rr r r %auto far when o.lt.lt!=o.rt.rt give 1 else 0 %auto id when o=1 give 1 else 0 %same rr far full %same r id full",
+        "query 1 YES 2\nquery 2 NO 1\n",
+    ),
+    // They agree on a single configuration, and nowhere else.
+    (
+        "%auto id when o=1 give 1 else 0 %auto nul else 0 %rule z o=0 %rule full o@o %same id nul z %same id nul full",
+        "query 1 YES 0\nquery 2 NO 1 1\n",
+    ),
+    // Rule 110 in two writings, and its mirror image.
+    (
+        "%dim 1 %rule full o@o %auto f when o.lt=1 & o=1 & o.rt=1 give 0 when o=1 | o.rt=1 give 1 else 0 %auto g when o!=o.rt give 1 when o.lt=0 & o=1 give 1 else 0 %auto m when o.lt=1 & o=1 & o.rt=1 give 0 when o=1 | o.lt=1 give 1 else 0 %same f g full %same f m full",
+        "query 1 YES 1\nquery 2 NO 3\n",
+    ),
+    // On the premise alone.
+    (
+        "%dim 1 %rule alt o!=o.rt %auto id when o=1 give 1 else 0 %auto op when o.rt=1 give 0 else 1 %same id op alt",
+        "query 1 YES 1\n",
+    ),
+    // The two nodes of a position exchanged, twice and once.
+    (
+        "%topology hex %rule full o@o %auto ex when o.a=1 give 1 else 0 %auto id when o=1 give 1 else 0 %compose twice ex ex %same twice id full %same ex id full",
+        "query 1 YES 0\nquery 2 NO 1 1\n",
+    ),
+    // All configurations have the period 3, past the limit.
+    (
+        "%dim 1 %alphabet 0 1 2 %limits 4 2 10 %rule cyc (o=0 -> o.rt=1) & (o=1 -> o.rt=2) & (o=2 -> o.rt=0) %auto id when o=1 give 1 when o=2 give 2 else 0 %auto nul else 0 %same id nul cyc",
+        "query 1 UNKNOWN limits\n",
+    ),
+];
+
+// Scripts, and the whole answers, each with the configuration on which the automata differ.
+const DIFFERENCES: [(&str, &str); 4] = [
+    // The exclusive or of the neighbours is 0 where all cells are 1.
+    (
+        "%dim 1 %rule full o@o %auto r when o.lt!=o.rt give 1 else 0 %auto id when o=1 give 1 else 0 %same r id full",
+        "query 1 NO 1\nconf 1\n",
+    ),
+    (
+        "%auto id when o=1 give 1 else 0 %auto nul else 0 %rule full o@o %same id nul full",
+        "query 1 NO 1 1\nconf 1\n",
+    ),
+    // The first true case counts: both are true at a 1.
+    (
+        "%dim 1 %rule full o@o %auto f when o=1 give 0 when o@o give 1 else 0 %auto g when o@o give 1 when o=1 give 0 else 0 %same f g full",
+        "query 1 NO 1\nconf 1\n",
+    ),
+    // The second node's value is told by the second node: there alone they differ.
+    (
+        "%dim 1 %nodes a b %topology (x a [0] b) (x b [0] a) %only a 0 %rule full o@o %auto id when o=1 give 1 else 0 %auto nul else 0 %same id nul full",
+        "query 1 NO 1\nconf 0 1\n",
+    ),
+];
+
+const DIFFERENT: &str =
+    "%auto id when o=1 give 1 else 0 %auto nul else 0 %rule full o@o %same id nul full";
+
+// The lines of an answer to the last script, and whether a check accepts them.
+const CHECKED: [(&str, bool); 4] = [
+    ("query 1 NO 1 1\nconf 1\n", true),
+    // At the origin both values are 0.
+    ("query 1 NO 1 1\nconf 0\n", false),
+    ("query 1 NO 2 1\nconf 0 1\n", false),
+    ("query 1 NO left 1 1\nconf 1\n", false),
+];
+
+#[test]
+fn compares_automata(rt: HostRuntime) -> Result<(), Fail> {
+    let alloc = rt.alloc();
+    assert_lines(&rt, alloc, &AGREEMENTS)?;
+    assert_answers(&rt, alloc, &DIFFERENCES)?;
+    assert_checks(&rt, alloc, DIFFERENT, &CHECKED)
+}
+
+// The names of the automata of one script.
+const NAMES: [&str; 16] = [
+    "a", "b", "c", "d", "e", "f", "g", "h", "i", "j", "k", "l", "m", "n", "o", "p",
+];
+
+// The elementary automaton with a number of Wolfram's: its bit k is the value where the cell, between its neighbours, spells k.
+fn push_elementary(
+    alloc: Global,
+    text: &mut String,
+    name: &str,
+    number: u32,
+) -> Result<(), AllocError> {
+    text.push_str(format!(in alloc; "%auto f{name}")?.as_str())?;
+    for cells in 1..8u32 {
+        let (left, here, right) = ((cells >> 2) & 1, (cells >> 1) & 1, cells & 1);
+        let value = (number >> cells) & 1;
+        text.push_str(format!(in alloc;
+            " when o.lt={left} & o={here} & o.rt={right} give {value}"
+        )?.as_str())?;
+    }
+    let value = number & 1;
+    text.push_str(format!(in alloc; " else {value}\n")?.as_str())
+}
+
+// The queries whether sixteen of these automata, from a number on, commute with the shift.
+fn commuting(alloc: Global, first: u32) -> Result<String, AllocError> {
+    let mut text = String::from_str(
+        alloc,
+        "%dim 1\n%rule full o@o\n%auto s when o.rt=1 give 1 else 0\n",
+    )?;
+    for (number, name) in (0..16u32).zip(NAMES) {
+        push_elementary(alloc, &mut text, name, first.saturating_add(number))?;
+        text.push_str(format!(in alloc;
+            "%compose l{name} f{name} s\n%compose r{name} s f{name}\n%same l{name} r{name} full\n"
+        )?.as_str())?;
+    }
+    Ok(text)
+}
+
+// That they all do, with the radius of the compositions.
+fn sixteen_yes(alloc: Global) -> Result<String, AllocError> {
+    let mut lines = String::new(alloc);
+    for number in 1..17u32 {
+        lines.push_str(format!(in alloc; "query {number} YES 2\n")?.as_str())?;
+    }
+    Ok(lines)
+}
+
+#[test]
+fn elementary_automata_commute_with_the_shift(rt: HostRuntime) -> Result<(), Fail> {
+    let alloc = rt.alloc();
+    let answers = sixteen_yes(alloc)?;
+    for first in (0..256u32).step_by(16) {
+        let script = commuting(alloc, first)?;
+        assert_first_lines(&rt, alloc, script.as_str(), answers.as_str())?;
+    }
+    Ok(())
+}

@@ -1,0 +1,156 @@
+// Discharging: values that are known, what a check makes of the answers of runs, and of answers that are not theirs.
+use crate::runs::{assert_answers, assert_checks, assert_lines};
+use std::test::Fail;
+
+// Scripts, and the first lines of their answers.
+const DISCHARGES: [(&str, &str); 16] = [
+    (
+        "%rule dom Ep[o1] p=1 %discharge dom 0 0 [1 0] [-1 0] [0 1] [0 -1]",
+        "query 1 BOUND 1/5\n",
+    ),
+    // One over the number of cells that a 1 dominates.
+    (
+        "%rule tot Ep[o1] (p=1 & !(p@o)) %discharge tot 0 0 [1 0] [-1 0] [0 1] [0 -1]",
+        "query 1 BOUND 1/4\n",
+    ),
+    (
+        "%topology triangle %rule dom Ep[o1] p=1 %discharge dom 0 0 [1 0] [-1 0] [0 1] [0 -1] [1 1] [-1 -1]",
+        "query 1 BOUND 1/7\n",
+    ),
+    (
+        "%topology king %rule dom Ep[o1] p=1 %discharge dom 0 0 [1 0] [-1 0] [0 1] [0 -1] [1 1] [-1 -1] [1 -1] [-1 1]",
+        "query 1 BOUND 1/9\n",
+    ),
+    // A quarter of its cells, of which a position has two.
+    (
+        "%topology hex %rule dom Ep[o1] p=1 %discharge dom 0 0 [1 0] [-1 0] [0 1] [0 -1]",
+        "query 1 BOUND 1/2\n",
+    ),
+    (
+        "%dim 3 %rule dom Ep[o1] p=1 %discharge dom 0 0 [1 0 0] [-1 0 0] [0 1 0] [0 -1 0] [0 0 1] [0 0 -1]",
+        "query 1 BOUND 1/7\n",
+    ),
+    // What independent sets leave out, as a 0 weighs 1: two of the three cells of a triangle, three of the four of a square of kings.
+    (
+        "%topology triangle %weights 1 0 %rule apart o=0 | (o.rt=0 & o.up=0 & o.ne=0) %discharge apart 0 1 [1 0] [1 1]",
+        "query 1 BOUND 2/3\n",
+    ),
+    (
+        "%topology king %weights 1 0 %rule apart o=0 | (o.rt=0 & o.up=0 & o.ne=0 & o.nw=0) %discharge apart 0 1 [1 0] [0 1] [1 1]",
+        "query 1 BOUND 3/4\n",
+    ),
+    // Of three in a row one at most is 0. The region of two cells holds no place of the rule; with a margin it forbids that both
+    // are 0; patterns of three cells know what stands before and after.
+    (
+        "%dim 1 %rule apart o=0 -> (o.rt=1 & o.rt.rt=1) %discharge apart 0 0 [1]",
+        "query 1 BOUND 0/1\n",
+    ),
+    (
+        "%dim 1 %rule apart o=0 -> (o.rt=1 & o.rt.rt=1) %discharge apart 0 1 [1]",
+        "query 1 BOUND 1/2\n",
+    ),
+    (
+        "%dim 1 %rule apart o=0 -> (o.rt=1 & o.rt.rt=1) %discharge apart 1 1 [1]",
+        "query 1 BOUND 2/3\n",
+    ),
+    // And where a cell gives to the next two: the region of three cells holds one place, and with a margin all.
+    (
+        "%dim 1 %rule apart o=0 -> (o.rt=1 & o.rt.rt=1) %discharge apart 0 0 [1] [2]",
+        "query 1 BOUND 1/2\n",
+    ),
+    (
+        "%dim 1 %rule apart o=0 -> (o.rt=1 & o.rt.rt=1) %discharge apart 0 1 [1] [2]",
+        "query 1 BOUND 2/3\n",
+    ),
+    // No pivot is allowed.
+    (
+        "%dim 1 %limits 4 4 0 %rule cover o=1 | o.rt=1 %density cover [] %discharge cover 0 0 [1]",
+        "query 1 DENSITY 1/2\nquery 2 UNKNOWN pivots\n",
+    ),
+    // The first 17 of its 30 cells have 131,072 fillings.
+    (
+        "%rule full o@o %discharge full 2 0 [1 0]",
+        "query 1 UNKNOWN large\n",
+    ),
+    // A weight that nothing forces.
+    (
+        "%dim 1 %rule full o@o %discharge full 0 0 [1]",
+        "query 1 BOUND 0/1\n",
+    ),
+];
+
+// The whole answer, with its amounts and duals.
+const BOUND_OF_COVERS: [(&str, &str); 1] = [(
+    "%dim 1 %rule cover o=1 | o.rt=1 %discharge cover 0 0 [1]",
+    "query 1 BOUND 1/2\ndenominator 2\namounts 0 1\nduals 0 1 1\n",
+)];
+
+const COVERS: &str = "%dim 1 %rule cover o=1 | o.rt=1 %density cover [] %discharge cover 0 0 [1]";
+
+// The lines of answers to it, and whether a check accepts them.
+const CHECKED: [(&str, bool); 14] = [
+    (
+        "query 1 DENSITY 1/2\ncycle 2 0 1\npotentials 0 1\nquery 2 BOUND 1/2\ndenominator 2\namounts 0 1\nduals 0 1 1\n",
+        true,
+    ),
+    // It may go round twice, and the potentials and what they are counted from are free.
+    (
+        "query 1 DENSITY 1/2\ncycle 4 1 0 1 0\npotentials -7 -6\nquery 2 BOUND 1/2\ndenominator 4\namounts 0 2\nduals 0 2 2\n",
+        true,
+    ),
+    (
+        "query 1 DENSITY 1/2\ncycle 2 0 1\npotentials 0 1\nquery 2 UNKNOWN large\n",
+        true,
+    ),
+    (
+        "query 1 DENSITY 1/2\ncycle 2 0 1\npotentials 0 1\nquery 2 UNKNOWN limits\n",
+        false,
+    ),
+    (
+        "query 1 DENSITY 1/2\ncycle 2 0 1\npotentials 0 0\nquery 2 UNKNOWN large\n",
+        false,
+    ),
+    (
+        "query 1 DENSITY 2/4\ncycle 2 0 1\npotentials 0 1\nquery 2 UNKNOWN large\n",
+        false,
+    ),
+    (
+        "query 1 DENSITY 1/1\ncycle 1 1\npotentials 0 1\nquery 2 UNKNOWN large\n",
+        false,
+    ),
+    ("query 1 EMPTY\nranks 1 0\nquery 2 UNKNOWN large\n", false),
+    ("query 1 UNKNOWN pivots\nquery 2 UNKNOWN large\n", false),
+    // Duals of nothing.
+    (
+        "query 1 DENSITY 1/2\ncycle 2 0 1\npotentials 0 1\nquery 2 BOUND 1/2\ndenominator 2\namounts 0 1\nduals 0 0 0\n",
+        false,
+    ),
+    // A denominator that the bound's does not divide.
+    (
+        "query 1 DENSITY 1/2\ncycle 2 0 1\npotentials 0 1\nquery 2 BOUND 1/2\ndenominator 3\namounts 0 1\nduals 0 1 1\n",
+        false,
+    ),
+    // Amounts that fail the row of a 0 after a 1.
+    (
+        "query 1 DENSITY 1/2\ncycle 2 0 1\npotentials 0 1\nquery 2 BOUND 1/2\ndenominator 2\namounts 1 0\nduals 0 1 1\n",
+        false,
+    ),
+    // A bound that holds and is not the best.
+    (
+        "query 1 DENSITY 1/2\ncycle 2 0 1\npotentials 0 1\nquery 2 BOUND 1/3\ndenominator 6\namounts 0 2\nduals 0 3 3\n",
+        false,
+    ),
+    // One dual too few.
+    (
+        "query 1 DENSITY 1/2\ncycle 2 0 1\npotentials 0 1\nquery 2 BOUND 1/2\ndenominator 2\namounts 0 1\nduals 0 1\n",
+        false,
+    ),
+];
+
+#[test]
+fn discharges(rt: HostRuntime) -> Result<(), Fail> {
+    let alloc = rt.alloc();
+    assert_lines(&rt, alloc, &DISCHARGES)?;
+    assert_answers(&rt, alloc, &BOUND_OF_COVERS)?;
+    assert_checks(&rt, alloc, COVERS, &CHECKED)
+}

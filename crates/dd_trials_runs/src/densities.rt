@@ -1,0 +1,140 @@
+// Least densities of strips: values that are known, what a check makes of the answers of runs, and of answers that are not theirs.
+use crate::runs::{assert_checks, assert_lines};
+use std::test::Fail;
+
+// Scripts, and the first lines of their answers.
+const DENSITIES: [(&str, &str); 15] = [
+    (
+        "%dim 1 %rule cover o=1 | o.rt=1 %density cover []",
+        "query 1 DENSITY 1/2\n",
+    ),
+    // Perfect codes reach it.
+    (
+        "%rule dom Ep[o1] p=1 %density dom [5]",
+        "query 1 DENSITY 1/5\n",
+    ),
+    // The largest graph: 256 states of 256 slices.
+    (
+        "%rule hard o=1 -> (o.rt=0 & o.up=0) %density hard [8]",
+        "query 1 DENSITY 0/1\n",
+    ),
+    // A 0 weighs 1: of seven cells round, three can be 1, and the next slice takes those beside them.
+    (
+        "%weights 1 0 %rule hard o=1 -> (o.rt=0 & o.up=0) %density hard [7]",
+        "query 1 DENSITY 4/7\n",
+    ),
+    // What is missing to a densest set without the differences 2 and 3, which has two of five.
+    (
+        "%dim 1 %weights 1 0 %rule apart !(o=1 & o.rt.rt=1) & !(o=1 & o.rt.rt.rt=1) %density apart []",
+        "query 1 DENSITY 3/5\n",
+    ),
+    (
+        "%dim 3 %rule cover o=1 | o.rt=1 %density cover [1 2]",
+        "query 1 DENSITY 1/2\n",
+    ),
+    // Perfect codes of the king's and of the hexagonal lattice, there a quarter of all cells and two cells a position.
+    (
+        "%topology king %rule dom Ep[o1] p=1 %density dom [3]",
+        "query 1 DENSITY 1/9\n",
+    ),
+    (
+        "%topology hex %rule dom Ep[o1] p=1 %density dom [2]",
+        "query 1 DENSITY 1/2\n",
+    ),
+    // Each cell has a codeword in itself or beside it, and no two cells the same ones.
+    (
+        "%dim 1 %rule id (o=1 | o.lt=1 | o.rt=1) & (o.lt=1 | o.rt.rt=1) & (o=1 | o.lt=1 | o.rt.rt=1 | o.rt.rt.rt=1) %density id []",
+        "query 1 DENSITY 1/2\n",
+    ),
+    // The only cycle goes round three symbols, which weigh 8 together.
+    (
+        "%dim 1 %alphabet 0 1 2 %weights 1 0 7 %rule three (o=0 -> o.rt=1) & (o=1 -> o.rt=2) & (o=2 -> o.rt=0) %density three []",
+        "query 1 DENSITY 8/3\n",
+    ),
+    // The weightless loop of 1s stands beside the rest.
+    (
+        "%dim 1 %weights 1 0 %rule up o=1 -> o.rt=1 %density up []",
+        "query 1 DENSITY 0/1\n",
+    ),
+    // A node that allows the 1 alone, beside one that allows both symbols.
+    (
+        "%dim 1 %nodes a b %topology (r a [1] a) %only b 1 %rule full o@o %density full []",
+        "query 1 DENSITY 1/1\n",
+    ),
+    // A strip that ends, and colourings with two colours round a strip of three cells and of four.
+    (
+        "%dim 1 %rule stuck o.rt=1 & !(o=1 & o.rt=1) %density stuck []",
+        "query 1 EMPTY\n",
+    ),
+    (
+        "%rule two o!=o.up & o!=o.rt %density two [3]",
+        "query 1 EMPTY\n",
+    ),
+    (
+        "%rule two o!=o.up & o!=o.rt %density two [4]",
+        "query 1 DENSITY 1/2\n",
+    ),
+];
+
+// One of two neighbours is a 1, so the state 0 leads to 1 alone, and 1 to both.
+const COVER: &str = "%dim 1 %rule cover o=1 | o.rt=1 %density cover []";
+
+const CHECKED_CYCLES: [(&str, bool); 9] = [
+    ("query 1 DENSITY 1/2\ncycle 2 0 1\npotentials 0 1\n", true),
+    // Constant potentials, and one too few.
+    ("query 1 DENSITY 1/2\ncycle 2 0 1\npotentials 0 0\n", false),
+    ("query 1 DENSITY 1/2\ncycle 2 0 1\npotentials 0\n", false),
+    // Walks that don't close: no 0 stands beside another.
+    ("query 1 DENSITY 0/1\ncycle 1 0\npotentials 0 0\n", false),
+    (
+        "query 1 DENSITY 1/2\ncycle 4 0 0 1 1\npotentials 0 1\n",
+        false,
+    ),
+    // A state that isn't there.
+    ("query 1 DENSITY 1/2\ncycle 2 0 2\npotentials 0 1\n", false),
+    // Cycles that aren't the lightest, and one that isn't what it is said to be.
+    (
+        "query 1 DENSITY 2/3\ncycle 3 0 1 1\npotentials 0 1\n",
+        false,
+    ),
+    ("query 1 DENSITY 1/2\ncycle 1 1\npotentials 0 1\n", false),
+    // Something lives.
+    ("query 1 EMPTY\nranks 1 0\n", false),
+];
+
+// Where a slice has four cells, the mean of a cycle is four times the density.
+const ROUND: &str = "%rule two o!=o.up & o!=o.rt %density two [4]";
+
+const CHECKED_ROUND: [(&str, bool); 2] = [
+    (
+        "query 1 DENSITY 1/2\ncycle 2 10 5\npotentials 0 0 0 0 0 0 0 0 0 0 0 0 0 0 0 0\n",
+        true,
+    ),
+    (
+        "query 1 DENSITY 2/1\ncycle 2 10 5\npotentials 0 0 0 0 0 0 0 0 0 0 0 0 0 0 0 0\n",
+        false,
+    ),
+];
+
+// A strip on which nothing lives.
+const STUCK: &str = "%dim 1 %rule stuck o.rt=1 & !(o=1 & o.rt=1) %density stuck []";
+
+const CHECKED_RANKS: [(&str, bool); 3] = [
+    ("query 1 EMPTY\nranks 1 0\n", true),
+    ("query 1 EMPTY\nranks 9 0\n", true),
+    ("query 1 EMPTY\nranks 0 0\n", false),
+];
+
+#[test]
+fn weighs_strips(rt: HostRuntime) -> Result<(), Fail> {
+    let alloc = rt.alloc();
+    assert_lines(&rt, alloc, &DENSITIES)
+}
+
+#[test]
+fn checks_densities(rt: HostRuntime) -> Result<(), Fail> {
+    let alloc = rt.alloc();
+    assert_checks(&rt, alloc, COVER, &CHECKED_CYCLES)?;
+    assert_checks(&rt, alloc, ROUND, &CHECKED_ROUND)?;
+    assert_checks(&rt, alloc, STUCK, &CHECKED_RANKS)
+}
