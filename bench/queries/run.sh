@@ -1,0 +1,31 @@
+#!/usr/bin/env bash
+# Times a list of forbidden patterns and questions whether automata agree, from the script's bytes to the last byte of the output, and the
+# check of that output: the patterns of the parity of 16 cells, rule 110 composed with itself against the rule of its two steps by a table of
+# five cells, and against that of three steps, and Life composed with itself against Life. Seconds of processor time of the whole program, the
+# least of five runs, or of TURNS. DIDDY names another program than the one that is built here. With the word life, Life composed with itself is
+# compared with the same composition as well, which takes a minute or two, and writes 263 MB.
+set -eu
+
+here=$(cd "$(dirname "$0")" && pwd)
+root=$(cd "$here/../.." && pwd)
+work=$(mktemp -d)
+trap 'rm -rf "$work"' EXIT
+[ -n "${DIDDY:-}" ] || "$root/diddy" run < /dev/null > "$work/nothing" || true
+diddy=${DIDDY:-$root/crates/dd_program/out/dd_program}
+python3 "$here/scripts.py" "$work"
+
+TIMEFORMAT='%U %S'
+least() {
+    for _ in $(seq "${TURNS:-5}"); do
+        { time "$diddy" "$1" < "$2" > "$work/said"; } 2>&1
+    done | awk '{ print $1 + $2 }' | sort -n | head -1
+}
+
+echo '| Script | answer | bytes written | diddy | its check |'
+echo '|---|---|---|---|---|'
+for script in forbidden rule110 rule110-apart life-apart "$@"; do
+    own=$(least run "$work/$script.diddy")
+    cp "$work/said" "$work/output"
+    answer=$(grep -a '^query 1 ' "$work/output")
+    echo "| $script | ${answer#query 1 } | $(wc -c < "$work/output") | $own | $(least check "$work/output") |"
+done
