@@ -1,5 +1,18 @@
-# Completion of diddy's words for bash: source this file.
+# Completion for bash: source this file. Of diddy's words, and of what tools/sweep and tools/command take.
 _diddy() {
-    [ "$COMP_CWORD" -eq 1 ] && COMPREPLY=($(compgen -W "run check" -- "${COMP_WORDS[1]}"))
+    if [ "$COMP_CWORD" -eq 1 ]; then
+        COMPREPLY=($(compgen -W "run check" -- "${COMP_WORDS[1]}"))
+    elif [[ ${COMP_WORDS[COMP_CWORD - 1]} == "<" ]]; then
+        COMPREPLY=($(compgen -f -- "${COMP_WORDS[COMP_CWORD]}"))
+    fi
 }
-complete -F _diddy diddy ./diddy
+_diddy_sweep() {
+    local here=${COMP_WORDS[COMP_CWORD]}
+    if [ "$COMP_CWORD" -eq 1 ]; then
+        COMPREPLY=($(compgen -W "one table" -- "$here") $(compgen -d -- "$here"))
+    else
+        COMPREPLY=($(compgen -f -- "$here"))
+    fi
+}
+complete -o default -F _diddy diddy ./diddy
+complete -o default -F _diddy_sweep sweep tools/sweep

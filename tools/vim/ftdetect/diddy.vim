@@ -1,2 +1,2 @@
 autocmd BufRead,BufNewFile *.diddy setfiletype diddy
-autocmd BufRead,BufNewFile *.answer setfiletype diddyanswer
+autocmd BufRead,BufNewFile *.answer,*.output setfiletype diddyanswer
