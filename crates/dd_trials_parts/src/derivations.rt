@@ -164,7 +164,7 @@ fn a_literal_that_stands_twice_in_a_clause_counts_once(rt: HostRuntime) -> Resul
 const OUT_OF_RANGE: &[i32] = &[9, 0, 1, 0, 0, -9, 1, 0, 1, 0, 0, 1, 0, 7, 8, 0, 0];
 
 /// Steps, the place of the one that is checked after those before it, and whether it is right.
-const STEPS_AFTER_EARLIER_ONES: [(&[i32], usize, bool); 10] = [
+const STEPS_AFTER_EARLIER_ONES: &[(&[i32], usize, bool)] = &[
     (BOTH_AND_NOTHING, 0, true),
     (BOTH_AND_NOTHING, 1, true),
     (BOTH_AND_NOTHING, 2, true),
@@ -198,9 +198,9 @@ fn checks_a_step_after_earlier_ones(rt: HostRuntime) -> Result<(), Fail> {
     for (numbers, index, want) in STEPS_AFTER_EARLIER_ONES {
         let steps = steps_of(alloc, numbers)?;
         let mut marks = Marks::new(alloc, &cnf, steps.as_slice())?;
-        assert!(rt; index < steps.len());
-        let is_right = check_step(&cnf, steps.as_slice(), index, &mut marks);
-        assert_eq!(rt; is_right, want, "step {index} of {numbers:?}");
+        assert!(rt; *index < steps.len());
+        let is_right = check_step(&cnf, steps.as_slice(), *index, &mut marks);
+        assert_eq!(rt; is_right, *want, "step {index} of {numbers:?}");
     }
     Ok(())
 }
