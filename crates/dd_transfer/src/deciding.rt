@@ -1,10 +1,15 @@
 //! Whether a window is an edge.
-ghost use Rattle.std.specs.Prelude.{◌≡◌, ◌↔◌, IsTrue, pos, ◌≤ℤ◌};
+ghost use Rattle.std.specs.Prelude.{◌≡◌, ◌↔◌, IsTrue};
+ghost use Rattle.std.specs.List.{list_all};
+ghost use Rattle.dd_numbered.specs.Numbered.{holds_in};
+ghost use Rattle.dd_formula.specs.LocalRule.{IsRule};
 ghost use Rattle.dd_formula.specs.Allowed.{AreAllowed};
-ghost use Rattle.dd_transfer.specs.Windows.{IsFull, IsKept, IsTrueAlong, shown_look, stand};
+ghost use Rattle.dd_transfer.specs.Windows.{IsFull, IsKept, shown_look};
+ghost use Rattle.dd_transfer.specs.placing.Formulas.{ArePlaces};
 
 use crate::windows::Window;
 use dd_formula::Rule;
+use dd_numbered::Numbered;
 
 /// Whether each symbol of the window is one that its node allows.
 fn are_allowed(rule: &Rule, window: &Window) -> bool
@@ -21,33 +26,30 @@ fn are_allowed(rule: &Rule, window: &Window) -> bool
     true
 }
 
-/// Whether the rule is true at the places at this x.
-fn is_true_along(rule: &Rule, window: &Window, x: i32) -> bool
-    requires window { IsFull rule.now window.now }
-    requires x { x ≡ stand rule.now }
-    requires some { pos 0 ≤ℤ x }
-    requires near { x ≤ℤ pos 16 }
-    ensures { IsTrue result ↔ IsTrueAlong rule.now (stand rule.now) (shown_look window.now) }
+/// Whether all formulas are true of the symbols.
+fn are_true(formulas: &[Numbered], symbols: &[u32]) -> bool
+    ensures { result ≡ list_all (λ e. holds_in e symbols.now) formulas.now }
 {
-    let strip = window.strip();
-    for number in 0..strip.cells() {
-        let cell = strip.cell_at(x, number);
-        match rule.truth(&cell, window) {
-            Some(true) => {}
-            Some(false) => return false,
-            None => unreachable!(),
+    for formula in formulas {
+        if !formula.truth(symbols) {
+            return false;
         }
     }
     true
 }
 
-/// Whether each symbol of the window is allowed and the rule is true where it stands.
-pub(crate) fn is_kept(rule: &Rule, window: &Window, x: i32) -> bool
+/// Whether each symbol of the window is allowed and the rule, of which these are the formulas at its places, is true where it
+/// stands.
+pub(crate) fn is_kept(rule: &Rule, formulas: &[Numbered], window: &Window) -> bool
+    requires kept { IsRule rule.now }
     requires window { IsFull rule.now window.now }
-    requires x { x ≡ stand rule.now }
-    requires some { pos 0 ≤ℤ x }
-    requires near { x ≤ℤ pos 16 }
+    requires formulas { ArePlaces rule.now window.now.strip formulas.now }
     ensures { IsTrue result ↔ IsKept rule.now (shown_look window.now) }
 {
-    are_allowed(rule, window) && is_true_along(rule, window, x)
+    // The rule bars most windows, and its formulas are asked sooner than each symbol.
+    if are_true(formulas, window.symbols()) {
+        are_allowed(rule, window)
+    } else {
+        false
+    }
 }
