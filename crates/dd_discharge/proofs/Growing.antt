@@ -4,19 +4,22 @@ use Rattle.std.proofs.lemmas.Bool.{cases_lt}
 use Rattle.std.specs.Prelude.{filter}
 use Rattle.std.specs.List.{All, flat_map, range_with_len}
 use Rattle.std.specs.List.Sorted.{IsStrictlySortedBy}
-use Rattle.std.proofs.lemmas.List.{append-nil, take_more, length-take-le}
-use Rattle.std.proofs.lemmas.List.Elements.{All-filter, All-nil, All-append}
+use Rattle.std.proofs.lemmas.List.{append-nil, take_more, length-append, length-take-le}
+use Rattle.std.proofs.lemmas.List.Elements.{All-filter, All-nil, All-append, All-push}
 use Rattle.std.proofs.lemmas.List.FromFn.{length-range_with_len, get_or-range_with_len}
 use Rattle.std.proofs.lemmas.List.Folds.{flat_map-map}
 use Rattle.std.proofs.lemmas.List.Concat.{flat_map_single}
 use Rattle.std.proofs.lemmas.Simd.{map-map}
 use Rattle.dd_lattice.specs.Order.{cell_cmp}
 use Rattle.dd_lattice.specs.declared.position.Cell.{Cell}
+use Rattle.dd_numbered.specs.declared.numbered.Numbered.{Numbered}
 use Rattle.dd_formula.specs.LocalRule.{LocalRule, rule_allows}
 use Rattle.dd_discharge.specs.Fillings.{choices, words, is_admissible, fillings, most_fillings}
 use Rattle.dd_discharge.specs.listing.Levels.{AreInRange, IsWord, AreWords, are_true, extended, settled}
-use Rattle.dd_discharge.proofs.Lists.{flat_map_agree, map_flat_map, flat_map_flat_map, filter_flat_map, flat_map_filter, filter_if, all_first, all_rest}
+use Rattle.dd_discharge.specs.listing.Formulas.{SayTrue, are_all_true}
+use Rattle.dd_discharge.proofs.Lists.{filter_agree, flat_map_same, flat_map_agree, map_flat_map, flat_map_flat_map, filter_flat_map, flat_map_filter, filter_if, all_first, all_rest}
 use Rattle.dd_discharge.proofs.Ready.{admissible_parts}
+use Rattle.dd_discharge.proofs.FormulaLaws.{settled_truth}
 
 -- one symbol more at the end
 abbrev longer : LocalRule → ℕ → List ℕ → List (List ℕ)
@@ -73,7 +76,7 @@ pub fillings_are : (x : LocalRule) (cs : List Cell) → AreWords x (length cs) (
 fillings_are x cs = All-filter (is_admissible x cs) (IsWord x (length cs)) (words x cs) (words_are x cs)
 
 pub fillings_more : (x : LocalRule) (all : List Cell) → IsStrictlySortedBy cell_cmp all → AreInRange all → (j : ℕ) (c : Cell) → j < length all → get_or all j c ≡ c →
-    fillings x (take (j + 1) all) ≡ flat_map (extended x (take (j + 1) all) (settled x all j) c.node) (fillings x (take j all))
+    fillings x (take (j + 1) all) ≡ flat_map (extended x (are_true x (take (j + 1) all) (settled x all j)) c.node) (fillings x (take j all))
 fillings_more x all up near j c below is =
     let first = take j all in
     let next = take (j + 1) all in
@@ -85,18 +88,31 @@ fillings_more x all up near j c below is =
     ap (λ cs. filter p (words x cs)) split
     ∙ (ap (filter p) (words_more x first c)
     ∙ (filter_flat_map p (longer x c.node) (words x first)
-    ∙ flat_map_filter (IsWord x j) q (λ ss. filter p (longer x c.node ss)) (extended x next (settled x all j) c.node)
+    ∙ flat_map_filter (IsWord x j) q (λ ss. filter p (longer x c.node ss)) (extended x r c.node)
     (λ ss w. filter_if p r (q ss) (λ s. ss ++ s ∷ []) (λ s. admissible_parts x all up near j ss s below w.size) (choices x c.node))
     (words x first) (subst (λ n. AreWords x n (words x first)) size (words_are x first))))
 
+-- tests that agree on the longer lists give the same ones
+same_longer : (x : LocalRule) (j a : ℕ) (p q : List ℕ → Bool) → ((ss : List ℕ) → IsWord x (j + 1) ss → p ss ≡ q ss) → (ss : List ℕ) → IsWord x j ss → extended x p a ss ≡ extended x q a ss
+same_longer x j a p q same ss w =
+    filter_agree (IsWord x (j + 1)) p q same (longer x a ss)
+    (all_map (IsWord x (j + 1)) (λ s. s < x.symbols) (λ s. ss ++ s ∷ [])
+    (λ s low. record { size = length-append ss (s ∷ []) ∙ ap (λ n. n + 1) w.size; below = All-push (λ t. t < x.symbols) ss s w.below low })
+    (choices x a) (choices_below x a))
+
 -- the next level, from this one
 pub level_next : (x : LocalRule) (all : List Cell) → IsStrictlySortedBy cell_cmp all → AreInRange all → (j : ℕ) (c : Cell) → j < length all → get_or all j c ≡ c →
-    (places : List Cell) (level : List (List ℕ)) → places ≡ settled x all j → level ≡ fillings x (take j all) →
-    flat_map (extended x (take (j + 1) all) places c.node) level ≡ fillings x (take (j + 1) all)
-level_next x all up near j c below is places level settle so_far =
+    (places : List Cell) (es : List Numbered) (level : List (List ℕ)) → SayTrue x (take (j + 1) all) places es → places ≡ settled x all j → level ≡ fillings x (take j all) →
+    flat_map (extended x (are_all_true es) c.node) level ≡ fillings x (take (j + 1) all)
+level_next x all up near j c below is places es level says settle so_far =
     let next = take (j + 1) all in
-    ap (λ (ps : List Cell). flat_map (extended x next ps c.node) level) settle
-    ∙ (ap (λ (ls : List (List ℕ)). flat_map (extended x next (settled x all j) c.node) ls) so_far ∙ sym (fillings_more x all up near j c below is))
+    let q : List ℕ → Bool = are_true x next (settled x all j) in
+    let size : length (take j all) ≡ j = length-take-le j all (omega (arith, below)) in
+    ap (λ (ls : List (List ℕ)). flat_map (extended x (are_all_true es) c.node) ls) so_far
+    ∙ (flat_map_same (IsWord x j) (extended x (are_all_true es) c.node) (extended x q c.node)
+    (same_longer x j c.node (are_all_true es) q (λ ss w. settled_truth x all near j below ss w.size w.below es (subst (λ (ps : List Cell). SayTrue x next ps es) settle says)))
+    (fillings x (take j all)) (subst (λ n. AreWords x n (fillings x (take j all))) size (fillings_are x (take j all)))
+    ∙ sym (fillings_more x all up near j c below is))
 
 pub few_next : (x : LocalRule) (all : List Cell) (k : ℕ) → ((i : ℕ) → i ≤ k → length (fillings x (take i all)) ≤ most_fillings) →
     length (fillings x (take (k + 1) all)) ≤ most_fillings → (i : ℕ) → i ≤ k + 1 → length (fillings x (take i all)) ≤ most_fillings

@@ -1,6 +1,7 @@
 pub mod NumberLaws
 pub mod Lists
 pub mod Ready
+pub mod FormulaLaws
 pub mod Growing
 pub mod Chosen
 pub mod Steps

@@ -33,6 +33,36 @@ all_first P x xs h = h 0 x (omega arith)
 pub all_rest : {X : Type 0} (P : X → Type 0) (x : X) (xs : List X) → All P (x ∷ xs) → All P xs
 all_rest P x xs h = λ k d within. h (suc k) d (omega (arith, within))
 
+-- functions and tests that agree on the items of a list
+pub flat_map_same : {X Y : Type 0} (P : X → Type 0) (f g : X → List Y) → ((x : X) → P x → f x ≡ g x) → (xs : List X) → All P xs → flat_map f xs ≡ flat_map g xs
+flat_map_same P f g same [] all = refl
+flat_map_same P f g same (x ∷ xs) all =
+    ap (λ ys. ys ++ flat_map f xs) (same x (all_first P x xs all)) ∙ ap (λ ys. g x ++ ys) (flat_map_same P f g same xs (all_rest P x xs all))
+
+pub filter_agree : {X : Type 0} (P : X → Type 0) (p q : X → Bool) → ((x : X) → P x → p x ≡ q x) → (xs : List X) → All P xs → filter p xs ≡ filter q xs
+filter_agree P p q same [] all = refl
+filter_agree P p q same (x ∷ xs) all =
+    ap (λ b. cond b (x ∷ filter p xs) (filter p xs)) (same x (all_first P x xs all))
+    ∙ ap (λ ys. cond (q x) (x ∷ ys) ys) (filter_agree P p q same xs (all_rest P x xs all))
+
+-- and on those that pass another test
+agree_where : {X : Type 0} (p q : X → Bool) (x : X) (rest : List X) (b : Bool) → (b ≡ true → p x ≡ q x) → list_all p rest ≡ list_all q rest →
+    list_all p (cond b (x ∷ rest) rest) ≡ list_all q (cond b (x ∷ rest) rest)
+agree_where p q x rest true here more = ap (λ b. b && list_all p rest) (here refl) ∙ ap (λ b. q x && b) more
+agree_where p q x rest false here more = more
+
+pub list_all_where : {X : Type 0} (p q t : X → Bool) → ((x : X) → t x ≡ true → p x ≡ q x) → (xs : List X) → list_all p (filter t xs) ≡ list_all q (filter t xs)
+list_all_where p q t same [] = refl
+list_all_where p q t same (x ∷ xs) = agree_where p q x (filter t xs) (t x) (same x) (list_all_where p q t same xs)
+
+pass_where : {X : Type 0} (p : X → Bool) (x : X) (rest : List X) (b : Bool) → (b ≡ true → p x ≡ true) → list_all p rest ≡ true → list_all p (cond b (x ∷ rest) rest) ≡ true
+pass_where p x rest true here more = and_from (p x) (list_all p rest) (here refl) more
+pass_where p x rest false here more = more
+
+pub list_all_passed : {X : Type 0} (p t : X → Bool) → ((x : X) → t x ≡ true → p x ≡ true) → (xs : List X) → list_all p (filter t xs) ≡ true
+list_all_passed p t h [] = refl
+list_all_passed p t h (x ∷ xs) = pass_where p x (filter t xs) (t x) (h x) (list_all_passed p t h xs)
+
 -- items that give nothing may be left out
 step_kept : {X Y : Type 0} (f g : X → List Y) (x : X) (b : Bool) (xs : List X) (rest : List Y) → f x ≡ cond b (g x) [] → rest ≡ flat_map g xs →
     f x ++ rest ≡ flat_map g (cond b (x ∷ xs) xs)

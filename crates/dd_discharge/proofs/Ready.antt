@@ -139,7 +139,7 @@ seen_some : (near : Bool) (o : Option ℕ) → near ≡ true → is_some o ≡ t
 seen_some true o h some = some
 seen_some false o h some = absurd (false≢true h)
 
-given_where : (x : LocalRule) (all : List Cell) → AreInRange all → (j : ℕ) (ss : List ℕ) (d : Cell) → j ≤ length all → length ss ≡ j →
+pub given_where : (x : LocalRule) (all : List Cell) → AreInRange all → (j : ℕ) (ss : List ℕ) (d : Cell) → j ≤ length all → length ss ≡ j →
     place_fits x (look_of (take j all) ss) d ≡ true → is_given x d (look_of (take j all) ss) ≡ true
 given_where x all near j ss d most size fits =
     let look : Look = look_of (take j all) ss in

@@ -11,7 +11,7 @@ use Rattle.dd_lattice.specs.Cells.{cell}
 use Rattle.dd_expansion.specs.Limits.{greatest}
 use Rattle.dd_lattice.specs.declared.position.Cell.{Cell}
 use Rattle.dd_formula.specs.LocalRule.{LocalRule, rule_allows}
-use Rattle.dd_discharge.specs.listing.Levels.{are_true, extended_below}
+use Rattle.dd_discharge.specs.listing.Levels.{extended_below}
 use Rattle.dd_discharge.proofs.Lists.{range_last, greatest_push}
 use Rattle.dd_discharge.specs.declared.fault.RowsFault.{RowsFault}
 use Rattle.dd_discharge.specs.declared.fault.RowsFault.TheVariants.{Large, Memory}
@@ -26,12 +26,11 @@ kept_one p true x = refl
 kept_one p false x = refl
 
 -- what one symbol more gives
-pub extended_one : (x : LocalRule) (cs places : List Cell) (a : ℕ) (ss : List ℕ) (n : ℕ) →
-    extended_below x cs places a ss (suc n)
-    ≡ extended_below x cs places a ss n ++ cond (rule_allows x a n) (cond (are_true x cs places (ss ++ n ∷ [])) ((ss ++ n ∷ []) ∷ []) []) []
-extended_one x cs places a ss n =
+pub extended_one : (x : LocalRule) (q : List ℕ → Bool) (a : ℕ) (ss : List ℕ) (n : ℕ) →
+    extended_below x q a ss (suc n)
+    ≡ extended_below x q a ss n ++ cond (rule_allows x a n) (cond (q (ss ++ n ∷ [])) ((ss ++ n ∷ []) ∷ []) []) []
+extended_one x q a ss n =
     let p : ℕ → Bool = rule_allows x a in
-    let q : List ℕ → Bool = are_true x cs places in
     let f : ℕ → List ℕ = λ s. ss ++ s ∷ [] in
     let old = range_with_len 0 n in
     let last : range_with_len 0 (suc n) ≡ old ++ n ∷ [] = range_last 0 n ∙ ap (λ i. old ++ i ∷ []) (let same : 0 + n ≡ n = omega arith in same) in
@@ -42,50 +41,47 @@ extended_one x cs places a ss n =
     ∙ ap (λ more. filter q (map f (filter p old)) ++ more) (ap (filter q) (one_or_none f (p n) n) ∙ kept_one q (p n) (f n)))))
 
 -- a longer range gives no fewer
-pub extended_grows : (x : LocalRule) (cs places : List Cell) (a : ℕ) (ss : List ℕ) (n k : ℕ) →
-    length (extended_below x cs places a ss n) ≤ length (extended_below x cs places a ss (n + k))
-extended_grows x cs places a ss n zero =
+pub extended_grows : (x : LocalRule) (q : List ℕ → Bool) (a : ℕ) (ss : List ℕ) (n k : ℕ) →
+    length (extended_below x q a ss n) ≤ length (extended_below x q a ss (n + k))
+extended_grows x q a ss n zero =
     let same : n ≡ n + 0 = omega arith in
-    let even : length (extended_below x cs places a ss n) ≡ length (extended_below x cs places a ss (n + 0)) = ap (λ m. length (extended_below x cs places a ss m)) same in
+    let even : length (extended_below x q a ss n) ≡ length (extended_below x q a ss (n + 0)) = ap (λ m. length (extended_below x q a ss m)) same in
     omega (arith, even)
-extended_grows x cs places a ss n (suc k) =
+extended_grows x q a ss n (suc k) =
     let same : suc (n + k) ≡ n + suc k = omega arith in
-    let even : length (extended_below x cs places a ss (suc (n + k))) ≡ length (extended_below x cs places a ss (n + suc k)) = ap (λ m. length (extended_below x cs places a ss m)) same in
-    let before = extended_grows x cs places a ss n k in
-    let more = ap length (extended_one x cs places a ss (n + k)) in
-    let split = length-append (extended_below x cs places a ss (n + k)) (cond (rule_allows x a (n + k)) (cond (are_true x cs places (ss ++ (n + k) ∷ [])) ((ss ++ (n + k) ∷ []) ∷ []) []) []) in
+    let even : length (extended_below x q a ss (suc (n + k))) ≡ length (extended_below x q a ss (n + suc k)) = ap (λ m. length (extended_below x q a ss m)) same in
+    let before = extended_grows x q a ss n k in
+    let more = ap length (extended_one x q a ss (n + k)) in
+    let split = length-append (extended_below x q a ss (n + k)) (cond (rule_allows x a (n + k)) (cond (q (ss ++ (n + k) ∷ [])) ((ss ++ (n + k) ∷ []) ∷ []) []) []) in
     omega (arith, even, before, more, split)
 
 -- one more symbol that is allowed and keeps the rule true
-pub extended_kept : (x : LocalRule) (cs places : List Cell) (a : ℕ) (ss new : List ℕ) (n m : ℕ) → m ≡ suc n → rule_allows x a n ≡ true → new ≡ ss ++ n ∷ [] →
-    are_true x cs places new ≡ true → extended_below x cs places a ss m ≡ extended_below x cs places a ss n ++ new ∷ []
-extended_kept x cs places a ss new n m next allowed is kept =
-    let q : List ℕ → Bool = are_true x cs places in
-    ap (λ i. extended_below x cs places a ss i) next
-    ∙ (extended_one x cs places a ss n
-    ∙ (ap (λ b. extended_below x cs places a ss n ++ cond b (cond (q (ss ++ n ∷ [])) ((ss ++ n ∷ []) ∷ []) []) []) allowed
-    ∙ (ap (λ (ts : List ℕ). extended_below x cs places a ss n ++ cond (q ts) (ts ∷ []) []) (sym is)
-    ∙ ap (λ b. extended_below x cs places a ss n ++ cond b (new ∷ []) []) kept)))
+pub extended_kept : (x : LocalRule) (q : List ℕ → Bool) (a : ℕ) (ss new : List ℕ) (n m : ℕ) → m ≡ suc n → rule_allows x a n ≡ true → new ≡ ss ++ n ∷ [] →
+    q new ≡ true → extended_below x q a ss m ≡ extended_below x q a ss n ++ new ∷ []
+extended_kept x q a ss new n m next allowed is kept =
+    ap (λ i. extended_below x q a ss i) next
+    ∙ (extended_one x q a ss n
+    ∙ (ap (λ b. extended_below x q a ss n ++ cond b (cond (q (ss ++ n ∷ [])) ((ss ++ n ∷ []) ∷ []) []) []) allowed
+    ∙ (ap (λ (ts : List ℕ). extended_below x q a ss n ++ cond (q ts) (ts ∷ []) []) (sym is)
+    ∙ ap (λ b. extended_below x q a ss n ++ cond b (new ∷ []) []) kept)))
 
 -- one that is cut
-pub extended_cut : (x : LocalRule) (cs places : List Cell) (a : ℕ) (ss new : List ℕ) (n m : ℕ) → m ≡ suc n → rule_allows x a n ≡ true → new ≡ ss ++ n ∷ [] →
-    are_true x cs places new ≡ false → extended_below x cs places a ss m ≡ extended_below x cs places a ss n
-extended_cut x cs places a ss new n m next allowed is cut =
-    let q : List ℕ → Bool = are_true x cs places in
-    ap (λ i. extended_below x cs places a ss i) next
-    ∙ (extended_one x cs places a ss n
-    ∙ (ap (λ b. extended_below x cs places a ss n ++ cond b (cond (q (ss ++ n ∷ [])) ((ss ++ n ∷ []) ∷ []) []) []) allowed
-    ∙ (ap (λ (ts : List ℕ). extended_below x cs places a ss n ++ cond (q ts) (ts ∷ []) []) (sym is)
-    ∙ (ap (λ b. extended_below x cs places a ss n ++ cond b (new ∷ []) []) cut ∙ append-nil (extended_below x cs places a ss n)))))
+pub extended_cut : (x : LocalRule) (q : List ℕ → Bool) (a : ℕ) (ss new : List ℕ) (n m : ℕ) → m ≡ suc n → rule_allows x a n ≡ true → new ≡ ss ++ n ∷ [] →
+    q new ≡ false → extended_below x q a ss m ≡ extended_below x q a ss n
+extended_cut x q a ss new n m next allowed is cut =
+    ap (λ i. extended_below x q a ss i) next
+    ∙ (extended_one x q a ss n
+    ∙ (ap (λ b. extended_below x q a ss n ++ cond b (cond (q (ss ++ n ∷ [])) ((ss ++ n ∷ []) ∷ []) []) []) allowed
+    ∙ (ap (λ (ts : List ℕ). extended_below x q a ss n ++ cond (q ts) (ts ∷ []) []) (sym is)
+    ∙ (ap (λ b. extended_below x q a ss n ++ cond b (new ∷ []) []) cut ∙ append-nil (extended_below x q a ss n)))))
 
 -- one that the node doesn't allow
-pub extended_barred : (x : LocalRule) (cs places : List Cell) (a : ℕ) (ss : List ℕ) (n m : ℕ) → m ≡ suc n → rule_allows x a n ≡ false →
-    extended_below x cs places a ss m ≡ extended_below x cs places a ss n
-extended_barred x cs places a ss n m next barred =
-    let q : List ℕ → Bool = are_true x cs places in
-    ap (λ i. extended_below x cs places a ss i) next
-    ∙ (extended_one x cs places a ss n
-    ∙ (ap (λ b. extended_below x cs places a ss n ++ cond b (cond (q (ss ++ n ∷ [])) ((ss ++ n ∷ []) ∷ []) []) []) barred ∙ append-nil (extended_below x cs places a ss n)))
+pub extended_barred : (x : LocalRule) (q : List ℕ → Bool) (a : ℕ) (ss : List ℕ) (n m : ℕ) → m ≡ suc n → rule_allows x a n ≡ false →
+    extended_below x q a ss m ≡ extended_below x q a ss n
+extended_barred x q a ss n m next barred =
+    ap (λ i. extended_below x q a ss i) next
+    ∙ (extended_one x q a ss n
+    ∙ (ap (λ b. extended_below x q a ss n ++ cond b (cond (q (ss ++ n ∷ [])) ((ss ++ n ∷ []) ∷ []) []) []) barred ∙ append-nil (extended_below x q a ss n)))
 
 -- what the lists up to one give is at most what all give
 pub flat_map_grows : {X Y : Type 0} (f : X → List Y) (xs : List X) (i : ℕ) (d : X) → i < length xs → length (flat_map f (take i xs) ++ f (get_or xs i d)) ≤ length (flat_map f xs)
@@ -105,18 +101,18 @@ flat_map_next f xs i d below =
     ap (flat_map f) (take_more xs i d below) ∙ (flat_map-append f (take i xs) (get_or xs i d ∷ []) ∙ ap (λ ys. flat_map f (take i xs) ++ ys) (append-nil (f (get_or xs i d))))
 
 -- too many symbols lists already
-pub extended_large : (x : LocalRule) (cs places : List Cell) (a : ℕ) (ss new : List ℕ) (n m most : ℕ) (old next : List (List ℕ)) → n < m → rule_allows x a n ≡ true → new ≡ ss ++ n ∷ [] →
-    are_true x cs places new ≡ true → next ≡ old ++ extended_below x cs places a ss n → length next ≡ most → most < length (old ++ extended_below x cs places a ss m)
-extended_large x cs places a ss new n m most old next below allowed is kept so_far full =
-    let one = ap length (extended_kept x cs places a ss new n (suc n) refl allowed is kept) in
-    let one_size = length-append (extended_below x cs places a ss n) (new ∷ []) in
+pub extended_large : (x : LocalRule) (q : List ℕ → Bool) (a : ℕ) (ss new : List ℕ) (n m most : ℕ) (old next : List (List ℕ)) → n < m → rule_allows x a n ≡ true → new ≡ ss ++ n ∷ [] →
+    q new ≡ true → next ≡ old ++ extended_below x q a ss n → length next ≡ most → most < length (old ++ extended_below x q a ss m)
+extended_large x q a ss new n m most old next below allowed is kept so_far full =
+    let one = ap length (extended_kept x q a ss new n (suc n) refl allowed is kept) in
+    let one_size = length-append (extended_below x q a ss n) (new ∷ []) in
     let k = m - suc n in
     let end : suc n + k ≡ m = omega (arith, below) in
-    let more = extended_grows x cs places a ss (suc n) k in
-    let even : length (extended_below x cs places a ss (suc n + k)) ≡ length (extended_below x cs places a ss m) = ap (λ i. length (extended_below x cs places a ss i)) end in
+    let more = extended_grows x q a ss (suc n) k in
+    let even : length (extended_below x q a ss (suc n + k)) ≡ length (extended_below x q a ss m) = ap (λ i. length (extended_below x q a ss i)) end in
     let sizes = ap length so_far in
-    let size = length-append old (extended_below x cs places a ss n) in
-    let last = length-append old (extended_below x cs places a ss m) in
+    let size = length-append old (extended_below x q a ss n) in
+    let last = length-append old (extended_below x q a ss m) in
     omega (arith, one, one_size, more, even, sizes, size, last, full)
 
 pub flat_map_large : {X Y : Type 0} (f : X → List Y) (xs : List X) (i most : ℕ) (d : X) (next : List Y) → i < length xs → next ≡ flat_map f (take i xs) → d ≡ get_or xs i d →

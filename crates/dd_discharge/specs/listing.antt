@@ -1,4 +1,5 @@
 pub mod Levels
+pub mod Formulas
 pub mod Views
 pub mod Tables
 pub mod Sparse

@@ -7,72 +7,68 @@ ghost use Rattle.dd_lattice.specs.Cells.{shifted};
 ghost use Rattle.dd_formula.specs.LocalRule.{LocalRule};
 ghost use Rattle.dd_discharge.specs.Faults.{OnLarge};
 ghost use Rattle.dd_discharge.specs.Fillings.{fillings, HasManyFillings, HasFewFillings, most_fillings};
-ghost use Rattle.dd_discharge.specs.listing.Levels.{AreOf, AreInRange, are_true, extended, chosen, last_number, number_of};
+ghost use Rattle.dd_discharge.specs.listing.Levels.{AreOf, AreInRange, extended, chosen, last_number, number_of};
+ghost use Rattle.dd_discharge.specs.listing.Formulas.{are_all_true};
 
 use crate::fault::RowsFault;
 use crate::numbers::number_of;
-use crate::partial::Partial;
+use crate::places::formulas;
 use dd_formula::Rule;
 use dd_lattice::{Cell, shift};
+use dd_numbered::Numbered;
 use dd_values::Items;
 use std::alloc::{AllocError, Global};
 
 /// The greatest number of admissible fillings of the first cells.
 const MOST_FILLINGS: usize = 65_536;
 
-/// Whether the rule is true at each of the places that are given.
-fn are_true(rule: &Rule, cells: &[Cell], places: &[Cell], symbols: &[u32]) -> bool
-    requires ascending { IsStrictlySortedBy cell_cmp cells.now }
-    requires places { AreOf rule.now places.now }
-    requires symbols { All (λ s. s < rule.now.symbols) symbols.now }
-    ensures { result ≡ are_true rule.now cells.now places.now symbols.now }
+/// Whether all formulas are true of the symbols.
+fn are_true(formulas: &[Numbered], symbols: &[u32]) -> bool
+    ensures { result ≡ are_all_true formulas.now symbols.now }
 {
-    let filling = Partial::new(cells, symbols);
-    for place in places {
-        if !rule.truth(place, &filling).unwrap_or(true) {
+    for formula in formulas {
+        if !formula.truth(symbols) {
             return false;
         }
     }
     true
 }
 
-/// The symbols and one more.
-fn with_symbol(alloc: Global, symbols: &[u32], symbol: u32) -> Result<Items<u32>, AllocError>
-    ensures { IfOk result (λ longer. longer ≡ symbols.now ++ symbol ∷ []) }
+/// Writes the symbols and one more.
+fn write_longer(longer: &mut Vec<u32>, symbols: &[u32], symbol: u32) -> Result<(), AllocError>
+    ensures { OnOk result (longer.new.items ≡ symbols.now ++ symbol ∷ []) }
 {
-    let mut longer = Vec::with_capacity(alloc, symbols.len() + 1)?;
+    longer.clear();
     longer.extend_from_slice(symbols)?;
     longer.push(symbol)?;
-    Ok(Items::from_vec(longer))
+    Ok(())
 }
 
-/// Puts the symbols with each one more under which the rule stays true at the places.
+/// Puts the symbols with each one more under which the formulas are true; they are written into `longer` before.
 fn extend(
     alloc: Global,
     rule: &Rule,
-    cells: &[Cell],
-    places: &[Cell],
+    formulas: &[Numbered],
     node: u32,
     symbols: &[u32],
+    longer: &mut Vec<u32>,
     next: &mut Items<Items<u32>>,
 ) -> Result<(), RowsFault>
     requires node { node < rule.now.nodes }
-    requires ascending { IsStrictlySortedBy cell_cmp cells.now }
-    requires places { AreOf rule.now places.now }
-    requires symbols { All (λ s. s < rule.now.symbols) symbols.now }
     requires few { length next.old ≤ most_fillings }
-    ensures ok { OnOk result (next.new ≡ next.old ++ extended rule.now cells.now places.now node symbols.now) }
+    ensures ok { OnOk result (next.new ≡ next.old ++ extended rule.now (are_all_true formulas.now) node symbols.now) }
     ensures few { OnOk result (length next.new ≤ most_fillings) }
-    ensures err { IfErr result (λ fault. OnLarge fault (most_fillings < length (next.old ++ extended rule.now cells.now places.now node symbols.now))) }
+    ensures err { IfErr result (λ fault. OnLarge fault (most_fillings < length (next.old ++ extended rule.now (are_all_true formulas.now) node symbols.now))) }
 {
     for symbol in 0..rule.symbols() {
         if rule.allows(node, symbol) {
-            let longer = with_symbol(alloc, symbols, symbol)?;
-            if are_true(rule, cells, places, longer.as_slice()) {
+            write_longer(longer, symbols, symbol)?;
+            if are_true(formulas, longer.as_slice()) {
                 if next.len() == MOST_FILLINGS {
                     return Err(RowsFault::Large);
                 }
-                next.push(longer)?;
+                let filling = Items::from_slice(alloc, longer.as_slice())?;
+                next.push(filling)?;
             }
         }
     }
@@ -83,28 +79,25 @@ fn extend(
 fn next_level(
     alloc: Global,
     rule: &Rule,
-    cells: &[Cell],
-    places: &[Cell],
+    formulas: &[Numbered],
     node: u32,
     level: &[Items<u32>],
 ) -> Result<Items<Items<u32>>, RowsFault>
     requires node { node < rule.now.nodes }
-    requires ascending { IsStrictlySortedBy cell_cmp cells.now }
-    requires places { AreOf rule.now places.now }
-    requires symbols { All (λ ss. All (λ s. s < rule.now.symbols) ss) level.now }
-    ensures ok { IfOk result (λ next. next ≡ flat_map (extended rule.now cells.now places.now node) level.now) }
+    ensures ok { IfOk result (λ next. next ≡ flat_map (extended rule.now (are_all_true formulas.now) node) level.now) }
     ensures few { IfOk result (λ next. length next ≤ most_fillings) }
-    ensures err { IfErr result (λ fault. OnLarge fault (most_fillings < length (flat_map (extended rule.now cells.now places.now node) level.now))) }
+    ensures err { IfErr result (λ fault. OnLarge fault (most_fillings < length (flat_map (extended rule.now (are_all_true formulas.now) node) level.now))) }
 {
+    let mut longer = Vec::new(alloc);
     let mut next = Items::new(alloc);
     for symbols in level {
         extend(
             alloc,
             rule,
-            cells,
-            places,
+            formulas,
             node,
             symbols.as_slice(),
+            &mut longer,
             &mut next,
         )?;
     }
@@ -207,14 +200,8 @@ pub fn fillings(alloc: Global, rule: &Rule, cells: &[Cell]) -> Result<Items<Item
     level.push(Items::new(alloc))?;
     for k in 0..cells.len() {
         let node = cells[k].node;
-        level = next_level(
-            alloc,
-            rule,
-            &cells[..k + 1],
-            places[k].as_slice(),
-            node,
-            level.as_slice(),
-        )?;
+        let formulas = formulas(alloc, rule, &cells[..k + 1], places[k].as_slice())?;
+        level = next_level(alloc, rule, formulas.as_slice(), node, level.as_slice())?;
     }
     Ok(level)
 }

@@ -44,12 +44,12 @@ is_true_if_given x look c = not (is_given x c look) || is_true x c look
 abbrev pub are_true : LocalRule → List Cell → List Cell → List ℕ → Bool
 are_true x cs places ss = list_all (is_true_if_given x (look_of cs ss)) places
 
--- with one more symbol below n that the node allows, where the rule stays true at these places
-abbrev pub extended_below : LocalRule → List Cell → List Cell → ℕ → List ℕ → ℕ → List (List ℕ)
-extended_below x cs places a ss n = filter (are_true x cs places) (map (λ s. ss ++ s ∷ []) (filter (rule_allows x a) (range_with_len 0 n)))
+-- with one more symbol below n that the node allows, where the list passes the test
+abbrev pub extended_below : LocalRule → (List ℕ → Bool) → ℕ → List ℕ → ℕ → List (List ℕ)
+extended_below x test a ss n = filter test (map (λ s. ss ++ s ∷ []) (filter (rule_allows x a) (range_with_len 0 n)))
 
-abbrev pub extended : LocalRule → List Cell → List Cell → ℕ → List ℕ → List (List ℕ)
-extended x cs places a ss = extended_below x cs places a ss x.symbols
+abbrev pub extended : LocalRule → (List ℕ → Bool) → ℕ → List ℕ → List (List ℕ)
+extended x test a ss = extended_below x test a ss x.symbols
 
 -- lists of symbols of the alphabet, one for each of the cells
 pub record IsWord (x : LocalRule) (n : ℕ) (ss : List ℕ) : Type 0 where

@@ -3,12 +3,13 @@ use Rattle.std.specs.List.{flat_map}
 use Rattle.std.proofs.lemmas.Result.{err_from_is_err_and}
 use Rattle.dd_discharge.specs.Fillings.{most_fillings}
 use Rattle.dd_discharge.specs.listing.Levels.{extended}
+use Rattle.dd_discharge.specs.listing.Formulas.{are_all_true}
 use Rattle.dd_discharge.proofs.Steps.{on_large_weaker, flat_map_large}
 use Rattle.dd_discharge.proofs.search.next_level.Goals as goal
 
 pub returns-in_err-extend-clause-err : goal.returns-in_err-extend-clause-err
 returns-in_err-extend-clause-err c =
-    let f = extended c.args.rule.now c.args.cells.now c.args.places.now c.args.node in
+    let f = extended c.args.rule.now (are_all_true c.args.formulas.now) c.args.node in
     let level = c.args.level.now in
     let i = c.loop-symbols.symbols-index in
     let at = c.as_slice.ensures ∙ (c.symbols-item.is ∙ ap (get_or level i) (sym c.as_slice.ensures)) in
