@@ -10,7 +10,7 @@ use dd_lattice::Cell;
 /// Cells in cell order. Each has its place among them as its number, and each other cell has their count.
 #[derive(Drop)]
 pub struct Ranks<'a> {
-    cells: &'a [Cell],
+    pub cells: &'a [Cell],
     pub ghost ascending: { IsStrictlySortedBy cell_cmp cells.now } by { IsStrictlySortedBy-prop cell_cmp cells.now },
 }
 

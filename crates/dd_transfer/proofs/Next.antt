@@ -29,10 +29,10 @@ set_parts [] i v h = absurd (omega arith)
 set_parts (x ∷ xs) zero v h = refl
 set_parts (x ∷ xs) (suc i) v h = ap (λ ys. x ∷ ys) (set_parts xs i v (omega arith))
 
-before_set : (xs : List ℕ) (i v : ℕ) → take i (set xs i v) ≡ take i xs
-before_set [] i v = refl
-before_set (x ∷ xs) zero v = refl
-before_set (x ∷ xs) (suc i) v = ap (λ ys. x ∷ ys) (before_set xs i v)
+before_set : (xs : List ℕ) (i v : ℕ) → i < length xs → take i (set xs i v) ≡ take i xs
+before_set [] i v h = absurd (omega arith)
+before_set (x ∷ xs) zero v h = refl
+before_set (x ∷ xs) (suc i) v h = ap (λ ys. x ∷ ys) (before_set xs i v (omega arith))
 
 from_set : (xs : List ℕ) (i v : ℕ) → i < length xs → drop i (set xs i v) ≡ v ∷ drop (suc i) xs
 from_set [] i v h = absurd (omega arith)
@@ -93,7 +93,7 @@ carried_on base k xs wanted some lt h high =
     let d : (n + 1) % base ≡ 0 = ap (λ (m : ℕ). m % base) next ∙ mod-mul-add (n / base + 1) base 0 some in
     record {
       number = n / base;
-      begun = before_set xs k 0 ∙ ends.0;
+      begun = before_set xs k 0 lt ∙ ends.0;
       carried = ap (λ (ys : List ℕ). digits base k (n / base + 1) ++ ys) (from_set xs k 0 lt)
           ∙ (ap (λ (m : ℕ). digits base k m ++ 0 ∷ drop (suc k) xs) (sym q)
           ∙ (ap (λ (m : ℕ). digits base k ((n + 1) / base) ++ m ∷ drop (suc k) xs) (sym d)

@@ -46,8 +46,9 @@ pub(crate) fn advance_digits(symbols: &mut [u32], base: u32)
     let mut at = symbols.len();
     while at > 0 {
         at -= 1;
-        if symbols[at] < greatest {
-            symbols[at] += 1;
+        let digit = symbols[at];
+        if digit < greatest {
+            symbols[at] = digit + 1;
             return;
         }
         symbols[at] = 0;
@@ -60,14 +61,6 @@ impl Window {
         ensures { result ≡ shown strip symbols.items }
     {
         Window { strip, symbols }
-    }
-
-    /// The strip.
-    pub(crate) fn strip(&self) -> Strip
-        ensures value { result ≡ self.now.strip }
-        ensures kept { IsSized self.now.strip }
-    {
-        self.strip
     }
 
     /// The symbols of its cells.

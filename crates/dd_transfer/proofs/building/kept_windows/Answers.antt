@@ -7,22 +7,22 @@ use Rattle.dd_transfer.proofs.building.kept_windows.Goals as goal
 
 pub is_kept-requires-clause-window : goal.is_kept-requires-clause-window
 is_kept-requires-clause-window c =
-    full c.args.rule.now c.args.strip c.loop-_number.window c.loop-_number._number c.symbols-base.ensures.kept c.requires c.loop-_number.invariant.window_is
+    full c.args.rule.now c.args.strip c.loop-number.window c.loop-number._number c.symbols-base.ensures.kept c.requires c.loop-number.invariant.window_is
 
 pub is_kept-requires-clause-formulas : goal.is_kept-requires-clause-formulas
 is_kept-requires-clause-formulas c =
     let r = c.args.rule.now in
-    subst (λ (s : Strip). ArePlaces r s c.as_slice.result.now) (sym (ap (λ (w : Shown). w.strip) c.loop-_number.invariant.window_is))
+    subst (λ (s : Strip). ArePlaces r s c.as_slice.result.now) (sym (ap (λ (w : Shown). w.strip) c.loop-number.invariant.window_is))
     (subst (ArePlaces r c.args.strip) (sym c.as_slice.ensures) c.in_ok-formulas.ensures)
 
-pub loop-_number-preserved : goal.loop-_number-preserved
-loop-_number-preserved c =
+pub loop-number-preserved : goal.loop-number-preserved
+loop-number-preserved c =
     let r = c.args.rule.now in
     let s = c.args.strip in
-    let n = c.loop-_number._number in
-    let w = c.loop-_number.window in
+    let n = c.loop-number._number in
+    let w = c.loop-number.window in
     record {
-      window_is = advanced r s w c.advance.new.self c.symbols-base.result n c.symbols-base.ensures.value c.loop-_number.invariant.window_is c.advance.ensures;
+      window_is = advanced r s w c.advance.new.self c.symbols-base.result n c.symbols-base.ensures.value c.loop-number.invariant.window_is c.advance.ensures;
       windows = subst (AreWindows r s (n + 1)) (sym c.in_ok-push.ensures.items)
-          (kept_more r s w n c.loop-_number.kept.items c.is_kept.result c.loop-_number.invariant.windows c.loop-_number.invariant.window_is c.is_kept.ensures);
+          (kept_more r s w n c.loop-number.kept.items c.is_kept.result c.loop-number.invariant.windows c.loop-number.invariant.window_is c.is_kept.ensures);
     }

@@ -21,16 +21,16 @@ loop-at-preserved c =
     record {
       within = omega (arith, length-set xs (at - 1) 0, c.loop-at.invariant.within);
       count = length-set xs (at - 1) 0 ∙ c.loop-at.invariant.count;
-      carries = λ n h. carried_on c.args.base (at - 1) xs _ c.requires below (subst (λ (m : ℕ). Carries c.args.base m xs _) back (c.loop-at.invariant.carries n h)) (omega (arith, c.if-symbols-at-greatest.false));
+      carries = λ n h. carried_on c.args.base (at - 1) xs _ c.requires below (subst (λ (m : ℕ). Carries c.args.base m xs _) back (c.loop-at.invariant.carries n h)) (omega (arith, c.if-digit-greatest.false));
     }
 
-pub returns-then-symbols-at-greatest : goal.returns-then-symbols-at-greatest
-returns-then-symbols-at-greatest c =
+pub returns-then-digit-greatest : goal.returns-then-digit-greatest
+returns-then-digit-greatest c =
     let at = c.loop-at.at in
     let xs = c.loop-at.symbols in
     let back : at ≡ suc (at - 1) = omega arith in
     let below : at - 1 < length xs = omega (arith, c.loop-at.invariant.within) in
-    λ n h. grown c.args.base (at - 1) xs _ c.requires below (subst (λ (m : ℕ). Carries c.args.base m xs _) back (c.loop-at.invariant.carries n h)) (omega (arith, c.if-symbols-at-greatest.true))
+    λ n h. grown c.args.base (at - 1) xs _ c.requires below (subst (λ (m : ℕ). Carries c.args.base m xs _) back (c.loop-at.invariant.carries n h)) (omega (arith, c.if-digit-greatest.true))
 
 pub returns : goal.returns
 returns c =
