@@ -6,7 +6,7 @@ ghost use Rattle.dd_formula.specs.LocalRule.{IsRule};
 ghost use Rattle.dd_transfer.specs.Windows.{IsFor, AreWindows, cells, digits, positions, shown, window_cells};
 ghost use Rattle.dd_transfer.specs.Transfers.{IsStrip, HasWeights, IsGraphOf, IsFault, strip_for, slice_weight};
 
-use crate::deciding::is_kept;
+use crate::deciding::{allows_all, is_kept};
 use crate::fault::TransferFault;
 use crate::graphs::Graph;
 use crate::places::formulas;
@@ -90,10 +90,11 @@ fn kept_windows(
 {
     let base = rule.symbols();
     let formulas = formulas(alloc, rule, strip, stand(rule))?;
+    let allows_all = allows_all(rule);
     let mut window = first_window(alloc, rule, strip)?;
     let mut kept = Vec::new(alloc);
     for _number in 0..count {
-        kept.push(is_kept(rule, formulas.as_slice(), &window))?;
+        kept.push(is_kept(rule, formulas.as_slice(), allows_all, &window))?;
         window.advance(base);
     }
     Ok(kept)

@@ -5,17 +5,46 @@ ghost use Rattle.dd_numbered.specs.Numbered.{holds_in};
 ghost use Rattle.dd_formula.specs.LocalRule.{IsRule};
 ghost use Rattle.dd_formula.specs.Allowed.{AreAllowed};
 ghost use Rattle.dd_transfer.specs.Windows.{IsFull, IsKept, shown_look};
-ghost use Rattle.dd_transfer.specs.placing.Formulas.{ArePlaces};
+ghost use Rattle.dd_transfer.specs.placing.Formulas.{AllowsAll, AllowsEach, ArePlaces};
 
 use crate::windows::Window;
 use dd_formula::Rule;
 use dd_numbered::Numbered;
 
-/// Whether each symbol of the window is one that its node allows.
-fn are_allowed(rule: &Rule, window: &Window) -> bool
-    requires { IsFull rule.now window.now }
+/// Whether the node allows all symbols.
+fn allows_each(rule: &Rule, node: u32) -> bool
+    requires { node < rule.now.nodes }
+    ensures { IsTrue result → AllowsEach rule.now node }
+{
+    for symbol in 0..rule.symbols() {
+        if !rule.allows(node, symbol) {
+            return false;
+        }
+    }
+    true
+}
+
+/// Whether each node allows all symbols.
+pub(crate) fn allows_all(rule: &Rule) -> bool
+    ensures { IsTrue result → AllowsAll rule.now }
+{
+    for node in 0..rule.nodes() {
+        if !allows_each(rule, node) {
+            return false;
+        }
+    }
+    true
+}
+
+/// Whether each symbol of the window is one that its node allows; each is where the rule allows all.
+fn are_allowed(rule: &Rule, allows_all: bool, window: &Window) -> bool
+    requires window { IsFull rule.now window.now }
+    requires all { IsTrue allows_all → AllowsAll rule.now }
     ensures { IsTrue result ↔ AreAllowed rule.now (shown_look window.now) }
 {
+    if allows_all {
+        return true;
+    }
     let nodes = rule.nodes() as usize;
     let symbols = window.symbols();
     for place in 0..symbols.len() {
@@ -40,15 +69,15 @@ fn are_true(formulas: &[Numbered], symbols: &[u32]) -> bool
 
 /// Whether each symbol of the window is allowed and the rule, of which these are the formulas at its places, is true where it
 /// stands.
-pub(crate) fn is_kept(rule: &Rule, formulas: &[Numbered], window: &Window) -> bool
+pub(crate) fn is_kept(rule: &Rule, formulas: &[Numbered], allows_all: bool, window: &Window) -> bool
     requires kept { IsRule rule.now }
     requires window { IsFull rule.now window.now }
+    requires all { IsTrue allows_all → AllowsAll rule.now }
     requires formulas { ArePlaces rule.now window.now.strip formulas.now }
     ensures { IsTrue result ↔ IsKept rule.now (shown_look window.now) }
 {
-    // The rule bars most windows, and its formulas are asked sooner than each symbol.
     if are_true(formulas, window.symbols()) {
-        are_allowed(rule, window)
+        are_allowed(rule, allows_all, window)
     } else {
         false
     }

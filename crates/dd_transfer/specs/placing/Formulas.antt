@@ -1,12 +1,12 @@
 -- The rule at the places of a window, as formulas over the window's symbols.
-use Rattle.std.specs.Prelude.{ℕ, ◌≡◌, ◌<◌, ◌&&◌, cond, nat_lt, int_le, pos, List, Some, None, length, get_or}
+use Rattle.std.specs.Prelude.{ℕ, ◌≡◌, ◌<◌, ◌&&◌, cond, nat_lt, int_le, true, pos, List, Some, None, length, get_or}
 use Rattle.dd_lattice.specs.Place.{Place}
 use Rattle.dd_lattice.specs.declared.position.Cell.{Cell}
 use Rattle.dd_expansion.specs.Leaves.{holds, seen}
 use Rattle.dd_numbered.specs.declared.numbered.Numbered.{Numbered}
 use Rattle.dd_numbered.specs.Numbered.{holds_in}
 use Rattle.dd_numbered.specs.Numbering.{Numbering}
-use Rattle.dd_formula.specs.LocalRule.{LocalRule, expansion_at}
+use Rattle.dd_formula.specs.LocalRule.{LocalRule, expansion_at, rule_allows}
 use Rattle.dd_transfer.specs.declared.strip.Strip.{Strip}
 use Rattle.dd_transfer.specs.Windows.{cells, cell_at, stand, window_index, window_look}
 
@@ -34,3 +34,10 @@ SaysAt r s c e = (ss : List ℕ) → holds_in e ss ≡ holds (expansion_at r c.n
 pub record ArePlaces (r : LocalRule) (s : Strip) (es : List Numbered) : Type 0 where
   pub each : length es ≡ cells s
   pub says : (k : ℕ) (d : Numbered) → k < cells s → SaysAt r s (cell_at s (stand r) k) (get_or es k d)
+
+-- the node allows all symbols; each node does
+abbrev pub AllowsEach : LocalRule → ℕ → Type 0
+AllowsEach r a = (s : ℕ) → s < r.symbols → rule_allows r a s ≡ true
+
+abbrev pub AllowsAll : LocalRule → Type 0
+AllowsAll r = (a : ℕ) → a < r.nodes → AllowsEach r a

@@ -2,4 +2,4 @@ use Rattle.dd_transfer.proofs.Saying.{ArePlacesBelow}
 use Rattle.dd_transfer.proofs.places.formulas.Given as goal
 
 abbrev pub invariant-loop-number : goal.invariant-loop-number
-invariant-loop-number l = ArePlacesBelow l.rule l.strip l.number l.formulas
+invariant-loop-number l = ArePlacesBelow l.rule l.fn.strip l.number l.formulas
