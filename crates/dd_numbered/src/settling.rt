@@ -33,9 +33,10 @@ impl Numbered {
 fn told(symbols: &[u32], number: usize, symbol: u32) -> Option<bool>
     ensures { IfSome result (IsTold symbol number symbols.now) }
 {
-    match symbols.get(number).copied() {
-        Some(there) => Some(there == symbol),
-        None => None,
+    if number < symbols.len() {
+        Some(symbols[number] == symbol)
+    } else {
+        None
     }
 }
 

@@ -28,9 +28,10 @@ impl Numbered {
 fn is_there(symbols: &[u32], number: usize, symbol: u32) -> bool
     ensures { result ≡ is_symbol symbol (slice_get symbols.now number) }
 {
-    match symbols.get(number).copied() {
-        Some(there) => there == symbol,
-        None => false,
+    if number < symbols.len() {
+        symbols[number] == symbol
+    } else {
+        false
     }
 }
 
