@@ -24,6 +24,7 @@ pub mod SortedLists
 pub mod Collected
 pub mod SparseLaws
 pub mod RowLaws
+pub mod RepeatLaws
 pub mod ProgramLaws
 pub mod Sides
 pub mod OneProgram

@@ -4,3 +4,4 @@ pub mod Views
 pub mod Tables
 pub mod Sparse
 pub mod Shown
+pub mod Repeats

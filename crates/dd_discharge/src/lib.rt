@@ -16,6 +16,7 @@ mod numbers;
 mod pattern;
 mod places;
 mod program;
+mod repeats;
 mod rows;
 mod search;
 mod sparse;

@@ -14,6 +14,7 @@ ghost use Rattle.dd_discharge.specs.listing.Shown.{IsProgramShown, IsLargeShown}
 use crate::domain::ground;
 use crate::fault::RowsFault;
 use crate::pattern::{Pattern, Patterns};
+use crate::repeats::without_repeats;
 use crate::rows::{Row, Rows};
 use crate::search::fillings;
 use crate::sparse::{SparseRow, exchanges};
@@ -187,8 +188,8 @@ fn greatest_weight(weights: &[u32]) -> u32
     most
 }
 
-/// The program of the fillings: the patterns that they show, and the distinct rows that they ask.
-fn program_shown(
+/// The program of a list of fillings: the patterns that they show, and the distinct rows that they ask.
+fn program_listed(
     alloc: Global,
     fillings: &[Items<u32>],
     views: &Views,
@@ -208,6 +209,25 @@ fn program_shown(
         patterns: patterns.lists(alloc)?,
         rows: dense_rows(alloc, &rows, patterns.len())?,
     })
+}
+
+/// The program of the fillings, from those of which the views show something new.
+fn program_shown(
+    alloc: Global,
+    fillings: &[Items<u32>],
+    views: &Views,
+    weights: &[u32],
+    heaviest: u64,
+) -> Result<Rows, RowsFault>
+    requires known { All (λ ss. All (λ s. s < length weights.now) ss) fillings.now }
+    requires some { 1 ≤ length weights.now }
+    requires small { All (λ w. w ≤ 1000) weights.now }
+    requires nodes { length views.now.centre ≤ 4 }
+    ensures ok { IfOk result (IsProgramShown views.now weights.now heaviest fillings.now) }
+    ensures err { IfErr result (λ fault. OnLarge fault (IsLargeShown views.now weights.now heaviest fillings.now)) }
+{
+    let shown = without_repeats(alloc, fillings, views)?;
+    program_listed(alloc, shown.as_slice(), views, weights, heaviest)
 }
 
 /// The program of a rule along the vectors, for a domain of the radius grown by the margin. Each symbol has a weight.

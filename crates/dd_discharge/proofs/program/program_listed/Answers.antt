@@ -5,7 +5,7 @@ use Rattle.dd_discharge.specs.Programs.{first_seen, column_count, most_columns, 
 use Rattle.dd_discharge.specs.listing.Sparse.{dense, asked_rows}
 use Rattle.dd_discharge.specs.listing.Shown.{patterns_shown, IsLargeShown}
 use Rattle.dd_discharge.proofs.Steps.{on_large_weaker}
-use Rattle.dd_discharge.proofs.program.program_shown.Goals as goal
+use Rattle.dd_discharge.proofs.program.program_listed.Goals as goal
 
 pub returns-in_err-patterns-clause-err : goal.returns-in_err-patterns-clause-err
 returns-in_err-patterns-clause-err c =
