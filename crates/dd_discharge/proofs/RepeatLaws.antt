@@ -139,7 +139,7 @@ module _ (v : Views) where
   asked_alike ps ws ss ts h =
       let sides : coefficients ps (symbols_at ss v.origin) (map (symbols_at ss) v.givers) ≡ coefficients ps (symbols_at ts v.origin) (map (symbols_at ts) v.givers) =
       ap (λ out. coefficients ps out (map (symbols_at ss) v.givers)) h.origin ∙ ap (coefficients ps (symbols_at ts v.origin)) h.givers in
-      let weight = ap (total_weight ws) h.centre in
+      let weight : total_weight ws (symbols_at ss v.centre) ≡ total_weight ws (symbols_at ts v.centre) = ap (total_weight ws) h.centre in
       λ i. record { coefficients = sides i; bound = weight i }
 
   pub same_none : ShowsSame v [] []
