@@ -7,10 +7,10 @@ use Rattle.std.specs.List.{fold, flat_map, list_any}
 use Rattle.std.specs.List.Sorted.{IsStrictlySortedBy}
 use Rattle.std.specs.BTreeSet.{insert_key}
 use Rattle.std.specs.Cmp.{IsTotalOrder, tied_itself}
+use Rattle.std.specs.Cmp.Rules.{signed_items}
 use Rattle.std.specs.Cmp.Lexicographic.{slice_cmp, pointwise, nat_list_cmp_total}
 use Rattle.std.specs.declared.cmp.Ordering.{Ordering}
 use Rattle.std.specs.declared.cmp.Ordering.TheVariants.{Less, Equal, Greater}
-use Rattle.std.proofs.lemmas.Int.{ints}
 use Rattle.std.proofs.lemmas.Bool.{and_from, eq-eqb}
 use Rattle.std.proofs.lemmas.List.{append-nil, map-append, map_more, take_more}
 use Rattle.std.proofs.lemmas.List.Concat.{flat_map-append}
@@ -89,15 +89,8 @@ module _ {K : Type 0} {R : K → K → Ordering} (o : IsTotalOrder R) where
 
 -- ---- a row that is put behind twice
 
-int_same : (x : ℤ) → int_eq x x ≡ true
-int_same x = grind (arith, ints)
-
-pointwise_same : (xs : List ℤ) → pointwise int_eq xs xs ≡ true
-pointwise_same [] = refl
-pointwise_same (x ∷ xs) = and_from (int_eq x x) (pointwise int_eq xs xs) (int_same x) (pointwise_same xs)
-
 same_row : (r : Row) → is_same_row r r ≡ true
-same_row r = and_from (pointwise int_eq r.coefficients r.coefficients) (nat_eq r.bound r.bound) (pointwise_same r.coefficients) (eq-eqb r.bound r.bound refl)
+same_row r = and_from (pointwise int_eq r.coefficients r.coefficients) (nat_eq r.bound r.bound) ((signed_items r.coefficients r.coefficients).1 refl) (eq-eqb r.bound r.bound refl)
 
 or_true : (b : Bool) → (b || true) ≡ true
 or_true true = refl
