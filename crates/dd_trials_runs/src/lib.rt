@@ -24,3 +24,5 @@ mod refusals;
 mod runs;
 #[cfg(test)]
 mod statuses;
+#[cfg(test)]
+mod witnesses;
