@@ -1,4 +1,4 @@
-"""The trials of run.sh: python3 trials.py PROGRAM FOLDER MOST SCRIPT.., all scripts where none is named."""
+"""The trials of run.sh: python3 trials.py PROGRAM FOLDER MOST SCRIPT.., all scripts where none is named. Another name is that of a file."""
 import os
 import pathlib
 import resource
@@ -136,8 +136,9 @@ def main():
     program, folder, most, names = sys.argv[1], pathlib.Path(sys.argv[2]), int(sys.argv[3]), sys.argv[4:] or SCRIPTS
     wrong = 0
     for name in names:
-        output = subprocess.run([program, "run"], input=SCRIPTS[name].encode(), stdout=subprocess.PIPE, check=False).stdout
-        for word, given in (("run", SCRIPTS[name].encode()), ("check", output)):
+        script = SCRIPTS[name].encode() if name in SCRIPTS else pathlib.Path(name).read_bytes()
+        output = subprocess.run([program, "run"], input=script, stdout=subprocess.PIPE, check=False).stdout
+        for word, given in (("run", script), ("check", output)):
             trials = Trials(program, folder, word, given)
             counts = f"{trials.allocations(most)}; {trials.limits()}; {trials.sources()} sources; {trials.sinks() + trials.pipes()} sinks"
             print(f"{name} {word}: {counts}; {len(trials.wrong)} wrong", flush=True)
