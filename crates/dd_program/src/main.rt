@@ -49,7 +49,7 @@ fn main(rt: HostRuntime) -> ExitCode {
     let mut sink = StdSink::new(rt.stdout());
     let status = run_diddy(rt.alloc(), &words, &mut source, &mut sink);
     if status == Status::BadWords {
-        let _ = eprintln!(rt; "usage: diddy run | diddy check");
+        let _ = eprintln!(rt; "usage: diddy run | diddy check | diddy sample N");
     }
     ExitCode::from(status as u8)
 }

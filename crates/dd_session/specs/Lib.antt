@@ -2,6 +2,8 @@
 pub mod Words
 -- what a run reads and writes, by its status
 pub mod Runs
+-- what the run of a sample writes, by its status
+pub mod Samples
 -- right answers, and the texts of outputs
 pub mod Answers
 pub mod Output
@@ -12,3 +14,5 @@ pub mod Checks
 pub mod Agreement
 -- the check of answers one by one
 pub mod checking
+-- how much is written of an answer
+pub mod Forms
