@@ -1,6 +1,7 @@
 -- The words of a session.
-use Rattle.std.proofs.Common.{◌≡◌, ℕ, ◌<◌, ◌≤◌, ◌^◌, List, [], ◌∷◌, length, codes, decimal, Option, Some, None, refl, sym, ◌∙◌, ap, subst, arith}
+use Rattle.std.proofs.Common.{◌≡◌, ℕ, ◌<◌, ◌≤◌, ◌^◌, List, [], ◌∷◌, length, map, codes, decimal, Option, Some, None, refl, sym, ◌∙◌, ap, subst, arith}
 use Rattle.std.proofs.lemmas.Fmt.{decimal_injective}
+use Rattle.std.proofs.lemmas.List.{length-map}
 use Rattle.dd_sample.specs.Sample.{IsSampleNumber, IsNumberOf}
 use Rattle.dd_session.specs.Words.{IsOnly, IsSample, IsSampleOf}
 
@@ -19,7 +20,7 @@ different words is other =
 
 -- one word asks for no sample
 pub alone : (text : List ℕ) (words : List (List ℕ)) (number : ℕ) → IsOnly text words → ¬ IsSample number words
-alone text words number is sample = let same : 1 ≡ 2 = ap length (sym is ∙ sample.1) in omega (arith, same)
+alone text words number is sample = let same : 1 ≡ 2 = ap (λ (ws : List (List ℕ)). length ws) (sym is ∙ sample.1) in omega (arith, same)
 
 -- words ask for one sample
 pub one_sample : (words : List (List ℕ)) (m n : ℕ) → IsSample m words → IsSample n words → m ≡ n
@@ -40,5 +41,5 @@ pub another_word : (word number : List ℕ) → ¬ (word ≡ codes "sample") →
 another_word word number is_not = λ n sample. is_not (ap first sample.1)
 
 -- more words than two, or fewer
-pub other_length : (words : List (List ℕ)) → ¬ (length words ≡ 2) → IsSampleOf words None
-other_length words is_not = λ n sample. is_not (ap length sample.1)
+pub other_length : {X : Type 0} (text : X → List ℕ) (words : List X) → ¬ (length words ≡ 2) → IsSampleOf (map text words) None
+other_length text words is_not = λ n sample. is_not (sym (length-map words text) ∙ ap (λ (ws : List (List ℕ)). length ws) sample.1)

@@ -39,6 +39,7 @@ fn is_only(words: &[String], text: &str) -> bool
 }
 
 // The number of the sample that the words ask for.
+#[tactic(auto, using(crate::proofs::Words::two_words, crate::proofs::Words::another_word, crate::proofs::Words::other_length))]
 fn sample_of(words: &[String]) -> Option<u32>
     ensures { IsSampleOf (map string_bytes words.now) result }
 {
@@ -47,7 +48,7 @@ fn sample_of(words: &[String]) -> Option<u32>
             if !is_text(word, "sample") {
                 return None;
             }
-            sample_number(number)
+            sample_number(number.as_str())
         }
         _ => None,
     }
