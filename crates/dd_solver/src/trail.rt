@@ -194,9 +194,9 @@ impl Trail {
         }
     }
 
-    /// Whether the literal at this place of a list of all of them is false.
-    pub fn is_false_at(&self, place: usize) -> bool {
-        place < self.denied.len() && self.denied[place]
+    /// Of each literal, by its place in a list of all of them, whether it is false.
+    pub fn denied(&self) -> &[bool] {
+        self.denied.as_slice()
     }
 
     fn place(&self, variable: u32) -> usize {
