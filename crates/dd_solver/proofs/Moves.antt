@@ -7,7 +7,7 @@ use Rattle.std.proofs.lemmas.List.{length-append}
 use Rattle.std.proofs.lemmas.List.Elements.{All-head, All-tail, All-push}
 use Rattle.std.proofs.lemmas.Option.{slice_get-get_or}
 use Rattle.dd_clause.specs.declared.clause.Literal.{Literal}
-use Rattle.dd_clause.specs.Clauses.{IsInRange, IsClauseInRange, is_true, is_clause_true, Satisfies}
+use Rattle.dd_clause.specs.Clauses.{IsInRange, IsClauseInRange, negation, is_true, is_clause_true, Satisfies}
 use Rattle.dd_values.specs.Variables.{true_variables}
 use Rattle.dd_derivation.specs.declared.propagation.Finding.TheVariants.{Falsified, Forced, Open}
 use Rattle.dd_derivation.specs.declared.step.Step.{Step}
@@ -15,14 +15,14 @@ use Rattle.dd_derivation.specs.Derivations.{same_literal, is_among, has_variable
 use Rattle.dd_derivation.proofs.Numbers.{length-before}
 use Rattle.dd_derivation.proofs.Soundness.{same_literal-eq, all_false}
 use Rattle.dd_derivation.proofs.Falses.{same_variable}
-use Rattle.dd_derivation.proofs.Findings.{In, forces_from}
+use Rattle.dd_derivation.proofs.Findings.{In, in_here, forces_from}
 use Rattle.dd_solver.specs.declared.trail.Entry.{Entry}
 use Rattle.dd_solver.specs.declared.analysis.Turn.{Turn}
 use Rattle.dd_solver.specs.Entries.{falses, all_known, EntryOk}
 use Rattle.dd_solver.specs.Analysis.{is_rightly_learned, Asserts}
-use Rattle.dd_solver.specs.Search.{State, known, IsSearch, AreOpen, GoesOn}
-use Rattle.dd_solver.proofs.Forcing.{all_falsified, hint_clause, at_clause}
-use Rattle.dd_solver.proofs.Trails.{in-has_variable, trail_push, trail_front}
+use Rattle.dd_solver.specs.Search.{State, known, IsSearch, AreOpen, GoesOn, unit_entry_of}
+use Rattle.dd_solver.proofs.Forcing.{in_left, in_right, all_falsified, hint_clause, at_clause}
+use Rattle.dd_solver.proofs.Trails.{falses-append, in-has_variable, trail_push, trail_front}
 use Rattle.dd_solver.proofs.Numbers.{holds_of_clause, in_clauses, past_all}
 use Rattle.dd_solver.proofs.Derived.{before-more, trail_more, hint_new, proper_in_range, derived_more, refutes_last}
 
@@ -63,6 +63,34 @@ entry_forced n cs trail r l a h = record {
   fresh = forced_new (all_known cs) (falses trail) r l h;
   follows = h;
 }
+
+-- where all but one of a clause's literals are false, and that one becomes so, the clause is falsified
+pub forced_falsified : (known : List (Option (List Literal))) (trail : List Entry) (r : ℕ) (l : Literal) → hint_finding known (is_among (falses trail)) r ≡ Forced l → hint_finding known (is_among (falses (trail ++ record { literal = negation l; reason = None } ∷ []))) r ≡ Falsified
+forced_falsified known trail r l h =
+    let q = hint_clause known (is_among (falses trail)) r (Forced l) (λ e. cc) h in
+    let f = forces_from (is_among (falses trail)) q.0 l q.2 in
+    let e : Entry = record { literal = negation l; reason = None } in
+    let w : falses (trail ++ e ∷ []) ≡ falses trail ++ l ∷ [] = falses-append trail (e ∷ []) ∙ ap (λ (x : Literal). falses trail ++ x ∷ []) (twice l) in
+    rw w (at_clause known (is_among (falses trail ++ l ∷ [])) r q.0 q.1 ∙ all_falsified (is_among (falses trail ++ l ∷ [])) q.0 (λ x i. elim (f.others x i) [
+      | inl s ↦ rw s (in_right (falses trail) (l ∷ []) l (in_here [] l))
+      | inr t ↦ in_left (falses trail) (l ∷ []) x t
+    ]))
+  where
+    signs : (b : Bool) → not (not b) ≡ b
+    signs true = refl
+    signs false = refl
+
+    twice : (x : Literal) → negation (negation x) ≡ x
+    twice x = ap (λ (b : Bool). record { variable = x.variable; positive = b }) (signs x.positive)
+
+-- the entry of a literal that is forced, or of its negation as a decision
+pub unit_entry_ok : (n : ℕ) (cs : List (List Literal)) (trail : List Entry) (r : ℕ) (l : Literal) (is_fixed : Bool) → All (IsClauseInRange n) cs → hint_finding (all_known cs) (is_among (falses trail)) r ≡ Forced l → EntryOk n (all_known cs) trail (unit_entry_of r l is_fixed)
+unit_entry_ok n cs trail r l true a h = record {
+  in_range = forced_in_range cs n (is_among (falses trail)) r l a h;
+  fresh = forced_new (all_known cs) (falses trail) r l h;
+  follows = tt;
+}
+unit_entry_ok n cs trail r l false a h = entry_forced n cs trail r l a h
 
 pub search_push : (n : ℕ) (cs : List (List Literal)) (steps : List Step) (trail : List Entry) (e : Entry) → IsSearch (record { variables = n; clauses = cs; steps = steps; entries = trail }) → EntryOk n (all_known (clauses_before cs steps)) trail e → IsSearch (record { variables = n; clauses = cs; steps = steps; entries = trail ++ e ∷ [] })
 search_push n cs steps trail e s o = record { in_range = s.in_range; trail = trail_push n (all_known (clauses_before cs steps)) trail e s.trail o; derived = s.derived }

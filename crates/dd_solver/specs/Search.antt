@@ -1,8 +1,8 @@
 -- The state of a search, and why it ends.
-use Rattle.std.specs.Prelude.{◌≡◌, ℕ, zero, suc, ◌<◌, ◌≤◌, ◌+◌, ◌-◌, ◌*◌, ◌^◌, ◌&&◌, ◌++◌, ◌∷◌, Bool, true, false, if◌then◌else◌, List, [], map, Option, None, is_none, length, take, slice_index_or, MatchOption, All}
+use Rattle.std.specs.Prelude.{◌≡◌, ℕ, zero, suc, ◌<◌, ◌≤◌, ◌+◌, ◌-◌, ◌*◌, ◌^◌, ◌&&◌, ◌++◌, ◌∷◌, Bool, true, false, if◌then◌else◌, List, [], map, Option, Some, None, is_none, length, take, slice_index_or, MatchOption, All}
 use Rattle.std.specs.List.{list_all}
 use Rattle.dd_clause.specs.declared.clause.Literal.{Literal}
-use Rattle.dd_clause.specs.Clauses.{IsClauseInRange}
+use Rattle.dd_clause.specs.Clauses.{IsClauseInRange, negation}
 use Rattle.dd_derivation.specs.declared.propagation.Finding.TheVariants.{Falsified, Forced, Open}
 use Rattle.dd_derivation.specs.declared.step.Step.{Step}
 use Rattle.dd_derivation.specs.Derivations.{hint_finding, is_among, is_right, refutes, clauses_before}
@@ -52,6 +52,12 @@ AreOpen s = (r : ℕ) → hint_finding (known s) (is_among (falses s.entries)) r
 -- all literals of the clause of this number are false
 abbrev pub IsFalsified : State → ℕ → Type 0
 IsFalsified s r = hint_finding (known s) (is_among (falses s.entries)) r ≡ Falsified
+
+-- the entry that is made where the clause of a number forces a literal: that one, or, where it is to be fixed, its
+-- negation as a decision, by which the clause is falsified
+abbrev pub unit_entry_of : ℕ → Literal → Bool → Entry
+unit_entry_of r l is_fixed =
+    if is_fixed then record { literal = negation l; reason = None } else record { literal = l; reason = Some r }
 
 -- the entry at the turn's place was decided, and the clause of the last number forces the turn's literal before it
 pub record IsForced (s : State) (turn : Turn) : Type 0 where

@@ -290,7 +290,8 @@ fn bump_reasons(
 }
 
 /// Learns a clause from the one of this number, whose literals are all false. The variables of the clauses that it
-/// follows by become more active, its own twice, and then each variable of the clauses that forced its own.
+/// follows by become more active, its own twice, and then each variable of the clauses that forced its own. A clause of one
+/// literal is for ever: the activities grow no older by it.
 pub fn learn(
     alloc: Global,
     database: &Database,
@@ -311,6 +312,8 @@ pub fn learn(
     bump_kept(order, literals);
     mark_reasons(database, trail, marked, literals);
     bump_reasons(order, database, trail, marked, literals);
-    order.decay();
+    if literals.len() > 1 {
+        order.decay();
+    }
     Ok(learned)
 }

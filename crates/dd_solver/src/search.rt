@@ -5,7 +5,7 @@ ghost use Rattle.std.specs.Prelude.{◌≡◌, ℕ, ◌+◌, ◌<◌, ◌≤◌,
 ghost use Rattle.dd_clause.specs.Clauses.{IsClauseInRange, Satisfies};
 ghost use Rattle.dd_values.specs.Variables.{true_variables};
 ghost use Rattle.dd_solver.specs.Entries.{IsFull};
-ghost use Rattle.dd_solver.specs.Search.{State, AreOpen, IsFalsified, IsForced, GoesOn, left};
+ghost use Rattle.dd_solver.specs.Search.{State, AreOpen, IsFalsified, IsForced, GoesOn, unit_entry_of, left};
 ghost use Rattle.dd_solver.specs.Answers.{IsAnswer, IsFound, IsRefuted, IsSatisfiable};
 
 use crate::analysis::{Turn, learn};
@@ -14,7 +14,7 @@ use crate::order::Order;
 use crate::propagation::Scan;
 use crate::trail::{Entry, Trail};
 use crate::watches::Watches;
-use dd_clause::{Assignment, Clause, Cnf};
+use dd_clause::{Assignment, Clause, Cnf, Literal};
 use dd_derivation::{Outcome, Step};
 use dd_values::Items;
 use std::alloc::{AllocError, Global};
@@ -41,6 +41,31 @@ impl<'a> Model for Search<'a> {
     ghost view = { λ s. record { variables = s.trail.variables; clauses = s.clauses.now; steps = s.steps.items; entries = s.trail.entries } };
 
     ghost invariant = { λ s. IsSearch (record { variables = s.trail.variables; clauses = s.clauses.now; steps = s.steps.items; entries = s.trail.entries }) × (length s.marked.items ≡ s.trail.variables) × (s.trail.variables < 2 ^ 32) };
+}
+
+/// Whether the clause of this number, which forces a literal, has others beside it, and nothing is decided yet.
+fn fixes(database: &Database, trail: &Trail, number: u64) -> bool {
+    match database.find_clause(number) {
+        None => false,
+        Some(literals) => literals.len() > 1 && !trail.has_decision(),
+    }
+}
+
+/// The entry that is made where the clause of this number forces a literal: that one, or, where it is to be fixed, its
+/// negation as a decision.
+fn unit_entry(number: u64, literal: Literal, is_fixed: bool) -> Entry
+    ensures { result ≡ unit_entry_of number literal is_fixed }
+{
+    if is_fixed {
+        return Entry {
+            literal: literal.negation(),
+            reason: None,
+        };
+    }
+    Entry {
+        literal,
+        reason: Some(number),
+    }
 }
 
 impl<'a> Search<'a> {
@@ -71,7 +96,9 @@ impl<'a> Search<'a> {
         })
     }
 
-    /// Makes true what has to be, until a clause is falsified or none forces a literal.
+    /// Makes true what has to be, until a clause is falsified or none forces a literal. A literal that a clause of several
+    /// forces before any decision is decided to be false: so the clause is falsified, and what is learned from it is the
+    /// literal alone. Later steps then need one hint for it, in place of those that led to it.
     fn propagate(&mut self) -> Result<Option<u64>, AllocError>
         ensures same { (self.new.variables ≡ self.old.variables) × (self.new.clauses ≡ self.old.clauses) × (self.new.steps ≡ self.old.steps) }
         ensures conflict { IfOk result (λ conflict. MatchOption conflict (IsFull self.new.variables self.new.entries → AreOpen self.new) (IsFalsified self.new)) }
@@ -83,10 +110,11 @@ impl<'a> Search<'a> {
             match found {
                 Scan::Conflict(number) => return Ok(Some(number)),
                 Scan::Unit(number, literal) => {
-                    self.trail.assign(Entry {
-                        literal,
-                        reason: Some(number),
-                    })?;
+                    let is_fixed = fixes(&database, &self.trail, number);
+                    self.trail.assign(unit_entry(number, literal, is_fixed))?;
+                    if is_fixed {
+                        return Ok(Some(number));
+                    }
                 }
                 Scan::Nothing => return Ok(None),
             }

@@ -178,6 +178,11 @@ impl Trail {
         None
     }
 
+    /// Whether some literal was decided.
+    pub fn has_decision(&self) -> bool {
+        !self.levels.is_empty()
+    }
+
     /// Whether the variable has its value by clauses alone, with no decision before it.
     pub fn is_fixed(&self, variable: u32) -> bool {
         match self.levels.first() {

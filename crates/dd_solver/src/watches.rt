@@ -207,8 +207,10 @@ impl Watches {
 
     /// The trail was cut to this length.
     pub fn cut(&mut self, length: usize) {
-        self.read = self.read.min(length);
-        self.at = 0;
+        if length <= self.read {
+            self.read = length;
+            self.at = 0;
+        }
     }
 
     /// The number of the clause at a place.
