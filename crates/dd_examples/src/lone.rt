@@ -21,8 +21,12 @@ impl Configuration for Lone {
     ghost symbol_of = { λ _ c. lone c };
 
     fn symbol_at(&self, cell: &Cell) -> u32 {
-        let Position { x, y, z } = cell.position;
-        u32::from(x == 0 && y == 0 && z == 0)
+        let at = &cell.position;
+        if at.x == 0 && at.y == 0 && at.z == 0 {
+            1
+        } else {
+            0
+        }
     }
 }
 

@@ -52,7 +52,7 @@ pub fn chessboard_lives(alloc: Global) -> Result<bool, RuleFault>
     ensures { IfOk result (λ lives. IsTrue lives ↔ Lives hard chessboard) }
 {
     let rule = hard_squares(alloc)?;
-    let symbols = Vec::from_slice(alloc, &[1, 0, 0, 1])?;
+    let symbols: Vec<u32> = Vec::from_slice(alloc, &[1, 0, 0, 1])?;
     let Ok(board) = Periodic::new(2, [2, 2, 1], 0, 1, symbols) else {
         unreachable!()
     };
