@@ -10,7 +10,7 @@ use Rattle.dd_checker.specs.Claims.{Claim}
 
 -- what the answer with this number, from 1, claims is true
 abbrev pub IsTrueAt : Parts → List Answer → ℕ → Type 0
-IsTrueAt s answers number = IsSomeAnd (slice_get answers (number - 1)) (Claim s number)
+IsTrueAt s answers number = IsSomeAnd (slice_get answers (number - 1)) (λ a. Claim s number a)
 
 -- so it is of the first answers
 abbrev pub AreTrueTo : Parts → List Answer → ℕ → Type 0
@@ -21,10 +21,14 @@ pub record AreTrue (s : Parts) (answers : List Answer) : Type 0 where
   pub each : length answers ≡ length s.queries
   pub claims : AreTrueTo s answers (length answers)
 
--- the bytes are the text of an output of a script, with such answers
-pub record IsTrueOutput (bytes : List ℕ) : Type 0 where
-  pub output : Output
+-- the output has a script, and such answers to its queries
+pub record IsTrueOutput (o : Output) : Type 0 where
   pub script : Parts
+  pub spells : Spells o.script script
+  pub answers : AreTrue script o.answers
+
+-- the bytes are the text of such an output
+pub record IsTrueText (bytes : List ℕ) : Type 0 where
+  pub output : Output
   pub text : bytes ≡ output_text output
-  pub spells : Spells output.script script
-  pub answers : AreTrue script output.answers
+  pub holds : IsTrueOutput output
