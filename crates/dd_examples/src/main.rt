@@ -5,6 +5,7 @@
 
 mod checking;
 mod deciding;
+mod guessing;
 mod lone;
 mod rewriting;
 mod squares;
