@@ -34,7 +34,7 @@ fn has_certificates(alloc: Global, output: &Output) -> Result<bool, AllocError>
 {
     match parse(alloc, output.script.as_slice()) {
         Ok(script) => are_accepted(alloc, &script, output.answers.as_slice()),
-        Err(fault) => match fault.kind {
+        Err(fault) => match &fault.kind {
             ScriptKind::Memory => Err(AllocError),
             _ => Ok(false),
         },

@@ -38,6 +38,7 @@ fn hard_formula(alloc: Global) -> Result<Formula, AllocError>
 }
 
 /// The rule of hard squares, over the square lattice and the symbols 0 and 1.
+#[tactic(auto, using(crate::proofs::Board::is_formula))]
 pub fn hard_squares(alloc: Global) -> Result<Rule, RuleFault>
     ensures { IfOk result (λ rule. rule ≡ hard) }
 {
@@ -47,14 +48,27 @@ pub fn hard_squares(alloc: Global) -> Result<Rule, RuleFault>
     Rule::new(alloc, &topology, &sets, formula)
 }
 
+/// The chessboard: the periods 2 and 2, with the rows 1 0 and 0 1.
+#[tactic(auto, using(crate::proofs::Board::is_board))]
+fn chessboard(alloc: Global) -> Result<Periodic, AllocError>
+    ensures { IfOk result (λ board. board ≡ chessboard) }
+{
+    let symbols: Vec<u32> = Vec::from_slice(alloc, &[1, 0, 0, 1])?;
+    match Periodic::new(2, [2, 2, 1], 0, 1, symbols) {
+        Ok(board) => Ok(board),
+        Err(_) => unreachable!(),
+    }
+}
+
 /// Whether the chessboard is a configuration of hard squares, at every position of the plane.
+#[tactic(auto, using(crate::proofs::Board::fits_board))]
 pub fn chessboard_lives(alloc: Global) -> Result<bool, RuleFault>
     ensures { IfOk result (λ lives. IsTrue lives ↔ Lives hard chessboard) }
 {
     let rule = hard_squares(alloc)?;
-    let symbols: Vec<u32> = Vec::from_slice(alloc, &[1, 0, 0, 1])?;
-    let Ok(board) = Periodic::new(2, [2, 2, 1], 0, 1, symbols) else {
-        unreachable!()
-    };
-    Ok(rule.member(&board) == Membership::Inside)
+    let board = chessboard(alloc)?;
+    match rule.member(&board) {
+        Membership::Inside => Ok(true),
+        Membership::Outside(_) => Ok(false),
+    }
 }
