@@ -1,6 +1,6 @@
 //! A rule that is made without a script, and whether a configuration obeys it.
-ghost use Rattle.std.specs.Prelude.{◌≡◌, ◌↔◌, IsTrue, IfOk};
-ghost use Rattle.dd_formula.specs.Living.{Lives};
+ghost use Rattle.std.specs.Prelude.{◌≡◌, IfOk};
+ghost use Rattle.dd_formula.specs.Living.{IsMembership};
 ghost use Rattle.dd_examples.specs.Squares.{symbol_after, hard_formula, hard, chessboard};
 
 use dd_formula::{Formula, Membership, Rule, RuleFault, Term};
@@ -62,13 +62,10 @@ fn chessboard(alloc: Global) -> Result<Periodic, AllocError>
 
 /// Whether the chessboard is a configuration of hard squares, at every position of the plane.
 #[tactic(auto, using(crate::proofs::Board::fits_board))]
-pub fn chessboard_lives(alloc: Global) -> Result<bool, RuleFault>
-    ensures { IfOk result (λ lives. IsTrue lives ↔ Lives hard chessboard) }
+pub fn chessboard_membership(alloc: Global) -> Result<Membership, RuleFault>
+    ensures { IfOk result (IsMembership hard chessboard) }
 {
     let rule = hard_squares(alloc)?;
     let board = chessboard(alloc)?;
-    match rule.member(&board) {
-        Membership::Inside => Ok(true),
-        Membership::Outside(_) => Ok(false),
-    }
+    Ok(rule.member(&board))
 }

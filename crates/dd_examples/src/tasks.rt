@@ -3,7 +3,8 @@
 use crate::checking::is_accepted;
 use crate::deciding::answered;
 use crate::rewriting::rewritten;
-use crate::squares::chessboard_lives;
+use crate::squares::chessboard_membership;
+use dd_formula::Membership;
 use dd_outside::{Source, read_all};
 use std::alloc::Global;
 
@@ -82,9 +83,9 @@ fn checked_text<S: Source>(alloc: Global, source: &mut S) -> Result<Vec<u8>, Fau
 }
 
 fn squares_text(alloc: Global) -> Result<Vec<u8>, Fault> {
-    match chessboard_lives(alloc) {
-        Ok(true) => line(alloc, b"the chessboard lives\n"),
-        Ok(false) => line(alloc, b"the chessboard does not live\n"),
+    match chessboard_membership(alloc) {
+        Ok(Membership::Inside) => line(alloc, b"inside\n"),
+        Ok(Membership::Outside(_)) => line(alloc, b"outside\n"),
         Err(_) => Err(Fault::Memory),
     }
 }
