@@ -11,7 +11,7 @@ use Rattle.dd_answer.specs.Asking.{IsBoxQuestion, AsksBoxes, Engages}
 pub asks_boxes : (s : Parts) (q : Query) (k : Asked) (before after : List Seen) → asked s q ≡ Some k → IsBoxQuestion k → FirstAsked before after → Engages (AsksBoxes s q) before after
 asks_boxes s q k before after is box first =
     let asks : AsksBoxes s q = subst (λ (o : Option Asked). IsSomeAnd o IsBoxQuestion) (sym is) box in
-    record { first = λ _. first; nobody = λ not. absurd (not asks) }
+    record { first = λ _. first; nobody = λ never. absurd (never asks) }
 
 pub asks_nobody : (s : Parts) (q : Query) (k : Asked) (all : List Seen) → asked s q ≡ Some k → (IsBoxQuestion k → ⊥) → Engages (AsksBoxes s q) all all
 asks_nobody s q k all is other =

@@ -1,5 +1,5 @@
 -- What several askings do to a roster, and that a right proposal is an answer.
-use Rattle.std.proofs.Common.{◌≡◌, List, refl, sym, inl, inr, subst, Result, Ok, Err}
+use Rattle.std.proofs.Common.{List, refl, sym, inl, inr, subst, Result, Ok, Err}
 use Rattle.std.specs.Prelude.{OnOk}
 use Rattle.dd_clause.specs.Clauses.{ClauseList}
 use Rattle.dd_derivation.specs.declared.step.Outcome.{Outcome}

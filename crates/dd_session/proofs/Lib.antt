@@ -9,3 +9,4 @@ pub mod Refused
 pub mod Streamed
 pub mod Words
 pub mod Again
+pub mod Engaging

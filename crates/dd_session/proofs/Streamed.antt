@@ -107,7 +107,7 @@ front_more a b c s qs rs more first next u so_far is_next front =
     }
 
 -- the first queries, with one more
-one_more : (queries : List Query) (done : ℕ) (q : Query) → done < length queries → q ≡ get_or queries done q
+pub one_more : (queries : List Query) (done : ℕ) (q : Query) → done < length queries → q ≡ get_or queries done q
     → take done queries ++ q ∷ [] ≡ take (done + 1) queries
 one_more queries done q less is = ap (λ (x : Query). take done queries ++ x ∷ []) is ∙ sym (take_more queries done q less)
 

@@ -2,6 +2,8 @@
 pub mod Words
 -- what a run reads and writes, by its status
 pub mod Runs
+-- what a run does to a roster of engines
+pub mod Asking
 -- right answers, and the texts of outputs
 pub mod Answers
 pub mod Output

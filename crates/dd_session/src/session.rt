@@ -1,17 +1,22 @@
 // The top call.
-ghost use Rattle.std.specs.Prelude.{◌≡◌, ◌≢◌, ◌+◌, ◌≤◌, ◌↔◌, ℕ, List, Some, IsTrue, [], ◌∷◌, map, codes, string_bytes, length};
+ghost use Rattle.std.specs.Prelude.{◌≡◌, ◌≢◌, ◌⊎◌, ◌+◌, ◌≤◌, ◌↔◌, ℕ, List, Some, IsTrue, [], ◌∷◌, map, codes, string_bytes, length};
 ghost use Rattle.dd_outside.specs.Bytes.{GivesAtMost};
+ghost use Rattle.dd_engines.specs.Rosters.{roster_seen};
+ghost use Rattle.dd_engines.specs.Rounds.{Kept, FirstAsked};
 ghost use Rattle.dd_script.specs.Scripts.{Spells};
+ghost use Rattle.dd_answer.specs.Asking.{AsksSomeBoxes};
+ghost use Rattle.dd_session.specs.Asking.{HeaderTaken, Begun, HasBegun, IsToEnd, IsUnanswered, AsksFirstOver, AsksFirst};
 ghost use Rattle.dd_session.specs.Checks.{most_checked};
 ghost use Rattle.dd_session.specs.Checked.{CheckEnded, CheckDecides};
 ghost use Rattle.dd_session.specs.Words.{IsOnly, AreBad};
-ghost use Rattle.dd_session.specs.Runs.{told, status_of, RefusedBy, RanOver, Ended, Decides, most_bytes};
+ghost use Rattle.dd_session.specs.Runs.{told, status_of, RefusedBy, RanOver, Ended, Decides, IsAccepted, most_bytes};
 
 use crate::checks::check_diddy;
 use crate::output::refused_text;
 use crate::status::Status;
 use crate::stream::{RunFault, run_script};
 use dd_answer::one_line;
+use dd_engines::{Engine, Roster};
 use dd_outside::{ReadAllFault, Sink, Source, WriteFault, read_all, write_whole};
 use dd_script::{Script, parse, spelled_or_refused};
 use std::alloc::{AllocError, Global};
@@ -46,13 +51,23 @@ pub(crate) fn refuse<K: Sink>(sink: &mut K, line: &[u8]) -> Status
 }
 
 // Runs an accepted script.
-fn run_accepted<K: Sink>(alloc: Global, bytes: &[u8], script: &Script, sink: &mut K) -> Status
+fn run_accepted<K: Sink, E: Engine>(
+    alloc: Global,
+    bytes: &[u8],
+    script: &Script,
+    sink: &mut K,
+    roster: &mut Roster<E>,
+) -> Status
     requires { Spells bytes.now script.now }
     ensures ran { RanOver (told K.held K.faults sink.old sink.new) bytes.now result }
     ensures later { K.faults sink.old ≤ K.faults sink.new }
+    ensures roster_kept { Kept (roster_seen E.asked E.given E.sound roster.old) (roster_seen E.asked E.given E.sound roster.new) }
+    ensures roster_untouched { IsUnanswered result → roster.new ≡ roster.old }
+    ensures late { (roster.new ≡ roster.old) ⊎ HeaderTaken (K.held sink.old) (K.held sink.new) bytes.now }
+    ensures asked { IsToEnd result → AsksSomeBoxes script.now script.now.queries → FirstAsked (roster_seen E.asked E.given E.sound roster.old) (roster_seen E.asked E.given E.sound roster.new) }
 {
     one_line(script);
-    match run_script(alloc, bytes, script, sink) {
+    match run_script(alloc, bytes, script, sink, roster) {
         Ok(has_unknown) => status_of(has_unknown),
         Err(RunFault::WriteFault) => Status::WriteFault,
         Err(RunFault::Memory) => Status::Memory,
@@ -71,13 +86,23 @@ pub(crate) fn status_of(has_unknown: bool) -> Status
 }
 
 // Runs an input that is not too long.
-fn run_bytes<K: Sink>(alloc: Global, bytes: &[u8], sink: &mut K) -> Status
+#[tactic(auto, using(dd_engines::proofs::Keeping::kept_same))]
+fn run_bytes<K: Sink, E: Engine>(
+    alloc: Global,
+    bytes: &[u8],
+    sink: &mut K,
+    roster: &mut Roster<E>,
+) -> Status
     requires { length bytes.now ≤ most_bytes }
     ensures ran { RanOver (told K.held K.faults sink.old sink.new) bytes.now result }
     ensures later { K.faults sink.old ≤ K.faults sink.new }
+    ensures roster_kept { Kept (roster_seen E.asked E.given E.sound roster.old) (roster_seen E.asked E.given E.sound roster.new) }
+    ensures roster_untouched { IsUnanswered result → roster.new ≡ roster.old }
+    ensures late { (roster.new ≡ roster.old) ⊎ Begun (K.held sink.old) (K.held sink.new) bytes.now }
+    ensures asked { IsToEnd result → AsksFirstOver bytes.now (roster_seen E.asked E.given E.sound roster.old) (roster_seen E.asked E.given E.sound roster.new) }
 {
     match parse(alloc, bytes) {
-        Ok(script) => run_accepted(alloc, bytes, &script, sink),
+        Ok(script) => run_accepted(alloc, bytes, &script, sink, roster),
         Err(fault) => match refused_text(alloc, "refused", fault.command, &fault.kind) {
             Ok(line) => refuse(sink, line.as_bytes()),
             Err(AllocError) => Status::Memory,
@@ -86,15 +111,25 @@ fn run_bytes<K: Sink>(alloc: Global, bytes: &[u8], sink: &mut K) -> Status
 }
 
 // What the word `run` does.
-fn run<S: Source, K: Sink>(alloc: Global, source: &mut S, sink: &mut K) -> Status
+#[tactic(auto, using(dd_engines::proofs::Keeping::kept_same))]
+fn run<S: Source, K: Sink, E: Engine>(
+    alloc: Global,
+    source: &mut S,
+    sink: &mut K,
+    roster: &mut Roster<E>,
+) -> Status
     ensures ended { Ended (told S.left S.faults source.old source.new) (told K.held K.faults sink.old sink.new) result }
     ensures ran { result ≢ Status.BadWords }
     ensures taken { GivesAtMost (S.left source.old) (S.left source.new) (most_bytes + 1) }
     ensures source_faults { S.faults source.old ≤ S.faults source.new }
     ensures sink_faults { K.faults sink.old ≤ K.faults sink.new }
+    ensures roster_kept { Kept (roster_seen E.asked E.given E.sound roster.old) (roster_seen E.asked E.given E.sound roster.new) }
+    ensures roster_untouched { IsUnanswered result → roster.new ≡ roster.old }
+    ensures late { (roster.new ≡ roster.old) ⊎ HasBegun (S.left source.old) (S.left source.new) (K.held sink.old) (K.held sink.new) }
+    ensures asked { IsToEnd result → AsksFirst (S.left source.old) (S.left source.new) (roster_seen E.asked E.given E.sound roster.old) (roster_seen E.asked E.given E.sound roster.new) }
 {
     match read_all(alloc, source, MOST_BYTES) {
-        Ok(bytes) => run_bytes(alloc, &bytes, sink),
+        Ok(bytes) => run_bytes(alloc, &bytes, sink, roster),
         Err(ReadAllFault::TooLong) => refuse(sink, b"refused long\n"),
         Err(ReadAllFault::ReadFault) => Status::ReadFault,
         Err(ReadAllFault::Memory) => Status::Memory,
@@ -110,14 +145,22 @@ fn run<S: Source, K: Sink>(alloc: Global, source: &mut S, sink: &mut K) -> Statu
 /// `refused C KIND`, with the number of the command and what is wrong with it. Nothing is run then. Where
 /// the source fails, nothing is written; where the sink fails or memory is wanting, a front of what was
 /// to be written may have been. At most 1,048,577 bytes are taken from the source.
+///
+/// With `run`, the engines of the roster are asked before each search of a box question. What is written is right whatever they
+/// propose, and so each answer's first line, and the status, are the same over every roster. The roster is kept: each sound engine
+/// is still there, in order, on every return. No engine is asked before the lines before the first answer are written whole, nor
+/// for an input that is refused, nor with any other word. Where the run came to its end and some query asks a box question, the
+/// first engine that is left was asked.
+#[tactic(auto, using(dd_engines::proofs::Keeping::kept_same))]
 pub fn run_diddy<S: Source, K: Sink>(
     alloc: Global,
     words: &[String],
     source: &mut S,
     sink: &mut K,
+    roster: &mut Roster,
 ) -> Status
     ensures bad_words { result ≡ Status.BadWords ↔ AreBad (map string_bytes words.now) }
-    ensures kept { result ≡ Status.BadWords → (source.new ≡ source.old) × (sink.new ≡ sink.old) }
+    ensures kept { result ≡ Status.BadWords → (source.new ≡ source.old) × (sink.new ≡ sink.old) × (roster.new ≡ roster.old) }
 
     ensures ran { IsOnly (codes "run") (map string_bytes words.now) →
         Ended (told S.left S.faults source.old source.new) (told K.held K.faults sink.old sink.new) result }
@@ -133,10 +176,18 @@ pub fn run_diddy<S: Source, K: Sink>(
 
     ensures source_faults { S.faults source.old ≤ S.faults source.new }
     ensures sink_faults { K.faults sink.old ≤ K.faults sink.new }
+
+    ensures roster_kept { Kept (roster_seen asked given sound roster.old) (roster_seen asked given sound roster.new) }
+    ensures roster_untouched { IsUnanswered result → roster.new ≡ roster.old }
+    ensures roster_late { (roster.new ≡ roster.old) ⊎ HasBegun (S.left source.old) (S.left source.new) (K.held sink.old) (K.held sink.new) }
+    ensures refused_unasked { (bytes : List ℕ) → S.left source.old ≡ Some bytes → ¬ IsAccepted bytes → roster.new ≡ roster.old }
+    ensures run_asked { IsOnly (codes "run") (map string_bytes words.now) → IsToEnd result →
+        AsksFirst (S.left source.old) (S.left source.new) (roster_seen asked given sound roster.old) (roster_seen asked given sound roster.new) }
+    ensures check_asks_nobody { IsOnly (codes "check") (map string_bytes words.now) → roster.new ≡ roster.old }
 {
     if is_only(words, "run") {
         spelled_or_refused();
-        return run(alloc, source, sink);
+        return run(alloc, source, sink, roster);
     }
     if is_only(words, "check") {
         return check_diddy(alloc, source, sink);

@@ -1,15 +1,20 @@
 // The output of a script, each part written as soon as it is made.
-ghost use Rattle.std.specs.Prelude.{◌≡◌, ◌≤◌, ◌∷◌, [], length, Contains, IfOk, OnErr, IsErrOf};
+ghost use Rattle.std.specs.Prelude.{◌≡◌, ◌⊎◌, ◌≤◌, ◌∷◌, [], length, Contains, IfOk, OnOk, OnErr, IsErrOf};
 ghost use Rattle.dd_values.specs.Counts.{Rose};
+ghost use Rattle.dd_engines.specs.Rosters.{roster_seen};
+ghost use Rattle.dd_engines.specs.Rounds.{Kept};
 ghost use Rattle.dd_script.specs.Scripts.{Spells};
+ghost use Rattle.dd_answer.specs.Asking.{AsksBoxes, AsksSomeBoxes, Engages};
 ghost use Rattle.dd_answer.specs.Right.{is_unknown};
 ghost use Rattle.dd_session.specs.declared.stream.RunFault.TheVariants.{WriteFault, Memory};
 ghost use Rattle.dd_session.specs.Answers.{most_queries};
+ghost use Rattle.dd_session.specs.Asking.{HeaderTaken};
 ghost use Rattle.dd_session.specs.Runs.{Answered, AnsweredFront, WholeOutput, CutShort};
 
 use crate::output::header_text;
 use dd_answer::answer;
 use dd_certificate::{Answer, write_answer};
+use dd_engines::{Engine, Roster};
 use dd_outside::{Sink, write_whole};
 use dd_query::Query;
 use dd_script::Script;
@@ -45,58 +50,74 @@ pub(crate) fn is_unknown(answer: &Answer) -> bool
 }
 
 // Answers one query, and writes the text. True where the answer is unknown.
-fn answer_one<K: Sink>(
+fn answer_one<K: Sink, E: Engine>(
     alloc: Global,
     script: &Script,
     query: &Query,
     number: u32,
     sink: &mut K,
+    roster: &mut Roster<E>,
 ) -> Result<bool, RunFault>
     requires { Contains script.now.queries query.now }
     ensures wrote { IfOk result (λ unknown. Answered (K.held sink.old) (K.held sink.new) script.now (query.now ∷ []) number unknown) }
     ensures cut { OnErr result (AnsweredFront (K.held sink.old) (K.held sink.new) script.now (query.now ∷ []) number) }
     ensures later { K.faults sink.old ≤ K.faults sink.new }
     ensures write_fault { IsErrOf result RunFault.WriteFault → Rose (K.faults sink.old) (K.faults sink.new) }
+    ensures kept { Kept (roster_seen E.asked E.given E.sound roster.old) (roster_seen E.asked E.given E.sound roster.new) }
+    ensures asked { OnOk result (Engages (AsksBoxes script.now query.now) (roster_seen E.asked E.given E.sound roster.old) (roster_seen E.asked E.given E.sound roster.new)) }
 {
-    let found = answer(alloc, script, query)?;
+    let found = answer(alloc, script, query, roster)?;
     let text = write_answer(alloc, number, &found)?;
     write_whole(sink, &text)?;
     Ok(is_unknown(&found))
 }
 
 // Answers all queries in order, and writes each text before the next answer is made. True where an answer is unknown.
-#[tactic(auto, using(crate::proofs::Asked::asked_at, crate::proofs::Streamed::answered_next))]
-fn answer_all<K: Sink>(alloc: Global, script: &Script, sink: &mut K) -> Result<bool, RunFault>
+#[tactic(auto, using(crate::proofs::Asked::asked_at, crate::proofs::Streamed::answered_next, crate::proofs::Engaging::engaged_none, crate::proofs::Engaging::engaged_next, dd_engines::proofs::Keeping::kept_same, dd_engines::proofs::Keeping::kept_kept))]
+fn answer_all<K: Sink, E: Engine>(
+    alloc: Global,
+    script: &Script,
+    sink: &mut K,
+    roster: &mut Roster<E>,
+) -> Result<bool, RunFault>
     requires { length script.now.queries ≤ most_queries }
     ensures wrote { IfOk result (λ unknown. Answered (K.held sink.old) (K.held sink.new) script.now script.now.queries 1 unknown) }
     ensures cut { OnErr result (AnsweredFront (K.held sink.old) (K.held sink.new) script.now script.now.queries 1) }
     ensures later { K.faults sink.old ≤ K.faults sink.new }
     ensures write_fault { IsErrOf result RunFault.WriteFault → Rose (K.faults sink.old) (K.faults sink.new) }
+    ensures kept { Kept (roster_seen E.asked E.given E.sound roster.old) (roster_seen E.asked E.given E.sound roster.new) }
+    ensures asked { OnOk result (Engages (AsksSomeBoxes script.now script.now.queries) (roster_seen E.asked E.given E.sound roster.old) (roster_seen E.asked E.given E.sound roster.new)) }
 {
     let queries = script.queries();
     let mut has_unknown = false;
     for (done, query) in queries.iter().enumerate() {
-        has_unknown |= answer_one(alloc, script, query, done as u32 + 1, sink)?;
+        has_unknown |= answer_one(alloc, script, query, done as u32 + 1, sink, roster)?;
     }
     Ok(has_unknown)
 }
 
-/// Runs an accepted script. True where an answer is unknown.
-pub(crate) fn run_script<K: Sink>(
+/// Runs an accepted script. True where an answer is unknown. No engine is asked before the lines before the first answer are
+/// written whole.
+#[tactic(auto, using(dd_engines::proofs::Keeping::kept_same))]
+pub(crate) fn run_script<K: Sink, E: Engine>(
     alloc: Global,
     bytes: &[u8],
     script: &Script,
     sink: &mut K,
+    roster: &mut Roster<E>,
 ) -> Result<bool, RunFault>
     requires { Spells bytes.now script.now }
     ensures whole { IfOk result (λ unknown. WholeOutput (K.held sink.old) (K.held sink.new) bytes.now script.now unknown) }
     ensures cut { OnErr result (CutShort (K.held sink.old) (K.held sink.new) bytes.now script.now) }
     ensures later { K.faults sink.old ≤ K.faults sink.new }
     ensures write_fault { IsErrOf result RunFault.WriteFault → Rose (K.faults sink.old) (K.faults sink.new) }
+    ensures kept { Kept (roster_seen E.asked E.given E.sound roster.old) (roster_seen E.asked E.given E.sound roster.new) }
+    ensures asked { OnOk result (Engages (AsksSomeBoxes script.now script.now.queries) (roster_seen E.asked E.given E.sound roster.old) (roster_seen E.asked E.given E.sound roster.new)) }
+    ensures late { (roster.new ≡ roster.old) ⊎ HeaderTaken (K.held sink.old) (K.held sink.new) bytes.now }
 {
     let header = header_text(alloc, bytes)?;
     write_whole(sink, &header)?;
-    let has_unknown = answer_all(alloc, script, sink)?;
+    let has_unknown = answer_all(alloc, script, sink, roster)?;
     write_whole(sink, b"end\n")?;
     Ok(has_unknown)
 }

@@ -1,6 +1,7 @@
 use Rattle.dd_session.specs.Runs.{told}
 use Rattle.dd_session.proofs.CheckEnds.{never_bad}
 use Rattle.dd_session.proofs.Decided.{decided}
+use Rattle.dd_session.proofs.Engaging.{refused_unasked}
 use Rattle.dd_session.proofs.Words.{different}
 use Rattle.dd_session.proofs.session.run_diddy.Goals as goal
 
@@ -38,3 +39,12 @@ returns-then-is_only-2-clause-run_decided g c = λ other. absurd (different _ ot
 
 pub returns-then-is_only-2-clause-run_taken : goal.returns-then-is_only-2-clause-run_taken
 returns-then-is_only-2-clause-run_taken g c = λ other. absurd (different _ other (c.is_only-2.ensures.0 c.if-is_only-2.true))
+
+pub returns-then-is_only-clause-refused_unasked : goal.returns-then-is_only-clause-refused_unasked
+returns-then-is_only-clause-refused_unasked g c = λ bytes is never. refused_unasked _ bytes _ _ _ _ is never c.run.ensures.late
+
+pub returns-then-is_only-clause-check_asks_nobody : goal.returns-then-is_only-clause-check_asks_nobody
+returns-then-is_only-clause-check_asks_nobody g c = λ other. absurd (different _ (c.is_only.ensures.0 c.if-is_only.true) other)
+
+pub returns-then-is_only-2-clause-run_asked : goal.returns-then-is_only-2-clause-run_asked
+returns-then-is_only-2-clause-run_asked g c = λ other. absurd (different _ other (c.is_only-2.ensures.0 c.if-is_only-2.true))

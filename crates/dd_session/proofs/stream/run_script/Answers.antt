@@ -1,5 +1,8 @@
-use Rattle.std.proofs.Common.{rules}
+use Rattle.std.proofs.Common.{rules, inr}
+use Rattle.std.proofs.KnownBytes.{Appends-trans}
 use Rattle.dd_session.specs.Runs.{CutShort}
+use Rattle.dd_session.specs.Asking.{HeaderTaken}
+use Rattle.dd_session.proofs.Engaging.{header_then}
 use Rattle.dd_session.proofs.Numbered.{few_queries}
 use Rattle.dd_session.proofs.Streamed.{cut_at_start, cut_in_header, cut_in_answers, cut_at_end}
 use Rattle.dd_session.proofs.stream.run_script.Goals as goal
@@ -29,3 +32,23 @@ returns-in_err-write_whole-2-clause-cut g c =
     let cut : CutShort (g.K.Sink.held c.args.sink.now) (g.K.Sink.held c.write_whole-2.new.sink) c.args.bytes.now c.args.script.now =
     cut_at_end _ _ _ _ _ _ c.deref.result.now _ (search rules) c.in_ok-write_whole.ensures.whole c.in_ok-has_unknown.ensures.wrote c.in_err-write_whole-2.ensures.front in
     search rules
+
+pub returns-in_err-has_unknown-clause-late : goal.returns-in_err-has_unknown-clause-late
+returns-in_err-has_unknown-clause-late g c =
+    let taken : HeaderTaken (g.K.Sink.held c.args.sink.now) (g.K.Sink.held c.answer_all.new.sink) c.args.bytes.now =
+    header_then _ _ _ _ c.deref.result.now _ (search rules) c.in_ok-write_whole.ensures.whole c.in_err-has_unknown.ensures.cut.front.appends in
+    inr taken
+
+pub returns-in_err-write_whole-2-clause-late : goal.returns-in_err-write_whole-2-clause-late
+returns-in_err-write_whole-2-clause-late g c =
+    let taken : HeaderTaken (g.K.Sink.held c.args.sink.now) (g.K.Sink.held c.write_whole-2.new.sink) c.args.bytes.now =
+    header_then _ _ _ _ c.deref.result.now _ (search rules) c.in_ok-write_whole.ensures.whole
+    (Appends-trans _ _ _ _ _ c.in_ok-has_unknown.ensures.wrote.appends c.in_err-write_whole-2.ensures.front.appends) in
+    inr taken
+
+pub returns-clause-late : goal.returns-clause-late
+returns-clause-late g c =
+    let taken : HeaderTaken (g.K.Sink.held c.args.sink.now) (g.K.Sink.held c.write_whole-2.new.sink) c.args.bytes.now =
+    header_then _ _ _ _ c.deref.result.now _ (search rules) c.in_ok-write_whole.ensures.whole
+    (Appends-trans _ _ _ _ _ c.in_ok-has_unknown.ensures.wrote.appends c.in_ok-write_whole-2.ensures.whole) in
+    inr taken
