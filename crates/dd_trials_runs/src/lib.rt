@@ -13,6 +13,8 @@ mod checks;
 #[cfg(test)]
 mod densities;
 #[cfg(test)]
+mod engines;
+#[cfg(test)]
 mod forbidden;
 #[cfg(test)]
 mod formulas;
@@ -20,6 +22,8 @@ mod formulas;
 mod members;
 #[cfg(test)]
 mod refusals;
+#[cfg(test)]
+mod rosters;
 #[cfg(test)]
 mod runs;
 #[cfg(test)]

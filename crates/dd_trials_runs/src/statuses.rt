@@ -1,5 +1,6 @@
 // How runs end where the input is too long, or where a source or a sink fails.
 use crate::runs::{HARD, words_of};
+use dd_engines::Roster;
 use dd_outside::{MemorySink, MemorySource};
 use dd_session::{Status, run_diddy};
 use std::test::Fail;
@@ -8,11 +9,12 @@ use std::test::Fail;
 fn a_long_input_is_refused(rt: HostRuntime) -> Result<(), Fail> {
     let alloc = rt.alloc();
     let words = words_of(alloc, "run")?;
+    let mut roster = Roster::new(Vec::new(alloc));
     let blanks = vec![in alloc; b' '; 1_048_577]?;
     let mut source = MemorySource::new(blanks, 1_000_000, Vec::new(alloc));
     let mut sink = MemorySink::new(alloc, 200, 200, Vec::new(alloc))?;
     assert_eq!(rt;
-        run_diddy(alloc, &words, &mut source, &mut sink),
+        run_diddy(alloc, &words, &mut source, &mut sink, &mut roster),
         Status::Refused
     );
     assert_eq!(rt; sink.held_bytes(), b"refused long\n".as_slice());
@@ -20,7 +22,7 @@ fn a_long_input_is_refused(rt: HostRuntime) -> Result<(), Fail> {
     let mut source = MemorySource::new(blanks, 1_000_000, Vec::new(alloc));
     let mut sink = MemorySink::new(alloc, 1_048_605, 1_000_000, Vec::new(alloc))?;
     assert_eq!(rt;
-        run_diddy(alloc, &words, &mut source, &mut sink),
+        run_diddy(alloc, &words, &mut source, &mut sink, &mut roster),
         Status::Definite
     );
     Ok(())
@@ -47,7 +49,11 @@ fn each_fault_has_its_status(rt: HostRuntime) -> Result<(), Fail> {
         let bytes = Vec::from_slice(alloc, HARD.as_bytes())?;
         let mut source = MemorySource::new(bytes, 100, vec![in alloc; read]?);
         let mut sink = MemorySink::new(alloc, 200, 16, vec![in alloc; write]?)?;
-        assert_eq!(rt; run_diddy(alloc, &words, &mut source, &mut sink), status);
+        let mut roster = Roster::new(Vec::new(alloc));
+        assert_eq!(rt;
+            run_diddy(alloc, &words, &mut source, &mut sink, &mut roster),
+            status
+        );
         assert_eq!(rt; sink.held_bytes().len(), held);
         assert!(rt; whole.as_bytes().starts_with(sink.held_bytes()));
     }
