@@ -1,12 +1,12 @@
 //! The questions that the search asks of boxes and of periods.
-ghost use Rattle.std.specs.Prelude.{◌≡◌, ◌+◌, ◌-◌, ◌^◌, ◌≤◌, true, length, IfOk, OnOk, IfSome};
+ghost use Rattle.std.specs.Prelude.{◌≡◌, ◌↔◌, ◌+◌, ◌-◌, ◌^◌, ◌≤◌, true, length, IfOk, OnOk, IfSome};
 ghost use Rattle.dd_boxes.specs.Boxes.{Suffices};
 ghost use Rattle.dd_boxes.specs.Goals.{IsGoalFor};
 ghost use Rattle.dd_boxes.specs.Views.{goal_of};
 ghost use Rattle.dd_derivation.specs.Derivations.{refutes};
 ghost use Rattle.dd_engines.specs.Rosters.{roster_seen};
 ghost use Rattle.dd_engines.specs.Rounds.{Kept, FirstAsked};
-ghost use Rattle.dd_solver.specs.Answers.{IsAnswer};
+ghost use Rattle.dd_solver.specs.Answers.{IsAnswer, IsFound, IsRefuted, IsSatisfiable};
 ghost use Rattle.dd_contain.specs.Questions.{AreNumbered, RefutesByNumbers, ShowsAt, Displays, AsksRadius, AsksPeriods, IsSmallQuestion, IsDecided, HasNumbers};
 
 use crate::decision::Decision;
@@ -45,18 +45,19 @@ fn evidence(alloc: Global, cnf: &Cnf, steps: Items<Step>) -> Result<Items<Step>,
 }
 
 /// What there is to say of the clauses: what an engine of the roster proposes, where that is right, otherwise what the search finds.
-#[tactic(auto, using(crate::proofs::AskingLaws::right_answer))]
 fn outcome<E: Engine>(
     alloc: Global,
     cnf: &Cnf,
     roster: &mut Roster<E>,
 ) -> Result<Outcome, AllocError>
     ensures answer { IfOk result (IsAnswer cnf.now.variables cnf.now.clauses) }
+    ensures found { IfOk result (λ outcome. IsFound outcome ↔ IsSatisfiable cnf.now.clauses) }
+    ensures refuted { IfOk result (λ outcome. IsRefuted outcome ↔ ¬ (IsSatisfiable cnf.now.clauses)) }
     ensures kept { Kept (roster_seen E.asked E.given E.sound roster.old) (roster_seen E.asked E.given E.sound roster.new) }
     ensures first { OnOk result (FirstAsked (roster_seen E.asked E.given E.sound roster.old) (roster_seen E.asked E.given E.sound roster.new)) }
 {
     match roster.ask(alloc, cnf)? {
-        Some(answer) => Ok(answer),
+        Some(proposed) => Ok(proposed),
         None => solve(alloc, cnf),
     }
 }
