@@ -123,6 +123,9 @@ pub(crate) enum Member {
     Walker(u32),
 }
 
+/// No engines at all.
+pub(crate) const NO_ENGINES: &[Member] = &[];
+
 /// The engines of the program.
 pub(crate) const OF_PROGRAM: &[Member] = &[Member::Propagator, Member::Walker(10_000)];
 

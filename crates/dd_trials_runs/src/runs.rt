@@ -1,5 +1,5 @@
 // Whole runs over bytes in memory.
-use crate::engines::{Member, OF_PROGRAM, session_over};
+use crate::engines::{Member, NO_ENGINES, OF_PROGRAM, session_over};
 use dd_outside::{MemorySink, MemorySource};
 use dd_session::{Status, check_diddy};
 use std::alloc::{AllocError, Global};
@@ -39,7 +39,7 @@ pub(crate) fn run_over(alloc: Global, bytes: &[u8], members: &[Member]) -> Resul
 
 /// The status of a run over these bytes without engines, and what it wrote.
 pub(crate) fn run_on(alloc: Global, bytes: &[u8]) -> Result<(Status, Vec<u8>), AllocError> {
-    let ran = run_over(alloc, bytes, &[])?;
+    let ran = run_over(alloc, bytes, NO_ENGINES)?;
     Ok((ran.status, ran.output))
 }
 
@@ -100,7 +100,7 @@ pub(crate) fn assert_first_lines(
     script: &str,
     answers: &str,
 ) -> Result<(), Fail> {
-    for members in [&[], OF_PROGRAM] {
+    for members in [NO_ENGINES, OF_PROGRAM] {
         let output = checked_output(rt, alloc, members, script, answers)?;
         let lines = first_lines(alloc, output)?;
         assert_eq!(rt; lines.as_str(), answers, "{script}");
@@ -127,7 +127,7 @@ pub(crate) fn assert_answers(
     rows: &[(&str, &str)],
 ) -> Result<(), Fail> {
     for (script, answers) in rows {
-        let output = checked_output(rt, alloc, &[], script, answers)?;
+        let output = checked_output(rt, alloc, NO_ENGINES, script, answers)?;
         let wanted = output_of(alloc, script, answers)?;
         assert_eq!(rt; output.as_slice(), wanted.as_bytes(), "{script}");
     }
