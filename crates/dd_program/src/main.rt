@@ -68,7 +68,7 @@ fn main(rt: HostRuntime) -> ExitCode {
         Err(AllocError) => Status::Memory,
     };
     if status == Status::BadWords {
-        let _ = eprintln!(rt; "usage: diddy run | diddy check");
+        let _ = eprintln!(rt; "usage: diddy run | diddy check | diddy sample N");
     }
     ExitCode::from(status as u8)
 }

@@ -1,12 +1,14 @@
 -- How queries ask engines, one after the other, and when nobody was asked.
-use Rattle.std.proofs.Common.{◌≡◌, ◌⊎◌, ℕ, ◌+◌, ◌<◌, ◌≤◌, List, [], ◌∷◌, ◌++◌, length, take, get_or, Bool, true, false, Some, None, refl, sym, ◌∙◌, subst, inl, inr}
+use Rattle.std.proofs.Common.{◌≡◌, ◌⊎◌, ℕ, ◌+◌, ◌<◌, ◌≤◌, List, [], ◌∷◌, ◌++◌, length, take, get_or, Bool, true, false, Some, None, refl, sym, ◌∙◌, subst, inl, inr, Result, Ok, Err}
 use Rattle.std.proofs.KnownBytes.{Appends-trans}
-use Rattle.std.specs.Prelude.{IsSomeAnd}
+use Rattle.std.specs.Prelude.{IsSomeAnd, IfOk, OnErr}
 use Rattle.std.specs.declared.option.Option.{Option}
 use Rattle.std.specs.Io.KnownBytes.{Appends}
 use Rattle.dd_outside.specs.Bytes.{ReadToEnd}
 use Rattle.dd_engines.specs.Rounds.{Seen, Kept, FirstAsked}
 use Rattle.dd_engines.proofs.Keeping.{first_after}
+use Rattle.dd_certificate.specs.Text.{answer_text}
+use Rattle.dd_sample.specs.Sample.{sample_text}
 use Rattle.dd_query.specs.declared.queries.Query.{Query}
 use Rattle.dd_script.specs.Parts.{Parts}
 use Rattle.dd_script.specs.Questions.{Asked, membership, box, equality, listing, density, discharge, asked}
@@ -14,8 +16,9 @@ use Rattle.dd_script.specs.Scripts.{Spells}
 use Rattle.dd_answer.specs.Asking.{IsBoxQuestion, AsksBoxes, AsksSomeBoxes, Engages}
 use Rattle.dd_session.specs.declared.status.Status.{Status}
 use Rattle.dd_session.specs.declared.status.Status.TheVariants.{Definite, SomeUnknown, Refused, ReadFault, WriteFault, Memory, BadWords, Rejected}
+use Rattle.dd_session.specs.declared.stream.RunFault.{RunFault}
 use Rattle.dd_session.specs.Output.{header}
-use Rattle.dd_session.specs.Runs.{Told, RefusedBy, IsAccepted, status_of, most_bytes}
+use Rattle.dd_session.specs.Runs.{Told, RefusedBy, IsAccepted, status_of, most_bytes, AnsweredToEnd, AnsweredShort}
 use Rattle.dd_session.specs.Asking.{HeaderTaken, Begun, HasBegun, IsToEnd, IsUnanswered, AsksFirstOver, AsksFirst}
 use Rattle.dd_session.proofs.Decided.{told_bytes}
 use Rattle.dd_session.proofs.Streamed.{one_more}
@@ -82,6 +85,12 @@ engaged_next s queries q done a b c less is kept so_far one =
 pub header_then : (a b c : Option (List ℕ)) (bytes text more : List ℕ) → text ≡ header bytes → Appends a b text → Appends b c more → HeaderTaken a c bytes
 header_then a b c bytes text more is before after = record { more = more; appends = Appends-trans a b c _ _ (subst (Appends a b) is before) after }
 
+-- The header was written, and then all answers or a front of them.
+pub taken_before : (a b c : Option (List ℕ)) (bytes : List ℕ) (s : Parts) (text : List ℕ) (r : Result Bool RunFault) → text ≡ header bytes → Appends a b text
+    → IfOk r (λ u. AnsweredToEnd answer_text b c s u) → OnErr r (AnsweredShort answer_text b c s) → HeaderTaken a c bytes
+taken_before a b c bytes s text (Ok u) is before whole short = header_then a b c bytes text _ is before whole.appends
+taken_before a b c bytes s text (Err e) is before whole short = header_then a b c bytes text _ is before short.front.appends
+
 pub begun : (P : Type 0) (old new : Option (List ℕ)) (bytes : List ℕ) (s : Parts) → Spells bytes s → P ⊎ HeaderTaken old new bytes → P ⊎ Begun old new bytes
 begun P old new bytes s spelled (inl p) = inl p
 begun P old new bytes s spelled (inr taken) = inr record { script = s; spelled = spelled; taken = taken }
@@ -111,6 +120,10 @@ pub asks_first : (left_old left_new : Option (List ℕ)) (before after : List Se
     → AsksFirstOver bytes before after → AsksFirst left_old left_new before after
 asks_first left_old left_new before after given bytes to_end same over =
     record { bytes = given; read = to_end; run = subst (λ (l : List ℕ). AsksFirstOver l before after) same over }
+
+-- the same sample by two numbers that are one
+pub same_sample : (before after : List Seen) (m n : ℕ) → m ≡ n → AsksFirstOver (sample_text m) before after → AsksFirstOver (sample_text n) before after
+same_sample before after m n is over = subst (λ (k : ℕ). AsksFirstOver (sample_text k) before after) is over
 
 -- a run to the end has answered its queries
 pub never_unanswered : (has : Bool) (status : Status) → status ≡ status_of has → IsUnanswered status → ⊥

@@ -4,6 +4,8 @@ pub mod Words
 pub mod Runs
 -- what a run does to a roster of engines
 pub mod Asking
+-- what the run of a sample writes, by its status
+pub mod Samples
 -- right answers, and the texts of outputs
 pub mod Answers
 pub mod Output
@@ -14,3 +16,5 @@ pub mod Checks
 pub mod Agreement
 -- the check of answers one by one
 pub mod checking
+-- how much is written of an answer
+pub mod Forms

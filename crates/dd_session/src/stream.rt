@@ -1,4 +1,4 @@
-// The output of a script, each part written as soon as it is made.
+// The output of a script, and the first lines of its answers, each part written as soon as it is made.
 ghost use Rattle.std.specs.Prelude.{◌≡◌, ◌⊎◌, ◌≤◌, ◌∷◌, [], length, Contains, IfOk, OnOk, OnErr, IsErrOf};
 ghost use Rattle.dd_values.specs.Counts.{Rose};
 ghost use Rattle.dd_engines.specs.Rosters.{roster_seen};
@@ -9,11 +9,19 @@ ghost use Rattle.dd_answer.specs.Right.{is_unknown};
 ghost use Rattle.dd_session.specs.declared.stream.RunFault.TheVariants.{WriteFault, Memory};
 ghost use Rattle.dd_session.specs.Answers.{most_queries};
 ghost use Rattle.dd_session.specs.Asking.{HeaderTaken};
-ghost use Rattle.dd_session.specs.Runs.{Answered, AnsweredFront, WholeOutput, CutShort};
+ghost use Rattle.dd_session.specs.Forms.{text_in};
+ghost use Rattle.dd_session.specs.Runs.{
+  Answered,
+  AnsweredFront,
+  AnsweredToEnd,
+  AnsweredShort,
+  WholeOutput,
+  CutShort,
+};
 
 use crate::output::header_text;
 use dd_answer::answer;
-use dd_certificate::{Answer, write_answer};
+use dd_certificate::{Answer, answer_line, write_answer};
 use dd_engines::{Engine, Roster};
 use dd_outside::{Sink, write_whole};
 use dd_query::Query;
@@ -42,6 +50,15 @@ impl From<dd_outside::WriteFault> for RunFault {
     }
 }
 
+/// How much is written of an answer.
+#[derive(Clone, Copy, Debug, PartialEq, Eq)]
+pub(crate) enum Form {
+    /// All its lines.
+    Whole,
+    /// The first line.
+    Line,
+}
+
 /// Whether the answer is that it is not known.
 pub(crate) fn is_unknown(answer: &Answer) -> bool
     ensures { result ≡ is_unknown answer.now }
@@ -49,40 +66,52 @@ pub(crate) fn is_unknown(answer: &Answer) -> bool
     matches!(answer, Answer::Unknown { .. })
 }
 
-// Answers one query, and writes the text. True where the answer is unknown.
+// What is written of the answer to the query with the number.
+fn text_in(alloc: Global, form: Form, number: u32, answer: &Answer) -> Result<Vec<u8>, AllocError>
+    ensures { IfOk result (λ text. text.items ≡ text_in form number answer.now) }
+{
+    match form {
+        Form::Whole => write_answer(alloc, number, answer),
+        Form::Line => answer_line(alloc, number, answer),
+    }
+}
+
+// Answers one query, and writes so much of it. True where the answer is unknown.
 fn answer_one<K: Sink, E: Engine>(
     alloc: Global,
     script: &Script,
     query: &Query,
     number: u32,
+    form: Form,
     sink: &mut K,
     roster: &mut Roster<E>,
 ) -> Result<bool, RunFault>
     requires { Contains script.now.queries query.now }
-    ensures wrote { IfOk result (λ unknown. Answered (K.held sink.old) (K.held sink.new) script.now (query.now ∷ []) number unknown) }
-    ensures cut { OnErr result (AnsweredFront (K.held sink.old) (K.held sink.new) script.now (query.now ∷ []) number) }
+    ensures wrote { IfOk result (λ unknown. Answered (text_in form) (K.held sink.old) (K.held sink.new) script.now (query.now ∷ []) number unknown) }
+    ensures cut { OnErr result (AnsweredFront (text_in form) (K.held sink.old) (K.held sink.new) script.now (query.now ∷ []) number) }
     ensures later { K.faults sink.old ≤ K.faults sink.new }
     ensures write_fault { IsErrOf result RunFault.WriteFault → Rose (K.faults sink.old) (K.faults sink.new) }
     ensures kept { Kept (roster_seen E.asked E.given E.sound roster.old) (roster_seen E.asked E.given E.sound roster.new) }
     ensures asked { OnOk result (Engages (AsksBoxes script.now query.now) (roster_seen E.asked E.given E.sound roster.old) (roster_seen E.asked E.given E.sound roster.new)) }
 {
     let found = answer(alloc, script, query, roster)?;
-    let text = write_answer(alloc, number, &found)?;
+    let text = text_in(alloc, form, number, &found)?;
     write_whole(sink, &text)?;
     Ok(is_unknown(&found))
 }
 
-// Answers all queries in order, and writes each text before the next answer is made. True where an answer is unknown.
+// Answers all queries in order, and writes so much of each before the next answer is made. True where an answer is unknown.
 #[tactic(auto, using(crate::proofs::Asked::asked_at, crate::proofs::Streamed::answered_next, crate::proofs::Engaging::engaged_none, crate::proofs::Engaging::engaged_next, dd_engines::proofs::Keeping::kept_same, dd_engines::proofs::Keeping::kept_kept))]
 fn answer_all<K: Sink, E: Engine>(
     alloc: Global,
     script: &Script,
+    form: Form,
     sink: &mut K,
     roster: &mut Roster<E>,
 ) -> Result<bool, RunFault>
     requires { length script.now.queries ≤ most_queries }
-    ensures wrote { IfOk result (λ unknown. Answered (K.held sink.old) (K.held sink.new) script.now script.now.queries 1 unknown) }
-    ensures cut { OnErr result (AnsweredFront (K.held sink.old) (K.held sink.new) script.now script.now.queries 1) }
+    ensures wrote { IfOk result (λ unknown. Answered (text_in form) (K.held sink.old) (K.held sink.new) script.now script.now.queries 1 unknown) }
+    ensures cut { OnErr result (AnsweredFront (text_in form) (K.held sink.old) (K.held sink.new) script.now script.now.queries 1) }
     ensures later { K.faults sink.old ≤ K.faults sink.new }
     ensures write_fault { IsErrOf result RunFault.WriteFault → Rose (K.faults sink.old) (K.faults sink.new) }
     ensures kept { Kept (roster_seen E.asked E.given E.sound roster.old) (roster_seen E.asked E.given E.sound roster.new) }
@@ -91,8 +120,29 @@ fn answer_all<K: Sink, E: Engine>(
     let queries = script.queries();
     let mut has_unknown = false;
     for (done, query) in queries.iter().enumerate() {
-        has_unknown |= answer_one(alloc, script, query, done as u32 + 1, sink, roster)?;
+        has_unknown |= answer_one(alloc, script, query, done as u32 + 1, form, sink, roster)?;
     }
+    Ok(has_unknown)
+}
+
+/// Answers all queries in order, writes so much of each, and the end line. True where an answer is unknown.
+pub(crate) fn answer_to_end<K: Sink, E: Engine>(
+    alloc: Global,
+    script: &Script,
+    form: Form,
+    sink: &mut K,
+    roster: &mut Roster<E>,
+) -> Result<bool, RunFault>
+    requires { length script.now.queries ≤ most_queries }
+    ensures whole { IfOk result (λ unknown. AnsweredToEnd (text_in form) (K.held sink.old) (K.held sink.new) script.now unknown) }
+    ensures cut { OnErr result (AnsweredShort (text_in form) (K.held sink.old) (K.held sink.new) script.now) }
+    ensures later { K.faults sink.old ≤ K.faults sink.new }
+    ensures write_fault { IsErrOf result RunFault.WriteFault → Rose (K.faults sink.old) (K.faults sink.new) }
+    ensures kept { Kept (roster_seen E.asked E.given E.sound roster.old) (roster_seen E.asked E.given E.sound roster.new) }
+    ensures asked { OnOk result (Engages (AsksSomeBoxes script.now script.now.queries) (roster_seen E.asked E.given E.sound roster.old) (roster_seen E.asked E.given E.sound roster.new)) }
+{
+    let has_unknown = answer_all(alloc, script, form, sink, roster)?;
+    write_whole(sink, b"end\n")?;
     Ok(has_unknown)
 }
 
@@ -117,7 +167,5 @@ pub(crate) fn run_script<K: Sink, E: Engine>(
 {
     let header = header_text(alloc, bytes)?;
     write_whole(sink, &header)?;
-    let has_unknown = answer_all(alloc, script, sink, roster)?;
-    write_whole(sink, b"end\n")?;
-    Ok(has_unknown)
+    answer_to_end(alloc, script, Form::Whole, sink, roster)
 }

@@ -27,4 +27,6 @@ mod rosters;
 #[cfg(test)]
 mod runs;
 #[cfg(test)]
+mod samples;
+#[cfg(test)]
 mod statuses;

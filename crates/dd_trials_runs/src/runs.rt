@@ -10,10 +10,12 @@ use std::test::Fail;
 pub(crate) const HARD: &str =
     "%rule hard o=1 -> (o.rt=0 & o.up=0)\n%conf c [2 2] 1 0 0 1\n%member c hard\n";
 
-/// The words behind the program's name.
-pub(crate) fn words_of(alloc: Global, word: &str) -> Result<Vec<String>, AllocError> {
+/// The words behind the program's name, of a text with one blank between two of them.
+pub(crate) fn words_of(alloc: Global, text: &str) -> Result<Vec<String>, AllocError> {
     let mut words = Vec::new(alloc);
-    words.push(String::from_str(alloc, word)?)?;
+    for word in text.split(' ') {
+        words.push(String::from_str(alloc, word)?)?;
+    }
     Ok(words)
 }
 
