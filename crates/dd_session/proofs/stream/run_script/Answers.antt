@@ -1,4 +1,4 @@
-use Rattle.std.proofs.Common.{rules, inr}
+use Rattle.std.proofs.Common.{rules, refl, inl, inr}
 use Rattle.std.proofs.KnownBytes.{Appends-trans}
 use Rattle.dd_session.specs.Runs.{CutShort}
 use Rattle.dd_session.specs.Asking.{HeaderTaken}
@@ -32,6 +32,12 @@ returns-in_err-write_whole-2-clause-cut g c =
     let cut : CutShort (g.K.Sink.held c.args.sink.now) (g.K.Sink.held c.write_whole-2.new.sink) c.args.bytes.now c.args.script.now =
     cut_at_end _ _ _ _ _ _ c.deref.result.now _ (search rules) c.in_ok-write_whole.ensures.whole c.in_ok-has_unknown.ensures.wrote c.in_err-write_whole-2.ensures.front in
     search rules
+
+pub returns-in_err-header-clause-late : goal.returns-in_err-header-clause-late
+returns-in_err-header-clause-late g c = inl refl
+
+pub returns-in_err-write_whole-clause-late : goal.returns-in_err-write_whole-clause-late
+returns-in_err-write_whole-clause-late g c = inl refl
 
 pub returns-in_err-has_unknown-clause-late : goal.returns-in_err-has_unknown-clause-late
 returns-in_err-has_unknown-clause-late g c =
