@@ -64,6 +64,25 @@ fn the_lines_are_the_same_over_every_roster(rt: HostRuntime) -> Result<(), Fail>
     Ok(())
 }
 
+// Engines that want no memory.
+const FAKES: [Member; 5] = [SILENT, NO_STEPS, ALL_FALSE, FICKLE, BY_TURNS];
+
+#[test]
+fn the_lines_are_the_same_over_every_pair(rt: HostRuntime) -> Result<(), Fail> {
+    let alloc = rt.alloc();
+    for first in FAKES {
+        for second in FAKES {
+            for (script, line) in [(YES, "query 1 YES 1\n"), (NO, "query 1 NO 2 1\n")] {
+                let ran = run_over(alloc, script.as_bytes(), &[first, second])?;
+                assert_eq!(rt; ran.status, Status::Definite, "{first:?} {second:?}");
+                let lines = first_lines(alloc, ran.output)?;
+                assert_eq!(rt; lines.as_str(), line, "{first:?} {second:?}");
+            }
+        }
+    }
+    Ok(())
+}
+
 // Want of memory of an engine ends the run, and the engine stays. What was written is the lines before the first answer.
 #[test]
 fn an_engine_wants_memory(rt: HostRuntime) -> Result<(), Fail> {
