@@ -7,7 +7,7 @@ use Rattle.dd_trials.proofs.boxes.compared_query.Goals as goal
 pub question-requires : goal.question-requires
 question-requires c =
     let queries = c.args.script.now.queries in
-    let same = c.queries.ensures.value in
+    let same = c.queries-query-items.ensures.value in
     let i = c.loop-query.query-index in
     let q = c.query-item.result in
     subst (Contains queries) (sym (c.query-item.is ∙ ap (λ qs. get_or qs i q) same))
