@@ -1,7 +1,7 @@
 # Completion for bash: source this file. Of diddy's words, and of what tools/sweep and tools/command take.
 _diddy() {
     if [ "$COMP_CWORD" -eq 1 ]; then
-        COMPREPLY=($(compgen -W "run check" -- "${COMP_WORDS[1]}"))
+        COMPREPLY=($(compgen -W "run check sample" -- "${COMP_WORDS[1]}"))
     elif [[ ${COMP_WORDS[COMP_CWORD - 1]} == "<" ]]; then
         COMPREPLY=($(compgen -f -- "${COMP_WORDS[COMP_CWORD]}"))
     fi

@@ -4,3 +4,5 @@ pub mod Bounds
 pub mod Laws
 -- which decisions an output can hold
 pub mod Writable
+-- which queries ask engines
+pub mod Asking

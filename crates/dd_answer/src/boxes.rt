@@ -1,8 +1,10 @@
 //! Answers to box questions.
-ghost use Rattle.std.specs.Prelude.{◌≡◌, All, IfOk};
+ghost use Rattle.std.specs.Prelude.{◌≡◌, All, IfOk, OnOk};
 ghost use Rattle.dd_boxes.specs.Goals.{breaks};
 ghost use Rattle.dd_boxes.specs.Views.{goal_of};
 ghost use Rattle.dd_certificate.specs.Bounds.{IsWritable, IsWritableNumber};
+ghost use Rattle.dd_engines.specs.Rosters.{roster_seen};
+ghost use Rattle.dd_engines.specs.Rounds.{Kept, FirstAsked};
 ghost use Rattle.dd_meanings.specs.Sound.{AreLimits};
 ghost use Rattle.dd_script.specs.Asking.{IsAskable};
 ghost use Rattle.dd_answer.specs.Writable.{IsWritableDecision, IsWritableEquality};
@@ -11,6 +13,7 @@ ghost use Rattle.dd_answer.specs.Right.{side_of, written_no, written_decision, w
 use dd_boxes::{Goal, Limits};
 use dd_certificate::{Answer, Reason, Side, refutations_fit};
 use dd_contain::{Decision, Equality, Side as Half, decide, decide_equal};
+use dd_engines::{Engine, Roster};
 use dd_formula::Rule;
 use dd_pattern::Periodic;
 use dd_values::Items;
@@ -86,37 +89,43 @@ fn written_equality(alloc: Global, equality: Equality) -> Result<Answer, AllocEr
     }
 }
 
-/// What a box question comes to within the limits.
-pub(crate) fn decided(
+/// What a box question comes to within the limits. The roster is asked first.
+pub(crate) fn decided<E: Engine>(
     alloc: Global,
     premise: &Rule,
     goal: &Goal,
     limits: &Limits,
+    roster: &mut Roster<E>,
 ) -> Result<Answer, AllocError>
     requires limits { AreLimits limits.now }
     requires askable { IsAskable limits.now premise.now (goal_of premise.now goal.now) }
     ensures right { IfOk result (IsRightBox limits.now premise.now (goal_of premise.now goal.now)) }
     ensures writable { IfOk result IsWritable }
+    ensures kept { Kept (roster_seen E.asked E.given E.sound roster.old) (roster_seen E.asked E.given E.sound roster.new) }
+    ensures first { OnOk result (FirstAsked (roster_seen E.asked E.given E.sound roster.old) (roster_seen E.asked E.given E.sound roster.new)) }
 {
     refutations_fit();
-    let decision = decide(alloc, premise, goal, limits)?;
+    let decision = decide(alloc, premise, goal, limits, roster)?;
     written_decision(alloc, decision)
 }
 
-/// Whether two rules allow the same configurations, within the limits.
-pub(crate) fn compared(
+/// Whether two rules allow the same configurations, within the limits. The roster is asked first.
+pub(crate) fn compared<E: Engine>(
     alloc: Global,
     left: &Rule,
     right: &Rule,
     limits: &Limits,
+    roster: &mut Roster<E>,
 ) -> Result<Answer, AllocError>
     requires limits { AreLimits limits.now }
     requires left { IsAskable limits.now left.now (breaks right.now) }
     requires right { IsAskable limits.now right.now (breaks left.now) }
     ensures right { IfOk result (IsRightEqual limits.now left.now right.now) }
     ensures writable { IfOk result IsWritable }
+    ensures kept { Kept (roster_seen E.asked E.given E.sound roster.old) (roster_seen E.asked E.given E.sound roster.new) }
+    ensures first { OnOk result (FirstAsked (roster_seen E.asked E.given E.sound roster.old) (roster_seen E.asked E.given E.sound roster.new)) }
 {
     refutations_fit();
-    let equality = decide_equal(alloc, left, right, limits)?;
+    let equality = decide_equal(alloc, left, right, limits, roster)?;
     written_equality(alloc, equality)
 }

@@ -12,7 +12,7 @@ use Rattle.dd_transfer.specs.Certificates.{IsDensityCertificate, IsEmptyCertific
 use Rattle.dd_strips.specs.Claims.{StripLeast, StripEmpty, spread_of}
 use Rattle.dd_discharge.specs.declared.bound.Bound.{Bound}
 use Rattle.dd_discharge.specs.Amounts.{bound_claimed}
-use Rattle.dd_discharge.specs.Asked.{AreVectors}
+use Rattle.dd_rows.specs.Asked.{AreVectors}
 use Rattle.dd_discharge.specs.Certificates.{IsBoundCertificate, BestOf}
 use Rattle.dd_sides.specs.Lifted.{HoldsOnSides}
 use Rattle.dd_certificate.specs.declared.answer.Reason.{Reason}

@@ -76,6 +76,7 @@ impl Circuit {
         self.inputs
     }
 
+    /// The gates, in the order in which they were added. The first one is the variable behind the inputs.
     pub fn gates(&self) -> &[Gate]
         ensures value { result.now ≡ self.now.gates }
         ensures in_range { AreGates self.now.inputs result.now }

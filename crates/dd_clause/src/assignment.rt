@@ -22,12 +22,14 @@ impl Model for Assignment {
 }
 
 impl Assignment {
+    /// The assignment with these values, that of the variable 1 first.
     pub fn new(values: Vec<bool>) -> Assignment
         ensures { result ≡ values.items }
     {
         Assignment { values }
     }
 
+    /// The values, that of the variable 1 first.
     pub fn values(&self) -> &[bool]
         ensures { result.now ≡ self.now }
     {

@@ -50,6 +50,7 @@ impl Clause {
         Ok(Clause { literals })
     }
 
+    /// The literals, in the order in which they were given.
     pub fn literals(&self) -> &[Literal]
         ensures { result.now ≡ self.now }
     {

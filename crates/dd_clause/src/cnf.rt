@@ -70,6 +70,7 @@ impl Cnf {
         self.variables = variables;
     }
 
+    /// The number of variables, at most 2^24.
     pub fn variables(&self) -> u32
         ensures value { result ≡ self.now.variables }
         ensures at_most { self.now.variables ≤ 2 ^ 24 }
@@ -77,6 +78,7 @@ impl Cnf {
         self.variables
     }
 
+    /// The clauses, in the order in which they were added.
     pub fn clauses(&self) -> &[Clause]
         ensures value { result.now ≡ self.now.clauses }
         ensures in_range { All (IsClauseInRange self.now.variables) self.now.clauses }

@@ -3,3 +3,4 @@ pub mod CountLaws
 pub mod LimitLaws
 pub mod ShownLaws
 pub mod AnswerLaws
+pub mod AskingLaws

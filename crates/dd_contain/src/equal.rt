@@ -1,13 +1,16 @@
 //! Whether two rules allow the same configurations: each question asks for a configuration of one rule that breaks the
 //! other.
-ghost use Rattle.std.specs.Prelude.{◌≡◌, ◌≤◌, IfOk};
+ghost use Rattle.std.specs.Prelude.{◌≡◌, ◌≤◌, IfOk, OnOk};
 ghost use Rattle.dd_boxes.specs.Goals.{breaks, IsGoalFor};
+ghost use Rattle.dd_engines.specs.Rosters.{roster_seen};
+ghost use Rattle.dd_engines.specs.Rounds.{Kept, FirstAsked};
 ghost use Rattle.dd_contain.specs.Questions.{IsSmallQuestion};
 ghost use Rattle.dd_contain.specs.Equal.{joined, IsEqualDecided, HasBothNumbers};
 
 use crate::decision::{Decision, Enough};
 use crate::questions::decide;
 use dd_boxes::{Goal, Limits};
+use dd_engines::{Engine, Roster, first_asked_earlier, kept_is_transitive};
 use dd_formula::Rule;
 use dd_pattern::Periodic;
 use std::alloc::{AllocError, Global};
@@ -64,12 +67,14 @@ fn joined(left: Decision, right: Decision) -> Equality
 
 /// Decides whether two rules allow the same configurations, by the left question, whether a configuration of `left` can
 /// break `right`, and the right one, with the two exchanged: NO left where the left answer is NO; otherwise NO right where
-/// the right one is NO; otherwise YES where both are YES; otherwise unknown. The limits are those of `decide`.
-pub fn decide_equal(
+/// the right one is NO; otherwise YES where both are YES; otherwise unknown. The limits are those of `decide`, and
+/// the roster is asked and kept as there.
+pub fn decide_equal<E: Engine>(
     alloc: Global,
     left: &Rule,
     right: &Rule,
     limits: &Limits,
+    roster: &mut Roster<E>,
 ) -> Result<Equality, AllocError>
     requires radius { limits.now.radius ≤ 8 }
     requires period { (1 ≤ limits.now.period) × (limits.now.period ≤ 8) }
@@ -79,12 +84,17 @@ pub fn decide_equal(
     requires right_small { IsSmallQuestion right.now (breaks left.now) limits.now.radius limits.now.period }
     ensures decided { IfOk result (IsEqualDecided left.now right.now limits.now.radius limits.now.period) }
     ensures numbered { IfOk result (HasBothNumbers left.now right.now) }
+    ensures kept { Kept (roster_seen E.asked E.given E.sound roster.old) (roster_seen E.asked E.given E.sound roster.new) }
+    ensures first { OnOk result (FirstAsked (roster_seen E.asked E.given E.sound roster.old) (roster_seen E.asked E.given E.sound roster.new)) }
 {
-    match decide(alloc, left, &Goal::Breaks(right), limits)? {
+    // Laws of a roster that is asked several times.
+    kept_is_transitive();
+    first_asked_earlier();
+    match decide(alloc, left, &Goal::Breaks(right), limits, roster)? {
         // The right answer would change nothing.
         Decision::No { periodic } => Ok(joined(Decision::No { periodic }, Decision::Unknown)),
         first => {
-            let second = decide(alloc, right, &Goal::Breaks(left), limits)?;
+            let second = decide(alloc, right, &Goal::Breaks(left), limits, roster)?;
             Ok(joined(first, second))
         }
     }

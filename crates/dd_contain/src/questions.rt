@@ -1,9 +1,12 @@
 //! The questions that the search asks of boxes and of periods.
-ghost use Rattle.std.specs.Prelude.{◌≡◌, ◌+◌, ◌-◌, ◌^◌, ◌≤◌, true, length, IfOk, IfSome};
+ghost use Rattle.std.specs.Prelude.{◌≡◌, ◌↔◌, ◌+◌, ◌-◌, ◌^◌, ◌≤◌, true, length, IfOk, OnOk, IfSome};
 ghost use Rattle.dd_boxes.specs.Boxes.{Suffices};
 ghost use Rattle.dd_boxes.specs.Goals.{IsGoalFor};
 ghost use Rattle.dd_boxes.specs.Views.{goal_of};
 ghost use Rattle.dd_derivation.specs.Derivations.{refutes};
+ghost use Rattle.dd_engines.specs.Rosters.{roster_seen};
+ghost use Rattle.dd_engines.specs.Rounds.{Kept, FirstAsked};
+ghost use Rattle.dd_solver.specs.Answers.{IsAnswer, IsFound, IsRefuted, IsSatisfiable};
 ghost use Rattle.dd_contain.specs.Questions.{AreNumbered, RefutesByNumbers, ShowsAt, Displays, AsksRadius, AsksPeriods, IsSmallQuestion, IsDecided, HasNumbers};
 
 use crate::decision::Decision;
@@ -11,6 +14,7 @@ use crate::search::{Questions, search};
 use dd_boxes::{Goal, Limits, least_radius};
 use dd_clause::Cnf;
 use dd_derivation::{Outcome, Step};
+use dd_engines::{Engine, Roster, kept_is_reflexive};
 use dd_formula::Rule;
 use dd_pattern::{Periodic, Periods};
 use dd_problem::{box_clauses, read_torus, torus_clauses};
@@ -40,6 +44,24 @@ fn evidence(alloc: Global, cnf: &Cnf, steps: Items<Step>) -> Result<Items<Step>,
     Ok(used)
 }
 
+/// What there is to say of the clauses: what an engine of the roster proposes, where that is right, otherwise what the search finds.
+fn outcome<E: Engine>(
+    alloc: Global,
+    cnf: &Cnf,
+    roster: &mut Roster<E>,
+) -> Result<Outcome, AllocError>
+    ensures answer { IfOk result (IsAnswer cnf.now.variables cnf.now.clauses) }
+    ensures found { IfOk result (λ outcome. IsFound outcome ↔ IsSatisfiable cnf.now.clauses) }
+    ensures refuted { IfOk result (λ outcome. IsRefuted outcome ↔ ¬ (IsSatisfiable cnf.now.clauses)) }
+    ensures kept { Kept (roster_seen E.asked E.given E.sound roster.old) (roster_seen E.asked E.given E.sound roster.new) }
+    ensures first { OnOk result (FirstAsked (roster_seen E.asked E.given E.sound roster.old) (roster_seen E.asked E.given E.sound roster.new)) }
+{
+    match roster.ask(alloc, cnf)? {
+        Some(proposed) => Ok(proposed),
+        None => solve(alloc, cnf),
+    }
+}
+
 /// Can a configuration that obeys the premise have the goal?
 #[derive(Clone, Copy)]
 struct BoxQuestion<'a> {
@@ -61,18 +83,30 @@ impl<'a> Questions for BoxQuestion<'a> {
 
     ghost asks_periods = { λ q p. AsksPeriods q.premise.now (goal_of q.premise.now q.goal.now) p };
 
-    fn refutation(&self, radius: u32) -> Result<Option<Items<Step>>, AllocError> {
+    fn refutation<E: Engine>(
+        &self,
+        radius: u32,
+        roster: &mut Roster<E>,
+    ) -> Result<Option<Items<Step>>, AllocError> {
+        // Law of a roster that nobody asks.
+        kept_is_reflexive();
         let cnf = box_clauses(self.alloc, self.premise, self.goal, radius)?;
-        match solve(self.alloc, &cnf)? {
+        match outcome(self.alloc, &cnf, roster)? {
             Outcome::Refuted(steps) => Ok(Some(evidence(self.alloc, &cnf, steps)?)),
             Outcome::Found(_) => Ok(None),
         }
     }
 
-    fn configuration(&self, at: &Periods) -> Result<Option<Periodic>, AllocError> {
+    fn configuration<E: Engine>(
+        &self,
+        at: &Periods,
+        roster: &mut Roster<E>,
+    ) -> Result<Option<Periodic>, AllocError> {
+        // Law of a roster that nobody asks.
+        kept_is_reflexive();
         let periods = [at.x, at.y, at.z];
         let cnf = torus_clauses(self.alloc, self.premise, self.goal, periods, at.shear)?;
-        match solve(self.alloc, &cnf)? {
+        match outcome(self.alloc, &cnf, roster)? {
             Outcome::Found(found) => {
                 let periodic = read_torus(self.alloc, self.premise, periods, at.shear, &found)?;
                 let _symbols = periodic.symbols();
@@ -87,11 +121,17 @@ impl<'a> Questions for BoxQuestion<'a> {
 /// periods of at most the limits': YES with the least radius that suffices; otherwise NO with the first periods and shear, by
 /// volume and then in lexicographic order, of a configuration that obeys the premise and has the goal at the origin;
 /// otherwise unknown.
-pub fn decide(
+///
+/// Each list of clauses is put to the roster first, without a copy, and to the search where no engine proposes what is right. So
+/// the engines change how long the decision takes, and which steps or which configuration of those periods shows it, and nothing
+/// else of it. The roster is kept: each sound engine is still there, in order. Where all goes well, the first engine that is left
+/// was asked.
+pub fn decide<E: Engine>(
     alloc: Global,
     premise: &Rule,
     goal: &Goal,
     limits: &Limits,
+    roster: &mut Roster<E>,
 ) -> Result<Decision, AllocError>
     requires radius { limits.now.radius ≤ 8 }
     requires period { (1 ≤ limits.now.period) × (limits.now.period ≤ 8) }
@@ -99,7 +139,11 @@ pub fn decide(
     requires small { IsSmallQuestion premise.now (goal_of premise.now goal.now) limits.now.radius limits.now.period }
     ensures decided { IfOk result (IsDecided premise.now (goal_of premise.now goal.now) limits.now.radius limits.now.period) }
     ensures numbered { IfOk result (HasNumbers premise.now (goal_of premise.now goal.now)) }
+    ensures kept { Kept (roster_seen E.asked E.given E.sound roster.old) (roster_seen E.asked E.given E.sound roster.new) }
+    ensures first { OnOk result (FirstAsked (roster_seen E.asked E.given E.sound roster.old) (roster_seen E.asked E.given E.sound roster.new)) }
 {
+    // Law of a roster that nobody asks.
+    kept_is_reflexive();
     let least = least_radius(alloc, goal)?;
     let most = limits.radius.max(least);
     // Read for what its type keeps.
@@ -109,5 +153,13 @@ pub fn decide(
         premise,
         goal,
     };
-    search(alloc, &question, least, most, premise.dim(), limits.period)
+    search(
+        alloc,
+        &question,
+        least,
+        most,
+        premise.dim(),
+        limits.period,
+        roster,
+    )
 }

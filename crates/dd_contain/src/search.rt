@@ -1,18 +1,22 @@
 //! The search for the least radius, then for the first periods.
-ghost use Rattle.std.specs.Prelude.{◌≡◌, ◌≤◌, ◌<◌, ℕ, List, length, IfOk, MatchOption};
+ghost use Rattle.std.specs.Prelude.{◌≡◌, ◌≤◌, ◌<◌, ℕ, List, length, IfOk, OnOk, MatchOption};
 ghost use Rattle.dd_derivation.specs.declared.step.Step.{Step as AnyStep};
 ghost use Rattle.dd_pattern.specs.declared.periods.Periods.{Periods as AnyPeriods};
 ghost use Rattle.dd_pattern.specs.Tile.{Tile};
+ghost use Rattle.dd_engines.specs.Rosters.{roster_seen};
+ghost use Rattle.dd_engines.specs.Rounds.{Kept, FirstAsked};
 ghost use Rattle.dd_contain.specs.Decided.{NoneIn, IsLeast, NoneWithin, IsFirst, IsDecidedBy};
 ghost use Rattle.dd_contain.specs.searching.Listed.{NoneBefore, IsFirstOf, AsksRadii, AsksListed, AsksWithin};
+ghost use Rattle.dd_contain.specs.searching.Asking.{AskedOrSame};
 
 use crate::decision::{Decision, Enough};
 use dd_derivation::Step;
+use dd_engines::{Engine, Roster, first_asked_earlier, kept_is_reflexive, kept_is_transitive};
 use dd_pattern::{Periodic, Periods};
 use dd_values::Items;
 use std::alloc::{AllocError, Global};
 
-/// What the search asks of a radius and of periods. Each answer comes with its evidence.
+/// What the search asks of a radius and of periods. Each answer comes with its evidence. The engines of the roster may help.
 pub(crate) trait Questions {
     /// The radius suffices; and the steps show it.
     ghost suffices: { Self → ℕ → Type 0 };
@@ -27,13 +31,25 @@ pub(crate) trait Questions {
 
     ghost asks_periods: { Self → AnyPeriods → Type 0 };
 
-    fn refutation(&self, radius: u32) -> Result<Option<Items<Step>>, AllocError>
+    fn refutation<E: Engine>(
+        &self,
+        radius: u32,
+        roster: &mut Roster<E>,
+    ) -> Result<Option<Items<Step>>, AllocError>
         requires { asks_radius self.now radius }
-        ensures { IfOk result (λ found. MatchOption found (suffices self.now radius → ⊥) (λ steps. suffices self.now radius × refutes self.now radius steps)) };
+        ensures found { IfOk result (λ found. MatchOption found (suffices self.now radius → ⊥) (λ steps. suffices self.now radius × refutes self.now radius steps)) }
+        ensures kept { Kept (roster_seen E.asked E.given E.sound roster.old) (roster_seen E.asked E.given E.sound roster.new) }
+        ensures first { OnOk result (FirstAsked (roster_seen E.asked E.given E.sound roster.old) (roster_seen E.asked E.given E.sound roster.new)) };
 
-    fn configuration(&self, at: &Periods) -> Result<Option<Periodic>, AllocError>
+    fn configuration<E: Engine>(
+        &self,
+        at: &Periods,
+        roster: &mut Roster<E>,
+    ) -> Result<Option<Periodic>, AllocError>
         requires { asks_periods self.now at.now }
-        ensures { IfOk result (λ found. MatchOption found (shows self.now at.now → ⊥) (λ tile. shows self.now at.now × displays self.now at.now tile)) };
+        ensures found { IfOk result (λ found. MatchOption found (shows self.now at.now → ⊥) (λ tile. shows self.now at.now × displays self.now at.now tile)) }
+        ensures kept { Kept (roster_seen E.asked E.given E.sound roster.old) (roster_seen E.asked E.given E.sound roster.new) }
+        ensures first { OnOk result (FirstAsked (roster_seen E.asked E.given E.sound roster.old) (roster_seen E.asked E.given E.sound roster.new)) };
 }
 
 /// A configuration that shows the goal, with its periods.
@@ -43,18 +59,25 @@ struct Shown {
     periodic: Periodic,
 }
 
-fn first_radius<Q: Questions>(
+fn first_radius<Q: Questions, E: Engine>(
     questions: &Q,
     least: u32,
     most: u32,
+    roster: &mut Roster<E>,
 ) -> Result<Option<Enough>, AllocError>
     requires most { most < 2147483648 }
     requires asks { AsksRadii (Q.asks_radius questions.now) least most }
-    ensures { IfOk result (λ found. MatchOption found (NoneIn (Q.suffices questions.now) least most)
+    ensures found { IfOk result (λ found. MatchOption found (NoneIn (Q.suffices questions.now) least most)
         (λ enough. IsLeast (Q.suffices questions.now) least most enough.radius × Q.refutes questions.now enough.radius enough.steps)) }
+    ensures kept { Kept (roster_seen E.asked E.given E.sound roster.old) (roster_seen E.asked E.given E.sound roster.new) }
+    ensures first { OnOk result (least ≤ most → FirstAsked (roster_seen E.asked E.given E.sound roster.old) (roster_seen E.asked E.given E.sound roster.new)) }
 {
+    // Laws of a roster that is asked several times.
+    kept_is_reflexive();
+    kept_is_transitive();
+    first_asked_earlier();
     for radius in least..most + 1 {
-        if let Some(steps) = questions.refutation(radius)? {
+        if let Some(steps) = questions.refutation(radius, roster)? {
             return Ok(Some(Enough { radius, steps }));
         }
     }
@@ -62,54 +85,78 @@ fn first_radius<Q: Questions>(
 }
 
 /// The first of the periods that show the goal.
-fn first_listed<Q: Questions>(questions: &Q, all: &[Periods]) -> Result<Option<Shown>, AllocError>
+#[tactic(auto, using(crate::proofs::AskingLaws::same_so_far, crate::proofs::AskingLaws::asked_since))]
+fn first_listed<Q: Questions, E: Engine>(
+    questions: &Q,
+    all: &[Periods],
+    roster: &mut Roster<E>,
+) -> Result<Option<Shown>, AllocError>
     requires { AsksListed (Q.asks_periods questions.now) all.now }
-    ensures { IfOk result (λ found. MatchOption found (NoneBefore (Q.shows questions.now) all.now (length all.now))
+    ensures found { IfOk result (λ found. MatchOption found (NoneBefore (Q.shows questions.now) all.now (length all.now))
         (λ shown. IsFirstOf (Q.shows questions.now) all.now shown.at × Q.displays questions.now shown.at shown.periodic)) }
+    ensures kept { Kept (roster_seen E.asked E.given E.sound roster.old) (roster_seen E.asked E.given E.sound roster.new) }
+    ensures asked { OnOk result (AskedOrSame (roster_seen E.asked E.given E.sound roster.old) (roster_seen E.asked E.given E.sound roster.new)) }
 {
+    // Laws of a roster that is asked several times.
+    kept_is_reflexive();
+    kept_is_transitive();
+    first_asked_earlier();
     for at in all {
-        if let Some(periodic) = questions.configuration(at)? {
+        if let Some(periodic) = questions.configuration(at, roster)? {
             return Ok(Some(Shown { at: *at, periodic }));
         }
     }
     Ok(None)
 }
 
-fn first_periods<Q: Questions>(
+fn first_periods<Q: Questions, E: Engine>(
     alloc: Global,
     questions: &Q,
     dim: u32,
     most: u32,
+    roster: &mut Roster<E>,
 ) -> Result<Option<Shown>, AllocError>
     requires { AsksWithin (Q.asks_periods questions.now) dim most }
-    ensures { IfOk result (λ found. MatchOption found (NoneWithin (Q.shows questions.now) dim most)
+    ensures found { IfOk result (λ found. MatchOption found (NoneWithin (Q.shows questions.now) dim most)
         (λ shown. IsFirst (Q.shows questions.now) dim most shown.at × Q.displays questions.now shown.at shown.periodic)) }
+    ensures kept { Kept (roster_seen E.asked E.given E.sound roster.old) (roster_seen E.asked E.given E.sound roster.new) }
+    ensures asked { OnOk result (AskedOrSame (roster_seen E.asked E.given E.sound roster.old) (roster_seen E.asked E.given E.sound roster.new)) }
 {
+    // Law of a roster that nobody asks.
+    kept_is_reflexive();
     let all = Periods::within(alloc, dim, most)?;
-    first_listed(questions, &all)
+    first_listed(questions, &all, roster)
 }
 
 /// The least radius from `least` to `most` that suffices; else the first periods in `dim` dimensions, at most `period` along
 /// each axis, that show the goal, by volume and then in lexicographic order, the shear last.
-pub(crate) fn search<Q: Questions>(
+#[tactic(auto, using(crate::proofs::AskingLaws::asked_still))]
+pub(crate) fn search<Q: Questions, E: Engine>(
     alloc: Global,
     questions: &Q,
     least: u32,
     most: u32,
     dim: u32,
     period: u32,
+    roster: &mut Roster<E>,
 ) -> Result<Decision, AllocError>
     requires radius { most < 2147483648 }
+    requires some { least ≤ most }
     requires radii { AsksRadii (Q.asks_radius questions.now) least most }
     requires periods { AsksWithin (Q.asks_periods questions.now) dim period }
-    ensures { IfOk result (IsDecidedBy (Q.suffices questions.now) (Q.refutes questions.now) (Q.shows questions.now) (Q.displays questions.now) least most dim period) }
+    ensures decided { IfOk result (IsDecidedBy (Q.suffices questions.now) (Q.refutes questions.now) (Q.shows questions.now) (Q.displays questions.now) least most dim period) }
+    ensures kept { Kept (roster_seen E.asked E.given E.sound roster.old) (roster_seen E.asked E.given E.sound roster.new) }
+    ensures first { OnOk result (FirstAsked (roster_seen E.asked E.given E.sound roster.old) (roster_seen E.asked E.given E.sound roster.new)) }
 {
-    match first_radius(questions, least, most)? {
+    // Laws of a roster that is asked several times.
+    kept_is_transitive();
+    first_asked_earlier();
+    match first_radius(questions, least, most, roster)? {
         Some(enough) => Ok(Decision::Yes {
             radius: enough.radius,
             steps: enough.steps,
         }),
-        None => match first_periods(alloc, questions, dim, period)? {
+        None => match first_periods(alloc, questions, dim, period, roster)? {
             Some(shown) => Ok(Decision::No {
                 periodic: shown.periodic,
             }),

@@ -2,6 +2,7 @@
 ghost use Rattle.std.specs.Prelude.{◌≡◌, ◌*◌, ◌^◌, ◌<◌};
 ghost use Rattle.dd_formula.specs.Counts.{cut};
 
+/// The count, or `limit + 1` where it passes the limit, which is below 2^31.
 pub fn cut_off(limit: u32, count: u64) -> u32
     requires { limit < 2 ^ 31 }
     ensures { result ≡ cut limit count }

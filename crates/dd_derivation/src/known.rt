@@ -31,6 +31,7 @@ impl<'a> Model for Known<'a> {
 }
 
 impl<'a> Known<'a> {
+    /// What is known after these steps: of the clauses, and then of the steps, those that are alive.
     pub fn new(clauses: &'a [Clause], steps: &'a [Step], alive: &'a [bool]) -> Known<'a>
         requires { length clauses.now + length steps.now ≤ length alive.now }
         ensures { result ≡ known_to clauses.now steps.now alive.now }

@@ -15,7 +15,7 @@ use Rattle.std.proofs.Math.Dec.{eqb-zero-suc}
 use Rattle.dd_fraction.specs.Exact.{Exact, den_of, whole_of, times, IsLowest}
 use Rattle.dd_fraction.specs.Order.{IsAtMost, IsNonneg}
 use Rattle.dd_simplex.specs.Programs.{LinearProgram, fraction_at, coefficient, bound_at, unit, zero_of, one_of, total, dual_worth, IsBest}
-use Rattle.dd_discharge.specs.declared.rows.Row.{Row}
+use Rattle.dd_rows.specs.declared.rows.Row.{Row}
 use Rattle.dd_discharge.specs.declared.bound.Bound.{Bound}
 use Rattle.dd_discharge.specs.Amounts.{total_below, row_in, coefficient_in, column_value, MeetRows, column_sum, AreDualsOver, held_over, IsCertified}
 use Rattle.dd_discharge.specs.Amounts as amounts

@@ -3,14 +3,14 @@ use Rattle.std.proofs.Common.{◌≡◌, ℕ, List, length, sym, subst, inl, inr
 use Rattle.dd_lattice.specs.Place.{Place}
 use Rattle.dd_formula.specs.LocalRule.{LocalRule}
 use Rattle.dd_simplex.specs.Programs.{LinearProgram}
-use Rattle.dd_discharge.specs.declared.rows.Row.{Row}
-use Rattle.dd_discharge.specs.declared.rows.Rows.{Rows}
+use Rattle.dd_rows.specs.declared.rows.Row.{Row}
+use Rattle.dd_rows.specs.declared.rows.Rows.{Rows}
 use Rattle.dd_discharge.specs.declared.bound.Bound.{Bound}
-use Rattle.dd_discharge.specs.declared.fault.RowsFault.{RowsFault}
-use Rattle.dd_discharge.specs.declared.fault.RowsFault.TheVariants as rows
+use Rattle.dd_rows.specs.declared.fault.RowsFault.{RowsFault}
+use Rattle.dd_rows.specs.declared.fault.RowsFault.TheVariants as rows
 use Rattle.dd_discharge.specs.declared.fault.DischargeFault.{DischargeFault}
 use Rattle.dd_discharge.specs.declared.fault.DischargeFault.TheVariants as fault
-use Rattle.dd_discharge.specs.Programs.{IsProgramOf, IsRowsFault, column_count}
+use Rattle.dd_rows.specs.Programs.{IsProgramOf, IsRowsFault, column_count}
 use Rattle.dd_discharge.specs.Amounts.{IsCertified}
 use Rattle.dd_discharge.specs.Bounds.{in_fractions, EndsWith, GivesNone, linear_program, IsBoundOf, IsDischargeFault}
 use Rattle.dd_discharge.specs.Certificates.{IsBoundCertificate}

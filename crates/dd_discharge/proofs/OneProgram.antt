@@ -10,12 +10,12 @@ use Rattle.dd_lattice.specs.Regions.{IsRegionOf}
 use Rattle.dd_lattice.specs.declared.position.Cell.{Cell}
 use Rattle.dd_formula.specs.LocalRule.{LocalRule}
 use Rattle.dd_topology.proofs.OrderLaws.{same_sorted}
-use Rattle.dd_discharge.specs.declared.rows.Row.{Row}
-use Rattle.dd_discharge.specs.declared.rows.Rows.{Rows}
-use Rattle.dd_discharge.specs.Domains.{IsGround, cells_on}
-use Rattle.dd_discharge.specs.Fillings.{fillings, most_fillings, HasManyFillings, HasFewFillings}
-use Rattle.dd_discharge.specs.Patterns.{patterns}
-use Rattle.dd_discharge.specs.Programs.{rows, column_count, IsProgramOf, IsLargeProgram}
+use Rattle.dd_rows.specs.declared.rows.Row.{Row}
+use Rattle.dd_rows.specs.declared.rows.Rows.{Rows}
+use Rattle.dd_rows.specs.Domains.{IsGround, cells_on}
+use Rattle.dd_rows.specs.Fillings.{fillings, most_fillings, HasManyFillings, HasFewFillings}
+use Rattle.dd_rows.specs.Patterns.{patterns}
+use Rattle.dd_rows.specs.Programs.{rows, column_count, IsProgramOf, IsLargeProgram}
 
 place_total : IsTotalOrder place_cmp
 place_total = search (comparing, rules)

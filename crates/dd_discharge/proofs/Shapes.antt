@@ -9,7 +9,7 @@ use Rattle.std.proofs.lemmas.Int.{ints}
 use Rattle.std.proofs.lemmas.List.{length-map, length-replicate}
 use Rattle.std.proofs.Math.Nat.{mul-le-mul_right}
 use Rattle.std.proofs.lemmas.List.FromFn.{length-range_with_len}
-use Rattle.std.proofs.lemmas.List.Elements.{All-append, All-nil}
+use Rattle.std.proofs.lemmas.List.Elements.{All-append, All-cons, All-nil}
 use Rattle.std.proofs.lemmas.List.Sums.{sum_by-cons}
 use Rattle.dd_lattice.specs.Place.{Place}
 use Rattle.dd_lattice.specs.Cells.{cell}
@@ -18,16 +18,16 @@ use Rattle.dd_pattern.specs.Reading.{Look}
 use Rattle.dd_pattern.specs.Weight.{total_weight}
 use Rattle.dd_expansion.specs.Limits.{greatest}
 use Rattle.dd_formula.specs.LocalRule.{LocalRule}
-use Rattle.dd_discharge.specs.declared.rows.Row.{Row}
-use Rattle.dd_discharge.specs.declared.rows.Rows.{Rows}
-use Rattle.dd_discharge.specs.Asked.{AreWeightsFor}
-use Rattle.dd_discharge.specs.Domains.{box_cells, opposite}
-use Rattle.dd_discharge.specs.Fillings.{look_of, fillings}
-use Rattle.dd_discharge.specs.Patterns.{origin, pattern_at, givers, number_in}
-use Rattle.dd_discharge.specs.Programs.{one_at, coefficients, origin_weight, row_of, cap_row, is_same_row, add_row, first_seen, rows, column_count, IsProgramOf}
+use Rattle.dd_rows.specs.declared.rows.Row.{Row}
+use Rattle.dd_rows.specs.declared.rows.Rows.{Rows}
+use Rattle.dd_rows.specs.Asked.{AreWeightsFor}
+use Rattle.dd_rows.specs.Domains.{box_cells, opposite}
+use Rattle.dd_rows.specs.Fillings.{look_of, fillings}
+use Rattle.dd_rows.specs.Patterns.{origin, pattern_at, givers, number_in}
+use Rattle.dd_rows.specs.Programs.{one_at, coefficients, origin_weight, row_of, cap_row, is_same_row, add_row, first_seen, rows, column_count, IsProgramOf}
 use Rattle.dd_discharge.specs.Amounts.{row_in}
 use Rattle.dd_discharge.specs.listing.Tables.{AreRowsOf}
-use Rattle.dd_discharge.proofs.Growing.{all_cons, all_map, all_flat_map}
+use Rattle.dd_discharge.proofs.Elements.{all_map, all_flat_map}
 
 record IsRowOf (columns : ℕ) (r : Row) : Type 0 where
   size : length r.coefficients ≡ columns
@@ -60,7 +60,7 @@ block_units ps out q =
 
 coefficient_units : (ps : List (List ℕ)) (out : List ℕ) (ins : List (List ℕ)) → All IsUnit (coefficients ps out ins)
 coefficient_units ps out ins =
-    all_cons IsUnit (pos 1) (flat_map (block ps out) ins) (omega arith)
+    All-cons IsUnit (pos 1) (flat_map (block ps out) ins) (omega arith)
     (all_flat_map IsUnit (λ q. any_item q) (block ps out) (λ q _. block_units ps out q) ins (all_any ins))
 
 block_size : (ps : List (List ℕ)) (out q : List ℕ) → length (block ps out q) ≡ length ps
@@ -116,7 +116,7 @@ filling_row x ws radius vs ps look few small =
 
 all_same : {X : Type 0} (P : X → Type 0) (x : X) (n : ℕ) → P x → All P (replicate n x)
 all_same P x zero h = All-nil P
-all_same P x (suc n) h = all_cons P x (replicate n x) h (all_same P x n h)
+all_same P x (suc n) h = All-cons P x (replicate n x) h (all_same P x n h)
 
 capped_row : (x : LocalRule) (ws : List ℕ) (vs : List Place) (ps : List (List ℕ)) → x.nodes ≤ 4 → All (λ w. w ≤ 1000) ws
     → IsRowOf (column_count (length vs) (length ps)) (cap_row x ws vs ps)
@@ -124,14 +124,14 @@ capped_row x ws vs ps few small =
     let zeros = length-replicate (length vs * length ps) (pos 0) in
     record {
       size = omega (arith, zeros);
-      units = all_cons IsUnit (pos 1) (replicate (length vs * length ps) (pos 0)) (omega arith) (all_same IsUnit (pos 0) (length vs * length ps) (omega arith));
+      units = All-cons IsUnit (pos 1) (replicate (length vs * length ps) (pos 0)) (omega arith) (all_same IsUnit (pos 0) (length vs * length ps) (omega arith));
       bound = product_small x.nodes (greatest ws) few (greatest_small ws small);
     }
 
 -- ---- rows once each, where they are first seen
 all_add : (P : Row → Type 0) (b : Bool) (rs : List Row) (r : Row) → All P rs → P r → All P (cond b rs (rs ++ r ∷ []))
 all_add P true rs r h p = h
-all_add P false rs r h p = All-append P rs (r ∷ []) h (all_cons P r [] p (All-nil P))
+all_add P false rs r h p = All-append P rs (r ∷ []) h (All-cons P r [] p (All-nil P))
 
 all_seen : (P : Row → Type 0) (rs list : List Row) → All P rs → All P list → All P (fold add_row rs list)
 all_seen P rs [] h g = h
@@ -167,7 +167,7 @@ program_rows x ws radius margin vs p h w few =
     let is : p.rows ≡ first_seen (cap ∷ listed) =
     h.rows_are ∙ ap (λ (qs : List (List ℕ)). first_seen (cap_row x ws vs qs ∷ map (λ ss. row_of x ws radius vs qs (look_of h.ground ss)) (fillings x h.ground))) (sym h.patterns_are) in
     let each : All (IsRowOf n) (cap ∷ listed) =
-    all_cons (IsRowOf n) cap listed (capped_row x ws vs ps few w.small)
+    All-cons (IsRowOf n) cap listed (capped_row x ws vs ps few w.small)
     (all_map (IsRowOf n) (λ ss. any_item ss) (λ ss. row_of x ws radius vs ps (look_of h.ground ss)) (λ ss _. filling_row x ws radius vs ps (look_of h.ground ss) few w.small) (fillings x h.ground) (all_any (fillings x h.ground))) in
     let rows_all : All (IsRowOf n) p.rows = subst (All (IsRowOf n)) (sym is) (all_seen (IsRowOf n) [] (cap ∷ listed) (All-nil (IsRowOf n)) each) in
     let begins : BeginsWith cap p.rows = subst (BeginsWith cap) (sym is) (begins_seen cap (cap ∷ []) listed (record { rest = []; is = refl })) in

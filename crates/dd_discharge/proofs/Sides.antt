@@ -6,7 +6,7 @@ use mir.Val.{SFits}
 use Rattle.std.specs.Int.{w128}
 use Rattle.std.proofs.Math.Nat.{mul-le-mul_right}
 use Rattle.std.proofs.lemmas.Int.{ints}
-use Rattle.dd_discharge.specs.declared.rows.Row.{Row}
+use Rattle.dd_rows.specs.declared.rows.Row.{Row}
 use Rattle.dd_discharge.specs.Amounts.{total_below, row_in, coefficient_in, column_value}
 
 pub side_is : (rows : List Row) (columns : ℕ) (held : ℤ) (amounts : List ℕ) (k : ℕ) (cs : List ℤ) → cs ≡ (row_in rows k).coefficients → length (row_in rows k).coefficients ≡ columns

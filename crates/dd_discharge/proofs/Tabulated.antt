@@ -5,7 +5,7 @@ use Rattle.std.proofs.lemmas.List.{get_or_default}
 use Rattle.dd_fraction.specs.Exact.{Exact, whole_of}
 use Rattle.dd_simplex.specs.Programs.{LinearProgram, cap_row, zero_of}
 use Rattle.dd_simplex.specs.Programs as simplex
-use Rattle.dd_discharge.specs.declared.rows.Row.{Row}
+use Rattle.dd_rows.specs.declared.rows.Row.{Row}
 use Rattle.dd_discharge.specs.Amounts.{row_in}
 use Rattle.dd_discharge.specs.Bounds.{row_of_fractions, in_fractions}
 use Rattle.dd_discharge.specs.listing.Tables.{AreRowsOf}

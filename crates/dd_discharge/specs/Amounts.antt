@@ -2,7 +2,7 @@
 -- is what is held, each other column an amount.
 use Rattle.std.specs.Prelude.{ℕ, zero, suc, ◌+◌, ◌*◌, ◌/◌, ◌%◌, ◌<◌, ◌≤◌, ◌≡◌, ℤ, pos, ◌+ℤ◌, ◌*ℤ◌, ◌≤ℤ◌, List, [], length, slice_index, slice_index_or}
 use Rattle.dd_fraction.specs.Exact.{IsLowest}
-use Rattle.dd_discharge.specs.declared.rows.Row.{Row}
+use Rattle.dd_rows.specs.declared.rows.Row.{Row}
 use Rattle.dd_discharge.specs.declared.bound.Bound.{Bound}
 
 -- f 0 + .. + f (n - 1)

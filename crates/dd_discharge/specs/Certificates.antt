@@ -2,9 +2,9 @@
 use Rattle.std.specs.Prelude.{ℕ, List, length}
 use Rattle.dd_lattice.specs.Place.{Place}
 use Rattle.dd_formula.specs.LocalRule.{LocalRule}
-use Rattle.dd_discharge.specs.declared.rows.Rows.{Rows}
+use Rattle.dd_rows.specs.declared.rows.Rows.{Rows}
 use Rattle.dd_discharge.specs.declared.bound.Bound.{Bound}
-use Rattle.dd_discharge.specs.Programs.{IsProgramOf, column_count}
+use Rattle.dd_rows.specs.Programs.{IsProgramOf, column_count}
 use Rattle.dd_discharge.specs.Amounts.{IsCertified, HoldAtMost}
 
 -- the program is within its limits, and the bound is certified for its rows

@@ -1,16 +1,10 @@
--- Why there is no program of a rule, or no bound.
-use Rattle.dd_discharge.specs.declared.fault.RowsFault.{RowsFault}
-use Rattle.dd_discharge.specs.declared.fault.RowsFault.TheVariants.{Large, Memory}
-use Rattle.dd_discharge.specs.declared.fault.RowsFault.TheVariants as rows
+-- Why there is no bound of a rule.
+use Rattle.dd_rows.specs.declared.fault.RowsFault.{RowsFault}
+use Rattle.dd_rows.specs.declared.fault.RowsFault.TheVariants as rows
 use Rattle.dd_discharge.specs.declared.fault.DischargeFault.{DischargeFault}
 use Rattle.dd_discharge.specs.declared.fault.DischargeFault.TheVariants as fault
 use Rattle.dd_simplex.specs.declared.fault.SimplexFault.{SimplexFault}
 use Rattle.dd_simplex.specs.declared.fault.SimplexFault.TheVariants as simplex
-
--- it is large only for the reason
-abbrev pub OnLarge : RowsFault → Type 0 → Type 0
-OnLarge Large reason = reason
-OnLarge Memory reason = Unit {0}
 
 -- it overflows only for the reason
 abbrev pub OnOverflow : DischargeFault → Type 0 → Type 0

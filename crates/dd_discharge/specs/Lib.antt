@@ -1,9 +1,4 @@
--- The domains of a discharge, their admissible fillings, the patterns in these, the program that they give and its best bound
-pub mod Asked
-pub mod Domains
-pub mod Fillings
-pub mod Patterns
-pub mod Programs
+-- The best bound of a rule's program
 pub mod Denominators
 pub mod Printed
 pub mod Bounds
@@ -13,7 +8,5 @@ pub mod Amounts
 pub mod Certificates
 -- why there is none
 pub mod Faults
--- that the fillings are the admissible ones
-pub mod Laws
--- what the search appends, by what stands so far
+-- the shape of a program's rows
 pub mod listing

@@ -1,5 +1,1 @@
-pub mod Levels
-pub mod Views
 pub mod Tables
-pub mod Sparse
-pub mod Shown

@@ -9,8 +9,8 @@ ghost use Rattle.dd_discharge.specs.listing.Tables.{AreRowsOf};
 use crate::bound::Bound;
 use crate::denominators::bound_of;
 use crate::fault::DischargeFault;
-use crate::rows::Row;
 use dd_fraction::Fraction;
+use dd_rows::Row;
 use dd_simplex::{Program, maximise};
 use std::alloc::{AllocError, Global};
 

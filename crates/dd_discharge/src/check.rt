@@ -8,8 +8,8 @@ ghost use Rattle.dd_discharge.specs.Denominators.{most_printed};
 ghost use Rattle.dd_discharge.specs.listing.Tables.{AreRowsOf};
 
 use crate::claimed::ClaimedBound;
-use crate::rows::Row;
 use dd_fraction::Fraction;
+use dd_rows::Row;
 
 /// The number times a coefficient.
 fn term(coefficient: i64, number: u128) -> i128

@@ -1,16 +1,15 @@
 //! Whether a claimed bound of a rule along some vectors is certified.
 ghost use Rattle.std.specs.Prelude.{◌≡◌, ◌≤◌, IfOk, true, false};
-ghost use Rattle.dd_discharge.specs.Asked.{AreVectors, AreWeightsFor};
+ghost use Rattle.dd_rows.specs.Asked.{AreVectors, AreWeightsFor};
 ghost use Rattle.dd_discharge.specs.Amounts.{bound_claimed};
 ghost use Rattle.dd_discharge.specs.Denominators.{most_printed};
 ghost use Rattle.dd_discharge.specs.Certificates.{IsBoundCertificate};
 
 use crate::check::is_certified;
 use crate::claimed::ClaimedBound;
-use crate::fault::RowsFault;
-use crate::program::program_of;
 use dd_formula::Rule;
 use dd_lattice::Position;
+use dd_rows::{RowsFault, program_of};
 use std::alloc::{AllocError, Global};
 
 /// Whether the bound is certified for the rule along the vectors: its program is within its limits, the bound is in lowest terms

@@ -1,6 +1,6 @@
 //! The best bound of a rule along some vectors.
 ghost use Rattle.std.specs.Prelude.{◌≤◌, IfOk, IfErr};
-ghost use Rattle.dd_discharge.specs.Asked.{AreVectors, AreWeightsFor};
+ghost use Rattle.dd_rows.specs.Asked.{AreVectors, AreWeightsFor};
 ghost use Rattle.dd_discharge.specs.Printed.{IsSmallBound};
 ghost use Rattle.dd_discharge.specs.Bounds.{IsBoundOf, IsDischargeFault};
 ghost use Rattle.dd_discharge.specs.Certificates.{IsBoundCertificate};
@@ -8,9 +8,9 @@ ghost use Rattle.dd_discharge.specs.Certificates.{IsBoundCertificate};
 use crate::best::best_of;
 use crate::bound::Bound;
 use crate::fault::DischargeFault;
-use crate::program::program_of;
 use dd_formula::Rule;
 use dd_lattice::Position;
+use dd_rows::program_of;
 use std::alloc::Global;
 
 /// The most that each position can hold at least, once each has given along each vector an amount that its pattern determines:

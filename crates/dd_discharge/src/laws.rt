@@ -1,21 +1,10 @@
-//! Laws of the fillings that a program rests on, and of bounds.
+//! Laws of bounds.
 ghost use Rattle.std.specs.Prelude.{ℕ, List};
 ghost use Rattle.dd_lattice.specs.Place.{Place};
-ghost use Rattle.dd_lattice.specs.declared.position.Cell.{Cell};
 ghost use Rattle.dd_formula.specs.LocalRule.{LocalRule};
 ghost use Rattle.dd_discharge.specs.declared.bound.Bound.{Bound as AnyBound};
-ghost use Rattle.dd_discharge.specs.Laws.{AreCellsOf, AreTheAdmissible};
 ghost use Rattle.dd_discharge.specs.Outcomes.{HasOneOutcome};
 ghost use Rattle.dd_discharge.specs.Certificates.{IsBoundCertificate, BestOf};
-
-use dd_formula::Rule;
-
-/// Does nothing; its contract is the law of the fillings that are listed: they are the admissible ones among all lists of
-/// symbols that the nodes of the cells allow.
-#[tactic(auto, using(crate::proofs::AdmissibleLaws::the_admissible))]
-pub fn the_admissible(_rule: &Rule)
-    ensures { (cs : List Cell) → AreCellsOf _rule.now cs → AreTheAdmissible _rule.now cs }
-{}
 
 /// Does nothing; its contract is the law of certificates: a bound that is certified is the best, since no amounts over any
 /// common denominator that meet the rows hold more.

@@ -1,5 +1,4 @@
-//! Discharging bounds: the domain on which a rule is discharged along some vectors, its admissible fillings, the linear program that
-//! they give, its best bound, and what certifies it.
+//! Discharging bounds: the best bound of a rule's program along some vectors, what certifies it, and the check of a claimed one.
 #![tactic(auto)]
 
 mod best;
@@ -9,25 +8,13 @@ mod checking;
 mod claimed;
 mod denominators;
 mod discharging;
-mod domain;
 mod fault;
 mod laws;
-mod numbers;
-mod partial;
-mod pattern;
-mod program;
-mod rows;
-mod search;
-mod sparse;
-mod views;
 
 pub use bound::Bound;
 pub use checking::check_bound;
 pub use claimed::ClaimedBound;
+pub use dd_rows::{Row, Rows, RowsFault, fillings, ground, program_of, the_admissible};
 pub use discharging::discharge;
-pub use domain::ground;
-pub use fault::{DischargeFault, RowsFault};
-pub use laws::{best_bound, one_outcome, the_admissible};
-pub use program::program_of;
-pub use rows::{Row, Rows};
-pub use search::fillings;
+pub use fault::DischargeFault;
+pub use laws::{best_bound, one_outcome};

@@ -19,6 +19,10 @@ IsSatisfying cnf values = (length values ≡ cnf.variables) × Satisfies (true_v
 abbrev pub IsRefuting : ClauseList → List Step → Type 0
 IsRefuting cnf steps = refutes cnf.variables cnf.clauses steps ≡ true
 
+-- no assignment satisfies the clauses
+abbrev pub IsUnsatisfied : ClauseList → Type 0
+IsUnsatisfied cnf = (set : ℕ → Bool) → Satisfies set cnf.clauses → ⊥
+
 -- a proposal keeps its word
 abbrev pub IsRight : ClauseList → Proposal → Type 0
 IsRight cnf Nothing = Unit {0}
@@ -35,9 +39,10 @@ GivenAfter old new Nothing = new ≡ old
 GivenAfter old new (Proposed values) = RisesOn old new
 GivenAfter old new (Refutation steps) = RisesOn old new
 
+-- an outcome keeps its word; where clauses are refuted, no assignment satisfies them
 abbrev pub IsRightOutcome : ClauseList → Outcome → Type 0
 IsRightOutcome cnf (Found values) = IsSatisfying cnf values
-IsRightOutcome cnf (Refuted steps) = IsRefuting cnf steps
+IsRightOutcome cnf (Refuted steps) = IsRefuting cnf steps × IsUnsatisfied cnf
 
 -- how a round ends, by its answer
 abbrev pub end_of : {E : Type 0} → Result (Option Outcome) E → End

@@ -35,6 +35,7 @@ fn empty_lists(alloc: Global, count: usize) -> Result<Vec<Items<usize>>, AllocEr
 }
 
 impl Occurrences {
+    /// Of the clauses of a list.
     pub fn new(alloc: Global, cnf: &Cnf) -> Result<Occurrences, AllocError>
         ensures long { IfOk result (λ occurrences. length occurrences.lists.items ≡ 2 * cnf.now.variables) }
         ensures stands { IfOk result (λ occurrences. Stands occurrences.lists.items cnf.now.clauses) }

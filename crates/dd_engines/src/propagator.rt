@@ -20,6 +20,7 @@ pub struct Propagator {
 }
 
 impl Propagator {
+    /// An engine that was not asked yet.
     pub fn new() -> Self
         ensures asked { ⟦<Propagator as Engine>⟧.asked result ≡ 0 }
         ensures given { ⟦<Propagator as Engine>⟧.given result ≡ 0 }

@@ -22,6 +22,7 @@ pub struct Walker {
 }
 
 impl Walker {
+    /// An engine that makes at most so many flips each time it is asked, and was not asked yet.
     pub fn new(flips: u32) -> Self
         ensures flips { flips_of result ≡ flips }
         ensures asked { ⟦<Walker as Engine>⟧.asked result ≡ 0 }

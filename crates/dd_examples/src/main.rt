@@ -1,25 +1,48 @@
-//! What a program does with the crates: it reads an output from standard input and writes it again, byte for byte.
+//! What programs do with the crates. Without a word this one reads an output from standard input and writes it again, byte for byte;
+//! with `answer` it reads a script and writes the first line of each answer; and with `squares` it says whether the chessboard is a
+//! configuration of hard squares.
 #![tactic(auto)]
 
+mod deciding;
+mod guessing;
+mod lone;
 mod rewriting;
+mod squares;
+mod tasks;
 
-use crate::rewriting::rewritten;
-use dd_outside::{StdSink, StdSource, read_all, write_whole};
+use crate::tasks::{Fault, Task};
+use dd_outside::{StdSink, StdSource, write_whole};
+use std::env;
 use std::process::ExitCode;
 
-/// The greatest length of an output, in bytes.
-const MOST_BYTES: usize = 268_435_456;
+// The task that the words after the program's name ask for.
+fn task_of(rt: &HostRuntime) -> Result<Task, Fault> {
+    let Ok(given) = env::args(rt) else {
+        return Err(Fault::Words);
+    };
+    let mut words = Vec::new(rt.alloc());
+    for word in given.skip(1) {
+        if words.push(word).is_err() {
+            return Err(Fault::Memory);
+        }
+    }
+    Task::named(&words)
+}
+
+// What is written.
+fn text_of(rt: &HostRuntime) -> Result<Vec<u8>, Fault> {
+    let task = task_of(rt)?;
+    let mut source = StdSource::new(rt.stdin());
+    task.text(rt.alloc(), &mut source)
+}
 
 fn main(rt: HostRuntime) -> ExitCode {
-    let alloc = rt.alloc();
-    let mut source = StdSource::new(rt.stdin());
-    let Ok(bytes) = read_all(alloc, &mut source, MOST_BYTES) else {
-        let _ = eprintln!(rt; "no input");
-        return ExitCode::FAILURE;
-    };
-    let Ok(text) = rewritten(alloc, &bytes) else {
-        let _ = eprintln!(rt; "no output of diddy");
-        return ExitCode::FAILURE;
+    let text = match text_of(&rt) {
+        Ok(text) => text,
+        Err(fault) => {
+            let _ = eprintln!(rt; "{}", fault.message());
+            return ExitCode::FAILURE;
+        }
     };
     let mut sink = StdSink::new(rt.stdout());
     match write_whole(&mut sink, &text) {

@@ -19,6 +19,7 @@ pub enum Expanded {
 }
 
 impl Expanded {
+    /// A value with the same numbers and lists in every part.
     #[cycle(copy)]
     pub fn copy(&self, alloc: Global) -> Result<Expanded, AllocError>
         ensures { IfOk result (λ c. c ≡ self.now) }

@@ -1,10 +1,11 @@
-//! Why an expansion is not made.
+//! The faults of expansions.
 ghost use Rattle.std.specs.Prelude.{◌≡◌};
 ghost use Rattle.dd_expansion.specs.declared.fault.ExpansionFault.TheVariants.{Memory};
 
 use std::alloc::{AllocError, AllocFailed};
 use thiserror::Error;
 
+/// Why an expansion is not made.
 #[derive(Clone, Copy, Debug, PartialEq, Eq, Error)]
 pub enum ExpansionFault {
     /// The expansion would have more nodes than are allowed.

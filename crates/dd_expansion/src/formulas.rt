@@ -75,6 +75,7 @@ pub enum Formula {
 }
 
 impl Term {
+    /// A term with the same variable and moves.
     pub fn copy(&self, alloc: Global) -> Result<Term, AllocError>
         ensures { IfOk result (λ c. c ≡ self.now) }
     {
@@ -86,6 +87,7 @@ impl Term {
 }
 
 impl Formula {
+    /// A value with the same numbers and lists in every part.
     #[cycle(copy)]
     pub fn copy(&self, alloc: Global) -> Result<Formula, AllocError>
         ensures { IfOk result (λ c. c ≡ self.now) }

@@ -1,4 +1,3 @@
-pub mod Layers
 pub mod Lists
 pub mod Powers
 pub mod ExtensionLaws

@@ -20,8 +20,12 @@ use Rattle.dd_expansion.specs.declared.expanded.Expanded.{Expanded}
 use Rattle.dd_expansion.specs.Leaves.{holds}
 use Rattle.dd_expansion.specs.Placed.{is_flat}
 use Rattle.dd_formula.specs.LocalRule.{LocalRule, IsRule, is_true, is_of, reads_at, cells_at}
+use Rattle.dd_numbered.specs.declared.numbered.Numbered.{Numbered}
+use Rattle.dd_numbered.specs.Numbered.{holds_in}
+use Rattle.dd_numbered.specs.Numbering.{by_rank, read_by}
 use Rattle.dd_forbidden.specs.Breaking.{is_kept}
 use Rattle.dd_forbidden.specs.listing.Extensions.{AreSymbols, AreOf}
+use Rattle.dd_forbidden.specs.listing.Saying.{SaysKept}
 
 -- the truth of the expansion at the origin
 
@@ -45,14 +49,19 @@ below_at n (s ∷ ss) h (suc i) = below_at n ss (λ k d within. h (suc k) d (ome
 look_below : (n : ℕ) (cs : List Cell) (ss : List ℕ) → All (λ s. s < n) ss → IsBelow n (filling_look (filled cs ss))
 look_below n cs ss below c = below_at n ss below (position_or_len (λ d. is_eq (cell_cmp d c)) cs)
 
-abbrev pub SaysTruth : LocalRule → ℕ → Expanded → Type 0
+abbrev SaysTruth : LocalRule → ℕ → Expanded → Type 0
 SaysTruth r a e = (look : Look) → IsBelow r.symbols look → (v : Place) → holds e (λ c. look (shifted v c)) ≡ is_true r (cell v a) look
 
-pub kept_here : (r : LocalRule) (a : ℕ) (e : Expanded) (ss : List ℕ) → SaysTruth r a e → AreSymbols r ss → holds e (filling_look (filled (cells_at r a) ss)) ≡ is_kept r a ss
+kept_here : (r : LocalRule) (a : ℕ) (e : Expanded) (ss : List ℕ) → SaysTruth r a e → AreSymbols r ss → holds e (filling_look (filled (cells_at r a) ss)) ≡ is_kept r a ss
 kept_here r a e ss truth below =
     let look : Look = filling_look (filled (cells_at r a) ss) in
     let same : (λ (c : Cell). look (shifted (place (pos 0) (pos 0) (pos 0)) c)) ≡ look = fun_ext (λ c. ap look (shifted_by_origin c)) in
     ap (holds e) (sym same) ∙ truth look (look_below r.symbols (cells_at r a) ss below) (place (pos 0) (pos 0) (pos 0))
+
+-- the expansion with the places of the cells that are read
+pub says_kept : (r : LocalRule) (a : ℕ) (e : Numbered) (x : Expanded) (cs : List Cell) → SaysTruth r a x → cs ≡ cells_at r a →
+    ((ss : List ℕ) → holds_in e ss ≡ holds x (read_by (by_rank cs) ss)) → SaysKept r a e
+says_kept r a e x cs truth is says ss below = says ss ∙ (ap (λ ds. holds x (filling_look (filled ds ss))) is ∙ kept_here r a x ss truth below)
 
 -- the cells that are read are of the rule's nodes
 

@@ -1,2 +1,2 @@
 pub mod Extensions
-pub mod Settled
+pub mod Saying

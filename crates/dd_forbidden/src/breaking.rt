@@ -6,6 +6,7 @@ use crate::fault::ForbiddenFault;
 use crate::search::extend;
 use crate::size::is_large;
 use dd_formula::Rule;
+use dd_numbered::{Numbered, Ranks};
 use dd_pattern::Filling;
 use dd_values::Items;
 use std::alloc::Global;
@@ -24,9 +25,22 @@ pub fn forbidden(alloc: Global, rule: &Rule, node: u32) -> Result<Vec<Filling>, 
     if is_large(rule.symbols(), rule.reads(node).len()) {
         return Err(ForbiddenFault::Size);
     }
-    let cells = rule.expansion(node).cells(alloc)?;
+    let expansion = rule.expansion(node);
+    let listed = expansion.cells(alloc)?;
+    let cells = listed.as_slice();
+    let ranks = Ranks::new(cells);
+    let formula = Numbered::new(alloc, expansion, &ranks)?;
     let mut symbols = Items::new(alloc);
     let mut found = Items::new(alloc);
-    extend(alloc, rule, node, &cells, &cells, &mut symbols, &mut found)?;
+    extend(
+        alloc,
+        rule,
+        node,
+        &formula,
+        cells,
+        cells,
+        &mut symbols,
+        &mut found,
+    )?;
     Ok(found.into_vec())
 }

@@ -5,9 +5,7 @@ mod breaking;
 mod fault;
 mod laws;
 mod search;
-mod settling;
 mod size;
-mod truth;
 
 pub use breaking::forbidden;
 pub use fault::ForbiddenFault;

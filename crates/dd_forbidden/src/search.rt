@@ -6,11 +6,11 @@ ghost use Rattle.dd_lattice.specs.Order.{cell_cmp};
 ghost use Rattle.dd_pattern.specs.Filling.{filled};
 ghost use Rattle.dd_formula.specs.LocalRule.{cells_at};
 ghost use Rattle.dd_forbidden.specs.listing.Extensions.{completions, extensions, AreOf, AreSymbols};
+ghost use Rattle.dd_forbidden.specs.listing.Saying.{SaysKept};
 
-use crate::settling::settled;
-use crate::truth::is_true;
 use dd_formula::Rule;
 use dd_lattice::Cell;
+use dd_numbered::Numbered;
 use dd_pattern::Filling;
 use dd_values::Items;
 use std::alloc::{AllocError, Global};
@@ -20,12 +20,13 @@ pub(crate) fn extend(
     alloc: Global,
     rule: &Rule,
     node: u32,
+    formula: &Numbered,
     cells: &[Cell],
     rest: &[Cell],
     symbols: &mut Items<u32>,
     found: &mut Items<Filling>,
 ) -> Result<(), AllocError>
-    requires node { node < rule.now.nodes }
+    requires formula { SaysKept rule.now node formula.now }
     requires cells { cells.now ≡ cells_at rule.now node }
     requires ascending { IsStrictlySortedBy cell_cmp cells.now }
     requires rest { AreOf rule.now rest.now }
@@ -35,9 +36,9 @@ pub(crate) fn extend(
     ensures symbols { OnOk result (symbols.new ≡ symbols.old) }
 {
     let Some((cell, later)) = rest.split_first() else {
-        return push_breaking(alloc, rule, node, cells, symbols.as_slice(), found);
+        return push_breaking(alloc, rule, node, formula, cells, symbols.as_slice(), found);
     };
-    match settled(rule.expansion(node), cells, symbols.as_slice()) {
+    match formula.settled(symbols.as_slice()) {
         Some(true) => return Ok(()),
         Some(false) => return complete(alloc, rule, cells, rest, symbols, found),
         None => {}
@@ -45,7 +46,7 @@ pub(crate) fn extend(
     for symbol in 0..rule.symbols() {
         if rule.allows(cell.node, symbol) {
             symbols.push(symbol)?;
-            extend(alloc, rule, node, cells, later, symbols, found)?;
+            extend(alloc, rule, node, formula, cells, later, symbols, found)?;
             symbols.pop();
         }
     }
@@ -85,20 +86,19 @@ fn push_breaking(
     alloc: Global,
     rule: &Rule,
     node: u32,
+    formula: &Numbered,
     cells: &[Cell],
     symbols: &[u32],
     found: &mut Items<Filling>,
 ) -> Result<(), AllocError>
-    requires node { node < rule.now.nodes }
+    requires formula { SaysKept rule.now node formula.now }
     requires cells { cells.now ≡ cells_at rule.now node }
     requires ascending { IsStrictlySortedBy cell_cmp cells.now }
     requires length { length symbols.now ≡ length (cells_at rule.now node) }
     requires symbols { AreSymbols rule.now symbols.now }
     ensures { OnOk result (found.new ≡ found.old ++ map (filled (cells_at rule.now node)) (extensions rule.now node [] symbols.now)) }
 {
-    let expansion = rule.expansion(node);
-    let _below = rule.symbols();
-    if is_true(expansion, cells, symbols) {
+    if formula.truth(symbols) {
         return Ok(());
     }
     push_filling(alloc, cells, symbols, found)

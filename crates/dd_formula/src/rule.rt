@@ -132,6 +132,7 @@ impl Rule {
         self.sets.allows(node, symbol)
     }
 
+    /// The formula that the rule was made of.
     pub fn formula(&self) -> &Formula
         ensures { result.now ≡ self.now.formula }
     {

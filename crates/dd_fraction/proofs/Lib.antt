@@ -5,5 +5,6 @@ pub mod Laws
 pub mod Lowest
 pub mod OddDivisors
 pub mod OrderLaws
+pub mod Quick
 pub mod Results
 pub mod Ring

@@ -86,7 +86,7 @@ refused : {A : Type 0} (t : Bool) (z : A) → None ≡ cond t (Some z) None → 
 refused true z e = absurd cc
 refused false z e = refl
 
-bounded_some : (z x : ℤ) → Some x ≡ bounded z → (is_bounded z ≡ true) × (x ≡ z)
+pub bounded_some : (z x : ℤ) → Some x ≡ bounded z → (is_bounded z ≡ true) × (x ≡ z)
 bounded_some z x e = kept (is_bounded z) x z e
 
 pub size_some : (n x : ℕ) → Some x ≡ bounded_size n → (is_bounded (pos n) ≡ true) × (x ≡ n)
@@ -119,12 +119,12 @@ plus_at a b n d p q e f =
     rw (e, f, x, y) refl
 
 -- the two cross products fit
-record Cross (a b : Exact) (l r : ℤ) : Type 0 where
-  left : is_bounded (a.num *ℤ pos b.den) ≡ true
-  right : is_bounded (b.num *ℤ pos a.den) ≡ true
-  both : l +ℤ r ≡ a.num *ℤ pos b.den +ℤ b.num *ℤ pos a.den
+pub record Cross (a b : Exact) (l r : ℤ) : Type 0 where
+  pub left : is_bounded (a.num *ℤ pos b.den) ≡ true
+  pub right : is_bounded (b.num *ℤ pos a.den) ≡ true
+  pub both : l +ℤ r ≡ a.num *ℤ pos b.den +ℤ b.num *ℤ pos a.den
 
-crossed : (a b : Exact) (l r : ℤ) → Some l ≡ bounded (a.num *ℤ pos b.den) → Some r ≡ bounded (b.num *ℤ pos a.den)
+pub crossed : (a b : Exact) (l r : ℤ) → Some l ≡ bounded (a.num *ℤ pos b.den) → Some r ≡ bounded (b.num *ℤ pos a.den)
     → Cross a b l r
 crossed a b l r e f =
     let x = bounded_some (a.num *ℤ pos b.den) l e in

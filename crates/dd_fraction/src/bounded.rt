@@ -1,8 +1,11 @@
 // Sums and products that stay within 2^127 - 1 in absolute value: -2^127 is left out, so each number has its opposite.
-ghost use Rattle.std.specs.Prelude.{◌≡◌, ◌*◌, true};
+ghost use Rattle.std.specs.Prelude.{◌≡◌, ◌*◌, ◌^◌, ◌≤◌, IfSome, true};
+ghost use Rattle.std.specs.Int.RustNames.{unsigned_abs};
 ghost use lib.IntN.{◌*ℤ◌, ◌+ℤ◌};
 ghost use Rattle.dd_fraction.specs.Checked.{is_bounded, bounded, bounded_size};
 
+/// The product, or `None` where it passes 2^127 - 1 in absolute value.
+#[inline(always)]
 pub fn product(a: i128, b: i128) -> Option<i128>
     ensures { result ≡ bounded (a *ℤ b) }
 {
@@ -13,6 +16,7 @@ pub fn product(a: i128, b: i128) -> Option<i128>
 }
 
 /// A product of machine words, which is always bounded.
+#[inline(always)]
 fn word_product(a: i64, b: i64) -> i128
     ensures value { result ≡ a *ℤ b }
     ensures bounded { is_bounded (a *ℤ b) ≡ true }
@@ -29,6 +33,8 @@ fn wide_product(a: i128, b: i128) -> Option<i128>
     }
 }
 
+/// The sum, or `None` where it passes 2^127 - 1 in absolute value.
+#[inline(always)]
 pub fn sum(a: i128, b: i128) -> Option<i128>
     ensures { result ≡ bounded (a +ℤ b) }
 {
@@ -38,6 +44,22 @@ pub fn sum(a: i128, b: i128) -> Option<i128>
     }
 }
 
+/// The sum of two machine words, which is always bounded. None where a number is none.
+#[inline(always)]
+pub fn word_sum(a: i128, b: i128) -> Option<i128>
+    ensures value { IfSome result (λ s. s ≡ a +ℤ b) }
+    ensures bounded { IfSome result (λ s. unsigned_abs s ≤ 2 ^ 64) }
+    ensures left { IfSome result (λ s. unsigned_abs a ≤ 2 ^ 63) }
+    ensures right { IfSome result (λ s. unsigned_abs b ≤ 2 ^ 63) }
+{
+    match (i64::try_from(a), i64::try_from(b)) {
+        (Ok(a), Ok(b)) => Some(i128::from(a) + i128::from(b)),
+        _ => None,
+    }
+}
+
+/// The product of two sizes, or `None` where it passes 2^127 - 1.
+#[inline(always)]
 pub fn size_product(a: u128, b: u128) -> Option<u128>
     ensures { result ≡ bounded_size (a * b) }
 {
@@ -56,6 +78,7 @@ fn wide_size_product(a: u128, b: u128) -> Option<u128>
     }
 }
 
+#[inline(always)]
 fn if_bounded(size: u128) -> Option<u128>
     ensures { result ≡ bounded_size size }
 {

@@ -7,6 +7,7 @@ ghost use Rattle.dd_fraction.specs.Divisor.{greatest_common};
 /// The greatest number of 64 bits.
 const WORD: u128 = 18_446_744_073_709_551_615;
 
+/// The greatest number that divides both; of a number and 0, the number.
 pub fn greatest_common_divisor(a: u128, b: u128) -> u128
     ensures { result ≡ greatest_common a b }
 {
@@ -46,6 +47,7 @@ fn word_divisor(a: u64, b: u64) -> u64
     word_divisor(b / 2, rest / 2) * 2
 }
 
+#[inline(always)]
 fn odd_divisor(a: u64, b: u64) -> u64
     requires { a % 2 ≡ 1 }
     ensures { result ≡ greatest_common a b }
@@ -65,6 +67,7 @@ fn odd_divisor(a: u64, b: u64) -> u64
 }
 
 /// A number other than 0 without its factors of 2.
+#[inline(always)]
 fn without_twos(n: u64) -> u64
     requires { 0 < n }
     ensures odd { result % 2 ≡ 1 }
@@ -75,6 +78,7 @@ fn without_twos(n: u64) -> u64
 }
 
 /// The greatest common divisor of the two numbers of a fraction.
+#[inline(always)]
 pub fn common_divisor(num: i128, den: u128) -> u128
     requires { 0 < den }
     ensures value { result ≡ greatest_common (unsigned_abs num) den }
@@ -84,6 +88,8 @@ pub fn common_divisor(num: i128, den: u128) -> u128
     greatest_common_divisor(num.unsigned_abs(), den)
 }
 
+/// The quotient of a number and a divisor from 1 to 2^127 - 1, rounded toward 0.
+#[inline(always)]
 pub fn quotient(num: i128, divisor: u128) -> i128
     requires above { 0 < divisor }
     requires below { divisor < 2 ^ 127 }
@@ -96,6 +102,8 @@ pub fn quotient(num: i128, divisor: u128) -> i128
     }
 }
 
+/// The quotient of a size and a divisor that is not 0, rounded down.
+#[inline(always)]
 pub fn size_quotient(size: u128, divisor: u128) -> u128
     requires { 0 < divisor }
     ensures { result ≡ size / divisor }

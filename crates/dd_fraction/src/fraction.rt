@@ -1,16 +1,19 @@
 // A fraction in lowest terms, and its arithmetic. Contracts see it as the exact fraction that it is.
-ghost use Rattle.std.specs.Prelude.{◌≡◌, ◌≢◌, ◌<◌, ◌^◌};
+ghost use Rattle.std.specs.Prelude.{◌≡◌, ◌≢◌, ◌<◌, ◌^◌, ◌↔◌, Some, IsTrue, IfSome};
 ghost use Rattle.std.specs.Int.RustNames.{unsigned_abs};
 ghost use lib.IntN.{pos};
 ghost use Rattle.dd_fraction.specs.Exact.{Exact, lowest, minus, inverse, whole_of};
 ghost use Rattle.dd_fraction.specs.Order.{exact_cmp};
 ghost use Rattle.dd_fraction.specs.Checked.{IsFraction, checked_product, checked_quotient, checked_sum, fraction_of};
 
-use crate::bounded::{product, size_product, sum};
+use crate::bounded::{product, size_product, sum, word_sum};
 use crate::divisor::{common_divisor, quotient, size_quotient};
 use crate::ratio::compare_ratios;
 use std::cmp::Ordering;
 use std::marker::Model;
+
+/// The greatest machine word with a sign.
+const WORD: u128 = 9_223_372_036_854_775_807;
 
 /// A fraction in lowest terms. Its denominator is from 1 to 2^127 - 1, and its numerator at most 2^127 - 1 in absolute
 /// value. No call takes memory.
@@ -58,6 +61,7 @@ impl Fraction {
     }
 
     /// The numerator, which has the fraction's sign.
+    #[inline]
     pub fn num(&self) -> i128
         ensures value { result ≡ self.now.num }
         ensures fraction { IsFraction self.now }
@@ -74,6 +78,7 @@ impl Fraction {
     }
 
     /// The opposite.
+    #[inline]
     pub fn negate(&self) -> Fraction
         ensures { result ≡ minus self.now }
     {
@@ -85,17 +90,53 @@ impl Fraction {
 
     /// The sum. None where a cross product, the sum of both, or the product of the denominators passes 2^127 - 1 in
     /// absolute value, also where the sum in lowest terms would not.
+    #[inline(always)]
     pub fn add(&self, other: &Fraction) -> Option<Fraction>
+        ensures { result ≡ checked_sum self.now other.now }
+    {
+        // Read for what its type keeps.
+        let _ = &other.num;
+        // 0/1 adds nothing: the cross products are 0 and the other's numerator.
+        if self.num == 0 && self.den == 1 {
+            return Some(*other);
+        }
+        match self.alike_sum(other) {
+            Some(sum) => Some(sum),
+            None => self.cross_sum(other),
+        }
+    }
+
+    /// The sum over an equal denominator, where the three numbers are machine words: the four stated numbers are then
+    /// within the bounds, and the cross products have the denominator as a common divisor. None elsewhere.
+    #[inline(always)]
+    fn alike_sum(&self, other: &Fraction) -> Option<Fraction>
+        ensures { IfSome result (λ s. Some s ≡ checked_sum self.now other.now) }
+    {
+        if self.den != other.den || self.den > WORD {
+            return None;
+        }
+        let num = word_sum(self.num, other.num)?;
+        Some(reduced(num, self.den))
+    }
+
+    /// The sum by cross products.
+    #[inline(never)]
+    fn cross_sum(&self, other: &Fraction) -> Option<Fraction>
         ensures { result ≡ checked_sum self.now other.now }
     {
         let left = product(self.num, other.den as i128)?;
         let right = product(other.num, self.den as i128)?;
         let num = sum(left, right)?;
         let den = size_product(self.den, other.den)?;
+        // Beside a whole number: what divides both numbers divides those of the other side, so it is 1.
+        if self.den == 1 || other.den == 1 {
+            return Some(in_lowest_terms(num, den));
+        }
         Some(reduced(num, den))
     }
 
     /// The difference. None where the sum with the opposite of `other` is None.
+    #[inline(always)]
     pub fn sub(&self, other: &Fraction) -> Option<Fraction>
         ensures { result ≡ checked_sum self.now (minus other.now) }
     {
@@ -104,12 +145,25 @@ impl Fraction {
 
     /// The product. None where the product of the numerators or of the denominators passes 2^127 - 1 in absolute
     /// value, also where the product in lowest terms would not.
+    #[inline(always)]
     pub fn mul(&self, other: &Fraction) -> Option<Fraction>
         ensures { result ≡ checked_product self.now other.now }
     {
         let num = product(self.num, other.num)?;
         let den = size_product(self.den, other.den)?;
+        // A factor 1 or -1 leaves the other's numbers as they are, up to the sign.
+        if self.is_unit() || other.is_unit() {
+            return Some(in_lowest_terms(num, den));
+        }
         Some(reduced(num, den))
+    }
+
+    /// Whether it is 1 or -1.
+    #[inline(always)]
+    fn is_unit(&self) -> bool
+        ensures { IsTrue result ↔ ((self.now.den ≡ 1) × (unsigned_abs self.now.num ≡ 1)) }
+    {
+        self.den == 1 && self.num.unsigned_abs() == 1
     }
 
     /// The quotient by a fraction other than 0. None where the product with `1 / other` is None.
@@ -148,6 +202,7 @@ impl Fraction {
 }
 
 /// The two numbers over their greatest common divisor.
+#[inline(never)]
 fn reduced(num: i128, den: u128) -> Fraction
     requires bounded { unsigned_abs num < 2 ^ 127 }
     requires above { 0 < den }
@@ -164,6 +219,7 @@ fn reduced(num: i128, den: u128) -> Fraction
     in_lowest_terms(quotient(num, divisor), size_quotient(den, divisor))
 }
 
+#[inline(always)]
 fn in_lowest_terms(num: i128, den: u128) -> Fraction
     requires { IsFraction (record { num = num; den = den }) }
     ensures { result ≡ record { num = num; den = den } }

@@ -1,10 +1,11 @@
-//! Why a region isn't made.
+//! The faults of regions.
 ghost use Rattle.std.specs.Prelude.{◌≡◌};
 ghost use Rattle.dd_lattice.specs.declared.fault.LatticeFault.TheVariants.{Memory};
 
 use std::alloc::{AllocError, AllocFailed};
 use thiserror::Error;
 
+/// Why a region is not made.
 #[derive(Clone, Copy, Debug, PartialEq, Eq, Error)]
 pub enum LatticeFault {
     /// A coordinate would pass 2^20 in absolute value.

@@ -63,6 +63,8 @@ pub struct MemorySource {
 impl MemorySource {
     ghost use Rattle.dd_outside.specs.Memory.{source_step, source_failing, source_calls};
 
+    /// A source of these bytes, of which a call gives at most `step`, which is at least 1. The calls with the numbers `failing` fail; the first
+    /// call has the number 1.
     pub fn new(bytes: Vec<u8>, step: usize, failing: Vec<u64>) -> Self
         requires { 1 ≤ step }
         ensures left { ⟦<MemorySource as Source>⟧.left result ≡ Some bytes.items }

@@ -16,6 +16,7 @@ pub struct QuietSource {
 }
 
 impl QuietSource {
+    /// A source of these bytes.
     pub fn new(bytes: Vec<u8>) -> Self
         ensures { ⟦<QuietSource as Source>⟧.left result ≡ Some bytes.items }
     {
@@ -40,6 +41,7 @@ impl Source for QuietSource {
 pub struct QuietSink;
 
 impl QuietSink {
+    /// A sink that keeps nothing.
     pub fn new() -> Self {
         QuietSink
     }

@@ -14,6 +14,7 @@ pub struct StdSource<R> {
 }
 
 impl<R: Read> StdSource<R> {
+    /// A source over a reader, with no fault so far.
     pub fn new(reader: R) -> Self
         ensures left { ⟦<StdSource<R> as Source>⟧.left result ≡ R.remaining reader }
         ensures faults { ⟦<StdSource<R> as Source>⟧.faults result ≡ 0 }
@@ -50,6 +51,7 @@ pub struct StdSink<W> {
 }
 
 impl<W: Write> StdSink<W> {
+    /// A sink over a writer, with no fault so far.
     pub fn new(writer: W) -> Self
         ensures held { ⟦<StdSink<W> as Sink>⟧.held result ≡ W.contents writer }
         ensures faults { ⟦<StdSink<W> as Sink>⟧.faults result ≡ 0 }

@@ -1,13 +1,18 @@
-//! The program: its words, standard input and standard output, and the status.
+//! The program: its words, standard input and standard output, its engines, and the status.
 #![tactic(auto)]
 
+use dd_engines::{Engine, Propagator, Roster, Walker};
 use dd_outside::{StdSink, StdSource};
 use dd_session::{Status, run_diddy};
+use std::alloc::AllocError;
 use std::process::ExitCode;
 use std::{env, io};
 
 /// Ends a program whose words can't be had.
 const NO_WORDS: u8 = 8;
+
+/// How many flips an engine walks for each list of clauses.
+const FLIPS: u32 = 10_000;
 
 /// Why the words of the command line can't be had.
 enum WordsFault {
@@ -36,6 +41,19 @@ fn words_of(rt: &HostRuntime) -> Result<Vec<String>, WordsFault> {
     Ok(words)
 }
 
+// The session of these words, with a roster of the engine that propagates and then the one that walks.
+fn run(rt: &HostRuntime, words: &[String]) -> Result<Status, AllocError> {
+    let alloc = rt.alloc();
+    let mut engines: Vec<Box<dyn Engine>> = Vec::new(alloc);
+    engines.push(Box::new(alloc, Propagator::new())?)?;
+    engines.push(Box::new(alloc, Walker::new(FLIPS))?)?;
+    let mut roster = Roster::new(engines);
+    let mut source = StdSource::new(rt.stdin());
+    let mut sink = StdSink::new(rt.stdout());
+    let status = run_diddy(alloc, words, &mut source, &mut sink, &mut roster);
+    Ok(status)
+}
+
 fn main(rt: HostRuntime) -> ExitCode {
     let words = match words_of(&rt) {
         Ok(words) => words,
@@ -45,11 +63,12 @@ fn main(rt: HostRuntime) -> ExitCode {
             return ExitCode::from(NO_WORDS);
         }
     };
-    let mut source = StdSource::new(rt.stdin());
-    let mut sink = StdSink::new(rt.stdout());
-    let status = run_diddy(rt.alloc(), &words, &mut source, &mut sink);
+    let status = match run(&rt, &words) {
+        Ok(status) => status,
+        Err(AllocError) => Status::Memory,
+    };
     if status == Status::BadWords {
-        let _ = eprintln!(rt; "usage: diddy run | diddy check");
+        let _ = eprintln!(rt; "usage: diddy run | diddy check | diddy sample N");
     }
     ExitCode::from(status as u8)
 }

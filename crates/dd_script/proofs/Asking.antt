@@ -15,7 +15,7 @@ use Rattle.dd_formula.specs.Automata.{Setting, IsAutomaton, rule_has}
 use Rattle.dd_formula.specs.Reach.{automaton_cells}
 use Rattle.dd_formula.specs.declared.automaton.Automaton.{Automaton}
 use Rattle.dd_formula.proofs.FarthestLaws.{farthest-append}
-use Rattle.dd_discharge.specs.Asked.{AreVectors}
+use Rattle.dd_rows.specs.Asked.{AreVectors}
 use Rattle.dd_boxes.specs.Goals.{GoalOf, breaks, differ, always, AreAlike, IsGoalFor}
 use Rattle.dd_boxes.specs.Views.{numbers_of as numbers_of_rule}
 use Rattle.dd_boxes.specs.Boxes.{IsLeastRadius}

@@ -19,7 +19,7 @@ use Rattle.dd_topology.specs.Grid.{edge_reach, is_offset}
 use Rattle.dd_formula.specs.LocalRule.{LocalRule}
 use Rattle.dd_counts.specs.Rules.{states, longer_states}
 use Rattle.dd_transfer.specs.Transfers.{IsStrip, HasWeights}
-use Rattle.dd_discharge.specs.Asked.{IsVector, AreVectors, AreWeightsFor}
+use Rattle.dd_rows.specs.Asked.{IsVector, AreVectors, AreWeightsFor}
 use Rattle.dd_query.specs.Limits.{most_states, most_longer_states, has_many_states}
 use Rattle.dd_query.specs.Sound.{IsStrip as IsStripIn, AreVectors as AreVectorsIn}
 

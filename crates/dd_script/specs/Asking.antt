@@ -8,7 +8,7 @@ use Rattle.dd_formula.specs.Living.{Fits}
 use Rattle.dd_formula.specs.Counts.{largest_clauses}
 use Rattle.dd_counts.specs.Rules.{patterns}
 use Rattle.dd_transfer.specs.Transfers.{IsStrip, HasWeights, IsFew, strip_for}
-use Rattle.dd_discharge.specs.Asked.{AreVectors, AreWeightsFor}
+use Rattle.dd_rows.specs.Asked.{AreVectors, AreWeightsFor}
 use Rattle.dd_boxes.specs.declared.limits.Limits.{Limits}
 use Rattle.dd_boxes.specs.Goals.{GoalOf, breaks, IsGoalFor}
 use Rattle.dd_boxes.specs.Boxes.{IsLeastRadius}

@@ -66,6 +66,7 @@ impl Script {
         &self.known.setting.symbols
     }
 
+    /// The topology: the edges that formulas follow.
     pub fn topology(&self) -> &Topology
         ensures value { result.now ≡ self.now.known.setting.topology }
         ensures kept { IsScriptOf self.now }
@@ -89,6 +90,7 @@ impl Script {
         self.known.weights.as_slice()
     }
 
+    /// How far its questions are searched.
     pub fn limits(&self) -> &Limits
         ensures value { result.now ≡ self.now.known.limits }
         ensures kept { IsScriptOf self.now }
@@ -97,6 +99,7 @@ impl Script {
         &self.known.limits
     }
 
+    /// The rules, in the order of their definitions.
     pub fn rules(&self) -> &[Rule]
         ensures value { result.now ≡ self.now.rules }
         ensures kept { IsScriptOf self.now }
@@ -104,6 +107,7 @@ impl Script {
         self.rules.as_slice()
     }
 
+    /// The automata, compositions among them, in the order of their definitions.
     pub fn automata(&self) -> &[Automaton]
         ensures value { result.now ≡ self.now.automata }
         ensures kept { IsScriptOf self.now }
@@ -111,6 +115,7 @@ impl Script {
         self.automata.as_slice()
     }
 
+    /// The configurations, in the order of their definitions.
     pub fn configurations(&self) -> &[Periodic]
         ensures value { result.now ≡ self.now.configurations }
         ensures kept { IsScriptOf self.now }
@@ -118,6 +123,7 @@ impl Script {
         self.configurations.as_slice()
     }
 
+    /// The queries, in order.
     pub fn queries(&self) -> &[Query]
         ensures value { result.now ≡ self.now.queries }
         ensures kept { IsScriptOf self.now }

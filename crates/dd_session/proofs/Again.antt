@@ -20,7 +20,7 @@ use Rattle.dd_session.specs.declared.status.Status.{Status}
 use Rattle.dd_session.specs.declared.status.Status.TheVariants.{Definite, SomeUnknown, Refused, ReadFault, WriteFault, Memory, BadWords, Rejected}
 use Rattle.dd_session.specs.Answers.{AllRight, has_unknown, texts}
 use Rattle.dd_session.specs.Output.{header, end_line, output_of}
-use Rattle.dd_session.specs.Runs.{status_of}
+use Rattle.dd_session.specs.Sides.{status_of}
 use Rattle.dd_session.specs.Checks.{most_checked, IsAcceptedAt, IsTrueAt, AcceptedTo, AllAccepted, FirstRejected, IsAllAccepted}
 use Rattle.dd_session.specs.Checked.{CheckDecides}
 use Rattle.dd_session.specs.Agreement.{IsRunOutput, IsJudgement}
@@ -36,10 +36,10 @@ ClaimsAreTrue s = (number : ℕ) (a : Answer) → IsCertificate s number a → C
 
 -- ---- the text
 
-texts_same : (first : ℕ) (answers : List Answer) → texts first answers ≡ answers_text first answers
+texts_same : (first : ℕ) (answers : List Answer) → texts answer_text first answers ≡ answers_text first answers
 texts_same first [] = refl
 texts_same first (a ∷ answers) =
-    ap (λ (t : List ℕ). answer_text first a ++ t) (ap (λ (n : ℕ). texts n answers) (add-one first) ∙ texts_same (suc first) answers)
+    ap (λ (t : List ℕ). answer_text first a ++ t) (ap (λ (n : ℕ). texts answer_text n answers) (add-one first) ∙ texts_same (suc first) answers)
 
 abbrev output : List ℕ → List Answer → Output
 output bytes answers = record { script = bytes; answers = answers }
@@ -50,7 +50,7 @@ header_same bytes = append_assoc (codes "diddy 1\nscript " ++ (decimal (length b
 
 text_same : (bytes : List ℕ) (answers : List Answer) → output_of bytes answers ≡ output_text (output bytes answers)
 text_same bytes answers =
-    append_assoc (header bytes) (texts 1 answers) end_line
+    append_assoc (header bytes) (texts answer_text 1 answers) end_line
     ∙ (ap (λ (t : List ℕ). header bytes ++ (t ++ end_line)) (texts_same 1 answers)
     ∙ ap (λ (h : List ℕ). h ++ (answers_text 1 answers ++ end_line)) (header_same bytes))
 

@@ -10,7 +10,7 @@ use Rattle.dd_script.specs.Scripts.{Spells, RefusedAs, Kind}
 use Rattle.dd_session.specs.declared.status.Status.{Status}
 use Rattle.dd_session.specs.declared.status.Status.TheVariants.{Definite, SomeUnknown, Refused, ReadFault, WriteFault, Memory, BadWords, Rejected}
 use Rattle.dd_session.specs.Output.{long_line}
-use Rattle.dd_session.specs.Runs.{Told, RefusedBy}
+use Rattle.dd_session.specs.Sides.{Told, RefusedBy}
 use Rattle.dd_session.specs.Checks.{most_checked, IsOutput, IsCheckable, IsRefusedOutput, malformed, no_script, IsCheckedOutput}
 use Rattle.dd_session.specs.Checked.{CheckedOver, CheckEnded, CheckDecides, WholeCheck, WholeRejection, WholeRefusedOutput, Read}
 use Rattle.dd_session.proofs.Decided.{NeverBoth, told_bytes, told_more}

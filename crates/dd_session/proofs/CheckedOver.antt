@@ -14,7 +14,7 @@ use Rattle.dd_session.specs.declared.status.Status.{Status}
 use Rattle.dd_session.specs.declared.status.Status.TheVariants.{Definite, SomeUnknown, Refused, ReadFault, WriteFault, Memory, BadWords, Rejected}
 use Rattle.dd_session.specs.Answers.{has_unknown}
 use Rattle.dd_session.specs.Output.{IsLineOf}
-use Rattle.dd_session.specs.Runs.{Told, RefusedBy, status_of}
+use Rattle.dd_session.specs.Sides.{Told, RefusedBy, status_of}
 use Rattle.dd_session.specs.Checks.{offset_line, IsOutput, IsCheckable, IsRefusedOutput, malformed, no_script}
 use Rattle.dd_session.specs.Checked.{CheckFront, ShortCheck, CheckedOver}
 use Rattle.dd_session.specs.checking.Judged.{RejectedHere, AcceptedAll, AllJudged, checked_status}

@@ -8,7 +8,8 @@ use Rattle.dd_script.specs.Scripts.{Spells, RefusedAs, Kind}
 use Rattle.dd_session.specs.declared.status.Status.{Status}
 use Rattle.dd_session.specs.declared.status.Status.TheVariants.{Definite, SomeUnknown, Refused, ReadFault, WriteFault, Memory, BadWords, Rejected}
 use Rattle.dd_session.specs.Output.{long_line}
-use Rattle.dd_session.specs.Runs.{Told, RefusedBy, RanOver, Ended, IsAccepted, IsAcceptedAs, Decides, RanWhole, RefusedWhole, IsRefused, IsRefusedBy, too_long, no_run, most_bytes}
+use Rattle.dd_session.specs.Sides.{Told, RefusedBy}
+use Rattle.dd_session.specs.Runs.{RanOver, Ended, IsAccepted, IsAcceptedAs, Decides, RanWhole, RefusedWhole, IsRefused, IsRefusedBy, too_long, no_run, most_bytes}
 
 -- What was read to the end is what was told.
 pub told_bytes : (bytes given : List ℕ) (left : Option (List ℕ)) → ReadToEnd (Some bytes) left given → bytes ≡ given

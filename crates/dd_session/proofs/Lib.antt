@@ -6,6 +6,8 @@ pub mod Judging
 pub mod Numbered
 pub mod Open
 pub mod Refused
+pub mod Sampled
 pub mod Streamed
 pub mod Words
 pub mod Again
+pub mod Engaging

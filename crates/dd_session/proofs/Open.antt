@@ -11,9 +11,11 @@ use Rattle.dd_answer.specs.Right.{Right, is_unknown}
 use Rattle.dd_answer.specs.Laws.{SayTheSame}
 use Rattle.dd_session.specs.Answers.{AllRight, IsOpenAs, has_unknown}
 use Rattle.dd_session.specs.declared.status.Status.{Status}
-use Rattle.dd_session.specs.Runs.{Told, RanOver, WholeOutput, WholeRun, status_of}
+use Rattle.dd_session.specs.Sides.{Told, status_of}
+use Rattle.dd_session.specs.Written.{WholeOutput}
+use Rattle.dd_session.specs.Runs.{RanOver, WholeRun}
 
-abbrev AnswersAgree : Parts → Type 0
+abbrev pub AnswersAgree : Parts → Type 0
 AnswersAgree s = (q : Query) (a b : Answer) → Contains s.queries q → Right s q a → Right s q b → SayTheSame a b
 
 -- a query among these with a right answer that is not known
@@ -45,7 +47,7 @@ none_open s (p ∷ queries) (a ∷ answers) agree right each none q there zero b
 none_open s (p ∷ queries) (a ∷ answers) agree right each none q there (suc i) below is b told unknown =
     none_open s queries answers agree right.2 (omega (arith, each)) (or_none (is_unknown a) (has_unknown answers) none).1 q there i (omega (arith, below)) is b told unknown
 
-open_as : (s : Parts) (answers : List Answer) (has : Bool) → AnswersAgree s → AllRight s s.queries answers → length answers ≡ length s.queries →
+pub open_as : (s : Parts) (answers : List Answer) (has : Bool) → AnswersAgree s → AllRight s s.queries answers → length answers ≡ length s.queries →
     has_unknown answers ≡ has → IsOpenAs has s
 open_as s answers true agree right each is = open_from s s.queries answers right is
 open_as s answers false agree right each is = λ (q, (i, below, at), (b, told, unknown)). none_open s s.queries answers agree right each is q (i, below, at) i below at b told unknown

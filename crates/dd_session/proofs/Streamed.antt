@@ -1,5 +1,5 @@
--- How the texts of answers come one after the other, and what is written of an output that is cut short.
-use Rattle.std.proofs.Common.{◌≡◌, ℕ, ◌+◌, ◌<◌, List, [], ◌∷◌, ◌++◌, length, take, drop, get_or, Bool, true, false, ◌||◌, refl, sym, ◌∙◌, ap, subst, inl, inr, append-nil, append_assoc, length-append, take-append-drop, length-take-le, arith}
+-- How the texts of answers, or their first lines, come one after the other, and what is written of an output that is cut short.
+use Rattle.std.proofs.Common.{◌≡◌, ℕ, ◌+◌, ◌<◌, List, [], ◌∷◌, ◌++◌, length, take, drop, get_or, Bool, true, false, ◌||◌, refl, sym, ◌∙◌, ap, subst, inl, inr, Result, Ok, Err, IfOk, OnErr, append-nil, append_assoc, length-append, take-append-drop, length-take-le, arith}
 use Rattle.std.proofs.KnownBytes.{Appends-trans, Appends-nil}
 use Rattle.std.proofs.lemmas.List.{take_more}
 use Rattle.std.specs.declared.option.Option.{Option}
@@ -14,16 +14,10 @@ use Rattle.dd_answer.specs.Right.{Right, is_unknown}
 use Rattle.dd_script.specs.Parts.{Parts}
 use Rattle.dd_session.specs.Answers.{AllRight, has_unknown, texts}
 use Rattle.dd_session.specs.Output.{header, end_line}
-use Rattle.dd_session.specs.Runs.{Answered, AnsweredFront, CutShort}
+use Rattle.dd_session.specs.declared.stream.RunFault.{RunFault}
+use Rattle.dd_session.specs.Written.{Answered, AnsweredFront, AnsweredToEnd, AnsweredShort, WholeOutput, CutShort}
 
 -- ---- lists of answers
-
-texts-append : (first : ℕ) (xs ys : List Answer) → texts first (xs ++ ys) ≡ texts first xs ++ texts (first + length xs) ys
-texts-append first [] ys = ap (λ (n : ℕ). texts n ys) (omega arith)
-texts-append first (x ∷ xs) ys =
-    let same : first + 1 + length xs ≡ first + length (x ∷ xs) = omega arith in
-    ap (λ (l : List ℕ). answer_text first x ++ l) (texts-append (first + 1) xs ys ∙ ap (λ (n : ℕ). texts (first + 1) xs ++ texts n ys) same)
-    ∙ sym (append_assoc (answer_text first x) (texts (first + 1) xs) (texts (first + length (x ∷ xs)) ys))
 
 AllRight-append : (s : Parts) (qs rs : List Query) (xs ys : List Answer)
     → AllRight s qs xs → length xs ≡ length qs → AllRight s rs ys → AllRight s (qs ++ rs) (xs ++ ys)
@@ -47,92 +41,137 @@ has_unknown-append (x ∷ xs) ys =
     or_assoc true b c = refl
     or_assoc false b c = refl
 
--- ---- answers one by one
-
--- One answer was written.
-pub answered_one : (a b : Option (List ℕ)) (s : Parts) (q : Query) (text : List ℕ) (number : ℕ) (x : Answer) (u : Bool)
-    → Right s q x → IsWritable x → u ≡ is_unknown x → text ≡ answer_text number x → Appends a b text → Answered a b s (q ∷ []) number u
-answered_one a b s q text number x u is_right fits known is_text written = record {
-  answers = x ∷ [];
-  right = (is_right, fits, tt);
-  each = refl;
-  unknown_is = or_false (is_unknown x) ∙ sym known;
-  appends = subst (Appends a b) (is_text ∙ sym (append-nil (answer_text number x))) written;
-}
-  where
-    or_false : (b : Bool) → (b || false) ≡ b
-    or_false true = refl
-    or_false false = refl
-
-pub front_of_one : (a b : Option (List ℕ)) (s : Parts) (q : Query) (text : List ℕ) (number : ℕ) (x : Answer)
-    → Right s q x → IsWritable x → text ≡ answer_text number x → GainsFront a b text → AnsweredFront a b s (q ∷ []) number
-front_of_one a b s q text number x is_right fits is_text front = record {
-  answers = x ∷ [];
-  right = (is_right, fits, tt);
-  front = subst (GainsFront a b) (is_text ∙ sym (append-nil (answer_text number x))) front;
-}
-
--- No answer was written.
-pub front_of_none : (a : Option (List ℕ)) (s : Parts) (queries : List Query) (first : ℕ) → AnsweredFront a a s queries first
-front_of_none a s queries first = record {
-  answers = [];
-  right = tt;
-  front = record { gained = []; missing = []; appends = Appends-nil a; whole = refl };
-}
-
--- More answers were written.
-answered_more : (a b c : Option (List ℕ)) (s : Parts) (qs rs : List Query) (first next : ℕ) (u v : Bool)
-    → Answered a b s qs first u → next ≡ first + length qs → Answered b c s rs next v → Answered a c s (qs ++ rs) first (u || v)
-answered_more a b c s qs rs first next u v so_far is_next more =
-    let at : first + length so_far.answers ≡ next = omega (arith, so_far.each, is_next) in record {
-      answers = so_far.answers ++ more.answers;
-      right = AllRight-append s qs rs so_far.answers more.answers so_far.right so_far.each more.right;
-      each = length-append so_far.answers more.answers ∙ omega (arith, so_far.each, more.each, length-append qs rs);
-      unknown_is = has_unknown-append so_far.answers more.answers ∙ cc (so_far.unknown_is, more.unknown_is);
-      appends = subst (Appends a c)
-          (sym (texts-append first so_far.answers more.answers ∙ ap (λ (k : ℕ). texts first so_far.answers ++ texts k more.answers) at))
-          (Appends-trans a b c _ _ so_far.appends more.appends);
-    }
-
-front_more : (a b c : Option (List ℕ)) (s : Parts) (qs rs more : List Query) (first next : ℕ) (u : Bool)
-    → Answered a b s qs first u → next ≡ first + length qs → AnsweredFront b c s rs next → AnsweredFront a c s (qs ++ rs ++ more) first
-front_more a b c s qs rs more first next u so_far is_next front =
-    let at : first + length so_far.answers ≡ next = omega (arith, so_far.each, is_next) in record {
-      answers = so_far.answers ++ front.answers;
-      right = AllRight-more s (qs ++ rs) more (so_far.answers ++ front.answers)
-          (AllRight-append s qs rs so_far.answers front.answers so_far.right so_far.each front.right);
-      front = subst (GainsFront a c)
-          (sym (texts-append first so_far.answers front.answers ∙ ap (λ (k : ℕ). texts first so_far.answers ++ texts k front.answers) at))
-          (front_after a b c _ _ so_far.appends front.front);
-    }
+-- ---- lists of queries
 
 -- the first queries, with one more
-one_more : (queries : List Query) (done : ℕ) (q : Query) → done < length queries → q ≡ get_or queries done q
+pub one_more : (queries : List Query) (done : ℕ) (q : Query) → done < length queries → q ≡ get_or queries done q
     → take done queries ++ q ∷ [] ≡ take (done + 1) queries
 one_more queries done q less is = ap (λ (x : Query). take done queries ++ x ∷ []) is ∙ sym (take_more queries done q less)
 
 after_first : (queries : List Query) (done next : ℕ) → done < length queries → next ≡ done + 1 → next ≡ 1 + length (take done queries)
 after_first queries done next less is = omega (arith, is, length-take-le done queries (omega (arith, less)))
 
--- The answer to the next query was written.
-pub answered_next : (a b c : Option (List ℕ)) (s : Parts) (queries : List Query) (q : Query) (done next : ℕ) (u v : Bool)
-    → done < length queries → q ≡ get_or queries done q → next ≡ done + 1
-    → Answered a b s (take done queries) 1 u → Answered b c s (q ∷ []) next v → Answered a c s (take (done + 1) queries) 1 (u || v)
-answered_next a b c s queries q done next u v less is is_next so_far one =
-    subst (λ (l : List Query). Answered a c s l 1 (u || v)) (one_more queries done q less is)
-    (answered_more a b c s (take done queries) (q ∷ []) 1 next u v so_far (after_first queries done next less is_next) one)
+-- ---- answers one by one, of each of which so much is written
 
--- A front of the answer to the next query was written.
-pub front_next : (a b c : Option (List ℕ)) (s : Parts) (queries : List Query) (q : Query) (done next : ℕ) (u : Bool)
-    → done < length queries → q ≡ get_or queries done q → next ≡ done + 1
-    → Answered a b s (take done queries) 1 u → AnsweredFront b c s (q ∷ []) next → AnsweredFront a c s queries 1
-front_next a b c s queries q done next u less is is_next so_far front =
-    let all : take done queries ++ q ∷ [] ++ drop (done + 1) queries ≡ queries =
-    ap (λ (l : List Query). l ++ drop (done + 1) queries) (one_more queries done q less is) ∙ take-append-drop (done + 1) queries in
-    subst (λ (l : List Query). AnsweredFront a c s l 1) all
-    (front_more a b c s (take done queries) (q ∷ []) (drop (done + 1) queries) 1 next u so_far (after_first queries done next less is_next) front)
+module _ (written : ℕ → Answer → List ℕ) where
+  texts-append : (first : ℕ) (xs ys : List Answer) → texts written first (xs ++ ys) ≡ texts written first xs ++ texts written (first + length xs) ys
+  texts-append first [] ys = ap (λ (n : ℕ). texts written n ys) (omega arith)
+  texts-append first (x ∷ xs) ys =
+      let same : first + 1 + length xs ≡ first + length (x ∷ xs) = omega arith in
+      ap (λ (l : List ℕ). written first x ++ l) (texts-append (first + 1) xs ys ∙ ap (λ (n : ℕ). texts written (first + 1) xs ++ texts written n ys) same)
+      ∙ sym (append_assoc (written first x) (texts written (first + 1) xs) (texts written (first + length (x ∷ xs)) ys))
 
--- ---- the parts of an output
+  -- One answer was written.
+  pub answered_one : (a b : Option (List ℕ)) (s : Parts) (q : Query) (text : List ℕ) (number : ℕ) (x : Answer) (u : Bool)
+      → Right s q x → IsWritable x → u ≡ is_unknown x → text ≡ written number x → Appends a b text → Answered written a b s (q ∷ []) number u
+  answered_one a b s q text number x u is_right fits known is_text gained = record {
+    answers = x ∷ [];
+    right = (is_right, fits, tt);
+    each = refl;
+    unknown_is = or_false (is_unknown x) ∙ sym known;
+    appends = subst (Appends a b) (is_text ∙ sym (append-nil (written number x))) gained;
+  }
+    where
+      or_false : (b : Bool) → (b || false) ≡ b
+      or_false true = refl
+      or_false false = refl
+
+  pub front_of_one : (a b : Option (List ℕ)) (s : Parts) (q : Query) (text : List ℕ) (number : ℕ) (x : Answer)
+      → Right s q x → IsWritable x → text ≡ written number x → GainsFront a b text → AnsweredFront written a b s (q ∷ []) number
+  front_of_one a b s q text number x is_right fits is_text front = record {
+    answers = x ∷ [];
+    right = (is_right, fits, tt);
+    front = subst (GainsFront a b) (is_text ∙ sym (append-nil (written number x))) front;
+  }
+
+  -- No answer was written.
+  pub answered_none : (a : Option (List ℕ)) (s : Parts) (first : ℕ) → Answered written a a s [] first false
+  answered_none a s first = record { answers = []; right = tt; each = refl; unknown_is = refl; appends = Appends-nil a }
+
+  pub front_of_none : (a : Option (List ℕ)) (s : Parts) (queries : List Query) (first : ℕ) → AnsweredFront written a a s queries first
+  front_of_none a s queries first = record {
+    answers = [];
+    right = tt;
+    front = record { gained = []; missing = []; appends = Appends-nil a; whole = refl };
+  }
+
+  -- More answers were written.
+  answered_more : (a b c : Option (List ℕ)) (s : Parts) (qs rs : List Query) (first next : ℕ) (u v : Bool)
+      → Answered written a b s qs first u → next ≡ first + length qs → Answered written b c s rs next v → Answered written a c s (qs ++ rs) first (u || v)
+  answered_more a b c s qs rs first next u v so_far is_next more =
+      let at : first + length so_far.answers ≡ next = omega (arith, so_far.each, is_next) in record {
+        answers = so_far.answers ++ more.answers;
+        right = AllRight-append s qs rs so_far.answers more.answers so_far.right so_far.each more.right;
+        each = length-append so_far.answers more.answers ∙ omega (arith, so_far.each, more.each, length-append qs rs);
+        unknown_is = has_unknown-append so_far.answers more.answers ∙ cc (so_far.unknown_is, more.unknown_is);
+        appends = subst (Appends a c)
+            (sym (texts-append first so_far.answers more.answers ∙ ap (λ (k : ℕ). texts written first so_far.answers ++ texts written k more.answers) at))
+            (Appends-trans a b c _ _ so_far.appends more.appends);
+      }
+
+  front_more : (a b c : Option (List ℕ)) (s : Parts) (qs rs more : List Query) (first next : ℕ) (u : Bool)
+      → Answered written a b s qs first u → next ≡ first + length qs → AnsweredFront written b c s rs next → AnsweredFront written a c s (qs ++ rs ++ more) first
+  front_more a b c s qs rs more first next u so_far is_next front =
+      let at : first + length so_far.answers ≡ next = omega (arith, so_far.each, is_next) in record {
+        answers = so_far.answers ++ front.answers;
+        right = AllRight-more s (qs ++ rs) more (so_far.answers ++ front.answers)
+            (AllRight-append s qs rs so_far.answers front.answers so_far.right so_far.each front.right);
+        front = subst (GainsFront a c)
+            (sym (texts-append first so_far.answers front.answers ∙ ap (λ (k : ℕ). texts written first so_far.answers ++ texts written k front.answers) at))
+            (front_after a b c _ _ so_far.appends front.front);
+      }
+
+  -- The answer to the next query was written.
+  pub answered_next : (a b c : Option (List ℕ)) (s : Parts) (queries : List Query) (q : Query) (done next : ℕ) (u v : Bool)
+      → done < length queries → q ≡ get_or queries done q → next ≡ done + 1
+      → Answered written a b s (take done queries) 1 u → Answered written b c s (q ∷ []) next v → Answered written a c s (take (done + 1) queries) 1 (u || v)
+  answered_next a b c s queries q done next u v less is is_next so_far one =
+      subst (λ (l : List Query). Answered written a c s l 1 (u || v)) (one_more queries done q less is)
+      (answered_more a b c s (take done queries) (q ∷ []) 1 next u v so_far (after_first queries done next less is_next) one)
+
+  -- A front of the answer to the next query was written.
+  pub front_next : (a b c : Option (List ℕ)) (s : Parts) (queries : List Query) (q : Query) (done next : ℕ) (u : Bool)
+      → done < length queries → q ≡ get_or queries done q → next ≡ done + 1
+      → Answered written a b s (take done queries) 1 u → AnsweredFront written b c s (q ∷ []) next → AnsweredFront written a c s queries 1
+  front_next a b c s queries q done next u less is is_next so_far front =
+      let all : take done queries ++ q ∷ [] ++ drop (done + 1) queries ≡ queries =
+      ap (λ (l : List Query). l ++ drop (done + 1) queries) (one_more queries done q less is) ∙ take-append-drop (done + 1) queries in
+      subst (λ (l : List Query). AnsweredFront written a c s l 1) all
+      (front_more a b c s (take done queries) (q ∷ []) (drop (done + 1) queries) 1 next u so_far (after_first queries done next less is_next) front)
+
+  -- ---- up to the end line
+
+  -- The answers to all queries and the end line were written.
+  pub answered_to_end : (a b c : Option (List ℕ)) (s : Parts) (u : Bool) → Answered written a b s s.queries 1 u → Appends b c end_line → AnsweredToEnd written a c s u
+  answered_to_end a b c s u answered last = record {
+    answers = answered.answers;
+    right = answered.right;
+    each = answered.each;
+    unknown_is = answered.unknown_is;
+    appends = Appends-trans a b c _ _ answered.appends last;
+  }
+
+  -- A front of the answers was written.
+  pub short_in_answers : (a b : Option (List ℕ)) (s : Parts) → AnsweredFront written a b s s.queries 1 → AnsweredShort written a b s
+  short_in_answers a b s more = record {
+    answers = more.answers;
+    ending = [];
+    right = more.right;
+    ending_is = inl refl;
+    front = subst (GainsFront a b) (sym (append-nil (texts written 1 more.answers))) more.front;
+  }
+
+  -- The answers to all queries, and a front of the end line.
+  pub short_at_end : (a b c : Option (List ℕ)) (s : Parts) (u : Bool) → Answered written a b s s.queries 1 u → GainsFront b c end_line → AnsweredShort written a c s
+  short_at_end a b c s u answered more = record {
+    answers = answered.answers;
+    ending = end_line;
+    right = answered.right;
+    ending_is = inr (refl, answered.each);
+    front = front_after a b c _ _ answered.appends more;
+  }
+
+-- ---- an output: the header, and the answers up to the end line
 
 -- Nothing was written.
 pub cut_at_start : (a : Option (List ℕ)) (bytes : List ℕ) (s : Parts) → CutShort a a bytes s
@@ -154,23 +193,28 @@ cut_in_header a b bytes s text is front = record {
   front = subst (GainsFront a b) (is ∙ sym (append-nil (header bytes)) ∙ sym (append-nil (header bytes ++ []))) front;
 }
 
-pub cut_in_answers : (a b c : Option (List ℕ)) (bytes : List ℕ) (s : Parts) (text : List ℕ)
-    → text ≡ header bytes → Appends a b text → AnsweredFront b c s s.queries 1 → CutShort a c bytes s
-cut_in_answers a b c bytes s text is before more = record {
-  answers = more.answers;
-  ending = [];
-  right = more.right;
-  ending_is = inl refl;
-  front = subst (GainsFront a c) (sym (append-nil (header bytes ++ texts 1 more.answers)))
-      (front_after a b c _ _ (subst (Appends a b) is before) more.front);
+-- The header was written, and what follows it.
+pub whole_output : (a b c : Option (List ℕ)) (bytes : List ℕ) (s : Parts) (text : List ℕ) (r : Result Bool RunFault)
+    → text ≡ header bytes → Appends a b text → IfOk r (λ u. AnsweredToEnd answer_text b c s u) → IfOk r (λ u. WholeOutput a c bytes s u)
+whole_output a b c bytes s text (Ok u) is before lines = record {
+  answers = lines.answers;
+  right = lines.right;
+  each = lines.each;
+  unknown_is = lines.unknown_is;
+  appends = subst (Appends a c) (sym (append_assoc (header bytes) (texts answer_text 1 lines.answers) end_line))
+      (Appends-trans a b c _ _ (subst (Appends a b) is before) lines.appends);
 }
+whole_output a b c bytes s text (Err e) is before lines = tt
 
-pub cut_at_end : (a b c d : Option (List ℕ)) (bytes : List ℕ) (s : Parts) (text : List ℕ) (u : Bool)
-    → text ≡ header bytes → Appends a b text → Answered b c s s.queries 1 u → GainsFront c d end_line → CutShort a d bytes s
-cut_at_end a b c d bytes s text u is before answered more = record {
-  answers = answered.answers;
-  ending = end_line;
-  right = answered.right;
-  ending_is = inr (refl, answered.each);
-  front = front_after a c d _ _ (Appends-trans a b c _ _ (subst (Appends a b) is before) answered.appends) more;
+-- The header was written, and a front of what follows it.
+pub cut_in_answers : (a b c : Option (List ℕ)) (bytes : List ℕ) (s : Parts) (text : List ℕ) (r : Result Bool RunFault)
+    → text ≡ header bytes → Appends a b text → OnErr r (AnsweredShort answer_text b c s) → OnErr r (CutShort a c bytes s)
+cut_in_answers a b c bytes s text (Ok u) is before lines = tt
+cut_in_answers a b c bytes s text (Err e) is before lines = record {
+  answers = lines.answers;
+  ending = lines.ending;
+  right = lines.right;
+  ending_is = lines.ending_is;
+  front = subst (GainsFront a c) (sym (append_assoc (header bytes) (texts answer_text 1 lines.answers) lines.ending))
+      (front_after a b c _ _ (subst (Appends a b) is before) lines.front);
 }

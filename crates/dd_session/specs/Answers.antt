@@ -2,7 +2,6 @@
 use Rattle.std.specs.Prelude.{◌≡◌, ℕ, ◌+◌, List, [], ◌∷◌, ◌++◌, Bool, true, false, ◌||◌, ⊤}
 use Rattle.std.specs.List.{Contains}
 use Rattle.dd_certificate.specs.declared.answer.Answer.{Answer}
-use Rattle.dd_certificate.specs.Text.{answer_text}
 use Rattle.dd_certificate.specs.Bounds.{IsWritable}
 use Rattle.dd_query.specs.declared.queries.Query.{Query}
 use Rattle.dd_script.specs.Parts.{Parts}
@@ -32,7 +31,7 @@ abbrev pub IsOpenAs : Bool → Parts → Type 0
 IsOpenAs true s = IsOpen s
 IsOpenAs false s = IsOpen s → ⊥
 
--- the texts of answers to the queries from a number on
-abbrev pub texts : ℕ → List Answer → List ℕ
-texts first [] = []
-texts first (a ∷ answers) = answer_text first a ++ texts (first + 1) answers
+-- what is written of answers to the queries from a number on, where so much is written of each: its text, or its first line
+abbrev pub texts : (ℕ → Answer → List ℕ) → ℕ → List Answer → List ℕ
+texts written first [] = []
+texts written first (a ∷ answers) = written first a ++ texts written (first + 1) answers

@@ -9,7 +9,7 @@ use Rattle.dd_script.specs.Parts.{Parts}
 use Rattle.dd_session.specs.declared.status.Status.{Status}
 use Rattle.dd_session.specs.declared.status.Status.TheVariants.{Definite, SomeUnknown, Refused, ReadFault, WriteFault, Memory, BadWords, Rejected}
 use Rattle.dd_session.specs.Output.{long_line}
-use Rattle.dd_session.specs.Runs.{Told, IsKept, Failed}
+use Rattle.dd_session.specs.Sides.{Told, IsKept, Failed}
 use Rattle.dd_session.specs.Checks.{accepted_lines, checked_line, rejected_line, most_checked, AcceptedTo, IsEnding, IsCheckable, IsRefusedOutput, IsAllAccepted, IsRejectedAfter, IsCheckedOutput}
 
 -- The whole text for bytes whose queries are all accepted was written.

@@ -1,7 +1,15 @@
 -- the words that a session has
 pub mod Words
+-- a source and a sink before and after a call
+pub mod Sides
+-- what is written of right answers
+pub mod Written
 -- what a run reads and writes, by its status
 pub mod Runs
+-- what a run does to a roster of engines
+pub mod Asking
+-- what the run of a sample writes, by its status
+pub mod Samples
 -- right answers, and the texts of outputs
 pub mod Answers
 pub mod Output
@@ -12,3 +20,5 @@ pub mod Checks
 pub mod Agreement
 -- the check of answers one by one
 pub mod checking
+-- how much is written of an answer
+pub mod Forms

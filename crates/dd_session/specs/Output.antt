@@ -4,6 +4,7 @@ use Rattle.std.specs.Fmt.{decimal}
 use Rattle.dd_faults.specs.declared.fault.Limit.{Limit}
 use Rattle.dd_faults.specs.declared.fault.Limit.TheVariants as limit
 use Rattle.dd_certificate.specs.declared.answer.Answer.{Answer}
+use Rattle.dd_certificate.specs.Text.{answer_text}
 use Rattle.dd_script.specs.declared.fault.ScriptKind.{ScriptKind}
 use Rattle.dd_script.specs.declared.fault.ScriptKind.TheVariants as refused
 use Rattle.dd_script.specs.Scripts.{Kind, syntax, unknown, twice, dimension, size}
@@ -18,7 +19,7 @@ end_line = codes "end\n"
 
 -- The whole output for these bytes of a script and these answers to its queries, in order.
 abbrev pub output_of : List ℕ → List Answer → List ℕ
-output_of bytes answers = header bytes ++ texts 1 answers ++ end_line
+output_of bytes answers = header bytes ++ texts answer_text 1 answers ++ end_line
 
 -- ---- the lines for an input that is refused
 

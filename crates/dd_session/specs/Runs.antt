@@ -1,52 +1,20 @@
 -- What a run read and wrote, by how it ended.
-use Rattle.std.specs.Prelude.{◌≡◌, ◌⊎◌, ℕ, ◌≤◌, List, [], ◌++◌, length, Bool, true, false}
+use Rattle.std.specs.Prelude.{◌≡◌, ◌⊎◌, ℕ, ◌≤◌, List, length, Bool, true, false}
 use Rattle.std.specs.declared.option.Option.{Option}
 use Rattle.std.specs.Io.KnownBytes.{Appends}
-use Rattle.dd_values.specs.Counts.{Rose}
 use Rattle.dd_outside.specs.Bytes.{GainsFront, ReadToEnd, GivesMore}
-use Rattle.dd_certificate.specs.declared.answer.Answer.{Answer}
-use Rattle.dd_query.specs.declared.queries.Query.{Query}
 use Rattle.dd_script.specs.Parts.{Parts}
 use Rattle.dd_script.specs.Scripts.{Spells, RefusedAs, Kind}
 use Rattle.dd_session.specs.declared.status.Status.{Status}
 use Rattle.dd_session.specs.declared.status.Status.TheVariants.{Definite, SomeUnknown, Refused, ReadFault, WriteFault, Memory, BadWords, Rejected}
-use Rattle.dd_session.specs.Answers.{AllRight, IsOpenAs, has_unknown, texts}
-use Rattle.dd_session.specs.Output.{header, end_line, output_of, long_line, refused_line, refused_words}
+use Rattle.dd_session.specs.Answers.{IsOpenAs}
+use Rattle.dd_session.specs.Output.{long_line, refused_line, refused_words}
+use Rattle.dd_session.specs.Sides.{Told, IsKept, Failed}
+use Rattle.dd_session.specs.Written.{WholeOutput, CutShort}
 
 -- The greatest number of bytes of a script.
 abbrev pub most_bytes : ℕ
 most_bytes = 1048576
-
--- The texts of right answers to these queries of a script were written, from a number on.
-pub record Answered (old new : Option (List ℕ)) (s : Parts) (queries : List Query) (first : ℕ) (has : Bool) : Type 0 where
-  pub answers : List Answer
-  pub right : AllRight s queries answers
-  pub each : length answers ≡ length queries
-  pub unknown_is : has_unknown answers ≡ has
-  pub appends : Appends old new (texts first answers)
-
--- A front of the texts of right answers to the first of these queries was written, from a number on.
-pub record AnsweredFront (old new : Option (List ℕ)) (s : Parts) (queries : List Query) (first : ℕ) : Type 0 where
-  pub answers : List Answer
-  pub right : AllRight s queries answers
-  pub front : GainsFront old new (texts first answers)
-
--- The whole output was written, with a right answer to each query.
-pub record WholeOutput (old new : Option (List ℕ)) (bytes : List ℕ) (s : Parts) (has : Bool) : Type 0 where
-  pub answers : List Answer
-  pub right : AllRight s s.queries answers
-  pub each : length answers ≡ length s.queries
-  pub unknown_is : has_unknown answers ≡ has
-  pub appends : Appends old new (output_of bytes answers)
-
--- A front of the output was written: of the header, of right answers to the first queries, and of the end line after
--- the answers to all of them.
-pub record CutShort (old new : Option (List ℕ)) (bytes : List ℕ) (s : Parts) : Type 0 where
-  pub answers : List Answer
-  pub ending : List ℕ
-  pub right : AllRight s s.queries answers
-  pub ending_is : (ending ≡ []) ⊎ ((ending ≡ end_line) × (length answers ≡ length s.queries))
-  pub front : GainsFront old new (header bytes ++ texts 1 answers ++ ending)
 
 -- The bytes are a script, its whole output was written, and it has or has not a query without a definite answer.
 pub record WholeRun (old new : Option (List ℕ)) (bytes : List ℕ) (has : Bool) : Type 0 where
@@ -120,36 +88,6 @@ pub record RefusedShort (left_old left_new held_old held_new : Option (List ℕ)
 
 -- ---- by the status
 
--- A source or a sink before and after a call: itself, the bytes that it tells, and how often it has failed.
-pub record Told (X : Type 0) : Type 0 where
-  pub old : X
-  pub new : X
-  pub bytes_old : Option (List ℕ)
-  pub bytes_new : Option (List ℕ)
-  pub faults_old : ℕ
-  pub faults_new : ℕ
-
-abbrev pub told : {X : Type 0} → (X → Option (List ℕ)) → (X → ℕ) → X → X → Told X
-told bytes faults old new =
-    record { old = old; new = new; bytes_old = bytes old; bytes_new = bytes new; faults_old = faults old; faults_new = faults new }
-
-abbrev pub IsKept : {X : Type 0} → Told X → Type 0
-IsKept side = side.new ≡ side.old
-
-abbrev pub Failed : {X : Type 0} → Told X → Type 0
-Failed side = Rose side.faults_old side.faults_new
-
--- A line for an input that is refused was written, or a front of it.
-abbrev pub RefusedBy : {K : Type 0} → Told K → List ℕ → Status → Type 0
-RefusedBy sink line Refused = Appends sink.bytes_old sink.bytes_new line
-RefusedBy sink line WriteFault = GainsFront sink.bytes_old sink.bytes_new line × Failed sink
-RefusedBy sink line Definite = ⊥
-RefusedBy sink line SomeUnknown = ⊥
-RefusedBy sink line ReadFault = ⊥
-RefusedBy sink line Memory = ⊥
-RefusedBy sink line BadWords = ⊥
-RefusedBy sink line Rejected = ⊥
-
 -- What was written of a run over these bytes, by its status.
 abbrev pub RanOver : {K : Type 0} → Told K → List ℕ → Status → Type 0
 RanOver sink bytes Definite = WholeRun sink.bytes_old sink.bytes_new bytes false
@@ -160,11 +98,6 @@ RanOver sink bytes Memory = ShortRun sink.bytes_old sink.bytes_new bytes ⊎ IsK
 RanOver sink bytes ReadFault = ⊥
 RanOver sink bytes BadWords = ⊥
 RanOver sink bytes Rejected = ⊥
-
--- The status of a run to the end, by whether some answer is that it is not known.
-abbrev pub status_of : Bool → Status
-status_of true = SomeUnknown
-status_of false = Definite
 
 -- What a session read and wrote, by its status. A fault comes only where the source or the sink failed in this call.
 abbrev pub Ended : {S K : Type 0} → Told S → Told K → Status → Type 0

@@ -4,7 +4,7 @@ ghost use Rattle.dd_outside.specs.Bytes.{GivesAtMost};
 ghost use Rattle.dd_output.specs.Outputs.{output_text, IsWritableOutput};
 ghost use Rattle.dd_script.specs.Scripts.{Spells};
 ghost use Rattle.dd_session.specs.Answers.{has_unknown};
-ghost use Rattle.dd_session.specs.Runs.{told};
+ghost use Rattle.dd_session.specs.Sides.{told};
 ghost use Rattle.dd_session.specs.Checks.{most_checked};
 ghost use Rattle.dd_session.specs.Checked.{CheckedOver, CheckEnded, CheckDecides};
 ghost use Rattle.dd_session.specs.checking.Judged.{checked_status};

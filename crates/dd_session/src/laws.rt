@@ -1,7 +1,7 @@
 // That what a run writes a check accepts.
 ghost use Rattle.std.specs.Prelude.{◌≡◌, ◌≤◌, ℕ, List, Bool, length};
 ghost use Rattle.dd_session.specs.declared.status.Status.{Status as AnyStatus};
-ghost use Rattle.dd_session.specs.Runs.{status_of};
+ghost use Rattle.dd_session.specs.Sides.{status_of};
 ghost use Rattle.dd_session.specs.Checks.{most_checked, IsAllAccepted};
 ghost use Rattle.dd_session.specs.Checked.{CheckDecides};
 ghost use Rattle.dd_session.specs.Agreement.{IsRunOutput, IsJudgement};

@@ -1,15 +1,21 @@
-// The output of a script, each part written as soon as it is made.
-ghost use Rattle.std.specs.Prelude.{◌≡◌, ◌≤◌, ◌∷◌, [], length, Contains, IfOk, OnErr, IsErrOf};
+// The output of a script, and the first lines of its answers, each part written as soon as it is made.
+ghost use Rattle.std.specs.Prelude.{◌≡◌, ◌⊎◌, ◌≤◌, ◌∷◌, [], length, Contains, IfOk, OnOk, OnErr, IsErrOf};
 ghost use Rattle.dd_values.specs.Counts.{Rose};
+ghost use Rattle.dd_engines.specs.Rosters.{roster_seen};
+ghost use Rattle.dd_engines.specs.Rounds.{Kept};
 ghost use Rattle.dd_script.specs.Scripts.{Spells};
+ghost use Rattle.dd_answer.specs.Asking.{AsksBoxes, AsksSomeBoxes, Engages};
 ghost use Rattle.dd_answer.specs.Right.{is_unknown};
 ghost use Rattle.dd_session.specs.declared.stream.RunFault.TheVariants.{WriteFault, Memory};
 ghost use Rattle.dd_session.specs.Answers.{most_queries};
-ghost use Rattle.dd_session.specs.Runs.{Answered, AnsweredFront, WholeOutput, CutShort};
+ghost use Rattle.dd_session.specs.Asking.{HeaderTaken};
+ghost use Rattle.dd_session.specs.Forms.{text_in};
+ghost use Rattle.dd_session.specs.Written.{Answered, AnsweredFront, AnsweredToEnd, AnsweredShort, WholeOutput, CutShort};
 
 use crate::output::header_text;
 use dd_answer::answer;
-use dd_certificate::{Answer, write_answer};
+use dd_certificate::{Answer, answer_line, write_answer};
+use dd_engines::{Engine, Roster, first_asked_earlier, kept_is_reflexive, kept_is_transitive};
 use dd_outside::{Sink, write_whole};
 use dd_query::Query;
 use dd_script::Script;
@@ -37,6 +43,15 @@ impl From<dd_outside::WriteFault> for RunFault {
     }
 }
 
+/// How much is written of an answer.
+#[derive(Clone, Copy, Debug, PartialEq, Eq)]
+pub(crate) enum Form {
+    /// All its lines.
+    Whole,
+    /// The first line.
+    Line,
+}
+
 /// Whether the answer is that it is not known.
 pub(crate) fn is_unknown(answer: &Answer) -> bool
     ensures { result ≡ is_unknown answer.now }
@@ -44,59 +59,111 @@ pub(crate) fn is_unknown(answer: &Answer) -> bool
     matches!(answer, Answer::Unknown { .. })
 }
 
-// Answers one query, and writes the text. True where the answer is unknown.
-fn answer_one<K: Sink>(
+// What is written of the answer to the query with the number.
+fn text_in(alloc: Global, form: Form, number: u32, answer: &Answer) -> Result<Vec<u8>, AllocError>
+    ensures { IfOk result (λ text. text.items ≡ text_in form number answer.now) }
+{
+    match form {
+        Form::Whole => write_answer(alloc, number, answer),
+        Form::Line => answer_line(alloc, number, answer),
+    }
+}
+
+// Answers one query, and writes so much of it. True where the answer is unknown.
+fn answer_one<K: Sink, E: Engine>(
     alloc: Global,
     script: &Script,
     query: &Query,
     number: u32,
+    form: Form,
     sink: &mut K,
+    roster: &mut Roster<E>,
 ) -> Result<bool, RunFault>
     requires { Contains script.now.queries query.now }
-    ensures wrote { IfOk result (λ unknown. Answered (K.held sink.old) (K.held sink.new) script.now (query.now ∷ []) number unknown) }
-    ensures cut { OnErr result (AnsweredFront (K.held sink.old) (K.held sink.new) script.now (query.now ∷ []) number) }
+    ensures wrote { IfOk result (λ unknown. Answered (text_in form) (K.held sink.old) (K.held sink.new) script.now (query.now ∷ []) number unknown) }
+    ensures cut { OnErr result (AnsweredFront (text_in form) (K.held sink.old) (K.held sink.new) script.now (query.now ∷ []) number) }
     ensures later { K.faults sink.old ≤ K.faults sink.new }
     ensures write_fault { IsErrOf result RunFault.WriteFault → Rose (K.faults sink.old) (K.faults sink.new) }
+    ensures kept { Kept (roster_seen E.asked E.given E.sound roster.old) (roster_seen E.asked E.given E.sound roster.new) }
+    ensures asked { OnOk result (Engages (AsksBoxes script.now query.now) (roster_seen E.asked E.given E.sound roster.old) (roster_seen E.asked E.given E.sound roster.new)) }
 {
-    let found = answer(alloc, script, query)?;
-    let text = write_answer(alloc, number, &found)?;
+    let found = answer(alloc, script, query, roster)?;
+    let text = text_in(alloc, form, number, &found)?;
     write_whole(sink, &text)?;
     Ok(is_unknown(&found))
 }
 
-// Answers all queries in order, and writes each text before the next answer is made. True where an answer is unknown.
-#[tactic(auto, using(crate::proofs::Asked::asked_at, crate::proofs::Streamed::answered_next))]
-fn answer_all<K: Sink>(alloc: Global, script: &Script, sink: &mut K) -> Result<bool, RunFault>
+// Answers all queries in order, and writes so much of each before the next answer is made. True where an answer is unknown.
+#[tactic(auto, using(crate::proofs::Asked::asked_at, crate::proofs::Streamed::answered_next, crate::proofs::Engaging::engaged_next))]
+fn answer_all<K: Sink, E: Engine>(
+    alloc: Global,
+    script: &Script,
+    form: Form,
+    sink: &mut K,
+    roster: &mut Roster<E>,
+) -> Result<bool, RunFault>
     requires { length script.now.queries ≤ most_queries }
-    ensures wrote { IfOk result (λ unknown. Answered (K.held sink.old) (K.held sink.new) script.now script.now.queries 1 unknown) }
-    ensures cut { OnErr result (AnsweredFront (K.held sink.old) (K.held sink.new) script.now script.now.queries 1) }
+    ensures wrote { IfOk result (λ unknown. Answered (text_in form) (K.held sink.old) (K.held sink.new) script.now script.now.queries 1 unknown) }
+    ensures cut { OnErr result (AnsweredFront (text_in form) (K.held sink.old) (K.held sink.new) script.now script.now.queries 1) }
     ensures later { K.faults sink.old ≤ K.faults sink.new }
     ensures write_fault { IsErrOf result RunFault.WriteFault → Rose (K.faults sink.old) (K.faults sink.new) }
+    ensures kept { Kept (roster_seen E.asked E.given E.sound roster.old) (roster_seen E.asked E.given E.sound roster.new) }
+    ensures asked { OnOk result (Engages (AsksSomeBoxes script.now script.now.queries) (roster_seen E.asked E.given E.sound roster.old) (roster_seen E.asked E.given E.sound roster.new)) }
 {
+    // Laws of a roster that is asked several times.
+    kept_is_reflexive();
+    kept_is_transitive();
+    first_asked_earlier();
     let queries = script.queries();
     let mut has_unknown = false;
     for (done, query) in queries.iter().enumerate() {
-        has_unknown |= answer_one(alloc, script, query, done as u32 + 1, sink)?;
+        has_unknown |= answer_one(alloc, script, query, done as u32 + 1, form, sink, roster)?;
     }
     Ok(has_unknown)
 }
 
-/// Runs an accepted script. True where an answer is unknown.
-pub(crate) fn run_script<K: Sink>(
+/// Answers all queries in order, writes so much of each, and the end line. True where an answer is unknown.
+pub(crate) fn answer_to_end<K: Sink, E: Engine>(
+    alloc: Global,
+    script: &Script,
+    form: Form,
+    sink: &mut K,
+    roster: &mut Roster<E>,
+) -> Result<bool, RunFault>
+    requires { length script.now.queries ≤ most_queries }
+    ensures whole { IfOk result (λ unknown. AnsweredToEnd (text_in form) (K.held sink.old) (K.held sink.new) script.now unknown) }
+    ensures cut { OnErr result (AnsweredShort (text_in form) (K.held sink.old) (K.held sink.new) script.now) }
+    ensures later { K.faults sink.old ≤ K.faults sink.new }
+    ensures write_fault { IsErrOf result RunFault.WriteFault → Rose (K.faults sink.old) (K.faults sink.new) }
+    ensures kept { Kept (roster_seen E.asked E.given E.sound roster.old) (roster_seen E.asked E.given E.sound roster.new) }
+    ensures asked { OnOk result (Engages (AsksSomeBoxes script.now script.now.queries) (roster_seen E.asked E.given E.sound roster.old) (roster_seen E.asked E.given E.sound roster.new)) }
+{
+    let has_unknown = answer_all(alloc, script, form, sink, roster)?;
+    write_whole(sink, b"end\n")?;
+    Ok(has_unknown)
+}
+
+/// Runs an accepted script. True where an answer is unknown. No engine is asked before the lines before the first answer are
+/// written whole.
+pub(crate) fn run_script<K: Sink, E: Engine>(
     alloc: Global,
     bytes: &[u8],
     script: &Script,
     sink: &mut K,
+    roster: &mut Roster<E>,
 ) -> Result<bool, RunFault>
     requires { Spells bytes.now script.now }
     ensures whole { IfOk result (λ unknown. WholeOutput (K.held sink.old) (K.held sink.new) bytes.now script.now unknown) }
     ensures cut { OnErr result (CutShort (K.held sink.old) (K.held sink.new) bytes.now script.now) }
     ensures later { K.faults sink.old ≤ K.faults sink.new }
     ensures write_fault { IsErrOf result RunFault.WriteFault → Rose (K.faults sink.old) (K.faults sink.new) }
+    ensures kept { Kept (roster_seen E.asked E.given E.sound roster.old) (roster_seen E.asked E.given E.sound roster.new) }
+    ensures asked { OnOk result (Engages (AsksSomeBoxes script.now script.now.queries) (roster_seen E.asked E.given E.sound roster.old) (roster_seen E.asked E.given E.sound roster.new)) }
+    ensures late { (roster.new ≡ roster.old) ⊎ HeaderTaken (K.held sink.old) (K.held sink.new) bytes.now }
 {
+    // Law of a roster that nobody asks.
+    kept_is_reflexive();
     let header = header_text(alloc, bytes)?;
     write_whole(sink, &header)?;
-    let has_unknown = answer_all(alloc, script, sink)?;
-    write_whole(sink, b"end\n")?;
-    Ok(has_unknown)
+    answer_to_end(alloc, script, Form::Whole, sink, roster)
 }

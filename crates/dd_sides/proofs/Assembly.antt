@@ -20,14 +20,14 @@ use Rattle.dd_expansion.specs.Placed.{is_flat}
 use Rattle.dd_formula.specs.LocalRule.{LocalRule, IsRule}
 use Rattle.dd_boxes.specs.Fillings.{Admissible}
 use Rattle.dd_boxes.proofs.RuleLaws.{place_same, shifted_by_origin, moved_from_origin}
-use Rattle.dd_discharge.specs.declared.rows.Row.{Row}
-use Rattle.dd_discharge.specs.declared.rows.Rows.{Rows}
+use Rattle.dd_rows.specs.declared.rows.Row.{Row}
+use Rattle.dd_rows.specs.declared.rows.Rows.{Rows}
 use Rattle.dd_discharge.specs.declared.bound.Bound.{Bound}
-use Rattle.dd_discharge.specs.Asked.{IsVector, AreVectors}
-use Rattle.dd_discharge.specs.Domains.{opposite, box_cells}
-use Rattle.dd_discharge.specs.Fillings.{look_of, fillings}
-use Rattle.dd_discharge.specs.Patterns.{origin, pattern_at, patterns, number_in}
-use Rattle.dd_discharge.specs.Programs.{column_count, cap_row, row_of, rows, origin_weight, one_at}
+use Rattle.dd_rows.specs.Asked.{IsVector, AreVectors}
+use Rattle.dd_rows.specs.Domains.{opposite, box_cells}
+use Rattle.dd_rows.specs.Fillings.{look_of, fillings}
+use Rattle.dd_rows.specs.Patterns.{origin, pattern_at, patterns, number_in}
+use Rattle.dd_rows.specs.Programs.{column_count, cap_row, row_of, rows, origin_weight, one_at}
 use Rattle.dd_discharge.specs.Amounts.{total_below, column_value, MeetRows, held_over}
 use Rattle.dd_discharge.specs.Certificates.{IsBoundCertificate}
 use Rattle.dd_sides.specs.Sums.{volume, giver}

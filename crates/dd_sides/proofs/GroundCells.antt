@@ -20,9 +20,9 @@ use Rattle.dd_expansion.specs.Limits.{greatest}
 use Rattle.dd_expansion.specs.Placed.{is_flat}
 use Rattle.dd_formula.specs.LocalRule.{LocalRule}
 use Rattle.dd_boxes.proofs.RuleLaws.{place_same}
-use Rattle.dd_discharge.specs.Domains.{opposite, IsInGround, IsGround, cells_on, box_cells}
-use Rattle.dd_discharge.specs.Patterns.{origin}
-use Rattle.dd_discharge.specs.Laws.{AreCellsOf}
+use Rattle.dd_rows.specs.Domains.{opposite, IsInGround, IsGround, cells_on, box_cells}
+use Rattle.dd_rows.specs.Patterns.{origin}
+use Rattle.dd_rows.specs.Laws.{AreCellsOf}
 use Rattle.dd_sides.specs.Lifted.{reach_of}
 use Rattle.dd_sides.proofs.WordLaws.{flat_map_has, range_has}
 

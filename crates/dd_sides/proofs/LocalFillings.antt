@@ -15,11 +15,11 @@ use Rattle.dd_formula.proofs.AllowedLaws.{allowed_below}
 use Rattle.dd_boxes.specs.Fillings.{place_fits, Admissible}
 use Rattle.dd_boxes.proofs.RuleLaws.{from_place, shifted_twice, moved_from_origin, reads_given, keeps_at, list_all_weaker}
 use Rattle.dd_boxes.proofs.CutLaws.{flat_moved}
-use Rattle.dd_discharge.specs.Fillings.{look_of, words, fillings}
-use Rattle.dd_discharge.specs.Laws.{AreCellsOf}
-use Rattle.dd_discharge.specs.Patterns.{origin, pattern_at}
-use Rattle.dd_discharge.specs.Programs.{origin_weight}
-use Rattle.dd_discharge.proofs.AdmissibleLaws.{the_admissible}
+use Rattle.dd_rows.specs.Fillings.{look_of, words, fillings}
+use Rattle.dd_rows.specs.Laws.{AreCellsOf}
+use Rattle.dd_rows.specs.Patterns.{origin, pattern_at}
+use Rattle.dd_rows.specs.Programs.{origin_weight}
+use Rattle.dd_rows.proofs.AdmissibleLaws.{the_admissible}
 use Rattle.dd_sides.specs.Sides.{position_weight}
 use Rattle.dd_sides.proofs.WordLaws.{read_word, word_has, words_have, mapped_alike}
 

@@ -9,8 +9,8 @@ use Rattle.std.specs.Cmp.Rules.{signed_items}
 use Rattle.std.proofs.lemmas.Bool.{and_parts, eqb-true, false≢true, cases_Bool}
 use Rattle.std.proofs.lemmas.List.Elements.{Contains-append_left, Contains-push}
 use Rattle.dd_lattice.proofs.ListLaws.{Contains-nil, Contains-cons_cases, Contains-first, Contains-later}
-use Rattle.dd_discharge.specs.declared.rows.Row.{Row}
-use Rattle.dd_discharge.specs.Programs.{is_same_row, add_row, first_seen}
+use Rattle.dd_rows.specs.declared.rows.Row.{Row}
+use Rattle.dd_rows.specs.Programs.{is_same_row, add_row, first_seen}
 
 same_row : (a b : Row) → is_same_row a b ≡ true → a ≡ b
 same_row a b h =

@@ -12,9 +12,9 @@ use Rattle.dd_lattice.proofs.InOrderLaws.{cells_equal}
 use Rattle.dd_topology.proofs.OrderLaws.{cell_total}
 use Rattle.dd_lattice.proofs.ListLaws.{Contains-nil, Contains-cons_cases, Contains-first, Contains-later, Contains-map}
 use Rattle.dd_formula.specs.LocalRule.{LocalRule, rule_allows}
-use Rattle.dd_discharge.specs.Fillings.{look_of, choices, words}
-use Rattle.dd_discharge.specs.listing.Levels.{number_of}
-use Rattle.dd_discharge.proofs.Ready.{number_later, equal_from}
+use Rattle.dd_rows.specs.Fillings.{look_of, choices, words}
+use Rattle.dd_rows.specs.listing.Levels.{number_of}
+use Rattle.dd_rows.proofs.Ready.{number_later, equal_from}
 
 -- what is read
 

@@ -7,9 +7,9 @@ use Rattle.dd_expansion.specs.Limits.{greatest}
 use Rattle.dd_expansion.specs.Placed.{is_flat}
 use Rattle.dd_formula.specs.LocalRule.{LocalRule}
 use Rattle.dd_boxes.specs.Fillings.{Admissible}
-use Rattle.dd_discharge.specs.declared.rows.Rows.{Rows}
+use Rattle.dd_rows.specs.declared.rows.Rows.{Rows}
 use Rattle.dd_discharge.specs.declared.bound.Bound.{Bound}
-use Rattle.dd_discharge.specs.Programs.{IsProgramOf}
+use Rattle.dd_rows.specs.Programs.{IsProgramOf}
 use Rattle.dd_discharge.specs.Amounts.{held_over}
 use Rattle.dd_sides.specs.Sides.{IsSideFilling, side_weight}
 use Rattle.dd_sides.specs.Boundaries.{boundary}

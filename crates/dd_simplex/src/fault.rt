@@ -1,10 +1,11 @@
-//! Why a run has no result.
+//! The faults of runs.
 ghost use Rattle.std.specs.Prelude.{◌≡◌};
 ghost use Rattle.dd_simplex.specs.declared.fault.SimplexFault.TheVariants.{Memory};
 
 use std::alloc::AllocError;
 use thiserror::Error;
 
+/// Why a run has no result.
 #[derive(Clone, Copy, Debug, PartialEq, Eq, Error)]
 pub enum SimplexFault {
     /// A number of the run passes 2^127 - 1 in absolute value.

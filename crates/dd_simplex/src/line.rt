@@ -27,6 +27,7 @@ impl Model for Line {
 }
 
 impl Line {
+    /// The basic variable of the line.
     pub fn variable(&self) -> usize
         ensures { result ≡ self.now.basic }
     {

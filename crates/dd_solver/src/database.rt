@@ -8,6 +8,7 @@ use dd_clause::{Clause, Literal};
 use dd_derivation::Step;
 use std::marker::Model;
 
+/// The clauses of a list and, behind them, those of the steps.
 #[derive(Drop)]
 pub struct Database<'a> {
     clauses: &'a [Clause],
@@ -25,12 +26,14 @@ impl<'a> Model for Database<'a> {
 }
 
 impl<'a> Database<'a> {
+    /// Over these clauses and steps.
     pub fn new(clauses: &'a [Clause], steps: &'a [Step]) -> Database<'a>
         ensures { result ≡ clauses_before clauses.now steps.now }
     {
         Database { clauses, steps }
     }
 
+    /// How many clauses there are, those of the steps among them.
     pub fn count(&self) -> u64
         ensures { result ≡ length self.now }
     {

@@ -44,6 +44,7 @@ impl<'a> Model for Search<'a> {
 }
 
 impl<'a> Search<'a> {
+    /// Before the first decision: nothing has a value, and nothing is learned.
     pub fn new(
         alloc: Global,
         clauses: &'a [Clause],

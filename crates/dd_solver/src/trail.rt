@@ -89,6 +89,7 @@ impl Trail {
         })
     }
 
+    /// The literals that are true, in the order in which they became so.
     pub fn entries(&self) -> &[Entry]
         ensures { result.now ≡ self.now.entries }
     {
@@ -178,6 +179,11 @@ impl Trail {
         None
     }
 
+    /// Whether some literal was decided.
+    pub fn has_decision(&self) -> bool {
+        !self.levels.is_empty()
+    }
+
     /// Whether the variable has its value by clauses alone, with no decision before it.
     pub fn is_fixed(&self, variable: u32) -> bool {
         match self.levels.first() {
@@ -194,9 +200,9 @@ impl Trail {
         }
     }
 
-    /// Whether the literal at this place of a list of all of them is false.
-    pub fn is_false_at(&self, place: usize) -> bool {
-        place < self.denied.len() && self.denied[place]
+    /// Of each literal, by its place in a list of all of them, whether it is false.
+    pub fn denied(&self) -> &[bool] {
+        self.denied.as_slice()
     }
 
     fn place(&self, variable: u32) -> usize {

@@ -12,6 +12,7 @@ use crate::propagation::{Scan, look_at, scan_between};
 use crate::trail::{Trail, place_of};
 use dd_clause::Literal;
 use std::alloc::{AllocError, Global};
+use std::mem;
 
 /// A literal in four bytes: its place in a list of all literals.
 #[derive(Clone, Copy, PartialEq, Eq)]
@@ -36,12 +37,14 @@ impl Code {
         self.place as usize
     }
 
-    fn is_false(self, trail: &Trail) -> bool {
-        trail.is_false_at(self.place())
+    /// Whether the literal is one of those that the list denies.
+    fn is_false(self, denied: &[bool]) -> bool {
+        let place = self.place();
+        place < denied.len() && denied[place]
     }
 
-    fn is_true(self, trail: &Trail) -> bool {
-        self.negation().is_false(trail)
+    fn is_true(self, denied: &[bool]) -> bool {
+        self.negation().is_false(denied)
     }
 }
 
@@ -56,12 +59,13 @@ struct Watcher {
     other: Code,
 }
 
-/// For each literal the clauses that watch it; the literals of all clauses, those first that a clause watches, and beside
-/// each its clause's number; how many clauses there are; how far the trail is read, and the list of its next literal; and
-/// how many clauses were looked at since they were added.
+/// For each literal the clauses that watch it, and room for such a list while it is passed; the literals of all clauses,
+/// those first that a clause watches, and beside each its clause's number; how many clauses there are; how far the trail
+/// is read, and the list of its next literal; and how many clauses were looked at since they were added.
 #[derive(Drop)]
 pub struct Watches {
     lists: Vec<Vec<Watcher>>,
+    passed: Vec<Watcher>,
     literals: Vec<Code>,
     numbers: Vec<u32>,
     count: u32,
@@ -87,34 +91,12 @@ fn watch(lists: &mut Vec<Vec<Watcher>>, literal: Code, watcher: Watcher) -> Resu
     Ok(())
 }
 
-fn unwatch(lists: &mut Vec<Vec<Watcher>>, literal: Code, at: usize) {
-    let list = literal.place();
-    if list < lists.len() && at < lists[list].len() {
-        lists[list].swap_remove(at);
-    }
-}
-
-fn set_watcher(lists: &mut Vec<Vec<Watcher>>, literal: Code, at: usize, watcher: Watcher) {
-    let list = literal.place();
-    if list < lists.len() && at < lists[list].len() {
-        lists[list][at] = watcher;
-    }
-}
-
-fn find_watcher(lists: &[Vec<Watcher>], literal: Code, at: usize) -> Option<Watcher> {
-    let list = literal.place();
-    if list < lists.len() && at < lists[list].len() {
-        return Some(lists[list][at]);
-    }
-    None
-}
-
 /// The first place, from one on, of a literal that is not false.
-fn find_not_false(trail: &Trail, literals: &[Code], from: usize) -> Option<usize>
+fn find_not_false(denied: &[bool], literals: &[Code], from: usize) -> Option<usize>
     ensures { MatchOption result ⊤ (λ place. place < length literals.now) }
 {
     for place in from..literals.len() {
-        if !literals[place].is_false(trail) {
+        if !literals[place].is_false(denied) {
             return Some(place);
         }
     }
@@ -122,7 +104,7 @@ fn find_not_false(trail: &Trail, literals: &[Code], from: usize) -> Option<usize
 }
 
 /// Looks in the clause at a place for another literal to watch, in place of the one that became false.
-fn rewatch(trail: &Trail, literals: &mut [Code], clause: u32, became_false: Code) -> Look {
+fn rewatch(denied: &[bool], literals: &mut [Code], clause: u32, became_false: Code) -> Look {
     let first = clause as usize;
     let second = first + 1;
     if second >= literals.len() {
@@ -133,10 +115,10 @@ fn rewatch(trail: &Trail, literals: &mut [Code], clause: u32, became_false: Code
     } else {
         literals[first]
     };
-    if other.is_true(trail) {
+    if other.is_true(denied) {
         return Look::Stays(other);
     }
-    match find_not_false(trail, literals, second + 1) {
+    match find_not_false(denied, literals, second + 1) {
         Some(place) if literals[place] != END => {
             let next = literals[place];
             literals[first] = other;
@@ -146,6 +128,39 @@ fn rewatch(trail: &Trail, literals: &mut [Code], clause: u32, became_false: Code
         }
         _ => Look::AllFalse,
     }
+}
+
+/// Passes the watchers of a literal that became false, from a place on. Those that watch a further literal now go to
+/// its list, and the last takes their place. Gives the place of one whose clause may be falsified or force a literal.
+fn pass_from(
+    denied: &[bool],
+    literals: &mut [Code],
+    lists: &mut Vec<Vec<Watcher>>,
+    passed: &mut Vec<Watcher>,
+    became_false: Code,
+    from: usize,
+) -> Result<Option<usize>, AllocError> {
+    let mut at = from;
+    while at < passed.len() {
+        let watcher = passed[at];
+        let clause = watcher.clause;
+        if watcher.other.is_true(denied) {
+            at += 1;
+            continue;
+        }
+        match rewatch(denied, literals, clause, became_false) {
+            Look::Stays(other) => {
+                passed[at] = Watcher { clause, other };
+                at += 1;
+            }
+            Look::Moves(next, other) => {
+                passed.swap_remove(at);
+                watch(lists, next, Watcher { clause, other })?;
+            }
+            Look::AllFalse => return Ok(Some(at)),
+        }
+    }
+    Ok(None)
 }
 
 impl Watches {
@@ -159,6 +174,7 @@ impl Watches {
         }
         Ok(Watches {
             lists,
+            passed: Vec::new(alloc),
             literals: Vec::new(alloc),
             numbers: Vec::new(alloc),
             count: 0,
@@ -191,8 +207,10 @@ impl Watches {
 
     /// The trail was cut to this length.
     pub fn cut(&mut self, length: usize) {
-        self.read = self.read.min(length);
-        self.at = 0;
+        if length <= self.read {
+            self.read = length;
+            self.at = 0;
+        }
     }
 
     /// The number of the clause at a place.
@@ -204,35 +222,35 @@ impl Watches {
         0
     }
 
-    /// Goes past a watcher of a literal that became false. False where its clause may be falsified or force a literal.
-    fn pass(
-        &mut self,
-        trail: &Trail,
-        became_false: Code,
-        watcher: Watcher,
-    ) -> Result<bool, AllocError> {
-        let at = self.at;
-        let clause = watcher.clause;
-        if watcher.other.is_true(trail) {
+    /// Takes a literal's list out to be passed, or puts it back.
+    fn exchange(&mut self, literal: Code) {
+        let list = literal.place();
+        if list < self.lists.len() {
+            mem::swap(&mut self.lists[list], &mut self.passed);
+        }
+    }
+
+    /// Passes the watchers of a literal that became false, from where they were passed to. Gives the place of a clause
+    /// that may be falsified or force a literal.
+    fn pass(&mut self, trail: &Trail, became_false: Code) -> Result<Option<u32>, AllocError> {
+        self.exchange(became_false);
+        let found = pass_from(
+            trail.denied(),
+            self.literals.as_mut_slice(),
+            &mut self.lists,
+            &mut self.passed,
+            became_false,
+            self.at,
+        )?;
+        let mut clause: Option<u32> = None;
+        if let Some(at) = found {
+            if at < self.passed.len() {
+                clause = Some(self.passed[at].clause);
+            }
             self.at = at.saturating_add(1);
-            return Ok(true);
         }
-        match rewatch(trail, self.literals.as_mut_slice(), clause, became_false) {
-            Look::Stays(other) => {
-                set_watcher(&mut self.lists, became_false, at, Watcher { clause, other });
-                self.at = at.saturating_add(1);
-                Ok(true)
-            }
-            Look::Moves(next, other) => {
-                unwatch(&mut self.lists, became_false, at);
-                watch(&mut self.lists, next, Watcher { clause, other })?;
-                Ok(true)
-            }
-            Look::AllFalse => {
-                self.at = at.saturating_add(1);
-                Ok(false)
-            }
-        }
+        self.exchange(became_false);
+        Ok(clause)
     }
 
     /// Reads the trail on from where it was read to, until a clause is falsified or forces a literal: of each literal
@@ -247,16 +265,15 @@ impl Watches {
                 break;
             }
             let became_false = Code::new(entries[read].literal).negation();
-            let Some(watcher) = find_watcher(self.lists.as_slice(), became_false, self.at) else {
-                self.read = read.saturating_add(1);
-                self.at = 0;
-                continue;
-            };
-            if !self.pass(trail, became_false, watcher)? {
-                match look_at(database, trail, self.number(watcher.clause)) {
+            match self.pass(trail, became_false)? {
+                None => {
+                    self.read = read.saturating_add(1);
+                    self.at = 0;
+                }
+                Some(clause) => match look_at(database, trail, self.number(clause)) {
                     Scan::Nothing => {}
                     seen => return Ok(seen),
-                }
+                },
             }
         }
         Ok(Scan::Nothing)

@@ -1,6 +1,7 @@
-//! Why a topology is not made.
+//! The faults of topologies.
 use thiserror::Error;
 
+/// Why a topology is not made.
 #[derive(Clone, Copy, Debug, PartialEq, Eq, Error)]
 pub enum TopologyFault {
     /// The label of the first edge whose label and first node an earlier edge has.

@@ -10,6 +10,7 @@ use Rattle.dd_formula.specs.LocalRule.{LocalRule, rule_allows}
 use Rattle.dd_formula.specs.Allowed.{AreAllowed}
 use Rattle.dd_transfer.specs.declared.strip.Strip.{Strip}
 use Rattle.dd_transfer.specs.Windows.{IsSized, IsFor, IsFull, Shown, cells, positions, slice_index_of, window_index, shown_look, cell_at}
+use Rattle.dd_transfer.specs.placing.Formulas.{AllowsAll}
 use Rattle.dd_transfer.proofs.Stands.{le_from}
 use Rattle.dd_transfer.proofs.Places.{parts_of, index_of_cell}
 
@@ -39,6 +40,12 @@ all_allowed r w full h c =
     symbol_allowed r c.node w.symbols (window_index w.strip c)
     (λ lt. subst (λ (a : ℕ). rule_allows r a (get_or w.symbols (window_index w.strip c) 0) ≡ true) same (h (window_index w.strip c) lt)))
     (λ _. tt)
+
+-- where each node allows all symbols
+pub allowed_by_all : (r : LocalRule) (w : Shown) → IsFull r w → AllowsAll r → (k : ℕ) → k < length w.symbols → allowed_at r w k
+allowed_by_all r w full all k lt =
+    let some : 0 < r.nodes = omega (arith, full.strip_for.sized.nodes_some, full.strip_for.nodes) in
+    all (k % r.nodes) (mod_below k r.nodes some) (get_or w.symbols k 0) (full.known k 0 lt)
 
 -- each place is that of a cell
 abbrev pub cell_of : Strip → ℕ → Cell

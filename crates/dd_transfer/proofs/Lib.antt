@@ -9,3 +9,5 @@ pub mod Numbers
 pub mod Slicing
 pub mod Moving
 pub mod Following
+pub mod Next
+pub mod Saying

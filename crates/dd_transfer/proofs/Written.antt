@@ -44,3 +44,13 @@ windows_more r s n ws b so_far here = record {
 pub kept_more : (r : LocalRule) (s : Strip) (v : Shown) (n : ℕ) (ws : List Bool) (b : Bool) → AreWindows r s n ws → v ≡ shown s (digits r.symbols (window_cells r s) n) →
     (IsTrue b ↔ IsKept r (shown_look v)) → AreWindows r s (n + 1) (ws ++ b ∷ [])
 kept_more r s v n ws b so_far is here = windows_more r s n ws b so_far (subst (λ (w : Shown). IsTrue b ↔ IsKept r (shown_look w)) is here)
+
+-- the window of the next number
+pub advanced : (r : LocalRule) (s : Strip) (w v : Shown) (b n : ℕ) → b ≡ r.symbols → w ≡ shown s (digits r.symbols (window_cells r s) n) →
+    ((m : ℕ) → w.symbols ≡ digits b (length w.symbols) m → v ≡ shown w.strip (digits b (length w.symbols) (m + 1))) → v ≡ shown s (digits r.symbols (window_cells r s) (n + 1))
+advanced r s w v b n base is next =
+    let symbols = ap (λ (u : Shown). u.symbols) is in
+    let size : length w.symbols ≡ window_cells r s = ap length symbols ∙ digits_length r.symbols (window_cells r s) n in
+    let here : w.symbols ≡ digits b (length w.symbols) n =
+    symbols ∙ (ap (λ (m : ℕ). digits m (window_cells r s) n) (sym base) ∙ ap (λ (m : ℕ). digits b m n) (sym size)) in
+    written r s w v b (n + 1) (ap (λ (u : Shown). u.strip) is) size base (next n here)

@@ -9,3 +9,5 @@ pub mod Certificates
 -- the slices of a look, and the edges that they make
 pub mod Slices
 pub mod Laws
+-- the rule at the places of a window, as the code keeps it
+pub mod placing

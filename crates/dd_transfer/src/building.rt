@@ -3,12 +3,13 @@ ghost use Rattle.std.specs.Prelude.{◌≡◌, ◌<◌, ◌≤◌, ℕ, IfOk, If
 ghost use Rattle.dd_counts.specs.Rules.{slices, states, longer_states};
 ghost use Rattle.dd_pattern.specs.Weight.{AreWeights, total_weight};
 ghost use Rattle.dd_formula.specs.LocalRule.{IsRule};
-ghost use Rattle.dd_transfer.specs.Windows.{IsFor, AreWindows, cells, positions};
+ghost use Rattle.dd_transfer.specs.Windows.{IsFor, AreWindows, cells, digits, positions, shown, window_cells};
 ghost use Rattle.dd_transfer.specs.Transfers.{IsStrip, HasWeights, IsGraphOf, IsFault, strip_for, slice_weight};
 
-use crate::deciding::is_kept;
+use crate::deciding::{allows_all, is_kept};
 use crate::fault::TransferFault;
 use crate::graphs::Graph;
+use crate::placing::formulas;
 use crate::standing::stand;
 use crate::strip::Strip;
 use crate::windows::{Window, write_digits};
@@ -87,15 +88,28 @@ fn kept_windows(
     requires { IsFor rule.now strip }
     ensures { IfOk result (λ v. AreWindows rule.now strip count v.items) }
 {
-    let cells = (window(rule) + 1) * strip.cells() as u64;
-    let mut window = Window::new(strip, zeros(alloc, cells as usize)?);
-    let stand = stand(rule);
+    let base = rule.symbols();
+    let formulas = formulas(alloc, rule, strip, stand(rule))?;
+    let allows_all = allows_all(rule);
+    let mut window = first_window(alloc, rule, strip)?;
     let mut kept = Vec::new(alloc);
-    for number in 0..count {
-        window.write(rule.symbols(), number);
-        kept.push(is_kept(rule, &window, stand))?;
+    for _number in 0..count {
+        kept.push(is_kept(rule, formulas.as_slice(), allows_all, &window))?;
+        window.advance(base);
     }
     Ok(kept)
+}
+
+/// The window with the number 0.
+fn first_window(alloc: Global, rule: &Rule, strip: Strip) -> Result<Window, AllocError>
+    requires { IsFor rule.now strip }
+    ensures { IfOk result (λ w. w ≡ shown strip (digits rule.now.symbols (window_cells rule.now strip) 0)) }
+{
+    let cells = (window(rule) + 1) * strip.cells() as u64;
+    let blank = zeros(alloc, cells as usize)?;
+    let mut window = Window::new(strip, blank);
+    window.write(rule.symbols(), 0);
+    Ok(window)
 }
 
 /// What each slice weighs.

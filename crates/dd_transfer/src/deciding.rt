@@ -1,16 +1,49 @@
 //! Whether a window is an edge.
-ghost use Rattle.std.specs.Prelude.{◌≡◌, ◌↔◌, IsTrue, pos, ◌≤ℤ◌};
+ghost use Rattle.std.specs.Prelude.{◌≡◌, ◌<◌, ◌↔◌, IsTrue};
+ghost use Rattle.std.specs.List.{list_all};
+ghost use Rattle.dd_numbered.specs.Numbered.{holds_in};
 ghost use Rattle.dd_formula.specs.Allowed.{AreAllowed};
-ghost use Rattle.dd_transfer.specs.Windows.{IsFull, IsKept, IsTrueAlong, shown_look, stand};
+ghost use Rattle.dd_transfer.specs.Windows.{IsFull, IsKept, shown_look};
+ghost use Rattle.dd_transfer.specs.placing.Formulas.{AllowsAll, AllowsEach, ArePlaces};
 
 use crate::windows::Window;
 use dd_formula::Rule;
+use dd_numbered::Numbered;
 
-/// Whether each symbol of the window is one that its node allows.
-fn are_allowed(rule: &Rule, window: &Window) -> bool
-    requires { IsFull rule.now window.now }
+/// Whether the node allows all symbols.
+fn allows_each(rule: &Rule, node: u32) -> bool
+    requires { node < rule.now.nodes }
+    ensures { IsTrue result → AllowsEach rule.now node }
+{
+    for symbol in 0..rule.symbols() {
+        if !rule.allows(node, symbol) {
+            return false;
+        }
+    }
+    true
+}
+
+/// Whether each node allows all symbols.
+pub(crate) fn allows_all(rule: &Rule) -> bool
+    ensures { IsTrue result → AllowsAll rule.now }
+{
+    for node in 0..rule.nodes() {
+        if !allows_each(rule, node) {
+            return false;
+        }
+    }
+    true
+}
+
+/// Whether each symbol of the window is one that its node allows; each is where the rule allows all.
+fn are_allowed(rule: &Rule, allows_all: bool, window: &Window) -> bool
+    requires window { IsFull rule.now window.now }
+    requires all { IsTrue allows_all → AllowsAll rule.now }
     ensures { IsTrue result ↔ AreAllowed rule.now (shown_look window.now) }
 {
+    if allows_all {
+        return true;
+    }
     let nodes = rule.nodes() as usize;
     let symbols = window.symbols();
     for place in 0..symbols.len() {
@@ -21,33 +54,29 @@ fn are_allowed(rule: &Rule, window: &Window) -> bool
     true
 }
 
-/// Whether the rule is true at the places at this x.
-fn is_true_along(rule: &Rule, window: &Window, x: i32) -> bool
-    requires window { IsFull rule.now window.now }
-    requires x { x ≡ stand rule.now }
-    requires some { pos 0 ≤ℤ x }
-    requires near { x ≤ℤ pos 16 }
-    ensures { IsTrue result ↔ IsTrueAlong rule.now (stand rule.now) (shown_look window.now) }
+/// Whether all formulas are true of the symbols.
+fn are_true(formulas: &[Numbered], symbols: &[u32]) -> bool
+    ensures { result ≡ list_all (λ e. holds_in e symbols.now) formulas.now }
 {
-    let strip = window.strip();
-    for number in 0..strip.cells() {
-        let cell = strip.cell_at(x, number);
-        match rule.truth(&cell, window) {
-            Some(true) => {}
-            Some(false) => return false,
-            None => unreachable!(),
+    for formula in formulas {
+        if !formula.truth(symbols) {
+            return false;
         }
     }
     true
 }
 
-/// Whether each symbol of the window is allowed and the rule is true where it stands.
-pub(crate) fn is_kept(rule: &Rule, window: &Window, x: i32) -> bool
+/// Whether each symbol of the window is allowed and the rule, of which these are the formulas at its places, is true where it
+/// stands.
+pub(crate) fn is_kept(rule: &Rule, formulas: &[Numbered], allows_all: bool, window: &Window) -> bool
     requires window { IsFull rule.now window.now }
-    requires x { x ≡ stand rule.now }
-    requires some { pos 0 ≤ℤ x }
-    requires near { x ≤ℤ pos 16 }
+    requires all { IsTrue allows_all → AllowsAll rule.now }
+    requires formulas { ArePlaces rule.now window.now.strip formulas.now }
     ensures { IsTrue result ↔ IsKept rule.now (shown_look window.now) }
 {
-    are_allowed(rule, window) && is_true_along(rule, window, x)
+    if are_true(formulas, window.symbols()) {
+        are_allowed(rule, allows_all, window)
+    } else {
+        false
+    }
 }

@@ -6,6 +6,7 @@ mod deciding;
 mod fault;
 mod graphs;
 mod laws;
+mod placing;
 mod standing;
 mod strip;
 mod windows;

@@ -236,60 +236,67 @@ fn total(counts: &[u32; 8]) -> u32 {
     total
 }
 
-// A topology, a premise, a query with the rules and automata that it names, a radius, and the number of admissible fillings with the goal.
+const TWO: &str = "%dim 1 %nodes a b %topology (x a [0] b) (y b [0] a)";
+
+const ID: &str = "%auto f when o=1 give 1 else 0 %auto g else 0 %same f g x";
+
+const OPPOSITE: &str = "%auto f when o=1 give 1 else 0 %auto g when o=1 give 0 else 1 %same f g x";
+
+const TWICE: &str = "%auto f when o=1 give 0 else 1 %compose h f f %auto g else 0 %same h g x";
+
+/// A topology, a premise, a query with the rules and automata that it names, a radius, and the number of admissible
+/// fillings with the goal.
+const QUESTIONS: &[(&str, &str, &str, u32, u32)] = &[
+    ("%dim 1", "o=1 -> o.rt=0", "%empty x", 1, 5),
+    ("%dim 1", "o.lt=o.rt", "%empty x", 1, 4),
+    ("%dim 1", "Ep[o1] p=1", "%empty x", 1, 7),
+    (
+        "%dim 1",
+        "o=1 -> o.rt=0",
+        "%rule y o=1 -> o.lt=0 %contains y x",
+        1,
+        0,
+    ),
+    (
+        "%dim 1",
+        "o=1 -> o.rt=0",
+        "%rule y Ep[o1] p=1 %contains y x",
+        1,
+        1,
+    ),
+    (
+        "%dim 1",
+        "o.lt=o.rt",
+        "%rule y o=1 -> o.rt=0 %contains y x",
+        1,
+        1,
+    ),
+    (
+        "%dim 1",
+        "Ep[o1] p=1",
+        "%rule y o.lt=o.rt %contains y x",
+        1,
+        4,
+    ),
+    (TWO, "o:a -> o.x=1", "%empty x", 0, 2),
+    (TWO, "o:a -> o.x=1", "%rule y o=1 %contains y x", 0, 1),
+    (TWO, "o.x=1 | o.y=0", "%empty x", 0, 1),
+    ("%dim 2", "o=1", "%empty x", 0, 1),
+    ("%dim 2", "o=1 & o.rt=0", "%empty x", 0, 2),
+    ("%dim 2", "o=1 -> o.up=0", "%rule y o=0 %contains y x", 0, 1),
+    ("%dim 1", "o@o", ID, 0, 1),
+    ("%dim 1", "o=0", ID, 0, 0),
+    ("%dim 1", "o@o", OPPOSITE, 0, 2),
+    ("%dim 1", "o=1", TWICE, 0, 1),
+];
+
 #[test]
 fn every_assignment(rt: HostRuntime) -> Result<(), Fail> {
-    let two = "%dim 1 %nodes a b %topology (x a [0] b) (y b [0] a)";
-    let id = "%auto f when o=1 give 1 else 0 %auto g else 0 %same f g x";
-    let opposite = "%auto f when o=1 give 1 else 0 %auto g when o=1 give 0 else 1 %same f g x";
-    let twice = "%auto f when o=1 give 0 else 1 %compose h f f %auto g else 0 %same h g x";
-    for (head, premise, query, radius, wanted) in [
-        ("%dim 1", "o=1 -> o.rt=0", "%empty x", 1, 5),
-        ("%dim 1", "o.lt=o.rt", "%empty x", 1, 4),
-        ("%dim 1", "Ep[o1] p=1", "%empty x", 1, 7),
-        (
-            "%dim 1",
-            "o=1 -> o.rt=0",
-            "%rule y o=1 -> o.lt=0 %contains y x",
-            1,
-            0,
-        ),
-        (
-            "%dim 1",
-            "o=1 -> o.rt=0",
-            "%rule y Ep[o1] p=1 %contains y x",
-            1,
-            1,
-        ),
-        (
-            "%dim 1",
-            "o.lt=o.rt",
-            "%rule y o=1 -> o.rt=0 %contains y x",
-            1,
-            1,
-        ),
-        (
-            "%dim 1",
-            "Ep[o1] p=1",
-            "%rule y o.lt=o.rt %contains y x",
-            1,
-            4,
-        ),
-        (two, "o:a -> o.x=1", "%empty x", 0, 2),
-        (two, "o:a -> o.x=1", "%rule y o=1 %contains y x", 0, 1),
-        (two, "o.x=1 | o.y=0", "%empty x", 0, 1),
-        ("%dim 2", "o=1", "%empty x", 0, 1),
-        ("%dim 2", "o=1 & o.rt=0", "%empty x", 0, 2),
-        ("%dim 2", "o=1 -> o.up=0", "%rule y o=0 %contains y x", 0, 1),
-        ("%dim 1", "o@o", id, 0, 1),
-        ("%dim 1", "o=0", id, 0, 0),
-        ("%dim 1", "o@o", opposite, 0, 2),
-        ("%dim 1", "o=1", twice, 0, 1),
-    ] {
-        let script = [head, " %rule x ", premise, " ", query];
-        let (found, fillings) = compared_script(rt.alloc(), &script, radius)?;
+    for (head, premise, query, radius, wanted) in QUESTIONS {
+        let script = [*head, " %rule x ", *premise, " ", *query];
+        let (found, fillings) = compared_script(rt.alloc(), &script, *radius)?;
         assert_eq!(rt; found, fillings, "{premise} {query}");
-        assert_eq!(rt; total(&found), wanted, "{premise} {query}");
+        assert_eq!(rt; total(&found), *wanted, "{premise} {query}");
     }
     Ok(())
 }

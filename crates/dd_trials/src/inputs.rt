@@ -36,21 +36,25 @@ fn two_cells(alloc: Global) -> Result<Inputs, Fail> {
     Ok(inputs)
 }
 
+/// The place of a cell on the line, a symbol, and the variable of its signal.
+const SIGNALS: &[(i32, u32, Option<u32>)] = &[
+    (1, 0, Some(1)),
+    (1, 1, Some(2)),
+    (1, 2, None),
+    (2, 0, Some(3)),
+    (2, 2, Some(5)),
+    (2, 3, None),
+    (0, 0, None),
+    (3, 0, None),
+];
+
 #[test]
 fn inputs_by_cell_and_symbol(rt: HostRuntime) -> Result<(), Fail> {
     let inputs = two_cells(rt.alloc())?;
-    for (x, symbol, signal) in [
-        (1, 0, Some(plus(1))),
-        (1, 1, Some(plus(2))),
-        (1, 2, None),
-        (2, 0, Some(plus(3))),
-        (2, 2, Some(plus(5))),
-        (2, 3, None),
-        (0, 0, None),
-        (3, 0, None),
-    ] {
-        let cell = cell_at(x).ok_or("in range")?;
-        assert_eq!(rt; inputs.get(&cell, symbol), signal, "at {x}, {symbol}");
+    for (x, symbol, variable) in SIGNALS {
+        let cell = cell_at(*x).ok_or("in range")?;
+        let signal = inputs.get(&cell, *symbol);
+        assert_eq!(rt; signal, variable.map(plus), "at {x}, {symbol}");
     }
     Ok(())
 }

@@ -1,7 +1,8 @@
-ghost use Rattle.std.specs.Prelude.{◌≡◌};
-ghost use Rattle.dd_circuit.specs.Circuits.{signal_of, opposite};
+ghost use Rattle.std.specs.Prelude.{◌≡◌, ◌≤◌, ◌+◌, IfOk};
+ghost use Rattle.dd_circuit.specs.Circuits.{signal_of, opposite, size};
 
 use dd_circuit::{Circuit, Signal};
+use std::alloc::{AllocError, Global};
 use std::test::Fail;
 
 fn plus(variable: u32) -> Signal
@@ -24,17 +25,15 @@ fn a_conjunction_of_two_inputs(rt: HostRuntime) -> Result<(), Fail> {
     let alloc = rt.alloc();
     let mut circuit = Circuit::new(alloc, 2);
     let gate = circuit.and(&[plus(1), plus(2)])?;
-    assert_eq!(rt; gate, plus(3));
-    assert_eq!(rt; circuit.inputs(), 2);
-    assert_eq!(rt; circuit.variables(), 3);
-    assert_eq!(rt; circuit.gates().len(), 1);
+    let sizes = (circuit.inputs(), circuit.variables(), circuit.gates().len());
+    assert_eq!(rt; (gate, sizes), (plus(3), (2, 3, 1)));
     let values = circuit.value(alloc, &[true, false])?;
     assert_eq!(rt; values.as_slice(), [true, false, false].as_slice());
     Ok(())
 }
 
 /// The values of three inputs, and those of the eight gates below over them.
-const VALUES_OF_GATES: [([bool; 3], [bool; 8]); 8] = [
+const VALUES_OF_GATES: &[([bool; 3], [bool; 8])] = &[
     (
         [false, false, false],
         [true, false, false, false, true, true, false, true],
@@ -69,20 +68,50 @@ const VALUES_OF_GATES: [([bool; 3], [bool; 8]); 8] = [
     ),
 ];
 
-#[test]
-fn gates_of_no_one_and_three_members(rt: HostRuntime) -> Result<(), Fail> {
-    let alloc = rt.alloc();
-    let mut circuit = Circuit::new(alloc, 3);
+/// Conjunctions of no, of one and of three of the three inputs.
+fn push_conjunctions(circuit: &mut Circuit) -> Result<(), AllocError>
+    requires inputs { 3 ≤ size circuit.old }
+    requires few { size circuit.old ≤ 100 }
+    ensures inputs { circuit.new.inputs ≡ circuit.old.inputs }
+    ensures more { IfOk result (λ _. size circuit.new ≡ size circuit.old + 3) }
+{
     circuit.and(&[])?;
     circuit.and(&[plus(1)])?;
     circuit.and(&[plus(1), minus(2), plus(3)])?;
+    Ok(())
+}
+
+/// Disjunctions of no, of one and of three of the three inputs.
+fn push_disjunctions(circuit: &mut Circuit) -> Result<(), AllocError>
+    requires inputs { 3 ≤ size circuit.old }
+    requires few { size circuit.old ≤ 100 }
+    ensures inputs { circuit.new.inputs ≡ circuit.old.inputs }
+    ensures more { IfOk result (λ _. size circuit.new ≡ size circuit.old + 3) }
+{
     circuit.or(&[])?;
     circuit.or(&[minus(1)])?;
     circuit.or(&[plus(1), minus(2), plus(3)])?;
+    Ok(())
+}
+
+/// Gates of three inputs: three conjunctions, three disjunctions and two equivalences.
+fn eight_gates(alloc: Global) -> Result<Circuit, AllocError>
+    ensures { IfOk result (λ circuit. circuit.inputs ≡ 3) }
+{
+    let mut circuit = Circuit::new(alloc, 3);
+    push_conjunctions(&mut circuit)?;
+    push_disjunctions(&mut circuit)?;
     circuit.iff(plus(1), minus(2))?;
     circuit.iff(minus(6), plus(9))?;
+    Ok(circuit)
+}
+
+#[test]
+fn gates_of_no_one_and_three_members(rt: HostRuntime) -> Result<(), Fail> {
+    let alloc = rt.alloc();
+    let circuit = eight_gates(alloc)?;
     for (inputs, gates) in VALUES_OF_GATES {
-        let values = circuit.value(alloc, &inputs)?;
+        let values = circuit.value(alloc, inputs.as_slice())?;
         assert_eq!(rt; values.len(), 11);
         assert_eq!(rt; &values[3..], gates.as_slice(), "at {inputs:?}");
     }

@@ -32,46 +32,53 @@ fn assignment_of(alloc: Global, values: &[bool]) -> Result<Assignment, AllocErro
 }
 
 // The variable 3 is the conjunction of 1 and 2, of which one has to be true and one false.
-const GATE: [i32; 16] = [1, 2, 0, -1, -2, 0, -3, 1, 0, -3, 2, 0, 3, -1, -2, 0];
+const GATE: &[i32] = &[1, 2, 0, -1, -2, 0, -3, 1, 0, -3, 2, 0, 3, -1, -2, 0];
 
-const GATE_IS_TRUE: [i32; 18] = [1, 2, 0, -1, -2, 0, -3, 1, 0, -3, 2, 0, 3, -1, -2, 0, 3, 0];
+const GATE_IS_TRUE: &[i32] = &[1, 2, 0, -1, -2, 0, -3, 1, 0, -3, 2, 0, 3, -1, -2, 0, 3, 0];
 
 #[test]
 fn finds_the_two_assignments_of_a_gate(rt: HostRuntime) -> Result<(), Fail> {
     let alloc = rt.alloc();
-    let gate = cnf_of(alloc, 3, GATE.as_slice())?;
-    let gate_is_true = cnf_of(alloc, 3, GATE_IS_TRUE.as_slice())?;
-    assert_eq!(rt; gate.clauses().len(), 5);
-    assert_eq!(rt; gate_is_true.clauses().len(), 6);
+    let gate = cnf_of(alloc, 3, GATE)?;
+    let gate_is_true = cnf_of(alloc, 3, GATE_IS_TRUE)?;
+    let sizes = (gate.clauses().len(), gate_is_true.clauses().len());
+    assert_eq!(rt; sizes, (5, 6));
     for number in 0u8..8 {
         let values = [number & 1 != 0, number & 2 != 0, number & 4 != 0];
         let assignment = assignment_of(alloc, values.as_slice())?;
         let is_one = number == 1 || number == 2;
-        assert_eq!(rt; satisfies(&gate, &assignment), is_one, "at {number}");
-        assert!(rt; !satisfies(&gate_is_true, &assignment), "at {number}");
+        let found = (
+            satisfies(&gate, &assignment),
+            satisfies(&gate_is_true, &assignment),
+        );
+        assert_eq!(rt; (number, found), (number, (is_one, false)));
     }
     Ok(())
 }
 
+/// A number of variables, a number of values, and whether they fit.
+const VALUES: &[(u8, usize, bool)] = &[(0, 0, true), (2, 1, false), (2, 2, true), (2, 3, false)];
+
 #[test]
 fn wants_a_value_for_each_variable(rt: HostRuntime) -> Result<(), Fail> {
     let alloc = rt.alloc();
-    for (variables, values, want) in [(0, 0, true), (2, 1, false), (2, 2, true), (2, 3, false)] {
-        let values = vec![in alloc; true; values]?;
-        let assignment = Assignment::new(values);
-        let cnf = cnf_of(alloc, variables, [].as_slice())?;
-        assert_eq!(rt; satisfies(&cnf, &assignment), want);
+    for (variables, values, want) in VALUES {
+        let assignment = Assignment::new(vec![in alloc; true; *values]?);
+        let cnf = cnf_of(alloc, *variables, &[])?;
+        assert_eq!(rt; satisfies(&cnf, &assignment), *want);
     }
     let empty_clause = cnf_of(alloc, 0, [0].as_slice())?;
     assert!(rt; !satisfies(&empty_clause, &Assignment::new(Vec::new(alloc))));
     Ok(())
 }
 
+/// A clause of seven literals, one of one, and one of which a variable is above 8.
+const LONG: &[i32] = &[1, -2, 3, -4, 5, -6, 7, 0, 8, 0, 1, 9, 0];
+
 #[test]
 fn keeps_long_clauses_and_tells_those_out_of_range(rt: HostRuntime) -> Result<(), Fail> {
     let alloc = rt.alloc();
-    let long = [1, -2, 3, -4, 5, -6, 7, 0, 8, 0, 1, 9, 0];
-    let cnf = cnf_of(alloc, 8, long.as_slice())?;
+    let cnf = cnf_of(alloc, 8, LONG)?;
     assert_eq!(rt; cnf.variables(), 8);
     assert_eq!(rt; cnf.clauses().len(), 2);
     assert_eq!(rt; cnf.clauses()[0].literals().len(), 7);

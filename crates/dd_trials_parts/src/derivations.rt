@@ -60,7 +60,7 @@ fn steps_of(alloc: Global, numbers: &[i32]) -> Result<Vec<Step>, AllocError> {
 }
 
 // The variable 3 is the conjunction of 1 and 2, of which one has to be true and one false, and 3 is true.
-const GATE_IS_TRUE: [i32; 18] = [1, 2, 0, -1, -2, 0, -3, 1, 0, -3, 2, 0, 3, -1, -2, 0, 3, 0];
+const GATE_IS_TRUE: &[i32] = &[1, 2, 0, -1, -2, 0, -3, 1, 0, -3, 2, 0, 3, -1, -2, 0, 3, 0];
 
 /// What the check says of the steps, and what it says with the same marks after the last step was checked alone.
 fn check_twice(alloc: Global, clauses: &[i32], steps: &[i32]) -> Result<[bool; 2], AllocError> {
@@ -82,14 +82,14 @@ fn assert_checks(
     cases: &[(&[i32], bool)],
 ) -> Result<(), AllocError> {
     for (steps, want) in cases {
-        let found = check_twice(alloc, GATE_IS_TRUE.as_slice(), steps)?;
+        let found = check_twice(alloc, GATE_IS_TRUE, steps)?;
         assert_eq!(rt; found, [*want; 2], "{steps:?}");
     }
     Ok(())
 }
 
 /// Steps that need no others, and whether they are a refutation.
-const HINTS_OF_ONE_STEP: [(&[i32], bool); 14] = [
+const HINTS_OF_ONE_STEP: &[(&[i32], bool)] = &[
     (&[0, 6, 3, 4, 2, 0, 0], true),
     (&[0, 6, 3, 4, 2, 0, 6, 0], true),
     (&[0, 6, 3, 4, 2, 0, 1, 2, 3, 4, 5, 6, 0], true),
@@ -112,7 +112,7 @@ const HINTS_OF_ONE_STEP: [(&[i32], bool); 14] = [
 
 #[test]
 fn follows_the_hints_of_one_step(rt: HostRuntime) -> Result<(), Fail> {
-    assert_checks(&rt, rt.alloc(), &HINTS_OF_ONE_STEP)?;
+    assert_checks(&rt, rt.alloc(), HINTS_OF_ONE_STEP)?;
     Ok(())
 }
 
@@ -120,7 +120,7 @@ fn follows_the_hints_of_one_step(rt: HostRuntime) -> Result<(), Fail> {
 const BOTH_AND_NOTHING: &[i32] = &[1, 0, 6, 3, 0, 0, 2, 0, 6, 4, 0, 0, 0, 7, 8, 2, 0, 0];
 
 /// Steps that are checked in turn, and whether they are a refutation.
-const STEPS_IN_TURN: [(&[i32], bool); 9] = [
+const STEPS_IN_TURN: &[(&[i32], bool)] = &[
     (BOTH_AND_NOTHING, true),
     (
         &[1, 0, 6, 3, 0, 3, 0, 2, 0, 6, 4, 0, 0, 0, 7, 8, 2, 0, 0],
@@ -146,7 +146,7 @@ const STEPS_IN_TURN: [(&[i32], bool); 9] = [
 
 #[test]
 fn takes_the_steps_in_turn(rt: HostRuntime) -> Result<(), Fail> {
-    assert_checks(&rt, rt.alloc(), &STEPS_IN_TURN)?;
+    assert_checks(&rt, rt.alloc(), STEPS_IN_TURN)?;
     Ok(())
 }
 
@@ -164,7 +164,7 @@ fn a_literal_that_stands_twice_in_a_clause_counts_once(rt: HostRuntime) -> Resul
 const OUT_OF_RANGE: &[i32] = &[9, 0, 1, 0, 0, -9, 1, 0, 1, 0, 0, 1, 0, 7, 8, 0, 0];
 
 /// Steps, the place of the one that is checked after those before it, and whether it is right.
-const STEPS_AFTER_EARLIER_ONES: [(&[i32], usize, bool); 10] = [
+const STEPS_AFTER_EARLIER_ONES: &[(&[i32], usize, bool)] = &[
     (BOTH_AND_NOTHING, 0, true),
     (BOTH_AND_NOTHING, 1, true),
     (BOTH_AND_NOTHING, 2, true),
@@ -194,13 +194,13 @@ const STEPS_AFTER_EARLIER_ONES: [(&[i32], usize, bool); 10] = [
 #[test]
 fn checks_a_step_after_earlier_ones(rt: HostRuntime) -> Result<(), Fail> {
     let alloc = rt.alloc();
-    let cnf = cnf_of(alloc, GATE_IS_TRUE.as_slice())?;
+    let cnf = cnf_of(alloc, GATE_IS_TRUE)?;
     for (numbers, index, want) in STEPS_AFTER_EARLIER_ONES {
         let steps = steps_of(alloc, numbers)?;
         let mut marks = Marks::new(alloc, &cnf, steps.as_slice())?;
-        assert!(rt; index < steps.len());
-        let is_right = check_step(&cnf, steps.as_slice(), index, &mut marks);
-        assert_eq!(rt; is_right, want, "step {index} of {numbers:?}");
+        assert!(rt; *index < steps.len());
+        let is_right = check_step(&cnf, steps.as_slice(), *index, &mut marks);
+        assert_eq!(rt; is_right, *want, "step {index} of {numbers:?}");
     }
     Ok(())
 }

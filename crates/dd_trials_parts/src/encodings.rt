@@ -1,5 +1,5 @@
-ghost use Rattle.std.specs.Prelude.{◌≡◌};
-ghost use Rattle.dd_circuit.specs.Circuits.{signal_of, opposite};
+ghost use Rattle.std.specs.Prelude.{◌≡◌, ◌≤◌, ◌+◌, IfOk};
+ghost use Rattle.dd_circuit.specs.Circuits.{signal_of, opposite, size};
 
 use dd_circuit::{Circuit, Signal};
 use dd_clause::{Assignment, Cnf, satisfies};
@@ -68,43 +68,63 @@ fn a_conjunction_of_two_inputs(rt: HostRuntime) -> Result<(), Fail> {
     Ok(())
 }
 
+/// Conjunctions of no, of one and of three of the three inputs.
+fn push_conjunctions(circuit: &mut Circuit) -> Result<(), AllocError>
+    requires inputs { 3 ≤ size circuit.old }
+    requires few { size circuit.old ≤ 100 }
+    ensures inputs { circuit.new.inputs ≡ circuit.old.inputs }
+    ensures more { IfOk result (λ _. size circuit.new ≡ size circuit.old + 3) }
+{
+    circuit.and(&[])?;
+    circuit.and(&[minus(1)])?;
+    circuit.and(&[plus(1), minus(2), plus(3)])?;
+    Ok(())
+}
+
+/// Disjunctions of no, of one and of three of the three inputs.
+fn push_disjunctions(circuit: &mut Circuit) -> Result<(), AllocError>
+    requires inputs { 3 ≤ size circuit.old }
+    requires few { size circuit.old ≤ 100 }
+    ensures inputs { circuit.new.inputs ≡ circuit.old.inputs }
+    ensures more { IfOk result (λ _. size circuit.new ≡ size circuit.old + 3) }
+{
+    circuit.or(&[])?;
+    circuit.or(&[minus(1)])?;
+    circuit.or(&[plus(1), minus(2), plus(3)])?;
+    Ok(())
+}
+
+/// The clauses of three conjunctions, three disjunctions and an equivalence of three inputs.
+const CLAUSES_OF_GATES: &[&[i64]] = &[
+    &[4],
+    &[-5, -1],
+    &[5, 1],
+    &[-6, 1],
+    &[-6, -2],
+    &[-6, 3],
+    &[6, -1, 2, -3],
+    &[-7],
+    &[8, 1],
+    &[-8, -1],
+    &[9, -1],
+    &[9, 2],
+    &[9, -3],
+    &[-9, 1, -2, 3],
+    &[-10, -1, -2],
+    &[-10, 1, 2],
+    &[10, 1, -2],
+    &[10, -1, 2],
+];
+
 #[test]
 fn gates_of_no_one_and_three_members(rt: HostRuntime) -> Result<(), Fail> {
     let alloc = rt.alloc();
     let mut circuit = Circuit::new(alloc, 3);
-    circuit.and(&[])?;
-    circuit.and(&[minus(1)])?;
-    circuit.and(&[plus(1), minus(2), plus(3)])?;
-    circuit.or(&[])?;
-    circuit.or(&[minus(1)])?;
-    circuit.or(&[plus(1), minus(2), plus(3)])?;
+    push_conjunctions(&mut circuit)?;
+    push_disjunctions(&mut circuit)?;
     circuit.iff(plus(1), minus(2))?;
     let cnf = encode(alloc, &circuit)?;
     assert_eq!(rt; cnf.variables(), 10);
-    assert_clauses(
-        &rt,
-        alloc,
-        &cnf,
-        &[
-            &[4],
-            &[-5, -1],
-            &[5, 1],
-            &[-6, 1],
-            &[-6, -2],
-            &[-6, 3],
-            &[6, -1, 2, -3],
-            &[-7],
-            &[8, 1],
-            &[-8, -1],
-            &[9, -1],
-            &[9, 2],
-            &[9, -3],
-            &[-9, 1, -2, 3],
-            &[-10, -1, -2],
-            &[-10, 1, 2],
-            &[10, 1, -2],
-            &[10, -1, 2],
-        ],
-    )?;
+    assert_clauses(&rt, alloc, &cnf, CLAUSES_OF_GATES)?;
     Ok(())
 }

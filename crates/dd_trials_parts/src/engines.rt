@@ -365,29 +365,30 @@ const CASES: &[(&[i32], &[Member], Left, Left)] = &[
     ),
 ];
 
+/// What a roster of these members answers when it is asked twice over the clauses, with how many are left each time.
+fn asked_twice(alloc: Global, cnf: &Cnf, members: &[Member]) -> Result<[Left; 2], AllocError> {
+    let mut engines: Vec<Box<dyn Engine>> = Vec::new(alloc);
+    for member in members {
+        match member {
+            Member::Fake(habit) => engines.push(Box::new(alloc, Fake::new(*habit))?)?,
+            Member::Propagator => engines.push(Box::new(alloc, Propagator::new())?)?,
+            Member::Walker(flips) => engines.push(Box::new(alloc, Walker::new(*flips))?)?,
+        }
+    }
+    let mut roster = Roster::new(engines);
+    let first = answer_of(roster.ask(alloc, cnf));
+    let left = roster.count();
+    let second = answer_of(roster.ask(alloc, cnf));
+    Ok([(first, left), (second, roster.count())])
+}
+
 #[test]
 fn keeps_those_that_are_not_found_wrong(rt: HostRuntime) -> Result<(), Fail> {
     let alloc = rt.alloc();
     for (numbers, members, first, second) in CASES {
         let cnf = cnf_of(alloc, numbers)?;
-        let mut engines: Vec<Box<dyn Engine>> = Vec::new(alloc);
-        for member in *members {
-            match member {
-                Member::Fake(habit) => engines.push(Box::new(alloc, Fake::new(*habit))?)?,
-                Member::Propagator => engines.push(Box::new(alloc, Propagator::new())?)?,
-                Member::Walker(flips) => engines.push(Box::new(alloc, Walker::new(*flips))?)?,
-            }
-        }
-        let mut roster = Roster::new(engines);
-        for wanted in [first, second] {
-            let answer = answer_of(roster.ask(alloc, &cnf));
-            assert_eq!(rt; answer, wanted.0, "of {members:?} over {numbers:?}");
-            assert_eq!(rt;
-                roster.count(),
-                wanted.1,
-                "left of {members:?} over {numbers:?}"
-            );
-        }
+        let found = asked_twice(alloc, &cnf, members)?;
+        assert_eq!(rt; found, [*first, *second], "of {members:?} over {numbers:?}");
     }
     Ok(())
 }

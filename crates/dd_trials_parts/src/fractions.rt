@@ -1,5 +1,6 @@
 use dd_fraction::Fraction;
 use std::cmp::Ordering;
+use std::process::Abort;
 
 const P62: i128 = 4611686018427387904;
 
@@ -40,68 +41,74 @@ fn answer(call: Call, left: &Fraction, right: &Fraction) -> Option<(i128, i128)>
     result.map(|fraction| (fraction.num(), fraction.den()))
 }
 
+/// A numerator and a denominator.
+type Pair = (i128, i128);
+
+/// The fraction of an operand, which has to be one.
+fn operand(rt: &impl Abort, pair: Pair) -> Fraction {
+    Fraction::new(pair.0, pair.1).expect(rt, "an operand is a fraction")
+}
+
+/// A call, its operands and what it gives.
+const CALLS: &[(Call, Pair, Pair, Option<Pair>)] = &[
+    (Call::Over, (4, 1), (-6, 1), Some((-2, 3))),
+    (Call::Over, (-4, 1), (-6, 1), Some((2, 3))),
+    (Call::Over, (0, 1), (-5, 1), Some((0, 1))),
+    (Call::Over, (1, 1), (0, 1), None),
+    (Call::Over, (-MAX, 1), (MAX, 1), Some((-1, 1))),
+    (Call::Mul, (6, 4), (10, -9), Some((-5, 3))),
+    (Call::Mul, (P63, 1), (P63, 1), Some((P126, 1))),
+    (Call::Mul, (P64, 1), (P63, 1), None),
+    (Call::Mul, (-P64, 1), (P63, 1), None),
+    // 2^126 / 3 · 3 / 2 is 2^125, and the product of the numerators is 3 · 2^126.
+    (Call::Mul, (P126, 3), (3, 2), None),
+    (Call::Div, (1, 2), (-1, 3), Some((-3, 2))),
+    (Call::Div, (1, P63), (P63, 1), Some((1, P126))),
+    (Call::Div, (P64, 1), (1, P63), None),
+    (Call::Div, (1, P64), (-P63, 1), None),
+    (Call::Add, (1, 2), (1, 3), Some((5, 6))),
+    (Call::Add, (1, 6), (1, 3), Some((1, 2))),
+    (Call::Add, (P126, 1), (P126 - 1, 1), Some((MAX, 1))),
+    (Call::Add, (P126, 1), (P126, 1), None),
+    // Twice 1 / 2^64 is 1 / 2^63, and the product of the denominators is 2^128.
+    (Call::Add, (1, P64), (1, P64), None),
+    // 2^126 - 2^126 / 3 fits, and the cross product 3 · 2^126 does not.
+    (Call::Add, (P126, 1), (-P126, 3), None),
+    (Call::Sub, (1, 2), (1, 3), Some((1, 6))),
+    (Call::Sub, (1, 2), (1, 2), Some((0, 1))),
+    (Call::Sub, (-P126, 1), (P126 - 1, 1), Some((-MAX, 1))),
+    (Call::Sub, (-P126, 1), (P126, 1), None),
+];
+
 #[test]
 fn gives_the_exact_fraction_or_none(rt: HostRuntime) {
-    let cases = [
-        (Call::Over, (4, 1), (-6, 1), Some((-2, 3))),
-        (Call::Over, (-4, 1), (-6, 1), Some((2, 3))),
-        (Call::Over, (0, 1), (-5, 1), Some((0, 1))),
-        (Call::Over, (1, 1), (0, 1), None),
-        (Call::Over, (-MAX, 1), (MAX, 1), Some((-1, 1))),
-        (Call::Mul, (6, 4), (10, -9), Some((-5, 3))),
-        (Call::Mul, (P63, 1), (P63, 1), Some((P126, 1))),
-        (Call::Mul, (P64, 1), (P63, 1), None),
-        (Call::Mul, (-P64, 1), (P63, 1), None),
-        // 2^126 / 3 · 3 / 2 is 2^125, and the product of the numerators is 3 · 2^126.
-        (Call::Mul, (P126, 3), (3, 2), None),
-        (Call::Div, (1, 2), (-1, 3), Some((-3, 2))),
-        (Call::Div, (1, P63), (P63, 1), Some((1, P126))),
-        (Call::Div, (P64, 1), (1, P63), None),
-        (Call::Div, (1, P64), (-P63, 1), None),
-        (Call::Add, (1, 2), (1, 3), Some((5, 6))),
-        (Call::Add, (1, 6), (1, 3), Some((1, 2))),
-        (Call::Add, (P126, 1), (P126 - 1, 1), Some((MAX, 1))),
-        (Call::Add, (P126, 1), (P126, 1), None),
-        // Twice 1 / 2^64 is 1 / 2^63, and the product of the denominators is 2^128.
-        (Call::Add, (1, P64), (1, P64), None),
-        // 2^126 - 2^126 / 3 fits, and the cross product 3 · 2^126 does not.
-        (Call::Add, (P126, 1), (-P126, 3), None),
-        (Call::Sub, (1, 2), (1, 3), Some((1, 6))),
-        (Call::Sub, (1, 2), (1, 2), Some((0, 1))),
-        (Call::Sub, (-P126, 1), (P126 - 1, 1), Some((-MAX, 1))),
-        (Call::Sub, (-P126, 1), (P126, 1), None),
-    ];
-    for (call, left, right, want) in cases {
-        let left = Fraction::new(left.0, left.1).expect(&rt, "the left operand is a fraction");
-        let right = Fraction::new(right.0, right.1).expect(&rt, "the right operand is a fraction");
-        assert_eq!(rt;
-            answer(call, &left, &right),
-            want,
-            "{call:?} of {left:?} and {right:?}"
-        );
+    for (call, left, right, want) in CALLS {
+        let found = answer(*call, &operand(&rt, *left), &operand(&rt, *right));
+        assert_eq!(rt; found, *want, "{call:?} of {left:?} and {right:?}");
     }
     assert!(rt; Fraction::new(MIN, 1).is_none());
     assert!(rt; Fraction::new(1, MIN).is_none());
 }
 
+/// Two fractions and their order.
+const ORDERS: &[(Pair, Pair, Ordering)] = &[
+    // 1 + 1 / (MAX - 1) and 1 + 1 / (MAX - 2)
+    ((MAX, MAX - 1), (MAX - 1, MAX - 2), Ordering::Less),
+    ((-MAX, MAX - 1), (MAX - 1, 2 - MAX), Ordering::Greater),
+    ((1, -2), (1, 3), Ordering::Less),
+    ((1, 3), (-1, 2), Ordering::Greater),
+    ((-1, 2), (-1, 3), Ordering::Less),
+    ((3, -6), (-1, 2), Ordering::Equal),
+    ((0, 5), (0, -7), Ordering::Equal),
+    ((7, 3), (5, 2), Ordering::Less),
+    ((MAX, P62), (MAX - 1, P62), Ordering::Greater),
+];
+
 #[test]
 fn compares_where_cross_products_pass_128_bits(rt: HostRuntime) {
-    let cases = [
-        // 1 + 1 / (MAX - 1) and 1 + 1 / (MAX - 2)
-        ((MAX, MAX - 1), (MAX - 1, MAX - 2), Ordering::Less),
-        ((-MAX, MAX - 1), (MAX - 1, 2 - MAX), Ordering::Greater),
-        ((1, -2), (1, 3), Ordering::Less),
-        ((1, 3), (-1, 2), Ordering::Greater),
-        ((-1, 2), (-1, 3), Ordering::Less),
-        ((3, -6), (-1, 2), Ordering::Equal),
-        ((0, 5), (0, -7), Ordering::Equal),
-        ((7, 3), (5, 2), Ordering::Less),
-        ((MAX, P62), (MAX - 1, P62), Ordering::Greater),
-    ];
-    for (left, right, want) in cases {
-        let left = Fraction::new(left.0, left.1).expect(&rt, "the left operand is a fraction");
-        let right = Fraction::new(right.0, right.1).expect(&rt, "the right operand is a fraction");
-        assert_eq!(rt; left.compare(&right), want, "{left:?} against {right:?}");
+    for (left, right, want) in ORDERS {
+        let found = operand(&rt, *left).compare(&operand(&rt, *right));
+        assert_eq!(rt; found, *want, "{left:?} against {right:?}");
     }
     let least = Fraction::whole(i64::MIN);
     assert_eq!(rt; (least.num(), least.den()), (-P63, 1));

@@ -1,23 +1,22 @@
 use dd_lattice::{Box3, Cell, LatticeFault, Position, centred_box, in_order, positions};
 use std::test::Fail;
 
-fn at(x: i32, y: i32, z: i32) -> Option<Position> {
-    Position::new(x, y, z)
-}
+/// A dimension, a radius, and the numbers of positions of the box and of the box grown by 1.
+const BOXES: &[(u32, u32, usize, usize)] = &[(1, 2, 5, 7), (2, 1, 9, 25), (3, 1, 27, 125)];
 
 #[test]
 fn boxes_and_their_growth(rt: HostRuntime) -> Result<(), Fail> {
-    for (dim, radius, volume, grown) in [(1, 2, 5, 7), (2, 1, 9, 25), (3, 1, 27, 125)] {
-        assert!(rt; 1 <= dim && dim <= 3);
-        let b = centred_box(dim, radius).ok_or("the radius is small")?;
+    for (dim, radius, volume, grown) in BOXES {
+        assert!(rt; 1 <= *dim && *dim <= 3);
+        let b = centred_box(*dim, *radius).ok_or("the radius is small")?;
         let region = positions(rt.alloc(), &b)?;
-        let larger = region.grow(rt.alloc(), dim, 1)?;
-        let sizes = (b.volume(), region.list().len(), larger.list().len());
-        assert_eq!(rt;
-            sizes,
-            (volume, volume as usize, grown),
-            "in dimension {dim}"
+        let larger = region.grow(rt.alloc(), *dim, 1)?;
+        let sizes = (
+            b.volume() as usize,
+            region.list().len(),
+            larger.list().len(),
         );
+        assert_eq!(rt; (*dim, sizes), (*dim, (*volume, *volume, *grown)));
     }
     Ok(())
 }
@@ -25,7 +24,7 @@ fn boxes_and_their_growth(rt: HostRuntime) -> Result<(), Fail> {
 #[test]
 fn a_region_and_its_copy(rt: HostRuntime) -> Result<(), Fail> {
     let b = centred_box(2, 1).ok_or("the radius is small")?;
-    let step = at(2, 0, 0).ok_or("a small position")?;
+    let step = Position { x: 2, y: 0, z: 0 };
     let region = positions(rt.alloc(), &b)?;
     let moved = region.shifted(rt.alloc(), &step)?;
     let both = region.union(rt.alloc(), &moved)?;
@@ -34,9 +33,16 @@ fn a_region_and_its_copy(rt: HostRuntime) -> Result<(), Fail> {
     Ok(())
 }
 
+/// A dimension, by how much the edge of the range grows, and the fault.
+const GROWN_EDGES: &[(u32, u32, Option<LatticeFault>)] = &[
+    (1, 0, None),
+    (1, 1, Some(LatticeFault::Range)),
+    (3, 1_048_577, Some(LatticeFault::Range)),
+];
+
 #[test]
 fn the_edge_of_the_range(rt: HostRuntime) -> Result<(), Fail> {
-    let edge = at(1_048_576, 0, 0).ok_or("the edge is in range")?;
+    let edge = Position::new(1_048_576, 0, 0).ok_or("the edge is in range")?;
     let region = positions(
         rt.alloc(),
         &Box3 {
@@ -44,38 +50,34 @@ fn the_edge_of_the_range(rt: HostRuntime) -> Result<(), Fail> {
             high: edge,
         },
     )?;
-    for (dim, by, fault) in [(1, 0, false), (1, 1, true), (3, 1_048_577, true)] {
-        match region.grow(rt.alloc(), dim, by) {
-            Ok(_) => assert!(rt; !fault, "by {by}"),
-            Err(e) => assert!(rt; fault && e == LatticeFault::Range, "by {by}"),
-        }
+    for (dim, by, fault) in GROWN_EDGES {
+        assert!(rt; 1 <= *dim && *dim <= 3);
+        let found = region.grow(rt.alloc(), *dim, *by).err();
+        assert_eq!(rt; (*by, found), (*by, *fault));
     }
     Ok(())
 }
 
+const ORIGIN: Position = Position { x: 0, y: 0, z: 0 };
+
+const FIRST: Cell = Cell {
+    position: ORIGIN,
+    node: 0,
+};
+
+const SECOND: Cell = Cell {
+    position: ORIGIN,
+    node: 1,
+};
+
+const ABOVE: Cell = Cell {
+    position: Position { x: -1, y: 1, z: 0 },
+    node: 0,
+};
+
 #[test]
 fn cells_in_order(rt: HostRuntime) -> Result<(), Fail> {
-    let origin = at(0, 0, 0).ok_or("a small position")?;
-    let above = at(-1, 1, 0).ok_or("a small position")?;
-    let cells = [
-        Cell {
-            position: above,
-            node: 0,
-        },
-        Cell {
-            position: origin,
-            node: 1,
-        },
-        Cell {
-            position: origin,
-            node: 0,
-        },
-        Cell {
-            position: origin,
-            node: 1,
-        },
-    ];
-    let sorted = in_order(rt.alloc(), &cells)?;
-    assert_eq!(rt; sorted.as_slice(), &[cells[2], cells[1], cells[0]][..]);
+    let sorted = in_order(rt.alloc(), &[ABOVE, SECOND, FIRST, SECOND])?;
+    assert_eq!(rt; sorted.as_slice(), &[FIRST, SECOND, ABOVE][..]);
     Ok(())
 }

@@ -16,6 +16,8 @@ mod engines;
 #[cfg(test)]
 mod fractions;
 #[cfg(test)]
+mod guessing;
+#[cfg(test)]
 mod lattice;
 #[cfg(test)]
 mod outside;

@@ -5,6 +5,7 @@ use dd_derivation::{Marks, Outcome, Step, check_refutation};
 use dd_solver::{solve, trimmed};
 use dd_values::Items;
 use std::alloc::{AllocError, Global};
+use std::process::Abort;
 use std::test::Fail;
 
 fn clause_of(alloc: Global, numbers: &[i32]) -> Result<Clause, AllocError> {
@@ -78,75 +79,107 @@ fn answer(alloc: Global, cnf: &Cnf) -> Result<&'static str, AllocError> {
     Ok("wrong")
 }
 
+/// Seven things in six holes.
+fn seven_in_six(alloc: Global) -> Result<Vec<i32>, AllocError> {
+    let mut numbers = Vec::new(alloc);
+    push_crowded(&mut numbers, 1, 6)?;
+    Ok(numbers)
+}
+
+/// Four things in three holes, and 40 variables before them with clauses of their own, which most of their values
+/// satisfy. A search that learns nothing refutes the last clauses once for each of these values.
+fn four_in_three(alloc: Global) -> Result<Vec<i32>, AllocError> {
+    let mut numbers = Vec::new(alloc);
+    for pair in 0..20u8 {
+        numbers.push(i32::from(2 * pair + 1))?;
+        numbers.push(i32::from(2 * pair + 2))?;
+        numbers.push(0)?;
+    }
+    push_crowded(&mut numbers, 41, 3)?;
+    Ok(numbers)
+}
+
+/// A number of variables, the number of the clauses, their literals, and the answer. In the first two the variable 3 is
+/// the conjunction of 1 and 2, of which one has to be true and one false.
+const CASES: &[(u8, usize, &[i32], &str)] = &[
+    (
+        3,
+        6,
+        &[1, 2, 0, -1, -2, 0, -3, 1, 0, -3, 2, 0, 3, -1, -2, 0, 3, 0],
+        "refuted",
+    ),
+    (
+        3,
+        5,
+        &[1, 2, 0, -1, -2, 0, -3, 1, 0, -3, 2, 0, 3, -1, -2, 0],
+        "found",
+    ),
+    (0, 0, &[], "found"),
+    (3, 0, &[], "found"),
+    (0, 1, &[0], "refuted"),
+    (1, 2, &[1, 1, 0, -1, 0], "refuted"),
+    (2, 3, &[1, -1, 0, 2, -2, 2, 0, -2, 0], "found"),
+    (
+        3,
+        5,
+        &[1, 2, 3, 0, -1, 2, 0, -2, 3, 0, -3, 1, 0, -1, -2, -3, 0],
+        "refuted",
+    ),
+];
+
+/// Asserts how many clauses the numbers make, and what is answered.
+fn assert_answer(
+    rt: &impl Abort,
+    alloc: Global,
+    variables: u8,
+    numbers: &[i32],
+    wanted: (usize, &str),
+) -> Result<(), AllocError> {
+    let cnf = cnf_of(alloc, variables, numbers)?;
+    let found = (cnf.clauses().len(), answer(alloc, &cnf)?);
+    assert_eq!(rt; found, wanted, "of {numbers:?}");
+    Ok(())
+}
+
 #[test]
 fn finds_or_refutes(rt: HostRuntime) -> Result<(), Fail> {
     let alloc = rt.alloc();
-    // Seven things in six holes.
-    let mut seven: Vec<i32> = Vec::new(alloc);
-    push_crowded(&mut seven, 1, 6)?;
-    // Four things in three holes, and 40 variables before them with clauses of their own, which most of their values
-    // satisfy. A search that learns nothing refutes the last clauses once for each of these values.
-    let mut four: Vec<i32> = Vec::new(alloc);
-    for pair in 0..20u8 {
-        four.push(i32::from(2 * pair + 1))?;
-        four.push(i32::from(2 * pair + 2))?;
-        four.push(0)?;
+    for (variables, count, numbers, want) in CASES {
+        assert_answer(&rt, alloc, *variables, numbers, (*count, *want))?;
     }
-    push_crowded(&mut four, 41, 3)?;
-    // In the first two the variable 3 is the conjunction of 1 and 2, of which one has to be true and one false.
-    let cases: [(u8, usize, &[i32], &str); 10] = [
-        (
-            3,
-            6,
-            &[1, 2, 0, -1, -2, 0, -3, 1, 0, -3, 2, 0, 3, -1, -2, 0, 3, 0],
-            "refuted",
-        ),
-        (
-            3,
-            5,
-            &[1, 2, 0, -1, -2, 0, -3, 1, 0, -3, 2, 0, 3, -1, -2, 0],
-            "found",
-        ),
-        (0, 0, &[], "found"),
-        (3, 0, &[], "found"),
-        (0, 1, &[0], "refuted"),
-        (1, 2, &[1, 1, 0, -1, 0], "refuted"),
-        (2, 3, &[1, -1, 0, 2, -2, 2, 0, -2, 0], "found"),
-        (
-            3,
-            5,
-            &[1, 2, 3, 0, -1, 2, 0, -2, 3, 0, -3, 1, 0, -1, -2, -3, 0],
-            "refuted",
-        ),
-        (52, 42, four.as_slice(), "refuted"),
-        (42, 133, seven.as_slice(), "refuted"),
-    ];
-    for (variables, count, numbers, want) in cases {
-        let cnf = cnf_of(alloc, variables, numbers)?;
-        assert_eq!(rt; cnf.clauses().len(), count, "of {numbers:?}");
-        assert_eq!(rt; answer(alloc, &cnf)?, want, "of {numbers:?}");
-    }
+    let four = four_in_three(alloc)?;
+    assert_answer(&rt, alloc, 52, four.as_slice(), (42, "refuted"))?;
+    let seven = seven_in_six(alloc)?;
+    assert_answer(&rt, alloc, 42, seven.as_slice(), (133, "refuted"))?;
     Ok(())
+}
+
+/// Four clauses over two variables, which nothing satisfies.
+const SQUARE: &[i32] = &[1, 2, 0, -1, 2, 0, 1, -2, 0, -1, -2, 0];
+
+fn step_of(alloc: Global, clause: &[i32], hints: &[u64]) -> Result<Step, AllocError> {
+    Ok(Step {
+        clause: clause_of(alloc, clause)?,
+        hints: Items::from_slice(alloc, hints)?,
+        deletes: Items::new(alloc),
+    })
+}
+
+/// Three steps that refute these clauses, of which the first is not used.
+fn three_steps(alloc: Global) -> Result<Items<Step>, AllocError> {
+    let mut steps = Items::new(alloc);
+    steps.push(step_of(alloc, &[1], &[1, 3])?)?;
+    steps.push(step_of(alloc, &[2], &[1, 2])?)?;
+    steps.push(step_of(alloc, &[], &[6, 3, 4])?)?;
+    Ok(steps)
 }
 
 // The first of the three steps is not used, so the others have lesser numbers.
 #[test]
 fn leaves_out_a_step_that_is_not_used(rt: HostRuntime) -> Result<(), Fail> {
     let alloc = rt.alloc();
-    let cnf = cnf_of(
-        alloc,
-        2,
-        [1, 2, 0, -1, 2, 0, 1, -2, 0, -1, -2, 0].as_slice(),
-    )?;
-    let cases: [(&[i32], &[u64]); 3] = [(&[1], &[1, 3]), (&[2], &[1, 2]), (&[], &[6, 3, 4])];
-    let mut steps = Items::new(alloc);
-    for (clause, hints) in cases {
-        steps.push(Step {
-            clause: clause_of(alloc, clause)?,
-            hints: Items::from_slice(alloc, hints)?,
-            deletes: Items::new(alloc),
-        })?;
-    }
+    let cnf = cnf_of(alloc, 2, SQUARE)?;
+    let steps = three_steps(alloc)?;
     let mut marks = Marks::new(alloc, &cnf, steps.as_slice())?;
     assert!(rt; check_refutation(&cnf, steps.as_slice(), &mut marks));
     let fewer = trimmed(alloc, &cnf, steps)?;

@@ -1,26 +1,26 @@
-// Texts, with the lengths of their tokens and the place where these stop.
 use dd_tokens::tokens;
 use std::test::Fail;
 
+/// Texts, with the lengths of their tokens and the place where these stop.
+const CUTS: &[(&[u8], &[u32], u32)] = &[
+    (b"", &[], 0),
+    (b"Ap[o1q3]", &[1, 1, 1, 1, 1, 1, 1, 1], 8),
+    (b"o.up = 10 -> -5", &[1, 1, 2, 1, 2, 2, 2], 15),
+    (b"a <-> b != c", &[1, 3, 1, 2, 1], 12),
+    (b"a -->b\nc--", &[1, 1], 10),
+    (b"a <-->", &[1], 2),
+    (b"x 007", &[1], 2),
+    (b"x -0", &[1], 2),
+    (b"x -- \xc3\n", &[1], 5),
+    (b"xX", &[1], 1),
+];
+
 #[test]
 fn cuts(rt: HostRuntime) -> Result<(), Fail> {
-    let rows: [(&[u8], &[u32], u32); 10] = [
-        (b"", &[], 0),
-        (b"Ap[o1q3]", &[1, 1, 1, 1, 1, 1, 1, 1], 8),
-        (b"o.up = 10 -> -5", &[1, 1, 2, 1, 2, 2, 2], 15),
-        (b"a <-> b != c", &[1, 3, 1, 2, 1], 12),
-        (b"a -->b\nc--", &[1, 1], 10),
-        (b"a <-->", &[1], 2),
-        (b"x 007", &[1], 2),
-        (b"x -0", &[1], 2),
-        (b"x -- \xc3\n", &[1], 5),
-        (b"xX", &[1], 1),
-    ];
-    for (bytes, lengths, stop) in rows {
+    for (bytes, lengths, stop) in CUTS {
         let cut = tokens(rt.alloc(), bytes)?;
-        assert_eq!(rt; cut.stop, stop);
-        assert_eq!(rt; cut.list.len(), lengths.len());
-        for (token, length) in cut.list.as_slice().iter().zip(lengths) {
+        assert_eq!(rt; (cut.stop, cut.list.len()), (*stop, lengths.len()));
+        for (token, length) in cut.list.as_slice().iter().zip(*lengths) {
             assert_eq!(rt; token.length, *length);
         }
     }

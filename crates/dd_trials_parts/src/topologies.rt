@@ -27,61 +27,65 @@ fn ball_of(alloc: Global, kind: Kind, node: u32, radius: u32) -> Result<Vec<Cell
     Ok(topology.ball(alloc, &Cell { position, node }, radius)?)
 }
 
+/// A kind, the node in the middle, a radius, and the cells of the ball.
+const DRAWN: &[(Kind, u32, u32, &str)] = &[
+    (
+        Kind::Line,
+        0,
+        2,
+        " -2,0,0/0 -1,0,0/0 0,0,0/0 1,0,0/0 2,0,0/0",
+    ),
+    (
+        Kind::Square,
+        0,
+        1,
+        " 0,-1,0/0 -1,0,0/0 0,0,0/0 1,0,0/0 0,1,0/0",
+    ),
+    (
+        Kind::King,
+        0,
+        1,
+        " -1,-1,0/0 0,-1,0/0 1,-1,0/0 -1,0,0/0 0,0,0/0 1,0,0/0 -1,1,0/0 0,1,0/0 1,1,0/0",
+    ),
+    (
+        Kind::Triangle,
+        0,
+        1,
+        " -1,-1,0/0 0,-1,0/0 -1,0,0/0 0,0,0/0 1,0,0/0 0,1,0/0 1,1,0/0",
+    ),
+    (Kind::Hex, 0, 1, " 0,-1,0/1 -1,0,0/1 0,0,0/0 0,0,0/1"),
+    (Kind::Hex, 1, 1, " 0,0,0/0 0,0,0/1 1,0,0/0 0,1,0/0"),
+    (
+        Kind::Cube,
+        0,
+        1,
+        " 0,0,-1/0 0,-1,0/0 -1,0,0/0 0,0,0/0 1,0,0/0 0,1,0/0 0,0,1/0",
+    ),
+];
+
 #[test]
 fn balls_are_those_drawn_by_hand(rt: HostRuntime) -> Result<(), Fail> {
     let alloc = rt.alloc();
-    let drawn = [
-        (
-            Kind::Line,
-            0,
-            2,
-            " -2,0,0/0 -1,0,0/0 0,0,0/0 1,0,0/0 2,0,0/0",
-        ),
-        (
-            Kind::Square,
-            0,
-            1,
-            " 0,-1,0/0 -1,0,0/0 0,0,0/0 1,0,0/0 0,1,0/0",
-        ),
-        (
-            Kind::King,
-            0,
-            1,
-            " -1,-1,0/0 0,-1,0/0 1,-1,0/0 -1,0,0/0 0,0,0/0 1,0,0/0 -1,1,0/0 0,1,0/0 1,1,0/0",
-        ),
-        (
-            Kind::Triangle,
-            0,
-            1,
-            " -1,-1,0/0 0,-1,0/0 -1,0,0/0 0,0,0/0 1,0,0/0 0,1,0/0 1,1,0/0",
-        ),
-        (Kind::Hex, 0, 1, " 0,-1,0/1 -1,0,0/1 0,0,0/0 0,0,0/1"),
-        (Kind::Hex, 1, 1, " 0,0,0/0 0,0,0/1 1,0,0/0 0,1,0/0"),
-        (
-            Kind::Cube,
-            0,
-            1,
-            " 0,0,-1/0 0,-1,0/0 -1,0,0/0 0,0,0/0 1,0,0/0 0,1,0/0 0,0,1/0",
-        ),
-    ];
-    for (kind, node, radius, cells) in drawn {
-        let text = text_of(alloc, &ball_of(alloc, kind, node, radius)?)?;
-        assert_eq!(rt; text.as_str(), cells);
+    for (kind, node, radius, cells) in DRAWN {
+        let text = text_of(alloc, &ball_of(alloc, *kind, *node, *radius)?)?;
+        assert_eq!(rt; text.as_str(), *cells);
     }
     Ok(())
 }
 
+/// A kind, a radius, and the number of cells of the ball.
+const COUNTS: &[(Kind, u32, usize)] = &[
+    (Kind::King, 3, 49),
+    (Kind::Triangle, 3, 37),
+    (Kind::Hex, 3, 19),
+    (Kind::Cube, 3, 63),
+    (Kind::Square, 60, 7321),
+];
+
 #[test]
 fn balls_have_the_numbers_of_cells_of_their_lattices(rt: HostRuntime) -> Result<(), Fail> {
-    let counts = [
-        (Kind::King, 3, 49),
-        (Kind::Triangle, 3, 37),
-        (Kind::Hex, 3, 19),
-        (Kind::Cube, 3, 63),
-        (Kind::Square, 60, 7321),
-    ];
-    for (kind, radius, count) in counts {
-        assert_eq!(rt; ball_of(rt.alloc(), kind, 0, radius)?.len(), count);
+    for (kind, radius, count) in COUNTS {
+        assert_eq!(rt; ball_of(rt.alloc(), *kind, 0, *radius)?.len(), *count);
     }
     Ok(())
 }
@@ -138,23 +142,25 @@ fn a_move_is_missing_where_no_edge_leaves(rt: HostRuntime) -> Result<(), Fail> {
     Ok(())
 }
 
+/// A node, a symbol, and whether the node allows it where the second node is restricted to the symbols 2 and 0.
+const ALLOWED: &[(u32, u32, bool)] = &[
+    (0, 0, true),
+    (0, 1, true),
+    (0, 2, true),
+    (1, 0, true),
+    (1, 1, false),
+    (1, 2, true),
+    (1, 3, false),
+];
+
 #[test]
 fn a_node_allows_the_symbols_to_which_it_is_restricted(rt: HostRuntime) -> Result<(), Fail> {
     let mut sets = Sets::new(rt.alloc(), 2, 3)?;
     sets.restrict(1, &[2, 0]);
-    let answers = [
-        (0, 0, true),
-        (0, 1, true),
-        (0, 2, true),
-        (1, 0, true),
-        (1, 1, false),
-        (1, 2, true),
-        (1, 3, false),
-    ];
     let copy = sets.copy(rt.alloc())?;
-    for (node, symbol, allowed) in answers {
-        assert!(rt; node < 2);
-        assert_eq!(rt; copy.allows(node, symbol), allowed);
+    for (node, symbol, allowed) in ALLOWED {
+        assert!(rt; *node < 2);
+        assert_eq!(rt; copy.allows(*node, *symbol), *allowed);
     }
     Ok(())
 }

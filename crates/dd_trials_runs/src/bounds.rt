@@ -79,11 +79,22 @@ const DISCHARGES: [(&str, &str); 16] = [
     ),
 ];
 
-// The whole answer, with its amounts and duals.
-const BOUND_OF_COVERS: [(&str, &str); 1] = [(
-    "%dim 1 %rule cover o=1 | o.rt=1 %discharge cover 0 0 [1]",
-    "query 1 BOUND 1/2\ndenominator 2\namounts 0 1\nduals 0 1 1\n",
-)];
+// Whole answers, with their amounts and duals. What their bounds say of small boxes is in docs/wrong-bodies.md: a 0 has a 1 in front of
+// it, or three steps away; and the rule stands two cells to the left of the cell that it speaks of, so that the margin shows it.
+const WHOLE_BOUNDS: [(&str, &str); 3] = [
+    (
+        "%dim 1 %rule cover o=1 | o.rt=1 %discharge cover 0 0 [1]",
+        "query 1 BOUND 1/2\ndenominator 2\namounts 0 1\nduals 0 1 1\n",
+    ),
+    (
+        "%rule far o=1 | o.lt.lt.dn=1 %discharge far 0 0 [2 1]",
+        "query 1 BOUND 1/2\ndenominator 2\namounts 0 1\nduals 0 1 1\n",
+    ),
+    (
+        "%dim 1 %rule ahead o.rt.rt=1 %discharge ahead 0 1 [1]",
+        "query 1 BOUND 1/1\ndenominator 1\namounts 0 0\nduals 1 0\n",
+    ),
+];
 
 const COVERS: &str = "%dim 1 %rule cover o=1 | o.rt=1 %density cover [] %discharge cover 0 0 [1]";
 
@@ -151,6 +162,6 @@ const CHECKED: [(&str, bool); 14] = [
 fn discharges(rt: HostRuntime) -> Result<(), Fail> {
     let alloc = rt.alloc();
     assert_lines(&rt, alloc, &DISCHARGES)?;
-    assert_answers(&rt, alloc, &BOUND_OF_COVERS)?;
+    assert_answers(&rt, alloc, &WHOLE_BOUNDS)?;
     assert_checks(&rt, alloc, COVERS, &CHECKED)
 }

@@ -1,43 +1,265 @@
 // Checks of outputs: what is accepted, rejected and refused.
+use crate::runs::words_of;
+use dd_engines::Roster;
 use dd_outside::{MemorySink, MemorySource};
-use dd_session::{Status, check_diddy};
+use dd_session::{Status, run_diddy};
 use std::alloc::Global;
 use std::process::Abort;
 use std::test::Fail;
 
-// The script of the outputs below, with the lines before it and the line behind it.
-const HEAD: &str = "diddy 1\nscript 34\n%dim 1\n%rule x o=0 & o=1\n%empty x\n\n";
+/// The output of a run whose one answer is a refutation of six clauses.
+pub(crate) const OUTPUT: &str =
+    "diddy 1\nscript 34\n%dim 1\n%rule x o=0 & o=1\n%empty x\n\nquery 1 YES 0\nrefutation 1\nstep 0 6 3 4 2 0 0\nend\n";
 
-// What follows it, the status, and what the check writes.
-const TAILS: [(&str, Status, &str); 6] = [
+// The answer.
+const ANSWER: &str = "query 1 YES 0\nrefutation 1\nstep 0 6 3 4 2 0 0\n";
+
+// Each row of these tables has a part of the output, which stands in it once, what stands there in its place, the status of a
+// check, and what it writes.
+
+// Lines that are no lines of an output, refused where the longest front of some output ends.
+const LINES: [(&str, &str, Status, &str); 16] = [
+    ("diddy 1", "Diddy 1", Status::Refused, "refused at 0\n"),
+    ("diddy 1", "diddy 2", Status::Refused, "refused at 6\n"),
+    ("diddy 1\n", "diddy 1 \n", Status::Refused, "refused at 7\n"),
     (
-        "query 1 YES 0\nrefutation 1\nstep 0 6 3 4 2 0 0\nend\n",
-        Status::Definite,
-        "query 1 accepted\nchecked 1\n",
+        "diddy 1\n",
+        "diddy 1\r\n",
+        Status::Refused,
+        "refused at 7\n",
     ),
-    // The steps refute nothing.
+    ("query 1", "query 2", Status::Refused, "refused at 59\n"),
+    ("query 1", "query 0", Status::Refused, "refused at 59\n"),
+    ("query 1", "query  1", Status::Refused, "refused at 59\n"),
+    ("YES 0", "MAYBE", Status::Refused, "refused at 61\n"),
+    // There is at least one step, and there are as many as are said.
     (
-        "query 1 YES 0\nrefutation 1\nstep 0 6 4 2 0 0\nend\n",
-        Status::Rejected,
-        "query 1 rejected\n",
+        "refutation 1",
+        "refutation 0",
+        Status::Refused,
+        "refused at 78\n",
     ),
-    // An answer too many, and one too few.
     (
-        "query 1 UNKNOWN limits\nquery 2 UNKNOWN limits\nend\n",
-        Status::Rejected,
-        "query 1 accepted\nquery 2 rejected\n",
-    ),
-    ("end\n", Status::Rejected, "query 1 rejected\n"),
-    // Cut before the end, and a number with a leading zero.
-    (
-        "query 1 YES 0\nrefutation 1\nstep 0 6 3 4 2 0 0\n",
+        "refutation 1",
+        "refutation 2",
         Status::Refused,
         "refused at 99\n",
     ),
     (
-        "query 1 YES 00\nrefutation 1\nstep 0 6 3 4 2 0 0\nend\n",
+        "step 0 6 3 4 2 0 0\n",
+        "",
         Status::Refused,
-        "refused at 66\n",
+        "refused at 80\n",
+    ),
+    (
+        "2 0 0\n",
+        "2 0 0\nstep 0 6 3 4 2 0 0\n",
+        Status::Refused,
+        "refused at 99\n",
+    ),
+    ("2 0 0", "2 0 0 0", Status::Refused, "refused at 98\n"),
+    // Nothing stands behind the end.
+    ("end\n", "end", Status::Refused, "refused at 102\n"),
+    ("end\n", "end\n\n", Status::Refused, "refused at 103\n"),
+    ("end\n", "end\nend\n", Status::Refused, "refused at 103\n"),
+];
+
+// Numbers with a leading zero, and numbers up to their limits and past them.
+const NUMBERS: [(&str, &str, Status, &str); 11] = [
+    ("YES 0", "YES 00", Status::Refused, "refused at 66\n"),
+    ("YES 0", "YES -0", Status::Refused, "refused at 65\n"),
+    (
+        "YES 0",
+        "YES 1099511627776",
+        Status::Rejected,
+        "query 1 rejected\n",
+    ),
+    (
+        "YES 0",
+        "YES 1099511627777",
+        Status::Refused,
+        "refused at 77\n",
+    ),
+    ("step 0 6", "step -0 6", Status::Refused, "refused at 86\n"),
+    ("step 0 6", "step 0 06", Status::Refused, "refused at 88\n"),
+    (
+        "step 0 6",
+        "step 16777216 0 6",
+        Status::Rejected,
+        "query 1 rejected\n",
+    ),
+    (
+        "step 0 6",
+        "step 16777217 0 6",
+        Status::Refused,
+        "refused at 92\n",
+    ),
+    (
+        "6 3 4 2",
+        "18446744073709551615",
+        Status::Rejected,
+        "query 1 rejected\n",
+    ),
+    (
+        "6 3 4 2",
+        "18446744073709551616",
+        Status::Refused,
+        "refused at 106\n",
+    ),
+    ("6 3 4 2", "-6 3 4 2", Status::Refused, "refused at 87\n"),
+];
+
+// Scripts of another length, that are none, or that ask something else.
+const SCRIPTS: [(&str, &str, Status, &str); 9] = [
+    ("script 34", "script 33", Status::Refused, "refused at 52\n"),
+    ("script 34", "script 35", Status::Refused, "refused at 53\n"),
+    (
+        "script 34",
+        "script 034",
+        Status::Refused,
+        "refused at 16\n",
+    ),
+    // All that follows could be the front of so long a script, but of no longer one.
+    (
+        "script 34",
+        "script 1048576",
+        Status::Refused,
+        "refused at 108\n",
+    ),
+    (
+        "script 34",
+        "script 1048577",
+        Status::Refused,
+        "refused at 21\n",
+    ),
+    (
+        "%empty x",
+        "%empty y",
+        Status::Refused,
+        "refused script 3 unknown y\n",
+    ),
+    (
+        "%empty x",
+        "%empty .",
+        Status::Refused,
+        "refused script 3 syntax\n",
+    ),
+    (
+        "o=0 & o=1",
+        "o=0 | o=1",
+        Status::Rejected,
+        "query 1 rejected\n",
+    ),
+    (
+        "%empty x",
+        "-- empty",
+        Status::Rejected,
+        "query 1 rejected\n",
+    ),
+];
+
+// Another box, and hints and deletes that refute its clauses or don't.
+const STEPS: [(&str, &str, Status, &str); 13] = [
+    ("YES 0", "YES 5", Status::Rejected, "query 1 rejected\n"),
+    ("YES 0", "YES 9", Status::Rejected, "query 1 rejected\n"),
+    (
+        "6 3 4 2",
+        "6 4 3 2",
+        Status::Definite,
+        "query 1 accepted\nchecked 1\n",
+    ),
+    // A hint too few, hints in an order in which the first is not a unit, and one after the conflict.
+    ("6 3 4 2", "6 4 2", Status::Rejected, "query 1 rejected\n"),
+    ("6 3 4 2", "6 3 4", Status::Rejected, "query 1 rejected\n"),
+    ("6 3 4 2", "3 4 2 6", Status::Rejected, "query 1 rejected\n"),
+    ("6 3 4 2", "6 3 4 5", Status::Rejected, "query 1 rejected\n"),
+    (
+        "6 3 4 2",
+        "6 3 4 2 2",
+        Status::Rejected,
+        "query 1 rejected\n",
+    ),
+    // A last step whose clause is not empty.
+    (
+        "step 0 6",
+        "step 1 0 6",
+        Status::Rejected,
+        "query 1 rejected\n",
+    ),
+    (
+        "2 0 0",
+        "2 0 6 0",
+        Status::Definite,
+        "query 1 accepted\nchecked 1\n",
+    ),
+    // What is no longer there, and the step itself.
+    ("2 0 0", "2 0 6 6 0", Status::Rejected, "query 1 rejected\n"),
+    ("2 0 0", "2 0 7 0", Status::Rejected, "query 1 rejected\n"),
+    ("2 0 0", "2 0 8 0", Status::Rejected, "query 1 rejected\n"),
+];
+
+// Other answers, one too few, and one too many.
+const ANSWERS: [(&str, &str, Status, &str); 11] = [
+    (
+        "end\n",
+        "end\n",
+        Status::Definite,
+        "query 1 accepted\nchecked 1\n",
+    ),
+    (
+        ANSWER,
+        "query 1 UNKNOWN limits\n",
+        Status::SomeUnknown,
+        "query 1 accepted\nchecked 1\n",
+    ),
+    (
+        ANSWER,
+        "query 1 UNKNOWN large\n",
+        Status::Rejected,
+        "query 1 rejected\n",
+    ),
+    (
+        ANSWER,
+        "query 1 UNKNOWN overflow\n",
+        Status::Rejected,
+        "query 1 rejected\n",
+    ),
+    (
+        ANSWER,
+        "query 1 UNKNOWN pivots\n",
+        Status::Rejected,
+        "query 1 rejected\n",
+    ),
+    (
+        ANSWER,
+        "query 1 IN\n",
+        Status::Rejected,
+        "query 1 rejected\n",
+    ),
+    (
+        ANSWER,
+        "query 1 OUT 0 0\n",
+        Status::Rejected,
+        "query 1 rejected\n",
+    ),
+    (
+        ANSWER,
+        "query 1 NO 1\nconf 0\n",
+        Status::Rejected,
+        "query 1 rejected\n",
+    ),
+    (
+        ANSWER,
+        "query 1 YES 0 0\nrefutation 1\nstep 0 6 3 4 2 0 0\nrefutation 1\nstep 0 6 3 4 2 0 0\n",
+        Status::Rejected,
+        "query 1 rejected\n",
+    ),
+    (ANSWER, "", Status::Rejected, "query 1 rejected\n"),
+    (
+        "end\n",
+        "query 2 UNKNOWN limits\nend\n",
+        Status::Rejected,
+        "query 1 accepted\nquery 2 rejected\n",
     ),
 ];
 
@@ -47,32 +269,52 @@ fn assert_check(
     alloc: Global,
     bytes: &[u8],
     status: Status,
-    text: &str,
+    written: &str,
 ) -> Result<(), Fail> {
+    let words = words_of(alloc, "check")?;
     let mut source = MemorySource::new(Vec::from_slice(alloc, bytes)?, 7, Vec::new(alloc));
     let mut sink = MemorySink::new(alloc, 400, 5, Vec::new(alloc))?;
+    let mut roster = Roster::new(Vec::new(alloc));
     assert_eq!(rt;
-        check_diddy(alloc, &mut source, &mut sink),
+        run_diddy(alloc, &words, &mut source, &mut sink, &mut roster),
         status,
-        "{text}"
+        "{written}"
     );
-    assert_eq!(rt; sink.held_bytes(), text.as_bytes(), "{text}");
+    assert_eq!(rt; sink.held_bytes(), written.as_bytes(), "{written}");
+    Ok(())
+}
+
+// Asserts what the check of the output with each of these changes comes to.
+fn assert_changes(
+    rt: &impl Abort,
+    alloc: Global,
+    rows: &[(&str, &str, Status, &str)],
+) -> Result<(), Fail> {
+    for (old, new, status, written) in rows {
+        let output = OUTPUT.replace(alloc, *old, new)?;
+        assert_check(rt, alloc, output.as_bytes(), *status, written)?;
+    }
     Ok(())
 }
 
 #[test]
-fn checks_outputs(rt: HostRuntime) -> Result<(), Fail> {
+fn checks_altered_outputs(rt: HostRuntime) -> Result<(), Fail> {
     let alloc = rt.alloc();
-    for (tail, status, text) in TAILS {
-        let output = format!(in alloc; "{}{tail}", HEAD)?;
-        assert_check(&rt, alloc, output.as_bytes(), status, text)?;
+    assert_changes(&rt, alloc, &LINES)?;
+    assert_changes(&rt, alloc, &NUMBERS)?;
+    assert_changes(&rt, alloc, &SCRIPTS)?;
+    assert_changes(&rt, alloc, &STEPS)?;
+    assert_changes(&rt, alloc, &ANSWERS)
+}
+
+// An output that ends too early is refused at its end.
+#[test]
+fn checks_outputs_that_are_cut(rt: HostRuntime) -> Result<(), Fail> {
+    let alloc = rt.alloc();
+    let bytes = OUTPUT.as_bytes();
+    for length in 0..bytes.len() {
+        let line = format!(in alloc; "refused at {length}\n")?;
+        assert_check(&rt, alloc, &bytes[..length], Status::Refused, line.as_str())?;
     }
-    let no_script = b"diddy 1\nscript 2\n%a\nend\n".as_slice();
-    assert_check(
-        &rt,
-        alloc,
-        no_script,
-        Status::Refused,
-        "refused script 1 syntax\n",
-    )
+    Ok(())
 }

@@ -13,6 +13,8 @@ mod checks;
 #[cfg(test)]
 mod densities;
 #[cfg(test)]
+mod engines;
+#[cfg(test)]
 mod forbidden;
 #[cfg(test)]
 mod formulas;
@@ -21,6 +23,12 @@ mod members;
 #[cfg(test)]
 mod refusals;
 #[cfg(test)]
+mod rosters;
+#[cfg(test)]
 mod runs;
 #[cfg(test)]
+mod samples;
+#[cfg(test)]
 mod statuses;
+#[cfg(test)]
+mod witnesses;

@@ -3,8 +3,13 @@ use crate::formulas;
 use crate::runs::{HARD, assert_answers};
 use std::test::Fail;
 
-// Scripts that ask nothing.
-const NO_QUERIES: [(&str, &str); 3] = [("", ""), ("\t\r\n -- 100% x", ""), ("%rule a o=0", "")];
+// Scripts that ask nothing, the last with the greatest limits.
+const NO_QUERIES: [(&str, &str); 4] = [
+    ("", ""),
+    ("\t\r\n -- 100% x", ""),
+    ("%rule a o=0", ""),
+    ("%limits 8 8 100000", ""),
+];
 
 // Members of rules, and the first cells at which others break them.
 const MEMBERS: [(&str, &str); 7] = [

@@ -89,7 +89,7 @@ const FAULTS_OF_NODES_AND_SHEARS: [(&[u8], &str); 9] = [
 ];
 
 // Limits that are passed.
-const PAST_A_LIMIT: [(&[u8], &str); 15] = [
+const PAST_A_LIMIT: [(&[u8], &str); 16] = [
     (
         b"%rule aaaaaaaaaaaaaaaaaaaaaaaaaaaaaaaaa o=0",
         "1 size word",
@@ -100,6 +100,7 @@ const PAST_A_LIMIT: [(&[u8], &str); 15] = [
     (b"%topology (e 0 [5 0] 0)", "1 size offset"),
     (b"%limits 9 4 10", "1 size limits"),
     (b"%limits 8 0 10", "1 size limits"),
+    (b"%limits 8 8 100001", "1 size limits"),
     (b"%rule a Ap[o4] p=0", "1 size radius"),
     (b"%rule a Ap[o1o1o1o1o1] p=0", "1 size balls"),
     (b"%rule a o=0 %density a [65]", "2 size periods"),
@@ -143,5 +144,37 @@ fn a_long_period_is_no_shorter_one(rt: HostRuntime) -> Result<(), Fail> {
     let text = long_configuration(alloc, 1_000_001)?;
     let (_, output) = run_on(alloc, &text)?;
     assert_eq!(rt; output.as_slice(), b"refused 3 dimension\n".as_slice());
+    Ok(())
+}
+
+const LETTERS: [&str; 10] = ["a", "b", "c", "d", "e", "f", "g", "h", "i", "j"];
+
+fn letter(number: u32) -> &'static str {
+    LETTERS[(number % 10) as usize]
+}
+
+// A thousand rules, each with a name of three letters.
+fn thousand_rules(alloc: Global) -> Result<String, AllocError> {
+    let mut text = String::new(alloc);
+    for number in 0..1000u32 {
+        let (first, second, third) = (letter(number / 100), letter(number / 10), letter(number));
+        text.push_str(format!(in alloc; "%rule {first}{second}{third} o=0\n")?.as_str())?;
+    }
+    Ok(text)
+}
+
+#[test]
+fn a_thousand_commands_are_no_more_than_a_script_has(rt: HostRuntime) -> Result<(), Fail> {
+    let alloc = rt.alloc();
+    let mut text = thousand_rules(alloc)?;
+    let (status, _) = run_on(alloc, text.as_bytes())?;
+    assert_eq!(rt; status, Status::Definite);
+    text.push_str("%rule last o=0\n")?;
+    let (status, output) = run_on(alloc, text.as_bytes())?;
+    assert_eq!(rt; status, Status::Refused);
+    assert_eq!(rt;
+        output.as_slice(),
+        b"refused 1001 size commands\n".as_slice()
+    );
     Ok(())
 }

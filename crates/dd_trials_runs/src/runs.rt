@@ -1,6 +1,7 @@
 // Whole runs over bytes in memory.
+use crate::engines::{Member, NO_ENGINES, OF_PROGRAM, session_over};
 use dd_outside::{MemorySink, MemorySource};
-use dd_session::{Status, check_diddy, run_diddy};
+use dd_session::{Status, check_diddy};
 use std::alloc::{AllocError, Global};
 use std::process::Abort;
 use std::test::Fail;
@@ -9,20 +10,40 @@ use std::test::Fail;
 pub(crate) const HARD: &str =
     "%rule hard o=1 -> (o.rt=0 & o.up=0)\n%conf c [2 2] 1 0 0 1\n%member c hard\n";
 
-/// The words behind the program's name.
-pub(crate) fn words_of(alloc: Global, word: &str) -> Result<Vec<String>, AllocError> {
+/// The words behind the program's name, of a text with one blank between two of them.
+pub(crate) fn words_of(alloc: Global, text: &str) -> Result<Vec<String>, AllocError> {
     let mut words = Vec::new(alloc);
-    words.push(String::from_str(alloc, word)?)?;
+    for word in text.split(' ') {
+        words.push(String::from_str(alloc, word)?)?;
+    }
     Ok(words)
 }
 
-/// The status of a run over these bytes, and what it wrote.
-pub(crate) fn run_on(alloc: Global, bytes: &[u8]) -> Result<(Status, Vec<u8>), AllocError> {
-    let words = words_of(alloc, "run")?;
-    let mut source = MemorySource::new(Vec::from_slice(alloc, bytes)?, 7, Vec::new(alloc));
+/// How a run ended.
+#[derive(Drop)]
+pub(crate) struct Ran {
+    pub(crate) status: Status,
+    pub(crate) output: Vec<u8>,
+    /// How many engines are left.
+    pub(crate) left: usize,
+}
+
+/// A run over these bytes with these engines.
+pub(crate) fn run_over(alloc: Global, bytes: &[u8], members: &[Member]) -> Result<Ran, AllocError> {
     let mut sink = MemorySink::new(alloc, 1_000_000, 5, Vec::new(alloc))?;
-    let status = run_diddy(alloc, &words, &mut source, &mut sink);
-    Ok((status, Vec::from_slice(alloc, sink.held_bytes())?))
+    let (status, left) = session_over(alloc, "run", bytes, members, &mut sink)?;
+    let output = Vec::from_slice(alloc, sink.held_bytes())?;
+    Ok(Ran {
+        status,
+        output,
+        left,
+    })
+}
+
+/// The status of a run over these bytes without engines, and what it wrote.
+pub(crate) fn run_on(alloc: Global, bytes: &[u8]) -> Result<(Status, Vec<u8>), AllocError> {
+    let ran = run_over(alloc, bytes, NO_ENGINES)?;
+    Ok((ran.status, ran.output))
 }
 
 // The status of a check of these bytes.
@@ -47,21 +68,23 @@ fn output_of(alloc: Global, script: &str, answers: &str) -> Result<String, Alloc
     format!(in alloc; "diddy 1\nscript {length}\n{script}\n{answers}end\n")
 }
 
-// The whole output of a run over a script. Asserts that the run and a check of that output end as these lines of answers say.
+// The whole output of a run over a script with these engines. Asserts that the run and a check of that output end as these lines of
+// answers say.
 fn checked_output(
     rt: &impl Abort,
     alloc: Global,
+    members: &[Member],
     script: &str,
     answers: &str,
 ) -> Result<Vec<u8>, Fail> {
-    let (status, output) = run_on(alloc, script.as_bytes())?;
+    let Ran { status, output, .. } = run_over(alloc, script.as_bytes(), members)?;
     assert_eq!(rt; status, status_with(answers), "{script}");
     assert_eq!(rt; check_of(alloc, &output)?, status, "{script}");
     Ok(output)
 }
 
-// The first lines of the answers of an output.
-fn first_lines(alloc: Global, output: Vec<u8>) -> Result<String, Fail> {
+/// The first lines of the answers of an output.
+pub(crate) fn first_lines(alloc: Global, output: Vec<u8>) -> Result<String, Fail> {
     let mut lines = String::new(alloc);
     for line in String::from_utf8(output)?.lines() {
         if line.starts_with("query ") {
@@ -72,16 +95,19 @@ fn first_lines(alloc: Global, output: Vec<u8>) -> Result<String, Fail> {
     Ok(lines)
 }
 
-/// Asserts that a run over the script gives answers with these first lines, and that a check accepts its output.
+/// Asserts that a run over the script gives answers with these first lines, without engines and with those of the program, and
+/// that a check accepts each output.
 pub(crate) fn assert_first_lines(
     rt: &impl Abort,
     alloc: Global,
     script: &str,
     answers: &str,
 ) -> Result<(), Fail> {
-    let output = checked_output(rt, alloc, script, answers)?;
-    let lines = first_lines(alloc, output)?;
-    assert_eq!(rt; lines.as_str(), answers, "{script}");
+    for members in [NO_ENGINES, OF_PROGRAM] {
+        let output = checked_output(rt, alloc, members, script, answers)?;
+        let lines = first_lines(alloc, output)?;
+        assert_eq!(rt; lines.as_str(), answers, "{script}");
+    }
     Ok(())
 }
 
@@ -97,14 +123,14 @@ pub(crate) fn assert_lines(
     Ok(())
 }
 
-/// Asserts that each script has the lines of answers beside it, and that a check accepts the output.
+/// Asserts that each script has the lines of answers beside it without engines, and that a check accepts the output.
 pub(crate) fn assert_answers(
     rt: &impl Abort,
     alloc: Global,
     rows: &[(&str, &str)],
 ) -> Result<(), Fail> {
     for (script, answers) in rows {
-        let output = checked_output(rt, alloc, script, answers)?;
+        let output = checked_output(rt, alloc, NO_ENGINES, script, answers)?;
         let wanted = output_of(alloc, script, answers)?;
         assert_eq!(rt; output.as_slice(), wanted.as_bytes(), "{script}");
     }

@@ -1,18 +1,23 @@
-// How runs end where the input is too long, or where a source or a sink fails.
+// How sessions end where the input is too long, or where a source or a sink fails.
+use crate::checks::OUTPUT;
 use crate::runs::{HARD, words_of};
+use dd_engines::Roster;
 use dd_outside::{MemorySink, MemorySource};
 use dd_session::{Status, run_diddy};
+use std::alloc::{AllocError, Global};
+use std::process::Abort;
 use std::test::Fail;
 
 #[test]
 fn a_long_input_is_refused(rt: HostRuntime) -> Result<(), Fail> {
     let alloc = rt.alloc();
     let words = words_of(alloc, "run")?;
+    let mut roster = Roster::new(Vec::new(alloc));
     let blanks = vec![in alloc; b' '; 1_048_577]?;
     let mut source = MemorySource::new(blanks, 1_000_000, Vec::new(alloc));
     let mut sink = MemorySink::new(alloc, 200, 200, Vec::new(alloc))?;
     assert_eq!(rt;
-        run_diddy(alloc, &words, &mut source, &mut sink),
+        run_diddy(alloc, &words, &mut source, &mut sink, &mut roster),
         Status::Refused
     );
     assert_eq!(rt; sink.held_bytes(), b"refused long\n".as_slice());
@@ -20,36 +25,202 @@ fn a_long_input_is_refused(rt: HostRuntime) -> Result<(), Fail> {
     let mut source = MemorySource::new(blanks, 1_000_000, Vec::new(alloc));
     let mut sink = MemorySink::new(alloc, 1_048_605, 1_000_000, Vec::new(alloc))?;
     assert_eq!(rt;
-        run_diddy(alloc, &words, &mut source, &mut sink),
+        run_diddy(alloc, &words, &mut source, &mut sink, &mut roster),
         Status::Definite
     );
     Ok(())
 }
 
-// The word, the read and the write that fail, the status, and how many bytes of the output are held. The header takes six
-// writes, the answer one, and the last line one.
+// A session without a fault: its word, its input, its status, and what it writes.
+type Session = (&'static str, &'static str, Status, &'static str);
+
+// Sixteen bytes are read and written at most at a time. Each session has the number of its reads, of which the last finds the
+// end, and how many bytes are held where its first, second and further write fails. The lines of a run before the first
+// answer are written together, and each answer by itself, as are the lines of a check.
+const SESSIONS: [(Session, u64, &[usize]); 6] = [
+    (
+        (
+            "run",
+            HARD,
+            Status::Definite,
+            "diddy 1\nscript 73\n%rule hard o=1 -> (o.rt=0 & o.up=0)\n%conf c [2 2] 1 0 0 1\n%member c hard\n\nquery 1 IN\nend\n",
+        ),
+        6,
+        &[0, 16, 32, 48, 64, 80, 92, 103],
+    ),
+    (
+        (
+            "run",
+            "%rule a o=2",
+            Status::Refused,
+            "refused 1 unknown 2\n",
+        ),
+        2,
+        &[0, 16],
+    ),
+    (
+        ("run", "", Status::Definite, "diddy 1\nscript 0\n\nend\n"),
+        1,
+        &[0, 16, 18],
+    ),
+    (
+        (
+            "check",
+            OUTPUT,
+            Status::Definite,
+            "query 1 accepted\nchecked 1\n",
+        ),
+        8,
+        &[0, 16, 17],
+    ),
+    (
+        (
+            "check",
+            "diddy 1\nscript 8\n%empty x\nend\n",
+            Status::Refused,
+            "refused script 1 unknown x\n",
+        ),
+        3,
+        &[0, 16],
+    ),
+    (
+        ("check", "diddy 2\n", Status::Refused, "refused at 6\n"),
+        2,
+        &[0],
+    ),
+];
+
+// The calls that fail, and how much a sink holds.
+#[derive(Clone, Copy, Debug)]
+struct Outside {
+    // The number of the read that fails, from 1; 0 where none does.
+    read: u64,
+    // And of the write.
+    write: u64,
+    capacity: usize,
+}
+
+// The status of a session, and what the sink held after it.
+fn session_over(
+    alloc: Global,
+    session: Session,
+    outside: Outside,
+) -> Result<(Status, Vec<u8>), AllocError> {
+    let (word, input, _, _) = session;
+    let words = words_of(alloc, word)?;
+    let bytes = Vec::from_slice(alloc, input.as_bytes())?;
+    let mut source = MemorySource::new(bytes, 16, vec![in alloc; outside.read]?);
+    let failing = vec![in alloc; outside.write]?;
+    let mut sink = MemorySink::new(alloc, outside.capacity, 16, failing)?;
+    let mut roster = Roster::new(Vec::new(alloc));
+    let status = run_diddy(alloc, &words, &mut source, &mut sink, &mut roster);
+    Ok((status, Vec::from_slice(alloc, sink.held_bytes())?))
+}
+
+// Asserts that the session ends with the status, and that this many bytes of what it writes are held then.
+fn assert_front(
+    rt: &impl Abort,
+    alloc: Global,
+    session: Session,
+    outside: Outside,
+    end: (Status, usize),
+) -> Result<(), Fail> {
+    let (_, _, _, written) = session;
+    let (wanted, held) = end;
+    let (status, bytes) = session_over(alloc, session, outside)?;
+    assert_eq!(rt; status, wanted, "{outside:?} {written}");
+    assert_eq!(rt; bytes.len(), held, "{outside:?} {written}");
+    assert!(rt;
+        written.as_bytes().starts_with(&bytes),
+        "{outside:?} {written}"
+    );
+    Ok(())
+}
+
+// Whichever read fails, nothing is written.
+fn assert_reads(rt: &impl Abort, alloc: Global, session: Session, reads: u64) -> Result<(), Fail> {
+    let (_, _, status, written) = session;
+    let capacity = written.len();
+    for read in 1..=reads {
+        let outside = Outside {
+            read,
+            write: 0,
+            capacity,
+        };
+        assert_front(rt, alloc, session, outside, (Status::ReadFault, 0))?;
+    }
+    let outside = Outside {
+        read: reads.wrapping_add(1),
+        write: 0,
+        capacity,
+    };
+    assert_front(rt, alloc, session, outside, (status, capacity))
+}
+
+// Whichever write fails, what was written before it is held.
+fn assert_writes(
+    rt: &impl Abort,
+    alloc: Global,
+    session: Session,
+    fronts: &[usize],
+) -> Result<(), Fail> {
+    let (_, _, status, written) = session;
+    let capacity = written.len();
+    let mut write = 0u64;
+    for held in fronts {
+        write = write.wrapping_add(1);
+        let outside = Outside {
+            read: 0,
+            write,
+            capacity,
+        };
+        assert_front(rt, alloc, session, outside, (Status::WriteFault, *held))?;
+    }
+    let outside = Outside {
+        read: 0,
+        write: write.wrapping_add(1),
+        capacity,
+    };
+    assert_front(rt, alloc, session, outside, (status, capacity))
+}
+
+// A sink that is too small is filled.
+fn assert_capacities(rt: &impl Abort, alloc: Global, session: Session) -> Result<(), Fail> {
+    let (_, _, _, written) = session;
+    for capacity in 0..written.len() {
+        let outside = Outside {
+            read: 0,
+            write: 0,
+            capacity,
+        };
+        assert_front(rt, alloc, session, outside, (Status::WriteFault, capacity))?;
+    }
+    Ok(())
+}
+
 #[test]
 fn each_fault_has_its_status(rt: HostRuntime) -> Result<(), Fail> {
     let alloc = rt.alloc();
-    let whole = format!(in alloc; "diddy 1\nscript 73\n{}\nquery 1 IN\nend\n", HARD)?;
-    let rows = [
-        ("run", 0, 0, Status::Definite, 107),
-        ("run", 1, 0, Status::ReadFault, 0),
-        ("run", 2, 0, Status::ReadFault, 0),
-        ("run", 0, 1, Status::WriteFault, 0),
-        ("run", 0, 3, Status::WriteFault, 32),
-        ("run", 0, 7, Status::WriteFault, 92),
-        ("run", 0, 8, Status::WriteFault, 103),
-        ("ran", 0, 0, Status::BadWords, 0),
-    ];
-    for (word, read, write, status, held) in rows {
-        let words = words_of(alloc, word)?;
-        let bytes = Vec::from_slice(alloc, HARD.as_bytes())?;
-        let mut source = MemorySource::new(bytes, 100, vec![in alloc; read]?);
-        let mut sink = MemorySink::new(alloc, 200, 16, vec![in alloc; write]?)?;
-        assert_eq!(rt; run_diddy(alloc, &words, &mut source, &mut sink), status);
-        assert_eq!(rt; sink.held_bytes().len(), held);
-        assert!(rt; whole.as_bytes().starts_with(sink.held_bytes()));
+    for (session, reads, fronts) in SESSIONS {
+        assert_reads(&rt, alloc, session, reads)?;
+        assert_writes(&rt, alloc, session, fronts)?;
+        assert_capacities(&rt, alloc, session)?;
+    }
+    Ok(())
+}
+
+// Words that ask for nothing leave the source and the sink alone.
+#[test]
+fn other_words_do_nothing(rt: HostRuntime) -> Result<(), Fail> {
+    let alloc = rt.alloc();
+    for word in ["", "ran", "Run", "run ", "checked"] {
+        let session = (word, HARD, Status::BadWords, "");
+        let outside = Outside {
+            read: 1,
+            write: 1,
+            capacity: 0,
+        };
+        assert_front(&rt, alloc, session, outside, (Status::BadWords, 0))?;
     }
     Ok(())
 }

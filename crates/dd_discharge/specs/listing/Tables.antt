@@ -1,7 +1,7 @@
 -- The shape of a program's rows.
 use Rattle.std.specs.Prelude.{ℕ, ◌-◌, ◌<◌, ◌≤◌, ◌≡◌, pos, unsigned_abs, List, ◌∷◌, length, replicate}
 use Rattle.std.specs.List.{All}
-use Rattle.dd_discharge.specs.declared.rows.Row.{Row}
+use Rattle.dd_rows.specs.declared.rows.Row.{Row}
 use Rattle.dd_discharge.specs.Amounts.{row_in}
 
 -- each has a coefficient from -1 to 1 for each column; the first says that no position holds more than a cap

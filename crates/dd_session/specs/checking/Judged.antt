@@ -7,7 +7,7 @@ use Rattle.dd_certificate.specs.declared.answer.Answer.{Answer}
 use Rattle.dd_script.specs.Parts.{Parts}
 use Rattle.dd_session.specs.declared.status.Status.{Status}
 use Rattle.dd_session.specs.declared.status.Status.TheVariants.{Rejected}
-use Rattle.dd_session.specs.Runs.{status_of}
+use Rattle.dd_session.specs.Sides.{status_of}
 use Rattle.dd_session.specs.Checks.{accepted_line, rejected_line, accepted_lines, checked_line, IsAcceptedAt, AcceptedTo, AllAccepted, FirstRejected}
 
 -- Whether the answer with a number is accepted.

@@ -13,7 +13,7 @@ unless_no (Yes n steps) P h = h
 unless_no Unknown P h = h
 
 pub returns-in_ok-second-in_default-clause-decided : goal.returns-in_ok-second-in_default-clause-decided
-returns-in_ok-second-in_default-clause-decided c = record {
+returns-in_ok-second-in_default-clause-decided g c = record {
   left = c.in_default.first;
   right = c.in_ok-second-in_default.second;
   left_decided = search rules;
@@ -31,7 +31,7 @@ both_numbered x y Unknown (Yes m others) h k = tt
 both_numbered x y Unknown Unknown h k = tt
 
 pub returns-in_ok-second-in_default-clause-numbered : goal.returns-in_ok-second-in_default-clause-numbered
-returns-in_ok-second-in_default-clause-numbered c =
+returns-in_ok-second-in_default-clause-numbered g c =
     let first : HasNumbers c.args.left.now (breaks c.args.right.now) c.in_default.first = search rules in
     let both = both_numbered c.args.left.now c.args.right.now c.in_default.first c.in_ok-second-in_default.second
     first c.in_ok-second-in_default.ensures.numbered in

@@ -10,29 +10,34 @@ use Rattle.dd_contain.proofs.LimitLaws.{least_small, radii_asked, periods_asked,
 use Rattle.dd_contain.proofs.questions.decide.Goals as goal
 
 pub least_radius-requires : goal.least_radius-requires
-least_radius-requires c = (c.args.premise.now, c.requires.goal)
+least_radius-requires e c = (c.args.premise.now, c.requires.goal)
 
 pub search-requires-clause-radius : goal.search-requires-clause-radius
-search-requires-clause-radius c =
+search-requires-clause-radius e c =
     let top : c.max-most.result ≡ max c.args.limits.now.radius c.in_ok-least.least = search rules in
     let small = least_small c.args.premise.now (goal_of c.args.premise.now c.args.goal.now) c.in_ok-least.least c.symbols-symbols.ensures.kept c.requires.goal (c.in_ok-least.ensures c.args.premise.now c.symbols-symbols.ensures.kept c.requires.goal) in
     omega (arith, top, small, c.requires.radius)
 
+pub search-requires-clause-some : goal.search-requires-clause-some
+search-requires-clause-some e c =
+    let top : c.max-most.result ≡ max c.args.limits.now.radius c.in_ok-least.least = search rules in
+    omega (arith, top)
+
 pub search-requires-clause-radii : goal.search-requires-clause-radii
-search-requires-clause-radii c =
+search-requires-clause-radii e c =
     let top : c.max-most.result ≡ max c.args.limits.now.radius c.in_ok-least.least = search rules in
     radii_asked c.args.premise.now (goal_of c.args.premise.now c.args.goal.now) c.args.limits.now.radius c.args.limits.now.period c.in_ok-least.least
     c.symbols-symbols.ensures.kept c.requires.goal (c.in_ok-least.ensures c.args.premise.now c.symbols-symbols.ensures.kept c.requires.goal) c.requires.small c.max-most.result top
 
 pub search-requires-clause-periods : goal.search-requires-clause-periods
-search-requires-clause-periods c =
+search-requires-clause-periods e c =
     let x = c.args.premise.now in
     let asked = periods_asked x (goal_of c.args.premise.now c.args.goal.now) c.args.limits.now.radius c.args.limits.now.period c.in_ok-least.least
     c.symbols-symbols.ensures.kept c.requires.goal (c.in_ok-least.ensures c.args.premise.now c.symbols-symbols.ensures.kept c.requires.goal) c.requires.small c.requires.period.1 in
     subst (λ d. AsksWithin (AsksPeriods x (goal_of c.args.premise.now c.args.goal.now)) d c.args.limits.now.period) (sym c.dim.ensures) asked
 
 pub returns-clause-decided : goal.returns-clause-decided
-returns-clause-decided c =
+returns-clause-decided e c =
     let x = c.args.premise.now in
     let g = goal_of c.args.premise.now c.args.goal.now in
     let least = c.in_ok-least.least in
@@ -41,10 +46,10 @@ returns-clause-decided c =
     let top : c.max-most.result ≡ max c.args.limits.now.radius c.in_ok-least.least = search rules in
     IfOk-weaker c.search.result (IsDecidedBy (Suffices x g) (RefutesByNumbers x g) (ShowsAt x g) (Displays x g) least most x.dimension p) (IsDecided x g c.args.limits.now.radius p)
     (decided x g c.args.limits.now.radius p least c.symbols-symbols.ensures.kept c.requires.goal (c.in_ok-least.ensures c.args.premise.now c.symbols-symbols.ensures.kept c.requires.goal) c.requires.small most top)
-    (subst (λ d. IfOk c.search.result (IsDecidedBy (Suffices x g) (RefutesByNumbers x g) (ShowsAt x g) (Displays x g) least most d p)) c.dim.ensures c.search.ensures)
+    (subst (λ d. IfOk c.search.result (IsDecidedBy (Suffices x g) (RefutesByNumbers x g) (ShowsAt x g) (Displays x g) least most d p)) c.dim.ensures c.search.ensures.decided)
 
 pub returns-clause-numbered : goal.returns-clause-numbered
-returns-clause-numbered c =
+returns-clause-numbered e c =
     let x = c.args.premise.now in
     let g = goal_of c.args.premise.now c.args.goal.now in
     let least = c.in_ok-least.least in
@@ -52,4 +57,4 @@ returns-clause-numbered c =
     let d = c.dim.result in
     let p = c.args.limits.now.period in
     IfOk-weaker c.search.result (IsDecidedBy (Suffices x g) (RefutesByNumbers x g) (ShowsAt x g) (Displays x g) least most d p) (HasNumbers x g)
-    (numbered x g least most d p) c.search.ensures
+    (numbered x g least most d p) c.search.ensures.decided

@@ -27,13 +27,13 @@ module _ (T : Periods → Type 0) (D : Periods → Tile → Type 0) (d most : �
   found_from None none = none_from T d most ps ascending all none
   found_from (Some shown) first = (first_from T d most ps ascending all shown.at first.0, first.1)
 
-pub returns : goal.returns
-returns g c =
+pub returns-clause-found : goal.returns-clause-found
+returns-clause-found g c =
     let T = g.Q.Questions.shows c.args.questions.now in
     let D = g.Q.Questions.displays c.args.questions.now in
     let ps = c.deref.result.now in
     let is = c.deref.ensures.value in
-    let told = rw is at c.first_listed.ensures in
+    let told = rw is at c.first_listed.ensures.found in
     IfOk-weaker c.first_listed.result (Listed T D c.args.dim c.args.most c.in_ok-all.all.items c.in_ok-all.ensures.ascending c.in_ok-all.ensures.members)
     (Found T D c.args.dim c.args.most c.in_ok-all.all.items c.in_ok-all.ensures.ascending c.in_ok-all.ensures.members)
     (found_from T D c.args.dim c.args.most c.in_ok-all.all.items c.in_ok-all.ensures.ascending c.in_ok-all.ensures.members) told

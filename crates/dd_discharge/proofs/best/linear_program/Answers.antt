@@ -8,7 +8,7 @@ use Rattle.std.proofs.lemmas.List.{length-map}
 use Rattle.dd_fraction.specs.Exact.{whole_of}
 use Rattle.dd_simplex.specs.Programs.{LinearProgram}
 use Rattle.dd_discharge.specs.Amounts.{row_in}
-use Rattle.dd_discharge.specs.declared.rows.Row.{Row}
+use Rattle.dd_rows.specs.declared.rows.Row.{Row}
 use Rattle.dd_discharge.proofs.Tabulated.{row_is, first_program, next_program}
 use Rattle.dd_discharge.proofs.best.linear_program.Goals as goal
 

@@ -3,7 +3,7 @@ use Rattle.std.specs.Int.{w128, w64}
 use mir.Val.{SFits}
 use lib.IntN.{*ℤ_comm}
 use Rattle.std.proofs.lemmas.Int.{ints, to_z-of_z}
-use Rattle.dd_discharge.specs.declared.rows.Row.{Row}
+use Rattle.dd_rows.specs.declared.rows.Row.{Row}
 use Rattle.dd_discharge.specs.Amounts.{total_below, coefficient_in, row_in}
 use Rattle.dd_discharge.proofs.Totals.{total_more, unit_fits, sum_fits}
 use Rattle.dd_discharge.proofs.Tabulated.{row_is}

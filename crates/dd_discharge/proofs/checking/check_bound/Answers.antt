@@ -1,8 +1,8 @@
 use Rattle.std.proofs.Common.{◌≡◌, ◌+◌, ◌*◌, ℕ, List, length, ap, sym, subst, ◌∙◌}
-use Rattle.dd_discharge.specs.declared.rows.Row.{Row}
-use Rattle.dd_discharge.specs.declared.rows.Rows.{Rows}
+use Rattle.dd_rows.specs.declared.rows.Row.{Row}
+use Rattle.dd_rows.specs.declared.rows.Rows.{Rows}
 use Rattle.dd_discharge.specs.declared.bound.Bound.{Bound}
-use Rattle.dd_discharge.specs.Programs.{column_count, IsRowsFault}
+use Rattle.dd_rows.specs.Programs.{column_count, IsRowsFault}
 use Rattle.dd_discharge.specs.Amounts.{IsCertified, bound_claimed}
 use Rattle.dd_discharge.specs.listing.Tables.{AreRowsOf}
 use Rattle.dd_discharge.proofs.Shapes.{program_rows}

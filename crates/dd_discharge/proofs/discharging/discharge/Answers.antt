@@ -1,6 +1,6 @@
 use Rattle.std.proofs.Common.{◌≡◌, ◌+◌, ◌*◌, ℕ, List, length, ap, sym, subst, ◌∙◌}
 use Rattle.std.proofs.lemmas.Result.{IfOk-weaker, IfErr-weaker, err_from_is_err_and}
-use Rattle.dd_discharge.specs.declared.rows.Row.{Row}
+use Rattle.dd_rows.specs.declared.rows.Row.{Row}
 use Rattle.dd_discharge.specs.Amounts.{IsCertified}
 use Rattle.dd_discharge.specs.Bounds.{in_fractions, EndsWith, GivesNone, IsBoundOf, IsDischargeFault}
 use Rattle.dd_discharge.specs.Certificates.{IsBoundCertificate}

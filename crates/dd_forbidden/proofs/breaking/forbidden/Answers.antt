@@ -5,26 +5,33 @@ use Rattle.dd_formula.specs.LocalRule.{cells_at}
 use Rattle.dd_forbidden.specs.Breaking.{passes}
 use Rattle.dd_forbidden.specs.listing.Extensions.{extensions, AreOf}
 use Rattle.dd_forbidden.proofs.ExtensionLaws.{breaking_fillings}
-use Rattle.dd_forbidden.proofs.Steps.{reads_of_nodes}
+use Rattle.dd_forbidden.proofs.Steps.{reads_of_nodes, says_kept}
 use Rattle.dd_forbidden.proofs.breaking.forbidden.Goals as goal
+
+pub extend-requires-clause-formula : goal.extend-requires-clause-formula
+extend-requires-clause-formula c =
+    let ranked : c.new-ranks.result.cells.now ≡ cells_at c.args.rule.now c.args.node =
+    c.new-ranks.ensures ∙ (c.as_slice-cells.ensures.value ∙ (c.in_ok-listed.ensures.list ∙ c.expansion-expansion.ensures.cells)) in
+    says_kept c.args.rule.now c.args.node c.in_ok-formula.formula c.expansion-expansion.result.now c.new-ranks.result.cells.now c.expansion-expansion.ensures.truth ranked
+    c.in_ok-formula.ensures.truth
 
 pub extend-requires-clause-rest : goal.extend-requires-clause-rest
 extend-requires-clause-rest c =
     let r = c.args.rule.now in
-    let cells : c.deref-2.result.now ≡ cells_at r c.args.node = c.deref-2.ensures.value ∙ (c.in_ok-cells.ensures.list ∙ c.expansion.ensures.cells) in
+    let cells : c.as_slice-cells.result.now ≡ cells_at r c.args.node = c.as_slice-cells.ensures.value ∙ (c.in_ok-listed.ensures.list ∙ c.expansion-expansion.ensures.cells) in
     subst (AreOf r) (sym cells) (reads_of_nodes r c.symbols.ensures.kept c.args.node c.requires)
 
 pub returns-clause-ok : goal.returns-clause-ok
 returns-clause-ok c =
     let r = c.args.rule.now in
     let a = c.args.node in
-    let cells : c.deref-2.result.now ≡ cells_at r a = c.deref-2.ensures.value ∙ (c.in_ok-cells.ensures.list ∙ c.expansion.ensures.cells) in
+    let cells : c.as_slice-cells.result.now ≡ cells_at r a = c.as_slice-cells.ensures.value ∙ (c.in_ok-listed.ensures.list ∙ c.expansion-expansion.ensures.cells) in
     let listed : List Cell → List ℕ → List Filled = λ cs ss. map (filled (cells_at r a)) (extensions r a cs ss) in
     record {
       symbols = extensions r a (cells_at r a) [];
       fillings = c.into_vec.ensures
           ∙ (c.in_ok-extend.ensures.found
-          ∙ (ap (λ (fs : List Filled). fs ++ listed c.deref-2.result.now c.new-symbols.result) c.new-found.ensures
+          ∙ (ap (λ (fs : List Filled). fs ++ listed c.as_slice-cells.result.now c.new-symbols.result) c.new-found.ensures
           ∙ (ap (λ cs. listed cs c.new-symbols.result) cells ∙ ap (listed (cells_at r a)) c.new-symbols.ensures)));
       breaking = breaking_fillings r c.symbols.ensures.kept a;
       few = ap (λ n. passes n (length (cells_at r a))) (sym c.symbols.ensures.value)

@@ -19,7 +19,7 @@ extend-requires t c =
     let longer = ap length stack ∙ length-append c.args.symbols.now (symbol ∷ []) in (
       omega (arith, count),
       (
-        c.requires.node,
+        c.requires.formula,
         (
           c.requires.cells,
           (
@@ -72,8 +72,8 @@ returns-in-Some-true-clause-found t c =
     let ss = c.args.symbols.now in
     let found = c.args.found.now in
     let settled =
-    settled_so r a c.expansion.result.now c.args.cells.now ss c.as_slice-2.result.now true c.in-Some-true.field-0 c.expansion.ensures.truth c.requires.cells c.as_slice-2.ensures
-    c.in-Some-true.field-0-test c.in-Some-true.ensures in
+    settled_so r a c.args.formula.now ss c.as_slice-2.result.now true c.in-Some-true.field-0 c.requires.formula c.as_slice-2.ensures c.in-Some-true.field-0-test
+    c.in-Some-true.ensures in
     sym (ap (λ lists. found ++ map (filled (cells_at r a)) lists) (none_broken r a c.args.rest.now ss c.requires.symbols settled) ∙ append-nil found)
 
 pub returns-in-Some-false-clause-found : goal.returns-in-Some-false-clause-found
@@ -83,7 +83,7 @@ returns-in-Some-false-clause-found t c =
     let ss = c.args.symbols.now in
     let found = c.args.found.now in
     let settled =
-    settled_so r a c.expansion.result.now c.args.cells.now ss c.as_slice-2.result.now false c.in-Some-false.field-0 c.expansion.ensures.truth c.requires.cells c.as_slice-2.ensures
-    c.in-Some-false.field-0-test c.in-Some-false.ensures in
+    settled_so r a c.args.formula.now ss c.as_slice-2.result.now false c.in-Some-false.field-0 c.requires.formula c.as_slice-2.ensures c.in-Some-false.field-0-test
+    c.in-Some-false.ensures in
     subst (λ lists. OnOk c.complete.result (c.complete.new.found ≡ found ++ map (filled (cells_at r a)) lists)) (sym (all_broken r a c.args.rest.now ss c.requires.symbols settled))
     (subst (λ cs. OnOk c.complete.result (c.complete.new.found ≡ found ++ map (filled cs) (completions r c.args.rest.now ss))) c.requires.cells c.complete.ensures.found)

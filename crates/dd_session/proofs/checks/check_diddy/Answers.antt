@@ -1,4 +1,4 @@
-use Rattle.dd_session.specs.Runs.{told}
+use Rattle.dd_session.specs.Sides.{told}
 use Rattle.dd_session.proofs.CheckEnds.{check_decided}
 use Rattle.dd_session.proofs.checks.check_diddy.Goals as goal
 

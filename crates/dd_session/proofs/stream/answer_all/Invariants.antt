@@ -1,9 +1,16 @@
 use Rattle.std.proofs.Common.{◌≤◌, take}
-use Rattle.dd_session.specs.Runs.{Answered}
+use Rattle.dd_engines.specs.Rosters.{roster_seen}
+use Rattle.dd_engines.specs.Rounds.{Kept}
+use Rattle.dd_answer.specs.Asking.{AsksSomeBoxes, Engages}
+use Rattle.dd_session.specs.Forms.{text_in}
+use Rattle.dd_session.specs.Written.{Answered}
 use Rattle.dd_session.proofs.stream.answer_all.Given as goal
 
 abbrev pub invariant-loop-done : goal.invariant-loop-done
 invariant-loop-done g l = record {
-  wrote : Answered (g.K.Sink.held l.initial.sink) (g.K.Sink.held l.sink) l.script (take l.done l.queries) 1 l.has_unknown;
+  wrote : Answered (text_in l.form) (g.K.Sink.held l.initial.sink) (g.K.Sink.held l.sink) l.script (take l.done l.queries) 1 l.has_unknown;
   later : g.K.Sink.faults l.initial.sink ≤ g.K.Sink.faults l.sink;
+  kept : Kept (roster_seen g.E.Engine.asked g.E.Engine.given g.E.Engine.sound l.initial.roster) (roster_seen g.E.Engine.asked g.E.Engine.given g.E.Engine.sound l.roster);
+  asked : Engages (AsksSomeBoxes l.script (take l.done l.queries)) (roster_seen g.E.Engine.asked g.E.Engine.given g.E.Engine.sound l.initial.roster)
+      (roster_seen g.E.Engine.asked g.E.Engine.given g.E.Engine.sound l.roster);
 }

@@ -1,23 +1,28 @@
-use Rattle.std.proofs.Common.{◌≡◌, ℕ, ◌+◌, ◌<◌, List, Bool, length, arith, ap, sym, ◌∙◌, subst}
+use Rattle.std.proofs.Common.{◌+◌, Bool, List, ap, sym, subst}
 use Rattle.dd_transfer.specs.declared.strip.Strip.{Strip}
-use Rattle.dd_transfer.specs.Windows.{Shown, AreWindows, window_cells}
-use Rattle.dd_transfer.proofs.Digits.{digits_length}
-use Rattle.dd_transfer.proofs.Written.{written, full, kept_more}
+use Rattle.dd_transfer.specs.Windows.{Shown, AreWindows}
+use Rattle.dd_transfer.specs.placing.Formulas.{ArePlaces}
+use Rattle.dd_transfer.proofs.Written.{advanced, full, kept_more}
 use Rattle.dd_transfer.proofs.building.kept_windows.Goals as goal
 
 pub is_kept-requires-clause-window : goal.is_kept-requires-clause-window
 is_kept-requires-clause-window c =
+    full c.args.rule.now c.args.strip c.loop-number.window c.loop-number._number c.symbols-base.ensures.kept c.requires c.loop-number.invariant.window_is
+
+pub is_kept-requires-clause-formulas : goal.is_kept-requires-clause-formulas
+is_kept-requires-clause-formulas c =
     let r = c.args.rule.now in
-    let is = written r c.args.strip c.loop-number.window c.write.new.self c.symbols.result c.loop-number.number c.loop-number.invariant.strip_is c.loop-number.invariant.cells_are c.symbols.ensures.value c.write.ensures in
-    full r c.args.strip c.write.new.self c.loop-number.number c.symbols.ensures.kept c.requires is
+    subst (λ (s : Strip). ArePlaces r s c.as_slice.result.now) (sym (ap (λ (w : Shown). w.strip) c.loop-number.invariant.window_is))
+    (subst (ArePlaces r c.args.strip) (sym c.as_slice.ensures) c.in_ok-formulas.ensures)
 
 pub loop-number-preserved : goal.loop-number-preserved
 loop-number-preserved c =
     let r = c.args.rule.now in
-    let is = written r c.args.strip c.loop-number.window c.write.new.self c.symbols.result c.loop-number.number c.loop-number.invariant.strip_is c.loop-number.invariant.cells_are c.symbols.ensures.value c.write.ensures in
+    let s = c.args.strip in
+    let n = c.loop-number._number in
+    let w = c.loop-number.window in
     record {
-      strip_is = ap (λ (w : Shown). w.strip) is;
-      cells_are = ap (λ (w : Shown). length w.symbols) is ∙ digits_length r.symbols (window_cells r c.args.strip) c.loop-number.number;
-      windows = subst (AreWindows r c.args.strip (c.loop-number.number + 1)) (sym c.in_ok-push.ensures.items)
-          (kept_more r c.args.strip c.write.new.self c.loop-number.number c.loop-number.kept.items c.is_kept.result c.loop-number.invariant.windows is c.is_kept.ensures);
+      window_is = advanced r s w c.advance.new.self c.symbols-base.result n c.symbols-base.ensures.value c.loop-number.invariant.window_is c.advance.ensures;
+      windows = subst (AreWindows r s (n + 1)) (sym {A = List Bool} c.in_ok-push.ensures.items)
+          (kept_more r s w n c.loop-number.kept.items c.is_kept.result c.loop-number.invariant.windows c.loop-number.invariant.window_is c.is_kept.ensures);
     }

@@ -1,10 +1,9 @@
-use Rattle.std.proofs.Common.{◌≡◌, ℕ, ◌<◌, length}
-use Rattle.dd_transfer.specs.Windows.{AreWindows, window_cells}
+use Rattle.std.proofs.Common.{◌≡◌}
+use Rattle.dd_transfer.specs.Windows.{AreWindows, digits, shown, window_cells}
 use Rattle.dd_transfer.proofs.building.kept_windows.Given as goal
 
 abbrev pub invariant-loop-number : goal.invariant-loop-number
 invariant-loop-number l = record {
-  strip_is : l.window.strip ≡ l.fn.strip;
-  cells_are : length l.window.symbols ≡ window_cells l.rule l.fn.strip;
-  windows : AreWindows l.rule l.fn.strip l.number l.kept.items;
+  window_is : l.window ≡ shown l.fn.strip (digits l.rule.symbols (window_cells l.rule l.fn.strip) l._number);
+  windows : AreWindows l.rule l.fn.strip l._number l.kept.items;
 }

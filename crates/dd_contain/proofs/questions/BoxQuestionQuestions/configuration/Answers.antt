@@ -4,13 +4,13 @@ use Rattle.dd_contain.proofs.ShownLaws.{one_each, read_shows}
 use Rattle.dd_contain.proofs.questions.BoxQuestionQuestions.configuration.Goals as goal
 
 pub read_torus-requires-clause-one_each : goal.read_torus-requires-clause-one_each
-read_torus-requires-clause-one_each c =
+read_torus-requires-clause-one_each g c =
     let answer = rw c.in-Found.is at c.in_ok-found.ensures.answer in
     one_each c.args.self.now.premise.now (goal_of c.args.self.now.premise.now c.args.self.now.goal.now) c.args.at.now c.in_ok-cnf.cnf.clauses c.in_ok-cnf.ensures.shows
     (true_variables c.in-Found.found) answer.1
 
-pub returns-in-Found : goal.returns-in-Found
-returns-in-Found c =
+pub returns-in-Found-clause-found : goal.returns-in-Found-clause-found
+returns-in-Found-clause-found g c =
     let answer = rw c.in-Found.is at c.in_ok-found.ensures.answer in
     let read = c.in_ok-periodic-in-Found.ensures in
     let shown = read_shows c.args.self.now.premise.now (goal_of c.args.self.now.premise.now c.args.self.now.goal.now) c.args.at.now c.in_ok-cnf.cnf.clauses c.in_ok-cnf.ensures.shows

@@ -1,72 +1,18 @@
-use Rattle.std.proofs.Common.{◌≡◌, ◌*◌, ◌∙◌, rules}
+use Rattle.std.proofs.Common.{◌≡◌, arith, rules}
 use Rattle.std.specs.Int.{w128}
 use lib.IntN.{pos}
-use mir.Val.{SFits, to_z}
-use Rattle.std.proofs.lemmas.Int.{to_z-of_z, to_z_pos}
+use mir.Val.{SFits}
+use borrow.Author.Differences.{same_in}
+use Rattle.std.proofs.lemmas.Int.{ints}
 use Rattle.dd_fraction.specs.Exact.{Exact}
-use Rattle.dd_fraction.proofs.Results.{sum_none_third, sum_none_fourth, sum_some, size_some}
-use Rattle.dd_fraction.proofs.Ring.{product_above}
+use Rattle.dd_fraction.proofs.Quick.{zero_sum}
 use Rattle.dd_fraction.proofs.fraction.Fraction.add.Goals as goal
 
-pub returns-in_err-num : goal.returns-in_err-num
-returns-in_err-num c =
+pub returns-then-self-eq1 : goal.returns-then-self-eq1
+returns-then-self-eq1 c =
     let a : Exact = record { num = c.self.inside.num; den = c.self.inside.den } in
     let b : Exact = record { num = c.other.inside.num; den = c.other.inside.den } in
-    let one : SFits w128 c.self.inside.num = search rules in
-    let two : SFits w128 c.other.inside.num = search rules in
-    let three : SFits w128 c.in_ok-left.left = search rules in
-    let four : SFits w128 c.in_ok-right.right = search rules in
-    let x : to_z w128 c.self.inside.den ≡ pos c.self.inside.den =
-    to_z_pos w128 c.self.inside.den c.self.invariant.below in
-    let y : to_z w128 c.other.inside.den ≡ pos c.other.inside.den =
-    to_z_pos w128 c.other.inside.den c.other.invariant.below in
-    let left = simp (to_z-of_z, y) at c.in_ok-left.ensures in
-    let right = simp (to_z-of_z, x) at c.in_ok-right.ensures in
-    let sum = simp to_z-of_z at c.in_err-num.ensures in
-    rw (← c.self.view_is, ← c.other.view_is)
-    (c.from_residual-in_err-num.ensures ∙ sum_none_third a b c.in_ok-left.left c.in_ok-right.right left right sum)
-
-pub returns-in_err-den : goal.returns-in_err-den
-returns-in_err-den c =
-    let a : Exact = record { num = c.self.inside.num; den = c.self.inside.den } in
-    let b : Exact = record { num = c.other.inside.num; den = c.other.inside.den } in
-    let one : SFits w128 c.self.inside.num = search rules in
-    let two : SFits w128 c.other.inside.num = search rules in
-    let three : SFits w128 c.in_ok-left.left = search rules in
-    let four : SFits w128 c.in_ok-right.right = search rules in
-    let x : to_z w128 c.self.inside.den ≡ pos c.self.inside.den =
-    to_z_pos w128 c.self.inside.den c.self.invariant.below in
-    let y : to_z w128 c.other.inside.den ≡ pos c.other.inside.den =
-    to_z_pos w128 c.other.inside.den c.other.invariant.below in
-    let left = simp (to_z-of_z, y) at c.in_ok-left.ensures in
-    let right = simp (to_z-of_z, x) at c.in_ok-right.ensures in
-    let sum = simp to_z-of_z at c.in_ok-num.ensures in
-    rw (← c.self.view_is, ← c.other.view_is)
-    (c.from_residual-in_err-den.ensures
-    ∙ sum_none_fourth a b c.in_ok-left.left c.in_ok-right.right c.in_ok-num.num left right sum c.in_err-den.ensures)
-
-pub reduced-requires-clause-above : goal.reduced-requires-clause-above
-reduced-requires-clause-above c =
-    let w = size_some (c.self.inside.den * c.other.inside.den) c.in_ok-den.den c.in_ok-den.ensures in
-    rw (w.1) (product_above c.self.inside.den c.other.inside.den c.self.invariant.above c.other.invariant.above)
-
-pub returns : goal.returns
-returns c =
-    let a : Exact = record { num = c.self.inside.num; den = c.self.inside.den } in
-    let b : Exact = record { num = c.other.inside.num; den = c.other.inside.den } in
-    let one : SFits w128 c.self.inside.num = search rules in
-    let two : SFits w128 c.other.inside.num = search rules in
-    let three : SFits w128 c.in_ok-left.left = search rules in
-    let four : SFits w128 c.in_ok-right.right = search rules in
-    let five : SFits w128 c.in_ok-num.num = search rules in
-    let x : to_z w128 c.self.inside.den ≡ pos c.self.inside.den =
-    to_z_pos w128 c.self.inside.den c.self.invariant.below in
-    let y : to_z w128 c.other.inside.den ≡ pos c.other.inside.den =
-    to_z_pos w128 c.other.inside.den c.other.invariant.below in
-    let left = simp (to_z-of_z, y) at c.in_ok-left.ensures in
-    let right = simp (to_z-of_z, x) at c.in_ok-right.ensures in
-    let sum = simp to_z-of_z at c.in_ok-num.ensures in
-    let reduced = simp to_z-of_z at c.reduced.ensures in
-    rw (← c.self.view_is, ← c.other.view_is)
-    (sum_some a b c.reduced.result c.in_ok-left.left c.in_ok-right.right c.in_ok-num.num c.in_ok-den.den
-    c.self.invariant c.other.invariant left right sum c.in_ok-den.ensures reduced)
+    let fits : SFits w128 c.self.inside.num = search rules in
+    let is = c.if-self-eq0.true in
+    let none : c.self.inside.num ≡ pos 0 = same_in _ _ (omega (arith, ints, fits, is)) in
+    rw (← c.self.view_is, ← c.other.view_is) (zero_sum a b none c.if-self-eq1.true c.other.invariant)

@@ -1,0 +1,16 @@
+#!/usr/bin/env bash
+# Runs the program, with the words run and check, over one script of each kind of query where the outside fails: each allocation in turn, and
+# each from one on; limits on the memory of the process; a source that can't be read; a pipe that is closed at once or after some bytes, a full
+# disk, and a file that may not grow. Each time the status has to be the one for that fault, and what was written a front of what is written else;
+# where a memory limit is enough, all of it. Each line is a script, a word, and the number of trials of each kind; the status is 1 where a trial
+# ended otherwise. DIDDY names another program than the one that is built here; MOST is the greatest number of allocations of a trial that
+# are tried in each of the two ways, evenly spread, 400 unless it is given.
+set -eu
+
+here=$(cd "$(dirname "$0")" && pwd)
+root=$(cd "$here/../.." && pwd)
+work=$(mktemp -d)
+trap 'rm -rf "$work"' EXIT
+[ -n "${DIDDY:-}" ] || "$root/diddy" run < /dev/null > "$work/nothing" || true
+cc -O2 -Wall -Wextra -shared -fPIC -o "$work/fails.so" "$here/fails.c"
+python3 "$here/trials.py" "${DIDDY:-$root/crates/dd_program/out/dd_program}" "$work" "${MOST:-400}" "$@"

@@ -1,7 +1,0 @@
-use Rattle.std.proofs.Common.{take}
-use Rattle.dd_lattice.specs.Regions.{IsRegionOf}
-use Rattle.dd_discharge.specs.Domains.{IsInDomain}
-use Rattle.dd_discharge.proofs.domain.domain.Given as goal
-
-abbrev pub invariant-loop-vector : goal.invariant-loop-vector
-invariant-loop-vector l = IsRegionOf (IsInDomain l.dim l.radius (take l.vector-index l.vectors)) l.all

@@ -1,7 +1,0 @@
-use Rattle.std.proofs.Common.{◌≡◌, map, []}
-use Rattle.std.specs.List.{range_with_len}
-use Rattle.dd_discharge.specs.listing.Levels.{chosen}
-use Rattle.dd_discharge.proofs.search.empty_lists.Given as goal
-
-abbrev pub invariant-loop-number : goal.invariant-loop-number
-invariant-loop-number l = l.lists.items ≡ map (chosen [] []) (range_with_len 0 l._number)

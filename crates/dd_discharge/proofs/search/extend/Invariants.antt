@@ -1,7 +1,0 @@
-use Rattle.std.proofs.Common.{◌≡◌, ◌≤◌, ◌++◌, length}
-use Rattle.dd_discharge.specs.Fillings.{most_fillings}
-use Rattle.dd_discharge.specs.listing.Levels.{extended_below}
-use Rattle.dd_discharge.proofs.search.extend.Given as goal
-
-abbrev pub invariant-loop-symbol : goal.invariant-loop-symbol
-invariant-loop-symbol l = (l.next ≡ l.initial.next ++ extended_below l.rule l.cells l.places l.node l.symbols l.symbol) × (length l.next ≤ most_fillings)

@@ -1,8 +1,0 @@
-use Rattle.std.proofs.Common.{◌≡◌, ◌≤◌, take, length}
-use Rattle.std.specs.List.{flat_map}
-use Rattle.dd_discharge.specs.Fillings.{most_fillings}
-use Rattle.dd_discharge.specs.listing.Levels.{extended}
-use Rattle.dd_discharge.proofs.search.next_level.Given as goal
-
-abbrev pub invariant-loop-symbols : goal.invariant-loop-symbols
-invariant-loop-symbols l = (l.next ≡ flat_map (extended l.rule l.cells l.places l.node) (take l.symbols-index l.level)) × (length l.next ≤ most_fillings)

@@ -1,0 +1,7 @@
+-- A configuration without a period: one 1, at the position 0, and 0 at each other.
+use Rattle.std.specs.Prelude.{ℕ, cond, ◌&&◌, pos}
+use Rattle.std.specs.Ordering.{int_eq}
+use Rattle.dd_lattice.specs.declared.position.Cell.{Cell}
+
+abbrev pub lone : Cell → ℕ
+lone c = cond (int_eq c.position.x (pos 0) && int_eq c.position.y (pos 0) && int_eq c.position.z (pos 0)) 1 0

@@ -1,0 +1,51 @@
+//! An engine of one's own, which may be wrong, and a roster that asks it.
+ghost use Rattle.std.specs.Prelude.{false, IfOk, IfSome};
+ghost use Rattle.dd_engines.specs.Proposals.{IsRightOutcome};
+
+use dd_clause::{Assignment, Cnf};
+use dd_derivation::Outcome;
+use dd_engines::{Engine, Proposal, Roster, Tally};
+use std::alloc::{AllocError, Global};
+
+/// Proposes the assignment that gives each variable the same value.
+#[derive(Drop)]
+pub struct Guess {
+    value: bool,
+    tally: Tally,
+}
+
+impl Guess {
+    pub fn new(value: bool) -> Self {
+        Guess {
+            value,
+            tally: Tally::new(),
+        }
+    }
+}
+
+impl Engine for Guess {
+    ghost asked = { λ engine. engine.tally.asked };
+
+    ghost given = { λ engine. engine.tally.given };
+
+    ghost sound = { λ _. false };
+
+    fn propose(&mut self, alloc: Global, cnf: &Cnf) -> Result<Proposal, AllocError> {
+        self.tally.ask();
+        let values = vec![in alloc; self.value; cnf.variables() as usize]?;
+        self.tally.give();
+        Ok(Proposal::Found(Assignment::new(values)))
+    }
+}
+
+/// What the guesses that all variables are false, and that all are true, settle of the clauses: an assignment that satisfies
+/// them, or nothing. That it is right needs no proof of the engines: the roster looks at what they propose.
+pub fn guessed(alloc: Global, cnf: &Cnf) -> Result<Option<Outcome>, AllocError>
+    ensures { IfOk result (λ answer. IfSome answer (IsRightOutcome cnf.now)) }
+{
+    let mut engines = Vec::new(alloc);
+    engines.push(Guess::new(false))?;
+    engines.push(Guess::new(true))?;
+    let mut roster = Roster::new(engines);
+    roster.ask(alloc, cnf)
+}

@@ -1,0 +1,43 @@
+//! A configuration that is a function on Z^d and has no period, and what an accepted YES says of it.
+ghost use Rattle.std.specs.Prelude.{◌≡◌, true};
+ghost use Rattle.dd_expansion.specs.Placed.{is_flat};
+ghost use Rattle.dd_checker.specs.Certificates.{IsCertificate};
+ghost use Rattle.dd_checker.specs.Lifted.{is_yes, IsWhole, whole_look, IsNowhereAt};
+ghost use Rattle.dd_examples.specs.Lone.{lone};
+
+use dd_certificate::Answer;
+use dd_checker::lifted;
+use dd_lattice::{Cell, Position};
+use dd_pattern::Configuration;
+use dd_script::Script;
+
+/// One 1, at the position 0, and 0 at each other.
+#[derive(Clone, Copy, Debug)]
+pub struct Lone;
+
+impl Configuration for Lone {
+    ghost nodes = { λ _. 1 };
+
+    ghost symbol_of = { λ _ c. lone c };
+
+    fn symbol_at(&self, cell: &Cell) -> u32 {
+        let at = &cell.position;
+        if at.x == 0 && at.y == 0 && at.z == 0 {
+            1
+        } else {
+            0
+        }
+    }
+}
+
+/// Does nothing; its contract says what an answer YES that is a certificate says of this configuration: where it obeys the
+/// premise, the goal doesn't hold at the position.
+pub fn nowhere_in_lone(script: &Script, query: u32, answer: &Answer, place: &Position)
+    requires certificate { IsCertificate script.now query answer.now }
+    requires yes { is_yes answer.now ≡ true }
+    requires whole { IsWhole script.now 1 lone }
+    requires flat { is_flat script.now.known.setting.topology.dimension place.now ≡ true }
+    ensures { IsNowhereAt script.now query (whole_look script.now.known.setting.topology.dimension 1 lone) place.now }
+{
+    lifted(script, query, answer, &Lone, place);
+}

@@ -1,0 +1,108 @@
+//! What the program does, by its word.
+
+use crate::deciding::answered;
+use crate::rewriting::rewritten;
+use crate::squares::chessboard_membership;
+use dd_formula::Membership;
+use dd_outside::{Source, read_all};
+use std::alloc::Global;
+
+/// The greatest length of a script and of an output, in bytes.
+const MOST_SCRIPT: usize = 1_048_576;
+
+const MOST_OUTPUT: usize = 268_435_456;
+
+#[derive(Clone, Copy, Debug, PartialEq, Eq)]
+pub enum Task {
+    Rewrite,
+    Answer,
+    Squares,
+}
+
+/// Why nothing is written.
+#[derive(Clone, Copy, Debug, PartialEq, Eq)]
+pub enum Fault {
+    Words,
+    Input,
+    Script,
+    Output,
+    Memory,
+}
+
+impl Fault {
+    pub fn message(self) -> &'static str {
+        match self {
+            Fault::Words => "the word is answer or squares, or there is none",
+            Fault::Input => "no input",
+            Fault::Script => "no script",
+            Fault::Output => "no output of diddy",
+            Fault::Memory => "out of memory",
+        }
+    }
+}
+
+// A line, or want of memory.
+fn line(alloc: Global, text: &[u8]) -> Result<Vec<u8>, Fault> {
+    match Vec::from_slice(alloc, text) {
+        Ok(line) => Ok(line),
+        Err(_) => Err(Fault::Memory),
+    }
+}
+
+fn rewritten_text<S: Source>(alloc: Global, source: &mut S) -> Result<Vec<u8>, Fault> {
+    let Ok(bytes) = read_all(alloc, source, MOST_OUTPUT) else {
+        return Err(Fault::Input);
+    };
+    match rewritten(alloc, &bytes) {
+        Ok(text) => Ok(text),
+        Err(_) => Err(Fault::Output),
+    }
+}
+
+fn answered_text<S: Source>(alloc: Global, source: &mut S) -> Result<Vec<u8>, Fault> {
+    let Ok(bytes) = read_all(alloc, source, MOST_SCRIPT) else {
+        return Err(Fault::Input);
+    };
+    match answered(alloc, &bytes) {
+        Ok(text) => Ok(text),
+        Err(_) => Err(Fault::Script),
+    }
+}
+
+fn squares_text(alloc: Global) -> Result<Vec<u8>, Fault> {
+    match chessboard_membership(alloc) {
+        Ok(Membership::Inside) => line(alloc, b"inside\n"),
+        Ok(Membership::Outside(_)) => line(alloc, b"outside\n"),
+        Err(_) => Err(Fault::Memory),
+    }
+}
+
+impl Task {
+    /// The task that the words name.
+    pub fn named(words: &[String]) -> Result<Task, Fault> {
+        match words {
+            [] => Ok(Task::Rewrite),
+            [word] => Task::of_word(word.as_str()),
+            _ => Err(Fault::Words),
+        }
+    }
+
+    fn of_word(word: &str) -> Result<Task, Fault> {
+        if word == "answer" {
+            Ok(Task::Answer)
+        } else if word == "squares" {
+            Ok(Task::Squares)
+        } else {
+            Err(Fault::Words)
+        }
+    }
+
+    /// What the task writes of what it reads.
+    pub fn text<S: Source>(self, alloc: Global, source: &mut S) -> Result<Vec<u8>, Fault> {
+        match self {
+            Task::Rewrite => rewritten_text(alloc, source),
+            Task::Answer => answered_text(alloc, source),
+            Task::Squares => squares_text(alloc),
+        }
+    }
+}

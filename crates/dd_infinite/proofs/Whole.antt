@@ -1,0 +1,81 @@
+-- One node that allows the symbols of both functions; and the configurations of a script.
+use Rattle.std.proofs.Common.{◌≡◌, ℕ, zero, suc, ◌<◌, ◌+◌, ◌-◌, ◌*◌, ◌%◌, pos, Bool, true, false, length, refl, sym, subst, arith, inl, inr, Contains}
+use Rattle.std.specs.Prelude.{◌⊎◌, ◌≤ℤ◌, cond}
+use Rattle.std.proofs.lemmas.Int.{ints}
+use Rattle.std.proofs.lemmas.Nat.{mod_below, mod-mul-add, mul-add-lt}
+use Rattle.std.proofs.lemmas.List.Elements.{All-contains}
+use Rattle.dd_lattice.specs.declared.position.Cell.{Cell}
+use Rattle.dd_topology.specs.Sets.{allows}
+use Rattle.dd_pattern.specs.Periods.{residue, unsheared}
+use Rattle.dd_pattern.specs.Tile.{Tile, IsTile, IsReadModulo, tile_index}
+use Rattle.dd_meanings.specs.Sound.{IsConfigurationOf}
+use Rattle.dd_script.specs.Parts.{Parts, IsScriptOf}
+use Rattle.dd_checker.specs.Lifted.{IsWhole}
+use Rattle.dd_infinite.specs.Functions.{spike, checkerboard, tiled, IsForBoth}
+
+abbrev Either : ℕ → Type 0
+Either n = (n ≡ 0) ⊎ (n ≡ 1)
+
+either : (b : Bool) → Either (cond b 1 0)
+either true = inr refl
+either false = inl refl
+
+odd_or_even : (n : ℕ) → Either (n % 2)
+odd_or_even n = by_rest (n % 2) (mod_below n 2 (omega arith))
+  where
+    by_rest : (r : ℕ) → r < 2 → Either r
+    by_rest zero less = inl refl
+    by_rest (suc zero) less = inr refl
+    by_rest (suc (suc r)) less = absurd (omega (arith, less))
+
+module _ (s : Parts) (one : s.known.setting.topology.nodes ≡ 1)
+    (zero_in : allows s.known.setting.sets 0 0 ≡ true) (one_in : allows s.known.setting.sets 0 1 ≡ true) where
+  whole : (f : Cell → ℕ) → ((c : Cell) → Either (f c)) → IsWhole s 1 f
+  whole f small = record {
+    same_nodes = sym one;
+    allowed = λ c flat below.
+        (let first : c.node ≡ 0 = omega (arith, below) in
+        subst (λ (a : ℕ). allows s.known.setting.sets a (f c) ≡ true) (sym first)
+        (elim (small c) [
+          | inl is ↦ subst (λ (t : ℕ). allows s.known.setting.sets 0 t ≡ true) (sym is) zero_in
+          | inr is ↦ subst (λ (t : ℕ). allows s.known.setting.sets 0 t ≡ true) (sym is) one_in
+        ]));
+  }
+
+  pub for_both : IsForBoth s
+  for_both = record { spike = whole spike (λ c. either _); checkerboard = whole checkerboard (λ c. odd_or_even _) }
+
+pub has_rows : (s : Parts) → IsScriptOf s → s.known.setting.topology.nodes ≡ 1 → 0 < length s.known.setting.sets.allowed
+has_rows s ok one = let n = ok.known.sets.nodes in let m = ok.known.nodes in omega (arith, n, m, one)
+
+-- the node stands innermost in a cell's number
+node_of : (t : Tile) (c : Cell) → c.node < t.nodes → tile_index t c % t.nodes ≡ c.node
+node_of t c below =
+    let p = t.periods in
+    mod-mul-add ((residue c.position.z p.z * p.y + residue c.position.y p.y) * p.x + residue (unsheared p c.position) p.x) t.nodes c.node below
+
+row_fits : (a w b h : ℕ) → a < h → b < w → a * w + b < h * w
+row_fits a w b h row column = omega (arith, mul-add-lt a w b h row column)
+
+-- the base of a position lies in the fundamental box, so the number of a cell's symbol is one of the list's
+number_below : (t : Tile) → IsTile t → IsReadModulo t → (c : Cell) → c.node < t.nodes → tile_index t c < length t.symbols
+number_below t ok read c below =
+    let p = t.periods in
+    let base = (read.in_box c.position).1 in
+    let on_x : pos (residue (unsheared p c.position) p.x) ≤ℤ pos (p.x - 1) = base.on_x in
+    let on_y : pos (residue c.position.y p.y) ≤ℤ pos (p.y - 1) = base.on_y in
+    let on_z : pos (residue c.position.z p.z) ≤ℤ pos (p.z - 1) = base.on_z in
+    let x : residue (unsheared p c.position) p.x < p.x = omega (arith, ints, on_x, ok.periods.x_some) in
+    let y : residue c.position.y p.y < p.y = omega (arith, ints, on_y, ok.periods.y_some) in
+    let z : residue c.position.z p.z < p.z = omega (arith, ints, on_z, ok.periods.z_some) in
+    rw ok.full (row_fits _ _ _ _ (row_fits _ _ _ _ (row_fits _ _ _ _ z y) x) below)
+
+pub whole_of : (s : Parts) → IsScriptOf s → (t : Tile) → IsReadModulo t → Contains s.configurations t → IsWhole s t.nodes (tiled t)
+whole_of s ok t read among =
+    let kept : IsConfigurationOf s.known t = All-contains (IsConfigurationOf s.known) s.configurations t ok.configurations among in
+    record {
+      same_nodes = kept.nodes;
+      allowed = λ c flat below.
+          subst (λ (a : ℕ). allows s.known.setting.sets a (tiled t c) ≡ true) (node_of t c below)
+          (kept.allowed (tile_index t c) (number_below t kept.tile read c below));
+    }

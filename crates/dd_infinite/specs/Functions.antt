@@ -1,0 +1,25 @@
+-- Configurations as functions on all cells of Z^d, and the scripts that they are for.
+use Rattle.std.specs.Prelude.{ℕ, ◌+◌, ◌%◌, pos, cond, unsigned_abs, slice_index}
+use Rattle.dd_lattice.specs.Place.{place}
+use Rattle.dd_lattice.specs.declared.position.Cell.{Cell}
+use Rattle.dd_topology.specs.Balls.{same_place}
+use Rattle.dd_pattern.specs.Tile.{Tile, tile_index}
+use Rattle.dd_script.specs.Parts.{Parts}
+use Rattle.dd_checker.specs.Lifted.{IsWhole}
+
+-- 1 at the origin alone
+abbrev pub spike : Cell → ℕ
+spike c = cond (same_place c.position (place (pos 0) (pos 0) (pos 0))) 1 0
+
+-- 1 at an odd number of steps from the origin
+abbrev pub checkerboard : Cell → ℕ
+checkerboard c = (unsigned_abs c.position.x + unsigned_abs c.position.y + unsigned_abs c.position.z) % 2
+
+-- the symbols of a fundamental box, read modulo its periods
+abbrev pub tiled : Tile → Cell → ℕ
+tiled t c = slice_index t.symbols (tile_index t c)
+
+-- the script has one node, which allows the symbols of both
+pub record IsForBoth (s : Parts) : Type 0 where
+  pub spike : IsWhole s 1 spike
+  pub checkerboard : IsWhole s 1 checkerboard

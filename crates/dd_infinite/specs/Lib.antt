@@ -1,0 +1,2 @@
+-- the configurations, and the scripts that allow their symbols
+pub mod Functions

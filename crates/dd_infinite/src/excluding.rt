@@ -1,0 +1,63 @@
+//! From a check to all configurations.
+ghost use Rattle.std.specs.Prelude.{◌≡◌, true, IfOk};
+ghost use Rattle.dd_expansion.specs.Placed.{is_flat};
+ghost use Rattle.dd_checker.specs.Certificates.{HasQuery};
+ghost use Rattle.dd_checker.specs.Lifted.{is_yes, whole_look, IsWhole, IsNowhereAt};
+
+use dd_certificate::Answer;
+use dd_checker::{Verdict, check_answer, lifted};
+use dd_lattice::Position;
+use dd_pattern::Configuration;
+use dd_script::Script;
+use std::alloc::{AllocError, Global};
+
+fn has_query(script: &Script, query: u32) -> bool
+    ensures { result ≡ true → HasQuery script.now query }
+{
+    1 <= query && query as usize <= script.queries().len()
+}
+
+fn is_flat(script: &Script, place: &Position) -> bool
+    ensures { result ≡ is_flat script.now.known.setting.topology.dimension place.now }
+{
+    let dimension = script.dim();
+    (1 < dimension || place.y == 0) && (2 < dimension || place.z == 0)
+}
+
+fn is_yes(answer: &Answer) -> bool
+    ensures { result ≡ is_yes answer.now }
+{
+    matches!(answer, Answer::Yes { .. } | Answer::YesBoth { .. })
+}
+
+/// Whether the answer is a YES to the query with this number, from 1, and a check accepts it. Then it excludes the goal from this
+/// configuration too: where that obeys the premise at all places, the goal does not hold at `place`.
+pub fn excludes<C: Configuration>(
+    alloc: Global,
+    script: &Script,
+    query: u32,
+    answer: &Answer,
+    configuration: &C,
+    place: &Position,
+) -> Result<bool, AllocError>
+    requires { IsWhole script.now (C.nodes configuration.now) (C.symbol_of configuration.now) }
+    ensures { IfOk result (λ excluded. excluded ≡ true → IsNowhereAt script.now query
+        (whole_look script.now.known.setting.topology.dimension (C.nodes configuration.now) (C.symbol_of configuration.now)) place.now) }
+{
+    if !has_query(script, query) {
+        return Ok(false);
+    }
+    if !is_flat(script, place) {
+        return Ok(false);
+    }
+    if !is_yes(answer) {
+        return Ok(false);
+    }
+    match check_answer(alloc, script, query, answer)? {
+        Verdict::Accepted => {
+            lifted(script, query, answer, configuration, place);
+            Ok(true)
+        }
+        Verdict::Rejected => Ok(false),
+    }
+}

@@ -1,0 +1,77 @@
+//! Configurations that are functions on all cells, and those of a script.
+ghost use Rattle.std.specs.Prelude.{◌≡◌, true, IfSome};
+ghost use Rattle.dd_checker.specs.Lifted.{IsWhole};
+ghost use Rattle.dd_infinite.specs.Functions.{IsForBoth, tiled};
+
+use dd_lattice::Cell;
+use dd_pattern::{Configuration, Periodic};
+use dd_script::Script;
+
+/// The symbol 1 at the origin, and 0 at all other positions: no period fits it.
+#[derive(Debug, Clone, Copy)]
+pub struct Spike;
+
+impl Configuration for Spike {
+    ghost use Rattle.dd_infinite.specs.Functions.{spike};
+
+    ghost nodes = { λ s. 1 };
+
+    ghost symbol_of = { λ s. spike };
+
+    fn symbol_at(&self, cell: &Cell) -> u32 {
+        let p = &cell.position;
+        if p.x == 0 && p.y == 0 && p.z == 0 {
+            1
+        } else {
+            0
+        }
+    }
+}
+
+/// The symbol 1 at an odd number of steps from the origin, and 0 at an even one.
+#[derive(Debug, Clone, Copy)]
+pub struct Checkerboard;
+
+impl Configuration for Checkerboard {
+    ghost use Rattle.dd_infinite.specs.Functions.{checkerboard};
+
+    ghost nodes = { λ s. 1 };
+
+    ghost symbol_of = { λ s. checkerboard };
+
+    fn symbol_at(&self, cell: &Cell) -> u32 {
+        let p = &cell.position;
+        (p.x.unsigned_abs() + p.y.unsigned_abs() + p.z.unsigned_abs()) % 2
+    }
+}
+
+/// Whether positions have one node, which allows the symbols 0 and 1: whether these configurations have a symbol that the
+/// script allows at each cell.
+#[tactic(auto, using(crate::proofs::Whole::for_both, crate::proofs::Whole::has_rows))]
+pub fn allows_both(script: &Script) -> bool
+    ensures { result ≡ true → IsForBoth script.now }
+{
+    if script.topology().nodes() != 1 {
+        return false;
+    }
+    let sets = script.sets();
+    if !sets.allows(0, 0) {
+        return false;
+    }
+    sets.allows(0, 1)
+}
+
+/// The script's configuration with this number, from 0. Each cell has a symbol that the script allows at its node.
+pub fn configuration(script: &Script, number: usize) -> Option<&Periodic>
+    ensures { IfSome result (λ p. IsWhole script.now p.now.nodes (tiled p.now)) }
+{
+    let configurations = script.configurations();
+    if number < configurations.len() {
+        let configuration = &configurations[number];
+        // Read for what its type keeps.
+        let _symbols = configuration.symbols();
+        Some(configuration)
+    } else {
+        None
+    }
+}

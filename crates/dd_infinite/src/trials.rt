@@ -1,0 +1,155 @@
+// What checked answers exclude from a spike, from a checkerboard and from a configuration of the script.
+ghost use Rattle.dd_checker.specs.Lifted.{IsWhole};
+
+use crate::{Checkerboard, Spike, allows_both, configuration, excludes};
+use dd_answer::answer;
+use dd_certificate::Answer;
+use dd_engines::Roster;
+use dd_lattice::Position;
+use dd_pattern::Configuration;
+use dd_script::{Script, parse};
+use std::alloc::{AllocError, Global};
+use std::process::Abort;
+use std::test::Fail;
+
+// Two queries with a YES, and one with a NO.
+const SCRIPT: &[u8] = b"%dim 1
+%rule sparse o=1 -> Ap[o2] (p=1 -> p@o)
+%rule hard o=1 -> Ap[o1] (p=1 -> p@o)
+%rule two Ap[o1] (p~o -> p!=o)
+%rule far o=o.rt.rt
+%conf thirds [3] 1 0 0
+%contains hard sparse
+%contains far two
+%contains sparse hard
+";
+
+// The place of an answer, a query, and whether the answer, taken for one to that query, excludes the goal.
+const ROWS: &[(usize, u32, bool)] = &[
+    (0, 1, true),
+    (0, 2, false),
+    (0, 3, false),
+    (0, 4, false),
+    (1, 0, false),
+    (1, 1, false),
+    (1, 2, true),
+    (1, 3, false),
+    (2, 2, false),
+    (2, 3, false),
+];
+
+const PLACES: &[i32] = &[-1_000_000, 0, 1];
+
+fn script_of(alloc: Global, bytes: &[u8]) -> Result<Script, Fail> {
+    if bytes.len() > 1_048_576 {
+        return Err("a short script".into());
+    }
+    Ok(parse(alloc, bytes)?)
+}
+
+fn answers_to(alloc: Global, script: &Script) -> Result<Vec<Answer>, AllocError> {
+    let mut roster: Roster = Roster::new(Vec::new(alloc));
+    let mut answers = Vec::new(alloc);
+    for query in script.queries() {
+        answers.push(answer(alloc, script, query, &mut roster)?)?;
+    }
+    Ok(answers)
+}
+
+// Whether the answer, taken for one to this query, excludes the goal from the configuration at a place of the line.
+fn excludes_at<C: Configuration>(
+    alloc: Global,
+    script: &Script,
+    query: u32,
+    answer: &Answer,
+    configuration: &C,
+    x: i32,
+) -> Result<bool, Fail>
+    requires { IsWhole script.now (C.nodes configuration.now) (C.symbol_of configuration.now) }
+{
+    let Some(place) = Position::new(x, 0, 0) else {
+        return Err("a position".into());
+    };
+    Ok(excludes(alloc, script, query, answer, configuration, &place)?)
+}
+
+// Asserts that it does so at each of the places, or at none.
+fn assert_places<C: Configuration>(
+    rt: &impl Abort,
+    alloc: Global,
+    script: &Script,
+    query: u32,
+    answer: &Answer,
+    configuration: &C,
+    wanted: bool,
+) -> Result<(), Fail>
+    requires { IsWhole script.now (C.nodes configuration.now) (C.symbol_of configuration.now) }
+{
+    for x in PLACES {
+        let excluded = excludes_at(alloc, script, query, answer, configuration, *x)?;
+        assert_eq!(rt; excluded, wanted, "{query} {x}");
+    }
+    Ok(())
+}
+
+// Asserts the rows for a configuration.
+fn assert_rows<C: Configuration>(
+    rt: &impl Abort,
+    alloc: Global,
+    script: &Script,
+    answers: &[Answer],
+    configuration: &C,
+) -> Result<(), Fail>
+    requires { IsWhole script.now (C.nodes configuration.now) (C.symbol_of configuration.now) }
+{
+    for (place, query, wanted) in ROWS {
+        let Some(answer) = answers.get(*place) else {
+            return Err("an answer".into());
+        };
+        assert_places(rt, alloc, script, *query, answer, configuration, *wanted)?;
+    }
+    Ok(())
+}
+
+fn assert_functions(
+    rt: &impl Abort,
+    alloc: Global,
+    script: &Script,
+    answers: &[Answer],
+) -> Result<(), Fail> {
+    if !allows_both(script) {
+        return Err("a node with both symbols".into());
+    }
+    assert_rows(rt, alloc, script, answers, &Spike)?;
+    assert_rows(rt, alloc, script, answers, &Checkerboard)
+}
+
+fn assert_periodic(
+    rt: &impl Abort,
+    alloc: Global,
+    script: &Script,
+    answers: &[Answer],
+) -> Result<(), Fail> {
+    let Some(thirds) = configuration(script, 0) else {
+        return Err("a configuration".into());
+    };
+    assert_rows(rt, alloc, script, answers, thirds)
+}
+
+// Asserts the rows for each of the configurations.
+fn assert_script(rt: &impl Abort, alloc: Global, script: &Script) -> Result<(), Fail> {
+    let answers = answers_to(alloc, script)?;
+    assert_functions(rt, alloc, script, &answers)?;
+    assert_periodic(rt, alloc, script, &answers)
+}
+
+fn read_script(alloc: Global) -> Result<Script, Fail> {
+    script_of(alloc, SCRIPT)
+}
+
+#[test]
+fn a_yes_excludes_goals_from_functions(rt: HostRuntime) -> Result<(), Fail> {
+    let alloc = rt.alloc();
+    let script = read_script(alloc)?;
+    assert_script(&rt, alloc, &script)
+}

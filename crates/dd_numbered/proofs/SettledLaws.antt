@@ -1,0 +1,29 @@
+-- What is settled by the first symbols of a list.
+use Rattle.std.proofs.Common.{◌≡◌, ℕ, zero, suc, Bool, List, [], ◌∷◌, ◌++◌, slice_get, ap, ◌∙◌, Some, None}
+use Rattle.std.specs.Prelude.{IfSome, Option, ◌==◌}
+use Rattle.dd_expansion.specs.Truth.{is_symbol}
+use Rattle.dd_numbered.specs.declared.numbered.Numbered.{Numbered}
+use Rattle.dd_numbered.specs.declared.numbered.Numbered.TheVariants as formula
+use Rattle.dd_numbered.specs.Numbered.{holds_in, IsSettled}
+use Rattle.dd_numbered.specs.settling.Parts.{AreAllSettled, IsAnySettled, IsTold}
+use Rattle.dd_numbered.proofs.Layers.{holds_and, holds_or}
+
+-- the answer for all parts is that for the formula
+if_some : {P Q : Bool → Type 0} (o : Option Bool) → ((b : Bool) → P b → Q b) → IfSome o P → IfSome o Q
+if_some None f h = tt
+if_some (Some b) f h = f b h
+
+pub settled_and : (es : List Numbered) (e : Numbered) (ss : List ℕ) (o : Option Bool) → e ≡ formula.And es → IfSome o (AreAllSettled es ss) → IfSome o (IsSettled e ss)
+settled_and es e ss o is = if_some o (λ b h more. ap (λ x. holds_in x (ss ++ more)) is ∙ (holds_and es (ss ++ more) ∙ h more))
+
+pub settled_or : (es : List Numbered) (e : Numbered) (ss : List ℕ) (o : Option Bool) → e ≡ formula.Or es → IfSome o (IsAnySettled es ss) → IfSome o (IsSettled e ss)
+settled_or es e ss o is = if_some o (λ b h more. ap (λ x. holds_in x (ss ++ more)) is ∙ (holds_or es (ss ++ more) ∙ h more))
+
+-- a symbol that stands in the beginning of a list stands in the list
+pub still_there : (ss more : List ℕ) (i s : ℕ) → slice_get ss i ≡ Some s → slice_get (ss ++ more) i ≡ Some s
+still_there [] more i s h = absurd (cc)
+still_there (x ∷ ss) more zero s h = h
+still_there (x ∷ ss) more (suc i) s h = still_there ss more i s h
+
+pub still_told : (ss : List ℕ) (k s there : ℕ) → slice_get ss k ≡ Some there → IsTold s k ss (there == s)
+still_told ss k s there h more = ap (is_symbol s) (still_there ss more k there h)

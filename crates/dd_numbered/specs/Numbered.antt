@@ -1,0 +1,45 @@
+-- Formulas without variables over a list of symbols: their truth, and those that say what an expansion says.
+use Rattle.std.specs.Prelude.{ℕ, ◌≡◌, ◌++◌, not, Bool, false, Option, Some, None, List, slice_get}
+use Rattle.std.specs.Bool.{beq}
+use Rattle.std.specs.List.{list_all, list_any}
+use Rattle.dd_expansion.specs.declared.expanded.Expanded.{Expanded}
+use Rattle.dd_expansion.specs.declared.expanded.Expanded.TheFolds.{fold-Expanded}
+use Rattle.dd_expansion.specs.declared.expanded.Expanded.TheOpen.{Expanded-F}
+use Rattle.dd_expansion.specs.Truth.{is_symbol}
+use Rattle.dd_numbered.specs.declared.numbered.Numbered.{Numbered, roll-Numbered}
+use Rattle.dd_numbered.specs.declared.numbered.Numbered.TheFolds.{fold-Numbered}
+use Rattle.dd_numbered.specs.declared.numbered.Numbered.TheOpen.{Numbered-F}
+use Rattle.dd_numbered.specs.Numbering.{Numbering}
+
+abbrev pub holds_step : Numbered-F (List ℕ → Bool) → List ℕ → Bool
+holds_step (Numbered-F.Constant b) ss = b
+holds_step (Numbered-F.Leaf k s) ss = is_symbol s (slice_get ss k)
+holds_step (Numbered-F.Not e) ss = not (e ss)
+holds_step (Numbered-F.And es) ss = list_all (λ e. e ss) es
+holds_step (Numbered-F.Or es) ss = list_any (λ e. e ss) es
+holds_step (Numbered-F.Iff e f) ss = beq (e ss) (f ss)
+
+-- the truth under the symbols of a list
+abbrev pub holds_in : Numbered → List ℕ → Bool
+holds_in = fold-Numbered (List ℕ → Bool) holds_step
+
+-- whatever symbols follow these, the truth is the same
+abbrev pub IsSettled : Numbered → List ℕ → Bool → Type 0
+IsSettled e ss b = (more : List ℕ) → holds_in e (ss ++ more) ≡ b
+
+-- the leaf of a number; the constant false where there is none
+abbrev pub leaf_with : ℕ → Option ℕ → Numbered
+leaf_with s None = roll-Numbered (Numbered-F.Constant false)
+leaf_with s (Some k) = roll-Numbered (Numbered-F.Leaf k s)
+
+abbrev pub numbered_step : Numbering → Expanded-F Numbered → Numbered
+numbered_step number (Expanded-F.Constant b) = roll-Numbered (Numbered-F.Constant b)
+numbered_step number (Expanded-F.Leaf c s) = leaf_with s (number c)
+numbered_step number (Expanded-F.Not e) = roll-Numbered (Numbered-F.Not e)
+numbered_step number (Expanded-F.And es) = roll-Numbered (Numbered-F.And es)
+numbered_step number (Expanded-F.Or es) = roll-Numbered (Numbered-F.Or es)
+numbered_step number (Expanded-F.Iff e f) = roll-Numbered (Numbered-F.Iff e f)
+
+-- the expansion with a number in place of each cell
+abbrev pub numbered : Numbering → Expanded → Numbered
+numbered number = fold-Expanded Numbered (numbered_step number)

@@ -1,0 +1,27 @@
+-- Numbers of cells: at which place in a list of symbols the symbol of a cell stands.
+use Rattle.std.specs.Prelude.{ℕ, Option, Some, None, List, slice_get}
+use Rattle.std.specs.List.{position_or_len}
+use Rattle.std.specs.Ordering.{is_eq}
+use Rattle.dd_lattice.specs.Order.{cell_cmp}
+use Rattle.dd_lattice.specs.declared.position.Cell.{Cell}
+use Rattle.dd_pattern.specs.Reading.{Look}
+
+-- the number of each cell, or none
+abbrev pub Numbering : Type 0
+Numbering = Cell → Option ℕ
+
+-- the symbol with the number
+abbrev pub symbol_with : List ℕ → Option ℕ → Option ℕ
+symbol_with ss None = None
+symbol_with ss (Some k) = slice_get ss k
+
+-- each cell has the symbol with its number
+abbrev pub read_by : Numbering → List ℕ → Look
+read_by number ss c = symbol_with ss (number c)
+
+-- the place of the cell among the cells, or as many as there are
+abbrev pub rank : List Cell → Cell → ℕ
+rank cs c = position_or_len (λ d. is_eq (cell_cmp d c)) cs
+
+abbrev pub by_rank : List Cell → Numbering
+by_rank cs c = Some (rank cs c)

@@ -1,0 +1,45 @@
+//! The places of cells in a list in cell order.
+ghost use Rattle.std.specs.Prelude.{◌≡◌};
+ghost use Rattle.std.specs.List.Sorted.{IsStrictlySortedBy, IsStrictlySortedBy-prop};
+ghost use Rattle.dd_lattice.specs.Order.{cell_cmp};
+ghost use Rattle.dd_numbered.specs.Numbering.{rank};
+
+use crate::numbers::Numbers;
+use dd_lattice::Cell;
+
+/// Cells in cell order. Each has its place among them as its number, and each other cell has their count.
+#[derive(Drop)]
+pub struct Ranks<'a> {
+    pub cells: &'a [Cell],
+    pub ghost ascending: { IsStrictlySortedBy cell_cmp cells.now } by { IsStrictlySortedBy-prop cell_cmp cells.now },
+}
+
+impl<'a> Ranks<'a> {
+    pub fn new(cells: &'a [Cell]) -> Ranks<'a>
+        requires { IsStrictlySortedBy cell_cmp cells.now }
+        ensures { result.cells.now ≡ cells.now }
+    {
+        Ranks { cells }
+    }
+}
+
+/// The place of a cell among the cells, or as many as there are.
+fn rank(cells: &[Cell], cell: &Cell) -> usize
+    requires { IsStrictlySortedBy cell_cmp cells.now }
+    ensures { result ≡ rank cells.now cell.now }
+{
+    match cells.binary_search(cell) {
+        Ok(place) => place,
+        Err(_) => cells.len(),
+    }
+}
+
+impl Numbers for Ranks<'_> {
+    ghost use Rattle.dd_numbered.specs.Numbering.{by_rank};
+
+    ghost numbering = { λ ranks. by_rank ranks.cells.now };
+
+    fn number(&self, cell: &Cell) -> Option<usize> {
+        Some(rank(self.cells, cell))
+    }
+}

@@ -1,0 +1,60 @@
+//! The truth of a formula under the symbols of a list.
+ghost use Rattle.std.specs.Prelude.{◌≡◌, slice_get};
+ghost use Rattle.std.specs.List.{list_all, list_any};
+ghost use Rattle.dd_expansion.specs.Truth.{is_symbol};
+ghost use Rattle.dd_numbered.specs.Numbered.{holds_in};
+
+use crate::numbered::Numbered;
+
+impl Numbered {
+    /// Whether the formula is true of the symbols; a leaf is false whose number is past their end. It takes no memory.
+    #[cycle(truth)]
+    #[tactic(auto, using(crate::proofs::Layers::holds_layers))]
+    pub fn truth(&self, symbols: &[u32]) -> bool
+        ensures { result ≡ holds_in self.now symbols.now }
+    {
+        match self {
+            Numbered::Constant(value) => *value,
+            Numbered::Leaf { number, symbol } => is_there(symbols, *number, *symbol),
+            Numbered::Not(inner) => !inner.get().truth(symbols),
+            Numbered::And(parts) => all_true(parts.as_slice(), symbols),
+            Numbered::Or(parts) => some_true(parts.as_slice(), symbols),
+            Numbered::Iff(left, right) => left.get().truth(symbols) == right.get().truth(symbols),
+        }
+    }
+}
+
+/// Whether the symbol stands at the number in the list.
+fn is_there(symbols: &[u32], number: usize, symbol: u32) -> bool
+    ensures { result ≡ is_symbol symbol (slice_get symbols.now number) }
+{
+    if number < symbols.len() {
+        symbols[number] == symbol
+    } else {
+        false
+    }
+}
+
+#[cycle(truth)]
+fn all_true(parts: &[Numbered], symbols: &[u32]) -> bool
+    ensures { result ≡ list_all (λ e. holds_in e symbols.now) parts.now }
+{
+    for part in parts {
+        if !part.truth(symbols) {
+            return false;
+        }
+    }
+    true
+}
+
+#[cycle(truth)]
+fn some_true(parts: &[Numbered], symbols: &[u32]) -> bool
+    ensures { result ≡ list_any (λ e. holds_in e symbols.now) parts.now }
+{
+    for part in parts {
+        if part.truth(symbols) {
+            return true;
+        }
+    }
+    false
+}

@@ -1,0 +1,40 @@
+-- The patterns around a position that gives along some vectors and around those that give to it.
+use Rattle.std.specs.Prelude.{ℕ, pos, List, [], ◌∷◌, map, unwrap_or}
+use Rattle.std.specs.List.{fold, flat_map, position_or_len}
+use Rattle.std.specs.Ordering.{nat_cmp, is_eq}
+use Rattle.std.specs.Cmp.Lexicographic.{slice_cmp}
+use Rattle.std.specs.BTreeSet.{insert_key}
+use Rattle.dd_lattice.specs.Place.{Place, place}
+use Rattle.dd_lattice.specs.Cells.{shifted}
+use Rattle.dd_lattice.specs.declared.position.Cell.{Cell}
+use Rattle.dd_pattern.specs.Reading.{Look}
+use Rattle.dd_formula.specs.LocalRule.{LocalRule}
+use Rattle.dd_rows.specs.Domains.{opposite, box_cells}
+use Rattle.dd_rows.specs.Fillings.{look_of, fillings}
+
+abbrev pub origin : Place
+origin = place (pos 0) (pos 0) (pos 0)
+
+-- the symbols of the box, moved to the position
+abbrev pub pattern_at : List Cell → Look → Place → List ℕ
+pattern_at box look p = map (λ c. unwrap_or (look (shifted p c)) 0) box
+
+-- around the positions from which the origin receives: -v along the vector v
+abbrev pub givers : List Cell → List Place → Look → List (List ℕ)
+givers box vs look = map (λ v. pattern_at box look (opposite v)) vs
+
+-- around the origin, and around these
+abbrev pub patterns_in : List Cell → List Place → Look → List (List ℕ)
+patterns_in box vs look = pattern_at box look origin ∷ givers box vs look
+
+-- lists of symbols in lexicographic order, each once
+abbrev pub in_lexicographic_order : List (List ℕ) → List (List ℕ)
+in_lexicographic_order lists = fold (insert_key (slice_cmp nat_cmp)) [] lists
+
+-- those that stand in some admissible filling of the cells
+abbrev pub patterns : LocalRule → ℕ → List Place → List Cell → List (List ℕ)
+patterns x radius vs cs = in_lexicographic_order (flat_map (λ ss. patterns_in (box_cells x radius) vs (look_of cs ss)) (fillings x cs))
+
+-- the number of a pattern among the patterns
+abbrev pub number_in : List (List ℕ) → List ℕ → ℕ
+number_in ps q = position_or_len (λ p. is_eq (slice_cmp nat_cmp p q)) ps

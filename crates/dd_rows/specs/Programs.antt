@@ -1,0 +1,86 @@
+-- The program of a rule along some vectors: what each position is to hold at least, once each has given along each vector an
+-- amount that its pattern determines. Column 0 is what each holds; then there is a column for each vector and each pattern.
+use Rattle.std.specs.Prelude.{ℕ, ◌+◌, ◌*◌, ◌<◌, ◌≤◌, ◌≡◌, ◌⊎◌, Bool, ◌&&◌, cond, pos, ◌-ℤ◌, ℤ, List, [], ◌∷◌, ◌++◌, map, length, replicate, unwrap_or}
+use Rattle.std.specs.Bool.{nat_eq}
+use Rattle.std.specs.Ordering.{int_eq}
+use Rattle.std.specs.List.{fold, flat_map, list_any, range_with_len}
+use Rattle.std.specs.Cmp.Lexicographic.{pointwise}
+use Rattle.dd_lattice.specs.Place.{Place}
+use Rattle.dd_lattice.specs.Cells.{cell}
+use Rattle.dd_lattice.specs.declared.position.Cell.{Cell}
+use Rattle.dd_pattern.specs.Reading.{Look}
+use Rattle.dd_pattern.specs.Weight.{total_weight}
+use Rattle.dd_expansion.specs.Limits.{greatest}
+use Rattle.dd_formula.specs.LocalRule.{LocalRule}
+use Rattle.dd_rows.specs.declared.rows.Row.{Row}
+use Rattle.dd_rows.specs.declared.rows.Rows.{Rows}
+use Rattle.dd_rows.specs.declared.fault.RowsFault.{RowsFault}
+use Rattle.dd_rows.specs.Domains.{IsGround, box_cells}
+use Rattle.dd_rows.specs.Fillings.{look_of, fillings, HasManyFillings, HasFewFillings}
+use Rattle.dd_rows.specs.Patterns.{origin, pattern_at, givers, patterns, number_in}
+use Rattle.dd_rows.specs.Faults.{OnLarge}
+
+abbrev pub one_at : ℕ → ℕ → ℤ
+one_at k n = pos (cond (nat_eq k n) 1 0)
+
+-- column 0, and for each vector and each pattern what goes out at the origin less what comes in
+abbrev pub coefficients : List (List ℕ) → List ℕ → List (List ℕ) → List ℤ
+coefficients ps out ins =
+    pos 1 ∷ flat_map (λ q. map (λ k. one_at k (number_in ps out) -ℤ one_at k (number_in ps q)) (range_with_len 0 (length ps))) ins
+
+-- the weight of the origin's position
+abbrev pub origin_weight : LocalRule → List ℕ → Look → ℕ
+origin_weight x ws look = total_weight ws (map (λ a. unwrap_or (look (cell origin a)) 0) (range_with_len 0 x.nodes))
+
+-- what a filling asks: the origin holds at most its weight, less what it gives, with what it receives
+abbrev pub row_of : LocalRule → List ℕ → ℕ → List Place → List (List ℕ) → Look → Row
+row_of x ws radius vs ps look =
+    let box = box_cells x radius in
+    record { coefficients = coefficients ps (pattern_at box look origin) (givers box vs look); bound = origin_weight x ws look }
+
+-- no position holds more than a heaviest one
+abbrev pub cap_row : LocalRule → List ℕ → List Place → List (List ℕ) → Row
+cap_row x ws vs ps = record { coefficients = pos 1 ∷ replicate (length vs * length ps) (pos 0); bound = x.nodes * greatest ws }
+
+abbrev pub is_same_row : Row → Row → Bool
+is_same_row r s = pointwise int_eq r.coefficients s.coefficients && nat_eq r.bound s.bound
+
+abbrev pub add_row : List Row → Row → List Row
+add_row rows r = cond (list_any (is_same_row r) rows) rows (rows ++ r ∷ [])
+
+-- each row once, where it is first seen
+abbrev pub first_seen : List Row → List Row
+first_seen rows = fold add_row [] rows
+
+abbrev pub rows : LocalRule → List ℕ → ℕ → List Place → List Cell → List Row
+rows x ws radius vs cs =
+    let ps = patterns x radius vs cs in
+    first_seen (cap_row x ws vs ps ∷ map (λ ss. row_of x ws radius vs ps (look_of cs ss)) (fillings x cs))
+
+abbrev pub column_count : ℕ → ℕ → ℕ
+column_count vectors patterns = 1 + vectors * patterns
+
+abbrev pub most_columns : ℕ
+most_columns = 256
+
+abbrev pub most_rows : ℕ
+most_rows = 2048
+
+-- the program, which is within its limits
+pub record IsProgramOf (x : LocalRule) (ws : List ℕ) (radius margin : ℕ) (vs : List Place) (p : Rows) : Type 0 where
+  pub ground : List Cell
+  pub is_ground : IsGround x radius margin vs ground
+  pub patterns_are : p.patterns ≡ patterns x radius vs ground
+  pub rows_are : p.rows ≡ rows x ws radius vs ground
+  pub few_fillings : HasFewFillings x ground
+  pub few_columns : column_count (length vs) (length p.patterns) ≤ most_columns
+  pub few_rows : length p.rows ≤ most_rows
+
+-- the program passes some limit
+pub record IsLargeProgram (x : LocalRule) (ws : List ℕ) (radius margin : ℕ) (vs : List Place) : Type 0 where
+  pub ground : List Cell
+  pub is_ground : IsGround x radius margin vs ground
+  pub many : HasManyFillings x ground ⊎ ((most_columns < column_count (length vs) (length (patterns x radius vs ground))) ⊎ (most_rows < length (rows x ws radius vs ground)))
+
+abbrev pub IsRowsFault : LocalRule → List ℕ → ℕ → ℕ → List Place → RowsFault → Type 0
+IsRowsFault x ws radius margin vs fault = OnLarge fault (IsLargeProgram x ws radius margin vs)

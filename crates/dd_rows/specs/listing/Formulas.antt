@@ -1,0 +1,28 @@
+-- The rule at places of a list of cells, as formulas over the cells' symbols.
+use Rattle.std.specs.Prelude.{ℕ, ◌<◌, ◌≡◌, Bool, List, length, All}
+use Rattle.std.specs.List.{list_all}
+use Rattle.dd_lattice.specs.Place.{Place}
+use Rattle.dd_lattice.specs.declared.position.Cell.{Cell}
+use Rattle.dd_expansion.specs.Leaves.{seen}
+use Rattle.dd_numbered.specs.declared.numbered.Numbered.{Numbered}
+use Rattle.dd_numbered.specs.Numbered.{holds_in}
+use Rattle.dd_numbered.specs.Numbering.{Numbering, by_rank}
+use Rattle.dd_formula.specs.LocalRule.{LocalRule, is_true}
+use Rattle.dd_rows.specs.Fillings.{look_of}
+
+-- the place in the list of a cell that is counted from v; none past the range of positions
+abbrev pub ranks_near : List Cell → Place → Numbering
+ranks_near cs v = seen (by_rank cs) v
+
+-- all formulas are true of the symbols
+abbrev pub are_all_true : List Numbered → List ℕ → Bool
+are_all_true es ss = list_all (λ e. holds_in e ss) es
+
+-- the formula says of symbols for all the cells what the rule says at the cell
+abbrev pub SaysTrue : LocalRule → List Cell → Cell → Numbered → Type 0
+SaysTrue x cs c e = (ss : List ℕ) → length ss ≡ length cs → All (λ s. s < x.symbols) ss → holds_in e ss ≡ is_true x c (look_of cs ss)
+
+-- together they say whether it is true at all of the places
+abbrev pub SayTrue : LocalRule → List Cell → List Cell → List Numbered → Type 0
+SayTrue x cs places es =
+    (ss : List ℕ) → length ss ≡ length cs → All (λ s. s < x.symbols) ss → are_all_true es ss ≡ list_all (λ c. is_true x c (look_of cs ss)) places

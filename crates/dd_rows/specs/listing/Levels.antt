@@ -1,0 +1,60 @@
+-- The fillings of the first cells, one cell after another.
+use Rattle.std.specs.Prelude.{ℕ, ◌<◌, ◌≡◌, Bool, not, cond, ◌||◌, List, [], ◌∷◌, ◌++◌, map, filter, length, All}
+use Rattle.std.specs.Bool.{nat_eq}
+use Rattle.std.specs.List.{range_with_len, list_all, position_or_len}
+use Rattle.std.specs.Ordering.{is_eq}
+use Rattle.dd_lattice.specs.Cells.{shifted}
+use Rattle.dd_lattice.specs.Place.{IsInRange}
+use Rattle.dd_lattice.specs.Order.{cell_cmp}
+use Rattle.dd_lattice.specs.declared.position.Cell.{Cell}
+use Rattle.dd_expansion.specs.Limits.{greatest}
+use Rattle.dd_pattern.specs.Reading.{Look}
+use Rattle.dd_formula.specs.LocalRule.{LocalRule, is_true, is_given, cells_at, rule_allows}
+use Rattle.dd_rows.specs.Fillings.{look_of}
+
+-- cells of the rule's nodes
+abbrev pub AreOf : LocalRule → List Cell → Type 0
+AreOf x cs = All (λ c. c.node < x.nodes) cs
+
+abbrev pub AreInRange : List Cell → Type 0
+AreInRange cs = All (λ c. IsInRange c.position) cs
+
+-- the number of the cell among the cells, or as many as there are
+abbrev pub number_of : List Cell → Cell → ℕ
+number_of cs c = position_or_len (λ d. is_eq (cell_cmp d c)) cs
+
+-- the greatest number of a place and of the cells that the rule reads there
+abbrev pub last_number : LocalRule → List Cell → Cell → ℕ
+last_number x cs c = greatest (number_of cs c ∷ map (λ d. number_of cs (shifted c.position d)) (cells_at x c.node))
+
+-- the places that fit once the cell with the number k has a symbol, and not before
+abbrev pub settled : LocalRule → List Cell → ℕ → List Cell
+settled x cs k = filter (λ c. nat_eq (last_number x cs c) k) cs
+
+-- the cells with the number, where each has the number at its place
+abbrev pub chosen : List ℕ → List Cell → ℕ → List Cell
+chosen [] cs k = []
+chosen (n ∷ ns) [] k = []
+chosen (n ∷ ns) (c ∷ cs) k = cond (nat_eq n k) (c ∷ chosen ns cs k) (chosen ns cs k)
+
+-- the rule is true at the place, if it is given there
+abbrev pub is_true_if_given : LocalRule → Look → Cell → Bool
+is_true_if_given x look c = not (is_given x c look) || is_true x c look
+
+abbrev pub are_true : LocalRule → List Cell → List Cell → List ℕ → Bool
+are_true x cs places ss = list_all (is_true_if_given x (look_of cs ss)) places
+
+-- with one more symbol below n that the node allows, where the list passes the test
+abbrev pub extended_below : LocalRule → (List ℕ → Bool) → ℕ → List ℕ → ℕ → List (List ℕ)
+extended_below x test a ss n = filter test (map (λ s. ss ++ s ∷ []) (filter (rule_allows x a) (range_with_len 0 n)))
+
+abbrev pub extended : LocalRule → (List ℕ → Bool) → ℕ → List ℕ → List (List ℕ)
+extended x test a ss = extended_below x test a ss x.symbols
+
+-- lists of symbols of the alphabet, one for each of the cells
+pub record IsWord (x : LocalRule) (n : ℕ) (ss : List ℕ) : Type 0 where
+  pub size : length ss ≡ n
+  pub below : All (λ s. s < x.symbols) ss
+
+abbrev pub AreWords : LocalRule → ℕ → List (List ℕ) → Type 0
+AreWords x n lists = All (IsWord x n) lists

@@ -1,0 +1,41 @@
+-- Where the cells of a box around a position stand among cells, and the symbols there.
+use Rattle.std.specs.Prelude.{ℕ, ◌≡◌, List, ◌∷◌, map, unwrap_or, slice_get}
+use Rattle.std.specs.List.{fold, range_with_len}
+use Rattle.std.specs.Ordering.{nat_cmp}
+use Rattle.std.specs.Cmp.Lexicographic.{slice_cmp}
+use Rattle.std.specs.BTreeSet.{insert_key}
+use Rattle.dd_lattice.specs.Place.{Place}
+use Rattle.dd_lattice.specs.Cells.{cell, shifted}
+use Rattle.dd_lattice.specs.declared.position.Cell.{Cell}
+use Rattle.dd_formula.specs.LocalRule.{LocalRule}
+use Rattle.dd_rows.specs.declared.views.Views.{Views}
+use Rattle.dd_rows.specs.Domains.{opposite, box_cells}
+use Rattle.dd_rows.specs.Patterns.{origin}
+use Rattle.dd_rows.specs.listing.Levels.{number_of}
+
+abbrev pub view_of : List Cell → List Cell → Place → List ℕ
+view_of cs box p = map (λ c. number_of cs (shifted p c)) box
+
+-- around the opposite of each vector
+abbrev pub givers_of : List Cell → List Cell → List Place → List (List ℕ)
+givers_of cs box vs = map (λ v. view_of cs box (opposite v)) vs
+
+-- of the cells at the origin
+abbrev pub centre_of : List Cell → ℕ → List ℕ
+centre_of cs nodes = map (λ a. number_of cs (cell origin a)) (range_with_len 0 nodes)
+
+pub record AreViews (x : LocalRule) (radius : ℕ) (vs : List Place) (cs : List Cell) (v : Views) : Type 0 where
+  pub centre : v.centre ≡ centre_of cs x.nodes
+  pub origin : v.origin ≡ view_of cs (box_cells x radius) origin
+  pub givers : v.givers ≡ givers_of cs (box_cells x radius) vs
+
+abbrev pub symbols_at : List ℕ → List ℕ → List ℕ
+symbols_at ss numbers = map (λ i. unwrap_or (slice_get ss i) 0) numbers
+
+-- around the origin, and around the opposite of each vector
+abbrev pub patterns_seen : Views → List ℕ → List (List ℕ)
+patterns_seen v ss = symbols_at ss v.origin ∷ map (symbols_at ss) v.givers
+
+-- the patterns with more
+abbrev pub with_patterns : List (List ℕ) → List (List ℕ) → List (List ℕ)
+with_patterns ps more = fold (insert_key (slice_cmp nat_cmp)) ps more

@@ -1,0 +1,134 @@
+//! The domain of a discharge, grown by its margin.
+ghost use Rattle.std.specs.Prelude.{◌≡◌, ◌<◌, ◌≤◌, IfOk, IfErr, [], pos, ◌-ℤ◌, All};
+ghost use Rattle.std.specs.List.Sorted.{IsStrictlySortedBy};
+ghost use Rattle.dd_lattice.specs.Place.{IsNear};
+ghost use Rattle.dd_lattice.specs.Order.{cell_cmp};
+ghost use Rattle.dd_lattice.specs.Boxes.{centred, positions_of};
+ghost use Rattle.dd_lattice.specs.Regions.{IsRegion, IsRegionOf, IsMoved};
+ghost use Rattle.dd_rows.specs.Asked.{IsVector, AreVectors};
+ghost use Rattle.dd_rows.specs.listing.Levels.{AreOf, AreInRange};
+ghost use Rattle.dd_rows.specs.Domains.{IsInDomain, IsInGround, IsGround, cells_on, box_cells, opposite};
+
+use crate::fault::RowsFault;
+use dd_formula::Rule;
+use dd_lattice::{Cell, LatticeFault, Position, Region, centred_box, positions};
+use dd_values::Items;
+use std::alloc::{AllocError, Global};
+
+fn negated(coordinate: i32) -> i32
+    requires { IsNear coordinate }
+    ensures value { result ≡ pos 0 -ℤ coordinate }
+    ensures near { IsNear result }
+{
+    -coordinate
+}
+
+/// The position on the other side of the origin.
+pub(crate) fn opposite(position: &Position) -> Position
+    ensures { result ≡ opposite position.now }
+{
+    Position {
+        x: negated(position.x),
+        y: negated(position.y),
+        z: negated(position.z),
+    }
+}
+
+/// The positions of the centred box.
+fn box_region(alloc: Global, dim: u32, radius: u32) -> Result<Region, RowsFault>
+    requires least { 1 ≤ dim }
+    requires most { dim ≤ 3 }
+    requires radius { radius ≤ 3 }
+    ensures list { IfOk result (λ region. region ≡ positions_of (centred dim radius)) }
+    ensures members { IfOk result (IsRegionOf (IsInDomain dim radius [])) }
+    ensures memory { IfErr result (λ fault. fault ≡ RowsFault.Memory) }
+{
+    let Some(bounds) = centred_box(dim, radius) else {
+        return Err(RowsFault::Memory);
+    };
+    let region = positions(alloc, &bounds)?;
+    Ok(region)
+}
+
+/// The box of the radius, and this box moved by the opposite of each vector.
+fn domain(alloc: Global, dim: u32, radius: u32, vectors: &[Position]) -> Result<Region, RowsFault>
+    requires least { 1 ≤ dim }
+    requires most { dim ≤ 3 }
+    requires radius { radius ≤ 3 }
+    requires vectors { All (IsVector dim) vectors.now }
+    ensures members { IfOk result (IsRegionOf (IsInDomain dim radius vectors.now)) }
+    ensures memory { IfErr result (λ fault. fault ≡ RowsFault.Memory) }
+{
+    let around = box_region(alloc, dim, radius)?;
+    let mut all = box_region(alloc, dim, radius)?;
+    for vector in vectors {
+        let moved = match around.shifted(alloc, &opposite(vector)) {
+            Ok(moved) => moved,
+            Err(LatticeFault::Memory) => return Err(RowsFault::Memory),
+            // Positions of the box lie within 3 of the origin, and vectors reach 4.
+            Err(LatticeFault::Range) => unreachable!(),
+        };
+        all = all.union(alloc, &moved)?;
+    }
+    Ok(all)
+}
+
+/// The cells of a region, in cell order.
+fn cells_on(alloc: Global, nodes: u32, positions: &[Position]) -> Result<Items<Cell>, AllocError>
+    ensures { IfOk result (λ cells. cells ≡ cells_on nodes positions.now) }
+{
+    let mut cells = Items::new(alloc);
+    for position in positions {
+        for node in 0..nodes {
+            cells.push(Cell {
+                position: *position,
+                node,
+            })?;
+        }
+    }
+    Ok(cells)
+}
+
+/// The cells of the box of the radius, in cell order.
+pub(crate) fn box_cells(alloc: Global, rule: &Rule, radius: u32) -> Result<Items<Cell>, RowsFault>
+    requires { radius ≤ 3 }
+    ensures cells { IfOk result (λ cells. cells ≡ box_cells rule.now radius) }
+    ensures memory { IfErr result (λ fault. fault ≡ RowsFault.Memory) }
+{
+    let dim = rule.dim();
+    let nodes = rule.nodes();
+    let region = box_region(alloc, dim, radius)?;
+    let cells = cells_on(alloc, nodes, region.list())?;
+    Ok(cells)
+}
+
+/// The cells of the domain grown by the margin, in cell order. It fails for want of memory alone.
+pub fn ground(
+    alloc: Global,
+    rule: &Rule,
+    radius: u32,
+    margin: u32,
+    vectors: &[Position],
+) -> Result<Items<Cell>, RowsFault>
+    requires radius { radius ≤ 3 }
+    requires margin { margin ≤ 3 }
+    requires vectors { AreVectors rule.now.dimension vectors.now }
+    ensures ground { IfOk result (IsGround rule.now radius margin vectors.now) }
+    ensures order { IfOk result (IsStrictlySortedBy cell_cmp) }
+    ensures nodes { IfOk result (AreOf rule.now) }
+    ensures near { IfOk result AreInRange }
+    ensures memory { IfErr result (λ fault. fault ≡ RowsFault.Memory) }
+{
+    let dim = rule.dim();
+    let nodes = rule.nodes();
+    let near = domain(alloc, dim, radius, vectors)?;
+    let region = match near.grow(alloc, dim, margin) {
+        Ok(region) => region,
+        Err(LatticeFault::Memory) => return Err(RowsFault::Memory),
+        // Positions of the domain lie within 7 of the origin.
+        Err(LatticeFault::Range) => unreachable!(),
+    };
+    let positions = region.list();
+    let cells = cells_on(alloc, nodes, positions)?;
+    Ok(cells)
+}

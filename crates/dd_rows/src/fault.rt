@@ -1,0 +1,25 @@
+//! Why a rule has no program along some vectors.
+ghost use Rattle.std.specs.Prelude.{◌≡◌};
+
+use std::alloc::AllocError;
+use thiserror::Error;
+
+/// Why the program of a rule was not made.
+#[derive(Clone, Copy, Debug, PartialEq, Eq, Error)]
+pub enum RowsFault {
+    /// Some first cells have more than 65,536 admissible fillings, or there are more than 2,048 rows or 256 columns.
+    #[error("the program of the discharge is too large")]
+    Large,
+    #[error("out of memory")]
+    Memory,
+}
+
+impl From<AllocError> for RowsFault {
+    ghost use Rattle.dd_rows.specs.declared.fault.RowsFault.TheVariants.{Memory};
+
+    ghost from_gives = { λ _ fault. fault ≡ Memory };
+
+    fn from(_error: AllocError) -> RowsFault {
+        RowsFault::Memory
+    }
+}

@@ -1,0 +1,79 @@
+//! The rule at places of a list of cells, as formulas over the cells' symbols.
+ghost use Rattle.std.specs.Prelude.{◌≡◌, ◌<◌, IfOk};
+ghost use Rattle.std.specs.List.Sorted.{IsStrictlySortedBy, IsStrictlySortedBy-prop};
+ghost use Rattle.dd_lattice.specs.Order.{cell_cmp};
+ghost use Rattle.dd_rows.specs.listing.Levels.{AreOf, AreInRange};
+ghost use Rattle.dd_rows.specs.listing.Formulas.{SaysTrue, SayTrue};
+
+use crate::numbers::number_of;
+use dd_formula::Rule;
+use dd_lattice::{Cell, Position, shift};
+use dd_numbered::{Numbered, Numbers};
+use dd_values::Items;
+use std::alloc::{AllocError, Global};
+
+/// Cells in cell order, and a position from which others are counted.
+#[derive(Drop)]
+struct Near<'a> {
+    cells: &'a [Cell],
+    at: Position,
+    pub ghost ascending: { IsStrictlySortedBy cell_cmp cells.now } by { IsStrictlySortedBy-prop cell_cmp cells.now },
+}
+
+impl<'a> Near<'a> {
+    fn new(cells: &'a [Cell], at: Position) -> Near<'a>
+        requires { IsStrictlySortedBy cell_cmp cells.now }
+        ensures cells { result.cells.now ≡ cells.now }
+        ensures at { result.at ≡ at }
+    {
+        Near { cells, at }
+    }
+}
+
+impl Numbers for Near<'_> {
+    ghost use Rattle.dd_rows.specs.listing.Formulas.{ranks_near};
+
+    ghost numbering = { λ near. ranks_near near.cells.now near.at };
+
+    fn number(&self, cell: &Cell) -> Option<usize> {
+        let position = shift(&cell.position, &self.at)?;
+        let node = cell.node;
+        Some(number_of(self.cells, &Cell { position, node }))
+    }
+}
+
+/// The rule at a place, over the symbols of the cells.
+fn formula_at(
+    alloc: Global,
+    rule: &Rule,
+    cells: &[Cell],
+    place: &Cell,
+) -> Result<Numbered, AllocError>
+    requires ascending { IsStrictlySortedBy cell_cmp cells.now }
+    requires near { AreInRange cells.now }
+    requires node { place.now.node < rule.now.nodes }
+    ensures { IfOk result (SaysTrue rule.now cells.now place.now) }
+{
+    let near = Near::new(cells, place.position);
+    Numbered::new(alloc, rule.expansion(place.node), &near)
+}
+
+/// The rule at each of the places, over the symbols of the cells.
+pub(crate) fn formulas(
+    alloc: Global,
+    rule: &Rule,
+    cells: &[Cell],
+    places: &[Cell],
+) -> Result<Items<Numbered>, AllocError>
+    requires ascending { IsStrictlySortedBy cell_cmp cells.now }
+    requires near { AreInRange cells.now }
+    requires places { AreOf rule.now places.now }
+    ensures { IfOk result (SayTrue rule.now cells.now places.now) }
+{
+    let mut formulas = Items::new(alloc);
+    for place in places {
+        let formula = formula_at(alloc, rule, cells, place)?;
+        formulas.push(formula)?;
+    }
+    Ok(formulas)
+}

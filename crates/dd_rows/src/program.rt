@@ -1,0 +1,258 @@
+//! The program of a rule along some vectors: its patterns, and the distinct rows that its fillings ask.
+ghost use Rattle.std.specs.Prelude.{◌≡◌, ◌≤◌, ◌<◌, ℕ, map, length, IfOk, IfErr, OnOk, All};
+ghost use Rattle.std.specs.List.{flat_map};
+ghost use Rattle.dd_expansion.specs.Limits.{greatest};
+ghost use Rattle.dd_pattern.specs.Weight.{AreWeights, total_weight};
+ghost use Rattle.dd_rows.specs.Asked.{AreVectors, AreWeightsFor};
+ghost use Rattle.dd_rows.specs.Faults.{OnLarge};
+ghost use Rattle.dd_rows.specs.Patterns.{in_lexicographic_order};
+ghost use Rattle.dd_rows.specs.Programs.{IsProgramOf, IsRowsFault, add_row, first_seen, column_count, most_columns, most_rows};
+ghost use Rattle.dd_rows.specs.listing.Views.{symbols_at, patterns_seen, with_patterns};
+ghost use Rattle.dd_rows.specs.listing.Sparse.{dense, exchanges_of, asked_row, asked_rows, IsSparse, AreSparse, IsWithRow};
+ghost use Rattle.dd_rows.specs.listing.Shown.{IsProgramShown, IsLargeShown};
+
+use crate::domain::ground;
+use crate::fault::RowsFault;
+use crate::pattern::{Pattern, Patterns};
+use crate::repeats::without_repeats;
+use crate::rows::{Row, Rows};
+use crate::search::fillings;
+use crate::sparse::{SparseRow, exchanges};
+use crate::views::Views;
+use dd_formula::Rule;
+use dd_lattice::Position;
+use dd_values::Items;
+use indexmap::IndexSet;
+use std::alloc::{AllocError, Global};
+
+/// The greatest number of columns of a program.
+const MOST_COLUMNS: usize = 256;
+
+/// The greatest number of rows.
+const MOST_ROWS: usize = 2_048;
+
+/// Puts the patterns that one filling shows.
+fn add_patterns(
+    alloc: Global,
+    symbols: &[u32],
+    views: &Views,
+    seen: &mut Pattern,
+    patterns: &mut Patterns,
+) -> Result<(), AllocError>
+    ensures { OnOk result (patterns.new ≡ with_patterns patterns.old (patterns_seen views.now symbols.now)) }
+{
+    seen.read(symbols, views.origin.as_slice())?;
+    patterns.insert(alloc, seen)?;
+    for numbers in views.givers.as_slice() {
+        seen.read(symbols, numbers.as_slice())?;
+        patterns.insert(alloc, seen)?;
+    }
+    Ok(())
+}
+
+/// The patterns that the fillings show; none are looked for once they give too many columns.
+fn all_patterns(
+    alloc: Global,
+    fillings: &[Items<u32>],
+    views: &Views,
+) -> Result<Patterns, RowsFault>
+    ensures ok { IfOk result (λ patterns. patterns ≡ in_lexicographic_order (flat_map (patterns_seen views.now) fillings.now)) }
+    ensures few { IfOk result (λ patterns. column_count (length views.now.givers) (length patterns) ≤ most_columns) }
+    ensures err { IfErr result (λ fault. OnLarge fault
+        (most_columns < column_count (length views.now.givers) (length (in_lexicographic_order (flat_map (patterns_seen views.now) fillings.now))))) }
+{
+    let vectors = views.givers.len();
+    let mut seen = Pattern::new(alloc);
+    let mut patterns = Patterns::new(alloc);
+    for symbols in fillings {
+        add_patterns(alloc, symbols.as_slice(), views, &mut seen, &mut patterns)?;
+        if vectors.saturating_mul(patterns.len()) >= MOST_COLUMNS {
+            return Err(RowsFault::Large);
+        }
+    }
+    Ok(patterns)
+}
+
+/// The sum of the symbols' weights.
+fn weight_of(symbols: &[u32], weights: &[u32]) -> u64
+    requires weights { AreWeights weights.now symbols.now }
+    requires few { length symbols.now ≤ 4 }
+    ensures { result ≡ total_weight weights.now symbols.now }
+{
+    let mut total = 0;
+    for symbol in symbols {
+        total += weights[*symbol as usize] as u64;
+    }
+    total
+}
+
+/// The row that a filling asks.
+fn asked_row(
+    alloc: Global,
+    symbols: &[u32],
+    views: &Views,
+    patterns: &Patterns,
+    weights: &[u32],
+    seen: &mut Pattern,
+) -> Result<SparseRow, AllocError>
+    requires known { All (λ s. s < length weights.now) symbols.now }
+    requires some { 1 ≤ length weights.now }
+    requires small { All (λ w. w ≤ 1000) weights.now }
+    requires nodes { length views.now.centre ≤ 4 }
+    ensures exchanges { IfOk result (λ row. row.exchanges.items ≡ exchanges_of patterns.now views.now symbols.now) }
+    ensures row { IfOk result (λ row. dense (length patterns.now) row ≡ asked_row patterns.now views.now weights.now symbols.now) }
+{
+    let list = exchanges(alloc, symbols, views, patterns, seen)?;
+    seen.read(symbols, views.centre.as_slice())?;
+    Ok(SparseRow::new(list, weight_of(seen.symbols(), weights)))
+}
+
+/// Puts a row behind the others, unless it is there.
+fn add_row(rows: &mut IndexSet<SparseRow>, row: SparseRow) -> Result<(), RowsFault>
+    ensures ok { (vectors : ℕ) → (patterns : ℕ) → AreSparse vectors patterns rows.old.keys → IsSparse vectors patterns row →
+        OnOk result (IsWithRow vectors patterns rows.old.keys row rows.new.keys) }
+    ensures few { OnOk result (length rows.new.keys ≤ most_rows) }
+    ensures err { (vectors : ℕ) → (patterns : ℕ) → AreSparse vectors patterns rows.old.keys → IsSparse vectors patterns row →
+        IfErr result (λ fault. OnLarge fault (most_rows < length (add_row (map (dense patterns) rows.old.keys) (dense patterns row)))) }
+{
+    match rows.insert(row) {
+        Ok(_) => {}
+        Err(_) => return Err(RowsFault::Memory),
+    }
+    if rows.len() > MOST_ROWS {
+        return Err(RowsFault::Large);
+    }
+    Ok(())
+}
+
+/// The distinct rows that the fillings ask, behind the one that no position holds more than the heaviest; none are looked for
+/// once there are too many.
+fn distinct_rows(
+    alloc: Global,
+    fillings: &[Items<u32>],
+    views: &Views,
+    patterns: &Patterns,
+    weights: &[u32],
+    heaviest: u64,
+) -> Result<IndexSet<SparseRow>, RowsFault>
+    requires known { All (λ ss. All (λ s. s < length weights.now) ss) fillings.now }
+    requires some { 1 ≤ length weights.now }
+    requires small { All (λ w. w ≤ 1000) weights.now }
+    requires nodes { length views.now.centre ≤ 4 }
+    ensures ok { IfOk result (λ rows. map (dense (length patterns.now)) rows.keys
+        ≡ first_seen (asked_rows patterns.now views.now weights.now heaviest fillings.now)) }
+    ensures few { IfOk result (λ rows. length rows.keys ≤ most_rows) }
+    ensures err { IfErr result (λ fault. OnLarge fault
+        (most_rows < length (first_seen (asked_rows patterns.now views.now weights.now heaviest fillings.now)))) }
+{
+    let cap = SparseRow::cap(alloc, views.givers.len(), heaviest)?;
+    let mut seen = Pattern::new(alloc);
+    let mut rows = IndexSet::new(alloc);
+    add_row(&mut rows, cap)?;
+    for symbols in fillings {
+        let row = asked_row(
+            alloc,
+            symbols.as_slice(),
+            views,
+            patterns,
+            weights,
+            &mut seen,
+        )?;
+        add_row(&mut rows, row)?;
+    }
+    Ok(rows)
+}
+
+/// The rows with all their coefficients.
+fn dense_rows(
+    alloc: Global,
+    rows: &IndexSet<SparseRow>,
+    patterns: usize,
+) -> Result<Items<Row>, AllocError>
+    ensures { IfOk result (λ list. list ≡ map (dense patterns) rows.now.keys) }
+{
+    let mut list = Items::new(alloc);
+    for row in rows.as_slice() {
+        list.push(row.dense(alloc, patterns)?)?;
+    }
+    Ok(list)
+}
+
+fn greatest_weight(weights: &[u32]) -> u32
+    ensures { result ≡ greatest weights.now }
+{
+    let mut most = 0;
+    for weight in weights {
+        most = most.max(*weight);
+    }
+    most
+}
+
+/// The program of a list of fillings: the patterns that they show, and the distinct rows that they ask.
+fn program_listed(
+    alloc: Global,
+    fillings: &[Items<u32>],
+    views: &Views,
+    weights: &[u32],
+    heaviest: u64,
+) -> Result<Rows, RowsFault>
+    requires known { All (λ ss. All (λ s. s < length weights.now) ss) fillings.now }
+    requires some { 1 ≤ length weights.now }
+    requires small { All (λ w. w ≤ 1000) weights.now }
+    requires nodes { length views.now.centre ≤ 4 }
+    ensures ok { IfOk result (IsProgramShown views.now weights.now heaviest fillings.now) }
+    ensures err { IfErr result (λ fault. OnLarge fault (IsLargeShown views.now weights.now heaviest fillings.now)) }
+{
+    let patterns = all_patterns(alloc, fillings, views)?;
+    let rows = distinct_rows(alloc, fillings, views, &patterns, weights, heaviest)?;
+    Ok(Rows {
+        patterns: patterns.lists(alloc)?,
+        rows: dense_rows(alloc, &rows, patterns.len())?,
+    })
+}
+
+/// The program of the fillings, from those of which the views show something new.
+fn program_shown(
+    alloc: Global,
+    fillings: &[Items<u32>],
+    views: &Views,
+    weights: &[u32],
+    heaviest: u64,
+) -> Result<Rows, RowsFault>
+    requires known { All (λ ss. All (λ s. s < length weights.now) ss) fillings.now }
+    requires some { 1 ≤ length weights.now }
+    requires small { All (λ w. w ≤ 1000) weights.now }
+    requires nodes { length views.now.centre ≤ 4 }
+    ensures ok { IfOk result (IsProgramShown views.now weights.now heaviest fillings.now) }
+    ensures err { IfErr result (λ fault. OnLarge fault (IsLargeShown views.now weights.now heaviest fillings.now)) }
+{
+    let shown = without_repeats(alloc, fillings, views)?;
+    program_listed(alloc, shown.as_slice(), views, weights, heaviest)
+}
+
+/// The program of a rule along the vectors, for a domain of the radius grown by the margin. Each symbol has a weight.
+///
+/// # Errors
+/// `Large` exactly where some first cells of the grown domain have more than 65,536 admissible fillings, or the program more
+/// than 256 columns or 2,048 rows; else `Memory`.
+pub fn program_of(
+    alloc: Global,
+    rule: &Rule,
+    weights: &[u32],
+    radius: u32,
+    margin: u32,
+    vectors: &[Position],
+) -> Result<Rows, RowsFault>
+    requires weights { AreWeightsFor rule.now weights.now }
+    requires radius { radius ≤ 3 }
+    requires margin { margin ≤ 3 }
+    requires vectors { AreVectors rule.now.dimension vectors.now }
+    ensures ok { IfOk result (IsProgramOf rule.now weights.now radius margin vectors.now) }
+    ensures err { IfErr result (IsRowsFault rule.now weights.now radius margin vectors.now) }
+{
+    let heaviest = u64::from(rule.nodes()) * u64::from(greatest_weight(weights));
+    let cells = ground(alloc, rule, radius, margin, vectors)?;
+    let fillings = fillings(alloc, rule, cells.as_slice())?;
+    let views = Views::new(alloc, rule, cells.as_slice(), radius, vectors)?;
+    program_shown(alloc, fillings.as_slice(), &views, weights, heaviest)
+}

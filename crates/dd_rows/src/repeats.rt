@@ -1,0 +1,87 @@
+//! Fillings whose views show nothing new: in lexicographic order many neighbours differ only where no view reads them.
+ghost use Rattle.std.specs.Prelude.{◌≡◌, ℕ, map, unwrap_or, slice_get, IfOk, IsTrue};
+ghost use Rattle.dd_rows.specs.listing.Views.{symbols_at};
+ghost use Rattle.dd_rows.specs.listing.Repeats.{ShowAlike, EndsAlike, ShowsSame, HasKnown};
+
+use crate::views::Views;
+use dd_values::Items;
+use std::alloc::{AllocError, Global};
+
+/// The symbol with the number, or 0 past the end.
+fn symbol_at(symbols: &[u32], number: usize) -> u32
+    ensures { result ≡ unwrap_or (slice_get symbols.now number) 0 }
+{
+    if number < symbols.len() {
+        symbols[number]
+    } else {
+        0
+    }
+}
+
+/// Whether the symbols with these numbers are the same.
+fn are_same(one: &[u32], other: &[u32], numbers: &[usize]) -> bool
+    ensures { IsTrue result → symbols_at one.now numbers.now ≡ symbols_at other.now numbers.now }
+{
+    for number in numbers {
+        let here = symbol_at(one, *number);
+        let there = symbol_at(other, *number);
+        if here != there {
+            return false;
+        }
+    }
+    true
+}
+
+/// Whether the symbols with each of these lists of numbers are the same.
+fn are_all_same(one: &[u32], other: &[u32], lists: &[Items<usize>]) -> bool
+    ensures { IsTrue result → map (symbols_at one.now) lists.now ≡ map (symbols_at other.now) lists.now }
+{
+    for numbers in lists {
+        if !are_same(one, other, numbers.as_slice()) {
+            return false;
+        }
+    }
+    true
+}
+
+/// Whether the views show the same of both.
+fn show_alike(one: &[u32], other: &[u32], views: &Views) -> bool
+    ensures { IsTrue result → ShowAlike views.now one.now other.now }
+{
+    if !are_same(one, other, views.centre.as_slice()) {
+        return false;
+    }
+    if !are_same(one, other, views.origin.as_slice()) {
+        return false;
+    }
+    are_all_same(one, other, views.givers.as_slice())
+}
+
+/// Whether the views show the same of the last filling.
+fn ends_alike(shown: &[Items<u32>], symbols: &[u32], views: &Views) -> bool
+    ensures { IsTrue result → EndsAlike views.now shown.now symbols.now }
+{
+    match shown.split_last() {
+        Some((last, _front)) => show_alike(last.as_slice(), symbols, views),
+        None => false,
+    }
+}
+
+/// The fillings without those of which the views show what they show of the one before. They give the same patterns and rows.
+pub(crate) fn without_repeats(
+    alloc: Global,
+    fillings: &[Items<u32>],
+    views: &Views,
+) -> Result<Items<Items<u32>>, AllocError>
+    ensures same { IfOk result (ShowsSame views.now fillings.now) }
+    ensures known { IfOk result (HasKnown fillings.now) }
+{
+    let mut shown = Items::new(alloc);
+    for symbols in fillings {
+        if !ends_alike(shown.as_slice(), symbols.as_slice(), views) {
+            let filling = Items::from_slice(alloc, symbols.as_slice())?;
+            shown.push(filling)?;
+        }
+    }
+    Ok(shown)
+}

@@ -1,0 +1,207 @@
+//! The search for fillings: cell by cell, all fillings of the first cells.
+ghost use Rattle.std.specs.Prelude.{◌≡◌, ◌<◌, ◌≤◌, ◌+◌, ◌++◌, [], ◌∷◌, length, map, IfOk, OnOk, IfErr};
+ghost use Rattle.std.specs.List.{flat_map, range_with_len};
+ghost use Rattle.std.specs.List.Sorted.{IsStrictlySortedBy};
+ghost use Rattle.dd_lattice.specs.Order.{cell_cmp};
+ghost use Rattle.dd_lattice.specs.Cells.{shifted};
+ghost use Rattle.dd_formula.specs.LocalRule.{LocalRule};
+ghost use Rattle.dd_rows.specs.Faults.{OnLarge};
+ghost use Rattle.dd_rows.specs.Fillings.{fillings, HasManyFillings, HasFewFillings, most_fillings};
+ghost use Rattle.dd_rows.specs.listing.Levels.{AreOf, AreInRange, extended, chosen, last_number, number_of};
+ghost use Rattle.dd_rows.specs.listing.Formulas.{are_all_true};
+
+use crate::fault::RowsFault;
+use crate::numbers::number_of;
+use crate::places::formulas;
+use dd_formula::Rule;
+use dd_lattice::{Cell, shift};
+use dd_numbered::Numbered;
+use dd_values::Items;
+use std::alloc::{AllocError, Global};
+
+/// The greatest number of admissible fillings of the first cells.
+const MOST_FILLINGS: usize = 65_536;
+
+/// Whether all formulas are true of the symbols.
+fn are_true(formulas: &[Numbered], symbols: &[u32]) -> bool
+    ensures { result ≡ are_all_true formulas.now symbols.now }
+{
+    for formula in formulas {
+        if !formula.truth(symbols) {
+            return false;
+        }
+    }
+    true
+}
+
+/// Writes the symbols and one more.
+fn write_longer(longer: &mut Vec<u32>, symbols: &[u32], symbol: u32) -> Result<(), AllocError>
+    ensures { OnOk result (longer.new.items ≡ symbols.now ++ symbol ∷ []) }
+{
+    longer.clear();
+    longer.extend_from_slice(symbols)?;
+    longer.push(symbol)?;
+    Ok(())
+}
+
+/// Puts the symbols with each one more under which the formulas are true; they are written into `longer` before.
+fn extend(
+    alloc: Global,
+    rule: &Rule,
+    formulas: &[Numbered],
+    node: u32,
+    symbols: &[u32],
+    longer: &mut Vec<u32>,
+    next: &mut Items<Items<u32>>,
+) -> Result<(), RowsFault>
+    requires node { node < rule.now.nodes }
+    requires few { length next.old ≤ most_fillings }
+    ensures ok { OnOk result (next.new ≡ next.old ++ extended rule.now (are_all_true formulas.now) node symbols.now) }
+    ensures few { OnOk result (length next.new ≤ most_fillings) }
+    ensures err { IfErr result (λ fault. OnLarge fault (most_fillings < length (next.old ++ extended rule.now (are_all_true formulas.now) node symbols.now))) }
+{
+    for symbol in 0..rule.symbols() {
+        if rule.allows(node, symbol) {
+            write_longer(longer, symbols, symbol)?;
+            if are_true(formulas, longer.as_slice()) {
+                if next.len() == MOST_FILLINGS {
+                    return Err(RowsFault::Large);
+                }
+                let filling = Items::from_slice(alloc, longer.as_slice())?;
+                next.push(filling)?;
+            }
+        }
+    }
+    Ok(())
+}
+
+/// The fillings of one cell more.
+fn next_level(
+    alloc: Global,
+    rule: &Rule,
+    formulas: &[Numbered],
+    node: u32,
+    level: &[Items<u32>],
+) -> Result<Items<Items<u32>>, RowsFault>
+    requires node { node < rule.now.nodes }
+    ensures ok { IfOk result (λ next. next ≡ flat_map (extended rule.now (are_all_true formulas.now) node) level.now) }
+    ensures few { IfOk result (λ next. length next ≤ most_fillings) }
+    ensures err { IfErr result (λ fault. OnLarge fault (most_fillings < length (flat_map (extended rule.now (are_all_true formulas.now) node) level.now))) }
+{
+    let mut longer = Vec::new(alloc);
+    let mut next = Items::new(alloc);
+    for symbols in level {
+        extend(
+            alloc,
+            rule,
+            formulas,
+            node,
+            symbols.as_slice(),
+            &mut longer,
+            &mut next,
+        )?;
+    }
+    Ok(next)
+}
+
+/// For each of the cells, the greatest number of it and of those that the rule reads there.
+fn last_numbers(alloc: Global, rule: &Rule, cells: &[Cell]) -> Result<Vec<usize>, AllocError>
+    requires ascending { IsStrictlySortedBy cell_cmp cells.now }
+    requires nodes { AreOf rule.now cells.now }
+    requires near { AreInRange cells.now }
+    ensures { IfOk result (λ numbers. numbers.items ≡ map (last_number rule.now cells.now) cells.now) }
+{
+    let mut numbers = Vec::with_capacity(alloc, cells.len())?;
+    for cell in cells {
+        numbers.push(last_number(rule, cells, cell))?;
+    }
+    Ok(numbers)
+}
+
+/// The greatest number of the cell and of those that the rule reads there.
+fn last_number(rule: &Rule, cells: &[Cell], cell: &Cell) -> usize
+    requires ascending { IsStrictlySortedBy cell_cmp cells.now }
+    requires node { cell.now.node < rule.now.nodes }
+    requires near { AreInRange cells.now }
+    ensures { result ≡ last_number rule.now cells.now cell.now }
+{
+    let mut last = number_of(cells, cell);
+    for read in rule.reads(cell.node) {
+        last = last.max(number_of_read(cells, cell, read));
+    }
+    last
+}
+
+/// The number of a cell that is read at a cell.
+pub(crate) fn number_of_read(cells: &[Cell], cell: &Cell, read: &Cell) -> usize
+    requires ascending { IsStrictlySortedBy cell_cmp cells.now }
+    requires near { AreInRange cells.now }
+    ensures { result ≡ number_of cells.now (shifted cell.now.position read.now) }
+{
+    match shift(&read.position, &cell.position) {
+        Some(position) => number_of(
+            cells,
+            &Cell {
+                position,
+                node: read.node,
+            },
+        ),
+        None => cells.len(),
+    }
+}
+
+/// So many empty lists.
+fn empty_lists(alloc: Global, count: usize) -> Result<Vec<Items<Cell>>, AllocError>
+    ensures { IfOk result (λ lists. lists.items ≡ map (chosen [] []) (range_with_len 0 count)) }
+{
+    let mut lists = Vec::with_capacity(alloc, count)?;
+    for _number in 0..count {
+        lists.push(Items::new(alloc))?;
+    }
+    Ok(lists)
+}
+
+/// For each number of a cell the cells that have it, by the number of each cell.
+fn places_by_number(
+    alloc: Global,
+    numbers: &[usize],
+    cells: &[Cell],
+) -> Result<Vec<Items<Cell>>, AllocError>
+    requires { length numbers.now ≡ length cells.now }
+    ensures { IfOk result (λ places. places.items ≡ map (chosen numbers.now cells.now) (range_with_len 0 (length cells.now))) }
+{
+    let mut places = empty_lists(alloc, cells.len())?;
+    for i in 0..cells.len() {
+        let number = numbers[i];
+        if number < places.len() {
+            let list = &mut places[number];
+            list.push(cells[i])?;
+        }
+    }
+    Ok(places)
+}
+
+/// All fillings of the cells with symbols that their nodes allow, under which the rule is true at each place that fits, in
+/// the lexicographic order of their symbols.
+///
+/// # Errors
+/// `Large` where the first so many cells have more than 65,536 of them; else `Memory`.
+pub fn fillings(alloc: Global, rule: &Rule, cells: &[Cell]) -> Result<Items<Items<u32>>, RowsFault>
+    requires ascending { IsStrictlySortedBy cell_cmp cells.now }
+    requires nodes { AreOf rule.now cells.now }
+    requires near { AreInRange cells.now }
+    ensures ok { IfOk result (λ found. found ≡ fillings rule.now cells.now) }
+    ensures few { OnOk result (HasFewFillings rule.now cells.now) }
+    ensures err { IfErr result (λ fault. OnLarge fault (HasManyFillings rule.now cells.now)) }
+{
+    let numbers = last_numbers(alloc, rule, cells)?;
+    let places = places_by_number(alloc, numbers.as_slice(), cells)?;
+    let mut level = Items::new(alloc);
+    level.push(Items::new(alloc))?;
+    for k in 0..cells.len() {
+        let node = cells[k].node;
+        let formulas = formulas(alloc, rule, &cells[..k + 1], places[k].as_slice())?;
+        level = next_level(alloc, rule, formulas.as_slice(), node, level.as_slice())?;
+    }
+    Ok(level)
+}

@@ -1,0 +1,129 @@
+//! Rows by what they say along each vector. Along each at most two of a row's coefficients are not 0, so that rows are told
+//! apart by few numbers.
+ghost use Rattle.std.specs.Prelude.{◌≡◌, ◌++◌, ◌∷◌, [], pos, None, replicate, length, map, IfOk, OnOk};
+ghost use Rattle.dd_pattern.specs.Weight.{total_weight};
+ghost use Rattle.dd_rows.specs.Patterns.{number_in};
+ghost use Rattle.dd_rows.specs.listing.Views.{symbols_at};
+ghost use Rattle.dd_rows.specs.listing.Sparse.{exchange_of, entry, entries, dense, exchanges_of};
+
+use crate::pattern::{Pattern, Patterns};
+use crate::rows::Row;
+use crate::views::Views;
+use dd_values::Items;
+use std::alloc::{AllocError, Global};
+
+/// The numbers of the patterns by which the origin gives along a vector and receives along it, where these differ.
+#[derive(Clone, Copy, PartialEq, Eq, Hash)]
+pub(crate) struct Exchange {
+    gives: usize,
+    receives: usize,
+}
+
+/// A row: for each vector what is exchanged along it, and the right side.
+#[derive(PartialEq, Eq, Hash, Drop)]
+pub(crate) struct SparseRow {
+    exchanges: Vec<Option<Exchange>>,
+    bound: u64,
+}
+
+/// The amounts of a pattern that gives and of the same that receives cancel.
+fn exchange_between(gives: usize, receives: usize) -> Option<Exchange>
+    ensures { result ≡ exchange_of gives receives }
+{
+    if gives == receives {
+        None
+    } else {
+        Some(Exchange { gives, receives })
+    }
+}
+
+/// The number of the pattern that the symbols show there.
+fn number_seen(
+    symbols: &[u32],
+    numbers: &[usize],
+    patterns: &Patterns,
+    seen: &mut Pattern,
+) -> Result<usize, AllocError>
+    ensures { IfOk result (λ number. number ≡ number_in patterns.now (symbols_at symbols.now numbers.now)) }
+{
+    seen.read(symbols, numbers)?;
+    Ok(patterns.number(seen))
+}
+
+/// What the symbols of a filling exchange along each vector.
+pub(crate) fn exchanges(
+    alloc: Global,
+    symbols: &[u32],
+    views: &Views,
+    patterns: &Patterns,
+    seen: &mut Pattern,
+) -> Result<Vec<Option<Exchange>>, AllocError>
+    ensures { IfOk result (λ list. list.items ≡ exchanges_of patterns.now views.now symbols.now) }
+{
+    let gives = number_seen(symbols, views.origin.as_slice(), patterns, seen)?;
+    let mut list = Vec::with_capacity(alloc, views.givers.len())?;
+    for numbers in views.givers.as_slice() {
+        let receives = number_seen(symbols, numbers.as_slice(), patterns, seen)?;
+        list.push(exchange_between(gives, receives))?;
+    }
+    Ok(list)
+}
+
+/// The coefficient of the pattern with the number.
+fn entry(exchange: &Option<Exchange>, pattern: usize) -> i64
+    ensures { result ≡ entry exchange.now pattern }
+{
+    match exchange {
+        None => 0,
+        Some(exchange) => {
+            i64::from(exchange.gives == pattern) - i64::from(exchange.receives == pattern)
+        }
+    }
+}
+
+/// Puts the coefficients of each of so many patterns.
+fn push_entries(
+    coefficients: &mut Items<i64>,
+    exchange: &Option<Exchange>,
+    patterns: usize,
+) -> Result<(), AllocError>
+    ensures { OnOk result (coefficients.new ≡ coefficients.old ++ entries patterns exchange.now) }
+{
+    for pattern in 0..patterns {
+        coefficients.push(entry(exchange, pattern))?;
+    }
+    Ok(())
+}
+
+impl SparseRow {
+    pub(crate) fn new(exchanges: Vec<Option<Exchange>>, bound: u64) -> SparseRow
+        ensures exchanges { result.exchanges.items ≡ exchanges.items }
+        ensures bound { result.bound ≡ bound }
+    {
+        SparseRow { exchanges, bound }
+    }
+
+    /// The row along so many vectors that says that no position holds more than the bound.
+    pub(crate) fn cap(alloc: Global, vectors: usize, bound: u64) -> Result<SparseRow, AllocError>
+        ensures exchanges { IfOk result (λ row. row.exchanges.items ≡ replicate vectors None) }
+        ensures bound { IfOk result (λ row. row.bound ≡ bound) }
+    {
+        let exchanges = vec![in alloc; None; vectors]?;
+        Ok(SparseRow { exchanges, bound })
+    }
+
+    /// All its coefficients, for so many patterns.
+    pub(crate) fn dense(&self, alloc: Global, patterns: usize) -> Result<Row, AllocError>
+        ensures { IfOk result (λ row. row ≡ dense patterns self.now) }
+    {
+        let mut coefficients = Items::new(alloc);
+        coefficients.push(1)?;
+        for exchange in &self.exchanges {
+            push_entries(&mut coefficients, exchange, patterns)?;
+        }
+        Ok(Row {
+            coefficients,
+            bound: self.bound,
+        })
+    }
+}

@@ -1,0 +1,44 @@
+-- The sample scripts, and the words that name them.
+use Rattle.std.specs.Prelude.{◌≡◌, ℕ, ◌*◌, ◌≤◌, List, ◌++◌, codes, Option, Some, None}
+use Rattle.std.specs.List.{repeat}
+use Rattle.std.specs.Fmt.{decimal}
+
+-- There is a sample with this number. The configuration of the last has as many symbols as a script may give.
+abbrev pub IsSampleNumber : ℕ → Type 0
+IsSampleNumber number = (1 ≤ number) × (number ≤ 16384)
+
+-- the word is this number of a sample, in decimal
+abbrev pub IsWrittenBy : List ℕ → ℕ → Type 0
+IsWrittenBy word number = IsSampleNumber number × (word ≡ decimal number)
+
+-- the number of a sample that the word writes; none where it writes none
+abbrev pub IsNumberOf : List ℕ → Option ℕ → Type 0
+IsNumberOf word (Some number) = IsWrittenBy word number
+IsNumberOf word None = (number : ℕ) → ¬ IsWrittenBy word number
+
+-- the limits and the rules
+abbrev pub rules_text : List ℕ
+rules_text =
+    codes "%limits 3 3 1000\n"
+    ++ (codes "%rule hard o=1 -> (o.rt=0 & o.up=0)\n"
+    ++ (codes "%rule row o=1 -> o.rt=0\n"
+    ++ (codes "%rule dies (o=1 -> o.rt=1) & !(o=1 & o.rt=1 & o.rt.rt=1)\n"
+    ++ (codes "%rule zero o=0\n"
+    ++ codes "%rule dom Ep[o1] p=1\n"))))
+
+-- the queries
+abbrev pub queries_text : List ℕ
+queries_text =
+    codes "%member c hard\n"
+    ++ (codes "%contains row hard\n"
+    ++ (codes "%contains hard row\n"
+    ++ (codes "%equal hard row\n"
+    ++ (codes "%contains zero dies\n"
+    ++ (codes "%density dom [5]\n"
+    ++ codes "%discharge dom 0 0 [1 0] [-1 0] [0 1] [0 -1]\n")))))
+
+-- The sample script with this number. Its configuration is two wide: the rows 1 0 and 0 1 in turn, each as often as the number says.
+unfoldable pub sample_text : ℕ → List ℕ
+sample_text number =
+    rules_text
+    ++ (codes "%conf c [2 " ++ (decimal (2 * number) ++ (codes "]" ++ (repeat number (codes " 1 0 0 1") ++ (codes "\n" ++ queries_text)))))

@@ -1,0 +1,35 @@
+// The text of a sample script.
+ghost use Rattle.std.specs.Prelude.{IfOk, ◌≡◌, ◌≤◌, length};
+ghost use Rattle.dd_sample.specs.Sample.{IsSampleNumber, sample_text};
+
+use std::alloc::{AllocError, Global};
+
+/// The sample script with this number. Its first query asks for a configuration of four symbols for each one that the number counts;
+/// its others are the same in all samples: two of containment, one of equality, one that takes a box of radius 3, a density and a bound.
+/// The text is no longer than a script may be.
+#[tactic(auto, unfolding(crate::specs::Sample::sample_text), using(crate::proofs::Lengths::sample_fits))]
+pub fn sample_script(alloc: Global, number: u32) -> Result<Vec<u8>, AllocError>
+    requires { IsSampleNumber number }
+    ensures value { IfOk result (λ text. text.items ≡ sample_text number) }
+    ensures fits { length (sample_text number) ≤ 1_048_576 }
+{
+    let height = 2 * number;
+    let symbols = " 1 0 0 1".repeat(alloc, number as usize)?;
+    let text = format!(in alloc;
+        "%limits 3 3 1000\n\
+         %rule hard o=1 -> (o.rt=0 & o.up=0)\n\
+         %rule row o=1 -> o.rt=0\n\
+         %rule dies (o=1 -> o.rt=1) & !(o=1 & o.rt=1 & o.rt.rt=1)\n\
+         %rule zero o=0\n\
+         %rule dom Ep[o1] p=1\n\
+         %conf c [2 {height}]{symbols}\n\
+         %member c hard\n\
+         %contains row hard\n\
+         %contains hard row\n\
+         %equal hard row\n\
+         %contains zero dies\n\
+         %density dom [5]\n\
+         %discharge dom 0 0 [1 0] [-1 0] [0 1] [0 -1]\n"
+    )?;
+    Ok(text.into_bytes())
+}

@@ -1,0 +1,30 @@
+-- What the run of a sample wrote, by how it ended.
+use Rattle.std.proofs.Common.{◌≡◌, ◌≢◌, ℕ, Bool, true, false, sym, ◌∙◌, subst, inl, inr}
+use Rattle.dd_certificate.specs.Text.{answer_line}
+use Rattle.dd_script.specs.Parts.{Parts}
+use Rattle.dd_script.specs.Scripts.{Spells}
+use Rattle.dd_sample.specs.Sample.{sample_text}
+use Rattle.dd_session.specs.declared.status.Status.{Status}
+use Rattle.dd_session.specs.declared.status.Status.TheVariants.{BadWords}
+use Rattle.dd_session.specs.Sides.{Told, status_of}
+use Rattle.dd_session.specs.Written.{AnsweredToEnd}
+use Rattle.dd_session.specs.Samples.{LinesOf, SampleEnded}
+use Rattle.dd_session.proofs.Open.{AnswersAgree, open_as}
+
+-- the lines of all answers were written, and the end line
+pub lines_over : {K : Type 0} (sink : Told K) (s : Parts) (has : Bool) (status : Status) → AnswersAgree s
+    → AnsweredToEnd answer_line sink.bytes_old sink.bytes_new s has → status ≡ status_of has → LinesOf sink s status
+lines_over sink s true status agree lines is =
+    subst (LinesOf sink s) (sym is) (lines, open_as s lines.answers true agree lines.right lines.each lines.unknown_is)
+lines_over sink s false status agree lines is =
+    subst (LinesOf sink s) (sym is) (lines, open_as s lines.answers false agree lines.right lines.each lines.unknown_is)
+
+-- the sample was made
+pub sample_over : {K : Type 0} (sink : Told K) (number : ℕ) (s : Parts) (status : Status) → Spells (sample_text number) s
+    → LinesOf sink s status → SampleEnded sink number status
+sample_over sink number s status spelled lines = inl record { script = s; spelled = spelled; lines = lines }
+
+-- no run of a sample ends by bad words
+pub never_sampled : {K : Type 0} (sink : Told K) (number : ℕ) (status : Status) → SampleEnded sink number status → status ≢ BadWords
+never_sampled sink number status (inl ran) is = let none : ⊥ = subst (LinesOf sink ran.script) is ran.lines in none
+never_sampled sink number status (inr kept) is = absurd (cc (sym kept.1 ∙ is))

@@ -1,0 +1,14 @@
+use Rattle.dd_session.specs.Sides.{told}
+use Rattle.dd_session.proofs.Engaging.{never_unanswered}
+use Rattle.dd_session.proofs.Sampled.{lines_over}
+use Rattle.dd_session.proofs.session.run_lines.Goals as goal
+
+pub returns-in-Ok-clause-wrote : goal.returns-in-Ok-clause-wrote
+returns-in-Ok-clause-wrote g c =
+    lines_over (told g.K.Sink.held g.K.Sink.faults c.args.sink.now c.answer_to_end.new.sink) c.args.script.now c.in-Ok.is_open _ c.one_line.ensures c.in-Ok.ensures.whole c.status_of.ensures
+
+pub returns-in-Ok-clause-answered : goal.returns-in-Ok-clause-answered
+returns-in-Ok-clause-answered g c = never_unanswered c.in-Ok.is_open c.status_of.result c.status_of.ensures
+
+pub returns-in-Ok-clause-asked : goal.returns-in-Ok-clause-asked
+returns-in-Ok-clause-asked g c = λ _. c.in-Ok.ensures.asked.first

@@ -1,0 +1,32 @@
+-- What the run of a sample wrote, by how it ended.
+use Rattle.std.specs.Prelude.{◌≡◌, ◌⊎◌, ℕ, true, false}
+use Rattle.dd_certificate.specs.Text.{answer_line}
+use Rattle.dd_script.specs.Parts.{Parts}
+use Rattle.dd_script.specs.Scripts.{Spells}
+use Rattle.dd_sample.specs.Sample.{sample_text}
+use Rattle.dd_session.specs.declared.status.Status.{Status}
+use Rattle.dd_session.specs.declared.status.Status.TheVariants.{Definite, SomeUnknown, Refused, ReadFault, WriteFault, Memory, BadWords, Rejected}
+use Rattle.dd_session.specs.Answers.{IsOpenAs}
+use Rattle.dd_session.specs.Sides.{Told, IsKept, Failed}
+use Rattle.dd_session.specs.Written.{AnsweredToEnd, AnsweredShort}
+
+-- What was written of the first lines of right answers to the queries of a script, by the status.
+abbrev pub LinesOf : {K : Type 0} → Told K → Parts → Status → Type 0
+LinesOf sink s Definite = AnsweredToEnd answer_line sink.bytes_old sink.bytes_new s false × IsOpenAs false s
+LinesOf sink s SomeUnknown = AnsweredToEnd answer_line sink.bytes_old sink.bytes_new s true × IsOpenAs true s
+LinesOf sink s WriteFault = AnsweredShort answer_line sink.bytes_old sink.bytes_new s × Failed sink
+LinesOf sink s Memory = AnsweredShort answer_line sink.bytes_old sink.bytes_new s
+LinesOf sink s Refused = ⊥
+LinesOf sink s ReadFault = ⊥
+LinesOf sink s BadWords = ⊥
+LinesOf sink s Rejected = ⊥
+
+-- The sample with this number is a script, and so much of its lines was written.
+pub record SampleRan {K : Type 0} (sink : Told K) (number : ℕ) (status : Status) : Type 0 where
+  pub script : Parts
+  pub spelled : Spells (sample_text number) script
+  pub lines : LinesOf sink script status
+
+-- What the run of the sample with a number wrote, by the status: nothing, where memory was wanting before its script was made.
+abbrev pub SampleEnded : {K : Type 0} → Told K → ℕ → Status → Type 0
+SampleEnded sink number status = SampleRan sink number status ⊎ (IsKept sink × (status ≡ Memory))

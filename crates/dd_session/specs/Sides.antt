@@ -1,0 +1,43 @@
+-- A source and a sink before and after a call, and what each status says of them.
+use Rattle.std.specs.Prelude.{◌≡◌, ℕ, List, Bool, true, false}
+use Rattle.std.specs.declared.option.Option.{Option}
+use Rattle.std.specs.Io.KnownBytes.{Appends}
+use Rattle.dd_values.specs.Counts.{Rose}
+use Rattle.dd_outside.specs.Bytes.{GainsFront}
+use Rattle.dd_session.specs.declared.status.Status.{Status}
+use Rattle.dd_session.specs.declared.status.Status.TheVariants.{Definite, SomeUnknown, Refused, ReadFault, WriteFault, Memory, BadWords, Rejected}
+
+-- A source or a sink before and after a call: itself, the bytes that it tells, and how often it has failed.
+pub record Told (X : Type 0) : Type 0 where
+  pub old : X
+  pub new : X
+  pub bytes_old : Option (List ℕ)
+  pub bytes_new : Option (List ℕ)
+  pub faults_old : ℕ
+  pub faults_new : ℕ
+
+abbrev pub told : {X : Type 0} → (X → Option (List ℕ)) → (X → ℕ) → X → X → Told X
+told bytes faults old new =
+    record { old = old; new = new; bytes_old = bytes old; bytes_new = bytes new; faults_old = faults old; faults_new = faults new }
+
+abbrev pub IsKept : {X : Type 0} → Told X → Type 0
+IsKept side = side.new ≡ side.old
+
+abbrev pub Failed : {X : Type 0} → Told X → Type 0
+Failed side = Rose side.faults_old side.faults_new
+
+-- A line for an input that is refused was written, or a front of it.
+abbrev pub RefusedBy : {K : Type 0} → Told K → List ℕ → Status → Type 0
+RefusedBy sink line Refused = Appends sink.bytes_old sink.bytes_new line
+RefusedBy sink line WriteFault = GainsFront sink.bytes_old sink.bytes_new line × Failed sink
+RefusedBy sink line Definite = ⊥
+RefusedBy sink line SomeUnknown = ⊥
+RefusedBy sink line ReadFault = ⊥
+RefusedBy sink line Memory = ⊥
+RefusedBy sink line BadWords = ⊥
+RefusedBy sink line Rejected = ⊥
+
+-- The status of a run to the end, by whether some answer is that it is not known.
+abbrev pub status_of : Bool → Status
+status_of true = SomeUnknown
+status_of false = Definite

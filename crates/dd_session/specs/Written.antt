@@ -1,0 +1,58 @@
+-- What was written of right answers to the queries of a script.
+use Rattle.std.specs.Prelude.{◌≡◌, ◌⊎◌, ℕ, List, [], ◌++◌, length, Bool}
+use Rattle.std.specs.declared.option.Option.{Option}
+use Rattle.std.specs.Io.KnownBytes.{Appends}
+use Rattle.dd_outside.specs.Bytes.{GainsFront}
+use Rattle.dd_certificate.specs.declared.answer.Answer.{Answer}
+use Rattle.dd_certificate.specs.Text.{answer_text}
+use Rattle.dd_query.specs.declared.queries.Query.{Query}
+use Rattle.dd_script.specs.Parts.{Parts}
+use Rattle.dd_session.specs.Answers.{AllRight, has_unknown, texts}
+use Rattle.dd_session.specs.Output.{header, end_line, output_of}
+
+-- Right answers to these queries of a script were written, from a number on, so much of each.
+pub record Answered (written : ℕ → Answer → List ℕ) (old new : Option (List ℕ)) (s : Parts) (queries : List Query) (first : ℕ) (has : Bool) : Type 0 where
+  pub answers : List Answer
+  pub right : AllRight s queries answers
+  pub each : length answers ≡ length queries
+  pub unknown_is : has_unknown answers ≡ has
+  pub appends : Appends old new (texts written first answers)
+
+-- A front of right answers to the first of these queries was written, from a number on, so much of each.
+pub record AnsweredFront (written : ℕ → Answer → List ℕ) (old new : Option (List ℕ)) (s : Parts) (queries : List Query) (first : ℕ) : Type 0 where
+  pub answers : List Answer
+  pub right : AllRight s queries answers
+  pub front : GainsFront old new (texts written first answers)
+
+-- Right answers to all queries of a script were written, so much of each, and the end line.
+pub record AnsweredToEnd (written : ℕ → Answer → List ℕ) (old new : Option (List ℕ)) (s : Parts) (has : Bool) : Type 0 where
+  pub answers : List Answer
+  pub right : AllRight s s.queries answers
+  pub each : length answers ≡ length s.queries
+  pub unknown_is : has_unknown answers ≡ has
+  pub appends : Appends old new (texts written 1 answers ++ end_line)
+
+-- A front of that was written: of right answers to the first queries, and of the end line after the answers to all of them.
+pub record AnsweredShort (written : ℕ → Answer → List ℕ) (old new : Option (List ℕ)) (s : Parts) : Type 0 where
+  pub answers : List Answer
+  pub ending : List ℕ
+  pub right : AllRight s s.queries answers
+  pub ending_is : (ending ≡ []) ⊎ ((ending ≡ end_line) × (length answers ≡ length s.queries))
+  pub front : GainsFront old new (texts written 1 answers ++ ending)
+
+-- The whole output was written, with a right answer to each query.
+pub record WholeOutput (old new : Option (List ℕ)) (bytes : List ℕ) (s : Parts) (has : Bool) : Type 0 where
+  pub answers : List Answer
+  pub right : AllRight s s.queries answers
+  pub each : length answers ≡ length s.queries
+  pub unknown_is : has_unknown answers ≡ has
+  pub appends : Appends old new (output_of bytes answers)
+
+-- A front of the output was written: of the header, of right answers to the first queries, and of the end line after
+-- the answers to all of them.
+pub record CutShort (old new : Option (List ℕ)) (bytes : List ℕ) (s : Parts) : Type 0 where
+  pub answers : List Answer
+  pub ending : List ℕ
+  pub right : AllRight s s.queries answers
+  pub ending_is : (ending ≡ []) ⊎ ((ending ≡ end_line) × (length answers ≡ length s.queries))
+  pub front : GainsFront old new (header bytes ++ texts answer_text 1 answers ++ ending)

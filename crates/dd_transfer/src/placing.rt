@@ -1,0 +1,94 @@
+//! The rule at the places of a window where it stands, as formulas over the window's symbols.
+ghost use Rattle.std.specs.Prelude.{◌≡◌, ◌<◌, IfOk, pos, ◌≤ℤ◌};
+ghost use Rattle.dd_transfer.specs.Windows.{IsSized, IsFor, stand};
+ghost use Rattle.dd_lattice.specs.Place.{moved};
+ghost use Rattle.dd_lattice.specs.Cells.{cell};
+ghost use Rattle.dd_transfer.specs.placing.Formulas.{standpoint, window_numbers, ArePlaces, SaysAt};
+
+use crate::strip::Strip;
+use dd_formula::Rule;
+use dd_lattice::{Cell, Position};
+use dd_numbered::{Numbered, Numbers};
+use dd_values::Items;
+use std::alloc::{AllocError, Global};
+use std::marker::Model;
+
+/// The numbers of a window's cells, which are counted from a place.
+#[derive(Debug, Drop)]
+struct Near {
+    strip: Strip,
+    at: Position,
+}
+
+impl Model for Near {
+    ghost use Rattle.dd_transfer.specs.Windows.{IsSized};
+    ghost use Rattle.dd_transfer.specs.placing.Formulas.{Standpoint, standpoint};
+
+    ghost Value = { Standpoint };
+
+    ghost view = { λ near. standpoint near.strip near.at };
+
+    ghost invariant = { λ near. IsSized near.strip };
+}
+
+impl Near {
+    fn new(strip: Strip, at: Position) -> Near
+        requires { IsSized strip }
+        ensures { result ≡ standpoint strip at }
+    {
+        Near { strip, at }
+    }
+}
+
+/// The number of the cell at the sum of two positions, which may pass the range of positions.
+fn number_at(strip: Strip, position: &Position, by: &Position, node: u32) -> Option<usize>
+    requires { IsSized strip }
+    ensures { result ≡ window_numbers strip (cell (moved position.now by.now) node) }
+{
+    let x = position.x + by.x;
+    let y = position.y + by.y;
+    let z = position.z + by.z;
+    strip.number(x, y, z, node)
+}
+
+impl Numbers for Near {
+    ghost use Rattle.dd_transfer.specs.placing.Formulas.{numbers_near};
+
+    ghost numbering = { numbers_near };
+
+    fn number(&self, cell: &Cell) -> Option<usize> {
+        number_at(self.strip, &cell.position, &self.at, cell.node)
+    }
+}
+
+/// The rule at a cell, over the symbols of a window.
+fn formula_at(alloc: Global, rule: &Rule, strip: Strip, at: &Cell) -> Result<Numbered, AllocError>
+    requires strip { IsSized strip }
+    requires node { at.now.node < rule.now.nodes }
+    ensures { IfOk result (SaysAt rule.now strip at.now) }
+{
+    let near = Near::new(strip, at.position);
+    Numbered::new(alloc, rule.expansion(at.node), &near)
+}
+
+/// The rule at each of its places in a window, which are at this `x`.
+pub(crate) fn formulas(
+    alloc: Global,
+    rule: &Rule,
+    strip: Strip,
+    x: i32,
+) -> Result<Items<Numbered>, AllocError>
+    requires strip { IsFor rule.now strip }
+    requires x { x ≡ stand rule.now }
+    requires some { pos 0 ≤ℤ x }
+    requires near { x ≤ℤ pos 16 }
+    ensures { IfOk result (ArePlaces rule.now strip) }
+{
+    let mut formulas = Items::new(alloc);
+    for number in 0..strip.cells() {
+        let cell = strip.cell_at(x, number);
+        let formula = formula_at(alloc, rule, strip, &cell)?;
+        formulas.push(formula)?;
+    }
+    Ok(formulas)
+}

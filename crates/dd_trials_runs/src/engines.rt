@@ -1,0 +1,147 @@
+// Engines for runs, of which most are no good.
+ghost use Rattle.std.specs.Prelude.{false};
+
+use crate::runs::words_of;
+use dd_clause::{Assignment, Cnf};
+use dd_derivation::Outcome;
+use dd_engines::{Engine, Propagator, Proposal, Roster, Tally, Walker};
+use dd_outside::{MemorySink, MemorySource};
+use dd_session::{Status, run_diddy};
+use dd_solver::solve;
+use dd_values::Items;
+use std::alloc::{AllocError, Global};
+
+/// What a fake engine proposes when it is asked.
+#[derive(Clone, Copy, Debug)]
+pub(crate) enum Habit {
+    /// Nothing.
+    Silent,
+    /// A refutation without steps.
+    NoSteps,
+    /// That all variables are false.
+    AllFalse,
+    /// It wants memory at its first call, and proposes nothing later.
+    NoMemoryAtFirst,
+    /// Nothing at its first call, and a refutation without steps later.
+    ChangesItsMind,
+    /// By turns nothing, what is right, and a refutation without steps.
+    ByTurns,
+    /// A refutation without steps of a list of just this size, and nothing of any other.
+    OfSize { variables: u32, clauses: usize },
+}
+
+#[derive(Drop)]
+struct Fake {
+    habit: Habit,
+    turn: u32,
+    tally: Tally,
+}
+
+impl Fake {
+    fn new(habit: Habit) -> Self {
+        Fake {
+            habit,
+            turn: 0,
+            tally: Tally::new(),
+        }
+    }
+}
+
+/// That all variables of the list are false.
+fn all_false(alloc: Global, cnf: &Cnf) -> Result<Proposal, AllocError> {
+    let values = vec![in alloc; false; cnf.variables() as usize]?;
+    Ok(Proposal::Found(Assignment::new(values)))
+}
+
+/// What is right.
+fn solved(alloc: Global, cnf: &Cnf) -> Result<Proposal, AllocError> {
+    match solve(alloc, cnf)? {
+        Outcome::Found(assignment) => Ok(Proposal::Found(assignment)),
+        Outcome::Refuted(steps) => Ok(Proposal::Refutation(steps)),
+    }
+}
+
+fn no_steps(alloc: Global) -> Proposal {
+    Proposal::Refutation(Items::new(alloc))
+}
+
+/// What an engine of this habit proposes at a turn, from 0 on.
+fn proposal_of(habit: Habit, turn: u32, alloc: Global, cnf: &Cnf) -> Result<Proposal, AllocError> {
+    match habit {
+        Habit::Silent => Ok(Proposal::Nothing),
+        Habit::NoSteps => Ok(no_steps(alloc)),
+        Habit::AllFalse => all_false(alloc, cnf),
+        Habit::NoMemoryAtFirst if turn == 0 => Err(AllocError),
+        Habit::NoMemoryAtFirst => Ok(Proposal::Nothing),
+        Habit::ChangesItsMind if turn == 0 => Ok(Proposal::Nothing),
+        Habit::ChangesItsMind => Ok(no_steps(alloc)),
+        Habit::ByTurns => match turn % 3 {
+            0 => Ok(Proposal::Nothing),
+            1 => solved(alloc, cnf),
+            _ => Ok(no_steps(alloc)),
+        },
+        Habit::OfSize { variables, clauses } => {
+            if cnf.variables() == variables && cnf.clauses().len() == clauses {
+                Ok(no_steps(alloc))
+            } else {
+                Ok(Proposal::Nothing)
+            }
+        }
+    }
+}
+
+impl Engine for Fake {
+    ghost asked = { λ engine. engine.tally.asked };
+
+    ghost given = { λ engine. engine.tally.given };
+
+    ghost sound = { λ _. false };
+
+    fn propose(&mut self, alloc: Global, cnf: &Cnf) -> Result<Proposal, AllocError> {
+        self.tally.ask();
+        let turn = self.turn;
+        self.turn = turn.saturating_add(1);
+        let proposal = proposal_of(self.habit, turn, alloc, cnf)?;
+        if !matches!(proposal, Proposal::Nothing) {
+            self.tally.give();
+        }
+        Ok(proposal)
+    }
+}
+
+/// A member of a roster.
+#[derive(Clone, Copy, Debug)]
+pub(crate) enum Member {
+    Fake(Habit),
+    Propagator,
+    Walker(u32),
+}
+
+/// No engines at all.
+pub(crate) const NO_ENGINES: &[Member] = &[];
+
+/// The engines of the program.
+pub(crate) const OF_PROGRAM: &[Member] = &[Member::Propagator, Member::Walker(10_000)];
+
+/// The status of a session of one word over these bytes with these engines, and how many engines are left.
+pub(crate) fn session_over(
+    alloc: Global,
+    word: &str,
+    bytes: &[u8],
+    members: &[Member],
+    sink: &mut MemorySink,
+) -> Result<(Status, usize), AllocError> {
+    let words = words_of(alloc, word)?;
+    let mut source = MemorySource::new(Vec::from_slice(alloc, bytes)?, 7, Vec::new(alloc));
+    let mut engines: Vec<Box<dyn Engine>> = Vec::new(alloc);
+    for member in members {
+        match member {
+            Member::Fake(habit) => engines.push(Box::new(alloc, Fake::new(*habit))?)?,
+            Member::Propagator => engines.push(Box::new(alloc, Propagator::new())?)?,
+            Member::Walker(flips) => engines.push(Box::new(alloc, Walker::new(*flips))?)?,
+        }
+    }
+    let mut roster = Roster::new(engines);
+    let status = run_diddy(alloc, &words, &mut source, sink, &mut roster);
+    Ok((status, roster.count()))
+}

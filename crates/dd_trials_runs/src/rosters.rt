@@ -1,0 +1,155 @@
+// Runs over rosters of engines, of which most are no good: the same lines come out, and those that are found wrong go.
+use crate::engines::{Habit, Member, OF_PROGRAM, session_over};
+use crate::runs::{first_lines, run_over};
+use dd_outside::MemorySink;
+use dd_session::Status;
+use std::test::Fail;
+
+const NO_STEPS: Member = Member::Fake(Habit::NoSteps);
+
+const ALL_FALSE: Member = Member::Fake(Habit::AllFalse);
+
+const SILENT: Member = Member::Fake(Habit::Silent);
+
+const NO_MEMORY: Member = Member::Fake(Habit::NoMemoryAtFirst);
+
+const FICKLE: Member = Member::Fake(Habit::ChangesItsMind);
+
+const BY_TURNS: Member = Member::Fake(Habit::ByTurns);
+
+// One box that suffices.
+const YES: &str = "%rule hard o=1 -> (o.rt=0 & o.up=0) %rule row o=1 -> o.rt=0 %contains row hard";
+
+// Boxes that don't suffice, and then tori.
+const NO: &str = "%rule hard o=1 -> (o.rt=0 & o.up=0) %rule row o=1 -> o.rt=0 %contains hard row";
+
+// The box of radius 3 suffices, and no smaller one does.
+const DIES: &str =
+    "%dim 1 %limits 3 4 10000 %rule dies (o=1 -> o.rt=1) & !(o=1 & o.rt=1 & o.rt.rt=1) %rule zero o=0 %contains zero dies";
+
+// The engines, and how many are left of them after each of the first two scripts.
+const LEFT: &[(&[Member], usize, usize)] = &[
+    (&[], 0, 0),
+    (&[NO_STEPS], 0, 0),
+    (&[ALL_FALSE], 0, 0),
+    (&[SILENT], 1, 1),
+    (&[BY_TURNS], 1, 0),
+    (&[NO_STEPS, Member::Propagator], 1, 1),
+    (&[NO_STEPS, ALL_FALSE], 0, 0),
+    (&[NO_STEPS, SILENT], 1, 1),
+    (&[ALL_FALSE, SILENT], 1, 1),
+    (&[SILENT, NO_STEPS], 1, 1),
+    (&[SILENT, SILENT], 2, 2),
+    (&[BY_TURNS, NO_STEPS], 1, 0),
+    (&[BY_TURNS, SILENT], 2, 1),
+    (OF_PROGRAM, 2, 2),
+];
+
+#[test]
+fn the_lines_are_the_same_over_every_roster(rt: HostRuntime) -> Result<(), Fail> {
+    let alloc = rt.alloc();
+    for (members, after_yes, after_no) in LEFT {
+        let rows = [
+            (YES, "query 1 YES 1\n", after_yes),
+            (NO, "query 1 NO 2 1\n", after_no),
+        ];
+        for (script, line, left) in rows {
+            let ran = run_over(alloc, script.as_bytes(), members)?;
+            assert_eq!(rt; ran.status, Status::Definite, "{members:?} over {script}");
+            assert_eq!(rt; ran.left, *left, "{members:?} over {script}");
+            let lines = first_lines(alloc, ran.output)?;
+            assert_eq!(rt; lines.as_str(), line, "{members:?} over {script}");
+        }
+    }
+    Ok(())
+}
+
+// Engines that want no memory.
+const FAKES: [Member; 5] = [SILENT, NO_STEPS, ALL_FALSE, FICKLE, BY_TURNS];
+
+#[test]
+fn the_lines_are_the_same_over_every_pair(rt: HostRuntime) -> Result<(), Fail> {
+    let alloc = rt.alloc();
+    for first in FAKES {
+        for second in FAKES {
+            for (script, line) in [(YES, "query 1 YES 1\n"), (NO, "query 1 NO 2 1\n")] {
+                let ran = run_over(alloc, script.as_bytes(), &[first, second])?;
+                assert_eq!(rt; ran.status, Status::Definite, "{first:?} {second:?}");
+                let lines = first_lines(alloc, ran.output)?;
+                assert_eq!(rt; lines.as_str(), line, "{first:?} {second:?}");
+            }
+        }
+    }
+    Ok(())
+}
+
+// Want of memory of an engine ends the run, and the engine stays. What was written is the lines before the first answer.
+#[test]
+fn an_engine_wants_memory(rt: HostRuntime) -> Result<(), Fail> {
+    let alloc = rt.alloc();
+    for script in [YES, NO] {
+        let ran = run_over(alloc, script.as_bytes(), &[NO_MEMORY])?;
+        assert_eq!(rt; ran.status, Status::Memory, "{script}");
+        let length = script.len();
+        let header = format!(in alloc; "diddy 1\nscript {length}\n{script}\n")?;
+        assert_eq!(rt; ran.output.as_slice(), header.as_bytes(), "{script}");
+        assert_eq!(rt; ran.left, 1, "{script}");
+    }
+    Ok(())
+}
+
+// The sizes of the clauses of the boxes of radius 0 to 4. An engine that refutes those of one radius alone is found wrong
+// exactly where the search asks of that radius: so it is the clauses of the boxes that engines are asked for, and no others.
+#[test]
+fn engines_are_asked_for_the_boxes_themselves(rt: HostRuntime) -> Result<(), Fail> {
+    let alloc = rt.alloc();
+    let rows = [(2, 3, 0), (9, 18, 0), (19, 44, 0), (29, 70, 0), (39, 96, 1)];
+    for (variables, clauses, left) in rows {
+        let decoy = Member::Fake(Habit::OfSize { variables, clauses });
+        let ran = run_over(alloc, DIES.as_bytes(), &[decoy])?;
+        assert_eq!(rt; ran.status, Status::Definite, "{decoy:?}");
+        assert_eq!(rt; ran.left, left, "{decoy:?}");
+        let lines = first_lines(alloc, ran.output)?;
+        assert_eq!(rt; lines.as_str(), "query 1 YES 3\n", "{decoy:?}");
+    }
+    Ok(())
+}
+
+// The script, the engine, how many bytes the sink takes, and its call that fails. The engine would be dropped at its first call,
+// or at its second; the sink fails before the first is made, or before the second.
+#[test]
+fn no_engine_is_asked_before_the_text_before_is_written(rt: HostRuntime) -> Result<(), Fail> {
+    let alloc = rt.alloc();
+    let twice = format!(in alloc; "{YES} %contains row hard")?;
+    let length = twice.len();
+    let header = format!(in alloc; "diddy 1\nscript {length}\n{twice}\n")?;
+    let rows = [
+        (YES, NO_STEPS, 1_000, 1),
+        (twice.as_str(), FICKLE, header.len(), 0),
+    ];
+    for (script, member, capacity, failing) in rows {
+        let mut sink = MemorySink::new(alloc, capacity, 1_000, vec![in alloc; failing]?)?;
+        let (status, left) = session_over(alloc, "run", script.as_bytes(), &[member], &mut sink)?;
+        assert_eq!(rt; status, Status::WriteFault, "{script}");
+        assert_eq!(rt; left, 1, "{script}");
+    }
+    Ok(())
+}
+
+// Other words, and inputs that are refused, ask nobody.
+#[test]
+fn nobody_is_asked_without_a_run(rt: HostRuntime) -> Result<(), Fail> {
+    let alloc = rt.alloc();
+    let rows = [
+        ("run", "%contains row hard", Status::Refused),
+        ("check", YES, Status::Refused),
+        ("ran", YES, Status::BadWords),
+    ];
+    for (word, script, wanted) in rows {
+        let mut sink = MemorySink::new(alloc, 1_000, 1_000, Vec::new(alloc))?;
+        let (status, left) = session_over(alloc, word, script.as_bytes(), &[NO_STEPS], &mut sink)?;
+        assert_eq!(rt; status, wanted, "{word}");
+        assert_eq!(rt; left, 1, "{word}");
+    }
+    Ok(())
+}

@@ -1,0 +1,127 @@
+// What a check makes of answers to box questions and to membership: configurations and cells that show what they are to show, or not.
+use crate::runs::assert_checks;
+use std::test::Fail;
+
+// Each script has one query. Beside it stand the lines of answers, and whether a check accepts them.
+const BOX_QUESTIONS: [(&str, &[(&str, bool)]); 4] = [
+    (
+        "%limits 2 3 10 %rule hard o=1 -> (o.rt=0 & o.up=0) %rule row o=1 -> o.rt=0 %contains hard row",
+        &[
+            ("query 1 NO 2 1\nconf 1 0\n", true),
+            // The periods need not be the first.
+            ("query 1 NO 3 1\nconf 1 0 0\n", true),
+            ("query 1 UNKNOWN limits\n", true),
+            // It breaks the rule, but not at the origin; it breaks nothing; it does not obey the premise.
+            ("query 1 NO 2 1\nconf 0 1\n", false),
+            ("query 1 NO 1 1\nconf 0\n", false),
+            ("query 1 NO 1 1\nconf 1\n", false),
+            ("query 1 NO 2 1 shear 1\nconf 1 0\n", false),
+            // A period past the limit, and another number of periods, of symbols or of sides.
+            ("query 1 NO 4 1\nconf 1 0 1 0\n", false),
+            ("query 1 NO 2\nconf 1 0\n", false),
+            ("query 1 NO 2 1\nconf 1 0 0\n", false),
+            ("query 1 NO 2 1\nconf 1 2\n", false),
+            ("query 1 NO left 2 1\nconf 1 0\n", false),
+            ("query 1 YES 1\nrefutation 1\nstep 0 1 0 0\n", false),
+        ],
+    ),
+    // The least radius is 1.
+    (
+        "%rule hard o=1 -> (o.rt=0 & o.up=0) %rule row o=1 -> o.rt=0 %contains row hard",
+        &[
+            (
+                "query 1 YES 1\nrefutation 1\nstep 0 46 50 47 48 45 40 0 0\n",
+                true,
+            ),
+            (
+                "query 1 YES 0\nrefutation 1\nstep 0 46 50 47 48 45 40 0 0\n",
+                false,
+            ),
+        ],
+    ),
+    (
+        "%rule a o=0 %rule b o=1 %equal a b",
+        &[
+            ("query 1 NO left 1 1\nconf 0\n", true),
+            // Each side shows it.
+            ("query 1 NO right 1 1\nconf 1\n", true),
+            ("query 1 NO left 1 1\nconf 1\n", false),
+            ("query 1 NO right 1 1\nconf 0\n", false),
+            ("query 1 NO 1 1\nconf 0\n", false),
+        ],
+    ),
+    // The steps of the left side say nothing of the right one.
+    (
+        "%rule hard o=1 -> (o.rt=0 & o.up=0) %rule row o=1 -> o.rt=0 %equal hard row",
+        &[
+            ("query 1 NO right 2 1\nconf 1 0\n", true),
+            ("query 1 NO left 2 1\nconf 1 0\n", false),
+            (
+                "query 1 YES 1 1\nrefutation 1\nstep 0 46 50 47 48 45 40 0 0\nrefutation 1\nstep 0 46 50 47 48 45 40 0 0\n",
+                false,
+            ),
+            (
+                "query 1 YES 1\nrefutation 1\nstep 0 46 50 47 48 45 40 0 0\n",
+                false,
+            ),
+        ],
+    ),
+];
+
+// Shears, nodes that allow some symbols alone, and membership.
+const OTHERS: [(&str, &[(&str, bool)]); 4] = [
+    // Going up shifts by the shear: by 2 as by -1, where a step up and one to the right meet another symbol.
+    (
+        "%alphabet 0 1 2 %rule three Ap[o1] (p~o -> p!=o) %rule diagonal o=o.rt.up %contains diagonal three",
+        &[
+            ("query 1 NO 3 1 shear 2\nconf 2 0 1\n", true),
+            ("query 1 NO 3 1 shear 2\nconf 0 2 1\n", true),
+            ("query 1 NO 3 1 shear 1\nconf 2 0 1\n", false),
+            ("query 1 NO 3 1 shear 3\nconf 2 0 1\n", false),
+            ("query 1 NO 3 1\nconf 2 0 1\n", false),
+        ],
+    ),
+    (
+        "%alphabet 0 1 2 %only 0 0 2 %rule full o@o %empty full",
+        &[
+            ("query 1 NO 1 1\nconf 2\n", true),
+            ("query 1 NO 2 1\nconf 0 2\n", true),
+            ("query 1 NO 1 1\nconf 1\n", false),
+            ("query 1 NO 2 1\nconf 0 1\n", false),
+        ],
+    ),
+    (
+        "%topology hex %only 1 0 %rule full o@o %rule ones o=1 %contains ones full",
+        &[
+            ("query 1 NO 1 1\nconf 0 0\n", true),
+            ("query 1 NO 1 1\nconf 1 0\n", true),
+            ("query 1 NO 1 1\nconf 0 1\n", false),
+        ],
+    ),
+    // The first cell in which it is false, of the fundamental box.
+    (
+        "%dim 1 %rule far o.rt.rt=1 %conf c [3] 1 1 0 %member c far",
+        &[
+            ("query 1 OUT 0 0\n", true),
+            ("query 1 OUT 1 0\n", false),
+            ("query 1 OUT 3 0\n", false),
+            ("query 1 OUT -3 0\n", false),
+            ("query 1 OUT 0 1\n", false),
+            ("query 1 OUT 0 0 0\n", false),
+            ("query 1 IN\n", false),
+            ("query 1 UNKNOWN limits\n", false),
+        ],
+    ),
+];
+
+#[test]
+fn checks_what_is_shown(rt: HostRuntime) -> Result<(), Fail> {
+    let alloc = rt.alloc();
+    for (script, rows) in BOX_QUESTIONS {
+        assert_checks(&rt, alloc, script, rows)?;
+    }
+    for (script, rows) in OTHERS {
+        assert_checks(&rt, alloc, script, rows)?;
+    }
+    Ok(())
+}
