@@ -1,22 +1,24 @@
 -- Unit propagation: what one more clause makes true follows, and where every clause is settled no hints end in a
 -- conflict.
-use Rattle.std.proofs.Common.{◌≡◌, ℕ, zero, suc, ◌+◌, ◌-◌, ◌<◌, ◌≤◌, Bool, true, false, cond, not, ◌&&◌, ◌||◌, eqb, List, [], ◌∷◌, ◌++◌, Option, Some, None, refl, ap, sym, ◌∙◌, subst, inl, inr, ◌⊎◌, get_or, length, arith, add-one, append_assoc}
+use Rattle.std.proofs.Common.{◌≡◌, ℕ, zero, suc, ◌+◌, ◌-◌, ◌<◌, ◌≤◌, Bool, true, false, cond, not, ◌&&◌, ◌||◌, eqb, List, [], ◌∷◌, ◌++◌, Option, Some, None, refl, ap, sym, ◌∙◌, subst, inl, inr, ◌⊎◌, get_or, length, arith, take}
 use Rattle.std.proofs.Math.ListN.{set, replicate}
 use Rattle.std.specs.Bool.{beq}
-use Rattle.std.specs.List.{list_all, filter, All, slice_get}
+use Rattle.std.specs.List.{list_all, filter, All}
 use Rattle.std.proofs.lemmas.Bool.{eq-eqb, ne_eqb, le-leb, leb-true, and_from, and_parts, or_cases, cases_Bool, cases_eq, cases_lt, not-true, false≢true}
-use Rattle.std.proofs.lemmas.List.{length-set, get_or_past, get_or-set_other, get_or-replicate, length-replicate}
+use Rattle.std.proofs.lemmas.List.{length-set, get_or_past, get_or-set_other, get_or-replicate, length-replicate, length-append, take-append-le, get_or_append_left}
+use Rattle.std.proofs.lemmas.List.Folds.{list_any-append}
+use Rattle.std.proofs.Math.Seq.{get_or-append_seam, take-append_seam}
 use Rattle.std.proofs.lemmas.Grind.{get_or-set_at}
 use Rattle.std.proofs.lemmas.List.Sums.{sum_by-set}
-use Rattle.std.proofs.lemmas.Option.{get_or_from_slice_get, slice_get_within}
 use Rattle.std.proofs.lemmas.List.Elements.{All-head, All-tail, All-same, All-filter, filter_passes, filter_agree}
 use Rattle.dd_clause.specs.declared.clause.Literal.{Literal}
 use Rattle.dd_clause.specs.Clauses.{negation, IsInRange, IsClauseInRange, ClauseList}
 use Rattle.dd_derivation.specs.declared.propagation.Finding.TheVariants.{Falsified, Forced, Open}
 use Rattle.dd_derivation.specs.declared.step.Step.{Step}
 use Rattle.dd_derivation.specs.Derivations.{same_literal, is_among, is_in_range, finding_of, finding, clause_of, is_conflict, is_proper, is_right}
+use Rattle.dd_engines.specs.declared.analysis.Entry.{Entry}
 use Rattle.dd_engines.specs.SingleSteps.{IsSingleStep}
-use Rattle.dd_engines.specs.propagation.Following.{is_other, is_false_by, is_unknown, unknowns, alive, Follows, FollowsMore, Ends, IsSettled}
+use Rattle.dd_engines.specs.propagation.Following.{is_other, is_false_by, is_unknown, unknowns, alive, falses, IsForced, IsTrail, Conflicts, Follows, FollowsMore, IsSettled}
 use Rattle.dd_engines.proofs.Literals.{same_literal-eq, literal-eq}
 
 -- two tests that agree find the same
@@ -56,18 +58,6 @@ forced_has P p c l all h = go (filter (λ x. not (p x)) c) refl h
     go (y ∷ rest) e h =
         let f = forced_by (list_all (same_literal y) rest && not (p (negation y))) y l h in
         subst P f.1 (All-head P y rest (All-same P (y ∷ rest) _ e (All-filter (λ x. not (p x)) P c all)))
-
--- the clause of a number, from 1
-pub clause_at : (cs : List (List Literal)) (k : ℕ) (c : List Literal) → slice_get cs k ≡ Some c → clause_of (alive cs) (k + 1) ≡ Some c
-clause_at cs k c h = rw (add-one k) (rw (at cs k h) refl)
-  where
-    at : (cs : List (List Literal)) (k : ℕ) → slice_get cs k ≡ Some c → slice_get (alive cs) k ≡ Some (Some c)
-    at [] k h = absurd (cc)
-    at (x ∷ cs) zero h = ap (λ (o : Option (List Literal)). Some o) h
-    at (x ∷ cs) (suc k) h = at cs k h
-
-pub in_range_at : (n : ℕ) (cs : List (List Literal)) (k : ℕ) (c : List Literal) → All (IsClauseInRange n) cs → slice_get cs k ≡ Some c → IsClauseInRange n c
-in_range_at n cs k c all at = subst (IsClauseInRange n) (get_or_from_slice_get cs k c [] at) (all k [] (slice_get_within cs k c at))
 
 pub known_clause : (P : List Literal → Type 0) (cs : List (List Literal)) → All P cs → (h : ℕ) → (clause_of (alive cs) h ≡ None) ⊎ ((c : List Literal) × (clause_of (alive cs) h ≡ Some c) × P c)
 known_clause P cs all zero = inl refl
@@ -131,30 +121,60 @@ fewer values l range free =
     let one : is_unknown (get_or values (l.variable - 1) None) ≡ 1 = no_value (get_or values (l.variable - 1) None) l.positive (rw within at free.free) (rw within at free.other) in
     omega (arith, one, sum_by-set is_unknown values (l.variable - 1) (Some l.positive) None (omega (arith, range.0, range.1)))
 
+-- one more entry follows
+trail_more : (cs : List (List Literal)) (entries : List Entry) (e : Entry) → IsTrail cs entries → IsForced cs entries e → IsTrail cs (entries ++ e ∷ [])
+trail_more cs entries e trail here k d h = elim (cases_eq k (length entries)) [
+  | inl q ↦ rw (q, get_or-append_seam entries e [] d, take-append_seam entries (e ∷ [])) here
+  | inr u ↦ (let b : k < length entries = omega (arith, length-append entries (e ∷ []), h, u) in
+      rw (get_or_append_left entries (e ∷ []) d k b, take-append-le k entries (e ∷ []) (omega (arith, b))) (trail k d b))
+]
+
+pub falses-append : (xs ys : List Entry) → falses (xs ++ ys) ≡ falses xs ++ falses ys
+falses-append [] ys = refl
+falses-append (x ∷ xs) ys = ap (λ (zs : List Literal). negation x.literal ∷ zs) (falses-append xs ys)
+
+or_turned : (a b : Bool) → (a || (b || false)) ≡ (b || a)
+or_turned true true = refl
+or_turned true false = refl
+or_turned false true = refl
+or_turned false false = refl
+
+among_more : (entries : List Entry) (e : Entry) (x : Literal) → is_among (falses (entries ++ e ∷ [])) x ≡ is_among (negation e.literal ∷ falses entries) x
+among_more entries e x =
+    ap (λ (xs : List Literal). is_among xs x) (falses-append entries (e ∷ []))
+    ∙ list_any-append (same_literal x) (falses entries) (negation e.literal ∷ [])
+    ∙ or_turned (is_among (falses entries) x) (same_literal x (negation e.literal))
+
+entry : Literal → ℕ → Entry
+entry l k = record { literal = l; number = k }
+
 -- one more clause makes a literal true
-pub follows_more : (cs : List (List Literal)) (hints : List ℕ) (values : List (Option Bool)) (k : ℕ) (c : List Literal) (l : Literal) → Follows cs hints values → slice_get cs k ≡ Some c → All (IsInRange (length values)) c → finding (is_false_by values) c ≡ Forced l
-    → FollowsMore cs values (hints ++ (k + 1) ∷ []) (set values (l.variable - 1) (Some l.positive))
-follows_more cs hints values k c l follows at range forced =
-    let falses = follows.falses in
+pub follows_more : (cs : List (List Literal)) (entries : List Entry) (values : List (Option Bool)) (k : ℕ) (l : Literal) → Follows cs entries values → k < length cs → All (IsInRange (length values)) (get_or cs k []) → finding (is_false_by values) (get_or cs k []) ≡ Forced l
+    → FollowsMore cs values (entries ++ record { literal = l; number = k } ∷ []) (set values (l.variable - 1) (Some l.positive))
+unfolding entry
+follows_more cs entries values k l follows lt range forced =
+    let c = get_or cs k [] in
     let free : IsFree (is_false_by values) l = forced_is_free (is_false_by values) c l forced in
     let within : IsInRange (length values) l = forced_has (IsInRange (length values)) (is_false_by values) c l range forced in
-    let here : clause_of (alive cs) (k + 1) ≡ Some c = clause_at cs k c at in
-    let found : finding (is_among falses) c ≡ Forced l = sym (finding-congr (is_false_by values) (is_among falses) c follows.told) ∙ forced in
+    let found : finding (is_among (falses entries)) c ≡ Forced l = sym (finding-congr (is_false_by values) (is_among (falses entries)) c follows.told) ∙ forced in
+    let here : IsForced cs entries (entry l k) = record { within = lt; forced = found } in
     record {
       follows = record {
-        falses = negation l ∷ falses;
-        told = told_more values falses l within free.free follows.told;
-        so_far = λ more. ap (is_conflict (alive cs) []) (append_assoc hints ((k + 1) ∷ []) more) ∙ follows.so_far ((k + 1) ∷ more) ∙ rw (here, found) refl;
+        told = λ m. told_more values (falses entries) l within free.free follows.told m ∙ sym (among_more entries (entry l k) m);
+        trail = trail_more cs entries (entry l k) follows.trail here;
       };
       fewer = fewer values l within free;
     }
 
 -- a clause is falsified
-pub ends_at : (cs : List (List Literal)) (hints : List ℕ) (values : List (Option Bool)) (k : ℕ) (c : List Literal) → Follows cs hints values → slice_get cs k ≡ Some c → finding (is_false_by values) c ≡ Falsified → Ends cs (hints ++ (k + 1) ∷ [])
-ends_at cs hints values k c follows at falsified =
-    let here : clause_of (alive cs) (k + 1) ≡ Some c = clause_at cs k c at in
-    let found : finding (is_among follows.falses) c ≡ Falsified = sym (finding-congr (is_false_by values) (is_among follows.falses) c follows.told) ∙ falsified in
-    follows.so_far ((k + 1) ∷ []) ∙ rw (here, found) refl
+pub conflicts_at : (cs : List (List Literal)) (entries : List Entry) (values : List (Option Bool)) (k : ℕ) → Follows cs entries values → k < length cs → finding (is_false_by values) (get_or cs k []) ≡ Falsified → Conflicts cs entries k
+conflicts_at cs entries values k follows lt falsified = (
+  follows.trail,
+  record {
+    within = lt;
+    falsified = sym (finding-congr (is_false_by values) (is_among (falses entries)) (get_or cs k []) follows.told) ∙ falsified;
+  },
+)
 
 abbrev no_one : Option Bool
 no_one = None
@@ -167,9 +187,8 @@ none_at n k = elim (cases_lt k n) [
 
 pub follows_from_nothing : (cs : List (List Literal)) (n : ℕ) → Follows cs [] (replicate n None)
 follows_from_nothing cs n = record {
-  falses = [];
   told = λ l. rw (none_at n (l.variable - 1)) (elim (cases_Bool (is_in_range (length (replicate n no_one)) l)) [ inl t ↦ rw t refl | inr f ↦ rw f refl ]);
-  so_far = λ more. refl;
+  trail = λ k d h. absurd (omega (arith, h));
 }
 
 -- Where more literals are false, a settled clause was settled too, or has made one of these true.

@@ -2,6 +2,7 @@ pub mod Keeping
 pub mod Asking
 pub mod Literals
 pub mod Following
+pub mod Analysing
 pub mod Passing
 pub mod Counting
 pub mod Flipping

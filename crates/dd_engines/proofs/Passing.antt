@@ -4,6 +4,7 @@ use Rattle.std.specs.List.{All}
 use Rattle.std.proofs.lemmas.Bool.{cases_Bool}
 use Rattle.std.proofs.lemmas.List.Elements.{All-more}
 use Rattle.dd_clause.specs.declared.clause.Literal.{Literal}
+use Rattle.dd_engines.specs.declared.analysis.Entry.{Entry}
 use Rattle.dd_engines.specs.propagation.Following.{FollowsMore, IsSettled, unknowns}
 
 -- Where nothing has changed, each clause so far is settled; where something has, fewer variables have no value.
@@ -11,8 +12,8 @@ pub record PassedSoFar (clauses : List (List Literal)) (values now : List (Optio
   pub settled : is_settled ≡ true → (now ≡ values) × All (IsSettled values) (take count clauses)
   pub more : is_settled ≡ false → unknowns now < unknowns values
 
-pub passed_more : (clauses : List (List Literal)) (values now : List (Option Bool)) (count : ℕ) (is_settled : Bool) (hints : List ℕ) (new : List (Option Bool)) → PassedSoFar clauses values now count is_settled → FollowsMore clauses now hints new → unknowns new < unknowns values
-passed_more clauses values now count is_settled hints new so_far went = elim (cases_Bool is_settled) [
+pub passed_more : (clauses : List (List Literal)) (values now : List (Option Bool)) (count : ℕ) (is_settled : Bool) (entries : List Entry) (new : List (Option Bool)) → PassedSoFar clauses values now count is_settled → FollowsMore clauses now entries new → unknowns new < unknowns values
+passed_more clauses values now count is_settled entries new so_far went = elim (cases_Bool is_settled) [
   | inl t ↦ omega (arith, went.fewer, ap unknowns (so_far.settled t).0)
   | inr f ↦ omega (arith, went.fewer, so_far.more f)
 ]

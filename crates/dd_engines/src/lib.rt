@@ -1,6 +1,7 @@
 //! Engines that propose what there is to say of a clause list, and a roster of them that is asked in turn.
 #![tactic(auto)]
 
+mod analysis;
 mod engine;
 mod laws;
 mod occurrences;

@@ -7,17 +7,18 @@ ghost use Rattle.dd_clause.specs.declared.clause.Literal.{Literal};
 ghost use Rattle.dd_engines.specs.SingleSteps.{IsSingleStep};
 ghost use Rattle.dd_engines.specs.propagation.Following.{is_false_by, Follows, Looked, Went, Passed};
 
+use crate::analysis::{Entry, needed_hints};
 use crate::occurrences::Occurrences;
 use dd_clause::{Clause, Cnf, Literal};
 use dd_derivation::{FalseLiterals, Finding, Step, find};
 use dd_values::Items;
 use std::alloc::{AllocError, Global};
 
-/// What follows so far: the values of the variables that have one, and the clauses that gave them, by number from 1.
+/// What follows so far: the values of the variables that have one, and the literals that became true, in order.
 #[derive(Drop)]
 struct Trail {
     values: Vec<Option<bool>>,
-    hints: Vec<u64>,
+    entries: Vec<Entry>,
 }
 
 impl FalseLiterals for Trail {
@@ -38,19 +39,19 @@ impl FalseLiterals for Trail {
 impl Trail {
     fn new(alloc: Global, variables: usize) -> Result<Trail, AllocError>
         ensures values { IfOk result (λ trail. length trail.values.items ≡ variables) }
-        ensures follows { IfOk result (λ trail. (clauses : List (List Literal)) → Follows clauses trail.hints.items trail.values.items) }
+        ensures follows { IfOk result (λ trail. (clauses : List (List Literal)) → Follows clauses trail.entries.items trail.values.items) }
     {
         Ok(Trail {
             values: vec![in alloc; None; variables]?,
-            hints: Vec::new(alloc),
+            entries: Vec::new(alloc),
         })
     }
 
     /// Looks at a clause, and takes in what it says.
     fn look(&mut self, clauses: &[Clause], number: usize) -> Result<Finding, AllocError>
         requires in_range { All (IsClauseInRange (length self.old.values.items)) clauses.now }
-        requires follows { Follows clauses.now self.old.hints.items self.old.values.items }
-        ensures looked { IfOk result (Looked clauses.now number self.old.hints.items self.old.values.items self.new.hints.items self.new.values.items) }
+        requires follows { Follows clauses.now self.old.entries.items self.old.values.items }
+        ensures looked { IfOk result (Looked clauses.now number self.old.entries.items self.old.values.items self.new.entries.items self.new.values.items) }
         ensures long { length self.new.values.items ≡ length self.old.values.items }
     {
         let Some(clause) = clauses.get(number) else {
@@ -59,9 +60,9 @@ impl Trail {
         let finding = find(self, clause.literals());
         match finding {
             Finding::Open => {}
-            Finding::Falsified => self.hints.push(number as u64 + 1)?,
+            Finding::Falsified => {}
             Finding::Forced(literal) => {
-                self.hints.push(number as u64 + 1)?;
+                self.entries.push(Entry { literal, number })?;
                 self.values[literal.variable as usize - 1] = Some(literal.positive);
             }
         }
@@ -71,8 +72,8 @@ impl Trail {
 
 /// What a turn of propagation came to.
 enum Progress {
-    /// A clause has no literal left. It is the last hint.
-    Conflict,
+    /// The clause of this number, from 0, has no literal left.
+    Conflict(usize),
     /// More literals became true.
     More,
     /// Nothing changed.
@@ -147,12 +148,12 @@ fn follow(
     number: usize,
 ) -> Result<Progress, AllocError>
     requires in_range { All (IsClauseInRange (length trail.old.values.items)) clauses.now }
-    requires follows { Follows clauses.now trail.old.hints.items trail.old.values.items }
-    ensures looked { IfOk result (Went clauses.now number trail.old.hints.items trail.old.values.items trail.new.hints.items trail.new.values.items) }
+    requires follows { Follows clauses.now trail.old.entries.items trail.old.values.items }
+    ensures looked { IfOk result (Went clauses.now number trail.old.entries.items trail.old.values.items trail.new.entries.items trail.new.values.items) }
     ensures long { length trail.new.values.items ≡ length trail.old.values.items }
 {
     match trail.look(clauses, number)? {
-        Finding::Falsified => return Ok(Progress::Conflict),
+        Finding::Falsified => return Ok(Progress::Conflict(number)),
         Finding::Open => return Ok(Progress::Settled),
         Finding::Forced(literal) => counts.falsify(literal.negation())?,
     }
@@ -161,7 +162,7 @@ fn follow(
             break;
         };
         match trail.look(clauses, next)? {
-            Finding::Falsified => return Ok(Progress::Conflict),
+            Finding::Falsified => return Ok(Progress::Conflict(next)),
             Finding::Open => {}
             Finding::Forced(literal) => counts.falsify(literal.negation())?,
         }
@@ -172,14 +173,14 @@ fn follow(
 /// Looks at each clause.
 fn pass(counts: &mut Counts, trail: &mut Trail, clauses: &[Clause]) -> Result<Progress, AllocError>
     requires in_range { All (IsClauseInRange (length trail.old.values.items)) clauses.now }
-    requires follows { Follows clauses.now trail.old.hints.items trail.old.values.items }
-    ensures passed { IfOk result (Passed clauses.now trail.old.values.items trail.new.hints.items trail.new.values.items) }
+    requires follows { Follows clauses.now trail.old.entries.items trail.old.values.items }
+    ensures passed { IfOk result (Passed clauses.now trail.old.values.items trail.new.entries.items trail.new.values.items) }
     ensures long { length trail.new.values.items ≡ length trail.old.values.items }
 {
     let mut is_settled = true;
     for number in 0..clauses.len() {
         match follow(counts, trail, clauses, number)? {
-            Progress::Conflict => return Ok(Progress::Conflict),
+            Progress::Conflict(conflict) => return Ok(Progress::Conflict(conflict)),
             Progress::More => is_settled = false,
             Progress::Settled => {}
         }
@@ -213,8 +214,9 @@ pub fn single_step(alloc: Global, cnf: &Cnf) -> Result<Option<Step>, AllocError>
     let clauses = cnf.clauses();
     'passes: loop {
         match pass(&mut counts, &mut trail, clauses)? {
-            Progress::Conflict => {
-                let Trail { hints, .. } = trail;
+            Progress::Conflict(conflict) => {
+                let entries = trail.entries.as_slice();
+                let hints = needed_hints(alloc, clauses, trail.values.len(), entries, conflict)?;
                 return Ok(Some(step_of(alloc, hints)?));
             }
             Progress::More => {}

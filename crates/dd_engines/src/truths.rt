@@ -1,5 +1,5 @@
 //! How many literals of each clause are true, and which clauses have none, in order.
-ghost use Rattle.std.specs.Prelude.{◌≡◌, ◌^◌, ◌<◌, [], ◌∷◌, ◌++◌, length, map, slice_set, All, IfOk, OnOk, MatchOption};
+ghost use Rattle.std.specs.Prelude.{◌≡◌, ◌^◌, ◌<◌, [], ◌∷◌, ◌++◌, length, map, slice_set, slice_index_or, All, IfOk, OnOk, MatchOption};
 ghost use Rattle.std.specs.Ordering.{nat_cmp};
 ghost use Rattle.std.specs.BTreeSet.{contains};
 ghost use Rattle.dd_clause.specs.Clauses.{IsClauseInRange};
@@ -47,17 +47,30 @@ impl Truths {
         Ok(())
     }
 
-    /// Writes a clause's number of true literals.
-    fn write(&mut self, number: usize, count: usize) -> Result<(), AllocError>
+    /// One more literal of a clause is true.
+    fn raise_one(&mut self, number: usize)
         requires within { number < length self.old.counts.items }
         requires listed { IsListed self.old.counts.items (contains nat_cmp self.old.unsatisfied) }
-        ensures counts { OnOk result (self.new.counts.items ≡ slice_set self.old.counts.items number count) }
+        ensures counts { self.new.counts.items ≡ slice_set self.old.counts.items number (more (slice_index_or self.old.counts.items number 0)) }
+        ensures listed { IsListed self.new.counts.items (contains nat_cmp self.new.unsatisfied) }
+    {
+        let count = self.counts[number];
+        if count == 0 {
+            self.unsatisfied.remove(&number);
+        }
+        self.counts[number] = count.saturating_add(1);
+    }
+
+    /// One literal less of a clause is true.
+    fn lower_one(&mut self, number: usize) -> Result<(), AllocError>
+        requires within { number < length self.old.counts.items }
+        requires listed { IsListed self.old.counts.items (contains nat_cmp self.old.unsatisfied) }
+        ensures counts { OnOk result (self.new.counts.items ≡ slice_set self.old.counts.items number (less (slice_index_or self.old.counts.items number 0))) }
         ensures listed { OnOk result (IsListed self.new.counts.items (contains nat_cmp self.new.unsatisfied)) }
     {
+        let count = self.counts[number].saturating_sub(1);
         if count == 0 {
             self.unsatisfied.insert(number)?;
-        } else if self.counts[number] == 0 {
-            self.unsatisfied.remove(&number);
         }
         self.counts[number] = count;
         Ok(())
@@ -72,17 +85,15 @@ impl Truths {
     }
 
     /// One more literal of each of these clauses is true.
-    pub fn raise(&mut self, numbers: &[usize]) -> Result<(), AllocError>
+    pub fn raise(&mut self, numbers: &[usize])
         requires within { All (λ k. k < length self.old.counts.items) numbers.now }
         requires listed { IsListed self.old.counts.items (contains nat_cmp self.old.unsatisfied) }
-        ensures counts { OnOk result (self.new.counts.items ≡ changed more numbers.now self.old.counts.items) }
-        ensures listed { OnOk result (IsListed self.new.counts.items (contains nat_cmp self.new.unsatisfied)) }
+        ensures counts { self.new.counts.items ≡ changed more numbers.now self.old.counts.items }
+        ensures listed { IsListed self.new.counts.items (contains nat_cmp self.new.unsatisfied) }
     {
         for number in numbers {
-            let count = self.counts[*number].saturating_add(1);
-            self.write(*number, count)?;
+            self.raise_one(*number);
         }
-        Ok(())
     }
 
     /// One literal less of each of these clauses is true.
@@ -93,8 +104,7 @@ impl Truths {
         ensures listed { OnOk result (IsListed self.new.counts.items (contains nat_cmp self.new.unsatisfied)) }
     {
         for number in numbers {
-            let count = self.counts[*number].saturating_sub(1);
-            self.write(*number, count)?;
+            self.lower_one(*number)?;
         }
         Ok(())
     }

@@ -53,7 +53,7 @@ impl Walk {
         ensures walks { OnOk result (Walks clauses.now self.new.values.items self.new.truths.counts.items (contains nat_cmp self.new.truths.unsatisfied) self.new.occurrences.lists.items) }
     {
         self.values[literal.variable as usize - 1] = literal.positive;
-        self.truths.raise(self.occurrences.of(literal))?;
+        self.truths.raise(self.occurrences.of(literal));
         self.truths.lower(self.occurrences.of(literal.negation()))?;
         Ok(())
     }

@@ -1,11 +1,13 @@
 -- What follows by unit propagation from nothing, as values of the variables.
-use Rattle.std.specs.Prelude.{◌≡◌, ℕ, ◌-◌, ◌<◌, Bool, true, false, not, if◌then◌else◌, List, [], ◌++◌, Option, Some, None, length, map, All, slice_index_or}
+use Rattle.std.specs.Prelude.{◌≡◌, ℕ, ◌-◌, ◌<◌, Bool, true, false, not, if◌then◌else◌, List, [], Option, Some, None, length, map, take, All, slice_index_or}
 use Rattle.std.specs.Bool.{beq}
 use Rattle.std.specs.List.{sum_by}
 use Rattle.dd_clause.specs.declared.clause.Literal.{Literal}
+use Rattle.dd_clause.specs.Clauses.{negation}
 use Rattle.dd_derivation.specs.declared.propagation.Finding.{Finding}
 use Rattle.dd_derivation.specs.declared.propagation.Finding.TheVariants.{Falsified, Forced, Open}
 use Rattle.dd_derivation.specs.Derivations.{is_in_range, is_among, is_conflict, finding}
+use Rattle.dd_engines.specs.declared.analysis.Entry.{Entry}
 use Rattle.dd_engines.specs.declared.propagation.Progress.{Progress}
 use Rattle.dd_engines.specs.declared.propagation.Progress.TheVariants.{Conflict, More, Settled}
 
@@ -31,41 +33,62 @@ unknowns values = sum_by is_unknown values
 abbrev pub alive : List (List Literal) → List (Option (List Literal))
 alive clauses = map (λ c. Some c) clauses
 
--- the hints make the literals true that the values say, so that whatever more hints show from there follows from nothing
-pub record Follows (clauses : List (List Literal)) (hints : List ℕ) (values : List (Option Bool)) : Type 0 where
-  pub falses : List Literal
-  pub told : (l : Literal) → is_false_by values l ≡ is_among falses l
-  pub so_far : (more : List ℕ) → is_conflict (alive clauses) [] (hints ++ more) ≡ is_conflict (alive clauses) falses more
+-- the literals that are false, by the entries
+abbrev pub falses : List Entry → List Literal
+falses entries = map (λ e. negation e.literal) entries
+
+-- by the older entries, the entry's clause has its literal alone left
+pub record IsForced (clauses : List (List Literal)) (older : List Entry) (e : Entry) : Type 0 where
+  pub within : e.number < length clauses
+  pub forced : finding (is_among (falses older)) (slice_index_or clauses e.number []) ≡ Forced e.literal
+
+-- each entry follows from the older ones
+abbrev pub IsTrail : List (List Literal) → List Entry → Type 0
+IsTrail clauses entries = (k : ℕ) (d : Entry) → k < length entries → IsForced clauses (take k entries) (slice_index_or entries k d)
+
+-- by the entries, the clause of a number has no literal left
+pub record IsFalsified (clauses : List (List Literal)) (entries : List Entry) (number : ℕ) : Type 0 where
+  pub within : number < length clauses
+  pub falsified : finding (is_among (falses entries)) (slice_index_or clauses number []) ≡ Falsified
+
+-- the entries follow, and make the literals true that the values say
+pub record Follows (clauses : List (List Literal)) (entries : List Entry) (values : List (Option Bool)) : Type 0 where
+  pub told : (l : Literal) → is_false_by values l ≡ is_among (falses entries) l
+  pub trail : IsTrail clauses entries
 
 -- the hints end in a conflict
 abbrev pub Ends : List (List Literal) → List ℕ → Type 0
 Ends clauses hints = is_conflict (alive clauses) [] hints ≡ true
+
+-- the entries follow, and lead to a conflict
+abbrev pub Conflicts : List (List Literal) → List Entry → ℕ → Type 0
+Conflicts clauses entries number = IsTrail clauses entries × IsFalsified clauses entries number
 
 -- by the values, the clause says nothing
 abbrev pub IsSettled : List (Option Bool) → List Literal → Type 0
 IsSettled values clause = finding (is_false_by values) clause ≡ Open
 
 -- one more value follows
-pub record FollowsMore (clauses : List (List Literal)) (values : List (Option Bool)) (new_hints : List ℕ) (new_values : List (Option Bool)) : Type 0 where
-  pub follows : Follows clauses new_hints new_values
+pub record FollowsMore (clauses : List (List Literal)) (values : List (Option Bool)) (new_entries : List Entry) (new_values : List (Option Bool)) : Type 0 where
+  pub follows : Follows clauses new_entries new_values
   pub fewer : unknowns new_values < unknowns values
 
 -- what a look at the clause of a number leaves
-abbrev pub Looked : List (List Literal) → ℕ → List ℕ → List (Option Bool) → List ℕ → List (Option Bool) → Finding → Type 0
-Looked clauses number hints values new_hints new_values Falsified = Ends clauses new_hints
-Looked clauses number hints values new_hints new_values (Forced l) = FollowsMore clauses values new_hints new_values
-Looked clauses number hints values new_hints new_values Open =
-    (new_hints ≡ hints) × (new_values ≡ values) × (number < length clauses → IsSettled values (slice_index_or clauses number []))
+abbrev pub Looked : List (List Literal) → ℕ → List Entry → List (Option Bool) → List Entry → List (Option Bool) → Finding → Type 0
+Looked clauses number entries values new_entries new_values Falsified = Conflicts clauses new_entries number
+Looked clauses number entries values new_entries new_values (Forced l) = FollowsMore clauses values new_entries new_values
+Looked clauses number entries values new_entries new_values Open =
+    (new_entries ≡ entries) × (new_values ≡ values) × (number < length clauses → IsSettled values (slice_index_or clauses number []))
 
 -- what a look at a clause, and at others after it, leaves
-abbrev pub Went : List (List Literal) → ℕ → List ℕ → List (Option Bool) → List ℕ → List (Option Bool) → Progress → Type 0
-Went clauses number hints values new_hints new_values Conflict = Ends clauses new_hints
-Went clauses number hints values new_hints new_values More = FollowsMore clauses values new_hints new_values
-Went clauses number hints values new_hints new_values Settled =
-    (new_hints ≡ hints) × (new_values ≡ values) × (number < length clauses → IsSettled values (slice_index_or clauses number []))
+abbrev pub Went : List (List Literal) → ℕ → List Entry → List (Option Bool) → List Entry → List (Option Bool) → Progress → Type 0
+Went clauses number entries values new_entries new_values (Conflict conflict) = Conflicts clauses new_entries conflict
+Went clauses number entries values new_entries new_values More = FollowsMore clauses values new_entries new_values
+Went clauses number entries values new_entries new_values Settled =
+    (new_entries ≡ entries) × (new_values ≡ values) × (number < length clauses → IsSettled values (slice_index_or clauses number []))
 
 -- what a pass over all clauses leaves
-abbrev pub Passed : List (List Literal) → List (Option Bool) → List ℕ → List (Option Bool) → Progress → Type 0
-Passed clauses values new_hints new_values Conflict = Ends clauses new_hints
-Passed clauses values new_hints new_values More = FollowsMore clauses values new_hints new_values
-Passed clauses values new_hints new_values Settled = (new_values ≡ values) × All (IsSettled values) clauses
+abbrev pub Passed : List (List Literal) → List (Option Bool) → List Entry → List (Option Bool) → Progress → Type 0
+Passed clauses values new_entries new_values (Conflict conflict) = Conflicts clauses new_entries conflict
+Passed clauses values new_entries new_values More = FollowsMore clauses values new_entries new_values
+Passed clauses values new_entries new_values Settled = (new_values ≡ values) × All (IsSettled values) clauses

@@ -4,7 +4,7 @@ use Rattle.dd_engines.proofs.propagation.single_step.Given as goal
 
 abbrev pub invariant-passes : goal.invariant-passes
 invariant-passes l = record {
-  follows : Follows l.clauses l.trail.hints.items l.trail.values.items;
+  follows : Follows l.clauses l.trail.entries.items l.trail.values.items;
   long : length l.trail.values.items ≡ length l.initial.trail.values.items;
 }
 

@@ -1,0 +1,72 @@
+//! The clauses that a conflict needs, found by walking back over the trail, as in the analysis of conflicts (Marques-Silva
+//! and Sakallah 1999): the conflict's clause needs its variables' values, and so does the clause of each value needed.
+ghost use Rattle.std.specs.Prelude.{◌≡◌, All, length, IfOk};
+ghost use Rattle.dd_clause.specs.Clauses.{IsClauseInRange};
+ghost use Rattle.dd_engines.specs.propagation.Following.{IsTrail, IsFalsified, Ends};
+ghost use Rattle.dd_engines.specs.propagation.Analysis.{Grows, AreMarked};
+
+use dd_clause::{Clause, Literal};
+use std::alloc::{AllocError, Global};
+
+/// A literal that became true, and the number, from 0, of the clause that made it so.
+#[derive(Clone, Copy)]
+pub struct Entry {
+    pub literal: Literal,
+    pub number: usize,
+}
+
+/// Marks the variables of the literals.
+fn mark(marked: &mut [bool], literals: &[Literal])
+    requires { IsClauseInRange (length marked.old) literals.now }
+    ensures grows { Grows marked.old marked.new }
+    ensures marks { AreMarked marked.new literals.now }
+{
+    for literal in literals {
+        marked[literal.variable as usize - 1] = true;
+    }
+}
+
+/// Walks back over the entries from the conflict, and marks what it needs.
+fn walk_back(
+    alloc: Global,
+    clauses: &[Clause],
+    marked: &mut [bool],
+    entries: &[Entry],
+    conflict: usize,
+) -> Result<Vec<u64>, AllocError>
+    requires in_range { All (IsClauseInRange (length marked.old)) clauses.now }
+    requires trail { IsTrail clauses.now entries.now }
+    requires conflict { IsFalsified clauses.now entries.now conflict }
+    ensures { IfOk result (λ hints. Ends clauses.now hints.items) }
+{
+    let mut hints: Vec<u64> = Vec::new(alloc);
+    hints.push(conflict as u64 + 1)?;
+    mark(marked, clauses[conflict].literals());
+    for i in (0..entries.len()).rev() {
+        let entry = entries[i];
+        if marked[entry.literal.variable as usize - 1] {
+            hints.push(entry.number as u64 + 1)?;
+            mark(marked, clauses[entry.number].literals());
+        }
+    }
+    hints.reverse();
+    Ok(hints)
+}
+
+/// The hints, in the order of the trail, of a step that refutes the clauses. The last is the clause of the conflict; each
+/// of the others gives a value that a later one needs.
+pub fn needed_hints(
+    alloc: Global,
+    clauses: &[Clause],
+    variables: usize,
+    entries: &[Entry],
+    conflict: usize,
+) -> Result<Vec<u64>, AllocError>
+    requires in_range { All (IsClauseInRange variables) clauses.now }
+    requires trail { IsTrail clauses.now entries.now }
+    requires conflict { IsFalsified clauses.now entries.now conflict }
+    ensures { IfOk result (λ hints. Ends clauses.now hints.items) }
+{
+    let mut marked = vec![in alloc; false; variables]?;
+    walk_back(alloc, clauses, marked.as_mut_slice(), entries, conflict)
+}
