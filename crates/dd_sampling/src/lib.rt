@@ -1,0 +1,6 @@
+//! That each sample is a script.
+#![tactic(auto)]
+
+mod laws;
+
+pub use laws::samples_are_written;
