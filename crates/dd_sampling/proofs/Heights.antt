@@ -1,5 +1,5 @@
 -- The height of a sample's configuration, in decimal.
-use Rattle.std.proofs.Common.{◌≡◌, ℕ, zero, suc, ◌+◌, ◌-◌, ◌*◌, ◌/◌, ◌%◌, ◌^◌, ◌<◌, ◌≤◌, List, [], ◌∷◌, ◌++◌, codes, get_or, decimal, refl, sym, ap, ◌∙◌, subst, arith}
+use Rattle.std.proofs.Common.{◌≡◌, ℕ, ◌+◌, ◌-◌, ◌*◌, ◌/◌, ◌%◌, ◌^◌, ◌<◌, ◌≤◌, List, [], ◌∷◌, ◌++◌, codes, get_or, decimal, refl, sym, ap, ◌∙◌, subst, arith}
 use Rattle.std.specs.List.{repeat}
 use Rattle.std.proofs.lemmas.Fmt.{decimal_by_steps, first_decimal}
 use Rattle.dd_written.specs.Values.{decimal as value_from}
@@ -52,7 +52,7 @@ sample_is number h =
     ap (λ (ds : List ℕ). rules_text ++ (codes "%conf c [2 " ++ (ds ++ (codes "]" ++ (repeat number (codes " 1 0 0 1") ++ (codes "\n" ++ queries_text)))))) h.is
     ∙ sym (regrouped h.first h.others number)
 
-height_of : (number : ℕ) → IsSampleNumber number → Height (2 * number)
+pub height_of : (number : ℕ) → IsSampleNumber number → Height (2 * number)
 height_of number is = height (2 * number) (omega (arith, is.0)) (omega (arith, is.1))
 
 -- each sample is a text of the grammar

@@ -1,5 +1,5 @@
 -- What each kind of written formula is written as, where it may stand, and how deep it is.
-use Rattle.std.proofs.Common.{◌≡◌, ℕ, ◌+◌, ◌≤◌, List, [], ◌∷◌, ◌++◌, length, map, Bool, true, refl, ap, arith, max}
+use Rattle.std.proofs.Common.{◌≡◌, ℕ, ◌+◌, ◌≤◌, List, [], ◌∷◌, ◌++◌, length, map, Bool, true, ap, arith, max}
 use Rattle.std.specs.Prelude.{◌&&◌, nat_le, ◌-◌}
 use Rattle.std.specs.List.{flat_map, list_all}
 use Rattle.dd_written.specs.declared.lexeme.Word.{Word}

@@ -1,5 +1,5 @@
 -- What tokens are to the grammar, where their text stands behind another one.
-use Rattle.std.proofs.Common.{◌≡◌, ℕ, zero, suc, ◌+◌, List, [], ◌∷◌, ◌++◌, length, map, take, drop, Option, Some, None, refl, sym, ap, ◌∙◌, arith}
+use Rattle.std.proofs.Common.{◌≡◌, ℕ, zero, suc, ◌+◌, List, [], ◌∷◌, ◌++◌, length, map, take, drop, Option, Some, None, refl, ap, ◌∙◌, arith}
 use Rattle.dd_tokens.specs.declared.token.Token.{Token}
 use Rattle.dd_tokens.specs.declared.token.TokenKind.{TokenKind}
 use Rattle.dd_tokens.specs.declared.token.TokenKind.TheVariants as token
@@ -10,7 +10,7 @@ use Rattle.dd_written.specs.declared.lexeme.Lexeme.{Lexeme}
 use Rattle.dd_written.specs.declared.lexeme.Lexeme.TheVariants as lexeme
 use Rattle.dd_written.specs.Lexemes.{lexeme_of, marked, mark_at}
 use Rattle.dd_written.specs.Values.{word_text, number_text}
-use Rattle.dd_sampling.proofs.Cutting.{up_token, number_token, four, turn_tokens}
+use Rattle.dd_sampling.proofs.Cutting.{up_token, turn_tokens}
 
 -- from a place on the bytes are these
 abbrev pub Stands : List ℕ → ℕ → List ℕ → Type 0

@@ -5,3 +5,9 @@ pub mod Tree
 pub mod Layers
 pub mod Standing
 pub mod Heights
+pub mod Meant
+pub mod Sizes
+pub mod Faultless
+pub mod Symbols
+pub mod Questions
+pub mod Spelling

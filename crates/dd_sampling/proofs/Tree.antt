@@ -1,5 +1,5 @@
 -- What the commands of a sample are: its limits, its rules, and its questions.
-use Rattle.std.proofs.Common.{◌≡◌, ℕ, ◌+◌, List, [], ◌∷◌, ◌++◌, map, Option, None, codes}
+use Rattle.std.proofs.Common.{ℕ, List, [], ◌∷◌, ◌++◌, map, None}
 use Rattle.dd_written.specs.declared.lexeme.Word.{Word}
 use Rattle.dd_written.specs.declared.lexeme.Number.{Number}
 use Rattle.dd_written.specs.declared.lexeme.Lexeme.{Lexeme}
@@ -24,7 +24,7 @@ use Rattle.dd_commands.specs.declared.command.Command.{Command}
 use Rattle.dd_commands.specs.declared.command.Command.TheVariants as command
 use Rattle.dd_commands.specs.declared.script.Written.{Written}
 use Rattle.dd_commands.specs.Commands.{request_text}
-use Rattle.dd_sampling.proofs.Lexing.{number_at, up_word, up_number, up_lexeme}
+use Rattle.dd_sampling.proofs.Lexing.{number_at, up_word, up_number}
 
 abbrev pub word_at : ℕ → ℕ → Word
 word_at s l = record { start = s; length = l }

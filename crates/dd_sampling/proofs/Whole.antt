@@ -12,7 +12,7 @@ use Rattle.dd_written.specs.declared.lexeme.Lexeme.{Lexeme}
 use Rattle.dd_written.specs.declared.lexeme.Lexeme.TheVariants as lexeme
 use Rattle.dd_written.specs.Lexemes.{lexeme_of, lexemes_of, stray, marked, mark_at}
 use Rattle.dd_sample.specs.Sample.{rules_text, queries_text}
-use Rattle.dd_sampling.proofs.Cutting.{up_token, up_tokens, tokens_up, number_token, mark_token, AreDigits, number_before, turn, turn_tokens, turns}
+use Rattle.dd_sampling.proofs.Cutting.{up_token, tokens_up, number_token, mark_token, AreDigits, number_before, turn, turn_tokens, turns}
 use Rattle.dd_sampling.proofs.Lexing.{Stands, stands_behind, stands_after, up_lexeme, lexemes_up, number_at, turn_numbers, turn_lexemes}
 
 -- up to the height of the configuration
@@ -120,6 +120,15 @@ bracket_stands d ds ys =
 
 bracket_is : (d : ℕ) (ds ys : List ℕ) → lexeme_of (front_text ++ (d ∷ (ds ++ 93 ∷ ys))) (mark_token (181 + (1 + length ds))) ≡ lexeme.Mark mark.CloseList
 bracket_is d ds ys = ap (λ (bs : List ℕ). marked (mark_at (take 1 bs))) (bracket_stands d ds ys)
+
+-- the symbols stand behind the bracket
+pub symbols_stand : (d : ℕ) (ds : List ℕ) (n : ℕ) → Stands (front_text ++ from_digits d ds n) (symbols_at ds) (repeat n turn ++ tail_text)
+symbols_stand d ds n =
+    let all : length (front_text ++ (d ∷ ds)) ≡ length front_text + length (d ∷ ds) = length-append front_text (d ∷ ds) in
+    let before : length front_text ≡ 181 = refl in
+    let one_more : length (d ∷ ds) ≡ suc (length ds) = refl in
+    stands_after (front_text ++ from_digits d ds n) (length (front_text ++ (d ∷ ds))) (93 ∷ []) (repeat n turn ++ tail_text) (symbols_at ds)
+    (stands_behind (front_text ++ (d ∷ ds)) (93 ∷ (repeat n turn ++ tail_text))) (omega (arith, all, before, one_more))
 
 front_is : (rest : List ℕ) → map (lexeme_of (front_text ++ rest)) front_tokens ≡ front_lexemes
 front_is rest = refl

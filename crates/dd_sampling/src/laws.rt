@@ -1,11 +1,11 @@
 // That each sample is a script.
 ghost use Rattle.std.specs.Prelude.{ℕ};
-ghost use Rattle.dd_commands.specs.declared.script.Syntax.{Syntax};
-ghost use Rattle.dd_commands.specs.Scripts.{IsScript};
 ghost use Rattle.dd_sample.specs.Sample.{IsSampleNumber, sample_text};
+ghost use Rattle.dd_script.specs.Parts.{Parts};
+ghost use Rattle.dd_script.specs.Scripts.{Spells};
 
-/// Each sample is a text of the grammar.
-#[tactic(auto, using(crate::proofs::Heights::written))]
-pub fn samples_are_written()
-    ensures { (number : ℕ) → IsSampleNumber number → (tree : Syntax) × IsScript (sample_text number) tree }
+/// Does nothing; its contract says that the text of each sample spells a script.
+#[tactic(auto, using(crate::proofs::Spelling::samples_spell))]
+pub fn samples_spell()
+    ensures { (number : ℕ) → IsSampleNumber number → (script : Parts) × Spells (sample_text number) script }
 {}

@@ -3,4 +3,4 @@
 
 mod laws;
 
-pub use laws::samples_are_written;
+pub use laws::samples_spell;
