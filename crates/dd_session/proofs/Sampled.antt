@@ -1,14 +1,17 @@
 -- What the run of a sample wrote, by how it ended.
-use Rattle.std.proofs.Common.{◌≡◌, ◌≢◌, ℕ, Bool, true, false, sym, ◌∙◌, subst, inl, inr}
+use Rattle.std.proofs.Common.{◌≡◌, ◌≢◌, ℕ, List, Bool, true, false, refl, sym, ◌∙◌, subst, inl, inr}
+use Rattle.std.specs.Prelude.{string_bytes}
 use Rattle.dd_certificate.specs.Text.{answer_line}
 use Rattle.dd_script.specs.Parts.{Parts}
-use Rattle.dd_script.specs.Scripts.{Spells}
+use Rattle.dd_script.specs.declared.fault.ScriptKind.{ScriptKind}
+use Rattle.dd_script.specs.declared.fault.ScriptKind.TheVariants as refused
+use Rattle.dd_script.specs.Scripts.{Spells, Kind, syntax, unknown, twice, dimension, size, RefusedAs, IsRefusedAs}
 use Rattle.dd_sample.specs.Sample.{sample_text}
 use Rattle.dd_session.specs.declared.status.Status.{Status}
 use Rattle.dd_session.specs.declared.status.Status.TheVariants.{BadWords}
 use Rattle.dd_session.specs.Sides.{Told, status_of}
 use Rattle.dd_session.specs.Written.{AnsweredToEnd}
-use Rattle.dd_session.specs.Samples.{LinesOf, SampleEnded}
+use Rattle.dd_session.specs.Samples.{is_memory, LinesOf, SampleEnded}
 use Rattle.dd_session.proofs.Open.{AnswersAgree, open_as}
 
 -- the lines of all answers were written, and the end line
@@ -28,3 +31,16 @@ sample_over sink number s status spelled lines = inl record { script = s; spelle
 pub never_sampled : {K : Type 0} (sink : Told K) (number : ℕ) (status : Status) → SampleEnded sink number status → status ≢ BadWords
 never_sampled sink number status (inl ran) is = let none : ⊥ = subst (LinesOf sink ran.script) is ran.lines in none
 never_sampled sink number status (inr kept) is = absurd (cc (sym kept.1 ∙ is))
+
+-- bytes that spell a script are not refused
+abbrev pub NeverBoth : Type 0
+NeverBoth = (bytes : List ℕ) (s : Parts) (n : ℕ) (k : Kind) → Spells bytes s → RefusedAs bytes n k → ⊥
+
+-- all that can be wanting for them is memory
+pub only_memory : NeverBoth → (bytes : List ℕ) (s : Parts) → Spells bytes s → (n : ℕ) (kind : ScriptKind) → IsRefusedAs bytes n kind → is_memory kind ≡ true
+only_memory never bytes s spelled n refused.Syntax is = absurd (never bytes s n syntax spelled is)
+only_memory never bytes s spelled n (refused.Unknown text) is = absurd (never bytes s n (unknown (string_bytes text)) spelled is)
+only_memory never bytes s spelled n (refused.Twice text) is = absurd (never bytes s n (twice (string_bytes text)) spelled is)
+only_memory never bytes s spelled n refused.Dimension is = absurd (never bytes s n dimension spelled is)
+only_memory never bytes s spelled n (refused.Size l) is = absurd (never bytes s n (size l) spelled is)
+only_memory never bytes s spelled n refused.Memory is = refl

@@ -1,6 +1,8 @@
 -- What the run of a sample wrote, by how it ended.
-use Rattle.std.specs.Prelude.{◌≡◌, ◌⊎◌, ℕ, true, false}
+use Rattle.std.specs.Prelude.{◌≡◌, ◌⊎◌, ℕ, Bool, true, false}
 use Rattle.dd_certificate.specs.Text.{answer_line}
+use Rattle.dd_script.specs.declared.fault.ScriptKind.{ScriptKind}
+use Rattle.dd_script.specs.declared.fault.ScriptKind.TheVariants as refused
 use Rattle.dd_script.specs.Parts.{Parts}
 use Rattle.dd_script.specs.Scripts.{Spells}
 use Rattle.dd_sample.specs.Sample.{sample_text}
@@ -9,6 +11,15 @@ use Rattle.dd_session.specs.declared.status.Status.TheVariants.{Definite, SomeUn
 use Rattle.dd_session.specs.Answers.{IsOpenAs}
 use Rattle.dd_session.specs.Sides.{Told, IsKept, Failed}
 use Rattle.dd_session.specs.Written.{AnsweredToEnd, AnsweredShort}
+
+-- memory was wanting, and nothing is wrong with the text
+abbrev pub is_memory : ScriptKind → Bool
+is_memory refused.Syntax = false
+is_memory (refused.Unknown text) = false
+is_memory (refused.Twice text) = false
+is_memory refused.Dimension = false
+is_memory (refused.Size l) = false
+is_memory refused.Memory = true
 
 -- What was written of the first lines of right answers to the queries of a script, by the status.
 abbrev pub LinesOf : {K : Type 0} → Told K → Parts → Status → Type 0

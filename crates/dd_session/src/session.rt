@@ -13,7 +13,7 @@ ghost use Rattle.dd_session.specs.Answers.{most_queries};
 ghost use Rattle.dd_session.specs.Words.{IsOnly, IsSample, IsSampleOf, AreBad};
 ghost use Rattle.dd_session.specs.Sides.{told, status_of, RefusedBy};
 ghost use Rattle.dd_session.specs.Runs.{RanOver, Ended, Decides, IsAccepted, most_bytes};
-ghost use Rattle.dd_session.specs.Samples.{LinesOf, SampleEnded};
+ghost use Rattle.dd_session.specs.Samples.{is_memory, LinesOf, SampleEnded};
 
 use crate::checks::check_diddy;
 use crate::output::refused_text;
@@ -23,7 +23,8 @@ use dd_answer::one_line;
 use dd_engines::{Engine, Roster, kept_is_reflexive};
 use dd_outside::{ReadAllFault, Sink, Source, WriteFault, read_all, write_whole};
 use dd_sample::{sample_number, sample_script};
-use dd_script::{Script, parse, spelled_or_refused};
+use dd_sampling::samples_spell;
+use dd_script::{Script, ScriptKind, parse, spelled_or_refused};
 use std::alloc::{AllocError, Global};
 
 // The greatest number of bytes of a script.
@@ -159,16 +160,30 @@ fn run<S: Source, K: Sink, E: Engine>(
     }
 }
 
+fn is_memory(kind: &ScriptKind) -> bool
+    ensures { result ≡ is_memory kind.now }
+{
+    matches!(kind, ScriptKind::Memory)
+}
+
 // The sample with the number, as a script.
 fn sample(alloc: Global, number: u32) -> Result<Script, AllocError>
     requires { IsSampleNumber number }
     ensures { IfOk result (λ script. Spells (sample_text number) script) }
 {
+    // Laws: each sample spells a script, and so is not refused.
+    samples_spell();
+    spelled_or_refused();
     let bytes = sample_script(alloc, number)?;
     match parse(alloc, &bytes) {
         Ok(script) => Ok(script),
-        // Tests show that no sample is refused, so all that can be wanting is memory.
-        Err(_) => Err(AllocError),
+        Err(fault) => {
+            if is_memory(&fault.kind) {
+                Err(AllocError)
+            } else {
+                unreachable!()
+            }
+        }
     }
 }
 
