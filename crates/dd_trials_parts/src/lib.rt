@@ -1,22 +1,12 @@
-//! Trials of the crates that need no script, a module each: tables of cases beside what is proved.
+//! Trials of numbers, lattices, circuits and the texts of scripts, a module each: tables of cases beside what is proved.
 #![tactic(auto)]
 
 #[cfg(test)]
-mod certificate;
-#[cfg(test)]
 mod circuits;
-#[cfg(test)]
-mod clauses;
-#[cfg(test)]
-mod derivations;
 #[cfg(test)]
 mod encodings;
 #[cfg(test)]
-mod engines;
-#[cfg(test)]
 mod fractions;
-#[cfg(test)]
-mod guessing;
 #[cfg(test)]
 mod lattice;
 #[cfg(test)]
@@ -25,8 +15,6 @@ mod outside;
 mod patterns;
 #[cfg(test)]
 mod simplex;
-#[cfg(test)]
-mod solver;
 #[cfg(test)]
 mod syntax;
 #[cfg(test)]
