@@ -4,7 +4,8 @@
 # disk, and a file that may not grow. Each time the status has to be the one for that fault, and what was written a front of what is written else;
 # where a memory limit is enough, all of it. Each line is a script, a word, and the number of trials of each kind; the status is 1 where a trial
 # ended otherwise. DIDDY names another program than the one that is built here; MOST is the greatest number of allocations of a trial that
-# are tried in each of the two ways, evenly spread, 400 unless it is given.
+# are tried in each of the two ways, evenly spread, 400 unless it is given. Where no script is named and GNU time is installed, a table
+# follows of the most memory that runs and checks take at the limits.
 set -eu
 
 here=$(cd "$(dirname "$0")" && pwd)
@@ -13,4 +14,6 @@ work=$(mktemp -d)
 trap 'rm -rf "$work"' EXIT
 [ -n "${DIDDY:-}" ] || "$root/diddy" run < /dev/null > "$work/nothing" || true
 cc -O2 -Wall -Wextra -shared -fPIC -o "$work/fails.so" "$here/fails.c"
-python3 "$here/trials.py" "${DIDDY:-$root/crates/dd_program/out/dd_program}" "$work" "${MOST:-400}" "$@"
+diddy=${DIDDY:-$root/crates/dd_program/out/dd_program}
+python3 "$here/trials.py" "$diddy" "$work" "${MOST:-400}" "$@"
+[ $# -gt 0 ] || [ ! -x /usr/bin/time ] || "$here/peaks.sh" "$diddy" "$work"
