@@ -99,7 +99,7 @@ fn is_broken(rule: &Rule, filling: &Filling) -> Result<bool, Fail>
 }
 
 /// The symbol that the automaton gives a node of the origin, or `None` where something that it reads isn't given.
-fn value(
+pub(crate) fn value(
     alloc: Global,
     premise: &Rule,
     automaton: &Automaton,

@@ -3,6 +3,7 @@ use crate::questions::clauses_of;
 use crate::scripts::script_of;
 use dd_clause::{Clause, Cnf};
 use dd_problem::Goal;
+use dd_script::Script;
 use std::alloc::{AllocError, Global};
 use std::test::Fail;
 
@@ -21,10 +22,14 @@ fn numbers(alloc: Global, clause: &Clause) -> Result<Vec<i64>, AllocError> {
 }
 
 /// The clauses of the question whether any configuration obeys the script's rule, on the box of one position.
-fn emptiness(alloc: Global, script: &str) -> Result<Cnf, Fail> {
-    let script = script_of(alloc, &[script])?;
+fn emptiness_of(alloc: Global, script: &Script) -> Result<Cnf, Fail> {
     let rule = script.rules().first().ok_or("a rule")?;
     clauses_of(alloc, rule, &Goal::Always, 0)
+}
+
+fn emptiness(alloc: Global, script: &str) -> Result<Cnf, Fail> {
+    let script = script_of(alloc, &[script])?;
+    emptiness_of(alloc, &script)
 }
 
 #[test]

@@ -9,7 +9,7 @@ use dd_lattice::{Cell, Position};
 use std::alloc::Global;
 use std::test::Fail;
 
-fn cell_at(x: i32) -> Option<Cell>
+pub(crate) fn cell_at(x: i32) -> Option<Cell>
     ensures { IfSome result (λ c. c ≡ cell (place x (pos 0) (pos 0)) 0) }
 {
     let position = Position::new(x, 0, 0)?;

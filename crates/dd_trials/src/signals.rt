@@ -10,6 +10,7 @@ use dd_compile::{Inputs, compile_rule, reads_are_wired};
 use dd_counts::patterns;
 use dd_formula::Rule;
 use dd_lattice::{Cell, Position, in_order};
+use dd_script::Script;
 use std::alloc::{AllocError, Global};
 use std::process::Abort;
 use std::test::Fail;
@@ -129,10 +130,14 @@ fn times_by_node(rt: &impl Abort, alloc: Global, rule: &Rule) -> Result<Vec<usiz
 }
 
 /// The same of the first rule of a script.
-fn times_in(rt: &impl Abort, alloc: Global, script: &[&str]) -> Result<Vec<usize>, Fail> {
-    let script = script_of(alloc, script)?;
+fn times_of_first(rt: &impl Abort, alloc: Global, script: &Script) -> Result<Vec<usize>, Fail> {
     let rule = script.rules().first().ok_or("a rule")?;
     times_by_node(rt, alloc, rule)
+}
+
+fn times_in(rt: &impl Abort, alloc: Global, script: &[&str]) -> Result<Vec<usize>, Fail> {
+    let script = script_of(alloc, script)?;
+    times_of_first(rt, alloc, &script)
 }
 
 // The second node has no move x, and the first no move y.

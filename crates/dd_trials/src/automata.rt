@@ -1,0 +1,101 @@
+// Values of automata: at a cell of a filling, and of whole configurations.
+ghost use Rattle.dd_boxes.specs.Goals.{IsGoalFor};
+ghost use Rattle.dd_boxes.specs.Views.{goal_of};
+
+use crate::boxes::value;
+use crate::inputs::cell_at;
+use crate::scripts::script_of;
+use dd_automaton::apply;
+use dd_boxes::Goal;
+use dd_formula::Rule;
+use dd_lattice::in_order;
+use dd_pattern::{Filling, Periodic};
+use dd_script::{Question, Script};
+use std::alloc::Global;
+use std::process::Abort;
+use std::test::Fail;
+
+/// The image of the script's first configuration under its first automaton.
+fn image(alloc: Global, script: &Script) -> Result<Periodic, Fail> {
+    let automaton = script.automata().first().ok_or("an automaton")?;
+    let configuration = script.configurations().first().ok_or("a configuration")?;
+    Ok(apply(alloc, automaton, configuration)?)
+}
+
+/// The filling of the cells of the line from a first one on, with these symbols.
+fn line(alloc: Global, first: i32, symbols: &[u32]) -> Result<Filling, Fail> {
+    let mut cells = Vec::new(alloc);
+    let mut copies = Vec::new(alloc);
+    let mut x = first;
+    for symbol in symbols {
+        cells.push(cell_at(x).ok_or("a cell in range")?)?;
+        copies.push(*symbol)?;
+        x = x.saturating_add(1);
+    }
+    let cells = in_order(alloc, cells.as_slice())?;
+    if cells.len() != copies.len() {
+        return Err("a symbol for each cell".into());
+    }
+    Ok(Filling::new(cells, copies))
+}
+
+/// The value at the origin of the first of the two automata that a goal compares.
+fn first_of(
+    alloc: Global,
+    premise: &Rule,
+    goal: &Goal,
+    filling: &Filling,
+) -> Result<Option<u32>, Fail>
+    requires { IsGoalFor premise.now (goal_of premise.now goal.now) }
+{
+    if premise.nodes() == 0 || !filling.symbols().iter().all(|s| *s < premise.symbols()) {
+        return Err("symbols of the rule".into());
+    }
+    match goal {
+        Goal::Differ(first, _) => Ok(value(alloc, premise, first, 0, filling)?),
+        Goal::Breaks(_) | Goal::Always => Err("a goal of two automata".into()),
+    }
+}
+
+/// The same of the first goal that the script asks for.
+fn first_value(alloc: Global, script: &Script, filling: &Filling) -> Result<Option<u32>, Fail> {
+    for query in script.queries() {
+        if let Question::Box { premise, goal } = script.question(query) {
+            return first_of(alloc, premise, &goal, filling);
+        }
+    }
+    Err("a box question".into())
+}
+
+// The exclusive or of the two neighbours, twice over in the query.
+const SCRIPT: &str =
+    "%dim 1 %rule full o@o %auto r when o.lt!=o.rt give 1 else 0 %compose rr r r %conf c [4] 0 1 0 0 %same rr r full";
+
+// The first cell and the symbols from there on, and the value of the twofold automaton at the origin.
+const VALUES: [(i32, &[u32], Option<u32>); 3] = [
+    (-2, &[0, 0, 0, 0, 1], Some(1)),
+    (-2, &[1, 0, 0, 0, 1], Some(0)),
+    // The cell at -2 has no symbol.
+    (-1, &[0, 0, 0, 1], None),
+];
+
+/// Asserts the values of the twofold automaton, and the image of the configuration.
+fn assert_values(rt: &impl Abort, alloc: Global, script: &Script) -> Result<(), Fail> {
+    for (first, symbols, wanted) in &VALUES {
+        let filling = line(alloc, *first, symbols)?;
+        assert_eq!(rt;
+            first_value(alloc, script, &filling)?,
+            *wanted,
+            "from {first}"
+        );
+    }
+    let image = image(alloc, script)?;
+    assert_eq!(rt; image.symbols(), [1u32, 0, 1, 0].as_slice());
+    Ok(())
+}
+
+#[test]
+fn values_of_automata(rt: HostRuntime) -> Result<(), Fail> {
+    let script = script_of(rt.alloc(), &[SCRIPT])?;
+    assert_values(&rt, rt.alloc(), &script)
+}
