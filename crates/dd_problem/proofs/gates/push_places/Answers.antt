@@ -1,5 +1,6 @@
 use Rattle.std.proofs.Common.{◌^◌}
 use Rattle.dd_problem.proofs.PlacesLeft.{places_step, places_few}
+use Rattle.dd_problem.proofs.Templating.{template_at, template_count}
 use Rattle.dd_problem.proofs.gates.push_places.Goals as goal
 
 pub push_if_wired-requires-clause-few : goal.push_if_wired-requires-clause-few
