@@ -8,3 +8,4 @@ pub mod OrderLaws
 pub mod Quick
 pub mod Results
 pub mod Ring
+pub mod LessProduct
