@@ -15,6 +15,7 @@ use dd_pattern::Filling;
 use dd_problem::Goal;
 use dd_script::{Question, Script};
 use std::alloc::{AllocError, Global};
+use std::process::Abort;
 use std::test::Fail;
 
 /// The assignment with this number.
@@ -219,15 +220,6 @@ fn compared_query(
     Err("a box question".into())
 }
 
-fn compared_script(
-    alloc: Global,
-    script: &[&str],
-    radius: u32,
-) -> Result<([u32; 8], [u32; 8]), Fail> {
-    let script = script_of(alloc, script)?;
-    compared_query(alloc, &script, radius)
-}
-
 fn total(counts: &[u32; 8]) -> u32 {
     let mut total = 0u32;
     for count in counts {
@@ -246,7 +238,9 @@ const TWICE: &str = "%auto f when o=1 give 0 else 1 %compose h f f %auto g else 
 
 /// A topology, a premise, a query with the rules and automata that it names, a radius, and the number of admissible
 /// fillings with the goal.
-const QUESTIONS: &[(&str, &str, &str, u32, u32)] = &[
+type Row = (&'static str, &'static str, &'static str, u32, u32);
+
+const QUESTIONS: &[Row] = &[
     ("%dim 1", "o=1 -> o.rt=0", "%empty x", 1, 5),
     ("%dim 1", "o.lt=o.rt", "%empty x", 1, 4),
     ("%dim 1", "Ep[o1] p=1", "%empty x", 1, 7),
@@ -290,13 +284,25 @@ const QUESTIONS: &[(&str, &str, &str, u32, u32)] = &[
     ("%dim 1", "o=1", TWICE, 0, 1),
 ];
 
+/// Asserts what the clauses of the script's first box question say, and of how many fillings.
+fn assert_compared(rt: &impl Abort, alloc: Global, script: &Script, row: &Row) -> Result<(), Fail> {
+    let (_, premise, query, radius, wanted) = row;
+    let (found, fillings) = compared_query(alloc, script, *radius)?;
+    assert_eq!(rt; found, fillings, "{premise} {query}");
+    assert_eq!(rt; total(&found), *wanted, "{premise} {query}");
+    Ok(())
+}
+
+fn assert_row(rt: &impl Abort, alloc: Global, row: &Row) -> Result<(), Fail> {
+    let (head, premise, query, _, _) = row;
+    let script = script_of(alloc, &[*head, " %rule x ", *premise, " ", *query])?;
+    assert_compared(rt, alloc, &script, row)
+}
+
 #[test]
 fn every_assignment(rt: HostRuntime) -> Result<(), Fail> {
-    for (head, premise, query, radius, wanted) in QUESTIONS {
-        let script = [*head, " %rule x ", *premise, " ", *query];
-        let (found, fillings) = compared_script(rt.alloc(), &script, *radius)?;
-        assert_eq!(rt; found, fillings, "{premise} {query}");
-        assert_eq!(rt; total(&found), *wanted, "{premise} {query}");
+    for row in QUESTIONS {
+        assert_row(&rt, rt.alloc(), row)?;
     }
     Ok(())
 }

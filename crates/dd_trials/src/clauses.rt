@@ -5,6 +5,7 @@ use dd_clause::{Clause, Cnf};
 use dd_problem::Goal;
 use dd_script::Script;
 use std::alloc::{AllocError, Global};
+use std::process::Abort;
 use std::test::Fail;
 
 /// The literals as signed numbers.
@@ -22,25 +23,25 @@ fn numbers(alloc: Global, clause: &Clause) -> Result<Vec<i64>, AllocError> {
 }
 
 /// The clauses of the question whether any configuration obeys the script's rule, on the box of one position.
-fn emptiness_of(alloc: Global, script: &Script) -> Result<Cnf, Fail> {
+fn emptiness(alloc: Global, script: &Script) -> Result<Cnf, Fail> {
     let rule = script.rules().first().ok_or("a rule")?;
     clauses_of(alloc, rule, &Goal::Always, 0)
 }
 
-fn emptiness(alloc: Global, script: &str) -> Result<Cnf, Fail> {
-    let script = script_of(alloc, &[script])?;
-    emptiness_of(alloc, &script)
+const CLAUSES: &[&[i64]] = &[&[1, 2], &[-1, -2], &[-3, 1], &[-3, 2], &[3, -1, -2], &[3]];
+
+fn assert_clauses(rt: &impl Abort, alloc: Global, script: &Script) -> Result<(), Fail> {
+    let cnf = emptiness(alloc, script)?;
+    assert_eq!(rt; cnf.variables(), 3);
+    assert_eq!(rt; cnf.clauses().len(), CLAUSES.len());
+    for (clause, wanted) in cnf.clauses().iter().zip(CLAUSES) {
+        assert_eq!(rt; numbers(alloc, clause)?.as_slice(), *wanted);
+    }
+    Ok(())
 }
 
 #[test]
 fn no_cell_has_two_symbols(rt: HostRuntime) -> Result<(), Fail> {
-    let alloc = rt.alloc();
-    let cnf = emptiness(alloc, "%dim 1 %rule x o=0 & o=1")?;
-    assert_eq!(rt; cnf.variables(), 3);
-    let wanted: [&[i64]; 6] = [&[1, 2], &[-1, -2], &[-3, 1], &[-3, 2], &[3, -1, -2], &[3]];
-    assert_eq!(rt; cnf.clauses().len(), wanted.len());
-    for (clause, wanted) in cnf.clauses().iter().zip(wanted) {
-        assert_eq!(rt; numbers(alloc, clause)?.as_slice(), wanted);
-    }
-    Ok(())
+    let script = script_of(rt.alloc(), &["%dim 1 %rule x o=0 & o=1"])?;
+    assert_clauses(&rt, rt.alloc(), &script)
 }

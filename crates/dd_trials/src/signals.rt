@@ -129,15 +129,29 @@ fn times_by_node(rt: &impl Abort, alloc: Global, rule: &Rule) -> Result<Vec<usiz
     Ok(times)
 }
 
-/// The same of the first rule of a script.
-fn times_of_first(rt: &impl Abort, alloc: Global, script: &Script) -> Result<Vec<usize>, Fail> {
+/// Asserts the same of the first rule of a script, with this formula.
+fn assert_times(
+    rt: &impl Abort,
+    alloc: Global,
+    script: &Script,
+    formula: &str,
+    wanted: &[usize],
+) -> Result<(), Fail> {
     let rule = script.rules().first().ok_or("a rule")?;
-    times_by_node(rt, alloc, rule)
+    let times = times_by_node(rt, alloc, rule)?;
+    assert_eq!(rt; times.as_slice(), wanted, "{formula}");
+    Ok(())
 }
 
-fn times_in(rt: &impl Abort, alloc: Global, script: &[&str]) -> Result<Vec<usize>, Fail> {
-    let script = script_of(alloc, script)?;
-    times_of_first(rt, alloc, &script)
+fn assert_formula(
+    rt: &impl Abort,
+    alloc: Global,
+    head: &str,
+    formula: &str,
+    wanted: &[usize],
+) -> Result<(), Fail> {
+    let script = script_of(alloc, &[head, formula])?;
+    assert_times(rt, alloc, &script, formula, wanted)
 }
 
 // The second node has no move x, and the first no move y.
@@ -164,8 +178,7 @@ const ATOMS: &[(&str, [usize; 2])] = &[
 #[test]
 fn atoms_at_two_nodes(rt: HostRuntime) -> Result<(), Fail> {
     for (formula, wanted) in ATOMS {
-        let times = times_in(&rt, rt.alloc(), &[TWO_NODES, *formula])?;
-        assert_eq!(rt; times.as_slice(), wanted.as_slice(), "{formula}");
+        assert_formula(&rt, rt.alloc(), TWO_NODES, formula, wanted.as_slice())?;
     }
     Ok(())
 }
@@ -193,8 +206,7 @@ const FORMULAS: &[(&str, [usize; 1])] = &[
 #[test]
 fn formulas_over_three_symbols(rt: HostRuntime) -> Result<(), Fail> {
     for (formula, wanted) in FORMULAS {
-        let times = times_in(&rt, rt.alloc(), &[THREE_SYMBOLS, *formula])?;
-        assert_eq!(rt; times.as_slice(), wanted.as_slice(), "{formula}");
+        assert_formula(&rt, rt.alloc(), THREE_SYMBOLS, formula, wanted.as_slice())?;
     }
     Ok(())
 }
