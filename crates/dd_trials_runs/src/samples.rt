@@ -101,31 +101,3 @@ fn no_words_ask_for_nothing(rt: HostRuntime) -> Result<(), Fail> {
     );
     Ok(())
 }
-
-// The write that fails, the status, and how many bytes are held. Each line takes a write for each sixteen bytes that it begins: the
-// fourth, sixth and seventh take two.
-#[test]
-fn a_sample_is_cut_where_a_write_fails(rt: HostRuntime) -> Result<(), Fail> {
-    let alloc = rt.alloc();
-    let lines = format!(in alloc; "{}end\n", LINES)?;
-    let words = words_of(alloc, "sample 1")?;
-    let rows = [
-        (0, Status::Definite, 117),
-        (1, Status::WriteFault, 0),
-        (3, Status::WriteFault, 25),
-        (5, Status::WriteFault, 56),
-        (11, Status::WriteFault, 113),
-    ];
-    for (write, status, held) in rows {
-        let mut source = MemorySource::new(Vec::new(alloc), 4, Vec::new(alloc));
-        let mut sink = MemorySink::new(alloc, 200, 16, vec![in alloc; write]?)?;
-        let mut roster = Roster::new(Vec::new(alloc));
-        assert_eq!(rt;
-            run_diddy(alloc, &words, &mut source, &mut sink, &mut roster),
-            status
-        );
-        assert_eq!(rt; sink.held_bytes().len(), held);
-        assert!(rt; lines.as_bytes().starts_with(sink.held_bytes()));
-    }
-    Ok(())
-}

@@ -36,8 +36,8 @@ type Session = (&'static str, &'static str, Status, &'static str);
 
 // Sixteen bytes are read and written at most at a time. Each session has the number of its reads, of which the last finds the
 // end, and how many bytes are held where its first, second and further write fails. The lines of a run before the first
-// answer are written together, and each answer by itself, as are the lines of a check.
-const SESSIONS: [(Session, u64, &[usize]); 6] = [
+// answer are written together, and each answer by itself, as are the lines of a check and of a sample. A sample reads nothing.
+const SESSIONS: [(Session, u64, &[usize]); 7] = [
     (
         (
             "run",
@@ -87,6 +87,16 @@ const SESSIONS: [(Session, u64, &[usize]); 6] = [
         ("check", "diddy 2\n", Status::Refused, "refused at 6\n"),
         2,
         &[0],
+    ),
+    (
+        (
+            "sample 1",
+            HARD,
+            Status::Definite,
+            "query 1 IN\nquery 2 YES 1\nquery 3 NO 2 1\nquery 4 NO right 2 1\nquery 5 YES 3\nquery 6 DENSITY 1/5\nquery 7 BOUND 1/5\nend\n",
+        ),
+        0,
+        &[0, 11, 25, 40, 56, 61, 75, 91, 95, 111, 113],
     ),
 ];
 
