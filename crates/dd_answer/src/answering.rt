@@ -19,7 +19,7 @@ use std::alloc::{AllocError, Global};
 
 /// The right answer to a query of a script, with each number and each list within the bounds of an output.
 ///
-/// A box question is put to the roster as `decide` does. Any other query asks nobody. The roster is kept.
+/// A box question is put to the roster as `decide` does. For any other query no engine is asked. The roster is kept.
 pub fn answer<E: Engine>(
     alloc: Global,
     script: &Script,
@@ -32,7 +32,7 @@ pub fn answer<E: Engine>(
     ensures kept { Kept (roster_seen E.asked E.given E.sound roster.old) (roster_seen E.asked E.given E.sound roster.new) }
     ensures asked { OnOk result (Engages (AsksBoxes script.now query.now) (roster_seen E.asked E.given E.sound roster.old) (roster_seen E.asked E.given E.sound roster.new)) }
 {
-    // Law of a roster that nobody asks.
+    // Law of a roster that is not asked.
     kept_is_reflexive();
     let limits = script.limits();
     match script.question(query) {

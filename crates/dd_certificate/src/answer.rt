@@ -29,7 +29,9 @@ pub enum Reason {
 /// A pattern that a rule forbids at a node: the symbols of the cells that the rule reads there.
 #[derive(Debug, Drop)]
 pub struct Listed {
+    /// The node's number, from 0.
     pub node: u64,
+    /// The numbers of the symbols, from 0, in the order of the cells that the rule reads at the node.
     pub symbols: Items<u64>,
 }
 

@@ -88,7 +88,7 @@ impl<'a> Questions for BoxQuestion<'a> {
         radius: u32,
         roster: &mut Roster<E>,
     ) -> Result<Option<Items<Step>>, AllocError> {
-        // Law of a roster that nobody asks.
+        // Law of a roster that is not asked.
         kept_is_reflexive();
         let cnf = box_clauses(self.alloc, self.premise, self.goal, radius)?;
         match outcome(self.alloc, &cnf, roster)? {
@@ -102,7 +102,7 @@ impl<'a> Questions for BoxQuestion<'a> {
         at: &Periods,
         roster: &mut Roster<E>,
     ) -> Result<Option<Periodic>, AllocError> {
-        // Law of a roster that nobody asks.
+        // Law of a roster that is not asked.
         kept_is_reflexive();
         let periods = [at.x, at.y, at.z];
         let cnf = torus_clauses(self.alloc, self.premise, self.goal, periods, at.shear)?;
@@ -142,7 +142,7 @@ pub fn decide<E: Engine>(
     ensures kept { Kept (roster_seen E.asked E.given E.sound roster.old) (roster_seen E.asked E.given E.sound roster.new) }
     ensures first { OnOk result (FirstAsked (roster_seen E.asked E.given E.sound roster.old) (roster_seen E.asked E.given E.sound roster.new)) }
 {
-    // Law of a roster that nobody asks.
+    // Law of a roster that is not asked.
     kept_is_reflexive();
     let least = least_radius(alloc, goal)?;
     let most = limits.radius.max(least);

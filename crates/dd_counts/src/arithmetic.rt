@@ -10,7 +10,7 @@ pub fn cut_off(limit: u32, count: u64) -> u32
     count.min(limit as u64 + 1) as u32
 }
 
-/// The product, cut off.
+/// The product, or `limit + 1` where it passes the limit, which is below 2^31.
 pub fn times(limit: u32, a: u32, b: u32) -> u32
     requires { limit < 2 ^ 31 }
     ensures { result ≡ cut limit (a * b) }
@@ -18,7 +18,7 @@ pub fn times(limit: u32, a: u32, b: u32) -> u32
     cut_off(limit, a as u64 * b as u64)
 }
 
-/// The power, cut off.
+/// The power, or `limit + 1` where it passes the limit, which is below 2^31.
 pub fn power(limit: u32, base: u32, exponent: u64) -> u32
     requires { limit < 2 ^ 31 }
     ensures { result ≡ cut limit (base ^ exponent) }

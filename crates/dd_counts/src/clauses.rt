@@ -44,7 +44,7 @@ fn disallowed_pairs(rule: &Rule) -> u32
     count
 }
 
-/// The clauses for one position at which the rule is to be true.
+/// How many clauses say that the rule is true at one position, or `limit + 1` where that passes the limit, which is below 2^31.
 pub fn place_clauses(rule: &Rule, limit: u32) -> u32
     requires { limit < 2 ^ 31 }
     ensures { result ≡ cut limit (place_clauses rule.now) }
@@ -58,7 +58,8 @@ pub fn place_clauses(rule: &Rule, limit: u32) -> u32
     )
 }
 
-/// The clauses that say that some node of the origin breaks the rule.
+/// How many clauses say that some node of the origin breaks the rule, or `limit + 1` where that passes the limit, which is
+/// below 2^31.
 pub fn broken_clauses(rule: &Rule, limit: u32) -> u32
     requires { limit < 2 ^ 31 }
     ensures { result ≡ cut limit (broken_clauses rule.now) }
@@ -66,7 +67,8 @@ pub fn broken_clauses(rule: &Rule, limit: u32) -> u32
     plus(limit, rule_clauses(rule, limit), 1)
 }
 
-/// The clauses of a box question up to a radius and a period. The goal's count may be cut off.
+/// How many clauses the largest box or torus of a box question has, up to a radius and a period, or `limit + 1` where that
+/// passes the limit, which is below 2^31. The goal's count may be cut off at the same limit.
 pub fn question_clauses(premise: &Rule, goal: u32, radius: u32, period: u32, limit: u32) -> u32
     requires radius { radius < 2 ^ 31 }
     requires limit { limit < 2 ^ 31 }

@@ -7,7 +7,8 @@ use crate::arithmetic::power;
 use dd_formula::Rule;
 use dd_lattice::Cell;
 
-/// The number of ways to fill the cells that the rule reads at a node.
+/// The number of ways to fill the cells that the rule reads at a node, or `limit + 1` where it passes the limit, which is
+/// below 2^31.
 pub fn patterns(rule: &Rule, node: u32, limit: u32) -> u32
     requires node { node < rule.now.nodes }
     requires limit { limit < 2 ^ 31 }
@@ -71,7 +72,8 @@ fn slices(rule: &Rule, volume: u32, limit: u32) -> u32
     power(limit, rule.symbols(), rule.nodes() as u64 * volume as u64)
 }
 
-/// The number of states of the rule's transfer graph over strips of which a slice has so many positions.
+/// The number of states of the rule's transfer graph over strips of which a slice has so many positions, or `limit + 1` where
+/// it passes the limit, which is below 2^31.
 pub fn states(rule: &Rule, volume: u32, limit: u32) -> u32
     requires { limit < 2 ^ 31 }
     ensures { result ≡ cut limit (states rule.now volume) }
@@ -79,7 +81,8 @@ pub fn states(rule: &Rule, volume: u32, limit: u32) -> u32
     power(limit, slices(rule, volume, limit), window(rule))
 }
 
-/// The number of states with one slice more: so many edges the graph has at most.
+/// The number of states with one slice more, or `limit + 1` where it passes the limit, which is below 2^31: so many edges the
+/// graph has at most.
 pub fn longer_states(rule: &Rule, volume: u32, limit: u32) -> u32
     requires { limit < 2 ^ 31 }
     ensures { result ≡ cut limit (longer_states rule.now volume) }

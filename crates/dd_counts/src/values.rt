@@ -94,7 +94,11 @@ fn differ_at(
     Ok(plus(limit, plus(limit, one, other), gates))
 }
 
-/// The clauses that say that two automata differ at some of the origin's nodes.
+/// How many clauses say that two automata differ at some of the origin's nodes, or `limit + 1` where that passes the limit,
+/// which is below 2^31.
+///
+/// # Errors
+/// `AllocError` where memory was wanting.
 pub fn differ_clauses(
     alloc: Global,
     first: &Automaton,

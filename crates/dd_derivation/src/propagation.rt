@@ -69,6 +69,7 @@ fn first_hinted(known: &Known, hints: &[u64], variable: u32) -> Option<Literal>
 pub trait FalseLiterals {
     ghost is_false: { Self → Literal → Bool };
 
+    /// Whether the literal is false.
     fn is_false(&self, literal: Literal) -> bool
         ensures { result ≡ is_false self.now literal };
 }

@@ -11,14 +11,20 @@ use dd_values::Items;
 /// of the format LRAT of Cruz-Filipe, Heule, Hunt, Kaufmann and Schneider-Kamp (2017).
 #[derive(Debug, Drop)]
 pub struct Step {
+    /// The clause that follows.
     pub clause: Clause,
+    /// The numbers, from 1, of the clauses that become unit one after the other when the clause's literals are false; at the
+    /// last of them no literal is left.
     pub hints: Items<u64>,
+    /// The numbers of the clauses that no later step may hint at.
     pub deletes: Items<u64>,
 }
 
 /// What there is to say of a clause list: an assignment that satisfies it, or steps that refute it.
 #[derive(Debug, Drop)]
 pub enum Outcome {
+    /// An assignment that satisfies each clause.
     Found(Assignment),
+    /// Steps that end in the empty clause, so no assignment satisfies the list.
     Refuted(Items<Step>),
 }

@@ -4,9 +4,14 @@ use dd_values::Items;
 /// A bound in lowest terms, with the amounts and the duals over a common denominator.
 #[derive(Debug, Drop)]
 pub struct Bound {
+    /// The bound's numerator, in lowest terms.
     pub numerator: u64,
+    /// The bound's denominator, at least 1.
     pub denominator: u64,
+    /// The common denominator of the amounts and the duals, at least 1.
     pub common: u64,
+    /// The numerators of the amounts, one for each column of the program.
     pub amounts: Items<u64>,
+    /// The numerators of the duals, one for each row of the program.
     pub duals: Items<u64>,
 }

@@ -13,8 +13,11 @@ use std::alloc::{AllocError, Global};
 /// it.
 #[derive(Debug, Drop)]
 pub enum Proposal {
+    /// It proposes nothing.
     Nothing,
+    /// An assignment that is to satisfy each clause.
     Found(Assignment),
+    /// Steps that are to refute the list.
     Refutation(Items<Step>),
 }
 

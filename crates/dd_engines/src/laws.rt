@@ -7,7 +7,7 @@ pub fn rounds_keep()
     ensures { (before after : List Seen) (end : End) → Round before after end → Kept before after }
 {}
 
-/// Does nothing; its contract is the law that a roster that nobody asks is kept.
+/// Does nothing; its contract is the law that a roster that is not asked is kept.
 pub fn kept_is_reflexive()
     ensures { (all : List Seen) → Kept all all }
 {}

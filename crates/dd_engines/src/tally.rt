@@ -24,7 +24,7 @@ impl Model for Tally {
 }
 
 impl Tally {
-    /// The counts of an engine that nobody has asked.
+    /// The counts of an engine that was never asked.
     pub fn new() -> Self
         ensures asked { result.asked ≡ 0 }
         ensures given { result.given ≡ 0 }

@@ -10,25 +10,45 @@ use thiserror::Error;
 /// The limits of scripts, in their order.
 #[derive(Clone, Copy, Debug, PartialEq, Eq)]
 pub enum Limit {
+    /// A script has at most 1,000 commands.
     Commands,
+    /// A word has at most 32 letters.
     Word,
+    /// A number is at most 1,000,000 in absolute value.
     Number,
+    /// At most 4 nodes.
     Nodes,
+    /// At most 16 symbols.
     Alphabet,
+    /// At most 64 edges.
     Edges,
+    /// An edge goes at most 4 along each axis.
     Offset,
+    /// A weight is at most 1,000.
     Weight,
+    /// A radius of at most 8, a period of 1 to 8, at most 100,000 pivots.
     Limits,
+    /// A term makes at most 16 moves.
     Moves,
+    /// A ball's radius and a margin are at most 3.
     Radius,
+    /// A quantifier ranges over at most 4 balls.
     Balls,
+    /// A rule's expansion at a node has at most 20,000 nodes.
     Instances,
+    /// A rule reads at most 16 away along each axis.
     Reach,
+    /// Compositions are nested at most 64 deep.
     Depth,
+    /// A configuration has at most 65,536 symbols, and its shear is less than its first period. A strip's periods are 1 to 64.
     Periods,
+    /// At most 16 vectors, with entries of at most 4 in absolute value.
     Vectors,
+    /// A rule that is listed has at most 65,536 fillings at a node.
     Patterns,
+    /// A strip has at most 4,096 states, and at most 131,072 edges.
     States,
+    /// A box question has at most 2,000,000 clauses in its largest box or torus.
     Clauses,
 }
 

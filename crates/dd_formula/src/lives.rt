@@ -8,7 +8,9 @@ use dd_pattern::Periodic;
 /// A configuration is inside a subshift, or outside of it with a cell at which the rule is false.
 #[derive(Debug, Clone, Copy, PartialEq, Eq)]
 pub enum Membership {
+    /// The rule is true at each cell.
     Inside,
+    /// The first cell of the fundamental box, in cell order, at which the rule is false.
     Outside(Cell),
 }
 

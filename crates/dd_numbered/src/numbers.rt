@@ -9,6 +9,7 @@ pub trait Numbers {
     /// The number of each cell of Z^3, or none.
     ghost numbering: { Self → Cell → Option ℕ };
 
+    /// The place, from 0, at which the cell's symbol stands in a list, or none where it stands at none.
     fn number(&self, cell: &dd_lattice::Cell) -> Option<usize>
         ensures { result ≡ numbering self.now cell.now };
 }

@@ -10,11 +10,13 @@ use dd_lattice::Cell;
 /// Cells in cell order. Each has its place among them as its number, and each other cell has their count.
 #[derive(Drop)]
 pub struct Ranks<'a> {
+    /// The cells in their order: the number of each is its place here.
     pub cells: &'a [Cell],
     pub ghost ascending: { IsStrictlySortedBy cell_cmp cells.now } by { IsStrictlySortedBy-prop cell_cmp cells.now },
 }
 
 impl<'a> Ranks<'a> {
+    /// The numbers of these cells, which must ascend in cell order, each once.
     pub fn new(cells: &'a [Cell]) -> Ranks<'a>
         requires { IsStrictlySortedBy cell_cmp cells.now }
         ensures { result.cells.now ≡ cells.now }

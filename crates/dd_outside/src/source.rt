@@ -11,13 +11,17 @@ use std::alloc::{AllocError, Global};
 
 /// Bytes that are read to their end.
 pub trait Source {
-    /// The bytes that it still gives, where it tells them.
+    /// The bytes that it still gives, where they are known.
     ghost left: { Self → Option (List ℕ) };
 
     /// How often it has failed. The count stops at its greatest number.
     ghost faults: { Self → ℕ };
 
-    /// Reads some bytes into the front of a slice. None is the end, where the slice is not empty.
+    /// Reads some bytes into the front of a slice, and answers how many. It answers 0 at the end of the source, or where the
+    /// slice is empty.
+    ///
+    /// # Errors
+    /// `Failed` where the read failed. Nothing was read then, its count of faults is one higher, and a later read may succeed.
     fn read(&mut self, into: &mut [u8]) -> Result<usize, Failed>
         ensures bound { ReadsAtMost result into.new }
         ensures bytes { ReadConsumes (left self.old) (left self.new) result into.new }
@@ -55,7 +59,12 @@ fn read_on<S: Source>(
     Ok(count)
 }
 
-/// All bytes to the end of the source, of which it takes at most one more than the limit.
+/// Reads all bytes to the end of the source. At most one byte more than the limit, in bytes, is taken from it.
+///
+/// # Errors
+/// - `ReadFault` where a read failed: what was read before is dropped, and the source stands behind it.
+/// - `TooLong` where the source gave a byte more than the limit.
+/// - `Memory` where memory was wanting, which can come instead of the other two.
 pub fn read_all<S: Source>(
     alloc: Global,
     source: &mut S,

@@ -9,17 +9,20 @@ pub trait Reads {
     /// The symbol of each cell of Z^3, or none.
     ghost symbols: { Self → Cell → Option ℕ };
 
+    /// The number of the cell's symbol, from 0, or none where it has no symbol.
     fn symbol(&self, cell: &dd_lattice::Cell) -> Option<u32>
         ensures { result ≡ symbols self.now cell.now };
 }
 
 /// What gives a symbol to every cell whose node is below its number of nodes.
 pub trait Configuration {
+    /// The number of nodes of each position.
     ghost nodes: { Self → ℕ };
 
     /// The symbol of each cell of Z^3, past the range of positions too. Only cells with such a node count.
     ghost symbol_of: { Self → Cell → ℕ };
 
+    /// The number of the cell's symbol, from 0. The cell's node must be below the number of nodes.
     fn symbol_at(&self, cell: &dd_lattice::Cell) -> u32
         requires { cell.now.node < nodes self.now }
         ensures { result ≡ symbol_of self.now cell.now };

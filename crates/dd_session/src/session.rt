@@ -122,7 +122,7 @@ fn run_bytes<K: Sink, E: Engine>(
     ensures late { (roster.new ≡ roster.old) ⊎ Begun (K.held sink.old) (K.held sink.new) bytes.now }
     ensures asked { IsToEnd result → AsksFirstOver bytes.now (roster_seen E.asked E.given E.sound roster.old) (roster_seen E.asked E.given E.sound roster.new) }
 {
-    // Law of a roster that nobody asks.
+    // Law of a roster that is not asked.
     kept_is_reflexive();
     match parse(alloc, bytes) {
         Ok(script) => run_accepted(alloc, bytes, &script, sink, roster),
@@ -150,7 +150,7 @@ fn run<S: Source, K: Sink, E: Engine>(
     ensures late { (roster.new ≡ roster.old) ⊎ HasBegun (S.left source.old) (S.left source.new) (K.held sink.old) (K.held sink.new) }
     ensures asked { IsToEnd result → AsksFirst (S.left source.old) (S.left source.new) (roster_seen E.asked E.given E.sound roster.old) (roster_seen E.asked E.given E.sound roster.new) }
 {
-    // Law of a roster that nobody asks.
+    // Law of a roster that is not asked.
     kept_is_reflexive();
     match read_all(alloc, source, MOST_BYTES) {
         Ok(bytes) => run_bytes(alloc, &bytes, sink, roster),
@@ -223,7 +223,7 @@ fn run_sample<K: Sink, E: Engine>(
     ensures answered { IsUnanswered result → ⊥ }
     ensures asked { IsToEnd result → AsksFirstOver (sample_text number) (roster_seen E.asked E.given E.sound roster.old) (roster_seen E.asked E.given E.sound roster.new) }
 {
-    // Law of a roster that nobody asks.
+    // Law of a roster that is not asked.
     kept_is_reflexive();
     match sample(alloc, number) {
         Ok(script) => run_lines(alloc, &script, sink, roster),
@@ -247,7 +247,7 @@ fn run_sample<K: Sink, E: Engine>(
 /// With `run` and `sample`, the engines of the roster are asked before each search of a box question. What is written is right
 /// whatever they propose, and so each answer's first line, and the status, are the same over every roster. The roster is kept: each
 /// sound engine is still there, in order, on every return. With `run`, no engine is asked before the lines before the first answer
-/// are written whole, nor for an input that is refused; with other words than these two nobody is. Where the run came to its end and
+/// are written whole, nor for an input that is refused; with other words than these two none is. Where the run came to its end and
 /// some query asks a box question, the first engine that is left was asked.
 pub fn run_diddy<S: Source, K: Sink>(
     alloc: Global,
@@ -289,7 +289,7 @@ pub fn run_diddy<S: Source, K: Sink>(
         AsksFirstOver (sample_text number) (roster_seen asked given sound roster.old) (roster_seen asked given sound roster.new) }
     ensures check_asks_nobody { IsOnly (codes "check") (map string_bytes words.now) → roster.new ≡ roster.old }
 {
-    // Law of a roster that nobody asks.
+    // Law of a roster that is not asked.
     kept_is_reflexive();
     if is_only(words, "run") {
         spelled_or_refused();

@@ -17,7 +17,7 @@ enum Habit {
     AllFalse,
     /// It proposes nothing.
     Silent,
-    /// It wants memory at its first call, and proposes nothing later.
+    /// Memory is wanting at its first call; later it proposes nothing.
     NoMemoryAtFirst,
     /// It proposes nothing at its first call, and a refutation without steps later.
     ChangesItsMind,

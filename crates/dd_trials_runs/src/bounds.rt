@@ -80,7 +80,7 @@ const DISCHARGES: [(&str, &str); 16] = [
 ];
 
 // Whole answers, with their amounts and duals. What their bounds say of small boxes is in docs/wrong-bodies.md: a 0 has a 1 in front of
-// it, or three steps away; and the rule stands two cells to the left of the cell that it speaks of, so that the margin shows it.
+// it, or three steps away; and the rule stands two cells to the left of the cell that it restricts, so that the margin shows it.
 const WHOLE_BOUNDS: [(&str, &str); 3] = [
     (
         "%dim 1 %rule cover o=1 | o.rt=1 %discharge cover 0 0 [1]",

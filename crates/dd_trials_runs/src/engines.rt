@@ -20,7 +20,7 @@ pub(crate) enum Habit {
     NoSteps,
     /// That all variables are false.
     AllFalse,
-    /// It wants memory at its first call, and proposes nothing later.
+    /// Memory is wanting at its first call; later it proposes nothing.
     NoMemoryAtFirst,
     /// Nothing at its first call, and a refutation without steps later.
     ChangesItsMind,

@@ -136,7 +136,7 @@ fn no_engine_is_asked_before_the_text_before_is_written(rt: HostRuntime) -> Resu
     Ok(())
 }
 
-// Other words, and inputs that are refused, ask nobody.
+// With other words, and for inputs that are refused, no engine is asked.
 #[test]
 fn nobody_is_asked_without_a_run(rt: HostRuntime) -> Result<(), Fail> {
     let alloc = rt.alloc();

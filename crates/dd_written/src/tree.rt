@@ -45,7 +45,7 @@ pub struct Ball {
     pub radius: Number,
 }
 
-/// Whether a quantifier speaks of all cells or of some.
+/// Whether a quantifier ranges over all cells or asks for one.
 #[derive(Clone, Copy, Debug, PartialEq, Eq)]
 pub enum Quantor {
     All,
