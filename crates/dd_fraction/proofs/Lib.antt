@@ -2,6 +2,7 @@ pub mod Comparing
 pub mod Divisors
 pub mod FractionFacts
 pub mod Laws
+pub mod LessProduct
 pub mod Lowest
 pub mod OddDivisors
 pub mod OrderLaws

@@ -17,10 +17,10 @@ use Rattle.dd_fraction.proofs.Laws.{plus_comm, plus_zero}
 use Rattle.dd_fraction.proofs.Results.{bounded_some, size_some, crossed, lowest_alone, plus_at}
 use Rattle.dd_fraction.proofs.Ring.{diff_self, diff_same, as_diff, product_above}
 
-within : (z : ℤ) → unsigned_abs z < 2 ^ 127 → is_bounded z ≡ true
+pub within : (z : ℤ) → unsigned_abs z < 2 ^ 127 → is_bounded z ≡ true
 within z p = lt-ltb _ _ p
 
-size_plus : (x y : ℤ) → unsigned_abs (x +ℤ y) ≤ unsigned_abs x + unsigned_abs y
+pub size_plus : (x y : ℤ) → unsigned_abs (x +ℤ y) ≤ unsigned_abs x + unsigned_abs y
 size_plus x y = omega (arith, ints)
 
 -- ---- 0 + b
@@ -54,11 +54,11 @@ word_times n d p q = let e = unsigned_abs-mul n (pos d) in omega (arith, e, mul-
 alike_cross : (x y : ℤ) (d : ℕ) → (x +ℤ y) *ℤ pos (d * d) ≡ (x *ℤ pos d +ℤ y *ℤ pos d) *ℤ pos d
 alike_cross x y d = rw (← diff_self x, ← diff_self y) (simp as_diff (diff_same _ _ _ _ (omega arith)))
 
-alike_plus : (a b : Exact) → IsFraction a → a.den ≡ b.den → lowest (a.num +ℤ b.num) a.den ≡ plus a b
+pub alike_plus : (a b : Exact) → 0 < a.den → a.den ≡ b.den → lowest (a.num +ℤ b.num) a.den ≡ plus a b
 alike_plus a b p e =
-    lowest_same_at (a.num +ℤ b.num) (a.num *ℤ pos a.den +ℤ b.num *ℤ pos a.den) a.den (a.den * a.den) p.above
-    (product_above a.den a.den p.above p.above) (alike_cross a.num b.num a.den)
-    ∙ plus_at a b _ _ p.above (omega (arith, e, p.above)) (ap (λ (d : ℕ). a.num *ℤ pos d +ℤ b.num *ℤ pos a.den) e)
+    lowest_same_at (a.num +ℤ b.num) (a.num *ℤ pos a.den +ℤ b.num *ℤ pos a.den) a.den (a.den * a.den) p
+    (product_above a.den a.den p p) (alike_cross a.num b.num a.den)
+    ∙ plus_at a b _ _ p (omega (arith, e, p)) (ap (λ (d : ℕ). a.num *ℤ pos d +ℤ b.num *ℤ pos a.den) e)
     (ap (λ (d : ℕ). a.den * d) e)
 
 pub alike_sum : (a b s : Exact) → IsFraction a → a.den ≡ b.den → a.den < 2 ^ 63
@@ -73,7 +73,7 @@ alike_sum a b s p e small left right k =
     let two = within (b.num *ℤ pos a.den) (omega (arith, y, small)) in
     let three = within (a.num *ℤ pos b.den +ℤ b.num *ℤ pos a.den) (omega (arith, x, y, both, other, small)) in
     let four = within (pos (a.den * b.den)) (omega (arith, den, other)) in
-    rw (one, two, three, four) (ap (λ (t : Exact). Some t) (k ∙ alike_plus a b p e))
+    rw (one, two, three, four) (ap (λ (t : Exact). Some t) (k ∙ alike_plus a b p.above e))
 
 -- ---- a whole side
 less : (k x y z : ℕ) → y - x ≡ z → k ∣ x → k ∣ y → k ∣ z

@@ -82,7 +82,7 @@ pub kept : {A : Type 0} (t : Bool) (x z : A) → Some x ≡ cond t (Some z) None
 kept true x z e = (refl, cc)
 kept false x z e = absurd cc
 
-refused : {A : Type 0} (t : Bool) (z : A) → None ≡ cond t (Some z) None → t ≡ false
+pub refused : {A : Type 0} (t : Bool) (z : A) → None ≡ cond t (Some z) None → t ≡ false
 refused true z e = absurd cc
 refused false z e = refl
 

@@ -1,10 +1,10 @@
 -- Sums, products and quotients whose numbers on the way are all at most 2^127 - 1 in absolute value.
-use Rattle.std.specs.Prelude.{◌≡◌, ℕ, suc, ◌*◌, ◌<◌, ◌^◌, Bool, not, ◌&&◌, Option, Some, None, cond}
+use Rattle.std.specs.Prelude.{◌≡◌, ℕ, suc, ◌*◌, ◌<◌, ◌≤◌, ◌^◌, Bool, not, ◌&&◌, Option, Some, None, cond}
 use Rattle.std.specs.Bool.{nat_eq, nat_lt}
 use Rattle.std.specs.Int.RustNames.{unsigned_abs}
 use lib.IntN.{ℤ, pos, negsuc, neg_ℤ, ◌+ℤ◌, ◌*ℤ◌}
 use Rattle.dd_fraction.specs.Divisor.{greatest_common}
-use Rattle.dd_fraction.specs.Exact.{Exact, plus, times, inverse, lowest}
+use Rattle.dd_fraction.specs.Exact.{Exact, plus, times, minus, inverse, lowest}
 
 -- at most 2^127 - 1 in absolute value
 abbrev pub is_bounded : ℤ → Bool
@@ -23,6 +23,12 @@ pub record IsFraction (a : Exact) : Type 0 where
   pub below : a.den < 2 ^ 127
   pub bounded : unsigned_abs a.num < 2 ^ 127
   pub alone : greatest_common (unsigned_abs a.num) a.den ≡ 1
+
+-- a fraction of two numbers of 16 bits
+pub record IsSmall (a : Exact) : Type 0 where
+  pub above : 0 < a.den
+  pub below : a.den < 2 ^ 16
+  pub bounded : unsigned_abs a.num ≤ 2 ^ 15
 
 -- both products, as they are before the result is brought to lowest terms
 abbrev pub does_product_fit : Exact → Exact → Bool
@@ -44,6 +50,13 @@ does_sum_fit a b =
 
 abbrev pub checked_sum : Exact → Exact → Option Exact
 checked_sum a b = cond (does_sum_fit a b) (Some (plus a b)) None
+
+-- a - q · b: the numbers of the product, and those of the difference
+abbrev pub does_less_product_fit : Exact → Exact → Exact → Bool
+does_less_product_fit a q b = does_product_fit q b && does_sum_fit a (minus (times q b))
+
+abbrev pub checked_less_product : Exact → Exact → Exact → Option Exact
+checked_less_product a q b = cond (does_less_product_fit a q b) (Some (plus a (minus (times q b)))) None
 
 -- n over d, the sign at the numerator
 abbrev pub signed_over : ℤ → ℤ → Exact

@@ -8,6 +8,7 @@ ghost use Rattle.dd_fraction.specs.Divisor.{greatest_common};
 const WORD: u128 = 18_446_744_073_709_551_615;
 
 /// The greatest number that divides both; of a number and 0, the number.
+#[inline(always)]
 pub fn greatest_common_divisor(a: u128, b: u128) -> u128
     ensures { result ≡ greatest_common a b }
 {

@@ -4,11 +4,12 @@ ghost use Rattle.std.specs.Int.RustNames.{unsigned_abs};
 ghost use lib.IntN.{pos};
 ghost use Rattle.dd_fraction.specs.Exact.{Exact, lowest, minus, inverse, whole_of};
 ghost use Rattle.dd_fraction.specs.Order.{exact_cmp};
-ghost use Rattle.dd_fraction.specs.Checked.{IsFraction, checked_product, checked_quotient, checked_sum, fraction_of};
+ghost use Rattle.dd_fraction.specs.Checked.{IsFraction, checked_product, checked_quotient, checked_sum, checked_less_product, fraction_of};
 
 use crate::bounded::{product, size_product, sum, word_sum};
 use crate::divisor::{common_divisor, quotient, size_quotient};
 use crate::ratio::compare_ratios;
+use crate::small::Small;
 use std::cmp::Ordering;
 use std::marker::Model;
 
@@ -158,6 +159,37 @@ impl Fraction {
         Some(reduced(num, den))
     }
 
+    /// `self - factor * other`. None where the product is None, or the difference with it.
+    #[inline(always)]
+    pub fn sub_product(&self, factor: &Fraction, other: &Fraction) -> Option<Fraction>
+        ensures { result ≡ checked_less_product self.now factor.now other.now }
+    {
+        match self.small_less_product(factor, other) {
+            Some(difference) => Some(difference),
+            None => self.wide_less_product(factor, other),
+        }
+    }
+
+    /// `self - factor * other`, where all numbers have 16 bits. None elsewhere.
+    #[inline(always)]
+    fn small_less_product(&self, factor: &Fraction, other: &Fraction) -> Option<Fraction>
+        ensures { IfSome result (λ d. Some d ≡ checked_less_product self.now factor.now other.now) }
+    {
+        let own = Small::of(self.num, self.den)?;
+        let factor = Small::of(factor.num, factor.den)?;
+        let other = Small::of(other.num, other.den)?;
+        Some(own.less_product(&factor, &other))
+    }
+
+    /// `self - factor * other`, one after the other.
+    #[inline(never)]
+    fn wide_less_product(&self, factor: &Fraction, other: &Fraction) -> Option<Fraction>
+        ensures { result ≡ checked_less_product self.now factor.now other.now }
+    {
+        let product = factor.mul(other)?;
+        self.sub(&product)
+    }
+
     /// Whether it is 1 or -1.
     #[inline(always)]
     fn is_unit(&self) -> bool
@@ -202,7 +234,7 @@ impl Fraction {
 }
 
 /// The two numbers over their greatest common divisor.
-#[inline(never)]
+#[inline(always)]
 fn reduced(num: i128, den: u128) -> Fraction
     requires bounded { unsigned_abs num < 2 ^ 127 }
     requires above { 0 < den }
@@ -217,6 +249,18 @@ fn reduced(num: i128, den: u128) -> Fraction
         return in_lowest_terms(num, den);
     }
     in_lowest_terms(quotient(num, divisor), size_quotient(den, divisor))
+}
+
+/// Two machine words over their greatest common divisor.
+#[inline(always)]
+pub fn reduced_words(num: i64, den: u64) -> Fraction
+    requires { 0 < den }
+    ensures { result ≡ lowest num den }
+{
+    if num == 0 {
+        return Fraction::whole(0);
+    }
+    reduced(i128::from(num), u128::from(den))
 }
 
 #[inline(always)]

@@ -6,6 +6,7 @@ mod divisor;
 mod field_laws;
 mod fraction;
 mod ratio;
+mod small;
 
 pub use field_laws::{opposite_laws, order_laws, ordered_field_laws, product_laws, sum_laws};
 pub use fraction::Fraction;

@@ -15,7 +15,7 @@ use Rattle.std.specs.Int.RustNames.{unsigned_abs}
 use Rattle.std.proofs.lemmas.Int.{ints}
 use Rattle.dd_simplex.specs.Programs.{zero_of, one_of, fraction_at}
 use Rattle.dd_simplex.specs.table.Lines.{Line, solved_line}
-use Rattle.dd_fraction.specs.Checked.{does_product_fit, checked_product, does_sum_fit, checked_sum}
+use Rattle.dd_fraction.specs.Checked.{does_product_fit, checked_product, does_sum_fit, does_less_product_fit, checked_less_product}
 
 pub product_gives : (a b q : Exact) → Some q ≡ checked_product a b → (does_product_fit a b ≡ true) × (q ≡ times a b)
 product_gives a b q e = by (does_product_fit a b) refl
@@ -39,18 +39,18 @@ divide_step k xs ys i x q p is all e s =
       ap (slice_set ys i) g.1 ∙ map_over_more (λ (a : Exact). times a k) xs ys i x p e is,
     )
 
-pub sum_gives : (a b q : Exact) → Some q ≡ checked_sum a b → (does_sum_fit a b ≡ true) × (q ≡ plus a b)
-sum_gives a b q e = by (does_sum_fit a b) refl
+pub less_product_gives : (a q b v : Exact) → Some v ≡ checked_less_product a q b → (does_less_product_fit a q b ≡ true) × (v ≡ plus a (minus (times q b)))
+less_product_gives a q b v e = by (does_less_product_fit a q b) refl
   where
-    by : (t : Bool) → does_sum_fit a b ≡ t → (does_sum_fit a b ≡ true) × (q ≡ plus a b)
-    by true s = let k : Some q ≡ Some (plus a b) = e ∙ ap (λ (u : Bool). cond u (Some (plus a b)) None) s in (s, cc)
-    by false s = let n : Option Exact = None in let k : Some q ≡ n = e ∙ ap (λ (u : Bool). cond u (Some (plus a b)) None) s in absurd cc
+    by : (t : Bool) → does_less_product_fit a q b ≡ t → (does_less_product_fit a q b ≡ true) × (v ≡ plus a (minus (times q b)))
+    by true s = let k : Some v ≡ Some (plus a (minus (times q b))) = e ∙ ap (λ (u : Bool). cond u (Some (plus a (minus (times q b)))) None) s in (s, cc)
+    by false s = let n : Option Exact = None in let k : Some v ≡ n = e ∙ ap (λ (u : Bool). cond u (Some (plus a (minus (times q b)))) None) s in absurd cc
 
-pub product_none : (a b : Exact) → None ≡ checked_product a b → does_product_fit a b ≡ false
-product_none a b e = by (does_product_fit a b) refl
+pub less_product_none : (a q b : Exact) → None ≡ checked_less_product a q b → does_less_product_fit a q b ≡ false
+less_product_none a q b e = by (does_less_product_fit a q b) refl
   where
-    by : (t : Bool) → does_product_fit a b ≡ t → does_product_fit a b ≡ false
-    by true s = let n : Option Exact = None in let k : n ≡ Some (times a b) = e ∙ ap (λ (u : Bool). cond u (Some (times a b)) None) s in absurd cc
+    by : (t : Bool) → does_less_product_fit a q b ≡ t → does_less_product_fit a q b ≡ false
+    by true s = let n : Option Exact = None in let k : n ≡ Some (plus a (minus (times q b))) = e ∙ ap (λ (u : Bool). cond u (Some (plus a (minus (times q b)))) None) s in absurd cc
     by false s = s
 
 fits_open : (q : Exact) (us bs : List Exact) (i : ℕ) (a b : Exact) → i < length us → i < length bs
@@ -61,19 +61,22 @@ less_open : (q : Exact) (us bs : List Exact) (i : ℕ) (a b : Exact) → i < len
     → less q (drop i us) (drop i bs) ≡ plus (get_or us i a) (minus (times q (get_or bs i b))) ∷ less q (drop (i + 1) us) (drop (i + 1) bs)
 less_open q us bs i a b p r = rw (add-one, drop-cons us i a p, drop-cons bs i b r) refl
 
-pub subtract_stops : (q : Exact) (us bs : List Exact) (i : ℕ) (a b : Exact) → i < length us → i < length bs → None ≡ checked_product q (get_or bs i b) → false ≡ do_all_less_fit q (drop i us) (drop i bs)
-subtract_stops q us bs i a b p r e = sym (fits_open q us bs i a b p r ∙ rw (product_none q (get_or bs i b) e) refl)
+pub subtract_stops : (q : Exact) (us bs : List Exact) (i : ℕ) (a b : Exact) → i < length us → i < length bs
+    → None ≡ checked_less_product (get_or us i a) q (get_or bs i b) → false ≡ do_all_less_fit q (drop i us) (drop i bs)
+subtract_stops q us bs i a b p r e =
+    sym (fits_open q us bs i a b p r
+    ∙ ap (λ (t : Bool). t && do_all_less_fit q (drop (i + 1) us) (drop (i + 1) bs)) (less_product_none (get_or us i a) q (get_or bs i b) e))
 
-pub subtract_step : (q : Exact) (us bs : List Exact) (i : ℕ) (a b m v : Exact) → i < length us → i < length bs → Some m ≡ checked_product q (get_or bs i b) → Some v ≡ checked_sum (get_or us i a) (minus m)
+pub subtract_step : (q : Exact) (us bs : List Exact) (i : ℕ) (a b v : Exact) → i < length us → i < length bs
+    → Some v ≡ checked_less_product (get_or us i a) q (get_or bs i b)
     → (do_all_less_fit q (drop i us) (drop i bs) ≡ do_all_less_fit q (drop (i + 1) (slice_set us i v)) (drop (i + 1) bs))
     × (take i us ++ less q (drop i us) (drop i bs) ≡ take (i + 1) (slice_set us i v) ++ less q (drop (i + 1) (slice_set us i v)) (drop (i + 1) bs))
-subtract_step q us bs i a b m v p r e f =
-    let x = product_gives q (get_or bs i b) m e in
-    let y = sum_gives (get_or us i a) (minus m) v f in
-    let y0 : does_sum_fit (get_or us i a) (minus (times q (get_or bs i b))) ≡ true = subst (λ (t : Exact). does_sum_fit (get_or us i a) (minus t) ≡ true) x.1 y.0 in
-    let y1 : plus (get_or us i a) (minus (times q (get_or bs i b))) ≡ v = sym (y.1 ∙ ap (λ (t : Exact). plus (get_or us i a) (minus t)) x.1) in (
-      rw (fits_open q us bs i a b p r, x.0, y0, drop-set_past us i v) refl,
-      rw (less_open q us bs i a b p r, y1, take_more_set us i v p, drop-set_past us i v) (sym (append_assoc (take i us) (v ∷ []) _)),
+subtract_step q us bs i a b v p r e =
+    let x = less_product_gives (get_or us i a) q (get_or bs i b) v e in
+    let y : plus (get_or us i a) (minus (times q (get_or bs i b))) ≡ v = sym x.1 in (
+      rw (fits_open q us bs i a b p r, drop-set_past us i v)
+          (ap (λ (t : Bool). t && do_all_less_fit q (drop (i + 1) us) (drop (i + 1) bs)) x.0),
+      rw (less_open q us bs i a b p r, y, take_more_set us i v p, drop-set_past us i v) (sym (append_assoc (take i us) (v ∷ []) _)),
     )
   where
     drop-set_past : (us : List Exact) (i : ℕ) (v : Exact) → drop (i + 1) (slice_set us i v) ≡ drop (i + 1) us

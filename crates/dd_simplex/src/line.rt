@@ -75,10 +75,7 @@ impl Line {
         ensures value { result ≡ true → self.new ≡ changed_line e pivot.now self.old }
     {
         let factor = self.cells[e];
-        let Some(product) = factor.mul(&pivot.bound) else {
-            return false
-        };
-        let Some(bound) = self.bound.sub(&product) else {
+        let Some(bound) = self.bound.sub_product(&factor, &pivot.bound) else {
             return false
         };
         self.bound = bound;
@@ -118,10 +115,7 @@ pub fn subtract(cells: &mut [Fraction], factor: &Fraction, others: &[Fraction]) 
         if is_idle(&cells[i], factor, &others[i]) {
             continue;
         }
-        let Some(product) = factor.mul(&others[i]) else {
-            return false
-        };
-        let Some(difference) = cells[i].sub(&product) else {
+        let Some(difference) = cells[i].sub_product(factor, &others[i]) else {
             return false
         };
         cells[i] = difference;
