@@ -17,3 +17,8 @@ pub mod Composing
 pub mod Composed
 pub mod SaidRules
 pub mod SaidComposed
+pub mod MadePlaced
+pub mod FewReads
+pub mod OwnInputs
+pub mod TemplateLaws
+pub mod PlacingLaws

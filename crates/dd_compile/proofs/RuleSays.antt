@@ -29,10 +29,10 @@ use Rattle.dd_compile.specs.RuleSignals.{TellsReads, SaysTruth}
 use Rattle.dd_compile.proofs.MadeSays.{made_says}
 
 -- whether the rule reads a cell, counted from the origin, at a node
-abbrev is_among : List Cell → Cell → Bool
+abbrev pub is_among : List Cell → Cell → Bool
 is_among cs d = list_any (λ x. is_eq (cell_cmp x d)) cs
 
-among : (cs : List Cell) (d : Cell) → is_among cs d ≡ true → Contains cs d
+pub among : (cs : List Cell) (d : Cell) → is_among cs d ≡ true → Contains cs d
 among cs d h =
     let found = some_passes (λ x. is_eq (cell_cmp x d)) cs h in
     subst (Contains cs) (cells_equal found.0 d ((Equal-is (cell_cmp found.0 d)).0 found.2)) found.1
@@ -41,7 +41,7 @@ pub members_pass : (test : Cell → Bool) (cs : List Cell) → ((d : Cell) → C
 members_pass test [] h = refl
 members_pass test (d ∷ cs) h = and_from _ _ (h d (Contains-first d cs)) (members_pass test cs (λ x there. h x (Contains-later d cs x there)))
 
-all_among : (cs : List Cell) → list_all (is_among cs) cs ≡ true
+pub all_among : (cs : List Cell) → list_all (is_among cs) cs ≡ true
 all_among cs = members_pass (is_among cs) cs (λ d there. passes_any (λ x. is_eq (cell_cmp x d)) cs d there (ap is_eq (tied_itself cell_total d)))
 
 told : (n : ℕ) (set : ℕ → Bool) (b : Bool) (o : Option Signal) (value : Bool) → is_wire n (if b then o else None) ≡ true → ((x : Signal) → o ≡ Some x → signal_value set x ≡ value) →

@@ -1,5 +1,5 @@
 -- The gates of compositions say their values wherever they stand.
-use Rattle.std.proofs.Common.{◌≡◌, ◌<◌, ◌≤◌, ℕ, zero, suc, ◌+◌, ◌*◌, true, List, [], ◌∷◌, ◌++◌, length, get_or, max, refl, ap, sym, ◌∙◌, subst, arith, length-append}
+use Rattle.std.proofs.Common.{◌≡◌, ◌<◌, ◌≤◌, ℕ, zero, suc, ◌+◌, ◌*◌, true, List, [], ◌++◌, length, get_or, refl, sym, ◌∙◌, subst, arith, length-append}
 use Rattle.std.specs.List.{list_all, All}
 use Rattle.std.proofs.lemmas.List.{get_or_default}
 use Rattle.std.proofs.lemmas.List.Elements.{All-weaker}
@@ -14,19 +14,16 @@ use Rattle.dd_formula.specs.Values.{IsPlaced}
 use Rattle.dd_formula.specs.declared.automaton.Automaton.{Automaton}
 use Rattle.dd_formula.specs.declared.automaton.Automaton.TheVariants as v
 use Rattle.dd_formula.proofs.AutomatonLaws.{outer_part, inner_part, depth_composed, near_cells, node_at, shallow}
-use Rattle.dd_circuit.specs.declared.gates.Signal.{Signal}
-use Rattle.dd_circuit.specs.declared.gates.Gate.{Gate}
 use Rattle.dd_circuit.specs.Circuits.{Network, IsSignal, AreGates, size}
 use Rattle.dd_circuit.proofs.GateLists.{AreGates-append}
 use Rattle.dd_compile.specs.Wiring.{Wiring, unwired, with_cell}
-use Rattle.dd_compile.specs.Compiling.{Extends, AllMade}
+use Rattle.dd_compile.specs.Compiling.{AllMade}
 use Rattle.dd_compile.specs.ValueGates.{value_made}
 use Rattle.dd_compile.specs.ValueSignals.{SaysValue, are_wired_there}
 use Rattle.dd_compile.specs.composing.Parts.{AreWired}
 use Rattle.dd_compile.specs.Valued.{IsMadeValue, SaysNear, SaysItsValue}
-use Rattle.dd_compile.proofs.Progress.{size-append}
 use Rattle.dd_compile.proofs.CaseRules.{agrees_added}
-use Rattle.dd_compile.proofs.Composing.{Composing, Inner, composing_start, composing_step, composing_end, value_wired, value_inside}
+use Rattle.dd_compile.proofs.Composing.{Composing, composing_start, composing_step, composing_end, value_wired, value_inside}
 use Rattle.dd_compile.proofs.Composed.{inner_wired, outer_wired, composed_says, composed_gates, composed_signals}
 use Rattle.dd_compile.proofs.SaidRules.{of_network}
 

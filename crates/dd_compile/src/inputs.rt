@@ -1,6 +1,7 @@
 //! The signals that say which symbol a cell has.
 ghost use Rattle.std.specs.Prelude.{◌≡◌, All, OnOk, OnErr};
 ghost use Rattle.std.specs.List.{list_all};
+ghost use Rattle.std.specs.Option.{option_copied};
 ghost use Rattle.std.specs.declared.cmp.Ordering.TheVariants.{Less};
 ghost use Rattle.dd_lattice.specs.Order.{cell_cmp};
 ghost use Rattle.dd_compile.specs.Wiring.{IsReadByPlace, signals_of, unwired, with_cell, wire_of};
@@ -65,6 +66,17 @@ impl Inputs {
             Err(_) => None,
         }
     }
+
+    /// The signals of the cell, by symbol, or `None` where the cell isn't there.
+    pub fn signals(&self, cell: &Cell) -> Option<&[Signal]>
+        ensures { option_copied result ≡ signals_of self.now cell.now }
+    {
+        match self.cells.as_slice().binary_search(cell) {
+            Ok(place) => Some(self.signals[place].as_slice()),
+            Err(_) => None,
+        }
+    }
+
     /// Whether the cell has so many signals, each of one of the variables from 1 to `variables`.
     pub fn has_signals(&self, cell: &Cell, symbols: u32, variables: u32) -> bool
         ensures { result ≡ are_signals variables symbols (signals_of self.now cell.now) }

@@ -6,6 +6,7 @@ mod compiling;
 mod inputs;
 mod laws;
 mod rules;
+mod templates;
 mod values;
 
 pub use automata::{compile_value, value_gates};
@@ -13,4 +14,5 @@ pub use compiling::{compile_expanded, is_wired};
 pub use inputs::Inputs;
 pub use laws::says_its_value;
 pub use rules::{compile_rule, reads_are_wired};
+pub use templates::{Template, compile_template, place_template};
 pub use values::compile_cases;

@@ -1,0 +1,11 @@
+-- Of what the gates are made that are placed at cell after cell.
+use Rattle.std.specs.Prelude.{ℕ}
+use Rattle.dd_formula.specs.LocalRule.{LocalRule}
+
+-- a rule, and one of its nodes
+pub record RuleAt : Type 0 where
+  pub rule : LocalRule
+  pub node : ℕ
+
+abbrev pub rule_at : LocalRule → ℕ → RuleAt
+rule_at r a = record { rule = r; node = a }

@@ -1,0 +1,40 @@
+-- Gates over variables of their own, as they are over the signals of a circuit.
+use Rattle.std.specs.Prelude.{ℕ, ◌+◌, ◌-◌, ◌&&◌, is_some, if◌then◌else◌, Bool, List, [], map, length, Option, Some, None, slice_get}
+use Rattle.std.specs.List.{flat_map}
+use Rattle.dd_lattice.specs.Place.{Place, moved, is_in_range}
+use Rattle.dd_lattice.specs.Cells.{shifted}
+use Rattle.dd_lattice.specs.declared.position.Cell.{Cell}
+use Rattle.dd_circuit.specs.declared.gates.Signal.{Signal}
+use Rattle.dd_circuit.specs.declared.gates.Gate.{Gate}
+use Rattle.dd_circuit.specs.declared.gates.Gate.TheVariants.{And, Or, Iff}
+use Rattle.dd_circuit.specs.Circuits.{opposite}
+use Rattle.dd_compile.specs.Wiring.{Wiring, signals_of}
+
+abbrev pub all_of : Option (List Signal) → List Signal
+all_of None = []
+all_of (Some ss) = ss
+
+-- a cell that is counted from a place is in the range of positions, and has signals
+abbrev pub is_there : Wiring → Place → Cell → Bool
+is_there w v d = is_in_range (moved d.position v) && is_some (signals_of w (shifted v d))
+
+-- the signals of cells that are counted from a place, one cell after the other
+abbrev pub signals_there : Wiring → Place → List Cell → List Signal
+signals_there w v cs = flat_map (λ d. all_of (signals_of w (shifted v d))) cs
+
+-- the signal, or what says the contrary
+abbrev pub signed : Bool → Signal → Signal
+signed positive s = if positive then s else opposite s
+
+abbrev pub placed_by : Option Signal → ℕ → Bool → Signal
+placed_by None variable positive = record { variable = variable; positive = positive }
+placed_by (Some input) variable positive = signed positive input
+
+-- what stands for a signal: one of these for each of as many variables, and the variables after n for those that follow
+abbrev pub placed : List Signal → ℕ → Signal → Signal
+placed inputs n s = placed_by (slice_get inputs (s.variable - 1)) (n + (s.variable - length inputs)) s.positive
+
+abbrev pub placed_gate : List Signal → ℕ → Gate → Gate
+placed_gate inputs n (And members) = And (map (placed inputs n) members)
+placed_gate inputs n (Or members) = Or (map (placed inputs n) members)
+placed_gate inputs n (Iff a b) = Iff (placed inputs n a) (placed inputs n b)
