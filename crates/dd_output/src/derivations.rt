@@ -6,21 +6,31 @@ ghost use Rattle.dd_output.specs.reading.Grammar.{step, refutation};
 
 use crate::fault::ReadFault;
 use crate::lexing::{number_at, word_at};
-use crate::lists::{literals_of, numbers_until};
-use dd_clause::Clause;
+use crate::lists::{clause_of, numbers_until};
+use dd_clause::Literal;
 use dd_derivation::Step;
 use dd_values::Items;
 use std::alloc::Global;
 
+/// Where the lists of a step are gathered before each is copied at its length. Each step uses it again.
+#[derive(Drop)]
+struct Room {
+    literals: Vec<Literal>,
+    numbers: Vec<u64>,
+}
+
 #[tactic(auto, unfolding(crate::specs::reading::Grammar::step))]
-fn step_of(alloc: Global, bytes: &[u8]) -> Result<(Step, &[u8]), ReadFault>
+fn step_of<'a>(
+    alloc: Global,
+    room: &mut Room,
+    bytes: &'a [u8],
+) -> Result<(Step, &'a [u8]), ReadFault>
     ensures { Gives (λ x. (x.0, x.1.now)) result (step.read bytes.now) }
 {
     let rest = word_at(bytes, b"step ")?;
-    let (literals, rest) = literals_of(alloc, rest)?;
-    let (hints, rest) = numbers_until(alloc, rest, b' ')?;
-    let (deletes, rest) = numbers_until(alloc, rest, b'\n')?;
-    let clause = Clause::from_literals(alloc, literals.as_slice())?;
+    let (clause, rest) = clause_of(alloc, &mut room.literals, rest)?;
+    let (hints, rest) = numbers_until(alloc, &mut room.numbers, rest, b' ')?;
+    let (deletes, rest) = numbers_until(alloc, &mut room.numbers, rest, b'\n')?;
     Ok((
         Step {
             clause,
@@ -41,10 +51,14 @@ fn count_of_steps(bytes: &[u8]) -> Result<(u64, u8, &[u8]), ReadFault>
 fn steps_of(alloc: Global, count: u64, bytes: &[u8]) -> Result<(Items<Step>, &[u8]), ReadFault>
     ensures { Gives (λ x. (x.0, x.1.now)) result (many_at step.read step.least count bytes.now) }
 {
+    let mut room = Room {
+        literals: Vec::new(alloc),
+        numbers: Vec::new(alloc),
+    };
     let mut steps = Items::new(alloc);
     let mut rest = bytes;
     for _ in 0..count {
-        let (step, after) = step_of(alloc, rest)?;
+        let (step, after) = step_of(alloc, &mut room, rest)?;
         steps.push(step)?;
         rest = after;
     }

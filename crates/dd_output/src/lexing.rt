@@ -1,9 +1,12 @@
 // The tokens of a text: words, numbers and raw bytes. Each takes the byte that ends it, so that no text of a token is a front of
 // another. A reader is handed the bytes and hands back what it did not read.
-ghost use Rattle.std.specs.Prelude.{◌≡◌, ◌<◌, ◌≤◌, ◌^◌, ◌-◌, ◌*◌, ◌+◌, true, length, [], IfOk};
+ghost use Rattle.std.specs.Prelude.{◌≡◌, ◌<◌, ◌≤◌, ◌^◌, ◌-◌, ◌*◌, ◌+◌, true, length, [], IfOk, nat_le};
 ghost use Rattle.dd_output.specs.reading.Stops.{Gives, is_digit, goes_on, starts, word_at, digits_at, number_at, bytes_at, begins};
 
 use crate::fault::ReadFault;
+
+/// Ten times a number below this one, and a digit more, have room in 64 bits.
+const SHORT: u64 = 1 << 60;
 
 /// The bytes begin with this one.
 pub(crate) fn begins(bytes: &[u8], first: u8) -> bool
@@ -16,22 +19,19 @@ pub(crate) fn begins(bytes: &[u8], first: u8) -> bool
 }
 
 /// The bytes after a word.
+#[inline]
 pub(crate) fn word_at<'a>(bytes: &'a [u8], word: &[u8]) -> Result<&'a [u8], ReadFault>
     ensures { Gives (λ rest. (tt, rest.now)) result (word_at word.now bytes.now) }
 {
-    match word {
-        [] => Ok(bytes),
-        [first, others @ ..] => match bytes {
-            [] => Err(ReadFault::Stopped(0)),
-            [byte, rest @ ..] => {
-                if *byte == *first {
-                    word_at(rest, others)
-                } else {
-                    Err(ReadFault::Stopped(bytes.len()))
-                }
-            }
-        },
+    let mut rest = bytes;
+    for letter in word {
+        match rest {
+            [byte, after @ ..] if *byte == *letter => rest = after,
+            [_, ..] => return Err(ReadFault::Stopped(rest.len())),
+            [] => return Err(ReadFault::Stopped(rest.len())),
+        }
     }
+    Ok(rest)
 }
 
 fn is_digit(byte: u8) -> bool
@@ -48,10 +48,22 @@ fn next(number: u64, digit: u8) -> u128
     u128::from(number) * 10 + u128::from(digit - b'0')
 }
 
+/// A number with one more digit is at most the bound. The numbers of most texts are far below 2^64.
+fn has_room(bound: u64, number: u64, digit: u8) -> bool
+    requires { is_digit digit ≡ true }
+    ensures { result ≡ nat_le (number * 10 + (digit - 48)) bound }
+{
+    if number < SHORT {
+        number * 10 + u64::from(digit - b'0') <= bound
+    } else {
+        next(number, digit) <= u128::from(bound)
+    }
+}
+
 fn goes_on(bound: u64, number: u64, byte: u8) -> bool
     ensures { result ≡ goes_on bound number byte }
 {
-    is_digit(byte) && (0 < number && next(number, byte) <= u128::from(bound))
+    is_digit(byte) && (0 < number && has_room(bound, number, byte))
 }
 
 fn starts(low: u64, bound: u64, byte: u8) -> bool

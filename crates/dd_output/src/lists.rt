@@ -22,7 +22,7 @@ ghost use Rattle.dd_output.specs.reading.Seen.{literal_seen, number_seen, line_s
 
 use crate::fault::ReadFault;
 use crate::lexing::{begins, number_at, word_at};
-use dd_clause::Literal;
+use dd_clause::{Clause, Literal};
 use dd_values::Items;
 use std::alloc::Global;
 
@@ -74,38 +74,43 @@ fn number_entry(bytes: &[u8], end: u8) -> Result<(Option<u64>, &[u8]), ReadFault
     }
 }
 
-/// Literals up to the 0 that ends them.
-pub(crate) fn literals_of(alloc: Global, bytes: &[u8]) -> Result<(Vec<Literal>, &[u8]), ReadFault>
-    ensures { Gives (λ x. (x.0.items, x.1.now)) result (literals.read bytes.now) }
+/// The clause of the literals up to the 0 that ends them. They are gathered in the room, whose old items go.
+pub(crate) fn clause_of<'a>(
+    alloc: Global,
+    room: &mut Vec<Literal>,
+    bytes: &'a [u8],
+) -> Result<(Clause, &'a [u8]), ReadFault>
+    ensures { Gives (λ x. (x.0, x.1.now)) result (literals.read bytes.now) }
 {
-    let mut literals = Vec::new(alloc);
+    room.clear();
     let mut rest = bytes;
     loop {
         let (entry, after) = literal_entry(rest)?;
         rest = after;
         match entry {
-            Some(literal) => literals.push(literal)?,
-            None => return Ok((literals, rest)),
+            Some(literal) => room.push(literal)?,
+            None => return Ok((Clause::from_literals(alloc, room.as_slice())?, rest)),
         }
     }
 }
 
-/// Numbers of clauses up to the 0 that ends them, and the byte after it.
-pub(crate) fn numbers_until(
+/// Numbers of clauses up to the 0 that ends them, and the byte after it. They are gathered in the room, whose old items go.
+pub(crate) fn numbers_until<'a>(
     alloc: Global,
-    bytes: &[u8],
+    room: &mut Vec<u64>,
+    bytes: &'a [u8],
     end: u8,
-) -> Result<(Items<u64>, &[u8]), ReadFault>
+) -> Result<(Items<u64>, &'a [u8]), ReadFault>
     ensures { Gives (λ x. (x.0, x.1.now)) result ((numbers_until end).read bytes.now) }
 {
-    let mut numbers = Items::new(alloc);
+    room.clear();
     let mut rest = bytes;
     loop {
         let (entry, after) = number_entry(rest, end)?;
         rest = after;
         match entry {
-            Some(number) => numbers.push(number)?,
-            None => return Ok((numbers, rest)),
+            Some(number) => room.push(number)?,
+            None => return Ok((Items::from_slice(alloc, room.as_slice())?, rest)),
         }
     }
 }

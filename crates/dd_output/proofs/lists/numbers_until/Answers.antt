@@ -5,14 +5,14 @@ use Rattle.dd_output.proofs.Loops.{goes_on}
 use Rattle.dd_output.proofs.EndedLists.{hint_unrolls}
 use Rattle.dd_output.proofs.lists.numbers_until.Goals as goal
 
-pub loop-numbers-smaller : goal.loop-numbers-smaller
-loop-numbers-smaller c =
-    let is : number_entry c.args.end c.loop-numbers.rest.now ≡ Ok (item c.in-Some.number, c.in_ok-entry.after.now) = rw c.in-Some.is at c.in_ok-entry.ensures in
-    (hint_unrolls c.args.end).shorter 0 c.loop-numbers.rest.now c.in-Some.number c.in_ok-entry.after.now is
+pub loop-entry-smaller : goal.loop-entry-smaller
+loop-entry-smaller c =
+    let is : number_entry c.args.end c.loop-entry.rest.now ≡ Ok (item c.in-Some.number, c.in_ok-entry.after.now) = rw c.in-Some.is at c.in_ok-entry.ensures in
+    (hint_unrolls c.args.end).shorter 0 c.loop-entry.rest.now c.in-Some.number c.in_ok-entry.after.now is
 
-pub loop-numbers-preserved : goal.loop-numbers-preserved
-loop-numbers-preserved c =
-    let is : number_entry c.args.end c.loop-numbers.rest.now ≡ Ok (item c.in-Some.number, c.in_ok-entry.after.now) = rw c.in-Some.is at c.in_ok-entry.ensures in
-    let pushed : c.push.new.self ≡ c.loop-numbers.numbers ++ c.in-Some.number ∷ [] = c.in_ok-push-in-Some.ensures.ok in
-    rw pushed (goes_on (λ _. number_entry c.args.end) (hint_unrolls c.args.end) c.loop-numbers.numbers c.loop-numbers.rest.now c.in-Some.number c.in_ok-entry.after.now
-    (entries_at (λ _. number_entry c.args.end) 0 c.args.bytes.now) is c.loop-numbers.invariant)
+pub loop-entry-preserved : goal.loop-entry-preserved
+loop-entry-preserved c =
+    let is : number_entry c.args.end c.loop-entry.rest.now ≡ Ok (item c.in-Some.number, c.in_ok-entry.after.now) = rw c.in-Some.is at c.in_ok-entry.ensures in
+    let pushed : c.push.new.self.items ≡ c.loop-entry.room.items ++ c.in-Some.number ∷ [] = c.in_ok-push-in-Some.ensures.items in
+    rw pushed (goes_on (λ _. number_entry c.args.end) (hint_unrolls c.args.end) c.loop-entry.room.items c.loop-entry.rest.now c.in-Some.number c.in_ok-entry.after.now
+    (entries_at (λ _. number_entry c.args.end) 0 c.args.bytes.now) is c.loop-entry.invariant)

@@ -4,8 +4,8 @@ use Rattle.dd_output.specs.reading.Lists.{number_entry}
 use Rattle.dd_output.proofs.Loops.{with_front}
 use Rattle.dd_output.proofs.lists.numbers_until.Given as goal
 
-abbrev pub invariant-loop-numbers : goal.invariant-loop-numbers
-invariant-loop-numbers l = with_front l.numbers (entries_at (λ _. number_entry l.end) (length l.numbers) l.rest) ≡ entries_at (λ _. number_entry l.end) 0 l.bytes
+abbrev pub invariant-loop-entry : goal.invariant-loop-entry
+invariant-loop-entry l = with_front l.room.items (entries_at (λ _. number_entry l.end) (length l.room.items) l.rest) ≡ entries_at (λ _. number_entry l.end) 0 l.bytes
 
-abbrev pub decreases-loop-numbers : goal.decreases-loop-numbers
-decreases-loop-numbers l = length l.rest
+abbrev pub decreases-loop-entry : goal.decreases-loop-entry
+decreases-loop-entry l = length l.rest
