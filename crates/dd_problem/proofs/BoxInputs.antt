@@ -51,7 +51,7 @@ box_in_range d n p small h =
     ((omega (arith, ints, x, l, u), omega (arith, ints, x, l, u)), (omega (arith, ints, y, l, u), omega (arith, ints, y, l, u)), (omega (arith, ints, z, l, u), omega (arith, ints, z, l, u)))
 
 -- the question's count keeps the radius small
-volume_wide : (d n : ℕ) → 1 ≤ d → 2 * n + 1 ≤ volume (centred d n)
+pub volume_wide : (d n : ℕ) → 1 ≤ d → 2 * n + 1 ≤ volume (centred d n)
 volume_wide d n some =
     let b = centred d n in
     let on_x : spread (is_active d 0) n ≡ n = ap (λ a. spread a n) (lt-ltb 0 d some) in

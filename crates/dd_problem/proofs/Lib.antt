@@ -29,3 +29,4 @@ pub mod TorusReach
 pub mod TorusInputs
 pub mod TorusCalls
 pub mod SymbolsRead
+pub mod Templating

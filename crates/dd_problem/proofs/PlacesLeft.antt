@@ -5,7 +5,6 @@ use Rattle.std.specs.List.{filter}
 use Rattle.std.proofs.lemmas.Bool.{and_from, le-leb}
 use Rattle.std.proofs.lemmas.List.{append-nil, drop_all}
 use Rattle.dd_lattice.specs.declared.position.Cell.{Cell}
-use Rattle.dd_expansion.specs.declared.expanded.Expanded.{Expanded}
 use Rattle.dd_expansion.specs.Leaves.{leaves_pass}
 use Rattle.dd_lattice.specs.Place.{moved, is_in_range}
 use Rattle.dd_lattice.specs.Cells.{shifted}
@@ -15,7 +14,7 @@ use Rattle.dd_circuit.specs.declared.gates.Gate.{Gate}
 use Rattle.dd_circuit.specs.Circuits.{Network, IsSignal, size}
 use Rattle.dd_cnf.specs.Encoding.{gates_clauses}
 use Rattle.dd_compile.specs.Wiring.{Wiring, wire_of}
-use Rattle.dd_compile.specs.Compiling.{wires_near, is_wire, are_wired, certain, compiled, gate_count}
+use Rattle.dd_compile.specs.Compiling.{wires_near, is_wire, certain, compiled, gate_count}
 use Rattle.dd_compile.proofs.MadeCount.{made_count}
 use Rattle.dd_formula.specs.LocalRule.{LocalRule, expansion_at}
 use Rattle.dd_problem.specs.Clauses.{Part, made_by, part_gates, part_clauses}
@@ -108,12 +107,6 @@ wired_same n m w x d ok more =
     near_same : (b : Bool) (o : Option Signal) → ((s : Signal) → o ≡ Some s → IsSignal n s) → is_wire m (cond b o None) ≡ is_wire n (cond b o None)
     near_same true o within = wire_same n m o within more
     near_same false o within = refl
-
--- what a test of the wires says
-pub wired_tells : (n m : ℕ) (w : Wiring) (x : LocalRule) (d : Cell) (e : Expanded) (b r : Bool) → AreInputs n w → n ≤ m → e ≡ expansion_at x d.node →
-    r ≡ are_wired m (wires_near w d.position) e → r ≡ b → is_wired_at w n x d ≡ b
-wired_tells n m w x d e b r ok more is said told =
-    sym (wired_same n m w x d ok more) ∙ (ap (are_wired m (wires_near w d.position)) (sym is) ∙ (sym said ∙ told))
 
 -- one cell: its part, or nothing
 pub taken : (w : Wiring) (n : ℕ) (x : LocalRule) (d : Cell) → is_wired_at w n x d ≡ true → wired_parts w n x (d ∷ []) ≡ wired_part w x d ∷ []

@@ -7,7 +7,7 @@ use Rattle.dd_lattice.specs.declared.position.Cell.{Cell}
 use Rattle.dd_clause.specs.Clauses.{ClauseList}
 use Rattle.dd_circuit.specs.declared.gates.Signal.{Signal}
 use Rattle.dd_circuit.specs.Circuits.{IsSignal}
-use Rattle.dd_compile.specs.Wiring.{Wiring, wire_of}
+use Rattle.dd_compile.specs.Wiring.{Wiring, signals_of, wire_of}
 use Rattle.dd_compile.specs.Compiling.{wires_near, are_wired, compiled}
 use Rattle.dd_formula.specs.LocalRule.{LocalRule, expansion_at}
 use Rattle.dd_formula.specs.Automata.{Setting, counted}
@@ -21,6 +21,10 @@ use Rattle.dd_problem.specs.Clauses.{cell_clauses, Part, part_gates, part_clause
 -- each signal is one of the first n variables
 abbrev pub AreInputs : ℕ → Wiring → Type 0
 AreInputs n w = (c : Cell) (s : ℕ) (signal : Signal) → wire_of w c s ≡ Some signal → IsSignal n signal
+
+-- each cell that has signals has one for each of m symbols
+abbrev pub HasAllSymbols : ℕ → Wiring → Type 0
+HasAllSymbols m w = (c : Cell) (signals : List Signal) → signals_of w c ≡ Some signals → length signals ≡ m
 
 -- what the rule asks at the place has its signal
 abbrev pub is_wired_at : Wiring → ℕ → LocalRule → Cell → Bool

@@ -1,8 +1,9 @@
 //! All clauses of a problem.
-ghost use Rattle.std.specs.Prelude.{◌≡◌, ◌≤◌, ◌<◌, ◌*◌, ◌^◌, true, length, All, IfOk};
+ghost use Rattle.std.specs.Prelude.{◌≡◌, ◌≤◌, ◌<◌, ◌-◌, ◌*◌, ◌^◌, true, length, All, IfOk};
+ghost use Rattle.dd_topology.specs.Topology.{extent};
 ghost use Rattle.dd_boxes.specs.Goals.{IsGoalFor};
 ghost use Rattle.dd_boxes.specs.Views.{goal_of};
-ghost use Rattle.dd_problem.specs.Pushed.{AreInputs, is_goal_wired, wired_problem};
+ghost use Rattle.dd_problem.specs.Pushed.{AreInputs, HasAllSymbols, is_goal_wired, wired_problem};
 
 use crate::gates::{push_goal, push_places};
 use crate::one_hot::push_cells;
@@ -24,7 +25,9 @@ pub(crate) fn problem(
     inputs: &Inputs,
 ) -> Result<Cnf, AllocError>
     requires nodes { All (λ d. d.node < premise.now.nodes) cells.now }
+    requires near { All (λ d. extent d.position ≤ 2 ^ 20 - 16) cells.now }
     requires signals { AreInputs (length cells.now * premise.now.symbols) inputs.now }
+    requires all { HasAllSymbols premise.now.symbols inputs.now }
     requires goal { IsGoalFor premise.now (goal_of premise.now goal.now) }
     requires wired { is_goal_wired inputs.now (length cells.now * premise.now.symbols) (goal_of premise.now goal.now) ≡ true }
     requires few { (wired_problem inputs.now premise.now (goal_of premise.now goal.now) cells.now).variables ≤ 2 ^ 24 }

@@ -1,3 +1,8 @@
+use Rattle.std.proofs.Common.{length, subst, sym}
+use Rattle.std.specs.List.{range_with_len}
+use Rattle.dd_problem.specs.Layouts.{box_cells}
+use Rattle.dd_problem.specs.Pushed.{HasAllSymbols}
+use Rattle.dd_problem.proofs.Templating.{box_near, numbered_full}
 use Rattle.dd_boxes.specs.Views.{goal_of}
 use Rattle.dd_problem.proofs.BoxCalls.{box_there, cells_are, inputs_are, ascends, inputs_few, nodes_there, signals_there, goal_wired, variables_few, exactly, showing, deciding}
 use Rattle.dd_problem.proofs.boxes.box_clauses.Goals as goal
@@ -32,6 +37,20 @@ problem-requires-clause-signals c =
     c.symbols-symbols.ensures.kept c.requires.few c.dim.ensures c.centred_box.ensures.value c.unwrap-bounds.ensures c.nodes.ensures.value c.in_ok-cells.ensures c.deref-2.ensures.value in
     let inputs = inputs_are c.args.premise.now c.args.radius c.symbols-symbols.result c.deref.result.now c.in_ok-inputs.inputs c.in_ok-inputs.ensures c.symbols-symbols.ensures.value first in
     signals_there c.args.premise.now c.args.radius c.deref-2.result.now c.in_ok-inputs.inputs inputs second
+
+pub problem-requires-clause-near : goal.problem-requires-clause-near
+problem-requires-clause-near c =
+    let second = cells_are c.args.premise.now (goal_of c.args.premise.now c.args.goal.now) c.args.radius c.centred_box.result c.dim.result c.nodes.result c.unwrap-bounds.result c.in_ok-cells.cells.items c.deref-2.result.now
+    c.symbols-symbols.ensures.kept c.requires.few c.dim.ensures c.centred_box.ensures.value c.unwrap-bounds.ensures c.nodes.ensures.value c.in_ok-cells.ensures c.deref-2.ensures.value in
+    box_near c.args.premise.now (goal_of c.args.premise.now c.args.goal.now) c.args.radius c.deref-2.result.now c.symbols-symbols.ensures.kept c.requires.few second
+
+pub problem-requires-clause-all : goal.problem-requires-clause-all
+problem-requires-clause-all c =
+    let first = cells_are c.args.premise.now (goal_of c.args.premise.now c.args.goal.now) c.args.radius c.centred_box.result c.dim.result c.nodes.result c.unwrap-bounds.result c.in_ok-cells.cells.items c.deref.result.now
+    c.symbols-symbols.ensures.kept c.requires.few c.dim.ensures c.centred_box.ensures.value c.unwrap-bounds.ensures c.nodes.ensures.value c.in_ok-cells.ensures c.deref.ensures.value in
+    let x = c.args.premise.now in
+    let inputs = inputs_are x c.args.radius c.symbols-symbols.result c.deref.result.now c.in_ok-inputs.inputs c.in_ok-inputs.ensures c.symbols-symbols.ensures.value first in
+    subst (HasAllSymbols x.symbols) (sym inputs) (numbered_full x.symbols (box_cells x c.args.radius) (range_with_len 0 (length (box_cells x c.args.radius))))
 
 pub problem-requires-clause-wired : goal.problem-requires-clause-wired
 problem-requires-clause-wired c =

@@ -1,3 +1,7 @@
+use Rattle.std.proofs.Common.{map, subst, sym}
+use Rattle.dd_problem.specs.Grown.{near_cells, number_at, numbers_of, question_reach}
+use Rattle.dd_problem.specs.Pushed.{HasAllSymbols}
+use Rattle.dd_problem.proofs.Templating.{numbered_full, torus_near}
 use Rattle.dd_pattern.specs.Periods.{periods_of}
 use Rattle.dd_boxes.specs.Views.{goal_of}
 use Rattle.dd_problem.proofs.TorusCalls.{cells_few, cells_are, nodes_there, signals_there, goal_wired, variables_few, exactly, showing}
@@ -14,6 +18,20 @@ problem-requires-clause-nodes c =
     cells_are c.args.premise.now (periods_of c.args.periods c.args.shear) c.nodes-nodes.ensures.kept c.requires.periods c.nodes-nodes.result c.fundamental.result
     c.in_ok-cells.cells.items c.deref.result.now c.nodes-nodes.ensures.value c.fundamental.ensures c.in_ok-cells.ensures c.deref.ensures.value in
     nodes_there c.args.premise.now (periods_of c.args.periods c.args.shear) c.nodes-nodes.ensures.kept c.requires.periods c.deref.result.now cells
+
+pub problem-requires-clause-near : goal.problem-requires-clause-near
+problem-requires-clause-near c =
+    let cells =
+    cells_are c.args.premise.now (periods_of c.args.periods c.args.shear) c.nodes-nodes.ensures.kept c.requires.periods c.nodes-nodes.result c.fundamental.result
+    c.in_ok-cells.cells.items c.deref.result.now c.nodes-nodes.ensures.value c.fundamental.ensures c.in_ok-cells.ensures c.deref.ensures.value in
+    torus_near c.args.premise.now (periods_of c.args.periods c.args.shear) c.deref.result.now c.nodes-nodes.ensures.kept c.requires.periods cells
+
+pub problem-requires-clause-all : goal.problem-requires-clause-all
+problem-requires-clause-all c =
+    let x = c.args.premise.now in
+    let p = periods_of c.args.periods c.args.shear in
+    let near = near_cells x (question_reach x (goal_of x c.args.goal.now)) p in
+    subst (HasAllSymbols x.symbols) (sym c.in_ok-inputs.ensures) (numbered_full x.symbols near (map (number_at (numbers_of x p)) near))
 
 pub problem-requires-clause-signals : goal.problem-requires-clause-signals
 problem-requires-clause-signals c =
