@@ -90,6 +90,44 @@ fn gives_the_exact_fraction_or_none(rt: HostRuntime) {
     assert!(rt; Fraction::new(1, MIN).is_none());
 }
 
+/// A fraction, two factors whose product is taken from it, and what is left.
+const DIFFERENCES: &[(Pair, Pair, Pair, Option<Pair>)] = &[
+    ((1, 2), (1, 3), (3, 4), Some((1, 4))),
+    ((7, 6), (1, 2), (1, 3), Some((1, 1))),
+    ((5, 7), (-2, 3), (1, 5), Some((89, 105))),
+    ((1, 6), (1, 2), (1, 3), Some((0, 1))),
+    // The least number of 16 bits, and the greatest denominators.
+    (
+        (-32768, 1),
+        (-32768, 1),
+        (-32768, 1),
+        Some((-1073774592, 1)),
+    ),
+    (
+        (-32768, 65535),
+        (-32768, 65533),
+        (32766, 65531),
+        Some((-70356933443584, 281436323512305)),
+    ),
+    // One past 16 bits.
+    ((32768, 1), (1, 1), (1, 1), Some((32767, 1))),
+    ((1, 65536), (1, 65536), (1, 1), Some((0, 1))),
+    ((-P126, 1), (P63, 1), (P63, 2), Some((-P126 - P126 / 2, 1))),
+    ((MAX, 1), (P63, 1), (P63, 1), Some((MAX - P126, 1))),
+    // 2^127 - 1 less 2^127 fits, but the product 2^127 does not.
+    ((MAX, 1), (P64, 1), (P63, 1), None),
+    ((-P126, 1), (P63, 1), (P63, 1), None),
+];
+
+#[test]
+fn takes_a_product_away(rt: HostRuntime) {
+    for (whole, factor, other, want) in DIFFERENCES {
+        let left = operand(&rt, *whole).sub_product(&operand(&rt, *factor), &operand(&rt, *other));
+        let found = left.map(|fraction| (fraction.num(), fraction.den()));
+        assert_eq!(rt; found, *want, "{whole:?} less {factor:?} times {other:?}");
+    }
+}
+
 /// Two fractions and their order.
 const ORDERS: &[(Pair, Pair, Ordering)] = &[
     // 1 + 1 / (MAX - 1) and 1 + 1 / (MAX - 2)

@@ -370,6 +370,56 @@ const CASES: &[(&str, u32, i64, &str, u32, &str)] = &[
         6,
         "Overflow",
     ),
+    // The objective is column 0, so its numbers are those of the line of column 0, which comes before it. In the next six
+    // cases no other line has a number that passes.
+    (
+        "first past 2^127: the product in the value, 9 * 2^124",
+        2,
+        4611686018427387904,
+        "1 -9/4611686018427387904 0",
+        6,
+        "Overflow",
+    ),
+    (
+        "a product in the value of 7 * 2^124",
+        2,
+        4611686018427387904,
+        "1 -7/4611686018427387904 0",
+        6,
+        "value 4611686018427387904 columns 4611686018427387904 21267647932558653966460912964485513216/7 duals 1 0",
+    ),
+    (
+        "first past 2^127: the sum in the value, which is 2^127",
+        2,
+        2,
+        "1 -1 1/9223372036854775808",
+        6,
+        "Overflow",
+    ),
+    (
+        "a sum in the value of 2^126",
+        2,
+        1,
+        "1 -1 1/9223372036854775808",
+        6,
+        "value 1 columns 1 9223372036854775807/9223372036854775808 duals 1 0",
+    ),
+    (
+        "first past 2^127: a product of costs as the first row leaves, 9 * 2^124",
+        3,
+        1,
+        "1 -9/4611686018427387904 4611686018427387904 0",
+        6,
+        "Overflow",
+    ),
+    (
+        "a product of costs of 7 * 2^124 as the first row leaves",
+        3,
+        1,
+        "1 -7/4611686018427387904 4611686018427387904 0",
+        6,
+        "value 1 columns 1 4611686018427387904/7 0 duals 1 0",
+    ),
 ];
 
 #[test]
