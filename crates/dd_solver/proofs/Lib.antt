@@ -8,6 +8,7 @@ pub mod Turns
 pub mod Walk
 pub mod Rises
 pub mod Derived
+pub mod Taken
 pub mod Moves
 pub mod Right
 pub mod Kept

@@ -1,9 +1,10 @@
 -- What the moves of the search keep.
 use Rattle.std.proofs.Common.{◌≡◌, ℕ, zero, suc, ◌+◌, ◌-◌, ◌<◌, ◌≤◌, Bool, true, false, not, List, [], ◌∷◌, ◌++◌, Option, Some, None, refl, ap, sym, ◌∙◌, subst, length, get_or, take, inl, inr, arith}
+use Rattle.std.specs.Prelude.{replicate}
 use Rattle.std.specs.List.{All, slice_get}
 use Rattle.std.specs.Option.{MatchOption, option_map_or}
 use Rattle.std.proofs.lemmas.Bool.{or_cases, and_parts, cases_lt, false≢true, true_from_ne_false, false_from_ne_true}
-use Rattle.std.proofs.lemmas.List.{length-append}
+use Rattle.std.proofs.lemmas.List.{length-append, length-replicate, append-nil}
 use Rattle.std.proofs.lemmas.List.Elements.{All-head, All-tail, All-push}
 use Rattle.std.proofs.lemmas.Option.{slice_get-get_or}
 use Rattle.dd_clause.specs.declared.clause.Literal.{Literal}
@@ -11,20 +12,21 @@ use Rattle.dd_clause.specs.Clauses.{IsInRange, IsClauseInRange, is_true, is_clau
 use Rattle.dd_values.specs.Variables.{true_variables}
 use Rattle.dd_derivation.specs.declared.propagation.Finding.TheVariants.{Falsified, Forced, Open}
 use Rattle.dd_derivation.specs.declared.step.Step.{Step}
-use Rattle.dd_derivation.specs.Derivations.{same_literal, is_among, has_variable, is_proper, is_conflict, hint_finding, finding, clause_of, clauses_before}
-use Rattle.dd_derivation.proofs.Numbers.{length-before}
+use Rattle.dd_derivation.specs.Derivations.{same_literal, is_among, has_variable, is_proper, is_conflict, hint_finding, finding, clause_of, clauses_before, are_deletable, known_after}
+use Rattle.dd_derivation.specs.MarksOf.{known_of}
 use Rattle.dd_derivation.proofs.Soundness.{same_literal-eq, all_false}
 use Rattle.dd_derivation.proofs.Falses.{same_variable}
 use Rattle.dd_derivation.proofs.Findings.{In, forces_from}
 use Rattle.dd_solver.specs.declared.trail.Entry.{Entry}
 use Rattle.dd_solver.specs.declared.analysis.Turn.{Turn}
-use Rattle.dd_solver.specs.Entries.{falses, all_known, EntryOk}
+use Rattle.dd_solver.specs.Entries.{falses, all_known, AreInRange, EntryOk}
 use Rattle.dd_solver.specs.Analysis.{is_rightly_learned, Asserts}
-use Rattle.dd_solver.specs.Search.{State, known, IsSearch, AreOpen, GoesOn}
+use Rattle.dd_solver.specs.Deleting.{MayDelete}
+use Rattle.dd_solver.specs.Search.{State, after_step, known_through, known, IsSearch, AreAlive, AreOpen, GoesOn}
 use Rattle.dd_solver.proofs.Forcing.{all_falsified, hint_clause, at_clause}
 use Rattle.dd_solver.proofs.Trails.{in-has_variable, trail_push, trail_front}
-use Rattle.dd_solver.proofs.Numbers.{holds_of_clause, in_clauses, past_all}
-use Rattle.dd_solver.proofs.Derived.{before-more, trail_more, hint_new, proper_in_range, derived_more, refutes_last}
+use Rattle.dd_solver.proofs.Numbers.{Known, known_left, known_within, past_none, in_list, length-all, holds_of_clause, length-before, before-more, known_of-push, all_alive, after_push, length-after}
+use Rattle.dd_solver.proofs.Derived.{through_more, length-through, trail_after, hint_new, in_range_after, right_from, derived_more, refutes_last}
 
 pub all_in : (P : Literal → Type 0) (c : List Literal) (x : Literal) → All P c → In c x → P x
 all_in P [] x a i = absurd (false≢true i)
@@ -34,10 +36,10 @@ all_in P (y ∷ c) x a i = elim (or_cases (same_literal x y) (is_among c x) i) [
 ]
 
 -- a forced literal is in range, and its variable is none of the false literals'
-pub forced_in_range : (cs : List (List Literal)) (n : ℕ) (p : Literal → Bool) (r : ℕ) (l : Literal) → All (IsClauseInRange n) cs → hint_finding (all_known cs) p r ≡ Forced l → IsInRange n l
-forced_in_range cs n p r l a h =
-    let q = hint_clause (all_known cs) p r (Forced l) (λ e. cc) h in
-    all_in (IsInRange n) q.0 l (holds_of_clause (IsClauseInRange n) cs r q.0 a q.1) (forces_from p q.0 l q.2).member
+pub forced_in_range : (known : Known) (n : ℕ) (p : Literal → Bool) (r : ℕ) (l : Literal) → AreInRange n known → hint_finding known p r ≡ Forced l → IsInRange n l
+forced_in_range known n p r l a h =
+    let q = hint_clause known p r (Forced l) (λ e. cc) h in
+    all_in (IsInRange n) q.0 l (a r q.0 q.1) (forces_from p q.0 l q.2).member
 
 pub forced_new : (known : List (Option (List Literal))) (xs : List Literal) (r : ℕ) (l : Literal) → hint_finding known (is_among xs) r ≡ Forced l → has_variable l.variable xs ≡ false
 forced_new known xs r l h = false_from_ne_true _ (λ t.
@@ -50,44 +52,78 @@ forced_new known xs r l h = false_from_ne_true _ (λ t.
     ])
 
 -- a number without a clause says nothing
-pub all_open : (cs : List (List Literal)) (p : Literal → Bool) → ((r : ℕ) → 0 < r → r ≤ length cs → hint_finding (all_known cs) p r ≡ Open) → (r : ℕ) → hint_finding (all_known cs) p r ≡ Open
-all_open cs p h zero = refl
-all_open cs p h (suc k) = elim (cases_lt (length cs) (suc k)) [
-  | inl past ↦ ap (λ (o : Option (List Literal)). option_map_or (finding p) o Open) (past_all cs (suc k) past)
+pub all_open : (known : Known) (p : Literal → Bool) → ((r : ℕ) → 0 < r → r ≤ length known → hint_finding known p r ≡ Open) → (r : ℕ) → hint_finding known p r ≡ Open
+all_open known p h zero = refl
+all_open known p h (suc k) = elim (cases_lt (length known) (suc k)) [
+  | inl past ↦ ap (λ (o : Option (List Literal)). option_map_or (finding p) o Open) (past_none known (suc k) past)
   | inr within ↦ h (suc k) (omega arith) within
 ]
 
-pub entry_forced : (n : ℕ) (cs : List (List Literal)) (trail : List Entry) (r : ℕ) (l : Literal) → All (IsClauseInRange n) cs → hint_finding (all_known cs) (is_among (falses trail)) r ≡ Forced l → EntryOk n (all_known cs) trail (record { literal = l; reason = Some r })
-entry_forced n cs trail r l a h = record {
-  in_range = forced_in_range cs n (is_among (falses trail)) r l a h;
-  fresh = forced_new (all_known cs) (falses trail) r l h;
+pub entry_forced : (n : ℕ) (known : Known) (trail : List Entry) (r : ℕ) (l : Literal) → AreInRange n known → hint_finding known (is_among (falses trail)) r ≡ Forced l → EntryOk n known trail (record { literal = l; reason = Some r })
+entry_forced n known trail r l a h = record {
+  in_range = forced_in_range known n (is_among (falses trail)) r l a h;
+  fresh = forced_new known (falses trail) r l h;
   follows = h;
 }
 
-pub search_push : (n : ℕ) (cs : List (List Literal)) (steps : List Step) (trail : List Entry) (e : Entry) → IsSearch (record { variables = n; clauses = cs; steps = steps; entries = trail }) → EntryOk n (all_known (clauses_before cs steps)) trail e → IsSearch (record { variables = n; clauses = cs; steps = steps; entries = trail ++ e ∷ [] })
-search_push n cs steps trail e s o = record { in_range = s.in_range; trail = trail_push n (all_known (clauses_before cs steps)) trail e s.trail o; derived = s.derived }
+module _ (n : ℕ) (cs : List (List Literal)) (steps : List Step) (trail : List Entry) (s : IsSearch (record { variables = n; clauses = cs; steps = steps; entries = trail })) where
+  pub search_push : (e : Entry) → EntryOk n (known_through (all_known cs) steps) trail e → IsSearch (record { variables = n; clauses = cs; steps = steps; entries = trail ++ e ∷ [] })
+  search_push e o = record { in_range = s.in_range; given = s.given; trail = trail_push n (known_through (all_known cs) steps) trail e s.trail o; derived = s.derived }
 
-pub search_front : (n : ℕ) (cs : List (List Literal)) (steps : List Step) (trail : List Entry) (p : ℕ) → IsSearch (record { variables = n; clauses = cs; steps = steps; entries = trail }) → IsSearch (record { variables = n; clauses = cs; steps = steps; entries = take p trail })
-search_front n cs steps trail p s = record { in_range = s.in_range; trail = trail_front n (all_known (clauses_before cs steps)) trail p s.trail; derived = s.derived }
+  pub search_front : (p : ℕ) → IsSearch (record { variables = n; clauses = cs; steps = steps; entries = take p trail })
+  search_front p = record { in_range = s.in_range; given = s.given; trail = trail_front n (known_through (all_known cs) steps) trail p s.trail; derived = s.derived }
 
-pub search_learned : (n : ℕ) (cs : List (List Literal)) (steps : List Step) (trail : List Entry) (s : Step) → IsSearch (record { variables = n; clauses = cs; steps = steps; entries = trail }) → is_rightly_learned n (all_known (clauses_before cs steps)) s.clause s.hints ≡ true → s.deletes ≡ [] → IsSearch (record { variables = n; clauses = cs; steps = steps ++ s ∷ []; entries = trail })
-search_learned n cs steps trail s ok r d =
-    let proper = (and_parts (is_proper n s.clause) (is_conflict (all_known (clauses_before cs steps)) s.clause s.hints) r).0 in
+  -- a step that is learned, and deletes what it may
+  pub search_learned : (t : Step) → is_rightly_learned n (known_through (all_known cs) steps) t.clause t.hints ≡ true → MayDelete (known_through (all_known cs) steps) (length cs) trail t.deletes → IsSearch (record { variables = n; clauses = cs; steps = steps ++ t ∷ []; entries = trail })
+  search_learned t r m =
+      let before = known_through (all_known cs) steps in
+      let more = through_more (all_known cs) steps t in
+      let proper = (and_parts (is_proper n t.clause) (is_conflict before t.clause t.hints) r).0 in
+      record {
+        in_range = rw more (in_range_after n before t s.in_range proper);
+        given = λ h c e. rw more (let w = known_within (all_known cs) c h e in
+            known_left (known_after before t.deletes) t.clause c h (m.first_stay h (omega (arith, w, length-all cs)) ∙ s.given h c e));
+        trail = rw more (trail_after n before (length cs) trail t s.trail m);
+        derived = derived_more n (all_known cs) steps t s.derived (right_from n before t r m.deletable);
+      }
+
+  -- what the new step gives
+  pub goes_on : (t : Step) (turn : Option Turn) → is_rightly_learned n (known_through (all_known cs) steps) t.clause t.hints ≡ true → MayDelete (known_through (all_known cs) steps) (length cs) trail t.deletes → MatchOption turn (t.clause ≡ []) (Asserts trail t.clause) → GoesOn (record { variables = n; clauses = cs; steps = steps ++ t ∷ []; entries = trail }) turn
+  goes_on t None r m e = refutes_last n (all_known cs) steps t s.derived (right_from n (known_through (all_known cs) steps) t r m.deletable) e
+  goes_on t (Some u) r m e =
+      let before = known_through (all_known cs) steps in
+      let l : length cs + length (steps ++ t ∷ []) ≡ suc (length (known_after before t.deletes)) = omega (arith, length-append steps (t ∷ []), length-after before t.deletes, length-through (all_known cs) steps, length-all cs) in
+      record {
+        within = e.within;
+        decided = e.decided;
+        forces = rw (through_more (all_known cs) steps t) (hint_new (known_after before t.deletes) t.clause (is_among (falses (take u.place trail))) _ l ∙ e.forces);
+      }
+
+-- at first each clause is known
+pub search_first : (n : ℕ) (cs : List (List Literal)) → All (IsClauseInRange n) cs → IsSearch (record { variables = n; clauses = cs; steps = []; entries = [] })
+search_first n cs a = record {
+  in_range = λ r c e. holds_of_clause (IsClauseInRange n) cs r c a e;
+  given = λ h c e. e;
+  trail = λ k d h. absurd (omega arith);
+  derived = refl;
+}
+
+pub alive_first : (cs : List (List Literal)) (alive : List Bool) → alive ≡ replicate (length cs) true → AreAlive cs [] alive
+alive_first cs alive e = record {
+  as_many = omega (arith, ap length e, length-replicate (length cs) true);
+  same = rw (append-nil cs, e) (all_alive cs);
+}
+
+-- the step's clause is alive, and what it deletes is not
+pub alive_more : (cs : List (List Literal)) (steps : List Step) (alive after : List Bool) (s : Step) → AreAlive cs steps alive → length after ≡ length alive + 1 → ((xs : List (List Literal)) → known_of xs after ≡ known_after (known_of xs (alive ++ true ∷ [])) s.deletes) → are_deletable (known_through (all_known cs) steps) s.deletes ≡ true → AreAlive cs (steps ++ s ∷ []) after
+alive_more cs steps alive after s ok l a d =
+    let before = clauses_before cs steps in
+    let known = known_of before alive in
+    let p : known_of (before ++ s.clause ∷ []) (alive ++ true ∷ []) ≡ known ++ Some s.clause ∷ [] = known_of-push before alive s.clause (omega (arith, ok.as_many, length-before cs steps)) in
+    let d' : are_deletable known s.deletes ≡ true = rw ok.same d in
     record {
-      in_range = rw (before-more cs steps s) (All-push (IsClauseInRange n) (clauses_before cs steps) s.clause ok.in_range (proper_in_range n s.clause proper));
-      trail = rw (before-more cs steps s) (trail_more n (clauses_before cs steps) s.clause trail ok.trail);
-      derived = derived_more n cs steps s ok.derived r d;
-    }
-
--- what the new step gives
-pub goes_on : (n : ℕ) (cs : List (List Literal)) (steps : List Step) (trail : List Entry) (s : Step) (turn : Option Turn) → IsSearch (record { variables = n; clauses = cs; steps = steps; entries = trail }) → is_rightly_learned n (all_known (clauses_before cs steps)) s.clause s.hints ≡ true → s.deletes ≡ [] → MatchOption turn (s.clause ≡ []) (Asserts trail s.clause) → GoesOn (record { variables = n; clauses = cs; steps = steps ++ s ∷ []; entries = trail }) turn
-goes_on n cs steps trail s None ok r d e = refutes_last n cs steps s ok.derived r d e
-goes_on n cs steps trail s (Some t) ok r d e =
-    let l : length cs + length (steps ++ s ∷ []) ≡ length (clauses_before cs steps) + 1 = omega (arith, length-append steps (s ∷ []), length-before cs steps) in
-    record {
-      within = e.within;
-      decided = e.decided;
-      forces = rw (before-more cs steps s) (hint_new (clauses_before cs steps) s.clause (is_among (falses (take t.place trail))) _ l ∙ e.forces);
+      as_many = omega (arith, l, ok.as_many, length-append steps (s ∷ []));
+      same = rw (before-more cs steps s) (a (before ++ s.clause ∷ []) ∙ ap (λ (ys : Known). known_after ys s.deletes) p ∙ after_push known (Some s.clause) s.deletes d' ∙ ap (λ (ys : Known). after_step ys s) ok.same ∙ sym (through_more (all_known cs) steps s));
     }
 
 -- values that leave no clause falsified satisfy the clauses
@@ -96,10 +132,10 @@ values_satisfy s values ok open' full value k d h =
     let c = get_or s.clauses k d in
     let set = true_variables values in
     let p = is_among (falses s.entries) in
-    let g : slice_get s.clauses (k + 1 - 1) ≡ Some c = (let e : k + 1 - 1 ≡ k = omega arith in rw e (slice_get-get_or s.clauses k d h)) in
-    let here : clause_of (known s) (k + 1) ≡ Some c = in_clauses s.clauses s.steps (k + 1) c (λ z. omega arith) g in
-    let range : IsClauseInRange s.variables c = holds_of_clause (IsClauseInRange s.variables) (clauses_before s.clauses s.steps) (k + 1) c ok.in_range here in
-    let said : finding p c ≡ Open = sym (at_clause (known s) p (k + 1) c here) ∙ open' (k + 1) in
+    let g : slice_get s.clauses k ≡ Some c = slice_get-get_or s.clauses k d h in
+    let here : clause_of (known s) (suc k) ≡ Some c = ok.given (suc k) c (in_list s.clauses k c g) in
+    let range : IsClauseInRange s.variables c = ok.in_range (suc k) c here in
+    let said : finding p c ≡ Open = sym (at_clause (known s) p (suc k) c here) ∙ open' (suc k) in
     true_from_ne_false (is_clause_true set c) (λ f. differ (sym (all_falsified p c (λ x i.
     let r = all_in (IsInRange s.variables) c x range i in
     denied x.positive x.variable (full x.variable r.0 r.1) (value x.variable r.0 r.1) (all_false set c f x i))) ∙ said))

@@ -1,38 +1,182 @@
--- The clauses by number, none of them deleted.
-use Rattle.std.proofs.Common.{◌≡◌, ℕ, zero, suc, ◌+◌, ◌-◌, ◌<◌, List, [], ◌∷◌, map, Some, None, refl, ap, sym, ◌∙◌, length, arith, subst}
-use Rattle.std.specs.List.{slice_get, All}
+-- The clauses by number.
+use Rattle.std.proofs.Common.{◌≡◌, ℕ, zero, suc, ◌+◌, ◌-◌, ◌<◌, ◌≤◌, Bool, true, false, cond, ◌&&◌, List, [], ◌∷◌, ◌++◌, map, Option, Some, None, is_some, refl, ap, sym, ◌∙◌, subst, length, inl, inr, ◌⊎◌, arith}
+use Rattle.std.specs.Prelude.{replicate}
+use Rattle.std.specs.List.{slice_get, slice_set, All}
 use Rattle.std.specs.Option.{option_and_then}
-use Rattle.std.proofs.lemmas.Option.{slice_get_within, slice_get_past, get_or_from_slice_get}
+use Rattle.std.proofs.lemmas.Bool.{and_parts, and_from, false≢true}
+use Rattle.std.proofs.lemmas.List.{length-append, map-append, append_assoc}
+use Rattle.std.proofs.lemmas.Option.{slice_get_within, get_or_from_slice_get}
 use Rattle.dd_clause.specs.declared.clause.Literal.{Literal}
 use Rattle.dd_derivation.specs.declared.step.Step.{Step}
-use Rattle.dd_derivation.specs.Derivations.{clause_of, clauses_before}
-use Rattle.dd_derivation.proofs.Numbers.{slice_get-append_left, slice_get-append_right, slice_get-map}
+use Rattle.dd_derivation.specs.Derivations.{clause_of, without, are_deletable, known_after, clauses_before}
+use Rattle.dd_derivation.specs.MarksOf.{known_of, known_to}
 use Rattle.dd_solver.specs.Entries.{all_known}
 
-pub at : (cs : List (List Literal)) (k : ℕ) → option_and_then (λ c. c) (slice_get (all_known cs) k) ≡ slice_get cs k
-at [] k = refl
-at (c ∷ cs) zero = refl
-at (c ∷ cs) (suc k) = at cs k
+abbrev pub Known : Type 0
+Known = List (Option (List Literal))
 
-pub clause_of-all_known : (cs : List (List Literal)) (number : ℕ) → (number ≡ 0 → ⊥) → clause_of (all_known cs) number ≡ slice_get cs (number - 1)
-clause_of-all_known cs zero n = absurd (n refl)
-clause_of-all_known cs (suc k) n = let e : suc k - 1 ≡ k = omega arith in rw e (at cs k)
+-- a clause that is known, by its place
 
-pub in_clauses : (clauses : List (List Literal)) (steps : List Step) (number : ℕ) (c : List Literal) → (number ≡ 0 → ⊥) → slice_get clauses (number - 1) ≡ Some c → clause_of (all_known (clauses_before clauses steps)) number ≡ Some c
-in_clauses clauses steps number c n g =
-    clause_of-all_known (clauses_before clauses steps) number n ∙ slice_get-append_left clauses (map (λ s. s.clause) steps) (number - 1) (slice_get_within clauses (number - 1) c g) ∙ g
+abbrev at : Known → ℕ → Option (List Literal)
+at known k = option_and_then (λ c. c) (slice_get known k)
 
-pub in_steps : (clauses : List (List Literal)) (steps : List Step) (number : ℕ) (s : Step) → length clauses < number → slice_get steps (number - 1 - length clauses) ≡ Some s → clause_of (all_known (clauses_before clauses steps)) number ≡ Some s.clause
-in_steps clauses steps number s n g =
-    let e : number - 1 ≡ length clauses + (number - 1 - length clauses) = omega arith in
-    clause_of-all_known (clauses_before clauses steps) number (λ z. omega arith) ∙ ap (slice_get (clauses_before clauses steps)) e ∙ slice_get-append_right clauses (map (λ x. x.clause) steps) (number - 1 - length clauses) ∙ slice_get-map (λ x. x.clause) steps _ s g
+push_at : (known : Known) (c x : List Literal) (k : ℕ) → at (known ++ Some c ∷ []) k ≡ Some x → (at known k ≡ Some x) ⊎ ((k ≡ length known) × (c ≡ x))
+push_at [] c x zero h = inr (refl, cc)
+push_at [] c x (suc k) h = absurd (cc)
+push_at (o ∷ known) c x zero h = inl h
+push_at (o ∷ known) c x (suc k) h = elim (push_at known c x k h) [ inl a ↦ inl a | inr b ↦ inr (ap suc b.0, b.1) ]
 
-pub past_all : (cs : List (List Literal)) (number : ℕ) → length cs < number → clause_of (all_known cs) number ≡ None
-past_all cs number n = clause_of-all_known cs number (λ z. omega arith) ∙ slice_get_past cs (number - 1) (omega arith)
+left_at : (known : Known) (c x : List Literal) (k : ℕ) → at known k ≡ Some x → at (known ++ Some c ∷ []) k ≡ Some x
+left_at [] c x k h = absurd (cc)
+left_at (o ∷ known) c x zero h = h
+left_at (o ∷ known) c x (suc k) h = left_at known c x k h
+
+last_at : (known : Known) (c : List Literal) → at (known ++ Some c ∷ []) (length known) ≡ Some c
+last_at [] c = refl
+last_at (o ∷ known) c = last_at known c
+
+within_at : (known : Known) (x : List Literal) (k : ℕ) → at known k ≡ Some x → k < length known
+within_at [] x k h = absurd (cc)
+within_at (o ∷ known) x zero h = omega arith
+within_at (o ∷ known) x (suc k) h = let w = within_at known x k h in omega arith
+
+less_at : (known : Known) (x : List Literal) (d k : ℕ) → at (slice_set known d None) k ≡ Some x → at known k ≡ Some x
+less_at [] x d k h = h
+less_at (o ∷ known) x zero zero h = absurd (cc)
+less_at (o ∷ known) x zero (suc k) h = h
+less_at (o ∷ known) x (suc d) zero h = h
+less_at (o ∷ known) x (suc d) (suc k) h = less_at known x d k h
+
+-- and by its number
+
+pub known_push : (known : Known) (c x : List Literal) (h : ℕ) → clause_of (known ++ Some c ∷ []) h ≡ Some x → (clause_of known h ≡ Some x) ⊎ ((h ≡ suc (length known)) × (c ≡ x))
+known_push known c x zero e = absurd (cc)
+known_push known c x (suc k) e = elim (push_at known c x k e) [ inl a ↦ inl a | inr b ↦ inr (ap suc b.0, b.1) ]
+
+pub known_left : (known : Known) (c x : List Literal) (h : ℕ) → clause_of known h ≡ Some x → clause_of (known ++ Some c ∷ []) h ≡ Some x
+known_left known c x zero e = absurd (cc)
+known_left known c x (suc k) e = left_at known c x k e
+
+pub known_last : (known : Known) (c : List Literal) (h : ℕ) → h ≡ suc (length known) → clause_of (known ++ Some c ∷ []) h ≡ Some c
+known_last known c h e = rw e (last_at known c)
+
+pub known_within : (known : Known) (x : List Literal) (h : ℕ) → clause_of known h ≡ Some x → h < suc (length known)
+known_within known x zero e = omega arith
+known_within known x (suc k) e = let w = within_at known x k e in omega arith
+
+pub known_before : (known : Known) (x : List Literal) (ds : List ℕ) (h : ℕ) → clause_of (known_after known ds) h ≡ Some x → clause_of known h ≡ Some x
+known_before known x [] h e = e
+known_before known x (d ∷ ds) h e = one d h (known_before (without known d) x ds h e)
+  where
+    one : (d h : ℕ) → clause_of (without known d) h ≡ Some x → clause_of known h ≡ Some x
+    one zero h e = e
+    one (suc d) zero e = absurd (cc)
+    one (suc d) (suc k) e = less_at known x d k e
+
+length-set : (known : Known) (d : ℕ) → length (slice_set known d None) ≡ length known
+length-set [] d = refl
+length-set (o ∷ known) zero = refl
+length-set (o ∷ known) (suc d) = ap suc (length-set known d)
+
+pub length-after : (known : Known) (ds : List ℕ) → length (known_after known ds) ≡ length known
+length-after known [] = refl
+length-after known (d ∷ ds) = length-after (without known d) ds ∙ one d
+  where
+    one : (d : ℕ) → length (without known d) ≡ length known
+    one zero = refl
+    one (suc d) = length-set known d
+
+-- no clause is of a number that is past them
+pub past_none : (known : Known) (h : ℕ) → length known < h → clause_of known h ≡ None
+past_none known h l = go (clause_of known h) refl
+  where
+    go : (o : Option (List Literal)) → clause_of known h ≡ o → clause_of known h ≡ None
+    go None e = e
+    go (Some x) e = let w = known_within known x h e in absurd (omega arith)
+
+-- the clauses of a list, none of them deleted
+
+all_at : (cs : List (List Literal)) (k : ℕ) → at (all_known cs) k ≡ slice_get cs k
+all_at [] k = refl
+all_at (c ∷ cs) zero = refl
+all_at (c ∷ cs) (suc k) = all_at cs k
+
+pub in_list : (cs : List (List Literal)) (k : ℕ) (c : List Literal) → slice_get cs k ≡ Some c → clause_of (all_known cs) (suc k) ≡ Some c
+in_list cs k c g = all_at cs k ∙ g
+
+pub length-all : (cs : List (List Literal)) → length (all_known cs) ≡ length cs
+length-all [] = refl
+length-all (c ∷ cs) = ap suc (length-all cs)
 
 -- what holds of each clause holds of the one of a number
 pub holds_of_clause : (P : List Literal → Type 0) (cs : List (List Literal)) (n : ℕ) (c : List Literal) → All P cs → clause_of (all_known cs) n ≡ Some c → P c
 holds_of_clause P cs zero c a h = absurd (cc)
 holds_of_clause P cs (suc k) c a h =
-    let g : slice_get cs k ≡ Some c = sym (at cs k) ∙ h in
+    let g : slice_get cs k ≡ Some c = sym (all_at cs k) ∙ h in
     subst P (get_or_from_slice_get cs k c c g) (a k c (slice_get_within cs k c g))
+
+-- those that are alive
+
+pub length-known_of : (cs : List (List Literal)) (alive : List Bool) → length cs ≤ length alive → length (known_of cs alive) ≡ length cs
+length-known_of [] alive h = refl
+length-known_of (c ∷ cs) [] h = absurd (omega arith)
+length-known_of (c ∷ cs) (a ∷ alive) h = ap suc (length-known_of cs alive (omega arith))
+
+length-map : (steps : List Step) → length (map (λ s. s.clause) steps) ≡ length steps
+length-map [] = refl
+length-map (s ∷ steps) = ap suc (length-map steps)
+
+pub length-before : (clauses : List (List Literal)) (steps : List Step) → length (clauses_before clauses steps) ≡ length clauses + length steps
+length-before clauses steps = length-append clauses (map (λ s. s.clause) steps) ∙ ap (λ (n : ℕ). length clauses + n) (length-map steps)
+
+pub before-more : (cs : List (List Literal)) (steps : List Step) (s : Step) → clauses_before cs (steps ++ s ∷ []) ≡ clauses_before cs steps ++ s.clause ∷ []
+before-more cs steps s = ap (λ (ys : List (List Literal)). cs ++ ys) (map-append (λ x. x.clause) steps (s ∷ [])) ∙ sym (append_assoc cs (map (λ x. x.clause) steps) (s.clause ∷ []))
+
+pub known_of-push : (cs : List (List Literal)) (alive : List Bool) (c : List Literal) → length alive ≡ length cs → known_of (cs ++ c ∷ []) (alive ++ true ∷ []) ≡ known_of cs alive ++ Some c ∷ []
+known_of-push [] [] c h = refl
+known_of-push [] (a ∷ alive) c h = absurd (omega arith)
+known_of-push (x ∷ cs) [] c h = absurd (omega arith)
+known_of-push (x ∷ cs) (a ∷ alive) c h = ap (λ (ys : Known). cond a (Some x) None ∷ ys) (known_of-push cs alive c (omega arith))
+
+pub all_alive : (cs : List (List Literal)) → known_of cs (replicate (length cs) true) ≡ all_known cs
+all_alive [] = refl
+all_alive (c ∷ cs) = ap (λ (ys : Known). Some c ∷ ys) (all_alive cs)
+
+-- deletion, one number more or one clause more
+
+some_set : (known : Known) (o : Option (List Literal)) (k : ℕ) → is_some (at known k) ≡ true → slice_set (known ++ o ∷ []) k None ≡ slice_set known k None ++ o ∷ []
+some_set [] o k h = absurd (false≢true h)
+some_set (x ∷ known) o zero h = refl
+some_set (x ∷ known) o (suc k) h = ap (λ (ys : Known). x ∷ ys) (some_set known o k h)
+
+without_push : (known : Known) (o : Option (List Literal)) (d : ℕ) → is_some (clause_of known d) ≡ true → without (known ++ o ∷ []) d ≡ without known d ++ o ∷ []
+without_push known o zero h = absurd (false≢true h)
+without_push known o (suc k) h = some_set known o k h
+
+pub after_push : (known : Known) (o : Option (List Literal)) (ds : List ℕ) → are_deletable known ds ≡ true → known_after (known ++ o ∷ []) ds ≡ known_after known ds ++ o ∷ []
+after_push known o [] h = refl
+after_push known o (d ∷ ds) h =
+    let q = and_parts (is_some (clause_of known d)) (are_deletable (without known d) ds) h in
+    ap (λ (ys : Known). known_after ys ds) (without_push known o d q.0) ∙ after_push (without known d) o ds q.1
+
+pub after_more : (known : Known) (ds : List ℕ) (d : ℕ) → known_after known (ds ++ d ∷ []) ≡ without (known_after known ds) d
+after_more known [] d = refl
+after_more known (x ∷ ds) d = after_more (without known x) ds d
+
+pub deletable_more : (known : Known) (ds : List ℕ) (d : ℕ) → are_deletable known ds ≡ true → is_some (clause_of (known_after known ds) d) ≡ true → are_deletable known (ds ++ d ∷ []) ≡ true
+deletable_more known [] d h s = rw s refl
+deletable_more known (x ∷ ds) d h s =
+    let q = and_parts (is_some (clause_of known x)) (are_deletable (without known x) ds) h in
+    and_from _ _ q.0 (deletable_more (without known x) ds d q.1 s)
+
+other_at : (known : Known) (d k : ℕ) → (k ≡ d → ⊥) → at (slice_set known d None) k ≡ at known k
+other_at [] d k n = refl
+other_at (o ∷ known) zero zero n = absurd (n refl)
+other_at (o ∷ known) zero (suc k) n = refl
+other_at (o ∷ known) (suc d) zero n = refl
+other_at (o ∷ known) (suc d) (suc k) n = other_at known d k (λ e. n (ap suc e))
+
+pub other_number : (known : Known) (d h : ℕ) → (h ≡ d → ⊥) → clause_of (without known d) h ≡ clause_of known h
+other_number known zero h n = refl
+other_number known (suc d) zero n = refl
+other_number known (suc d) (suc k) n = other_at known d k (λ e. n (ap suc e))

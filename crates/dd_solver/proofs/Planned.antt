@@ -10,7 +10,8 @@ use Rattle.dd_solver.specs.Entries.{all_known}
 use Rattle.dd_solver.specs.Trimming.{is_hint, are_used}
 use Rattle.dd_solver.specs.Marking.{IsNeeded, IsMarking, numbers_from, renamed, kept_steps}
 use Rattle.dd_solver.proofs.Trails.{get_any}
-use Rattle.dd_solver.proofs.Kept.{Agree, hinted_by, IsPlanned, Plan, known_within, refutes_kept, used_kept}
+use Rattle.dd_solver.proofs.Kept.{Agree, hinted_by, IsPlanned, Plan, refutes_kept, used_kept}
+use Rattle.dd_solver.proofs.Numbers.{known_within, length-all}
 
 -- the same by places
 record Facts (keep : ℕ → Bool) (rename : ℕ → ℕ) (next last : ℕ) (marked : List Bool) (steps : List Step) : Type 0 where
@@ -104,14 +105,10 @@ facts clauses marked steps m = record {
         let h : is_hint (suc clauses + k) (get_or (drop (suc k) steps) i none).hints ≡ true = rw s (subst (λ (x : ℕ). is_hint x (get_or steps n.at none).hints ≡ true) (let q : clauses + suc k ≡ suc clauses + k = omega arith in q) (n.hinted none)) in
         hinted_at (suc clauses + k) (drop (suc k) marked) (drop (suc k) steps) i none t (omega (arith, length-drop (suc k) marked, m.as_many, e, w)) (omega (arith, length-drop (suc k) steps, e, w)) h
 
-length-known : (clauses : List (List Literal)) → length (all_known clauses) ≡ length clauses
-length-known [] = refl
-length-known (c ∷ clauses) = ap suc (length-known clauses)
-
 agree : (clauses : List (List Literal)) (marked : List Bool) (numbers : List ℕ) → Agree (is_kept (length clauses) marked) (renamed (length clauses) numbers) (all_known clauses) (all_known clauses)
 agree clauses marked numbers h x k e =
     let w = known_within (all_known clauses) x h e in
-    let l : leb h (length clauses) ≡ true = le-leb h (length clauses) (omega (arith, length-known clauses, w)) in
+    let l : leb h (length clauses) ≡ true = le-leb h (length clauses) (omega (arith, length-all clauses, w)) in
     rw l e
 
 -- the marked steps under their new numbers refute the clauses, and each but the last is used
@@ -120,7 +117,7 @@ marked_refute n clauses steps marked m r =
     let c = length clauses in
     let numbers = numbers_from c marked in
     let p = plan (is_kept c marked) (renamed c numbers) (suc c) c marked steps (facts c marked steps m) in
-    refutes_kept n (is_kept c marked) (renamed c numbers) (suc c) c marked steps (all_known clauses) (all_known clauses) m.as_many (ap suc (sym (length-known clauses))) (sym (length-known clauses)) p (agree clauses marked numbers) r
+    refutes_kept n (is_kept c marked) (renamed c numbers) (suc c) c marked steps (all_known clauses) (all_known clauses) m.as_many (ap suc (sym (length-all clauses))) (sym (length-all clauses)) p (agree clauses marked numbers) r
 
 pub marked_used : (clauses : ℕ) (steps : List Step) (marked : List Bool) → IsMarking clauses 0 steps marked → are_used (suc clauses) (kept_steps (renamed clauses (numbers_from clauses marked)) marked steps) ≡ true
 marked_used clauses steps marked m =

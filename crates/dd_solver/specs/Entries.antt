@@ -1,9 +1,9 @@
 -- The trail of a search: the literals that are true, in the order in which they became so.
 use Rattle.std.specs.Prelude.{◌≡◌, ℕ, ◌<◌, ◌≤◌, true, false, List, map, Option, Some, None, length, take, slice_index_or, ⊤}
 use Rattle.dd_clause.specs.declared.clause.Literal.{Literal}
-use Rattle.dd_clause.specs.Clauses.{IsInRange, negation}
+use Rattle.dd_clause.specs.Clauses.{IsInRange, IsClauseInRange, negation}
 use Rattle.dd_derivation.specs.declared.propagation.Finding.TheVariants.{Forced}
-use Rattle.dd_derivation.specs.Derivations.{is_among, has_variable, hint_finding}
+use Rattle.dd_derivation.specs.Derivations.{is_among, has_variable, clause_of, hint_finding}
 use Rattle.dd_solver.specs.declared.trail.Entry.{Entry}
 
 -- how many variables there are, and the entries
@@ -18,6 +18,10 @@ falses trail = map (λ e. negation e.literal) trail
 -- the clauses by number, none of them deleted
 abbrev pub all_known : List (List Literal) → List (Option (List Literal))
 all_known clauses = map (λ c. Some c) clauses
+
+-- each clause that is known has its variables between 1 and n
+abbrev pub AreInRange : ℕ → List (Option (List Literal)) → Type 0
+AreInRange n known = (r : ℕ) (c : List Literal) → clause_of known r ≡ Some c → IsClauseInRange n c
 
 -- the literal was decided, or the clause of this number forces it where the older entries hold
 abbrev pub Follows : List (Option (List Literal)) → List Entry → Literal → Option ℕ → Type 0

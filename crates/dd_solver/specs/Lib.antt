@@ -6,5 +6,6 @@ pub mod Trimming
 pub mod Entries
 pub mod Values
 pub mod Analysis
+pub mod Deleting
 pub mod Search
 pub mod Marking

@@ -1,16 +1,15 @@
 -- The state of a search, and why it ends.
-use Rattle.std.specs.Prelude.{◌≡◌, ℕ, zero, suc, ◌<◌, ◌≤◌, ◌+◌, ◌-◌, ◌*◌, ◌^◌, ◌&&◌, ◌++◌, ◌∷◌, Bool, true, false, if◌then◌else◌, List, [], map, Option, None, is_none, length, take, slice_index_or, MatchOption, All}
-use Rattle.std.specs.List.{list_all}
+use Rattle.std.specs.Prelude.{◌≡◌, ℕ, zero, suc, ◌<◌, ◌≤◌, ◌+◌, ◌-◌, ◌*◌, ◌^◌, ◌&&◌, ◌++◌, ◌∷◌, Bool, true, false, if◌then◌else◌, List, [], map, Option, Some, None, is_none, length, take, slice_index_or, MatchOption}
 use Rattle.dd_clause.specs.declared.clause.Literal.{Literal}
-use Rattle.dd_clause.specs.Clauses.{IsClauseInRange}
 use Rattle.dd_derivation.specs.declared.propagation.Finding.TheVariants.{Falsified, Forced, Open}
 use Rattle.dd_derivation.specs.declared.step.Step.{Step}
-use Rattle.dd_derivation.specs.Derivations.{hint_finding, is_among, is_right, refutes, clauses_before}
+use Rattle.dd_derivation.specs.Derivations.{clause_of, hint_finding, is_among, known_after, is_right, refutes}
+use Rattle.dd_derivation.specs.MarksOf.{known_to}
 use Rattle.dd_solver.specs.declared.trail.Entry.{Entry}
 use Rattle.dd_solver.specs.declared.analysis.Turn.{Turn}
 use Rattle.dd_solver.specs.declared.propagation.Scan.{Scan}
 use Rattle.dd_solver.specs.declared.propagation.Scan.TheVariants.{Conflict, Unit, Nothing}
-use Rattle.dd_solver.specs.Entries.{falses, all_known, IsTrail}
+use Rattle.dd_solver.specs.Entries.{falses, all_known, AreInRange, IsTrail}
 
 -- the number of variables, the clauses, the steps learned so far, and the trail
 pub record State : Type 0 where
@@ -19,21 +18,35 @@ pub record State : Type 0 where
   pub steps : List Step
   pub entries : List Entry
 
--- the clauses and those learned, by number
+-- the clauses after a step
+abbrev pub after_step : List (Option (List Literal)) → Step → List (Option (List Literal))
+after_step before s = known_after before s.deletes ++ Some s.clause ∷ []
+
+abbrev pub known_through : List (Option (List Literal)) → List Step → List (Option (List Literal))
+known_through before [] = before
+known_through before (s ∷ steps) = known_through (after_step before s) steps
+
+-- the clauses and those learned, by number, but for those that were deleted
 abbrev pub known : State → List (Option (List Literal))
-known s = all_known (clauses_before s.clauses s.steps)
+known s = known_through (all_known s.clauses) s.steps
 
--- each step is right after those before it, and deletes nothing
-abbrev pub is_derived : ℕ → List (List Literal) → List Step → Bool
-is_derived n clauses [] = true
-is_derived n clauses (s ∷ steps) =
-    (is_right n (all_known clauses) s && list_all (λ _. false) s.deletes) && is_derived n (clauses ++ s.clause ∷ []) steps
+-- each step is right after those before it
+abbrev pub is_derived : ℕ → List (Option (List Literal)) → List Step → Bool
+is_derived n before [] = true
+is_derived n before (s ∷ steps) = is_right n before s && is_derived n (after_step before s) steps
 
--- What the search keeps: the clauses and those learned are in range, the trail stands on them, and the steps are right.
+-- What the search keeps: the clauses that are known are in range, those of the list are known, the trail stands on what
+-- is known, and the steps are right.
 pub record IsSearch (s : State) : Type 0 where
-  pub in_range : All (IsClauseInRange s.variables) (clauses_before s.clauses s.steps)
+  pub in_range : AreInRange s.variables (known s)
+  pub given : (h : ℕ) (c : List Literal) → clause_of (all_known s.clauses) h ≡ Some c → clause_of (known s) h ≡ Some c
   pub trail : IsTrail s.variables (known s) s.entries
-  pub derived : is_derived s.variables s.clauses s.steps ≡ true
+  pub derived : is_derived s.variables (all_known s.clauses) s.steps ≡ true
+
+-- the list tells which of the clauses and those learned are known
+pub record AreAlive (clauses : List (List Literal)) (steps : List Step) (alive : List Bool) : Type 0 where
+  pub as_many : length alive ≡ length clauses + length steps
+  pub same : known_to clauses steps alive ≡ known_through (all_known clauses) steps
 
 -- a clause that is falsified or forces a literal, or else what is then said
 abbrev pub Says : List (Option (List Literal)) → List Literal → Type 0 → Scan → Type 0

@@ -3,11 +3,11 @@
 // forced it, whose variables are marked in turn, or it is kept: its negation goes into the learned clause. Whatever is
 // kept, the resolved clauses' numbers are hints that show that the learned clause follows; so what is best to keep is
 // not said in any contract.
-ghost use Rattle.std.specs.Prelude.{◌≡◌, ℕ, ◌<◌, ◌≤◌, true, [], length, All, IfOk, MatchOption, slice_index_or, ⊤};
+ghost use Rattle.std.specs.Prelude.{◌≡◌, ℕ, ◌<◌, ◌≤◌, true, [], length, IfOk, MatchOption, slice_index_or, ⊤};
 ghost use Rattle.dd_clause.specs.Clauses.{IsInRange, IsClauseInRange};
 ghost use Rattle.dd_derivation.specs.declared.propagation.Finding.TheVariants.{Falsified};
 ghost use Rattle.dd_derivation.specs.Derivations.{hint_finding, is_among};
-ghost use Rattle.dd_solver.specs.Entries.{falses, all_known, IsTrail};
+ghost use Rattle.dd_solver.specs.Entries.{falses, IsTrail, AreInRange};
 ghost use Rattle.dd_solver.specs.Analysis.{Grows, AreMarked, IsMarkedClause, is_rightly_learned, IsPlace, IsTurn, ChoiceSays, Asserts};
 
 use crate::database::Database;
@@ -62,9 +62,9 @@ fn mark_literals(trail: &Trail, marked: &mut [bool], literals: &[Literal]) -> us
 
 /// The same for the variables of the clause of this number.
 fn mark_clause(database: &Database, trail: &Trail, marked: &mut [bool], number: u64) -> usize
-    requires { All (IsClauseInRange (length marked.old)) database.now }
+    requires { AreInRange (length marked.old) database.now }
     ensures grows { Grows marked.old marked.new }
-    ensures marks { IsMarkedClause (all_known database.now) marked.new number }
+    ensures marks { IsMarkedClause database.now marked.new number }
 {
     match database.find_clause(number) {
         None => 0,
@@ -184,10 +184,10 @@ fn walk_down(
     marked: &mut [bool],
     conflict: u64,
 ) -> Result<Learned, AllocError>
-    requires in_range { All (IsClauseInRange (length marked.old)) database.now }
-    requires trail { IsTrail (length marked.old) (all_known database.now) trail.now.entries }
-    requires conflict { hint_finding (all_known database.now) (is_among (falses trail.now.entries)) conflict ≡ Falsified }
-    ensures right { IfOk result (λ r. is_rightly_learned (length marked.old) (all_known database.now) r.literals.items r.hints.items ≡ true) }
+    requires in_range { AreInRange (length marked.old) database.now }
+    requires trail { IsTrail (length marked.old) database.now trail.now.entries }
+    requires conflict { hint_finding database.now (is_among (falses trail.now.entries)) conflict ≡ Falsified }
+    ensures right { IfOk result (λ r. is_rightly_learned (length marked.old) database.now r.literals.items r.hints.items ≡ true) }
     ensures turn { IfOk result (λ r. MatchOption r.turn (r.literals.items ≡ []) (Asserts trail.now.entries r.literals.items)) }
 {
     let mut literals: Vec<Literal> = Vec::new(alloc);
@@ -263,7 +263,7 @@ fn bump_kept(order: &mut Order, literals: &[Literal]) {
 
 /// Marks the variables of the clauses that forced the values of these literals' variables.
 fn mark_reasons(database: &Database, trail: &Trail, marked: &mut [bool], literals: &[Literal])
-    requires { All (IsClauseInRange (length marked.old)) database.now }
+    requires { AreInRange (length marked.old) database.now }
 {
     for literal in literals {
         if let Some(reason) = trail.reason(literal.variable) {
@@ -299,10 +299,10 @@ pub fn learn(
     marked: &mut [bool],
     conflict: u64,
 ) -> Result<Learned, AllocError>
-    requires in_range { All (IsClauseInRange (length marked.old)) database.now }
-    requires trail { IsTrail (length marked.old) (all_known database.now) trail.now.entries }
-    requires conflict { hint_finding (all_known database.now) (is_among (falses trail.now.entries)) conflict ≡ Falsified }
-    ensures right { IfOk result (λ r. is_rightly_learned (length marked.old) (all_known database.now) r.literals.items r.hints.items ≡ true) }
+    requires in_range { AreInRange (length marked.old) database.now }
+    requires trail { IsTrail (length marked.old) database.now trail.now.entries }
+    requires conflict { hint_finding database.now (is_among (falses trail.now.entries)) conflict ≡ Falsified }
+    ensures right { IfOk result (λ r. is_rightly_learned (length marked.old) database.now r.literals.items r.hints.items ≡ true) }
     ensures turn { IfOk result (λ r. MatchOption r.turn (r.literals.items ≡ []) (Asserts trail.now.entries r.literals.items)) }
 {
     let learned = walk_down(alloc, database, trail, marked, conflict)?;

@@ -1,60 +1,54 @@
-// The clauses that a search may use, by number: those of the list, and after them those learned.
-ghost use Rattle.std.specs.Prelude.{◌≡◌, ◌+◌, length};
+// The clauses that a search may use, by number: those of the list, and after them those learned, but for the deleted ones.
+ghost use Rattle.std.specs.Prelude.{◌≡◌, ◌≤◌, ◌+◌, length};
 ghost use Rattle.std.specs.Option.{option_copied};
-ghost use Rattle.dd_derivation.specs.Derivations.{clause_of, clauses_before};
-ghost use Rattle.dd_solver.specs.Entries.{all_known};
+ghost use Rattle.dd_derivation.specs.Derivations.{clause_of};
+ghost use Rattle.dd_derivation.specs.MarksOf.{known_to};
 
 use dd_clause::{Clause, Literal};
-use dd_derivation::Step;
+use dd_derivation::{Known, Step};
 use std::marker::Model;
 
-/// The clauses of a list and, behind them, those of the steps.
+/// The clauses of a list and, behind them, those of the steps, as far as they are alive; and how many numbers there are.
 #[derive(Drop)]
 pub struct Database<'a> {
-    clauses: &'a [Clause],
-    steps: &'a [Step],
+    known: Known<'a>,
+    count: u64,
 }
 
 impl<'a> Model for Database<'a> {
-    ghost use Rattle.std.specs.Prelude.{List};
+    ghost use Rattle.std.specs.Prelude.{◌≡◌, List, Option, length};
     ghost use Rattle.dd_clause.specs.declared.clause.Literal.{Literal};
-    ghost use Rattle.dd_derivation.specs.Derivations.{clauses_before};
 
-    ghost Value = { List (List Literal) };
+    ghost Value = { List (Option (List Literal)) };
 
-    ghost view = { λ d. clauses_before d.clauses.now d.steps.now };
+    ghost view = { λ d. d.known };
+
+    ghost invariant = { λ d. d.count ≡ length d.known };
 }
 
 impl<'a> Database<'a> {
-    /// Over these clauses and steps.
-    pub fn new(clauses: &'a [Clause], steps: &'a [Step]) -> Database<'a>
-        ensures { result ≡ clauses_before clauses.now steps.now }
+    /// Over those of these clauses and steps that are alive.
+    pub fn new(clauses: &'a [Clause], steps: &'a [Step], alive: &'a [bool]) -> Database<'a>
+        requires { length clauses.now + length steps.now ≤ length alive.now }
+        ensures { result ≡ known_to clauses.now steps.now alive.now }
     {
-        Database { clauses, steps }
+        Database {
+            known: Known::new(clauses, steps, alive),
+            count: clauses.len() as u64 + steps.len() as u64,
+        }
     }
 
-    /// How many clauses there are, those of the steps among them.
+    /// How many numbers there are, those of deleted clauses among them.
     pub fn count(&self) -> u64
         ensures { result ≡ length self.now }
     {
-        self.clauses.len() as u64 + self.steps.len() as u64
+        self.count
     }
 
-    /// The clause of this number.
+    /// The clause of this number, if it is alive.
     pub fn find_clause(&self, number: u64) -> Option<&'a [Literal]>
-        ensures { option_copied result ≡ clause_of (all_known self.now) number }
+        ensures { option_copied result ≡ clause_of self.now number }
     {
-        if number == 0 {
-            return None;
-        }
-        let place = (number - 1) as usize;
-        if place < self.clauses.len() {
-            return Some(self.clauses[place].literals());
-        }
-        let earlier = place - self.clauses.len();
-        if earlier < self.steps.len() {
-            return Some(self.steps[earlier].clause.literals());
-        }
-        None
+        self.known.find_clause(number)
     }
 }

@@ -4,6 +4,7 @@
 
 mod analysis;
 mod database;
+mod deletion;
 mod order;
 mod propagation;
 mod search;

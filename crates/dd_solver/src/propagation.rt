@@ -2,7 +2,7 @@
 ghost use Rattle.std.specs.Prelude.{◌≡◌};
 ghost use Rattle.dd_derivation.specs.declared.propagation.Finding.TheVariants.{Open};
 ghost use Rattle.dd_derivation.specs.Derivations.{hint_finding, is_among};
-ghost use Rattle.dd_solver.specs.Entries.{all_known, falses};
+ghost use Rattle.dd_solver.specs.Entries.{falses};
 ghost use Rattle.dd_solver.specs.Search.{Says, AreOpenBetween};
 
 use crate::database::Database;
@@ -20,7 +20,7 @@ pub enum Scan {
 
 /// Looks at the clause of this number.
 pub fn look_at(database: &Database, trail: &Trail, number: u64) -> Scan
-    ensures { Says (all_known database.now) (falses trail.now.entries) (hint_finding (all_known database.now) (is_among (falses trail.now.entries)) number ≡ Open) result }
+    ensures { Says database.now (falses trail.now.entries) (hint_finding database.now (is_among (falses trail.now.entries)) number ≡ Open) result }
 {
     match database.find_clause(number) {
         None => Scan::Nothing,
@@ -34,7 +34,7 @@ pub fn look_at(database: &Database, trail: &Trail, number: u64) -> Scan
 
 /// Looks at the clauses after one number, up to another.
 pub fn scan_between(database: &Database, trail: &Trail, from: u64, to: u64) -> Scan
-    ensures { Says (all_known database.now) (falses trail.now.entries) (AreOpenBetween (all_known database.now) (falses trail.now.entries) from to) result }
+    ensures { Says database.now (falses trail.now.entries) (AreOpenBetween database.now (falses trail.now.entries) from to) result }
 {
     for place in from..to {
         match look_at(database, trail, place + 1) {

@@ -1,8 +1,11 @@
 // The search (Marques-Silva and Sakallah 1999, Een and Sorensson 2003): propagate; at a conflict learn a clause and go
 // back to where it forces a literal; else decide a variable. Each learned clause is a step of a refutation. It ends
 // since the trail, read as a number in base 3, rises at each propagation, decision and return.
-ghost use Rattle.std.specs.Prelude.{◌≡◌, ℕ, ◌+◌, ◌<◌, ◌≤◌, ◌^◌, [], true, false, length, All, IfOk, OnOk, MatchOption, IsTrue, ◌↔◌};
+ghost use Rattle.std.specs.Prelude.{◌≡◌, ℕ, ◌+◌, ◌<◌, ◌≤◌, ◌^◌, ◌++◌, ◌∷◌, [], true, false, List, length, All, IfOk, OnOk, OnErr, MatchOption, IsTrue, ◌↔◌};
+ghost use Rattle.dd_clause.specs.declared.clause.Literal.{Literal};
 ghost use Rattle.dd_clause.specs.Clauses.{IsClauseInRange, Satisfies};
+ghost use Rattle.dd_derivation.specs.Derivations.{known_after};
+ghost use Rattle.dd_derivation.specs.MarksOf.{known_of};
 ghost use Rattle.dd_values.specs.Variables.{true_variables};
 ghost use Rattle.dd_solver.specs.Entries.{IsFull};
 ghost use Rattle.dd_solver.specs.Search.{State, AreOpen, IsFalsified, IsForced, GoesOn, left};
@@ -10,6 +13,7 @@ ghost use Rattle.dd_solver.specs.Answers.{IsAnswer, IsFound, IsRefuted, IsSatisf
 
 use crate::analysis::{Turn, learn};
 use crate::database::Database;
+use crate::deletion::{Deletion, forget};
 use crate::order::Order;
 use crate::propagation::Scan;
 use crate::trail::{Entry, Trail};
@@ -20,27 +24,47 @@ use dd_values::Items;
 use std::alloc::{AllocError, Global};
 use std::marker::Model;
 
-/// The clauses, the steps learned so far, the trail, the watched literals, the order of decisions, and room for the
-/// analysis.
+/// The clauses, the steps learned so far, and of the clauses of both whether they are alive; the trail, the watched
+/// literals, the order of decisions, what learned clauses are worth, and room for the analysis.
 #[derive(Drop)]
 pub struct Search<'a> {
     clauses: &'a [Clause],
     steps: Vec<Step>,
+    alive: Vec<bool>,
     trail: Trail,
     watches: Watches,
     order: Order,
+    deletion: Deletion,
     marked: Vec<bool>,
 }
 
 impl<'a> Model for Search<'a> {
-    ghost use Rattle.std.specs.Prelude.{◌≡◌, ◌<◌, ◌^◌, length};
-    ghost use Rattle.dd_solver.specs.Search.{State, IsSearch};
+    ghost use Rattle.std.specs.Prelude.{◌≡◌, ◌+◌, ◌<◌, ◌^◌, length};
+    ghost use Rattle.dd_solver.specs.Search.{State, IsSearch, AreAlive};
 
     ghost Value = { State };
 
     ghost view = { λ s. record { variables = s.trail.variables; clauses = s.clauses.now; steps = s.steps.items; entries = s.trail.entries } };
 
-    ghost invariant = { λ s. IsSearch (record { variables = s.trail.variables; clauses = s.clauses.now; steps = s.steps.items; entries = s.trail.entries }) × (length s.marked.items ≡ s.trail.variables) × (s.trail.variables < 2 ^ 32) };
+    ghost invariant = { λ s. IsSearch (record { variables = s.trail.variables; clauses = s.clauses.now; steps = s.steps.items; entries = s.trail.entries }) × (length s.marked.items ≡ s.trail.variables) × (s.trail.variables < 2 ^ 32) × AreAlive s.clauses.now s.steps.items s.alive.items };
+}
+
+/// Adds a step, whose clause is alive from then on, and deletes what it deletes.
+fn push_step(steps: &mut Vec<Step>, alive: &mut Vec<bool>, step: Step) -> Result<(), AllocError>
+    ensures steps { OnOk result (steps.new.items ≡ steps.old.items ++ step ∷ []) }
+    ensures alive { OnOk result ((cs : List (List Literal)) → known_of cs alive.new.items ≡ known_after (known_of cs (alive.old.items ++ true ∷ [])) step.deletes) }
+    ensures length { OnOk result (length alive.new.items ≡ length alive.old.items + 1) }
+    ensures failed { OnErr result ((steps.new.items ≡ steps.old.items) × (alive.new.items ≡ alive.old.items)) }
+{
+    let count = alive.len();
+    let last = steps.len();
+    alive.push(true)?;
+    if let Err(error) = steps.push(step) {
+        alive.truncate(count);
+        return Err(error.into());
+    }
+    forget(alive.as_mut_slice(), steps[last].deletes.as_slice());
+    Ok(())
 }
 
 impl<'a> Search<'a> {
@@ -65,9 +89,11 @@ impl<'a> Search<'a> {
         Ok(Search {
             clauses,
             steps: Vec::new(alloc),
+            alive: vec![in alloc; true; clauses.len()]?,
             trail: Trail::new(alloc, variables)?,
             watches,
             order,
+            deletion: Deletion::new(alloc, variables)?,
             marked: vec![in alloc; false; variables]?,
         })
     }
@@ -79,7 +105,11 @@ impl<'a> Search<'a> {
         ensures left { OnOk result (left self.new ≤ left self.old) }
     {
         'turns: loop {
-            let database = Database::new(self.clauses, self.steps.as_slice());
+            let database = Database::new(
+                self.clauses,
+                self.steps.as_slice(),
+                self.alive.as_slice(),
+            );
             let found = self.watches.find(&database, &self.trail)?;
             match found {
                 Scan::Conflict(number) => return Ok(Some(number)),
@@ -117,7 +147,7 @@ impl<'a> Search<'a> {
         ensures same { (self.new.variables ≡ self.old.variables) × (self.new.clauses ≡ self.old.clauses) × (self.new.entries ≡ self.old.entries) }
         ensures turn { IfOk result (GoesOn self.new) }
     {
-        let database = Database::new(self.clauses, self.steps.as_slice());
+        let database = Database::new(self.clauses, self.steps.as_slice(), self.alive.as_slice());
         let learned = learn(
             alloc,
             &database,
@@ -126,13 +156,25 @@ impl<'a> Search<'a> {
             self.marked.as_mut_slice(),
             conflict,
         )?;
+        let numbers = self.deletion.review(
+            alloc,
+            &database,
+            &self.trail,
+            self.clauses.len(),
+            learned.literals.as_slice(),
+            learned.hints.as_slice(),
+        )?;
         let clause = Clause::from_literals(alloc, learned.literals.as_slice())?;
         self.watches.add(learned.literals.as_slice())?;
-        self.steps.push(Step {
+        let hints = Items::from_vec(learned.hints);
+        let deletes = Items::from_vec(numbers);
+        let step = Step {
             clause,
-            hints: Items::from_vec(learned.hints),
-            deletes: Items::new(alloc),
-        })?;
+            hints,
+            deletes,
+        };
+        self.watches.note_deleted(step.deletes.as_slice());
+        push_step(&mut self.steps, &mut self.alive, step)?;
         Ok(learned.turn)
     }
 
@@ -143,7 +185,7 @@ impl<'a> Search<'a> {
         ensures left { OnOk result (left self.new < left self.old) }
     {
         let number = self.clauses.len() as u64 + self.steps.len() as u64;
-        self.watches.cut(turn.place);
+        self.watches.cut(turn.place, self.alive.as_slice())?;
         self.order.put_back_from(&self.trail, turn.place);
         self.trail.undo(turn.place);
         self.trail.assign(Entry {

@@ -19,13 +19,20 @@ pub struct Entry {
     pub reason: Option<u64>,
 }
 
+/// Where a variable's entry stands, and how many decisions stand up to there.
+#[derive(Clone, Copy)]
+struct Spot {
+    place: usize,
+    level: usize,
+}
+
 /// The entries; for each literal whether it is false; of each variable its entry's place, and the places of the decisions.
 #[derive(Drop)]
 pub struct Trail {
     variables: usize,
     entries: Vec<Entry>,
     denied: Vec<bool>,
-    places: Vec<usize>,
+    spots: Vec<Spot>,
     levels: Vec<usize>,
 }
 
@@ -48,10 +55,10 @@ pub fn place_of(literal: Literal) -> usize
     if literal.positive { place + 1 } else { place }
 }
 
-fn set_place(places: &mut Vec<usize>, variable: u32, place: usize) {
+fn set_spot(spots: &mut Vec<Spot>, variable: u32, spot: Spot) {
     let variable = variable as usize;
-    if variable < places.len() {
-        places[variable] = place;
+    if variable < spots.len() {
+        spots[variable] = spot;
     }
 }
 
@@ -84,7 +91,7 @@ impl Trail {
             variables,
             entries: Vec::new(alloc),
             denied: vec![in alloc; false; 2 * variables + 2]?,
-            places: vec![in alloc; 0; variables + 1]?,
+            spots: vec![in alloc; Spot { place: 0, level: 0 }; variables + 1]?,
             levels: Vec::new(alloc),
         })
     }
@@ -108,7 +115,12 @@ impl Trail {
         let place = self.entries.len();
         note_decision(&mut self.levels, entry, place)?;
         self.entries.push(entry)?;
-        set_place(&mut self.places, entry.literal.variable, place);
+        let level = self.levels.len();
+        set_spot(
+            &mut self.spots,
+            entry.literal.variable,
+            Spot { place, level },
+        );
         self.denied[place_of(entry.literal.negation())] = true;
         Ok(())
     }
@@ -179,6 +191,15 @@ impl Trail {
         None
     }
 
+    /// How many decisions led to the variable's value.
+    pub fn level(&self, variable: u32) -> usize {
+        let variable = variable as usize;
+        if variable < self.spots.len() {
+            return self.spots[variable].level;
+        }
+        0
+    }
+
     /// Whether some literal was decided.
     pub fn has_decision(&self) -> bool {
         !self.levels.is_empty()
@@ -207,8 +228,8 @@ impl Trail {
 
     fn place(&self, variable: u32) -> usize {
         let variable = variable as usize;
-        if variable < self.places.len() {
-            return self.places[variable];
+        if variable < self.spots.len() {
+            return self.spots[variable].place;
         }
         0
     }

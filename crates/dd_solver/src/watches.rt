@@ -4,7 +4,7 @@
 // one that is missed costs time. Nor does an invariant say that the places kept here are within their lists: the tests
 // below that look are never false.
 ghost use Rattle.std.specs.Prelude.{◌≡◌, ◌<◌, ◌^◌, length, IfOk, MatchOption, ⊤};
-ghost use Rattle.dd_solver.specs.Entries.{all_known, falses, IsFull};
+ghost use Rattle.dd_solver.specs.Entries.{falses, IsFull};
 ghost use Rattle.dd_solver.specs.Search.{Says, AreOpenBetween};
 
 use crate::database::Database;
@@ -61,7 +61,8 @@ struct Watcher {
 
 /// For each literal the clauses that watch it, and room for such a list while it is passed; the literals of all clauses,
 /// those first that a clause watches, and beside each its clause's number; how many clauses there are; how far the trail
-/// is read, and the list of its next literal; and how many clauses were looked at since they were added.
+/// is read, and the list of its next literal; how many clauses were looked at since they were added; and whether there
+/// are watchers of deleted clauses.
 #[derive(Drop)]
 pub struct Watches {
     lists: Vec<Vec<Watcher>>,
@@ -72,6 +73,7 @@ pub struct Watches {
     read: usize,
     at: usize,
     scanned: u64,
+    has_deleted: bool,
 }
 
 /// What is done with a clause whose watched literal became false: it stays with the other watched literal true, or it
@@ -163,6 +165,11 @@ fn pass_from(
     Ok(None)
 }
 
+fn is_alive(alive: &[bool], number: u32) -> bool {
+    let number = number as usize;
+    number >= 1 && number <= alive.len() && alive[number - 1]
+}
+
 impl Watches {
     /// No clause watches a literal yet.
     pub fn new(alloc: Global, variables: usize) -> Result<Watches, AllocError>
@@ -181,12 +188,13 @@ impl Watches {
             read: 0,
             at: 0,
             scanned: 0,
+            has_deleted: false,
         })
     }
 
     /// The next clause watches its first two literals.
     pub fn add(&mut self, literals: &[Literal]) -> Result<(), AllocError> {
-        let clause = u32::try_from(self.literals.len()).unwrap_or(0);
+        let start = self.literals.len();
         self.count = self.count.saturating_add(1);
         for literal in literals {
             self.literals.push(Code::new(*literal))?;
@@ -194,9 +202,16 @@ impl Watches {
         }
         self.literals.push(END)?;
         self.numbers.push(self.count)?;
-        if literals.len() >= 2 {
-            let first = Code::new(literals[0]);
-            let second = Code::new(literals[1]);
+        let end = self.literals.len();
+        self.watch_first(start, end)
+    }
+
+    /// The clause whose literals begin at a place, and end before another with the mark of an end, watches the first two.
+    fn watch_first(&mut self, start: usize, end: usize) -> Result<(), AllocError> {
+        let clause = u32::try_from(start).unwrap_or(0);
+        if end <= self.literals.len() && start < end && end - start > 2 {
+            let first = self.literals[start];
+            let second = self.literals[start + 1];
             let other = second;
             watch(&mut self.lists, first, Watcher { clause, other })?;
             let other = first;
@@ -205,12 +220,65 @@ impl Watches {
         Ok(())
     }
 
-    /// The trail was cut to this length.
-    pub fn cut(&mut self, length: usize) {
+    /// The literal at a place, and its clause's number.
+    fn literal_at(&self, place: usize) -> Option<(Code, u32)> {
+        if place < self.literals.len() && place < self.numbers.len() {
+            return Some((self.literals[place], self.numbers[place]));
+        }
+        None
+    }
+
+    fn put(&mut self, place: usize, literal: Code, number: u32) {
+        if place < self.literals.len() && place < self.numbers.len() {
+            self.literals[place] = literal;
+            self.numbers[place] = number;
+        }
+    }
+
+    /// Drops the literals of the clauses that are not alive, and their watchers.
+    fn drop_deleted(&mut self, alive: &[bool]) -> Result<(), AllocError> {
+        for list in self.lists.iter_mut() {
+            list.clear();
+        }
+        let mut start = 0usize;
+        let mut kept = 0usize;
+        for place in 0..self.literals.len() {
+            let Some((literal, number)) = self.literal_at(place) else {
+                break;
+            };
+            if is_alive(alive, number) {
+                self.put(kept, literal, number);
+                kept = kept.saturating_add(1);
+                if literal == END {
+                    self.watch_first(start, kept)?;
+                    start = kept;
+                }
+            }
+        }
+        self.literals.truncate(kept);
+        self.numbers.truncate(kept);
+        self.has_deleted = false;
+        self.at = 0;
+        Ok(())
+    }
+
+    /// Some clauses are deleted, if there are such numbers: they are dropped at the next cut.
+    pub fn note_deleted(&mut self, numbers: &[u64]) {
+        if !numbers.is_empty() {
+            self.has_deleted = true;
+        }
+    }
+
+    /// The trail was cut to this length. Of each clause it is told whether it is alive.
+    pub fn cut(&mut self, length: usize, alive: &[bool]) -> Result<(), AllocError> {
         if length <= self.read {
             self.read = length;
             self.at = 0;
         }
+        if self.has_deleted {
+            self.drop_deleted(alive)?;
+        }
+        Ok(())
     }
 
     /// The number of the clause at a place.
@@ -256,7 +324,7 @@ impl Watches {
     /// Reads the trail on from where it was read to, until a clause is falsified or forces a literal: of each literal
     /// that became false all watchers are passed.
     fn read(&mut self, database: &Database, trail: &Trail) -> Result<Scan, AllocError>
-        ensures { IfOk result (Says (all_known database.now) (falses trail.now.entries) ⊤) }
+        ensures { IfOk result (Says database.now (falses trail.now.entries) ⊤) }
     {
         let entries = trail.entries();
         for _ in 0..u64::MAX {
@@ -283,7 +351,7 @@ impl Watches {
     /// have one literal; where each variable has a value, all are looked at once more.
     pub fn find(&mut self, database: &Database, trail: &Trail) -> Result<Scan, AllocError>
         requires { trail.now.variables < 2 ^ 32 }
-        ensures { IfOk result (Says (all_known database.now) (falses trail.now.entries) (IsFull trail.now.variables trail.now.entries → AreOpenBetween (all_known database.now) (falses trail.now.entries) 0 (length database.now))) }
+        ensures { IfOk result (Says database.now (falses trail.now.entries) (IsFull trail.now.variables trail.now.entries → AreOpenBetween database.now (falses trail.now.entries) 0 (length database.now))) }
     {
         match self.read(database, trail)? {
             Scan::Conflict(number) => return Ok(Scan::Conflict(number)),

@@ -1,6 +1,6 @@
 use Rattle.std.proofs.Common.{◌≡◌, ℕ, ◌+◌, ◌-◌, ◌<◌, List, [], ◌∷◌, ◌++◌, length, true, false, None, sym, subst, get_or, arith}
 use Rattle.dd_solver.specs.declared.trail.Entry.{Entry}
-use Rattle.dd_solver.specs.Entries.{all_known, IsTrail}
+use Rattle.dd_solver.specs.Entries.{IsTrail}
 use Rattle.dd_solver.specs.Analysis.{marks}
 use Rattle.dd_solver.proofs.Walk.{Walk, walk_start, walk_past, walk_kept, walk_resolved, walk_turn}
 use Rattle.dd_solver.proofs.analysis.walk_down.Goals as goal
@@ -9,12 +9,12 @@ none : Entry
 none = record { literal = record { variable = 0; positive = false }; reason = None }
 
 pub loop-i-init : goal.loop-i-init
-loop-i-init c = rw (c.entries-entries.ensures, c.in_ok-push.ensures.items, c.new-hints.ensures.items, c.new-literals.ensures.items) (walk_start (length c.mark_clause-open.new.marked) (all_known c.args.database.now) c.args.trail.now.entries c.mark_clause-open.new.marked c.args.conflict c.requires.conflict c.mark_clause-open.ensures.marks)
+loop-i-init c = rw (c.entries-entries.ensures, c.in_ok-push.ensures.items, c.new-hints.ensures.items, c.new-literals.ensures.items) (walk_start (length c.mark_clause-open.new.marked) c.args.database.now c.args.trail.now.entries c.mark_clause-open.new.marked c.args.conflict c.requires.conflict c.mark_clause-open.ensures.marks)
 
 pub loop-i-preserved : goal.loop-i-preserved
 unfolding none
 loop-i-preserved c =
-    let known = all_known c.args.database.now in
+    let known = c.args.database.now in
     let trail = c.args.trail.now.entries in
     let same = c.entries-entries.ensures in
     let n = length c.loop-i.marked in
@@ -29,7 +29,7 @@ loop-i-preserved c =
 pub loop-i-preserved-in-Keep : goal.loop-i-preserved-in-Keep
 unfolding none
 loop-i-preserved-in-Keep c =
-    let known = all_known c.args.database.now in
+    let known = c.args.database.now in
     let trail = c.args.trail.now.entries in
     let same = c.entries-entries.ensures in
     let n = length c.loop-i.marked in
@@ -45,7 +45,7 @@ loop-i-preserved-in-Keep c =
 pub loop-i-preserved-in-Resolve : goal.loop-i-preserved-in-Resolve
 unfolding none
 loop-i-preserved-in-Resolve c =
-    let known = all_known c.args.database.now in
+    let known = c.args.database.now in
     let trail = c.args.trail.now.entries in
     let same = c.entries-entries.ensures in
     let n = length c.loop-i.marked in
@@ -62,7 +62,7 @@ loop-i-preserved-in-Resolve c =
 
 pub returns-clause-turn : goal.returns-clause-turn
 returns-clause-turn c =
-    let known = all_known c.args.database.now in
+    let known = c.args.database.now in
     let trail = c.args.trail.now.entries in
     let n = length c.loop-i.marked in
     let s : n ≡ length c.args.marked.now = omega arith in

@@ -1,9 +1,9 @@
 use Rattle.std.proofs.Common.{◌≡◌, false, ◌+◌, ◌<◌, None, Some, length, take, subst, sym, ap, arith, refl}
 use Rattle.std.specs.Option.{is_none}
-use Rattle.dd_derivation.specs.Derivations.{clauses_before, is_among}
+use Rattle.dd_derivation.specs.Derivations.{is_among}
 use Rattle.dd_solver.specs.declared.trail.Entry.{Entry}
 use Rattle.dd_solver.specs.Entries.{falses, all_known}
-use Rattle.dd_solver.specs.Search.{State, IsForced}
+use Rattle.dd_solver.specs.Search.{State, IsForced, known_through}
 use Rattle.dd_solver.proofs.Moves.{forced_in_range, forced_new, entry_forced, search_push, search_front}
 use Rattle.dd_solver.proofs.Rises.{return_falls}
 use Rattle.dd_solver.proofs.search.Search.backtrack.Goals as goal
@@ -15,26 +15,31 @@ pub assign-requires-clause-in_range : goal.assign-requires-clause-in_range
 assign-requires-clause-in_range c =
     let i = c.self.inside in
     let f : IsForced (record { variables = i.trail.variables; clauses = i.clauses.now; steps = i.steps.items; entries = i.trail.entries }) c.args.turn = subst (λ (s : State). IsForced s c.args.turn) (sym c.self.view_is) c.requires in
-    rw c.undo.ensures.variables (forced_in_range (clauses_before i.clauses.now i.steps.items) i.trail.variables (is_among (falses (take c.args.turn.place i.trail.entries))) _ c.args.turn.literal c.self.invariant.0.in_range f.forces)
+    rw c.undo.ensures.variables (forced_in_range (known_through (all_known i.clauses.now) i.steps.items) i.trail.variables (is_among (falses (take c.args.turn.place i.trail.entries))) _ c.args.turn.literal c.self.invariant.0.in_range f.forces)
 
 pub assign-requires-clause-fresh : goal.assign-requires-clause-fresh
 assign-requires-clause-fresh c =
     let i = c.self.inside in
     let f : IsForced (record { variables = i.trail.variables; clauses = i.clauses.now; steps = i.steps.items; entries = i.trail.entries }) c.args.turn = subst (λ (s : State). IsForced s c.args.turn) (sym c.self.view_is) c.requires in
-    rw c.undo.ensures.entries (forced_new (all_known (clauses_before i.clauses.now i.steps.items)) (falses (take c.args.turn.place i.trail.entries)) _ c.args.turn.literal f.forces)
+    rw c.undo.ensures.entries (forced_new (known_through (all_known i.clauses.now) i.steps.items) (falses (take c.args.turn.place i.trail.entries)) _ c.args.turn.literal f.forces)
+
+pub invariant_of-self-in_err-assign : goal.invariant_of-self-in_err-assign
+invariant_of-self-in_err-assign c =
+    let i = c.self.inside in
+    rw (c.assign.ensures.variables, c.undo.ensures.variables, c.in_err-assign.ensures.failed, c.undo.ensures.entries) (search_front i.trail.variables i.clauses.now i.steps.items i.trail.entries c.self.invariant.0 c.args.turn.place, c.self.invariant.1, c.self.invariant.2, c.self.invariant.3)
 
 pub invariant_of-self-2 : goal.invariant_of-self-2
 invariant_of-self-2 c =
     let i = c.self.inside in
     let n = i.trail.variables in
-    let cs = clauses_before i.clauses.now i.steps.items in
+    let now = known_through (all_known i.clauses.now) i.steps.items in
     let front = take c.args.turn.place i.trail.entries in
     let last = length i.clauses.now + length i.steps.items in
     let e : Entry = record { literal = c.args.turn.literal; reason = Some last } in
     let f : IsForced (record { variables = n; clauses = i.clauses.now; steps = i.steps.items; entries = i.trail.entries }) c.args.turn = subst (λ (s : State). IsForced s c.args.turn) (sym c.self.view_is) c.requires in
     let number : length i.clauses.now + c.len.result ≡ last = omega (arith, i.steps.ok.0) in
-    let o = entry_forced n cs front last c.args.turn.literal c.self.invariant.0.in_range f.forces in
-    rw (c.assign.ensures.variables, c.undo.ensures.variables, c.in_ok-assign.ensures.entries, c.undo.ensures.entries, number) (search_push n i.clauses.now i.steps.items front e (search_front n i.clauses.now i.steps.items i.trail.entries c.args.turn.place c.self.invariant.0) o, c.self.invariant.1, c.self.invariant.2)
+    let o = entry_forced n now front last c.args.turn.literal c.self.invariant.0.in_range f.forces in
+    rw (c.assign.ensures.variables, c.undo.ensures.variables, c.in_ok-assign.ensures.entries, c.undo.ensures.entries, number) (search_push n i.clauses.now i.steps.items front (search_front n i.clauses.now i.steps.items i.trail.entries c.self.invariant.0 c.args.turn.place) e o, c.self.invariant.1, c.self.invariant.2, c.self.invariant.3)
 
 pub returns-clause-left : goal.returns-clause-left
 unfolding none

@@ -1,11 +1,12 @@
-use Rattle.std.proofs.Common.{◌≡◌, List, Some, length, subst, ap, ◌∙◌, arith}
+use Rattle.std.proofs.Common.{◌≡◌, List, Option, Some, length, subst, ◌∙◌, arith}
 use Rattle.dd_clause.specs.declared.clause.Literal.{Literal}
 use Rattle.dd_derivation.specs.declared.propagation.Finding.TheVariants.{Forced}
-use Rattle.dd_derivation.specs.Derivations.{clauses_before, hint_finding, is_among}
+use Rattle.dd_derivation.specs.Derivations.{hint_finding, is_among}
 use Rattle.dd_solver.specs.declared.trail.Entry.{Entry}
 use Rattle.dd_solver.specs.Entries.{IsFull, falses, all_known}
-use Rattle.dd_solver.specs.Search.{AreOpenBetween}
+use Rattle.dd_solver.specs.Search.{AreOpenBetween, known_through}
 use Rattle.dd_solver.proofs.Moves.{forced_in_range, forced_new, entry_forced, search_push, all_open}
+use Rattle.dd_solver.proofs.Numbers.{Known}
 use Rattle.dd_solver.proofs.Rises.{push_falls}
 use Rattle.dd_solver.proofs.search.Search.propagate.Goals as goal
 
@@ -13,17 +14,18 @@ pub assign-requires-clause-in_range : goal.assign-requires-clause-in_range
 assign-requires-clause-in_range c =
     let s = c.turns.self-inside in
     let p = is_among (falses s.trail.entries) in
-    let u : hint_finding (all_known c.new-database.result) p c.in-Unit.number ≡ Forced c.in-Unit.literal = rw c.in-Unit.is at c.in_ok-found.ensures in
-    let d = c.new-database.ensures ∙ ap (clauses_before s.clauses.now) c.as_slice.ensures.value in
-    let h = subst (λ (cs : List (List Literal)). hint_finding (all_known cs) p c.in-Unit.number ≡ Forced c.in-Unit.literal) d u in
-    forced_in_range (clauses_before s.clauses.now s.steps.items) s.trail.variables p c.in-Unit.number c.in-Unit.literal c.turns.invariant.search.in_range h
+    let now = known_through (all_known s.clauses.now) s.steps.items in
+    let u : hint_finding c.new-database.result p c.in-Unit.number ≡ Forced c.in-Unit.literal = rw c.in-Unit.is at c.in_ok-found.ensures in
+    let d : c.new-database.result ≡ now = c.new-database.ensures ∙ rw (c.as_slice.ensures.value, c.as_slice-in-turns.ensures.value) c.turns.invariant.alive.same in
+    let h = subst (λ (known : Known). hint_finding known p c.in-Unit.number ≡ Forced c.in-Unit.literal) d u in
+    forced_in_range now s.trail.variables p c.in-Unit.number c.in-Unit.literal c.turns.invariant.search.in_range h
 
 pub assign-requires-clause-fresh : goal.assign-requires-clause-fresh
 assign-requires-clause-fresh c =
     let s = c.turns.self-inside in
     let p = is_among (falses s.trail.entries) in
-    let u : hint_finding (all_known c.new-database.result) p c.in-Unit.number ≡ Forced c.in-Unit.literal = rw c.in-Unit.is at c.in_ok-found.ensures in
-    forced_new (all_known c.new-database.result) (falses s.trail.entries) c.in-Unit.number c.in-Unit.literal u
+    let u : hint_finding c.new-database.result p c.in-Unit.number ≡ Forced c.in-Unit.literal = rw c.in-Unit.is at c.in_ok-found.ensures in
+    forced_new c.new-database.result (falses s.trail.entries) c.in-Unit.number c.in-Unit.literal u
 
 pub turns-smaller : goal.turns-smaller
 turns-smaller c =
@@ -35,17 +37,18 @@ pub turns-preserved : goal.turns-preserved
 turns-preserved c =
     let s = c.turns.self-inside in
     let v = c.turns.invariant in
-    let cs = clauses_before s.clauses.now s.steps.items in
     let p = is_among (falses s.trail.entries) in
-    let u : hint_finding (all_known c.new-database.result) p c.in-Unit.number ≡ Forced c.in-Unit.literal = rw c.in-Unit.is at c.in_ok-found.ensures in
-    let d = c.new-database.ensures ∙ ap (clauses_before s.clauses.now) c.as_slice.ensures.value in
-    let h = subst (λ (xs : List (List Literal)). hint_finding (all_known xs) p c.in-Unit.number ≡ Forced c.in-Unit.literal) d u in
+    let now = known_through (all_known s.clauses.now) s.steps.items in
+    let u : hint_finding c.new-database.result p c.in-Unit.number ≡ Forced c.in-Unit.literal = rw c.in-Unit.is at c.in_ok-found.ensures in
+    let d : c.new-database.result ≡ now = c.new-database.ensures ∙ rw (c.as_slice.ensures.value, c.as_slice-in-turns.ensures.value) v.alive.same in
+    let h = subst (λ (known : Known). hint_finding known p c.in-Unit.number ≡ Forced c.in-Unit.literal) d u in
     let e : Entry = record { literal = c.in-Unit.literal; reason = Some c.in-Unit.number } in
-    let o = entry_forced s.trail.variables cs s.trail.entries c.in-Unit.number c.in-Unit.literal v.search.in_range h in
+    let o = entry_forced s.trail.variables now s.trail.entries c.in-Unit.number c.in-Unit.literal v.search.in_range h in
     let less = push_falls s.trail.variables s.trail.entries e c.in_ok-assign-in-Unit.ensures.room in
     rw (c.assign.ensures.variables, c.in_ok-assign-in-Unit.ensures.entries) (record {
-      search = search_push s.trail.variables s.clauses.now s.steps.items s.trail.entries e v.search o;
+      search = search_push s.trail.variables s.clauses.now s.steps.items s.trail.entries v.search e o;
       marked = v.marked;
+      alive = v.alive;
       few = v.few;
       variables = v.variables;
       clauses = v.clauses;
@@ -57,7 +60,8 @@ pub returns-in-Nothing-clause-conflict : goal.returns-in-Nothing-clause-conflict
 returns-in-Nothing-clause-conflict c =
     let s = c.turns.self-inside in
     let p = is_among (falses s.trail.entries) in
-    let d = c.new-database.ensures ∙ ap (clauses_before s.clauses.now) c.as_slice.ensures.value in
-    let o : IsFull s.trail.variables s.trail.entries → AreOpenBetween (all_known c.new-database.result) (falses s.trail.entries) 0 (length c.new-database.result) = rw c.in-Nothing.is at c.in_ok-found.ensures in
-    let h = subst (λ (cs : List (List Literal)). IsFull s.trail.variables s.trail.entries → AreOpenBetween (all_known cs) (falses s.trail.entries) 0 (length cs)) d o in
-    λ full. all_open (clauses_before s.clauses.now s.steps.items) p (h full)
+    let now = known_through (all_known s.clauses.now) s.steps.items in
+    let d : c.new-database.result ≡ now = c.new-database.ensures ∙ rw (c.as_slice.ensures.value, c.as_slice-in-turns.ensures.value) c.turns.invariant.alive.same in
+    let o : IsFull s.trail.variables s.trail.entries → AreOpenBetween c.new-database.result (falses s.trail.entries) 0 (length c.new-database.result) = rw c.in-Nothing.is at c.in_ok-found.ensures in
+    let h = subst (λ (known : Known). IsFull s.trail.variables s.trail.entries → AreOpenBetween known (falses s.trail.entries) 0 (length known)) d o in
+    λ full. all_open now p (h full)

@@ -1,5 +1,5 @@
 use Rattle.std.proofs.Common.{◌≡◌, ◌<◌, ◌≤◌, ◌^◌, length}
-use Rattle.dd_solver.specs.Search.{IsSearch, left}
+use Rattle.dd_solver.specs.Search.{IsSearch, AreAlive, left}
 use Rattle.dd_solver.proofs.search.Search.propagate.Given as goal
 
 abbrev pub invariant-turns : goal.invariant-turns
@@ -9,6 +9,7 @@ invariant-turns l =
     record {
       search : IsSearch (record { variables = s.trail.variables; clauses = s.clauses.now; steps = s.steps.items; entries = s.trail.entries });
       marked : length s.marked.items ≡ s.trail.variables;
+      alive : AreAlive s.clauses.now s.steps.items s.alive.items;
       few : s.trail.variables < 2 ^ 32;
       variables : s.trail.variables ≡ first.trail.variables;
       clauses : s.clauses.now ≡ first.clauses.now;

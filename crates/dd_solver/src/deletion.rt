@@ -1,0 +1,235 @@
+// Which learned clauses are deleted, and when. The literals of a learned clause got their values between so many decisions:
+// the fewer, the more it is worth (Audemard and Simon 2009). From time to time the worse half goes, but none that forced
+// a literal of the trail. What is chosen is looked at exactly, so no promise rests on what is kept here.
+ghost use Rattle.std.specs.Prelude.{◌≡◌, ℕ, List, ◌<◌, false, length, IfOk, Some, slice_index_or};
+ghost use Rattle.dd_clause.specs.declared.clause.Literal.{Literal};
+ghost use Rattle.dd_derivation.specs.Derivations.{known_after};
+ghost use Rattle.dd_derivation.specs.MarksOf.{known_of};
+ghost use Rattle.dd_solver.specs.Deleting.{AreChosen, MayDelete};
+
+use crate::database::Database;
+use crate::trail::{Entry, Trail};
+use dd_clause::Literal;
+use std::alloc::{AllocError, Global};
+
+/// After how many learned clauses some are deleted first.
+const FIRST_REVIEW: usize = 4000;
+
+/// How many more there are before the next time, and how many more each time.
+const FIRST_GAP: usize = 2000;
+
+const GAP_GROWTH: usize = 300;
+
+/// Clauses of so many levels or literals, or of fewer, are kept.
+const KEPT_LEVELS: u32 = 2;
+
+const KEPT_LENGTH: usize = 2;
+
+/// A learned clause that may be deleted. The least are kept: those of few levels, then the short, then the new.
+#[derive(Clone, Copy, PartialEq, Eq, PartialOrd, Ord)]
+struct Candidate {
+    levels: u32,
+    length: usize,
+    age: usize,
+}
+
+/// Of clauses by their numbers, from 1, whether they are alive: those of these numbers that there are no longer are.
+pub fn forget(alive: &mut [bool], numbers: &[u64])
+    ensures { (cs : List (List Literal)) → known_of cs alive.new ≡ known_after (known_of cs alive.old) numbers.now }
+{
+    for number in numbers {
+        if *number >= 1 {
+            let place = (*number - 1) as usize;
+            if place < alive.len() {
+                alive[place] = false;
+            }
+        }
+    }
+}
+
+/// Of each learned clause its number of levels; of each level when it was last counted, and the number of that count; at
+/// how many learned clauses the next review is, and how many came between the last two.
+#[derive(Drop)]
+pub struct Deletion {
+    levels: Vec<u32>,
+    counted: Vec<u64>,
+    counts: u64,
+    next: usize,
+    gap: usize,
+}
+
+/// Of each number, that it isn't to be deleted where it is that of a clause that forced an entry.
+fn spare_reasons(entries: &[Entry], chosen: &mut [bool])
+    ensures { AreChosen entries.now chosen.new }
+{
+    for entry in entries {
+        if let Some(number) = entry.reason {
+            let number = number as usize;
+            if number < chosen.len() {
+                chosen[number] = false;
+            }
+        }
+    }
+}
+
+/// The chosen numbers behind those of the list's clauses, which have a clause.
+fn take_chosen(
+    alloc: Global,
+    database: &Database,
+    clauses: usize,
+    entries: &[Entry],
+    chosen: &[bool],
+) -> Result<Vec<u64>, AllocError>
+    requires { AreChosen entries.now chosen.now }
+    ensures { IfOk result (λ deletes. MayDelete database.now clauses entries.now deletes.items) }
+{
+    let mut deletes: Vec<u64> = Vec::new(alloc);
+    for place in clauses..chosen.len() {
+        if place > clauses && chosen[place] {
+            if let Some(_) = database.find_clause(place as u64) {
+                deletes.push(place as u64)?;
+            }
+        }
+    }
+    Ok(deletes)
+}
+
+impl Deletion {
+    /// Nothing is learned yet.
+    pub fn new(alloc: Global, variables: usize) -> Result<Deletion, AllocError> {
+        Ok(Deletion {
+            levels: Vec::new(alloc),
+            counted: vec![in alloc; 0; variables.saturating_add(1)]?,
+            counts: 0,
+            next: FIRST_REVIEW,
+            gap: FIRST_GAP,
+        })
+    }
+
+    /// Between how many decisions the literals got their values.
+    fn count_levels(&mut self, trail: &Trail, literals: &[Literal]) -> u32 {
+        self.counts = self.counts.saturating_add(1);
+        let mut count = 0u32;
+        for literal in literals {
+            let level = trail.level(literal.variable);
+            if level >= 1 && level < self.counted.len() && self.counted[level] != self.counts {
+                self.counted[level] = self.counts;
+                count = count.saturating_add(1);
+            }
+        }
+        count
+    }
+
+    /// The place of the levels of a learned clause, by its number.
+    fn place(&self, clauses: usize, number: u64) -> Option<usize> {
+        let number = number as usize;
+        if number > clauses && number - clauses <= self.levels.len() {
+            return Some(number - clauses - 1);
+        }
+        None
+    }
+
+    /// The number of levels that the clause of this number has now, where it is a learned one and they became fewer.
+    fn lower(&mut self, database: &Database, trail: &Trail, clauses: usize, number: u64) {
+        let Some(place) = self.place(clauses, number) else {
+            return;
+        };
+        if let Some(literals) = database.find_clause(number) {
+            let levels = self.count_levels(trail, literals);
+            if place < self.levels.len() && levels < self.levels[place] {
+                self.levels[place] = levels;
+            }
+        }
+    }
+
+    /// The learned clauses that may be deleted.
+    fn find_candidates(
+        &self,
+        alloc: Global,
+        database: &Database,
+        clauses: usize,
+        chosen: &[bool],
+    ) -> Result<Vec<Candidate>, AllocError> {
+        let mut candidates: Vec<Candidate> = Vec::new(alloc);
+        for (place, levels) in self.levels.iter().enumerate() {
+            let number = place.saturating_add(clauses).saturating_add(1);
+            if *levels > KEPT_LEVELS && number < chosen.len() && chosen[number] {
+                if let Some(literals) = database.find_clause(number as u64) {
+                    if literals.len() > KEPT_LENGTH {
+                        candidates.push(Candidate {
+                            levels: *levels,
+                            length: literals.len(),
+                            age: self.levels.len() - place,
+                        })?;
+                    }
+                }
+            }
+        }
+        Ok(candidates)
+    }
+
+    /// Of each number, whether it is to be deleted: the worse half of those that may be.
+    fn choose(
+        &self,
+        alloc: Global,
+        database: &Database,
+        entries: &[Entry],
+        clauses: usize,
+    ) -> Result<Vec<bool>, AllocError>
+        ensures { IfOk result (λ chosen. AreChosen entries.now chosen.items) }
+    {
+        let newest = self.levels.len().saturating_add(clauses);
+        let mut possible = vec![in alloc; true; newest.saturating_add(1)]?;
+        spare_reasons(entries, possible.as_mut_slice());
+        let mut candidates = self.find_candidates(alloc, database, clauses, possible.as_slice())?;
+        candidates.sort_unstable();
+        let mut chosen = vec![in alloc; false; newest.saturating_add(1)]?;
+        for place in candidates.len() / 2..candidates.len() {
+            let number = newest
+                .saturating_sub(candidates[place].age)
+                .saturating_add(1);
+            if number < chosen.len() {
+                chosen[number] = true;
+            }
+        }
+        spare_reasons(entries, chosen.as_mut_slice());
+        Ok(chosen)
+    }
+
+    /// Whether some learned clauses are to be deleted now.
+    fn is_due(&mut self) -> bool {
+        if self.levels.len() < self.next {
+            return false;
+        }
+        self.gap = self.gap.saturating_add(GAP_GROWTH);
+        self.next = self.next.saturating_add(self.gap);
+        true
+    }
+
+    /// A clause of these literals is learned by these hints, with `clauses` clauses in the list. Gives the numbers of
+    /// those that are deleted with it.
+    pub fn review(
+        &mut self,
+        alloc: Global,
+        database: &Database,
+        trail: &Trail,
+        clauses: usize,
+        literals: &[Literal],
+        hints: &[u64],
+    ) -> Result<Vec<u64>, AllocError>
+        ensures { IfOk result (λ deletes. MayDelete database.now clauses trail.now.entries deletes.items) }
+    {
+        for hint in hints {
+            self.lower(database, trail, clauses, *hint);
+        }
+        let entries = trail.entries();
+        let chosen = if self.is_due() {
+            self.choose(alloc, database, entries, clauses)?
+        } else {
+            Vec::new(alloc)
+        };
+        let levels = self.count_levels(trail, literals);
+        self.levels.push(levels)?;
+        take_chosen(alloc, database, clauses, entries, chosen.as_slice())
+    }
+}
