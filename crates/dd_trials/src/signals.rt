@@ -6,7 +6,7 @@ ghost use Rattle.dd_lattice.specs.Order.{cell_cmp};
 use crate::fillings::{at_origin, filling, truth};
 use crate::scripts::script_of;
 use dd_circuit::{Circuit, Signal};
-use dd_compile::{Inputs, compile_rule, reads_are_wired};
+use dd_compile::{Inputs, compile_rule, compile_template, place_template, reads_are_wired};
 use dd_counts::patterns;
 use dd_formula::Rule;
 use dd_lattice::{Cell, Position, in_order};
@@ -44,7 +44,29 @@ fn inputs_of(alloc: Global, cells: &[Cell], symbols: u32) -> Result<Inputs, Allo
     Ok(inputs)
 }
 
-/// The gates of the rule at a node of the origin, and their signal.
+/// The gates of the rule's template at a node of the origin, over so many variables, and their signal.
+fn placed(
+    alloc: Global,
+    rule: &Rule,
+    node: u32,
+    inputs: &Inputs,
+    variables: u32,
+) -> Result<(Circuit, Signal), Fail>
+    requires node { node < rule.now.nodes }
+    requires few { variables ≤ 64 }
+{
+    let mut circuit = Circuit::new(alloc, variables);
+    let position = Position { x: 0, y: 0, z: 0 };
+    let at = Cell { position, node };
+    if !reads_are_wired(&circuit, rule, &at, inputs) {
+        return Err("a variable for each symbol of each cell that is read".into());
+    }
+    let template = compile_template(alloc, rule, node)?;
+    let signal = place_template(&mut circuit, alloc, &template, &at, inputs)?;
+    Ok((circuit, signal))
+}
+
+/// The gates of the rule at a node of the origin, and their signal. Its template gives the same.
 fn compiled(
     alloc: Global,
     rule: &Rule,
@@ -64,7 +86,11 @@ fn compiled(
     if !reads_are_wired(&circuit, rule, &at, &inputs) {
         return Err("a variable for each symbol of each cell that is read".into());
     }
+    let (gates, same) = placed(alloc, rule, node, &inputs, circuit.inputs())?;
     let signal = compile_rule(&mut circuit, alloc, rule, &at, &inputs)?;
+    if same != signal || gates.gates() != circuit.gates() {
+        return Err("the gates of the template".into());
+    }
     Ok((circuit, signal))
 }
 
