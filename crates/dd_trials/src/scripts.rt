@@ -12,11 +12,11 @@ fn joined(alloc: Global, parts: &[&str]) -> Result<Vec<u8>, AllocError> {
     Ok(bytes)
 }
 
-/// The script of a text in parts.
-pub(crate) fn script_of(alloc: Global, parts: &[&str]) -> Result<Script, Fail> {
+/// The script of a text in parts, in a box: what owns it drops one thing.
+pub(crate) fn script_of(alloc: Global, parts: &[&str]) -> Result<Box<Script>, Fail> {
     let bytes = joined(alloc, parts)?;
     if bytes.len() > 1_048_576 {
         return Err("a short script".into());
     }
-    Ok(parse(alloc, &bytes)?)
+    Ok(Box::new(alloc, parse(alloc, &bytes)?)?)
 }
