@@ -10,21 +10,21 @@ use Rattle.dd_lattice.specs.declared.position.Cell.{Cell}
 use Rattle.dd_pattern.specs.Periods.{base_of, periods_of}
 use Rattle.dd_pattern.specs.Reading.{Look, IsBelow}
 use Rattle.dd_pattern.specs.Tile.{Tile, IsTile, IsPeriodic, IsInBox, tile, tile_index, tile_look, cell_in}
-use Rattle.dd_pattern.proofs.TileLaws.{base_moved, look_same}
-use Rattle.dd_pattern.proofs.TileSizes.{index_below}
-use Rattle.dd_pattern.proofs.BoxLaws.{cell_at_index}
+use Rattle.dd_pattern.specs.lemmas.TileLaws.{base_moved, look_same}
+use Rattle.dd_pattern.specs.lemmas.TileSizes.{index_below}
+use Rattle.dd_pattern.specs.lemmas.BoxLaws.{cell_at_index}
 use Rattle.dd_expansion.specs.Truth.{are_equal}
 use Rattle.dd_expansion.specs.Placed.{is_flat}
-use Rattle.dd_expansion.proofs.ListTests.{list_all-weaker}
+use Rattle.dd_expansion.specs.lemmas.ListTests.{list_all-weaker}
 use Rattle.dd_formula.specs.LocalRule.{is_near}
 use Rattle.dd_formula.specs.Automata.{Setting, Counted, IsAutomaton, value, counted, cases_reads, is_cell_of}
 use Rattle.dd_formula.specs.Values.{IsPlaced, CasesArePlaced, HasCasesLook, are_given}
 use Rattle.dd_formula.specs.declared.automaton.Automaton.{Automaton}
 use Rattle.dd_formula.specs.declared.automaton.Automaton.TheVariants as v
 use Rattle.dd_formula.specs.declared.automaton.Cases.{Cases}
-use Rattle.dd_formula.proofs.AutomatonLaws.{counted_given, near_reads, fits_given, outer_part, inner_part}
-use Rattle.dd_formula.proofs.Reached.{read_given, below_at}
-use Rattle.dd_formula.proofs.ValueLaws.{value_composed, value_by_reads, value_below, equal_values}
+use Rattle.dd_formula.specs.lemmas.AutomatonLaws.{counted_given, near_reads, fits_given, outer_part, inner_part}
+use Rattle.dd_formula.specs.lemmas.Reached.{read_given, below_at}
+use Rattle.dd_formula.specs.lemmas.ValueLaws.{value_composed, value_by_reads, value_below, equal_values}
 use Rattle.dd_automaton.specs.Images.{numbers_of, IsDefinedOn, IsImage}
 
 -- a cell with one of the nodes has a symbol

@@ -6,13 +6,13 @@ use Rattle.dd_lattice.specs.Place.{Place, place}
 use Rattle.dd_pattern.specs.declared.periods.Periods.{Periods}
 use Rattle.dd_pattern.specs.Periods.{base_of, residue, quotient, unsheared}
 use Rattle.dd_pattern.specs.Tile.{Tile, IsTile, IsPeriodic, IsInBox, tile_look}
-use Rattle.dd_pattern.proofs.Residues.{residue_small, quotient_small}
-use Rattle.dd_pattern.proofs.TileLaws.{place_same}
+use Rattle.dd_pattern.specs.lemmas.Residues.{residue_small, quotient_small}
+use Rattle.dd_pattern.specs.lemmas.TileLaws.{place_same}
 use Rattle.dd_expansion.specs.Terms.{origin_at}
 use Rattle.dd_formula.specs.Automata.{value, counted}
 use Rattle.dd_formula.specs.Values.{IsPlaced, HasLook, is_read}
 use Rattle.dd_formula.specs.declared.automaton.Automaton.{Automaton}
-use Rattle.dd_formula.proofs.AutomatonLaws.{near_reads}
+use Rattle.dd_formula.specs.lemmas.AutomatonLaws.{near_reads}
 use Rattle.dd_automaton.specs.Images.{numbers_of, IsDefinedOn}
 use Rattle.dd_automaton.proofs.ImageLaws.{given_all, tile_is_below}
 

@@ -1,16 +1,16 @@
 -- What certificates claim.
 use Rattle.std.proofs.Common.{ℕ, List}
 use Rattle.dd_derivation.specs.declared.step.Step.{Step}
-use Rattle.dd_derivation.proofs.Soundness.{refutes_sound}
+use Rattle.dd_derivation.specs.lemmas.Soundness.{refutes_sound}
 use Rattle.dd_formula.specs.LocalRule.{LocalRule, IsRule}
 use Rattle.dd_boxes.specs.declared.limits.Limits.{Limits}
 use Rattle.dd_boxes.specs.Goals.{GoalOf, breaks, IsGoalFor}
 use Rattle.dd_boxes.specs.Boxes.{Suffices, HoldsNowhere}
-use Rattle.dd_boxes.proofs.FromBox.{from_least, holds_nowhere}
+use Rattle.dd_boxes.specs.lemmas.FromBox.{from_least, holds_nowhere}
 use Rattle.dd_pattern.specs.Tile.{Tile}
 use Rattle.dd_problem.specs.Problems.{box_problem}
 use Rattle.dd_problem.specs.Told.{IsToldGoal}
-use Rattle.dd_problem.proofs.BoxShows.{box_shows, shown_decides}
+use Rattle.dd_problem.specs.lemmas.BoxShows.{box_shows, shown_decides}
 use Rattle.dd_certificate.specs.declared.answer.Side.TheVariants as side
 use Rattle.dd_certificate.specs.declared.answer.Side.{Side}
 use Rattle.dd_certificate.specs.declared.answer.Answer.{Answer}

@@ -9,11 +9,11 @@ use Rattle.std.specs.Cmp.{IsTotalOrder}
 use Rattle.std.proofs.lemmas.Cmp.{nat_cmp_total, int_cmp_total, on_total, then_total}
 use Rattle.dd_lattice.specs.declared.position.Cell.{Cell}
 use Rattle.dd_lattice.specs.Order.{cell_cmp}
-use Rattle.dd_lattice.proofs.InOrderLaws.{cells_equal}
+use Rattle.dd_lattice.specs.lemmas.InOrderLaws.{cells_equal}
 use Rattle.dd_lattice.specs.Place.{Place}
 use Rattle.dd_pattern.specs.Periods.{residue}
 use Rattle.dd_pattern.specs.Tile.{Tile, IsTile, IsInBox}
-use Rattle.dd_pattern.proofs.Residues.{residue_below}
+use Rattle.dd_pattern.specs.lemmas.Residues.{residue_below}
 use Rattle.dd_expansion.specs.Placed.{is_flat}
 use Rattle.dd_formula.specs.LocalRule.{LocalRule}
 use Rattle.dd_formula.specs.Living.{Fits, Lives, IsFirstFalse}

@@ -15,13 +15,13 @@ use Rattle.dd_lattice.specs.declared.position.Cell.{Cell}
 use Rattle.dd_lattice.specs.Place.{Place}
 use Rattle.dd_lattice.specs.Cells.{cell, shifted}
 use Rattle.dd_lattice.specs.Order.{cell_cmp}
-use Rattle.dd_lattice.proofs.InOrderLaws.{cells_equal, list_all-in_order}
+use Rattle.dd_lattice.specs.lemmas.InOrderLaws.{cells_equal, list_all-in_order}
 use Rattle.dd_pattern.specs.Reading.{Look}
 use Rattle.dd_pattern.specs.Filling.{filled, filling_look}
 use Rattle.dd_formula.specs.LocalRule.{LocalRule, is_true, reads_at, cells_at}
 use Rattle.dd_forbidden.specs.Breaking.{is_kept, IsBreaking}
 use Rattle.dd_boxes.specs.Boxes.{origin}
-use Rattle.dd_boxes.proofs.RuleLaws.{keeps_at, shifted_by_origin}
+use Rattle.dd_boxes.specs.lemmas.RuleLaws.{keeps_at, shifted_by_origin}
 use Rattle.dd_certificate.specs.declared.answer.Listed.{Listed}
 use Rattle.dd_certificate.specs.declared.answer.Answer.{Answer}
 use Rattle.dd_certificate.specs.declared.answer.Answer.TheVariants as answer

@@ -8,16 +8,16 @@ use Rattle.dd_lattice.specs.Cells.{cell}
 use Rattle.dd_lattice.specs.declared.position.Cell.{Cell}
 use Rattle.dd_pattern.specs.declared.periods.Periods.{Periods}
 use Rattle.dd_pattern.specs.Periods.{base_of, residue, quotient, unsheared}
-use Rattle.dd_pattern.proofs.Residues.{residue_small, quotient_small}
+use Rattle.dd_pattern.specs.lemmas.Residues.{residue_small, quotient_small}
 use Rattle.dd_pattern.specs.Tile.{Tile, IsTile, IsPeriodic, IsInBox, tile_index, tile_look, cell_in}
-use Rattle.dd_pattern.proofs.BoxLaws.{cell_at_index, index_of_cell, in_box}
-use Rattle.dd_pattern.proofs.TileSizes.{index_below}
+use Rattle.dd_pattern.specs.lemmas.BoxLaws.{cell_at_index, index_of_cell, in_box}
+use Rattle.dd_pattern.specs.lemmas.TileSizes.{index_below}
 use Rattle.dd_formula.specs.LocalRule.{LocalRule, IsRule, rule_allows, is_true, is_given}
 use Rattle.dd_formula.specs.Allowed.{HasAllowed}
 use Rattle.dd_formula.specs.Living.{Fits}
-use Rattle.dd_formula.proofs.Reached.{box_given}
+use Rattle.dd_formula.specs.lemmas.Reached.{box_given}
 use Rattle.dd_boxes.specs.Boxes.{origin}
-use Rattle.dd_boxes.proofs.RuleLaws.{place_same}
+use Rattle.dd_boxes.specs.lemmas.RuleLaws.{place_same}
 
 -- ---- allowed symbols
 

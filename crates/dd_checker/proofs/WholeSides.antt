@@ -17,16 +17,16 @@ use Rattle.dd_expansion.specs.Placed.{is_flat}
 use Rattle.dd_formula.specs.LocalRule.{LocalRule, IsRule, rule_allows}
 use Rattle.dd_formula.specs.Living.{Obeys}
 use Rattle.dd_boxes.specs.Fillings.{Admissible, IsConfiguration}
-use Rattle.dd_boxes.proofs.RuleLaws.{reads_given, keeps_at}
-use Rattle.dd_boxes.proofs.CutLaws.{cond_domain}
+use Rattle.dd_boxes.specs.lemmas.RuleLaws.{reads_given, keeps_at}
+use Rattle.dd_boxes.specs.lemmas.CutLaws.{cond_domain}
 use Rattle.dd_discharge.specs.declared.bound.Bound.{Bound}
 use Rattle.dd_discharge.specs.Amounts.{held_over}
 use Rattle.dd_sides.specs.Sides.{run, side, is_near_run, is_in_grown, is_grown_cell, IsSideFilling, position_weight, side_weight}
 use Rattle.dd_sides.specs.Boundaries.{boundary}
 use Rattle.dd_sides.specs.Lifted.{reach_of, HoldsOnSides}
-use Rattle.dd_sides.proofs.BoxLaws.{IsAt, box_at_most}
-use Rattle.dd_sides.proofs.GroundCells.{range_below}
-use Rattle.dd_sides.proofs.WordLaws.{mapped_alike}
+use Rattle.dd_sides.specs.lemmas.BoxLaws.{IsAt, box_at_most}
+use Rattle.dd_sides.specs.lemmas.GroundCells.{range_below}
+use Rattle.dd_sides.specs.lemmas.WordLaws.{mapped_alike}
 
 -- ---- the grown box lies in Z^d
 

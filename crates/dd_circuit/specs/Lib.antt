@@ -1,2 +1,4 @@
 pub mod Circuits
 pub mod Valuations
+-- lemmas on what stands above, with their proofs, for whoever cites them
+pub mod lemmas

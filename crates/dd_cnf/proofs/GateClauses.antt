@@ -8,7 +8,7 @@ use Rattle.dd_clause.specs.declared.clause.Literal.{Literal}
 use Rattle.dd_clause.specs.Clauses.{IsInRange, IsClauseInRange}
 use Rattle.dd_circuit.specs.declared.gates.Signal.{Signal}
 use Rattle.dd_circuit.specs.Circuits.{IsSignal, IsGate, AreGates}
-use Rattle.dd_circuit.proofs.GateLists.{AreGates-drop, gate_within}
+use Rattle.dd_circuit.specs.lemmas.GateLists.{AreGates-drop, gate_within}
 use Rattle.dd_circuit.specs.declared.gates.Gate.{Gate}
 use Rattle.dd_cnf.specs.Encoding.{signed, gate_clauses, gates_clauses}
 

@@ -1,3 +1,1 @@
 pub mod GateClauses
-pub mod GateLaws
-pub mod ModelLaws

@@ -7,8 +7,8 @@ use Rattle.dd_commands.specs.declared.command.Command.{Command}
 use Rattle.dd_commands.specs.declared.script.Written.{Written}
 use Rattle.dd_commands.specs.declared.script.Syntax.{Syntax}
 use Rattle.dd_commands.specs.Scripts.{parts, next_of, MayStand, AreCommands, IsFirstBad, IsScript, IsFault}
-use Rattle.dd_commands.proofs.Options.{some_is}
-use Rattle.dd_commands.proofs.CommandComplete.{command_again}
+use Rattle.dd_commands.specs.lemmas.Options.{some_is}
+use Rattle.dd_commands.specs.lemmas.CommandComplete.{command_again}
 
 abbrev written_of : List Lexeme → Command → Written
 written_of tokens c = record { tokens = tokens; command = c }

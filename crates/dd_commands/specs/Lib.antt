@@ -8,3 +8,5 @@ pub mod Commands
 pub mod Scripts
 -- mirrors of the readers
 pub mod reading
+-- lemmas on what stands above, with their proofs, for whoever cites them
+pub mod lemmas

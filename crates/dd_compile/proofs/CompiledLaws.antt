@@ -10,8 +10,8 @@ use Rattle.dd_expansion.specs.Truth.{is_symbol}
 use Rattle.dd_circuit.specs.declared.gates.Signal.{Signal}
 use Rattle.dd_circuit.specs.Circuits.{IsSignal, signal_value, agrees}
 use Rattle.dd_compile.specs.Compiling.{Wires, WiresTell, is_wire, are_wired, certain, wire_or_zero, made}
-use Rattle.dd_compile.proofs.MadeSays.{made_says}
-use Rattle.dd_compile.proofs.MadeFits.{IsMade, made_fits}
+use Rattle.dd_compile.specs.lemmas.MadeSays.{made_says}
+use Rattle.dd_compile.specs.lemmas.MadeFits.{IsMade, made_fits}
 
 told : (n : ℕ) (set : ℕ → Bool) (look : Look) (c : Cell) (s : ℕ) (o : Option Signal) → is_wire n o ≡ true → ((x : Signal) → o ≡ Some x → signal_value set x ≡ is_symbol s (look c)) →
     signal_value set (wire_or_zero o) ≡ is_symbol s (look c)

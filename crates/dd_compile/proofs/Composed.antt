@@ -11,21 +11,21 @@ use Rattle.std.proofs.lemmas.List.Elements.{All-map, All-weaker}
 use Rattle.dd_lattice.specs.Cells.{shifted}
 use Rattle.dd_lattice.specs.Order.{cell_cmp}
 use Rattle.dd_lattice.specs.declared.position.Cell.{Cell}
-use Rattle.dd_lattice.proofs.InOrderLaws.{cells_equal, in_order_members, list_all-in_order}
-use Rattle.dd_lattice.proofs.ListLaws.{Contains-cons_cases, Contains-map, Contains-nil, sorted_first, sorted_rest}
-use Rattle.dd_lattice.proofs.MoveLaws.{place_cmp-moved}
-use Rattle.dd_topology.proofs.ListLaws.{into_flat_map}
-use Rattle.dd_topology.proofs.OrderLaws.{cell_total}
+use Rattle.dd_lattice.specs.lemmas.InOrderLaws.{cells_equal, in_order_members, list_all-in_order}
+use Rattle.dd_lattice.specs.lemmas.ListLaws.{Contains-cons_cases, Contains-map, Contains-nil, sorted_first, sorted_rest}
+use Rattle.dd_lattice.specs.lemmas.MoveLaws.{place_cmp-moved}
+use Rattle.dd_topology.specs.lemmas.ListLaws.{into_flat_map}
+use Rattle.dd_topology.specs.lemmas.OrderLaws.{cell_total}
 use Rattle.dd_pattern.specs.Reading.{Look, IsBelow}
 use Rattle.dd_expansion.specs.Truth.{is_symbol}
-use Rattle.dd_expansion.proofs.ListTests.{list_all-alike, list_all-flat_map}
+use Rattle.dd_expansion.specs.lemmas.ListTests.{list_all-alike, list_all-flat_map}
 use Rattle.std.proofs.lemmas.List.Folds.{list_all-map}
 use Rattle.dd_formula.specs.Automata.{Setting, Counted, IsAutomaton, counted, cells_of, value}
 use Rattle.dd_formula.specs.declared.automaton.Automaton.{Automaton}
 use Rattle.dd_formula.specs.declared.automaton.Automaton.TheVariants as v
 use Rattle.dd_formula.specs.declared.automaton.Cases.{Cases}
-use Rattle.dd_formula.proofs.AutomatonLaws.{counted_given, counted_composed}
-use Rattle.dd_formula.proofs.ValueLaws.{shifted_twice, value_given, value_composed, value_below}
+use Rattle.dd_formula.specs.lemmas.AutomatonLaws.{counted_given, counted_composed}
+use Rattle.dd_formula.specs.lemmas.ValueLaws.{shifted_twice, value_given, value_composed, value_below}
 use Rattle.dd_circuit.specs.declared.gates.Signal.{Signal}
 use Rattle.dd_circuit.specs.Circuits.{Network, IsSignal, size}
 use Rattle.dd_compile.specs.Wiring.{Wiring, unwired, signals_of, signal_for, wire_of}
@@ -34,10 +34,10 @@ use Rattle.dd_compile.specs.RuleSignals.{is_signal, are_signals}
 use Rattle.dd_compile.specs.ValueGates.{WiredMade, inner_made, composed_made, value_made}
 use Rattle.dd_compile.specs.ValueSignals.{SaysCases, SaysValue, SaysWhich, TellsCells, are_wired_there}
 use Rattle.dd_compile.specs.composing.Parts.{AreWired, AreValued, AreValues, IsValued}
-use Rattle.dd_compile.proofs.Progress.{size-append}
-use Rattle.dd_compile.proofs.CaseRules.{agrees_before}
+use Rattle.dd_compile.specs.lemmas.Progress.{size-append}
+use Rattle.dd_compile.specs.lemmas.CaseRules.{agrees_before}
 use Rattle.dd_compile.proofs.RuleSays.{members_pass}
-use Rattle.dd_compile.proofs.ValueParts.{made_composed}
+use Rattle.dd_compile.specs.lemmas.ValueParts.{made_composed}
 use Rattle.dd_compile.proofs.Composing.{there_of}
 
 -- what the cases say is what the automaton by them says

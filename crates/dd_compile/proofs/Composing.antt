@@ -11,7 +11,7 @@ use Rattle.dd_topology.specs.Topology.{extent}
 use Rattle.dd_formula.specs.LocalRule.{is_near}
 use Rattle.dd_formula.specs.Automata.{counted}
 use Rattle.dd_formula.specs.declared.automaton.Automaton.{Automaton}
-use Rattle.dd_formula.proofs.AutomatonLaws.{passes_at}
+use Rattle.dd_formula.specs.lemmas.AutomatonLaws.{passes_at}
 use Rattle.dd_circuit.specs.declared.gates.Signal.{Signal}
 use Rattle.dd_circuit.specs.declared.gates.Gate.{Gate}
 use Rattle.dd_circuit.specs.Circuits.{Network, IsSignal, size}
@@ -20,11 +20,11 @@ use Rattle.dd_compile.specs.Compiling.{Extends}
 use Rattle.dd_compile.specs.ValueGates.{WiredMade, inner_made, value_made}
 use Rattle.dd_compile.specs.ValueSignals.{SaysValue, are_wired_there}
 use Rattle.dd_compile.specs.composing.Parts.{AreWired, AreValued, AreValues, IsValued}
-use Rattle.dd_compile.proofs.Progress.{size-append, Extends-trans}
-use Rattle.dd_compile.proofs.CaseGates.{itself, next_is, taken_is}
-use Rattle.dd_compile.proofs.CaseRules.{agrees_before}
-use Rattle.dd_compile.proofs.StillWired.{still_wired}
-use Rattle.dd_compile.proofs.RuleWiring.{extent_moved}
+use Rattle.dd_compile.specs.lemmas.Progress.{size-append, Extends-trans}
+use Rattle.dd_compile.specs.lemmas.CaseGates.{itself, next_is, taken_is}
+use Rattle.dd_compile.specs.lemmas.CaseRules.{agrees_before}
+use Rattle.dd_compile.specs.lemmas.StillWired.{still_wired}
+use Rattle.dd_compile.specs.lemmas.RuleWiring.{extent_moved}
 
 -- what stands of values stands when gates have come
 still_valued : (now new : Network) (w : Wiring) (k : ℕ) (f : Automaton) (c : Cell) (ss : List Signal) → Extends now new → IsValued now w k f c ss → IsValued new w k f c ss

@@ -14,7 +14,7 @@ use Rattle.dd_expansion.specs.declared.expanded.Expanded.TheFolds.{fold-roll-Exp
 use Rattle.dd_expansion.specs.declared.expanded.Expanded.TheOpen.{Expanded-F}
 use Rattle.dd_expansion.specs.Leaves.{leaf_cells, leaf_cells_step, instances, instances_step, total}
 use Rattle.dd_expansion.specs.Terms.{origin_at}
-use Rattle.dd_expansion.proofs.LeavesAreReads.{same_cells}
+use Rattle.dd_expansion.specs.lemmas.LeavesAreReads.{same_cells}
 use Rattle.dd_formula.specs.LocalRule.{LocalRule, cells_at, expansion_at}
 
 abbrev IsFew : Expanded → Type 0

@@ -15,7 +15,7 @@ use Rattle.dd_compile.specs.Wiring.{Wiring, signal_for, with_cell}
 use Rattle.dd_compile.specs.RuleSignals.{is_signal, are_signals}
 use Rattle.dd_compile.specs.ValueGates.{fresh}
 use Rattle.dd_compile.specs.placing.Own.{signals_in_turn, own_wiring}
-use Rattle.dd_compile.proofs.ChoiceLaws.{fresh_length}
+use Rattle.dd_compile.specs.lemmas.ChoiceLaws.{fresh_length}
 
 -- what all are is what is there and the rest
 pub fresh_start : (n k : ℕ) (none : List Signal) → none ≡ [] → fresh n k ≡ none ++ fresh (n + 0) (k - 0)

@@ -9,25 +9,25 @@ use Rattle.dd_lattice.specs.Cells.{cell, shifted}
 use Rattle.dd_lattice.specs.declared.position.Cell.{Cell}
 use Rattle.dd_topology.specs.Topology.{extent}
 use Rattle.dd_formula.specs.LocalRule.{LocalRule, IsRule, is_near, cells_at, expansion_at}
-use Rattle.dd_formula.proofs.RuleLaws.{cells_pass_reads}
+use Rattle.dd_formula.specs.lemmas.RuleLaws.{cells_pass_reads}
 use Rattle.dd_circuit.specs.declared.gates.Signal.{Signal}
 use Rattle.dd_circuit.specs.declared.gates.Gate.{Gate}
 use Rattle.dd_circuit.specs.Circuits.{Network, IsSignal, IsGate, AreGates, size}
-use Rattle.dd_circuit.proofs.GateLists.{gate_at, gate_within}
+use Rattle.dd_circuit.specs.lemmas.GateLists.{gate_at, gate_within}
 use Rattle.dd_compile.specs.Wiring.{Wiring, signals_of}
 use Rattle.dd_compile.specs.Compiling.{Extends, certain, wires_near, compiled, gate_count}
 use Rattle.dd_compile.specs.RuleSignals.{are_signals, are_reads_wired, SaysTruth}
 use Rattle.dd_compile.specs.Templates.{RuleAt, rule_at}
 use Rattle.dd_compile.specs.placing.Own.{origin, own_inputs, own_count, own_made, IsTemplate}
 use Rattle.dd_compile.specs.placing.Placed.{is_there, signals_there, placed, placed_gate}
-use Rattle.dd_compile.proofs.Progress.{size-append, Extends-trans}
-use Rattle.dd_compile.proofs.MadeCount.{made_count}
-use Rattle.dd_compile.proofs.MadeFits.{IsMade}
+use Rattle.dd_compile.specs.lemmas.Progress.{size-append, Extends-trans}
+use Rattle.dd_compile.specs.lemmas.MadeCount.{made_count}
+use Rattle.dd_compile.specs.lemmas.MadeFits.{IsMade}
 use Rattle.dd_compile.proofs.CompiledLaws.{compiled_fits}
-use Rattle.dd_compile.proofs.FewGates.{few_gates}
-use Rattle.dd_compile.proofs.RuleWiring.{leaves_wired, near_in_range}
+use Rattle.dd_compile.specs.lemmas.FewGates.{few_gates}
+use Rattle.dd_compile.specs.lemmas.RuleWiring.{leaves_wired, near_in_range}
 use Rattle.dd_compile.proofs.RuleSays.{members_pass, says_in}
-use Rattle.dd_compile.proofs.CaseGates.{itself, taken_is}
+use Rattle.dd_compile.specs.lemmas.CaseGates.{itself, taken_is}
 use Rattle.dd_compile.proofs.MadePlaced.{IsPlaced}
 use Rattle.dd_compile.proofs.TemplateLaws.{all_near, few_own, origin_near, own_wired, template_placed, test_at}
 

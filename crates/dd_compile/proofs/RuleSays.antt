@@ -9,24 +9,24 @@ use Rattle.dd_lattice.specs.Place.{moved, is_in_range}
 use Rattle.dd_lattice.specs.Cells.{shifted}
 use Rattle.dd_lattice.specs.Order.{cell_cmp}
 use Rattle.dd_lattice.specs.declared.position.Cell.{Cell}
-use Rattle.dd_lattice.proofs.InOrderLaws.{cells_equal}
-use Rattle.dd_lattice.proofs.ListLaws.{Contains-first, Contains-later}
-use Rattle.dd_topology.proofs.ListLaws.{some_passes, passes_any}
-use Rattle.dd_topology.proofs.OrderLaws.{cell_total}
+use Rattle.dd_lattice.specs.lemmas.InOrderLaws.{cells_equal}
+use Rattle.dd_lattice.specs.lemmas.ListLaws.{Contains-first, Contains-later}
+use Rattle.dd_topology.specs.lemmas.ListLaws.{some_passes, passes_any}
+use Rattle.dd_topology.specs.lemmas.OrderLaws.{cell_total}
 use Rattle.dd_pattern.specs.Reading.{Look, IsBelow}
 use Rattle.dd_expansion.specs.declared.expanded.Expanded.{Expanded}
 use Rattle.dd_expansion.specs.Leaves.{LeafTest, leaves_pass}
 use Rattle.dd_expansion.specs.Truth.{is_symbol}
-use Rattle.dd_expansion.proofs.LeafLaws.{leaves_both}
+use Rattle.dd_expansion.specs.lemmas.LeafLaws.{leaves_both}
 use Rattle.dd_formula.specs.LocalRule.{LocalRule, reads_at, expansion_at, is_true}
-use Rattle.dd_formula.proofs.RuleLaws.{at_cell, leaves_pass_reads}
+use Rattle.dd_formula.specs.lemmas.RuleLaws.{at_cell, leaves_pass_reads}
 use Rattle.dd_circuit.specs.declared.gates.Signal.{Signal}
 use Rattle.dd_circuit.specs.Circuits.{Network, size, signal_value, agrees}
-use Rattle.dd_circuit.proofs.ValueLaws.{agrees-append}
+use Rattle.dd_circuit.specs.lemmas.ValueLaws.{agrees-append}
 use Rattle.dd_compile.specs.Wiring.{Wiring, wire_of}
 use Rattle.dd_compile.specs.Compiling.{Extends, wire_or_zero, certain, is_wire, are_wired, wires_near, compiled}
 use Rattle.dd_compile.specs.RuleSignals.{TellsReads, SaysTruth}
-use Rattle.dd_compile.proofs.MadeSays.{made_says}
+use Rattle.dd_compile.specs.lemmas.MadeSays.{made_says}
 
 -- whether the rule reads a cell, counted from the origin, at a node
 abbrev pub is_among : List Cell → Cell → Bool

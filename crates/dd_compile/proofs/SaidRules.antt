@@ -15,14 +15,14 @@ use Rattle.dd_formula.specs.Automata.{Setting, Counted, counted, cases_fit, case
 use Rattle.dd_formula.specs.declared.automaton.Automaton.{Automaton}
 use Rattle.dd_formula.specs.declared.automaton.Automaton.TheVariants as v
 use Rattle.dd_formula.specs.declared.automaton.Cases.{Cases}
-use Rattle.dd_formula.proofs.AutomatonLaws.{rule_nodes, fits_given, counted_given, depth_given}
-use Rattle.dd_formula.proofs.ValueLaws.{rule_symbols}
+use Rattle.dd_formula.specs.lemmas.AutomatonLaws.{rule_nodes, fits_given, counted_given, depth_given}
+use Rattle.dd_formula.specs.lemmas.ValueLaws.{rule_symbols}
 use Rattle.dd_circuit.specs.declared.gates.Signal.{Signal}
 use Rattle.dd_circuit.specs.declared.gates.Gate.{Gate}
 use Rattle.dd_circuit.specs.declared.gates.Gate.TheVariants.{Or}
 use Rattle.dd_circuit.specs.Circuits.{Network, IsSignal, AreGates, size, signal_value, agrees, opposite}
-use Rattle.dd_circuit.proofs.ValueLaws.{agrees-append}
-use Rattle.dd_circuit.proofs.GateLists.{AreGates-append}
+use Rattle.dd_circuit.specs.lemmas.ValueLaws.{agrees-append}
+use Rattle.dd_circuit.specs.lemmas.GateLists.{AreGates-append}
 use Rattle.dd_compile.specs.Wiring.{Wiring, signals_of}
 use Rattle.dd_compile.specs.Compiling.{AllMade, compiled, are_wired, wires_near}
 use Rattle.dd_compile.specs.RuleSignals.{are_signals, are_reads_wired}
@@ -30,14 +30,14 @@ use Rattle.dd_compile.specs.ValueGates.{fresh, choices, giving, symbol_gates, gi
 use Rattle.dd_compile.specs.ValueSignals.{TellsCells, CasesSay, SaysValue, are_wired_there}
 use Rattle.dd_compile.specs.Valued.{IsMadeValue, SaysNear}
 use Rattle.dd_compile.proofs.CompiledLaws.{compiled_fits}
-use Rattle.dd_compile.proofs.RuleWiring.{leaves_wired}
+use Rattle.dd_compile.specs.lemmas.RuleWiring.{leaves_wired}
 use Rattle.dd_compile.proofs.RuleSays.{rule_says}
-use Rattle.dd_compile.proofs.CaseGates.{with_first, giving_in_range}
-use Rattle.dd_compile.proofs.CaseRules.{Steps, value_gates, value_signals, value_in_range, value_says}
-use Rattle.dd_compile.proofs.StillWired.{still_wired}
-use Rattle.dd_compile.proofs.ChoiceLaws.{fresh_in_range}
+use Rattle.dd_compile.specs.lemmas.CaseGates.{with_first, giving_in_range}
+use Rattle.dd_compile.specs.lemmas.CaseRules.{Steps, value_gates, value_signals, value_in_range, value_says}
+use Rattle.dd_compile.specs.lemmas.StillWired.{still_wired}
+use Rattle.dd_compile.specs.lemmas.ChoiceLaws.{fresh_in_range}
 use Rattle.dd_compile.proofs.Composed.{cases_say}
-use Rattle.dd_compile.proofs.ValueParts.{made_given}
+use Rattle.dd_compile.specs.lemmas.ValueParts.{made_given}
 
 -- gates and signals of a circuit of inputs alone are those of a value
 pub of_network : (n k : ℕ) (f : Automaton) (w : Wiring) (at : Cell) (gs : List Gate) (ss : List Signal) (m : AllMade) → AreGates n gs → SaysValue (record { inputs = n; gates = gs }) w k f at ss →

@@ -10,11 +10,11 @@ use Rattle.dd_lattice.specs.Place.{Place, moved}
 use Rattle.dd_lattice.specs.Cells.{cell, shifted}
 use Rattle.dd_lattice.specs.declared.position.Cell.{Cell}
 use Rattle.dd_topology.specs.Topology.{extent}
-use Rattle.dd_topology.proofs.OrderLaws.{sorted-in_order}
+use Rattle.dd_topology.specs.lemmas.OrderLaws.{sorted-in_order}
 use Rattle.dd_expansion.specs.Leaves.{LeafTest, leaves_pass}
-use Rattle.dd_expansion.proofs.LeafLaws.{leaves_both}
+use Rattle.dd_expansion.specs.lemmas.LeafLaws.{leaves_both}
 use Rattle.dd_formula.specs.LocalRule.{LocalRule, IsRule, is_near, reads_at, cells_at, expansion_at}
-use Rattle.dd_formula.proofs.RuleLaws.{leaves_pass_reads, cells_pass_reads}
+use Rattle.dd_formula.specs.lemmas.RuleLaws.{leaves_pass_reads, cells_pass_reads}
 use Rattle.dd_circuit.specs.declared.gates.Signal.{Signal}
 use Rattle.dd_circuit.specs.Circuits.{Network, signal_of, size}
 use Rattle.dd_compile.specs.Wiring.{Wiring, IsWiring, signal_for, signals_of, wire_of}
@@ -22,10 +22,10 @@ use Rattle.dd_compile.specs.Compiling.{wire_or_zero, certain, wires_near, compil
 use Rattle.dd_compile.specs.RuleSignals.{is_signal, are_signals, are_reads_wired}
 use Rattle.dd_compile.specs.placing.Own.{origin, signals_in_turn, own_wiring, own_inputs, own_count, own_made, IsTemplate}
 use Rattle.dd_compile.specs.placing.Placed.{all_of, signals_there, placed, placed_by}
-use Rattle.dd_compile.proofs.WiringLaws.{signals_at_place}
-use Rattle.dd_compile.proofs.RuleWiring.{near_in_range}
+use Rattle.dd_compile.specs.lemmas.WiringLaws.{signals_at_place}
+use Rattle.dd_compile.specs.lemmas.RuleWiring.{near_in_range}
 use Rattle.dd_compile.proofs.RuleSays.{is_among, among, all_among, members_pass}
-use Rattle.dd_compile.proofs.FewGates.{few_gates}
+use Rattle.dd_compile.specs.lemmas.FewGates.{few_gates}
 use Rattle.dd_compile.proofs.FewReads.{few_reads}
 use Rattle.dd_compile.proofs.OwnInputs.{in_turn_length, in_turn_full, own_read, row_count}
 use Rattle.dd_compile.proofs.MadePlaced.{IsPlaced, made_placed}

@@ -11,3 +11,5 @@ pub mod Valued
 pub mod composing
 -- gates over variables of their own, made once and placed at cells
 pub mod placing
+-- lemmas on what stands above, with their proofs, for whoever cites them
+pub mod lemmas

@@ -56,7 +56,7 @@ impl Inputs {
 
     /// The signal that says that the cell has the symbol, or `None` where the cell isn't there or the symbol isn't below
     /// the number of its signals.
-    #[tactic(auto, using(crate::proofs::WiringLaws::read_by_place))]
+    #[tactic(auto, using(crate::specs::lemmas::WiringLaws::read_by_place))]
     pub fn get(&self, cell: &Cell, symbol: u32) -> Option<Signal>
         ensures value { result ≡ wire_of self.now cell.now symbol }
         ensures places { IsReadByPlace self.now }

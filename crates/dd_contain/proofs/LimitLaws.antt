@@ -6,15 +6,15 @@ use Rattle.std.proofs.lemmas.Bool.{and_from}
 use Rattle.std.proofs.lemmas.List.Sums.{AllPass-from_list_all, list_all-from_AllPass}
 use Rattle.dd_lattice.specs.Boxes.{centred, volume}
 use Rattle.dd_formula.specs.LocalRule.{LocalRule, IsRule, is_near, is_of, reads_at}
-use Rattle.dd_formula.proofs.AutomatonLaws.{near_reads}
-use Rattle.dd_formula.proofs.ReachLaws.{automaton_reach_within}
-use Rattle.dd_boxes.proofs.ReachLaws.{least_is_farthest}
+use Rattle.dd_formula.specs.lemmas.AutomatonLaws.{near_reads}
+use Rattle.dd_formula.specs.lemmas.ReachLaws.{automaton_reach_within}
+use Rattle.dd_boxes.specs.lemmas.ReachLaws.{least_is_farthest}
 use Rattle.dd_boxes.specs.Goals.{GoalOf, breaks, differ, always, IsGoalFor}
 use Rattle.dd_boxes.specs.Fillings.{is_box_cell}
 use Rattle.dd_boxes.specs.Boxes.{Suffices, IsLeastRadius}
-use Rattle.dd_boxes.proofs.RuleLaws.{list_all_weaker}
-use Rattle.dd_boxes.proofs.ReachLaws.{box_from_within}
-use Rattle.dd_boxes.proofs.FromBox.{from_least}
+use Rattle.dd_boxes.specs.lemmas.RuleLaws.{list_all_weaker}
+use Rattle.dd_boxes.specs.lemmas.ReachLaws.{box_from_within}
+use Rattle.dd_boxes.specs.lemmas.FromBox.{from_least}
 use Rattle.dd_pattern.specs.declared.periods.Periods.{Periods}
 use Rattle.dd_pattern.specs.Periods.{AreWithin, volume as tile_volume}
 use Rattle.dd_contain.specs.declared.decision.Decision.{Decision}

@@ -1,6 +1,2 @@
-pub mod Soundness
-pub mod Findings
-pub mod Numbers
-pub mod Falses
 pub mod Proper
 pub mod Whole

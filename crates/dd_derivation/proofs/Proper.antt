@@ -9,8 +9,8 @@ use Rattle.dd_clause.specs.Clauses.{negation, IsInRange}
 use Rattle.dd_derivation.specs.declared.propagation.VariableMark.{VariableMark}
 use Rattle.dd_derivation.specs.Derivations.{same_literal, is_among, is_in_range, has_variable, is_proper}
 use Rattle.dd_derivation.specs.MarksOf.{FalsesAre, marked}
-use Rattle.dd_derivation.proofs.Soundness.{same_literal-eq, beq-refl}
-use Rattle.dd_derivation.proofs.Falses.{FalsesAre-start, in_range-true}
+use Rattle.dd_derivation.specs.lemmas.Soundness.{same_literal-eq, beq-refl}
+use Rattle.dd_derivation.specs.lemmas.Falses.{FalsesAre-start, in_range-true}
 
 in-has : (xs : List Literal) (v : ℕ) → has_variable v xs ≡ true → (y : Literal) × (is_among xs y ≡ true) × (y.variable ≡ v)
 in-has [] v h = absurd (false≢true h)

@@ -8,8 +8,8 @@ use Rattle.dd_clause.specs.declared.clause.Literal.{Literal}
 use Rattle.dd_derivation.specs.declared.step.Step.{Step}
 use Rattle.dd_derivation.specs.Derivations.{is_right, known_after, known_after_steps, refutes_from, clauses_before, is_step_right}
 use Rattle.dd_derivation.specs.MarksOf.{known_of}
-use Rattle.dd_derivation.proofs.Numbers.{length-before}
-use Rattle.dd_derivation.proofs.Falses.{is_last-drop}
+use Rattle.dd_derivation.specs.lemmas.Numbers.{length-before}
+use Rattle.dd_derivation.specs.lemmas.Falses.{is_last-drop}
 
 pub all_alive : (cs : List (List Literal)) (alive : List Bool) → length cs ≤ length alive → ((k : ℕ) → k < length alive → get_or alive k false ≡ true) → known_of cs alive ≡ map (λ c. Some c) cs
 all_alive [] alive l a = refl

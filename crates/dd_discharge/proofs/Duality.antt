@@ -9,8 +9,8 @@ use Rattle.std.proofs.lemmas.Int.{ints}
 use Rattle.dd_rows.specs.declared.rows.Row.{Row}
 use Rattle.dd_discharge.specs.declared.bound.Bound.{Bound}
 use Rattle.dd_discharge.specs.Amounts.{total_below, row_in, coefficient_in, column_value, MeetRows, column_sum, dual_worth, AreDualsOver, held_over, IsCertified, HoldAtMost}
-use Rattle.dd_discharge.proofs.WholeNumbers.{times_times, scaled_le, scaled_right, cancel_le}
-use Rattle.dd_discharge.proofs.Totals.{total_same, total_at_most, total_scaled, total_swap, total_first}
+use Rattle.dd_discharge.specs.lemmas.WholeNumbers.{times_times, scaled_le, scaled_right, cancel_le}
+use Rattle.dd_discharge.specs.lemmas.Totals.{total_same, total_at_most, total_scaled, total_swap, total_first}
 
 value_nonneg : (held : ℤ) (amounts : List ℕ) (j : ℕ) → pos 0 ≤ℤ held → pos 0 ≤ℤ column_value held amounts j
 value_nonneg held amounts zero h = h

@@ -1,5 +1,3 @@
-pub mod WholeNumbers
-pub mod Totals
 pub mod Duality
 pub mod Multiples
 pub mod Over

@@ -9,7 +9,7 @@ use Rattle.dd_lattice.specs.Order.{place_cmp}
 use Rattle.dd_lattice.specs.Regions.{IsRegionOf}
 use Rattle.dd_lattice.specs.declared.position.Cell.{Cell}
 use Rattle.dd_formula.specs.LocalRule.{LocalRule}
-use Rattle.dd_topology.proofs.OrderLaws.{same_sorted}
+use Rattle.dd_topology.specs.lemmas.OrderLaws.{same_sorted}
 use Rattle.dd_rows.specs.declared.rows.Row.{Row}
 use Rattle.dd_rows.specs.declared.rows.Rows.{Rows}
 use Rattle.dd_rows.specs.Domains.{IsGround, cells_on}

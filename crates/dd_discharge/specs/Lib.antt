@@ -10,3 +10,5 @@ pub mod Certificates
 pub mod Faults
 -- the shape of a program's rows
 pub mod listing
+-- lemmas on what stands above, with their proofs, for whoever cites them
+pub mod lemmas

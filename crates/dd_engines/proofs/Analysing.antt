@@ -11,8 +11,8 @@ use Rattle.dd_clause.specs.Clauses.{negation, IsInRange, IsClauseInRange}
 use Rattle.dd_derivation.specs.declared.propagation.Finding.{Finding}
 use Rattle.dd_derivation.specs.declared.propagation.Finding.TheVariants.{Falsified, Forced, Open}
 use Rattle.dd_derivation.specs.Derivations.{same_literal, is_among, finding_of, finding, clause_of, is_conflict}
-use Rattle.dd_derivation.proofs.Soundness.{same_literal-eq}
-use Rattle.dd_derivation.proofs.Findings.{In, in_here}
+use Rattle.dd_derivation.specs.lemmas.Soundness.{same_literal-eq}
+use Rattle.dd_derivation.specs.lemmas.Findings.{In, in_here}
 use Rattle.dd_engines.specs.declared.analysis.Entry.{Entry}
 use Rattle.dd_engines.specs.propagation.Following.{alive, falses, IsForced, IsTrail, IsFalsified, Ends}
 use Rattle.dd_engines.specs.propagation.Analysis.{marks, Grows, AreMarked}

@@ -7,8 +7,8 @@ use Rattle.dd_lattice.specs.declared.position.Cell.{Cell}
 use Rattle.dd_lattice.specs.Place.{Place}
 use Rattle.dd_pattern.specs.Periods.{residue, unsheared}
 use Rattle.dd_pattern.specs.Tile.{Tile, IsPeriodic, IsInBox}
-use Rattle.dd_pattern.proofs.Residues.{residue_below}
-use Rattle.dd_pattern.proofs.TileSizes.{sizes_of}
+use Rattle.dd_pattern.specs.lemmas.Residues.{residue_below}
+use Rattle.dd_pattern.specs.lemmas.TileSizes.{sizes_of}
 use Rattle.dd_formula.specs.LocalRule.{LocalRule, IsRule}
 use Rattle.dd_formula.specs.Living.{Fits}
 use Rattle.dd_certificate.specs.declared.answer.Answer.TheVariants as answer

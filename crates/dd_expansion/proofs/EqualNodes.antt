@@ -8,7 +8,7 @@ use Rattle.dd_expansion.specs.declared.expanded.Expanded.TheFolds.{fold-roll-Exp
 use Rattle.dd_expansion.specs.declared.expanded.Expanded.TheOpen.{Expanded-F}
 use Rattle.dd_expansion.specs.Leaves.{instances, instances_step}
 use Rattle.dd_expansion.specs.Expansion.{leaf, both_have, equal_at}
-use Rattle.dd_expansion.proofs.Layers.{instances_or}
+use Rattle.dd_expansion.specs.lemmas.Layers.{instances_or}
 
 pub three_nodes : (c d : Cell) (s : ℕ) → instances (both_have c d s) ≡ 3
 three_nodes c d s =

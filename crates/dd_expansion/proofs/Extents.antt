@@ -8,8 +8,8 @@ use Rattle.std.proofs.lemmas.Int.{ints}
 use Rattle.std.proofs.lemmas.Bool.{and_parts, and_from, leb-true}
 use Rattle.dd_lattice.specs.Place.{Place, moved, is_near, is_in_range}
 use Rattle.dd_lattice.specs.declared.position.Cell.{Cell}
-use Rattle.dd_lattice.proofs.ListLaws.{All-from_contains, Contains-cons_cases, Contains-nil}
-use Rattle.dd_lattice.proofs.RangeLaws.{in_range_from_test}
+use Rattle.dd_lattice.specs.lemmas.ListLaws.{All-from_contains, Contains-cons_cases, Contains-nil}
+use Rattle.dd_lattice.specs.lemmas.RangeLaws.{in_range_from_test}
 use Rattle.dd_topology.specs.declared.edge.Edge.{Edge}
 use Rattle.dd_topology.specs.Topology.{extent, are_short, leaves, end_of, step, in_range}
 use Rattle.dd_topology.specs.Balls.{IsInBall, IsAdjacent, IsListOf, LeavesRange}

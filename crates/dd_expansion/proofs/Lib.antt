@@ -1,16 +1,6 @@
 pub mod EqualNodes
 pub mod Extents
-pub mod HoldsKeeps
-pub mod Layers
-pub mod LeafLaws
-pub mod LeavesAreReads
-pub mod ListTests
 pub mod Nodes
 pub mod Parts
-pub mod Placed
-pub mod SaysSame
-pub mod Shifting
 pub mod Sizes
-pub mod TruthAt
-pub mod TruthKeeps
 pub mod Unions

@@ -17,7 +17,7 @@ use Rattle.dd_expansion.specs.Leaves.{instances, instances_step}
 use Rattle.dd_expansion.specs.Limits.{formula_fits, fits_step, depth, depth_step}
 use Rattle.dd_expansion.specs.Terms.{balls_of}
 use Rattle.dd_expansion.specs.Expansion.{Expansion, expansion, expansion_step, negated, any_of, both_alike}
-use Rattle.dd_expansion.proofs.Layers.{instances_and, instances_or, expansion_and, expansion_or, expansion_for_all, expansion_exists, fits_and, fits_or, depth_and, depth_or}
+use Rattle.dd_expansion.specs.lemmas.Layers.{instances_and, instances_or, expansion_and, expansion_or, expansion_for_all, expansion_exists, fits_and, fits_or, depth_and, depth_or}
 
 sum_by-map : {X Y : Type 0} (f : Y → ℕ) (h : X → Y) (xs : List X) → sum_by f (map h xs) ≡ sum_by (λ x. f (h x)) xs
 sum_by-map f h [] = refl

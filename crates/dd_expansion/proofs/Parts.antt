@@ -16,7 +16,7 @@ use Rattle.dd_expansion.specs.declared.formulas.Formula.TheFolds.{fold-roll-Form
 use Rattle.dd_expansion.specs.declared.formulas.Formula.TheOpen.{Formula-F}
 use Rattle.dd_expansion.specs.Limits.{balls_fit, formula_fits, fits_step, greatest, depth, depth_step}
 use Rattle.dd_expansion.specs.Near.{AreNear}
-use Rattle.dd_expansion.proofs.Layers.{fits_and, depth_and}
+use Rattle.dd_expansion.specs.lemmas.Layers.{fits_and, depth_and}
 
 all_at : {X : Type 0} (test : X → Bool) (xs : List X) (i : ℕ) (d : X) → list_all test xs ≡ true → i < length xs → test (get_or xs i d) ≡ true
 all_at test [] i d h within = absurd (omega arith)

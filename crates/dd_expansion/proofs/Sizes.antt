@@ -7,7 +7,7 @@ use Rattle.dd_expansion.specs.declared.expanded.Expanded.TheVariants as expanded
 use Rattle.dd_expansion.specs.declared.expanded.Expanded.TheFolds.{fold-roll-Expanded, map-Expanded, ind-Expanded}
 use Rattle.dd_expansion.specs.declared.expanded.Expanded.TheOpen.{Expanded-F}
 use Rattle.dd_expansion.specs.Leaves.{total, instances, instances_step, clause_count, clause_count_step}
-use Rattle.dd_expansion.proofs.Layers.{instances_and, instances_or, clause_count_and, clause_count_or}
+use Rattle.dd_expansion.specs.lemmas.Layers.{instances_and, instances_or, clause_count_and, clause_count_or}
 
 pub instances_alike : (es : List Expanded) → instances (expanded.Or es) ≡ instances (expanded.And es)
 instances_alike es = instances_or es ∙ sym (instances_and es)

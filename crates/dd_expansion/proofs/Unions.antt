@@ -7,11 +7,11 @@ use Rattle.std.proofs.lemmas.List.Elements.{All-append, All-contains, Contains-a
 use Rattle.dd_lattice.specs.Order.{cell_cmp}
 use Rattle.dd_lattice.specs.InOrder.{in_order, HaveSameCells}
 use Rattle.dd_lattice.specs.declared.position.Cell.{Cell}
-use Rattle.dd_lattice.proofs.ListLaws.{All-from_contains}
-use Rattle.dd_lattice.proofs.InOrderLaws.{in_order_members}
+use Rattle.dd_lattice.specs.lemmas.ListLaws.{All-from_contains}
+use Rattle.dd_lattice.specs.lemmas.InOrderLaws.{in_order_members}
 use Rattle.dd_topology.specs.declared.edge.Edge.{Edge}
 use Rattle.dd_topology.specs.Topology.{extent}
-use Rattle.dd_topology.proofs.OrderLaws.{is-in_order}
+use Rattle.dd_topology.specs.lemmas.OrderLaws.{is-in_order}
 use Rattle.dd_expansion.specs.declared.formulas.BallOf.{BallOf}
 use Rattle.dd_expansion.specs.Terms.{ball_round, balls_of}
 use Rattle.dd_expansion.specs.Near.{AreNear}

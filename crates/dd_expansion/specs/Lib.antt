@@ -10,3 +10,5 @@ pub mod Placed
 -- What the code keeps while it expands.
 pub mod Near
 pub mod Budget
+-- lemmas on what stands above, with their proofs, for whoever cites them
+pub mod lemmas

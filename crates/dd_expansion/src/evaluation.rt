@@ -10,7 +10,7 @@ use dd_pattern::Reads;
 impl Expanded {
     /// The truth at a position; `None` where a cell of a leaf has no symbol or leaves the range of positions.
     #[cycle(evaluate)]
-    #[tactic(auto, using(crate::proofs::Layers::holds_layers))]
+    #[tactic(auto, using(crate::specs::lemmas::Layers::holds_layers))]
     pub fn evaluate<R: Reads>(&self, at: &Position, read: &R) -> Option<bool>
         ensures { let look = seen (R.symbols read.now) at.now in
             result ≡ (if given self.now look then Some (holds self.now look) else None) }

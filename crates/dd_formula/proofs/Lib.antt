@@ -1,15 +1,5 @@
 pub mod Nodes
-pub mod RuleLaws
-pub mod AllowedLaws
 pub mod PartLaws
-pub mod Reached
 pub mod LivesLaws
-pub mod Cuts
-pub mod Ranges
-pub mod ReachLaws
 pub mod Reaching
-pub mod AutomatonLaws
-pub mod CompositionLaws
-pub mod FarthestLaws
-pub mod ValueLaws
 pub mod SeenLaws

@@ -6,13 +6,13 @@ use Rattle.dd_lattice.specs.declared.position.Cell.{Cell}
 use Rattle.dd_pattern.specs.Reading.{Look}
 use Rattle.dd_pattern.specs.Periods.{base_of}
 use Rattle.dd_pattern.specs.Tile.{Tile, IsTile, tile_index, tile_look, cell_in}
-use Rattle.dd_pattern.proofs.TileLaws.{base_moved, look_same}
-use Rattle.dd_pattern.proofs.TileSizes.{index_below}
-use Rattle.dd_pattern.proofs.BoxLaws.{cell_at_index, cell_of_index, in_box, index_of_cell, before_by_order}
+use Rattle.dd_pattern.specs.lemmas.TileLaws.{base_moved, look_same}
+use Rattle.dd_pattern.specs.lemmas.TileSizes.{index_below}
+use Rattle.dd_pattern.specs.lemmas.BoxLaws.{cell_at_index, cell_of_index, in_box, index_of_cell, before_by_order}
 use Rattle.dd_expansion.specs.Terms.{origin_at}
 use Rattle.dd_formula.specs.LocalRule.{LocalRule, is_true}
 use Rattle.dd_formula.specs.Living.{Fits, Lives, IsFirstFalse}
-use Rattle.dd_formula.proofs.RuleLaws.{truth_moved_back}
+use Rattle.dd_formula.specs.lemmas.RuleLaws.{truth_moved_back}
 
 abbrev pub true_in : LocalRule → Tile → ℕ → Type 0
 true_in r t i = is_true r (cell_in t i) (tile_look t) ≡ true

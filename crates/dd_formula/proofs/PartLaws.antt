@@ -8,15 +8,15 @@ use Rattle.dd_expansion.specs.declared.formulas.Formula.{Formula}
 use Rattle.dd_expansion.specs.Terms.{origin_at}
 use Rattle.dd_expansion.specs.Leaves.{leaf_cells}
 use Rattle.dd_expansion.specs.Limits.{IsFormula}
-use Rattle.dd_expansion.proofs.LeafLaws.{leaves_are_cells}
-use Rattle.dd_expansion.proofs.LeavesAreReads.{same_cells, leaves_are_symbols}
-use Rattle.dd_expansion.proofs.Placed.{reads_placed, origin_placed}
+use Rattle.dd_expansion.specs.lemmas.LeafLaws.{leaves_are_cells}
+use Rattle.dd_expansion.specs.lemmas.LeavesAreReads.{same_cells, leaves_are_symbols}
+use Rattle.dd_expansion.specs.lemmas.Placed.{reads_placed, origin_placed}
 use Rattle.dd_formula.specs.LocalRule.{LocalRule, local_rule, at_nodes, expansion_at, reads_at, cells_at, is_near, IsSmall, IsShort, IsRule, IsFar}
 use Rattle.dd_formula.specs.Refusals.{IsRefusal}
 use Rattle.dd_formula.specs.declared.fault.RuleFault.{RuleFault}
 use Rattle.dd_formula.specs.declared.fault.RuleFault.TheVariants.{Reach, Memory}
 use Rattle.dd_formula.proofs.Nodes.{at_nodes-alike, map-at_nodes, all_at_nodes, some_fails}
-use Rattle.dd_formula.proofs.RuleLaws.{leaves_pass_reads}
+use Rattle.dd_formula.specs.lemmas.RuleLaws.{leaves_pass_reads}
 
 module _ (r : LocalRule) (some : 1 ≤ r.symbols) where
   pub reads_made : map (λ e. in_order (leaf_cells e)) (at_nodes (expansion_at r) r.nodes) ≡ at_nodes (cells_at r) r.nodes

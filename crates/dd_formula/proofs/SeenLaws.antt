@@ -9,15 +9,15 @@ use Rattle.dd_lattice.specs.Place.{Place, moved, is_in_range}
 use Rattle.dd_lattice.specs.Cells.{shifted}
 use Rattle.dd_lattice.specs.Order.{cell_cmp}
 use Rattle.dd_lattice.specs.declared.position.Cell.{Cell}
-use Rattle.dd_lattice.proofs.InOrderLaws.{list_all-in_order}
+use Rattle.dd_lattice.specs.lemmas.InOrderLaws.{list_all-in_order}
 use Rattle.dd_pattern.specs.Reading.{Look, IsBelow}
 use Rattle.dd_pattern.specs.Filling.{Filled, filled, filling_look}
-use Rattle.dd_pattern.proofs.FillingLaws.{reads_at_place}
+use Rattle.dd_pattern.specs.lemmas.FillingLaws.{reads_at_place}
 use Rattle.dd_topology.specs.Topology.{extent}
 use Rattle.dd_expansion.specs.Leaves.{seen}
 use Rattle.dd_expansion.specs.Truth.{are_equal}
 use Rattle.dd_expansion.specs.Terms.{origin_at}
-use Rattle.dd_expansion.proofs.ListTests.{list_all-weaker}
+use Rattle.dd_expansion.specs.lemmas.ListTests.{list_all-weaker}
 use Rattle.dd_formula.specs.LocalRule.{is_near}
 use Rattle.dd_formula.specs.Automata.{Setting, Counted, IsAutomaton, value, counted, cells_of, is_cell_of}
 use Rattle.dd_formula.specs.Values.{are_given, is_read, HasCasesLook}
@@ -25,9 +25,9 @@ use Rattle.dd_formula.specs.valuing.Readable.{IsReadable, AreReadable, IsReadabl
 use Rattle.dd_formula.specs.declared.automaton.Automaton.{Automaton}
 use Rattle.dd_formula.specs.declared.automaton.Automaton.TheVariants as v
 use Rattle.dd_formula.specs.declared.automaton.Cases.{Cases}
-use Rattle.dd_formula.proofs.Reached.{filling_below, in_range}
-use Rattle.dd_formula.proofs.AutomatonLaws.{near_reads, counted_given, fits_given, outer_part, inner_part}
-use Rattle.dd_formula.proofs.ValueLaws.{origin, shifted_by_none, moved_by_none, value_by_reads, value_composed, value_below, equal_values, read_by_both}
+use Rattle.dd_formula.specs.lemmas.Reached.{filling_below, in_range}
+use Rattle.dd_formula.specs.lemmas.AutomatonLaws.{near_reads, counted_given, fits_given, outer_part, inner_part}
+use Rattle.dd_formula.specs.lemmas.ValueLaws.{origin, shifted_by_none, moved_by_none, value_by_reads, value_composed, value_below, equal_values, read_by_both}
 
 -- a test of a list, by the places of its elements
 by_places : {X : Type 0} (p : X → Bool) (xs : List X) → ((k : ℕ) (x : X) → k < length xs → p (get_or xs k x) ≡ true) → list_all p xs ≡ true

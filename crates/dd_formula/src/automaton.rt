@@ -108,7 +108,7 @@ impl Automaton {
 
     /// The cells that the automaton reads at a node, counted from the origin, in cell order, each once.
     #[cycle(reads)]
-    #[tactic(auto, using(crate::proofs::AutomatonLaws::layers))]
+    #[tactic(auto, using(crate::specs::lemmas::AutomatonLaws::layers))]
     pub fn reads(&self, alloc: Global, node: u32) -> Result<Vec<Cell>, AllocError>
         requires { HasNode self.now node }
         ensures list { IfOk result (λ v. v.items ≡ cells_of self.now node) }
@@ -162,7 +162,7 @@ impl Automaton {
     /// each default; over a composition the second automaton stands once at the node and once at each cell that the first
     /// reads. Past 20,000 it is cut off at 20,001.
     #[cycle(instances)]
-    #[tactic(auto, using(crate::proofs::AutomatonLaws::layers))]
+    #[tactic(auto, using(crate::specs::lemmas::AutomatonLaws::layers))]
     pub fn instances(&self, alloc: Global, node: u32) -> Result<u32, AllocError>
         requires { HasNode self.now node }
         ensures { IfOk result (λ n. n ≡ cut most_instances ((counted self.now).instances node)) }
@@ -223,7 +223,7 @@ impl Automaton {
     }
 
     /// How deep compositions are nested: 0 for an automaton that is given by cases.
-    #[tactic(auto, using(crate::proofs::AutomatonLaws::layers))]
+    #[tactic(auto, using(crate::specs::lemmas::AutomatonLaws::layers))]
     pub fn depth(&self) -> u32
         requires { (s : Setting) × IsAutomaton s self.now }
         ensures { result ≡ (counted self.now).depth }

@@ -9,11 +9,11 @@ use Rattle.std.proofs.Math.Nat.{mul-le-mul_right, div-le_self}
 use Rattle.dd_fraction.specs.Divisor.{greatest_common}
 use Rattle.dd_fraction.specs.Exact.{Exact, lowest, plus, minus, times, whole_of}
 use Rattle.dd_fraction.specs.Checked.{IsSmall, does_product_fit, does_sum_fit, does_less_product_fit, checked_product, checked_sum, checked_less_product}
-use Rattle.dd_fraction.proofs.Lowest.{size_over, lowest_at, lowest_same_at, zero_is}
-use Rattle.dd_fraction.proofs.Laws.{minus_lowest, plus_low_right}
+use Rattle.dd_fraction.specs.lemmas.Lowest.{size_over, lowest_at, lowest_same_at, zero_is}
+use Rattle.dd_fraction.specs.lemmas.Laws.{minus_lowest, plus_low_right}
 use Rattle.dd_fraction.proofs.Quick.{within, size_plus, alike_plus}
-use Rattle.dd_fraction.proofs.Results.{kept, refused, times_at, plus_at}
-use Rattle.dd_fraction.proofs.Ring.{diff_self, diff_same, as_diff, product_above}
+use Rattle.dd_fraction.specs.lemmas.Results.{kept, refused, times_at, plus_at}
+use Rattle.dd_fraction.specs.lemmas.Ring.{diff_self, diff_same, as_diff, product_above}
 
 -- ---- a product, and then a sum
 none_first : (t u : Bool) (z : Exact) → t ≡ false → None ≡ cond (t && u) (Some z) None

@@ -1,11 +1,4 @@
 pub mod Comparing
-pub mod Divisors
-pub mod FractionFacts
-pub mod Laws
 pub mod LessProduct
-pub mod Lowest
 pub mod OddDivisors
-pub mod OrderLaws
 pub mod Quick
-pub mod Results
-pub mod Ring

@@ -11,11 +11,11 @@ use Rattle.std.proofs.Math.Nat.{mul-le-mul_right, mul_comm, dvd-add, dvd-sub, dv
 use Rattle.dd_fraction.specs.Divisor.{greatest_common}
 use Rattle.dd_fraction.specs.Exact.{Exact, lowest, plus, whole_of}
 use Rattle.dd_fraction.specs.Checked.{IsFraction, is_bounded, bounded, bounded_size, checked_sum}
-use Rattle.dd_fraction.proofs.Divisors.{greatest_common-is}
-use Rattle.dd_fraction.proofs.Lowest.{exact_same, lowest_same_at, low_fraction}
-use Rattle.dd_fraction.proofs.Laws.{plus_comm, plus_zero}
-use Rattle.dd_fraction.proofs.Results.{bounded_some, size_some, crossed, lowest_alone, plus_at}
-use Rattle.dd_fraction.proofs.Ring.{diff_self, diff_same, as_diff, product_above}
+use Rattle.dd_fraction.specs.lemmas.Divisors.{greatest_common-is}
+use Rattle.dd_fraction.specs.lemmas.Lowest.{exact_same, lowest_same_at, low_fraction}
+use Rattle.dd_fraction.specs.lemmas.Laws.{plus_comm, plus_zero}
+use Rattle.dd_fraction.specs.lemmas.Results.{bounded_some, size_some, crossed, lowest_alone, plus_at}
+use Rattle.dd_fraction.specs.lemmas.Ring.{diff_self, diff_same, as_diff, product_above}
 
 pub within : (z : ℤ) → unsigned_abs z < 2 ^ 127 → is_bounded z ≡ true
 within z p = lt-ltb _ _ p

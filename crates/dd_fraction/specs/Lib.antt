@@ -7,3 +7,5 @@ pub mod Order
 pub mod Laws
 -- greatest common divisors
 pub mod Divisor
+-- lemmas on what stands above, with their proofs, for whoever cites them
+pub mod lemmas

@@ -18,7 +18,7 @@ use Rattle.dd_lattice.specs.declared.fault.LatticeFault.{LatticeFault}
 use Rattle.dd_lattice.specs.declared.fault.LatticeFault.TheVariants.{Range, Memory}
 use Rattle.dd_lattice.specs.declared.growing.Axis.{Axis}
 use Rattle.dd_lattice.specs.declared.growing.Axis.TheVariants.{X, Y, Z}
-use Rattle.dd_lattice.proofs.ListLaws.{Contains-nil, Contains-first}
+use Rattle.dd_lattice.specs.lemmas.ListLaws.{Contains-nil, Contains-first}
 
 same_place : (p q : Place) → p.x ≡ q.x → p.y ≡ q.y → p.z ≡ q.z → p ≡ q
 same_place p q x y z = ap (λ a. place a p.y p.z) x ∙ (ap (λ b. place q.x b p.z) y ∙ ap (λ c. place q.x q.y c) z)

@@ -1,10 +1,3 @@
 pub mod Sums
-pub mod InOrderLaws
-pub mod BoxLaws
-pub mod ListLaws
-pub mod RangeLaws
 pub mod MergeLaws
-pub mod PositionLaws
-pub mod SearchLaws
-pub mod MoveLaws
 pub mod GrowthLaws

@@ -12,8 +12,8 @@ use Rattle.dd_lattice.specs.Place.{Place, IsInRange}
 use Rattle.dd_lattice.specs.Order.{place_cmp}
 use Rattle.dd_lattice.specs.Regions.{IsRegion, IsRegionOf, IsInEither}
 use Rattle.dd_lattice.specs.Merge.{next_position, from_left, from_right}
-use Rattle.dd_lattice.proofs.InOrderLaws.{places_equal, place_total}
-use Rattle.dd_lattice.proofs.ListLaws.{All-from_contains, Contains-first, Contains-later, Contains-cons_cases, Contains-nil, sorted_append, sorted_push, sorted_first, sorted_rest}
+use Rattle.dd_lattice.specs.lemmas.InOrderLaws.{places_equal, place_total}
+use Rattle.dd_lattice.specs.lemmas.ListLaws.{All-from_contains, Contains-first, Contains-later, Contains-cons_cases, Contains-nil, sorted_append, sorted_push, sorted_first, sorted_rest}
 
 -- what the walk has made of the parts that it took, before the parts that are left
 pub record IsMerged (left left_rest right right_rest made : List Place) : Type 0 where

@@ -6,3 +6,5 @@ pub mod Boxes
 pub mod Regions
 pub mod Merge
 pub mod Growth
+-- lemmas on what stands above, with their proofs, for whoever cites them
+pub mod lemmas

@@ -14,7 +14,7 @@ use Rattle.dd_commands.specs.declared.command.Entry.{Entry}
 use Rattle.dd_commands.specs.declared.command.Vector.{Vector}
 use Rattle.dd_pattern.specs.Periods.{ArePeriodsIn, periods_of as with_shear}
 use Rattle.dd_pattern.specs.Tile.{IsPeriodic, IsTile}
-use Rattle.dd_topology.proofs.NamingLaws.{slice_get-number_of}
+use Rattle.dd_topology.specs.lemmas.NamingLaws.{slice_get-number_of}
 use Rattle.std.proofs.lemmas.Option.{slice_get_within}
 use Rattle.dd_faults.specs.declared.fault.Limit.TheVariants as limit
 use Rattle.dd_faults.specs.declared.fault.Fault.TheVariants as fault

@@ -16,8 +16,8 @@ use Rattle.dd_commands.specs.declared.command.Command.TheVariants as command
 use Rattle.dd_topology.specs.declared.edge.Edge.{Edge}
 use Rattle.dd_topology.specs.Topology.{starts_alike}
 use Rattle.dd_topology.specs.Grid.{is_edge, IsFirstTwice}
-use Rattle.dd_lattice.proofs.ListLaws.{Contains-first, Contains-later, Contains-nil, Contains-cons_cases, All-from_contains}
-use Rattle.dd_topology.proofs.ListLaws.{some_passes, passes_any}
+use Rattle.dd_lattice.specs.lemmas.ListLaws.{Contains-first, Contains-later, Contains-nil, Contains-cons_cases, All-from_contains}
+use Rattle.dd_topology.specs.lemmas.ListLaws.{some_passes, passes_any}
 use Rattle.dd_faults.specs.declared.fault.Limit.TheVariants as limit
 use Rattle.dd_faults.specs.declared.context.Context.{Context}
 use Rattle.dd_faults.specs.Order.{over}

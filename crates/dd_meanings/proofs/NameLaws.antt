@@ -14,7 +14,7 @@ use Rattle.dd_written.specs.declared.tree.Name.{Name}
 use Rattle.dd_written.specs.declared.tree.Name.TheVariants as name
 use Rattle.dd_written.specs.Values.{word_text, name_text}
 use Rattle.dd_topology.specs.Naming.{number_of}
-use Rattle.dd_topology.proofs.NamingLaws.{unknown, slice_get-number_of}
+use Rattle.dd_topology.specs.lemmas.NamingLaws.{unknown, slice_get-number_of}
 use Rattle.dd_faults.specs.declared.fault.Fault.{Fault}
 use Rattle.dd_faults.specs.declared.fault.Fault.TheVariants as fault
 use Rattle.dd_faults.specs.declared.context.Context.{Context}

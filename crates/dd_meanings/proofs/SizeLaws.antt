@@ -14,9 +14,9 @@ use Rattle.dd_formula.specs.Compositions.{IsFault}
 use Rattle.dd_formula.specs.declared.automaton.Automaton.{Automaton}
 use Rattle.dd_formula.specs.declared.fault.RuleFault.{RuleFault}
 use Rattle.dd_formula.specs.declared.fault.RuleFault.TheVariants as rule_fault
-use Rattle.dd_formula.proofs.AutomatonLaws.{counted_given, range_at, within_is, passes_both}
-use Rattle.dd_formula.proofs.CompositionLaws.{range_fails}
-use Rattle.dd_formula.proofs.Cuts.{total_more, total-take-le}
+use Rattle.dd_formula.specs.lemmas.AutomatonLaws.{counted_given, range_at, within_is, passes_both}
+use Rattle.dd_formula.specs.lemmas.CompositionLaws.{range_fails}
+use Rattle.dd_formula.specs.lemmas.Cuts.{total_more, total-take-le}
 use Rattle.dd_faults.specs.Order.{noted, over, first_fault, Refuses}
 use Rattle.dd_faults.specs.declared.fault.Fault.TheVariants as fault
 use Rattle.dd_faults.specs.declared.fault.Limit.TheVariants as limit

@@ -11,7 +11,7 @@ use Rattle.std.proofs.Math.Nat.{eq-or-lt_of_le}
 use Rattle.std.proofs.lemmas.Bool.{cond_both, ltb-true, ltb-false}
 use Rattle.dd_lattice.specs.Boxes.{is_active}
 use Rattle.std.proofs.lemmas.Map.Lookups.{exact_unsigned}
-use Rattle.dd_lattice.proofs.ListLaws.{Contains-first, Contains-later, Contains-cons_cases, Contains-nil}
+use Rattle.dd_lattice.specs.lemmas.ListLaws.{Contains-first, Contains-later, Contains-cons_cases, Contains-nil}
 use Rattle.dd_pattern.specs.declared.periods.Periods.{Periods}
 use Rattle.dd_pattern.specs.Periods.{volume, periods_cmp, AreWithin, AreAllWithin}
 use Rattle.dd_pattern.specs.listing.Adding.{IsAdded, HasShear, IsUpTo, HasBox, most_along}

@@ -7,3 +7,5 @@ pub mod Tile
 pub mod Weight
 -- What the loops that list periods add.
 pub mod listing
+-- lemmas on what stands above, with their proofs, for whoever cites them
+pub mod lemmas

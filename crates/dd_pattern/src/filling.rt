@@ -47,7 +47,7 @@ impl Filling {
     }
 
     /// The symbols, in the order of the cells.
-    #[tactic(auto, using(crate::proofs::FillingLaws::read_by_place, crate::proofs::FillingLaws::read_below))]
+    #[tactic(auto, using(crate::specs::lemmas::FillingLaws::read_by_place, crate::specs::lemmas::FillingLaws::read_below))]
     pub fn symbols(&self) -> &[u32]
         ensures value { result.now ≡ self.now.symbols }
         ensures places { IsReadByPlace self.now }

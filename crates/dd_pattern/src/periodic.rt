@@ -144,7 +144,7 @@ impl Periodic {
     }
 
     /// The symbols of the fundamental box, in cell order.
-    #[tactic(auto, using(crate::proofs::TileLaws::read_modulo))]
+    #[tactic(auto, using(crate::specs::lemmas::TileLaws::read_modulo))]
     pub fn symbols(&self) -> &[u32]
         ensures value { result.now ≡ self.now.symbols }
         ensures kept { IsPeriodic self.now }
@@ -191,7 +191,7 @@ impl Periodic {
 
 impl Periodic {
     /// The cell of the fundamental box whose symbol stands at this place in the list.
-    #[tactic(auto, using(crate::proofs::BoxLaws::in_box, crate::proofs::BoxLaws::index_of_cell))]
+    #[tactic(auto, using(crate::specs::lemmas::BoxLaws::in_box, crate::specs::lemmas::BoxLaws::index_of_cell))]
     pub fn cell_at(&self, number: usize) -> Cell
         requires { number < length self.now.symbols }
         ensures value { result ≡ cell_in self.now number }

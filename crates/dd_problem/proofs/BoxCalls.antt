@@ -19,8 +19,8 @@ use Rattle.dd_problem.specs.Problems.{box_problem}
 use Rattle.dd_problem.specs.Numbered.{in_turn}
 use Rattle.dd_problem.specs.Pushed.{AreInputs, is_goal_wired, wired_problem}
 use Rattle.dd_problem.specs.Shows.{Shows, DecidesBox}
-use Rattle.dd_problem.proofs.Filtered.{some_same}
-use Rattle.dd_problem.proofs.BoxShows.{box_shows, shown_decides}
+use Rattle.dd_problem.specs.lemmas.Filtered.{some_same}
+use Rattle.dd_problem.specs.lemmas.BoxShows.{box_shows, shown_decides}
 use Rattle.dd_problem.proofs.BoxInputs.{radius_small, box_made, box_ascends, all_box_nodes, box_is_problem, box_goal_wired, box_inputs, box_few}
 
 -- the question's count is at most two million

@@ -13,7 +13,7 @@ use Rattle.dd_lattice.specs.Place.{Place, IsInRange, is_in_range}
 use Rattle.dd_lattice.specs.Cells.{shifted}
 use Rattle.dd_lattice.specs.Boxes.{Bounds, IsWithin, centred, is_active, spread, span, volume}
 use Rattle.dd_lattice.specs.declared.position.Cell.{Cell}
-use Rattle.dd_lattice.proofs.RangeLaws.{test_from_in_range}
+use Rattle.dd_lattice.specs.lemmas.RangeLaws.{test_from_in_range}
 use Rattle.dd_circuit.specs.declared.gates.Signal.{Signal}
 use Rattle.dd_circuit.specs.Circuits.{signal_of}
 use Rattle.dd_compile.specs.Wiring.{wire_of}
@@ -28,13 +28,13 @@ use Rattle.dd_problem.specs.Clauses.{input}
 use Rattle.dd_problem.specs.Problems.{box_problem}
 use Rattle.dd_problem.specs.Numbered.{in_turn}
 use Rattle.dd_problem.specs.Pushed.{wired_problem, AreInputs, is_goal_wired}
-use Rattle.dd_problem.proofs.BoxLayout.{box_within, bounds_ordered, box_is_layout, box_cell_there, box_cell_at}
-use Rattle.dd_problem.proofs.BoxValues.{box_values}
-use Rattle.dd_problem.proofs.BoxShows.{goal_reads_box}
-use Rattle.dd_problem.proofs.CellOrder.{cells_ascending}
+use Rattle.dd_problem.specs.lemmas.BoxLayout.{box_within, bounds_ordered, box_is_layout, box_cell_there, box_cell_at}
+use Rattle.dd_problem.specs.lemmas.BoxValues.{box_values}
+use Rattle.dd_problem.specs.lemmas.BoxShows.{goal_reads_box}
+use Rattle.dd_problem.specs.lemmas.CellOrder.{cells_ascending}
 use Rattle.dd_problem.proofs.Counting.{positions_below, variables_below}
 use Rattle.dd_problem.proofs.Matching.{Gives, GoalMatches, goal_is_wired, wired_is_problem}
-use Rattle.dd_problem.proofs.NumberedWires.{turn_at, turns_below, wire_there, wire_absent, are_inputs}
+use Rattle.dd_problem.specs.lemmas.NumberedWires.{turn_at, turns_below, wire_there, wire_absent, are_inputs}
 
 -- a box in range
 spread_most : (b : Bool) (n : ℕ) → spread b n ≤ n

@@ -10,8 +10,8 @@ use Rattle.dd_lattice.specs.Cells.{cell}
 use Rattle.dd_lattice.specs.declared.position.Cell.{Cell}
 use Rattle.dd_expansion.specs.Leaves.{total, clause_count}
 use Rattle.dd_compile.specs.Compiling.{AllMade, all_made}
-use Rattle.dd_compile.proofs.FewGates.{gates_below}
-use Rattle.dd_compile.proofs.MadeCount.{made_count}
+use Rattle.dd_compile.specs.lemmas.FewGates.{gates_below}
+use Rattle.dd_compile.specs.lemmas.MadeCount.{made_count}
 use Rattle.dd_formula.specs.LocalRule.{LocalRule, expansion_at}
 use Rattle.dd_formula.specs.ValueCounts.{differ_at}
 use Rattle.dd_formula.specs.declared.automaton.Automaton.{Automaton}
@@ -19,8 +19,8 @@ use Rattle.dd_circuit.specs.declared.gates.Signal.{Signal}
 use Rattle.dd_circuit.specs.declared.gates.Gate.TheVariants.{Or}
 use Rattle.dd_compile.specs.Wiring.{Wiring}
 use Rattle.dd_compile.specs.ValueGates.{fresh, value_made}
-use Rattle.dd_compile.proofs.ChoiceLaws.{fresh_length}
-use Rattle.dd_compile.proofs.ValueParts.{by_forms, made_given, made_composed, few_gates}
+use Rattle.dd_compile.specs.lemmas.ChoiceLaws.{fresh_length}
+use Rattle.dd_compile.specs.lemmas.ValueParts.{by_forms, made_given, made_composed, few_gates}
 use Rattle.dd_boxes.specs.Goals.{GoalOf, breaks, differ, always}
 use Rattle.dd_boxes.specs.Boxes.{origin}
 use Rattle.dd_formula.specs.Counts.{over_nodes, rule_clauses, cell_clauses, disallowed_pairs}
@@ -30,7 +30,7 @@ use Rattle.dd_problem.specs.Clauses.{part_gates}
 use Rattle.dd_problem.specs.Problems.{wire, place_maker, premise_part, goal_part, input_count, problem}
 use Rattle.dd_problem.specs.Differing.{apart, differ_made}
 use Rattle.dd_problem.proofs.PlacesLeft.{part_gates-append}
-use Rattle.dd_problem.proofs.CellOrder.{length-cells_in}
+use Rattle.dd_problem.specs.lemmas.CellOrder.{length-cells_in}
 
 -- the gates of a rule at several cells, and at several nodes of one position
 abbrev at_cell : LocalRule → Cell → ℕ

@@ -9,7 +9,7 @@ use Rattle.dd_circuit.specs.Circuits.{Network, size, signal_of}
 use Rattle.dd_compile.specs.Wiring.{Wiring}
 use Rattle.dd_compile.specs.Compiling.{AllMade}
 use Rattle.dd_compile.specs.ValueGates.{fresh, value_made}
-use Rattle.dd_compile.proofs.Progress.{size-append}
+use Rattle.dd_compile.specs.lemmas.Progress.{size-append}
 use Rattle.dd_problem.specs.Differing.{apart, differ_made}
 
 pub apart_length : (xs ys : List Signal) → length ys ≡ length xs → length (apart xs ys) ≡ length xs

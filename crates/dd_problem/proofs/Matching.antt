@@ -11,11 +11,11 @@ use Rattle.dd_circuit.specs.Circuits.{signal_of}
 use Rattle.dd_expansion.specs.declared.expanded.Expanded.{Expanded}
 use Rattle.dd_expansion.specs.Terms.{origin_at}
 use Rattle.dd_expansion.specs.Leaves.{leaves_pass}
-use Rattle.dd_expansion.proofs.LeafLaws.{leaves_both, leaves_weaken}
-use Rattle.dd_expansion.proofs.LeavesAreReads.{leaves_are_reads}
+use Rattle.dd_expansion.specs.lemmas.LeafLaws.{leaves_both, leaves_weaken}
+use Rattle.dd_expansion.specs.lemmas.LeavesAreReads.{leaves_are_reads}
 use Rattle.dd_compile.specs.Wiring.{Wiring}
 use Rattle.dd_compile.specs.Compiling.{made, wires_near, is_wire, certain, compiled, wire_or_zero}
-use Rattle.dd_compile.proofs.MadeCount.{made_same}
+use Rattle.dd_compile.specs.lemmas.MadeCount.{made_same}
 use Rattle.dd_formula.specs.LocalRule.{LocalRule, IsRule, reads_at, expansion_at}
 use Rattle.dd_boxes.specs.Goals.{GoalOf, breaks, differ, always}
 use Rattle.dd_boxes.specs.Boxes.{origin}
@@ -26,11 +26,11 @@ use Rattle.dd_problem.specs.Problems.{wire, place_maker, premise_part, goal_part
 use Rattle.dd_formula.specs.Automata.{counted}
 use Rattle.dd_compile.specs.ValueSignals.{are_wired_there}
 use Rattle.dd_problem.specs.Differing.{differ_made}
-use Rattle.dd_problem.proofs.ValueWires.{GoalWired, value_is_wired}
+use Rattle.dd_problem.specs.lemmas.ValueWires.{GoalWired, value_is_wired}
 use Rattle.dd_problem.specs.Pushed.{are_both_wired, is_wired_at, is_goal_wired, wired_part, wired_parts, wired_goal, wired_problem}
-use Rattle.dd_problem.proofs.RangesLeft.{row_within}
-use Rattle.dd_problem.proofs.Reading.{IsLayout}
-use Rattle.dd_problem.proofs.Wiring.{HasReads, all_of_range}
+use Rattle.dd_problem.specs.lemmas.RangesLeft.{row_within}
+use Rattle.dd_problem.specs.lemmas.Reading.{IsLayout}
+use Rattle.dd_problem.specs.lemmas.Wiring.{HasReads, all_of_range}
 
 -- at the leaves that pass p, counted from v, the wires are the layout's inputs
 abbrev pub Gives : Wiring → Layout → ℕ → (Cell → Bool) → Place → Type 0

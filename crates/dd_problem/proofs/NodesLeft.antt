@@ -15,12 +15,12 @@ use Rattle.dd_circuit.specs.Circuits.{Network, IsSignal, size}
 use Rattle.dd_cnf.specs.Encoding.{literal_of, opposing, gate_clauses, gates_clauses}
 use Rattle.dd_compile.specs.Wiring.{Wiring}
 use Rattle.dd_compile.specs.Compiling.{Made, Maker, AllMade, all_made, wires_near, are_wired, certain, compiled, gate_count}
-use Rattle.dd_compile.proofs.MadeCount.{made_count}
-use Rattle.dd_compile.proofs.Layers.{wired_more}
+use Rattle.dd_compile.specs.lemmas.MadeCount.{made_count}
+use Rattle.dd_compile.specs.lemmas.Layers.{wired_more}
 use Rattle.dd_formula.specs.LocalRule.{LocalRule, expansion_at}
 use Rattle.dd_problem.specs.Clauses.{Part, part_gates, part_clauses}
 use Rattle.dd_problem.specs.Pushed.{is_wired_at}
-use Rattle.dd_problem.proofs.RangesLeft.{range_to, range_step, range_ends}
+use Rattle.dd_problem.specs.lemmas.RangesLeft.{range_to, range_step, range_ends}
 
 pub gates_clauses-append : (n : ℕ) (gs hs : List Gate) → gates_clauses n (gs ++ hs) ≡ gates_clauses n gs ++ gates_clauses (n + length gs) hs
 gates_clauses-append n [] hs = let e : n + 0 ≡ n = omega arith in rw e refl

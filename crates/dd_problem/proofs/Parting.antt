@@ -7,7 +7,7 @@ use Rattle.dd_circuit.specs.declared.gates.Gate.{Gate}
 use Rattle.dd_circuit.specs.declared.gates.Gate.TheVariants.{And}
 use Rattle.dd_circuit.specs.Circuits.{Network, IsSignal, size, signal_of, opposite}
 use Rattle.dd_compile.specs.ValueGates.{fresh}
-use Rattle.dd_compile.proofs.CaseGates.{next_is}
+use Rattle.dd_compile.specs.lemmas.CaseGates.{next_is}
 use Rattle.dd_problem.specs.Differing.{apart}
 
 pub record Parting (xs ys : List Signal) (i : ℕ) (start now : Network) (signals : List Signal) : Type 0 where

@@ -15,7 +15,7 @@ use Rattle.dd_circuit.specs.Circuits.{Network, IsSignal, size}
 use Rattle.dd_cnf.specs.Encoding.{gates_clauses}
 use Rattle.dd_compile.specs.Wiring.{Wiring, wire_of}
 use Rattle.dd_compile.specs.Compiling.{wires_near, is_wire, certain, compiled, gate_count}
-use Rattle.dd_compile.proofs.MadeCount.{made_count}
+use Rattle.dd_compile.specs.lemmas.MadeCount.{made_count}
 use Rattle.dd_formula.specs.LocalRule.{LocalRule, expansion_at}
 use Rattle.dd_problem.specs.Clauses.{Part, made_by, part_gates, part_clauses}
 use Rattle.dd_problem.specs.Pushed.{AreInputs, is_wired_at, wired_part, wired_parts}

@@ -16,7 +16,7 @@ use Rattle.dd_expansion.specs.Truth.{is_symbol}
 use Rattle.dd_formula.specs.LocalRule.{LocalRule, IsRule}
 use Rattle.dd_formula.specs.Living.{Fits}
 use Rattle.dd_boxes.specs.Witnesses.{ArePeriods, HasPeriods}
-use Rattle.dd_problem.proofs.Filtered.{some_same}
+use Rattle.dd_problem.specs.lemmas.Filtered.{some_same}
 use Rattle.dd_problem.proofs.TorusLayout.{torus_of, torus_is_periodic}
 use Rattle.dd_problem.proofs.TorusCalls.{tile_ok}
 use Rattle.dd_problem.specs.Clauses.{input}

@@ -14,20 +14,20 @@ use Rattle.dd_lattice.specs.Place.{Place, moved, is_in_range}
 use Rattle.dd_lattice.specs.Cells.{shifted}
 use Rattle.dd_lattice.specs.Boxes.{Bounds, IsBelow, IsWithin, centred, volume, place_in, spread, is_active}
 use Rattle.dd_lattice.specs.declared.position.Cell.{Cell}
-use Rattle.dd_lattice.proofs.BoxLaws.{place_within}
+use Rattle.dd_lattice.specs.lemmas.BoxLaws.{place_within}
 use Rattle.dd_topology.specs.Topology.{extent}
 use Rattle.dd_pattern.specs.declared.periods.Periods.{Periods}
 use Rattle.dd_pattern.specs.Tile.{fundamental}
-use Rattle.dd_expansion.proofs.LeafLaws.{leaves_weaken}
+use Rattle.dd_expansion.specs.lemmas.LeafLaws.{leaves_weaken}
 use Rattle.dd_formula.specs.LocalRule.{LocalRule, IsRule, expansion_at}
-use Rattle.dd_formula.proofs.RuleLaws.{leaves_pass_reads}
+use Rattle.dd_formula.specs.lemmas.RuleLaws.{leaves_pass_reads}
 use Rattle.dd_circuit.specs.declared.gates.Signal.{Signal}
 use Rattle.dd_circuit.specs.Circuits.{IsSignal, signal_of}
 use Rattle.dd_compile.specs.Wiring.{Wiring, signal_for, signals_of}
 use Rattle.dd_compile.specs.Compiling.{is_wire, wires_near}
 use Rattle.dd_compile.specs.RuleSignals.{is_signal, are_signals, are_reads_wired}
 use Rattle.dd_compile.specs.Templates.{RuleAt, rule_at}
-use Rattle.dd_compile.proofs.RuleWiring.{leaves_wired}
+use Rattle.dd_compile.specs.lemmas.RuleWiring.{leaves_wired}
 use Rattle.dd_boxes.specs.Goals.{GoalOf}
 use Rattle.dd_boxes.specs.Counts.{question_clauses, most_clauses}
 use Rattle.dd_boxes.specs.Witnesses.{ArePeriods}
@@ -35,9 +35,9 @@ use Rattle.dd_problem.specs.Clauses.{input}
 use Rattle.dd_problem.specs.Layouts.{nth_cell, cells_in, box_cells, torus_cells}
 use Rattle.dd_problem.specs.Numbered.{symbol_signals, numbered}
 use Rattle.dd_problem.specs.Pushed.{AreInputs, HasAllSymbols, is_wired_at}
-use Rattle.dd_problem.proofs.Filtered.{some_same}
-use Rattle.dd_problem.proofs.CellOrder.{All-range}
-use Rattle.dd_problem.proofs.BoxLayout.{bounds_ordered}
+use Rattle.dd_problem.specs.lemmas.Filtered.{some_same}
+use Rattle.dd_problem.specs.lemmas.CellOrder.{All-range}
+use Rattle.dd_problem.specs.lemmas.BoxLayout.{bounds_ordered}
 use Rattle.dd_problem.proofs.BoxInputs.{volume_wide}
 use Rattle.dd_problem.proofs.Counting.{positions_below}
 use Rattle.dd_problem.proofs.PlacesLeft.{wired_same}

@@ -14,7 +14,7 @@ use Rattle.dd_lattice.specs.declared.position.Cell.{Cell}
 use Rattle.dd_pattern.specs.declared.periods.Periods.{Periods}
 use Rattle.dd_pattern.specs.Periods.{volume}
 use Rattle.dd_pattern.specs.Tile.{Tile, IsPeriodic, tile, fundamental}
-use Rattle.dd_pattern.proofs.TileSizes.{index_below}
+use Rattle.dd_pattern.specs.lemmas.TileSizes.{index_below}
 use Rattle.dd_clause.specs.Clauses.{ClauseList}
 use Rattle.dd_compile.specs.Wiring.{Wiring}
 use Rattle.dd_formula.specs.LocalRule.{LocalRule, IsRule}
@@ -28,10 +28,10 @@ use Rattle.dd_problem.specs.Problems.{torus_problem}
 use Rattle.dd_problem.specs.Grown.{question_reach, grown, near_cells, number_at, numbered_by, numbers_of, torus_inputs}
 use Rattle.dd_problem.specs.Pushed.{AreInputs, is_goal_wired, wired_problem}
 use Rattle.dd_problem.specs.Shows.{ShowsTorus}
-use Rattle.dd_problem.proofs.RangesLeft.{row_within}
-use Rattle.dd_problem.proofs.CellOrder.{cells_nodes}
+use Rattle.dd_problem.specs.lemmas.RangesLeft.{row_within}
+use Rattle.dd_problem.specs.lemmas.CellOrder.{cells_nodes}
 use Rattle.dd_problem.proofs.Counting.{variables_below}
-use Rattle.dd_problem.proofs.NumberedWires.{are_inputs}
+use Rattle.dd_problem.specs.lemmas.NumberedWires.{are_inputs}
 use Rattle.dd_problem.proofs.TorusLayout.{torus_size, span_is, product_turned, product_small, length-torus_cells}
 use Rattle.dd_problem.proofs.TorusShows.{torus_shows}
 use Rattle.dd_problem.proofs.TorusReach.{question_near}

@@ -15,14 +15,14 @@ use Rattle.dd_lattice.specs.Cells.{shifted}
 use Rattle.dd_lattice.specs.Order.{cell_cmp}
 use Rattle.dd_lattice.specs.Boxes.{Bounds, IsBelow, IsWithin, is_active, spread, index_in}
 use Rattle.dd_lattice.specs.declared.position.Cell.{Cell}
-use Rattle.dd_lattice.proofs.RangeLaws.{test_from_in_range}
+use Rattle.dd_lattice.specs.lemmas.RangeLaws.{test_from_in_range}
 use Rattle.dd_topology.specs.Topology.{extent}
 use Rattle.dd_pattern.specs.declared.periods.Periods.{Periods}
 use Rattle.dd_pattern.specs.Periods.{residue, unsheared, base_of}
 use Rattle.dd_pattern.specs.Tile.{Tile, IsPeriodic, tile_index}
-use Rattle.dd_pattern.proofs.Residues.{residue_below, residue_small, quotient_small}
-use Rattle.dd_pattern.proofs.TileLaws.{place_same}
-use Rattle.dd_pattern.proofs.TileSizes.{index_below}
+use Rattle.dd_pattern.specs.lemmas.Residues.{residue_below, residue_small, quotient_small}
+use Rattle.dd_pattern.specs.lemmas.TileLaws.{place_same}
+use Rattle.dd_pattern.specs.lemmas.TileSizes.{index_below}
 use Rattle.dd_expansion.specs.Placed.{is_flat}
 use Rattle.dd_circuit.specs.Circuits.{signal_of}
 use Rattle.dd_compile.specs.Wiring.{signals_of, wire_of}
@@ -31,7 +31,7 @@ use Rattle.dd_formula.specs.Reach.{reach, automaton_reach}
 use Rattle.dd_formula.specs.Automata.{Setting, IsAutomaton, counted, is_cell_of}
 use Rattle.dd_formula.specs.Values.{IsPlaced}
 use Rattle.dd_formula.specs.declared.automaton.Automaton.{Automaton}
-use Rattle.dd_formula.proofs.ReachLaws.{is_within, reads_within, automaton_reads_within}
+use Rattle.dd_formula.specs.lemmas.ReachLaws.{is_within, reads_within, automaton_reads_within}
 use Rattle.dd_boxes.specs.Goals.{GoalOf, breaks, differ, always, AreOver}
 use Rattle.dd_boxes.specs.Boxes.{origin}
 use Rattle.dd_boxes.specs.Witnesses.{ArePeriods}
@@ -42,11 +42,11 @@ use Rattle.dd_problem.specs.Clauses.{input}
 use Rattle.dd_problem.specs.Problems.{torus_problem}
 use Rattle.dd_problem.specs.Grown.{goal_reach, question_reach, grown, near_cells, number_at, numbered_by, numbers_of}
 use Rattle.dd_problem.specs.Pushed.{wired_problem, is_goal_wired}
-use Rattle.dd_problem.proofs.CellOrder.{cells_ascending, cell_there}
+use Rattle.dd_problem.specs.lemmas.CellOrder.{cells_ascending, cell_there}
 use Rattle.dd_problem.proofs.Matching.{Gives, Matches, GoalMatches, goal_is_wired, wired_is_problem}
-use Rattle.dd_problem.proofs.NumberedWires.{wire_there, signals_there}
+use Rattle.dd_problem.specs.lemmas.NumberedWires.{wire_there, signals_there}
 use Rattle.dd_problem.specs.Numbered.{symbol_signals}
-use Rattle.dd_problem.proofs.ValueWires.{HasInputs, GoalWired, passes_member}
+use Rattle.dd_problem.specs.lemmas.ValueWires.{HasInputs, GoalWired, passes_member}
 use Rattle.dd_problem.proofs.TorusLayout.{torus_size, torus_is_periodic, torus_is_layout, torus_cell_at}
 use Rattle.dd_problem.proofs.TorusShows.{goal_reads_torus}
 use Rattle.dd_problem.proofs.TorusReach.{question_near, premise_within, goal_within}

@@ -16,18 +16,18 @@ use Rattle.dd_lattice.specs.declared.position.Cell.{Cell}
 use Rattle.dd_pattern.specs.declared.periods.Periods.{Periods}
 use Rattle.dd_pattern.specs.Periods.{volume, residue, base_of}
 use Rattle.dd_pattern.specs.Tile.{Tile, IsTile, IsPeriodic, tile, tile_index, tile_look, cell_in, fundamental, IsInBox}
-use Rattle.dd_pattern.proofs.Residues.{residue_below}
-use Rattle.dd_pattern.proofs.TileLaws.{base_moved, look_same}
-use Rattle.dd_pattern.proofs.TileSizes.{index_below}
-use Rattle.dd_pattern.proofs.BoxLaws.{cell_at_index, in_box, index_of_cell}
+use Rattle.dd_pattern.specs.lemmas.Residues.{residue_below}
+use Rattle.dd_pattern.specs.lemmas.TileLaws.{base_moved, look_same}
+use Rattle.dd_pattern.specs.lemmas.TileSizes.{index_below}
+use Rattle.dd_pattern.specs.lemmas.BoxLaws.{cell_at_index, in_box, index_of_cell}
 use Rattle.dd_expansion.specs.Placed.{is_flat}
 use Rattle.dd_formula.specs.LocalRule.{LocalRule, IsRule}
 use Rattle.dd_boxes.specs.Goals.{GoalOf}
 use Rattle.dd_boxes.specs.Witnesses.{ArePeriods}
 use Rattle.dd_problem.specs.Layouts.{nth_cell, torus, torus_cells}
 use Rattle.dd_problem.specs.Grown.{torus_layout}
-use Rattle.dd_problem.proofs.Reading.{IsLayout}
-use Rattle.dd_problem.proofs.Filtered.{some_same, slice_of_range}
+use Rattle.dd_problem.specs.lemmas.Reading.{IsLayout}
+use Rattle.dd_problem.specs.lemmas.Filtered.{some_same, slice_of_range}
 
 -- the configuration of these symbols
 abbrev pub torus_of : LocalRule → Periods → List ℕ → Tile

@@ -3,11 +3,11 @@ use Rattle.std.proofs.Common.{◌≡◌, ℕ, ◌≤◌, ap, sym, subst, ◌∙�
 use Rattle.std.specs.Prelude.{max}
 use Rattle.dd_formula.specs.LocalRule.{LocalRule, IsRule}
 use Rattle.dd_formula.specs.Reach.{reach}
-use Rattle.dd_formula.proofs.ReachLaws.{reach_near, automaton_reach_within}
-use Rattle.dd_formula.proofs.AutomatonLaws.{near_reads}
+use Rattle.dd_formula.specs.lemmas.ReachLaws.{reach_near, automaton_reach_within}
+use Rattle.dd_formula.specs.lemmas.AutomatonLaws.{near_reads}
 use Rattle.dd_boxes.specs.Goals.{GoalOf, breaks, differ, always, IsGoalFor}
 use Rattle.dd_boxes.specs.Boxes.{IsLeastRadius}
-use Rattle.dd_boxes.proofs.ReachLaws.{least_is_reach, least_is_farthest, least_is_none}
+use Rattle.dd_boxes.specs.lemmas.ReachLaws.{least_is_reach, least_is_farthest, least_is_none}
 use Rattle.dd_problem.specs.Told.{IsToldGoal}
 use Rattle.dd_problem.specs.Grown.{goal_reach, question_reach}
 

@@ -9,25 +9,25 @@ use Rattle.dd_lattice.specs.declared.position.Cell.{Cell}
 use Rattle.dd_pattern.specs.declared.periods.Periods.{Periods}
 use Rattle.dd_pattern.specs.Periods.{base_of}
 use Rattle.dd_pattern.specs.Tile.{Tile, tile_index, tile_look}
-use Rattle.dd_pattern.proofs.TileSizes.{index_below}
+use Rattle.dd_pattern.specs.lemmas.TileSizes.{index_below}
 use Rattle.dd_expansion.specs.Placed.{is_flat}
 use Rattle.dd_formula.specs.LocalRule.{LocalRule, rule_allows, IsRule, is_true, reads_at, is_of}
 use Rattle.dd_formula.specs.Living.{Fits, Lives}
-use Rattle.dd_cnf.proofs.ModelLaws.{Satisfies-is_satisfied, is_satisfied-Satisfies}
+use Rattle.dd_cnf.specs.lemmas.ModelLaws.{Satisfies-is_satisfied, is_satisfied-Satisfies}
 use Rattle.dd_boxes.specs.Goals.{GoalOf, breaks, differ, always}
 use Rattle.dd_boxes.specs.Witnesses.{ArePeriods, HasPeriods, IsWitness}
-use Rattle.dd_boxes.proofs.RuleLaws.{keeps_at, list_all_weaker}
+use Rattle.dd_boxes.specs.lemmas.RuleLaws.{keeps_at, list_all_weaker}
 use Rattle.dd_problem.specs.Told.{IsToldGoal}
 use Rattle.dd_problem.specs.Layouts.{torus, torus_cells, fits_in}
 use Rattle.dd_problem.specs.Grown.{torus_layout}
 use Rattle.dd_problem.specs.Problems.{problem_clauses}
 use Rattle.dd_problem.specs.Shows.{ShowsTorus}
-use Rattle.dd_problem.proofs.ValueWires.{GoalWired}
-use Rattle.dd_problem.proofs.Parted.{premise_holds}
-use Rattle.dd_problem.proofs.Reading.{Stands, IsWired, look_allowed, read_symbols, problem_read}
-use Rattle.dd_problem.proofs.Writing.{assignment, problem_written}
-use Rattle.dd_problem.proofs.Filtered.{filter_all, filter_at}
-use Rattle.dd_problem.proofs.Wiring.{goal_from_test, test_from_goal, HasReads, wired_layout}
+use Rattle.dd_problem.specs.lemmas.ValueWires.{GoalWired}
+use Rattle.dd_problem.specs.lemmas.Parted.{premise_holds}
+use Rattle.dd_problem.specs.lemmas.Reading.{Stands, IsWired, look_allowed, read_symbols, problem_read}
+use Rattle.dd_problem.specs.lemmas.Writing.{assignment, problem_written}
+use Rattle.dd_problem.specs.lemmas.Filtered.{filter_all, filter_at}
+use Rattle.dd_problem.specs.lemmas.Wiring.{goal_from_test, test_from_goal, HasReads, wired_layout}
 use Rattle.dd_problem.proofs.TorusLayout.{torus_of, torus_size, length-torus_cells, torus_is_tile, torus_is_layout, torus_cell_there, torus_cell_at, torus_index_at, flat_place, look_periodic}
 
 -- a rule reads cells with nodes that there are

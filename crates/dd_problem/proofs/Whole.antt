@@ -7,7 +7,7 @@ use Rattle.dd_circuit.specs.declared.gates.Gate.{Gate}
 use Rattle.dd_circuit.specs.Circuits.{Network, size}
 use Rattle.dd_compile.specs.Wiring.{Wiring}
 use Rattle.dd_compile.specs.Compiling.{wires_near}
-use Rattle.dd_compile.proofs.Layers.{wired_more}
+use Rattle.dd_compile.specs.lemmas.Layers.{wired_more}
 use Rattle.dd_formula.specs.LocalRule.{LocalRule, expansion_at}
 use Rattle.std.proofs.lemmas.Bool.{and_parts, and_from}
 use Rattle.dd_formula.specs.Automata.{counted}
@@ -15,10 +15,10 @@ use Rattle.dd_compile.specs.ValueSignals.{are_wired_there}
 use Rattle.dd_boxes.specs.Goals.{GoalOf, breaks, differ, always}
 use Rattle.dd_boxes.specs.Boxes.{origin}
 use Rattle.dd_problem.specs.Clauses.{Part, cell_clauses, part_gates, part_clauses}
-use Rattle.dd_compile.proofs.StillWired.{still_wired}
+use Rattle.dd_compile.specs.lemmas.StillWired.{still_wired}
 use Rattle.dd_problem.specs.Pushed.{are_both_wired, is_wired_at, is_goal_wired, wired_parts, wired_goal, wired_problem}
 use Rattle.dd_problem.proofs.PlacesLeft.{part_gates-append, part_clauses-append}
-use Rattle.dd_problem.proofs.Wiring.{all_of_range, range_at}
+use Rattle.dd_problem.specs.lemmas.Wiring.{all_of_range, range_at}
 
 -- a goal that is wired among some variables is so among more
 pub goal_wired_more : (w : Wiring) (n m : ℕ) (g : GoalOf) → n ≤ m → is_goal_wired w n g ≡ true → is_goal_wired w m g ≡ true

@@ -12,3 +12,5 @@ pub mod Numbered
 pub mod Grown
 -- what is known of goals while their clauses are made
 pub mod Told
+-- lemmas on what stands above, with their proofs, for whoever cites them
+pub mod lemmas

@@ -7,7 +7,7 @@ use Rattle.std.proofs.Math.Nat.{eq-or-lt_of_le}
 use Rattle.std.proofs.lemmas.Bool.{cases_Bool, both_ways, and_parts, eqb-true}
 use Rattle.std.proofs.lemmas.Option.{slice_get_read}
 use Rattle.std.proofs.lemmas.List.Folds.{list_any-append}
-use Rattle.dd_formula.proofs.Ranges.{range_push}
+use Rattle.dd_formula.specs.lemmas.Ranges.{range_push}
 use Rattle.dd_boxes.specs.Counts.{most_clauses}
 use Rattle.dd_faults.specs.declared.fault.Fault.{Fault}
 use Rattle.dd_faults.specs.declared.fault.Limit.{Limit}

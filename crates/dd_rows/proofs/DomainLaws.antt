@@ -8,8 +8,8 @@ use Rattle.std.proofs.lemmas.List.Elements.{Contains-append_left, Contains-push,
 use Rattle.dd_lattice.specs.Place.{Place, moved}
 use Rattle.dd_lattice.specs.Boxes.{IsCentred}
 use Rattle.dd_lattice.specs.Regions.{IsRegionOf, IsInEither, IsMoved}
-use Rattle.dd_lattice.proofs.ListLaws.{Contains-nil}
-use Rattle.dd_boxes.proofs.RuleLaws.{place_same}
+use Rattle.dd_lattice.specs.lemmas.ListLaws.{Contains-nil}
+use Rattle.dd_boxes.specs.lemmas.RuleLaws.{place_same}
 use Rattle.dd_rows.specs.Domains.{opposite, IsInDomain}
 
 back : (a b : ℤ) → ((a +ℤ (pos 0 -ℤ b)) +ℤ b) ≡ a

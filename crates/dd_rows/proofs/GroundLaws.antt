@@ -10,12 +10,12 @@ use Rattle.dd_lattice.specs.Cells.{cell}
 use Rattle.dd_lattice.specs.Order.{place_cmp, cell_cmp}
 use Rattle.dd_lattice.specs.Regions.{IsRegionOf, IsNearby}
 use Rattle.dd_lattice.specs.declared.position.Cell.{Cell}
-use Rattle.dd_lattice.proofs.InOrderLaws.{place_total}
-use Rattle.dd_lattice.proofs.ListLaws.{Contains-nil, Contains-from_map, Contains-cons_cases, Contains-first, Contains-later, sorted_append, sorted_first, sorted_rest}
+use Rattle.dd_lattice.specs.lemmas.InOrderLaws.{place_total}
+use Rattle.dd_lattice.specs.lemmas.ListLaws.{Contains-nil, Contains-from_map, Contains-cons_cases, Contains-first, Contains-later, sorted_append, sorted_first, sorted_rest}
 use Rattle.dd_formula.specs.LocalRule.{LocalRule}
 use Rattle.dd_rows.specs.Domains.{IsInDomain, IsGround, cells_on}
 use Rattle.dd_rows.specs.listing.Levels.{AreOf, AreInRange}
-use Rattle.dd_rows.proofs.Growing.{all_flat_map, all_map, range_below}
+use Rattle.dd_rows.specs.lemmas.Growing.{all_flat_map, all_map, range_below}
 
 -- a cell of the list has one of the positions
 record IsAt (ps : List Place) (c : Cell) : Type 0 where

@@ -1,14 +1,9 @@
 pub mod NumberLaws
-pub mod Lists
-pub mod Ready
-pub mod FormulaLaws
-pub mod Growing
 pub mod Chosen
 pub mod Steps
 pub mod DomainLaws
 pub mod GroundLaws
 pub mod Reach
-pub mod AdmissibleLaws
 pub mod SortedLists
 pub mod Collected
 pub mod SparseLaws

@@ -4,7 +4,7 @@ use Rattle.std.specs.Result.{MatchResult}
 use Rattle.std.specs.List.Sorted.{IsStrictlySortedBy, IsBinarySearchResult, IsSearchInRange}
 use Rattle.dd_lattice.specs.declared.position.Cell.{Cell}
 use Rattle.dd_lattice.specs.Order.{cell_cmp}
-use Rattle.dd_pattern.proofs.FillingLaws.{search_places}
+use Rattle.dd_pattern.specs.lemmas.FillingLaws.{search_places}
 use Rattle.dd_rows.specs.listing.Levels.{number_of}
 
 pub number_found : (cs : List Cell) (c : Cell) (r : Result ℕ ℕ) → IsStrictlySortedBy cell_cmp cs → IsSearchInRange r (length cs) → IsBinarySearchResult (λ y. cell_cmp y c) cs r →

@@ -23,7 +23,7 @@ use Rattle.dd_rows.specs.listing.Levels.{IsWord, number_of}
 use Rattle.dd_rows.specs.listing.Views.{AreViews, view_of}
 use Rattle.dd_rows.specs.listing.Sparse.{capped, asked_row}
 use Rattle.dd_rows.specs.listing.Shown.{patterns_shown, rows_shown, IsProgramShown, IsLargeShown}
-use Rattle.dd_rows.proofs.Growing.{fillings_are}
+use Rattle.dd_rows.specs.lemmas.Growing.{fillings_are}
 use Rattle.dd_rows.proofs.RowLaws.{all_shown, all_asked}
 
 pub memory_fault : (fault : RowsFault) (P : Type 0) → fault ≡ Memory → OnLarge fault P

@@ -7,7 +7,7 @@ use Rattle.std.proofs.lemmas.List.Elements.{All-contains}
 use Rattle.dd_lattice.specs.Place.{Place, place, moved, IsNear, IsInRange}
 use Rattle.dd_lattice.specs.Boxes.{OnAxis, IsUpTo, IsCentred, is_active}
 use Rattle.dd_lattice.specs.Regions.{IsRegionOf, IsMoved, IsNearby, LeavesRange}
-use Rattle.dd_lattice.proofs.ListLaws.{Contains-nil}
+use Rattle.dd_lattice.specs.lemmas.ListLaws.{Contains-nil}
 use Rattle.dd_rows.specs.Asked.{IsVector}
 use Rattle.dd_rows.specs.Domains.{opposite, IsInDomain}
 

@@ -22,7 +22,7 @@ use Rattle.dd_rows.specs.Programs.{coefficients, row_of, column_count, most_colu
 use Rattle.dd_rows.specs.listing.Levels.{number_of}
 use Rattle.dd_rows.specs.listing.Views.{AreViews, view_of, symbols_at, patterns_seen, with_patterns}
 use Rattle.dd_rows.specs.listing.Sparse.{asked_row}
-use Rattle.dd_rows.proofs.Lists.{flat_map_agree}
+use Rattle.dd_rows.specs.lemmas.Lists.{flat_map_agree}
 use Rattle.dd_rows.proofs.Steps.{flat_map_next}
 use Rattle.dd_rows.proofs.Collected.{front_folded}
 use Rattle.dd_rows.proofs.SortedLists.{insert_grows}

@@ -27,8 +27,8 @@ use Rattle.dd_rows.specs.listing.Views.{symbols_at}
 use Rattle.dd_rows.specs.listing.Sparse.{capped, exchange_of, entry, entries, dense, IsExchange, IsSparse, AreSparse, IsWithRow, exchanges_of, asked_row, asked_rows}
 use Rattle.dd_pattern.specs.Weight.{total_weight}
 use Rattle.dd_rows.proofs.Collected.{folded_next, folded_large}
-use Rattle.dd_rows.proofs.Lists.{flat_map_agree, all_first, all_rest}
-use Rattle.dd_rows.proofs.Growing.{all_cons, all_map}
+use Rattle.dd_rows.specs.lemmas.Lists.{flat_map_agree, all_first, all_rest}
+use Rattle.dd_rows.specs.lemmas.Growing.{all_cons, all_map}
 
 one_here : (k : ℕ) → one_at k k ≡ pos 1
 one_here k = ap (λ b. pos (cond b 1 0)) (eq-eqb k k refl)

@@ -12,7 +12,7 @@ use Rattle.dd_expansion.specs.Limits.{greatest}
 use Rattle.dd_lattice.specs.declared.position.Cell.{Cell}
 use Rattle.dd_formula.specs.LocalRule.{LocalRule, rule_allows}
 use Rattle.dd_rows.specs.listing.Levels.{extended_below}
-use Rattle.dd_rows.proofs.Lists.{range_last, greatest_push}
+use Rattle.dd_rows.specs.lemmas.Lists.{range_last, greatest_push}
 use Rattle.dd_rows.specs.declared.fault.RowsFault.{RowsFault}
 use Rattle.dd_rows.specs.declared.fault.RowsFault.TheVariants.{Large, Memory}
 use Rattle.dd_rows.specs.Faults.{OnLarge}

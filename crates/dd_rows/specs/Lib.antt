@@ -10,3 +10,5 @@ pub mod Faults
 pub mod Laws
 -- what the search appends, by what stands so far
 pub mod listing
+-- lemmas on what stands above, with their proofs, for whoever cites them
+pub mod lemmas

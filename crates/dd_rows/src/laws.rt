@@ -7,7 +7,7 @@ use dd_formula::Rule;
 
 /// Does nothing; its contract is the law of the fillings that are listed: they are the admissible ones among all lists of
 /// symbols that the nodes of the cells allow.
-#[tactic(auto, using(crate::proofs::AdmissibleLaws::the_admissible))]
+#[tactic(auto, using(crate::specs::lemmas::AdmissibleLaws::the_admissible))]
 pub fn the_admissible(_rule: &Rule)
     ensures { (cs : List Cell) → AreCellsOf _rule.now cs → AreTheAdmissible _rule.now cs }
 {}

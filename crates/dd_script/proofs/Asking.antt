@@ -14,13 +14,13 @@ use Rattle.dd_formula.specs.Counts.{largest_clauses}
 use Rattle.dd_formula.specs.Automata.{Setting, IsAutomaton, rule_has}
 use Rattle.dd_formula.specs.Reach.{automaton_cells}
 use Rattle.dd_formula.specs.declared.automaton.Automaton.{Automaton}
-use Rattle.dd_formula.proofs.FarthestLaws.{farthest-append}
+use Rattle.dd_formula.specs.lemmas.FarthestLaws.{farthest-append}
 use Rattle.dd_rows.specs.Asked.{AreVectors}
 use Rattle.dd_boxes.specs.Goals.{GoalOf, breaks, differ, always, AreAlike, IsGoalFor}
 use Rattle.dd_boxes.specs.Views.{numbers_of as numbers_of_rule}
 use Rattle.dd_boxes.specs.Boxes.{IsLeastRadius}
 use Rattle.dd_boxes.specs.Counts.{goal_clauses, most_clauses}
-use Rattle.dd_boxes.proofs.ReachLaws.{least_is_reach, least_is_none, least_is_farthest}
+use Rattle.dd_boxes.specs.lemmas.ReachLaws.{least_is_reach, least_is_none, least_is_farthest}
 use Rattle.dd_faults.specs.declared.fault.Fault.{Fault}
 use Rattle.dd_faults.specs.declared.fault.Limit.{Limit}
 use Rattle.dd_faults.specs.declared.fault.Limit.TheVariants as limit

@@ -11,8 +11,8 @@ use Rattle.dd_commands.specs.declared.script.Syntax.{Syntax}
 use Rattle.dd_commands.specs.Heads.{head_of, stage}
 use Rattle.dd_commands.specs.Scripts.{parts, is_whole, next_of, MayStand, AreCommands, IsFirstBad, IsScript, IsFault}
 use Rattle.dd_commands.specs.reading.Commands.{command_of}
-use Rattle.dd_commands.proofs.CommandComplete.{command_again}
-use Rattle.dd_commands.proofs.Whole.{may_stand, too_early, not_whole}
+use Rattle.dd_commands.specs.lemmas.CommandComplete.{command_again}
+use Rattle.dd_commands.specs.lemmas.Whole.{may_stand, too_early, not_whole}
 
 abbrev CommandOrNone : List ℕ → ℕ → List Lexeme → Type 0
 CommandOrNone bytes from p = ((w : Written) × MayStand bytes from p w) ⊎ ((w : Written) → MayStand bytes from p w → ⊥)

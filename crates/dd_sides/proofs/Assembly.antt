@@ -13,13 +13,13 @@ use Rattle.dd_lattice.specs.Place.{Place, moved}
 use Rattle.dd_lattice.specs.Cells.{shifted}
 use Rattle.dd_lattice.specs.Boxes.{is_active, OnAxis, IsUpTo, IsCentred}
 use Rattle.dd_lattice.specs.declared.position.Cell.{Cell}
-use Rattle.dd_lattice.proofs.ListLaws.{Contains-first, Contains-later, Contains-map}
+use Rattle.dd_lattice.specs.lemmas.ListLaws.{Contains-first, Contains-later, Contains-map}
 use Rattle.dd_pattern.specs.Reading.{Look}
 use Rattle.dd_expansion.specs.Limits.{greatest}
 use Rattle.dd_expansion.specs.Placed.{is_flat}
 use Rattle.dd_formula.specs.LocalRule.{LocalRule, IsRule}
 use Rattle.dd_boxes.specs.Fillings.{Admissible}
-use Rattle.dd_boxes.proofs.RuleLaws.{place_same, shifted_by_origin, moved_from_origin}
+use Rattle.dd_boxes.specs.lemmas.RuleLaws.{place_same, shifted_by_origin, moved_from_origin}
 use Rattle.dd_rows.specs.declared.rows.Row.{Row}
 use Rattle.dd_rows.specs.declared.rows.Rows.{Rows}
 use Rattle.dd_discharge.specs.declared.bound.Bound.{Bound}
@@ -34,12 +34,12 @@ use Rattle.dd_sides.specs.Sums.{volume, giver}
 use Rattle.dd_sides.specs.Sides.{run, side, is_near_run, is_in_grown, IsSideFilling, position_weight, side_weight}
 use Rattle.dd_sides.specs.Boundaries.{outer_count, boundary}
 use Rattle.dd_sides.specs.Lifted.{reach_of, HoldsOnSides}
-use Rattle.dd_sides.proofs.BoxLaws.{IsAt, kept}
+use Rattle.dd_sides.specs.lemmas.BoxLaws.{IsAt, kept}
 use Rattle.dd_sides.proofs.SideLaws.{side_volume, kept_is}
 use Rattle.dd_sides.proofs.Gifts.{Gift, given, received, comes_in, rows_summed}
 use Rattle.dd_sides.proofs.SeenRows.{first_seen_has}
 use Rattle.dd_sides.proofs.RowSums.{goes_out, comes, row_says}
-use Rattle.dd_sides.proofs.GroundCells.{at_origin, at_giver, range_below, origin_centred, ground_reach, ground_has, ground_cells, box_centred}
+use Rattle.dd_sides.specs.lemmas.GroundCells.{at_origin, at_giver, range_below, origin_centred, ground_reach, ground_has, ground_cells, box_centred}
 use Rattle.dd_sides.proofs.LocalFillings.{around, shown, shown_filling, shown_pattern, shown_weight}
 
 -- ---- the cells around a position of the box are cells of the grown box

@@ -5,8 +5,8 @@ use Rattle.std.proofs.lemmas.Int.{ints}
 use Rattle.std.proofs.lemmas.Bool.{cases_lt}
 use Rattle.dd_lattice.specs.Place.{Place}
 use Rattle.dd_sides.specs.Sums.{Size, axis_sum, box_sum, volume, is_on, is_in_box, giver, from_outside}
-use Rattle.dd_sides.proofs.AxisLaws.{axis_split, axis_same}
-use Rattle.dd_sides.proofs.BoxLaws.{kept, box_add, box_same, box_const}
+use Rattle.dd_sides.specs.lemmas.AxisLaws.{axis_split, axis_same}
+use Rattle.dd_sides.specs.lemmas.BoxLaws.{kept, box_add, box_same, box_const}
 
 axis_at : (n : ℕ) (a : ℤ) (f : ℤ → ℕ) (k : ℕ) → ((i : ℕ) → i < n → f (a +ℤ pos i) ≡ k) → axis_sum n a f ≡ n * k
 axis_at zero a f k h = omega arith

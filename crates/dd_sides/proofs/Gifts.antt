@@ -3,7 +3,7 @@
 use Rattle.std.proofs.Common.{◌≡◌, ℕ, ◌+◌, ◌-◌, ◌*◌, ◌≤◌, List, [], ◌∷◌, ap, arith}
 use Rattle.dd_lattice.specs.Place.{Place}
 use Rattle.dd_sides.specs.Sums.{Size, box_sum, volume, giver}
-use Rattle.dd_sides.proofs.BoxLaws.{IsAt, kept, box_moved, box_at_most, box_add, box_times, box_const, box_shifted, kept_at_most}
+use Rattle.dd_sides.specs.lemmas.BoxLaws.{IsAt, kept, box_moved, box_at_most, box_add, box_times, box_const, box_shifted, kept_at_most}
 
 pub record Gift : Type 0 where
   pub along : Place

@@ -1,13 +1,9 @@
-pub mod AxisLaws
-pub mod BoxLaws
 pub mod CountLaws
 pub mod SideLaws
 pub mod SideParts
 pub mod Gifts
 pub mod SeenRows
 pub mod RowSums
-pub mod WordLaws
-pub mod GroundCells
 pub mod LocalFillings
 pub mod Assembly
 pub mod Worked

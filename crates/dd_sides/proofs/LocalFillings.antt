@@ -11,17 +11,17 @@ use Rattle.dd_pattern.specs.Weight.{total_weight}
 use Rattle.dd_expansion.specs.Placed.{is_flat}
 use Rattle.dd_formula.specs.LocalRule.{LocalRule, IsRule, rule_allows, reads_at}
 use Rattle.dd_formula.specs.Allowed.{AreAllowed}
-use Rattle.dd_formula.proofs.AllowedLaws.{allowed_below}
+use Rattle.dd_formula.specs.lemmas.AllowedLaws.{allowed_below}
 use Rattle.dd_boxes.specs.Fillings.{place_fits, Admissible}
-use Rattle.dd_boxes.proofs.RuleLaws.{from_place, shifted_twice, moved_from_origin, reads_given, keeps_at, list_all_weaker}
-use Rattle.dd_boxes.proofs.CutLaws.{flat_moved}
+use Rattle.dd_boxes.specs.lemmas.RuleLaws.{from_place, shifted_twice, moved_from_origin, reads_given, keeps_at, list_all_weaker}
+use Rattle.dd_boxes.specs.lemmas.CutLaws.{flat_moved}
 use Rattle.dd_rows.specs.Fillings.{look_of, words, fillings}
 use Rattle.dd_rows.specs.Laws.{AreCellsOf}
 use Rattle.dd_rows.specs.Patterns.{origin, pattern_at}
 use Rattle.dd_rows.specs.Programs.{origin_weight}
-use Rattle.dd_rows.proofs.AdmissibleLaws.{the_admissible}
+use Rattle.dd_rows.specs.lemmas.AdmissibleLaws.{the_admissible}
 use Rattle.dd_sides.specs.Sides.{position_weight}
-use Rattle.dd_sides.proofs.WordLaws.{read_word, word_has, words_have, mapped_alike}
+use Rattle.dd_sides.specs.lemmas.WordLaws.{read_word, word_has, words_have, mapped_alike}
 
 -- the symbol of a cell that is counted from p
 abbrev pub around : Look → Place → Cell → ℕ

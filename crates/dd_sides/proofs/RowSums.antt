@@ -9,8 +9,8 @@ use Rattle.std.proofs.lemmas.List.{get_or-append-add, get_or-take, get_or-drop, 
 use Rattle.std.proofs.lemmas.List.FromFn.{get_or-map-range_with_len, length-map-range_with_len}
 use Rattle.dd_discharge.specs.Amounts.{total_below, column_value}
 use Rattle.dd_rows.specs.Programs.{one_at}
-use Rattle.dd_discharge.proofs.Totals.{total_same, total_sum}
-use Rattle.dd_discharge.proofs.WholeNumbers.{sum_times}
+use Rattle.dd_discharge.specs.lemmas.Totals.{total_same, total_sum}
+use Rattle.dd_discharge.specs.lemmas.WholeNumbers.{sum_times}
 
 no_more : (t : ℤ) → t ≡ t +ℤ pos 0
 no_more t = omega (arith, ints)

@@ -11,7 +11,7 @@ use Rattle.dd_expansion.specs.Placed.{is_flat}
 use Rattle.dd_sides.specs.Sums.{box_sum, volume, from_outside}
 use Rattle.dd_sides.specs.Sides.{run, side}
 use Rattle.dd_sides.specs.Boundaries.{left_on, inner_count, outer_count}
-use Rattle.dd_sides.proofs.BoxLaws.{kept}
+use Rattle.dd_sides.specs.lemmas.BoxLaws.{kept}
 use Rattle.dd_sides.proofs.CountLaws.{outside_count}
 
 first_power : (b : ℕ) → b ^ 1 ≡ b

@@ -11,7 +11,7 @@ use Rattle.dd_lattice.specs.Regions.{seen_from}
 use Rattle.dd_expansion.specs.Placed.{is_flat}
 use Rattle.dd_sides.specs.Sums.{Size, axis_sum, box_sum, is_on, is_in_box}
 use Rattle.dd_sides.specs.Sides.{run, side, is_near_run, is_in_grown, one_only, IsSide}
-use Rattle.dd_sides.proofs.AxisLaws.{axis_same}
+use Rattle.dd_sides.specs.lemmas.AxisLaws.{axis_same}
 use Rattle.dd_sides.proofs.CountLaws.{axis_cond, each_axis}
 use Rattle.dd_sides.proofs.SideLaws.{first_active}
 

@@ -6,3 +6,5 @@ pub mod Sides
 pub mod Boundaries
 -- what a bound says of all of them
 pub mod Lifted
+-- lemmas on what stands above, with their proofs, for whoever cites them
+pub mod lemmas

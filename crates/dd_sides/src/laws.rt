@@ -20,7 +20,7 @@ pub fn sides_are()
 
 /// Does nothing; its contract says that what the positions of a box receive along a vector is what the positions of the box
 /// moved by its opposite give.
-#[tactic(auto, using(crate::proofs::BoxLaws::box_moved))]
+#[tactic(auto, using(crate::specs::lemmas::BoxLaws::box_moved))]
 pub fn received_is_given()
     ensures { (s : Size) (u v : Place) (give : Place → ℕ) → box_sum s u (λ p. give (giver v p)) ≡ box_sum s (giver v u) give }
 {}

@@ -14,7 +14,7 @@ use Rattle.dd_fraction.specs.Checked.{does_product_fit}
 use Rattle.dd_simplex.specs.Programs.{fraction_at}
 use Rattle.dd_simplex.specs.table.Lines.{Line, line_at}
 use Rattle.dd_fraction.specs.Order.{IsAtMost, IsBelow, exact_cmp}
-use Rattle.dd_fraction.proofs.OrderLaws.{at_most_refl, at_most_trans, at_most_below, below_or_at_most, below_not_at_most, at_most_antisymm, exact_cmp-below, exact_cmp-above, exact_cmp-same}
+use Rattle.dd_fraction.specs.lemmas.OrderLaws.{at_most_refl, at_most_trans, at_most_below, below_or_at_most, below_not_at_most, at_most_antisymm, exact_cmp-below, exact_cmp-above, exact_cmp-same}
 use Rattle.dd_simplex.specs.table.Choices.{IsChosen, does_precede, Precedes, LeavesBefore, DoRatiosFit, IsRatioOf, does_limit, line_ratio}
 
 true_false : true ≡ false → ⊥

@@ -3,9 +3,9 @@ use Rattle.std.proofs.Common.{◌≡◌, ◌≢◌, ℕ, zero, suc, ◌+◌, ◌
 use Rattle.std.specs.Bool.{nat_lt}
 use Rattle.dd_fraction.specs.Exact.{Exact, plus, times, minus, low}
 use Rattle.dd_fraction.specs.Order.{IsNonneg, IsAtMost}
-use Rattle.dd_fraction.proofs.Laws.{plus_comm, zero_plus, plus_zero, zero_times, times_zero, times_one, one_times, plus_minus, plus_undo, plus_cancel, plus_low_left, low_plus, low_times, minus_minus, minus_plus, minus_times, minus_times_right}
-use Rattle.dd_fraction.proofs.Lowest.{low_low, zero_is}
-use Rattle.dd_fraction.proofs.OrderLaws.{nonneg_lowest, nonneg_plus, nonneg_times, at_most_gap, at_most_from_gap}
+use Rattle.dd_fraction.specs.lemmas.Laws.{plus_comm, zero_plus, plus_zero, zero_times, times_zero, times_one, one_times, plus_minus, plus_undo, plus_cancel, plus_low_left, low_plus, low_times, minus_minus, minus_plus, minus_times, minus_times_right}
+use Rattle.dd_fraction.specs.lemmas.Lowest.{low_low, zero_is}
+use Rattle.dd_fraction.specs.lemmas.OrderLaws.{nonneg_lowest, nonneg_plus, nonneg_times, at_most_gap, at_most_from_gap}
 use Rattle.dd_simplex.specs.Programs.{LinearProgram, IsProgram, IsFeasible, IsBest, fraction_at, coefficient, bound_at, unit, total, zero_of, one_of}
 use Rattle.dd_simplex.specs.Dictionaries.{Dictionary, count}
 use Rattle.dd_simplex.specs.Runs.{entering, column_of, dual_of}

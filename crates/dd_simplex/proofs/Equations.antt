@@ -4,9 +4,9 @@ use Rattle.std.specs.Bool.{nat_eq}
 use Rattle.std.proofs.lemmas.Bool.{cases_eq}
 use Rattle.dd_fraction.specs.Exact.{Exact, plus, times, minus, inverse, low}
 use Rattle.dd_fraction.specs.Order.{IsPositive}
-use Rattle.dd_fraction.proofs.Laws.{times_comm, times_assoc, times_plus, zero_plus, plus_zero, zero_times, times_zero, times_one, plus_minus, plus_four, plus_cancel, plus_low_right, low_plus, low_times, minus_times}
-use Rattle.dd_fraction.proofs.Lowest.{zero_is, one_is}
-use Rattle.dd_fraction.proofs.OrderLaws.{times_inverse_positive}
+use Rattle.dd_fraction.specs.lemmas.Laws.{times_comm, times_assoc, times_plus, zero_plus, plus_zero, zero_times, times_zero, times_one, plus_minus, plus_four, plus_cancel, plus_low_right, low_plus, low_times, minus_times}
+use Rattle.dd_fraction.specs.lemmas.Lowest.{zero_is, one_is}
+use Rattle.dd_fraction.specs.lemmas.OrderLaws.{times_inverse_positive}
 use Rattle.dd_simplex.specs.Programs.{total, zero_of, one_of}
 use Rattle.dd_simplex.specs.Dictionaries.{Dictionary, pivoted, new_bound, new_entry, less_product}
 use Rattle.dd_simplex.specs.Laws.{coefficient_in, price}

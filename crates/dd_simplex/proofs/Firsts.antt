@@ -3,7 +3,7 @@ use Rattle.std.proofs.Common.{◌≡◌, ◌≢◌, ℕ, zero, suc, ◌<◌, Opt
 use Rattle.std.proofs.lemmas.Bool.{cases_eq}
 use Rattle.dd_fraction.specs.Exact.{Exact}
 use Rattle.dd_fraction.specs.Order.{IsAtMost}
-use Rattle.dd_fraction.proofs.OrderLaws.{at_most_refl, at_most_trans, at_most_total}
+use Rattle.dd_fraction.specs.lemmas.OrderLaws.{at_most_refl, at_most_trans, at_most_total}
 use Rattle.dd_simplex.specs.Runs.{all_below, first_below, or_else}
 
 pub and_left : (a b : Bool) → (a && b) ≡ true → a ≡ true

@@ -8,9 +8,9 @@ use lib.IntN.{ℤ, pos, ◌+ℤ◌, ◌*ℤ◌}
 use Rattle.dd_fraction.specs.Divisor.{greatest_common}
 use Rattle.dd_fraction.specs.Exact.{Exact, plus, minus}
 use Rattle.dd_fraction.specs.Checked.{IsFraction, is_bounded, does_product_fit, does_sum_fit}
-use Rattle.dd_fraction.proofs.Divisors.{greatest_common-zero, greatest_common-step}
-use Rattle.dd_fraction.proofs.Laws.{plus_zero, times_zero, zero_times}
-use Rattle.dd_fraction.proofs.Lowest.{low_fraction, exact_same}
+use Rattle.dd_fraction.specs.lemmas.Divisors.{greatest_common-zero, greatest_common-step}
+use Rattle.dd_fraction.specs.lemmas.Laws.{plus_zero, times_zero, zero_times}
+use Rattle.dd_fraction.specs.lemmas.Lowest.{low_fraction, exact_same}
 use Rattle.dd_simplex.specs.Programs.{zero_of}
 use Rattle.dd_simplex.specs.table.Lines.{IsIdle}
 use Rattle.dd_simplex.proofs.Firsts.{and_both}

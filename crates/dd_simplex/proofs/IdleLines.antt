@@ -6,8 +6,8 @@ use Rattle.std.proofs.lemmas.List.Elements.{All-get_or, All-from_get_or, All-set
 use lib.IntN.{pos}
 use Rattle.dd_fraction.specs.Exact.{Exact, times, minus, inverse}
 use Rattle.dd_fraction.specs.Checked.{IsFraction, does_product_fit, does_sum_fit}
-use Rattle.dd_fraction.proofs.FractionFacts.{IsFraction-inverse}
-use Rattle.dd_fraction.proofs.Results.{IsFraction-whole}
+use Rattle.dd_fraction.specs.lemmas.FractionFacts.{IsFraction-inverse}
+use Rattle.dd_fraction.specs.lemmas.Results.{IsFraction-whole}
 use Rattle.dd_simplex.specs.Programs.{fraction_at, zero_of, one_of}
 use Rattle.dd_simplex.specs.table.Lines.{Line, Table, HasFractions, line_at, less, do_all_less_fit, solved_line, does_solved_fit, changed_line, does_changed_fit}
 use Rattle.dd_simplex.specs.table.Standing.{IsTable}

@@ -5,7 +5,7 @@ use Rattle.std.specs.List.{slice_set, list_all}
 use Rattle.std.proofs.lemmas.Bool.{cases_eq}
 use Rattle.std.proofs.lemmas.List.{length-set, get_or-set_same, get_or-set_other}
 use lib.IntN.{pos}
-use Rattle.dd_fraction.proofs.FractionFacts.{IsFraction-inverse}
+use Rattle.dd_fraction.specs.lemmas.FractionFacts.{IsFraction-inverse}
 use Rattle.dd_fraction.specs.Exact.{Exact, plus, times, minus, inverse}
 use Rattle.dd_fraction.specs.Checked.{IsFraction, does_product_fit}
 use Rattle.dd_simplex.specs.Programs.{fraction_at, zero_of, one_of}

@@ -6,8 +6,8 @@ use Rattle.std.proofs.lemmas.Bool.{cases_eq}
 use Rattle.std.proofs.lemmas.List.{length-set}
 use Rattle.dd_fraction.specs.Exact.{Exact, plus, times, minus, inverse, low}
 use Rattle.dd_fraction.specs.Checked.{IsFraction, does_product_fit, does_sum_fit}
-use Rattle.dd_fraction.proofs.Laws.{zero_plus, low_times, minus_times, IsLowest-times}
-use Rattle.dd_fraction.proofs.FractionFacts.{IsFraction-checked_product, IsFraction-checked_sum, IsFraction-minus}
+use Rattle.dd_fraction.specs.lemmas.Laws.{zero_plus, low_times, minus_times, IsLowest-times}
+use Rattle.dd_fraction.specs.lemmas.FractionFacts.{IsFraction-checked_product, IsFraction-checked_sum, IsFraction-minus}
 use Rattle.dd_simplex.specs.Programs.{fraction_at, zero_of, one_of}
 use Rattle.dd_simplex.specs.Dictionaries.{Dictionary, new_bound, new_entry, less_product}
 use Rattle.dd_simplex.specs.Runs.{all_below, does_quotient_fit, does_less_fit, does_row_fit, do_coefficients_fit, do_others_fit, does_objective_fit}

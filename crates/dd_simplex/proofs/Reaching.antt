@@ -11,9 +11,9 @@ use lib.IntN.{ℤ, pos, negsuc, neg_ℤ}
 use lib.Signed.{◌≤ℤ◌, ◌<ℤ◌}
 use Rattle.dd_fraction.specs.Exact.{Exact, plus, times, minus, inverse, low}
 use Rattle.dd_fraction.specs.Order.{IsNonneg, IsPositive, IsAtMost, IsBelow, exact_cmp}
-use Rattle.dd_fraction.proofs.Laws.{times_comm, times_assoc, times_plus, zero_plus, zero_times, times_zero, one_times, plus_low_left, plus_low_right, minus_times, minus_times_right}
-use Rattle.dd_fraction.proofs.Lowest.{low_low}
-use Rattle.dd_fraction.proofs.OrderLaws.{nonneg_plus, nonneg_times, positive_nonneg, positive_inverse, times_inverse_positive, at_most_gap, below_or_at_most, below_not_at_most, exact_cmp_ranked, exact_cmp-above}
+use Rattle.dd_fraction.specs.lemmas.Laws.{times_comm, times_assoc, times_plus, zero_plus, zero_times, times_zero, one_times, plus_low_left, plus_low_right, minus_times, minus_times_right}
+use Rattle.dd_fraction.specs.lemmas.Lowest.{low_low}
+use Rattle.dd_fraction.specs.lemmas.OrderLaws.{nonneg_plus, nonneg_times, positive_nonneg, positive_inverse, times_inverse_positive, at_most_gap, below_or_at_most, below_not_at_most, exact_cmp_ranked, exact_cmp-above}
 use Rattle.dd_simplex.specs.Programs.{LinearProgram, IsProgram, coefficient, bound_at, total, zero_of, one_of}
 use Rattle.dd_simplex.specs.Dictionaries.{Dictionary, count, start, pivoted, new_bound, less_product}
 use Rattle.dd_simplex.specs.Runs.{is_over, may_enter, entering, ratio, limits, may_leave, leaving, all_below}

@@ -5,7 +5,7 @@ use lib.IntN.{ℤ, pos}
 use lib.Signed.{◌<ℤ◌}
 use Rattle.dd_fraction.specs.Exact.{Exact, low}
 use Rattle.dd_fraction.specs.Checked.{IsFraction}
-use Rattle.dd_fraction.proofs.Lowest.{low_fraction, zero_is}
+use Rattle.dd_fraction.specs.lemmas.Lowest.{low_fraction, zero_is}
 use Rattle.dd_simplex.specs.Programs.{LinearProgram, IsProgram, IsBest, fraction_at}
 use Rattle.dd_simplex.specs.Dictionaries.{Dictionary, count, start, pivoted}
 use Rattle.dd_simplex.specs.Runs.{is_over, entering, leaving, does_turn_fit, do_ratios_fit, Ends, Overflows, AtLimit, turn, turn_or_end, run, stop_of, RunEnds, column_of, dual_of}

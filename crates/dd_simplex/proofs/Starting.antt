@@ -3,7 +3,7 @@ use Rattle.std.proofs.Common.{◌≡◌, ℕ, ◌+◌, ◌-◌, ◌<◌, ◌≤�
 use Rattle.std.specs.Bool.{nat_eq}
 use lib.IntN.{pos}
 use Rattle.dd_fraction.specs.Checked.{IsFraction}
-use Rattle.dd_fraction.proofs.Results.{IsFraction-whole}
+use Rattle.dd_fraction.specs.lemmas.Results.{IsFraction-whole}
 use Rattle.dd_simplex.specs.Programs.{LinearProgram, IsProgram, coefficient, bound_at, unit, fraction_at, zero_of, one_of}
 use Rattle.dd_simplex.specs.Dictionaries.{count, start}
 use Rattle.dd_simplex.specs.table.Lines.{Line, Table, line_at}

@@ -5,9 +5,9 @@ use Rattle.std.proofs.lemmas.Bool.{cases_eq}
 use Rattle.std.proofs.lemmas.Int.{ints}
 use Rattle.dd_fraction.specs.Exact.{Exact, plus, times, low}
 use Rattle.dd_fraction.specs.Order.{IsNonneg}
-use Rattle.dd_fraction.proofs.Laws.{plus_assoc, times_comm, times_plus, plus_times, zero_plus, plus_zero, times_zero, times_assoc, plus_four, plus_low_left, plus_low_right, low_plus}
-use Rattle.dd_fraction.proofs.Lowest.{zero_is}
-use Rattle.dd_fraction.proofs.OrderLaws.{nonneg_plus}
+use Rattle.dd_fraction.specs.lemmas.Laws.{plus_assoc, times_comm, times_plus, plus_times, zero_plus, plus_zero, times_zero, times_assoc, plus_four, plus_low_left, plus_low_right, low_plus}
+use Rattle.dd_fraction.specs.lemmas.Lowest.{zero_is}
+use Rattle.dd_fraction.specs.lemmas.OrderLaws.{nonneg_plus}
 use Rattle.dd_simplex.specs.Programs.{total, zero_of}
 
 pub eq_same : (v : ℕ) → nat_eq v v ≡ true

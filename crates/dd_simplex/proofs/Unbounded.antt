@@ -7,9 +7,9 @@ use Rattle.std.proofs.lemmas.Bool.{cases_eq}
 use Rattle.std.proofs.lemmas.Int.{ints}
 use Rattle.dd_fraction.specs.Exact.{Exact, plus, times, minus, low}
 use Rattle.dd_fraction.specs.Order.{IsNonneg, IsPositive, exact_cmp}
-use Rattle.dd_fraction.proofs.Laws.{plus_comm, zero_plus, zero_times, times_zero, times_one, one_times, plus_minus, plus_low_left, plus_low_right}
-use Rattle.dd_fraction.proofs.Lowest.{low_low}
-use Rattle.dd_fraction.proofs.OrderLaws.{positive_lowest, positive_plus}
+use Rattle.dd_fraction.specs.lemmas.Laws.{plus_comm, zero_plus, zero_times, times_zero, times_one, one_times, plus_minus, plus_low_left, plus_low_right}
+use Rattle.dd_fraction.specs.lemmas.Lowest.{low_low}
+use Rattle.dd_fraction.specs.lemmas.OrderLaws.{positive_lowest, positive_plus}
 use Rattle.dd_simplex.specs.Programs.{LinearProgram, IsProgram, coefficient, bound_at, total, zero_of, one_of}
 use Rattle.dd_simplex.specs.Dictionaries.{Dictionary, count}
 use Rattle.dd_simplex.specs.Runs.{is_over, ratio, limits, may_leave, leaving, all_below}

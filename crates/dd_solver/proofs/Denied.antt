@@ -8,7 +8,7 @@ use Rattle.std.proofs.Math.Seq.{get_or-append_seam, take-append_seam}
 use Rattle.dd_clause.specs.declared.clause.Literal.{Literal}
 use Rattle.dd_clause.specs.Clauses.{IsInRange, negation}
 use Rattle.dd_derivation.specs.Derivations.{same_literal, is_among, has_variable}
-use Rattle.dd_derivation.proofs.Soundness.{literal-eq, same_literal-eq, same_literal-refl}
+use Rattle.dd_derivation.specs.lemmas.Soundness.{literal-eq, same_literal-eq, same_literal-refl}
 use Rattle.dd_solver.specs.declared.trail.Entry.{Entry}
 use Rattle.dd_solver.specs.Entries.{falses, IsFree, IsFull}
 use Rattle.dd_solver.specs.Values.{code, IsDenied}

@@ -9,8 +9,8 @@ use Rattle.dd_clause.specs.Clauses.{negation}
 use Rattle.dd_derivation.specs.declared.propagation.Finding.{Finding}
 use Rattle.dd_derivation.specs.declared.propagation.Finding.TheVariants.{Falsified, Forced, Open}
 use Rattle.dd_derivation.specs.Derivations.{same_literal, finding_of, finding, clause_of, hint_finding}
-use Rattle.dd_derivation.proofs.Soundness.{same_literal-eq, same_literal-refl}
-use Rattle.dd_derivation.proofs.Findings.{In, in_here, left_of, in_left_of, of_left, Forces}
+use Rattle.dd_derivation.specs.lemmas.Soundness.{same_literal-eq, same_literal-refl}
+use Rattle.dd_derivation.specs.lemmas.Findings.{In, in_here, left_of, in_left_of, of_left, Forces}
 
 pub in_left : (xs ys : List Literal) (x : Literal) → In xs x → In (xs ++ ys) x
 in_left xs ys x h = rw (list_any-append (same_literal x) xs ys) (or_left _ _ h)

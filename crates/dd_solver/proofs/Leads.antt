@@ -9,8 +9,8 @@ use Rattle.dd_clause.specs.declared.clause.Literal.{Literal}
 use Rattle.dd_clause.specs.Clauses.{negation}
 use Rattle.dd_derivation.specs.declared.propagation.Finding.TheVariants.{Falsified, Forced}
 use Rattle.dd_derivation.specs.Derivations.{same_literal, is_among, has_variable, clause_of, hint_finding, is_conflict, is_in_range, is_proper}
-use Rattle.dd_derivation.proofs.Soundness.{same_literal-refl}
-use Rattle.dd_derivation.proofs.Findings.{In, in_here, Forces, forces_from}
+use Rattle.dd_derivation.specs.lemmas.Soundness.{same_literal-refl}
+use Rattle.dd_derivation.specs.lemmas.Findings.{In, in_here, Forces, forces_from}
 use Rattle.dd_solver.specs.declared.trail.Entry.{Entry}
 use Rattle.dd_solver.specs.Entries.{falses, Follows, IsTrail}
 use Rattle.dd_solver.specs.Analysis.{marks, Grows, AreMarked, IsMarkedClause}

@@ -14,9 +14,9 @@ use Rattle.dd_derivation.specs.declared.propagation.Finding.TheVariants.{Falsifi
 use Rattle.dd_derivation.specs.declared.step.Step.{Step}
 use Rattle.dd_derivation.specs.Derivations.{same_literal, is_among, has_variable, is_proper, is_conflict, hint_finding, finding, clause_of, clauses_before, are_deletable, known_after}
 use Rattle.dd_derivation.specs.MarksOf.{known_of}
-use Rattle.dd_derivation.proofs.Soundness.{same_literal-eq, all_false}
-use Rattle.dd_derivation.proofs.Falses.{same_variable}
-use Rattle.dd_derivation.proofs.Findings.{In, forces_from}
+use Rattle.dd_derivation.specs.lemmas.Soundness.{same_literal-eq, all_false}
+use Rattle.dd_derivation.specs.lemmas.Falses.{same_variable}
+use Rattle.dd_derivation.specs.lemmas.Findings.{In, forces_from}
 use Rattle.dd_solver.specs.declared.trail.Entry.{Entry}
 use Rattle.dd_solver.specs.declared.analysis.Turn.{Turn}
 use Rattle.dd_solver.specs.Entries.{falses, all_known, AreInRange, EntryOk}

@@ -5,7 +5,7 @@ use Rattle.dd_clause.specs.declared.clause.Literal.{Literal}
 use Rattle.dd_values.specs.Variables.{true_variables}
 use Rattle.dd_derivation.specs.declared.step.Outcome.{Outcome}
 use Rattle.dd_derivation.specs.declared.step.Outcome.TheVariants.{Found, Refuted}
-use Rattle.dd_derivation.proofs.Soundness.{refutes_sound}
+use Rattle.dd_derivation.specs.lemmas.Soundness.{refutes_sound}
 use Rattle.dd_solver.specs.Answers.{IsSatisfiable, IsFound, IsRefuted, IsAnswer}
 
 pub found_right : (n : ℕ) (clauses : List (List Literal)) (o : Outcome) → IsAnswer n clauses o → IsFound o ↔ IsSatisfiable clauses

@@ -7,8 +7,8 @@ use Rattle.std.proofs.Math.Seq.{get_or-append_seam, take-append_seam}
 use Rattle.dd_clause.specs.declared.clause.Literal.{Literal}
 use Rattle.dd_clause.specs.Clauses.{negation}
 use Rattle.dd_derivation.specs.Derivations.{same_literal, is_among, has_variable}
-use Rattle.dd_derivation.proofs.Soundness.{same_literal-eq}
-use Rattle.dd_derivation.proofs.Findings.{In, in_here}
+use Rattle.dd_derivation.specs.lemmas.Soundness.{same_literal-eq}
+use Rattle.dd_derivation.specs.lemmas.Findings.{In, in_here}
 use Rattle.dd_solver.specs.declared.trail.Entry.{Entry}
 use Rattle.dd_solver.specs.Entries.{falses, EntryOk, IsTrail}
 

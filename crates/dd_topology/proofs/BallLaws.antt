@@ -9,12 +9,12 @@ use Rattle.std.proofs.lemmas.List.Elements.{Contains-append_left, Contains-appen
 use Rattle.dd_lattice.specs.Place.{Place}
 use Rattle.dd_lattice.specs.Cells.{cell}
 use Rattle.dd_lattice.specs.declared.position.Cell.{Cell}
-use Rattle.dd_lattice.proofs.ListLaws.{Contains-first, Contains-nil, Contains-cons_cases}
+use Rattle.dd_lattice.specs.lemmas.ListLaws.{Contains-first, Contains-nil, Contains-cons_cases}
 use Rattle.dd_topology.specs.declared.edge.Edge.{Edge}
 use Rattle.dd_topology.specs.Topology.{end_of, start_of, Leads}
 use Rattle.dd_topology.specs.Balls.{IsAdjacent, IsInBall, same_place, leads, is_adjacent, ends, starts, beside, neighbours, ball}
 use Rattle.dd_topology.proofs.CoordinateLaws.{place_is, back_and_forth, forth_and_back}
-use Rattle.dd_topology.proofs.ListLaws.{some_passes, passes_any, in_flat_map, into_flat_map}
+use Rattle.dd_topology.specs.lemmas.ListLaws.{some_passes, passes_any, in_flat_map, into_flat_map}
 
 same_place-exact : (p q : Place) → Decides (same_place p q) (p ≡ q)
 same_place-exact p q = (

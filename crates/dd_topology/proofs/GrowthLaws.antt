@@ -12,16 +12,16 @@ use Rattle.dd_lattice.specs.Place.{IsInRange, is_in_range}
 use Rattle.dd_lattice.specs.Order.{cell_cmp}
 use Rattle.dd_lattice.specs.InOrder.{in_order}
 use Rattle.dd_lattice.specs.declared.position.Cell.{Cell}
-use Rattle.dd_lattice.proofs.InOrderLaws.{cells_equal}
-use Rattle.dd_lattice.proofs.RangeLaws.{in_range_from_test, test_from_in_range}
-use Rattle.dd_lattice.proofs.ListLaws.{All-from_contains, Contains-first, Contains-nil, Contains-cons_cases}
+use Rattle.dd_lattice.specs.lemmas.InOrderLaws.{cells_equal}
+use Rattle.dd_lattice.specs.lemmas.RangeLaws.{in_range_from_test, test_from_in_range}
+use Rattle.dd_lattice.specs.lemmas.ListLaws.{All-from_contains, Contains-first, Contains-nil, Contains-cons_cases}
 use Rattle.dd_lattice.specs.declared.fault.LatticeFault.{LatticeFault}
 use Rattle.dd_lattice.specs.declared.fault.LatticeFault.TheVariants.{Range, Memory}
 use Rattle.dd_topology.specs.declared.edge.Edge.{Edge}
 use Rattle.dd_topology.specs.Balls.{CellSet, IsAdjacent, IsInBall, IsListOf, IsFaultOf, LeavesRange, ends, starts, beside, neighbours, ball, are_in_range}
 use Rattle.dd_topology.specs.Growth.{AddsCells}
-use Rattle.dd_topology.proofs.ListLaws.{in_flat_map, into_flat_map}
-use Rattle.dd_topology.proofs.OrderLaws.{kept-insert_key, has-insert_key, from-insert_key, is-in_order}
+use Rattle.dd_topology.specs.lemmas.ListLaws.{in_flat_map, into_flat_map}
+use Rattle.dd_topology.specs.lemmas.OrderLaws.{kept-insert_key, has-insert_key, from-insert_key, is-in_order}
 use Rattle.dd_topology.proofs.BallLaws.{from_neighbours, into_neighbours, in_ball, ball_holds}
 
 -- the cells that are found are those of the ball of radius r, and all that are beside one of them are found, but for those beside the frontier

@@ -1,7 +1,4 @@
-pub mod ListLaws
-pub mod NamingLaws
 pub mod MoveLaws
-pub mod OrderLaws
 pub mod CoordinateLaws
 pub mod BallLaws
 pub mod GrowthLaws

@@ -10,13 +10,13 @@ use Rattle.std.proofs.lemmas.List.Folds.{list_any_at}
 use Rattle.std.proofs.lemmas.List.Quantifiers.{all_pairs_push}
 use Rattle.dd_lattice.specs.Place.{IsInRange, is_in_range}
 use Rattle.dd_lattice.specs.declared.position.Cell.{Cell}
-use Rattle.dd_lattice.proofs.RangeLaws.{test_from_in_range}
+use Rattle.dd_lattice.specs.lemmas.RangeLaws.{test_from_in_range}
 use Rattle.dd_topology.specs.declared.edge.Edge.{Edge}
 use Rattle.dd_topology.specs.Topology.{leaves, end_of, in_range, IsMove, starts_alike, AreSingle}
 use Rattle.indexmap.specs.IndexSet.{insert_key}
 use Rattle.dd_topology.specs.Kept.{move_of}
 use Rattle.dd_topology.specs.declared.topology.Move.{Move}
-use Rattle.dd_topology.proofs.ListLaws.{found, missed, list_any-map, position-map, find-position, find_alike, insert_key-new}
+use Rattle.dd_topology.specs.lemmas.ListLaws.{found, missed, list_any-map, position-map, find-position, find_alike, insert_key-new}
 
 pub starts_alike-flip : (e f : Edge) → starts_alike e f ≡ false → starts_alike f e ≡ false
 starts_alike-flip e f h = grind (arith, nat_tests)

@@ -8,7 +8,7 @@ use Rattle.std.proofs.lemmas.List.Elements.{All-get_or, All-replicate, All-set, 
 use Rattle.std.proofs.lemmas.List.FromFn.{get_or-map-range_with_len, length-map-range_with_len}
 use Rattle.dd_topology.specs.Sets.{SymbolSets, IsRow, IsSets, all_symbols, is_listed, row_of, restricted}
 use Rattle.dd_topology.specs.Kept.{in_rows}
-use Rattle.dd_topology.proofs.ListLaws.{passes_any}
+use Rattle.dd_topology.specs.lemmas.ListLaws.{passes_any}
 
 pub item_below : (n m a t : ℕ) → a < n → t < m → a * m + t < n * m
 item_below n m a t h k = omega (arith, suc-mul a m, mul-le-mul_right m (let le : suc a ≤ n = omega arith in le))

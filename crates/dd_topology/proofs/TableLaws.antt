@@ -7,12 +7,12 @@ use Rattle.std.proofs.lemmas.List.{get_or-take, length-take}
 use Rattle.std.proofs.lemmas.List.Kept.{AllPairs-cons}
 use Rattle.std.proofs.lemmas.Option.{slice_get_within, get_or_from_slice_get}
 use Rattle.std.proofs.lemmas.Slice.Eq.{bytes_eq-Decides}
-use Rattle.dd_lattice.proofs.ListLaws.{All-from_contains}
+use Rattle.dd_lattice.specs.lemmas.ListLaws.{All-from_contains}
 use Rattle.dd_topology.specs.Topology.{starts_alike}
 use Rattle.dd_topology.specs.Grid.{IsFirstTwice}
 use Rattle.dd_topology.specs.Builtin.{has_repeat}
 use Rattle.dd_topology.specs.declared.edge.Edge.{Edge}
-use Rattle.dd_topology.proofs.ListLaws.{some_passes, passes_any}
+use Rattle.dd_topology.specs.lemmas.ListLaws.{some_passes, passes_any}
 use Rattle.dd_topology.proofs.MoveLaws.{starts_alike-flip}
 
 neither_left : (a b : Bool) → (a || b) ≡ false → a ≡ false

@@ -9,3 +9,5 @@ pub mod Sets
 -- What is kept beside the edges, and a round of a ball's growth.
 pub mod Kept
 pub mod Growth
+-- lemmas on what stands above, with their proofs, for whoever cites them
+pub mod lemmas

@@ -15,7 +15,7 @@ use Rattle.dd_pattern.specs.Periods.{residue}
 use Rattle.dd_expansion.specs.Placed.{is_flat}
 use Rattle.dd_formula.specs.LocalRule.{LocalRule, IsRule, is_of, is_true, reads_at}
 use Rattle.dd_formula.specs.Reach.{all_cells}
-use Rattle.dd_formula.proofs.RuleLaws.{truth_by_given}
+use Rattle.dd_formula.specs.lemmas.RuleLaws.{truth_by_given}
 use Rattle.dd_counts.specs.Rules.{least_x, greatest_x, window}
 use Rattle.dd_transfer.specs.declared.strip.Strip.{Strip}
 use Rattle.dd_transfer.specs.Windows.{IsFor, cells, cell_at, slice_index_of, window_index, window_look, stand}

@@ -9,7 +9,7 @@ use Rattle.dd_lattice.specs.Place.{IsNear, Place, place, moved}
 use Rattle.dd_lattice.specs.Cells.{cell}
 use Rattle.dd_lattice.specs.declared.position.Cell.{Cell}
 use Rattle.dd_pattern.specs.Periods.{residue}
-use Rattle.dd_pattern.proofs.Residues.{residue_below, residue_small, residue_added, meets}
+use Rattle.dd_pattern.specs.lemmas.Residues.{residue_below, residue_small, residue_added, meets}
 use Rattle.dd_expansion.specs.Placed.{is_flat}
 use Rattle.dd_formula.specs.LocalRule.{LocalRule}
 use Rattle.dd_transfer.specs.declared.strip.Strip.{Strip}

@@ -7,7 +7,7 @@ use Rattle.std.proofs.lemmas.Int.{ints}
 use Rattle.std.proofs.lemmas.Bool.{and_parts, and_from, leb-true, cases_eq}
 use Rattle.std.proofs.lemmas.List.Folds.{list_all-append}
 use Rattle.dd_lattice.specs.declared.position.Cell.{Cell}
-use Rattle.dd_lattice.proofs.InOrderLaws.{list_all-in_order}
+use Rattle.dd_lattice.specs.lemmas.InOrderLaws.{list_all-in_order}
 use Rattle.dd_topology.specs.Topology.{extent}
 use Rattle.dd_formula.specs.LocalRule.{LocalRule, IsRule, is_near, reads_at, cells_at}
 use Rattle.dd_formula.specs.Reach.{all_cells}

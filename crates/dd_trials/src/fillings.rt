@@ -56,7 +56,7 @@ pub(crate) fn at_origin(node: u32) -> Cell
 }
 
 /// Whether the rule is true at a cell, or `None` where something that it reads there isn't given.
-#[tactic(auto, using(dd_formula::proofs::Reached::filling_below))]
+#[tactic(auto, using(dd_formula::specs::lemmas::Reached::filling_below))]
 pub(crate) fn truth(rule: &Rule, filling: &Filling, at: &Cell) -> Result<Option<bool>, Fail>
     requires { All (λ s. s < rule.now.symbols) filling.now.symbols }
 {

@@ -1,6 +1,6 @@
 use Rattle.dd_pattern.specs.Reading.{Look}
 use Rattle.dd_expansion.specs.Leaves.{seen}
-use Rattle.dd_expansion.proofs.Layers.{given_and, given_or, holds_and, holds_or}
+use Rattle.dd_expansion.specs.lemmas.Layers.{given_and, given_or, holds_and, holds_or}
 use Rattle.dd_expansion.proofs.+evaluate.Goals as goal
 
 pub expanded::Expanded::evaluate-returns-in-And : goal.expanded::Expanded::evaluate-returns-in-And

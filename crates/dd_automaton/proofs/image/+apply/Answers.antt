@@ -5,7 +5,7 @@ use Rattle.dd_formula.specs.Automata.{counted}
 use Rattle.dd_formula.specs.Values.{IsPlaced}
 use Rattle.dd_formula.specs.declared.automaton.Automaton.{Automaton}
 use Rattle.dd_formula.specs.declared.automaton.Automaton.TheVariants as v
-use Rattle.dd_formula.proofs.AutomatonLaws.{depth_composed}
+use Rattle.dd_formula.specs.lemmas.AutomatonLaws.{depth_composed}
 use Rattle.dd_automaton.specs.Images.{IsDefinedOn, IsImage}
 use Rattle.dd_automaton.proofs.ImageLaws.{defined_inner, defined_outer, image_composed}
 use Rattle.dd_automaton.proofs.image.+apply.Goals as goal

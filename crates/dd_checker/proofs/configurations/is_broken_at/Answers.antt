@@ -1,4 +1,4 @@
-use Rattle.dd_formula.proofs.Reached.{tile_below}
+use Rattle.dd_formula.specs.lemmas.Reached.{tile_below}
 use Rattle.dd_checker.proofs.Periodics.{origin_told}
 use Rattle.dd_checker.proofs.configurations.is_broken_at.Goals as goal
 

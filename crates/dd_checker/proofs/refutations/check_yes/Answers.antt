@@ -1,7 +1,7 @@
 use Rattle.std.proofs.Common.{◌≤◌, arith}
 use Rattle.std.specs.Prelude.{max}
 use Rattle.dd_boxes.specs.Views.{goal_of}
-use Rattle.dd_boxes.proofs.FromBox.{from_least}
+use Rattle.dd_boxes.specs.lemmas.FromBox.{from_least}
 use Rattle.std.proofs.lemmas.Bool.{false≢true}
 use Rattle.dd_checker.proofs.Counting.{box_few, too_near, too_far}
 use Rattle.dd_checker.proofs.Deciding.{nothing_holds}

@@ -1,5 +1,5 @@
 use Rattle.std.proofs.Common.{◌∙◌}
-use Rattle.dd_cnf.proofs.ModelLaws.{has_models}
+use Rattle.dd_cnf.specs.lemmas.ModelLaws.{has_models}
 use Rattle.dd_cnf.proofs.encoding.encode.Goals as goal
 
 pub returns-clause-models : goal.returns-clause-models

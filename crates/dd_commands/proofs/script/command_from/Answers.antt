@@ -3,7 +3,7 @@ use Rattle.std.specs.List.{list_all}
 use Rattle.std.proofs.lemmas.Result.{err_from_is_err_and}
 use Rattle.dd_commands.specs.Heads.{stage}
 use Rattle.dd_commands.specs.Scripts.{is_whole}
-use Rattle.dd_commands.proofs.Whole.{not_whole, fails_decides, too_early, may_stand}
+use Rattle.dd_commands.specs.lemmas.Whole.{not_whole, fails_decides, too_early, may_stand}
 use Rattle.dd_commands.proofs.script.command_from.Goals as goal
 
 pub returns-then-not-are_whole : goal.returns-then-not-are_whole

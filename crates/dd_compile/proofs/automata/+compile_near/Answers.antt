@@ -7,7 +7,7 @@ use Rattle.dd_lattice.specs.declared.position.Cell.{Cell}
 use Rattle.dd_formula.specs.LocalRule.{is_near}
 use Rattle.dd_formula.specs.Automata.{is_cell_of}
 use Rattle.dd_formula.specs.declared.automaton.Automaton.{Automaton}
-use Rattle.dd_formula.proofs.AutomatonLaws.{near_cells, node_at}
+use Rattle.dd_formula.specs.lemmas.AutomatonLaws.{near_cells, node_at}
 use Rattle.dd_circuit.specs.Circuits.{Network, size}
 use Rattle.dd_compile.specs.Wiring.{Wiring}
 use Rattle.dd_compile.proofs.Composing.{value_few, value_wired, value_inside, composing_step}

@@ -1,5 +1,5 @@
 use Rattle.std.proofs.Common.{arith}
-use Rattle.dd_formula.proofs.AutomatonLaws.{shallow}
+use Rattle.dd_formula.specs.lemmas.AutomatonLaws.{shallow}
 use Rattle.dd_compile.proofs.automata.compile_value.Goals as goal
 
 pub compile_near-requires-clause-near : goal.compile_near-requires-clause-near

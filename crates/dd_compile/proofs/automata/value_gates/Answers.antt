@@ -1,4 +1,4 @@
-use Rattle.dd_compile.proofs.ValueParts.{few_gates}
+use Rattle.dd_compile.specs.lemmas.ValueParts.{few_gates}
 use Rattle.dd_compile.proofs.automata.value_gates.Goals as goal
 
 pub returns : goal.returns

@@ -1,8 +1,8 @@
 use Rattle.std.proofs.Common.{◌+◌, ap, ◌∙◌, arith}
 use Rattle.dd_circuit.specs.Circuits.{size}
 use Rattle.dd_compile.specs.Compiling.{wires_near, certain, gate_count}
-use Rattle.dd_compile.proofs.Layers.{and_asks, or_asks, same_sides, second_asks, instances_at}
-use Rattle.dd_compile.proofs.Progress.{progress_step, next_part, and_ends, or_ends, iff_ends}
+use Rattle.dd_compile.specs.lemmas.Layers.{and_asks, or_asks, same_sides, second_asks, instances_at}
+use Rattle.dd_compile.specs.lemmas.Progress.{progress_step, next_part, and_ends, or_ends, iff_ends}
 use Rattle.dd_compile.proofs.compiling.+compile.Goals as goal
 
 pub compile_expanded-compile_all-requires : goal.compile_expanded-compile_all-requires

@@ -1,7 +1,7 @@
 use Rattle.std.proofs.Common.{◌∙◌, ap, sym}
 use Rattle.dd_circuit.specs.Circuits.{size}
 use Rattle.dd_compile.specs.Compiling.{wires_near, are_wired, all_wired}
-use Rattle.dd_compile.proofs.Layers.{wired_and, wired_or}
+use Rattle.dd_compile.specs.lemmas.Layers.{wired_and, wired_or}
 use Rattle.dd_compile.proofs.compiling.+wired.Goals as goal
 
 pub is_wired-returns-in-And : goal.is_wired-returns-in-And

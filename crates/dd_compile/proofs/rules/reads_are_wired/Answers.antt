@@ -5,8 +5,8 @@ use Rattle.dd_circuit.specs.Circuits.{size}
 use Rattle.dd_compile.specs.Wiring.{signals_of}
 use Rattle.dd_compile.specs.RuleSignals.{are_signals, is_cell_wired}
 use Rattle.dd_formula.specs.LocalRule.{expansion_at}
-use Rattle.dd_compile.proofs.FewGates.{few_gates}
-use Rattle.dd_compile.proofs.RuleWiring.{tested_reads}
+use Rattle.dd_compile.specs.lemmas.FewGates.{few_gates}
+use Rattle.dd_compile.specs.lemmas.RuleWiring.{tested_reads}
 use Rattle.dd_compile.proofs.rules.reads_are_wired.Goals as goal
 
 pub returns-clause-value : goal.returns-clause-value

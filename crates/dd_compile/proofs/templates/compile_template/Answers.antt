@@ -1,7 +1,7 @@
 use Rattle.std.proofs.Common.{sym, subst, arith}
 use Rattle.std.specs.List.Sorted.{IsStrictlySortedBy}
 use Rattle.dd_lattice.specs.Order.{cell_cmp}
-use Rattle.dd_topology.proofs.OrderLaws.{sorted-in_order}
+use Rattle.dd_topology.specs.lemmas.OrderLaws.{sorted-in_order}
 use Rattle.dd_formula.specs.LocalRule.{reads_at}
 use Rattle.dd_compile.proofs.TemplateLaws.{few_cells, few_own, few_made, own_ready, own_template}
 use Rattle.dd_compile.proofs.templates.compile_template.Goals as goal

@@ -2,7 +2,7 @@ use Rattle.std.proofs.Common.{◌≡◌, ◌≤◌, length, ◌++◌, ◌∷◌,
 use Rattle.std.proofs.lemmas.List.{get_or_default}
 use Rattle.dd_circuit.specs.declared.gates.Signal.{Signal}
 use Rattle.dd_circuit.specs.Circuits.{opposite}
-use Rattle.dd_compile.proofs.CaseGates.{choosing_few, choosing_step}
+use Rattle.dd_compile.specs.lemmas.CaseGates.{choosing_few, choosing_step}
 use Rattle.dd_compile.proofs.values.choose.Goals as goal
 
 none : Signal

@@ -1,4 +1,4 @@
-use Rattle.dd_compile.proofs.CaseGates.{Choosing}
+use Rattle.dd_compile.specs.lemmas.CaseGates.{Choosing}
 use Rattle.dd_compile.proofs.values.choose.Given as goal
 
 abbrev pub invariant-loop-signal : goal.invariant-loop-signal

@@ -4,8 +4,8 @@ use Rattle.dd_circuit.specs.declared.gates.Signal.{Signal}
 use Rattle.dd_circuit.specs.Circuits.{IsSignal, size}
 use Rattle.dd_compile.specs.ValueGates.{choices, rules_made}
 use Rattle.dd_compile.specs.ValueSignals.{CasesSay}
-use Rattle.dd_compile.proofs.Progress.{size-append, Extends-trans}
-use Rattle.dd_compile.proofs.CaseRules.{rules_wired, value_length, asks, value_answer}
+use Rattle.dd_compile.specs.lemmas.Progress.{size-append, Extends-trans}
+use Rattle.dd_compile.specs.lemmas.CaseRules.{rules_wired, value_length, asks, value_answer}
 use Rattle.dd_compile.proofs.values.compile_cases.Goals as goal
 
 pub compile_rules-requires : goal.compile_rules-requires

@@ -1,4 +1,4 @@
-use Rattle.dd_compile.proofs.CaseRules.{Ruling}
+use Rattle.dd_compile.specs.lemmas.CaseRules.{Ruling}
 use Rattle.dd_compile.proofs.values.compile_rules.Given as goal
 
 abbrev pub invariant-loop-rule : goal.invariant-loop-rule

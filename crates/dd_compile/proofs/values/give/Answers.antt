@@ -1,7 +1,7 @@
 use Rattle.std.proofs.Common.{◌∙◌, subst, sym, arith}
 use Rattle.std.specs.List.{All}
 use Rattle.dd_circuit.specs.Circuits.{IsSignal, size}
-use Rattle.dd_compile.proofs.CaseGates.{opposites_in_range, giving_in_range, given_step}
+use Rattle.dd_compile.specs.lemmas.CaseGates.{opposites_in_range, giving_in_range, given_step}
 use Rattle.dd_compile.proofs.values.give.Goals as goal
 
 pub or-requires-clause-in_range : goal.or-requires-clause-in_range

@@ -1,4 +1,4 @@
-use Rattle.dd_compile.proofs.CaseGates.{Giving}
+use Rattle.dd_compile.specs.lemmas.CaseGates.{Giving}
 use Rattle.dd_compile.proofs.values.give.Given as goal
 
 abbrev pub invariant-loop-symbol : goal.invariant-loop-symbol

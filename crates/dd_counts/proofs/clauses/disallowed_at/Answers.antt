@@ -3,7 +3,7 @@ use Rattle.std.specs.Prelude.{not, cond}
 use Rattle.std.specs.List.{filter, range_with_len}
 use Rattle.std.proofs.lemmas.List.Elements.{filter-append}
 use Rattle.dd_formula.specs.LocalRule.{rule_allows}
-use Rattle.dd_formula.proofs.Ranges.{range_push}
+use Rattle.dd_formula.specs.lemmas.Ranges.{range_push}
 use Rattle.dd_counts.proofs.clauses.disallowed_at.Goals as goal
 use Rattle.dd_counts.proofs.clauses.disallowed_at.Goals.{then-not-allows, else-not-allows}
 

@@ -7,7 +7,7 @@ use Rattle.dd_lattice.specs.declared.position.Cell.{Cell}
 use Rattle.dd_formula.specs.LocalRule.{cells_at}
 use Rattle.dd_formula.specs.Reach.{all_cells}
 use Rattle.dd_counts.specs.Rules.{least_x, greatest_x}
-use Rattle.dd_formula.proofs.Ranges.{fold_push}
+use Rattle.dd_formula.specs.lemmas.Ranges.{fold_push}
 use Rattle.dd_counts.proofs.rules.span.Goals as goal
 
 gap : (m n : ℕ) → Fits w32 m → Fits w32 n → unsigned_abs (to_z w64 (of_z w64 (to_z w64 (of_z w64 (to_z w32 m)) -ℤ to_z w64 (of_z w64 (to_z w32 n))))) ≡ unsigned_abs (to_z w32 m -ℤ to_z w32 n)

@@ -7,8 +7,8 @@ use Rattle.dd_formula.specs.declared.automaton.Automaton.{Automaton}
 use Rattle.dd_formula.specs.declared.automaton.Automaton.TheVariants as v
 use Rattle.dd_formula.specs.Automata.{Setting, IsAutomaton, counted, cells_of, is_cell_of}
 use Rattle.dd_formula.specs.Counts.{cut}
-use Rattle.dd_formula.proofs.Cuts.{total_more, next_cut}
-use Rattle.dd_formula.proofs.AutomatonLaws.{depth_composed, outer_part, inner_part, near_cells}
+use Rattle.dd_formula.specs.lemmas.Cuts.{total_more, next_cut}
+use Rattle.dd_formula.specs.lemmas.AutomatonLaws.{depth_composed, outer_part, inner_part, near_cells}
 use Rattle.dd_formula.specs.ValueCounts.{value_clauses}
 use Rattle.dd_counts.proofs.ValueLaws.{value_composed}
 use Rattle.dd_counts.proofs.values.+value_clauses.Goals as goal

@@ -4,9 +4,9 @@ use Rattle.std.proofs.lemmas.List.{take_all}
 use Rattle.dd_expansion.specs.Leaves.{clause_count, total}
 use Rattle.dd_formula.specs.LocalRule.{LocalRule, expansion_at}
 use Rattle.dd_formula.specs.Counts.{cut}
-use Rattle.dd_formula.proofs.Cuts.{total_more}
+use Rattle.dd_formula.specs.lemmas.Cuts.{total_more}
 use Rattle.dd_formula.specs.ValueCounts.{case_clauses}
-use Rattle.dd_formula.proofs.Ranges.{total_push}
+use Rattle.dd_formula.specs.lemmas.Ranges.{total_push}
 use Rattle.dd_counts.proofs.ValueLaws.{round, by_case}
 use Rattle.dd_counts.proofs.values.given_clauses.Goals as goal
 

@@ -1,5 +1,5 @@
 use Rattle.std.proofs.Common.{◌-◌, ◌≢◌, false, get_or, arith, sym, ◌∙◌, get_or-set_other}
-use Rattle.dd_derivation.proofs.Numbers.{deletes_one, after_one, deletes_none, dead_none, past_none}
+use Rattle.dd_derivation.specs.lemmas.Numbers.{deletes_one, after_one, deletes_none, dead_none, past_none}
 use Rattle.dd_derivation.proofs.known.delete_all.Goals as goal
 
 pub returns-then-place-count-clause-value : goal.returns-then-place-count-clause-value

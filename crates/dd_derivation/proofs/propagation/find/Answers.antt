@@ -4,7 +4,7 @@ use Rattle.std.proofs.lemmas.Bool.{not-true}
 use Rattle.dd_clause.specs.declared.clause.Literal.{Literal}
 use Rattle.dd_clause.specs.Clauses.{negation}
 use Rattle.dd_derivation.specs.Derivations.{same_literal}
-use Rattle.dd_derivation.proofs.Findings.{Sums, open_early, all_sums, forced_end}
+use Rattle.dd_derivation.specs.lemmas.Findings.{Sums, open_early, all_sums, forced_end}
 use Rattle.dd_derivation.proofs.propagation.find.Goals as goal
 
 none : Literal

@@ -1,6 +1,6 @@
 use Rattle.std.proofs.Common.{not, take}
 use Rattle.std.specs.List.{filter}
-use Rattle.dd_derivation.proofs.Findings.{Sums}
+use Rattle.dd_derivation.specs.lemmas.Findings.{Sums}
 use Rattle.dd_derivation.proofs.propagation.find.Given as goal
 
 abbrev pub invariant-loop-literal : goal.invariant-loop-literal

@@ -1,5 +1,5 @@
 use Rattle.std.proofs.Common.{sym, refl}
-use Rattle.dd_derivation.proofs.Falses.{hinted_here, hinted_more}
+use Rattle.dd_derivation.specs.lemmas.Falses.{hinted_here, hinted_more}
 use Rattle.dd_derivation.proofs.propagation.first_hinted.Goals as goal
 use Rattle.dd_derivation.proofs.propagation.first_hinted.Goals.{in-Some+in_default-first_of, in_default}
 

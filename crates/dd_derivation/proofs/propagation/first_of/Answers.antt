@@ -1,6 +1,6 @@
 use Rattle.std.proofs.Common.{false, sym}
 use Rattle.dd_clause.specs.declared.clause.Literal.{Literal}
-use Rattle.dd_derivation.proofs.Falses.{first_of-here, first_of-more}
+use Rattle.dd_derivation.specs.lemmas.Falses.{first_of-here, first_of-more}
 use Rattle.dd_derivation.proofs.propagation.first_of.Goals as goal
 
 none : Literal

@@ -1,7 +1,7 @@
 use Rattle.std.proofs.Common.{false, length, get_or, take, arith, sym, inl, inr, leb}
 use Rattle.std.proofs.lemmas.Bool.{and_left, and_right, lt-leb}
 use Rattle.dd_clause.specs.declared.clause.Literal.{Literal}
-use Rattle.dd_derivation.proofs.Falses.{AreUpTo-marked}
+use Rattle.dd_derivation.specs.lemmas.Falses.{AreUpTo-marked}
 use Rattle.dd_derivation.proofs.Proper.{improper, marked_has, start_more}
 use Rattle.dd_derivation.proofs.propagation.start_marks.Goals as goal
 

@@ -1,5 +1,5 @@
 use Rattle.std.proofs.Common.{sym, ◌∙◌}
-use Rattle.dd_derivation.proofs.Soundness.{refutes_sound}
+use Rattle.dd_derivation.specs.lemmas.Soundness.{refutes_sound}
 use Rattle.dd_derivation.proofs.refutation.check_refutation.Goals as goal
 
 pub returns-clause-sound : goal.returns-clause-sound

@@ -3,7 +3,7 @@ use Rattle.std.specs.Int.{w128, w64}
 use mir.Val.{SFits}
 use Rattle.std.proofs.lemmas.Int.{ints, to_z-of_z}
 use Rattle.dd_discharge.specs.Amounts.{total_below, column_value}
-use Rattle.dd_discharge.proofs.Totals.{total_more, unit_fits, sum_fits}
+use Rattle.dd_discharge.specs.lemmas.Totals.{total_more, unit_fits, sum_fits}
 use Rattle.dd_discharge.proofs.check.left_side.Goals as goal
 
 pub loop-j-preserved : goal.loop-j-preserved

@@ -5,7 +5,7 @@ use lib.IntN.{*ℤ_comm}
 use Rattle.std.proofs.lemmas.Int.{ints, to_z-of_z}
 use Rattle.dd_rows.specs.declared.rows.Row.{Row}
 use Rattle.dd_discharge.specs.Amounts.{total_below, coefficient_in, row_in}
-use Rattle.dd_discharge.proofs.Totals.{total_more, unit_fits, sum_fits}
+use Rattle.dd_discharge.specs.lemmas.Totals.{total_more, unit_fits, sum_fits}
 use Rattle.dd_discharge.proofs.Tabulated.{row_is}
 use Rattle.dd_discharge.proofs.check.sum_in_column.Goals as goal
 

@@ -3,7 +3,7 @@ use Rattle.std.proofs.lemmas.List.Sums.{get_or-le-sum_by, sum_by_more_le}
 use denote.Param.Weighed.{at_most}
 use Rattle.dd_expansion.specs.Leaves.{instances}
 use Rattle.dd_expansion.proofs.expanded.Expanded.TheLaws.{the_size}
-use Rattle.dd_expansion.proofs.Layers.{instances_and}
+use Rattle.dd_expansion.specs.lemmas.Layers.{instances_and}
 use Rattle.dd_expansion.proofs.Sizes.{joined}
 use Rattle.dd_expansion.proofs.expanded.+instances.Goals as goal
 

@@ -5,8 +5,8 @@ use Rattle.std.proofs.lemmas.Bool.{le-leb, lt-leb}
 use Rattle.dd_formula.specs.LocalRule.{is_near}
 use Rattle.dd_formula.specs.Automata.{counted}
 use Rattle.dd_formula.specs.declared.automaton.Automaton.TheVariants as v
-use Rattle.dd_formula.proofs.AutomatonLaws.{instances_given, counted_given}
-use Rattle.dd_formula.proofs.CompositionLaws.{passes_more, range_fails}
+use Rattle.dd_formula.specs.lemmas.AutomatonLaws.{instances_given, counted_given}
+use Rattle.dd_formula.specs.lemmas.CompositionLaws.{passes_more, range_fails}
 use Rattle.dd_formula.proofs.given.has_few.Goals as goal
 
 pub loop-node-preserved : goal.loop-node-preserved

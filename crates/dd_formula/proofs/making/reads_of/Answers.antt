@@ -1,6 +1,6 @@
 use Rattle.std.proofs.Common.{◌≡◌, refl, ap, sym, ◌∙◌, inr}
 use Rattle.std.specs.List.{list_all}
-use Rattle.dd_lattice.proofs.InOrderLaws.{list_all-in_order}
+use Rattle.dd_lattice.specs.lemmas.InOrderLaws.{list_all-in_order}
 use Rattle.dd_expansion.specs.Leaves.{leaf_cells}
 use Rattle.dd_formula.specs.LocalRule.{is_near}
 use Rattle.dd_formula.proofs.making.reads_of.Goals as goal

@@ -1,4 +1,4 @@
-use Rattle.dd_formula.proofs.FarthestLaws.{cell_more}
+use Rattle.dd_formula.specs.lemmas.FarthestLaws.{cell_more}
 use Rattle.dd_formula.proofs.reach.farthest.Goals as goal
 
 pub loop-cell-preserved : goal.loop-cell-preserved

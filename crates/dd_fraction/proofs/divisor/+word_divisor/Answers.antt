@@ -1,6 +1,6 @@
 use Rattle.std.proofs.Common.{◌≡◌, ◌*◌, ◌/◌, ◌%◌, ◌≤◌, sym, ap, ◌∙◌, arith}
 use Rattle.dd_fraction.specs.Divisor.{greatest_common}
-use Rattle.dd_fraction.proofs.Divisors.{greatest_common-zero, greatest_common-step, greatest_common_le}
+use Rattle.dd_fraction.specs.lemmas.Divisors.{greatest_common-zero, greatest_common-step, greatest_common_le}
 use Rattle.dd_fraction.proofs.OddDivisors.{greatest_common-swap, greatest_common-halves}
 use Rattle.dd_fraction.proofs.divisor.+word_divisor.Goals as goal
 

@@ -1,4 +1,4 @@
-use Rattle.dd_fraction.proofs.Divisors.{greatest_common_above, greatest_common_le}
+use Rattle.dd_fraction.specs.lemmas.Divisors.{greatest_common_above, greatest_common_le}
 use Rattle.dd_fraction.proofs.divisor.common_divisor.Goals as goal
 
 pub returns-clause-above : goal.returns-clause-above

@@ -1,4 +1,4 @@
-use Rattle.dd_fraction.proofs.Laws.{minus_minus, plus_minus, minus_plus, minus_times, minus_times_right}
+use Rattle.dd_fraction.specs.lemmas.Laws.{minus_minus, plus_minus, minus_plus, minus_times, minus_times_right}
 use Rattle.dd_fraction.proofs.field_laws.opposite_laws.Goals as goal
 
 pub returns : goal.returns

@@ -1,4 +1,4 @@
-use Rattle.dd_fraction.proofs.OrderLaws.{at_most_refl, at_most_trans, at_most_antisymm, at_most_total, at_most_below, below_or_at_most, below_not_at_most, below_trans_left, below_trans_right, exact_cmp-below, exact_cmp-above, exact_cmp-same}
+use Rattle.dd_fraction.specs.lemmas.OrderLaws.{at_most_refl, at_most_trans, at_most_antisymm, at_most_total, at_most_below, below_or_at_most, below_not_at_most, below_trans_left, below_trans_right, exact_cmp-below, exact_cmp-above, exact_cmp-same}
 use Rattle.dd_fraction.proofs.field_laws.order_laws.Goals as goal
 
 pub returns : goal.returns

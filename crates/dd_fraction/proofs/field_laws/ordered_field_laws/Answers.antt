@@ -1,4 +1,4 @@
-use Rattle.dd_fraction.proofs.OrderLaws.{at_most_plus, at_most_times, at_most_minus, at_most_gap, at_most_from_gap, at_most_from_nonneg, nonneg_from_at_most, nonneg_plus, nonneg_times, positive_plus, positive_times, positive_inverse}
+use Rattle.dd_fraction.specs.lemmas.OrderLaws.{at_most_plus, at_most_times, at_most_minus, at_most_gap, at_most_from_gap, at_most_from_nonneg, nonneg_from_at_most, nonneg_plus, nonneg_times, positive_plus, positive_times, positive_inverse}
 use Rattle.dd_fraction.proofs.field_laws.ordered_field_laws.Goals as goal
 
 pub returns : goal.returns

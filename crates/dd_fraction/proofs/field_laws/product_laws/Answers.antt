@@ -1,4 +1,4 @@
-use Rattle.dd_fraction.proofs.Laws.{times_comm, times_assoc, times_plus, plus_times, one_times, times_one, zero_times, times_zero, times_inverse, times_low_left, times_low_right, low_times}
+use Rattle.dd_fraction.specs.lemmas.Laws.{times_comm, times_assoc, times_plus, plus_times, one_times, times_one, zero_times, times_zero, times_inverse, times_low_left, times_low_right, low_times}
 use Rattle.dd_fraction.proofs.field_laws.product_laws.Goals as goal
 
 pub returns : goal.returns

@@ -1,4 +1,4 @@
-use Rattle.dd_fraction.proofs.Laws.{plus_comm, plus_assoc, zero_plus, plus_zero, plus_cancel, plus_low_left, plus_low_right, low_plus}
+use Rattle.dd_fraction.specs.lemmas.Laws.{plus_comm, plus_assoc, zero_plus, plus_zero, plus_cancel, plus_low_left, plus_low_right, low_plus}
 use Rattle.dd_fraction.proofs.field_laws.sum_laws.Goals as goal
 
 pub returns : goal.returns

@@ -1,4 +1,4 @@
-use Rattle.dd_lattice.proofs.BoxLaws.{centred_members}
+use Rattle.dd_lattice.specs.lemmas.BoxLaws.{centred_members}
 use Rattle.dd_lattice.proofs.bounds.centred_box.Goals as goal
 
 pub returns-clause-members : goal.returns-clause-members

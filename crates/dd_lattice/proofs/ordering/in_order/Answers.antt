@@ -2,7 +2,7 @@ use Rattle.std.proofs.Common.{◌≡◌, take}
 use Rattle.std.proofs.lemmas.List.{take_all}
 use Rattle.std.proofs.lemmas.Result.{IfOk-weaker}
 use Rattle.dd_lattice.specs.InOrder.{in_order, HaveSameCells}
-use Rattle.dd_lattice.proofs.InOrderLaws.{in_order_members}
+use Rattle.dd_lattice.specs.lemmas.InOrderLaws.{in_order_members}
 use Rattle.dd_lattice.proofs.ordering.in_order.Goals as goal
 
 pub returns-clause-members : goal.returns-clause-members

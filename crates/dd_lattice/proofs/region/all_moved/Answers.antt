@@ -2,8 +2,8 @@ use Rattle.std.proofs.Common.{◌≡◌, map, take, sym, refl, ◌∙◌}
 use Rattle.std.proofs.lemmas.List.{take_all}
 use Rattle.dd_lattice.specs.Place.{moved}
 use Rattle.std.specs.List.{Contains}
-use Rattle.dd_lattice.proofs.RangeLaws.{outside_if_not_given}
-use Rattle.dd_lattice.proofs.MoveLaws.{moved_region, moved_more}
+use Rattle.dd_lattice.specs.lemmas.RangeLaws.{outside_if_not_given}
+use Rattle.dd_lattice.specs.lemmas.MoveLaws.{moved_region, moved_more}
 use Rattle.dd_lattice.proofs.region.all_moved.Goals as goal
 
 pub returns-in_default-clause-members : goal.returns-in_default-clause-members

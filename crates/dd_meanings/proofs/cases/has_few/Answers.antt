@@ -2,7 +2,7 @@ use Rattle.std.proofs.Common.{◌<◌, ◌≤◌, sym, arith}
 use Rattle.std.specs.Prelude.{nat_le}
 use Rattle.std.proofs.lemmas.Bool.{le-leb, lt-leb}
 use Rattle.dd_formula.specs.LocalRule.{most_instances}
-use Rattle.dd_formula.proofs.CompositionLaws.{passes_more, range_fails}
+use Rattle.dd_formula.specs.lemmas.CompositionLaws.{passes_more, range_fails}
 use Rattle.dd_meanings.specs.making.Parts.{case_counts}
 use Rattle.dd_meanings.proofs.cases.has_few.Goals as goal
 

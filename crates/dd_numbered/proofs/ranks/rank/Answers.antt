@@ -1,5 +1,5 @@
 use Rattle.std.proofs.Common.{Ok, Err, sym}
-use Rattle.dd_pattern.proofs.FillingLaws.{search_places}
+use Rattle.dd_pattern.specs.lemmas.FillingLaws.{search_places}
 use Rattle.dd_numbered.proofs.ranks.rank.Goals as goal
 
 pub returns-in-Ok : goal.returns-in-Ok

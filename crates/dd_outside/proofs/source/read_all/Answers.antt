@@ -1,5 +1,5 @@
 use Rattle.std.proofs.Common.{◌+◌, arith, rules}
-use Rattle.dd_outside.proofs.Told.{length_take_at_most, gave_few_more}
+use Rattle.dd_outside.specs.lemmas.Told.{length_take_at_most, gave_few_more}
 use Rattle.dd_outside.specs.Bytes.{GivesAtMost}
 use Rattle.dd_outside.proofs.source.read_all.Goals as goal
 

@@ -12,10 +12,10 @@ use Rattle.dd_circuit.specs.Circuits.{Network, IsSignal, size}
 use Rattle.dd_compile.specs.Wiring.{Wiring}
 use Rattle.dd_compile.specs.ValueGates.{fresh, value_made}
 use Rattle.dd_compile.specs.ValueSignals.{are_wired_there}
-use Rattle.dd_compile.proofs.ChoiceLaws.{fresh_in_range}
+use Rattle.dd_compile.specs.lemmas.ChoiceLaws.{fresh_in_range}
 use Rattle.dd_boxes.specs.Boxes.{origin}
 use Rattle.dd_problem.specs.Differing.{apart, differ_made}
-use Rattle.dd_compile.proofs.StillWired.{still_wired}
+use Rattle.dd_compile.specs.lemmas.StillWired.{still_wired}
 use Rattle.dd_problem.proofs.DifferSteps.{is_one, second_few, apart_few, last_few, parts_below, differ_gates, differ_signal}
 use Rattle.dd_problem.proofs.differing.compile_differ.Goals as goal
 

@@ -8,7 +8,7 @@ use Rattle.dd_compile.specs.Compiling.{Maker}
 use Rattle.dd_compile.specs.ValueSignals.{are_wired_there}
 use Rattle.dd_boxes.specs.Boxes.{origin}
 use Rattle.dd_problem.specs.Differing.{differ_made}
-use Rattle.dd_compile.proofs.StillWired.{still_wired}
+use Rattle.dd_compile.specs.lemmas.StillWired.{still_wired}
 use Rattle.dd_problem.proofs.NodesLeft.{node_few, node_step, nodes_done, nodes_gates, true_in_range, on_ok}
 use Rattle.dd_problem.proofs.differing.push_differ.Goals as goal
 

@@ -3,7 +3,7 @@ use Rattle.dd_circuit.specs.Circuits.{size}
 use Rattle.dd_lattice.specs.Cells.{cell}
 use Rattle.dd_boxes.specs.Boxes.{origin}
 use Rattle.dd_problem.specs.Pushed.{is_wired_at}
-use Rattle.dd_problem.proofs.Wiring.{range_at}
+use Rattle.dd_problem.specs.lemmas.Wiring.{range_at}
 use Rattle.std.proofs.Common.{subst}
 use Rattle.dd_boxes.specs.Goals.{IsGoalFor}
 use Rattle.dd_boxes.specs.Views.{goal_of, numbers_of}

@@ -1,6 +1,6 @@
 use Rattle.std.proofs.Common.{map, ap, ◌∙◌, ◌++◌, ◌∷◌, []}
 use Rattle.dd_compile.specs.Templates.{rule_at}
-use Rattle.dd_problem.proofs.RangesLeft.{range_to, left_step}
+use Rattle.dd_problem.specs.lemmas.RangesLeft.{range_to, left_step}
 use Rattle.dd_problem.proofs.gates.templates_of.Goals as goal
 
 pub loop-node-preserved : goal.loop-node-preserved

@@ -1,6 +1,6 @@
 use Rattle.std.proofs.Common.{◌*◌, ◌++◌, ◌∷◌, [], map, ap, ◌∙◌}
 use Rattle.dd_problem.specs.Layouts.{nth_cell}
-use Rattle.dd_problem.proofs.RangesLeft.{range_to, left_step}
+use Rattle.dd_problem.specs.lemmas.RangesLeft.{range_to, left_step}
 use Rattle.dd_problem.proofs.layouts.cells_of.Goals as goal
 
 pub loop-number-preserved : goal.loop-number-preserved

@@ -1,6 +1,6 @@
 use Rattle.std.proofs.Common.{◌+◌, ◌*◌, ap, refl}
 use Rattle.std.specs.Prelude.{Result, Ok, Err, OnOk}
-use Rattle.dd_problem.proofs.RangesLeft.{cell_parts}
+use Rattle.dd_problem.specs.lemmas.RangesLeft.{cell_parts}
 use Rattle.dd_problem.proofs.one_hot.push_cell.Goals as goal
 
 on_ok_more : {V E : Type 0} (r : Result V E) (P Q : Type 0) → (P → Q) → OnOk r P → OnOk r Q

@@ -2,7 +2,7 @@ use Rattle.std.proofs.Common.{◌≡◌, ◌+◌, ◌*◌, ℕ, Bool, true, fals
 use Rattle.std.specs.Prelude.{not}
 use Rattle.dd_cnf.specs.Encoding.{literal}
 use Rattle.dd_formula.specs.LocalRule.{rule_allows}
-use Rattle.dd_problem.proofs.RangesLeft.{none_kept, none_left_out}
+use Rattle.dd_problem.specs.lemmas.RangesLeft.{none_kept, none_left_out}
 use Rattle.dd_problem.proofs.one_hot.push_disallowed.Goals as goal
 use Rattle.dd_problem.proofs.one_hot.push_disallowed.Goals.{then-not-allows+in_ok-push_clause, else-not-allows}
 

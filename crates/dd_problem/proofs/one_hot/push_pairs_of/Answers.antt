@@ -1,6 +1,6 @@
 use Rattle.std.proofs.Common.{◌∙◌, ◌++◌, ◌∷◌, [], map, false}
 use Rattle.dd_cnf.specs.Encoding.{literal}
-use Rattle.dd_problem.proofs.RangesLeft.{range_to, pair_step}
+use Rattle.dd_problem.specs.lemmas.RangesLeft.{range_to, pair_step}
 use Rattle.dd_problem.proofs.one_hot.push_pairs_of.Goals as goal
 
 pub loop-other-preserved : goal.loop-other-preserved

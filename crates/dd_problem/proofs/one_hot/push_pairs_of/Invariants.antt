@@ -1,6 +1,6 @@
 use Rattle.std.proofs.Common.{◌≡◌, ◌++◌, ◌∷◌, [], map, false}
 use Rattle.dd_cnf.specs.Encoding.{literal}
-use Rattle.dd_problem.proofs.RangesLeft.{range_to}
+use Rattle.dd_problem.specs.lemmas.RangesLeft.{range_to}
 use Rattle.dd_problem.proofs.one_hot.push_pairs_of.Given as goal
 
 abbrev pub invariant-loop-other : goal.invariant-loop-other

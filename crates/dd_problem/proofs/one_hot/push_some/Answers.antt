@@ -1,6 +1,6 @@
 use Rattle.std.proofs.Common.{map, true, refl, rules}
 use Rattle.dd_cnf.specs.Encoding.{literal}
-use Rattle.dd_problem.proofs.RangesLeft.{range_to, left_step, some_in_range}
+use Rattle.dd_problem.specs.lemmas.RangesLeft.{range_to, left_step, some_in_range}
 use Rattle.dd_problem.proofs.one_hot.push_some.Goals as goal
 
 pub loop-variable-preserved : goal.loop-variable-preserved

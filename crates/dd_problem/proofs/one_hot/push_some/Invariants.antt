@@ -1,6 +1,6 @@
 use Rattle.std.proofs.Common.{◌≡◌, ◌++◌, map, true}
 use Rattle.dd_cnf.specs.Encoding.{literal}
-use Rattle.dd_problem.proofs.RangesLeft.{range_to}
+use Rattle.dd_problem.specs.lemmas.RangesLeft.{range_to}
 use Rattle.dd_problem.proofs.one_hot.push_some.Given as goal
 
 abbrev pub invariant-loop-variable : goal.invariant-loop-variable

@@ -4,7 +4,7 @@ use Rattle.dd_formula.specs.Counts.{cut}
 use Rattle.dd_formula.specs.Reach.{farthest, automaton_cells}
 use Rattle.dd_formula.specs.ValueCounts.{differ_clauses}
 use Rattle.dd_boxes.specs.Counts.{most_clauses}
-use Rattle.dd_formula.proofs.FarthestLaws.{farthest-append}
+use Rattle.dd_formula.specs.lemmas.FarthestLaws.{farthest-append}
 use Rattle.dd_query.proofs.aims.differing.Goals as goal
 
 pub returns : goal.returns

@@ -1,4 +1,4 @@
-use Rattle.dd_rows.proofs.FormulaLaws.{says_true_if}
+use Rattle.dd_rows.specs.lemmas.FormulaLaws.{says_true_if}
 use Rattle.dd_rows.proofs.places.formula_at.Goals as goal
 
 pub returns : goal.returns

@@ -2,7 +2,7 @@ use Rattle.std.proofs.Common.{◌≡◌, ℕ, sym, ◌∙◌, ap, get_or, take, 
 use Rattle.std.specs.Ordering.{nat_cmp, ord_max}
 use Rattle.std.proofs.lemmas.List.{take_more}
 use Rattle.dd_expansion.specs.Limits.{greatest}
-use Rattle.dd_rows.proofs.Lists.{greatest_push}
+use Rattle.dd_rows.specs.lemmas.Lists.{greatest_push}
 use Rattle.dd_rows.proofs.program.greatest_weight.Goals as goal
 
 greater_is : (a b : ℕ) → ord_max nat_cmp a b ≡ max a b

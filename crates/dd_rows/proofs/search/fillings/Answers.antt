@@ -12,9 +12,9 @@ use Rattle.dd_formula.specs.LocalRule.{LocalRule}
 use Rattle.dd_rows.specs.Fillings.{most_fillings, HasManyFillings}
 use Rattle.dd_rows.specs.listing.Levels.{AreOf, chosen, settled, last_number, extended}
 use Rattle.dd_rows.specs.listing.Formulas.{SayTrue, are_all_true}
-use Rattle.dd_rows.proofs.Lists.{sorted_take}
+use Rattle.dd_rows.specs.lemmas.Lists.{sorted_take}
 use Rattle.dd_rows.proofs.Chosen.{chosen_by}
-use Rattle.dd_rows.proofs.Growing.{level_next, few_next}
+use Rattle.dd_rows.specs.lemmas.Growing.{level_next, few_next}
 use Rattle.dd_rows.proofs.Steps.{on_large_weaker}
 use Rattle.dd_rows.proofs.search.fillings.Goals as goal
 

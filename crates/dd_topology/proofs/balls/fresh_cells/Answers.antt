@@ -1,7 +1,7 @@
 use Rattle.std.proofs.Common.{arith, ◌<◌, length, Contains, subst, sym, ◌∙◌}
 use Rattle.dd_lattice.specs.Order.{cell_cmp}
-use Rattle.dd_lattice.proofs.InOrderLaws.{cells_equal}
-use Rattle.dd_topology.proofs.OrderLaws.{has-insert_key}
+use Rattle.dd_lattice.specs.lemmas.InOrderLaws.{cells_equal}
+use Rattle.dd_topology.specs.lemmas.OrderLaws.{has-insert_key}
 use Rattle.dd_topology.proofs.GrowthLaws.{adds_new, adds_known}
 use Rattle.dd_topology.proofs.balls.fresh_cells.Goals as goal
 use Rattle.dd_topology.proofs.balls.fresh_cells.Goals.{then-branch+in_ok-push, else-branch}

@@ -5,7 +5,7 @@ use Rattle.dd_lattice.specs.declared.position.Cell.{Cell}
 use Rattle.dd_formula.specs.LocalRule.{cells_at}
 use Rattle.dd_formula.specs.Reach.{all_cells}
 use Rattle.dd_counts.specs.Rules.{least_x}
-use Rattle.dd_formula.proofs.Ranges.{fold_push}
+use Rattle.dd_formula.specs.lemmas.Ranges.{fold_push}
 use Rattle.dd_transfer.proofs.standing.least_read.Goals as goal
 
 pub loop-node-preserved : goal.loop-node-preserved

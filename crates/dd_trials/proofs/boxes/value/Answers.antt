@@ -1,5 +1,5 @@
 use Rattle.std.proofs.Common.{◌<◌, sym, subst}
-use Rattle.dd_formula.proofs.Reached.{filling_below}
+use Rattle.dd_formula.specs.lemmas.Reached.{filling_below}
 use Rattle.dd_boxes.specs.Views.{numbers_of}
 use Rattle.dd_trials.proofs.boxes.value.Goals as goal
 

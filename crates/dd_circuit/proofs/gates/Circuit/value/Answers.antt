@@ -1,5 +1,5 @@
 use Rattle.std.proofs.Common.{◌∙◌, arith}
-use Rattle.dd_circuit.proofs.ValueLaws.{gate_here, values_step, values_done, values_only}
+use Rattle.dd_circuit.specs.lemmas.ValueLaws.{gate_here, values_step, values_done, values_only}
 use Rattle.dd_circuit.proofs.gates.Circuit.value.Goals as goal
 
 pub gate_value-value-requires : goal.gate_value-value-requires

@@ -5,7 +5,7 @@ use Rattle.std.proofs.lemmas.Bool.{eqb-true}
 use Rattle.dd_circuit.specs.declared.gates.Signal.{Signal}
 use Rattle.dd_compile.specs.Wiring.{Wiring, signals_of}
 use Rattle.dd_compile.specs.RuleSignals.{is_signal, are_signals}
-use Rattle.dd_compile.proofs.WiringLaws.{found_list, missing_list}
+use Rattle.dd_compile.specs.lemmas.WiringLaws.{found_list, missing_list}
 use Rattle.dd_compile.proofs.inputs.Inputs.has_signals.Goals as goal
 
 full : (n k : ℕ) (o : Option (List Signal)) (ss ts : List Signal) (b : Bool) → o ≡ Some ss → ts ≡ ss → length ts ≡ k → b ≡ list_all (is_signal n) ts → b ≡ are_signals n k o

@@ -2,7 +2,7 @@ use Rattle.std.proofs.Common.{◌-◌, List, Some, length, arith, refl, ap, sym,
 use Rattle.std.proofs.lemmas.Option.{slice_get_read}
 use Rattle.dd_clause.specs.declared.clause.Literal.{Literal}
 use Rattle.dd_derivation.specs.declared.step.Step.{Step}
-use Rattle.dd_derivation.proofs.Numbers.{in_clauses, in_steps, deleted_place, past_all}
+use Rattle.dd_derivation.specs.lemmas.Numbers.{in_clauses, in_steps, deleted_place, past_all}
 use Rattle.dd_derivation.proofs.known.Known.find_clause.Goals as goal
 
 pub returns-then-place-self : goal.returns-then-place-self

@@ -10,7 +10,7 @@ use Rattle.dd_expansion.specs.Leaves.{instances}
 use Rattle.dd_expansion.specs.Near.{AreNear}
 use Rattle.dd_expansion.specs.Expansion.{expansion}
 use Rattle.dd_expansion.proofs.formulas.Formula.TheLaws.{the_size}
-use Rattle.dd_expansion.proofs.Layers.{expansion_and, expansion_or, expansion_for_all, expansion_exists}
+use Rattle.dd_expansion.specs.lemmas.Layers.{expansion_and, expansion_or, expansion_for_all, expansion_exists}
 use Rattle.dd_expansion.proofs.Nodes.{nodes_and, nodes_or, nodes_for_all, nodes_exists}
 use Rattle.dd_expansion.proofs.Parts.{part_fits, part_depth, inner_fits, inner_depth, inner_near, item_near, made_more, paid_more, few_for_all}
 use Rattle.dd_expansion.proofs.expansion.Scope.+expand.Goals as goal

@@ -1,7 +1,7 @@
 use Rattle.std.proofs.Common.{◌∙◌, ap, arith}
 use Rattle.dd_formula.specs.Automata.{counted}
 use Rattle.dd_formula.specs.declared.automaton.Automaton.{Automaton}
-use Rattle.dd_formula.proofs.AutomatonLaws.{shallow, depth_composed}
+use Rattle.dd_formula.specs.lemmas.AutomatonLaws.{shallow, depth_composed}
 use Rattle.dd_formula.proofs.automaton.Automaton.+depth.Goals as goal
 
 pub overflow_add-result : goal.overflow_add-result

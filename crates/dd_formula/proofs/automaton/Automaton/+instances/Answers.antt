@@ -7,8 +7,8 @@ use Rattle.dd_formula.specs.declared.automaton.Automaton.{Automaton}
 use Rattle.dd_formula.specs.declared.automaton.Automaton.TheVariants as v
 use Rattle.dd_formula.specs.Automata.{Setting, IsAutomaton, counted, cells_of, is_cell_of}
 use Rattle.dd_formula.specs.Counts.{cut}
-use Rattle.dd_formula.proofs.Cuts.{total_more, total-take-le, next_cut, cut_passed}
-use Rattle.dd_formula.proofs.AutomatonLaws.{depth_composed, outer_part, inner_part, near_cells, instances_composed}
+use Rattle.dd_formula.specs.lemmas.Cuts.{total_more, total-take-le, next_cut, cut_passed}
+use Rattle.dd_formula.specs.lemmas.AutomatonLaws.{depth_composed, outer_part, inner_part, near_cells, instances_composed}
 use Rattle.dd_formula.proofs.automaton.Automaton.+instances.Goals as goal
 
 pub instances-composed_instances-requires : goal.instances-composed_instances-requires

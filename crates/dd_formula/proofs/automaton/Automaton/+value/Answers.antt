@@ -8,7 +8,7 @@ use Rattle.dd_formula.specs.declared.automaton.Automaton.{Automaton}
 use Rattle.dd_formula.specs.Automata.{value, cells_of, is_cell_of}
 use Rattle.dd_formula.specs.Values.{is_read}
 use Rattle.dd_formula.specs.valuing.Readable.{IsReadable}
-use Rattle.dd_formula.proofs.AutomatonLaws.{node_at, passes_at}
+use Rattle.dd_formula.specs.lemmas.AutomatonLaws.{node_at, passes_at}
 use Rattle.dd_formula.proofs.SeenLaws.{inner_readable, outer_readable, composed_is, readable_there, value_there, values_more, where_given, not_given, seen_there}
 use Rattle.dd_formula.proofs.automaton.Automaton.+value.Goals as goal
 

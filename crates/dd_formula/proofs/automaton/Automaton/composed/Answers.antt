@@ -1,4 +1,4 @@
-use Rattle.dd_formula.proofs.CompositionLaws.{composition_formed, on_ok}
+use Rattle.dd_formula.specs.lemmas.CompositionLaws.{composition_formed, on_ok}
 use Rattle.dd_formula.proofs.automaton.Automaton.composed.Goals as goal
 
 pub returns-in-Ok-clause-formed : goal.returns-in-Ok-clause-formed

@@ -3,7 +3,7 @@ use Rattle.std.proofs.lemmas.Result.{IfOk-weaker}
 use Rattle.dd_formula.specs.Automata.{IsNodesOf}
 use Rattle.dd_formula.specs.Reach.{automaton_reach}
 use Rattle.dd_formula.specs.declared.automaton.Automaton.{Automaton}
-use Rattle.dd_formula.proofs.FarthestLaws.{bare_reach}
+use Rattle.dd_formula.specs.lemmas.FarthestLaws.{bare_reach}
 use Rattle.dd_formula.proofs.automaton.Automaton.reach.Goals as goal
 
 pub reach_at-requires : goal.reach_at-requires

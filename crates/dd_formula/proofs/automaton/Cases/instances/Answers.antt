@@ -4,8 +4,8 @@ use Rattle.std.proofs.lemmas.List.{take_all}
 use Rattle.dd_expansion.specs.Leaves.{instances}
 use Rattle.dd_formula.specs.LocalRule.{LocalRule, expansion_at, reads_at, is_near}
 use Rattle.dd_formula.specs.Automata.{case_instances, cases_reads}
-use Rattle.dd_formula.proofs.Cuts.{total_more, flat_more}
-use Rattle.dd_formula.proofs.AutomatonLaws.{case_has, rule_nodes, passes_both}
+use Rattle.dd_formula.specs.lemmas.Cuts.{total_more, flat_more}
+use Rattle.dd_formula.specs.lemmas.AutomatonLaws.{case_has, rule_nodes, passes_both}
 use Rattle.dd_formula.proofs.automaton.Cases.instances.Goals as goal
 
 pub instances-requires : goal.instances-requires

@@ -2,12 +2,12 @@ use Rattle.std.proofs.Common.{◌≡◌, ◌<◌, ◌≤◌, List, ◌++◌, ℕ
 use Rattle.std.specs.List.{list_all, flat_map}
 use Rattle.std.proofs.lemmas.Result.{IfOk-weaker}
 use Rattle.dd_lattice.specs.InOrder.{in_order}
-use Rattle.dd_lattice.proofs.InOrderLaws.{list_all-in_order}
+use Rattle.dd_lattice.specs.lemmas.InOrderLaws.{list_all-in_order}
 use Rattle.std.proofs.lemmas.List.{take_all}
 use Rattle.dd_formula.specs.LocalRule.{LocalRule, cells_at}
 use Rattle.dd_formula.specs.Automata.{is_cell_of}
-use Rattle.dd_formula.proofs.Cuts.{flat_more}
-use Rattle.dd_formula.proofs.AutomatonLaws.{reads_by_cases, rule_reads, case_has, passes_both}
+use Rattle.dd_formula.specs.lemmas.Cuts.{flat_more}
+use Rattle.dd_formula.specs.lemmas.AutomatonLaws.{reads_by_cases, rule_reads, case_has, passes_both}
 use Rattle.dd_formula.proofs.automaton.Cases.reads.Goals as goal
 
 pub loop-rule-preserved : goal.loop-rule-preserved

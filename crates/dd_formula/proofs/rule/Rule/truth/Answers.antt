@@ -1,5 +1,5 @@
 use Rattle.std.proofs.Common.{◌∙◌}
-use Rattle.dd_expansion.proofs.TruthAt.{truth_where_given}
+use Rattle.dd_expansion.specs.lemmas.TruthAt.{truth_where_given}
 use Rattle.dd_formula.proofs.rule.Rule.truth.Goals as goal
 
 pub returns-clause-value : goal.returns-clause-value

@@ -6,8 +6,8 @@ use Rattle.std.proofs.lemmas.Int.{to_z-of_z, to_z_pos}
 use Rattle.dd_fraction.specs.Exact.{Exact}
 use Rattle.dd_fraction.specs.Checked.{IsFraction}
 use Rattle.dd_fraction.proofs.Quick.{as_lowest, whole_side}
-use Rattle.dd_fraction.proofs.Results.{sum_none_third, sum_none_fourth, sum_some, size_some}
-use Rattle.dd_fraction.proofs.Ring.{product_above}
+use Rattle.dd_fraction.specs.lemmas.Results.{sum_none_third, sum_none_fourth, sum_some, size_some}
+use Rattle.dd_fraction.specs.lemmas.Ring.{product_above}
 use Rattle.dd_fraction.proofs.fraction.Fraction.cross_sum.Goals as goal
 use Rattle.dd_fraction.proofs.fraction.Fraction.cross_sum.Goals.{then-self-eq1-via-then-self-eq1, then-self-eq1-via-else-self-eq1+then-other-eq1}
 

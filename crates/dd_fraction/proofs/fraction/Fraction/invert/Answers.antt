@@ -5,7 +5,7 @@ use lib.IntN.{pos, ◌-ℤ◌}
 use mir.Val.{SFits, to_z, of_z}
 use Rattle.std.proofs.lemmas.Int.{to_z-of_z, to_z_pos, ints}
 use Rattle.dd_fraction.specs.Exact.{Exact}
-use Rattle.dd_fraction.proofs.Results.{inverted, size_above}
+use Rattle.dd_fraction.specs.lemmas.Results.{inverted, size_above}
 use Rattle.dd_fraction.proofs.fraction.Fraction.invert.Goals as goal
 use Rattle.dd_fraction.proofs.fraction.Fraction.invert.Goals.{then-self-lt0, else-self-lt0}
 

@@ -7,8 +7,8 @@ use Rattle.std.proofs.lemmas.Int.{to_z-of_z}
 use Rattle.dd_fraction.specs.Exact.{Exact}
 use Rattle.dd_fraction.specs.Checked.{IsFraction}
 use Rattle.dd_fraction.proofs.Quick.{as_lowest, unit_left, unit_right}
-use Rattle.dd_fraction.proofs.Results.{bounded_some, product_some, size_some}
-use Rattle.dd_fraction.proofs.Ring.{product_above}
+use Rattle.dd_fraction.specs.lemmas.Results.{bounded_some, product_some, size_some}
+use Rattle.dd_fraction.specs.lemmas.Ring.{product_above}
 use Rattle.dd_fraction.proofs.fraction.Fraction.mul.Goals as goal
 use Rattle.dd_fraction.proofs.fraction.Fraction.mul.Goals.{then-is_unit-via-then-is_unit, then-is_unit-via-else-is_unit+then-is_unit-2}
 

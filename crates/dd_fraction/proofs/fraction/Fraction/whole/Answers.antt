@@ -2,7 +2,7 @@ use Rattle.std.proofs.Common.{arith}
 use Rattle.std.specs.Int.{w64, w128}
 use mir.Val.{SFits}
 use Rattle.std.proofs.lemmas.Int.{to_z-of_z, ints}
-use Rattle.dd_fraction.proofs.Results.{whole_fraction}
+use Rattle.dd_fraction.specs.lemmas.Results.{whole_fraction}
 use Rattle.dd_fraction.proofs.fraction.Fraction.whole.Goals as goal
 
 pub invariant_of-result : goal.invariant_of-result

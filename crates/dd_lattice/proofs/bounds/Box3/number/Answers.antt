@@ -1,5 +1,5 @@
 use Rattle.std.proofs.Common.{ap}
-use Rattle.dd_lattice.proofs.BoxLaws.{index_below}
+use Rattle.dd_lattice.specs.lemmas.BoxLaws.{index_below}
 use Rattle.dd_lattice.proofs.bounds.Box3.number.Goals as goal
 
 pub returns-clause-below : goal.returns-clause-below

@@ -1,6 +1,6 @@
 use Rattle.std.proofs.Common.{◌<◌, arith}
 use Rattle.dd_lattice.specs.Boxes.{volume}
-use Rattle.dd_lattice.proofs.BoxLaws.{place_within}
+use Rattle.dd_lattice.specs.lemmas.BoxLaws.{place_within}
 use Rattle.dd_lattice.proofs.bounds.Box3.position_at.Goals as goal
 
 pub returns-then-index-volume-clause-within : goal.returns-then-index-volume-clause-within

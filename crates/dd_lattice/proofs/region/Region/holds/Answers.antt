@@ -1,6 +1,6 @@
 use Rattle.std.proofs.Common.{Err, ◌∙◌}
-use Rattle.dd_lattice.proofs.InOrderLaws.{place_total, places_equal}
-use Rattle.dd_lattice.proofs.SearchLaws.{search_tells}
+use Rattle.dd_lattice.specs.lemmas.InOrderLaws.{place_total, places_equal}
+use Rattle.dd_lattice.specs.lemmas.SearchLaws.{search_tells}
 use Rattle.dd_lattice.proofs.region.Region.holds.Goals as goal
 
 pub returns-in-Err : goal.returns-in-Err

@@ -1,6 +1,6 @@
 use Rattle.std.proofs.Common.{sym, ◌∙◌, subst}
 use Rattle.dd_pattern.specs.Filling.{IsFilling}
-use Rattle.dd_pattern.proofs.FillingLaws.{missing_from_none}
+use Rattle.dd_pattern.specs.lemmas.FillingLaws.{missing_from_none}
 use Rattle.dd_pattern.proofs.filling.Filling.restrict.Goals as goal
 
 pub returns-in_default : goal.returns-in_default

@@ -1,6 +1,6 @@
 use Rattle.std.proofs.Common.{◌<◌, ◌≤◌, sym, refl, length, Ok, Err, ap, arith}
 use Rattle.std.proofs.lemmas.Option.{slice_get_read, slice_get_past}
-use Rattle.dd_pattern.proofs.FillingLaws.{search_places}
+use Rattle.dd_pattern.specs.lemmas.FillingLaws.{search_places}
 use Rattle.dd_pattern.proofs.filling.FillingReads.symbol.Goals as goal
 
 pub returns-in-Ok : goal.returns-in-Ok

@@ -1,4 +1,4 @@
-use Rattle.dd_pattern.proofs.TileSizes.{sizes_of}
+use Rattle.dd_pattern.specs.lemmas.TileSizes.{sizes_of}
 use Rattle.dd_pattern.proofs.periodic.Periodic.base.Goals as goal
 
 pub quotient-turns-requires-clause-small : goal.quotient-turns-requires-clause-small

@@ -1,7 +1,7 @@
 use Rattle.std.proofs.Common.{◌≡◌, ◌%◌, rules, sym, subst}
 use Rattle.dd_lattice.specs.Cells.{cell}
 use Rattle.dd_pattern.specs.Tile.{IsTile, IsPeriodic, IsInBox, cell_in}
-use Rattle.dd_pattern.proofs.BoxLaws.{in_box}
+use Rattle.dd_pattern.specs.lemmas.BoxLaws.{in_box}
 use Rattle.dd_pattern.proofs.periodic.Periodic.cell_at.Goals as goal
 
 pub returns-clause-in_box : goal.returns-clause-in_box

@@ -1,6 +1,6 @@
 use Rattle.std.proofs.Common.{arith, ap, subst}
 use Rattle.dd_pattern.specs.Tile.{IsTile, IsPeriodic}
-use Rattle.dd_pattern.proofs.TileSizes.{Sizes, sizes_of, place_below, index_below}
+use Rattle.dd_pattern.specs.lemmas.TileSizes.{Sizes, sizes_of, place_below, index_below}
 use Rattle.dd_pattern.proofs.periodic.Periodic.index.Goals as goal
 
 pub entry-place-requires : goal.entry-place-requires

@@ -1,6 +1,6 @@
 use Rattle.std.proofs.Common.{◌∙◌, map, ap, sym, refl}
 use Rattle.std.specs.Prelude.{string_bytes}
-use Rattle.dd_topology.proofs.NamingLaws.{known, unknown, map-insert_key}
+use Rattle.dd_topology.specs.lemmas.NamingLaws.{known, unknown, map-insert_key}
 use Rattle.dd_topology.proofs.names.Names.add.Goals as goal
 
 pub returns-then-contains-clause-refusal : goal.returns-then-contains-clause-refusal

@@ -1,5 +1,5 @@
 use Rattle.std.specs.Prelude.{string_bytes}
-use Rattle.dd_topology.proofs.NamingLaws.{are_distinct}
+use Rattle.dd_topology.specs.lemmas.NamingLaws.{are_distinct}
 use Rattle.dd_topology.proofs.names.Names.count.Goals as goal
 
 pub returns-clause-distinct : goal.returns-clause-distinct

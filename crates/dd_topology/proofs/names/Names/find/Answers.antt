@@ -1,6 +1,6 @@
 use Rattle.std.proofs.Common.{◌∙◌, sym}
 use Rattle.std.specs.Prelude.{string_bytes}
-use Rattle.dd_topology.proofs.NamingLaws.{number_of-map, slice_get-number_of, unknown}
+use Rattle.dd_topology.specs.lemmas.NamingLaws.{number_of-map, slice_get-number_of, unknown}
 use Rattle.dd_topology.proofs.names.Names.find.Goals as goal
 
 pub returns-in-Some-clause-number : goal.returns-in-Some-clause-number

@@ -1,0 +1,80 @@
+-- What a rule says and an automaton gives at a place, by the symbols of the cells that they read there.
+use Rattle.std.proofs.Common.{◌≡◌, ℕ, Bool, true, List, [], ◌∷◌, Some, None, refl, subst, ap, sym, ◌∙◌, arith, ℤ, pos, ◌+ℤ◌}
+use Rattle.std.specs.Prelude.{Option, is_some}
+use Rattle.std.specs.List.{list_all}
+use Rattle.std.proofs.lemmas.Int.{ints}
+use Rattle.std.proofs.lemmas.Bool.{and_parts, and_from}
+use Rattle.dd_lattice.specs.Place.{Place, place, moved}
+use Rattle.dd_lattice.specs.Cells.{cell, shifted}
+use Rattle.dd_lattice.specs.declared.position.Cell.{Cell}
+use Rattle.dd_pattern.specs.Reading.{Look}
+use Rattle.dd_expansion.specs.Terms.{origin_at}
+use Rattle.dd_expansion.specs.Truth.{are_equal}
+use Rattle.dd_expansion.specs.lemmas.TruthKeeps.{truth_keeps}
+use Rattle.dd_expansion.specs.lemmas.TruthAt.{at_origin}
+use Rattle.dd_formula.specs.LocalRule.{LocalRule, is_true, reads_at}
+use Rattle.dd_formula.specs.Automata.{value, counted}
+use Rattle.dd_formula.specs.declared.automaton.Automaton.{Automaton}
+use Rattle.dd_formula.specs.lemmas.ValueLaws.{value_by_reads, equal_values}
+
+-- the symbols, by cells that are counted from v
+abbrev pub from_place : Look → Place → Look
+from_place look v c = look (shifted v c)
+
+pub place_same : (a b c x y z : ℤ) → a ≡ x → b ≡ y → c ≡ z → place a b c ≡ place x y z
+place_same a b c x y z p q r = cc
+
+sum_moved : (a b c : ℤ) → ((a +ℤ b) +ℤ c) ≡ a +ℤ (b +ℤ c)
+sum_moved a b c = omega (arith, ints)
+
+zero_plus : (x : ℤ) → (pos 0 +ℤ x) ≡ x
+zero_plus x = omega (arith, ints)
+
+plus_zero : (x : ℤ) → (x +ℤ pos 0) ≡ x
+plus_zero x = omega (arith, ints)
+
+pub moved_from_origin : (v : Place) → moved (place (pos 0) (pos 0) (pos 0)) v ≡ v
+moved_from_origin v = place_same _ _ _ v.x v.y v.z (zero_plus v.x) (zero_plus v.y) (zero_plus v.z)
+
+pub moved_by_origin : (v : Place) → moved v (place (pos 0) (pos 0) (pos 0)) ≡ v
+moved_by_origin v = place_same _ _ _ v.x v.y v.z (plus_zero v.x) (plus_zero v.y) (plus_zero v.z)
+
+pub shifted_by_origin : (c : Cell) → shifted (place (pos 0) (pos 0) (pos 0)) c ≡ c
+shifted_by_origin c = ap (λ p. cell p c.node) (moved_by_origin c.position)
+
+pub shifted_twice : (u v : Place) (c : Cell) → shifted v (shifted u c) ≡ shifted (moved u v) c
+shifted_twice u v c =
+    ap (λ p. cell p c.node) (place_same _ _ _ _ _ _ (sum_moved c.position.x u.x v.x) (sum_moved c.position.y u.y v.y) (sum_moved c.position.z u.z v.z))
+
+-- each cell that the rule reads at v and a has a symbol
+abbrev pub reads_given : LocalRule → Look → Place → ℕ → Bool
+reads_given r look v a = list_all (λ c. is_some (look (shifted v c))) (reads_at r a)
+
+-- Two looks that agree, one counted from u and one from v, where the first has symbols: where the first has all that is
+-- read, the rule says the same of both.
+pub keeps_at : (r : LocalRule) (less more : Look) (u v : Place) (a : ℕ) →
+    ((c : Cell) → is_some (from_place less u c) ≡ true → from_place less u c ≡ from_place more v c) →
+    reads_given r less u a ≡ true → is_true r (cell u a) less ≡ is_true r (cell v a) more
+keeps_at r less more u v a same h =
+    ap (λ c. is_true r c less) (sym (at_origin u a))
+    ∙ (truth_keeps r.edges r.formula (origin_at a ∷ []) less more u v same h
+    ∙ ap (λ c. is_true r c more) (at_origin v a))
+
+pub list_all_weaker : {X : Type 0} (p q : X → Bool) → ((x : X) → p x ≡ true → q x ≡ true) → (xs : List X) → list_all p xs ≡ true → list_all q xs ≡ true
+list_all_weaker p q weaker [] h = refl
+list_all_weaker p q weaker (x ∷ xs) h =
+    let both = and_parts (p x) (list_all p xs) h in
+    and_from (q x) (list_all q xs) (weaker x both.0) (list_all_weaker p q weaker xs both.1)
+
+-- and the automaton gives the same
+equal_to_some : (a b : Option ℕ) → a ≡ b → is_some a ≡ true → are_equal a b ≡ true
+equal_to_some None b e h = absurd (cc)
+equal_to_some (Some x) b e h = subst (λ o. are_equal (Some x) o ≡ true) e (equal_values x x refl)
+
+pub value_keeps : (f : Automaton) (less more : Look) (u v : Place) (a : ℕ) →
+    ((c : Cell) → is_some (from_place less u c) ≡ true → from_place less u c ≡ from_place more v c) →
+    list_all (λ c. is_some (from_place less u c)) ((counted f).reads a) ≡ true → value f less (cell u a) ≡ value f more (cell v a)
+value_keeps f less more u v a same h =
+    value_by_reads f a u v less more
+    (list_all_weaker (λ c. is_some (from_place less u c)) (λ c. are_equal (less (shifted u c)) (more (shifted v c)))
+    (λ c some. equal_to_some (from_place less u c) (from_place more v c) (same c some) some) ((counted f).reads a) h)

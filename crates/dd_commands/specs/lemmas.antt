@@ -1,0 +1,5 @@
+pub mod Options
+pub mod Many
+pub mod CommandSound
+pub mod CommandComplete
+pub mod Whole

@@ -1,0 +1,13 @@
+pub mod WiringLaws
+pub mod Layers
+pub mod Progress
+pub mod MadeSays
+pub mod MadeFits
+pub mod MadeCount
+pub mod FewGates
+pub mod RuleWiring
+pub mod ChoiceLaws
+pub mod CaseGates
+pub mod CaseRules
+pub mod StillWired
+pub mod ValueParts

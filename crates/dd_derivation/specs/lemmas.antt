@@ -1,0 +1,4 @@
+pub mod Soundness
+pub mod Findings
+pub mod Numbers
+pub mod Falses

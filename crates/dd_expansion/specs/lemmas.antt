@@ -1,0 +1,10 @@
+pub mod HoldsKeeps
+pub mod Layers
+pub mod LeafLaws
+pub mod LeavesAreReads
+pub mod ListTests
+pub mod Placed
+pub mod SaysSame
+pub mod Shifting
+pub mod TruthAt
+pub mod TruthKeeps

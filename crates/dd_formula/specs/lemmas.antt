@@ -1,0 +1,10 @@
+pub mod RuleLaws
+pub mod AllowedLaws
+pub mod Reached
+pub mod Cuts
+pub mod Ranges
+pub mod ReachLaws
+pub mod AutomatonLaws
+pub mod CompositionLaws
+pub mod FarthestLaws
+pub mod ValueLaws

@@ -1,0 +1,92 @@
+-- What a rule reads at the cells of a fundamental box is there.
+use Rattle.std.proofs.Common.{◌≡◌, ℕ, zero, suc, ◌+◌, ◌<◌, ◌≤◌, true, List, [], ◌∷◌, length, pos, unsigned_abs, refl, ap, arith}
+use Rattle.std.specs.Prelude.{is_some, nat_lt, slice_get, IfSome, None}
+use Rattle.std.specs.List.{list_all, All, position_or_len}
+use Rattle.std.specs.Ordering.{is_eq}
+use Rattle.std.proofs.lemmas.Int.{ints}
+use Rattle.std.proofs.lemmas.Bool.{and_parts, and_from, leb-true, ltb-true, lt-ltb, cond_both}
+use Rattle.dd_lattice.specs.Place.{Place, moved, IsNear, is_in_range}
+use Rattle.dd_lattice.specs.Cells.{shifted}
+use Rattle.dd_lattice.specs.declared.position.Cell.{Cell}
+use Rattle.dd_lattice.specs.Order.{cell_cmp}
+use Rattle.dd_lattice.specs.lemmas.RangeLaws.{test_from_in_range}
+use Rattle.dd_topology.specs.Topology.{extent}
+use Rattle.dd_pattern.specs.Reading.{IsBelow}
+use Rattle.dd_pattern.specs.Filling.{Filled, filling_look}
+use Rattle.dd_pattern.specs.Periods.{residue, unsheared}
+use Rattle.dd_pattern.specs.Tile.{Tile, IsTile, IsPeriodic, IsInBox, tile_index, tile_look}
+use Rattle.dd_pattern.specs.lemmas.Residues.{residue_below}
+use Rattle.dd_pattern.specs.lemmas.TileSizes.{sizes_of, index_below}
+use Rattle.dd_expansion.specs.Placed.{is_flat}
+use Rattle.dd_expansion.specs.Leaves.{seen}
+use Rattle.dd_formula.specs.LocalRule.{LocalRule, IsRule, is_near, is_of, reads_at, is_given}
+use Rattle.dd_formula.specs.Living.{Fits}
+
+extent_moved : (p by : Place) → extent (moved p by) ≤ extent p + extent by
+extent_moved p by = omega (arith, ints)
+
+pub in_range : (p : Place) → extent p ≤ 1048576 → is_in_range p ≡ true
+in_range p h =
+    let x : IsNear p.x = (omega (arith, ints), omega (arith, ints)) in
+    let y : IsNear p.y = (omega (arith, ints), omega (arith, ints)) in
+    let z : IsNear p.z = (omega (arith, ints), omega (arith, ints)) in
+    test_from_in_range p (x, y, z)
+
+some_within : {X : Type 0} (xs : List X) (i : ℕ) → i < length xs → is_some (slice_get xs i) ≡ true
+some_within [] i h = absurd (omega arith)
+some_within (x ∷ xs) zero h = refl
+some_within (x ∷ xs) (suc i) h = some_within xs i (omega arith)
+
+box_extent : (t : Tile) → IsPeriodic t → (c : Cell) → IsInBox t c → extent c.position ≤ 65536
+box_extent t kept c h =
+    let ok : IsTile t = kept.tile in
+    let sizes = sizes_of t kept in
+    let x : pos (residue (unsheared t.periods c.position) t.periods.x) ≡ c.position.x = ap (λ p. p.x) h.base in
+    let y : pos (residue c.position.y t.periods.y) ≡ c.position.y = ap (λ p. p.y) h.base in
+    let z : pos (residue c.position.z t.periods.z) ≡ c.position.z = ap (λ p. p.z) h.base in
+    let x_in = residue_below (unsheared t.periods c.position) t.periods.x ok.periods.x_some in
+    let y_in = residue_below c.position.y t.periods.y ok.periods.y_some in
+    let z_in = residue_below c.position.z t.periods.z ok.periods.z_some in
+    let x_small : unsigned_abs c.position.x ≤ 65536 = omega (arith, ints, sizes.x_small) in
+    let y_small : unsigned_abs c.position.y ≤ 65536 = omega (arith, ints, sizes.y_small) in
+    let z_small : unsigned_abs c.position.z ≤ 65536 = omega (arith, ints, sizes.z_small) in
+    omega (arith, x_small, y_small, z_small)
+
+look_given : (t : Tile) → IsTile t → (d : Cell) → d.node < t.nodes → is_some (tile_look t d) ≡ true
+look_given t ok d h = let there : nat_lt d.node t.nodes ≡ true = lt-ltb _ _ h in rw there (some_within t.symbols (tile_index t d) (index_below t ok d h))
+
+pub read_given : (t : Tile) → IsPeriodic t → (c d : Cell) → IsInBox t c → extent d.position ≤ 16 → d.node < t.nodes → is_some (seen (tile_look t) c.position d) ≡ true
+read_given t ok c d h close node =
+    let small : extent (moved d.position c.position) ≤ 1048576 = omega (arith, extent_moved d.position c.position, box_extent t ok c h) in
+    let there : is_in_range (moved d.position c.position) ≡ true = in_range (moved d.position c.position) small in
+    rw there (look_given t ok.tile (shifted c.position d) node)
+
+all_given : (r : LocalRule) (t : Tile) → Fits r t → IsPeriodic t → (c : Cell) → IsInBox t c → (ds : List Cell) → list_all is_near ds ≡ true → list_all (is_of r) ds ≡ true →
+    list_all (λ d. is_some (seen (tile_look t) c.position d)) ds ≡ true
+all_given r t fits ok c h [] near placed = refl
+all_given r t fits ok c h (d ∷ ds) near placed =
+    let nears = and_parts (is_near d) (list_all is_near ds) near in
+    let places = and_parts (is_of r d) (list_all (is_of r) ds) placed in
+    let node : d.node < r.nodes = ltb-true _ _ (and_parts (is_flat r.dimension d.position) (nat_lt d.node r.nodes) places.0).1 in
+    let exists : d.node < t.nodes = omega (arith, node, fits.nodes) in
+    and_from _ _ (read_given t ok c d h (leb-true _ _ nears.0) exists) (all_given r t fits ok c h ds nears.1 places.1)
+
+-- a rule's reads at each cell of the box have symbols
+pub box_given : (r : LocalRule) (t : Tile) → IsRule r → Fits r t → IsPeriodic t → (c : Cell) → IsInBox t c → is_given r c (tile_look t) ≡ true
+box_given r t rule fits ok c h =
+    let node : c.node < r.nodes = omega (arith, h.node, fits.nodes) in
+    all_given r t fits ok c h (reads_at r c.node) (rule.short c.node node) (rule.placed c.node node)
+
+pub below_at : (n : ℕ) (xs : List ℕ) → All (λ s. s < n) xs → (i : ℕ) → IfSome (slice_get xs i) (λ s. s < n)
+below_at n [] h i = tt
+below_at n (x ∷ xs) h zero = h zero x (omega arith)
+below_at n (x ∷ xs) h (suc i) = below_at n xs (λ k d within. h (suc k) d (omega arith)) i
+
+-- a configuration that fits a rule gives symbols of its alphabet
+pub tile_below : (r : LocalRule) (t : Tile) → Fits r t → IsBelow r.symbols (tile_look t)
+tile_below r t fits c =
+    cond_both (nat_lt c.node t.nodes) (slice_get t.symbols (tile_index t c)) None (λ o. IfSome o (λ s. s < r.symbols)) (λ _. below_at r.symbols t.symbols fits.symbols (tile_index t c)) (λ _. tt)
+
+-- and so does a filling with such symbols
+pub filling_below : (n : ℕ) (f : Filled) → All (λ s. s < n) f.symbols → IsBelow n (filling_look f)
+filling_below n f h c = below_at n f.symbols h (position_or_len (λ d. is_eq (cell_cmp d c)) f.cells)

@@ -1,0 +1,57 @@
+-- What a rule says at a place, by its expansion at the origin and by the symbols that it reads there.
+use Rattle.std.proofs.Common.{◌≡◌, ◌≤◌, ℕ, Bool, true, [], ◌∷◌, ap, sym, ◌∙◌, Some, None}
+use Rattle.std.specs.Prelude.{Option, is_some}
+use Rattle.std.specs.List.{list_all}
+use Rattle.std.proofs.lemmas.Bool.{eqb-true}
+use Rattle.dd_lattice.specs.Place.{Place}
+use Rattle.dd_lattice.specs.Cells.{cell, shifted}
+use Rattle.dd_lattice.specs.declared.position.Cell.{Cell}
+use Rattle.dd_lattice.specs.lemmas.InOrderLaws.{list_all-in_order}
+use Rattle.dd_pattern.specs.Reading.{Look, IsBelow}
+use Rattle.dd_expansion.specs.Truth.{are_equal}
+use Rattle.dd_expansion.specs.Terms.{origin_at}
+use Rattle.dd_expansion.specs.Leaves.{holds, leaves_pass}
+use Rattle.dd_expansion.specs.lemmas.Shifting.{truth_shifted}
+use Rattle.dd_expansion.specs.lemmas.LeavesAreReads.{leaves_are_reads}
+use Rattle.dd_expansion.specs.lemmas.TruthKeeps.{truth_depends}
+use Rattle.dd_expansion.specs.lemmas.TruthAt.{at_origin, says_at}
+use Rattle.dd_formula.specs.LocalRule.{LocalRule, expansion_at, reads_at, cells_at, is_true}
+
+-- the expansion at a node says of the symbols counted from a cell what the rule says at the cell
+pub at_cell : (r : LocalRule) (c : Cell) (look : Look) → IsBelow r.symbols look → holds (expansion_at r c.node) (λ d. look (shifted c.position d)) ≡ is_true r c look
+at_cell r c look below = says_at r.edges r.symbols r.formula look c.position c.node below
+
+-- the truth at a place is the truth at the origin in the configuration moved back
+pub truth_moved_back : (r : LocalRule) (v : Place) (a : ℕ) (look : Look) → is_true r (cell v a) look ≡ is_true r (origin_at a) (λ d. look (shifted v d))
+truth_moved_back r v a look = ap (λ c. is_true r c look) (sym (at_origin v a)) ∙ truth_shifted r.edges r.formula v (origin_at a ∷ []) look
+
+equal_symbols : (a b : Option ℕ) → are_equal a b ≡ true → a ≡ b
+equal_symbols None b h = absurd (cc)
+equal_symbols (Some x) None h = absurd (cc)
+equal_symbols (Some x) (Some y) h = ap Some (sym (eqb-true y x h))
+
+-- The truth depends on the cells read alone: where these have the same symbols, counted from u under one look and from v
+-- under the other, the rule says the same at u and at v.
+pub truth_by_reads : (r : LocalRule) (a : ℕ) (u v : Place) (one other : Look) → list_all (λ d. are_equal (one (shifted u d)) (other (shifted v d))) (reads_at r a) ≡ true →
+    is_true r (cell u a) one ≡ is_true r (cell v a) other
+truth_by_reads r a u v one other same =
+    let alike = λ (d : Cell). are_equal (one (shifted u d)) (other (shifted v d)) in
+    truth_moved_back r u a one
+    ∙ (truth_depends r.edges r.formula (origin_at a ∷ []) alike (λ d. one (shifted u d)) (λ d. other (shifted v d)) (λ d. equal_symbols (one (shifted u d)) (other (shifted v d))) same
+    ∙ sym (truth_moved_back r v a other))
+
+-- the same of looks of which the one gives each symbol that the other gives
+pub truth_by_given : (r : LocalRule) (a : ℕ) (u v : Place) (less more : Look) → ((d : Cell) → is_some (less (shifted u d)) ≡ true → less (shifted u d) ≡ more (shifted v d)) →
+    list_all (λ d. is_some (less (shifted u d))) (reads_at r a) ≡ true → is_true r (cell u a) less ≡ is_true r (cell v a) more
+truth_by_given r a u v less more same given =
+    truth_moved_back r u a less
+    ∙ (truth_depends r.edges r.formula (origin_at a ∷ []) (λ d. is_some (less (shifted u d))) (λ d. less (shifted u d)) (λ d. more (shifted v d)) same given
+    ∙ sym (truth_moved_back r v a more))
+
+-- a test of the leaves' cells is a test of the cells that are read
+pub leaves_pass_reads : (r : LocalRule) → 1 ≤ r.symbols → (a : ℕ) (test : Cell → Bool) → leaves_pass (λ c s. test c) (expansion_at r a) ≡ list_all test (reads_at r a)
+leaves_pass_reads r some a test = leaves_are_reads r.edges r.symbols some r.formula (origin_at a ∷ []) test
+
+-- and so it is in the list of the cells that are read
+pub cells_pass_reads : (r : LocalRule) (a : ℕ) (test : Cell → Bool) → list_all test (cells_at r a) ≡ list_all test (reads_at r a)
+cells_pass_reads r a test = list_all-in_order test (reads_at r a)

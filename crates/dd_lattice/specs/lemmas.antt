@@ -1,0 +1,7 @@
+pub mod InOrderLaws
+pub mod BoxLaws
+pub mod ListLaws
+pub mod RangeLaws
+pub mod PositionLaws
+pub mod SearchLaws
+pub mod MoveLaws

@@ -1,0 +1,5 @@
+pub mod Residues
+pub mod TileSizes
+pub mod TileLaws
+pub mod BoxLaws
+pub mod FillingLaws

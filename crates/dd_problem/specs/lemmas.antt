@@ -1,0 +1,15 @@
+pub mod OneHot
+pub mod Filtered
+pub mod RangesLeft
+pub mod Parts
+pub mod DifferLaws
+pub mod ValueWires
+pub mod Parted
+pub mod Reading
+pub mod Writing
+pub mod Wiring
+pub mod BoxLayout
+pub mod BoxValues
+pub mod BoxShows
+pub mod CellOrder
+pub mod NumberedWires

@@ -1,0 +1,89 @@
+-- The numbers of a box's cells are their places in the list.
+use Rattle.std.proofs.Common.{◌≡◌, ℕ, zero, suc, ◌*◌, ◌/◌, ◌%◌, ◌<◌, true, length, refl, ap, sym, ◌∙◌, arith, Some, pos, ◌≤ℤ◌, ◌-ℤ◌}
+use Rattle.std.specs.Prelude.{nat_lt, slice_get}
+use Rattle.std.proofs.lemmas.Int.{ints}
+use Rattle.std.proofs.lemmas.Bool.{and_parts, and_from, ltb-true, lt-ltb}
+use Rattle.std.proofs.lemmas.Nat.{mul-add-lt, div-mul-add, mod-mul-add, mod_below, div_below, div-add-mod'}
+use Rattle.std.proofs.lemmas.List.FromFn.{length-map-range_with_len}
+use Rattle.std.proofs.lemmas.Option.{slice_get_within}
+use Rattle.dd_lattice.specs.Place.{Place}
+use Rattle.dd_lattice.specs.Boxes.{IsBelow, IsWithin, centred, volume, index_in, place_in}
+use Rattle.dd_lattice.specs.declared.position.Cell.{Cell}
+use Rattle.dd_lattice.specs.lemmas.BoxLaws.{index_below, place_at_index, index_of_place, place_within, centred_members}
+use Rattle.dd_formula.specs.LocalRule.{LocalRule}
+use Rattle.dd_boxes.specs.Fillings.{in_box, is_box_cell}
+use Rattle.dd_boxes.specs.lemmas.OneBoxLaws.{box_is_centred}
+use Rattle.dd_problem.specs.Layouts.{nth_cell, box_index, box_cells, box_layout}
+use Rattle.dd_problem.specs.lemmas.Reading.{IsLayout}
+use Rattle.dd_problem.specs.lemmas.Filtered.{some_same, slice_of_range}
+
+pub box_within : (d n : ℕ) (p : Place) → in_box d n p ≡ true → IsWithin (centred d n) p
+box_within d n p h = (centred_members d n p).1 ((box_is_centred d n p).0 h)
+
+within_box : (d n : ℕ) (p : Place) → IsWithin (centred d n) p → in_box d n p ≡ true
+within_box d n p h = (box_is_centred d n p).1 ((centred_members d n p).0 h)
+
+zero_between : (n : ℕ) → (pos 0 -ℤ pos n) ≤ℤ pos n
+zero_between n = omega (arith, ints)
+
+pub bounds_ordered : (d n : ℕ) → IsBelow (centred d n).low (centred d n).high
+bounds_ordered d n = record { on_x = zero_between _; on_y = zero_between _; on_z = zero_between _ }
+
+abbrev box_cell : LocalRule → ℕ → ℕ → Cell
+box_cell x n k = nth_cell (centred x.dimension n) x.nodes k
+
+abbrev pub box_size : LocalRule → ℕ → ℕ
+box_size x n = volume (centred x.dimension n) * x.nodes
+
+pub length-box_cells : (x : LocalRule) (n : ℕ) → length (box_cells x n) ≡ box_size x n
+length-box_cells x n = length-map-range_with_len (box_cell x n) 0 (box_size x n)
+
+index_within : (x : LocalRule) (n : ℕ) (c : Cell) → is_box_cell x n c ≡ true → box_index x n c < box_size x n
+index_within x n c h =
+    let both = and_parts (in_box x.dimension n c.position) (nat_lt c.node x.nodes) h in
+    let b = centred x.dimension n in
+    let low = mul-add-lt (index_in b c.position) x.nodes c.node (volume b) (index_below b c.position (box_within x.dimension n c.position both.0)) (ltb-true c.node x.nodes both.1) in
+    omega (arith, low)
+
+cell_at : (x : LocalRule) (n : ℕ) (c : Cell) → is_box_cell x n c ≡ true → box_cell x n (box_index x n c) ≡ c
+cell_at x n c h =
+    let both = and_parts (in_box x.dimension n c.position) (nat_lt c.node x.nodes) h in
+    let b = centred x.dimension n in
+    let node = ltb-true c.node x.nodes both.1 in
+    rw (
+      div-mul-add (index_in b c.position) x.nodes c.node node,
+      mod-mul-add (index_in b c.position) x.nodes c.node node,
+      place_at_index b c.position (box_within x.dimension n c.position both.0),
+    ) refl
+
+some_nodes : (v m k : ℕ) → k < v * m → 0 < m
+some_nodes v zero k h = absurd (omega arith)
+some_nodes v (suc m) k h = omega arith
+
+in_the_box : (x : LocalRule) (n k : ℕ) → k < box_size x n → is_box_cell x n (box_cell x n k) ≡ true
+in_the_box x n k h =
+    let b = centred x.dimension n in
+    let m = some_nodes (volume b) x.nodes k h in
+    let row : k / x.nodes < volume b = div_below k x.nodes (volume b) m h in
+    and_from _ _ (within_box x.dimension n (place_in b (k / x.nodes)) (place_within b (k / x.nodes) (bounds_ordered x.dimension n) row))
+    (lt-ltb (k % x.nodes) x.nodes (mod_below k x.nodes m))
+
+index_back : (x : LocalRule) (n k : ℕ) → box_index x n (box_cell x n k) ≡ k
+index_back x n k = rw (index_of_place (centred x.dimension n) (k / x.nodes)) (div-add-mod' k x.nodes)
+
+-- the cell with a cell's number is the cell
+pub box_cell_there : (x : LocalRule) (n : ℕ) (c : Cell) → is_box_cell x n c ≡ true → slice_get (box_cells x n) (box_index x n c) ≡ Some c
+box_cell_there x n c h = slice_of_range (box_cell x n) (box_size x n) (box_index x n c) (index_within x n c h) ∙ ap (λ d. Some d) (cell_at x n c h)
+
+pub box_is_layout : (x : LocalRule) (n : ℕ) → IsLayout (box_layout x n)
+box_is_layout x n = record {
+  within = λ c h. (let low = index_within x n c h in omega (arith, length-box_cells x n));
+  node = λ c h. (c, box_cell_there x n c h, refl);
+}
+
+pub box_cell_at : (x : LocalRule) (n k : ℕ) (c : Cell) → slice_get (box_cells x n) k ≡ Some c → (is_box_cell x n c ≡ true) × (box_index x n c ≡ k)
+box_cell_at x n k c is =
+    let within = slice_get_within (box_cells x n) k c is in
+    let below : k < box_size x n = omega (arith, length-box_cells x n) in
+    let same : c ≡ box_cell x n k = some_same c (box_cell x n k) (sym is ∙ slice_of_range (box_cell x n) (box_size x n) k below) in
+    (ap (is_box_cell x n) same ∙ in_the_box x n k below, ap (box_index x n) same ∙ index_back x n k)

@@ -1,0 +1,46 @@
+-- A box that reaches holds, with their inputs, the cells that automata read at the origin.
+use Rattle.std.proofs.Common.{◌≡◌, ℕ, ◌<◌, true, List, length, ap, sym, subst, ◌∙◌, Some}
+use Rattle.std.specs.List.{Contains, list_all, range_with_len}
+use Rattle.std.proofs.lemmas.List.FromFn.{length-range_with_len}
+use Rattle.dd_lattice.specs.Cells.{shifted}
+use Rattle.dd_lattice.specs.Boxes.{centred}
+use Rattle.dd_lattice.specs.declared.position.Cell.{Cell}
+use Rattle.dd_formula.specs.LocalRule.{LocalRule, IsRule}
+use Rattle.dd_formula.specs.Automata.{Setting, counted}
+use Rattle.dd_formula.specs.declared.automaton.Automaton.{Automaton}
+use Rattle.dd_compile.specs.Wiring.{signals_of}
+use Rattle.dd_boxes.specs.Goals.{GoalOf, breaks, differ, always, AreOver}
+use Rattle.dd_boxes.specs.Fillings.{is_box_cell, is_cell_within}
+use Rattle.dd_boxes.specs.Boxes.{origin, Reaches}
+use Rattle.dd_boxes.specs.lemmas.RuleLaws.{shifted_by_origin}
+use Rattle.dd_boxes.specs.lemmas.FromBox.{box_over}
+use Rattle.dd_problem.specs.Told.{IsToldGoal}
+use Rattle.dd_problem.specs.Layouts.{box_index, box_cells, box_layout}
+use Rattle.dd_problem.specs.Numbered.{symbol_signals, in_turn}
+use Rattle.dd_problem.specs.lemmas.BoxLayout.{bounds_ordered, box_is_layout, box_cell_there}
+use Rattle.dd_problem.specs.lemmas.CellOrder.{cells_ascending}
+use Rattle.dd_problem.specs.lemmas.NumberedWires.{turn_at, signals_there}
+use Rattle.dd_problem.specs.lemmas.ValueWires.{HasInputs, GoalWired, passes_member}
+
+module _ (x : LocalRule) (n : ℕ) (rule : IsRule x) where
+  box_signals : (c : Cell) → is_box_cell x n c ≡ true → signals_of (in_turn x.symbols (box_cells x n)) c ≡ Some (symbol_signals x.symbols (box_index x n c))
+  box_signals c here =
+      let cells = box_cells x n in
+      let k = box_index x n c in
+      signals_there x.symbols cells (range_with_len 0 (length cells)) (cells_ascending (centred x.dimension n) x.nodes (bounds_ordered x.dimension n) rule.nodes.0)
+      (length-range_with_len 0 (length cells)) c k k (box_cell_there x n c here) (turn_at (length cells) k ((box_is_layout x n).within c here))
+
+  box_has : (s : Setting) (f g : Automaton) (ds : List Cell) → AreOver x s f g → list_all (is_cell_within s n) ds ≡ true → (d : Cell) → Contains ds d → HasInputs (box_layout x n) s.symbols (shifted origin d)
+  box_has s f g ds over reach d there =
+      let here : is_box_cell x n (shifted origin d) ≡ true =
+      ap (is_box_cell x n) (shifted_by_origin d) ∙ (sym (box_over x s f g n d over) ∙ passes_member (is_cell_within s n) ds d reach there) in
+      (here, box_signals (shifted origin d) here ∙ ap (λ m. Some (symbol_signals m (box_index x n (shifted origin d)))) (sym over.symbols))
+
+  pub box_values : (g : GoalOf) → IsToldGoal x g → Reaches g n → GoalWired (box_layout x n) x.symbols g
+  box_values (breaks y) ok reach = tt
+  box_values (differ s f g) ok reach = record {
+    symbols = ok.over.symbols;
+    left = record { formed = ok.over.left; says = ok.left_says; inputs = λ a node. box_has s f g ((counted f).reads a) ok.over (reach a node).0 };
+    right = record { formed = ok.over.right; says = ok.right_says; inputs = λ a node. box_has s f g ((counted g).reads a) ok.over (reach a node).1 };
+  }
+  box_values always ok reach = tt

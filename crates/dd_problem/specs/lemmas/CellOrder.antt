@@ -1,0 +1,102 @@
+-- The cells of a box of positions: where a cell stands in their list, and that they ascend.
+use Rattle.std.proofs.Common.{◌≡◌, ℕ, zero, suc, ◌+◌, ◌*◌, ◌/◌, ◌%◌, ◌<◌, ◌≤◌, [], ◌∷◌, ◌++◌, map, length, get_or, refl, ap, sym, ◌∙◌, arith, Some, inl, inr, length-append}
+use Rattle.std.specs.Prelude.{slice_get}
+use Rattle.std.specs.List.{All, range_with_len}
+use Rattle.std.specs.List.Sorted.{IsStrictlySortedBy}
+use Rattle.std.specs.Ordering.{nat_cmp, ordering_then}
+use Rattle.std.specs.Cmp.{int_cmp_is, nat_cmp_is}
+use Rattle.std.specs.declared.cmp.Ordering.{Ordering}
+use Rattle.std.specs.declared.cmp.Ordering.TheVariants.{Less, Equal}
+use Rattle.std.proofs.lemmas.Bool.{cases_order}
+use Rattle.std.proofs.lemmas.Nat.{mul-add-lt, div-mul-add, mod-mul-add, mod_below, div_below, div-add-mod'}
+use Rattle.std.proofs.lemmas.List.Elements.{All-cons, All-nil, All-map, recursion_from_All}
+use Rattle.std.proofs.lemmas.List.FromFn.{length-map-range_with_len}
+use Rattle.std.proofs.lemmas.Map.Keys.{Less-from_sorted}
+use Rattle.std.proofs.Math.ListN.{get_or-append}
+use Rattle.std.proofs.Math.Seq.{get_or-append_seam}
+use Rattle.std.proofs.lemmas.Bool.{cases_lt}
+use Rattle.dd_lattice.specs.Place.{Place}
+use Rattle.dd_lattice.specs.Order.{place_cmp, cell_cmp}
+use Rattle.dd_lattice.specs.Boxes.{Bounds, IsBelow, IsWithin, volume, index_in, place_in, first_of}
+use Rattle.dd_lattice.specs.declared.position.Cell.{Cell}
+use Rattle.dd_lattice.specs.lemmas.BoxLaws.{index_below, place_at_index}
+use Rattle.dd_lattice.specs.lemmas.PositionLaws.{first_ascending}
+use Rattle.dd_problem.specs.Layouts.{nth_cell, cells_in}
+use Rattle.dd_problem.specs.lemmas.Filtered.{slice_of_range}
+
+-- a fact of each number of a range
+pub All-range : (P : ℕ → Type 0) (n a : ℕ) → ((k : ℕ) → a ≤ k → k < a + n → P k) → All P (range_with_len a n)
+All-range P zero a h = All-nil P
+All-range P (suc n) a h = All-cons P a (range_with_len (a + 1) n) (h a (omega arith) (omega arith)) (All-range P n (a + 1) (λ k low high. h k (omega arith) (omega arith)))
+
+sorted_range : {K : Type 0} (R : K → K → Ordering) (f : ℕ → K) (n a : ℕ) → ((i j : ℕ) → i < j → j < a + n → R (f i) (f j) ≡ Less) → IsStrictlySortedBy R (map f (range_with_len a n))
+unfolding IsStrictlySortedBy
+sorted_range R f zero a h = tt
+sorted_range R f (suc n) a h = (
+  recursion_from_All (λ y. R (f a) y ≡ Less) (map f (range_with_len (a + 1) n))
+      (All-map (λ y. R (f a) y ≡ Less) f (range_with_len (a + 1) n) (All-range (λ k. R (f a) (f k) ≡ Less) n (a + 1) (λ k low high. h a k (omega arith) (omega arith)))),
+  sorted_range R f n (a + 1) (λ i j less high. h i j less (omega arith)),
+)
+
+-- the positions of a box by their numbers
+length-first_of : (b : Bounds) (n : ℕ) → length (first_of b n) ≡ n
+length-first_of b zero = refl
+length-first_of b (suc n) = omega (arith, length-first_of b n, length-append (first_of b n) (place_in b n ∷ []))
+
+first_at : (b : Bounds) (n i : ℕ) (d : Place) → i < n → get_or (first_of b n) i d ≡ place_in b i
+first_at b zero i d h = absurd (omega arith)
+first_at b (suc n) i d h = elim (cases_lt i n) [
+  | inl below ↦ get_or-append (first_of b n) (place_in b n ∷ []) d i (omega (arith, length-first_of b n)) ∙ first_at b n i d below
+  | inr last ↦
+      (let same : n ≡ i = omega arith in
+      let whole : length (first_of b n) ≡ i = length-first_of b n ∙ same in
+      ap (λ k. get_or (first_of b n ++ place_in b n ∷ []) k d) (sym whole) ∙ (get_or-append_seam (first_of b n) (place_in b n) [] d ∙ ap (place_in b) same))
+]
+
+place_less : (b : Bounds) → IsBelow b.low b.high → (i j : ℕ) → i < j → j < volume b → place_cmp (place_in b i) (place_in b j) ≡ Less
+place_less b o i j less high =
+    let v = volume b in
+    let d = place_in b 0 in
+    let up = first_ascending b o v (omega arith) in
+    let there = Less-from_sorted place_cmp (first_of b v) i j d up less (omega (arith, length-first_of b v)) in
+    ap (λ p. place_cmp p (place_in b j)) (sym (first_at b v i d (omega arith))) ∙ (ap (place_cmp (get_or (first_of b v) i d)) (sym (first_at b v j d high)) ∙ there)
+
+place_equal : (p : Place) → place_cmp p p ≡ Equal
+place_equal p = rw (sym (int_cmp_is p.z p.z Equal refl), sym (int_cmp_is p.y p.y Equal refl), sym (int_cmp_is p.x p.x Equal refl)) refl
+
+by_place : (o r : Ordering) → o ≡ Less → ordering_then o r ≡ Less
+by_place o r h = ap (λ k. ordering_then k r) h
+
+by_node : (o r : Ordering) → o ≡ Equal → r ≡ Less → ordering_then o r ≡ Less
+by_node o r h k = ap (λ e. ordering_then e r) h ∙ k
+
+cell_less : (b : Bounds) (m : ℕ) → IsBelow b.low b.high → 0 < m → (i j : ℕ) → i < j → j < volume b * m → cell_cmp (nth_cell b m i) (nth_cell b m j) ≡ Less
+cell_less b m o some i j less high =
+    let i_is : i / m * m + i % m ≡ i = div-add-mod' i m in
+    let j_is : j / m * m + j % m ≡ j = div-add-mod' j m in
+    let row : j / m < volume b = div_below j m (volume b) some high in
+    elim (cases_order (i / m) (j / m)) [
+      | inl same ↦
+          (let rows = ap (λ k. k * m) same in
+          let nodes : i % m < j % m = omega (arith, rows, i_is, j_is) in
+          by_node (place_cmp (place_in b (i / m)) (place_in b (j / m))) (nat_cmp (i % m) (j % m))
+          (ap (λ k. place_cmp (place_in b (i / m)) (place_in b k)) (sym same) ∙ place_equal (place_in b (i / m))) (sym (nat_cmp_is (i % m) (j % m) Less nodes)))
+      | inr (inl before) ↦ by_place (place_cmp (place_in b (i / m)) (place_in b (j / m))) (nat_cmp (i % m) (j % m)) (place_less b o (i / m) (j / m) before row)
+      | inr (inr after) ↦ absurd (let past = mul-add-lt (j / m) m (j % m) (i / m) after (mod_below j m some) in omega (arith, past, i_is, j_is))
+    ]
+
+pub cells_ascending : (b : Bounds) (m : ℕ) → IsBelow b.low b.high → 0 < m → IsStrictlySortedBy cell_cmp (cells_in b m)
+cells_ascending b m o some = sorted_range cell_cmp (nth_cell b m) (volume b * m) 0 (λ i j less high. cell_less b m o some i j less (omega arith))
+
+pub length-cells_in : (b : Bounds) (m : ℕ) → length (cells_in b m) ≡ volume b * m
+length-cells_in b m = length-map-range_with_len (nth_cell b m) 0 (volume b * m)
+
+-- a cell stands at its number
+pub cell_there : (b : Bounds) (m : ℕ) (c : Cell) → IsWithin b c.position → c.node < m → slice_get (cells_in b m) (index_in b c.position * m + c.node) ≡ Some c
+cell_there b m c within node =
+    let low = mul-add-lt (index_in b c.position) m c.node (volume b) (index_below b c.position within) node in
+    slice_of_range (nth_cell b m) (volume b * m) (index_in b c.position * m + c.node) (omega (arith, low))
+    ∙ rw (div-mul-add (index_in b c.position) m c.node node, mod-mul-add (index_in b c.position) m c.node node, place_at_index b c.position within) refl
+
+pub cells_nodes : (b : Bounds) (m : ℕ) → 0 < m → All (λ (c : Cell). c.node < m) (cells_in b m)
+cells_nodes b m some = All-map (λ (c : Cell). c.node < m) (nth_cell b m) (range_with_len 0 (volume b * m)) (All-range (λ k. k % m < m) (volume b * m) 0 (λ k low high. mod_below k m some))

@@ -1,0 +1,5 @@
+pub mod Lists
+pub mod Ready
+pub mod FormulaLaws
+pub mod Growing
+pub mod AdmissibleLaws

@@ -1,0 +1,4 @@
+pub mod AxisLaws
+pub mod BoxLaws
+pub mod WordLaws
+pub mod GroundCells
