@@ -9,10 +9,10 @@ use Rattle.dd_transfer.specs.declared.strip.Strip.{Strip}
 use Rattle.dd_transfer.specs.Windows.{positions}
 use Rattle.dd_transfer.specs.Graphs.{Transfer, IsTransfer}
 use Rattle.dd_transfer.specs.Transfers.{IsGraphOf}
-use Rattle.dd_transfer.specs.Certificates.{IsLowest}
+use Rattle.dd_transfer.specs.Certificates.{IsLowest, potential_of}
 use Rattle.dd_meancycle.specs.declared.least.Mean.{Mean}
 use Rattle.dd_meancycle.specs.declared.least.Mean.TheVariants as mean
-use Rattle.dd_meancycle.specs.Means.{IsLeast, IsMeanOf, potential, weight_of}
+use Rattle.dd_meancycle.specs.Means.{IsLeast, IsMeanOf, weight_of}
 use Rattle.dd_density.specs.declared.answer.Density.{Density}
 use Rattle.dd_density.specs.declared.answer.Density.TheVariants.{Least, Empty}
 use Rattle.dd_density.specs.Densities.{IsCertified, IsSmall}
@@ -56,7 +56,7 @@ is_certified r s weights g (mean.NoCycle ranks) (Empty given) is least of =
 is_certified r s weights g (mean.Least m l cycle ps) (Empty given) is least of = absurd of
 is_certified r s weights g (mean.NoCycle ranks) (Least p q walk qs) is least of = absurd of
 
-bounded_at : (ps : List ℤ) (n : ℕ) → length ps ≡ n → ((v : ℕ) → v < n → unsigned_abs (potential ps v) ≤ 2 ^ 40) → All (λ x. unsigned_abs x ≤ 2 ^ 40) ps
+bounded_at : (ps : List ℤ) (n : ℕ) → length ps ≡ n → ((v : ℕ) → v < n → unsigned_abs (potential_of ps v) ≤ 2 ^ 40) → All (λ x. unsigned_abs x ≤ 2 ^ 40) ps
 bounded_at ps n each given = λ k d lt.
     subst (λ (x : ℤ). unsigned_abs x ≤ 2 ^ 40) (get_or_default ps k (pos 0) d lt) (given k (omega (arith, each, lt)))
 

@@ -3,8 +3,8 @@ use Rattle.std.proofs.Common.{◌≡◌, ℕ, ◌*◌, ◌<◌, ◌≤◌, ◌^�
 use Rattle.std.specs.Prelude.{ℤ, pos, ◌-ℤ◌, ◌≤ℤ◌}
 use Rattle.std.proofs.Math.Nat.{mul-le-mul}
 use Rattle.dd_transfer.specs.Graphs.{Transfer, next_of, weight_at}
-use Rattle.dd_transfer.specs.Certificates.{IsLowest}
-use Rattle.dd_meancycle.specs.Means.{IsCycle, ArePotentials, potential, weight_of}
+use Rattle.dd_transfer.specs.Certificates.{IsLowest, potential_of}
+use Rattle.dd_meancycle.specs.Means.{IsCycle, ArePotentials, weight_of}
 use Rattle.dd_density.specs.graphs.Shown.{IsShown, IsRiseAlong}
 use Rattle.dd_density.proofs.Fractions.{SameFraction, lowest_same}
 
@@ -13,13 +13,13 @@ same_state a b h = cc
 
 -- one edge leaves a state by a slice
 pub rise_along : (g : Transfer) (m l : ℕ) (ps : List ℤ) (u t next weight : ℕ) (b : Bool) → next_of g u t ≡ Some next → weight ≡ weight_at g t →
-    (IsTrue b ↔ ((potential ps next -ℤ potential ps u) ≤ℤ (pos (l * weight) -ℤ pos m))) → IsTrue b ↔ IsRiseAlong g m l ps u t
+    (IsTrue b ↔ ((potential_of ps next -ℤ potential_of ps u) ≤ℤ (pos (l * weight) -ℤ pos m))) → IsTrue b ↔ IsRiseAlong g m l ps u t
 rise_along g m l ps u t next weight b here heavy said = (
   λ yes v h.
       let e : next ≡ v = same_state next v (sym here ∙ h) in
-      subst (λ (x : ℕ). (potential ps x -ℤ potential ps u) ≤ℤ (pos (l * weight_at g t) -ℤ pos m)) e
-      (subst (λ (w : ℕ). (potential ps next -ℤ potential ps u) ≤ℤ (pos (l * w) -ℤ pos m)) heavy (said.0 yes)),
-  λ all. said.1 (subst (λ (w : ℕ). (potential ps next -ℤ potential ps u) ≤ℤ (pos (l * w) -ℤ pos m)) (sym heavy) (all next here)),
+      subst (λ (x : ℕ). (potential_of ps x -ℤ potential_of ps u) ≤ℤ (pos (l * weight_at g t) -ℤ pos m)) e
+      (subst (λ (w : ℕ). (potential_of ps next -ℤ potential_of ps u) ≤ℤ (pos (l * w) -ℤ pos m)) heavy (said.0 yes)),
+  λ all. said.1 (subst (λ (w : ℕ). (potential_of ps next -ℤ potential_of ps u) ≤ℤ (pos (l * w) -ℤ pos m)) (sym heavy) (all next here)),
 )
 
 -- the numbers found for a walk: its mean and its density over so many positions

@@ -9,7 +9,7 @@ use Rattle.dd_transfer.specs.Windows.{positions}
 use Rattle.dd_transfer.specs.Graphs.{Transfer, IsTransfer, next_of, weight_at}
 use Rattle.dd_transfer.specs.Transfers.{IsGraphOf, slice_weight}
 use Rattle.dd_transfer.specs.Certificates.{IsWalk, IsClosedWalk, IsLowest, walk_weight, IsDensityCertificate, IsEmptyCertificate, ArePotentials as RisesAlong, potential_of}
-use Rattle.dd_meancycle.specs.Means.{IsPath, IsCycle, ArePotentials, potential, weight_of}
+use Rattle.dd_meancycle.specs.Means.{IsPath, IsCycle, ArePotentials, weight_of}
 use Rattle.dd_density.specs.graphs.Shown.{IsShown, AreFallen}
 use Rattle.dd_density.proofs.Edges.{last_slice, weight_small, step}
 
@@ -75,7 +75,7 @@ rises_of r s weights g m l ps is each given = record {
 pub potentials_of : (r : LocalRule) (s : Strip) (weights : List ℕ) (g : Transfer) (m l : ℕ) (ps : List ℤ) → IsGraphOf r s weights g → RisesAlong r s weights m l ps → ArePotentials g m l ps
 potentials_of r s weights g m l ps is given = λ u t v h.
     let same : weight_at g t ≡ slice_weight r s weights t = is.weighs t (step g u t v h).slice in
-    subst (λ (x : ℕ). (potential ps v -ℤ potential ps u) ≤ℤ (pos (l * x) -ℤ pos m)) (sym same) (given.rise u t v ((is.edges u t v).0 h))
+    subst (λ (x : ℕ). (potential_of ps v -ℤ potential_of ps u) ≤ℤ (pos (l * x) -ℤ pos m)) (sym same) (given.rise u t v ((is.edges u t v).0 h))
 
 -- what is shown over the graph is a certificate, and a certificate is shown
 pub certificate_of : (r : LocalRule) (s : Strip) (weights : List ℕ) (g : Transfer) (p q : ℕ) (ws : List ℕ) (ps : List ℤ) → IsGraphOf r s weights g → IsShown g (positions s) p q ws ps → IsDensityCertificate r s weights p q ws ps

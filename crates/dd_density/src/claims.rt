@@ -1,7 +1,8 @@
 //! Whether a closed walk, potentials or ranks are right for a transfer graph.
 ghost use Rattle.std.specs.Prelude.{◌≡◌, ℕ, ◌*◌, ◌%◌, ◌<◌, ◌≤◌, ◌^◌, ◌↔◌, IsTrue, MatchOption, Some, length, pos, ◌-ℤ◌, ◌≤ℤ◌};
 ghost use Rattle.dd_transfer.specs.Graphs.{next_of, weight_at, IsTransfer};
-ghost use Rattle.dd_meancycle.specs.Means.{IsCycle, ArePotentials, potential, weight_of};
+ghost use Rattle.dd_meancycle.specs.Means.{IsCycle, ArePotentials, weight_of};
+ghost use Rattle.dd_transfer.specs.Certificates.{potential_of};
 ghost use Rattle.dd_density.specs.graphs.Shown.{IsShown, AreFallen, IsRiseAlong, IsFallAlong};
 
 use crate::lowest::{Ratio, in_lowest_terms};
@@ -70,7 +71,7 @@ fn is_rise_between(from: u32, to: u32, weight: u64, potentials: &[i64], mean: Ra
     requires weight { weight ≤ 2 ^ 25 }
     requires numerator { mean.numerator < 2 ^ 89 }
     requires denominator { mean.denominator < 2 ^ 64 }
-    ensures { IsTrue result ↔ ((potential potentials.now to -ℤ potential potentials.now from) ≤ℤ (pos (mean.denominator * weight) -ℤ pos mean.numerator)) }
+    ensures { IsTrue result ↔ ((potential_of potentials.now to -ℤ potential_of potentials.now from) ≤ℤ (pos (mean.denominator * weight) -ℤ pos mean.numerator)) }
 {
     let from = potentials[from as usize];
     let to = potentials[to as usize];

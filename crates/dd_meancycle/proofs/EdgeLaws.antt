@@ -16,7 +16,8 @@ use Rattle.dd_meancycle.specs.declared.table.EdgeMean.{EdgeMean}
 use Rattle.dd_meancycle.specs.declared.table.EdgeMean.TheVariants as edge_mean
 use Rattle.dd_meancycle.specs.declared.least.Mean.{Mean}
 use Rattle.dd_meancycle.specs.declared.least.Mean.TheVariants.{Least, NoCycle}
-use Rattle.dd_meancycle.specs.Means.{IsPath, IsCycle, IsLeast, IsAcyclic, IsMeanOf, ArePotentials, AreRanks, potential, weight_of}
+use Rattle.dd_meancycle.specs.Means.{IsPath, IsCycle, IsLeast, IsAcyclic, IsMeanOf, ArePotentials, AreRanks, weight_of}
+use Rattle.dd_transfer.specs.Certificates.{potential_of}
 use Rattle.dd_meancycle.specs.table.Levels.{IsEdgeOf}
 use Rattle.dd_meancycle.specs.table.Walks.{IsWalk, AreAmong, weight_of as edges_weight, potential as natural}
 use Rattle.dd_meancycle.specs.table.Lists.{edge_at, AreEdgesTo, AreEdges, IsInStates}
@@ -174,9 +175,9 @@ same_weight g edges (e ∷ es) well are among = omega (arith, (edged g edges e w
 
 -- what potentials and ranks say of each path
 pub path_weighs : (g : Transfer) (m l : ℕ) (ps : List ℤ) → ArePotentials g m l ps → (ss : List ℕ) (u v : ℕ) → IsPath g u ss v →
-    ((potential ps v -ℤ potential ps u) ≤ℤ (pos (l * weight_of g ss) -ℤ pos (m * length ss)))
+    ((potential_of ps v -ℤ potential_of ps u) ≤ℤ (pos (l * weight_of g ss) -ℤ pos (m * length ss)))
 path_weighs g m l ps given [] u v walk =
-    let e : potential ps v ≡ potential ps u = ap (potential ps) (sym walk) in omega (arith, ints, e)
+    let e : potential_of ps v ≡ potential_of ps u = ap (potential_of ps) (sym walk) in omega (arith, ints, e)
 path_weighs g m l ps given (s ∷ ss) u v walk =
     let first = given u (s % g.slices) s walk.0 in
     let rest = path_weighs g m l ps given ss s v walk.1 in
@@ -231,7 +232,7 @@ small_mean g edges (edge_mean.Least m l cycle ps) well are is = λ k d lt.
 small_mean g edges (edge_mean.NoCycle rs) well are is = tt
 
 -- the numbers as whole numbers
-signed_at : (ps : List ℕ) (v : ℕ) → potential (map pos ps) v ≡ pos (natural ps v)
+signed_at : (ps : List ℕ) (v : ℕ) → potential_of (map pos ps) v ≡ pos (natural ps v)
 signed_at [] v = refl
 signed_at (p ∷ ps) zero = refl
 signed_at (p ∷ ps) (suc v) = signed_at ps v
@@ -260,7 +261,7 @@ mean_of_states g edges (edge_mean.Least m l cycle ps) (Least a b states qs) well
       bounded = λ v lt.
           let few : natural ps.items v ≤ m * g.states = is.bounded v lt in
           let most = most_small g edges m l cycle.items ps.items well are is in
-          near (potential (map pos ps.items) v) (natural ps.items v) (signed_at ps.items v) (omega (arith, few, most));
+          near (potential_of (map pos ps.items) v) (natural ps.items v) (signed_at ps.items v) (omega (arith, few, most));
       least = cycle_least g m l (map pos ps.items) pot;
     })
 mean_of_states g edges (edge_mean.NoCycle rs) (NoCycle qs) well are is same =

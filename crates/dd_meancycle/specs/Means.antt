@@ -1,7 +1,8 @@
 -- Closed walks of a transfer graph, and what shows that none has a smaller mean.
-use Rattle.std.specs.Prelude.{◌≡◌, ℕ, ◌+◌, ◌*◌, ◌%◌, ◌<◌, ◌≤◌, ◌^◌, ℤ, pos, ◌-ℤ◌, ◌≤ℤ◌, unsigned_abs, List, [], ◌∷◌, length, slice_index, slice_index_or, Some}
+use Rattle.std.specs.Prelude.{◌≡◌, ℕ, ◌+◌, ◌*◌, ◌%◌, ◌<◌, ◌≤◌, ◌^◌, ℤ, pos, ◌-ℤ◌, ◌≤ℤ◌, unsigned_abs, List, [], ◌∷◌, length, slice_index, Some}
 use Rattle.std.specs.Int.{IsGcd}
 use Rattle.dd_transfer.specs.Graphs.{Transfer, next_of, weight_at}
+use Rattle.dd_transfer.specs.Certificates.{potential_of}
 use Rattle.dd_meancycle.specs.declared.least.Mean.{Mean}
 use Rattle.dd_meancycle.specs.declared.least.Mean.TheVariants.{Least, NoCycle}
 
@@ -21,12 +22,9 @@ pub record IsCycle (g : Transfer) (states : List ℕ) : Type 0 where
   pub closed : IsPath g last states last
   pub turns : 0 < length states
 
-abbrev pub potential : List ℤ → ℕ → ℤ
-potential ps v = slice_index_or ps v (pos 0)
-
 -- along each edge the potential rises by at most l times its weight less m
 abbrev pub ArePotentials : Transfer → ℕ → ℕ → List ℤ → Type 0
-ArePotentials g m l ps = (u t v : ℕ) → next_of g u t ≡ Some v → (potential ps v -ℤ potential ps u) ≤ℤ (pos (l * weight_at g t) -ℤ pos m)
+ArePotentials g m l ps = (u t v : ℕ) → next_of g u t ≡ Some v → (potential_of ps v -ℤ potential_of ps u) ≤ℤ (pos (l * weight_at g t) -ℤ pos m)
 
 -- along each edge the rank falls
 abbrev pub AreRanks : Transfer → List ℕ → Type 0
@@ -41,7 +39,7 @@ pub record IsLeast (g : Transfer) (m l : ℕ) (cycle : List ℕ) (ps : List ℤ)
   pub positive : 0 < l
   pub each : length ps ≡ g.states
   pub potentials : ArePotentials g m l ps
-  pub bounded : (v : ℕ) → v < g.states → unsigned_abs (potential ps v) ≤ 2 ^ 40
+  pub bounded : (v : ℕ) → v < g.states → unsigned_abs (potential_of ps v) ≤ 2 ^ 40
   pub least : (states : List ℕ) → IsCycle g states → m * length states ≤ l * weight_of g states
 
 -- ranks, and no cycle

@@ -3,7 +3,8 @@
 ghost use Rattle.std.specs.Prelude.{◌≡◌, ℕ, ◌*◌, ◌%◌, ◌<◌, ◌≤◌, ◌^◌, ◌↔◌, IsTrue, IfSome, length, slice_index, pos, ◌-ℤ◌, ◌≤ℤ◌, unsigned_abs, Some};
 ghost use Rattle.std.specs.List.{All};
 ghost use Rattle.dd_transfer.specs.Graphs.{next_of, IsTransfer};
-ghost use Rattle.dd_meancycle.specs.Means.{IsCycle, IsLeast, IsAcyclic, potential, weight_of};
+ghost use Rattle.dd_meancycle.specs.Means.{IsCycle, IsLeast, IsAcyclic, weight_of};
+ghost use Rattle.dd_transfer.specs.Certificates.{potential_of};
 ghost use Rattle.dd_meancycle.specs.table.Levels.{IsEdgeOf};
 ghost use Rattle.dd_meancycle.specs.table.Lists.{AreEdges, IsRisen, IsFallen};
 
@@ -59,7 +60,7 @@ fn is_rise(from: i64, to: i64, l: u64, weight: u32, m: u64) -> bool
 /// Whether the potential rises so along an edge.
 fn is_risen(edge: &Edge, potentials: &[i64], mean: Ratio) -> bool
     requires { IsEdgeOf (length potentials.now) edge.now }
-    ensures { IsTrue result → (potential potentials.now edge.now.to -ℤ potential potentials.now edge.now.from) ≤ℤ (pos (mean.length * edge.now.weight) -ℤ pos mean.weight) }
+    ensures { IsTrue result → (potential_of potentials.now edge.now.to -ℤ potential_of potentials.now edge.now.from) ≤ℤ (pos (mean.length * edge.now.weight) -ℤ pos mean.weight) }
 {
     let from = potentials[edge.from as usize];
     let to = potentials[edge.to as usize];

@@ -17,9 +17,11 @@ use Rattle.dd_rows.specs.declared.views.Views.{Views}
 use Rattle.dd_rows.specs.Domains.{IsGround, box_cells, opposite}
 use Rattle.dd_rows.specs.Faults.{OnLarge}
 use Rattle.dd_rows.specs.Fillings.{look_of, fillings, HasFewFillings}
-use Rattle.dd_rows.specs.Patterns.{origin, patterns}
+use Rattle.dd_rows.specs.Patterns.{patterns}
+use Rattle.dd_boxes.specs.Boxes.{origin}
 use Rattle.dd_rows.specs.Programs.{rows, first_seen, cap_row, row_of, column_count, most_columns, most_rows, IsProgramOf, IsLargeProgram}
-use Rattle.dd_rows.specs.listing.Levels.{IsWord, number_of}
+use Rattle.dd_rows.specs.listing.Levels.{IsWord}
+use Rattle.dd_numbered.specs.Numbering.{rank}
 use Rattle.dd_rows.specs.listing.Views.{AreViews, view_of}
 use Rattle.dd_rows.specs.listing.Sparse.{capped, asked_row}
 use Rattle.dd_rows.specs.listing.Shown.{patterns_shown, rows_shown, IsProgramShown, IsLargeShown}
@@ -37,7 +39,7 @@ fillings_known x cs lists n is size =
 
 module _ (x : LocalRule) (radius margin : ℕ) (vs : List Place) (cs : List Cell) (v : Views) (are : AreViews x radius vs cs v) (lists : List (List ℕ)) (listed : lists ≡ fillings x cs) where
   pub centre_size : length v.centre ≡ x.nodes
-  centre_size = ap length are.centre ∙ length-map-range_with_len (λ a. number_of cs (cell origin a)) 0 x.nodes
+  centre_size = ap length are.centre ∙ length-map-range_with_len (λ a. rank cs (cell origin a)) 0 x.nodes
 
   givers_size : length v.givers ≡ length vs
   givers_size = ap length are.givers ∙ length-map vs (λ w. view_of cs (box_cells x radius) (opposite w))

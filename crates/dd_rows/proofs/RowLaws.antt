@@ -17,9 +17,10 @@ use Rattle.dd_formula.specs.LocalRule.{LocalRule}
 use Rattle.dd_rows.specs.declared.views.Views.{Views}
 use Rattle.dd_rows.specs.Domains.{opposite, box_cells}
 use Rattle.dd_rows.specs.Fillings.{look_of}
-use Rattle.dd_rows.specs.Patterns.{origin, pattern_at, givers, patterns_in, in_lexicographic_order}
+use Rattle.dd_rows.specs.Patterns.{pattern_at, givers, patterns_in, in_lexicographic_order}
+use Rattle.dd_boxes.specs.Boxes.{origin}
 use Rattle.dd_rows.specs.Programs.{coefficients, row_of, column_count, most_columns}
-use Rattle.dd_rows.specs.listing.Levels.{number_of}
+use Rattle.dd_numbered.specs.Numbering.{rank}
 use Rattle.dd_rows.specs.listing.Views.{AreViews, view_of, symbols_at, patterns_seen, with_patterns}
 use Rattle.dd_rows.specs.listing.Sparse.{asked_row}
 use Rattle.dd_rows.specs.lemmas.Lists.{flat_map_agree}
@@ -30,7 +31,7 @@ use Rattle.dd_rows.proofs.SparseLaws.{map_agree}
 
 module _ (x : LocalRule) (radius : ℕ) (vs : List Place) (cs : List Cell) (v : Views) (are : AreViews x radius vs cs v) where
   shown : (ss : List ℕ) (p : Place) → symbols_at ss (view_of cs (box_cells x radius) p) ≡ pattern_at (box_cells x radius) (look_of cs ss) p
-  shown ss p = map-map (λ i. unwrap_or (slice_get ss i) 0) (λ c. number_of cs (shifted p c)) (box_cells x radius)
+  shown ss p = map-map (λ i. unwrap_or (slice_get ss i) 0) (λ c. rank cs (shifted p c)) (box_cells x radius)
 
   out_shown : (ss : List ℕ) → symbols_at ss v.origin ≡ pattern_at (box_cells x radius) (look_of cs ss) origin
   out_shown ss = ap (symbols_at ss) are.origin ∙ shown ss origin
@@ -57,7 +58,7 @@ module _ (x : LocalRule) (radius : ℕ) (vs : List Place) (cs : List Cell) (v : 
       let sides : coefficients ps (symbols_at ss v.origin) (map (symbols_at ss) v.givers) ≡ coefficients ps (pattern_at box look origin) (givers box vs look) =
       ap (λ out. coefficients ps out (map (symbols_at ss) v.givers)) (out_shown ss) ∙ ap (coefficients ps (pattern_at box look origin)) (ins_shown ss) in
       let weight : total_weight ws (symbols_at ss v.centre) ≡ total_weight ws (map (λ a. unwrap_or (look (cell origin a)) 0) (range_with_len 0 x.nodes)) =
-      ap (total_weight ws) (ap (symbols_at ss) are.centre ∙ map-map (λ i. unwrap_or (slice_get ss i) 0) (λ a. number_of cs (cell origin a)) (range_with_len 0 x.nodes)) in
+      ap (total_weight ws) (ap (symbols_at ss) are.centre ∙ map-map (λ i. unwrap_or (slice_get ss i) 0) (λ a. rank cs (cell origin a)) (range_with_len 0 x.nodes)) in
       λ i. record { coefficients = sides i; bound = weight i }
 
   pub all_asked : (ps : List (List ℕ)) (ws : List ℕ) (fillings : List (List ℕ)) → map (asked_row ps v ws) fillings ≡ map (λ ss. row_of x ws radius vs ps (look_of cs ss)) fillings

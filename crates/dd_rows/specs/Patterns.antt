@@ -1,19 +1,17 @@
 -- The patterns around a position that gives along some vectors and around those that give to it.
-use Rattle.std.specs.Prelude.{ℕ, pos, List, [], ◌∷◌, map, unwrap_or}
+use Rattle.std.specs.Prelude.{ℕ, List, [], ◌∷◌, map, unwrap_or}
 use Rattle.std.specs.List.{fold, flat_map, position_or_len}
 use Rattle.std.specs.Ordering.{nat_cmp, is_eq}
 use Rattle.std.specs.Cmp.Lexicographic.{slice_cmp}
 use Rattle.std.specs.BTreeSet.{insert_key}
-use Rattle.dd_lattice.specs.Place.{Place, place}
+use Rattle.dd_lattice.specs.Place.{Place}
 use Rattle.dd_lattice.specs.Cells.{shifted}
 use Rattle.dd_lattice.specs.declared.position.Cell.{Cell}
 use Rattle.dd_pattern.specs.Reading.{Look}
 use Rattle.dd_formula.specs.LocalRule.{LocalRule}
+pub use Rattle.dd_boxes.specs.Boxes.{origin}
 use Rattle.dd_rows.specs.Domains.{opposite, box_cells}
 use Rattle.dd_rows.specs.Fillings.{look_of, fillings}
-
-abbrev pub origin : Place
-origin = place (pos 0) (pos 0) (pos 0)
 
 -- the symbols of the box, moved to the position
 abbrev pub pattern_at : List Cell → Look → Place → List ℕ

@@ -17,7 +17,8 @@ use Rattle.dd_rows.specs.declared.rows.Rows.{Rows}
 use Rattle.dd_rows.specs.declared.fault.RowsFault.{RowsFault}
 use Rattle.dd_rows.specs.Domains.{IsGround, box_cells}
 use Rattle.dd_rows.specs.Fillings.{look_of, fillings, HasManyFillings, HasFewFillings}
-use Rattle.dd_rows.specs.Patterns.{origin, pattern_at, givers, patterns, number_in}
+use Rattle.dd_rows.specs.Patterns.{pattern_at, givers, patterns, number_in}
+use Rattle.dd_boxes.specs.Boxes.{origin}
 use Rattle.dd_rows.specs.Faults.{OnLarge}
 
 abbrev pub one_at : ℕ → ℕ → ℤ

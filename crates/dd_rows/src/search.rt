@@ -7,7 +7,8 @@ ghost use Rattle.dd_lattice.specs.Cells.{shifted};
 ghost use Rattle.dd_formula.specs.LocalRule.{LocalRule};
 ghost use Rattle.dd_rows.specs.Faults.{OnLarge};
 ghost use Rattle.dd_rows.specs.Fillings.{fillings, HasManyFillings, HasFewFillings, most_fillings};
-ghost use Rattle.dd_rows.specs.listing.Levels.{AreOf, AreInRange, extended, chosen, last_number, number_of};
+ghost use Rattle.dd_rows.specs.listing.Levels.{AreOf, AreInRange, extended, chosen, last_number};
+ghost use Rattle.dd_numbered.specs.Numbering.{rank};
 ghost use Rattle.dd_rows.specs.listing.Formulas.{are_all_true};
 
 use crate::fault::RowsFault;
@@ -136,7 +137,7 @@ fn last_number(rule: &Rule, cells: &[Cell], cell: &Cell) -> usize
 pub(crate) fn number_of_read(cells: &[Cell], cell: &Cell, read: &Cell) -> usize
     requires ascending { IsStrictlySortedBy cell_cmp cells.now }
     requires near { AreInRange cells.now }
-    ensures { result ≡ number_of cells.now (shifted cell.now.position read.now) }
+    ensures { result ≡ rank cells.now (shifted cell.now.position read.now) }
 {
     match shift(&read.position, &cell.position) {
         Some(position) => number_of(

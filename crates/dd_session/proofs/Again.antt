@@ -9,7 +9,7 @@ use Rattle.dd_certificate.specs.declared.answer.Answer.{Answer}
 use Rattle.dd_certificate.specs.Text.{line_feed, answer_text}
 use Rattle.dd_certificate.specs.Bounds.{IsWritable}
 use Rattle.dd_output.specs.declared.output.Output.{Output}
-use Rattle.dd_output.specs.Outputs.{header as whole_header, answers_text, output_text, IsWritableOutput}
+use Rattle.dd_output.specs.Outputs.{header as whole_header, answers_text, output_text, IsWritableOutput, end_line}
 use Rattle.dd_query.specs.declared.queries.Query.{Query}
 use Rattle.dd_script.specs.Parts.{Parts}
 use Rattle.dd_script.specs.Scripts.{Spells}
@@ -19,7 +19,7 @@ use Rattle.dd_checker.specs.Claims.{Claim}
 use Rattle.dd_session.specs.declared.status.Status.{Status}
 use Rattle.dd_session.specs.declared.status.Status.TheVariants.{Definite, SomeUnknown, Refused, ReadFault, WriteFault, Memory, BadWords, Rejected}
 use Rattle.dd_session.specs.Answers.{AllRight, has_unknown, texts}
-use Rattle.dd_session.specs.Output.{header, end_line, output_of}
+use Rattle.dd_session.specs.Output.{header, output_of}
 use Rattle.dd_session.specs.Sides.{status_of}
 use Rattle.dd_session.specs.Checks.{most_checked, IsAcceptedAt, IsTrueAt, AcceptedTo, AllAccepted, FirstRejected, IsAllAccepted}
 use Rattle.dd_session.specs.Checked.{CheckDecides}

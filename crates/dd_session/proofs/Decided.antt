@@ -9,7 +9,8 @@ use Rattle.dd_session.specs.declared.status.Status.{Status}
 use Rattle.dd_session.specs.declared.status.Status.TheVariants.{Definite, SomeUnknown, Refused, ReadFault, WriteFault, Memory, BadWords, Rejected}
 use Rattle.dd_session.specs.Output.{long_line}
 use Rattle.dd_session.specs.Sides.{Told, RefusedBy}
-use Rattle.dd_session.specs.Runs.{RanOver, Ended, IsAccepted, IsAcceptedAs, Decides, RanWhole, RefusedWhole, IsRefused, IsRefusedBy, too_long, no_run, most_bytes}
+use Rattle.dd_session.specs.Runs.{RanOver, Ended, IsAccepted, IsAcceptedAs, Decides, RanWhole, RefusedWhole, IsRefused, IsRefusedBy, too_long, no_run}
+use Rattle.dd_output.specs.Outputs.{most_script}
 
 -- What was read to the end is what was told.
 pub told_bytes : (bytes given : List ℕ) (left : Option (List ℕ)) → ReadToEnd (Some bytes) left given → bytes ≡ given
@@ -32,7 +33,7 @@ module _ (never_both : NeverBoth) where
   refused_no_script bytes line s refused spelled = never_both bytes s refused.command refused.kind spelled refused.no_script
 
   not_accepted : (bytes line : List ℕ) (left : Option (List ℕ)) → IsRefused (Some bytes) left line → ¬ IsAccepted bytes
-  not_accepted bytes line left (too_long more is) accepted = absurd (omega (arith, told_more bytes left most_bytes more, accepted.short))
+  not_accepted bytes line left (too_long more is) accepted = absurd (omega (arith, told_more bytes left most_script more, accepted.short))
   not_accepted bytes line left (no_run given to_end short refused) accepted =
       refused_no_script bytes line accepted.script
       (subst (λ (l : List ℕ). IsRefusedBy l line) (sym (told_bytes bytes given left to_end)) refused) accepted.spelled
@@ -69,7 +70,7 @@ module _ (never_both : NeverBoth) where
 
 -- The input was read to its end.
 pub ended_run : {S K : Type 0} (source : Told S) (sink : Told K) (given bytes : List ℕ) (status : Status) → ReadToEnd source.bytes_old source.bytes_new given
-    → length given ≤ most_bytes → bytes ≡ given → RanOver sink bytes status → Ended source sink status
+    → length given ≤ most_script → bytes ≡ given → RanOver sink bytes status → Ended source sink status
 ended_run source sink given bytes status to_end short same ran = by_status status (subst (λ (l : List ℕ). RanOver sink l status) same ran) where
   no_line : (line : List ℕ) → IsRefusedBy given line → IsRefused source.bytes_old source.bytes_new line
   no_line line refused = no_run given to_end short refused
@@ -87,7 +88,7 @@ ended_run source sink given bytes status to_end short same ran = by_status statu
   by_status Rejected run = absurd run
 
 -- The input was too long.
-pub ended_long : {S K : Type 0} (source : Told S) (sink : Told K) (status : Status) → GivesMore source.bytes_old source.bytes_new most_bytes
+pub ended_long : {S K : Type 0} (source : Told S) (sink : Told K) (status : Status) → GivesMore source.bytes_old source.bytes_new most_script
     → RefusedBy sink long_line status → Ended source sink status
 ended_long source sink Refused more wrote = record { line = long_line; refused = too_long more refl; appends = wrote }
 ended_long source sink WriteFault more wrote = (inr record { line = long_line; refused = too_long more refl; front = wrote.0 }, wrote.1)
@@ -107,8 +108,8 @@ never_refused sink line status wrote is = let none : ⊥ = subst (RefusedBy sink
 
 -- ---- how much was taken
 
-pub took_all : (old new : Option (List ℕ)) (bytes : List ℕ) → ReadToEnd old new bytes → length bytes ≤ most_bytes → GivesAtMost old new (most_bytes + 1)
+pub took_all : (old new : Option (List ℕ)) (bytes : List ℕ) → ReadToEnd old new bytes → length bytes ≤ most_script → GivesAtMost old new (most_script + 1)
 took_all old new bytes to_end short = record { given = bytes; consumed = to_end.consumed; few = omega (arith, short) }
 
-pub took_none : (a : Option (List ℕ)) → GivesAtMost a a (most_bytes + 1)
+pub took_none : (a : Option (List ℕ)) → GivesAtMost a a (most_script + 1)
 took_none a = record { given = []; consumed = Consumes-nil a; few = omega arith }

@@ -19,7 +19,8 @@ use Rattle.dd_session.specs.declared.stream.RunFault.{RunFault}
 use Rattle.dd_session.specs.Output.{header}
 use Rattle.dd_session.specs.Sides.{Told, RefusedBy, status_of}
 use Rattle.dd_session.specs.Written.{AnsweredToEnd, AnsweredShort}
-use Rattle.dd_session.specs.Runs.{IsAccepted, most_bytes}
+use Rattle.dd_session.specs.Runs.{IsAccepted}
+use Rattle.dd_output.specs.Outputs.{most_script}
 use Rattle.dd_session.specs.Asking.{HeaderTaken, Begun, HasBegun, IsToEnd, IsUnanswered, AsksFirstOver, AsksFirst}
 use Rattle.dd_session.proofs.Decided.{told_bytes}
 use Rattle.dd_session.proofs.Streamed.{one_more}
@@ -99,7 +100,7 @@ begun P old new bytes s spelled (inl p) = inl p
 begun P old new bytes s spelled (inr taken) = inr record { script = s; spelled = spelled; taken = taken }
 
 pub has_begun : (P : Type 0) (left_old left_new held_old held_new : Option (List ℕ)) (given bytes : List ℕ) → ReadToEnd left_old left_new given
-    → length given ≤ most_bytes → bytes ≡ given → P ⊎ Begun held_old held_new bytes → P ⊎ HasBegun left_old left_new held_old held_new
+    → length given ≤ most_script → bytes ≡ given → P ⊎ Begun held_old held_new bytes → P ⊎ HasBegun left_old left_new held_old held_new
 has_begun P left_old left_new held_old held_new given bytes to_end short same (inl p) = inl p
 has_begun P left_old left_new held_old held_new given bytes to_end short same (inr run) =
     inr record { bytes = given; read = to_end; short = short; run = subst (λ (l : List ℕ). Begun held_old held_new l) same run }

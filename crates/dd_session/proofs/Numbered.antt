@@ -18,7 +18,7 @@ use Rattle.dd_query.specs.declared.queries.Query.{Query}
 use Rattle.dd_script.specs.Parts.{Parts}
 use Rattle.dd_script.specs.Walk.{start, with, context, fault_of, next, Located, located, first_from, after_all, has_topology, script_of}
 use Rattle.dd_script.specs.Scripts.{Spells}
-use Rattle.dd_session.specs.Answers.{most_queries}
+use Rattle.dd_output.specs.Outputs.{most_queries}
 
 -- ---- where nothing is found, nothing is found first
 

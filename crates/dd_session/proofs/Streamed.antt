@@ -13,7 +13,8 @@ use Rattle.dd_query.specs.declared.queries.Query.{Query}
 use Rattle.dd_answer.specs.Right.{Right, is_unknown}
 use Rattle.dd_script.specs.Parts.{Parts}
 use Rattle.dd_session.specs.Answers.{AllRight, has_unknown, texts}
-use Rattle.dd_session.specs.Output.{header, end_line}
+use Rattle.dd_session.specs.Output.{header}
+use Rattle.dd_output.specs.Outputs.{end_line}
 use Rattle.dd_session.specs.declared.stream.RunFault.{RunFault}
 use Rattle.dd_session.specs.Written.{Answered, AnsweredFront, AnsweredToEnd, AnsweredShort, WholeOutput, CutShort}
 

@@ -7,13 +7,13 @@ use Rattle.dd_session.specs.declared.status.Status.{Status}
 use Rattle.dd_session.specs.declared.status.Status.TheVariants.{Definite, SomeUnknown, Refused, ReadFault, WriteFault, Memory, BadWords, Rejected}
 use Rattle.dd_session.specs.Answers.{AllRight, has_unknown}
 use Rattle.dd_session.specs.Output.{output_of}
-use Rattle.dd_session.specs.Runs.{most_bytes}
+use Rattle.dd_output.specs.Outputs.{most_script}
 
 -- The bytes are this script, and the text is the whole output of a run over them, with a right answer to each query; some
 -- answer is that it is not known, or none is so.
 pub record IsRunOutput (bytes : List ℕ) (s : Parts) (has : Bool) (text : List ℕ) : Type 0 where
   pub spelled : Spells bytes s
-  pub short : length bytes ≤ most_bytes
+  pub short : length bytes ≤ most_script
   pub answers : List Answer
   pub right : AllRight s s.queries answers
   pub each : length answers ≡ length s.queries

@@ -7,10 +7,6 @@ use Rattle.dd_query.specs.declared.queries.Query.{Query}
 use Rattle.dd_script.specs.Parts.{Parts}
 use Rattle.dd_answer.specs.Right.{Right, is_unknown}
 
--- The greatest number of queries of a script.
-abbrev pub most_queries : ℕ
-most_queries = 1000
-
 -- some answer is that it is not known
 abbrev pub has_unknown : List Answer → Bool
 has_unknown [] = false

@@ -10,7 +10,7 @@ use Rattle.dd_answer.specs.Asking.{AsksSomeBoxes}
 use Rattle.dd_session.specs.declared.status.Status.{Status}
 use Rattle.dd_session.specs.declared.status.Status.TheVariants.{Definite, SomeUnknown, Refused, ReadFault, WriteFault, Memory, BadWords, Rejected}
 use Rattle.dd_session.specs.Output.{header}
-use Rattle.dd_session.specs.Runs.{most_bytes}
+use Rattle.dd_output.specs.Outputs.{most_script}
 
 -- The lines before the first answer were written whole.
 pub record HeaderTaken (old new : Option (List ℕ)) (bytes : List ℕ) : Type 0 where
@@ -27,7 +27,7 @@ pub record Begun (old new : Option (List ℕ)) (bytes : List ℕ) : Type 0 where
 pub record HasBegun (left_old left_new held_old held_new : Option (List ℕ)) : Type 0 where
   pub bytes : List ℕ
   pub read : ReadToEnd left_old left_new bytes
-  pub short : length bytes ≤ most_bytes
+  pub short : length bytes ≤ most_script
   pub run : Begun held_old held_new bytes
 
 -- all queries were answered

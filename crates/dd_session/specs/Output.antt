@@ -5,6 +5,7 @@ use Rattle.dd_faults.specs.declared.fault.Limit.{Limit}
 use Rattle.dd_faults.specs.declared.fault.Limit.TheVariants as limit
 use Rattle.dd_certificate.specs.declared.answer.Answer.{Answer}
 use Rattle.dd_certificate.specs.Text.{answer_text}
+use Rattle.dd_output.specs.Outputs.{end_line}
 use Rattle.dd_script.specs.declared.fault.ScriptKind.{ScriptKind}
 use Rattle.dd_script.specs.declared.fault.ScriptKind.TheVariants as refused
 use Rattle.dd_script.specs.Scripts.{Kind, syntax, unknown, twice, dimension, size}
@@ -13,9 +14,6 @@ use Rattle.dd_session.specs.Answers.{texts}
 -- The lines before the first answer: the script, with its length before it and a line feed after it.
 unfoldable pub header : List ℕ → List ℕ
 header bytes = (codes "diddy 1\nscript " ++ (decimal (length bytes) ++ codes "\n")) ++ bytes ++ codes "\n"
-
-abbrev pub end_line : List ℕ
-end_line = codes "end\n"
 
 -- The whole output for these bytes of a script and these answers to its queries, in order.
 abbrev pub output_of : List ℕ → List Answer → List ℕ

@@ -3,6 +3,7 @@ use Rattle.std.specs.Prelude.{◌≡◌, ◌⊎◌, ℕ, ◌≤◌, List, length
 use Rattle.std.specs.declared.option.Option.{Option}
 use Rattle.std.specs.Io.KnownBytes.{Appends}
 use Rattle.dd_outside.specs.Bytes.{GainsFront, ReadToEnd, GivesMore}
+use Rattle.dd_output.specs.Outputs.{most_script}
 use Rattle.dd_script.specs.Parts.{Parts}
 use Rattle.dd_script.specs.Scripts.{Spells, RefusedAs, Kind}
 use Rattle.dd_session.specs.declared.status.Status.{Status}
@@ -11,10 +12,6 @@ use Rattle.dd_session.specs.Answers.{IsOpenAs}
 use Rattle.dd_session.specs.Output.{long_line, refused_line, refused_words}
 use Rattle.dd_session.specs.Sides.{Told, IsKept, Failed}
 use Rattle.dd_session.specs.Written.{WholeOutput, CutShort}
-
--- The greatest number of bytes of a script.
-abbrev pub most_bytes : ℕ
-most_bytes = 1048576
 
 -- The bytes are a script, its whole output was written, and it has or has not a query without a definite answer.
 pub record WholeRun (old new : Option (List ℕ)) (bytes : List ℕ) (has : Bool) : Type 0 where
@@ -33,19 +30,19 @@ pub record ShortRun (old new : Option (List ℕ)) (bytes : List ℕ) : Type 0 wh
 pub record RanWhole (left_old left_new held_old held_new : Option (List ℕ)) (has : Bool) : Type 0 where
   pub bytes : List ℕ
   pub read : ReadToEnd left_old left_new bytes
-  pub short : length bytes ≤ most_bytes
+  pub short : length bytes ≤ most_script
   pub run : WholeRun held_old held_new bytes has
 
 -- The source gave a script to its end, and the sink gained a front of a right output.
 pub record RanShort (left_old left_new held_old held_new : Option (List ℕ)) : Type 0 where
   pub bytes : List ℕ
   pub read : ReadToEnd left_old left_new bytes
-  pub short : length bytes ≤ most_bytes
+  pub short : length bytes ≤ most_script
   pub run : ShortRun held_old held_new bytes
 
 -- The bytes are a script of a length that is allowed.
 pub record IsAccepted (bytes : List ℕ) : Type 0 where
-  pub short : length bytes ≤ most_bytes
+  pub short : length bytes ≤ most_script
   pub script : Parts
   pub spelled : Spells bytes script
 
@@ -70,8 +67,8 @@ pub record ShortRefusal (old new : Option (List ℕ)) (bytes : List ℕ) : Type 
 
 -- The source gave an input that is refused, and this is the line for it.
 pub data IsRefused (left_old left_new : Option (List ℕ)) (line : List ℕ) : Type 0 where
-  too_long : GivesMore left_old left_new most_bytes → line ≡ long_line → IsRefused left_old left_new line
-  no_run : (bytes : List ℕ) → ReadToEnd left_old left_new bytes → length bytes ≤ most_bytes
+  too_long : GivesMore left_old left_new most_script → line ≡ long_line → IsRefused left_old left_new line
+  no_run : (bytes : List ℕ) → ReadToEnd left_old left_new bytes → length bytes ≤ most_script
       → IsRefusedBy bytes line → IsRefused left_old left_new line
 
 -- An input that is refused, and its line was written.

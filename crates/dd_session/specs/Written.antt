@@ -8,7 +8,8 @@ use Rattle.dd_certificate.specs.Text.{answer_text}
 use Rattle.dd_query.specs.declared.queries.Query.{Query}
 use Rattle.dd_script.specs.Parts.{Parts}
 use Rattle.dd_session.specs.Answers.{AllRight, has_unknown, texts}
-use Rattle.dd_session.specs.Output.{header, end_line, output_of}
+use Rattle.dd_session.specs.Output.{header, output_of}
+use Rattle.dd_output.specs.Outputs.{end_line}
 
 -- Right answers to these queries of a script were written, from a number on, so much of each.
 pub record Answered (written : ℕ → Answer → List ℕ) (old new : Option (List ℕ)) (s : Parts) (queries : List Query) (first : ℕ) (has : Bool) : Type 0 where

@@ -9,10 +9,10 @@ ghost use Rattle.dd_answer.specs.Asking.{AsksSomeBoxes};
 ghost use Rattle.dd_session.specs.Asking.{HeaderTaken, Begun, HasBegun, IsToEnd, IsUnanswered, AsksFirstOver, AsksFirst};
 ghost use Rattle.dd_session.specs.Checks.{most_checked};
 ghost use Rattle.dd_session.specs.Checked.{CheckEnded, CheckDecides};
-ghost use Rattle.dd_session.specs.Answers.{most_queries};
+ghost use Rattle.dd_output.specs.Outputs.{most_queries, most_script};
 ghost use Rattle.dd_session.specs.Words.{IsOnly, IsSample, IsSampleOf, AreBad};
 ghost use Rattle.dd_session.specs.Sides.{told, status_of, RefusedBy};
-ghost use Rattle.dd_session.specs.Runs.{RanOver, Ended, Decides, IsAccepted, most_bytes};
+ghost use Rattle.dd_session.specs.Runs.{RanOver, Ended, Decides, IsAccepted};
 ghost use Rattle.dd_session.specs.Samples.{is_memory, LinesOf, SampleEnded};
 
 use crate::checks::check_diddy;
@@ -114,7 +114,7 @@ fn run_bytes<K: Sink, E: Engine>(
     sink: &mut K,
     roster: &mut Roster<E>,
 ) -> Status
-    requires { length bytes.now ≤ most_bytes }
+    requires { length bytes.now ≤ most_script }
     ensures ran { RanOver (told K.held K.faults sink.old sink.new) bytes.now result }
     ensures later { K.faults sink.old ≤ K.faults sink.new }
     ensures roster_kept { Kept (roster_seen E.asked E.given E.sound roster.old) (roster_seen E.asked E.given E.sound roster.new) }
@@ -142,7 +142,7 @@ fn run<S: Source, K: Sink, E: Engine>(
 ) -> Status
     ensures ended { Ended (told S.left S.faults source.old source.new) (told K.held K.faults sink.old sink.new) result }
     ensures ran { result ≢ Status.BadWords }
-    ensures taken { GivesAtMost (S.left source.old) (S.left source.new) (most_bytes + 1) }
+    ensures taken { GivesAtMost (S.left source.old) (S.left source.new) (most_script + 1) }
     ensures source_faults { S.faults source.old ≤ S.faults source.new }
     ensures sink_faults { K.faults sink.old ≤ K.faults sink.new }
     ensures roster_kept { Kept (roster_seen E.asked E.given E.sound roster.old) (roster_seen E.asked E.given E.sound roster.new) }
@@ -263,7 +263,7 @@ pub fn run_diddy<S: Source, K: Sink>(
         Ended (told S.left S.faults source.old source.new) (told K.held K.faults sink.old sink.new) result }
     ensures run_decided { IsOnly (codes "run") (map string_bytes words.now) →
         (bytes : List ℕ) → S.left source.old ≡ Some bytes → Decides bytes result }
-    ensures run_taken { IsOnly (codes "run") (map string_bytes words.now) → GivesAtMost (S.left source.old) (S.left source.new) (most_bytes + 1) }
+    ensures run_taken { IsOnly (codes "run") (map string_bytes words.now) → GivesAtMost (S.left source.old) (S.left source.new) (most_script + 1) }
 
     ensures checked { IsOnly (codes "check") (map string_bytes words.now) →
         CheckEnded (told S.left S.faults source.old source.new) (told K.held K.faults sink.old sink.new) result }

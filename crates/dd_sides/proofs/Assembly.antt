@@ -26,7 +26,8 @@ use Rattle.dd_discharge.specs.declared.bound.Bound.{Bound}
 use Rattle.dd_rows.specs.Asked.{IsVector, AreVectors}
 use Rattle.dd_rows.specs.Domains.{opposite, box_cells}
 use Rattle.dd_rows.specs.Fillings.{look_of, fillings}
-use Rattle.dd_rows.specs.Patterns.{origin, pattern_at, patterns, number_in}
+use Rattle.dd_rows.specs.Patterns.{pattern_at, patterns, number_in}
+use Rattle.dd_boxes.specs.Boxes.{origin}
 use Rattle.dd_rows.specs.Programs.{column_count, cap_row, row_of, rows, origin_weight, one_at}
 use Rattle.dd_discharge.specs.Amounts.{total_below, column_value, MeetRows, held_over}
 use Rattle.dd_discharge.specs.Certificates.{IsBoundCertificate}

@@ -17,7 +17,8 @@ use Rattle.dd_boxes.specs.lemmas.RuleLaws.{from_place, shifted_twice, moved_from
 use Rattle.dd_boxes.specs.lemmas.CutLaws.{flat_moved}
 use Rattle.dd_rows.specs.Fillings.{look_of, words, fillings}
 use Rattle.dd_rows.specs.Laws.{AreCellsOf}
-use Rattle.dd_rows.specs.Patterns.{origin, pattern_at}
+use Rattle.dd_rows.specs.Patterns.{pattern_at}
+use Rattle.dd_boxes.specs.Boxes.{origin}
 use Rattle.dd_rows.specs.Programs.{origin_weight}
 use Rattle.dd_rows.specs.lemmas.AdmissibleLaws.{the_admissible}
 use Rattle.dd_sides.specs.Sides.{position_weight}

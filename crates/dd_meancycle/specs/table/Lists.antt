@@ -3,7 +3,7 @@ use Rattle.std.specs.Prelude.{◌≡◌, ℕ, ◌*◌, ◌/◌, ◌%◌, ◌<◌
 use Rattle.std.specs.Option.{option_map}
 use Rattle.std.specs.List.{Contains, All}
 use Rattle.dd_transfer.specs.Graphs.{Transfer, next_of, weight_at}
-use Rattle.dd_meancycle.specs.Means.{potential}
+use Rattle.dd_transfer.specs.Certificates.{potential_of}
 use Rattle.dd_meancycle.specs.declared.edges.Edge.{Edge}
 use Rattle.dd_meancycle.specs.declared.table.EdgeMean.{EdgeMean}
 use Rattle.dd_meancycle.specs.declared.table.EdgeMean.TheVariants as edge_mean
@@ -24,7 +24,7 @@ AreEdges g edges = AreEdgesTo g (g.states * g.slices) edges
 
 -- along each of the edges the potential rises by at most l times its weight less m
 abbrev pub IsRisen : ℕ → ℕ → List ℤ → List Edge → Type 0
-IsRisen m l ps edges = All (λ e. (potential ps e.to -ℤ potential ps e.from) ≤ℤ (pos (l * e.weight) -ℤ pos m)) edges
+IsRisen m l ps edges = All (λ e. (potential_of ps e.to -ℤ potential_of ps e.from) ≤ℤ (pos (l * e.weight) -ℤ pos m)) edges
 
 -- along each of the edges the rank falls
 abbrev pub IsFallen : List ℕ → List Edge → Type 0

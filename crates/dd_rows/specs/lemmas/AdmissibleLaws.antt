@@ -14,7 +14,8 @@ use Rattle.dd_formula.specs.LocalRule.{LocalRule, is_true, reads_at}
 use Rattle.dd_boxes.specs.Fillings.{place_fits, Admissible}
 use Rattle.dd_rows.specs.Fillings.{look_of, is_kept, is_admissible, words, fillings}
 use Rattle.dd_rows.specs.Laws.{AreCellsOf, AreTheAdmissible}
-use Rattle.dd_rows.specs.listing.Levels.{number_of, IsWord}
+use Rattle.dd_rows.specs.listing.Levels.{IsWord}
+use Rattle.dd_numbered.specs.Numbering.{rank}
 use Rattle.dd_rows.specs.lemmas.Lists.{list_all_true, is_some_get}
 use Rattle.dd_rows.specs.lemmas.Ready.{number_later, equal_from}
 use Rattle.dd_rows.specs.lemmas.Growing.{fillings_are}
@@ -37,7 +38,7 @@ filter_has p (y ∷ xs) x c h = elim (Contains-cons_cases y xs x c) [
   | inr there ↦ kept_later_if (p y) y x (filter p xs) (filter_has p xs x there h)
 ]
 
-kept_at : (p : Cell → Bool) (cs : List Cell) (c : Cell) → list_all p cs ≡ true → number_of cs c < length cs → p c ≡ true
+kept_at : (p : Cell → Bool) (cs : List Cell) (c : Cell) → list_all p cs ≡ true → rank cs c < length cs → p c ≡ true
 kept_at p [] c h low = absurd (omega arith)
 kept_at p (x ∷ cs) c h low = elim (cases_Bool (is_eq (cell_cmp x c))) [
   | inl here ↦ ap p (sym (cells_equal x c (equal_from (cell_cmp x c) here))) ∙ (and_parts (p x) (list_all p cs) h).0
@@ -59,7 +60,7 @@ admissible_holds x cs ss size h = λ v a flat below fits.
     let look = look_of cs ss in
     let c = cell v a in
     let some = (and_parts (is_some (look c)) (list_all (λ d. is_some (look (shifted v d))) (reads_at x a)) fits).0 in
-    let low : number_of cs c < length ss = ltb-true _ _ (sym (is_some_get ss (number_of cs c)) ∙ some) in
+    let low : rank cs c < length ss = ltb-true _ _ (sym (is_some_get ss (rank cs c)) ∙ some) in
     kept_true (place_fits x look c) (is_true x c look) fits (kept_at (is_kept x look) cs c h (omega (arith, low, size)))
 
 pub admissible_shown : (x : LocalRule) (cs : List Cell) (ss : List ℕ) → AreCellsOf x cs → Admissible x (look_of cs ss) → is_admissible x cs ss ≡ true

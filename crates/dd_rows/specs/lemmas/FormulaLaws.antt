@@ -21,7 +21,7 @@ use Rattle.dd_numbered.specs.Numbered.{holds_in}
 use Rattle.dd_numbered.specs.Numbering.{rank, read_by, symbol_with}
 use Rattle.dd_formula.specs.LocalRule.{LocalRule, is_given, is_true}
 use Rattle.dd_rows.specs.Fillings.{look_of}
-use Rattle.dd_rows.specs.listing.Levels.{AreInRange, are_true, is_true_if_given, last_number, number_of, settled}
+use Rattle.dd_rows.specs.listing.Levels.{AreInRange, are_true, is_true_if_given, last_number, settled}
 use Rattle.dd_rows.specs.listing.Formulas.{ranks_near, are_all_true, SaysTrue, SayTrue}
 use Rattle.dd_rows.specs.lemmas.Lists.{list_all_where}
 use Rattle.dd_rows.specs.lemmas.Ready.{fits_when, given_where, number_past_range}
@@ -39,7 +39,7 @@ look_below n cs ss below c = below_at n ss below (position_or_len (λ d. is_eq (
 -- a cell past the range of positions has no symbol
 none_past : (cs : List Cell) (ss : List ℕ) (d : Cell) → AreInRange cs → length ss ≡ length cs → is_in_range d.position ≡ false → None ≡ look_of cs ss d
 none_past cs ss d near size out =
-    let past : number_of cs d ≡ length cs = number_past_range cs near d out in
+    let past : rank cs d ≡ length cs = number_past_range cs near d out in
     sym (ap (slice_get ss) past ∙ slice_get_past ss (length cs) (omega (arith, size)))
 
 -- by the places of the cells their symbols are read

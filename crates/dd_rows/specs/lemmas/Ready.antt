@@ -28,7 +28,8 @@ use Rattle.dd_formula.specs.LocalRule.{LocalRule, is_true, is_given, reads_at, c
 use Rattle.dd_boxes.specs.Fillings.{place_fits}
 use Rattle.dd_boxes.specs.lemmas.RuleLaws.{keeps_at, list_all_weaker}
 use Rattle.dd_rows.specs.Fillings.{look_of, is_kept, is_admissible}
-use Rattle.dd_rows.specs.listing.Levels.{AreInRange, number_of, last_number, settled, is_true_if_given, are_true}
+use Rattle.dd_rows.specs.listing.Levels.{AreInRange, last_number, settled, is_true_if_given, are_true}
+use Rattle.dd_numbered.specs.Numbering.{rank}
 use Rattle.dd_rows.specs.lemmas.Lists.{list_all_agree, list_all_both, list_all_filter, list_all_true, prefix_of_take, is_some_get, get_longer}
 
 -- numbers of cells
@@ -62,17 +63,17 @@ all_below f j n (x ∷ xs) = max_below n (greatest (f x ∷ map f xs)) j ∙ ap 
 cell_total : IsTotalOrder cell_cmp
 cell_total = search (comparing, rules) depth 9
 
-pub number_later : (x c : Cell) (cs : List Cell) → is_eq (cell_cmp x c) ≡ false → number_of (x ∷ cs) c ≡ suc (number_of cs c)
+pub number_later : (x c : Cell) (cs : List Cell) → is_eq (cell_cmp x c) ≡ false → rank (x ∷ cs) c ≡ suc (rank cs c)
 number_later x c cs h = rw h (omega arith)
 
-number_here : (x c : Cell) (cs : List Cell) → is_eq (cell_cmp x c) ≡ true → number_of (x ∷ cs) c ≡ 0
+number_here : (x c : Cell) (cs : List Cell) → is_eq (cell_cmp x c) ≡ true → rank (x ∷ cs) c ≡ 0
 number_here x c cs h = rw h refl
 
 same_cell : (x c : Cell) → x ≡ c → is_eq (cell_cmp x c) ≡ true
 same_cell x c e = ap is_eq (ap (λ z. cell_cmp z c) e ∙ tied_itself cell_total c)
 
 -- the number of a cell in a list in cell order is its place
-pub number_is : (cs : List Cell) → IsStrictlySortedBy cell_cmp cs → (i : ℕ) (c : Cell) → i < length cs → get_or cs i c ≡ c → number_of cs c ≡ i
+pub number_is : (cs : List Cell) → IsStrictlySortedBy cell_cmp cs → (i : ℕ) (c : Cell) → i < length cs → get_or cs i c ≡ c → rank cs c ≡ i
 number_is [] up i c h e = absurd (omega arith)
 number_is (x ∷ cs) up zero c h e = number_here x c cs (same_cell x c e)
 number_is (x ∷ cs) up (suc i) c h e =
@@ -86,44 +87,44 @@ equal_from Equal h = refl
 equal_from Greater h = absurd (false≢true h)
 
 -- a cell that has a number stands in the list
-number_in_range : (cs : List Cell) → AreInRange cs → (c : Cell) → number_of cs c < length cs → IsInRange c.position
+number_in_range : (cs : List Cell) → AreInRange cs → (c : Cell) → rank cs c < length cs → IsInRange c.position
 number_in_range [] near c h = absurd (omega arith)
 number_in_range (x ∷ cs) near c h = elim (cases_Bool (is_eq (cell_cmp x c))) [
   | inl here ↦ subst (λ (d : Cell). IsInRange d.position) (cells_equal x c (equal_from (cell_cmp x c) here)) (near 0 c (omega arith))
   | inr there ↦
       let number = number_later x c cs there in
-      let below : number_of cs c < length cs = omega (arith, number, h) in
+      let below : rank cs c < length cs = omega (arith, number, h) in
       number_in_range cs (λ k d within. near (suc k) d (omega (arith, within))) c below
 ]
 
 -- the symbols of the first cells
 
-pub some_when : (all : List Cell) (j : ℕ) (ss : List ℕ) (c : Cell) → length ss ≡ j → is_some (look_of (take j all) ss c) ≡ nat_lt (number_of all c) j
+pub some_when : (all : List Cell) (j : ℕ) (ss : List ℕ) (c : Cell) → length ss ≡ j → is_some (look_of (take j all) ss c) ≡ nat_lt (rank all c) j
 some_when all j ss c size =
-    is_some_get ss (number_of (take j all) c)
+    is_some_get ss (rank (take j all) c)
     ∙ (ap (λ n. nat_lt n (length ss)) (prefix_of_take (λ d. not (is_eq (cell_cmp d c))) j all)
-    ∙ (ap (nat_lt (min j (number_of all c))) size ∙ min_below j (number_of all c)))
+    ∙ (ap (nat_lt (min j (rank all c))) size ∙ min_below j (rank all c)))
 
 pub fits_when : (x : LocalRule) (all : List Cell) (j : ℕ) (ss : List ℕ) (d : Cell) → length ss ≡ j →
     place_fits x (look_of (take j all) ss) d ≡ nat_lt (last_number x all d) j
 fits_when x all j ss d size =
     let look : Look = look_of (take j all) ss in
-    let below : Cell → Bool = λ e. nat_lt (number_of all (shifted d.position e)) j in
-    and_same (is_some (look d)) (nat_lt (number_of all d) j) (list_all (λ e. is_some (look (shifted d.position e))) (reads_at x d.node)) (list_all below (cells_at x d.node))
+    let below : Cell → Bool = λ e. nat_lt (rank all (shifted d.position e)) j in
+    and_same (is_some (look d)) (nat_lt (rank all d) j) (list_all (λ e. is_some (look (shifted d.position e))) (reads_at x d.node)) (list_all below (cells_at x d.node))
     (some_when all j ss d size)
     (list_all_agree (λ e. is_some (look (shifted d.position e))) below (λ e. some_when all j ss (shifted d.position e) size) (reads_at x d.node)
     ∙ sym (list_all-in_order below (reads_at x d.node)))
-    ∙ sym (all_below (λ e. number_of all (shifted d.position e)) j (number_of all d) (cells_at x d.node))
+    ∙ sym (all_below (λ e. rank all (shifted d.position e)) j (rank all d) (cells_at x d.node))
 
 same_symbol : (all : List Cell) (j : ℕ) (ss : List ℕ) (s : ℕ) (c : Cell) → length ss ≡ j → is_some (look_of (take j all) ss c) ≡ true →
     look_of (take j all) ss c ≡ look_of (take (j + 1) all) (ss ++ s ∷ []) c
 same_symbol all j ss s c size h =
-    let n = number_of all c in
+    let n = rank all c in
     let low : n < j = ltb-true n j (sym (some_when all j ss c size) ∙ h) in
-    let here : number_of (take j all) c ≡ min j n = prefix_of_take (λ d. not (is_eq (cell_cmp d c))) j all in
-    let there : number_of (take (j + 1) all) c ≡ min (j + 1) n = prefix_of_take (λ d. not (is_eq (cell_cmp d c))) (j + 1) all in
-    let same : number_of (take j all) c ≡ number_of (take (j + 1) all) c = omega (arith, low, here, there) in
-    get_longer ss s (number_of (take j all) c) h ∙ ap (slice_get (ss ++ s ∷ [])) same
+    let here : rank (take j all) c ≡ min j n = prefix_of_take (λ d. not (is_eq (cell_cmp d c))) j all in
+    let there : rank (take (j + 1) all) c ≡ min (j + 1) n = prefix_of_take (λ d. not (is_eq (cell_cmp d c))) (j + 1) all in
+    let same : rank (take j all) c ≡ rank (take (j + 1) all) c = omega (arith, low, here, there) in
+    get_longer ss s (rank (take j all) c) h ∙ ap (slice_get (ss ++ s ∷ [])) same
 
 -- where a place fits, the rule says the same of one symbol more
 same_truth : (x : LocalRule) (all : List Cell) (j : ℕ) (ss : List ℕ) (s : ℕ) (d : Cell) → length ss ≡ j → place_fits x (look_of (take j all) ss) d ≡ true →
@@ -145,7 +146,7 @@ given_where x all near j ss d most size fits =
     let look : Look = look_of (take j all) ss in
     list_all_weaker (λ e. is_some (look (shifted d.position e))) (λ e. is_some (seen look d.position e))
     (λ e h.
-    let low : number_of all (shifted d.position e) < j = ltb-true _ _ (sym (some_when all j ss (shifted d.position e) size) ∙ h) in
+    let low : rank all (shifted d.position e) < j = ltb-true _ _ (sym (some_when all j ss (shifted d.position e) size) ∙ h) in
     let there : IsInRange (moved e.position d.position) = number_in_range all near (shifted d.position e) (omega (arith, low, most)) in
     seen_some (is_in_range (moved e.position d.position)) (look (shifted d.position e)) (test_from_in_range (moved e.position d.position) there) h)
     (reads_at x d.node)
@@ -204,7 +205,7 @@ late_kept x all up j ss size i d within =
     let below : j + i < length all = omega (arith, within, rest) in
     let is : c ≡ get_or all (j + i) d = get_or-drop j all i d in
     let at : get_or all (j + i) c ≡ c = get_or_default all (j + i) c d below ∙ sym is in
-    let number : number_of all c ≡ j + i = number_is all up (j + i) c below at in
+    let number : rank all c ≡ j + i = number_is all up (j + i) c below at in
     not_fit (place_fits x look c) (is_true x c look) (fits_when x all j ss c size ∙ le-ltb (last_number x all c) j (omega (arith, number)))
 
 and_with_true : (a b : Bool) → b ≡ true → a ≡ (a && b)
@@ -240,11 +241,11 @@ admissible_parts x all up near j ss s below size =
     ∙ and_turned (list_all now (settled x all j)) (is_admissible x (take j all) ss))))
 
 -- a cell out of range has no number
-pub number_outside : (cs : List Cell) → AreInRange cs → (c : Cell) → (IsInRange c.position → ⊥) → number_of cs c ≡ length cs
-number_outside cs near c outside = elim (cases_lt (number_of cs c) (length cs)) [
+pub number_outside : (cs : List Cell) → AreInRange cs → (c : Cell) → (IsInRange c.position → ⊥) → rank cs c ≡ length cs
+number_outside cs near c outside = elim (cases_lt (rank cs c) (length cs)) [
   | inl below ↦ absurd (outside (number_in_range cs near c below))
   | inr high ↦ (let most = prefix_len-le-length (λ d. not (is_eq (cell_cmp d c))) cs in omega (arith, most, high))
 ]
 
-pub number_past_range : (cs : List Cell) → AreInRange cs → (c : Cell) → is_in_range c.position ≡ false → number_of cs c ≡ length cs
+pub number_past_range : (cs : List Cell) → AreInRange cs → (c : Cell) → is_in_range c.position ≡ false → rank cs c ≡ length cs
 number_past_range cs near c out = number_outside cs near c (λ there. false≢true (sym out ∙ test_from_in_range c.position there))

@@ -1,15 +1,14 @@
 -- The fillings of the first cells, one cell after another.
 use Rattle.std.specs.Prelude.{ℕ, ◌<◌, ◌≡◌, Bool, not, cond, ◌||◌, List, [], ◌∷◌, ◌++◌, map, filter, length, All}
 use Rattle.std.specs.Bool.{nat_eq}
-use Rattle.std.specs.List.{range_with_len, list_all, position_or_len}
-use Rattle.std.specs.Ordering.{is_eq}
+use Rattle.std.specs.List.{range_with_len, list_all}
 use Rattle.dd_lattice.specs.Cells.{shifted}
 use Rattle.dd_lattice.specs.Place.{IsInRange}
-use Rattle.dd_lattice.specs.Order.{cell_cmp}
 use Rattle.dd_lattice.specs.declared.position.Cell.{Cell}
 use Rattle.dd_expansion.specs.Limits.{greatest}
 use Rattle.dd_pattern.specs.Reading.{Look}
 use Rattle.dd_formula.specs.LocalRule.{LocalRule, is_true, is_given, cells_at, rule_allows}
+pub use Rattle.dd_numbered.specs.Numbering.{rank}
 use Rattle.dd_rows.specs.Fillings.{look_of}
 
 -- cells of the rule's nodes
@@ -19,13 +18,9 @@ AreOf x cs = All (λ c. c.node < x.nodes) cs
 abbrev pub AreInRange : List Cell → Type 0
 AreInRange cs = All (λ c. IsInRange c.position) cs
 
--- the number of the cell among the cells, or as many as there are
-abbrev pub number_of : List Cell → Cell → ℕ
-number_of cs c = position_or_len (λ d. is_eq (cell_cmp d c)) cs
-
 -- the greatest number of a place and of the cells that the rule reads there
 abbrev pub last_number : LocalRule → List Cell → Cell → ℕ
-last_number x cs c = greatest (number_of cs c ∷ map (λ d. number_of cs (shifted c.position d)) (cells_at x c.node))
+last_number x cs c = greatest (rank cs c ∷ map (λ d. rank cs (shifted c.position d)) (cells_at x c.node))
 
 -- the places that fit once the cell with the number k has a symbol, and not before
 abbrev pub settled : LocalRule → List Cell → ℕ → List Cell

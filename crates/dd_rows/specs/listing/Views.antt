@@ -10,11 +10,11 @@ use Rattle.dd_lattice.specs.declared.position.Cell.{Cell}
 use Rattle.dd_formula.specs.LocalRule.{LocalRule}
 use Rattle.dd_rows.specs.declared.views.Views.{Views}
 use Rattle.dd_rows.specs.Domains.{opposite, box_cells}
-use Rattle.dd_rows.specs.Patterns.{origin}
-use Rattle.dd_rows.specs.listing.Levels.{number_of}
+use Rattle.dd_boxes.specs.Boxes.{origin}
+use Rattle.dd_numbered.specs.Numbering.{rank}
 
 abbrev pub view_of : List Cell → List Cell → Place → List ℕ
-view_of cs box p = map (λ c. number_of cs (shifted p c)) box
+view_of cs box p = map (λ c. rank cs (shifted p c)) box
 
 -- around the opposite of each vector
 abbrev pub givers_of : List Cell → List Cell → List Place → List (List ℕ)
@@ -22,7 +22,7 @@ givers_of cs box vs = map (λ v. view_of cs box (opposite v)) vs
 
 -- of the cells at the origin
 abbrev pub centre_of : List Cell → ℕ → List ℕ
-centre_of cs nodes = map (λ a. number_of cs (cell origin a)) (range_with_len 0 nodes)
+centre_of cs nodes = map (λ a. rank cs (cell origin a)) (range_with_len 0 nodes)
 
 pub record AreViews (x : LocalRule) (radius : ℕ) (vs : List Place) (cs : List Cell) (v : Views) : Type 0 where
   pub centre : v.centre ≡ centre_of cs x.nodes

@@ -21,7 +21,7 @@ use Rattle.dd_expansion.specs.Placed.{is_flat}
 use Rattle.dd_formula.specs.LocalRule.{LocalRule}
 use Rattle.dd_boxes.specs.lemmas.RuleLaws.{place_same}
 use Rattle.dd_rows.specs.Domains.{opposite, IsInGround, IsGround, cells_on, box_cells}
-use Rattle.dd_rows.specs.Patterns.{origin}
+use Rattle.dd_boxes.specs.Boxes.{origin}
 use Rattle.dd_rows.specs.Laws.{AreCellsOf}
 use Rattle.dd_sides.specs.Lifted.{reach_of}
 use Rattle.dd_sides.specs.lemmas.WordLaws.{flat_map_has, range_has}

@@ -13,7 +13,7 @@ use Rattle.dd_topology.specs.lemmas.OrderLaws.{cell_total}
 use Rattle.dd_lattice.specs.lemmas.ListLaws.{Contains-nil, Contains-cons_cases, Contains-first, Contains-later, Contains-map}
 use Rattle.dd_formula.specs.LocalRule.{LocalRule, rule_allows}
 use Rattle.dd_rows.specs.Fillings.{look_of, choices, words}
-use Rattle.dd_rows.specs.listing.Levels.{number_of}
+use Rattle.dd_rows.specs.listing.Levels.{rank}
 use Rattle.dd_rows.specs.lemmas.Ready.{number_later, equal_from}
 
 -- what is read
@@ -21,7 +21,7 @@ use Rattle.dd_rows.specs.lemmas.Ready.{number_later, equal_from}
 same_cell : (x c : Cell) → x ≡ c → is_eq (cell_cmp x c) ≡ true
 same_cell x c e = ap is_eq (ap (λ z. cell_cmp z c) e ∙ tied_itself cell_total c)
 
-number_first : (x c : Cell) (cs : List Cell) → is_eq (cell_cmp x c) ≡ true → number_of (x ∷ cs) c ≡ 0
+number_first : (x c : Cell) (cs : List Cell) → is_eq (cell_cmp x c) ≡ true → rank (x ∷ cs) c ≡ 0
 number_first x c cs h = rw h refl
 
 read_first : (f : Cell → ℕ) (x c : Cell) (cs : List Cell) → is_eq (cell_cmp x c) ≡ true → look_of (x ∷ cs) (map f (x ∷ cs)) c ≡ Some (f c)
