@@ -15,7 +15,7 @@ use Rattle.dd_discharge.specs.Outcomes.{HasOneOutcome}
 use Rattle.dd_lattice.specs.Order.{cell_cmp}
 use Rattle.dd_lattice.specs.lemmas.InOrderLaws.{cells_equal}
 use Rattle.dd_pattern.specs.declared.periods.Periods.{Periods}
-use Rattle.dd_pattern.specs.Periods.{volume, periods_cmp, residue, IsBefore}
+use Rattle.dd_pattern.specs.Periods.{periods_volume, periods_cmp, residue, IsBefore}
 use Rattle.dd_pattern.specs.Tile.{Tile, IsTile, IsInBox}
 use Rattle.dd_pattern.specs.lemmas.Residues.{residue_below}
 use Rattle.dd_expansion.specs.Placed.{is_flat}
@@ -67,7 +67,7 @@ sheared x y z shear = record { x = x; y = y; z = z; shear = shear }
 
 periods_equal : (p q : Periods) → periods_cmp p q ≡ Equal → p ≡ q
 periods_equal p q h =
-    let sizes = nat_cmp (volume p) (volume q) in
+    let sizes = nat_cmp (periods_volume p) (periods_volume q) in
     let xs = nat_cmp p.x q.x in
     let ys = nat_cmp p.y q.y in
     let zs = nat_cmp p.z q.z in
@@ -85,7 +85,7 @@ periods_total : IsTotalOrder periods_cmp
 periods_total =
     then_total
     (then_total
-    (then_total (then_total (on_total volume nat_cmp_total) (on_total (λ (p : Periods). p.x) nat_cmp_total)) (on_total (λ (p : Periods). p.y) nat_cmp_total))
+    (then_total (then_total (on_total periods_volume nat_cmp_total) (on_total (λ (p : Periods). p.x) nat_cmp_total)) (on_total (λ (p : Periods). p.y) nat_cmp_total))
     (on_total (λ (p : Periods). p.z) nat_cmp_total))
     (on_total (λ (p : Periods). p.shear) nat_cmp_total)
 

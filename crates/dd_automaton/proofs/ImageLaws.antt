@@ -8,7 +8,7 @@ use Rattle.dd_lattice.specs.Place.{Place, moved}
 use Rattle.dd_lattice.specs.Cells.{cell, shifted}
 use Rattle.dd_lattice.specs.declared.position.Cell.{Cell}
 use Rattle.dd_pattern.specs.Periods.{base_of, periods_of}
-use Rattle.dd_pattern.specs.Reading.{Look, IsBelow}
+use Rattle.dd_pattern.specs.Reading.{Look, HasSymbolsBelow}
 use Rattle.dd_pattern.specs.Tile.{Tile, IsTile, IsPeriodic, IsInBox, tile, tile_index, tile_look, cell_in}
 use Rattle.dd_pattern.specs.lemmas.TileLaws.{base_moved, look_same}
 use Rattle.dd_pattern.specs.lemmas.TileSizes.{index_below}
@@ -90,7 +90,7 @@ image_periodic t kept ss as_many = record {
 }
 
 -- the configuration gives symbols of the alphabet, and what is read at the cells of the box is there
-pub tile_is_below : (n : ℕ) (t : Tile) → All (λ s. s < n) t.symbols → IsBelow n (tile_look t)
+pub tile_is_below : (n : ℕ) (t : Tile) → All (λ s. s < n) t.symbols → HasSymbolsBelow n (tile_look t)
 tile_is_below n t h c = by (nat_lt c.node t.nodes)
   where
     by : (b : Bool) → IfSome (cond b (slice_get t.symbols (tile_index t c)) None) (λ s. s < n)

@@ -8,11 +8,11 @@ use Rattle.std.proofs.lemmas.List.{length-set, length-map}
 use Rattle.std.proofs.lemmas.List.Elements.{All-nil, All-cons}
 use Rattle.std.proofs.lemmas.Option.{none-some, option_and_then_some, slice_get_within}
 use Rattle.dd_clause.specs.declared.clause.Literal.{Literal}
-use Rattle.dd_clause.specs.Clauses.{negation, IsInRange}
+use Rattle.dd_clause.specs.Clauses.{negation, IsLiteralInRange}
 use Rattle.dd_derivation.specs.declared.propagation.Finding.{Finding}
 use Rattle.dd_derivation.specs.declared.propagation.Finding.TheVariants.{Falsified, Forced, Open}
 use Rattle.dd_derivation.specs.declared.step.Step.{Step}
-use Rattle.dd_derivation.specs.Derivations.{is_among, finding, clause_of, without, hint_finding, follow, is_conflict, are_deletable, known_after, is_in_range, has_variable, is_proper, is_right, refutes_from, refutes}
+use Rattle.dd_derivation.specs.Derivations.{is_among, finding, clause_of, without, hint_finding, follow, is_conflict, are_deletable, known_after, is_literal_in_range, has_variable, is_proper, is_right, refutes_from, refutes}
 use Rattle.dd_certificate.specs.Bounds.{most_count, most_variable, IsWritableHint, IsWritableStep, IsWritableRefutation}
 
 -- ---- numbers of clauses
@@ -76,18 +76,18 @@ many_after known (d ∷ ds) = many_after (without known d) ds ∙ same_many know
 
 -- ---- steps
 
-in_range : (n : ℕ) (l : Literal) → n ≤ most_variable → is_in_range n l ≡ true → IsInRange most_variable l
+in_range : (n : ℕ) (l : Literal) → n ≤ most_variable → is_literal_in_range n l ≡ true → IsLiteralInRange most_variable l
 in_range n l few is =
     let parts = and_parts (nat_le 1 l.variable) (nat_le l.variable n) is in
     let high : l.variable ≤ n = leb-true l.variable n parts.1 in
     (leb-true 1 l.variable parts.0, omega (arith, high, few))
 
-clause_fits : (n : ℕ) (clause : List Literal) → n ≤ most_variable → is_proper n clause ≡ true → All (IsInRange most_variable) clause
-clause_fits n [] few proper = All-nil (IsInRange most_variable)
+clause_fits : (n : ℕ) (clause : List Literal) → n ≤ most_variable → is_proper n clause ≡ true → All (IsLiteralInRange most_variable) clause
+clause_fits n [] few proper = All-nil (IsLiteralInRange most_variable)
 clause_fits n (l ∷ rest) few proper =
-    let parts = and_parts (is_in_range n l && not (has_variable l.variable rest)) (is_proper n rest) proper in
-    let first = and_parts (is_in_range n l) (not (has_variable l.variable rest)) parts.0 in
-    All-cons (IsInRange most_variable) l rest (in_range n l few first.0) (clause_fits n rest few parts.1)
+    let parts = and_parts (is_literal_in_range n l && not (has_variable l.variable rest)) (is_proper n rest) proper in
+    let first = and_parts (is_literal_in_range n l) (not (has_variable l.variable rest)) parts.0 in
+    All-cons (IsLiteralInRange most_variable) l rest (in_range n l few first.0) (clause_fits n rest few parts.1)
 
 step_fits : (n : ℕ) (known : List (Option (List Literal))) (s : Step) → n ≤ most_variable → length known ≤ most_count → is_right n known s ≡ true → IsWritableStep s
 step_fits n known s small few right =

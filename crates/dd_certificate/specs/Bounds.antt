@@ -1,6 +1,6 @@
 -- The answers that an output can hold: each number within bounds, and each list with as many entries as its line allows.
 use Rattle.std.specs.Prelude.{ℕ, ℤ, ◌≡◌, ◌≤◌, ◌⊎◌, ◌^◌, ◌-◌, List, All, length, unsigned_abs}
-use Rattle.dd_clause.specs.Clauses.{IsInRange}
+use Rattle.dd_clause.specs.Clauses.{IsLiteralInRange}
 use Rattle.dd_derivation.specs.declared.step.Step.{Step}
 use Rattle.dd_certificate.specs.declared.answer.Listed.{Listed}
 use Rattle.dd_certificate.specs.declared.answer.Answer.{Answer}
@@ -32,7 +32,7 @@ abbrev pub IsWritableHint : ℕ → Type 0
 IsWritableHint n = (1 ≤ n) × (n ≤ most_count)
 
 abbrev pub IsWritableStep : Step → Type 0
-IsWritableStep s = All (IsInRange most_variable) s.clause × All IsWritableHint s.hints × All IsWritableHint s.deletes
+IsWritableStep s = All (IsLiteralInRange most_variable) s.clause × All IsWritableHint s.hints × All IsWritableHint s.deletes
 
 abbrev pub IsWritableRefutation : List Step → Type 0
 IsWritableRefutation steps = (1 ≤ length steps) × (length steps ≤ most_count) × All IsWritableStep steps

@@ -4,7 +4,7 @@ use Rattle.std.specs.Prelude.{◌↔◌, slice_index_or}
 use Rattle.std.specs.List.{All}
 use Rattle.std.proofs.lemmas.Nat.{mul-le}
 use Rattle.dd_pattern.specs.declared.periods.Periods.{Periods}
-use Rattle.dd_pattern.specs.Periods.{AreWithin, periods_of, volume}
+use Rattle.dd_pattern.specs.Periods.{AreWithin, periods_of, periods_volume}
 use Rattle.dd_pattern.specs.Tile.{Tile, tile, IsPeriodic}
 use Rattle.dd_formula.specs.LocalRule.{LocalRule, IsRule}
 use Rattle.dd_boxes.specs.declared.limits.Limits.{Limits}
@@ -41,7 +41,7 @@ given_small x most along shear symbols rule few given =
     let rows : p.z * p.y ≤ 8 * 8 = mul-le p.z p.y 8 8 on_z on_y in
     let plane : p.z * p.y * p.x ≤ 8 * 8 * 8 = mul-le (p.z * p.y) p.x (8 * 8) 8 rows on_x in
     let all : p.z * p.y * p.x * x.nodes ≤ 8 * 8 * 8 * 4 = mul-le (p.z * p.y * p.x) x.nodes (8 * 8 * 8) 4 plane rule.nodes.1 in
-    let full : length symbols ≡ volume p * x.nodes = given.tile.full in
+    let full : length symbols ≡ periods_volume p * x.nodes = given.tile.full in
     record { tile = given.tile; small = omega (arith, all, full) }
 
 module _ (x : LocalRule) (most : ℕ) (along : List ℕ) (shear : ℕ) (symbols : List ℕ) (rule : IsRule x) (few : most ≤ 8) (d : ℕ) (dim : d ≡ x.dimension)

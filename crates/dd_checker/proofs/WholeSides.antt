@@ -21,7 +21,7 @@ use Rattle.dd_boxes.specs.lemmas.RuleLaws.{reads_given, keeps_at}
 use Rattle.dd_boxes.specs.lemmas.CutLaws.{cond_domain}
 use Rattle.dd_discharge.specs.declared.bound.Bound.{Bound}
 use Rattle.dd_discharge.specs.Amounts.{held_over}
-use Rattle.dd_sides.specs.Sides.{run, side, is_near_run, is_in_grown, is_grown_cell, IsSideFilling, position_weight, side_weight}
+use Rattle.dd_sides.specs.Sides.{side_length, side, is_near_run, is_in_grown, is_grown_cell, IsSideFilling, position_weight, side_weight}
 use Rattle.dd_sides.specs.Boundaries.{boundary}
 use Rattle.dd_sides.specs.Lifted.{reach_of, HoldsOnSides}
 use Rattle.dd_sides.specs.lemmas.BoxLaws.{IsAt, box_at_most}
@@ -51,7 +51,7 @@ on_near n e i a c low is = grind (arith, ints)
 at_zero : (i : ℕ) (a c : ℤ) → i < 1 → c ≡ a +ℤ pos i → a ≡ pos 0 → c ≡ pos 0
 at_zero i a c low is none = omega (arith, ints, low, is, none)
 
-run_near : (active : Bool) (n e i : ℕ) (a c : ℤ) → i < run active n → c ≡ a +ℤ pos i → (active || int_eq a (pos 0)) ≡ true → is_near_run active n e a c ≡ true
+run_near : (active : Bool) (n e i : ℕ) (a c : ℤ) → i < side_length active n → c ≡ a +ℤ pos i → (active || int_eq a (pos 0)) ≡ true → is_near_run active n e a c ≡ true
 run_near true n e i a c low is flat = on_near n e i a c low is
 run_near false n e i a c low is flat = (Decides-int_eq c (pos 0)).1 (at_zero i a c low is ((Decides-int_eq a (pos 0)).0 flat))
 

@@ -4,7 +4,7 @@ use Rattle.std.specs.List.{All}
 use Rattle.std.proofs.lemmas.Bool.{cases_lt}
 use Rattle.std.proofs.lemmas.Nat.{mul-le}
 use Rattle.std.proofs.lemmas.List.Elements.{All-from_get_or}
-use Rattle.dd_pattern.specs.Periods.{volume}
+use Rattle.dd_pattern.specs.Periods.{periods_volume}
 use Rattle.dd_pattern.specs.Tile.{Tile, IsPeriodic}
 use Rattle.dd_derivation.specs.declared.step.Step.{Step}
 use Rattle.dd_formula.specs.LocalRule.{LocalRule, IsRule}
@@ -82,7 +82,7 @@ module _ (l : Limits) (x : LocalRule) (g : GoalOf) (along : List ℕ) (shear : �
       let rows : 1 ≤ p.z * p.y = mul-le 1 1 p.z p.y are.z_some are.y_some in
       let plane : 1 ≤ p.z * p.y * p.x = mul-le 1 1 (p.z * p.y) p.x rows are.x_some in
       let all : 1 ≤ p.z * p.y * p.x * x.nodes = mul-le 1 1 (p.z * p.y * p.x) x.nodes plane rule.nodes.0 in
-      let full : length symbols ≡ volume p * x.nodes = told.witness.tile.full in
+      let full : length symbols ≡ periods_volume p * x.nodes = told.witness.tile.full in
       omega (arith, all, full)
 
   symbols_writable : All IsWritableNumber symbols

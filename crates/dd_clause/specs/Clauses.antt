@@ -4,12 +4,12 @@ use Rattle.std.specs.List.{list_any}
 use Rattle.dd_clause.specs.declared.clause.Literal.{Literal}
 
 -- the literal's variable is one of 1..n
-abbrev pub IsInRange : ℕ → Literal → Type 0
-IsInRange n l = (1 ≤ l.variable) × (l.variable ≤ n)
+abbrev pub IsLiteralInRange : ℕ → Literal → Type 0
+IsLiteralInRange n l = (1 ≤ l.variable) × (l.variable ≤ n)
 
 -- each variable of the clause is one of 1..n
 abbrev pub IsClauseInRange : ℕ → List Literal → Type 0
-IsClauseInRange n clause = All (IsInRange n) clause
+IsClauseInRange n clause = All (IsLiteralInRange n) clause
 
 -- the literal of the same variable with the other sign
 abbrev pub negation : Literal → Literal

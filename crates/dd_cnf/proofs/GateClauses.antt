@@ -5,7 +5,7 @@ use Rattle.std.proofs.lemmas.List.Elements.{All-cons, All-map, All-take}
 use Rattle.std.specs.Prelude.{◌-◌}
 use Rattle.std.specs.List.{All}
 use Rattle.dd_clause.specs.declared.clause.Literal.{Literal}
-use Rattle.dd_clause.specs.Clauses.{IsInRange, IsClauseInRange}
+use Rattle.dd_clause.specs.Clauses.{IsLiteralInRange, IsClauseInRange}
 use Rattle.dd_circuit.specs.declared.gates.Signal.{Signal}
 use Rattle.dd_circuit.specs.Circuits.{IsSignal, IsGate, AreGates}
 use Rattle.dd_circuit.specs.lemmas.GateLists.{AreGates-drop, gate_within}
@@ -36,9 +36,9 @@ clauses_step before now new n variable gs i g within here number so_far pushed =
 
 -- the last clause of And and Or is over the circuit's variables
 pub last_in_range : (n : ℕ) (gate : Literal) (sign : Bool) (members : List Signal) (literals : List Literal) (i : ℕ) →
-    literals ≡ gate ∷ map (signed sign) (take i members) → IsInRange n gate → All (IsSignal n) members → IsClauseInRange n literals
+    literals ≡ gate ∷ map (signed sign) (take i members) → IsLiteralInRange n gate → All (IsSignal n) members → IsClauseInRange n literals
 last_in_range n gate sign members literals i is first rest =
-    rw is (All-cons (IsInRange n) gate (map (signed sign) (take i members)) first (All-map (IsInRange n) (signed sign) (take i members) (All-take (IsSignal n) i members rest)))
+    rw is (All-cons (IsLiteralInRange n) gate (map (signed sign) (take i members)) first (All-map (IsLiteralInRange n) (signed sign) (take i members) (All-take (IsSignal n) i members rest)))
 
 -- each gate from `from` on is over the circuit's variables
 pub gate_from : (n m from : ℕ) (gs : List Gate) (i : ℕ) (g : Gate) → from ≤ length gs → n + length gs ≤ m → AreGates n gs →

@@ -1,7 +1,7 @@
 // A gate's clauses allow its variable one value for each choice of its members' values: that of the
 // gate. So the clauses of all gates leave the inputs free, and fix everything else.
 ghost use Rattle.std.specs.Prelude.{◌≡◌, ◌+◌, ◌≤◌, ◌∷◌, ◌++◌, [], drop, length, All, IfOk, OnOk, OnErr};
-ghost use Rattle.dd_clause.specs.Clauses.{IsInRange, IsClauseInRange};
+ghost use Rattle.dd_clause.specs.Clauses.{IsLiteralInRange, IsClauseInRange};
 ghost use Rattle.dd_circuit.specs.Circuits.{IsSignal, IsGate, size};
 ghost use Rattle.dd_cnf.specs.Encoding as spec;
 ghost use Rattle.dd_cnf.specs.Models.{HasValuesAsModels};
@@ -51,7 +51,7 @@ fn push_joint(
     gate: Literal,
     members: &[Signal],
 ) -> Result<(), AllocError>
-    requires gate { IsInRange cnf.old.variables gate }
+    requires gate { IsLiteralInRange cnf.old.variables gate }
     requires members { All (IsSignal cnf.old.variables) members.now }
     ensures variables { cnf.new.variables ≡ cnf.old.variables }
     ensures ok { OnOk result (cnf.new.clauses
@@ -78,9 +78,9 @@ fn push_iff(
     a: Literal,
     b: Literal,
 ) -> Result<(), AllocError>
-    requires gate { IsInRange cnf.old.variables gate }
-    requires first { IsInRange cnf.old.variables a }
-    requires second { IsInRange cnf.old.variables b }
+    requires gate { IsLiteralInRange cnf.old.variables gate }
+    requires first { IsLiteralInRange cnf.old.variables a }
+    requires second { IsLiteralInRange cnf.old.variables b }
     ensures variables { cnf.new.variables ≡ cnf.old.variables }
     ensures ok { OnOk result (cnf.new.clauses ≡ cnf.old.clauses ++ spec.iff_clauses gate a b) }
 {

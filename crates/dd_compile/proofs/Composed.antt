@@ -16,7 +16,7 @@ use Rattle.dd_lattice.specs.lemmas.ListLaws.{Contains-cons_cases, Contains-map, 
 use Rattle.dd_lattice.specs.lemmas.MoveLaws.{place_cmp-moved}
 use Rattle.dd_topology.specs.lemmas.ListLaws.{into_flat_map}
 use Rattle.dd_topology.specs.lemmas.OrderLaws.{cell_total}
-use Rattle.dd_pattern.specs.Reading.{Look, IsBelow}
+use Rattle.dd_pattern.specs.Reading.{Look, HasSymbolsBelow}
 use Rattle.dd_expansion.specs.Truth.{is_symbol}
 use Rattle.dd_expansion.specs.lemmas.ListTests.{list_all-alike, list_all-flat_map}
 use Rattle.std.proofs.lemmas.List.Folds.{list_all-map}
@@ -160,7 +160,7 @@ module _ (k : ℕ) (f g : Automaton) (w : Wiring) (at : Cell) (start one : Netwo
     one_each = h.one_each;
     says = λ set look ok below tells.
         let given : Look = λ c. Some (value g look c) in
-        let given_below : IsBelow k given = λ c. subst (λ n. value g look c < n) all (value_below s g inner.fits look c) in
+        let given_below : HasSymbolsBelow k given = λ c. subst (λ n. value g look c < n) all (value_below s g inner.fits look c) in
         let read : TellsCells set w (flat_map (λ (c : Cell). map (shifted c.position) ((counted g).reads c.node)) ((counted f).reads at.node)) at look =
         subst (λ (x : Counted). TellsCells set w (x.reads at.node) at look) (counted_composed f g) tells in
         let outer : TellsCells set values ((counted f).reads at.node) at given =

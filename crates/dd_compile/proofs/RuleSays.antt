@@ -13,7 +13,7 @@ use Rattle.dd_lattice.specs.lemmas.InOrderLaws.{cells_equal}
 use Rattle.dd_lattice.specs.lemmas.ListLaws.{Contains-first, Contains-later}
 use Rattle.dd_topology.specs.lemmas.ListLaws.{some_passes, passes_any}
 use Rattle.dd_topology.specs.lemmas.OrderLaws.{cell_total}
-use Rattle.dd_pattern.specs.Reading.{Look, IsBelow}
+use Rattle.dd_pattern.specs.Reading.{Look, HasSymbolsBelow}
 use Rattle.dd_expansion.specs.declared.expanded.Expanded.{Expanded}
 use Rattle.dd_expansion.specs.Leaves.{LeafTest, leaves_pass}
 use Rattle.dd_expansion.specs.Truth.{is_symbol}
@@ -52,7 +52,7 @@ told n set false o value h tell = absurd (cc)
 
 -- The gates alone that are added decide what the signal says.
 pub rule_says : (n : ℕ) (w : Wiring) (r : LocalRule) → 1 ≤ r.symbols → (c : Cell) → are_wired n (wires_near w c.position) (expansion_at r c.node) ≡ true →
-    (set : ℕ → Bool) (look : Look) → agrees set n (compiled w c.position (expansion_at r c.node) n).gates ≡ true → IsBelow r.symbols look → TellsReads set w r c look →
+    (set : ℕ → Bool) (look : Look) → agrees set n (compiled w c.position (expansion_at r c.node) n).gates ≡ true → HasSymbolsBelow r.symbols look → TellsReads set w r c look →
     signal_value set (compiled w c.position (expansion_at r c.node) n).signal ≡ is_true r c look
 rule_says n w r some c wired set look ok below tells =
     let e = expansion_at r c.node in

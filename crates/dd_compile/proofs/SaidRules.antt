@@ -9,7 +9,7 @@ use Rattle.std.proofs.lemmas.List.Elements.{All-cons, All-push, All-weaker, Cont
 use Rattle.dd_lattice.specs.Cells.{shifted}
 use Rattle.dd_lattice.specs.declared.position.Cell.{Cell}
 use Rattle.dd_topology.specs.Topology.{extent}
-use Rattle.dd_pattern.specs.Reading.{Look, IsBelow}
+use Rattle.dd_pattern.specs.Reading.{Look, HasSymbolsBelow}
 use Rattle.dd_formula.specs.LocalRule.{LocalRule, IsRule, is_true, expansion_at, reads_at}
 use Rattle.dd_formula.specs.Automata.{Setting, Counted, counted, cases_fit, cases_reads, rule_has}
 use Rattle.dd_formula.specs.declared.automaton.Automaton.{Automaton}
@@ -62,7 +62,7 @@ module _ (s : Setting) (w : Wiring) (at : Cell) (node : at.node < s.nodes) (inne
   pub record RulesSay (cases : List (LocalRule × ℕ)) (n : ℕ) : Type 0 where
     pub gates : AreGates n (rules_made w at cases n).gates
     pub in_range : All (IsSignal (n + length (rules_made w at cases n).gates)) (rules_made w at cases n).signals
-    pub says : (t : Setting) (set : ℕ → Bool) (look : Look) → has_all t cases ≡ true → agrees set n (rules_made w at cases n).gates ≡ true → IsBelow t.symbols look →
+    pub says : (t : Setting) (set : ℕ → Bool) (look : Look) → has_all t cases ≡ true → agrees set n (rules_made w at cases n).gates ≡ true → HasSymbolsBelow t.symbols look →
         TellsCells set w (cases_reads cases at.node) at look → map (signal_value set) (rules_made w at cases n).signals ≡ map (λ (case : LocalRule × ℕ). is_true case.0 at look) cases
 
   rules_say : (m : ℕ) (cases : List (LocalRule × ℕ)) → All (λ (x : LocalRule × ℕ). IsRule x.0) cases → has_all s cases ≡ true →
@@ -93,7 +93,7 @@ module _ (s : Setting) (w : Wiring) (at : Cell) (node : at.node < s.nodes) (inne
             let fit_parts = and_parts (rule_has t case.0 && nat_lt case.1 t.symbols) (has_all t cases) fit in
             let symbols = rule_symbols t case.0 (and_parts (rule_has t case.0) (nat_lt case.1 t.symbols) fit_parts.0).0 in
             let here : signal_value set one.signal ≡ is_true case.0 at look =
-            rule_says n w case.0 rule.symbols.0 at leaf set look parts.0 (subst (λ k. IsBelow k look) (sym symbols) below)
+            rule_says n w case.0 rule.symbols.0 at leaf set look parts.0 (subst (λ k. HasSymbolsBelow k look) (sym symbols) below)
             (λ d u y there wire. tells d u y (Contains-append_left (reads_at case.0 at.node) (cases_reads cases at.node) d there) wire) in
             let later = rest.says t set look fit_parts.1 parts.1 below (λ d u y there wire. tells d u y (Contains-append_right (reads_at case.0 at.node) (cases_reads cases at.node) d there) wire) in
             λ i. here i ∷ later i;

@@ -4,7 +4,7 @@ use Rattle.std.specs.List.{Contains, list_all}
 use Rattle.dd_lattice.specs.Place.{Place, moved, is_in_range}
 use Rattle.dd_lattice.specs.Cells.{shifted}
 use Rattle.dd_lattice.specs.declared.position.Cell.{Cell}
-use Rattle.dd_pattern.specs.Reading.{Look, IsBelow}
+use Rattle.dd_pattern.specs.Reading.{Look, HasSymbolsBelow}
 use Rattle.dd_expansion.specs.Truth.{is_symbol}
 use Rattle.dd_formula.specs.LocalRule.{LocalRule, reads_at, is_true}
 use Rattle.dd_circuit.specs.declared.gates.Signal.{Signal}
@@ -38,5 +38,5 @@ TellsReads set w r c look =
 -- whether the rule is true at c.
 abbrev pub SaysTruth : Network → Wiring → LocalRule → Cell → Signal → Type 0
 SaysTruth circuit w r c signal =
-    (set : ℕ → Bool) (look : Look) → agrees set circuit.inputs circuit.gates ≡ true → IsBelow r.symbols look → TellsReads set w r c look →
+    (set : ℕ → Bool) (look : Look) → agrees set circuit.inputs circuit.gates ≡ true → HasSymbolsBelow r.symbols look → TellsReads set w r c look →
     signal_value set signal ≡ is_true r c look

@@ -3,7 +3,7 @@ use Rattle.std.specs.Prelude.{ℕ, ◌≡◌, ◌<◌, ◌==◌, Bool, true, Lis
 use Rattle.std.specs.List.{Contains, list_all}
 use Rattle.dd_lattice.specs.Cells.{shifted}
 use Rattle.dd_lattice.specs.declared.position.Cell.{Cell}
-use Rattle.dd_pattern.specs.Reading.{Look, IsBelow}
+use Rattle.dd_pattern.specs.Reading.{Look, HasSymbolsBelow}
 use Rattle.dd_expansion.specs.Truth.{is_symbol}
 use Rattle.dd_formula.specs.LocalRule.{LocalRule, is_true}
 use Rattle.dd_formula.specs.Automata.{Setting, IsAutomaton, cases_fit, cases_reads, counted, first_case, value}
@@ -48,7 +48,7 @@ pub record AreCasesWired (n : ℕ) (w : Wiring) (c : Cases) (at : Cell) : Type 0
 -- whether the rules of these of the cases are true there.
 abbrev pub CasesSay : Network → Wiring → Cases → Cell → List (LocalRule × ℕ) → List Signal → Type 0
 CasesSay circuit w c at some signals =
-    (s : Setting) (set : ℕ → Bool) (look : Look) → cases_fit s c.cases c.otherwise ≡ true → agrees set circuit.inputs circuit.gates ≡ true → IsBelow s.symbols look →
+    (s : Setting) (set : ℕ → Bool) (look : Look) → cases_fit s c.cases c.otherwise ≡ true → agrees set circuit.inputs circuit.gates ≡ true → HasSymbolsBelow s.symbols look →
     TellsCells set w (cases_reads c.cases at.node) at look → map (signal_value set) signals ≡ map (λ case. is_true case.0 at look) some
 
 -- The same of a value: of each of k symbols the signal says whether it is the value.
@@ -57,12 +57,12 @@ SaysWhich set signals symbol = (s : ℕ) (x : Signal) → slice_get signals s �
 
 pub record SaysCases (circuit : Network) (w : Wiring) (k : ℕ) (cases : Cases) (c : Cell) (signals : List Signal) : Type 0 where
   pub one_each : length signals ≡ k
-  pub says : (set : ℕ → Bool) (look : Look) → agrees set circuit.inputs circuit.gates ≡ true → IsBelow k look → TellsCells set w (cases_reads cases.cases c.node) c look →
+  pub says : (set : ℕ → Bool) (look : Look) → agrees set circuit.inputs circuit.gates ≡ true → HasSymbolsBelow k look → TellsCells set w (cases_reads cases.cases c.node) c look →
       SaysWhich set signals (first_case cases.cases cases.otherwise look c)
 
 -- Where the circuit's gates have their values, and the inputs tell the symbols that the automaton reads at c, each of k symbols has
 -- a signal, which says whether the automaton's value at c is that symbol.
 pub record SaysValue (circuit : Network) (w : Wiring) (k : ℕ) (f : Automaton) (c : Cell) (signals : List Signal) : Type 0 where
   pub one_each : length signals ≡ k
-  pub says : (set : ℕ → Bool) (look : Look) → agrees set circuit.inputs circuit.gates ≡ true → IsBelow k look → TellsCells set w ((counted f).reads c.node) c look →
+  pub says : (set : ℕ → Bool) (look : Look) → agrees set circuit.inputs circuit.gates ≡ true → HasSymbolsBelow k look → TellsCells set w ((counted f).reads c.node) c look →
       SaysWhich set signals (value f look c)

@@ -2,7 +2,7 @@
 use Rattle.std.specs.Prelude.{ℕ, ◌≡◌, ◌<◌, ◌≤◌, ◌+◌, ◌-◌, ◌*◌, ◌^◌, Bool, true, All, length}
 use Rattle.dd_lattice.specs.declared.position.Cell.{Cell}
 use Rattle.dd_topology.specs.Topology.{extent}
-use Rattle.dd_pattern.specs.Reading.{Look, IsBelow}
+use Rattle.dd_pattern.specs.Reading.{Look, HasSymbolsBelow}
 use Rattle.dd_formula.specs.Automata.{Setting, IsAutomaton, counted, value}
 use Rattle.dd_formula.specs.declared.automaton.Automaton.{Automaton}
 use Rattle.dd_circuit.specs.Circuits.{IsSignal, AreGates, agrees}
@@ -17,7 +17,7 @@ pub record IsMadeValue (n k : ℕ) (f : Automaton) (w : Wiring) (at : Cell) (m :
   pub gates : AreGates n m.gates
   pub one_each : length m.signals ≡ k
   pub in_range : All (IsSignal (n + length m.gates)) m.signals
-  pub says : (set : ℕ → Bool) (look : Look) → agrees set n m.gates ≡ true → IsBelow k look → TellsCells set w ((counted f).reads at.node) at look →
+  pub says : (set : ℕ → Bool) (look : Look) → agrees set n m.gates ≡ true → HasSymbolsBelow k look → TellsCells set w ((counted f).reads at.node) at look →
       SaysWhich set m.signals (value f look at)
 
 -- the gates of the automaton's value do, so near the origin that nothing that compositions of this depth read leaves the range of

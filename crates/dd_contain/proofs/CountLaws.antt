@@ -6,7 +6,7 @@ use Rattle.std.proofs.lemmas.Int.{ints}
 use Rattle.std.proofs.lemmas.Nat.{mul-le}
 use Rattle.dd_lattice.specs.Boxes.{span, centred, volume}
 use Rattle.dd_pattern.specs.declared.periods.Periods.{Periods}
-use Rattle.dd_pattern.specs.Periods.{AreWithin, volume as tile_volume}
+use Rattle.dd_pattern.specs.Periods.{AreWithin, periods_volume as tile_volume}
 use Rattle.dd_formula.specs.LocalRule.{LocalRule}
 use Rattle.dd_formula.specs.Counts.{place_clauses, largest_region, largest_clauses}
 use Rattle.dd_boxes.specs.Goals.{GoalOf}

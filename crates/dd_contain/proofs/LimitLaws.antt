@@ -16,7 +16,7 @@ use Rattle.dd_boxes.specs.lemmas.RuleLaws.{list_all_weaker}
 use Rattle.dd_boxes.specs.lemmas.ReachLaws.{box_from_within}
 use Rattle.dd_boxes.specs.lemmas.FromBox.{from_least}
 use Rattle.dd_pattern.specs.declared.periods.Periods.{Periods}
-use Rattle.dd_pattern.specs.Periods.{AreWithin, volume as tile_volume}
+use Rattle.dd_pattern.specs.Periods.{AreWithin, periods_volume as tile_volume}
 use Rattle.dd_contain.specs.declared.decision.Decision.{Decision}
 use Rattle.dd_contain.specs.declared.decision.Decision.TheVariants.{Yes, No, Unknown}
 use Rattle.dd_contain.specs.Decided.{IsDecidedBy}

@@ -8,7 +8,7 @@ use Rattle.std.proofs.lemmas.Cmp.{nat_cmp_total, on_total, then_total, tied_itse
 use Rattle.std.proofs.lemmas.Map.Keys.{Less-from_sorted}
 use Rattle.std.proofs.lemmas.Option.{slice_get_within, slice_get_read, get_or_from_slice_get}
 use Rattle.dd_pattern.specs.declared.periods.Periods.{Periods}
-use Rattle.dd_pattern.specs.Periods.{volume, periods_cmp, IsBefore, AreAllWithin}
+use Rattle.dd_pattern.specs.Periods.{periods_volume, periods_cmp, IsBefore, AreAllWithin}
 use Rattle.dd_contain.specs.Decided.{IsFirst, NoneWithin}
 use Rattle.dd_contain.specs.searching.Listed.{NoneBefore, IsFirstOf}
 
@@ -16,7 +16,7 @@ periods_total : IsTotalOrder periods_cmp
 periods_total =
     then_total
     (then_total
-    (then_total (then_total (on_total volume nat_cmp_total) (on_total (λ (p : Periods). p.x) nat_cmp_total)) (on_total (λ (p : Periods). p.y) nat_cmp_total))
+    (then_total (then_total (on_total periods_volume nat_cmp_total) (on_total (λ (p : Periods). p.x) nat_cmp_total)) (on_total (λ (p : Periods). p.y) nat_cmp_total))
     (on_total (λ (p : Periods). p.z) nat_cmp_total))
     (on_total (λ (p : Periods). p.shear) nat_cmp_total)
 

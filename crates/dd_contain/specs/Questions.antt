@@ -5,7 +5,7 @@ use Rattle.dd_derivation.specs.declared.step.Step.{Step}
 use Rattle.dd_derivation.specs.Derivations.{refutes}
 use Rattle.dd_lattice.specs.Boxes.{centred, volume}
 use Rattle.dd_pattern.specs.declared.periods.Periods.{Periods}
-use Rattle.dd_pattern.specs.Periods.{volume as tile_volume}
+use Rattle.dd_pattern.specs.Periods.{periods_volume as tile_volume}
 use Rattle.dd_pattern.specs.Tile.{Tile}
 use Rattle.dd_formula.specs.Counts.{largest_clauses}
 use Rattle.dd_formula.specs.LocalRule.{LocalRule}

@@ -7,8 +7,8 @@ use Rattle.dd_formula.specs.LocalRule.{LocalRule, cells_at}
 use Rattle.dd_formula.specs.Reach.{all_cells}
 
 -- the ways to fill the cells that a rule reads at a node
-abbrev pub patterns : LocalRule → ℕ → ℕ
-patterns r a = r.symbols ^ length (cells_at r a)
+abbrev pub pattern_count : LocalRule → ℕ → ℕ
+pattern_count r a = r.symbols ^ length (cells_at r a)
 
 -- the lesser of a number and the least x of the cells, and the greater of a number and the greatest x
 abbrev pub least_x : ℤ → List Cell → ℤ
@@ -18,12 +18,12 @@ abbrev pub greatest_x : ℤ → List Cell → ℤ
 greatest_x from cs = fold (λ x c. int_max x c.position.x) from cs
 
 -- the number of slices from the first to the last of those that the rule reads, its own among them
-abbrev pub span : LocalRule → ℕ
-span r = unsigned_abs (greatest_x (pos 0) (all_cells r) -ℤ least_x (pos 0) (all_cells r)) + 1
+abbrev pub slice_span : LocalRule → ℕ
+slice_span r = unsigned_abs (greatest_x (pos 0) (all_cells r) -ℤ least_x (pos 0) (all_cells r)) + 1
 
 -- the number of slices of a state of the transfer graph
 abbrev pub window : LocalRule → ℕ
-window r = max 1 (span r - 1)
+window r = max 1 (slice_span r - 1)
 
 -- the fillings of a slice of so many positions
 abbrev pub slices : LocalRule → ℕ → ℕ

@@ -1,7 +1,7 @@
 //! Counts of rules.
 ghost use Rattle.std.specs.Prelude.{◌≡◌, ◌^◌, ◌<◌, ◌≤◌};
 ghost use Rattle.dd_formula.specs.Counts.{cut};
-ghost use Rattle.dd_counts.specs.Rules.{patterns, least_x, greatest_x, span, window, slices, states, longer_states};
+ghost use Rattle.dd_counts.specs.Rules.{pattern_count, least_x, greatest_x, slice_span, window, slices, states, longer_states};
 
 use crate::arithmetic::power;
 use dd_formula::Rule;
@@ -12,7 +12,7 @@ use dd_lattice::Cell;
 pub fn patterns(rule: &Rule, node: u32, limit: u32) -> u32
     requires node { node < rule.now.nodes }
     requires limit { limit < 2 ^ 31 }
-    ensures { result ≡ cut limit (patterns rule.now node) }
+    ensures { result ≡ cut limit (pattern_count rule.now node) }
 {
     power(limit, rule.symbols(), rule.reads(node).len() as u64)
 }
@@ -45,7 +45,7 @@ fn greatest_x(from: i32, cells: &[Cell]) -> i32
 
 /// The number of slices from the first to the last of those that the rule reads, its own among them.
 fn span(rule: &Rule) -> u64
-    ensures value { result ≡ span rule.now }
+    ensures value { result ≡ slice_span rule.now }
     ensures small { result ≤ 2 ^ 32 }
 {
     let mut least = 0;

@@ -63,15 +63,15 @@ known_after known [] = known
 known_after known (d ∷ ds) = known_after (without known d) ds
 
 -- the literals' variables are distinct, and between 1 and n
-abbrev pub is_in_range : ℕ → Literal → Bool
-is_in_range n l = nat_le 1 l.variable && nat_le l.variable n
+abbrev pub is_literal_in_range : ℕ → Literal → Bool
+is_literal_in_range n l = nat_le 1 l.variable && nat_le l.variable n
 
 abbrev pub has_variable : ℕ → List Literal → Bool
 has_variable v literals = list_any (λ l. l.variable == v) literals
 
 abbrev pub is_proper : ℕ → List Literal → Bool
 is_proper n [] = true
-is_proper n (l ∷ rest) = (is_in_range n l && not (has_variable l.variable rest)) && is_proper n rest
+is_proper n (l ∷ rest) = (is_literal_in_range n l && not (has_variable l.variable rest)) && is_proper n rest
 
 -- where the literals of the step's clause are false, its hints end in a conflict, so that the clause follows
 abbrev pub is_right : ℕ → List (Option (List Literal)) → Step → Bool

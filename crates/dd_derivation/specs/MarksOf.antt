@@ -6,7 +6,7 @@ use Rattle.dd_clause.specs.declared.clause.Literal.{Literal}
 use Rattle.dd_clause.specs.Clauses.{negation}
 use Rattle.dd_derivation.specs.declared.propagation.VariableMark.{VariableMark}
 use Rattle.dd_derivation.specs.declared.step.Step.{Step}
-use Rattle.dd_derivation.specs.Derivations.{same_literal, is_among, is_in_range, clause_of, clauses_before}
+use Rattle.dd_derivation.specs.Derivations.{same_literal, is_among, is_literal_in_range, clause_of, clauses_before}
 
 -- the clauses by number that are alive
 abbrev pub known_of : List (List Literal) → List Bool → List (Option (List Literal))
@@ -29,7 +29,7 @@ is_marked marks step l =
 -- the marks with one more literal that is false, if its variable has a mark
 abbrev pub marked : List VariableMark → ℕ → Literal → List VariableMark
 marked marks step l =
-    if is_in_range (length marks) l
+    if is_literal_in_range (length marks) l
     then slice_set marks (l.variable - 1) (record { step = step; positive = l.positive })
     else marks
 
@@ -50,7 +50,7 @@ is_false_unmarked seen l = option_map_or (λ m. same_literal l (negation m)) (fi
 -- the literal is false by its mark, or by the literals of the clauses hinted at so far
 abbrev pub is_false : List VariableMark → ℕ → List Literal → Literal → Bool
 is_false marks step seen l =
-    if is_in_range (length marks) l then is_marked marks step l else is_false_unmarked seen l
+    if is_literal_in_range (length marks) l then is_marked marks step l else is_false_unmarked seen l
 
 -- the marks and the hinted clauses tell which literals are in the list
 abbrev pub FalsesAre : List VariableMark → ℕ → List Literal → List Literal → Type 0

@@ -7,7 +7,7 @@ use Rattle.std.proofs.lemmas.Bool.{cases_Bool, or_cases, or_left, or_right, fals
 use Rattle.std.proofs.lemmas.List.{take_more, take_all, reverse-append}
 use Rattle.std.proofs.lemmas.List.Folds.{list_any-append}
 use Rattle.dd_clause.specs.declared.clause.Literal.{Literal}
-use Rattle.dd_clause.specs.Clauses.{negation, IsInRange, IsClauseInRange}
+use Rattle.dd_clause.specs.Clauses.{negation, IsLiteralInRange, IsClauseInRange}
 use Rattle.dd_derivation.specs.declared.propagation.Finding.{Finding}
 use Rattle.dd_derivation.specs.declared.propagation.Finding.TheVariants.{Falsified, Forced, Open}
 use Rattle.dd_derivation.specs.Derivations.{same_literal, is_among, finding_of, finding, clause_of, is_conflict}
@@ -139,11 +139,11 @@ pub leads_reversed : (cs : List (List Literal)) (entries : List Entry) (j : ℕ)
 leads_reversed cs entries j marked hints h w = subst (Leads cs entries j marked) (sym (reverse-append hints (h ∷ []))) w
 
 -- an entry's variable is one of the clauses'
-pub entry_in_range : (n : ℕ) (cs : List (List Literal)) (entries : List Entry) (j : ℕ) (d : Entry) → All (IsClauseInRange n) cs → IsTrail cs entries → j < length entries → IsInRange n (get_or entries j d).literal
+pub entry_in_range : (n : ℕ) (cs : List (List Literal)) (entries : List Entry) (j : ℕ) (d : Entry) → All (IsClauseInRange n) cs → IsTrail cs entries → j < length entries → IsLiteralInRange n (get_or entries j d).literal
 entry_in_range n cs entries j d all trail lt =
     let e = get_or entries j d in
     let forced : IsForced cs (take j entries) e = trail j d lt in
-    forced_has (IsInRange n) (is_among (falses (take j entries))) (get_or cs e.number []) e.literal (all e.number [] forced.within) forced.forced
+    forced_has (IsLiteralInRange n) (is_among (falses (take j entries))) (get_or cs e.number []) e.literal (all e.number [] forced.within) forced.forced
 
 -- a marked clause, as it is read
 pub marked_clause : (cs : List (List Literal)) (k : ℕ) (c literals : List Literal) (marked : List Bool) → k < length cs → c ≡ get_or cs k c → literals ≡ c → AreMarked marked literals → AreMarked marked (get_or cs k [])

@@ -12,10 +12,10 @@ use Rattle.std.proofs.lemmas.Grind.{get_or-set_at}
 use Rattle.std.proofs.lemmas.List.Sums.{sum_by-set}
 use Rattle.std.proofs.lemmas.List.Elements.{All-head, All-tail, All-same, All-filter, filter_passes, filter_agree}
 use Rattle.dd_clause.specs.declared.clause.Literal.{Literal}
-use Rattle.dd_clause.specs.Clauses.{negation, IsInRange, IsClauseInRange, ClauseList}
+use Rattle.dd_clause.specs.Clauses.{negation, IsLiteralInRange, IsClauseInRange, ClauseList}
 use Rattle.dd_derivation.specs.declared.propagation.Finding.TheVariants.{Falsified, Forced, Open}
 use Rattle.dd_derivation.specs.declared.step.Step.{Step}
-use Rattle.dd_derivation.specs.Derivations.{same_literal, is_among, is_in_range, finding_of, finding, clause_of, is_conflict, is_proper, is_right}
+use Rattle.dd_derivation.specs.Derivations.{same_literal, is_among, is_literal_in_range, finding_of, finding, clause_of, is_conflict, is_proper, is_right}
 use Rattle.dd_engines.specs.declared.analysis.Entry.{Entry}
 use Rattle.dd_engines.specs.SingleSteps.{IsSingleStep}
 use Rattle.dd_engines.specs.propagation.Following.{is_other, is_false_by, is_unknown, unknowns, alive, falses, IsForced, IsTrail, Conflicts, Follows, FollowsMore, IsSettled}
@@ -68,7 +68,7 @@ known_clause P cs all (suc k) = at cs all k
     at (c ∷ cs) all zero = inr (c, refl, All-head P c cs all)
     at (c ∷ cs) all (suc k) = at cs (All-tail P c cs all) k
 
-in_range : (n : ℕ) (l : Literal) → 1 ≤ l.variable → l.variable ≤ n → is_in_range n l ≡ true
+in_range : (n : ℕ) (l : Literal) → 1 ≤ l.variable → l.variable ≤ n → is_literal_in_range n l ≡ true
 in_range n l low high = and_from _ _ (le-leb 1 l.variable low) (le-leb l.variable n high)
 
 other_by : (m l b : Bool) → (m ≡ l → b ≡ false) → not (beq l m) ≡ (beq m (not l) || b)
@@ -77,31 +77,31 @@ other_by true false b h = refl
 other_by false true b h = refl
 other_by false false b h = sym (h refl)
 
-told_at : (values : List (Option Bool)) (falses : List Literal) (l : Literal) → IsInRange (length values) l → is_false_by values l ≡ false → ((m : Literal) → is_false_by values m ≡ is_among falses m)
+told_at : (values : List (Option Bool)) (falses : List Literal) (l : Literal) → IsLiteralInRange (length values) l → is_false_by values l ≡ false → ((m : Literal) → is_false_by values m ≡ is_among falses m)
     → (m : Literal) → m.variable ≡ l.variable → is_false_by (set values (l.variable - 1) (Some l.positive)) m ≡ is_among (negation l ∷ falses) m
 told_at values falses l range free told m e =
     let new : List (Option Bool) = set values (l.variable - 1) (Some l.positive) in
     let low : 1 ≤ m.variable = omega (arith, e, range.0) in
     let high : m.variable ≤ length new = omega (arith, e, range.1, length-set values (l.variable - 1) (Some l.positive)) in
-    let within : is_in_range (length new) m ≡ true = in_range (length new) m low high in
+    let within : is_literal_in_range (length new) m ≡ true = in_range (length new) m low high in
     let read : get_or new (m.variable - 1) None ≡ Some l.positive = get_or-set_at values (l.variable - 1) (m.variable - 1) (Some l.positive) None (omega (arith, e)) (omega (arith, range.0, range.1)) in
     let same : eqb m.variable l.variable ≡ true = eq-eqb _ _ e in
     let none : m.positive ≡ l.positive → is_among falses m ≡ false = λ s. sym (told m) ∙ ap (is_false_by values) (literal-eq m l e s) ∙ free in
     rw (within, read, same) (other_by m.positive l.positive (is_among falses m) none)
 
-told_apart : (values : List (Option Bool)) (falses : List Literal) (l : Literal) → IsInRange (length values) l → ((m : Literal) → is_false_by values m ≡ is_among falses m)
+told_apart : (values : List (Option Bool)) (falses : List Literal) (l : Literal) → IsLiteralInRange (length values) l → ((m : Literal) → is_false_by values m ≡ is_among falses m)
     → (m : Literal) → (m.variable ≡ l.variable → ⊥) → is_false_by (set values (l.variable - 1) (Some l.positive)) m ≡ is_among (negation l ∷ falses) m
 told_apart values falses l range told m ne =
     let other : eqb m.variable l.variable ≡ false = ne_eqb _ _ ne in
     let kept : is_false_by (set values (l.variable - 1) (Some l.positive)) m ≡ is_false_by values m =
-    rw (length-set values (l.variable - 1) (Some l.positive)) (elim (cases_Bool (is_in_range (length values) m)) [
+    rw (length-set values (l.variable - 1) (Some l.positive)) (elim (cases_Bool (is_literal_in_range (length values) m)) [
       | inl t ↦ rw t (ap (is_other m.positive) (get_or-set_other values (l.variable - 1) (m.variable - 1) (Some l.positive) None
           (λ f. ne (omega (arith, f, range.0, leb-true 1 m.variable (and_parts _ _ t).0)))))
       | inr f ↦ rw f refl
     ]) in
     kept ∙ told m ∙ rw other refl
 
-told_more : (values : List (Option Bool)) (falses : List Literal) (l : Literal) → IsInRange (length values) l → is_false_by values l ≡ false → ((m : Literal) → is_false_by values m ≡ is_among falses m)
+told_more : (values : List (Option Bool)) (falses : List Literal) (l : Literal) → IsLiteralInRange (length values) l → is_false_by values l ≡ false → ((m : Literal) → is_false_by values m ≡ is_among falses m)
     → (m : Literal) → is_false_by (set values (l.variable - 1) (Some l.positive)) m ≡ is_among (negation l ∷ falses) m
 told_more values falses l range free told m = elim (cases_eq m.variable l.variable) [
   | inl e ↦ told_at values falses l range free told m e
@@ -115,9 +115,9 @@ no_value (Some true) false free other = absurd (false≢true (sym free))
 no_value (Some false) true free other = absurd (false≢true (sym free))
 no_value (Some false) false free other = absurd (false≢true (sym other))
 
-fewer : (values : List (Option Bool)) (l : Literal) → IsInRange (length values) l → IsFree (is_false_by values) l → unknowns (set values (l.variable - 1) (Some l.positive)) < unknowns values
+fewer : (values : List (Option Bool)) (l : Literal) → IsLiteralInRange (length values) l → IsFree (is_false_by values) l → unknowns (set values (l.variable - 1) (Some l.positive)) < unknowns values
 fewer values l range free =
-    let within : is_in_range (length values) l ≡ true = in_range (length values) l range.0 range.1 in
+    let within : is_literal_in_range (length values) l ≡ true = in_range (length values) l range.0 range.1 in
     let one : is_unknown (get_or values (l.variable - 1) None) ≡ 1 = no_value (get_or values (l.variable - 1) None) l.positive (rw within at free.free) (rw within at free.other) in
     omega (arith, one, sum_by-set is_unknown values (l.variable - 1) (Some l.positive) None (omega (arith, range.0, range.1)))
 
@@ -149,13 +149,13 @@ entry : Literal → ℕ → Entry
 entry l k = record { literal = l; number = k }
 
 -- one more clause makes a literal true
-pub follows_more : (cs : List (List Literal)) (entries : List Entry) (values : List (Option Bool)) (k : ℕ) (l : Literal) → Follows cs entries values → k < length cs → All (IsInRange (length values)) (get_or cs k []) → finding (is_false_by values) (get_or cs k []) ≡ Forced l
+pub follows_more : (cs : List (List Literal)) (entries : List Entry) (values : List (Option Bool)) (k : ℕ) (l : Literal) → Follows cs entries values → k < length cs → All (IsLiteralInRange (length values)) (get_or cs k []) → finding (is_false_by values) (get_or cs k []) ≡ Forced l
     → FollowsMore cs values (entries ++ record { literal = l; number = k } ∷ []) (set values (l.variable - 1) (Some l.positive))
 unfolding entry
 follows_more cs entries values k l follows lt range forced =
     let c = get_or cs k [] in
     let free : IsFree (is_false_by values) l = forced_is_free (is_false_by values) c l forced in
-    let within : IsInRange (length values) l = forced_has (IsInRange (length values)) (is_false_by values) c l range forced in
+    let within : IsLiteralInRange (length values) l = forced_has (IsLiteralInRange (length values)) (is_false_by values) c l range forced in
     let found : finding (is_among (falses entries)) c ≡ Forced l = sym (finding-congr (is_false_by values) (is_among (falses entries)) c follows.told) ∙ forced in
     let here : IsForced cs entries (entry l k) = record { within = lt; forced = found } in
     record {
@@ -187,7 +187,7 @@ none_at n k = elim (cases_lt k n) [
 
 pub follows_from_nothing : (cs : List (List Literal)) (n : ℕ) → Follows cs [] (replicate n None)
 follows_from_nothing cs n = record {
-  told = λ l. rw (none_at n (l.variable - 1)) (elim (cases_Bool (is_in_range (length (replicate n no_one)) l)) [ inl t ↦ rw t refl | inr f ↦ rw f refl ]);
+  told = λ l. rw (none_at n (l.variable - 1)) (elim (cases_Bool (is_literal_in_range (length (replicate n no_one)) l)) [ inl t ↦ rw t refl | inr f ↦ rw f refl ]);
   trail = λ k d h. absurd (omega (arith, h));
 }
 

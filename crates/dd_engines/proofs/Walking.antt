@@ -8,7 +8,7 @@ use Rattle.std.proofs.lemmas.List.Sums.{sum_by-cons}
 use Rattle.std.proofs.lemmas.List.Elements.{All-weaker, All-same}
 use Rattle.std.proofs.lemmas.Option.{slice_get-get_or}
 use Rattle.dd_clause.specs.declared.clause.Literal.{Literal}
-use Rattle.dd_clause.specs.Clauses.{ClauseList, negation, IsInRange, IsClauseInRange, is_true, Satisfies}
+use Rattle.dd_clause.specs.Clauses.{ClauseList, negation, IsLiteralInRange, IsClauseInRange, is_true, Satisfies}
 use Rattle.dd_values.specs.Variables.{true_variables}
 use Rattle.dd_engines.specs.Walks.{made_true, first_unsatisfied, after, NoneBefore, IsFirst}
 use Rattle.dd_engines.specs.walking.Truths.{true_count, standing, more, less, changed, HasPlace, list_of, IsListed, NoneIsNone, IsFirstNone}
@@ -21,11 +21,11 @@ one_at_most : (b : Bool) → cond b 1 0 ≤ 1
 one_at_most true = omega arith
 one_at_most false = omega arith
 
-has_place : (n : ℕ) (lists : List (List ℕ)) (l : Literal) → length lists ≡ 2 * n → IsInRange n l → HasPlace lists l
+has_place : (n : ℕ) (lists : List (List ℕ)) (l : Literal) → length lists ≡ 2 * n → IsLiteralInRange n l → HasPlace lists l
 has_place n lists l long range = (range.0, omega (arith, long, range.0, range.1, one_at_most l.positive))
 
 -- the clauses where a literal stands have counts
-pub within_counts : (clauses : List (List Literal)) (values : List Bool) (counts : List ℕ) (listed : ℕ → Bool) (lists : List (List ℕ)) (l : Literal) → Walks clauses values counts listed lists → IsInRange (length values) l → All (λ k. k < length counts) (list_of lists l)
+pub within_counts : (clauses : List (List Literal)) (values : List Bool) (counts : List ℕ) (listed : ℕ → Bool) (lists : List (List ℕ)) (l : Literal) → Walks clauses values counts listed lists → IsLiteralInRange (length values) l → All (λ k. k < length counts) (list_of lists l)
 within_counts clauses values counts listed lists l walks range =
     let long : length counts ≡ length clauses = ap length walks.counted ∙ length-map clauses (true_count values) in
     let within = standing_within l clauses 0 in
@@ -37,7 +37,7 @@ length-changed f [] counts = refl
 length-changed f (k ∷ ks) counts = length-changed f ks (set counts k (f (get_or counts k 0))) ∙ length-set counts k (f (get_or counts k 0))
 
 -- after a flip the walk stands at the new values
-pub flip_walks : (clauses : List (List Literal)) (values : List Bool) (counts new_counts : List ℕ) (listed new_listed : ℕ → Bool) (lists : List (List ℕ)) (l : Literal) → Walks clauses values counts listed lists → IsInRange (length values) l → is_true (true_variables values) l ≡ false
+pub flip_walks : (clauses : List (List Literal)) (values : List Bool) (counts new_counts : List ℕ) (listed new_listed : ℕ → Bool) (lists : List (List ℕ)) (l : Literal) → Walks clauses values counts listed lists → IsLiteralInRange (length values) l → is_true (true_variables values) l ≡ false
     → new_counts ≡ changed less (list_of lists (negation l)) (changed more (list_of lists l) counts) → IsListed new_counts new_listed → Walks clauses (made_true values l) new_counts new_listed lists
 flip_walks clauses values counts new_counts listed new_listed lists l walks range is_false made are_listed =
     let long : length (made_true values l) ≡ length values = length-set values (l.variable - 1) l.positive in

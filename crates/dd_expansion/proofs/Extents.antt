@@ -6,7 +6,7 @@ use Rattle.std.specs.List.{find, list_all}
 use Rattle.std.specs.Option.{option_map, option_and_then}
 use Rattle.std.proofs.lemmas.Int.{ints}
 use Rattle.std.proofs.lemmas.Bool.{and_parts, and_from, leb-true}
-use Rattle.dd_lattice.specs.Place.{Place, moved, is_near, is_in_range}
+use Rattle.dd_lattice.specs.Place.{Place, moved, is_coordinate_in_range, is_in_range}
 use Rattle.dd_lattice.specs.declared.position.Cell.{Cell}
 use Rattle.dd_lattice.specs.lemmas.ListLaws.{All-from_contains, Contains-cons_cases, Contains-nil}
 use Rattle.dd_lattice.specs.lemmas.RangeLaws.{in_range_from_test}
@@ -29,7 +29,7 @@ true_from false h = absurd h
 le_holds : (a b : ℤ) → a ≤ℤ b → int_le a b ≡ true
 le_holds a b h = true_from (int_le a b) h.le
 
-near_within : (c : ℤ) → unsigned_abs c ≤ 1048576 → is_near c ≡ true
+near_within : (c : ℤ) → unsigned_abs c ≤ 1048576 → is_coordinate_in_range c ≡ true
 near_within c h =
     let low : negsuc 1048575 ≤ℤ c = omega (arith, ints) in
     let high : c ≤ℤ pos 1048576 = omega (arith, ints) in
@@ -37,9 +37,9 @@ near_within c h =
 
 pub within_range : (p : Place) → extent p ≤ 1048576 → is_in_range p ≡ true
 within_range p h =
-    let x : is_near p.x ≡ true = near_within p.x (omega arith) in
-    let y : is_near p.y ≡ true = near_within p.y (omega arith) in
-    let z : is_near p.z ≡ true = near_within p.z (omega arith) in
+    let x : is_coordinate_in_range p.x ≡ true = near_within p.x (omega arith) in
+    let y : is_coordinate_in_range p.y ≡ true = near_within p.y (omega arith) in
+    let z : is_coordinate_in_range p.z ≡ true = near_within p.z (omega arith) in
     and_from _ _ (and_from _ _ x y) z
 
 found_at : {X : Type 0} (q : X → Bool) (t : Bool) (y x : X) (o : Option X) → q y ≡ true → (o ≡ Some x → q x ≡ true) → cond t (Some y) o ≡ Some x → q x ≡ true

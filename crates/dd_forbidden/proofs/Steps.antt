@@ -14,7 +14,7 @@ use Rattle.dd_lattice.specs.Place.{Place, place, moved}
 use Rattle.dd_lattice.specs.Cells.{cell, shifted}
 use Rattle.dd_lattice.specs.Order.{cell_cmp}
 use Rattle.dd_lattice.specs.declared.position.Cell.{Cell}
-use Rattle.dd_pattern.specs.Reading.{Look, IsBelow}
+use Rattle.dd_pattern.specs.Reading.{Look, HasSymbolsBelow}
 use Rattle.dd_pattern.specs.Filling.{Filled, filled, filling_look}
 use Rattle.dd_expansion.specs.declared.expanded.Expanded.{Expanded}
 use Rattle.dd_expansion.specs.Leaves.{holds}
@@ -46,11 +46,11 @@ below_at n [] h i = tt
 below_at n (s ∷ ss) h zero = h zero s (omega arith)
 below_at n (s ∷ ss) h (suc i) = below_at n ss (λ k d within. h (suc k) d (omega arith)) i
 
-look_below : (n : ℕ) (cs : List Cell) (ss : List ℕ) → All (λ s. s < n) ss → IsBelow n (filling_look (filled cs ss))
+look_below : (n : ℕ) (cs : List Cell) (ss : List ℕ) → All (λ s. s < n) ss → HasSymbolsBelow n (filling_look (filled cs ss))
 look_below n cs ss below c = below_at n ss below (position_or_len (λ d. is_eq (cell_cmp d c)) cs)
 
 abbrev SaysTruth : LocalRule → ℕ → Expanded → Type 0
-SaysTruth r a e = (look : Look) → IsBelow r.symbols look → (v : Place) → holds e (λ c. look (shifted v c)) ≡ is_true r (cell v a) look
+SaysTruth r a e = (look : Look) → HasSymbolsBelow r.symbols look → (v : Place) → holds e (λ c. look (shifted v c)) ≡ is_true r (cell v a) look
 
 kept_here : (r : LocalRule) (a : ℕ) (e : Expanded) (ss : List ℕ) → SaysTruth r a e → AreSymbols r ss → holds e (filling_look (filled (cells_at r a) ss)) ≡ is_kept r a ss
 kept_here r a e ss truth below =

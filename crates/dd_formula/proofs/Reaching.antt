@@ -2,10 +2,10 @@
 use Rattle.std.proofs.Common.{◌≤◌, ℤ, ◌+ℤ◌, arith}
 use Rattle.std.specs.Prelude.{unsigned_abs}
 use Rattle.std.proofs.lemmas.Int.{ints}
-use Rattle.dd_lattice.specs.Place.{Place, IsNear, IsInRange, moved}
+use Rattle.dd_lattice.specs.Place.{Place, IsCoordinateInRange, IsInRange, moved}
 use Rattle.dd_topology.specs.Topology.{extent}
 
-axis_near : (a b : ℤ) → unsigned_abs a ≤ 16 → unsigned_abs b ≤ 16 → IsNear (a +ℤ b)
+axis_near : (a b : ℤ) → unsigned_abs a ≤ 16 → unsigned_abs b ≤ 16 → IsCoordinateInRange (a +ℤ b)
 axis_near a b p q = (omega (arith, ints), omega (arith, ints))
 
 -- the sum of two positions that are near is in range

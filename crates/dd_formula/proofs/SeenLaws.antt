@@ -10,7 +10,7 @@ use Rattle.dd_lattice.specs.Cells.{shifted}
 use Rattle.dd_lattice.specs.Order.{cell_cmp}
 use Rattle.dd_lattice.specs.declared.position.Cell.{Cell}
 use Rattle.dd_lattice.specs.lemmas.InOrderLaws.{list_all-in_order}
-use Rattle.dd_pattern.specs.Reading.{Look, IsBelow}
+use Rattle.dd_pattern.specs.Reading.{Look, HasSymbolsBelow}
 use Rattle.dd_pattern.specs.Filling.{Filled, filled, filling_look}
 use Rattle.dd_pattern.specs.lemmas.FillingLaws.{reads_at_place}
 use Rattle.dd_topology.specs.Topology.{extent}
@@ -60,7 +60,7 @@ module _ (look : Look) where
       let rest : map Some ss ≡ map look cs = cc in
       and_from (is_some (look d)) (list_all (λ e. is_some (look e)) cs) (ap is_some (sym here)) (all_given cs ss rest)
 
-  all_below : (n : ℕ) → IsBelow n look → (cs : List Cell) (ss : List ℕ) → map Some ss ≡ map look cs → All (λ s. s < n) ss
+  all_below : (n : ℕ) → HasSymbolsBelow n look → (cs : List Cell) (ss : List ℕ) → map Some ss ≡ map look cs → All (λ s. s < n) ss
   all_below n below cs [] is k d within = absurd (omega arith)
   all_below n below [] (s ∷ ss) is k d within = absurd (cc)
   all_below n below (c ∷ cs) (s ∷ ss) is zero d within =
@@ -78,7 +78,7 @@ module _ (look : Look) where
       by_places (λ d. are_equal (filling_look (filled cs ss) d) (look d)) cs (λ k c below.
       ap (λ o. are_equal o (look (get_or cs k c))) (reads_at_place (filled cs ss) (record { ascending = up; as_many = as_many cs ss is }) k c below) ∙ read_at cs ss k c is below)
 
-seen_below : (n : ℕ) (look : Look) (w : Place) → IsBelow n look → IsBelow n (seen look w)
+seen_below : (n : ℕ) (look : Look) (w : Place) → HasSymbolsBelow n look → HasSymbolsBelow n (seen look w)
 seen_below n look w below c = by (is_in_range (moved c.position w))
   where
     by : (b : Bool) → IfSome (cond b (look (shifted w c)) None) (λ s. s < n)
@@ -119,7 +119,7 @@ module _ (f : Automaton) (s : Setting) (formed : IsAutomaton s f) (look : Look) 
   reads_seen : list_all (λ d. are_equal (filling_look near d) (seen look c.position d)) ((counted f).reads c.node) ≡ true
   reads_seen = sym (list_all-in_order (λ d. are_equal (filling_look near d) (seen look c.position d)) ((counted f).reads c.node)) ∙ h.seen
 
-  pub readable_there : IsBelow s.symbols look → IsReadable f c.node (filling_look near)
+  pub readable_there : HasSymbolsBelow s.symbols look → IsReadable f c.node (filling_look near)
   readable_there symbols = record {
     has = record { setting = s; formed = formed; below = node; symbols = h.below s.symbols symbols };
     given =
@@ -185,7 +185,7 @@ module _ (f g : Automaton) (a : ℕ) (look : Look) (h : AreReadable f g a look) 
         sym (list_all-in_order (λ d. are_equal (near d) (given_by d)) ((counted f).reads a))
         ∙ (ap (list_all (λ d. are_equal (near d) (given_by d))) (sym is) ∙ read_back given_by cs ss up those)
 
-    inside : IsBelow h.setting.symbols given_by
+    inside : HasSymbolsBelow h.setting.symbols given_by
     unfolding given_by
     inside d = value_below h.setting g h.inner.fits look d
 

@@ -3,7 +3,7 @@ use Rattle.std.specs.Prelude.{ℕ, ◌<◌, ◌≡◌, Bool, true, is_some, List
 use Rattle.std.specs.List.{list_all}
 use Rattle.dd_lattice.specs.Place.{Place}
 use Rattle.dd_lattice.specs.declared.position.Cell.{Cell}
-use Rattle.dd_pattern.specs.Reading.{Look, IsBelow}
+use Rattle.dd_pattern.specs.Reading.{Look, HasSymbolsBelow}
 use Rattle.dd_expansion.specs.Leaves.{seen}
 use Rattle.dd_formula.specs.Automata.{Setting, IsAutomaton, cases_fit, cases_reads, counted, is_cell_of}
 use Rattle.dd_formula.specs.declared.automaton.Automaton.{Automaton}
@@ -22,14 +22,14 @@ pub record HasLook (f : Automaton) (c : Cell) (look : Look) : Type 0 where
   pub setting : Setting
   pub formed : IsAutomaton setting f
   pub below : c.node < setting.nodes
-  pub symbols : IsBelow setting.symbols look
+  pub symbols : HasSymbolsBelow setting.symbols look
 
 -- the same of cases that fit the numbers, where what they read at the cell is given
 pub record HasCasesLook (cases : Cases) (c : Cell) (look : Look) : Type 0 where
   pub setting : Setting
   pub fit : cases_fit setting cases.cases cases.otherwise ≡ true
   pub below : c.node < setting.nodes
-  pub symbols : IsBelow setting.symbols look
+  pub symbols : HasSymbolsBelow setting.symbols look
   pub given : are_given look c.position (cases_reads cases.cases c.node) ≡ true
 
 -- what is read at each node are cells of Z^d with one of the nodes, over all numbers that fit

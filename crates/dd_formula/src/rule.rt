@@ -3,7 +3,7 @@ ghost use Rattle.std.specs.Prelude.{◌≡◌, ◌<◌, ◌≤◌, length, IfOk,
 ghost use Rattle.dd_lattice.specs.Place.{Place};
 ghost use Rattle.dd_lattice.specs.Cells.{shifted, cell as at_node};
 ghost use Rattle.dd_lattice.specs.InOrder.{in_order};
-ghost use Rattle.dd_pattern.specs.Reading.{Look, IsBelow};
+ghost use Rattle.dd_pattern.specs.Reading.{Look, HasSymbolsBelow};
 ghost use Rattle.dd_expansion.specs.Limits.{IsFormula};
 ghost use Rattle.dd_expansion.specs.Leaves.{holds, given, seen, clause_count, leaf_cells};
 ghost use Rattle.dd_formula.specs.LocalRule.{local_rule, rule_allows, expansion_at, cells_at, is_true, is_given, IsRule};
@@ -118,7 +118,7 @@ impl Rule {
     pub fn symbols(&self) -> u32
         ensures value { result ≡ self.now.symbols }
         ensures kept { IsRule self.now }
-        ensures allowed { (look : Look) → AreAllowed self.now look → IsBelow self.now.symbols look }
+        ensures allowed { (look : Look) → AreAllowed self.now look → HasSymbolsBelow self.now.symbols look }
     {
         self.sets.symbols()
     }
@@ -143,7 +143,7 @@ impl Rule {
     pub fn expansion(&self, node: u32) -> &Expanded
         requires { node < self.now.nodes }
         ensures value { result.now ≡ expansion_at self.now node }
-        ensures truth { (look : Look) → IsBelow self.now.symbols look → (v : Place) →
+        ensures truth { (look : Look) → HasSymbolsBelow self.now.symbols look → (v : Place) →
             holds result.now (λ c. look (shifted v c)) ≡ is_true self.now (at_node v node) look }
         ensures cells { in_order (leaf_cells result.now) ≡ cells_at self.now node }
         ensures kept { IsRule self.now }
@@ -185,7 +185,7 @@ impl Rule {
     /// the range of positions. It takes no memory.
     pub fn truth<R: Reads>(&self, at: &Cell, read: &R) -> Option<bool>
         requires node { at.now.node < self.now.nodes }
-        requires symbols { IsBelow self.now.symbols (R.symbols read.now) }
+        requires symbols { HasSymbolsBelow self.now.symbols (R.symbols read.now) }
         ensures value { let look = R.symbols read.now in
             result ≡ (if is_given self.now at.now look then Some (is_true self.now at.now look) else None) }
         ensures kept { IsRule self.now }

@@ -10,7 +10,7 @@ use Rattle.std.specs.declared.cmp.Ordering.TheVariants.{Less, Equal, Greater}
 use Rattle.std.proofs.lemmas.Int.{ints}
 use Rattle.std.proofs.lemmas.Bool.Decides.{nat_tests}
 use Rattle.std.proofs.lemmas.List.Elements.{All-nil}
-use Rattle.dd_lattice.specs.Place.{Place, place, moved, IsNear, IsInRange}
+use Rattle.dd_lattice.specs.Place.{Place, place, moved, IsCoordinateInRange, IsInRange}
 use Rattle.dd_lattice.specs.Boxes.{OnAxis, IsUpTo, is_active}
 use Rattle.dd_lattice.specs.Regions.{PlaceSet, IsRegionOf, IsFaultOf, LeavesRange, IsInEither, IsMoved, IsNearby, seen_from}
 use Rattle.dd_lattice.specs.Growth.{along, IsStretched, IsExtended}
@@ -250,7 +250,7 @@ near_nothing d n = record {
   members = λ p. (λ c. absurd (Contains-nil p c), λ h. absurd (Contains-nil h.0 h.1));
 }
 
-far_coordinate : (x : ℤ) (n : ℕ) → 1048576 < n → (c : ℤ) × IsUpTo n (c -ℤ x) × (IsNear c → ⊥)
+far_coordinate : (x : ℤ) (n : ℕ) → 1048576 < n → (c : ℤ) × IsUpTo n (c -ℤ x) × (IsCoordinateInRange c → ⊥)
 far_coordinate (pos a) n far = (pos a +ℤ pos n, record { low = omega (arith, ints); high = omega (arith, ints) }, λ near. absurd (let high = near.1 in omega (arith, ints)))
 far_coordinate (negsuc a) n far = (negsuc a -ℤ pos n, record { low = omega (arith, ints); high = omega (arith, ints) }, λ near. absurd (let low = near.0 in omega (arith, ints)))
 

@@ -3,7 +3,7 @@ use Rattle.std.specs.Prelude.{ℕ, zero, suc, ◌+◌, ◌*◌, ◌/◌, ◌%◌
 use Rattle.dd_lattice.specs.Place.{Place, place, IsInRange}
 
 -- p is at most q on each axis
-pub record IsBelow (p q : Place) : Type 0 where
+pub record IsAtMostOnEachAxis (p q : Place) : Type 0 where
   pub on_x : p.x ≤ℤ q.x
   pub on_y : p.y ≤ℤ q.y
   pub on_z : p.z ≤ℤ q.z
@@ -14,12 +14,12 @@ pub record Bounds : Type 0 where
 
 -- bounds of a box of positions in range
 pub record IsBox (b : Bounds) : Type 0 where
-  pub ordered : IsBelow b.low b.high
+  pub ordered : IsAtMostOnEachAxis b.low b.high
   pub low_in_range : IsInRange b.low
   pub high_in_range : IsInRange b.high
 
 abbrev pub IsWithin : Bounds → Place → Type 0
-IsWithin b p = IsBelow b.low p × IsBelow p b.high
+IsWithin b p = IsAtMostOnEachAxis b.low p × IsAtMostOnEachAxis p b.high
 
 -- in d dimensions the axes numbered 0 to d - 1 are active
 abbrev pub is_active : ℕ → ℕ → Bool
@@ -87,9 +87,9 @@ place_in b i =
     place (b.low.x +ℤ pos (i % w)) (b.low.y +ℤ pos (i / w % h)) (b.low.z +ℤ pos (i / w / h))
 
 -- the first n positions of a box
-abbrev pub first_of : Bounds → ℕ → List Place
-first_of b zero = []
-first_of b (suc n) = first_of b n ++ place_in b n ∷ []
+abbrev pub first_positions : Bounds → ℕ → List Place
+first_positions b zero = []
+first_positions b (suc n) = first_positions b n ++ place_in b n ∷ []
 
 abbrev pub positions_of : Bounds → List Place
-positions_of b = first_of b (volume b)
+positions_of b = first_positions b (volume b)

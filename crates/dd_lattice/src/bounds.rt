@@ -1,7 +1,7 @@
 //! Boxes of positions, and the place of a position in the list of a box's positions.
 ghost use Rattle.std.specs.Prelude.{◌≡◌, ℕ, ◌+◌, ◌*◌, ◌<◌, ◌≤◌, ℤ, pos, ◌+ℤ◌, ◌-ℤ◌, ◌≤ℤ◌, IsTrue, ◌↔◌, MatchOption, IfSome, unsigned_abs, nat_le, nat_lt, if◌then◌else◌};
-ghost use Rattle.dd_lattice.specs.Place.{Place, IsNear, IsInRange, place};
-ghost use Rattle.dd_lattice.specs.Boxes.{IsBelow, IsBox, IsWithin, IsCentred, centred, spread, gap, volume, index_in, place_in};
+ghost use Rattle.dd_lattice.specs.Place.{Place, IsCoordinateInRange, IsInRange, place};
+ghost use Rattle.dd_lattice.specs.Boxes.{IsAtMostOnEachAxis, IsBox, IsWithin, IsCentred, centred, spread, gap, volume, index_in, place_in};
 
 use crate::position::{Position, REACH};
 use std::marker::Model;
@@ -14,13 +14,13 @@ pub struct Box3 {
 }
 
 impl Model for Box3 {
-    ghost use Rattle.dd_lattice.specs.Boxes.{Bounds, IsBelow};
+    ghost use Rattle.dd_lattice.specs.Boxes.{Bounds, IsAtMostOnEachAxis};
 
     ghost Value = { Bounds };
 
     ghost view = { λ b. record { low = b.low; high = b.high } };
 
-    ghost invariant = { λ b. IsBelow b.low b.high };
+    ghost invariant = { λ b. IsAtMostOnEachAxis b.low b.high };
 
     ghost inverse = { λ b. record { low = b.low; high = b.high } };
 }
@@ -75,7 +75,7 @@ struct Steps {
 }
 
 fn is_below(p: &Position, q: &Position) -> bool
-    ensures { IsTrue result ↔ IsBelow p.now q.now }
+    ensures { IsTrue result ↔ IsAtMostOnEachAxis p.now q.now }
 {
     if q.x < p.x || q.y < p.y || q.z < p.z {
         return false;
@@ -84,7 +84,7 @@ fn is_below(p: &Position, q: &Position) -> bool
 }
 
 fn steps_between(from: &Position, to: &Position) -> Steps
-    requires { IsBelow from.now to.now }
+    requires { IsAtMostOnEachAxis from.now to.now }
     ensures x { result.x ≡ gap from.now.x to.now.x }
     ensures y { result.y ≡ gap from.now.y to.now.y }
     ensures z { result.z ≡ gap from.now.z to.now.z }
@@ -174,7 +174,7 @@ impl Box3 {
 
 /// The position so far above `low` on each axis.
 fn raised(low: &Position, high: &Position, x: u64, y: u64, z: u64) -> Position
-    requires { IsBelow (place (low.now.x +ℤ pos x) (low.now.y +ℤ pos y) (low.now.z +ℤ pos z)) high.now }
+    requires { IsAtMostOnEachAxis (place (low.now.x +ℤ pos x) (low.now.y +ℤ pos y) (low.now.z +ℤ pos z)) high.now }
     ensures { result ≡ place (low.now.x +ℤ pos x) (low.now.y +ℤ pos y) (low.now.z +ℤ pos z) }
 {
     Position {
@@ -185,11 +185,11 @@ fn raised(low: &Position, high: &Position, x: u64, y: u64, z: u64) -> Position
 }
 
 fn coordinate(low: i32, high: i32, by: u64) -> i32
-    requires low_near { IsNear low }
-    requires high_near { IsNear high }
+    requires low_near { IsCoordinateInRange low }
+    requires high_near { IsCoordinateInRange high }
     requires up_to { (low +ℤ pos by) ≤ℤ high }
     ensures value { result ≡ low +ℤ pos by }
-    ensures near { IsNear result }
+    ensures near { IsCoordinateInRange result }
 {
     low + by as i32
 }

@@ -7,7 +7,7 @@ use Rattle.std.proofs.lemmas.Bool.{ne_eqb}
 use Rattle.std.proofs.lemmas.Fmt.{decimal_digit}
 use Rattle.std.proofs.lemmas.List.Concat.{flat_map-cons}
 use Rattle.dd_clause.specs.declared.clause.Literal.{Literal}
-use Rattle.dd_clause.specs.Clauses.{IsInRange}
+use Rattle.dd_clause.specs.Clauses.{IsLiteralInRange}
 use Rattle.dd_output.specs.reading.Stops.{Read, before, word_at, number_at, after_at, map_at, Entry, item, last, entries_at}
 use Rattle.dd_certificate.specs.Text.{literal_text, spaced_literal, spaced, literals_to_zero, numbers_to_zero}
 use Rattle.dd_certificate.specs.Bounds.{most_variable, most_count, IsWritableHint}
@@ -191,13 +191,13 @@ abbrev literal_end : ℕ → Unit {0} → List ℕ
 literal_end k y = 48 ∷ 32 ∷ []
 
 abbrev Literals : ℕ → List ℕ → Type 0
-Literals = IsList {B = Unit {0}} (λ _. (IsInRange most_variable)) (λ _. spaced_literal) anything literal_end
+Literals = IsList {B = Unit {0}} (λ _. (IsLiteralInRange most_variable)) (λ _. spaced_literal) anything literal_end
 
 abbrev entry_literal : ℕ → Entry Literal (Unit {0}) → List ℕ
 entry_literal = entry_text {B = Unit {0}} (λ _. spaced_literal) literal_end
 
 abbrev is_signed : Bool → Entry Literal (Unit {0}) → Type 0
-is_signed sign (item l) = (l.positive ≡ sign) × (IsInRange most_variable) l
+is_signed sign (item l) = (l.positive ≡ sign) × (IsLiteralInRange most_variable) l
 is_signed sign (last y) = ⊥
 
 abbrev is_literal : Entry Literal (Unit {0}) → Type 0
@@ -252,15 +252,15 @@ literal_not_zero k e (inr good) =
     let f = positive_digit k e good in
     (f.first, f.more, f.is, ne_eqb f.first 48 (λ e. omega (arith, e, f.low)))
 
-by_sign : (l : Literal) → (IsInRange most_variable) l → (sign : Bool) → l.positive ≡ sign → is_literal (item l)
+by_sign : (l : Literal) → (IsLiteralInRange most_variable) l → (sign : Bool) → l.positive ≡ sign → is_literal (item l)
 by_sign l good true is = inr (is, good)
 by_sign l good false is = inl (is, good)
 
-fits_literal : (k : ℕ) (e : Entry Literal (Unit {0})) → entry_fits {B = Unit {0}} (λ _. (IsInRange most_variable)) anything k e → no_item e ⊎ is_literal e
+fits_literal : (k : ℕ) (e : Entry Literal (Unit {0})) → entry_fits {B = Unit {0}} (λ _. (IsLiteralInRange most_variable)) anything k e → no_item e ⊎ is_literal e
 fits_literal k (item l) good = inr (by_sign l good l.positive refl)
 fits_literal k (last y) good = inl tt
 
-literal_fits : (k : ℕ) (e : Entry Literal (Unit {0})) → no_item e ⊎ is_literal e → entry_fits {B = Unit {0}} (λ _. (IsInRange most_variable)) anything k e
+literal_fits : (k : ℕ) (e : Entry Literal (Unit {0})) → no_item e ⊎ is_literal e → entry_fits {B = Unit {0}} (λ _. (IsLiteralInRange most_variable)) anything k e
 literal_fits k (item l) (inl bad) = elim bad [ ]
 literal_fits k (item l) (inr (inl good)) = good.1
 literal_fits k (item l) (inr (inr good)) = good.1
@@ -269,7 +269,7 @@ literal_fits k (last y) good = tt
 a_literal : (k n : ℕ) (sign : Bool) (text : List ℕ) → 1 ≤ n → n ≤ most_variable → text ≡ spaced_literal (record { variable = n; positive = sign }) ++ 48 ∷ 32 ∷ [] → Literals k text
 a_literal k n sign text some most is = (record { variable = n; positive = sign } ∷ [], tt, ((some, most), tt), is)
 
-pub literal_entry_reads : (k : ℕ) → Reads (entry_fits {B = Unit {0}} (λ _. (IsInRange most_variable)) anything k) (entry_literal k) (Literals k) literal_entry
+pub literal_entry_reads : (k : ℕ) → Reads (entry_fits {B = Unit {0}} (λ _. (IsLiteralInRange most_variable)) anything k) (entry_literal k) (Literals k) literal_entry
 literal_entry_reads k =
     let number : Reads (Followed 1 most_variable) followed_text (λ text. (n : ℕ) × (1 ≤ n) × (n ≤ most_variable) × (text ≡ decimal n ++ 32 ∷ [])) (number_at 1 most_variable 32 32 nothing) =
     number_list 1 most_variable (omega arith) (omega arith) (omega arith) in
@@ -297,7 +297,7 @@ literal_entry_reads k =
     map_reads (λ _. Unit {0}) (λ _. 48 ∷ 32 ∷ []) (Literals k) (word_at (48 ∷ 32 ∷ [])) no_item (entry_literal k) ended word
     (λ x good. (refl, tt)) (literal_last k) in
     same_reads (λ x. no_item x ⊎ is_literal x) (entry_literal k) (Literals k) literal_entry
-    (entry_fits {B = Unit {0}} (λ _. (IsInRange most_variable)) anything k) (entry_literal k) (Literals k)
+    (entry_fits {B = Unit {0}} (λ _. (IsLiteralInRange most_variable)) anything k) (entry_literal k) (Literals k)
     (choice_reads no_item is_literal (entry_literal k) (Literals k) 48 (map_at ended (word_at (48 ∷ 32 ∷ []))) _ ends
     (choice_reads (is_signed false) (is_signed true) (entry_literal k) (Literals k) 45 _ (map_at positive_of variable_at) negatives positives (negative_minus k) (positive_not_minus k))
     (literal_zero k) (literal_not_zero k))
@@ -305,13 +305,13 @@ literal_entry_reads k =
     (λ x good. (refl, fits_literal k x good))
     (λ text good. good)
 
-literal_some : (l : Literal) → (IsInRange most_variable) l → 0 < length (spaced_literal l)
+literal_some : (l : Literal) → (IsLiteralInRange most_variable) l → 0 < length (spaced_literal l)
 literal_some l good = omega (arith, length-append (literal_text l) (32 ∷ []))
 
-pub literals_good : Good (All (IsInRange most_variable)) literals_to_zero literals
+pub literals_good : Good (All (IsLiteralInRange most_variable)) literals_to_zero literals
 literals_good =
-    flat_good (IsInRange most_variable) spaced_literal (48 ∷ 32 ∷ []) literals refl
-    (flat_reads (IsInRange most_variable) spaced_literal (48 ∷ 32 ∷ []) literal_entry literal_entry_reads literal_some)
+    flat_good (IsLiteralInRange most_variable) spaced_literal (48 ∷ 32 ∷ []) literals refl
+    (flat_reads (IsLiteralInRange most_variable) spaced_literal (48 ∷ 32 ∷ []) literal_entry literal_entry_reads literal_some)
 
 pub literal_unrolls : Unrolls (λ _. literal_entry)
-literal_unrolls = flat_unrolls (IsInRange most_variable) spaced_literal (48 ∷ 32 ∷ []) literal_entry literal_entry_reads literal_some
+literal_unrolls = flat_unrolls (IsLiteralInRange most_variable) spaced_literal (48 ∷ 32 ∷ []) literal_entry literal_entry_reads literal_some

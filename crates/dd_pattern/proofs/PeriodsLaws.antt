@@ -13,8 +13,8 @@ use Rattle.dd_lattice.specs.Boxes.{is_active}
 use Rattle.std.proofs.lemmas.Map.Lookups.{exact_unsigned}
 use Rattle.dd_lattice.specs.lemmas.ListLaws.{Contains-first, Contains-later, Contains-cons_cases, Contains-nil}
 use Rattle.dd_pattern.specs.declared.periods.Periods.{Periods}
-use Rattle.dd_pattern.specs.Periods.{volume, periods_cmp, AreWithin, AreAllWithin}
-use Rattle.dd_pattern.specs.listing.Adding.{IsAdded, HasShear, IsUpTo, HasBox, most_along}
+use Rattle.dd_pattern.specs.Periods.{periods_volume, periods_cmp, AreWithin, AreAllWithin}
+use Rattle.dd_pattern.specs.listing.Adding.{IsAdded, HasShear, IsPeriodUpTo, HasBox, most_along}
 
 pub periods_total : IsTotalOrder periods_cmp
 periods_total = search (comparing, rules) depth 12
@@ -33,13 +33,13 @@ periods_same p q x y z s = let same : made p.x p.y p.z p.shear ≡ made q.x q.y 
 -- periods that compare equal are equal
 pub periods_equal : (p q : Periods) → periods_cmp p q ≡ Equal → p ≡ q
 periods_equal p q h =
-    let vx = ordering_then (nat_cmp (volume p) (volume q)) (nat_cmp p.x q.x) in
+    let vx = ordering_then (nat_cmp (periods_volume p) (periods_volume q)) (nat_cmp p.x q.x) in
     let vxy = ordering_then vx (nat_cmp p.y q.y) in
     let vxyz = ordering_then vxy (nat_cmp p.z q.z) in
     let last = both_equal vxyz (nat_cmp p.shear q.shear) h in
     let third = both_equal vxy (nat_cmp p.z q.z) last.0 in
     let second = both_equal vx (nat_cmp p.y q.y) third.0 in
-    let first = both_equal (nat_cmp (volume p) (volume q)) (nat_cmp p.x q.x) second.0 in
+    let first = both_equal (nat_cmp (periods_volume p) (periods_volume q)) (nat_cmp p.x q.x) second.0 in
     periods_same p q (exact_unsigned p.x q.x first.1) (exact_unsigned p.y q.y second.1) (exact_unsigned p.z q.z third.1) (exact_unsigned p.shear q.shear last.1)
 
 -- what was added, and then more
@@ -127,7 +127,7 @@ shear_more a b c i x y z before is =
     ) in
     added_more a b c (HasShear i x y z) (HasOnly x y z i) (HasShear (i + 1) x y z) before one (shear_split x y z i) (shear_wider x y z i) (shear_last x y z i)
 
-up_to_split : (F : ℕ → Periods → Type 0) (f : Periods → ℕ) (i : ℕ) (q : Periods) → IsUpTo F f (i + 1) q → IsUpTo F f i q ⊎ F (i + 1) q
+up_to_split : (F : ℕ → Periods → Type 0) (f : Periods → ℕ) (i : ℕ) (q : Periods) → IsPeriodUpTo F f (i + 1) q → IsPeriodUpTo F f i q ⊎ F (i + 1) q
 up_to_split F f i q h = elim (last_or_before (f q) i h.most) [
   | inl low ↦ inl (record { rest = h.rest; some = h.some; most = low })
   | inr last ↦ inr (subst (λ k. F k q) last h.rest)
@@ -135,9 +135,9 @@ up_to_split F f i q h = elim (last_or_before (f q) i h.most) [
 
 -- one more value of the period
 pub level_more : (F : ℕ → Periods → Type 0) (f : Periods → ℕ) → ((k : ℕ) (q : Periods) → F k q → f q ≡ k) → (a b c : List Periods) (i : ℕ) →
-    IsAdded a b (IsUpTo F f i) → IsAdded b c (F (i + 1)) → IsAdded a c (IsUpTo F f (i + 1))
+    IsAdded a b (IsPeriodUpTo F f i) → IsAdded b c (F (i + 1)) → IsAdded a c (IsPeriodUpTo F f (i + 1))
 level_more F f at a b c i before one =
-    added_more a b c (IsUpTo F f i) (F (i + 1)) (IsUpTo F f (i + 1)) before one (up_to_split F f i)
+    added_more a b c (IsPeriodUpTo F f i) (F (i + 1)) (IsPeriodUpTo F f (i + 1)) before one (up_to_split F f i)
     (λ q h. record { rest = h.rest; some = h.some; most = (let low = h.most in omega arith) })
     (λ q h. (let is = at (i + 1) q h in record { rest = subst (λ k. F k q) (sym is) h; some = omega (arith, is); most = omega (arith, is) }))
 

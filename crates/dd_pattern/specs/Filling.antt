@@ -5,7 +5,7 @@ use Rattle.std.specs.List.Sorted.{IsStrictlySortedBy}
 use Rattle.std.specs.Ordering.{is_eq}
 use Rattle.dd_lattice.specs.declared.position.Cell.{Cell}
 use Rattle.dd_lattice.specs.Order.{cell_cmp}
-use Rattle.dd_pattern.specs.Reading.{Look, IsBelow}
+use Rattle.dd_pattern.specs.Reading.{Look, HasSymbolsBelow}
 
 pub record Filled : Type 0 where
   pub cells : List Cell
@@ -29,7 +29,7 @@ pub record IsReadByPlace (f : Filled) : Type 0 where
 
 -- symbols below n are read as symbols below n
 abbrev pub IsReadBelow : Filled → Type 0
-IsReadBelow f = (n : ℕ) → All (λ s. s < n) f.symbols → IsBelow n (filling_look f)
+IsReadBelow f = (n : ℕ) → All (λ s. s < n) f.symbols → HasSymbolsBelow n (filling_look f)
 
 -- g has exactly these cells, and at each the symbol of f
 pub record IsRestriction (f : Filled) (cs : List Cell) (g : Filled) : Type 0 where

@@ -12,8 +12,8 @@ abbrev pub periods_of : List ℕ → ℕ → Periods
 periods_of along shear = record { x = slice_index along 0; y = slice_index along 1; z = slice_index along 2; shear = shear }
 
 -- the number of positions of the fundamental box
-abbrev pub volume : Periods → ℕ
-volume p = p.z * p.y * p.x
+abbrev pub periods_volume : Periods → ℕ
+periods_volume p = p.z * p.y * p.x
 
 -- periods in d dimensions
 pub record ArePeriodsIn (d : ℕ) (p : Periods) : Type 0 where
@@ -45,7 +45,7 @@ base_of p v = place (pos (residue (unsheared p v) p.x)) (pos (residue v.y p.y)) 
 -- the order of periods: by volume, then by x, y, z and the shear
 abbrev pub periods_cmp : Periods → Periods → Ordering
 periods_cmp =
-    then_cmp (then_cmp (then_cmp (then_cmp (on volume nat_cmp) (on (λ p. p.x) nat_cmp)) (on (λ p. p.y) nat_cmp)) (on (λ p. p.z) nat_cmp))
+    then_cmp (then_cmp (then_cmp (then_cmp (on periods_volume nat_cmp) (on (λ p. p.x) nat_cmp)) (on (λ p. p.y) nat_cmp)) (on (λ p. p.z) nat_cmp))
     (on (λ p. p.shear) nat_cmp)
 
 abbrev pub IsBefore : Periods → Periods → Type 0

@@ -7,5 +7,5 @@ abbrev pub Look : Type 0
 Look = Cell → Option ℕ
 
 -- each symbol that is given is below n
-abbrev pub IsBelow : ℕ → Look → Type 0
-IsBelow n look = (c : Cell) → IfSome (look c) (λ s. s < n)
+abbrev pub HasSymbolsBelow : ℕ → Look → Type 0
+HasSymbolsBelow n look = (c : Cell) → IfSome (look c) (λ s. s < n)

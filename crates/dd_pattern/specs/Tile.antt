@@ -5,7 +5,7 @@ use Rattle.dd_lattice.specs.Cells.{cell}
 use Rattle.dd_lattice.specs.Boxes.{Bounds, IsWithin, index_in}
 use Rattle.dd_lattice.specs.declared.position.Cell.{Cell}
 use Rattle.dd_pattern.specs.declared.periods.Periods.{Periods}
-use Rattle.dd_pattern.specs.Periods.{ArePeriodsIn, volume, residue, unsheared, base_of}
+use Rattle.dd_pattern.specs.Periods.{ArePeriodsIn, periods_volume, residue, unsheared, base_of}
 use Rattle.dd_pattern.specs.Reading.{Look}
 
 -- the periods, and the symbols of the fundamental box in cell order
@@ -23,7 +23,7 @@ pub record IsTile (t : Tile) : Type 0 where
   pub most_dimension : t.dimension ≤ 3
   pub periods : ArePeriodsIn t.dimension t.periods
   pub nodes_some : 0 < t.nodes
-  pub full : length t.symbols ≡ volume t.periods * t.nodes
+  pub full : length t.symbols ≡ periods_volume t.periods * t.nodes
 
 -- the greatest number of symbols of a fundamental box that a value holds
 abbrev pub most_symbols : ℕ

@@ -1,7 +1,7 @@
 //! Periodic configurations: the symbols of one fundamental box, for every cell of Z^d.
 ghost use Rattle.std.specs.Prelude.{◌≡◌, ◌<◌, ◌≤◌, ◌+◌, ◌*◌, ◌^◌, [], ◌∷◌, length, slice_index, pos, IsTrue, ◌↔◌, MatchResult};
 ghost use Rattle.dd_lattice.specs.Place.{place};
-ghost use Rattle.dd_pattern.specs.Periods.{ArePeriodsIn, periods_of, volume, residue, unsheared};
+ghost use Rattle.dd_pattern.specs.Periods.{ArePeriodsIn, periods_of, periods_volume, residue, unsheared};
 ghost use Rattle.dd_pattern.specs.Tile.{IsPeriodic, IsInBox, IsReadModulo, most_symbols, tile, tile_index, tile_look, cell_in};
 ghost use Rattle.dd_pattern.specs.Weight.{AreWeights, total_weight};
 
@@ -51,7 +51,7 @@ struct Base {
 }
 
 fn table_size(periods: &Periods, nodes: u32) -> u128
-    ensures { result ≡ volume periods.now * nodes }
+    ensures { result ≡ periods_volume periods.now * nodes }
 {
     let rows = periods.z as u64 * periods.y as u64;
     let rest = periods.x as u64 * nodes as u64;
@@ -59,7 +59,7 @@ fn table_size(periods: &Periods, nodes: u32) -> u128
 }
 
 fn has_size(periods: &Periods, nodes: u32, count: usize) -> bool
-    ensures { IsTrue result ↔ (volume periods.now * nodes ≡ count) }
+    ensures { IsTrue result ↔ (periods_volume periods.now * nodes ≡ count) }
 {
     table_size(periods, nodes) == count as u128
 }

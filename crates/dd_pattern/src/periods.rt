@@ -5,8 +5,8 @@ ghost use Rattle.std.specs.Cmp.{partial_order_from_own_ties};
 ghost use Rattle.std.specs.Cmp.Rules.{comparing};
 ghost use Rattle.std.specs.List.Sorted.{IsStrictlySortedBy};
 ghost use Rattle.std.specs.Ordering.{as_partial_cmp};
-ghost use Rattle.dd_lattice.specs.Place.{IsNear};
-ghost use Rattle.dd_pattern.specs.Periods.{residue, quotient, volume, periods_cmp, AreAllWithin};
+ghost use Rattle.dd_lattice.specs.Place.{IsCoordinateInRange};
+ghost use Rattle.dd_pattern.specs.Periods.{residue, quotient, periods_volume, periods_cmp, AreAllWithin};
 ghost use Rattle.dd_pattern.specs.listing.Adding.{IsAdded, HasShear, HasRow, HasPlane, most_along};
 
 use std::alloc::{AllocError, Global};
@@ -37,7 +37,7 @@ impl Periods {
     }
 
     fn volume(&self) -> u128
-        ensures { result ≡ volume self.now }
+        ensures { result ≡ periods_volume self.now }
     {
         let rows = self.z as u64 * self.y as u64;
         rows as u128 * self.x as u128
@@ -152,7 +152,7 @@ pub(crate) fn quotient(x: i32, n: u32) -> i32
 
 /// The coordinate along x once the second period vector has been taken away so often.
 pub(crate) fn unsheared(x: i32, turns: i32, shear: u32) -> i64
-    requires near { IsNear x }
+    requires near { IsCoordinateInRange x }
     requires turns { unsigned_abs turns ≤ 1048577 }
     requires small { shear ≤ 65536 }
     ensures { result ≡ x -ℤ turns *ℤ pos shear }

@@ -8,7 +8,7 @@ use Rattle.dd_lattice.specs.Place.{Place}
 use Rattle.dd_lattice.specs.Cells.{cell}
 use Rattle.dd_expansion.specs.declared.expanded.Expanded.{Expanded}
 use Rattle.dd_clause.specs.declared.clause.Literal.{Literal}
-use Rattle.dd_clause.specs.Clauses.{ClauseList, IsInRange, IsClauseInRange, negation}
+use Rattle.dd_clause.specs.Clauses.{ClauseList, IsLiteralInRange, IsClauseInRange, negation}
 use Rattle.dd_circuit.specs.declared.gates.Signal.{Signal}
 use Rattle.dd_circuit.specs.declared.gates.Gate.{Gate}
 use Rattle.dd_circuit.specs.Circuits.{Network, IsSignal, size}
@@ -61,7 +61,7 @@ nodes_start maker count turn start before wide =
       inputs = refl;
       wide = wide;
       more = omega arith;
-      in_range = All-nil (IsInRange (size start));
+      in_range = All-nil (IsLiteralInRange (size start));
       literals_left = ap (λ (k : AllMade). map turn k.signals) same;
       gates_left = ap (λ (k : AllMade). start.gates ++ k.gates) same;
       clauses_left = ap (λ (k : AllMade). before.clauses ++ gates_clauses (size start) k.gates) same;
@@ -112,7 +112,7 @@ node_wired w y v turn node start now before after literals e p h is wired =
 pub node_step : (maker : ℕ → Maker) (count : ℕ) (turn : Signal → Literal) (node : ℕ) (start now new : Network) (before after further : ClauseList) (literals lits : List Literal) (m : Made) (s : Signal) (l : Literal) →
     NodesLeft maker count turn node start now before after literals → node < count → m ≡ maker node (size now) → new.inputs ≡ now.inputs → further.variables ≡ size new →
     new.gates ≡ now.gates ++ m.gates → further.clauses ≡ after.clauses ++ gates_clauses (size now) m.gates →
-    s ≡ m.signal → l ≡ turn s → IsInRange (size new) l → lits ≡ literals ++ l ∷ [] → NodesLeft maker count turn (node + 1) start new before further lits
+    s ≡ m.signal → l ≡ turn s → IsLiteralInRange (size new) l → lits ≡ literals ++ l ∷ [] → NodesLeft maker count turn (node + 1) start new before further lits
 node_step maker count turn node start now new before after further literals lits m s l p h is inputs wide added told signal turned in_range pushed =
     let n = size_after now new m.gates inputs added in
     let rest = nodes_made maker count (node + 1) (size now + length m.gates) in
@@ -125,8 +125,8 @@ node_step maker count turn node start now new before after further literals lits
       more = omega (arith, n, p.more);
       in_range =
           rw pushed
-          (All-push (IsInRange (size new)) literals l
-          (All-weaker (IsInRange (size now)) (IsInRange (size new)) (λ k ok. (ok.0, omega (arith, ok.1, n))) literals p.in_range) in_range);
+          (All-push (IsLiteralInRange (size new)) literals l
+          (All-weaker (IsLiteralInRange (size now)) (IsLiteralInRange (size new)) (λ k ok. (ok.0, omega (arith, ok.1, n))) literals p.in_range) in_range);
       literals_left =
           p.literals_left
           ∙ (ap (λ (k : AllMade). literals ++ map turn k.signals) split
@@ -148,12 +148,12 @@ node_step maker count turn node start now new before after further literals lits
     }
 
 -- the literals of signals of the circuit
-pub false_in_range : (n : ℕ) (s : Signal) (o l : Literal) → IsSignal n s → o ≡ literal_of s → l ≡ negation o → (l ≡ opposing s) × IsInRange n l
+pub false_in_range : (n : ℕ) (s : Signal) (o l : Literal) → IsSignal n s → o ≡ literal_of s → l ≡ negation o → (l ≡ opposing s) × IsLiteralInRange n l
 false_in_range n s o l ok positive negated =
     let var : l.variable ≡ s.variable = ap (λ (k : Literal). k.variable) (negated ∙ ap negation positive) in
     (negated ∙ ap negation positive, rw var ok)
 
-pub true_in_range : (n : ℕ) (s : Signal) (l : Literal) → IsSignal n s → l ≡ literal_of s → IsInRange n l
+pub true_in_range : (n : ℕ) (s : Signal) (l : Literal) → IsSignal n s → l ≡ literal_of s → IsLiteralInRange n l
 true_in_range n s l ok positive = let var : l.variable ≡ s.variable = ap (λ (k : Literal). k.variable) positive in rw var ok
 
 -- when all nodes are there, one clause of the literals is left

@@ -10,7 +10,7 @@ use Rattle.std.proofs.lemmas.List.{ext_get_or}
 use Rattle.std.proofs.lemmas.Option.{slice_get-get_or}
 use Rattle.dd_values.specs.Variables.{true_variables}
 use Rattle.dd_pattern.specs.declared.periods.Periods.{Periods}
-use Rattle.dd_pattern.specs.Periods.{volume}
+use Rattle.dd_pattern.specs.Periods.{periods_volume}
 use Rattle.dd_pattern.specs.Tile.{Tile, IsPeriodic, tile}
 use Rattle.dd_expansion.specs.Truth.{is_symbol}
 use Rattle.dd_formula.specs.LocalRule.{LocalRule, IsRule}
@@ -102,12 +102,12 @@ module _ (x : LocalRule) (periods : Periods) (rule : IsRule x) (ok : ArePeriods 
   read_is d nodes items dim same = ap (λ k. tile k periods nodes items) dim ∙ ap (λ k. tile x.dimension periods k items) same
 
   pub read_made : {B : Type 0} (r : Result Tile B) (S : B → Type 0) (d nodes : ℕ) (items : List ℕ) → d ≡ x.dimension → nodes ≡ x.nodes →
-      length items ≡ volume periods * nodes →
+      length items ≡ periods_volume periods * nodes →
       MatchResult r (λ p. (p ≡ tile d periods nodes items) × IsPeriodic (tile d periods nodes items)) (λ back. S back × (IsPeriodic (tile d periods nodes items) → ⊥)) → is_ok r ≡ true
   read_made r S d nodes items dim same full h =
       tile_ok x periods rule ok r (tile d periods nodes items) S h
       (subst IsPeriodic (sym (read_is d nodes items dim same))
-      (torus_is_periodic x periods items rule ok (full ∙ ap (λ k. volume periods * k) same)))
+      (torus_is_periodic x periods items rule ok (full ∙ ap (λ k. periods_volume periods * k) same)))
 
   pub read_only : (set : ℕ → Bool) (d nodes : ℕ) (items : List ℕ) (t u : Tile) → d ≡ x.dimension → nodes ≡ x.nodes → t ≡ tile d periods nodes items → AreRead set x.symbols items →
       HasPeriods periods u → Fits x u → AreRead set x.symbols u.symbols → length u.symbols ≡ length t.symbols → u ≡ t

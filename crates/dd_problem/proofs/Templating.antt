@@ -12,7 +12,7 @@ use Rattle.std.proofs.lemmas.Option.{slice_get-map}
 use Rattle.dd_lattice.specs.Order.{cell_cmp}
 use Rattle.dd_lattice.specs.Place.{Place, moved, is_in_range}
 use Rattle.dd_lattice.specs.Cells.{shifted}
-use Rattle.dd_lattice.specs.Boxes.{Bounds, IsBelow, IsWithin, centred, volume, place_in, spread, is_active}
+use Rattle.dd_lattice.specs.Boxes.{Bounds, IsAtMostOnEachAxis, IsWithin, centred, volume, place_in, spread, is_active}
 use Rattle.dd_lattice.specs.declared.position.Cell.{Cell}
 use Rattle.dd_lattice.specs.lemmas.BoxLaws.{place_within}
 use Rattle.dd_topology.specs.Topology.{extent}
@@ -113,7 +113,7 @@ numbered_full m cells numbers c ss is =
     turn_full m (slice_get numbers j) ss (sym (slice_get-map (symbol_signals m) numbers j) ∙ is)
 
 -- the cells of a box lie in it
-cells_within : (b : Bounds) (m : ℕ) → IsBelow b.low b.high → 0 < m → All (λ (c : Cell). IsWithin b c.position) (cells_in b m)
+cells_within : (b : Bounds) (m : ℕ) → IsAtMostOnEachAxis b.low b.high → 0 < m → All (λ (c : Cell). IsWithin b c.position) (cells_in b m)
 cells_within b m o some =
     All-map (λ (c : Cell). IsWithin b c.position) (nth_cell b m) (range_with_len 0 (volume b * m))
     (All-range (λ k. IsWithin b (place_in b (k / m))) (volume b * m) 0 (λ k low high. place_within b (k / m) o (div_below k m (volume b) some (omega arith))))
@@ -148,7 +148,7 @@ near_torus p d v ok h =
     let u = h.1 in
     omega (arith, ints, l.on_x, l.on_y, l.on_z, u.on_x, u.on_y, u.on_z, ok.x_most, ok.y_most, ok.z_most)
 
-ordered_torus : (p : Periods) → IsBelow (fundamental p).low (fundamental p).high
+ordered_torus : (p : Periods) → IsAtMostOnEachAxis (fundamental p).low (fundamental p).high
 ordered_torus p = record { on_x = omega (arith, ints); on_y = omega (arith, ints); on_z = omega (arith, ints) }
 
 pub torus_near : (x : LocalRule) (p : Periods) (cells : List Cell) → IsRule x → ArePeriods x.dimension p → cells ≡ torus_cells x p → All (λ (d : Cell). extent d.position ≤ 1048560) cells

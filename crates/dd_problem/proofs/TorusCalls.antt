@@ -12,7 +12,7 @@ use Rattle.dd_lattice.specs.Order.{cell_cmp}
 use Rattle.dd_lattice.specs.Boxes.{Bounds, is_active, spread, span, volume as box_volume}
 use Rattle.dd_lattice.specs.declared.position.Cell.{Cell}
 use Rattle.dd_pattern.specs.declared.periods.Periods.{Periods}
-use Rattle.dd_pattern.specs.Periods.{volume}
+use Rattle.dd_pattern.specs.Periods.{periods_volume}
 use Rattle.dd_pattern.specs.Tile.{Tile, IsPeriodic, tile, fundamental}
 use Rattle.dd_pattern.specs.lemmas.TileSizes.{index_below}
 use Rattle.dd_clause.specs.Clauses.{ClauseList}
@@ -39,13 +39,13 @@ use Rattle.dd_problem.proofs.TorusInputs.{spread_small, numbers_tile, number_is,
 
 -- the question's count is at most two million
 abbrev pub IsFew : LocalRule → GoalOf → Periods → Type 0
-IsFew x g periods = question_clauses x g (volume periods) ≤ most_clauses
+IsFew x g periods = question_clauses x g (periods_volume periods) ≤ most_clauses
 
 span_most : (p s : ℕ) → 1 ≤ p → p ≤ 8 → s ≤ 16 → span (pos 0 -ℤ pos s) (pos (p - 1 + s)) ≤ 40
 span_most p s some most small = omega (arith, ints)
 
 module _ (x : LocalRule) (periods : Periods) (rule : IsRule x) (ok : ArePeriods x.dimension periods) where
-  volume_is : box_volume (fundamental periods) ≡ volume periods
+  volume_is : box_volume (fundamental periods) ≡ periods_volume periods
   volume_is =
       rw (span_is periods.x ok.periods.x_some, span_is periods.y (ok.periods.y_some), span_is periods.z (ok.periods.z_some))
       (product_turned periods.x periods.y periods.z)
@@ -55,16 +55,16 @@ module _ (x : LocalRule) (periods : Periods) (rule : IsRule x) (ok : ArePeriods 
 
   -- the configuration of the numbers
   numbering_is : (d nodes : ℕ) (items : List ℕ) → d ≡ x.dimension → nodes ≡ x.nodes →
-      items ≡ range_with_len 0 (volume periods * nodes) → tile d periods nodes items ≡ numbers_of x periods
+      items ≡ range_with_len 0 (periods_volume periods * nodes) → tile d periods nodes items ≡ numbers_of x periods
   numbering_is d nodes items dim same is =
       ap (λ k. tile k periods nodes items) dim
       ∙ (ap (λ k. tile x.dimension periods k items) same
-      ∙ ap (tile x.dimension periods x.nodes) (is ∙ ap (λ k. range_with_len 0 (volume periods * k)) same))
+      ∙ ap (tile x.dimension periods x.nodes) (is ∙ ap (λ k. range_with_len 0 (periods_volume periods * k)) same))
 
-  pub count_fits : (nodes : ℕ) → nodes ≡ x.nodes → volume periods * nodes ≤ 65536
+  pub count_fits : (nodes : ℕ) → nodes ≡ x.nodes → periods_volume periods * nodes ≤ 65536
   count_fits nodes same =
       let all = size_small in
-      let is = ap (λ k. volume periods * k) same in
+      let is = ap (λ k. periods_volume periods * k) same in
       omega (arith, all, is)
 
   pub tile_ok : {B : Type 0} (r : Result Tile B) (t : Tile) (S : B → Type 0) → MatchResult r (λ p. (p ≡ t) × IsPeriodic t) (λ back. S back × (IsPeriodic t → ⊥)) → IsPeriodic t → is_ok r ≡ true
@@ -72,7 +72,7 @@ module _ (x : LocalRule) (periods : Periods) (rule : IsRule x) (ok : ArePeriods 
   tile_ok (Err e) t S h tile = absurd (h.1 tile)
 
   pub numbering_made : {B : Type 0} (r : Result Tile B) (S : B → Type 0) (d nodes : ℕ) (items : List ℕ) → d ≡ x.dimension → nodes ≡ x.nodes →
-      items ≡ range_with_len 0 (volume periods * nodes) →
+      items ≡ range_with_len 0 (periods_volume periods * nodes) →
       MatchResult r (λ p. (p ≡ tile d periods nodes items) × IsPeriodic (tile d periods nodes items)) (λ back. S back × (IsPeriodic (tile d periods nodes items) → ⊥)) → is_ok r ≡ true
   numbering_made r S d nodes items dim same is h =
       tile_ok r (tile d periods nodes items) S h (subst IsPeriodic (sym (numbering_is d nodes items dim same is)) (numbers_tile x periods rule ok))

@@ -13,7 +13,7 @@ use Rattle.std.proofs.lemmas.Option.{slice_get-map}
 use Rattle.dd_lattice.specs.Place.{Place, moved, IsInRange}
 use Rattle.dd_lattice.specs.Cells.{shifted}
 use Rattle.dd_lattice.specs.Order.{cell_cmp}
-use Rattle.dd_lattice.specs.Boxes.{Bounds, IsBelow, IsWithin, is_active, spread, index_in}
+use Rattle.dd_lattice.specs.Boxes.{Bounds, IsAtMostOnEachAxis, IsWithin, is_active, spread, index_in}
 use Rattle.dd_lattice.specs.declared.position.Cell.{Cell}
 use Rattle.dd_lattice.specs.lemmas.RangeLaws.{test_from_in_range}
 use Rattle.dd_topology.specs.Topology.{extent}
@@ -120,7 +120,7 @@ module _ (x : LocalRule) (periods : Periods) (rule : IsRule x) (ok : ArePeriods 
   abbrev numbers : Tile
   numbers = numbers_of x periods
 
-  zone_ordered : IsBelow zone.low zone.high
+  zone_ordered : IsAtMostOnEachAxis zone.low zone.high
   zone_ordered = record { on_x = omega (arith, ints); on_y = omega (arith, ints); on_z = omega (arith, ints) }
 
   near_within : (v : Place) (c : Cell) → base_of periods v ≡ v → near_cell x n c ≡ true → IsWithin zone (moved c.position v)

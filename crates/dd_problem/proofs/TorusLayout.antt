@@ -14,7 +14,7 @@ use Rattle.dd_lattice.specs.Cells.{cell, shifted}
 use Rattle.dd_lattice.specs.Boxes.{span}
 use Rattle.dd_lattice.specs.declared.position.Cell.{Cell}
 use Rattle.dd_pattern.specs.declared.periods.Periods.{Periods}
-use Rattle.dd_pattern.specs.Periods.{volume, residue, base_of}
+use Rattle.dd_pattern.specs.Periods.{periods_volume, residue, base_of}
 use Rattle.dd_pattern.specs.Tile.{Tile, IsTile, IsPeriodic, tile, tile_index, tile_look, cell_in, fundamental, IsInBox}
 use Rattle.dd_pattern.specs.lemmas.Residues.{residue_below}
 use Rattle.dd_pattern.specs.lemmas.TileLaws.{base_moved, look_same}
@@ -34,7 +34,7 @@ abbrev pub torus_of : LocalRule → Periods → List ℕ → Tile
 torus_of x periods symbols = tile x.dimension periods x.nodes symbols
 
 abbrev pub torus_size : LocalRule → Periods → ℕ
-torus_size x periods = volume periods * x.nodes
+torus_size x periods = periods_volume periods * x.nodes
 
 pub product_small : (a b c n : ℕ) → a ≤ 8 → b ≤ 8 → c ≤ 8 → n ≤ 4 → a * b * c * n ≤ 65536
 product_small a b c n ha hb hc hn =

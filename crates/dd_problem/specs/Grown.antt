@@ -5,7 +5,7 @@ use Rattle.dd_lattice.specs.Place.{place}
 use Rattle.dd_lattice.specs.Boxes.{Bounds, is_active, spread}
 use Rattle.dd_lattice.specs.declared.position.Cell.{Cell}
 use Rattle.dd_pattern.specs.declared.periods.Periods.{Periods}
-use Rattle.dd_pattern.specs.Periods.{volume}
+use Rattle.dd_pattern.specs.Periods.{periods_volume}
 use Rattle.dd_pattern.specs.Tile.{Tile, tile, tile_index}
 use Rattle.dd_compile.specs.Wiring.{Wiring}
 use Rattle.dd_formula.specs.LocalRule.{LocalRule}
@@ -48,7 +48,7 @@ numbered_by m t cells = numbered m cells (map (number_at t) cells)
 
 -- the configuration in which each cell of the fundamental box has its number, from 0 in cell order
 abbrev pub numbers_of : LocalRule → Periods → Tile
-numbers_of x periods = tile x.dimension periods x.nodes (range_with_len 0 (volume periods * x.nodes))
+numbers_of x periods = tile x.dimension periods x.nodes (range_with_len 0 (periods_volume periods * x.nodes))
 
 -- what the premise and the goal read, each cell with the inputs of the one at its position modulo the periods
 abbrev pub torus_inputs : LocalRule → GoalOf → Periods → Wiring

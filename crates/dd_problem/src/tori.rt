@@ -3,7 +3,7 @@ ghost use Rattle.std.specs.Prelude.{◌≡◌, ◌≤◌, ◌<◌, ◌+◌, ◌*
 ghost use Rattle.std.specs.List.{range_with_len};
 ghost use Rattle.std.specs.List.Sorted.{IsStrictlySortedBy};
 ghost use Rattle.dd_lattice.specs.Order.{cell_cmp};
-ghost use Rattle.dd_pattern.specs.Periods.{periods_of, volume};
+ghost use Rattle.dd_pattern.specs.Periods.{periods_of, periods_volume};
 ghost use Rattle.dd_pattern.specs.Tile.{fundamental};
 ghost use Rattle.dd_boxes.specs.Goals.{IsGoalFor};
 ghost use Rattle.dd_boxes.specs.Counts.{question_clauses, most_clauses};
@@ -177,7 +177,7 @@ pub fn torus_clauses(
 ) -> Result<Cnf, AllocError>
     requires goal { IsGoalFor premise.now (goal_of premise.now goal.now) }
     requires periods { ArePeriods premise.now.dimension (periods_of periods shear) }
-    requires few { question_clauses premise.now (goal_of premise.now goal.now) (volume (periods_of periods shear)) ≤ most_clauses }
+    requires few { question_clauses premise.now (goal_of premise.now goal.now) (periods_volume (periods_of periods shear)) ≤ most_clauses }
     ensures exact { IfOk result (λ cnf. cnf ≡ torus_problem premise.now (goal_of premise.now goal.now) (periods_of periods shear)) }
     ensures shows { IfOk result (λ cnf. ShowsTorus cnf.clauses premise.now (goal_of premise.now goal.now) (periods_of periods shear)) }
 {

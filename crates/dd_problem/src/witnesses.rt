@@ -1,7 +1,7 @@
 //! The configuration that a satisfying assignment of a torus's clauses stands for.
 ghost use Rattle.std.specs.Prelude.{◌≡◌, ◌<◌, ◌*◌, ℕ, false, length, slice_index_or, All, IfOk};
 ghost use Rattle.dd_values.specs.Variables.{true_variables};
-ghost use Rattle.dd_pattern.specs.Periods.{periods_of, volume};
+ghost use Rattle.dd_pattern.specs.Periods.{periods_of, periods_volume};
 ghost use Rattle.dd_pattern.specs.Tile.{Tile};
 ghost use Rattle.dd_formula.specs.Living.{Fits};
 ghost use Rattle.dd_boxes.specs.Witnesses.{ArePeriods, HasPeriods};
@@ -60,7 +60,7 @@ pub fn read_torus(
     found: &Assignment,
 ) -> Result<Periodic, AllocError>
     requires periods { ArePeriods premise.now.dimension (periods_of periods shear) }
-    requires one_each { HasOneEach (true_variables found.now) premise.now.symbols (volume (periods_of periods shear) * premise.now.nodes) }
+    requires one_each { HasOneEach (true_variables found.now) premise.now.symbols (periods_volume (periods_of periods shear) * premise.now.nodes) }
     ensures read { IfOk result (λ t. AreRead (true_variables found.now) premise.now.symbols t.symbols) }
     ensures periods { IfOk result (λ t. HasPeriods (periods_of periods shear) t) }
     ensures fits { IfOk result (λ t. Fits premise.now t) }

@@ -7,7 +7,7 @@ use Rattle.dd_formula.specs.Reach.{farthest, reach, automaton_cells}
 use Rattle.dd_formula.specs.Counts.{broken_clauses, largest_clauses}
 use Rattle.dd_formula.specs.ValueCounts.{differ_clauses}
 use Rattle.dd_formula.specs.declared.automaton.Automaton.{Automaton}
-use Rattle.dd_counts.specs.Rules.{patterns, states, longer_states}
+use Rattle.dd_counts.specs.Rules.{pattern_count, states, longer_states}
 use Rattle.dd_boxes.specs.Counts.{most_clauses}
 use Rattle.dd_faults.specs.declared.fault.Fault.{Fault}
 use Rattle.dd_faults.specs.declared.fault.Limit.TheVariants as limit
@@ -56,7 +56,7 @@ is_long k x g = nat_lt most_clauses (clauses_of k x g)
 -- ---- queries
 
 abbrev pub has_many_patterns : LocalRule → Bool
-has_many_patterns r = list_any (λ a. nat_lt most_patterns (patterns r a)) (range_with_len 0 r.nodes)
+has_many_patterns r = list_any (λ a. nat_lt most_patterns (pattern_count r a)) (range_with_len 0 r.nodes)
 
 abbrev pub has_many_states : LocalRule → ℕ → Bool
 has_many_states r volume = nat_lt most_states (states r volume) || nat_lt most_longer_states (longer_states r volume)

@@ -1,6 +1,6 @@
 //! Vectors as positions.
 ghost use Rattle.std.specs.Prelude.{◌≡◌, false, nat_lt, min};
-ghost use Rattle.dd_lattice.specs.Place.{IsNear};
+ghost use Rattle.dd_lattice.specs.Place.{IsCoordinateInRange};
 ghost use Rattle.dd_faults.specs.Commands.{entry_value, period_at};
 ghost use Rattle.dd_query.specs.Vectors.{signed_value, coordinate, place_of, IsClose};
 
@@ -31,7 +31,7 @@ pub fn period_at(text: &Text, periods: &Vector, axis: usize) -> u32
 fn signed_value(text: &Text, entry: Entry) -> i32
     requires { nat_lt 4 (entry_value text.now entry) ≡ false }
     ensures value { result ≡ signed_value text.now entry }
-    ensures near { IsNear result }
+    ensures near { IsCoordinateInRange result }
 {
     match entry {
         Entry::Number(number) => number_value(text, number) as i32,
@@ -43,7 +43,7 @@ fn signed_value(text: &Text, entry: Entry) -> i32
 fn coordinate(text: &Text, vector: &Vector, axis: usize) -> i32
     requires { IsClose text.now vector.now }
     ensures value { result ≡ coordinate text.now vector.now axis }
-    ensures near { IsNear result }
+    ensures near { IsCoordinateInRange result }
 {
     match vector.entries.get(axis) {
         Some(entry) => signed_value(text, *entry),

@@ -4,7 +4,7 @@ use Rattle.std.specs.Prelude.{◌-ℤ◌, unsigned_abs}
 use Rattle.std.specs.List.{All, Contains}
 use Rattle.std.proofs.lemmas.Int.{ints}
 use Rattle.std.proofs.lemmas.List.Elements.{All-contains}
-use Rattle.dd_lattice.specs.Place.{Place, place, moved, IsNear, IsInRange}
+use Rattle.dd_lattice.specs.Place.{Place, place, moved, IsCoordinateInRange, IsInRange}
 use Rattle.dd_lattice.specs.Boxes.{OnAxis, IsUpTo, IsCentred, is_active}
 use Rattle.dd_lattice.specs.Regions.{IsRegionOf, IsMoved, IsNearby, LeavesRange}
 use Rattle.dd_lattice.specs.lemmas.ListLaws.{Contains-nil}
@@ -41,7 +41,7 @@ far_back a b m n h k = omega (arith, ints)
 far_moved : (a b : ℤ) (m n : ℕ) → unsigned_abs a ≤ m → unsigned_abs b ≤ n → unsigned_abs (a +ℤ (pos 0 -ℤ b)) ≤ m + n
 far_moved a b m n h k = omega (arith, ints)
 
-near_axis : (n : ℕ) (c : ℤ) → n ≤ 10 → unsigned_abs c ≤ n → IsNear c
+near_axis : (n : ℕ) (c : ℤ) → n ≤ 10 → unsigned_abs c ≤ n → IsCoordinateInRange c
 near_axis n c few h = (omega (arith, ints), omega (arith, ints))
 
 reach_in_range : (n : ℕ) (p : Place) → n ≤ 10 → IsWithinReach n p → IsInRange p

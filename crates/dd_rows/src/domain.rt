@@ -1,7 +1,7 @@
 //! The domain of a discharge, grown by its margin.
 ghost use Rattle.std.specs.Prelude.{◌≡◌, ◌<◌, ◌≤◌, IfOk, IfErr, [], pos, ◌-ℤ◌, All};
 ghost use Rattle.std.specs.List.Sorted.{IsStrictlySortedBy};
-ghost use Rattle.dd_lattice.specs.Place.{IsNear};
+ghost use Rattle.dd_lattice.specs.Place.{IsCoordinateInRange};
 ghost use Rattle.dd_lattice.specs.Order.{cell_cmp};
 ghost use Rattle.dd_lattice.specs.Boxes.{centred, positions_of};
 ghost use Rattle.dd_lattice.specs.Regions.{IsRegion, IsRegionOf, IsMoved};
@@ -16,9 +16,9 @@ use dd_values::Items;
 use std::alloc::{AllocError, Global};
 
 fn negated(coordinate: i32) -> i32
-    requires { IsNear coordinate }
+    requires { IsCoordinateInRange coordinate }
     ensures value { result ≡ pos 0 -ℤ coordinate }
-    ensures near { IsNear result }
+    ensures near { IsCoordinateInRange result }
 {
     -coordinate
 }

@@ -30,7 +30,7 @@ use Rattle.dd_meanings.specs.Sound.{IsConfigurationOf}
 use Rattle.dd_query.specs.declared.queries.Query.{Query}
 use Rattle.dd_query.specs.declared.queries.Query.TheVariants as query
 use Rattle.dd_query.specs.Made.{numbers_of, IsRuleOf}
-use Rattle.dd_counts.specs.Rules.{patterns}
+use Rattle.dd_counts.specs.Rules.{pattern_count}
 use Rattle.dd_query.specs.Limits.{Aim, anything, breaking, differing, clauses_of, is_long, about, most_patterns, has_many_patterns, has_many_states, strip_volume, contains_sizes, equal_sizes, empty_sizes, agree_sizes}
 use Rattle.dd_query.specs.Sound.{IsSoundQuery}
 use Rattle.dd_script.specs.Parts.{Parts, IsScriptOf}
@@ -127,18 +127,18 @@ about_is : {X : Type 0} (xs : List X) (n : ℕ) (x : X) (f : X → List Fault) �
 about_is xs n x f is = rw is refl
 
 few_patterns : (x : LocalRule) → has_many_patterns x ≡ false → HasFewPatterns x
-few_patterns x few a below = cases (nat_lt most_patterns (patterns x a)) refl where
+few_patterns x few a below = cases (nat_lt most_patterns (pattern_count x a)) refl where
   at : get_or (range_with_len 0 x.nodes) a a ≡ a
   at = get_or-range_with_len 0 x.nodes a a below ∙ (omega arith)
 
   within : a < length (range_with_len 0 x.nodes)
   within = rw (length-range_with_len 0 x.nodes) below
 
-  cases : (b : Bool) → nat_lt most_patterns (patterns x a) ≡ b → patterns x a ≤ most_patterns
+  cases : (b : Bool) → nat_lt most_patterns (pattern_count x a) ≡ b → pattern_count x a ≤ most_patterns
   cases true many =
-      absurd (false≢true (sym few ∙ list_any_at (λ n. nat_lt most_patterns (patterns x n)) (range_with_len 0 x.nodes) a a within
-      (ap (λ n. nat_lt most_patterns (patterns x n)) at ∙ many)))
-  cases false none = ltb-false most_patterns (patterns x a) none
+      absurd (false≢true (sym few ∙ list_any_at (λ n. nat_lt most_patterns (pattern_count x n)) (range_with_len 0 x.nodes) a a within
+      (ap (λ n. nat_lt most_patterns (pattern_count x n)) at ∙ many)))
+  cases false none = ltb-false most_patterns (pattern_count x a) none
 
 -- ---- what is asked
 

@@ -6,7 +6,7 @@ use Rattle.dd_pattern.specs.Tile.{IsTile}
 use Rattle.dd_formula.specs.LocalRule.{LocalRule, IsRule}
 use Rattle.dd_formula.specs.Living.{Fits}
 use Rattle.dd_formula.specs.Counts.{largest_clauses}
-use Rattle.dd_counts.specs.Rules.{patterns}
+use Rattle.dd_counts.specs.Rules.{pattern_count}
 use Rattle.dd_transfer.specs.Transfers.{IsStrip, HasWeights, IsFew, strip_for}
 use Rattle.dd_rows.specs.Asked.{AreVectors, AreWeightsFor}
 use Rattle.dd_boxes.specs.declared.limits.Limits.{Limits}
@@ -44,7 +44,7 @@ pub record IsAskable (l : Limits) (x : LocalRule) (g : GoalOf) : Type 0 where
 
 -- at each node the cells that the rule reads have few fillings
 abbrev pub HasFewPatterns : LocalRule → Type 0
-HasFewPatterns x = (a : ℕ) → a < x.nodes → patterns x a ≤ most_patterns
+HasFewPatterns x = (a : ℕ) → a < x.nodes → pattern_count x a ≤ most_patterns
 
 -- the strip's transfer graph has few states and windows, and each symbol has a weight
 pub record IsNarrow (x : LocalRule) (periods ws : List ℕ) : Type 0 where

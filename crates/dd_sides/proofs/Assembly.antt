@@ -31,8 +31,8 @@ use Rattle.dd_boxes.specs.Boxes.{origin}
 use Rattle.dd_rows.specs.Programs.{column_count, cap_row, row_of, rows, origin_weight, one_at}
 use Rattle.dd_discharge.specs.Amounts.{total_below, column_value, MeetRows, held_over}
 use Rattle.dd_discharge.specs.Certificates.{IsBoundCertificate}
-use Rattle.dd_sides.specs.Sums.{volume, giver}
-use Rattle.dd_sides.specs.Sides.{run, side, is_near_run, is_in_grown, IsSideFilling, position_weight, side_weight}
+use Rattle.dd_sides.specs.Sums.{size_volume, giver}
+use Rattle.dd_sides.specs.Sides.{side_length, side, is_near_run, is_in_grown, IsSideFilling, position_weight, side_weight}
 use Rattle.dd_sides.specs.Boundaries.{outer_count, boundary}
 use Rattle.dd_sides.specs.Lifted.{reach_of, HoldsOnSides}
 use Rattle.dd_sides.specs.lemmas.BoxLaws.{IsAt, kept}
@@ -52,12 +52,12 @@ on_near n e i a w p low is least most = grind (arith, ints)
 level : (i : ℕ) (a w p : ℤ) → i < 1 → p ≡ a +ℤ pos i → a ≡ pos 0 → w ≡ pos 0 → w +ℤ p ≡ pos 0
 level i a w p low is flat h = omega (arith, ints, low, is, flat, h)
 
-near_run : (active : Bool) (n e i : ℕ) (a w p : ℤ) → i < run active n → p ≡ a +ℤ pos i → (active || int_eq a (pos 0)) ≡ true → OnAxis active (IsUpTo e) w →
+near_run : (active : Bool) (n e i : ℕ) (a w p : ℤ) → i < side_length active n → p ≡ a +ℤ pos i → (active || int_eq a (pos 0)) ≡ true → OnAxis active (IsUpTo e) w →
     is_near_run active n e a (w +ℤ p) ≡ true
 near_run true n e i a w p low is flat h = on_near n e i a w p low is h.low h.high
 near_run false n e i a w p low is flat h = (Decides-int_eq (w +ℤ p) (pos 0)).1 (level i a w p low is ((Decides-int_eq a (pos 0)).0 flat) h)
 
-flat_run : (active : Bool) (n i : ℕ) (a p : ℤ) → i < run active n → p ≡ a +ℤ pos i → (active || int_eq a (pos 0)) ≡ true → (active || int_eq p (pos 0)) ≡ true
+flat_run : (active : Bool) (n i : ℕ) (a p : ℤ) → i < side_length active n → p ≡ a +ℤ pos i → (active || int_eq a (pos 0)) ≡ true → (active || int_eq p (pos 0)) ≡ true
 flat_run true n i a p low is flat = refl
 flat_run false n i a p low is flat =
     let none : a ≡ pos 0 = (Decides-int_eq a (pos 0)).0 flat in
@@ -115,7 +115,7 @@ comes_in_is d n m number (v ∷ vs) a low high flat =
     let rest = comes_in_is d n m number vs (drop m a) low high (λ w h. flat w (Contains-later v vs w h)) in
     let whole = side_volume d n low high in
     let inner = kept_is d n v low (flat v (Contains-first v vs)) in
-    let outer : volume (side d n) - kept (side d n) v ≡ outer_count d n v = ap (λ (k : ℕ). k - kept (side d n) v) whole ∙ ap (λ (k : ℕ). n ^ d - k) inner in
+    let outer : size_volume (side d n) - kept (side d n) v ≡ outer_count d n v = ap (λ (k : ℕ). k - kept (side d n) v) whole ∙ ap (λ (k : ℕ). n ^ d - k) inner in
     ap (λ (k : ℕ). most * k + comes_in (side d n) (gifts m number vs (drop m a))) outer ∙ ap (λ (k : ℕ). most * outer_count d n v + k) rest
 
 -- ---- each row that is met
@@ -225,7 +225,7 @@ module _ (x : LocalRule) (ws : List ℕ) (radius margin : ℕ) (vs : List Place)
       let summed = rows_summed (side x.dimension n) u (held_over b) b.common (gifts m number vs b.amounts) (position_weight x ws look) position_holds in
       let whole = side_volume x.dimension n some k.rule.dimension.1 in
       let enters = comes_in_is x.dimension n m number vs b.amounts some k.rule.dimension.1 k.flat in
-      let left : held_over b * n ^ x.dimension ≡ volume (side x.dimension n) * held_over b = ap (λ (v : ℕ). held_over b * v) (sym whole) ∙ turned (held_over b) (volume (side x.dimension n)) in
+      let left : held_over b * n ^ x.dimension ≡ size_volume (side x.dimension n) * held_over b = ap (λ (v : ℕ). held_over b * v) (sym whole) ∙ turned (held_over b) (size_volume (side x.dimension n)) in
       omega (arith, summed, enters, left)
     where
       turned : (a c : ℕ) → a * c ≡ c * a

@@ -4,7 +4,7 @@ use Rattle.std.specs.Prelude.{ℤ, pos, negsuc, ◌+ℤ◌, ◌-ℤ◌, unsigned
 use Rattle.std.proofs.lemmas.Int.{ints}
 use Rattle.std.proofs.lemmas.Bool.{cases_lt}
 use Rattle.dd_lattice.specs.Place.{Place}
-use Rattle.dd_sides.specs.Sums.{Size, axis_sum, box_sum, volume, is_on, is_in_box, giver, from_outside}
+use Rattle.dd_sides.specs.Sums.{Size, axis_sum, box_sum, size_volume, is_on, is_in_box, giver, from_outside}
 use Rattle.dd_sides.specs.lemmas.AxisLaws.{axis_split, axis_same}
 use Rattle.dd_sides.specs.lemmas.BoxLaws.{kept, box_add, box_same, box_const}
 
@@ -89,7 +89,7 @@ one_of : (b : Bool) → ◌≡◌ {A = ℕ} (cond b 0 1 + cond b 1 0) 1
 one_of true = refl
 one_of false = refl
 
-pub outside_count : (s : Size) (u v : Place) → box_sum s u (from_outside s u v) + kept s v ≡ volume s
+pub outside_count : (s : Size) (u v : Place) → box_sum s u (from_outside s u v) + kept s v ≡ size_volume s
 outside_count s u v =
     let a = box_add s u (from_outside s u v) (λ p. cond (is_in_box s u (giver v p)) 1 0) in
     let b = box_same s u (λ p. from_outside s u v p + cond (is_in_box s u (giver v p)) 1 0) (λ _. 1) (λ p. one_of (is_in_box s u (giver v p))) in

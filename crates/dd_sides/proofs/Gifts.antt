@@ -2,7 +2,7 @@
 -- box holds and gives is at most what it has and receives, the box has what its positions hold, up to what comes in from outside.
 use Rattle.std.proofs.Common.{◌≡◌, ℕ, ◌+◌, ◌-◌, ◌*◌, ◌≤◌, List, [], ◌∷◌, ap, arith}
 use Rattle.dd_lattice.specs.Place.{Place}
-use Rattle.dd_sides.specs.Sums.{Size, box_sum, volume, giver}
+use Rattle.dd_sides.specs.Sums.{Size, box_sum, size_volume, giver}
 use Rattle.dd_sides.specs.lemmas.BoxLaws.{IsAt, kept, box_moved, box_at_most, box_add, box_times, box_const, box_shifted, kept_at_most}
 
 pub record Gift : Type 0 where
@@ -22,7 +22,7 @@ received (g ∷ gs) p = g.give (giver g.along p) + received gs p
 -- what may come in
 abbrev pub comes_in : Size → List Gift → ℕ
 comes_in s [] = 0
-comes_in s (g ∷ gs) = g.most * (volume s - kept s g.along) + comes_in s gs
+comes_in s (g ∷ gs) = g.most * (size_volume s - kept s g.along) + comes_in s gs
 
 outside : (x y m k n : ℕ) → k ≤ n → x + m * k ≤ y + m * n → x ≤ y + m * (n - k)
 outside x y m k n le h = let e : n ≡ k + (n - k) = omega arith in let f : m * n ≡ m * (k + (n - k)) = ap (λ (z : ℕ). m * z) e in omega arith
@@ -33,13 +33,13 @@ received_at_most s u (g ∷ gs) =
     let a = box_add s u (λ p. g.give (giver g.along p)) (received gs) in
     let b = box_add s u g.give (given gs) in
     let c = box_moved s u g.along g.give in
-    let d = outside _ _ g.most (kept s g.along) (volume s) (kept_at_most s g.along) (box_shifted s u g.along g.give g.most g.within) in
+    let d = outside _ _ g.most (kept s g.along) (size_volume s) (kept_at_most s g.along) (box_shifted s u g.along g.give g.most g.within) in
     let rest = received_at_most s u gs in
     omega (arith, a, b, c, d, rest)
 
 pub rows_summed : (s : Size) (u : Place) (held common : ℕ) (gs : List Gift) (weight : Place → ℕ) →
     ((p : Place) → IsAt s u p → held + given gs p ≤ common * weight p + received gs p) →
-    volume s * held ≤ common * box_sum s u weight + comes_in s gs
+    size_volume s * held ≤ common * box_sum s u weight + comes_in s gs
 rows_summed s u held common gs weight rows =
     let sum = box_at_most s u (λ p. held + given gs p) (λ p. common * weight p + received gs p) rows in
     let left = box_add s u (λ _. held) (given gs) in

@@ -8,8 +8,8 @@ use Rattle.std.proofs.lemmas.Bool.Decides.{Decides-int_eq}
 use Rattle.dd_lattice.specs.Place.{Place}
 use Rattle.dd_lattice.specs.Boxes.{is_active}
 use Rattle.dd_expansion.specs.Placed.{is_flat}
-use Rattle.dd_sides.specs.Sums.{box_sum, volume, from_outside}
-use Rattle.dd_sides.specs.Sides.{run, side}
+use Rattle.dd_sides.specs.Sums.{box_sum, size_volume, from_outside}
+use Rattle.dd_sides.specs.Sides.{side_length, side}
 use Rattle.dd_sides.specs.Boundaries.{left_on, inner_count, outer_count}
 use Rattle.dd_sides.specs.lemmas.BoxLaws.{kept}
 use Rattle.dd_sides.proofs.CountLaws.{outside_count}
@@ -24,14 +24,14 @@ third_power : (b : ℕ) → b ^ 3 ≡ b * b * b
 third_power b = let three : b ^ 3 ≡ b ^ 2 * b = pow-suc b 2 in three ∙ ap (λ m. m * b) (second_power b)
 
 -- a box has three, two or one of its axes active
-pub side_volume : (d n : ℕ) → 1 ≤ d → d ≤ 3 → volume (side d n) ≡ n ^ d
+pub side_volume : (d n : ℕ) → 1 ≤ d → d ≤ 3 → size_volume (side d n) ≡ n ^ d
 side_volume zero n low high = absurd (omega arith)
 side_volume (suc zero) n low high = rw (first_power n) (omega arith)
 side_volume (suc (suc zero)) n low high = rw (second_power n) (omega arith)
 side_volume (suc (suc (suc zero))) n low high = rw (third_power n) (omega arith)
 side_volume (suc (suc (suc (suc d)))) n low high = absurd (omega arith)
 
-left_is : (active : Bool) (n : ℕ) (c : ℤ) → (active || int_eq c (pos 0)) ≡ true → run active n - unsigned_abs c ≡ left_on active n c
+left_is : (active : Bool) (n : ℕ) (c : ℤ) → (active || int_eq c (pos 0)) ≡ true → side_length active n - unsigned_abs c ≡ left_on active n c
 left_is true n c h = refl
 left_is false n c h = let zero_there : c ≡ pos 0 = (Decides-int_eq c (pos 0)).0 h in rw zero_there refl
 
@@ -39,7 +39,7 @@ pub first_active : (d : ℕ) → 1 ≤ d → is_active d 0 ≡ true
 first_active zero low = absurd (omega arith)
 first_active (suc d) low = lt-ltb 0 (suc d) (omega arith)
 
-left_first : (active : Bool) (n : ℕ) (c : ℤ) → active ≡ true → run active n - unsigned_abs c ≡ left_on active n c
+left_first : (active : Bool) (n : ℕ) (c : ℤ) → active ≡ true → side_length active n - unsigned_abs c ≡ left_on active n c
 left_first true n c h = refl
 left_first false n c h = absurd (cc)
 

@@ -10,7 +10,7 @@ use Rattle.dd_lattice.specs.Boxes.{is_active, OnAxis, IsUpTo, IsAmong, IsCentred
 use Rattle.dd_lattice.specs.Regions.{seen_from}
 use Rattle.dd_expansion.specs.Placed.{is_flat}
 use Rattle.dd_sides.specs.Sums.{Size, axis_sum, box_sum, is_on, is_in_box}
-use Rattle.dd_sides.specs.Sides.{run, side, is_near_run, is_in_grown, one_only, IsSide}
+use Rattle.dd_sides.specs.Sides.{side_length, side, is_near_run, is_in_grown, one_only, IsSide}
 use Rattle.dd_sides.specs.lemmas.AxisLaws.{axis_same}
 use Rattle.dd_sides.proofs.CountLaws.{axis_cond, each_axis}
 use Rattle.dd_sides.proofs.SideLaws.{first_active}
@@ -39,7 +39,7 @@ on_from n a c h = and_from _ _ (le_from a c h.low) (lt_from c (a +ℤ pos n) h.h
 on_to : (n : ℕ) (a c : ℤ) → is_on n a c ≡ true → IsBetween n a c
 on_to n a c h = let parts = and_parts (int_le a c) (int_lt c (a +ℤ pos n)) h in record { low = le_to a c parts.0; high = lt_to c (a +ℤ pos n) parts.1 }
 
-run_to : (active : Bool) (n : ℕ) (a c : ℤ) → is_on (run active n) a c ≡ true → OnAxis active (IsAmong n) (c -ℤ a)
+run_to : (active : Bool) (n : ℕ) (a c : ℤ) → is_on (side_length active n) a c ≡ true → OnAxis active (IsAmong n) (c -ℤ a)
 run_to true n a c h =
     let b = on_to n a c h in
     let low = b.low in
@@ -51,7 +51,7 @@ run_to false n a c h =
     let high = b.high in
     omega (arith, ints, low, high)
 
-run_from : (active : Bool) (n : ℕ) (a c : ℤ) → OnAxis active (IsAmong n) (c -ℤ a) → is_on (run active n) a c ≡ true
+run_from : (active : Bool) (n : ℕ) (a c : ℤ) → OnAxis active (IsAmong n) (c -ℤ a) → is_on (side_length active n) a c ≡ true
 run_from true n a c h =
     let low = h.low in
     let high = h.high in
@@ -60,9 +60,9 @@ run_from false n a c h = on_from 1 a c (record { low = omega (arith, ints, h); h
 
 side_positions : (d n : ℕ) (u p : Place) → (is_in_box (side d n) u p ≡ true) ↔ IsInSide d n (seen_from u p)
 side_positions d n u p =
-    let X = is_on (run (is_active d 0) n) u.x p.x in
-    let Y = is_on (run (is_active d 1) n) u.y p.y in
-    let Z = is_on (run (is_active d 2) n) u.z p.z in (
+    let X = is_on (side_length (is_active d 0) n) u.x p.x in
+    let Y = is_on (side_length (is_active d 1) n) u.y p.y in
+    let Z = is_on (side_length (is_active d 2) n) u.z p.z in (
       λ h.
           let outer = and_parts (X && Y) Z h in
           let inner = and_parts X Y outer.0 in

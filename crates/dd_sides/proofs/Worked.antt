@@ -5,7 +5,7 @@ use Rattle.dd_pattern.specs.Reading.{Look}
 use Rattle.dd_expansion.specs.declared.formulas.Formula.{roll-Formula}
 use Rattle.dd_expansion.specs.declared.formulas.Formula.TheOpen.{Formula-F}
 use Rattle.dd_formula.specs.LocalRule.{LocalRule}
-use Rattle.dd_sides.specs.Sums.{box_sum, volume, giver, from_outside}
+use Rattle.dd_sides.specs.Sums.{box_sum, size_volume, giver, from_outside}
 use Rattle.dd_sides.specs.Sides.{side, is_in_grown, side_weight}
 use Rattle.dd_sides.specs.Boundaries.{outer_count, boundary}
 use Rattle.dd_sides.specs.Lifted.{reach_of}
@@ -14,7 +14,7 @@ use Rattle.dd_sides.specs.Lifted.{reach_of}
 three_in_a_row : box_sum (side 1 3) (place (negsuc 0) (pos 0) (pos 0)) (λ p. unsigned_abs p.x) ≡ 2
 three_in_a_row = refl
 
-nine_in_a_square : volume (side 2 3) ≡ 9
+nine_in_a_square : size_volume (side 2 3) ≡ 9
 nine_in_a_square = refl
 
 -- along (1, -1) a square of side 3 has 2 * 2 positions that receive from it, and 5 that receive from outside

@@ -11,14 +11,14 @@ use Rattle.dd_pattern.specs.Reading.{Look}
 use Rattle.dd_pattern.specs.Weight.{total_weight}
 use Rattle.dd_formula.specs.LocalRule.{LocalRule}
 use Rattle.dd_formula.specs.Allowed.{AreAllowed}
-use Rattle.dd_sides.specs.Sums.{Size, size, box_sum, is_in_box}
+use Rattle.dd_sides.specs.Sums.{Size, box_sizes, box_sum, is_in_box}
 
 -- how many coordinates Side(n) has on an axis
-abbrev pub run : Bool → ℕ → ℕ
-run active n = cond active n 1
+abbrev pub side_length : Bool → ℕ → ℕ
+side_length active n = cond active n 1
 
 abbrev pub side : ℕ → ℕ → Size
-side d n = size (run (is_active d 0) n) (run (is_active d 1) n) (run (is_active d 2) n)
+side d n = box_sizes (side_length (is_active d 0) n) (side_length (is_active d 1) n) (side_length (is_active d 2) n)
 
 -- c is one of the n coordinates from a on, or at most e from them; on an axis that is not active it is 0
 abbrev pub is_near_run : Bool → ℕ → ℕ → ℤ → ℤ → Bool

@@ -8,8 +8,8 @@ pub record Size : Type 0 where
   pub y : ℕ
   pub z : ℕ
 
-abbrev pub size : ℕ → ℕ → ℕ → Size
-size x y z = record { x = x; y = y; z = z }
+abbrev pub box_sizes : ℕ → ℕ → ℕ → Size
+box_sizes x y z = record { x = x; y = y; z = z }
 
 -- f a + f (a + 1) + .. + f (a + n - 1)
 abbrev pub axis_sum : ℕ → ℤ → (ℤ → ℕ) → ℕ
@@ -21,8 +21,8 @@ abbrev pub box_sum : Size → Place → (Place → ℕ) → ℕ
 box_sum s u f = axis_sum s.z u.z (λ z. axis_sum s.y u.y (λ y. axis_sum s.x u.x (λ x. f (place x y z))))
 
 -- the number of positions of a box
-abbrev pub volume : Size → ℕ
-volume s = s.x * (s.y * s.z)
+abbrev pub size_volume : Size → ℕ
+size_volume s = s.x * (s.y * s.z)
 
 -- c is one of the n coordinates from a on
 abbrev pub is_on : ℕ → ℤ → ℤ → Bool

@@ -6,7 +6,7 @@ use Rattle.std.proofs.lemmas.Bool.{cases_eq, cases_Bool, false≢true, false_fro
 use Rattle.std.proofs.lemmas.List.{length-set, length-append, length-take, take-append-le, get_or-take, get_or_append_left, take_all, take_more, length-replicate}
 use Rattle.std.proofs.Math.Seq.{get_or-append_seam, take-append_seam}
 use Rattle.dd_clause.specs.declared.clause.Literal.{Literal}
-use Rattle.dd_clause.specs.Clauses.{IsInRange, negation}
+use Rattle.dd_clause.specs.Clauses.{IsLiteralInRange, negation}
 use Rattle.dd_derivation.specs.Derivations.{same_literal, is_among, has_variable}
 use Rattle.dd_derivation.specs.lemmas.Soundness.{literal-eq, same_literal-eq, same_literal-refl}
 use Rattle.dd_solver.specs.declared.trail.Entry.{Entry}
@@ -29,7 +29,7 @@ same_code x y e = go x.positive y.positive refl refl e
     go false false a b e = literal-eq x y (omega arith) (a ∙ sym b)
 
 -- a list of all literals has a place for each in range
-pub code_within : (n : ℕ) (l : Literal) → IsInRange n l → code l < 2 * n + 2
+pub code_within : (n : ℕ) (l : Literal) → IsLiteralInRange n l → code l < 2 * n + 2
 code_within n l r = go l.positive
   where
     go : (p : Bool) → 2 * l.variable + cond p 1 0 < 2 * n + 2
@@ -55,7 +55,7 @@ other x m xs n = or_first (false_from_ne_true (same_literal x m) (λ s. n (ap co
     or_first : same_literal x m ≡ false → (same_literal x m || is_among xs x) ≡ is_among xs x
     or_first e = rw e refl
 
-pub denied_more : (n : ℕ) (trail : List Entry) (denied : List Bool) (e : Entry) → IsDenied n trail denied → IsInRange n e.literal → has_variable e.literal.variable (falses trail) ≡ false → IsDenied n (trail ++ e ∷ []) (set denied (code (negation e.literal)) true)
+pub denied_more : (n : ℕ) (trail : List Entry) (denied : List Bool) (e : Entry) → IsDenied n trail denied → IsLiteralInRange n e.literal → has_variable e.literal.variable (falses trail) ≡ false → IsDenied n (trail ++ e ∷ []) (set denied (code (negation e.literal)) true)
 denied_more n trail denied e v r f =
     let m = negation e.literal in
     let lt : code m < length denied = rw v.as_many (code_within n m r) in
@@ -92,7 +92,7 @@ denied_less n trail denied j d l v =
     }
 
 -- there is room for an entry that is new
-pub room_more : (n : ℕ) (trail : List Entry) (denied : List Bool) (e : Entry) → IsDenied n trail denied → IsInRange n e.literal → has_variable e.literal.variable (falses trail) ≡ false → length trail < n
+pub room_more : (n : ℕ) (trail : List Entry) (denied : List Bool) (e : Entry) → IsDenied n trail denied → IsLiteralInRange n e.literal → has_variable e.literal.variable (falses trail) ≡ false → length trail < n
 room_more n trail denied e v r f =
     let w = valued_of n (trail ++ e ∷ []) (denied_more n trail denied e v r f).news in
     omega (arith, length_within (trail ++ e ∷ []) w.0 w.2, w.1, length-append trail (e ∷ []))

@@ -5,10 +5,10 @@ use Rattle.std.proofs.lemmas.Bool.{and_parts, and_from, or_right, leb-true}
 use Rattle.std.proofs.lemmas.List.{length-append}
 use Rattle.std.proofs.lemmas.List.Elements.{All-cons, All-nil}
 use Rattle.dd_clause.specs.declared.clause.Literal.{Literal}
-use Rattle.dd_clause.specs.Clauses.{IsInRange, IsClauseInRange}
+use Rattle.dd_clause.specs.Clauses.{IsLiteralInRange, IsClauseInRange}
 use Rattle.dd_derivation.specs.declared.propagation.Finding.TheVariants.{Forced}
 use Rattle.dd_derivation.specs.declared.step.Step.{Step}
-use Rattle.dd_derivation.specs.Derivations.{is_among, finding, clause_of, hint_finding, is_in_range, is_proper, is_conflict, is_right, are_deletable, known_after, refutes_from}
+use Rattle.dd_derivation.specs.Derivations.{is_among, finding, clause_of, hint_finding, is_literal_in_range, is_proper, is_conflict, is_right, are_deletable, known_after, refutes_from}
 use Rattle.dd_solver.specs.declared.trail.Entry.{Entry}
 use Rattle.dd_solver.specs.Entries.{falses, AreInRange, Follows, IsTrail}
 use Rattle.dd_solver.specs.Analysis.{is_rightly_learned}
@@ -43,11 +43,11 @@ pub hint_new : (known : Known) (c : List Literal) (p : Literal → Bool) (r : �
 hint_new known c p r e = at_clause (known ++ Some c ∷ []) p r c (known_last known c r e)
 
 proper_in_range : (n : ℕ) (c : List Literal) → is_proper n c ≡ true → IsClauseInRange n c
-proper_in_range n [] h = All-nil (IsInRange n)
+proper_in_range n [] h = All-nil (IsLiteralInRange n)
 proper_in_range n (l ∷ c) h =
-    let q = and_parts (is_in_range n l && _) (is_proper n c) h in
-    let r = and_parts _ _ (and_parts (is_in_range n l) _ q.0).0 in
-    All-cons (IsInRange n) l c (leb-true _ _ r.0, leb-true _ _ r.1) (proper_in_range n c q.1)
+    let q = and_parts (is_literal_in_range n l && _) (is_proper n c) h in
+    let r = and_parts _ _ (and_parts (is_literal_in_range n l) _ q.0).0 in
+    All-cons (IsLiteralInRange n) l c (leb-true _ _ r.0, leb-true _ _ r.1) (proper_in_range n c q.1)
 
 pub in_range_after : (n : ℕ) (known : Known) (s : Step) → AreInRange n known → is_proper n s.clause ≡ true → AreInRange n (after_step known s)
 in_range_after n known s ok p r c e = elim (known_push (known_after known s.deletes) s.clause c r e) [

@@ -8,7 +8,7 @@ use Rattle.std.proofs.lemmas.List.Folds.{list_any-append}
 use Rattle.dd_clause.specs.declared.clause.Literal.{Literal}
 use Rattle.dd_clause.specs.Clauses.{negation}
 use Rattle.dd_derivation.specs.declared.propagation.Finding.TheVariants.{Falsified, Forced}
-use Rattle.dd_derivation.specs.Derivations.{same_literal, is_among, has_variable, clause_of, hint_finding, is_conflict, is_in_range, is_proper}
+use Rattle.dd_derivation.specs.Derivations.{same_literal, is_among, has_variable, clause_of, hint_finding, is_conflict, is_literal_in_range, is_proper}
 use Rattle.dd_derivation.specs.lemmas.Soundness.{same_literal-refl}
 use Rattle.dd_derivation.specs.lemmas.Findings.{In, in_here, Forces, forces_from}
 use Rattle.dd_solver.specs.declared.trail.Entry.{Entry}
@@ -132,11 +132,11 @@ module _ (n : ℕ) (known : List (Option (List Literal))) (trail : List Entry) (
       proper_snoc n learned (negation (get_or trail j d).literal) (and_from _ _ (le-leb 1 _ r.0) (le-leb _ n r.1)) p
       (λ y i v. let w = later y i in apart n known trail ok j w.0 d (omega arith) w.2 (sym (ap (λ (z : Literal). z.variable) (w.3 d) ∙ v)))
     where
-      proper_snoc : (n : ℕ) (xs : List Literal) (l : Literal) → is_in_range n l ≡ true → is_proper n xs ≡ true → ((y : Literal) → In xs y → y.variable ≡ l.variable → ⊥) → is_proper n (xs ++ l ∷ []) ≡ true
+      proper_snoc : (n : ℕ) (xs : List Literal) (l : Literal) → is_literal_in_range n l ≡ true → is_proper n xs ≡ true → ((y : Literal) → In xs y → y.variable ≡ l.variable → ⊥) → is_proper n (xs ++ l ∷ []) ≡ true
       proper_snoc n [] l r p a = rw r refl
       proper_snoc n (x ∷ xs) l r p a =
-          let q = and_parts (is_in_range n x && not (has_variable x.variable xs)) (is_proper n xs) p in
-          let q' = and_parts (is_in_range n x) (not (has_variable x.variable xs)) q.0 in
+          let q = and_parts (is_literal_in_range n x && not (has_variable x.variable xs)) (is_proper n xs) p in
+          let q' = and_parts (is_literal_in_range n x) (not (has_variable x.variable xs)) q.0 in
           let f : has_variable x.variable xs ≡ false = not-true _ q'.1 in
           let g : eqb l.variable x.variable ≡ false = ne_eqb l.variable x.variable (λ e. a x (in_here xs x) (sym e)) in
           let h : has_variable x.variable (xs ++ l ∷ []) ≡ false = rw (list_any-append (λ y. eqb y.variable x.variable) xs (l ∷ []), f, g) refl in

@@ -8,7 +8,7 @@ use Rattle.std.proofs.lemmas.List.{length-append, length-replicate, append-nil}
 use Rattle.std.proofs.lemmas.List.Elements.{All-head, All-tail, All-push}
 use Rattle.std.proofs.lemmas.Option.{slice_get-get_or}
 use Rattle.dd_clause.specs.declared.clause.Literal.{Literal}
-use Rattle.dd_clause.specs.Clauses.{IsInRange, IsClauseInRange, is_true, is_clause_true, Satisfies}
+use Rattle.dd_clause.specs.Clauses.{IsLiteralInRange, IsClauseInRange, is_true, is_clause_true, Satisfies}
 use Rattle.dd_values.specs.Variables.{true_variables}
 use Rattle.dd_derivation.specs.declared.propagation.Finding.TheVariants.{Falsified, Forced, Open}
 use Rattle.dd_derivation.specs.declared.step.Step.{Step}
@@ -36,10 +36,10 @@ all_in P (y ∷ c) x a i = elim (or_cases (same_literal x y) (is_among c x) i) [
 ]
 
 -- a forced literal is in range, and its variable is none of the false literals'
-pub forced_in_range : (known : Known) (n : ℕ) (p : Literal → Bool) (r : ℕ) (l : Literal) → AreInRange n known → hint_finding known p r ≡ Forced l → IsInRange n l
+pub forced_in_range : (known : Known) (n : ℕ) (p : Literal → Bool) (r : ℕ) (l : Literal) → AreInRange n known → hint_finding known p r ≡ Forced l → IsLiteralInRange n l
 forced_in_range known n p r l a h =
     let q = hint_clause known p r (Forced l) (λ e. cc) h in
-    all_in (IsInRange n) q.0 l (a r q.0 q.1) (forces_from p q.0 l q.2).member
+    all_in (IsLiteralInRange n) q.0 l (a r q.0 q.1) (forces_from p q.0 l q.2).member
 
 pub forced_new : (known : List (Option (List Literal))) (xs : List Literal) (r : ℕ) (l : Literal) → hint_finding known (is_among xs) r ≡ Forced l → has_variable l.variable xs ≡ false
 forced_new known xs r l h = false_from_ne_true _ (λ t.
@@ -137,7 +137,7 @@ values_satisfy s values ok open' full value k d h =
     let range : IsClauseInRange s.variables c = ok.in_range (suc k) c here in
     let said : finding p c ≡ Open = sym (at_clause (known s) p (suc k) c here) ∙ open' (suc k) in
     true_from_ne_false (is_clause_true set c) (λ f. differ (sym (all_falsified p c (λ x i.
-    let r = all_in (IsInRange s.variables) c x range i in
+    let r = all_in (IsLiteralInRange s.variables) c x range i in
     denied x.positive x.variable (full x.variable r.0 r.1) (value x.variable r.0 r.1) (all_false set c f x i))) ∙ said))
   where
     differ : Falsified ≡ Open → ⊥

@@ -8,7 +8,7 @@ use Rattle.std.proofs.lemmas.Bool.{cases_eq, eq-eqb, eqb-true, ne_eqb, false≢t
 use Rattle.std.proofs.lemmas.List.{length-set, length-append, length-take, take-append-le, get_or-take, get_or_append_left, take_all, take_more}
 use Rattle.std.proofs.Math.Seq.{get_or-append_seam, take-append_seam}
 use Rattle.dd_clause.specs.declared.clause.Literal.{Literal}
-use Rattle.dd_clause.specs.Clauses.{IsInRange, negation}
+use Rattle.dd_clause.specs.Clauses.{IsLiteralInRange, negation}
 use Rattle.dd_values.specs.Variables.{true_variables}
 use Rattle.dd_derivation.specs.Derivations.{same_literal, is_among, has_variable}
 use Rattle.dd_solver.specs.declared.trail.Entry.{Entry}
@@ -37,7 +37,7 @@ count_valued (v ∷ values) = one_if_some v + count_valued values
 -- the values are those that make the trail's literals true, whose variables are distinct
 pub record IsValued (trail : List Entry) (values : List (Option Bool)) : Type 0 where
   pub news : (k : ℕ) (d : Entry) → k < length trail → IsNewTo (length values) (take k trail) (get_or trail k d)
-  pub values_ok : (l : Literal) → IsInRange (length values) l → is_denied values l ≡ is_among (falses trail) l
+  pub values_ok : (l : Literal) → IsLiteralInRange (length values) l → is_denied values l ≡ is_among (falses trail) l
   pub count_ok : count_valued values ≡ length trail
 
 none : Entry
@@ -84,7 +84,7 @@ among_other trail x e n = or_first (same_literal x (negation e)) (is_among trail
 pub falses-snoc : (trail : List Entry) (e : Entry) (x : Literal) → is_among (falses (trail ++ e ∷ [])) x ≡ is_among (negation e.literal ∷ falses trail) x
 falses-snoc trail e x = ap (λ (xs : List Literal). is_among xs x) (falses-append trail (e ∷ [])) ∙ among_snoc (falses trail) (negation e.literal) x
 
-pub valued_more : (trail : List Entry) (values : List (Option Bool)) (e : Entry) → IsValued trail values → IsInRange (length values) e.literal → has_variable e.literal.variable (falses trail) ≡ false → IsValued (trail ++ e ∷ []) (set values (e.literal.variable - 1) (Some e.literal.positive))
+pub valued_more : (trail : List Entry) (values : List (Option Bool)) (e : Entry) → IsValued trail values → IsLiteralInRange (length values) e.literal → has_variable e.literal.variable (falses trail) ≡ false → IsValued (trail ++ e ∷ []) (set values (e.literal.variable - 1) (Some e.literal.positive))
 valued_more trail values e v r f =
     let l = e.literal in
     let i = l.variable - 1 in
@@ -99,7 +99,7 @@ valued_more trail values e v r f =
         | inr n ↦ (let b : k < length trail = omega (arith, length-append trail (e ∷ [])) in
             rw (length-set values i o, get_or_append_left trail (e ∷ []) d k b, take-append-le k trail (e ∷ []) (omega arith)) (v.news k d b))
       ];
-      values_ok = λ x h. (let h' : IsInRange (length values) x = rw (length-set values i o) at h in
+      values_ok = λ x h. (let h' : IsLiteralInRange (length values) x = rw (length-set values i o) at h in
           elim (cases_eq x.variable l.variable) [
             | inl q ↦ rw (ap (λ (n : ℕ). n - 1) q, get_or-set_same values i o None lt) (among_same (falses trail) x l q f ∙ sym (falses-snoc trail e x))
             | inr n ↦ (let u : x.variable - 1 ≢ i = λ z. n (omega arith) in
@@ -158,7 +158,7 @@ valued_entry : (trail : List Entry) (values : List (Option Bool)) (v : ℕ) → 
     → has_variable v (falses trail) ≡ true → one_if_some (get_or values (v - 1) None) ≡ 1
 valued_entry trail values v ok a b h =
     let w = in-has_variable (falses trail) v h in
-    let r : IsInRange (length values) w.0 = rw (w.2) (a, b) in
+    let r : IsLiteralInRange (length values) w.0 = rw (w.2) (a, b) in
     let s = denied_valued w.0.positive (get_or values (w.0.variable - 1) None) (ok.values_ok w.0 r ∙ w.1) in
     subst (λ (n : ℕ). one_if_some (get_or values (n - 1) None) ≡ 1) w.2 s
 

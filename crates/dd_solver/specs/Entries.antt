@@ -1,7 +1,7 @@
 -- The trail of a search: the literals that are true, in the order in which they became so.
 use Rattle.std.specs.Prelude.{◌≡◌, ℕ, ◌<◌, ◌≤◌, true, false, List, map, Option, Some, None, length, take, slice_index_or, ⊤}
 use Rattle.dd_clause.specs.declared.clause.Literal.{Literal}
-use Rattle.dd_clause.specs.Clauses.{IsInRange, IsClauseInRange, negation}
+use Rattle.dd_clause.specs.Clauses.{IsLiteralInRange, IsClauseInRange, negation}
 use Rattle.dd_derivation.specs.declared.propagation.Finding.TheVariants.{Forced}
 use Rattle.dd_derivation.specs.Derivations.{is_among, has_variable, clause_of, hint_finding}
 use Rattle.dd_solver.specs.declared.trail.Entry.{Entry}
@@ -30,7 +30,7 @@ Follows known older l (Some r) = hint_finding known (is_among (falses older)) r 
 
 -- an entry's variable is in range and no older entry's, and its literal was decided or follows
 pub record EntryOk (n : ℕ) (known : List (Option (List Literal))) (older : List Entry) (e : Entry) : Type 0 where
-  pub in_range : IsInRange n e.literal
+  pub in_range : IsLiteralInRange n e.literal
   pub fresh : has_variable e.literal.variable (falses older) ≡ false
   pub follows : Follows known older e.literal e.reason
 

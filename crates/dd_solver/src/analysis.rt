@@ -4,7 +4,7 @@
 // kept, the resolved clauses' numbers are hints that show that the learned clause follows; so what is best to keep is
 // not said in any contract.
 ghost use Rattle.std.specs.Prelude.{◌≡◌, ℕ, ◌<◌, ◌≤◌, true, [], length, IfOk, MatchOption, slice_index_or, ⊤};
-ghost use Rattle.dd_clause.specs.Clauses.{IsInRange, IsClauseInRange};
+ghost use Rattle.dd_clause.specs.Clauses.{IsLiteralInRange, IsClauseInRange};
 ghost use Rattle.dd_derivation.specs.declared.propagation.Finding.TheVariants.{Falsified};
 ghost use Rattle.dd_derivation.specs.Derivations.{hint_finding, is_among};
 ghost use Rattle.dd_solver.specs.Entries.{falses, IsTrail, AreInRange};
@@ -88,7 +88,7 @@ fn adds_nothing(database: &Database, marked: &[bool], number: u64, literal: Lite
 /// The lowest decision at or below a place with nothing marked between.
 fn find_place(entries: &[Entry], marked: &[bool], top: usize) -> Option<usize>
     requires top { top < length entries.now }
-    requires in_range { (k : ℕ) (d : Entry) → k < length entries.now → IsInRange (length marked.now) (slice_index_or entries.now k d).literal }
+    requires in_range { (k : ℕ) (d : Entry) → k < length entries.now → IsLiteralInRange (length marked.now) (slice_index_or entries.now k d).literal }
     ensures { MatchOption result ⊤ (IsPlace entries.now marked.now top) }
 {
     let mut place: Option<usize> = None;
@@ -110,7 +110,7 @@ fn find_place(entries: &[Entry], marked: &[bool], top: usize) -> Option<usize>
 /// Makes the turn at a marked entry.
 fn turn_at(entries: &[Entry], marked: &[bool], place: usize) -> Option<Turn>
     requires place { place < length entries.now }
-    requires in_range { (k : ℕ) (d : Entry) → k < length entries.now → IsInRange (length marked.now) (slice_index_or entries.now k d).literal }
+    requires in_range { (k : ℕ) (d : Entry) → k < length entries.now → IsLiteralInRange (length marked.now) (slice_index_or entries.now k d).literal }
     ensures { MatchOption result ⊤ (IsTurn entries.now marked.now place) }
 {
     let literal = entries[place].literal.negation();
@@ -124,7 +124,7 @@ fn turn_at(entries: &[Entry], marked: &[bool], place: usize) -> Option<Turn>
 fn turn_at_decision(entries: &[Entry], marked: &[bool], place: usize) -> Turn
     requires place { place < length entries.now }
     requires decided { (d : Entry) → (slice_index_or entries.now place d).reason ≡ None }
-    requires in_range { (k : ℕ) (d : Entry) → k < length entries.now → IsInRange (length marked.now) (slice_index_or entries.now k d).literal }
+    requires in_range { (k : ℕ) (d : Entry) → k < length entries.now → IsLiteralInRange (length marked.now) (slice_index_or entries.now k d).literal }
     ensures { IsTurn entries.now marked.now place result }
 {
     match turn_at(entries, marked, place) {
@@ -148,7 +148,7 @@ fn choose(
     open: usize,
 ) -> Choice
     requires place { place < length trail.now.entries }
-    requires in_range { (k : ℕ) (d : Entry) → k < length trail.now.entries → IsInRange (length marked.now) (slice_index_or trail.now.entries k d).literal }
+    requires in_range { (k : ℕ) (d : Entry) → k < length trail.now.entries → IsLiteralInRange (length marked.now) (slice_index_or trail.now.entries k d).literal }
     ensures { ChoiceSays trail.now.entries marked.now turn place result }
 {
     let entries = trail.entries();

@@ -1,7 +1,7 @@
 // The literals that are true, in the order in which they became so, and which literals are false. What a trail says
 // of a literal depends on its entries alone; one truth value for each literal makes each look cost the same.
 ghost use Rattle.std.specs.Prelude.{◌≡◌, ℕ, ◌+◌, ◌<◌, ◌≤◌, ◌^◌, ◌++◌, ◌∷◌, [], true, false, length, take, slice_set, ◌-◌, IfOk, OnOk, OnErr, MatchOption, IsTrue, ◌↔◌};
-ghost use Rattle.dd_clause.specs.Clauses.{IsInRange};
+ghost use Rattle.dd_clause.specs.Clauses.{IsLiteralInRange};
 ghost use Rattle.dd_values.specs.Variables.{true_variables};
 ghost use Rattle.dd_derivation.specs.Derivations.{is_among, has_variable};
 ghost use Rattle.dd_solver.specs.Entries.{falses, IsFree, IsFull};
@@ -105,7 +105,7 @@ impl Trail {
 
     /// Makes a literal true whose variable has no value.
     pub fn assign(&mut self, entry: Entry) -> Result<(), AllocError>
-        requires in_range { IsInRange self.old.variables entry.literal }
+        requires in_range { IsLiteralInRange self.old.variables entry.literal }
         requires fresh { has_variable entry.literal.variable (falses self.old.entries) ≡ false }
         ensures variables { self.new.variables ≡ self.old.variables }
         ensures entries { OnOk result (self.new.entries ≡ self.old.entries ++ entry ∷ []) }

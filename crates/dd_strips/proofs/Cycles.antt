@@ -10,7 +10,7 @@ use Rattle.std.proofs.lemmas.Nat.{mul-add-lt, mod-mul-add, div-mul-add, div-add-
 use Rattle.std.proofs.lemmas.List.{ext_get_or}
 use Rattle.std.proofs.lemmas.List.FromFn.{length-map-range_with_len, get_or-map-range_with_len}
 use Rattle.dd_pattern.specs.declared.periods.Periods.{Periods}
-use Rattle.dd_pattern.specs.Periods.{residue, volume}
+use Rattle.dd_pattern.specs.Periods.{residue, periods_volume}
 use Rattle.dd_pattern.specs.Tile.{Tile, IsTile, tile, tile_index, tile_look}
 use Rattle.dd_pattern.specs.Weight.{total_weight}
 use Rattle.dd_formula.specs.LocalRule.{LocalRule, IsRule, rule_allows}
@@ -51,7 +51,7 @@ symbol_of r s walk k =
 
 abbrev pub tile_of : LocalRule → Strip → List ℕ → Tile
 tile_of r s walk =
-    tile r.dimension (periods_for s (length walk)) s.nodes (map (symbol_of r s walk) (range_with_len 0 (volume (periods_for s (length walk)) * s.nodes)))
+    tile r.dimension (periods_for s (length walk)) s.nodes (map (symbol_of r s walk) (range_with_len 0 (periods_volume (periods_for s (length walk)) * s.nodes)))
 
 module _ (r : LocalRule) (s : Strip) (walk : List ℕ) (rule : IsRule r) (for : IsFor r s) (numbers : AreDigits r.symbols) (closed : IsClosedWalk r s walk) where
   is_tile : IsTile (tile_of r s walk)
@@ -68,7 +68,7 @@ module _ (r : LocalRule) (s : Strip) (walk : List ℕ) (rule : IsRule r) (for : 
       shear_unused = λ _. refl;
     };
     nodes_some = for.sized.nodes_some;
-    full = length-map-range_with_len (symbol_of r s walk) 0 (volume (periods_for s (length walk)) * s.nodes);
+    full = length-map-range_with_len (symbol_of r s walk) 0 (periods_volume (periods_for s (length walk)) * s.nodes);
   }
 
   symbol_below : (k : ℕ) → symbol_of r s walk k < r.symbols
@@ -76,7 +76,7 @@ module _ (r : LocalRule) (s : Strip) (walk : List ℕ) (rule : IsRule r) (for : 
 
   all_known : All (λ d. d < r.symbols) (tile_of r s walk).symbols
   all_known k d lt =
-      let n = volume (periods_for s (length walk)) * s.nodes in
+      let n = periods_volume (periods_for s (length walk)) * s.nodes in
       let below : k < n = omega (arith, lt, length-map-range_with_len (symbol_of r s walk) 0 n) in
       subst (λ (v : ℕ). v < r.symbols) (sym (get_or-map-range_with_len (symbol_of r s walk) 0 n k k d below (omega arith))) (symbol_below k)
 
@@ -91,7 +91,7 @@ module _ (r : LocalRule) (s : Strip) (walk : List ℕ) (rule : IsRule r) (for : 
       let a = s.nodes in
       let i = residue x n in
       let row = k / a in
-      let m = volume (periods_for s n) * a in
+      let m = periods_volume (periods_for s n) * a in
       let i_lt : i < n = residue_below x n closed.some in
       let b_lt : k % a < a = mod_below k a for.sized.nodes_some in
       let row_lt : row < s.y * s.z = div_below k a (s.y * s.z) for.sized.nodes_some (omega arith) in

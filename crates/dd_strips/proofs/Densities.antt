@@ -4,7 +4,7 @@ use Rattle.std.proofs.Math.Nat.{le_of_mul-le-mul_right, mul-le-mul_left}
 use Rattle.std.proofs.lemmas.Int.{ints}
 use Rattle.std.proofs.lemmas.Bool.{cases_lt}
 use Rattle.dd_pattern.specs.Reading.{Look}
-use Rattle.dd_pattern.specs.Periods.{volume}
+use Rattle.dd_pattern.specs.Periods.{periods_volume}
 use Rattle.dd_pattern.specs.Tile.{Tile, tile_look}
 use Rattle.dd_formula.specs.LocalRule.{LocalRule, IsRule}
 use Rattle.dd_counts.specs.Rules.{window}
@@ -63,7 +63,7 @@ exactly p q m l n a w some same h =
 no_rise : (a c : ℤ) (m l : ℕ) → c ≡ a → (c +ℤ pos m) ≤ℤ (a +ℤ pos l) → m ≤ l
 no_rise a c m l same h = omega (arith, ints, same, h)
 
-volume_is : (s : Strip) (t : Tile) → t.periods.y ≡ s.y → t.periods.z ≡ s.z → volume t.periods ≡ positions s * t.periods.x
+volume_is : (s : Strip) (t : Tile) → t.periods.y ≡ s.y → t.periods.z ≡ s.z → periods_volume t.periods ≡ positions s * t.periods.x
 volume_is s t y z =
     ap (λ (n : ℕ). n * t.periods.y * t.periods.x) z
     ∙ (ap (λ (n : ℕ). s.z * n * t.periods.x) y ∙ ap (λ (n : ℕ). n * t.periods.x) (let e : s.z * s.y ≡ s.y * s.z = omega arith in e))
@@ -136,13 +136,13 @@ module _ (r : LocalRule) (s : Strip) (rule : IsRule r) (for : IsFor r s) (edges 
     cycle_edges : AreEdgesOf r s (tile_look (tile_of r s walk))
     cycle_edges = edges (tile_look (tile_of r s walk)) (tile_repeats r s (tile_of r s walk) for (on_strip r s walk rule for numbers c.closed))
 
-    density_of : (t : Tile) → LivesOnStrip r s t → p * volume t.periods ≤ q * tile_weight ws t
+    density_of : (t : Tile) → LivesOnStrip r s t → p * periods_volume t.periods ≤ q * tile_weight ws t
     density_of t on =
         let heavy = tile_heavy t on ws c.m c.l ps c.potentials in
         let here : p * (positions s * t.periods.x) ≤ q * tile_weight ws t = at_least p q c.m c.l t.periods.x (positions s) (tile_weight ws t) c.mean.positive c.density.same heavy in
         subst (λ (v : ℕ). p * v ≤ q * tile_weight ws t) (sym (volume_is s t on.y_period on.z_period)) here
 
-    cycle_density : p * volume (tile_of r s walk).periods ≡ q * tile_weight ws (tile_of r s walk)
+    cycle_density : p * periods_volume (tile_of r s walk).periods ≡ q * tile_weight ws (tile_of r s walk)
     cycle_density =
         let here : p * (positions s * length walk) ≡ q * walk_weight r s ws walk = exactly p q c.m c.l (length walk) (positions s) (walk_weight r s ws walk) c.mean.positive c.density.same c.mean.same in
         ap (λ (v : ℕ). p * v) (volume_is s (tile_of r s walk) refl refl)

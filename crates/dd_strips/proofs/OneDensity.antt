@@ -6,7 +6,7 @@ use Rattle.std.proofs.Math.Nat.{le_of_mul-le-mul_right, mul-le-mul_left, mul-le-
 use Rattle.std.proofs.lemmas.Nat.{mod_below, mod-mul-add, div-add-mod'}
 use Rattle.std.proofs.lemmas.Nat.Gcd.{IsGcd-from_zero, IsGcd-from_mod, same_from_IsGcd}
 use Rattle.dd_pattern.specs.declared.periods.Periods.{Periods}
-use Rattle.dd_pattern.specs.Periods.{ArePeriodsIn, volume}
+use Rattle.dd_pattern.specs.Periods.{ArePeriodsIn, periods_volume}
 use Rattle.dd_formula.specs.LocalRule.{LocalRule}
 use Rattle.dd_transfer.specs.declared.strip.Strip.{Strip}
 use Rattle.dd_strips.specs.Strips.{IsLeastDensity, tile_weight}
@@ -65,7 +65,7 @@ no_more p q a b n w some less is =
     let all : (p * b) * n ≤ (a * q) * n = omega (arith, one, two, three, four, five) in
     le_of_mul-le-mul_right all some
 
-some_volume : (d : ℕ) (p : Periods) → ArePeriodsIn d p → 0 < volume p
+some_volume : (d : ℕ) (p : Periods) → ArePeriodsIn d p → 0 < periods_volume p
 some_volume d p are =
     let one : 1 * 1 ≤ p.z * p.y = both 1 p.z 1 p.y are.z_some are.y_some in
     both 1 (p.z * p.y) 1 p.x one are.x_some
@@ -78,8 +78,8 @@ some_volume d p are =
 
 pub one_density_law : (r : LocalRule) (s : Strip) (ws : List ℕ) (p q a b : ℕ) → IsLeastDensity r s ws p q → IsLeastDensity r s ws a b → IsGcd p q 1 → IsGcd a b 1 → (p ≡ a) × (q ≡ b)
 one_density_law r s ws p q a b one other lowest lowest' =
-    let n = volume one.some.periods in
-    let k = volume other.some.periods in
+    let n = periods_volume one.some.periods in
+    let k = periods_volume other.some.periods in
     let n_some : 0 < n = some_volume one.some.dimension one.some.periods one.lives.tile.periods in
     let k_some : 0 < k = some_volume other.some.dimension other.some.periods other.lives.tile.periods in
     let up : p * b ≤ a * q = no_more p q a b k (tile_weight ws other.some) k_some (one.least other.some other.lives) other.density in

@@ -2,7 +2,7 @@
 use Rattle.std.specs.Prelude.{◌≡◌, ℕ, ◌*◌, ◌<◌, ◌≤◌, ◌&&◌, Bool, ℤ, pos, ◌+ℤ◌, int_le, int_lt, nat_lt, is_some, List}
 use Rattle.dd_lattice.specs.declared.position.Cell.{Cell}
 use Rattle.dd_pattern.specs.Reading.{Look}
-use Rattle.dd_pattern.specs.Periods.{volume}
+use Rattle.dd_pattern.specs.Periods.{periods_volume}
 use Rattle.dd_pattern.specs.Tile.{Tile, IsTile}
 use Rattle.dd_pattern.specs.Weight.{total_weight}
 use Rattle.dd_formula.specs.LocalRule.{LocalRule}
@@ -55,5 +55,5 @@ pub record IsLeastDensity (r : LocalRule) (s : Strip) (ws : List ℕ) (p q : ℕ
   pub positive : 0 < q
   pub some : Tile
   pub lives : LivesOnStrip r s some
-  pub density : p * volume some.periods ≡ q * tile_weight ws some
-  pub least : (t : Tile) → LivesOnStrip r s t → p * volume t.periods ≤ q * tile_weight ws t
+  pub density : p * periods_volume some.periods ≡ q * tile_weight ws some
+  pub least : (t : Tile) → LivesOnStrip r s t → p * periods_volume t.periods ≤ q * tile_weight ws t

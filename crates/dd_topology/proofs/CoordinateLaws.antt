@@ -6,27 +6,27 @@ use Rattle.std.specs.Prelude.{◌==◌, ◌&&◌}
 use Rattle.std.proofs.lemmas.Bool.{eqb-true, false_from_ne_true, and_left, and_right, and_from}
 use Rattle.std.proofs.lemmas.Bool.Decides.{Decides-int_eq}
 use Rattle.std.proofs.lemmas.Int.{ints}
-use Rattle.dd_lattice.specs.Place.{Place, place, moved, IsNear, IsInRange}
+use Rattle.dd_lattice.specs.Place.{Place, place, moved, IsCoordinateInRange, IsInRange}
 use Rattle.dd_topology.specs.Topology.{reversed}
 use Rattle.dd_topology.specs.Balls.{same_place}
 
-pub difference_of_near : (x : ℤ) → IsNear x → to_z w32 (of_z w32 (pos 0 -ℤ to_z w32 (of_z w32 x))) ≡ pos 0 -ℤ x
+pub difference_of_near : (x : ℤ) → IsCoordinateInRange x → to_z w32 (of_z w32 (pos 0 -ℤ to_z w32 (of_z w32 x))) ≡ pos 0 -ℤ x
 difference_of_near x near = omega (arith, ints)
 
 -- the word of a sum of coordinates
 abbrev word_sum : ℤ → ℤ → ℕ
 word_sum x y = of_z w32 (to_z w32 (of_z w32 x) +ℤ to_z w32 (of_z w32 y))
 
-same_coordinate : (x y s : ℤ) → IsNear x → IsNear y → IsNear s → word_sum x y ≡ of_z w32 s → x +ℤ y ≡ s
+same_coordinate : (x y s : ℤ) → IsCoordinateInRange x → IsCoordinateInRange y → IsCoordinateInRange s → word_sum x y ≡ of_z w32 s → x +ℤ y ≡ s
 same_coordinate x y s near near' near'' h = omega (arith, ints)
 
-same_word : (x y s : ℤ) → IsNear x → IsNear y → IsNear s → x +ℤ y ≡ s → word_sum x y ≡ of_z w32 s
+same_word : (x y s : ℤ) → IsCoordinateInRange x → IsCoordinateInRange y → IsCoordinateInRange s → x +ℤ y ≡ s → word_sum x y ≡ of_z w32 s
 same_word x y s near near' near'' h = omega (arith, ints)
 
-apart : (x y s : ℤ) → IsNear x → IsNear y → IsNear s → (word_sum x y ≡ of_z w32 s → ⊥) → int_eq (x +ℤ y) s ≡ false
+apart : (x y s : ℤ) → IsCoordinateInRange x → IsCoordinateInRange y → IsCoordinateInRange s → (word_sum x y ≡ of_z w32 s → ⊥) → int_eq (x +ℤ y) s ≡ false
 apart x y s near near' near'' h = false_from_ne_true _ (λ e. h (same_word x y s near near' near'' ((Decides-int_eq _ _).0 e)))
 
-joined : (x y s : ℤ) → IsNear x → IsNear y → IsNear s → word_sum x y ≡ of_z w32 s → int_eq (x +ℤ y) s ≡ true
+joined : (x y s : ℤ) → IsCoordinateInRange x → IsCoordinateInRange y → IsCoordinateInRange s → word_sum x y ≡ of_z w32 s → int_eq (x +ℤ y) s ≡ true
 joined x y s near near' near'' h = (Decides-int_eq _ _).1 (same_coordinate x y s near near' near'' h)
 
 -- three positions in range, where the coordinates of two are to add up to those of the third

@@ -5,7 +5,7 @@ use Rattle.std.specs.Ordering.{int_eq}
 use Rattle.std.proofs.lemmas.Int.{ints}
 use Rattle.std.proofs.lemmas.Bool.{and_from, cases_lt, lt-ltb}
 use Rattle.std.proofs.lemmas.Nat.{mul-add-lt, mod-mul-add, div-mul-add, div-add-mod', mod_below, div_below}
-use Rattle.dd_lattice.specs.Place.{IsNear, Place, place, moved}
+use Rattle.dd_lattice.specs.Place.{IsCoordinateInRange, Place, place, moved}
 use Rattle.dd_lattice.specs.Cells.{cell}
 use Rattle.dd_lattice.specs.declared.position.Cell.{Cell}
 use Rattle.dd_pattern.specs.Periods.{residue}
@@ -61,7 +61,7 @@ residue_moved d v n some =
     sym (residue_added (d +ℤ v) n m.times some) ∙ (ap (λ z. residue z n) one ∙ residue_added (d +ℤ pos (residue v n)) n m.times' some)
 
 -- a sum of coordinates, as the code has it
-pub sum_of_near : (x y : ℤ) → IsNear x → IsNear y → to_z w32 (of_z w32 (to_z w32 (of_z w32 x) +ℤ to_z w32 (of_z w32 y))) ≡ x +ℤ y
+pub sum_of_near : (x y : ℤ) → IsCoordinateInRange x → IsCoordinateInRange y → to_z w32 (of_z w32 (to_z w32 (of_z w32 x) +ℤ to_z w32 (of_z w32 y))) ≡ x +ℤ y
 sum_of_near x y p q = omega (arith, ints)
 
 -- the cells of a slice are cells of Z^d

@@ -8,7 +8,7 @@ use Rattle.std.proofs.lemmas.List.{get_or_append_left, get_or_push, length-appen
 use Rattle.dd_lattice.specs.Place.{Place}
 use Rattle.dd_lattice.specs.Cells.{cell, shifted}
 use Rattle.dd_lattice.specs.declared.position.Cell.{Cell}
-use Rattle.dd_pattern.specs.Reading.{Look, IsBelow}
+use Rattle.dd_pattern.specs.Reading.{Look, HasSymbolsBelow}
 use Rattle.dd_expansion.specs.declared.expanded.Expanded.{Expanded}
 use Rattle.dd_expansion.specs.Leaves.{holds}
 use Rattle.dd_numbered.specs.declared.numbered.Numbered.{Numbered, roll-Numbered}
@@ -32,7 +32,7 @@ near_reads : (s : Strip) (v : Place) (ss : List ℕ) (c : Cell) → read_by (num
 near_reads s v ss c = symbol_cond ss (int_le (pos 0) (c.position.x +ℤ v.x) && nat_lt c.node s.nodes) (Some (window_index s (shifted v c)))
 
 abbrev SaysTruth : LocalRule → ℕ → Expanded → Type 0
-SaysTruth r a x = (look : Look) → IsBelow r.symbols look → (v : Place) → holds x (λ c. look (shifted v c)) ≡ is_true r (cell v a) look
+SaysTruth r a x = (look : Look) → HasSymbolsBelow r.symbols look → (v : Place) → holds x (λ c. look (shifted v c)) ≡ is_true r (cell v a) look
 
 says_near : (r : LocalRule) (s : Strip) (c : Cell) (e : Numbered) (x : Expanded) (p : Standpoint) → SaysTruth r c.node x → p ≡ standpoint s c.position →
     ((ss : List ℕ) → holds_in e ss ≡ holds x (read_by (numbers_near p) ss)) → SaysAt r s c e

@@ -11,7 +11,7 @@ use Rattle.dd_lattice.specs.lemmas.InOrderLaws.{list_all-in_order}
 use Rattle.dd_topology.specs.Topology.{extent}
 use Rattle.dd_formula.specs.LocalRule.{LocalRule, IsRule, is_near, reads_at, cells_at}
 use Rattle.dd_formula.specs.Reach.{all_cells}
-use Rattle.dd_counts.specs.Rules.{least_x, greatest_x, span, window}
+use Rattle.dd_counts.specs.Rules.{least_x, greatest_x, slice_span, window}
 use Rattle.dd_transfer.specs.Windows.{stand}
 
 pub le_from : (x y : ℤ) → x ≤ℤ y → int_le x y ≡ true

@@ -6,7 +6,7 @@ use Rattle.std.proofs.lemmas.Bool.{cond_both}
 use Rattle.dd_lattice.specs.Place.{Place, place}
 use Rattle.dd_lattice.specs.Cells.{cell, shifted}
 use Rattle.dd_lattice.specs.declared.position.Cell.{Cell}
-use Rattle.dd_pattern.specs.Reading.{Look, IsBelow}
+use Rattle.dd_pattern.specs.Reading.{Look, HasSymbolsBelow}
 use Rattle.dd_pattern.specs.Periods.{residue}
 use Rattle.dd_expansion.specs.Terms.{origin_at}
 use Rattle.dd_formula.specs.LocalRule.{LocalRule, is_true}
@@ -20,7 +20,7 @@ below_at n [] h i = tt
 below_at n (x ∷ xs) h zero = h zero x (omega arith)
 below_at n (x ∷ xs) h (suc i) = below_at n xs (λ k d within. h (suc k) d (omega arith)) i
 
-pub window_below : (r : LocalRule) (w : Shown) → IsFull r w → IsBelow r.symbols (shown_look w)
+pub window_below : (r : LocalRule) (w : Shown) → IsFull r w → HasSymbolsBelow r.symbols (shown_look w)
 window_below r w full c =
     cond_both (int_le (pos 0) c.position.x && nat_lt c.node w.strip.nodes) (slice_get w.symbols (window_index w.strip c)) None (λ o. IfSome o (λ s. s < r.symbols))
     (λ _. below_at r.symbols w.symbols full.known (window_index w.strip c)) (λ _. tt)

@@ -7,7 +7,7 @@ use Rattle.std.proofs.lemmas.List.{map-append, take_all, drop_all, length-map}
 use Rattle.std.proofs.lemmas.List.Elements.{All-push, All-weaker, Contains-append_left, Contains-append_right}
 use Rattle.dd_lattice.specs.Cells.{shifted}
 use Rattle.dd_lattice.specs.declared.position.Cell.{Cell}
-use Rattle.dd_pattern.specs.Reading.{IsBelow}
+use Rattle.dd_pattern.specs.Reading.{HasSymbolsBelow}
 use Rattle.dd_expansion.specs.lemmas.ListTests.{list_all-weaker, list_all-flat_map}
 use Rattle.dd_formula.specs.LocalRule.{LocalRule, is_true, expansion_at, reads_at}
 use Rattle.dd_formula.specs.Automata.{cases_reads}
@@ -141,7 +141,7 @@ module _ (w : Wiring) (c : Cases) (at : Cell) (i : ℕ) (start now : Network) (s
             let has = case_has s c.cases c.otherwise i case fit below is in
             let earlier = p.says s set look fit (agrees_before now new set extends agreed) below_all tells in
             let reads : TellsReads set w case.0 at look = λ d t y there wire. tells d t y (contains_case c.cases at.node i case d below is there) wire in
-            let here = says set look agreed (subst (λ k. IsBelow k look) (sym (rule_symbols s case.0 has)) below_all) reads in
+            let here = says set look agreed (subst (λ k. HasSymbolsBelow k look) (sym (rule_symbols s case.0 has)) below_all) reads in
             ap (map (signal_value set)) pushed
             ∙ (map-append (signal_value set) signals (x ∷ [])
             ∙ (ap (λ ys. ys ++ signal_value set x ∷ []) earlier
@@ -234,7 +234,7 @@ module _ (k : ℕ) (c : Cases) (w : Wiring) (at : Cell) (start one two new : Net
           let setting = has.setting in
           let before_two = agrees_before two new set h.third agreed in
           let truth : map (signal_value set) rules ≡ map (λ (case : LocalRule × ℕ). is_true case.0 at look) c.cases =
-          says setting set look has.fit (agrees_before one two set h.second before_two) (subst (λ n. IsBelow n look) (sym has.all) below) tells in
+          says setting set look has.fit (agrees_before one two set h.second before_two) (subst (λ n. HasSymbolsBelow n look) (sym has.all) below) tells in
           let chosen_ok = agrees_added one two set (choices [] rules) h.second.inputs h.choice_gates before_two in
           let symbols_ok = agrees_added two new set (symbol_gates k xs chosen) h.third.inputs h.gates agreed in
           let many : length rules ≡ length c.cases = ap length h.rules_are ∙ (rules_length w at c.cases (size start)) in

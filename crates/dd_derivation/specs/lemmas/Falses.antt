@@ -7,19 +7,19 @@ use Rattle.std.proofs.lemmas.List.{length-set, take_more, append_assoc, append-n
 use Rattle.std.proofs.lemmas.List.Elements.{All-set}
 use Rattle.std.proofs.lemmas.Bool.{cases_Bool, cases_eq, eq-eqb, eqb-true, ne_eqb, and_parts, and_from, and_left, leb-true, le-leb, or_cases, or_left, or_right, false≢true, false_from_ne_true}
 use Rattle.dd_clause.specs.declared.clause.Literal.{Literal}
-use Rattle.dd_clause.specs.Clauses.{negation, IsInRange}
+use Rattle.dd_clause.specs.Clauses.{negation, IsLiteralInRange}
 use Rattle.dd_derivation.specs.declared.propagation.Finding.{Finding}
 use Rattle.dd_derivation.specs.declared.propagation.Finding.TheVariants.{Forced, Open}
 use Rattle.dd_derivation.specs.declared.propagation.VariableMark.{VariableMark}
-use Rattle.dd_derivation.specs.Derivations.{same_literal, is_among, is_in_range, finding, clause_of, hint_finding, follow, is_conflict}
+use Rattle.dd_derivation.specs.Derivations.{same_literal, is_among, is_literal_in_range, finding, clause_of, hint_finding, follow, is_conflict}
 use Rattle.dd_derivation.specs.MarksOf.{is_marked, marked, first_of, literals_of, is_false_unmarked, is_false, FalsesAre, AreUpTo, AreBelow}
 use Rattle.dd_derivation.specs.lemmas.Soundness.{same_literal-eq, same_literal-refl, literal-eq, beq-eq}
 use Rattle.dd_derivation.specs.lemmas.Findings.{In, Forces, forces_from, hint_finding-congr}
 
-pub in_range-true : (n : ℕ) (l : Literal) → IsInRange n l → is_in_range n l ≡ true
+pub in_range-true : (n : ℕ) (l : Literal) → IsLiteralInRange n l → is_literal_in_range n l ≡ true
 in_range-true n l r = and_from _ _ (le-leb 1 l.variable r.0) (le-leb l.variable n r.1)
 
-pub in_range-from : (n : ℕ) (l : Literal) → is_in_range n l ≡ true → IsInRange n l
+pub in_range-from : (n : ℕ) (l : Literal) → is_literal_in_range n l ≡ true → IsLiteralInRange n l
 in_range-from n l h = let p = and_parts _ _ h in (leb-true _ _ p.0, leb-true _ _ p.1)
 
 pub negation-negation : (l : Literal) → negation (negation l) ≡ l
@@ -59,14 +59,14 @@ not_among falses x l v f g = elim (same_variable x l v) [
   | inr e ↦ subst (λ (y : Literal). is_among falses y ≡ false) (sym e) g
 ]
 
-marked_same : (marks : List VariableMark) (step : ℕ) (l x : Literal) → IsInRange (length marks) l → x.variable ≡ l.variable → is_marked (set marks (l.variable - 1) (record { step = step; positive = l.positive })) step x ≡ beq l.positive x.positive
+marked_same : (marks : List VariableMark) (step : ℕ) (l x : Literal) → IsLiteralInRange (length marks) l → x.variable ≡ l.variable → is_marked (set marks (l.variable - 1) (record { step = step; positive = l.positive })) step x ≡ beq l.positive x.positive
 marked_same marks step l x r v =
     let lt : l.variable - 1 < length marks = omega arith in
     let i : x.variable - 1 ≡ l.variable - 1 = omega arith in
     rw (i, get_or-set_same marks (l.variable - 1) (record { step = step; positive = l.positive }) (record { step = 0; positive = false }) lt, eq-eqb step step refl) refl
 
 -- the mark of a literal says of those in range that it is false, and nothing else is new
-set_more : (marks : List VariableMark) (step : ℕ) (falses : List Literal) (l x : Literal) → is_marked marks step x ≡ is_among falses x → IsInRange (length marks) x → IsInRange (length marks) l → is_among falses l ≡ false → is_among falses (negation l) ≡ false → is_marked (set marks (l.variable - 1) (record { step = step; positive = l.positive })) step x ≡ is_among (l ∷ falses) x
+set_more : (marks : List VariableMark) (step : ℕ) (falses : List Literal) (l x : Literal) → is_marked marks step x ≡ is_among falses x → IsLiteralInRange (length marks) x → IsLiteralInRange (length marks) l → is_among falses l ≡ false → is_among falses (negation l) ≡ false → is_marked (set marks (l.variable - 1) (record { step = step; positive = l.positive })) step x ≡ is_among (l ∷ falses) x
 set_more marks step falses l x m i r f g =
     elim (cases_eq x.variable l.variable) [
       | inl v ↦ marked_same marks step l x r v ∙ beq-sym l.positive x.positive ∙ sym (rw (eq-eqb x.variable l.variable v, not_among falses x l v f g) (or_false (beq x.positive l.positive)))
@@ -75,27 +75,27 @@ set_more marks step falses l x m i r f g =
     ]
 
 pub length-marked : (marks : List VariableMark) (step : ℕ) (l : Literal) → length (marked marks step l) ≡ length marks
-length-marked marks step l = elim (cases_Bool (is_in_range (length marks) l)) [
+length-marked marks step l = elim (cases_Bool (is_literal_in_range (length marks) l)) [
   | inl t ↦ rw t (length-set marks (l.variable - 1) _)
   | inr f ↦ rw f refl
 ]
 
 -- two literals of which one has a mark are not the same
-apart : (n : ℕ) (x l : Literal) → is_in_range n x ≡ true → is_in_range n l ≡ false → same_literal x l ≡ false
-apart n x l t f = false_from_ne_true _ (λ h. false≢true (sym f ∙ ap (is_in_range n) (sym (same_literal-eq x l h)) ∙ t))
+apart : (n : ℕ) (x l : Literal) → is_literal_in_range n x ≡ true → is_literal_in_range n l ≡ false → same_literal x l ≡ false
+apart n x l t f = false_from_ne_true _ (λ h. false≢true (sym f ∙ ap (is_literal_in_range n) (sym (same_literal-eq x l h)) ∙ t))
 
-apart' : (n : ℕ) (x l : Literal) → is_in_range n x ≡ false → is_in_range n l ≡ true → same_literal x l ≡ false
-apart' n x l f t = false_from_ne_true _ (λ h. false≢true (sym f ∙ ap (is_in_range n) (same_literal-eq x l h) ∙ t))
+apart' : (n : ℕ) (x l : Literal) → is_literal_in_range n x ≡ false → is_literal_in_range n l ≡ true → same_literal x l ≡ false
+apart' n x l f t = false_from_ne_true _ (λ h. false≢true (sym f ∙ ap (is_literal_in_range n) (same_literal-eq x l h) ∙ t))
 
-marked_more : (marks : List VariableMark) (step : ℕ) (falses : List Literal) (l x : Literal) → is_marked marks step x ≡ is_among falses x → is_in_range (length marks) x ≡ true → is_among falses l ≡ false → is_among falses (negation l) ≡ false → is_marked (marked marks step l) step x ≡ is_among (l ∷ falses) x
-marked_more marks step falses l x m i f g = elim (cases_Bool (is_in_range (length marks) l)) [
+marked_more : (marks : List VariableMark) (step : ℕ) (falses : List Literal) (l x : Literal) → is_marked marks step x ≡ is_among falses x → is_literal_in_range (length marks) x ≡ true → is_among falses l ≡ false → is_among falses (negation l) ≡ false → is_marked (marked marks step l) step x ≡ is_among (l ∷ falses) x
+marked_more marks step falses l x m i f g = elim (cases_Bool (is_literal_in_range (length marks) l)) [
   | inl t ↦ rw t (set_more marks step falses l x m (in_range-from _ x i) (in_range-from _ l t) f g)
   | inr n ↦ rw (n, apart (length marks) x l i n) m
 ]
 
 -- one more literal is false
-FalsesAre-more : (marks : List VariableMark) (step : ℕ) (seen more falses : List Literal) (l : Literal) → FalsesAre marks step seen falses → is_among falses l ≡ false → is_among falses (negation l) ≡ false → ((x : Literal) → is_in_range (length marks) x ≡ false → is_false_unmarked more x ≡ is_among (l ∷ falses) x) → FalsesAre (marked marks step l) step more (l ∷ falses)
-FalsesAre-more marks step seen more falses l a f g out x = elim (cases_Bool (is_in_range (length marks) x)) [
+FalsesAre-more : (marks : List VariableMark) (step : ℕ) (seen more falses : List Literal) (l : Literal) → FalsesAre marks step seen falses → is_among falses l ≡ false → is_among falses (negation l) ≡ false → ((x : Literal) → is_literal_in_range (length marks) x ≡ false → is_false_unmarked more x ≡ is_among (l ∷ falses) x) → FalsesAre (marked marks step l) step more (l ∷ falses)
+FalsesAre-more marks step seen more falses l a f g out x = elim (cases_Bool (is_literal_in_range (length marks) x)) [
   | inl t ↦ rw (length-marked marks step l, t) (marked_more marks step falses l x (rw t at (a x)) t f g)
   | inr n ↦ rw (length-marked marks step l, n) (out x n)
 ]
@@ -184,22 +184,22 @@ FalsesAre-forced known marks step seen falses h l a e = at (clause_of known h) e
     at (Some c) e =
         let f = forces_from (is_among falses) c l e in
         FalsesAre-more marks step seen (seen ++ c) falses (negation l) a f.not_true (rw (negation-negation l) f.not_false) (λ x r.
-        unmarked_more seen falses c l x (λ y v. (let q : is_in_range (length marks) y ≡ false = rw v r in rw q at (a y))) f)
+        unmarked_more seen falses c l x (λ y v. (let q : is_literal_in_range (length marks) y ≡ false = rw v r in rw q at (a y))) f)
 
 -- at the start nothing is false
 pub FalsesAre-none : (marks : List VariableMark) (step : ℕ) → AreBelow step marks → FalsesAre marks step [] []
-FalsesAre-none marks step a x = elim (cases_Bool (is_in_range (length marks) x)) [
+FalsesAre-none marks step a x = elim (cases_Bool (is_literal_in_range (length marks) x)) [
   | inl t ↦ rw t (let r = in_range-from (length marks) x t in and_left _ _ (ne_eqb _ step (λ e. let b = a (x.variable - 1) (record { step = 0; positive = false }) (omega arith) in omega arith)))
   | inr f ↦ rw f refl
 ]
 
 -- a literal of the step's own clause becomes false
-pub FalsesAre-start : (marks : List VariableMark) (step : ℕ) (falses : List Literal) (l : Literal) → FalsesAre marks step [] falses → is_in_range (length marks) l ≡ true → is_among falses l ≡ false → is_among falses (negation l) ≡ false → FalsesAre (marked marks step l) step [] (l ∷ falses)
+pub FalsesAre-start : (marks : List VariableMark) (step : ℕ) (falses : List Literal) (l : Literal) → FalsesAre marks step [] falses → is_literal_in_range (length marks) l ≡ true → is_among falses l ≡ false → is_among falses (negation l) ≡ false → FalsesAre (marked marks step l) step [] (l ∷ falses)
 FalsesAre-start marks step falses l a r f g = FalsesAre-more marks step [] [] falses l a f g (λ x n. (let q : false ≡ is_among falses x = rw n at (a x) in rw (apart' (length marks) x l n r, ← q) refl))
 
 -- the marks of this step or an earlier one
 pub AreUpTo-marked : (marks : List VariableMark) (step : ℕ) (l : Literal) → AreUpTo step marks → AreUpTo step (marked marks step l)
-AreUpTo-marked marks step l a = elim (cases_Bool (is_in_range (length marks) l)) [
+AreUpTo-marked marks step l a = elim (cases_Bool (is_literal_in_range (length marks) l)) [
   | inl t ↦ rw t (All-set (λ m. m.step ≤ step) marks (l.variable - 1) (record { step = step; positive = l.positive }) (omega arith) a)
   | inr f ↦ rw f a
 ]

@@ -6,7 +6,7 @@ use Rattle.dd_clause.specs.declared.clause.Literal.{Literal}
 use Rattle.dd_clause.specs.Clauses.{negation}
 use Rattle.dd_derivation.specs.declared.propagation.Finding.{Finding}
 use Rattle.dd_derivation.specs.declared.propagation.Finding.TheVariants.{Falsified, Forced, Open}
-use Rattle.dd_derivation.specs.Derivations.{is_in_range, is_among, is_conflict, finding}
+use Rattle.dd_derivation.specs.Derivations.{is_literal_in_range, is_among, is_conflict, finding}
 use Rattle.dd_engines.specs.declared.analysis.Entry.{Entry}
 use Rattle.dd_engines.specs.declared.propagation.Progress.{Progress}
 use Rattle.dd_engines.specs.declared.propagation.Progress.TheVariants.{Conflict, More, Settled}
@@ -19,7 +19,7 @@ is_other positive (Some value) = not (beq value positive)
 -- the literal is false by the values
 abbrev pub is_false_by : List (Option Bool) → Literal → Bool
 is_false_by values l =
-    if is_in_range (length values) l then is_other l.positive (slice_index_or values (l.variable - 1) None) else false
+    if is_literal_in_range (length values) l then is_other l.positive (slice_index_or values (l.variable - 1) None) else false
 
 abbrev pub is_unknown : Option Bool → ℕ
 is_unknown None = 1

@@ -12,7 +12,7 @@ use Rattle.dd_lattice.specs.InOrder.{in_order}
 use Rattle.dd_lattice.specs.lemmas.InOrderLaws.{list_all-in_order}
 use Rattle.dd_topology.specs.declared.edge.Edge.{Edge}
 use Rattle.dd_topology.specs.Balls.{is_adjacent}
-use Rattle.dd_pattern.specs.Reading.{Look, IsBelow}
+use Rattle.dd_pattern.specs.Reading.{Look, HasSymbolsBelow}
 use Rattle.dd_expansion.specs.declared.formulas.Formula.{Formula}
 use Rattle.dd_expansion.specs.declared.formulas.Formula.TheFolds.{fold-roll-Formula, ind-Formula, map-Formula}
 use Rattle.dd_expansion.specs.declared.formulas.Formula.TheOpen.{Formula-F}
@@ -69,7 +69,7 @@ both_say c d s look =
     holds_all_of (leaf s c ∷ leaf s d ∷ []) look
     ∙ rw (holds_leaf s c look, holds_leaf s d look, and_true (is_symbol s (look d)))
 
-equal_says : (n : ℕ) (c d : Cell) (look : Look) → IsBelow n look → holds (equal_at n c d) look ≡ are_equal (look c) (look d)
+equal_says : (n : ℕ) (c d : Cell) (look : Look) → HasSymbolsBelow n look → holds (equal_at n c d) look ≡ are_equal (look c) (look d)
 equal_says n c d look below =
     holds_any_of (map (both_have c d) (range_with_len 0 n)) look
     ∙ (list_any-map (λ e. holds e look) (both_have c d) (range_with_len 0 n)
@@ -87,7 +87,7 @@ at_cells_say e p look same None o' = holds_constant false look
 at_cells_say e p look same (Some c) o' = at_cell_says (e c) (p c) look (same c) o'
 
 abbrev SaysSame : List Edge → ℕ → Formula → Type 0
-SaysSame es n f = (env : List Cell) (look : Look) → IsBelow n look → holds (expansion es n f env) look ≡ truth es f env look
+SaysSame es n f = (env : List Cell) (look : Look) → HasSymbolsBelow n look → holds (expansion es n f env) look ≡ truth es f env look
 
 abbrev Known : List Edge → ℕ → Type 0
 Known es n = (f : Formula) × SaysSame es n f
@@ -95,7 +95,7 @@ Known es n = (f : Formula) × SaysSame es n f
 abbrev layer : (es : List Edge) (n : ℕ) → Formula-F (Known es n) → Formula-F Formula
 layer es n y = map-Formula (Known es n) Formula (λ e. e.0) y
 
-module _ (es : List Edge) (n : ℕ) (env : List Cell) (look : Look) (below : IsBelow n look) where
+module _ (es : List Edge) (n : ℕ) (env : List Cell) (look : Look) (below : HasSymbolsBelow n look) where
   all_say : (fs : List (Known es n)) →
       list_all (λ e. holds e look) (map (λ e. e env) (map (expansion es n) (map (λ e. e.0) fs))) ≡ list_all (λ t. t env look) (map (truth es) (map (λ e. e.0) fs))
   all_say [] = refl

@@ -8,7 +8,7 @@ use Rattle.dd_lattice.specs.Place.{Place, moved, is_in_range}
 use Rattle.dd_lattice.specs.Cells.{cell, shifted}
 use Rattle.dd_lattice.specs.declared.position.Cell.{Cell}
 use Rattle.dd_topology.specs.declared.edge.Edge.{Edge}
-use Rattle.dd_pattern.specs.Reading.{Look, IsBelow}
+use Rattle.dd_pattern.specs.Reading.{Look, HasSymbolsBelow}
 use Rattle.dd_expansion.specs.declared.formulas.Formula.{Formula}
 use Rattle.dd_expansion.specs.Terms.{origin_at}
 use Rattle.dd_expansion.specs.Truth.{truth}
@@ -32,13 +32,13 @@ seen_extends look v c =
 
 module _ (es : List Edge) (n : ℕ) (f : Formula) where
   -- of the symbols counted from v
-  pub says_at : (look : Look) (v : Place) (a : ℕ) → IsBelow n look → holds (expansion es n f (origin_at a ∷ [])) (λ d. look (shifted v d)) ≡ truth es f (cell v a ∷ []) look
+  pub says_at : (look : Look) (v : Place) (a : ℕ) → HasSymbolsBelow n look → holds (expansion es n f (origin_at a ∷ [])) (λ d. look (shifted v d)) ≡ truth es f (cell v a ∷ []) look
   says_at look v a below =
       says_same es n f (origin_at a ∷ []) (λ d. look (shifted v d)) (λ d. below (shifted v d))
       ∙ (sym (truth_shifted es f v (origin_at a ∷ []) look)
       ∙ ap (λ d. truth es f (d ∷ []) look) (at_origin v a))
 
-  pub truth_at : (c : Cell) (look : Look) → IsBelow n look → given (expansion es n f (origin_at c.node ∷ [])) (seen look c.position) ≡ true →
+  pub truth_at : (c : Cell) (look : Look) → HasSymbolsBelow n look → given (expansion es n f (origin_at c.node ∷ [])) (seen look c.position) ≡ true →
       holds (expansion es n f (origin_at c.node ∷ [])) (seen look c.position) ≡ truth es f (c ∷ []) look
   truth_at c look below h =
       holds_keeps (expansion es n f (origin_at c.node ∷ [])) (seen look c.position) (λ d. look (shifted c.position d)) (seen_extends look c.position) h
@@ -49,7 +49,7 @@ same_where true x y h = ap Some (h refl)
 same_where false x y h = refl
 
 -- the same of an answer that comes only where all that is read is given
-pub truth_where_given : (es : List Edge) (n : ℕ) (f : Formula) (c : Cell) (look : Look) → 1 ≤ n → IsBelow n look →
+pub truth_where_given : (es : List Edge) (n : ℕ) (f : Formula) (c : Cell) (look : Look) → 1 ≤ n → HasSymbolsBelow n look →
     cond (given (expansion es n f (origin_at c.node ∷ [])) (seen look c.position)) (Some (holds (expansion es n f (origin_at c.node ∷ [])) (seen look c.position))) None
     ≡ cond (list_all (λ d. is_some (seen look c.position d)) (reads es f (origin_at c.node ∷ []))) (Some (truth es f (c ∷ []) look)) None
 truth_where_given es n f c look some below =

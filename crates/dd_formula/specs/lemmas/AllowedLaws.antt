@@ -4,7 +4,7 @@ use Rattle.std.specs.Prelude.{Option, IfSome}
 use Rattle.std.proofs.Math.ListN.{get_or-eq_default}
 use Rattle.std.proofs.lemmas.Bool.{cases_lt}
 use Rattle.std.proofs.lemmas.List.Elements.{All-get_or}
-use Rattle.dd_pattern.specs.Reading.{Look, IsBelow}
+use Rattle.dd_pattern.specs.Reading.{Look, HasSymbolsBelow}
 use Rattle.dd_topology.specs.Sets.{SymbolSets, row_allows, IsRow, IsSets}
 use Rattle.dd_formula.specs.LocalRule.{LocalRule, rule_allows, IsRule}
 use Rattle.dd_formula.specs.Allowed.{AreAllowed}
@@ -36,5 +36,5 @@ given_below : (r : LocalRule) → IsRule r → (a : ℕ) (o : Option ℕ) → If
 given_below r ok a None h = tt
 given_below r ok a (Some s) h = allowed_below r ok a s h
 
-pub look_below : (r : LocalRule) → IsRule r → (look : Look) → AreAllowed r look → IsBelow r.symbols look
+pub look_below : (r : LocalRule) → IsRule r → (look : Look) → AreAllowed r look → HasSymbolsBelow r.symbols look
 look_below r ok look allowed c = given_below r ok c.node (look c) (allowed c)

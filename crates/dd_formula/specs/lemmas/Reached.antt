@@ -5,13 +5,13 @@ use Rattle.std.specs.List.{list_all, All, position_or_len}
 use Rattle.std.specs.Ordering.{is_eq}
 use Rattle.std.proofs.lemmas.Int.{ints}
 use Rattle.std.proofs.lemmas.Bool.{and_parts, and_from, leb-true, ltb-true, lt-ltb, cond_both}
-use Rattle.dd_lattice.specs.Place.{Place, moved, IsNear, is_in_range}
+use Rattle.dd_lattice.specs.Place.{Place, moved, IsCoordinateInRange, is_in_range}
 use Rattle.dd_lattice.specs.Cells.{shifted}
 use Rattle.dd_lattice.specs.declared.position.Cell.{Cell}
 use Rattle.dd_lattice.specs.Order.{cell_cmp}
 use Rattle.dd_lattice.specs.lemmas.RangeLaws.{test_from_in_range}
 use Rattle.dd_topology.specs.Topology.{extent}
-use Rattle.dd_pattern.specs.Reading.{IsBelow}
+use Rattle.dd_pattern.specs.Reading.{HasSymbolsBelow}
 use Rattle.dd_pattern.specs.Filling.{Filled, filling_look}
 use Rattle.dd_pattern.specs.Periods.{residue, unsheared}
 use Rattle.dd_pattern.specs.Tile.{Tile, IsTile, IsPeriodic, IsInBox, tile_index, tile_look}
@@ -27,9 +27,9 @@ extent_moved p by = omega (arith, ints)
 
 pub in_range : (p : Place) → extent p ≤ 1048576 → is_in_range p ≡ true
 in_range p h =
-    let x : IsNear p.x = (omega (arith, ints), omega (arith, ints)) in
-    let y : IsNear p.y = (omega (arith, ints), omega (arith, ints)) in
-    let z : IsNear p.z = (omega (arith, ints), omega (arith, ints)) in
+    let x : IsCoordinateInRange p.x = (omega (arith, ints), omega (arith, ints)) in
+    let y : IsCoordinateInRange p.y = (omega (arith, ints), omega (arith, ints)) in
+    let z : IsCoordinateInRange p.z = (omega (arith, ints), omega (arith, ints)) in
     test_from_in_range p (x, y, z)
 
 some_within : {X : Type 0} (xs : List X) (i : ℕ) → i < length xs → is_some (slice_get xs i) ≡ true
@@ -83,10 +83,10 @@ below_at n (x ∷ xs) h zero = h zero x (omega arith)
 below_at n (x ∷ xs) h (suc i) = below_at n xs (λ k d within. h (suc k) d (omega arith)) i
 
 -- a configuration that fits a rule gives symbols of its alphabet
-pub tile_below : (r : LocalRule) (t : Tile) → Fits r t → IsBelow r.symbols (tile_look t)
+pub tile_below : (r : LocalRule) (t : Tile) → Fits r t → HasSymbolsBelow r.symbols (tile_look t)
 tile_below r t fits c =
     cond_both (nat_lt c.node t.nodes) (slice_get t.symbols (tile_index t c)) None (λ o. IfSome o (λ s. s < r.symbols)) (λ _. below_at r.symbols t.symbols fits.symbols (tile_index t c)) (λ _. tt)
 
 -- and so does a filling with such symbols
-pub filling_below : (n : ℕ) (f : Filled) → All (λ s. s < n) f.symbols → IsBelow n (filling_look f)
+pub filling_below : (n : ℕ) (f : Filled) → All (λ s. s < n) f.symbols → HasSymbolsBelow n (filling_look f)
 filling_below n f h c = below_at n f.symbols h (position_or_len (λ d. is_eq (cell_cmp d c)) f.cells)

@@ -7,7 +7,7 @@ use Rattle.dd_lattice.specs.Place.{Place}
 use Rattle.dd_lattice.specs.Cells.{cell, shifted}
 use Rattle.dd_lattice.specs.declared.position.Cell.{Cell}
 use Rattle.dd_lattice.specs.lemmas.InOrderLaws.{list_all-in_order}
-use Rattle.dd_pattern.specs.Reading.{Look, IsBelow}
+use Rattle.dd_pattern.specs.Reading.{Look, HasSymbolsBelow}
 use Rattle.dd_expansion.specs.Truth.{are_equal}
 use Rattle.dd_expansion.specs.Terms.{origin_at}
 use Rattle.dd_expansion.specs.Leaves.{holds, leaves_pass}
@@ -18,7 +18,7 @@ use Rattle.dd_expansion.specs.lemmas.TruthAt.{at_origin, says_at}
 use Rattle.dd_formula.specs.LocalRule.{LocalRule, expansion_at, reads_at, cells_at, is_true}
 
 -- the expansion at a node says of the symbols counted from a cell what the rule says at the cell
-pub at_cell : (r : LocalRule) (c : Cell) (look : Look) → IsBelow r.symbols look → holds (expansion_at r c.node) (λ d. look (shifted c.position d)) ≡ is_true r c look
+pub at_cell : (r : LocalRule) (c : Cell) (look : Look) → HasSymbolsBelow r.symbols look → holds (expansion_at r c.node) (λ d. look (shifted c.position d)) ≡ is_true r c look
 at_cell r c look below = says_at r.edges r.symbols r.formula look c.position c.node below
 
 -- the truth at a place is the truth at the origin in the configuration moved back

@@ -3,7 +3,7 @@ use Rattle.std.specs.Prelude.{ℕ, ◌<◌, ◌≡◌, true, List}
 use Rattle.std.specs.List.{list_all}
 use Rattle.dd_lattice.specs.Place.{Place}
 use Rattle.dd_lattice.specs.declared.position.Cell.{Cell}
-use Rattle.dd_pattern.specs.Reading.{Look, IsBelow}
+use Rattle.dd_pattern.specs.Reading.{Look, HasSymbolsBelow}
 use Rattle.dd_pattern.specs.Filling.{Filled, filling_look}
 use Rattle.dd_expansion.specs.Leaves.{seen}
 use Rattle.dd_expansion.specs.Terms.{origin_at}
@@ -24,7 +24,7 @@ pub record AreReadable (f g : Automaton) (a : ℕ) (look : Look) : Type 0 where
   pub outer : IsAutomaton setting f
   pub inner : IsAutomaton setting g
   pub below : a < setting.nodes
-  pub symbols : IsBelow setting.symbols look
+  pub symbols : HasSymbolsBelow setting.symbols look
   pub given : is_read (v.Composed f g) (origin_at a) look ≡ true
 
 -- and of an automaton at several cells
@@ -32,10 +32,10 @@ pub record IsReadableAt (f : Automaton) (cs : List Cell) (look : Look) : Type 0 
   pub setting : Setting
   pub formed : IsAutomaton setting f
   pub cells : list_all (is_cell_of setting) cs ≡ true
-  pub symbols : IsBelow setting.symbols look
+  pub symbols : HasSymbolsBelow setting.symbols look
   pub given : list_all (λ c. is_read f c look) cs ≡ true
 
 -- the filling gives the cells the symbols that are seen from v
 pub record IsSeen (look : Look) (v : Place) (cs : List Cell) (f : Filled) : Type 0 where
   pub seen : list_all (λ d. are_equal (filling_look f d) (seen look v d)) cs ≡ true
-  pub below : (n : ℕ) → IsBelow n look → IsBelow n (filling_look f)
+  pub below : (n : ℕ) → HasSymbolsBelow n look → HasSymbolsBelow n (filling_look f)

@@ -3,7 +3,7 @@ use Rattle.std.proofs.Common.{◌≡◌, ◌↔◌, Bool, true, false, ◌-ℤ�
 use Rattle.std.proofs.lemmas.Int.{ints}
 use Rattle.std.proofs.lemmas.Nat.{mul-add-lt, div-mul-add, mod-mul-add, mod_below, div_below, div-add-mod'}
 use Rattle.dd_lattice.specs.Place.{Place}
-use Rattle.dd_lattice.specs.Boxes.{Bounds, IsBelow, IsWithin, OnAxis, IsUpTo, IsCentred, is_active, spread, centred, gap, span, volume, index_in, place_in}
+use Rattle.dd_lattice.specs.Boxes.{Bounds, IsAtMostOnEachAxis, IsWithin, OnAxis, IsUpTo, IsCentred, is_active, spread, centred, gap, span, volume, index_in, place_in}
 
 pub gap_reaches : (a b : ℤ) → a ≤ℤ b → a +ℤ pos (gap a b) ≡ b
 gap_reaches a b h = omega (arith, ints)
@@ -38,7 +38,7 @@ index_of_place b i =
     let h = span b.low.y b.high.y in
     rw (gap_of_sum b.low.x (i % w), gap_of_sum b.low.y (i / w % h), gap_of_sum b.low.z (i / w / h), div-add-mod' (i / w) h, div-add-mod' i w)
 
-pub place_within : (b : Bounds) (i : ℕ) → IsBelow b.low b.high → i < volume b → IsWithin b (place_in b i)
+pub place_within : (b : Bounds) (i : ℕ) → IsAtMostOnEachAxis b.low b.high → i < volume b → IsWithin b (place_in b i)
 place_within b i o h =
     let w = span b.low.x b.high.x in
     let t = span b.low.y b.high.y in

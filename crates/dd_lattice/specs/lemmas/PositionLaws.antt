@@ -12,7 +12,7 @@ use Rattle.std.proofs.lemmas.Bool.{cases_order, cases_lt}
 use Rattle.std.proofs.lemmas.List.Elements.{Contains-append_left, Contains-push, Contains-push_cases}
 use Rattle.dd_lattice.specs.Place.{Place, IsInRange}
 use Rattle.dd_lattice.specs.Order.{place_cmp}
-use Rattle.dd_lattice.specs.Boxes.{Bounds, IsBelow, IsBox, IsWithin, gap, span, volume, index_in, place_in, first_of, positions_of}
+use Rattle.dd_lattice.specs.Boxes.{Bounds, IsAtMostOnEachAxis, IsBox, IsWithin, gap, span, volume, index_in, place_in, first_positions, positions_of}
 use Rattle.dd_lattice.specs.Regions.{IsRegionOf}
 use Rattle.dd_lattice.specs.lemmas.BoxLaws.{gap_below, index_below, index_of_place, place_at_index, place_within}
 use Rattle.dd_lattice.specs.lemmas.ListLaws.{All-from_contains, Contains-nil, sorted_push}
@@ -67,31 +67,31 @@ before_by_index b p q hp hq h =
           absurd (let past = table_order _ (gap b.low.x q.x) _ (gap b.low.x p.x) (span b.low.x b.high.x) more (gap_below _ _ _ hq.0.on_x hq.1.on_x) in omega arith)
     ]
 
-place_before : (b : Bounds) → IsBelow b.low b.high → (i n : ℕ) → i < n → n < volume b → IsBefore (place_in b i) (place_in b n)
+place_before : (b : Bounds) → IsAtMostOnEachAxis b.low b.high → (i n : ℕ) → i < n → n < volume b → IsBefore (place_in b i) (place_in b n)
 place_before b o i n h k =
     before_by_index b (place_in b i) (place_in b n) (place_within b i o (omega arith)) (place_within b n o k)
     (rw (index_of_place b i, index_of_place b n) h)
 
 -- a position among the first n has a number below n
-number_of : (b : Bounds) (n : ℕ) (p : Place) → Contains (first_of b n) p → (i : ℕ) × (i < n) × (p ≡ place_in b i)
+number_of : (b : Bounds) (n : ℕ) (p : Place) → Contains (first_positions b n) p → (i : ℕ) × (i < n) × (p ≡ place_in b i)
 number_of b zero p c = absurd (Contains-nil p c)
-number_of b (suc n) p c = elim (Contains-push_cases (first_of b n) (place_in b n) p c) [
+number_of b (suc n) p c = elim (Contains-push_cases (first_positions b n) (place_in b n) p c) [
   | inl old ↦ (let found = number_of b n p old in (found.0, omega (arith, found.1), found.2))
   | inr is ↦ (n, omega arith, sym is)
 ]
 
 -- every number below n gives one of them
-contains_number : (b : Bounds) (n i : ℕ) → i < n → Contains (first_of b n) (place_in b i)
+contains_number : (b : Bounds) (n i : ℕ) → i < n → Contains (first_positions b n) (place_in b i)
 contains_number b zero i h = absurd (omega arith)
 contains_number b (suc n) i h = elim (cases_lt i n) [
-  | inl below ↦ Contains-append_left (first_of b n) (place_in b n ∷ []) (place_in b i) (contains_number b n i below)
-  | inr above ↦ (let same : n ≡ i = omega arith in subst (λ k. Contains (first_of b n ++ place_in b n ∷ []) (place_in b k)) same (Contains-push (first_of b n) (place_in b n)))
+  | inl below ↦ Contains-append_left (first_positions b n) (place_in b n ∷ []) (place_in b i) (contains_number b n i below)
+  | inr above ↦ (let same : n ≡ i = omega arith in subst (λ k. Contains (first_positions b n ++ place_in b n ∷ []) (place_in b k)) same (Contains-push (first_positions b n) (place_in b n)))
 ]
 
-pub first_ascending : (b : Bounds) → IsBelow b.low b.high → (n : ℕ) → n ≤ volume b → IsStrictlySortedBy place_cmp (first_of b n)
+pub first_ascending : (b : Bounds) → IsAtMostOnEachAxis b.low b.high → (n : ℕ) → n ≤ volume b → IsStrictlySortedBy place_cmp (first_positions b n)
 unfolding IsStrictlySortedBy
 first_ascending b o zero h = tt
-first_ascending b o (suc n) h = sorted_push place_cmp (first_of b n) (place_in b n) (first_ascending b o n (omega arith)) (λ p c.
+first_ascending b o (suc n) h = sorted_push place_cmp (first_positions b n) (place_in b n) (first_ascending b o n (omega arith)) (λ p c.
     let found = number_of b n p c in
     subst (λ z. IsBefore z (place_in b n)) (sym found.2) (place_before b o found.0 n found.1 (omega arith)))
 

@@ -1,12 +1,12 @@
 -- The range of positions, as a fact and as a test.
 use Rattle.std.proofs.Common.{◌≡◌, Bool, true, false, ℤ, Some, None, if◌then◌else◌, refl, arith}
 use Rattle.std.proofs.lemmas.Int.{ints}
-use Rattle.dd_lattice.specs.Place.{Place, IsNear, is_near, IsInRange, is_in_range}
+use Rattle.dd_lattice.specs.Place.{Place, IsCoordinateInRange, is_coordinate_in_range, IsInRange, is_in_range}
 
-near_from_test : (c : ℤ) → is_near c ≡ true → IsNear c
+near_from_test : (c : ℤ) → is_coordinate_in_range c ≡ true → IsCoordinateInRange c
 near_from_test c h = grind (arith, ints)
 
-test_from_near : (c : ℤ) → IsNear c → is_near c ≡ true
+test_from_near : (c : ℤ) → IsCoordinateInRange c → is_coordinate_in_range c ≡ true
 test_from_near c h = grind (arith, ints)
 
 pub in_range_from_test : (p : Place) → is_in_range p ≡ true → IsInRange p

@@ -12,7 +12,7 @@ use Rattle.dd_lattice.specs.Place.{Place}
 use Rattle.dd_lattice.specs.Cells.{cell}
 use Rattle.dd_lattice.specs.Order.{cell_cmp}
 use Rattle.dd_lattice.specs.declared.position.Cell.{Cell}
-use Rattle.dd_pattern.specs.Periods.{volume, residue, unsheared, base_of}
+use Rattle.dd_pattern.specs.Periods.{periods_volume, residue, unsheared, base_of}
 use Rattle.dd_pattern.specs.Tile.{Tile, IsTile, IsInBox, tile_index, cell_in}
 use Rattle.dd_pattern.specs.lemmas.Residues.{residue_below, residue_small, quotient_small}
 use Rattle.dd_pattern.specs.lemmas.TileLaws.{place_same}
@@ -42,8 +42,8 @@ record Parts (t : Tile) (i : ℕ) : Type 0 where
 
 parts_of : (t : Tile) → IsTile t → (i : ℕ) → i < length t.symbols → Parts t i
 parts_of t ok i h =
-    let within : i < volume t.periods * t.nodes = omega (arith, ok.full) in
-    let places : i / t.nodes < volume t.periods = div_below i t.nodes _ ok.nodes_some within in
+    let within : i < periods_volume t.periods * t.nodes = omega (arith, ok.full) in
+    let places : i / t.nodes < periods_volume t.periods = div_below i t.nodes _ ok.nodes_some within in
     let rows : i / t.nodes / t.periods.x < t.periods.z * t.periods.y = div_below (i / t.nodes) t.periods.x _ ok.periods.x_some places in
     record {
       x = mod_below (i / t.nodes) t.periods.x ok.periods.x_some;

@@ -3,7 +3,7 @@ use Rattle.std.proofs.Common.{ℕ, ◌+◌, ◌*◌, ◌<◌, ◌≤◌, length,
 use Rattle.std.proofs.lemmas.Nat.{mul-add-lt}
 use Rattle.dd_lattice.specs.declared.position.Cell.{Cell}
 use Rattle.dd_pattern.specs.declared.periods.Periods.{Periods}
-use Rattle.dd_pattern.specs.Periods.{ArePeriodsIn, volume, residue, unsheared}
+use Rattle.dd_pattern.specs.Periods.{ArePeriodsIn, periods_volume, residue, unsheared}
 use Rattle.dd_pattern.specs.Tile.{Tile, IsTile, IsPeriodic, tile_index}
 use Rattle.dd_pattern.specs.lemmas.Residues.{le-self_mul, residue_below}
 
@@ -14,8 +14,8 @@ le-mul_self : (a n : ℕ) → 0 < n → a ≤ n * a
 le-mul_self a n h = omega (arith, le-self_mul a n h)
 
 pub record Sizes (t : Tile) : Type 0 where
-  pub total : volume t.periods * t.nodes ≤ 65536
-  pub places : volume t.periods ≤ 65536
+  pub total : periods_volume t.periods * t.nodes ≤ 65536
+  pub places : periods_volume t.periods ≤ 65536
   pub rows : t.periods.z * t.periods.y ≤ 65536
   pub x_small : t.periods.x ≤ 65536
   pub y_small : t.periods.y ≤ 65536
@@ -50,7 +50,7 @@ pub row_below : (d : ℕ) (p : Periods) → ArePeriodsIn d p → (c : Cell) → 
 row_below d p ok c = below_table _ _ _ _ (residue_below c.position.z _ ok.z_some) (residue_below c.position.y _ ok.y_some)
 
 pub place_below : (d : ℕ) (p : Periods) → ArePeriodsIn d p → (c : Cell) →
-    (residue c.position.z p.z * p.y + residue c.position.y p.y) * p.x + residue (unsheared p c.position) p.x < volume p
+    (residue c.position.z p.z * p.y + residue c.position.y p.y) * p.x + residue (unsheared p c.position) p.x < periods_volume p
 place_below d p ok c = below_table _ _ _ _ (row_below d p ok c) (residue_below (unsheared p c.position) _ ok.x_some)
 
 pub index_below : (t : Tile) → IsTile t → (c : Cell) → c.node < t.nodes → tile_index t c < length t.symbols

@@ -20,16 +20,16 @@ pub record HasShear (n x y z : ℕ) (q : Periods) : Type 0 where
   pub shear : q.shear < n
 
 -- as F says of the period f, which is 1 to n
-pub record IsUpTo (F : ℕ → Periods → Type 0) (f : Periods → ℕ) (n : ℕ) (q : Periods) : Type 0 where
+pub record IsPeriodUpTo (F : ℕ → Periods → Type 0) (f : Periods → ℕ) (n : ℕ) (q : Periods) : Type 0 where
   pub rest : F (f q) q
   pub some : 1 ≤ f q
   pub most : f q ≤ n
 
 abbrev pub HasRow : ℕ → ℕ → ℕ → ℕ → Periods → Type 0
-HasRow d n x y = IsUpTo (HasShear (most_along d 1 x) x y) (λ q. q.z) n
+HasRow d n x y = IsPeriodUpTo (HasShear (most_along d 1 x) x y) (λ q. q.z) n
 
 abbrev pub HasPlane : ℕ → ℕ → ℕ → Periods → Type 0
-HasPlane d n x = IsUpTo (HasRow d (most_along d 2 n) x) (λ q. q.y) (most_along d 1 n)
+HasPlane d n x = IsPeriodUpTo (HasRow d (most_along d 2 n) x) (λ q. q.y) (most_along d 1 n)
 
 abbrev pub HasBox : ℕ → ℕ → ℕ → Periods → Type 0
-HasBox d n k = IsUpTo (HasPlane d n) (λ q. q.x) k
+HasBox d n k = IsPeriodUpTo (HasPlane d n) (λ q. q.x) k

@@ -7,7 +7,7 @@ use Rattle.std.proofs.lemmas.Nat.{mul-add-lt, div-mul-add, mod-mul-add, mod_belo
 use Rattle.std.proofs.lemmas.List.FromFn.{length-map-range_with_len}
 use Rattle.std.proofs.lemmas.Option.{slice_get_within}
 use Rattle.dd_lattice.specs.Place.{Place}
-use Rattle.dd_lattice.specs.Boxes.{IsBelow, IsWithin, centred, volume, index_in, place_in}
+use Rattle.dd_lattice.specs.Boxes.{IsAtMostOnEachAxis, IsWithin, centred, volume, index_in, place_in}
 use Rattle.dd_lattice.specs.declared.position.Cell.{Cell}
 use Rattle.dd_lattice.specs.lemmas.BoxLaws.{index_below, place_at_index, index_of_place, place_within, centred_members}
 use Rattle.dd_formula.specs.LocalRule.{LocalRule}
@@ -26,7 +26,7 @@ within_box d n p h = (box_is_centred d n p).1 ((centred_members d n p).0 h)
 zero_between : (n : ℕ) → (pos 0 -ℤ pos n) ≤ℤ pos n
 zero_between n = omega (arith, ints)
 
-pub bounds_ordered : (d n : ℕ) → IsBelow (centred d n).low (centred d n).high
+pub bounds_ordered : (d n : ℕ) → IsAtMostOnEachAxis (centred d n).low (centred d n).high
 bounds_ordered d n = record { on_x = zero_between _; on_y = zero_between _; on_z = zero_between _ }
 
 abbrev box_cell : LocalRule → ℕ → ℕ → Cell

@@ -17,7 +17,7 @@ use Rattle.std.proofs.Math.Seq.{get_or-append_seam}
 use Rattle.std.proofs.lemmas.Bool.{cases_lt}
 use Rattle.dd_lattice.specs.Place.{Place}
 use Rattle.dd_lattice.specs.Order.{place_cmp, cell_cmp}
-use Rattle.dd_lattice.specs.Boxes.{Bounds, IsBelow, IsWithin, volume, index_in, place_in, first_of}
+use Rattle.dd_lattice.specs.Boxes.{Bounds, IsAtMostOnEachAxis, IsWithin, volume, index_in, place_in, first_positions}
 use Rattle.dd_lattice.specs.declared.position.Cell.{Cell}
 use Rattle.dd_lattice.specs.lemmas.BoxLaws.{index_below, place_at_index}
 use Rattle.dd_lattice.specs.lemmas.PositionLaws.{first_ascending}
@@ -39,27 +39,27 @@ sorted_range R f (suc n) a h = (
 )
 
 -- the positions of a box by their numbers
-length-first_of : (b : Bounds) (n : ℕ) → length (first_of b n) ≡ n
+length-first_of : (b : Bounds) (n : ℕ) → length (first_positions b n) ≡ n
 length-first_of b zero = refl
-length-first_of b (suc n) = omega (arith, length-first_of b n, length-append (first_of b n) (place_in b n ∷ []))
+length-first_of b (suc n) = omega (arith, length-first_of b n, length-append (first_positions b n) (place_in b n ∷ []))
 
-first_at : (b : Bounds) (n i : ℕ) (d : Place) → i < n → get_or (first_of b n) i d ≡ place_in b i
+first_at : (b : Bounds) (n i : ℕ) (d : Place) → i < n → get_or (first_positions b n) i d ≡ place_in b i
 first_at b zero i d h = absurd (omega arith)
 first_at b (suc n) i d h = elim (cases_lt i n) [
-  | inl below ↦ get_or-append (first_of b n) (place_in b n ∷ []) d i (omega (arith, length-first_of b n)) ∙ first_at b n i d below
+  | inl below ↦ get_or-append (first_positions b n) (place_in b n ∷ []) d i (omega (arith, length-first_of b n)) ∙ first_at b n i d below
   | inr last ↦
       (let same : n ≡ i = omega arith in
-      let whole : length (first_of b n) ≡ i = length-first_of b n ∙ same in
-      ap (λ k. get_or (first_of b n ++ place_in b n ∷ []) k d) (sym whole) ∙ (get_or-append_seam (first_of b n) (place_in b n) [] d ∙ ap (place_in b) same))
+      let whole : length (first_positions b n) ≡ i = length-first_of b n ∙ same in
+      ap (λ k. get_or (first_positions b n ++ place_in b n ∷ []) k d) (sym whole) ∙ (get_or-append_seam (first_positions b n) (place_in b n) [] d ∙ ap (place_in b) same))
 ]
 
-place_less : (b : Bounds) → IsBelow b.low b.high → (i j : ℕ) → i < j → j < volume b → place_cmp (place_in b i) (place_in b j) ≡ Less
+place_less : (b : Bounds) → IsAtMostOnEachAxis b.low b.high → (i j : ℕ) → i < j → j < volume b → place_cmp (place_in b i) (place_in b j) ≡ Less
 place_less b o i j less high =
     let v = volume b in
     let d = place_in b 0 in
     let up = first_ascending b o v (omega arith) in
-    let there = Less-from_sorted place_cmp (first_of b v) i j d up less (omega (arith, length-first_of b v)) in
-    ap (λ p. place_cmp p (place_in b j)) (sym (first_at b v i d (omega arith))) ∙ (ap (place_cmp (get_or (first_of b v) i d)) (sym (first_at b v j d high)) ∙ there)
+    let there = Less-from_sorted place_cmp (first_positions b v) i j d up less (omega (arith, length-first_of b v)) in
+    ap (λ p. place_cmp p (place_in b j)) (sym (first_at b v i d (omega arith))) ∙ (ap (place_cmp (get_or (first_positions b v) i d)) (sym (first_at b v j d high)) ∙ there)
 
 place_equal : (p : Place) → place_cmp p p ≡ Equal
 place_equal p = rw (sym (int_cmp_is p.z p.z Equal refl), sym (int_cmp_is p.y p.y Equal refl), sym (int_cmp_is p.x p.x Equal refl)) refl
@@ -70,7 +70,7 @@ by_place o r h = ap (λ k. ordering_then k r) h
 by_node : (o r : Ordering) → o ≡ Equal → r ≡ Less → ordering_then o r ≡ Less
 by_node o r h k = ap (λ e. ordering_then e r) h ∙ k
 
-cell_less : (b : Bounds) (m : ℕ) → IsBelow b.low b.high → 0 < m → (i j : ℕ) → i < j → j < volume b * m → cell_cmp (nth_cell b m i) (nth_cell b m j) ≡ Less
+cell_less : (b : Bounds) (m : ℕ) → IsAtMostOnEachAxis b.low b.high → 0 < m → (i j : ℕ) → i < j → j < volume b * m → cell_cmp (nth_cell b m i) (nth_cell b m j) ≡ Less
 cell_less b m o some i j less high =
     let i_is : i / m * m + i % m ≡ i = div-add-mod' i m in
     let j_is : j / m * m + j % m ≡ j = div-add-mod' j m in
@@ -85,7 +85,7 @@ cell_less b m o some i j less high =
       | inr (inr after) ↦ absurd (let past = mul-add-lt (j / m) m (j % m) (i / m) after (mod_below j m some) in omega (arith, past, i_is, j_is))
     ]
 
-pub cells_ascending : (b : Bounds) (m : ℕ) → IsBelow b.low b.high → 0 < m → IsStrictlySortedBy cell_cmp (cells_in b m)
+pub cells_ascending : (b : Bounds) (m : ℕ) → IsAtMostOnEachAxis b.low b.high → 0 < m → IsStrictlySortedBy cell_cmp (cells_in b m)
 cells_ascending b m o some = sorted_range cell_cmp (nth_cell b m) (volume b * m) 0 (λ i j less high. cell_less b m o some i j less (omega arith))
 
 pub length-cells_in : (b : Bounds) (m : ℕ) → length (cells_in b m) ≡ volume b * m

@@ -8,7 +8,7 @@ use Rattle.std.proofs.lemmas.Bool.{and_parts, eqb-true, cases_Bool, both_ways}
 use Rattle.std.proofs.lemmas.Bool.Decides.{nat_tests}
 use Rattle.std.proofs.lemmas.List.Elements.{All-weaker}
 use Rattle.dd_lattice.specs.declared.position.Cell.{Cell}
-use Rattle.dd_pattern.specs.Reading.{Look, IsBelow}
+use Rattle.dd_pattern.specs.Reading.{Look, HasSymbolsBelow}
 use Rattle.dd_formula.specs.Automata.{counted, value}
 use Rattle.dd_formula.specs.declared.automaton.Automaton.{Automaton}
 use Rattle.dd_circuit.specs.declared.gates.Signal.{Signal}
@@ -118,7 +118,7 @@ module _ (k : ℕ) (f g : Automaton) (w : Wiring) (at : Cell) (n : ℕ) where
   here_third = let l = length-append left right in omega (arith, l)
 
   module _ (first : IsMadeValue n k f w at (value_made k f w at n)) (next : IsMadeValue second k g w at (value_made k g w at second)) where
-    pub differ_says : (set : ℕ → Bool) (look : Look) → IsBelow k look → TellsCells set w ((counted f).reads at.node) at look → TellsCells set w ((counted g).reads at.node) at look →
+    pub differ_says : (set : ℕ → Bool) (look : Look) → HasSymbolsBelow k look → TellsCells set w ((counted f).reads at.node) at look → TellsCells set w ((counted g).reads at.node) at look →
         value f look at < k → agrees set n (differ_made k f g w at n).gates ≡ true → signal_value set (differ_made k f g w at n).signal ≡ not (value f look at == value g look at)
     differ_says set look below tell tell' small ok =
         let u = value f look at in

@@ -8,7 +8,7 @@ use Rattle.std.proofs.lemmas.List.Folds.{list_all-append, list_all-map}
 use Rattle.dd_lattice.specs.Place.{Place}
 use Rattle.dd_lattice.specs.Cells.{cell, shifted}
 use Rattle.dd_lattice.specs.declared.position.Cell.{Cell}
-use Rattle.dd_pattern.specs.Reading.{Look, IsBelow}
+use Rattle.dd_pattern.specs.Reading.{Look, HasSymbolsBelow}
 use Rattle.dd_expansion.specs.Truth.{is_symbol}
 use Rattle.dd_expansion.specs.Leaves.{leaves_pass}
 use Rattle.dd_expansion.specs.lemmas.ListTests.{and_true, or_false, list_any-map}
@@ -56,7 +56,7 @@ tells_near set l m look v tell c s h =
     tell (shifted v c) s both.0 (ltb-true s m both.1)
 
 -- one place
-pub place_says : (set : ℕ → Bool) (l : Layout) (m : ℕ) (look : Look) (r : LocalRule) (d : Cell) (n : ℕ) → IsBelow r.symbols look → InputsTell set l m look →
+pub place_says : (set : ℕ → Bool) (l : Layout) (m : ℕ) (look : Look) (r : LocalRule) (d : Cell) (n : ℕ) → HasSymbolsBelow r.symbols look → InputsTell set l m look →
     reads_inputs l m r d ≡ true → agrees set n (place_maker l m r d n).gates ≡ true → signal_value set (place_maker l m r d n).signal ≡ is_true r d look
 place_says set l m look r d n below tell wired ok =
     made_says (expansion_at r d.node) set (wire l m d.position) (has_input l m d.position) (λ c. look (shifted d.position c)) n
@@ -64,7 +64,7 @@ place_says set l m look r d n below tell wired ok =
     ∙ says_at r.edges r.symbols r.formula look d.position d.node below
 
 -- several nodes of one position
-all_say : (set : ℕ → Bool) (l : Layout) (m : ℕ) (look : Look) (r : LocalRule) (v : Place) (nodes : List ℕ) (n : ℕ) → IsBelow r.symbols look → InputsTell set l m look →
+all_say : (set : ℕ → Bool) (l : Layout) (m : ℕ) (look : Look) (r : LocalRule) (v : Place) (nodes : List ℕ) (n : ℕ) → HasSymbolsBelow r.symbols look → InputsTell set l m look →
     list_all (λ a. reads_inputs l m r (cell v a)) nodes ≡ true → agrees set n (all_made (map (λ a. place_maker l m r (cell v a)) nodes) n).gates ≡ true →
     map (signal_value set) (all_made (map (λ a. place_maker l m r (cell v a)) nodes) n).signals ≡ map (λ a. is_true r (cell v a) look) nodes
 all_say set l m look r v [] n below tell wired ok = refl
@@ -104,8 +104,8 @@ goal_reads l m (differ s f g) = true
 goal_reads l m always = true
 
 abbrev pub HasItsSymbols : GoalOf → Look → Type 0
-HasItsSymbols (breaks y) look = IsBelow y.symbols look
-HasItsSymbols (differ s f g) look = IsBelow s.symbols look
+HasItsSymbols (breaks y) look = HasSymbolsBelow y.symbols look
+HasItsSymbols (differ s f g) look = HasSymbolsBelow s.symbols look
 HasItsSymbols always look = Unit {0}
 
 -- the gates of the goal at a node of the origin
@@ -138,7 +138,7 @@ job_reads l x g (Some d) = reads_inputs l x.symbols x d
 job_reads l x g None = goal_reads l x.symbols g
 
 -- the nodes of the origin at which two values are apart
-differ_nodes : (set : ℕ → Bool) (l : Layout) (m : ℕ) (s : Setting) (f g : Automaton) (look : Look) → IsNumbered l → AreValuesWired l m s f g → IsBelow s.symbols look → InputsTell set l m look →
+differ_nodes : (set : ℕ → Bool) (l : Layout) (m : ℕ) (s : Setting) (f g : Automaton) (look : Look) → IsNumbered l → AreValuesWired l m s f g → HasSymbolsBelow s.symbols look → InputsTell set l m look →
     (k j n : ℕ) → j + k ≤ s.nodes → length l.places * m ≤ n → agrees set n (all_made (map (differ_at l s f g) (range_with_len j k)) n).gates ≡ true →
     map (signal_value set) (all_made (map (differ_at l s f g) (range_with_len j k)) n).signals ≡
     map (λ a. not (value f look (cell origin a) == value g look (cell origin a))) (range_with_len j k)
@@ -170,7 +170,7 @@ goal_says set l m (breaks y) look within values below tell wired n le ok =
     ∙ list_any-map not (λ a. is_true y (cell origin a) look) (range_with_len 0 y.nodes))
 goal_says set l m always look within values below tell wired n le ok = refl
 
-pub job_says : (set : ℕ → Bool) (l : Layout) (x : LocalRule) (g : GoalOf) (look : Look) → IsBelow x.symbols look → IsNumbered l → GoalWired l x.symbols g → HasItsSymbols g look → InputsTell set l x.symbols look →
+pub job_says : (set : ℕ → Bool) (l : Layout) (x : LocalRule) (g : GoalOf) (look : Look) → HasSymbolsBelow x.symbols look → IsNumbered l → GoalWired l x.symbols g → HasItsSymbols g look → InputsTell set l x.symbols look →
     (j : Option Cell) → job_reads l x g j ≡ true → PartSays set (input_count l x) (job_part l x g j) (job_holds x g look j)
 job_says set l x g look below within values goal_below tell (Some d) wired n le ok =
     let gs = (place_maker l x.symbols x d n).gates in
@@ -183,7 +183,7 @@ abbrev pub premise_holds : Layout → LocalRule → Look → Bool
 premise_holds l x look = list_all (λ d. is_true x d look) (filter (fits_in l x) l.places)
 
 -- all clauses but those of the inputs
-pub parts_say : (set : ℕ → Bool) (l : Layout) (x : LocalRule) (g : GoalOf) (look : Look) → IsBelow x.symbols look → IsNumbered l → GoalWired l x.symbols g → HasItsSymbols g look → InputsTell set l x.symbols look →
+pub parts_say : (set : ℕ → Bool) (l : Layout) (x : LocalRule) (g : GoalOf) (look : Look) → HasSymbolsBelow x.symbols look → IsNumbered l → GoalWired l x.symbols g → HasItsSymbols g look → InputsTell set l x.symbols look →
     list_all (job_reads l x g) (jobs l x) ≡ true → agrees set (input_count l x) (part_gates (input_count l x) (problem_parts l x g)) ≡ true →
     tests set (input_count l x) (problem_parts l x g) ≡ (premise_holds l x look && goal_holds g look)
 parts_say set l x g look below within values goal_below tell wired ok =

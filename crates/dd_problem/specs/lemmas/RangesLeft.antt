@@ -6,7 +6,7 @@ use Rattle.std.proofs.lemmas.List.{append-nil, map-append, take_more, length-tak
 use Rattle.std.proofs.lemmas.List.Elements.{All-cons, filter-append}
 use Rattle.std.proofs.lemmas.Nat.{mul-le}
 use Rattle.dd_clause.specs.declared.clause.Literal.{Literal}
-use Rattle.dd_clause.specs.Clauses.{IsInRange}
+use Rattle.dd_clause.specs.Clauses.{IsLiteralInRange}
 use Rattle.dd_cnf.specs.Encoding.{literal}
 use Rattle.dd_lattice.specs.declared.position.Cell.{Cell}
 use Rattle.dd_formula.specs.LocalRule.{LocalRule}
@@ -48,14 +48,14 @@ pub pairs_end : (all now : List (List Literal)) (w end : ℕ) → end ≤ w → 
 pairs_end all now w end h is = sym (is ∙ (ap (λ r. now ++ pairs r) (range_ends w end h) ∙ append-nil now))
 
 -- the literals of a range are in range
-pub range_in_range : (n from k : ℕ) → 1 ≤ from → from + k ≤ n + 1 → All (IsInRange n) (map (λ v. literal v true) (range_with_len from k))
+pub range_in_range : (n from k : ℕ) → 1 ≤ from → from + k ≤ n + 1 → All (IsLiteralInRange n) (map (λ v. literal v true) (range_with_len from k))
 range_in_range n from zero low high = λ i d h. absurd (omega arith)
 range_in_range n from (suc k) low high =
-    All-cons (IsInRange n) (literal from true) (map (λ v. literal v true) (range_with_len (from + 1) k)) (low, omega arith)
+    All-cons (IsLiteralInRange n) (literal from true) (map (λ v. literal v true) (range_with_len (from + 1) k)) (low, omega arith)
     (range_in_range n (from + 1) k (omega arith) (omega arith))
 
 pub some_in_range : (n from w end : ℕ) (all now : List Literal) → 1 ≤ from → from ≤ end → end ≤ n + 1 → end ≤ w → all ≡ map (λ v. literal v true) (range_to from end) →
-    all ≡ now ++ map (λ v. literal v true) (range_to w end) → All (IsInRange n) now
+    all ≡ now ++ map (λ v. literal v true) (range_to w end) → All (IsLiteralInRange n) now
 some_in_range n from w end all now low order high past whole is =
     rw (left_ends (λ v. literal v true) all now w end past is, whole) (range_in_range n from (end - from) low (omega arith))
 

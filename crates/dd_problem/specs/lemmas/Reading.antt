@@ -7,7 +7,7 @@ use Rattle.std.proofs.lemmas.Option.{slice_get_read, slice_get_within, get_or_fr
 use Rattle.std.proofs.lemmas.List.Folds.{list_all-append}
 use Rattle.std.proofs.lemmas.List.FromFn.{get_or-map-range_with_len, length-map-range_with_len}
 use Rattle.dd_lattice.specs.declared.position.Cell.{Cell}
-use Rattle.dd_pattern.specs.Reading.{Look, IsBelow}
+use Rattle.dd_pattern.specs.Reading.{Look, HasSymbolsBelow}
 use Rattle.dd_expansion.specs.Truth.{is_symbol}
 use Rattle.dd_formula.specs.LocalRule.{LocalRule, rule_allows}
 use Rattle.dd_formula.specs.Allowed.{AreAllowed}
@@ -140,7 +140,7 @@ cond_below : (b : Bool) (o : Option ℕ) (n : ℕ) → IfSome o (λ s. s < n) �
 cond_below true o n h = h
 cond_below false o n h = tt
 
-pub look_below : (l : Layout) (m : ℕ) (symbols : List ℕ) → All (λ s. s < m) symbols → IsBelow m (look_of l symbols)
+pub look_below : (l : Layout) (m : ℕ) (symbols : List ℕ) → All (λ s. s < m) symbols → HasSymbolsBelow m (look_of l symbols)
 look_below l m symbols all c = cond_below (l.has c) (slice_get symbols (l.index c)) m (symbol_below m symbols (l.index c) _ all refl)
 
 -- allowed symbols give allowed symbols
@@ -170,7 +170,7 @@ pub record IsWired (l : Layout) (x : LocalRule) (g : GoalOf) : Type 0 where
   pub layout : IsLayout l
   pub reads : list_all (job_reads l x g) (jobs l x) ≡ true
   pub values : GoalWired l x.symbols g
-  pub alphabet : (look : Look) → IsBelow x.symbols look → HasItsSymbols g look
+  pub alphabet : (look : Look) → HasSymbolsBelow x.symbols look → HasItsSymbols g look
 
 pub problem_read : (set : ℕ → Bool) (l : Layout) (x : LocalRule) (g : GoalOf) → IsWired l x g → is_satisfied set (problem_clauses l x g) ≡ true →
     Stands l x g (read_symbols set x.symbols (length l.places)) × AreRead set x.symbols (read_symbols set x.symbols (length l.places))

@@ -10,7 +10,7 @@ use Rattle.std.proofs.lemmas.List.FromFn.{length-map-range_with_len}
 use Rattle.dd_lattice.specs.Cells.{cell, shifted}
 use Rattle.dd_lattice.specs.declared.position.Cell.{Cell}
 use Rattle.dd_lattice.specs.lemmas.ListLaws.{Contains-first, Contains-later, Contains-nil, Contains-cons_cases}
-use Rattle.dd_pattern.specs.Reading.{Look, IsBelow}
+use Rattle.dd_pattern.specs.Reading.{Look, HasSymbolsBelow}
 use Rattle.dd_expansion.specs.Truth.{is_symbol}
 use Rattle.dd_formula.specs.Automata.{Setting, IsAutomaton, counted, value}
 use Rattle.dd_formula.specs.declared.automaton.Automaton.{Automaton}
@@ -120,7 +120,7 @@ module _ (l : Layout) (within : (c : Cell) → l.has c ≡ true → l.index c < 
   pub differ_gates_fit : AreGates n (differ_made s.symbols f g l.inputs (cell origin a) n).gates
   differ_gates_fit = differ_fits s.symbols f g l.inputs (cell origin a) n first next
 
-  pub differ_gates_say : (set : ℕ → Bool) (look : Look) → IsBelow s.symbols look →
+  pub differ_gates_say : (set : ℕ → Bool) (look : Look) → HasSymbolsBelow s.symbols look →
       ((c : Cell) (t : ℕ) → l.has c ≡ true → t < m → set (input m (l.index c) t) ≡ is_symbol t (look c)) →
       agrees set n (differ_made s.symbols f g l.inputs (cell origin a) n).gates ≡ true →
       signal_value set (differ_made s.symbols f g l.inputs (cell origin a) n).signal ≡ not (value f look (cell origin a) == value g look (cell origin a))

@@ -7,7 +7,7 @@ use Rattle.std.proofs.lemmas.Bool.{and_parts, and_from, or_cases, both_ways, eqb
 use Rattle.std.proofs.lemmas.List.Folds.{list_all-append}
 use Rattle.dd_lattice.specs.Cells.{cell, shifted}
 use Rattle.dd_lattice.specs.declared.position.Cell.{Cell}
-use Rattle.dd_pattern.specs.Reading.{Look, IsBelow}
+use Rattle.dd_pattern.specs.Reading.{Look, HasSymbolsBelow}
 use Rattle.dd_expansion.specs.Terms.{origin_at}
 use Rattle.dd_expansion.specs.Leaves.{leaves_pass}
 use Rattle.dd_expansion.specs.lemmas.LeafLaws.{leaves_both}
@@ -114,9 +114,9 @@ goal_is_read l x (breaks y) ok there =
 goal_is_read l x (differ s f g) ok there = refl
 goal_is_read l x always ok there = refl
 
-goal_alphabet : (x : LocalRule) (g : GoalOf) (look : Look) → IsToldGoal x g → IsBelow x.symbols look → HasItsSymbols g look
-goal_alphabet x (breaks y) look ok below = subst (λ m. IsBelow m look) (sym ok.1.symbols) below
-goal_alphabet x (differ s f g) look ok below = subst (λ m. IsBelow m look) (sym ok.over.symbols) below
+goal_alphabet : (x : LocalRule) (g : GoalOf) (look : Look) → IsToldGoal x g → HasSymbolsBelow x.symbols look → HasItsSymbols g look
+goal_alphabet x (breaks y) look ok below = subst (λ m. HasSymbolsBelow m look) (sym ok.1.symbols) below
+goal_alphabet x (differ s f g) look ok below = subst (λ m. HasSymbolsBelow m look) (sym ok.over.symbols) below
 goal_alphabet x always look ok below = tt
 
 pub wired_layout : (l : Layout) (x : LocalRule) (g : GoalOf) → IsRule x → IsToldGoal x g → IsLayout l → ((k : ℕ) (d : Cell) → slice_get l.places k ≡ Some d → d.node < x.nodes) →

@@ -13,7 +13,7 @@ use Rattle.dd_lattice.specs.Place.{Place, moved, is_in_range}
 use Rattle.dd_lattice.specs.Cells.{cell, shifted}
 use Rattle.dd_lattice.specs.Order.{cell_cmp}
 use Rattle.dd_lattice.specs.declared.position.Cell.{Cell}
-use Rattle.dd_pattern.specs.Reading.{Look, IsBelow}
+use Rattle.dd_pattern.specs.Reading.{Look, HasSymbolsBelow}
 use Rattle.dd_expansion.specs.declared.expanded.Expanded.{Expanded}
 use Rattle.dd_expansion.specs.Leaves.{holds}
 use Rattle.dd_numbered.specs.declared.numbered.Numbered.{Numbered}
@@ -33,7 +33,7 @@ below_at n [] h i = tt
 below_at n (s ∷ ss) h zero = h zero s (omega arith)
 below_at n (s ∷ ss) h (suc i) = below_at n ss (λ k d within. h (suc k) d (omega (arith, within))) i
 
-look_below : (n : ℕ) (cs : List Cell) (ss : List ℕ) → All (λ s. s < n) ss → IsBelow n (look_of cs ss)
+look_below : (n : ℕ) (cs : List Cell) (ss : List ℕ) → All (λ s. s < n) ss → HasSymbolsBelow n (look_of cs ss)
 look_below n cs ss below c = below_at n ss below (position_or_len (λ d. is_eq (cell_cmp d c)) cs)
 
 -- a cell past the range of positions has no symbol
@@ -53,7 +53,7 @@ near_reads cs v ss near size c = read_when cs ss (shifted v c) (is_in_range (mov
 
 -- an expansion that says what the rule says at the cells of a node
 abbrev pub Tells : LocalRule → ℕ → Expanded → Type 0
-Tells x a y = (look : Look) → IsBelow x.symbols look → (v : Place) → holds y (λ d. look (shifted v d)) ≡ is_true x (cell v a) look
+Tells x a y = (look : Look) → HasSymbolsBelow x.symbols look → (v : Place) → holds y (λ d. look (shifted v d)) ≡ is_true x (cell v a) look
 
 says_true : (x : LocalRule) (cs ds : List Cell) (c : Cell) (v : Place) (e : Numbered) (y : Expanded) → AreInRange cs → Tells x c.node y → ds ≡ cs → v ≡ c.position →
     ((ss : List ℕ) → holds_in e ss ≡ holds y (read_by (ranks_near ds v) ss)) → SaysTrue x cs c e

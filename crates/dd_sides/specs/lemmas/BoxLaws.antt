@@ -3,7 +3,7 @@ use Rattle.std.proofs.Common.{◌≡◌, ℕ, ◌+◌, ◌-◌, ◌*◌, ◌<◌
 use Rattle.std.specs.Prelude.{ℤ, pos, ◌+ℤ◌, ◌-ℤ◌, unsigned_abs}
 use Rattle.std.proofs.Math.Nat.{mul-le-mul}
 use Rattle.dd_lattice.specs.Place.{Place, place}
-use Rattle.dd_sides.specs.Sums.{Size, axis_sum, box_sum, volume, giver}
+use Rattle.dd_sides.specs.Sums.{Size, axis_sum, box_sum, size_volume, giver}
 use Rattle.dd_sides.specs.lemmas.AxisLaws.{axis_moved, axis_same, axis_at_most, axis_add, axis_const, axis_times, axis_most, axis_shifted}
 
 -- the position with these numbers in the box
@@ -50,7 +50,7 @@ box_times s u q f =
 turned : (a b c k : ℕ) → c * (b * (a * k)) ≡ (a * (b * c)) * k
 turned a b c k = omega arith
 
-pub box_const : (s : Size) (u : Place) (k : ℕ) → box_sum s u (λ _. k) ≡ volume s * k
+pub box_const : (s : Size) (u : Place) (k : ℕ) → box_sum s u (λ _. k) ≡ size_volume s * k
 box_const s u k =
     axis_same s.z u.z _ _ (λ z. axis_same s.y u.y _ _ (λ y. axis_const s.x u.x k) ∙ axis_const s.y u.y (s.x * k))
     ∙ (axis_const s.z u.z (s.y * (s.x * k)) ∙ turned s.x s.y s.z k)
@@ -63,7 +63,7 @@ regroup_volume a b c m = omega arith
 
 -- what is given over the box moved by the opposite of v, against what is given over the box
 pub box_shifted : (s : Size) (u v : Place) (f : Place → ℕ) (m : ℕ) → ((p : Place) → f p ≤ m) →
-    box_sum s (giver v u) f + m * kept s v ≤ box_sum s u f + m * volume s
+    box_sum s (giver v u) f + m * kept s v ≤ box_sum s u f + m * size_volume s
 box_shifted s u v f m up =
     let X = λ (a z y : ℤ). axis_sum s.x a (λ x. f (place x y z)) in
     let Y = λ (a b z : ℤ). axis_sum s.y b (λ y. axis_sum s.x a (λ x. f (place x y z))) in
@@ -79,6 +79,6 @@ box_shifted s u v f m up =
 turned_volume : (a b c : ℕ) → a * (b * c) ≡ c * (b * a)
 turned_volume a b c = omega arith
 
-pub kept_at_most : (s : Size) (v : Place) → kept s v ≤ volume s
+pub kept_at_most : (s : Size) (v : Place) → kept s v ≤ size_volume s
 kept_at_most s v =
     rw (turned_volume s.x s.y s.z) (mul-le-mul (omega arith) (mul-le-mul (omega arith) (omega arith)))

@@ -9,7 +9,7 @@ use Rattle.std.proofs.lemmas.Int.{ints}
 use Rattle.std.proofs.lemmas.List.Elements.{All-contains, Contains-append_cases}
 use Rattle.dd_lattice.specs.Place.{Place, moved, IsInRange}
 use Rattle.dd_lattice.specs.Cells.{cell}
-use Rattle.dd_lattice.specs.Boxes.{IsBelow, IsBox, IsWithin, is_active, OnAxis, IsUpTo, IsCentred, spread, centred, positions_of}
+use Rattle.dd_lattice.specs.Boxes.{IsAtMostOnEachAxis, IsBox, IsWithin, is_active, OnAxis, IsUpTo, IsCentred, spread, centred, positions_of}
 use Rattle.dd_lattice.specs.Regions.{seen_from}
 use Rattle.dd_lattice.specs.declared.position.Cell.{Cell}
 use Rattle.dd_lattice.specs.lemmas.ListLaws.{Contains-nil, Contains-cons_cases, Contains-first, Contains-later, Contains-map, Contains-from_map, All-from_contains}
@@ -194,10 +194,10 @@ under n = omega (arith, ints)
 itself : (c : ℤ) → c ≤ℤ c
 itself c = omega (arith, ints)
 
-same_below : (p : Place) → IsBelow p p
+same_below : (p : Place) → IsAtMostOnEachAxis p p
 same_below p = record { on_x = itself p.x; on_y = itself p.y; on_z = itself p.z }
 
-corners_ordered : (d n : ℕ) → IsBelow (centred d n).low (centred d n).high
+corners_ordered : (d n : ℕ) → IsAtMostOnEachAxis (centred d n).low (centred d n).high
 corners_ordered d n = record { on_x = under (spread (is_active d 0) n); on_y = under (spread (is_active d 1) n); on_z = under (spread (is_active d 2) n) }
 
 -- the ground's positions are in range, and so are the corners of the box

@@ -3,7 +3,7 @@ use Rattle.std.specs.Prelude.{ℕ, ◌≡◌, ◌<◌, ◌&&◌, cond, nat_lt, i
 use Rattle.dd_lattice.specs.Place.{Place}
 use Rattle.dd_lattice.specs.Cells.{cell, shifted}
 use Rattle.dd_lattice.specs.declared.position.Cell.{Cell}
-use Rattle.dd_pattern.specs.Reading.{IsBelow}
+use Rattle.dd_pattern.specs.Reading.{HasSymbolsBelow}
 use Rattle.dd_numbered.specs.declared.numbered.Numbered.{Numbered}
 use Rattle.dd_numbered.specs.Numbered.{holds_in}
 use Rattle.dd_numbered.specs.Numbering.{Numbering}
@@ -29,7 +29,7 @@ numbers_near p c = window_numbers p.strip (shifted p.at c)
 
 -- the formula says of a window's symbols what the rule says at the cell
 abbrev pub SaysAt : LocalRule → Strip → Cell → Numbered → Type 0
-SaysAt r s c e = (ss : List ℕ) → IsBelow r.symbols (window_look s ss) → holds_in e ss ≡ is_true r (cell c.position c.node) (window_look s ss)
+SaysAt r s c e = (ss : List ℕ) → HasSymbolsBelow r.symbols (window_look s ss) → holds_in e ss ≡ is_true r (cell c.position c.node) (window_look s ss)
 
 -- there is one for each cell of the slice where the rule stands
 pub record ArePlaces (r : LocalRule) (s : Strip) (es : List Numbered) : Type 0 where

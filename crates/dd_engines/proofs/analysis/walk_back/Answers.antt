@@ -1,5 +1,5 @@
 use Rattle.std.proofs.Common.{◌≡◌, ◌+◌, ◌-◌, ◌<◌, ◌≤◌, [], List, length, false, true, get_or, refl, subst, sym, ◌∙◌, arith}
-use Rattle.dd_clause.specs.Clauses.{IsInRange}
+use Rattle.dd_clause.specs.Clauses.{IsLiteralInRange}
 use Rattle.dd_engines.specs.declared.analysis.Entry.{Entry}
 use Rattle.dd_engines.proofs.Analysing.{leads_conflict, leads_past, leads_forced, leads_all, leads_reversed, entry_in_range, marked_clause}
 use Rattle.dd_engines.proofs.analysis.walk_back.Goals as goal
@@ -18,13 +18,13 @@ loop-i-init c = record {
 pub overflow_sub-entry : goal.overflow_sub-entry
 unfolding none
 overflow_sub-entry c =
-    let w : IsInRange (length c.args.marked.now) (get_or c.args.entries.now (c.loop-i.i - 1) none).literal = entry_in_range (length c.args.marked.now) c.args.clauses.now c.args.entries.now (c.loop-i.i - 1) none c.requires.in_range c.requires.trail (omega (arith, c.loop-i-test.true, c.loop-i.auto.i)) in
+    let w : IsLiteralInRange (length c.args.marked.now) (get_or c.args.entries.now (c.loop-i.i - 1) none).literal = entry_in_range (length c.args.marked.now) c.args.clauses.now c.args.entries.now (c.loop-i.i - 1) none c.requires.in_range c.requires.trail (omega (arith, c.loop-i-test.true, c.loop-i.auto.i)) in
     w.0
 
 pub bounds-marked-entry : goal.bounds-marked-entry
 unfolding none
 bounds-marked-entry c =
-    let w : IsInRange (length c.args.marked.now) (get_or c.args.entries.now (c.loop-i.i - 1) none).literal = entry_in_range (length c.args.marked.now) c.args.clauses.now c.args.entries.now (c.loop-i.i - 1) none c.requires.in_range c.requires.trail (omega (arith, c.loop-i-test.true, c.loop-i.auto.i)) in
+    let w : IsLiteralInRange (length c.args.marked.now) (get_or c.args.entries.now (c.loop-i.i - 1) none).literal = entry_in_range (length c.args.marked.now) c.args.clauses.now c.args.entries.now (c.loop-i.i - 1) none c.requires.in_range c.requires.trail (omega (arith, c.loop-i-test.true, c.loop-i.auto.i)) in
     omega (arith, w.0, w.1)
 
 pub loop-i-preserved : goal.loop-i-preserved

@@ -1,5 +1,5 @@
 use Rattle.std.proofs.Common.{◌≡◌, arith, subst}
-use Rattle.dd_pattern.specs.listing.Adding.{IsAdded, IsUpTo, HasRow, most_along}
+use Rattle.dd_pattern.specs.listing.Adding.{IsAdded, IsPeriodUpTo, HasRow, most_along}
 use Rattle.dd_pattern.proofs.PeriodsLaws.{level_more}
 use Rattle.dd_pattern.proofs.periods.add_plane.Goals as goal
 
@@ -10,5 +10,5 @@ loop-y-preserved c =
 pub returns : goal.returns
 returns c =
     let all : c.loop-y.y ≡ most_along c.args.dim 1 c.args.most = let e = c.most_along-y-end.ensures in omega (arith, e) in
-    let h = subst (λ n. IsAdded c.args.found.now.keys c.loop-y.found.keys (IsUpTo (HasRow c.args.dim c.most_along-high.result c.args.x) (λ q. q.y) n)) all c.loop-y.invariant in
-    subst (λ high. IsAdded c.args.found.now.keys c.loop-y.found.keys (IsUpTo (HasRow c.args.dim high c.args.x) (λ q. q.y) (most_along c.args.dim 1 c.args.most))) c.most_along-high.ensures h
+    let h = subst (λ n. IsAdded c.args.found.now.keys c.loop-y.found.keys (IsPeriodUpTo (HasRow c.args.dim c.most_along-high.result c.args.x) (λ q. q.y) n)) all c.loop-y.invariant in
+    subst (λ high. IsAdded c.args.found.now.keys c.loop-y.found.keys (IsPeriodUpTo (HasRow c.args.dim high c.args.x) (λ q. q.y) (most_along c.args.dim 1 c.args.most))) c.most_along-high.ensures h

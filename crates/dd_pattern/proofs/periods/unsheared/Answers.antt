@@ -2,7 +2,7 @@ use Rattle.std.proofs.Common.{◌≡◌, ◌≤◌, ◌*◌, pos, unsigned_abs, 
 use Rattle.std.specs.Prelude.{◌*ℤ◌}
 use Rattle.std.proofs.Math.Nat.{mul-le-mul}
 use Rattle.std.proofs.lemmas.Int.{ints, to_z-of_z, unsigned_abs-mul, fits_signed_from_abs}
-use Rattle.dd_lattice.specs.Place.{IsNear}
+use Rattle.dd_lattice.specs.Place.{IsCoordinateInRange}
 use Rattle.dd_pattern.proofs.periods.unsheared.Goals as goal
 
 product_small : (k : ℤ) (q : ℕ) → unsigned_abs k ≤ 1048577 → q ≤ 65536 → unsigned_abs (k *ℤ pos q) ≤ 1048577 * 65536
@@ -13,7 +13,7 @@ returns c =
     let x = c.args.x in
     let k = c.args.turns in
     let q = c.args.shear in
-    let near : IsNear x = c.requires.near in
+    let near : IsCoordinateInRange x = c.requires.near in
     let small = product_small k q c.requires.turns c.requires.small in
     let own_x : to_z w64 (of_z w64 (to_z w32 (of_z w32 x))) ≡ x = omega (arith, ints, near.0, near.1) in
     let own_k : to_z w64 (of_z w64 (to_z w32 (of_z w32 k))) ≡ k = omega (arith, ints, c.requires.turns) in

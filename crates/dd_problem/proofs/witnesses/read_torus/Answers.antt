@@ -1,6 +1,6 @@
 use Rattle.std.proofs.Common.{◌≡◌, ◌*◌, ap, ◌∙◌, arith, sym, subst}
 use Rattle.dd_values.specs.Variables.{true_variables}
-use Rattle.dd_pattern.specs.Periods.{periods_of, volume}
+use Rattle.dd_pattern.specs.Periods.{periods_of, periods_volume}
 use Rattle.dd_pattern.specs.Tile.{Tile, tile}
 use Rattle.dd_problem.specs.Symbols.{AreRead}
 use Rattle.dd_problem.proofs.TorusCalls.{count_fits}
@@ -15,9 +15,9 @@ overflow_mul-count-3 c =
 pub symbols_read-requires : goal.symbols_read-requires
 symbols_read-requires c =
     let p = periods_of c.args.periods c.args.shear in
-    one_each_there c.values.result.now c.args.found.now c.symbols.result c.args.premise.now.symbols (volume p * c.nodes-nodes.result)
-    (volume p * c.args.premise.now.nodes) c.values.ensures c.symbols.ensures.value
-    (ap (λ k. volume p * k) c.nodes-nodes.ensures.value) c.requires.one_each
+    one_each_there c.values.result.now c.args.found.now c.symbols.result c.args.premise.now.symbols (periods_volume p * c.nodes-nodes.result)
+    (periods_volume p * c.args.premise.now.nodes) c.values.ensures c.symbols.ensures.value
+    (ap (λ k. periods_volume p * k) c.nodes-nodes.ensures.value) c.requires.one_each
 
 pub unwrap-requires : goal.unwrap-requires
 unwrap-requires c =
@@ -31,7 +31,7 @@ returns-clause-read c =
     c.new.ensures c.ok.ensures.value c.unwrap.ensures in
     let p = periods_of c.args.periods c.args.shear in
     subst (λ (v : Tile). AreRead (true_variables c.args.found.now) c.args.premise.now.symbols v.symbols) (sym t)
-    (read_there c.values.result.now c.args.found.now c.symbols.result c.args.premise.now.symbols (volume p * c.nodes-nodes.result)
+    (read_there c.values.result.now c.args.found.now c.symbols.result c.args.premise.now.symbols (periods_volume p * c.nodes-nodes.result)
     c.in_ok-symbols.symbols.items c.values.ensures c.symbols.ensures.value c.in_ok-symbols.ensures)
 
 pub returns-clause-only : goal.returns-clause-only
@@ -41,6 +41,6 @@ returns-clause-only c = λ u periods fits read same.
     let p = periods_of c.args.periods c.args.shear in
     read_only c.args.premise.now (periods_of c.args.periods c.args.shear) c.nodes-nodes.ensures.kept c.requires.periods (true_variables c.args.found.now) c.dim.result c.nodes-nodes.result
     c.in_ok-symbols.symbols.items c.unwrap.result u c.dim.ensures c.nodes-nodes.ensures.value t
-    (read_there c.values.result.now c.args.found.now c.symbols.result c.args.premise.now.symbols (volume p * c.nodes-nodes.result)
+    (read_there c.values.result.now c.args.found.now c.symbols.result c.args.premise.now.symbols (periods_volume p * c.nodes-nodes.result)
     c.in_ok-symbols.symbols.items c.values.ensures c.symbols.ensures.value c.in_ok-symbols.ensures)
     periods fits read same

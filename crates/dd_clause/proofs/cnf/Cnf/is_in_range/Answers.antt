@@ -2,7 +2,7 @@ use Rattle.std.proofs.Common.{◌≡◌, false, take, arith, refl, ap, ◌∙◌
 use Rattle.std.proofs.lemmas.List.{take_all}
 use Rattle.std.proofs.lemmas.List.Elements.{All-more}
 use Rattle.dd_clause.specs.declared.clause.Literal.{Literal}
-use Rattle.dd_clause.specs.Clauses.{ClauseList, IsInRange}
+use Rattle.dd_clause.specs.Clauses.{ClauseList, IsLiteralInRange}
 use Rattle.dd_clause.proofs.cnf.Cnf.is_in_range.Goals as goal
 
 none : Literal
@@ -10,7 +10,7 @@ none = record { variable = 0; positive = false }
 
 pub loop-literal-preserved : goal.loop-literal-preserved
 unfolding none
-loop-literal-preserved c = All-more (IsInRange c.self.inside.variables) c.literals-literal-items.result.now c.loop-literal.literal-index none c.loop-literal-test.true c.loop-literal.invariant (omega arith, omega arith)
+loop-literal-preserved c = All-more (IsLiteralInRange c.self.inside.variables) c.literals-literal-items.result.now c.loop-literal.literal-index none c.loop-literal-test.true c.loop-literal.invariant (omega arith, omega arith)
 
 pub returns : goal.returns
 returns c =

@@ -1,18 +1,18 @@
 use Rattle.std.proofs.Common.{◌≡◌, ◌<◌, List, [], length, get_or, sym, subst, arith}
 use Rattle.dd_clause.specs.declared.clause.Literal.{Literal}
-use Rattle.dd_clause.specs.Clauses.{IsClauseInRange, IsInRange}
+use Rattle.dd_clause.specs.Clauses.{IsClauseInRange, IsLiteralInRange}
 use Rattle.dd_derivation.specs.declared.propagation.Finding.TheVariants.{Falsified, Forced}
 use Rattle.dd_derivation.specs.Derivations.{finding}
 use Rattle.dd_engines.specs.propagation.Following.{is_false_by}
 use Rattle.dd_engines.proofs.Following.{forced_has, follows_more, conflicts_at}
 use Rattle.dd_engines.proofs.propagation.Trail.look.Goals as goal
 
-within : (c : goal.After-struct_known-1) → IsInRange (length c.args.self.now.values.items) c.in-Forced.literal
+within : (c : goal.After-struct_known-1) → IsLiteralInRange (length c.args.self.now.values.items) c.in-Forced.literal
 within c =
     let found : finding (is_false_by c.args.self.now.values.items) c.in-Some.clause.now ≡ Forced c.in-Forced.literal = cc in
     let range : IsClauseInRange (length c.args.self.now.values.items) c.in-Some.clause.now =
     subst (IsClauseInRange (length c.args.self.now.values.items)) (sym (c.in-Some.ensures.lookup.3.1 [])) (c.requires.in_range c.args.number [] c.in-Some.ensures.lookup.3.0) in
-    forced_has (IsInRange (length c.args.self.now.values.items)) (is_false_by c.args.self.now.values.items) c.in-Some.clause.now c.in-Forced.literal range found
+    forced_has (IsLiteralInRange (length c.args.self.now.values.items)) (is_false_by c.args.self.now.values.items) c.in-Some.clause.now c.in-Forced.literal range found
 
 pub overflow_sub-literal : goal.overflow_sub-literal
 overflow_sub-literal c = (within c).0

@@ -1,6 +1,6 @@
 use Rattle.std.proofs.Common.{◌≡◌, ◌<◌, ℕ, List, length, get_or, true, false, sym, ◌∙◌, ap, subst, arith}
 use Rattle.dd_formula.specs.LocalRule.{LocalRule, is_true}
-use Rattle.dd_pattern.specs.Reading.{IsBelow}
+use Rattle.dd_pattern.specs.Reading.{HasSymbolsBelow}
 use Rattle.dd_formula.specs.lemmas.AutomatonLaws.{case_has, rule_nodes}
 use Rattle.dd_formula.specs.lemmas.ValueLaws.{case_step, case_given, rule_symbols, told}
 use Rattle.dd_formula.proofs.automaton.Cases.value.Goals as goal
@@ -17,7 +17,7 @@ truth-requires g c =
     let has = case_has s cases c.args.self.now.otherwise i case c.requires.fit below is in
     let nodes = rule_nodes s case.0 has in record {
       node = omega (arith, nodes, c.requires.below);
-      symbols = subst (λ n. IsBelow n (g.R.Reads.symbols c.args.read.now)) (sym (rule_symbols s case.0 has)) c.requires.symbols;
+      symbols = subst (λ n. HasSymbolsBelow n (g.R.Reads.symbols c.args.read.now)) (sym (rule_symbols s case.0 has)) c.requires.symbols;
     }
 
 pub returns-in-Some-true : goal.returns-in-Some-true
