@@ -12,7 +12,7 @@ use Rattle.dd_lattice.specs.lemmas.ListLaws.{All-from_contains, Contains-cons_ca
 use Rattle.dd_lattice.specs.lemmas.RangeLaws.{in_range_from_test}
 use Rattle.dd_topology.specs.declared.edge.Edge.{Edge}
 use Rattle.dd_topology.specs.Topology.{extent, are_short, leaves, end_of, step, in_range}
-use Rattle.dd_topology.specs.Balls.{IsInBall, IsAdjacent, IsListOf, LeavesRange}
+use Rattle.dd_topology.specs.Balls.{IsInBall, IsAdjacent, IsCellListOf, CellsLeaveRange}
 use Rattle.dd_expansion.specs.Near.{AreNear}
 
 pub extent_moved : (p by : Place) → extent (moved p by) ≤ extent p + extent by
@@ -96,11 +96,11 @@ in_ball_near es c (suc r) d short there =
       | inr new ↦ omega (arith, in_ball_near es c r new.0 short new.1, adjacent_near es new.0 d short new.2)
     ]
 
-pub ball_near : (es : List Edge) (c : Cell) (r : ℕ) (cells : List Cell) → are_short 4 es ≡ true → IsListOf (IsInBall es c r) cells → AreNear (extent c.position + 4 * r) cells
+pub ball_near : (es : List Edge) (c : Cell) (r : ℕ) (cells : List Cell) → are_short 4 es ≡ true → IsCellListOf (IsInBall es c r) cells → AreNear (extent c.position + 4 * r) cells
 ball_near es c r cells short list =
     All-from_contains (λ d. extent d.position ≤ extent c.position + 4 * r) cells (λ d there. in_ball_near es c r d short ((list.members d).0 there))
 
 -- a ball round a cell that is near does not leave the range
-pub ball_stays : (es : List Edge) (c : Cell) (r : ℕ) → are_short 4 es ≡ true → extent c.position + 4 * r ≤ 1048576 → LeavesRange (IsInBall es c r) → ⊥
+pub ball_stays : (es : List Edge) (c : Cell) (r : ℕ) → are_short 4 es ≡ true → extent c.position + 4 * r ≤ 1048576 → CellsLeaveRange (IsInBall es c r) → ⊥
 ball_stays es c r short small leaves =
     leaves.outside (in_range_from_test leaves.at.position (within_range leaves.at.position (omega (arith, in_ball_near es c r leaves.at short leaves.member))))

@@ -5,7 +5,7 @@ use Rattle.std.proofs.lemmas.List.Elements.{All-nil}
 use Rattle.std.proofs.lemmas.List.{length-set, length-replicate}
 use Rattle.std.proofs.lemmas.List.FromFn.{length-range_with_len}
 use Rattle.dd_topology.specs.Grid.{Grid}
-use Rattle.dd_topology.specs.Sets.{IsSets, SymbolSets, all_symbols, restricted, row_of}
+use Rattle.dd_topology.specs.Sets.{IsSets, SymbolSets, all_symbols, restricted, symbol_row}
 use Rattle.dd_boxes.specs.declared.limits.Limits.{Limits}
 use Rattle.dd_formula.specs.Automata.{IsAutomaton}
 use Rattle.dd_written.specs.Values.{word_text}
@@ -106,7 +106,7 @@ sound_only k node symbols s has = record {
   nodes = s.nodes;
   few_nodes = s.few_nodes;
   symbols = s.symbols;
-  sets = sets_of (restricted k.setting.sets node symbols) (length k.setting.nodes) (length-set k.setting.sets.allowed node (row_of k.setting.sets.symbols symbols) ∙ s.sets.nodes) has;
+  sets = sets_of (restricted k.setting.sets node symbols) (length k.setting.nodes) (length-set k.setting.sets.allowed node (symbol_row k.setting.sets.symbols symbols) ∙ s.sets.nodes) has;
   alphabet = s.alphabet;
   weights = s.weights;
   light = s.light;

@@ -12,7 +12,7 @@ use Rattle.dd_lattice.specs.declared.position.Cell.{Cell}
 use Rattle.dd_lattice.specs.lemmas.ListLaws.{Contains-first, Contains-nil, Contains-cons_cases}
 use Rattle.dd_topology.specs.declared.edge.Edge.{Edge}
 use Rattle.dd_topology.specs.Topology.{end_of, start_of, Leads}
-use Rattle.dd_topology.specs.Balls.{IsAdjacent, IsInBall, same_place, leads, is_adjacent, ends, starts, beside, neighbours, ball}
+use Rattle.dd_topology.specs.Balls.{IsAdjacent, IsInBall, same_place, leads, is_adjacent, edge_ends, edge_starts, beside, neighbours, ball}
 use Rattle.dd_topology.proofs.CoordinateLaws.{place_is, back_and_forth, forth_and_back}
 use Rattle.dd_topology.specs.lemmas.ListLaws.{some_passes, passes_any, in_flat_map, into_flat_map}
 
@@ -68,20 +68,20 @@ into_cond : (b : Bool) (x y : Cell) → b ≡ true → y ≡ x → Contains (con
 into_cond true x y h e = subst (λ z. Contains (x ∷ []) z) (sym e) (Contains-first x [])
 into_cond false x y h e = absurd (cc)
 
-from_ends : (c : Cell) (e : Edge) (d : Cell) → Contains (ends c e) d → Leads e c d
+from_ends : (c : Cell) (e : Edge) (d : Cell) → Contains (edge_ends c e) d → Leads e c d
 from_ends c e d h = let both = in_cond (e.from == c.node) (end_of c e) d h in (sym (eqb-true e.from c.node both.0), both.1)
 
-from_starts : (c : Cell) (e : Edge) (d : Cell) → Contains (starts c e) d → Leads e d c
+from_starts : (c : Cell) (e : Edge) (d : Cell) → Contains (edge_starts c e) d → Leads e d c
 from_starts c e d h =
     let both = in_cond (e.to == c.node) (start_of c e) d h in (
       ap (λ x. x.node) both.1,
       sym (ap (λ x. end_of x e) both.1 ∙ (ap (λ p. cell p e.to) (back_and_forth c.position e.offset) ∙ ap (cell c.position) (eqb-true e.to c.node both.0))),
     )
 
-into_ends : (c : Cell) (e : Edge) (d : Cell) → Leads e c d → Contains (ends c e) d
+into_ends : (c : Cell) (e : Edge) (d : Cell) → Leads e c d → Contains (edge_ends c e) d
 into_ends c e d h = into_cond (e.from == c.node) (end_of c e) d (eq-eqb e.from c.node (sym h.0)) h.1
 
-into_starts : (c : Cell) (e : Edge) (d : Cell) → Leads e d c → Contains (starts c e) d
+into_starts : (c : Cell) (e : Edge) (d : Cell) → Leads e d c → Contains (edge_starts c e) d
 into_starts c e d h =
     into_cond (e.to == c.node) (start_of c e) d (eq-eqb e.to c.node (sym (ap (λ x. x.node) h.1)))
     (sym (ap (λ x. start_of x e) h.1 ∙ (ap (λ p. cell p e.from) (forth_and_back d.position e.offset) ∙ ap (cell d.position) (sym h.0))))
@@ -91,7 +91,7 @@ pub from_neighbours : (es : List Edge) (c d : Cell) → Contains (neighbours es 
 from_neighbours es c d h =
     let at = in_flat_map (beside c) es d h in
     let e = at.0 in
-    elim (Contains-append_cases (ends c e) (starts c e) d at.2) [
+    elim (Contains-append_cases (edge_ends c e) (edge_starts c e) d at.2) [
       | inl first ↦ (e, at.1, inl (from_ends c e d first))
       | inr rest ↦ (e, at.1, inr (from_starts c e d rest))
     ]
@@ -100,8 +100,8 @@ pub into_neighbours : (es : List Edge) (c d : Cell) → IsAdjacent es c d → Co
 into_neighbours es c d h =
     into_flat_map (beside c) es h.0 d h.1
     (elim h.2 [
-      | inl from ↦ Contains-append_left (ends c h.0) (starts c h.0) d (into_ends c h.0 d from)
-      | inr to ↦ Contains-append_right (ends c h.0) (starts c h.0) d (into_starts c h.0 d to)
+      | inl from ↦ Contains-append_left (edge_ends c h.0) (edge_starts c h.0) d (into_ends c h.0 d from)
+      | inr to ↦ Contains-append_right (edge_ends c h.0) (edge_starts c h.0) d (into_starts c h.0 d to)
     ])
 
 -- the list of a ball has exactly the cells of the ball

@@ -18,7 +18,7 @@ use Rattle.dd_lattice.specs.lemmas.ListLaws.{All-from_contains, Contains-first, 
 use Rattle.dd_lattice.specs.declared.fault.LatticeFault.{LatticeFault}
 use Rattle.dd_lattice.specs.declared.fault.LatticeFault.TheVariants.{Range, Memory}
 use Rattle.dd_topology.specs.declared.edge.Edge.{Edge}
-use Rattle.dd_topology.specs.Balls.{CellSet, IsAdjacent, IsInBall, IsListOf, IsFaultOf, LeavesRange, ends, starts, beside, neighbours, ball, are_in_range}
+use Rattle.dd_topology.specs.Balls.{CellSet, IsAdjacent, IsInBall, IsCellListOf, IsCellFaultOf, CellsLeaveRange, edge_ends, edge_starts, beside, neighbours, ball, are_in_range}
 use Rattle.dd_topology.specs.Growth.{AddsCells}
 use Rattle.dd_topology.specs.lemmas.ListLaws.{in_flat_map, into_flat_map}
 use Rattle.dd_topology.specs.lemmas.OrderLaws.{kept-insert_key, has-insert_key, from-insert_key, is-in_order}
@@ -122,7 +122,7 @@ stopped es c k r found within grown = record {
 
 -- a neighbour of the frontier that is out of range is a cell of the ball
 pub left_range : (es : List Edge) (c : Cell) (k r : ℕ) (found frontier : List Cell) → k < r → IsGrown es c k found frontier → are_in_range (flat_map (neighbours es) frontier) ≡ false →
-    LeavesRange (IsInBall es c r)
+    CellsLeaveRange (IsInBall es c r)
 left_range es c k r found frontier within grown far =
     let d = some_fails (λ e. is_in_range e.position) (flat_map (neighbours es) frontier) far in
     let b = in_flat_map (neighbours es) frontier d.0 d.1 in
@@ -137,7 +137,7 @@ ok_with_both : {V E : Type 0} (result : Result V E) (P Q S : V → Type 0) → (
 ok_with_both (Ok v) P Q S both p q = both v p q
 ok_with_both (Err e) P Q S both p q = tt
 
-finished : (es : List Edge) (c : Cell) (r : ℕ) (found frontier cells : List Cell) → IsGrown es c r found frontier → cells ≡ found → IsStrictlySortedBy cell_cmp cells → IsListOf (IsInBall es c r) cells
+finished : (es : List Edge) (c : Cell) (r : ℕ) (found frontier cells : List Cell) → IsGrown es c r found frontier → cells ≡ found → IsStrictlySortedBy cell_cmp cells → IsCellListOf (IsInBall es c r) cells
 finished es c r found frontier cells grown same ascending = record {
   ascending = ascending;
   in_range = subst (λ l. All (λ d. IsInRange d.position) l) (sym same) grown.in_range;
@@ -146,7 +146,7 @@ finished es c r found frontier cells grown same ascending = record {
 
 -- a list that was made of the cells that are found, if it was made
 module _ {V E : Type 0} (result : Result V E) (items : V → List Cell) (es : List Edge) (c : Cell) (r : ℕ) (found frontier : List Cell) where
-  pub cells_at_last : IsGrown es c r found frontier → IfOk result (λ v. items v ≡ found) → IfOk result (λ v. IsStrictlySortedBy cell_cmp (items v)) → IfOk result (λ v. IsListOf (IsInBall es c r) (items v))
+  pub cells_at_last : IsGrown es c r found frontier → IfOk result (λ v. items v ≡ found) → IfOk result (λ v. IsStrictlySortedBy cell_cmp (items v)) → IfOk result (λ v. IsCellListOf (IsInBall es c r) (items v))
   cells_at_last grown same ascending = ok_with_both result _ _ _ (λ v. finished es c r found frontier (items v) grown) same ascending
 
   pub list_at_last : IsGrown es c r found frontier → IfOk result (λ v. items v ≡ found) → IfOk result (λ v. IsStrictlySortedBy cell_cmp (items v)) → IfOk result (λ v. items v ≡ in_order (ball es c r))
@@ -156,7 +156,7 @@ module _ {V E : Type 0} (result : Result V E) (items : V → List Cell) (es : Li
       is-in_order (items v) (ball es c r) ascending' (λ d there. ball_holds es c r d ((list.members d).0 there)) (λ d there. (list.members d).1 (in_ball es c r d there)))
       same ascending
 
-pub fault_from : (S : CellSet) (fault : LatticeFault) → (fault ≡ Range → LeavesRange S) → IsFaultOf S fault
+pub fault_from : (S : CellSet) (fault : LatticeFault) → (fault ≡ Range → CellsLeaveRange S) → IsCellFaultOf S fault
 fault_from S Range h = h refl
 fault_from S Memory h = tt
 
@@ -213,11 +213,11 @@ adds_known before cells now fresh i x below is adds there = rw (take_more cells 
         ]
 
 -- an end of an edge that leaves the range
-pub end_out_of_range : (c : Cell) (e : Edge) → are_in_range (ends c e) ≡ false → are_in_range (beside c e) ≡ false
-end_out_of_range c e far = list_all-append (λ d. is_in_range d.position) (ends c e) (starts c e) ∙ and_left _ _ far
+pub end_out_of_range : (c : Cell) (e : Edge) → are_in_range (edge_ends c e) ≡ false → are_in_range (beside c e) ≡ false
+end_out_of_range c e far = list_all-append (λ d. is_in_range d.position) (edge_ends c e) (edge_starts c e) ∙ and_left _ _ far
 
-pub start_out_of_range : (c : Cell) (e : Edge) → are_in_range (starts c e) ≡ false → are_in_range (beside c e) ≡ false
-start_out_of_range c e far = list_all-append (λ d. is_in_range d.position) (ends c e) (starts c e) ∙ and_right _ _ far
+pub start_out_of_range : (c : Cell) (e : Edge) → are_in_range (edge_starts c e) ≡ false → are_in_range (beside c e) ≡ false
+start_out_of_range c e far = list_all-append (λ d. is_in_range d.position) (edge_ends c e) (edge_starts c e) ∙ and_right _ _ far
 
 -- a part that leaves the range
 pub part_out_of_range : {X : Type 0} (f : X → List Cell) (xs : List X) (i : ℕ) (x : X) → i < length xs → x ≡ get_or xs i x → are_in_range (f x) ≡ false → are_in_range (flat_map f xs) ≡ false

@@ -6,7 +6,7 @@ use Rattle.std.proofs.Math.Nat.{zero-mul, suc-mul, mul-le-mul_right}
 use Rattle.std.proofs.lemmas.List.{take-replicate, drop-replicate, take-append-drop, take-append-le, drop-append-le, take_all, drop_all, drop-drop, get_or_default, get_or-take, get_or-drop, length-append, length-take-le, length-drop, length-set, length-replicate, same_lists}
 use Rattle.std.proofs.lemmas.List.Elements.{All-get_or, All-replicate, All-set, Contains-get_or}
 use Rattle.std.proofs.lemmas.List.FromFn.{get_or-map-range_with_len, length-map-range_with_len}
-use Rattle.dd_topology.specs.Sets.{SymbolSets, IsRow, IsSets, all_symbols, is_listed, row_of, restricted}
+use Rattle.dd_topology.specs.Sets.{SymbolSets, IsRow, IsSets, all_symbols, is_listed, symbol_row, restricted}
 use Rattle.dd_topology.specs.Kept.{in_rows}
 use Rattle.dd_topology.specs.lemmas.ListLaws.{passes_any}
 
@@ -81,16 +81,16 @@ all_are_sets n m some = record {
     any_copy (suc k) b h e = rw e refl
 
 -- the row of a node that allows the listed symbols
-pub get_or-row_of : (m : ℕ) (symbols : List ℕ) (t : ℕ) (d : Bool) → t < m → get_or (row_of m symbols) t d ≡ is_listed symbols t
+pub get_or-row_of : (m : ℕ) (symbols : List ℕ) (t : ℕ) (d : Bool) → t < m → get_or (symbol_row m symbols) t d ≡ is_listed symbols t
 get_or-row_of m symbols t d h = get_or-map-range_with_len (is_listed symbols) 0 m t t d h (omega arith)
 
 listed_first : (s : ℕ) (symbols : List ℕ) → is_listed (s ∷ symbols) s ≡ true
 listed_first s symbols = ap (λ b. b || is_listed symbols s) (eq-eqb s s refl)
 
-pub row_is_row : (m : ℕ) (symbols : List ℕ) → All (λ s. s < m) symbols → 1 ≤ length symbols → IsRow m (row_of m symbols)
+pub row_is_row : (m : ℕ) (symbols : List ℕ) → All (λ s. s < m) symbols → 1 ≤ length symbols → IsRow m (symbol_row m symbols)
 row_is_row m [] all h = absurd (omega arith)
 row_is_row m (s ∷ symbols) all h =
-    let row = row_of m (s ∷ symbols) in
+    let row = symbol_row m (s ∷ symbols) in
     let below : s < m = All-get_or (λ t. t < m) (s ∷ symbols) 0 s (omega arith) all in
     let as_many : length row ≡ m = length-map-range_with_len (is_listed (s ∷ symbols)) 0 m in
     let here : get_or row s false ≡ true = get_or-row_of m (s ∷ symbols) s false below ∙ listed_first s symbols in
@@ -104,8 +104,8 @@ pub restricted_are_sets : (n : ℕ) (s : SymbolSets) (a : ℕ) (symbols : List �
     IsSets n (restricted s a symbols)
 restricted_are_sets n s a symbols ok all some = record {
   symbols = ok.symbols;
-  nodes = length-set s.allowed a (row_of s.symbols symbols) ∙ ok.nodes;
-  rows = All-set (IsRow s.symbols) s.allowed a (row_of s.symbols symbols) (row_is_row s.symbols symbols all some) ok.rows;
+  nodes = length-set s.allowed a (symbol_row s.symbols symbols) ∙ ok.nodes;
+  rows = All-set (IsRow s.symbols) s.allowed a (symbol_row s.symbols symbols) (row_is_row s.symbols symbols all some) ok.rows;
 }
 
 -- a list that is written over by one of the same length
@@ -113,24 +113,24 @@ pub written_over : {X : Type 0} (xs ys : List X) (n : ℕ) → length xs ≡ n �
 written_over xs ys n long same = rw (same, drop_all n xs (omega arith)) (rw append-nil (take_all n ys (omega arith)))
 
 -- the answers row by row
-pub listed_rows : (row : List Bool) (m : ℕ) (symbols : List ℕ) → length row ≡ m → ((t : ℕ) → t < length row → get_or row t false ≡ is_listed symbols t) → row ≡ row_of m symbols
+pub listed_rows : (row : List Bool) (m : ℕ) (symbols : List ℕ) → length row ≡ m → ((t : ℕ) → t < length row → get_or row t false ≡ is_listed symbols t) → row ≡ symbol_row m symbols
 listed_rows row m symbols long each =
-    same_lists row (row_of m symbols) (long ∙ sym (length-map-range_with_len (is_listed symbols) 0 m)) (λ t d h.
+    same_lists row (symbol_row m symbols) (long ∙ sym (length-map-range_with_len (is_listed symbols) 0 m)) (λ t d h.
     get_or_default row t d false h ∙ (each t h ∙ sym (get_or-row_of m symbols t d (omega arith))))
 
 -- a row of flat answers was written over in place
 module _ (n m a k len : ℕ) (xs now row : List Bool) (symbols : List ℕ) (below : a < n) (long : length xs ≡ n * m) (full : length xs ≡ len) (same : now ≡ xs) (size : k ≡ m)
-    (is : row ≡ row_of (length (take k (drop (a * m) now))) symbols) where
+    (is : row ≡ symbol_row (length (take k (drop (a * m) now))) symbols) where
   abbrev over : List Bool
   over = take (a * m) now ++ (row ++ drop k (drop (a * m) now))
 
   last_within : a * m + m ≤ n * m
   last_within = omega (arith, suc-mul a m, mul-le-mul_right m (let le : suc a ≤ n = omega arith in le))
 
-  row_is : row ≡ row_of m symbols
+  row_is : row ≡ symbol_row m symbols
   row_is =
       let part : length (take k (drop (a * m) now)) ≡ m = rw (same, size) (length-take-le m (drop (a * m) xs) (omega (arith, length-drop (a * m) xs, last_within))) in
-      is ∙ ap (λ j. row_of j symbols) part
+      is ∙ ap (λ j. symbol_row j symbols) part
 
   few : length row ≡ m
   few = ap length row_is ∙ length-map-range_with_len (is_listed symbols) 0 m
@@ -146,7 +146,7 @@ module _ (n m a k len : ℕ) (xs now row : List Bool) (symbols : List ℕ) (belo
   kept : take len (over ++ drop (length over) xs) ≡ over
   kept = written_over xs over len full (over_long ∙ full)
 
-  pub rows_restricted : in_rows n m (take len (over ++ drop (length over) xs)) ≡ set (in_rows n m xs) a (row_of m symbols)
+  pub rows_restricted : in_rows n m (take len (over ++ drop (length over) xs)) ≡ set (in_rows n m xs) a (symbol_row m symbols)
   rows_restricted = ap (in_rows n m) (kept ∙ over_is) ∙ (rows-written n m a xs row below long few ∙ ap (set (in_rows n m xs) a) row_is)
 
   pub as_long : length (take len (over ++ drop (length over) xs)) ≡ n * m

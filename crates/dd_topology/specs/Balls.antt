@@ -25,21 +25,21 @@ IsInBall es c zero d = d ≡ c
 IsInBall es c (suc r) d = IsInBall es c r d ⊎ ((b : Cell) × IsInBall es c r b × IsAdjacent es b d)
 
 -- the list has exactly the cells of the set, each once, in cell order, and all are in range
-pub record IsListOf (S : CellSet) (cells : List Cell) : Type 0 where
+pub record IsCellListOf (S : CellSet) (cells : List Cell) : Type 0 where
   pub ascending : IsStrictlySortedBy cell_cmp cells
   pub in_range : All (λ c. IsInRange c.position) cells
   pub members : (c : Cell) → Contains cells c ↔ S c
 
 -- some cell of the set is out of range
-pub record LeavesRange (S : CellSet) : Type 0 where
+pub record CellsLeaveRange (S : CellSet) : Type 0 where
   pub at : Cell
   pub member : S at
   pub outside : ¬ IsInRange at.position
 
 -- the fault with which the list of a set is not made: `Range` only where the set leaves the range
-abbrev pub IsFaultOf : CellSet → LatticeFault → Type 0
-IsFaultOf S Range = LeavesRange S
-IsFaultOf S Memory = Unit {0}
+abbrev pub IsCellFaultOf : CellSet → LatticeFault → Type 0
+IsCellFaultOf S Range = CellsLeaveRange S
+IsCellFaultOf S Memory = Unit {0}
 
 -- adjacency as a test
 abbrev pub same_place : Place → Place → Bool
@@ -52,14 +52,14 @@ abbrev pub is_adjacent : List Edge → Cell → Cell → Bool
 is_adjacent es a b = list_any (λ e. leads e a b || leads e b a) es
 
 -- balls as lists, with repeats: the cells to which an edge leads from c, or from which one leads to c
-abbrev pub ends : Cell → Edge → List Cell
-ends c e = cond (e.from == c.node) (end_of c e ∷ []) []
+abbrev pub edge_ends : Cell → Edge → List Cell
+edge_ends c e = cond (e.from == c.node) (end_of c e ∷ []) []
 
-abbrev pub starts : Cell → Edge → List Cell
-starts c e = cond (e.to == c.node) (start_of c e ∷ []) []
+abbrev pub edge_starts : Cell → Edge → List Cell
+edge_starts c e = cond (e.to == c.node) (start_of c e ∷ []) []
 
 abbrev pub beside : Cell → Edge → List Cell
-beside c e = ends c e ++ starts c e
+beside c e = edge_ends c e ++ edge_starts c e
 
 abbrev pub neighbours : List Edge → Cell → List Cell
 neighbours es c = flat_map (beside c) es

@@ -27,20 +27,20 @@ back label offset = record { label = label; from = 1; offset = offset; to = 0 }
 abbrev pub one : ℤ
 one = pos 1
 
-abbrev pub minus : ℤ
-minus = negsuc 0
+abbrev pub minus_one : ℤ
+minus_one = negsuc 0
 
 abbrev pub flat : ℤ → ℤ → Place
 flat x y = place x y (pos 0)
 
 abbrev pub line : Grid
-line = grid 1 1 (codes "rt" ∷ codes "lt" ∷ []) (link 0 (flat one (pos 0)) ∷ link 1 (flat minus (pos 0)) ∷ [])
+line = grid 1 1 (codes "rt" ∷ codes "lt" ∷ []) (link 0 (flat one (pos 0)) ∷ link 1 (flat minus_one (pos 0)) ∷ [])
 
 abbrev pub square_labels : List (List ℕ)
 square_labels = codes "up" ∷ codes "dn" ∷ codes "rt" ∷ codes "lt" ∷ []
 
 abbrev pub square_edges : List Edge
-square_edges = link 0 (flat (pos 0) one) ∷ link 1 (flat (pos 0) minus) ∷ link 2 (flat one (pos 0)) ∷ link 3 (flat minus (pos 0)) ∷ []
+square_edges = link 0 (flat (pos 0) one) ∷ link 1 (flat (pos 0) minus_one) ∷ link 2 (flat one (pos 0)) ∷ link 3 (flat minus_one (pos 0)) ∷ []
 
 abbrev pub square : Grid
 square = grid 2 1 square_labels square_edges
@@ -48,10 +48,10 @@ square = grid 2 1 square_labels square_edges
 abbrev pub king : Grid
 king =
     grid 2 1 (square_labels ++ (codes "ne" ∷ codes "nw" ∷ codes "se" ∷ codes "sw" ∷ []))
-    (square_edges ++ (link 4 (flat one one) ∷ link 5 (flat minus one) ∷ link 6 (flat one minus) ∷ link 7 (flat minus minus) ∷ []))
+    (square_edges ++ (link 4 (flat one one) ∷ link 5 (flat minus_one one) ∷ link 6 (flat one minus_one) ∷ link 7 (flat minus_one minus_one) ∷ []))
 
 abbrev pub triangle : Grid
-triangle = grid 2 1 (square_labels ++ (codes "ne" ∷ codes "sw" ∷ [])) (square_edges ++ (link 4 (flat one one) ∷ link 5 (flat minus minus) ∷ []))
+triangle = grid 2 1 (square_labels ++ (codes "ne" ∷ codes "sw" ∷ [])) (square_edges ++ (link 4 (flat one one) ∷ link 5 (flat minus_one minus_one) ∷ []))
 
 abbrev pub hex : Grid
 hex =
@@ -59,9 +59,9 @@ hex =
     (
     forth 0 (flat (pos 0) (pos 0))
     ∷ back 0 (flat (pos 0) (pos 0))
-    ∷ forth 1 (flat minus (pos 0))
+    ∷ forth 1 (flat minus_one (pos 0))
     ∷ back 1 (flat one (pos 0))
-    ∷ forth 2 (flat (pos 0) minus)
+    ∷ forth 2 (flat (pos 0) minus_one)
     ∷ back 2 (flat (pos 0) one)
     ∷ []
     )
@@ -71,11 +71,11 @@ cube =
     grid 3 1 (codes "rt" ∷ codes "lt" ∷ codes "up" ∷ codes "dn" ∷ codes "fw" ∷ codes "bk" ∷ [])
     (
     link 0 (flat one (pos 0))
-    ∷ link 1 (flat minus (pos 0))
+    ∷ link 1 (flat minus_one (pos 0))
     ∷ link 2 (flat (pos 0) one)
-    ∷ link 3 (flat (pos 0) minus)
+    ∷ link 3 (flat (pos 0) minus_one)
     ∷ link 4 (place (pos 0) (pos 0) one)
-    ∷ link 5 (place (pos 0) (pos 0) minus)
+    ∷ link 5 (place (pos 0) (pos 0) minus_one)
     ∷ []
     )
 

@@ -13,6 +13,6 @@ abbrev pub number_of : List (List ℕ) → List ℕ → Option ℕ
 number_of names name = position (bytes_eq name) names
 
 -- what a refused name is answered: the name itself, and that it is there; or that it is not, and memory ran out
-abbrev pub IsRefusal : List (List ℕ) → String Global → NameFault → Type 0
-IsRefusal names name (Twice back) = (back ≡ name) × Contains names (string_bytes name)
-IsRefusal names name (Memory back) = (back ≡ name) × ¬ Contains names (string_bytes name)
+abbrev pub IsNameRefusal : List (List ℕ) → String Global → NameFault → Type 0
+IsNameRefusal names name (Twice back) = (back ≡ name) × Contains names (string_bytes name)
+IsNameRefusal names name (Memory back) = (back ≡ name) × ¬ Contains names (string_bytes name)

@@ -36,9 +36,9 @@ all_symbols nodes m = symbol_sets m (replicate nodes (replicate m true))
 abbrev pub is_listed : List ℕ → ℕ → Bool
 is_listed symbols t = list_any (λ s. s == t) symbols
 
-abbrev pub row_of : ℕ → List ℕ → List Bool
-row_of m symbols = map (is_listed symbols) (range_with_len 0 m)
+abbrev pub symbol_row : ℕ → List ℕ → List Bool
+symbol_row m symbols = map (is_listed symbols) (range_with_len 0 m)
 
 -- the node allows exactly these, and each other node what it allowed
 abbrev pub restricted : SymbolSets → ℕ → List ℕ → SymbolSets
-restricted s a symbols = symbol_sets s.symbols (slice_set s.allowed a (row_of s.symbols symbols))
+restricted s a symbols = symbol_sets s.symbols (slice_set s.allowed a (symbol_row s.symbols symbols))

@@ -6,7 +6,7 @@ ghost use Rattle.dd_lattice.specs.Place.{moved};
 ghost use Rattle.dd_lattice.specs.Order.{cell_cmp};
 ghost use Rattle.dd_lattice.specs.InOrder.{in_order};
 ghost use Rattle.dd_lattice.specs.declared.fault.LatticeFault.TheVariants.{Range};
-ghost use Rattle.dd_topology.specs.Balls.{same_place, leads, is_adjacent, IsAdjacent, IsInBall, IsListOf, IsFaultOf, ends, starts, neighbours, ball, are_in_range};
+ghost use Rattle.dd_topology.specs.Balls.{same_place, leads, is_adjacent, IsAdjacent, IsInBall, IsCellListOf, IsCellFaultOf, edge_ends, edge_starts, neighbours, ball, are_in_range};
 ghost use Rattle.dd_topology.specs.Growth.{AddsCells};
 
 use crate::edge::{Edge, end_of, start_of};
@@ -27,9 +27,9 @@ impl Topology {
     /// The cells at a distance of at most `radius` from the centre, in cell order, each once. `Range` where a coordinate of
     /// one of them would pass 2^20.
     pub fn ball(&self, alloc: Global, centre: &Cell, radius: u32) -> Result<Vec<Cell>, LatticeFault>
-        ensures cells { IfOk result (λ v. IsListOf (IsInBall self.now.edges centre.now radius) v.items) }
+        ensures cells { IfOk result (λ v. IsCellListOf (IsInBall self.now.edges centre.now radius) v.items) }
         ensures list { IfOk result (λ v. v.items ≡ in_order (ball self.now.edges centre.now radius)) }
-        ensures fault { IfErr result (IsFaultOf (IsInBall self.now.edges centre.now radius)) }
+        ensures fault { IfErr result (IsCellFaultOf (IsInBall self.now.edges centre.now radius)) }
     {
         // A cell holds only a position in range: the rounds begin with one.
         let position = &centre.position;
@@ -82,9 +82,9 @@ fn leads(edge: &Edge, from: &Cell, to: &Cell) -> bool
 
 /// Adds the cell to which the edge leads from a cell of its first node.
 fn push_end(reached: &mut Vec<Cell>, edge: &Edge, cell: &Cell) -> Result<(), LatticeFault>
-    ensures cells { OnOk result (reached.new.items ≡ reached.old.items ++ ends cell.now edge.now) }
-    ensures in_range { OnOk result (are_in_range (ends cell.now edge.now) ≡ true) }
-    ensures fault { IfErr result (λ fault. fault ≡ Range → are_in_range (ends cell.now edge.now) ≡ false) }
+    ensures cells { OnOk result (reached.new.items ≡ reached.old.items ++ edge_ends cell.now edge.now) }
+    ensures in_range { OnOk result (are_in_range (edge_ends cell.now edge.now) ≡ true) }
+    ensures fault { IfErr result (λ fault. fault ≡ Range → are_in_range (edge_ends cell.now edge.now) ≡ false) }
 {
     if edge.from != cell.node {
         return Ok(());
@@ -98,9 +98,9 @@ fn push_end(reached: &mut Vec<Cell>, edge: &Edge, cell: &Cell) -> Result<(), Lat
 
 /// Adds the cell from which the edge leads to a cell of its second node.
 fn push_start(reached: &mut Vec<Cell>, edge: &Edge, cell: &Cell) -> Result<(), LatticeFault>
-    ensures cells { OnOk result (reached.new.items ≡ reached.old.items ++ starts cell.now edge.now) }
-    ensures in_range { OnOk result (are_in_range (starts cell.now edge.now) ≡ true) }
-    ensures fault { IfErr result (λ fault. fault ≡ Range → are_in_range (starts cell.now edge.now) ≡ false) }
+    ensures cells { OnOk result (reached.new.items ≡ reached.old.items ++ edge_starts cell.now edge.now) }
+    ensures in_range { OnOk result (are_in_range (edge_starts cell.now edge.now) ≡ true) }
+    ensures fault { IfErr result (λ fault. fault ≡ Range → are_in_range (edge_starts cell.now edge.now) ≡ false) }
 {
     if edge.to != cell.node {
         return Ok(());

@@ -32,7 +32,7 @@ pub enum NameFault {
 }
 
 impl Names {
-    ghost use Rattle.dd_topology.specs.Naming.{AreDistinct, number_of, IsRefusal};
+    ghost use Rattle.dd_topology.specs.Naming.{AreDistinct, number_of, IsNameRefusal};
 
     /// No names. It takes no memory.
     pub fn new(alloc: Global) -> Names
@@ -49,7 +49,7 @@ impl Names {
         ensures number { IfOk result (λ number. number ≡ length self.old) }
         ensures added { OnOk result (self.new ≡ self.old ++ string_bytes name ∷ []) }
         ensures first { OnOk result (¬ Contains self.old (string_bytes name)) }
-        ensures refusal { IfErr result (IsRefusal self.old name) }
+        ensures refusal { IfErr result (IsNameRefusal self.old name) }
         ensures unchanged { OnErr result (self.new ≡ self.old) }
     {
         if self.known.contains(name.as_str()) {

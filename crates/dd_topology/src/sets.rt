@@ -1,6 +1,6 @@
 //! Which symbols the nodes allow: one answer for each node and each symbol, the nodes in order.
 ghost use Rattle.std.specs.Prelude.{◌≡◌, ◌≤◌, ◌<◌, length, All, IfOk};
-ghost use Rattle.dd_topology.specs.Sets.{all_symbols, restricted, allows, row_of, IsSets};
+ghost use Rattle.dd_topology.specs.Sets.{all_symbols, restricted, allows, symbol_row, IsSets};
 
 use std::alloc::{AllocError, Global};
 use std::marker::Model;
@@ -29,7 +29,7 @@ impl Model for Sets {
 /// Answers for exactly these symbols.
 fn allow_listed(row: &mut [bool], symbols: &[u32])
     requires { All (λ s. s < length row.old) symbols.now }
-    ensures { row.new ≡ row_of (length row.old) symbols.now }
+    ensures { row.new ≡ symbol_row (length row.old) symbols.now }
 {
     for answer in row.iter_mut() {
         *answer = false;

@@ -13,7 +13,7 @@ use Rattle.dd_lattice.specs.declared.position.Cell.{Cell}
 use Rattle.dd_topology.specs.declared.edge.Edge.{Edge}
 use Rattle.dd_topology.specs.Grid.{Grid, IsGrid, is_edge, is_offset}
 use Rattle.dd_topology.specs.Topology.{end_of, start_of, reversed, leaves, step}
-use Rattle.dd_topology.specs.Balls.{ends, starts, beside, neighbours, ball}
+use Rattle.dd_topology.specs.Balls.{edge_ends, edge_starts, beside, neighbours, ball}
 use Rattle.dd_expansion.specs.declared.formulas.Term.{Term}
 use Rattle.dd_expansion.specs.declared.formulas.BallOf.{BallOf}
 use Rattle.dd_expansion.specs.declared.formulas.Formula.{Formula}
@@ -125,7 +125,7 @@ module _ (es : List Edge) (p : Cell → Bool) (q : Edge → Bool) (edges : list_
 
   beside_passes : (c : Cell) (e : Edge) → p c ≡ true → q e ≡ true → list_all p (beside c e) ≡ true
   beside_passes c e h k =
-      list_all-append p (ends c e) (starts c e)
+      list_all-append p (edge_ends c e) (edge_starts c e)
       ∙ and_from _ _ (cond_passes p (e.from == c.node) (end_of c e) (forth c e h k)) (cond_passes p (e.to == c.node) (start_of c e) (back c e h k))
 
   neighbours_pass : (c : Cell) → p c ≡ true → list_all p (neighbours es c) ≡ true

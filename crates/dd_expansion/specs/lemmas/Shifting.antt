@@ -15,7 +15,7 @@ use Rattle.dd_lattice.specs.Cells.{cell, shifted}
 use Rattle.dd_lattice.specs.declared.position.Cell.{Cell}
 use Rattle.dd_topology.specs.declared.edge.Edge.{Edge}
 use Rattle.dd_topology.specs.Topology.{end_of, start_of, reversed, leaves, step}
-use Rattle.dd_topology.specs.Balls.{same_place, leads, is_adjacent, ends, starts, beside, neighbours, ball}
+use Rattle.dd_topology.specs.Balls.{same_place, leads, is_adjacent, edge_ends, edge_starts, beside, neighbours, ball}
 use Rattle.dd_pattern.specs.Reading.{Look}
 use Rattle.dd_expansion.specs.declared.formulas.Term.{Term}
 use Rattle.dd_expansion.specs.declared.formulas.BallOf.{BallOf}
@@ -112,7 +112,7 @@ module _ (v : Place) where
       rw (
         cond_shifted (e.from == c.node) (end_of c e) (end_of (shifted v c) e) (end_of_shifted c e),
         cond_shifted (e.to == c.node) (start_of c e) (start_of (shifted v c) e) (start_of_shifted c e),
-        map-append (shifted v) (ends c e) (starts c e),
+        map-append (shifted v) (edge_ends c e) (edge_starts c e),
       )
 
   pub neighbours_shifted : (es : List Edge) (c : Cell) → neighbours es (shifted v c) ≡ map (shifted v) (neighbours es c)

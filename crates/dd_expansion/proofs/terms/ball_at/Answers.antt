@@ -1,6 +1,6 @@
 use Rattle.std.proofs.Common.{◌≡◌, true}
 use Rattle.dd_topology.specs.Topology.{are_short}
-use Rattle.dd_topology.specs.Balls.{IsInBall, LeavesRange}
+use Rattle.dd_topology.specs.Balls.{IsInBall, CellsLeaveRange}
 use Rattle.dd_expansion.proofs.Extents.{ball_near, ball_stays}
 use Rattle.dd_expansion.proofs.terms.ball_at.Goals as goal
 
@@ -9,7 +9,7 @@ unreachable-requires c =
     let es = c.args.topology.now.edges in
     let short : are_short 4 es ≡ true = rw c.edges-edges.ensures.edges at c.edges-edges.ensures.short in
     let fault = c.in-Err-Range.ensures.fault in
-    let leaves : LeavesRange (IsInBall es c.args.centre.now c.args.radius) = rw c.in-Err-Range.field-0-is at fault in
+    let leaves : CellsLeaveRange (IsInBall es c.args.centre.now c.args.radius) = rw c.in-Err-Range.field-0-is at fault in
     ball_stays es c.args.centre.now c.args.radius short c.requires.near leaves
 
 pub returns-in-Ok-clause-near : goal.returns-in-Ok-clause-near
