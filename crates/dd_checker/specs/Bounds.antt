@@ -9,7 +9,7 @@ use Rattle.dd_formula.specs.Living.{Obeys}
 use Rattle.dd_boxes.specs.Fillings.{IsConfiguration}
 use Rattle.dd_counts.specs.Rules.{window}
 use Rattle.dd_transfer.specs.Transfers.{strip_for}
-use Rattle.dd_transfer.specs.Certificates.{IsLowest, walk_weight, IsDensityCertificate, IsEmptyCertificate}
+use Rattle.dd_transfer.specs.Certificates.{IsInLowestTerms, walk_weight, IsDensityCertificate, IsEmptyCertificate}
 use Rattle.dd_strips.specs.Claims.{StripLeast, StripEmpty, spread_of}
 use Rattle.dd_discharge.specs.declared.bound.Bound.{Bound}
 use Rattle.dd_discharge.specs.Amounts.{bound_claimed, held_over}
@@ -44,7 +44,7 @@ IsStripCertificate x strip ws (answer.Bound numerator denominator common amounts
 pub record IsLeastOnStrip (x : LocalRule) (strip ws : List ℕ) (p q : ℕ) (cycle : List ℕ) (potentials : List ℤ) : Type 0 where
   pub m : ℕ
   pub l : ℕ
-  pub mean : IsLowest m l (walk_weight x (strip_for x strip) ws cycle) (length cycle)
+  pub mean : IsInLowestTerms m l (walk_weight x (strip_for x strip) ws cycle) (length cycle)
   pub least : StripLeast x (strip_for x strip) ws p q l m (spread_of potentials)
 
 -- what such an answer claims

@@ -9,7 +9,7 @@ use Rattle.dd_transfer.specs.declared.strip.Strip.{Strip}
 use Rattle.dd_transfer.specs.Windows.{positions}
 use Rattle.dd_transfer.specs.Graphs.{Transfer, IsTransfer}
 use Rattle.dd_transfer.specs.Transfers.{IsGraphOf}
-use Rattle.dd_transfer.specs.Certificates.{IsLowest, potential_of}
+use Rattle.dd_transfer.specs.Certificates.{IsInLowestTerms, potential_of}
 use Rattle.dd_meancycle.specs.declared.least.Mean.{Mean}
 use Rattle.dd_meancycle.specs.declared.least.Mean.TheVariants as mean
 use Rattle.dd_meancycle.specs.Means.{IsLeast, IsMeanOf, weight_of}
@@ -20,7 +20,7 @@ use Rattle.dd_density.specs.graphs.Means.{IsMeanOver, IsOfMean}
 use Rattle.dd_density.proofs.Fractions.{lowest_small, IsNoGreater}
 use Rattle.dd_density.proofs.Walks.{weight_most, certificate_of, empty_of}
 
-pub lowest_mean : (g : Transfer) (m l : ℕ) (cycle : List ℕ) (ps : List ℤ) → IsLeast g m l cycle ps → IsLowest m l (weight_of g cycle) (length cycle)
+pub lowest_mean : (g : Transfer) (m l : ℕ) (cycle : List ℕ) (ps : List ℤ) → IsLeast g m l cycle ps → IsInLowestTerms m l (weight_of g cycle) (length cycle)
 lowest_mean g m l cycle ps is = record { same = sym is.mean; lowest = is.lowest; positive = is.positive }
 
 mean_small : (g : Transfer) (m l : ℕ) (cycle : List ℕ) (ps : List ℤ) → IsLeast g m l cycle ps → IsNoGreater m l (weight_of g cycle) (length cycle)

@@ -5,7 +5,7 @@ use Prim.Native.Nat.{◌∣◌}
 use Rattle.std.proofs.lemmas.Nat.{mod_below, mod-mul-add, div-add-mod'}
 use Rattle.std.proofs.lemmas.Nat.Gcd.{IsGcd-from_zero, IsGcd-from_mod, same_from_IsGcd, dvd_antisymm, dvd-zero, mod-eq-zero_of_dvd}
 use Rattle.std.proofs.Math.Nat.{mul-le-mul_left, mul-le-mul_right, le_of_mul-le-mul_right, eq_of_mul-eq-mul_right, mul_comm, dvd-mul_right, mul-dvd-mul_left, dvd_of_mul-dvd-mul_left}
-use Rattle.dd_transfer.specs.Certificates.{IsLowest}
+use Rattle.dd_transfer.specs.Certificates.{IsInLowestTerms}
 
 mod-scaled : (a b k : ℕ) → 0 < k → 0 < b → (a * k) % (b * k) ≡ a % b * k
 mod-scaled a b k z p =
@@ -55,7 +55,7 @@ cross n d m e a b some p q =
     eq_of_mul-eq-mul_right b some (n * e) (m * d) z
 
 -- the lowest terms are unique
-pub lowest_same : (n d m e a b : ℕ) → 0 < b → IsLowest n d a b → IsLowest m e a b → SameFraction n d m e
+pub lowest_same : (n d m e a b : ℕ) → 0 < b → IsInLowestTerms n d a b → IsInLowestTerms m e a b → SameFraction n d m e
 lowest_same n d m e a b some p q =
     let turned : n * e ≡ m * d = cross n d m e a b some p.same q.same in
     let one : IsGcd (n * e) (d * e) e = alone_times n d e q.positive p.lowest in
@@ -74,7 +74,7 @@ some_factor : (h d b : ℕ) → b ≡ h * d → 0 < b → 0 < h
 some_factor zero d b e some = absurd (omega (arith, e))
 some_factor (suc h) d b e some = omega arith
 
-pub lowest_small : (n d a b : ℕ) → 0 < b → IsLowest n d a b → IsNoGreater n d a b
+pub lowest_small : (n d a b : ℕ) → 0 < b → IsInLowestTerms n d a b → IsNoGreater n d a b
 lowest_small n d a b some p =
     let c = common a b d p.positive in
     let one : IsGcd (n * b) (d * b) b = alone_times n d b some p.lowest in
@@ -97,7 +97,7 @@ gcd_positive a b zero is some = absurd (let e : b ≡ 0 = dvd_antisymm (dvd-zero
 gcd_positive a b (suc g) is some = omega arith
 
 -- the quotients by the greatest common divisor
-pub quotients_lowest : (a b g : ℕ) → IsGcd a b g → 0 < b → 0 < g → IsLowest (a / g) (b / g) a b
+pub quotients_lowest : (a b g : ℕ) → IsGcd a b g → 0 < b → 0 < g → IsInLowestTerms (a / g) (b / g) a b
 quotients_lowest a b g is some g_pos =
     let am : a % g ≡ 0 = mod-eq-zero_of_dvd g is.0 in
     let bm : b % g ≡ 0 = mod-eq-zero_of_dvd g is.1 in

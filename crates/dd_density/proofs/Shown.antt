@@ -3,7 +3,7 @@ use Rattle.std.proofs.Common.{◌≡◌, ℕ, ◌*◌, ◌<◌, ◌≤◌, ◌^�
 use Rattle.std.specs.Prelude.{ℤ, pos, ◌-ℤ◌, ◌≤ℤ◌}
 use Rattle.std.proofs.Math.Nat.{mul-le-mul}
 use Rattle.dd_transfer.specs.Graphs.{Transfer, next_of, weight_at}
-use Rattle.dd_transfer.specs.Certificates.{IsLowest, potential_of}
+use Rattle.dd_transfer.specs.Certificates.{IsInLowestTerms, potential_of}
 use Rattle.dd_meancycle.specs.Means.{IsCycle, ArePotentials, weight_of}
 use Rattle.dd_density.specs.graphs.Shown.{IsShown, IsRiseAlong}
 use Rattle.dd_density.proofs.Fractions.{SameFraction, lowest_same}
@@ -25,8 +25,8 @@ rise_along g m l ps u t next weight b here heavy said = (
 -- the numbers found for a walk: its mean and its density over so many positions
 pub record AreFound (g : Transfer) (volume : ℕ) (walk : List ℕ) (mn md dn dd : ℕ) : Type 0 where
   pub cycle : IsCycle g walk
-  pub mean : IsLowest mn md (weight_of g walk) (length walk)
-  pub density : IsLowest dn dd mn (md * volume)
+  pub mean : IsInLowestTerms mn md (weight_of g walk) (length walk)
+  pub density : IsInLowestTerms dn dd mn (md * volume)
   pub some : 0 < md * volume
 
 pub record IsSameClaim (mn md dn dd p q m l : ℕ) : Type 0 where
@@ -36,8 +36,8 @@ pub record IsSameClaim (mn md dn dd p q m l : ℕ) : Type 0 where
 pub found_same : (g : Transfer) (volume p q : ℕ) (walk : List ℕ) (ps : List ℤ) (mn md dn dd : ℕ) → AreFound g volume walk mn md dn dd → (s : IsShown g volume p q walk ps) → IsSameClaim mn md dn dd p q s.m s.l
 found_same g volume p q walk ps mn md dn dd found s =
     let mean = lowest_same mn md s.m s.l (weight_of g walk) (length walk) found.cycle.turns found.mean s.mean in
-    let given : IsLowest p q mn (md * volume) =
-    subst (λ (x : ℕ). IsLowest p q x (md * volume)) (sym mean.numerator) (subst (λ (x : ℕ). IsLowest p q s.m (x * volume)) (sym mean.denominator) s.density) in
+    let given : IsInLowestTerms p q mn (md * volume) =
+    subst (λ (x : ℕ). IsInLowestTerms p q x (md * volume)) (sym mean.numerator) (subst (λ (x : ℕ). IsInLowestTerms p q s.m (x * volume)) (sym mean.denominator) s.density) in
     record { mean = mean; density = lowest_same dn dd p q mn (md * volume) found.some found.density given }
 
 pub shown_found : (g : Transfer) (volume p q : ℕ) (walk : List ℕ) (ps : List ℤ) (mn md dn dd : ℕ) (b : Bool) → AreFound g volume walk mn md dn dd → dn ≡ p → dd ≡ q →
@@ -48,7 +48,7 @@ shown_found g volume p q walk ps mn md dn dd b found same_p same_q said = (
     l = md;
     cycle = found.cycle;
     mean = found.mean;
-    density = subst (λ (x : ℕ). IsLowest x q mn (md * volume)) same_p (subst (λ (x : ℕ). IsLowest dn x mn (md * volume)) same_q found.density);
+    density = subst (λ (x : ℕ). IsInLowestTerms x q mn (md * volume)) same_p (subst (λ (x : ℕ). IsInLowestTerms dn x mn (md * volume)) same_q found.density);
     each = (said.0 yes).0;
     potentials = (said.0 yes).1;
   },

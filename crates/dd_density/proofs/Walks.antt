@@ -8,7 +8,7 @@ use Rattle.dd_transfer.specs.declared.strip.Strip.{Strip}
 use Rattle.dd_transfer.specs.Windows.{positions}
 use Rattle.dd_transfer.specs.Graphs.{Transfer, IsTransfer, next_of, weight_at}
 use Rattle.dd_transfer.specs.Transfers.{IsGraphOf, slice_weight}
-use Rattle.dd_transfer.specs.Certificates.{IsWalk, IsClosedWalk, IsLowest, walk_weight, IsDensityCertificate, IsEmptyCertificate, ArePotentials as RisesAlong, potential_of}
+use Rattle.dd_transfer.specs.Certificates.{IsWalk, IsClosedWalk, IsInLowestTerms, walk_weight, IsDensityCertificate, IsEmptyCertificate, ArePotentials as RisesAlong, potential_of}
 use Rattle.dd_meancycle.specs.Means.{IsPath, IsCycle, ArePotentials, weight_of}
 use Rattle.dd_density.specs.graphs.Shown.{IsShown, AreFallen}
 use Rattle.dd_density.proofs.Edges.{last_slice, weight_small, step}
@@ -83,7 +83,7 @@ certificate_of r s weights g p q ws ps is shown = record {
   m = shown.m;
   l = shown.l;
   closed = closed_of r s weights g ws is shown.cycle;
-  mean = subst (λ (x : ℕ). IsLowest shown.m shown.l x (length ws)) (weighed r s weights g ws is) shown.mean;
+  mean = subst (λ (x : ℕ). IsInLowestTerms shown.m shown.l x (length ws)) (weighed r s weights g ws is) shown.mean;
   density = shown.density;
   potentials = rises_of r s weights g shown.m shown.l ps is shown.each shown.potentials;
 }
@@ -93,7 +93,7 @@ shown_of r s weights g p q ws ps is c = record {
   m = c.m;
   l = c.l;
   cycle = cycle_of r s weights g ws is c.closed;
-  mean = subst (λ (x : ℕ). IsLowest c.m c.l x (length ws)) (sym (weighed r s weights g ws is)) c.mean;
+  mean = subst (λ (x : ℕ). IsInLowestTerms c.m c.l x (length ws)) (sym (weighed r s weights g ws is)) c.mean;
   density = c.density;
   each = c.potentials.each ∙ sym is.states_are;
   potentials = potentials_of r s weights g c.m c.l ps is c.potentials;

@@ -1,7 +1,7 @@
 //! Fractions in lowest terms.
 ghost use Rattle.std.specs.Prelude.{◌<◌};
 ghost use Rattle.std.specs.Int.{IsGcd};
-ghost use Rattle.dd_transfer.specs.Certificates.{IsLowest};
+ghost use Rattle.dd_transfer.specs.Certificates.{IsInLowestTerms};
 
 #[derive(Clone, Copy, Debug)]
 pub(crate) struct Ratio {
@@ -26,7 +26,7 @@ fn gcd(a: u128, b: u128) -> u128
 /// The fraction `a / b` in lowest terms.
 pub(crate) fn in_lowest_terms(a: u128, b: u128) -> Ratio
     requires { 0 < b }
-    ensures { IsLowest result.numerator result.denominator a b }
+    ensures { IsInLowestTerms result.numerator result.denominator a b }
 {
     let common = gcd(a, b);
     Ratio {

@@ -14,7 +14,7 @@ use Rattle.std.proofs.lemmas.Grind.{common_steps}
 use Rattle.std.proofs.Math.Dec.{eqb-zero-suc}
 use Rattle.dd_fraction.specs.Exact.{Exact, den_of, whole_of, times, IsLowest}
 use Rattle.dd_fraction.specs.Order.{IsAtMost, IsNonneg}
-use Rattle.dd_simplex.specs.Programs.{LinearProgram, fraction_at, coefficient, bound_at, unit, zero_of, one_of, total, dual_worth, IsBest}
+use Rattle.dd_simplex.specs.Programs.{LinearProgram, fraction_at, coefficient, bound_at, unit, zero_of, one_of, fraction_sum, dual_objective, IsBest}
 use Rattle.dd_rows.specs.declared.rows.Row.{Row}
 use Rattle.dd_discharge.specs.declared.bound.Bound.{Bound}
 use Rattle.dd_discharge.specs.Amounts.{total_below, row_in, coefficient_in, column_value, MeetRows, column_sum, AreDualsOver, held_over, IsCertified}
@@ -122,7 +122,7 @@ amounts_size n c (x ∷ xs) p e = let size = length-map xs (numerator_over c) in
 
 -- the left side of a row
 row_over : (rows : List Row) (n : ℕ) (value : Exact) (xs ys : List Exact) (b : Bound) → Ready rows n value xs ys b → (k : ℕ)
-    → IsOver b.common (total_below (λ j. coefficient_in rows k j *ℤ column_value (pos (held_over b)) b.amounts j) n) (total (λ j. times (coefficient (in_fractions rows n) k j) (fraction_at xs j)) n)
+    → IsOver b.common (total_below (λ j. coefficient_in rows k j *ℤ column_value (pos (held_over b)) b.amounts j) n) (fraction_sum (λ j. times (coefficient (in_fractions rows n) k j) (fraction_at xs j)) n)
 row_over rows n value xs ys b r k =
     over_total b.common (λ j. times (coefficient (in_fractions rows n) k j) (fraction_at xs j)) (λ j. coefficient_in rows k j *ℤ column_value (pos (held_over b)) b.amounts j) n
     (λ j q.
@@ -145,13 +145,13 @@ meet rows n value xs ys b r = record {
       let height = length-map rows row_of_fractions in
       let inside : k < length (map row_of_fractions rows) = omega (arith, p, height) in
       over_at_most b.common (total_below (λ j. coefficient_in rows k j *ℤ column_value (pos (held_over b)) b.amounts j) n) (pos (b.common * (row_in rows k).bound))
-      (total (λ j. times (coefficient (in_fractions rows n) k j) (fraction_at xs j)) n) (bound_at (in_fractions rows n) k)
+      (fraction_sum (λ j. times (coefficient (in_fractions rows n) k j) (fraction_at xs j)) n) (bound_at (in_fractions rows n) k)
       (above rows n value xs ys b r) (row_over rows n value xs ys b r k) (bound_over rows n b.common k) (r.best.feasible.rows k inside);
 }
 
 -- a column's sum, and the worth of the duals
 sum_over : (rows : List Row) (n : ℕ) (value : Exact) (xs ys : List Exact) (b : Bound) → Ready rows n value xs ys b → (j : ℕ)
-    → IsOver b.common (column_sum rows b.duals j) (total (λ k. times (fraction_at ys k) (coefficient (in_fractions rows n) k j)) (length (map row_of_fractions rows)))
+    → IsOver b.common (column_sum rows b.duals j) (fraction_sum (λ k. times (fraction_at ys k) (coefficient (in_fractions rows n) k j)) (length (map row_of_fractions rows)))
 sum_over rows n value xs ys b r j =
     rw (length-map rows row_of_fractions)
     (over_total b.common (λ k. times (fraction_at ys k) (coefficient (in_fractions rows n) k j)) (λ k. pos (slice_index b.duals k) *ℤ coefficient_in rows k j) (length rows)
@@ -161,7 +161,7 @@ sum_over rows n value xs ys b r j =
     (over_times b.common m (coefficient_in rows k j) (fraction_at ys k) (dual_over rows n value xs ys b r k q))))
 
 worth_over : (rows : List Row) (n : ℕ) (value : Exact) (xs ys : List Exact) (b : Bound) → Ready rows n value xs ys b
-    → IsOver b.common (amounts.dual_worth rows b.duals) (dual_worth (in_fractions rows n) ys)
+    → IsOver b.common (amounts.dual_worth rows b.duals) (dual_objective (in_fractions rows n) ys)
 worth_over rows n value xs ys b r =
     rw (length-map rows row_of_fractions)
     (over_total b.common (λ k. times (fraction_at ys k) (bound_at (in_fractions rows n) k)) (λ k. pos (slice_index b.duals k * (row_in rows k).bound)) (length rows)

@@ -11,7 +11,7 @@ use Rattle.std.proofs.Math.Nat.{div-mul_cancel}
 use Rattle.dd_fraction.specs.Divisor.{greatest_common}
 use Rattle.dd_fraction.specs.Exact.{Exact, den_of, lowest, plus, times, whole_of}
 use Rattle.dd_fraction.specs.Order.{IsAtMost, IsNonneg}
-use Rattle.dd_simplex.specs.Programs.{total}
+use Rattle.dd_simplex.specs.Programs.{fraction_sum}
 use Rattle.dd_discharge.specs.Amounts.{total_below}
 use Rattle.dd_discharge.specs.Denominators.{numerator_over}
 use Rattle.dd_discharge.specs.lemmas.WholeNumbers.{times_times, sum_times, four_factors, scaled_right, cancel_le, cancel}
@@ -117,9 +117,9 @@ times_over c n k a p =
 pub over_whole : (c : ℕ) (k : ℤ) → IsOver c (k *ℤ pos c) (whole_of k)
 over_whole c k = record { cross = omega (arith, ints) }
 
-pub over_total : (c : ℕ) (f : ℕ → Exact) (g : ℕ → ℤ) (n : ℕ) → ((j : ℕ) → j < n → IsOver c (g j) (f j)) → IsOver c (total_below g n) (total f n)
+pub over_total : (c : ℕ) (f : ℕ → Exact) (g : ℕ → ℤ) (n : ℕ) → ((j : ℕ) → j < n → IsOver c (g j) (f j)) → IsOver c (total_below g n) (fraction_sum f n)
 over_total c f g zero h = record { cross = omega (arith, ints) }
-over_total c f g (suc n) h = over_plus c (total_below g n) (g n) (total f n) (f n) (over_total c f g n (λ j p. h j (omega arith))) (h n (omega arith))
+over_total c f g (suc n) h = over_plus c (total_below g n) (g n) (fraction_sum f n) (f n) (over_total c f g n (λ j p. h j (omega arith))) (h n (omega arith))
 
 -- ---- order
 pub over_at_most : (c : ℕ) (n m : ℤ) (a b : Exact) → 0 < c → IsOver c n a → IsOver c m b → IsAtMost a b → n ≤ℤ m

@@ -24,7 +24,7 @@ use Rattle.dd_rows.specs.Asked.{AreWeightsFor}
 use Rattle.dd_rows.specs.Domains.{box_cells, opposite}
 use Rattle.dd_rows.specs.Fillings.{look_of, fillings}
 use Rattle.dd_rows.specs.Patterns.{origin, pattern_at, givers, number_in}
-use Rattle.dd_rows.specs.Programs.{one_at, coefficients, origin_weight, row_of, cap_row, is_same_row, add_row, first_seen, rows, column_count, IsProgramOf}
+use Rattle.dd_rows.specs.Programs.{one_at, coefficients, origin_weight, row_of, greatest_weight_row, is_same_row, add_row, first_seen, rows, column_count, IsProgramOf}
 use Rattle.dd_discharge.specs.Amounts.{row_in}
 use Rattle.dd_discharge.specs.listing.Tables.{AreRowsOf}
 use Rattle.dd_discharge.proofs.Elements.{all_map, all_flat_map}
@@ -119,7 +119,7 @@ all_same P x zero h = All-nil P
 all_same P x (suc n) h = All-cons P x (replicate n x) h (all_same P x n h)
 
 capped_row : (x : LocalRule) (ws : List ℕ) (vs : List Place) (ps : List (List ℕ)) → x.nodes ≤ 4 → All (λ w. w ≤ 1000) ws
-    → IsRowOf (column_count (length vs) (length ps)) (cap_row x ws vs ps)
+    → IsRowOf (column_count (length vs) (length ps)) (greatest_weight_row x ws vs ps)
 capped_row x ws vs ps few small =
     let zeros = length-replicate (length vs * length ps) (pos 0) in
     record {
@@ -163,9 +163,9 @@ program_rows x ws radius margin vs p h w few =
     let ps = p.patterns in
     let n = column_count (length vs) (length ps) in
     let listed : List Row = map (λ ss. row_of x ws radius vs ps (look_of h.ground ss)) (fillings x h.ground) in
-    let cap = cap_row x ws vs ps in
+    let cap = greatest_weight_row x ws vs ps in
     let is : p.rows ≡ first_seen (cap ∷ listed) =
-    h.rows_are ∙ ap (λ (qs : List (List ℕ)). first_seen (cap_row x ws vs qs ∷ map (λ ss. row_of x ws radius vs qs (look_of h.ground ss)) (fillings x h.ground))) (sym h.patterns_are) in
+    h.rows_are ∙ ap (λ (qs : List (List ℕ)). first_seen (greatest_weight_row x ws vs qs ∷ map (λ ss. row_of x ws radius vs qs (look_of h.ground ss)) (fillings x h.ground))) (sym h.patterns_are) in
     let each : All (IsRowOf n) (cap ∷ listed) =
     All-cons (IsRowOf n) cap listed (capped_row x ws vs ps few w.small)
     (all_map (IsRowOf n) (λ ss. any_item ss) (λ ss. row_of x ws radius vs ps (look_of h.ground ss)) (λ ss _. filling_row x ws radius vs ps (look_of h.ground ss) few w.small) (fillings x h.ground) (all_any (fillings x h.ground))) in

@@ -33,7 +33,7 @@ pub first_program : (rows : List Row) (columns : ℕ) (r : Row) → AreRowsOf co
 first_program rows columns r t e =
     let is = row_is rows 0 r t.some e in
     let cap : cap_row columns (pos r.bound) ≡ row_of_fractions (row_in rows 0) = ap (λ (s : Row). cap_row columns (pos s.bound)) is ∙ cap_as_row columns (row_in rows 0) t.cap in
-    let all : cap_row columns (pos r.bound) ∷ [] ≡ map row_of_fractions (take 1 rows) = ap (λ (s : simplex.Row). s ∷ []) cap ∙ ap (map row_of_fractions) (sym (take_one rows t.some)) in
+    let all : cap_row columns (pos r.bound) ∷ [] ≡ map row_of_fractions (take 1 rows) = ap (λ (s : simplex.ProgramRow). s ∷ []) cap ∙ ap (map row_of_fractions) (sym (take_one rows t.some)) in
     λ i. record { columns = columns; rows = all i }
 
 pub next_program : (rows : List Row) (columns i : ℕ) (r : Row) (p : LinearProgram) (cs : List Exact) (b : ℤ) → i < length rows → r ≡ get_or rows i r → p ≡ in_fractions columns (take i rows)
@@ -42,6 +42,6 @@ next_program rows columns i r p cs b h e is c d =
     let last : record { coefficients = cs; bound = whole_of b } ≡ row_of_fractions r = λ j. record { coefficients = c j; bound = whole_of (d j) } in
     let all : p.rows ++ record { coefficients = cs; bound = whole_of b } ∷ [] ≡ map row_of_fractions (take (i + 1) rows) =
     ap (λ (q : LinearProgram). q.rows ++ record { coefficients = cs; bound = whole_of b } ∷ []) is
-    ∙ (ap (λ (s : simplex.Row). map row_of_fractions (take i rows) ++ s ∷ []) last ∙ map_more row_of_fractions rows i r h e) in
+    ∙ (ap (λ (s : simplex.ProgramRow). map row_of_fractions (take i rows) ++ s ∷ []) last ∙ map_more row_of_fractions rows i r h e) in
     let wide : p.columns ≡ columns = ap (λ (q : LinearProgram). q.columns) is in
     λ j. record { columns = wide j; rows = all j }

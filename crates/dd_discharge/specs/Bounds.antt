@@ -14,7 +14,7 @@ use Rattle.dd_discharge.specs.declared.fault.DischargeFault.TheVariants as fault
 use Rattle.dd_discharge.specs.Denominators.{HasUnprinted, IsPrintedAs}
 use Rattle.dd_rows.specs.Programs.{IsProgramOf, IsLargeProgram, column_count}
 
-abbrev pub row_of_fractions : Row → simplex.Row
+abbrev pub row_of_fractions : Row → simplex.ProgramRow
 row_of_fractions r = record { coefficients = map whole_of r.coefficients; bound = whole_of (pos r.bound) }
 
 abbrev pub in_fractions : ℕ → List Row → LinearProgram

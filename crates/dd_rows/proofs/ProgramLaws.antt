@@ -19,7 +19,7 @@ use Rattle.dd_rows.specs.Faults.{OnLarge}
 use Rattle.dd_rows.specs.Fillings.{look_of, fillings, HasFewFillings}
 use Rattle.dd_rows.specs.Patterns.{patterns}
 use Rattle.dd_boxes.specs.Boxes.{origin}
-use Rattle.dd_rows.specs.Programs.{rows, first_seen, cap_row, row_of, column_count, most_columns, most_rows, IsProgramOf, IsLargeProgram}
+use Rattle.dd_rows.specs.Programs.{rows, first_seen, greatest_weight_row, row_of, column_count, most_columns, most_rows, IsProgramOf, IsLargeProgram}
 use Rattle.dd_rows.specs.listing.Levels.{IsWord}
 use Rattle.dd_numbered.specs.Numbering.{rank}
 use Rattle.dd_rows.specs.listing.Views.{AreViews, view_of}
@@ -52,11 +52,11 @@ module _ (x : LocalRule) (radius margin : ℕ) (vs : List Place) (cs : List Cell
     rows_are =
         let ps = patterns_shown v lists in
         let qs = patterns x radius vs cs in
-        let first : capped (length v.givers) (length ps) most ≡ cap_row x ws vs qs =
+        let first : capped (length v.givers) (length ps) most ≡ greatest_weight_row x ws vs qs =
         ap (λ n. capped n (length ps) most) givers_size ∙ (ap (λ rs. capped (length vs) (length rs) most) shown_are ∙ ap (capped (length vs) (length qs)) heaviest) in
         let others : map (asked_row ps v ws) lists ≡ map (λ ss. row_of x ws radius vs qs (look_of cs ss)) (fillings x cs) =
         ap (λ rs. map (asked_row rs v ws) lists) shown_are ∙ (ap (map (asked_row qs v ws)) listed ∙ all_asked x radius vs cs v are qs ws (fillings x cs)) in
-        ap first_seen (ap (λ (r : Row). r ∷ map (asked_row ps v ws) lists) first ∙ ap (λ (rs : List Row). cap_row x ws vs qs ∷ rs) others)
+        ap first_seen (ap (λ (r : Row). r ∷ map (asked_row ps v ws) lists) first ∙ ap (λ (rs : List Row). greatest_weight_row x ws vs qs ∷ rs) others)
 
     pub program_from : IsGround x radius margin vs cs → HasFewFillings x cs → (p : Rows) → IsProgramShown v ws most lists p → IsProgramOf x ws radius margin vs p
     program_from ground few p shown = record {

@@ -40,8 +40,8 @@ row_of x ws radius vs ps look =
     record { coefficients = coefficients ps (pattern_at box look origin) (givers box vs look); bound = origin_weight x ws look }
 
 -- no position holds more than a heaviest one
-abbrev pub cap_row : LocalRule → List ℕ → List Place → List (List ℕ) → Row
-cap_row x ws vs ps = record { coefficients = pos 1 ∷ replicate (length vs * length ps) (pos 0); bound = x.nodes * greatest ws }
+abbrev pub greatest_weight_row : LocalRule → List ℕ → List Place → List (List ℕ) → Row
+greatest_weight_row x ws vs ps = record { coefficients = pos 1 ∷ replicate (length vs * length ps) (pos 0); bound = x.nodes * greatest ws }
 
 abbrev pub is_same_row : Row → Row → Bool
 is_same_row r s = pointwise int_eq r.coefficients s.coefficients && nat_eq r.bound s.bound
@@ -56,7 +56,7 @@ first_seen rows = fold add_row [] rows
 abbrev pub rows : LocalRule → List ℕ → ℕ → List Place → List Cell → List Row
 rows x ws radius vs cs =
     let ps = patterns x radius vs cs in
-    first_seen (cap_row x ws vs ps ∷ map (λ ss. row_of x ws radius vs ps (look_of cs ss)) (fillings x cs))
+    first_seen (greatest_weight_row x ws vs ps ∷ map (λ ss. row_of x ws radius vs ps (look_of cs ss)) (fillings x cs))
 
 abbrev pub column_count : ℕ → ℕ → ℕ
 column_count vectors patterns = 1 + vectors * patterns

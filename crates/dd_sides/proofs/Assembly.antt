@@ -28,7 +28,7 @@ use Rattle.dd_rows.specs.Domains.{opposite, box_cells}
 use Rattle.dd_rows.specs.Fillings.{look_of, fillings}
 use Rattle.dd_rows.specs.Patterns.{pattern_at, patterns, number_in}
 use Rattle.dd_boxes.specs.Boxes.{origin}
-use Rattle.dd_rows.specs.Programs.{column_count, cap_row, row_of, rows, origin_weight, one_at}
+use Rattle.dd_rows.specs.Programs.{column_count, greatest_weight_row, row_of, rows, origin_weight, one_at}
 use Rattle.dd_discharge.specs.Amounts.{total_below, column_value, MeetRows, held_over}
 use Rattle.dd_discharge.specs.Certificates.{IsBoundCertificate}
 use Rattle.dd_sides.specs.Sums.{size_volume, giver}
@@ -177,7 +177,7 @@ module _ (x : LocalRule) (ws : List ℕ) (radius margin : ℕ) (vs : List Place)
       let ps = patterns x radius vs ground in
       let asked = Contains-map (λ ss. row_of x ws radius vs ps (look_of ground ss)) (fillings x ground) word listed in
       let others = map (λ ss. row_of x ws radius vs ps (look_of ground ss)) (fillings x ground) in
-      let cap = cap_row x ws vs ps in
+      let cap = greatest_weight_row x ws vs ps in
       let here : Contains (rows x ws radius vs ground) (row_of x ws radius vs ps (shown ground look p)) =
       first_seen_has (cap ∷ others) (row_of x ws radius vs ps (shown ground look p)) (Contains-later cap others _ asked) in
       subst (λ (rs : List Row). Contains rs (row_of x ws radius vs program.patterns (shown ground look p))) (sym is.rows_are)

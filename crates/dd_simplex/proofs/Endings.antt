@@ -6,11 +6,11 @@ use Rattle.dd_fraction.specs.Order.{IsNonneg, IsAtMost}
 use Rattle.dd_fraction.specs.lemmas.Laws.{plus_comm, zero_plus, plus_zero, zero_times, times_zero, times_one, one_times, plus_minus, plus_undo, plus_cancel, plus_low_left, low_plus, low_times, minus_minus, minus_plus, minus_times, minus_times_right}
 use Rattle.dd_fraction.specs.lemmas.Lowest.{low_low, zero_is}
 use Rattle.dd_fraction.specs.lemmas.OrderLaws.{nonneg_lowest, nonneg_plus, nonneg_times, at_most_gap, at_most_from_gap}
-use Rattle.dd_simplex.specs.Programs.{LinearProgram, IsProgram, IsFeasible, IsBest, fraction_at, coefficient, bound_at, unit, total, zero_of, one_of}
+use Rattle.dd_simplex.specs.Programs.{LinearProgram, IsProgram, IsFeasible, IsBest, fraction_at, coefficient, bound_at, unit, fraction_sum, zero_of, one_of}
 use Rattle.dd_simplex.specs.Dictionaries.{Dictionary, count}
 use Rattle.dd_simplex.specs.Runs.{entering, column_of, dual_of}
 use Rattle.dd_simplex.proofs.Totals.{eq_same, eq_other, total_low, total_same, total_none, total_pick, total_split, total_nonneg, zero_nonneg}
-use Rattle.dd_simplex.specs.Laws.{coefficient_in, price}
+use Rattle.dd_simplex.specs.Laws.{dictionary_coefficient, price}
 use Rattle.dd_simplex.proofs.Equations.{Holds}
 use Rattle.dd_simplex.proofs.Reaching.{IsReached, start_holds, start_says, entering_none}
 
@@ -36,9 +36,9 @@ at_most_from_less x z u e p = at_most_from_sum u (minus x) z same p
 minus_zero : minus zero_of ≡ zero_of
 minus_zero = refl
 
-total_minus : (f : ℕ → Exact) (n : ℕ) → total (λ v. minus (f v)) n ≡ minus (total f n)
+total_minus : (f : ℕ → Exact) (n : ℕ) → fraction_sum (λ v. minus (f v)) n ≡ minus (fraction_sum f n)
 total_minus f zero = refl
-total_minus f (suc n) = ap (λ (t : Exact). plus t (minus (f n))) (total_minus f n) ∙ sym (minus_plus (total f n) (f n))
+total_minus f (suc n) = ap (λ (t : Exact). plus t (minus (f n))) (total_minus f n) ∙ sym (minus_plus (fraction_sum f n) (f n))
 
 -- ---- values of the columns and the slacks
 abbrev pub joined : LinearProgram → (ℕ → Exact) → (ℕ → Exact) → ℕ → Exact
@@ -68,40 +68,40 @@ module _ (p : LinearProgram) (d : Dictionary) (g : IsProgram p) (r : IsReached p
 
   -- columns u and slacks s that meet the rows with σ times their bounds
   Meets : Exact → (ℕ → Exact) → (ℕ → Exact) → Type 0
-  Meets σ u s = (k : ℕ) → k < length p.rows → plus (total (λ j. times (coefficient p k j) (u j)) p.columns) (s k) ≡ times σ (bound_at p k)
+  Meets σ u s = (k : ℕ) → k < length p.rows → plus (fraction_sum (λ j. times (coefficient p k j) (u j)) p.columns) (s k) ≡ times σ (bound_at p k)
 
   abbrev slack_price : ℕ → Exact
   slack_price k = price d (p.columns + k)
 
   joined_meets : (σ : Exact) (u s : ℕ → Exact)
-      → ((k : ℕ) → k < length p.rows → plus (total (λ j. times (coefficient p k j) (u j)) p.columns) (s k) ≡ times σ (bound_at p k))
-      → (k : ℕ) → k < length p.rows → plus (total (λ j. times (coefficient p k j) (joined p u s j)) p.columns) (joined p u s (p.columns + k)) ≡ times σ (bound_at p k)
+      → ((k : ℕ) → k < length p.rows → plus (fraction_sum (λ j. times (coefficient p k j) (u j)) p.columns) (s k) ≡ times σ (bound_at p k))
+      → (k : ℕ) → k < length p.rows → plus (fraction_sum (λ j. times (coefficient p k j) (joined p u s j)) p.columns) (joined p u s (p.columns + k)) ≡ times σ (bound_at p k)
   joined_meets σ u s h k q =
       (λ i. plus (total_same (λ j. times (coefficient p k j) (joined p u s j)) (λ j. times (coefficient p k j) (u j)) p.columns (λ j t. ap (times (coefficient p k j)) (joined_column p u s j t)) i) (joined_slack p u s k i))
       ∙ h k q
 
   -- columns of 0, with the bounds as slacks
-  nothing : (f : ℕ → Exact) (l : ℕ) → total (λ j. times (f j) zero_of) l ≡ zero_of
+  nothing : (f : ℕ → Exact) (l : ℕ) → fraction_sum (λ j. times (f j) zero_of) l ≡ zero_of
   nothing f l = total_none (λ j. times (f j) zero_of) l (λ j _. times_zero (f j))
 
-  nothing_meets : (k : ℕ) → k < length p.rows → plus (total (λ j. times (coefficient p k j) zero_of) p.columns) (bound_at p k) ≡ times one_of (bound_at p k)
+  nothing_meets : (k : ℕ) → k < length p.rows → plus (fraction_sum (λ j. times (coefficient p k j) zero_of) p.columns) (bound_at p k) ≡ times one_of (bound_at p k)
   nothing_meets k q = ap (λ (t : Exact). plus t (bound_at p k)) (nothing (coefficient p k) p.columns) ∙ (zero_plus (bound_at p k) ∙ sym (one_times (bound_at p k)))
 
   -- one column of 1, with its coefficients turned round as slacks
-  column_alone : (j : ℕ) → j < p.columns → (f : ℕ → Exact) → total (λ w. times (f w) (unit w j)) p.columns ≡ low (f j)
+  column_alone : (j : ℕ) → j < p.columns → (f : ℕ → Exact) → fraction_sum (λ w. times (f w) (unit w j)) p.columns ≡ low (f j)
   column_alone j q f =
       total_pick (λ w. times (f w) (unit w j)) j p.columns q (λ w _ k. ap (λ (b : Bool). times (f w) (cond b one_of zero_of)) (eq_other w j k) ∙ times_zero (f w))
       ∙ (ap low (ap (λ (b : Bool). times (f j) (cond b one_of zero_of)) (eq_same j) ∙ times_one (f j)) ∙ low_low _ _)
 
   column_meets : (j : ℕ) → j < p.columns → (k : ℕ) → k < length p.rows
-      → plus (total (λ w. times (coefficient p k w) (unit w j)) p.columns) (minus (coefficient p k j)) ≡ times zero_of (bound_at p k)
+      → plus (fraction_sum (λ w. times (coefficient p k w) (unit w j)) p.columns) (minus (coefficient p k j)) ≡ times zero_of (bound_at p k)
   column_meets j q k t =
       ap (λ (y : Exact). plus y (minus (coefficient p k j))) (column_alone j q (coefficient p k))
       ∙ (plus_low_left (coefficient p k j) (minus (coefficient p k j)) ∙ (plus_minus (coefficient p k j) ∙ sym (zero_times (bound_at p k))))
 
   worth_at : (σ : Exact) (u s : ℕ → Exact)
-      → ((k : ℕ) → k < length p.rows → plus (total (λ j. times (coefficient p k j) (u j)) p.columns) (s k) ≡ times σ (bound_at p k))
-      → plus (times σ d.value) (plus (total (λ j. times (price d j) (u j)) p.columns) (total (λ k. times (slack_price k) (s k)) (length p.rows))) ≡ low (u 0)
+      → ((k : ℕ) → k < length p.rows → plus (fraction_sum (λ j. times (coefficient p k j) (u j)) p.columns) (s k) ≡ times σ (bound_at p k))
+      → plus (times σ d.value) (plus (fraction_sum (λ j. times (price d j) (u j)) p.columns) (fraction_sum (λ k. times (slack_price k) (s k)) (length p.rows))) ≡ low (u 0)
   worth_at σ u s h =
       sym (ap (plus (times σ d.value)) (total_split (λ w. times (price d w) (x w)) p.columns (length p.rows) ∙ (λ i. plus (columns i) (slacks i))))
       ∙ (r.worth σ x (start_holds p σ x (joined_meets σ u s h)) ∙ ap low (joined_column p u s 0 g.wide))
@@ -109,10 +109,10 @@ module _ (p : LinearProgram) (d : Dictionary) (g : IsProgram p) (r : IsReached p
       x : ℕ → Exact
       x = joined p u s
 
-      columns : total (λ w. times (price d w) (x w)) p.columns ≡ total (λ j. times (price d j) (u j)) p.columns
+      columns : fraction_sum (λ w. times (price d w) (x w)) p.columns ≡ fraction_sum (λ j. times (price d j) (u j)) p.columns
       columns = total_same (λ w. times (price d w) (x w)) (λ j. times (price d j) (u j)) p.columns (λ j q. ap (times (price d j)) (joined_column p u s j q))
 
-      slacks : total (λ k. times (price d (p.columns + k)) (x (p.columns + k))) (length p.rows) ≡ total (λ k. times (slack_price k) (s k)) (length p.rows)
+      slacks : fraction_sum (λ k. times (price d (p.columns + k)) (x (p.columns + k))) (length p.rows) ≡ fraction_sum (λ k. times (slack_price k) (s k)) (length p.rows)
       slacks = total_same (λ k. times (price d (p.columns + k)) (x (p.columns + k))) (λ k. times (slack_price k) (s k)) (length p.rows) (λ k q. ap (times (slack_price k)) (joined_slack p u s k))
 
   dual_price : (k : ℕ) → dual_of p d k ≡ minus (price d (p.columns + k))
@@ -123,7 +123,7 @@ module _ (p : LinearProgram) (d : Dictionary) (g : IsProgram p) (r : IsReached p
       by false = refl
 
   -- ---- the duals
-  duals_worth : total (λ k. times (dual_of p d k) (bound_at p k)) (length p.rows) ≡ low d.value
+  duals_worth : fraction_sum (λ k. times (dual_of p d k) (bound_at p k)) (length p.rows) ≡ low d.value
   duals_worth =
       total_same (λ k. times (dual_of p d k) (bound_at p k)) (λ k. minus (times (slack_price k) (bound_at p k))) (length p.rows)
       (λ k q. ap (λ (t : Exact). times t (bound_at p k)) (dual_price k) ∙ sym (minus_times (slack_price k) (bound_at p k)))
@@ -131,7 +131,7 @@ module _ (p : LinearProgram) (d : Dictionary) (g : IsProgram p) (r : IsReached p
       ∙ (sym low_q ∙ sym (plus_cancel d.value (minus Q) Q (sum ∙ sym (plus_comm (minus Q) Q ∙ plus_minus Q)))))
     where
       Q : Exact
-      Q = total (λ k. times (slack_price k) (bound_at p k)) (length p.rows)
+      Q = fraction_sum (λ k. times (slack_price k) (bound_at p k)) (length p.rows)
 
       low_q : low (minus Q) ≡ minus Q
       low_q = ap low (sym (total_minus (λ k. times (slack_price k) (bound_at p k)) (length p.rows))) ∙ (total_low (λ k. minus (times (slack_price k) (bound_at p k))) (length p.rows) ∙ total_minus (λ k. times (slack_price k) (bound_at p k)) (length p.rows))
@@ -143,16 +143,16 @@ module _ (p : LinearProgram) (d : Dictionary) (g : IsProgram p) (r : IsReached p
           ∙ (ap (plus (times one_of d.value)) (sym (total_low (λ k. times (slack_price k) (bound_at p k)) (length p.rows)) ∙ (sym (zero_plus Q) ∙ ap (λ (t : Exact). plus t Q) (sym (nothing (price d) p.columns))))
           ∙ (worth_at one_of (λ j. zero_of) (bound_at p) nothing_meets ∙ zero_is)))
 
-  duals_equation : (j : ℕ) → j < p.columns → plus (total (λ k. times (dual_of p d k) (coefficient p k j)) (length p.rows)) (price d j) ≡ low (unit 0 j)
+  duals_equation : (j : ℕ) → j < p.columns → plus (fraction_sum (λ k. times (dual_of p d k) (coefficient p k j)) (length p.rows)) (price d j) ≡ low (unit 0 j)
   duals_equation j q = sum
     where
       u : ℕ → Exact
       u w = unit w j
 
       S : Exact
-      S = total (λ k. times (dual_of p d k) (coefficient p k j)) (length p.rows)
+      S = fraction_sum (λ k. times (dual_of p d k) (coefficient p k j)) (length p.rows)
 
-      slacks : total (λ k. times (slack_price k) (minus (coefficient p k j))) (length p.rows) ≡ S
+      slacks : fraction_sum (λ k. times (slack_price k) (minus (coefficient p k j))) (length p.rows) ≡ S
       slacks = total_same (λ k. times (slack_price k) (minus (coefficient p k j))) (λ k. times (dual_of p d k) (coefficient p k j)) (length p.rows)
           (λ k t. sym (minus_times_right (slack_price k) (coefficient p k j)) ∙ (minus_times (slack_price k) (coefficient p k j) ∙ ap (λ (y : Exact). times y (coefficient p k j)) (sym (dual_price k))))
 
@@ -164,65 +164,65 @@ module _ (p : LinearProgram) (d : Dictionary) (g : IsProgram p) (r : IsReached p
           ∙ ((λ i. plus (sym (zero_times d.value) i) ((sym (plus_low_left (price d j) S) ∙ (λ k. plus (sym (column_alone j q (price d)) k) (sym slacks k))) i))
           ∙ worth_at zero_of (λ w. unit w j) (λ k. minus (coefficient p k j)) (column_meets j q))))
 
-  duals_sum : entering (count p) d ≡ None → (j : ℕ) → j < p.columns → IsAtMost (unit 0 j) (total (λ k. times (dual_of p d k) (coefficient p k j)) (length p.rows))
-  duals_sum h j q = at_most_from_less (price d j) (total (λ k. times (dual_of p d k) (coefficient p k j)) (length p.rows)) (unit 0 j) (duals_equation j q) (entering_none (count p) d j h (omega (arith, q)))
+  duals_sum : entering (count p) d ≡ None → (j : ℕ) → j < p.columns → IsAtMost (unit 0 j) (fraction_sum (λ k. times (dual_of p d k) (coefficient p k j)) (length p.rows))
+  duals_sum h j q = at_most_from_less (price d j) (fraction_sum (λ k. times (dual_of p d k) (coefficient p k j)) (length p.rows)) (unit 0 j) (duals_equation j q) (entering_none (count p) d j h (omega (arith, q)))
 
-  pub reduced_column : (j : ℕ) → j < p.columns → plus (price d j) (total (λ k. times (minus (price d (p.columns + k))) (coefficient p k j)) (length p.rows)) ≡ low (unit 0 j)
+  pub reduced_column : (j : ℕ) → j < p.columns → plus (price d j) (fraction_sum (λ k. times (minus (price d (p.columns + k))) (coefficient p k j)) (length p.rows)) ≡ low (unit 0 j)
   reduced_column j q =
       ap (plus (price d j)) (sym (total_same (λ k. times (dual_of p d k) (coefficient p k j)) (λ k. times (minus (price d (p.columns + k))) (coefficient p k j)) (length p.rows) (λ k _. ap (λ (t : Exact). times t (coefficient p k j)) (dual_price k))))
-      ∙ (plus_comm (price d j) (total (λ k. times (dual_of p d k) (coefficient p k j)) (length p.rows)) ∙ duals_equation j q)
+      ∙ (plus_comm (price d j) (fraction_sum (λ k. times (dual_of p d k) (coefficient p k j)) (length p.rows)) ∙ duals_equation j q)
 
-  pub reduced_value : low d.value ≡ total (λ k. times (minus (price d (p.columns + k))) (bound_at p k)) (length p.rows)
+  pub reduced_value : low d.value ≡ fraction_sum (λ k. times (minus (price d (p.columns + k))) (bound_at p k)) (length p.rows)
   reduced_value =
       sym duals_worth
       ∙ total_same (λ k. times (dual_of p d k) (bound_at p k)) (λ k. times (minus (price d (p.columns + k))) (bound_at p k)) (length p.rows) (λ k _. ap (λ (t : Exact). times t (bound_at p k)) (dual_price k))
 
   -- ---- rows as combinations of the program's
   side_at : (σ : Exact) (u s : ℕ → Exact)
-      → ((k : ℕ) → k < length p.rows → plus (total (λ j. times (coefficient p k j) (u j)) p.columns) (s k) ≡ times σ (bound_at p k))
+      → ((k : ℕ) → k < length p.rows → plus (fraction_sum (λ j. times (coefficient p k j) (u j)) p.columns) (s k) ≡ times σ (bound_at p k))
       → (v : ℕ) → v < count p → d.is_basic v ≡ true
-      → plus (total (λ j. times (coefficient_in d v j) (u j)) p.columns) (total (λ k. times (coefficient_in d v (p.columns + k)) (s k)) (length p.rows)) ≡ times σ (d.bound v)
+      → plus (fraction_sum (λ j. times (dictionary_coefficient d v j) (u j)) p.columns) (fraction_sum (λ k. times (dictionary_coefficient d v (p.columns + k)) (s k)) (length p.rows)) ≡ times σ (d.bound v)
   side_at σ u s h v q b =
-      sym (total_split (λ w. times (coefficient_in d v w) (joined p u s w)) p.columns (length p.rows) ∙ (λ i. plus (columns i) (slacks i)))
+      sym (total_split (λ w. times (dictionary_coefficient d v w) (joined p u s w)) p.columns (length p.rows) ∙ (λ i. plus (columns i) (slacks i)))
       ∙ r.forth σ (joined p u s) (start_holds p σ (joined p u s) (joined_meets σ u s h)) v q b
     where
-      columns : total (λ w. times (coefficient_in d v w) (joined p u s w)) p.columns ≡ total (λ j. times (coefficient_in d v j) (u j)) p.columns
-      columns = total_same (λ w. times (coefficient_in d v w) (joined p u s w)) (λ j. times (coefficient_in d v j) (u j)) p.columns (λ j t. ap (times (coefficient_in d v j)) (joined_column p u s j t))
+      columns : fraction_sum (λ w. times (dictionary_coefficient d v w) (joined p u s w)) p.columns ≡ fraction_sum (λ j. times (dictionary_coefficient d v j) (u j)) p.columns
+      columns = total_same (λ w. times (dictionary_coefficient d v w) (joined p u s w)) (λ j. times (dictionary_coefficient d v j) (u j)) p.columns (λ j t. ap (times (dictionary_coefficient d v j)) (joined_column p u s j t))
 
-      slacks : total (λ k. times (coefficient_in d v (p.columns + k)) (joined p u s (p.columns + k))) (length p.rows) ≡ total (λ k. times (coefficient_in d v (p.columns + k)) (s k)) (length p.rows)
-      slacks = total_same (λ k. times (coefficient_in d v (p.columns + k)) (joined p u s (p.columns + k))) (λ k. times (coefficient_in d v (p.columns + k)) (s k)) (length p.rows)
-          (λ k t. ap (times (coefficient_in d v (p.columns + k))) (joined_slack p u s k))
+      slacks : fraction_sum (λ k. times (dictionary_coefficient d v (p.columns + k)) (joined p u s (p.columns + k))) (length p.rows) ≡ fraction_sum (λ k. times (dictionary_coefficient d v (p.columns + k)) (s k)) (length p.rows)
+      slacks = total_same (λ k. times (dictionary_coefficient d v (p.columns + k)) (joined p u s (p.columns + k))) (λ k. times (dictionary_coefficient d v (p.columns + k)) (s k)) (length p.rows)
+          (λ k t. ap (times (dictionary_coefficient d v (p.columns + k))) (joined_slack p u s k))
 
-  pub combined_bound : (v : ℕ) → v < count p → d.is_basic v ≡ true → low (d.bound v) ≡ total (λ k. times (coefficient_in d v (p.columns + k)) (bound_at p k)) (length p.rows)
+  pub combined_bound : (v : ℕ) → v < count p → d.is_basic v ≡ true → low (d.bound v) ≡ fraction_sum (λ k. times (dictionary_coefficient d v (p.columns + k)) (bound_at p k)) (length p.rows)
   combined_bound v q b =
       sym (one_times (d.bound v))
       ∙ (sym (side_at one_of (λ _. zero_of) (bound_at p) nothing_meets v q b)
-      ∙ (ap (λ (t : Exact). plus t B) (nothing (coefficient_in d v) p.columns) ∙ (zero_plus B ∙ total_low (λ k. times (coefficient_in d v (p.columns + k)) (bound_at p k)) (length p.rows))))
+      ∙ (ap (λ (t : Exact). plus t B) (nothing (dictionary_coefficient d v) p.columns) ∙ (zero_plus B ∙ total_low (λ k. times (dictionary_coefficient d v (p.columns + k)) (bound_at p k)) (length p.rows))))
     where
       B : Exact
-      B = total (λ k. times (coefficient_in d v (p.columns + k)) (bound_at p k)) (length p.rows)
+      B = fraction_sum (λ k. times (dictionary_coefficient d v (p.columns + k)) (bound_at p k)) (length p.rows)
 
   pub combined_column : (v : ℕ) → v < count p → d.is_basic v ≡ true → (j : ℕ) → j < p.columns
-      → low (coefficient_in d v j) ≡ total (λ k. times (coefficient_in d v (p.columns + k)) (coefficient p k j)) (length p.rows)
+      → low (dictionary_coefficient d v j) ≡ fraction_sum (λ k. times (dictionary_coefficient d v (p.columns + k)) (coefficient p k j)) (length p.rows)
   combined_column v q b j t =
-      plus_cancel c S (minus S) (both ∙ sym (plus_minus S)) ∙ total_low (λ k. times (coefficient_in d v (p.columns + k)) (coefficient p k j)) (length p.rows)
+      plus_cancel c S (minus S) (both ∙ sym (plus_minus S)) ∙ total_low (λ k. times (dictionary_coefficient d v (p.columns + k)) (coefficient p k j)) (length p.rows)
     where
       c : Exact
-      c = coefficient_in d v j
+      c = dictionary_coefficient d v j
 
       S : Exact
-      S = total (λ k. times (coefficient_in d v (p.columns + k)) (coefficient p k j)) (length p.rows)
+      S = fraction_sum (λ k. times (dictionary_coefficient d v (p.columns + k)) (coefficient p k j)) (length p.rows)
 
-      slacks : total (λ k. times (coefficient_in d v (p.columns + k)) (minus (coefficient p k j))) (length p.rows) ≡ minus S
+      slacks : fraction_sum (λ k. times (dictionary_coefficient d v (p.columns + k)) (minus (coefficient p k j))) (length p.rows) ≡ minus S
       slacks =
-          total_same (λ k. times (coefficient_in d v (p.columns + k)) (minus (coefficient p k j))) (λ k. minus (times (coefficient_in d v (p.columns + k)) (coefficient p k j))) (length p.rows)
-          (λ k _. sym (minus_times_right (coefficient_in d v (p.columns + k)) (coefficient p k j)))
-          ∙ total_minus (λ k. times (coefficient_in d v (p.columns + k)) (coefficient p k j)) (length p.rows)
+          total_same (λ k. times (dictionary_coefficient d v (p.columns + k)) (minus (coefficient p k j))) (λ k. minus (times (dictionary_coefficient d v (p.columns + k)) (coefficient p k j))) (length p.rows)
+          (λ k _. sym (minus_times_right (dictionary_coefficient d v (p.columns + k)) (coefficient p k j)))
+          ∙ total_minus (λ k. times (dictionary_coefficient d v (p.columns + k)) (coefficient p k j)) (length p.rows)
 
       both : plus c (minus S) ≡ zero_of
       both =
           sym (plus_low_left c (minus S))
-          ∙ ((λ i. plus (sym (column_alone j t (coefficient_in d v)) i) (sym slacks i))
+          ∙ ((λ i. plus (sym (column_alone j t (dictionary_coefficient d v)) i) (sym slacks i))
           ∙ (side_at zero_of (λ w. unit w j) (λ k. minus (coefficient p k j)) (column_meets j t) v q b ∙ zero_times (d.bound v)))
 
   -- ---- no columns give more
@@ -233,20 +233,20 @@ module _ (p : LinearProgram) (d : Dictionary) (g : IsProgram p) (r : IsReached p
       u = fraction_at xs
 
       s : ℕ → Exact
-      s k = plus (bound_at p k) (minus (total (λ j. times (coefficient p k j) (fraction_at xs j)) p.columns))
+      s k = plus (bound_at p k) (minus (fraction_sum (λ j. times (coefficient p k j) (fraction_at xs j)) p.columns))
 
       A : Exact
-      A = total (λ j. times (price d j) (fraction_at xs j)) p.columns
+      A = fraction_sum (λ j. times (price d j) (fraction_at xs j)) p.columns
 
       B : Exact
-      B = total (λ k. times (slack_price k) (s k)) (length p.rows)
+      B = fraction_sum (λ k. times (slack_price k) (s k)) (length p.rows)
 
       X : Exact
       X = plus A B
 
-      meets : (k : ℕ) → k < length p.rows → plus (total (λ j. times (coefficient p k j) (fraction_at xs j)) p.columns) (s k) ≡ times one_of (bound_at p k)
+      meets : (k : ℕ) → k < length p.rows → plus (fraction_sum (λ j. times (coefficient p k j) (fraction_at xs j)) p.columns) (s k) ≡ times one_of (bound_at p k)
       meets k q =
-          let T = total (λ j. times (coefficient p k j) (fraction_at xs j)) p.columns in
+          let T = fraction_sum (λ j. times (coefficient p k j) (fraction_at xs j)) p.columns in
           ap (plus T) (plus_comm (bound_at p k) (minus T)) ∙ (plus_undo T (bound_at p k) ∙ sym (one_times (bound_at p k)))
 
       sum : plus d.value X ≡ low (fraction_at xs 0)
@@ -269,16 +269,16 @@ module _ (p : LinearProgram) (d : Dictionary) (g : IsProgram p) (r : IsReached p
   -- ---- the columns
   columns_hold : Holds (count p) d one_of (column_of d)
   columns_hold v q b =
-      total_pick (λ w. times (coefficient_in d v w) (column_of d w)) v (count p) q other
+      total_pick (λ w. times (dictionary_coefficient d v w) (column_of d w)) v (count p) q other
       ∙ (ap low at ∙ low_times one_of (d.bound v))
     where
-      at : times (coefficient_in d v v) (column_of d v) ≡ times one_of (d.bound v)
+      at : times (dictionary_coefficient d v v) (column_of d v) ≡ times one_of (d.bound v)
       at = rw (eq_same v, b) refl
 
-      other : (w : ℕ) → w < count p → w ≢ v → times (coefficient_in d v w) (column_of d w) ≡ zero_of
+      other : (w : ℕ) → w < count p → w ≢ v → times (dictionary_coefficient d v w) (column_of d w) ≡ zero_of
       other w _ k = by (d.is_basic w) refl
         where
-          by : (t : Bool) → d.is_basic w ≡ t → times (coefficient_in d v w) (column_of d w) ≡ zero_of
+          by : (t : Bool) → d.is_basic w ≡ t → times (dictionary_coefficient d v w) (column_of d w) ≡ zero_of
           by true s = rw (eq_other w v k, s) (zero_times (d.bound w))
           by false s = rw (eq_other w v k, s) (times_zero (d.entry v w))
 
@@ -289,7 +289,7 @@ module _ (p : LinearProgram) (d : Dictionary) (g : IsProgram p) (r : IsReached p
       by true s = rw s (r.bounds w q s)
       by false s = rw s zero_nonneg
 
-  columns_meet : (k : ℕ) → k < length p.rows → IsAtMost (total (λ j. times (coefficient p k j) (column_of d j)) p.columns) (bound_at p k)
+  columns_meet : (k : ℕ) → k < length p.rows → IsAtMost (fraction_sum (λ j. times (coefficient p k j) (column_of d j)) p.columns) (bound_at p k)
   columns_meet k q =
       at_most_from_sum _ (column_of d (p.columns + k)) (bound_at p k)
       (start_says p one_of (column_of d) (r.back one_of (column_of d) columns_hold) k q ∙ one_times (bound_at p k))

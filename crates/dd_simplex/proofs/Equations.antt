@@ -7,20 +7,20 @@ use Rattle.dd_fraction.specs.Order.{IsPositive}
 use Rattle.dd_fraction.specs.lemmas.Laws.{times_comm, times_assoc, times_plus, zero_plus, plus_zero, zero_times, times_zero, times_one, plus_minus, plus_four, plus_cancel, plus_low_right, low_plus, low_times, minus_times}
 use Rattle.dd_fraction.specs.lemmas.Lowest.{zero_is, one_is}
 use Rattle.dd_fraction.specs.lemmas.OrderLaws.{times_inverse_positive}
-use Rattle.dd_simplex.specs.Programs.{total, zero_of, one_of}
+use Rattle.dd_simplex.specs.Programs.{fraction_sum, zero_of, one_of}
 use Rattle.dd_simplex.specs.Dictionaries.{Dictionary, pivoted, new_bound, new_entry, less_product}
-use Rattle.dd_simplex.specs.Laws.{coefficient_in, price}
+use Rattle.dd_simplex.specs.Laws.{dictionary_coefficient, price}
 use Rattle.dd_simplex.proofs.Totals.{sum_scaled, sum_with, total_low}
 
 abbrev pub left_side : ℕ → Dictionary → (ℕ → Exact) → ℕ → Exact
-left_side n d x v = total (λ w. times (coefficient_in d v w) (x w)) n
+left_side n d x v = fraction_sum (λ w. times (dictionary_coefficient d v w) (x w)) n
 
 -- the values x of the variables meet each equation, with s times its bound
 abbrev pub Holds : ℕ → Dictionary → Exact → (ℕ → Exact) → Type 0
 Holds n d s x = (v : ℕ) → v < n → d.is_basic v ≡ true → left_side n d x v ≡ times s (d.bound v)
 
 abbrev pub objective : ℕ → Dictionary → Exact → (ℕ → Exact) → Exact
-objective n d s x = plus (times s d.value) (total (λ w. times (price d w) (x w)) n)
+objective n d s x = plus (times s d.value) (fraction_sum (λ w. times (price d w) (x w)) n)
 
 -- e enters and r leaves
 pub record IsTurn (n : ℕ) (d : Dictionary) (e r : ℕ) : Type 0 where
@@ -64,25 +64,25 @@ entry_then : (d : Dictionary) (e r w : ℕ) → (pivoted d e r).entry e w ≡ ne
 entry_then d e r w = rw (eq_same e e refl) refl
 
 -- in the new row: those of the old one, divided by the pivot
-pub new_row : (n : ℕ) (d : Dictionary) (e r w : ℕ) → IsTurn n d e r → coefficient_in (pivoted d e r) e w ≡ times (coefficient_in d r w) (inverse (d.entry r e))
+pub new_row : (n : ℕ) (d : Dictionary) (e r w : ℕ) → IsTurn n d e r → dictionary_coefficient (pivoted d e r) e w ≡ times (dictionary_coefficient d r w) (inverse (d.entry r e))
 new_row n d e r w t = ⊎_elim at_e (λ (h : w ≢ e). ⊎_elim (at_r h) (λ (k : w ≢ r). other h k (d.is_basic w) refl) (cases_eq w r)) (cases_eq w e)
   where
     k : Exact
     k = inverse (d.entry r e)
 
-    at_e : w ≡ e → coefficient_in (pivoted d e r) e w ≡ times (coefficient_in d r w) k
+    at_e : w ≡ e → dictionary_coefficient (pivoted d e r) e w ≡ times (dictionary_coefficient d r w) k
     at_e s =
         let er : e ≢ r = λ (u : e ≡ r). apart d r e t.basic t.free (sym u) in
-        subst (λ (u : ℕ). coefficient_in (pivoted d e r) e u ≡ times (coefficient_in d r u) k) (sym s)
+        subst (λ (u : ℕ). dictionary_coefficient (pivoted d e r) e u ≡ times (dictionary_coefficient d r u) k) (sym s)
         (rw (eq_same e e refl, eq_other e r er, t.free) (sym (times_inverse_positive (d.entry r e) t.positive)))
 
-    at_r : w ≢ e → w ≡ r → coefficient_in (pivoted d e r) e w ≡ times (coefficient_in d r w) k
+    at_r : w ≢ e → w ≡ r → dictionary_coefficient (pivoted d e r) e w ≡ times (dictionary_coefficient d r w) k
     at_r h s =
         let re : r ≢ e = apart d r e t.basic t.free in
-        subst (λ (u : ℕ). coefficient_in (pivoted d e r) e u ≡ times (coefficient_in d r u) k) (sym s)
+        subst (λ (u : ℕ). dictionary_coefficient (pivoted d e r) e u ≡ times (dictionary_coefficient d r u) k) (sym s)
         (rw (eq_other r e re, eq_same e e refl, eq_same r r refl, t.basic) refl)
 
-    other : w ≢ e → w ≢ r → (b : Bool) → d.is_basic w ≡ b → coefficient_in (pivoted d e r) e w ≡ times (coefficient_in d r w) k
+    other : w ≢ e → w ≢ r → (b : Bool) → d.is_basic w ≡ b → dictionary_coefficient (pivoted d e r) e w ≡ times (dictionary_coefficient d r w) k
     other h l true s = rw (eq_other w e h, eq_other w r l, s) (sym (zero_times k))
     other h l false s = rw (eq_other w e h, eq_other w r l, eq_same e e refl, s) refl
 
@@ -97,7 +97,7 @@ idle a q = ap (plus a) (times_zero q) ∙ plus_zero a
 
 -- in a row that stays, and in the objective: the old one less a multiple of the new row's
 pub row_then : (n : ℕ) (d : Dictionary) (e r v w : ℕ) → IsTurn n d e r → d.is_basic v ≡ true → v ≢ r
-    → coefficient_in (pivoted d e r) v w ≡ plus (coefficient_in d v w) (times (minus (d.entry v e)) (coefficient_in (pivoted d e r) e w))
+    → dictionary_coefficient (pivoted d e r) v w ≡ plus (dictionary_coefficient d v w) (times (minus (d.entry v e)) (dictionary_coefficient (pivoted d e r) e w))
 row_then n d e r v w t b vr = ⊎_elim at_v (λ (f : w ≢ v). ⊎_elim (at_e f) (λ (h : w ≢ e). ⊎_elim (at_r f h) (λ (k : w ≢ r). other f h k (d.is_basic w) refl) (cases_eq w r)) (cases_eq w e)) (cases_eq w v)
   where
     q : Exact
@@ -106,48 +106,48 @@ row_then n d e r v w t b vr = ⊎_elim at_v (λ (f : w ≢ v). ⊎_elim (at_e f)
     ve : v ≢ e
     ve = apart d v e b t.free
 
-    at_v : w ≡ v → coefficient_in (pivoted d e r) v w ≡ plus (coefficient_in d v w) (times (minus q) (coefficient_in (pivoted d e r) e w))
+    at_v : w ≡ v → dictionary_coefficient (pivoted d e r) v w ≡ plus (dictionary_coefficient d v w) (times (minus q) (dictionary_coefficient (pivoted d e r) e w))
     at_v s =
-        subst (λ (u : ℕ). coefficient_in (pivoted d e r) v u ≡ plus (coefficient_in d v u) (times (minus q) (coefficient_in (pivoted d e r) e u))) (sym s)
+        subst (λ (u : ℕ). dictionary_coefficient (pivoted d e r) v u ≡ plus (dictionary_coefficient d v u) (times (minus q) (dictionary_coefficient (pivoted d e r) e u))) (sym s)
         (rw (eq_same v v refl, eq_other v e ve, eq_other v r vr, b) (sym (idle one_of (minus q) ∙ one_is)))
 
-    at_e : w ≢ v → w ≡ e → coefficient_in (pivoted d e r) v w ≡ plus (coefficient_in d v w) (times (minus q) (coefficient_in (pivoted d e r) e w))
+    at_e : w ≢ v → w ≡ e → dictionary_coefficient (pivoted d e r) v w ≡ plus (dictionary_coefficient d v w) (times (minus q) (dictionary_coefficient (pivoted d e r) e w))
     at_e f s =
         let ev : e ≢ v = λ (u : e ≡ v). ve (sym u) in
-        subst (λ (u : ℕ). coefficient_in (pivoted d e r) v u ≡ plus (coefficient_in d v u) (times (minus q) (coefficient_in (pivoted d e r) e u))) (sym s)
+        subst (λ (u : ℕ). dictionary_coefficient (pivoted d e r) v u ≡ plus (dictionary_coefficient d v u) (times (minus q) (dictionary_coefficient (pivoted d e r) e u))) (sym s)
         (rw (eq_same e e refl, eq_other e v ev, t.free) (gone q))
 
-    at_r : w ≢ v → w ≢ e → w ≡ r → coefficient_in (pivoted d e r) v w ≡ plus (coefficient_in d v w) (times (minus q) (coefficient_in (pivoted d e r) e w))
+    at_r : w ≢ v → w ≢ e → w ≡ r → dictionary_coefficient (pivoted d e r) v w ≡ plus (dictionary_coefficient d v w) (times (minus q) (dictionary_coefficient (pivoted d e r) e w))
     at_r f h s =
         let re : r ≢ e = apart d r e t.basic t.free in
         let rv : r ≢ v = λ (u : r ≡ v). vr (sym u) in
-        subst (λ (u : ℕ). coefficient_in (pivoted d e r) v u ≡ plus (coefficient_in d v u) (times (minus q) (coefficient_in (pivoted d e r) e u))) (sym s)
+        subst (λ (u : ℕ). dictionary_coefficient (pivoted d e r) v u ≡ plus (dictionary_coefficient d v u) (times (minus q) (dictionary_coefficient (pivoted d e r) e u))) (sym s)
         (rw (eq_other r v rv, eq_other r e re, eq_other v e ve, eq_same e e refl, eq_same r r refl, t.basic) (bare q _))
 
     other : w ≢ v → w ≢ e → w ≢ r → (c : Bool) → d.is_basic w ≡ c
-        → coefficient_in (pivoted d e r) v w ≡ plus (coefficient_in d v w) (times (minus q) (coefficient_in (pivoted d e r) e w))
+        → dictionary_coefficient (pivoted d e r) v w ≡ plus (dictionary_coefficient d v w) (times (minus q) (dictionary_coefficient (pivoted d e r) e w))
     other f h l true s = rw (eq_other w v f, eq_other w e h, eq_other w r l, s) (sym (idle zero_of (minus q) ∙ zero_is))
     other f h l false s = rw (eq_other w v f, eq_other w e h, eq_other w r l, eq_other v e ve, eq_same e e refl, s) (ap (plus (d.entry v w)) (minus_times q _))
 
 pub price_then : (n : ℕ) (d : Dictionary) (e r w : ℕ) → IsTurn n d e r
-    → price (pivoted d e r) w ≡ plus (price d w) (times (minus (d.cost e)) (coefficient_in (pivoted d e r) e w))
+    → price (pivoted d e r) w ≡ plus (price d w) (times (minus (d.cost e)) (dictionary_coefficient (pivoted d e r) e w))
 price_then n d e r w t = ⊎_elim at_e (λ (h : w ≢ e). ⊎_elim (at_r h) (λ (k : w ≢ r). other h k (d.is_basic w) refl) (cases_eq w r)) (cases_eq w e)
   where
     q : Exact
     q = d.cost e
 
-    at_e : w ≡ e → price (pivoted d e r) w ≡ plus (price d w) (times (minus q) (coefficient_in (pivoted d e r) e w))
+    at_e : w ≡ e → price (pivoted d e r) w ≡ plus (price d w) (times (minus q) (dictionary_coefficient (pivoted d e r) e w))
     at_e s =
-        subst (λ (u : ℕ). price (pivoted d e r) u ≡ plus (price d u) (times (minus q) (coefficient_in (pivoted d e r) e u))) (sym s)
+        subst (λ (u : ℕ). price (pivoted d e r) u ≡ plus (price d u) (times (minus q) (dictionary_coefficient (pivoted d e r) e u))) (sym s)
         (rw (eq_same e e refl, t.free) (gone q))
 
-    at_r : w ≢ e → w ≡ r → price (pivoted d e r) w ≡ plus (price d w) (times (minus q) (coefficient_in (pivoted d e r) e w))
+    at_r : w ≢ e → w ≡ r → price (pivoted d e r) w ≡ plus (price d w) (times (minus q) (dictionary_coefficient (pivoted d e r) e w))
     at_r h s =
         let re : r ≢ e = apart d r e t.basic t.free in
-        subst (λ (u : ℕ). price (pivoted d e r) u ≡ plus (price d u) (times (minus q) (coefficient_in (pivoted d e r) e u))) (sym s)
+        subst (λ (u : ℕ). price (pivoted d e r) u ≡ plus (price d u) (times (minus q) (dictionary_coefficient (pivoted d e r) e u))) (sym s)
         (rw (eq_other r e re, eq_same e e refl, eq_same r r refl, t.basic) (bare q _))
 
-    other : w ≢ e → w ≢ r → (c : Bool) → d.is_basic w ≡ c → price (pivoted d e r) w ≡ plus (price d w) (times (minus q) (coefficient_in (pivoted d e r) e w))
+    other : w ≢ e → w ≢ r → (c : Bool) → d.is_basic w ≡ c → price (pivoted d e r) w ≡ plus (price d w) (times (minus q) (dictionary_coefficient (pivoted d e r) e w))
     other h l true s = rw (eq_other w e h, eq_other w r l, s) (sym (idle zero_of (minus q) ∙ zero_is))
     other h l false s = rw (eq_other w e h, eq_other w r l, eq_same e e refl, s) (ap (plus (d.cost w)) (minus_times q _))
 
@@ -165,12 +165,12 @@ spread : (s b q c : Exact) → times s (less_product b q c) ≡ plus (times s b)
 spread s b q c = times_plus s b (minus (times q c)) ∙ ap (plus (times s b)) (ap (times s) (minus_times q c) ∙ times_swap s (minus q) c)
 
 new_side : (n : ℕ) (d : Dictionary) (e r : ℕ) (x : ℕ → Exact) → IsTurn n d e r → left_side n (pivoted d e r) x e ≡ times (left_side n d x r) (inverse (d.entry r e))
-new_side n d e r x t = sum_scaled (coefficient_in (pivoted d e r) e) (coefficient_in d r) x (inverse (d.entry r e)) n (λ w p. new_row n d e r w t)
+new_side n d e r x t = sum_scaled (dictionary_coefficient (pivoted d e r) e) (dictionary_coefficient d r) x (inverse (d.entry r e)) n (λ w p. new_row n d e r w t)
 
 side_then : (n : ℕ) (d : Dictionary) (e r v : ℕ) (x : ℕ → Exact) → IsTurn n d e r → d.is_basic v ≡ true → v ≢ r
     → left_side n (pivoted d e r) x v ≡ plus (left_side n d x v) (times (minus (d.entry v e)) (left_side n (pivoted d e r) x e))
 side_then n d e r v x t b h =
-    sum_with (coefficient_in (pivoted d e r) v) (coefficient_in d v) (coefficient_in (pivoted d e r) e) x (minus (d.entry v e)) n (λ w p. row_then n d e r v w t b h)
+    sum_with (dictionary_coefficient (pivoted d e r) v) (dictionary_coefficient d v) (dictionary_coefficient (pivoted d e r) e) x (minus (d.entry v e)) n (λ w p. row_then n d e r v w t b h)
 
 new_holds : (n : ℕ) (d : Dictionary) (e r : ℕ) (s : Exact) (x : ℕ → Exact) → IsTurn n d e r → Holds n d s x → left_side n (pivoted d e r) x e ≡ times s (new_bound d e r)
 new_holds n d e r s x t h =
@@ -222,9 +222,9 @@ pub turn_objective : (n : ℕ) (d : Dictionary) (e r : ℕ) (s : Exact) (x : ℕ
 turn_objective n d e r s x t h =
     let c = d.cost e in
     let b = new_bound d e r in
-    let old = total (λ w. times (price d w) (x w)) n in
-    let prices : total (λ w. times (price (pivoted d e r) w) (x w)) n ≡ plus old (times (minus c) (times s b)) =
-    sum_with (price (pivoted d e r)) (price d) (coefficient_in (pivoted d e r) e) x (minus c) n (λ w p. price_then n d e r w t)
+    let old = fraction_sum (λ w. times (price d w) (x w)) n in
+    let prices : fraction_sum (λ w. times (price (pivoted d e r) w) (x w)) n ≡ plus old (times (minus c) (times s b)) =
+    sum_with (price (pivoted d e r)) (price d) (dictionary_coefficient (pivoted d e r) e) x (minus c) n (λ w p. price_then n d e r w t)
     ∙ ap (λ (y : Exact). plus old (times (minus c) y)) (new_holds n d e r s x t h) in
     let none : plus (times s (times c b)) (times (minus c) (times s b)) ≡ zero_of =
     (λ i. plus (times_swap s c b i) (sym (minus_times c (times s b)) i)) ∙ plus_minus (times c (times s b)) in

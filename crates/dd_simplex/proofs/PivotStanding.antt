@@ -11,7 +11,7 @@ use Rattle.dd_fraction.specs.Checked.{IsFraction, does_product_fit}
 use Rattle.dd_simplex.specs.Programs.{fraction_at, zero_of, one_of}
 use Rattle.dd_simplex.specs.Dictionaries.{Dictionary, pivoted, new_entry, less_product, replaced}
 use Rattle.dd_simplex.specs.table.Lines.{Line, Table, line_at, other_at, less, do_all_less_fit, solved_line, changed_line, changed_lines, changed_table, does_solved_fit, does_changed_fit, do_lines_fit, does_table_fit}
-use Rattle.dd_simplex.specs.table.Lines.{does_objective_fit as does_table_objective_fit}
+use Rattle.dd_simplex.specs.table.Lines.{does_objective_line_fit as does_table_objective_fit}
 use Rattle.dd_simplex.specs.table.Standing.{IsTable, StandsFor}
 use Rattle.dd_simplex.proofs.Equations.{true_false, apart, then_entering, then_leaving, then_other}
 use Rattle.dd_simplex.proofs.Firsts.{and_left, and_right}

@@ -12,7 +12,7 @@ use Rattle.dd_simplex.specs.Programs.{fraction_at, zero_of, one_of}
 use Rattle.dd_simplex.specs.Dictionaries.{Dictionary, new_bound, new_entry, less_product}
 use Rattle.dd_simplex.specs.Runs.{all_below, does_quotient_fit, does_less_fit, does_row_fit, do_coefficients_fit, do_others_fit, does_objective_fit}
 use Rattle.dd_simplex.specs.table.Lines.{Line, Table, line_at, other_at, less, do_all_less_fit, solved_line, does_solved_fit, does_changed_fit, does_table_fit}
-use Rattle.dd_simplex.specs.table.Lines.{does_objective_fit as does_table_objective_fit}
+use Rattle.dd_simplex.specs.table.Lines.{does_objective_line_fit as does_table_objective_fit}
 use Rattle.dd_simplex.specs.table.Standing.{IsTable, StandsFor}
 use Rattle.dd_simplex.proofs.CellSteps.{emptied_fits, solved_size}
 use Rattle.dd_simplex.proofs.Equations.{true_false, apart}

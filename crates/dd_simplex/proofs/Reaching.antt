@@ -14,19 +14,19 @@ use Rattle.dd_fraction.specs.Order.{IsNonneg, IsPositive, IsAtMost, IsBelow, exa
 use Rattle.dd_fraction.specs.lemmas.Laws.{times_comm, times_assoc, times_plus, zero_plus, zero_times, times_zero, one_times, plus_low_left, plus_low_right, minus_times, minus_times_right}
 use Rattle.dd_fraction.specs.lemmas.Lowest.{low_low}
 use Rattle.dd_fraction.specs.lemmas.OrderLaws.{nonneg_plus, nonneg_times, positive_nonneg, positive_inverse, times_inverse_positive, at_most_gap, below_or_at_most, below_not_at_most, exact_cmp_ranked, exact_cmp-above}
-use Rattle.dd_simplex.specs.Programs.{LinearProgram, IsProgram, coefficient, bound_at, total, zero_of, one_of}
-use Rattle.dd_simplex.specs.Dictionaries.{Dictionary, count, start, pivoted, new_bound, less_product}
-use Rattle.dd_simplex.specs.Runs.{is_over, may_enter, entering, ratio, limits, may_leave, leaving, all_below}
+use Rattle.dd_simplex.specs.Programs.{LinearProgram, IsProgram, coefficient, bound_at, fraction_sum, zero_of, one_of}
+use Rattle.dd_simplex.specs.Dictionaries.{Dictionary, count, start_dictionary, pivoted, new_bound, less_product}
+use Rattle.dd_simplex.specs.Runs.{is_over, may_enter, entering, ratio, is_limiting, may_leave, leaving, all_below}
 use Rattle.dd_simplex.proofs.Totals.{eq_same, eq_other, total_same, total_pick, total_split, zero_nonneg}
 use Rattle.dd_simplex.proofs.Firsts.{and_left, and_right, all_at, first_some, first_none}
-use Rattle.dd_simplex.specs.Laws.{coefficient_in, price}
+use Rattle.dd_simplex.specs.Laws.{dictionary_coefficient, price}
 use Rattle.dd_simplex.proofs.Equations.{left_side, Holds, objective, IsTurn, turn_forth, turn_back, turn_objective, then_other, then_leaving, apart, true_false}
 
 pub record IsReached (p : LinearProgram) (d : Dictionary) : Type 0 where
   pub bounds : (v : ℕ) → v < count p → d.is_basic v ≡ true → IsNonneg (d.bound v)
-  pub forth : (s : Exact) (x : ℕ → Exact) → Holds (count p) (start p) s x → Holds (count p) d s x
-  pub back : (s : Exact) (x : ℕ → Exact) → Holds (count p) d s x → Holds (count p) (start p) s x
-  pub worth : (s : Exact) (x : ℕ → Exact) → Holds (count p) (start p) s x → objective (count p) d s x ≡ low (x 0)
+  pub forth : (s : Exact) (x : ℕ → Exact) → Holds (count p) (start_dictionary p) s x → Holds (count p) d s x
+  pub back : (s : Exact) (x : ℕ → Exact) → Holds (count p) d s x → Holds (count p) (start_dictionary p) s x
+  pub worth : (s : Exact) (x : ℕ → Exact) → Holds (count p) (start_dictionary p) s x → objective (count p) d s x ≡ low (x 0)
 
 -- ---- the start
 lt_yes : (v n : ℕ) → v < n → nat_lt v n ≡ true
@@ -38,10 +38,10 @@ lt_no v n p = grind (arith, p)
 lt_from : (v n : ℕ) → not (nat_lt v n) ≡ true → n ≤ v
 lt_from v n h = grind (arith, h)
 
-pub start_column : (p : LinearProgram) (j : ℕ) → j < p.columns → (start p).is_basic j ≡ false
+pub start_column : (p : LinearProgram) (j : ℕ) → j < p.columns → (start_dictionary p).is_basic j ≡ false
 start_column p j h = rw (lt_yes j p.columns h) refl
 
-pub start_slack : (p : LinearProgram) (k : ℕ) → (start p).is_basic (p.columns + k) ≡ true
+pub start_slack : (p : LinearProgram) (k : ℕ) → (start_dictionary p).is_basic (p.columns + k) ≡ true
 start_slack p k = rw (lt_no (p.columns + k) p.columns (omega arith)) refl
 
 take_off : (n k : ℕ) → n + k - n ≡ k
@@ -52,65 +52,65 @@ put_on n v p = omega arith
 
 -- a row of the program, as an equation with its slack
 pub start_row : (p : LinearProgram) (k : ℕ) (x : ℕ → Exact) → k < length p.rows
-    → left_side (count p) (start p) x (p.columns + k) ≡ plus (total (λ j. times (coefficient p k j) (x j)) p.columns) (x (p.columns + k))
+    → left_side (count p) (start_dictionary p) x (p.columns + k) ≡ plus (fraction_sum (λ j. times (coefficient p k j) (x j)) p.columns) (x (p.columns + k))
 start_row p k x h =
-    total_split (λ w. times (coefficient_in (start p) (p.columns + k) w) (x w)) p.columns (length p.rows)
+    total_split (λ w. times (dictionary_coefficient (start_dictionary p) (p.columns + k) w) (x w)) p.columns (length p.rows)
     ∙ ((λ i. plus (columns i) (slacks i)) ∙ (plus_low_right T (times one_of (x (p.columns + k))) ∙ (ap (plus T) (one_times (x (p.columns + k))) ∙ plus_low_right T (x (p.columns + k)))))
   where
     T : Exact
-    T = total (λ j. times (coefficient p k j) (x j)) p.columns
+    T = fraction_sum (λ j. times (coefficient p k j) (x j)) p.columns
 
-    at : (j : ℕ) → j < p.columns → coefficient_in (start p) (p.columns + k) j ≡ coefficient p k j
+    at : (j : ℕ) → j < p.columns → dictionary_coefficient (start_dictionary p) (p.columns + k) j ≡ coefficient p k j
     at j q = rw (eq_other j (p.columns + k) (λ (s : j ≡ p.columns + k). omega (arith, s, q)), lt_yes j p.columns q, take_off p.columns k) refl
 
-    columns : total (λ w. times (coefficient_in (start p) (p.columns + k) w) (x w)) p.columns ≡ T
-    columns = total_same (λ w. times (coefficient_in (start p) (p.columns + k) w) (x w)) (λ j. times (coefficient p k j) (x j)) p.columns (λ j q. ap (λ (t : Exact). times t (x j)) (at j q))
+    columns : fraction_sum (λ w. times (dictionary_coefficient (start_dictionary p) (p.columns + k) w) (x w)) p.columns ≡ T
+    columns = total_same (λ w. times (dictionary_coefficient (start_dictionary p) (p.columns + k) w) (x w)) (λ j. times (coefficient p k j) (x j)) p.columns (λ j q. ap (λ (t : Exact). times t (x j)) (at j q))
 
-    one : coefficient_in (start p) (p.columns + k) (p.columns + k) ≡ one_of
+    one : dictionary_coefficient (start_dictionary p) (p.columns + k) (p.columns + k) ≡ one_of
     one = rw (eq_same (p.columns + k)) refl
 
-    none : (i : ℕ) → i < length p.rows → i ≢ k → times (coefficient_in (start p) (p.columns + k) (p.columns + i)) (x (p.columns + i)) ≡ zero_of
+    none : (i : ℕ) → i < length p.rows → i ≢ k → times (dictionary_coefficient (start_dictionary p) (p.columns + k) (p.columns + i)) (x (p.columns + i)) ≡ zero_of
     none i q s =
         rw (eq_other (p.columns + i) (p.columns + k) (λ (u : p.columns + i ≡ p.columns + k). s (omega (arith, u))), lt_no (p.columns + i) p.columns (omega arith))
         (zero_times (x (p.columns + i)))
 
-    slacks : total (λ i. times (coefficient_in (start p) (p.columns + k) (p.columns + i)) (x (p.columns + i))) (length p.rows) ≡ low (times one_of (x (p.columns + k)))
+    slacks : fraction_sum (λ i. times (dictionary_coefficient (start_dictionary p) (p.columns + k) (p.columns + i)) (x (p.columns + i))) (length p.rows) ≡ low (times one_of (x (p.columns + k)))
     slacks =
-        total_pick (λ i. times (coefficient_in (start p) (p.columns + k) (p.columns + i)) (x (p.columns + i))) k (length p.rows) h none
+        total_pick (λ i. times (dictionary_coefficient (start_dictionary p) (p.columns + k) (p.columns + i)) (x (p.columns + i))) k (length p.rows) h none
         ∙ ap (λ (t : Exact). low (times t (x (p.columns + k)))) one
 
 -- columns and slacks that meet each row of the program
 pub start_holds : (p : LinearProgram) (s : Exact) (x : ℕ → Exact)
-    → ((k : ℕ) → k < length p.rows → plus (total (λ j. times (coefficient p k j) (x j)) p.columns) (x (p.columns + k)) ≡ times s (bound_at p k))
-    → Holds (count p) (start p) s x
+    → ((k : ℕ) → k < length p.rows → plus (fraction_sum (λ j. times (coefficient p k j) (x j)) p.columns) (x (p.columns + k)) ≡ times s (bound_at p k))
+    → Holds (count p) (start_dictionary p) s x
 start_holds p s x h v q b =
     let low : p.columns ≤ v = lt_from v p.columns b in
     let k = v - p.columns in
     let r : k < length p.rows = omega (arith, q, low) in
-    subst (λ (u : ℕ). left_side (count p) (start p) x u ≡ times s (bound_at p k)) (put_on p.columns v low) (start_row p k x r ∙ h k r)
+    subst (λ (u : ℕ). left_side (count p) (start_dictionary p) x u ≡ times s (bound_at p k)) (put_on p.columns v low) (start_row p k x r ∙ h k r)
 
-pub start_says : (p : LinearProgram) (s : Exact) (x : ℕ → Exact) → Holds (count p) (start p) s x → (k : ℕ) → k < length p.rows
-    → plus (total (λ j. times (coefficient p k j) (x j)) p.columns) (x (p.columns + k)) ≡ times s (bound_at p k)
+pub start_says : (p : LinearProgram) (s : Exact) (x : ℕ → Exact) → Holds (count p) (start_dictionary p) s x → (k : ℕ) → k < length p.rows
+    → plus (fraction_sum (λ j. times (coefficient p k j) (x j)) p.columns) (x (p.columns + k)) ≡ times s (bound_at p k)
 start_says p s x h k q =
     sym (start_row p k x q) ∙ (h (p.columns + k) (omega (arith, q)) (start_slack p k) ∙ ap (λ (i : ℕ). times s (bound_at p i)) (take_off p.columns k))
 
-pub reached_start : (p : LinearProgram) → IsProgram p → IsReached p (start p)
+pub reached_start : (p : LinearProgram) → IsProgram p → IsReached p (start_dictionary p)
 reached_start p g = record {
   bounds = λ v q b. let low : p.columns ≤ v = lt_from v p.columns b in g.bounds (v - p.columns) (omega (arith, q, low));
   forth = λ s x h. h;
   back = λ s x h. h;
   worth = λ s x h.
-      (λ i. plus (times_zero s i) (total_pick (λ w. times (price (start p) w) (x w)) 0 (count p) (omega (arith, g.wide)) (none x) i))
+      (λ i. plus (times_zero s i) (total_pick (λ w. times (price (start_dictionary p) w) (x w)) 0 (count p) (omega (arith, g.wide)) (none x) i))
       ∙ (zero_plus _ ∙ (low_low _ _ ∙ ap low (ap (λ (t : Exact). times t (x 0)) first ∙ one_times (x 0)) ∙ low_low _ _));
 }
   where
-    first : price (start p) 0 ≡ one_of
+    first : price (start_dictionary p) 0 ≡ one_of
     first = rw (lt_yes 0 p.columns g.wide) refl
 
-    none : (x : ℕ → Exact) (w : ℕ) → w < count p → w ≢ 0 → times (price (start p) w) (x w) ≡ zero_of
+    none : (x : ℕ → Exact) (w : ℕ) → w < count p → w ≢ 0 → times (price (start_dictionary p) w) (x w) ≡ zero_of
     none x w q s = by (nat_lt w p.columns) refl
       where
-        by : (b : Bool) → nat_lt w p.columns ≡ b → times (price (start p) w) (x w) ≡ zero_of
+        by : (b : Bool) → nat_lt w p.columns ≡ b → times (price (start_dictionary p) w) (x w) ≡ zero_of
         by true e = rw (e, eq_other 0 w (λ (u : 0 ≡ w). s (sym u))) (zero_times (x w))
         by false e = rw e (zero_times (x w))
 
@@ -228,9 +228,9 @@ test_at_most a b s = by (exact_cmp a b) refl
 pub leaving_is : (n : ℕ) (d : Dictionary) (e r : ℕ) → Enters n d e → leaving n d e ≡ Some r → IsLeast n d e r
 leaving_is n d e r g h =
     let f = first_some (may_leave n d e) n r h in
-    let all = all_below (λ u. not (limits d e u) || not (is_gt (exact_cmp (ratio d e r) (ratio d e u)))) n in
-    let limit : limits d e r ≡ true = and_left (limits d e r) all f.1 in
-    let least : all ≡ true = and_right (limits d e r) all f.1 in
+    let all = all_below (λ u. not (is_limiting d e u) || not (is_gt (exact_cmp (ratio d e r) (ratio d e u)))) n in
+    let limit : is_limiting d e r ≡ true = and_left (is_limiting d e r) all f.1 in
+    let least : all ≡ true = and_right (is_limiting d e r) all f.1 in
     record {
       turn = record {
         entering = g.within;
@@ -240,7 +240,7 @@ leaving_is n d e r g h =
         positive = over_positive (d.entry r e) (and_right (d.is_basic r) (is_over (d.entry r e)) limit);
       };
       least = λ v q b s.
-          let at = all_at (λ u. not (limits d e u) || not (is_gt (exact_cmp (ratio d e r) (ratio d e u)))) n v least q in
-          let this : limits d e v ≡ true = rw (b, positive_over (d.entry v e) s) refl in
+          let at = all_at (λ u. not (is_limiting d e u) || not (is_gt (exact_cmp (ratio d e r) (ratio d e u)))) n v least q in
+          let this : is_limiting d e v ≡ true = rw (b, positive_over (d.entry v e) s) refl in
           at_most_test (ratio d e r) (ratio d e v) (ap (λ (t : Bool). not t || not (is_gt (exact_cmp (ratio d e r) (ratio d e v)))) (sym this) ∙ at);
     }

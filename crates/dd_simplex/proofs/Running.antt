@@ -7,7 +7,7 @@ use Rattle.dd_fraction.specs.Exact.{Exact, low}
 use Rattle.dd_fraction.specs.Checked.{IsFraction}
 use Rattle.dd_fraction.specs.lemmas.Lowest.{low_fraction, zero_is}
 use Rattle.dd_simplex.specs.Programs.{LinearProgram, IsProgram, IsBest, fraction_at}
-use Rattle.dd_simplex.specs.Dictionaries.{Dictionary, count, start, pivoted}
+use Rattle.dd_simplex.specs.Dictionaries.{Dictionary, count, start_dictionary, pivoted}
 use Rattle.dd_simplex.specs.Runs.{is_over, entering, leaving, does_turn_fit, do_ratios_fit, Ends, Overflows, AtLimit, turn, turn_or_end, run, stop_of, RunEnds, column_of, dual_of}
 use Rattle.dd_simplex.specs.table.Lines.{Table, line_at, other_at, changed_table}
 use Rattle.dd_simplex.specs.table.Choices.{HasMisfit}
@@ -37,7 +37,7 @@ pub record IsAlong (p : LinearProgram) (pivots left : ℕ) (t : Table) : Type 0 
 
 pub along_start : (p : LinearProgram) (k : ℕ) (t : Table) → IsProgram p → IsStart p t → IsAlong p k k t
 along_start p k t g h = record {
-  dictionary = start p;
+  dictionary = start_dictionary p;
   table = start_table p t g h;
   stands = start_stands p t g h;
   reached = reached_start p g;

@@ -3,9 +3,9 @@ use Rattle.std.proofs.Common.{◌≡◌, ℕ, zero, suc, ◌+◌, ◌<◌, List,
 use Rattle.std.proofs.lemmas.List.{ext_get_or}
 use Rattle.dd_fraction.specs.Exact.{Exact}
 use Rattle.dd_simplex.specs.Programs.{LinearProgram, IsProgram, fraction_at, zero_of}
-use Rattle.dd_simplex.specs.Dictionaries.{Dictionary, count, start, pivoted}
+use Rattle.dd_simplex.specs.Dictionaries.{Dictionary, count, start_dictionary, pivoted}
 use Rattle.dd_simplex.specs.Runs.{entering, leaving, does_turn_fit, Stop, Ends, Overflows, AtLimit, Unbounded, turn, turn_or_end, run, stop_of, RunOverflows, RunPivots, column_of, dual_of}
-use Rattle.dd_simplex.specs.Laws.{DoesEnd, HasOneStop, after, after_turn, leaving_for, IsSound}
+use Rattle.dd_simplex.specs.Laws.{DoesEnd, HasOneStop, dictionary_after, after_turn, leaving_for, IsSoundDictionary}
 use Rattle.dd_simplex.proofs.Endings.{reduced_column, reduced_value, combined_column, combined_bound}
 use Rattle.dd_simplex.proofs.Reaching.{IsReached, entering_is, leaving_is, reached_start, reached_pivot}
 use Rattle.dd_simplex.proofs.Unbounded.{always_leaves}
@@ -97,26 +97,26 @@ one_stop_of p k g = record {
     by (Ends d) h = inl (ends_at p k d h)
     by Overflows h = inr (inl h)
     by AtLimit h = inr (inr h)
-    by Unbounded h = absurd (never_unbounded p k (start p) g (reached_start p g) h)
+    by Unbounded h = absurd (never_unbounded p k (start_dictionary p) g (reached_start p g) h)
 
 -- ---- the dictionaries on the way
-pub reached_after : (p : LinearProgram) (k : ℕ) (d t : Dictionary) → IsReached p d → after (count p) k d ≡ Some t → IsReached p t
+pub reached_after : (p : LinearProgram) (k : ℕ) (d t : Dictionary) → IsReached p d → dictionary_after (count p) k d ≡ Some t → IsReached p t
 reached_after p zero d t r h = let s : d ≡ t = cc in subst (IsReached p) s r
-reached_after p (suc k) d t r h = at (λ (u : Dictionary) (q : IsReached p u) (l : after (count p) k u ≡ Some t). reached_after p k u t q l) (entering (count p) d) refl h
+reached_after p (suc k) d t r h = at (λ (u : Dictionary) (q : IsReached p u) (l : dictionary_after (count p) k u ≡ Some t). reached_after p k u t q l) (entering (count p) d) refl h
   where
-    under : ((u : Dictionary) → IsReached p u → after (count p) k u ≡ Some t → IsReached p t) → (e : ℕ) → entering (count p) d ≡ Some e → (o : Option ℕ) → leaving (count p) d e ≡ o
-        → after_turn (after (count p) k) d (Some e) o ≡ Some t → IsReached p t
+    under : ((u : Dictionary) → IsReached p u → dictionary_after (count p) k u ≡ Some t → IsReached p t) → (e : ℕ) → entering (count p) d ≡ Some e → (o : Option ℕ) → leaving (count p) d e ≡ o
+        → after_turn (dictionary_after (count p) k) d (Some e) o ≡ Some t → IsReached p t
     under again e n None l h = absurd cc
     under again e n (Some s) l h = again (pivoted d e s) (reached_pivot p d e s r (leaving_is (count p) d e s (entering_is (count p) d e n) l)) h
 
-    at : ((u : Dictionary) → IsReached p u → after (count p) k u ≡ Some t → IsReached p t) → (o : Option ℕ) → entering (count p) d ≡ o
-        → after_turn (after (count p) k) d o (leaving_for (count p) d o) ≡ Some t → IsReached p t
+    at : ((u : Dictionary) → IsReached p u → dictionary_after (count p) k u ≡ Some t → IsReached p t) → (o : Option ℕ) → entering (count p) d ≡ o
+        → after_turn (dictionary_after (count p) k) d o (leaving_for (count p) d o) ≡ Some t → IsReached p t
     at again None n h = absurd cc
     at again (Some e) n h = under again e n (leaving (count p) d e) refl h
 
-pub sound : (p : LinearProgram) (k : ℕ) (d : Dictionary) → IsProgram p → after (count p) k (start p) ≡ Some d → IsSound p d
+pub sound : (p : LinearProgram) (k : ℕ) (d : Dictionary) → IsProgram p → dictionary_after (count p) k (start_dictionary p) ≡ Some d → IsSoundDictionary p d
 sound p k d g h =
-    let r = reached_after p k (start p) d (reached_start p g) h in
+    let r = reached_after p k (start_dictionary p) d (reached_start p g) h in
     record {
       rows = λ v q b. record { columns = combined_column p d g r v q b; bound = combined_bound p d g r v q b };
       objective = record { columns = reduced_column p d g r; value = reduced_value p d g r };

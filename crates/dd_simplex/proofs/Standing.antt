@@ -5,7 +5,7 @@ use Rattle.dd_fraction.specs.Exact.{Exact, times, inverse}
 use Rattle.dd_fraction.specs.Order.{IsAtMost, exact_cmp}
 use Rattle.dd_simplex.specs.Programs.{fraction_at}
 use Rattle.dd_simplex.specs.Dictionaries.{Dictionary}
-use Rattle.dd_simplex.specs.Runs.{is_over, may_enter, entering, ratio, limits, may_leave, leaving, all_below, do_ratios_fit, does_quotient_fit}
+use Rattle.dd_simplex.specs.Runs.{is_over, may_enter, entering, ratio, is_limiting, may_leave, leaving, all_below, do_ratios_fit, does_quotient_fit}
 use Rattle.dd_simplex.specs.table.Lines.{Table, line_at, other_at}
 use Rattle.dd_simplex.specs.table.Choices.{IsChosen, does_enter, EntersBefore, does_limit, LeavesBefore, line_ratio, DoRatiosFit, HasMisfit}
 use Rattle.dd_simplex.specs.table.Standing.{IsTable, StandsFor}
@@ -73,21 +73,21 @@ module _ (n : ℕ) (t : Table) (d : Dictionary) (k : IsTable t) (s : StandsFor n
     pub entry_of : (v : ℕ) → v < n → d.is_basic v ≡ true → d.entry v (other_at t.others e) ≡ fraction_at (line_at t.lines (s.line v)).cells e
     entry_of v p b = ap (λ (u : ℕ). d.entry u (other_at t.others e)) (sym (s.line_is v p b)) ∙ s.entries (s.line v) e (s.line_in v p b) inside
 
-    pub limits_at : (v : ℕ) → v < n → limits d (other_at t.others e) v ≡ true → (d.is_basic v ≡ true) × (does_limit t.lines e (s.line v) ≡ true)
+    pub limits_at : (v : ℕ) → v < n → is_limiting d (other_at t.others e) v ≡ true → (d.is_basic v ≡ true) × (does_limit t.lines e (s.line v) ≡ true)
     limits_at v p h =
         let b : d.is_basic v ≡ true = and_left (d.is_basic v) (is_over (d.entry v (other_at t.others e))) h in
         (b, ap is_over (sym (entry_of v p b)) ∙ and_right (d.is_basic v) (is_over (d.entry v (other_at t.others e))) h)
 
-    pub limits_here : (i : ℕ) → i < length t.lines → does_limit t.lines e i ≡ true → limits d (other_at t.others e) (line_at t.lines i).basic ≡ true
+    pub limits_here : (i : ℕ) → i < length t.lines → does_limit t.lines e i ≡ true → is_limiting d (other_at t.others e) (line_at t.lines i).basic ≡ true
     limits_here i p h = rw (s.basic_is i p) (ap is_over (s.entries i e p inside) ∙ h)
 
     ratio_here : (i : ℕ) → i < length t.lines → ratio d (other_at t.others e) (line_at t.lines i).basic ≡ line_ratio t.lines e i
     ratio_here i p = λ z. times (s.bounds i p z) (inverse (s.entries i e p inside z))
 
-    pub unlimited_stands : IsChosen (does_limit t.lines e) (LeavesBefore t.lines e) (length t.lines) None → (v : ℕ) → v < n → limits d (other_at t.others e) v ≡ false
-    unlimited_stands h v p = by (limits d (other_at t.others e) v) refl
+    pub unlimited_stands : IsChosen (does_limit t.lines e) (LeavesBefore t.lines e) (length t.lines) None → (v : ℕ) → v < n → is_limiting d (other_at t.others e) v ≡ false
+    unlimited_stands h v p = by (is_limiting d (other_at t.others e) v) refl
       where
-        by : (b : Bool) → limits d (other_at t.others e) v ≡ b → limits d (other_at t.others e) v ≡ false
+        by : (b : Bool) → is_limiting d (other_at t.others e) v ≡ b → is_limiting d (other_at t.others e) v ≡ false
         by false f = f
         by true f =
             let at = limits_at v p f in
@@ -103,22 +103,22 @@ module _ (n : ℕ) (t : Table) (d : Dictionary) (k : IsTable t) (s : StandsFor n
         F : ℕ
         F = other_at t.others e
 
-        order : (u : ℕ) → u < n → limits d F u ≡ true → LeavesBefore t.lines e r (s.line u)
+        order : (u : ℕ) → u < n → is_limiting d F u ≡ true → LeavesBefore t.lines e r (s.line u)
         order u p f = let at = limits_at u p f in h.2 (s.line u) (s.line_in u p at.0) at.1
 
-        ratio_of : (u : ℕ) → u < n → limits d F u ≡ true → ratio d F u ≡ line_ratio t.lines e (s.line u)
+        ratio_of : (u : ℕ) → u < n → is_limiting d F u ≡ true → ratio d F u ≡ line_ratio t.lines e (s.line u)
         ratio_of u p f =
             let at = limits_at u p f in
             ap (ratio d F) (sym (s.line_is u p at.0)) ∙ ratio_here (s.line u) (s.line_in u p at.0)
 
-        passes : (u : ℕ) → u < n → (b : Bool) → limits d F u ≡ b → (not (limits d F u) || not (is_gt (exact_cmp (ratio d F v) (ratio d F u)))) ≡ true
+        passes : (u : ℕ) → u < n → (b : Bool) → is_limiting d F u ≡ b → (not (is_limiting d F u) || not (is_gt (exact_cmp (ratio d F v) (ratio d F u)))) ≡ true
         passes u p false f = rw f refl
         passes u p true f =
             rw f (test_at_most (ratio d F v) (ratio d F u)
             (subst (IsAtMost (ratio d F v)) (sym (ratio_of u p f)) (subst (λ (a : Exact). IsAtMost a (line_ratio t.lines e (s.line u))) (sym (ratio_here r h.0)) (order u p f).ratio)))
 
         leaves : may_leave n d F v ≡ true
-        leaves = and_both (limits d F v) _ (limits_here r h.0 h.1) (all_true (λ u. not (limits d F u) || not (is_gt (exact_cmp (ratio d F v) (ratio d F u)))) n (λ u p. passes u p (limits d F u) refl))
+        leaves = and_both (is_limiting d F v) _ (limits_here r h.0 h.1) (all_true (λ u. not (is_limiting d F u) || not (is_gt (exact_cmp (ratio d F v) (ratio d F u)))) n (λ u p. passes u p (is_limiting d F u) refl))
 
         before : (w : ℕ) → w < v → may_leave n d F w ≡ false
         before w q = by (may_leave n d F w) refl
@@ -127,11 +127,11 @@ module _ (n : ℕ) (t : Table) (d : Dictionary) (k : IsTable t) (s : StandsFor n
             by false f = f
             by true f =
                 let p : w < n = let z = s.basic_in r h.0 in omega (arith, z, q) in
-                let all = all_below (λ u. not (limits d F u) || not (is_gt (exact_cmp (ratio d F w) (ratio d F u)))) n in
-                let l : limits d F w ≡ true = and_left (limits d F w) all f in
-                let a : all ≡ true = and_right (limits d F w) all f in
+                let all = all_below (λ u. not (is_limiting d F u) || not (is_gt (exact_cmp (ratio d F w) (ratio d F u)))) n in
+                let l : is_limiting d F w ≡ true = and_left (is_limiting d F w) all f in
+                let a : all ≡ true = and_right (is_limiting d F w) all f in
                 let at = limits_at w p l in
-                let test = all_at (λ u. not (limits d F u) || not (is_gt (exact_cmp (ratio d F w) (ratio d F u)))) n v a (s.basic_in r h.0) in
+                let test = all_at (λ u. not (is_limiting d F u) || not (is_gt (exact_cmp (ratio d F w) (ratio d F u)))) n v a (s.basic_in r h.0) in
                 let small : IsAtMost (ratio d F w) (ratio d F v) =
                 at_most_test (ratio d F w) (ratio d F v) (ap (λ (b : Bool). not b || not (is_gt (exact_cmp (ratio d F w) (ratio d F v)))) (sym (limits_here r h.0 h.1)) ∙ test) in
                 let small_lines : IsAtMost (line_ratio t.lines e (s.line w)) (line_ratio t.lines e r) =
@@ -141,10 +141,10 @@ module _ (n : ℕ) (t : Table) (d : Dictionary) (k : IsTable t) (s : StandsFor n
                 absurd (omega (arith, tie, same, q))
 
     pub ratios_stand : DoRatiosFit t.lines e (length t.lines) → do_ratios_fit n d (other_at t.others e) ≡ true
-    ratios_stand h = all_true (λ v. not (limits d (other_at t.others e) v) || does_quotient_fit (d.bound v) (d.entry v (other_at t.others e))) n (λ v p. by v p (limits d (other_at t.others e) v) refl)
+    ratios_stand h = all_true (λ v. not (is_limiting d (other_at t.others e) v) || does_quotient_fit (d.bound v) (d.entry v (other_at t.others e))) n (λ v p. by v p (is_limiting d (other_at t.others e) v) refl)
       where
-        by : (v : ℕ) → v < n → (b : Bool) → limits d (other_at t.others e) v ≡ b
-            → (not (limits d (other_at t.others e) v) || does_quotient_fit (d.bound v) (d.entry v (other_at t.others e))) ≡ true
+        by : (v : ℕ) → v < n → (b : Bool) → is_limiting d (other_at t.others e) v ≡ b
+            → (not (is_limiting d (other_at t.others e) v) || does_quotient_fit (d.bound v) (d.entry v (other_at t.others e))) ≡ true
         by v p false f = rw f refl
         by v p true f =
             let at = limits_at v p f in
@@ -152,5 +152,5 @@ module _ (n : ℕ) (t : Table) (d : Dictionary) (k : IsTable t) (s : StandsFor n
 
     pub misfit_stands : HasMisfit t.lines e → do_ratios_fit n d (other_at t.others e) ≡ false
     misfit_stands h =
-        all_false (λ v. not (limits d (other_at t.others e) v) || does_quotient_fit (d.bound v) (d.entry v (other_at t.others e))) n (line_at t.lines h.place).basic (s.basic_in h.place h.within)
+        all_false (λ v. not (is_limiting d (other_at t.others e) v) || does_quotient_fit (d.bound v) (d.entry v (other_at t.others e))) n (line_at t.lines h.place).basic (s.basic_in h.place h.within)
         (rw (limits_here h.place h.within h.limit) ((λ z. does_quotient_fit (s.bounds h.place h.within z) (s.entries h.place e h.within inside z)) ∙ h.misfit))

@@ -5,7 +5,7 @@ use lib.IntN.{pos}
 use Rattle.dd_fraction.specs.Checked.{IsFraction}
 use Rattle.dd_fraction.specs.lemmas.Results.{IsFraction-whole}
 use Rattle.dd_simplex.specs.Programs.{LinearProgram, IsProgram, coefficient, bound_at, unit, fraction_at, zero_of, one_of}
-use Rattle.dd_simplex.specs.Dictionaries.{count, start}
+use Rattle.dd_simplex.specs.Dictionaries.{count, start_dictionary}
 use Rattle.dd_simplex.specs.table.Lines.{Line, Table, line_at}
 use Rattle.dd_simplex.specs.table.Standing.{IsTable, StandsFor}
 use Rattle.dd_simplex.specs.table.Steps.{IsStart}
@@ -41,7 +41,7 @@ module _ (p : LinearProgram) (t : Table) (g : IsProgram p) (h : IsStart p t) whe
     value = subst IsFraction (sym h.value) zero_fraction;
   }
 
-  slack : (v : ℕ) → (start p).is_basic v ≡ true → p.columns ≤ v
+  slack : (v : ℕ) → (start_dictionary p).is_basic v ≡ true → p.columns ≤ v
   slack v b = grind (arith, b)
 
   put_on : (v : ℕ) → p.columns ≤ v → p.columns + (v - p.columns) ≡ v
@@ -50,13 +50,13 @@ module _ (p : LinearProgram) (t : Table) (g : IsProgram p) (h : IsStart p t) whe
   take_off : (i : ℕ) → p.columns + i - p.columns ≡ i
   take_off i = omega arith
 
-  not_slack : (w : ℕ) → (start p).is_basic w ≡ false → w < p.columns
+  not_slack : (w : ℕ) → (start_dictionary p).is_basic w ≡ false → w < p.columns
   not_slack w b = grind (arith, b)
 
-  slack_row : (v : ℕ) → v < count p → (start p).is_basic v ≡ true → v - p.columns < length t.lines
+  slack_row : (v : ℕ) → v < count p → (start_dictionary p).is_basic v ≡ true → v - p.columns < length t.lines
   slack_row v q b = let low = slack v b in let z = h.height in omega (arith, q, low, z)
 
-  pub start_stands : StandsFor (count p) t (start p)
+  pub start_stands : StandsFor (count p) t (start_dictionary p)
   start_stands = record {
     line = λ v. v - p.columns;
     column = λ w. w;
@@ -65,10 +65,10 @@ module _ (p : LinearProgram) (t : Table) (g : IsProgram p) (h : IsStart p t) whe
     column_in = λ w q b. let c = not_slack w b in let z = h.width in omega (arith, c, z);
     column_is = λ w q b. h.others w (not_slack w b);
     basic_in = λ i q. let e = basic i q in let c = row i q in omega (arith, e, c);
-    basic_is = λ i q. ap (start p).is_basic (basic i q) ∙ start_slack p i;
+    basic_is = λ i q. ap (start_dictionary p).is_basic (basic i q) ∙ start_slack p i;
     basic_line = λ i q. ap (λ (v : ℕ). v - p.columns) (basic i q) ∙ take_off i;
     other_in = λ j q. let e = h.others j (column j q) in let c = column j q in omega (arith, e, c);
-    other_is = λ j q. ap (start p).is_basic (h.others j (column j q)) ∙ start_column p j (column j q);
+    other_is = λ j q. ap (start_dictionary p).is_basic (h.others j (column j q)) ∙ start_column p j (column j q);
     other_column = λ j q. h.others j (column j q);
     bounds = λ i q. ap (λ (v : ℕ). bound_at p (v - p.columns)) (basic i q) ∙ (ap (bound_at p) (take_off i) ∙ ap (λ (l : Line). l.bound) (sym (h.lines i (row i q))));
     entries = λ i j q r.

@@ -10,12 +10,12 @@ use Rattle.dd_fraction.specs.Order.{IsNonneg, IsPositive, exact_cmp}
 use Rattle.dd_fraction.specs.lemmas.Laws.{plus_comm, zero_plus, zero_times, times_zero, times_one, one_times, plus_minus, plus_low_left, plus_low_right}
 use Rattle.dd_fraction.specs.lemmas.Lowest.{low_low}
 use Rattle.dd_fraction.specs.lemmas.OrderLaws.{positive_lowest, positive_plus}
-use Rattle.dd_simplex.specs.Programs.{LinearProgram, IsProgram, coefficient, bound_at, total, zero_of, one_of}
+use Rattle.dd_simplex.specs.Programs.{LinearProgram, IsProgram, coefficient, bound_at, fraction_sum, zero_of, one_of}
 use Rattle.dd_simplex.specs.Dictionaries.{Dictionary, count}
-use Rattle.dd_simplex.specs.Runs.{is_over, ratio, limits, may_leave, leaving, all_below}
+use Rattle.dd_simplex.specs.Runs.{is_over, ratio, is_limiting, may_leave, leaving, all_below}
 use Rattle.dd_simplex.proofs.Totals.{eq_same, eq_other, total_pick, total_two, zero_nonneg}
 use Rattle.dd_simplex.proofs.Firsts.{and_both, all_true, first_none, smallest, IsSmallest}
-use Rattle.dd_simplex.specs.Laws.{coefficient_in, price}
+use Rattle.dd_simplex.specs.Laws.{dictionary_coefficient, price}
 use Rattle.dd_simplex.proofs.Equations.{Holds, objective, apart}
 use Rattle.dd_simplex.proofs.Reaching.{IsReached, Enters, start_says, not_over, test_at_most}
 
@@ -46,25 +46,25 @@ module _ (n : ℕ) (d : Dictionary) (e : ℕ) (g : Enters n d e) where
       q = d.entry v e
 
       f : ℕ → Exact
-      f w = times (coefficient_in d v w) (ray d e w)
+      f w = times (dictionary_coefficient d v w) (ray d e w)
 
       ve : v ≢ e
       ve = apart d v e b g.free
 
-      at_v : times (coefficient_in d v v) (ray d e v) ≡ times one_of (minus q)
+      at_v : times (dictionary_coefficient d v v) (ray d e v) ≡ times one_of (minus q)
       at_v = rw (eq_same v) (ap (times one_of) (ray_basic d e v ve b))
 
-      at_e : times (coefficient_in d v e) (ray d e e) ≡ times q one_of
+      at_e : times (dictionary_coefficient d v e) (ray d e e) ≡ times q one_of
       at_e = rw (eq_other e v (λ (s : e ≡ v). ve (sym s)), g.free) (ap (times q) (ray_entering d e))
 
-      other : (w : ℕ) → w < n → w ≢ v → w ≢ e → times (coefficient_in d v w) (ray d e w) ≡ zero_of
+      other : (w : ℕ) → w < n → w ≢ v → w ≢ e → times (dictionary_coefficient d v w) (ray d e w) ≡ zero_of
       other w _ wv we = by (d.is_basic w) refl
         where
-          by : (t : Bool) → d.is_basic w ≡ t → times (coefficient_in d v w) (ray d e w) ≡ zero_of
+          by : (t : Bool) → d.is_basic w ≡ t → times (dictionary_coefficient d v w) (ray d e w) ≡ zero_of
           by true s = rw (eq_other w v wv, s) (zero_times (ray d e w))
-          by false s = ap (times (coefficient_in d v w)) (ray_other d e w we s) ∙ times_zero (coefficient_in d v w)
+          by false s = ap (times (dictionary_coefficient d v w)) (ray_other d e w we s) ∙ times_zero (dictionary_coefficient d v w)
 
-  ray_nonneg : ((v : ℕ) → v < n → limits d e v ≡ false) → (w : ℕ) → w < n → IsNonneg (ray d e w)
+  ray_nonneg : ((v : ℕ) → v < n → is_limiting d e v ≡ false) → (w : ℕ) → w < n → IsNonneg (ray d e w)
   ray_nonneg h w p = ⊎_elim
       (λ (s : w ≡ e). subst (λ (u : ℕ). IsNonneg (ray d e u)) (sym s) (subst IsNonneg (sym (ray_entering d e)) one_nonneg))
       (λ (k : w ≢ e). by k (d.is_basic w) refl)
@@ -96,7 +96,7 @@ module _ (n : ℕ) (d : Dictionary) (e : ℕ) (g : Enters n d e) where
           by false s = ap (times (price d w)) (ray_other d e w we s) ∙ times_zero (price d w)
 
 pub is_limited : (p : LinearProgram) (d : Dictionary) (e : ℕ) → IsProgram p → IsReached p d → Enters (count p) d e
-    → ((v : ℕ) → v < count p → limits d e v ≡ false) → ⊥
+    → ((v : ℕ) → v < count p → is_limiting d e v ≡ false) → ⊥
 is_limited p d e g r n h =
     let x = ray d e in
     let holds = r.back zero_of x (ray_holds (count p) d e n) in
@@ -104,7 +104,7 @@ is_limited p d e g r n h =
     let positive : IsPositive (low (x 0)) = subst IsPositive (sym grows) (positive_lowest (d.cost e).num (d.cost e).den n.cost.sign) in
     let slack : IsNonneg (x (p.columns + 0)) = ray_nonneg (count p) d e n h (p.columns + 0) (omega (arith, g.rows)) in
     let row = start_says p zero_of x holds 0 g.rows in
-    let first : total (λ j. times (coefficient p 0 j) (x j)) p.columns ≡ low (x 0) =
+    let first : fraction_sum (λ j. times (coefficient p 0 j) (x j)) p.columns ≡ low (x 0) =
     total_pick (λ j. times (coefficient p 0 j) (x j)) 0 p.columns g.wide (λ j q s. ap (λ (t : Exact). times t (x j)) (g.cap j q ∙ none j s) ∙ zero_times (x j))
     ∙ (ap low (ap (λ (t : Exact). times t (x 0)) (g.cap 0 g.wide) ∙ one_times (x 0)) ∙ low_low _ _) in
     let all : plus (low (x 0)) (x (p.columns + 0)) ≡ zero_of = ap (λ (t : Exact). plus t (x (p.columns + 0))) (sym first) ∙ (row ∙ zero_times (bound_at p 0)) in
@@ -120,16 +120,16 @@ is_limited p d e g r n h =
 pub always_leaves : (p : LinearProgram) (d : Dictionary) (e : ℕ) → IsProgram p → IsReached p d → Enters (count p) d e → leaving (count p) d e ≡ None → ⊥
 always_leaves p d e g r n h = ⊎_elim
     (is_limited p d e g r n)
-    (λ (s : IsSmallest (limits d e) (ratio d e) (count p)).
-    let test : (u : ℕ) → u < count p → (not (limits d e u) || not (is_gt (exact_cmp (ratio d e s.place) (ratio d e u)))) ≡ true = λ u q. passes s u q (limits d e u) refl in
-    let may : may_leave (count p) d e s.place ≡ true = and_both (limits d e s.place) (all_below (λ u. not (limits d e u) || not (is_gt (exact_cmp (ratio d e s.place) (ratio d e u)))) (count p)) s.fit (all_true _ (count p) test) in
+    (λ (s : IsSmallest (is_limiting d e) (ratio d e) (count p)).
+    let test : (u : ℕ) → u < count p → (not (is_limiting d e u) || not (is_gt (exact_cmp (ratio d e s.place) (ratio d e u)))) ≡ true = λ u q. passes s u q (is_limiting d e u) refl in
+    let may : may_leave (count p) d e s.place ≡ true = and_both (is_limiting d e s.place) (all_below (λ u. not (is_limiting d e u) || not (is_gt (exact_cmp (ratio d e s.place) (ratio d e u)))) (count p)) s.fit (all_true _ (count p) test) in
     true_false (sym may ∙ first_none (may_leave (count p) d e) (count p) s.place h s.within))
-    (smallest (limits d e) (ratio d e) (count p))
+    (smallest (is_limiting d e) (ratio d e) (count p))
   where
     true_false : true ≡ false → ⊥
     true_false e = absurd cc
 
-    passes : (s : IsSmallest (limits d e) (ratio d e) (count p)) (u : ℕ) → u < count p → (t : Bool) → limits d e u ≡ t
-        → (not (limits d e u) || not (is_gt (exact_cmp (ratio d e s.place) (ratio d e u)))) ≡ true
+    passes : (s : IsSmallest (is_limiting d e) (ratio d e) (count p)) (u : ℕ) → u < count p → (t : Bool) → is_limiting d e u ≡ t
+        → (not (is_limiting d e u) || not (is_gt (exact_cmp (ratio d e s.place) (ratio d e u)))) ≡ true
     passes s u q true k = rw k (test_at_most (ratio d e s.place) (ratio d e u) (s.least u q k))
     passes s u q false k = rw k refl

@@ -19,8 +19,8 @@ abbrev pub count : LinearProgram → ℕ
 count p = p.columns + length p.rows
 
 -- the slacks are basic, and the objective is column 0
-abbrev pub start : LinearProgram → Dictionary
-start p = record {
+abbrev pub start_dictionary : LinearProgram → Dictionary
+start_dictionary p = record {
   is_basic = λ v. not (nat_lt v p.columns);
   bound = λ v. bound_at p (v - p.columns);
   entry = λ v w. coefficient p (v - p.columns) w;
@@ -28,18 +28,18 @@ start p = record {
   cost = λ w. unit 0 w;
 }
 
-abbrev pub quotient : Exact → Exact → Exact
-quotient a b = times a (inverse b)
+abbrev pub fraction_quotient : Exact → Exact → Exact
+fraction_quotient a b = times a (inverse b)
 
 abbrev pub less_product : Exact → Exact → Exact → Exact
 less_product a q b = plus a (minus (times q b))
 
 -- the row of the entering variable: that of the leaving one, solved for it
 abbrev pub new_bound : Dictionary → ℕ → ℕ → Exact
-new_bound d e r = quotient (d.bound r) (d.entry r e)
+new_bound d e r = fraction_quotient (d.bound r) (d.entry r e)
 
 abbrev pub new_entry : Dictionary → ℕ → ℕ → ℕ → Exact
-new_entry d e r w = quotient (cond (nat_eq w r) one_of (d.entry r w)) (d.entry r e)
+new_entry d e r w = fraction_quotient (cond (nat_eq w r) one_of (d.entry r w)) (d.entry r e)
 
 -- what becomes of a coefficient a at w in a line whose coefficient at the entering variable is q
 abbrev pub replaced : Dictionary → ℕ → ℕ → Exact → ℕ → Exact → Exact

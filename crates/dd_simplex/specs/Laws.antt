@@ -3,8 +3,8 @@ use Rattle.std.specs.Prelude.{◌≡◌, ℕ, zero, suc, ◌+◌, ◌<◌, ◌�
 use Rattle.std.specs.Bool.{nat_eq}
 use Rattle.dd_fraction.specs.Exact.{Exact, plus, times, minus, low}
 use Rattle.dd_fraction.specs.Order.{IsNonneg}
-use Rattle.dd_simplex.specs.Programs.{LinearProgram, coefficient, bound_at, unit, total, zero_of, one_of}
-use Rattle.dd_simplex.specs.Dictionaries.{Dictionary, count, start, pivoted}
+use Rattle.dd_simplex.specs.Programs.{LinearProgram, coefficient, bound_at, unit, fraction_sum, zero_of, one_of}
+use Rattle.dd_simplex.specs.Dictionaries.{Dictionary, count, start_dictionary, pivoted}
 use Rattle.dd_simplex.specs.Runs.{entering, leaving, RunEnds, RunOverflows, RunPivots}
 
 pub record DoesEnd (p : LinearProgram) (k : ℕ) : Type 0 where
@@ -30,13 +30,13 @@ abbrev pub leaving_for : ℕ → Dictionary → Option ℕ → Option ℕ
 leaving_for n d (Some e) = leaving n d e
 leaving_for n d None = None
 
-abbrev pub after : ℕ → ℕ → Dictionary → Option Dictionary
-after n zero d = Some d
-after n (suc k) d = after_turn (after n k) d (entering n d) (leaving_for n d (entering n d))
+abbrev pub dictionary_after : ℕ → ℕ → Dictionary → Option Dictionary
+dictionary_after n zero d = Some d
+dictionary_after n (suc k) d = after_turn (dictionary_after n k) d (entering n d) (leaving_for n d (entering n d))
 
 -- the coefficient of a variable in the row of v, and in the objective: 1 at v, and 0 at each other basic variable
-abbrev pub coefficient_in : Dictionary → ℕ → ℕ → Exact
-coefficient_in d v w = cond (nat_eq w v) one_of (cond (d.is_basic w) zero_of (d.entry v w))
+abbrev pub dictionary_coefficient : Dictionary → ℕ → ℕ → Exact
+dictionary_coefficient d v w = cond (nat_eq w v) one_of (cond (d.is_basic w) zero_of (d.entry v w))
 
 abbrev pub price : Dictionary → ℕ → Exact
 price d w = cond (d.is_basic w) zero_of (d.cost w)
@@ -44,22 +44,22 @@ price d w = cond (d.is_basic w) zero_of (d.cost w)
 -- the row of v is a combination of the program's rows: what it has at their slacks times each
 pub record IsCombination (p : LinearProgram) (d : Dictionary) (v : ℕ) : Type 0 where
   pub columns : (j : ℕ) → j < p.columns
-      → low (coefficient_in d v j) ≡ total (λ k. times (coefficient_in d v (p.columns + k)) (coefficient p k j)) (length p.rows)
-  pub bound : low (d.bound v) ≡ total (λ k. times (coefficient_in d v (p.columns + k)) (bound_at p k)) (length p.rows)
+      → low (dictionary_coefficient d v j) ≡ fraction_sum (λ k. times (dictionary_coefficient d v (p.columns + k)) (coefficient p k j)) (length p.rows)
+  pub bound : low (d.bound v) ≡ fraction_sum (λ k. times (dictionary_coefficient d v (p.columns + k)) (bound_at p k)) (length p.rows)
 
 -- the objective is that of the program less such a combination, by what it has at the slacks
 pub record IsReducedObjective (p : LinearProgram) (d : Dictionary) : Type 0 where
   pub columns : (j : ℕ) → j < p.columns
-      → plus (price d j) (total (λ k. times (minus (price d (p.columns + k))) (coefficient p k j)) (length p.rows)) ≡ low (unit 0 j)
-  pub value : low d.value ≡ total (λ k. times (minus (price d (p.columns + k))) (bound_at p k)) (length p.rows)
+      → plus (price d j) (fraction_sum (λ k. times (minus (price d (p.columns + k))) (coefficient p k j)) (length p.rows)) ≡ low (unit 0 j)
+  pub value : low d.value ≡ fraction_sum (λ k. times (minus (price d (p.columns + k))) (bound_at p k)) (length p.rows)
 
 -- each dictionary of a run: its rows and its objective come from the program's, no bound is below 0, and where a variable
 -- enters, another leaves
-pub record IsSound (p : LinearProgram) (d : Dictionary) : Type 0 where
+pub record IsSoundDictionary (p : LinearProgram) (d : Dictionary) : Type 0 where
   pub rows : (v : ℕ) → v < count p → d.is_basic v ≡ true → IsCombination p d v
   pub objective : IsReducedObjective p d
   pub bounds : (v : ℕ) → v < count p → d.is_basic v ≡ true → IsNonneg (d.bound v)
   pub leaves : (e : ℕ) → entering (count p) d ≡ Some e → leaving (count p) d e ≡ None → ⊥
 
-abbrev pub AreSound : LinearProgram → Type 0
-AreSound p = (k : ℕ) (d : Dictionary) → after (count p) k (start p) ≡ Some d → IsSound p d
+abbrev pub AreSoundDictionaries : LinearProgram → Type 0
+AreSoundDictionaries p = (k : ℕ) (d : Dictionary) → dictionary_after (count p) k (start_dictionary p) ≡ Some d → IsSoundDictionary p d

@@ -6,14 +6,14 @@ use Rattle.dd_fraction.specs.Exact.{Exact, plus, times, whole_of}
 use Rattle.dd_fraction.specs.Order.{IsAtMost, IsNonneg}
 
 -- the sum of coefficient times column is at most the bound
-pub record Row : Type 0 where
+pub record ProgramRow : Type 0 where
   pub coefficients : List Exact
   pub bound : Exact
 
 -- maximise column 0 under the rows, each column at least 0
 pub record LinearProgram : Type 0 where
   pub columns : ℕ
-  pub rows : List Row
+  pub rows : List ProgramRow
 
 abbrev pub zero_of : Exact
 zero_of = whole_of (pos 0)
@@ -24,11 +24,11 @@ one_of = whole_of (pos 1)
 abbrev pub fraction_at : List Exact → ℕ → Exact
 fraction_at xs i = slice_index_or xs i zero_of
 
-abbrev pub row_in : List Row → ℕ → Row
-row_in rows k = slice_index_or rows k (record { coefficients = []; bound = zero_of })
+abbrev pub program_row : List ProgramRow → ℕ → ProgramRow
+program_row rows k = slice_index_or rows k (record { coefficients = []; bound = zero_of })
 
-abbrev pub row_at : LinearProgram → ℕ → Row
-row_at p k = row_in p.rows k
+abbrev pub row_at : LinearProgram → ℕ → ProgramRow
+row_at p k = program_row p.rows k
 
 abbrev pub coefficient : LinearProgram → ℕ → ℕ → Exact
 coefficient p k j = fraction_at (row_at p k).coefficients j
@@ -41,7 +41,7 @@ abbrev pub unit : ℕ → ℕ → Exact
 unit v w = cond (nat_eq v w) one_of zero_of
 
 -- column 0 at most the cap
-abbrev pub cap_row : ℕ → ℤ → Row
+abbrev pub cap_row : ℕ → ℤ → ProgramRow
 cap_row columns cap = record { coefficients = one_of ∷ replicate (columns - 1) zero_of; bound = whole_of cap }
 
 -- the first row is that of a cap, each row has its coefficients, and no bound is below 0
@@ -53,16 +53,16 @@ pub record IsProgram (p : LinearProgram) : Type 0 where
   pub cap : (j : ℕ) → j < p.columns → coefficient p 0 j ≡ unit 0 j
 
 -- f 0 + .. + f (n - 1)
-abbrev pub total : (ℕ → Exact) → ℕ → Exact
-total f zero = zero_of
-total f (suc n) = plus (total f n) (f n)
+abbrev pub fraction_sum : (ℕ → Exact) → ℕ → Exact
+fraction_sum f zero = zero_of
+fraction_sum f (suc n) = plus (fraction_sum f n) (f n)
 
 -- columns of at least 0 that meet each row
 pub record IsFeasible (p : LinearProgram) (columns : List Exact) : Type 0 where
   pub size : length columns ≡ p.columns
   pub signs : (j : ℕ) → j < p.columns → IsNonneg (fraction_at columns j)
   pub rows : (k : ℕ) → k < length p.rows
-      → IsAtMost (total (λ j. times (coefficient p k j) (fraction_at columns j)) p.columns) (bound_at p k)
+      → IsAtMost (fraction_sum (λ j. times (coefficient p k j) (fraction_at columns j)) p.columns) (bound_at p k)
 
 -- factors of at least 0, one for each row: the rows times their factors sum to at least 1 in column 0, and at least 0 in
 -- each other column
@@ -70,16 +70,16 @@ pub record AreDuals (p : LinearProgram) (duals : List Exact) : Type 0 where
   pub size : length duals ≡ length p.rows
   pub signs : (k : ℕ) → k < length p.rows → IsNonneg (fraction_at duals k)
   pub sums : (j : ℕ) → j < p.columns
-      → IsAtMost (unit 0 j) (total (λ k. times (fraction_at duals k) (coefficient p k j)) (length p.rows))
+      → IsAtMost (unit 0 j) (fraction_sum (λ k. times (fraction_at duals k) (coefficient p k j)) (length p.rows))
 
 -- the bounds times the duals
-abbrev pub dual_worth : LinearProgram → List Exact → Exact
-dual_worth p duals = total (λ k. times (fraction_at duals k) (bound_at p k)) (length p.rows)
+abbrev pub dual_objective : LinearProgram → List Exact → Exact
+dual_objective p duals = fraction_sum (λ k. times (fraction_at duals k) (bound_at p k)) (length p.rows)
 
 -- columns and duals of equal value, so that no columns give more
 pub record IsBest (p : LinearProgram) (value : Exact) (columns duals : List Exact) : Type 0 where
   pub feasible : IsFeasible p columns
   pub dual : AreDuals p duals
   pub column : fraction_at columns 0 ≡ value
-  pub worth : dual_worth p duals ≡ value
+  pub worth : dual_objective p duals ≡ value
   pub best : (others : List Exact) → IsFeasible p others → IsAtMost (fraction_at others 0) value

@@ -11,7 +11,7 @@ use Rattle.dd_fraction.specs.Checked.{does_product_fit, does_sum_fit}
 use Rattle.dd_simplex.specs.declared.fault.SimplexFault.{SimplexFault}
 use Rattle.dd_simplex.specs.declared.fault.SimplexFault.TheVariants as fault
 use Rattle.dd_simplex.specs.Programs.{LinearProgram, fraction_at, zero_of, one_of}
-use Rattle.dd_simplex.specs.Dictionaries.{Dictionary, count, start, pivoted, quotient, new_bound, new_entry}
+use Rattle.dd_simplex.specs.Dictionaries.{Dictionary, count, start_dictionary, pivoted, fraction_quotient, new_bound, new_entry}
 
 abbrev pub is_over : Exact → Bool
 is_over a = int_lt (pos 0) a.num
@@ -39,15 +39,15 @@ entering n d = first_below (may_enter d) n
 
 -- how far the entering variable e can grow before v falls to 0
 abbrev pub ratio : Dictionary → ℕ → ℕ → Exact
-ratio d e v = quotient (d.bound v) (d.entry v e)
+ratio d e v = fraction_quotient (d.bound v) (d.entry v e)
 
-abbrev pub limits : Dictionary → ℕ → ℕ → Bool
-limits d e v = d.is_basic v && is_over (d.entry v e)
+abbrev pub is_limiting : Dictionary → ℕ → ℕ → Bool
+is_limiting d e v = d.is_basic v && is_over (d.entry v e)
 
 -- v limits e, and no variable has a smaller ratio
 abbrev pub may_leave : ℕ → Dictionary → ℕ → ℕ → Bool
 may_leave n d e v =
-    limits d e v && all_below (λ u. not (limits d e u) || not (is_gt (exact_cmp (ratio d e v) (ratio d e u)))) n
+    is_limiting d e v && all_below (λ u. not (is_limiting d e u) || not (is_gt (exact_cmp (ratio d e v) (ratio d e u)))) n
 
 abbrev pub leaving : ℕ → Dictionary → ℕ → Option ℕ
 leaving n d e = first_below (may_leave n d e) n
@@ -61,7 +61,7 @@ does_less_fit a q b = does_product_fit q b && does_sum_fit a (minus (times q b))
 
 -- the numbers of the ratios
 abbrev pub do_ratios_fit : ℕ → Dictionary → ℕ → Bool
-do_ratios_fit n d e = all_below (λ v. not (limits d e v) || does_quotient_fit (d.bound v) (d.entry v e)) n
+do_ratios_fit n d e = all_below (λ v. not (is_limiting d e v) || does_quotient_fit (d.bound v) (d.entry v e)) n
 
 -- those of the entering variable's row: the quotient of 1 stands where the leaving variable comes to stand
 abbrev pub does_row_fit : ℕ → Dictionary → ℕ → ℕ → Bool
@@ -112,7 +112,7 @@ run n zero d = turn_or_end (λ e. AtLimit) d (entering n d)
 run n (suc k) d = turn_or_end (λ e. turn (run n k) n d e (leaving n d e)) d (entering n d)
 
 abbrev pub stop_of : LinearProgram → ℕ → Stop
-stop_of p k = run (count p) k (start p)
+stop_of p k = run (count p) k (start_dictionary p)
 
 -- a column's value, and a row's dual
 abbrev pub column_of : Dictionary → ℕ → Exact
@@ -138,7 +138,7 @@ abbrev pub RunPivots : LinearProgram → ℕ → Type 0
 RunPivots p k = stop_of p k ≡ AtLimit
 
 -- what each refusal says of the run
-abbrev pub IsRefusal : LinearProgram → ℕ → SimplexFault → Type 0
-IsRefusal p k fault.Overflow = RunOverflows p k
-IsRefusal p k fault.Pivots = RunPivots p k
-IsRefusal p k fault.Memory = Unit {0}
+abbrev pub IsRunRefusal : LinearProgram → ℕ → SimplexFault → Type 0
+IsRunRefusal p k fault.Overflow = RunOverflows p k
+IsRunRefusal p k fault.Pivots = RunPivots p k
+IsRunRefusal p k fault.Memory = Unit {0}

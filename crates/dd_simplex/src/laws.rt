@@ -1,5 +1,5 @@
 //! Laws of runs.
-ghost use Rattle.dd_simplex.specs.Laws.{HasOneStop, AreSound};
+ghost use Rattle.dd_simplex.specs.Laws.{HasOneStop, AreSoundDictionaries};
 
 use crate::program::Program;
 
@@ -14,7 +14,7 @@ pub fn one_stop(_program: &Program, _pivots: u32)
 /// Does nothing; its contract is the law of the dictionaries on the way: their rows and objective are combinations of the
 /// program's rows, no bound falls below 0, and a variable always leaves, so that no run is unbounded.
 pub fn sound_pivots(_program: &Program)
-    ensures { AreSound _program.now }
+    ensures { AreSoundDictionaries _program.now }
 {
     let _columns = _program.columns();
 }

@@ -3,7 +3,7 @@ ghost use Rattle.std.specs.Prelude.{◌≡◌, [], ◌∷◌, ◌++◌, ◌<◌,
 ghost use lib.IntN.{pos};
 ghost use lib.Signed.{◌≤ℤ◌};
 ghost use Rattle.dd_fraction.specs.Order.{IsNonneg};
-ghost use Rattle.dd_simplex.specs.Programs.{LinearProgram, Row, IsProgram, cap_row};
+ghost use Rattle.dd_simplex.specs.Programs.{LinearProgram, ProgramRow, IsProgram, cap_row};
 
 use dd_fraction::Fraction;
 use std::alloc::{AllocError, Global};
@@ -17,9 +17,9 @@ pub struct Constraint {
 }
 
 impl Model for Constraint {
-    ghost use Rattle.dd_simplex.specs.Programs.{Row};
+    ghost use Rattle.dd_simplex.specs.Programs.{ProgramRow};
 
-    ghost Value = { Row };
+    ghost Value = { ProgramRow };
 
     ghost view = { λ c. record { coefficients = c.coefficients.items; bound = c.bound } };
 }

@@ -1,7 +1,7 @@
 // The run: turns by Bland's rule, until nothing enters.
 ghost use Rattle.std.specs.Prelude.{◌≡◌, IfOk, IfErr};
 ghost use Rattle.dd_simplex.specs.Programs.{IsBest};
-ghost use Rattle.dd_simplex.specs.Runs.{RunEnds, IsRefusal};
+ghost use Rattle.dd_simplex.specs.Runs.{RunEnds, IsRunRefusal};
 
 use crate::fault::SimplexFault;
 use crate::program::Program;
@@ -15,7 +15,7 @@ use std::alloc::{AllocError, Global};
 pub fn maximise(alloc: Global, program: &Program, pivots: u32) -> Result<Solved, SimplexFault>
     ensures ends { IfOk result (λ solved. RunEnds program.now pivots solved.value solved.columns solved.duals) }
     ensures best { IfOk result (λ solved. IsBest program.now solved.value solved.columns solved.duals) }
-    ensures refusal { IfErr result (λ fault. IsRefusal program.now pivots fault) }
+    ensures refusal { IfErr result (λ fault. IsRunRefusal program.now pivots fault) }
 {
     let columns = program.columns();
     let mut tableau = first_tableau(alloc, program)?;

@@ -5,7 +5,7 @@ ghost use lib.IntN.{pos};
 ghost use Rattle.dd_simplex.specs.declared.fault.SimplexFault.TheVariants.{Overflow};
 ghost use Rattle.dd_fraction.specs.Exact.{plus, times};
 ghost use Rattle.dd_simplex.specs.Programs.{fraction_at, zero_of};
-ghost use Rattle.dd_simplex.specs.table.Lines.{HasFractions, Line as LineValue, Table, line_at, changed_table, does_table_fit, does_objective_fit, less};
+ghost use Rattle.dd_simplex.specs.table.Lines.{HasFractions, Line as LineValue, Table, line_at, changed_table, does_table_fit, does_objective_line_fit, less};
 ghost use Rattle.dd_simplex.specs.table.Standing.{IsTable};
 ghost use Rattle.dd_simplex.specs.table.Steps.{DoesEnter, HasTurned, IsStuck};
 ghost use Rattle.dd_simplex.specs.table.Choices.{IsChosen, does_enter, EntersBefore, does_limit, LeavesBefore, DoRatiosFit, HasMisfit, does_precede};
@@ -95,7 +95,7 @@ impl Tableau {
 fn pivot_objective(value: &mut Fraction, costs: &mut [Fraction], e: usize, pivot: &Line) -> bool
     requires place { e < length costs.old }
     requires size { length costs.old ≡ length pivot.now.cells }
-    ensures fits { result ≡ does_objective_fit e pivot.now value.old costs.old }
+    ensures fits { result ≡ does_objective_line_fit e pivot.now value.old costs.old }
     ensures value { result ≡ true → value.new ≡ plus value.old (times (fraction_at costs.old e) pivot.now.bound) }
     ensures costs { result ≡ true → costs.new ≡ less (fraction_at costs.old e) (slice_set costs.old e zero_of) pivot.now.cells }
 {

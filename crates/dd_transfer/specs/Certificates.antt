@@ -29,7 +29,7 @@ pub record IsClosedWalk (r : LocalRule) (s : Strip) (walk : List ℕ) : Type 0 w
   pub some : 0 < length walk
 
 -- the fraction n / d is a / b in lowest terms
-pub record IsLowest (n d a b : ℕ) : Type 0 where
+pub record IsInLowestTerms (n d a b : ℕ) : Type 0 where
   pub same : n * b ≡ a * d
   pub lowest : IsGcd n d 1
   pub positive : 0 < d
@@ -48,8 +48,8 @@ pub record IsDensityCertificate (r : LocalRule) (s : Strip) (weights : List ℕ)
   pub m : ℕ
   pub l : ℕ
   pub closed : IsClosedWalk r s walk
-  pub mean : IsLowest m l (walk_weight r s weights walk) (length walk)
-  pub density : IsLowest p q m (l * positions s)
+  pub mean : IsInLowestTerms m l (walk_weight r s weights walk) (length walk)
+  pub density : IsInLowestTerms p q m (l * positions s)
   pub potentials : ArePotentials r s weights m l ps
 
 -- a rank for each state, which falls along each edge

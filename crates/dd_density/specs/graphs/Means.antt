@@ -1,7 +1,7 @@
 -- The density of a least mean over the positions of a slice.
 use Rattle.std.specs.Prelude.{◌≡◌, ℕ, ◌*◌, ◌<◌, ◌≤◌, ◌^◌, List, ℤ}
 use Rattle.std.specs.List.{All}
-use Rattle.dd_transfer.specs.Certificates.{IsLowest}
+use Rattle.dd_transfer.specs.Certificates.{IsInLowestTerms}
 use Rattle.dd_meancycle.specs.declared.least.Mean.{Mean}
 use Rattle.dd_meancycle.specs.declared.least.Mean.TheVariants as mean
 use Rattle.dd_density.specs.declared.answer.Density.{Density}
@@ -13,7 +13,7 @@ IsMeanOver volume (mean.Least m l cycle ps) = (0 < l * volume) × (l * volume �
 IsMeanOver volume (mean.NoCycle ranks) = Unit {0}
 
 pub record IsDensityOf (volume m l : ℕ) (cycle : List ℕ) (ps : List ℤ) (p q : ℕ) (walk : List ℕ) (qs : List ℤ) : Type 0 where
-  pub density : IsLowest p q m (l * volume)
+  pub density : IsInLowestTerms p q m (l * volume)
   pub walk_is : walk ≡ cycle
   pub potentials_are : qs ≡ ps
   pub small : All (λ u. u < 2 ^ 32) walk

@@ -1,15 +1,15 @@
 -- What shows the least density, or that there is none, over a transfer graph.
 use Rattle.std.specs.Prelude.{◌≡◌, ℕ, ◌*◌, ◌<◌, ℤ, pos, ◌-ℤ◌, ◌≤ℤ◌, List, length, slice_index, Some}
 use Rattle.dd_transfer.specs.Graphs.{Transfer, next_of, weight_at}
-use Rattle.dd_transfer.specs.Certificates.{IsLowest, potential_of}
+use Rattle.dd_transfer.specs.Certificates.{IsInLowestTerms, potential_of}
 use Rattle.dd_meancycle.specs.Means.{IsCycle, ArePotentials, AreRanks, weight_of}
 
 pub record IsShown (g : Transfer) (volume p q : ℕ) (walk : List ℕ) (ps : List ℤ) : Type 0 where
   pub m : ℕ
   pub l : ℕ
   pub cycle : IsCycle g walk
-  pub mean : IsLowest m l (weight_of g walk) (length walk)
-  pub density : IsLowest p q m (l * volume)
+  pub mean : IsInLowestTerms m l (weight_of g walk) (length walk)
+  pub density : IsInLowestTerms p q m (l * volume)
   pub each : length ps ≡ g.states
   pub potentials : ArePotentials g m l ps
 

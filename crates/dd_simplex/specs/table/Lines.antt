@@ -74,8 +74,8 @@ do_lines_fit e r entering lines =
     && (list_all (does_changed_fit e pivot) (take r lines) && list_all (does_changed_fit e pivot) (drop (r + 1) lines))
 
 -- the objective
-abbrev pub does_objective_fit : ℕ → Line → Exact → List Exact → Bool
-does_objective_fit e pivot value costs =
+abbrev pub does_objective_line_fit : ℕ → Line → Exact → List Exact → Bool
+does_objective_line_fit e pivot value costs =
     let c = fraction_at costs e in
     (does_product_fit c pivot.bound && does_sum_fit value (times c pivot.bound))
     && do_all_less_fit c (slice_set costs e zero_of) pivot.cells
@@ -95,7 +95,7 @@ changed_table e r t =
 abbrev pub does_table_fit : ℕ → ℕ → Table → Bool
 does_table_fit e r t =
     let pivot = solved_line (other_at t.others e) e (line_at t.lines r) in
-    do_lines_fit e r (other_at t.others e) t.lines && does_objective_fit e pivot t.value t.costs
+    do_lines_fit e r (other_at t.others e) t.lines && does_objective_line_fit e pivot t.value t.costs
 
 -- the numbers of a line are in lowest terms, and at most 2^127 - 1 in absolute value
 pub record HasFractions (l : Line) : Type 0 where

@@ -1,7 +1,7 @@
 -- One turn of the code, and the tables at a run's start and end.
 use Rattle.std.specs.Prelude.{◌≡◌, ℕ, ◌+◌, ◌<◌, ◌⊎◌, List, length, true, false, Option, Some, None}
 use Rattle.dd_fraction.specs.Checked.{IsFraction}
-use Rattle.dd_simplex.specs.Programs.{LinearProgram, Row, row_at, row_in, coefficient, bound_at, unit, fraction_at, zero_of}
+use Rattle.dd_simplex.specs.Programs.{LinearProgram, ProgramRow, row_at, program_row, coefficient, bound_at, unit, fraction_at, zero_of}
 use Rattle.dd_simplex.specs.table.Lines.{Line, Table, line_at, other_at, changed_table, does_table_fit}
 use Rattle.dd_simplex.specs.table.Choices.{IsChosen, does_enter, EntersBefore, does_limit, LeavesBefore, DoRatiosFit, HasMisfit}
 
@@ -49,11 +49,11 @@ pub record IsStart (p : LinearProgram) (t : Table) : Type 0 where
   pub bounds : (i : ℕ) → i < length p.rows → IsFraction (bound_at p i)
 
 -- a line whose basic variable is v has the numbers of a row, which are fractions
-pub record IsLineOf (row : Row) (v : ℕ) (l : Line) : Type 0 where
+pub record IsLineOf (row : ProgramRow) (v : ℕ) (l : Line) : Type 0 where
   pub is : l ≡ record { basic = v; bound = row.bound; cells = row.coefficients }
   pub bound : IsFraction row.bound
   pub fractions : (j : ℕ) → j < length row.coefficients → IsFraction (fraction_at row.coefficients j)
 
-pub record AreLinesOf (rows : List Row) (columns : ℕ) (lines : List Line) : Type 0 where
+pub record AreLinesOf (rows : List ProgramRow) (columns : ℕ) (lines : List Line) : Type 0 where
   pub size : length lines ≡ length rows
-  pub each : (i : ℕ) → i < length rows → IsLineOf (row_in rows i) (columns + i) (line_at lines i)
+  pub each : (i : ℕ) → i < length rows → IsLineOf (program_row rows i) (columns + i) (line_at lines i)

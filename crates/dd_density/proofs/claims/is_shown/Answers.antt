@@ -1,5 +1,5 @@
 use Rattle.std.proofs.Common.{ℕ, ◌<◌, ◌^◌, length, arith, subst}
-use Rattle.dd_transfer.specs.Certificates.{IsLowest}
+use Rattle.dd_transfer.specs.Certificates.{IsInLowestTerms}
 use Rattle.dd_density.proofs.Fractions.{lowest_small}
 use Rattle.dd_density.proofs.Shown.{AreFound, found_same, shown_found, small_product, some_product}
 use Rattle.dd_density.proofs.claims.is_shown.Goals as goal
@@ -21,7 +21,7 @@ returns-then-density-numerator c =
     let dd = c.in_lowest_terms-density.result.denominator in
     let found : AreFound g c.args.volume walk mn md dn dd = record {
       cycle = c.in-Some.ensures.0;
-      mean = subst (λ (w : ℕ). IsLowest mn md w (length walk)) c.in-Some.ensures.1 c.in_lowest_terms-mean.ensures;
+      mean = subst (λ (w : ℕ). IsInLowestTerms mn md w (length walk)) c.in-Some.ensures.1 c.in_lowest_terms-mean.ensures;
       density = c.in_lowest_terms-density.ensures;
       some = some_product md c.args.volume c.in_lowest_terms-mean.ensures.positive c.requires.some;
     } in (
@@ -54,7 +54,7 @@ returns c =
     let dd = c.in_lowest_terms-density.result.denominator in
     let found : AreFound g c.args.volume walk mn md dn dd = record {
       cycle = c.in-Some.ensures.0;
-      mean = subst (λ (w : ℕ). IsLowest mn md w (length walk)) c.in-Some.ensures.1 c.in_lowest_terms-mean.ensures;
+      mean = subst (λ (w : ℕ). IsInLowestTerms mn md w (length walk)) c.in-Some.ensures.1 c.in_lowest_terms-mean.ensures;
       density = c.in_lowest_terms-density.ensures;
       some = some_product md c.args.volume c.in_lowest_terms-mean.ensures.positive c.requires.some;
     } in

@@ -12,10 +12,10 @@ use Rattle.dd_rows.specs.declared.rows.Row.{Row}
 use Rattle.dd_discharge.proofs.Tabulated.{row_is, first_program, next_program}
 use Rattle.dd_discharge.proofs.best.linear_program.Goals as goal
 
-abbrev of_rows : ℕ → List simplex.Row → LinearProgram
+abbrev of_rows : ℕ → List simplex.ProgramRow → LinearProgram
 of_rows n rows = record { columns = n; rows = rows }
 
-abbrev row_of : List Exact → Exact → simplex.Row
+abbrev row_of : List Exact → Exact → simplex.ProgramRow
 row_of cs b = record { coefficients = cs; bound = b }
 
 pub loop-i-init : goal.loop-i-init

@@ -4,7 +4,7 @@ use Rattle.dd_simplex.specs.declared.fault.SimplexFault.TheVariants as fault
 use Rattle.dd_simplex.specs.declared.solution.Solved.{Solved}
 use Rattle.std.specs.Prelude.{Result, Ok, Err, IsErrAnd, IfErr}
 use Rattle.dd_simplex.specs.Programs.{LinearProgram}
-use Rattle.dd_simplex.specs.Runs.{IsRefusal, stop_of, Overflows}
+use Rattle.dd_simplex.specs.Runs.{IsRunRefusal, stop_of, Overflows}
 use Rattle.dd_simplex.specs.table.Lines.{Table}
 use Rattle.dd_simplex.specs.table.Steps.{DoesEnter}
 use Rattle.dd_simplex.proofs.Running.{IsAlong, along_start, along_turn, along_stuck, along_limit, others_within, read_ends, read_best}
@@ -17,7 +17,7 @@ none_left : (k i : ℕ) → k ≤ i → k - i ≡ 0
 none_left k i p = omega arith
 
 refused : (p : LinearProgram) (k : ℕ) (r : Result Solved SimplexFault) (f : SimplexFault) → f ≡ fault.Overflow → stop_of p k ≡ Overflows → IsErrAnd r (λ e. e ≡ f)
-    → IfErr r (λ e. IsRefusal p k e)
+    → IfErr r (λ e. IsRunRefusal p k e)
 refused p k (Ok x) f s o h = tt
 refused p k (Err e) f s o h = rw (h ∙ s) o
 

@@ -1,5 +1,5 @@
 use Rattle.std.proofs.Common.{◌≡◌, ℕ, ◌+◌, ◌<◌, length}
-use Rattle.dd_simplex.specs.Programs.{row_in}
+use Rattle.dd_simplex.specs.Programs.{program_row}
 use Rattle.dd_simplex.specs.table.Lines.{line_at}
 use Rattle.dd_simplex.specs.table.Steps.{IsLineOf}
 use Rattle.dd_simplex.proofs.start.slack_lines.Given as goal
@@ -7,5 +7,5 @@ use Rattle.dd_simplex.proofs.start.slack_lines.Given as goal
 abbrev pub invariant-loop-i : goal.invariant-loop-i
 invariant-loop-i l = record {
   size : length l.lines.items ≡ l.i;
-  each : (j : ℕ) → j < l.i → IsLineOf (row_in l.rows j) (l.columns + j) (line_at l.lines.items j);
+  each : (j : ℕ) → j < l.i → IsLineOf (program_row l.rows j) (l.columns + j) (line_at l.lines.items j);
 }
