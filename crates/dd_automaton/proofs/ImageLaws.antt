@@ -17,7 +17,7 @@ use Rattle.dd_expansion.specs.Truth.{are_equal}
 use Rattle.dd_expansion.specs.Placed.{is_flat}
 use Rattle.dd_expansion.specs.lemmas.ListTests.{list_all-weaker}
 use Rattle.dd_formula.specs.LocalRule.{is_near}
-use Rattle.dd_formula.specs.Automata.{Setting, Counted, IsAutomaton, value, counted, cases_reads, is_cell_of}
+use Rattle.dd_formula.specs.Automata.{CommonNumbers, Counted, IsAutomaton, value, counted, cases_reads, is_cell_of}
 use Rattle.dd_formula.specs.Values.{IsPlaced, CasesArePlaced, HasCasesLook, are_given}
 use Rattle.dd_formula.specs.declared.automaton.Automaton.{Automaton}
 use Rattle.dd_formula.specs.declared.automaton.Automaton.TheVariants as v
@@ -25,7 +25,7 @@ use Rattle.dd_formula.specs.declared.automaton.Cases.{Cases}
 use Rattle.dd_formula.specs.lemmas.AutomatonLaws.{counted_given, near_reads, fits_given, outer_part, inner_part}
 use Rattle.dd_formula.specs.lemmas.Reached.{read_given, below_at}
 use Rattle.dd_formula.specs.lemmas.ValueLaws.{value_composed, value_by_reads, value_below, equal_values}
-use Rattle.dd_automaton.specs.Images.{numbers_of, IsDefinedOn, IsImage}
+use Rattle.dd_automaton.specs.Images.{tile_numbers, IsDefinedOn, IsImage}
 
 -- a cell with one of the nodes has a symbol
 look_some : (t : Tile) → IsTile t → (c : Cell) → c.node < t.nodes → is_some (tile_look t c) ≡ true
@@ -40,23 +40,23 @@ equal_to_some : (a b : Option ℕ) → a ≡ b → is_some a ≡ true → are_eq
 equal_to_some None b e h = absurd (cc)
 equal_to_some (Some x) b e h = subst (λ o. are_equal (Some x) o ≡ true) e (equal_values x x refl)
 
-node_of : (s : Setting) (c : Cell) → is_cell_of s c ≡ true → c.node < s.nodes
+node_of : (s : CommonNumbers) (c : Cell) → is_cell_of s c ≡ true → c.node < s.nodes
 node_of s c h = ltb-true c.node s.nodes (and_parts (is_flat s.dimension c.position) (nat_lt c.node s.nodes) h).1
 
 -- the value at a cell is the value at the cell of the fundamental box
-pub value_at_base : (f : Automaton) (t : Tile) (n : ℕ) → IsTile t → IsAutomaton (numbers_of t n) f → IsPlaced f → (w : Place) (a : ℕ) → a < t.nodes →
+pub value_at_base : (f : Automaton) (t : Tile) (n : ℕ) → IsTile t → IsAutomaton (tile_numbers t n) f → IsPlaced f → (w : Place) (a : ℕ) → a < t.nodes →
     value f (tile_look t) (cell w a) ≡ value f (tile_look t) (cell (base_of t.periods w) a)
 value_at_base f t n ok formed placed w a node =
     let base = base_of t.periods w in
     value_by_reads f a w base (tile_look t) (tile_look t)
-    (list_all-weaker (is_cell_of (numbers_of t n)) (λ d. are_equal (tile_look t (shifted w d)) (tile_look t (shifted base d)))
+    (list_all-weaker (is_cell_of (tile_numbers t n)) (λ d. are_equal (tile_look t (shifted w d)) (tile_look t (shifted base d)))
     (λ d here. equal_to_some (tile_look t (shifted w d)) (tile_look t (shifted base d))
     (look_same t (moved d.position w) (moved d.position base) d.node (base_moved t.dimension t.periods ok.periods d.position w))
-    (look_some t ok (shifted w d) (node_of (numbers_of t n) d here)))
-    ((counted f).reads a) (placed (numbers_of t n) formed a node))
+    (look_some t ok (shifted w d) (node_of (tile_numbers t n) d here)))
+    ((counted f).reads a) (placed (tile_numbers t n) formed a node))
 
 -- the symbols of the box decide the image
-pub image_from_box : (f : Automaton) (t : Tile) (n : ℕ) → IsTile t → IsAutomaton (numbers_of t n) f → IsPlaced f → (ss : List ℕ) → length ss ≡ length t.symbols →
+pub image_from_box : (f : Automaton) (t : Tile) (n : ℕ) → IsTile t → IsAutomaton (tile_numbers t n) f → IsPlaced f → (ss : List ℕ) → length ss ≡ length t.symbols →
     ((k : ℕ) → k < length t.symbols → slice_get ss k ≡ Some (value f (tile_look t) (cell_in t k))) → IsImage f t (tile t.dimension t.periods t.nodes ss)
 image_from_box f t n ok formed placed ss as_many each = record {
   dimension = refl;
@@ -68,7 +68,7 @@ image_from_box f t n ok formed placed ss as_many each = record {
       ∙ (each k (index_below t ok c node)
       ∙ ap Some (ap (value f (tile_look t)) (cell_at_index t ok c.position c.node node) ∙ sym (value_at_base f t n ok formed placed c.position c.node node)));
   below = λ m well. below_by m ss (λ k h.
-      subst (λ o. IfSome o (λ s. s < m)) (sym (each k (omega (arith, as_many)))) (value_below (numbers_of t m) f well.fits (tile_look t) (cell_in t k)));
+      subst (λ o. IfSome o (λ s. s < m)) (sym (each k (omega (arith, as_many)))) (value_below (tile_numbers t m) f well.fits (tile_look t) (cell_in t k)));
 }
   where
     below_by : (m : ℕ) (xs : List ℕ) → ((k : ℕ) → k < length xs → IfSome (slice_get xs k) (λ s. s < m)) → All (λ s. s < m) xs
@@ -97,7 +97,7 @@ tile_is_below n t h c = by (nat_lt c.node t.nodes)
     by true = below_at n t.symbols h (tile_index t c)
     by false = tt
 
-pub given_all : (t : Tile) (s : Setting) → IsPeriodic t → s.nodes ≡ t.nodes → (c : Cell) → IsInBox t c → (ds : List Cell) → list_all is_near ds ≡ true → list_all (is_cell_of s) ds ≡ true →
+pub given_all : (t : Tile) (s : CommonNumbers) → IsPeriodic t → s.nodes ≡ t.nodes → (c : Cell) → IsInBox t c → (ds : List Cell) → list_all is_near ds ≡ true → list_all (is_cell_of s) ds ≡ true →
     are_given (tile_look t) c.position ds ≡ true
 given_all t s ok same c h [] near placed = refl
 given_all t s ok same c h (d ∷ ds) near placed =
@@ -108,7 +108,7 @@ given_all t s ok same c h (d ∷ ds) near placed =
 
 pub cases_look : (cases : Cases) (t : Tile) → IsDefinedOn (v.Given cases) t → IsPeriodic t → CasesArePlaced cases → (c : Cell) → IsInBox t c → HasCasesLook cases c (tile_look t)
 cases_look cases t h ok placed c within =
-    let s = numbers_of t h.symbols in
+    let s = tile_numbers t h.symbols in
     let fit = sym (fits_given s cases) ∙ h.formed.fits in
     record {
       setting = s;
@@ -123,16 +123,16 @@ cases_look cases t h ok placed c within =
 
 -- the image of the image
 pub defined_inner : (f g : Automaton) (t : Tile) → IsDefinedOn (v.Composed f g) t → IsDefinedOn g t
-defined_inner f g t h = record { symbols = h.symbols; formed = inner_part (numbers_of t h.symbols) f g h.formed; below = h.below }
+defined_inner f g t h = record { symbols = h.symbols; formed = inner_part (tile_numbers t h.symbols) f g h.formed; below = h.below }
 
-same_numbers : (t u : Tile) (n : ℕ) → u.dimension ≡ t.dimension → u.nodes ≡ t.nodes → numbers_of t n ≡ numbers_of u n
+same_numbers : (t u : Tile) (n : ℕ) → u.dimension ≡ t.dimension → u.nodes ≡ t.nodes → tile_numbers t n ≡ tile_numbers u n
 same_numbers t u n d a = ap (λ x. record { dimension = x; nodes = t.nodes; symbols = n }) (sym d) ∙ ap (λ x. record { dimension = u.dimension; nodes = x; symbols = n }) (sym a)
 
 pub defined_outer : (f g : Automaton) (t u : Tile) → IsDefinedOn (v.Composed f g) t → IsImage g t u → IsDefinedOn f u
 defined_outer f g t u h image = record {
   symbols = h.symbols;
-  formed = subst (λ s. IsAutomaton s f) (same_numbers t u h.symbols image.dimension image.nodes) (outer_part (numbers_of t h.symbols) f g h.formed);
-  below = image.below h.symbols (inner_part (numbers_of t h.symbols) f g h.formed);
+  formed = subst (λ s. IsAutomaton s f) (same_numbers t u h.symbols image.dimension image.nodes) (outer_part (tile_numbers t h.symbols) f g h.formed);
+  below = image.below h.symbols (inner_part (tile_numbers t h.symbols) f g h.formed);
 }
 
 pub image_composed : (f g : Automaton) (t u w : Tile) → IsDefinedOn (v.Composed f g) t → IsPlaced f → IsImage g t u → IsImage f u w → IsImage (v.Composed f g) t w
@@ -141,14 +141,14 @@ image_composed f g t u w h placed first second = record {
   periods = second.periods ∙ first.periods;
   nodes = second.nodes ∙ first.nodes;
   values = λ c node.
-      let s = numbers_of t h.symbols in
+      let s = tile_numbers t h.symbols in
       let given : Look = λ d. Some (value g (tile_look t) d) in
       let reads = list_all-weaker (is_cell_of s) (λ d. are_equal (tile_look u (shifted c.position d)) (given (shifted c.position d)))
       (λ d here. equal_to_some (tile_look u (shifted c.position d)) (given (shifted c.position d)) (first.values (shifted c.position d) (node_of s d here)) (ap is_some (first.values (shifted c.position d) (node_of s d here))))
       ((counted f).reads c.node) (placed s (outer_part s f g h.formed) c.node node) in
       second.values c (omega (arith, node, first.nodes))
       ∙ ap Some (value_by_reads f c.node c.position c.position (tile_look u) given reads ∙ sym (value_composed f g (tile_look t) c));
-  below = λ n well. second.below n (subst (λ s. IsAutomaton s f) (same_numbers t u n first.dimension first.nodes) (outer_part (numbers_of t n) f g well));
+  below = λ n well. second.below n (subst (λ s. IsAutomaton s f) (same_numbers t u n first.dimension first.nodes) (outer_part (tile_numbers t n) f g well));
 }
 
 -- one value more

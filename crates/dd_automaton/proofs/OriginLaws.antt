@@ -13,7 +13,7 @@ use Rattle.dd_formula.specs.Automata.{value, counted}
 use Rattle.dd_formula.specs.Values.{IsPlaced, HasLook, is_read}
 use Rattle.dd_formula.specs.declared.automaton.Automaton.{Automaton}
 use Rattle.dd_formula.specs.lemmas.AutomatonLaws.{near_reads}
-use Rattle.dd_automaton.specs.Images.{numbers_of, IsDefinedOn}
+use Rattle.dd_automaton.specs.Images.{tile_numbers, IsDefinedOn}
 use Rattle.dd_automaton.proofs.ImageLaws.{given_all, tile_is_below}
 
 abbrev origin : Place
@@ -32,11 +32,11 @@ origin_in_box t a tile node = record { base = base_of-origin t.periods tile.peri
 
 pub has_look : (f : Automaton) (t : Tile) (a : ℕ) → IsDefinedOn f t → a < t.nodes → HasLook f (origin_at a) (tile_look t)
 has_look f t a defined node =
-    record { setting = numbers_of t defined.symbols; formed = defined.formed; below = node; symbols = tile_is_below defined.symbols t defined.below }
+    record { setting = tile_numbers t defined.symbols; formed = defined.formed; below = node; symbols = tile_is_below defined.symbols t defined.below }
 
 pub read_at_origin : (f : Automaton) (t : Tile) (a : ℕ) → IsDefinedOn f t → IsPeriodic t → IsPlaced f → a < t.nodes → is_read f (origin_at a) (tile_look t) ≡ true
 read_at_origin f t a defined ok placed node =
-    let s = numbers_of t defined.symbols in
+    let s = tile_numbers t defined.symbols in
     given_all t s ok refl (origin_at a) (origin_in_box t a ok.tile node) ((counted f).reads a) (near_reads s f defined.formed a node) (placed s defined.formed a node)
 
 -- so the automaton has a value there

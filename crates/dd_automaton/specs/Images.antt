@@ -4,17 +4,17 @@ use Rattle.std.specs.List.{All}
 use Rattle.dd_lattice.specs.declared.position.Cell.{Cell}
 use Rattle.dd_pattern.specs.Tile.{Tile, tile_look}
 use Rattle.dd_expansion.specs.Terms.{origin_at}
-use Rattle.dd_formula.specs.Automata.{Setting, IsAutomaton, value}
+use Rattle.dd_formula.specs.Automata.{CommonNumbers, IsAutomaton, value}
 use Rattle.dd_formula.specs.declared.automaton.Automaton.{Automaton}
 
 -- the configuration's numbers, with an alphabet of so many symbols
-abbrev pub numbers_of : Tile → ℕ → Setting
-numbers_of t n = record { dimension = t.dimension; nodes = t.nodes; symbols = n }
+abbrev pub tile_numbers : Tile → ℕ → CommonNumbers
+tile_numbers t n = record { dimension = t.dimension; nodes = t.nodes; symbols = n }
 
 -- over the configuration's numbers, and an alphabet that has its symbols, the automaton is well formed
 pub record IsDefinedOn (f : Automaton) (t : Tile) : Type 0 where
   pub symbols : ℕ
-  pub formed : IsAutomaton (numbers_of t symbols) f
+  pub formed : IsAutomaton (tile_numbers t symbols) f
   pub below : All (λ s. s < symbols) t.symbols
 
 -- of the same dimension, periods, shear and nodes, with the automaton's value at each cell of each position
@@ -25,7 +25,7 @@ pub record IsImage (f : Automaton) (t u : Tile) : Type 0 where
   pub nodes : u.nodes ≡ t.nodes
   pub values : (c : Cell) → c.node < t.nodes → tile_look u c ≡ Some (value f (tile_look t) c)
   -- the values are symbols of each alphabet over which the automaton is well formed
-  pub below : (n : ℕ) → IsAutomaton (numbers_of t n) f → All (λ s. s < n) u.symbols
+  pub below : (n : ℕ) → IsAutomaton (tile_numbers t n) f → All (λ s. s < n) u.symbols
 
 -- the automata give different symbols at some node of the origin
 abbrev pub DifferAtOrigin : Automaton → Automaton → Tile → Type 0

@@ -10,7 +10,7 @@ use Rattle.dd_pattern.specs.Reading.{Look}
 use Rattle.dd_expansion.specs.Placed.{is_flat}
 use Rattle.dd_formula.specs.LocalRule.{LocalRule, is_true, reads_at}
 use Rattle.dd_formula.specs.Allowed.{AreAllowed}
-use Rattle.dd_formula.specs.Automata.{Setting}
+use Rattle.dd_formula.specs.Automata.{CommonNumbers}
 
 -- the place fits: the cell, and each cell that the rule reads there, has a symbol
 abbrev pub place_fits : LocalRule → Look → Cell → Bool
@@ -34,7 +34,7 @@ abbrev pub is_box_cell : LocalRule → ℕ → Cell → Bool
 is_box_cell x n c = in_box x.dimension n c.position && nat_lt c.node x.nodes
 
 -- the same over the numbers of automata
-abbrev pub is_cell_within : Setting → ℕ → Cell → Bool
+abbrev pub is_cell_within : CommonNumbers → ℕ → Cell → Bool
 is_cell_within s n c = in_box s.dimension n c.position && nat_lt c.node s.nodes
 
 -- exactly the cells of B(n) have symbols, allowed ones

@@ -4,14 +4,14 @@ use Rattle.dd_lattice.specs.Place.{Place}
 use Rattle.dd_lattice.specs.Cells.{cell}
 use Rattle.dd_pattern.specs.Reading.{Look}
 use Rattle.dd_formula.specs.LocalRule.{LocalRule, IsRule, is_true}
-use Rattle.dd_formula.specs.Automata.{Setting, IsAutomaton, value}
+use Rattle.dd_formula.specs.Automata.{CommonNumbers, IsAutomaton, value}
 use Rattle.dd_formula.specs.declared.automaton.Automaton.{Automaton}
 
 pub data GoalOf : Type 0 where
   -- some node of the position breaks the rule
   breaks : LocalRule → GoalOf
   -- the values of two automata over these numbers are different at some node of the position
-  differ : Setting → Automaton → Automaton → GoalOf
+  differ : CommonNumbers → Automaton → Automaton → GoalOf
   always : GoalOf
 
 -- the goal holds at the position v, under the symbols that the look gives
@@ -27,7 +27,7 @@ pub record AreAlike (x y : LocalRule) : Type 0 where
   pub symbols : y.symbols ≡ x.symbols
 
 -- the numbers are the rule's, and both automata are well formed over them
-pub record AreOver (x : LocalRule) (s : Setting) (f g : Automaton) : Type 0 where
+pub record AreOver (x : LocalRule) (s : CommonNumbers) (f g : Automaton) : Type 0 where
   pub dimension : s.dimension ≡ x.dimension
   pub nodes : s.nodes ≡ x.nodes
   pub symbols : s.symbols ≡ x.symbols

@@ -1,11 +1,11 @@
 -- The goal that a value of the program stands for, in questions about a rule.
 use Rattle.dd_formula.specs.LocalRule.{LocalRule}
-use Rattle.dd_formula.specs.Automata.{Setting}
+use Rattle.dd_formula.specs.Automata.{CommonNumbers}
 use Rattle.dd_boxes.specs.Goals.{GoalOf, breaks, differ, always, IsGoalFor}
 use Rattle.dd_boxes.specs.declared.goals.Goal.{Goal}
 use Rattle.dd_boxes.specs.declared.goals.Goal.TheVariants.{Breaks, Differ, Always}
 
-abbrev pub numbers_of : LocalRule → Setting
+abbrev pub numbers_of : LocalRule → CommonNumbers
 numbers_of x = record { dimension = x.dimension; nodes = x.nodes; symbols = x.symbols }
 
 abbrev pub goal_of : LocalRule → Goal → GoalOf

@@ -14,7 +14,7 @@ use Rattle.dd_formula.specs.Allowed.{AreAllowed}
 use Rattle.dd_boxes.specs.Goals.{GoalOf, breaks}
 use Rattle.dd_boxes.specs.Fillings.{IsConfiguration}
 use Rattle.dd_boxes.specs.Boxes.{HoldsNowhere}
-use Rattle.dd_query.specs.Made.{numbers_of}
+use Rattle.dd_query.specs.Made.{script_numbers}
 use Rattle.dd_faults.specs.declared.context.Known.{Known}
 use Rattle.dd_script.specs.Parts.{Parts}
 use Rattle.dd_certificate.specs.declared.answer.Answer.{Answer}
@@ -81,7 +81,7 @@ record HasSetting (k : Known) (x : LocalRule) : Type 0 where
 
 setting_of : (k : Known) (x : LocalRule) → IsOf k x → HasSetting k x
 setting_of k x of =
-    let n = numbers_of k in
+    let n = script_numbers k in
     let two = and_parts ((x.dimension == n.dimension) && (x.nodes == n.nodes)) (x.symbols == n.symbols) of.of.has in
     let each = and_parts (x.dimension == n.dimension) (x.nodes == n.nodes) two.0 in
     record { dimension = eqb-true _ _ each.0; nodes = eqb-true _ _ each.1 }

@@ -5,14 +5,14 @@ use Rattle.dd_pattern.specs.Tile.{Tile, IsTile}
 use Rattle.dd_formula.specs.LocalRule.{LocalRule}
 use Rattle.dd_formula.specs.Allowed.{HasAllowed}
 use Rattle.dd_formula.specs.Living.{Fits, Lives}
-use Rattle.dd_formula.specs.Automata.{Setting, IsAutomaton}
+use Rattle.dd_formula.specs.Automata.{CommonNumbers, IsAutomaton}
 use Rattle.dd_formula.specs.declared.automaton.Automaton.{Automaton}
 use Rattle.dd_boxes.specs.Goals.{differ}
 use Rattle.dd_boxes.specs.Views.{numbers_of}
 use Rattle.dd_boxes.specs.Witnesses.{IsWitness}
 use Rattle.dd_automaton.specs.Images.{IsDefinedOn, DifferAtOrigin}
 
-abbrev setting : ℕ → ℕ → ℕ → Setting
+abbrev setting : ℕ → ℕ → ℕ → CommonNumbers
 setting d n s = record { dimension = d; nodes = n; symbols = s }
 
 module _ (x : LocalRule) (t : Tile) (fits : Fits x t) where

@@ -19,7 +19,7 @@ use Rattle.dd_lattice.specs.lemmas.InOrderLaws.{cells_equal, list_all-in_order}
 use Rattle.dd_pattern.specs.Reading.{Look}
 use Rattle.dd_pattern.specs.Filling.{filled, filling_look}
 use Rattle.dd_formula.specs.LocalRule.{LocalRule, is_true, reads_at, cells_at}
-use Rattle.dd_forbidden.specs.Breaking.{is_kept, IsBreaking}
+use Rattle.dd_forbidden.specs.Breaking.{is_true_at_origin, IsBreaking}
 use Rattle.dd_boxes.specs.Boxes.{origin}
 use Rattle.dd_boxes.specs.lemmas.RuleLaws.{keeps_at, shifted_by_origin}
 use Rattle.dd_certificate.specs.declared.answer.Listed.{Listed}
@@ -124,7 +124,7 @@ module _ (x : LocalRule) (look : Look) (v : Place) (a : ℕ) (ss : List ℕ) (re
       sym (list_all-in_order (λ c. is_some (those (shifted origin c))) (reads_at x a))
       ∙ list_all-from_AllPass (λ c. is_some (those (shifted origin c))) cs (λ i c h. given_at i c h)
 
-  pub says_kept : is_true x (cell v a) look ≡ is_kept x a ss
+  pub says_kept : is_true x (cell v a) look ≡ is_true_at_origin x a ss
   says_kept = sym (keeps_at x those look origin v a seen_same all_given)
 
 pub tells_breaking : ListedBreak → (x : LocalRule) (patterns : List Listed) → IsListOf x patterns → TellsBreaking x patterns

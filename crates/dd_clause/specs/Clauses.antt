@@ -17,12 +17,12 @@ negation l = record { variable = l.variable; positive = not l.positive }
 
 -- the literal agrees with a set of true variables: it is positive and its variable is in the set, or negative and its
 -- variable is not
-abbrev pub is_true : (ℕ → Bool) → Literal → Bool
-is_true set l = if l.positive then set l.variable else not (set l.variable)
+abbrev pub is_true_under : (ℕ → Bool) → Literal → Bool
+is_true_under set l = if l.positive then set l.variable else not (set l.variable)
 
 -- some literal of the clause is true
 abbrev pub is_clause_true : (ℕ → Bool) → List Literal → Bool
-is_clause_true set clause = list_any (is_true set) clause
+is_clause_true set clause = list_any (is_true_under set) clause
 
 -- the set of true variables satisfies the clauses: each has a true literal
 abbrev pub Satisfies : (ℕ → Bool) → List (List Literal) → Type 0

@@ -20,7 +20,7 @@ use Rattle.dd_pattern.specs.Reading.{Look, HasSymbolsBelow}
 use Rattle.dd_expansion.specs.Truth.{is_symbol}
 use Rattle.dd_expansion.specs.lemmas.ListTests.{list_all-alike, list_all-flat_map}
 use Rattle.std.proofs.lemmas.List.Folds.{list_all-map}
-use Rattle.dd_formula.specs.Automata.{Setting, Counted, IsAutomaton, counted, cells_of, value}
+use Rattle.dd_formula.specs.Automata.{CommonNumbers, Counted, IsAutomaton, counted, cells_of, value}
 use Rattle.dd_formula.specs.declared.automaton.Automaton.{Automaton}
 use Rattle.dd_formula.specs.declared.automaton.Automaton.TheVariants as v
 use Rattle.dd_formula.specs.declared.automaton.Cases.{Cases}
@@ -155,7 +155,7 @@ module _ (k : ℕ) (f g : Automaton) (w : Wiring) (at : Cell) (start one : Netwo
       sym (list_all-in_order test ((counted f).reads at.node))
       ∙ members_pass test (cells_of f at.node) (λ d there. found_wired one w k g (shifted at.position d) (signals_of values (shifted at.position d)) (found d there))
 
-  pub composed_says : (s : Setting) → IsAutomaton s g → s.symbols ≡ k → (new : Network) (ss : List Signal) → Extends one new → SaysValue new values k f at ss → SaysValue new w k (v.Composed f g) at ss
+  pub composed_says : (s : CommonNumbers) → IsAutomaton s g → s.symbols ≡ k → (new : Network) (ss : List Signal) → Extends one new → SaysValue new values k f at ss → SaysValue new w k (v.Composed f g) at ss
   composed_says s inner all new ss more h = record {
     one_each = h.one_each;
     says = λ set look ok below tells.

@@ -9,7 +9,7 @@ use Rattle.dd_lattice.specs.lemmas.InOrderLaws.{list_all-in_order}
 use Rattle.dd_topology.specs.Topology.{extent}
 use Rattle.dd_expansion.specs.Terms.{origin_at}
 use Rattle.dd_formula.specs.LocalRule.{is_near}
-use Rattle.dd_formula.specs.Automata.{Setting, IsAutomaton, counted, cells_of, is_cell_of}
+use Rattle.dd_formula.specs.Automata.{CommonNumbers, IsAutomaton, counted, cells_of, is_cell_of}
 use Rattle.dd_formula.specs.Values.{IsPlaced}
 use Rattle.dd_formula.specs.declared.automaton.Automaton.{Automaton}
 use Rattle.dd_formula.specs.declared.automaton.Automaton.TheVariants as v
@@ -42,7 +42,7 @@ in_range_after now m ok =
     All-weaker (IsSignal (size now + length m.gates)) (IsSignal (now.inputs + length (now.gates ++ m.gates))) (λ x h. (h.0, (let top = h.1 in omega (arith, top, l)))) m.signals ok
 
 -- the inner values, one after the other
-module _ (s : Setting) (g : Automaton) (formed : IsAutomaton s g) (says : SaysNear g) (w : Wiring) (at : Cell) (cs : List Cell) (placed : list_all (is_cell_of s) cs ≡ true) (near : list_all is_near cs ≡ true)
+module _ (s : CommonNumbers) (g : Automaton) (formed : IsAutomaton s g) (says : SaysNear g) (w : Wiring) (at : Cell) (cs : List Cell) (placed : list_all (is_cell_of s) cs ≡ true) (near : list_all is_near cs ≡ true)
     (inside : extent at.position + 16 * (counted g).depth + 32 ≤ 1048576) (start : Network) (wired : AreWired (size start) s.symbols w g cs at) where
   run : (j i : ℕ) → i + j ≡ length cs → (now : Network) (values : Wiring) → Composing s.symbols g w cs at i start now values → AreGates now.inputs now.gates →
       (end : Network) × (all : Wiring) × Composing s.symbols g w cs at (length cs) start end all × AreGates end.inputs end.gates

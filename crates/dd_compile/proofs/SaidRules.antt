@@ -11,7 +11,7 @@ use Rattle.dd_lattice.specs.declared.position.Cell.{Cell}
 use Rattle.dd_topology.specs.Topology.{extent}
 use Rattle.dd_pattern.specs.Reading.{Look, HasSymbolsBelow}
 use Rattle.dd_formula.specs.LocalRule.{LocalRule, IsRule, is_true, expansion_at, reads_at}
-use Rattle.dd_formula.specs.Automata.{Setting, Counted, counted, cases_fit, cases_reads, rule_has}
+use Rattle.dd_formula.specs.Automata.{CommonNumbers, Counted, counted, cases_fit, cases_reads, rule_has}
 use Rattle.dd_formula.specs.declared.automaton.Automaton.{Automaton}
 use Rattle.dd_formula.specs.declared.automaton.Automaton.TheVariants as v
 use Rattle.dd_formula.specs.declared.automaton.Cases.{Cases}
@@ -47,8 +47,8 @@ of_network n k f w at gs ss m fit says in_range gates signals =
     subst (IsMadeValue n k f w at) whole (record { gates = fit; one_each = says.one_each; in_range = in_range; says = says.says })
 
 -- the rules of cases, one after the other
-module _ (s : Setting) (w : Wiring) (at : Cell) (node : at.node < s.nodes) (inner : extent at.position ≤ 1048560) where
-  abbrev has_all : Setting → List (LocalRule × ℕ) → Bool
+module _ (s : CommonNumbers) (w : Wiring) (at : Cell) (node : at.node < s.nodes) (inner : extent at.position ≤ 1048560) where
+  abbrev has_all : CommonNumbers → List (LocalRule × ℕ) → Bool
   has_all t cases = list_all (λ x. rule_has t x.0 && nat_lt x.1 t.symbols) cases
 
   one_wired : (case : LocalRule × ℕ) (m n : ℕ) → IsRule case.0 → rule_has s case.0 ≡ true → m ≤ n → are_wired_there m s.symbols w (reads_at case.0 at.node) at ≡ true →
@@ -62,7 +62,7 @@ module _ (s : Setting) (w : Wiring) (at : Cell) (node : at.node < s.nodes) (inne
   pub record RulesSay (cases : List (LocalRule × ℕ)) (n : ℕ) : Type 0 where
     pub gates : AreGates n (rules_made w at cases n).gates
     pub in_range : All (IsSignal (n + length (rules_made w at cases n).gates)) (rules_made w at cases n).signals
-    pub says : (t : Setting) (set : ℕ → Bool) (look : Look) → has_all t cases ≡ true → agrees set n (rules_made w at cases n).gates ≡ true → HasSymbolsBelow t.symbols look →
+    pub says : (t : CommonNumbers) (set : ℕ → Bool) (look : Look) → has_all t cases ≡ true → agrees set n (rules_made w at cases n).gates ≡ true → HasSymbolsBelow t.symbols look →
         TellsCells set w (cases_reads cases at.node) at look → map (signal_value set) (rules_made w at cases n).signals ≡ map (λ (case : LocalRule × ℕ). is_true case.0 at look) cases
 
   rules_say : (m : ℕ) (cases : List (LocalRule × ℕ)) → All (λ (x : LocalRule × ℕ). IsRule x.0) cases → has_all s cases ≡ true →

@@ -6,7 +6,7 @@ use Rattle.dd_lattice.specs.declared.position.Cell.{Cell}
 use Rattle.dd_pattern.specs.Reading.{Look, HasSymbolsBelow}
 use Rattle.dd_expansion.specs.Truth.{is_symbol}
 use Rattle.dd_formula.specs.LocalRule.{LocalRule, is_true}
-use Rattle.dd_formula.specs.Automata.{Setting, IsAutomaton, cases_fit, cases_reads, counted, first_case, value}
+use Rattle.dd_formula.specs.Automata.{CommonNumbers, IsAutomaton, cases_fit, cases_reads, counted, first_case, value}
 use Rattle.dd_formula.specs.declared.automaton.Automaton.{Automaton}
 use Rattle.dd_formula.specs.declared.automaton.Cases.{Cases}
 use Rattle.dd_circuit.specs.declared.gates.Signal.{Signal}
@@ -16,14 +16,14 @@ use Rattle.dd_compile.specs.RuleSignals.{are_signals}
 
 -- over some numbers with an alphabet of k symbols the cases fit, and a is one of the nodes
 pub record HasCasesSymbols (c : Cases) (k a : ℕ) : Type 0 where
-  pub setting : Setting
+  pub setting : CommonNumbers
   pub fit : cases_fit setting c.cases c.otherwise ≡ true
   pub below : a < setting.nodes
   pub all : setting.symbols ≡ k
 
 -- over some numbers with an alphabet of k symbols the automaton is well formed, and a is one of the nodes
 pub record HasSymbols (f : Automaton) (k a : ℕ) : Type 0 where
-  pub setting : Setting
+  pub setting : CommonNumbers
   pub formed : IsAutomaton setting f
   pub below : a < setting.nodes
   pub all : setting.symbols ≡ k
@@ -39,7 +39,7 @@ TellsCells set w ds c look =
 
 -- over some numbers the cases fit, and what they read at c has its signals
 pub record AreCasesWired (n : ℕ) (w : Wiring) (c : Cases) (at : Cell) : Type 0 where
-  pub setting : Setting
+  pub setting : CommonNumbers
   pub fit : cases_fit setting c.cases c.otherwise ≡ true
   pub below : at.node < setting.nodes
   pub wired : are_wired_there n setting.symbols w (cases_reads c.cases at.node) at ≡ true
@@ -48,7 +48,7 @@ pub record AreCasesWired (n : ℕ) (w : Wiring) (c : Cases) (at : Cell) : Type 0
 -- whether the rules of these of the cases are true there.
 abbrev pub CasesSay : Network → Wiring → Cases → Cell → List (LocalRule × ℕ) → List Signal → Type 0
 CasesSay circuit w c at some signals =
-    (s : Setting) (set : ℕ → Bool) (look : Look) → cases_fit s c.cases c.otherwise ≡ true → agrees set circuit.inputs circuit.gates ≡ true → HasSymbolsBelow s.symbols look →
+    (s : CommonNumbers) (set : ℕ → Bool) (look : Look) → cases_fit s c.cases c.otherwise ≡ true → agrees set circuit.inputs circuit.gates ≡ true → HasSymbolsBelow s.symbols look →
     TellsCells set w (cases_reads c.cases at.node) at look → map (signal_value set) signals ≡ map (λ case. is_true case.0 at look) some
 
 -- The same of a value: of each of k symbols the signal says whether it is the value.

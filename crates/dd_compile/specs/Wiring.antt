@@ -35,6 +35,6 @@ abbrev pub wire_of : Wiring → Cell → ℕ → Option Signal
 wire_of w c s = signal_for (signals_of w c) s
 
 -- each cell has its own signals, and no other cell has any
-pub record IsReadByPlace (w : Wiring) : Type 0 where
+pub record IsWiredByPlace (w : Wiring) : Type 0 where
   pub at : (k : ℕ) (d : Cell) (s : ℕ) → k < length w.cells → wire_of w (slice_index_or w.cells k d) s ≡ signal_for (slice_get w.signals k) s
   pub elsewhere : (c : Cell) (s : ℕ) → (Contains w.cells c → ⊥) → wire_of w c s ≡ None

@@ -4,7 +4,7 @@ ghost use Rattle.std.specs.List.{list_all};
 ghost use Rattle.std.specs.Option.{option_copied};
 ghost use Rattle.std.specs.declared.cmp.Ordering.TheVariants.{Less};
 ghost use Rattle.dd_lattice.specs.Order.{cell_cmp};
-ghost use Rattle.dd_compile.specs.Wiring.{IsReadByPlace, signals_of, unwired, with_cell, wire_of};
+ghost use Rattle.dd_compile.specs.Wiring.{IsWiredByPlace, signals_of, unwired, with_cell, wire_of};
 ghost use Rattle.dd_compile.specs.RuleSignals.{is_signal, are_signals};
 
 use dd_circuit::Signal;
@@ -59,7 +59,7 @@ impl Inputs {
     #[tactic(auto, using(crate::specs::lemmas::WiringLaws::read_by_place))]
     pub fn get(&self, cell: &Cell, symbol: u32) -> Option<Signal>
         ensures value { result ≡ wire_of self.now cell.now symbol }
-        ensures places { IsReadByPlace self.now }
+        ensures places { IsWiredByPlace self.now }
     {
         match self.cells.as_slice().binary_search(cell) {
             Ok(place) => self.signals[place].get(symbol as usize).copied(),

@@ -11,7 +11,7 @@ use Rattle.dd_formula.specs.declared.automaton.Automaton.TheVariants as v
 use Rattle.dd_formula.specs.declared.automaton.Automaton.TheFolds.{fold-Automaton, fold-roll-Automaton, ind-Automaton, map-Automaton}
 use Rattle.dd_formula.specs.declared.automaton.Automaton.TheOpen.{Automaton-F}
 use Rattle.dd_formula.specs.declared.automaton.Cases.{Cases}
-use Rattle.dd_formula.specs.ValueCounts.{Valued, valued_step, value_clauses, given_clauses, gate_clauses, choice_clauses, giving_clauses}
+use Rattle.dd_formula.specs.ValueCounts.{Valued, valued_step, value_clauses, given_clauses, gate_clause_count, choice_clauses, giving_clauses}
 
 abbrev valued : ℕ → Automaton → Valued
 valued n = fold-Automaton Valued (valued_step n)
@@ -50,7 +50,7 @@ value_composed n f g a =
     ∙ ap (λ (k : Counted). total (map (λ (c : Cell). value_clauses n g c.node) (in_order (k.reads a))) + value_clauses n f a) (counts_those n f)
 
 -- the gates of the cases and those of the symbols, counted case by case
-choosing : (k m : ℕ) → total (map (λ i. i + 4) (range_with_len k m)) ≡ total (map (λ i. gate_clauses (i + 1)) (range_with_len k m)) + 2 * m
+choosing : (k m : ℕ) → total (map (λ i. i + 4) (range_with_len k m)) ≡ total (map (λ i. gate_clause_count (i + 1)) (range_with_len k m)) + 2 * m
 choosing k zero = refl
 choosing k (suc m) = let rest = choosing (k + 1) m in omega (arith, rest)
 

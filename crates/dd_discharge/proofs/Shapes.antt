@@ -21,9 +21,9 @@ use Rattle.dd_formula.specs.LocalRule.{LocalRule}
 use Rattle.dd_rows.specs.declared.rows.Row.{Row}
 use Rattle.dd_rows.specs.declared.rows.Rows.{Rows}
 use Rattle.dd_rows.specs.Asked.{AreWeightsFor}
-use Rattle.dd_rows.specs.Domains.{box_cells, opposite}
+use Rattle.dd_rows.specs.Domains.{box_cells, opposite_vector}
 use Rattle.dd_rows.specs.Fillings.{look_of, fillings}
-use Rattle.dd_rows.specs.Patterns.{origin, pattern_at, givers, number_in}
+use Rattle.dd_rows.specs.Patterns.{origin, pattern_at, givers, pattern_number}
 use Rattle.dd_rows.specs.Programs.{one_at, coefficients, origin_weight, row_of, greatest_weight_row, is_same_row, add_row, first_seen, rows, column_count, IsProgramOf}
 use Rattle.dd_discharge.specs.Amounts.{row_in}
 use Rattle.dd_discharge.specs.listing.Tables.{AreRowsOf}
@@ -51,12 +51,12 @@ abbrev IsUnit : ℤ → Type 0
 IsUnit a = unsigned_abs a ≤ 1
 
 abbrev block : List (List ℕ) → List ℕ → List ℕ → List ℤ
-block ps out q = map (λ k. one_at k (number_in ps out) -ℤ one_at k (number_in ps q)) (range_with_len 0 (length ps))
+block ps out q = map (λ k. one_at k (pattern_number ps out) -ℤ one_at k (pattern_number ps q)) (range_with_len 0 (length ps))
 
 block_units : (ps : List (List ℕ)) (out q : List ℕ) → All IsUnit (block ps out q)
 block_units ps out q =
-    all_map IsUnit (λ k. any_item k) (λ k. one_at k (number_in ps out) -ℤ one_at k (number_in ps q))
-    (λ k _. step_small (nat_eq k (number_in ps out)) (nat_eq k (number_in ps q))) (range_with_len 0 (length ps)) (all_any (range_with_len 0 (length ps)))
+    all_map IsUnit (λ k. any_item k) (λ k. one_at k (pattern_number ps out) -ℤ one_at k (pattern_number ps q))
+    (λ k _. step_small (nat_eq k (pattern_number ps out)) (nat_eq k (pattern_number ps q))) (range_with_len 0 (length ps)) (all_any (range_with_len 0 (length ps)))
 
 coefficient_units : (ps : List (List ℕ)) (out : List ℕ) (ins : List (List ℕ)) → All IsUnit (coefficients ps out ins)
 coefficient_units ps out ins =
@@ -64,7 +64,7 @@ coefficient_units ps out ins =
     (all_flat_map IsUnit (λ q. any_item q) (block ps out) (λ q _. block_units ps out q) ins (all_any ins))
 
 block_size : (ps : List (List ℕ)) (out q : List ℕ) → length (block ps out q) ≡ length ps
-block_size ps out q = length-map (range_with_len 0 (length ps)) (λ k. one_at k (number_in ps out) -ℤ one_at k (number_in ps q)) ∙ length-range_with_len 0 (length ps)
+block_size ps out q = length-map (range_with_len 0 (length ps)) (λ k. one_at k (pattern_number ps out) -ℤ one_at k (pattern_number ps q)) ∙ length-range_with_len 0 (length ps)
 
 blocks_size : (ps : List (List ℕ)) (out : List ℕ) (ins : List (List ℕ)) → length (flat_map (block ps out) ins) ≡ length ins * length ps
 blocks_size ps out [] = omega arith
@@ -109,7 +109,7 @@ filling_row x ws radius vs ps look few small =
     let size = length-map (range_with_len 0 x.nodes) (λ a. unwrap_or (look (cell origin a)) 0) in
     let count = length-range_with_len 0 x.nodes in
     record {
-      size = coefficient_size ps out ins (length vs) (length-map vs (λ v. pattern_at box look (opposite v)));
+      size = coefficient_size ps out ins (length vs) (length-map vs (λ v. pattern_at box look (opposite_vector v)));
       units = coefficient_units ps out ins;
       bound = omega (arith, total, size, count, few);
     }

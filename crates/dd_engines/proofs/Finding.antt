@@ -5,7 +5,7 @@ use Rattle.std.proofs.lemmas.Bool.{cases_Bool, ne_eqb, false≢true, not-true, n
 use Rattle.std.proofs.lemmas.List.Sums.{sum_by-cons}
 use Rattle.std.proofs.lemmas.List.Elements.{All-cons, All-nil}
 use Rattle.dd_clause.specs.declared.clause.Literal.{Literal}
-use Rattle.dd_clause.specs.Clauses.{is_true, is_clause_true, Satisfies}
+use Rattle.dd_clause.specs.Clauses.{is_true_under, is_clause_true, Satisfies}
 use Rattle.dd_values.specs.Variables.{true_variables}
 use Rattle.dd_engines.specs.Walks.{is_unsatisfied, first_unsatisfied}
 use Rattle.dd_engines.specs.walking.Truths.{true_count, is_none_at, NoneIsNone}
@@ -31,16 +31,16 @@ pub first_by_counts : (values : List Bool) (cs : List (List Literal)) (place : �
     → first_unsatisfied values cs ≡ slice_get cs place
 first_by_counts values [] place lt none before = absurd (omega (arith, lt))
 first_by_counts values (c ∷ cs) zero lt none before =
-    let here : is_unsatisfied values c ≡ true = sym (none_true (is_true (true_variables values)) c) ∙ ap (λ (n : ℕ). eqb n 0) none in
+    let here : is_unsatisfied values c ≡ true = sym (none_true (is_true_under (true_variables values)) c) ∙ ap (λ (n : ℕ). eqb n 0) none in
     rw here refl
 first_by_counts values (c ∷ cs) (suc place) lt none before =
-    let here : is_unsatisfied values c ≡ false = sym (none_true (is_true (true_variables values)) c) ∙ before 0 (omega arith) in
+    let here : is_unsatisfied values c ≡ false = sym (none_true (is_true_under (true_variables values)) c) ∙ before 0 (omega arith) in
     rw here (first_by_counts values cs place (omega (arith, lt)) none (λ k h. before (suc k) (omega (arith, h))))
 
 pub none_by_counts : (values : List Bool) (cs : List (List Literal)) → NoneIsNone (counts_of values cs) → Satisfies (true_variables values) cs
 none_by_counts values [] none = All-nil (λ c. is_clause_true (true_variables values) c ≡ true)
 none_by_counts values (c ∷ cs) none =
-    let here : is_unsatisfied values c ≡ false = sym (none_true (is_true (true_variables values)) c) ∙ none 0 in
+    let here : is_unsatisfied values c ≡ false = sym (none_true (is_true_under (true_variables values)) c) ∙ none 0 in
     All-cons (λ d. is_clause_true (true_variables values) d ≡ true) c cs (not-false _ here) (none_by_counts values cs (λ k. none (suc k)))
 
 -- where there is a first one, the values do not satisfy

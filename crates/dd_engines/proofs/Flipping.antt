@@ -10,7 +10,7 @@ use Rattle.std.proofs.lemmas.Grind.{get_or-set_at}
 use Rattle.std.proofs.lemmas.List.Sums.{sum_by-cons}
 use Rattle.std.proofs.lemmas.List.Elements.{All-head, All-tail}
 use Rattle.dd_clause.specs.declared.clause.Literal.{Literal}
-use Rattle.dd_clause.specs.Clauses.{negation, IsLiteralInRange, IsClauseInRange, is_true}
+use Rattle.dd_clause.specs.Clauses.{negation, IsLiteralInRange, IsClauseInRange, is_true_under}
 use Rattle.dd_values.specs.Variables.{true_variables}
 use Rattle.dd_derivation.specs.Derivations.{same_literal}
 use Rattle.dd_engines.specs.Walks.{made_true}
@@ -79,8 +79,8 @@ unchanged : (t : Bool) → Balance t t false false
 unchanged true = record { balance = refl; few = omega arith }
 unchanged false = record { balance = refl; few = omega arith }
 
-one_literal : (values : List Bool) (l m : Literal) → IsLiteralInRange (length values) l → IsLiteralInRange (length values) m → is_true (true_variables values) l ≡ false
-    → Balance (is_true (true_variables values) m) (is_true (true_variables (made_true values l)) m) (same_literal l m) (same_literal (negation l) m)
+one_literal : (values : List Bool) (l m : Literal) → IsLiteralInRange (length values) l → IsLiteralInRange (length values) m → is_true_under (true_variables values) l ≡ false
+    → Balance (is_true_under (true_variables values) m) (is_true_under (true_variables (made_true values l)) m) (same_literal l m) (same_literal (negation l) m)
 one_literal values l m range range_m is_false = elim (cases_eq l.variable m.variable) [
   | inl e ↦
       let read : get_or (made_true values l) (m.variable - 1) false ≡ l.positive = get_or-set_at values (l.variable - 1) (m.variable - 1) l.positive false (omega (arith, e)) (omega (arith, range.0, range.1)) in
@@ -89,21 +89,21 @@ one_literal values l m range range_m is_false = elim (cases_eq l.variable m.vari
   | inr ne ↦
       let read : get_or (made_true values l) (m.variable - 1) false ≡ get_or values (m.variable - 1) false = get_or-set_other values (l.variable - 1) (m.variable - 1) l.positive false
       (λ f. ne (omega (arith, f, range.0, range_m.0))) in
-      rw (read, ne_eqb l.variable m.variable ne) (unchanged (is_true (true_variables values) m))
+      rw (read, ne_eqb l.variable m.variable ne) (unchanged (is_true_under (true_variables values) m))
 ]
 
 record Balanced (values : List Bool) (l : Literal) (c : List Literal) : Type 0 where
   balance : true_count (made_true values l) c + times_in (negation l) c ≡ true_count values c + times_in l c
   few : true_count values c + times_in l c ≤ length c
 
-balanced : (values : List Bool) (l : Literal) → IsLiteralInRange (length values) l → is_true (true_variables values) l ≡ false → (c : List Literal) → IsClauseInRange (length values) c → Balanced values l c
+balanced : (values : List Bool) (l : Literal) → IsLiteralInRange (length values) l → is_true_under (true_variables values) l ≡ false → (c : List Literal) → IsClauseInRange (length values) c → Balanced values l c
 balanced values l range is_false [] all = record { balance = refl; few = omega arith }
 balanced values l range is_false (m ∷ c) all =
     let here = one_literal values l m range (All-head (IsLiteralInRange (length values)) m c all) is_false in
     let rest = balanced values l range is_false c (All-tail (IsLiteralInRange (length values)) m c all) in
     record {
-      balance = omega (arith, here.balance, rest.balance, sum_by-cons (λ x. cond (is_true (true_variables (made_true values l)) x) 1 0) m c, sum_by-cons (λ x. cond (same_literal (negation l) x) 1 0) m c, sum_by-cons (λ x. cond (is_true (true_variables values) x) 1 0) m c, sum_by-cons (λ x. cond (same_literal l x) 1 0) m c);
-      few = omega (arith, here.few, rest.few, sum_by-cons (λ x. cond (is_true (true_variables values) x) 1 0) m c, sum_by-cons (λ x. cond (same_literal l x) 1 0) m c);
+      balance = omega (arith, here.balance, rest.balance, sum_by-cons (λ x. cond (is_true_under (true_variables (made_true values l)) x) 1 0) m c, sum_by-cons (λ x. cond (same_literal (negation l) x) 1 0) m c, sum_by-cons (λ x. cond (is_true_under (true_variables values) x) 1 0) m c, sum_by-cons (λ x. cond (same_literal l x) 1 0) m c);
+      few = omega (arith, here.few, rest.few, sum_by-cons (λ x. cond (is_true_under (true_variables values) x) 1 0) m c, sum_by-cons (λ x. cond (same_literal l x) 1 0) m c);
     }
 
 one_clause : (values : List Bool) (l : Literal) (c : List Literal) → Balanced values l c → length c < 2 ^ 64 → times less (times_in (negation l) c) (times more (times_in l c) (true_count values c)) ≡ true_count (made_true values l) c
@@ -117,7 +117,7 @@ pub record Fits (n : ℕ) (cs : List (List Literal)) : Type 0 where
   pub range : All (IsClauseInRange n) cs
   pub short : All (λ c. length c < 2 ^ 64) cs
 
-every_clause : (values : List Bool) (l : Literal) → IsLiteralInRange (length values) l → is_true (true_variables values) l ≡ false → (cs : List (List Literal)) → Fits (length values) cs
+every_clause : (values : List Bool) (l : Literal) → IsLiteralInRange (length values) l → is_true_under (true_variables values) l ≡ false → (cs : List (List Literal)) → Fits (length values) cs
     → map (λ c. times less (times_in (negation l) c) (times more (times_in l c) (true_count values c))) cs ≡ map (true_count (made_true values l)) cs
 every_clause values l range is_false [] fits = refl
 every_clause values l range is_false (c ∷ cs) fits =
@@ -125,7 +125,7 @@ every_clause values l range is_false (c ∷ cs) fits =
     let rest = every_clause values l range is_false cs (record { range = All-tail (IsClauseInRange (length values)) c cs fits.range; short = All-tail (λ d. length d < 2 ^ 64) c cs fits.short }) in
     rw (here, rest) refl
 
-pub flipped_counts : (values : List Bool) (l : Literal) (cs : List (List Literal)) → IsLiteralInRange (length values) l → is_true (true_variables values) l ≡ false → Fits (length values) cs
+pub flipped_counts : (values : List Bool) (l : Literal) (cs : List (List Literal)) → IsLiteralInRange (length values) l → is_true_under (true_variables values) l ≡ false → Fits (length values) cs
     → changed less (standing (negation l) 0 cs) (changed more (standing l 0 cs) (map (true_count values) cs)) ≡ map (true_count (made_true values l)) cs
 flipped_counts values l cs range is_false fits =
     ap (changed less (standing (negation l) 0 cs)) (changed_standing more (true_count values) l cs [] 0 refl)

@@ -8,7 +8,7 @@ use Rattle.std.proofs.lemmas.List.Sums.{sum_by-cons}
 use Rattle.std.proofs.lemmas.List.Elements.{All-weaker, All-same}
 use Rattle.std.proofs.lemmas.Option.{slice_get-get_or}
 use Rattle.dd_clause.specs.declared.clause.Literal.{Literal}
-use Rattle.dd_clause.specs.Clauses.{ClauseList, negation, IsLiteralInRange, IsClauseInRange, is_true, Satisfies}
+use Rattle.dd_clause.specs.Clauses.{ClauseList, negation, IsLiteralInRange, IsClauseInRange, is_true_under, Satisfies}
 use Rattle.dd_values.specs.Variables.{true_variables}
 use Rattle.dd_engines.specs.Walks.{made_true, first_unsatisfied, after, NoneBefore, IsFirst}
 use Rattle.dd_engines.specs.walking.Truths.{true_count, standing, more, less, changed, HasPlace, list_of, IsListed, NoneIsNone, IsFirstNone}
@@ -37,7 +37,7 @@ length-changed f [] counts = refl
 length-changed f (k ∷ ks) counts = length-changed f ks (set counts k (f (get_or counts k 0))) ∙ length-set counts k (f (get_or counts k 0))
 
 -- after a flip the walk stands at the new values
-pub flip_walks : (clauses : List (List Literal)) (values : List Bool) (counts new_counts : List ℕ) (listed new_listed : ℕ → Bool) (lists : List (List ℕ)) (l : Literal) → Walks clauses values counts listed lists → IsLiteralInRange (length values) l → is_true (true_variables values) l ≡ false
+pub flip_walks : (clauses : List (List Literal)) (values : List Bool) (counts new_counts : List ℕ) (listed new_listed : ℕ → Bool) (lists : List (List ℕ)) (l : Literal) → Walks clauses values counts listed lists → IsLiteralInRange (length values) l → is_true_under (true_variables values) l ≡ false
     → new_counts ≡ changed less (list_of lists (negation l)) (changed more (list_of lists l) counts) → IsListed new_counts new_listed → Walks clauses (made_true values l) new_counts new_listed lists
 flip_walks clauses values counts new_counts listed new_listed lists l walks range is_false made are_listed =
     let long : length (made_true values l) ≡ length values = length-set values (l.variable - 1) l.positive in
@@ -78,7 +78,7 @@ read_default (y ∷ xs) (suc k) x d lt is = read_default xs k x d (omega (arith,
 pub record FoundClause (clauses : List (List Literal)) (values : List Bool) (clause : List Literal) : Type 0 where
   pub first : first_unsatisfied values clauses ≡ Some clause
   pub range : IsClauseInRange (length values) clause
-  pub are_false : (k : ℕ) (d : Literal) → k < length clause → is_true (true_variables values) (get_or clause k d) ≡ false
+  pub are_false : (k : ℕ) (d : Literal) → k < length clause → is_true_under (true_variables values) (get_or clause k d) ≡ false
 
 pub found_clause : (clauses : List (List Literal)) (values : List Bool) (counts : List ℕ) (listed : ℕ → Bool) (lists : List (List ℕ)) (place : ℕ) (clause : List Literal) → Walks clauses values counts listed lists → IsFirstNone counts place → clause ≡ get_or clauses place clause
     → FoundClause clauses values clause
@@ -90,7 +90,7 @@ found_clause clauses values counts listed lists place clause walks none at =
     record {
       first = first_by_counts values clauses place within zero before.before ∙ slice_get-get_or clauses place clause within ∙ ap (λ (c : List Literal). Some c) (sym at);
       range = subst (IsClauseInRange (length values)) (sym here) (walks.range place [] within);
-      are_false = none_true_in (is_true (true_variables values)) clause (ap (true_count values) here ∙ sym (get_or-map (true_count values) clauses place within) ∙ zero);
+      are_false = none_true_in (is_true_under (true_variables values)) clause (ap (true_count values) here ∙ sym (get_or-map (true_count values) clauses place within) ∙ zero);
     }
 
 place_within : (clauses : List (List Literal)) (values : List Bool) (counts : List ℕ) (listed : ℕ → Bool) (lists : List (List ℕ)) (place : ℕ) → Walks clauses values counts listed lists → IsFirstNone counts place → place < length clauses

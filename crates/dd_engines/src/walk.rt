@@ -3,7 +3,7 @@
 ghost use Rattle.std.specs.Prelude.{◌≡◌, ◌+◌, false, length, replicate, IfOk, OnOk, MatchOption};
 ghost use Rattle.std.specs.Ordering.{nat_cmp};
 ghost use Rattle.std.specs.BTreeSet.{contains};
-ghost use Rattle.dd_clause.specs.Clauses.{IsLiteralInRange, is_true};
+ghost use Rattle.dd_clause.specs.Clauses.{IsLiteralInRange, is_true_under};
 ghost use Rattle.dd_values.specs.Variables.{true_variables};
 ghost use Rattle.dd_engines.specs.Walks.{made_true, IsFirst, NoneBefore};
 ghost use Rattle.dd_engines.specs.walking.Walking.{Walks};
@@ -47,7 +47,7 @@ impl Walk {
     /// Makes a literal true that is false.
     fn flip(&mut self, clauses: &[Clause], literal: Literal) -> Result<(), AllocError>
         requires range { IsLiteralInRange (length self.old.values.items) literal }
-        requires other { is_true (true_variables self.old.values.items) literal ≡ false }
+        requires other { is_true_under (true_variables self.old.values.items) literal ≡ false }
         requires walks { Walks clauses.now self.old.values.items self.old.truths.counts.items (contains nat_cmp self.old.truths.unsatisfied) self.old.occurrences.lists.items }
         ensures values { OnOk result (self.new.values.items ≡ made_true self.old.values.items literal) }
         ensures walks { OnOk result (Walks clauses.now self.new.values.items self.new.truths.counts.items (contains nat_cmp self.new.truths.unsatisfied) self.new.occurrences.lists.items) }

@@ -14,7 +14,7 @@ use Rattle.dd_expansion.specs.declared.formulas.Formula.TheVariants as formula
 use Rattle.dd_expansion.specs.declared.formulas.Formula.TheFolds.{fold-roll-Formula}
 use Rattle.dd_expansion.specs.declared.formulas.Formula.TheOpen.{Formula-F}
 use Rattle.dd_expansion.specs.Leaves.{instances, instances_step}
-use Rattle.dd_expansion.specs.Limits.{formula_fits, fits_step, depth, depth_step}
+use Rattle.dd_expansion.specs.Limits.{formula_fits, formula_fits_step, depth, depth_step}
 use Rattle.dd_expansion.specs.Terms.{balls_of}
 use Rattle.dd_expansion.specs.Expansion.{Expansion, expansion, expansion_step, negated, any_of, both_alike}
 use Rattle.dd_expansion.specs.lemmas.Layers.{instances_and, instances_or, expansion_and, expansion_or, expansion_for_all, expansion_exists, fits_and, fits_or, depth_and, depth_or}
@@ -80,8 +80,8 @@ module _ (g : Grid) (n : ℕ) where
 
   pub fits_exists_alike : (bs : List BallOf) (f : Formula) (scope : ℕ) → formula_fits g n (formula.Exists bs f) scope ≡ formula_fits g n (formula.ForAll bs f) scope
   fits_exists_alike bs f scope =
-      ap (λ h. formula_fits g n h scope) (sym (formula.rolls-Exists bs f)) ∙ (ap (λ x. x scope) (fold-roll-Formula _ (fits_step g n) (Formula-F.Exists bs f))
-      ∙ (sym (ap (λ x. x scope) (fold-roll-Formula _ (fits_step g n) (Formula-F.ForAll bs f))) ∙ ap (λ h. formula_fits g n h scope) (formula.rolls-ForAll bs f)))
+      ap (λ h. formula_fits g n h scope) (sym (formula.rolls-Exists bs f)) ∙ (ap (λ x. x scope) (fold-roll-Formula _ (formula_fits_step g n) (Formula-F.Exists bs f))
+      ∙ (sym (ap (λ x. x scope) (fold-roll-Formula _ (formula_fits_step g n) (Formula-F.ForAll bs f))) ∙ ap (λ h. formula_fits g n h scope) (formula.rolls-ForAll bs f)))
 
 pub depth_or_alike : (fs : List Formula) → depth (formula.Or fs) ≡ depth (formula.And fs)
 depth_or_alike fs = depth_or fs ∙ sym (depth_and fs)

@@ -14,7 +14,7 @@ use Rattle.dd_expansion.specs.declared.formulas.Formula.{Formula}
 use Rattle.dd_expansion.specs.declared.formulas.Formula.TheVariants as formula
 use Rattle.dd_expansion.specs.declared.formulas.Formula.TheFolds.{fold-roll-Formula}
 use Rattle.dd_expansion.specs.declared.formulas.Formula.TheOpen.{Formula-F}
-use Rattle.dd_expansion.specs.Limits.{balls_fit, formula_fits, fits_step, greatest, depth, depth_step}
+use Rattle.dd_expansion.specs.Limits.{balls_fit, formula_fits, formula_fits_step, greatest, depth, depth_step}
 use Rattle.dd_expansion.specs.Near.{AreNear}
 use Rattle.dd_expansion.specs.lemmas.Layers.{fits_and, depth_and}
 
@@ -47,7 +47,7 @@ part_depth fs i f within is =
 -- the balls and the body of a quantifier
 pub quantified_fits : (g : Grid) (n : ℕ) (bs : List BallOf) (f : Formula) (scope : ℕ) → formula_fits g n (formula.ForAll bs f) scope ≡ true → (balls_fit scope bs ≡ true) × (formula_fits g n f (scope + 1) ≡ true)
 quantified_fits g n bs f scope h =
-    let opened = ap (λ x. x scope) (fold-roll-Formula (ℕ → Bool) (fits_step g n) (Formula-F.ForAll bs f)) in
+    let opened = ap (λ x. x scope) (fold-roll-Formula (ℕ → Bool) (formula_fits_step g n) (Formula-F.ForAll bs f)) in
     and_parts _ _ (sym opened ∙ (ap (λ x. formula_fits g n x scope) (formula.rolls-ForAll bs f) ∙ h))
 
 pub quantified_depth : (bs : List BallOf) (f : Formula) → depth (formula.ForAll bs f) ≡ 1 + depth f

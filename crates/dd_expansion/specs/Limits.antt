@@ -32,26 +32,26 @@ ball_fits scope b = nat_lt b.variable scope && nat_le b.radius most_ball_radius
 abbrev pub balls_fit : ℕ → List BallOf → Bool
 balls_fit scope bs = nat_le (length bs) most_balls && list_all (ball_fits scope) bs
 
-abbrev pub fits_step : Grid → ℕ → Formula-F (ℕ → Bool) → ℕ → Bool
-fits_step g n (Formula-F.Symbol t s) scope = term_fits g scope t && nat_lt s n
-fits_step g n (Formula-F.NotSymbol t s) scope = term_fits g scope t && nat_lt s n
-fits_step g n (Formula-F.Same t u) scope = term_fits g scope t && term_fits g scope u
-fits_step g n (Formula-F.NotSame t u) scope = term_fits g scope t && term_fits g scope u
-fits_step g n (Formula-F.Adjacent t u) scope = term_fits g scope t && term_fits g scope u
-fits_step g n (Formula-F.Place t u) scope = term_fits g scope t && term_fits g scope u
-fits_step g n (Formula-F.Node t a) scope = term_fits g scope t && nat_lt a g.nodes
-fits_step g n (Formula-F.Not f) scope = f scope
-fits_step g n (Formula-F.And fs) scope = list_all (λ f. f scope) fs
-fits_step g n (Formula-F.Or fs) scope = list_all (λ f. f scope) fs
-fits_step g n (Formula-F.Implies f h) scope = f scope && h scope
-fits_step g n (Formula-F.Iff f h) scope = f scope && h scope
-fits_step g n (Formula-F.ForAll bs f) scope = balls_fit scope bs && f (scope + 1)
-fits_step g n (Formula-F.Exists bs f) scope = balls_fit scope bs && f (scope + 1)
+abbrev pub formula_fits_step : Grid → ℕ → Formula-F (ℕ → Bool) → ℕ → Bool
+formula_fits_step g n (Formula-F.Symbol t s) scope = term_fits g scope t && nat_lt s n
+formula_fits_step g n (Formula-F.NotSymbol t s) scope = term_fits g scope t && nat_lt s n
+formula_fits_step g n (Formula-F.Same t u) scope = term_fits g scope t && term_fits g scope u
+formula_fits_step g n (Formula-F.NotSame t u) scope = term_fits g scope t && term_fits g scope u
+formula_fits_step g n (Formula-F.Adjacent t u) scope = term_fits g scope t && term_fits g scope u
+formula_fits_step g n (Formula-F.Place t u) scope = term_fits g scope t && term_fits g scope u
+formula_fits_step g n (Formula-F.Node t a) scope = term_fits g scope t && nat_lt a g.nodes
+formula_fits_step g n (Formula-F.Not f) scope = f scope
+formula_fits_step g n (Formula-F.And fs) scope = list_all (λ f. f scope) fs
+formula_fits_step g n (Formula-F.Or fs) scope = list_all (λ f. f scope) fs
+formula_fits_step g n (Formula-F.Implies f h) scope = f scope && h scope
+formula_fits_step g n (Formula-F.Iff f h) scope = f scope && h scope
+formula_fits_step g n (Formula-F.ForAll bs f) scope = balls_fit scope bs && f (scope + 1)
+formula_fits_step g n (Formula-F.Exists bs f) scope = balls_fit scope bs && f (scope + 1)
 
 -- where so many variables are in scope, each variable, label, node and symbol of the formula is one that there is, and
 -- terms and balls are within their limits
 abbrev pub formula_fits : Grid → ℕ → Formula → ℕ → Bool
-formula_fits g n = fold-Formula (ℕ → Bool) (fits_step g n)
+formula_fits g n = fold-Formula (ℕ → Bool) (formula_fits_step g n)
 
 abbrev pub greatest : List ℕ → ℕ
 greatest [] = 0

@@ -12,7 +12,7 @@ use Rattle.std.proofs.lemmas.List.Elements.{All-get_or}
 use Rattle.dd_lattice.specs.declared.position.Cell.{Cell}
 use Rattle.dd_topology.specs.Sets.{row_allows, IsRow}
 use Rattle.dd_formula.specs.LocalRule.{LocalRule, rule_allows, cells_at, IsRule}
-use Rattle.dd_forbidden.specs.Breaking.{are_allowed, is_kept, IsBreaking, BreakingFillings}
+use Rattle.dd_forbidden.specs.Breaking.{are_allowed, is_true_at_origin, IsBreaking, BreakingFillings}
 use Rattle.dd_forbidden.specs.listing.Extensions.{extensions}
 use Rattle.dd_forbidden.proofs.Lists.{contains_first, contains_nil, cons_cases, sorted_append, of_part, part_of, range_has, range_from, less_at}
 
@@ -46,15 +46,15 @@ record Extends (r : LocalRule) (a : ℕ) (cs : List Cell) (start ss : List ℕ) 
   rest : List ℕ
   is : ss ≡ start ++ rest
   allowed : are_allowed r cs rest ≡ true
-  broken : is_kept r a ss ≡ false
+  broken : is_true_at_origin r a ss ≡ false
 
 abbrev branch : LocalRule → ℕ → Cell → List Cell → List ℕ → ℕ → List (List ℕ)
 branch r a c cs start s = cond (rule_allows r c.node s) (extensions r a cs (start ++ s ∷ [])) []
 
-whole : (r : LocalRule) (a : ℕ) (start ss : List ℕ) (b : Bool) → is_kept r a start ≡ b → Contains (cond b [] (start ∷ [])) ss → Extends r a [] start ss
+whole : (r : LocalRule) (a : ℕ) (start ss : List ℕ) (b : Bool) → is_true_at_origin r a start ≡ b → Contains (cond b [] (start ∷ [])) ss → Extends r a [] start ss
 whole r a start ss true h c = absurd (contains_nil ss c)
 whole r a start ss false h c = elim (cons_cases start [] ss c) [
-  | inl same ↦ record { rest = []; is = sym same ∙ sym (append-nil start); allowed = refl; broken = ap (is_kept r a) (sym same) ∙ h }
+  | inl same ↦ record { rest = []; is = sym same ∙ sym (append-nil start); allowed = refl; broken = ap (is_true_at_origin r a) (sym same) ∙ h }
   | inr none ↦ absurd (contains_nil ss none)
 ]
 
@@ -74,24 +74,24 @@ in_branch r a c cs start ss s true h below d = (below (start ++ s ∷ []) d, h)
 in_branch r a c cs start ss s false h below d = absurd (contains_nil ss d)
 
 extends : (r : LocalRule) (a : ℕ) (cs : List Cell) (start ss : List ℕ) → Contains (extensions r a cs start) ss → Extends r a cs start ss
-extends r a [] start ss d = whole r a start ss (is_kept r a start) refl d
+extends r a [] start ss d = whole r a start ss (is_true_at_origin r a start) refl d
 extends r a (c ∷ cs) start ss d =
     let o = of_part (branch r a c cs start) (range_with_len 0 r.symbols) ss d in
     let e = in_branch r a c cs start ss o.part (rule_allows r c.node o.part) refl (λ begun. extends r a cs begun ss) o.within in
     longer r a c cs start ss o.part e.1 e.0
 
-listed : (r : LocalRule) → IsRule r → (a : ℕ) (cs : List Cell) (start rest : List ℕ) → are_allowed r cs rest ≡ true → is_kept r a (start ++ rest) ≡ false →
+listed : (r : LocalRule) → IsRule r → (a : ℕ) (cs : List Cell) (start rest : List ℕ) → are_allowed r cs rest ≡ true → is_true_at_origin r a (start ++ rest) ≡ false →
     Contains (extensions r a cs start) (start ++ rest)
 listed r ok a [] start [] al br =
     let same = append-nil start in
-    let kept : is_kept r a start ≡ false = ap (is_kept r a) (sym same) ∙ br in
+    let kept : is_true_at_origin r a start ≡ false = ap (is_true_at_origin r a) (sym same) ∙ br in
     rw (same, kept) (contains_first start [])
 listed r ok a [] start (s ∷ rest) al br = absurd (false≢true al)
 listed r ok a (c ∷ cs) start [] al br = absurd (false≢true al)
 listed r ok a (c ∷ cs) start (s ∷ rest) al br =
     let both = and_parts (rule_allows r c.node s) (are_allowed r cs rest) al in
     let whole = append_assoc start (s ∷ []) rest in
-    let below = listed r ok a cs (start ++ s ∷ []) rest both.1 (ap (is_kept r a) whole ∙ br) in
+    let below = listed r ok a cs (start ++ s ∷ []) rest both.1 (ap (is_true_at_origin r a) whole ∙ br) in
     let begun : Contains (extensions r a cs (start ++ s ∷ [])) (start ++ s ∷ rest) = subst (Contains (extensions r a cs (start ++ s ∷ []))) whole below in
     let here : Contains (branch r a c cs start s) (start ++ s ∷ rest) = rw both.0 begun in
     part_of (branch r a c cs start) (range_with_len 0 r.symbols) s (start ++ s ∷ rest) (range_has r.symbols s (allowed_below r ok c.node s both.0)) here
@@ -137,7 +137,7 @@ branches_ascend r a c cs start each (suc n) k =
     before r a c cs start k o.part ps qs (omega (arith, later)) p o.within)
 
 ascends : (r : LocalRule) (a : ℕ) (cs : List Cell) (start : List ℕ) → Ascends (extensions r a cs start)
-ascends r a [] start = whole_ascends start (is_kept r a start)
+ascends r a [] start = whole_ascends start (is_true_at_origin r a start)
 ascends r a (c ∷ cs) start =
     branches_ascend r a c cs start (λ s. branch_ascends (extensions r a cs (start ++ s ∷ [])) (rule_allows r c.node s) (ascends r a cs (start ++ s ∷ []))) r.symbols 0
 

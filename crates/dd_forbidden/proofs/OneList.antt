@@ -15,7 +15,7 @@ use Rattle.std.proofs.lemmas.List.Elements.{All-nil, All-cons, All-contains}
 use Rattle.std.proofs.lemmas.Map.Views.{All-after_first}
 use Rattle.dd_lattice.specs.declared.position.Cell.{Cell}
 use Rattle.dd_formula.specs.LocalRule.{LocalRule, rule_allows, cells_at, IsRule}
-use Rattle.dd_forbidden.specs.Breaking.{are_allowed, is_kept, IsBreaking, BreakingFillings}
+use Rattle.dd_forbidden.specs.Breaking.{are_allowed, is_true_at_origin, IsBreaking, BreakingFillings}
 use Rattle.dd_forbidden.specs.listing.Extensions.{extensions}
 use Rattle.dd_forbidden.proofs.Lists.{contains_first, contains_later, contains_nil, cons_cases}
 use Rattle.dd_forbidden.proofs.ExtensionLaws.{allowed_below, breaking_fillings}
@@ -91,7 +91,7 @@ branch_length lists false m h = omega arith
 extensions_length : (r : LocalRule) (a : ℕ) (cs : List Cell) (start : List ℕ) → length (extensions r a cs start) ≤ r.symbols ^ length cs
 extensions_length r a [] start =
     let one : r.symbols ^ 0 ≡ 1 = pow-zero r.symbols in
-    let few : length (cond (is_kept r a start) [] (start ∷ [])) ≤ 1 = kept_length start (is_kept r a start) in
+    let few : length (cond (is_true_at_origin r a start) [] (start ∷ [])) ≤ 1 = kept_length start (is_true_at_origin r a start) in
     omega (arith, one, few)
 extensions_length r a (c ∷ cs) start =
     let all : length (extensions r a (c ∷ cs) start) ≤ r.symbols * r.symbols ^ length cs =

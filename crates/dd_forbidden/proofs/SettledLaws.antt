@@ -7,13 +7,13 @@ use Rattle.dd_lattice.specs.declared.position.Cell.{Cell}
 use Rattle.dd_numbered.specs.declared.numbered.Numbered.{Numbered}
 use Rattle.dd_numbered.specs.Numbered.{holds_in, IsSettled}
 use Rattle.dd_formula.specs.LocalRule.{LocalRule, rule_allows}
-use Rattle.dd_forbidden.specs.Breaking.{is_kept}
+use Rattle.dd_forbidden.specs.Breaking.{is_true_at_origin}
 use Rattle.dd_forbidden.specs.listing.Extensions.{completions, extensions, AreSymbols}
 use Rattle.dd_forbidden.specs.listing.Saying.{SaysKept}
 
 -- the rule's truth is the same under all symbols that begin with these
 abbrev pub Settles : LocalRule → ℕ → List ℕ → Bool → Type 0
-Settles r a ss b = (more : List ℕ) → AreSymbols r (ss ++ more) → is_kept r a (ss ++ more) ≡ b
+Settles r a ss b = (more : List ℕ) → AreSymbols r (ss ++ more) → is_true_at_origin r a (ss ++ more) ≡ b
 
 pub settled_so : (r : LocalRule) (a : ℕ) (e : Numbered) (ss begun : List ℕ) (b value : Bool) → SaysKept r a e → begun ≡ ss → value ≡ b → IsSettled e begun value → Settles r a ss b
 settled_so r a e ss begun b value says same is h more below =
@@ -22,10 +22,10 @@ settled_so r a e ss begun b value says same is h more below =
 settles_on : (r : LocalRule) (a : ℕ) (ss : List ℕ) (s : ℕ) (b : Bool) → Settles r a ss b → Settles r a (ss ++ s ∷ []) b
 settles_on r a ss s b h more below =
     let same = append_assoc ss (s ∷ []) more in
-    ap (is_kept r a) same ∙ h (s ∷ more) (subst (AreSymbols r) same below)
+    ap (is_true_at_origin r a) same ∙ h (s ∷ more) (subst (AreSymbols r) same below)
 
-settled_here : (r : LocalRule) (a : ℕ) (ss : List ℕ) (b : Bool) → AreSymbols r ss → Settles r a ss b → is_kept r a ss ≡ b
-settled_here r a ss b below h = ap (is_kept r a) (sym (append-nil ss)) ∙ h [] (subst (AreSymbols r) (sym (append-nil ss)) below)
+settled_here : (r : LocalRule) (a : ℕ) (ss : List ℕ) (b : Bool) → AreSymbols r ss → Settles r a ss b → is_true_at_origin r a ss ≡ b
+settled_here r a ss b below h = ap (is_true_at_origin r a) (sym (append-nil ss)) ∙ h [] (subst (AreSymbols r) (sym (append-nil ss)) below)
 
 -- lists of the numbers from k on that agree
 agree : (f g : ℕ → List (List ℕ)) (k n most : ℕ) → k + n ≤ most → ((s : ℕ) → s < most → f s ≡ g s) → flat_map f (range_with_len k n) ≡ flat_map g (range_with_len k n)

@@ -23,7 +23,7 @@ use Rattle.dd_formula.specs.LocalRule.{LocalRule, IsRule, is_true, is_of, reads_
 use Rattle.dd_numbered.specs.declared.numbered.Numbered.{Numbered}
 use Rattle.dd_numbered.specs.Numbered.{holds_in}
 use Rattle.dd_numbered.specs.Numbering.{by_rank, read_by}
-use Rattle.dd_forbidden.specs.Breaking.{is_kept}
+use Rattle.dd_forbidden.specs.Breaking.{is_true_at_origin}
 use Rattle.dd_forbidden.specs.listing.Extensions.{AreSymbols, AreOf}
 use Rattle.dd_forbidden.specs.listing.Saying.{SaysKept}
 
@@ -52,7 +52,7 @@ look_below n cs ss below c = below_at n ss below (position_or_len (λ d. is_eq (
 abbrev SaysTruth : LocalRule → ℕ → Expanded → Type 0
 SaysTruth r a e = (look : Look) → HasSymbolsBelow r.symbols look → (v : Place) → holds e (λ c. look (shifted v c)) ≡ is_true r (cell v a) look
 
-kept_here : (r : LocalRule) (a : ℕ) (e : Expanded) (ss : List ℕ) → SaysTruth r a e → AreSymbols r ss → holds e (filling_look (filled (cells_at r a) ss)) ≡ is_kept r a ss
+kept_here : (r : LocalRule) (a : ℕ) (e : Expanded) (ss : List ℕ) → SaysTruth r a e → AreSymbols r ss → holds e (filling_look (filled (cells_at r a) ss)) ≡ is_true_at_origin r a ss
 kept_here r a e ss truth below =
     let look : Look = filling_look (filled (cells_at r a) ss) in
     let same : (λ (c : Cell). look (shifted (place (pos 0) (pos 0) (pos 0)) c)) ≡ look = fun_ext (λ c. ap look (shifted_by_origin c)) in

@@ -19,8 +19,8 @@ are_allowed r (c ∷ cs) [] = false
 are_allowed r (c ∷ cs) (s ∷ ss) = rule_allows r c.node s && are_allowed r cs ss
 
 -- whether the rule is true at the node's cell at the origin, where the cells that it reads have these symbols
-abbrev pub is_kept : LocalRule → ℕ → List ℕ → Bool
-is_kept r a ss = is_true r (origin_at a) (filling_look (filled (cells_at r a) ss))
+abbrev pub is_true_at_origin : LocalRule → ℕ → List ℕ → Bool
+is_true_at_origin r a ss = is_true r (origin_at a) (filling_look (filled (cells_at r a) ss))
 
 -- the number of fillings of so many cells with so many symbols passes 65,536
 abbrev pub passes : ℕ → ℕ → Bool
@@ -32,7 +32,7 @@ is_large r a = passes r.symbols (length (cells_at r a))
 -- symbols for the cells that are read, under which the rule is false
 pub record IsBreaking (r : LocalRule) (a : ℕ) (ss : List ℕ) : Type 0 where
   pub allowed : are_allowed r (cells_at r a) ss ≡ true
-  pub broken : is_kept r a ss ≡ false
+  pub broken : is_true_at_origin r a ss ≡ false
 
 -- all of them in lexicographic order, each once
 pub record BreakingFillings (r : LocalRule) (a : ℕ) (lists : List (List ℕ)) : Type 0 where
@@ -49,6 +49,6 @@ pub record AreBreakingFillings (r : LocalRule) (a : ℕ) (fs : List Filled) : Ty
   pub few : is_large r a ≡ false
 
 -- why there is no list
-abbrev pub IsFault : LocalRule → ℕ → ForbiddenFault → Type 0
-IsFault r a Size = is_large r a ≡ true
-IsFault r a Memory = is_large r a ≡ false
+abbrev pub IsListingFault : LocalRule → ℕ → ForbiddenFault → Type 0
+IsListingFault r a Size = is_large r a ≡ true
+IsListingFault r a Memory = is_large r a ≡ false

@@ -1,6 +1,6 @@
 //! The list of the fillings that break a rule.
 ghost use Rattle.std.specs.Prelude.{◌<◌, IfOk, IfErr};
-ghost use Rattle.dd_forbidden.specs.Breaking.{AreBreakingFillings, IsFault};
+ghost use Rattle.dd_forbidden.specs.Breaking.{AreBreakingFillings, IsListingFault};
 
 use crate::fault::ForbiddenFault;
 use crate::search::extend;
@@ -20,7 +20,7 @@ use std::alloc::Global;
 pub fn forbidden(alloc: Global, rule: &Rule, node: u32) -> Result<Vec<Filling>, ForbiddenFault>
     requires { node < rule.now.nodes }
     ensures ok { IfOk result (λ found. AreBreakingFillings rule.now node found.items) }
-    ensures err { IfErr result (IsFault rule.now node) }
+    ensures err { IfErr result (IsListingFault rule.now node) }
 {
     if is_large(rule.symbols(), rule.reads(node).len()) {
         return Err(ForbiddenFault::Size);

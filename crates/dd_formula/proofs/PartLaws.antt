@@ -11,8 +11,8 @@ use Rattle.dd_expansion.specs.Limits.{IsFormula}
 use Rattle.dd_expansion.specs.lemmas.LeafLaws.{leaves_are_cells}
 use Rattle.dd_expansion.specs.lemmas.LeavesAreReads.{same_cells, leaves_are_symbols}
 use Rattle.dd_expansion.specs.lemmas.Placed.{reads_placed, origin_placed}
-use Rattle.dd_formula.specs.LocalRule.{LocalRule, local_rule, at_nodes, expansion_at, reads_at, cells_at, is_near, IsSmall, IsShort, IsRule, IsFar}
-use Rattle.dd_formula.specs.Refusals.{IsRefusal}
+use Rattle.dd_formula.specs.LocalRule.{LocalRule, local_rule, at_nodes, expansion_at, reads_at, cells_at, is_near, IsSmall, ReadsNear, IsRule, IsFar}
+use Rattle.dd_formula.specs.Refusals.{IsRuleRefusal}
 use Rattle.dd_formula.specs.declared.fault.RuleFault.{RuleFault}
 use Rattle.dd_formula.specs.declared.fault.RuleFault.TheVariants.{Reach, Memory}
 use Rattle.dd_formula.proofs.Nodes.{at_nodes-alike, map-at_nodes, all_at_nodes, some_fails}
@@ -27,7 +27,7 @@ module _ (r : LocalRule) (some : 1 ≤ r.symbols) where
   near_leaves : (a : ℕ) → list_all is_near (leaf_cells (expansion_at r a)) ≡ list_all is_near (reads_at r a)
   near_leaves a = sym (leaves_are_cells (expansion_at r a) is_near) ∙ leaves_pass_reads r some a is_near
 
-  pub short_from : list_all (λ e. list_all is_near (leaf_cells e)) (at_nodes (expansion_at r) r.nodes) ≡ true → IsShort r
+  pub short_from : list_all (λ e. list_all is_near (leaf_cells e)) (at_nodes (expansion_at r) r.nodes) ≡ true → ReadsNear r
   short_from h a below = sym (near_leaves a) ∙ all_at_nodes (λ e. list_all is_near (leaf_cells e)) (expansion_at r) r.nodes h a below
 
   pub far_from : list_all (λ e. list_all is_near (leaf_cells e)) (at_nodes (expansion_at r) r.nodes) ≡ false → IsFar r
@@ -37,12 +37,12 @@ module _ (r : LocalRule) (some : 1 ≤ r.symbols) where
 
   -- the fault with which the reads are refused
   pub refused_from : (fault : RuleFault) → IsSmall r → (fault ≡ Memory) ⊎ ((fault ≡ Reach) × (list_all (λ e. list_all is_near (leaf_cells e)) (at_nodes (expansion_at r) r.nodes) ≡ false)) →
-      IsRefusal r fault
-  refused_from fault small (inl is) = subst (IsRefusal r) (sym is) tt
-  refused_from fault small (inr far) = subst (IsRefusal r) (sym far.0) (small, far_from far.1)
+      IsRuleRefusal r fault
+  refused_from fault small (inl is) = subst (IsRuleRefusal r) (sym is) tt
+  refused_from fault small (inr far) = subst (IsRuleRefusal r) (sym far.0) (small, far_from far.1)
 
 pub rule_from : (g : Grid) (s : SymbolSets) (f : Formula) → IsGrid g → IsSets g.nodes s → g.nodes ≤ 4 → s.symbols ≤ 16 → IsFormula g s.symbols f →
-    IsSmall (local_rule g s f) → IsShort (local_rule g s f) → IsRule (local_rule g s f)
+    IsSmall (local_rule g s f) → ReadsNear (local_rule g s f) → IsRule (local_rule g s f)
 rule_from g s f grid sets few symbols formula small short = record {
   dimension = grid.dimension;
   nodes = (grid.nodes, few);

@@ -19,7 +19,7 @@ use Rattle.dd_expansion.specs.Truth.{are_equal}
 use Rattle.dd_expansion.specs.Terms.{origin_at}
 use Rattle.dd_expansion.specs.lemmas.ListTests.{list_all-weaker}
 use Rattle.dd_formula.specs.LocalRule.{is_near}
-use Rattle.dd_formula.specs.Automata.{Setting, Counted, IsAutomaton, value, counted, cells_of, is_cell_of}
+use Rattle.dd_formula.specs.Automata.{CommonNumbers, Counted, IsAutomaton, value, counted, cells_of, is_cell_of}
 use Rattle.dd_formula.specs.Values.{are_given, is_read, HasCasesLook}
 use Rattle.dd_formula.specs.valuing.Readable.{IsReadable, AreReadable, IsReadableAt, IsSeen}
 use Rattle.dd_formula.specs.declared.automaton.Automaton.{Automaton}
@@ -115,7 +115,7 @@ equal_seen None b false h = absurd (cc)
 equal_seen (Some x) b false h = absurd (cc)
 
 -- The value on the filling of what is read at a cell is the value there.
-module _ (f : Automaton) (s : Setting) (formed : IsAutomaton s f) (look : Look) (c : Cell) (node : c.node < s.nodes) (near : Filled) (h : IsSeen look c.position (cells_of f c.node) near) where
+module _ (f : Automaton) (s : CommonNumbers) (formed : IsAutomaton s f) (look : Look) (c : Cell) (node : c.node < s.nodes) (near : Filled) (h : IsSeen look c.position (cells_of f c.node) near) where
   reads_seen : list_all (λ d. are_equal (filling_look near d) (seen look c.position d)) ((counted f).reads c.node) ≡ true
   reads_seen = sym (list_all-in_order (λ d. are_equal (filling_look near d) (seen look c.position d)) ((counted f).reads c.node)) ∙ h.seen
 

@@ -30,7 +30,7 @@ abbrev pub value : Automaton → Valuation
 value = fold-Automaton Valuation value_step
 
 -- the numbers that a rule, an automaton and a configuration have in common
-pub record Setting : Type 0 where
+pub record CommonNumbers : Type 0 where
   pub dimension : ℕ
   pub nodes : ℕ
   pub symbols : ℕ
@@ -65,18 +65,18 @@ abbrev pub cells_of : Automaton → ℕ → List Cell
 cells_of f a = in_order ((counted f).reads a)
 
 -- the numbers fit: each rule has them, and each symbol that is given is one of the alphabet
-abbrev pub rule_has : Setting → LocalRule → Bool
+abbrev pub rule_has : CommonNumbers → LocalRule → Bool
 rule_has s r = r.dimension == s.dimension && r.nodes == s.nodes && r.symbols == s.symbols
 
-abbrev pub cases_fit : Setting → List (LocalRule × ℕ) → ℕ → Bool
+abbrev pub cases_fit : CommonNumbers → List (LocalRule × ℕ) → ℕ → Bool
 cases_fit s cases otherwise = list_all (λ case. rule_has s case.0 && nat_lt case.1 s.symbols) cases && nat_lt otherwise s.symbols
 
-abbrev pub fits_step : Setting → Automaton-F Bool → Bool
-fits_step s (Automaton-F.Given c) = cases_fit s c.cases c.otherwise
-fits_step s (Automaton-F.Composed f g) = f && g
+abbrev pub automaton_fits_step : CommonNumbers → Automaton-F Bool → Bool
+automaton_fits_step s (Automaton-F.Given c) = cases_fit s c.cases c.otherwise
+automaton_fits_step s (Automaton-F.Composed f g) = f && g
 
-abbrev pub automaton_fits : Setting → Automaton → Bool
-automaton_fits s = fold-Automaton Bool (fits_step s)
+abbrev pub automaton_fits : CommonNumbers → Automaton → Bool
+automaton_fits s = fold-Automaton Bool (automaton_fits_step s)
 
 -- whether it has a rule
 abbrev pub has_rules_step : Automaton-F Bool → Bool
@@ -88,7 +88,7 @@ has_rules = fold-Automaton Bool has_rules_step
 
 -- the number of nodes of the automaton's rules, where it has one
 abbrev pub IsNodesOf : Automaton → Option ℕ → Type 0
-IsNodesOf f r = MatchOption r (has_rules f ≡ false) (λ n. (s : Setting) → automaton_fits s f ≡ true → s.nodes ≡ n)
+IsNodesOf f r = MatchOption r (has_rules f ≡ false) (λ n. (s : CommonNumbers) → automaton_fits s f ≡ true → s.nodes ≡ n)
 
 -- the limits of an automaton, over so many nodes
 abbrev pub is_few : ℕ → Counted → Bool
@@ -119,43 +119,43 @@ abbrev pub are_within : ℕ → Automaton → Bool
 are_within nodes f = (fold-Automaton Checked (limits_step nodes) f).within
 
 -- a well-formed automaton over these numbers
-pub record IsAutomaton (s : Setting) (f : Automaton) : Type 0 where
+pub record IsAutomaton (s : CommonNumbers) (f : Automaton) : Type 0 where
   pub some : 1 ≤ s.nodes
   pub fits : automaton_fits s f ≡ true
   pub within : are_within s.nodes f ≡ true
 
 -- over some numbers the automaton is well formed, and there are at least so many nodes
 pub record HasNodes (f : Automaton) (nodes : ℕ) : Type 0 where
-  pub setting : Setting
+  pub setting : CommonNumbers
   pub formed : IsAutomaton setting f
   pub few : nodes ≤ setting.nodes
 
 -- over some numbers the automaton is well formed, and a is one of the nodes
 pub record HasNode (f : Automaton) (a : ℕ) : Type 0 where
-  pub setting : Setting
+  pub setting : CommonNumbers
   pub formed : IsAutomaton setting f
   pub below : a < setting.nodes
 
 -- over some numbers both automata are well formed, and a is one of the nodes
 pub record HaveNode (f g : Automaton) (a : ℕ) : Type 0 where
-  pub setting : Setting
+  pub setting : CommonNumbers
   pub outer : IsAutomaton setting f
   pub inner : IsAutomaton setting g
   pub below : a < setting.nodes
 
 -- a cell of Z^d with one of the nodes
-abbrev pub is_cell_of : Setting → Cell → Bool
+abbrev pub is_cell_of : CommonNumbers → Cell → Bool
 is_cell_of s c = is_flat s.dimension c.position && nat_lt c.node s.nodes
 
 -- the automaton can be read at these cells: over some numbers it is well formed, and they are cells that it may read at
 pub record HasCells (f : Automaton) (cs : List Cell) : Type 0 where
-  pub setting : Setting
+  pub setting : CommonNumbers
   pub formed : IsAutomaton setting f
   pub cells : list_all (is_cell_of setting) cs ≡ true
   pub near : list_all is_near cs ≡ true
 
 -- the cases of an automaton, at one of its nodes
 pub record HasCaseNode (c : Cases) (a : ℕ) : Type 0 where
-  pub setting : Setting
+  pub setting : CommonNumbers
   pub fit : cases_fit setting c.cases c.otherwise ≡ true
   pub below : a < setting.nodes

@@ -1,6 +1,6 @@
 -- Compositions of automata, and why they are refused.
 use Rattle.std.specs.Prelude.{ℕ, ◌≤◌, ◌≡◌, true, false}
-use Rattle.dd_formula.specs.Automata.{Setting, Counted, IsAutomaton, cases_fit, counted, is_few, is_short, is_shallow}
+use Rattle.dd_formula.specs.Automata.{CommonNumbers, Counted, IsAutomaton, cases_fit, counted, is_few, is_short, is_shallow}
 use Rattle.dd_formula.specs.declared.automaton.Automaton.{Automaton}
 use Rattle.dd_formula.specs.declared.automaton.Cases.{Cases}
 use Rattle.dd_formula.specs.declared.automaton.Automaton.TheVariants as v
@@ -9,7 +9,7 @@ use Rattle.dd_formula.specs.declared.fault.RuleFault.TheVariants.{Reach, Instanc
 
 -- both are well formed over the same numbers
 pub record AreAutomata (f g : Automaton) : Type 0 where
-  pub setting : Setting
+  pub setting : CommonNumbers
   pub outer : IsAutomaton setting f
   pub inner : IsAutomaton setting g
 
@@ -19,15 +19,15 @@ pub record HaveNodes (f g : Automaton) (nodes : ℕ) : Type 0 where
   pub few : nodes ≤ both.setting.nodes
 
 -- a fact of all numbers over which both are well formed
-abbrev pub OverBoth : Automaton → Automaton → (Setting → Type 0) → Type 0
-OverBoth f g P = (s : Setting) → IsAutomaton s f → IsAutomaton s g → P s
+abbrev pub OverBoth : Automaton → Automaton → (CommonNumbers → Type 0) → Type 0
+OverBoth f g P = (s : CommonNumbers) → IsAutomaton s f → IsAutomaton s g → P s
 
 -- what is counted of the composition
 abbrev pub composition : Automaton → Automaton → Counted
 composition f g = counted (v.Composed f g)
 
 -- so many nodes stand for all
-pub record StandFor (s : Setting) (f : Counted) (nodes : ℕ) : Type 0 where
+pub record StandFor (s : CommonNumbers) (f : Counted) (nodes : ℕ) : Type 0 where
   pub below : nodes ≤ s.nodes
   pub few : is_few s.nodes f ≡ is_few nodes f
   pub short : is_short s.nodes f ≡ is_short nodes f
@@ -43,19 +43,19 @@ abbrev pub PassesDepth : ℕ → Counted → Type 0
 PassesDepth n f = PassesReach n f × (is_shallow f ≡ true)
 
 -- why it isn't made: too many instances at some node; else a cell that is too far away; else it is too deep
-abbrev pub IsFault : ℕ → Counted → RuleFault → Type 0
-IsFault n f Instances = is_few n f ≡ false
-IsFault n f Reach = PassesInstances n f × (is_short n f ≡ false)
-IsFault n f Depth = PassesReach n f × (is_shallow f ≡ false)
-IsFault n f Memory = Unit {0}
+abbrev pub IsCompositionFault : ℕ → Counted → RuleFault → Type 0
+IsCompositionFault n f Instances = is_few n f ≡ false
+IsCompositionFault n f Reach = PassesInstances n f × (is_short n f ≡ false)
+IsCompositionFault n f Depth = PassesReach n f × (is_shallow f ≡ false)
+IsCompositionFault n f Memory = Unit {0}
 
 -- cases with so many nodes: each rule has the same numbers, and each symbol that is given is one of the alphabet
 pub record HaveNumbers (c : Cases) (nodes : ℕ) : Type 0 where
-  pub setting : Setting
+  pub setting : CommonNumbers
   pub fit : cases_fit setting c.cases c.otherwise ≡ true
   pub all : setting.nodes ≡ nodes
   pub some : 1 ≤ nodes
 
 -- the automaton by these cases is well formed over all such numbers
-abbrev pub IsGiven : Cases → ℕ → Type 0
-IsGiven c nodes = (s : Setting) → cases_fit s c.cases c.otherwise ≡ true → s.nodes ≡ nodes → IsAutomaton s (v.Given c)
+abbrev pub IsGivenByCases : Cases → ℕ → Type 0
+IsGivenByCases c nodes = (s : CommonNumbers) → cases_fit s c.cases c.otherwise ≡ true → s.nodes ≡ nodes → IsAutomaton s (v.Given c)

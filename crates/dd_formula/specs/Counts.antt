@@ -24,12 +24,12 @@ abbrev pub disallowed_pairs : LocalRule → ℕ
 disallowed_pairs r = over_nodes (λ a. length (disallowed r a)) r.nodes
 
 -- those of a cell: it has a symbol, no two of s symbols, and the rule is true there
-abbrev pub cell_clauses : ℕ → ℕ
-cell_clauses s = 2 + s * (s - 1) / 2
+abbrev pub cell_clause_count : ℕ → ℕ
+cell_clause_count s = 2 + s * (s - 1) / 2
 
 -- those of a position: of its cells, of the symbols that they don't allow, and of the rule's gates
 abbrev pub place_clauses : LocalRule → ℕ
-place_clauses r = r.nodes * cell_clauses r.symbols + disallowed_pairs r + rule_clauses r
+place_clauses r = r.nodes * cell_clause_count r.symbols + disallowed_pairs r + rule_clauses r
 
 -- some node of a position breaks the rule
 abbrev pub broken_clauses : LocalRule → ℕ

@@ -87,8 +87,8 @@ is_of r c = is_flat r.dimension c.position && nat_lt c.node r.nodes
 abbrev pub IsSmall : LocalRule → Type 0
 IsSmall r = (a : ℕ) → a < r.nodes → instances (expansion_at r a) ≤ most_instances
 
-abbrev pub IsShort : LocalRule → Type 0
-IsShort r = (a : ℕ) → a < r.nodes → list_all is_near (reads_at r a) ≡ true
+abbrev pub ReadsNear : LocalRule → Type 0
+ReadsNear r = (a : ℕ) → a < r.nodes → list_all is_near (reads_at r a) ≡ true
 
 -- what each rule keeps
 pub record IsRule (r : LocalRule) : Type 0 where
@@ -97,7 +97,7 @@ pub record IsRule (r : LocalRule) : Type 0 where
   pub symbols : (1 ≤ r.symbols) × (r.symbols ≤ 16)
   pub allowed : IsSets r.nodes (sets_of r)
   pub small : IsSmall r
-  pub short : IsShort r
+  pub short : ReadsNear r
   -- it reads cells of Z^d
   pub placed : (a : ℕ) → a < r.nodes → list_all (is_of r) (reads_at r a) ≡ true
   -- it asks for symbols of the alphabet

@@ -4,8 +4,8 @@ use Rattle.dd_formula.specs.declared.fault.RuleFault.{RuleFault}
 use Rattle.dd_formula.specs.declared.fault.RuleFault.TheVariants.{Reach, Instances, Depth, Memory}
 
 -- too many instances at some node; else a cell that is too far away
-abbrev pub IsRefusal : LocalRule → RuleFault → Type 0
-IsRefusal r Instances = IsLarge r
-IsRefusal r Reach = IsSmall r × IsFar r
-IsRefusal r Depth = ⊥
-IsRefusal r Memory = Unit {0}
+abbrev pub IsRuleRefusal : LocalRule → RuleFault → Type 0
+IsRuleRefusal r Instances = IsLarge r
+IsRuleRefusal r Reach = IsSmall r × IsFar r
+IsRuleRefusal r Depth = ⊥
+IsRuleRefusal r Memory = Unit {0}

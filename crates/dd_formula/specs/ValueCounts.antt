@@ -11,13 +11,13 @@ use Rattle.dd_formula.specs.declared.automaton.Automaton.TheFolds.{fold-Automato
 use Rattle.dd_formula.specs.declared.automaton.Automaton.TheOpen.{Automaton-F}
 
 -- the clauses of a gate that says that all of k signals hold, or some
-abbrev pub gate_clauses : ℕ → ℕ
-gate_clauses k = k + 1
+abbrev pub gate_clause_count : ℕ → ℕ
+gate_clause_count k = k + 1
 
 -- the value of an automaton by m cases: for the i-th case a gate over it and those before it, and a gate over all of them
 -- for the default
 abbrev pub choice_clauses : ℕ → ℕ
-choice_clauses m = total (map (λ i. gate_clauses (i + 1)) (range_with_len 0 m)) + gate_clauses m
+choice_clauses m = total (map (λ i. gate_clause_count (i + 1)) (range_with_len 0 m)) + gate_clause_count m
 
 -- for each of n symbols a gate over those that give it, where each of the m cases and the default gives one
 abbrev pub giving_clauses : ℕ → ℕ → ℕ
@@ -50,7 +50,7 @@ value_clauses n f = (fold-Automaton Valued (valued_step n) f).clauses
 
 -- at a node two automata differ: their values, for each symbol a gate over two signals, and a gate over these
 abbrev pub differ_at : ℕ → Automaton → Automaton → ℕ → ℕ
-differ_at n f g a = value_clauses n f a + value_clauses n g a + n * gate_clauses 2 + gate_clauses n
+differ_at n f g a = value_clauses n f a + value_clauses n g a + n * gate_clause_count 2 + gate_clause_count n
 
 -- they differ at some of the nodes
 abbrev pub differ_clauses : ℕ → ℕ → Automaton → Automaton → ℕ

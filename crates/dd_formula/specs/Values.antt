@@ -5,7 +5,7 @@ use Rattle.dd_lattice.specs.Place.{Place}
 use Rattle.dd_lattice.specs.declared.position.Cell.{Cell}
 use Rattle.dd_pattern.specs.Reading.{Look, HasSymbolsBelow}
 use Rattle.dd_expansion.specs.Leaves.{seen}
-use Rattle.dd_formula.specs.Automata.{Setting, IsAutomaton, cases_fit, cases_reads, counted, is_cell_of}
+use Rattle.dd_formula.specs.Automata.{CommonNumbers, IsAutomaton, cases_fit, cases_reads, counted, is_cell_of}
 use Rattle.dd_formula.specs.declared.automaton.Automaton.{Automaton}
 use Rattle.dd_formula.specs.declared.automaton.Cases.{Cases}
 
@@ -19,14 +19,14 @@ is_read f c look = are_given look c.position ((counted f).reads c.node)
 
 -- over some numbers the automaton is well formed, the cell has one of the nodes, and the symbols are of the alphabet
 pub record HasLook (f : Automaton) (c : Cell) (look : Look) : Type 0 where
-  pub setting : Setting
+  pub setting : CommonNumbers
   pub formed : IsAutomaton setting f
   pub below : c.node < setting.nodes
   pub symbols : HasSymbolsBelow setting.symbols look
 
 -- the same of cases that fit the numbers, where what they read at the cell is given
 pub record HasCasesLook (cases : Cases) (c : Cell) (look : Look) : Type 0 where
-  pub setting : Setting
+  pub setting : CommonNumbers
   pub fit : cases_fit setting cases.cases cases.otherwise ≡ true
   pub below : c.node < setting.nodes
   pub symbols : HasSymbolsBelow setting.symbols look
@@ -34,7 +34,7 @@ pub record HasCasesLook (cases : Cases) (c : Cell) (look : Look) : Type 0 where
 
 -- what is read at each node are cells of Z^d with one of the nodes, over all numbers that fit
 abbrev pub CasesArePlaced : Cases → Type 0
-CasesArePlaced c = (s : Setting) → cases_fit s c.cases c.otherwise ≡ true → (a : ℕ) → a < s.nodes → list_all (is_cell_of s) (cases_reads c.cases a) ≡ true
+CasesArePlaced c = (s : CommonNumbers) → cases_fit s c.cases c.otherwise ≡ true → (a : ℕ) → a < s.nodes → list_all (is_cell_of s) (cases_reads c.cases a) ≡ true
 
 abbrev pub IsPlaced : Automaton → Type 0
-IsPlaced f = (s : Setting) → IsAutomaton s f → (a : ℕ) → a < s.nodes → list_all (is_cell_of s) ((counted f).reads a) ≡ true
+IsPlaced f = (s : CommonNumbers) → IsAutomaton s f → (a : ℕ) → a < s.nodes → list_all (is_cell_of s) ((counted f).reads a) ≡ true

@@ -33,7 +33,7 @@ pub enum Automaton {
 
 impl Cases {
     ghost use Rattle.dd_formula.specs.LocalRule.{is_near, most_instances};
-    ghost use Rattle.dd_formula.specs.Automata.{Setting, HasCaseNode, cases_fit, cases_reads, case_instances, is_cell_of};
+    ghost use Rattle.dd_formula.specs.Automata.{CommonNumbers, HasCaseNode, cases_fit, cases_reads, case_instances, is_cell_of};
     ghost use Rattle.dd_formula.specs.Counts.{cut};
 
     fn copy(&self, alloc: Global) -> Result<Cases, AllocError>
@@ -53,7 +53,7 @@ impl Cases {
         requires { HasCaseNode self.now node }
         ensures list { IfOk result (λ v. v.items ≡ in_order (cases_reads self.now.cases node)) }
         ensures order { IfOk result (λ v. IsStrictlySortedBy cell_cmp v.items) }
-        ensures placed { IfOk result (λ v. (s : Setting) → cases_fit s self.now.cases self.now.otherwise ≡ true → node < s.nodes →
+        ensures placed { IfOk result (λ v. (s : CommonNumbers) → cases_fit s self.now.cases self.now.otherwise ≡ true → node < s.nodes →
             list_all (is_cell_of s) v.items ≡ true) }
     {
         let mut found = Vec::new(alloc);
@@ -65,7 +65,7 @@ impl Cases {
 
     fn nodes(&self) -> Option<u32>
         ensures { MatchOption result (length self.now.cases ≡ 0)
-            (λ n. (s : Setting) → cases_fit s self.now.cases self.now.otherwise ≡ true → s.nodes ≡ n) }
+            (λ n. (s : CommonNumbers) → cases_fit s self.now.cases self.now.otherwise ≡ true → s.nodes ≡ n) }
     {
         match self.cases.as_slice() {
             [] => None,
@@ -88,7 +88,7 @@ impl Cases {
 }
 
 impl Automaton {
-    ghost use Rattle.dd_formula.specs.Automata.{Setting, IsAutomaton, HasNode, HaveNode, HasCells, IsNodesOf, counted, cells_of, is_cell_of};
+    ghost use Rattle.dd_formula.specs.Automata.{CommonNumbers, IsAutomaton, HasNode, HaveNode, HasCells, IsNodesOf, counted, cells_of, is_cell_of};
     ghost use Rattle.dd_formula.specs.Counts.{cut};
     ghost use Rattle.dd_formula.specs.LocalRule.{most_instances};
 
@@ -113,7 +113,7 @@ impl Automaton {
         requires { HasNode self.now node }
         ensures list { IfOk result (λ v. v.items ≡ cells_of self.now node) }
         ensures order { IfOk result (λ v. IsStrictlySortedBy cell_cmp v.items) }
-        ensures placed { IfOk result (λ v. (s : Setting) → IsAutomaton s self.now → node < s.nodes → list_all (is_cell_of s) v.items ≡ true) }
+        ensures placed { IfOk result (λ v. (s : CommonNumbers) → IsAutomaton s self.now → node < s.nodes → list_all (is_cell_of s) v.items ≡ true) }
     {
         match self {
             Automaton::Given(cases) => cases.reads(alloc, node),
@@ -134,7 +134,7 @@ impl Automaton {
         requires { HaveNode outer.now inner.now node }
         ensures list { IfOk result (λ v. v.items ≡ cells_of (Automaton.Composed outer.now inner.now) node) }
         ensures order { IfOk result (λ v. IsStrictlySortedBy cell_cmp v.items) }
-        ensures placed { IfOk result (λ v. (s : Setting) → IsAutomaton s outer.now → IsAutomaton s inner.now → node < s.nodes →
+        ensures placed { IfOk result (λ v. (s : CommonNumbers) → IsAutomaton s outer.now → IsAutomaton s inner.now → node < s.nodes →
             list_all (is_cell_of s) v.items ≡ true) }
     {
         let cells = outer.reads(alloc, node)?;
@@ -147,7 +147,7 @@ impl Automaton {
         requires { HasCells self.now cells.now }
         ensures list { IfOk result (λ v. v.items ≡ in_order (flat_map (λ c. map (shifted c.position) (cells_of self.now c.node)) cells.now)) }
         ensures order { IfOk result (λ v. IsStrictlySortedBy cell_cmp v.items) }
-        ensures placed { IfOk result (λ v. (s : Setting) → IsAutomaton s self.now → list_all (is_cell_of s) cells.now ≡ true →
+        ensures placed { IfOk result (λ v. (s : CommonNumbers) → IsAutomaton s self.now → list_all (is_cell_of s) cells.now ≡ true →
             list_all (is_cell_of s) v.items ≡ true) }
     {
         let mut found = Vec::new(alloc);
@@ -225,7 +225,7 @@ impl Automaton {
     /// How deep compositions are nested: 0 for an automaton that is given by cases.
     #[tactic(auto, using(crate::specs::lemmas::AutomatonLaws::layers))]
     pub fn depth(&self) -> u32
-        requires { (s : Setting) × IsAutomaton s self.now }
+        requires { (s : CommonNumbers) × IsAutomaton s self.now }
         ensures { result ≡ (counted self.now).depth }
     {
         match self {

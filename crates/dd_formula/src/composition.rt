@@ -1,7 +1,7 @@
 //! Compositions of automata.
 ghost use Rattle.std.specs.Prelude.{◌≡◌, true, IfOk, IfErr, OnOk};
-ghost use Rattle.dd_formula.specs.Automata.{Setting, IsAutomaton, is_few, is_short, is_shallow};
-ghost use Rattle.dd_formula.specs.Compositions.{AreAutomata, HaveNodes, OverBoth, StandFor, PassesDepth, IsFault, composition};
+ghost use Rattle.dd_formula.specs.Automata.{CommonNumbers, IsAutomaton, is_few, is_short, is_shallow};
+ghost use Rattle.dd_formula.specs.Compositions.{AreAutomata, HaveNodes, OverBoth, StandFor, PassesDepth, IsCompositionFault, composition};
 
 use crate::automaton::Automaton;
 use crate::fault::RuleFault;
@@ -27,7 +27,7 @@ impl Automaton {
         requires { AreAutomata outer inner }
         ensures ok { IfOk result (λ h. h ≡ Automaton.Composed outer inner) }
         ensures formed { OnOk result (OverBoth outer inner (λ s. IsAutomaton s (Automaton.Composed outer inner))) }
-        ensures fault { IfErr result (λ e. OverBoth outer inner (λ s. IsFault s.nodes (composition outer inner) e.0)) }
+        ensures fault { IfErr result (λ e. OverBoth outer inner (λ s. IsCompositionFault s.nodes (composition outer inner) e.0)) }
         ensures back { IfErr result (λ e. (e.1 ≡ outer) × (e.2 ≡ inner)) }
     {
         match tested(alloc, &outer, &inner) {
@@ -60,7 +60,7 @@ fn joined(
 fn tested(alloc: Global, outer: &Automaton, inner: &Automaton) -> Result<(), RuleFault>
     requires { AreAutomata outer.now inner.now }
     ensures ok { OnOk result (OverBoth outer.now inner.now (λ s. PassesDepth s.nodes (composition outer.now inner.now))) }
-    ensures fault { IfErr result (λ fault. OverBoth outer.now inner.now (λ s. IsFault s.nodes (composition outer.now inner.now) fault)) }
+    ensures fault { IfErr result (λ fault. OverBoth outer.now inner.now (λ s. IsCompositionFault s.nodes (composition outer.now inner.now) fault)) }
 {
     let nodes = node_count(outer, inner);
     if !has_few(alloc, outer, inner, nodes)? {

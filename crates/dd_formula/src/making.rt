@@ -5,7 +5,7 @@ ghost use Rattle.dd_lattice.specs.InOrder.{in_order};
 ghost use Rattle.dd_expansion.specs.Limits.{IsFormula};
 ghost use Rattle.dd_expansion.specs.Leaves.{leaf_cells};
 ghost use Rattle.dd_formula.specs.LocalRule.{local_rule, at_nodes, expansion_at, is_near, IsSmall, IsExpanded};
-ghost use Rattle.dd_formula.specs.Refusals.{IsRefusal};
+ghost use Rattle.dd_formula.specs.Refusals.{IsRuleRefusal};
 ghost use Rattle.dd_formula.specs.declared.fault.RuleFault.TheVariants.{Reach, Memory};
 
 use crate::fault::RuleFault;
@@ -44,7 +44,7 @@ pub(crate) fn parts_of(
     ensures sets { IfOk result (λ parts. parts.sets ≡ sets.now) }
     ensures edges { IfOk result (λ parts. parts.edges ≡ topology.now.edges) }
     ensures ok { IfOk result (λ parts. IsExpanded (local_rule topology.now sets.now formula.now) parts.expansions parts.reads) }
-    ensures err { IfErr result (IsRefusal (local_rule topology.now sets.now formula.now)) }
+    ensures err { IfErr result (IsRuleRefusal (local_rule topology.now sets.now formula.now)) }
 {
     let edges = Items::from_slice(alloc, topology.edges())?;
     let copy = sets.copy(alloc)?;
@@ -70,7 +70,7 @@ fn expand_at_nodes(
     requires { IsFormula topology.now sets.now.symbols formula.now }
     ensures ok { IfOk result (λ es. es ≡ at_nodes (expansion_at (local_rule topology.now sets.now formula.now)) topology.now.nodes) }
     ensures small { OnOk result (IsSmall (local_rule topology.now sets.now formula.now)) }
-    ensures err { IfErr result (IsRefusal (local_rule topology.now sets.now formula.now)) }
+    ensures err { IfErr result (IsRuleRefusal (local_rule topology.now sets.now formula.now)) }
 {
     let symbols = sets.symbols();
     let mut expansions = Items::new(alloc);

@@ -2,7 +2,7 @@
 ghost use Rattle.std.specs.Prelude.{◌≡◌, ◌≤◌, IfOk};
 ghost use Rattle.dd_topology.specs.Topology.{extent};
 ghost use Rattle.dd_formula.specs.LocalRule.{IsRule};
-ghost use Rattle.dd_formula.specs.Automata.{Setting, IsAutomaton, HasNodes};
+ghost use Rattle.dd_formula.specs.Automata.{CommonNumbers, IsAutomaton, HasNodes};
 ghost use Rattle.dd_formula.specs.Reach.{farthest, reach, automaton_reach};
 
 use crate::automaton::Automaton;
@@ -60,8 +60,8 @@ impl Automaton {
 
     /// How far the automaton reads from the origin, at any node. One without rules reads nothing.
     pub fn reach(&self, alloc: Global) -> Result<u32, AllocError>
-        requires { (s : Setting) × IsAutomaton s self.now }
-        ensures value { IfOk result (λ n. (s : Setting) → IsAutomaton s self.now → n ≡ automaton_reach s.nodes self.now) }
+        requires { (s : CommonNumbers) × IsAutomaton s self.now }
+        ensures value { IfOk result (λ n. (s : CommonNumbers) → IsAutomaton s self.now → n ≡ automaton_reach s.nodes self.now) }
         ensures near { IfOk result (λ n. n ≤ 16) }
     {
         match self.nodes() {

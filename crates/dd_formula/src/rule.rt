@@ -8,7 +8,7 @@ ghost use Rattle.dd_expansion.specs.Limits.{IsFormula};
 ghost use Rattle.dd_expansion.specs.Leaves.{holds, given, seen, clause_count, leaf_cells};
 ghost use Rattle.dd_formula.specs.LocalRule.{local_rule, rule_allows, expansion_at, cells_at, is_true, is_given, IsRule};
 ghost use Rattle.dd_formula.specs.Allowed.{AreAllowed};
-ghost use Rattle.dd_formula.specs.Refusals.{IsRefusal};
+ghost use Rattle.dd_formula.specs.Refusals.{IsRuleRefusal};
 
 use crate::fault::RuleFault;
 use crate::making::{copy_expansions, copy_reads, parts_of};
@@ -65,7 +65,7 @@ impl Rule {
         requires formula { IsFormula topology.now sets.now.symbols formula }
         ensures ok { IfOk result (λ rule. rule ≡ local_rule topology.now sets.now formula) }
         ensures rule { OnOk result (IsRule (local_rule topology.now sets.now formula)) }
-        ensures err { IfErr result (IsRefusal (local_rule topology.now sets.now formula)) }
+        ensures err { IfErr result (IsRuleRefusal (local_rule topology.now sets.now formula)) }
     {
         let parts = parts_of(alloc, topology, sets, &formula)?;
         Ok(Rule {

@@ -2,7 +2,7 @@
 use Rattle.std.proofs.Common.{◌≡◌, ◌<◌, ℕ, ◌+◌, true, List, [], ◌∷◌, ◌++◌, length, map, get_or, refl, sym, ap, ◌∙◌, subst, arith, append_assoc}
 use Rattle.std.specs.List.{All}
 use Rattle.std.proofs.lemmas.List.{length-append, map-append, append-nil}
-use Rattle.dd_formula.specs.LocalRule.{LocalRule, IsShort}
+use Rattle.dd_formula.specs.LocalRule.{LocalRule, ReadsNear}
 use Rattle.dd_formula.specs.Automata.{is_few}
 use Rattle.dd_faults.specs.Order.{first_fault, Refuses}
 use Rattle.dd_faults.specs.declared.fault.Refusal.{Refusal}
@@ -47,5 +47,5 @@ next_refuses k ys rest zs cases x e few whole is h =
     case_refuses k cases (length ys) x e few (subst (λ l. length ys < length l) same (next_below ys zs x)) (subst (λ l. x ≡ get_or l (length ys) x) same (next_is ys zs x)) h
 
 -- no case is refused
-pub all_pass : (k : Known) (ys cases : List CaseOf) → ys ≡ cases → All (λ x. IsShort (rule_over k x.condition)) ys → reach_faults k.setting.topology.nodes (case_counts k cases) ≡ []
-all_pass k ys cases is h = let short = cases_are_short k cases (subst (All (λ x. IsShort (rule_over k x.condition))) is h) in rw short refl
+pub all_pass : (k : Known) (ys cases : List CaseOf) → ys ≡ cases → All (λ x. ReadsNear (rule_over k x.condition)) ys → reach_faults k.setting.topology.nodes (case_counts k cases) ≡ []
+all_pass k ys cases is h = let short = cases_are_short k cases (subst (All (λ x. ReadsNear (rule_over k x.condition))) is h) in rw short refl

@@ -14,8 +14,8 @@ use Rattle.dd_faults.specs.Commands.{case_faults}
 use Rattle.dd_faults.specs.Order.{first_fault, Refuses}
 use Rattle.dd_faults.specs.Sound.{IsSound}
 use Rattle.dd_formula.specs.LocalRule.{LocalRule}
-use Rattle.dd_formula.specs.Automata.{Setting, IsAutomaton, counted}
-use Rattle.dd_formula.specs.Compositions.{OverBoth, IsFault, composition}
+use Rattle.dd_formula.specs.Automata.{CommonNumbers, IsAutomaton, counted}
+use Rattle.dd_formula.specs.Compositions.{OverBoth, IsCompositionFault, composition}
 use Rattle.dd_formula.specs.declared.fault.RuleFault.{RuleFault}
 use Rattle.dd_formula.specs.declared.automaton.Automaton.{Automaton}
 use Rattle.dd_formula.specs.declared.automaton.Automaton.TheVariants as automaton
@@ -62,7 +62,7 @@ pub at_number : (automata : List Automaton) (i : ℕ) (f : Automaton) → i < le
 at_number automata i f below is =
     ap (λ (o : Option Automaton). unwrap_or o (automaton.Given (record { cases = []; otherwise = 0 }))) (slice_get_read automata (length automata) i f refl below is)
 
-pub formed_at : (s : Setting) (automata : List Automaton) (i : ℕ) (f : Automaton) → All (IsAutomaton s) automata → i < length automata → f ≡ get_or automata i f → IsAutomaton s f
+pub formed_at : (s : CommonNumbers) (automata : List Automaton) (i : ℕ) (f : Automaton) → All (IsAutomaton s) automata → i < length automata → f ≡ get_or automata i f → IsAutomaton s f
 formed_at s automata i f all below is = subst (IsAutomaton s) (sym is) (all i f below)
 
 -- one of the automata
@@ -84,17 +84,17 @@ module _ (automata : List Automaton) (i j : ℕ) (f g : Automaton) (first : Stan
       sym (ap (λ h. automaton.Composed h (automaton_at automata j)) (at_number automata i f first.below first.is)
       ∙ ap (automaton.Composed f) (at_number automata j g second.below second.is))
 
-  formed : OverBoth f g (λ s. IsAutomaton s (automaton.Composed f g)) → (s : Setting) → All (IsAutomaton s) automata → IsAutomaton s (automaton.Composed f g)
+  formed : OverBoth f g (λ s. IsAutomaton s (automaton.Composed f g)) → (s : CommonNumbers) → All (IsAutomaton s) automata → IsAutomaton s (automaton.Composed f g)
   formed each s all = each s (formed_at s automata i f all first.below first.is) (formed_at s automata j g all second.below second.is)
 
-  pub composition_passes : OverBoth f g (λ s. IsAutomaton s (automaton.Composed f g)) → (s : Setting) → All (IsAutomaton s) automata → count_faults s.nodes (counted whole) ≡ []
+  pub composition_passes : OverBoth f g (λ s. IsAutomaton s (automaton.Composed f g)) → (s : CommonNumbers) → All (IsAutomaton s) automata → count_faults s.nodes (counted whole) ≡ []
   composition_passes each s all =
       subst (λ (h : Automaton). count_faults s.nodes (counted h) ≡ []) composed (formed_passes s (automaton.Composed f g) (formed each s all))
 
-  pub composition_formed : OverBoth f g (λ s. IsAutomaton s (automaton.Composed f g)) → (s : Setting) → All (IsAutomaton s) automata → IsAutomaton s whole
+  pub composition_formed : OverBoth f g (λ s. IsAutomaton s (automaton.Composed f g)) → (s : CommonNumbers) → All (IsAutomaton s) automata → IsAutomaton s whole
   composition_formed each s all = subst (IsAutomaton s) composed (formed each s all)
 
-  pub composition_refuses : (e : RuleFault) → OverBoth f g (λ s. IsFault s.nodes (composition f g) e) → (s : Setting) → All (IsAutomaton s) automata →
+  pub composition_refuses : (e : RuleFault) → OverBoth f g (λ s. IsCompositionFault s.nodes (composition f g) e) → (s : CommonNumbers) → All (IsAutomaton s) automata →
       Refuses (refusal_of e) (first_fault (count_faults s.nodes (counted whole)))
   composition_refuses e each s all =
       subst (λ (h : Automaton). Refuses (refusal_of e) (first_fault (count_faults s.nodes (counted h)))) composed

@@ -7,10 +7,10 @@ use Rattle.std.proofs.lemmas.List.Elements.{All-head, All-tail}
 use Rattle.std.proofs.lemmas.List.Folds.{list_all-append}
 use Rattle.dd_expansion.specs.Leaves.{instances, total}
 use Rattle.dd_expansion.specs.declared.formulas.Formula.{Formula}
-use Rattle.dd_formula.specs.LocalRule.{LocalRule, most_instances, expansion_at, reads_at, is_near, IsSmall, IsShort, IsLarge, IsFar, IsRule}
-use Rattle.dd_formula.specs.Refusals.{IsRefusal}
-use Rattle.dd_formula.specs.Automata.{Setting, Counted, IsAutomaton, counted, is_few, is_short, is_shallow, cases_reads, case_instances, cases_fit, rule_has}
-use Rattle.dd_formula.specs.Compositions.{IsFault}
+use Rattle.dd_formula.specs.LocalRule.{LocalRule, most_instances, expansion_at, reads_at, is_near, IsSmall, ReadsNear, IsLarge, IsFar, IsRule}
+use Rattle.dd_formula.specs.Refusals.{IsRuleRefusal}
+use Rattle.dd_formula.specs.Automata.{CommonNumbers, Counted, IsAutomaton, counted, is_few, is_short, is_shallow, cases_reads, case_instances, cases_fit, rule_has}
+use Rattle.dd_formula.specs.Compositions.{IsCompositionFault}
 use Rattle.dd_formula.specs.declared.automaton.Automaton.{Automaton}
 use Rattle.dd_formula.specs.declared.fault.RuleFault.{RuleFault}
 use Rattle.dd_formula.specs.declared.fault.RuleFault.TheVariants as rule_fault
@@ -24,7 +24,7 @@ use Rattle.dd_faults.specs.declared.fault.Refusal.{Refusal}
 use Rattle.dd_faults.specs.declared.fault.Refusal.TheVariants as refusal
 use Rattle.dd_faults.specs.declared.context.Known.{Known}
 use Rattle.dd_faults.specs.Sound.{IsSound}
-use Rattle.dd_query.specs.Made.{numbers_of, IsRuleOf}
+use Rattle.dd_query.specs.Made.{script_numbers, IsRuleOf}
 use Rattle.dd_meanings.specs.declared.cases.CaseOf.{CaseOf}
 use Rattle.dd_meanings.specs.Definitions.{rule_counts, count_faults}
 use Rattle.dd_meanings.specs.making.Parts.{refusal_of, rule_over, made_case, given_by, IsCaseOf, case_counts, reach_faults}
@@ -54,13 +54,13 @@ pub none_passed : (n : ℕ) (f : Counted) → is_few n f ≡ true → is_short n
 none_passed n f h h' h'' = rw (h, h', h'') refl
 
 -- why a composition is refused
-pub fault_refuses : (n : ℕ) (f : Counted) (e : RuleFault) → IsFault n f e → Refuses (refusal_of e) (first_fault (count_faults n f))
+pub fault_refuses : (n : ℕ) (f : Counted) (e : RuleFault) → IsCompositionFault n f e → Refuses (refusal_of e) (first_fault (count_faults n f))
 fault_refuses n f rule_fault.Instances h = few_passed n f h
 fault_refuses n f rule_fault.Reach h = short_passed n f h.0 h.1
 fault_refuses n f rule_fault.Depth h = shallow_passed n f h.0.0 h.0.1 h.1
 fault_refuses n f rule_fault.Memory h = tt
 
-pub formed_passes : (s : Setting) (f : Automaton) → IsAutomaton s f → count_faults s.nodes (counted f) ≡ []
+pub formed_passes : (s : CommonNumbers) (f : Automaton) → IsAutomaton s f → count_faults s.nodes (counted f) ≡ []
 formed_passes s f h =
     let all = and_parts (is_few s.nodes (counted f) && is_short s.nodes (counted f)) (is_shallow (counted f)) (within_is s.nodes f h.within) in
     let two = and_parts (is_few s.nodes (counted f)) (is_short s.nodes (counted f)) all.0 in
@@ -83,14 +83,14 @@ module _ (r : LocalRule) where
   large_is_not_few : IsLarge r → is_few r.nodes (rule_counts r) ≡ false
   large_is_not_few h = range_fails (λ a. nat_le (instances (expansion_at r a)) most_instances) r.nodes h.node h.exists (lt-leb _ _ h.many)
 
-  short_is_short : IsShort r → is_short r.nodes (rule_counts r) ≡ true
+  short_is_short : ReadsNear r → is_short r.nodes (rule_counts r) ≡ true
   short_is_short h = range_from (λ a. list_all is_near (reads_at r a)) 0 r.nodes (λ a low high. h a (omega arith))
 
   far_is_not_short : IsFar r → is_short r.nodes (rule_counts r) ≡ false
   far_is_not_short h = range_fails (λ a. list_all is_near (reads_at r a)) r.nodes h.node h.exists h.far
 
   -- why a formula is refused as a rule
-  pub rule_refuses : (e : RuleFault) → IsRefusal r e → Refuses (refusal_of e) (first_fault (count_faults r.nodes (rule_counts r)))
+  pub rule_refuses : (e : RuleFault) → IsRuleRefusal r e → Refuses (refusal_of e) (first_fault (count_faults r.nodes (rule_counts r)))
   rule_refuses rule_fault.Instances h = few_passed r.nodes (rule_counts r) (large_is_not_few h)
   rule_refuses rule_fault.Reach h = short_passed r.nodes (rule_counts r) (small_is_few h.0) (far_is_not_short h.1)
   rule_refuses rule_fault.Depth h = absurd h
@@ -103,7 +103,7 @@ module _ (r : LocalRule) where
 
 module _ (k : Known) where
   -- a rule of the script has its numbers
-  pub has_numbers : (f : Formula) → IsSound k → rule_has (numbers_of k) (rule_over k f) ≡ true
+  pub has_numbers : (f : Formula) → IsSound k → rule_has (script_numbers k) (rule_over k f) ≡ true
   has_numbers f sound =
       let g = k.setting.topology in
       and_from _ _ (and_from _ _ (eq-eqb g.dimension g.dimension refl) (eq-eqb g.nodes g.nodes refl)) (eq-eqb k.setting.sets.symbols (length k.setting.symbols) sound.alphabet)
@@ -111,12 +111,12 @@ module _ (k : Known) where
   pub is_of_script : (f : Formula) → IsSound k → IsRuleOf k (rule_over k f)
   is_of_script f sound = record { has = has_numbers f sound; edges = refl; allowed = refl }
 
-  cases_pass : (cases : List CaseOf) → IsSound k → All (IsCaseOf k) cases → list_all (λ case. rule_has (numbers_of k) case.0 && nat_lt case.1 (length k.setting.symbols)) (map (made_case k) cases) ≡ true
+  cases_pass : (cases : List CaseOf) → IsSound k → All (IsCaseOf k) cases → list_all (λ case. rule_has (script_numbers k) case.0 && nat_lt case.1 (length k.setting.symbols)) (map (made_case k) cases) ≡ true
   cases_pass [] sound h = refl
   cases_pass (c ∷ cases) sound h =
       and_from _ _ (and_from _ _ (has_numbers c.condition sound) (lt-ltb _ _ (All-head (IsCaseOf k) c cases h).symbol)) (cases_pass cases sound (All-tail (IsCaseOf k) c cases h))
 
-  pub cases_are_fit : (cases : List CaseOf) (symbol : ℕ) → IsSound k → All (IsCaseOf k) cases → symbol < length k.setting.symbols → cases_fit (numbers_of k) (map (made_case k) cases) symbol ≡ true
+  pub cases_are_fit : (cases : List CaseOf) (symbol : ℕ) → IsSound k → All (IsCaseOf k) cases → symbol < length k.setting.symbols → cases_fit (script_numbers k) (map (made_case k) cases) symbol ≡ true
   cases_are_fit cases symbol sound h below = and_from _ _ (cases_pass cases sound h) (lt-ltb _ _ below)
 
   -- what is counted of the automaton
@@ -169,14 +169,14 @@ module _ (k : Known) where
         ]
       ]
 
-  cases_near : (a : ℕ) → a < k.setting.topology.nodes → (cases : List CaseOf) → All (λ c. IsShort (rule_over k c.condition)) cases → list_all is_near (cases_reads (map (made_case k) cases) a) ≡ true
+  cases_near : (a : ℕ) → a < k.setting.topology.nodes → (cases : List CaseOf) → All (λ c. ReadsNear (rule_over k c.condition)) cases → list_all is_near (cases_reads (map (made_case k) cases) a) ≡ true
   cases_near a below [] h = refl
   cases_near a below (c ∷ cases) h =
-      passes_both is_near (reads_at (rule_over k c.condition) a) (cases_reads (map (made_case k) cases) a) (All-head (λ c. IsShort (rule_over k c.condition)) c cases h a below)
-      (cases_near a below cases (All-tail (λ c. IsShort (rule_over k c.condition)) c cases h))
+      passes_both is_near (reads_at (rule_over k c.condition) a) (cases_reads (map (made_case k) cases) a) (All-head (λ c. ReadsNear (rule_over k c.condition)) c cases h a below)
+      (cases_near a below cases (All-tail (λ c. ReadsNear (rule_over k c.condition)) c cases h))
 
   -- where each case is short, the automaton is
-  pub cases_are_short : (cases : List CaseOf) → All (λ c. IsShort (rule_over k c.condition)) cases → is_short k.setting.topology.nodes (case_counts k cases) ≡ true
+  pub cases_are_short : (cases : List CaseOf) → All (λ c. ReadsNear (rule_over k c.condition)) cases → is_short k.setting.topology.nodes (case_counts k cases) ≡ true
   cases_are_short cases h = range_from (λ a. list_all is_near ((case_counts k cases).reads a)) 0 k.setting.topology.nodes (λ a low high. cases_near a (omega arith) cases h)
 
   by_case : (a : ℕ) (cases : List CaseOf) → case_instances a (map (made_case k) cases) ≡ total (map (λ c. instances (expansion_at (rule_over k c.condition) a) + 1) cases)

@@ -28,7 +28,7 @@ use Rattle.dd_expansion.specs.declared.formulas.BallOf.{BallOf}
 use Rattle.dd_expansion.specs.declared.formulas.Formula.{Formula, roll-Formula}
 use Rattle.dd_expansion.specs.declared.formulas.Formula.TheFolds.{fold-roll-Formula, map-Formula}
 use Rattle.dd_expansion.specs.declared.formulas.Formula.TheOpen.{Formula-F}
-use Rattle.dd_expansion.specs.Limits.{term_fits, ball_fits, balls_fit, formula_fits, fits_step}
+use Rattle.dd_expansion.specs.Limits.{term_fits, ball_fits, balls_fit, formula_fits, formula_fits_step}
 use Rattle.dd_faults.specs.declared.fault.Limit.TheVariants as limit
 use Rattle.dd_faults.specs.declared.fault.Fault.{Fault}
 use Rattle.dd_faults.specs.declared.fault.Fault.TheVariants as fault
@@ -58,8 +58,8 @@ module _ (x : Context) (same : x.known.setting.topology.nodes ≡ length x.known
   abbrev symbol : ℕ → Bool
   symbol n = nat_lt n x.known.setting.sets.symbols
 
-  rolled : (f : Formula-F Formula) (k : ℕ) → fits_step x.known.setting.topology x.known.setting.sets.symbols (map-Formula Formula (ℕ → Bool) its_fits f) k ≡ true → its_fits (roll-Formula f) k ≡ true
-  rolled f k h = ap (λ (t : ℕ → Bool). t k) (fold-roll-Formula (ℕ → Bool) (fits_step x.known.setting.topology x.known.setting.sets.symbols) f) ∙ h
+  rolled : (f : Formula-F Formula) (k : ℕ) → formula_fits_step x.known.setting.topology x.known.setting.sets.symbols (map-Formula Formula (ℕ → Bool) its_fits f) k ≡ true → its_fits (roll-Formula f) k ≡ true
+  rolled f k h = ap (λ (t : ℕ → Bool). t k) (fold-roll-Formula (ℕ → Bool) (formula_fits_step x.known.setting.topology x.known.setting.sets.symbols) f) ∙ h
 
   symbol_is : (n : Name) → missing x.text x.known.setting.symbols n ≡ [] → symbol (number_in x.text x.known.setting.symbols n) ≡ true
   symbol_is n none = let below = number_below x.text x.known.setting.symbols n none in lt-ltb _ _ (omega (arith, below, alphabet))

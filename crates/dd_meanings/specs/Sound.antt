@@ -13,7 +13,7 @@ use Rattle.dd_written.specs.declared.lexeme.Word.{Word}
 use Rattle.dd_written.specs.Values.{word_text}
 use Rattle.dd_faults.specs.declared.context.Known.{Known}
 use Rattle.dd_faults.specs.declared.context.Context.{Context}
-use Rattle.dd_query.specs.Made.{numbers_of, IsRuleOf}
+use Rattle.dd_query.specs.Made.{script_numbers, IsRuleOf}
 use Rattle.dd_query.specs.Sound.{IsSoundQuery}
 use Rattle.dd_meanings.specs.declared.meaning.Meaning.{Meaning}
 use Rattle.dd_meanings.specs.declared.meaning.Meaning.TheVariants as meant
@@ -68,6 +68,6 @@ IsSoundMeaning x rules automata (meant.Only node symbols) = IsRestriction x.know
 IsSoundMeaning x rules automata (meant.Weights ws) = AreWeights x.known ws
 IsSoundMeaning x rules automata (meant.Limits l) = AreLimits l
 IsSoundMeaning x rules automata (meant.Rule name r) = IsNew x name × IsRule r × IsRuleOf x.known r
-IsSoundMeaning x rules automata (meant.Automaton name f) = IsNew x name × IsAutomaton (numbers_of x.known) f
+IsSoundMeaning x rules automata (meant.Automaton name f) = IsNew x name × IsAutomaton (script_numbers x.known) f
 IsSoundMeaning x rules automata (meant.Configuration name t) = IsNew x name × IsConfigurationOf x.known t
 IsSoundMeaning x rules automata (meant.Query q) = IsSoundQuery x.known rules automata q

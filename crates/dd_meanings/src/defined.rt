@@ -7,7 +7,7 @@ ghost use Rattle.dd_commands.specs.declared.command.Command.TheVariants as comma
 ghost use Rattle.dd_faults.specs.Order.{Resolves};
 ghost use Rattle.dd_faults.specs.Commands.{faults_of};
 ghost use Rattle.dd_faults.specs.Sound.{IsSound};
-ghost use Rattle.dd_query.specs.Made.{numbers_of};
+ghost use Rattle.dd_query.specs.Made.{script_numbers};
 ghost use Rattle.dd_meanings.specs.Meanings.{meaning, counted_sizes};
 ghost use Rattle.dd_meanings.specs.Sound.{IsSoundMeaning};
 
@@ -61,7 +61,7 @@ pub(crate) fn composition(
     inner: Word,
 ) -> Result<Meaning, Refusal>
     requires named { length automata.now ≡ length context.now.known.automata }
-    requires formed { All (IsAutomaton (numbers_of context.now.known)) automata.now }
+    requires formed { All (IsAutomaton (script_numbers context.now.known)) automata.now }
     requires faultless { faults_of context.now (command.Composition name outer inner) ≡ [] }
     ensures exact { Resolves result (counted_sizes context.now [] automata.now (command.Composition name outer inner)) (meaning context.now [] automata.now (command.Composition name outer inner)) }
     ensures sound { OnOk result (IsSoundMeaning context.now [] automata.now (meaning context.now [] automata.now (command.Composition name outer inner))) }

@@ -11,7 +11,7 @@ ghost use Rattle.dd_faults.specs.Names.{missing};
 ghost use Rattle.dd_faults.specs.Formulas.{formula_faults};
 ghost use Rattle.dd_faults.specs.Commands.{shear_of, case_faults, symbol_faults, box_faults};
 ghost use Rattle.dd_faults.specs.Sound.{IsSound};
-ghost use Rattle.dd_query.specs.Made.{numbers_of, IsRuleOf};
+ghost use Rattle.dd_query.specs.Made.{script_numbers, IsRuleOf};
 ghost use Rattle.dd_meanings.specs.Definitions.{rule_of, automaton_of, composition_of, periods_of, tile_of, count_faults, rule_faults, automaton_faults};
 ghost use Rattle.dd_meanings.specs.making.Parts.{IsCaseOf, given_by, HasShortPeriods, tile_with};
 ghost use Rattle.dd_meanings.specs.Sound.{IsConfigurationOf};
@@ -53,7 +53,7 @@ fn given(
     requires cases { All (IsCaseOf known.now) cases }
     requires default { default < length known.now.setting.symbols }
     ensures exact { let f = given_by known.now cases default in Resolves result (count_faults known.now.setting.topology.nodes (counted f)) f }
-    ensures sound { OnOk result (IsAutomaton (numbers_of known.now) (given_by known.now cases default)) }
+    ensures sound { OnOk result (IsAutomaton (script_numbers known.now) (given_by known.now cases default)) }
 {
     if !has_few(alloc, known, cases.as_slice())? {
         return Err(too_large(Limit::Instances));
@@ -81,7 +81,7 @@ pub(crate) fn automaton(
     requires cases { flat_map (case_faults context.now) cases.now ≡ [] }
     requires default { missing context.now.text context.now.known.setting.symbols default ≡ [] }
     ensures exact { let f = automaton_of context.now cases.now default in Resolves result (automaton_faults context.now f) f }
-    ensures sound { OnOk result (IsAutomaton (numbers_of context.now.known) (automaton_of context.now cases.now default)) }
+    ensures sound { OnOk result (IsAutomaton (script_numbers context.now.known) (automaton_of context.now cases.now default)) }
 {
     let meant = cases_of(alloc, context, cases)?;
     let otherwise = number_in(&context.text, &context.known.setting.symbols, default);
@@ -97,11 +97,11 @@ pub(crate) fn composition(
     inner: Word,
 ) -> Result<Automaton, Refusal>
     requires named { length automata.now ≡ length context.now.known.automata }
-    requires formed { All (IsAutomaton (numbers_of context.now.known)) automata.now }
+    requires formed { All (IsAutomaton (script_numbers context.now.known)) automata.now }
     requires outer { missing context.now.text context.now.known.automata (name.Word outer) ≡ [] }
     requires inner { missing context.now.text context.now.known.automata (name.Word inner) ≡ [] }
     ensures exact { let f = composition_of context.now automata.now outer inner in Resolves result (automaton_faults context.now f) f }
-    ensures sound { OnOk result (IsAutomaton (numbers_of context.now.known) (composition_of context.now automata.now outer inner)) }
+    ensures sound { OnOk result (IsAutomaton (script_numbers context.now.known) (composition_of context.now automata.now outer inner)) }
 {
     let names = &context.known.automata;
     let outer = number_in(&context.text, names, Name::Word(outer)) as usize;

@@ -12,7 +12,7 @@ use Rattle.dd_numbered.specs.declared.numbered.Numbered.TheVariants as formula
 use Rattle.dd_numbered.specs.declared.numbered.Numbered.TheFolds.{fold-roll-Numbered}
 use Rattle.dd_numbered.specs.declared.numbered.Numbered.TheOpen.{Numbered-F}
 use Rattle.dd_numbered.specs.Numbering.{Numbering}
-use Rattle.dd_numbered.specs.Numbered.{holds_in, holds_step, numbered, numbered_step}
+use Rattle.dd_numbered.specs.Numbered.{holds_in, holds_in_step, numbered, numbered_step}
 
 list_any-map : {X Y : Type 0} (p : X → Bool) (h : Y → X) (ys : List Y) → list_any p (map h ys) ≡ list_any (λ y. p (h y)) ys
 list_any-map p h [] = refl
@@ -21,12 +21,12 @@ list_any-map p h (y ∷ ys) = ap (λ b. p (h y) || b) (list_any-map p h ys)
 pub holds_and : (es : List Numbered) (ss : List ℕ) → holds_in (formula.And es) ss ≡ list_all (λ e. holds_in e ss) es
 holds_and es ss =
     ap (λ e. holds_in e ss) (sym (formula.rolls-And es))
-    ∙ (ap (λ h. h ss) (fold-roll-Numbered (List ℕ → Bool) holds_step (Numbered-F.And es)) ∙ list_all-map (λ h. h ss) holds_in es)
+    ∙ (ap (λ h. h ss) (fold-roll-Numbered (List ℕ → Bool) holds_in_step (Numbered-F.And es)) ∙ list_all-map (λ h. h ss) holds_in es)
 
 pub holds_or : (es : List Numbered) (ss : List ℕ) → holds_in (formula.Or es) ss ≡ list_any (λ e. holds_in e ss) es
 holds_or es ss =
     ap (λ e. holds_in e ss) (sym (formula.rolls-Or es))
-    ∙ (ap (λ h. h ss) (fold-roll-Numbered (List ℕ → Bool) holds_step (Numbered-F.Or es)) ∙ list_any-map (λ h. h ss) holds_in es)
+    ∙ (ap (λ h. h ss) (fold-roll-Numbered (List ℕ → Bool) holds_in_step (Numbered-F.Or es)) ∙ list_any-map (λ h. h ss) holds_in es)
 
 pub numbered_and : (number : Numbering) (es : List Expanded) → numbered number (expanded.And es) ≡ formula.And (map (numbered number) es)
 numbered_and number es =

@@ -12,7 +12,7 @@ use Rattle.dd_numbered.specs.declared.numbered.Numbered.{Numbered, roll-Numbered
 use Rattle.dd_numbered.specs.declared.numbered.Numbered.TheFolds.{fold-roll-Numbered, map-Numbered}
 use Rattle.dd_numbered.specs.declared.numbered.Numbered.TheOpen.{Numbered-F}
 use Rattle.dd_numbered.specs.Numbering.{Numbering, read_by, symbol_with}
-use Rattle.dd_numbered.specs.Numbered.{holds_in, holds_step, leaf_with, numbered, numbered_step}
+use Rattle.dd_numbered.specs.Numbered.{holds_in, holds_in_step, leaf_with, numbered, numbered_step}
 
 abbrev SaysSame : Expanded → Type 0
 SaysSame e = (number : Numbering) (ss : List ℕ) → holds_in (numbered number e) ss ≡ holds e (read_by number ss)
@@ -24,8 +24,8 @@ abbrev layer : Expanded-F Same → Expanded-F Expanded
 layer y = map-Expanded Same Expanded (λ e. e.0) y
 
 -- one layer of a formula
-opened : (x : Numbered-F Numbered) (ss : List ℕ) → holds_in (roll-Numbered x) ss ≡ holds_step (map-Numbered Numbered (List ℕ → Bool) holds_in x) ss
-opened x ss = ap (λ h. h ss) (fold-roll-Numbered (List ℕ → Bool) holds_step x)
+opened : (x : Numbered-F Numbered) (ss : List ℕ) → holds_in (roll-Numbered x) ss ≡ holds_in_step (map-Numbered Numbered (List ℕ → Bool) holds_in x) ss
+opened x ss = ap (λ h. h ss) (fold-roll-Numbered (List ℕ → Bool) holds_in_step x)
 
 leaf_says : (s : ℕ) (ss : List ℕ) (k : Option ℕ) → holds_in (leaf_with s k) ss ≡ is_symbol s (symbol_with ss k)
 leaf_says s ss None = opened (Numbered-F.Constant false) ss

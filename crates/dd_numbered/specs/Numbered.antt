@@ -11,17 +11,17 @@ use Rattle.dd_numbered.specs.declared.numbered.Numbered.TheFolds.{fold-Numbered}
 use Rattle.dd_numbered.specs.declared.numbered.Numbered.TheOpen.{Numbered-F}
 use Rattle.dd_numbered.specs.Numbering.{Numbering}
 
-abbrev pub holds_step : Numbered-F (List ℕ → Bool) → List ℕ → Bool
-holds_step (Numbered-F.Constant b) ss = b
-holds_step (Numbered-F.Leaf k s) ss = is_symbol s (slice_get ss k)
-holds_step (Numbered-F.Not e) ss = not (e ss)
-holds_step (Numbered-F.And es) ss = list_all (λ e. e ss) es
-holds_step (Numbered-F.Or es) ss = list_any (λ e. e ss) es
-holds_step (Numbered-F.Iff e f) ss = beq (e ss) (f ss)
+abbrev pub holds_in_step : Numbered-F (List ℕ → Bool) → List ℕ → Bool
+holds_in_step (Numbered-F.Constant b) ss = b
+holds_in_step (Numbered-F.Leaf k s) ss = is_symbol s (slice_get ss k)
+holds_in_step (Numbered-F.Not e) ss = not (e ss)
+holds_in_step (Numbered-F.And es) ss = list_all (λ e. e ss) es
+holds_in_step (Numbered-F.Or es) ss = list_any (λ e. e ss) es
+holds_in_step (Numbered-F.Iff e f) ss = beq (e ss) (f ss)
 
 -- the truth under the symbols of a list
 abbrev pub holds_in : Numbered → List ℕ → Bool
-holds_in = fold-Numbered (List ℕ → Bool) holds_step
+holds_in = fold-Numbered (List ℕ → Bool) holds_in_step
 
 -- whatever symbols follow these, the truth is the same
 abbrev pub IsSettled : Numbered → List ℕ → Bool → Type 0

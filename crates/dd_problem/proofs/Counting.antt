@@ -23,7 +23,7 @@ use Rattle.dd_compile.specs.lemmas.ChoiceLaws.{fresh_length}
 use Rattle.dd_compile.specs.lemmas.ValueParts.{by_forms, made_given, made_composed, few_gates}
 use Rattle.dd_boxes.specs.Goals.{GoalOf, breaks, differ, always}
 use Rattle.dd_boxes.specs.Boxes.{origin}
-use Rattle.dd_formula.specs.Counts.{over_nodes, rule_clauses, cell_clauses, disallowed_pairs}
+use Rattle.dd_formula.specs.Counts.{over_nodes, rule_clauses, cell_clause_count, disallowed_pairs}
 use Rattle.dd_boxes.specs.Counts.{goal_clauses, question_clauses}
 use Rattle.dd_problem.specs.Layouts.{Layout, nth_cell, cells_in, fits_in}
 use Rattle.dd_problem.specs.Clauses.{part_gates}
@@ -162,7 +162,7 @@ cells_total x b m = total_alike (at_cell x) (at_cell x) (nth_cell b m) (volume b
 half : (n : ℕ) → n / 2 * 2 + n % 2 ≡ n
 half n = div-add-mod' n 2
 
-symbols_below : (s : ℕ) → s ≤ cell_clauses s
+symbols_below : (s : ℕ) → s ≤ cell_clause_count s
 symbols_below zero = omega arith
 symbols_below (suc zero) = omega arith
 symbols_below (suc (suc t)) =
@@ -185,17 +185,17 @@ variables_below l x g b places =
     let goal = goal_gates l x.symbols g (n + length (part_gates n ps)) in
     let count = ap length places ∙ length-cells_in b x.nodes in
     let inputs : n ≡ v * x.nodes * x.symbols = ap (λ k. k * x.symbols) count in
-    let fewer : v * x.nodes * x.symbols ≤ v * x.nodes * cell_clauses x.symbols = mul-le (v * x.nodes) x.symbols (v * x.nodes) (cell_clauses x.symbols) (omega arith) (symbols_below x.symbols) in
-    let turned : v * x.nodes * cell_clauses x.symbols ≡ v * (x.nodes * cell_clauses x.symbols) = mul_assoc v x.nodes (cell_clauses x.symbols) in
-    let spread = mul-add v (x.nodes * cell_clauses x.symbols + disallowed_pairs x) (rule_clauses x) in
-    let more = mul-add v (x.nodes * cell_clauses x.symbols) (disallowed_pairs x) in
+    let fewer : v * x.nodes * x.symbols ≤ v * x.nodes * cell_clause_count x.symbols = mul-le (v * x.nodes) x.symbols (v * x.nodes) (cell_clause_count x.symbols) (omega arith) (symbols_below x.symbols) in
+    let turned : v * x.nodes * cell_clause_count x.symbols ≡ v * (x.nodes * cell_clause_count x.symbols) = mul_assoc v x.nodes (cell_clause_count x.symbols) in
+    let spread = mul-add v (x.nodes * cell_clause_count x.symbols + disallowed_pairs x) (rule_clauses x) in
+    let more = mul-add v (x.nodes * cell_clause_count x.symbols) (disallowed_pairs x) in
     omega (arith, split, premise, cells, goal, inputs, fewer, turned, spread, more)
 
 -- and the positions too
 pub positions_below : (x : LocalRule) (g : GoalOf) (v : ℕ) → 1 ≤ x.nodes → v ≤ question_clauses x g v
 positions_below x g v some =
-    let spread = mul-add v (x.nodes * cell_clauses x.symbols + disallowed_pairs x) (rule_clauses x) in
-    let more = mul-add v (x.nodes * cell_clauses x.symbols) (disallowed_pairs x) in
-    let one : 1 * 1 ≤ x.nodes * cell_clauses x.symbols = mul-le 1 1 x.nodes (cell_clauses x.symbols) some (omega arith) in
-    let least : v * 1 ≤ v * (x.nodes * cell_clauses x.symbols) = mul-le v 1 v (x.nodes * cell_clauses x.symbols) (omega arith) (omega (arith, one)) in
+    let spread = mul-add v (x.nodes * cell_clause_count x.symbols + disallowed_pairs x) (rule_clauses x) in
+    let more = mul-add v (x.nodes * cell_clause_count x.symbols) (disallowed_pairs x) in
+    let one : 1 * 1 ≤ x.nodes * cell_clause_count x.symbols = mul-le 1 1 x.nodes (cell_clause_count x.symbols) some (omega arith) in
+    let least : v * 1 ≤ v * (x.nodes * cell_clause_count x.symbols) = mul-le v 1 v (x.nodes * cell_clause_count x.symbols) (omega arith) (omega (arith, one)) in
     omega (arith, spread, more, least)

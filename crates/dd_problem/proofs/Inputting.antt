@@ -13,11 +13,11 @@ use Rattle.dd_circuit.specs.declared.gates.Signal.{Signal}
 use Rattle.dd_compile.specs.Wiring.{Wiring, with_cell}
 use Rattle.dd_pattern.specs.Tile.{Tile}
 use Rattle.dd_problem.specs.Grown.{number_at}
-use Rattle.dd_problem.specs.Numbered.{symbol_signals, numbered}
+use Rattle.dd_problem.specs.Numbered.{symbol_signals, numbered_wiring}
 
 -- those of the first cells
 abbrev pub first_numbered : ℕ → List Cell → List ℕ → ℕ → Wiring
-first_numbered m cells numbers i = numbered m (take i cells) (take i numbers)
+first_numbered m cells numbers i = numbered_wiring m (take i cells) (take i numbers)
 
 same_wiring : (a b : Wiring) → a.cells ≡ b.cells → a.signals ≡ b.signals → a ≡ b
 same_wiring a b cs ss = λ i. record { cells = cs i; signals = ss i }
@@ -38,9 +38,9 @@ numbered_step m cells numbers i k d ss now new h same here number signals so_far
     same_wiring new (first_numbered m cells numbers (i + 1)) first second
 
 pub numbered_whole : (m : ℕ) (cells : List Cell) (numbers : List ℕ) (i : ℕ) (now : Wiring) → length cells ≤ i → length numbers ≡ length cells →
-    now ≡ first_numbered m cells numbers i → now ≡ numbered m cells numbers
+    now ≡ first_numbered m cells numbers i → now ≡ numbered_wiring m cells numbers
 numbered_whole m cells numbers i now h same so_far =
-    so_far ∙ (ap (λ cs. numbered m cs (take i numbers)) (take_all i cells h) ∙ ap (λ ns. numbered m cells ns) (take_all i numbers (omega arith)))
+    so_far ∙ (ap (λ cs. numbered_wiring m cs (take i numbers)) (take_all i cells h) ∙ ap (λ ns. numbered_wiring m cells ns) (take_all i numbers (omega arith)))
 
 -- the next cell comes after all before it
 pub before_next : (m : ℕ) (cells : List Cell) (numbers : List ℕ) (i : ℕ) (d : Cell) (now : Wiring) → IsStrictlySortedBy cell_cmp cells → i < length cells → d ≡ get_or cells i d →

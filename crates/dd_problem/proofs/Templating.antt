@@ -33,7 +33,7 @@ use Rattle.dd_boxes.specs.Counts.{question_clauses, most_clauses}
 use Rattle.dd_boxes.specs.Witnesses.{ArePeriods}
 use Rattle.dd_problem.specs.Clauses.{input}
 use Rattle.dd_problem.specs.Layouts.{nth_cell, cells_in, box_cells, torus_cells}
-use Rattle.dd_problem.specs.Numbered.{symbol_signals, numbered}
+use Rattle.dd_problem.specs.Numbered.{symbol_signals, numbered_wiring}
 use Rattle.dd_problem.specs.Pushed.{AreInputs, HasAllSymbols, is_wired_at}
 use Rattle.dd_problem.specs.lemmas.Filtered.{some_same}
 use Rattle.dd_problem.specs.lemmas.CellOrder.{All-range}
@@ -107,7 +107,7 @@ turn_full : (m : ℕ) (o : Option ℕ) (ss : List Signal) → option_map (symbol
 turn_full m None ss h = absurd (cc)
 turn_full m (Some k) ss h = ap length (some_same ss (symbol_signals m k) (sym h)) ∙ length-map-range_with_len (λ s. signal_of (input m k s)) 0 m
 
-pub numbered_full : (m : ℕ) (cells : List Cell) (numbers : List ℕ) → HasAllSymbols m (numbered m cells numbers)
+pub numbered_full : (m : ℕ) (cells : List Cell) (numbers : List ℕ) → HasAllSymbols m (numbered_wiring m cells numbers)
 numbered_full m cells numbers c ss is =
     let j = position_or_len (λ d. is_eq (cell_cmp d c)) cells in
     turn_full m (slice_get numbers j) ss (sym (slice_get-map (symbol_signals m) numbers j) ∙ is)

@@ -25,7 +25,7 @@ use Rattle.dd_problem.specs.Told.{IsToldGoal}
 use Rattle.dd_problem.specs.Layouts.{cells_in, torus_cells}
 use Rattle.dd_problem.specs.Grown.{torus_layout}
 use Rattle.dd_problem.specs.Problems.{torus_problem}
-use Rattle.dd_problem.specs.Grown.{question_reach, grown, near_cells, number_at, numbered_by, numbers_of, torus_inputs}
+use Rattle.dd_problem.specs.Grown.{question_reach, grown, near_cells, number_at, numbered_by, numbered_tile, torus_inputs}
 use Rattle.dd_problem.specs.Pushed.{AreInputs, is_goal_wired, wired_problem}
 use Rattle.dd_problem.specs.Shows.{ShowsTorus}
 use Rattle.dd_problem.specs.lemmas.RangesLeft.{row_within}
@@ -55,7 +55,7 @@ module _ (x : LocalRule) (periods : Periods) (rule : IsRule x) (ok : ArePeriods 
 
   -- the configuration of the numbers
   numbering_is : (d nodes : ℕ) (items : List ℕ) → d ≡ x.dimension → nodes ≡ x.nodes →
-      items ≡ range_with_len 0 (periods_volume periods * nodes) → tile d periods nodes items ≡ numbers_of x periods
+      items ≡ range_with_len 0 (periods_volume periods * nodes) → tile d periods nodes items ≡ numbered_tile x periods
   numbering_is d nodes items dim same is =
       ap (λ k. tile k periods nodes items) dim
       ∙ (ap (λ k. tile x.dimension periods k items) same
@@ -91,15 +91,15 @@ module _ (x : LocalRule) (periods : Periods) (rule : IsRule x) (ok : ArePeriods 
   pub nodes_there : (cells : List Cell) → cells ≡ torus_cells x periods → All (λ (d : Cell). d.node < x.nodes) cells
   nodes_there cells read = subst (All (λ (d : Cell). d.node < x.nodes)) (sym read) (cells_nodes (fundamental periods) x.nodes rule.nodes.0)
 
-  number_below : (c : Cell) → c.node < x.nodes → number_at (numbers_of x periods) c < length (torus_cells x periods)
+  number_below : (c : Cell) → c.node < x.nodes → number_at (numbered_tile x periods) c < length (torus_cells x periods)
   number_below c node =
       let is = number_is x periods rule ok c node in
-      let low = index_below (numbers_of x periods) (numbers_tile x periods rule ok).tile c node in
+      let low = index_below (numbered_tile x periods) (numbers_tile x periods rule ok).tile c node in
       omega (arith, is, low, length-range_with_len 0 (torus_size x periods), length-torus_cells x periods rule ok)
 
-  input_few : (c : Cell) → c.node < x.nodes → number_at (numbers_of x periods) c * x.symbols + x.symbols ≤ 2 ^ 24
+  input_few : (c : Cell) → c.node < x.nodes → number_at (numbered_tile x periods) c * x.symbols + x.symbols ≤ 2 ^ 24
   input_few c node =
-      let k = number_at (numbers_of x periods) c in
+      let k = number_at (numbered_tile x periods) c in
       let row = row_within x.symbols k (length (torus_cells x periods)) (number_below c node) in
       let most = size_small in
       let all : length (torus_cells x periods) * x.symbols ≤ 65536 * 16 = mul-le (length (torus_cells x periods)) x.symbols 65536 16 (omega (arith, most, length-torus_cells x periods rule ok)) rule.symbols.1 in
@@ -142,31 +142,31 @@ module _ (x : LocalRule) (periods : Periods) (rule : IsRule x) (ok : ArePeriods 
   near_nodes : All (λ (c : Cell). c.node < x.nodes) near
   near_nodes = cells_nodes (grown x.dimension n periods) x.nodes rule.nodes.0
 
-  pub near_nodes_there : (cells : List Cell) (t : Tile) → cells ≡ near → t ≡ numbers_of x periods → All (λ (c : Cell). c.node < t.nodes) cells
+  pub near_nodes_there : (cells : List Cell) (t : Tile) → cells ≡ near → t ≡ numbered_tile x periods → All (λ (c : Cell). c.node < t.nodes) cells
   near_nodes_there cells t read is =
       subst (All (λ (c : Cell). c.node < t.nodes)) (sym read) (subst (λ (u : Tile). All (λ (c : Cell). c.node < u.nodes) near) (sym is) near_nodes)
 
   abbrev wires : Wiring
   wires = torus_inputs x g periods
 
-  pub wires_are : (s : ℕ) (t : Tile) (cells : List Cell) → s ≡ x.symbols → t ≡ numbers_of x periods → cells ≡ near → numbered_by s t cells ≡ wires
+  pub wires_are : (s : ℕ) (t : Tile) (cells : List Cell) → s ≡ x.symbols → t ≡ numbered_tile x periods → cells ≡ near → numbered_by s t cells ≡ wires
   wires_are s t cells same numbers read =
-      ap (λ m. numbered_by m t cells) same ∙ (ap (λ u. numbered_by x.symbols u cells) numbers ∙ ap (numbered_by x.symbols (numbers_of x periods)) read)
+      ap (λ m. numbered_by m t cells) same ∙ (ap (λ u. numbered_by x.symbols u cells) numbers ∙ ap (numbered_by x.symbols (numbered_tile x periods)) read)
 
-  pub numbers_few : (cells : List Cell) (t : Tile) (s : ℕ) → cells ≡ near → t ≡ numbers_of x periods → s ≡ x.symbols →
+  pub numbers_few : (cells : List Cell) (t : Tile) (s : ℕ) → cells ≡ near → t ≡ numbered_tile x periods → s ≡ x.symbols →
       All (λ c. number_at t c * s + s ≤ 2 ^ 24) cells
   numbers_few cells t s read is same =
       subst (All (λ c. number_at t c * s + s ≤ 2 ^ 24)) (sym read)
       (subst (λ m. All (λ c. number_at t c * m + m ≤ 2 ^ 24) near) (sym same)
       (subst (λ (u : Tile). All (λ c. number_at u c * x.symbols + x.symbols ≤ 2 ^ 24) near) (sym is)
-      (All-weaker (λ (c : Cell). c.node < x.nodes) (λ c. number_at (numbers_of x periods) c * x.symbols + x.symbols ≤ 2 ^ 24) (input_few x periods rule ok) near near_nodes)))
+      (All-weaker (λ (c : Cell). c.node < x.nodes) (λ c. number_at (numbered_tile x periods) c * x.symbols + x.symbols ≤ 2 ^ 24) (input_few x periods rule ok) near near_nodes)))
 
   pub signals_there : (cells : List Cell) (w : Wiring) → w ≡ wires → cells ≡ torus_cells x periods → AreInputs (length cells * x.symbols) w
   signals_there cells w is read =
       subst (AreInputs (length cells * x.symbols)) (sym is) (subst (λ (cs : List Cell). AreInputs (length cs * x.symbols) wires) (sym read)
-      (are_inputs x.symbols (length (torus_cells x periods)) near (map (number_at (numbers_of x periods)) near)
-      (All-map (λ k. k < length (torus_cells x periods)) (number_at (numbers_of x periods)) near
-      (All-weaker (λ (c : Cell). c.node < x.nodes) (λ c. number_at (numbers_of x periods) c < length (torus_cells x periods)) (number_below x periods rule ok) near near_nodes))))
+      (are_inputs x.symbols (length (torus_cells x periods)) near (map (number_at (numbered_tile x periods)) near)
+      (All-map (λ k. k < length (torus_cells x periods)) (number_at (numbered_tile x periods)) near
+      (All-weaker (λ (c : Cell). c.node < x.nodes) (λ c. number_at (numbered_tile x periods) c < length (torus_cells x periods)) (number_below x periods rule ok) near near_nodes))))
 
   module _ (cells : List Cell) (w : Wiring) (is : w ≡ wires) (read : cells ≡ torus_cells x periods) where
     pub goal_wired : is_goal_wired w (length cells * x.symbols) g ≡ true

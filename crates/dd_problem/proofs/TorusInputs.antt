@@ -28,7 +28,7 @@ use Rattle.dd_circuit.specs.Circuits.{signal_of}
 use Rattle.dd_compile.specs.Wiring.{signals_of, wire_of}
 use Rattle.dd_formula.specs.LocalRule.{LocalRule, IsRule, reads_at, is_of}
 use Rattle.dd_formula.specs.Reach.{reach, automaton_reach}
-use Rattle.dd_formula.specs.Automata.{Setting, IsAutomaton, counted, is_cell_of}
+use Rattle.dd_formula.specs.Automata.{CommonNumbers, IsAutomaton, counted, is_cell_of}
 use Rattle.dd_formula.specs.Values.{IsPlaced}
 use Rattle.dd_formula.specs.declared.automaton.Automaton.{Automaton}
 use Rattle.dd_formula.specs.lemmas.ReachLaws.{is_within, reads_within, automaton_reads_within}
@@ -40,7 +40,7 @@ use Rattle.dd_problem.specs.Layouts.{torus, torus_cells}
 use Rattle.dd_problem.specs.Grown.{torus_layout}
 use Rattle.dd_problem.specs.Clauses.{input}
 use Rattle.dd_problem.specs.Problems.{torus_problem}
-use Rattle.dd_problem.specs.Grown.{goal_reach, question_reach, grown, near_cells, number_at, numbered_by, numbers_of}
+use Rattle.dd_problem.specs.Grown.{goal_reach, question_reach, grown, near_cells, number_at, numbered_by, numbered_tile}
 use Rattle.dd_problem.specs.Pushed.{wired_problem, is_goal_wired}
 use Rattle.dd_problem.specs.lemmas.CellOrder.{cells_ascending, cell_there}
 use Rattle.dd_problem.proofs.Matching.{Gives, Matches, GoalMatches, goal_is_wired, wired_is_problem}
@@ -96,13 +96,13 @@ spread_small true n small = small
 spread_small false n small = omega arith
 
 module _ (x : LocalRule) (periods : Periods) (rule : IsRule x) (ok : ArePeriods x.dimension periods) where
-  pub numbers_tile : IsPeriodic (numbers_of x periods)
+  pub numbers_tile : IsPeriodic (numbered_tile x periods)
   numbers_tile = torus_is_periodic x periods (range_with_len 0 (torus_size x periods)) rule ok (length-range_with_len 0 (torus_size x periods))
 
-  pub number_is : (c : Cell) → c.node < x.nodes → number_at (numbers_of x periods) c ≡ tile_index (torus x periods) c
+  pub number_is : (c : Cell) → c.node < x.nodes → number_at (numbered_tile x periods) c ≡ tile_index (torus x periods) c
   number_is c node =
       let k = tile_index (torus x periods) c in
-      let low : k < torus_size x periods = omega (arith, index_below (numbers_of x periods) numbers_tile.tile c node, length-range_with_len 0 (torus_size x periods)) in
+      let low : k < torus_size x periods = omega (arith, index_below (numbered_tile x periods) numbers_tile.tile c node, length-range_with_len 0 (torus_size x periods)) in
       let at = get_or-range_with_len 0 (torus_size x periods) k 0 low in
       omega (arith, at)
 
@@ -118,7 +118,7 @@ module _ (x : LocalRule) (periods : Periods) (rule : IsRule x) (ok : ArePeriods 
   near = near_cells x n periods
 
   abbrev numbers : Tile
-  numbers = numbers_of x periods
+  numbers = numbered_tile x periods
 
   zone_ordered : IsAtMostOnEachAxis zone.low zone.high
   zone_ordered = record { on_x = omega (arith, ints); on_y = omega (arith, ints); on_z = omega (arith, ints) }
@@ -217,7 +217,7 @@ module _ (x : LocalRule) (periods : Periods) (rule : IsRule x) (ok : ArePeriods 
       let number = slice_get-map (number_at numbers) near i ∙ (ap (option_map (number_at numbers)) there ∙ ap (λ k. Some k) (number_is x periods rule ok c node)) in
       signals_there x.symbols near (map (number_at numbers) near) near_ascends (length-map near (number_at numbers)) c i (tile_index (torus x periods) c) there number
 
-  value_has : (s : Setting) (f h : Automaton) → AreOver x s f h → (e : Automaton) → IsAutomaton s e → IsPlaced e → automaton_reach s.nodes e ≤ n → (a : ℕ) → a < s.nodes → (d : Cell) →
+  value_has : (s : CommonNumbers) (f h : Automaton) → AreOver x s f h → (e : Automaton) → IsAutomaton s e → IsPlaced e → automaton_reach s.nodes e ≤ n → (a : ℕ) → a < s.nodes → (d : Cell) →
       Contains ((counted e).reads a) d → HasInputs (torus_layout x g periods) s.symbols (shifted origin d)
   value_has s f h over e formed placed far a node d there =
       let c = shifted origin d in

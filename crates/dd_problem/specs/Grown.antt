@@ -12,7 +12,7 @@ use Rattle.dd_formula.specs.LocalRule.{LocalRule}
 use Rattle.dd_formula.specs.Reach.{reach, automaton_reach}
 use Rattle.dd_boxes.specs.Goals.{GoalOf, breaks, differ, always}
 use Rattle.dd_problem.specs.Layouts.{Layout, cells_in, torus, torus_cells}
-use Rattle.dd_problem.specs.Numbered.{numbered}
+use Rattle.dd_problem.specs.Numbered.{numbered_wiring}
 
 -- how far the goal reads, and how far the premise and the goal read
 abbrev pub goal_reach : GoalOf → ℕ
@@ -44,15 +44,15 @@ number_at t c = slice_index t.symbols (tile_index t c)
 
 -- each cell with the inputs of the number that stands there
 abbrev pub numbered_by : ℕ → Tile → List Cell → Wiring
-numbered_by m t cells = numbered m cells (map (number_at t) cells)
+numbered_by m t cells = numbered_wiring m cells (map (number_at t) cells)
 
 -- the configuration in which each cell of the fundamental box has its number, from 0 in cell order
-abbrev pub numbers_of : LocalRule → Periods → Tile
-numbers_of x periods = tile x.dimension periods x.nodes (range_with_len 0 (periods_volume periods * x.nodes))
+abbrev pub numbered_tile : LocalRule → Periods → Tile
+numbered_tile x periods = tile x.dimension periods x.nodes (range_with_len 0 (periods_volume periods * x.nodes))
 
 -- what the premise and the goal read, each cell with the inputs of the one at its position modulo the periods
 abbrev pub torus_inputs : LocalRule → GoalOf → Periods → Wiring
-torus_inputs x g periods = numbered_by x.symbols (numbers_of x periods) (near_cells x (question_reach x g) periods)
+torus_inputs x g periods = numbered_by x.symbols (numbered_tile x periods) (near_cells x (question_reach x g) periods)
 
 -- every cell has the number of the one at its position modulo the periods
 abbrev pub torus_layout : LocalRule → GoalOf → Periods → Layout

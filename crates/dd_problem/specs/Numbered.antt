@@ -12,9 +12,9 @@ abbrev pub symbol_signals : ℕ → ℕ → List Signal
 symbol_signals m k = map (λ s. signal_of (input m k s)) (range_with_len 0 m)
 
 -- each cell with the signals of the number at its place
-abbrev pub numbered : ℕ → List Cell → List ℕ → Wiring
-numbered m cells numbers = record { cells = cells; signals = map (symbol_signals m) numbers }
+abbrev pub numbered_wiring : ℕ → List Cell → List ℕ → Wiring
+numbered_wiring m cells numbers = record { cells = cells; signals = map (symbol_signals m) numbers }
 
 -- the numbers 0, 1, .. in the cells' order
 abbrev pub in_turn : ℕ → List Cell → Wiring
-in_turn m cells = numbered m cells (range_with_len 0 (length cells))
+in_turn m cells = numbered_wiring m cells (range_with_len 0 (length cells))

@@ -10,7 +10,7 @@ use Rattle.dd_circuit.specs.Circuits.{IsSignal}
 use Rattle.dd_compile.specs.Wiring.{Wiring, signals_of, wire_of}
 use Rattle.dd_compile.specs.Compiling.{wires_near, are_wired, compiled}
 use Rattle.dd_formula.specs.LocalRule.{LocalRule, expansion_at}
-use Rattle.dd_formula.specs.Automata.{Setting, counted}
+use Rattle.dd_formula.specs.Automata.{CommonNumbers, counted}
 use Rattle.dd_formula.specs.declared.automaton.Automaton.{Automaton}
 use Rattle.dd_compile.specs.ValueSignals.{are_wired_there}
 use Rattle.dd_boxes.specs.Goals.{GoalOf, breaks, differ, always}
@@ -42,7 +42,7 @@ abbrev pub broken_part : Wiring → LocalRule → Place → Part
 broken_part w y v = record { makers = map (λ a. compiled w v (expansion_at y a)) (range_with_len 0 y.nodes); tail = some_false }
 
 -- the values of two automata are different at some node of the origin
-abbrev pub differ_part : Wiring → Setting → Automaton → Automaton → Part
+abbrev pub differ_part : Wiring → CommonNumbers → Automaton → Automaton → Part
 differ_part w s f g = record { makers = map (λ a. differ_made s.symbols f g w (cell origin a)) (range_with_len 0 s.nodes); tail = some_true }
 
 abbrev pub wired_goal : Wiring → GoalOf → Part
@@ -51,7 +51,7 @@ wired_goal w (differ s f g) = differ_part w s f g
 wired_goal w always = record { makers = []; tail = λ _. [] }
 
 -- what both automata read at a node of the origin has its signals
-abbrev pub are_both_wired : Wiring → ℕ → Setting → Automaton → Automaton → ℕ → Bool
+abbrev pub are_both_wired : Wiring → ℕ → CommonNumbers → Automaton → Automaton → ℕ → Bool
 are_both_wired w n s f g a =
     are_wired_there n s.symbols w ((counted f).reads a) (cell origin a) && are_wired_there n s.symbols w ((counted g).reads a) (cell origin a)
 

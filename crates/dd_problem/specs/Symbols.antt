@@ -19,8 +19,8 @@ abbrev pub AreRead : (ℕ → Bool) → ℕ → List ℕ → Type 0
 AreRead set m symbols = (k s : ℕ) → k < length symbols → s < m → set (input m k s) ≡ is_symbol s (slice_get symbols k)
 
 -- each cell of the layout has the symbol with its number
-abbrev pub look_of : Layout → List ℕ → Look
-look_of l symbols c = cond (l.has c) (slice_get symbols (l.index c)) None
+abbrev pub layout_look : Layout → List ℕ → Look
+layout_look l symbols c = cond (l.has c) (slice_get symbols (l.index c)) None
 
 -- of the inputs of the cell with the number k exactly that of the symbol s is true
 abbrev pub IsSymbolRead : (ℕ → Bool) → ℕ → ℕ → ℕ → Type 0

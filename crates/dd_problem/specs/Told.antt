@@ -1,12 +1,12 @@
 -- Goals for questions about a rule, with what the gates of their automata keep.
 use Rattle.dd_formula.specs.LocalRule.{LocalRule, IsRule}
-use Rattle.dd_formula.specs.Automata.{Setting}
+use Rattle.dd_formula.specs.Automata.{CommonNumbers}
 use Rattle.dd_formula.specs.Values.{IsPlaced}
 use Rattle.dd_formula.specs.declared.automaton.Automaton.{Automaton}
 use Rattle.dd_compile.specs.Valued.{SaysItsValue}
 use Rattle.dd_boxes.specs.Goals.{GoalOf, breaks, differ, always, AreAlike, AreOver}
 
-pub record AreTold (x : LocalRule) (s : Setting) (f g : Automaton) : Type 0 where
+pub record AreTold (x : LocalRule) (s : CommonNumbers) (f g : Automaton) : Type 0 where
   pub over : AreOver x s f g
   pub left_placed : IsPlaced f
   pub right_placed : IsPlaced g

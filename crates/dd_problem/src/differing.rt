@@ -1,7 +1,7 @@
 //! The values of two automata as gates and clauses that say that they are different.
 ghost use Rattle.std.specs.Prelude.{◌≡◌, ◌≤◌, ◌<◌, ◌+◌, ◌^◌, ◌∷◌, ◌++◌, ℕ, [], true, length, All, IfOk, OnOk};
 ghost use Rattle.dd_lattice.specs.Cells.{cell};
-ghost use Rattle.dd_formula.specs.Automata.{Setting, IsAutomaton};
+ghost use Rattle.dd_formula.specs.Automata.{CommonNumbers, IsAutomaton};
 ghost use Rattle.dd_circuit.specs.Circuits.{IsSignal, size};
 ghost use Rattle.dd_cnf.specs.Encoding.{gates_clauses};
 ghost use Rattle.dd_compile.specs.ValueGates.{fresh};

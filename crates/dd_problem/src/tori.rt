@@ -11,7 +11,7 @@ ghost use Rattle.dd_boxes.specs.Views.{goal_of};
 ghost use Rattle.dd_boxes.specs.Witnesses.{ArePeriods};
 ghost use Rattle.dd_problem.specs.Problems.{torus_problem};
 ghost use Rattle.dd_problem.specs.Grown.{question_reach, margin, grown, near_cells};
-ghost use Rattle.dd_problem.specs.Grown.{number_at, numbered_by, numbers_of, torus_inputs};
+ghost use Rattle.dd_problem.specs.Grown.{number_at, numbered_by, numbered_tile, torus_inputs};
 ghost use Rattle.dd_problem.specs.Shows.{ShowsTorus};
 ghost use Rattle.dd_problem.specs.Told.{IsToldGoal};
 
@@ -136,7 +136,7 @@ fn counted(alloc: Global, count: u32) -> Result<Vec<u32>, AllocError>
 /// The configuration of these periods in which each cell of the fundamental box has its number, from 0 in cell order.
 fn numbering(alloc: Global, premise: &Rule, periods: &Periods) -> Result<Periodic, AllocError>
     requires { ArePeriods premise.now.dimension periods.now }
-    ensures { IfOk result (λ t. t ≡ numbers_of premise.now periods.now) }
+    ensures { IfOk result (λ t. t ≡ numbered_tile premise.now periods.now) }
 {
     let nodes = premise.nodes();
     let numbers = counted(alloc, periods.z * periods.y * periods.x * nodes)?;

@@ -16,11 +16,11 @@ use Rattle.dd_faults.specs.Order.{over, first_fault, Accepts}
 use Rattle.dd_faults.specs.declared.context.Known.{Known}
 use Rattle.dd_formula.specs.LocalRule.{LocalRule}
 use Rattle.dd_formula.specs.Counts.{cut, largest_clauses}
-use Rattle.dd_formula.specs.Automata.{Setting, IsAutomaton, rule_has}
+use Rattle.dd_formula.specs.Automata.{CommonNumbers, IsAutomaton, rule_has}
 use Rattle.dd_formula.specs.Compositions.{HaveNodes}
 use Rattle.dd_formula.specs.declared.automaton.Automaton.{Automaton}
 use Rattle.dd_query.specs.Limits.{Aim, about, is_long, clauses_of}
-use Rattle.dd_query.specs.Made.{numbers_of, IsRuleOf, AreMade}
+use Rattle.dd_query.specs.Made.{script_numbers, IsRuleOf, AreMade}
 use Rattle.dd_query.proofs.CutLaws.{passes}
 
 -- what is said of an item at its place
@@ -30,12 +30,12 @@ accepts_at r xs n x faults below is h =
     let there : slice_get xs n ≡ Some x = slice_get_read xs (length xs) n x refl below is in
     subst (λ (o : Option _). Accepts r (first_fault (option_map_or faults o []))) (sym there) h
 
-automaton_at : (s : Setting) (fs : List Automaton) (n : ℕ) (f : Automaton) → All (IsAutomaton s) fs → n < length fs → f ≡ get_or fs n f → IsAutomaton s f
+automaton_at : (s : CommonNumbers) (fs : List Automaton) (n : ℕ) (f : Automaton) → All (IsAutomaton s) fs → n < length fs → f ≡ get_or fs n f → IsAutomaton s f
 automaton_at s fs n f all below is = subst (IsAutomaton s) (sym is) (all n f below)
 
 rule_at : (k : Known) (rs : List LocalRule) (n : ℕ) (r : LocalRule) → All (IsRuleOf k) rs → n < length rs → r ≡ get_or rs n r → r.nodes ≡ k.setting.topology.nodes
 rule_at k rs n r all below is =
-    let s = numbers_of k in
+    let s = script_numbers k in
     let has : rule_has s r ≡ true = ap (rule_has s) is ∙ (all n r below).has in
     let front = and_parts (r.dimension == s.dimension && r.nodes == s.nodes) (r.symbols == s.symbols) has in
     eqb-true r.nodes s.nodes (and_parts (r.dimension == s.dimension) (r.nodes == s.nodes) front.0).1
@@ -46,13 +46,13 @@ pub have_nodes : (k : Known) (rs : List LocalRule) (fs : List Automaton) (m n j 
 have_nodes k rs fs m n j f g r made bm bn bj isf isg isr =
     let named = made.automata_named in
     let ruled = made.rules_named in
-    let same : r.nodes ≡ (numbers_of k).nodes = rule_at k rs j r made.rules_have (omega arith) isr in
+    let same : r.nodes ≡ (script_numbers k).nodes = rule_at k rs j r made.rules_have (omega arith) isr in
     record {
       both =
           record {
-            setting = numbers_of k;
-            outer = automaton_at (numbers_of k) fs m f made.automata_have (omega arith) isf;
-            inner = automaton_at (numbers_of k) fs n g made.automata_have (omega arith) isg;
+            setting = script_numbers k;
+            outer = automaton_at (script_numbers k) fs m f made.automata_have (omega arith) isf;
+            inner = automaton_at (script_numbers k) fs n g made.automata_have (omega arith) isg;
           };
       few = omega (arith, same);
     }

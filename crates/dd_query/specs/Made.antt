@@ -2,17 +2,17 @@
 use Rattle.std.specs.Prelude.{◌≡◌, true, List, length}
 use Rattle.std.specs.List.{All}
 use Rattle.dd_formula.specs.LocalRule.{LocalRule}
-use Rattle.dd_formula.specs.Automata.{Setting as Numbers, IsAutomaton, rule_has}
+use Rattle.dd_formula.specs.Automata.{CommonNumbers as Numbers, IsAutomaton, rule_has}
 use Rattle.dd_formula.specs.declared.automaton.Automaton.{Automaton}
 use Rattle.dd_faults.specs.declared.context.Known.{Known}
 
 -- the numbers that the rules, automata and configurations of a script have in common
-abbrev pub numbers_of : Known → Numbers
-numbers_of k = record { dimension = k.setting.topology.dimension; nodes = k.setting.topology.nodes; symbols = length k.setting.symbols }
+abbrev pub script_numbers : Known → Numbers
+script_numbers k = record { dimension = k.setting.topology.dimension; nodes = k.setting.topology.nodes; symbols = length k.setting.symbols }
 
 -- a rule over the script's topology, whose nodes allow the symbols that the script's nodes do
 pub record IsRuleOf (k : Known) (r : LocalRule) : Type 0 where
-  pub has : rule_has (numbers_of k) r ≡ true
+  pub has : rule_has (script_numbers k) r ≡ true
   pub edges : r.edges ≡ k.setting.topology.edges
   pub allowed : r.allowed ≡ k.setting.sets.allowed
 
@@ -21,4 +21,4 @@ pub record AreMade (k : Known) (rules : List LocalRule) (automata : List Automat
   pub rules_named : length rules ≡ length k.rules
   pub automata_named : length automata ≡ length k.automata
   pub rules_have : All (IsRuleOf k) rules
-  pub automata_have : All (IsAutomaton (numbers_of k)) automata
+  pub automata_have : All (IsAutomaton (script_numbers k)) automata

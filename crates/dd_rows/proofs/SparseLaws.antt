@@ -21,7 +21,7 @@ use Rattle.dd_rows.specs.declared.sparse.Exchange.{Exchange}
 use Rattle.dd_rows.specs.declared.sparse.SparseRow.{SparseRow}
 use Rattle.dd_rows.specs.declared.rows.Row.{Row}
 use Rattle.dd_rows.specs.declared.views.Views.{Views}
-use Rattle.dd_rows.specs.Patterns.{number_in}
+use Rattle.dd_rows.specs.Patterns.{pattern_number}
 use Rattle.dd_rows.specs.Programs.{one_at, coefficients, is_same_row, add_row, first_seen, most_rows}
 use Rattle.dd_rows.specs.listing.Views.{symbols_at}
 use Rattle.dd_rows.specs.listing.Sparse.{capped, exchange_of, entry, entries, dense, IsExchange, IsSparse, AreSparse, IsWithRow, exchanges_of, asked_row, asked_rows}
@@ -190,16 +190,16 @@ map_agree {X} {Y} f g same (x ∷ xs) = ap (λ y. y ∷ map f xs) (same x) ∙ a
 entries_are : (p n m : ℕ) → entries p (exchange_of n m) ≡ map (λ k. one_at k n -ℤ one_at k m) (range_with_len 0 p)
 entries_are p n m = map_agree (entry (exchange_of n m)) (λ k. one_at k n -ℤ one_at k m) (λ k. entry_is n m k (nat_eq n m) refl) (range_with_len 0 p)
 
-number_most : (ps : List (List ℕ)) (q : List ℕ) → number_in ps q ≤ length ps
+number_most : (ps : List (List ℕ)) (q : List ℕ) → pattern_number ps q ≤ length ps
 number_most ps q = prefix_len-le-length _ ps
 
 pub exchanges_sparse : (ps : List (List ℕ)) (v : Views) (ss : List ℕ) (r : SparseRow) → r.exchanges.items ≡ exchanges_of ps v ss → IsSparse (length v.givers) (length ps) r
 exchanges_sparse ps v ss r is =
-    let n = number_in ps (symbols_at ss v.origin) in
-    let f : List ℕ → Option Exchange = λ numbers. exchange_of n (number_in ps (symbols_at ss numbers)) in
+    let n = pattern_number ps (symbols_at ss v.origin) in
+    let f : List ℕ → Option Exchange = λ numbers. exchange_of n (pattern_number ps (symbols_at ss numbers)) in
     let each : All (IsExchange (length ps)) (map f v.givers) =
     all_map (IsExchange (length ps)) (λ _. Unit {0}) f
-    (λ numbers _. let m = number_in ps (symbols_at ss numbers) in is_exchange (length ps) n m (number_most ps (symbols_at ss v.origin)) (number_most ps (symbols_at ss numbers)) (nat_eq n m) refl)
+    (λ numbers _. let m = pattern_number ps (symbols_at ss numbers) in is_exchange (length ps) n m (number_most ps (symbols_at ss v.origin)) (number_most ps (symbols_at ss numbers)) (nat_eq n m) refl)
     v.givers (λ k d within. tt) in
     record { as_many = ap length is ∙ length-map v.givers f; each = subst (All (IsExchange (length ps))) (sym is) each }
 
@@ -207,12 +207,12 @@ pub exchanges_stand : (ps : List (List ℕ)) (v : Views) (ss : List ℕ) →
     pos 1 ∷ flat_map (entries (length ps)) (exchanges_of ps v ss) ≡ coefficients ps (symbols_at ss v.origin) (map (symbols_at ss) v.givers)
 exchanges_stand ps v ss =
     let p = length ps in
-    let n = number_in ps (symbols_at ss v.origin) in
-    let f : List ℕ → Option Exchange = λ numbers. exchange_of n (number_in ps (symbols_at ss numbers)) in
-    let g : List ℕ → List ℤ = λ q. map (λ k. one_at k n -ℤ one_at k (number_in ps q)) (range_with_len 0 p) in
+    let n = pattern_number ps (symbols_at ss v.origin) in
+    let f : List ℕ → Option Exchange = λ numbers. exchange_of n (pattern_number ps (symbols_at ss numbers)) in
+    let g : List ℕ → List ℤ = λ q. map (λ k. one_at k n -ℤ one_at k (pattern_number ps q)) (range_with_len 0 p) in
     ap (λ (es : List ℤ). pos 1 ∷ es)
     (flat_map-map (entries p) f v.givers
-    ∙ (flat_map_agree (λ numbers. entries p (f numbers)) (λ numbers. g (symbols_at ss numbers)) (λ numbers. entries_are p n (number_in ps (symbols_at ss numbers))) v.givers
+    ∙ (flat_map_agree (λ numbers. entries p (f numbers)) (λ numbers. g (symbols_at ss numbers)) (λ numbers. entries_are p n (pattern_number ps (symbols_at ss numbers))) v.givers
     ∙ sym (flat_map-map g (symbols_at ss) v.givers)))
 
 -- the first row

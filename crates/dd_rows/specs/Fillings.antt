@@ -12,21 +12,21 @@ abbrev pub look_of : List Cell → List ℕ → Look
 look_of cs ss = filling_look (filled cs ss)
 
 -- the symbols that a node allows
-abbrev pub choices : LocalRule → ℕ → List ℕ
-choices x a = filter (rule_allows x a) (range_with_len 0 x.symbols)
+abbrev pub allowed_symbols : LocalRule → ℕ → List ℕ
+allowed_symbols x a = filter (rule_allows x a) (range_with_len 0 x.symbols)
 
 -- all lists of symbols that the nodes of the cells allow
 abbrev pub words : LocalRule → List Cell → List (List ℕ)
 words x [] = [] ∷ []
-words x (c ∷ cs) = flat_map (λ s. map (λ ss. s ∷ ss) (words x cs)) (choices x c.node)
+words x (c ∷ cs) = flat_map (λ s. map (λ ss. s ∷ ss) (words x cs)) (allowed_symbols x c.node)
 
 -- the rule is true at the place, if this fits
-abbrev pub is_kept : LocalRule → Look → Cell → Bool
-is_kept x look c = not (place_fits x look c) || is_true x c look
+abbrev pub is_true_if_it_fits : LocalRule → Look → Cell → Bool
+is_true_if_it_fits x look c = not (place_fits x look c) || is_true x c look
 
 -- it is so at each place of the cells; no other place fits
 abbrev pub is_admissible : LocalRule → List Cell → List ℕ → Bool
-is_admissible x cs ss = list_all (is_kept x (look_of cs ss)) cs
+is_admissible x cs ss = list_all (is_true_if_it_fits x (look_of cs ss)) cs
 
 abbrev pub fillings : LocalRule → List Cell → List (List ℕ)
 fillings x cs = filter (is_admissible x cs) (words x cs)

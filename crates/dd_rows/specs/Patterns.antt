@@ -10,7 +10,7 @@ use Rattle.dd_lattice.specs.declared.position.Cell.{Cell}
 use Rattle.dd_pattern.specs.Reading.{Look}
 use Rattle.dd_formula.specs.LocalRule.{LocalRule}
 pub use Rattle.dd_boxes.specs.Boxes.{origin}
-use Rattle.dd_rows.specs.Domains.{opposite, box_cells}
+use Rattle.dd_rows.specs.Domains.{opposite_vector, box_cells}
 use Rattle.dd_rows.specs.Fillings.{look_of, fillings}
 
 -- the symbols of the box, moved to the position
@@ -19,7 +19,7 @@ pattern_at box look p = map (λ c. unwrap_or (look (shifted p c)) 0) box
 
 -- around the positions from which the origin receives: -v along the vector v
 abbrev pub givers : List Cell → List Place → Look → List (List ℕ)
-givers box vs look = map (λ v. pattern_at box look (opposite v)) vs
+givers box vs look = map (λ v. pattern_at box look (opposite_vector v)) vs
 
 -- around the origin, and around these
 abbrev pub patterns_in : List Cell → List Place → Look → List (List ℕ)
@@ -34,5 +34,5 @@ abbrev pub patterns : LocalRule → ℕ → List Place → List Cell → List (L
 patterns x radius vs cs = in_lexicographic_order (flat_map (λ ss. patterns_in (box_cells x radius) vs (look_of cs ss)) (fillings x cs))
 
 -- the number of a pattern among the patterns
-abbrev pub number_in : List (List ℕ) → List ℕ → ℕ
-number_in ps q = position_or_len (λ p. is_eq (slice_cmp nat_cmp p q)) ps
+abbrev pub pattern_number : List (List ℕ) → List ℕ → ℕ
+pattern_number ps q = position_or_len (λ p. is_eq (slice_cmp nat_cmp p q)) ps

@@ -17,7 +17,7 @@ use Rattle.dd_rows.specs.declared.rows.Rows.{Rows}
 use Rattle.dd_rows.specs.declared.fault.RowsFault.{RowsFault}
 use Rattle.dd_rows.specs.Domains.{IsGround, box_cells}
 use Rattle.dd_rows.specs.Fillings.{look_of, fillings, HasManyFillings, HasFewFillings}
-use Rattle.dd_rows.specs.Patterns.{pattern_at, givers, patterns, number_in}
+use Rattle.dd_rows.specs.Patterns.{pattern_at, givers, patterns, pattern_number}
 use Rattle.dd_boxes.specs.Boxes.{origin}
 use Rattle.dd_rows.specs.Faults.{OnLarge}
 
@@ -27,7 +27,7 @@ one_at k n = pos (cond (nat_eq k n) 1 0)
 -- column 0, and for each vector and each pattern what goes out at the origin less what comes in
 abbrev pub coefficients : List (List ℕ) → List ℕ → List (List ℕ) → List ℤ
 coefficients ps out ins =
-    pos 1 ∷ flat_map (λ q. map (λ k. one_at k (number_in ps out) -ℤ one_at k (number_in ps q)) (range_with_len 0 (length ps))) ins
+    pos 1 ∷ flat_map (λ q. map (λ k. one_at k (pattern_number ps out) -ℤ one_at k (pattern_number ps q)) (range_with_len 0 (length ps))) ins
 
 -- the weight of the origin's position
 abbrev pub origin_weight : LocalRule → List ℕ → Look → ℕ

@@ -7,7 +7,7 @@ ghost use Rattle.dd_lattice.specs.Boxes.{centred, positions_of};
 ghost use Rattle.dd_lattice.specs.Regions.{IsRegion, IsRegionOf, IsMoved};
 ghost use Rattle.dd_rows.specs.Asked.{IsVector, AreVectors};
 ghost use Rattle.dd_rows.specs.listing.Levels.{AreOf, AreInRange};
-ghost use Rattle.dd_rows.specs.Domains.{IsInDomain, IsInGround, IsGround, cells_on, box_cells, opposite};
+ghost use Rattle.dd_rows.specs.Domains.{IsInDomain, IsInGround, IsGround, cells_on, box_cells, opposite_vector};
 
 use crate::fault::RowsFault;
 use dd_formula::Rule;
@@ -25,7 +25,7 @@ fn negated(coordinate: i32) -> i32
 
 /// The position on the other side of the origin.
 pub(crate) fn opposite(position: &Position) -> Position
-    ensures { result ≡ opposite position.now }
+    ensures { result ≡ opposite_vector position.now }
 {
     Position {
         x: negated(position.x),

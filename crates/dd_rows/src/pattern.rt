@@ -5,7 +5,7 @@ ghost use Rattle.std.specs.Cmp as comparisons;
 ghost use Rattle.std.specs.Cmp.Lexicographic.{slice_cmp, pointwise, nat_list_cmp_total, nat_list_eq_equiv, texts_ties, texts_po};
 ghost use Rattle.std.specs.BTreeSet.{insert_key};
 ghost use Rattle.std.proofs.Common.{rules};
-ghost use Rattle.dd_rows.specs.Patterns.{number_in};
+ghost use Rattle.dd_rows.specs.Patterns.{pattern_number};
 ghost use Rattle.dd_rows.specs.listing.Views.{symbols_at};
 
 use dd_values::Items;
@@ -146,7 +146,7 @@ impl Patterns {
 
     /// The number of the pattern among them, or as many as there are.
     pub(crate) fn number(&self, pattern: &Pattern) -> usize
-        ensures { result ≡ number_in self.now pattern.now }
+        ensures { result ≡ pattern_number self.now pattern.now }
     {
         match self.list.as_slice().binary_search(pattern) {
             Ok(number) => number,

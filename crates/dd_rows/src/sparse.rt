@@ -2,7 +2,7 @@
 //! apart by few numbers.
 ghost use Rattle.std.specs.Prelude.{◌≡◌, ◌++◌, ◌∷◌, [], pos, None, replicate, length, map, IfOk, OnOk};
 ghost use Rattle.dd_pattern.specs.Weight.{total_weight};
-ghost use Rattle.dd_rows.specs.Patterns.{number_in};
+ghost use Rattle.dd_rows.specs.Patterns.{pattern_number};
 ghost use Rattle.dd_rows.specs.listing.Views.{symbols_at};
 ghost use Rattle.dd_rows.specs.listing.Sparse.{exchange_of, entry, entries, dense, exchanges_of};
 
@@ -44,7 +44,7 @@ fn number_seen(
     patterns: &Patterns,
     seen: &mut Pattern,
 ) -> Result<usize, AllocError>
-    ensures { IfOk result (λ number. number ≡ number_in patterns.now (symbols_at symbols.now numbers.now)) }
+    ensures { IfOk result (λ number. number ≡ pattern_number patterns.now (symbols_at symbols.now numbers.now)) }
 {
     seen.read(symbols, numbers)?;
     Ok(patterns.number(seen))

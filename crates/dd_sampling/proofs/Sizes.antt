@@ -9,7 +9,7 @@ use Rattle.dd_expansion.specs.declared.expanded.Expanded.{Expanded}
 use Rattle.dd_expansion.specs.Leaves.{instances, clause_count}
 use Rattle.dd_formula.specs.LocalRule.{LocalRule, reads_at, expansion_at, is_near}
 use Rattle.dd_formula.specs.Reach.{farthest}
-use Rattle.dd_formula.specs.Counts.{cell_clauses, disallowed_pairs, largest_region}
+use Rattle.dd_formula.specs.Counts.{cell_clause_count, disallowed_pairs, largest_region}
 use Rattle.dd_counts.specs.Rules.{greatest_x, least_x}
 use Rattle.dd_boxes.specs.Counts.{most_clauses}
 use Rattle.dd_faults.specs.declared.fault.Fault.{Fault}
@@ -72,7 +72,7 @@ dom_few = rule_faultless dom_counts refl
 -- with what is counted of the premise and of the goal's rule
 abbrev long_by : LocalRule → ℕ → ℕ → List Cell → Bool
 long_by x clauses goal cells =
-    nat_lt most_clauses (largest_region x.dimension (max 3 (farthest (in_order cells ++ []))) 3 * (x.nodes * cell_clauses x.symbols + disallowed_pairs x + (clauses + 0)) + (goal + 0 + 1))
+    nat_lt most_clauses (largest_region x.dimension (max 3 (farthest (in_order cells ++ []))) 3 * (x.nodes * cell_clause_count x.symbols + disallowed_pairs x + (clauses + 0)) + (goal + 0 + 1))
 
 is_short_by : {f g : Formula} {e h : Expanded} {nodes clauses others goal : ℕ} {read cells : List Cell} (rules configurations : List (List ℕ)) → Counts f e nodes clauses read → Counts g h others goal cells
     → long_by (plain_rule f) clauses goal cells ≡ false → is_long (known rules configurations) (plain_rule f) (breaking (plain_rule g)) ≡ false

@@ -11,7 +11,7 @@ use Rattle.dd_lattice.specs.Place.{Place}
 use Rattle.dd_pattern.specs.Tile.{Tile}
 use Rattle.dd_formula.specs.LocalRule.{LocalRule, IsRule}
 use Rattle.dd_formula.specs.Counts.{largest_clauses}
-use Rattle.dd_formula.specs.Automata.{Setting, IsAutomaton, rule_has}
+use Rattle.dd_formula.specs.Automata.{CommonNumbers, IsAutomaton, rule_has}
 use Rattle.dd_formula.specs.Reach.{automaton_cells}
 use Rattle.dd_formula.specs.declared.automaton.Automaton.{Automaton}
 use Rattle.dd_formula.specs.lemmas.FarthestLaws.{farthest-append}
@@ -29,7 +29,7 @@ use Rattle.dd_faults.specs.Order.{over}
 use Rattle.dd_meanings.specs.Sound.{IsConfigurationOf}
 use Rattle.dd_query.specs.declared.queries.Query.{Query}
 use Rattle.dd_query.specs.declared.queries.Query.TheVariants as query
-use Rattle.dd_query.specs.Made.{numbers_of, IsRuleOf}
+use Rattle.dd_query.specs.Made.{script_numbers, IsRuleOf}
 use Rattle.dd_counts.specs.Rules.{pattern_count}
 use Rattle.dd_query.specs.Limits.{Aim, anything, breaking, differing, clauses_of, is_long, about, most_patterns, has_many_patterns, has_many_states, strip_volume, contains_sizes, equal_sizes, empty_sizes, agree_sizes}
 use Rattle.dd_query.specs.Sound.{IsSoundQuery}
@@ -40,19 +40,19 @@ use Rattle.dd_script.proofs.Measures.{strip_of, few_states, has_weights, weights
 
 -- ---- rules of a script
 
-pub record HasSetting (n : Setting) (x : LocalRule) : Type 0 where
+pub record HasSetting (n : CommonNumbers) (x : LocalRule) : Type 0 where
   pub dimension : x.dimension ≡ n.dimension
   pub nodes : x.nodes ≡ n.nodes
   pub symbols : x.symbols ≡ n.symbols
 
-setting_from : (n : Setting) (x : LocalRule) → rule_has n x ≡ true → HasSetting n x
+setting_from : (n : CommonNumbers) (x : LocalRule) → rule_has n x ≡ true → HasSetting n x
 setting_from n x h =
     let all = and_parts ((x.dimension == n.dimension) && (x.nodes == n.nodes)) (x.symbols == n.symbols) h in
     let two = and_parts (x.dimension == n.dimension) (x.nodes == n.nodes) all.0 in
     record { dimension = eqb-true _ _ two.0; nodes = eqb-true _ _ two.1; symbols = eqb-true _ _ all.1 }
 
-pub setting_of : (k : Known) (x : LocalRule) → IsOf k x → HasSetting (numbers_of k) x
-setting_of k x of = setting_from (numbers_of k) x of.of.has
+pub setting_of : (k : Known) (x : LocalRule) → IsOf k x → HasSetting (script_numbers k) x
+setting_of k x of = setting_from (script_numbers k) x of.of.has
 
 alike : (k : Known) (x y : LocalRule) → IsOf k x → IsOf k y → AreAlike x y
 alike k x y one other =
@@ -100,19 +100,19 @@ askable k x g aim goal aims few = record {
 breaking_askable : (k : Known) (x y : LocalRule) → IsOf k x → IsOf k y → is_long k x (breaking y) ≡ false → IsAskable k.limits x (breaks y)
 breaking_askable k x y here there few = askable k x (breaks y) (breaking y) (there.rule, alike k x y here there) (aims_at_breaking y there.rule) few
 
-abbrev setting : ℕ → ℕ → ℕ → Setting
+abbrev setting : ℕ → ℕ → ℕ → CommonNumbers
 setting d n m = record { dimension = d; nodes = n; symbols = m }
 
 -- the script's numbers are those of each of its rules
-over_rule : (k : Known) (x : LocalRule) (f : Automaton) → IsOf k x → IsAutomaton (numbers_of k) f → IsAutomaton (numbers_of_rule x) f
+over_rule : (k : Known) (x : LocalRule) (f : Automaton) → IsOf k x → IsAutomaton (script_numbers k) f → IsAutomaton (numbers_of_rule x) f
 over_rule k x f of formed =
-    let n = numbers_of k in
+    let n = script_numbers k in
     let has = setting_of k x of in
     subst (λ d. IsAutomaton (setting d x.nodes x.symbols) f) (sym has.dimension)
     (subst (λ a. IsAutomaton (setting n.dimension a x.symbols) f) (sym has.nodes)
     (subst (λ m. IsAutomaton (setting n.dimension n.nodes m) f) (sym has.symbols) formed))
 
-differing_askable : (k : Known) (x : LocalRule) (f g : Automaton) → IsOf k x → IsAutomaton (numbers_of k) f → IsAutomaton (numbers_of k) g →
+differing_askable : (k : Known) (x : LocalRule) (f g : Automaton) → IsOf k x → IsAutomaton (script_numbers k) f → IsAutomaton (script_numbers k) g →
     is_long k x (differing x f g) ≡ false → IsAskable k.limits x (differ (numbers_of_rule x) f g)
 differing_askable k x f g of left right few =
     askable k x (differ (numbers_of_rule x) f g) (differing x f g)
@@ -211,10 +211,10 @@ module _ (s : Parts) (ok : IsScriptOf s) where
       let sizes : empty_sizes s.known x ≡ [] = sym (about_is s.rules rule x (empty_sizes s.known) x_is) ∙ sound.sizes in
       (here, askable s.known x always anything tt aims_at_anything (not_over (is_long s.known x anything) limit.Clauses sizes))
 
-  automaton_of : (n : ℕ) (f : Automaton) → slice_get s.automata n ≡ Some f → IsAutomaton (numbers_of s.known) f
+  automaton_of : (n : ℕ) (f : Automaton) → slice_get s.automata n ≡ Some f → IsAutomaton (script_numbers s.known) f
   automaton_of n f is =
       let below = slice_get_within s.automata n f is in
-      subst (IsAutomaton (numbers_of s.known)) (get_or_from_slice_get s.automata n f f is) (ok.made.automata_have n f below)
+      subst (IsAutomaton (script_numbers s.known)) (get_or_from_slice_get s.automata n f f is) (ok.made.automata_have n f below)
 
   agree_sound : (left right rule : ℕ) (x : LocalRule) (f g : Automaton) → IsSoundQuery s.known s.rules s.automata (query.Agree left right rule) →
       slice_get s.rules rule ≡ Some x → slice_get s.automata left ≡ Some f → slice_get s.automata right ≡ Some g →

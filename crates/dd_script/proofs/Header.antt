@@ -11,7 +11,7 @@ use Rattle.dd_formula.specs.Automata.{IsAutomaton}
 use Rattle.dd_written.specs.Values.{word_text}
 use Rattle.dd_faults.specs.declared.context.Known.{Known}
 use Rattle.dd_faults.specs.Sound.{IsSound}
-use Rattle.dd_query.specs.Made.{IsRuleOf, numbers_of}
+use Rattle.dd_query.specs.Made.{IsRuleOf, script_numbers}
 use Rattle.dd_query.specs.Sound.{IsSoundQuery}
 use Rattle.dd_meanings.specs.declared.meaning.Meaning.{Meaning}
 use Rattle.dd_meanings.specs.declared.meaning.Meaning.TheVariants as meaning
@@ -30,7 +30,7 @@ fresh_kept s k is fresh sound r a c = record {
     rules_named = is.made.rules_named ∙ ap length (sym r);
     automata_named = is.made.automata_named ∙ ap length (sym a);
     rules_have = subst (All (IsRuleOf k)) (sym fresh.rules) (All-nil (IsRuleOf k));
-    automata_have = subst (All (IsAutomaton (numbers_of k))) (sym fresh.automata) (All-nil (IsAutomaton (numbers_of k)));
+    automata_have = subst (All (IsAutomaton (script_numbers k))) (sym fresh.automata) (All-nil (IsAutomaton (script_numbers k)));
   };
   rules = is.rules;
   configurations_named = is.configurations_named ∙ ap length (sym c);

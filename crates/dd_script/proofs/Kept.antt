@@ -13,7 +13,7 @@ use Rattle.dd_faults.specs.Sound.{IsSound}
 use Rattle.dd_query.specs.declared.queries.Query.{Query}
 use Rattle.dd_query.specs.declared.queries.Query.TheVariants as query
 use Rattle.dd_query.specs.Limits.{about, query_sizes}
-use Rattle.dd_query.specs.Made.{IsRuleOf, numbers_of}
+use Rattle.dd_query.specs.Made.{IsRuleOf, script_numbers}
 use Rattle.dd_query.specs.Sound.{IsWithin, IsSoundQuery}
 use Rattle.dd_meanings.specs.Sound.{IsConfigurationOf}
 use Rattle.dd_script.specs.Parts.{Parts, IsScriptOf}
@@ -119,7 +119,7 @@ rule_more s text r is rule of =
       queries = queries_kept s is R A C (s.rules ++ r ∷ []) s.automata (extends_more s.rules (r ∷ [])) (extends_itself s.automata) (longer s.known.rules text) (itself A) (itself C);
     }
 
-pub automaton_more : (s : Parts) (text : List ℕ) (f : Automaton) → IsScriptOf s → IsAutomaton (numbers_of s.known) f
+pub automaton_more : (s : Parts) (text : List ℕ) (f : Automaton) → IsScriptOf s → IsAutomaton (script_numbers s.known) f
     → IsScriptOf (record s { known = record (s.known) { automata = s.known.automata ++ text ∷ [] }; automata = s.automata ++ f ∷ [] })
 automaton_more s text f is automaton =
     let R : List (List ℕ) = s.known.rules in
@@ -131,7 +131,7 @@ automaton_more s text f is automaton =
         rules_named = is.made.rules_named;
         automata_named = one_longer s.automata s.known.automata f text is.made.automata_named;
         rules_have = rules_kept s is R A C s.rules (s.automata ++ f ∷ []) (extends_itself s.rules) (extends_more s.automata (f ∷ [])) s.rules is.made.rules_have;
-        automata_have = all_more (IsAutomaton (numbers_of s.known)) s.automata f is.made.automata_have automaton;
+        automata_have = all_more (IsAutomaton (script_numbers s.known)) s.automata f is.made.automata_have automaton;
       };
       rules = is.rules;
       configurations_named = is.configurations_named;

@@ -24,9 +24,9 @@ use Rattle.dd_rows.specs.declared.rows.Row.{Row}
 use Rattle.dd_rows.specs.declared.rows.Rows.{Rows}
 use Rattle.dd_discharge.specs.declared.bound.Bound.{Bound}
 use Rattle.dd_rows.specs.Asked.{IsVector, AreVectors}
-use Rattle.dd_rows.specs.Domains.{opposite, box_cells}
+use Rattle.dd_rows.specs.Domains.{opposite_vector, box_cells}
 use Rattle.dd_rows.specs.Fillings.{look_of, fillings}
-use Rattle.dd_rows.specs.Patterns.{pattern_at, patterns, number_in}
+use Rattle.dd_rows.specs.Patterns.{pattern_at, patterns, pattern_number}
 use Rattle.dd_boxes.specs.Boxes.{origin}
 use Rattle.dd_rows.specs.Programs.{column_count, greatest_weight_row, row_of, rows, origin_weight, one_at}
 use Rattle.dd_discharge.specs.Amounts.{total_below, column_value, MeetRows, held_over}
@@ -127,7 +127,7 @@ met : (rs : List Row) (n common held : ℕ) (a : List ℕ) → MeetRows rs n com
 met rs n common held a meets r c =
     subst (Meets n common held a) (get_or_default rs c.0 (record { coefficients = []; bound = 0 }) r c.1 ∙ c.2) (meets.each c.0 c.1)
 
-giver_is : (v p : Place) → moved (opposite v) p ≡ giver v p
+giver_is : (v p : Place) → moved (opposite_vector v) p ≡ giver v p
 giver_is v p = place_same _ _ _ _ _ _ (less v.x p.x) (less v.y p.y) (less v.z p.z)
   where
     less : (b a : ℤ) → (pos 0 -ℤ b) +ℤ a ≡ a -ℤ b
@@ -157,7 +157,7 @@ module _ (x : LocalRule) (ws : List ℕ) (radius margin : ℕ) (vs : List Place)
   m = length program.patterns
 
   abbrev number : Place → ℕ
-  number p = number_in program.patterns (pattern_at box look p)
+  number p = pattern_number program.patterns (pattern_at box look p)
 
   some : 1 ≤ x.dimension
   some = k.rule.dimension.0
@@ -184,14 +184,14 @@ module _ (x : LocalRule) (ws : List ℕ) (radius margin : ℕ) (vs : List Place)
       (subst (λ (qs : List (List ℕ)). Contains (rows x ws radius vs ground) (row_of x ws radius vs qs (shown ground look p))) (sym is.patterns_are) here)
 
   row_holds : (p : Place) → IsAt (side x.dimension n) u p →
-      held_over b + goes_out m (number_in program.patterns (pattern_at box (shown ground look p) origin)) vs b.amounts
-      ≤ b.common * origin_weight x ws (shown ground look p) + comes m (λ v. number_in program.patterns (pattern_at box (shown ground look p) (opposite v))) vs b.amounts
+      held_over b + goes_out m (pattern_number program.patterns (pattern_at box (shown ground look p) origin)) vs b.amounts
+      ≤ b.common * origin_weight x ws (shown ground look p) + comes m (λ v. pattern_number program.patterns (pattern_at box (shown ground look p) (opposite_vector v))) vs b.amounts
   row_holds p at =
       let less = shown ground look p in
-      let out = number_in program.patterns (pattern_at box less origin) in
-      let f = λ (v : Place). number_in program.patterns (pattern_at box less (opposite v)) in
+      let out = pattern_number program.patterns (pattern_at box less origin) in
+      let f = λ (v : Place). pattern_number program.patterns (pattern_at box less (opposite_vector v)) in
       let row = met program.rows (column_count (length vs) m) b.common (held_over b) b.amounts k.certificate.certified.amounts (row_of x ws radius vs program.patterns less) (row_kept p at) in
-      let sides = flat_map-map (λ q. map (λ i. one_at i out -ℤ one_at i (number_in program.patterns q)) (range_with_len 0 m)) (λ v. pattern_at box less (opposite v)) vs in
+      let sides = flat_map-map (λ q. map (λ i. one_at i out -ℤ one_at i (pattern_number program.patterns q)) (range_with_len 0 m)) (λ v. pattern_at box less (opposite_vector v)) vs in
       row_says m (held_over b) b.common (origin_weight x ws less) out f vs b.amounts
       (subst (λ (cs : List ℤ). total_below (λ j. get_or (pos 1 ∷ cs) j (pos 0) *ℤ column_value (pos (held_over b)) b.amounts j) (1 + length vs * m) ≤ℤ pos (b.common * origin_weight x ws less)) sides row)
 
@@ -203,22 +203,22 @@ module _ (x : LocalRule) (ws : List ℕ) (radius margin : ℕ) (vs : List Place)
   position_holds p at =
       let ps = program.patterns in
       let is_ground = k.certificate.is_program.is_ground in
-      let out_same : number_in ps (pattern_at box (shown ground look p) origin) ≡ number p =
-      ap (number_in ps) (shown_pattern ground box look p origin (λ c h.
+      let out_same : pattern_number ps (pattern_at box (shown ground look p) origin) ≡ number p =
+      ap (pattern_number ps) (shown_pattern ground box look p origin (λ c h.
       let w = box_within c h in
       subst (Contains ground) (sym (shifted_by_origin c)) (ground_has x radius margin vs ground is_ground c.position c.node (at_origin x.dimension radius margin vs c.position w.0) w.1))
       ∙ ap (pattern_at box look) (moved_from_origin p)) in
-      let in_same : (v : Place) → Contains vs v → number_in ps (pattern_at box (shown ground look p) (opposite v)) ≡ number (giver v p) = λ v among.
-      ap (number_in ps) (shown_pattern ground box look p (opposite v) (λ c h.
+      let in_same : (v : Place) → Contains vs v → pattern_number ps (pattern_at box (shown ground look p) (opposite_vector v)) ≡ number (giver v p) = λ v among.
+      ap (pattern_number ps) (shown_pattern ground box look p (opposite_vector v) (λ c h.
       let w = box_within c h in
-      ground_has x radius margin vs ground is_ground (moved c.position (opposite v)) c.node (at_giver x.dimension radius margin vs v c.position among w.0) w.1)
+      ground_has x radius margin vs ground is_ground (moved c.position (opposite_vector v)) c.node (at_giver x.dimension radius margin vs v c.position among w.0) w.1)
       ∙ ap (pattern_at box look) (giver_is v p)) in
       let weight = shown_weight x ws ground look p (λ a h.
       ground_has x radius margin vs ground is_ground origin a (at_origin x.dimension radius margin vs origin (origin_centred x.dimension radius)) (range_below x.nodes a h)) in
       moved_row (held_over b) b.common _ _ _ _ _ _ (row_holds p at)
       (ap (λ (o : ℕ). goes_out m o vs b.amounts) out_same ∙ given_is m number vs b.amounts p)
       weight
-      (received_is m number (λ v. number_in ps (pattern_at box (shown ground look p) (opposite v))) vs b.amounts p in_same)
+      (received_is m number (λ v. pattern_number ps (pattern_at box (shown ground look p) (opposite_vector v))) vs b.amounts p in_same)
 
   box_holds : held_over b * n ^ x.dimension ≤ b.common * side_weight x ws look n u + boundary x.dimension n m vs b.amounts
   box_holds =

@@ -8,7 +8,7 @@ use Rattle.std.proofs.lemmas.List.{length-append, length-replicate, append-nil}
 use Rattle.std.proofs.lemmas.List.Elements.{All-head, All-tail, All-push}
 use Rattle.std.proofs.lemmas.Option.{slice_get-get_or}
 use Rattle.dd_clause.specs.declared.clause.Literal.{Literal}
-use Rattle.dd_clause.specs.Clauses.{IsLiteralInRange, IsClauseInRange, is_true, is_clause_true, Satisfies}
+use Rattle.dd_clause.specs.Clauses.{IsLiteralInRange, IsClauseInRange, is_true_under, is_clause_true, Satisfies}
 use Rattle.dd_values.specs.Variables.{true_variables}
 use Rattle.dd_derivation.specs.declared.propagation.Finding.TheVariants.{Falsified, Forced, Open}
 use Rattle.dd_derivation.specs.declared.step.Step.{Step}
@@ -148,7 +148,7 @@ values_satisfy s values ok open' full value k d h =
     turned false h = absurd (false≢true (sym h))
 
     -- a literal that is not true is false, where its variable has a value
-    denied : (b : Bool) (v : ℕ) → has_variable v (falses s.entries) ≡ true → true_variables values v ≡ is_among (falses s.entries) (record { variable = v; positive = false }) → is_true (true_variables values) (record { variable = v; positive = b }) ≡ false → is_among (falses s.entries) (record { variable = v; positive = b }) ≡ true
+    denied : (b : Bool) (v : ℕ) → has_variable v (falses s.entries) ≡ true → true_variables values v ≡ is_among (falses s.entries) (record { variable = v; positive = false }) → is_true_under (true_variables values) (record { variable = v; positive = b }) ≡ false → is_among (falses s.entries) (record { variable = v; positive = b }) ≡ true
     denied false v h e f = sym e ∙ turned (true_variables values v) f
     denied true v h e f =
         let w = in-has_variable (falses s.entries) v h in

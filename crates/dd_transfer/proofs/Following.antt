@@ -16,7 +16,7 @@ use Rattle.dd_formula.specs.LocalRule.{LocalRule, IsRule, is_of, is_true, reads_
 use Rattle.dd_formula.specs.Reach.{all_cells}
 use Rattle.dd_counts.specs.Rules.{least_x, greatest_x, slices, states, window}
 use Rattle.dd_transfer.specs.declared.strip.Strip.{Strip}
-use Rattle.dd_transfer.specs.Windows.{IsFor, IsKept, IsWindow, positions, window_look, numbered, stand}
+use Rattle.dd_transfer.specs.Windows.{IsFor, IsKept, IsWindow, positions, window_look, numbered_window, stand}
 use Rattle.dd_transfer.specs.Transfers.{IsEdge}
 use Rattle.dd_transfer.specs.Slices.{RepeatsAcross, IsInSlices, HasSlices, IsKeptFrom, slices_from, state_from, window_from}
 use Rattle.dd_transfer.specs.Laws.{AreEdgesOf}
@@ -116,7 +116,7 @@ module _ (r : LocalRule) (s : Strip) (look : Look) (rule : IsRule r) (for : IsFo
 
     windows_are : IsWindow r s (window_from r s look x) ↔ IsKeptFrom r look x
     windows_are =
-        let same : numbered r s (window_from r s look x) ≡ part r s look x = ap (window_look s) (digits_from r s look for x (window r + 1) has) in
+        let same : numbered_window r s (window_from r s look x) ≡ part r s look x = ap (window_look s) (digits_from r s look for x (window r + 1) has) in
         (λ is. kept_of_part (subst (IsKept r) same is), λ kept. subst (IsKept r) (sym same) (kept_in_part kept))
 
     -- the window without its first slice is the next state

@@ -72,8 +72,8 @@ abbrev pub window_cells : LocalRule → Strip → ℕ
 window_cells r s = (window r + 1) * cells s
 
 -- the symbols of the window of a number, whose first cell is the most significant digit
-abbrev pub numbered : LocalRule → Strip → ℕ → Look
-numbered r s number = window_look s (digits r.symbols (window_cells r s) number)
+abbrev pub numbered_window : LocalRule → Strip → ℕ → Look
+numbered_window r s number = window_look s (digits r.symbols (window_cells r s) number)
 
 -- the rule is true at each place at a position along x
 abbrev pub IsTrueAlong : LocalRule → ℤ → Look → Type 0
@@ -89,7 +89,7 @@ pub record IsKept (r : LocalRule) (look : Look) : Type 0 where
   pub true_there : IsTrueAlong r (stand r) look
 
 abbrev pub IsWindow : LocalRule → Strip → ℕ → Type 0
-IsWindow r s number = IsKept r (numbered r s number)
+IsWindow r s number = IsKept r (numbered_window r s number)
 
 -- the window of a rule: as many symbols as it has cells, each of the alphabet
 pub record IsFull (r : LocalRule) (w : Shown) : Type 0 where

@@ -14,7 +14,7 @@ use Rattle.dd_expansion.specs.Placed.{is_flat}
 use Rattle.dd_formula.specs.LocalRule.{LocalRule, reads_at}
 use Rattle.dd_formula.specs.Allowed.{HasAllowed}
 use Rattle.dd_formula.specs.Living.{Fits}
-use Rattle.dd_formula.specs.Automata.{Setting, value, counted}
+use Rattle.dd_formula.specs.Automata.{CommonNumbers, value, counted}
 use Rattle.dd_formula.specs.declared.automaton.Automaton.{Automaton}
 use Rattle.dd_boxes.specs.Goals.{GoalOf, breaks, differ, always, HasGoal, AreAlike, AreOver, IsGoalFor}
 use Rattle.dd_boxes.specs.Fillings.{in_box, is_box_cell, is_cell_within, IsConfiguration}
@@ -30,7 +30,7 @@ cut_at_origin : (x : LocalRule) (n : ℕ) (look : Look) (v : Place) (c : Cell) �
     from_place (cut x n look v) origin c ≡ from_place look v c
 cut_at_origin x n look v c h = cut_near x n look origin v c h ∙ ap (λ u. look (shifted u c)) (moved_from_origin v)
 
-pub box_over : (x : LocalRule) (s : Setting) (f g : Automaton) (n : ℕ) (c : Cell) → AreOver x s f g → is_cell_within s n c ≡ is_box_cell x n c
+pub box_over : (x : LocalRule) (s : CommonNumbers) (f g : Automaton) (n : ℕ) (c : Cell) → AreOver x s f g → is_cell_within s n c ≡ is_box_cell x n c
 box_over x s f g n c over = rw (over.dimension, over.nodes) refl
 
 -- the cut has all that is read at the origin
@@ -46,7 +46,7 @@ cut_reads : (x y : LocalRule) (n : ℕ) (look : Look) (v : Place) (a : ℕ) → 
 cut_reads x y n look v a same node reach covers = cut_has x n look v covers (is_box_cell y n) (λ c. box_alike x y n c same) (reads_at y a) (reach a node)
 
 -- values that differ at v differ in the cut at the origin
-differ_at_origin : (x : LocalRule) (s : Setting) (f g : Automaton) (n : ℕ) (look : Look) (v : Place) (a : ℕ) → AreOver x s f g → a < s.nodes → Reaches (differ s f g) n →
+differ_at_origin : (x : LocalRule) (s : CommonNumbers) (f g : Automaton) (n : ℕ) (look : Look) (v : Place) (a : ℕ) → AreOver x s f g → a < s.nodes → Reaches (differ s f g) n →
     Covers x n look v → (value f look (cell v a) ≡ value g look (cell v a) → ⊥) →
     value f (cut x n look v) (cell origin a) ≡ value g (cut x n look v) (cell origin a) → ⊥
 differ_at_origin x s f g n look v a over node reach covers apart same =

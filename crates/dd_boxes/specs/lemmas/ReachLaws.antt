@@ -12,7 +12,7 @@ use Rattle.dd_topology.specs.Topology.{extent}
 use Rattle.dd_expansion.specs.Placed.{is_flat}
 use Rattle.dd_formula.specs.LocalRule.{LocalRule, IsRule, reads_at, is_of}
 use Rattle.dd_formula.specs.Reach.{reach, automaton_reach}
-use Rattle.dd_formula.specs.Automata.{Setting, IsAutomaton, counted, is_cell_of}
+use Rattle.dd_formula.specs.Automata.{CommonNumbers, IsAutomaton, counted, is_cell_of}
 use Rattle.dd_formula.specs.Values.{IsPlaced}
 use Rattle.dd_formula.specs.declared.automaton.Automaton.{Automaton}
 use Rattle.dd_formula.specs.lemmas.ReachLaws.{is_within, reads_within, reach_within, automaton_reads_within, automaton_reach_within}
@@ -82,7 +82,7 @@ one_least : (g : GoalOf) (m n : ℕ) → IsLeastRadius g m → IsLeastRadius g n
 one_least g m n a b = let up : m ≤ n = a.least n b.reaches in let down : n ≤ m = b.least m a.reaches in omega (arith, up, down)
 
 -- two automata read as far as the one that reads farther
-module _ (s : Setting) (f g : Automaton) (some : 1 ≤ s.dimension) where
+module _ (s : CommonNumbers) (f g : Automaton) (some : 1 ≤ s.dimension) where
   abbrev radius : ℕ
   radius = max (automaton_reach s.nodes f) (automaton_reach s.nodes g)
 
@@ -119,7 +119,7 @@ module _ (s : Setting) (f g : Automaton) (some : 1 ≤ s.dimension) where
       (radius_is_least (λ a node. held f least a (is.reaches a node).0) (λ a node. held g least a (is.reaches a node).1))
 
 -- where all that they read are cells of Z^d
-pub farthest_is_least : (s : Setting) (f g : Automaton) → 1 ≤ s.dimension → IsAutomaton s f → IsAutomaton s g → IsPlaced f → IsPlaced g →
+pub farthest_is_least : (s : CommonNumbers) (f g : Automaton) → 1 ≤ s.dimension → IsAutomaton s f → IsAutomaton s g → IsPlaced f → IsPlaced g →
     IsLeastRadius (differ s f g) (max (automaton_reach s.nodes f) (automaton_reach s.nodes g))
 farthest_is_least s f g some left right in_left in_right = radius_is_least s f g some (in_left s left) (in_right s right)
 

@@ -5,7 +5,7 @@ use Rattle.std.specs.List.{list_all, list_any}
 use Rattle.std.specs.Bool.{beq}
 use Rattle.std.proofs.lemmas.List.Folds.{list_all-append}
 use Rattle.dd_clause.specs.declared.clause.Literal.{Literal}
-use Rattle.dd_clause.specs.Clauses.{negation, is_true, is_clause_true}
+use Rattle.dd_clause.specs.Clauses.{negation, is_true_under, is_clause_true}
 use Rattle.dd_circuit.specs.declared.gates.Signal.{Signal}
 use Rattle.dd_circuit.specs.declared.gates.Gate.{Gate}
 use Rattle.dd_circuit.specs.declared.gates.Gate.TheVariants.{And, Or, Iff}
@@ -14,16 +14,16 @@ use Rattle.dd_cnf.specs.Encoding.{literal, literal_of, signed, joint_clauses, if
 use Rattle.dd_cnf.specs.Models.{is_satisfied}
 
 -- a negation is true exactly where its literal is not
-is_true-negation : (set : ℕ → Bool) (l : Literal) → is_true set (negation l) ≡ not (is_true set l)
-is_true-negation set l = go l.positive (set l.variable) where
+is_true_under-negation : (set : ℕ → Bool) (l : Literal) → is_true_under set (negation l) ≡ not (is_true_under set l)
+is_true_under-negation set l = go l.positive (set l.variable) where
   go : (p v : Bool) → (if not p then v else not v) ≡ not (if p then v else not v)
   go true v = refl
   go false true = refl
   go false false = refl
 
-is_true-signed_not : (set : ℕ → Bool) (sign : Bool) (s : Signal) → is_true set (signed (not sign) s) ≡ not (is_true set (signed sign s))
-is_true-signed_not set true s = is_true-negation set (literal_of s)
-is_true-signed_not set false s = go s.positive (set s.variable) where
+is_true_under-signed_not : (set : ℕ → Bool) (sign : Bool) (s : Signal) → is_true_under set (signed (not sign) s) ≡ not (is_true_under set (signed sign s))
+is_true_under-signed_not set true s = is_true_under-negation set (literal_of s)
+is_true_under-signed_not set false s = go s.positive (set s.variable) where
   go : (p v : Bool) → (if p then v else not v) ≡ not (if not p then v else not v)
   go true true = refl
   go true false = refl
@@ -64,37 +64,37 @@ beq-not false false = refl
 
 -- where the gate's literal is true, so is each member
 pairs_law : (set : ℕ → Bool) (gate : Literal) (sign : Bool) (members : List Signal) →
-    is_satisfied set (map (λ l. negation gate ∷ signed sign l ∷ []) members) ≡ (not (is_true set gate) || list_all (λ l. is_true set (signed sign l)) members)
-pairs_law set gate sign [] = go (is_true set gate) where
+    is_satisfied set (map (λ l. negation gate ∷ signed sign l ∷ []) members) ≡ (not (is_true_under set gate) || list_all (λ l. is_true_under set (signed sign l)) members)
+pairs_law set gate sign [] = go (is_true_under set gate) where
   go : (g : Bool) → true ≡ (not g || true)
   go true = refl
   go false = refl
 pairs_law set gate sign (l ∷ ls) =
-    rw (is_true-negation set gate, pairs_law set gate sign ls)
-    (pair_clause (is_true set gate) (is_true set (signed sign l)) (list_all (λ m. is_true set (signed sign m)) ls))
+    rw (is_true_under-negation set gate, pairs_law set gate sign ls)
+    (pair_clause (is_true_under set gate) (is_true_under set (signed sign l)) (list_all (λ m. is_true_under set (signed sign m)) ls))
 
 -- and where each member is true, so is the gate's literal
 last_law : (set : ℕ → Bool) (sign : Bool) (members : List Signal) →
-    list_any (is_true set) (map (signed (not sign)) members) ≡ not (list_all (λ l. is_true set (signed sign l)) members)
+    list_any (is_true_under set) (map (signed (not sign)) members) ≡ not (list_all (λ l. is_true_under set (signed sign l)) members)
 last_law set sign [] = refl
 last_law set sign (l ∷ ls) =
-    rw (is_true-signed_not set sign l, last_law set sign ls) (not_and (is_true set (signed sign l)) (list_all (λ m. is_true set (signed sign m)) ls))
+    rw (is_true_under-signed_not set sign l, last_law set sign ls) (not_and (is_true_under set (signed sign l)) (list_all (λ m. is_true_under set (signed sign m)) ls))
 
 joint_law : (set : ℕ → Bool) (gate : Literal) (members : List Signal) →
-    is_satisfied set (joint_clauses gate members) ≡ beq (is_true set gate) (list_all (λ l. is_true set (signed gate.positive l)) members)
+    is_satisfied set (joint_clauses gate members) ≡ beq (is_true_under set gate) (list_all (λ l. is_true_under set (signed gate.positive l)) members)
 joint_law set gate members =
     list_all-append (is_clause_true set) (map (λ l. negation gate ∷ signed gate.positive l ∷ []) members) ((gate ∷ map (signed (not gate.positive)) members) ∷ [])
     ∙ rw (pairs_law set gate gate.positive members, last_law set gate.positive members)
-    (joint_cases (is_true set gate) (list_all (λ l. is_true set (signed gate.positive l)) members))
+    (joint_cases (is_true_under set gate) (list_all (λ l. is_true_under set (signed gate.positive l)) members))
 
-iff_law : (set : ℕ → Bool) (g a b : Literal) → is_satisfied set (iff_clauses g a b) ≡ beq (is_true set g) (beq (is_true set a) (is_true set b))
-iff_law set g a b = rw (is_true-negation set g, is_true-negation set a, is_true-negation set b) (iff_cases (is_true set g) (is_true set a) (is_true set b))
+iff_law : (set : ℕ → Bool) (g a b : Literal) → is_satisfied set (iff_clauses g a b) ≡ beq (is_true_under set g) (beq (is_true_under set a) (is_true_under set b))
+iff_law set g a b = rw (is_true_under-negation set g, is_true_under-negation set a, is_true_under-negation set b) (iff_cases (is_true_under set g) (is_true_under set a) (is_true_under set b))
 
 -- not all are false exactly where some is true
-all_opposing : (set : ℕ → Bool) (members : List Signal) → list_all (λ l. is_true set (signed false l)) members ≡ not (list_any (signal_value set) members)
+all_opposing : (set : ℕ → Bool) (members : List Signal) → list_all (λ l. is_true_under set (signed false l)) members ≡ not (list_any (signal_value set) members)
 all_opposing set [] = refl
 all_opposing set (l ∷ ls) =
-    rw (is_true-negation set (literal_of l), all_opposing set ls) (go (signal_value set l) (list_any (signal_value set) ls)) where
+    rw (is_true_under-negation set (literal_of l), all_opposing set ls) (go (signal_value set l) (list_any (signal_value set) ls)) where
       go : (a b : Bool) → (not a && not b) ≡ not (a || b)
       go true b = refl
       go false b = refl

@@ -3,7 +3,7 @@ use Rattle.std.specs.Prelude.{ℕ, ◌≡◌, ◌<◌, true, List, [], ◌∷◌
 use Rattle.std.specs.List.{All, list_all}
 use Rattle.dd_lattice.specs.Cells.{shifted}
 use Rattle.dd_lattice.specs.declared.position.Cell.{Cell}
-use Rattle.dd_formula.specs.Automata.{Setting, IsAutomaton, counted, is_cell_of}
+use Rattle.dd_formula.specs.Automata.{CommonNumbers, IsAutomaton, counted, is_cell_of}
 use Rattle.dd_formula.specs.declared.automaton.Automaton.{Automaton}
 use Rattle.dd_circuit.specs.declared.gates.Signal.{Signal}
 use Rattle.dd_circuit.specs.Circuits.{Network, IsSignal, size}
@@ -12,7 +12,7 @@ use Rattle.dd_compile.specs.ValueSignals.{SaysValue, are_wired_there}
 
 -- over some numbers with an alphabet of k symbols both automata are well formed, and a is one of the nodes
 pub record HaveSymbols (f g : Automaton) (k a : ℕ) : Type 0 where
-  pub setting : Setting
+  pub setting : CommonNumbers
   pub outer : IsAutomaton setting f
   pub inner : IsAutomaton setting g
   pub below : a < setting.nodes
@@ -20,7 +20,7 @@ pub record HaveSymbols (f g : Automaton) (k a : ℕ) : Type 0 where
 
 -- over some numbers with an alphabet of k symbols the automaton is well formed, and these are cells that it may be asked at
 pub record HasSymbolsAt (f : Automaton) (k : ℕ) (cs : List Cell) : Type 0 where
-  pub setting : Setting
+  pub setting : CommonNumbers
   pub formed : IsAutomaton setting f
   pub cells : list_all (is_cell_of setting) cs ≡ true
   pub all : setting.symbols ≡ k

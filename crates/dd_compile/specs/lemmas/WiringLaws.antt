@@ -14,7 +14,7 @@ use Rattle.dd_lattice.specs.lemmas.ListLaws.{sorted_push}
 use Rattle.dd_pattern.specs.Filling.{filled}
 use Rattle.dd_pattern.specs.lemmas.FillingLaws.{cell_total, search_places, missing_reads_none}
 use Rattle.dd_circuit.specs.declared.gates.Signal.{Signal}
-use Rattle.dd_compile.specs.Wiring.{Wiring, IsWiring, IsReadByPlace, signal_for, signals_of, wire_of}
+use Rattle.dd_compile.specs.Wiring.{Wiring, IsWiring, IsWiredByPlace, signal_for, signals_of, wire_of}
 
 abbrev place_of : List Cell → Cell → ℕ
 place_of cs c = position_or_len (λ d. is_eq (cell_cmp d c)) cs
@@ -47,7 +47,7 @@ signals_at_place w ok k d h =
     let c = get_or w.cells k d in
     ap (slice_get w.signals) (place_found w.cells ok.ascending k c h (get_or_default w.cells k c d h))
 
-pub read_by_place : (w : Wiring) → IsWiring w → IsReadByPlace w
+pub read_by_place : (w : Wiring) → IsWiring w → IsWiredByPlace w
 read_by_place w ok = record { at = reads_at_place w ok; elsewhere = missing_reads_none_too w ok }
 
 -- what a search for the cell finds is the list of its signals

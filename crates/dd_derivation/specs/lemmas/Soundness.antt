@@ -7,7 +7,7 @@ use Rattle.std.proofs.lemmas.Bool.{eqb-true, eq-eqb, and_from, and_parts, or_cas
 use Rattle.std.proofs.lemmas.Option.{get_or_from_slice_get, slice_get_within}
 use Rattle.std.proofs.lemmas.List.Elements.{All-push, All-set, All-map}
 use Rattle.dd_clause.specs.declared.clause.Literal.{Literal}
-use Rattle.dd_clause.specs.Clauses.{negation, is_true, is_clause_true, Satisfies}
+use Rattle.dd_clause.specs.Clauses.{negation, is_true_under, is_clause_true, Satisfies}
 use Rattle.dd_derivation.specs.declared.propagation.Finding.{Finding}
 use Rattle.dd_derivation.specs.declared.propagation.Finding.TheVariants.{Falsified, Forced, Open}
 use Rattle.dd_derivation.specs.declared.step.Step.{Step}
@@ -50,36 +50,36 @@ negated true false = refl
 negated false true = refl
 negated false false = refl
 
-pub is_true-negation : (set : ℕ → Bool) (l : Literal) → is_true set (negation l) ≡ not (is_true set l)
-is_true-negation set l = negated l.positive (set l.variable)
+pub is_true_under-negation : (set : ℕ → Bool) (l : Literal) → is_true_under set (negation l) ≡ not (is_true_under set l)
+is_true_under-negation set l = negated l.positive (set l.variable)
 
 -- a test that is only true of literals that are false under the set
 abbrev pub MarksFalse : (ℕ → Bool) → (Literal → Bool) → Type 0
-MarksFalse set is_false = (l : Literal) → is_false l ≡ true → is_true set l ≡ false
+MarksFalse set is_false = (l : Literal) → is_false l ≡ true → is_true_under set l ≡ false
 
 or_left_out : (a b : Bool) → a ≡ false → (a || b) ≡ true → b ≡ true
 or_left_out true b e h = cc
 or_left_out false b e h = h
 
 -- a true literal is among those that are not marked
-kept_true : (set : ℕ → Bool) (is_false : Literal → Bool) (clause : List Literal) → MarksFalse set is_false → list_any (is_true set) clause ≡ true → list_any (is_true set) (filter (λ l. not (is_false l)) clause) ≡ true
+kept_true : (set : ℕ → Bool) (is_false : Literal → Bool) (clause : List Literal) → MarksFalse set is_false → list_any (is_true_under set) clause ≡ true → list_any (is_true_under set) (filter (λ l. not (is_false l)) clause) ≡ true
 kept_true set is_false [] m h = h
 kept_true set is_false (l ∷ clause) m h =
-    let go : (b : Bool) → is_false l ≡ b → list_any (is_true set) (cond (not b) (l ∷ filter (λ x. not (is_false x)) clause) (filter (λ x. not (is_false x)) clause)) ≡ true =
-    λ b e. elim b as (λ v. is_false l ≡ v → list_any (is_true set) (cond (not v) (l ∷ filter (λ x. not (is_false x)) clause) (filter (λ x. not (is_false x)) clause)) ≡ true) [
-      | true ↦ (λ e. kept_true set is_false clause m (or_left_out (is_true set l) _ (m l e) h))
-      | false ↦ (λ e. elim (or_cases (is_true set l) (list_any (is_true set) clause) h) [ inl a ↦ or_left _ _ a | inr a ↦ or_right _ _ (kept_true set is_false clause m a) ])
+    let go : (b : Bool) → is_false l ≡ b → list_any (is_true_under set) (cond (not b) (l ∷ filter (λ x. not (is_false x)) clause) (filter (λ x. not (is_false x)) clause)) ≡ true =
+    λ b e. elim b as (λ v. is_false l ≡ v → list_any (is_true_under set) (cond (not v) (l ∷ filter (λ x. not (is_false x)) clause) (filter (λ x. not (is_false x)) clause)) ≡ true) [
+      | true ↦ (λ e. kept_true set is_false clause m (or_left_out (is_true_under set l) _ (m l e) h))
+      | false ↦ (λ e. elim (or_cases (is_true_under set l) (list_any (is_true_under set) clause) h) [ inl a ↦ or_left _ _ a | inr a ↦ or_right _ _ (kept_true set is_false clause m a) ])
     ] e in
     go (is_false l) refl
 
 -- literals that are all the same as a false one are false
-same_false : (set : ℕ → Bool) (l : Literal) (rest : List Literal) → list_all (same_literal l) rest ≡ true → is_true set l ≡ false → list_any (is_true set) rest ≡ false
+same_false : (set : ℕ → Bool) (l : Literal) (rest : List Literal) → list_all (same_literal l) rest ≡ true → is_true_under set l ≡ false → list_any (is_true_under set) rest ≡ false
 same_false set l [] h e = refl
 same_false set l (m ∷ rest) h e =
     let p = and_parts _ _ h in
     let q : l ≡ m = same_literal-eq l m p.0 in
     let r = same_false set l rest p.1 e in
-    let f : is_true set m ≡ false = subst (λ (x : Literal). is_true set x ≡ false) q e in
+    let f : is_true_under set m ≡ false = subst (λ (x : Literal). is_true_under set x ≡ false) q e in
     or_from _ _ f r
 
 forced_by : (b : Bool) (l m : Literal) → cond b (Forced l) Open ≡ Forced m → (b ≡ true) × (l ≡ m)
@@ -91,15 +91,15 @@ not_falsified true l h = cc
 not_falsified false l h = cc
 
 -- what a true clause says is right
-finding_of_true : (set : ℕ → Bool) (is_false : Literal → Bool) (left : List Literal) → list_any (is_true set) left ≡ true → (finding_of is_false left ≡ Falsified → ⊥) × ((m : Literal) → finding_of is_false left ≡ Forced m → is_true set m ≡ true)
+finding_of_true : (set : ℕ → Bool) (is_false : Literal → Bool) (left : List Literal) → list_any (is_true_under set) left ≡ true → (finding_of is_false left ≡ Falsified → ⊥) × ((m : Literal) → finding_of is_false left ≡ Forced m → is_true_under set m ≡ true)
 finding_of_true set is_false [] h = absurd (false≢true h)
 finding_of_true set is_false (l ∷ rest) h = (
   λ e. not_falsified _ l e,
   λ m e.
       let f = forced_by (list_all (same_literal l) rest && not (is_false (negation l))) l m e in
       let same : list_all (same_literal l) rest ≡ true = (and_parts _ _ f.0).0 in
-      let l_true : is_true set l ≡ true = elim (cases_Bool (is_true set l)) [ inl t ↦ t | inr n ↦ absurd (false≢true (sym (or_from _ _ n (same_false set l rest same n)) ∙ h)) ] in
-      subst (λ (x : Literal). is_true set x ≡ true) f.1 l_true,
+      let l_true : is_true_under set l ≡ true = elim (cases_Bool (is_true_under set l)) [ inl t ↦ t | inr n ↦ absurd (false≢true (sym (or_from _ _ n (same_false set l rest same n)) ∙ h)) ] in
+      subst (λ (x : Literal). is_true_under set x ≡ true) f.1 l_true,
 )
 
 abbrev pub TrueIfKnown : (ℕ → Bool) → Option (List Literal) → Type 0
@@ -129,14 +129,14 @@ followed (Forced l) is_last next h = inr (l, refl, h)
 followed Open is_last next h = absurd (cc)
 
 -- what a hint says is right
-hint_true_at : (set : ℕ → Bool) (is_false : Literal → Bool) → MarksFalse set is_false → (o : Option (List Literal)) → ((c : List Literal) → o ≡ Some c → is_clause_true set c ≡ true) → (option_map_or (finding is_false) o Open ≡ Falsified → ⊥) × ((l : Literal) → option_map_or (finding is_false) o Open ≡ Forced l → is_true set l ≡ true)
+hint_true_at : (set : ℕ → Bool) (is_false : Literal → Bool) → MarksFalse set is_false → (o : Option (List Literal)) → ((c : List Literal) → o ≡ Some c → is_clause_true set c ≡ true) → (option_map_or (finding is_false) o Open ≡ Falsified → ⊥) × ((l : Literal) → option_map_or (finding is_false) o Open ≡ Forced l → is_true_under set l ≡ true)
 hint_true_at set is_false m None t = (λ e. cc, λ l e. absurd (cc))
 hint_true_at set is_false m (Some c) t = finding_of_true set is_false _ (kept_true set is_false c m (t c refl))
 
-marks_more : (set : ℕ → Bool) (falses : List Literal) (l : Literal) → MarksFalse set (is_among falses) → is_true set l ≡ true → MarksFalse set (is_among (negation l ∷ falses))
+marks_more : (set : ℕ → Bool) (falses : List Literal) (l : Literal) → MarksFalse set (is_among falses) → is_true_under set l ≡ true → MarksFalse set (is_among (negation l ∷ falses))
 marks_more set falses l m t x h =
     elim (or_cases (same_literal x (negation l)) (is_among falses x) h) [
-      | inl a ↦ rw (same_literal-eq x (negation l) a, is_true-negation set l, t) refl
+      | inl a ↦ rw (same_literal-eq x (negation l) a, is_true_under-negation set l, t) refl
       | inr a ↦ m x a
     ]
 
@@ -154,7 +154,7 @@ conflict_false set known falses (n ∷ hints) s m h =
 pub all_false : (set : ℕ → Bool) (clause : List Literal) → is_clause_true set clause ≡ false → MarksFalse set (is_among clause)
 all_false set [] h x e = absurd (false≢true e)
 all_false set (l ∷ clause) h x e =
-    let p = or_parts (is_true set l) (is_clause_true set clause) h in
+    let p = or_parts (is_true_under set l) (is_clause_true set clause) h in
     elim (or_cases (same_literal x l) (is_among clause x) e) [
       | inl a ↦ rw (same_literal-eq x l a) p.0
       | inr a ↦ all_false set clause p.1 x a

@@ -2,13 +2,13 @@
 use Rattle.std.specs.Prelude.{◌≡◌, ℕ, ◌+◌, ◌-◌, ◌*◌, ◌^◌, ◌<◌, ◌≤◌, ◌==◌, min, if◌then◌else◌, Bool, false, List, [], ◌∷◌, ◌++◌, length, replicate, count_by, slice_get, slice_index_or, slice_set}
 use Rattle.std.specs.Option.{option_map_or}
 use Rattle.dd_clause.specs.declared.clause.Literal.{Literal}
-use Rattle.dd_clause.specs.Clauses.{is_true}
+use Rattle.dd_clause.specs.Clauses.{is_true_under}
 use Rattle.dd_values.specs.Variables.{true_variables}
 use Rattle.dd_derivation.specs.Derivations.{same_literal}
 
 -- how many literals of the clause are true
 abbrev pub true_count : List Bool → List Literal → ℕ
-true_count values clause = count_by (is_true (true_variables values)) clause
+true_count values clause = count_by (is_true_under (true_variables values)) clause
 
 -- how often the clause has the literal
 abbrev pub times_in : Literal → List Literal → ℕ

@@ -22,7 +22,7 @@ use Rattle.dd_expansion.specs.declared.formulas.Formula.TheFolds.{fold-roll-Form
 use Rattle.dd_expansion.specs.declared.formulas.Formula.TheOpen.{Formula-F}
 use Rattle.dd_expansion.specs.Leaves.{holds, holds_step, LeafTest, leaves_pass, leaves_pass_step, given, leaf_cells, leaf_cells_step, total, instances, instances_step, clause_count, clause_count_step}
 use Rattle.dd_expansion.specs.Expansion.{Expansion, expansion, expansion_step}
-use Rattle.dd_expansion.specs.Limits.{formula_fits, fits_step, list_depth, depth, depth_step}
+use Rattle.dd_expansion.specs.Limits.{formula_fits, formula_fits_step, list_depth, depth, depth_step}
 use Rattle.dd_expansion.specs.Terms.{balls_of}
 
 pub list_any-map : {X Y : Type 0} (p : X → Bool) (h : Y → X) (ys : List Y) → list_any p (map h ys) ≡ list_any (λ y. p (h y)) ys
@@ -127,12 +127,12 @@ expansion_exists es n bs f env =
 pub fits_and : (g : Grid) (n : ℕ) (fs : List Formula) (scope : ℕ) → formula_fits g n (formula.And fs) scope ≡ list_all (λ f. formula_fits g n f scope) fs
 fits_and g n fs scope =
     ap (λ f. formula_fits g n f scope) (sym (formula.rolls-And fs))
-    ∙ (ap (λ h. h scope) (fold-roll-Formula (ℕ → Bool) (fits_step g n) (Formula-F.And fs)) ∙ list_all-map (λ h. h scope) (formula_fits g n) fs)
+    ∙ (ap (λ h. h scope) (fold-roll-Formula (ℕ → Bool) (formula_fits_step g n) (Formula-F.And fs)) ∙ list_all-map (λ h. h scope) (formula_fits g n) fs)
 
 pub fits_or : (g : Grid) (n : ℕ) (fs : List Formula) (scope : ℕ) → formula_fits g n (formula.Or fs) scope ≡ list_all (λ f. formula_fits g n f scope) fs
 fits_or g n fs scope =
     ap (λ f. formula_fits g n f scope) (sym (formula.rolls-Or fs))
-    ∙ (ap (λ h. h scope) (fold-roll-Formula (ℕ → Bool) (fits_step g n) (Formula-F.Or fs)) ∙ list_all-map (λ h. h scope) (formula_fits g n) fs)
+    ∙ (ap (λ h. h scope) (fold-roll-Formula (ℕ → Bool) (formula_fits_step g n) (Formula-F.Or fs)) ∙ list_all-map (λ h. h scope) (formula_fits g n) fs)
 
 pub depth_and : (fs : List Formula) → depth (formula.And fs) ≡ list_depth (map depth fs)
 depth_and fs = ap depth (sym (formula.rolls-And fs)) ∙ fold-roll-Formula ℕ depth_step (Formula-F.And fs)

@@ -25,7 +25,7 @@ use Rattle.dd_expansion.specs.declared.expanded.Expanded.TheOpen.{Expanded-F}
 use Rattle.dd_expansion.specs.Terms.{cell_of, same_cell, balls_of}
 use Rattle.dd_expansion.specs.Reads.{Reading, both_cells, reads, reads_step}
 use Rattle.dd_expansion.specs.Leaves.{LeafTest, leaves_pass, leaves_pass_step, leaf_cells}
-use Rattle.dd_expansion.specs.Limits.{formula_fits, fits_step, term_fits, balls_fit}
+use Rattle.dd_expansion.specs.Limits.{formula_fits, formula_fits_step, term_fits, balls_fit}
 use Rattle.dd_expansion.specs.Expansion.{constant, leaf, negated, all_of, any_of, both_alike, at_cell, at_cells, both_have, equal_at, expansion, expansion_step, Expansion}
 use Rattle.dd_expansion.specs.lemmas.ListTests.{and_true, list_all-alike, list_all-flat_map, all_pass, any_by_all}
 use Rattle.dd_expansion.specs.lemmas.LeafLaws.{leaves_are_cells}
@@ -224,7 +224,7 @@ module _ (g : Grid) (n : ℕ) (es : List Edge) (env : List Cell) where
       leaves_of_each (by_symbol n) (expansion es n f.0) env cs
       ∙ all_pass (λ c. leaves_pass (by_symbol n) (expansion es n f.0 (env ++ c ∷ []))) (λ c. f.1 es (env ++ c ∷ []) (scope + 1) h) cs
 
-  step_below : (y : Formula-F (Fitting g n)) (scope : ℕ) → fits_step g n (map-Formula Formula (ℕ → Bool) (formula_fits g n) (fitting_layer g n y)) scope ≡ true →
+  step_below : (y : Formula-F (Fitting g n)) (scope : ℕ) → formula_fits_step g n (map-Formula Formula (ℕ → Bool) (formula_fits g n) (fitting_layer g n y)) scope ≡ true →
       leaves_pass (by_symbol n) (expansion_step es n (map-Formula Formula Expansion (expansion es n) (fitting_layer g n y)) env) ≡ true
   step_below (Formula-F.Symbol t s) scope h =
       let both = and_parts (term_fits g scope t) (nat_lt s n) h in
@@ -260,4 +260,4 @@ module _ (g : Grid) (n : ℕ) (es : List Edge) (env : List Cell) where
 -- where the formula fits, the symbol of each leaf is one that there is
 pub leaves_are_symbols : (g : Grid) (n : ℕ) (f : Formula) → AreBelow g n f
 leaves_are_symbols g n = ind-Formula (AreBelow g n) (λ x y is es env scope.
-    rw (fold-roll-Formula Expansion (expansion_step es n) x, fold-roll-Formula (ℕ → Bool) (fits_step g n) x, ← is) (step_below g n es env y scope))
+    rw (fold-roll-Formula Expansion (expansion_step es n) x, fold-roll-Formula (ℕ → Bool) (formula_fits_step g n) x, ← is) (step_below g n es env y scope))

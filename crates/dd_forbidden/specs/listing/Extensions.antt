@@ -3,7 +3,7 @@ use Rattle.std.specs.Prelude.{ℕ, ◌<◌, cond, List, [], ◌∷◌, ◌++◌,
 use Rattle.std.specs.List.{flat_map, range_with_len}
 use Rattle.dd_lattice.specs.declared.position.Cell.{Cell}
 use Rattle.dd_formula.specs.LocalRule.{LocalRule, rule_allows}
-use Rattle.dd_forbidden.specs.Breaking.{is_kept}
+use Rattle.dd_forbidden.specs.Breaking.{is_true_at_origin}
 
 -- symbols of the alphabet
 abbrev pub AreSymbols : LocalRule → List ℕ → Type 0
@@ -14,7 +14,7 @@ abbrev pub AreOf : LocalRule → List Cell → Type 0
 AreOf r cs = All (λ c. c.node < r.nodes) cs
 
 abbrev pub extensions : LocalRule → ℕ → List Cell → List ℕ → List (List ℕ)
-extensions r a [] ss = cond (is_kept r a ss) [] (ss ∷ [])
+extensions r a [] ss = cond (is_true_at_origin r a ss) [] (ss ∷ [])
 extensions r a (c ∷ cs) ss = flat_map (λ s. cond (rule_allows r c.node s) (extensions r a cs (ss ++ s ∷ [])) []) (range_with_len 0 r.symbols)
 
 -- all fillings that begin with some symbols, whether the rule is true under them or not

@@ -15,7 +15,7 @@ use Rattle.dd_expansion.specs.Placed.{is_flat}
 use Rattle.dd_expansion.specs.lemmas.Placed.{flat_moved}
 use Rattle.dd_expansion.specs.lemmas.LeavesAreReads.{same_by_tests}
 use Rattle.dd_formula.specs.LocalRule.{LocalRule, IsRule, reads_at, cells_at, is_near, is_of}
-use Rattle.dd_formula.specs.Automata.{Setting, has_rules, has_rules_step, IsNodesOf, rule_has, is_cell_of, Counted, Checked, counted, counted_step, case_instances, cases_reads, cells_of, automaton_fits, fits_step, cases_fit, is_few, is_short, is_shallow, is_within, limits_step, are_within, IsAutomaton}
+use Rattle.dd_formula.specs.Automata.{CommonNumbers, has_rules, has_rules_step, IsNodesOf, rule_has, is_cell_of, Counted, Checked, counted, counted_step, case_instances, cases_reads, cells_of, automaton_fits, automaton_fits_step, cases_fit, is_few, is_short, is_shallow, is_within, limits_step, are_within, IsAutomaton}
 use Rattle.dd_formula.specs.declared.automaton.Automaton.{Automaton}
 use Rattle.dd_formula.specs.declared.automaton.Automaton.TheVariants as v
 use Rattle.dd_formula.specs.declared.automaton.Automaton.TheFolds.{fold-Automaton, fold-roll-Automaton, ind-Automaton, map-Automaton}
@@ -29,11 +29,11 @@ counted_given c = ap counted (sym (v.rolls-Given c)) ∙ fold-roll-Automaton Cou
 pub counted_composed : (f g : Automaton) → counted (v.Composed f g) ≡ counted_step (Automaton-F.Composed (counted f) (counted g))
 counted_composed f g = ap counted (sym (v.rolls-Composed f g)) ∙ fold-roll-Automaton Counted counted_step (Automaton-F.Composed f g)
 
-pub fits_given : (s : Setting) (c : Cases) → automaton_fits s (v.Given c) ≡ cases_fit s c.cases c.otherwise
-fits_given s c = ap (automaton_fits s) (sym (v.rolls-Given c)) ∙ fold-roll-Automaton Bool (fits_step s) (Automaton-F.Given c)
+pub fits_given : (s : CommonNumbers) (c : Cases) → automaton_fits s (v.Given c) ≡ cases_fit s c.cases c.otherwise
+fits_given s c = ap (automaton_fits s) (sym (v.rolls-Given c)) ∙ fold-roll-Automaton Bool (automaton_fits_step s) (Automaton-F.Given c)
 
-pub fits_composed : (s : Setting) (f g : Automaton) → automaton_fits s (v.Composed f g) ≡ (automaton_fits s f && automaton_fits s g)
-fits_composed s f g = ap (automaton_fits s) (sym (v.rolls-Composed f g)) ∙ fold-roll-Automaton Bool (fits_step s) (Automaton-F.Composed f g)
+pub fits_composed : (s : CommonNumbers) (f g : Automaton) → automaton_fits s (v.Composed f g) ≡ (automaton_fits s f && automaton_fits s g)
+fits_composed s f g = ap (automaton_fits s) (sym (v.rolls-Composed f g)) ∙ fold-roll-Automaton Bool (automaton_fits_step s) (Automaton-F.Composed f g)
 
 abbrev pub checks : ℕ → Automaton → Checked
 checks n = fold-Automaton Checked (limits_step n)
@@ -69,14 +69,14 @@ within_composed n f g =
     ∙ ap (λ (c : Counted). parts && is_within n c) (sym (counted_composed f g))))
 
 -- the parts of a well-formed composition
-pub outer_part : (s : Setting) (f g : Automaton) → IsAutomaton s (v.Composed f g) → IsAutomaton s f
+pub outer_part : (s : CommonNumbers) (f g : Automaton) → IsAutomaton s (v.Composed f g) → IsAutomaton s f
 outer_part s f g h = record {
   some = h.some;
   fits = (and_parts (automaton_fits s f) (automaton_fits s g) (sym (fits_composed s f g) ∙ h.fits)).0;
   within = (and_parts _ _ (and_parts _ _ (sym (within_composed s.nodes f g) ∙ h.within)).0).0;
 }
 
-pub inner_part : (s : Setting) (f g : Automaton) → IsAutomaton s (v.Composed f g) → IsAutomaton s g
+pub inner_part : (s : CommonNumbers) (f g : Automaton) → IsAutomaton s (v.Composed f g) → IsAutomaton s g
 inner_part s f g h = record {
   some = h.some;
   fits = (and_parts (automaton_fits s f) (automaton_fits s g) (sym (fits_composed s f g) ∙ h.fits)).1;
@@ -118,7 +118,7 @@ range_at p k (suc n) a h low high =
       | inr later ↦ range_at p (k + 1) n a both.1 (omega arith) (omega arith)
     ]
 
-module _ (s : Setting) (f : Automaton) (h : IsAutomaton s f) where
+module _ (s : CommonNumbers) (f : Automaton) (h : IsAutomaton s f) where
   parts_within : (is_few s.nodes (counted f) ≡ true) × (is_short s.nodes (counted f) ≡ true) × (is_shallow (counted f) ≡ true)
   parts_within =
       let all = and_parts (is_few s.nodes (counted f) && is_short s.nodes (counted f)) (is_shallow (counted f)) (within_is s.nodes f h.within) in
@@ -200,7 +200,7 @@ passes_at p (y ∷ ys) zero x h below is = ap p is ∙ (and_parts (p y) (list_al
 passes_at p (y ∷ ys) (suc i) x h below is = passes_at p ys i x (and_parts (p y) (list_all p ys) h).1 (omega arith) is
 
 -- a rule with the numbers of a setting reads cells of it
-pub rule_reads : (s : Setting) (r : LocalRule) (a : ℕ) → IsRule r → rule_has s r ≡ true → a < s.nodes → list_all (is_cell_of s) (cells_at r a) ≡ true
+pub rule_reads : (s : CommonNumbers) (r : LocalRule) (a : ℕ) → IsRule r → rule_has s r ≡ true → a < s.nodes → list_all (is_cell_of s) (cells_at r a) ≡ true
 rule_reads s r a rule has below =
     let two = and_parts (r.dimension == s.dimension && r.nodes == s.nodes) (r.symbols == s.symbols) has in
     let each = and_parts (r.dimension == s.dimension) (r.nodes == s.nodes) two.0 in
@@ -211,19 +211,19 @@ rule_reads s r a rule has below =
     ∙ rule.placed a (omega arith))
 
 -- the rule of a case has the numbers
-pub case_has : (s : Setting) (cases : List (LocalRule × ℕ)) (otherwise i : ℕ) (case : LocalRule × ℕ) → cases_fit s cases otherwise ≡ true → i < length cases → case ≡ get_or cases i case → rule_has s case.0 ≡ true
+pub case_has : (s : CommonNumbers) (cases : List (LocalRule × ℕ)) (otherwise i : ℕ) (case : LocalRule × ℕ) → cases_fit s cases otherwise ≡ true → i < length cases → case ≡ get_or cases i case → rule_has s case.0 ≡ true
 case_has s cases otherwise i case fit below is =
     let all = and_parts (list_all (λ c. rule_has s c.0 && nat_lt c.1 s.symbols) cases) (nat_lt otherwise s.symbols) fit in
     (and_parts (rule_has s case.0) (nat_lt case.1 s.symbols) (passes_at (λ c. rule_has s c.0 && nat_lt c.1 s.symbols) cases i case all.0 below is)).0
 
 -- a rule that has the numbers of a setting has its nodes
-pub rule_nodes : (s : Setting) (r : LocalRule) → rule_has s r ≡ true → r.nodes ≡ s.nodes
+pub rule_nodes : (s : CommonNumbers) (r : LocalRule) → rule_has s r ≡ true → r.nodes ≡ s.nodes
 rule_nodes s r has =
     let two = and_parts (r.dimension == s.dimension && r.nodes == s.nodes) (r.symbols == s.symbols) has in
     eqb-true r.nodes s.nodes (and_parts (r.dimension == s.dimension) (r.nodes == s.nodes) two.0).1
 
 -- cells of a setting moved by one of its positions
-pub moved_placed : (s : Setting) (c : Cell) (ds : List Cell) → is_cell_of s c ≡ true → list_all (is_cell_of s) ds ≡ true → list_all (is_cell_of s) (map (shifted c.position) ds) ≡ true
+pub moved_placed : (s : CommonNumbers) (c : Cell) (ds : List Cell) → is_cell_of s c ≡ true → list_all (is_cell_of s) ds ≡ true → list_all (is_cell_of s) (map (shifted c.position) ds) ≡ true
 moved_placed s c ds here h =
     let flat = (and_parts (is_flat s.dimension c.position) (nat_lt c.node s.nodes) here).0 in
     list_all-map (is_cell_of s) (shifted c.position) ds
@@ -235,7 +235,7 @@ pub passes_both : {X : Type 0} (p : X → Bool) (xs ys : List X) → list_all p 
 passes_both p xs ys h h' = list_all-append p xs ys ∙ and_from (list_all p xs) (list_all p ys) h h'
 
 -- one of the cells of a setting
-pub node_at : (s : Setting) (cs : List Cell) (i : ℕ) (c : Cell) → list_all (is_cell_of s) cs ≡ true → i < length cs → c ≡ get_or cs i c → c.node < s.nodes
+pub node_at : (s : CommonNumbers) (cs : List Cell) (i : ℕ) (c : Cell) → list_all (is_cell_of s) cs ≡ true → i < length cs → c ≡ get_or cs i c → c.node < s.nodes
 node_at s cs i c h below is = ltb-true c.node s.nodes (and_parts (is_flat s.dimension c.position) (nat_lt c.node s.nodes) (passes_at (is_cell_of s) cs i c h below is)).1
 
 -- the number of nodes of the rules
@@ -245,11 +245,11 @@ has_rules_given c = ap has_rules (sym (v.rolls-Given c)) ∙ fold-roll-Automaton
 pub has_rules_composed : (f g : Automaton) → has_rules (v.Composed f g) ≡ (has_rules f || has_rules g)
 has_rules_composed f g = ap has_rules (sym (v.rolls-Composed f g)) ∙ fold-roll-Automaton Bool has_rules_step (Automaton-F.Composed f g)
 
-pub nodes_given : (c : Cases) (r : Option ℕ) → MatchOption r (length c.cases ≡ 0) (λ n. (s : Setting) → cases_fit s c.cases c.otherwise ≡ true → s.nodes ≡ n) → IsNodesOf (v.Given c) r
+pub nodes_given : (c : Cases) (r : Option ℕ) → MatchOption r (length c.cases ≡ 0) (λ n. (s : CommonNumbers) → cases_fit s c.cases c.otherwise ≡ true → s.nodes ≡ n) → IsNodesOf (v.Given c) r
 nodes_given c None h = has_rules_given c ∙ ap (nat_lt 0) h
 nodes_given c (Some n) h = λ s fit. h s (sym (fits_given s c) ∙ fit)
 
-pub nodes_outer : (f g : Automaton) (n : ℕ) → ((s : Setting) → automaton_fits s f ≡ true → s.nodes ≡ n) → (s : Setting) → automaton_fits s (v.Composed f g) ≡ true → s.nodes ≡ n
+pub nodes_outer : (f g : Automaton) (n : ℕ) → ((s : CommonNumbers) → automaton_fits s f ≡ true → s.nodes ≡ n) → (s : CommonNumbers) → automaton_fits s (v.Composed f g) ≡ true → s.nodes ≡ n
 nodes_outer f g n h s fit = h s (and_parts (automaton_fits s f) (automaton_fits s g) (sym (fits_composed s f g) ∙ fit)).0
 
 pub nodes_inner : (f g : Automaton) (r : Option ℕ) → has_rules f ≡ false → IsNodesOf g r → IsNodesOf (v.Composed f g) r
@@ -310,7 +310,7 @@ uniform = ind-Automaton IsUniform (λ x y is h.
 checks_given : (n : ℕ) (c : Cases) → checks n (v.Given c) ≡ limits_step n (Automaton-F.Given c)
 checks_given n c = ap (checks n) (sym (v.rolls-Given c)) ∙ fold-roll-Automaton Checked (limits_step n) (Automaton-F.Given c)
 
-pub given_formed : (s : Setting) (c : Cases) → 1 ≤ s.nodes → cases_fit s c.cases c.otherwise ≡ true → is_few s.nodes (counted (v.Given c)) ≡ true →
+pub given_formed : (s : CommonNumbers) (c : Cases) → 1 ≤ s.nodes → cases_fit s c.cases c.otherwise ≡ true → is_few s.nodes (counted (v.Given c)) ≡ true →
     is_short s.nodes (counted (v.Given c)) ≡ true → IsAutomaton s (v.Given c)
 given_formed s c some fit few short =
     let shallow : is_shallow (counted (v.Given c)) ≡ true = ap is_shallow (counted_given c) in record {

@@ -5,7 +5,7 @@ use Rattle.std.specs.List.{list_all, range_with_len}
 use Rattle.std.proofs.lemmas.Bool.{and_from}
 use Rattle.dd_expansion.specs.lemmas.ListTests.{and_true}
 use Rattle.dd_formula.specs.LocalRule.{is_near}
-use Rattle.dd_formula.specs.Automata.{Setting, Counted, has_rules, automaton_fits, is_few, is_short, is_shallow, are_within, is_within, IsAutomaton}
+use Rattle.dd_formula.specs.Automata.{CommonNumbers, Counted, has_rules, automaton_fits, is_few, is_short, is_shallow, are_within, is_within, IsAutomaton}
 use Rattle.dd_formula.specs.Compositions.{StandFor, PassesDepth, composition}
 use Rattle.dd_formula.specs.declared.automaton.Automaton.{Automaton}
 use Rattle.dd_formula.specs.declared.automaton.Automaton.TheVariants as v
@@ -50,11 +50,11 @@ range_one p same zero h = absurd (omega arith)
 range_one p same (suc n) h = range_constant p same 0 n ∙ sym (range_constant p same 0 0)
 
 -- the number of nodes itself
-pub stands_all : (s : Setting) (f : Counted) (n : ℕ) → s.nodes ≡ n → StandFor s f n
+pub stands_all : (s : CommonNumbers) (f : Counted) (n : ℕ) → s.nodes ≡ n → StandFor s f n
 stands_all s f n is = record { below = omega arith; few = ap (λ k. is_few k f) is; short = ap (λ k. is_short k f) is }
 
 -- one node, where there is no rule
-pub stands_one : (s : Setting) (f g : Automaton) → has_rules f ≡ false → has_rules g ≡ false → 1 ≤ s.nodes → StandFor s (composition f g) 1
+pub stands_one : (s : CommonNumbers) (f g : Automaton) → has_rules f ≡ false → has_rules g ≡ false → 1 ≤ s.nodes → StandFor s (composition f g) 1
 stands_one s f g none none' some =
     let same = uniform (v.Composed f g) (has_rules_composed f g ∙ (ap (λ b. b || has_rules g) none ∙ none')) in record {
       below = some;
@@ -63,7 +63,7 @@ stands_one s f g none none' some =
     }
 
 -- a composition within the limits is well formed where its parts are
-pub composition_formed : (s : Setting) (f g : Automaton) → IsAutomaton s f → IsAutomaton s g → PassesDepth s.nodes (composition f g) → IsAutomaton s (v.Composed f g)
+pub composition_formed : (s : CommonNumbers) (f g : Automaton) → IsAutomaton s f → IsAutomaton s g → PassesDepth s.nodes (composition f g) → IsAutomaton s (v.Composed f g)
 composition_formed s f g outer inner h = record {
   some = outer.some;
   fits = fits_composed s f g ∙ and_from (automaton_fits s f) (automaton_fits s g) outer.fits inner.fits;

@@ -10,7 +10,7 @@ use Rattle.dd_lattice.specs.InOrder.{in_order}
 use Rattle.dd_lattice.specs.lemmas.InOrderLaws.{list_all-in_order}
 use Rattle.dd_topology.specs.Topology.{extent}
 use Rattle.dd_formula.specs.LocalRule.{LocalRule, IsRule, is_near, reads_at, cells_at}
-use Rattle.dd_formula.specs.Automata.{Setting, IsAutomaton, cells_of, has_rules}
+use Rattle.dd_formula.specs.Automata.{CommonNumbers, IsAutomaton, cells_of, has_rules}
 use Rattle.dd_formula.specs.declared.automaton.Automaton.{Automaton}
 use Rattle.dd_formula.specs.lemmas.AutomatonLaws.{near_cells, uniform}
 use Rattle.dd_formula.specs.lemmas.Ranges.{range_push}
@@ -56,7 +56,7 @@ near_farthest (c ∷ cs) h =
 pub rule_near : (r : LocalRule) (a : ℕ) → IsRule r → a < r.nodes → farthest (cells_at r a) ≤ 16
 rule_near r a ok below = near_farthest (cells_at r a) (list_all-in_order is_near (reads_at r a) ∙ ok.short a below)
 
-pub automaton_near : (s : Setting) (f : Automaton) (a : ℕ) → IsAutomaton s f → a < s.nodes → farthest (cells_of f a) ≤ 16
+pub automaton_near : (s : CommonNumbers) (f : Automaton) (a : ℕ) → IsAutomaton s f → a < s.nodes → farthest (cells_of f a) ≤ 16
 automaton_near s f a ok below = near_farthest (cells_of f a) (near_cells s f ok a below)
 
 still_near : (a b new : ℕ) → new ≡ ord_max nat_cmp a b → a ≤ 16 → b ≤ 16 → new ≤ 16

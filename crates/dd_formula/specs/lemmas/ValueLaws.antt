@@ -16,7 +16,7 @@ use Rattle.dd_expansion.specs.Placed.{is_flat}
 use Rattle.dd_expansion.specs.Terms.{origin_at}
 use Rattle.dd_expansion.specs.lemmas.ListTests.{list_all-alike, list_all-weaker, list_all-flat_map}
 use Rattle.dd_formula.specs.LocalRule.{LocalRule, is_true, is_given, reads_at}
-use Rattle.dd_formula.specs.Automata.{Setting, Counted, Valuation, value, value_step, first_case, counted, counted_step, cases_reads, cells_of, rule_has, cases_fit, automaton_fits, fits_step, is_cell_of}
+use Rattle.dd_formula.specs.Automata.{CommonNumbers, Counted, Valuation, value, value_step, first_case, counted, counted_step, cases_reads, cells_of, rule_has, cases_fit, automaton_fits, automaton_fits_step, is_cell_of}
 use Rattle.dd_formula.specs.Values.{are_given, is_read, CasesArePlaced, IsPlaced}
 use Rattle.dd_formula.specs.declared.automaton.Automaton.{Automaton}
 use Rattle.dd_formula.specs.declared.automaton.Automaton.TheVariants as v
@@ -118,20 +118,20 @@ value_by_reads = ind-Automaton Depends (λ x y is a u w one other h.
     ∙ sym (ap (λ (k : Valuation). k other (cell w a)) is_value)))
 
 -- The value is a symbol of the alphabet.
-abbrev IsInside : Setting → Automaton → Type 0
+abbrev IsInside : CommonNumbers → Automaton → Type 0
 IsInside s f = automaton_fits s f ≡ true → (look : Look) (c : Cell) → value f look c < s.symbols
 
-abbrev Inside : Setting → Type 0
+abbrev Inside : CommonNumbers → Type 0
 Inside s = (f : Automaton) × IsInside s f
 
-abbrev inside_layer : (s : Setting) → Automaton-F (Inside s) → Automaton-F Automaton
+abbrev inside_layer : (s : CommonNumbers) → Automaton-F (Inside s) → Automaton-F Automaton
 inside_layer s y = map-Automaton (Inside s) Automaton (λ f. f.0) y
 
-abbrev IsInsideLayer : Setting → Automaton-F Automaton → Type 0
+abbrev IsInsideLayer : CommonNumbers → Automaton-F Automaton → Type 0
 IsInsideLayer s x =
-    fits_step s (map-Automaton Automaton Bool (automaton_fits s) x) ≡ true → (look : Look) (c : Cell) → value_step (map-Automaton Automaton Valuation value x) look c < s.symbols
+    automaton_fits_step s (map-Automaton Automaton Bool (automaton_fits s) x) ≡ true → (look : Look) (c : Cell) → value_step (map-Automaton Automaton Valuation value x) look c < s.symbols
 
-pub case_below : (s : Setting) (cases : List (LocalRule × ℕ)) (otherwise : ℕ) → cases_fit s cases otherwise ≡ true → (look : Look) (c : Cell) → first_case cases otherwise look c < s.symbols
+pub case_below : (s : CommonNumbers) (cases : List (LocalRule × ℕ)) (otherwise : ℕ) → cases_fit s cases otherwise ≡ true → (look : Look) (c : Cell) → first_case cases otherwise look c < s.symbols
 case_below s [] otherwise fit look c = ltb-true otherwise s.symbols fit
 case_below s (case ∷ cases) otherwise fit look c =
     let test = λ (x : LocalRule × ℕ). rule_has s x.0 && nat_lt x.1 s.symbols in
@@ -141,14 +141,14 @@ case_below s (case ∷ cases) otherwise fit look c =
     let rest : cases_fit s cases otherwise ≡ true = ap (λ b. b && nat_lt otherwise s.symbols) here.1 ∙ all.1 in
     cond_both (is_true case.0 c look) case.1 (first_case cases otherwise look c) (λ n. n < s.symbols) (λ _. symbol) (λ _. case_below s cases otherwise rest look c)
 
-step_inside : (s : Setting) (y : Automaton-F (Inside s)) → IsInsideLayer s (inside_layer s y)
+step_inside : (s : CommonNumbers) (y : Automaton-F (Inside s)) → IsInsideLayer s (inside_layer s y)
 step_inside s (Automaton-F.Given c) fit look at = case_below s c.cases c.otherwise fit look at
 step_inside s (Automaton-F.Composed f g) fit look at = f.1 (and_parts (automaton_fits s f.0) (automaton_fits s g.0) fit).0 (λ c. Some (value g.0 look c)) at
 
-pub value_below : (s : Setting) (f : Automaton) → IsInside s f
+pub value_below : (s : CommonNumbers) (f : Automaton) → IsInside s f
 value_below s = ind-Automaton (IsInside s) (λ x y is fit look c.
     subst (λ n. n < s.symbols) (sym (ap (λ (k : Valuation). k look c) (fold-roll-Automaton Valuation value_step x)))
-    (subst (IsInsideLayer s) is (step_inside s y) (sym (fold-roll-Automaton Bool (fits_step s) x) ∙ fit) look c))
+    (subst (IsInsideLayer s) is (step_inside s y) (sym (fold-roll-Automaton Bool (automaton_fits_step s) x) ∙ fit) look c))
 
 -- What a composition reads at the origin is what the second automaton reads at the cells that the first reads.
 seen_moved : (look : Look) (p : Place) (e : Cell) → seen look origin (shifted p e) ≡ seen look p e
@@ -186,7 +186,7 @@ pub case_given : (cases : List (LocalRule × ℕ)) (look : Look) (p : Place) (a 
 case_given cases look p a i case given below is =
     passes_at (λ (x : LocalRule × ℕ). are_given look p (reads_at x.0 a)) cases i case (sym (list_all-flat_map (λ d. is_some (seen look p d)) (λ (x : LocalRule × ℕ). reads_at x.0 a) cases) ∙ given) below is
 
-pub rule_symbols : (s : Setting) (r : LocalRule) → rule_has s r ≡ true → r.symbols ≡ s.symbols
+pub rule_symbols : (s : CommonNumbers) (r : LocalRule) → rule_has s r ≡ true → r.symbols ≡ s.symbols
 rule_symbols s r has = eqb-true r.symbols s.symbols (and_parts (r.dimension == s.dimension && r.nodes == s.nodes) (r.symbols == s.symbols) has).1
 
 pub told : (r : LocalRule) (at : Cell) (look : Look) (answer : Option Bool) → is_given r at look ≡ true → answer ≡ cond (is_given r at look) (Some (is_true r at look)) None → answer ≡ Some (is_true r at look)

@@ -8,7 +8,7 @@ use Rattle.dd_pattern.specs.Filling.{Filled, filling_look}
 use Rattle.dd_expansion.specs.Leaves.{seen}
 use Rattle.dd_expansion.specs.Terms.{origin_at}
 use Rattle.dd_expansion.specs.Truth.{are_equal}
-use Rattle.dd_formula.specs.Automata.{Setting, IsAutomaton, is_cell_of}
+use Rattle.dd_formula.specs.Automata.{CommonNumbers, IsAutomaton, is_cell_of}
 use Rattle.dd_formula.specs.Values.{HasLook, is_read}
 use Rattle.dd_formula.specs.declared.automaton.Automaton.{Automaton}
 use Rattle.dd_formula.specs.declared.automaton.Automaton.TheVariants as v
@@ -20,7 +20,7 @@ pub record IsReadable (f : Automaton) (a : ℕ) (look : Look) : Type 0 where
 
 -- of the composition of two automata
 pub record AreReadable (f g : Automaton) (a : ℕ) (look : Look) : Type 0 where
-  pub setting : Setting
+  pub setting : CommonNumbers
   pub outer : IsAutomaton setting f
   pub inner : IsAutomaton setting g
   pub below : a < setting.nodes
@@ -29,7 +29,7 @@ pub record AreReadable (f g : Automaton) (a : ℕ) (look : Look) : Type 0 where
 
 -- and of an automaton at several cells
 pub record IsReadableAt (f : Automaton) (cs : List Cell) (look : Look) : Type 0 where
-  pub setting : Setting
+  pub setting : CommonNumbers
   pub formed : IsAutomaton setting f
   pub cells : list_all (is_cell_of setting) cs ≡ true
   pub symbols : HasSymbolsBelow setting.symbols look

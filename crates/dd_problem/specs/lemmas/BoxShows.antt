@@ -22,7 +22,7 @@ use Rattle.dd_boxes.specs.lemmas.FromBox.{box_alike}
 use Rattle.dd_problem.specs.Told.{IsToldGoal}
 use Rattle.dd_problem.specs.Layouts.{box_index, box_cells, box_layout, fits_in}
 use Rattle.dd_problem.specs.Problems.{problem_clauses}
-use Rattle.dd_problem.specs.Symbols.{AreSymbols, AreRead, look_of}
+use Rattle.dd_problem.specs.Symbols.{AreSymbols, AreRead, layout_look}
 use Rattle.dd_problem.specs.Shows.{IsReadFrom, Shows, DecidesBox}
 use Rattle.dd_problem.specs.lemmas.Parted.{premise_holds, goal_holds}
 use Rattle.dd_problem.specs.lemmas.Reading.{Stands, IsWired, look_allowed, read_symbols, problem_read}
@@ -72,7 +72,7 @@ cond_some : (b : Bool) (o : Option ℕ) → (b ≡ true → is_some o ≡ true) 
 cond_some true o h = h refl
 cond_some false o h = refl
 
-pub look_is_filling : (x : LocalRule) (n : ℕ) (symbols : List ℕ) → AreSymbols x (box_cells x n) symbols → IsBoxFilling x n (look_of (box_layout x n) symbols)
+pub look_is_filling : (x : LocalRule) (n : ℕ) (symbols : List ℕ) → AreSymbols x (box_cells x n) symbols → IsBoxFilling x n (layout_look (box_layout x n) symbols)
 look_is_filling x n symbols ok = record {
   domain = λ c.
       cond_some (is_box_cell x n c) (slice_get symbols (box_index x n c))
@@ -104,11 +104,11 @@ cond_is : (b : Bool) (o p : Option ℕ) → (b ≡ true → o ≡ p) → is_some
 cond_is true o p same h = same refl
 cond_is false o p same h = nothing p h
 
-look_is : (x : LocalRule) (n : ℕ) (look : Look) → IsBoxFilling x n look → (c : Cell) → look_of (box_layout x n) (symbols_of x n look) c ≡ look c
+look_is : (x : LocalRule) (n : ℕ) (look : Look) → IsBoxFilling x n look → (c : Cell) → layout_look (box_layout x n) (symbols_of x n look) c ≡ look c
 look_is x n look filling c =
     cond_is (is_box_cell x n c) (slice_get (symbols_of x n look) (box_index x n c)) (look c) (symbol_at x n look filling c) (filling.domain c)
 
-look_same : (x : LocalRule) (n : ℕ) (look : Look) → IsBoxFilling x n look → look_of (box_layout x n) (symbols_of x n look) ≡ look
+look_same : (x : LocalRule) (n : ℕ) (look : Look) → IsBoxFilling x n look → layout_look (box_layout x n) (symbols_of x n look) ≡ look
 look_same x n look filling = λ i c. look_is x n look filling c i
 
 allowed_from : (P : ℕ → Type 0) (o : Option ℕ) → IfSome o P → is_some o ≡ true → P (unwrap_or o 0)
@@ -135,7 +135,7 @@ symbols_fit x n look rule filling = record {
 
 -- read by the cells, and by their numbers
 read_by_cells : (set : ℕ → Bool) (x : LocalRule) (n : ℕ) (symbols : List ℕ) → length symbols ≡ length (box_cells x n) → AreRead set x.symbols symbols →
-    IsReadFrom set x n (look_of (box_layout x n) symbols)
+    IsReadFrom set x n (layout_look (box_layout x n) symbols)
 read_by_cells set x n symbols full read c s here below =
     rw here (read (box_index x n c) s (let low = (box_is_layout x n).within c here in omega arith) below)
 
@@ -148,11 +148,11 @@ box_shows x g n rule ok reach =
           (let ss = read_symbols set x.symbols (length l.places) in
           let read = problem_read set l x g wired (is_satisfied-Satisfies set (problem_clauses l x g) satisfied) in
           let filling = look_is_filling x n ss read.0.symbols_fit in (
-            look_of l ss,
+            layout_look l ss,
             record {
               filling = filling;
-              admissible = admissible_from_holds x n (look_of l ss) filling read.0.premise;
-              goal = goal_from_test g (look_of l ss) read.0.goal;
+              admissible = admissible_from_holds x n (layout_look l ss) filling read.0.premise;
+              goal = goal_from_test g (layout_look l ss) read.0.goal;
             },
             read_by_cells set x n ss read.0.symbols_fit.as_many read.1,
           ));

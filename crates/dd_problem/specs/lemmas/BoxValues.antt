@@ -6,7 +6,7 @@ use Rattle.dd_lattice.specs.Cells.{shifted}
 use Rattle.dd_lattice.specs.Boxes.{centred}
 use Rattle.dd_lattice.specs.declared.position.Cell.{Cell}
 use Rattle.dd_formula.specs.LocalRule.{LocalRule, IsRule}
-use Rattle.dd_formula.specs.Automata.{Setting, counted}
+use Rattle.dd_formula.specs.Automata.{CommonNumbers, counted}
 use Rattle.dd_formula.specs.declared.automaton.Automaton.{Automaton}
 use Rattle.dd_compile.specs.Wiring.{signals_of}
 use Rattle.dd_boxes.specs.Goals.{GoalOf, breaks, differ, always, AreOver}
@@ -30,7 +30,7 @@ module _ (x : LocalRule) (n : ℕ) (rule : IsRule x) where
       signals_there x.symbols cells (range_with_len 0 (length cells)) (cells_ascending (centred x.dimension n) x.nodes (bounds_ordered x.dimension n) rule.nodes.0)
       (length-range_with_len 0 (length cells)) c k k (box_cell_there x n c here) (turn_at (length cells) k ((box_is_layout x n).within c here))
 
-  box_has : (s : Setting) (f g : Automaton) (ds : List Cell) → AreOver x s f g → list_all (is_cell_within s n) ds ≡ true → (d : Cell) → Contains ds d → HasInputs (box_layout x n) s.symbols (shifted origin d)
+  box_has : (s : CommonNumbers) (f g : Automaton) (ds : List Cell) → AreOver x s f g → list_all (is_cell_within s n) ds ≡ true → (d : Cell) → Contains ds d → HasInputs (box_layout x n) s.symbols (shifted origin d)
   box_has s f g ds over reach d there =
       let here : is_box_cell x n (shifted origin d) ≡ true =
       ap (is_box_cell x n) (shifted_by_origin d) ∙ (sym (box_over x s f g n d over) ∙ passes_member (is_cell_within s n) ds d reach there) in

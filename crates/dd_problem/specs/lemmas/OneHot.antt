@@ -4,7 +4,7 @@ use Rattle.std.specs.Prelude.{not, cond, ◌&&◌, ◌||◌, ◌==◌, ◌⊎◌
 use Rattle.std.specs.List.{list_all, list_any, range_with_len, position_or_len}
 use Rattle.std.proofs.lemmas.Bool.{and_parts, cases_lt}
 use Rattle.std.proofs.lemmas.List.Folds.{list_all-append}
-use Rattle.dd_clause.specs.Clauses.{is_true, is_clause_true}
+use Rattle.dd_clause.specs.Clauses.{is_true_under, is_clause_true}
 use Rattle.dd_cnf.specs.Encoding.{literal}
 use Rattle.dd_cnf.specs.Models.{is_satisfied}
 use Rattle.dd_problem.specs.Clauses.{pairs, one_hot}
@@ -29,7 +29,7 @@ cases_eq a b = elim (cases_lt a b) [
   | inr high ↦ elim (cases_lt b a) [ inl low ↦ inr (λ e. omega (arith, low, e)) | inr same ↦ inl (omega (arith, high, same)) ]
 ]
 
-any_positive : (set : ℕ → Bool) (vs : List ℕ) → list_any (is_true set) (map (λ v. literal v true) vs) ≡ list_any set vs
+any_positive : (set : ℕ → Bool) (vs : List ℕ) → list_any (is_true_under set) (map (λ v. literal v true) vs) ≡ list_any set vs
 any_positive set [] = refl
 any_positive set (v ∷ vs) = rw (any_positive set vs) refl
 

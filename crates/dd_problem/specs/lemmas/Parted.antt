@@ -14,14 +14,14 @@ use Rattle.dd_expansion.specs.Leaves.{leaves_pass}
 use Rattle.dd_expansion.specs.lemmas.ListTests.{and_true, or_false, list_any-map}
 use Rattle.dd_expansion.specs.lemmas.TruthAt.{says_at}
 use Rattle.dd_formula.specs.LocalRule.{LocalRule, is_true, expansion_at}
-use Rattle.dd_clause.specs.Clauses.{is_true as is_literal_true}
+use Rattle.dd_clause.specs.Clauses.{is_true_under as is_literal_true}
 use Rattle.dd_circuit.specs.declared.gates.Signal.{Signal}
 use Rattle.dd_circuit.specs.Circuits.{signal_value, agrees}
 use Rattle.dd_circuit.specs.lemmas.ValueLaws.{agrees-append}
 use Rattle.dd_cnf.specs.Encoding.{literal_of, opposing}
 use Rattle.dd_cnf.specs.Models.{is_satisfied}
 use Rattle.dd_compile.specs.Compiling.{all_made}
-use Rattle.dd_formula.specs.Automata.{Setting, value}
+use Rattle.dd_formula.specs.Automata.{CommonNumbers, value}
 use Rattle.dd_formula.specs.declared.automaton.Automaton.{Automaton}
 use Rattle.dd_boxes.specs.Goals.{GoalOf, breaks, differ, always}
 use Rattle.dd_boxes.specs.Boxes.{origin}
@@ -109,7 +109,7 @@ HasItsSymbols (differ s f g) look = HasSymbolsBelow s.symbols look
 HasItsSymbols always look = Unit {0}
 
 -- the gates of the goal at a node of the origin
-abbrev pub differ_at : Layout → Setting → Automaton → Automaton → ℕ → Maker
+abbrev pub differ_at : Layout → CommonNumbers → Automaton → Automaton → ℕ → Maker
 differ_at l s f g a = differ_made s.symbols f g l.inputs (cell origin a)
 
 -- the parts as those of places and of the goal
@@ -138,7 +138,7 @@ job_reads l x g (Some d) = reads_inputs l x.symbols x d
 job_reads l x g None = goal_reads l x.symbols g
 
 -- the nodes of the origin at which two values are apart
-differ_nodes : (set : ℕ → Bool) (l : Layout) (m : ℕ) (s : Setting) (f g : Automaton) (look : Look) → IsNumbered l → AreValuesWired l m s f g → HasSymbolsBelow s.symbols look → InputsTell set l m look →
+differ_nodes : (set : ℕ → Bool) (l : Layout) (m : ℕ) (s : CommonNumbers) (f g : Automaton) (look : Look) → IsNumbered l → AreValuesWired l m s f g → HasSymbolsBelow s.symbols look → InputsTell set l m look →
     (k j n : ℕ) → j + k ≤ s.nodes → length l.places * m ≤ n → agrees set n (all_made (map (differ_at l s f g) (range_with_len j k)) n).gates ≡ true →
     map (signal_value set) (all_made (map (differ_at l s f g) (range_with_len j k)) n).signals ≡
     map (λ a. not (value f look (cell origin a) == value g look (cell origin a))) (range_with_len j k)

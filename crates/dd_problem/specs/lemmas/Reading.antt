@@ -20,7 +20,7 @@ use Rattle.dd_boxes.specs.Goals.{GoalOf}
 use Rattle.dd_problem.specs.Layouts.{Layout}
 use Rattle.dd_problem.specs.Clauses.{input, inputs_of, one_hot, none_of, symbol_clauses, clauses_from, cell_clauses, part_gates, part_clauses}
 use Rattle.dd_problem.specs.Problems.{problem_parts, problem_clauses, input_count}
-use Rattle.dd_problem.specs.Symbols.{AreSymbols, AreRead, look_of}
+use Rattle.dd_problem.specs.Symbols.{AreSymbols, AreRead, layout_look}
 use Rattle.dd_problem.specs.lemmas.Filtered.{some_same, slice_of_range, none_at}
 use Rattle.dd_problem.specs.lemmas.OneHot.{one_hot_law, at_most_one, hot_at, hot_below}
 use Rattle.dd_problem.specs.lemmas.Parts.{tests, parts_law}
@@ -126,7 +126,7 @@ pub record IsLayout (l : Layout) : Type 0 where
   pub node : (c : Cell) → l.has c ≡ true → (d : Cell) × (slice_get l.places (l.index c) ≡ Some d) × (d.node ≡ c.node)
 
 pub told_by_inputs : (set : ℕ → Bool) (l : Layout) (m : ℕ) (symbols : List ℕ) → IsLayout l → length symbols ≡ length l.places → AreRead set m symbols →
-    InputsTell set l m (look_of l symbols)
+    InputsTell set l m (layout_look l symbols)
 told_by_inputs set l m symbols ok full read c s there below =
     rw there (read (l.index c) s (let h = ok.within c there in omega arith) below)
 
@@ -140,7 +140,7 @@ cond_below : (b : Bool) (o : Option ℕ) (n : ℕ) → IfSome o (λ s. s < n) �
 cond_below true o n h = h
 cond_below false o n h = tt
 
-pub look_below : (l : Layout) (m : ℕ) (symbols : List ℕ) → All (λ s. s < m) symbols → HasSymbolsBelow m (look_of l symbols)
+pub look_below : (l : Layout) (m : ℕ) (symbols : List ℕ) → All (λ s. s < m) symbols → HasSymbolsBelow m (layout_look l symbols)
 look_below l m symbols all c = cond_below (l.has c) (slice_get symbols (l.index c)) m (symbol_below m symbols (l.index c) _ all refl)
 
 -- allowed symbols give allowed symbols
@@ -156,14 +156,14 @@ allowed_at l x symbols ok are c true has (Some s) is =
     ap (rule_allows x c.node) (sym (slice_of_read symbols (l.index c) s is))
     ∙ (ap (λ a. rule_allows x a (get_or symbols (l.index c) 0)) (sym there.2) ∙ are.allowed (l.index c) there.0 there.1)
 
-pub look_allowed : (l : Layout) (x : LocalRule) (symbols : List ℕ) → IsLayout l → AreSymbols x l.places symbols → AreAllowed x (look_of l symbols)
+pub look_allowed : (l : Layout) (x : LocalRule) (symbols : List ℕ) → IsLayout l → AreSymbols x l.places symbols → AreAllowed x (layout_look l symbols)
 look_allowed l x symbols ok are c = allowed_at l x symbols ok are c (l.has c) refl (slice_get symbols (l.index c)) refl
 
 -- symbols for which an assignment of the clauses stands
 pub record Stands (l : Layout) (x : LocalRule) (g : GoalOf) (symbols : List ℕ) : Type 0 where
   pub symbols_fit : AreSymbols x l.places symbols
-  pub premise : premise_holds l x (look_of l symbols) ≡ true
-  pub goal : goal_holds g (look_of l symbols) ≡ true
+  pub premise : premise_holds l x (layout_look l symbols) ≡ true
+  pub goal : goal_holds g (layout_look l symbols) ≡ true
 
 -- each leaf of the premise where it fits, and what the goal reads, has its inputs; and the goal's alphabet is the premise's
 pub record IsWired (l : Layout) (x : LocalRule) (g : GoalOf) : Type 0 where
@@ -179,7 +179,7 @@ problem_read set l x g wired ok =
     let n = input_count l x in
     let ps = problem_parts l x g in
     let ss = read_symbols set m (length l.places) in
-    let look = look_of l ss in
+    let look = layout_look l ss in
     let inputs = cell_clauses x l.places in
     let both = and_parts (is_satisfied set inputs) (is_satisfied set (part_clauses n ps)) (sym (list_all-append (is_clause_true set) inputs (part_clauses n ps)) ∙ ok) in
     let symbols = symbols_read set x l.places both.0 in

@@ -12,7 +12,7 @@ use Rattle.dd_lattice.specs.declared.position.Cell.{Cell}
 use Rattle.dd_lattice.specs.lemmas.ListLaws.{Contains-first, Contains-later, Contains-nil, Contains-cons_cases}
 use Rattle.dd_pattern.specs.Reading.{Look, HasSymbolsBelow}
 use Rattle.dd_expansion.specs.Truth.{is_symbol}
-use Rattle.dd_formula.specs.Automata.{Setting, IsAutomaton, counted, value}
+use Rattle.dd_formula.specs.Automata.{CommonNumbers, IsAutomaton, counted, value}
 use Rattle.dd_formula.specs.declared.automaton.Automaton.{Automaton}
 use Rattle.dd_formula.specs.lemmas.ValueLaws.{value_below}
 use Rattle.dd_circuit.specs.declared.gates.Signal.{Signal}
@@ -37,12 +37,12 @@ abbrev pub HasInputs : Layout → ℕ → Cell → Type 0
 HasInputs l m c = (l.has c ≡ true) × (signals_of l.inputs c ≡ Some (symbol_signals m (l.index c)))
 
 -- so it has each cell that the automaton reads at the origin
-pub record IsValueWired (l : Layout) (s : Setting) (f : Automaton) : Type 0 where
+pub record IsValueWired (l : Layout) (s : CommonNumbers) (f : Automaton) : Type 0 where
   pub formed : IsAutomaton s f
   pub says : SaysItsValue f
   pub inputs : (a : ℕ) → a < s.nodes → (d : Cell) → Contains ((counted f).reads a) d → HasInputs l s.symbols (shifted origin d)
 
-pub record AreValuesWired (l : Layout) (m : ℕ) (s : Setting) (f g : Automaton) : Type 0 where
+pub record AreValuesWired (l : Layout) (m : ℕ) (s : CommonNumbers) (f g : Automaton) : Type 0 where
   pub symbols : s.symbols ≡ m
   pub left : IsValueWired l s f
   pub right : IsValueWired l s g
@@ -79,7 +79,7 @@ inputs_are_signals m k count n h le =
     let row = row_within m k count h in
     and_from (nat_le 1 (input m k s)) (nat_le (input m k s) n) (le-leb 1 (input m k s) (omega arith)) (le-leb (input m k s) n (omega (arith, row, le, below)))))
 
-module _ (l : Layout) (within : (c : Cell) → l.has c ≡ true → l.index c < length l.places) (s : Setting) (f : Automaton) (wired : IsValueWired l s f) (a : ℕ) (node : a < s.nodes) where
+module _ (l : Layout) (within : (c : Cell) → l.has c ≡ true → l.index c < length l.places) (s : CommonNumbers) (f : Automaton) (wired : IsValueWired l s f) (a : ℕ) (node : a < s.nodes) where
   pub value_is_wired : (n : ℕ) → length l.places * s.symbols ≤ n → are_wired_there n s.symbols l.inputs ((counted f).reads a) (cell origin a) ≡ true
   value_is_wired n le =
       all_members (λ d. are_signals n s.symbols (signals_of l.inputs (shifted origin d))) ((counted f).reads a) (λ d there.
@@ -103,7 +103,7 @@ module _ (l : Layout) (within : (c : Cell) → l.has c ≡ true → l.index c < 
       ap (signal_value set) (sym same) ∙ tell c t here.0 inside
 
 -- the gates that tell both values apart
-module _ (l : Layout) (within : (c : Cell) → l.has c ≡ true → l.index c < length l.places) (m : ℕ) (s : Setting) (f g : Automaton) (wired : AreValuesWired l m s f g) (a : ℕ) (node : a < s.nodes)
+module _ (l : Layout) (within : (c : Cell) → l.has c ≡ true → l.index c < length l.places) (m : ℕ) (s : CommonNumbers) (f g : Automaton) (wired : AreValuesWired l m s f g) (a : ℕ) (node : a < s.nodes)
     (n : ℕ) (le : length l.places * m ≤ n) where
   room : (k : ℕ) → n ≤ k → length l.places * s.symbols ≤ k
   room k more = let same = ap (λ j. length l.places * j) wired.symbols in omega (arith, same, le, more)

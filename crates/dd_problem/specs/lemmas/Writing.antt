@@ -22,14 +22,14 @@ use Rattle.dd_circuit.specs.lemmas.ValueLaws.{values_from-alike, agrees-values_f
 use Rattle.dd_circuit.specs.lemmas.GateLists.{AreGates-append}
 use Rattle.dd_cnf.specs.Models.{is_satisfied}
 use Rattle.dd_compile.specs.Compiling.{all_made}
-use Rattle.dd_formula.specs.Automata.{Setting}
+use Rattle.dd_formula.specs.Automata.{CommonNumbers}
 use Rattle.dd_formula.specs.declared.automaton.Automaton.{Automaton}
 use Rattle.dd_boxes.specs.Goals.{GoalOf, breaks, differ, always}
 use Rattle.dd_boxes.specs.Boxes.{origin}
 use Rattle.dd_problem.specs.Layouts.{Layout}
 use Rattle.dd_problem.specs.Clauses.{input, inputs_of, one_hot, none_of, symbol_clauses, clauses_from, cell_clauses, part_gates, part_clauses}
 use Rattle.dd_problem.specs.Problems.{wire, place_maker, goal_part, problem_parts, problem_clauses, input_count}
-use Rattle.dd_problem.specs.Symbols.{AreSymbols, AreRead, look_of}
+use Rattle.dd_problem.specs.Symbols.{AreSymbols, AreRead, layout_look}
 use Rattle.dd_compile.specs.lemmas.MadeFits.{made_fits}
 use Rattle.dd_problem.specs.lemmas.Filtered.{none_all}
 use Rattle.dd_problem.specs.lemmas.OneHot.{one_hot_law, hot_made}
@@ -118,7 +118,7 @@ nodes_fit l m r v (a ∷ nodes) n ok le wired =
     AreGates-append n gs (all_made (map (λ b. place_maker l m r (cell v b)) nodes) (n + length gs)).gates (place_fits l m r (cell v a) n ok le w.0)
     (nodes_fit l m r v nodes (n + length gs) ok (omega arith) w.1)
 
-differ_fit : (l : Layout) (m : ℕ) (s : Setting) (f g : Automaton) → IsLayout l → AreValuesWired l m s f g → (k j n : ℕ) → j + k ≤ s.nodes → length l.places * m ≤ n →
+differ_fit : (l : Layout) (m : ℕ) (s : CommonNumbers) (f g : Automaton) → IsLayout l → AreValuesWired l m s f g → (k j n : ℕ) → j + k ≤ s.nodes → length l.places * m ≤ n →
     AreGates n (all_made (map (differ_at l s f g) (range_with_len j k)) n).gates
 differ_fit l m s f g ok wired zero j n few le = tt
 differ_fit l m s f g ok wired (suc k) j n few le =
@@ -155,7 +155,7 @@ problem_written l x g wired symbols stands =
     let ps = problem_parts l x g in
     let gs = problem_gates l x g in
     let set = assignment l x g symbols in
-    let look = look_of l symbols in
+    let look = layout_look l symbols in
     let read = inputs_written symbols m (length l.places) gs stands.symbols_fit.as_many in
     let below = look_below l m symbols stands.symbols_fit.below in
     let tell = told_by_inputs set l m symbols wired.layout stands.symbols_fit.as_many read in

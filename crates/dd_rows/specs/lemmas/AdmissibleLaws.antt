@@ -12,7 +12,7 @@ use Rattle.dd_lattice.specs.lemmas.InOrderLaws.{cells_equal}
 use Rattle.dd_lattice.specs.lemmas.ListLaws.{Contains-nil, Contains-cons_cases, Contains-first, Contains-later}
 use Rattle.dd_formula.specs.LocalRule.{LocalRule, is_true, reads_at}
 use Rattle.dd_boxes.specs.Fillings.{place_fits, Admissible}
-use Rattle.dd_rows.specs.Fillings.{look_of, is_kept, is_admissible, words, fillings}
+use Rattle.dd_rows.specs.Fillings.{look_of, is_true_if_it_fits, is_admissible, words, fillings}
 use Rattle.dd_rows.specs.Laws.{AreCellsOf, AreTheAdmissible}
 use Rattle.dd_rows.specs.listing.Levels.{IsWord}
 use Rattle.dd_numbered.specs.Numbering.{rank}
@@ -61,10 +61,10 @@ admissible_holds x cs ss size h = λ v a flat below fits.
     let c = cell v a in
     let some = (and_parts (is_some (look c)) (list_all (λ d. is_some (look (shifted v d))) (reads_at x a)) fits).0 in
     let low : rank cs c < length ss = ltb-true _ _ (sym (is_some_get ss (rank cs c)) ∙ some) in
-    kept_true (place_fits x look c) (is_true x c look) fits (kept_at (is_kept x look) cs c h (omega (arith, low, size)))
+    kept_true (place_fits x look c) (is_true x c look) fits (kept_at (is_true_if_it_fits x look) cs c h (omega (arith, low, size)))
 
 pub admissible_shown : (x : LocalRule) (cs : List Cell) (ss : List ℕ) → AreCellsOf x cs → Admissible x (look_of cs ss) → is_admissible x cs ss ≡ true
-admissible_shown x cs ss of h = list_all_true (is_kept x (look_of cs ss)) cs (λ k d within.
+admissible_shown x cs ss of h = list_all_true (is_true_if_it_fits x (look_of cs ss)) cs (λ k d within.
     let c = get_or cs k d in
     kept_if (place_fits x (look_of cs ss) c) (is_true x c (look_of cs ss)) (h c.position c.node (of.flat k d within) (of.nodes k d within)))
 

@@ -14,7 +14,7 @@ use Rattle.dd_lattice.specs.Order.{cell_cmp}
 use Rattle.dd_lattice.specs.declared.position.Cell.{Cell}
 use Rattle.dd_numbered.specs.declared.numbered.Numbered.{Numbered}
 use Rattle.dd_formula.specs.LocalRule.{LocalRule, rule_allows}
-use Rattle.dd_rows.specs.Fillings.{choices, words, is_admissible, fillings, most_fillings}
+use Rattle.dd_rows.specs.Fillings.{allowed_symbols, words, is_admissible, fillings, most_fillings}
 use Rattle.dd_rows.specs.listing.Levels.{AreInRange, IsWord, AreWords, are_true, extended, settled}
 use Rattle.dd_rows.specs.listing.Formulas.{SayTrue, are_all_true}
 use Rattle.dd_rows.specs.lemmas.Lists.{filter_agree, flat_map_same, flat_map_agree, map_flat_map, flat_map_flat_map, filter_flat_map, flat_map_filter, filter_if, all_first, all_rest}
@@ -23,10 +23,10 @@ use Rattle.dd_rows.specs.lemmas.FormulaLaws.{settled_truth}
 
 -- one symbol more at the end
 abbrev longer : LocalRule → ℕ → List ℕ → List (List ℕ)
-longer x a ss = map (λ s. ss ++ s ∷ []) (choices x a)
+longer x a ss = map (λ s. ss ++ s ∷ []) (allowed_symbols x a)
 
 words_more : (x : LocalRule) (cs : List Cell) (c : Cell) → words x (cs ++ c ∷ []) ≡ flat_map (longer x c.node) (words x cs)
-words_more x [] c = flat_map_single (λ s. s ∷ []) (choices x c.node) ∙ sym (append-nil (longer x c.node []))
+words_more x [] c = flat_map_single (λ s. s ∷ []) (allowed_symbols x c.node) ∙ sym (append-nil (longer x c.node []))
 words_more x (d ∷ cs) c =
     let ws = words x cs in
     let g : List ℕ → List (List ℕ) = longer x c.node in
@@ -34,10 +34,10 @@ words_more x (d ∷ cs) c =
     flat_map_agree (λ s. map (λ ss. s ∷ ss) (words x (cs ++ c ∷ []))) (λ s. flat_map g (begun s))
     (λ s. ap (map (λ ss. s ∷ ss)) (words_more x cs c)
     ∙ (map_flat_map (λ ss. s ∷ ss) g ws
-    ∙ (flat_map_agree (λ ss. map (λ ts. s ∷ ts) (g ss)) (λ ss. g (s ∷ ss)) (λ ss. map-map (λ ts. s ∷ ts) (λ t. ss ++ t ∷ []) (choices x c.node)) ws
+    ∙ (flat_map_agree (λ ss. map (λ ts. s ∷ ts) (g ss)) (λ ss. g (s ∷ ss)) (λ ss. map-map (λ ts. s ∷ ts) (λ t. ss ++ t ∷ []) (allowed_symbols x c.node)) ws
     ∙ sym (flat_map-map g (λ ss. s ∷ ss) ws))))
-    (choices x d.node)
-    ∙ sym (flat_map_flat_map g begun (choices x d.node))
+    (allowed_symbols x d.node)
+    ∙ sym (flat_map_flat_map g begun (allowed_symbols x d.node))
 
 -- lists whose members are all so
 
@@ -60,7 +60,7 @@ range_below n = λ k d within.
     let at = get_or-range_with_len 0 n k d below in
     omega (arith, at, below)
 
-choices_below : (x : LocalRule) (a : ℕ) → All (λ s. s < x.symbols) (choices x a)
+choices_below : (x : LocalRule) (a : ℕ) → All (λ s. s < x.symbols) (allowed_symbols x a)
 choices_below x a = All-filter (rule_allows x a) (λ s. s < x.symbols) (range_with_len 0 x.symbols) (range_below x.symbols)
 
 words_are : (x : LocalRule) (cs : List Cell) → AreWords x (length cs) (words x cs)
@@ -70,7 +70,7 @@ words_are x (c ∷ cs) =
     (λ s low. all_map (IsWord x (length (c ∷ cs))) (IsWord x (length cs)) (λ ss. s ∷ ss)
     (λ ss w. record { size = omega (arith, w.size); below = all_cons (λ t. t < x.symbols) s ss low w.below })
     (words x cs) (words_are x cs))
-    (choices x c.node) (choices_below x c.node)
+    (allowed_symbols x c.node) (choices_below x c.node)
 
 pub fillings_are : (x : LocalRule) (cs : List Cell) → AreWords x (length cs) (fillings x cs)
 fillings_are x cs = All-filter (is_admissible x cs) (IsWord x (length cs)) (words x cs) (words_are x cs)
@@ -89,7 +89,7 @@ fillings_more x all up near j c below is =
     ∙ (ap (filter p) (words_more x first c)
     ∙ (filter_flat_map p (longer x c.node) (words x first)
     ∙ flat_map_filter (IsWord x j) q (λ ss. filter p (longer x c.node ss)) (extended x r c.node)
-    (λ ss w. filter_if p r (q ss) (λ s. ss ++ s ∷ []) (λ s. admissible_parts x all up near j ss s below w.size) (choices x c.node))
+    (λ ss w. filter_if p r (q ss) (λ s. ss ++ s ∷ []) (λ s. admissible_parts x all up near j ss s below w.size) (allowed_symbols x c.node))
     (words x first) (subst (λ n. AreWords x n (words x first)) size (words_are x first))))
 
 -- tests that agree on the longer lists give the same ones
@@ -98,7 +98,7 @@ same_longer x j a p q same ss w =
     filter_agree (IsWord x (j + 1)) p q same (longer x a ss)
     (all_map (IsWord x (j + 1)) (λ s. s < x.symbols) (λ s. ss ++ s ∷ [])
     (λ s low. record { size = length-append ss (s ∷ []) ∙ ap (λ n. n + 1) w.size; below = All-push (λ t. t < x.symbols) ss s w.below low })
-    (choices x a) (choices_below x a))
+    (allowed_symbols x a) (choices_below x a))
 
 -- the next level, from this one
 pub level_next : (x : LocalRule) (all : List Cell) → IsStrictlySortedBy cell_cmp all → AreInRange all → (j : ℕ) (c : Cell) → j < length all → get_or all j c ≡ c →

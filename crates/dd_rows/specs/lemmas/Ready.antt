@@ -27,7 +27,7 @@ use Rattle.dd_expansion.specs.Limits.{greatest}
 use Rattle.dd_formula.specs.LocalRule.{LocalRule, is_true, is_given, reads_at, cells_at}
 use Rattle.dd_boxes.specs.Fillings.{place_fits}
 use Rattle.dd_boxes.specs.lemmas.RuleLaws.{keeps_at, list_all_weaker}
-use Rattle.dd_rows.specs.Fillings.{look_of, is_kept, is_admissible}
+use Rattle.dd_rows.specs.Fillings.{look_of, is_true_if_it_fits, is_admissible}
 use Rattle.dd_rows.specs.listing.Levels.{AreInRange, last_number, settled, is_true_if_given, are_true}
 use Rattle.dd_numbered.specs.Numbering.{rank}
 use Rattle.dd_rows.specs.lemmas.Lists.{list_all_agree, list_all_both, list_all_filter, list_all_true, prefix_of_take, is_some_get, get_longer}
@@ -164,8 +164,8 @@ later : (e f f' g t t' : Bool) → e ≡ false → f ≡ false → f' ≡ false 
 later e f f' g t t' he hf hf' = rw (he, hf, hf') refl
 
 kept_parts : (x : LocalRule) (all : List Cell) → AreInRange all → (j : ℕ) (ss : List ℕ) (s : ℕ) → j < length all → length ss ≡ j → length (ss ++ s ∷ []) ≡ j + 1 → (d : Cell) →
-    is_kept x (look_of (take (j + 1) all) (ss ++ s ∷ [])) d
-    ≡ ((not (nat_eq (last_number x all d) j) || is_true_if_given x (look_of (take (j + 1) all) (ss ++ s ∷ [])) d) && is_kept x (look_of (take j all) ss) d)
+    is_true_if_it_fits x (look_of (take (j + 1) all) (ss ++ s ∷ [])) d
+    ≡ ((not (nat_eq (last_number x all d) j) || is_true_if_given x (look_of (take (j + 1) all) (ss ++ s ∷ [])) d) && is_true_if_it_fits x (look_of (take j all) ss) d)
 kept_parts x all near j ss s below size longer d =
     let look : Look = look_of (take j all) ss in
     let more : Look = look_of (take (j + 1) all) (ss ++ s ∷ []) in
@@ -197,7 +197,7 @@ not_fit : (f t : Bool) → f ≡ false → (not f || t) ≡ true
 not_fit f t h = rw h refl
 
 late_kept : (x : LocalRule) (all : List Cell) → IsStrictlySortedBy cell_cmp all → (j : ℕ) (ss : List ℕ) → length ss ≡ j → (i : ℕ) (d : Cell) → i < length (drop j all) →
-    is_kept x (look_of (take j all) ss) (get_or (drop j all) i d) ≡ true
+    is_true_if_it_fits x (look_of (take j all) ss) (get_or (drop j all) i d) ≡ true
 late_kept x all up j ss size i d within =
     let look : Look = look_of (take j all) ss in
     let c = get_or (drop j all) i d in
@@ -212,9 +212,9 @@ and_with_true : (a b : Bool) → b ≡ true → a ≡ (a && b)
 and_with_true a b h = rw h (and_true a)
 
 pub admissible_of_all : (x : LocalRule) (all : List Cell) → IsStrictlySortedBy cell_cmp all → (j : ℕ) (ss : List ℕ) → length ss ≡ j →
-    is_admissible x (take j all) ss ≡ list_all (is_kept x (look_of (take j all) ss)) all
+    is_admissible x (take j all) ss ≡ list_all (is_true_if_it_fits x (look_of (take j all) ss)) all
 admissible_of_all x all up j ss size =
-    let p : Cell → Bool = is_kept x (look_of (take j all) ss) in
+    let p : Cell → Bool = is_true_if_it_fits x (look_of (take j all) ss) in
     and_with_true (list_all p (take j all)) (list_all p (drop j all)) (list_all_true p (drop j all) (late_kept x all up j ss size))
     ∙ (sym (list_all-append p (take j all) (drop j all)) ∙ ap (list_all p) (take-append-drop j all))
 
@@ -232,9 +232,9 @@ admissible_parts x all up near j ss s below size =
     let longer : length (ss ++ s ∷ []) ≡ j + 1 = length-append ss (s ∷ []) ∙ ap (λ n. n + 1) size in
     let now : Cell → Bool = is_true_if_given x more in
     let at : Cell → Bool = λ d. nat_eq (last_number x all d) j in
-    let then : Cell → Bool = is_kept x look in
+    let then : Cell → Bool = is_true_if_it_fits x look in
     admissible_of_all x all up (j + 1) (ss ++ s ∷ []) longer
-    ∙ (list_all_agree (is_kept x more) (λ d. (not (at d) || now d) && then d) (kept_parts x all near j ss s below size longer) all
+    ∙ (list_all_agree (is_true_if_it_fits x more) (λ d. (not (at d) || now d) && then d) (kept_parts x all near j ss s below size longer) all
     ∙ (list_all_both (λ d. not (at d) || now d) then all
     ∙ (and_same (list_all (λ d. not (at d) || now d) all) (list_all now (settled x all j)) (list_all then all) (is_admissible x (take j all) ss)
     (list_all_filter now at all) (sym (admissible_of_all x all up j ss size))

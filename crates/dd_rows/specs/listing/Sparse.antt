@@ -7,7 +7,7 @@ use Rattle.dd_rows.specs.declared.rows.Row.{Row}
 use Rattle.dd_rows.specs.declared.sparse.Exchange.{Exchange}
 use Rattle.dd_rows.specs.declared.sparse.SparseRow.{SparseRow}
 use Rattle.dd_rows.specs.declared.views.Views.{Views}
-use Rattle.dd_rows.specs.Patterns.{number_in}
+use Rattle.dd_rows.specs.Patterns.{pattern_number}
 use Rattle.dd_rows.specs.Programs.{one_at, coefficients, add_row}
 use Rattle.dd_rows.specs.listing.Views.{symbols_at}
 
@@ -46,7 +46,7 @@ pub record IsWithRow (vectors patterns : ℕ) (old : List SparseRow) (r : Sparse
 
 -- what a filling exchanges along each vector
 abbrev pub exchanges_of : List (List ℕ) → Views → List ℕ → List (Option Exchange)
-exchanges_of ps v ss = map (λ numbers. exchange_of (number_in ps (symbols_at ss v.origin)) (number_in ps (symbols_at ss numbers))) v.givers
+exchanges_of ps v ss = map (λ numbers. exchange_of (pattern_number ps (symbols_at ss v.origin)) (pattern_number ps (symbols_at ss numbers))) v.givers
 
 -- the row that it asks
 abbrev pub asked_row : List (List ℕ) → Views → List ℕ → List ℕ → Row

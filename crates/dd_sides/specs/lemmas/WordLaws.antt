@@ -12,7 +12,7 @@ use Rattle.dd_lattice.specs.lemmas.InOrderLaws.{cells_equal}
 use Rattle.dd_topology.specs.lemmas.OrderLaws.{cell_total}
 use Rattle.dd_lattice.specs.lemmas.ListLaws.{Contains-nil, Contains-cons_cases, Contains-first, Contains-later, Contains-map}
 use Rattle.dd_formula.specs.LocalRule.{LocalRule, rule_allows}
-use Rattle.dd_rows.specs.Fillings.{look_of, choices, words}
+use Rattle.dd_rows.specs.Fillings.{look_of, allowed_symbols, words}
 use Rattle.dd_rows.specs.listing.Levels.{rank}
 use Rattle.dd_rows.specs.lemmas.Ready.{number_later, equal_from}
 
@@ -86,9 +86,9 @@ pub words_have : (x : LocalRule) (f : Cell → ℕ) (cs : List Cell) → ((c : C
 words_have x f [] ok = Contains-first [] []
 words_have x f (c ∷ cs) ok =
     let here = ok c (Contains-first c cs) in
-    let choice : Contains (choices x c.node) (f c) = filter_has (rule_allows x c.node) (range_with_len 0 x.symbols) (f c) (range_has x.symbols (f c) here.1) here.0 in
+    let choice : Contains (allowed_symbols x c.node) (f c) = filter_has (rule_allows x c.node) (range_with_len 0 x.symbols) (f c) (range_has x.symbols (f c) here.1) here.0 in
     let rest = words_have x f cs (λ d h. ok d (Contains-later c cs d h)) in
-    flat_map_has (λ s. map (λ ss. s ∷ ss) (words x cs)) (choices x c.node) (f c) (f c ∷ map f cs) choice (Contains-map (λ ss. f c ∷ ss) (words x cs) (map f cs) rest)
+    flat_map_has (λ s. map (λ ss. s ∷ ss) (words x cs)) (allowed_symbols x c.node) (f c) (f c ∷ map f cs) choice (Contains-map (λ ss. f c ∷ ss) (words x cs) (map f cs) rest)
 
 -- lists that are mapped alike
 pub mapped_alike : {X Y : Type 0} (f g : X → Y) (xs : List X) → ((x : X) → Contains xs x → f x ≡ g x) → map f xs ≡ map g xs

@@ -5,7 +5,7 @@ use Rattle.dd_expansion.specs.Leaves.{total}
 use Rattle.dd_formula.specs.LocalRule.{is_near}
 use Rattle.dd_formula.specs.declared.automaton.Automaton.{Automaton}
 use Rattle.dd_formula.specs.declared.automaton.Automaton.TheVariants as v
-use Rattle.dd_formula.specs.Automata.{Setting, IsAutomaton, counted, cells_of, is_cell_of}
+use Rattle.dd_formula.specs.Automata.{CommonNumbers, IsAutomaton, counted, cells_of, is_cell_of}
 use Rattle.dd_formula.specs.Counts.{cut}
 use Rattle.dd_formula.specs.lemmas.Cuts.{total_more, next_cut}
 use Rattle.dd_formula.specs.lemmas.AutomatonLaws.{depth_composed, outer_part, inner_part, near_cells}
@@ -18,7 +18,7 @@ value_clauses-value_clauses_from-requires t c =
     let f = c.in-Composed.outer in
     let g = c.in-Composed.inner in
     let needs = c.requires.node in
-    let s : Setting = needs.setting in
+    let s : CommonNumbers = needs.setting in
     let formed : IsAutomaton s (v.Composed f g) = subst (IsAutomaton s) c.in-Composed.is needs.formed in
     let outer : IsAutomaton s c.get.result.now = subst (IsAutomaton s) (sym c.get.ensures) (outer_part s f g formed) in
     let size = ap (λ (h : Automaton). (counted h).depth) c.in-Composed.is ∙ depth_composed f g in

@@ -2,7 +2,7 @@ use Rattle.std.proofs.Common.{[], ◌∷◌, ap, map, ◌∙◌, arith}
 use Rattle.std.proofs.lemmas.List.Elements.{All-push}
 use Rattle.std.proofs.lemmas.List.{length-append}
 use Rattle.std.proofs.lemmas.Result.{err_from_is_err_and}
-use Rattle.dd_formula.specs.LocalRule.{IsShort}
+use Rattle.dd_formula.specs.LocalRule.{ReadsNear}
 use Rattle.dd_meanings.specs.making.Parts.{rule_over, made_case}
 use Rattle.dd_meanings.proofs.CaseLists.{whole_next, all_gone, made_next, next_refuses, all_pass}
 use Rattle.dd_meanings.proofs.cases.rules_of.Goals as goal
@@ -23,7 +23,7 @@ loop-case-preserved c =
       whole = whole_next ys _ _ c.args.cases x c.loop-case.invariant.whole c.in-Some.ensures.steps.0;
       count = omega (arith, length-append ys (x ∷ []), c.loop-case.invariant.count, c.in-Some.ensures.steps.1);
       made = made_next k ys x c.in_ok-rule_over.field-0 c.loop-case.rules c.push.new.self c.loop-case.invariant.made c.in_ok-rule_over.ensures.exact.1 c.in_ok-push.ensures.ok;
-      short = All-push (λ y. IsShort (rule_over k y.condition)) ys x c.loop-case.invariant.short c.in_ok-rule_over.ensures.rule.short;
+      short = All-push (λ y. ReadsNear (rule_over k y.condition)) ys x c.loop-case.invariant.short c.in_ok-rule_over.ensures.rule.short;
     }
 
 pub returns : goal.returns

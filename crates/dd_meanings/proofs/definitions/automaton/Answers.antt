@@ -4,7 +4,7 @@ use Rattle.std.specs.List.{All}
 use Rattle.dd_formula.specs.Automata.{IsAutomaton, counted}
 use Rattle.dd_formula.specs.declared.automaton.Automaton.{Automaton}
 use Rattle.dd_faults.specs.Order.{Resolves}
-use Rattle.dd_query.specs.Made.{numbers_of}
+use Rattle.dd_query.specs.Made.{script_numbers}
 use Rattle.dd_meanings.specs.Definitions.{automaton_of, count_faults}
 use Rattle.dd_meanings.specs.making.Parts.{IsCaseOf, given_by}
 use Rattle.dd_meanings.proofs.DefinitionLaws.{cases_are, automaton_is}
@@ -27,4 +27,4 @@ returns-clause-sound c =
     let x = c.args.context.now in
     let is : given_by x.known c.in_ok-meant.meant c.number_in-otherwise.result ≡ automaton_of x c.args.cases.now c.args.default =
     automaton_is x c.args.cases.now c.args.default c.in_ok-meant.meant c.number_in-otherwise.result c.in_ok-meant.ensures c.number_in-otherwise.ensures in
-    subst (λ (f : Automaton). OnOk c.given.result (IsAutomaton (numbers_of x.known) f)) is c.given.ensures.sound
+    subst (λ (f : Automaton). OnOk c.given.result (IsAutomaton (script_numbers x.known) f)) is c.given.ensures.sound

@@ -2,7 +2,7 @@ use Rattle.std.proofs.Common.{◌<◌, length, sym, subst, ◌∙◌, arith}
 use Rattle.dd_written.specs.declared.tree.Name.TheVariants as name
 use Rattle.dd_faults.specs.Order.{first_fault, Refuses}
 use Rattle.dd_faults.specs.Names.{number_in}
-use Rattle.dd_query.specs.Made.{numbers_of}
+use Rattle.dd_query.specs.Made.{script_numbers}
 use Rattle.dd_meanings.specs.Definitions.{composition_of, automaton_faults}
 use Rattle.dd_meanings.proofs.NameLaws.{number_below}
 use Rattle.dd_meanings.proofs.DefinitionLaws.{StandsAt, same_stands, composed, composition_passes, composition_formed, composition_refuses}
@@ -20,7 +20,7 @@ returns-in-Ok-clause-exact c =
     let bj : j < length fs = omega (arith, c.requires.named, number_below x.text x.known.automata (name.Word c.args.inner) c.requires.inner) in
     let first : StandsAt fs i f = same_stands fs c.number_in-outer.result i f c.index-automata-outer.result c.number_in-outer.ensures bi c.in_ok-first.ensures c.index-automata-outer.is in
     let second : StandsAt fs j g = same_stands fs c.number_in-inner.result j g c.index-automata-inner.result c.number_in-inner.ensures bj c.in_ok-second.ensures c.index-automata-inner.is in
-    (composition_passes fs i j f g first second c.in-Ok.ensures.formed (numbers_of x.known) c.requires.formed, c.in-Ok.ensures.ok ∙ composed fs i j f g first second)
+    (composition_passes fs i j f g first second c.in-Ok.ensures.formed (script_numbers x.known) c.requires.formed, c.in-Ok.ensures.ok ∙ composed fs i j f g first second)
 
 pub returns-in-Ok-clause-sound : goal.returns-in-Ok-clause-sound
 returns-in-Ok-clause-sound c =
@@ -34,7 +34,7 @@ returns-in-Ok-clause-sound c =
     let bj : j < length fs = omega (arith, c.requires.named, number_below x.text x.known.automata (name.Word c.args.inner) c.requires.inner) in
     let first : StandsAt fs i f = same_stands fs c.number_in-outer.result i f c.index-automata-outer.result c.number_in-outer.ensures bi c.in_ok-first.ensures c.index-automata-outer.is in
     let second : StandsAt fs j g = same_stands fs c.number_in-inner.result j g c.index-automata-inner.result c.number_in-inner.ensures bj c.in_ok-second.ensures c.index-automata-inner.is in
-    composition_formed fs i j f g first second c.in-Ok.ensures.formed (numbers_of x.known) c.requires.formed
+    composition_formed fs i j f g first second c.in-Ok.ensures.formed (script_numbers x.known) c.requires.formed
 
 pub returns-clause-exact : goal.returns-clause-exact
 returns-clause-exact c =
@@ -49,4 +49,4 @@ returns-clause-exact c =
     let first : StandsAt fs i f = same_stands fs c.number_in-outer.result i f c.index-automata-outer.result c.number_in-outer.ensures bi c.in_ok-first.ensures c.index-automata-outer.is in
     let second : StandsAt fs j g = same_stands fs c.number_in-inner.result j g c.index-automata-inner.result c.number_in-inner.ensures bj c.in_ok-second.ensures c.index-automata-inner.is in
     subst (λ e. Refuses e (first_fault (automaton_faults x (composition_of x fs c.args.outer c.args.inner)))) (sym c.refusal_of.ensures)
-    (composition_refuses fs i j f g first second c.in-Err.fault c.in-Err.ensures.fault (numbers_of x.known) c.requires.formed)
+    (composition_refuses fs i j f g first second c.in-Err.fault c.in-Err.ensures.fault (script_numbers x.known) c.requires.formed)

@@ -3,7 +3,7 @@ use Rattle.dd_formula.specs.LocalRule.{LocalRule}
 use Rattle.dd_formula.specs.Automata.{IsAutomaton, counted, is_few, cases_fit}
 use Rattle.dd_formula.specs.declared.automaton.Automaton.TheVariants as automaton
 use Rattle.dd_faults.specs.Order.{first_fault, Refuses}
-use Rattle.dd_query.specs.Made.{numbers_of}
+use Rattle.dd_query.specs.Made.{script_numbers}
 use Rattle.dd_meanings.specs.declared.cases.CaseOf.{CaseOf}
 use Rattle.dd_meanings.specs.Definitions.{count_faults}
 use Rattle.dd_meanings.specs.making.Parts.{given_by, case_counts}
@@ -23,9 +23,9 @@ returns-then-not-branch-clause-exact c =
 pub given-requires : goal.given-requires
 given-requires c =
     let k = c.args.known.now in record {
-      setting = numbers_of k;
+      setting = script_numbers k;
       fit =
-          ap (λ (l : List (LocalRule × ℕ)). cases_fit (numbers_of k) l c.args.default) c.in_ok-rules.ensures.1
+          ap (λ (l : List (LocalRule × ℕ)). cases_fit (script_numbers k) l c.args.default) c.in_ok-rules.ensures.1
           ∙ cases_are_fit k c.args.cases c.args.default c.requires.sound c.requires.cases c.requires.default;
       all = sym c.nodes.ensures.value;
       some = omega (arith, c.nodes.ensures.value, c.nodes.ensures.grid.nodes);
@@ -34,7 +34,7 @@ given-requires c =
 pub returns-in-Ok-clause-sound : goal.returns-in-Ok-clause-sound
 returns-in-Ok-clause-sound c =
     let k = c.args.known.now in
-    let s = numbers_of k in
+    let s = script_numbers k in
     let fit =
     ap (λ (l : List (LocalRule × ℕ)). cases_fit s l c.args.default) c.in_ok-rules.ensures.1
     ∙ cases_are_fit k c.args.cases c.args.default c.requires.sound c.requires.cases c.requires.default in

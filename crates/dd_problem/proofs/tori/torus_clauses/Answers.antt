@@ -1,5 +1,5 @@
 use Rattle.std.proofs.Common.{map, subst, sym}
-use Rattle.dd_problem.specs.Grown.{near_cells, number_at, numbers_of, question_reach}
+use Rattle.dd_problem.specs.Grown.{near_cells, number_at, numbered_tile, question_reach}
 use Rattle.dd_problem.specs.Pushed.{HasAllSymbols}
 use Rattle.dd_problem.proofs.Templating.{numbered_full, torus_near}
 use Rattle.dd_pattern.specs.Periods.{periods_of}
@@ -31,7 +31,7 @@ problem-requires-clause-all c =
     let x = c.args.premise.now in
     let p = periods_of c.args.periods c.args.shear in
     let near = near_cells x (question_reach x (goal_of x c.args.goal.now)) p in
-    subst (HasAllSymbols x.symbols) (sym c.in_ok-inputs.ensures) (numbered_full x.symbols near (map (number_at (numbers_of x p)) near))
+    subst (HasAllSymbols x.symbols) (sym c.in_ok-inputs.ensures) (numbered_full x.symbols near (map (number_at (numbered_tile x p)) near))
 
 pub problem-requires-clause-signals : goal.problem-requires-clause-signals
 problem-requires-clause-signals c =

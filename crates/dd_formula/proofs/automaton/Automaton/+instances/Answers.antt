@@ -5,7 +5,7 @@ use Rattle.dd_expansion.specs.Leaves.{total}
 use Rattle.dd_formula.specs.LocalRule.{is_near}
 use Rattle.dd_formula.specs.declared.automaton.Automaton.{Automaton}
 use Rattle.dd_formula.specs.declared.automaton.Automaton.TheVariants as v
-use Rattle.dd_formula.specs.Automata.{Setting, IsAutomaton, counted, cells_of, is_cell_of}
+use Rattle.dd_formula.specs.Automata.{CommonNumbers, IsAutomaton, counted, cells_of, is_cell_of}
 use Rattle.dd_formula.specs.Counts.{cut}
 use Rattle.dd_formula.specs.lemmas.Cuts.{total_more, total-take-le, next_cut, cut_passed}
 use Rattle.dd_formula.specs.lemmas.AutomatonLaws.{depth_composed, outer_part, inner_part, near_cells, instances_composed}
@@ -15,7 +15,7 @@ pub instances-composed_instances-requires : goal.instances-composed_instances-re
 instances-composed_instances-requires t c =
     let f = c.in-Composed.outer in
     let g = c.in-Composed.inner in
-    let s : Setting = c.requires.setting in
+    let s : CommonNumbers = c.requires.setting in
     let formed : IsAutomaton s (v.Composed f g) = subst (IsAutomaton s) c.in-Composed.is c.requires.formed in
     let size = ap (λ (h : Automaton). (counted h).depth) c.in-Composed.is ∙ depth_composed f g in
     let first = ap (λ (h : Automaton). (counted h).depth) c.get.ensures in
@@ -31,7 +31,7 @@ instances-composed_instances-requires t c =
 
 pub composed_instances-instances_from-requires : goal.composed_instances-instances_from-requires
 composed_instances-instances_from-requires t c =
-    let s : Setting = c.requires.setting in (
+    let s : CommonNumbers = c.requires.setting in (
       omega (arith, c.decreases),
       record {
         setting = s;

@@ -8,7 +8,7 @@ use Rattle.dd_lattice.specs.lemmas.InOrderLaws.{list_all-in_order}
 use Rattle.dd_formula.specs.LocalRule.{is_near}
 use Rattle.dd_formula.specs.declared.automaton.Automaton.{Automaton}
 use Rattle.dd_formula.specs.declared.automaton.Automaton.TheVariants as v
-use Rattle.dd_formula.specs.Automata.{Setting, IsAutomaton, counted, cells_of, is_cell_of}
+use Rattle.dd_formula.specs.Automata.{CommonNumbers, IsAutomaton, counted, cells_of, is_cell_of}
 use Rattle.dd_formula.specs.lemmas.Cuts.{flat_more}
 use Rattle.dd_formula.specs.lemmas.AutomatonLaws.{depth_composed, reads_composed, outer_part, inner_part, near_cells, node_at, passes_at, passes_both, moved_placed, moved_cells}
 use Rattle.dd_formula.proofs.automaton.Automaton.+reads.Goals as goal
@@ -17,7 +17,7 @@ pub reads-composed_reads-requires : goal.reads-composed_reads-requires
 reads-composed_reads-requires t c =
     let f = c.in-Composed.outer in
     let g = c.in-Composed.inner in
-    let s : Setting = c.requires.setting in
+    let s : CommonNumbers = c.requires.setting in
     let formed : IsAutomaton s (v.Composed f g) = subst (IsAutomaton s) c.in-Composed.is c.requires.formed in
     let size = ap (λ (h : Automaton). (counted h).depth) c.in-Composed.is ∙ depth_composed f g in
     let first = ap (λ (h : Automaton). (counted h).depth) c.get.ensures in
@@ -42,7 +42,7 @@ reads-returns-in-Composed-clause-placed t c =
 
 pub composed_reads-reads_from-requires : goal.composed_reads-reads_from-requires
 composed_reads-reads_from-requires t c =
-    let s : Setting = c.requires.setting in (
+    let s : CommonNumbers = c.requires.setting in (
       omega (arith, c.decreases),
       record {
         setting = s;
@@ -67,7 +67,7 @@ composed_reads-returns-clause-placed t c =
 
 pub reads_from-push_shifted-requires-clause-near : goal.reads_from-push_shifted-requires-clause-near
 reads_from-push_shifted-requires-clause-near t c =
-    let s : Setting = c.requires.setting in
+    let s : CommonNumbers = c.requires.setting in
     let node = node_at s c.args.cells.now c.loop-cell.cell-index c.cell-item.result c.requires.cells c.loop-cell-test.true c.cell-item.is in
     ap (list_all is_near) (c.as_slice.ensures.value ∙ c.in_ok-there.ensures.list) ∙ near_cells s c.args.self.now c.requires.formed c.cell-item.result.node node
 

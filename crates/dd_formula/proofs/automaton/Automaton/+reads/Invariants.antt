@@ -1,7 +1,7 @@
 use Rattle.std.proofs.Common.{◌≡◌, ◌+◌, ◌*◌, true, map, max, take}
 use Rattle.std.specs.List.{list_all, flat_map}
 use Rattle.dd_lattice.specs.Cells.{shifted}
-use Rattle.dd_formula.specs.Automata.{Setting, IsAutomaton, counted, cells_of, is_cell_of}
+use Rattle.dd_formula.specs.Automata.{CommonNumbers, IsAutomaton, counted, cells_of, is_cell_of}
 use Rattle.dd_formula.proofs.automaton.Automaton.+reads.Given as goal
 
 abbrev pub decreases-reads : goal.decreases-reads
@@ -16,5 +16,5 @@ decreases-composed_reads l = 3 * max (counted l.outer.now).depth (counted l.inne
 abbrev pub invariant-reads_from-loop-cell : goal.invariant-reads_from-loop-cell
 invariant-reads_from-loop-cell l = record {
   list : l.found.items ≡ flat_map (λ c. map (shifted c.position) (cells_of l.self c.node)) (take l.cell-index l.cells);
-  placed : (s : Setting) → IsAutomaton s l.self → list_all (is_cell_of s) l.cells ≡ true → list_all (is_cell_of s) l.found.items ≡ true;
+  placed : (s : CommonNumbers) → IsAutomaton s l.self → list_all (is_cell_of s) l.cells ≡ true → list_all (is_cell_of s) l.found.items ≡ true;
 }
