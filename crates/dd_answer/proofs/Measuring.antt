@@ -14,7 +14,7 @@ use Rattle.dd_strips.specs.Strips.{IsLeastDensity}
 use Rattle.dd_strips.specs.Claims.{StripLeast, StripEmpty, spread_of}
 use Rattle.dd_density.specs.declared.answer.Density.{Density}
 use Rattle.dd_density.specs.declared.answer.Density.TheVariants as density
-use Rattle.dd_density.specs.Densities.{IsCertified, IsSmall}
+use Rattle.dd_density.specs.Densities.{IsCertifiedDensity, IsSmallDensity}
 use Rattle.dd_discharge.specs.declared.bound.Bound.{Bound}
 use Rattle.dd_discharge.specs.declared.fault.DischargeFault.{DischargeFault}
 use Rattle.dd_discharge.specs.Printed.{IsSmallBound}
@@ -42,7 +42,7 @@ AreEmpty = (r : LocalRule) (periods ranks : List ℕ) → IsRule r → IsStrip r
     StripEmpty r (strip_for r periods) (greatest ranks + window r)
 
 pub density_right : AreLeast → AreEmpty → (x : LocalRule) (strip ws : List ℕ) → IsRule x → IsStrip x strip → (d : Density) →
-    IsCertified x (strip_for x strip) ws d → IsRightDensity x strip ws (written_density d)
+    IsCertifiedDensity x (strip_for x strip) ws d → IsRightDensity x strip ws (written_density d)
 density_right least empty x strip ws rule narrow (density.Least p q walk potentials) h =
     record { least = (least x strip ws p q walk potentials rule narrow h).density; certificate = h }
 density_right least empty x strip ws rule narrow (density.Empty ranks) h =
@@ -54,7 +54,7 @@ some_state x s rule =
     one-le-pow (window x) (slices x (positions s)) (one-le-pow (x.nodes * positions s) x.symbols rule.symbols.0)
 
 pub density_fits : (x : LocalRule) (strip ws : List ℕ) → IsRule x → IsNarrow x strip ws → (d : Density) →
-    IsCertified x (strip_for x strip) ws d → IsSmall x (strip_for x strip) d → IsWritable (written_density d)
+    IsCertifiedDensity x (strip_for x strip) ws d → IsSmallDensity x (strip_for x strip) d → IsWritable (written_density d)
 density_fits x strip ws rule narrow (density.Least p q walk potentials) h small =
     let s = strip_for x strip in
     let few = narrow.few.0 in

@@ -12,18 +12,18 @@ use Rattle.dd_transfer.specs.Transfers.{IsGraphOf}
 use Rattle.dd_transfer.specs.Certificates.{IsInLowestTerms, potential_of}
 use Rattle.dd_meancycle.specs.declared.least.Mean.{Mean}
 use Rattle.dd_meancycle.specs.declared.least.Mean.TheVariants as mean
-use Rattle.dd_meancycle.specs.Means.{IsLeast, IsMeanOf, weight_of}
+use Rattle.dd_meancycle.specs.Means.{IsLeastMeanCycle, IsMeanOf, weight_of}
 use Rattle.dd_density.specs.declared.answer.Density.{Density}
 use Rattle.dd_density.specs.declared.answer.Density.TheVariants.{Least, Empty}
-use Rattle.dd_density.specs.Densities.{IsCertified, IsSmall}
+use Rattle.dd_density.specs.Densities.{IsCertifiedDensity, IsSmallDensity}
 use Rattle.dd_density.specs.graphs.Means.{IsMeanOver, IsOfMean}
 use Rattle.dd_density.proofs.Fractions.{lowest_small, IsNoGreater}
 use Rattle.dd_density.proofs.Walks.{weight_most, certificate_of, empty_of}
 
-pub lowest_mean : (g : Transfer) (m l : ℕ) (cycle : List ℕ) (ps : List ℤ) → IsLeast g m l cycle ps → IsInLowestTerms m l (weight_of g cycle) (length cycle)
+pub lowest_mean : (g : Transfer) (m l : ℕ) (cycle : List ℕ) (ps : List ℤ) → IsLeastMeanCycle g m l cycle ps → IsInLowestTerms m l (weight_of g cycle) (length cycle)
 lowest_mean g m l cycle ps is = record { same = sym is.mean; lowest = is.lowest; positive = is.positive }
 
-mean_small : (g : Transfer) (m l : ℕ) (cycle : List ℕ) (ps : List ℤ) → IsLeast g m l cycle ps → IsNoGreater m l (weight_of g cycle) (length cycle)
+mean_small : (g : Transfer) (m l : ℕ) (cycle : List ℕ) (ps : List ℤ) → IsLeastMeanCycle g m l cycle ps → IsNoGreater m l (weight_of g cycle) (length cycle)
 mean_small g m l cycle ps is = lowest_small m l (weight_of g cycle) (length cycle) is.cycle_is.turns (lowest_mean g m l cycle ps is)
 
 some_product : (a b : ℕ) → 0 < a → 0 < b → 0 < a * b
@@ -39,7 +39,7 @@ mean_over g volume (mean.Least m l cycle ps) well some few is =
     (some_product l volume is.positive some, omega (arith, product), omega (arith, heavy, small.numerator, is.short, well.few))
 mean_over g volume (mean.NoCycle ranks) well some few is = tt
 
-pub is_certified : (r : LocalRule) (s : Strip) (weights : List ℕ) (g : Transfer) (m : Mean) (d : Density) → IsGraphOf r s weights g → IsMeanOf g m → IsOfMean (positions s) m d → IsCertified r s weights d
+pub is_certified : (r : LocalRule) (s : Strip) (weights : List ℕ) (g : Transfer) (m : Mean) (d : Density) → IsGraphOf r s weights g → IsMeanOf g m → IsOfMean (positions s) m d → IsCertifiedDensity r s weights d
 is_certified r s weights g (mean.Least m l cycle ps) (Least p q walk qs) is least of =
     rw (of.walk_is, of.potentials_are)
     (certificate_of r s weights g p q cycle ps is (record {
@@ -60,7 +60,7 @@ bounded_at : (ps : List ℤ) (n : ℕ) → length ps ≡ n → ((v : ℕ) → v 
 bounded_at ps n each given = λ k d lt.
     subst (λ (x : ℤ). unsigned_abs x ≤ 2 ^ 40) (get_or_default ps k (pos 0) d lt) (given k (omega (arith, each, lt)))
 
-pub is_small : (r : LocalRule) (s : Strip) (weights : List ℕ) (g : Transfer) (m : Mean) (d : Density) → IsGraphOf r s weights g → IsMeanOf g m → IsMeanOver (positions s) m → IsOfMean (positions s) m d → IsSmall r s d
+pub is_small : (r : LocalRule) (s : Strip) (weights : List ℕ) (g : Transfer) (m : Mean) (d : Density) → IsGraphOf r s weights g → IsMeanOf g m → IsMeanOver (positions s) m → IsOfMean (positions s) m d → IsSmallDensity r s d
 is_small r s weights g (mean.Least m l cycle ps) (Least p q walk qs) is least over of =
     let low = lowest_small p q m (l * positions s) over.0 of.density in
     let walked : length walk ≡ length cycle = ap length of.walk_is in

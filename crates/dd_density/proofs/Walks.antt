@@ -8,7 +8,7 @@ use Rattle.dd_transfer.specs.declared.strip.Strip.{Strip}
 use Rattle.dd_transfer.specs.Windows.{positions}
 use Rattle.dd_transfer.specs.Graphs.{Transfer, IsTransfer, next_of, weight_at}
 use Rattle.dd_transfer.specs.Transfers.{IsGraphOf, slice_weight}
-use Rattle.dd_transfer.specs.Certificates.{IsWalk, IsClosedWalk, IsInLowestTerms, walk_weight, IsDensityCertificate, IsEmptyCertificate, ArePotentials as RisesAlong, potential_of}
+use Rattle.dd_transfer.specs.Certificates.{IsWalk, IsClosedWalk, IsInLowestTerms, walk_weight, IsDensityCertificate, IsEmptyCertificate, AreStripPotentials as RisesAlong, potential_of}
 use Rattle.dd_meancycle.specs.Means.{IsPath, IsCycle, ArePotentials, weight_of}
 use Rattle.dd_density.specs.graphs.Shown.{IsShown, AreFallen}
 use Rattle.dd_density.proofs.Edges.{last_slice, weight_small, step}

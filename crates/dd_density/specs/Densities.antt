@@ -10,9 +10,9 @@ use Rattle.dd_density.specs.declared.answer.Density.{Density}
 use Rattle.dd_density.specs.declared.answer.Density.TheVariants.{Least, Empty}
 
 -- the density with what certifies it, or what shows that there is none
-abbrev pub IsCertified : LocalRule → Strip → List ℕ → Density → Type 0
-IsCertified r s weights (Least p q walk ps) = IsDensityCertificate r s weights p q walk ps
-IsCertified r s weights (Empty ranks) = IsEmptyCertificate r s ranks
+abbrev pub IsCertifiedDensity : LocalRule → Strip → List ℕ → Density → Type 0
+IsCertifiedDensity r s weights (Least p q walk ps) = IsDensityCertificate r s weights p q walk ps
+IsCertifiedDensity r s weights (Empty ranks) = IsEmptyCertificate r s ranks
 
 -- no number is greater than 2^40, and no walk has more states than the graph
 pub record IsSmallLeast (r : LocalRule) (s : Strip) (p q : ℕ) (walk : List ℕ) (ps : List ℤ) : Type 0 where
@@ -22,6 +22,6 @@ pub record IsSmallLeast (r : LocalRule) (s : Strip) (p q : ℕ) (walk : List ℕ
   pub walked : All (λ u. u ≤ 2 ^ 40) walk
   pub potentials : All (λ x. unsigned_abs x ≤ 2 ^ 40) ps
 
-abbrev pub IsSmall : LocalRule → Strip → Density → Type 0
-IsSmall r s (Least p q walk ps) = IsSmallLeast r s p q walk ps
-IsSmall r s (Empty ranks) = All (λ x. x ≤ 2 ^ 40) ranks
+abbrev pub IsSmallDensity : LocalRule → Strip → Density → Type 0
+IsSmallDensity r s (Least p q walk ps) = IsSmallLeast r s p q walk ps
+IsSmallDensity r s (Empty ranks) = All (λ x. x ≤ 2 ^ 40) ranks

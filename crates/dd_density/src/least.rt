@@ -2,7 +2,7 @@
 ghost use Rattle.std.specs.Prelude.{◌≡◌, ◌<◌, ◌≤◌, ◌^◌, IfOk};
 ghost use Rattle.std.specs.List.{All};
 ghost use Rattle.dd_transfer.specs.Transfers.{IsStrip, HasWeights, IsFew, strip_for};
-ghost use Rattle.dd_density.specs.Densities.{IsCertified, IsSmall};
+ghost use Rattle.dd_density.specs.Densities.{IsCertifiedDensity, IsSmallDensity};
 ghost use Rattle.dd_density.specs.graphs.Means.{IsOfMean, IsMeanOver};
 
 use crate::answer::Density;
@@ -25,8 +25,8 @@ pub fn least_density(
     requires strip { IsStrip rule.now strip }
     requires weights { HasWeights rule.now weights.now }
     requires few { IsFew rule.now (strip_for rule.now strip) }
-    ensures certified { IfOk result (IsCertified rule.now (strip_for rule.now strip) weights.now) }
-    ensures small { IfOk result (IsSmall rule.now (strip_for rule.now strip)) }
+    ensures certified { IfOk result (IsCertifiedDensity rule.now (strip_for rule.now strip) weights.now) }
+    ensures small { IfOk result (IsSmallDensity rule.now (strip_for rule.now strip)) }
 {
     let graph = graph_of(alloc, rule, strip, weights)?;
     let mean = least_mean(alloc, &graph)?;

@@ -17,7 +17,7 @@ use Rattle.dd_fraction.specs.Order.{IsAtMost, IsNonneg}
 use Rattle.dd_simplex.specs.Programs.{LinearProgram, fraction_at, coefficient, bound_at, unit, zero_of, one_of, fraction_sum, dual_objective, IsBest}
 use Rattle.dd_rows.specs.declared.rows.Row.{Row}
 use Rattle.dd_discharge.specs.declared.bound.Bound.{Bound}
-use Rattle.dd_discharge.specs.Amounts.{total_below, row_in, coefficient_in, column_value, MeetRows, column_sum, AreDualsOver, held_over, IsCertified}
+use Rattle.dd_discharge.specs.Amounts.{total_below, row_in, coefficient_in, column_value, MeetRows, column_sum, AreDualsOver, held_over, IsCertifiedBound}
 use Rattle.dd_discharge.specs.Amounts as amounts
 use Rattle.dd_discharge.specs.Denominators.{common_denominator, numerator_over, IsPrintedAs}
 use Rattle.dd_discharge.specs.Bounds.{row_of_fractions}
@@ -185,7 +185,7 @@ duals rows n value xs ys b r = record {
 }
 
 pub certified : (rows : List Row) (n : ℕ) (value : Exact) (xs ys : List Exact) (b : Bound) → IsLowest value → 0 < n
-    → IsBest (record { columns = n; rows = map row_of_fractions rows }) value xs ys → IsPrintedAs value xs ys b → IsCertified rows n b
+    → IsBest (record { columns = n; rows = map row_of_fractions rows }) value xs ys → IsPrintedAs value xs ys b → IsCertifiedBound rows n b
 certified rows n value xs ys b l w s p =
     let r : Ready rows n value xs ys b = record { lowest = l; wide = w; best = s; printed = p } in
     record {

@@ -11,7 +11,7 @@ use Rattle.dd_rows.specs.declared.fault.RowsFault.TheVariants as rows
 use Rattle.dd_discharge.specs.declared.fault.DischargeFault.{DischargeFault}
 use Rattle.dd_discharge.specs.declared.fault.DischargeFault.TheVariants as fault
 use Rattle.dd_rows.specs.Programs.{IsProgramOf, IsRowsFault, column_count}
-use Rattle.dd_discharge.specs.Amounts.{IsCertified}
+use Rattle.dd_discharge.specs.Amounts.{IsCertifiedBound}
 use Rattle.dd_discharge.specs.Bounds.{in_fractions, EndsWith, GivesNone, linear_program, IsBoundOf, IsDischargeFault}
 use Rattle.dd_discharge.specs.Certificates.{IsBoundCertificate}
 use Rattle.dd_discharge.specs.Faults.{fault_of_rows}
@@ -30,11 +30,11 @@ bound_from x ws radius margin vs pivots p n rs b h g e =
     record { program = p; is_program = h; ends = subst (λ (l : LinearProgram). EndsWith l pivots b) (same_program vs p n rs g) e }
 
 pub certificate_from : (x : LocalRule) (ws : List ℕ) (radius margin : ℕ) (vs : List Place) (p : Rows) (n : ℕ) (rs : List Row) (b : Bound) → IsProgramOf x ws radius margin vs p → IsGiven vs p n rs
-    → IsCertified rs n b → IsBoundCertificate x ws radius margin vs b
+    → IsCertifiedBound rs n b → IsBoundCertificate x ws radius margin vs b
 certificate_from x ws radius margin vs p n rs b h g c = record {
   program = p;
   is_program = h;
-  certified = subst (λ (m : ℕ). IsCertified p.rows m b) g.columns (subst (λ (qs : List Row). IsCertified qs n b) g.rows_are c);
+  certified = subst (λ (m : ℕ). IsCertifiedBound p.rows m b) g.columns (subst (λ (qs : List Row). IsCertifiedBound qs n b) g.rows_are c);
 }
 
 pub fault_from : (x : LocalRule) (ws : List ℕ) (radius margin : ℕ) (vs : List Place) (pivots : ℕ) (p : Rows) (n : ℕ) (rs : List Row) (f : DischargeFault) → IsProgramOf x ws radius margin vs p → IsGiven vs p n rs

@@ -8,7 +8,7 @@ use lib.Signed.{◌≤ℤ◌}
 use Rattle.std.proofs.lemmas.Int.{ints}
 use Rattle.dd_rows.specs.declared.rows.Row.{Row}
 use Rattle.dd_discharge.specs.declared.bound.Bound.{Bound}
-use Rattle.dd_discharge.specs.Amounts.{total_below, row_in, coefficient_in, column_value, MeetRows, column_sum, dual_worth, AreDualsOver, held_over, IsCertified, HoldAtMost}
+use Rattle.dd_discharge.specs.Amounts.{total_below, row_in, coefficient_in, column_value, MeetRows, column_sum, dual_worth, AreDualsOver, held_over, IsCertifiedBound, HoldAtMost}
 use Rattle.dd_discharge.specs.lemmas.WholeNumbers.{times_times, scaled_le, scaled_right, cancel_le}
 use Rattle.dd_discharge.specs.lemmas.Totals.{total_same, total_at_most, total_scaled, total_swap, total_first}
 
@@ -95,7 +95,7 @@ unscaled p q t other held z h =
 below_zero : (n : ℕ) (q r : ℕ) → (negsuc n *ℤ pos q) ≤ℤ pos r
 below_zero n q r = omega (arith, ints)
 
-pub holds_at_most : (rows : List Row) (columns : ℕ) (b : Bound) → IsCertified rows columns b → HoldAtMost rows columns b.numerator b.denominator
+pub holds_at_most : (rows : List Row) (columns : ℕ) (b : Bound) → IsCertifiedBound rows columns b → HoldAtMost rows columns b.numerator b.denominator
 holds_at_most rows columns b c common (negsuc n) amounts z m = below_zero n b.denominator (b.numerator * common)
 holds_at_most rows columns b c common (pos n) amounts z m =
     let t = b.common / b.denominator in

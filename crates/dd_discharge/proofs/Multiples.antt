@@ -14,7 +14,7 @@ use Rattle.std.proofs.Math.Nat.{div-mul_cancel, dvd-mul_left, div-one}
 use Rattle.dd_fraction.specs.Divisor.{common_within, greatest_common}
 use Rattle.dd_fraction.specs.Exact.{Exact, den_of, lowest, IsLowest}
 use Rattle.dd_fraction.specs.Checked.{IsFraction, does_pair_fit, fraction_of}
-use Rattle.dd_discharge.specs.Denominators.{least_common, joined, common_denominator, most_printed, printed}
+use Rattle.dd_discharge.specs.Denominators.{least_common, joined_denominator, common_denominator, most_printed, printed}
 
 -- ---- Euclid's rule gives the greatest common divisor
 is_common : (n a b : ℕ) → b < n → IsGcd a b (common_within n a b)
@@ -57,22 +57,22 @@ least_common_above a b p q =
 pub den_above : (a : Exact) → 0 < den_of a
 den_above a = omega arith
 
-pub joined_above : (n : ℕ) (xs : List Exact) → 0 < n → 0 < fold joined n xs
+pub joined_above : (n : ℕ) (xs : List Exact) → 0 < n → 0 < fold joined_denominator n xs
 joined_above n [] p = p
-joined_above n (x ∷ xs) p = joined_above (joined n x) xs (least_common_above n (den_of x) p (den_above x))
+joined_above n (x ∷ xs) p = joined_above (joined_denominator n x) xs (least_common_above n (den_of x) p (den_above x))
 
-joined_divides : (n : ℕ) (xs : List Exact) → n ∣ fold joined n xs
+joined_divides : (n : ℕ) (xs : List Exact) → n ∣ fold joined_denominator n xs
 joined_divides n [] = dvd_refl n
-joined_divides n (x ∷ xs) = dvd_trans n (least_common_front n (den_of x)) (joined_divides (joined n x) xs)
+joined_divides n (x ∷ xs) = dvd_trans n (least_common_front n (den_of x)) (joined_divides (joined_denominator n x) xs)
 
 -- more denominators, and no smaller common one
-pub joined_grows : (n : ℕ) (xs : List Exact) → 0 < n → n ≤ fold joined n xs
+pub joined_grows : (n : ℕ) (xs : List Exact) → 0 < n → n ≤ fold joined_denominator n xs
 joined_grows n xs p = le_of_dvd (joined_above n xs p) (joined_divides n xs)
 
-pub each_divides : (n : ℕ) (xs : List Exact) (k : ℕ) (d : Exact) → k < length xs → den_of (get_or xs k d) ∣ fold joined n xs
+pub each_divides : (n : ℕ) (xs : List Exact) (k : ℕ) (d : Exact) → k < length xs → den_of (get_or xs k d) ∣ fold joined_denominator n xs
 each_divides n [] k d p = absurd (omega (arith, p))
-each_divides n (x ∷ xs) zero d p = dvd_trans (den_of x) (least_common_back n (den_of x)) (joined_divides (joined n x) xs)
-each_divides n (x ∷ xs) (suc k) d p = each_divides (joined n x) xs k d (omega (arith, p))
+each_divides n (x ∷ xs) zero d p = dvd_trans (den_of x) (least_common_back n (den_of x)) (joined_divides (joined_denominator n x) xs)
+each_divides n (x ∷ xs) (suc k) d p = each_divides (joined_denominator n x) xs k d (omega (arith, p))
 
 -- over the denominator d in lowest terms, n leaves what the two have not in common
 pub ratio_num : (n d : ℕ) (r : Exact) → 0 < d → r ≡ lowest (pos n) d → unsigned_abs r.num * d ≡ least_common n (max 1 d)
@@ -97,7 +97,7 @@ printed_some n p = rw (le-leb n most_printed p) refl
 
 -- the product that is tested, and the least common multiple
 pub multiple_is : (n : ℕ) (a r : Exact) (x y s t : ℤ) (u v : ℕ) → IsFraction a → x ≡ pos n → y ≡ pos a.den → Some r ≡ fraction_of x y
-    → s ≡ r.num → u ≡ unsigned_abs s → t ≡ pos a.den → v ≡ unsigned_abs t → u * v ≡ joined n a
+    → s ≡ r.num → u ≡ unsigned_abs s → t ≡ pos a.den → v ≡ unsigned_abs t → u * v ≡ joined_denominator n a
 multiple_is n a r x y s t u v f px py pr ps pu pt pv =
     let e : r ≡ lowest (pos n) a.den = ratio_is n a.den r (subst (λ (w : ℤ). Some r ≡ fraction_of (pos n) w) py (subst (λ (w : ℤ). Some r ≡ fraction_of w y) px pr)) in
     let left : u ≡ unsigned_abs r.num = pu ∙ ap unsigned_abs ps in
@@ -119,24 +119,24 @@ unprinted n e = by (leb n most_printed) refl e
     by false l e = leb-false n most_printed l
 
 -- one fraction more
-pub joined_more : (n c i : ℕ) (xs : List Exact) (x : Exact) → i < length xs → x ≡ get_or xs i x → fold joined n xs ≡ fold joined c (drop i xs)
-    → fold joined n xs ≡ fold joined (joined c x) (drop (i + 1) xs)
-joined_more n c i xs x p e h = h ∙ (ap (fold joined c) (drop-cons xs i x p) ∙ (ap (λ (y : Exact). fold joined (joined c y) (drop (suc i) xs)) (sym e) ∙ ap (λ (k : ℕ). fold joined (joined c x) (drop k xs)) (next i)))
+pub joined_more : (n c i : ℕ) (xs : List Exact) (x : Exact) → i < length xs → x ≡ get_or xs i x → fold joined_denominator n xs ≡ fold joined_denominator c (drop i xs)
+    → fold joined_denominator n xs ≡ fold joined_denominator (joined_denominator c x) (drop (i + 1) xs)
+joined_more n c i xs x p e h = h ∙ (ap (fold joined_denominator c) (drop-cons xs i x p) ∙ (ap (λ (y : Exact). fold joined_denominator (joined_denominator c y) (drop (suc i) xs)) (sym e) ∙ ap (λ (k : ℕ). fold joined_denominator (joined_denominator c x) (drop k xs)) (next i)))
   where
     next : (i : ℕ) → suc i ≡ i + 1
     next i = omega arith
 
 -- where a denominator on the way can't be printed, the last one can't
-pub joined_past : (n c i : ℕ) (xs : List Exact) (x : Exact) → 0 < c → i < length xs → x ≡ get_or xs i x → fold joined n xs ≡ fold joined c (drop i xs)
-    → None ≡ printed (joined c x) → None ≡ printed (fold joined n xs)
+pub joined_past : (n c i : ℕ) (xs : List Exact) (x : Exact) → 0 < c → i < length xs → x ≡ get_or xs i x → fold joined_denominator n xs ≡ fold joined_denominator c (drop i xs)
+    → None ≡ printed (joined_denominator c x) → None ≡ printed (fold joined_denominator n xs)
 joined_past n c i xs x z p e h none =
     let more = joined_more n c i xs x p e h in
-    let grows = joined_grows (joined c x) (drop (i + 1) xs) (least_common_above c (den_of x) z (den_above x)) in
-    let past = unprinted (joined c x) none in
-    printed_none (fold joined n xs) (omega (arith, more, grows, past))
+    let grows = joined_grows (joined_denominator c x) (drop (i + 1) xs) (least_common_above c (den_of x) z (den_above x)) in
+    let past = unprinted (joined_denominator c x) none in
+    printed_none (fold joined_denominator n xs) (omega (arith, more, grows, past))
 
-pub joined_whole : (n c : ℕ) (xs : List Exact) → c ≤ most_printed → fold joined n xs ≡ fold joined c (drop (length xs) xs) → Some c ≡ printed (fold joined n xs)
-joined_whole n c xs p h = let same : c ≡ fold joined n xs = sym (h ∙ ap (fold joined c) (drop-length xs)) in printed_some c p ∙ ap printed same
+pub joined_whole : (n c : ℕ) (xs : List Exact) → c ≤ most_printed → fold joined_denominator n xs ≡ fold joined_denominator c (drop (length xs) xs) → Some c ≡ printed (fold joined_denominator n xs)
+joined_whole n c xs p h = let same : c ≡ fold joined_denominator n xs = sym (h ∙ ap (fold joined_denominator c) (drop-length xs)) in printed_some c p ∙ ap printed same
 
 -- a fraction in lowest terms is its own reduction
 reduced_alone : (q g d : ℕ) → q * g ≡ d → 0 < d → q ≡ d → g ≡ 1

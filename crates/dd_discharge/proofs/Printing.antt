@@ -22,7 +22,7 @@ use Rattle.dd_discharge.specs.declared.bound.Bound.{Bound}
 use Rattle.dd_discharge.specs.declared.fault.DischargeFault.{DischargeFault}
 use Rattle.dd_discharge.specs.declared.fault.DischargeFault.TheVariants as fault
 use Rattle.dd_discharge.specs.Faults.{OnOverflow}
-use Rattle.dd_discharge.specs.Denominators.{joined, common_denominator, numerator_over, most_printed, printed, ArePrinted, HasUnprinted, IsPrintedAs}
+use Rattle.dd_discharge.specs.Denominators.{joined_denominator, common_denominator, numerator_over, most_printed, printed, ArePrinted, HasUnprinted, IsPrintedAs}
 use Rattle.dd_discharge.proofs.Multiples.{printed_is, printed_none, unprinted, joined_above, joined_grows, each_divides, den_above}
 
 -- ---- the least common denominator of two lists
@@ -30,7 +30,7 @@ pub common_past : (xs ys : List Exact) → None ≡ printed (common_denominator 
 common_past xs ys none =
     let past = unprinted (common_denominator xs) none in
     let grows = joined_grows (common_denominator xs) ys (joined_above 1 xs (omega arith)) in
-    let whole = fold-append joined 1 xs ys in
+    let whole = fold-append joined_denominator 1 xs ys in
     printed_none (common_denominator (xs ++ ys)) (omega (arith, past, grows, whole))
 
 pub common_some : (xs : List Exact) (n : ℕ) → Some n ≡ printed (common_denominator xs) → 0 < n

@@ -47,7 +47,7 @@ abbrev pub held_over : Bound → ℕ
 held_over b = b.numerator * (b.common / b.denominator)
 
 -- the bound is in lowest terms over a divisor of the common denominator, the amounts hold it, and the duals are worth it
-pub record IsCertified (rows : List Row) (columns : ℕ) (b : Bound) : Type 0 where
+pub record IsCertifiedBound (rows : List Row) (columns : ℕ) (b : Bound) : Type 0 where
   pub lowest : IsLowest (record { num = pos b.numerator; den = b.denominator })
   pub some : 1 ≤ b.common
   pub divides : b.common % b.denominator ≡ 0

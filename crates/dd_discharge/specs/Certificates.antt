@@ -5,13 +5,13 @@ use Rattle.dd_formula.specs.LocalRule.{LocalRule}
 use Rattle.dd_rows.specs.declared.rows.Rows.{Rows}
 use Rattle.dd_discharge.specs.declared.bound.Bound.{Bound}
 use Rattle.dd_rows.specs.Programs.{IsProgramOf, column_count}
-use Rattle.dd_discharge.specs.Amounts.{IsCertified, HoldAtMost}
+use Rattle.dd_discharge.specs.Amounts.{IsCertifiedBound, HoldAtMost}
 
 -- the program is within its limits, and the bound is certified for its rows
 pub record IsBoundCertificate (x : LocalRule) (ws : List ℕ) (radius margin : ℕ) (vs : List Place) (b : Bound) : Type 0 where
   pub program : Rows
   pub is_program : IsProgramOf x ws radius margin vs program
-  pub certified : IsCertified program.rows (column_count (length vs) (length program.patterns)) b
+  pub certified : IsCertifiedBound program.rows (column_count (length vs) (length program.patterns)) b
 
 -- of all amounts that meet the rows none hold more than p over q
 pub record BestOf (x : LocalRule) (ws : List ℕ) (radius margin : ℕ) (vs : List Place) (p q : ℕ) : Type 0 where

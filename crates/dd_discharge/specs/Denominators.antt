@@ -9,12 +9,12 @@ abbrev pub least_common : ℕ → ℕ → ℕ
 least_common a b = a / greatest_common a b * b
 
 -- with the denominator of one fraction more
-abbrev pub joined : ℕ → Exact → ℕ
-joined n a = least_common n (den_of a)
+abbrev pub joined_denominator : ℕ → Exact → ℕ
+joined_denominator n a = least_common n (den_of a)
 
 -- the least common denominator
 abbrev pub common_denominator : List Exact → ℕ
-common_denominator xs = fold joined 1 xs
+common_denominator xs = fold joined_denominator 1 xs
 
 -- the numerator over the denominator n, of a fraction of at least 0 whose denominator divides n
 abbrev pub numerator_over : ℕ → Exact → ℕ

@@ -1,7 +1,7 @@
 //! The best bound of a program's rows: the end of its run.
 ghost use Rattle.std.specs.Prelude.{◌≡◌, ◌<◌, map, IfOk, IfErr, OnOk};
 ghost use Rattle.dd_fraction.specs.Exact.{whole_of};
-ghost use Rattle.dd_discharge.specs.Amounts.{IsCertified};
+ghost use Rattle.dd_discharge.specs.Amounts.{IsCertifiedBound};
 ghost use Rattle.dd_discharge.specs.Printed.{IsSmallBound};
 ghost use Rattle.dd_discharge.specs.Bounds.{in_fractions, EndsWith, GivesNone};
 ghost use Rattle.dd_discharge.specs.listing.Tables.{AreRowsOf};
@@ -48,7 +48,7 @@ pub(crate) fn best_of(
 ) -> Result<Bound, DischargeFault>
     requires { AreRowsOf columns rows.now }
     ensures ends { IfOk result (EndsWith (in_fractions columns rows.now) pivots) }
-    ensures certified { IfOk result (IsCertified rows.now columns) }
+    ensures certified { IfOk result (IsCertifiedBound rows.now columns) }
     ensures small { IfOk result IsSmallBound }
     ensures err { IfErr result (GivesNone (in_fractions columns rows.now) pivots) }
 {

@@ -3,7 +3,7 @@
 ghost use Rattle.std.specs.Prelude.{◌≡◌, ℕ, ◌+◌, ◌*◌, ◌<◌, ◌≤◌, ◌^◌, pos, ◌-ℤ◌, ◌*ℤ◌, ◌≤ℤ◌, length, slice_index_or, unsigned_abs, true, false};
 ghost use Rattle.std.specs.List.{All};
 ghost use Rattle.dd_fraction.specs.Exact.{IsLowest};
-ghost use Rattle.dd_discharge.specs.Amounts.{total_below, coefficient_in, column_value, MeetRows, column_sum, dual_worth, AreDualsOver, IsCertified, bound_claimed};
+ghost use Rattle.dd_discharge.specs.Amounts.{total_below, coefficient_in, column_value, MeetRows, column_sum, dual_worth, AreDualsOver, IsCertifiedBound, bound_claimed};
 ghost use Rattle.dd_discharge.specs.Denominators.{most_printed};
 ghost use Rattle.dd_discharge.specs.listing.Tables.{AreRowsOf};
 
@@ -130,8 +130,8 @@ pub(crate) fn is_certified(rows: &[Row], columns: usize, claimed: &ClaimedBound)
     requires rows { AreRowsOf columns rows.now }
     requires numerator { claimed.now.numerator ≤ most_printed }
     requires common { claimed.now.common ≤ most_printed }
-    ensures yes { result ≡ true → IsCertified rows.now columns (bound_claimed claimed.now.numerator claimed.now.denominator claimed.now.common claimed.now.amounts.now claimed.now.duals.now) }
-    ensures no { result ≡ false → IsCertified rows.now columns (bound_claimed claimed.now.numerator claimed.now.denominator claimed.now.common claimed.now.amounts.now claimed.now.duals.now) → ⊥ }
+    ensures yes { result ≡ true → IsCertifiedBound rows.now columns (bound_claimed claimed.now.numerator claimed.now.denominator claimed.now.common claimed.now.amounts.now claimed.now.duals.now) }
+    ensures no { result ≡ false → IsCertifiedBound rows.now columns (bound_claimed claimed.now.numerator claimed.now.denominator claimed.now.common claimed.now.amounts.now claimed.now.duals.now) → ⊥ }
 {
     let ClaimedBound {
         numerator,

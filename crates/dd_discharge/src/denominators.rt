@@ -4,7 +4,7 @@ ghost use Rattle.std.specs.List.{fold, All, Any};
 ghost use Rattle.dd_fraction.specs.Exact.{den_of};
 ghost use Rattle.dd_fraction.specs.Order.{IsNonneg};
 ghost use Rattle.dd_simplex.specs.Programs.{fraction_at};
-ghost use Rattle.dd_discharge.specs.Denominators.{least_common, joined, common_denominator, numerator_over, most_printed, printed, HasUnprinted, IsPrintedAs};
+ghost use Rattle.dd_discharge.specs.Denominators.{least_common, joined_denominator, common_denominator, numerator_over, most_printed, printed, HasUnprinted, IsPrintedAs};
 ghost use Rattle.dd_discharge.specs.Printed.{IsSmallBound};
 ghost use Rattle.dd_discharge.specs.Faults.{OnOverflow};
 
@@ -31,7 +31,7 @@ fn printed(number: u128) -> Option<u64>
 /// The least common multiple of a denominator and the fraction's, if it can be printed.
 fn joined(common: u64, fraction: &Fraction) -> Option<u64>
     requires { 0 < common }
-    ensures { result ≡ printed (joined common fraction.now) }
+    ensures { result ≡ printed (joined_denominator common fraction.now) }
 {
     // Over the fraction's denominator, in lowest terms, the numerator is what the two have not in common.
     let ratio = Fraction::new(common as i128, fraction.den())?;
@@ -46,7 +46,7 @@ fn joined(common: u64, fraction: &Fraction) -> Option<u64>
 fn joined_all(common: u64, fractions: &[Fraction]) -> Option<u64>
     requires above { 0 < common }
     requires below { common ≤ most_printed }
-    ensures { result ≡ printed (fold joined common fractions.now) }
+    ensures { result ≡ printed (fold joined_denominator common fractions.now) }
 {
     let mut common = common;
     for fraction in fractions {

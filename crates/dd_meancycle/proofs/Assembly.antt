@@ -8,8 +8,8 @@ use Rattle.std.proofs.Math.Nat.{mul-le-mul_right, le_of_mul-le-mul_right}
 use Rattle.dd_meancycle.specs.declared.edges.Edge.{Edge}
 use Rattle.dd_meancycle.specs.declared.rises.Ratio.{Ratio}
 use Rattle.dd_meancycle.specs.declared.rises.Steep.{Steep}
-use Rattle.dd_meancycle.specs.table.Levels.{at, row, least, weight_at, AreRows, IsEdgeOf, IsAtMost}
-use Rattle.dd_meancycle.specs.table.Walks.{IsWalk, AreAmong, weight_of, potential, ArePotentials, AreRanks}
+use Rattle.dd_meancycle.specs.table.Levels.{at, row, least, level_weight_at, AreRows, IsEdgeOf, IsAtMost}
+use Rattle.dd_meancycle.specs.table.Walks.{IsWalk, AreAmong, edges_weight, natural_potential, AreEdgePotentials, AreEdgeRanks}
 use Rattle.dd_meancycle.specs.table.Rises.{Reads, IsSteepest, IsPotential, IsGentlest, HasRiseIn, IsReduced, IsTurn, IsRank, IsHeight}
 use Rattle.dd_meancycle.specs.table.LeastMean.{IsLeastMean}
 use Rattle.dd_meancycle.proofs.LevelLaws.{row_length, least_start, least_upper}
@@ -17,7 +17,7 @@ use Rattle.dd_meancycle.proofs.WalkLaws.{cycle_weighs}
 use Rattle.dd_meancycle.proofs.Karp.{cycle_light, IsLowest, HasRise, IsAbove, potential_rises, Under, under}
 use Rattle.dd_meancycle.proofs.Gentle.{rise_down}
 
-pub weight_row : (edges : List Edge) (n : ℕ) (levels : List (List (Option ℕ))) (k v : ℕ) → AreRows edges n levels → k < length levels → weight_at levels k v ≡ least edges n k v
+pub weight_row : (edges : List Edge) (n : ℕ) (levels : List (List (Option ℕ))) (k v : ℕ) → AreRows edges n levels → k < length levels → level_weight_at levels k v ≡ least edges n k v
 weight_row edges n levels k v rows lt = ap (λ (x : List (Option ℕ)). at x v) (rows k lt)
 
 pub reads : (edges : List Edge) (n v : ℕ) (levels : List (List (Option ℕ))) → AreRows edges n levels → length levels ≡ n + 1 → v < n → Reads levels n v
@@ -53,7 +53,7 @@ scaled w c M L m l pos e h =
 
 pub least_mean_is : (edges : List Edge) (n : ℕ) (levels : List (List (Option ℕ))) (s : Steep) (mean : Ratio) (cycle : List Edge) (ps : List ℕ) →
     All (IsEdgeOf n) edges → AreRows edges n levels → length levels ≡ n + 1 → IsGentlest levels n n s → IsReduced s.mean mean →
-    ((end : ℕ) → weight_at levels n s.state ≡ Some end → IsTurn edges n s.state end cycle) → length ps ≡ n →
+    ((end : ℕ) → level_weight_at levels n s.state ≡ Some end → IsTurn edges n s.state end cycle) → length ps ≡ n →
     ((v : ℕ) → v < n → IsPotential levels n v mean.weight mean.length (get_or ps v 0)) →
     IsLeastMean edges n mean.weight mean.length cycle ps
 least_mean_is edges n levels s mean cycle ps all rows len g r turn ps_len each =
@@ -61,24 +61,24 @@ least_mean_is edges n levels s mean cycle ps all rows len g r turn ps_len each =
     let t = turn st.end st.ends in
     let positive : 0 < s.mean.length = omega (arith, st.run_is, st.shorter) in
     let above : IsAbove edges n s.state st.end s.mean.weight s.mean.length = is_above st in
-    let light : weight_of cycle * s.mean.length ≤ s.mean.weight * length cycle =
+    let light : edges_weight cycle * s.mean.length ≤ s.mean.weight * length cycle =
     cycle_light edges n t.before t.at_state s.state t.weight st.end s.mean.weight s.mean.length cycle t.rest all t.rest_among t.rest_walk t.before_is t.turns t.lengths t.weights above in
-    let down : weight_of cycle * mean.length ≤ mean.weight * length cycle = scaled (weight_of cycle) (length cycle) s.mean.weight s.mean.length mean.weight mean.length positive r.same light in
-    let pot : ArePotentials edges mean.weight mean.length ps = λ e is_in.
+    let down : edges_weight cycle * mean.length ≤ mean.weight * length cycle = scaled (edges_weight cycle) (length cycle) s.mean.weight s.mean.length mean.weight mean.length positive r.same light in
+    let pot : AreEdgePotentials edges mean.weight mean.length ps = λ e is_in.
     let ends = All-contains (IsEdgeOf n) edges e all is_in in
-    potential_rises edges n mean.weight mean.length (potential ps e.from) (potential ps e.to) e all is_in
+    potential_rises edges n mean.weight mean.length (natural_potential ps e.from) (natural_potential ps e.to) e all is_in
     (λ end h. rises_of edges n mean.weight mean.length e.to end levels rows len
     (rise_down levels n e.to s.mean.weight s.mean.length mean.weight mean.length end positive (omega (arith, r.same))
     (g.rises e.to end ends.1 (weight_row edges n levels n e.to rows (omega arith) ∙ h))))
     (lowest edges n e.from mean.weight mean.length _ levels rows len (each e.from ends.0))
     (lowest edges n e.to mean.weight mean.length _ levels rows len (each e.to ends.1)) in
-    let low : (v : ℕ) → v < n → potential ps v ≤ mean.weight * n = λ v lt.
+    let low : (v : ℕ) → v < n → natural_potential ps v ≤ mean.weight * n = λ v lt.
     let p = each v lt in
     let h = p.least 0 0 (omega arith) (weight_row edges n levels 0 v rows (omega arith) ∙ least_start edges n v lt) in
     let z : n - 0 ≡ n = omega arith in
     let w : mean.weight * (n - 0) ≡ mean.weight * n = ap (λ (x : ℕ). mean.weight * x) z in
     omega arith in
-    let up : mean.weight * length cycle ≤ mean.length * weight_of cycle = cycle_weighs edges mean.weight mean.length ps pot cycle t.at_state t.among t.closed in
+    let up : mean.weight * length cycle ≤ mean.length * edges_weight cycle = cycle_weighs edges mean.weight mean.length ps pot cycle t.at_state t.among t.closed in
     record {
       among = t.among;
       at_state = t.at_state;
@@ -103,8 +103,8 @@ some_from None h = absurd (cc)
 some_from (Some x) h = (x, refl)
 
 pub no_cycle_is : (edges : List Edge) (n : ℕ) (levels : List (List (Option ℕ))) (ranks : List ℕ) →
-    All (IsEdgeOf n) edges → AreRows edges n levels → length levels ≡ n + 1 → ((v : ℕ) → v < n → weight_at levels n v ≡ None) →
-    ((v : ℕ) → v < n → IsRank levels n v (get_or ranks v 0)) → AreRanks edges ranks
+    All (IsEdgeOf n) edges → AreRows edges n levels → length levels ≡ n + 1 → ((v : ℕ) → v < n → level_weight_at levels n v ≡ None) →
+    ((v : ℕ) → v < n → IsRank levels n v (get_or ranks v 0)) → AreEdgeRanks edges ranks
 no_cycle_is edges n levels ranks all rows len none each = λ e is_in.
     let ends = All-contains (IsEdgeOf n) edges e all is_in in
     let u = each e.from ends.0 in
@@ -112,14 +112,14 @@ no_cycle_is edges n levels ranks all rows len none each = λ e is_in.
     let hu = u.1 in
     let hv = v.1 in
     let lu : u.0 < length levels = omega (arith, hu.below) in
-    let a = some_from (weight_at levels u.0 e.from) hu.here in
+    let a = some_from (level_weight_at levels u.0 e.from) hu.here in
     let r = under _ _ (least_upper edges n u.0 e a.0 all is_in (sym (weight_row edges n levels u.0 e.from rows lu) ∙ a.1)) in
     let lv : suc u.0 < length levels = omega (arith, hu.below) in
-    let w : weight_at levels (suc u.0) e.to ≡ Some r.value = weight_row edges n levels (suc u.0) e.to rows lv ∙ r.is in
+    let w : level_weight_at levels (suc u.0) e.to ≡ Some r.value = weight_row edges n levels (suc u.0) e.to rows lv ∙ r.is in
     elim (cases_lt (suc u.0) n) [
       | inl lt ↦ let g = hv.greatest (suc u.0) lt (ap is_some w) in omega (arith, u.2, v.2, g)
       | inr le ↦
           let f : suc u.0 ≡ n = omega (arith, hu.below) in
-          let x : weight_at levels n e.to ≡ Some r.value = subst (λ (k : ℕ). weight_at levels k e.to ≡ Some r.value) f w in
+          let x : level_weight_at levels n e.to ≡ Some r.value = subst (λ (k : ℕ). level_weight_at levels k e.to ≡ Some r.value) f w in
           absurd (let y = sym (none e.to ends.1) ∙ x in cc)
     ]

@@ -6,7 +6,7 @@ use Rattle.std.proofs.lemmas.List.{take_all}
 use Rattle.dd_transfer.specs.Graphs.{Transfer, IsTransfer, next_of, weight_at}
 use Rattle.dd_meancycle.specs.declared.edges.Edge.{Edge}
 use Rattle.dd_meancycle.specs.declared.rises.Ratio.{Ratio}
-use Rattle.dd_meancycle.specs.Means.{IsPath, IsCycle, IsLeast, IsAcyclic, ArePotentials, AreRanks, weight_of}
+use Rattle.dd_meancycle.specs.Means.{IsPath, IsCycle, IsLeastMeanCycle, IsAcyclic, ArePotentials, AreRanks, weight_of}
 use Rattle.dd_transfer.specs.Certificates.{potential_of}
 use Rattle.dd_meancycle.specs.table.Lists.{AreEdges, IsRisen, IsFallen}
 use Rattle.dd_meancycle.specs.table.Rises.{IsReduced}
@@ -26,7 +26,7 @@ weight_push g [] s = omega arith
 weight_push g (x ∷ ss) s = let rest = weight_push g ss s in omega (arith, rest)
 
 pub confirmed_is : (g : Transfer) (edges : List Edge) (cycle : List ℕ) (ps : List ℤ) (whole mean : Ratio) → AreEdges g edges → IsCycle g cycle → whole.weight ≡ weight_of g cycle → whole.length ≡ length cycle →
-    length cycle ≤ g.states → IsReduced whole mean → length ps ≡ g.states → All (λ p. unsigned_abs p ≤ 2 ^ 40) ps → IsRisen mean.weight mean.length ps edges → IsLeast g mean.weight mean.length cycle ps
+    length cycle ≤ g.states → IsReduced whole mean → length ps ≡ g.states → All (λ p. unsigned_abs p ≤ 2 ^ 40) ps → IsRisen mean.weight mean.length ps edges → IsLeastMeanCycle g mean.weight mean.length cycle ps
 confirmed_is g edges cycle ps whole mean are is_cycle weight len short reduced each small risen =
     let pot : ArePotentials g mean.weight mean.length ps = λ u t v h.
     All-contains (λ (e : Edge). (potential_of ps e.to -ℤ potential_of ps e.from) ≤ℤ (pos (mean.length * e.weight) -ℤ pos mean.weight)) edges (record { from = u; to = v; weight = weight_at g t }) risen (edge_of g edges u t v are h) in

@@ -16,10 +16,10 @@ use Rattle.dd_meancycle.specs.declared.table.EdgeMean.{EdgeMean}
 use Rattle.dd_meancycle.specs.declared.table.EdgeMean.TheVariants as edge_mean
 use Rattle.dd_meancycle.specs.declared.least.Mean.{Mean}
 use Rattle.dd_meancycle.specs.declared.least.Mean.TheVariants.{Least, NoCycle}
-use Rattle.dd_meancycle.specs.Means.{IsPath, IsCycle, IsLeast, IsAcyclic, IsMeanOf, ArePotentials, AreRanks, weight_of}
+use Rattle.dd_meancycle.specs.Means.{IsPath, IsCycle, IsLeastMeanCycle, IsAcyclic, IsMeanOf, ArePotentials, AreRanks, weight_of}
 use Rattle.dd_transfer.specs.Certificates.{potential_of}
 use Rattle.dd_meancycle.specs.table.Levels.{IsEdgeOf}
-use Rattle.dd_meancycle.specs.table.Walks.{IsWalk, AreAmong, weight_of as edges_weight, potential as natural}
+use Rattle.dd_meancycle.specs.table.Walks.{IsWalk, AreAmong, edges_weight as edges_weight, natural_potential as natural}
 use Rattle.dd_meancycle.specs.table.Lists.{edge_at, AreEdgesTo, AreEdges, IsInStates}
 use Rattle.dd_meancycle.specs.table.LeastMean.{IsMean, IsLeastMean, IsSmallMean}
 use Rattle.dd_meancycle.proofs.WalkLaws.{cycle_weighs, walk_ends}

@@ -8,7 +8,7 @@ use Rattle.std.proofs.lemmas.Nat.Gcd.{dvd_antisymm, dvd-zero, dvd_refl, le_of_dv
 use Rattle.std.proofs.Math.Nat.{mul-le-mul_right, le_of_mul-le-mul_right, mul-dvd-mul_left, dvd_of_mul-dvd-mul_left, dvd-mul_right}
 use Rattle.dd_meancycle.specs.declared.rises.Ratio.{Ratio}
 use Rattle.dd_meancycle.specs.declared.rises.Steep.{Steep}
-use Rattle.dd_meancycle.specs.table.Levels.{weight_at}
+use Rattle.dd_meancycle.specs.table.Levels.{level_weight_at}
 use Rattle.dd_meancycle.specs.table.Rises.{IsSteepest, IsGentler, HasRiseIn, IsGentlest, LeastSoFar, IsReduced}
 
 -- a rise above a greater mean is above a smaller one
@@ -20,7 +20,7 @@ gentle before end m l w r d pos a b =
     let z : (before * r + w * d) * l ≤ (end * r) * l = omega arith in z)
     pos
 
-own_rise : (levels : List (List (Option ℕ))) (last v w r end : ℕ) → IsSteepest levels last v w r → weight_at levels last v ≡ Some end → HasRiseIn levels last w r v end
+own_rise : (levels : List (List (Option ℕ))) (last v w r end : ℕ) → IsSteepest levels last v w r → level_weight_at levels last v ≡ Some end → HasRiseIn levels last w r v end
 own_rise levels last v w r end s h =
     let e : s.end ≡ end = (let f = sym s.ends ∙ h in cc) in
     let d : last - s.at_length ≡ r = omega (arith, s.run_is) in
@@ -36,7 +36,7 @@ positive levels last v w r s = omega (arith, s.run_is, s.shorter)
 -- `MatchOption here ..` as `steepest` says it
 pub gentlest_more : (levels : List (List (Option ℕ))) (last i : ℕ) (best : Option Steep) (here : Option Ratio) (r : Option Steep) →
     LeastSoFar levels last i best →
-    MatchOption here (weight_at levels last i ≡ None) (λ h. IsSteepest levels last i h.weight h.length) →
+    MatchOption here (level_weight_at levels last i ≡ None) (λ h. IsSteepest levels last i h.weight h.length) →
     MatchOption here ⊤ (λ h. (h.weight < 2 ^ 32) × (h.length < 2 ^ 31)) →
     IsGentler best i here r → LeastSoFar levels last (i + 1) r
 gentlest_more levels last i None None r old none small is = subst (LeastSoFar levels last (i + 1)) (sym is)
@@ -45,7 +45,7 @@ gentlest_more levels last i (Some o) None r old none small is = subst (LeastSoFa
     (record {
       below = omega (arith, old.below);
       steepest = old.steepest;
-      rises = λ v end lt h. elim (cases_lt v i) [ inl below ↦ old.rises v end below h | inr above ↦ let e : v ≡ i = omega arith in absurd (let f = sym none ∙ (ap (weight_at levels last) (sym e) ∙ h) in cc) ];
+      rises = λ v end lt h. elim (cases_lt v i) [ inl below ↦ old.rises v end below h | inr above ↦ let e : v ≡ i = omega arith in absurd (let f = sym none ∙ (ap (level_weight_at levels last) (sym e) ∙ h) in cc) ];
       small_weight = old.small_weight;
       small_length = old.small_length;
     })
@@ -55,7 +55,7 @@ gentlest_more levels last i None (Some h) r old steep small is = subst (LeastSoF
       steepest = steep;
       rises = λ v end lt g. elim (cases_lt v i) [
         | inl below ↦ absurd (let f = sym (old v below) ∙ g in cc)
-        | inr above ↦ let e : v ≡ i = omega arith in subst (λ (x : ℕ). HasRiseIn levels last h.weight h.length x end) (sym e) (own_rise levels last i h.weight h.length end steep (ap (weight_at levels last) (sym e) ∙ g))
+        | inr above ↦ let e : v ≡ i = omega arith in subst (λ (x : ℕ). HasRiseIn levels last h.weight h.length x end) (sym e) (own_rise levels last i h.weight h.length end steep (ap (level_weight_at levels last) (sym e) ∙ g))
       ];
       small_weight = small.0;
       small_length = small.1;
@@ -69,7 +69,7 @@ gentlest_more levels last i (Some o) (Some h) r old steep small is = elim is [
           | inl below ↦ old.rises v end below g
           | inr above ↦ let e : v ≡ i = omega arith in subst (λ (x : ℕ). HasRiseIn levels last o.mean.weight o.mean.length x end) (sym e)
               (rise_down levels last i h.weight h.length o.mean.weight o.mean.length end (positive levels last i h.weight h.length steep) keep.1
-              (own_rise levels last i h.weight h.length end steep (ap (weight_at levels last) (sym e) ∙ g)))
+              (own_rise levels last i h.weight h.length end steep (ap (level_weight_at levels last) (sym e) ∙ g)))
         ];
         small_weight = old.small_weight;
         small_length = old.small_length;
@@ -80,7 +80,7 @@ gentlest_more levels last i (Some o) (Some h) r old steep small is = elim is [
         steepest = steep;
         rises = λ v end lt g. elim (cases_lt v i) [
           | inl below ↦ rise_down levels last v o.mean.weight o.mean.length h.weight h.length end (positive levels last o.state o.mean.weight o.mean.length old.steepest) (omega (arith, new.1)) (old.rises v end below g)
-          | inr above ↦ let e : v ≡ i = omega arith in subst (λ (x : ℕ). HasRiseIn levels last h.weight h.length x end) (sym e) (own_rise levels last i h.weight h.length end steep (ap (weight_at levels last) (sym e) ∙ g))
+          | inr above ↦ let e : v ≡ i = omega arith in subst (λ (x : ℕ). HasRiseIn levels last h.weight h.length x end) (sym e) (own_rise levels last i h.weight h.length end steep (ap (level_weight_at levels last) (sym e) ∙ g))
         ];
         small_weight = small.0;
         small_length = small.1;

@@ -6,7 +6,7 @@ use Rattle.std.proofs.lemmas.Bool.{cases_lt}
 use Rattle.std.proofs.Math.Nat.{mul-le-mul_left}
 use Rattle.dd_meancycle.specs.declared.edges.Edge.{Edge}
 use Rattle.dd_meancycle.specs.table.Levels.{at, row, least, IsAtMost, IsEdgeOf}
-use Rattle.dd_meancycle.specs.table.Walks.{IsWalk, AreAmong, weight_of}
+use Rattle.dd_meancycle.specs.table.Walks.{IsWalk, AreAmong, edges_weight}
 use Rattle.dd_meancycle.proofs.LevelLaws.{least_upper, at_most_more}
 
 pub record Under (o : Option ℕ) (x : ℕ) : Type 0 where
@@ -23,7 +23,7 @@ at_most None x y e h = absurd (cc)
 at_most (Some z) x y e h = let f : z ≡ y = cc in omega arith
 
 -- a walk makes the table's weight at its end at most the weight at its start and its own
-pub walk_upper : (edges : List Edge) (n k : ℕ) (es : List Edge) (u v a : ℕ) → All (IsEdgeOf n) edges → AreAmong edges es → IsWalk u es v → least edges n k u ≡ Some a → IsAtMost (least edges n (k + length es) v) (a + weight_of es)
+pub walk_upper : (edges : List Edge) (n k : ℕ) (es : List Edge) (u v a : ℕ) → All (IsEdgeOf n) edges → AreAmong edges es → IsWalk u es v → least edges n k u ≡ Some a → IsAtMost (least edges n (k + length es) v) (a + edges_weight es)
 walk_upper edges n k [] u v a all among walk is =
     let e : k + 0 ≡ k = omega arith in
     rw (e, ← walk) (at_most (least edges n k u) (a + 0) a is (omega arith))
@@ -32,7 +32,7 @@ walk_upper edges n k (x ∷ es) u v a all among walk is =
     let r = under (least edges n (suc k) x.to) (a + x.weight) first in
     let rest = walk_upper edges n (suc k) es x.to v r.value all among.1 walk.1 r.is in
     let e : k + suc (length es) ≡ suc k + length es = omega arith in
-    rw e (at_most_more _ (r.value + weight_of es) (a + (x.weight + weight_of es)) (omega (arith, r.below)) rest)
+    rw e (at_most_more _ (r.value + edges_weight es) (a + (x.weight + edges_weight es)) (omega (arith, r.below)) rest)
 
 -- no rise to the longest walk to v has a mean above m / l
 abbrev pub IsAbove : List Edge → ℕ → ℕ → ℕ → ℕ → ℕ → Type 0
@@ -41,14 +41,14 @@ IsAbove edges n v end m l = (k before : ℕ) → k < n → least edges n k v ≡
 -- the longest walk goes round a cycle: the cycle's mean is at most m / l
 pub cycle_light : (edges : List Edge) (n i x v a end m l : ℕ) (cycle rest : List Edge) → All (IsEdgeOf n) edges →
     AreAmong edges rest → IsWalk x rest v → least edges n i x ≡ Some a → 0 < length cycle → (i + length cycle) + length rest ≡ n →
-    (a + weight_of cycle) + weight_of rest ≡ end → IsAbove edges n v end m l → weight_of cycle * l ≤ m * length cycle
+    (a + edges_weight cycle) + edges_weight rest ≡ end → IsAbove edges n v end m l → edges_weight cycle * l ≤ m * length cycle
 cycle_light edges n i x v a end m l cycle rest all among walk is some len weight above =
     let short = under _ _ (walk_upper edges n i rest x v a all among walk is) in
     let h = above (i + length rest) short.value (omega arith) short.is in
     let d : n - (i + length rest) ≡ length cycle = omega arith in
     let g : end * l ≤ short.value * l + m * length cycle = rw d at h in
-    let b : l * short.value ≤ l * (a + weight_of rest) = mul-le-mul_left l short.below in
-    let w : (a + weight_of cycle + weight_of rest) * l ≡ end * l = ap (λ (z : ℕ). z * l) weight in
+    let b : l * short.value ≤ l * (a + edges_weight rest) = mul-le-mul_left l short.below in
+    let w : (a + edges_weight cycle + edges_weight rest) * l ≡ end * l = ap (λ (z : ℕ). z * l) weight in
     omega arith
 
 -- for each state with a longest walk, some rise to it has a mean of at least m / l

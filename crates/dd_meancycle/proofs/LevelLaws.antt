@@ -6,7 +6,7 @@ use Rattle.std.proofs.lemmas.List.{length-set, get_or_past, get_or-replicate, le
 use Rattle.std.proofs.lemmas.List.Elements.{All-head, All-tail}
 use Rattle.std.proofs.lemmas.Bool.{cases_eq, cases_lt}
 use Rattle.dd_meancycle.specs.declared.edges.Edge.{Edge}
-use Rattle.dd_meancycle.specs.table.Levels.{at, lowered, lower_at, relaxed, level, row, least, IsAtMost, IsUpToIn, IsUpTo, IsEdgeOf}
+use Rattle.dd_meancycle.specs.table.Levels.{at, lowered, lower_at, relaxed, level, row, least, IsAtMost, IsUpToIn, IsRowUpTo, IsEdgeOf}
 
 -- a walk of the row before, and an edge, arrive at v with the weight b
 pub record Arrives (edges : List Edge) (prev : List (Option ℕ)) (v b : ℕ) : Type 0 where

@@ -8,7 +8,7 @@ use Rattle.std.proofs.lemmas.List.Elements.{All-contains}
 use Rattle.std.proofs.Math.Nat.{mul-le-mul_right, le_of_mul-le-mul_right}
 use Rattle.dd_meancycle.specs.declared.edges.Edge.{Edge}
 use Rattle.dd_meancycle.specs.declared.rises.Ratio.{Ratio}
-use Rattle.dd_meancycle.specs.table.Levels.{at, row, least, IsUpToIn, IsUpTo, IsEdgeOf, AreRows, weight_at}
+use Rattle.dd_meancycle.specs.table.Levels.{at, row, least, IsUpToIn, IsRowUpTo, IsEdgeOf, AreRows, level_weight_at}
 use Rattle.dd_meancycle.specs.table.Rises.{IsSteeper}
 use Rattle.dd_meancycle.proofs.LevelLaws.{Arrives, least_from, row_length}
 

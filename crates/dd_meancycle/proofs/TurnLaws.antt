@@ -7,7 +7,7 @@ use Rattle.std.proofs.lemmas.List.{reverse-append, length-reverse, length-append
 use Rattle.std.proofs.lemmas.List.Elements.{All-contains}
 use Rattle.dd_meancycle.specs.declared.edges.Edge.{Edge}
 use Rattle.dd_meancycle.specs.table.Levels.{at, row, least, IsEdgeOf}
-use Rattle.dd_meancycle.specs.table.Walks.{IsWalk, AreAmong, weight_of}
+use Rattle.dd_meancycle.specs.table.Walks.{IsWalk, AreAmong, edges_weight}
 use Rattle.dd_meancycle.specs.table.Rises.{is_back, arrives, marked, IsTurn}
 use Rattle.dd_meancycle.proofs.LevelLaws.{Arrives, least_from, row_length, at_set_same, at_set_other}
 
@@ -23,7 +23,7 @@ among_parts : (edges xs ys : List Edge) → AreAmong edges (xs ++ ys) → AreAmo
 among_parts edges [] ys h = (tt, h)
 among_parts edges (e ∷ xs) ys h = let r = among_parts edges xs ys h.1 in ((h.0, r.0), r.1)
 
-weight_append : (xs ys : List Edge) → weight_of (xs ++ ys) ≡ weight_of xs + weight_of ys
+weight_append : (xs ys : List Edge) → edges_weight (xs ++ ys) ≡ edges_weight xs + edges_weight ys
 weight_append [] ys = omega arith
 weight_append (e ∷ xs) ys = omega (arith, weight_append xs ys)
 
@@ -58,7 +58,7 @@ pub record Trail (edges : List Edge) (n v end step here weight : ℕ) (path : Li
   pub len : length path ≡ step
   pub width : length seen ≡ n
   pub here_is : least edges n (n - step) here ≡ Some weight
-  pub sum : weight + weight_of (reverse path) ≡ end
+  pub sum : weight + edges_weight (reverse path) ≡ end
   pub in_range : here < n
   pub fresh : at seen here ≡ None
   pub count : marked seen ≡ step
@@ -179,9 +179,9 @@ trail_turn edges n v end step here weight path seen marks e r all t lt m b again
     let among : AreAmong edges (reverse (path ++ e ∷ [])) = rw reverse_push (b.is_in, t.among) in
     let rest : IsWalk e.from (reverse (take r (path ++ e ∷ []))) v = rw front q.1 in
     let both = among_parts edges (reverse (drop r (path ++ e ∷ []))) (reverse (take r (path ++ e ∷ []))) (subst (AreAmong edges) parts among) in
-    let sum : weight_of (reverse (path ++ e ∷ [])) ≡ e.weight + weight_of (reverse path) = rw reverse_push refl in
-    let sums : weight_of (reverse (path ++ e ∷ [])) ≡ weight_of (reverse (drop r (path ++ e ∷ []))) + weight_of (reverse (take r (path ++ e ∷ []))) =
-    ap weight_of parts ∙ weight_append (reverse (drop r (path ++ e ∷ []))) (reverse (take r (path ++ e ∷ []))) in
+    let sum : edges_weight (reverse (path ++ e ∷ [])) ≡ e.weight + edges_weight (reverse path) = rw reverse_push refl in
+    let sums : edges_weight (reverse (path ++ e ∷ [])) ≡ edges_weight (reverse (drop r (path ++ e ∷ []))) + edges_weight (reverse (take r (path ++ e ∷ []))) =
+    ap edges_weight parts ∙ weight_append (reverse (drop r (path ++ e ∷ []))) (reverse (take r (path ++ e ∷ []))) in
     let len_cycle : length (reverse (drop r (path ++ e ∷ []))) ≡ length path + 1 - r = length-reverse (drop r (path ++ e ∷ [])) ∙ (length-drop r (path ++ e ∷ []) ∙ omega arith) in
     let len_rest : length (reverse (take r (path ++ e ∷ []))) ≡ r = length-reverse (take r (path ++ e ∷ [])) ∙ (length-take r (path ++ e ∷ []) ∙ omega arith) in
     record {

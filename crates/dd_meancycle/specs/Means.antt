@@ -31,7 +31,7 @@ abbrev pub AreRanks : Transfer → List ℕ → Type 0
 AreRanks g ranks = (u t v : ℕ) → next_of g u t ≡ Some v → slice_index ranks v < slice_index ranks u
 
 -- a cycle whose mean is m / l in lowest terms, and potentials; no cycle has a smaller mean
-pub record IsLeast (g : Transfer) (m l : ℕ) (cycle : List ℕ) (ps : List ℤ) : Type 0 where
+pub record IsLeastMeanCycle (g : Transfer) (m l : ℕ) (cycle : List ℕ) (ps : List ℤ) : Type 0 where
   pub cycle_is : IsCycle g cycle
   pub short : length cycle ≤ g.states
   pub mean : weight_of g cycle * l ≡ m * length cycle
@@ -49,5 +49,5 @@ pub record IsAcyclic (g : Transfer) (ranks : List ℕ) : Type 0 where
   pub none : (states : List ℕ) → IsCycle g states → ⊥
 
 abbrev pub IsMeanOf : Transfer → Mean → Type 0
-IsMeanOf g (Least m l cycle ps) = IsLeast g m l cycle ps
+IsMeanOf g (Least m l cycle ps) = IsLeastMeanCycle g m l cycle ps
 IsMeanOf g (NoCycle ranks) = IsAcyclic g ranks

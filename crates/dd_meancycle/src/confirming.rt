@@ -3,7 +3,7 @@
 ghost use Rattle.std.specs.Prelude.{◌≡◌, ℕ, ◌*◌, ◌%◌, ◌<◌, ◌≤◌, ◌^◌, ◌↔◌, IsTrue, IfSome, length, slice_index, pos, ◌-ℤ◌, ◌≤ℤ◌, unsigned_abs, Some};
 ghost use Rattle.std.specs.List.{All};
 ghost use Rattle.dd_transfer.specs.Graphs.{next_of, IsTransfer};
-ghost use Rattle.dd_meancycle.specs.Means.{IsCycle, IsLeast, IsAcyclic, weight_of};
+ghost use Rattle.dd_meancycle.specs.Means.{IsCycle, IsLeastMeanCycle, IsAcyclic, weight_of};
 ghost use Rattle.dd_transfer.specs.Certificates.{potential_of};
 ghost use Rattle.dd_meancycle.specs.table.Levels.{IsEdgeOf};
 ghost use Rattle.dd_meancycle.specs.table.Lists.{AreEdges, IsRisen, IsFallen};
@@ -106,7 +106,7 @@ pub(crate) fn confirmed(
     potentials: &[i64],
 ) -> Option<Ratio>
     requires { AreEdges graph.now edges.now }
-    ensures { IfSome result (λ r. IsLeast graph.now r.weight r.length cycle.now potentials.now) }
+    ensures { IfSome result (λ r. IsLeastMeanCycle graph.now r.weight r.length cycle.now potentials.now) }
 {
     if cycle.len() > graph.states() as usize || potentials.len() != graph.states() as usize {
         return None;

@@ -1,7 +1,7 @@
 //! The least weights of walks by their length.
 ghost use Rattle.std.specs.Prelude.{◌≡◌, ℕ, ◌+◌, ◌<◌, ◌^◌, length, IfOk, slice_index_or, replicate, vec_len, Some, None, []};
 ghost use Rattle.std.specs.List.{fold, All};
-ghost use Rattle.dd_meancycle.specs.table.Levels.{level, relaxed, lowered, IsUpTo, IsEdgeOf, AreRows, weight_at};
+ghost use Rattle.dd_meancycle.specs.table.Levels.{level, relaxed, lowered, IsRowUpTo, IsEdgeOf, AreRows, level_weight_at};
 
 use crate::edges::Edge;
 use std::alloc::{AllocError, Global};
@@ -34,7 +34,7 @@ fn lower(best: Option<u32>, here: u32) -> u32
 fn relax(prev: &[Option<u32>], row: &mut [Option<u32>], edge: &Edge)
     requires from { edge.now.from < length prev.now }
     requires to { edge.now.to < length row.old }
-    requires small { IsUpTo (2 ^ 31) prev.now }
+    requires small { IsRowUpTo (2 ^ 31) prev.now }
     requires light { edge.now.weight < 2 ^ 31 }
     ensures { row.new ≡ relaxed prev.now row.old edge.now }
 {
@@ -50,7 +50,7 @@ fn relax(prev: &[Option<u32>], row: &mut [Option<u32>], edge: &Edge)
 fn relax_all(prev: &[Option<u32>], row: &mut [Option<u32>], edges: &[Edge])
     requires edges { All (IsEdgeOf (length prev.now)) edges.now }
     requires same { length row.old ≡ length prev.now }
-    requires small { IsUpTo (2 ^ 31) prev.now }
+    requires small { IsRowUpTo (2 ^ 31) prev.now }
     ensures { row.new ≡ fold (relaxed prev.now) row.old edges.now }
 {
     for edge in edges {
@@ -80,7 +80,7 @@ impl Level {
 
     fn next(&self, alloc: Global, edges: &[Edge]) -> Result<Level, AllocError>
         requires edges { All (IsEdgeOf (length self.now)) edges.now }
-        requires small { IsUpTo (2 ^ 31) self.now }
+        requires small { IsRowUpTo (2 ^ 31) self.now }
         ensures { IfOk result (λ l. l ≡ level edges.now self.now) }
     {
         let prev = self.as_slice();
@@ -94,7 +94,7 @@ impl Level {
 pub(crate) fn weight_at(levels: &[Level], k: usize, state: u32) -> Option<u32>
     requires k { k < length levels.now }
     requires state { state < length (slice_index_or levels.now k []) }
-    ensures { result ≡ weight_at levels.now k state }
+    ensures { result ≡ level_weight_at levels.now k state }
 {
     let level = levels[k].as_slice();
     level[state as usize]

@@ -1,7 +1,7 @@
 //! Means of rises in the table of least weights, potentials and ranks.
 ghost use Rattle.std.specs.Prelude.{◌≡◌, ℕ, ◌-◌, ◌*◌, ◌<◌, ◌≤◌, ◌^◌, length, IfOk, slice_index_or, MatchOption, ⊤, Option, None};
 ghost use Rattle.std.specs.Int.{IsGcd};
-ghost use Rattle.dd_meancycle.specs.table.Levels.{weight_at};
+ghost use Rattle.dd_meancycle.specs.table.Levels.{level_weight_at};
 ghost use Rattle.dd_meancycle.specs.table.Rises.{Reads, IsSteepest, IsPotential, IsSteeper, IsLesser, IsGentler, LeastSoFar, IsHeight, IsRank, IsReduced};
 
 use crate::levels::{Level, weight_at};
@@ -18,7 +18,7 @@ fn steepest(levels: &[Level], last: usize, state: u32) -> Option<Ratio>
     requires last { 0 < last }
     requires few { last < 2 ^ 31 }
     requires reads { Reads levels.now last state }
-    ensures is { MatchOption result (weight_at levels.now last state ≡ None) (λ r. IsSteepest levels.now last state r.weight r.length) }
+    ensures is { MatchOption result (level_weight_at levels.now last state ≡ None) (λ r. IsSteepest levels.now last state r.weight r.length) }
     ensures small { MatchOption result ⊤ (λ r. (r.weight < 2 ^ 32) × (r.length < 2 ^ 31)) }
 {
     let end = weight_at(levels, last, state)?;

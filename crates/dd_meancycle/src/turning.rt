@@ -1,7 +1,7 @@
 //! A cycle on a walk of the table's greatest length.
 ghost use Rattle.std.specs.Prelude.{◌≡◌, ℕ, ◌+◌, ◌<◌, ◌≤◌, ◌^◌, length, IfOk, replicate, reverse, Some, None, drop};
 ghost use Rattle.std.specs.List.{All, find};
-ghost use Rattle.dd_meancycle.specs.table.Levels.{IsEdgeOf, AreRows, weight_at};
+ghost use Rattle.dd_meancycle.specs.table.Levels.{IsEdgeOf, AreRows, level_weight_at};
 ghost use Rattle.dd_meancycle.specs.table.Rises.{is_back, IsTurn};
 
 use crate::edges::Edge;
@@ -61,7 +61,7 @@ pub(crate) fn turn(
     requires len { length levels.now ≡ last + 1 }
     requires state { state < last }
     requires few { last < 2 ^ 31 }
-    ensures { IfOk result (λ c. (end : ℕ) → weight_at levels.now last state ≡ Some end → IsTurn edges.now last state end c.items) }
+    ensures { IfOk result (λ c. (end : ℕ) → level_weight_at levels.now last state ≡ Some end → IsTurn edges.now last state end c.items) }
 {
     let mut path = Vec::new(alloc);
     let Some(end) = weight_at(levels, last, state) else {

@@ -19,7 +19,7 @@ use Rattle.dd_transfer.specs.declared.strip.Strip.{Strip}
 use Rattle.dd_transfer.specs.Windows.{IsFor, IsWindow, cells, positions, digits, stand}
 use Rattle.dd_transfer.specs.Transfers.{slice_weight}
 use Rattle.dd_transfer.specs.Certificates.{IsClosedWalk, last_slice, walk_weight}
-use Rattle.dd_transfer.specs.Slices.{IsKeptFrom, cell_from, symbols_from, number_of, slices_from, window_from}
+use Rattle.dd_transfer.specs.Slices.{IsKeptFrom, cell_from, symbols_from, number_with_digits, slices_from, window_from}
 use Rattle.dd_transfer.specs.Laws.{AreDigits, AreEdgesOf}
 use Rattle.dd_strips.specs.Strips.{LivesOnStrip, slices_weight, tile_weight}
 use Rattle.dd_strips.proofs.Residues.{residue_below, residue_small}
@@ -138,10 +138,10 @@ module _ (r : LocalRule) (s : Strip) (walk : List ℕ) (rule : IsRule r) (for : 
     slice_there : (x : ℤ) → slices_from r s (tile_look (tile_of r s walk)) x 1 ≡ last_slice r s (state_at r s walk x)
     slice_there x =
         let power : slices r (positions s) ≡ r.symbols ^ cells s = ap (λ (n : ℕ). r.symbols ^ (n * positions s)) (sym for.nodes) in
-        ap (number_of r.symbols) (symbols_there x) ∙ numbers.number_is (cells s) (last_slice r s (state_at r s walk x)) (omega (arith, last_below x, power))
+        ap (number_with_digits r.symbols) (symbols_there x) ∙ numbers.number_is (cells s) (last_slice r s (state_at r s walk x)) (omega (arith, last_below x, power))
 
     none_there : (x : ℤ) → slices_from r s (tile_look (tile_of r s walk)) x 0 ≡ 0
-    none_there x = ap (λ (k : ℕ). number_of r.symbols (map (λ i. unwrap_or (tile_look (tile_of r s walk) (cell_from s x i)) 0) (range_with_len 0 k))) (let e : 0 * cells s ≡ 0 = omega arith in e)
+    none_there x = ap (λ (k : ℕ). number_with_digits r.symbols (map (λ i. unwrap_or (tile_look (tile_of r s walk) (cell_from s x i)) 0) (range_with_len 0 k))) (let e : 0 * cells s ≡ 0 = omega arith in e)
 
     further : (y : ℤ) (n : ℕ) → ((y +ℤ pos 1) +ℤ pos n) ≡ y +ℤ pos (suc n)
     further y n = omega (arith, ints)

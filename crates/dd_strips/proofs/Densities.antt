@@ -12,8 +12,8 @@ use Rattle.dd_expansion.specs.Limits.{greatest}
 use Rattle.dd_transfer.specs.declared.strip.Strip.{Strip}
 use Rattle.dd_transfer.specs.Windows.{IsFor, positions}
 use Rattle.dd_transfer.specs.Transfers.{IsStrip, strip_for}
-use Rattle.dd_transfer.specs.Certificates.{ArePotentials, IsDensityCertificate, IsEmptyCertificate, potential_of, walk_weight}
-use Rattle.dd_transfer.specs.Slices.{RepeatsAcross, state_from, number_of}
+use Rattle.dd_transfer.specs.Certificates.{AreStripPotentials, IsDensityCertificate, IsEmptyCertificate, potential_of, walk_weight}
+use Rattle.dd_transfer.specs.Slices.{RepeatsAcross, state_from, number_with_digits}
 use Rattle.dd_transfer.specs.Laws.{AreDigits, AreEdgesOf}
 use Rattle.dd_strips.specs.Strips.{IsAdmissibleStrip, LivesOnStrip, LivesNowhere, slices_weight, tile_weight}
 use Rattle.dd_strips.specs.Claims.{IsHeavy, IsShortStrip, StripLeast, StripEmpty, spread_of}
@@ -70,7 +70,7 @@ volume_is s t y z =
 
 module _ (r : LocalRule) (s : Strip) (rule : IsRule r) (for : IsFor r s) (edges : AreEdges r s) where
   -- an admissible filling is a walk
-  pub fillings_heavy : (ws : List ℕ) (m l : ℕ) (ps : List ℤ) → ArePotentials r s ws m l ps → IsHeavy r s ws m l (spread_of ps)
+  pub fillings_heavy : (ws : List ℕ) (m l : ℕ) (ps : List ℤ) → AreStripPotentials r s ws m l ps → IsHeavy r s ws m l (spread_of ps)
   fillings_heavy ws m l ps potentials j x look strip =
       let e = edges look strip.filling.repeats in
       walk_is_heavy r s look e ws m l ps potentials x j (filling_steps r s look rule e x j strip)
@@ -108,13 +108,13 @@ module _ (r : LocalRule) (s : Strip) (rule : IsRule r) (for : IsFor r s) (edges 
     }
 
     -- and comes back to its state after its period
-    tile_heavy : (ws : List ℕ) (m l : ℕ) (ps : List ℤ) → ArePotentials r s ws m l ps → m * t.periods.x ≤ l * tile_weight ws t
+    tile_heavy : (ws : List ℕ) (m l : ℕ) (ps : List ℤ) → AreStripPotentials r s ws m l ps → m * t.periods.x ≤ l * tile_weight ws t
     tile_heavy ws m l ps potentials =
         let look = tile_look t in
         let n = t.periods.x in
         let walk = walk_weighs r s look tile_edges ws m l ps potentials (pos 0) n (λ i _. tile_step (pos 0 +ℤ pos i)) in
         let back : potential_of ps (state_from r s look (pos 0 +ℤ pos n)) ≡ potential_of ps (state_from r s look (pos 0)) =
-        ap (λ (ds : List ℕ). potential_of ps (number_of r.symbols ds)) (symbols_round r s t for known_tile (pos 0) (window r)) in
+        ap (λ (ds : List ℕ). potential_of ps (number_with_digits r.symbols ds)) (symbols_round r s t for known_tile (pos 0) (window r)) in
         let weighs : slices_weight s ws look (pos 0 +ℤ pos (window r)) n ≡ tile_weight ws t =
         ap (λ (z : ℤ). slices_weight s ws look z n) (let e : (pos 0 +ℤ pos (window r)) ≡ pos (window r) = omega (arith, ints) in e) ∙ period_weighs r s t for known_tile ws tile_edges (window r) in
         let heavy : m * n ≤ l * slices_weight s ws look (pos 0 +ℤ pos (window r)) n = no_rise _ _ (m * n) (l * slices_weight s ws look (pos 0 +ℤ pos (window r)) n) back walk in

@@ -14,7 +14,7 @@ use Rattle.dd_expansion.specs.Limits.{greatest}
 use Rattle.dd_transfer.specs.declared.strip.Strip.{Strip}
 use Rattle.dd_transfer.specs.Windows.{cells, positions}
 use Rattle.dd_transfer.specs.Transfers.{IsEdge, slice_weight}
-use Rattle.dd_transfer.specs.Certificates.{ArePotentials, IsEmptyCertificate, potential_of}
+use Rattle.dd_transfer.specs.Certificates.{AreStripPotentials, IsEmptyCertificate, potential_of}
 use Rattle.dd_transfer.specs.Slices.{HasSlices, IsKeptFrom, cell_from, symbols_from, slices_from, state_from}
 use Rattle.dd_transfer.specs.Laws.{AreEdgesOf}
 use Rattle.dd_strips.specs.Strips.{slices_weight}
@@ -75,7 +75,7 @@ module _ (r : LocalRule) (s : Strip) (look : Look) (edges : AreEdgesOf r s look)
       ap (slices_weight s ws look x) (let e : suc n ≡ n + 1 = omega arith in e)
       ∙ (ap (total_weight ws) (edges.joined x n 1) ∙ sum_by-append (slice_index ws) (symbols_from s look x n) (symbols_from s look (x +ℤ pos n) 1))
 
-  module _ (ws : List ℕ) (m l : ℕ) (ps : List ℤ) (potentials : ArePotentials r s ws m l ps) where
+  module _ (ws : List ℕ) (m l : ℕ) (ps : List ℤ) (potentials : AreStripPotentials r s ws m l ps) where
     pub walk_weighs : (x : ℤ) (j : ℕ) → AreSteps r look x j →
         (potential_of ps (state_from r s look (x +ℤ pos j)) +ℤ pos (m * j)) ≤ℤ (potential_of ps (state_from r s look x) +ℤ pos (l * slices_weight s ws look (x +ℤ pos (window r)) j))
     walk_weighs x zero steps =

@@ -9,7 +9,7 @@ use Rattle.dd_pattern.specs.Periods.{residue}
 use Rattle.dd_formula.specs.LocalRule.{LocalRule, rule_allows}
 use Rattle.dd_formula.specs.Allowed.{AreAllowed}
 use Rattle.dd_transfer.specs.declared.strip.Strip.{Strip}
-use Rattle.dd_transfer.specs.Windows.{IsSized, IsFor, IsFull, Shown, cells, positions, slice_index_of, window_index, shown_look, cell_at}
+use Rattle.dd_transfer.specs.Windows.{IsSized, IsFor, IsFullWindow, Shown, cells, positions, slice_index_of, window_index, shown_look, cell_at}
 use Rattle.dd_transfer.specs.placing.Formulas.{AllowsAll}
 use Rattle.dd_transfer.proofs.Stands.{le_from}
 use Rattle.dd_transfer.proofs.Places.{parts_of, index_of_cell}
@@ -31,7 +31,7 @@ symbol_allowed r a [] i h = tt
 symbol_allowed r a (x ∷ xs) zero h = h (omega arith)
 symbol_allowed r a (x ∷ xs) (suc i) h = symbol_allowed r a xs i (λ lt. h (omega arith))
 
-pub all_allowed : (r : LocalRule) (w : Shown) → IsFull r w → ((k : ℕ) → k < length w.symbols → allowed_at r w k) → AreAllowed r (shown_look w)
+pub all_allowed : (r : LocalRule) (w : Shown) → IsFullWindow r w → ((k : ℕ) → k < length w.symbols → allowed_at r w k) → AreAllowed r (shown_look w)
 all_allowed r w full h c =
     cond_both (int_le (pos 0) c.position.x && nat_lt c.node w.strip.nodes) (slice_get w.symbols (window_index w.strip c)) None (λ o. IfSome o (λ s. rule_allows r c.node s ≡ true))
     (λ inside.
@@ -42,7 +42,7 @@ all_allowed r w full h c =
     (λ _. tt)
 
 -- where each node allows all symbols
-pub allowed_by_all : (r : LocalRule) (w : Shown) → IsFull r w → AllowsAll r → (k : ℕ) → k < length w.symbols → allowed_at r w k
+pub allowed_by_all : (r : LocalRule) (w : Shown) → IsFullWindow r w → AllowsAll r → (k : ℕ) → k < length w.symbols → allowed_at r w k
 allowed_by_all r w full all k lt =
     let some : 0 < r.nodes = omega (arith, full.strip_for.sized.nodes_some, full.strip_for.nodes) in
     all (k % r.nodes) (mod_below k r.nodes some) (get_or w.symbols k 0) (full.known k 0 lt)
@@ -71,7 +71,7 @@ seen_at [] k h = absurd (omega arith)
 seen_at (x ∷ xs) zero h = refl
 seen_at (x ∷ xs) (suc k) h = seen_at xs k (omega arith)
 
-pub allowed_each : (r : LocalRule) (w : Shown) → IsFull r w → AreAllowed r (shown_look w) → (k : ℕ) → k < length w.symbols → allowed_at r w k
+pub allowed_each : (r : LocalRule) (w : Shown) → IsFullWindow r w → AreAllowed r (shown_look w) → (k : ℕ) → k < length w.symbols → allowed_at r w k
 allowed_each r w full h k lt =
     let s = w.strip in
     let sized = full.strip_for.sized in

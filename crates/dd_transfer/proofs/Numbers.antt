@@ -9,7 +9,7 @@ use Rattle.std.proofs.lemmas.List.FromFn.{map-range_with_len_more, length-map-ra
 use Rattle.std.proofs.lemmas.List.Elements.{All-head, All-tail}
 use Rattle.std.proofs.lemmas.List.Sums.{fold-append}
 use Rattle.dd_transfer.specs.Windows.{digits}
-use Rattle.dd_transfer.specs.Slices.{number_of}
+use Rattle.dd_transfer.specs.Slices.{number_with_digits}
 use Rattle.dd_transfer.specs.Laws.{AreDigits}
 use Rattle.dd_transfer.proofs.Digits.{digits_length, digits_below}
 
@@ -17,21 +17,21 @@ abbrev pub step : ℕ → ℕ → ℕ → ℕ
 step base n d = n * base + d
 
 -- a number that is followed by digits
-pub followed : (base n : ℕ) (ds : List ℕ) → fold (step base) n ds ≡ n * base ^ length ds + number_of base ds
+pub followed : (base n : ℕ) (ds : List ℕ) → fold (step base) n ds ≡ n * base ^ length ds + number_with_digits base ds
 followed base n [] =
     let one : n * base ^ 0 ≡ n * 1 = ap (λ (x : ℕ). n * x) (pow-zero base) in
     let all : n ≡ n * base ^ 0 + 0 = omega (arith, one) in
     all
 followed base n (d ∷ ds) =
     let p = base ^ length ds in
-    let one : fold (step base) (n * base + d) ds ≡ (n * base + d) * p + number_of base ds = followed base (n * base + d) ds in
-    let two : fold (step base) (0 * base + d) ds ≡ (0 * base + d) * p + number_of base ds = followed base (0 * base + d) ds in
+    let one : fold (step base) (n * base + d) ds ≡ (n * base + d) * p + number_with_digits base ds = followed base (n * base + d) ds in
+    let two : fold (step base) (0 * base + d) ds ≡ (0 * base + d) * p + number_with_digits base ds = followed base (0 * base + d) ds in
     let three : base ^ suc (length ds) ≡ p * base = pow-suc base (length ds) in
     let four : n * base ^ suc (length ds) ≡ n * (p * base) = ap (λ (x : ℕ). n * x) three in
     omega (arith, one, two, four)
 
-pub joined : (base : ℕ) (ds es : List ℕ) → number_of base (ds ++ es) ≡ number_of base ds * base ^ length es + number_of base es
-joined base ds es = fold-append (step base) 0 ds es ∙ followed base (number_of base ds) es
+pub joined : (base : ℕ) (ds es : List ℕ) → number_with_digits base (ds ++ es) ≡ number_with_digits base ds * base ^ length es + number_with_digits base es
+joined base ds es = fold-append (step base) 0 ds es ∙ followed base (number_with_digits base ds) es
 
 -- digits that follow a number are digits behind its digits
 after : (base m n : ℕ) (ds : List ℕ) → All (λ d. d < base) ds → digits base (m + length ds) (fold (step base) n ds) ≡ digits base m n ++ ds
@@ -51,10 +51,10 @@ after base m n (d ∷ ds) ok =
     ∙ (ap (λ (x : ℕ). (digits base m x ++ (n * base + d) % base ∷ []) ++ ds) q
     ∙ (ap (λ (x : ℕ). (digits base m n ++ x ∷ []) ++ ds) r ∙ append_assoc (digits base m n) (d ∷ []) ds)))
 
-pub digits_of : (base : ℕ) (ds : List ℕ) → All (λ d. d < base) ds → digits base (length ds) (number_of base ds) ≡ ds
-digits_of base ds ok = ap (λ (k : ℕ). digits base k (number_of base ds)) (let e : length ds ≡ 0 + length ds = omega arith in e) ∙ after base 0 0 ds ok
+pub digits_of : (base : ℕ) (ds : List ℕ) → All (λ d. d < base) ds → digits base (length ds) (number_with_digits base ds) ≡ ds
+digits_of base ds ok = ap (λ (k : ℕ). digits base k (number_with_digits base ds)) (let e : length ds ≡ 0 + length ds = omega arith in e) ∙ after base 0 0 ds ok
 
-pub number_is : (base count n : ℕ) → n < base ^ count → number_of base (digits base count n) ≡ n
+pub number_is : (base count n : ℕ) → n < base ^ count → number_with_digits base (digits base count n) ≡ n
 number_is base zero n lt = omega (arith, pow-zero base)
 number_is base (suc count) n lt =
     let small : n < base ^ count * base = omega (arith, lt, pow-suc base count) in
@@ -67,13 +67,13 @@ number_is base (suc count) n lt =
     positive zero p n h = absurd (omega arith)
     positive (suc b) p n h = omega arith
 
-pub number_below : (base : ℕ) (ds : List ℕ) → All (λ d. d < base) ds → number_of base ds < base ^ length ds
+pub number_below : (base : ℕ) (ds : List ℕ) → All (λ d. d < base) ds → number_with_digits base ds < base ^ length ds
 number_below base [] ok = omega (arith, pow-zero base)
 number_below base (d ∷ ds) ok =
     let p = base ^ length ds in
     let lt : d < base = All-head (λ d. d < base) d ds ok in
     let rest = number_below base ds (All-tail (λ d. d < base) d ds ok) in
-    let whole : number_of base (d ∷ ds) ≡ (0 * base + d) * p + number_of base ds = followed base (0 * base + d) ds in
+    let whole : number_with_digits base (d ∷ ds) ≡ (0 * base + d) * p + number_with_digits base ds = followed base (0 * base + d) ds in
     let room : suc d * p ≤ base * p = mul-le-mul_right p lt in
     omega (arith, rest, whole, room, pow-suc base (length ds))
 

@@ -17,7 +17,7 @@ use Rattle.dd_numbered.specs.Numbered.{holds_in}
 use Rattle.dd_numbered.specs.Numbering.{read_by, symbol_with}
 use Rattle.dd_formula.specs.LocalRule.{LocalRule, is_true}
 use Rattle.dd_transfer.specs.declared.strip.Strip.{Strip}
-use Rattle.dd_transfer.specs.Windows.{Shown, IsFull, IsTrueAlong, cells, cell_at, shown_look, stand, window_index, window_look}
+use Rattle.dd_transfer.specs.Windows.{Shown, IsFullWindow, IsTrueAlong, cells, cell_at, shown_look, stand, window_index, window_look}
 use Rattle.dd_transfer.specs.placing.Formulas.{Standpoint, standpoint, window_numbers, numbers_near, SaysAt, ArePlaces}
 use Rattle.dd_transfer.proofs.Truths.{window_below, along_from_slice, slice_from_along}
 
@@ -84,7 +84,7 @@ each_true f [] h k d lt = absurd (omega arith)
 each_true f (e ∷ es) h zero d lt = (and_parts (f e) (list_all f es) h).0
 each_true f (e ∷ es) h (suc k) d lt = each_true f es (and_parts (f e) (list_all f es) h).1 k d (omega (arith, lt))
 
-place_says : (r : LocalRule) (w : Shown) (es : List Numbered) → IsFull r w → ArePlaces r w.strip es → (k : ℕ) (d : Numbered) → k < cells w.strip →
+place_says : (r : LocalRule) (w : Shown) (es : List Numbered) → IsFullWindow r w → ArePlaces r w.strip es → (k : ℕ) (d : Numbered) → k < cells w.strip →
     holds_in (get_or es k d) w.symbols ≡ is_true r (cell_at w.strip (stand r) k) (shown_look w)
 place_says r w es full places k d lt = places.says k d lt w.symbols (window_below r w full)
 
@@ -92,13 +92,13 @@ nothing : Numbered
 nothing = roll-Numbered (Numbered-F.Constant false)
 
 -- the rule is true along the slice where all formulas are
-pub along_from_formulas : (r : LocalRule) (w : Shown) (es : List Numbered) → IsFull r w → ArePlaces r w.strip es → list_all (λ e. holds_in e w.symbols) es ≡ true →
+pub along_from_formulas : (r : LocalRule) (w : Shown) (es : List Numbered) → IsFullWindow r w → ArePlaces r w.strip es → list_all (λ e. holds_in e w.symbols) es ≡ true →
     IsTrueAlong r (stand r) (shown_look w)
 along_from_formulas r w es full places h =
     along_from_slice r w (stand r) full.strip_for (λ k lt.
     sym (place_says r w es full places k nothing lt) ∙ each_true (λ e. holds_in e w.symbols) es h k nothing (omega (arith, lt, places.each)))
 
-pub formulas_from_along : (r : LocalRule) (w : Shown) (es : List Numbered) → IsFull r w → ArePlaces r w.strip es → IsTrueAlong r (stand r) (shown_look w) →
+pub formulas_from_along : (r : LocalRule) (w : Shown) (es : List Numbered) → IsFullWindow r w → ArePlaces r w.strip es → IsTrueAlong r (stand r) (shown_look w) →
     list_all (λ e. holds_in e w.symbols) es ≡ true
 formulas_from_along r w es full places h =
     all_true (λ e. holds_in e w.symbols) es (λ k d lt.

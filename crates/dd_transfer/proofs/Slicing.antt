@@ -13,7 +13,7 @@ use Rattle.dd_counts.specs.Rules.{slices}
 use Rattle.dd_transfer.specs.declared.strip.Strip.{Strip}
 use Rattle.dd_transfer.specs.Windows.{IsSized, IsFor, cells, positions, cell_at, digits}
 use Rattle.dd_transfer.specs.Transfers.{slice_weight}
-use Rattle.dd_transfer.specs.Slices.{IsInSlices, HasSlices, cell_from, symbols_from, number_of, slices_from}
+use Rattle.dd_transfer.specs.Slices.{IsInSlices, HasSlices, cell_from, symbols_from, number_with_digits, slices_from}
 use Rattle.dd_transfer.proofs.Alphabets.{some_cells}
 use Rattle.dd_transfer.proofs.Numbers.{joined, digits_of, number_below, listed, listed-same, listed-add, length-listed, listed-all}
 
@@ -107,7 +107,7 @@ module _ (r : LocalRule) (s : Strip) (look : Look) (for : IsFor r s) where
       let ds = symbols_from s look x m in
       let es = symbols_from s look (x +ℤ pos m) n in
       let power : b ^ length es ≡ slices r (positions s) ^ n = ap (λ (k : ℕ). b ^ k) (length-symbols (x +ℤ pos m) n) ∙ sym (slices_powers n) in
-      ap (number_of b) (symbols_joined x m n) ∙ (joined b ds es ∙ ap (λ (p : ℕ). number_of b ds * p + number_of b es) power)
+      ap (number_with_digits b) (symbols_joined x m n) ∙ (joined b ds es ∙ ap (λ (p : ℕ). number_with_digits b ds * p + number_with_digits b es) power)
 
   pub slices_longer : (x : ℤ) (n : ℕ) → slices_from r s look x (n + 1) ≡ slices_from r s look x n * slices r (positions s) + slices_from r s look (x +ℤ pos n) 1
   slices_longer x n =

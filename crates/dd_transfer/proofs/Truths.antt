@@ -12,7 +12,7 @@ use Rattle.dd_expansion.specs.Terms.{origin_at}
 use Rattle.dd_formula.specs.LocalRule.{LocalRule, is_true}
 use Rattle.dd_formula.specs.lemmas.RuleLaws.{truth_moved_back}
 use Rattle.dd_transfer.specs.declared.strip.Strip.{Strip}
-use Rattle.dd_transfer.specs.Windows.{IsSized, IsFor, IsFull, Shown, cells, slice_index_of, window_index, shown_look, cell_at, IsTrueAlong}
+use Rattle.dd_transfer.specs.Windows.{IsSized, IsFor, IsFullWindow, Shown, cells, slice_index_of, window_index, shown_look, cell_at, IsTrueAlong}
 use Rattle.dd_transfer.proofs.Places.{parts_of, slice_below, cell_at_index, residue_moved, flat_at}
 
 below_at : (n : ℕ) (xs : List ℕ) → All (λ s. s < n) xs → (i : ℕ) → IfSome (slice_get xs i) (λ s. s < n)
@@ -20,7 +20,7 @@ below_at n [] h i = tt
 below_at n (x ∷ xs) h zero = h zero x (omega arith)
 below_at n (x ∷ xs) h (suc i) = below_at n xs (λ k d within. h (suc k) d (omega arith)) i
 
-pub window_below : (r : LocalRule) (w : Shown) → IsFull r w → HasSymbolsBelow r.symbols (shown_look w)
+pub window_below : (r : LocalRule) (w : Shown) → IsFullWindow r w → HasSymbolsBelow r.symbols (shown_look w)
 window_below r w full c =
     cond_both (int_le (pos 0) c.position.x && nat_lt c.node w.strip.nodes) (slice_get w.symbols (window_index w.strip c)) None (λ o. IfSome o (λ s. s < r.symbols))
     (λ _. below_at r.symbols w.symbols full.known (window_index w.strip c)) (λ _. tt)

@@ -6,7 +6,7 @@ use Rattle.std.proofs.lemmas.Bool.{cases_lt}
 use Rattle.std.proofs.lemmas.List.{get_or_append_left, get_or_push, length-append}
 use Rattle.dd_formula.specs.LocalRule.{LocalRule, IsRule}
 use Rattle.dd_transfer.specs.declared.strip.Strip.{Strip}
-use Rattle.dd_transfer.specs.Windows.{Shown, shown, shown_look, IsFor, IsFull, IsKept, IsWindow, AreWindows, window_cells, digits}
+use Rattle.dd_transfer.specs.Windows.{Shown, shown, shown_look, IsFor, IsFullWindow, IsKept, IsWindow, AreWindows, window_cells, digits}
 use Rattle.dd_transfer.proofs.Digits.{digits_length, digits_below}
 
 -- the window of a number, written into one of the strip
@@ -17,14 +17,14 @@ written r s w v b n strip len base is =
     ∙ (ap (λ (t : Strip). shown t (digits b (length w.symbols) n)) strip
     ∙ (ap (λ (m : ℕ). shown s (digits m (length w.symbols) n)) base ∙ ap (λ (m : ℕ). shown s (digits r.symbols m n)) len))
 
-pub full : (r : LocalRule) (s : Strip) (v : Shown) (n : ℕ) → IsRule r → IsFor r s → v ≡ shown s (digits r.symbols (window_cells r s) n) → IsFull r v
+pub full : (r : LocalRule) (s : Strip) (v : Shown) (n : ℕ) → IsRule r → IsFor r s → v ≡ shown s (digits r.symbols (window_cells r s) n) → IsFullWindow r v
 full r s v n rule for is =
-    let here : IsFull r (shown s (digits r.symbols (window_cells r s) n)) = record {
+    let here : IsFullWindow r (shown s (digits r.symbols (window_cells r s) n)) = record {
       strip_for = for;
       cells_are = digits_length r.symbols (window_cells r s) n;
       known = digits_below r.symbols (window_cells r s) n rule.symbols.0;
     } in
-    subst (IsFull r) (sym is) here
+    subst (IsFullWindow r) (sym is) here
 
 pub windows_more : (r : LocalRule) (s : Strip) (n : ℕ) (ws : List Bool) (b : Bool) → AreWindows r s n ws → (IsTrue b ↔ IsWindow r s n) → AreWindows r s (n + 1) (ws ++ b ∷ [])
 windows_more r s n ws b so_far here = record {

@@ -38,7 +38,7 @@ abbrev pub potential_of : List ℤ → ℕ → ℤ
 potential_of ps u = slice_index_or ps u (pos 0)
 
 -- a potential for each state; along each edge it rises by at most l times the edge's weight less m
-pub record ArePotentials (r : LocalRule) (s : Strip) (weights : List ℕ) (m l : ℕ) (ps : List ℤ) : Type 0 where
+pub record AreStripPotentials (r : LocalRule) (s : Strip) (weights : List ℕ) (m l : ℕ) (ps : List ℤ) : Type 0 where
   pub each : length ps ≡ states r (positions s)
   pub rise : (u t v : ℕ) → IsEdge r s u t v → (potential_of ps v -ℤ potential_of ps u) ≤ℤ (pos (l * slice_weight r s weights t) -ℤ pos m)
 
@@ -50,7 +50,7 @@ pub record IsDensityCertificate (r : LocalRule) (s : Strip) (weights : List ℕ)
   pub closed : IsClosedWalk r s walk
   pub mean : IsInLowestTerms m l (walk_weight r s weights walk) (length walk)
   pub density : IsInLowestTerms p q m (l * positions s)
-  pub potentials : ArePotentials r s weights m l ps
+  pub potentials : AreStripPotentials r s weights m l ps
 
 -- a rank for each state, which falls along each edge
 pub record IsEmptyCertificate (r : LocalRule) (s : Strip) (ranks : List ℕ) : Type 0 where

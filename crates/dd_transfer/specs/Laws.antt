@@ -10,15 +10,15 @@ use Rattle.dd_counts.specs.Rules.{slices, window}
 use Rattle.dd_transfer.specs.declared.strip.Strip.{Strip}
 use Rattle.dd_transfer.specs.Windows.{positions, digits, stand, IsWindow}
 use Rattle.dd_transfer.specs.Transfers.{IsEdge, slice_weight}
-use Rattle.dd_transfer.specs.Slices.{HasSlices, IsKeptFrom, symbols_from, number_of, slices_from, state_from, window_from}
+use Rattle.dd_transfer.specs.Slices.{HasSlices, IsKeptFrom, symbols_from, number_with_digits, slices_from, state_from, window_from}
 
 -- numbers and their digits
 pub record AreDigits (base : ℕ) : Type 0 where
   pub each : (count n : ℕ) → length (digits base count n) ≡ count
   pub below : (count n : ℕ) → 0 < base → All (λ d. d < base) (digits base count n)
-  pub digits_of : (ds : List ℕ) → All (λ d. d < base) ds → digits base (length ds) (number_of base ds) ≡ ds
-  pub number_is : (count n : ℕ) → n < base ^ count → number_of base (digits base count n) ≡ n
-  pub joined : (ds es : List ℕ) → number_of base (ds ++ es) ≡ number_of base ds * base ^ length es + number_of base es
+  pub digits_of : (ds : List ℕ) → All (λ d. d < base) ds → digits base (length ds) (number_with_digits base ds) ≡ ds
+  pub number_is : (count n : ℕ) → n < base ^ count → number_with_digits base (digits base count n) ≡ n
+  pub joined : (ds es : List ℕ) → number_with_digits base (ds ++ es) ≡ number_with_digits base ds * base ^ length es + number_with_digits base es
 
 -- what the transfer graph says of the slices of a look that repeats across the strip
 pub record AreEdgesOf (r : LocalRule) (s : Strip) (look : Look) : Type 0 where

@@ -38,12 +38,12 @@ abbrev pub symbols_from : Strip → Look → ℤ → ℕ → List ℕ
 symbols_from s look x n = map (λ k. unwrap_or (look (cell_from s x k)) 0) (range_with_len 0 (n * cells s))
 
 -- the number with these digits, the most significant first
-abbrev pub number_of : ℕ → List ℕ → ℕ
-number_of base ds = fold (λ n d. n * base + d) 0 ds
+abbrev pub number_with_digits : ℕ → List ℕ → ℕ
+number_with_digits base ds = fold (λ n d. n * base + d) 0 ds
 
 -- the number of n slices from x on
 abbrev pub slices_from : LocalRule → Strip → Look → ℤ → ℕ → ℕ
-slices_from r s look x n = number_of r.symbols (symbols_from s look x n)
+slices_from r s look x n = number_with_digits r.symbols (symbols_from s look x n)
 
 -- the state of the slices from x on, and the window
 abbrev pub state_from : LocalRule → Strip → Look → ℤ → ℕ

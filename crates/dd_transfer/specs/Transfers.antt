@@ -57,6 +57,6 @@ pub record IsGraphOf (r : LocalRule) (s : Strip) (weights : List ℕ) (g : Trans
   pub kept : IsTransfer g
 
 -- why there is no graph
-abbrev pub IsFault : LocalRule → Strip → TransferFault → Type 0
-IsFault r s Size = IsTooLarge r s
-IsFault r s Memory = IsFew r s
+abbrev pub IsTransferFault : LocalRule → Strip → TransferFault → Type 0
+IsTransferFault r s Size = IsTooLarge r s
+IsTransferFault r s Memory = IsFew r s

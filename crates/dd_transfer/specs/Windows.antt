@@ -92,7 +92,7 @@ abbrev pub IsWindow : LocalRule → Strip → ℕ → Type 0
 IsWindow r s number = IsKept r (numbered_window r s number)
 
 -- the window of a rule: as many symbols as it has cells, each of the alphabet
-pub record IsFull (r : LocalRule) (w : Shown) : Type 0 where
+pub record IsFullWindow (r : LocalRule) (w : Shown) : Type 0 where
   pub strip_for : IsFor r w.strip
   pub cells_are : length w.symbols ≡ window_cells r w.strip
   pub known : All (λ x. x < r.symbols) w.symbols

@@ -4,7 +4,7 @@ ghost use Rattle.dd_counts.specs.Rules.{slices, states, longer_states};
 ghost use Rattle.dd_pattern.specs.Weight.{AreWeights, total_weight};
 ghost use Rattle.dd_formula.specs.LocalRule.{IsRule};
 ghost use Rattle.dd_transfer.specs.Windows.{IsFor, AreWindows, cells, digits, positions, shown, window_cells};
-ghost use Rattle.dd_transfer.specs.Transfers.{IsStrip, HasWeights, IsGraphOf, IsFault, strip_for, slice_weight};
+ghost use Rattle.dd_transfer.specs.Transfers.{IsStrip, HasWeights, IsGraphOf, IsTransferFault, strip_for, slice_weight};
 
 use crate::deciding::{allows_all, is_kept};
 use crate::fault::TransferFault;
@@ -36,7 +36,7 @@ pub fn graph(
     requires strip { IsStrip rule.now strip }
     requires weights { HasWeights rule.now weights.now }
     ensures ok { IfOk result (IsGraphOf rule.now (strip_for rule.now strip) weights.now) }
-    ensures err { IfErr result (IsFault rule.now (strip_for rule.now strip)) }
+    ensures err { IfErr result (IsTransferFault rule.now (strip_for rule.now strip)) }
 {
     let strip = Strip {
         y: strip[0],

@@ -3,7 +3,7 @@ ghost use Rattle.std.specs.Prelude.{◌≡◌, ◌<◌, ◌↔◌, IsTrue};
 ghost use Rattle.std.specs.List.{list_all};
 ghost use Rattle.dd_numbered.specs.Numbered.{holds_in};
 ghost use Rattle.dd_formula.specs.Allowed.{AreAllowed};
-ghost use Rattle.dd_transfer.specs.Windows.{IsFull, IsKept, shown_look};
+ghost use Rattle.dd_transfer.specs.Windows.{IsFullWindow, IsKept, shown_look};
 ghost use Rattle.dd_transfer.specs.placing.Formulas.{AllowsAll, AllowsEach, ArePlaces};
 
 use crate::windows::Window;
@@ -37,7 +37,7 @@ pub(crate) fn allows_all(rule: &Rule) -> bool
 
 /// Whether each symbol of the window is one that its node allows; each is where the rule allows all.
 fn are_allowed(rule: &Rule, allows_all: bool, window: &Window) -> bool
-    requires window { IsFull rule.now window.now }
+    requires window { IsFullWindow rule.now window.now }
     requires all { IsTrue allows_all → AllowsAll rule.now }
     ensures { IsTrue result ↔ AreAllowed rule.now (shown_look window.now) }
 {
@@ -69,7 +69,7 @@ fn are_true(formulas: &[Numbered], symbols: &[u32]) -> bool
 /// Whether each symbol of the window is allowed and the rule, of which these are the formulas at its places, is true where it
 /// stands.
 pub(crate) fn is_kept(rule: &Rule, formulas: &[Numbered], allows_all: bool, window: &Window) -> bool
-    requires window { IsFull rule.now window.now }
+    requires window { IsFullWindow rule.now window.now }
     requires all { IsTrue allows_all → AllowsAll rule.now }
     requires formulas { ArePlaces rule.now window.now.strip formulas.now }
     ensures { IsTrue result ↔ IsKept rule.now (shown_look window.now) }

@@ -5,7 +5,7 @@ use Rattle.std.specs.Int.{IsGcd}
 use Rattle.dd_meancycle.specs.declared.edges.Edge.{Edge}
 use Rattle.dd_meancycle.specs.declared.table.EdgeMean.{EdgeMean}
 use Rattle.dd_meancycle.specs.declared.table.EdgeMean.TheVariants.{Least, NoCycle}
-use Rattle.dd_meancycle.specs.table.Walks.{IsWalk, AreAmong, weight_of, ArePotentials, AreRanks, potential}
+use Rattle.dd_meancycle.specs.table.Walks.{IsWalk, AreAmong, edges_weight, AreEdgePotentials, AreEdgeRanks, natural_potential}
 
 -- m / l is the cycle's mean in lowest terms, and no cycle has a smaller one
 pub record IsLeastMean (edges : List Edge) (n m l : ℕ) (cycle : List Edge) (ps : List ℕ) : Type 0 where
@@ -14,18 +14,18 @@ pub record IsLeastMean (edges : List Edge) (n m l : ℕ) (cycle : List Edge) (ps
   pub closed : IsWalk at_state cycle at_state
   pub turns : 0 < length cycle
   pub short : length cycle ≤ n
-  pub mean : weight_of cycle * l ≡ m * length cycle
+  pub mean : edges_weight cycle * l ≡ m * length cycle
   pub lowest : IsGcd m l 1
   pub positive : 0 < l
   pub length_most : l ≤ n
   pub len : length ps ≡ n
-  pub potentials : ArePotentials edges m l ps
-  pub bounded : (v : ℕ) → v < n → potential ps v ≤ m * n
-  pub least : (es : List Edge) (u : ℕ) → AreAmong edges es → IsWalk u es u → m * length es ≤ l * weight_of es
+  pub potentials : AreEdgePotentials edges m l ps
+  pub bounded : (v : ℕ) → v < n → natural_potential ps v ≤ m * n
+  pub least : (es : List Edge) (u : ℕ) → AreAmong edges es → IsWalk u es u → m * length es ≤ l * edges_weight es
 
 abbrev pub IsMean : List Edge → ℕ → EdgeMean → Type 0
 IsMean edges n (Least m l cycle potentials) = IsLeastMean edges n m l cycle.items potentials.items
-IsMean edges n (NoCycle ranks) = (length ranks.items ≡ n) × AreRanks edges ranks.items
+IsMean edges n (NoCycle ranks) = (length ranks.items ≡ n) × AreEdgeRanks edges ranks.items
 
 -- each potential fits a signed number
 abbrev pub IsSmallMean : EdgeMean → Type 0

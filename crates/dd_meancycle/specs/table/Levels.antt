@@ -33,8 +33,8 @@ least edges n k v = at (row edges n k) v
 abbrev pub AreRows : List Edge → ℕ → List (List (Option ℕ)) → Type 0
 AreRows edges n levels = (k : ℕ) → k < length levels → slice_index_or levels k [] ≡ row edges n k
 
-abbrev pub weight_at : List (List (Option ℕ)) → ℕ → ℕ → Option ℕ
-weight_at levels k v = at (slice_index_or levels k []) v
+abbrev pub level_weight_at : List (List (Option ℕ)) → ℕ → ℕ → Option ℕ
+level_weight_at levels k v = at (slice_index_or levels k []) v
 
 abbrev pub IsAtMost : Option ℕ → ℕ → Type 0
 IsAtMost None x = ⊥
@@ -44,8 +44,8 @@ abbrev pub IsUpToIn : ℕ → Option ℕ → Type 0
 IsUpToIn bound None = Unit {0}
 IsUpToIn bound (Some a) = a ≤ bound
 
-abbrev pub IsUpTo : ℕ → List (Option ℕ) → Type 0
-IsUpTo bound row = (v : ℕ) → IsUpToIn bound (at row v)
+abbrev pub IsRowUpTo : ℕ → List (Option ℕ) → Type 0
+IsRowUpTo bound row = (v : ℕ) → IsUpToIn bound (at row v)
 
 -- an edge between states below n, and a walk of n such edges weighs little
 abbrev pub IsEdgeOf : ℕ → Edge → Type 0

@@ -5,33 +5,33 @@ use Rattle.std.specs.Int.{IsGcd}
 use Rattle.dd_meancycle.specs.declared.edges.Edge.{Edge}
 use Rattle.dd_meancycle.specs.declared.rises.Ratio.{Ratio}
 use Rattle.dd_meancycle.specs.declared.rises.Steep.{Steep}
-use Rattle.dd_meancycle.specs.table.Levels.{at, weight_at, least}
-use Rattle.dd_meancycle.specs.table.Walks.{IsWalk, AreAmong, weight_of}
+use Rattle.dd_meancycle.specs.table.Levels.{at, level_weight_at, least}
+use Rattle.dd_meancycle.specs.table.Walks.{IsWalk, AreAmong, edges_weight}
 
 -- the state has a place in each level up to the last, and a walk of no edges
 pub record Reads (levels : List (List (Option ℕ))) (last v : ℕ) : Type 0 where
   pub levels_to : last < length levels
   pub within : (k : ℕ) → k ≤ last → v < length (slice_index_or levels k [])
-  pub start : weight_at levels 0 v ≡ Some 0
+  pub start : level_weight_at levels 0 v ≡ Some 0
 
 -- no walk's rise to the longest has a greater mean, and one has this
 pub record IsSteepest (levels : List (List (Option ℕ))) (last v weight run : ℕ) : Type 0 where
   pub end : ℕ
-  pub ends : weight_at levels last v ≡ Some end
-  pub above : (k before : ℕ) → k < last → weight_at levels k v ≡ Some before → end * run ≤ before * run + weight * (last - k)
+  pub ends : level_weight_at levels last v ≡ Some end
+  pub above : (k before : ℕ) → k < last → level_weight_at levels k v ≡ Some before → end * run ≤ before * run + weight * (last - k)
   pub at_length : ℕ
   pub at_weight : ℕ
   pub shorter : at_length < last
-  pub from : weight_at levels at_length v ≡ Some at_weight
+  pub from : level_weight_at levels at_length v ≡ Some at_weight
   pub rise : at_weight + weight ≡ end
   pub run_is : run + at_length ≡ last
 
 pub record IsPotential (levels : List (List (Option ℕ))) (last v m l p : ℕ) : Type 0 where
-  pub least : (k before : ℕ) → k < last → weight_at levels k v ≡ Some before → p ≤ l * before + m * (last - k)
+  pub least : (k before : ℕ) → k < last → level_weight_at levels k v ≡ Some before → p ≤ l * before + m * (last - k)
   pub at_length : ℕ
   pub at_weight : ℕ
   pub shorter : at_length < last
-  pub from : weight_at levels at_length v ≡ Some at_weight
+  pub from : level_weight_at levels at_length v ≡ Some at_weight
   pub is : p ≡ l * at_weight + m * (last - at_length)
 
 abbrev pub IsSteeper : Ratio → ℕ → Option ℕ → ℕ → Ratio → Type 0
@@ -67,7 +67,7 @@ pub record IsTurn (edges : List Edge) (n v end : ℕ) (cycle : List Edge) : Type
   pub before_is : least edges n before at_state ≡ Some weight
   pub turns : 0 < length cycle
   pub lengths : (before + length cycle) + length rest ≡ n
-  pub weights : (weight + weight_of cycle) + weight_of rest ≡ end
+  pub weights : (weight + edges_weight cycle) + edges_weight rest ≡ end
 
 abbrev pub marked : List (Option ℕ) → ℕ
 marked [] = 0
@@ -75,18 +75,18 @@ marked (None ∷ os) = marked os
 marked (Some r ∷ os) = suc (marked os)
 
 abbrev pub HasRiseIn : List (List (Option ℕ)) → ℕ → ℕ → ℕ → ℕ → ℕ → Type 0
-HasRiseIn levels last m l v end = (k : ℕ) × (before : ℕ) × (k < last) × (weight_at levels k v ≡ Some before) × (before * l + m * (last - k) ≤ end * l)
+HasRiseIn levels last m l v end = (k : ℕ) × (before : ℕ) × (k < last) × (level_weight_at levels k v ≡ Some before) × (before * l + m * (last - k) ≤ end * l)
 
 -- among the states below i with a longest walk, s has the least steepest rise
 pub record IsGentlest (levels : List (List (Option ℕ))) (last i : ℕ) (s : Steep) : Type 0 where
   pub below : s.state < i
   pub steepest : IsSteepest levels last s.state s.mean.weight s.mean.length
-  pub rises : (v end : ℕ) → v < i → weight_at levels last v ≡ Some end → HasRiseIn levels last s.mean.weight s.mean.length v end
+  pub rises : (v end : ℕ) → v < i → level_weight_at levels last v ≡ Some end → HasRiseIn levels last s.mean.weight s.mean.length v end
   pub small_weight : s.mean.weight < 2 ^ 32
   pub small_length : s.mean.length < 2 ^ 31
 
 abbrev pub LeastSoFar : List (List (Option ℕ)) → ℕ → ℕ → Option Steep → Type 0
-LeastSoFar levels last i None = (v : ℕ) → v < i → weight_at levels last v ≡ None
+LeastSoFar levels last i None = (v : ℕ) → v < i → level_weight_at levels last v ≡ None
 LeastSoFar levels last i (Some s) = IsGentlest levels last i s
 
 pub record IsReduced (mean r : Ratio) : Type 0 where
@@ -98,8 +98,8 @@ pub record IsReduced (mean r : Ratio) : Type 0 where
 
 pub record IsHeight (levels : List (List (Option ℕ))) (last v h : ℕ) : Type 0 where
   pub below : h < last
-  pub here : is_some (weight_at levels h v) ≡ true
-  pub greatest : (k : ℕ) → k < last → is_some (weight_at levels k v) ≡ true → k ≤ h
+  pub here : is_some (level_weight_at levels h v) ≡ true
+  pub greatest : (k : ℕ) → k < last → is_some (level_weight_at levels k v) ≡ true → k ≤ h
 
 abbrev pub IsRank : List (List (Option ℕ)) → ℕ → ℕ → ℕ → Type 0
 IsRank levels last v r = (h : ℕ) × IsHeight levels last v h × (r + h ≡ last)

@@ -12,16 +12,16 @@ abbrev pub AreAmong : List Edge → List Edge → Type 0
 AreAmong edges [] = Unit {0}
 AreAmong edges (e ∷ es) = Contains edges e × AreAmong edges es
 
-abbrev pub weight_of : List Edge → ℕ
-weight_of [] = 0
-weight_of (e ∷ es) = e.weight + weight_of es
+abbrev pub edges_weight : List Edge → ℕ
+edges_weight [] = 0
+edges_weight (e ∷ es) = e.weight + edges_weight es
 
-abbrev pub potential : List ℕ → ℕ → ℕ
-potential ps v = slice_index_or ps v 0
+abbrev pub natural_potential : List ℕ → ℕ → ℕ
+natural_potential ps v = slice_index_or ps v 0
 
 -- along each edge the potential rises by at most l * weight - m
-abbrev pub ArePotentials : List Edge → ℕ → ℕ → List ℕ → Type 0
-ArePotentials edges m l ps = (e : Edge) → Contains edges e → potential ps e.to + m ≤ potential ps e.from + l * e.weight
+abbrev pub AreEdgePotentials : List Edge → ℕ → ℕ → List ℕ → Type 0
+AreEdgePotentials edges m l ps = (e : Edge) → Contains edges e → natural_potential ps e.to + m ≤ natural_potential ps e.from + l * e.weight
 
-abbrev pub AreRanks : List Edge → List ℕ → Type 0
-AreRanks edges ranks = (e : Edge) → Contains edges e → potential ranks e.to < potential ranks e.from
+abbrev pub AreEdgeRanks : List Edge → List ℕ → Type 0
+AreEdgeRanks edges ranks = (e : Edge) → Contains edges e → natural_potential ranks e.to < natural_potential ranks e.from

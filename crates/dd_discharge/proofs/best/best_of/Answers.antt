@@ -4,7 +4,7 @@ use Rattle.std.proofs.lemmas.Result.{IfOk-weaker}
 use Rattle.dd_fraction.specs.Exact.{Exact, IsLowest}
 use Rattle.dd_simplex.specs.Programs.{LinearProgram, IsBest}
 use Rattle.dd_discharge.specs.declared.bound.Bound.{Bound}
-use Rattle.dd_discharge.specs.Amounts.{IsCertified}
+use Rattle.dd_discharge.specs.Amounts.{IsCertifiedBound}
 use Rattle.dd_discharge.specs.Denominators.{IsPrintedAs}
 use Rattle.dd_discharge.specs.Bounds.{in_fractions, row_of_fractions}
 use Rattle.dd_discharge.proofs.Certified.{certified}
@@ -20,7 +20,7 @@ returns-clause-certified c =
     let f = c.den-denominator.ensures.fraction in
     let lowest : IsLowest s.value = record { positive = f.above; alone = f.alone } in
     let best = subst (λ (p : LinearProgram). IsBest p s.value s.columns s.duals) c.in_ok-program.ensures c.in_ok-solved.ensures.best in
-    IfOk-weaker c.bound_of.result (IsPrintedAs s.value xs ys) (IsCertified rows n)
+    IfOk-weaker c.bound_of.result (IsPrintedAs s.value xs ys) (IsCertifiedBound rows n)
     (λ b p. certified rows n s.value s.columns s.duals b lowest c.requires.wide best
     (subst (λ (zs : List Exact). IsPrintedAs s.value zs s.duals b) c.as_slice.ensures (subst (λ (zs : List Exact). IsPrintedAs s.value xs zs b) c.as_slice-2.ensures p)))
     c.bound_of.ensures.ok

@@ -3,7 +3,7 @@ use Rattle.dd_rows.specs.declared.rows.Row.{Row}
 use Rattle.dd_rows.specs.declared.rows.Rows.{Rows}
 use Rattle.dd_discharge.specs.declared.bound.Bound.{Bound}
 use Rattle.dd_rows.specs.Programs.{column_count, IsRowsFault}
-use Rattle.dd_discharge.specs.Amounts.{IsCertified, bound_claimed}
+use Rattle.dd_discharge.specs.Amounts.{IsCertifiedBound, bound_claimed}
 use Rattle.dd_discharge.specs.listing.Tables.{AreRowsOf}
 use Rattle.dd_discharge.proofs.Shapes.{program_rows}
 use Rattle.dd_discharge.proofs.OneProgram.{one_program, never_large}
@@ -27,8 +27,8 @@ returns-clause-no c = λ f h.
     let p = c.in-Ok.program in
     let b : Bound = bound_claimed c.args.claimed.now.numerator c.args.claimed.now.denominator c.args.claimed.now.common c.args.claimed.now.amounts.now c.args.claimed.now.duals.now in
     let same : h.program ≡ p = one_program c.args.rule.now c.args.weights.now c.args.radius c.args.margin vs h.program p h.is_program c.in-Ok.ensures.ok in
-    let there : IsCertified p.rows (column_count (length vs) (length p.patterns)) b =
-    subst (λ (q : Rows). IsCertified q.rows (column_count (length vs) (length q.patterns)) b) same h.certified in
+    let there : IsCertifiedBound p.rows (column_count (length vs) (length p.patterns)) b =
+    subst (λ (q : Rows). IsCertifiedBound q.rows (column_count (length vs) (length q.patterns)) b) same h.certified in
     c.is_certified.ensures.no f
-    (subst (λ (n : ℕ). IsCertified c.as_slice.result.now (1 + length vs * n) b) (sym c.len.ensures)
-    (subst (λ (rs : List Row). IsCertified rs (1 + length vs * length p.patterns) b) (sym c.as_slice.ensures) there))
+    (subst (λ (n : ℕ). IsCertifiedBound c.as_slice.result.now (1 + length vs * n) b) (sym c.len.ensures)
+    (subst (λ (rs : List Row). IsCertifiedBound rs (1 + length vs * length p.patterns) b) (sym c.as_slice.ensures) there))

@@ -2,7 +2,7 @@ use Rattle.std.proofs.Common.{◌≡◌, ◌<◌, ◌*◌, ◌^◌, sym, ap, ◌
 use Rattle.std.specs.Int.{w128}
 use mir.Val.{SFits}
 use Rattle.std.proofs.lemmas.Int.{to_z-of_z, to_z_pos}
-use Rattle.dd_discharge.specs.Denominators.{joined, most_printed, printed}
+use Rattle.dd_discharge.specs.Denominators.{joined_denominator, most_printed, printed}
 use Rattle.dd_discharge.proofs.Multiples.{multiple_is, printed_none}
 use Rattle.dd_discharge.proofs.denominators.joined.Goals as goal
 
@@ -16,7 +16,7 @@ returns-in_err-multiple c =
     (to_z_pos w128 c.args.common (omega (arith, small))) (to_z-of_z w128 c.den.result den ∙ c.den.ensures.value) (sym c.in_ok-ratio.was ∙ c.new.ensures)
     (to_z-of_z w128 c.num.result num ∙ c.num.ensures.value) c.unsigned_abs.ensures.value (to_z-of_z w128 c.den-2.result den_2 ∙ c.den-2.ensures.value) c.unsigned_abs-2.ensures.value in
     let large = c.in_err-multiple.ensures in
-    c.from_residual-in_err-multiple.ensures ∙ printed_none (joined c.args.common c.args.fraction.now) (omega (arith, is, large))
+    c.from_residual-in_err-multiple.ensures ∙ printed_none (joined_denominator c.args.common c.args.fraction.now) (omega (arith, is, large))
 
 pub returns : goal.returns
 returns c =

@@ -1,7 +1,7 @@
 use Rattle.std.proofs.Common.{◌≡◌, ◌+◌, ◌*◌, ℕ, List, length, ap, sym, subst, ◌∙◌}
 use Rattle.std.proofs.lemmas.Result.{IfOk-weaker, IfErr-weaker, err_from_is_err_and}
 use Rattle.dd_rows.specs.declared.rows.Row.{Row}
-use Rattle.dd_discharge.specs.Amounts.{IsCertified}
+use Rattle.dd_discharge.specs.Amounts.{IsCertifiedBound}
 use Rattle.dd_discharge.specs.Bounds.{in_fractions, EndsWith, GivesNone, IsBoundOf, IsDischargeFault}
 use Rattle.dd_discharge.specs.Certificates.{IsBoundCertificate}
 use Rattle.dd_discharge.specs.listing.Tables.{AreRowsOf}
@@ -36,7 +36,7 @@ returns-clause-certificate c =
     let n = 1 + length vs * c.len.result in
     let rs = c.as_slice.result.now in
     let g : IsGiven vs p n rs = record { columns = ap (λ (m : ℕ). 1 + length vs * m) c.len.ensures; rows_are = c.as_slice.ensures } in
-    IfOk-weaker c.best_of.result (IsCertified rs n) (IsBoundCertificate x ws c.args.radius c.args.margin vs)
+    IfOk-weaker c.best_of.result (IsCertifiedBound rs n) (IsBoundCertificate x ws c.args.radius c.args.margin vs)
     (λ b e. certificate_from x ws c.args.radius c.args.margin vs p n rs b c.in_ok-program.ensures.ok g e) c.best_of.ensures.certified
 
 pub returns-clause-err : goal.returns-clause-err

@@ -1,5 +1,5 @@
 use Rattle.std.proofs.Common.{◌≡◌, ℕ, ◌+◌, ◌<◌, List, length, arith, sym, ◌∙◌, subst, None}
-use Rattle.dd_meancycle.specs.table.Levels.{AreRows, weight_at}
+use Rattle.dd_meancycle.specs.table.Levels.{AreRows, level_weight_at}
 use Rattle.dd_meancycle.proofs.Assembly.{reads, least_mean_is, no_cycle_is}
 use Rattle.dd_meancycle.proofs.table.mean_of.Goals as goal
 

@@ -4,13 +4,13 @@ use Rattle.std.specs.List.{All, find}
 use Rattle.std.proofs.lemmas.List.{length-append, length-set, get_or_default}
 use Rattle.std.proofs.lemmas.List.Elements.{All-contains}
 use Rattle.dd_meancycle.specs.declared.edges.Edge.{Edge}
-use Rattle.dd_meancycle.specs.table.Levels.{at, row, least, weight_at, AreRows, IsEdgeOf}
+use Rattle.dd_meancycle.specs.table.Levels.{at, row, least, level_weight_at, AreRows, IsEdgeOf}
 use Rattle.dd_meancycle.specs.table.Rises.{is_back, IsTurn}
 use Rattle.dd_meancycle.proofs.LevelLaws.{row_length}
 use Rattle.dd_meancycle.proofs.TurnLaws.{Trail, IsBack, trail_start, trail_end, trail_push, trail_turn, marks_at, back_found, back_some}
 use Rattle.dd_meancycle.proofs.turning.turn.Goals as goal
 
-weight_row : (edges : List Edge) (n : ℕ) (levels : List (List (Option ℕ))) (k v : ℕ) → AreRows edges n levels → k < length levels → weight_at levels k v ≡ least edges n k v
+weight_row : (edges : List Edge) (n : ℕ) (levels : List (List (Option ℕ))) (k v : ℕ) → AreRows edges n levels → k < length levels → level_weight_at levels k v ≡ least edges n k v
 weight_row edges n levels k v rows lt = ap (λ (x : List (Option ℕ)). at x v) (rows k lt)
 
 pub weight_at-requires-clause-state : goal.weight_at-requires-clause-state
