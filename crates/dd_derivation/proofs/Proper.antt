@@ -8,7 +8,7 @@ use Rattle.dd_clause.specs.declared.clause.Literal.{Literal}
 use Rattle.dd_clause.specs.Clauses.{negation, IsLiteralInRange}
 use Rattle.dd_derivation.specs.declared.propagation.VariableMark.{VariableMark}
 use Rattle.dd_derivation.specs.Derivations.{same_literal, is_among, is_literal_in_range, has_variable, is_proper}
-use Rattle.dd_derivation.specs.MarksOf.{FalsesAre, marked}
+use Rattle.dd_derivation.specs.MarksOf.{FalsesAre, with_mark}
 use Rattle.dd_derivation.specs.lemmas.Soundness.{same_literal-eq, beq-refl}
 use Rattle.dd_derivation.specs.lemmas.Falses.{FalsesAre-start, in_range-true}
 
@@ -80,7 +80,7 @@ marked_has marks step front v m a b e =
     has-in front y (marked_at marks step front y m (a, b) ∙ and_from _ _ (eq-eqb _ step e) (beq-refl (mark_of marks v).positive))
 
 -- one more literal is marked
-pub start_more : (marks : List VariableMark) (step : ℕ) (clause : List Literal) (i : ℕ) (d : Literal) → i < length clause → IsLiteralInRange (length marks) (get_or clause i d) → ((mark_of marks (get_or clause i d).variable).step ≡ step → ⊥) → FalsesAre marks step [] (take i clause) → is_proper (length marks) (take i clause) ≡ true → (is_proper (length marks) (take (i + 1) clause) ≡ true) × FalsesAre (marked marks step (get_or clause i d)) step [] (take (i + 1) clause)
+pub start_more : (marks : List VariableMark) (step : ℕ) (clause : List Literal) (i : ℕ) (d : Literal) → i < length clause → IsLiteralInRange (length marks) (get_or clause i d) → ((mark_of marks (get_or clause i d).variable).step ≡ step → ⊥) → FalsesAre marks step [] (take i clause) → is_proper (length marks) (take i clause) ≡ true → (is_proper (length marks) (take (i + 1) clause) ≡ true) × FalsesAre (with_mark marks step (get_or clause i d)) step [] (take (i + 1) clause)
 start_more marks step clause i d lt r u m p =
     let l = get_or clause i d in
     let t = take_more clause i d lt in

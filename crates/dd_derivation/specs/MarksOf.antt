@@ -27,16 +27,16 @@ is_marked marks step l =
     mark_says step l.positive (slice_index_or marks (l.variable - 1) (record { step = 0; positive = false }))
 
 -- the marks with one more literal that is false, if its variable has a mark
-abbrev pub marked : List VariableMark → ℕ → Literal → List VariableMark
-marked marks step l =
+abbrev pub with_mark : List VariableMark → ℕ → Literal → List VariableMark
+with_mark marks step l =
     if is_literal_in_range (length marks) l
     then slice_set marks (l.variable - 1) (record { step = step; positive = l.positive })
     else marks
 
 -- the first of the literals that is of a variable
-abbrev pub first_of : ℕ → List Literal → Option Literal
-first_of v [] = None
-first_of v (l ∷ rest) = if l.variable == v then Some l else first_of v rest
+abbrev pub first_literal_of : ℕ → List Literal → Option Literal
+first_literal_of v [] = None
+first_literal_of v (l ∷ rest) = if l.variable == v then Some l else first_literal_of v rest
 
 -- the literals of the clauses of these numbers
 abbrev pub literals_of : List (Option (List Literal)) → List ℕ → List Literal
@@ -45,7 +45,7 @@ literals_of known (h ∷ hints) = unwrap_or (clause_of known h) [] ++ literals_o
 
 -- A variable without a mark has no value until a hinted clause names it, and then the first one makes its literal true.
 abbrev pub is_false_unmarked : List Literal → Literal → Bool
-is_false_unmarked seen l = option_map_or (λ m. same_literal l (negation m)) (first_of l.variable seen) false
+is_false_unmarked seen l = option_map_or (λ m. same_literal l (negation m)) (first_literal_of l.variable seen) false
 
 -- the literal is false by its mark, or by the literals of the clauses hinted at so far
 abbrev pub is_false : List VariableMark → ℕ → List Literal → Literal → Bool

@@ -28,7 +28,7 @@ pub struct VariableMark {
 
 /// Marks a literal as false in this step, if its variable has a mark.
 fn mark(marks: &mut [VariableMark], step: u64, literal: Literal)
-    ensures { marks.new ≡ marks_of.marked marks.old step literal }
+    ensures { marks.new ≡ marks_of.with_mark marks.old step literal }
 {
     let variable = literal.variable as usize;
     if variable >= 1 && variable <= marks.len() {
@@ -41,7 +41,7 @@ fn mark(marks: &mut [VariableMark], step: u64, literal: Literal)
 
 /// The first of the literals that is of this variable.
 fn first_of(literals: &[Literal], variable: u32) -> Option<Literal>
-    ensures { result ≡ marks_of.first_of variable literals.now }
+    ensures { result ≡ marks_of.first_literal_of variable literals.now }
 {
     for literal in literals {
         if literal.variable == variable {
@@ -53,7 +53,7 @@ fn first_of(literals: &[Literal], variable: u32) -> Option<Literal>
 
 /// The first literal of this variable in the clauses that the hints name.
 fn first_hinted(known: &Known, hints: &[u64], variable: u32) -> Option<Literal>
-    ensures { result ≡ marks_of.first_of variable (literals_of known.now hints.now) }
+    ensures { result ≡ marks_of.first_literal_of variable (literals_of known.now hints.now) }
 {
     for hint in hints {
         if let Some(clause) = known.find_clause(*hint) {

@@ -5,19 +5,19 @@ use Rattle.std.specs.List.{remove}
 use Rattle.std.proofs.lemmas.List.{drop_more, drop-set, drop-set-lt, drop_all, drop_at, length-set, take-set, take_all, take-append-drop, take-append-le, map-append, take_more_set}
 use Rattle.dd_values.specs.Counts.{Rose}
 use Rattle.dd_derivation.specs.declared.step.Outcome.{Outcome}
-use Rattle.dd_engines.specs.Proposals.{end_of}
-use Rattle.dd_engines.specs.Rosters.{seen, seen_all}
+use Rattle.dd_engines.specs.Proposals.{round_end}
+use Rattle.dd_engines.specs.Rosters.{seen_of_engine, seen_all}
 use Rattle.dd_engines.specs.Rounds.{Seen, AskedOnce, Round, End, found, nothing, memory, all_asked, was_found, at_asking, gave_nothing, was_dropped}
 
 -- a refusal ends the round as want of memory
-pub ended_err : {F : Type 0} (answer : Result (Option Outcome) F) → IsErr answer → end_of answer ≡ memory
+pub ended_err : {F : Type 0} (answer : Result (Option Outcome) F) → IsErr answer → round_end answer ≡ memory
 ended_err (Ok (Some x)) is = absurd (cc is)
 ended_err (Ok None) is = absurd (cc is)
 ended_err (Err e) is = refl
 
 module _ {E : Type 0} (asked given : E → ℕ) (sound : E → Bool) where
   abbrev one : E → Seen
-  one = seen asked given sound
+  one = seen_of_engine asked given sound
 
   abbrev all : List E → List Seen
   all = seen_all asked given sound

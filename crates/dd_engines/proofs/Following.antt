@@ -18,7 +18,7 @@ use Rattle.dd_derivation.specs.declared.step.Step.{Step}
 use Rattle.dd_derivation.specs.Derivations.{same_literal, is_among, is_literal_in_range, finding_of, finding, clause_of, is_conflict, is_proper, is_right}
 use Rattle.dd_engines.specs.declared.analysis.Entry.{Entry}
 use Rattle.dd_engines.specs.SingleSteps.{IsSingleStep}
-use Rattle.dd_engines.specs.propagation.Following.{is_other, is_false_by, is_unknown, unknowns, alive, falses, IsForced, IsTrail, Conflicts, Follows, FollowsMore, IsSettled}
+use Rattle.dd_engines.specs.propagation.Following.{is_other, is_false_by, unknown_count, unknowns, alive, falses, IsForced, IsTrail, Conflicts, Follows, FollowsMore, IsSettled}
 use Rattle.dd_engines.proofs.Literals.{same_literal-eq, literal-eq}
 
 -- two tests that agree find the same
@@ -108,7 +108,7 @@ told_more values falses l range free told m = elim (cases_eq m.variable l.variab
   | inr ne ↦ told_apart values falses l range told m ne
 ]
 
-no_value : (o : Option Bool) (positive : Bool) → is_other positive o ≡ false → is_other (not positive) o ≡ false → is_unknown o ≡ 1
+no_value : (o : Option Bool) (positive : Bool) → is_other positive o ≡ false → is_other (not positive) o ≡ false → unknown_count o ≡ 1
 no_value None positive free other = refl
 no_value (Some true) true free other = absurd (false≢true (sym other))
 no_value (Some true) false free other = absurd (false≢true (sym free))
@@ -118,8 +118,8 @@ no_value (Some false) false free other = absurd (false≢true (sym other))
 fewer : (values : List (Option Bool)) (l : Literal) → IsLiteralInRange (length values) l → IsFree (is_false_by values) l → unknowns (set values (l.variable - 1) (Some l.positive)) < unknowns values
 fewer values l range free =
     let within : is_literal_in_range (length values) l ≡ true = in_range (length values) l range.0 range.1 in
-    let one : is_unknown (get_or values (l.variable - 1) None) ≡ 1 = no_value (get_or values (l.variable - 1) None) l.positive (rw within at free.free) (rw within at free.other) in
-    omega (arith, one, sum_by-set is_unknown values (l.variable - 1) (Some l.positive) None (omega (arith, range.0, range.1)))
+    let one : unknown_count (get_or values (l.variable - 1) None) ≡ 1 = no_value (get_or values (l.variable - 1) None) l.positive (rw within at free.free) (rw within at free.other) in
+    omega (arith, one, sum_by-set unknown_count values (l.variable - 1) (Some l.positive) None (omega (arith, range.0, range.1)))
 
 -- one more entry follows
 trail_more : (cs : List (List Literal)) (entries : List Entry) (e : Entry) → IsTrail cs entries → IsForced cs entries e → IsTrail cs (entries ++ e ∷ [])

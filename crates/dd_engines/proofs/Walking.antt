@@ -10,7 +10,7 @@ use Rattle.std.proofs.lemmas.Option.{slice_get-get_or}
 use Rattle.dd_clause.specs.declared.clause.Literal.{Literal}
 use Rattle.dd_clause.specs.Clauses.{ClauseList, negation, IsLiteralInRange, IsClauseInRange, is_true_under, Satisfies}
 use Rattle.dd_values.specs.Variables.{true_variables}
-use Rattle.dd_engines.specs.Walks.{made_true, first_unsatisfied, after, NoneBefore, IsFirst}
+use Rattle.dd_engines.specs.Walks.{made_true, first_unsatisfied, values_after, NoneBefore, IsFirstOnWalk}
 use Rattle.dd_engines.specs.walking.Truths.{true_count, standing, more, less, changed, HasPlace, list_of, IsListed, NoneIsNone, IsFirstNone}
 use Rattle.dd_engines.specs.walking.Walking.{Walks}
 use Rattle.dd_engines.proofs.Places.{standing_within}
@@ -112,20 +112,20 @@ some_same : (v w : List Bool) → Some v ≡ Some w → v ≡ w
 some_same v w e = cc
 
 -- no values up to these satisfy
-pub none_more : (cnf : ClauseList) (values : List Bool) (k : ℕ) (c : List Literal) → after cnf k ≡ Some values → first_unsatisfied values cnf.clauses ≡ Some c → NoneBefore cnf k → NoneBefore cnf (k + 1)
+pub none_more : (cnf : ClauseList) (values : List Bool) (k : ℕ) (c : List Literal) → values_after cnf k ≡ Some values → first_unsatisfied values cnf.clauses ≡ Some c → NoneBefore cnf k → NoneBefore cnf (k + 1)
 none_more cnf values k c reached first before j other lt at satisfying = elim (cases_lt j k) [
   | inl earlier ↦ before j other earlier at satisfying
   | inr past ↦
       let same : j ≡ k = omega (arith, lt, past) in
-      let here : after cnf j ≡ Some values = ap (after cnf) same ∙ reached in
+      let here : values_after cnf j ≡ Some values = ap (values_after cnf) same ∙ reached in
       let equal : other ≡ values = some_same other values (sym at ∙ here) in
       not_satisfied values cnf.clauses c first (subst (λ (v : List Bool). Satisfies (true_variables v) cnf.clauses) equal satisfying.1)
 ]
 
-pub reached_more : (cnf : ClauseList) (values : List Bool) (k : ℕ) (c : List Literal) (m : Literal) → after cnf k ≡ Some values → first_unsatisfied values cnf.clauses ≡ Some c → slice_get c (k % length c) ≡ Some m → after cnf (k + 1) ≡ Some (made_true values m)
+pub reached_more : (cnf : ClauseList) (values : List Bool) (k : ℕ) (c : List Literal) (m : Literal) → values_after cnf k ≡ Some values → first_unsatisfied values cnf.clauses ≡ Some c → slice_get c (k % length c) ≡ Some m → values_after cnf (k + 1) ≡ Some (made_true values m)
 reached_more cnf values k c m reached first at = rw (add-one k) (rw (reached, first, at) refl)
 
-pub first_at : (cnf : ClauseList) (values : List Bool) (counts : List ℕ) (listed : ℕ → Bool) (lists : List (List ℕ)) (k flips : ℕ) → Walks cnf.clauses values counts listed lists → length values ≡ cnf.variables → NoneIsNone counts → k ≤ flips → after cnf k ≡ Some values → NoneBefore cnf k → IsFirst cnf flips values
+pub first_at : (cnf : ClauseList) (values : List Bool) (counts : List ℕ) (listed : ℕ → Bool) (lists : List (List ℕ)) (k flips : ℕ) → Walks cnf.clauses values counts listed lists → length values ≡ cnf.variables → NoneIsNone counts → k ≤ flips → values_after cnf k ≡ Some values → NoneBefore cnf k → IsFirstOnWalk cnf flips values
 first_at cnf values counts listed lists k flips walks long none few reached before = record {
   count = k;
   few = few;
@@ -135,7 +135,7 @@ first_at cnf values counts listed lists k flips walks long none few reached befo
 }
 
 -- where some clause has no true literal at the end of the walk, nothing was found
-pub none_at_end : (cnf : ClauseList) (values : List Bool) (counts : List ℕ) (listed : ℕ → Bool) (lists : List (List ℕ)) (k place : ℕ) → Walks cnf.clauses values counts listed lists → IsFirstNone counts place → after cnf k ≡ Some values → NoneBefore cnf k → NoneBefore cnf (k + 1)
+pub none_at_end : (cnf : ClauseList) (values : List Bool) (counts : List ℕ) (listed : ℕ → Bool) (lists : List (List ℕ)) (k place : ℕ) → Walks cnf.clauses values counts listed lists → IsFirstNone counts place → values_after cnf k ≡ Some values → NoneBefore cnf k → NoneBefore cnf (k + 1)
 none_at_end cnf values counts listed lists k place walks none reached before =
     let clause = get_or cnf.clauses place [] in
     let within = place_within cnf.clauses values counts listed lists place walks none in

@@ -45,7 +45,7 @@ IsRightOutcome cnf (Found values) = IsSatisfying cnf values
 IsRightOutcome cnf (Refuted steps) = IsRefuting cnf steps × IsUnsatisfied cnf
 
 -- how a round ends, by its answer
-abbrev pub end_of : {E : Type 0} → Result (Option Outcome) E → End
-end_of (Ok (Some outcome)) = found
-end_of (Ok None) = nothing
-end_of (Err e) = memory
+abbrev pub round_end : {E : Type 0} → Result (Option Outcome) E → End
+round_end (Ok (Some outcome)) = found
+round_end (Ok None) = nothing
+round_end (Err e) = memory

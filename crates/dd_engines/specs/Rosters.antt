@@ -4,12 +4,12 @@ use Rattle.dd_engines.specs.declared.roster.Roster.{Roster}
 use Rattle.dd_engines.specs.Rounds.{Seen}
 
 -- what is seen of an engine, by its three meanings
-abbrev pub seen : {E : Type 0} → (E → ℕ) → (E → ℕ) → (E → Bool) → E → Seen
-seen asked given sound engine = record { asked = asked engine; given = given engine; sound = sound engine }
+abbrev pub seen_of_engine : {E : Type 0} → (E → ℕ) → (E → ℕ) → (E → Bool) → E → Seen
+seen_of_engine asked given sound engine = record { asked = asked engine; given = given engine; sound = sound engine }
 
 -- what is seen of each engine, in order
 abbrev pub seen_all : {E : Type 0} → (E → ℕ) → (E → ℕ) → (E → Bool) → List E → List Seen
-seen_all asked given sound engines = map (seen asked given sound) engines
+seen_all asked given sound engines = map (seen_of_engine asked given sound) engines
 
 abbrev pub roster_seen : {E : Type 0} → (E → ℕ) → (E → ℕ) → (E → Bool) → Roster E → List Seen
 roster_seen asked given sound roster = seen_all asked given sound roster.engines.items

@@ -27,24 +27,24 @@ flipped k values clause = option_map (made_true values) (slice_get clause (k % l
 
 -- The values after k flips, from all variables false on. There are none where an earlier flip finds no clause without a
 -- true literal, or an empty one.
-abbrev pub after : ClauseList → ℕ → Option (List Bool)
-after cnf zero = Some (replicate cnf.variables false)
-after cnf (suc k) = option_and_then (λ values. option_and_then (flipped k values) (first_unsatisfied values cnf.clauses)) (after cnf k)
+abbrev pub values_after : ClauseList → ℕ → Option (List Bool)
+values_after cnf zero = Some (replicate cnf.variables false)
+values_after cnf (suc k) = option_and_then (λ values. option_and_then (flipped k values) (first_unsatisfied values cnf.clauses)) (values_after cnf k)
 
 -- after none of the first so many flips the values satisfy the clauses
 abbrev pub NoneBefore : ClauseList → ℕ → Type 0
-NoneBefore cnf count = (k : ℕ) (values : List Bool) → k < count → after cnf k ≡ Some values → IsSatisfying cnf values → ⊥
+NoneBefore cnf count = (k : ℕ) (values : List Bool) → k < count → values_after cnf k ≡ Some values → IsSatisfying cnf values → ⊥
 
 -- the values are the first on the walk that satisfy the clauses
-pub record IsFirst (cnf : ClauseList) (flips : ℕ) (values : List Bool) : Type 0 where
+pub record IsFirstOnWalk (cnf : ClauseList) (flips : ℕ) (values : List Bool) : Type 0 where
   pub count : ℕ
   pub few : count ≤ flips
-  pub reached : after cnf count ≡ Some values
+  pub reached : values_after cnf count ≡ Some values
   pub satisfying : IsSatisfying cnf values
   pub none_before : NoneBefore cnf count
 
 -- the first assignment of the walk, after at most so many flips, that satisfies the clauses; nothing where none does
 abbrev pub ProposesFirst : ClauseList → ℕ → Proposal → Type 0
 ProposesFirst cnf flips Nothing = NoneBefore cnf (flips + 1)
-ProposesFirst cnf flips (Found values) = IsFirst cnf flips values
+ProposesFirst cnf flips (Found values) = IsFirstOnWalk cnf flips values
 ProposesFirst cnf flips (Refutation steps) = ⊥

@@ -2,8 +2,8 @@
 //! dropped. What comes out is right whatever the engines claim, since each proposal is looked at here.
 ghost use Rattle.std.specs.Prelude.{◌≡◌, length, IfOk, OnOk, IfSome};
 ghost use Rattle.dd_engines.specs.Rounds.{AskedOnce, Round, Kept, FirstAsked};
-ghost use Rattle.dd_engines.specs.Rosters.{seen, seen_all, roster_seen};
-ghost use Rattle.dd_engines.specs.Proposals.{IsRightOutcome, end_of};
+ghost use Rattle.dd_engines.specs.Rosters.{seen_of_engine, seen_all, roster_seen};
+ghost use Rattle.dd_engines.specs.Proposals.{IsRightOutcome, round_end};
 ghost use Rattle.dd_engines.specs.asking.Shown.{Shows};
 
 use crate::engine::{Engine, Proposal};
@@ -27,8 +27,8 @@ pub enum Asked {
 
 /// Asks one engine, and looks at what it proposes.
 fn ask_one<E: Engine>(alloc: Global, cnf: &Cnf, engine: &mut E) -> Result<Asked, AllocError>
-    ensures once { AskedOnce (seen E.asked E.given E.sound engine.old) (seen E.asked E.given E.sound engine.new) }
-    ensures shows { IfOk result (Shows cnf.now (seen E.asked E.given E.sound engine.old) (seen E.asked E.given E.sound engine.new)) }
+    ensures once { AskedOnce (seen_of_engine E.asked E.given E.sound engine.old) (seen_of_engine E.asked E.given E.sound engine.new) }
+    ensures shows { IfOk result (Shows cnf.now (seen_of_engine E.asked E.given E.sound engine.old) (seen_of_engine E.asked E.given E.sound engine.new)) }
 {
     match engine.propose(alloc, cnf)? {
         Proposal::Nothing => Ok(Asked::Silent),
@@ -69,7 +69,7 @@ impl<E: Engine> Roster<E> {
     /// whose proposal is not right is dropped; the others stay in order, also after want of memory.
     pub fn ask(&mut self, alloc: Global, cnf: &Cnf) -> Result<Option<Outcome>, AllocError>
         ensures right { IfOk result (λ answer. IfSome answer (IsRightOutcome cnf.now)) }
-        ensures round { Round (roster_seen E.asked E.given E.sound self.old) (roster_seen E.asked E.given E.sound self.new) (end_of result) }
+        ensures round { Round (roster_seen E.asked E.given E.sound self.old) (roster_seen E.asked E.given E.sound self.new) (round_end result) }
         ensures kept { Kept (roster_seen E.asked E.given E.sound self.old) (roster_seen E.asked E.given E.sound self.new) }
         ensures first { OnOk result (FirstAsked (roster_seen E.asked E.given E.sound self.old) (roster_seen E.asked E.given E.sound self.new)) }
     {

@@ -5,7 +5,7 @@ ghost use Rattle.std.specs.Ordering.{nat_cmp};
 ghost use Rattle.std.specs.BTreeSet.{contains};
 ghost use Rattle.dd_clause.specs.Clauses.{IsLiteralInRange, is_true_under};
 ghost use Rattle.dd_values.specs.Variables.{true_variables};
-ghost use Rattle.dd_engines.specs.Walks.{made_true, IsFirst, NoneBefore};
+ghost use Rattle.dd_engines.specs.Walks.{made_true, IsFirstOnWalk, NoneBefore};
 ghost use Rattle.dd_engines.specs.walking.Walking.{Walks};
 
 use crate::occurrences::Occurrences;
@@ -61,7 +61,7 @@ impl Walk {
 
 /// The first assignment, after at most so many flips, that satisfies the clauses.
 pub fn first_found(alloc: Global, cnf: &Cnf, flips: u32) -> Result<Option<Assignment>, AllocError>
-    ensures { IfOk result (λ found. MatchOption found (NoneBefore cnf.now (flips + 1)) (IsFirst cnf.now flips)) }
+    ensures { IfOk result (λ found. MatchOption found (NoneBefore cnf.now (flips + 1)) (IsFirstOnWalk cnf.now flips)) }
 {
     let clauses = cnf.clauses();
     let mut walk = Walk::new(alloc, cnf)?;

@@ -12,7 +12,7 @@ use Rattle.dd_derivation.specs.declared.propagation.Finding.{Finding}
 use Rattle.dd_derivation.specs.declared.propagation.Finding.TheVariants.{Forced, Open}
 use Rattle.dd_derivation.specs.declared.propagation.VariableMark.{VariableMark}
 use Rattle.dd_derivation.specs.Derivations.{same_literal, is_among, is_literal_in_range, finding, clause_of, hint_finding, follow, is_conflict}
-use Rattle.dd_derivation.specs.MarksOf.{is_marked, marked, first_of, literals_of, is_false_unmarked, is_false, FalsesAre, AreUpTo, AreBelow}
+use Rattle.dd_derivation.specs.MarksOf.{is_marked, with_mark, first_literal_of, literals_of, is_false_unmarked, is_false, FalsesAre, AreUpTo, AreBelow}
 use Rattle.dd_derivation.specs.lemmas.Soundness.{same_literal-eq, same_literal-refl, literal-eq, beq-eq}
 use Rattle.dd_derivation.specs.lemmas.Findings.{In, Forces, forces_from, hint_finding-congr}
 
@@ -74,7 +74,7 @@ set_more marks step falses l x m i r f g =
           rw (get_or-set_other marks (l.variable - 1) (x.variable - 1) (record { step = step; positive = l.positive }) (record { step = 0; positive = false }) o, ne_eqb x.variable l.variable n) m
     ]
 
-pub length-marked : (marks : List VariableMark) (step : ℕ) (l : Literal) → length (marked marks step l) ≡ length marks
+pub length-marked : (marks : List VariableMark) (step : ℕ) (l : Literal) → length (with_mark marks step l) ≡ length marks
 length-marked marks step l = elim (cases_Bool (is_literal_in_range (length marks) l)) [
   | inl t ↦ rw t (length-set marks (l.variable - 1) _)
   | inr f ↦ rw f refl
@@ -87,60 +87,60 @@ apart n x l t f = false_from_ne_true _ (λ h. false≢true (sym f ∙ ap (is_lit
 apart' : (n : ℕ) (x l : Literal) → is_literal_in_range n x ≡ false → is_literal_in_range n l ≡ true → same_literal x l ≡ false
 apart' n x l f t = false_from_ne_true _ (λ h. false≢true (sym f ∙ ap (is_literal_in_range n) (same_literal-eq x l h) ∙ t))
 
-marked_more : (marks : List VariableMark) (step : ℕ) (falses : List Literal) (l x : Literal) → is_marked marks step x ≡ is_among falses x → is_literal_in_range (length marks) x ≡ true → is_among falses l ≡ false → is_among falses (negation l) ≡ false → is_marked (marked marks step l) step x ≡ is_among (l ∷ falses) x
+marked_more : (marks : List VariableMark) (step : ℕ) (falses : List Literal) (l x : Literal) → is_marked marks step x ≡ is_among falses x → is_literal_in_range (length marks) x ≡ true → is_among falses l ≡ false → is_among falses (negation l) ≡ false → is_marked (with_mark marks step l) step x ≡ is_among (l ∷ falses) x
 marked_more marks step falses l x m i f g = elim (cases_Bool (is_literal_in_range (length marks) l)) [
   | inl t ↦ rw t (set_more marks step falses l x m (in_range-from _ x i) (in_range-from _ l t) f g)
   | inr n ↦ rw (n, apart (length marks) x l i n) m
 ]
 
 -- one more literal is false
-FalsesAre-more : (marks : List VariableMark) (step : ℕ) (seen more falses : List Literal) (l : Literal) → FalsesAre marks step seen falses → is_among falses l ≡ false → is_among falses (negation l) ≡ false → ((x : Literal) → is_literal_in_range (length marks) x ≡ false → is_false_unmarked more x ≡ is_among (l ∷ falses) x) → FalsesAre (marked marks step l) step more (l ∷ falses)
+FalsesAre-more : (marks : List VariableMark) (step : ℕ) (seen more falses : List Literal) (l : Literal) → FalsesAre marks step seen falses → is_among falses l ≡ false → is_among falses (negation l) ≡ false → ((x : Literal) → is_literal_in_range (length marks) x ≡ false → is_false_unmarked more x ≡ is_among (l ∷ falses) x) → FalsesAre (with_mark marks step l) step more (l ∷ falses)
 FalsesAre-more marks step seen more falses l a f g out x = elim (cases_Bool (is_literal_in_range (length marks) x)) [
   | inl t ↦ rw (length-marked marks step l, t) (marked_more marks step falses l x (rw t at (a x)) t f g)
   | inr n ↦ rw (length-marked marks step l, n) (out x n)
 ]
 
 -- the first literal of a variable
-first_of-some : (v : ℕ) (xs ys : List Literal) (m : Literal) → first_of v xs ≡ Some m → first_of v (xs ++ ys) ≡ Some m
-first_of-some v [] ys m h = absurd (cc)
-first_of-some v (x ∷ xs) ys m h = elim (cases_Bool (eqb x.variable v)) [
+first_literal_of-some : (v : ℕ) (xs ys : List Literal) (m : Literal) → first_literal_of v xs ≡ Some m → first_literal_of v (xs ++ ys) ≡ Some m
+first_literal_of-some v [] ys m h = absurd (cc)
+first_literal_of-some v (x ∷ xs) ys m h = elim (cases_Bool (eqb x.variable v)) [
   | inl t ↦ rw t (rw t at h)
-  | inr f ↦ rw f (first_of-some v xs ys m (rw f at h))
+  | inr f ↦ rw f (first_literal_of-some v xs ys m (rw f at h))
 ]
 
-first_of-none : (v : ℕ) (xs ys : List Literal) → first_of v xs ≡ None → first_of v (xs ++ ys) ≡ first_of v ys
-first_of-none v [] ys h = refl
-first_of-none v (x ∷ xs) ys h = elim (cases_Bool (eqb x.variable v)) [
+first_literal_of-none : (v : ℕ) (xs ys : List Literal) → first_literal_of v xs ≡ None → first_literal_of v (xs ++ ys) ≡ first_literal_of v ys
+first_literal_of-none v [] ys h = refl
+first_literal_of-none v (x ∷ xs) ys h = elim (cases_Bool (eqb x.variable v)) [
   | inl t ↦ absurd (let e : Some x ≡ None = rw t at h in cc)
-  | inr f ↦ rw f (first_of-none v xs ys (rw f at h))
+  | inr f ↦ rw f (first_literal_of-none v xs ys (rw f at h))
 ]
 
-first_of-in : (v : ℕ) (xs : List Literal) (m : Literal) → first_of v xs ≡ Some m → In xs m × (m.variable ≡ v)
-first_of-in v [] m h = absurd (cc)
-first_of-in v (x ∷ xs) m h = elim (cases_Bool (eqb x.variable v)) [
+first_literal_of-in : (v : ℕ) (xs : List Literal) (m : Literal) → first_literal_of v xs ≡ Some m → In xs m × (m.variable ≡ v)
+first_literal_of-in v [] m h = absurd (cc)
+first_literal_of-in v (x ∷ xs) m h = elim (cases_Bool (eqb x.variable v)) [
   | inl t ↦ let e : Some x ≡ Some m = rw t at h in
       let q : x ≡ m = cc in
       subst (λ (y : Literal). In (x ∷ xs) y × (y.variable ≡ v)) q (or_left _ _ (same_literal-refl x), eqb-true _ _ t)
-  | inr f ↦ let r = first_of-in v xs m (rw f at h) in (or_right _ _ r.0, r.1)
+  | inr f ↦ let r = first_literal_of-in v xs m (rw f at h) in (or_right _ _ r.0, r.1)
 ]
 
-first_of-out : (v : ℕ) (xs : List Literal) (x : Literal) → first_of v xs ≡ None → In xs x → x.variable ≡ v → ⊥
-first_of-out v [] x h i e = false≢true i
-first_of-out v (y ∷ xs) x h i e = elim (cases_Bool (eqb y.variable v)) [
+first_literal_of-out : (v : ℕ) (xs : List Literal) (x : Literal) → first_literal_of v xs ≡ None → In xs x → x.variable ≡ v → ⊥
+first_literal_of-out v [] x h i e = false≢true i
+first_literal_of-out v (y ∷ xs) x h i e = elim (cases_Bool (eqb y.variable v)) [
   | inl t ↦ let n : Some y ≡ None = rw t at h in cc
   | inr f ↦ elim (or_cases (same_literal x y) (is_among xs x) i) [
     | inl a ↦ false≢true (sym f ∙ eq-eqb y.variable v (ap (λ (z : Literal). z.variable) (sym (same_literal-eq x y a)) ∙ e))
-    | inr a ↦ first_of-out v xs x (rw f at h) a e
+    | inr a ↦ first_literal_of-out v xs x (rw f at h) a e
   ]
 ]
 
-pub first_of-here : (v : ℕ) (xs : List Literal) (i : ℕ) (d : Literal) → i < length xs → first_of v (take i xs) ≡ None → (get_or xs i d).variable ≡ v → first_of v xs ≡ Some (get_or xs i d)
-first_of-here v xs i d lt h e =
+pub first_literal_of-here : (v : ℕ) (xs : List Literal) (i : ℕ) (d : Literal) → i < length xs → first_literal_of v (take i xs) ≡ None → (get_or xs i d).variable ≡ v → first_literal_of v xs ≡ Some (get_or xs i d)
+first_literal_of-here v xs i d lt h e =
     let s : xs ≡ take i xs ++ get_or xs i d ∷ drop (suc i) xs = sym (take-append-drop i xs) ∙ ap (λ (ys : List Literal). take i xs ++ ys) (drop-cons xs i d lt) in
-    ap (first_of v) s ∙ first_of-none v (take i xs) (get_or xs i d ∷ drop (suc i) xs) h ∙ rw (eq-eqb (get_or xs i d).variable v e) refl
+    ap (first_literal_of v) s ∙ first_literal_of-none v (take i xs) (get_or xs i d ∷ drop (suc i) xs) h ∙ rw (eq-eqb (get_or xs i d).variable v e) refl
 
-pub first_of-more : (v : ℕ) (xs : List Literal) (i : ℕ) (d : Literal) → i < length xs → first_of v (take i xs) ≡ None → ((get_or xs i d).variable ≡ v → ⊥) → first_of v (take (i + 1) xs) ≡ None
-first_of-more v xs i d lt h n = ap (first_of v) (take_more xs i d lt) ∙ first_of-none v (take i xs) (get_or xs i d ∷ []) h ∙ rw (ne_eqb (get_or xs i d).variable v n) refl
+pub first_literal_of-more : (v : ℕ) (xs : List Literal) (i : ℕ) (d : Literal) → i < length xs → first_literal_of v (take i xs) ≡ None → ((get_or xs i d).variable ≡ v → ⊥) → first_literal_of v (take (i + 1) xs) ≡ None
+first_literal_of-more v xs i d lt h n = ap (first_literal_of v) (take_more xs i d lt) ∙ first_literal_of-none v (take i xs) (get_or xs i d ∷ []) h ∙ rw (ne_eqb (get_or xs i d).variable v n) refl
 
 abbrev pub UnmarkedAre : List Literal → List Literal → ℕ → Type 0
 UnmarkedAre seen falses v = (y : Literal) → y.variable ≡ v → is_false_unmarked seen y ≡ is_among falses y
@@ -148,38 +148,38 @@ UnmarkedAre seen falses v = (y : Literal) → y.variable ≡ v → is_false_unma
 -- A variable without a mark has the value of the first hinted clause that names it: there all other literals are false,
 -- so its own is the one that the clause forces.
 unmarked_more : (seen falses c : List Literal) (l x : Literal) → UnmarkedAre seen falses x.variable → Forces (is_among falses) c l → is_false_unmarked (seen ++ c) x ≡ is_among (negation l ∷ falses) x
-unmarked_more seen falses c l x a f = go (first_of x.variable seen) refl
+unmarked_more seen falses c l x a f = go (first_literal_of x.variable seen) refl
   where
-    valued : (m : Literal) → first_of x.variable seen ≡ Some m → same_literal x (negation l) ≡ false
+    valued : (m : Literal) → first_literal_of x.variable seen ≡ Some m → same_literal x (negation l) ≡ false
     valued m e = false_from_ne_true _ (λ h.
         (let q : x ≡ negation l = same_literal-eq x (negation l) h in
         let v : l.variable ≡ x.variable = ap (λ (z : Literal). z.variable) (sym q) in
-        let mv : m.variable ≡ x.variable = (first_of-in x.variable seen m e).1 in
-        let w : first_of m.variable seen ≡ Some m = ap (λ (v : ℕ). first_of v seen) mv ∙ e in
+        let mv : m.variable ≡ x.variable = (first_literal_of-in x.variable seen m e).1 in
+        let w : first_literal_of m.variable seen ≡ Some m = ap (λ (v : ℕ). first_literal_of v seen) mv ∙ e in
         let n : is_among falses (negation m) ≡ true = sym (a (negation m) mv) ∙ rw w (same_literal-refl (negation m)) in
         elim (same_variable l m (v ∙ sym mv)) [
           | inl s ↦ false≢true (sym f.not_true ∙ ap (λ (z : Literal). is_among falses (negation z)) s ∙ n)
           | inr s ↦ false≢true (sym f.not_false ∙ ap (is_among falses) s ∙ n)
         ]))
 
-    fresh : (o : Option Literal) → first_of x.variable c ≡ o → ((y : Literal) → y.variable ≡ x.variable → is_among falses y ≡ false) → option_map_or (λ m. same_literal x (negation m)) o false ≡ (same_literal x (negation l) || is_among falses x)
+    fresh : (o : Option Literal) → first_literal_of x.variable c ≡ o → ((y : Literal) → y.variable ≡ x.variable → is_among falses y ≡ false) → option_map_or (λ m. same_literal x (negation m)) o false ≡ (same_literal x (negation l) || is_among falses x)
     fresh None e n =
-        let s : same_literal x (negation l) ≡ false = false_from_ne_true _ (λ h. first_of-out x.variable c l e f.member (ap (λ (z : Literal). z.variable) (sym (same_literal-eq x (negation l) h)))) in
+        let s : same_literal x (negation l) ≡ false = false_from_ne_true _ (λ h. first_literal_of-out x.variable c l e f.member (ap (λ (z : Literal). z.variable) (sym (same_literal-eq x (negation l) h)))) in
         rw (s, n x refl) refl
     fresh (Some m) e n =
-        let i = first_of-in x.variable c m e in
+        let i = first_literal_of-in x.variable c m e in
         let q : m ≡ l = elim (f.others m i.0) [ inl s ↦ s | inr t ↦ absurd (false≢true (sym (n m i.1) ∙ t)) ] in
         rw (n x refl, q) (sym (or_false (same_literal x (negation l))))
 
-    go : (o : Option Literal) → first_of x.variable seen ≡ o → is_false_unmarked (seen ++ c) x ≡ is_among (negation l ∷ falses) x
-    go (Some m) e = rw (first_of-some x.variable seen c m e, valued m e) (rw e at (a x refl))
-    go None e = rw (first_of-none x.variable seen c e) (fresh (first_of x.variable c) refl (λ y v. sym (a y v) ∙ rw (v, e) refl))
+    go : (o : Option Literal) → first_literal_of x.variable seen ≡ o → is_false_unmarked (seen ++ c) x ≡ is_among (negation l ∷ falses) x
+    go (Some m) e = rw (first_literal_of-some x.variable seen c m e, valued m e) (rw e at (a x refl))
+    go None e = rw (first_literal_of-none x.variable seen c e) (fresh (first_literal_of x.variable c) refl (λ y v. sym (a y v) ∙ rw (v, e) refl))
 
 -- the literal that a hint forces becomes true
-pub FalsesAre-forced : (known : List (Option (List Literal))) (marks : List VariableMark) (step : ℕ) (seen falses : List Literal) (h : ℕ) (l : Literal) → FalsesAre marks step seen falses → hint_finding known (is_among falses) h ≡ Forced l → FalsesAre (marked marks step (negation l)) step (seen ++ unwrap_or (clause_of known h) []) (negation l ∷ falses)
+pub FalsesAre-forced : (known : List (Option (List Literal))) (marks : List VariableMark) (step : ℕ) (seen falses : List Literal) (h : ℕ) (l : Literal) → FalsesAre marks step seen falses → hint_finding known (is_among falses) h ≡ Forced l → FalsesAre (with_mark marks step (negation l)) step (seen ++ unwrap_or (clause_of known h) []) (negation l ∷ falses)
 FalsesAre-forced known marks step seen falses h l a e = at (clause_of known h) e
   where
-    at : (o : Option (List Literal)) → option_map_or (finding (is_among falses)) o Open ≡ Forced l → FalsesAre (marked marks step (negation l)) step (seen ++ unwrap_or o []) (negation l ∷ falses)
+    at : (o : Option (List Literal)) → option_map_or (finding (is_among falses)) o Open ≡ Forced l → FalsesAre (with_mark marks step (negation l)) step (seen ++ unwrap_or o []) (negation l ∷ falses)
     at None e = absurd (cc)
     at (Some c) e =
         let f = forces_from (is_among falses) c l e in
@@ -194,11 +194,11 @@ FalsesAre-none marks step a x = elim (cases_Bool (is_literal_in_range (length ma
 ]
 
 -- a literal of the step's own clause becomes false
-pub FalsesAre-start : (marks : List VariableMark) (step : ℕ) (falses : List Literal) (l : Literal) → FalsesAre marks step [] falses → is_literal_in_range (length marks) l ≡ true → is_among falses l ≡ false → is_among falses (negation l) ≡ false → FalsesAre (marked marks step l) step [] (l ∷ falses)
+pub FalsesAre-start : (marks : List VariableMark) (step : ℕ) (falses : List Literal) (l : Literal) → FalsesAre marks step [] falses → is_literal_in_range (length marks) l ≡ true → is_among falses l ≡ false → is_among falses (negation l) ≡ false → FalsesAre (with_mark marks step l) step [] (l ∷ falses)
 FalsesAre-start marks step falses l a r f g = FalsesAre-more marks step [] [] falses l a f g (λ x n. (let q : false ≡ is_among falses x = rw n at (a x) in rw (apart' (length marks) x l n r, ← q) refl))
 
 -- the marks of this step or an earlier one
-pub AreUpTo-marked : (marks : List VariableMark) (step : ℕ) (l : Literal) → AreUpTo step marks → AreUpTo step (marked marks step l)
+pub AreUpTo-marked : (marks : List VariableMark) (step : ℕ) (l : Literal) → AreUpTo step marks → AreUpTo step (with_mark marks step l)
 AreUpTo-marked marks step l a = elim (cases_Bool (is_literal_in_range (length marks) l)) [
   | inl t ↦ rw t (All-set (λ m. m.step ≤ step) marks (l.variable - 1) (record { step = step; positive = l.positive }) (omega arith) a)
   | inr f ↦ rw f a
@@ -212,16 +212,16 @@ pub literals_of-more : (known : List (Option (List Literal))) (hints : List ℕ)
 literals_of-more known hints i h = ap (literals_of known) (take_more hints i 0 h) ∙ literals_of-append known (take i hints) (get_or hints i 0 ∷ []) ∙ ap (λ (ys : List Literal). literals_of known (take i hints) ++ ys) (append-nil (unwrap_or (clause_of known (get_or hints i 0)) []))
 
 -- the first literal of a variable in the clauses of the hints
-pub hinted_here : (known : List (Option (List Literal))) (hints : List ℕ) (i v : ℕ) (clause : List Literal) (m : Literal) → i < length hints → first_of v (literals_of known (take i hints)) ≡ None → clause_of known (get_or hints i 0) ≡ Some clause → first_of v clause ≡ Some m → first_of v (literals_of known hints) ≡ Some m
+pub hinted_here : (known : List (Option (List Literal))) (hints : List ℕ) (i v : ℕ) (clause : List Literal) (m : Literal) → i < length hints → first_literal_of v (literals_of known (take i hints)) ≡ None → clause_of known (get_or hints i 0) ≡ Some clause → first_literal_of v clause ≡ Some m → first_literal_of v (literals_of known hints) ≡ Some m
 hinted_here known hints i v clause m lt h c e =
     let s : hints ≡ take i hints ++ get_or hints i 0 ∷ drop (suc i) hints = sym (take-append-drop i hints) ∙ ap (λ (hs : List ℕ). take i hints ++ hs) (drop-cons hints i 0 lt) in
-    ap (λ (hs : List ℕ). first_of v (literals_of known hs)) s
-    ∙ ap (first_of v) (literals_of-append known (take i hints) (get_or hints i 0 ∷ drop (suc i) hints))
-    ∙ first_of-none v (literals_of known (take i hints)) (literals_of known (get_or hints i 0 ∷ drop (suc i) hints)) h
-    ∙ rw c (first_of-some v clause (literals_of known (drop (suc i) hints)) m e)
+    ap (λ (hs : List ℕ). first_literal_of v (literals_of known hs)) s
+    ∙ ap (first_literal_of v) (literals_of-append known (take i hints) (get_or hints i 0 ∷ drop (suc i) hints))
+    ∙ first_literal_of-none v (literals_of known (take i hints)) (literals_of known (get_or hints i 0 ∷ drop (suc i) hints)) h
+    ∙ rw c (first_literal_of-some v clause (literals_of known (drop (suc i) hints)) m e)
 
-pub hinted_more : (known : List (Option (List Literal))) (hints : List ℕ) (i v : ℕ) → i < length hints → first_of v (literals_of known (take i hints)) ≡ None → first_of v (unwrap_or (clause_of known (get_or hints i 0)) []) ≡ None → first_of v (literals_of known (take (i + 1) hints)) ≡ None
-hinted_more known hints i v lt h n = ap (first_of v) (literals_of-more known hints i lt) ∙ first_of-none v (literals_of known (take i hints)) (unwrap_or (clause_of known (get_or hints i 0)) []) h ∙ n
+pub hinted_more : (known : List (Option (List Literal))) (hints : List ℕ) (i v : ℕ) → i < length hints → first_literal_of v (literals_of known (take i hints)) ≡ None → first_literal_of v (unwrap_or (clause_of known (get_or hints i 0)) []) ≡ None → first_literal_of v (literals_of known (take (i + 1) hints)) ≡ None
+hinted_more known hints i v lt h n = ap (first_literal_of v) (literals_of-more known hints i lt) ∙ first_literal_of-none v (literals_of known (take i hints)) (unwrap_or (clause_of known (get_or hints i 0)) []) h ∙ n
 
 pub is_last-drop : {A : Type 0} (hints : List A) (j : ℕ) → j ≤ length hints → list_all (λ _. false) (drop j hints) ≡ eqb j (length hints)
 is_last-drop [] zero h = refl

@@ -21,13 +21,13 @@ abbrev pub is_false_by : List (Option Bool) → Literal → Bool
 is_false_by values l =
     if is_literal_in_range (length values) l then is_other l.positive (slice_index_or values (l.variable - 1) None) else false
 
-abbrev pub is_unknown : Option Bool → ℕ
-is_unknown None = 1
-is_unknown (Some value) = 0
+abbrev pub unknown_count : Option Bool → ℕ
+unknown_count None = 1
+unknown_count (Some value) = 0
 
 -- how many variables have no value
 abbrev pub unknowns : List (Option Bool) → ℕ
-unknowns values = sum_by is_unknown values
+unknowns values = sum_by unknown_count values
 
 -- the clauses by number, all of them alive
 abbrev pub alive : List (List Literal) → List (Option (List Literal))

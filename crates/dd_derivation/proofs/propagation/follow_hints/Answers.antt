@@ -1,7 +1,7 @@
 use Rattle.std.proofs.Common.{◌≡◌, ◌∷◌, get_or, take, sym}
 use Rattle.dd_clause.specs.Clauses.{negation}
 use Rattle.dd_derivation.specs.declared.propagation.Finding.TheVariants.{Falsified, Forced, Open}
-use Rattle.dd_derivation.specs.MarksOf.{literals_of, marked}
+use Rattle.dd_derivation.specs.MarksOf.{literals_of, with_mark}
 use Rattle.dd_derivation.specs.lemmas.Falses.{hint_seen, FalsesAre-forced, AreUpTo-marked, literals_of-more, conflict_now}
 use Rattle.dd_derivation.proofs.propagation.follow_hints.Goals as goal
 
@@ -32,7 +32,7 @@ loop-place-preserved c =
     let l = c.in-Forced.literal in
     let so_far = c.loop-place.invariant.so_far in
     let h = hint_seen known marks c.args.number (literals_of known (take i hints)) so_far.0 (get_or hints i 0) (Forced l) so_far.1 c.in-Forced.ensures in
-    let new : c.mark.new.marks ≡ marked marks c.args.number (negation l) = rw c.negation.ensures at c.mark.ensures in
+    let new : c.mark.new.marks ≡ with_mark marks c.args.number (negation l) = rw c.negation.ensures at c.mark.ensures in
     record {
       so_far = (negation l ∷ so_far.0, rw (new, literals_of-more known hints i c.loop-place-test.true) (FalsesAre-forced known marks c.args.number (literals_of known (take i hints)) so_far.0 (get_or hints i 0) l so_far.1 h), conflict_now known c.args.step.now.clause so_far.0 hints i (Forced l) c.loop-place-test.true h so_far.2);
       older = rw new (AreUpTo-marked marks c.args.number (negation l) c.loop-place.invariant.older);
