@@ -6,7 +6,7 @@ use Rattle.dd_written.specs.reading.Laws.{FormulasAreRead}
 use Rattle.dd_commands.specs.declared.command.Command.{Command}
 use Rattle.dd_commands.specs.declared.script.Written.{Written}
 use Rattle.dd_commands.specs.declared.script.Syntax.{Syntax}
-use Rattle.dd_commands.specs.Scripts.{parts, next_of, MayStand, AreCommands, IsFirstBad, IsScript, IsFault}
+use Rattle.dd_commands.specs.Scripts.{parts, stage_after, MayStand, AreCommands, IsFirstBad, IsScript, IsSyntaxFault}
 use Rattle.dd_commands.specs.lemmas.Options.{some_is}
 use Rattle.dd_commands.specs.lemmas.CommandComplete.{command_again}
 
@@ -30,7 +30,7 @@ module _ (law : FormulasAreRead) where
   same_commands bytes from (p ∷ ps) (c ∷ cs) [] one other = absurd other
   same_commands bytes from (p ∷ ps) (c ∷ cs) (d ∷ ds) one other =
       let same : c ≡ d = one_command bytes from p c d one.0 other.0 in
-      let rest : cs ≡ ds = same_commands bytes (next_of d) ps cs ds (subst (λ (e : Written). AreCommands bytes (next_of e) ps cs) same one.1) other.1 in
+      let rest : cs ≡ ds = same_commands bytes (stage_after d) ps cs ds (subst (λ (e : Written). AreCommands bytes (stage_after e) ps cs) same one.1) other.1 in
       ap (λ (e : Written). e ∷ cs) same ∙ ap (λ (es : List Written). d ∷ es) rest
 
   not_both : (bytes : List ℕ) (from : ℕ) (ps : List (List Lexeme)) (cs : List Written) (place : ℕ) → AreCommands bytes from ps cs → IsFirstBad bytes from ps place → ⊥
@@ -39,7 +39,7 @@ module _ (law : FormulasAreRead) where
   not_both bytes from (p ∷ ps) (c ∷ cs) zero one bad = bad c one.0
   not_both bytes from (p ∷ ps) (c ∷ cs) (suc place) one bad =
       let same : c ≡ bad.0 = one_command bytes from p c bad.0 one.0 bad.1 in
-      not_both bytes (next_of bad.0) ps cs place (subst (λ (e : Written). AreCommands bytes (next_of e) ps cs) same one.1) bad.2
+      not_both bytes (stage_after bad.0) ps cs place (subst (λ (e : Written). AreCommands bytes (stage_after e) ps cs) same one.1) bad.2
 
   one_bad : (bytes : List ℕ) (from : ℕ) (ps : List (List Lexeme)) (m n : ℕ) → IsFirstBad bytes from ps m → IsFirstBad bytes from ps n → m ≡ n
   one_bad bytes from [] m n one other = absurd one
@@ -48,18 +48,18 @@ module _ (law : FormulasAreRead) where
   one_bad bytes from (p ∷ ps) (suc m) zero one other = absurd (other one.0 one.1)
   one_bad bytes from (p ∷ ps) (suc m) (suc n) one other =
       let same : one.0 ≡ other.0 = one_command bytes from p one.0 other.0 one.1 other.1 in
-      ap suc (one_bad bytes (next_of other.0) ps m n (subst (λ (e : Written). IsFirstBad bytes (next_of e) ps m) same one.2) other.2)
+      ap suc (one_bad bytes (stage_after other.0) ps m n (subst (λ (e : Written). IsFirstBad bytes (stage_after e) ps m) same one.2) other.2)
 
   pub one_tree : (bytes : List ℕ) (s t : Syntax) → IsScript bytes s → IsScript bytes t → s ≡ t
   one_tree bytes s t one other =
       ap (λ (x : List ℕ). syntax_of x s.commands) (one.0 ∙ sym other.0) ∙ ap (λ (cs : List Written). syntax_of t.text cs) (same_commands bytes 0 (parts (lexemes_of bytes)).1 s.commands t.commands one.1.1 other.1.1)
 
-  pub one_fault : (bytes : List ℕ) (m n : ℕ) → IsFault bytes m → IsFault bytes n → m ≡ n
+  pub one_fault : (bytes : List ℕ) (m n : ℕ) → IsSyntaxFault bytes m → IsSyntaxFault bytes n → m ≡ n
   one_fault bytes zero zero one other = refl
   one_fault bytes zero (suc n) one other = absurd (one other.0)
   one_fault bytes (suc m) zero one other = absurd (other one.0)
   one_fault bytes (suc m) (suc n) one other = ap suc (one_bad bytes 0 (parts (lexemes_of bytes)).1 m n one.1 other.1)
 
-  pub tree_or_fault : (bytes : List ℕ) (s : Syntax) (n : ℕ) → IsScript bytes s → IsFault bytes n → ⊥
+  pub tree_or_fault : (bytes : List ℕ) (s : Syntax) (n : ℕ) → IsScript bytes s → IsSyntaxFault bytes n → ⊥
   tree_or_fault bytes s zero one bad = bad one.1.0
   tree_or_fault bytes s (suc n) one bad = not_both bytes 0 (parts (lexemes_of bytes)).1 s.commands n one.1.1 bad.1

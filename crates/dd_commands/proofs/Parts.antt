@@ -9,8 +9,8 @@ use Rattle.dd_written.specs.declared.lexeme.Lexeme.TheVariants as lexeme
 use Rattle.dd_commands.specs.declared.script.Written.{Written}
 use Rattle.dd_written.specs.declared.fault.ReadFault.{ReadFault}
 use Rattle.dd_written.specs.declared.fault.ReadFault.TheVariants as faults
-use Rattle.dd_commands.specs.Scripts.{parts, next_of, MayStand, AreCommands, IsFirstBad, AreWritten, IsBadCommand}
-use Rattle.dd_commands.specs.reading.Parts.{is_inside, Decides}
+use Rattle.dd_commands.specs.Scripts.{parts, stage_after, MayStand, AreCommands, IsFirstBad, AreWritten, IsBadCommand}
+use Rattle.dd_commands.specs.reading.Parts.{is_inside, FindsIfAny}
 
 one_more : (n : ℕ) → 1 + n ≡ suc n
 one_more n = omega arith
@@ -38,11 +38,11 @@ behind_mark (t ∷ tokens) some none = absurd cc
 -- the place behind some commands
 abbrev pub stage_behind : ℕ → List Written → ℕ
 stage_behind from [] = from
-stage_behind from (c ∷ cs) = stage_behind (next_of c) cs
+stage_behind from (c ∷ cs) = stage_behind (stage_after c) cs
 
-behind_push : (from : ℕ) (cs : List Written) (c : Written) → stage_behind from (cs ++ c ∷ []) ≡ next_of c
+behind_push : (from : ℕ) (cs : List Written) (c : Written) → stage_behind from (cs ++ c ∷ []) ≡ stage_after c
 behind_push from [] c = refl
-behind_push from (d ∷ cs) c = behind_push (next_of d) cs c
+behind_push from (d ∷ cs) c = behind_push (stage_after d) cs c
 
 -- ---- the parts that were read, and those that are left
 pub record Sofar (bytes : List ℕ) (tokens rest : List Lexeme) (cs : List Written) (number from : ℕ) : Type 0 where
@@ -58,10 +58,10 @@ read_push : (bytes : List ℕ) (from : ℕ) (ps : List (List Lexeme)) (cs : List
 read_push bytes from [] [] p c each one = (one, tt)
 read_push bytes from [] (d ∷ cs) p c each one = absurd each
 read_push bytes from (q ∷ ps) [] p c each one = absurd each
-read_push bytes from (q ∷ ps) (d ∷ cs) p c each one = (each.0, read_push bytes (next_of d) ps cs p c each.1 one)
+read_push bytes from (q ∷ ps) (d ∷ cs) p c each one = (each.0, read_push bytes (stage_after d) ps cs p c each.1 one)
 
 pub goes_on : (bytes : List ℕ) (tokens rest part next : List Lexeme) (cs new : List Written) (number from : ℕ) (c : Written) → Sofar bytes tokens rest cs number from → (parts rest).1 ≡ part ∷ (parts next).1 → (parts next).0 ≡ [] → MayStand bytes from part c → new ≡ cs ++ c ∷ []
-    → Sofar bytes tokens next new (number + 1) (next_of c)
+    → Sofar bytes tokens next new (number + 1) (stage_after c)
 goes_on bytes tokens rest part next cs new number from c s cut clean is pushed = record {
   done = s.done ++ part ∷ [];
   split = s.split ∙ ap (λ (ps : List (List Lexeme)). s.done ++ ps) cut ∙ sym (append_assoc s.done (part ∷ []) (parts next).1);
@@ -76,7 +76,7 @@ bad_at : (bytes : List ℕ) (from : ℕ) (ps : List (List Lexeme)) (cs : List Wr
 bad_at bytes from [] [] bad after each none = none
 bad_at bytes from [] (c ∷ cs) bad after each none = absurd each
 bad_at bytes from (p ∷ ps) [] bad after each none = absurd each
-bad_at bytes from (p ∷ ps) (c ∷ cs) bad after each none = (c, each.0, bad_at bytes (next_of c) ps cs bad after each.1 none)
+bad_at bytes from (p ∷ ps) (c ∷ cs) bad after each none = (c, each.0, bad_at bytes (stage_after c) ps cs bad after each.1 none)
 
 pub is_fault : (bytes : List ℕ) (tokens rest part next : List Lexeme) (cs : List Written) (number from : ℕ) → Sofar bytes tokens rest cs number from → (parts rest).1 ≡ part ∷ (parts next).1 → ((c : Written) → MayStand bytes from part c → ⊥) → IsBadCommand bytes tokens (number + 1)
 is_fault bytes tokens rest part next cs number from s cut none =
@@ -101,9 +101,9 @@ something_before [] lt none = omega (arith, lt)
 something_before (lexeme.Mark mark.Percent ∷ tokens) lt none = omega (arith, lt)
 something_before (t ∷ tokens) lt none = absurd cc
 
-pub none_read : (e : ReadFault) (P : Written → Type 0) → e ≡ faults.Syntax → Decides (Err e) P → (c : Written) → P c → ⊥
+pub none_read : (e : ReadFault) (P : Written → Type 0) → e ≡ faults.Syntax → FindsIfAny (Err e) P → (c : Written) → P c → ⊥
 none_read faults.Memory P is decided = absurd cc
 none_read faults.Syntax P is decided = decided
 
-pub next_is : (bytes : List ℕ) (tokens rest : List Lexeme) (cs : List Written) (number : ℕ) (c : Written) (from : ℕ) → from ≡ next_of c → Sofar bytes tokens rest cs number (next_of c) → Sofar bytes tokens rest cs number from
+pub next_is : (bytes : List ℕ) (tokens rest : List Lexeme) (cs : List Written) (number : ℕ) (c : Written) (from : ℕ) → from ≡ stage_after c → Sofar bytes tokens rest cs number (stage_after c) → Sofar bytes tokens rest cs number from
 next_is bytes tokens rest cs number c from e s = subst (Sofar bytes tokens rest cs number) (sym e) s

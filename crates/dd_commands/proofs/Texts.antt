@@ -12,7 +12,7 @@ use Rattle.dd_written.specs.declared.lexeme.Lexeme.TheVariants as lexeme
 use Rattle.dd_written.specs.Lexemes.{lexeme_of, lexemes_of, stray}
 use Rattle.dd_commands.specs.declared.script.Written.{Written}
 use Rattle.dd_commands.specs.Commands.{IsCommand}
-use Rattle.dd_commands.specs.Scripts.{parts, is_whole, next_of, AreCommands, AreWritten, IsWritten}
+use Rattle.dd_commands.specs.Scripts.{parts, is_whole, stage_after, AreCommands, AreWritten, IsWritten}
 
 -- ---- each part's tokens are among those of the text
 
@@ -36,7 +36,7 @@ are_written bytes from (p ∷ ps) (w ∷ ws) each among =
         is = subst (IsCommand bytes w.command) e each.0.is;
         among = All-from_recursion (Contains (lexemes_of bytes)) w.tokens (subst (AreAmong bytes) e among.0);
       },
-      are_written bytes (next_of w) ps ws each.1 among.1,
+      are_written bytes (stage_after w) ps ws each.1 among.1,
     )
 
 pub all_written : (bytes : List ℕ) (ws : List Written) → AreWritten bytes (lexemes_of bytes) ws → All (IsWritten bytes) ws
@@ -63,7 +63,7 @@ whole_commands : (bytes : List ℕ) (from : ℕ) (ps : List (List Lexeme)) (ws :
 whole_commands bytes from [] [] each = refl
 whole_commands bytes from [] (w ∷ ws) each = absurd each
 whole_commands bytes from (p ∷ ps) [] each = absurd each
-whole_commands bytes from (p ∷ ps) (w ∷ ws) each = both (list_all is_whole p) (list_all (list_all is_whole) ps) each.0.whole (whole_commands bytes (next_of w) ps ws each.1)
+whole_commands bytes from (p ∷ ps) (w ∷ ws) each = both (list_all is_whole p) (list_all (list_all is_whole) ps) each.0.whole (whole_commands bytes (stage_after w) ps ws each.1)
 
 whole_behind : (xs ys : List Lexeme) → list_all is_whole (xs ++ ys) ≡ true → list_all is_whole ys ≡ true
 whole_behind [] ys all = all

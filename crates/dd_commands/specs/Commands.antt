@@ -17,7 +17,7 @@ use Rattle.dd_commands.specs.declared.command.Request.{Request}
 use Rattle.dd_commands.specs.declared.command.Command.{Command}
 use Rattle.dd_commands.specs.declared.command.Command.TheVariants as command
 use Rattle.dd_written.specs.Values.{word_text}
-use Rattle.dd_written.specs.Formulas.{name_lexeme, text, IsFormula}
+use Rattle.dd_written.specs.Formulas.{name_lexeme, text, IsWrittenFormula}
 use Rattle.dd_written.specs.reading.Readers.{ReadsAll}
 use Rattle.dd_commands.specs.Table.{row}
 use Rattle.dd_commands.specs.Heads.{head_text, head_of, kind_text}
@@ -40,9 +40,9 @@ abbrev pub is_plain : Vector → Bool
 is_plain v = list_all is_plain_entry v.entries
 
 -- a second list, where there is one
-abbrev pub shear_text : Option Vector → List Lexeme
-shear_text None = []
-shear_text (Some v) = vector_text v
+abbrev pub second_vector_text : Option Vector → List Lexeme
+second_vector_text None = []
+second_vector_text (Some v) = vector_text v
 
 abbrev pub IsPlainShear : Option Vector → Type 0
 IsPlainShear None = Unit {0}
@@ -61,7 +61,7 @@ IsBehind bytes wanted tokens rest = (w : Word) × (word_text bytes w ≡ wanted)
 pub record IsCase (bytes : List ℕ) (c : Case) (tokens rest : List Lexeme) : Type 0 where
   pub middle : List Lexeme
   pub when : IsBehind bytes (codes "when") tokens (text c.condition ++ middle)
-  pub condition : IsFormula c.condition
+  pub condition : IsWrittenFormula c.condition
   pub give : IsBehind bytes (codes "give") middle (name_lexeme c.symbol ∷ rest)
 
 -- {"when" formula "give" name} "else" name
@@ -99,12 +99,12 @@ IsBody bytes (command.Edges edges) tokens = (1 ≤ length edges) × (tokens ≡ 
 IsBody bytes (command.Only node symbols) tokens = (1 ≤ length symbols) × (tokens ≡ name_lexeme node ∷ map name_lexeme symbols)
 IsBody bytes (command.Weights ns) tokens = (1 ≤ length ns) × (tokens ≡ map lexeme.Number ns)
 IsBody bytes (command.Limits radius period pivots) tokens = tokens ≡ lexeme.Number radius ∷ lexeme.Number period ∷ lexeme.Number pivots ∷ []
-IsBody bytes (command.Rule name f) tokens = IsFormula f × (tokens ≡ lexeme.Word name ∷ text f)
+IsBody bytes (command.Rule name f) tokens = IsWrittenFormula f × (tokens ≡ lexeme.Word name ∷ text f)
 IsBody bytes (command.Automaton name cases symbol) tokens = (rest : List Lexeme) × (tokens ≡ lexeme.Word name ∷ rest) × AreCases bytes cases symbol rest
 IsBody bytes (command.Composition name outer inner) tokens = tokens ≡ lexeme.Word name ∷ lexeme.Word outer ∷ lexeme.Word inner ∷ []
 IsBody bytes (command.Configuration name periods shear symbols) tokens =
     (1 ≤ length symbols) × (is_plain periods ≡ true) × IsPlainShear shear
-    × (tokens ≡ lexeme.Word name ∷ vector_text periods ++ (shear_text shear ++ map name_lexeme symbols))
+    × (tokens ≡ lexeme.Word name ∷ vector_text periods ++ (second_vector_text shear ++ map name_lexeme symbols))
 IsBody bytes (command.Query r) tokens = IsRequest r × (tokens ≡ request_text r)
 
 -- the tokens behind the mark

@@ -29,8 +29,8 @@ is_whole lexeme.Stray = false
 abbrev pub stage_of : Written → ℕ
 stage_of w = stage (head_of w.command)
 
-abbrev pub next_of : Written → ℕ
-next_of w = next_stage (head_of w.command)
+abbrev pub stage_after : Written → ℕ
+stage_after w = next_stage (head_of w.command)
 
 -- a part is a command that may stand at this place or a later one
 pub record MayStand (bytes : List ℕ) (from : ℕ) (part : List Lexeme) (w : Written) : Type 0 where
@@ -43,13 +43,13 @@ abbrev pub AreCommands : List ℕ → ℕ → List (List Lexeme) → List Writte
 AreCommands bytes from [] [] = Unit {0}
 AreCommands bytes from [] (w ∷ ws) = ⊥
 AreCommands bytes from (p ∷ ps) [] = ⊥
-AreCommands bytes from (p ∷ ps) (w ∷ ws) = MayStand bytes from p w × AreCommands bytes (next_of w) ps ws
+AreCommands bytes from (p ∷ ps) (w ∷ ws) = MayStand bytes from p w × AreCommands bytes (stage_after w) ps ws
 
 -- the first part that is no command which may stand there, by its place
 abbrev pub IsFirstBad : List ℕ → ℕ → List (List Lexeme) → ℕ → Type 0
 IsFirstBad bytes from [] place = ⊥
 IsFirstBad bytes from (p ∷ ps) zero = (w : Written) → MayStand bytes from p w → ⊥
-IsFirstBad bytes from (p ∷ ps) (suc place) = (w : Written) × MayStand bytes from p w × IsFirstBad bytes (next_of w) ps place
+IsFirstBad bytes from (p ∷ ps) (suc place) = (w : Written) × MayStand bytes from p w × IsFirstBad bytes (stage_after w) ps place
 
 -- nothing stands before the first command, and the parts are the commands
 abbrev pub AreWritten : List ℕ → List Lexeme → List Written → Type 0
@@ -65,12 +65,12 @@ abbrev pub IsScript : List ℕ → Syntax → Type 0
 IsScript bytes s = (s.text ≡ bytes) × AreWritten bytes (lexemes_of bytes) s.commands
 
 -- the first command that is not well formed
-abbrev pub IsFault : List ℕ → ℕ → Type 0
-IsFault bytes n = IsBadCommand bytes (lexemes_of bytes) n
+abbrev pub IsSyntaxFault : List ℕ → ℕ → Type 0
+IsSyntaxFault bytes n = IsBadCommand bytes (lexemes_of bytes) n
 
 abbrev pub Tells : List ℕ → Result Syntax SyntaxFault → Type 0
 Tells bytes (Ok s) = IsScript bytes s
-Tells bytes (Err (fault.At n)) = IsFault bytes n
+Tells bytes (Err (fault.At n)) = IsSyntaxFault bytes n
 Tells bytes (Err fault.Memory) = Unit {0}
 
 -- the command is written in a text: its tokens are among those of the text

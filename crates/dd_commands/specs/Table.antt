@@ -8,16 +8,16 @@ use Rattle.dd_commands.specs.declared.table.Question.{Question}
 use Rattle.dd_commands.specs.declared.table.Question.TheVariants as question
 
 -- The first word, what each further word names, how many numbers follow them, and which vectors follow these.
-pub record Row : Type 0 where
+pub record QuestionRow : Type 0 where
   pub word : List ℕ
   pub names : List Role
   pub numbers : ℕ
   pub lists : Lists
 
-abbrev pub entry : List ℕ → List Role → ℕ → Lists → Row
+abbrev pub entry : List ℕ → List Role → ℕ → Lists → QuestionRow
 entry word names numbers ls = record { word = word; names = names; numbers = numbers; lists = ls }
 
-abbrev pub row : Question → Row
+abbrev pub row : Question → QuestionRow
 row question.Member = entry (codes "member") (role.Configuration ∷ role.Rule ∷ []) 0 lists.None
 row question.Contains = entry (codes "contains") (role.Rule ∷ role.Rule ∷ []) 0 lists.None
 row question.Equal = entry (codes "equal") (role.Rule ∷ role.Rule ∷ []) 0 lists.None

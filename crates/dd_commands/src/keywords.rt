@@ -2,7 +2,7 @@
 ghost use Rattle.std.specs.Prelude.{◌≡◌, bytes_eq};
 ghost use Rattle.dd_written.specs.Values.{word_text};
 ghost use Rattle.dd_commands.specs.Heads.{head_text, kind_text};
-ghost use Rattle.dd_commands.specs.reading.Heads.{plain_at, question_at, head_at, kind_at};
+ghost use Rattle.dd_commands.specs.reading.Heads.{plain_head, question_at, head_at, kind_at};
 
 use crate::head::Head;
 use crate::table::{QUESTIONS, Question};
@@ -45,7 +45,7 @@ fn kind_text(kind: Kind) -> &'static [u8]
 
 /// The command of the header, or the definition, that begins with the word.
 fn plain(written: &[u8]) -> Option<Head>
-    ensures { result ≡ plain_at written.now }
+    ensures { result ≡ plain_head written.now }
 {
     let heads = [
         Head::Dimension,

@@ -1,6 +1,6 @@
 ghost use Rattle.std.specs.Prelude.{◌≡◌, ℕ, List};
 ghost use Rattle.dd_commands.specs.declared.script.Syntax.{Syntax};
-ghost use Rattle.dd_commands.specs.Scripts.{IsScript, IsFault};
+ghost use Rattle.dd_commands.specs.Scripts.{IsScript, IsSyntaxFault};
 
 use dd_written::formula_is_read;
 
@@ -13,14 +13,14 @@ pub fn one_tree()
 
 /// Bytes have one first fault at most.
 pub fn one_fault()
-    ensures { (bytes : List ℕ) (m n : ℕ) → IsFault bytes m → IsFault bytes n → m ≡ n }
+    ensures { (bytes : List ℕ) (m n : ℕ) → IsSyntaxFault bytes m → IsSyntaxFault bytes n → m ≡ n }
 {
     formula_is_read();
 }
 
 /// Bytes with a tree have no fault.
 pub fn tree_or_fault()
-    ensures { (bytes : List ℕ) (s : Syntax) (n : ℕ) → IsScript bytes s → IsFault bytes n → ⊥ }
+    ensures { (bytes : List ℕ) (s : Syntax) (n : ℕ) → IsScript bytes s → IsSyntaxFault bytes n → ⊥ }
 {
     formula_is_read();
 }

@@ -2,8 +2,8 @@
 ghost use Rattle.std.specs.Prelude.{◌≡◌, [], ◌∷◌, ◌+◌, ◌<◌, ◌≤◌, length, IfOk, All};
 ghost use Rattle.std.specs.List.{prefix_len, list_all};
 ghost use Rattle.dd_commands.specs.Heads.{stage, is_once, next_stage, head_of};
-ghost use Rattle.dd_commands.specs.Scripts.{parts, is_whole, stage_of, next_of, MayStand, IsWritten, Tells};
-ghost use Rattle.dd_commands.specs.reading.Parts.{is_inside, Decides, Told};
+ghost use Rattle.dd_commands.specs.Scripts.{parts, is_whole, stage_of, stage_after, MayStand, IsWritten, Tells};
+ghost use Rattle.dd_commands.specs.reading.Parts.{is_inside, FindsIfAny, Told};
 
 use crate::bodies::command;
 use crate::command::Command;
@@ -148,7 +148,7 @@ fn command_from(
     from: u32,
     part: &[Lexeme],
 ) -> Result<Written, ReadFault>
-    ensures { Decides result (MayStand bytes.now from part.now) }
+    ensures { FindsIfAny result (MayStand bytes.now from part.now) }
 {
     formula_is_read();
     if !are_whole(part) {

@@ -1,7 +1,7 @@
 //! A script, read and answered: the first line of the answer to each query.
 ghost use Rattle.std.specs.Prelude.{◌≤◌, length, Contains, IfOk, IfErr};
 ghost use Rattle.dd_script.specs.Parts.{Parts};
-ghost use Rattle.dd_script.specs.Scripts.{Spells, IsRefusal};
+ghost use Rattle.dd_script.specs.Scripts.{Spells, IsScriptRefusal};
 ghost use Rattle.dd_examples.specs.Lines.{IsLine, AreLines};
 
 use dd_answer::answer;
@@ -48,7 +48,7 @@ pub fn lines_of(alloc: Global, script: &Script) -> Result<Vec<u8>, AllocError>
 pub fn answered(alloc: Global, bytes: &[u8]) -> Result<Vec<u8>, ScriptFault>
     requires { length bytes.now ≤ 1048576 }
     ensures lines { IfOk result (λ text. (s : Parts) × Spells bytes.now s × AreLines s 1 s.queries text.items) }
-    ensures refused { IfErr result (IsRefusal bytes.now) }
+    ensures refused { IfErr result (IsScriptRefusal bytes.now) }
 {
     let script = parse(alloc, bytes)?;
     match lines_of(alloc, &script) {

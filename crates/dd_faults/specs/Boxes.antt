@@ -11,7 +11,7 @@ use Rattle.dd_faults.specs.declared.fault.Fault.TheVariants as fault
 use Rattle.dd_faults.specs.declared.context.Known.{Known}
 use Rattle.dd_faults.specs.declared.context.Context.{Context}
 use Rattle.dd_faults.specs.Order.{when, over}
-use Rattle.dd_faults.specs.Names.{place_of}
+use Rattle.dd_faults.specs.Names.{place_of_name}
 use Rattle.dd_faults.specs.Numbers.{dimension_of, entry_value, has_entries}
 
 -- there is a node, and each node has its symbols
@@ -20,7 +20,7 @@ HasSets k = (1 ≤ length k.setting.nodes) × (length k.setting.sets.allowed ≡
 
 -- whether the name is that of a symbol that the node allows
 abbrev pub is_allowed : Context → ℕ → Name → Bool
-is_allowed x a n = option_map_or (λ t. allows x.known.setting.sets a t) (place_of x.text x.known.setting.symbols n) false
+is_allowed x a n = option_map_or (λ t. allows x.known.setting.sets a t) (place_of_name x.text x.known.setting.symbols n) false
 
 -- symbols from the k-th on: the nodes stand innermost
 abbrev pub symbol_faults : Context → ℕ → List Name → List Fault

@@ -8,7 +8,7 @@ use Rattle.dd_written.specs.declared.lexeme.Word.{Word}
 use Rattle.dd_written.specs.declared.lexeme.Number.{Number}
 use Rattle.dd_written.specs.declared.tree.Name.{Name}
 use Rattle.dd_written.specs.declared.tree.Name.TheVariants as name
-use Rattle.dd_written.specs.Values.{value}
+use Rattle.dd_written.specs.Values.{written_value}
 use Rattle.dd_commands.specs.declared.table.Role.{Role}
 use Rattle.dd_commands.specs.declared.table.Lists.{Lists}
 use Rattle.dd_commands.specs.declared.table.Lists.TheVariants as lists
@@ -29,7 +29,7 @@ use Rattle.dd_faults.specs.declared.context.Context.{Context}
 use Rattle.dd_faults.specs.Order.{when, over}
 pub use Rattle.dd_faults.specs.Numbers.{unless, dimension_of, token_faults, entry_number, entry_value, has_entries, is_far}
 pub use Rattle.dd_faults.specs.Boxes.{HasSets, is_allowed, symbol_faults, product, period_at, shear_of, shear_fits, box_fits, box_faults}
-use Rattle.dd_faults.specs.Names.{place_of, missing, named, named_again}
+use Rattle.dd_faults.specs.Names.{place_of_name, missing, named, named_again}
 use Rattle.dd_faults.specs.Formulas.{formula_faults}
 use Rattle.dd_faults.specs.Repeats.{twice_named, twice_labelled, twice_vectors}
 
@@ -61,13 +61,13 @@ edge_faults x e =
 
 -- the script has restricted the symbols of the node
 abbrev pub is_restricted : Context → Name → Bool
-is_restricted x n = option_map_or (λ a. list_any (λ b. b == a) x.known.restricted) (place_of x.text x.known.setting.nodes n) false
+is_restricted x n = option_map_or (λ a. list_any (λ b. b == a) x.known.restricted) (place_of_name x.text x.known.setting.nodes n) false
 
 abbrev pub restricted_again : Context → Name → List Fault
 restricted_again x n = when (is_restricted x n) (fault.Twice n)
 
 abbrev pub weight_faults : Context → Number → List Fault
-weight_faults x n = over (nat_lt 1000 (value x.text n)) limit.Weight
+weight_faults x n = over (nat_lt 1000 (written_value x.text n)) limit.Weight
 
 abbrev pub passes_limits : ℕ → ℕ → ℕ → Bool
 passes_limits radius period pivots = nat_lt 8 radius || nat_lt period 1 || nat_lt 8 period || nat_lt 100000 pivots
@@ -83,7 +83,7 @@ abbrev pub word_faults : Context → Role × Word → List Fault
 word_faults x w = missing x.text (named x.known w.0) (name.Word w.1)
 
 abbrev pub radius_faults : Context → Number → List Fault
-radius_faults x n = over (nat_lt 3 (value x.text n)) limit.Radius
+radius_faults x n = over (nat_lt 3 (written_value x.text n)) limit.Radius
 
 -- a period that is not in 1..64
 abbrev pub is_no_strip : List ℕ → Entry → Bool
@@ -107,7 +107,7 @@ request_faults x r =
 -- ---- commands
 
 abbrev pub faults_of : Context → Command → List Fault
-faults_of x (command.Dimension n) = unless (nat_le 1 (value x.text n) && nat_le (value x.text n) 3)
+faults_of x (command.Dimension n) = unless (nat_le 1 (written_value x.text n) && nat_le (written_value x.text n) 3)
 faults_of x (command.Nodes names) = twice_named x.text names ++ (unless (x.later || nat_le (length names) 1) ++ over (nat_lt 4 (length names)) limit.Nodes)
 faults_of x (command.Alphabet names) = twice_named x.text names ++ over (nat_lt 16 (length names)) limit.Alphabet
 faults_of x (command.Topology k) = unless (kind_fits x.known k)
@@ -115,7 +115,7 @@ faults_of x (command.Edges es) = flat_map (edge_faults x) es ++ (twice_labelled 
 faults_of x (command.Only node symbols) =
     missing x.text x.known.setting.nodes node ++ (restricted_again x node ++ (flat_map (missing x.text x.known.setting.symbols) symbols ++ twice_named x.text symbols))
 faults_of x (command.Weights ns) = unless (length ns == length x.known.setting.symbols) ++ flat_map (weight_faults x) ns
-faults_of x (command.Limits radius period pivots) = over (passes_limits (value x.text radius) (value x.text period) (value x.text pivots)) limit.Limits
+faults_of x (command.Limits radius period pivots) = over (passes_limits (written_value x.text radius) (written_value x.text period) (written_value x.text pivots)) limit.Limits
 faults_of x (command.Rule called f) = named_again x.text x.known called ++ formula_faults x f []
 faults_of x (command.Automaton called cases symbol) =
     named_again x.text x.known called ++ (flat_map (case_faults x) cases ++ missing x.text x.known.setting.symbols symbol)

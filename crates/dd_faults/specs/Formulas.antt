@@ -12,7 +12,7 @@ use Rattle.dd_written.specs.declared.tree.Ball.{Ball}
 use Rattle.dd_written.specs.declared.tree.Formula.{Formula}
 use Rattle.dd_written.specs.declared.tree.Formula.TheFolds.{fold-Formula}
 use Rattle.dd_written.specs.declared.tree.Formula.TheOpen.{Formula-F}
-use Rattle.dd_written.specs.Values.{value}
+use Rattle.dd_written.specs.Values.{written_value}
 use Rattle.dd_faults.specs.declared.fault.Limit.TheVariants as limit
 use Rattle.dd_faults.specs.declared.fault.Fault.{Fault}
 use Rattle.dd_faults.specs.declared.fault.Fault.TheVariants as fault
@@ -42,7 +42,7 @@ atom_faults x scope (atom.Same t u) = term_faults x scope t ++ term_faults x sco
 atom_faults x scope (atom.AtNode t n) = term_faults x scope t ++ missing x.text x.known.setting.nodes n
 
 abbrev pub ball_faults : Context → List Word → Ball → List Fault
-ball_faults x scope b = unknown_variable x.text scope b.middle ++ over (nat_lt 3 (value x.text b.radius)) limit.Radius
+ball_faults x scope b = unknown_variable x.text scope b.middle ++ over (nat_lt 3 (written_value x.text b.radius)) limit.Radius
 
 -- a quantifier's variable is in scope in its body, and not in its balls
 abbrev pub quantor_faults : Context → List Word → Word → List Ball → List Fault

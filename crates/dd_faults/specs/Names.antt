@@ -13,16 +13,16 @@ use Rattle.dd_faults.specs.declared.context.Known.{Known}
 use Rattle.dd_faults.specs.Order.{when}
 
 -- the place of a name among names
-abbrev pub place_of : List ℕ → List (List ℕ) → Name → Option ℕ
-place_of bytes names n = number_of names (name_text bytes n)
+abbrev pub place_of_name : List ℕ → List (List ℕ) → Name → Option ℕ
+place_of_name bytes names n = number_of names (name_text bytes n)
 
 -- unknown, where it is none of the names
 abbrev pub missing : List ℕ → List (List ℕ) → Name → List Fault
-missing bytes names n = when (not (is_some (place_of bytes names n))) (fault.Unknown n)
+missing bytes names n = when (not (is_some (place_of_name bytes names n))) (fault.Unknown n)
 
 -- the number of a name that is one of the names
 abbrev pub number_in : List ℕ → List (List ℕ) → Name → ℕ
-number_in bytes names n = unwrap_or (place_of bytes names n) 0
+number_in bytes names n = unwrap_or (place_of_name bytes names n) 0
 
 -- the names that words of a role may stand for
 abbrev pub named : Known → Role → List (List ℕ)
@@ -48,4 +48,4 @@ unknown_variable bytes scope w = when (not (is_variable bytes scope w)) (fault.U
 -- rules, automata and configurations share one set of names
 abbrev pub named_again : List ℕ → Known → Word → List Fault
 named_again bytes k w =
-    when (is_some (place_of bytes k.rules (name.Word w)) || is_some (place_of bytes k.automata (name.Word w)) || is_some (place_of bytes k.configurations (name.Word w))) (fault.Twice (name.Word w))
+    when (is_some (place_of_name bytes k.rules (name.Word w)) || is_some (place_of_name bytes k.automata (name.Word w)) || is_some (place_of_name bytes k.configurations (name.Word w))) (fault.Twice (name.Word w))

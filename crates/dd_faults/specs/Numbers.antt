@@ -4,7 +4,7 @@ use Rattle.std.specs.List.{list_any}
 use Rattle.dd_written.specs.declared.lexeme.Number.{Number}
 use Rattle.dd_written.specs.declared.lexeme.Lexeme.{Lexeme}
 use Rattle.dd_written.specs.declared.lexeme.Lexeme.TheVariants as lexeme
-use Rattle.dd_written.specs.Values.{value}
+use Rattle.dd_written.specs.Values.{written_value}
 use Rattle.dd_commands.specs.declared.command.Entry.{Entry}
 use Rattle.dd_commands.specs.declared.command.Entry.TheVariants as entry
 use Rattle.dd_commands.specs.declared.command.Vector.{Vector}
@@ -24,8 +24,8 @@ dimension_of k = k.setting.topology.dimension
 
 abbrev pub token_faults : List ℕ → Lexeme → List Fault
 token_faults bytes (lexeme.Word w) = over (nat_lt 32 w.length) limit.Word
-token_faults bytes (lexeme.Number n) = over (nat_lt 1000000 (value bytes n)) limit.Number
-token_faults bytes (lexeme.Negative n) = over (nat_lt 1000000 (value bytes n)) limit.Number
+token_faults bytes (lexeme.Number n) = over (nat_lt 1000000 (written_value bytes n)) limit.Number
+token_faults bytes (lexeme.Negative n) = over (nat_lt 1000000 (written_value bytes n)) limit.Number
 token_faults bytes (lexeme.Mark m) = []
 token_faults bytes lexeme.Stray = []
 
@@ -37,7 +37,7 @@ entry_number (entry.Number n) = n
 entry_number (entry.Negative n) = n
 
 abbrev pub entry_value : List ℕ → Entry → ℕ
-entry_value bytes e = value bytes (entry_number e)
+entry_value bytes e = written_value bytes (entry_number e)
 
 abbrev pub has_entries : ℕ → Vector → Bool
 has_entries d v = length v.entries == d

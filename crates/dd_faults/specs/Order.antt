@@ -31,17 +31,17 @@ limit_rank limit.States = 18
 limit_rank limit.Clauses = 19
 
 -- unknown names, then what is given twice, then dimensions, then limits
-abbrev pub rank : Fault → ℕ
-rank (fault.Unknown n) = 0
-rank (fault.Twice n) = 1
-rank fault.TwiceVector = 1
-rank fault.Dimension = 2
-rank (fault.Size l) = 3 + limit_rank l
+abbrev pub fault_rank : Fault → ℕ
+fault_rank (fault.Unknown n) = 0
+fault_rank (fault.Twice n) = 1
+fault_rank fault.TwiceVector = 1
+fault_rank fault.Dimension = 2
+fault_rank (fault.Size l) = 3 + limit_rank l
 
 -- a fault that comes later counts only where its rank is less
 abbrev pub better : Option Fault → Fault → Option Fault
 better None f = Some f
-better (Some g) f = if nat_lt (rank f) (rank g) then Some f else Some g
+better (Some g) f = if nat_lt (fault_rank f) (fault_rank g) then Some f else Some g
 
 abbrev pub noted : Option Fault → List Fault → Option Fault
 noted found [] = found

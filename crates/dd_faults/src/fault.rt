@@ -1,7 +1,7 @@
 //! Faults, and their one order.
 ghost use Rattle.std.specs.Prelude.{◌≡◌, ◌<◌};
 ghost use Rattle.dd_faults.specs.declared.fault.Refusal.TheVariants.{Memory};
-ghost use Rattle.dd_faults.specs.Order.{limit_rank, rank, better, when, over, noted, first_fault, Accepts};
+ghost use Rattle.dd_faults.specs.Order.{limit_rank, fault_rank, better, when, over, noted, first_fault, Accepts};
 
 use dd_written::Name;
 use std::alloc::AllocError;
@@ -119,7 +119,7 @@ impl Limit {
 impl Fault {
     /// The place in the order of faults, from 0.
     fn rank(self) -> u32
-        ensures { result ≡ rank self }
+        ensures { result ≡ fault_rank self }
     {
         match self {
             Fault::Unknown(_) => 0,

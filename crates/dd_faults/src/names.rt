@@ -2,7 +2,7 @@
 ghost use Rattle.std.specs.Prelude.{◌≡◌, is_some, position, bytes_eq};
 ghost use Rattle.dd_written.specs.Values.{word_text};
 ghost use Rattle.dd_faults.specs.Order.{noted};
-ghost use Rattle.dd_faults.specs.Names.{place_of, missing, is_variable, unknown_variable, named_again};
+ghost use Rattle.dd_faults.specs.Names.{place_of_name, missing, is_variable, unknown_variable, named_again};
 
 use crate::context::Known;
 use crate::fault::{Fault, note_if};
@@ -11,7 +11,7 @@ use dd_written::{Name, Text, Word, name_text};
 
 /// Whether a name is among others.
 pub(crate) fn is_named(text: &Text, names: &Names, name: Name) -> bool
-    ensures { result ≡ is_some (place_of text.now names.now name) }
+    ensures { result ≡ is_some (place_of_name text.now names.now name) }
 {
     names.find(name_text(text, name)).is_some()
 }

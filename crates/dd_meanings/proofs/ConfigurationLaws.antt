@@ -20,10 +20,10 @@ use Rattle.dd_faults.specs.declared.fault.Limit.TheVariants as limit
 use Rattle.dd_faults.specs.declared.fault.Fault.TheVariants as fault
 use Rattle.dd_faults.specs.declared.context.Context.{Context}
 use Rattle.dd_faults.specs.Order.{when, over}
-use Rattle.dd_faults.specs.Names.{place_of}
+use Rattle.dd_faults.specs.Names.{place_of_name}
 use Rattle.dd_faults.specs.Commands.{dimension_of, entry_value, has_entries, is_allowed, symbol_faults, product, period_at, shear_of, shear_fits, box_fits, box_faults}
 use Rattle.dd_faults.specs.Sound.{IsSound}
-use Rattle.dd_meanings.specs.Definitions.{symbol_of, periods_of, tile_of}
+use Rattle.dd_meanings.specs.Definitions.{symbol_of, configuration_periods, tile_of}
 use Rattle.dd_meanings.specs.Sound.{IsConfigurationOf}
 use Rattle.dd_meanings.specs.making.Parts.{HasShortPeriods, tile_with}
 use Rattle.dd_meanings.proofs.Nothing.{both_nil, within, neither, present}
@@ -35,7 +35,7 @@ record IsAllowedAt (x : Context) (a : ℕ) (t : ℕ) : Type 0 where
   below : t < length x.known.setting.symbols
   allowed : allows x.known.setting.sets a t ≡ true
 
-allowed_from : (x : Context) (a : ℕ) (n : Name) (o : Option ℕ) → place_of x.text x.known.setting.symbols n ≡ o → option_map_or (λ t. allows x.known.setting.sets a t) o false ≡ true →
+allowed_from : (x : Context) (a : ℕ) (n : Name) (o : Option ℕ) → place_of_name x.text x.known.setting.symbols n ≡ o → option_map_or (λ t. allows x.known.setting.sets a t) o false ≡ true →
     IsAllowedAt x a (unwrap_or o 0)
 allowed_from x a n None is h = absurd cc
 allowed_from x a n (Some t) is h = record {
@@ -44,7 +44,7 @@ allowed_from x a n (Some t) is h = record {
 }
 
 allowed_is : (x : Context) (a : ℕ) (n : Name) → is_allowed x a n ≡ true → IsAllowedAt x a (symbol_of x n)
-allowed_is x a n h = allowed_from x a n (place_of x.text x.known.setting.symbols n) refl h
+allowed_is x a n h = allowed_from x a n (place_of_name x.text x.known.setting.symbols n) refl h
 
 abbrev node_at : Context → ℕ → ℕ
 node_at x k = k % length x.known.setting.nodes
@@ -192,7 +192,7 @@ module _ (x : Context) (periods : Vector) (shear : Option Vector) (ns : List Nam
   pub shear_short : shear_of x.text shear ≤ 65536
   shear_short = omega (arith, box.less, its_factors.x_most)
 
-  periods_are : ArePeriodsIn (dimension_of x.known) (with_shear (periods_of x.text periods) (shear_of x.text shear))
+  periods_are : ArePeriodsIn (dimension_of x.known) (with_shear (configuration_periods x.text periods) (shear_of x.text shear))
   periods_are = record {
     x_some = its_factors.x_some;
     y_some = its_factors.y_some;

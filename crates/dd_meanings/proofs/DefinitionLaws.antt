@@ -4,7 +4,7 @@ use Rattle.std.specs.Prelude.{unwrap_or, Option}
 use Rattle.std.specs.List.{All, flat_map}
 use Rattle.std.proofs.lemmas.List.Elements.{All-cons, All-nil, All-head, All-tail}
 use Rattle.std.proofs.lemmas.Option.{slice_get_read}
-use Rattle.dd_written.specs.Formulas.{depth}
+use Rattle.dd_written.specs.Formulas.{tree_depth}
 use Rattle.dd_written.specs.declared.tree.Name.{Name}
 use Rattle.dd_commands.specs.declared.command.Case.{Case}
 use Rattle.dd_faults.specs.declared.context.Context.{Context}
@@ -27,13 +27,13 @@ use Rattle.dd_meanings.proofs.NameLaws.{number_below}
 use Rattle.dd_meanings.proofs.WellFormed.{is_formula}
 use Rattle.dd_meanings.proofs.SizeLaws.{fault_refuses, formed_passes}
 
-case_is : (x : Context) (c : Case) → IsSound x.known → case_faults x c ≡ [] → depth c.condition ≤ 64 → IsCaseOf x.known (meant_case x c)
+case_is : (x : Context) (c : Case) → IsSound x.known → case_faults x c ≡ [] → tree_depth c.condition ≤ 64 → IsCaseOf x.known (meant_case x c)
 case_is x c sound none shallow =
     let both = both_nil (formula_faults x c.condition []) (missing x.text x.known.setting.symbols c.symbol) none in
     record { formula = is_formula x c.condition sound both.0 shallow; symbol = number_below x.text x.known.setting.symbols c.symbol both.1 }
 
 abbrev IsShallow : Case → Type 0
-IsShallow c = depth c.condition ≤ 64
+IsShallow c = tree_depth c.condition ≤ 64
 
 pub cases_are : (x : Context) (cs : List Case) → IsSound x.known → flat_map (case_faults x) cs ≡ [] → All IsShallow cs → All (IsCaseOf x.known) (map (meant_case x) cs)
 cases_are x [] sound none shallow = All-nil (IsCaseOf x.known)

@@ -15,7 +15,7 @@ use Rattle.dd_written.specs.declared.tree.Join.TheVariants as join
 use Rattle.dd_written.specs.declared.tree.Formula.{Formula as Written}
 use Rattle.dd_written.specs.declared.tree.Formula.TheFolds.{fold-roll-Formula as written_rolls, ind-Formula, map-Formula as map_written}
 use Rattle.dd_written.specs.declared.tree.Formula.TheOpen.{Formula-F as Written-F}
-use Rattle.dd_written.specs.Formulas.{depth as written_depth, depth_step as written_step, greatest as greatest_written}
+use Rattle.dd_written.specs.Formulas.{tree_depth as written_depth, tree_depth_step as written_step, greatest_depth as greatest_written}
 use Rattle.dd_expansion.specs.declared.formulas.Term.{Term}
 use Rattle.dd_expansion.specs.declared.formulas.BallOf.{BallOf}
 use Rattle.dd_expansion.specs.declared.formulas.Formula.{Formula}

@@ -24,7 +24,7 @@ use Rattle.dd_faults.specs.Order.{over}
 use Rattle.dd_faults.specs.Names.{missing, number_in}
 use Rattle.dd_faults.specs.Repeats.{first_repeat, edge_key, twice_label, twice_labelled}
 use Rattle.dd_faults.specs.Commands.{dimension_of, unless, has_entries, is_far, edge_faults, faults_of}
-use Rattle.dd_meanings.specs.Topologies.{first_seen, label_text, labels_of, edge_of}
+use Rattle.dd_meanings.specs.Topologies.{first_seen_names, label_text, labels_of, edge_of}
 use Rattle.dd_meanings.proofs.Nothing.{both_nil, fits, within, all_none}
 use Rattle.dd_meanings.proofs.NameLaws.{contained, is_named, text_below, same_name, once}
 use Rattle.dd_meanings.proofs.OffsetLaws.{offset_within}
@@ -66,11 +66,11 @@ new_there : (b : Bool) (seen : List (List ℕ)) (n : List ℕ) → list_any (byt
 new_there true seen n h = contained seen n h
 new_there false seen n h = Contains-push seen n
 
-seen_kept : (seen ns : List (List ℕ)) (m : List ℕ) → Contains seen m → Contains (first_seen seen ns) m
+seen_kept : (seen ns : List (List ℕ)) (m : List ℕ) → Contains seen m → Contains (first_seen_names seen ns) m
 seen_kept seen [] m h = h
 seen_kept seen (n ∷ ns) m h = seen_kept (stepped (list_any (bytes_eq n) seen) seen n) ns m (old_kept (list_any (bytes_eq n) seen) seen n m h)
 
-seen_all : (seen ns : List (List ℕ)) (m : List ℕ) → Contains ns m → Contains (first_seen seen ns) m
+seen_all : (seen ns : List (List ℕ)) (m : List ℕ) → Contains ns m → Contains (first_seen_names seen ns) m
 seen_all seen [] m h = absurd (Contains-nil m h)
 seen_all seen (n ∷ ns) m h =
     let next : List (List ℕ) = stepped (list_any (bytes_eq n) seen) seen n in

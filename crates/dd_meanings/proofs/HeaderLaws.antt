@@ -8,7 +8,7 @@ use Rattle.std.proofs.lemmas.List.{length-map}
 use Rattle.std.proofs.lemmas.List.Elements.{All-nil, All-cons, All-get_or}
 use Rattle.dd_written.specs.declared.lexeme.Number.{Number}
 use Rattle.dd_written.specs.declared.tree.Name.{Name}
-use Rattle.dd_written.specs.Values.{value, name_text}
+use Rattle.dd_written.specs.Values.{written_value, name_text}
 use Rattle.dd_commands.specs.declared.command.Command.TheVariants as command
 use Rattle.dd_topology.specs.declared.builtin.Kind.{Kind}
 use Rattle.dd_topology.specs.declared.builtin.Kind.TheVariants as kind
@@ -24,7 +24,7 @@ use Rattle.dd_faults.specs.Commands.{unless, dimension_of, kind_dimension, kind_
 use Rattle.dd_meanings.specs.Topologies.{plain_kind, default_grid, kind_names}
 use Rattle.dd_meanings.specs.Definitions.{symbol_of}
 use Rattle.dd_meanings.specs.Meanings.{limits}
-use Rattle.dd_meanings.specs.Sound.{IsGridOf, AreNames, IsRestriction, AreWeights, AreLimits}
+use Rattle.dd_meanings.specs.Sound.{IsGridOf, AreNames, IsSymbolRestriction, AreScriptWeights, AreLimits}
 use Rattle.dd_meanings.proofs.Nothing.{both_nil, fits, within, neither}
 use Rattle.dd_meanings.proofs.NameLaws.{number_below}
 
@@ -36,16 +36,16 @@ le_from a b e = grind (arith, nat_tests, e)
 
 -- ---- the dimension
 
-pub dimension_within : (x : Context) (n : Number) → faults_of x (command.Dimension n) ≡ [] → (1 ≤ value x.text n) × (value x.text n ≤ 3)
+pub dimension_within : (x : Context) (n : Number) → faults_of x (command.Dimension n) ≡ [] → (1 ≤ written_value x.text n) × (written_value x.text n ≤ 3)
 dimension_within x n h =
-    let both = and_parts (nat_le 1 (value x.text n)) (nat_le (value x.text n) 3) (fits (nat_le 1 (value x.text n) && nat_le (value x.text n) 3) h) in
-    (le_from 1 (value x.text n) both.0, le_from (value x.text n) 3 both.1)
+    let both = and_parts (nat_le 1 (written_value x.text n)) (nat_le (written_value x.text n) 3) (fits (nat_le 1 (written_value x.text n) && nat_le (written_value x.text n) 3) h) in
+    (le_from 1 (written_value x.text n) both.0, le_from (written_value x.text n) 3 both.1)
 
 pub uncut : (n m : ℕ) → m ≡ min n 4294967295 → n ≤ 1000000 → m ≡ n
 uncut n m is le = omega (arith, is, le)
 
-pub value_next : (bytes : List ℕ) (ns : List Number) (i : ℕ) (d : Number) (m : ℕ) → All (λ n. value bytes n ≤ 1000) ns → i < length ns → m ≡ min (value bytes (slice_index_or ns i d)) 4294967295 → m ≡ value bytes (slice_index_or ns i d)
-value_next bytes ns i d m light lt is = let small = All-get_or (λ n. value bytes n ≤ 1000) ns i d lt light in uncut (value bytes (slice_index_or ns i d)) m is (omega (arith, small))
+pub value_next : (bytes : List ℕ) (ns : List Number) (i : ℕ) (d : Number) (m : ℕ) → All (λ n. written_value bytes n ≤ 1000) ns → i < length ns → m ≡ min (written_value bytes (slice_index_or ns i d)) 4294967295 → m ≡ written_value bytes (slice_index_or ns i d)
+value_next bytes ns i d m light lt is = let small = All-get_or (λ n. written_value bytes n ≤ 1000) ns i d lt light in uncut (written_value bytes (slice_index_or ns i d)) m is (omega (arith, small))
 
 plain_nodes : (d : ℕ) → (grid_of (plain_kind d)).nodes ≡ 1
 plain_nodes d = by (eqb d 1) (eqb d 3)
@@ -66,12 +66,12 @@ default_nodes d n = by (eqb n 1) refl
 pub default_sound : (d n : ℕ) (g : Grid) → IsGrid g → g ≡ default_grid d n → IsGridOf n (default_grid d n)
 default_sound d n g sound is = record { grid = subst IsGrid is sound; nodes = default_nodes d n }
 
-pub default_is : (x : Context) (n : Number) (d m : ℕ) (g : Grid) → faults_of x (command.Dimension n) ≡ [] → d ≡ min (value x.text n) 4294967295 → m ≡ length x.known.setting.nodes → g ≡ default_grid d m
-    → g ≡ default_grid (value x.text n) (length x.known.setting.nodes)
+pub default_is : (x : Context) (n : Number) (d m : ℕ) (g : Grid) → faults_of x (command.Dimension n) ≡ [] → d ≡ min (written_value x.text n) 4294967295 → m ≡ length x.known.setting.nodes → g ≡ default_grid d m
+    → g ≡ default_grid (written_value x.text n) (length x.known.setting.nodes)
 default_is x n d m g h is many at =
     let both = dimension_within x n h in
-    let same : d ≡ value x.text n = uncut (value x.text n) d is (omega (arith, both.1)) in
-    at ∙ (ap (λ k. default_grid k m) same ∙ ap (default_grid (value x.text n)) many)
+    let same : d ≡ written_value x.text n = uncut (written_value x.text n) d is (omega (arith, both.1)) in
+    at ∙ (ap (λ k. default_grid k m) same ∙ ap (default_grid (written_value x.text n)) many)
 
 pub nodes_sound : (x : Context) (written : List Name) (names : List (List ℕ)) (d m : ℕ) (g : Grid) → names ≡ map (name_text x.text) written → d ≡ dimension_of x.known → m ≡ length names → g ≡ default_grid d m → IsGrid g
     → IsGridOf (length (map (name_text x.text) written)) (default_grid (dimension_of x.known) (length written))
@@ -161,7 +161,7 @@ symbols_below x (n ∷ ns) none =
     All-cons (λ s. s < length names) (symbol_of x n) (map (symbol_of x) ns) (number_below x.text names n both.0) (symbols_below x ns both.1)
 
 pub restriction_is : (x : Context) (node : Name) (symbols : List Name) → 1 ≤ length symbols → faults_of x (command.Only node symbols) ≡ []
-    → IsRestriction x.known (number_in x.text x.known.setting.nodes node) (map (symbol_of x) symbols)
+    → IsSymbolRestriction x.known (number_in x.text x.known.setting.nodes node) (map (symbol_of x) symbols)
 restriction_is x node symbols some h =
     let unknown = missing x.text x.known.setting.nodes node in
     let again = restricted_again x node in
@@ -175,39 +175,39 @@ restriction_is x node symbols some h =
 
 -- ---- weights and limits
 
-weight_light : (x : Context) (n : Number) → weight_faults x n ≡ [] → value x.text n ≤ 1000
-weight_light x n h = at_most 1000 (value x.text n) (within (nat_lt 1000 (value x.text n)) limit.Weight h)
+weight_light : (x : Context) (n : Number) → weight_faults x n ≡ [] → written_value x.text n ≤ 1000
+weight_light x n h = at_most 1000 (written_value x.text n) (within (nat_lt 1000 (written_value x.text n)) limit.Weight h)
 
-all_light : (x : Context) (ns : List Number) → flat_map (weight_faults x) ns ≡ [] → All (λ n. value x.text n ≤ 1000) ns
-all_light x [] h = All-nil (λ n. value x.text n ≤ 1000)
+all_light : (x : Context) (ns : List Number) → flat_map (weight_faults x) ns ≡ [] → All (λ n. written_value x.text n ≤ 1000) ns
+all_light x [] h = All-nil (λ n. written_value x.text n ≤ 1000)
 all_light x (n ∷ ns) h =
     let both = both_nil (weight_faults x n) (flat_map (weight_faults x) ns) h in
-    All-cons (λ n. value x.text n ≤ 1000) n ns (weight_light x n both.0) (all_light x ns both.1)
+    All-cons (λ n. written_value x.text n ≤ 1000) n ns (weight_light x n both.0) (all_light x ns both.1)
 
-light_values : (x : Context) (ns : List Number) → flat_map (weight_faults x) ns ≡ [] → All (λ w. w ≤ 1000) (map (value x.text) ns)
+light_values : (x : Context) (ns : List Number) → flat_map (weight_faults x) ns ≡ [] → All (λ w. w ≤ 1000) (map (written_value x.text) ns)
 light_values x [] h = All-nil (λ w. w ≤ 1000)
 light_values x (n ∷ ns) h =
     let both = both_nil (weight_faults x n) (flat_map (weight_faults x) ns) h in
-    All-cons (λ w. w ≤ 1000) (value x.text n) (map (value x.text) ns) (weight_light x n both.0) (light_values x ns both.1)
+    All-cons (λ w. w ≤ 1000) (written_value x.text n) (map (written_value x.text) ns) (weight_light x n both.0) (light_values x ns both.1)
 
 module _ (x : Context) (ns : List Number) (h : faults_of x (command.Weights ns) ≡ []) where
   weight_parts : (unless (length ns == length x.known.setting.symbols) ≡ []) × (flat_map (weight_faults x) ns ≡ [])
   weight_parts = both_nil (unless (length ns == length x.known.setting.symbols)) (flat_map (weight_faults x) ns) h
 
-  pub weights_light : All (λ n. value x.text n ≤ 1000) ns
+  pub weights_light : All (λ n. written_value x.text n ≤ 1000) ns
   weights_light = all_light x ns weight_parts.1
 
-  pub weights_are : AreWeights x.known (map (value x.text) ns)
+  pub weights_are : AreScriptWeights x.known (map (written_value x.text) ns)
   weights_are = record {
-    each = length-map ns (value x.text) ∙ eqb-true (length ns) (length x.known.setting.symbols) (fits (length ns == length x.known.setting.symbols) weight_parts.0);
+    each = length-map ns (written_value x.text) ∙ eqb-true (length ns) (length x.known.setting.symbols) (fits (length ns == length x.known.setting.symbols) weight_parts.0);
     light = light_values x ns weight_parts.1;
   }
 
-pub limits_are : (x : Context) (radius period pivots : Number) → faults_of x (command.Limits radius period pivots) ≡ [] → AreLimits (limits (value x.text radius) (value x.text period) (value x.text pivots))
+pub limits_are : (x : Context) (radius period pivots : Number) → faults_of x (command.Limits radius period pivots) ≡ [] → AreLimits (limits (written_value x.text radius) (written_value x.text period) (written_value x.text pivots))
 limits_are x radius period pivots h =
-    let r = value x.text radius in
-    let p = value x.text period in
-    let v = value x.text pivots in
+    let r = written_value x.text radius in
+    let p = written_value x.text period in
+    let v = written_value x.text pivots in
     let all = neither (nat_lt 8 r || nat_lt p 1 || nat_lt 8 p) (nat_lt 100000 v) (within (passes_limits r p v) limit.Limits h) in
     let front = neither (nat_lt 8 r || nat_lt p 1) (nat_lt 8 p) all.0 in
     let first = neither (nat_lt 8 r) (nat_lt p 1) front.0 in

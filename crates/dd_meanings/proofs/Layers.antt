@@ -11,7 +11,7 @@ use Rattle.dd_written.specs.declared.tree.Formula.{Formula as Written}
 use Rattle.dd_written.specs.declared.tree.Formula.TheVariants as v
 use Rattle.dd_written.specs.declared.tree.Formula.TheFolds.{fold-roll-Formula}
 use Rattle.dd_written.specs.declared.tree.Formula.TheOpen.{Formula-F as Written-F}
-use Rattle.dd_written.specs.Formulas.{depth, depth_step, greatest}
+use Rattle.dd_written.specs.Formulas.{tree_depth, tree_depth_step, greatest_depth}
 use Rattle.dd_expansion.specs.declared.formulas.Formula.{Formula}
 use Rattle.dd_written.specs.declared.tree.Name.TheVariants as name
 use Rattle.dd_faults.specs.declared.fault.Fault.{Fault}
@@ -59,9 +59,9 @@ faults_iff x f g scope =
     ap (λ f. formula_faults x f scope) (sym (v.rolls-Iff f g)) ∙ ap (rolled scope) (fold-roll-Formula (List Word → List Fault) (faults_step x) (Written-F.Iff f g))
 
 -- a member is no deeper than the deepest
-pub member_depth : (fs : List Written) (i n most : ℕ) (f : Written) → i < length fs → f ≡ slice_index_or fs i f → n + greatest (map depth fs) ≤ most → n + depth f ≤ most
+pub member_depth : (fs : List Written) (i n most : ℕ) (f : Written) → i < length fs → f ≡ slice_index_or fs i f → n + greatest_depth (map tree_depth fs) ≤ most → n + tree_depth f ≤ most
 member_depth [] i n most f lt is le = absurd (omega (arith, lt))
-member_depth (g ∷ fs) zero n most f lt is le = let same : depth f ≡ depth g = ap depth is in omega (arith, same, le)
+member_depth (g ∷ fs) zero n most f lt is le = let same : tree_depth f ≡ tree_depth g = ap tree_depth is in omega (arith, same, le)
 member_depth (g ∷ fs) (suc i) n most f lt is le = member_depth fs i n most f (omega (arith, lt)) is (omega (arith, le))
 
 -- where a formula has no fault, none of its parts has one
@@ -97,23 +97,23 @@ pub group_part : (x : Context) (scope : List Word) (whole f : Written) → whole
 group_part x scope whole f is none =
     sym (ap (λ f. formula_faults x f scope) (sym (v.rolls-Group f)) ∙ ap (rolled scope) (fold-roll-Formula (List Word → List Fault) (faults_step x) (Written-F.Group f))) ∙ (ap (λ h. formula_faults x h scope) (sym is) ∙ none)
 
-pub depth_not : (whole f : Written) → whole ≡ v.Not f → depth whole ≡ 1 + depth f
-depth_not whole f is = ap depth is ∙ (ap depth (sym (v.rolls-Not f)) ∙ fold-roll-Formula ℕ depth_step (Written-F.Not f))
+pub depth_not : (whole f : Written) → whole ≡ v.Not f → tree_depth whole ≡ 1 + tree_depth f
+depth_not whole f is = ap tree_depth is ∙ (ap tree_depth (sym (v.rolls-Not f)) ∙ fold-roll-Formula ℕ tree_depth_step (Written-F.Not f))
 
-pub depth_group : (whole f : Written) → whole ≡ v.Group f → depth whole ≡ 1 + depth f
-depth_group whole f is = ap depth is ∙ (ap depth (sym (v.rolls-Group f)) ∙ fold-roll-Formula ℕ depth_step (Written-F.Group f))
+pub depth_group : (whole f : Written) → whole ≡ v.Group f → tree_depth whole ≡ 1 + tree_depth f
+depth_group whole f is = ap tree_depth is ∙ (ap tree_depth (sym (v.rolls-Group f)) ∙ fold-roll-Formula ℕ tree_depth_step (Written-F.Group f))
 
-pub depth_list : (whole : Written) (j : Join) (fs : List Written) → whole ≡ v.List j fs → depth whole ≡ 1 + greatest (map depth fs)
-depth_list whole j fs is = ap depth is ∙ (ap depth (sym (v.rolls-List j fs)) ∙ fold-roll-Formula ℕ depth_step (Written-F.List j fs))
+pub depth_list : (whole : Written) (j : Join) (fs : List Written) → whole ≡ v.List j fs → tree_depth whole ≡ 1 + greatest_depth (map tree_depth fs)
+depth_list whole j fs is = ap tree_depth is ∙ (ap tree_depth (sym (v.rolls-List j fs)) ∙ fold-roll-Formula ℕ tree_depth_step (Written-F.List j fs))
 
-pub depth_quantified : (whole : Written) (q : Quantor) (w : Word) (balls : List Ball) (f : Written) → whole ≡ v.Quantified q w balls f → depth whole ≡ 1 + depth f
-depth_quantified whole q w balls f is = ap depth is ∙ (ap depth (sym (v.rolls-Quantified q w balls f)) ∙ fold-roll-Formula ℕ depth_step (Written-F.Quantified q w balls f))
+pub depth_quantified : (whole : Written) (q : Quantor) (w : Word) (balls : List Ball) (f : Written) → whole ≡ v.Quantified q w balls f → tree_depth whole ≡ 1 + tree_depth f
+depth_quantified whole q w balls f is = ap tree_depth is ∙ (ap tree_depth (sym (v.rolls-Quantified q w balls f)) ∙ fold-roll-Formula ℕ tree_depth_step (Written-F.Quantified q w balls f))
 
-pub depth_implies : (whole f g : Written) → whole ≡ v.Implies f g → depth whole ≡ 1 + max (depth f) (depth g)
-depth_implies whole f g is = ap depth is ∙ (ap depth (sym (v.rolls-Implies f g)) ∙ fold-roll-Formula ℕ depth_step (Written-F.Implies f g))
+pub depth_implies : (whole f g : Written) → whole ≡ v.Implies f g → tree_depth whole ≡ 1 + max (tree_depth f) (tree_depth g)
+depth_implies whole f g is = ap tree_depth is ∙ (ap tree_depth (sym (v.rolls-Implies f g)) ∙ fold-roll-Formula ℕ tree_depth_step (Written-F.Implies f g))
 
-pub depth_iff : (whole f g : Written) → whole ≡ v.Iff f g → depth whole ≡ 1 + max (depth f) (depth g)
-depth_iff whole f g is = ap depth is ∙ (ap depth (sym (v.rolls-Iff f g)) ∙ fold-roll-Formula ℕ depth_step (Written-F.Iff f g))
+pub depth_iff : (whole f g : Written) → whole ≡ v.Iff f g → tree_depth whole ≡ 1 + max (tree_depth f) (tree_depth g)
+depth_iff whole f g is = ap tree_depth is ∙ (ap tree_depth (sym (v.rolls-Iff f g)) ∙ fold-roll-Formula ℕ tree_depth_step (Written-F.Iff f g))
 
 -- a scope with one variable more, in a body that is one less deep
 pub deeper : (scope inner : List Word) (w : Word) (d n : ℕ) → inner ≡ scope ++ w ∷ [] → d ≡ 1 + n → length scope + d ≤ 64 → length inner + n ≤ 64

@@ -19,7 +19,7 @@ use Rattle.dd_faults.specs.declared.fault.Fault.{Fault}
 use Rattle.dd_faults.specs.declared.fault.Fault.TheVariants as fault
 use Rattle.dd_faults.specs.declared.context.Context.{Context}
 use Rattle.dd_faults.specs.Order.{when}
-use Rattle.dd_faults.specs.Names.{place_of, missing, number_in, same_text, variable_of, is_variable, unknown_variable, named_again}
+use Rattle.dd_faults.specs.Names.{place_of_name, missing, number_in, same_text, variable_of, is_variable, unknown_variable, named_again}
 use Rattle.dd_faults.specs.Repeats.{first_repeat}
 use Rattle.dd_meanings.specs.Formulas.{variable_number}
 use Rattle.dd_meanings.specs.Sound.{IsNew}
@@ -69,14 +69,14 @@ same_name names a b there there' same =
     some_injective a b (sym (number_at names a there) ∙ (ap (slice_get names) same ∙ number_at names b there'))
 
 -- a name that is not missing is there
-named_from : (bytes : List ℕ) (names : List (List ℕ)) (n : Name) (r : Option ℕ) → place_of bytes names n ≡ r → when (not (is_some r)) (fault.Unknown n) ≡ [] → Contains names (name_text bytes n)
+named_from : (bytes : List ℕ) (names : List (List ℕ)) (n : Name) (r : Option ℕ) → place_of_name bytes names n ≡ r → when (not (is_some r)) (fault.Unknown n) ≡ [] → Contains names (name_text bytes n)
 named_from bytes names n None is h = absurd cc
 named_from bytes names n (Some i) is h =
     let at = slice_get-number_of names (name_text bytes n) i is in
     (i, slice_get_within names i (name_text bytes n) at, get_or_from_slice_get names i (name_text bytes n) (name_text bytes n) at)
 
 pub is_named : (bytes : List ℕ) (names : List (List ℕ)) (n : Name) → missing bytes names n ≡ [] → Contains names (name_text bytes n)
-is_named bytes names n h = named_from bytes names n (place_of bytes names n) refl h
+is_named bytes names n h = named_from bytes names n (place_of_name bytes names n) refl h
 
 pub number_below : (bytes : List ℕ) (names : List (List ℕ)) (n : Name) → missing bytes names n ≡ [] → number_in bytes names n < length names
 number_below bytes names n h = text_below names (name_text bytes n) (is_named bytes names n h)
@@ -109,9 +109,9 @@ pub is_new : (x : Context) (w : Word) → named_again x.text x.known w ≡ [] �
 is_new x w h =
     let k = x.known in
     let bytes = x.text in
-    let none = not_when (is_some (place_of bytes k.rules (name.Word w)) || is_some (place_of bytes k.automata (name.Word w)) || is_some (place_of bytes k.configurations (name.Word w))) (fault.Twice (name.Word w)) h in
-    let both = neither (is_some (place_of bytes k.rules (name.Word w)) || is_some (place_of bytes k.automata (name.Word w))) (is_some (place_of bytes k.configurations (name.Word w))) none in
-    let front = neither (is_some (place_of bytes k.rules (name.Word w))) (is_some (place_of bytes k.automata (name.Word w))) both.0 in
+    let none = not_when (is_some (place_of_name bytes k.rules (name.Word w)) || is_some (place_of_name bytes k.automata (name.Word w)) || is_some (place_of_name bytes k.configurations (name.Word w))) (fault.Twice (name.Word w)) h in
+    let both = neither (is_some (place_of_name bytes k.rules (name.Word w)) || is_some (place_of_name bytes k.automata (name.Word w))) (is_some (place_of_name bytes k.configurations (name.Word w))) none in
+    let front = neither (is_some (place_of_name bytes k.rules (name.Word w))) (is_some (place_of_name bytes k.automata (name.Word w))) both.0 in
     record {
       rules = absent k.rules (word_text bytes w) front.0;
       automata = absent k.automata (word_text bytes w) front.1;

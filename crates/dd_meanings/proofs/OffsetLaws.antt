@@ -7,7 +7,7 @@ use Rattle.std.proofs.lemmas.Bool.{and_from}
 use Rattle.std.proofs.lemmas.Bool.Decides.{nat_tests}
 use Rattle.std.proofs.lemmas.Int.{ints}
 use Rattle.std.proofs.lemmas.Option.{slice_get_past}
-use Rattle.dd_written.specs.Values.{value}
+use Rattle.dd_written.specs.Values.{written_value}
 use Rattle.dd_commands.specs.declared.command.Entry.{Entry}
 use Rattle.dd_commands.specs.declared.command.Entry.TheVariants as entry
 use Rattle.dd_commands.specs.declared.command.Vector.{Vector}
@@ -28,8 +28,8 @@ far_value : (n : ℕ) → nat_lt 4 n ≡ false → n ≤ 4
 far_value n h = grind (arith, nat_tests, h)
 
 small_entry : (bytes : List ℕ) (e : Entry) → is_far_entry bytes e ≡ false → unsigned_abs (signed_value bytes e) ≤ 4
-small_entry bytes (entry.Number n) h = far_value (value bytes n) h
-small_entry bytes (entry.Negative n) h = let le = far_value (value bytes n) h in negated (value bytes n) le
+small_entry bytes (entry.Number n) h = far_value (written_value bytes n) h
+small_entry bytes (entry.Negative n) h = let le = far_value (written_value bytes n) h in negated (written_value bytes n) le
   where
     negated : (m : ℕ) → m ≤ 4 → unsigned_abs (pos 0 -ℤ pos m) ≤ 4
     negated zero le = omega arith

@@ -21,8 +21,8 @@ use Rattle.dd_written.specs.declared.tree.Join.TheVariants as join
 use Rattle.dd_written.specs.declared.tree.Formula.{Formula as Written}
 use Rattle.dd_written.specs.declared.tree.Formula.TheFolds.{fold-roll-Formula as written_rolls, ind-Formula, map-Formula as map_written}
 use Rattle.dd_written.specs.declared.tree.Formula.TheOpen.{Formula-F as Written-F}
-use Rattle.dd_written.specs.Values.{value}
-use Rattle.dd_written.specs.Formulas.{depth as written_depth}
+use Rattle.dd_written.specs.Values.{written_value}
+use Rattle.dd_written.specs.Formulas.{tree_depth as written_depth}
 use Rattle.dd_expansion.specs.declared.formulas.Term.{Term}
 use Rattle.dd_expansion.specs.declared.formulas.BallOf.{BallOf}
 use Rattle.dd_expansion.specs.declared.formulas.Formula.{Formula, roll-Formula}
@@ -124,8 +124,8 @@ module _ (x : Context) (same : x.known.setting.topology.nodes ≡ length x.known
 
     ball_is : (b : Ball) → ball_faults x scope b ≡ [] → ball_fits (length scope + 1) (ball_of x scope b) ≡ true
     ball_is b none =
-        let both = both_nil (unknown_variable x.text scope b.middle) (over (nat_lt 3 (value x.text b.radius)) limit.Radius) none in
-        let small : value x.text b.radius ≤ 3 = ltb-false 3 (value x.text b.radius) (within (nat_lt 3 (value x.text b.radius)) limit.Radius both.1) in
+        let both = both_nil (unknown_variable x.text scope b.middle) (over (nat_lt 3 (written_value x.text b.radius)) limit.Radius) none in
+        let small : written_value x.text b.radius ≤ 3 = ltb-false 3 (written_value x.text b.radius) (within (nat_lt 3 (written_value x.text b.radius)) limit.Radius both.1) in
         and_from _ _ (lt-ltb _ _ (variable_below x.text scope b.middle both.0)) (le-leb _ _ small)
 
     balls_are : (w : Word) (bs : List Ball) → quantor_faults x scope w bs ≡ [] → balls_fit (length scope + 1) (map (ball_of x scope) bs) ≡ true

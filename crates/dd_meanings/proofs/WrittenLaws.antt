@@ -7,7 +7,7 @@ use Rattle.dd_written.specs.declared.lexeme.Word.{Word}
 use Rattle.dd_written.specs.declared.lexeme.Lexeme.{Lexeme}
 use Rattle.dd_written.specs.declared.tree.Name.{Name}
 use Rattle.dd_written.specs.declared.tree.Formula.{Formula}
-use Rattle.dd_written.specs.Formulas.{depth}
+use Rattle.dd_written.specs.Formulas.{tree_depth}
 use Rattle.dd_written.specs.reading.Readers.{ReadsAll}
 use Rattle.dd_commands.specs.declared.command.Case.{Case}
 use Rattle.dd_commands.specs.declared.command.Vector.{Vector}
@@ -57,14 +57,14 @@ pub some_cells : (x : Context) (w : Written) (called : Word) (periods : Vector) 
     → 1 ≤ length symbols
 some_cells x w called periods shear symbols is h = (body x w (command.Configuration called periods shear symbols) is h).1.0
 
-pub shallow_formula : (x : Context) (w : Written) (called : Word) (f : Formula) → w.command ≡ command.Rule called f → IsWritten x.text w → depth f ≤ 64
+pub shallow_formula : (x : Context) (w : Written) (called : Word) (f : Formula) → w.command ≡ command.Rule called f → IsWritten x.text w → tree_depth f ≤ 64
 shallow_formula x w called f is h = (body x w (command.Rule called f) is h).1.0.shallow
 
-all_shallow : (bytes : List ℕ) (cases : List Case) (tokens rest : List Lexeme) → ReadsAll (IsCase bytes) cases tokens rest → All (λ c. depth c.condition ≤ 64) cases
-all_shallow bytes [] tokens rest h = All-nil (λ c. depth c.condition ≤ 64)
-all_shallow bytes (c ∷ cases) tokens rest h = All-cons (λ c. depth c.condition ≤ 64) c cases h.1.condition.shallow (all_shallow bytes cases h.0 rest h.2)
+all_shallow : (bytes : List ℕ) (cases : List Case) (tokens rest : List Lexeme) → ReadsAll (IsCase bytes) cases tokens rest → All (λ c. tree_depth c.condition ≤ 64) cases
+all_shallow bytes [] tokens rest h = All-nil (λ c. tree_depth c.condition ≤ 64)
+all_shallow bytes (c ∷ cases) tokens rest h = All-cons (λ c. tree_depth c.condition ≤ 64) c cases h.1.condition.shallow (all_shallow bytes cases h.0 rest h.2)
 
-pub shallow_cases : (x : Context) (w : Written) (called : Word) (cases : List Case) (symbol : Name) → w.command ≡ command.Automaton called cases symbol → IsWritten x.text w → All (λ c. depth c.condition ≤ 64) cases
+pub shallow_cases : (x : Context) (w : Written) (called : Word) (cases : List Case) (symbol : Name) → w.command ≡ command.Automaton called cases symbol → IsWritten x.text w → All (λ c. tree_depth c.condition ≤ 64) cases
 shallow_cases x w called cases symbol is h =
     let b = (body x w (command.Automaton called cases symbol) is h).1 in
     all_shallow x.text cases b.0 b.2.last b.2.before

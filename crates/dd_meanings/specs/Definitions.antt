@@ -49,13 +49,13 @@ abbrev pub composition_of : Context → List Automaton → Word → Word → Aut
 composition_of x automata outer inner = automaton.Composed (automaton_named x automata outer) (automaton_named x automata inner)
 
 -- the periods of a configuration, and 1 along the axes that the script does not have
-abbrev pub periods_of : List ℕ → Vector → List ℕ
-periods_of bytes v = period_at bytes v 0 ∷ period_at bytes v 1 ∷ period_at bytes v 2 ∷ []
+abbrev pub configuration_periods : List ℕ → Vector → List ℕ
+configuration_periods bytes v = period_at bytes v 0 ∷ period_at bytes v 1 ∷ period_at bytes v 2 ∷ []
 
 -- the symbols stand in cell order; without a second list the shear is 0
 abbrev pub tile_of : Context → Vector → Option Vector → List Name → Tile
 tile_of x periods shear symbols =
-    tile (dimension_of x.known) (with_shear (periods_of x.text periods) (shear_of x.text shear)) x.known.setting.topology.nodes (map (symbol_of x) symbols)
+    tile (dimension_of x.known) (with_shear (configuration_periods x.text periods) (shear_of x.text shear)) x.known.setting.topology.nodes (map (symbol_of x) symbols)
 
 -- ---- its counts
 

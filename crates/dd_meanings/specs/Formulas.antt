@@ -15,7 +15,7 @@ use Rattle.dd_written.specs.declared.tree.Join.TheVariants as join
 use Rattle.dd_written.specs.declared.tree.Formula.{Formula as Written}
 use Rattle.dd_written.specs.declared.tree.Formula.TheFolds.{fold-Formula}
 use Rattle.dd_written.specs.declared.tree.Formula.TheOpen.{Formula-F as Written-F}
-use Rattle.dd_written.specs.Values.{value}
+use Rattle.dd_written.specs.Values.{written_value}
 use Rattle.dd_expansion.specs.declared.formulas.Term.{Term}
 use Rattle.dd_expansion.specs.declared.formulas.BallOf.{BallOf}
 use Rattle.dd_expansion.specs.declared.formulas.Formula.{Formula, roll-Formula}
@@ -54,7 +54,7 @@ atom_of x scope (atom.Same t u) = roll-Formula (Formula-F.Place (term_of x scope
 atom_of x scope (atom.AtNode t n) = roll-Formula (Formula-F.Node (term_of x scope t) (number_in x.text x.known.setting.nodes n))
 
 abbrev pub ball_of : Context → List Word → Ball → BallOf
-ball_of x scope b = record { variable = variable_number x.text scope b.middle; radius = value x.text b.radius }
+ball_of x scope b = record { variable = variable_number x.text scope b.middle; radius = written_value x.text b.radius }
 
 abbrev pub joined_of : Join → List Formula → Formula
 joined_of join.And fs = roll-Formula (Formula-F.And fs)

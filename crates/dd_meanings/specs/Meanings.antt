@@ -5,7 +5,7 @@ use Rattle.dd_topology.specs.Builtin.{grid_of}
 use Rattle.dd_boxes.specs.declared.limits.Limits.{Limits}
 use Rattle.dd_formula.specs.LocalRule.{LocalRule}
 use Rattle.dd_formula.specs.declared.automaton.Automaton.{Automaton}
-use Rattle.dd_written.specs.Values.{name_text, value}
+use Rattle.dd_written.specs.Values.{name_text, written_value}
 use Rattle.dd_commands.specs.declared.command.Command.{Command}
 use Rattle.dd_commands.specs.declared.command.Command.TheVariants as command
 use Rattle.dd_faults.specs.declared.fault.Fault.{Fault}
@@ -27,14 +27,14 @@ abbrev pub kind_meaning : Context → Kind → Meaning
 kind_meaning x k = if x.known.nodes_are_given then meant.Topology (grid_of k) else meant.Nodes (kind_names k) false (grid_of k)
 
 abbrev pub meaning : Context → List LocalRule → List Automaton → Command → Meaning
-meaning x rules automata (command.Dimension n) = meant.Topology (default_grid (value x.text n) (length x.known.setting.nodes))
+meaning x rules automata (command.Dimension n) = meant.Topology (default_grid (written_value x.text n) (length x.known.setting.nodes))
 meaning x rules automata (command.Nodes names) = meant.Nodes (map (name_text x.text) names) true (default_grid (dimension_of x.known) (length names))
 meaning x rules automata (command.Alphabet names) = meant.Symbols (map (name_text x.text) names)
 meaning x rules automata (command.Topology k) = kind_meaning x k
 meaning x rules automata (command.Edges es) = meant.Topology (grid_by x.text (dimension_of x.known) x.known.setting.nodes es)
 meaning x rules automata (command.Only node symbols) = meant.Only (number_in x.text x.known.setting.nodes node) (map (symbol_of x) symbols)
-meaning x rules automata (command.Weights ns) = meant.Weights (map (value x.text) ns)
-meaning x rules automata (command.Limits radius period pivots) = meant.Limits (limits (value x.text radius) (value x.text period) (value x.text pivots))
+meaning x rules automata (command.Weights ns) = meant.Weights (map (written_value x.text) ns)
+meaning x rules automata (command.Limits radius period pivots) = meant.Limits (limits (written_value x.text radius) (written_value x.text period) (written_value x.text pivots))
 meaning x rules automata (command.Rule name f) = meant.Rule name (rule_of x f)
 meaning x rules automata (command.Automaton name cases symbol) = meant.Automaton name (automaton_of x cases symbol)
 meaning x rules automata (command.Composition name outer inner) = meant.Automaton name (composition_of x automata outer inner)

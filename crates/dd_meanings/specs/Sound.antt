@@ -30,13 +30,13 @@ pub record AreNames (most : ℕ) (names : List (List ℕ)) : Type 0 where
   pub distinct : AreDistinct names
 
 -- one of the nodes, and some of the symbols
-pub record IsRestriction (k : Known) (node : ℕ) (symbols : List ℕ) : Type 0 where
+pub record IsSymbolRestriction (k : Known) (node : ℕ) (symbols : List ℕ) : Type 0 where
   pub exists : node < length k.setting.nodes
   pub some : 1 ≤ length symbols
   pub below : All (λ s. s < length k.setting.symbols) symbols
 
 -- one for each symbol, none over 1,000
-pub record AreWeights (k : Known) (weights : List ℕ) : Type 0 where
+pub record AreScriptWeights (k : Known) (weights : List ℕ) : Type 0 where
   pub each : length weights ≡ length k.setting.symbols
   pub light : All (λ w. w ≤ 1000) weights
 
@@ -64,8 +64,8 @@ abbrev pub IsSoundMeaning : Context → List LocalRule → List Automaton → Me
 IsSoundMeaning x rules automata (meant.Topology g) = IsGridOf (length x.known.setting.nodes) g
 IsSoundMeaning x rules automata (meant.Nodes names given g) = AreNames 4 names × IsGridOf (length names) g
 IsSoundMeaning x rules automata (meant.Symbols names) = AreNames 16 names
-IsSoundMeaning x rules automata (meant.Only node symbols) = IsRestriction x.known node symbols
-IsSoundMeaning x rules automata (meant.Weights ws) = AreWeights x.known ws
+IsSoundMeaning x rules automata (meant.Only node symbols) = IsSymbolRestriction x.known node symbols
+IsSoundMeaning x rules automata (meant.Weights ws) = AreScriptWeights x.known ws
 IsSoundMeaning x rules automata (meant.Limits l) = AreLimits l
 IsSoundMeaning x rules automata (meant.Rule name r) = IsNew x name × IsRule r × IsRuleOf x.known r
 IsSoundMeaning x rules automata (meant.Automaton name f) = IsNew x name × IsAutomaton (script_numbers x.known) f

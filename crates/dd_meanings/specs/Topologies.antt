@@ -32,15 +32,15 @@ kind_names kind.Cube = codes "0" ∷ []
 -- ---- edges
 
 -- the names, each once, in the order in which they are first seen
-abbrev pub first_seen : List (List ℕ) → List (List ℕ) → List (List ℕ)
-first_seen seen [] = seen
-first_seen seen (n ∷ ns) = first_seen (if list_any (bytes_eq n) seen then seen else seen ++ n ∷ []) ns
+abbrev pub first_seen_names : List (List ℕ) → List (List ℕ) → List (List ℕ)
+first_seen_names seen [] = seen
+first_seen_names seen (n ∷ ns) = first_seen_names (if list_any (bytes_eq n) seen then seen else seen ++ n ∷ []) ns
 
 abbrev pub label_text : List ℕ → Written → List ℕ
 label_text bytes e = word_text bytes e.label
 
 abbrev pub labels_of : List ℕ → List Written → List (List ℕ)
-labels_of bytes es = first_seen [] (map (label_text bytes) es)
+labels_of bytes es = first_seen_names [] (map (label_text bytes) es)
 
 abbrev pub edge_of : List ℕ → List (List ℕ) → List (List ℕ) → Written → Edge
 edge_of bytes labels nodes e =

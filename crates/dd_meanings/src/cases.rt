@@ -2,7 +2,7 @@
 ghost use Rattle.std.specs.Prelude.{◌≡◌, ◌≤◌, [], true, map, IfOk, OnOk};
 ghost use Rattle.std.specs.List.{All, flat_map};
 ghost use Rattle.dd_expansion.specs.Leaves.{instances};
-ghost use Rattle.dd_written.specs.Formulas.{depth};
+ghost use Rattle.dd_written.specs.Formulas.{tree_depth};
 ghost use Rattle.dd_formula.specs.Counts.{cut};
 ghost use Rattle.dd_formula.specs.LocalRule.{IsRule, most_instances, expansion_at};
 ghost use Rattle.dd_formula.specs.Automata.{is_few};
@@ -65,7 +65,7 @@ pub(crate) fn rule_over(alloc: Global, known: &Known, formula: Formula) -> Resul
 
 /// A case with its formula and its symbol by numbers.
 fn case_of(alloc: Global, context: &Context, case: &Case) -> Result<CaseOf, AllocError>
-    requires shallow { depth case.now.condition ≤ 64 }
+    requires shallow { tree_depth case.now.condition ≤ 64 }
     requires faultless { case_faults context.now case.now ≡ [] }
     ensures { IfOk result (λ made. made ≡ meant_case context.now case.now) }
 {
@@ -80,7 +80,7 @@ pub(crate) fn cases_of(
     context: &Context,
     cases: &[Case],
 ) -> Result<Items<CaseOf>, AllocError>
-    requires shallow { All (λ c. depth c.condition ≤ 64) cases.now }
+    requires shallow { All (λ c. tree_depth c.condition ≤ 64) cases.now }
     requires faultless { flat_map (case_faults context.now) cases.now ≡ [] }
     ensures { IfOk result (λ made. made ≡ map (meant_case context.now) cases.now) }
 {

@@ -2,7 +2,7 @@
 ghost use Rattle.std.specs.Prelude.{◌≡◌, ◌≤◌, [], length, OnOk};
 ghost use Rattle.std.specs.List.{All};
 ghost use Rattle.dd_formula.specs.Automata.{IsAutomaton};
-ghost use Rattle.dd_written.specs.Formulas.{depth};
+ghost use Rattle.dd_written.specs.Formulas.{tree_depth};
 ghost use Rattle.dd_commands.specs.declared.command.Command.TheVariants as command;
 ghost use Rattle.dd_faults.specs.Order.{Resolves};
 ghost use Rattle.dd_faults.specs.Commands.{faults_of};
@@ -26,7 +26,7 @@ pub(crate) fn rule(
     formula: &Formula,
 ) -> Result<Meaning, Refusal>
     requires sound { IsSound context.now.known }
-    requires shallow { depth formula.now ≤ 64 }
+    requires shallow { tree_depth formula.now ≤ 64 }
     requires faultless { faults_of context.now (command.Rule name formula.now) ≡ [] }
     ensures exact { Resolves result (counted_sizes context.now [] [] (command.Rule name formula.now)) (meaning context.now [] [] (command.Rule name formula.now)) }
     ensures sound { OnOk result (IsSoundMeaning context.now [] [] (meaning context.now [] [] (command.Rule name formula.now))) }
@@ -43,7 +43,7 @@ pub(crate) fn automaton(
     default: Name,
 ) -> Result<Meaning, Refusal>
     requires sound { IsSound context.now.known }
-    requires shallow { All (λ c. depth c.condition ≤ 64) cases.now }
+    requires shallow { All (λ c. tree_depth c.condition ≤ 64) cases.now }
     requires faultless { faults_of context.now (command.Automaton name cases.now default) ≡ [] }
     ensures exact { Resolves result (counted_sizes context.now [] [] (command.Automaton name cases.now default)) (meaning context.now [] [] (command.Automaton name cases.now default)) }
     ensures sound { OnOk result (IsSoundMeaning context.now [] [] (meaning context.now [] [] (command.Automaton name cases.now default))) }

@@ -5,14 +5,14 @@ ghost use Rattle.dd_pattern.specs.Tile.{most_symbols, IsPeriodic};
 ghost use Rattle.dd_formula.specs.LocalRule.{IsRule};
 ghost use Rattle.dd_formula.specs.Automata.{IsAutomaton, counted};
 ghost use Rattle.dd_written.specs.declared.tree.Name.TheVariants as name;
-ghost use Rattle.dd_written.specs.Formulas.{depth};
+ghost use Rattle.dd_written.specs.Formulas.{tree_depth};
 ghost use Rattle.dd_faults.specs.Order.{Resolves};
 ghost use Rattle.dd_faults.specs.Names.{missing};
 ghost use Rattle.dd_faults.specs.Formulas.{formula_faults};
 ghost use Rattle.dd_faults.specs.Commands.{shear_of, case_faults, symbol_faults, box_faults};
 ghost use Rattle.dd_faults.specs.Sound.{IsSound};
 ghost use Rattle.dd_query.specs.Made.{script_numbers, IsRuleOf};
-ghost use Rattle.dd_meanings.specs.Definitions.{rule_of, automaton_of, composition_of, periods_of, tile_of, count_faults, rule_faults, automaton_faults};
+ghost use Rattle.dd_meanings.specs.Definitions.{rule_of, automaton_of, composition_of, configuration_periods, tile_of, count_faults, rule_faults, automaton_faults};
 ghost use Rattle.dd_meanings.specs.making.Parts.{IsCaseOf, given_by, HasShortPeriods, tile_with};
 ghost use Rattle.dd_meanings.specs.Sound.{IsConfigurationOf};
 
@@ -32,7 +32,7 @@ use std::alloc::{AllocError, Global};
 /// The rule of a formula over the script's topology and the symbols that its nodes allow.
 pub(crate) fn rule(alloc: Global, context: &Context, formula: &Formula) -> Result<Rule, Refusal>
     requires sound { IsSound context.now.known }
-    requires shallow { depth formula.now ≤ 64 }
+    requires shallow { tree_depth formula.now ≤ 64 }
     requires faultless { formula_faults context.now formula.now [] ≡ [] }
     ensures exact { let rule = rule_of context.now formula.now in Resolves result (rule_faults rule) rule }
     ensures rule { OnOk result (IsRule (rule_of context.now formula.now)) }
@@ -77,7 +77,7 @@ pub(crate) fn automaton(
     default: Name,
 ) -> Result<Automaton, Refusal>
     requires sound { IsSound context.now.known }
-    requires shallow { All (λ c. depth c.condition ≤ 64) cases.now }
+    requires shallow { All (λ c. tree_depth c.condition ≤ 64) cases.now }
     requires cases { flat_map (case_faults context.now) cases.now ≡ [] }
     requires default { missing context.now.text context.now.known.setting.symbols default ≡ [] }
     ensures exact { let f = automaton_of context.now cases.now default in Resolves result (automaton_faults context.now f) f }
@@ -117,7 +117,7 @@ pub(crate) fn composition(
 /// The periods of a configuration, and 1 along the axes that the script does not have.
 fn periods_of(text: &Text, periods: &Vector) -> [u32; 3]
     requires { HasShortPeriods text.now periods.now }
-    ensures { result ≡ periods_of text.now periods.now }
+    ensures { result ≡ configuration_periods text.now periods.now }
 {
     [
         period_at(text, periods, 0),

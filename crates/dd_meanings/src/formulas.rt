@@ -1,7 +1,7 @@
 //! Formulas with numbers in place of names.
 ghost use Rattle.std.specs.Prelude.{◌≡◌, ◌+◌, ◌≤◌, [], ◌∷◌, ◌++◌, length, map, IfOk};
 ghost use Rattle.std.specs.List.{flat_map};
-ghost use Rattle.dd_written.specs.Formulas.{depth, greatest};
+ghost use Rattle.dd_written.specs.Formulas.{tree_depth, greatest_depth};
 ghost use Rattle.dd_faults.specs.Formulas.{formula_faults};
 ghost use Rattle.dd_meanings.specs.Formulas.{formula_of, joined_of, quantified_of};
 
@@ -48,7 +48,7 @@ fn formula_in(
     scope: &[Word],
     formula: &Written,
 ) -> Result<Formula, AllocError>
-    requires shallow { length scope.now + depth formula.now ≤ 64 }
+    requires shallow { length scope.now + tree_depth formula.now ≤ 64 }
     requires faultless { formula_faults context.now formula.now scope.now ≡ [] }
     ensures { IfOk result (λ f. f ≡ formula_of context.now formula.now scope.now) }
 {
@@ -97,7 +97,7 @@ fn members_in(
     scope: &[Word],
     members: &[Written],
 ) -> Result<Items<Formula>, AllocError>
-    requires shallow { length scope.now + greatest (map depth members.now) ≤ 64 }
+    requires shallow { length scope.now + greatest_depth (map tree_depth members.now) ≤ 64 }
     requires faultless { flat_map (λ f. formula_faults context.now f scope.now) members.now ≡ [] }
     ensures { IfOk result (λ made. made ≡ map (λ f. formula_of context.now f scope.now) members.now) }
 {
@@ -114,7 +114,7 @@ pub(crate) fn formula(
     context: &Context,
     written: &Written,
 ) -> Result<Formula, AllocError>
-    requires shallow { depth written.now ≤ 64 }
+    requires shallow { tree_depth written.now ≤ 64 }
     requires faultless { formula_faults context.now written.now [] ≡ [] }
     ensures { IfOk result (λ f. f ≡ formula_of context.now written.now []) }
 {

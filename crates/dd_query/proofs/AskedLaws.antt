@@ -24,9 +24,9 @@ use Rattle.dd_faults.specs.Names.{named}
 use Rattle.dd_faults.specs.Repeats.{twice_vectors}
 use Rattle.dd_faults.specs.Commands.{dimension_of, is_far, word_faults, radius_faults, strip_faults, vector_faults, list_faults, request_faults}
 use Rattle.dd_faults.specs.Sound.{IsSound}
-use Rattle.dd_query.specs.Queries.{word_at, periods_of, places_of, asked}
+use Rattle.dd_query.specs.Queries.{word_at, strip_periods, places_of, query_asked}
 use Rattle.dd_query.specs.Asked.{IsAsked}
-use Rattle.dd_query.specs.Sound.{IsStrip, AreVectors, IsWithin}
+use Rattle.dd_query.specs.Sound.{AreStripPeriods, AreQueryVectors, IsQueryWithin}
 use Rattle.dd_query.proofs.Nils.{both_nil}
 use Rattle.dd_query.proofs.WordLaws.{word_there}
 use Rattle.dd_query.proofs.ShapeLaws.{value_small, strip_is, all_close, all_whole, vectors_are}
@@ -105,22 +105,22 @@ module _ (x : Context) (r : Request) (is : IsAsked x.text r) (none : request_fau
       word_there x (row r.question).names r.words i named_by request.words words_none
       (subst (λ (p : Question). slice_get (row p).names i ≡ Some named_by) (sym at) place)
 
-  strip_kept : r.question ≡ question.Density → IsStrip (dimension_of x.known) (periods_of x.text r.vectors)
+  strip_kept : r.question ≡ question.Density → AreStripPeriods (dimension_of x.known) (strip_periods x.text r.vectors)
   strip_kept at =
       let one = lists_are question.Density at in
       let short = subst (λ (vs : List Vector). flat_map (strip_faults x) vs ≡ []) one.1 (lists_none question.Density at) in
-      subst (λ (vs : List Vector). IsStrip (dimension_of x.known) (periods_of x.text vs)) (sym one.1) (strip_is x one.0 short)
+      subst (λ (vs : List Vector). AreStripPeriods (dimension_of x.known) (strip_periods x.text vs)) (sym one.1) (strip_is x one.0 short)
 
   pub close_kept : r.question ≡ question.Discharge → list_any (is_far x.text) r.vectors ≡ false
   close_kept at = all_close x r.vectors (vectors_none at).1
 
-  vectors_kept : IsSound x.known → r.question ≡ question.Discharge → AreVectors (dimension_of x.known) (places_of x r)
+  vectors_kept : IsSound x.known → r.question ≡ question.Discharge → AreQueryVectors (dimension_of x.known) (places_of x r)
   vectors_kept sound at =
       let lists = vectors_none at in
       vectors_are x r.vectors (lists_are question.Discharge at) lists.1 lists.2
       (vectors_differ x.text (dimension_of x.known) r.vectors sound.grid.dimension.1 (all_whole x r.vectors lists.1) (all_close x r.vectors lists.1) vectors_read lists.0)
 
-  pub within_kept : (q : Question) → IsSound x.known → r.question ≡ q → IsWithin x.known (asked q x r)
+  pub within_kept : (q : Question) → IsSound x.known → r.question ≡ q → IsQueryWithin x.known (query_asked q x r)
   within_kept question.Member sound at = (there question.Member 0 role.Configuration at refl, there question.Member 1 role.Rule at refl)
   within_kept question.Contains sound at = (there question.Contains 0 role.Rule at refl, there question.Contains 1 role.Rule at refl)
   within_kept question.Equal sound at = (there question.Equal 0 role.Rule at refl, there question.Equal 1 role.Rule at refl)

@@ -3,7 +3,7 @@ use Rattle.std.proofs.Common.{◌≡◌, ◌||◌, Bool, true, false, List, [], 
 use Rattle.std.specs.Prelude.{nat_lt, if◌then◌else◌}
 use Rattle.dd_faults.specs.declared.fault.Limit.{Limit}
 use Rattle.dd_faults.specs.declared.fault.Fault.{Fault}
-use Rattle.dd_faults.specs.Order.{rank, noted, first_fault, over}
+use Rattle.dd_faults.specs.Order.{fault_rank, noted, first_fault, over}
 use Rattle.dd_faults.specs.Commands.{unless}
 
 pub both_nil : {X : Type 0} (xs ys : List X) → xs ++ ys ≡ [] → (xs ≡ []) × (ys ≡ [])
@@ -29,7 +29,7 @@ better_stays g f fs false each e = each g e
 
 stays : (g : Fault) (fs : List Fault) → noted (Some g) fs ≡ None → ⊥
 stays g [] h = absurd cc
-stays g (f ∷ fs) h = better_stays g f fs (nat_lt (rank f) (rank g)) (λ k. stays k fs) h
+stays g (f ∷ fs) h = better_stays g f fs (nat_lt (fault_rank f) (fault_rank g)) (λ k. stays k fs) h
 
 pub none_first : (fs : List Fault) → first_fault fs ≡ None → fs ≡ []
 none_first [] h = refl

@@ -8,7 +8,7 @@ use Rattle.std.proofs.lemmas.Bool.Decides.{nat_tests}
 use Rattle.std.proofs.lemmas.Int.{ints}
 use Rattle.dd_topology.specs.Grid.{edge_reach, is_offset}
 use Rattle.dd_written.specs.declared.lexeme.Number.{Number}
-use Rattle.dd_written.specs.Values.{value}
+use Rattle.dd_written.specs.Values.{written_value}
 use Rattle.dd_commands.specs.declared.command.Entry.{Entry}
 use Rattle.dd_commands.specs.declared.command.Entry.TheVariants as entry
 use Rattle.dd_commands.specs.declared.command.Vector.{Vector}
@@ -17,15 +17,15 @@ use Rattle.dd_faults.specs.declared.context.Context.{Context}
 use Rattle.dd_faults.specs.Order.{over}
 use Rattle.dd_faults.specs.Commands.{unless, dimension_of, entry_value, has_entries, is_far, radius_faults, is_no_strip, strip_faults, vector_faults}
 use Rattle.dd_query.specs.Vectors.{signed_value, coordinate, place_of}
-use Rattle.dd_query.specs.Queries.{periods_of}
-use Rattle.dd_query.specs.Sound.{IsStrip, AreVectors}
+use Rattle.dd_query.specs.Queries.{strip_periods}
+use Rattle.dd_query.specs.Sound.{AreStripPeriods, AreQueryVectors}
 use Rattle.dd_query.proofs.Nils.{both_nil, fits, within, neither}
 
 -- ---- numbers
 
-pub value_small : (x : Context) (ns : List Number) (i : ℕ) → flat_map (radius_faults x) ns ≡ [] → slice_index (map (value x.text) ns) i ≤ 3
+pub value_small : (x : Context) (ns : List Number) (i : ℕ) → flat_map (radius_faults x) ns ≡ [] → slice_index (map (written_value x.text) ns) i ≤ 3
 value_small x [] i none = omega arith
-value_small x (n ∷ ns) zero none = ltb-false 3 (value x.text n) (within (nat_lt 3 (value x.text n)) limit.Radius (both_nil (radius_faults x n) (flat_map (radius_faults x) ns) none).0)
+value_small x (n ∷ ns) zero none = ltb-false 3 (written_value x.text n) (within (nat_lt 3 (written_value x.text n)) limit.Radius (both_nil (radius_faults x n) (flat_map (radius_faults x) ns) none).0)
 value_small x (n ∷ ns) (suc i) none = value_small x ns i (both_nil (radius_faults x n) (flat_map (radius_faults x) ns) none).1
 
 pub no_value : (f : Number → ℕ) (ns : List Number) (i : ℕ) → None ≡ slice_get ns i → slice_index (map f ns) i ≡ 0
@@ -51,7 +51,7 @@ no_period bytes (e ∷ es) zero h = absurd (omega arith)
 no_period bytes (e ∷ es) (suc j) h = no_period bytes es j (omega arith)
 
 -- the one vector of a strip
-pub strip_is : (x : Context) (v : Vector) → flat_map (strip_faults x) (v ∷ []) ≡ [] → IsStrip (dimension_of x.known) (periods_of x.text (v ∷ []))
+pub strip_is : (x : Context) (v : Vector) → flat_map (strip_faults x) (v ∷ []) ≡ [] → AreStripPeriods (dimension_of x.known) (strip_periods x.text (v ∷ []))
 strip_is x v none =
     let d = dimension_of x.known in
     let both = both_nil (unless (length v.entries + 1 == d)) (over (list_any (is_no_strip x.text) v.entries) limit.Periods) (both_nil (strip_faults x v) [] none).0 in
@@ -67,8 +67,8 @@ strip_is x v none =
 -- ---- vectors
 
 close_entry : (bytes : List ℕ) (e : Entry) → nat_lt 4 (entry_value bytes e) ≡ false → unsigned_abs (signed_value bytes e) ≤ 4
-close_entry bytes (entry.Number n) h = ltb-false 4 (value bytes n) h
-close_entry bytes (entry.Negative n) h = negated (value bytes n) (ltb-false 4 (value bytes n) h)
+close_entry bytes (entry.Number n) h = ltb-false 4 (written_value bytes n) h
+close_entry bytes (entry.Negative n) h = negated (written_value bytes n) (ltb-false 4 (written_value bytes n) h)
   where
     negated : (m : ℕ) → m ≤ 4 → unsigned_abs (pos 0 -ℤ pos m) ≤ 4
     negated zero small = omega arith
@@ -123,7 +123,7 @@ all_whole x (v ∷ vs) none =
     and_from (has_entries d v) (list_all (has_entries d) vs) here (all_whole x vs both.1)
 
 pub vectors_are : (x : Context) (vs : List Vector) → 1 ≤ length vs → flat_map (vector_faults x) vs ≡ [] → over (nat_lt 16 (length vs)) limit.Vectors ≡ [] →
-    AllPairs (λ u v. u ≢ v) (map (place_of x.text) vs) → AreVectors (dimension_of x.known) (map (place_of x.text) vs)
+    AllPairs (λ u v. u ≢ v) (map (place_of x.text) vs) → AreQueryVectors (dimension_of x.known) (map (place_of x.text) vs)
 vectors_are x vs some none small distinct =
     let same = same_length x.text vs in
     let few : length vs ≤ 16 = ltb-false 16 (length vs) (within (nat_lt 16 (length vs)) limit.Vectors small) in

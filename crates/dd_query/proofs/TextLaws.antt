@@ -9,12 +9,12 @@ use Rattle.dd_tokens.specs.declared.token.TokenKind.{TokenKind}
 use Rattle.dd_tokens.specs.declared.token.TokenKind.TheVariants as kind
 use Rattle.dd_tokens.specs.declared.piece.Piece.{Piece}
 use Rattle.dd_tokens.specs.declared.piece.Piece.TheVariants as piece
-use Rattle.dd_tokens.specs.Format.{is_blank, is_letter, is_digit, is_sign, starts, starts_positive, is_pair, is_both_ways, is_comment, comment, number, front, first, size, with_piece, tokens_after, tokens_of}
+use Rattle.dd_tokens.specs.Format.{is_blank, is_letter, is_digit, is_sign, starts, starts_positive, is_pair, is_both_ways, is_comment, comment, number, front, first, piece_size, with_piece, tokens_after, tokens_of}
 use Rattle.dd_written.specs.declared.lexeme.Mark.{Mark}
 use Rattle.dd_written.specs.declared.lexeme.Lexeme.{Lexeme}
 use Rattle.dd_written.specs.declared.lexeme.Lexeme.TheVariants as lexeme
 use Rattle.dd_written.specs.Lexemes.{token_text, marked, mark_at, lexeme_of, lexemes_of, stray}
-use Rattle.dd_written.specs.Values.{number_text, decimal, unsigned, value}
+use Rattle.dd_written.specs.Values.{number_text, decimal, unsigned, written_value}
 
 -- ---- tokens
 
@@ -155,8 +155,8 @@ tokens_formed bytes within place [] at = tt
 tokens_formed bytes (suc within) place (b ∷ here) at =
     tokens_formed bytes within (place + 1) here (next_place place b bytes here at ∙ ap (λ m. drop m bytes) (sym (add-one place)))
 tokens_formed bytes zero place (b ∷ here) at =
-    piece_formed bytes (first (b ∷ here)) place (b ∷ here) (tokens_after (size (first (b ∷ here)) - 1) (place + 1) here) (front_form b here) at
-    (tokens_formed bytes (size (first (b ∷ here)) - 1) (place + 1) here (next_place place b bytes here at ∙ ap (λ m. drop m bytes) (sym (add-one place))))
+    piece_formed bytes (first (b ∷ here)) place (b ∷ here) (tokens_after (piece_size (first (b ∷ here)) - 1) (place + 1) here) (front_form b here) at
+    (tokens_formed bytes (piece_size (first (b ∷ here)) - 1) (place + 1) here (next_place place b bytes here at ∙ ap (λ m. drop m bytes) (sym (add-one place))))
 
 -- ---- numbers
 
@@ -183,8 +183,8 @@ no_hyphen d rest low =
 
 -- what is known of the text of a token that is a number of at most 4
 abbrev pub IsSmallText : List ℕ → Lexeme → Type 0
-IsSmallText bytes (lexeme.Number n) = value bytes n ≤ 4 → number_text bytes n ≡ (48 + value bytes n) ∷ []
-IsSmallText bytes (lexeme.Negative n) = value bytes n ≤ 4 → (1 ≤ value bytes n) × (number_text bytes n ≡ 45 ∷ (48 + value bytes n) ∷ [])
+IsSmallText bytes (lexeme.Number n) = written_value bytes n ≤ 4 → number_text bytes n ≡ (48 + written_value bytes n) ∷ []
+IsSmallText bytes (lexeme.Negative n) = written_value bytes n ≤ 4 → (1 ≤ written_value bytes n) × (number_text bytes n ≡ 45 ∷ (48 + written_value bytes n) ∷ [])
 IsSmallText bytes (lexeme.Word w) = Unit {0}
 IsSmallText bytes (lexeme.Mark m) = Unit {0}
 IsSmallText bytes lexeme.Stray = Unit {0}

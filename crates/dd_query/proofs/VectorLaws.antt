@@ -12,7 +12,7 @@ use Rattle.std.proofs.lemmas.List.Folds.{list_any_at}
 use Rattle.std.proofs.lemmas.Slice.Eq.{bytes_eq-Decides}
 use Rattle.dd_lattice.specs.Place.{Place}
 use Rattle.dd_written.specs.Lexemes.{lexemes_of}
-use Rattle.dd_written.specs.Values.{value}
+use Rattle.dd_written.specs.Values.{written_value}
 use Rattle.dd_commands.specs.declared.command.Entry.{Entry}
 use Rattle.dd_commands.specs.declared.command.Entry.TheVariants as entry
 use Rattle.dd_commands.specs.declared.command.Vector.{Vector}
@@ -72,17 +72,17 @@ is_far_entry bytes e = nat_lt 4 (entry_value bytes e)
 same_text : (bytes : List ℕ) (a b : Entry) → IsSmallText bytes (entry_lexeme a) → IsSmallText bytes (entry_lexeme b) → is_far_entry bytes a ≡ false → is_far_entry bytes b ≡ false →
     signed_value bytes a ≡ signed_value bytes b → entry_text bytes a ≡ entry_text bytes b
 same_text bytes (entry.Number m) (entry.Number n) h g near nearby is =
-    let same : value bytes m ≡ value bytes n = omega (arith, ints, is) in
-    h (ltb-false 4 (value bytes m) near) ∙ (ap (λ v. (48 + v) ∷ []) same ∙ sym (g (ltb-false 4 (value bytes n) nearby)))
+    let same : written_value bytes m ≡ written_value bytes n = omega (arith, ints, is) in
+    h (ltb-false 4 (written_value bytes m) near) ∙ (ap (λ v. (48 + v) ∷ []) same ∙ sym (g (ltb-false 4 (written_value bytes n) nearby)))
 same_text bytes (entry.Number m) (entry.Negative n) h g near nearby is =
-    let some = (g (ltb-false 4 (value bytes n) nearby)).0 in
+    let some = (g (ltb-false 4 (written_value bytes n) nearby)).0 in
     absurd (omega (arith, ints, is, some))
 same_text bytes (entry.Negative m) (entry.Number n) h g near nearby is =
-    let some = (h (ltb-false 4 (value bytes m) near)).0 in
+    let some = (h (ltb-false 4 (written_value bytes m) near)).0 in
     absurd (omega (arith, ints, is, some))
 same_text bytes (entry.Negative m) (entry.Negative n) h g near nearby is =
-    let same : value bytes m ≡ value bytes n = omega (arith, ints, is) in
-    (h (ltb-false 4 (value bytes m) near)).1 ∙ (ap (λ v. 45 ∷ (48 + v) ∷ []) same ∙ sym (g (ltb-false 4 (value bytes n) nearby)).1)
+    let same : written_value bytes m ≡ written_value bytes n = omega (arith, ints, is) in
+    (h (ltb-false 4 (written_value bytes m) near)).1 ∙ (ap (λ v. 45 ∷ (48 + v) ∷ []) same ∙ sym (g (ltb-false 4 (written_value bytes n) nearby)).1)
 
 abbrev number_at : List ℕ → List Entry → ℕ → ℤ
 number_at bytes es axis = option_map_or (signed_value bytes) (slice_get es axis) (pos 0)

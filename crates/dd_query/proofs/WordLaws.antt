@@ -11,7 +11,7 @@ use Rattle.dd_commands.specs.declared.table.Role.{Role}
 use Rattle.dd_faults.specs.declared.fault.Fault.TheVariants as fault
 use Rattle.dd_faults.specs.declared.context.Context.{Context}
 use Rattle.dd_faults.specs.Order.{when}
-use Rattle.dd_faults.specs.Names.{place_of, missing, number_in, named}
+use Rattle.dd_faults.specs.Names.{place_of_name, missing, number_in, named}
 use Rattle.dd_faults.specs.Commands.{word_faults}
 use Rattle.dd_query.specs.Queries.{number_of_word}
 use Rattle.dd_query.proofs.Nils.{both_nil}
@@ -39,13 +39,13 @@ at_word x (q ∷ rs) (v ∷ ws) zero r w h g = (let same : q ≡ r = cc in let a
 at_word x (q ∷ rs) (v ∷ ws) (suc i) r w h g = at_word x rs ws i r w h g
 
 -- a name that is not missing has a number below that of the names
-number_below : (bytes : List ℕ) (names : List (List ℕ)) (n : Name) (o : Option ℕ) → place_of bytes names n ≡ o →
+number_below : (bytes : List ℕ) (names : List (List ℕ)) (n : Name) (o : Option ℕ) → place_of_name bytes names n ≡ o →
     when (not (is_some o)) (fault.Unknown n) ≡ [] → unwrap_or o 0 < length names
 number_below bytes names n None is none = absurd cc
 number_below bytes names n (Some i) is none = (position-Some (bytes_eq (name_text bytes n)) names i [] is).0
 
 pub is_there : (bytes : List ℕ) (names : List (List ℕ)) (n : Name) → missing bytes names n ≡ [] → number_in bytes names n < length names
-is_there bytes names n none = number_below bytes names n (place_of bytes names n) refl none
+is_there bytes names n none = number_below bytes names n (place_of_name bytes names n) refl none
 
 -- a word of a question without a fault names something of its role
 pub word_there : (x : Context) (rs : List Role) (ws : List Word) (i : ℕ) (r : Role) → length ws ≡ length rs → flat_map (word_faults x) (zip rs ws) ≡ [] → slice_get rs i ≡ Some r →

@@ -4,7 +4,7 @@ use Rattle.std.specs.List.{zip}
 use Rattle.dd_lattice.specs.Place.{Place}
 use Rattle.dd_written.specs.declared.lexeme.Word.{Word}
 use Rattle.dd_written.specs.declared.tree.Name.TheVariants as name
-use Rattle.dd_written.specs.Values.{value}
+use Rattle.dd_written.specs.Values.{written_value}
 use Rattle.dd_commands.specs.declared.table.Role.{Role}
 use Rattle.dd_commands.specs.declared.table.Question.{Question}
 use Rattle.dd_commands.specs.declared.table.Question.TheVariants as question
@@ -32,29 +32,29 @@ word_at x r place = slice_index (numbers_of_words x r) place
 
 -- the value of the number at this place
 abbrev pub value_at : Context → Request → ℕ → ℕ
-value_at x r place = slice_index (map (value x.text) r.numbers) place
+value_at x r place = slice_index (map (written_value x.text) r.numbers) place
 
 -- the periods of a strip along the second and the third axis, and 1 where there is no such axis
-abbrev pub periods_of : List ℕ → List Vector → List ℕ
-periods_of bytes [] = 1 ∷ 1 ∷ []
-periods_of bytes (v ∷ vs) = period_at bytes v 0 ∷ period_at bytes v 1 ∷ []
+abbrev pub strip_periods : List ℕ → List Vector → List ℕ
+strip_periods bytes [] = 1 ∷ 1 ∷ []
+strip_periods bytes (v ∷ vs) = period_at bytes v 0 ∷ period_at bytes v 1 ∷ []
 
-abbrev pub strip_of : Context → Request → List ℕ
-strip_of x r = periods_of x.text r.vectors
+abbrev pub request_strip : Context → Request → List ℕ
+request_strip x r = strip_periods x.text r.vectors
 
 abbrev pub places_of : Context → Request → List Place
 places_of x r = map (place_of x.text) r.vectors
 
 -- what each question asks
-abbrev pub asked : Question → Context → Request → Query
-asked question.Member x r = query.Member (word_at x r 0) (word_at x r 1)
-asked question.Contains x r = query.Contains (word_at x r 0) (word_at x r 1)
-asked question.Equal x r = query.Equal (word_at x r 0) (word_at x r 1)
-asked question.Empty x r = query.Empty (word_at x r 0)
-asked question.Agree x r = query.Agree (word_at x r 0) (word_at x r 1) (word_at x r 2)
-asked question.Forbidden x r = query.Forbidden (word_at x r 0)
-asked question.Density x r = query.Density (word_at x r 0) (strip_of x r)
-asked question.Discharge x r = query.Discharge (word_at x r 0) (value_at x r 0) (value_at x r 1) (places_of x r)
+abbrev pub query_asked : Question → Context → Request → Query
+query_asked question.Member x r = query.Member (word_at x r 0) (word_at x r 1)
+query_asked question.Contains x r = query.Contains (word_at x r 0) (word_at x r 1)
+query_asked question.Equal x r = query.Equal (word_at x r 0) (word_at x r 1)
+query_asked question.Empty x r = query.Empty (word_at x r 0)
+query_asked question.Agree x r = query.Agree (word_at x r 0) (word_at x r 1) (word_at x r 2)
+query_asked question.Forbidden x r = query.Forbidden (word_at x r 0)
+query_asked question.Density x r = query.Density (word_at x r 0) (request_strip x r)
+query_asked question.Discharge x r = query.Discharge (word_at x r 0) (value_at x r 0) (value_at x r 1) (places_of x r)
 
 abbrev pub query_of : Context → Request → Query
-query_of x r = asked r.question x r
+query_of x r = query_asked r.question x r

@@ -22,14 +22,14 @@ abbrev pub most_vectors : ℕ
 most_vectors = 16
 
 -- the periods of a strip in d dimensions: from 1 on within the limit, and 1 along an axis that there is not
-pub record IsStrip (d : ℕ) (strip : List ℕ) : Type 0 where
+pub record AreStripPeriods (d : ℕ) (strip : List ℕ) : Type 0 where
   pub second : (1 ≤ slice_index strip 0) × (slice_index strip 0 ≤ longest_period)
   pub third : (1 ≤ slice_index strip 1) × (slice_index strip 1 ≤ longest_period)
   pub no_second : d ≤ 1 → slice_index strip 0 ≡ 1
   pub no_third : d ≤ 2 → slice_index strip 1 ≡ 1
 
 -- one vector at least, and no more than the limit, each of Z^d with entries of at most 4
-pub record AreVectors (d : ℕ) (vectors : List Place) : Type 0 where
+pub record AreQueryVectors (d : ℕ) (vectors : List Place) : Type 0 where
   pub some : 1 ≤ length vectors
   pub few : length vectors ≤ most_vectors
   pub short : list_all (is_offset d) vectors ≡ true
@@ -37,18 +37,18 @@ pub record AreVectors (d : ℕ) (vectors : List Place) : Type 0 where
   pub distinct : AllPairs (λ u v. u ≢ v) vectors
 
 -- its numbers are those of rules, automata and configurations, and its periods, radii and vectors are within their bounds
-abbrev pub IsWithin : Known → Query → Type 0
-IsWithin k (query.Member configuration rule) = (configuration < length k.configurations) × (rule < length k.rules)
-IsWithin k (query.Contains outer inner) = (outer < length k.rules) × (inner < length k.rules)
-IsWithin k (query.Equal left right) = (left < length k.rules) × (right < length k.rules)
-IsWithin k (query.Empty rule) = rule < length k.rules
-IsWithin k (query.Agree left right rule) = (left < length k.automata) × (right < length k.automata) × (rule < length k.rules)
-IsWithin k (query.Forbidden rule) = rule < length k.rules
-IsWithin k (query.Density rule strip) = (rule < length k.rules) × IsStrip k.setting.topology.dimension strip
-IsWithin k (query.Discharge rule radius margin vectors) =
-    (rule < length k.rules) × (radius ≤ widest_radius) × (margin ≤ widest_radius) × AreVectors k.setting.topology.dimension vectors
+abbrev pub IsQueryWithin : Known → Query → Type 0
+IsQueryWithin k (query.Member configuration rule) = (configuration < length k.configurations) × (rule < length k.rules)
+IsQueryWithin k (query.Contains outer inner) = (outer < length k.rules) × (inner < length k.rules)
+IsQueryWithin k (query.Equal left right) = (left < length k.rules) × (right < length k.rules)
+IsQueryWithin k (query.Empty rule) = rule < length k.rules
+IsQueryWithin k (query.Agree left right rule) = (left < length k.automata) × (right < length k.automata) × (rule < length k.rules)
+IsQueryWithin k (query.Forbidden rule) = rule < length k.rules
+IsQueryWithin k (query.Density rule strip) = (rule < length k.rules) × AreStripPeriods k.setting.topology.dimension strip
+IsQueryWithin k (query.Discharge rule radius margin vectors) =
+    (rule < length k.rules) × (radius ≤ widest_radius) × (margin ≤ widest_radius) × AreQueryVectors k.setting.topology.dimension vectors
 
 pub record IsSoundQuery (k : Known) (rules : List LocalRule) (automata : List Automaton) (q : Query) : Type 0 where
-  pub within : IsWithin k q
+  pub within : IsQueryWithin k q
   -- it passes no limit
   pub sizes : query_sizes k rules automata q ≡ []

@@ -6,13 +6,13 @@ use Rattle.dd_lattice.specs.Place.{Place, place}
 use Rattle.dd_commands.specs.declared.command.Entry.{Entry}
 use Rattle.dd_commands.specs.declared.command.Entry.TheVariants as entry
 use Rattle.dd_commands.specs.declared.command.Vector.{Vector}
-use Rattle.dd_written.specs.Values.{value}
+use Rattle.dd_written.specs.Values.{written_value}
 use Rattle.dd_faults.specs.Commands.{is_far}
 
 -- the number of an entry, with its sign
 abbrev pub signed_value : List ℕ → Entry → ℤ
-signed_value bytes (entry.Number n) = pos (value bytes n)
-signed_value bytes (entry.Negative n) = pos 0 -ℤ pos (value bytes n)
+signed_value bytes (entry.Number n) = pos (written_value bytes n)
+signed_value bytes (entry.Negative n) = pos 0 -ℤ pos (written_value bytes n)
 
 -- the number of the entry for an axis, and 0 where there is none
 abbrev pub coordinate : List ℕ → Vector → ℕ → ℤ

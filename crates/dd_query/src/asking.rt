@@ -7,11 +7,11 @@ ghost use Rattle.dd_faults.specs.Names.{number_in};
 ghost use Rattle.dd_faults.specs.Commands.{is_far, request_faults};
 ghost use Rattle.dd_faults.specs.Sound.{IsSound};
 ghost use Rattle.dd_query.specs.Vectors.{place_of};
-ghost use Rattle.dd_query.specs.Queries.{word_at, value_at, periods_of, query_of};
+ghost use Rattle.dd_query.specs.Queries.{word_at, value_at, strip_periods, query_of};
 ghost use Rattle.dd_query.specs.Asked.{IsAsked};
 ghost use Rattle.dd_query.specs.Limits.{query_sizes};
 ghost use Rattle.dd_query.specs.Made.{AreMade};
-ghost use Rattle.dd_query.specs.Sound.{IsStrip, IsWithin, IsSoundQuery};
+ghost use Rattle.dd_query.specs.Sound.{AreStripPeriods, IsQueryWithin, IsSoundQuery};
 
 use crate::limits::is_within_limits;
 use crate::queries::Query;
@@ -57,8 +57,8 @@ fn value_at(context: &Context, request: &Request, place: usize) -> u32
 
 /// The periods of a strip along the second and the third axis.
 fn strip_of(context: &Context, vectors: &[Vector]) -> [u32; 2]
-    requires { IsStrip context.now.known.setting.topology.dimension (periods_of context.now.text vectors.now) }
-    ensures { result ≡ periods_of context.now.text vectors.now }
+    requires { AreStripPeriods context.now.known.setting.topology.dimension (strip_periods context.now.text vectors.now) }
+    ensures { result ≡ strip_periods context.now.text vectors.now }
 {
     match vectors {
         [periods, ..] => [
@@ -82,7 +82,7 @@ fn positions(alloc: Global, text: &Text, vectors: &[Vector]) -> Result<Items<Pos
 
 /// The query that a question asks.
 fn asked(alloc: Global, context: &Context, request: &Request) -> Result<Query, AllocError>
-    requires within { IsWithin context.now.known (query_of context.now request.now) }
+    requires within { IsQueryWithin context.now.known (query_of context.now request.now) }
     requires close { request.now.question ≡ question.Discharge → list_any (is_far context.now.text) request.now.vectors ≡ false }
     ensures { IfOk result (λ q. q ≡ query_of context.now request.now) }
 {

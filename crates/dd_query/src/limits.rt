@@ -6,7 +6,7 @@ ghost use Rattle.dd_faults.specs.Sound.{IsSound};
 ghost use Rattle.dd_query.specs.Limits.{has_many_patterns, has_many_states, strip_volume};
 ghost use Rattle.dd_query.specs.Limits.{contains_sizes, equal_sizes, empty_sizes, agree_sizes, query_sizes};
 ghost use Rattle.dd_query.specs.Made.{AreMade};
-ghost use Rattle.dd_query.specs.Sound.{longest_period, IsWithin};
+ghost use Rattle.dd_query.specs.Sound.{longest_period, IsQueryWithin};
 
 use crate::aims::{anything, breaking, differing, is_long};
 use crate::queries::Query;
@@ -97,7 +97,7 @@ pub(crate) fn is_within_limits(
 ) -> Result<(), Refusal>
     requires sound { IsSound known.now }
     requires made { AreMade known.now rules.now automata.now }
-    requires within { IsWithin known.now query.now }
+    requires within { IsQueryWithin known.now query.now }
     ensures { Accepts result (first_fault (query_sizes known.now rules.now automata.now query.now)) }
 {
     match query {

@@ -6,7 +6,7 @@ use Rattle.dd_tokens.specs.declared.token.TokenKind.TheVariants as token
 use Rattle.dd_tokens.specs.declared.token.Tokens.{Tokens}
 use Rattle.dd_tokens.specs.declared.piece.Piece.{Piece}
 use Rattle.dd_tokens.specs.declared.piece.Piece.TheVariants.{Gap, Cut, Fault}
-use Rattle.dd_tokens.specs.Format.{tokens_after, first, front, with_piece, size, with_front, is_digit}
+use Rattle.dd_tokens.specs.Format.{tokens_after, first, front, with_piece, piece_size, with_front, is_digit}
 
 -- ---- behind p bytes more
 
@@ -28,7 +28,7 @@ tokens_up (suc within) place p (b ∷ bytes) =
     ap (λ (q : ℕ). tokens_after within q bytes) at ∙ tokens_up within (place + 1) p bytes
 tokens_up zero place p (b ∷ bytes) =
     let at : p + place + 1 ≡ p + (place + 1) = omega arith in
-    piece_up (first (b ∷ bytes)) p place _ _ (ap (λ (q : ℕ). tokens_after (size (first (b ∷ bytes)) - 1) q bytes) at ∙ tokens_up (size (first (b ∷ bytes)) - 1) (place + 1) p bytes)
+    piece_up (first (b ∷ bytes)) p place _ _ (ap (λ (q : ℕ). tokens_after (piece_size (first (b ∷ bytes)) - 1) q bytes) at ∙ tokens_up (piece_size (first (b ∷ bytes)) - 1) (place + 1) p bytes)
 
 -- ---- a number
 
@@ -100,7 +100,7 @@ number_before d ds ys place low high all =
     number_begins d (ds ++ 93 ∷ ys) low high ∙ ap (λ (n : ℕ). Cut token.Number (1 + n)) (digits_end ds ys all) in
     let one_less : 1 + length ds - 1 ≡ length ds = omega arith in
     let at : place + 1 + length ds ≡ place + (1 + length ds) = omega arith in
-    ap (λ (piece : Piece). with_piece piece place (tokens_after (size piece - 1) (place + 1) (ds ++ 93 ∷ ys))) found
+    ap (λ (piece : Piece). with_piece piece place (tokens_after (piece_size piece - 1) (place + 1) (ds ++ 93 ∷ ys))) found
     ∙ ap (λ (k : ℕ). with_front (number_token place (1 + length ds) ∷ []) (tokens_after k (place + 1) (ds ++ 93 ∷ ys))) one_less
     ∙ ap (with_front (number_token place (1 + length ds) ∷ [])) (over ds (place + 1) (93 ∷ ys))
     ∙ ap (λ (q : ℕ). with_front (number_token place (1 + length ds) ∷ []) (tokens_after 0 q (93 ∷ ys))) at

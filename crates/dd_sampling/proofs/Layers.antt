@@ -13,7 +13,7 @@ use Rattle.dd_written.specs.declared.tree.Join.{Join}
 use Rattle.dd_written.specs.declared.tree.Formula.{Formula, roll-Formula}
 use Rattle.dd_written.specs.declared.tree.Formula.TheFolds.{fold-roll-Formula}
 use Rattle.dd_written.specs.declared.tree.Formula.TheOpen.{Formula-F}
-use Rattle.dd_written.specs.Formulas.{text, text_step, stands, stands_step, depth, depth_step, greatest, joined, sign, rank, capital, ball_text, atom_text, IsFormula}
+use Rattle.dd_written.specs.Formulas.{text, text_step, stands, stands_step, tree_depth, tree_depth_step, greatest_depth, separated_by, sign, join_rank, capital, ball_text, atom_text, IsWrittenFormula}
 use Rattle.dd_sampling.proofs.Tree.{hard, row, dies, zero_rule, dom, hard_text, row_text, dies_text, zero_text, dom_text}
 
 atom_text_is : (a : Atom) → text (roll-Formula (Formula-F.Atom a)) ≡ atom_text a
@@ -29,7 +29,7 @@ quantified_text_is q v bs f = fold-roll-Formula (List Lexeme) text_step (Formula
 group_text_is : (f : Formula) → text (roll-Formula (Formula-F.Group f)) ≡ lexeme.Mark mark.Open ∷ text f ++ lexeme.Mark mark.Close ∷ []
 group_text_is f = fold-roll-Formula (List Lexeme) text_step (Formula-F.Group f)
 
-list_text_is : (j : Join) (fs : List Formula) → text (roll-Formula (Formula-F.List j fs)) ≡ joined (sign j) (map text fs)
+list_text_is : (j : Join) (fs : List Formula) → text (roll-Formula (Formula-F.List j fs)) ≡ separated_by (sign j) (map text fs)
 list_text_is j fs = fold-roll-Formula (List Lexeme) text_step (Formula-F.List j fs)
 
 implies_text_is : (f g : Formula) → text (roll-Formula (Formula-F.Implies f g)) ≡ text f ++ lexeme.Mark mark.Arrow ∷ text g
@@ -50,7 +50,7 @@ group_stands : (f : Formula) (p : ℕ) → stands (roll-Formula (Formula-F.Group
 group_stands f p = ap (λ (s : ℕ → Bool). s p) (fold-roll-Formula (ℕ → Bool) stands_step (Formula-F.Group f))
 
 list_stands : (j : Join) (fs : List Formula) (p : ℕ) → stands (roll-Formula (Formula-F.List j fs)) p
-    ≡ (nat_le (rank j) p && nat_le 2 (length (map stands fs)) && list_all (λ (s : ℕ → Bool). s (rank j - 1)) (map stands fs))
+    ≡ (nat_le (join_rank j) p && nat_le 2 (length (map stands fs)) && list_all (λ (s : ℕ → Bool). s (join_rank j - 1)) (map stands fs))
 list_stands j fs p = ap (λ (s : ℕ → Bool). s p) (fold-roll-Formula (ℕ → Bool) stands_step (Formula-F.List j fs))
 
 implies_stands : (f g : Formula) (p : ℕ) → stands (roll-Formula (Formula-F.Implies f g)) p ≡ (nat_le 3 p && stands f 2 && stands g 3)
@@ -58,42 +58,42 @@ implies_stands f g p = ap (λ (s : ℕ → Bool). s p) (fold-roll-Formula (ℕ �
 
 ruleset places = (atom_stands, not_stands, quantified_stands, group_stands, list_stands, implies_stands)
 
-atom_depth : (a : Atom) → depth (roll-Formula (Formula-F.Atom a)) ≡ 0
-atom_depth a = fold-roll-Formula ℕ depth_step (Formula-F.Atom a)
+atom_depth : (a : Atom) → tree_depth (roll-Formula (Formula-F.Atom a)) ≡ 0
+atom_depth a = fold-roll-Formula ℕ tree_depth_step (Formula-F.Atom a)
 
-not_depth : (f : Formula) → depth (roll-Formula (Formula-F.Not f)) ≡ 1 + depth f
-not_depth f = fold-roll-Formula ℕ depth_step (Formula-F.Not f)
+not_depth : (f : Formula) → tree_depth (roll-Formula (Formula-F.Not f)) ≡ 1 + tree_depth f
+not_depth f = fold-roll-Formula ℕ tree_depth_step (Formula-F.Not f)
 
-quantified_depth : (q : Quantor) (v : Word) (bs : List Ball) (f : Formula) → depth (roll-Formula (Formula-F.Quantified q v bs f)) ≡ 1 + depth f
-quantified_depth q v bs f = fold-roll-Formula ℕ depth_step (Formula-F.Quantified q v bs f)
+quantified_depth : (q : Quantor) (v : Word) (bs : List Ball) (f : Formula) → tree_depth (roll-Formula (Formula-F.Quantified q v bs f)) ≡ 1 + tree_depth f
+quantified_depth q v bs f = fold-roll-Formula ℕ tree_depth_step (Formula-F.Quantified q v bs f)
 
-group_depth : (f : Formula) → depth (roll-Formula (Formula-F.Group f)) ≡ 1 + depth f
-group_depth f = fold-roll-Formula ℕ depth_step (Formula-F.Group f)
+group_depth : (f : Formula) → tree_depth (roll-Formula (Formula-F.Group f)) ≡ 1 + tree_depth f
+group_depth f = fold-roll-Formula ℕ tree_depth_step (Formula-F.Group f)
 
-list_depth : (j : Join) (fs : List Formula) → depth (roll-Formula (Formula-F.List j fs)) ≡ 1 + greatest (map depth fs)
-list_depth j fs = fold-roll-Formula ℕ depth_step (Formula-F.List j fs)
+list_depth : (j : Join) (fs : List Formula) → tree_depth (roll-Formula (Formula-F.List j fs)) ≡ 1 + greatest_depth (map tree_depth fs)
+list_depth j fs = fold-roll-Formula ℕ tree_depth_step (Formula-F.List j fs)
 
-implies_depth : (f g : Formula) → depth (roll-Formula (Formula-F.Implies f g)) ≡ 1 + max (depth f) (depth g)
-implies_depth f g = fold-roll-Formula ℕ depth_step (Formula-F.Implies f g)
+implies_depth : (f g : Formula) → tree_depth (roll-Formula (Formula-F.Implies f g)) ≡ 1 + max (tree_depth f) (tree_depth g)
+implies_depth f g = fold-roll-Formula ℕ tree_depth_step (Formula-F.Implies f g)
 
 ruleset depths = (atom_depth, not_depth, quantified_depth, group_depth, list_depth, implies_depth)
 
-formula : (f : Formula) (d : ℕ) → stands f 4 ≡ true → depth f ≡ d → d ≤ 64 → IsFormula f
+formula : (f : Formula) (d : ℕ) → stands f 4 ≡ true → tree_depth f ≡ d → d ≤ 64 → IsWrittenFormula f
 formula f d grouped deep few = record { grouped = grouped; shallow = omega (arith, deep, few) }
 
-pub hard_is : IsFormula hard
+pub hard_is : IsWrittenFormula hard
 hard_is = formula hard 3 (simp places) (simp depths) (omega arith)
 
-pub row_is : IsFormula row
+pub row_is : IsWrittenFormula row
 row_is = formula row 1 (simp places) (simp depths) (omega arith)
 
-pub dies_is : IsFormula dies
+pub dies_is : IsWrittenFormula dies
 dies_is = formula dies 4 (simp places) (simp depths) (omega arith)
 
-pub zero_is : IsFormula zero_rule
+pub zero_is : IsWrittenFormula zero_rule
 zero_is = formula zero_rule 0 (simp places) (simp depths) (omega arith)
 
-pub dom_is : IsFormula dom
+pub dom_is : IsWrittenFormula dom
 dom_is = formula dom 1 (simp places) (simp depths) (omega arith)
 
 pub hard_written : hard_text ≡ text hard

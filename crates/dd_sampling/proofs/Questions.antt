@@ -10,7 +10,7 @@ use Rattle.dd_written.specs.declared.lexeme.Number.{Number}
 use Rattle.dd_written.specs.declared.lexeme.Lexeme.{Lexeme}
 use Rattle.dd_written.specs.declared.lexeme.Lexeme.TheVariants as lexeme
 use Rattle.dd_written.specs.declared.tree.Name.TheVariants as name
-use Rattle.dd_written.specs.Values.{word_text, value, unsigned, decimal as value_from}
+use Rattle.dd_written.specs.Values.{word_text, written_value, unsigned, decimal as value_from}
 use Rattle.dd_commands.specs.declared.command.Entry.{Entry}
 use Rattle.dd_commands.specs.declared.command.Entry.TheVariants as entry
 use Rattle.dd_commands.specs.declared.command.Vector.{Vector}
@@ -40,7 +40,7 @@ none_and xs ys first second = ap (λ (zs : List Fault). zs ++ ys) first ∙ seco
 
 -- ---- values, tokens and vectors behind p bytes more
 
-value_up : (bytes : List ℕ) (p : ℕ) (ys : List ℕ) → Stands bytes p ys → (k : Number) → value bytes (up_number p k) ≡ value ys k
+value_up : (bytes : List ℕ) (p : ℕ) (ys : List ℕ) → Stands bytes p ys → (k : Number) → written_value bytes (up_number p k) ≡ written_value ys k
 value_up bytes p ys stands k = ap (λ (t : List ℕ). value_from 0 (unsigned t)) (number_up bytes p ys stands k)
 
 token_up : (bytes : List ℕ) (p : ℕ) (ys : List ℕ) → Stands bytes p ys → (l : Lexeme) → token_faults bytes (up_lexeme p l) ≡ token_faults ys l
@@ -147,7 +147,7 @@ strip_by v = over (nat_lt v 1 || nat_lt 64 v || false) limit.Periods
 
 pub density_faultless : (bytes : List ℕ) (p : ℕ) → Stands bytes p tail_text → written_faults (asked_in bytes 13) (question_written p density_dom) ≡ []
 density_faultless bytes p stands =
-    let five : value bytes (up_number p (number_at 104 1)) ≡ 5 = value_up bytes p tail_text stands (number_at 104 1) in
+    let five : written_value bytes (up_number p (number_at 104 1)) ≡ 5 = value_up bytes p tail_text stands (number_at 104 1) in
     let known : missing bytes names_5 (name.Word (up_word p (word_at 99 3))) ≡ [] =
     named bytes names_5 (up_word p (word_at 99 3)) (codes "dom") (word_up bytes p tail_text stands (word_at 99 3)) refl in
     ap (λ (v : ℕ). over (nat_lt 1000000 v) limit.Number ++ [] ++ ((missing bytes names_5 (name.Word (up_word p (word_at 99 3))) ++ []) ++ ((strip_by v) ++ []))) five
@@ -234,6 +234,6 @@ states_by t v = about rules_5 (number_by t) (λ r. over (has_many_states r (v * 
 
 pub density_few : (bytes : List ℕ) (p : ℕ) → Stands bytes p tail_text → sizes_of bytes 13 p density_dom ≡ []
 density_few bytes p stands =
-    let five : value bytes (up_number p (number_at 104 1)) ≡ 5 = value_up bytes p tail_text stands (number_at 104 1) in
-    ap (λ (t : List ℕ). states_by t (value bytes (up_number p (number_at 104 1)))) (word_up bytes p tail_text stands (word_at 99 3))
+    let five : written_value bytes (up_number p (number_at 104 1)) ≡ 5 = value_up bytes p tail_text stands (number_at 104 1) in
+    ap (λ (t : List ℕ). states_by t (written_value bytes (up_number p (number_at 104 1)))) (word_up bytes p tail_text stands (word_at 99 3))
     ∙ (ap (states_by (codes "dom")) five ∙ ap (λ (b : Bool). over b limit.States) dom_narrow)

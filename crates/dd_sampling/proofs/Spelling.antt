@@ -22,7 +22,7 @@ use Rattle.dd_meanings.specs.declared.meaning.Meaning.TheVariants as meaning
 use Rattle.dd_meanings.specs.Definitions.{rule_faults, tile_of}
 use Rattle.dd_meanings.specs.Formulas.{formula_of}
 use Rattle.dd_script.specs.Parts.{Parts}
-use Rattle.dd_script.specs.Walk.{located, start, fault_of, next, with, first_from, first_of, script_of}
+use Rattle.dd_script.specs.Walk.{located, start, fault_of, next, with, first_from, first_located_fault, script_of}
 use Rattle.dd_script.specs.Scripts.{Spells}
 use Rattle.dd_sample.specs.Sample.{IsSampleNumber, sample_text}
 use Rattle.dd_sampling.proofs.Lexing.{Stands, number_at, turn_numbers}
@@ -174,7 +174,7 @@ conf_next : (more ds : List ℕ) (k : ℕ) → next (front_text ++ more) false 7
 conf_next more ds k = refl
 
 faultless : (k : ℕ) (h : Height (2 * k)) → k ≤ 16384
-    → first_of (front_text ++ from_digits h.first h.others k) (commands (tail_at h.others k) (1 + length h.others) (turn_numbers (symbols_at h.others) k)) ≡ None
+    → first_located_fault (front_text ++ from_digits h.first h.others k) (commands (tail_at h.others k) (1 + length h.others) (turn_numbers (symbols_at h.others) k)) ≡ None
 faultless k h few =
     let more : List ℕ = from_digits h.first h.others k in
     let bytes : List ℕ = front_text ++ more in

@@ -9,7 +9,7 @@ use Rattle.dd_written.specs.declared.lexeme.Lexeme.TheVariants as lexeme
 use Rattle.dd_written.specs.declared.lexeme.Mark.TheVariants as mark
 use Rattle.dd_written.specs.declared.tree.Name.TheVariants as name
 use Rattle.dd_written.specs.declared.tree.Formula.{Formula}
-use Rattle.dd_written.specs.Formulas.{text, IsFormula, name_lexeme}
+use Rattle.dd_written.specs.Formulas.{text, IsWrittenFormula, name_lexeme}
 use Rattle.dd_written.specs.Values.{word_text}
 use Rattle.dd_written.specs.Lexemes.{lexemes_of}
 use Rattle.dd_commands.specs.Table.{row as table_row}
@@ -44,7 +44,7 @@ numbers_onto (k ∷ ns) ts none = ap (longer (lexeme.Number k)) (numbers_onto ns
 
 -- ---- commands
 
-rule_stands : (bytes : List ℕ) (s named l : ℕ) (tokens : List Lexeme) (f : Formula) → word_text bytes (word_at s 4) ≡ codes "rule" → tokens ≡ text f → IsFormula f
+rule_stands : (bytes : List ℕ) (s named l : ℕ) (tokens : List Lexeme) (f : Formula) → word_text bytes (word_at s 4) ≡ codes "rule" → tokens ≡ text f → IsWrittenFormula f
     → list_all is_whole (w s 4 ∷ w named l ∷ tokens) ≡ true → MayStand bytes 7 (w s 4 ∷ w named l ∷ tokens) (rule_written s named l tokens f)
 rule_stands bytes s named l tokens f rule written is all =
     record {

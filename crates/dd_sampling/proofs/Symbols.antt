@@ -10,7 +10,7 @@ use Rattle.dd_topology.specs.Sets.{allows}
 use Rattle.dd_written.specs.declared.lexeme.Number.{Number}
 use Rattle.dd_written.specs.declared.lexeme.Lexeme.TheVariants as lexeme
 use Rattle.dd_written.specs.declared.tree.Name.TheVariants as name
-use Rattle.dd_written.specs.Values.{number_text, value, unsigned, decimal as value_from}
+use Rattle.dd_written.specs.Values.{number_text, written_value, unsigned, decimal as value_from}
 use Rattle.dd_faults.specs.declared.fault.Fault.{Fault}
 use Rattle.dd_faults.specs.declared.fault.Fault.TheVariants as fault
 use Rattle.dd_faults.specs.declared.fault.Limit.TheVariants as limit
@@ -95,7 +95,7 @@ height_text d ds k = take_at (d ∷ ds) _ (1 + length ds) (omega arith)
 no_hyphen : (d : ℕ) (ds : List ℕ) → 49 ≤ d → unsigned (d ∷ ds) ≡ d ∷ ds
 no_hyphen d ds low = ap (λ (b : Bool). if b then ds else d ∷ ds) (ne_eqb d 45 (λ is. omega (arith, is, low)))
 
-height_value : (d : ℕ) (ds : List ℕ) (k h : ℕ) → 49 ≤ d → value_from 0 (d ∷ ds) ≡ h → value (front_text ++ from_digits d ds k) (number_at 181 (1 + length ds)) ≡ h
+height_value : (d : ℕ) (ds : List ℕ) (k h : ℕ) → 49 ≤ d → value_from 0 (d ∷ ds) ≡ h → written_value (front_text ++ from_digits d ds k) (number_at 181 (1 + length ds)) ≡ h
 height_value d ds k h low is = ap (λ (t : List ℕ). value_from 0 (unsigned t)) (height_text d ds k) ∙ (ap (value_from 0) (no_hyphen d ds low) ∙ is)
 
 -- the faults of the box, by its height and the number of its symbols
@@ -121,14 +121,14 @@ conf_faultless d ds k low is few stands =
     let bytes : List ℕ = front_text ++ from_digits d ds k in
     let ks : List Number = turn_numbers (symbols_at ds) k in
     let all : AreSymbols bytes ks = turns_are_symbols bytes k (symbols_at ds) tail_text stands in
-    let height : value bytes (number_at 181 (1 + length ds)) ≡ 2 * k = height_value d ds k (2 * k) low is in
+    let height : written_value bytes (number_at 181 (1 + length ds)) ≡ 2 * k = height_value d ds k (2 * k) low is in
     let count : length (map name.Number ks) ≡ 4 * k = length-map ks name.Number ∙ count_is k (symbols_at ds) in
-    let tokens : over (nat_lt 1000000 (value bytes (number_at 181 (1 + length ds)))) limit.Number ++ flat_map (token_faults bytes) (map lexeme.Number ks) ≡ [] =
+    let tokens : over (nat_lt 1000000 (written_value bytes (number_at 181 (1 + length ds)))) limit.Number ++ flat_map (token_faults bytes) (map lexeme.Number ks) ≡ [] =
     none_and _ _ (ap (λ (h : ℕ). over (nat_lt 1000000 h) limit.Number) height ∙ height_token (2 * k) k refl few) (small_tokens bytes ks all) in
-    let box : box_by (value bytes (number_at 181 (1 + length ds))) (length (map name.Number ks)) ≡ [] =
+    let box : box_by (written_value bytes (number_at 181 (1 + length ds))) (length (map name.Number ks)) ≡ [] =
     box_is _ _ k height count few in
     none_and
-    (over (nat_lt 1000000 (value bytes (number_at 181 (1 + length ds)))) limit.Number ++ flat_map (token_faults bytes) (map lexeme.Number ks))
-    (symbol_faults (behind (from_digits d ds k) 7 names_5) 0 (map name.Number ks) ++ box_by (value bytes (number_at 181 (1 + length ds))) (length (map name.Number ks)))
+    (over (nat_lt 1000000 (written_value bytes (number_at 181 (1 + length ds)))) limit.Number ++ flat_map (token_faults bytes) (map lexeme.Number ks))
+    (symbol_faults (behind (from_digits d ds k) 7 names_5) 0 (map name.Number ks) ++ box_by (written_value bytes (number_at 181 (1 + length ds))) (length (map name.Number ks)))
     tokens
     (none_and _ _ (known_symbols (from_digits d ds k) ks 0 all) box)

@@ -6,12 +6,12 @@ use Rattle.std.proofs.lemmas.Bool.{ltb-false}
 use Rattle.dd_faults.specs.declared.fault.Fault.{Fault}
 use Rattle.dd_faults.specs.declared.fault.Limit.{Limit}
 use Rattle.dd_faults.specs.declared.fault.Limit.TheVariants as limit
-use Rattle.dd_faults.specs.Order.{rank, noted, first_fault, over}
+use Rattle.dd_faults.specs.Order.{fault_rank, noted, first_fault, over}
 
 some_stays : (g : Fault) (fs : List Fault) → noted (Some g) fs ≡ None → ⊥
 some_stays g [] e = absurd cc
 some_stays g (f ∷ fs) e =
-    (elim (nat_lt (rank f) (rank g)) as (λ b. noted (if b then Some f else Some g) fs ≡ None → ⊥) [
+    (elim (nat_lt (fault_rank f) (fault_rank g)) as (λ b. noted (if b then Some f else Some g) fs ≡ None → ⊥) [
       | true ↦ some_stays f fs
       | false ↦ some_stays g fs
     ]) e

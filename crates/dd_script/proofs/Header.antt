@@ -15,7 +15,7 @@ use Rattle.dd_query.specs.Made.{IsRuleOf, script_numbers}
 use Rattle.dd_query.specs.Sound.{IsSoundQuery}
 use Rattle.dd_meanings.specs.declared.meaning.Meaning.{Meaning}
 use Rattle.dd_meanings.specs.declared.meaning.Meaning.TheVariants as meaning
-use Rattle.dd_meanings.specs.Sound.{IsConfigurationOf, IsSoundMeaning, IsGridOf, AreNames, AreWeights, AreLimits}
+use Rattle.dd_meanings.specs.Sound.{IsConfigurationOf, IsSoundMeaning, IsGridOf, AreNames, AreScriptWeights, AreLimits}
 use Rattle.dd_script.specs.Parts.{Parts, IsScriptOf}
 use Rattle.dd_script.specs.Walk.{unrestricted, with, context}
 use Rattle.dd_script.specs.drafting.Standing.{IsFresh, is_header}
@@ -115,7 +115,7 @@ sound_only k node symbols s has = record {
   pivots = s.pivots;
 }
 
-sound_weights : (k : Known) (ws : List ℕ) → IsSound k → AreWeights k ws → IsSound (record k { weights = ws })
+sound_weights : (k : Known) (ws : List ℕ) → IsSound k → AreScriptWeights k ws → IsSound (record k { weights = ws })
 sound_weights k ws s are = record {
   grid = s.grid;
   nodes = s.nodes;

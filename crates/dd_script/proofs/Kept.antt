@@ -14,7 +14,7 @@ use Rattle.dd_query.specs.declared.queries.Query.{Query}
 use Rattle.dd_query.specs.declared.queries.Query.TheVariants as query
 use Rattle.dd_query.specs.Limits.{about, query_sizes}
 use Rattle.dd_query.specs.Made.{IsRuleOf, script_numbers}
-use Rattle.dd_query.specs.Sound.{IsWithin, IsSoundQuery}
+use Rattle.dd_query.specs.Sound.{IsQueryWithin, IsSoundQuery}
 use Rattle.dd_meanings.specs.Sound.{IsConfigurationOf}
 use Rattle.dd_script.specs.Parts.{Parts, IsScriptOf}
 use Rattle.dd_script.proofs.Extending.{Extends, extends_more, extends_itself, about_same, one_longer, all_more}
@@ -44,7 +44,7 @@ rule_kept k R A C r is = record { has = is.has; edges = is.edges; allowed = is.a
 configuration_kept : (k : Known) (R A C : List (List ℕ)) (t : Tile) → IsConfigurationOf k t → IsConfigurationOf (with_names k R A C) t
 configuration_kept k R A C t is = record { tile = is.tile; dimension = is.dimension; nodes = is.nodes; symbols = is.symbols; allowed = is.allowed }
 
-within_kept : (k : Known) (R A C : List (List ℕ)) (q : Query) → length k.rules ≤ length R → length k.automata ≤ length A → length k.configurations ≤ length C → IsWithin k q → IsWithin (with_names k R A C) q
+within_kept : (k : Known) (R A C : List (List ℕ)) (q : Query) → length k.rules ≤ length R → length k.automata ≤ length A → length k.configurations ≤ length C → IsQueryWithin k q → IsQueryWithin (with_names k R A C) q
 within_kept k R A C (query.Member configuration rule) r a c has = (omega (arith, c, has.0), omega (arith, r, has.1))
 within_kept k R A C (query.Contains outer inner) r a c has = (omega (arith, r, has.0), omega (arith, r, has.1))
 within_kept k R A C (query.Equal left right) r a c has = (omega (arith, r, has.0), omega (arith, r, has.1))
@@ -68,7 +68,7 @@ module _ (s : Parts) (is : IsScriptOf s) (R A C : List (List ℕ)) (rs : List Lo
   of_automaton : (n : ℕ) (f g : Automaton → List Fault) → n < length s.known.automata → ((r : Automaton) → g r ≡ f r) → about fs n g ≡ about s.automata n f
   of_automaton n f g lt same = about_same s.automata fs n f g more_automata (automaton_there n lt) same
 
-  sizes_same : (q : Query) → IsWithin s.known q → query_sizes (with_names s.known R A C) rs fs q ≡ query_sizes s.known s.rules s.automata q
+  sizes_same : (q : Query) → IsQueryWithin s.known q → query_sizes (with_names s.known R A C) rs fs q ≡ query_sizes s.known s.rules s.automata q
   sizes_same (query.Member configuration rule) has = refl
   sizes_same (query.Contains outer inner) has = of_rule outer _ _ has.0 (λ y. of_rule inner _ _ has.1 (λ x. refl))
   sizes_same (query.Equal left right) has = of_rule left _ _ has.0 (λ x. of_rule right _ _ has.1 (λ y. refl))

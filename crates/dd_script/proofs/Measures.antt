@@ -21,7 +21,7 @@ use Rattle.dd_counts.specs.Rules.{states, longer_states}
 use Rattle.dd_transfer.specs.Transfers.{IsStrip, HasWeights}
 use Rattle.dd_rows.specs.Asked.{IsVector, AreVectors, AreWeightsFor}
 use Rattle.dd_query.specs.Limits.{most_states, most_longer_states, has_many_states}
-use Rattle.dd_query.specs.Sound.{IsStrip as IsStripIn, AreVectors as AreVectorsIn}
+use Rattle.dd_query.specs.Sound.{AreStripPeriods as IsStripIn, AreQueryVectors as AreVectorsIn}
 
 -- ---- strips
 

@@ -9,7 +9,7 @@ use Rattle.dd_commands.specs.declared.command.Command.{Command}
 use Rattle.dd_commands.specs.declared.script.Written.{Written}
 use Rattle.dd_commands.specs.declared.script.Syntax.{Syntax}
 use Rattle.dd_commands.specs.Heads.{head_of, stage}
-use Rattle.dd_commands.specs.Scripts.{parts, is_whole, next_of, MayStand, AreCommands, IsFirstBad, IsScript, IsFault}
+use Rattle.dd_commands.specs.Scripts.{parts, is_whole, stage_after, MayStand, AreCommands, IsFirstBad, IsScript, IsSyntaxFault}
 use Rattle.dd_commands.specs.reading.Commands.{command_of}
 use Rattle.dd_commands.specs.lemmas.CommandComplete.{command_again}
 use Rattle.dd_commands.specs.lemmas.Whole.{may_stand, too_early, not_whole}
@@ -42,14 +42,14 @@ module _ (law : FormulasAreRead) where
   commands_or_bad bytes from [] = inl ([], tt)
   commands_or_bad bytes from (p ∷ ps) =
       elim (command_or_none bytes from p (list_all is_whole p) (command_of bytes p) refl refl) [
-        | inl here ↦ elim (commands_or_bad bytes (next_of here.0) ps) [
+        | inl here ↦ elim (commands_or_bad bytes (stage_after here.0) ps) [
           | inl others ↦ inl (here.0 ∷ others.0, (here.1, others.1))
           | inr bad ↦ inr (suc bad.0, (here.0, here.1, bad.1))
         ]
         | inr none ↦ inr (zero, none)
       ]
 
-  pub script_or_fault : (bytes : List ℕ) → ((s : Syntax) × IsScript bytes s) ⊎ ((n : ℕ) × IsFault bytes n)
+  pub script_or_fault : (bytes : List ℕ) → ((s : Syntax) × IsScript bytes s) ⊎ ((n : ℕ) × IsSyntaxFault bytes n)
   script_or_fault bytes =
       elim (nil_or_not (parts (lexemes_of bytes)).0) [
         | inl clean ↦ elim (commands_or_bad bytes 0 (parts (lexemes_of bytes)).1) [

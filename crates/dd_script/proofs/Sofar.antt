@@ -6,7 +6,7 @@ use Rattle.std.proofs.lemmas.List.{drop_more, drop_all}
 use Rattle.std.proofs.lemmas.List.Elements.{All-get_or}
 use Rattle.dd_written.specs.declared.lexeme.Lexeme.{Lexeme}
 use Rattle.dd_commands.specs.declared.script.Written.{Written}
-use Rattle.dd_commands.specs.Scripts.{stage_of, next_of, IsWritten, AreCommands}
+use Rattle.dd_commands.specs.Scripts.{stage_of, stage_after, IsWritten, AreCommands}
 use Rattle.dd_commands.specs.Heads.{head_of, is_once}
 use Rattle.dd_faults.specs.declared.fault.Fault.{Fault}
 use Rattle.dd_faults.specs.declared.fault.Refusal.{Refusal}
@@ -16,7 +16,7 @@ use Rattle.dd_meanings.specs.declared.meaning.Meaning.{Meaning}
 use Rattle.dd_meanings.specs.Meanings.{meaning as meaning_of}
 use Rattle.dd_script.specs.declared.draft.Draft.{Draft}
 use Rattle.dd_script.specs.Parts.{Parts, IsScriptOf}
-use Rattle.dd_script.specs.Walk.{start, Located, located, first_from, after_all, has_topology, first_of, script_of}
+use Rattle.dd_script.specs.Walk.{start, Located, located, first_from, after_all, has_topology, first_located_fault, script_of}
 use Rattle.dd_script.specs.drafting.Standing.{AreOrdered, IsFresh, IsReady}
 use Rattle.dd_script.specs.drafting.Drafts.{parts_of, draft_of, fault_at, behind, Leaves, Stays, Ends, Stops}
 use Rattle.dd_script.proofs.Places.{header_meant, still_fresh, fewer_next}
@@ -36,7 +36,7 @@ pub record Sofar (text : List ℕ) (ws : List Written) (i : ℕ) (d : Draft) : T
   pub few : HasFewer d.context.number d.context.known
   pub script : IsScriptOf (parts_of d)
   pub same_text : d.context.text ≡ text
-  pub faults : fault_from d (drop i ws) ≡ first_of text ws
+  pub faults : fault_from d (drop i ws) ≡ first_located_fault text ws
   pub leads : script_from d (drop i ws) ≡ script_of text ws
 
 start_fresh : IsFresh start
@@ -62,7 +62,7 @@ starts ws d begun kept ordered =
 pub record Stands (ws : List Written) (i : ℕ) (d : Draft) (w : Written) : Type 0 where
   pub split : drop i ws ≡ w ∷ drop (i + 1) ws
   pub ready : IsReady (parts_of d) w
-  pub others : AreOrdered (next_of w) (drop (i + 1) ws)
+  pub others : AreOrdered (stage_after w) (drop (i + 1) ws)
 
 pub stands : (text : List ℕ) (ws : List Written) (i : ℕ) (d : Draft) (w : Written) → i < length ws → w ≡ get_or ws i w → Sofar text ws i d → Stands ws i d w
 stands text ws i d w lt is sofar =
@@ -79,7 +79,7 @@ written_at text ws i d w lt is sofar all =
     subst (λ (t : List ℕ). IsWritten t w) (sym sofar.same_text) (subst (IsWritten text) (sym is) (All-get_or (IsWritten text) ws i w lt all))
 
 -- whatever stands behind a command stands at its place or behind it
-behind_place : (w : Written) → stage_of w ≤ next_of w
+behind_place : (w : Written) → stage_of w ≤ stage_after w
 behind_place w =
     (elim (is_once (head_of w.command)) as (λ b. stage_of w ≤ (if b then stage_of w + 1 else stage_of w)) [
       | true ↦ omega arith
@@ -94,7 +94,7 @@ goes_on text ws i d w e lt is sofar leaves =
     let here = stands text ws i d w lt is sofar in
     let m : Meaning = meaning_of d.context d.rules d.automata w.command in
     subst (Sofar text ws (i + 1)) (sym leaves.left) (record {
-      from = next_of w;
+      from = stage_after w;
       ordered = here.others;
       fresh = λ le.
           let early : stage_of w ≤ 6 = omega (arith, behind_place w, le) in
@@ -113,7 +113,7 @@ pub stops : (text : List ℕ) (ws : List Written) (i : ℕ) (d : Draft) (w : Wri
 stops text ws i d w e refusal.Memory lt is sofar stays = stays ∙ sofar.same_text
 stops text ws i d w e (refusal.At f) lt is sofar stays =
     let here = stands text ws i d w lt is sofar in
-    let found : first_of text ws ≡ Some (located d.context.number f) = sym sofar.faults ∙ ap (fault_from d) here.split ∙ at_fault d.context.number (fault_at d w) f (fault_from (behind d w) (drop (i + 1) ws)) stays.1 in
+    let found : first_located_fault text ws ≡ Some (located d.context.number f) = sym sofar.faults ∙ ap (fault_from d) here.split ∙ at_fault d.context.number (fault_at d w) f (fault_from (behind d w) (drop (i + 1) ws)) stays.1 in
     (ap (λ (x : Draft). x.context.text) stays.0 ∙ sofar.same_text, found ∙ ap (λ (x : Draft). Some (located x.context.number f)) (sym stays.0))
 
 pub ends : (text : List ℕ) (ws : List Written) (i : ℕ) (d : Draft) → length ws ≤ i → Sofar text ws i d → Ends text ws d
@@ -131,4 +131,4 @@ pub ordered : (bytes : List ℕ) (from : ℕ) (ps : List (List Lexeme)) (ws : Li
 ordered bytes from [] [] are = tt
 ordered bytes from [] (w ∷ ws) are = absurd are
 ordered bytes from (p ∷ ps) [] are = absurd are
-ordered bytes from (p ∷ ps) (w ∷ ws) are = (are.0.ordered, ordered bytes (next_of w) ps ws are.1)
+ordered bytes from (p ∷ ps) (w ∷ ws) are = (are.0.ordered, ordered bytes (stage_after w) ps ws are.1)

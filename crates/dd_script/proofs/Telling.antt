@@ -15,7 +15,7 @@ use Rattle.dd_script.specs.declared.fault.ScriptFault.{ScriptFault}
 use Rattle.dd_script.specs.declared.fault.ScriptKind.{ScriptKind}
 use Rattle.dd_script.specs.declared.fault.ScriptKind.TheVariants as refused
 use Rattle.dd_script.specs.Parts.{Parts}
-use Rattle.dd_script.specs.Scripts.{Spells, HasFault, kind_of, IsRefusedAs, IsRefusal}
+use Rattle.dd_script.specs.Scripts.{Spells, HasFault, kind_of, IsRefusedAs, IsScriptRefusal}
 use Rattle.dd_script.specs.drafting.Standing.{AreOrdered}
 use Rattle.dd_script.specs.drafting.Drafts.{parts_of, Ends, Stops, StopsIn, IsKindOf, IsUnread}
 use Rattle.dd_script.proofs.Sofar.{ordered}
@@ -40,9 +40,9 @@ stops_in text tree ws d (refusal.At f) written same stops =
     subst (λ (t : List ℕ). HasFault t d.context.number (kind_of t f)) (sym here.0) (record { tree = tree; written = written; found = f; comes_first = here.1; is = refl })
 
 -- the text of the refusal is that of the draft
-pub of_text : (text : List ℕ) (ws : List Written) (d : Draft) (r : Refusal) (e : ScriptFault) → Stops text ws d r → IsRefusal d.context.text e → IsRefusal text e
-of_text text ws d refusal.Memory e stops is = subst (λ (t : List ℕ). IsRefusal t e) stops is
-of_text text ws d (refusal.At f) e stops is = subst (λ (t : List ℕ). IsRefusal t e) stops.0 is
+pub of_text : (text : List ℕ) (ws : List Written) (d : Draft) (r : Refusal) (e : ScriptFault) → Stops text ws d r → IsScriptRefusal d.context.text e → IsScriptRefusal text e
+of_text text ws d refusal.Memory e stops is = subst (λ (t : List ℕ). IsScriptRefusal t e) stops is
+of_text text ws d (refusal.At f) e stops is = subst (λ (t : List ℕ). IsScriptRefusal t e) stops.0 is
 
 pub told : (text : List ℕ) (n : ℕ) (f : Fault) → HasFault text n (kind_of text f) → (kind : ScriptKind) → IsKindOf text f kind → IsRefusedAs text n kind
 told text n f has refused.Syntax e = absurd e
@@ -52,6 +52,6 @@ told text n f has refused.Dimension e = subst (HasFault text n) (sym e) has
 told text n f has (refused.Size l) e = subst (HasFault text n) (sym e) has
 told text n f has refused.Memory e = absurd e
 
-pub is_unread : (bytes : List ℕ) (fault : SyntaxFault) (e : ScriptFault) → Tells bytes (Err fault) → IsUnread fault e → IsRefusal bytes e
-is_unread bytes (unread.At n) e tells is = subst (IsRefusal bytes) (sym is) tells
-is_unread bytes unread.Memory e tells is = subst (IsRefusal bytes) (sym is) refl
+pub is_unread : (bytes : List ℕ) (fault : SyntaxFault) (e : ScriptFault) → Tells bytes (Err fault) → IsUnread fault e → IsScriptRefusal bytes e
+is_unread bytes (unread.At n) e tells is = subst (IsScriptRefusal bytes) (sym is) tells
+is_unread bytes unread.Memory e tells is = subst (IsScriptRefusal bytes) (sym is) refl

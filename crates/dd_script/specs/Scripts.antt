@@ -2,7 +2,7 @@
 use Rattle.std.specs.Prelude.{ℕ, ◌≡◌, List, Some, None, string_bytes, codes}
 use Rattle.dd_written.specs.Values.{name_text}
 use Rattle.dd_commands.specs.declared.script.Syntax.{Syntax}
-use Rattle.dd_commands.specs.Scripts.{IsScript, IsFault}
+use Rattle.dd_commands.specs.Scripts.{IsScript, IsSyntaxFault}
 use Rattle.dd_faults.specs.declared.fault.Limit.{Limit}
 use Rattle.dd_faults.specs.declared.fault.Fault.{Fault}
 use Rattle.dd_faults.specs.declared.fault.Fault.TheVariants as fault
@@ -10,25 +10,25 @@ use Rattle.dd_script.specs.declared.fault.ScriptKind.{ScriptKind}
 use Rattle.dd_script.specs.declared.fault.ScriptKind.TheVariants as refused
 use Rattle.dd_script.specs.declared.fault.ScriptFault.{ScriptFault}
 use Rattle.dd_script.specs.Parts.{Parts}
-use Rattle.dd_script.specs.Walk.{located, first_of, script_of}
+use Rattle.dd_script.specs.Walk.{located, first_located_fault, script_of}
 
 -- the bytes are a text of the grammar, with this meaning, and without a fault
 pub record Spells (bytes : List ℕ) (s : Parts) : Type 0 where
   pub tree : Syntax
   pub written : IsScript bytes tree
-  pub faultless : first_of bytes tree.commands ≡ None
+  pub faultless : first_located_fault bytes tree.commands ≡ None
   pub meaning : s ≡ script_of bytes tree.commands
 
 -- Why a text is refused.
-pub data Kind : Type 0 where
-  syntax : Kind
-  unknown : List ℕ → Kind
-  twice : List ℕ → Kind
-  dimension : Kind
-  size : Limit → Kind
+pub data RefusalKind : Type 0 where
+  syntax : RefusalKind
+  unknown : List ℕ → RefusalKind
+  twice : List ℕ → RefusalKind
+  dimension : RefusalKind
+  size : Limit → RefusalKind
 
 -- the kind of a fault, with the text of the name
-abbrev pub kind_of : List ℕ → Fault → Kind
+abbrev pub kind_of : List ℕ → Fault → RefusalKind
 kind_of bytes (fault.Unknown name) = unknown (name_text bytes name)
 kind_of bytes (fault.Twice name) = twice (name_text bytes name)
 kind_of bytes fault.TwiceVector = twice (codes "vector")
@@ -36,16 +36,16 @@ kind_of bytes fault.Dimension = dimension
 kind_of bytes (fault.Size l) = size l
 
 -- the bytes are a text of the grammar, and the first fault of its commands is of this kind
-pub record HasFault (bytes : List ℕ) (n : ℕ) (k : Kind) : Type 0 where
+pub record HasFault (bytes : List ℕ) (n : ℕ) (k : RefusalKind) : Type 0 where
   pub tree : Syntax
   pub written : IsScript bytes tree
   pub found : Fault
-  pub comes_first : first_of bytes tree.commands ≡ Some (located n found)
+  pub comes_first : first_located_fault bytes tree.commands ≡ Some (located n found)
   pub is : k ≡ kind_of bytes found
 
 -- how the bytes are refused: by the first command that is not well formed, else by the first fault
-abbrev pub RefusedAs : List ℕ → ℕ → Kind → Type 0
-RefusedAs bytes n syntax = IsFault bytes n
+abbrev pub RefusedAs : List ℕ → ℕ → RefusalKind → Type 0
+RefusedAs bytes n syntax = IsSyntaxFault bytes n
 RefusedAs bytes n (unknown text) = HasFault bytes n (unknown text)
 RefusedAs bytes n (twice text) = HasFault bytes n (twice text)
 RefusedAs bytes n dimension = HasFault bytes n dimension
@@ -60,5 +60,5 @@ IsRefusedAs bytes n refused.Dimension = RefusedAs bytes n dimension
 IsRefusedAs bytes n (refused.Size l) = RefusedAs bytes n (size l)
 IsRefusedAs bytes n refused.Memory = n ≡ 0
 
-abbrev pub IsRefusal : List ℕ → ScriptFault → Type 0
-IsRefusal bytes e = IsRefusedAs bytes e.command e.kind
+abbrev pub IsScriptRefusal : List ℕ → ScriptFault → Type 0
+IsScriptRefusal bytes e = IsRefusedAs bytes e.command e.kind

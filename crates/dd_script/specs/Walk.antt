@@ -112,8 +112,8 @@ abbrev pub has_topology : List Written → Bool
 has_topology ws = list_any is_topology ws
 
 -- commands are numbered from 1
-abbrev pub first_of : List ℕ → List Written → Option Located
-first_of bytes ws = first_from bytes (has_topology ws) 1 start ws
+abbrev pub first_located_fault : List ℕ → List Written → Option Located
+first_located_fault bytes ws = first_from bytes (has_topology ws) 1 start ws
 
 abbrev pub script_of : List ℕ → List Written → Parts
 script_of bytes ws = after_all bytes (has_topology ws) 1 start ws

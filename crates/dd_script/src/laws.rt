@@ -1,7 +1,7 @@
 // What bytes spell is determined by them.
 ghost use Rattle.std.specs.Prelude.{◌≡◌, ◌≤◌, ◌⊎◌, ℕ, List, length};
 ghost use Rattle.dd_script.specs.Parts.{Parts};
-ghost use Rattle.dd_script.specs.Scripts.{Spells, RefusedAs, Kind};
+ghost use Rattle.dd_script.specs.Scripts.{Spells, RefusedAs, RefusalKind};
 
 use dd_commands::{one_fault, one_tree, tree_or_fault};
 use dd_written::formula_is_read;
@@ -15,7 +15,7 @@ pub fn one_script()
 
 /// Bytes are refused in one way at most.
 pub fn one_refusal()
-    ensures { (bytes : List ℕ) (m n : ℕ) (k l : Kind) → RefusedAs bytes m k → RefusedAs bytes n l → (m ≡ n) × (k ≡ l) }
+    ensures { (bytes : List ℕ) (m n : ℕ) (k l : RefusalKind) → RefusedAs bytes m k → RefusedAs bytes n l → (m ≡ n) × (k ≡ l) }
 {
     one_tree();
     one_fault();
@@ -24,8 +24,8 @@ pub fn one_refusal()
 
 /// Bytes that spell a script are not refused, and all others of an allowed length are.
 pub fn spelled_or_refused()
-    ensures never_both { (bytes : List ℕ) (s : Parts) (n : ℕ) (k : Kind) → Spells bytes s → RefusedAs bytes n k → ⊥ }
-    ensures either { (bytes : List ℕ) → length bytes ≤ 1048576 → ((s : Parts) × Spells bytes s) ⊎ ((n : ℕ) × (k : Kind) × RefusedAs bytes n k) }
+    ensures never_both { (bytes : List ℕ) (s : Parts) (n : ℕ) (k : RefusalKind) → Spells bytes s → RefusedAs bytes n k → ⊥ }
+    ensures either { (bytes : List ℕ) → length bytes ≤ 1048576 → ((s : Parts) × Spells bytes s) ⊎ ((n : ℕ) × (k : RefusalKind) × RefusedAs bytes n k) }
 {
     one_tree();
     tree_or_fault();

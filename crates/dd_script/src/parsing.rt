@@ -1,7 +1,7 @@
 // Reading scripts.
 ghost use Rattle.std.specs.Prelude.{◌≡◌, ◌≤◌, length, All, IfOk, IfErr};
 ghost use Rattle.dd_commands.specs.Scripts.{IsScript, IsWritten};
-ghost use Rattle.dd_script.specs.Scripts.{Spells, IsRefusal};
+ghost use Rattle.dd_script.specs.Scripts.{Spells, IsScriptRefusal};
 ghost use Rattle.dd_script.specs.drafting.Drafts.{StopsIn, IsKindOf, IsUnread};
 
 use crate::draft::Draft;
@@ -58,7 +58,7 @@ fn unread(fault: SyntaxFault) -> ScriptFault
 /// Why the commands make no script: the refusal of the command that stands here.
 fn told(alloc: Global, context: &Context, refusal: Refusal) -> ScriptFault
     requires { StopsIn context.now.text context.now.number refusal }
-    ensures { IsRefusal context.now.text result }
+    ensures { IsScriptRefusal context.now.text result }
 {
     match refusal {
         Refusal::Memory => memory(),
@@ -77,7 +77,7 @@ fn script_of(alloc: Global, syntax: Syntax) -> Result<Script, ScriptFault>
     requires written { IsScript syntax.text syntax }
     requires each { All (IsWritten syntax.text) syntax.commands }
     ensures spelled { IfOk result (Spells syntax.text) }
-    ensures refused { IfErr result (IsRefusal syntax.text) }
+    ensures refused { IfErr result (IsScriptRefusal syntax.text) }
 {
     let Syntax { text, commands } = syntax;
     let later = has_topology(commands.as_slice());
@@ -100,7 +100,7 @@ fn script_of(alloc: Global, syntax: Syntax) -> Result<Script, ScriptFault>
 pub fn parse(alloc: Global, bytes: &[u8]) -> Result<Script, ScriptFault>
     requires { length bytes.now ≤ 1048576 }
     ensures spelled { IfOk result (Spells bytes.now) }
-    ensures refused { IfErr result (IsRefusal bytes.now) }
+    ensures refused { IfErr result (IsScriptRefusal bytes.now) }
 {
     match read(alloc, bytes) {
         Ok(syntax) => script_of(alloc, syntax),

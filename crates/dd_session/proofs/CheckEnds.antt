@@ -6,7 +6,7 @@ use Rattle.dd_outside.specs.Bytes.{ReadToEnd, GivesMore, GivesAtMost}
 use Rattle.dd_output.specs.declared.output.Output.{Output}
 use Rattle.dd_output.specs.Outputs.{output_text, IsWritableOutput}
 use Rattle.dd_script.specs.Parts.{Parts}
-use Rattle.dd_script.specs.Scripts.{Spells, RefusedAs, Kind}
+use Rattle.dd_script.specs.Scripts.{Spells, RefusedAs, RefusalKind}
 use Rattle.dd_session.specs.declared.status.Status.{Status}
 use Rattle.dd_session.specs.declared.status.Status.TheVariants.{Definite, SomeUnknown, Refused, ReadFault, WriteFault, Memory, BadWords, Rejected}
 use Rattle.dd_session.specs.Output.{long_line}

@@ -9,7 +9,7 @@ use Rattle.dd_faults.specs.declared.fault.Limit.TheVariants as limit
 use Rattle.dd_faults.specs.declared.fault.Fault.{Fault}
 use Rattle.dd_faults.specs.declared.fault.Fault.TheVariants as fault
 use Rattle.dd_faults.specs.declared.context.Context.{Context}
-use Rattle.dd_faults.specs.Order.{rank, over, better, noted, first_fault}
+use Rattle.dd_faults.specs.Order.{fault_rank, over, better, noted, first_fault}
 use Rattle.dd_faults.specs.Commands.{token_faults, faults_of, written_faults}
 use Rattle.dd_meanings.specs.declared.meaning.Meaning.{Meaning}
 use Rattle.dd_meanings.specs.declared.meaning.Meaning.TheVariants as meaning
@@ -41,7 +41,7 @@ either true f g = (g, refl)
 either false f g = (f, refl)
 
 better_some : (f g : Fault) → (h : Fault) × (better (Some f) g ≡ Some h)
-better_some f g = either (nat_lt (rank g) (rank f)) f g
+better_some f g = either (nat_lt (fault_rank g) (fault_rank f)) f g
 
 still_some : (f : Fault) (fs : List Fault) → noted (Some f) fs ≡ None → ⊥
 still_some f [] is = absurd (cc is)

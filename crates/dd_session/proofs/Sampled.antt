@@ -5,7 +5,7 @@ use Rattle.dd_certificate.specs.Text.{answer_line}
 use Rattle.dd_script.specs.Parts.{Parts}
 use Rattle.dd_script.specs.declared.fault.ScriptKind.{ScriptKind}
 use Rattle.dd_script.specs.declared.fault.ScriptKind.TheVariants as refused
-use Rattle.dd_script.specs.Scripts.{Spells, Kind, syntax, unknown, twice, dimension, size, RefusedAs, IsRefusedAs}
+use Rattle.dd_script.specs.Scripts.{Spells, RefusalKind, syntax, unknown, twice, dimension, size, RefusedAs, IsRefusedAs}
 use Rattle.dd_sample.specs.Sample.{sample_text}
 use Rattle.dd_session.specs.declared.status.Status.{Status}
 use Rattle.dd_session.specs.declared.status.Status.TheVariants.{BadWords}
@@ -34,7 +34,7 @@ never_sampled sink number status (inr kept) is = absurd (cc (sym kept.1 ∙ is))
 
 -- bytes that spell a script are not refused
 abbrev pub NeverBoth : Type 0
-NeverBoth = (bytes : List ℕ) (s : Parts) (n : ℕ) (k : Kind) → Spells bytes s → RefusedAs bytes n k → ⊥
+NeverBoth = (bytes : List ℕ) (s : Parts) (n : ℕ) (k : RefusalKind) → Spells bytes s → RefusedAs bytes n k → ⊥
 
 -- all that can be wanting for them is memory
 pub only_memory : NeverBoth → (bytes : List ℕ) (s : Parts) → Spells bytes s → (n : ℕ) (kind : ScriptKind) → IsRefusedAs bytes n kind → is_memory kind ≡ true

@@ -7,7 +7,7 @@ use Rattle.dd_output.specs.declared.output.Output.{Output}
 use Rattle.dd_output.specs.Outputs.{output_text, IsWritableOutput, IsWellFormed}
 use Rattle.dd_output.specs.Offsets.{IsOffset}
 use Rattle.dd_script.specs.Parts.{Parts}
-use Rattle.dd_script.specs.Scripts.{Spells, RefusedAs, Kind}
+use Rattle.dd_script.specs.Scripts.{Spells, RefusedAs, RefusalKind}
 use Rattle.dd_checker.specs.Certificates.{IsCertificate}
 use Rattle.dd_checker.specs.Claims.{Claim}
 use Rattle.dd_session.specs.Answers.{has_unknown}
@@ -39,7 +39,7 @@ abbrev pub offset_line : ℕ → List ℕ
 offset_line offset = codes "refused at " ++ (decimal offset ++ codes "\n")
 
 -- for an output whose script is none
-abbrev pub script_line : ℕ → Kind → List ℕ
+abbrev pub script_line : ℕ → RefusalKind → List ℕ
 script_line command k = refused_line (codes "refused script") command k
 
 -- ---- which answers are accepted
@@ -83,7 +83,7 @@ pub record IsCheckable (bytes : List ℕ) (o : Output) (s : Parts) : Type 0 wher
 -- Bytes of a length that is allowed are refused by this line.
 pub data IsRefusedOutput (bytes : List ℕ) (line : List ℕ) : Type 0 where
   malformed : (offset : ℕ) → ¬ IsWellFormed bytes → IsOffset bytes offset → line ≡ offset_line offset → IsRefusedOutput bytes line
-  no_script : (o : Output) → IsOutput bytes o → (command : ℕ) (k : Kind) → RefusedAs o.script command k → line ≡ script_line command k
+  no_script : (o : Output) → IsOutput bytes o → (command : ℕ) (k : RefusalKind) → RefusedAs o.script command k → line ≡ script_line command k
       → IsRefusedOutput bytes line
 
 -- How the text goes on after the lines of the first queries, which are accepted: by the line of the first rejected query, or

@@ -8,7 +8,7 @@ use Rattle.dd_certificate.specs.Text.{answer_text}
 use Rattle.dd_output.specs.Outputs.{end_line}
 use Rattle.dd_script.specs.declared.fault.ScriptKind.{ScriptKind}
 use Rattle.dd_script.specs.declared.fault.ScriptKind.TheVariants as refused
-use Rattle.dd_script.specs.Scripts.{Kind, syntax, unknown, twice, dimension, size}
+use Rattle.dd_script.specs.Scripts.{RefusalKind, syntax, unknown, twice, dimension, size}
 use Rattle.dd_session.specs.Answers.{texts}
 
 -- The lines before the first answer: the script, with its length before it and a line feed after it.
@@ -47,7 +47,7 @@ limit_text limit.Patterns = codes "patterns"
 limit_text limit.States = codes "states"
 limit_text limit.Clauses = codes "clauses"
 
-abbrev pub kind_text : Kind → List ℕ
+abbrev pub kind_text : RefusalKind → List ℕ
 kind_text syntax = codes "syntax"
 kind_text (unknown name) = codes "unknown " ++ name
 kind_text (twice name) = codes "twice " ++ name
@@ -55,7 +55,7 @@ kind_text dimension = codes "dimension"
 kind_text (size l) = codes "size " ++ limit_text l
 
 -- no script: these words, the number of the command, and what is wrong with it
-abbrev pub refused_line : List ℕ → ℕ → Kind → List ℕ
+abbrev pub refused_line : List ℕ → ℕ → RefusalKind → List ℕ
 refused_line words command k = words ++ (codes " " ++ (decimal command ++ (codes " " ++ (kind_text k ++ codes "\n"))))
 
 -- the words in the answer to a script, which is none

@@ -5,7 +5,7 @@ use Rattle.std.specs.Io.KnownBytes.{Appends}
 use Rattle.dd_outside.specs.Bytes.{GainsFront, ReadToEnd, GivesMore}
 use Rattle.dd_output.specs.Outputs.{most_script}
 use Rattle.dd_script.specs.Parts.{Parts}
-use Rattle.dd_script.specs.Scripts.{Spells, RefusedAs, Kind}
+use Rattle.dd_script.specs.Scripts.{Spells, RefusedAs, RefusalKind}
 use Rattle.dd_session.specs.declared.status.Status.{Status}
 use Rattle.dd_session.specs.declared.status.Status.TheVariants.{Definite, SomeUnknown, Refused, ReadFault, WriteFault, Memory, BadWords, Rejected}
 use Rattle.dd_session.specs.Answers.{IsOpenAs}
@@ -49,7 +49,7 @@ pub record IsAccepted (bytes : List ℕ) : Type 0 where
 -- Bytes of a length that is allowed are no script, and this is the line for them.
 pub record IsRefusedBy (bytes : List ℕ) (line : List ℕ) : Type 0 where
   pub command : ℕ
-  pub kind : Kind
+  pub kind : RefusalKind
   pub no_script : RefusedAs bytes command kind
   pub line_is : line ≡ refused_line refused_words command kind
 

@@ -4,7 +4,7 @@ use Rattle.dd_tokens.specs.declared.piece.Piece.{Piece}
 use Rattle.dd_tokens.specs.declared.piece.Piece.TheVariants.{Gap, Cut}
 use Rattle.dd_tokens.specs.declared.token.TokenKind.{TokenKind}
 use Rattle.dd_tokens.specs.declared.token.Token.{Token}
-use Rattle.dd_tokens.specs.Format.{tokens_after, first, with_piece, size, with_front, IsWithin}
+use Rattle.dd_tokens.specs.Format.{tokens_after, first, with_piece, piece_size, with_front, IsPieceWithin}
 
 -- the bytes that belong to a piece are passed over
 pub over : (n place : ℕ) (bytes : List ℕ) → n ≤ length bytes → tokens_after n place bytes ≡ tokens_after 0 (place + n) (drop n bytes)
@@ -13,21 +13,21 @@ over (suc n) place [] le = absurd (omega arith)
 over (suc n) place (b ∷ bytes) le = over n (place + 1) bytes (omega arith) ∙ ap (λ p. tokens_after 0 p (drop n bytes)) (omega arith)
 
 -- the tokens at a place are the piece there and the tokens behind it
-pub next : (piece : Piece) (place : ℕ) (bytes : List ℕ) → piece ≡ first bytes → 0 < size piece → size piece ≤ length bytes
-    → tokens_after 0 place bytes ≡ with_piece piece place (tokens_after 0 (place + size piece) (drop (size piece) bytes))
+pub next : (piece : Piece) (place : ℕ) (bytes : List ℕ) → piece ≡ first bytes → 0 < piece_size piece → piece_size piece ≤ length bytes
+    → tokens_after 0 place bytes ≡ with_piece piece place (tokens_after 0 (place + piece_size piece) (drop (piece_size piece) bytes))
 next piece place [] is some within = absurd (omega (arith, some, within))
 next piece place (b ∷ bytes) is some within =
-    let n : size piece ≡ suc (size piece - 1) = omega (arith, some) in
-    let rest : tokens_after (size piece - 1) (place + 1) bytes ≡ tokens_after 0 (place + 1 + (size piece - 1)) (drop (size piece - 1) bytes) = over (size piece - 1) (place + 1) bytes (omega (arith, within, some)) in
-    let at : place + 1 + (size piece - 1) ≡ place + size piece = omega (arith, some) in
-    let left : drop (size piece) (b ∷ bytes) ≡ drop (size piece - 1) bytes = ap (λ (k : ℕ). drop k (b ∷ bytes)) n in
+    let n : piece_size piece ≡ suc (piece_size piece - 1) = omega (arith, some) in
+    let rest : tokens_after (piece_size piece - 1) (place + 1) bytes ≡ tokens_after 0 (place + 1 + (piece_size piece - 1)) (drop (piece_size piece - 1) bytes) = over (piece_size piece - 1) (place + 1) bytes (omega (arith, within, some)) in
+    let at : place + 1 + (piece_size piece - 1) ≡ place + piece_size piece = omega (arith, some) in
+    let left : drop (piece_size piece) (b ∷ bytes) ≡ drop (piece_size piece - 1) bytes = ap (λ (k : ℕ). drop k (b ∷ bytes)) n in
     rw (← is, rest, at, left) refl
 
-pub passed : (n place : ℕ) (bytes rest : List ℕ) (list : List Token) → Gap n ≡ first bytes → IsWithin (Gap n) (length bytes) → rest ≡ drop n bytes
+pub passed : (n place : ℕ) (bytes rest : List ℕ) (list : List Token) → Gap n ≡ first bytes → IsPieceWithin (Gap n) (length bytes) → rest ≡ drop n bytes
     → with_front list (tokens_after 0 (place + n) rest) ≡ with_front list (tokens_after 0 place bytes)
 passed n place bytes rest list is within left = rw left (ap (with_front list) (sym (next (Gap n) place bytes is within.0 within.1)))
 
-pub cut_off : (kind : TokenKind) (n place : ℕ) (bytes rest : List ℕ) (list new : List Token) → Cut kind n ≡ first bytes → IsWithin (Cut kind n) (length bytes) → rest ≡ drop n bytes
+pub cut_off : (kind : TokenKind) (n place : ℕ) (bytes rest : List ℕ) (list new : List Token) → Cut kind n ≡ first bytes → IsPieceWithin (Cut kind n) (length bytes) → rest ≡ drop n bytes
     → new ≡ list ++ record { kind = kind; start = place; length = n } ∷ []
     → with_front new (tokens_after 0 (place + n) rest) ≡ with_front list (tokens_after 0 place bytes)
 cut_off kind n place bytes rest list new is within left pushed =

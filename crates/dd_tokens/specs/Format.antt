@@ -72,16 +72,16 @@ first [] = Fault 0
 first (b ∷ bytes) = front b bytes
 
 -- how many bytes a piece has
-abbrev pub size : Piece → ℕ
-size (Gap n) = n
-size (Cut kind n) = n
-size (Fault n) = 0
+abbrev pub piece_size : Piece → ℕ
+piece_size (Gap n) = n
+piece_size (Cut kind n) = n
+piece_size (Fault n) = 0
 
 -- a piece lies within so many bytes, and has one at least
-abbrev pub IsWithin : Piece → ℕ → Type 0
-IsWithin (Gap n) room = (0 < n) × (n ≤ room)
-IsWithin (Cut kind n) room = (0 < n) × (n ≤ room)
-IsWithin (Fault n) room = n < room
+abbrev pub IsPieceWithin : Piece → ℕ → Type 0
+IsPieceWithin (Gap n) room = (0 < n) × (n ≤ room)
+IsPieceWithin (Cut kind n) room = (0 < n) × (n ≤ room)
+IsPieceWithin (Fault n) room = n < room
 
 -- tokens before others
 abbrev pub with_front : List Token → Tokens → Tokens
@@ -97,7 +97,7 @@ with_piece (Fault n) place rest = record { list = []; stop = place + n }
 abbrev pub tokens_after : ℕ → ℕ → List ℕ → Tokens
 tokens_after within place [] = record { list = []; stop = place }
 tokens_after (suc within) place (b ∷ bytes) = tokens_after within (place + 1) bytes
-tokens_after zero place (b ∷ bytes) = with_piece (first (b ∷ bytes)) place (tokens_after (size (first (b ∷ bytes)) - 1) (place + 1) bytes)
+tokens_after zero place (b ∷ bytes) = with_piece (first (b ∷ bytes)) place (tokens_after (piece_size (first (b ∷ bytes)) - 1) (place + 1) bytes)
 
 abbrev pub tokens_of : List ℕ → Tokens
 tokens_of bytes = tokens_after 0 0 bytes

@@ -1,7 +1,7 @@
 // What stands at the front of some bytes: a blank, a comment, a token, or a fault.
 ghost use Rattle.std.specs.Prelude.{◌≡◌, ◌≤◌, ◌<◌, ◌+◌, length, nat_le, ◌==◌, ◌&&◌};
 ghost use Rattle.std.specs.List.{prefix_len};
-ghost use Rattle.dd_tokens.specs.Format.{is_blank, is_letter, is_digit, is_sign, is_comment, is_pair, is_both_ways, starts_positive, starts, comment, number, front, first, IsWithin};
+ghost use Rattle.dd_tokens.specs.Format.{is_blank, is_letter, is_digit, is_sign, is_comment, is_pair, is_both_ways, starts_positive, starts, comment, number, front, first, IsPieceWithin};
 
 use crate::token::TokenKind;
 
@@ -86,7 +86,7 @@ fn comment_bytes(bytes: &[u8]) -> usize
 fn comment(bytes: &[u8]) -> Piece
     requires { length bytes.now ≤ 1048576 }
     ensures value { result ≡ comment bytes.now }
-    ensures within { IsWithin result (1 + length bytes.now) }
+    ensures within { IsPieceWithin result (1 + length bytes.now) }
 {
     let n = comment_bytes(bytes);
     if n < bytes.len() && bytes[n] >= 128 {
@@ -99,7 +99,7 @@ fn comment(bytes: &[u8]) -> Piece
 fn number(first: u8, bytes: &[u8]) -> Piece
     requires { length bytes.now ≤ 1048576 }
     ensures value { result ≡ number first bytes.now }
-    ensures within { IsWithin result (1 + length bytes.now) }
+    ensures within { IsPieceWithin result (1 + length bytes.now) }
 {
     let n = digits(bytes);
     if first == b'0' && n > 0 {
@@ -145,7 +145,7 @@ fn is_both_ways(first: u8, bytes: &[u8]) -> bool
 fn front(first: u8, bytes: &[u8]) -> Piece
     requires { length bytes.now ≤ 1048576 }
     ensures value { result ≡ front first bytes.now }
-    ensures within { IsWithin result (1 + length bytes.now) }
+    ensures within { IsPieceWithin result (1 + length bytes.now) }
 {
     if is_blank(first) {
         return Piece::Gap(1);
@@ -179,7 +179,7 @@ pub fn first(bytes: &[u8]) -> Piece
     requires some { 0 < length bytes.now }
     requires few { length bytes.now ≤ 1048576 }
     ensures value { result ≡ first bytes.now }
-    ensures within { IsWithin result (length bytes.now) }
+    ensures within { IsPieceWithin result (length bytes.now) }
 {
     let (byte, after) = bytes.split_at(1);
     front(byte[0], after)

@@ -11,7 +11,7 @@ use Rattle.dd_tokens.specs.declared.piece.Piece.{Piece}
 use Rattle.dd_tokens.specs.declared.piece.Piece.TheVariants.{Gap, Cut, Fault}
 use Rattle.dd_tokens.specs.declared.token.TokenKind.TheVariants.{Word, Number, Negative, Mark}
 use Rattle.dd_tokens.specs.declared.token.Tokens.{Tokens}
-use Rattle.dd_tokens.specs.Format.{is_blank, is_letter, is_digit, is_sign, is_comment, is_pair, is_both_ways, starts, starts_positive, comment, number, front, first, size, with_piece, tokens_after, tokens_of}
+use Rattle.dd_tokens.specs.Format.{is_blank, is_letter, is_digit, is_sign, is_comment, is_pair, is_both_ways, starts, starts_positive, comment, number, front, first, piece_size, with_piece, tokens_after, tokens_of}
 
 -- ---- single bytes
 
@@ -185,7 +185,7 @@ passed (suc n) b bytes passes more =
     let same : suc n - 1 ≡ n = omega arith in
     IsAscii-cons b bytes (passes.ascii 0) (more (subst (λ (k : ℕ). IsAscii (take k bytes)) (sym same) (λ i. passes.ascii (suc i))))
 
-at_piece : (p : Piece) (place b : ℕ) (bytes : List ℕ) (rest : Tokens) → Stands p (b ∷ bytes) → (IsAscii (take (size p - 1) bytes) → rest.stop ≡ place + 1 + length bytes → IsAscii bytes)
+at_piece : (p : Piece) (place b : ℕ) (bytes : List ℕ) (rest : Tokens) → Stands p (b ∷ bytes) → (IsAscii (take (piece_size p - 1) bytes) → rest.stop ≡ place + 1 + length bytes → IsAscii bytes)
     → (with_piece p place rest).stop ≡ place + length (b ∷ bytes) → IsAscii (b ∷ bytes)
 at_piece (Gap n) place b bytes rest stands more e = passed n b bytes stands (λ a. more a (omega (arith, e)))
 at_piece (Cut kind n) place b bytes rest stands more e = passed n b bytes stands (λ a. more a (omega (arith, e)))
@@ -195,7 +195,7 @@ ascii_after : (within place : ℕ) (bytes : List ℕ) → IsAscii (take within b
 ascii_after within place [] before e = IsAscii-nil
 ascii_after (suc within) place (b ∷ bytes) before e = IsAscii-cons b bytes (before 0) (ascii_after within (place + 1) bytes (λ i. before (suc i)) (omega (arith, e)))
 ascii_after zero place (b ∷ bytes) before e =
-    at_piece (first (b ∷ bytes)) place b bytes (tokens_after (size (first (b ∷ bytes)) - 1) (place + 1) bytes) (front_stands b bytes) (ascii_after (size (first (b ∷ bytes)) - 1) (place + 1) bytes) e
+    at_piece (first (b ∷ bytes)) place b bytes (tokens_after (piece_size (first (b ∷ bytes)) - 1) (place + 1) bytes) (front_stands b bytes) (ascii_after (piece_size (first (b ∷ bytes)) - 1) (place + 1) bytes) e
 
 -- no byte belongs to no token
 pub ascii_whole : (bytes : List ℕ) → (tokens_of bytes).stop ≡ length bytes → IsAscii bytes

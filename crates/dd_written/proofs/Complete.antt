@@ -24,7 +24,7 @@ use Rattle.dd_written.specs.declared.tree.Join.TheVariants as join
 use Rattle.dd_written.specs.declared.tree.Formula.{Formula, roll-Formula}
 use Rattle.dd_written.specs.declared.tree.Formula.TheFolds.{map-Formula, ind-Formula}
 use Rattle.dd_written.specs.declared.tree.Formula.TheOpen.{Formula-F}
-use Rattle.dd_written.specs.Formulas.{text, stands, stands_step, depth, greatest, name_lexeme, move_text, term_text, side_text, atom_text, ball_text, capital, sign, rank, IsFormula}
+use Rattle.dd_written.specs.Formulas.{text, stands, stands_step, tree_depth, greatest_depth, name_lexeme, move_text, term_text, atom_side_text, atom_text, ball_text, capital, sign, join_rank, IsWrittenFormula}
 use Rattle.dd_written.specs.reading.Readers.{Reader, ◌>>=◌}
 use Rattle.dd_written.specs.reading.Atoms.{name_at, moves_at, term_at, side_at, after_term, atom_at, leaf_at, balls_at, quantor_end, quantor_at}
 use Rattle.dd_written.specs.reading.Formulas.{begins, more_at, list_at, or_at, implies_end, implies_at, iff_more, whole_at, quantified_at, group_end, nested_at, unary_at, formula_at, ends}
@@ -47,12 +47,12 @@ ends_low low place tokens le e = refl
 not_lower : (place limit : ℕ) → limit ≤ place → nat_lt place limit ≡ true → ⊥
 not_lower place limit le e = omega (arith, le, ltb-true place limit e)
 
-ends_begins : (j : Join) (place : ℕ) (rest : List Lexeme) → rank j ≤ place → ends place rest ≡ true → begins j rest ≡ false
+ends_begins : (j : Join) (place : ℕ) (rest : List Lexeme) → join_rank j ≤ place → ends place rest ≡ true → begins j rest ≡ false
 ends_begins join.And place (lexeme.Mark mark.And ∷ tokens) le e = absurd (not_lower place 1 le e)
 ends_begins join.Or place (lexeme.Mark mark.Or ∷ tokens) le e = absurd (not_lower place 2 le e)
 ends_begins j place tokens le e = refl
 
-sign_ends : (j : Join) (place : ℕ) (tokens : List Lexeme) → place < rank j → ends place (lexeme.Mark (sign j) ∷ tokens) ≡ true
+sign_ends : (j : Join) (place : ℕ) (tokens : List Lexeme) → place < join_rank j → ends place (lexeme.Mark (sign j) ∷ tokens) ≡ true
 sign_ends join.And place tokens lt = le-leb (suc place) 1 lt
 sign_ends join.Or place tokens lt = le-leb (suc place) 2 lt
 
@@ -77,7 +77,7 @@ moves_again (label ∷ labels) place rest e = ap (λ (x : List Word × List Lexe
 term_again : (t : Term) (place : ℕ) (rest : List Lexeme) → ends place rest ≡ true → term_at (term_text t ++ rest) ≡ Some (t, rest)
 term_again t place rest e = ap (λ (x : List Word × List Lexeme). Some (record { first = t.first; moves = x.0 }, x.1)) (moves_again t.moves place rest e)
 
-side_again : (s : Side) (place : ℕ) (rest : List Lexeme) → ends place rest ≡ true → side_at (side_text s ++ rest) ≡ Some (s, rest)
+side_again : (s : Side) (place : ℕ) (rest : List Lexeme) → ends place rest ≡ true → side_at (atom_side_text s ++ rest) ≡ Some (s, rest)
 side_again (side.Number n) place rest e = refl
 side_again (side.Term t) place rest e = ap (λ (r : Option (Term × List Lexeme)). r >>= λ t. Some (side.Term t.0, t.1)) (term_again t place rest e)
 
@@ -87,8 +87,8 @@ marked_again t m part rest e =
     ap atom_at (append_assoc (term_text t) (lexeme.Mark m ∷ part) rest) ∙ ap (λ (r : Option (Term × List Lexeme)). r >>= λ t. after_term t.0 t.1) (term_again t 0 (lexeme.Mark m ∷ (part ++ rest)) e)
 
 atom_again : (a : Atom) (rest : List Lexeme) → ends 0 rest ≡ true → atom_at (atom_text a ++ rest) ≡ Some (a, rest)
-atom_again (atom.Equal t s) rest e = marked_again t mark.Equal (side_text s) rest refl ∙ ap (λ (r : Option (Side × List Lexeme)). r >>= λ s. Some (atom.Equal t s.0, s.1)) (side_again s 0 rest e)
-atom_again (atom.NotEqual t s) rest e = marked_again t mark.NotEqual (side_text s) rest refl ∙ ap (λ (r : Option (Side × List Lexeme)). r >>= λ s. Some (atom.NotEqual t s.0, s.1)) (side_again s 0 rest e)
+atom_again (atom.Equal t s) rest e = marked_again t mark.Equal (atom_side_text s) rest refl ∙ ap (λ (r : Option (Side × List Lexeme)). r >>= λ s. Some (atom.Equal t s.0, s.1)) (side_again s 0 rest e)
+atom_again (atom.NotEqual t s) rest e = marked_again t mark.NotEqual (atom_side_text s) rest refl ∙ ap (λ (r : Option (Side × List Lexeme)). r >>= λ s. Some (atom.NotEqual t s.0, s.1)) (side_again s 0 rest e)
 atom_again (atom.Adjacent t u) rest e = marked_again t mark.Tilde (term_text u) rest refl ∙ ap (λ (r : Option (Term × List Lexeme)). r >>= λ u. Some (atom.Adjacent t u.0, u.1)) (term_again u 0 rest e)
 atom_again (atom.Same t u) rest e = marked_again t mark.At (term_text u) rest refl ∙ ap (λ (r : Option (Term × List Lexeme)). r >>= λ u. Some (atom.Same t u.0, u.1)) (term_again u 0 rest e)
 atom_again (atom.AtNode t n) rest e = marked_again t mark.Colon (name_lexeme n ∷ []) rest refl ∙ ap (λ (r : Option (Name × List Lexeme)). r >>= λ n. Some (atom.AtNode t n.0, n.1)) (name_again n rest)
@@ -107,11 +107,11 @@ quantor_again variable b balls rest = ap (λ (x : List Ball × List Lexeme). qua
 abbrev ReadBy : Reader Formula → ℕ → Formula → Type 0
 ReadBy member place f = (rest : List Lexeme) → ends place rest ≡ true → member (text f ++ rest) ≡ Some (f, rest)
 
-ends_more : (j : Join) (place : ℕ) (fs : List Formula) (rest : List Lexeme) → place < rank j → ends place rest ≡ true → ends place (more_text j fs ++ rest) ≡ true
+ends_more : (j : Join) (place : ℕ) (fs : List Formula) (rest : List Lexeme) → place < join_rank j → ends place rest ≡ true → ends place (more_text j fs ++ rest) ≡ true
 ends_more j place [] rest lt e = e
 ends_more j place (f ∷ fs) rest lt e = sign_ends j place ((text f ++ more_text j fs) ++ rest) lt
 
-more_again : (j : Join) (member : Reader Formula) (place : ℕ) (fs : List Formula) (n : ℕ) (rest : List Lexeme) → AllByRecursion (ReadBy member place) fs → length fs ≤ n → place < rank j → begins j rest ≡ false → ends place rest ≡ true
+more_again : (j : Join) (member : Reader Formula) (place : ℕ) (fs : List Formula) (n : ℕ) (rest : List Lexeme) → AllByRecursion (ReadBy member place) fs → length fs ≤ n → place < join_rank j → begins j rest ≡ false → ends place rest ≡ true
     → more_at j member n (more_text j fs ++ rest) ≡ Some (fs, rest)
 more_again j member place [] n rest each enough lt none e = none_more (begins j) (λ ts. member (drop 1 ts)) n rest none
 more_again j member place (f ∷ fs) zero rest each enough lt none e = absurd (omega (arith, enough))
@@ -130,7 +130,7 @@ length_more j (f ∷ fs) rest =
 alone : (j : Join) (member : Reader Formula) (tokens : List Lexeme) (f : Formula) (rest : List Lexeme) → member tokens ≡ Some (f, rest) → begins j rest ≡ false → list_at j member tokens ≡ Some (f, rest)
 alone j member tokens f rest e none = rw (e, none_more (begins j) (λ ts. member (drop 1 ts)) (length rest) rest none) refl
 
-list_again : (j : Join) (member : Reader Formula) (place : ℕ) (f g : Formula) (gs : List Formula) (rest : List Lexeme) → AllByRecursion (ReadBy member place) (f ∷ g ∷ gs) → place < rank j → begins j rest ≡ false → ends place rest ≡ true
+list_again : (j : Join) (member : Reader Formula) (place : ℕ) (f g : Formula) (gs : List Formula) (rest : List Lexeme) → AllByRecursion (ReadBy member place) (f ∷ g ∷ gs) → place < join_rank j → begins j rest ≡ false → ends place rest ≡ true
     → list_at j member (text (roll-Formula (Formula-F.List j (f ∷ g ∷ gs))) ++ rest) ≡ Some (roll-Formula (Formula-F.List j (f ∷ g ∷ gs)), rest)
 list_again j member place f g gs rest each lt none e =
     let spelled : text (roll-Formula (Formula-F.List j (f ∷ g ∷ gs))) ++ rest ≡ text f ++ (more_text j (g ∷ gs) ++ rest) = ap (λ (ts : List Lexeme). ts ++ rest) (text_of (Formula-F.List j (f ∷ g ∷ gs))) ∙ append_assoc (text f) (more_text j (g ∷ gs)) rest in
@@ -179,7 +179,7 @@ level_to budget n tokens f rest (suc more) low place eq le e r =
 abbrev Within : ℕ → List ℕ → Type 0
 Within b ds = AllByRecursion (λ d. d ≤ b) ds
 
-greatest_within : (b : ℕ) (ds : List ℕ) → greatest ds ≤ b → Within b ds
+greatest_within : (b : ℕ) (ds : List ℕ) → greatest_depth ds ≤ b → Within b ds
 greatest_within b [] le = tt
 greatest_within b (d ∷ ds) le = (omega (arith, le), greatest_within b ds (omega (arith, le)))
 
@@ -187,12 +187,12 @@ greatest_within b (d ∷ ds) le = (omega (arith, le), greatest_within b ds (omeg
 
 -- a formula is read at each place up to 3 where it may stand
 abbrev IsLow : Formula → Type 0
-IsLow f = (budget n place : ℕ) (rest : List Lexeme) → place ≤ 3 → stands f place ≡ true → depth f ≤ budget → depth f ≤ n → ends place rest ≡ true → level_at budget n place (text f ++ rest) ≡ Some (f, rest)
+IsLow f = (budget n place : ℕ) (rest : List Lexeme) → place ≤ 3 → stands f place ≡ true → tree_depth f ≤ budget → tree_depth f ≤ n → ends place rest ≡ true → level_at budget n place (text f ++ rest) ≡ Some (f, rest)
 
 -- left of `<->`, and alone, it is read with some double arrows still allowed
 abbrev IsTop : Formula → Type 0
-IsTop f = (budget n : ℕ) (rest : List Lexeme) → stands f 4 ≡ true → depth f ≤ budget → depth f ≤ n → ends 3 rest ≡ true
-    → (k : ℕ) × (n ≤ k + depth f) × (whole_at (unary_at budget) n (text f ++ rest) ≡ iff_more (level_at budget n 3) k f rest)
+IsTop f = (budget n : ℕ) (rest : List Lexeme) → stands f 4 ≡ true → tree_depth f ≤ budget → tree_depth f ≤ n → ends 3 rest ≡ true
+    → (k : ℕ) × (n ≤ k + tree_depth f) × (whole_at (unary_at budget) n (text f ++ rest) ≡ iff_more (level_at budget n 3) k f rest)
 
 pub record IsReadAgain (f : Formula) : Type 0 where
   pub low : IsLow f
@@ -207,7 +207,7 @@ formula_of y = y.0
 abbrev layer : Formula-F Known → Formula-F Formula
 layer y = map-Formula Known Formula formula_of y
 
-pub top_read : (f : Formula) → IsReadAgain f → (budget : ℕ) (rest : List Lexeme) → stands f 4 ≡ true → depth f ≤ budget → ends 4 rest ≡ true → whole_at (unary_at budget) budget (text f ++ rest) ≡ Some (f, rest)
+pub top_read : (f : Formula) → IsReadAgain f → (budget : ℕ) (rest : List Lexeme) → stands f 4 ≡ true → tree_depth f ≤ budget → ends 4 rest ≡ true → whole_at (unary_at budget) budget (text f ++ rest) ≡ Some (f, rest)
 top_read f again budget rest fit deep e =
     let t = again.top budget budget rest fit deep deep (ends_low 3 4 rest (omega arith) e) in
     t.2 ∙ no_double_arrow (level_at budget budget 3) t.0 f rest e
@@ -262,38 +262,38 @@ group_again budget f rest inner =
     ap (unary_at (suc budget)) spelled ∙ ap (λ (r : Option (Formula × List Lexeme)). r >>= λ f. group_end f.0 f.1) inner
 
 -- the members of a list, each of which is read again
-members_again : (budget place : ℕ) (fs : List Known) → place ≤ 3 → list_all (λ (h : ℕ → Bool). h place) (map stands (map formula_of fs)) ≡ true → Within budget (map depth (map formula_of fs))
+members_again : (budget place : ℕ) (fs : List Known) → place ≤ 3 → list_all (λ (h : ℕ → Bool). h place) (map stands (map formula_of fs)) ≡ true → Within budget (map tree_depth (map formula_of fs))
     → AllByRecursion (ReadBy (level_at budget budget place) place) (map formula_of fs)
 members_again budget place [] le fit deep = tt
 members_again budget place (f ∷ fs) le fit deep =
     let a = and_is (stands f.0 place) (list_all (λ (h : ℕ → Bool). h place) (map stands (map formula_of fs))) fit in
     (λ rest e. f.1.low budget budget place rest le a.0 deep.0 deep.0 e, members_again budget place fs le a.1 deep.1)
 
-list_level : (j : Join) (budget n : ℕ) (tokens : List Lexeme) → list_at j (level_at budget budget (rank j - 1)) tokens ≡ level_at budget n (suc (rank j - 1)) tokens
+list_level : (j : Join) (budget n : ℕ) (tokens : List Lexeme) → list_at j (level_at budget budget (join_rank j - 1)) tokens ≡ level_at budget n (suc (join_rank j - 1)) tokens
 list_level join.And budget n tokens = refl
 list_level join.Or budget n tokens = refl
 
-one_or_more : (j : Join) → 1 ≤ rank j
+one_or_more : (j : Join) → 1 ≤ join_rank j
 one_or_more join.And = omega arith
 one_or_more join.Or = omega arith
 
-two_or_less : (j : Join) → rank j ≤ 2
+two_or_less : (j : Join) → join_rank j ≤ 2
 two_or_less join.And = omega arith
 two_or_less join.Or = omega arith
 
-listed_again : (budget n place : ℕ) (j : Join) (fs : List Known) (rest : List Lexeme) → place ≤ 3 → rank j ≤ place → nat_le 2 (length (map stands (map formula_of fs))) ≡ true
-    → list_all (λ (h : ℕ → Bool). h (rank j - 1)) (map stands (map formula_of fs)) ≡ true → greatest (map depth (map formula_of fs)) ≤ budget → ends place rest ≡ true
+listed_again : (budget n place : ℕ) (j : Join) (fs : List Known) (rest : List Lexeme) → place ≤ 3 → join_rank j ≤ place → nat_le 2 (length (map stands (map formula_of fs))) ≡ true
+    → list_all (λ (h : ℕ → Bool). h (join_rank j - 1)) (map stands (map formula_of fs)) ≡ true → greatest_depth (map tree_depth (map formula_of fs)) ≤ budget → ends place rest ≡ true
     → level_at budget n place (text (roll-Formula (Formula-F.List j (map formula_of fs))) ++ rest) ≡ Some (roll-Formula (Formula-F.List j (map formula_of fs)), rest)
 listed_again budget n place j [] rest le ranked two fit deep e = absurd (omega (arith, leb-true 2 0 two))
 listed_again budget n place j (f ∷ []) rest le ranked two fit deep e = absurd (omega (arith, leb-true 2 1 two))
 listed_again budget n place j (f ∷ g ∷ gs) rest le ranked two fit deep e =
-    let low : rank j - 1 ≤ 3 = omega (arith, two_or_less j) in
-    let each = members_again budget (rank j - 1) (f ∷ g ∷ gs) low fit (greatest_within budget (map depth (map formula_of (f ∷ g ∷ gs))) deep) in
-    let member = level_at budget budget (rank j - 1) in
-    let read = list_again j member (rank j - 1) f.0 g.0 (map formula_of gs) rest each (omega (arith, one_or_more j)) (ends_begins j place rest ranked e) (ends_low (rank j - 1) place rest (omega (arith, ranked)) e) in
-    let at : level_at budget n (suc (rank j - 1)) (text (roll-Formula (Formula-F.List j (map formula_of (f ∷ g ∷ gs)))) ++ rest) ≡ Some (roll-Formula (Formula-F.List j (map formula_of (f ∷ g ∷ gs))), rest) =
+    let low : join_rank j - 1 ≤ 3 = omega (arith, two_or_less j) in
+    let each = members_again budget (join_rank j - 1) (f ∷ g ∷ gs) low fit (greatest_within budget (map tree_depth (map formula_of (f ∷ g ∷ gs))) deep) in
+    let member = level_at budget budget (join_rank j - 1) in
+    let read = list_again j member (join_rank j - 1) f.0 g.0 (map formula_of gs) rest each (omega (arith, one_or_more j)) (ends_begins j place rest ranked e) (ends_low (join_rank j - 1) place rest (omega (arith, ranked)) e) in
+    let at : level_at budget n (suc (join_rank j - 1)) (text (roll-Formula (Formula-F.List j (map formula_of (f ∷ g ∷ gs)))) ++ rest) ≡ Some (roll-Formula (Formula-F.List j (map formula_of (f ∷ g ∷ gs))), rest) =
     sym (list_level j budget n (text (roll-Formula (Formula-F.List j (map formula_of (f ∷ g ∷ gs)))) ++ rest)) ∙ read in
-    level_to budget n _ _ rest (place - rank j) (suc (rank j - 1)) place (omega (arith, one_or_more j, ranked)) le e at
+    level_to budget n _ _ rest (place - join_rank j) (suc (join_rank j - 1)) place (omega (arith, one_or_more j, ranked)) le e at
 
 -- what is read with an arrow behind its first part
 arrow_again : (part : Reader Formula) (n : ℕ) (f g : Formula) (rest : List Lexeme) → part (text f ++ lexeme.Mark mark.Arrow ∷ (text g ++ rest)) ≡ Some (f, lexeme.Mark mark.Arrow ∷ (text g ++ rest)) → implies_at part n (text g ++ rest) ≡ Some (g, rest)
@@ -302,7 +302,7 @@ arrow_again part n f g rest first second =
     let spelled : text (roll-Formula (Formula-F.Implies f g)) ++ rest ≡ text f ++ lexeme.Mark mark.Arrow ∷ (text g ++ rest) = ap (λ (ts : List Lexeme). ts ++ rest) (text_of (Formula-F.Implies f g)) ∙ append_assoc (text f) (lexeme.Mark mark.Arrow ∷ text g) rest in
     ap (implies_at part (suc n)) spelled ∙ ap (λ (r : Option (Formula × List Lexeme)). r >>= λ f. implies_end f.0 (implies_at part n) f.1) first ∙ ap (λ (r : Option (Formula × List Lexeme)). r >>= λ g. Some (roll-Formula (Formula-F.Implies f g.0), g.1)) second
 
-implies_low : (f g : Known) (budget n : ℕ) (rest : List Lexeme) → stands f.0 2 ≡ true → stands g.0 3 ≡ true → 1 + max (depth f.0) (depth g.0) ≤ budget → 1 + max (depth f.0) (depth g.0) ≤ n → ends 3 rest ≡ true
+implies_low : (f g : Known) (budget n : ℕ) (rest : List Lexeme) → stands f.0 2 ≡ true → stands g.0 3 ≡ true → 1 + max (tree_depth f.0) (tree_depth g.0) ≤ budget → 1 + max (tree_depth f.0) (tree_depth g.0) ≤ n → ends 3 rest ≡ true
     → level_at budget n 3 (text (roll-Formula (Formula-F.Implies f.0 g.0)) ++ rest) ≡ Some (roll-Formula (Formula-F.Implies f.0 g.0), rest)
 implies_low f g budget zero rest fit_f fit_g deep few e = absurd (omega (arith, few))
 implies_low f g budget (suc n) rest fit_f fit_g deep few e =
@@ -315,8 +315,8 @@ both_again : (part : Reader Formula) (k : ℕ) (f g : Formula) (rest : List Lexe
     → iff_more part (suc k) f (lexeme.Mark mark.BothWays ∷ (text g ++ rest)) ≡ iff_more part k (roll-Formula (Formula-F.Iff f g)) rest
 both_again part k f g rest second = ap (λ (r : Option (Formula × List Lexeme)). r >>= λ g. iff_more part k (roll-Formula (Formula-F.Iff f g.0)) g.1) second
 
-iff_top : (f g : Known) → stands f.0 4 ≡ true → stands g.0 3 ≡ true → (budget n : ℕ) (rest : List Lexeme) → 1 + max (depth f.0) (depth g.0) ≤ budget → 1 + max (depth f.0) (depth g.0) ≤ n → ends 3 rest ≡ true
-    → (k : ℕ) × (n ≤ k + (1 + max (depth f.0) (depth g.0))) × (whole_at (unary_at budget) n (text (roll-Formula (Formula-F.Iff f.0 g.0)) ++ rest) ≡ iff_more (level_at budget n 3) k (roll-Formula (Formula-F.Iff f.0 g.0)) rest)
+iff_top : (f g : Known) → stands f.0 4 ≡ true → stands g.0 3 ≡ true → (budget n : ℕ) (rest : List Lexeme) → 1 + max (tree_depth f.0) (tree_depth g.0) ≤ budget → 1 + max (tree_depth f.0) (tree_depth g.0) ≤ n → ends 3 rest ≡ true
+    → (k : ℕ) × (n ≤ k + (1 + max (tree_depth f.0) (tree_depth g.0))) × (whole_at (unary_at budget) n (text (roll-Formula (Formula-F.Iff f.0 g.0)) ++ rest) ≡ iff_more (level_at budget n 3) k (roll-Formula (Formula-F.Iff f.0 g.0)) rest)
 iff_top f g fit_f fit_g budget n rest deep few e =
     let t = f.1.top budget n (lexeme.Mark mark.BothWays ∷ (text g.0 ++ rest)) fit_f (omega (arith, deep)) (omega (arith, few)) refl in
     let more : t.0 ≡ suc (t.0 - 1) = omega (arith, t.1, few) in
@@ -331,22 +331,22 @@ low_again : (y : Formula-F Known) → IsLow (roll-Formula (layer y))
 low_again (Formula-F.Atom a) budget n place rest le fit deep few e = lifted budget n place _ _ rest le e (leaf_again budget a rest (ends_low 0 place rest (omega arith) e))
 low_again (Formula-F.Not f) zero n place rest le fit deep few e = absurd (omega (arith, deep, depth_of (Formula-F.Not f.0)))
 low_again (Formula-F.Not f) (suc budget) n place rest le fit deep few e =
-    let deep_f : depth f.0 ≤ budget = omega (arith, deep, depth_of (Formula-F.Not f.0)) in
+    let deep_f : tree_depth f.0 ≤ budget = omega (arith, deep, depth_of (Formula-F.Not f.0)) in
     lifted (suc budget) n place _ _ rest le e (not_again budget f.0 rest (f.1.low budget budget 0 rest (omega arith) (fits_at (Formula-F.Not f.0) place fit) deep_f deep_f (ends_low 0 place rest (omega arith) e)))
 low_again (Formula-F.Quantified q variable balls f) zero n place rest le fit deep few e = absurd (omega (arith, deep, depth_of (Formula-F.Quantified q variable balls f.0)))
 low_again (Formula-F.Quantified q variable balls f) (suc budget) n place rest le fit deep few e =
-    let deep_f : depth f.0 ≤ budget = omega (arith, deep, depth_of (Formula-F.Quantified q variable balls f.0)) in
+    let deep_f : tree_depth f.0 ≤ budget = omega (arith, deep, depth_of (Formula-F.Quantified q variable balls f.0)) in
     let both = and_is (nat_le 1 (length balls)) (stands f.0 0) (fits_at (Formula-F.Quantified q variable balls f.0) place fit) in
     lifted (suc budget) n place _ _ rest le e (quantified_again budget q variable balls f.0 rest both.0 (f.1.low budget budget 0 rest (omega arith) both.1 deep_f deep_f (ends_low 0 place rest (omega arith) e)))
 low_again (Formula-F.Group f) zero n place rest le fit deep few e = absurd (omega (arith, deep, depth_of (Formula-F.Group f.0)))
 low_again (Formula-F.Group f) (suc budget) n place rest le fit deep few e =
-    let deep_f : depth f.0 ≤ budget = omega (arith, deep, depth_of (Formula-F.Group f.0)) in
+    let deep_f : tree_depth f.0 ≤ budget = omega (arith, deep, depth_of (Formula-F.Group f.0)) in
     lifted (suc budget) n place _ _ rest le e (group_again budget f.0 rest (top_read f.0 f.1 budget (lexeme.Mark mark.Close ∷ rest) (fits_at (Formula-F.Group f.0) place fit) deep_f refl))
 low_again (Formula-F.List j fs) budget n place rest le fit deep few e =
     let x : Formula-F Formula = Formula-F.List j (map formula_of fs) in
-    let a = and_is (nat_le (rank j) place && nat_le 2 (length (map stands (map formula_of fs)))) (list_all (λ (h : ℕ → Bool). h (rank j - 1)) (map stands (map formula_of fs))) (fits_at x place fit) in
-    let b = and_is (nat_le (rank j) place) (nat_le 2 (length (map stands (map formula_of fs)))) a.0 in
-    listed_again budget n place j fs rest le (leb-true (rank j) place b.0) b.1 a.1 (omega (arith, deep, depth_of x)) e
+    let a = and_is (nat_le (join_rank j) place && nat_le 2 (length (map stands (map formula_of fs)))) (list_all (λ (h : ℕ → Bool). h (join_rank j - 1)) (map stands (map formula_of fs))) (fits_at x place fit) in
+    let b = and_is (nat_le (join_rank j) place) (nat_le 2 (length (map stands (map formula_of fs)))) a.0 in
+    listed_again budget n place j fs rest le (leb-true (join_rank j) place b.0) b.1 a.1 (omega (arith, deep, depth_of x)) e
 low_again (Formula-F.Implies f g) budget n place rest le fit deep few e =
     let x : Formula-F Formula = Formula-F.Implies f.0 g.0 in
     let a = and_is (nat_le 3 place && stands f.0 2) (stands g.0 3) (fits_at x place fit) in
@@ -371,8 +371,8 @@ iff_again f g budget n rest fit deep few e =
     let x : Formula-F Formula = Formula-F.Iff f.0 g.0 in
     let a = and_is (nat_le 4 4 && stands f.0 4) (stands g.0 3) (fits_at x 4 fit) in
     let b = and_is (nat_le 4 4) (stands f.0 4) a.0 in
-    let deep_x : 1 + max (depth f.0) (depth g.0) ≤ budget = omega (arith, deep, depth_of x) in
-    let few_x : 1 + max (depth f.0) (depth g.0) ≤ n = omega (arith, few, depth_of x) in
+    let deep_x : 1 + max (tree_depth f.0) (tree_depth g.0) ≤ budget = omega (arith, deep, depth_of x) in
+    let few_x : 1 + max (tree_depth f.0) (tree_depth g.0) ≤ n = omega (arith, few, depth_of x) in
     let t = iff_top f g b.1 a.1 budget n rest deep_x few_x e in
     (t.0, omega (arith, t.1, depth_of x), t.2)
 
@@ -389,5 +389,5 @@ pub read_again : (f : Formula) → IsReadAgain f
 read_again = ind-Formula IsReadAgain (λ x y is. subst (λ (z : Formula-F Formula). IsReadAgain (roll-Formula z)) is (record { low = low_again y; top = top_again y }))
 
 -- what follows a formula cannot belong to it
-pub formula_again : (f : Formula) (rest : List Lexeme) → IsFormula f → ends 4 rest ≡ true → formula_at (text f ++ rest) ≡ Some (f, rest)
-formula_again f rest is e = rw (top_read f (read_again f) 64 rest is.grouped is.shallow e, le-leb (depth f) 64 is.shallow) refl
+pub formula_again : (f : Formula) (rest : List Lexeme) → IsWrittenFormula f → ends 4 rest ≡ true → formula_at (text f ++ rest) ≡ Some (f, rest)
+formula_again f rest is e = rw (top_read f (read_again f) 64 rest is.grouped is.shallow e, le-leb (tree_depth f) 64 is.shallow) refl

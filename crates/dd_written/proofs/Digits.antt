@@ -4,7 +4,7 @@ use Rattle.std.proofs.lemmas.List.{length-append, length-map, drop_more}
 use Rattle.dd_tokens.specs.declared.piece.Piece.{Piece}
 use Rattle.dd_tokens.specs.declared.piece.Piece.TheVariants.{Gap, Cut, Fault}
 use Rattle.dd_tokens.specs.declared.token.Tokens.{Tokens}
-use Rattle.dd_tokens.specs.Format.{tokens_after, tokens_of, with_piece, first, size}
+use Rattle.dd_tokens.specs.Format.{tokens_after, tokens_of, with_piece, first, piece_size}
 use Rattle.dd_written.specs.declared.lexeme.Lexeme.{Lexeme}
 use Rattle.dd_written.specs.Values.{decimal}
 use Rattle.dd_written.specs.Lexemes.{lexeme_of}
@@ -26,7 +26,7 @@ pub few_tokens_after : (within place : ℕ) (bytes : List ℕ) → length (token
 few_tokens_after within place [] = omega arith
 few_tokens_after (suc within) place (b ∷ bytes) = omega (arith, few_tokens_after within (place + 1) bytes)
 few_tokens_after zero place (b ∷ bytes) =
-    let few : length (with_piece (first (b ∷ bytes)) place (tokens_after (size (first (b ∷ bytes)) - 1) (place + 1) bytes)).list ≤ suc (length bytes) = with_piece_few (first (b ∷ bytes)) place (length bytes) (tokens_after (size (first (b ∷ bytes)) - 1) (place + 1) bytes) (few_tokens_after (size (first (b ∷ bytes)) - 1) (place + 1) bytes) in
+    let few : length (with_piece (first (b ∷ bytes)) place (tokens_after (piece_size (first (b ∷ bytes)) - 1) (place + 1) bytes)).list ≤ suc (length bytes) = with_piece_few (first (b ∷ bytes)) place (length bytes) (tokens_after (piece_size (first (b ∷ bytes)) - 1) (place + 1) bytes) (few_tokens_after (piece_size (first (b ∷ bytes)) - 1) (place + 1) bytes) in
     omega (arith, few)
 
 pub few_tokens : (bytes : List ℕ) → length (tokens_of bytes).list ≤ length bytes

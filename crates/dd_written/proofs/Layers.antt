@@ -4,7 +4,7 @@ use Rattle.dd_written.specs.declared.lexeme.Lexeme.{Lexeme}
 use Rattle.dd_written.specs.declared.tree.Formula.{Formula, roll-Formula}
 use Rattle.dd_written.specs.declared.tree.Formula.TheFolds.{fold-roll-Formula, map-Formula}
 use Rattle.dd_written.specs.declared.tree.Formula.TheOpen.{Formula-F}
-use Rattle.dd_written.specs.Formulas.{text, text_step, stands, stands_step, depth, depth_step}
+use Rattle.dd_written.specs.Formulas.{text, text_step, stands, stands_step, tree_depth, tree_depth_step}
 
 pub text_of : (x : Formula-F Formula) → text (roll-Formula x) ≡ text_step (map-Formula Formula (List Lexeme) text x)
 text_of x = fold-roll-Formula (List Lexeme) text_step x
@@ -12,5 +12,5 @@ text_of x = fold-roll-Formula (List Lexeme) text_step x
 pub stands_of : (x : Formula-F Formula) → stands (roll-Formula x) ≡ stands_step (map-Formula Formula (ℕ → Bool) stands x)
 stands_of x = fold-roll-Formula (ℕ → Bool) stands_step x
 
-pub depth_of : (x : Formula-F Formula) → depth (roll-Formula x) ≡ depth_step (map-Formula Formula ℕ depth x)
-depth_of x = fold-roll-Formula ℕ depth_step x
+pub depth_of : (x : Formula-F Formula) → tree_depth (roll-Formula x) ≡ tree_depth_step (map-Formula Formula ℕ tree_depth x)
+depth_of x = fold-roll-Formula ℕ tree_depth_step x

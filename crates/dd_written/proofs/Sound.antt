@@ -21,7 +21,7 @@ use Rattle.dd_written.specs.declared.tree.Join.TheVariants as join
 use Rattle.dd_written.specs.declared.tree.Formula.{Formula, roll-Formula}
 use Rattle.dd_written.specs.declared.tree.Formula.TheFolds.{map-Formula, ind-Formula}
 use Rattle.dd_written.specs.declared.tree.Formula.TheOpen.{Formula-F}
-use Rattle.dd_written.specs.Formulas.{text, stands, stands_step, name_lexeme, move_text, term_text, side_text, atom_text, ball_text, capital, sign, rank, depth, IsFormula}
+use Rattle.dd_written.specs.Formulas.{text, stands, stands_step, name_lexeme, move_text, term_text, atom_side_text, atom_text, ball_text, capital, sign, join_rank, tree_depth, IsWrittenFormula}
 use Rattle.dd_written.specs.reading.Readers.{Reader, ◌>>=◌, ReadsAll}
 use Rattle.dd_written.specs.reading.Atoms.{name_at, moves_at, term_at, side_at, after_term, atom_at, leaf_at, balls_at, quantor_end, quantor_at}
 use Rattle.dd_written.specs.reading.Formulas.{begins, more_at, close, list_at, or_at, implies_end, implies_at, iff_more, whole_at, not_at, quantified_at, group_end, nested_at, unary_at, formula_at}
@@ -47,11 +47,11 @@ term_sound (lexeme.Word first ∷ tokens) t rest e =
     subst (λ (x : Term × List Lexeme). lexeme.Word first ∷ tokens ≡ term_text x.0 ++ x.1) (some_is _ _ e) (ap (λ (ts : List Lexeme). lexeme.Word first ∷ ts) (moves_sound tokens))
 term_sound tokens t rest e = absurd cc
 
-side_sound : (tokens : List Lexeme) (s : Side) (rest : List Lexeme) → side_at tokens ≡ Some (s, rest) → tokens ≡ side_text s ++ rest
-side_sound (lexeme.Number n ∷ tokens) s rest e = subst (λ (x : Side × List Lexeme). lexeme.Number n ∷ tokens ≡ side_text x.0 ++ x.1) (some_is _ _ e) refl
+side_sound : (tokens : List Lexeme) (s : Side) (rest : List Lexeme) → side_at tokens ≡ Some (s, rest) → tokens ≡ atom_side_text s ++ rest
+side_sound (lexeme.Number n ∷ tokens) s rest e = subst (λ (x : Side × List Lexeme). lexeme.Number n ∷ tokens ≡ atom_side_text x.0 ++ x.1) (some_is _ _ e) refl
 side_sound tokens s rest e =
     let b = bind_some (term_at tokens) (λ t. Some (side.Term t.0, t.1)) (s, rest) e in
-    subst (λ (x : Side × List Lexeme). tokens ≡ side_text x.0 ++ x.1) (some_is _ _ b.2) (term_sound tokens b.0.0 b.0.1 b.1)
+    subst (λ (x : Side × List Lexeme). tokens ≡ atom_side_text x.0 ++ x.1) (some_is _ _ b.2) (term_sound tokens b.0.0 b.0.1 b.1)
 
 -- a term, a mark, and what stands behind it
 behind_mark : (t : Term) (m : Mark) (part tokens rest : List Lexeme) → tokens ≡ part ++ rest → term_text t ++ lexeme.Mark m ∷ tokens ≡ (term_text t ++ lexeme.Mark m ∷ part) ++ rest
@@ -63,10 +63,10 @@ IsAtomText tokens x = tokens ≡ atom_text x.0 ++ x.1
 after_sound : (t : Term) (tokens : List Lexeme) (x : Atom × List Lexeme) → after_term t tokens ≡ Some x → IsAtomText (term_text t ++ tokens) x
 after_sound t (lexeme.Mark mark.Equal ∷ tokens) x e =
     let b = bind_some (side_at tokens) (λ s. Some (atom.Equal t s.0, s.1)) x e in
-    subst (IsAtomText (term_text t ++ lexeme.Mark mark.Equal ∷ tokens)) (some_is _ _ b.2) (behind_mark t mark.Equal (side_text b.0.0) tokens b.0.1 (side_sound tokens b.0.0 b.0.1 b.1))
+    subst (IsAtomText (term_text t ++ lexeme.Mark mark.Equal ∷ tokens)) (some_is _ _ b.2) (behind_mark t mark.Equal (atom_side_text b.0.0) tokens b.0.1 (side_sound tokens b.0.0 b.0.1 b.1))
 after_sound t (lexeme.Mark mark.NotEqual ∷ tokens) x e =
     let b = bind_some (side_at tokens) (λ s. Some (atom.NotEqual t s.0, s.1)) x e in
-    subst (IsAtomText (term_text t ++ lexeme.Mark mark.NotEqual ∷ tokens)) (some_is _ _ b.2) (behind_mark t mark.NotEqual (side_text b.0.0) tokens b.0.1 (side_sound tokens b.0.0 b.0.1 b.1))
+    subst (IsAtomText (term_text t ++ lexeme.Mark mark.NotEqual ∷ tokens)) (some_is _ _ b.2) (behind_mark t mark.NotEqual (atom_side_text b.0.0) tokens b.0.1 (side_sound tokens b.0.0 b.0.1 b.1))
 after_sound t (lexeme.Mark mark.Tilde ∷ tokens) x e =
     let b = bind_some (term_at tokens) (λ u. Some (atom.Adjacent t u.0, u.1)) x e in
     subst (IsAtomText (term_text t ++ lexeme.Mark mark.Tilde ∷ tokens)) (some_is _ _ b.2) (behind_mark t mark.Tilde (term_text b.0.0) tokens b.0.1 (term_sound tokens b.0.0 b.0.1 b.1))
@@ -163,9 +163,9 @@ next_step (Formula-F.Not f) place e = e
 next_step (Formula-F.Quantified q variable balls f) place e = e
 next_step (Formula-F.Group f) place e = e
 next_step (Formula-F.List j fs) place e =
-    let a = and_is (nat_le (rank j) place && nat_le 2 (length (map stands fs))) (list_all (λ f. f (rank j - 1)) (map stands fs)) e in
-    let b = and_is (nat_le (rank j) place) (nat_le 2 (length (map stands fs))) a.0 in
-    rw (le_next (rank j) place b.0, b.1, a.1) refl
+    let a = and_is (nat_le (join_rank j) place && nat_le 2 (length (map stands fs))) (list_all (λ f. f (join_rank j - 1)) (map stands fs)) e in
+    let b = and_is (nat_le (join_rank j) place) (nat_le 2 (length (map stands fs))) a.0 in
+    rw (le_next (join_rank j) place b.0, b.1, a.1) refl
 next_step (Formula-F.Implies f g) place e =
     let a = and_is (nat_le 3 place && stands f 2) (stands g 3) e in
     let b = and_is (nat_le 3 place) (stands f 2) a.0 in
@@ -214,19 +214,19 @@ more_sound : (j : Join) (member : Reader Formula) (place : ℕ) → IsSound memb
 more_sound j member place sound n tokens x e =
     members_take j place x.0 tokens x.1 (many_sound (IsMember j place) (begins j) (λ ts. member (drop 1 ts)) (member_sound j member place sound) n tokens x.0 x.1 e)
 
-close_takes : (j : Join) (place : ℕ) (f : Formula) (fs : List Formula) (tokens rest after : List Lexeme) → rank j ≡ suc place → Takes tokens place (f, rest) → TakesMore j rest place (fs, after)
+close_takes : (j : Join) (place : ℕ) (f : Formula) (fs : List Formula) (tokens rest after : List Lexeme) → join_rank j ≡ suc place → Takes tokens place (f, rest) → TakesMore j rest place (fs, after)
     → Takes tokens (suc place) (close j f fs, after)
 close_takes j place f [] tokens rest after ranked first others = (first.0 ∙ ap (λ (ts : List Lexeme). text f ++ ts) others.0, stands_more f place first.1)
 close_takes j place f (g ∷ gs) tokens rest after ranked first others =
-    let before : rank j - 1 ≡ place = omega (arith, ranked) in
+    let before : join_rank j - 1 ≡ place = omega (arith, ranked) in
     let two : nat_le 2 (length (map stands (f ∷ g ∷ gs))) ≡ true = le-leb 2 (length (map stands (f ∷ g ∷ gs))) (omega arith) in
-    let fits : nat_le (rank j) (suc place) ≡ true = le-leb (rank j) (suc place) (omega (arith, ranked)) in
-    let all : list_all (λ (h : ℕ → Bool). h (rank j - 1)) (map stands (f ∷ g ∷ gs)) ≡ true = subst (λ (p : ℕ). list_all (λ (h : ℕ → Bool). h p) (map stands (f ∷ g ∷ gs)) ≡ true) (sym before) (rw first.1 others.1) in (
+    let fits : nat_le (join_rank j) (suc place) ≡ true = le-leb (join_rank j) (suc place) (omega (arith, ranked)) in
+    let all : list_all (λ (h : ℕ → Bool). h (join_rank j - 1)) (map stands (f ∷ g ∷ gs)) ≡ true = subst (λ (p : ℕ). list_all (λ (h : ℕ → Bool). h p) (map stands (f ∷ g ∷ gs)) ≡ true) (sym before) (rw first.1 others.1) in (
       first.0 ∙ ap (λ (ts : List Lexeme). text f ++ ts) others.0 ∙ sym (append_assoc (text f) (more_text j (g ∷ gs)) after) ∙ ap (λ (ts : List Lexeme). ts ++ after) (sym (text_of (Formula-F.List j (f ∷ g ∷ gs)))),
       ap (λ (h : ℕ → Bool). h (suc place)) (stands_of (Formula-F.List j (f ∷ g ∷ gs))) ∙ rw (fits, two) all,
     )
 
-list_sound : (j : Join) (member : Reader Formula) (place : ℕ) → rank j ≡ suc place → IsSound member place → IsSound (list_at j member) (suc place)
+list_sound : (j : Join) (member : Reader Formula) (place : ℕ) → join_rank j ≡ suc place → IsSound member place → IsSound (list_at j member) (suc place)
 list_sound j member place ranked sound tokens x e =
     let b = bind_some (member tokens) (λ f. more_at j member (length f.1) f.1 >>= λ m. Some (close j f.0 m.0, m.1)) x e in
     let d = bind_some (more_at j member (length b.0.1) b.0.1) (λ m. Some (close j b.0.0 m.0, m.1)) x b.2 in
@@ -282,11 +282,11 @@ nothing = None
 nothing_some : {X : Type 0} (x : X) → nothing {X = X} ≡ Some x → ⊥
 nothing_some x e = absurd cc
 
-pub formula_sound : (tokens : List Lexeme) (x : Formula × List Lexeme) → formula_at tokens ≡ Some x → (tokens ≡ text x.0 ++ x.1) × IsFormula x.0
+pub formula_sound : (tokens : List Lexeme) (x : Formula × List Lexeme) → formula_at tokens ≡ Some x → (tokens ≡ text x.0 ++ x.1) × IsWrittenFormula x.0
 formula_sound tokens x e =
-    let b = bind_some (whole_at (unary_at 64) 64 tokens) (λ f. cond (nat_le (depth f.0) 64) (Some f) None) x e in
+    let b = bind_some (whole_at (unary_at 64) 64 tokens) (λ f. cond (nat_le (tree_depth f.0) 64) (Some f) None) x e in
     let s = whole_sound (unary_at 64) 64 (unary_sound 64) tokens b.0 b.1 in
-    elim (chosen (nat_le (depth b.0.0) 64) (Some b.0) None (Some x) b.2) [
-      | inl within ↦ subst (λ (x : Formula × List Lexeme). (tokens ≡ text x.0 ++ x.1) × IsFormula x.0) (some_is _ _ within.1) (s.0, record { grouped = s.1; shallow = leb-true (depth b.0.0) 64 within.0 })
+    elim (chosen (nat_le (tree_depth b.0.0) 64) (Some b.0) None (Some x) b.2) [
+      | inl within ↦ subst (λ (x : Formula × List Lexeme). (tokens ≡ text x.0 ++ x.1) × IsWrittenFormula x.0) (some_is _ _ within.1) (s.0, record { grouped = s.1; shallow = leb-true (tree_depth b.0.0) 64 within.0 })
       | inr deep ↦ absurd (nothing_some x deep.1)
     ]

@@ -32,13 +32,13 @@ move_text label = lexeme.Mark mark.Dot ∷ lexeme.Word label ∷ []
 abbrev pub term_text : Term → List Lexeme
 term_text t = lexeme.Word t.first ∷ flat_map move_text t.moves
 
-abbrev pub side_text : Side → List Lexeme
-side_text (side.Term t) = term_text t
-side_text (side.Number n) = lexeme.Number n ∷ []
+abbrev pub atom_side_text : Side → List Lexeme
+atom_side_text (side.Term t) = term_text t
+atom_side_text (side.Number n) = lexeme.Number n ∷ []
 
 abbrev pub atom_text : Atom → List Lexeme
-atom_text (atom.Equal t s) = term_text t ++ lexeme.Mark mark.Equal ∷ side_text s
-atom_text (atom.NotEqual t s) = term_text t ++ lexeme.Mark mark.NotEqual ∷ side_text s
+atom_text (atom.Equal t s) = term_text t ++ lexeme.Mark mark.Equal ∷ atom_side_text s
+atom_text (atom.NotEqual t s) = term_text t ++ lexeme.Mark mark.NotEqual ∷ atom_side_text s
 atom_text (atom.Adjacent t u) = term_text t ++ lexeme.Mark mark.Tilde ∷ term_text u
 atom_text (atom.Same t u) = term_text t ++ lexeme.Mark mark.At ∷ term_text u
 atom_text (atom.AtNode t n) = term_text t ++ lexeme.Mark mark.Colon ∷ name_lexeme n ∷ []
@@ -55,16 +55,16 @@ sign join.And = mark.And
 sign join.Or = mark.Or
 
 -- texts with a mark between each two
-abbrev pub joined : Mark → List (List Lexeme) → List Lexeme
-joined m [] = []
-joined m (t ∷ ts) = t ++ flat_map (λ u. lexeme.Mark m ∷ u) ts
+abbrev pub separated_by : Mark → List (List Lexeme) → List Lexeme
+separated_by m [] = []
+separated_by m (t ∷ ts) = t ++ flat_map (λ u. lexeme.Mark m ∷ u) ts
 
 abbrev pub text_step : Formula-F (List Lexeme) → List Lexeme
 text_step (Formula-F.Atom a) = atom_text a
 text_step (Formula-F.Not f) = lexeme.Mark mark.Not ∷ f
 text_step (Formula-F.Quantified q variable balls f) = lexeme.Mark (capital q) ∷ lexeme.Word variable ∷ lexeme.Mark mark.OpenList ∷ flat_map ball_text balls ++ lexeme.Mark mark.CloseList ∷ f
 text_step (Formula-F.Group f) = lexeme.Mark mark.Open ∷ f ++ lexeme.Mark mark.Close ∷ []
-text_step (Formula-F.List j fs) = joined (sign j) fs
+text_step (Formula-F.List j fs) = separated_by (sign j) fs
 text_step (Formula-F.Implies f g) = f ++ lexeme.Mark mark.Arrow ∷ g
 text_step (Formula-F.Iff f g) = f ++ lexeme.Mark mark.BothWays ∷ g
 
@@ -74,9 +74,9 @@ text = fold-Formula (List Lexeme) text_step
 
 -- The places of a formula, from the tightest: 0 behind `!` and a quantifier and as a member of an `&` list, 1 as a member
 -- of an `|` list, 2 left of `->`, 3 right of `->` and right of `<->`, 4 left of `<->`, in parentheses and alone.
-abbrev pub rank : Join → ℕ
-rank join.And = 1
-rank join.Or = 2
+abbrev pub join_rank : Join → ℕ
+join_rank join.And = 1
+join_rank join.Or = 2
 
 -- whether a formula may stand at such a place without parentheses
 abbrev pub stands_step : Formula-F (ℕ → Bool) → ℕ → Bool
@@ -84,34 +84,34 @@ stands_step (Formula-F.Atom a) place = true
 stands_step (Formula-F.Not f) place = f 0
 stands_step (Formula-F.Quantified q variable balls f) place = nat_le 1 (length balls) && f 0
 stands_step (Formula-F.Group f) place = f 4
-stands_step (Formula-F.List j fs) place = nat_le (rank j) place && nat_le 2 (length fs) && list_all (λ f. f (rank j - 1)) fs
+stands_step (Formula-F.List j fs) place = nat_le (join_rank j) place && nat_le 2 (length fs) && list_all (λ f. f (join_rank j - 1)) fs
 stands_step (Formula-F.Implies f g) place = nat_le 3 place && f 2 && g 3
 stands_step (Formula-F.Iff f g) place = nat_le 4 place && f 4 && g 3
 
 abbrev pub stands : Formula → ℕ → Bool
 stands = fold-Formula (ℕ → Bool) stands_step
 
-abbrev pub greatest : List ℕ → ℕ
-greatest [] = 0
-greatest (d ∷ ds) = max d (greatest ds)
+abbrev pub greatest_depth : List ℕ → ℕ
+greatest_depth [] = 0
+greatest_depth (d ∷ ds) = max d (greatest_depth ds)
 
-abbrev pub depth_step : Formula-F ℕ → ℕ
-depth_step (Formula-F.Atom a) = 0
-depth_step (Formula-F.Not d) = 1 + d
-depth_step (Formula-F.Quantified q variable balls d) = 1 + d
-depth_step (Formula-F.Group d) = 1 + d
-depth_step (Formula-F.List j ds) = 1 + greatest ds
-depth_step (Formula-F.Implies d e) = 1 + max d e
-depth_step (Formula-F.Iff d e) = 1 + max d e
+abbrev pub tree_depth_step : Formula-F ℕ → ℕ
+tree_depth_step (Formula-F.Atom a) = 0
+tree_depth_step (Formula-F.Not d) = 1 + d
+tree_depth_step (Formula-F.Quantified q variable balls d) = 1 + d
+tree_depth_step (Formula-F.Group d) = 1 + d
+tree_depth_step (Formula-F.List j ds) = 1 + greatest_depth ds
+tree_depth_step (Formula-F.Implies d e) = 1 + max d e
+tree_depth_step (Formula-F.Iff d e) = 1 + max d e
 
-abbrev pub depth : Formula → ℕ
-depth = fold-Formula ℕ depth_step
+abbrev pub tree_depth : Formula → ℕ
+tree_depth = fold-Formula ℕ tree_depth_step
 
 -- a depth, cut off at the first number over the limit
-abbrev pub cut : ℕ → ℕ
-cut n = min n 65
+abbrev pub cut_depth : ℕ → ℕ
+cut_depth n = min n 65
 
 -- A formula that stands alone, each of its parts at its place, and of a depth within the limit.
-pub record IsFormula (f : Formula) : Type 0 where
+pub record IsWrittenFormula (f : Formula) : Type 0 where
   pub grouped : stands f 4 ≡ true
-  pub shallow : depth f ≤ 64
+  pub shallow : tree_depth f ≤ 64

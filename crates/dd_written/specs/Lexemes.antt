@@ -29,13 +29,13 @@ mark_text mark.Colon = codes ":"
 mark_text mark.Arrow = codes "->"
 mark_text mark.BothWays = codes "<->"
 
-abbrev pub marks : List Mark
-marks =
+abbrev pub all_marks : List Mark
+all_marks =
     mark.Dot ∷ mark.Equal ∷ mark.Open ∷ mark.Close ∷ mark.And ∷ mark.Or ∷ mark.Not ∷ mark.NotEqual ∷ mark.Arrow ∷ mark.BothWays
     ∷ mark.OpenList ∷ mark.CloseList ∷ mark.Percent ∷ mark.All ∷ mark.Exists ∷ mark.Tilde ∷ mark.At ∷ mark.Colon ∷ []
 
 abbrev pub mark_at : List ℕ → Option Mark
-mark_at written = find (λ m. bytes_eq written (mark_text m)) marks
+mark_at written = find (λ m. bytes_eq written (mark_text m)) all_marks
 
 -- the bytes of a token
 abbrev pub token_text : List ℕ → Token → List ℕ

@@ -26,5 +26,5 @@ unsigned [] = []
 unsigned (b ∷ bytes) = if b == 45 then bytes else b ∷ bytes
 
 -- the absolute value of a number as it is written
-abbrev pub value : List ℕ → Number → ℕ
-value bytes n = decimal 0 (unsigned (number_text bytes n))
+abbrev pub written_value : List ℕ → Number → ℕ
+written_value bytes n = decimal 0 (unsigned (number_text bytes n))

@@ -1,12 +1,12 @@
 // How deep a formula is, as far as the limit asks.
 ghost use Rattle.std.specs.Prelude.{◌≡◌, ◌≤◌, ◌+◌, map, max};
-ghost use Rattle.dd_written.specs.Formulas.{depth, greatest, cut};
+ghost use Rattle.dd_written.specs.Formulas.{tree_depth, greatest_depth, cut_depth};
 
 use crate::tree::Formula;
 
 fn deeper(depth: u32) -> u32
     requires { depth ≤ 65 }
-    ensures { result ≡ cut (1 + depth) }
+    ensures { result ≡ cut_depth (1 + depth) }
 {
     (depth + 1).min(65)
 }
@@ -15,7 +15,7 @@ fn deeper(depth: u32) -> u32
 #[cycle(measure)]
 #[tactic(auto, using(crate::proofs::Depths::depths))]
 pub(crate) fn capped_depth(formula: &Formula) -> u32
-    ensures value { result ≡ cut (depth formula.now) }
+    ensures value { result ≡ cut_depth (tree_depth formula.now) }
     ensures within { result ≤ 65 }
 {
     match formula {
@@ -37,7 +37,7 @@ pub(crate) fn capped_depth(formula: &Formula) -> u32
 #[cycle(measure)]
 #[tactic(auto, using(crate::proofs::Depths::depths))]
 fn greatest(members: &[Formula]) -> u32
-    ensures value { result ≡ cut (greatest (map depth members.now)) }
+    ensures value { result ≡ cut_depth (greatest_depth (map tree_depth members.now)) }
     ensures within { result ≤ 65 }
 {
     let mut greatest = 0;

@@ -1,7 +1,7 @@
 //! The text of a script, in which names and numbers stand.
 ghost use Rattle.std.specs.Prelude.{◌≡◌, ◌≤◌, take, drop, length, min, IfOk};
 ghost use Rattle.std.specs.Str.{IsAscii};
-ghost use Rattle.dd_written.specs.Values.{name_text, decimal, unsigned, value};
+ghost use Rattle.dd_written.specs.Values.{name_text, decimal, unsigned, written_value};
 
 use crate::lexeme::Number;
 use crate::tree::Name;
@@ -94,7 +94,7 @@ pub fn name_text(text: &Text, name: Name) -> &str
 
 /// The absolute value of a number, and the greatest number of 32 bits for all that are greater.
 pub fn number_value(text: &Text, number: Number) -> u32
-    ensures { result ≡ min (value text.now number) 4294967295 }
+    ensures { result ≡ min (written_value text.now number) 4294967295 }
 {
     decimal(unsigned(part(text.bytes.as_slice(), number.start, number.length)))
 }

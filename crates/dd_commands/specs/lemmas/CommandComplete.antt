@@ -28,7 +28,7 @@ use Rattle.dd_commands.specs.declared.command.Command.TheVariants as command
 use Rattle.dd_commands.specs.declared.head.Head.{Head}
 use Rattle.dd_commands.specs.declared.head.Head.TheVariants as head
 use Rattle.dd_written.specs.Values.{word_text}
-use Rattle.dd_written.specs.Formulas.{text, name_lexeme, IsFormula}
+use Rattle.dd_written.specs.Formulas.{text, name_lexeme, IsWrittenFormula}
 use Rattle.dd_written.specs.reading.Readers.{◌>>=◌, Reader, many, ReadsAll}
 use Rattle.dd_written.specs.reading.Words.{starts_word, behind_word}
 use Rattle.dd_written.specs.reading.Atoms.{name_at}
@@ -36,7 +36,7 @@ use Rattle.dd_written.specs.reading.Formulas.{ends}
 use Rattle.dd_written.specs.reading.Laws.{FormulasAreRead}
 use Rattle.dd_commands.specs.Table.{row}
 use Rattle.dd_commands.specs.Heads.{head_text, head_of, kind_text}
-use Rattle.dd_commands.specs.Commands.{entry_lexeme, vector_text, is_plain, shear_text, IsPlainShear, edge_text, IsBehind, IsCase, AreCases, AreLists, IsRequest, request_text, IsBody, IsCommand}
+use Rattle.dd_commands.specs.Commands.{entry_lexeme, vector_text, is_plain, second_vector_text, IsPlainShear, edge_text, IsBehind, IsCase, AreCases, AreLists, IsRequest, request_text, IsBody, IsCommand}
 use Rattle.dd_commands.specs.reading.Vectors.{some_alone, exactly, word_at, is_name, is_number, number_at, is_entry, entry_at, names_at, numbers_at, vector_end, vector_at, plain_at, is_vector, shear_at, edge_at, is_edge, names_of}
 use Rattle.dd_commands.specs.reading.Heads.{head_at, kind_at}
 use Rattle.dd_commands.specs.reading.Commands.{case_at, cases_at, otherwise_of, lists_of, request_of, edges_of, topology_of, only_of, weights_of, rule_of, automaton_of, configuration_of, body_of, command_of}
@@ -91,7 +91,7 @@ plain_again : (v : Vector) (rest : List Lexeme) → is_plain v ≡ true → plai
 plain_again v rest plain = rw (vector_again v rest, plain) refl
 
 -- what follows begins no vector
-shear_again : (s : Option Vector) (rest : List Lexeme) → IsPlainShear s → is_vector rest ≡ false → shear_at (shear_text s ++ rest) ≡ Some (s, rest)
+shear_again : (s : Option Vector) (rest : List Lexeme) → IsPlainShear s → is_vector rest ≡ false → shear_at (second_vector_text s ++ rest) ≡ Some (s, rest)
 shear_again None rest plain ended = rw ended refl
 shear_again (Some v) rest plain ended = rw (plain_again v rest plain) refl
 
@@ -253,7 +253,7 @@ module _ (law : FormulasAreRead) where
       let read : numbers_at (map lexeme.Number ns) ≡ Some (ns, []) = ap numbers_at (sym (append-nil (map lexeme.Number ns))) ∙ ones_again is_number number_at (λ n. lexeme.Number n) number_takes ns [] refl in
       rw (read, some_again ns some) refl
 
-  rule_again : (name : Word) (f : Formula) → IsFormula f → rule_of (lexeme.Word name ∷ text f) ≡ Some (command.Rule name f)
+  rule_again : (name : Word) (f : Formula) → IsWrittenFormula f → rule_of (lexeme.Word name ∷ text f) ≡ Some (command.Rule name f)
   rule_again name f is =
       ap (λ (ts : List Lexeme). rule_of (lexeme.Word name ∷ ts)) (sym (append-nil (text f))) ∙ rw (law.read f [] is refl) refl
 
@@ -264,9 +264,9 @@ module _ (law : FormulasAreRead) where
       rw (read, last) refl
 
   configuration_again : (name : Word) (periods : Vector) (shear : Option Vector) (symbols : List Name) → 1 ≤ length symbols → is_plain periods ≡ true → IsPlainShear shear
-      → configuration_of (lexeme.Word name ∷ vector_text periods ++ (shear_text shear ++ map name_lexeme symbols)) ≡ Some (command.Configuration name periods shear symbols)
+      → configuration_of (lexeme.Word name ∷ vector_text periods ++ (second_vector_text shear ++ map name_lexeme symbols)) ≡ Some (command.Configuration name periods shear symbols)
   configuration_again name periods shear symbols some plain sheared =
-      rw (plain_again periods (shear_text shear ++ map name_lexeme symbols) plain, shear_again shear (map name_lexeme symbols) sheared (names_no_vector symbols), names_end_again symbols some) refl
+      rw (plain_again periods (second_vector_text shear ++ map name_lexeme symbols) plain, shear_again shear (map name_lexeme symbols) sheared (names_no_vector symbols), names_end_again symbols some) refl
 
   only_again : (node : Name) (symbols : List Name) → 1 ≤ length symbols → only_of (name_lexeme node ∷ map name_lexeme symbols) ≡ Some (command.Only node symbols)
   only_again node symbols some = rw (name_again node (map name_lexeme symbols), names_end_again symbols some) refl

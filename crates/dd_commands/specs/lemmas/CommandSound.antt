@@ -31,9 +31,9 @@ use Rattle.dd_written.specs.reading.Formulas.{formula_at}
 use Rattle.dd_written.specs.reading.Laws.{FormulasAreRead}
 use Rattle.dd_commands.specs.Table.{row, questions}
 use Rattle.dd_commands.specs.Heads.{head_text, head_of, kind_text}
-use Rattle.dd_commands.specs.Commands.{entry_lexeme, vector_text, is_plain, shear_text, IsPlainShear, edge_text, IsBehind, IsCase, AreLists, IsRequest, request_text, IsBody, IsCommand}
+use Rattle.dd_commands.specs.Commands.{entry_lexeme, vector_text, is_plain, second_vector_text, IsPlainShear, edge_text, IsBehind, IsCase, AreLists, IsRequest, request_text, IsBody, IsCommand}
 use Rattle.dd_commands.specs.reading.Vectors.{alone, some_alone, exactly, word_at, is_name, is_number, number_at, is_entry, entry_at, names_at, numbers_at, entries_at, vector_end, vector_at, plain_at, is_vector, vectors_at, shear_at, edge_start, edge_end, edge_at, is_edge, edges_at, names_of}
-use Rattle.dd_commands.specs.reading.Heads.{plain_heads, plain_at as plain_head_at, question_at, or_question, head_at, kinds, kind_at}
+use Rattle.dd_commands.specs.reading.Heads.{plain_heads, plain_head as plain_head_at, question_at, or_question, head_at, kinds, kind_at}
 use Rattle.dd_commands.specs.reading.Commands.{case_at, cases_at, otherwise_of, lists_of, request_of, dimension_of, edges_of, topology_of, only_of, weights_of, limits_of, rule_of, automaton_of, composition_of, configuration_of, body_of, command_of}
 use Rattle.dd_commands.specs.lemmas.Options.{bind_some, some_is, chosen}
 use Rattle.dd_commands.specs.lemmas.Many.{many_sound, ByText, texts_read}
@@ -110,13 +110,13 @@ plain_sound tokens x e =
       | inr other ↦ absurd (nothing_some x other.1)
     ]
 
-shear_sound : (tokens : List Lexeme) (x : Option Vector × List Lexeme) → shear_at tokens ≡ Some x → (tokens ≡ shear_text x.0 ++ x.1) × IsPlainShear x.0
+shear_sound : (tokens : List Lexeme) (x : Option Vector × List Lexeme) → shear_at tokens ≡ Some x → (tokens ≡ second_vector_text x.0 ++ x.1) × IsPlainShear x.0
 shear_sound tokens x e =
     elim (chosen (is_vector tokens) (plain_at tokens >>= λ v. Some (Some v.0, v.1)) (Some (None, tokens)) (Some x) e) [
       | inl there ↦
           let b = bind_some (plain_at tokens) (λ v. Some (Some v.0, v.1)) x there.1 in
-          subst (λ (y : Option Vector × List Lexeme). (tokens ≡ shear_text y.0 ++ y.1) × IsPlainShear y.0) (some_is _ _ b.2) (plain_sound tokens b.0 b.1)
-      | inr other ↦ subst (λ (y : Option Vector × List Lexeme). (tokens ≡ shear_text y.0 ++ y.1) × IsPlainShear y.0) (some_is _ _ other.1) (refl, tt)
+          subst (λ (y : Option Vector × List Lexeme). (tokens ≡ second_vector_text y.0 ++ y.1) × IsPlainShear y.0) (some_is _ _ b.2) (plain_sound tokens b.0 b.1)
+      | inr other ↦ subst (λ (y : Option Vector × List Lexeme). (tokens ≡ second_vector_text y.0 ++ y.1) × IsPlainShear y.0) (some_is _ _ other.1) (refl, tt)
     ]
 
 vectors_sound : (tokens : List Lexeme) (vs : List Vector) (rest : List Lexeme) → vectors_at tokens ≡ Some (vs, rest) → tokens ≡ flat_map vector_text vs ++ rest
@@ -284,7 +284,7 @@ module _ (law : FormulasAreRead) where
           s.0,
           p.1,
           q.1,
-          ap (λ (ts : List Lexeme). lexeme.Word name ∷ ts) (p.0 ∙ ap (λ (ts : List Lexeme). vector_text a.0.0 ++ ts) (q.0 ∙ ap (λ (ts : List Lexeme). shear_text b.0.0 ++ ts) s.1)),
+          ap (λ (ts : List Lexeme). lexeme.Word name ∷ ts) (p.0 ∙ ap (λ (ts : List Lexeme). vector_text a.0.0 ++ ts) (q.0 ∙ ap (λ (ts : List Lexeme). second_vector_text b.0.0 ++ ts) s.1)),
         ),
       )
   configuration_body bytes tokens c e = absurd cc

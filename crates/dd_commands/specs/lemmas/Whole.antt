@@ -12,7 +12,7 @@ use Rattle.dd_commands.specs.declared.script.Written.{Written}
 use Rattle.dd_commands.specs.Heads.{head_of, stage}
 use Rattle.dd_commands.specs.Scripts.{is_whole, stage_of, MayStand}
 use Rattle.dd_commands.specs.reading.Commands.{command_of}
-use Rattle.dd_commands.specs.reading.Parts.{Decides}
+use Rattle.dd_commands.specs.reading.Parts.{FindsIfAny}
 use Rattle.dd_commands.specs.lemmas.Options.{some_is}
 use Rattle.dd_commands.specs.lemmas.CommandSound.{command_sound}
 use Rattle.dd_commands.specs.lemmas.CommandComplete.{command_again}
@@ -38,6 +38,6 @@ module _ (law : FormulasAreRead) where
       let equal : stage (head_of c) ≡ stage_of w = ap (λ d. stage (head_of d)) same in
       omega (arith, lt, equal, may.ordered)
 
-  pub fails_decides : (bytes : List ℕ) (from : ℕ) (part : List Lexeme) (e : ReadFault) → Fails e (command_of bytes part) → Decides (Err e) (MayStand bytes from part)
+  pub fails_decides : (bytes : List ℕ) (from : ℕ) (part : List Lexeme) (e : ReadFault) → Fails e (command_of bytes part) → FindsIfAny (Err e) (MayStand bytes from part)
   fails_decides bytes from part faults.Memory fails = tt
   fails_decides bytes from part faults.Syntax fails = λ w may. none_some (command_of bytes part) w.command fails (command_again law bytes part w.command may.is)

@@ -15,8 +15,8 @@ plain_heads =
     head.Dimension ∷ head.Nodes ∷ head.Alphabet ∷ head.Topology ∷ head.Only ∷ head.Weights ∷ head.Limits ∷ head.Rule ∷ head.Automaton
     ∷ head.Composition ∷ head.Configuration ∷ []
 
-abbrev pub plain_at : List ℕ → Option Head
-plain_at written = find (λ h. bytes_eq written (head_text h)) plain_heads
+abbrev pub plain_head : List ℕ → Option Head
+plain_head written = find (λ h. bytes_eq written (head_text h)) plain_heads
 
 abbrev pub question_at : List ℕ → Option Question
 question_at written = find (λ q. bytes_eq written (row q).word) questions
@@ -27,7 +27,7 @@ or_question None (Some q) = Some (head.Question q)
 or_question None None = None
 
 abbrev pub head_at : List ℕ → Option Head
-head_at written = or_question (plain_at written) (question_at written)
+head_at written = or_question (plain_head written) (question_at written)
 
 abbrev pub kinds : List Kind
 kinds = kind.Line ∷ kind.Square ∷ kind.King ∷ kind.Triangle ∷ kind.Hex ∷ kind.Cube ∷ []

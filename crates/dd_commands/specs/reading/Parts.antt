@@ -11,10 +11,10 @@ use Rattle.dd_commands.specs.declared.fault.SyntaxFault.TheVariants as fault
 use Rattle.dd_commands.specs.Scripts.{AreWritten, IsBadCommand}
 
 -- A function returned what it was asked for, or nothing is what it was asked for, or memory ran out.
-abbrev pub Decides : {X : Type 0} → Result X ReadFault → (X → Type 0) → Type 0
-Decides (Ok x) P = P x
-Decides (Err faults.Memory) P = Unit {0}
-Decides {X} (Err faults.Syntax) P = (x : X) → P x → ⊥
+abbrev pub FindsIfAny : {X : Type 0} → Result X ReadFault → (X → Type 0) → Type 0
+FindsIfAny (Ok x) P = P x
+FindsIfAny (Err faults.Memory) P = Unit {0}
+FindsIfAny {X} (Err faults.Syntax) P = (x : X) → P x → ⊥
 
 abbrev pub is_inside : Lexeme → Bool
 is_inside (lexeme.Mark mark.Percent) = false

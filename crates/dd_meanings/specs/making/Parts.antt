@@ -25,7 +25,7 @@ use Rattle.dd_faults.specs.Order.{over}
 use Rattle.dd_faults.specs.Commands.{dimension_of, period_at, shear_of}
 use Rattle.dd_meanings.specs.declared.cases.CaseOf.{CaseOf}
 use Rattle.dd_meanings.specs.Formulas.{formula_of}
-use Rattle.dd_meanings.specs.Definitions.{symbol_of, periods_of}
+use Rattle.dd_meanings.specs.Definitions.{symbol_of, configuration_periods}
 
 abbrev pub too_large : Limit → Refusal
 too_large l = refusal.At (fault.Size l)
@@ -79,4 +79,4 @@ pub record HasShortPeriods (bytes : List ℕ) (v : Vector) : Type 0 where
 -- the configuration with these symbols in its fundamental box
 abbrev pub tile_with : Context → Vector → Option Vector → List ℕ → Tile
 tile_with x periods shear symbols =
-    tile (dimension_of x.known) (with_shear (periods_of x.text periods) (shear_of x.text shear)) x.known.setting.topology.nodes symbols
+    tile (dimension_of x.known) (with_shear (configuration_periods x.text periods) (shear_of x.text shear)) x.known.setting.topology.nodes symbols

@@ -12,7 +12,7 @@ use Rattle.dd_script.specs.declared.fault.ScriptFault.{ScriptFault}
 use Rattle.dd_script.specs.declared.fault.ScriptKind.{ScriptKind}
 use Rattle.dd_script.specs.declared.fault.ScriptKind.TheVariants as refused
 use Rattle.dd_script.specs.Parts.{Parts, IsScriptOf}
-use Rattle.dd_script.specs.Walk.{with, context, fault_of, next, located, first_of, script_of}
+use Rattle.dd_script.specs.Walk.{with, context, fault_of, next, located, first_located_fault, script_of}
 use Rattle.dd_script.specs.Scripts.{unknown, twice, dimension, size, kind_of, HasFault}
 
 abbrev pub parts_of : Draft → Parts
@@ -55,14 +55,14 @@ Stays d w e (refusal.At f) = (e ≡ d) × (fault_at d w ≡ Some f)
 
 -- the commands of the text have no fault, and this is their script
 pub record Ends (text : List ℕ) (ws : List Written) (e : Draft) : Type 0 where
-  pub faultless : first_of text ws ≡ None
+  pub faultless : first_located_fault text ws ≡ None
   pub script : parts_of e ≡ script_of text ws
   pub kept : IsScriptOf (parts_of e)
 
 -- the first fault of the commands of the text is this, and the draft stands at its command; or memory was wanting
 abbrev pub Stops : List ℕ → List Written → Draft → Refusal → Type 0
 Stops text ws e refusal.Memory = e.context.text ≡ text
-Stops text ws e (refusal.At f) = (e.context.text ≡ text) × (first_of text ws ≡ Some (located e.context.number f))
+Stops text ws e (refusal.At f) = (e.context.text ≡ text) × (first_located_fault text ws ≡ Some (located e.context.number f))
 
 -- the text is one of the grammar, and the first fault of its commands is this; or memory was wanting
 abbrev pub StopsIn : List ℕ → ℕ → Refusal → Type 0

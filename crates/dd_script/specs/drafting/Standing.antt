@@ -1,7 +1,7 @@
 -- How commands stand in a script.
 use Rattle.std.specs.Prelude.{ℕ, ◌≡◌, ◌≤◌, List, [], ◌∷◌, Bool, true, false}
 use Rattle.dd_commands.specs.declared.script.Written.{Written}
-use Rattle.dd_commands.specs.Scripts.{stage_of, next_of}
+use Rattle.dd_commands.specs.Scripts.{stage_of, stage_after}
 use Rattle.dd_meanings.specs.declared.meaning.Meaning.{Meaning}
 use Rattle.dd_meanings.specs.declared.meaning.Meaning.TheVariants as meaning
 use Rattle.dd_script.specs.Parts.{Parts}
@@ -9,7 +9,7 @@ use Rattle.dd_script.specs.Parts.{Parts}
 -- commands in the order of their places, from a place on
 abbrev pub AreOrdered : ℕ → List Written → Type 0
 AreOrdered from [] = Unit {0}
-AreOrdered from (w ∷ ws) = (from ≤ stage_of w) × AreOrdered (next_of w) ws
+AreOrdered from (w ∷ ws) = (from ≤ stage_of w) × AreOrdered (stage_after w) ws
 
 -- nothing is defined and nothing is asked
 pub record IsFresh (s : Parts) : Type 0 where

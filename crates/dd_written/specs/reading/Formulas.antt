@@ -9,7 +9,7 @@ use Rattle.dd_written.specs.declared.tree.Join.{Join}
 use Rattle.dd_written.specs.declared.tree.Join.TheVariants as join
 use Rattle.dd_written.specs.declared.tree.Formula.{Formula, roll-Formula}
 use Rattle.dd_written.specs.declared.tree.Formula.TheOpen.{Formula-F}
-use Rattle.dd_written.specs.Formulas.{depth}
+use Rattle.dd_written.specs.Formulas.{tree_depth}
 use Rattle.dd_written.specs.reading.Readers.{◌>>=◌, Reader, many}
 use Rattle.dd_written.specs.reading.Atoms.{leaf_at, quantor_at}
 
@@ -113,7 +113,7 @@ unary_at (suc n) tokens = nested_at (unary_at n) n tokens
 abbrev pub formula_at : Reader Formula
 formula_at tokens = do
   f ← whole_at (unary_at 64) 64 tokens
-  if nat_le (depth f.0) 64 then Some f else None
+  if nat_le (tree_depth f.0) 64 then Some f else None
 
 -- what follows a formula that stands at a place, and cannot belong to it
 abbrev pub ends : ℕ → List Lexeme → Bool

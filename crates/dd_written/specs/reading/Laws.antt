@@ -2,10 +2,10 @@
 use Rattle.std.specs.Prelude.{◌≡◌, List, ◌++◌, true, Some}
 use Rattle.dd_written.specs.declared.lexeme.Lexeme.{Lexeme}
 use Rattle.dd_written.specs.declared.tree.Formula.{Formula}
-use Rattle.dd_written.specs.Formulas.{text, IsFormula}
+use Rattle.dd_written.specs.Formulas.{text, IsWrittenFormula}
 use Rattle.dd_written.specs.reading.Formulas.{formula_at, ends}
 
 -- What is read of a formula is written so; and a formula is read wherever what follows it cannot belong to it.
 pub record FormulasAreRead : Type 0 where
-  pub written : (tokens : List Lexeme) (x : Formula × List Lexeme) → formula_at tokens ≡ Some x → (tokens ≡ text x.0 ++ x.1) × IsFormula x.0
-  pub read : (f : Formula) (rest : List Lexeme) → IsFormula f → ends 4 rest ≡ true → formula_at (text f ++ rest) ≡ Some (f, rest)
+  pub written : (tokens : List Lexeme) (x : Formula × List Lexeme) → formula_at tokens ≡ Some x → (tokens ≡ text x.0 ++ x.1) × IsWrittenFormula x.0
+  pub read : (f : Formula) (rest : List Lexeme) → IsWrittenFormula f → ends 4 rest ≡ true → formula_at (text f ++ rest) ≡ Some (f, rest)

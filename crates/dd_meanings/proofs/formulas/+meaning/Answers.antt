@@ -1,6 +1,6 @@
 use Rattle.std.proofs.Common.{◌≡◌, ◌+◌, ◌<◌, map, length, refl, ap, sym, ◌∙◌, ◌++◌, ◌∷◌, [], arith}
 use Rattle.std.specs.List.{flat_map}
-use Rattle.dd_written.specs.Formulas.{depth, greatest}
+use Rattle.dd_written.specs.Formulas.{tree_depth, greatest_depth}
 use Rattle.dd_faults.specs.Formulas.{ball_faults, formula_faults}
 use Rattle.dd_meanings.specs.Formulas.{formula_of}
 use Rattle.dd_meanings.proofs.Nothing.{none_item}
@@ -18,7 +18,7 @@ pub formula_in-formula_in-requires : goal.formula_in-formula_in-requires
 formula_in-formula_in-requires t c =
     let n = c.in-Not in
     let deep = depth_not c.args.formula.now n.inner n.is in
-    let same = ap depth c.get.ensures in
+    let same = ap tree_depth c.get.ensures in
     let part = not_part c.args.context.now c.args.scope.now c.args.formula.now n.inner n.is c.requires.faultless in
     (omega (arith, deep, same, c.decreases), (omega (arith, deep, same, c.requires.shallow), ap (λ h. formula_faults c.args.context.now h c.args.scope.now) c.get.ensures ∙ part))
 
@@ -26,7 +26,7 @@ pub formula_in-formula_in-requires-in-Group : goal.formula_in-formula_in-require
 formula_in-formula_in-requires-in-Group t c =
     let n = c.in-Group in
     let deep = depth_group c.args.formula.now n.inner n.is in
-    let same = ap depth c.get-in-Group.ensures in
+    let same = ap tree_depth c.get-in-Group.ensures in
     let part = group_part c.args.context.now c.args.scope.now c.args.formula.now n.inner n.is c.requires.faultless in
     (omega (arith, deep, same, c.decreases), (omega (arith, deep, same, c.requires.shallow), ap (λ h. formula_faults c.args.context.now h c.args.scope.now) c.get-in-Group.ensures ∙ part))
 
@@ -35,8 +35,8 @@ formula_in-formula_in-requires-in-Quantified t c =
     let q = c.in-Quantified in
     let parts = quantified_parts c.args.context.now c.args.scope.now c.args.formula.now q.quantor q.variable q.written q.body q.is c.requires.faultless in
     let scope : c.as_slice-in-Quantified.result.now ≡ c.args.scope.now ++ q.variable ∷ [] = c.as_slice-in-Quantified.ensures ∙ c.in_ok-inner-in-Quantified.ensures in
-    let deep : depth c.args.formula.now ≡ 1 + depth c.get-in-Quantified.result.now =
-    depth_quantified c.args.formula.now q.quantor q.variable q.written q.body q.is ∙ ap (λ h. 1 + depth h) (sym c.get-in-Quantified.ensures) in
+    let deep : tree_depth c.args.formula.now ≡ 1 + tree_depth c.get-in-Quantified.result.now =
+    depth_quantified c.args.formula.now q.quantor q.variable q.written q.body q.is ∙ ap (λ h. 1 + tree_depth h) (sym c.get-in-Quantified.ensures) in
     (omega (arith, deep, c.decreases), (deeper c.args.scope.now c.as_slice-in-Quantified.result.now q.variable _ _ scope deep c.requires.shallow, ap (λ h. formula_faults c.args.context.now h c.as_slice-in-Quantified.result.now) c.get-in-Quantified.ensures ∙ (ap (formula_faults c.args.context.now q.body) scope ∙ parts.1)))
 
 pub formula_in-members_in-requires : goal.formula_in-members_in-requires
@@ -50,7 +50,7 @@ pub formula_in-formula_in-requires-in-Implies : goal.formula_in-formula_in-requi
 formula_in-formula_in-requires-in-Implies t c =
     let i = c.in-Implies in
     let deep = depth_implies c.args.formula.now i.premise i.conclusion i.is in
-    let same = ap depth c.get-in-Implies.ensures in
+    let same = ap tree_depth c.get-in-Implies.ensures in
     let parts = implies_parts c.args.context.now c.args.scope.now c.args.formula.now i.premise i.conclusion i.is c.requires.faultless in
     (omega (arith, deep, same, c.decreases), (omega (arith, deep, same, c.requires.shallow), ap (λ h. formula_faults c.args.context.now h c.args.scope.now) c.get-in-Implies.ensures ∙ parts.0))
 
@@ -58,7 +58,7 @@ pub formula_in-formula_in-requires-in-Implies-2 : goal.formula_in-formula_in-req
 formula_in-formula_in-requires-in-Implies-2 t c =
     let i = c.in-Implies in
     let deep = depth_implies c.args.formula.now i.premise i.conclusion i.is in
-    let same = ap depth c.get-in-Implies-2.ensures in
+    let same = ap tree_depth c.get-in-Implies-2.ensures in
     let parts = implies_parts c.args.context.now c.args.scope.now c.args.formula.now i.premise i.conclusion i.is c.requires.faultless in
     (omega (arith, deep, same, c.decreases), (omega (arith, deep, same, c.requires.shallow), ap (λ h. formula_faults c.args.context.now h c.args.scope.now) c.get-in-Implies-2.ensures ∙ parts.1))
 
@@ -66,7 +66,7 @@ pub formula_in-formula_in-requires-in-Iff : goal.formula_in-formula_in-requires-
 formula_in-formula_in-requires-in-Iff t c =
     let i = c.in-Iff in
     let deep = depth_iff c.args.formula.now i.left i.right i.is in
-    let same = ap depth c.get-in-Iff.ensures in
+    let same = ap tree_depth c.get-in-Iff.ensures in
     let parts = iff_parts c.args.context.now c.args.scope.now c.args.formula.now i.left i.right i.is c.requires.faultless in
     (omega (arith, deep, same, c.decreases), (omega (arith, deep, same, c.requires.shallow), ap (λ h. formula_faults c.args.context.now h c.args.scope.now) c.get-in-Iff.ensures ∙ parts.0))
 
@@ -74,7 +74,7 @@ pub formula_in-formula_in-requires-in-Iff-2 : goal.formula_in-formula_in-require
 formula_in-formula_in-requires-in-Iff-2 t c =
     let i = c.in-Iff in
     let deep = depth_iff c.args.formula.now i.left i.right i.is in
-    let same = ap depth c.get-in-Iff-2.ensures in
+    let same = ap tree_depth c.get-in-Iff-2.ensures in
     let parts = iff_parts c.args.context.now c.args.scope.now c.args.formula.now i.left i.right i.is c.requires.faultless in
     (omega (arith, deep, same, c.decreases), (omega (arith, deep, same, c.requires.shallow), ap (λ h. formula_faults c.args.context.now h c.args.scope.now) c.get-in-Iff-2.ensures ∙ parts.1))
 
@@ -87,7 +87,7 @@ members_in-formula_in-requires t c =
     let members = c.args.members.now in
     let at = c.loop-member.member-index in
     let within : at < length members = omega arith in
-    let below = member_depth members at 0 (greatest (map depth members)) c.member-item.result within c.member-item.is (omega arith) in
+    let below = member_depth members at 0 (greatest_depth (map tree_depth members)) c.member-item.result within c.member-item.is (omega arith) in
     (omega (arith, below, c.decreases), (member_depth members at (length c.args.scope.now) 64 c.member-item.result within c.member-item.is c.requires.shallow, none_item (λ f. formula_faults c.args.context.now f c.args.scope.now) members at c.member-item.result within c.member-item.is c.requires.faultless))
 
 pub members_in-loop-member-preserved : goal.members_in-loop-member-preserved

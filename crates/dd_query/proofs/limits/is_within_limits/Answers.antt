@@ -6,14 +6,14 @@ use Rattle.dd_faults.specs.Order.{over, first_fault, Accepts}
 use Rattle.dd_faults.specs.declared.context.Known.{Known}
 use Rattle.dd_query.specs.Limits.{about, contains_sizes, equal_sizes, empty_sizes, agree_sizes, query_sizes}
 use Rattle.dd_query.specs.Limits.{has_many_patterns, has_many_states, strip_volume}
-use Rattle.dd_query.specs.Sound.{IsWithin}
+use Rattle.dd_query.specs.Sound.{IsQueryWithin}
 use Rattle.dd_query.proofs.LimitLaws.{accepts_at, accepts_over, have_nodes}
 use Rattle.dd_query.proofs.limits.is_within_limits.Goals as goal
 
 pub agree_within-requires-clause-nodes : goal.agree_within-requires-clause-nodes
 agree_within-requires-clause-nodes c =
     let k : Known = c.args.known.now in
-    let numbers = subst (IsWithin k) c.in-Agree.is c.requires.within in
+    let numbers = subst (IsQueryWithin k) c.in-Agree.is c.requires.within in
     have_nodes k c.args.rules.now c.args.automata.now c.in-Agree.left c.in-Agree.right c.in-Agree.rule
     c.index-automata-left.result c.index-automata-right.result c.index-rules-rule-in-Agree.result c.requires.made numbers.0 numbers.1 numbers.2
     c.index-automata-left.is c.index-automata-right.is c.index-rules-rule-in-Agree.is
@@ -24,7 +24,7 @@ returns-in-Contains c =
     let rules : List LocalRule = c.args.rules.now in
     let automata : List Automaton = c.args.automata.now in
     let r = c.contains_within.result in
-    let numbers = subst (IsWithin k) c.in-Contains.is c.requires.within in
+    let numbers = subst (IsQueryWithin k) c.in-Contains.is c.requires.within in
     let named = c.requires.made.rules_named in
     let y = c.index-rules-outer.result in
     let x = c.index-rules-inner.result in
@@ -40,7 +40,7 @@ returns-in-Equal c =
     let rules : List LocalRule = c.args.rules.now in
     let automata : List Automaton = c.args.automata.now in
     let r = c.equal_within.result in
-    let numbers = subst (IsWithin k) c.in-Equal.is c.requires.within in
+    let numbers = subst (IsQueryWithin k) c.in-Equal.is c.requires.within in
     let named = c.requires.made.rules_named in
     let x = c.index-rules-left.result in
     let y = c.index-rules-right.result in
@@ -56,7 +56,7 @@ returns-in-Empty c =
     let rules : List LocalRule = c.args.rules.now in
     let automata : List Automaton = c.args.automata.now in
     let r = c.empty_within.result in
-    let number = subst (IsWithin k) c.in-Empty.is c.requires.within in
+    let number = subst (IsQueryWithin k) c.in-Empty.is c.requires.within in
     let named = c.requires.made.rules_named in
     subst (λ q. Accepts r (first_fault (query_sizes k rules automata q))) (sym c.in-Empty.is)
     (accepts_at r rules c.in-Empty.rule c.index-rules-rule.result (empty_sizes k)
@@ -68,7 +68,7 @@ returns-in-Agree c =
     let rules : List LocalRule = c.args.rules.now in
     let automata : List Automaton = c.args.automata.now in
     let r = c.agree_within.result in
-    let numbers = subst (IsWithin k) c.in-Agree.is c.requires.within in
+    let numbers = subst (IsQueryWithin k) c.in-Agree.is c.requires.within in
     let ruled = c.requires.made.rules_named in
     let named = c.requires.made.automata_named in
     let f : Automaton = c.index-automata-left.result in
@@ -88,7 +88,7 @@ returns-in-Forbidden c =
     let rules : List LocalRule = c.args.rules.now in
     let automata : List Automaton = c.args.automata.now in
     let r = c.refuse_if.result in
-    let number = subst (IsWithin k) c.in-Forbidden.is c.requires.within in
+    let number = subst (IsQueryWithin k) c.in-Forbidden.is c.requires.within in
     let named = c.requires.made.rules_named in
     let x = c.index-rules-rule-in-Forbidden.result in
     subst (λ q. Accepts r (first_fault (query_sizes k rules automata q))) (sym c.in-Forbidden.is)
@@ -102,7 +102,7 @@ returns-in-Density c =
     let rules : List LocalRule = c.args.rules.now in
     let automata : List Automaton = c.args.automata.now in
     let r = c.refuse_if-in-Density.result in
-    let number = subst (IsWithin k) c.in-Density.is c.requires.within in
+    let number = subst (IsQueryWithin k) c.in-Density.is c.requires.within in
     let named = c.requires.made.rules_named in
     let x = c.index-rules-rule-in-Density.result in
     let strip : List ℕ = c.in-Density.strip in

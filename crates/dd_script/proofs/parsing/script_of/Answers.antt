@@ -1,6 +1,6 @@
 use Rattle.std.proofs.Common.{ℕ, List, ap, subst}
 use Rattle.dd_script.specs.declared.draft.Draft.{Draft}
-use Rattle.dd_script.specs.Scripts.{IsRefusal}
+use Rattle.dd_script.specs.Scripts.{IsScriptRefusal}
 use Rattle.dd_script.proofs.Telling.{each_written, in_order, of_text}
 use Rattle.dd_script.proofs.parsing.script_of.Goals as goal
 
@@ -13,5 +13,5 @@ walk-requires-clause-ordered c = in_order c.args.syntax.text c.args.syntax c.as_
 
 pub returns-clause-refused : goal.returns-clause-refused
 returns-clause-refused c =
-    subst (λ (t : List ℕ). IsRefusal t c.told.result) (ap (λ (d : Draft). d.context.text) c.in-Ok.ensures.begun)
+    subst (λ (t : List ℕ). IsScriptRefusal t c.told.result) (ap (λ (d : Draft). d.context.text) c.in-Ok.ensures.begun)
     (of_text c.in-Ok.draft.context.text c.as_slice-2.result.now c.walk.new.draft c.in-Err-walk.refusal c.told.result c.in-Err-walk.ensures c.told.ensures)

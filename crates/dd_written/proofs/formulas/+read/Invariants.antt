@@ -1,5 +1,5 @@
 use Rattle.std.proofs.Common.{◌≡◌, ◌-◌, ◌+◌, ◌*◌, length}
-use Rattle.dd_written.specs.Formulas.{rank}
+use Rattle.dd_written.specs.Formulas.{join_rank}
 use Rattle.dd_written.specs.reading.Formulas.{more_at, member_at, unary_at}
 use Rattle.dd_written.specs.reading.Readers.{with_front}
 use Rattle.dd_written.proofs.formulas.+read.Given as goal
@@ -11,16 +11,16 @@ abbrev pub decreases-unary : goal.decreases-unary
 decreases-unary l = 300 * l.budget
 
 abbrev pub decreases-member : goal.decreases-member
-decreases-member l = 300 * l.budget + 4 * rank l.join - 3
+decreases-member l = 300 * l.budget + 4 * join_rank l.join - 3
 
 abbrev pub decreases-more_members : goal.decreases-more_members
-decreases-more_members l = 300 * l.budget + 4 * rank l.join - 2
+decreases-more_members l = 300 * l.budget + 4 * join_rank l.join - 2
 
 abbrev pub decreases-list_end : goal.decreases-list_end
-decreases-list_end l = 300 * l.budget + 4 * rank l.join - 1
+decreases-list_end l = 300 * l.budget + 4 * join_rank l.join - 1
 
 abbrev pub decreases-list : goal.decreases-list
-decreases-list l = 300 * l.budget + 4 * rank l.join
+decreases-list l = 300 * l.budget + 4 * join_rank l.join
 
 abbrev pub decreases-implication : goal.decreases-implication
 decreases-implication l = 300 * l.budget + 2 * l.limit + 9
