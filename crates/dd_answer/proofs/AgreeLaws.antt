@@ -39,7 +39,7 @@ use Rattle.dd_script.specs.Parts.{Parts}
 use Rattle.dd_script.specs.Questions.{Asked, membership, box, equality, listing, density, discharge, asked}
 use Rattle.dd_script.specs.Asking.{IsSoundAsked, AreSound}
 use Rattle.dd_evidence.specs.Cells.{written_cell}
-use Rattle.dd_evidence.specs.Lists.{IsListOf}
+use Rattle.dd_evidence.specs.Lists.{IsForbiddenList}
 use Rattle.dd_evidence.specs.Answers.{IsMemberCertificate, IsListCertificate}
 use Rattle.dd_answer.specs.Right.{Right, IsRightTo, IsRightBox, IsRightEqual, written_decision, written_equality, is_unknown}
 use Rattle.dd_answer.specs.Laws.{SayTheSame}
@@ -301,7 +301,7 @@ module _ (x : LocalRule) (t : Tile) (tile : IsTile t) (dimension : t.dimension �
 -- ---- forbidden patterns
 
 abbrev pub AreOneList : Type 0
-AreOneList = (x : LocalRule) (some others : List Listed) → IsListOf x some → IsListOf x others → some ≡ others
+AreOneList = (x : LocalRule) (some others : List Listed) → IsForbiddenList x some → IsForbiddenList x others → some ≡ others
 
 list_agree : AreOneList → (x : LocalRule) (a b : Answer) → IsListCertificate x a → IsListCertificate x b → SayTheSame a b
 list_agree one x (answer.List some) (answer.List others) h k =

@@ -119,11 +119,11 @@ abbrev pub density_lines : List ℕ → List ℤ → List ℕ
 density_lines cycle potentials =
     codes "cycle " ++ (decimal (length cycle) ++ (numbers_to_end cycle ++ (codes "potentials" ++ signed_to_end potentials)))
 
-abbrev pub amounts_and_duals : List ℕ → List ℕ → List ℕ
-amounts_and_duals amounts duals = numbers_line (codes "amounts") amounts ++ numbers_line (codes "duals") duals
+abbrev pub amounts_and_duals_text : List ℕ → List ℕ → List ℕ
+amounts_and_duals_text amounts duals = numbers_line (codes "amounts") amounts ++ numbers_line (codes "duals") duals
 
 abbrev pub bound_lines : ℕ → List ℕ → List ℕ → List ℕ
-bound_lines common amounts duals = number_line (codes "denominator ") common ++ amounts_and_duals amounts duals
+bound_lines common amounts duals = number_line (codes "denominator ") common ++ amounts_and_duals_text amounts duals
 
 -- the lines that follow the first
 abbrev pub further_lines : Answer → List ℕ

@@ -2,7 +2,7 @@
 ghost use Rattle.std.specs.Prelude.{◌≡◌, ◌++◌, codes, OnOk, IfOk};
 ghost use Rattle.std.specs.List.{flat_map};
 ghost use Rattle.dd_certificate.specs.Text.{
-  amounts_and_duals,
+  amounts_and_duals_text,
   answer_line,
   answer_text,
   bound_lines,
@@ -250,7 +250,7 @@ fn push_amounts_and_duals(
     amounts: &[u64],
     duals: &[u64],
 ) -> Result<(), AllocError>
-    ensures { OnOk result (text.new.items ≡ text.old.items ++ amounts_and_duals amounts.now duals.now) }
+    ensures { OnOk result (text.new.items ≡ text.old.items ++ amounts_and_duals_text amounts.now duals.now) }
 {
     push_numbers_line(text, b"amounts", amounts)?;
     push_numbers_line(text, b"duals", duals)

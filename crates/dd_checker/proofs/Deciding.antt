@@ -16,7 +16,7 @@ use Rattle.dd_certificate.specs.declared.answer.Listed.{Listed}
 use Rattle.dd_certificate.specs.declared.answer.Answer.{Answer}
 use Rattle.dd_certificate.specs.declared.answer.Answer.TheVariants as answer
 use Rattle.dd_certificate.specs.Bounds.{IsWritable, IsWritableRefutation}
-use Rattle.dd_evidence.specs.Lists.{IsListOf}
+use Rattle.dd_evidence.specs.Lists.{IsForbiddenList}
 use Rattle.dd_evidence.specs.Answers.{IsMemberCertificate, IsListCertificate}
 use Rattle.dd_checker.specs.Evidence.{IsYes, IsNo, IsNoOfSide, IsBoxCertificate, IsEqualCertificate}
 use Rattle.dd_meanings.specs.Sound.{AreLimits}
@@ -201,11 +201,11 @@ both_result l x y n m left_taken steps right_taken others left_same right_same r
 
 -- ---- forbidden patterns
 
-pub list_result : {E : Type 0} (x : LocalRule) → ((patterns : List Listed) → IsListOf x patterns → IsWritable (answer.List patterns)) →
-    (taken patterns : List Listed) → taken ≡ patterns → (r : Result Bool E) → IfOk r (λ b. (b ≡ true) ↔ IsListOf x taken) →
+pub list_result : {E : Type 0} (x : LocalRule) → ((patterns : List Listed) → IsForbiddenList x patterns → IsWritable (answer.List patterns)) →
+    (taken patterns : List Listed) → taken ≡ patterns → (r : Result Bool E) → IfOk r (λ b. (b ≡ true) ↔ IsForbiddenList x taken) →
     IfOk r (λ b. (b ≡ true) ↔ (IsWritable (answer.List patterns) × IsListCertificate x (answer.List patterns)))
 list_result x writable taken patterns same r exact =
     subst (λ (ps : List Listed). IfOk r (λ b. (b ≡ true) ↔ (IsWritable (answer.List ps) × IsListCertificate x (answer.List ps)))) same
-    (IfOk-weaker r (λ b. (b ≡ true) ↔ IsListOf x taken)
+    (IfOk-weaker r (λ b. (b ≡ true) ↔ IsForbiddenList x taken)
     (λ b. (b ≡ true) ↔ (IsWritable (answer.List taken) × IsListCertificate x (answer.List taken)))
     (λ b told. (λ h. (writable taken (told.0 h), told.0 h), λ both. told.1 both.1)) exact)

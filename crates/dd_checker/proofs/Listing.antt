@@ -25,12 +25,12 @@ use Rattle.dd_boxes.specs.lemmas.RuleLaws.{keeps_at, shifted_by_origin}
 use Rattle.dd_certificate.specs.declared.answer.Listed.{Listed}
 use Rattle.dd_certificate.specs.declared.answer.Answer.{Answer}
 use Rattle.dd_certificate.specs.declared.answer.Answer.TheVariants as answer
-use Rattle.dd_evidence.specs.Lists.{listed, IsListOf}
+use Rattle.dd_evidence.specs.Lists.{listed, IsForbiddenList}
 use Rattle.dd_evidence.specs.Answers.{IsListCertificate}
 use Rattle.dd_checker.specs.Holding.{AreReadAt, TellsBreaking, ListClaim}
 
 abbrev pub ListedBreak : Type 0
-ListedBreak = (x : LocalRule) (patterns : List Listed) (a : ℕ) (ss : List ℕ) → IsListOf x patterns → a < x.nodes →
+ListedBreak = (x : LocalRule) (patterns : List Listed) (a : ℕ) (ss : List ℕ) → IsForbiddenList x patterns → a < x.nodes →
     Contains patterns (listed a ss) ↔ IsBreaking x a ss
 
 -- ---- the place of a cell among cells
@@ -127,7 +127,7 @@ module _ (x : LocalRule) (look : Look) (v : Place) (a : ℕ) (ss : List ℕ) (re
   pub says_kept : is_true x (cell v a) look ≡ is_true_at_origin x a ss
   says_kept = sym (keeps_at x those look origin v a seen_same all_given)
 
-pub tells_breaking : ListedBreak → (x : LocalRule) (patterns : List Listed) → IsListOf x patterns → TellsBreaking x patterns
+pub tells_breaking : ListedBreak → (x : LocalRule) (patterns : List Listed) → IsForbiddenList x patterns → TellsBreaking x patterns
 tells_breaking listed_break x patterns is look v a ss below read allowed =
     let same = says_kept x look v a ss read in
     let told = listed_break x patterns a ss is below in

@@ -2,7 +2,7 @@
 ghost use Rattle.std.specs.Prelude.{◌≡◌, ◌↔◌, IsTrue, IfOk};
 ghost use Rattle.dd_certificate.specs.Bounds.{IsWritable};
 ghost use Rattle.dd_script.specs.Asking.{HasFewPatterns};
-ghost use Rattle.dd_evidence.specs.Lists.{IsListOf};
+ghost use Rattle.dd_evidence.specs.Lists.{IsForbiddenList};
 ghost use Rattle.dd_evidence.specs.Answers.{IsListCertificate};
 
 use dd_certificate::{Answer, Listed};
@@ -33,7 +33,7 @@ fn are_same(left: &[Listed], right: &[Listed]) -> bool
 /// Whether these are the patterns that the rule forbids, in their order.
 fn is_list(alloc: Global, rule: &Rule, patterns: &[Listed]) -> Result<bool, AllocError>
     requires { HasFewPatterns rule.now }
-    ensures { IfOk result (λ same. IsTrue same ↔ IsListOf rule.now patterns.now) }
+    ensures { IfOk result (λ same. IsTrue same ↔ IsForbiddenList rule.now patterns.now) }
 {
     one_list();
     let list = forbidden_patterns(alloc, rule)?;

@@ -11,7 +11,7 @@ use Rattle.dd_certificate.specs.declared.answer.Listed.{Listed}
 use Rattle.dd_certificate.specs.declared.answer.Answer.TheVariants as answer
 use Rattle.dd_certificate.specs.Bounds.{IsWritable, IsWritableNumber, IsWritablePattern}
 use Rattle.dd_script.specs.Asking.{HasFewPatterns}
-use Rattle.dd_evidence.specs.Lists.{listed, IsListTo, IsListOf}
+use Rattle.dd_evidence.specs.Lists.{listed, IsListTo, IsForbiddenList}
 
 -- ---- one list
 
@@ -25,7 +25,7 @@ list_to_one one x (suc n) some others h k =
     let here : h.here ≡ k.here = one x n h.here k.here h.breaking k.breaking in
     h.whole ∙ (ap (λ (f : List Listed). f ++ map (listed n) h.here) front ∙ (ap (λ (ss : List (List ℕ)). k.before ++ map (listed n) ss) here ∙ sym k.whole))
 
-pub list_one : AreOne → (x : LocalRule) (some others : List Listed) → IsListOf x some → IsListOf x others → some ≡ others
+pub list_one : AreOne → (x : LocalRule) (some others : List Listed) → IsForbiddenList x some → IsForbiddenList x others → some ≡ others
 list_one one x some others h k = list_to_one one x x.nodes some others h k
 
 -- ---- its numbers
@@ -72,7 +72,7 @@ module _ (short : AreShort) (known : AreKnown) (x : LocalRule) (rule : IsRule x)
             (All-append IsWritablePattern is.before (map (listed n) is.here) front.1 (here_fits n is.here below is.breaking)),
       )
 
-  pub lists_fit : (patterns : List Listed) → IsListOf x patterns → IsWritable (answer.List patterns)
+  pub lists_fit : (patterns : List Listed) → IsForbiddenList x patterns → IsWritable (answer.List patterns)
   lists_fit patterns is =
       let both = to_fits x.nodes patterns (omega arith) is in
       let many : length patterns ≤ x.nodes * 65536 = both.0 in
@@ -123,6 +123,6 @@ module _ (x : LocalRule) (a : ℕ) (ss : List ℕ) where
             Contains-append_right is.before (map (listed n) is.here) (listed a ss) found
       ])
 
-pub listed_break : (x : LocalRule) (patterns : List Listed) (a : ℕ) (ss : List ℕ) → IsListOf x patterns → a < x.nodes →
+pub listed_break : (x : LocalRule) (patterns : List Listed) (a : ℕ) (ss : List ℕ) → IsForbiddenList x patterns → a < x.nodes →
     Contains patterns (listed a ss) ↔ IsBreaking x a ss
 listed_break x patterns a ss is below = (breaks_at x a ss x.nodes patterns is, listed_at x a ss x.nodes patterns is below)

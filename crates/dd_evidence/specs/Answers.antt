@@ -5,7 +5,7 @@ use Rattle.dd_formula.specs.Living.{Lives}
 use Rattle.dd_certificate.specs.declared.answer.Answer.{Answer}
 use Rattle.dd_certificate.specs.declared.answer.Answer.TheVariants as answer
 use Rattle.dd_evidence.specs.Cells.{IsOutside}
-use Rattle.dd_evidence.specs.Lists.{IsListOf}
+use Rattle.dd_evidence.specs.Lists.{IsForbiddenList}
 
 -- that the configuration lives in the rule's subshift, or the first cell at which the rule is false
 abbrev pub IsMemberCertificate : LocalRule → Tile → Answer → Type 0
@@ -28,7 +28,7 @@ IsListCertificate x (answer.Yes radius steps) = ⊥
 IsListCertificate x (answer.YesBoth left right left_steps right_steps) = ⊥
 IsListCertificate x (answer.No s periods shear symbols) = ⊥
 IsListCertificate x (answer.Unknown r) = ⊥
-IsListCertificate x (answer.List patterns) = IsListOf x patterns
+IsListCertificate x (answer.List patterns) = IsForbiddenList x patterns
 IsListCertificate x (answer.Density numerator denominator cycle potentials) = ⊥
 IsListCertificate x (answer.Empty ranks) = ⊥
 IsListCertificate x (answer.Bound numerator denominator common amounts duals) = ⊥

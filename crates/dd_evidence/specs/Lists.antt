@@ -22,5 +22,5 @@ IsListTo x zero patterns = patterns ≡ []
 IsListTo x (suc n) patterns = IsListedAfter x n (IsListTo x n) patterns
 
 -- those of all nodes
-abbrev pub IsListOf : LocalRule → List Listed → Type 0
-IsListOf x patterns = IsListTo x x.nodes patterns
+abbrev pub IsForbiddenList : LocalRule → List Listed → Type 0
+IsForbiddenList x patterns = IsListTo x x.nodes patterns

@@ -10,7 +10,7 @@ ghost use Rattle.dd_forbidden.specs.Breaking.{IsBreaking};
 ghost use Rattle.dd_script.specs.Asking.{HasFewPatterns};
 ghost use Rattle.dd_evidence.specs.Cells.{IsOutside};
 ghost use Rattle.dd_evidence.specs.Tiles.{IsWrittenBack};
-ghost use Rattle.dd_evidence.specs.Lists.{listed, IsListOf};
+ghost use Rattle.dd_evidence.specs.Lists.{listed, IsForbiddenList};
 
 /// Does nothing; its contract says that the numbers that write a configuration in an answer give it back.
 pub fn written_back()
@@ -24,21 +24,21 @@ pub fn places_fit()
 
 /// Does nothing; its contract says that the patterns that a rule forbids are listed in one way.
 pub fn one_list()
-    ensures { (x : LocalRule) (some others : List AnyListed) → IsListOf x some → IsListOf x others → some ≡ others }
+    ensures { (x : LocalRule) (some others : List AnyListed) → IsForbiddenList x some → IsForbiddenList x others → some ≡ others }
 {
     dd_forbidden::one_list();
 }
 
 /// Does nothing; its contract says that the patterns listed at a node are the fillings that break the rule there.
 pub fn listed_break()
-    ensures { (x : LocalRule) (patterns : List AnyListed) (a : ℕ) (ss : List ℕ) → IsListOf x patterns → a < x.nodes →
+    ensures { (x : LocalRule) (patterns : List AnyListed) (a : ℕ) (ss : List ℕ) → IsForbiddenList x patterns → a < x.nodes →
         Contains patterns (listed a ss) ↔ IsBreaking x a ss }
 {}
 
 /// Does nothing; its contract says that an output can hold the list, where at each node the cells that the rule reads have
 /// few fillings.
 pub fn lists_fit()
-    ensures { (x : LocalRule) (patterns : List AnyListed) → IsRule x → HasFewPatterns x → IsListOf x patterns → IsWritable (answer.List patterns) }
+    ensures { (x : LocalRule) (patterns : List AnyListed) → IsRule x → HasFewPatterns x → IsForbiddenList x patterns → IsWritable (answer.List patterns) }
 {
     dd_forbidden::short_list();
     dd_forbidden::known_symbols();

@@ -2,7 +2,7 @@
 ghost use Rattle.std.specs.Prelude.{◌≡◌, ◌<◌, IfOk, OnOk};
 ghost use Rattle.dd_script.specs.Asking.{HasFewPatterns};
 ghost use Rattle.dd_forbidden.specs.Breaking.{AreBreakingFillings};
-ghost use Rattle.dd_evidence.specs.Lists.{listed, IsListedAfter, IsListOf};
+ghost use Rattle.dd_evidence.specs.Lists.{listed, IsListedAfter, IsForbiddenList};
 
 use dd_certificate::Listed;
 use dd_forbidden::{ForbiddenFault, forbidden};
@@ -62,7 +62,7 @@ fn push_node(
 /// symbols.
 pub fn forbidden_patterns(alloc: Global, rule: &Rule) -> Result<Items<Listed>, AllocError>
     requires { HasFewPatterns rule.now }
-    ensures { IfOk result (IsListOf rule.now) }
+    ensures { IfOk result (IsForbiddenList rule.now) }
 {
     let mut patterns = Items::new(alloc);
     for node in 0..rule.nodes() {

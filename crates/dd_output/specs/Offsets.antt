@@ -12,11 +12,11 @@ pub record IsOffset (bytes : List ℕ) (offset : ℕ) : Type 0 where
   pub begins : IsWellFormed (take offset bytes ++ completion bytes)
   pub no_longer : (n : ℕ) (more : List ℕ) → offset < n → n ≤ length bytes → IsWellFormed (take n bytes ++ more) → ⊥
 
-abbrev pub IsRefused : List ℕ → CertificateFault → Type 0
-IsRefused bytes faults.Memory = Unit {0}
-IsRefused bytes (faults.Malformed offset) = (IsWellFormed bytes → ⊥) × IsOffset bytes offset
+abbrev pub IsOutputFault : List ℕ → CertificateFault → Type 0
+IsOutputFault bytes faults.Memory = Unit {0}
+IsOutputFault bytes (faults.Malformed offset) = (IsWellFormed bytes → ⊥) × IsOffset bytes offset
 
 -- the one output that the bytes spell; else the offset where they are none
 abbrev pub ReadsOutput : List ℕ → Result Output CertificateFault → Type 0
 ReadsOutput bytes (Ok o) = IsWritableOutput o × (bytes ≡ output_text o)
-ReadsOutput bytes (Err fault) = IsRefused bytes fault
+ReadsOutput bytes (Err fault) = IsOutputFault bytes fault

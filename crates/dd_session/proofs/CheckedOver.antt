@@ -4,7 +4,7 @@ use Rattle.std.specs.declared.option.Option.{Option}
 use Rattle.dd_certificate.specs.declared.answer.Answer.{Answer}
 use Rattle.dd_output.specs.declared.output.Output.{Output}
 use Rattle.dd_output.specs.declared.fault.CertificateFault.TheVariants as faults
-use Rattle.dd_output.specs.Offsets.{IsRefused}
+use Rattle.dd_output.specs.Offsets.{IsOutputFault}
 use Rattle.dd_output.specs.Outputs.{output_text, IsWritableOutput}
 use Rattle.dd_script.specs.declared.fault.ScriptKind.{ScriptKind}
 use Rattle.dd_script.specs.declared.fault.ScriptKind.TheVariants as refused
@@ -35,7 +35,7 @@ refused_over sink bytes line BadWords why wrote = absurd wrote
 refused_over sink bytes line Rejected why wrote = absurd wrote
 
 -- the bytes are no output
-pub offset_over : {K : Type 0} (sink : Told K) (bytes line text : List ℕ) (offset : ℕ) (status : Status) → IsRefused bytes (faults.Malformed offset)
+pub offset_over : {K : Type 0} (sink : Told K) (bytes line text : List ℕ) (offset : ℕ) (status : Status) → IsOutputFault bytes (faults.Malformed offset)
     → line ≡ offset_line offset → text ≡ line → RefusedBy sink text status → CheckedOver sink bytes status
 offset_over sink bytes line text offset status none is same wrote =
     refused_over sink bytes line status (malformed offset none.0 none.1 is) (subst (λ (l : List ℕ). RefusedBy sink l status) same wrote)

@@ -9,7 +9,7 @@ use Rattle.dd_session.specs.declared.status.Status.{Status}
 use Rattle.dd_session.specs.declared.status.Status.TheVariants.{Definite, SomeUnknown, Refused, ReadFault, WriteFault, Memory, BadWords, Rejected}
 use Rattle.dd_session.specs.Output.{long_line}
 use Rattle.dd_session.specs.Sides.{Told, RefusedBy}
-use Rattle.dd_session.specs.Runs.{RanOver, Ended, IsAccepted, IsAcceptedAs, Decides, RanWhole, RefusedWhole, IsRefused, IsRefusedBy, too_long, no_run}
+use Rattle.dd_session.specs.Runs.{RanOver, Ended, IsAccepted, IsAcceptedAs, DecidesStatus, RanWhole, RefusedWhole, IsRefusedInput, IsRefusedBy, too_long, no_run}
 use Rattle.dd_output.specs.Outputs.{most_script}
 
 -- What was read to the end is what was told.
@@ -32,7 +32,7 @@ module _ (never_both : NeverBoth) where
   refused_no_script : (bytes line : List ℕ) (s : Parts) → IsRefusedBy bytes line → ¬ Spells bytes s
   refused_no_script bytes line s refused spelled = never_both bytes s refused.command refused.kind spelled refused.no_script
 
-  not_accepted : (bytes line : List ℕ) (left : Option (List ℕ)) → IsRefused (Some bytes) left line → ¬ IsAccepted bytes
+  not_accepted : (bytes line : List ℕ) (left : Option (List ℕ)) → IsRefusedInput (Some bytes) left line → ¬ IsAccepted bytes
   not_accepted bytes line left (too_long more is) accepted = absurd (omega (arith, told_more bytes left most_script more, accepted.short))
   not_accepted bytes line left (no_run given to_end short refused) accepted =
       refused_no_script bytes line accepted.script
@@ -52,7 +52,7 @@ module _ (never_both : NeverBoth) where
       }
 
   pub decided : {S K : Type 0} (source : Told S) (sink : Told K) (status : Status) → Ended source sink status
-      → (bytes : List ℕ) → source.bytes_old ≡ Some bytes → Decides bytes status
+      → (bytes : List ℕ) → source.bytes_old ≡ Some bytes → DecidesStatus bytes status
   decided source sink status ended bytes is = record {
     definite = λ e.
         (let ran : RanWhole source.bytes_old source.bytes_new sink.bytes_old sink.bytes_new false = subst (Ended source sink) e ended in
@@ -72,7 +72,7 @@ module _ (never_both : NeverBoth) where
 pub ended_run : {S K : Type 0} (source : Told S) (sink : Told K) (given bytes : List ℕ) (status : Status) → ReadToEnd source.bytes_old source.bytes_new given
     → length given ≤ most_script → bytes ≡ given → RanOver sink bytes status → Ended source sink status
 ended_run source sink given bytes status to_end short same ran = by_status status (subst (λ (l : List ℕ). RanOver sink l status) same ran) where
-  no_line : (line : List ℕ) → IsRefusedBy given line → IsRefused source.bytes_old source.bytes_new line
+  no_line : (line : List ℕ) → IsRefusedBy given line → IsRefusedInput source.bytes_old source.bytes_new line
   no_line line refused = no_run given to_end short refused
 
   by_status : (status : Status) → RanOver sink given status → Ended source sink status

@@ -9,7 +9,7 @@ use Rattle.dd_script.specs.Parts.{Parts}
 use Rattle.dd_session.specs.declared.status.Status.{Status}
 use Rattle.dd_session.specs.declared.status.Status.TheVariants.{Definite, SomeUnknown, Refused, ReadFault, WriteFault, Memory, BadWords, Rejected}
 use Rattle.dd_session.specs.Output.{long_line}
-use Rattle.dd_session.specs.Sides.{Told, IsKept, Failed}
+use Rattle.dd_session.specs.Sides.{Told, IsUntouched, HasFailed}
 use Rattle.dd_session.specs.Checks.{accepted_lines, checked_line, rejected_line, most_checked, AcceptedTo, IsEnding, IsCheckable, IsRefusedOutput, IsAllAccepted, IsRejectedAfter, IsCheckedOutput}
 
 -- The whole text for bytes whose queries are all accepted was written.
@@ -56,8 +56,8 @@ CheckedOver sink bytes Definite = WholeCheck sink.bytes_old sink.bytes_new false
 CheckedOver sink bytes SomeUnknown = WholeCheck sink.bytes_old sink.bytes_new true bytes
 CheckedOver sink bytes Refused = WholeRefusedOutput sink.bytes_old sink.bytes_new bytes
 CheckedOver sink bytes WriteFault =
-    (ShortCheck sink.bytes_old sink.bytes_new bytes ⊎ ShortRefusedOutput sink.bytes_old sink.bytes_new bytes) × Failed sink
-CheckedOver sink bytes Memory = ShortCheck sink.bytes_old sink.bytes_new bytes ⊎ IsKept sink
+    (ShortCheck sink.bytes_old sink.bytes_new bytes ⊎ ShortRefusedOutput sink.bytes_old sink.bytes_new bytes) × HasFailed sink
+CheckedOver sink bytes Memory = ShortCheck sink.bytes_old sink.bytes_new bytes ⊎ IsUntouched sink
 CheckedOver sink bytes ReadFault = ⊥
 CheckedOver sink bytes BadWords = ⊥
 CheckedOver sink bytes Rejected = WholeRejection sink.bytes_old sink.bytes_new bytes
@@ -83,11 +83,11 @@ CheckEnded source sink Definite = OfBytes source (WholeCheck sink.bytes_old sink
 CheckEnded source sink SomeUnknown = OfBytes source (WholeCheck sink.bytes_old sink.bytes_new true)
 CheckEnded source sink Refused =
     (IsTooLong source × Appends sink.bytes_old sink.bytes_new long_line) ⊎ OfBytes source (WholeRefusedOutput sink.bytes_old sink.bytes_new)
-CheckEnded source sink ReadFault = IsKept sink × Failed source
+CheckEnded source sink ReadFault = IsUntouched sink × HasFailed source
 CheckEnded source sink WriteFault =
     ((IsTooLong source × GainsFront sink.bytes_old sink.bytes_new long_line)
-    ⊎ OfBytes source (λ bytes. ShortCheck sink.bytes_old sink.bytes_new bytes ⊎ ShortRefusedOutput sink.bytes_old sink.bytes_new bytes)) × Failed sink
-CheckEnded source sink Memory = OfBytes source (ShortCheck sink.bytes_old sink.bytes_new) ⊎ IsKept sink
+    ⊎ OfBytes source (λ bytes. ShortCheck sink.bytes_old sink.bytes_new bytes ⊎ ShortRefusedOutput sink.bytes_old sink.bytes_new bytes)) × HasFailed sink
+CheckEnded source sink Memory = OfBytes source (ShortCheck sink.bytes_old sink.bytes_new) ⊎ IsUntouched sink
 CheckEnded source sink BadWords = ⊥
 CheckEnded source sink Rejected = OfBytes source (WholeRejection sink.bytes_old sink.bytes_new)
 

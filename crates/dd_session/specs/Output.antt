@@ -47,16 +47,16 @@ limit_text limit.Patterns = codes "patterns"
 limit_text limit.States = codes "states"
 limit_text limit.Clauses = codes "clauses"
 
-abbrev pub kind_text : RefusalKind → List ℕ
-kind_text syntax = codes "syntax"
-kind_text (unknown name) = codes "unknown " ++ name
-kind_text (twice name) = codes "twice " ++ name
-kind_text dimension = codes "dimension"
-kind_text (size l) = codes "size " ++ limit_text l
+abbrev pub refusal_kind_text : RefusalKind → List ℕ
+refusal_kind_text syntax = codes "syntax"
+refusal_kind_text (unknown name) = codes "unknown " ++ name
+refusal_kind_text (twice name) = codes "twice " ++ name
+refusal_kind_text dimension = codes "dimension"
+refusal_kind_text (size l) = codes "size " ++ limit_text l
 
 -- no script: these words, the number of the command, and what is wrong with it
 abbrev pub refused_line : List ℕ → ℕ → RefusalKind → List ℕ
-refused_line words command k = words ++ (codes " " ++ (decimal command ++ (codes " " ++ (kind_text k ++ codes "\n"))))
+refused_line words command k = words ++ (codes " " ++ (decimal command ++ (codes " " ++ (refusal_kind_text k ++ codes "\n"))))
 
 -- the words in the answer to a script, which is none
 abbrev pub refused_words : List ℕ

@@ -10,7 +10,7 @@ use Rattle.dd_session.specs.declared.status.Status.{Status}
 use Rattle.dd_session.specs.declared.status.Status.TheVariants.{Definite, SomeUnknown, Refused, ReadFault, WriteFault, Memory, BadWords, Rejected}
 use Rattle.dd_session.specs.Answers.{IsOpenAs}
 use Rattle.dd_session.specs.Output.{long_line, refused_line, refused_words}
-use Rattle.dd_session.specs.Sides.{Told, IsKept, Failed}
+use Rattle.dd_session.specs.Sides.{Told, IsUntouched, HasFailed}
 use Rattle.dd_session.specs.Written.{WholeOutput, CutShort}
 
 -- The bytes are a script, its whole output was written, and it has or has not a query without a definite answer.
@@ -66,21 +66,21 @@ pub record ShortRefusal (old new : Option (List ℕ)) (bytes : List ℕ) : Type 
   pub front : GainsFront old new line
 
 -- The source gave an input that is refused, and this is the line for it.
-pub data IsRefused (left_old left_new : Option (List ℕ)) (line : List ℕ) : Type 0 where
-  too_long : GivesMore left_old left_new most_script → line ≡ long_line → IsRefused left_old left_new line
+pub data IsRefusedInput (left_old left_new : Option (List ℕ)) (line : List ℕ) : Type 0 where
+  too_long : GivesMore left_old left_new most_script → line ≡ long_line → IsRefusedInput left_old left_new line
   no_run : (bytes : List ℕ) → ReadToEnd left_old left_new bytes → length bytes ≤ most_script
-      → IsRefusedBy bytes line → IsRefused left_old left_new line
+      → IsRefusedBy bytes line → IsRefusedInput left_old left_new line
 
 -- An input that is refused, and its line was written.
 pub record RefusedWhole (left_old left_new held_old held_new : Option (List ℕ)) : Type 0 where
   pub line : List ℕ
-  pub refused : IsRefused left_old left_new line
+  pub refused : IsRefusedInput left_old left_new line
   pub appends : Appends held_old held_new line
 
 -- An input that is refused, and a front of its line was written.
 pub record RefusedShort (left_old left_new held_old held_new : Option (List ℕ)) : Type 0 where
   pub line : List ℕ
-  pub refused : IsRefused left_old left_new line
+  pub refused : IsRefusedInput left_old left_new line
   pub front : GainsFront held_old held_new line
 
 -- ---- by the status
@@ -90,8 +90,8 @@ abbrev pub RanOver : {K : Type 0} → Told K → List ℕ → Status → Type 0
 RanOver sink bytes Definite = WholeRun sink.bytes_old sink.bytes_new bytes false
 RanOver sink bytes SomeUnknown = WholeRun sink.bytes_old sink.bytes_new bytes true
 RanOver sink bytes Refused = WholeRefusal sink.bytes_old sink.bytes_new bytes
-RanOver sink bytes WriteFault = (ShortRun sink.bytes_old sink.bytes_new bytes ⊎ ShortRefusal sink.bytes_old sink.bytes_new bytes) × Failed sink
-RanOver sink bytes Memory = ShortRun sink.bytes_old sink.bytes_new bytes ⊎ IsKept sink
+RanOver sink bytes WriteFault = (ShortRun sink.bytes_old sink.bytes_new bytes ⊎ ShortRefusal sink.bytes_old sink.bytes_new bytes) × HasFailed sink
+RanOver sink bytes Memory = ShortRun sink.bytes_old sink.bytes_new bytes ⊎ IsUntouched sink
 RanOver sink bytes ReadFault = ⊥
 RanOver sink bytes BadWords = ⊥
 RanOver sink bytes Rejected = ⊥
@@ -101,12 +101,12 @@ abbrev pub Ended : {S K : Type 0} → Told S → Told K → Status → Type 0
 Ended source sink Definite = RanWhole source.bytes_old source.bytes_new sink.bytes_old sink.bytes_new false
 Ended source sink SomeUnknown = RanWhole source.bytes_old source.bytes_new sink.bytes_old sink.bytes_new true
 Ended source sink Refused = RefusedWhole source.bytes_old source.bytes_new sink.bytes_old sink.bytes_new
-Ended source sink ReadFault = IsKept sink × Failed source
+Ended source sink ReadFault = IsUntouched sink × HasFailed source
 Ended source sink WriteFault =
     (RanShort source.bytes_old source.bytes_new sink.bytes_old sink.bytes_new
-    ⊎ RefusedShort source.bytes_old source.bytes_new sink.bytes_old sink.bytes_new) × Failed sink
-Ended source sink Memory = RanShort source.bytes_old source.bytes_new sink.bytes_old sink.bytes_new ⊎ IsKept sink
-Ended source sink BadWords = IsKept source × IsKept sink
+    ⊎ RefusedShort source.bytes_old source.bytes_new sink.bytes_old sink.bytes_new) × HasFailed sink
+Ended source sink Memory = RanShort source.bytes_old source.bytes_new sink.bytes_old sink.bytes_new ⊎ IsUntouched sink
+Ended source sink BadWords = IsUntouched source × IsUntouched sink
 Ended source sink Rejected = ⊥
 
 -- The bytes are a script that is run, and some query of it has no definite answer, or none is so.
@@ -115,7 +115,7 @@ pub record IsAcceptedAs (has : Bool) (bytes : List ℕ) : Type 0 where
   pub is_open : IsOpenAs has accepted.script
 
 -- What the bytes decide of the status, where the source told them.
-pub record Decides (bytes : List ℕ) (status : Status) : Type 0 where
+pub record DecidesStatus (bytes : List ℕ) (status : Status) : Type 0 where
   pub definite : status ≡ Definite → IsAcceptedAs false bytes
   pub some_unknown : status ≡ SomeUnknown → IsAcceptedAs true bytes
   pub refused : status ≡ Refused → ¬ IsAccepted bytes

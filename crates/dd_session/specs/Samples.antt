@@ -9,7 +9,7 @@ use Rattle.dd_sample.specs.Sample.{sample_text}
 use Rattle.dd_session.specs.declared.status.Status.{Status}
 use Rattle.dd_session.specs.declared.status.Status.TheVariants.{Definite, SomeUnknown, Refused, ReadFault, WriteFault, Memory, BadWords, Rejected}
 use Rattle.dd_session.specs.Answers.{IsOpenAs}
-use Rattle.dd_session.specs.Sides.{Told, IsKept, Failed}
+use Rattle.dd_session.specs.Sides.{Told, IsUntouched, HasFailed}
 use Rattle.dd_session.specs.Written.{AnsweredToEnd, AnsweredShort}
 
 -- memory was wanting, and nothing is wrong with the text
@@ -25,7 +25,7 @@ is_memory refused.Memory = true
 abbrev pub LinesOf : {K : Type 0} → Told K → Parts → Status → Type 0
 LinesOf sink s Definite = AnsweredToEnd answer_line sink.bytes_old sink.bytes_new s false × IsOpenAs false s
 LinesOf sink s SomeUnknown = AnsweredToEnd answer_line sink.bytes_old sink.bytes_new s true × IsOpenAs true s
-LinesOf sink s WriteFault = AnsweredShort answer_line sink.bytes_old sink.bytes_new s × Failed sink
+LinesOf sink s WriteFault = AnsweredShort answer_line sink.bytes_old sink.bytes_new s × HasFailed sink
 LinesOf sink s Memory = AnsweredShort answer_line sink.bytes_old sink.bytes_new s
 LinesOf sink s Refused = ⊥
 LinesOf sink s ReadFault = ⊥
@@ -40,4 +40,4 @@ pub record SampleRan {K : Type 0} (sink : Told K) (number : ℕ) (status : Statu
 
 -- What the run of the sample with a number wrote, by the status: nothing, where memory was wanting before its script was made.
 abbrev pub SampleEnded : {K : Type 0} → Told K → ℕ → Status → Type 0
-SampleEnded sink number status = SampleRan sink number status ⊎ (IsKept sink × (status ≡ Memory))
+SampleEnded sink number status = SampleRan sink number status ⊎ (IsUntouched sink × (status ≡ Memory))

@@ -20,16 +20,16 @@ abbrev pub told : {X : Type 0} → (X → Option (List ℕ)) → (X → ℕ) →
 told bytes faults old new =
     record { old = old; new = new; bytes_old = bytes old; bytes_new = bytes new; faults_old = faults old; faults_new = faults new }
 
-abbrev pub IsKept : {X : Type 0} → Told X → Type 0
-IsKept side = side.new ≡ side.old
+abbrev pub IsUntouched : {X : Type 0} → Told X → Type 0
+IsUntouched side = side.new ≡ side.old
 
-abbrev pub Failed : {X : Type 0} → Told X → Type 0
-Failed side = Rose side.faults_old side.faults_new
+abbrev pub HasFailed : {X : Type 0} → Told X → Type 0
+HasFailed side = Rose side.faults_old side.faults_new
 
 -- A line for an input that is refused was written, or a front of it.
 abbrev pub RefusedBy : {K : Type 0} → Told K → List ℕ → Status → Type 0
 RefusedBy sink line Refused = Appends sink.bytes_old sink.bytes_new line
-RefusedBy sink line WriteFault = GainsFront sink.bytes_old sink.bytes_new line × Failed sink
+RefusedBy sink line WriteFault = GainsFront sink.bytes_old sink.bytes_new line × HasFailed sink
 RefusedBy sink line Definite = ⊥
 RefusedBy sink line SomeUnknown = ⊥
 RefusedBy sink line ReadFault = ⊥

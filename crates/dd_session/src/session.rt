@@ -12,7 +12,7 @@ ghost use Rattle.dd_session.specs.Checked.{CheckEnded, CheckDecides};
 ghost use Rattle.dd_output.specs.Outputs.{most_queries, most_script};
 ghost use Rattle.dd_session.specs.Words.{IsOnly, IsSample, IsSampleOf, AreBad};
 ghost use Rattle.dd_session.specs.Sides.{told, status_of, RefusedBy};
-ghost use Rattle.dd_session.specs.Runs.{RanOver, Ended, Decides, IsAccepted};
+ghost use Rattle.dd_session.specs.Runs.{RanOver, Ended, DecidesStatus, IsAccepted};
 ghost use Rattle.dd_session.specs.Samples.{is_memory, LinesOf, SampleEnded};
 
 use crate::checks::check_diddy;
@@ -262,7 +262,7 @@ pub fn run_diddy<S: Source, K: Sink>(
     ensures ran { IsOnly (codes "run") (map string_bytes words.now) →
         Ended (told S.left S.faults source.old source.new) (told K.held K.faults sink.old sink.new) result }
     ensures run_decided { IsOnly (codes "run") (map string_bytes words.now) →
-        (bytes : List ℕ) → S.left source.old ≡ Some bytes → Decides bytes result }
+        (bytes : List ℕ) → S.left source.old ≡ Some bytes → DecidesStatus bytes result }
     ensures run_taken { IsOnly (codes "run") (map string_bytes words.now) → GivesAtMost (S.left source.old) (S.left source.new) (most_script + 1) }
 
     ensures checked { IsOnly (codes "check") (map string_bytes words.now) →

@@ -1,6 +1,6 @@
 use Rattle.std.proofs.Common.{◌≡◌, refl, rules, subst}
 use Rattle.dd_output.specs.declared.fault.CertificateFault.TheVariants as faults
-use Rattle.dd_output.specs.Offsets.{IsRefused}
+use Rattle.dd_output.specs.Offsets.{IsOutputFault}
 use Rattle.dd_session.specs.Checks.{offset_line}
 use Rattle.dd_session.proofs.CheckedOver.{same_over, offset_over}
 use Rattle.dd_session.proofs.checks.check_bytes.Goals as goal
@@ -13,4 +13,4 @@ returns-in-Ok-format-clause-checked g c =
     let is : c.as_bytes.result.now ≡ offset_line c.in-Err-Malformed.offset = search rules in
     let at : c.in-Err-Malformed.field-0 ≡ faults.Malformed c.in-Err-Malformed.offset = search rules in
     offset_over _ c.args.bytes.now (offset_line c.in-Err-Malformed.offset) c.as_bytes.result.now c.in-Err-Malformed.offset _
-    (subst (IsRefused c.args.bytes.now) at c.in-Err-Malformed.ensures) refl is c.refuse.ensures.wrote
+    (subst (IsOutputFault c.args.bytes.now) at c.in-Err-Malformed.ensures) refl is c.refuse.ensures.wrote
