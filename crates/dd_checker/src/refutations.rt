@@ -5,7 +5,7 @@ ghost use Rattle.dd_boxes.specs.Goals.{IsGoalFor};
 ghost use Rattle.dd_boxes.specs.Boxes.{Reaches};
 ghost use Rattle.dd_boxes.specs.Counts.{question_clauses, most_clauses};
 ghost use Rattle.dd_boxes.specs.Views.{goal_of};
-ghost use Rattle.dd_certificate.specs.Bounds.{IsWritableRefutation};
+ghost use Rattle.dd_certificate.specs.Bounds.{IsWritableRefutation, most_count};
 ghost use Rattle.dd_checker.specs.Evidence.{Refutes, IsYes};
 ghost use Rattle.dd_script.specs.Asking.{IsAskable};
 
@@ -20,7 +20,7 @@ use std::alloc::{AllocError, Global};
 /// The number of the last step, where the clauses have the numbers from 1 on and the steps those after them.
 fn last_number(cnf: &Cnf, steps: &[Step]) -> u64
     ensures value { result ≡ length cnf.now.clauses + length steps.now }
-    ensures few { length cnf.now.clauses + length steps.now ≤ 2 ^ 64 - 1 }
+    ensures few { length cnf.now.clauses + length steps.now ≤ most_count }
 {
     let clauses = cnf.clauses();
     clauses.len() as u64 + steps.len() as u64

@@ -2,7 +2,7 @@
 ghost use Rattle.std.specs.Prelude.{◌≡◌, ◌≤◌, ◌<◌, ◌+◌, ◌-◌, ◌^◌, ◌++◌, true, IfOk};
 ghost use Rattle.std.specs.List.{list_all};
 ghost use Rattle.dd_topology.specs.Topology.{extent};
-ghost use Rattle.dd_formula.specs.LocalRule.{expansion_at};
+ghost use Rattle.dd_formula.specs.LocalRule.{expansion_at, most_instances};
 ghost use Rattle.dd_circuit.specs.Circuits.{IsSignal, size};
 ghost use Rattle.dd_compile.specs.Compiling.{Extends, compiled, gate_count};
 ghost use Rattle.dd_compile.specs.RuleSignals.{is_cell_wired, are_reads_wired, SaysTruth};
@@ -53,7 +53,7 @@ pub fn reads_are_wired(circuit: &Circuit, rule: &Rule, at: &Cell, inputs: &Input
     requires node { at.now.node < rule.now.nodes }
     requires near { extent at.now.position ≤ 2 ^ 20 - 16 }
     ensures value { result ≡ are_reads_wired (size circuit.now) inputs.now rule.now at.now }
-    ensures few { gate_count (expansion_at rule.now at.now.node) ≤ 20000 }
+    ensures few { gate_count (expansion_at rule.now at.now.node) ≤ most_instances }
 {
     let reads = rule.reads(at.node);
     are_cells_wired(circuit, rule.symbols(), reads, &at.position, inputs)

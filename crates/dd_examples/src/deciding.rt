@@ -3,6 +3,7 @@ ghost use Rattle.std.specs.Prelude.{◌≤◌, length, Contains, IfOk, IfErr};
 ghost use Rattle.dd_script.specs.Parts.{Parts};
 ghost use Rattle.dd_script.specs.Scripts.{Spells, IsScriptRefusal};
 ghost use Rattle.dd_examples.specs.Lines.{IsLine, AreLines};
+ghost use Rattle.dd_output.specs.Outputs.{most_script};
 
 use dd_answer::answer;
 use dd_certificate::answer_line;
@@ -46,7 +47,7 @@ pub fn lines_of(alloc: Global, script: &Script) -> Result<Vec<u8>, AllocError>
 
 /// The lines for the script that the bytes spell, or why they spell none.
 pub fn answered(alloc: Global, bytes: &[u8]) -> Result<Vec<u8>, ScriptFault>
-    requires { length bytes.now ≤ 1048576 }
+    requires { length bytes.now ≤ most_script }
     ensures lines { IfOk result (λ text. (s : Parts) × Spells bytes.now s × AreLines s 1 s.queries text.items) }
     ensures refused { IfErr result (IsScriptRefusal bytes.now) }
 {

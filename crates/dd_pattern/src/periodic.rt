@@ -213,9 +213,9 @@ impl Periodic {
 }
 
 fn position_of(x: usize, y: usize, z: usize) -> Position
-    requires x_small { x ≤ 65536 }
-    requires y_small { y ≤ 65536 }
-    requires z_small { z ≤ 65536 }
+    requires x_small { x ≤ most_symbols }
+    requires y_small { y ≤ most_symbols }
+    requires z_small { z ≤ most_symbols }
     ensures { result ≡ place (pos x) (pos y) (pos z) }
 {
     Position {
