@@ -9,14 +9,14 @@ ghost use Rattle.dd_script.specs.drafting.Standing.{IsReady};
 ghost use Rattle.dd_script.specs.drafting.Drafts.{parts_of, draft_of, with_meaning, Leaves, Stays};
 
 use crate::known::{add_name, restrict, set_nodes, set_symbols, start};
-use crate::script::Script;
+use crate::script::{Contents, Script};
 use dd_commands::Written;
 use dd_faults::{Context, Refusal, check};
 use dd_formula::{Automaton, Rule};
 use dd_meanings::{Meaning, mean};
 use dd_pattern::Periodic;
 use dd_query::Query;
-use dd_values::Items;
+use dd_values::{Boxed, Items};
 use dd_written::Text;
 use std::alloc::{AllocError, Global};
 
@@ -128,9 +128,9 @@ impl Draft {
     }
 
     /// The script behind the last command.
-    pub(crate) fn into_script(self) -> Script
+    pub(crate) fn into_script(self, alloc: Global) -> Result<Script, AllocError>
         requires { IsScriptOf (parts_of self) }
-        ensures { result ≡ parts_of self }
+        ensures { IfOk result (λ script. script ≡ parts_of self) }
     {
         let Draft {
             context,
@@ -139,12 +139,16 @@ impl Draft {
             configurations,
             queries,
         } = self;
-        Script {
-            known: context.known,
-            rules,
-            automata,
-            configurations,
-            queries,
-        }
+        let contents = Boxed::new(
+            alloc,
+            Contents {
+                known: context.known,
+                rules,
+                automata,
+                configurations,
+                queries,
+            },
+        )?;
+        Ok(Script { contents })
     }
 }

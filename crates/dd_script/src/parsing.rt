@@ -86,7 +86,10 @@ fn script_of(alloc: Global, syntax: Syntax) -> Result<Script, ScriptFault>
         Err(_) => return Err(memory()),
     };
     match walk(alloc, &mut draft, commands.as_slice()) {
-        Ok(()) => Ok(draft.into_script()),
+        Ok(()) => match draft.into_script(alloc) {
+            Ok(script) => Ok(script),
+            Err(_) => Err(memory()),
+        },
         Err(refusal) => Err(told(alloc, &draft.context, refusal)),
     }
 }

@@ -7,18 +7,26 @@ use dd_lattice::Position;
 use dd_pattern::Periodic;
 use dd_query::Query;
 use dd_topology::{Names, Sets, Topology};
-use dd_values::Items;
+use dd_values::{Boxed, Items};
 use std::marker::Model;
 
-/// A script: what it says of cells, what it defines, and what it asks. Its numbers are in range, its parts agree in dimension,
-/// nodes and symbols, and it passes no limit.
+/// What a script holds.
 #[derive(Drop)]
-pub struct Script {
+pub(crate) struct Contents {
     pub(crate) known: Known,
     pub(crate) rules: Items<Rule>,
     pub(crate) automata: Items<Automaton>,
     pub(crate) configurations: Items<Periodic>,
     pub(crate) queries: Items<Query>,
+}
+
+/// A script: what it says of cells, what it defines, and what it asks. Its numbers are in range, its parts agree in dimension,
+/// nodes and symbols, and it passes no limit.
+///
+/// It is small: its parts lie together on the heap.
+#[derive(Drop)]
+pub struct Script {
+    pub(crate) contents: Boxed<Contents>,
 }
 
 impl Model for Script {
@@ -31,9 +39,9 @@ impl Model for Script {
 
     ghost coded = { Prim.hlevel (codes, formula_type.the_row.coded, automaton_type.the_row.coded) };
 
-    ghost view = { λ s. record { known = s.known; rules = s.rules; automata = s.automata; configurations = s.configurations; queries = s.queries } };
+    ghost view = { λ s. record { known = s.contents.known; rules = s.contents.rules; automata = s.contents.automata; configurations = s.contents.configurations; queries = s.contents.queries } };
 
-    ghost invariant = { λ s. IsScriptOf (record { known = s.known; rules = s.rules; automata = s.automata; configurations = s.configurations; queries = s.queries }) };
+    ghost invariant = { λ s. IsScriptOf (record { known = s.contents.known; rules = s.contents.rules; automata = s.contents.automata; configurations = s.contents.configurations; queries = s.contents.queries }) };
 }
 
 /// The readers take no memory.
@@ -47,7 +55,7 @@ impl Script {
         ensures value { result ≡ self.now.known.setting.topology.dimension }
         ensures kept { IsScriptOf self.now }
     {
-        self.known.setting.topology.dim()
+        self.contents.get().known.setting.topology.dim()
     }
 
     /// The names of the nodes, which are numbered in this order.
@@ -55,7 +63,7 @@ impl Script {
         ensures value { result.now ≡ self.now.known.setting.nodes }
         ensures kept { IsScriptOf self.now }
     {
-        &self.known.setting.nodes
+        &self.contents.get().known.setting.nodes
     }
 
     /// The names of the symbols, which are numbered in this order.
@@ -63,7 +71,7 @@ impl Script {
         ensures value { result.now ≡ self.now.known.setting.symbols }
         ensures kept { IsScriptOf self.now }
     {
-        &self.known.setting.symbols
+        &self.contents.get().known.setting.symbols
     }
 
     /// The topology: the edges that formulas follow.
@@ -71,7 +79,7 @@ impl Script {
         ensures value { result.now ≡ self.now.known.setting.topology }
         ensures kept { IsScriptOf self.now }
     {
-        &self.known.setting.topology
+        &self.contents.get().known.setting.topology
     }
 
     /// Which symbols each node allows.
@@ -79,7 +87,7 @@ impl Script {
         ensures value { result.now ≡ self.now.known.setting.sets }
         ensures kept { IsScriptOf self.now }
     {
-        &self.known.setting.sets
+        &self.contents.get().known.setting.sets
     }
 
     /// One weight for each symbol.
@@ -87,7 +95,7 @@ impl Script {
         ensures value { result.now ≡ self.now.known.weights }
         ensures kept { IsScriptOf self.now }
     {
-        self.known.weights.as_slice()
+        self.contents.get().known.weights.as_slice()
     }
 
     /// How far its questions are searched.
@@ -96,7 +104,7 @@ impl Script {
         ensures kept { IsScriptOf self.now }
         ensures within { AreLimits result.now }
     {
-        &self.known.limits
+        &self.contents.get().known.limits
     }
 
     /// The rules, in the order of their definitions.
@@ -104,7 +112,7 @@ impl Script {
         ensures value { result.now ≡ self.now.rules }
         ensures kept { IsScriptOf self.now }
     {
-        self.rules.as_slice()
+        self.contents.get().rules.as_slice()
     }
 
     /// The automata, compositions among them, in the order of their definitions.
@@ -112,7 +120,7 @@ impl Script {
         ensures value { result.now ≡ self.now.automata }
         ensures kept { IsScriptOf self.now }
     {
-        self.automata.as_slice()
+        self.contents.get().automata.as_slice()
     }
 
     /// The configurations, in the order of their definitions.
@@ -120,7 +128,7 @@ impl Script {
         ensures value { result.now ≡ self.now.configurations }
         ensures kept { IsScriptOf self.now }
     {
-        self.configurations.as_slice()
+        self.contents.get().configurations.as_slice()
     }
 
     /// The queries, in order.
@@ -128,7 +136,7 @@ impl Script {
         ensures value { result.now ≡ self.now.queries }
         ensures kept { IsScriptOf self.now }
     {
-        self.queries.as_slice()
+        self.contents.get().queries.as_slice()
     }
 }
 
