@@ -2,6 +2,8 @@
 -- configuration of a NO is given back by what is written of it.
 use Rattle.std.proofs.Common.{◌≡◌, ℕ, List, max, refl, ap, sym, subst, ◌∙◌, Some, None}
 use Rattle.std.specs.Prelude.{Option, IsSomeAnd}
+use Rattle.dd_derivation.specs.Derivations.{IsRefuting}
+use Rattle.dd_problem.specs.Problems.{box_problem}
 use Rattle.dd_lattice.specs.Place.{Place}
 use Rattle.dd_derivation.specs.declared.step.Step.{Step}
 use Rattle.dd_pattern.specs.declared.periods.Periods.{Periods}
@@ -30,7 +32,7 @@ use Rattle.dd_evidence.specs.Tiles.{given_periods, written_periods, IsWrittenBac
 use Rattle.dd_answer.specs.Right.{Right, IsRightTo, IsRightBox, IsRightEqual, written_decision, written_equality}
 use Rattle.dd_answer.specs.Bounds.{IsRightDensity, IsRightReason, IsRightDischarge}
 use Rattle.dd_checker.specs.Bounds.{IsStripCertificate, IsDischargeReason, IsDischargeCertificate}
-use Rattle.dd_checker.specs.Evidence.{Refutes, IsYes, IsNo, IsBoxCertificate, IsEqualCertificate}
+use Rattle.dd_checker.specs.Evidence.{IsYes, IsNo, IsBoxCertificate, IsEqualCertificate}
 use Rattle.dd_checker.specs.Certificates.{IsCertificateOf, IsCertificateFor}
 
 density_is : (x : LocalRule) (strip ws : List ℕ) (a : Answer) → IsRightDensity x strip ws a → IsStripCertificate x strip ws a
@@ -69,7 +71,7 @@ AreWrittenBack = (x : LocalRule) (t : Tile) → IsTile t → Fits x t → IsWrit
 
 module _ (back : AreWrittenBack) (l : Limits) where
   yes_of : (x : LocalRule) (g : GoalOf) (least n : ℕ) (steps : List Step) → IsLeastRadius g least → IsLeast (Suffices x g) least (max l.radius least) n →
-      Refutes x g n steps → IsYes l x g n steps
+      IsRefuting (box_problem x g n) steps → IsYes l x g n steps
   yes_of x g least n steps is first refuting = record { least = least; is_least = is; low = first.low; high = first.high; refuting = refuting }
 
   no_of : (x : LocalRule) (g : GoalOf) (q : Periods) (t : Tile) → AreWithin x.dimension l.period q → Displays x g q t →

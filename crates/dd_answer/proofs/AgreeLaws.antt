@@ -9,6 +9,8 @@ use Rattle.std.specs.List.{Contains}
 use Rattle.std.specs.Cmp.{IsTotalOrder}
 use Rattle.std.proofs.lemmas.Bool.{cases_order, ltb-false, false≢true}
 use Rattle.std.proofs.lemmas.Cmp.{nat_cmp_total, int_cmp_total, on_total, then_total}
+use Rattle.dd_derivation.specs.Derivations.{IsRefuting}
+use Rattle.dd_problem.specs.Problems.{box_problem}
 use Rattle.dd_lattice.specs.declared.position.Cell.{Cell}
 use Rattle.dd_lattice.specs.Place.{Place}
 use Rattle.dd_discharge.specs.Outcomes.{HasOneOutcome}
@@ -32,7 +34,7 @@ use Rattle.dd_contain.specs.declared.decision.Decision.{Decision}
 use Rattle.dd_contain.specs.declared.decision.Decision.TheVariants as decision
 use Rattle.dd_contain.specs.declared.equal.Equality.{Equality}
 use Rattle.dd_contain.specs.Decided.{IsLeast, IsFirst, IsDecidedBy}
-use Rattle.dd_contain.specs.Questions.{Refutes, ShowsAt, Displays, IsDecided}
+use Rattle.dd_contain.specs.Questions.{ShowsAt, Displays, IsDecided}
 use Rattle.dd_contain.specs.Equal.{joined, UnlessNo, IsEqualDecided}
 use Rattle.dd_query.specs.declared.queries.Query.{Query}
 use Rattle.dd_script.specs.Parts.{Parts}
@@ -125,7 +127,7 @@ same_tile x g p q t u same one other =
 
 module _ (x : LocalRule) (g : GoalOf) (least most p : ℕ) where
   abbrev Decides : Decision → Type 0
-  Decides d = IsDecidedBy (Suffices x g) (Refutes x g) (ShowsAt x g) (Displays x g) least most x.dimension p d
+  Decides d = IsDecidedBy (Suffices x g) (λ k steps. IsRefuting (box_problem x g k) steps) (ShowsAt x g) (Displays x g) least most x.dimension p d
 
   one_decision : (d e : Decision) → Decides d → Decides e → bare d ≡ bare e
   one_decision (decision.Yes n steps) (decision.Yes m others) h k = ap (λ r. decision.Yes r []) (least_one (Suffices x g) least most n m h.0 k.0)
@@ -145,7 +147,7 @@ decided_alike x g n p d e h k =
     let down : k.0 ≤ h.0 = k.1.least h.0 h.1.reaches in
     let same : k.0 ≡ h.0 = omega (arith, up, down) in
     one_decision x g h.0 (max n h.0) p d e h.2
-    (subst (λ l. IsDecidedBy (Suffices x g) (Refutes x g) (ShowsAt x g) (Displays x g) l (max n l) x.dimension p e) same k.2)
+    (subst (λ l. IsDecidedBy (Suffices x g) (λ k steps. IsRefuting (box_problem x g k) steps) (ShowsAt x g) (Displays x g) l (max n l) x.dimension p e) same k.2)
 
 -- ---- the answers of box questions
 

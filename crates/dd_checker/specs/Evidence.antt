@@ -3,7 +3,7 @@ use Rattle.std.specs.Prelude.{ℕ, ◌≡◌, ◌≤◌, true, max, List, length
 use Rattle.dd_pattern.specs.Periods.{AreWithin}
 use Rattle.dd_formula.specs.LocalRule.{LocalRule}
 use Rattle.dd_derivation.specs.declared.step.Step.{Step}
-use Rattle.dd_derivation.specs.Derivations.{refutes}
+use Rattle.dd_derivation.specs.Derivations.{IsRefuting}
 use Rattle.dd_boxes.specs.declared.limits.Limits.{Limits}
 use Rattle.dd_boxes.specs.Goals.{GoalOf, breaks}
 use Rattle.dd_boxes.specs.Boxes.{IsLeastRadius}
@@ -16,18 +16,14 @@ use Rattle.dd_certificate.specs.declared.answer.Reason.TheVariants as reason
 use Rattle.dd_certificate.specs.declared.answer.Answer.{Answer}
 use Rattle.dd_certificate.specs.declared.answer.Answer.TheVariants as answer
 
--- the steps refute the clauses that ask for an admissible filling of B(n) with the goal at the origin
-abbrev pub Refutes : LocalRule → GoalOf → ℕ → List Step → Type 0
-Refutes x g n steps = refutes (box_problem x g n).variables (box_problem x g n).clauses steps ≡ true
-
 -- n is at least the goal's least radius, and at most the limit or that, whichever is greater; and the steps refute the
--- clauses of its box
+-- clauses that ask for an admissible filling of B(n) with the goal at the origin
 pub record IsYes (l : Limits) (x : LocalRule) (g : GoalOf) (n : ℕ) (steps : List Step) : Type 0 where
   pub least : ℕ
   pub is_least : IsLeastRadius g least
   pub low : least ≤ n
   pub high : n ≤ max l.radius least
-  pub refuting : Refutes x g n steps
+  pub refuting : IsRefuting (box_problem x g n) steps
 
 -- there is a period for each axis, of at most the limit, and a shear less than the first; and the configuration has allowed
 -- symbols, lives in the premise's subshift and has the goal at the origin

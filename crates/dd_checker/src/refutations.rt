@@ -5,8 +5,10 @@ ghost use Rattle.dd_boxes.specs.Goals.{IsGoalFor};
 ghost use Rattle.dd_boxes.specs.Boxes.{Reaches};
 ghost use Rattle.dd_boxes.specs.Counts.{question_clauses, most_clauses};
 ghost use Rattle.dd_boxes.specs.Views.{goal_of};
+ghost use Rattle.dd_derivation.specs.Derivations.{IsRefuting};
+ghost use Rattle.dd_problem.specs.Problems.{box_problem};
 ghost use Rattle.dd_certificate.specs.Bounds.{IsWritableRefutation, most_count};
-ghost use Rattle.dd_checker.specs.Evidence.{Refutes, IsYes};
+ghost use Rattle.dd_checker.specs.Evidence.{IsYes};
 ghost use Rattle.dd_script.specs.Asking.{IsAskable};
 
 use dd_boxes::{Goal, Limits, least_radius};
@@ -37,7 +39,7 @@ fn refutes(
     requires goal { IsGoalFor premise.now (goal_of premise.now goal.now) }
     requires reaches { Reaches (goal_of premise.now goal.now) radius }
     requires few { question_clauses premise.now (goal_of premise.now goal.now) (volume (centred premise.now.dimension radius)) ≤ most_clauses }
-    ensures exact { IfOk result (λ refuted. IsTrue refuted ↔ Refutes premise.now (goal_of premise.now goal.now) radius steps.now) }
+    ensures exact { IfOk result (λ refuted. IsTrue refuted ↔ IsRefuting (box_problem premise.now (goal_of premise.now goal.now) radius) steps.now) }
     ensures writable { IfOk result (λ refuted. IsTrue refuted → IsWritableRefutation steps.now) }
 {
     refutations_fit();

@@ -1,6 +1,8 @@
 -- A box that suffices makes all larger ones suffice, and no configuration shows what it excludes.
 use Rattle.std.proofs.Common.{◌≡◌, ℕ, ◌≤◌, ◌||◌, ◌&&◌, Bool, true, false, refl, subst, arith}
 use Rattle.std.specs.Prelude.{max, nat_lt}
+use Rattle.dd_derivation.specs.Derivations.{IsRefuting}
+use Rattle.dd_problem.specs.Problems.{box_problem}
 use Rattle.dd_expansion.specs.Placed.{is_flat}
 use Rattle.dd_formula.specs.LocalRule.{LocalRule}
 use Rattle.dd_boxes.specs.Goals.{GoalOf, IsGoalFor}
@@ -9,7 +11,7 @@ use Rattle.dd_boxes.specs.Laws.{OneBox}
 use Rattle.dd_contain.specs.declared.decision.Decision.{Decision}
 use Rattle.dd_contain.specs.declared.decision.Decision.TheVariants.{Yes, No, Unknown}
 use Rattle.dd_contain.specs.Decided.{IsDecidedBy}
-use Rattle.dd_contain.specs.Questions.{Refutes, ShowsAt, Displays, IsDecided}
+use Rattle.dd_contain.specs.Questions.{ShowsAt, Displays, IsDecided}
 use Rattle.dd_contain.specs.Laws.{IsShown, Trichotomy}
 
 flat_origin : (d : ℕ) → is_flat d origin ≡ true
@@ -38,7 +40,7 @@ module _ (x : LocalRule) (g : GoalOf) (each : (radius : ℕ) → OneBox x g radi
     reached : Reaches g most
     reached = reaches least most is (omega arith)
 
-    told : (decision : Decision) → IsDecidedBy (Suffices x g) (Refutes x g) (ShowsAt x g) (Displays x g) least most x.dimension p decision →
+    told : (decision : Decision) → IsDecidedBy (Suffices x g) (λ k steps. IsRefuting (box_problem x g k) steps) (ShowsAt x g) (Displays x g) least most x.dimension p decision →
         Trichotomy x g most p decision
     told (Yes m steps) by =
         let enough : Suffices x g most = (each m).larger ok (reaches least m is by.0.low) by.0.holds most by.0.high in
@@ -73,4 +75,4 @@ module _ (x : LocalRule) (g : GoalOf) (each : (radius : ℕ) → OneBox x g radi
       let down : decided.0 ≤ least = decided.1.least least is.reaches in
       let same : decided.0 ≡ least = omega (arith, up, down) in
       told n p least is decision
-      (subst (λ k. IsDecidedBy (Suffices x g) (Refutes x g) (ShowsAt x g) (Displays x g) k (max n k) x.dimension p decision) same decided.2)
+      (subst (λ k. IsDecidedBy (Suffices x g) (λ k steps. IsRefuting (box_problem x g k) steps) (ShowsAt x g) (Displays x g) k (max n k) x.dimension p decision) same decided.2)

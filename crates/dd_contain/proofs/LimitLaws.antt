@@ -4,6 +4,8 @@ use Rattle.std.specs.Prelude.{◌&&◌, max}
 use Rattle.std.specs.List.{list_all}
 use Rattle.std.proofs.lemmas.Bool.{and_from}
 use Rattle.std.proofs.lemmas.List.Sums.{AllPass-from_list_all, list_all-from_AllPass}
+use Rattle.dd_derivation.specs.Derivations.{IsRefuting}
+use Rattle.dd_problem.specs.Problems.{box_problem}
 use Rattle.dd_lattice.specs.Boxes.{centred, volume}
 use Rattle.dd_formula.specs.LocalRule.{LocalRule, IsRule, is_near, is_of, reads_at}
 use Rattle.dd_formula.specs.lemmas.AutomatonLaws.{near_reads}
@@ -21,7 +23,7 @@ use Rattle.dd_contain.specs.declared.decision.Decision.{Decision}
 use Rattle.dd_contain.specs.declared.decision.Decision.TheVariants.{Yes, No, Unknown}
 use Rattle.dd_contain.specs.Decided.{IsDecidedBy}
 use Rattle.dd_contain.specs.searching.Listed.{AsksRadii, AsksWithin}
-use Rattle.dd_contain.specs.Questions.{AsksRadius, AsksPeriods, Refutes, RefutesByNumbers, ShowsAt, Displays, IsSmallQuestion, IsDecided, HasNumbers}
+use Rattle.dd_contain.specs.Questions.{AsksRadius, AsksPeriods, RefutesByNumbers, ShowsAt, Displays, IsSmallQuestion, IsDecided, HasNumbers}
 use Rattle.dd_contain.proofs.CountLaws.{fewer, box_up, torus_up}
 
 -- a rule reads nothing further than 16 away, so the least radius is at most 16
@@ -75,7 +77,7 @@ module _ (x : LocalRule) (g : GoalOf) (n p least : ℕ) (rule : IsRule x) (ok : 
   )
     where
       found : (decision : Decision) → IsDecidedBy (Suffices x g) (RefutesByNumbers x g) (ShowsAt x g) (Displays x g) least (max n least) x.dimension p decision →
-          IsDecidedBy (Suffices x g) (Refutes x g) (ShowsAt x g) (Displays x g) least (max n least) x.dimension p decision
+          IsDecidedBy (Suffices x g) (λ k steps. IsRefuting (box_problem x g k) steps) (ShowsAt x g) (Displays x g) least (max n least) x.dimension p decision
       found (Yes m steps) by = (by.0, by.1.refuting)
       found (No tile) by = by
       found Unknown by = by

@@ -2,7 +2,7 @@
 use Rattle.std.specs.Prelude.{ℕ, ◌≡◌, ◌≤◌, ◌+◌, ◌-◌, ◌^◌, true, max, length, List}
 use Rattle.dd_clause.specs.Clauses.{ClauseList}
 use Rattle.dd_derivation.specs.declared.step.Step.{Step}
-use Rattle.dd_derivation.specs.Derivations.{refutes}
+use Rattle.dd_derivation.specs.Derivations.{IsRefuting}
 use Rattle.dd_lattice.specs.Boxes.{centred, volume}
 use Rattle.dd_pattern.specs.declared.periods.Periods.{Periods}
 use Rattle.dd_pattern.specs.Periods.{periods_volume as tile_volume}
@@ -18,18 +18,14 @@ use Rattle.dd_contain.specs.declared.decision.Decision.{Decision}
 use Rattle.dd_contain.specs.declared.decision.Decision.TheVariants.{Yes, No, Unknown}
 use Rattle.dd_contain.specs.Decided.{IsDecidedBy}
 
--- the steps refute the clauses of the box
-abbrev pub Refutes : LocalRule → GoalOf → ℕ → List Step → Type 0
-Refutes x g n steps = refutes (box_problem x g n).variables (box_problem x g n).clauses steps ≡ true
-
 -- the variables are at most 2^24, and the clauses and the steps after them have numbers of 64 bits
 pub record AreNumbered (clauses : ClauseList) (steps : List Step) : Type 0 where
   pub variables : clauses.variables ≤ 2 ^ 24
   pub numbers : length clauses.clauses + length steps ≤ 2 ^ 64 - 1
 
--- both
+-- the steps refute the clauses of the box, and both are numbered
 pub record RefutesByNumbers (x : LocalRule) (g : GoalOf) (n : ℕ) (steps : List Step) : Type 0 where
-  pub refuting : Refutes x g n steps
+  pub refuting : IsRefuting (box_problem x g n) steps
   pub numbered : AreNumbered (box_problem x g n) steps
 
 -- the configuration has these periods, lives in the premise's subshift and has the goal at the origin
@@ -58,7 +54,7 @@ IsSmallQuestion x g n p = (least : ℕ) → IsLeastRadius g least → largest_cl
 abbrev pub IsDecided : LocalRule → GoalOf → ℕ → ℕ → Decision → Type 0
 IsDecided x g n p decision =
     (least : ℕ) × IsLeastRadius g least
-    × IsDecidedBy (Suffices x g) (Refutes x g) (ShowsAt x g) (Displays x g) least (max n least) x.dimension p decision
+    × IsDecidedBy (Suffices x g) (λ k steps. IsRefuting (box_problem x g k) steps) (ShowsAt x g) (Displays x g) least (max n least) x.dimension p decision
 
 -- the evidence of a YES is numbered
 abbrev pub HasNumbers : LocalRule → GoalOf → Decision → Type 0

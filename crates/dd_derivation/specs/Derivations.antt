@@ -1,10 +1,10 @@
 -- Refutations of a clause list: steps whose clauses follow by unit propagation along hints.
-use Rattle.std.specs.Prelude.{ℕ, zero, suc, ◌==◌, nat_le, Bool, true, false, not, ◌&&◌, ◌||◌, if◌then◌else◌, List, [], ◌∷◌, ◌++◌, Option, Some, None, is_some, slice_get, slice_set, map, take}
+use Rattle.std.specs.Prelude.{ℕ, zero, suc, ◌==◌, nat_le, Bool, true, false, not, ◌&&◌, ◌||◌, if◌then◌else◌, ◌≡◌, List, [], ◌∷◌, ◌++◌, Option, Some, None, is_some, slice_get, slice_set, map, take}
 use Rattle.std.specs.Bool.{beq}
 use Rattle.std.specs.List.{list_any, list_all, filter}
 use Rattle.std.specs.Option.{option_map_or, option_and_then}
 use Rattle.dd_clause.specs.declared.clause.Literal.{Literal}
-use Rattle.dd_clause.specs.Clauses.{negation}
+use Rattle.dd_clause.specs.Clauses.{ClauseList, negation}
 use Rattle.dd_derivation.specs.declared.propagation.Finding.{Finding}
 use Rattle.dd_derivation.specs.declared.propagation.Finding.TheVariants.{Falsified, Forced, Open}
 use Rattle.dd_derivation.specs.declared.step.Step.{Step}
@@ -88,6 +88,9 @@ refutes_from n known (s ∷ steps) =
 -- the steps refute the clauses over the variables 1..n
 abbrev pub refutes : ℕ → List (List Literal) → List Step → Bool
 refutes n clauses steps = refutes_from n (map (λ c. Some c) clauses) steps
+
+abbrev pub IsRefuting : ClauseList → List Step → Type 0
+IsRefuting cnf steps = refutes cnf.variables cnf.clauses steps ≡ true
 
 -- the clauses of the list, and then the steps'
 abbrev pub clauses_before : List (List Literal) → List Step → List (List Literal)

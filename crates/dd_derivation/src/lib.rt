@@ -6,7 +6,7 @@ mod propagation;
 mod refutation;
 mod step;
 
-pub use known::Known;
+pub use known::{Known, delete_named};
 pub use propagation::{FalseLiterals, Finding, find};
 pub use refutation::{Marks, check_refutation, check_step};
 pub use step::{Outcome, Step};

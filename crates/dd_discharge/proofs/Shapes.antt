@@ -14,6 +14,7 @@ use Rattle.std.proofs.lemmas.List.Sums.{sum_by-cons}
 use Rattle.dd_lattice.specs.Place.{Place}
 use Rattle.dd_lattice.specs.Cells.{cell}
 use Rattle.dd_lattice.specs.declared.position.Cell.{Cell}
+use Rattle.dd_topology.specs.Topology.{reversed}
 use Rattle.dd_pattern.specs.Reading.{Look}
 use Rattle.dd_pattern.specs.Weight.{total_weight}
 use Rattle.dd_expansion.specs.Limits.{greatest}
@@ -21,7 +22,7 @@ use Rattle.dd_formula.specs.LocalRule.{LocalRule}
 use Rattle.dd_rows.specs.declared.rows.Row.{Row}
 use Rattle.dd_rows.specs.declared.rows.Rows.{Rows}
 use Rattle.dd_rows.specs.Asked.{AreWeightsFor}
-use Rattle.dd_rows.specs.Domains.{box_cells, opposite_vector}
+use Rattle.dd_rows.specs.Domains.{box_cells}
 use Rattle.dd_rows.specs.Fillings.{look_of, fillings}
 use Rattle.dd_rows.specs.Patterns.{origin, pattern_at, givers, pattern_number}
 use Rattle.dd_rows.specs.Programs.{one_at, coefficients, origin_weight, row_of, greatest_weight_row, is_same_row, add_row, first_seen, rows, column_count, IsProgramOf}
@@ -109,7 +110,7 @@ filling_row x ws radius vs ps look few small =
     let size = length-map (range_with_len 0 x.nodes) (λ a. unwrap_or (look (cell origin a)) 0) in
     let count = length-range_with_len 0 x.nodes in
     record {
-      size = coefficient_size ps out ins (length vs) (length-map vs (λ v. pattern_at box look (opposite_vector v)));
+      size = coefficient_size ps out ins (length vs) (length-map vs (λ v. pattern_at box look (reversed v)));
       units = coefficient_units ps out ins;
       bound = omega (arith, total, size, count, few);
     }

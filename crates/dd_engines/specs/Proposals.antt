@@ -6,7 +6,7 @@ use Rattle.dd_values.specs.Variables.{true_variables}
 use Rattle.dd_derivation.specs.declared.step.Outcome.{Outcome}
 use Rattle.dd_derivation.specs.declared.step.Outcome.TheVariants.{Found, Refuted}
 use Rattle.dd_derivation.specs.declared.step.Step.{Step}
-use Rattle.dd_derivation.specs.Derivations.{refutes}
+use Rattle.dd_derivation.specs.Derivations.{IsRefuting}
 use Rattle.dd_engines.specs.declared.engine.Proposal.{Proposal}
 use Rattle.dd_engines.specs.declared.engine.Proposal.TheVariants.{Nothing, Found as Proposed, Refutation}
 use Rattle.dd_engines.specs.Rounds.{End, found, nothing, memory}
@@ -14,10 +14,6 @@ use Rattle.dd_engines.specs.Rounds.{End, found, nothing, memory}
 -- there is one value for each variable, and by them each clause is true
 abbrev pub IsSatisfying : ClauseList → List Bool → Type 0
 IsSatisfying cnf values = (length values ≡ cnf.variables) × Satisfies (true_variables values) cnf.clauses
-
--- the steps refute the clauses
-abbrev pub IsRefuting : ClauseList → List Step → Type 0
-IsRefuting cnf steps = refutes cnf.variables cnf.clauses steps ≡ true
 
 -- no assignment satisfies the clauses
 abbrev pub IsUnsatisfied : ClauseList → Type 0

@@ -9,8 +9,9 @@ use Rattle.dd_lattice.specs.Place.{Place, moved}
 use Rattle.dd_lattice.specs.Boxes.{IsCentred}
 use Rattle.dd_lattice.specs.Regions.{IsRegionOf, IsInEither, IsMoved}
 use Rattle.dd_lattice.specs.lemmas.ListLaws.{Contains-nil}
+use Rattle.dd_topology.specs.Topology.{reversed}
 use Rattle.dd_boxes.specs.lemmas.RuleLaws.{place_same}
-use Rattle.dd_rows.specs.Domains.{opposite_vector, IsInDomain}
+use Rattle.dd_rows.specs.Domains.{IsInDomain}
 
 back : (a b : ℤ) → ((a +ℤ (pos 0 -ℤ b)) +ℤ b) ≡ a
 back a b = omega (arith, ints)
@@ -18,10 +19,10 @@ back a b = omega (arith, ints)
 forth : (a b : ℤ) → a ≡ ((a +ℤ b) +ℤ (pos 0 -ℤ b))
 forth a b = omega (arith, ints)
 
-moved_back : (p v : Place) → moved (moved p (opposite_vector v)) v ≡ p
+moved_back : (p v : Place) → moved (moved p (reversed v)) v ≡ p
 moved_back p v = place_same _ _ _ p.x p.y p.z (back p.x v.x) (back p.y v.y) (back p.z v.z)
 
-moved_forth : (p v : Place) → p ≡ moved (moved p v) (opposite_vector v)
+moved_forth : (p v : Place) → p ≡ moved (moved p v) (reversed v)
 moved_forth p v = place_same p.x p.y p.z _ _ _ (forth p.x v.x) (forth p.y v.y) (forth p.z v.z)
 
 -- the first box
@@ -31,7 +32,7 @@ centred_from d radius p (inr there) = absurd (Contains-nil there.0 there.1)
 
 -- what the domain of the vectors so far and the box that is moved by the next one hold
 to_next : (d radius : ℕ) (vs : List Place) (v : Place) (around moved_box all : List Place) → IsRegionOf (IsInDomain d radius []) around →
-    IsRegionOf (IsMoved around (opposite_vector v)) moved_box → IsRegionOf (IsInDomain d radius vs) all → (p : Place) →
+    IsRegionOf (IsMoved around (reversed v)) moved_box → IsRegionOf (IsInDomain d radius vs) all → (p : Place) →
     Contains all p ⊎ Contains moved_box p → IsInDomain d radius (vs ++ v ∷ []) p
 to_next d radius vs v around moved_box all box there before p (inl old) = elim ((before.members p).0 old) [
   | inl here ↦ inl here
@@ -45,7 +46,7 @@ to_next d radius vs v around moved_box all box there before p (inr new) =
     inr (v, Contains-push vs v, subst (IsCentred d radius) same centred)
 
 from_next : (d radius : ℕ) (vs : List Place) (v : Place) (around moved_box all : List Place) → IsRegionOf (IsInDomain d radius []) around →
-    IsRegionOf (IsMoved around (opposite_vector v)) moved_box → IsRegionOf (IsInDomain d radius vs) all → (p : Place) →
+    IsRegionOf (IsMoved around (reversed v)) moved_box → IsRegionOf (IsInDomain d radius vs) all → (p : Place) →
     IsInDomain d radius (vs ++ v ∷ []) p → Contains all p ⊎ Contains moved_box p
 from_next d radius vs v around moved_box all box there before p (inl here) = inl ((before.members p).1 (inl here))
 from_next d radius vs v around moved_box all box there before p (inr far) = elim (Contains-push_cases vs v far.0 far.1) [
@@ -55,12 +56,12 @@ from_next d radius vs v around moved_box all box there before p (inr far) = elim
       inr ((there.members p).1 (moved p v, (box.members (moved p v)).1 (inl centred), moved_forth p v))
 ]
 
-pub domain_next : (d radius : ℕ) (vs : List Place) (i : ℕ) (v by : Place) (around moved_box all next : List Place) → i < length vs → v ≡ get_or vs i v → by ≡ opposite_vector v →
+pub domain_next : (d radius : ℕ) (vs : List Place) (i : ℕ) (v by : Place) (around moved_box all next : List Place) → i < length vs → v ≡ get_or vs i v → by ≡ reversed v →
     IsRegionOf (IsInDomain d radius []) around → IsRegionOf (IsMoved around by) moved_box → IsRegionOf (IsInDomain d radius (take i vs)) all →
     IsRegionOf (IsInEither all moved_box) next → IsRegionOf (IsInDomain d radius (take (i + 1) vs)) next
 domain_next d radius vs i v by around moved_box all next below at is box there before both =
     let more : take (i + 1) vs ≡ take i vs ++ v ∷ [] = take_more vs i v below ∙ ap (λ w. take i vs ++ w ∷ []) (sym at) in
-    let there' : IsRegionOf (IsMoved around (opposite_vector v)) moved_box = subst (λ w. IsRegionOf (IsMoved around w) moved_box) is there in
+    let there' : IsRegionOf (IsMoved around (reversed v)) moved_box = subst (λ w. IsRegionOf (IsMoved around w) moved_box) is there in
     let made : IsRegionOf (IsInDomain d radius (take i vs ++ v ∷ [])) next = record {
       region = both.region;
       members = λ p. (

@@ -7,6 +7,7 @@ use Rattle.std.proofs.lemmas.List.FromFn.{length-map-range_with_len}
 use Rattle.dd_lattice.specs.Place.{Place}
 use Rattle.dd_lattice.specs.Cells.{cell}
 use Rattle.dd_lattice.specs.declared.position.Cell.{Cell}
+use Rattle.dd_topology.specs.Topology.{reversed}
 use Rattle.dd_expansion.specs.Limits.{greatest}
 use Rattle.dd_formula.specs.LocalRule.{LocalRule}
 use Rattle.dd_rows.specs.declared.rows.Row.{Row}
@@ -14,7 +15,7 @@ use Rattle.dd_rows.specs.declared.rows.Rows.{Rows}
 use Rattle.dd_rows.specs.declared.fault.RowsFault.{RowsFault}
 use Rattle.dd_rows.specs.declared.fault.RowsFault.TheVariants.{Memory}
 use Rattle.dd_rows.specs.declared.views.Views.{Views}
-use Rattle.dd_rows.specs.Domains.{IsGround, box_cells, opposite_vector}
+use Rattle.dd_rows.specs.Domains.{IsGround, box_cells}
 use Rattle.dd_rows.specs.Faults.{OnLarge}
 use Rattle.dd_rows.specs.Fillings.{look_of, fillings, HasFewFillings}
 use Rattle.dd_rows.specs.Patterns.{patterns}
@@ -42,7 +43,7 @@ module _ (x : LocalRule) (radius margin : ℕ) (vs : List Place) (cs : List Cell
   centre_size = ap length are.centre ∙ length-map-range_with_len (λ a. rank cs (cell origin a)) 0 x.nodes
 
   givers_size : length v.givers ≡ length vs
-  givers_size = ap length are.givers ∙ length-map vs (λ w. view_of cs (box_cells x radius) (opposite_vector w))
+  givers_size = ap length are.givers ∙ length-map vs (λ w. view_of cs (box_cells x radius) (reversed w))
 
   shown_are : patterns_shown v lists ≡ patterns x radius vs cs
   shown_are = ap (patterns_shown v) listed ∙ all_shown x radius vs cs v are (fillings x cs)

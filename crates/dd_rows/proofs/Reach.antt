@@ -8,8 +8,9 @@ use Rattle.dd_lattice.specs.Place.{Place, place, moved, IsCoordinateInRange, IsI
 use Rattle.dd_lattice.specs.Boxes.{OnAxis, IsUpTo, IsCentred, is_active}
 use Rattle.dd_lattice.specs.Regions.{IsRegionOf, IsMoved, IsNearby, LeavesRange}
 use Rattle.dd_lattice.specs.lemmas.ListLaws.{Contains-nil}
+use Rattle.dd_topology.specs.Topology.{reversed}
 use Rattle.dd_rows.specs.Asked.{IsVector}
-use Rattle.dd_rows.specs.Domains.{opposite_vector, IsInDomain}
+use Rattle.dd_rows.specs.Domains.{IsInDomain}
 
 -- at most n from 0 on each axis
 record IsWithinReach (n : ℕ) (p : Place) : Type 0 where
@@ -64,14 +65,14 @@ domain_reach d radius vs p each (inr far) =
       z = far_back p.z v.z 4 radius given.z r.z;
     }
 
-pub moved_stays : (d radius : ℕ) (v by : Place) (around : List Place) → radius ≤ 3 → IsVector d v → by ≡ opposite_vector v → IsRegionOf (IsInDomain d radius []) around →
+pub moved_stays : (d radius : ℕ) (v by : Place) (around : List Place) → radius ≤ 3 → IsVector d v → by ≡ reversed v → IsRegionOf (IsInDomain d radius []) around →
     LeavesRange (IsMoved around by) → ⊥
 moved_stays d radius v by around small is_vector is box leaves =
     let from = rw is at leaves.member in
     let q = from.0 in
     let r = centred_reach d radius q (elim ((box.members q).0 from.1) [ inl here ↦ here | inr far ↦ absurd (Contains-nil far.0 far.1) ]) in
     let given = vector_reach d v is_vector in
-    let there : IsWithinReach (radius + 4) (moved q (opposite_vector v)) = record {
+    let there : IsWithinReach (radius + 4) (moved q (reversed v)) = record {
       x = far_moved q.x v.x radius 4 r.x given.x;
       y = far_moved q.y v.y radius 4 r.y given.y;
       z = far_moved q.z v.z radius 4 r.z given.z;

@@ -12,10 +12,11 @@ use Rattle.std.proofs.lemmas.Simd.{map-map}
 use Rattle.dd_lattice.specs.Place.{Place}
 use Rattle.dd_lattice.specs.Cells.{cell, shifted}
 use Rattle.dd_lattice.specs.declared.position.Cell.{Cell}
+use Rattle.dd_topology.specs.Topology.{reversed}
 use Rattle.dd_pattern.specs.Weight.{total_weight}
 use Rattle.dd_formula.specs.LocalRule.{LocalRule}
 use Rattle.dd_rows.specs.declared.views.Views.{Views}
-use Rattle.dd_rows.specs.Domains.{opposite_vector, box_cells}
+use Rattle.dd_rows.specs.Domains.{box_cells}
 use Rattle.dd_rows.specs.Fillings.{look_of}
 use Rattle.dd_rows.specs.Patterns.{pattern_at, givers, patterns_in, in_lexicographic_order}
 use Rattle.dd_boxes.specs.Boxes.{origin}
@@ -39,8 +40,8 @@ module _ (x : LocalRule) (radius : ℕ) (vs : List Place) (cs : List Cell) (v : 
   ins_shown : (ss : List ℕ) → map (symbols_at ss) v.givers ≡ givers (box_cells x radius) vs (look_of cs ss)
   ins_shown ss =
       ap (map (symbols_at ss)) are.givers
-      ∙ (map-map (symbols_at ss) (λ w. view_of cs (box_cells x radius) (opposite_vector w)) vs
-      ∙ map_agree (λ w. symbols_at ss (view_of cs (box_cells x radius) (opposite_vector w))) (λ w. pattern_at (box_cells x radius) (look_of cs ss) (opposite_vector w)) (λ w. shown ss (opposite_vector w)) vs)
+      ∙ (map-map (symbols_at ss) (λ w. view_of cs (box_cells x radius) (reversed w)) vs
+      ∙ map_agree (λ w. symbols_at ss (view_of cs (box_cells x radius) (reversed w))) (λ w. pattern_at (box_cells x radius) (look_of cs ss) (reversed w)) (λ w. shown ss (reversed w)) vs)
 
   patterns_shown : (ss : List ℕ) → patterns_seen v ss ≡ patterns_in (box_cells x radius) vs (look_of cs ss)
   patterns_shown ss =

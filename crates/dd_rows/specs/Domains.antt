@@ -8,9 +8,6 @@ use Rattle.dd_lattice.specs.Regions.{PlaceSet, IsRegionOf, seen_from}
 use Rattle.dd_lattice.specs.declared.position.Cell.{Cell}
 use Rattle.dd_formula.specs.LocalRule.{LocalRule}
 
-abbrev pub opposite_vector : Place → Place
-opposite_vector v = place (pos 0 -ℤ v.x) (pos 0 -ℤ v.y) (pos 0 -ℤ v.z)
-
 -- D: the box of the radius, and for each vector v this box moved by -v
 abbrev pub IsInDomain : ℕ → ℕ → List Place → PlaceSet
 IsInDomain d radius vs p = IsCentred d radius p ⊎ ((v : Place) × Contains vs v × IsCentred d radius (moved p v))

@@ -7,10 +7,11 @@ use Rattle.std.specs.BTreeSet.{insert_key}
 use Rattle.dd_lattice.specs.Place.{Place}
 use Rattle.dd_lattice.specs.Cells.{shifted}
 use Rattle.dd_lattice.specs.declared.position.Cell.{Cell}
+use Rattle.dd_topology.specs.Topology.{reversed}
 use Rattle.dd_pattern.specs.Reading.{Look}
 use Rattle.dd_formula.specs.LocalRule.{LocalRule}
 pub use Rattle.dd_boxes.specs.Boxes.{origin}
-use Rattle.dd_rows.specs.Domains.{opposite_vector, box_cells}
+use Rattle.dd_rows.specs.Domains.{box_cells}
 use Rattle.dd_rows.specs.Fillings.{look_of, fillings}
 
 -- the symbols of the box, moved to the position
@@ -19,7 +20,7 @@ pattern_at box look p = map (λ c. unwrap_or (look (shifted p c)) 0) box
 
 -- around the positions from which the origin receives: -v along the vector v
 abbrev pub givers : List Cell → List Place → Look → List (List ℕ)
-givers box vs look = map (λ v. pattern_at box look (opposite_vector v)) vs
+givers box vs look = map (λ v. pattern_at box look (reversed v)) vs
 
 -- around the origin, and around these
 abbrev pub patterns_in : List Cell → List Place → Look → List (List ℕ)

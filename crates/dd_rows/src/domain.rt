@@ -5,9 +5,10 @@ ghost use Rattle.dd_lattice.specs.Place.{IsCoordinateInRange};
 ghost use Rattle.dd_lattice.specs.Order.{cell_cmp};
 ghost use Rattle.dd_lattice.specs.Boxes.{centred, positions_of};
 ghost use Rattle.dd_lattice.specs.Regions.{IsRegion, IsRegionOf, IsMoved};
+ghost use Rattle.dd_topology.specs.Topology.{reversed};
 ghost use Rattle.dd_rows.specs.Asked.{IsVector, AreVectors};
 ghost use Rattle.dd_rows.specs.listing.Levels.{AreOf, AreInRange};
-ghost use Rattle.dd_rows.specs.Domains.{IsInDomain, IsInGround, IsGround, cells_on, box_cells, opposite_vector};
+ghost use Rattle.dd_rows.specs.Domains.{IsInDomain, IsInGround, IsGround, cells_on, box_cells};
 
 use crate::fault::RowsFault;
 use dd_formula::Rule;
@@ -25,7 +26,7 @@ fn negated(coordinate: i32) -> i32
 
 /// The position on the other side of the origin.
 pub(crate) fn opposite(position: &Position) -> Position
-    ensures { result ≡ opposite_vector position.now }
+    ensures { result ≡ reversed position.now }
 {
     Position {
         x: negated(position.x),

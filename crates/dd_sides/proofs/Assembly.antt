@@ -14,6 +14,8 @@ use Rattle.dd_lattice.specs.Cells.{shifted}
 use Rattle.dd_lattice.specs.Boxes.{is_active, OnAxis, IsUpTo, IsCentred}
 use Rattle.dd_lattice.specs.declared.position.Cell.{Cell}
 use Rattle.dd_lattice.specs.lemmas.ListLaws.{Contains-first, Contains-later, Contains-map}
+use Rattle.dd_lattice.specs.Regions.{seen_from}
+use Rattle.dd_topology.specs.Topology.{reversed}
 use Rattle.dd_pattern.specs.Reading.{Look}
 use Rattle.dd_expansion.specs.Limits.{greatest}
 use Rattle.dd_expansion.specs.Placed.{is_flat}
@@ -24,14 +26,14 @@ use Rattle.dd_rows.specs.declared.rows.Row.{Row}
 use Rattle.dd_rows.specs.declared.rows.Rows.{Rows}
 use Rattle.dd_discharge.specs.declared.bound.Bound.{Bound}
 use Rattle.dd_rows.specs.Asked.{IsVector, AreVectors}
-use Rattle.dd_rows.specs.Domains.{opposite_vector, box_cells}
+use Rattle.dd_rows.specs.Domains.{box_cells}
 use Rattle.dd_rows.specs.Fillings.{look_of, fillings}
 use Rattle.dd_rows.specs.Patterns.{pattern_at, patterns, pattern_number}
 use Rattle.dd_boxes.specs.Boxes.{origin}
 use Rattle.dd_rows.specs.Programs.{column_count, greatest_weight_row, row_of, rows, origin_weight, one_at}
 use Rattle.dd_discharge.specs.Amounts.{total_below, column_value, MeetRows, held_over}
 use Rattle.dd_discharge.specs.Certificates.{IsBoundCertificate}
-use Rattle.dd_sides.specs.Sums.{size_volume, giver}
+use Rattle.dd_sides.specs.Sums.{size_volume}
 use Rattle.dd_sides.specs.Sides.{side_length, side, is_near_run, is_in_grown, IsSideFilling, position_weight, side_weight}
 use Rattle.dd_sides.specs.Boundaries.{outer_count, boundary}
 use Rattle.dd_sides.specs.Lifted.{reach_of, HoldsOnSides}
@@ -100,12 +102,12 @@ given_is : (m : ℕ) (number : Place → ℕ) (vs : List Place) (a : List ℕ) (
 given_is m number [] a p = refl
 given_is m number (v ∷ vs) a p = ap (λ (n : ℕ). get_or (take m a) (number p) 0 + n) (given_is m number vs (drop m a) p)
 
-received_is : (m : ℕ) (number : Place → ℕ) (f : Place → ℕ) (vs : List Place) (a : List ℕ) (p : Place) → ((v : Place) → Contains vs v → f v ≡ number (giver v p)) →
+received_is : (m : ℕ) (number : Place → ℕ) (f : Place → ℕ) (vs : List Place) (a : List ℕ) (p : Place) → ((v : Place) → Contains vs v → f v ≡ number (seen_from v p)) →
     comes m f vs a ≡ received (gifts m number vs a) p
 received_is m number f [] a p same = refl
 received_is m number f (v ∷ vs) a p same =
     ap (λ (i : ℕ). get_or (take m a) i 0 + comes m f vs (drop m a)) (same v (Contains-first v vs))
-    ∙ ap (λ (n : ℕ). get_or (take m a) (number (giver v p)) 0 + n) (received_is m number f vs (drop m a) p (λ w h. same w (Contains-later v vs w h)))
+    ∙ ap (λ (n : ℕ). get_or (take m a) (number (seen_from v p)) 0 + n) (received_is m number f vs (drop m a) p (λ w h. same w (Contains-later v vs w h)))
 
 comes_in_is : (d n m : ℕ) (number : Place → ℕ) (vs : List Place) (a : List ℕ) → 1 ≤ d → d ≤ 3 → ((v : Place) → Contains vs v → is_flat d v ≡ true) →
     comes_in (side d n) (gifts m number vs a) ≡ boundary d n m vs a
@@ -127,7 +129,7 @@ met : (rs : List Row) (n common held : ℕ) (a : List ℕ) → MeetRows rs n com
 met rs n common held a meets r c =
     subst (Meets n common held a) (get_or_default rs c.0 (record { coefficients = []; bound = 0 }) r c.1 ∙ c.2) (meets.each c.0 c.1)
 
-giver_is : (v p : Place) → moved (opposite_vector v) p ≡ giver v p
+giver_is : (v p : Place) → moved (reversed v) p ≡ seen_from v p
 giver_is v p = place_same _ _ _ _ _ _ (less v.x p.x) (less v.y p.y) (less v.z p.z)
   where
     less : (b a : ℤ) → (pos 0 -ℤ b) +ℤ a ≡ a -ℤ b
@@ -185,13 +187,13 @@ module _ (x : LocalRule) (ws : List ℕ) (radius margin : ℕ) (vs : List Place)
 
   row_holds : (p : Place) → IsAt (side x.dimension n) u p →
       held_over b + goes_out m (pattern_number program.patterns (pattern_at box (shown ground look p) origin)) vs b.amounts
-      ≤ b.common * origin_weight x ws (shown ground look p) + comes m (λ v. pattern_number program.patterns (pattern_at box (shown ground look p) (opposite_vector v))) vs b.amounts
+      ≤ b.common * origin_weight x ws (shown ground look p) + comes m (λ v. pattern_number program.patterns (pattern_at box (shown ground look p) (reversed v))) vs b.amounts
   row_holds p at =
       let less = shown ground look p in
       let out = pattern_number program.patterns (pattern_at box less origin) in
-      let f = λ (v : Place). pattern_number program.patterns (pattern_at box less (opposite_vector v)) in
+      let f = λ (v : Place). pattern_number program.patterns (pattern_at box less (reversed v)) in
       let row = met program.rows (column_count (length vs) m) b.common (held_over b) b.amounts k.certificate.certified.amounts (row_of x ws radius vs program.patterns less) (row_kept p at) in
-      let sides = flat_map-map (λ q. map (λ i. one_at i out -ℤ one_at i (pattern_number program.patterns q)) (range_with_len 0 m)) (λ v. pattern_at box less (opposite_vector v)) vs in
+      let sides = flat_map-map (λ q. map (λ i. one_at i out -ℤ one_at i (pattern_number program.patterns q)) (range_with_len 0 m)) (λ v. pattern_at box less (reversed v)) vs in
       row_says m (held_over b) b.common (origin_weight x ws less) out f vs b.amounts
       (subst (λ (cs : List ℤ). total_below (λ j. get_or (pos 1 ∷ cs) j (pos 0) *ℤ column_value (pos (held_over b)) b.amounts j) (1 + length vs * m) ≤ℤ pos (b.common * origin_weight x ws less)) sides row)
 
@@ -208,17 +210,17 @@ module _ (x : LocalRule) (ws : List ℕ) (radius margin : ℕ) (vs : List Place)
       let w = box_within c h in
       subst (Contains ground) (sym (shifted_by_origin c)) (ground_has x radius margin vs ground is_ground c.position c.node (at_origin x.dimension radius margin vs c.position w.0) w.1))
       ∙ ap (pattern_at box look) (moved_from_origin p)) in
-      let in_same : (v : Place) → Contains vs v → pattern_number ps (pattern_at box (shown ground look p) (opposite_vector v)) ≡ number (giver v p) = λ v among.
-      ap (pattern_number ps) (shown_pattern ground box look p (opposite_vector v) (λ c h.
+      let in_same : (v : Place) → Contains vs v → pattern_number ps (pattern_at box (shown ground look p) (reversed v)) ≡ number (seen_from v p) = λ v among.
+      ap (pattern_number ps) (shown_pattern ground box look p (reversed v) (λ c h.
       let w = box_within c h in
-      ground_has x radius margin vs ground is_ground (moved c.position (opposite_vector v)) c.node (at_giver x.dimension radius margin vs v c.position among w.0) w.1)
+      ground_has x radius margin vs ground is_ground (moved c.position (reversed v)) c.node (at_giver x.dimension radius margin vs v c.position among w.0) w.1)
       ∙ ap (pattern_at box look) (giver_is v p)) in
       let weight = shown_weight x ws ground look p (λ a h.
       ground_has x radius margin vs ground is_ground origin a (at_origin x.dimension radius margin vs origin (origin_centred x.dimension radius)) (range_below x.nodes a h)) in
       moved_row (held_over b) b.common _ _ _ _ _ _ (row_holds p at)
       (ap (λ (o : ℕ). goes_out m o vs b.amounts) out_same ∙ given_is m number vs b.amounts p)
       weight
-      (received_is m number (λ v. pattern_number ps (pattern_at box (shown ground look p) (opposite_vector v))) vs b.amounts p in_same)
+      (received_is m number (λ v. pattern_number ps (pattern_at box (shown ground look p) (reversed v))) vs b.amounts p in_same)
 
   box_holds : held_over b * n ^ x.dimension ≤ b.common * side_weight x ws look n u + boundary x.dimension n m vs b.amounts
   box_holds =

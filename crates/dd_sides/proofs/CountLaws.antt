@@ -4,7 +4,8 @@ use Rattle.std.specs.Prelude.{ℤ, pos, negsuc, ◌+ℤ◌, ◌-ℤ◌, unsigned
 use Rattle.std.proofs.lemmas.Int.{ints}
 use Rattle.std.proofs.lemmas.Bool.{cases_lt}
 use Rattle.dd_lattice.specs.Place.{Place}
-use Rattle.dd_sides.specs.Sums.{Size, axis_sum, box_sum, size_volume, is_on, is_in_box, giver, from_outside}
+use Rattle.dd_lattice.specs.Regions.{seen_from}
+use Rattle.dd_sides.specs.Sums.{Size, axis_sum, box_sum, size_volume, is_on, is_in_box, from_outside}
 use Rattle.dd_sides.specs.lemmas.AxisLaws.{axis_split, axis_same}
 use Rattle.dd_sides.specs.lemmas.BoxLaws.{kept, box_add, box_same, box_const}
 
@@ -72,7 +73,7 @@ each_axis false q true = by_second q
     by_second false = refl
 each_axis false q false = refl
 
-box_count : (s : Size) (u v : Place) → box_sum s u (λ p. cond (is_in_box s u (giver v p)) 1 0) ≡ kept s v
+box_count : (s : Size) (u v : Place) → box_sum s u (λ p. cond (is_in_box s u (seen_from v p)) 1 0) ≡ kept s v
 box_count s u v =
     axis_same s.z u.z _ _ (λ z.
     axis_same s.y u.y _ _ (λ y.
@@ -91,8 +92,8 @@ one_of false = refl
 
 pub outside_count : (s : Size) (u v : Place) → box_sum s u (from_outside s u v) + kept s v ≡ size_volume s
 outside_count s u v =
-    let a = box_add s u (from_outside s u v) (λ p. cond (is_in_box s u (giver v p)) 1 0) in
-    let b = box_same s u (λ p. from_outside s u v p + cond (is_in_box s u (giver v p)) 1 0) (λ _. 1) (λ p. one_of (is_in_box s u (giver v p))) in
+    let a = box_add s u (from_outside s u v) (λ p. cond (is_in_box s u (seen_from v p)) 1 0) in
+    let b = box_same s u (λ p. from_outside s u v p + cond (is_in_box s u (seen_from v p)) 1 0) (λ _. 1) (λ p. one_of (is_in_box s u (seen_from v p))) in
     let c = box_const s u 1 in
     let d = box_count s u v in
     omega (arith, a, b, c, d)

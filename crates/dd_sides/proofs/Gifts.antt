@@ -2,7 +2,8 @@
 -- box holds and gives is at most what it has and receives, the box has what its positions hold, up to what comes in from outside.
 use Rattle.std.proofs.Common.{◌≡◌, ℕ, ◌+◌, ◌-◌, ◌*◌, ◌≤◌, List, [], ◌∷◌, ap, arith}
 use Rattle.dd_lattice.specs.Place.{Place}
-use Rattle.dd_sides.specs.Sums.{Size, box_sum, size_volume, giver}
+use Rattle.dd_lattice.specs.Regions.{seen_from}
+use Rattle.dd_sides.specs.Sums.{Size, box_sum, size_volume}
 use Rattle.dd_sides.specs.lemmas.BoxLaws.{IsAt, kept, box_moved, box_at_most, box_add, box_times, box_const, box_shifted, kept_at_most}
 
 pub record Gift : Type 0 where
@@ -17,7 +18,7 @@ given (g ∷ gs) p = g.give p + given gs p
 
 abbrev pub received : List Gift → Place → ℕ
 received [] p = 0
-received (g ∷ gs) p = g.give (giver g.along p) + received gs p
+received (g ∷ gs) p = g.give (seen_from g.along p) + received gs p
 
 -- what may come in
 abbrev pub comes_in : Size → List Gift → ℕ
@@ -30,7 +31,7 @@ outside x y m k n le h = let e : n ≡ k + (n - k) = omega arith in let f : m * 
 received_at_most : (s : Size) (u : Place) (gs : List Gift) → box_sum s u (received gs) ≤ box_sum s u (given gs) + comes_in s gs
 received_at_most s u [] = omega arith
 received_at_most s u (g ∷ gs) =
-    let a = box_add s u (λ p. g.give (giver g.along p)) (received gs) in
+    let a = box_add s u (λ p. g.give (seen_from g.along p)) (received gs) in
     let b = box_add s u g.give (given gs) in
     let c = box_moved s u g.along g.give in
     let d = outside _ _ g.most (kept s g.along) (size_volume s) (kept_at_most s g.along) (box_shifted s u g.along g.give g.most g.within) in

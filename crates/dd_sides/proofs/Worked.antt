@@ -1,11 +1,12 @@
 -- Worked rows: the definitions on small boxes, vectors and looks.
 use Rattle.std.proofs.Common.{◌≡◌, ◌+◌, ◌%◌, true, false, [], ◌∷◌, pos, negsuc, unsigned_abs, Some, refl}
 use Rattle.dd_lattice.specs.Place.{Place, place}
+use Rattle.dd_lattice.specs.Regions.{seen_from}
 use Rattle.dd_pattern.specs.Reading.{Look}
 use Rattle.dd_expansion.specs.declared.formulas.Formula.{roll-Formula}
 use Rattle.dd_expansion.specs.declared.formulas.Formula.TheOpen.{Formula-F}
 use Rattle.dd_formula.specs.LocalRule.{LocalRule}
-use Rattle.dd_sides.specs.Sums.{box_sum, size_volume, giver, from_outside}
+use Rattle.dd_sides.specs.Sums.{box_sum, size_volume, from_outside}
 use Rattle.dd_sides.specs.Sides.{side, is_in_grown, side_weight}
 use Rattle.dd_sides.specs.Boundaries.{outer_count, boundary}
 use Rattle.dd_sides.specs.Lifted.{reach_of}
@@ -21,7 +22,7 @@ nine_in_a_square = refl
 abbrev down_right : Place
 down_right = place (pos 1) (negsuc 0) (pos 0)
 
-from_up_left : giver down_right (place (pos 0) (pos 0) (pos 0)) ≡ place (negsuc 0) (pos 1) (pos 0)
+from_up_left : seen_from down_right (place (pos 0) (pos 0) (pos 0)) ≡ place (negsuc 0) (pos 1) (pos 0)
 from_up_left = refl
 
 five_from_outside : outer_count 2 3 down_right ≡ 5

@@ -1,12 +1,13 @@
 //! The laws of boxes of every side, as contracts of calls that do nothing.
 ghost use Rattle.std.specs.Prelude.{ℕ, List, ◌≤◌, ◌≡◌, true};
 ghost use Rattle.dd_lattice.specs.Place.{Place};
+ghost use Rattle.dd_lattice.specs.Regions.{seen_from};
 ghost use Rattle.dd_expansion.specs.Placed.{is_flat};
 ghost use Rattle.dd_formula.specs.LocalRule.{LocalRule, IsRule};
 ghost use Rattle.dd_discharge.specs.declared.bound.Bound.{Bound};
 ghost use Rattle.dd_rows.specs.Asked.{AreVectors};
 ghost use Rattle.dd_discharge.specs.Certificates.{IsBoundCertificate};
-ghost use Rattle.dd_sides.specs.Sums.{Size, box_sum, giver, from_outside};
+ghost use Rattle.dd_sides.specs.Sums.{Size, box_sum, from_outside};
 ghost use Rattle.dd_sides.specs.Sides.{side, IsSide};
 ghost use Rattle.dd_sides.specs.Boundaries.{outer_count};
 ghost use Rattle.dd_sides.specs.Lifted.{HoldsOnSides};
@@ -22,7 +23,7 @@ pub fn sides_are()
 /// moved by its opposite give.
 #[tactic(auto, using(crate::specs::lemmas::BoxLaws::box_moved))]
 pub fn received_is_given()
-    ensures { (s : Size) (u v : Place) (give : Place → ℕ) → box_sum s u (λ p. give (giver v p)) ≡ box_sum s (giver v u) give }
+    ensures { (s : Size) (u v : Place) (give : Place → ℕ) → box_sum s u (λ p. give (seen_from v p)) ≡ box_sum s (seen_from v u) give }
 {}
 
 /// Does nothing; its contract says how many positions of a box of side n receive along a vector from outside it.

@@ -3,8 +3,6 @@
 // a literal of the trail. What is chosen is looked at exactly, so no promise rests on what is kept here.
 ghost use Rattle.std.specs.Prelude.{◌≡◌, ℕ, List, ◌<◌, false, length, IfOk, Some, slice_index_or};
 ghost use Rattle.dd_clause.specs.declared.clause.Literal.{Literal};
-ghost use Rattle.dd_derivation.specs.Derivations.{known_after};
-ghost use Rattle.dd_derivation.specs.MarksOf.{known_of};
 ghost use Rattle.dd_solver.specs.Deleting.{AreChosen, MayDelete};
 
 use crate::database::Database;
@@ -31,20 +29,6 @@ struct Candidate {
     levels: u32,
     length: usize,
     age: usize,
-}
-
-/// Of clauses by their numbers, from 1, whether they are alive: those of these numbers that there are no longer are.
-pub fn forget(alive: &mut [bool], numbers: &[u64])
-    ensures { (cs : List (List Literal)) → known_of cs alive.new ≡ known_after (known_of cs alive.old) numbers.now }
-{
-    for number in numbers {
-        if *number >= 1 {
-            let place = (*number - 1) as usize;
-            if place < alive.len() {
-                alive[place] = false;
-            }
-        }
-    }
 }
 
 /// Of each learned clause its number of levels; of each level when it was last counted, and the number of that count; at

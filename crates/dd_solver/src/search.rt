@@ -13,13 +13,13 @@ ghost use Rattle.dd_solver.specs.Answers.{IsAnswer, IsFound, IsRefuted, IsSatisf
 
 use crate::analysis::{Turn, learn};
 use crate::database::Database;
-use crate::deletion::{Deletion, forget};
+use crate::deletion::Deletion;
 use crate::order::Order;
 use crate::propagation::Scan;
 use crate::trail::{Entry, Trail};
 use crate::watches::Watches;
 use dd_clause::{Assignment, Clause, Cnf};
-use dd_derivation::{Outcome, Step};
+use dd_derivation::{Outcome, Step, delete_named};
 use dd_values::Items;
 use std::alloc::{AllocError, Global};
 use std::marker::Model;
@@ -63,7 +63,7 @@ fn push_step(steps: &mut Vec<Step>, alive: &mut Vec<bool>, step: Step) -> Result
         alive.truncate(count);
         return Err(error.into());
     }
-    forget(alive.as_mut_slice(), steps[last].deletes.as_slice());
+    delete_named(alive.as_mut_slice(), steps[last].deletes.as_slice());
     Ok(())
 }
 

@@ -7,9 +7,10 @@ use Rattle.std.specs.BTreeSet.{insert_key}
 use Rattle.dd_lattice.specs.Place.{Place}
 use Rattle.dd_lattice.specs.Cells.{cell, shifted}
 use Rattle.dd_lattice.specs.declared.position.Cell.{Cell}
+use Rattle.dd_topology.specs.Topology.{reversed}
 use Rattle.dd_formula.specs.LocalRule.{LocalRule}
 use Rattle.dd_rows.specs.declared.views.Views.{Views}
-use Rattle.dd_rows.specs.Domains.{opposite_vector, box_cells}
+use Rattle.dd_rows.specs.Domains.{box_cells}
 use Rattle.dd_boxes.specs.Boxes.{origin}
 use Rattle.dd_numbered.specs.Numbering.{rank}
 
@@ -18,7 +19,7 @@ view_of cs box p = map (λ c. rank cs (shifted p c)) box
 
 -- around the opposite of each vector
 abbrev pub givers_of : List Cell → List Cell → List Place → List (List ℕ)
-givers_of cs box vs = map (λ v. view_of cs box (opposite_vector v)) vs
+givers_of cs box vs = map (λ v. view_of cs box (reversed v)) vs
 
 -- of the cells at the origin
 abbrev pub centre_of : List Cell → ℕ → List ℕ

@@ -3,7 +3,8 @@ use Rattle.std.proofs.Common.{◌≡◌, ℕ, ◌+◌, ◌-◌, ◌*◌, ◌<◌
 use Rattle.std.specs.Prelude.{ℤ, pos, ◌+ℤ◌, ◌-ℤ◌, unsigned_abs}
 use Rattle.std.proofs.Math.Nat.{mul-le-mul}
 use Rattle.dd_lattice.specs.Place.{Place, place}
-use Rattle.dd_sides.specs.Sums.{Size, axis_sum, box_sum, size_volume, giver}
+use Rattle.dd_lattice.specs.Regions.{seen_from}
+use Rattle.dd_sides.specs.Sums.{Size, axis_sum, box_sum, size_volume}
 use Rattle.dd_sides.specs.lemmas.AxisLaws.{axis_moved, axis_same, axis_at_most, axis_add, axis_const, axis_times, axis_most, axis_shifted}
 
 -- the position with these numbers in the box
@@ -20,7 +21,7 @@ pub record IsAt (s : Size) (u p : Place) : Type 0 where
 abbrev pub kept : Size → Place → ℕ
 kept s v = (s.z - unsigned_abs v.z) * ((s.y - unsigned_abs v.y) * (s.x - unsigned_abs v.x))
 
-pub box_moved : (s : Size) (u v : Place) (f : Place → ℕ) → box_sum s u (λ p. f (giver v p)) ≡ box_sum s (giver v u) f
+pub box_moved : (s : Size) (u v : Place) (f : Place → ℕ) → box_sum s u (λ p. f (seen_from v p)) ≡ box_sum s (seen_from v u) f
 box_moved s u v f =
     axis_same s.z u.z _ _ (λ z.
     axis_same s.y u.y _ _ (λ y. axis_moved s.x u.x v.x (λ x. f (place x (y -ℤ v.y) (z -ℤ v.z))))
@@ -63,7 +64,7 @@ regroup_volume a b c m = omega arith
 
 -- what is given over the box moved by the opposite of v, against what is given over the box
 pub box_shifted : (s : Size) (u v : Place) (f : Place → ℕ) (m : ℕ) → ((p : Place) → f p ≤ m) →
-    box_sum s (giver v u) f + m * kept s v ≤ box_sum s u f + m * size_volume s
+    box_sum s (seen_from v u) f + m * kept s v ≤ box_sum s u f + m * size_volume s
 box_shifted s u v f m up =
     let X = λ (a z y : ℤ). axis_sum s.x a (λ x. f (place x y z)) in
     let Y = λ (a b z : ℤ). axis_sum s.y b (λ y. axis_sum s.x a (λ x. f (place x y z))) in

@@ -15,12 +15,12 @@ use Rattle.dd_lattice.specs.declared.position.Cell.{Cell}
 use Rattle.dd_lattice.specs.lemmas.ListLaws.{Contains-nil, Contains-cons_cases, Contains-first, Contains-later, Contains-map, Contains-from_map, All-from_contains}
 use Rattle.dd_lattice.specs.lemmas.BoxLaws.{centred_members}
 use Rattle.dd_lattice.specs.lemmas.PositionLaws.{positions_region}
-use Rattle.dd_topology.specs.Topology.{extent}
+use Rattle.dd_topology.specs.Topology.{extent, reversed}
 use Rattle.dd_expansion.specs.Limits.{greatest}
 use Rattle.dd_expansion.specs.Placed.{is_flat}
 use Rattle.dd_formula.specs.LocalRule.{LocalRule}
 use Rattle.dd_boxes.specs.lemmas.RuleLaws.{place_same}
-use Rattle.dd_rows.specs.Domains.{opposite_vector, IsInGround, IsGround, cells_on, box_cells}
+use Rattle.dd_rows.specs.Domains.{IsInGround, IsGround, cells_on, box_cells}
 use Rattle.dd_boxes.specs.Boxes.{origin}
 use Rattle.dd_rows.specs.Laws.{AreCellsOf}
 use Rattle.dd_sides.specs.Lifted.{reach_of}
@@ -152,15 +152,15 @@ not_moved d n p = record {
 moved_back : (a b : ℤ) → ((a +ℤ (pos 0 -ℤ b)) +ℤ b) ≡ a
 moved_back a b = omega (arith, ints)
 
-back_at : (p v : Place) → moved (moved p (opposite_vector v)) v ≡ p
+back_at : (p v : Place) → moved (moved p (reversed v)) v ≡ p
 back_at p v = place_same _ _ _ p.x p.y p.z (moved_back p.x v.x) (moved_back p.y v.y) (moved_back p.z v.z)
 
 pub at_origin : (d radius margin : ℕ) (vs : List Place) (p : Place) → IsCentred d radius p → IsInGround d radius margin vs p
 at_origin d radius margin vs p h = (p, inl h, not_moved d margin p)
 
-pub at_giver : (d radius margin : ℕ) (vs : List Place) (v p : Place) → Contains vs v → IsCentred d radius p → IsInGround d radius margin vs (moved p (opposite_vector v))
+pub at_giver : (d radius margin : ℕ) (vs : List Place) (v p : Place) → Contains vs v → IsCentred d radius p → IsInGround d radius margin vs (moved p (reversed v))
 at_giver d radius margin vs v p among h =
-    (moved p (opposite_vector v), inr (v, among, subst (IsCentred d radius) (sym (back_at p v)) h), not_moved d margin (moved p (opposite_vector v)))
+    (moved p (reversed v), inr (v, among, subst (IsCentred d radius) (sym (back_at p v)) h), not_moved d margin (moved p (reversed v)))
 
 pub origin_centred : (d n : ℕ) → IsCentred d n origin
 origin_centred d n = record { on_x = at_none (is_active d 0) n (pos 0) refl; on_y = at_none (is_active d 1) n (pos 0) refl; on_z = at_none (is_active d 2) n (pos 0) refl }
