@@ -1,12 +1,13 @@
 -- An output can hold each right answer to a box question: the steps are those of a refutation.
 use Rattle.std.proofs.Common.{◌≡◌, ℕ, ◌+◌, ◌≤◌, true, List, length, sym, subst}
+use Rattle.dd_values.specs.Bounds.{most_variables}
 use Rattle.dd_clause.specs.declared.clause.Literal.{Literal}
 use Rattle.dd_derivation.specs.declared.step.Step.{Step}
 use Rattle.dd_derivation.specs.Derivations.{refutes}
 use Rattle.dd_formula.specs.LocalRule.{LocalRule}
 use Rattle.dd_boxes.specs.Goals.{GoalOf, breaks}
 use Rattle.dd_problem.specs.Problems.{box_problem}
-use Rattle.dd_certificate.specs.Bounds.{IsWritableRefutation, most_variable, most_count}
+use Rattle.dd_certificate.specs.Bounds.{IsWritableRefutation, most_count}
 use Rattle.dd_contain.specs.declared.decision.Decision.{Decision}
 use Rattle.dd_contain.specs.declared.decision.Decision.TheVariants as decision
 use Rattle.dd_contain.specs.declared.equal.Equality.{Equality}
@@ -17,7 +18,7 @@ use Rattle.dd_answer.specs.Writable.{IsWritableDecision, IsWritableEquality}
 -- an output can hold the steps of refutations with few variables
 abbrev RefutationsFit : Type 0
 RefutationsFit =
-    (n : ℕ) (clauses : List (List Literal)) (steps : List Step) → refutes n clauses steps ≡ true → n ≤ most_variable →
+    (n : ℕ) (clauses : List (List Literal)) (steps : List Step) → refutes n clauses steps ≡ true → n ≤ most_variables →
     length clauses + length steps ≤ most_count → IsWritableRefutation steps
 
 module _ (fit : RefutationsFit) where

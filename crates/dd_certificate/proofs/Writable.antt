@@ -7,13 +7,14 @@ use Rattle.std.proofs.lemmas.Bool.{false≢true, leb-true, and_parts, or_cases}
 use Rattle.std.proofs.lemmas.List.{length-set, length-map}
 use Rattle.std.proofs.lemmas.List.Elements.{All-nil, All-cons}
 use Rattle.std.proofs.lemmas.Option.{none-some, option_and_then_some, slice_get_within}
+use Rattle.dd_values.specs.Bounds.{most_variables}
 use Rattle.dd_clause.specs.declared.clause.Literal.{Literal}
 use Rattle.dd_clause.specs.Clauses.{negation, IsLiteralInRange}
 use Rattle.dd_derivation.specs.declared.propagation.Finding.{Finding}
 use Rattle.dd_derivation.specs.declared.propagation.Finding.TheVariants.{Falsified, Forced, Open}
 use Rattle.dd_derivation.specs.declared.step.Step.{Step}
 use Rattle.dd_derivation.specs.Derivations.{is_among, finding, clause_of, without, hint_finding, follow, is_conflict, are_deletable, known_after, is_literal_in_range, has_variable, is_proper, is_right, refutes_from, refutes}
-use Rattle.dd_certificate.specs.Bounds.{most_count, most_variable, IsWritableHint, IsWritableStep, IsWritableRefutation}
+use Rattle.dd_certificate.specs.Bounds.{most_count, IsWritableHint, IsWritableStep, IsWritableRefutation}
 
 -- ---- numbers of clauses
 
@@ -76,20 +77,20 @@ many_after known (d ∷ ds) = many_after (without known d) ds ∙ same_many know
 
 -- ---- steps
 
-in_range : (n : ℕ) (l : Literal) → n ≤ most_variable → is_literal_in_range n l ≡ true → IsLiteralInRange most_variable l
+in_range : (n : ℕ) (l : Literal) → n ≤ most_variables → is_literal_in_range n l ≡ true → IsLiteralInRange most_variables l
 in_range n l few is =
     let parts = and_parts (nat_le 1 l.variable) (nat_le l.variable n) is in
     let high : l.variable ≤ n = leb-true l.variable n parts.1 in
     (leb-true 1 l.variable parts.0, omega (arith, high, few))
 
-clause_fits : (n : ℕ) (clause : List Literal) → n ≤ most_variable → is_proper n clause ≡ true → All (IsLiteralInRange most_variable) clause
-clause_fits n [] few proper = All-nil (IsLiteralInRange most_variable)
+clause_fits : (n : ℕ) (clause : List Literal) → n ≤ most_variables → is_proper n clause ≡ true → All (IsLiteralInRange most_variables) clause
+clause_fits n [] few proper = All-nil (IsLiteralInRange most_variables)
 clause_fits n (l ∷ rest) few proper =
     let parts = and_parts (is_literal_in_range n l && not (has_variable l.variable rest)) (is_proper n rest) proper in
     let first = and_parts (is_literal_in_range n l) (not (has_variable l.variable rest)) parts.0 in
-    All-cons (IsLiteralInRange most_variable) l rest (in_range n l few first.0) (clause_fits n rest few parts.1)
+    All-cons (IsLiteralInRange most_variables) l rest (in_range n l few first.0) (clause_fits n rest few parts.1)
 
-step_fits : (n : ℕ) (known : List (Option (List Literal))) (s : Step) → n ≤ most_variable → length known ≤ most_count → is_right n known s ≡ true → IsWritableStep s
+step_fits : (n : ℕ) (known : List (Option (List Literal))) (s : Step) → n ≤ most_variables → length known ≤ most_count → is_right n known s ≡ true → IsWritableStep s
 step_fits n known s small few right =
     let parts = and_parts (is_proper n s.clause) (is_conflict known s.clause s.hints && are_deletable known s.deletes) right in
     let rest = and_parts (is_conflict known s.clause s.hints) (are_deletable known s.deletes) parts.1 in
@@ -103,7 +104,7 @@ none_left : (steps : List Step) → list_all (λ _. false) steps ≡ true → st
 none_left [] none = refl
 none_left (s ∷ steps) none = absurd (false≢true none)
 
-steps_fit : (n : ℕ) (known : List (Option (List Literal))) (steps : List Step) → n ≤ most_variable → length known + length steps ≤ most_count →
+steps_fit : (n : ℕ) (known : List (Option (List Literal))) (steps : List Step) → n ≤ most_variables → length known + length steps ≤ most_count →
     refutes_from n known steps ≡ true → All IsWritableStep steps
 steps_fit n known [] small few refuting = All-nil IsWritableStep
 steps_fit n known (s ∷ steps) small few refuting =
@@ -123,7 +124,7 @@ some_steps n known [] refuting = absurd (false≢true refuting)
 some_steps n known (s ∷ steps) refuting = omega arith
 
 -- where an output can hold the greatest variable, and the number of the last step, it can hold the steps
-pub refuting_writable : (n : ℕ) (clauses : List (List Literal)) (steps : List Step) → refutes n clauses steps ≡ true → n ≤ most_variable →
+pub refuting_writable : (n : ℕ) (clauses : List (List Literal)) (steps : List Step) → refutes n clauses steps ≡ true → n ≤ most_variables →
     length clauses + length steps ≤ most_count → IsWritableRefutation steps
 refuting_writable n clauses steps refuting small few =
     let known = map (λ (c : List Literal). Some c) clauses in

@@ -1,5 +1,6 @@
 -- The answers that an output can hold: each number within bounds, and each list with as many entries as its line allows.
 use Rattle.std.specs.Prelude.{ℕ, ℤ, ◌≡◌, ◌≤◌, ◌⊎◌, ◌^◌, ◌-◌, List, All, length, unsigned_abs}
+use Rattle.dd_values.specs.Bounds.{most_variables}
 use Rattle.dd_clause.specs.Clauses.{IsLiteralInRange}
 use Rattle.dd_derivation.specs.declared.step.Step.{Step}
 use Rattle.dd_certificate.specs.declared.answer.Listed.{Listed}
@@ -13,9 +14,6 @@ most_number = 2 ^ 40
 -- the greatest number of a clause, and of steps
 abbrev pub most_count : ℕ
 most_count = 2 ^ 64 - 1
-
-abbrev pub most_variable : ℕ
-most_variable = 2 ^ 24
 
 abbrev pub IsWritableNumber : ℕ → Type 0
 IsWritableNumber n = n ≤ most_number
@@ -32,7 +30,7 @@ abbrev pub IsWritableHint : ℕ → Type 0
 IsWritableHint n = (1 ≤ n) × (n ≤ most_count)
 
 abbrev pub IsWritableStep : Step → Type 0
-IsWritableStep s = All (IsLiteralInRange most_variable) s.clause × All IsWritableHint s.hints × All IsWritableHint s.deletes
+IsWritableStep s = All (IsLiteralInRange most_variables) s.clause × All IsWritableHint s.hints × All IsWritableHint s.deletes
 
 abbrev pub IsWritableRefutation : List Step → Type 0
 IsWritableRefutation steps = (1 ≤ length steps) × (length steps ≤ most_count) × All IsWritableStep steps

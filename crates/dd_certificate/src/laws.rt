@@ -1,13 +1,14 @@
 //! Which refutations an output can hold.
 ghost use Rattle.std.specs.Prelude.{◌≡◌, ◌+◌, ◌≤◌, true, ℕ, List, length};
+ghost use Rattle.dd_values.specs.Bounds.{most_variables};
 ghost use Rattle.dd_clause.specs.declared.clause.Literal.{Literal};
 ghost use Rattle.dd_derivation.specs.declared.step.Step.{Step};
 ghost use Rattle.dd_derivation.specs.Derivations.{refutes};
-ghost use Rattle.dd_certificate.specs.Bounds.{most_count, most_variable, IsWritableRefutation};
+ghost use Rattle.dd_certificate.specs.Bounds.{most_count, IsWritableRefutation};
 
 /// Does nothing; its contract says that an output can hold the steps that refute clauses, where it can hold the greatest
 /// variable and the number of the last step.
 pub fn refutations_fit()
-    ensures { (n : ℕ) (clauses : List (List Literal)) (steps : List Step) → refutes n clauses steps ≡ true → n ≤ most_variable
+    ensures { (n : ℕ) (clauses : List (List Literal)) (steps : List Step) → refutes n clauses steps ≡ true → n ≤ most_variables
         → length clauses + length steps ≤ most_count → IsWritableRefutation steps }
 {}

@@ -1,5 +1,5 @@
 //! YES to a box question: a radius, and steps that refute the clauses of its box.
-ghost use Rattle.std.specs.Prelude.{◌≡◌, ◌≤◌, ◌+◌, ◌-◌, ◌^◌, ◌↔◌, length, IsTrue, IfOk};
+ghost use Rattle.std.specs.Prelude.{◌≡◌, ◌≤◌, ◌+◌, ◌-◌, ◌↔◌, length, IsTrue, IfOk};
 ghost use Rattle.dd_lattice.specs.Boxes.{centred, volume};
 ghost use Rattle.dd_boxes.specs.Goals.{IsGoalFor};
 ghost use Rattle.dd_boxes.specs.Boxes.{Reaches};

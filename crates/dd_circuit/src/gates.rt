@@ -1,6 +1,7 @@
 // The parts of a circuit, and how it grows. A gate's variable is the number of inputs and of gates up
 // to it, so no gate stores one, and members that are variables of the circuit are earlier ones.
-ghost use Rattle.std.specs.Prelude.{◌≡◌, ◌+◌, ◌<◌, ◌≤◌, ◌^◌, ◌∷◌, ◌++◌, [], All, IfOk, OnErr};
+ghost use Rattle.std.specs.Prelude.{◌≡◌, ◌+◌, ◌<◌, ◌≤◌, ◌∷◌, ◌++◌, [], All, IfOk, OnErr};
+ghost use Rattle.dd_values.specs.Bounds.{most_variables};
 ghost use Rattle.dd_circuit.specs.Circuits.{IsSignal, IsGate, AreGates, size, signal_of, opposite};
 
 use dd_values::Items;
@@ -45,20 +46,21 @@ pub struct Circuit {
 }
 
 impl Model for Circuit {
-    ghost use Rattle.std.specs.Prelude.{◌≤◌, ◌^◌};
+    ghost use Rattle.dd_values.specs.Bounds.{most_variables};
+    ghost use Rattle.std.specs.Prelude.{◌≤◌};
     ghost use Rattle.dd_circuit.specs.Circuits.{Network, AreGates, size_of};
 
     ghost Value = { Network };
 
     ghost view = { λ c. record { inputs = c.inputs; gates = c.gates } };
 
-    ghost invariant = { λ c. (size_of c.inputs c.gates ≤ 2 ^ 24) × AreGates c.inputs c.gates };
+    ghost invariant = { λ c. (size_of c.inputs c.gates ≤ most_variables) × AreGates c.inputs c.gates };
 }
 
 impl Circuit {
     /// A circuit of inputs alone. It takes no memory until a gate comes.
     pub fn new(alloc: Global, inputs: u32) -> Circuit
-        requires { inputs ≤ 2 ^ 24 }
+        requires { inputs ≤ most_variables }
         ensures inputs { result.inputs ≡ inputs }
         ensures gates { result.gates ≡ [] }
     {
@@ -80,7 +82,7 @@ impl Circuit {
     pub fn gates(&self) -> &[Gate]
         ensures value { result.now ≡ self.now.gates }
         ensures in_range { AreGates self.now.inputs result.now }
-        ensures few { size self.now ≤ 2 ^ 24 }
+        ensures few { size self.now ≤ most_variables }
     {
         self.gates.as_slice()
     }
@@ -88,7 +90,7 @@ impl Circuit {
     /// The number of variables: the inputs and the gates.
     pub fn variables(&self) -> u32
         ensures value { result ≡ size self.now }
-        ensures few { result ≤ 2 ^ 24 }
+        ensures few { result ≤ most_variables }
         ensures in_range { AreGates self.now.inputs self.now.gates }
     {
         self.inputs + self.gates.len() as u32
@@ -97,7 +99,7 @@ impl Circuit {
     /// Adds a gate over signals of the circuit, and gives its signal. After want of memory the
     /// circuit is as it was.
     fn add(&mut self, gate: Gate) -> Result<Signal, AllocError>
-        requires few { size self.old < 2 ^ 24 }
+        requires few { size self.old < most_variables }
         requires in_range { IsGate (size self.old) gate }
         ensures inputs { self.new.inputs ≡ self.old.inputs }
         ensures gates { IfOk result (λ _. self.new.gates ≡ self.old.gates ++ gate ∷ []) }
@@ -116,7 +118,7 @@ impl Circuit {
 
     /// A gate that is true where all members are.
     pub fn and(&mut self, members: &[Signal]) -> Result<Signal, AllocError>
-        requires few { size self.old < 2 ^ 24 }
+        requires few { size self.old < most_variables }
         requires in_range { All (IsSignal (size self.old)) members.now }
         ensures inputs { self.new.inputs ≡ self.old.inputs }
         ensures gates { IfOk result (λ _. self.new.gates ≡ self.old.gates ++ Gate.And members.now ∷ []) }
@@ -131,7 +133,7 @@ impl Circuit {
 
     /// A gate that is true where some member is.
     pub fn or(&mut self, members: &[Signal]) -> Result<Signal, AllocError>
-        requires few { size self.old < 2 ^ 24 }
+        requires few { size self.old < most_variables }
         requires in_range { All (IsSignal (size self.old)) members.now }
         ensures inputs { self.new.inputs ≡ self.old.inputs }
         ensures gates { IfOk result (λ _. self.new.gates ≡ self.old.gates ++ Gate.Or members.now ∷ []) }
@@ -146,7 +148,7 @@ impl Circuit {
 
     /// A gate that is true where `a` and `b` have one value.
     pub fn iff(&mut self, a: Signal, b: Signal) -> Result<Signal, AllocError>
-        requires few { size self.old < 2 ^ 24 }
+        requires few { size self.old < most_variables }
         requires first_in_range { IsSignal (size self.old) a }
         requires second_in_range { IsSignal (size self.old) b }
         ensures inputs { self.new.inputs ≡ self.old.inputs }

@@ -1,5 +1,6 @@
 // A formula in conjunctive normal form: clauses over the variables 1, 2, .. up to a number that the type knows.
-ghost use Rattle.std.specs.Prelude.{◌≡◌, ◌^◌, ◌≤◌, ◌↔◌, [], ◌∷◌, ◌++◌, All, IsTrue, OnOk, OnErr};
+ghost use Rattle.std.specs.Prelude.{◌≡◌, ◌≤◌, ◌↔◌, [], ◌∷◌, ◌++◌, All, IsTrue, OnOk, OnErr};
+ghost use Rattle.dd_values.specs.Bounds.{most_variables};
 ghost use Rattle.dd_clause.specs.Clauses.{IsClauseInRange};
 
 use crate::clause::Clause;
@@ -14,20 +15,21 @@ pub struct Cnf {
 }
 
 impl Model for Cnf {
-    ghost use Rattle.std.specs.Prelude.{◌≤◌, ◌^◌, All};
+    ghost use Rattle.dd_values.specs.Bounds.{most_variables};
+    ghost use Rattle.std.specs.Prelude.{◌≤◌, All};
     ghost use Rattle.dd_clause.specs.Clauses.{ClauseList, IsClauseInRange};
 
     ghost Value = { ClauseList };
 
     ghost view = { λ cnf. record { variables = cnf.variables; clauses = cnf.clauses.items } };
 
-    ghost invariant = { λ cnf. (cnf.variables ≤ 2 ^ 24) × All (IsClauseInRange cnf.variables) cnf.clauses.items };
+    ghost invariant = { λ cnf. (cnf.variables ≤ most_variables) × All (IsClauseInRange cnf.variables) cnf.clauses.items };
 }
 
 impl Cnf {
     /// No clauses over this many variables. It takes no memory.
     pub fn new(alloc: Global, variables: u32) -> Cnf
-        requires { variables ≤ 2 ^ 24 }
+        requires { variables ≤ most_variables }
         ensures variables { result.variables ≡ variables }
         ensures clauses { result.clauses ≡ [] }
     {
@@ -63,7 +65,7 @@ impl Cnf {
     /// Takes in more variables.
     pub fn widen(&mut self, variables: u32)
         requires more { self.old.variables ≤ variables }
-        requires few { variables ≤ 2 ^ 24 }
+        requires few { variables ≤ most_variables }
         ensures variables { self.new.variables ≡ variables }
         ensures clauses { self.new.clauses ≡ self.old.clauses }
     {
@@ -73,7 +75,7 @@ impl Cnf {
     /// The number of variables, at most 2^24.
     pub fn variables(&self) -> u32
         ensures value { result ≡ self.now.variables }
-        ensures at_most { self.now.variables ≤ 2 ^ 24 }
+        ensures at_most { self.now.variables ≤ most_variables }
     {
         self.variables
     }

@@ -1,6 +1,7 @@
 //! The script, command by command.
 ghost use Rattle.std.specs.Prelude.{◌≡◌, [], ◌∷◌, ◌+◌, ◌<◌, ◌≤◌, length, IfOk, All};
 ghost use Rattle.std.specs.List.{prefix_len, list_all};
+ghost use Rattle.dd_values.specs.Bounds.{most_script};
 ghost use Rattle.dd_commands.specs.Heads.{stage, is_once, next_stage, head_of};
 ghost use Rattle.dd_commands.specs.Scripts.{parts, is_whole, stage_of, stage_after, MayStand, IsWritten, Tells};
 ghost use Rattle.dd_commands.specs.reading.Parts.{is_inside, FindsIfAny, Told};
@@ -193,7 +194,7 @@ fn commands(alloc: Global, bytes: &[u8], tokens: &[Lexeme]) -> Result<Items<Writ
 
 /// The syntax tree of a script of at most 1,048,576 bytes, or the first command that is not well formed.
 pub fn read(alloc: Global, bytes: &[u8]) -> Result<Syntax, SyntaxFault>
-    requires { length bytes.now ≤ 1048576 }
+    requires { length bytes.now ≤ most_script }
     ensures tells { Tells bytes.now result }
     ensures written { IfOk result (λ s. All (IsWritten s.text) s.commands) }
 {

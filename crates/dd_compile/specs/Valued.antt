@@ -1,5 +1,6 @@
 -- What the gates of an automaton's value are and say, wherever they stand.
-use Rattle.std.specs.Prelude.{ℕ, ◌≡◌, ◌<◌, ◌≤◌, ◌+◌, ◌-◌, ◌*◌, ◌^◌, Bool, true, All, length}
+use Rattle.std.specs.Prelude.{ℕ, ◌≡◌, ◌<◌, ◌≤◌, ◌+◌, ◌-◌, ◌*◌, Bool, true, All, length}
+use Rattle.dd_lattice.specs.Place.{most_coordinate}
 use Rattle.dd_lattice.specs.declared.position.Cell.{Cell}
 use Rattle.dd_topology.specs.Topology.{extent}
 use Rattle.dd_pattern.specs.Reading.{Look, HasSymbolsBelow}
@@ -24,11 +25,11 @@ pub record IsMadeValue (n k : ℕ) (f : Automaton) (w : Wiring) (at : Cell) (m :
 -- positions
 abbrev pub SaysNear : Automaton → Type 0
 SaysNear f =
-    (s : CommonNumbers) → IsAutomaton s f → (w : Wiring) (at : Cell) (n : ℕ) → at.node < s.nodes → extent at.position + 16 * (counted f).depth + 16 ≤ 2 ^ 20 →
+    (s : CommonNumbers) → IsAutomaton s f → (w : Wiring) (at : Cell) (n : ℕ) → at.node < s.nodes → extent at.position + 16 * (counted f).depth + 16 ≤ most_coordinate →
     are_wired_there n s.symbols w ((counted f).reads at.node) at ≡ true → IsMadeValue n s.symbols f w at (value_made s.symbols f w at n)
 
 -- the gates of the automaton's value do, where what it reads has its signals
 abbrev pub SaysItsValue : Automaton → Type 0
 SaysItsValue f =
-    (s : CommonNumbers) → IsAutomaton s f → (w : Wiring) (at : Cell) (n : ℕ) → at.node < s.nodes → extent at.position ≤ 2 ^ 20 - 2048 →
+    (s : CommonNumbers) → IsAutomaton s f → (w : Wiring) (at : Cell) (n : ℕ) → at.node < s.nodes → extent at.position ≤ most_coordinate - 2048 →
     are_wired_there n s.symbols w ((counted f).reads at.node) at ≡ true → IsMadeValue n s.symbols f w at (value_made s.symbols f w at n)

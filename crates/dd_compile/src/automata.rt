@@ -1,7 +1,9 @@
 //! The gates of the value of an automaton, of a composition too, at a cell.
-ghost use Rattle.std.specs.Prelude.{ℕ, ◌≡◌, ◌≤◌, ◌+◌, ◌-◌, ◌*◌, ◌^◌, ◌++◌, true, All, IfOk, length, map, max};
+ghost use Rattle.std.specs.Prelude.{ℕ, ◌≡◌, ◌≤◌, ◌+◌, ◌-◌, ◌*◌, ◌++◌, true, All, IfOk, length, map, max};
 ghost use Rattle.std.specs.List.{list_all};
 ghost use Rattle.std.specs.List.Sorted.{IsStrictlySortedBy};
+ghost use Rattle.dd_lattice.specs.Place.{most_coordinate};
+ghost use Rattle.dd_values.specs.Bounds.{most_variables};
 ghost use Rattle.dd_lattice.specs.Cells.{shifted};
 ghost use Rattle.dd_lattice.specs.Order.{cell_cmp};
 ghost use Rattle.dd_lattice.specs.declared.position.Cell.{Cell};
@@ -37,9 +39,9 @@ pub fn compile_value(
     inputs: &Inputs,
 ) -> Result<Vec<Signal>, AllocError>
     requires automaton { HasSymbols automaton.now symbols at.now.node }
-    requires near { extent at.now.position ≤ 2 ^ 20 - 2048 }
+    requires near { extent at.now.position ≤ most_coordinate - 2048 }
     requires wired { are_wired_there (size circuit.old) symbols inputs.now ((counted automaton.now).reads at.now.node) at.now ≡ true }
-    requires few { size circuit.old + length (value_made symbols automaton.now inputs.now at.now (size circuit.old)).gates ≤ 2 ^ 24 }
+    requires few { size circuit.old + length (value_made symbols automaton.now inputs.now at.now (size circuit.old)).gates ≤ most_variables }
     ensures extends { Extends circuit.old circuit.new }
     ensures gates { IfOk result (λ _. circuit.new.gates ≡
         circuit.old.gates ++ (value_made symbols automaton.now inputs.now at.now (size circuit.old)).gates) }
@@ -67,9 +69,9 @@ fn compile_near(
     inputs: &Inputs,
 ) -> Result<Vec<Signal>, AllocError>
     requires automaton { HasSymbols automaton.now symbols at.now.node }
-    requires near { extent at.now.position + 16 * (counted automaton.now).depth + 16 ≤ 2 ^ 20 }
+    requires near { extent at.now.position + 16 * (counted automaton.now).depth + 16 ≤ most_coordinate }
     requires wired { are_wired_there (size circuit.old) symbols inputs.now ((counted automaton.now).reads at.now.node) at.now ≡ true }
-    requires few { size circuit.old + length (value_made symbols automaton.now inputs.now at.now (size circuit.old)).gates ≤ 2 ^ 24 }
+    requires few { size circuit.old + length (value_made symbols automaton.now inputs.now at.now (size circuit.old)).gates ≤ most_variables }
     ensures extends { Extends circuit.old circuit.new }
     ensures gates { IfOk result (λ _. circuit.new.gates ≡
         circuit.old.gates ++ (value_made symbols automaton.now inputs.now at.now (size circuit.old)).gates) }
@@ -105,11 +107,11 @@ fn compile_composed(
     inputs: &Inputs,
 ) -> Result<Vec<Signal>, AllocError>
     requires automata { HaveSymbols outer.now inner.now symbols at.now.node }
-    requires near { extent at.now.position + 16 * max (counted outer.now).depth (counted inner.now).depth + 32 ≤ 2 ^ 20 }
+    requires near { extent at.now.position + 16 * max (counted outer.now).depth (counted inner.now).depth + 32 ≤ most_coordinate }
     requires wired { are_wired_there (size circuit.old) symbols inputs.now
         ((counted (Automaton.Composed outer.now inner.now)).reads at.now.node) at.now ≡ true }
     requires few { size circuit.old
-        + length (value_made symbols (Automaton.Composed outer.now inner.now) inputs.now at.now (size circuit.old)).gates ≤ 2 ^ 24 }
+        + length (value_made symbols (Automaton.Composed outer.now inner.now) inputs.now at.now (size circuit.old)).gates ≤ most_variables }
     ensures extends { Extends circuit.old circuit.new }
     ensures gates { IfOk result (λ _. circuit.new.gates ≡ circuit.old.gates
         ++ (value_made symbols (Automaton.Composed outer.now inner.now) inputs.now at.now (size circuit.old)).gates) }
@@ -138,10 +140,10 @@ fn compile_inner(
     requires automaton { HasSymbolsAt automaton.now symbols cells.now }
     requires ascending { IsStrictlySortedBy cell_cmp cells.now }
     requires near { list_all is_near cells.now ≡ true }
-    requires inside { extent at.now.position + 16 * (counted automaton.now).depth + 32 ≤ 2 ^ 20 }
+    requires inside { extent at.now.position + 16 * (counted automaton.now).depth + 32 ≤ most_coordinate }
     requires wired { AreWired (size circuit.old) symbols inputs.now automaton.now cells.now at.now }
     requires few { size circuit.old + length (inner_made (value_made symbols automaton.now) inputs.now unwired
-        (map (shifted at.now.position) cells.now) (size circuit.old)).gates ≤ 2 ^ 24 }
+        (map (shifted at.now.position) cells.now) (size circuit.old)).gates ≤ most_variables }
     ensures extends { Extends circuit.old circuit.new }
     ensures gates { IfOk result (λ _. circuit.new.gates ≡ circuit.old.gates ++ (inner_made (value_made symbols automaton.now)
         inputs.now unwired (map (shifted at.now.position) cells.now) (size circuit.old)).gates) }
@@ -161,7 +163,7 @@ fn compile_inner(
 /// The cell that is counted from a position.
 fn cell_near(cell: &dd_lattice::Cell, at: &Position) -> dd_lattice::Cell
     requires near { is_near cell.now ≡ true }
-    requires inside { extent at.now ≤ 2 ^ 20 - 16 }
+    requires inside { extent at.now ≤ most_coordinate - 16 }
     ensures { result ≡ shifted at.now cell.now }
 {
     let Some(position) = shift(&cell.position, at) else {

@@ -1,5 +1,6 @@
 //! The gates of a formula without variables.
-ghost use Rattle.std.specs.Prelude.{◌≡◌, ◌≤◌, ◌+◌, ◌^◌, ◌++◌, true, All, IfOk};
+ghost use Rattle.std.specs.Prelude.{◌≡◌, ◌≤◌, ◌+◌, ◌++◌, true, All, IfOk};
+ghost use Rattle.dd_values.specs.Bounds.{most_variables};
 ghost use Rattle.dd_circuit.specs.Circuits.{IsSignal, size};
 ghost use Rattle.dd_compile.specs.Compiling.{Extends, all_compiled, all_counts, all_wired, are_wired, compiled, gate_count, is_wire, wires_near};
 
@@ -68,7 +69,7 @@ pub fn compile_expanded(
     at: &Position,
     inputs: &Inputs,
 ) -> Result<Signal, AllocError>
-    requires few { size circuit.old + gate_count expanded.now ≤ 2 ^ 24 }
+    requires few { size circuit.old + gate_count expanded.now ≤ most_variables }
     requires wired { are_wired (size circuit.old) (wires_near inputs.now at.now) expanded.now ≡ true }
     ensures extends { Extends circuit.old circuit.new }
     ensures more { IfOk result (λ _. size circuit.new ≡ size circuit.old + gate_count expanded.now) }
@@ -115,7 +116,7 @@ fn compile_all(
     at: &Position,
     inputs: &Inputs,
 ) -> Result<Vec<Signal>, AllocError>
-    requires few { size circuit.old + all_counts parts.now ≤ 2 ^ 24 }
+    requires few { size circuit.old + all_counts parts.now ≤ most_variables }
     requires wired { all_wired (size circuit.old) (wires_near inputs.now at.now) parts.now ≡ true }
     ensures extends { Extends circuit.old circuit.new }
     ensures more { IfOk result (λ _. size circuit.new ≡ size circuit.old + all_counts parts.now) }

@@ -1,6 +1,8 @@
 //! The gates of a rule at a cell.
-ghost use Rattle.std.specs.Prelude.{◌≡◌, ◌≤◌, ◌<◌, ◌+◌, ◌-◌, ◌^◌, ◌++◌, true, IfOk};
+ghost use Rattle.std.specs.Prelude.{◌≡◌, ◌≤◌, ◌<◌, ◌+◌, ◌-◌, ◌++◌, true, IfOk};
 ghost use Rattle.std.specs.List.{list_all};
+ghost use Rattle.dd_lattice.specs.Place.{most_coordinate};
+ghost use Rattle.dd_values.specs.Bounds.{most_variables};
 ghost use Rattle.dd_topology.specs.Topology.{extent};
 ghost use Rattle.dd_formula.specs.LocalRule.{expansion_at, most_instances};
 ghost use Rattle.dd_circuit.specs.Circuits.{IsSignal, size};
@@ -51,7 +53,7 @@ fn are_cells_wired(
 /// 20,000.
 pub fn reads_are_wired(circuit: &Circuit, rule: &Rule, at: &Cell, inputs: &Inputs) -> bool
     requires node { at.now.node < rule.now.nodes }
-    requires near { extent at.now.position ≤ 2 ^ 20 - 16 }
+    requires near { extent at.now.position ≤ most_coordinate - 16 }
     ensures value { result ≡ are_reads_wired (size circuit.now) inputs.now rule.now at.now }
     ensures few { gate_count (expansion_at rule.now at.now.node) ≤ most_instances }
 {
@@ -69,9 +71,9 @@ pub fn compile_rule(
     inputs: &Inputs,
 ) -> Result<Signal, AllocError>
     requires node { at.now.node < rule.now.nodes }
-    requires near { extent at.now.position ≤ 2 ^ 20 - 16 }
+    requires near { extent at.now.position ≤ most_coordinate - 16 }
     requires wired { are_reads_wired (size circuit.old) inputs.now rule.now at.now ≡ true }
-    requires few { size circuit.old + gate_count (expansion_at rule.now at.now.node) ≤ 2 ^ 24 }
+    requires few { size circuit.old + gate_count (expansion_at rule.now at.now.node) ≤ most_variables }
     ensures extends { Extends circuit.old circuit.new }
     ensures more { IfOk result (λ _. size circuit.new ≡ size circuit.old + gate_count (expansion_at rule.now at.now.node)) }
     ensures gates { IfOk result (λ _. circuit.new.gates ≡ circuit.old.gates

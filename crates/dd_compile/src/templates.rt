@@ -1,8 +1,9 @@
 //! The gates of a rule at a node, made once and placed at cell after cell.
-ghost use Rattle.std.specs.Prelude.{◌≡◌, ◌≤◌, ◌<◌, ◌+◌, ◌-◌, ◌*◌, ◌^◌, ◌++◌, ◌∷◌, [], true, is_some, length, map, All, IfOk, OnOk, OnErr};
+ghost use Rattle.std.specs.Prelude.{◌≡◌, ◌≤◌, ◌<◌, ◌+◌, ◌-◌, ◌*◌, ◌++◌, ◌∷◌, [], true, is_some, length, map, All, IfOk, OnOk, OnErr};
 ghost use Rattle.std.specs.List.{list_all};
 ghost use Rattle.std.specs.List.Sorted.{IsStrictlySortedBy};
-ghost use Rattle.dd_lattice.specs.Place.{is_in_range, moved};
+ghost use Rattle.dd_values.specs.Bounds.{most_variables};
+ghost use Rattle.dd_lattice.specs.Place.{is_in_range, moved, most_coordinate};
 ghost use Rattle.dd_lattice.specs.Cells.{shifted};
 ghost use Rattle.dd_lattice.specs.Order.{cell_cmp};
 ghost use Rattle.dd_topology.specs.Topology.{extent};
@@ -52,7 +53,7 @@ impl<'a> Model for Template<'a> {
 
 /// Signals of the next variables after so many.
 fn fresh(alloc: Global, before: u32, count: u32) -> Result<Vec<Signal>, AllocError>
-    requires { before + count ≤ 2 ^ 24 }
+    requires { before + count ≤ most_variables }
     ensures { IfOk result (λ v. v.items ≡ fresh before count) }
 {
     let mut signals = Vec::with_capacity(alloc, count as usize)?;
@@ -68,7 +69,7 @@ fn fresh(alloc: Global, before: u32, count: u32) -> Result<Vec<Signal>, AllocErr
 /// Inputs for the cells, with a variable for each of so many symbols of each cell.
 fn own_inputs(alloc: Global, cells: &[Cell], symbols: u32) -> Result<Inputs, AllocError>
     requires ascending { IsStrictlySortedBy cell_cmp cells.now }
-    requires few { length cells.now * symbols ≤ 2 ^ 24 }
+    requires few { length cells.now * symbols ≤ most_variables }
     ensures { IfOk result (λ inputs. inputs ≡ own_wiring symbols cells.now) }
 {
     let mut inputs = Inputs::new(alloc);
@@ -131,8 +132,8 @@ fn signals_there(
 
 /// What stands for a signal of a template: one of the inputs, or a variable after so many others.
 fn placed(signal: Signal, inputs: &[Signal], before: u32) -> Signal
-    requires signal { IsSignal (2 ^ 24) signal }
-    requires before { before ≤ 2 ^ 24 }
+    requires signal { IsSignal most_variables signal }
+    requires before { before ≤ most_variables }
     ensures { result ≡ placed inputs.now before signal }
 {
     let place = signal.variable as usize - 1;
@@ -157,8 +158,8 @@ fn place_all(
     inputs: &[Signal],
     before: u32,
 ) -> Result<(), AllocError>
-    requires signals { All (IsSignal (2 ^ 24)) signals.now }
-    requires before { before ≤ 2 ^ 24 }
+    requires signals { All (IsSignal most_variables) signals.now }
+    requires before { before ≤ most_variables }
     ensures { OnOk result (placed_signals.new.items ≡ map (placed inputs.now before) signals.now) }
 {
     placed_signals.clear();
@@ -176,9 +177,9 @@ fn place_gate(
     before: u32,
     members: &mut Vec<Signal>,
 ) -> Result<(), AllocError>
-    requires few { size circuit.old < 2 ^ 24 }
-    requires before { before ≤ 2 ^ 24 }
-    requires signals { IsGate (2 ^ 24) gate.now }
+    requires few { size circuit.old < most_variables }
+    requires before { before ≤ most_variables }
+    requires signals { IsGate most_variables gate.now }
     requires in_range { IsGate (size circuit.old) (placed_gate inputs.now before gate.now) }
     ensures inputs { circuit.new.inputs ≡ circuit.old.inputs }
     ensures err { OnErr result (circuit.new ≡ circuit.old) }
@@ -212,9 +213,9 @@ pub fn place_template(
     inputs: &Inputs,
 ) -> Result<Signal, AllocError>
     requires node { at.now.node ≡ template.now.node }
-    requires near { extent at.now.position ≤ 2 ^ 20 - 16 }
+    requires near { extent at.now.position ≤ most_coordinate - 16 }
     requires wired { are_reads_wired (size circuit.old) inputs.now template.now.rule at.now ≡ true }
-    requires few { size circuit.old + gate_count (expansion_at template.now.rule at.now.node) ≤ 2 ^ 24 }
+    requires few { size circuit.old + gate_count (expansion_at template.now.rule at.now.node) ≤ most_variables }
     ensures extends { Extends circuit.old circuit.new }
     ensures more { IfOk result (λ _. size circuit.new ≡ size circuit.old + gate_count (expansion_at template.now.rule at.now.node)) }
     ensures gates { IfOk result (λ _. circuit.new.gates ≡ circuit.old.gates

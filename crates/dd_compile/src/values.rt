@@ -1,5 +1,7 @@
 //! The gates of an automaton's value at a cell.
-ghost use Rattle.std.specs.Prelude.{◌≡◌, ◌≤◌, ◌+◌, ◌-◌, ◌^◌, ◌++◌, [], true, All, IfOk, length};
+ghost use Rattle.std.specs.Prelude.{◌≡◌, ◌≤◌, ◌+◌, ◌-◌, ◌++◌, [], true, All, IfOk, length};
+ghost use Rattle.dd_lattice.specs.Place.{most_coordinate};
+ghost use Rattle.dd_values.specs.Bounds.{most_variables};
 ghost use Rattle.dd_topology.specs.Topology.{extent};
 ghost use Rattle.dd_circuit.specs.Circuits.{IsSignal, size};
 ghost use Rattle.dd_compile.specs.Compiling.{Extends};
@@ -25,9 +27,9 @@ pub fn compile_cases(
     inputs: &Inputs,
 ) -> Result<Vec<Signal>, AllocError>
     requires cases { HasCasesSymbols cases.now symbols at.now.node }
-    requires near { extent at.now.position ≤ 2 ^ 20 - 16 }
+    requires near { extent at.now.position ≤ most_coordinate - 16 }
     requires wired { are_wired_there (size circuit.old) symbols inputs.now (cases_reads cases.now.cases at.now.node) at.now ≡ true }
-    requires few { size circuit.old + length (given_made symbols cases.now inputs.now at.now (size circuit.old)).gates ≤ 2 ^ 24 }
+    requires few { size circuit.old + length (given_made symbols cases.now inputs.now at.now (size circuit.old)).gates ≤ most_variables }
     ensures extends { Extends circuit.old circuit.new }
     ensures gates { IfOk result (λ _. circuit.new.gates ≡
         circuit.old.gates ++ (given_made symbols cases.now inputs.now at.now (size circuit.old)).gates) }
@@ -50,8 +52,8 @@ fn compile_rules(
     inputs: &Inputs,
 ) -> Result<Vec<Signal>, AllocError>
     requires wired { AreCasesWired (size circuit.old) inputs.now cases.now at.now }
-    requires near { extent at.now.position ≤ 2 ^ 20 - 16 }
-    requires few { size circuit.old + length (rules_made inputs.now at.now cases.now.cases (size circuit.old)).gates ≤ 2 ^ 24 }
+    requires near { extent at.now.position ≤ most_coordinate - 16 }
+    requires few { size circuit.old + length (rules_made inputs.now at.now cases.now.cases (size circuit.old)).gates ≤ most_variables }
     ensures extends { Extends circuit.old circuit.new }
     ensures gates { IfOk result (λ _. circuit.new.gates ≡
         circuit.old.gates ++ (rules_made inputs.now at.now cases.now.cases (size circuit.old)).gates) }
@@ -69,7 +71,7 @@ fn compile_rules(
 
 /// Adds for each signal a gate that says that it is true and none before it is, then one that says that none is.
 fn choose(circuit: &mut Circuit, alloc: Global, rules: &[Signal]) -> Result<Vec<Signal>, AllocError>
-    requires few { size circuit.old + length (choices [] rules.now) ≤ 2 ^ 24 }
+    requires few { size circuit.old + length (choices [] rules.now) ≤ most_variables }
     requires in_range { All (IsSignal (size circuit.old)) rules.now }
     ensures extends { Extends circuit.old circuit.new }
     ensures gates { IfOk result (λ _. circuit.new.gates ≡ circuit.old.gates ++ choices [] rules.now) }
@@ -130,7 +132,7 @@ fn give(
     chosen: &[Signal],
 ) -> Result<Vec<Signal>, AllocError>
     requires as_many { length chosen.now ≡ length given.now }
-    requires few { size circuit.old + symbols ≤ 2 ^ 24 }
+    requires few { size circuit.old + symbols ≤ most_variables }
     requires in_range { All (IsSignal (size circuit.old)) chosen.now }
     ensures extends { Extends circuit.old circuit.new }
     ensures gates { IfOk result (λ _. circuit.new.gates ≡ circuit.old.gates ++ symbol_gates symbols given.now chosen.now) }

@@ -1,5 +1,6 @@
 -- Box questions: which radii suffice, and which periods show the goal.
 use Rattle.std.specs.Prelude.{ℕ, ◌≡◌, ◌≤◌, ◌+◌, ◌-◌, ◌^◌, true, max, length, List}
+use Rattle.dd_values.specs.Bounds.{most_variables}
 use Rattle.dd_clause.specs.Clauses.{ClauseList}
 use Rattle.dd_derivation.specs.declared.step.Step.{Step}
 use Rattle.dd_derivation.specs.Derivations.{IsRefuting}
@@ -20,7 +21,7 @@ use Rattle.dd_contain.specs.Decided.{IsDecidedBy}
 
 -- the variables are at most 2^24, and the clauses and the steps after them have numbers of 64 bits
 pub record AreNumbered (clauses : ClauseList) (steps : List Step) : Type 0 where
-  pub variables : clauses.variables ≤ 2 ^ 24
+  pub variables : clauses.variables ≤ most_variables
   pub numbers : length clauses.clauses + length steps ≤ 2 ^ 64 - 1
 
 -- the steps refute the clauses of the box, and both are numbered

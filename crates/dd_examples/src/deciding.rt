@@ -1,9 +1,9 @@
 //! A script, read and answered: the first line of the answer to each query.
 ghost use Rattle.std.specs.Prelude.{◌≤◌, length, Contains, IfOk, IfErr};
+ghost use Rattle.dd_values.specs.Bounds.{most_script};
 ghost use Rattle.dd_script.specs.Parts.{Parts};
 ghost use Rattle.dd_script.specs.Scripts.{Spells, IsScriptRefusal};
 ghost use Rattle.dd_examples.specs.Lines.{IsLine, AreLines};
-ghost use Rattle.dd_output.specs.Outputs.{most_script};
 
 use dd_answer::answer;
 use dd_certificate::answer_line;

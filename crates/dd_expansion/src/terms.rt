@@ -1,5 +1,6 @@
 //! The cells of terms, and the cells of balls round the cells of variables.
 ghost use Rattle.std.specs.Prelude.{◌≡◌, ◌+◌, ◌*◌, ◌≤◌, true, length, slice_get, IfOk, IfErr, IfSome};
+ghost use Rattle.dd_lattice.specs.Place.{most_coordinate};
 ghost use Rattle.dd_lattice.specs.InOrder.{in_order};
 ghost use Rattle.dd_topology.specs.Topology.{extent, step};
 ghost use Rattle.dd_topology.specs.Balls.{ball};
@@ -16,7 +17,7 @@ use std::alloc::Global;
 
 /// The cell at the end of one move; `None` where the move is missing.
 fn step(topology: &Topology, from: &Cell, label: u32) -> Option<Cell>
-    requires near { extent from.now.position + 4 ≤ 1048576 }
+    requires near { extent from.now.position + 4 ≤ most_coordinate }
     ensures value { result ≡ step topology.now.edges from.now label }
     ensures near { IfSome result (λ to. extent to.position ≤ extent from.now.position + 4) }
 {
@@ -27,7 +28,7 @@ fn step(topology: &Topology, from: &Cell, label: u32) -> Option<Cell>
 
 /// The cell at the end of several moves; `None` where one of them is missing.
 fn walk(topology: &Topology, from: &Cell, labels: &[u32]) -> Option<Cell>
-    requires near { extent from.now.position + 4 * length labels.now ≤ 1048576 }
+    requires near { extent from.now.position + 4 * length labels.now ≤ most_coordinate }
     ensures { result ≡ walk topology.now.edges from.now labels.now }
 {
     match labels {
@@ -59,7 +60,7 @@ fn ball_at(
     centre: &Cell,
     radius: u32,
 ) -> Result<Vec<Cell>, ExpansionFault>
-    requires near { extent centre.now.position + 4 * radius ≤ 1048576 }
+    requires near { extent centre.now.position + 4 * radius ≤ most_coordinate }
     ensures list { IfOk result (λ v. v.items ≡ in_order (ball topology.now.edges centre.now radius)) }
     ensures near { IfOk result (λ v. AreNear (extent centre.now.position + 4 * radius) v.items) }
     ensures fault { IfErr result (λ fault. fault ≡ Instances → ⊥) }

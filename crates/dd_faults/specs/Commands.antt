@@ -2,6 +2,7 @@
 use Rattle.std.specs.Prelude.{ℕ, ◌+◌, List, [], ◌++◌, length, Bool, false, not, ◌&&◌, ◌||◌, ◌==◌, nat_le, nat_lt}
 use Rattle.std.specs.List.{flat_map, list_any, zip}
 use Rattle.std.specs.Option.{option_map_or}
+use Rattle.dd_values.specs.Bounds.{most_weight, most_commands}
 use Rattle.dd_topology.specs.declared.builtin.Kind.{Kind}
 use Rattle.dd_topology.specs.declared.builtin.Kind.TheVariants as kind
 use Rattle.dd_written.specs.declared.lexeme.Word.{Word}
@@ -67,7 +68,7 @@ abbrev pub restricted_again : Context → Name → List Fault
 restricted_again x n = when (is_restricted x n) (fault.Twice n)
 
 abbrev pub weight_faults : Context → Number → List Fault
-weight_faults x n = over (nat_lt 1000 (written_value x.text n)) limit.Weight
+weight_faults x n = over (nat_lt most_weight (written_value x.text n)) limit.Weight
 
 abbrev pub passes_limits : ℕ → ℕ → ℕ → Bool
 passes_limits radius period pivots = nat_lt 8 radius || nat_lt period 1 || nat_lt 8 period || nat_lt 100000 pivots
@@ -127,4 +128,4 @@ faults_of x (command.Query r) = request_faults x r
 
 -- the command with its number and its tokens
 abbrev pub written_faults : Context → Written → List Fault
-written_faults x w = over (nat_lt 1000 x.number) limit.Commands ++ (flat_map (token_faults x.text) w.tokens ++ faults_of x w.command)
+written_faults x w = over (nat_lt most_commands x.number) limit.Commands ++ (flat_map (token_faults x.text) w.tokens ++ faults_of x w.command)

@@ -1,6 +1,7 @@
 -- What every script keeps of what it has said.
 use Rattle.std.specs.Prelude.{ℕ, ◌≡◌, ◌≤◌, length}
 use Rattle.std.specs.List.{All}
+use Rattle.dd_values.specs.Bounds.{most_weight}
 use Rattle.dd_topology.specs.Grid.{IsGrid}
 use Rattle.dd_topology.specs.Sets.{IsSets}
 use Rattle.dd_faults.specs.declared.context.Known.{Known}
@@ -16,7 +17,7 @@ pub record IsSound (k : Known) : Type 0 where
   pub alphabet : k.setting.sets.symbols ≡ length k.setting.symbols
   -- one weight for each symbol
   pub weights : length k.weights ≡ length k.setting.symbols
-  pub light : All (λ w. w ≤ 1000) k.weights
+  pub light : All (λ w. w ≤ most_weight) k.weights
   pub radius : k.limits.radius ≤ 8
   pub period : (1 ≤ k.limits.period) × (k.limits.period ≤ 8)
   pub pivots : k.limits.pivots ≤ 100000

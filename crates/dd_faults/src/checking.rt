@@ -17,6 +17,8 @@ use crate::requests::request;
 use dd_commands::{Command, Written};
 use std::alloc::{AllocError, Global};
 
+const MOST_COMMANDS: u32 = 1000;
+
 /// Notes the faults of a command of the header.
 fn note_command(
     alloc: Global,
@@ -71,7 +73,7 @@ pub fn check(alloc: Global, context: &Context, written: &Written) -> Result<(), 
     ensures { Accepts result (first_fault (written_faults context.now written.now)) }
 {
     let mut found = None;
-    note_over(&mut found, context.number > 1000, Limit::Commands);
+    note_over(&mut found, context.number > MOST_COMMANDS, Limit::Commands);
     tokens(&context.text, written.tokens.as_slice(), &mut found);
     note_command(alloc, context, &written.command, &mut found)?;
     match found {

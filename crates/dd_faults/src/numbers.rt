@@ -9,6 +9,8 @@ use crate::fault::{Fault, Limit, note_if, note_over};
 use dd_commands::{Entry, Vector};
 use dd_written::{Lexeme, Number, Text, number_value};
 
+const MOST_WEIGHT: u32 = 1000;
+
 /// Notes that numbers of entries do not agree.
 pub(crate) fn note_unless(found: &mut Option<Fault>, fits: bool)
     ensures { found.new ≡ noted found.old (unless fits) }
@@ -89,7 +91,7 @@ fn weight(context: &Context, number: Number, found: &mut Option<Fault>)
 {
     note_over(
         found,
-        number_value(&context.text, number) > 1000,
+        number_value(&context.text, number) > MOST_WEIGHT,
         Limit::Weight,
     );
 }

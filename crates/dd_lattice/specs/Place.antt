@@ -1,5 +1,5 @@
 -- Positions of Z^3 without a bound, and the range of the positions that code holds.
-use Rattle.std.specs.Prelude.{ℤ, pos, negsuc, ◌+ℤ◌, ◌≤ℤ◌, int_le, Bool, ◌&&◌}
+use Rattle.std.specs.Prelude.{ℕ, ℤ, pos, negsuc, ◌+ℤ◌, ◌≤ℤ◌, int_le, Bool, ◌&&◌}
 
 pub record Place : Type 0 where
   pub x : ℤ
@@ -12,16 +12,19 @@ place x y z = record { x = x; y = y; z = z }
 abbrev pub moved : Place → Place → Place
 moved p by = place (p.x +ℤ by.x) (p.y +ℤ by.y) (p.z +ℤ by.z)
 
--- from -2^20 to 2^20
+abbrev pub most_coordinate : ℕ
+most_coordinate = 1048576
+
+-- from -most_coordinate, which is the negative successor of 1048575, to most_coordinate
 abbrev pub IsCoordinateInRange : ℤ → Type 0
-IsCoordinateInRange c = (negsuc 1048575 ≤ℤ c) × (c ≤ℤ pos 1048576)
+IsCoordinateInRange c = (negsuc 1048575 ≤ℤ c) × (c ≤ℤ pos most_coordinate)
 
 abbrev pub IsInRange : Place → Type 0
 IsInRange p = IsCoordinateInRange p.x × IsCoordinateInRange p.y × IsCoordinateInRange p.z
 
 -- the same as tests
 abbrev pub is_coordinate_in_range : ℤ → Bool
-is_coordinate_in_range c = int_le (negsuc 1048575) c && int_le c (pos 1048576)
+is_coordinate_in_range c = int_le (negsuc 1048575) c && int_le c (pos most_coordinate)
 
 abbrev pub is_in_range : Place → Bool
 is_in_range p = is_coordinate_in_range p.x && is_coordinate_in_range p.y && is_coordinate_in_range p.z

@@ -1,6 +1,6 @@
 //! Boxes of positions, and the place of a position in the list of a box's positions.
 ghost use Rattle.std.specs.Prelude.{◌≡◌, ℕ, ◌+◌, ◌*◌, ◌<◌, ◌≤◌, ℤ, pos, ◌+ℤ◌, ◌-ℤ◌, ◌≤ℤ◌, IsTrue, ◌↔◌, MatchOption, IfSome, unsigned_abs, nat_le, nat_lt, if◌then◌else◌};
-ghost use Rattle.dd_lattice.specs.Place.{Place, IsCoordinateInRange, IsInRange, place};
+ghost use Rattle.dd_lattice.specs.Place.{Place, IsCoordinateInRange, IsInRange, place, most_coordinate};
 ghost use Rattle.dd_lattice.specs.Boxes.{IsAtMostOnEachAxis, IsBox, IsWithin, IsCentred, centred, spread, gap, volume, index_in, place_in};
 
 use crate::position::{Position, REACH};
@@ -36,7 +36,7 @@ fn spread(axis: u32, dim: u32, radius: i32) -> i32
 }
 
 fn around_origin(dim: u32, radius: u32) -> Box3
-    requires { radius ≤ 1048576 }
+    requires { radius ≤ most_coordinate }
     ensures { result ≡ centred dim radius }
 {
     let x = spread(0, dim, radius as i32);
@@ -57,7 +57,7 @@ fn around_origin(dim: u32, radius: u32) -> Box3
 pub fn centred_box(dim: u32, radius: u32) -> Option<Box3>
     requires least { 1 ≤ dim }
     requires most { dim ≤ 3 }
-    ensures value { result ≡ (if nat_le radius 1048576 then Some (centred dim radius) else None) }
+    ensures value { result ≡ (if nat_le radius most_coordinate then Some (centred dim radius) else None) }
     ensures members { IfSome result (λ b. (p : Place) → IsWithin b p ↔ IsCentred dim radius p) }
 {
     if radius > REACH as u32 {

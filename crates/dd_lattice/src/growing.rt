@@ -1,6 +1,7 @@
 //! The growth of a region, axis by axis. Along an axis the region's copies are doubled: the union of a run of copies with
 //! the same run moved by its length is a run of twice the length, so few unions are made however far a region grows.
 ghost use Rattle.std.specs.Prelude.{◌≡◌, ◌+◌, ◌*◌, ◌≤◌, ℤ, pos, ◌-ℤ◌, ◌+ℤ◌, ◌≤ℤ◌, MatchResult};
+ghost use Rattle.dd_lattice.specs.Place.{most_coordinate};
 ghost use Rattle.dd_lattice.specs.Regions.{IsRegionOf, IsFaultOf, IsNearby};
 ghost use Rattle.dd_lattice.specs.Growth.{along, IsStretched, IsExtended};
 
@@ -17,8 +18,8 @@ enum Axis {
 }
 
 fn along(axis: Axis, steps: i32) -> Position
-    requires low { (pos 0 -ℤ pos 1048576) ≤ℤ steps }
-    requires high { steps ≤ℤ pos 1048576 }
+    requires low { (pos 0 -ℤ pos most_coordinate) ≤ℤ steps }
+    requires high { steps ≤ℤ pos most_coordinate }
     ensures { result ≡ along axis steps }
 {
     match axis {
@@ -42,7 +43,7 @@ fn along(axis: Axis, steps: i32) -> Position
 
 /// The region moved along an axis by each number of steps from `-by` to `by`.
 fn stretched(alloc: Global, region: &Region, axis: Axis, by: u32) -> Result<Region, LatticeFault>
-    requires { by ≤ 1048576 }
+    requires { by ≤ most_coordinate }
     ensures { let stretched = IsStretched axis (pos 0 -ℤ pos by) (pos by +ℤ pos 1) region.now in
         MatchResult result (IsRegionOf stretched) (IsFaultOf stretched) }
 {
@@ -59,7 +60,7 @@ fn stretched(alloc: Global, region: &Region, axis: Axis, by: u32) -> Result<Regi
 
 /// The region with its copy that is moved along an axis.
 fn extended(alloc: Global, region: &Region, axis: Axis, by: u32) -> Result<Region, LatticeFault>
-    requires { by ≤ 1048576 }
+    requires { by ≤ most_coordinate }
     ensures { let extended = IsExtended axis (pos by) region.now in
         MatchResult result (IsRegionOf extended) (IsFaultOf extended) }
 {
@@ -72,7 +73,7 @@ fn extended(alloc: Global, region: &Region, axis: Axis, by: u32) -> Result<Regio
 fn grown(alloc: Global, region: &Region, dim: u32, by: u32) -> Result<Region, LatticeFault>
     requires least { 1 ≤ dim }
     requires most { dim ≤ 3 }
-    requires by { by ≤ 1048576 }
+    requires by { by ≤ most_coordinate }
     ensures { let nearby = IsNearby dim by region.now in
         MatchResult result (IsRegionOf nearby) (IsFaultOf nearby) }
 {

@@ -1,6 +1,7 @@
 -- What each meaning keeps.
 use Rattle.std.specs.Prelude.{ℕ, ◌≡◌, ◌<◌, ◌≤◌, ◌%◌, true, List, length, slice_index, Contains}
 use Rattle.std.specs.List.{All}
+use Rattle.dd_values.specs.Bounds.{most_weight}
 use Rattle.dd_topology.specs.Naming.{AreDistinct}
 use Rattle.dd_topology.specs.Grid.{Grid, IsGrid}
 use Rattle.dd_topology.specs.Sets.{allows}
@@ -38,7 +39,7 @@ pub record IsSymbolRestriction (k : Known) (node : ℕ) (symbols : List ℕ) : T
 -- one for each symbol, none over 1,000
 pub record AreScriptWeights (k : Known) (weights : List ℕ) : Type 0 where
   pub each : length weights ≡ length k.setting.symbols
-  pub light : All (λ w. w ≤ 1000) weights
+  pub light : All (λ w. w ≤ most_weight) weights
 
 pub record AreLimits (l : Limits) : Type 0 where
   pub radius : l.radius ≤ 8

@@ -1,6 +1,7 @@
 //! What the commands of the header mean.
 ghost use Rattle.std.specs.Prelude.{◌≡◌, ◌≤◌, [], length, map, IfOk, OnOk};
 ghost use Rattle.std.specs.List.{All};
+ghost use Rattle.dd_values.specs.Bounds.{most_weight};
 ghost use Rattle.dd_written.specs.Values.{written_value};
 ghost use Rattle.dd_commands.specs.declared.command.Command.TheVariants as command;
 ghost use Rattle.dd_faults.specs.Order.{Resolves};
@@ -130,7 +131,7 @@ pub(crate) fn only(
 
 /// The values of numbers that are within a limit.
 fn values_of(alloc: Global, context: &Context, numbers: &[Number]) -> Result<Items<u32>, AllocError>
-    requires { All (λ n. written_value context.now.text n ≤ 1000) numbers.now }
+    requires { All (λ n. written_value context.now.text n ≤ most_weight) numbers.now }
     ensures { IfOk result (λ values. values ≡ map (written_value context.now.text) numbers.now) }
 {
     let mut values = Items::new(alloc);

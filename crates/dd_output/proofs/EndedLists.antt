@@ -10,8 +10,9 @@ use Rattle.dd_clause.specs.declared.clause.Literal.{Literal}
 use Rattle.dd_clause.specs.Clauses.{IsLiteralInRange}
 use Rattle.dd_output.specs.reading.Stops.{Read, before, word_at, number_at, after_at, map_at, Entry, item, last, entries_at}
 use Rattle.dd_certificate.specs.Text.{literal_text, spaced_literal, spaced, literals_to_zero, numbers_to_zero}
-use Rattle.dd_certificate.specs.Bounds.{most_variable, most_count, IsWritableHint}
+use Rattle.dd_certificate.specs.Bounds.{most_count, IsWritableHint}
 use Rattle.std.proofs.lemmas.List.Elements.{All-from_recursion, recursion_from_All}
+use Rattle.dd_values.specs.Bounds.{most_variables}
 use Rattle.dd_output.specs.reading.Forms.{Form, nothing}
 use Rattle.dd_output.specs.reading.Lists.{variable_at, literal_entry, number_entry, positive_of, negative_of, entry_of, ended, items_of, literals, numbers_until}
 use Rattle.dd_output.proofs.Laws.{Reads, before_reads, map_reads, same_reads, choice_reads}
@@ -191,13 +192,13 @@ abbrev literal_end : ℕ → Unit {0} → List ℕ
 literal_end k y = 48 ∷ 32 ∷ []
 
 abbrev Literals : ℕ → List ℕ → Type 0
-Literals = IsList {B = Unit {0}} (λ _. (IsLiteralInRange most_variable)) (λ _. spaced_literal) anything literal_end
+Literals = IsList {B = Unit {0}} (λ _. (IsLiteralInRange most_variables)) (λ _. spaced_literal) anything literal_end
 
 abbrev entry_literal : ℕ → Entry Literal (Unit {0}) → List ℕ
 entry_literal = entry_text {B = Unit {0}} (λ _. spaced_literal) literal_end
 
 abbrev is_signed : Bool → Entry Literal (Unit {0}) → Type 0
-is_signed sign (item l) = (l.positive ≡ sign) × (IsLiteralInRange most_variable) l
+is_signed sign (item l) = (l.positive ≡ sign) × (IsLiteralInRange most_variables) l
 is_signed sign (last y) = ⊥
 
 abbrev is_literal : Entry Literal (Unit {0}) → Type 0
@@ -210,13 +211,13 @@ abbrev literal_with : Bool → Literal → Literal
 literal_with sign l = record { variable = l.variable; positive = sign }
 
 negative_from : (k : ℕ) (e : Entry Literal (Unit {0})) → is_signed false e
-    → (x : ℕ × ℕ) × (entry_literal k e ≡ minus_text x) × Followed 1 most_variable x × (negative_of x ≡ e)
+    → (x : ℕ × ℕ) × (entry_literal k e ≡ minus_text x) × Followed 1 most_variables x × (negative_of x ≡ e)
 negative_from k (item l) good =
     ((l.variable, 32), rw good.0 refl, (good.1.0, good.1.1, the_end 32 32), ap (λ (sign : Bool). item (literal_with sign l)) (sym good.0))
 negative_from k (last y) good = elim good [ ]
 
 positive_from : (k : ℕ) (e : Entry Literal (Unit {0})) → is_signed true e
-    → (x : ℕ × ℕ) × (entry_literal k e ≡ followed_text x) × Followed 1 most_variable x × (positive_of x ≡ e)
+    → (x : ℕ × ℕ) × (entry_literal k e ≡ followed_text x) × Followed 1 most_variables x × (positive_of x ≡ e)
 positive_from k (item l) good =
     ((l.variable, 32), rw good.0 refl, (good.1.0, good.1.1, the_end 32 32), ap (λ (sign : Bool). item (literal_with sign l)) (sym good.0))
 positive_from k (last y) good = elim good [ ]
@@ -252,43 +253,43 @@ literal_not_zero k e (inr good) =
     let f = positive_digit k e good in
     (f.first, f.more, f.is, ne_eqb f.first 48 (λ e. omega (arith, e, f.low)))
 
-by_sign : (l : Literal) → (IsLiteralInRange most_variable) l → (sign : Bool) → l.positive ≡ sign → is_literal (item l)
+by_sign : (l : Literal) → (IsLiteralInRange most_variables) l → (sign : Bool) → l.positive ≡ sign → is_literal (item l)
 by_sign l good true is = inr (is, good)
 by_sign l good false is = inl (is, good)
 
-fits_literal : (k : ℕ) (e : Entry Literal (Unit {0})) → entry_fits {B = Unit {0}} (λ _. (IsLiteralInRange most_variable)) anything k e → no_item e ⊎ is_literal e
+fits_literal : (k : ℕ) (e : Entry Literal (Unit {0})) → entry_fits {B = Unit {0}} (λ _. (IsLiteralInRange most_variables)) anything k e → no_item e ⊎ is_literal e
 fits_literal k (item l) good = inr (by_sign l good l.positive refl)
 fits_literal k (last y) good = inl tt
 
-literal_fits : (k : ℕ) (e : Entry Literal (Unit {0})) → no_item e ⊎ is_literal e → entry_fits {B = Unit {0}} (λ _. (IsLiteralInRange most_variable)) anything k e
+literal_fits : (k : ℕ) (e : Entry Literal (Unit {0})) → no_item e ⊎ is_literal e → entry_fits {B = Unit {0}} (λ _. (IsLiteralInRange most_variables)) anything k e
 literal_fits k (item l) (inl bad) = elim bad [ ]
 literal_fits k (item l) (inr (inl good)) = good.1
 literal_fits k (item l) (inr (inr good)) = good.1
 literal_fits k (last y) good = tt
 
-a_literal : (k n : ℕ) (sign : Bool) (text : List ℕ) → 1 ≤ n → n ≤ most_variable → text ≡ spaced_literal (record { variable = n; positive = sign }) ++ 48 ∷ 32 ∷ [] → Literals k text
+a_literal : (k n : ℕ) (sign : Bool) (text : List ℕ) → 1 ≤ n → n ≤ most_variables → text ≡ spaced_literal (record { variable = n; positive = sign }) ++ 48 ∷ 32 ∷ [] → Literals k text
 a_literal k n sign text some most is = (record { variable = n; positive = sign } ∷ [], tt, ((some, most), tt), is)
 
-pub literal_entry_reads : (k : ℕ) → Reads (entry_fits {B = Unit {0}} (λ _. (IsLiteralInRange most_variable)) anything k) (entry_literal k) (Literals k) literal_entry
+pub literal_entry_reads : (k : ℕ) → Reads (entry_fits {B = Unit {0}} (λ _. (IsLiteralInRange most_variables)) anything k) (entry_literal k) (Literals k) literal_entry
 literal_entry_reads k =
-    let number : Reads (Followed 1 most_variable) followed_text (λ text. (n : ℕ) × (1 ≤ n) × (n ≤ most_variable) × (text ≡ decimal n ++ 32 ∷ [])) (number_at 1 most_variable 32 32 nothing) =
-    number_list 1 most_variable (omega arith) (omega arith) (omega arith) in
-    let variable : Reads (Followed 1 most_variable) followed_text (Literals k) variable_at =
-    before_reads _ _ _ (Literals k) (number_at 1 most_variable 32 32 nothing) (48 ∷ 32 ∷ []) number
+    let number : Reads (Followed 1 most_variables) followed_text (λ text. (n : ℕ) × (1 ≤ n) × (n ≤ most_variables) × (text ≡ decimal n ++ 32 ∷ [])) (number_at 1 most_variables 32 32 nothing) =
+    number_list 1 most_variables (omega arith) (omega arith) (omega arith) in
+    let variable : Reads (Followed 1 most_variables) followed_text (Literals k) variable_at =
+    before_reads _ _ _ (Literals k) (number_at 1 most_variables 32 32 nothing) (48 ∷ 32 ∷ []) number
     (λ text good. a_literal k good.0 true (text ++ 48 ∷ 32 ∷ []) good.1 good.2 (ap (λ (l : List ℕ). l ++ 48 ∷ 32 ∷ []) good.3)) in
-    let bare : Reads (Followed 1 most_variable) followed_text (λ text. (n : ℕ) × (1 ≤ n) × (n ≤ most_variable) × (text ≡ (decimal n ++ 32 ∷ []) ++ 48 ∷ 32 ∷ [])) variable_at =
-    before_reads _ _ _ _ (number_at 1 most_variable 32 32 nothing) (48 ∷ 32 ∷ []) number
+    let bare : Reads (Followed 1 most_variables) followed_text (λ text. (n : ℕ) × (1 ≤ n) × (n ≤ most_variables) × (text ≡ (decimal n ++ 32 ∷ []) ++ 48 ∷ 32 ∷ [])) variable_at =
+    before_reads _ _ _ _ (number_at 1 most_variables 32 32 nothing) (48 ∷ 32 ∷ []) number
     (λ text good. (good.0, good.1, good.2, ap (λ (l : List ℕ). l ++ 48 ∷ 32 ∷ []) good.3)) in
-    let minus : Reads (Followed 1 most_variable) minus_text (Literals k) (after_at (45 ∷ []) (49 ∷ 32 ∷ 48 ∷ 32 ∷ []) variable_at) =
-    after_reads (Followed 1 most_variable) followed_text _ (Literals k) variable_at (45 ∷ []) (49 ∷ 32 ∷ 48 ∷ 32 ∷ []) bare
+    let minus : Reads (Followed 1 most_variables) minus_text (Literals k) (after_at (45 ∷ []) (49 ∷ 32 ∷ 48 ∷ 32 ∷ []) variable_at) =
+    after_reads (Followed 1 most_variables) followed_text _ (Literals k) variable_at (45 ∷ []) (49 ∷ 32 ∷ 48 ∷ 32 ∷ []) bare
     (a_literal k 1 false _ (omega arith) (omega arith) (rw (decimal_digit 1 (omega arith)) refl))
     (λ text good. a_literal k good.0 false _ good.1 good.2 (ap (λ (l : List ℕ). 45 ∷ l) good.3)) in
     let negatives : Reads (is_signed false) (entry_literal k) (Literals k) (map_at negative_of (after_at (45 ∷ []) (49 ∷ 32 ∷ 48 ∷ 32 ∷ []) variable_at)) =
-    map_reads (Followed 1 most_variable) minus_text (Literals k) (after_at (45 ∷ []) (49 ∷ 32 ∷ 48 ∷ 32 ∷ []) variable_at) (is_signed false) (entry_literal k) negative_of minus
+    map_reads (Followed 1 most_variables) minus_text (Literals k) (after_at (45 ∷ []) (49 ∷ 32 ∷ 48 ∷ 32 ∷ []) variable_at) (is_signed false) (entry_literal k) negative_of minus
     (λ p good. (ap (λ e. 45 ∷ (decimal p.0 ++ e ∷ [])) (sym (only 32 p.1 good.2)), (refl, (good.0, good.1))))
     (negative_from k) in
     let positives : Reads (is_signed true) (entry_literal k) (Literals k) (map_at positive_of variable_at) =
-    map_reads (Followed 1 most_variable) followed_text (Literals k) variable_at (is_signed true) (entry_literal k) positive_of variable
+    map_reads (Followed 1 most_variables) followed_text (Literals k) variable_at (is_signed true) (entry_literal k) positive_of variable
     (λ p good. (ap (λ e. decimal p.0 ++ e ∷ []) (sym (only 32 p.1 good.2)), (refl, (good.0, good.1))))
     (positive_from k) in
     let word : Reads (λ _. Unit {0}) (λ _. 48 ∷ 32 ∷ []) (Literals k) (word_at (48 ∷ 32 ∷ [])) =
@@ -297,7 +298,7 @@ literal_entry_reads k =
     map_reads (λ _. Unit {0}) (λ _. 48 ∷ 32 ∷ []) (Literals k) (word_at (48 ∷ 32 ∷ [])) no_item (entry_literal k) ended word
     (λ x good. (refl, tt)) (literal_last k) in
     same_reads (λ x. no_item x ⊎ is_literal x) (entry_literal k) (Literals k) literal_entry
-    (entry_fits {B = Unit {0}} (λ _. (IsLiteralInRange most_variable)) anything k) (entry_literal k) (Literals k)
+    (entry_fits {B = Unit {0}} (λ _. (IsLiteralInRange most_variables)) anything k) (entry_literal k) (Literals k)
     (choice_reads no_item is_literal (entry_literal k) (Literals k) 48 (map_at ended (word_at (48 ∷ 32 ∷ []))) _ ends
     (choice_reads (is_signed false) (is_signed true) (entry_literal k) (Literals k) 45 _ (map_at positive_of variable_at) negatives positives (negative_minus k) (positive_not_minus k))
     (literal_zero k) (literal_not_zero k))
@@ -305,13 +306,13 @@ literal_entry_reads k =
     (λ x good. (refl, fits_literal k x good))
     (λ text good. good)
 
-literal_some : (l : Literal) → (IsLiteralInRange most_variable) l → 0 < length (spaced_literal l)
+literal_some : (l : Literal) → (IsLiteralInRange most_variables) l → 0 < length (spaced_literal l)
 literal_some l good = omega (arith, length-append (literal_text l) (32 ∷ []))
 
-pub literals_good : Good (All (IsLiteralInRange most_variable)) literals_to_zero literals
+pub literals_good : Good (All (IsLiteralInRange most_variables)) literals_to_zero literals
 literals_good =
-    flat_good (IsLiteralInRange most_variable) spaced_literal (48 ∷ 32 ∷ []) literals refl
-    (flat_reads (IsLiteralInRange most_variable) spaced_literal (48 ∷ 32 ∷ []) literal_entry literal_entry_reads literal_some)
+    flat_good (IsLiteralInRange most_variables) spaced_literal (48 ∷ 32 ∷ []) literals refl
+    (flat_reads (IsLiteralInRange most_variables) spaced_literal (48 ∷ 32 ∷ []) literal_entry literal_entry_reads literal_some)
 
 pub literal_unrolls : Unrolls (λ _. literal_entry)
-literal_unrolls = flat_unrolls (IsLiteralInRange most_variable) spaced_literal (48 ∷ 32 ∷ []) literal_entry literal_entry_reads literal_some
+literal_unrolls = flat_unrolls (IsLiteralInRange most_variables) spaced_literal (48 ∷ 32 ∷ []) literal_entry literal_entry_reads literal_some

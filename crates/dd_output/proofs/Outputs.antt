@@ -9,9 +9,10 @@ use Rattle.std.proofs.lemmas.List.{length-replicate}
 use Rattle.dd_certificate.specs.declared.answer.Answer.{Answer}
 use Rattle.dd_certificate.specs.declared.answer.Answer.TheVariants as answer
 use Rattle.std.proofs.lemmas.List.Elements.{All-from_recursion, recursion_from_All}
+use Rattle.dd_values.specs.Bounds.{most_script, most_commands}
 use Rattle.dd_certificate.specs.Text.{line_feed, verdict_text, further_lines, answer_text}
 use Rattle.dd_certificate.specs.Bounds.{IsWritable}
-use Rattle.dd_output.specs.Outputs.{most_script, most_queries, answers_text, end_line, output_text, IsWritableOutput}
+use Rattle.dd_output.specs.Outputs.{answers_text, end_line, output_text, IsWritableOutput}
 use Rattle.dd_output.specs.reading.Stops.{Read, before, word_at, number_at, bytes_at, then_at, after_at, map_at, Entry, item, last, entries_at}
 use Rattle.dd_output.specs.reading.Lists.{items_of, ended}
 use Rattle.dd_output.specs.reading.Grammar.{answer_form}
@@ -34,7 +35,7 @@ abbrev end_text : List ℕ
 end_text = end_line
 
 abbrev FitsAt : ℕ → Answer → Type 0
-FitsAt k a = (k < most_queries) × IsWritable a
+FitsAt k a = (k < most_commands) × IsWritable a
 
 abbrev done : ℕ → Unit {0} → Type 0
 done k y = Unit {0}
@@ -87,11 +88,11 @@ ends_reads k =
     (same_reads _ _ _ (word_at end_text) (λ _. Unit {0}) (λ _. end_text) (Answers k) (word_reads end_text) (λ x good. (refl, tt)) (λ x good. (refl, tt)) (λ text is. ([], tt, tt, is)))
     (λ x good. (refl, tt)) (end_from k)
 
-one_answer : (k : ℕ) (a : Answer) (text : List ℕ) → k < most_queries → IsWritable a → text ≡ query_text k ++ (body_text a ++ end_text) → Answers k text
+one_answer : (k : ℕ) (a : Answer) (text : List ℕ) → k < most_commands → IsWritable a → text ≡ query_text k ++ (body_text a ++ end_text) → Answers k text
 one_answer k a text room good is =
     (a ∷ [], tt, ((room, good), tt), is ∙ (sym (append_assoc (query_text k) (body_text a) end_text) ∙ ap (λ (l : List ℕ). l ++ end_text) (sym (query_is k a))))
 
-open_reads : (k : ℕ) → k < most_queries → Reads (λ e. is_answer e ⊎ is_end e) (entry_answer k) (Answers k) (open_entry k)
+open_reads : (k : ℕ) → k < most_commands → Reads (λ e. is_answer e ⊎ is_end e) (entry_answer k) (Answers k) (open_entry k)
 unfolding open_entry
 open_reads k room =
     let body : List ℕ → Read Answer = λ bytes. before end_text (answer_form.read bytes) in
@@ -107,7 +108,7 @@ open_reads k room =
     (λ a good. (query_is k a, good)) (answer_from k))
     (ends_reads k) (query_first k) (end_first k)
 
-open_to : (k : ℕ) → k < most_queries → (e : Entry Answer (Unit {0})) → is_answer e ⊎ is_end e → answer_fits k e
+open_to : (k : ℕ) → k < most_commands → (e : Entry Answer (Unit {0})) → is_answer e ⊎ is_end e → answer_fits k e
 open_to k room (item a) (inl good) = (room, good)
 open_to k room (item a) (inr bad) = elim bad [ ]
 open_to k room (last y) good = tt
@@ -120,18 +121,18 @@ closed_to : (k : ℕ) (e : Entry Answer (Unit {0})) → is_end e → answer_fits
 closed_to k (item a) bad = elim bad [ ]
 closed_to k (last y) good = tt
 
-to_closed : (k : ℕ) → most_queries ≤ k → (e : Entry Answer (Unit {0})) → answer_fits k e → is_end e
+to_closed : (k : ℕ) → most_commands ≤ k → (e : Entry Answer (Unit {0})) → answer_fits k e → is_end e
 to_closed k full (item a) good = absurd (omega (arith, good.0, full))
 to_closed k full (last y) good = tt
 
 answer_entry_reads : (k : ℕ) → Reads (answer_fits k) (entry_answer k) (Answers k) (answer_entry k)
 unfolding answer_entry
 answer_entry_reads k =
-    cond_reads (answer_fits k) (entry_answer k) (Answers k) (nat_lt k most_queries) (open_entry k) (map_at ended (word_at end_text))
-    (λ is. let room : k < most_queries = ltb-true k most_queries is in
+    cond_reads (answer_fits k) (entry_answer k) (Answers k) (nat_lt k most_commands) (open_entry k) (map_at ended (word_at end_text))
+    (λ is. let room : k < most_commands = ltb-true k most_commands is in
     same_reads (λ e. is_answer e ⊎ is_end e) (entry_answer k) (Answers k) (open_entry k) (answer_fits k) (entry_answer k) (Answers k) (open_reads k room)
     (λ e good. (refl, open_to k room e good)) (λ e good. (refl, to_open k e good)) (λ text a. a))
-    (λ is. let full : most_queries ≤ k = ltb-false k most_queries is in
+    (λ is. let full : most_commands ≤ k = ltb-false k most_commands is in
     same_reads is_end (entry_answer k) (Answers k) (map_at ended (word_at end_text)) (answer_fits k) (entry_answer k) (Answers k) (ends_reads k)
     (λ e good. (refl, closed_to k e good)) (λ e good. (refl, to_closed k full e good)) (λ text a. a))
 
@@ -149,9 +150,9 @@ answer_unrolls = record {
 -- ---- all answers
 
 abbrev FitsAll : List Answer → Type 0
-FitsAll list = (length list ≤ most_queries) × AllByRecursion IsWritable list
+FitsAll list = (length list ≤ most_commands) × AllByRecursion IsWritable list
 
-few_answers : (k : ℕ) (list : List Answer) (y : Unit {0}) → k ≤ most_queries → AllFrom FitsAt done k list y → k + length list ≤ most_queries
+few_answers : (k : ℕ) (list : List Answer) (y : Unit {0}) → k ≤ most_commands → AllFrom FitsAt done k list y → k + length list ≤ most_commands
 few_answers k [] y room good = omega (arith, room)
 few_answers k (a ∷ list) y room good =
     let rest = few_answers (suc k) list y (omega (arith, good.0.0)) good.1 in
@@ -161,7 +162,7 @@ all_answers : (k : ℕ) (list : List Answer) (y : Unit {0}) → AllFrom FitsAt d
 all_answers k [] y good = tt
 all_answers k (a ∷ list) y good = (good.0.1, all_answers (suc k) list y good.1)
 
-from_all : (k : ℕ) (list : List Answer) (y : Unit {0}) → k + length list ≤ most_queries → AllByRecursion IsWritable list → AllFrom FitsAt done k list y
+from_all : (k : ℕ) (list : List Answer) (y : Unit {0}) → k + length list ≤ most_commands → AllByRecursion IsWritable list → AllFrom FitsAt done k list y
 from_all k [] y few good = tt
 from_all k (a ∷ list) y few good = ((omega (arith, few), good.0), from_all (suc k) list y (omega (arith, few)) good.1)
 

@@ -1,18 +1,11 @@
 -- Whole outputs: the script, the answers to its queries in order, and the end.
 use Rattle.std.specs.Prelude.{◌≡◌, ℕ, suc, ◌≤◌, List, [], ◌∷◌, ◌++◌, All, length, codes}
 use Rattle.std.specs.Fmt.{decimal}
+use Rattle.dd_values.specs.Bounds.{most_script, most_commands}
 use Rattle.dd_certificate.specs.declared.answer.Answer.{Answer}
 use Rattle.dd_output.specs.declared.output.Output.{Output}
 use Rattle.dd_certificate.specs.Text.{line_feed, answer_text}
 use Rattle.dd_certificate.specs.Bounds.{IsWritable}
-
--- the greatest length of a script, in bytes
-abbrev pub most_script : ℕ
-most_script = 1048576
-
--- the greatest number of queries
-abbrev pub most_queries : ℕ
-most_queries = 1000
 
 -- the lines before the first answer: the script, with its length before it and a line feed after it
 abbrev pub header : List ℕ → List ℕ
@@ -30,7 +23,7 @@ abbrev pub output_text : Output → List ℕ
 output_text o = header o.script ++ (answers_text 1 o.answers ++ end_line)
 
 abbrev pub IsWritableOutput : Output → Type 0
-IsWritableOutput o = (length o.script ≤ most_script) × (length o.answers ≤ most_queries) × All IsWritable o.answers
+IsWritableOutput o = (length o.script ≤ most_script) × (length o.answers ≤ most_commands) × All IsWritable o.answers
 
 -- the bytes are the text of an output within bounds
 abbrev pub IsWellFormed : List ℕ → Type 0

@@ -1,6 +1,7 @@
 // A whole output: the script, the answers to its queries in order, and the end.
 ghost use Rattle.std.specs.Prelude.{◌≡◌, ◌∷◌, ◌++◌, ◌<◌, [], Ok, IfOk, replicate};
-ghost use Rattle.dd_output.specs.Outputs.{most_queries, most_script, end_line};
+ghost use Rattle.dd_values.specs.Bounds.{most_script, most_commands};
+ghost use Rattle.dd_output.specs.Outputs.{end_line};
 ghost use Rattle.dd_output.specs.Offsets.{ReadsOutput};
 ghost use Rattle.dd_output.specs.reading.Stops.{Gives, number_at};
 ghost use Rattle.dd_output.specs.reading.Seen.{answer_seen};
@@ -30,7 +31,7 @@ const MOST_SCRIPT: u64 = 1_048_576;
 
 /// The words before the answer to the query at this place, from 0.
 fn query_word(alloc: Global, place: u64) -> Result<Vec<u8>, ReadFault>
-    requires { place < most_queries }
+    requires { place < most_commands }
     ensures value { IfOk result (λ word. word.items ≡ query_text place) }
     ensures fault { Gives (λ word. word.items) result (Ok (query_text place)) }
 {
@@ -43,7 +44,7 @@ fn query_word(alloc: Global, place: u64) -> Result<Vec<u8>, ReadFault>
 
 #[tactic(auto, unfolding(crate::specs::reading::Whole::open_entry))]
 fn open_entry(alloc: Global, place: u64, bytes: &[u8]) -> Result<(Option<Answer>, &[u8]), ReadFault>
-    requires { place < most_queries }
+    requires { place < most_commands }
     ensures { Gives (λ x. (answer_seen x.0, x.1.now)) result (open_entry place bytes.now) }
 {
     if begins(bytes, b'q') {

@@ -1,6 +1,7 @@
 //! Outputs written.
 ghost use Rattle.std.specs.Prelude.{◌≡◌, ◌≤◌, length, IfOk};
-ghost use Rattle.dd_output.specs.Outputs.{most_queries, header, answers_text, output_text, IsWritableOutput};
+ghost use Rattle.dd_values.specs.Bounds.{most_commands};
+ghost use Rattle.dd_output.specs.Outputs.{header, answers_text, output_text, IsWritableOutput};
 
 use crate::output::Output;
 use dd_certificate::{Answer, write_answer};
@@ -19,7 +20,7 @@ fn header(alloc: Global, script: &[u8]) -> Result<Vec<u8>, AllocError>
 /// The texts of the answers to the queries from the first on.
 #[tactic(auto, using(crate::proofs::Written::answers_next))]
 fn answers_text(alloc: Global, answers: &[Answer]) -> Result<Vec<u8>, AllocError>
-    requires { length answers.now ≤ most_queries }
+    requires { length answers.now ≤ most_commands }
     ensures { IfOk result (λ text. text.items ≡ answers_text 1 answers.now) }
 {
     let mut text = Vec::new(alloc);

@@ -1,5 +1,6 @@
 //! The values of two automata as gates and clauses that say that they are different.
-ghost use Rattle.std.specs.Prelude.{◌≡◌, ◌≤◌, ◌<◌, ◌+◌, ◌^◌, ◌∷◌, ◌++◌, ℕ, [], true, length, All, IfOk, OnOk};
+ghost use Rattle.std.specs.Prelude.{◌≡◌, ◌≤◌, ◌<◌, ◌+◌, ◌∷◌, ◌++◌, ℕ, [], true, length, All, IfOk, OnOk};
+ghost use Rattle.dd_values.specs.Bounds.{most_variables};
 ghost use Rattle.dd_lattice.specs.Cells.{cell};
 ghost use Rattle.dd_formula.specs.Automata.{CommonNumbers, IsAutomaton};
 ghost use Rattle.dd_circuit.specs.Circuits.{IsSignal, size};
@@ -28,7 +29,7 @@ fn compile_apart(
     second: &[Signal],
 ) -> Result<Vec<Signal>, AllocError>
     requires as_many { length second.now ≡ length first.now }
-    requires few { size circuit.old + length first.now ≤ 2 ^ 24 }
+    requires few { size circuit.old + length first.now ≤ most_variables }
     requires first { All (IsSignal (size circuit.old)) first.now }
     requires second { All (IsSignal (size circuit.old)) second.now }
     ensures inputs { circuit.new.inputs ≡ circuit.old.inputs }
@@ -57,7 +58,7 @@ fn compile_differ(
     requires node { node < premise.now.nodes }
     requires wired { are_both_wired inputs.now (size circuit.old) (numbers_of premise.now) left.now right.now node ≡ true }
     requires few { size circuit.old
-        + length (differ_made premise.now.symbols left.now right.now inputs.now (cell origin node) (size circuit.old)).gates ≤ 2 ^ 24 }
+        + length (differ_made premise.now.symbols left.now right.now inputs.now (cell origin node) (size circuit.old)).gates ≤ most_variables }
     ensures inputs { circuit.new.inputs ≡ circuit.old.inputs }
     ensures gates { IfOk result (λ _. circuit.new.gates ≡ circuit.old.gates
         ++ (differ_made premise.now.symbols left.now right.now inputs.now (cell origin node) (size circuit.old)).gates) }
@@ -90,7 +91,7 @@ fn push_apart(
     requires wide { cnf.old.variables ≡ size circuit.old }
     requires wired { are_both_wired inputs.now (size circuit.old) (numbers_of premise.now) left.now right.now node ≡ true }
     requires few { size circuit.old
-        + length (differ_made premise.now.symbols left.now right.now inputs.now (cell origin node) (size circuit.old)).gates ≤ 2 ^ 24 }
+        + length (differ_made premise.now.symbols left.now right.now inputs.now (cell origin node) (size circuit.old)).gates ≤ most_variables }
     ensures inputs { circuit.new.inputs ≡ circuit.old.inputs }
     ensures wide { IfOk result (λ _. cnf.new.variables ≡ size circuit.new) }
     ensures gates { IfOk result (λ _. circuit.new.gates ≡ circuit.old.gates
@@ -123,7 +124,7 @@ pub(crate) fn push_differ(
     requires wired { (a : ℕ) → a < premise.now.nodes →
         are_both_wired inputs.now (size circuit.old) (numbers_of premise.now) left.now right.now a ≡ true }
     requires few { size circuit.old
-        + length (part_gates (size circuit.old) (differ_part inputs.now (numbers_of premise.now) left.now right.now ∷ [])) ≤ 2 ^ 24 }
+        + length (part_gates (size circuit.old) (differ_part inputs.now (numbers_of premise.now) left.now right.now ∷ [])) ≤ most_variables }
     ensures inputs { circuit.new.inputs ≡ circuit.old.inputs }
     ensures wide { OnOk result (cnf.new.variables ≡ size circuit.new) }
     ensures gates { OnOk result (circuit.new.gates ≡ circuit.old.gates

@@ -1,6 +1,8 @@
 //! Rules as gates and clauses, at the places where all that they read has inputs.
-ghost use Rattle.std.specs.Prelude.{◌≡◌, ◌≤◌, ◌<◌, ◌+◌, ◌-◌, ◌^◌, ◌∷◌, ◌++◌, ℕ, [], true, length, map, All, IfOk, OnOk};
+ghost use Rattle.std.specs.Prelude.{◌≡◌, ◌≤◌, ◌<◌, ◌+◌, ◌-◌, ◌∷◌, ◌++◌, ℕ, [], true, length, map, All, IfOk, OnOk};
 ghost use Rattle.std.specs.List.{range_with_len};
+ghost use Rattle.dd_lattice.specs.Place.{most_coordinate};
+ghost use Rattle.dd_values.specs.Bounds.{most_variables};
 ghost use Rattle.dd_topology.specs.Topology.{extent};
 ghost use Rattle.dd_circuit.specs.Circuits.{IsSignal, size};
 ghost use Rattle.dd_cnf.specs.Encoding.{gates_clauses};
@@ -38,7 +40,7 @@ fn push_formula(
     inputs: &Inputs,
 ) -> Result<Signal, AllocError>
     requires wide { cnf.old.variables ≡ size circuit.old }
-    requires few { size circuit.old + gate_count expanded.now ≤ 2 ^ 24 }
+    requires few { size circuit.old + gate_count expanded.now ≤ most_variables }
     requires wired { are_wired (size circuit.old) (wires_near inputs.now at.now) expanded.now ≡ true }
     ensures inputs { circuit.new.inputs ≡ circuit.old.inputs }
     ensures wide { IfOk result (λ _. cnf.new.variables ≡ size circuit.new) }
@@ -67,9 +69,9 @@ fn push_template(
     inputs: &Inputs,
 ) -> Result<Signal, AllocError>
     requires node { cell.now.node ≡ template.now.node }
-    requires near { extent cell.now.position ≤ 2 ^ 20 - 16 }
+    requires near { extent cell.now.position ≤ most_coordinate - 16 }
     requires wide { cnf.old.variables ≡ size circuit.old }
-    requires few { size circuit.old + gate_count (expansion_at template.now.rule cell.now.node) ≤ 2 ^ 24 }
+    requires few { size circuit.old + gate_count (expansion_at template.now.rule cell.now.node) ≤ most_variables }
     requires wired { are_reads_wired (size circuit.old) inputs.now template.now.rule cell.now ≡ true }
     ensures inputs { circuit.new.inputs ≡ circuit.old.inputs }
     ensures wide { IfOk result (λ _. cnf.new.variables ≡ size circuit.new) }
@@ -98,9 +100,9 @@ fn push_place(
     inputs: &Inputs,
 ) -> Result<(), AllocError>
     requires node { cell.now.node ≡ template.now.node }
-    requires near { extent cell.now.position ≤ 2 ^ 20 - 16 }
+    requires near { extent cell.now.position ≤ most_coordinate - 16 }
     requires wide { cnf.old.variables ≡ size circuit.old }
-    requires few { size circuit.old + gate_count (expansion_at template.now.rule cell.now.node) ≤ 2 ^ 24 }
+    requires few { size circuit.old + gate_count (expansion_at template.now.rule cell.now.node) ≤ most_variables }
     requires wired { are_reads_wired (size circuit.old) inputs.now template.now.rule cell.now ≡ true }
     ensures inputs { circuit.new.inputs ≡ circuit.old.inputs }
     ensures wide { OnOk result (cnf.new.variables ≡ size circuit.new) }
@@ -124,13 +126,13 @@ fn push_if_wired(
     inputs: &Inputs,
 ) -> Result<(), AllocError>
     requires node { cell.now.node < rule.now.nodes }
-    requires near { extent cell.now.position ≤ 2 ^ 20 - 16 }
+    requires near { extent cell.now.position ≤ most_coordinate - 16 }
     requires template { template.now ≡ rule_at rule.now cell.now.node }
     requires signals { AreInputs circuit.old.inputs inputs.now }
     requires all { HasAllSymbols rule.now.symbols inputs.now }
     requires wide { cnf.old.variables ≡ size circuit.old }
     requires few { size circuit.old
-        + length (part_gates (size circuit.old) (wired_parts inputs.now circuit.old.inputs rule.now (cell.now ∷ []))) ≤ 2 ^ 24 }
+        + length (part_gates (size circuit.old) (wired_parts inputs.now circuit.old.inputs rule.now (cell.now ∷ []))) ≤ most_variables }
     ensures inputs { circuit.new.inputs ≡ circuit.old.inputs }
     ensures wide { OnOk result (cnf.new.variables ≡ size circuit.new) }
     ensures gates { OnOk result (circuit.new.gates ≡ circuit.old.gates
@@ -169,12 +171,12 @@ pub(crate) fn push_places(
     inputs: &Inputs,
 ) -> Result<(), AllocError>
     requires nodes { All (λ d. d.node < rule.now.nodes) cells.now }
-    requires near { All (λ d. extent d.position ≤ 2 ^ 20 - 16) cells.now }
+    requires near { All (λ d. extent d.position ≤ most_coordinate - 16) cells.now }
     requires signals { AreInputs circuit.old.inputs inputs.now }
     requires all { HasAllSymbols rule.now.symbols inputs.now }
     requires wide { cnf.old.variables ≡ size circuit.old }
     requires few { size circuit.old
-        + length (part_gates (size circuit.old) (wired_parts inputs.now circuit.old.inputs rule.now cells.now)) ≤ 2 ^ 24 }
+        + length (part_gates (size circuit.old) (wired_parts inputs.now circuit.old.inputs rule.now cells.now)) ≤ most_variables }
     ensures inputs { circuit.new.inputs ≡ circuit.old.inputs }
     ensures wide { OnOk result (cnf.new.variables ≡ size circuit.new) }
     ensures gates { OnOk result (circuit.new.gates ≡ circuit.old.gates
@@ -202,7 +204,7 @@ fn push_some_false(
     requires wide { cnf.old.variables ≡ size circuit.old }
     requires wired { (a : ℕ) → a < rule.now.nodes → is_wired_at inputs.now (size circuit.old) rule.now (cell at.now a) ≡ true }
     requires few { size circuit.old
-        + length (part_gates (size circuit.old) (broken_part inputs.now rule.now at.now ∷ [])) ≤ 2 ^ 24 }
+        + length (part_gates (size circuit.old) (broken_part inputs.now rule.now at.now ∷ [])) ≤ most_variables }
     ensures inputs { circuit.new.inputs ≡ circuit.old.inputs }
     ensures wide { OnOk result (cnf.new.variables ≡ size circuit.new) }
     ensures gates { OnOk result (circuit.new.gates ≡ circuit.old.gates
@@ -231,7 +233,7 @@ pub(crate) fn push_goal(
     requires goal { IsGoalFor premise.now (goal_of premise.now goal.now) }
     requires wired { is_goal_wired inputs.now (size circuit.old) (goal_of premise.now goal.now) ≡ true }
     requires few { size circuit.old
-        + length (part_gates (size circuit.old) (wired_goal inputs.now (goal_of premise.now goal.now) ∷ [])) ≤ 2 ^ 24 }
+        + length (part_gates (size circuit.old) (wired_goal inputs.now (goal_of premise.now goal.now) ∷ [])) ≤ most_variables }
     ensures inputs { circuit.new.inputs ≡ circuit.old.inputs }
     ensures wide { OnOk result (cnf.new.variables ≡ size circuit.new) }
     ensures gates { OnOk result (circuit.new.gates ≡ circuit.old.gates

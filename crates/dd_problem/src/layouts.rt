@@ -1,6 +1,7 @@
 //! The cells of a box of positions, and inputs for them.
-ghost use Rattle.std.specs.Prelude.{◌≡◌, ◌≤◌, ◌<◌, ◌+◌, ◌*◌, ◌^◌, length, IfOk};
+ghost use Rattle.std.specs.Prelude.{◌≡◌, ◌≤◌, ◌<◌, ◌+◌, ◌*◌, length, IfOk};
 ghost use Rattle.std.specs.List.Sorted.{IsStrictlySortedBy};
+ghost use Rattle.dd_values.specs.Bounds.{most_variables};
 ghost use Rattle.dd_lattice.specs.Boxes.{volume};
 ghost use Rattle.dd_lattice.specs.Order.{cell_cmp};
 ghost use Rattle.dd_problem.specs.Layouts.{nth_cell, cells_in};
@@ -25,7 +26,7 @@ fn nth_cell(bounds: &Box3, nodes: u32, number: u64) -> Cell
 
 /// The cells of a box in cell order, the nodes of a position together.
 pub(crate) fn cells_of(alloc: Global, bounds: &Box3, nodes: u32) -> Result<Vec<Cell>, AllocError>
-    requires { volume bounds.now * nodes ≤ 2 ^ 24 }
+    requires { volume bounds.now * nodes ≤ most_variables }
     ensures { IfOk result (λ v. v.items ≡ cells_in bounds.now nodes) }
 {
     let count = bounds.volume() * u64::from(nodes);
@@ -42,7 +43,7 @@ pub(crate) fn symbol_signals(
     number: u32,
     symbols: u32,
 ) -> Result<Vec<Signal>, AllocError>
-    requires { number * symbols + symbols ≤ 2 ^ 24 }
+    requires { number * symbols + symbols ≤ most_variables }
     ensures { IfOk result (λ v. v.items ≡ symbol_signals symbols number) }
 {
     let mut signals = Vec::with_capacity(alloc, symbols as usize)?;
@@ -62,7 +63,7 @@ pub(crate) fn inputs_in_turn(
     symbols: u32,
 ) -> Result<Inputs, AllocError>
     requires ascending { IsStrictlySortedBy cell_cmp cells.now }
-    requires few { length cells.now * symbols ≤ 2 ^ 24 }
+    requires few { length cells.now * symbols ≤ most_variables }
     requires some { 1 ≤ symbols }
     ensures { IfOk result (λ inputs. inputs ≡ in_turn symbols cells.now) }
 {

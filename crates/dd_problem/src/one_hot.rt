@@ -1,6 +1,7 @@
 //! Clauses that say that each cell has exactly one symbol, which its node allows.
 ghost use Rattle.std.specs.Prelude.{◌≡◌, ◌≤◌, ◌<◌, ◌+◌, ◌-◌, ◌*◌, ◌^◌, ◌∷◌, ◌++◌, [], map, true, false, length, All, OnOk};
 ghost use Rattle.std.specs.List.{range_with_len};
+ghost use Rattle.dd_values.specs.Bounds.{most_variables};
 ghost use Rattle.dd_cnf.specs.Encoding.{literal};
 ghost use Rattle.dd_formula.specs.Counts.{disallowed};
 ghost use Rattle.dd_problem.specs.Clauses.{pairs, none_of, symbol_clauses, cell_clauses};
@@ -83,7 +84,7 @@ fn push_disallowed(
     node: u32,
 ) -> Result<(), AllocError>
     requires node { node < premise.now.nodes }
-    requires few { number * premise.now.symbols + premise.now.symbols ≤ 2 ^ 24 }
+    requires few { number * premise.now.symbols + premise.now.symbols ≤ most_variables }
     requires wide { number * premise.now.symbols + premise.now.symbols ≤ cnf.old.variables }
     ensures variables { cnf.new.variables ≡ cnf.old.variables }
     ensures ok { OnOk result (cnf.new.clauses ≡
@@ -107,7 +108,7 @@ fn push_cell(
     node: u32,
 ) -> Result<(), AllocError>
     requires node { node < premise.now.nodes }
-    requires few { number * premise.now.symbols + premise.now.symbols ≤ 2 ^ 24 }
+    requires few { number * premise.now.symbols + premise.now.symbols ≤ most_variables }
     requires wide { number * premise.now.symbols + premise.now.symbols ≤ cnf.old.variables }
     ensures variables { cnf.new.variables ≡ cnf.old.variables }
     ensures ok { OnOk result (cnf.new.clauses ≡ cnf.old.clauses ++ symbol_clauses premise.now number node) }
@@ -129,7 +130,7 @@ pub(crate) fn push_cells(
 ) -> Result<(), AllocError>
     requires nodes { All (λ c. c.node < premise.now.nodes) cells.now }
     requires count { length cells.now < 2 ^ 32 }
-    requires few { length cells.now * premise.now.symbols ≤ 2 ^ 24 }
+    requires few { length cells.now * premise.now.symbols ≤ most_variables }
     requires wide { length cells.now * premise.now.symbols ≤ cnf.old.variables }
     ensures variables { cnf.new.variables ≡ cnf.old.variables }
     ensures ok { OnOk result (cnf.new.clauses ≡ cnf.old.clauses ++ cell_clauses premise.now cells.now) }

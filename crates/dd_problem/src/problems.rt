@@ -1,5 +1,7 @@
 //! All clauses of a problem.
-ghost use Rattle.std.specs.Prelude.{◌≡◌, ◌≤◌, ◌<◌, ◌-◌, ◌*◌, ◌^◌, true, length, All, IfOk};
+ghost use Rattle.std.specs.Prelude.{◌≡◌, ◌≤◌, ◌<◌, ◌-◌, ◌*◌, true, length, All, IfOk};
+ghost use Rattle.dd_lattice.specs.Place.{most_coordinate};
+ghost use Rattle.dd_values.specs.Bounds.{most_variables};
 ghost use Rattle.dd_topology.specs.Topology.{extent};
 ghost use Rattle.dd_boxes.specs.Goals.{IsGoalFor};
 ghost use Rattle.dd_boxes.specs.Views.{goal_of};
@@ -25,12 +27,12 @@ pub(crate) fn problem(
     inputs: &Inputs,
 ) -> Result<Cnf, AllocError>
     requires nodes { All (λ d. d.node < premise.now.nodes) cells.now }
-    requires near { All (λ d. extent d.position ≤ 2 ^ 20 - 16) cells.now }
+    requires near { All (λ d. extent d.position ≤ most_coordinate - 16) cells.now }
     requires signals { AreInputs (length cells.now * premise.now.symbols) inputs.now }
     requires all { HasAllSymbols premise.now.symbols inputs.now }
     requires goal { IsGoalFor premise.now (goal_of premise.now goal.now) }
     requires wired { is_goal_wired inputs.now (length cells.now * premise.now.symbols) (goal_of premise.now goal.now) ≡ true }
-    requires few { (wired_problem inputs.now premise.now (goal_of premise.now goal.now) cells.now).variables ≤ 2 ^ 24 }
+    requires few { (wired_problem inputs.now premise.now (goal_of premise.now goal.now) cells.now).variables ≤ most_variables }
     ensures { IfOk result (λ cnf. cnf ≡ wired_problem inputs.now premise.now (goal_of premise.now goal.now) cells.now) }
 {
     let count = (cells.len() * premise.symbols() as usize) as u32;

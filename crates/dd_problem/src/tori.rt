@@ -1,7 +1,8 @@
 //! Box questions on a torus.
-ghost use Rattle.std.specs.Prelude.{◌≡◌, ◌≤◌, ◌<◌, ◌+◌, ◌*◌, ◌^◌, All, IfOk};
+ghost use Rattle.std.specs.Prelude.{◌≡◌, ◌≤◌, ◌<◌, ◌+◌, ◌*◌, All, IfOk};
 ghost use Rattle.std.specs.List.{range_with_len};
 ghost use Rattle.std.specs.List.Sorted.{IsStrictlySortedBy};
+ghost use Rattle.dd_values.specs.Bounds.{most_variables};
 ghost use Rattle.dd_lattice.specs.Order.{cell_cmp};
 ghost use Rattle.dd_pattern.specs.Periods.{periods_of, periods_volume};
 ghost use Rattle.dd_pattern.specs.Tile.{fundamental};
@@ -111,7 +112,7 @@ fn inputs_by_number(
 ) -> Result<Inputs, AllocError>
     requires ascending { IsStrictlySortedBy cell_cmp cells.now }
     requires nodes { All (λ c. c.node < numbers.now.nodes) cells.now }
-    requires few { All (λ c. number_at numbers.now c * symbols + symbols ≤ 2 ^ 24) cells.now }
+    requires few { All (λ c. number_at numbers.now c * symbols + symbols ≤ most_variables) cells.now }
     ensures { IfOk result (λ inputs. inputs ≡ numbered_by symbols numbers.now cells.now) }
 {
     let mut inputs = Inputs::new(alloc);

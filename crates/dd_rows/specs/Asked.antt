@@ -2,6 +2,7 @@
 use Rattle.std.specs.Prelude.{ℕ, ◌≤◌, ◌≡◌, true, unsigned_abs, List, length}
 use Rattle.std.specs.List.{All, IsDistinct}
 use Rattle.std.specs.Ordering.{is_eq}
+use Rattle.dd_values.specs.Bounds.{most_weight}
 use Rattle.dd_lattice.specs.Place.{Place}
 use Rattle.dd_lattice.specs.Order.{place_cmp}
 use Rattle.dd_expansion.specs.Placed.{is_flat}
@@ -23,4 +24,4 @@ pub record AreVectors (d : ℕ) (vs : List Place) : Type 0 where
 -- a weight for each symbol
 pub record AreWeightsFor (x : LocalRule) (ws : List ℕ) : Type 0 where
   pub as_many : length ws ≡ x.symbols
-  pub small : All (λ w. w ≤ 1000) ws
+  pub small : All (λ w. w ≤ most_weight) ws

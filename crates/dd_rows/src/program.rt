@@ -1,6 +1,7 @@
 //! The program of a rule along some vectors: its patterns, and the distinct rows that its fillings ask.
 ghost use Rattle.std.specs.Prelude.{◌≡◌, ◌≤◌, ◌<◌, ℕ, map, length, IfOk, IfErr, OnOk, All};
 ghost use Rattle.std.specs.List.{flat_map};
+ghost use Rattle.dd_values.specs.Bounds.{most_weight};
 ghost use Rattle.dd_expansion.specs.Limits.{greatest};
 ghost use Rattle.dd_pattern.specs.Weight.{AreWeights, total_weight};
 ghost use Rattle.dd_rows.specs.Asked.{AreVectors, AreWeightsFor};
@@ -97,7 +98,7 @@ fn asked_row(
 ) -> Result<SparseRow, AllocError>
     requires known { All (λ s. s < length weights.now) symbols.now }
     requires some { 1 ≤ length weights.now }
-    requires small { All (λ w. w ≤ 1000) weights.now }
+    requires small { All (λ w. w ≤ most_weight) weights.now }
     requires nodes { length views.now.centre ≤ 4 }
     ensures exchanges { IfOk result (λ row. row.exchanges.items ≡ exchanges_of patterns.now views.now symbols.now) }
     ensures row { IfOk result (λ row. dense (length patterns.now) row ≡ asked_row patterns.now views.now weights.now symbols.now) }
@@ -137,7 +138,7 @@ fn distinct_rows(
 ) -> Result<IndexSet<SparseRow>, RowsFault>
     requires known { All (λ ss. All (λ s. s < length weights.now) ss) fillings.now }
     requires some { 1 ≤ length weights.now }
-    requires small { All (λ w. w ≤ 1000) weights.now }
+    requires small { All (λ w. w ≤ most_weight) weights.now }
     requires nodes { length views.now.centre ≤ 4 }
     ensures ok { IfOk result (λ rows. map (dense (length patterns.now)) rows.keys
         ≡ first_seen (asked_rows patterns.now views.now weights.now heaviest fillings.now)) }
@@ -198,7 +199,7 @@ fn program_listed(
 ) -> Result<Rows, RowsFault>
     requires known { All (λ ss. All (λ s. s < length weights.now) ss) fillings.now }
     requires some { 1 ≤ length weights.now }
-    requires small { All (λ w. w ≤ 1000) weights.now }
+    requires small { All (λ w. w ≤ most_weight) weights.now }
     requires nodes { length views.now.centre ≤ 4 }
     ensures ok { IfOk result (IsProgramShown views.now weights.now heaviest fillings.now) }
     ensures err { IfErr result (λ fault. OnLarge fault (IsLargeShown views.now weights.now heaviest fillings.now)) }
@@ -221,7 +222,7 @@ fn program_shown(
 ) -> Result<Rows, RowsFault>
     requires known { All (λ ss. All (λ s. s < length weights.now) ss) fillings.now }
     requires some { 1 ≤ length weights.now }
-    requires small { All (λ w. w ≤ 1000) weights.now }
+    requires small { All (λ w. w ≤ most_weight) weights.now }
     requires nodes { length views.now.centre ≤ 4 }
     ensures ok { IfOk result (IsProgramShown views.now weights.now heaviest fillings.now) }
     ensures err { IfErr result (λ fault. OnLarge fault (IsLargeShown views.now weights.now heaviest fillings.now)) }

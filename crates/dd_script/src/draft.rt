@@ -1,5 +1,6 @@
 //! A script as far as its commands have been gone through.
 ghost use Rattle.std.specs.Prelude.{◌≡◌, ◌+◌, OnOk, IfOk, MatchResult};
+ghost use Rattle.dd_values.specs.Bounds.{most_commands};
 ghost use Rattle.dd_commands.specs.Scripts.{IsWritten};
 ghost use Rattle.dd_faults.specs.Sound.{IsSound, HasFewer};
 ghost use Rattle.dd_meanings.specs.Sound.{IsSoundMeaning};
@@ -55,7 +56,7 @@ impl Draft {
     fn add(&mut self, alloc: Global, meaning: Meaning) -> Result<(), AllocError>
         requires sound { IsSound self.old.context.known }
         requires meaning { IsSoundMeaning self.old.context self.old.rules self.old.automata meaning }
-        requires few { HasFewer 1000 self.old.context.known }
+        requires few { HasFewer most_commands self.old.context.known }
         ensures added { OnOk result (self.new ≡ with_meaning self.old meaning) }
         ensures text { self.new.context.text ≡ self.old.context.text }
     {

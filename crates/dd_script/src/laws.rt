@@ -1,5 +1,6 @@
 // What bytes spell is determined by them.
 ghost use Rattle.std.specs.Prelude.{◌≡◌, ◌≤◌, ◌⊎◌, ℕ, List, length};
+ghost use Rattle.dd_values.specs.Bounds.{most_script};
 ghost use Rattle.dd_script.specs.Parts.{Parts};
 ghost use Rattle.dd_script.specs.Scripts.{Spells, RefusedAs, RefusalKind};
 
@@ -25,7 +26,7 @@ pub fn one_refusal()
 /// Bytes that spell a script are not refused, and all others of an allowed length are.
 pub fn spelled_or_refused()
     ensures never_both { (bytes : List ℕ) (s : Parts) (n : ℕ) (k : RefusalKind) → Spells bytes s → RefusedAs bytes n k → ⊥ }
-    ensures either { (bytes : List ℕ) → length bytes ≤ 1048576 → ((s : Parts) × Spells bytes s) ⊎ ((n : ℕ) × (k : RefusalKind) × RefusedAs bytes n k) }
+    ensures either { (bytes : List ℕ) → length bytes ≤ most_script → ((s : Parts) × Spells bytes s) ⊎ ((n : ℕ) × (k : RefusalKind) × RefusedAs bytes n k) }
 {
     one_tree();
     tree_or_fault();

@@ -1,5 +1,6 @@
 // Reading scripts.
 ghost use Rattle.std.specs.Prelude.{◌≡◌, ◌≤◌, length, All, IfOk, IfErr};
+ghost use Rattle.dd_values.specs.Bounds.{most_script};
 ghost use Rattle.dd_commands.specs.Scripts.{IsScript, IsWritten};
 ghost use Rattle.dd_script.specs.Scripts.{Spells, IsScriptRefusal};
 ghost use Rattle.dd_script.specs.drafting.Drafts.{StopsIn, IsKindOf, IsUnread};
@@ -101,7 +102,7 @@ fn script_of(alloc: Global, syntax: Syntax) -> Result<Script, ScriptFault>
 /// nothing, one that is given twice, numbers of entries that do not agree, or a limit that is passed, in this order; or want
 /// of memory.
 pub fn parse(alloc: Global, bytes: &[u8]) -> Result<Script, ScriptFault>
-    requires { length bytes.now ≤ 1048576 }
+    requires { length bytes.now ≤ most_script }
     ensures spelled { IfOk result (Spells bytes.now) }
     ensures refused { IfErr result (IsScriptRefusal bytes.now) }
 {

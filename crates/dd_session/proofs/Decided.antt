@@ -2,6 +2,7 @@
 use Rattle.std.proofs.Common.{◌≡◌, ◌≢◌, inl, inr, ℕ, suc, ◌+◌, ◌≤◌, List, [], Bool, refl, true, false, ◌++◌, None, Some, sym, ◌∙◌, ap, subst, length, arith, append-nil, length-append}
 use Rattle.std.proofs.KnownBytes.{Consumes-nil}
 use Rattle.std.specs.declared.option.Option.{Option}
+use Rattle.dd_values.specs.Bounds.{most_script}
 use Rattle.dd_outside.specs.Bytes.{ReadToEnd, GivesMore, GivesAtMost}
 use Rattle.dd_script.specs.Parts.{Parts}
 use Rattle.dd_script.specs.Scripts.{Spells, RefusedAs, RefusalKind}
@@ -10,7 +11,6 @@ use Rattle.dd_session.specs.declared.status.Status.TheVariants.{Definite, SomeUn
 use Rattle.dd_session.specs.Output.{long_line}
 use Rattle.dd_session.specs.Sides.{Told, RefusedBy}
 use Rattle.dd_session.specs.Runs.{RanOver, Ended, IsAccepted, IsAcceptedAs, DecidesStatus, RanWhole, RefusedWhole, IsRefusedInput, IsRefusedBy, too_long, no_run}
-use Rattle.dd_output.specs.Outputs.{most_script}
 
 -- What was read to the end is what was told.
 pub told_bytes : (bytes given : List ℕ) (left : Option (List ℕ)) → ReadToEnd (Some bytes) left given → bytes ≡ given

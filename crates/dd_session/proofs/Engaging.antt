@@ -4,6 +4,7 @@ use Rattle.std.proofs.KnownBytes.{Appends-trans}
 use Rattle.std.specs.Prelude.{IsSomeAnd, IfOk, OnErr}
 use Rattle.std.specs.declared.option.Option.{Option}
 use Rattle.std.specs.Io.KnownBytes.{Appends}
+use Rattle.dd_values.specs.Bounds.{most_script}
 use Rattle.dd_outside.specs.Bytes.{ReadToEnd}
 use Rattle.dd_engines.specs.Rounds.{Seen, Kept, FirstAsked}
 use Rattle.dd_certificate.specs.Text.{answer_text}
@@ -20,7 +21,6 @@ use Rattle.dd_session.specs.Output.{header}
 use Rattle.dd_session.specs.Sides.{Told, RefusedBy, status_of}
 use Rattle.dd_session.specs.Written.{AnsweredToEnd, AnsweredShort}
 use Rattle.dd_session.specs.Runs.{IsAccepted}
-use Rattle.dd_output.specs.Outputs.{most_script}
 use Rattle.dd_session.specs.Asking.{HeaderTaken, Begun, HasBegun, IsToEnd, IsUnanswered, AsksFirstOver, AsksFirst}
 use Rattle.dd_session.proofs.Decided.{told_bytes}
 use Rattle.dd_session.proofs.Streamed.{one_more}

@@ -4,6 +4,7 @@ use Rattle.std.specs.Prelude.{if◌then◌else◌}
 use Rattle.std.specs.List.{flat_map}
 use Rattle.std.specs.Option.{option_or, option_map}
 use Rattle.std.proofs.lemmas.Bool.{ltb-false}
+use Rattle.dd_values.specs.Bounds.{most_commands}
 use Rattle.dd_commands.specs.declared.script.Written.{Written}
 use Rattle.dd_faults.specs.declared.fault.Limit.TheVariants as limit
 use Rattle.dd_faults.specs.declared.fault.Fault.{Fault}
@@ -18,7 +19,6 @@ use Rattle.dd_query.specs.declared.queries.Query.{Query}
 use Rattle.dd_script.specs.Parts.{Parts}
 use Rattle.dd_script.specs.Walk.{start, with, context, fault_of, next, Located, located, first_from, after_all, has_topology, script_of}
 use Rattle.dd_script.specs.Scripts.{Spells}
-use Rattle.dd_output.specs.Outputs.{most_queries}
 
 -- ---- where nothing is found, nothing is found first
 
@@ -96,12 +96,12 @@ few_made bytes later n s (w ∷ ws) =
     let more : length (after_all bytes later (n + 1) after ws).queries ≤ length after.queries + length ws = few_made bytes later (n + 1) after ws in
     omega (arith, one, more)
 
-within_few : (commands queries : ℕ) → 1 + commands ≤ 1001 → queries ≤ 0 + commands → queries ≤ most_queries
+within_few : (commands queries : ℕ) → 1 + commands ≤ 1001 → queries ≤ 0 + commands → queries ≤ most_commands
 within_few commands queries few made = omega (arith, few, made)
 
-pub few_queries : (bytes : List ℕ) (s : Parts) → Spells bytes s → length s.queries ≤ most_queries
+pub few_queries : (bytes : List ℕ) (s : Parts) → Spells bytes s → length s.queries ≤ most_commands
 few_queries bytes s spelled =
     let ws : List Written = spelled.tree.commands in
-    subst (λ (p : Parts). length p.queries ≤ most_queries) (sym spelled.meaning)
+    subst (λ (p : Parts). length p.queries ≤ most_commands) (sym spelled.meaning)
     (within_few (length ws) (length (script_of bytes ws).queries)
     (few_commands bytes (has_topology ws) 1 start ws (omega arith) spelled.faultless) (few_made bytes (has_topology ws) 1 start ws))

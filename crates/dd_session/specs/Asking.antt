@@ -2,6 +2,7 @@
 use Rattle.std.specs.Prelude.{ℕ, ◌≤◌, List, ◌++◌, length}
 use Rattle.std.specs.declared.option.Option.{Option}
 use Rattle.std.specs.Io.KnownBytes.{Appends}
+use Rattle.dd_values.specs.Bounds.{most_script}
 use Rattle.dd_outside.specs.Bytes.{ReadToEnd}
 use Rattle.dd_engines.specs.Rounds.{Seen, FirstAsked}
 use Rattle.dd_script.specs.Parts.{Parts}
@@ -10,7 +11,6 @@ use Rattle.dd_answer.specs.Asking.{AsksSomeBoxes}
 use Rattle.dd_session.specs.declared.status.Status.{Status}
 use Rattle.dd_session.specs.declared.status.Status.TheVariants.{Definite, SomeUnknown, Refused, ReadFault, WriteFault, Memory, BadWords, Rejected}
 use Rattle.dd_session.specs.Output.{header}
-use Rattle.dd_output.specs.Outputs.{most_script}
 
 -- The lines before the first answer were written whole.
 pub record HeaderTaken (old new : Option (List ℕ)) (bytes : List ℕ) : Type 0 where

@@ -2,8 +2,8 @@
 ghost use Rattle.std.specs.Prelude.{◌≡◌, ◌≤◌, length, IfOk, OnErr, IsErrOf, string_bytes};
 ghost use Rattle.dd_values.specs.Counts.{Rose};
 ghost use Rattle.std.specs.List.{list_any};
+ghost use Rattle.dd_values.specs.Bounds.{most_commands};
 ghost use Rattle.dd_answer.specs.Right.{is_unknown};
-ghost use Rattle.dd_output.specs.Outputs.{most_queries};
 ghost use Rattle.dd_session.specs.Checked.{CheckFront};
 ghost use Rattle.dd_session.specs.checking.Judged.{
   verdict_line,
@@ -85,8 +85,8 @@ fn check_each<K: Sink>(
     answers: &[Answer],
     sink: &mut K,
 ) -> Result<bool, RunFault>
-    requires few_queries { length script.now.queries ≤ most_queries }
-    requires few_answers { length answers.now ≤ most_queries }
+    requires few_queries { length script.now.queries ≤ most_commands }
+    requires few_answers { length answers.now ≤ most_commands }
     ensures wrote { IfOk result (EachJudged (K.held sink.old) (K.held sink.new) script.now answers.now) }
     ensures cut { OnErr result (CheckFront (K.held sink.old) (K.held sink.new) script.now answers.now) }
     ensures later { K.faults sink.old ≤ K.faults sink.new }
@@ -110,8 +110,8 @@ pub(crate) fn check_all<K: Sink>(
     answers: &[Answer],
     sink: &mut K,
 ) -> Result<bool, RunFault>
-    requires few_queries { length script.now.queries ≤ most_queries }
-    requires few_answers { length answers.now ≤ most_queries }
+    requires few_queries { length script.now.queries ≤ most_commands }
+    requires few_answers { length answers.now ≤ most_commands }
     ensures wrote { IfOk result (AllJudged (K.held sink.old) (K.held sink.new) script.now answers.now) }
     ensures cut { OnErr result (CheckFront (K.held sink.old) (K.held sink.new) script.now answers.now) }
     ensures later { K.faults sink.old ≤ K.faults sink.new }

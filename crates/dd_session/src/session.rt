@@ -1,5 +1,6 @@
 // The top call.
 ghost use Rattle.std.specs.Prelude.{◌≡◌, ◌≢◌, ◌⊎◌, ◌+◌, ◌≤◌, ◌↔◌, ℕ, List, Some, IsTrue, IfOk, map, codes, string_bytes, length};
+ghost use Rattle.dd_values.specs.Bounds.{most_script, most_commands};
 ghost use Rattle.dd_outside.specs.Bytes.{GivesAtMost};
 ghost use Rattle.dd_engines.specs.Rosters.{roster_seen};
 ghost use Rattle.dd_engines.specs.Rounds.{Kept, FirstAsked};
@@ -9,7 +10,6 @@ ghost use Rattle.dd_answer.specs.Asking.{AsksSomeBoxes};
 ghost use Rattle.dd_session.specs.Asking.{HeaderTaken, Begun, HasBegun, IsToEnd, IsUnanswered, AsksFirstOver, AsksFirst};
 ghost use Rattle.dd_session.specs.Checks.{most_checked};
 ghost use Rattle.dd_session.specs.Checked.{CheckEnded, CheckDecides};
-ghost use Rattle.dd_output.specs.Outputs.{most_queries, most_script};
 ghost use Rattle.dd_session.specs.Words.{IsOnly, IsSample, IsSampleOf, AreBad};
 ghost use Rattle.dd_session.specs.Sides.{told, status_of, RefusedBy};
 ghost use Rattle.dd_session.specs.Runs.{RanOver, Ended, DecidesStatus, IsAccepted};
@@ -194,7 +194,7 @@ fn run_lines<K: Sink, E: Engine>(
     sink: &mut K,
     roster: &mut Roster<E>,
 ) -> Status
-    requires { length script.now.queries ≤ most_queries }
+    requires { length script.now.queries ≤ most_commands }
     ensures wrote { LinesOf (told K.held K.faults sink.old sink.new) script.now result }
     ensures later { K.faults sink.old ≤ K.faults sink.new }
     ensures roster_kept { Kept (roster_seen E.asked E.given E.sound roster.old) (roster_seen E.asked E.given E.sound roster.new) }

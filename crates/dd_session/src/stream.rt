@@ -1,5 +1,6 @@
 // The output of a script, and the first lines of its answers, each part written as soon as it is made.
 ghost use Rattle.std.specs.Prelude.{◌≡◌, ◌⊎◌, ◌≤◌, ◌∷◌, [], length, Contains, IfOk, OnOk, OnErr, IsErrOf};
+ghost use Rattle.dd_values.specs.Bounds.{most_commands};
 ghost use Rattle.dd_values.specs.Counts.{Rose};
 ghost use Rattle.dd_engines.specs.Rosters.{roster_seen};
 ghost use Rattle.dd_engines.specs.Rounds.{Kept};
@@ -7,7 +8,6 @@ ghost use Rattle.dd_script.specs.Scripts.{Spells};
 ghost use Rattle.dd_answer.specs.Asking.{AsksBoxes, AsksSomeBoxes, Engages};
 ghost use Rattle.dd_answer.specs.Right.{is_unknown};
 ghost use Rattle.dd_session.specs.declared.stream.RunFault.TheVariants.{WriteFault, Memory};
-ghost use Rattle.dd_output.specs.Outputs.{most_queries};
 ghost use Rattle.dd_session.specs.Asking.{HeaderTaken};
 ghost use Rattle.dd_session.specs.Forms.{text_in};
 ghost use Rattle.dd_session.specs.Written.{Answered, AnsweredFront, AnsweredToEnd, AnsweredShort, WholeOutput, CutShort};
@@ -102,7 +102,7 @@ fn answer_all<K: Sink, E: Engine>(
     sink: &mut K,
     roster: &mut Roster<E>,
 ) -> Result<bool, RunFault>
-    requires { length script.now.queries ≤ most_queries }
+    requires { length script.now.queries ≤ most_commands }
     ensures wrote { IfOk result (λ unknown. Answered (text_in form) (K.held sink.old) (K.held sink.new) script.now script.now.queries 1 unknown) }
     ensures cut { OnErr result (AnsweredFront (text_in form) (K.held sink.old) (K.held sink.new) script.now script.now.queries 1) }
     ensures later { K.faults sink.old ≤ K.faults sink.new }
@@ -130,7 +130,7 @@ pub(crate) fn answer_to_end<K: Sink, E: Engine>(
     sink: &mut K,
     roster: &mut Roster<E>,
 ) -> Result<bool, RunFault>
-    requires { length script.now.queries ≤ most_queries }
+    requires { length script.now.queries ≤ most_commands }
     ensures whole { IfOk result (λ unknown. AnsweredToEnd (text_in form) (K.held sink.old) (K.held sink.new) script.now unknown) }
     ensures cut { OnErr result (AnsweredShort (text_in form) (K.held sink.old) (K.held sink.new) script.now) }
     ensures later { K.faults sink.old ≤ K.faults sink.new }

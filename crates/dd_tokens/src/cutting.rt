@@ -1,5 +1,6 @@
 // The whole bytes, piece by piece.
 ghost use Rattle.std.specs.Prelude.{◌≡◌, ◌≤◌, length, IfOk};
+ghost use Rattle.dd_values.specs.Bounds.{most_script};
 ghost use Rattle.dd_tokens.specs.Format.{tokens_of};
 
 use crate::piece::{Piece, first};
@@ -10,7 +11,7 @@ use std::alloc::{AllocError, Global};
 /// Cuts at most 1,048,576 bytes into tokens, each as long as it can be, up to the first place where no token
 /// and no blank begins.
 pub fn tokens(alloc: Global, bytes: &[u8]) -> Result<Tokens, AllocError>
-    requires { length bytes.now ≤ 1048576 }
+    requires { length bytes.now ≤ most_script }
     ensures { IfOk result (λ cut. cut ≡ tokens_of bytes.now) }
 {
     let mut list = Items::new(alloc);

@@ -1,6 +1,7 @@
 // What stands at the front of some bytes: a blank, a comment, a token, or a fault.
 ghost use Rattle.std.specs.Prelude.{◌≡◌, ◌≤◌, ◌<◌, ◌+◌, length, nat_le, ◌==◌, ◌&&◌};
 ghost use Rattle.std.specs.List.{prefix_len};
+ghost use Rattle.dd_values.specs.Bounds.{most_script};
 ghost use Rattle.dd_tokens.specs.Format.{is_blank, is_letter, is_digit, is_sign, is_comment, is_pair, is_both_ways, starts_positive, starts, comment, number, front, first, IsPieceWithin};
 
 use crate::token::TokenKind;
@@ -84,7 +85,7 @@ fn comment_bytes(bytes: &[u8]) -> usize
 }
 
 fn comment(bytes: &[u8]) -> Piece
-    requires { length bytes.now ≤ 1048576 }
+    requires { length bytes.now ≤ most_script }
     ensures value { result ≡ comment bytes.now }
     ensures within { IsPieceWithin result (1 + length bytes.now) }
 {
@@ -97,7 +98,7 @@ fn comment(bytes: &[u8]) -> Piece
 }
 
 fn number(first: u8, bytes: &[u8]) -> Piece
-    requires { length bytes.now ≤ 1048576 }
+    requires { length bytes.now ≤ most_script }
     ensures value { result ≡ number first bytes.now }
     ensures within { IsPieceWithin result (1 + length bytes.now) }
 {
@@ -143,7 +144,7 @@ fn is_both_ways(first: u8, bytes: &[u8]) -> bool
 }
 
 fn front(first: u8, bytes: &[u8]) -> Piece
-    requires { length bytes.now ≤ 1048576 }
+    requires { length bytes.now ≤ most_script }
     ensures value { result ≡ front first bytes.now }
     ensures within { IsPieceWithin result (1 + length bytes.now) }
 {
@@ -177,7 +178,7 @@ fn front(first: u8, bytes: &[u8]) -> Piece
 /// What stands at the front of the bytes, of which there is one at least.
 pub fn first(bytes: &[u8]) -> Piece
     requires some { 0 < length bytes.now }
-    requires few { length bytes.now ≤ 1048576 }
+    requires few { length bytes.now ≤ most_script }
     ensures value { result ≡ first bytes.now }
     ensures within { IsPieceWithin result (length bytes.now) }
 {

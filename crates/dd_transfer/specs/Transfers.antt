@@ -1,6 +1,7 @@
 -- The transfer graph of a rule over a strip.
 use Rattle.std.specs.Prelude.{◌≡◌, ◌↔◌, ◌⊎◌, ℕ, ◌+◌, ◌*◌, ◌%◌, ◌<◌, ◌≤◌, List, length, slice_index, Some}
 use Rattle.std.specs.List.{All}
+use Rattle.dd_values.specs.Bounds.{most_weight}
 use Rattle.dd_pattern.specs.Weight.{total_weight}
 use Rattle.dd_formula.specs.LocalRule.{LocalRule}
 use Rattle.dd_counts.specs.Rules.{slices, states, longer_states}
@@ -22,7 +23,7 @@ pub record IsStrip (r : LocalRule) (periods : List ℕ) : Type 0 where
 -- one weight for each symbol, each at most 1000
 pub record HasWeights (r : LocalRule) (weights : List ℕ) : Type 0 where
   pub each : length weights ≡ r.symbols
-  pub small : All (λ w. w ≤ 1000) weights
+  pub small : All (λ w. w ≤ most_weight) weights
 
 abbrev pub strip_for : LocalRule → List ℕ → Strip
 strip_for r periods = strip_of (slice_index periods 0) (slice_index periods 1) r.nodes

@@ -1,5 +1,6 @@
 // From the bytes of a script to its tokens as the grammar sees them.
 ghost use Rattle.std.specs.Prelude.{◌≡◌, ◌≤◌, ◌+◌, length, map, bytes_eq, IfOk};
+ghost use Rattle.dd_values.specs.Bounds.{most_script};
 ghost use Rattle.dd_written.specs.Lexemes.{mark_text, mark_at, token_text, lexeme_of, lexemes_of};
 
 use crate::lexeme::{Lexeme, Mark, Number, Word};
@@ -105,7 +106,7 @@ fn lexemes_in(alloc: Global, bytes: &[u8], list: &[Token]) -> Result<Items<Lexem
 
 /// The tokens of at most 1,048,576 bytes, and a stray one where the bytes are not tokens and blanks whole.
 pub fn lexemes(alloc: Global, bytes: &[u8]) -> Result<Items<Lexeme>, AllocError>
-    requires { length bytes.now ≤ 1048576 }
+    requires { length bytes.now ≤ most_script }
     ensures value { IfOk result (λ lexemes. lexemes ≡ lexemes_of bytes.now) }
     ensures few { IfOk result (λ lexemes. length lexemes ≤ 1048577) }
 {

@@ -4,6 +4,7 @@ use Rattle.std.specs.Prelude.{◌==◌, ◌-◌, if◌then◌else◌}
 use Rattle.std.specs.List.{range_with_len, All}
 use Rattle.std.proofs.lemmas.List.{map-append, take_more, drop_all}
 use Rattle.std.proofs.lemmas.List.Elements.{All-push, All-weaker}
+use Rattle.dd_values.specs.Bounds.{most_variables}
 use Rattle.dd_circuit.specs.declared.gates.Signal.{Signal}
 use Rattle.dd_circuit.specs.declared.gates.Gate.{Gate}
 use Rattle.dd_circuit.specs.declared.gates.Gate.TheVariants.{And, Or}
@@ -79,7 +80,7 @@ choosing_step rules i start now new chosen before members more after l s p ok be
     }
 
 pub choosing_few : (rules : List Signal) (i : ℕ) (start now : Network) (chosen before : List Signal) → Choosing rules i start now chosen before → i ≤ length rules →
-    size start + length (choices [] rules) ≤ 16777216 → size now < 16777216
+    size start + length (choices [] rules) ≤ most_variables → size now < most_variables
 choosing_few rules i start now chosen before p within few = omega (arith, p.count, choices_length [] rules, few)
 
 pub choosing_end : (rules : List Signal) (i : ℕ) (start now new : Network) (chosen before members more : List Signal) (s : Signal) → Choosing rules i start now chosen before → length rules ≤ i →

@@ -5,6 +5,7 @@ use Rattle.std.specs.List.{list_all, list_any, All, Contains, range_with_len}
 use Rattle.std.proofs.lemmas.Bool.{and_parts, and_from, leb-true, le-leb}
 use Rattle.std.proofs.lemmas.List.{map-append, take_all, drop_all, length-map}
 use Rattle.std.proofs.lemmas.List.Elements.{All-push, All-weaker, Contains-append_left, Contains-append_right}
+use Rattle.dd_values.specs.Bounds.{most_variables}
 use Rattle.dd_lattice.specs.Cells.{shifted}
 use Rattle.dd_lattice.specs.declared.position.Cell.{Cell}
 use Rattle.dd_pattern.specs.Reading.{HasSymbolsBelow}
@@ -102,7 +103,7 @@ module _ (w : Wiring) (c : Cases) (at : Cell) (i : ℕ) (start now : Network) (s
   pub size_more : size start ≤ size now
   size_more = let n = size-append start now p.extends.added p.extends.inputs p.extends.gates in omega (arith, n)
 
-  pub case_few : size start + length (rules_made w at c.cases (size start)).gates ≤ 16777216 → size now + gate_count (expansion_at case.0 at.node) ≤ 16777216
+  pub case_few : size start + length (rules_made w at c.cases (size start)).gates ≤ most_variables → size now + gate_count (expansion_at case.0 at.node) ≤ most_variables
   case_few few =
       let one = made_at w at case (size now) in
       let rest = all_made (map (made_at w at) (drop (i + 1) c.cases)) (size now + length one.gates) in
@@ -268,12 +269,12 @@ value_length k c w at n =
 
 -- what the three steps ask
 pub record Asks (k n : ℕ) (rules chosen : List Signal) (xs : List ℕ) (one two : ℕ) : Type 0 where
-  pub choose_few : one + length (choices [] rules) ≤ 16777216
+  pub choose_few : one + length (choices [] rules) ≤ most_variables
   pub as_many : length chosen ≡ length xs
-  pub give_few : two + k ≤ 16777216
+  pub give_few : two + k ≤ most_variables
   pub in_range : All (IsSignal two) chosen
 
-pub asks : (k : ℕ) (c : Cases) (w : Wiring) (at : Cell) (n one two : ℕ) (rules chosen : List Signal) (xs : List ℕ) → n + length (given_made k c w at n).gates ≤ 16777216 →
+pub asks : (k : ℕ) (c : Cases) (w : Wiring) (at : Cell) (n one two : ℕ) (rules chosen : List Signal) (xs : List ℕ) → n + length (given_made k c w at n).gates ≤ most_variables →
     one ≡ n + length (rules_made w at c.cases n).gates → rules ≡ (rules_made w at c.cases n).signals → two ≡ one + length (choices [] rules) → chosen ≡ fresh one (length (choices [] rules)) →
     xs ≡ given_symbols c.cases c.otherwise → Asks k n rules chosen xs one two
 asks k c w at n one two rules chosen xs few is_one rules_are is_two chosen_are given_are =

@@ -4,7 +4,7 @@ use Rattle.std.specs.Prelude.{◌==◌, ◌&&◌, if◌then◌else◌, Option, n
 use Rattle.std.specs.List.{list_all}
 use Rattle.std.proofs.lemmas.Int.{ints}
 use Rattle.std.proofs.lemmas.Bool.{and_parts, and_from, leb-true, ltb-true, eqb-true}
-use Rattle.dd_lattice.specs.Place.{Place, moved, IsCoordinateInRange, is_in_range}
+use Rattle.dd_lattice.specs.Place.{Place, moved, IsCoordinateInRange, is_in_range, most_coordinate}
 use Rattle.dd_lattice.specs.Cells.{shifted}
 use Rattle.dd_lattice.specs.declared.position.Cell.{Cell}
 use Rattle.dd_lattice.specs.lemmas.RangeLaws.{test_from_in_range}
@@ -21,7 +21,7 @@ use Rattle.dd_compile.specs.RuleSignals.{is_signal, are_signals, are_reads_wired
 pub extent_moved : (p by : Place) → extent (moved p by) ≤ extent p + extent by
 extent_moved p by = omega (arith, ints)
 
-in_range : (p : Place) → extent p ≤ 1048576 → is_in_range p ≡ true
+in_range : (p : Place) → extent p ≤ most_coordinate → is_in_range p ≡ true
 in_range p h =
     let x : IsCoordinateInRange p.x = (omega (arith, ints), omega (arith, ints)) in
     let y : IsCoordinateInRange p.y = (omega (arith, ints), omega (arith, ints)) in

@@ -4,7 +4,7 @@ use Rattle.std.specs.Prelude.{◌&&◌, ◌||◌, nat_le, OnOk}
 use Rattle.std.specs.List.{list_all, range_with_len}
 use Rattle.std.proofs.lemmas.Bool.{and_from}
 use Rattle.dd_expansion.specs.lemmas.ListTests.{and_true}
-use Rattle.dd_formula.specs.LocalRule.{is_near}
+use Rattle.dd_formula.specs.LocalRule.{is_near, most_instances}
 use Rattle.dd_formula.specs.Automata.{CommonNumbers, Counted, has_rules, automaton_fits, is_few, is_short, is_shallow, are_within, is_within, IsAutomaton}
 use Rattle.dd_formula.specs.Compositions.{StandFor, PassesDepth, composition}
 use Rattle.dd_formula.specs.declared.automaton.Automaton.{Automaton}
@@ -58,7 +58,7 @@ pub stands_one : (s : CommonNumbers) (f g : Automaton) → has_rules f ≡ false
 stands_one s f g none none' some =
     let same = uniform (v.Composed f g) (has_rules_composed f g ∙ (ap (λ b. b || has_rules g) none ∙ none')) in record {
       below = some;
-      few = range_one (λ a. nat_le ((composition f g).instances a) 20000) (λ a. ap (λ n. nat_le n 20000) (same.1 a)) s.nodes some;
+      few = range_one (λ a. nat_le ((composition f g).instances a) most_instances) (λ a. ap (λ n. nat_le n most_instances) (same.1 a)) s.nodes some;
       short = range_one (λ a. list_all is_near ((composition f g).reads a)) (λ a. ap (list_all is_near) (same.0 a ∙ sym (same.0 0))) s.nodes some;
     }
 

@@ -5,7 +5,7 @@ use Rattle.std.specs.List.{list_all, All, position_or_len}
 use Rattle.std.specs.Ordering.{is_eq}
 use Rattle.std.proofs.lemmas.Int.{ints}
 use Rattle.std.proofs.lemmas.Bool.{and_parts, and_from, leb-true, ltb-true, lt-ltb, cond_both}
-use Rattle.dd_lattice.specs.Place.{Place, moved, IsCoordinateInRange, is_in_range}
+use Rattle.dd_lattice.specs.Place.{Place, moved, IsCoordinateInRange, is_in_range, most_coordinate}
 use Rattle.dd_lattice.specs.Cells.{shifted}
 use Rattle.dd_lattice.specs.declared.position.Cell.{Cell}
 use Rattle.dd_lattice.specs.Order.{cell_cmp}
@@ -25,7 +25,7 @@ use Rattle.dd_formula.specs.Living.{Fits}
 extent_moved : (p by : Place) → extent (moved p by) ≤ extent p + extent by
 extent_moved p by = omega (arith, ints)
 
-pub in_range : (p : Place) → extent p ≤ 1048576 → is_in_range p ≡ true
+pub in_range : (p : Place) → extent p ≤ most_coordinate → is_in_range p ≡ true
 in_range p h =
     let x : IsCoordinateInRange p.x = (omega (arith, ints), omega (arith, ints)) in
     let y : IsCoordinateInRange p.y = (omega (arith, ints), omega (arith, ints)) in
@@ -57,7 +57,7 @@ look_given t ok d h = let there : nat_lt d.node t.nodes ≡ true = lt-ltb _ _ h 
 
 pub read_given : (t : Tile) → IsPeriodic t → (c d : Cell) → IsInBox t c → extent d.position ≤ 16 → d.node < t.nodes → is_some (seen (tile_look t) c.position d) ≡ true
 read_given t ok c d h close node =
-    let small : extent (moved d.position c.position) ≤ 1048576 = omega (arith, extent_moved d.position c.position, box_extent t ok c h) in
+    let small : extent (moved d.position c.position) ≤ most_coordinate = omega (arith, extent_moved d.position c.position, box_extent t ok c h) in
     let there : is_in_range (moved d.position c.position) ≡ true = in_range (moved d.position c.position) small in
     rw there (look_given t ok.tile (shifted c.position d) node)
 

@@ -1,7 +1,8 @@
 -- Lists in a text: those that a 0 ends, and the numbers that a line ends with.
 use Rattle.std.specs.Prelude.{ℕ, ℤ, pos, negsuc, zero, suc, ◌-◌, ◌≤◌, List, [], ◌∷◌, ◌++◌, Bool, true, false, cond, ◌==◌, nat_lt, nat_le, Option, Some, None}
+use Rattle.dd_values.specs.Bounds.{most_variables}
 use Rattle.dd_clause.specs.declared.clause.Literal.{Literal}
-use Rattle.dd_certificate.specs.Bounds.{most_number, most_count, most_variable}
+use Rattle.dd_certificate.specs.Bounds.{most_number, most_count}
 use Rattle.dd_output.specs.reading.Stops.{Read, before, word_at, number_at, after_at, map_at, Entry, item, last, entries_at, choice_at}
 use Rattle.dd_output.specs.reading.Forms.{Form, nothing}
 
@@ -21,7 +22,7 @@ ended u = last u
 
 -- a variable, and the list's end at least
 abbrev pub variable_at : List ℕ → Read (ℕ × ℕ)
-variable_at bytes = before (48 ∷ 32 ∷ []) (number_at 1 most_variable 32 32 nothing bytes)
+variable_at bytes = before (48 ∷ 32 ∷ []) (number_at 1 most_variables 32 32 nothing bytes)
 
 abbrev pub literal_entry : List ℕ → Read (Entry Literal (Unit {0}))
 literal_entry = choice_at 48 (map_at ended (word_at (48 ∷ 32 ∷ [])))

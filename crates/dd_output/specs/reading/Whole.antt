@@ -1,9 +1,10 @@
 -- Reading a whole output, and the text that completes what can be read of one.
 use Rattle.std.specs.Prelude.{ℕ, suc, List, [], ◌∷◌, ◌++◌, length, cond, ◌==◌, nat_lt, Result, Ok, Err, codes, replicate}
 use Rattle.std.specs.Fmt.{decimal}
+use Rattle.dd_values.specs.Bounds.{most_script, most_commands}
 use Rattle.dd_certificate.specs.declared.answer.Answer.{Answer}
 use Rattle.dd_output.specs.declared.output.Output.{Output}
-use Rattle.dd_output.specs.Outputs.{most_script, most_queries, end_line}
+use Rattle.dd_output.specs.Outputs.{end_line}
 use Rattle.dd_output.specs.reading.Stops.{Read, ◌>>=◌, Stop, stop, before, word_at, number_at, bytes_at, then_at, after_at, map_at, Entry, item, entries_at, choice_at}
 use Rattle.dd_output.specs.reading.Lists.{items_of, ended}
 use Rattle.dd_output.specs.reading.Grammar.{answer_form}
@@ -22,7 +23,7 @@ open_entry k = choice_at 113
 
 -- at the place k, from 0
 unfoldable pub answer_entry : ℕ → List ℕ → Read (Entry Answer (Unit {0}))
-answer_entry k bytes = cond (nat_lt k most_queries) (open_entry k bytes) (map_at ended (word_at end_line) bytes)
+answer_entry k bytes = cond (nat_lt k most_commands) (open_entry k bytes) (map_at ended (word_at end_line) bytes)
 
 abbrev pub answers_at : List ℕ → Read (List Answer)
 answers_at = map_at items_of (entries_at answer_entry 0)

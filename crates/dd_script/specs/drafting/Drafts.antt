@@ -1,5 +1,6 @@
 -- Scripts as far as their commands have been gone through.
 use Rattle.std.specs.Prelude.{ℕ, ◌+◌, ◌≡◌, ◌≤◌, List, Bool, Option, Some, None, string_bytes}
+use Rattle.dd_values.specs.Bounds.{most_commands}
 use Rattle.dd_commands.specs.declared.script.Written.{Written}
 use Rattle.dd_commands.specs.declared.fault.SyntaxFault.{SyntaxFault}
 use Rattle.dd_commands.specs.declared.fault.SyntaxFault.TheVariants as unread
@@ -45,7 +46,7 @@ behind d w = draft_of d.context.text d.context.later (d.context.number + 1) (nex
 pub record Leaves (d : Draft) (w : Written) (e : Draft) : Type 0 where
   pub faultless : fault_at d w ≡ None
   pub left : e ≡ behind d w
-  pub counted : d.context.number ≤ 1000
+  pub counted : d.context.number ≤ most_commands
   pub script : IsScriptOf (parts_of (behind d w))
 
 -- the command has this fault first, and nothing has changed; or memory was wanting, in the same text

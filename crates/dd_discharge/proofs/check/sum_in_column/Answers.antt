@@ -1,4 +1,4 @@
-use Rattle.std.proofs.Common.{◌≡◌, ◌+◌, ◌*◌, ◌^◌, ℕ, ℤ, pos, ◌+ℤ◌, ◌-ℤ◌, ◌*ℤ◌, ◌≤ℤ◌, slice_index, slice_index_or, List, ◌<◌, ◌≤◌, length, unsigned_abs, to_z, of_z, sym, ap, subst, ◌∙◌, arith, rules}
+use Rattle.std.proofs.Common.{◌≡◌, ◌+◌, ◌*◌, ℕ, ℤ, pos, ◌+ℤ◌, ◌-ℤ◌, ◌*ℤ◌, ◌≤ℤ◌, slice_index, slice_index_or, List, ◌<◌, ◌≤◌, length, unsigned_abs, to_z, of_z, sym, ap, subst, ◌∙◌, arith, rules}
 use Rattle.std.specs.Int.{w128, w64}
 use mir.Val.{SFits}
 use lib.IntN.{*ℤ_comm}

@@ -1,0 +1,18 @@
+-- Limits that more than one crate keeps.
+use Rattle.std.specs.Prelude.{ℕ, ◌^◌}
+
+-- the greatest number of variables of a list of clauses, and of signals of a circuit
+abbrev pub most_variables : ℕ
+most_variables = 2 ^ 24
+
+-- the greatest length of a script, in bytes
+abbrev pub most_script : ℕ
+most_script = 1048576
+
+-- the greatest number of commands of a script, and so of its queries
+abbrev pub most_commands : ℕ
+most_commands = 1000
+
+-- the greatest weight of a symbol
+abbrev pub most_weight : ℕ
+most_weight = 1000
