@@ -1,2 +1,3 @@
 pub mod Lines
 pub mod Board
+pub mod Checked

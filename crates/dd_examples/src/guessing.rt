@@ -15,6 +15,7 @@ pub struct Guess {
 }
 
 impl Guess {
+    /// An engine that was not asked yet.
     pub fn new(value: bool) -> Self {
         Guess {
             value,

@@ -1,5 +1,6 @@
 //! What the program does, by its word.
 
+use crate::checking::checked;
 use crate::deciding::answered;
 use crate::rewriting::rewritten;
 use crate::squares::chessboard_membership;
@@ -12,10 +13,12 @@ const MOST_SCRIPT: usize = 1_048_576;
 
 const MOST_OUTPUT: usize = 268_435_456;
 
+/// What the program is asked for.
 #[derive(Clone, Copy, Debug, PartialEq, Eq)]
 pub enum Task {
     Rewrite,
     Answer,
+    Check,
     Squares,
 }
 
@@ -30,9 +33,10 @@ pub enum Fault {
 }
 
 impl Fault {
+    /// What is said of it on standard error.
     pub fn message(self) -> &'static str {
         match self {
-            Fault::Words => "the word is answer or squares, or there is none",
+            Fault::Words => "the word is answer, check or squares, or there is none",
             Fault::Input => "no input",
             Fault::Script => "no script",
             Fault::Output => "no output of diddy",
@@ -69,6 +73,17 @@ fn answered_text<S: Source>(alloc: Global, source: &mut S) -> Result<Vec<u8>, Fa
     }
 }
 
+fn checked_text<S: Source>(alloc: Global, source: &mut S) -> Result<Vec<u8>, Fault> {
+    let Ok(bytes) = read_all(alloc, source, MOST_OUTPUT) else {
+        return Err(Fault::Input);
+    };
+    match checked(alloc, &bytes) {
+        Ok(true) => line(alloc, b"accepted\n"),
+        Ok(false) => line(alloc, b"rejected\n"),
+        Err(_) => Err(Fault::Output),
+    }
+}
+
 fn squares_text(alloc: Global) -> Result<Vec<u8>, Fault> {
     match chessboard_membership(alloc) {
         Ok(Membership::Inside) => line(alloc, b"inside\n"),
@@ -90,6 +105,8 @@ impl Task {
     fn of_word(word: &str) -> Result<Task, Fault> {
         if word == "answer" {
             Ok(Task::Answer)
+        } else if word == "check" {
+            Ok(Task::Check)
         } else if word == "squares" {
             Ok(Task::Squares)
         } else {
@@ -102,6 +119,7 @@ impl Task {
         match self {
             Task::Rewrite => rewritten_text(alloc, source),
             Task::Answer => answered_text(alloc, source),
+            Task::Check => checked_text(alloc, source),
             Task::Squares => squares_text(alloc),
         }
     }

@@ -1,0 +1,83 @@
+//! An output, read and checked: whether each of its answers is a certificate.
+ghost use Rattle.std.specs.Prelude.{◌+◌, ◌<◌, length, IsTrue, ◌↔◌, IfOk};
+ghost use Rattle.dd_output.specs.Outputs.{IsWritableOutput};
+ghost use Rattle.dd_examples.specs.Checked.{IsRight, AreRight, IsJudged, IsJudgedText};
+
+use dd_certificate::Answer;
+use dd_checker::{Verdict, check_answer};
+use dd_output::{CertificateFault, Output, read_output};
+use dd_script::{Script, ScriptFault, ScriptKind, parse};
+use std::alloc::{AllocError, Global};
+
+/// Why an output is not checked.
+#[derive(Debug, Drop)]
+pub enum Unchecked {
+    /// The bytes are no output.
+    Output(CertificateFault),
+    /// The output's bytes of a script spell none.
+    Script(ScriptFault),
+}
+
+/// Whether an answer is a certificate of the query behind as many others. Then what it claims is true.
+#[tactic(auto, using(crate::proofs::Checked::has_query_at))]
+fn is_right(
+    alloc: Global,
+    script: &Script,
+    before: usize,
+    answer: &Answer,
+) -> Result<bool, AllocError>
+    requires { before < length script.now.queries }
+    ensures { IfOk result (λ right. IsTrue right ↔ IsRight script.now (before + 1) answer.now) }
+{
+    // Read for its fact: so many queries can be counted.
+    let _queries = script.queries().len();
+    let Ok(number) = u32::try_from(before + 1) else {
+        return Err(AllocError);
+    };
+    let verdict = check_answer(alloc, script, number, answer)?;
+    Ok(verdict == Verdict::Accepted)
+}
+
+/// Whether there is one answer to each query of the script, and each is a certificate.
+#[tactic(auto, using(crate::proofs::Checked::none_yet, crate::proofs::Checked::below_queries, crate::proofs::Checked::all_right, crate::proofs::Checked::too_many_or_few))]
+pub fn are_right(alloc: Global, script: &Script, answers: &[Answer]) -> Result<bool, AllocError>
+    ensures { IfOk result (λ right. IsTrue right ↔ AreRight script.now answers.now) }
+{
+    if answers.len() != script.queries().len() {
+        return Ok(false);
+    }
+    let mut all = true;
+    for (done, answer) in answers.iter().enumerate() {
+        let right = is_right(alloc, script, done, answer)?;
+        all = all && right;
+    }
+    Ok(all)
+}
+
+/// Whether the answers of an output are right, or why its script is none.
+fn judged(alloc: Global, output: &Output) -> Result<bool, ScriptFault>
+    requires { IsWritableOutput output.now }
+    ensures { IfOk result (IsJudged output.now) }
+{
+    let script = parse(alloc, output.script.as_slice())?;
+    match are_right(alloc, &script, output.answers.as_slice()) {
+        Ok(all) => Ok(all),
+        Err(AllocError) => Err(ScriptFault {
+            command: 0,
+            kind: ScriptKind::Memory,
+        }),
+    }
+}
+
+/// Whether the bytes are an output with a right answer to each query of its script, or why they are no output of a script.
+pub fn checked(alloc: Global, bytes: &[u8]) -> Result<bool, Unchecked>
+    ensures { IfOk result (IsJudgedText bytes.now) }
+{
+    match read_output(alloc, bytes) {
+        Ok(output) => match judged(alloc, &output) {
+            Ok(all) => Ok(all),
+            Err(fault) => Err(Unchecked::Script(fault)),
+        },
+        Err(fault) => Err(Unchecked::Output(fault)),
+    }
+}
