@@ -1,5 +1,5 @@
 // The signal of a rule says what its formula says, at every filling of what it reads.
-ghost use Rattle.std.specs.Prelude.{◌≡◌, ◌<◌, ◌≤◌, ◌+◌, length};
+ghost use Rattle.std.specs.Prelude.{◌<◌};
 ghost use Rattle.std.specs.List.Sorted.{IsStrictlySortedBy};
 ghost use Rattle.dd_lattice.specs.Order.{cell_cmp};
 
@@ -16,11 +16,10 @@ use std::process::Abort;
 use std::test::Fail;
 
 /// So many signals, the first one of the variable `first`.
-fn signals_from(alloc: Global, first: u32, count: u32) -> Result<Vec<Signal>, AllocError>
-    requires { first + count ≤ 1000 }
-{
+fn signals_from(alloc: Global, first: u32, count: u32) -> Result<Vec<Signal>, AllocError> {
     let mut signals = Vec::new(alloc);
-    for variable in first..first + count {
+    for place in 0..count {
+        let variable = first.saturating_add(place);
         signals.push(Signal {
             variable,
             positive: true,
@@ -32,14 +31,12 @@ fn signals_from(alloc: Global, first: u32, count: u32) -> Result<Vec<Signal>, Al
 /// One variable for each symbol of each cell.
 fn inputs_of(alloc: Global, cells: &[Cell], symbols: u32) -> Result<Inputs, AllocError>
     requires ascending { IsStrictlySortedBy cell_cmp cells.now }
-    requires few { length cells.now ≤ 4 }
-    requires symbols { symbols ≤ 16 }
 {
     let mut inputs = Inputs::new(alloc);
-    let mut next = 1;
+    let mut next = 1u32;
     for cell in cells {
         inputs.add(*cell, signals_from(alloc, next, symbols)?)?;
-        next += symbols;
+        next = next.saturating_add(symbols);
     }
     Ok(inputs)
 }

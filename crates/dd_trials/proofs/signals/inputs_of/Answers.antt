@@ -1,4 +1,3 @@
-use Rattle.std.proofs.Common.{arith}
 use Rattle.dd_trials.proofs.Ascending.{comes_after, one_more}
 use Rattle.dd_trials.proofs.signals.inputs_of.Goals as goal
 
@@ -9,7 +8,6 @@ add-requires c =
 
 pub loop-cell-preserved : goal.loop-cell-preserved
 loop-cell-preserved c = record {
-  next = omega arith;
   before =
       one_more c.args.cells.now c.loop-cell.cell-index c.cell-item.result c.in_ok-signals_from.field-0.items c.loop-cell.inputs c.add.new.self c.loop-cell-test.true c.cell-item.is
       c.loop-cell.invariant.before c.in_ok-add.ensures.ok;
