@@ -1,17 +1,12 @@
 // Inputs by cell and symbol.
-ghost use Rattle.std.specs.Prelude.{◌≡◌, pos, IfSome};
-ghost use Rattle.dd_lattice.specs.Place.{place};
-ghost use Rattle.dd_lattice.specs.Cells.{cell};
-
 use dd_circuit::Signal;
 use dd_compile::Inputs;
 use dd_lattice::{Cell, Position};
-use std::alloc::Global;
+use std::alloc::{AllocError, Global};
 use std::test::Fail;
 
-pub(crate) fn cell_at(x: i32) -> Option<Cell>
-    ensures { IfSome result (λ c. c ≡ cell (place x (pos 0) (pos 0)) 0) }
-{
+/// The cell of the line at a place, or `None` where that is out of range.
+pub(crate) fn cell_at(x: i32) -> Option<Cell> {
     let position = Position::new(x, 0, 0)?;
     Some(Cell { position, node: 0 })
 }
@@ -24,11 +19,13 @@ fn plus(variable: u32) -> Signal {
 }
 
 /// The cells 1 and 2, with two signals and with three.
-fn two_cells(alloc: Global) -> Result<Inputs, Fail> {
+fn two_cells(alloc: Global) -> Result<Inputs, AllocError> {
     let mut inputs = Inputs::new(alloc);
-    let first = cell_at(1).ok_or("in range")?;
+    let position = Position { x: 1, y: 0, z: 0 };
+    let first = Cell { position, node: 0 };
     inputs.add(first, Vec::from_slice(alloc, &[plus(1), plus(2)])?)?;
-    let second = cell_at(2).ok_or("in range")?;
+    let position = Position { x: 2, y: 0, z: 0 };
+    let second = Cell { position, node: 0 };
     inputs.add(
         second,
         Vec::from_slice(alloc, &[plus(3), plus(4), plus(5)])?,

@@ -1,5 +1,5 @@
 // The signal of a rule says what its formula says, at every filling of what it reads.
-ghost use Rattle.std.specs.Prelude.{◌<◌};
+ghost use Rattle.std.specs.Prelude.{◌<◌, ◌≤◌};
 ghost use Rattle.std.specs.List.Sorted.{IsStrictlySortedBy};
 ghost use Rattle.dd_lattice.specs.Order.{cell_cmp};
 
@@ -158,66 +158,79 @@ fn times_of_first(rt: &impl Abort, alloc: Global, script: &Script) -> Result<Vec
     times_by_node(rt, alloc, rule)
 }
 
-fn times_in(rt: &impl Abort, alloc: Global, script: &[&str]) -> Result<Vec<usize>, Fail> {
-    let script = script_of(alloc, script)?;
+/// The same of the rule with this formula, after the beginning of a script.
+fn times_in(
+    rt: &impl Abort,
+    alloc: Global,
+    beginning: &str,
+    formula: &str,
+) -> Result<Vec<usize>, Fail> {
+    let script = script_of(alloc, &[beginning, formula])?;
     times_of_first(rt, alloc, &script)
+}
+
+/// Formulas, and at how many fillings each is true at each node.
+type Times = &'static [(&'static str, &'static [usize])];
+
+/// Asserts the times of each formula after the beginning of a script.
+fn assert_times(
+    rt: &impl Abort,
+    alloc: Global,
+    beginning: &str,
+    formulas: Times,
+) -> Result<(), Fail> {
+    for (formula, wanted) in formulas {
+        let times = times_in(rt, alloc, beginning, formula)?;
+        assert_eq!(rt; times.as_slice(), *wanted, "{formula}");
+    }
+    Ok(())
 }
 
 // The second node has no move x, and the first no move y.
 const TWO_NODES: &str = "%dim 1 %nodes a b %topology (x a [0] b) (y b [1] a) %rule r ";
 
-/// A formula, and at how many fillings it is true at each node.
-const ATOMS: &[(&str, [usize; 2])] = &[
-    ("o=1", [1, 1]),
-    ("o.x=1", [1, 0]),
-    ("o.y!=1", [0, 1]),
-    ("o.x=o", [2, 0]),
-    ("o.y!=o", [0, 2]),
-    ("o.x~o", [1, 0]),
-    ("o~o", [0, 0]),
-    ("o@o", [1, 1]),
-    ("o.x.y@o", [0, 0]),
-    ("o.x:b", [1, 0]),
-    ("o:b", [0, 1]),
-    ("!(o.x=1)", [1, 1]),
-    ("Ap[o1] p=1", [1, 1]),
-    ("Ep[o1] p.x=1", [1, 3]),
+const ATOMS: Times = &[
+    ("o=1", &[1, 1]),
+    ("o.x=1", &[1, 0]),
+    ("o.y!=1", &[0, 1]),
+    ("o.x=o", &[2, 0]),
+    ("o.y!=o", &[0, 2]),
+    ("o.x~o", &[1, 0]),
+    ("o~o", &[0, 0]),
+    ("o@o", &[1, 1]),
+    ("o.x.y@o", &[0, 0]),
+    ("o.x:b", &[1, 0]),
+    ("o:b", &[0, 1]),
+    ("!(o.x=1)", &[1, 1]),
+    ("Ap[o1] p=1", &[1, 1]),
+    ("Ep[o1] p.x=1", &[1, 3]),
 ];
 
 #[test]
 fn atoms_at_two_nodes(rt: HostRuntime) -> Result<(), Fail> {
-    for (formula, wanted) in ATOMS {
-        let times = times_in(&rt, rt.alloc(), &[TWO_NODES, *formula])?;
-        assert_eq!(rt; times.as_slice(), wanted.as_slice(), "{formula}");
-    }
-    Ok(())
+    assert_times(&rt, rt.alloc(), TWO_NODES, ATOMS)
 }
 
 const THREE_SYMBOLS: &str = "%dim 1 %alphabet 0 1 2 %rule r ";
 
-/// A formula, and at how many fillings it is true.
-const FORMULAS: &[(&str, [usize; 1])] = &[
-    ("!(o=1)", [2]),
-    ("o!=2", [2]),
-    ("o=1 & o.rt=2", [1]),
-    ("o=1 | o.rt=2", [5]),
-    ("o=1 -> o.rt=2", [7]),
-    ("o=1 <-> o.rt=2", [5]),
-    ("o=o.rt", [3]),
-    ("o!=o.rt", [6]),
-    ("Ap[o1] p=1", [1]),
-    ("Ep[o1] p=1", [19]),
-    ("Ap[o1] (p~o -> p!=o)", [12]),
-    ("Ep[o1] (p=2 & !(p@o))", [15]),
-    ("o.rt.rt=o.lt <-> o=2", [15]),
-    ("Ap[o1] Eq[o0p0] q=1", [9]),
+const FORMULAS: Times = &[
+    ("!(o=1)", &[2]),
+    ("o!=2", &[2]),
+    ("o=1 & o.rt=2", &[1]),
+    ("o=1 | o.rt=2", &[5]),
+    ("o=1 -> o.rt=2", &[7]),
+    ("o=1 <-> o.rt=2", &[5]),
+    ("o=o.rt", &[3]),
+    ("o!=o.rt", &[6]),
+    ("Ap[o1] p=1", &[1]),
+    ("Ep[o1] p=1", &[19]),
+    ("Ap[o1] (p~o -> p!=o)", &[12]),
+    ("Ep[o1] (p=2 & !(p@o))", &[15]),
+    ("o.rt.rt=o.lt <-> o=2", &[15]),
+    ("Ap[o1] Eq[o0p0] q=1", &[9]),
 ];
 
 #[test]
 fn formulas_over_three_symbols(rt: HostRuntime) -> Result<(), Fail> {
-    for (formula, wanted) in FORMULAS {
-        let times = times_in(&rt, rt.alloc(), &[THREE_SYMBOLS, *formula])?;
-        assert_eq!(rt; times.as_slice(), wanted.as_slice(), "{formula}");
-    }
-    Ok(())
+    assert_times(&rt, rt.alloc(), THREE_SYMBOLS, FORMULAS)
 }
