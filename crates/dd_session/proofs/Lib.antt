@@ -2,6 +2,7 @@ pub mod Asked
 pub mod CheckEnds
 pub mod CheckedOver
 pub mod Decided
+pub mod Headers
 pub mod Judging
 pub mod Numbered
 pub mod Open

@@ -1,19 +1,19 @@
 -- The texts that a run writes.
-use Rattle.std.specs.Prelude.{◌≡◌, ℕ, List, ◌++◌, codes, length, string_bytes}
+use Rattle.std.specs.Prelude.{◌≡◌, ℕ, List, ◌++◌, codes, string_bytes}
 use Rattle.std.specs.Fmt.{decimal}
 use Rattle.dd_faults.specs.declared.fault.Limit.{Limit}
 use Rattle.dd_faults.specs.declared.fault.Limit.TheVariants as limit
 use Rattle.dd_certificate.specs.declared.answer.Answer.{Answer}
 use Rattle.dd_certificate.specs.Text.{answer_text}
-use Rattle.dd_output.specs.Outputs.{end_line}
+use Rattle.dd_output.specs.Outputs.{header as lines_before, end_line}
 use Rattle.dd_script.specs.declared.fault.ScriptKind.{ScriptKind}
 use Rattle.dd_script.specs.declared.fault.ScriptKind.TheVariants as refused
 use Rattle.dd_script.specs.Scripts.{RefusalKind, syntax, unknown, twice, dimension, size}
 use Rattle.dd_session.specs.Answers.{texts}
 
--- The lines before the first answer: the script, with its length before it and a line feed after it.
+-- The lines before the first answer, which proofs of runs need not look into.
 unfoldable pub header : List ℕ → List ℕ
-header bytes = (codes "diddy 1\nscript " ++ (decimal (length bytes) ++ codes "\n")) ++ bytes ++ codes "\n"
+header bytes = lines_before bytes
 
 -- The whole output for these bytes of a script and these answers to its queries, in order.
 abbrev pub output_of : List ℕ → List Answer → List ℕ

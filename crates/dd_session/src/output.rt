@@ -6,7 +6,7 @@ use dd_script::{Limit, ScriptKind};
 use std::alloc::{AllocError, Global};
 
 /// The lines before the first answer.
-#[tactic(auto, unfolding(crate::specs::Output::header))]
+#[tactic(auto, using(crate::proofs::Headers::header_is))]
 pub(crate) fn header_text(alloc: Global, bytes: &[u8]) -> Result<Vec<u8>, AllocError>
     ensures { IfOk result (λ text. text.items ≡ header bytes.now) }
 {
