@@ -13,8 +13,8 @@ use Rattle.dd_contain.specs.declared.decision.Decision.{Decision}
 use Rattle.dd_contain.specs.declared.decision.Decision.TheVariants as decision
 use Rattle.dd_contain.specs.declared.equal.Equality.{Equality}
 use Rattle.dd_contain.specs.declared.equal.Equality.TheVariants as equal
-use Rattle.dd_contain.specs.declared.equal.Side.{Side as Half}
-use Rattle.dd_contain.specs.declared.equal.Side.TheVariants as half
+use Rattle.dd_contain.specs.declared.equal.Half.{Half}
+use Rattle.dd_contain.specs.declared.equal.Half.TheVariants as half
 use Rattle.dd_contain.specs.Questions.{IsDecided}
 use Rattle.dd_contain.specs.Equal.{IsEqualDecided}
 use Rattle.dd_query.specs.declared.queries.Query.{Query}

@@ -12,7 +12,7 @@ ghost use Rattle.dd_answer.specs.Right.{side_of, written_no, written_decision, w
 
 use dd_boxes::{Goal, Limits};
 use dd_certificate::{Answer, Reason, Side, refutations_fit};
-use dd_contain::{Decision, Equality, Side as Half, decide, decide_equal};
+use dd_contain::{Decision, Equality, Half, decide, decide_equal};
 use dd_engines::{Engine, Roster};
 use dd_formula::Rule;
 use dd_pattern::Periodic;

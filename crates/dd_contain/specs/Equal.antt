@@ -4,7 +4,7 @@ use Rattle.dd_formula.specs.LocalRule.{LocalRule}
 use Rattle.dd_boxes.specs.Goals.{breaks}
 use Rattle.dd_contain.specs.declared.decision.Decision.{Decision}
 use Rattle.dd_contain.specs.declared.decision.Decision.TheVariants.{Yes, No, Unknown}
-use Rattle.dd_contain.specs.declared.equal.Side.TheVariants.{Left, Right}
+use Rattle.dd_contain.specs.declared.equal.Half.TheVariants.{Left, Right}
 use Rattle.dd_contain.specs.declared.equal.Equality.{Equality}
 use Rattle.dd_contain.specs.declared.equal.Equality.TheVariants.{Yes as Same, No as Differ, Unknown as Open}
 use Rattle.dd_problem.specs.Problems.{box_problem}

@@ -17,7 +17,7 @@ use std::alloc::{AllocError, Global};
 
 /// Which of the two rules is the premise.
 #[derive(Debug, Clone, Copy, PartialEq, Eq)]
-pub enum Side {
+pub enum Half {
     Left,
     Right,
 }
@@ -28,7 +28,7 @@ pub enum Equality {
     /// No configuration of either rule breaks the other; each with the least radius that suffices.
     Yes { left: Enough, right: Enough },
     /// A configuration of the side's rule that breaks the other.
-    No { side: Side, periodic: Periodic },
+    No { side: Half, periodic: Periodic },
     /// Neither within the limits.
     Unknown,
 }
@@ -39,11 +39,11 @@ fn joined(left: Decision, right: Decision) -> Equality
 {
     match (left, right) {
         (Decision::No { periodic }, _) => Equality::No {
-            side: Side::Left,
+            side: Half::Left,
             periodic,
         },
         (_, Decision::No { periodic }) => Equality::No {
-            side: Side::Right,
+            side: Half::Right,
             periodic,
         },
         (

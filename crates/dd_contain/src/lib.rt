@@ -8,6 +8,6 @@ mod questions;
 mod search;
 
 pub use decision::{Decision, Enough};
-pub use equal::{Equality, Side, decide_equal};
+pub use equal::{Equality, Half, decide_equal};
 pub use laws::trichotomy;
 pub use questions::decide;

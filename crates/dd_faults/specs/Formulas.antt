@@ -4,8 +4,8 @@ use Rattle.std.specs.List.{flat_map}
 use Rattle.dd_written.specs.declared.lexeme.Word.{Word}
 use Rattle.dd_written.specs.declared.tree.Name.TheVariants as name
 use Rattle.dd_written.specs.declared.tree.Term.{Term}
-use Rattle.dd_written.specs.declared.tree.Side.{Side}
-use Rattle.dd_written.specs.declared.tree.Side.TheVariants as side
+use Rattle.dd_written.specs.declared.tree.Comparand.{Comparand}
+use Rattle.dd_written.specs.declared.tree.Comparand.TheVariants as side
 use Rattle.dd_written.specs.declared.tree.Atom.{Atom}
 use Rattle.dd_written.specs.declared.tree.Atom.TheVariants as atom
 use Rattle.dd_written.specs.declared.tree.Ball.{Ball}
@@ -30,7 +30,7 @@ term_faults x scope t = unknown_variable x.text scope t.first ++ (flat_map (unkn
 abbrev pub names_symbol : List ℕ → List Word → Term → Bool
 names_symbol bytes scope t = length t.moves == 0 && not (is_variable bytes scope t.first)
 
-abbrev pub side_faults : Context → List Word → Side → List Fault
+abbrev pub side_faults : Context → List Word → Comparand → List Fault
 side_faults x scope (side.Number n) = missing x.text x.known.setting.symbols (name.Number n)
 side_faults x scope (side.Term t) = if names_symbol x.text scope t then missing x.text x.known.setting.symbols (name.Word t.first) else term_faults x scope t
 

@@ -7,7 +7,7 @@ ghost use Rattle.dd_faults.specs.Formulas.{unknown_label, term_faults, names_sym
 use crate::context::Context;
 use crate::fault::{Fault, Limit, note_if, note_over};
 use crate::names::{is_variable, note_missing, note_variable};
-use dd_written::{Atom, Ball, Name, Side, Term, Word, name_text, number_value};
+use dd_written::{Atom, Ball, Comparand, Name, Term, Word, name_text, number_value};
 
 fn label(context: &Context, word: Word, found: &mut Option<Fault>)
     ensures { found.new ≡ noted found.old (unknown_label context.now word) }
@@ -43,15 +43,15 @@ fn names_symbol(context: &Context, scope: &[Word], term: &Term) -> bool
     term.moves.len() == 0 && !is_variable(&context.text, scope, term.first)
 }
 
-fn side(context: &Context, scope: &[Word], side: &Side, found: &mut Option<Fault>)
+fn side(context: &Context, scope: &[Word], side: &Comparand, found: &mut Option<Fault>)
     ensures { found.new ≡ noted found.old (side_faults context.now scope.now side.now) }
 {
     let symbols = &context.known.setting.symbols;
     match side {
-        Side::Number(number) => {
+        Comparand::Number(number) => {
             note_missing(&context.text, symbols, Name::Number(*number), found);
         }
-        Side::Term(term) => {
+        Comparand::Term(term) => {
             if names_symbol(context, scope, term) {
                 note_missing(&context.text, symbols, Name::Word(term.first), found);
             } else {

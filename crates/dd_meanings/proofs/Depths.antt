@@ -4,8 +4,8 @@ use Rattle.std.specs.Prelude.{nat_le}
 use Rattle.std.proofs.lemmas.Bool.{cases_Bool}
 use Rattle.dd_written.specs.declared.lexeme.Word.{Word}
 use Rattle.dd_written.specs.declared.tree.Name.TheVariants as name
-use Rattle.dd_written.specs.declared.tree.Side.{Side}
-use Rattle.dd_written.specs.declared.tree.Side.TheVariants as side
+use Rattle.dd_written.specs.declared.tree.Comparand.{Comparand}
+use Rattle.dd_written.specs.declared.tree.Comparand.TheVariants as side
 use Rattle.dd_written.specs.declared.tree.Atom.{Atom}
 use Rattle.dd_written.specs.declared.tree.Atom.TheVariants as atom
 use Rattle.dd_written.specs.declared.tree.Quantor.{Quantor}
@@ -28,14 +28,14 @@ use Rattle.dd_faults.specs.Formulas.{names_symbol}
 use Rattle.dd_meanings.specs.Formulas.{term_of, equal_of, not_equal_of, atom_of, ball_of, joined_of, quantified_of, formula_step, formula_of}
 
 module _ (x : Context) where
-  equal_flat : (scope : List Word) (t : Term) (r : Side) → depth (equal_of x scope t r) ≡ 0
+  equal_flat : (scope : List Word) (t : Term) (r : Comparand) → depth (equal_of x scope t r) ≡ 0
   equal_flat scope t (side.Number n) = fold-roll-Formula ℕ depth_step (Formula-F.Symbol t (number_in x.text x.known.setting.symbols (name.Number n)))
   equal_flat scope t (side.Term u) = elim (cases_Bool (names_symbol x.text scope u)) [
     | inl e ↦ rw e (fold-roll-Formula ℕ depth_step (Formula-F.Symbol t (number_in x.text x.known.setting.symbols (name.Word u.first))))
     | inr e ↦ rw e (fold-roll-Formula ℕ depth_step (Formula-F.Same t (term_of x scope u)))
   ]
 
-  not_equal_flat : (scope : List Word) (t : Term) (r : Side) → depth (not_equal_of x scope t r) ≡ 0
+  not_equal_flat : (scope : List Word) (t : Term) (r : Comparand) → depth (not_equal_of x scope t r) ≡ 0
   not_equal_flat scope t (side.Number n) = fold-roll-Formula ℕ depth_step (Formula-F.NotSymbol t (number_in x.text x.known.setting.symbols (name.Number n)))
   not_equal_flat scope t (side.Term u) = elim (cases_Bool (names_symbol x.text scope u)) [
     | inl e ↦ rw e (fold-roll-Formula ℕ depth_step (Formula-F.NotSymbol t (number_in x.text x.known.setting.symbols (name.Word u.first))))

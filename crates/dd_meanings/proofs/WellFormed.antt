@@ -9,8 +9,8 @@ use Rattle.dd_written.specs.declared.lexeme.Word.{Word}
 use Rattle.dd_written.specs.declared.tree.Name.{Name}
 use Rattle.dd_written.specs.declared.tree.Name.TheVariants as name
 use Rattle.dd_written.specs.declared.tree.Term.{Term as WrittenTerm}
-use Rattle.dd_written.specs.declared.tree.Side.{Side}
-use Rattle.dd_written.specs.declared.tree.Side.TheVariants as side
+use Rattle.dd_written.specs.declared.tree.Comparand.{Comparand}
+use Rattle.dd_written.specs.declared.tree.Comparand.TheVariants as side
 use Rattle.dd_written.specs.declared.tree.Atom.{Atom}
 use Rattle.dd_written.specs.declared.tree.Atom.TheVariants as atom
 use Rattle.dd_written.specs.declared.tree.Ball.{Ball}
@@ -79,7 +79,7 @@ module _ (x : Context) (same : x.known.setting.topology.nodes ≡ length x.known
         (λ w none. lt-ltb _ _ (number_below x.text labels (name.Word w) none)) t.moves rest.0)
 
     -- what stands on the right, a symbol or a term
-    equal_is : (t : Term) (r : Side) → term_fits x.known.setting.topology (length scope + 1) t ≡ true → side_faults x scope r ≡ [] → its_fits (equal_of x scope t r) (length scope + 1) ≡ true
+    equal_is : (t : Term) (r : Comparand) → term_fits x.known.setting.topology (length scope + 1) t ≡ true → side_faults x scope r ≡ [] → its_fits (equal_of x scope t r) (length scope + 1) ≡ true
     equal_is t (side.Number n) h none =
         rolled (Formula-F.Symbol t (number_in x.text x.known.setting.symbols (name.Number n))) (length scope + 1) (and_from _ _ h (symbol_is (name.Number n) none))
     equal_is t (side.Term u) h none = elim (cases_Bool (names_symbol x.text scope u)) [
@@ -91,7 +91,7 @@ module _ (x : Context) (same : x.known.setting.topology.nodes ≡ length x.known
           rw e (rolled (Formula-F.Same t (term_of x scope u)) (length scope + 1) (and_from _ _ h (term_is u unknown)))
     ]
 
-    not_equal_is : (t : Term) (r : Side) → term_fits x.known.setting.topology (length scope + 1) t ≡ true → side_faults x scope r ≡ [] → its_fits (not_equal_of x scope t r) (length scope + 1) ≡ true
+    not_equal_is : (t : Term) (r : Comparand) → term_fits x.known.setting.topology (length scope + 1) t ≡ true → side_faults x scope r ≡ [] → its_fits (not_equal_of x scope t r) (length scope + 1) ≡ true
     not_equal_is t (side.Number n) h none =
         rolled (Formula-F.NotSymbol t (number_in x.text x.known.setting.symbols (name.Number n))) (length scope + 1) (and_from _ _ h (symbol_is (name.Number n) none))
     not_equal_is t (side.Term u) h none = elim (cases_Bool (names_symbol x.text scope u)) [

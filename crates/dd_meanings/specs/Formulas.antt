@@ -3,8 +3,8 @@ use Rattle.std.specs.Prelude.{ℕ, List, [], ◌∷◌, ◌++◌, map, unwrap_or
 use Rattle.dd_written.specs.declared.lexeme.Word.{Word}
 use Rattle.dd_written.specs.declared.tree.Name.TheVariants as name
 use Rattle.dd_written.specs.declared.tree.Term.{Term as WrittenTerm}
-use Rattle.dd_written.specs.declared.tree.Side.{Side}
-use Rattle.dd_written.specs.declared.tree.Side.TheVariants as side
+use Rattle.dd_written.specs.declared.tree.Comparand.{Comparand}
+use Rattle.dd_written.specs.declared.tree.Comparand.TheVariants as side
 use Rattle.dd_written.specs.declared.tree.Atom.{Atom}
 use Rattle.dd_written.specs.declared.tree.Atom.TheVariants as atom
 use Rattle.dd_written.specs.declared.tree.Ball.{Ball}
@@ -35,15 +35,15 @@ abbrev pub term_of : Context → List Word → WrittenTerm → Term
 term_of x scope t = record { variable = variable_number x.text scope t.first; moves = map (label_of x) t.moves }
 
 -- what is said of a term and a symbol, or of two terms
-abbrev pub with_side : (Term → ℕ → Formula) → (Term → Term → Formula) → Context → List Word → Term → Side → Formula
+abbrev pub with_side : (Term → ℕ → Formula) → (Term → Term → Formula) → Context → List Word → Term → Comparand → Formula
 with_side symbol same x scope t (side.Number n) = symbol t (number_in x.text x.known.setting.symbols (name.Number n))
 with_side symbol same x scope t (side.Term u) =
     if names_symbol x.text scope u then symbol t (number_in x.text x.known.setting.symbols (name.Word u.first)) else same t (term_of x scope u)
 
-abbrev pub equal_of : Context → List Word → Term → Side → Formula
+abbrev pub equal_of : Context → List Word → Term → Comparand → Formula
 equal_of = with_side (λ t n. roll-Formula (Formula-F.Symbol t n)) (λ t u. roll-Formula (Formula-F.Same t u))
 
-abbrev pub not_equal_of : Context → List Word → Term → Side → Formula
+abbrev pub not_equal_of : Context → List Word → Term → Comparand → Formula
 not_equal_of = with_side (λ t n. roll-Formula (Formula-F.NotSymbol t n)) (λ t u. roll-Formula (Formula-F.NotSame t u))
 
 abbrev pub atom_of : Context → List Word → Atom → Formula

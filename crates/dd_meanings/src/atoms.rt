@@ -10,7 +10,9 @@ use crate::names::number_in;
 use dd_expansion::{BallOf, Formula, Term};
 use dd_faults::Context;
 use dd_values::Items;
-use dd_written::{Atom, Ball, Name, Side, Term as Written, Text, Word, name_text, number_value};
+use dd_written::{
+    Atom, Ball, Comparand, Name, Term as Written, Text, Word, name_text, number_value,
+};
 use std::alloc::{AllocError, Global};
 
 /// The first place of a text among those of words.
@@ -96,17 +98,17 @@ fn equal(
     context: &Context,
     scope: &[Word],
     term: Term,
-    side: &Side,
+    side: &Comparand,
 ) -> Result<Formula, AllocError>
     requires { length scope.now ≤ 64 }
     ensures { IfOk result (λ f. f ≡ equal_of context.now scope.now term side.now) }
 {
     match side {
-        Side::Number(number) => Ok(Formula::Symbol {
+        Comparand::Number(number) => Ok(Formula::Symbol {
             term,
             symbol: symbol(context, Name::Number(*number)),
         }),
-        Side::Term(written) => {
+        Comparand::Term(written) => {
             if names_symbol(context, scope, written) {
                 let symbol = symbol(context, Name::Word(written.first));
                 return Ok(Formula::Symbol { term, symbol });
@@ -123,17 +125,17 @@ fn not_equal(
     context: &Context,
     scope: &[Word],
     term: Term,
-    side: &Side,
+    side: &Comparand,
 ) -> Result<Formula, AllocError>
     requires { length scope.now ≤ 64 }
     ensures { IfOk result (λ f. f ≡ not_equal_of context.now scope.now term side.now) }
 {
     match side {
-        Side::Number(number) => Ok(Formula::NotSymbol {
+        Comparand::Number(number) => Ok(Formula::NotSymbol {
             term,
             symbol: symbol(context, Name::Number(*number)),
         }),
-        Side::Term(written) => {
+        Comparand::Term(written) => {
             if names_symbol(context, scope, written) {
                 let symbol = symbol(context, Name::Word(written.first));
                 return Ok(Formula::NotSymbol { term, symbol });

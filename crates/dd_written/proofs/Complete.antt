@@ -12,8 +12,8 @@ use Rattle.dd_written.specs.declared.lexeme.Lexeme.TheVariants as lexeme
 use Rattle.dd_written.specs.declared.tree.Name.{Name}
 use Rattle.dd_written.specs.declared.tree.Name.TheVariants as name
 use Rattle.dd_written.specs.declared.tree.Term.{Term}
-use Rattle.dd_written.specs.declared.tree.Side.{Side}
-use Rattle.dd_written.specs.declared.tree.Side.TheVariants as side
+use Rattle.dd_written.specs.declared.tree.Comparand.{Comparand}
+use Rattle.dd_written.specs.declared.tree.Comparand.TheVariants as side
 use Rattle.dd_written.specs.declared.tree.Atom.{Atom}
 use Rattle.dd_written.specs.declared.tree.Atom.TheVariants as atom
 use Rattle.dd_written.specs.declared.tree.Ball.{Ball}
@@ -77,7 +77,7 @@ moves_again (label ∷ labels) place rest e = ap (λ (x : List Word × List Lexe
 term_again : (t : Term) (place : ℕ) (rest : List Lexeme) → ends place rest ≡ true → term_at (term_text t ++ rest) ≡ Some (t, rest)
 term_again t place rest e = ap (λ (x : List Word × List Lexeme). Some (record { first = t.first; moves = x.0 }, x.1)) (moves_again t.moves place rest e)
 
-side_again : (s : Side) (place : ℕ) (rest : List Lexeme) → ends place rest ≡ true → side_at (atom_side_text s ++ rest) ≡ Some (s, rest)
+side_again : (s : Comparand) (place : ℕ) (rest : List Lexeme) → ends place rest ≡ true → side_at (atom_side_text s ++ rest) ≡ Some (s, rest)
 side_again (side.Number n) place rest e = refl
 side_again (side.Term t) place rest e = ap (λ (r : Option (Term × List Lexeme)). r >>= λ t. Some (side.Term t.0, t.1)) (term_again t place rest e)
 
@@ -87,8 +87,8 @@ marked_again t m part rest e =
     ap atom_at (append_assoc (term_text t) (lexeme.Mark m ∷ part) rest) ∙ ap (λ (r : Option (Term × List Lexeme)). r >>= λ t. after_term t.0 t.1) (term_again t 0 (lexeme.Mark m ∷ (part ++ rest)) e)
 
 atom_again : (a : Atom) (rest : List Lexeme) → ends 0 rest ≡ true → atom_at (atom_text a ++ rest) ≡ Some (a, rest)
-atom_again (atom.Equal t s) rest e = marked_again t mark.Equal (atom_side_text s) rest refl ∙ ap (λ (r : Option (Side × List Lexeme)). r >>= λ s. Some (atom.Equal t s.0, s.1)) (side_again s 0 rest e)
-atom_again (atom.NotEqual t s) rest e = marked_again t mark.NotEqual (atom_side_text s) rest refl ∙ ap (λ (r : Option (Side × List Lexeme)). r >>= λ s. Some (atom.NotEqual t s.0, s.1)) (side_again s 0 rest e)
+atom_again (atom.Equal t s) rest e = marked_again t mark.Equal (atom_side_text s) rest refl ∙ ap (λ (r : Option (Comparand × List Lexeme)). r >>= λ s. Some (atom.Equal t s.0, s.1)) (side_again s 0 rest e)
+atom_again (atom.NotEqual t s) rest e = marked_again t mark.NotEqual (atom_side_text s) rest refl ∙ ap (λ (r : Option (Comparand × List Lexeme)). r >>= λ s. Some (atom.NotEqual t s.0, s.1)) (side_again s 0 rest e)
 atom_again (atom.Adjacent t u) rest e = marked_again t mark.Tilde (term_text u) rest refl ∙ ap (λ (r : Option (Term × List Lexeme)). r >>= λ u. Some (atom.Adjacent t u.0, u.1)) (term_again u 0 rest e)
 atom_again (atom.Same t u) rest e = marked_again t mark.At (term_text u) rest refl ∙ ap (λ (r : Option (Term × List Lexeme)). r >>= λ u. Some (atom.Same t u.0, u.1)) (term_again u 0 rest e)
 atom_again (atom.AtNode t n) rest e = marked_again t mark.Colon (name_lexeme n ∷ []) rest refl ∙ ap (λ (r : Option (Name × List Lexeme)). r >>= λ n. Some (atom.AtNode t n.0, n.1)) (name_again n rest)

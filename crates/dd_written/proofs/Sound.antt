@@ -9,8 +9,8 @@ use Rattle.dd_written.specs.declared.lexeme.Lexeme.{Lexeme}
 use Rattle.dd_written.specs.declared.lexeme.Lexeme.TheVariants as lexeme
 use Rattle.dd_written.specs.declared.tree.Name.{Name}
 use Rattle.dd_written.specs.declared.tree.Term.{Term}
-use Rattle.dd_written.specs.declared.tree.Side.{Side}
-use Rattle.dd_written.specs.declared.tree.Side.TheVariants as side
+use Rattle.dd_written.specs.declared.tree.Comparand.{Comparand}
+use Rattle.dd_written.specs.declared.tree.Comparand.TheVariants as side
 use Rattle.dd_written.specs.declared.tree.Atom.{Atom}
 use Rattle.dd_written.specs.declared.tree.Atom.TheVariants as atom
 use Rattle.dd_written.specs.declared.tree.Ball.{Ball}
@@ -47,11 +47,11 @@ term_sound (lexeme.Word first ∷ tokens) t rest e =
     subst (λ (x : Term × List Lexeme). lexeme.Word first ∷ tokens ≡ term_text x.0 ++ x.1) (some_is _ _ e) (ap (λ (ts : List Lexeme). lexeme.Word first ∷ ts) (moves_sound tokens))
 term_sound tokens t rest e = absurd cc
 
-side_sound : (tokens : List Lexeme) (s : Side) (rest : List Lexeme) → side_at tokens ≡ Some (s, rest) → tokens ≡ atom_side_text s ++ rest
-side_sound (lexeme.Number n ∷ tokens) s rest e = subst (λ (x : Side × List Lexeme). lexeme.Number n ∷ tokens ≡ atom_side_text x.0 ++ x.1) (some_is _ _ e) refl
+side_sound : (tokens : List Lexeme) (s : Comparand) (rest : List Lexeme) → side_at tokens ≡ Some (s, rest) → tokens ≡ atom_side_text s ++ rest
+side_sound (lexeme.Number n ∷ tokens) s rest e = subst (λ (x : Comparand × List Lexeme). lexeme.Number n ∷ tokens ≡ atom_side_text x.0 ++ x.1) (some_is _ _ e) refl
 side_sound tokens s rest e =
     let b = bind_some (term_at tokens) (λ t. Some (side.Term t.0, t.1)) (s, rest) e in
-    subst (λ (x : Side × List Lexeme). tokens ≡ atom_side_text x.0 ++ x.1) (some_is _ _ b.2) (term_sound tokens b.0.0 b.0.1 b.1)
+    subst (λ (x : Comparand × List Lexeme). tokens ≡ atom_side_text x.0 ++ x.1) (some_is _ _ b.2) (term_sound tokens b.0.0 b.0.1 b.1)
 
 -- a term, a mark, and what stands behind it
 behind_mark : (t : Term) (m : Mark) (part tokens rest : List Lexeme) → tokens ≡ part ++ rest → term_text t ++ lexeme.Mark m ∷ tokens ≡ (term_text t ++ lexeme.Mark m ∷ part) ++ rest

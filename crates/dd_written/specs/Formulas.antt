@@ -9,8 +9,8 @@ use Rattle.dd_written.specs.declared.lexeme.Lexeme.TheVariants as lexeme
 use Rattle.dd_written.specs.declared.tree.Name.{Name}
 use Rattle.dd_written.specs.declared.tree.Name.TheVariants as name
 use Rattle.dd_written.specs.declared.tree.Term.{Term}
-use Rattle.dd_written.specs.declared.tree.Side.{Side}
-use Rattle.dd_written.specs.declared.tree.Side.TheVariants as side
+use Rattle.dd_written.specs.declared.tree.Comparand.{Comparand}
+use Rattle.dd_written.specs.declared.tree.Comparand.TheVariants as side
 use Rattle.dd_written.specs.declared.tree.Atom.{Atom}
 use Rattle.dd_written.specs.declared.tree.Atom.TheVariants as atom
 use Rattle.dd_written.specs.declared.tree.Ball.{Ball}
@@ -32,7 +32,7 @@ move_text label = lexeme.Mark mark.Dot ∷ lexeme.Word label ∷ []
 abbrev pub term_text : Term → List Lexeme
 term_text t = lexeme.Word t.first ∷ flat_map move_text t.moves
 
-abbrev pub atom_side_text : Side → List Lexeme
+abbrev pub atom_side_text : Comparand → List Lexeme
 atom_side_text (side.Term t) = term_text t
 atom_side_text (side.Number n) = lexeme.Number n ∷ []
 

@@ -7,7 +7,7 @@ ghost use Rattle.dd_written.specs.reading.Formulas.{begins, more_at, list_end, l
 use crate::depth::capped_depth;
 use crate::fault::ReadFault;
 use crate::lexeme::{Lexeme, Mark, Word};
-use crate::tree::{Atom, Ball, Formula, Join, Name, Quantor, Side, Term};
+use crate::tree::{Atom, Ball, Comparand, Formula, Join, Name, Quantor, Term};
 use dd_values::{Boxed, Items};
 use std::alloc::Global;
 
@@ -50,14 +50,14 @@ fn term(alloc: Global, tokens: &[Lexeme]) -> Result<(Term, &[Lexeme]), ReadFault
     }
 }
 
-fn side(alloc: Global, tokens: &[Lexeme]) -> Result<(Side, &[Lexeme]), ReadFault>
+fn side(alloc: Global, tokens: &[Lexeme]) -> Result<(Comparand, &[Lexeme]), ReadFault>
     ensures { Gives (λ x. (x.0, x.1.now)) result (side_at tokens.now) }
 {
     match tokens {
-        [Lexeme::Number(number), rest @ ..] => Ok((Side::Number(*number), rest)),
+        [Lexeme::Number(number), rest @ ..] => Ok((Comparand::Number(*number), rest)),
         _ => {
             let (term, rest) = term(alloc, tokens)?;
-            Ok((Side::Term(term), rest))
+            Ok((Comparand::Term(term), rest))
         }
     }
 }

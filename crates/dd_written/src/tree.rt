@@ -18,7 +18,7 @@ pub struct Term {
 
 /// What stands on the right of `=` and `!=`. A single word is a term without moves, though it may name a symbol.
 #[derive(Debug, Drop)]
-pub enum Side {
+pub enum Comparand {
     Term(Term),
     Number(Number),
 }
@@ -27,9 +27,9 @@ pub enum Side {
 #[derive(Debug, Drop)]
 pub enum Atom {
     /// `term = side`
-    Equal { term: Term, side: Side },
+    Equal { term: Term, side: Comparand },
     /// `term != side`
-    NotEqual { term: Term, side: Side },
+    NotEqual { term: Term, side: Comparand },
     /// `left ~ right`
     Adjacent { left: Term, right: Term },
     /// `left @ right`

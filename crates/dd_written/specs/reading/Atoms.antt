@@ -7,8 +7,8 @@ use Rattle.dd_written.specs.declared.lexeme.Lexeme.TheVariants as lexeme
 use Rattle.dd_written.specs.declared.tree.Name.{Name}
 use Rattle.dd_written.specs.declared.tree.Name.TheVariants as name
 use Rattle.dd_written.specs.declared.tree.Term.{Term}
-use Rattle.dd_written.specs.declared.tree.Side.{Side}
-use Rattle.dd_written.specs.declared.tree.Side.TheVariants as side
+use Rattle.dd_written.specs.declared.tree.Comparand.{Comparand}
+use Rattle.dd_written.specs.declared.tree.Comparand.TheVariants as side
 use Rattle.dd_written.specs.declared.tree.Atom.{Atom}
 use Rattle.dd_written.specs.declared.tree.Atom.TheVariants as atom
 use Rattle.dd_written.specs.declared.tree.Ball.{Ball}
@@ -30,7 +30,7 @@ abbrev pub term_at : Reader Term
 term_at (lexeme.Word first ∷ tokens) = Some (record { first = first; moves = (moves_at tokens).0 }, (moves_at tokens).1)
 term_at tokens = None
 
-abbrev pub side_at : Reader Side
+abbrev pub side_at : Reader Comparand
 side_at (lexeme.Number n ∷ tokens) = Some (side.Number n, tokens)
 side_at tokens = do
   t ← term_at tokens
