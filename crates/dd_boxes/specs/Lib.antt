@@ -1,6 +1,7 @@
 pub mod Goals
 pub mod Fillings
 pub mod Boxes
+pub mod Cells
 pub mod Witnesses
 pub mod Laws
 pub mod Views

@@ -12,7 +12,8 @@ use Rattle.dd_formula.specs.LocalRule.{LocalRule}
 use Rattle.dd_topology.specs.lemmas.OrderLaws.{same_sorted}
 use Rattle.dd_rows.specs.declared.rows.Row.{Row}
 use Rattle.dd_rows.specs.declared.rows.Rows.{Rows}
-use Rattle.dd_rows.specs.Domains.{IsGround, cells_on}
+use Rattle.dd_boxes.specs.Cells.{cells_on}
+use Rattle.dd_rows.specs.Domains.{IsGround}
 use Rattle.dd_rows.specs.Fillings.{fillings, most_fillings, HasManyFillings, HasFewFillings}
 use Rattle.dd_rows.specs.Patterns.{patterns}
 use Rattle.dd_rows.specs.Programs.{rows, column_count, IsProgramOf, IsLargeProgram}

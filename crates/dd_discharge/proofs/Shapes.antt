@@ -22,7 +22,7 @@ use Rattle.dd_formula.specs.LocalRule.{LocalRule}
 use Rattle.dd_rows.specs.declared.rows.Row.{Row}
 use Rattle.dd_rows.specs.declared.rows.Rows.{Rows}
 use Rattle.dd_rows.specs.Asked.{AreWeightsFor}
-use Rattle.dd_rows.specs.Domains.{box_cells}
+use Rattle.dd_boxes.specs.Cells.{box_cells}
 use Rattle.dd_rows.specs.Fillings.{look_of, fillings}
 use Rattle.dd_rows.specs.Patterns.{origin, pattern_at, givers, pattern_number}
 use Rattle.dd_rows.specs.Programs.{one_at, coefficients, origin_weight, row_of, greatest_weight_row, is_same_row, add_row, first_seen, rows, column_count, IsProgramOf}

@@ -13,7 +13,8 @@ use Rattle.dd_lattice.specs.declared.position.Cell.{Cell}
 use Rattle.dd_lattice.specs.lemmas.InOrderLaws.{place_total}
 use Rattle.dd_lattice.specs.lemmas.ListLaws.{Contains-nil, Contains-from_map, Contains-cons_cases, Contains-first, Contains-later, sorted_append, sorted_first, sorted_rest}
 use Rattle.dd_formula.specs.LocalRule.{LocalRule}
-use Rattle.dd_rows.specs.Domains.{IsInDomain, IsGround, cells_on}
+use Rattle.dd_boxes.specs.Cells.{cells_on}
+use Rattle.dd_rows.specs.Domains.{IsInDomain, IsGround}
 use Rattle.dd_rows.specs.listing.Levels.{AreOf, AreInRange}
 use Rattle.dd_rows.specs.lemmas.Growing.{all_flat_map, all_map, range_below}
 

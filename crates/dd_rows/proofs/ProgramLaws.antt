@@ -15,7 +15,8 @@ use Rattle.dd_rows.specs.declared.rows.Rows.{Rows}
 use Rattle.dd_rows.specs.declared.fault.RowsFault.{RowsFault}
 use Rattle.dd_rows.specs.declared.fault.RowsFault.TheVariants.{Memory}
 use Rattle.dd_rows.specs.declared.views.Views.{Views}
-use Rattle.dd_rows.specs.Domains.{IsGround, box_cells}
+use Rattle.dd_boxes.specs.Cells.{box_cells}
+use Rattle.dd_rows.specs.Domains.{IsGround}
 use Rattle.dd_rows.specs.Faults.{OnLarge}
 use Rattle.dd_rows.specs.Fillings.{look_of, fillings, HasFewFillings}
 use Rattle.dd_rows.specs.Patterns.{patterns}

@@ -16,7 +16,7 @@ use Rattle.dd_topology.specs.Topology.{reversed}
 use Rattle.dd_pattern.specs.Weight.{total_weight}
 use Rattle.dd_formula.specs.LocalRule.{LocalRule}
 use Rattle.dd_rows.specs.declared.views.Views.{Views}
-use Rattle.dd_rows.specs.Domains.{box_cells}
+use Rattle.dd_boxes.specs.Cells.{box_cells}
 use Rattle.dd_rows.specs.Fillings.{look_of}
 use Rattle.dd_rows.specs.Patterns.{pattern_at, givers, patterns_in, in_lexicographic_order}
 use Rattle.dd_boxes.specs.Boxes.{origin}

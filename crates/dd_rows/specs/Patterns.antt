@@ -11,7 +11,7 @@ use Rattle.dd_topology.specs.Topology.{reversed}
 use Rattle.dd_pattern.specs.Reading.{Look}
 use Rattle.dd_formula.specs.LocalRule.{LocalRule}
 pub use Rattle.dd_boxes.specs.Boxes.{origin}
-use Rattle.dd_rows.specs.Domains.{box_cells}
+use Rattle.dd_boxes.specs.Cells.{box_cells}
 use Rattle.dd_rows.specs.Fillings.{look_of, fillings}
 
 -- the symbols of the box, moved to the position

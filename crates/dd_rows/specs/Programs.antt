@@ -15,7 +15,8 @@ use Rattle.dd_formula.specs.LocalRule.{LocalRule}
 use Rattle.dd_rows.specs.declared.rows.Row.{Row}
 use Rattle.dd_rows.specs.declared.rows.Rows.{Rows}
 use Rattle.dd_rows.specs.declared.fault.RowsFault.{RowsFault}
-use Rattle.dd_rows.specs.Domains.{IsGround, box_cells}
+use Rattle.dd_boxes.specs.Cells.{box_cells}
+use Rattle.dd_rows.specs.Domains.{IsGround}
 use Rattle.dd_rows.specs.Fillings.{look_of, fillings, HasManyFillings, HasFewFillings}
 use Rattle.dd_rows.specs.Patterns.{pattern_at, givers, patterns, pattern_number}
 use Rattle.dd_boxes.specs.Boxes.{origin}

@@ -8,7 +8,8 @@ ghost use Rattle.dd_lattice.specs.Regions.{IsRegion, IsRegionOf, IsMoved};
 ghost use Rattle.dd_topology.specs.Topology.{reversed};
 ghost use Rattle.dd_rows.specs.Asked.{IsVector, AreVectors};
 ghost use Rattle.dd_rows.specs.listing.Levels.{AreOf, AreInRange};
-ghost use Rattle.dd_rows.specs.Domains.{IsInDomain, IsInGround, IsGround, cells_on, box_cells};
+ghost use Rattle.dd_boxes.specs.Cells.{cells_on, box_cells};
+ghost use Rattle.dd_rows.specs.Domains.{IsInDomain, IsInGround, IsGround};
 
 use crate::fault::RowsFault;
 use dd_formula::Rule;

@@ -4,7 +4,7 @@ ghost use Rattle.std.specs.List.{All, range_with_len};
 ghost use Rattle.std.specs.List.Sorted.{IsStrictlySortedBy};
 ghost use Rattle.dd_lattice.specs.Place.{place};
 ghost use Rattle.dd_lattice.specs.Order.{cell_cmp};
-ghost use Rattle.dd_rows.specs.Domains.{box_cells};
+ghost use Rattle.dd_boxes.specs.Cells.{box_cells};
 ghost use Rattle.dd_boxes.specs.Boxes.{origin};
 ghost use Rattle.dd_rows.specs.listing.Levels.{AreInRange};
 ghost use Rattle.dd_rows.specs.listing.Views.{view_of, centre_of, givers_of, AreViews};

@@ -26,7 +26,7 @@ use Rattle.dd_rows.specs.declared.rows.Row.{Row}
 use Rattle.dd_rows.specs.declared.rows.Rows.{Rows}
 use Rattle.dd_discharge.specs.declared.bound.Bound.{Bound}
 use Rattle.dd_rows.specs.Asked.{IsVector, AreVectors}
-use Rattle.dd_rows.specs.Domains.{box_cells}
+use Rattle.dd_boxes.specs.Cells.{box_cells}
 use Rattle.dd_rows.specs.Fillings.{look_of, fillings}
 use Rattle.dd_rows.specs.Patterns.{pattern_at, patterns, pattern_number}
 use Rattle.dd_boxes.specs.Boxes.{origin}

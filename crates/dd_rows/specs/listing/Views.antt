@@ -10,7 +10,7 @@ use Rattle.dd_lattice.specs.declared.position.Cell.{Cell}
 use Rattle.dd_topology.specs.Topology.{reversed}
 use Rattle.dd_formula.specs.LocalRule.{LocalRule}
 use Rattle.dd_rows.specs.declared.views.Views.{Views}
-use Rattle.dd_rows.specs.Domains.{box_cells}
+use Rattle.dd_boxes.specs.Cells.{box_cells}
 use Rattle.dd_boxes.specs.Boxes.{origin}
 use Rattle.dd_numbered.specs.Numbering.{rank}
 

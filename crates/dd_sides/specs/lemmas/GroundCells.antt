@@ -20,7 +20,8 @@ use Rattle.dd_expansion.specs.Limits.{greatest}
 use Rattle.dd_expansion.specs.Placed.{is_flat}
 use Rattle.dd_formula.specs.LocalRule.{LocalRule}
 use Rattle.dd_boxes.specs.lemmas.RuleLaws.{place_same}
-use Rattle.dd_rows.specs.Domains.{IsInGround, IsGround, cells_on, box_cells}
+use Rattle.dd_boxes.specs.Cells.{cells_on, box_cells}
+use Rattle.dd_rows.specs.Domains.{IsInGround, IsGround}
 use Rattle.dd_boxes.specs.Boxes.{origin}
 use Rattle.dd_rows.specs.Laws.{AreCellsOf}
 use Rattle.dd_sides.specs.Lifted.{reach_of}

@@ -1,7 +1,7 @@
 use Rattle.std.proofs.Common.{◌≡◌, ◌++◌, map, take}
 use Rattle.std.specs.List.{range_with_len}
 use Rattle.dd_lattice.specs.Cells.{cell}
-use Rattle.dd_rows.specs.Domains.{cells_on}
+use Rattle.dd_boxes.specs.Cells.{cells_on}
 use Rattle.dd_rows.proofs.domain.cells_on.Given as goal
 
 abbrev pub invariant-loop-position : goal.invariant-loop-position
