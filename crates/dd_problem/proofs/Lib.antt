@@ -1,3 +1,5 @@
+pub mod Growing
+pub mod MadeGates
 pub mod PlacesLeft
 pub mod NodesLeft
 pub mod Parting

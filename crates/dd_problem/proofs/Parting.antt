@@ -3,22 +3,23 @@ use Rattle.std.proofs.Common.{◌≡◌, ◌<◌, ◌≤◌, ℕ, zero, suc, ◌
 use Rattle.std.specs.List.{All}
 use Rattle.std.proofs.lemmas.List.{drop_all, append-nil}
 use Rattle.dd_circuit.specs.declared.gates.Signal.{Signal}
-use Rattle.dd_circuit.specs.declared.gates.Gate.{Gate}
 use Rattle.dd_circuit.specs.declared.gates.Gate.TheVariants.{And}
 use Rattle.dd_circuit.specs.Circuits.{Network, IsSignal, size, signal_of, opposite}
+use Rattle.dd_compile.specs.Compiling.{Extends}
 use Rattle.dd_compile.specs.ValueGates.{fresh}
-use Rattle.dd_compile.specs.lemmas.CaseGates.{next_is}
+use Rattle.dd_compile.specs.lemmas.CaseGates.{itself, next_is}
+use Rattle.dd_compile.specs.lemmas.Progress.{Extends-trans}
 use Rattle.dd_problem.specs.Differing.{apart}
 
 pub record Parting (xs ys : List Signal) (i : ℕ) (start now : Network) (signals : List Signal) : Type 0 where
-  pub inputs : now.inputs ≡ start.inputs
+  pub extends : Extends start now
   pub gates_left : start.gates ++ apart xs ys ≡ now.gates ++ apart (drop i xs) (drop i ys)
   pub signals_left : fresh (size start) (length (apart xs ys)) ≡ signals ++ fresh (size now) (length (apart (drop i xs) (drop i ys)))
   pub count : size now ≡ size start + i
 
 pub parting_start : (xs ys : List Signal) (start : Network) (signals : List Signal) → signals ≡ [] → Parting xs ys 0 start start signals
 parting_start xs ys start signals none = record {
-  inputs = refl;
+  extends = itself start;
   gates_left = refl;
   signals_left = ap (λ ss. ss ++ fresh (size start) (length (apart xs ys))) (sym none);
   count = omega arith;
@@ -53,7 +54,7 @@ module _ (xs ys : List Signal) (i : ℕ) (start now : Network) (signals : List S
       ap (λ zs. apart zs (drop i ys)) (next_is xs i x below is)
       ∙ (ap (apart (x ∷ drop (i + 1) xs)) (next_is ys i y below' is') ∙ ap (λ ms. And ms ∷ rest) (sym are)) in
       record {
-        inputs = inputs ∙ p.inputs;
+        extends = Extends-trans start now new p.extends (record { inputs = inputs; added = And members ∷ []; gates = gates });
         gates_left = p.gates_left ∙ (ap (λ gs. now.gates ++ gs) here ∙ (sym (append_assoc now.gates (And members ∷ []) rest) ∙ ap (λ gs. gs ++ rest) (sym gates)));
         signals_left =
             p.signals_left

@@ -2,6 +2,7 @@
 pub mod Layouts
 pub mod Clauses
 pub mod Differing
+pub mod Encodings
 pub mod Problems
 -- Symbols by the numbers of cells, and what it is for clauses to say what a question asks.
 pub mod Symbols

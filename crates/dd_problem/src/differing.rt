@@ -1,21 +1,17 @@
-//! The values of two automata as gates and clauses that say that they are different.
-ghost use Rattle.std.specs.Prelude.{◌≡◌, ◌≤◌, ◌<◌, ◌+◌, ◌∷◌, ◌++◌, ℕ, [], true, length, All, IfOk, OnOk};
+//! The values of two automata as gates that say that they are different.
+ghost use Rattle.std.specs.Prelude.{◌≡◌, ◌≤◌, ◌<◌, ◌+◌, ◌++◌, true, length, All, IfOk};
 ghost use Rattle.dd_values.specs.Bounds.{most_variables};
 ghost use Rattle.dd_lattice.specs.Cells.{cell};
-ghost use Rattle.dd_formula.specs.Automata.{CommonNumbers, IsAutomaton};
 ghost use Rattle.dd_circuit.specs.Circuits.{IsSignal, size};
-ghost use Rattle.dd_cnf.specs.Encoding.{gates_clauses};
+ghost use Rattle.dd_compile.specs.Compiling.{Extends};
 ghost use Rattle.dd_compile.specs.ValueGates.{fresh};
 ghost use Rattle.dd_boxes.specs.Boxes.{origin};
 ghost use Rattle.dd_boxes.specs.Goals.{AreOver};
 ghost use Rattle.dd_boxes.specs.Views.{numbers_of};
-ghost use Rattle.dd_problem.specs.Clauses.{part_gates, part_clauses};
 ghost use Rattle.dd_problem.specs.Differing.{apart, differ_made};
-ghost use Rattle.dd_problem.specs.Pushed.{are_both_wired, differ_part};
+ghost use Rattle.dd_problem.specs.Pushed.{are_both_wired};
 
 use dd_circuit::{Circuit, Signal};
-use dd_clause::Cnf;
-use dd_cnf::{literal_of, push_clause, push_gates};
 use dd_compile::{Inputs, compile_value};
 use dd_formula::{Automaton, Rule};
 use dd_lattice::{Cell, Position};
@@ -32,7 +28,7 @@ fn compile_apart(
     requires few { size circuit.old + length first.now ≤ most_variables }
     requires first { All (IsSignal (size circuit.old)) first.now }
     requires second { All (IsSignal (size circuit.old)) second.now }
-    ensures inputs { circuit.new.inputs ≡ circuit.old.inputs }
+    ensures extends { Extends circuit.old circuit.new }
     ensures gates { IfOk result (λ _. circuit.new.gates ≡ circuit.old.gates ++ apart first.now second.now) }
     ensures signals { IfOk result (λ v. v.items ≡ fresh (size circuit.old) (length (apart first.now second.now))) }
 {
@@ -45,7 +41,7 @@ fn compile_apart(
 }
 
 /// Adds the gates of both values at a node of the origin, and gives the signal that says that they are different.
-fn compile_differ(
+pub(crate) fn compile_differ(
     circuit: &mut Circuit,
     alloc: Global,
     premise: &Rule,
@@ -59,7 +55,7 @@ fn compile_differ(
     requires wired { are_both_wired inputs.now (size circuit.old) (numbers_of premise.now) left.now right.now node ≡ true }
     requires few { size circuit.old
         + length (differ_made premise.now.symbols left.now right.now inputs.now (cell origin node) (size circuit.old)).gates ≤ most_variables }
-    ensures inputs { circuit.new.inputs ≡ circuit.old.inputs }
+    ensures extends { Extends circuit.old circuit.new }
     ensures gates { IfOk result (λ _. circuit.new.gates ≡ circuit.old.gates
         ++ (differ_made premise.now.symbols left.now right.now inputs.now (cell origin node) (size circuit.old)).gates) }
     ensures signal { IfOk result (λ s.
@@ -73,70 +69,4 @@ fn compile_differ(
     let second = compile_value(circuit, alloc, right, symbols, &at, inputs)?;
     let apart = compile_apart(circuit, alloc, &first, &second)?;
     circuit.or(&apart)
-}
-
-/// The same, with the clauses of the gates.
-fn push_apart(
-    alloc: Global,
-    cnf: &mut Cnf,
-    circuit: &mut Circuit,
-    premise: &Rule,
-    left: &Automaton,
-    right: &Automaton,
-    node: u32,
-    inputs: &Inputs,
-) -> Result<Signal, AllocError>
-    requires over { AreOver premise.now (numbers_of premise.now) left.now right.now }
-    requires node { node < premise.now.nodes }
-    requires wide { cnf.old.variables ≡ size circuit.old }
-    requires wired { are_both_wired inputs.now (size circuit.old) (numbers_of premise.now) left.now right.now node ≡ true }
-    requires few { size circuit.old
-        + length (differ_made premise.now.symbols left.now right.now inputs.now (cell origin node) (size circuit.old)).gates ≤ most_variables }
-    ensures inputs { circuit.new.inputs ≡ circuit.old.inputs }
-    ensures wide { IfOk result (λ _. cnf.new.variables ≡ size circuit.new) }
-    ensures gates { IfOk result (λ _. circuit.new.gates ≡ circuit.old.gates
-        ++ (differ_made premise.now.symbols left.now right.now inputs.now (cell origin node) (size circuit.old)).gates) }
-    ensures clauses { IfOk result (λ _. cnf.new.clauses ≡ cnf.old.clauses ++ gates_clauses (size circuit.old)
-        (differ_made premise.now.symbols left.now right.now inputs.now (cell origin node) (size circuit.old)).gates) }
-    ensures signal { IfOk result (λ s.
-        s ≡ (differ_made premise.now.symbols left.now right.now inputs.now (cell origin node) (size circuit.old)).signal) }
-    ensures in_range { IfOk result (λ s. IsSignal (size circuit.new) s) }
-{
-    let before = circuit.gates().len();
-    let signal = compile_differ(circuit, alloc, premise, left, right, node, inputs)?;
-    cnf.widen(circuit.variables());
-    push_gates(alloc, cnf, circuit, before)?;
-    Ok(signal)
-}
-
-/// Adds the gates of both values at each node of the origin, and the clause that says that they are different at some node.
-pub(crate) fn push_differ(
-    alloc: Global,
-    cnf: &mut Cnf,
-    circuit: &mut Circuit,
-    premise: &Rule,
-    left: &Automaton,
-    right: &Automaton,
-    inputs: &Inputs,
-) -> Result<(), AllocError>
-    requires over { AreOver premise.now (numbers_of premise.now) left.now right.now }
-    requires wide { cnf.old.variables ≡ size circuit.old }
-    requires wired { (a : ℕ) → a < premise.now.nodes →
-        are_both_wired inputs.now (size circuit.old) (numbers_of premise.now) left.now right.now a ≡ true }
-    requires few { size circuit.old
-        + length (part_gates (size circuit.old) (differ_part inputs.now (numbers_of premise.now) left.now right.now ∷ [])) ≤ most_variables }
-    ensures inputs { circuit.new.inputs ≡ circuit.old.inputs }
-    ensures wide { OnOk result (cnf.new.variables ≡ size circuit.new) }
-    ensures gates { OnOk result (circuit.new.gates ≡ circuit.old.gates
-        ++ part_gates (size circuit.old) (differ_part inputs.now (numbers_of premise.now) left.now right.now ∷ [])) }
-    ensures clauses { OnOk result (cnf.new.clauses ≡ cnf.old.clauses
-        ++ part_clauses (size circuit.old) (differ_part inputs.now (numbers_of premise.now) left.now right.now ∷ [])) }
-{
-    let nodes = premise.nodes();
-    let mut literals = Vec::with_capacity(alloc, nodes as usize)?;
-    for node in 0..nodes {
-        let signal = push_apart(alloc, cnf, circuit, premise, left, right, node, inputs)?;
-        literals.push(literal_of(signal))?;
-    }
-    push_clause(alloc, cnf, &literals)
 }

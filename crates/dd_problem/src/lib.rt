@@ -3,6 +3,7 @@
 
 mod boxes;
 mod differing;
+mod encoder;
 mod gates;
 mod goals;
 mod layouts;

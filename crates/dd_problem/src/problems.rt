@@ -7,10 +7,10 @@ ghost use Rattle.dd_boxes.specs.Goals.{IsGoalFor};
 ghost use Rattle.dd_boxes.specs.Views.{goal_of};
 ghost use Rattle.dd_problem.specs.Pushed.{AreInputs, HasAllSymbols, is_goal_wired, wired_problem};
 
+use crate::encoder::Encoder;
 use crate::gates::{push_goal, push_places};
 use crate::one_hot::push_cells;
 use dd_boxes::Goal;
-use dd_circuit::Circuit;
 use dd_clause::Cnf;
 use dd_compile::Inputs;
 use dd_formula::Rule;
@@ -36,10 +36,10 @@ pub(crate) fn problem(
     ensures { IfOk result (λ cnf. cnf ≡ wired_problem inputs.now premise.now (goal_of premise.now goal.now) cells.now) }
 {
     let count = (cells.len() * premise.symbols() as usize) as u32;
-    let mut circuit = Circuit::new(alloc, count);
     let mut cnf = Cnf::new(alloc, count);
     push_cells(alloc, &mut cnf, premise, cells)?;
-    push_places(alloc, &mut cnf, &mut circuit, premise, cells, inputs)?;
-    push_goal(alloc, &mut cnf, &mut circuit, premise, goal, inputs)?;
-    Ok(cnf)
+    let mut encoder = Encoder::new(alloc, cnf);
+    push_places(alloc, &mut encoder, premise, cells, inputs)?;
+    push_goal(alloc, &mut encoder, premise, goal, inputs)?;
+    Ok(encoder.into_cnf())
 }

@@ -1,10 +1,10 @@
 -- What the gates say that tell two values apart.
 use Rattle.std.proofs.Common.{◌≡◌, ℕ, zero, suc, ◌+◌, ◌<◌, ◌≤◌, Bool, true, false, List, [], ◌∷◌, ◌++◌, map, length, refl, ap, sym, subst, ◌∙◌, arith, inl, inr, Some, length-append, eq-eqb}
-use Rattle.std.specs.Prelude.{not, ◌&&◌, ◌||◌, ◌==◌, ◌⊎◌, slice_get}
+use Rattle.std.specs.Prelude.{not, ◌&&◌, ◌||◌, ◌==◌, slice_get}
 use Rattle.std.specs.Bool.{beq}
 use Rattle.std.specs.List.{All, list_any, range_with_len}
 use Rattle.std.proofs.Math.Nat.{eq-or-lt_of_le}
-use Rattle.std.proofs.lemmas.Bool.{and_parts, eqb-true, cases_Bool, both_ways}
+use Rattle.std.proofs.lemmas.Bool.{and_parts}
 use Rattle.std.proofs.lemmas.Bool.Decides.{nat_tests}
 use Rattle.std.proofs.lemmas.List.Elements.{All-weaker}
 use Rattle.dd_lattice.specs.declared.position.Cell.{Cell}
@@ -19,7 +19,7 @@ use Rattle.dd_circuit.specs.lemmas.ValueLaws.{agrees-append}
 use Rattle.dd_circuit.specs.lemmas.GateLists.{AreGates-append, AreGates-snoc}
 use Rattle.dd_compile.specs.Wiring.{Wiring}
 use Rattle.dd_compile.specs.ValueGates.{fresh, value_made}
-use Rattle.dd_compile.specs.ValueSignals.{SaysWhich, TellsCells}
+use Rattle.dd_compile.specs.ValueSignals.{TellsCells}
 use Rattle.dd_compile.specs.Valued.{IsMadeValue}
 use Rattle.dd_compile.specs.lemmas.MadeSays.{same_from_beq, last_gate, opposite_value}
 use Rattle.dd_compile.specs.lemmas.ChoiceLaws.{fresh_in_range}

@@ -1,4 +1,4 @@
-use Rattle.std.proofs.Common.{◌≡◌, ◌<◌, ℕ, List, [], ◌∷◌, length, get_or, false, ap, arith}
+use Rattle.std.proofs.Common.{◌<◌, List, [], ◌∷◌, length, get_or, false, ap, arith}
 use Rattle.std.proofs.lemmas.List.{get_or_default}
 use Rattle.dd_circuit.specs.declared.gates.Signal.{Signal}
 use Rattle.dd_problem.proofs.Parting.{parting_in, parting_step, parting_end}
@@ -39,4 +39,4 @@ loop-number-preserved c =
 pub returns : goal.returns
 returns c =
     let done = parting_end c.args.first.now c.args.second.now c.loop-number.number c.args.circuit.now c.loop-number.circuit c.loop-number.signals.items c.loop-number.invariant c.loop-number-test.false in
-    record { inputs = c.loop-number.invariant.inputs; gates = done.0; signals = done.1 }
+    record { extends = c.loop-number.invariant.extends; gates = done.0; signals = done.1 }

@@ -1,5 +1,5 @@
-use Rattle.std.proofs.Common.{◌≡◌, ◌≤◌, ◌+◌, ◌++◌, ℕ, true, List, length, ap, sym, subst, ◌∙◌, arith}
-use Rattle.std.specs.Prelude.{Result, Ok, Err, IfOk}
+use Rattle.std.proofs.Common.{◌≡◌, ◌≤◌, ◌+◌, ◌∷◌, ◌++◌, [], length, ap, sym, subst, ◌∙◌, arith}
+use Rattle.std.specs.Prelude.{Result, Ok, Err, IfOk, OnErr}
 use Rattle.std.specs.List.{All}
 use Rattle.std.proofs.lemmas.Bool.{and_parts}
 use Rattle.std.proofs.lemmas.Result.{IfOk-weaker}
@@ -8,11 +8,15 @@ use Rattle.dd_lattice.specs.declared.position.Cell.{Cell}
 use Rattle.dd_formula.specs.Automata.{counted}
 use Rattle.dd_formula.specs.declared.automaton.Automaton.{Automaton}
 use Rattle.dd_circuit.specs.declared.gates.Signal.{Signal}
+use Rattle.dd_circuit.specs.declared.gates.Gate.{Gate}
+use Rattle.dd_circuit.specs.declared.gates.Gate.TheVariants.{Or}
 use Rattle.dd_circuit.specs.Circuits.{Network, IsSignal, size}
+use Rattle.dd_compile.specs.Compiling.{Extends}
 use Rattle.dd_compile.specs.Wiring.{Wiring}
-use Rattle.dd_compile.specs.ValueGates.{fresh, value_made}
 use Rattle.dd_compile.specs.ValueSignals.{are_wired_there}
+use Rattle.dd_compile.specs.lemmas.CaseGates.{itself}
 use Rattle.dd_compile.specs.lemmas.ChoiceLaws.{fresh_in_range}
+use Rattle.dd_compile.specs.lemmas.Progress.{Extends-trans}
 use Rattle.dd_boxes.specs.Boxes.{origin}
 use Rattle.dd_problem.specs.Differing.{apart, differ_made}
 use Rattle.dd_compile.specs.lemmas.StillWired.{still_wired}
@@ -57,7 +61,7 @@ or-requires-clause-few c =
     let at : Cell = cell origin c.args.node in
     last_few c.symbols-symbols.result c.args.left.now c.args.right.now c.args.inputs.now at c.args.circuit.now c.compile_value.new.circuit e.extends.inputs e.gates
     c.compile_value-2.new.circuit h.extends.inputs h.gates c.deref.result.now c.deref-2.result.now (c.deref.ensures.value ∙ e.signals) (c.deref-2.ensures.value ∙ h.signals)
-    c.compile_apart.new.circuit p.inputs p.gates c.in_ok-apart.apart.items c.deref-3.result.now p.signals c.deref-3.ensures.value
+    c.compile_apart.new.circuit p.extends.inputs p.gates c.in_ok-apart.apart.items c.deref-3.result.now p.signals c.deref-3.ensures.value
     (subst (λ k. size c.args.circuit.now + length (differ_made k c.args.left.now c.args.right.now c.args.inputs.now at (size c.args.circuit.now)).gates ≤ 16777216) (sym c.symbols-symbols.ensures.value) c.requires.few)
 
 pub or-requires-clause-in_range : goal.or-requires-clause-in_range
@@ -71,8 +75,23 @@ or-requires-clause-in_range c =
     let below =
     parts_below c.symbols-symbols.result c.args.left.now c.args.right.now c.args.inputs.now at c.args.circuit.now c.compile_value.new.circuit e.extends.inputs e.gates
     c.compile_value-2.new.circuit h.extends.inputs h.gates c.deref.result.now c.deref-2.result.now (c.deref.ensures.value ∙ e.signals) (c.deref-2.ensures.value ∙ h.signals)
-    c.compile_apart.new.circuit p.inputs p.gates c.in_ok-apart.apart.items c.deref-3.result.now p.signals c.deref-3.ensures.value in
+    c.compile_apart.new.circuit p.extends.inputs p.gates c.in_ok-apart.apart.items c.deref-3.result.now p.signals c.deref-3.ensures.value in
     subst (All (IsSignal (size c.compile_apart.new.circuit))) (sym (c.deref-3.ensures.value ∙ p.signals)) (fresh_in_range two m (size c.compile_apart.new.circuit) below)
+
+last_gate : {E : Type 0} (r : Result Signal E) (now new : Network) (g : Gate) → new.inputs ≡ now.inputs → IfOk r (λ _. new.gates ≡ now.gates ++ g ∷ []) → OnErr r (new ≡ now) → Extends now new
+last_gate (Ok s) now new g inputs gates same = record { inputs = inputs; added = g ∷ []; gates = gates }
+last_gate (Err e) now new g inputs gates same = subst (Extends now) (sym same) (itself now)
+
+pub returns-clause-extends : goal.returns-clause-extends
+returns-clause-extends c =
+    let start = c.args.circuit.now in
+    let one = c.compile_value.new.circuit in
+    let two = c.compile_value-2.new.circuit in
+    let three = c.compile_apart.new.circuit in
+    let new = c.or.new.self in
+    Extends-trans start three new
+    (Extends-trans start two three (Extends-trans start one two c.compile_value.ensures.extends c.compile_value-2.ensures.extends) c.compile_apart.ensures.extends)
+    (last_gate c.or.result three new (Or c.deref-3.result.now) c.or.ensures.inputs c.or.ensures.gates c.or.ensures.err)
 
 pub returns-clause-gates : goal.returns-clause-gates
 returns-clause-gates c =
@@ -83,7 +102,7 @@ returns-clause-gates c =
     IfOk-weaker c.or.result _ _ (λ s gates.
     differ_gates c.symbols-symbols.result c.args.left.now c.args.right.now c.args.inputs.now at c.args.circuit.now c.compile_value.new.circuit e.extends.inputs e.gates
     c.compile_value-2.new.circuit h.extends.inputs h.gates c.deref.result.now c.deref-2.result.now (c.deref.ensures.value ∙ e.signals) (c.deref-2.ensures.value ∙ h.signals)
-    c.compile_apart.new.circuit p.inputs p.gates c.in_ok-apart.apart.items c.deref-3.result.now p.signals c.deref-3.ensures.value c.or.new.self gates
+    c.compile_apart.new.circuit p.extends.inputs p.gates c.in_ok-apart.apart.items c.deref-3.result.now p.signals c.deref-3.ensures.value c.or.new.self gates
     ∙ ap (λ k. c.args.circuit.now.gates ++ (differ_made k c.args.left.now c.args.right.now c.args.inputs.now at (size c.args.circuit.now)).gates) c.symbols-symbols.ensures.value) c.or.ensures.gates
 
 both_ok : {T E : Type 0} (r : Result T E) (P Q R : T → Type 0) → IfOk r P → IfOk r Q → ((a : T) → P a → Q a → R a) → IfOk r R
@@ -99,5 +118,5 @@ returns-clause-signal c =
     both_ok c.or.result _ _ _ c.or.ensures.more c.or.ensures.signal (λ s is signal.
     differ_signal c.symbols-symbols.result c.args.left.now c.args.right.now c.args.inputs.now at c.args.circuit.now c.compile_value.new.circuit e.extends.inputs e.gates
     c.compile_value-2.new.circuit h.extends.inputs h.gates c.deref.result.now c.deref-2.result.now (c.deref.ensures.value ∙ e.signals) (c.deref-2.ensures.value ∙ h.signals)
-    c.compile_apart.new.circuit p.inputs p.gates c.in_ok-apart.apart.items c.deref-3.result.now p.signals c.deref-3.ensures.value s (size c.or.new.self) is signal
+    c.compile_apart.new.circuit p.extends.inputs p.gates c.in_ok-apart.apart.items c.deref-3.result.now p.signals c.deref-3.ensures.value s (size c.or.new.self) is signal
     ∙ ap (λ k. (differ_made k c.args.left.now c.args.right.now c.args.inputs.now at (size c.args.circuit.now)).signal) c.symbols-symbols.ensures.value)

@@ -1,59 +1,53 @@
-use Rattle.std.proofs.Common.{◌≡◌, ◌++◌, ◌∷◌, [], List, refl, ap, sym, subst, ◌∙◌, arith, true, false, OnOk}
-use Rattle.dd_circuit.specs.Circuits.{size}
+use Rattle.std.proofs.Common.{◌≡◌, ◌∷◌, [], Bool, List, ap, sym, subst, ◌∙◌, arith, true, false, OnOk}
+use Rattle.dd_lattice.specs.declared.position.Cell.{Cell}
+use Rattle.dd_circuit.specs.Circuits.{Network, size}
 use Rattle.dd_compile.specs.Compiling.{gate_count}
+use Rattle.dd_compile.specs.RuleSignals.{are_reads_wired}
 use Rattle.dd_compile.specs.Templates.{RuleAt}
-use Rattle.dd_formula.specs.LocalRule.{expansion_at}
+use Rattle.dd_compile.specs.Wiring.{Wiring}
+use Rattle.dd_formula.specs.LocalRule.{LocalRule, expansion_at}
 use Rattle.dd_problem.specs.Clauses.{Part, part_gates, part_clauses}
-use Rattle.dd_problem.specs.Pushed.{wired_part}
-use Rattle.dd_problem.proofs.PlacesLeft.{taken, skipped, place_count, nothing_added}
+use Rattle.dd_problem.specs.Encodings.{with_parts}
+use Rattle.dd_problem.specs.Pushed.{wired_part, wired_parts}
+use Rattle.dd_problem.proofs.Growing.{extended_size}
+use Rattle.dd_problem.proofs.PlacesLeft.{taken, place_count, nothing_added}
 use Rattle.dd_problem.proofs.Templating.{reads_tell}
 use Rattle.dd_problem.proofs.gates.push_if_wired.Goals as goal
 
-pub returns-then-not-reads_are_wired-clause-gates : goal.returns-then-not-reads_are_wired-clause-gates
-returns-then-not-reads_are_wired-clause-gates c =
-    let w = c.args.inputs.now in
-    let k = c.args.circuit.now in
-    let x = c.args.rule.now in
-    let d = c.args.cell.now in
-    let none = reads_tell k.inputs (size k) w x d false c.reads_are_wired.result c.nodes-nodes.ensures.kept c.requires.node c.requires.near c.requires.signals c.requires.all (omega arith) c.reads_are_wired.ensures.value c.if-not-reads_are_wired.true in
-    nothing_added k.gates k.gates refl ∙ ap (λ ps. k.gates ++ part_gates (size k) ps) (sym (skipped w k.inputs x d none))
+-- what is tested of the encoder's circuit
+read_of : (k circuit : Network) (w : Wiring) (x : LocalRule) (d : Cell) (r : Bool) → k ≡ circuit → r ≡ are_reads_wired (size k) w x d → r ≡ are_reads_wired (size circuit) w x d
+read_of k circuit w x d r same read = read ∙ ap (λ (j : Network). are_reads_wired (size j) w x d) same
 
-pub returns-then-not-reads_are_wired-clause-clauses : goal.returns-then-not-reads_are_wired-clause-clauses
-returns-then-not-reads_are_wired-clause-clauses c =
+pub returns-then-not-reads_are_wired-clause-ok : goal.returns-then-not-reads_are_wired-clause-ok
+returns-then-not-reads_are_wired-clause-ok c =
     let w = c.args.inputs.now in
-    let k = c.args.circuit.now in
+    let e = c.args.encoder.now in
     let x = c.args.rule.now in
     let d = c.args.cell.now in
-    let f = c.args.cnf.now in
-    let none = reads_tell k.inputs (size k) w x d false c.reads_are_wired.result c.nodes-nodes.ensures.kept c.requires.node c.requires.near c.requires.signals c.requires.all (omega arith) c.reads_are_wired.ensures.value c.if-not-reads_are_wired.true in
-    nothing_added f.clauses f.clauses refl ∙ ap (λ ps. f.clauses ++ part_clauses (size k) ps) (sym (skipped w k.inputs x d none))
+    let tested = read_of c.circuit.result.now e.circuit w x d c.reads_are_wired.result c.circuit.ensures c.reads_are_wired.ensures.value in
+    let none = reads_tell e.circuit.inputs (size e.circuit) w x d false c.reads_are_wired.result c.nodes-nodes.ensures.kept c.requires.node c.requires.near c.requires.signals c.requires.all (omega arith) tested c.if-not-reads_are_wired.true in
+    nothing_added w x e d none
 
 pub push_place-requires-clause-few : goal.push_place-requires-clause-few
 push_place-requires-clause-few c =
     let w = c.args.inputs.now in
-    let k = c.args.circuit.now in
+    let e = c.args.encoder.now in
     let x = c.args.rule.now in
     let d = c.args.cell.now in
-    let one = reads_tell k.inputs (size k) w x d true c.reads_are_wired.result c.nodes-nodes.ensures.kept c.requires.node c.requires.near c.requires.signals c.requires.all (omega arith) c.reads_are_wired.ensures.value c.if-not-reads_are_wired.false in
+    let n = size e.circuit in
+    let tested = read_of c.circuit.result.now e.circuit w x d c.reads_are_wired.result c.circuit.ensures c.reads_are_wired.ensures.value in
+    let one = reads_tell e.circuit.inputs n w x d true c.reads_are_wired.result c.nodes-nodes.ensures.kept c.requires.node c.requires.near c.requires.signals c.requires.all (omega arith) tested c.if-not-reads_are_wired.false in
     let same = ap (λ (t : RuleAt). gate_count (expansion_at t.rule d.node)) c.requires.template in
-    omega (arith, place_count w k.inputs (size k) x d one, c.requires.few, same)
+    let parts = wired_parts w e.circuit.inputs x (d ∷ []) in
+    omega (arith, place_count w e.circuit.inputs n x d one, extended_size e (part_gates n parts) (part_clauses n parts), c.requires.few, same)
 
-pub returns-clause-gates : goal.returns-clause-gates
-returns-clause-gates c =
+pub returns-clause-ok : goal.returns-clause-ok
+returns-clause-ok c =
     let w = c.args.inputs.now in
-    let k = c.args.circuit.now in
+    let e = c.args.encoder.now in
     let x = c.args.rule.now in
     let d = c.args.cell.now in
-    let one = reads_tell k.inputs (size k) w x d true c.reads_are_wired.result c.nodes-nodes.ensures.kept c.requires.node c.requires.near c.requires.signals c.requires.all (omega arith) c.reads_are_wired.ensures.value c.if-not-reads_are_wired.false in
-    let placed = subst (λ (t : RuleAt). OnOk c.push_place.result (c.push_place.new.circuit.gates ≡ k.gates ++ part_gates (size k) (wired_part w t.rule d ∷ []))) c.requires.template c.push_place.ensures.gates in
-    subst (λ (ps : List Part). OnOk c.push_place.result (c.push_place.new.circuit.gates ≡ k.gates ++ part_gates (size k) ps)) (sym (taken w k.inputs x d one)) placed
-
-pub returns-clause-clauses : goal.returns-clause-clauses
-returns-clause-clauses c =
-    let w = c.args.inputs.now in
-    let k = c.args.circuit.now in
-    let x = c.args.rule.now in
-    let d = c.args.cell.now in
-    let one = reads_tell k.inputs (size k) w x d true c.reads_are_wired.result c.nodes-nodes.ensures.kept c.requires.node c.requires.near c.requires.signals c.requires.all (omega arith) c.reads_are_wired.ensures.value c.if-not-reads_are_wired.false in
-    let placed = subst (λ (t : RuleAt). OnOk c.push_place.result (c.push_place.new.cnf.clauses ≡ c.args.cnf.now.clauses ++ part_clauses (size k) (wired_part w t.rule d ∷ []))) c.requires.template c.push_place.ensures.clauses in
-    subst (λ (ps : List Part). OnOk c.push_place.result (c.push_place.new.cnf.clauses ≡ c.args.cnf.now.clauses ++ part_clauses (size k) ps)) (sym (taken w k.inputs x d one)) placed
+    let tested = read_of c.circuit.result.now e.circuit w x d c.reads_are_wired.result c.circuit.ensures c.reads_are_wired.ensures.value in
+    let one = reads_tell e.circuit.inputs (size e.circuit) w x d true c.reads_are_wired.result c.nodes-nodes.ensures.kept c.requires.node c.requires.near c.requires.signals c.requires.all (omega arith) tested c.if-not-reads_are_wired.false in
+    let placed = subst (λ (t : RuleAt). OnOk c.push_place.result (c.push_place.new.encoder ≡ with_parts e (wired_part w t.rule d ∷ []))) c.requires.template c.push_place.ensures.ok in
+    subst (λ (ps : List Part). OnOk c.push_place.result (c.push_place.new.encoder ≡ with_parts e ps)) (sym (taken w e.circuit.inputs x d one)) placed
