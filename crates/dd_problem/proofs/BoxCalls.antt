@@ -14,7 +14,8 @@ use Rattle.dd_boxes.specs.Goals.{GoalOf}
 use Rattle.dd_boxes.specs.Boxes.{Reaches}
 use Rattle.dd_boxes.specs.Counts.{question_clauses, most_clauses}
 use Rattle.dd_problem.specs.Told.{IsToldGoal}
-use Rattle.dd_problem.specs.Layouts.{cells_in, box_cells}
+use Rattle.dd_boxes.specs.Cells.{box_cells}
+use Rattle.dd_problem.specs.Layouts.{cells_in}
 use Rattle.dd_problem.specs.Problems.{box_problem}
 use Rattle.dd_problem.specs.Numbered.{in_turn}
 use Rattle.dd_problem.specs.Pushed.{AreInputs, is_goal_wired, wired_problem}

@@ -23,7 +23,8 @@ use Rattle.dd_boxes.specs.Fillings.{in_box, is_box_cell}
 use Rattle.dd_boxes.specs.Boxes.{origin, Reaches}
 use Rattle.dd_boxes.specs.Counts.{question_clauses, most_clauses}
 use Rattle.dd_problem.specs.Told.{IsToldGoal}
-use Rattle.dd_problem.specs.Layouts.{box_index, box_cells, box_layout}
+use Rattle.dd_boxes.specs.Cells.{box_cells}
+use Rattle.dd_problem.specs.Layouts.{box_index, box_layout}
 use Rattle.dd_problem.specs.Clauses.{input}
 use Rattle.dd_problem.specs.Problems.{box_problem}
 use Rattle.dd_problem.specs.Numbered.{in_turn}

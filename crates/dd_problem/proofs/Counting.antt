@@ -30,7 +30,7 @@ use Rattle.dd_problem.specs.Clauses.{part_gates}
 use Rattle.dd_problem.specs.Problems.{wire, place_maker, premise_part, goal_part, input_count, problem}
 use Rattle.dd_problem.specs.Differing.{apart, differ_made}
 use Rattle.dd_problem.proofs.Growing.{part_gates-append}
-use Rattle.dd_problem.specs.lemmas.CellOrder.{length-cells_in}
+use Rattle.dd_problem.specs.lemmas.CellOrder.{range_append, cells_by_number, length-cells_in}
 
 -- the gates of a rule at several cells, and at several nodes of one position
 abbrev at_cell : LocalRule → Cell → ℕ
@@ -114,13 +114,6 @@ goal_gates l m (differ s f g) n =
 goal_gates l m always n = omega arith
 
 -- the sum over the cells of a box is that over the nodes, for each position
-pub range_append : (n k a : ℕ) → range_with_len a (n + k) ≡ range_with_len a n ++ range_with_len (a + n) k
-range_append zero k a = let e : a + 0 ≡ a = omega arith in let f : 0 + k ≡ k = omega arith in rw (e, f) refl
-range_append (suc n) k a =
-    let e : suc n + k ≡ suc (n + k) = omega arith in
-    let f : a + suc n ≡ a + 1 + n = omega arith in
-    rw (e, f) (ap (λ r. a ∷ r) (range_append n k (a + 1)))
-
 total-append : (ns ms : List ℕ) → total (ns ++ ms) ≡ total ns + total ms
 total-append [] ms = omega arith
 total-append (n ∷ ns) ms = omega (arith, total-append ns ms)
@@ -156,7 +149,9 @@ total_alike f g h zero a = refl
 total_alike f g h (suc n) a = let rest = total_alike f g h n (a + 1) in omega (arith, rest)
 
 cells_total : (x : LocalRule) (b : Bounds) (m : ℕ) → total (map (at_cell x) (cells_in b m)) ≡ volume b * over_nodes (λ a. clause_count (expansion_at x a)) m
-cells_total x b m = total_alike (at_cell x) (at_cell x) (nth_cell b m) (volume b * m) 0 ∙ box_total (λ a. clause_count (expansion_at x a)) m (volume b)
+cells_total x b m =
+    ap (λ cs. total (map (at_cell x) cs)) (cells_by_number b m)
+    ∙ (total_alike (at_cell x) (at_cell x) (nth_cell b m) (volume b * m) 0 ∙ box_total (λ a. clause_count (expansion_at x a)) m (volume b))
 
 -- a cell has at least as many clauses as inputs
 half : (n : ℕ) → n / 2 * 2 + n % 2 ≡ n

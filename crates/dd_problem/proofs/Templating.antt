@@ -32,11 +32,12 @@ use Rattle.dd_boxes.specs.Goals.{GoalOf}
 use Rattle.dd_boxes.specs.Counts.{question_clauses, most_clauses}
 use Rattle.dd_boxes.specs.Witnesses.{ArePeriods}
 use Rattle.dd_problem.specs.Clauses.{input}
-use Rattle.dd_problem.specs.Layouts.{nth_cell, cells_in, box_cells, torus_cells}
+use Rattle.dd_boxes.specs.Cells.{box_cells}
+use Rattle.dd_problem.specs.Layouts.{nth_cell, cells_in, torus_cells}
 use Rattle.dd_problem.specs.Numbered.{symbol_signals, numbered_wiring}
 use Rattle.dd_problem.specs.Pushed.{AreInputs, HasAllSymbols, is_wired_at}
 use Rattle.dd_problem.specs.lemmas.Filtered.{some_same}
-use Rattle.dd_problem.specs.lemmas.CellOrder.{All-range}
+use Rattle.dd_problem.specs.lemmas.CellOrder.{cells_by_number, All-range}
 use Rattle.dd_problem.specs.lemmas.BoxLayout.{bounds_ordered}
 use Rattle.dd_problem.proofs.BoxInputs.{volume_wide}
 use Rattle.dd_problem.proofs.Counting.{positions_below}
@@ -115,8 +116,9 @@ numbered_full m cells numbers c ss is =
 -- the cells of a box lie in it
 cells_within : (b : Bounds) (m : ℕ) → IsAtMostOnEachAxis b.low b.high → 0 < m → All (λ (c : Cell). IsWithin b c.position) (cells_in b m)
 cells_within b m o some =
-    All-map (λ (c : Cell). IsWithin b c.position) (nth_cell b m) (range_with_len 0 (volume b * m))
-    (All-range (λ k. IsWithin b (place_in b (k / m))) (volume b * m) 0 (λ k low high. place_within b (k / m) o (div_below k m (volume b) some (omega arith))))
+    subst (All (λ (c : Cell). IsWithin b c.position)) (sym (cells_by_number b m))
+    (All-map (λ (c : Cell). IsWithin b c.position) (nth_cell b m) (range_with_len 0 (volume b * m))
+    (All-range (λ k. IsWithin b (place_in b (k / m))) (volume b * m) 0 (λ k low high. place_within b (k / m) o (div_below k m (volume b) some (omega arith)))))
 
 spread_most : (b : Bool) (n : ℕ) → spread b n ≤ n
 spread_most true n = omega arith

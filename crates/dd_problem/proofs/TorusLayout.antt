@@ -25,6 +25,7 @@ use Rattle.dd_formula.specs.LocalRule.{LocalRule, IsRule}
 use Rattle.dd_boxes.specs.Goals.{GoalOf}
 use Rattle.dd_boxes.specs.Witnesses.{ArePeriods}
 use Rattle.dd_problem.specs.Layouts.{nth_cell, torus, torus_cells}
+use Rattle.dd_problem.specs.lemmas.CellOrder.{cells_by_number}
 use Rattle.dd_problem.specs.Grown.{torus_layout}
 use Rattle.dd_problem.specs.lemmas.Reading.{IsLayout}
 use Rattle.dd_problem.specs.lemmas.Filtered.{some_same, slice_of_range}
@@ -80,10 +81,11 @@ nth_is x periods some k = rw (span_is periods.x some.0, span_is periods.y some.1
 cells_listed : (x : LocalRule) (periods : Periods) → (0 < periods.x) × (0 < periods.y) × (0 < periods.z) →
     torus_cells x periods ≡ map (cell_in (torus x periods)) (range_with_len 0 (torus_size x periods))
 cells_listed x periods some =
-    map_alike (nth_cell (fundamental periods) x.nodes) (cell_in (torus x periods)) (nth_is x periods some) _
+    cells_by_number (fundamental periods) x.nodes
+    ∙ (map_alike (nth_cell (fundamental periods) x.nodes) (cell_in (torus x periods)) (nth_is x periods some) _
     ∙ ap (λ n. map (cell_in (torus x periods)) (range_with_len 0 (n * x.nodes)))
     (rw (span_is periods.x some.0, span_is periods.y some.1, span_is periods.z some.2)
-    (product_turned periods.x periods.y periods.z))
+    (product_turned periods.x periods.y periods.z)))
 
 -- a configuration of the same periods with the symbol 0 everywhere
 abbrev zeros : LocalRule → Periods → List ℕ

@@ -1,12 +1,13 @@
 -- Which cells have inputs, and in which order.
-use Rattle.std.specs.Prelude.{ℕ, ◌+◌, ◌*◌, ◌/◌, ◌%◌, Bool, List, [], map}
-use Rattle.std.specs.List.{list_all, range_with_len}
+use Rattle.std.specs.Prelude.{ℕ, ◌+◌, ◌*◌, ◌/◌, ◌%◌, Bool, List, []}
+use Rattle.std.specs.List.{list_all}
 use Rattle.dd_lattice.specs.Cells.{cell, shifted}
-use Rattle.dd_lattice.specs.Boxes.{Bounds, centred, volume, index_in, place_in}
+use Rattle.dd_lattice.specs.Boxes.{Bounds, centred, index_in, place_in, positions_of}
 use Rattle.dd_lattice.specs.declared.position.Cell.{Cell}
 use Rattle.dd_pattern.specs.declared.periods.Periods.{Periods}
 use Rattle.dd_pattern.specs.Tile.{Tile, tile, fundamental}
 use Rattle.dd_formula.specs.LocalRule.{LocalRule, reads_at}
+use Rattle.dd_boxes.specs.Cells.{box_cells, cells_on}
 use Rattle.dd_boxes.specs.Fillings.{is_box_cell}
 use Rattle.dd_compile.specs.Wiring.{Wiring}
 use Rattle.dd_problem.specs.Numbered.{in_turn}
@@ -20,18 +21,16 @@ pub record Layout : Type 0 where
   pub inputs : Wiring
 
 -- the cells of a box of positions in cell order: the nodes of a position stand together
+abbrev pub cells_in : Bounds → ℕ → List Cell
+cells_in b nodes = cells_on nodes (positions_of b)
+
+-- the one with so many before it
 abbrev pub nth_cell : Bounds → ℕ → ℕ → Cell
 nth_cell b nodes k = cell (place_in b (k / nodes)) (k % nodes)
 
-abbrev pub cells_in : Bounds → ℕ → List Cell
-cells_in b nodes = map (nth_cell b nodes) (range_with_len 0 (volume b * nodes))
-
--- those of B(n), each with the number of its place in the list
+-- each cell of B(n) with the number of its place in the list
 abbrev pub box_index : LocalRule → ℕ → Cell → ℕ
 box_index x n c = index_in (centred x.dimension n) c.position * x.nodes + c.node
-
-abbrev pub box_cells : LocalRule → ℕ → List Cell
-box_cells x n = cells_in (centred x.dimension n) x.nodes
 
 abbrev pub box_layout : LocalRule → ℕ → Layout
 box_layout x n = record { has = is_box_cell x n; index = box_index x n; places = box_cells x n; inputs = in_turn x.symbols (box_cells x n) }

@@ -4,7 +4,6 @@ use Rattle.std.specs.Prelude.{nat_lt, slice_get}
 use Rattle.std.proofs.lemmas.Int.{ints}
 use Rattle.std.proofs.lemmas.Bool.{and_parts, and_from, ltb-true, lt-ltb}
 use Rattle.std.proofs.lemmas.Nat.{mul-add-lt, div-mul-add, mod-mul-add, mod_below, div_below, div-add-mod'}
-use Rattle.std.proofs.lemmas.List.FromFn.{length-map-range_with_len}
 use Rattle.std.proofs.lemmas.Option.{slice_get_within}
 use Rattle.dd_lattice.specs.Place.{Place}
 use Rattle.dd_lattice.specs.Boxes.{IsAtMostOnEachAxis, IsWithin, centred, volume, index_in, place_in}
@@ -13,9 +12,11 @@ use Rattle.dd_lattice.specs.lemmas.BoxLaws.{index_below, place_at_index, index_o
 use Rattle.dd_formula.specs.LocalRule.{LocalRule}
 use Rattle.dd_boxes.specs.Fillings.{in_box, is_box_cell}
 use Rattle.dd_boxes.specs.lemmas.OneBoxLaws.{box_is_centred}
-use Rattle.dd_problem.specs.Layouts.{nth_cell, box_index, box_cells, box_layout}
+use Rattle.dd_boxes.specs.Cells.{box_cells}
+use Rattle.dd_problem.specs.Layouts.{nth_cell, box_index, box_layout}
 use Rattle.dd_problem.specs.lemmas.Reading.{IsLayout}
-use Rattle.dd_problem.specs.lemmas.Filtered.{some_same, slice_of_range}
+use Rattle.dd_problem.specs.lemmas.CellOrder.{length-cells_in, cell_at_number}
+use Rattle.dd_problem.specs.lemmas.Filtered.{some_same}
 
 pub box_within : (d n : ℕ) (p : Place) → in_box d n p ≡ true → IsWithin (centred d n) p
 box_within d n p h = (centred_members d n p).1 ((box_is_centred d n p).0 h)
@@ -36,7 +37,7 @@ abbrev pub box_size : LocalRule → ℕ → ℕ
 box_size x n = volume (centred x.dimension n) * x.nodes
 
 pub length-box_cells : (x : LocalRule) (n : ℕ) → length (box_cells x n) ≡ box_size x n
-length-box_cells x n = length-map-range_with_len (box_cell x n) 0 (box_size x n)
+length-box_cells x n = length-cells_in (centred x.dimension n) x.nodes
 
 index_within : (x : LocalRule) (n : ℕ) (c : Cell) → is_box_cell x n c ≡ true → box_index x n c < box_size x n
 index_within x n c h =
@@ -73,7 +74,7 @@ index_back x n k = rw (index_of_place (centred x.dimension n) (k / x.nodes)) (di
 
 -- the cell with a cell's number is the cell
 pub box_cell_there : (x : LocalRule) (n : ℕ) (c : Cell) → is_box_cell x n c ≡ true → slice_get (box_cells x n) (box_index x n c) ≡ Some c
-box_cell_there x n c h = slice_of_range (box_cell x n) (box_size x n) (box_index x n c) (index_within x n c h) ∙ ap (λ d. Some d) (cell_at x n c h)
+box_cell_there x n c h = cell_at_number (centred x.dimension n) x.nodes (box_index x n c) (index_within x n c h) ∙ ap (λ d. Some d) (cell_at x n c h)
 
 pub box_is_layout : (x : LocalRule) (n : ℕ) → IsLayout (box_layout x n)
 box_is_layout x n = record {
@@ -85,5 +86,5 @@ pub box_cell_at : (x : LocalRule) (n k : ℕ) (c : Cell) → slice_get (box_cell
 box_cell_at x n k c is =
     let within = slice_get_within (box_cells x n) k c is in
     let below : k < box_size x n = omega (arith, length-box_cells x n) in
-    let same : c ≡ box_cell x n k = some_same c (box_cell x n k) (sym is ∙ slice_of_range (box_cell x n) (box_size x n) k below) in
+    let same : c ≡ box_cell x n k = some_same c (box_cell x n k) (sym is ∙ cell_at_number (centred x.dimension n) x.nodes k below) in
     (ap (is_box_cell x n) same ∙ in_the_box x n k below, ap (box_index x n) same ∙ index_back x n k)

@@ -1,5 +1,5 @@
 -- The cells of a box of positions: where a cell stands in their list, and that they ascend.
-use Rattle.std.proofs.Common.{◌≡◌, ℕ, zero, suc, ◌+◌, ◌*◌, ◌/◌, ◌%◌, ◌<◌, ◌≤◌, [], ◌∷◌, ◌++◌, map, length, get_or, refl, ap, sym, ◌∙◌, arith, Some, inl, inr, length-append}
+use Rattle.std.proofs.Common.{◌≡◌, ℕ, zero, suc, ◌+◌, ◌*◌, ◌/◌, ◌%◌, ◌<◌, ◌≤◌, [], ◌∷◌, ◌++◌, map, length, get_or, refl, ap, sym, subst, ◌∙◌, arith, Some, inl, inr, length-append}
 use Rattle.std.specs.Prelude.{slice_get}
 use Rattle.std.specs.List.{All, range_with_len}
 use Rattle.std.specs.List.Sorted.{IsStrictlySortedBy}
@@ -9,6 +9,8 @@ use Rattle.std.specs.declared.cmp.Ordering.{Ordering}
 use Rattle.std.specs.declared.cmp.Ordering.TheVariants.{Less, Equal}
 use Rattle.std.proofs.lemmas.Bool.{cases_order}
 use Rattle.std.proofs.lemmas.Nat.{mul-add-lt, div-mul-add, mod-mul-add, mod_below, div_below, div-add-mod'}
+use Rattle.std.proofs.lemmas.List.{append-nil, map-append}
+use Rattle.std.proofs.lemmas.List.Concat.{flat_map-append}
 use Rattle.std.proofs.lemmas.List.Elements.{All-cons, All-nil, All-map, recursion_from_All}
 use Rattle.std.proofs.lemmas.List.FromFn.{length-map-range_with_len}
 use Rattle.std.proofs.lemmas.Map.Keys.{Less-from_sorted}
@@ -16,11 +18,13 @@ use Rattle.std.proofs.Math.ListN.{get_or-append}
 use Rattle.std.proofs.Math.Seq.{get_or-append_seam}
 use Rattle.std.proofs.lemmas.Bool.{cases_lt}
 use Rattle.dd_lattice.specs.Place.{Place}
+use Rattle.dd_lattice.specs.Cells.{cell}
 use Rattle.dd_lattice.specs.Order.{place_cmp, cell_cmp}
 use Rattle.dd_lattice.specs.Boxes.{Bounds, IsAtMostOnEachAxis, IsWithin, volume, index_in, place_in, first_positions}
 use Rattle.dd_lattice.specs.declared.position.Cell.{Cell}
 use Rattle.dd_lattice.specs.lemmas.BoxLaws.{index_below, place_at_index}
 use Rattle.dd_lattice.specs.lemmas.PositionLaws.{first_ascending}
+use Rattle.dd_boxes.specs.Cells.{cells_on}
 use Rattle.dd_problem.specs.Layouts.{nth_cell, cells_in}
 use Rattle.dd_problem.specs.lemmas.Filtered.{slice_of_range}
 
@@ -85,18 +89,61 @@ cell_less b m o some i j less high =
       | inr (inr after) ↦ absurd (let past = mul-add-lt (j / m) m (j % m) (i / m) after (mod_below j m some) in omega (arith, past, i_is, j_is))
     ]
 
+pub range_append : (n k a : ℕ) → range_with_len a (n + k) ≡ range_with_len a n ++ range_with_len (a + n) k
+range_append zero k a = let e : a + 0 ≡ a = omega arith in let f : 0 + k ≡ k = omega arith in rw (e, f) refl
+range_append (suc n) k a =
+    let e : suc n + k ≡ suc (n + k) = omega arith in
+    let f : a + suc n ≡ a + 1 + n = omega arith in
+    rw (e, f) (ap (λ r. a ∷ r) (range_append n k (a + 1)))
+
+row_cells : (b : Bounds) (m v j n : ℕ) → j + n ≤ m → map (nth_cell b m) (range_with_len (v * m + j) n) ≡ map (cell (place_in b v)) (range_with_len j n)
+row_cells b m v j zero within = refl
+row_cells b m v j (suc n) within =
+    let e : v * m + j + 1 ≡ v * m + (j + 1) = omega arith in
+    let row = div-mul-add v m j (omega arith) in
+    let node = mod-mul-add v m j (omega arith) in
+    let first : nth_cell b m (v * m + j) ≡ cell (place_in b v) j = rw (row, node) refl in
+    ap (λ c. c ∷ map (nth_cell b m) (range_with_len (v * m + j + 1) n)) first
+    ∙ ap (λ cs. cell (place_in b v) j ∷ cs) (ap (λ k. map (nth_cell b m) (range_with_len k n)) e ∙ row_cells b m v (j + 1) n (omega arith))
+
+rows_by_number : (b : Bounds) (m v : ℕ) → cells_on m (first_positions b v) ≡ map (nth_cell b m) (range_with_len 0 (v * m))
+rows_by_number b m zero = let none : 0 ≡ 0 * m = omega arith in ap (λ k. map (nth_cell b m) (range_with_len 0 k)) none
+rows_by_number b m (suc v) =
+    let before = range_with_len 0 (v * m) in
+    let row = map (cell (place_in b v)) (range_with_len 0 m) in
+    let more : suc v * m ≡ v * m + m = omega arith in
+    let from : 0 + v * m ≡ v * m + 0 = omega arith in
+    let split : map (nth_cell b m) (range_with_len 0 (suc v * m)) ≡ map (nth_cell b m) before ++ row =
+    ap (λ k. map (nth_cell b m) (range_with_len 0 k)) more
+    ∙ (ap (map (nth_cell b m)) (range_append (v * m) m 0)
+    ∙ (map-append (nth_cell b m) before (range_with_len (0 + v * m) m)
+    ∙ ap (λ cs. map (nth_cell b m) before ++ cs) (ap (λ k. map (nth_cell b m) (range_with_len k m)) from ∙ row_cells b m v 0 m (omega arith)))) in
+    flat_map-append (λ p. map (cell p) (range_with_len 0 m)) (first_positions b v) (place_in b v ∷ [])
+    ∙ (ap (λ cs. cells_on m (first_positions b v) ++ cs) (append-nil row) ∙ (ap (λ cs. cs ++ row) (rows_by_number b m v) ∙ sym split))
+
+-- the cells of a box of positions by their numbers
+pub cells_by_number : (b : Bounds) (m : ℕ) → cells_in b m ≡ map (nth_cell b m) (range_with_len 0 (volume b * m))
+cells_by_number b m = rows_by_number b m (volume b)
+
 pub cells_ascending : (b : Bounds) (m : ℕ) → IsAtMostOnEachAxis b.low b.high → 0 < m → IsStrictlySortedBy cell_cmp (cells_in b m)
-cells_ascending b m o some = sorted_range cell_cmp (nth_cell b m) (volume b * m) 0 (λ i j less high. cell_less b m o some i j less (omega arith))
+cells_ascending b m o some =
+    subst (IsStrictlySortedBy cell_cmp) (sym (cells_by_number b m)) (sorted_range cell_cmp (nth_cell b m) (volume b * m) 0 (λ i j less high. cell_less b m o some i j less (omega arith)))
 
 pub length-cells_in : (b : Bounds) (m : ℕ) → length (cells_in b m) ≡ volume b * m
-length-cells_in b m = length-map-range_with_len (nth_cell b m) 0 (volume b * m)
+length-cells_in b m = ap length (cells_by_number b m) ∙ length-map-range_with_len (nth_cell b m) 0 (volume b * m)
+
+-- the cell with a number
+pub cell_at_number : (b : Bounds) (m k : ℕ) → k < volume b * m → slice_get (cells_in b m) k ≡ Some (nth_cell b m k)
+cell_at_number b m k below = ap (λ cs. slice_get cs k) (cells_by_number b m) ∙ slice_of_range (nth_cell b m) (volume b * m) k below
 
 -- a cell stands at its number
 pub cell_there : (b : Bounds) (m : ℕ) (c : Cell) → IsWithin b c.position → c.node < m → slice_get (cells_in b m) (index_in b c.position * m + c.node) ≡ Some c
 cell_there b m c within node =
     let low = mul-add-lt (index_in b c.position) m c.node (volume b) (index_below b c.position within) node in
-    slice_of_range (nth_cell b m) (volume b * m) (index_in b c.position * m + c.node) (omega (arith, low))
+    cell_at_number b m (index_in b c.position * m + c.node) (omega (arith, low))
     ∙ rw (div-mul-add (index_in b c.position) m c.node node, mod-mul-add (index_in b c.position) m c.node node, place_at_index b c.position within) refl
 
 pub cells_nodes : (b : Bounds) (m : ℕ) → 0 < m → All (λ (c : Cell). c.node < m) (cells_in b m)
-cells_nodes b m some = All-map (λ (c : Cell). c.node < m) (nth_cell b m) (range_with_len 0 (volume b * m)) (All-range (λ k. k % m < m) (volume b * m) 0 (λ k low high. mod_below k m some))
+cells_nodes b m some =
+    subst (All (λ (c : Cell). c.node < m)) (sym (cells_by_number b m))
+    (All-map (λ (c : Cell). c.node < m) (nth_cell b m) (range_with_len 0 (volume b * m)) (All-range (λ k. k % m < m) (volume b * m) 0 (λ k low high. mod_below k m some)))

@@ -1,6 +1,6 @@
 use Rattle.std.proofs.Common.{length, subst, sym}
 use Rattle.std.specs.List.{range_with_len}
-use Rattle.dd_problem.specs.Layouts.{box_cells}
+use Rattle.dd_boxes.specs.Cells.{box_cells}
 use Rattle.dd_problem.specs.Pushed.{HasAllSymbols}
 use Rattle.dd_problem.proofs.Templating.{box_near, numbered_full}
 use Rattle.dd_boxes.specs.Views.{goal_of}

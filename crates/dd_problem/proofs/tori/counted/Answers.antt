@@ -1,6 +1,6 @@
 use Rattle.std.proofs.Common.{◌≡◌, ◌+◌, ◌++◌, ◌∷◌, [], ap, sym, ◌∙◌, arith}
 use Rattle.std.specs.List.{range_with_len}
-use Rattle.dd_problem.proofs.Counting.{range_append}
+use Rattle.dd_problem.specs.lemmas.CellOrder.{range_append}
 use Rattle.dd_problem.proofs.tori.counted.Goals as goal
 
 pub loop-number-preserved : goal.loop-number-preserved
