@@ -1,5 +1,5 @@
 #!/usr/bin/env python3
-"""Box questions on shifts of finite type, by MiniSat: a plain baseline. It reads the language of docs/guide.md, answers %member,
+"""Box questions on shifts of finite type, by MiniSat, or by CaDiCaL where SOLVER says so: a plain baseline. It reads the language of docs/guide.md, answers %member,
 %contains, %equal and %empty, and writes the answer lines alone."""
 import itertools, re, subprocess, sys, tempfile, os
 
@@ -297,6 +297,9 @@ class Clauses:
                 f.write("p cnf %d %d\n" % (self.n, len(self.list)))
                 for c in self.list:
                     f.write(" ".join(map(str, c)) + " 0\n")
+            if os.environ.get("SOLVER") == "cadical":
+                said = subprocess.run(["cadical", "-q", d + "/in"], stdout=subprocess.PIPE, text=True).stdout.split()
+                return {int(x) for x in said if x.lstrip("-").isdigit()} if "SATISFIABLE" in said else None
             subprocess.run(["minisat", "-verb=0", d + "/in", d + "/out"], stdout=subprocess.DEVNULL)
             out = open(d + "/out").read().split()
         return {int(x) for x in out[1:]} if out[0] == "SAT" else None
@@ -323,9 +326,10 @@ def question(s, x, y):
         if cl.solve() is None:
             return ("YES", n)
     ranges = [range(1, s.period + 1) if i < s.dim else [1] for i in range(3)]
-    for q in sorted(itertools.product(*ranges), key=lambda q: (q[0] * q[1] * q[2], q)):
+    tori = [(q, shear) for q in itertools.product(*ranges) for shear in range(q[0] if s.dim > 1 else 1)]
+    for q, shear in sorted(tori, key=lambda torus: (torus[0][0] * torus[0][1] * torus[0][2], torus)):
         region = [((px, py, pz), a) for pz in range(q[2]) for py in range(q[1]) for px in range(q[0]) for a in nodes]
-        mod = lambda c: (tuple(v % m for v, m in zip(c[0], q)), c[1])
+        mod = lambda c: (((c[0][0] - c[0][1] // q[1] * shear) % q[0], c[0][1] % q[1], c[0][2] % q[2]), c[1])
         cl = Clauses()
         cl.cells(region, len(s.symbols))
         for (p, a) in region:
@@ -334,7 +338,7 @@ def question(s, x, y):
             cl.list.append([-cl.gate(y.tree[a], mod) for a in nodes])
         found = cl.solve()
         if found is not None:
-            return ("NO", q[:s.dim], [k for c in region for k, v in enumerate(cl.inputs[c]) if v in found])
+            return ("NO", list(q[:s.dim]) + ["shear", shear] * (shear > 0), [k for c in region for k, v in enumerate(cl.inputs[c]) if v in found])
     return ("UNKNOWN",)
 
 
