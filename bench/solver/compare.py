@@ -1,8 +1,8 @@
 #!/usr/bin/env python3
 """Times the search beside MiniSat: compare.py PROGRAM FOLDER [GROUP..]. For each list of the folder a line with the seconds of processor
 time, user and system, of both whole programs, the least of some turns in which they alternate: five, two where one takes 0.4 seconds, one
-where one takes 4. A run over 120 seconds of processor time is stopped, and counts with that. Then the geometric mean of the quotients
-of each group, and that of these means."""
+where one takes 4. A run over 120 seconds of processor time, as the system's limit counts them, is stopped, and counts with what it took
+until then. Then the geometric mean of the quotients of each group, and that of these means."""
 import math
 import os
 import pathlib
