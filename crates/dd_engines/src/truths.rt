@@ -1,95 +1,96 @@
-//! How many literals of each clause are true, and which clauses have none, in order.
-ghost use Rattle.std.specs.Prelude.{◌≡◌, ◌^◌, ◌<◌, [], ◌∷◌, ◌++◌, length, map, slice_set, slice_index_or, All, IfOk, OnOk, MatchOption};
-ghost use Rattle.std.specs.Ordering.{nat_cmp};
-ghost use Rattle.std.specs.BTreeSet.{contains};
+//! How many literals of each clause are true, and where to look for the first clause that has none. The clauses stand in
+//! blocks of 32, by their numbers. A mark stands at each block where a clause may have no true literal: it is made when a
+//! clause loses its last one, and goes when a look at the block finds none. Blocks before the first have no mark.
+ghost use Rattle.std.specs.Prelude.{◌≡◌, ◌^◌, ◌*◌, ◌<◌, ◌+◌, ◌≤◌, length, map, slice_set, slice_index_or, All, IfOk, MatchOption};
 ghost use Rattle.dd_clause.specs.Clauses.{IsClauseInRange};
-ghost use Rattle.dd_engines.specs.walking.Truths.{IsListed, NoneIsNone, IsFirstNone, changed, more, less, true_count};
+ghost use Rattle.dd_engines.specs.walking.Truths.{IsListed, NoneWithin, IsFirstIn, NoneIsNone, IsFirstNone, changed, more, less, true_count};
 
 use dd_clause::{Clause, Literal};
 use std::alloc::{AllocError, Global};
-use std::collections::BTreeSet;
 
-/// For each clause its number of true literals, and the clauses without one.
+/// For each clause its number of true literals, for each block its mark, and the block to look at first.
 #[derive(Drop)]
 pub struct Truths {
     counts: Vec<usize>,
-    unsatisfied: BTreeSet<usize, Global>,
+    marks: Vec<bool>,
+    first_block: usize,
 }
 
 impl Truths {
     /// What the values make true.
+    #[tactic(auto, using(crate::proofs::Counting::all_marked))]
     pub fn new(alloc: Global, clauses: &[Clause], values: &[bool]) -> Result<Truths, AllocError>
         requires { All (IsClauseInRange (length values.now)) clauses.now }
         ensures counts { IfOk result (λ truths. truths.counts.items ≡ map (true_count values.now) clauses.now) }
-        ensures listed { IfOk result (λ truths. IsListed truths.counts.items (contains nat_cmp truths.unsatisfied)) }
+        ensures listed { IfOk result (λ truths. IsListed truths.counts.items truths.marks.items truths.first_block) }
         ensures short { IfOk result (λ _. All (λ clause. length clause < 2 ^ 64) clauses.now) }
     {
-        let mut truths = Truths {
-            counts: Vec::with_capacity(alloc, clauses.len())?,
-            unsatisfied: BTreeSet::new(alloc),
-        };
+        let mut counts = Vec::with_capacity(alloc, clauses.len())?;
         for clause in clauses {
-            truths.add(count_true(clause.literals(), values))?;
+            counts.push(count_true(clause.literals(), values))?;
         }
-        Ok(truths)
-    }
-
-    /// Takes in the number of the next clause.
-    fn add(&mut self, count: usize) -> Result<(), AllocError>
-        requires listed { IsListed self.old.counts.items (contains nat_cmp self.old.unsatisfied) }
-        ensures counts { OnOk result (self.new.counts.items ≡ self.old.counts.items ++ count ∷ []) }
-        ensures listed { OnOk result (IsListed self.new.counts.items (contains nat_cmp self.new.unsatisfied)) }
-    {
-        if count == 0 {
-            self.unsatisfied.insert(self.counts.len())?;
-        }
-        self.counts.push(count)?;
-        Ok(())
+        Ok(Truths {
+            counts,
+            marks: vec![in alloc; true; clauses.len() / 32 + 1]?,
+            first_block: 0,
+        })
     }
 
     /// One more literal of a clause is true.
+    #[tactic(auto, using(crate::proofs::Counting::some_written))]
     fn raise_one(&mut self, number: usize)
         requires within { number < length self.old.counts.items }
-        requires listed { IsListed self.old.counts.items (contains nat_cmp self.old.unsatisfied) }
+        requires listed { IsListed self.old.counts.items self.old.marks.items self.old.first_block }
         ensures counts { self.new.counts.items ≡ slice_set self.old.counts.items number (more (slice_index_or self.old.counts.items number 0)) }
-        ensures listed { IsListed self.new.counts.items (contains nat_cmp self.new.unsatisfied) }
+        ensures listed { IsListed self.new.counts.items self.new.marks.items self.new.first_block }
     {
-        let count = self.counts[number];
-        if count == 0 {
-            self.unsatisfied.remove(&number);
-        }
-        self.counts[number] = count.saturating_add(1);
+        self.counts[number] = self.counts[number].saturating_add(1);
     }
 
     /// One literal less of a clause is true.
-    fn lower_one(&mut self, number: usize) -> Result<(), AllocError>
+    #[tactic(auto, using(crate::proofs::Counting::some_written, crate::proofs::Counting::written_marked))]
+    fn lower_one(&mut self, number: usize)
         requires within { number < length self.old.counts.items }
-        requires listed { IsListed self.old.counts.items (contains nat_cmp self.old.unsatisfied) }
-        ensures counts { OnOk result (self.new.counts.items ≡ slice_set self.old.counts.items number (less (slice_index_or self.old.counts.items number 0))) }
-        ensures listed { OnOk result (IsListed self.new.counts.items (contains nat_cmp self.new.unsatisfied)) }
+        requires listed { IsListed self.old.counts.items self.old.marks.items self.old.first_block }
+        ensures counts { self.new.counts.items ≡ slice_set self.old.counts.items number (less (slice_index_or self.old.counts.items number 0)) }
+        ensures listed { IsListed self.new.counts.items self.new.marks.items self.new.first_block }
     {
         let count = self.counts[number].saturating_sub(1);
-        if count == 0 {
-            self.unsatisfied.insert(number)?;
-        }
         self.counts[number] = count;
-        Ok(())
+        if count == 0 {
+            let block = number / 32;
+            self.marks[block] = true;
+            self.first_block = self.first_block.min(block);
+        }
     }
 
     /// The first clause without a true literal.
-    pub fn first(&self) -> Option<usize>
-        requires { IsListed self.now.counts.items (contains nat_cmp self.now.unsatisfied) }
-        ensures { MatchOption result (NoneIsNone self.now.counts.items) (IsFirstNone self.now.counts.items) }
+    #[tactic(auto, using(crate::proofs::Counting::passed, crate::proofs::Counting::cleared, crate::proofs::Counting::first_of_all, crate::proofs::Counting::none_left, crate::proofs::Counting::none_listed))]
+    pub fn first(&mut self) -> Option<usize>
+        requires { IsListed self.old.counts.items self.old.marks.items self.old.first_block }
+        ensures first { MatchOption result (NoneIsNone self.old.counts.items) (IsFirstNone self.old.counts.items) }
+        ensures counts { self.new.counts.items ≡ self.old.counts.items }
+        ensures listed { IsListed self.new.counts.items self.new.marks.items self.new.first_block }
     {
-        self.unsatisfied.first().copied()
+        for block in self.first_block..self.marks.len() {
+            if self.marks[block] {
+                if let Some(number) = first_in_block(self.counts.as_slice(), block) {
+                    self.first_block = block;
+                    return Some(number);
+                }
+                self.marks[block] = false;
+            }
+        }
+        self.first_block = self.marks.len();
+        None
     }
 
     /// One more literal of each of these clauses is true.
     pub fn raise(&mut self, numbers: &[usize])
         requires within { All (λ k. k < length self.old.counts.items) numbers.now }
-        requires listed { IsListed self.old.counts.items (contains nat_cmp self.old.unsatisfied) }
+        requires listed { IsListed self.old.counts.items self.old.marks.items self.old.first_block }
         ensures counts { self.new.counts.items ≡ changed more numbers.now self.old.counts.items }
-        ensures listed { IsListed self.new.counts.items (contains nat_cmp self.new.unsatisfied) }
+        ensures listed { IsListed self.new.counts.items self.new.marks.items self.new.first_block }
     {
         for number in numbers {
             self.raise_one(*number);
@@ -97,17 +98,32 @@ impl Truths {
     }
 
     /// One literal less of each of these clauses is true.
-    pub fn lower(&mut self, numbers: &[usize]) -> Result<(), AllocError>
+    pub fn lower(&mut self, numbers: &[usize])
         requires within { All (λ k. k < length self.old.counts.items) numbers.now }
-        requires listed { IsListed self.old.counts.items (contains nat_cmp self.old.unsatisfied) }
-        ensures counts { OnOk result (self.new.counts.items ≡ changed less numbers.now self.old.counts.items) }
-        ensures listed { OnOk result (IsListed self.new.counts.items (contains nat_cmp self.new.unsatisfied)) }
+        requires listed { IsListed self.old.counts.items self.old.marks.items self.old.first_block }
+        ensures counts { self.new.counts.items ≡ changed less numbers.now self.old.counts.items }
+        ensures listed { IsListed self.new.counts.items self.new.marks.items self.new.first_block }
     {
         for number in numbers {
-            self.lower_one(*number)?;
+            self.lower_one(*number);
         }
-        Ok(())
     }
+}
+
+/// The first place of a block that has a count of 0.
+#[tactic(auto, using(crate::proofs::Counting::some_at))]
+fn first_in_block(counts: &[usize], block: usize) -> Option<usize>
+    requires { 32 * block ≤ length counts.now }
+    ensures { MatchOption result (NoneWithin counts.now (32 * block) (32 * block + 32)) (IsFirstIn counts.now block) }
+{
+    let start = 32 * block;
+    let end = counts.len().min(start + 32);
+    for number in start..end {
+        if counts[number] == 0 {
+            return Some(number);
+        }
+    }
+    None
 }
 
 /// How many of the literals the values make true. A list of literals is never longer than a count can say.

@@ -1,11 +1,10 @@
 //! A walk through assignments, from all variables false on: each flip makes a literal of the first clause without a true
 //! literal true. Numbers of true literals, and lists of where each literal stands, let a flip cost what it touches.
-ghost use Rattle.std.specs.Prelude.{◌≡◌, ◌+◌, false, length, replicate, IfOk, OnOk, MatchOption};
-ghost use Rattle.std.specs.Ordering.{nat_cmp};
-ghost use Rattle.std.specs.BTreeSet.{contains};
+ghost use Rattle.std.specs.Prelude.{◌≡◌, ◌+◌, false, length, replicate, IfOk, MatchOption};
 ghost use Rattle.dd_clause.specs.Clauses.{IsLiteralInRange, is_true_under};
 ghost use Rattle.dd_values.specs.Variables.{true_variables};
 ghost use Rattle.dd_engines.specs.Walks.{made_true, IsFirstOnWalk, NoneBefore};
+ghost use Rattle.dd_engines.specs.walking.Truths.{NoneIsNone, IsFirstNone};
 ghost use Rattle.dd_engines.specs.walking.Walking.{Walks};
 
 use crate::occurrences::Occurrences;
@@ -24,7 +23,7 @@ struct Walk {
 impl Walk {
     fn new(alloc: Global, cnf: &Cnf) -> Result<Walk, AllocError>
         ensures start { IfOk result (λ walk. walk.values.items ≡ replicate cnf.now.variables false) }
-        ensures walks { IfOk result (λ walk. Walks cnf.now.clauses walk.values.items walk.truths.counts.items (contains nat_cmp walk.truths.unsatisfied) walk.occurrences.lists.items) }
+        ensures walks { IfOk result (λ walk. Walks cnf.now.clauses walk.values.items walk.truths.counts.items walk.truths.marks.items walk.truths.first_block walk.occurrences.lists.items) }
     {
         let values = vec![in alloc; false; cnf.variables() as usize]?;
         let truths = Truths::new(alloc, cnf.clauses(), values.as_slice())?;
@@ -44,18 +43,28 @@ impl Walk {
         Assignment::new(values)
     }
 
+    /// The first clause without a true literal.
+    #[tactic(auto, using(crate::proofs::Walking::looked_walks))]
+    fn first(&mut self, clauses: &[Clause]) -> Option<usize>
+        requires { Walks clauses.now self.old.values.items self.old.truths.counts.items self.old.truths.marks.items self.old.truths.first_block self.old.occurrences.lists.items }
+        ensures first { MatchOption result (NoneIsNone self.new.truths.counts.items) (IsFirstNone self.new.truths.counts.items) }
+        ensures values { self.new.values.items ≡ self.old.values.items }
+        ensures walks { Walks clauses.now self.new.values.items self.new.truths.counts.items self.new.truths.marks.items self.new.truths.first_block self.new.occurrences.lists.items }
+    {
+        self.truths.first()
+    }
+
     /// Makes a literal true that is false.
-    fn flip(&mut self, clauses: &[Clause], literal: Literal) -> Result<(), AllocError>
+    fn flip(&mut self, clauses: &[Clause], literal: Literal)
         requires range { IsLiteralInRange (length self.old.values.items) literal }
         requires other { is_true_under (true_variables self.old.values.items) literal ≡ false }
-        requires walks { Walks clauses.now self.old.values.items self.old.truths.counts.items (contains nat_cmp self.old.truths.unsatisfied) self.old.occurrences.lists.items }
-        ensures values { OnOk result (self.new.values.items ≡ made_true self.old.values.items literal) }
-        ensures walks { OnOk result (Walks clauses.now self.new.values.items self.new.truths.counts.items (contains nat_cmp self.new.truths.unsatisfied) self.new.occurrences.lists.items) }
+        requires walks { Walks clauses.now self.old.values.items self.old.truths.counts.items self.old.truths.marks.items self.old.truths.first_block self.old.occurrences.lists.items }
+        ensures values { self.new.values.items ≡ made_true self.old.values.items literal }
+        ensures walks { Walks clauses.now self.new.values.items self.new.truths.counts.items self.new.truths.marks.items self.new.truths.first_block self.new.occurrences.lists.items }
     {
         self.values[literal.variable as usize - 1] = literal.positive;
         self.truths.raise(self.occurrences.of(literal));
-        self.truths.lower(self.occurrences.of(literal.negation()))?;
-        Ok(())
+        self.truths.lower(self.occurrences.of(literal.negation()));
     }
 }
 
@@ -66,16 +75,16 @@ pub fn first_found(alloc: Global, cnf: &Cnf, flips: u32) -> Result<Option<Assign
     let clauses = cnf.clauses();
     let mut walk = Walk::new(alloc, cnf)?;
     for k in 0..flips {
-        let Some(number) = walk.truths.first() else {
+        let Some(number) = walk.first(clauses) else {
             return Ok(Some(walk.into_assignment()));
         };
         let literals = clauses[number].literals();
         if literals.is_empty() {
             return Ok(None);
         }
-        walk.flip(clauses, literals[k as usize % literals.len()])?;
+        walk.flip(clauses, literals[k as usize % literals.len()]);
     }
-    match walk.truths.first() {
+    match walk.first(clauses) {
         Some(_) => Ok(None),
         None => Ok(Some(walk.into_assignment())),
     }

@@ -1,5 +1,5 @@
 -- How many literals of each clause are true, where each literal stands, and how a flip changes the numbers.
-use Rattle.std.specs.Prelude.{◌≡◌, ℕ, ◌+◌, ◌-◌, ◌*◌, ◌^◌, ◌<◌, ◌≤◌, ◌==◌, min, if◌then◌else◌, Bool, false, List, [], ◌∷◌, ◌++◌, length, replicate, count_by, slice_get, slice_index_or, slice_set}
+use Rattle.std.specs.Prelude.{◌≡◌, ℕ, ◌+◌, ◌-◌, ◌*◌, ◌/◌, ◌^◌, ◌<◌, ◌≤◌, ◌==◌, min, if◌then◌else◌, Bool, true, false, List, [], ◌∷◌, ◌++◌, length, replicate, count_by, slice_get, slice_index_or, slice_set}
 use Rattle.std.specs.Option.{option_map_or}
 use Rattle.dd_clause.specs.declared.clause.Literal.{Literal}
 use Rattle.dd_clause.specs.Clauses.{is_true_under}
@@ -49,9 +49,23 @@ changed f (k ∷ ks) counts = changed f ks (slice_set counts k (f (slice_index_o
 abbrev pub is_none_at : List ℕ → ℕ → Bool
 is_none_at counts k = option_map_or (λ count. count == 0) (slice_get counts k) false
 
--- exactly the places with a count of 0 are listed
-abbrev pub IsListed : List ℕ → (ℕ → Bool) → Type 0
-IsListed counts listed = (k : ℕ) → listed k ≡ is_none_at counts k
+-- The places stand in blocks of 32. There is a mark for each block; a place with a count of 0 has a mark at its block, which
+-- is not before the start.
+pub record IsListed (counts : List ℕ) (marks : List Bool) (start : ℕ) : Type 0 where
+  pub long : length marks ≡ length counts / 32 + 1
+  pub after : (k : ℕ) → is_none_at counts k ≡ true → start ≤ k / 32
+  pub marked : (k : ℕ) → is_none_at counts k ≡ true → slice_index_or marks (k / 32) false ≡ true
+
+-- no place from one on and before another has a count of 0
+abbrev pub NoneWithin : List ℕ → ℕ → ℕ → Type 0
+NoneWithin counts first end = (k : ℕ) → first ≤ k → k < end → is_none_at counts k ≡ false
+
+-- the first place of a block that has a count of 0
+pub record IsFirstIn (counts : List ℕ) (block place : ℕ) : Type 0 where
+  pub inside : (32 * block ≤ place) × (place < 32 * block + 32)
+  pub within : place < length counts
+  pub none : slice_index_or counts place 0 ≡ 0
+  pub before : NoneWithin counts (32 * block) place
 
 -- no place has a count of 0
 abbrev pub NoneIsNone : List ℕ → Type 0

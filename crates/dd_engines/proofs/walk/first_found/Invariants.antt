@@ -1,13 +1,11 @@
 use Rattle.std.proofs.Common.{◌≡◌, Some, length}
-use Rattle.std.specs.Ordering.{nat_cmp}
-use Rattle.std.specs.BTreeSet.{contains}
 use Rattle.dd_engines.specs.Walks.{values_after, NoneBefore}
 use Rattle.dd_engines.specs.walking.Walking.{Walks}
 use Rattle.dd_engines.proofs.walk.first_found.Given as goal
 
 abbrev pub invariant-loop-k : goal.invariant-loop-k
 invariant-loop-k l = record {
-  walks : Walks l.cnf.clauses l.walk.values.items l.walk.truths.counts.items (contains nat_cmp l.walk.truths.unsatisfied) l.walk.occurrences.lists.items;
+  walks : Walks l.cnf.clauses l.walk.values.items l.walk.truths.counts.items l.walk.truths.marks.items l.walk.truths.first_block l.walk.occurrences.lists.items;
   long : length l.walk.values.items ≡ l.cnf.variables;
   reached : values_after l.cnf l.k ≡ Some l.walk.values.items;
   none_before : NoneBefore l.cnf l.k;

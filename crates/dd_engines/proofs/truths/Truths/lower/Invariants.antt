@@ -1,6 +1,4 @@
 use Rattle.std.proofs.Common.{◌≡◌, drop, length}
-use Rattle.std.specs.Ordering.{nat_cmp}
-use Rattle.std.specs.BTreeSet.{contains}
 use Rattle.dd_engines.specs.walking.Truths.{IsListed, changed, less}
 use Rattle.dd_engines.proofs.truths.Truths.lower.Given as goal
 
@@ -8,5 +6,5 @@ abbrev pub invariant-loop-number : goal.invariant-loop-number
 invariant-loop-number l = record {
   counts : changed less (drop l.number-index l.numbers) l.self.counts.items ≡ changed less l.numbers l.initial.self.counts.items;
   long : length l.self.counts.items ≡ length l.initial.self.counts.items;
-  listed : IsListed l.self.counts.items (contains nat_cmp l.self.unsatisfied);
+  listed : IsListed l.self.counts.items l.self.marks.items l.self.first_block;
 }

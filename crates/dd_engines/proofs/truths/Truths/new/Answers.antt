@@ -10,6 +10,5 @@ loop-clause-preserved c =
     let same : c.literals.result.now ≡ get_or c.args.clauses.now c.loop-clause.clause-index c.clause-item.result = c.literals.ensures ∙ c.clause-item.is in
     record {
       counts = grind (arith, common_steps);
-      listed = c.in_ok-add.ensures.listed;
       short = All-more P c.args.clauses.now c.loop-clause.clause-index c.clause-item.result (omega arith) c.loop-clause.invariant.short (subst P same c.count_true.ensures.short);
     }
