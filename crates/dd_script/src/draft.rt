@@ -1,15 +1,17 @@
 //! A script as far as its commands have been gone through.
-ghost use Rattle.std.specs.Prelude.{◌≡◌, ◌+◌, OnOk, IfOk, MatchResult};
+ghost use Rattle.std.specs.Prelude.{◌≡◌, ◌+◌, ◌-◌, ◌^◌, ◌<◌, length, Contains, OnOk, IfOk, MatchResult};
 ghost use Rattle.dd_values.specs.Bounds.{most_commands};
+ghost use Rattle.dd_written.specs.Values.{word_text};
 ghost use Rattle.dd_commands.specs.Scripts.{IsWritten};
 ghost use Rattle.dd_faults.specs.Sound.{IsSound, HasFewer};
+ghost use Rattle.dd_meanings.specs.declared.meaning.Meaning.TheVariants as meant;
 ghost use Rattle.dd_meanings.specs.Sound.{IsSoundMeaning};
 ghost use Rattle.dd_script.specs.Parts.{IsScriptOf};
 ghost use Rattle.dd_script.specs.Walk.{start};
 ghost use Rattle.dd_script.specs.drafting.Standing.{IsReady};
 ghost use Rattle.dd_script.specs.drafting.Drafts.{parts_of, draft_of, with_meaning, Leaves, Stays};
 
-use crate::known::{add_name, restrict, set_nodes, set_symbols, start};
+use crate::known::{add_name, restrict, set_nodes, set_symbols, set_topology, set_weights, start};
 use crate::script::{Contents, Script};
 use dd_commands::Written;
 use dd_faults::{Context, Refusal, check};
@@ -18,7 +20,7 @@ use dd_meanings::{Meaning, mean};
 use dd_pattern::Periodic;
 use dd_query::Query;
 use dd_values::{Boxed, Items};
-use dd_written::Text;
+use dd_written::{Text, Word};
 use std::alloc::{AllocError, Global};
 
 /// A script as far as its commands have been gone through, and where the next command stands.
@@ -52,6 +54,57 @@ impl Draft {
         })
     }
 
+    /// Adds a rule and its name.
+    fn add_rule(&mut self, alloc: Global, name: Word, rule: Rule) -> Result<(), AllocError>
+        requires few { length self.old.context.known.rules < 2 ^ 32 - 1 }
+        requires new { ¬ Contains self.old.context.known.rules (word_text self.old.context.text name) }
+        ensures added { OnOk result (self.new ≡ with_meaning self.old (meant.Rule name rule)) }
+        ensures text { self.new.context.text ≡ self.old.context.text }
+    {
+        self.rules.push(rule)?;
+        let context = &mut self.context;
+        add_name(alloc, &context.text, &mut context.known.rules, name)
+    }
+
+    /// Adds an automaton and its name.
+    fn add_automaton(
+        &mut self,
+        alloc: Global,
+        name: Word,
+        automaton: Automaton,
+    ) -> Result<(), AllocError>
+        requires few { length self.old.context.known.automata < 2 ^ 32 - 1 }
+        requires new { ¬ Contains self.old.context.known.automata (word_text self.old.context.text name) }
+        ensures added { OnOk result (self.new ≡ with_meaning self.old (meant.Automaton name automaton)) }
+        ensures text { self.new.context.text ≡ self.old.context.text }
+    {
+        self.automata.push(automaton)?;
+        let context = &mut self.context;
+        add_name(alloc, &context.text, &mut context.known.automata, name)
+    }
+
+    /// Adds a configuration and its name.
+    fn add_configuration(
+        &mut self,
+        alloc: Global,
+        name: Word,
+        configuration: Periodic,
+    ) -> Result<(), AllocError>
+        requires few { length self.old.context.known.configurations < 2 ^ 32 - 1 }
+        requires new { ¬ Contains self.old.context.known.configurations (word_text self.old.context.text name) }
+        ensures added { OnOk result (self.new ≡ with_meaning self.old (meant.Configuration name configuration)) }
+        ensures text { self.new.context.text ≡ self.old.context.text }
+    {
+        self.configurations.push(configuration)?;
+        let context = &mut self.context;
+        add_name(
+            alloc,
+            &context.text,
+            &mut context.known.configurations,
+            name,
+        )
+    }
+
     /// Adds what a command means.
     fn add(&mut self, alloc: Global, meaning: Meaning) -> Result<(), AllocError>
         requires sound { IsSound self.old.context.known }
@@ -62,7 +115,7 @@ impl Draft {
     {
         match meaning {
             Meaning::Topology(topology) => {
-                self.context.known.setting.topology = topology;
+                set_topology(&mut self.context.known, topology);
                 Ok(())
             }
             Meaning::Nodes {
@@ -71,40 +124,21 @@ impl Draft {
                 topology,
             } => set_nodes(alloc, &mut self.context.known, nodes, given, topology),
             Meaning::Symbols(symbols) => set_symbols(alloc, &mut self.context.known, symbols),
-            Meaning::Only { node, symbols } => {
-                restrict(&mut self.context.known, node, symbols.as_slice())
-            }
+            Meaning::Only { node, symbols } => restrict(&mut self.context.known, node, symbols),
             Meaning::Weights(weights) => {
-                self.context.known.weights = weights;
+                set_weights(&mut self.context.known, weights);
                 Ok(())
             }
             Meaning::Limits(limits) => {
                 self.context.known.limits = limits;
                 Ok(())
             }
-            Meaning::Rule { name, rule } => {
-                let context = &mut self.context;
-                add_name(alloc, &context.text, &mut context.known.rules, name)?;
-                self.rules.push(rule)
-            }
-            Meaning::Automaton { name, automaton } => {
-                let context = &mut self.context;
-                add_name(alloc, &context.text, &mut context.known.automata, name)?;
-                self.automata.push(automaton)
-            }
+            Meaning::Rule { name, rule } => self.add_rule(alloc, name, rule),
+            Meaning::Automaton { name, automaton } => self.add_automaton(alloc, name, automaton),
             Meaning::Configuration {
                 name,
                 configuration,
-            } => {
-                let context = &mut self.context;
-                add_name(
-                    alloc,
-                    &context.text,
-                    &mut context.known.configurations,
-                    name,
-                )?;
-                self.configurations.push(configuration)
-            }
+            } => self.add_configuration(alloc, name, configuration),
             Meaning::Query(query) => self.queries.push(query),
         }
     }

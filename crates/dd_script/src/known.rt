@@ -149,13 +149,27 @@ pub(crate) fn set_symbols(
 }
 
 /// A node allows exactly these symbols, and is restricted.
-pub(crate) fn restrict(known: &mut Known, node: u32, symbols: &[u32]) -> Result<(), AllocError>
+pub(crate) fn restrict(known: &mut Known, node: u32, symbols: Items<u32>) -> Result<(), AllocError>
     requires node { node < length known.old.setting.sets.allowed }
-    requires symbols { All (λ s. s < known.old.setting.sets.symbols) symbols.now }
-    requires some { 1 ≤ length symbols.now }
-    ensures { OnOk result (known.new ≡ record (known.old) { setting = record (known.old.setting) { sets = restricted known.old.setting.sets node symbols.now }; restricted = known.old.restricted ++ node ∷ [] }) }
+    requires symbols { All (λ s. s < known.old.setting.sets.symbols) symbols }
+    requires some { 1 ≤ length symbols }
+    ensures { OnOk result (known.new ≡ record (known.old) { setting = record (known.old.setting) { sets = restricted known.old.setting.sets node symbols }; restricted = known.old.restricted ++ node ∷ [] }) }
 {
     known.restricted.push(node)?;
-    known.setting.sets.restrict(node, symbols);
+    known.setting.sets.restrict(node, symbols.as_slice());
     Ok(())
+}
+
+/// Another topology of the same nodes.
+pub(crate) fn set_topology(known: &mut Known, topology: Topology)
+    ensures { known.new ≡ record (known.old) { setting = record (known.old.setting) { topology = topology } } }
+{
+    known.setting.topology = topology;
+}
+
+/// Other weights.
+pub(crate) fn set_weights(known: &mut Known, weights: Items<u32>)
+    ensures { known.new ≡ record (known.old) { weights = weights } }
+{
+    known.weights = weights;
 }
