@@ -1,7 +1,8 @@
 //! What is known where a script has said nothing, and what commands change of it.
 ghost use Rattle.std.specs.Prelude.{◌≡◌, ◌-◌, ◌^◌, ◌<◌, ◌≤◌, [], ◌∷◌, ◌++◌, length, codes, All, Contains, IfOk, OnOk};
 ghost use Rattle.std.specs.List.{range_with_len};
-ghost use Rattle.dd_topology.specs.Sets.{restricted};
+ghost use Rattle.dd_topology.specs.Grid.{IsGrid};
+ghost use Rattle.dd_topology.specs.Sets.{IsSets, restricted};
 ghost use Rattle.dd_written.specs.Values.{word_text};
 ghost use Rattle.dd_faults.specs.Sound.{IsSound};
 ghost use Rattle.dd_script.specs.Walk.{known_start, unrestricted};
@@ -58,25 +59,35 @@ fn zero_and_one(alloc: Global) -> Result<Names, AllocError>
     Ok(names)
 }
 
+/// What formulas may speak of where a script has said nothing: the square grid with the node 0, and the symbols 0 and 1.
+fn setting_at_start(alloc: Global) -> Result<Setting, AllocError>
+    ensures known { IfOk result (λ setting. setting ≡ known_start.setting) }
+    ensures grid { OnOk result (IsGrid known_start.setting.topology) }
+    ensures sets { OnOk result (IsSets 1 known_start.setting.sets) }
+{
+    let sets = Sets::new(alloc, 1, 2)?;
+    let nodes = zero(alloc)?;
+    let symbols = zero_and_one(alloc)?;
+    let topology = Topology::builtin(alloc, Kind::Square)?;
+    let _dimension = topology.dim();
+    Ok(Setting {
+        nodes,
+        symbols,
+        topology,
+        sets,
+    })
+}
+
 /// What holds where a script has said nothing: the square grid with the node 0, and the symbols 0 and 1 with their numbers as
 /// weights.
 pub(crate) fn start(alloc: Global) -> Result<Known, AllocError>
     ensures known { IfOk result (λ known. known ≡ known_start) }
     ensures sound { OnOk result (IsSound known_start) }
 {
-    let nodes = zero(alloc)?;
-    let symbols = zero_and_one(alloc)?;
-    let topology = Topology::builtin(alloc, Kind::Square)?;
-    let _dimension = topology.dim();
-    let sets = Sets::new(alloc, 1, 2)?;
     let weights = Items::from_slice(alloc, &[0, 1])?;
+    let setting = setting_at_start(alloc)?;
     Ok(Known {
-        setting: Setting {
-            nodes,
-            symbols,
-            topology,
-            sets,
-        },
+        setting,
         nodes_are_given: false,
         restricted: Items::new(alloc),
         weights,
