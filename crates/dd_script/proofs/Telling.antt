@@ -24,6 +24,12 @@ pub each_written : (text t : List ℕ) (ws vs : List Written) → t ≡ text →
 each_written text t ws vs same_text same all =
     subst (λ (x : List ℕ). All (IsWritten x) vs) (sym same_text) (subst (All (IsWritten text)) (sym same) all)
 
+-- the tree of the same text and commands
+pub tree_of : (t : List ℕ) (tree : Syntax) (ws : List Written) → t ≡ tree.text → ws ≡ tree.commands → IsScript tree.text tree → IsScript t (record { text = t; commands = ws })
+tree_of t tree ws same_text same written =
+    subst (λ (x : List ℕ). IsScript x (record { text = x; commands = ws })) (sym same_text)
+    (subst (λ (vs : List Written). IsScript tree.text (record { text = tree.text; commands = vs })) (sym same) written)
+
 pub in_order : (text : List ℕ) (tree : Syntax) (ws : List Written) → IsScript text tree → ws ≡ tree.commands → AreOrdered 0 ws
 in_order text tree ws written same = subst (AreOrdered 0) (sym same) (ordered text 0 (parts (lexemes_of text)).1 tree.commands written.1.1)
 

@@ -2,14 +2,16 @@
 ghost use Rattle.std.specs.Prelude.{◌≡◌, ◌≤◌, length, All, IfOk, IfErr};
 ghost use Rattle.dd_values.specs.Bounds.{most_script};
 ghost use Rattle.dd_commands.specs.Scripts.{IsScript, IsWritten};
+ghost use Rattle.dd_script.specs.Parts.{IsScriptOf};
 ghost use Rattle.dd_script.specs.Scripts.{Spells, IsScriptRefusal};
-ghost use Rattle.dd_script.specs.drafting.Drafts.{StopsIn, IsKindOf, IsUnread};
+ghost use Rattle.dd_script.specs.Walk.{start, has_topology};
+ghost use Rattle.dd_script.specs.drafting.Drafts.{draft_of, StopsIn, IsKindOf, IsUnread};
 
 use crate::draft::Draft;
 use crate::fault::{ScriptFault, ScriptKind};
 use crate::script::Script;
 use crate::walking::{has_topology, walk};
-use dd_commands::{Syntax, SyntaxFault, read};
+use dd_commands::{Syntax, SyntaxFault, Written, read};
 use dd_faults::{Context, Fault, Refusal};
 use dd_written::{Text, name_text};
 use std::alloc::{AllocError, Global};
@@ -73,6 +75,28 @@ fn told(alloc: Global, context: &Context, refusal: Refusal) -> ScriptFault
     }
 }
 
+/// The script of commands behind the draft of their text before the first, or why they make none.
+fn script_from(alloc: Global, mut draft: Draft, commands: &[Written]) -> Result<Script, ScriptFault>
+    requires begun { draft ≡ draft_of draft.context.text (has_topology commands.now) 1 start }
+    requires kept { IsScriptOf start }
+    requires written { IsScript draft.context.text (record { text = draft.context.text; commands = commands.now }) }
+    requires each { All (IsWritten draft.context.text) commands.now }
+    ensures spelled { IfOk result (Spells draft.context.text) }
+    ensures refused { IfErr result (IsScriptRefusal draft.context.text) }
+{
+    match walk(alloc, &mut draft, commands) {
+        Ok(()) => match draft.into_script(alloc) {
+            Ok(script) => Ok(script),
+            Err(_) => Err(memory()),
+        },
+        Err(refusal) => {
+            let fault = told(alloc, &draft.context, refusal);
+            drop(draft);
+            Err(fault)
+        }
+    }
+}
+
 /// The script of what is written, or why it makes none.
 fn script_of(alloc: Global, syntax: Syntax) -> Result<Script, ScriptFault>
     requires written { IsScript syntax.text syntax }
@@ -82,16 +106,9 @@ fn script_of(alloc: Global, syntax: Syntax) -> Result<Script, ScriptFault>
 {
     let Syntax { text, commands } = syntax;
     let later = has_topology(commands.as_slice());
-    let mut draft = match Draft::new(alloc, text, later) {
-        Ok(draft) => draft,
-        Err(_) => return Err(memory()),
-    };
-    match walk(alloc, &mut draft, commands.as_slice()) {
-        Ok(()) => match draft.into_script(alloc) {
-            Ok(script) => Ok(script),
-            Err(_) => Err(memory()),
-        },
-        Err(refusal) => Err(told(alloc, &draft.context, refusal)),
+    match Draft::new(alloc, text, later) {
+        Ok(draft) => script_from(alloc, draft, commands.as_slice()),
+        Err(_) => Err(memory()),
     }
 }
 
