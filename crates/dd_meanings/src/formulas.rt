@@ -1,15 +1,15 @@
 //! Formulas with numbers in place of names.
-ghost use Rattle.std.specs.Prelude.{◌≡◌, ◌+◌, ◌≤◌, [], ◌∷◌, ◌++◌, length, map, IfOk};
+ghost use Rattle.std.specs.Prelude.{◌≡◌, ◌+◌, ◌≤◌, [], ◌∷◌, ◌++◌, length, map, max, IfOk};
 ghost use Rattle.std.specs.List.{flat_map};
 ghost use Rattle.dd_written.specs.Formulas.{tree_depth, greatest_depth};
-ghost use Rattle.dd_faults.specs.Formulas.{formula_faults};
-ghost use Rattle.dd_meanings.specs.Formulas.{formula_of, joined_of, quantified_of};
+ghost use Rattle.dd_faults.specs.Formulas.{ball_faults, formula_faults};
+ghost use Rattle.dd_meanings.specs.Formulas.{ball_of, formula_of, joined_of, quantified_of};
 
 use crate::atoms::{atom, balls};
 use dd_expansion::{BallOf, Formula};
 use dd_faults::Context;
 use dd_values::{Boxed, Items};
-use dd_written::{Formula as Written, Join, Quantor, Word};
+use dd_written::{Ball, Formula as Written, Join, Quantor, Word};
 use std::alloc::{AllocError, Global};
 
 /// The scope in the body of a quantifier.
@@ -55,19 +55,18 @@ fn formula_in(
     match formula {
         Written::Atom(written) => atom(alloc, context, scope, written),
         Written::Not(inner) => {
-            let negated = formula_in(alloc, context, scope, inner.get())?;
-            Ok(Formula::Not(Boxed::new(alloc, negated)?))
+            let negated = boxed_in(alloc, context, scope, inner.get())?;
+            Ok(Formula::Not(negated))
         }
         Written::Quantified {
             quantor,
             variable,
-            balls: written,
+            balls,
             body,
         } => {
-            let balls = balls(alloc, context, scope, written.as_slice())?;
-            let inner = within(alloc, scope, *variable)?;
-            let body = formula_in(alloc, context, inner.as_slice(), body.get())?;
-            Ok(quantified(*quantor, balls, Boxed::new(alloc, body)?))
+            let balls = balls.as_slice();
+            let body = body.get();
+            quantified_in(alloc, context, scope, *quantor, *variable, balls, body)
         }
         Written::Group(inner) => formula_in(alloc, context, scope, inner.get()),
         Written::List { join, members } => {
@@ -78,16 +77,72 @@ fn formula_in(
             premise,
             conclusion,
         } => {
-            let premise = formula_in(alloc, context, scope, premise.get())?;
-            let conclusion = formula_in(alloc, context, scope, conclusion.get())?;
-            Ok(Formula::Implies(Boxed::new(alloc, premise)?, Boxed::new(alloc, conclusion)?))
+            let (left, right) = both_in(alloc, context, scope, premise.get(), conclusion.get())?;
+            Ok(Formula::Implies(left, right))
         }
         Written::Iff { left, right } => {
-            let left = formula_in(alloc, context, scope, left.get())?;
-            let right = formula_in(alloc, context, scope, right.get())?;
-            Ok(Formula::Iff(Boxed::new(alloc, left)?, Boxed::new(alloc, right)?))
+            let (left, right) = both_in(alloc, context, scope, left.get(), right.get())?;
+            Ok(Formula::Iff(left, right))
         }
     }
+}
+
+/// The same, on the heap.
+#[cycle(meaning)]
+fn boxed_in(
+    alloc: Global,
+    context: &Context,
+    scope: &[Word],
+    formula: &Written,
+) -> Result<Boxed<Formula>, AllocError>
+    requires shallow { length scope.now + tree_depth formula.now ≤ 64 }
+    requires faultless { formula_faults context.now formula.now scope.now ≡ [] }
+    ensures { IfOk result (λ f. f ≡ formula_of context.now formula.now scope.now) }
+{
+    let meant = formula_in(alloc, context, scope, formula)?;
+    Boxed::new(alloc, meant)
+}
+
+/// The same of two formulas.
+#[cycle(meaning)]
+fn both_in(
+    alloc: Global,
+    context: &Context,
+    scope: &[Word],
+    left: &Written,
+    right: &Written,
+) -> Result<(Boxed<Formula>, Boxed<Formula>), AllocError>
+    requires shallow { length scope.now + max (tree_depth left.now) (tree_depth right.now) ≤ 64 }
+    requires left { formula_faults context.now left.now scope.now ≡ [] }
+    requires right { formula_faults context.now right.now scope.now ≡ [] }
+    ensures left { IfOk result (λ both. both.0 ≡ formula_of context.now left.now scope.now) }
+    ensures right { IfOk result (λ both. both.1 ≡ formula_of context.now right.now scope.now) }
+{
+    let left = boxed_in(alloc, context, scope, left)?;
+    let right = boxed_in(alloc, context, scope, right)?;
+    Ok((left, right))
+}
+
+/// The formula of a quantifier with its balls and its body.
+#[cycle(meaning)]
+fn quantified_in(
+    alloc: Global,
+    context: &Context,
+    scope: &[Word],
+    quantor: Quantor,
+    variable: Word,
+    written: &[Ball],
+    body: &Written,
+) -> Result<Formula, AllocError>
+    requires shallow { length scope.now + (1 + tree_depth body.now) ≤ 64 }
+    requires balls { flat_map (ball_faults context.now scope.now) written.now ≡ [] }
+    requires body { formula_faults context.now body.now (scope.now ++ variable ∷ []) ≡ [] }
+    ensures { IfOk result (λ f. f ≡ quantified_of quantor (map (ball_of context.now scope.now) written.now) (formula_of context.now body.now (scope.now ++ variable ∷ []))) }
+{
+    let balls = balls(alloc, context, scope, written)?;
+    let inner = within(alloc, scope, variable)?;
+    let body = boxed_in(alloc, context, inner.as_slice(), body)?;
+    Ok(quantified(quantor, balls, body))
 }
 
 #[cycle(meaning)]
