@@ -1,6 +1,6 @@
 -- What holds of a formula, at its parts.
-use Rattle.std.proofs.Common.{◌≡◌, ℕ, zero, suc, ◌+◌, ◌*◌, ◌<◌, ◌≤◌, Bool, true, false, cond, List, [], ◌∷◌, ◌++◌, length, map, take, get_or, ap, sym, ◌∙◌, subst, arith}
-use Rattle.std.specs.Prelude.{nat_le}
+use Rattle.std.proofs.Common.{◌≡◌, ℕ, zero, suc, ◌+◌, ◌*◌, ◌<◌, ◌≤◌, Bool, true, false, cond, List, [], ◌∷◌, ◌++◌, length, map, take, get_or, Result, Ok, Err, ap, sym, ◌∙◌, subst, arith}
+use Rattle.std.specs.Prelude.{nat_le, IfOk, IfErr}
 use Rattle.std.specs.List.{list_all, sum_by}
 use Rattle.std.proofs.lemmas.Bool.{and_parts}
 use Rattle.std.proofs.lemmas.List.{take_more, map-append, length-append}
@@ -16,6 +16,8 @@ use Rattle.dd_expansion.specs.declared.formulas.Formula.TheFolds.{fold-roll-Form
 use Rattle.dd_expansion.specs.declared.formulas.Formula.TheOpen.{Formula-F}
 use Rattle.dd_expansion.specs.Limits.{balls_fit, formula_fits, formula_fits_step, greatest, depth, depth_step}
 use Rattle.dd_expansion.specs.Near.{AreNear}
+use Rattle.dd_expansion.specs.Budget.{IsPaid}
+use Rattle.dd_expansion.specs.declared.fault.ExpansionFault.{ExpansionFault}
 use Rattle.dd_expansion.specs.lemmas.Layers.{fits_and, depth_and}
 
 all_at : {X : Type 0} (test : X → Bool) (xs : List X) (i : ℕ) (d : X) → list_all test xs ≡ true → i < length xs → test (get_or xs i d) ≡ true
@@ -100,3 +102,9 @@ paid_more cost xs i x left now first within is before one = omega (arith, sum_by
 pub few_for_all : {X : Type 0} (cost : X → ℕ) (xs : List X) (i : ℕ) (x : X) (left first before : ℕ) → i < length xs → x ≡ get_or xs i x → left + sum_by cost (take i xs) ≡ first → first + 1 ≡ before → left < cost x →
     before < 1 + sum_by cost xs
 few_for_all cost xs i x left first before within is paid gate few = omega (arith, sum_by_more_le cost xs i x within, ap cost is, paid, gate, few)
+
+-- what was paid is paid in another form
+pub paid_as : {S T : Type 0} (f : S → T) (before after cost : ℕ) (value : S) (r : Result S ExpansionFault) (r' : Result T ExpansionFault) → IfOk r (λ x. r' ≡ Ok (f x)) → IfErr r (λ e. r' ≡ Err e) → IsPaid before after value cost r →
+    IsPaid before after (f value) cost r'
+paid_as f before after cost value (Ok x) r' made fault paid = subst (IsPaid before after (f value) cost) (sym made) (ap f paid.0, paid.1)
+paid_as f before after cost value (Err e) r' made fault few = subst (IsPaid before after (f value) cost) (sym fault) few

@@ -1,5 +1,5 @@
 //! The expansion of a formula at a cell, within a budget of nodes.
-ghost use Rattle.std.specs.Prelude.{◌≡◌, ◌+◌, ◌*◌, ◌<◌, ◌≤◌, ◌∷◌, ◌++◌, [], true, length, map, IfOk, IfErr};
+ghost use Rattle.std.specs.Prelude.{◌≡◌, ◌+◌, ◌*◌, ◌<◌, ◌≤◌, ◌∷◌, ◌++◌, [], true, length, map, Ok, Err, IfOk, IfErr};
 ghost use Rattle.std.specs.List.{sum_by};
 ghost use Rattle.dd_lattice.specs.InOrder.{in_order};
 ghost use Rattle.dd_expansion.specs.declared.fault.ExpansionFault.TheVariants.{Instances};
@@ -7,7 +7,7 @@ ghost use Rattle.dd_expansion.specs.Terms.{cell_of, balls_of, origin_at};
 ghost use Rattle.dd_expansion.specs.Limits.{term_fits, formula_fits, depth, IsFormula};
 ghost use Rattle.dd_expansion.specs.Near.{AreNear};
 ghost use Rattle.dd_expansion.specs.Leaves.{instances};
-ghost use Rattle.dd_expansion.specs.Expansion.{expansion, negated, any_of, both_alike};
+ghost use Rattle.dd_expansion.specs.Expansion.{expansion, negated, any_of};
 ghost use Rattle.dd_expansion.specs.Budget.{IsPaid};
 
 use crate::atoms::{
@@ -98,31 +98,62 @@ impl<'a> Scope<'a> {
             }
             Formula::Place { left, right } => place_at(self.cell(left), self.cell(right), budget),
             Formula::Node { term, node } => node_at(*node, self.cell(term), budget),
-            Formula::Not(inner) => {
-                let part = self.expand(inner.get(), budget)?;
-                negated(alloc, part, budget)
-            }
-            Formula::And(parts) => Ok(Expanded::And(self.expand_all(parts.as_slice(), budget)?)),
-            Formula::Or(parts) => Ok(Expanded::Or(self.expand_all(parts.as_slice(), budget)?)),
+            Formula::Not(inner) => self.expand_not(inner, budget),
+            Formula::And(parts) => conjunction(self.expand_all(parts.as_slice(), budget)),
+            Formula::Or(parts) => disjunction(self.expand_all(parts.as_slice(), budget)),
             Formula::Implies(premise, conclusion) => {
                 spend(budget, 2)?;
-                let one = self.expand(premise.get(), budget)?;
+                let one = self.expand_boxed(premise, budget)?;
                 let other = self.expand(conclusion.get(), budget)?;
                 Ok(implied(alloc, one, other)?)
             }
             Formula::Iff(first, second) => {
                 spend(budget, 1)?;
-                let one = self.expand(first.get(), budget)?;
-                let other = self.expand(second.get(), budget)?;
-                Ok(alike(alloc, one, other)?)
+                let one = self.expand_boxed(first, budget)?;
+                let other = self.expand_boxed(second, budget)?;
+                Ok(Expanded::Iff(one, other))
             }
             Formula::ForAll { balls, body } => {
-                Ok(Expanded::And(self.expand_over(balls.as_slice(), body, budget)?))
+                conjunction(self.expand_over(balls.as_slice(), body, budget))
             }
             Formula::Exists { balls, body } => {
-                Ok(Expanded::Or(self.expand_over(balls.as_slice(), body, budget)?))
+                disjunction(self.expand_over(balls.as_slice(), body, budget))
             }
         }
+    }
+
+    /// The expansion of a part, in a box.
+    #[cycle(expand)]
+    fn expand_boxed(
+        &self,
+        part: &Boxed<Formula>,
+        budget: &mut u32,
+    ) -> Result<Boxed<Expanded>, ExpansionFault>
+        requires fits { formula_fits self.now.topology.now self.now.symbols part.now (length self.now.env.now) ≡ true }
+        requires depth { depth part.now + length self.now.env.now ≤ 65 }
+        requires near { AreNear (12 * length self.now.env.now) self.now.env.now }
+        ensures { let e = expansion self.now.topology.now.edges self.now.symbols part.now self.now.env.now in
+            IsPaid budget.old budget.new e (instances e) result }
+    {
+        let made = self.expand(part.get(), budget)?;
+        Ok(Boxed::new(self.alloc, made)?)
+    }
+
+    /// The expansion of a negation.
+    #[cycle(expand)]
+    fn expand_not(
+        &self,
+        part: &Boxed<Formula>,
+        budget: &mut u32,
+    ) -> Result<Expanded, ExpansionFault>
+        requires fits { formula_fits self.now.topology.now self.now.symbols part.now (length self.now.env.now) ≡ true }
+        requires depth { depth part.now + length self.now.env.now ≤ 65 }
+        requires near { AreNear (12 * length self.now.env.now) self.now.env.now }
+        ensures { let e = expansion self.now.topology.now.edges self.now.symbols part.now self.now.env.now in
+            IsPaid budget.old budget.new (negated e) (1 + instances e) result }
+    {
+        let made = self.expand(part.get(), budget)?;
+        negated(self.alloc, made, budget)
     }
 
     /// The expansions of the parts of a conjunction or a disjunction. The gate that joins them is paid too.
@@ -182,19 +213,37 @@ impl<'a> Scope<'a> {
     }
 }
 
-fn implied(alloc: Global, premise: Expanded, conclusion: Expanded) -> Result<Expanded, AllocError>
+/// The conjunction of parts, or their fault.
+fn conjunction(parts: Result<Items<Expanded>, ExpansionFault>) -> Result<Expanded, ExpansionFault>
+    ensures made { IfOk parts (λ made. result ≡ Ok (Expanded.And made)) }
+    ensures fault { IfErr parts (λ fault. result ≡ Err fault) }
+{
+    match parts {
+        Ok(made) => Ok(Expanded::And(made)),
+        Err(fault) => Err(fault),
+    }
+}
+
+/// The disjunction of parts, or their fault.
+fn disjunction(parts: Result<Items<Expanded>, ExpansionFault>) -> Result<Expanded, ExpansionFault>
+    ensures made { IfOk parts (λ made. result ≡ Ok (Expanded.Or made)) }
+    ensures fault { IfErr parts (λ fault. result ≡ Err fault) }
+{
+    match parts {
+        Ok(made) => Ok(Expanded::Or(made)),
+        Err(fault) => Err(fault),
+    }
+}
+
+fn implied(
+    alloc: Global,
+    premise: Boxed<Expanded>,
+    conclusion: Expanded,
+) -> Result<Expanded, AllocError>
     ensures { IfOk result (λ e. e ≡ any_of (negated premise ∷ conclusion ∷ [])) }
 {
     let mut parts = Items::new(alloc);
-    parts.push(Expanded::Not(Boxed::new(alloc, premise)?))?;
+    parts.push(Expanded::Not(premise))?;
     parts.push(conclusion)?;
     Ok(Expanded::Or(parts))
-}
-
-fn alike(alloc: Global, first: Expanded, second: Expanded) -> Result<Expanded, AllocError>
-    ensures { IfOk result (λ e. e ≡ both_alike first second) }
-{
-    let one = Boxed::new(alloc, first)?;
-    let other = Boxed::new(alloc, second)?;
-    Ok(Expanded::Iff(one, other))
 }

@@ -12,7 +12,7 @@ use Rattle.dd_expansion.specs.Expansion.{expansion}
 use Rattle.dd_expansion.proofs.formulas.Formula.TheLaws.{the_size}
 use Rattle.dd_expansion.specs.lemmas.Layers.{expansion_and, expansion_or, expansion_for_all, expansion_exists}
 use Rattle.dd_expansion.proofs.Nodes.{nodes_and, nodes_or, nodes_for_all, nodes_exists}
-use Rattle.dd_expansion.proofs.Parts.{part_fits, part_depth, inner_fits, inner_depth, inner_near, item_near, made_more, paid_more, few_for_all}
+use Rattle.dd_expansion.proofs.Parts.{part_fits, part_depth, inner_fits, inner_depth, inner_near, item_near, made_more, paid_more, paid_as, few_for_all}
 use Rattle.dd_expansion.proofs.expansion.Scope.+expand.Goals as goal
 
 pub expand_all-expand-requires : goal.expand_all-expand-requires
@@ -50,61 +50,45 @@ expand_all-loop-formula-preserved t c =
       paid = paid_more nodes c.args.formulas.now at c.formula-item.result c.loop-formula.budget _ _ within c.formula-item.is c.loop-formula.invariant.paid part.1;
     }
 
-pub expand-returns-in_err-expand_all-in-And : goal.expand-returns-in_err-expand_all-in-And
-expand-returns-in_err-expand_all-in-And t c =
-    let p = err_from_is_err_and c.from_residual-in_err-expand_all-in-And.result c.from_residual-in_err-expand_all-in-And.ensures.1 in
-    let nodes = nodes_and c.args.self.now.topology.now.edges c.args.self.now.symbols c.args.self.now.env.now c.in-And.parts in
-    rw (p.1, p.2, c.in-And.is, nodes, ← c.as_slice.ensures) c.in_err-expand_all-in-And.ensures
+pub expand-returns-in-And : goal.expand-returns-in-And
+expand-returns-in-And t c =
+    let es = c.args.self.now.topology.now.edges in
+    let n = c.args.self.now.symbols in
+    let env = c.args.self.now.env.now in
+    let nodes = nodes_and es n env c.in-And.parts in
+    let whole = expansion_and es n c.in-And.parts env in
+    rw (c.in-And.is, nodes, whole, ← c.as_slice.ensures)
+    (paid_as expanded.And _ _ _ _ c.expand_all.result c.conjunction.result c.conjunction.ensures.made c.conjunction.ensures.fault c.expand_all.ensures)
 
-pub expand-returns-in_ok-expand_all-in-And : goal.expand-returns-in_ok-expand_all-in-And
-expand-returns-in_ok-expand_all-in-And t c =
-    let whole = expansion_and c.args.self.now.topology.now.edges c.args.self.now.symbols c.in-And.parts c.args.self.now.env.now in
-    let nodes = nodes_and c.args.self.now.topology.now.edges c.args.self.now.symbols c.args.self.now.env.now c.in-And.parts in (
-      rw (c.in-And.is, whole, ← c.as_slice.ensures) (ap expanded.And c.in_ok-expand_all-in-And.ensures.0),
-      rw (c.in-And.is, nodes, ← c.as_slice.ensures) c.in_ok-expand_all-in-And.ensures.1,
-    )
+pub expand-returns-in-Or : goal.expand-returns-in-Or
+expand-returns-in-Or t c =
+    let es = c.args.self.now.topology.now.edges in
+    let n = c.args.self.now.symbols in
+    let env = c.args.self.now.env.now in
+    let nodes = nodes_or es n env c.in-Or.parts in
+    let whole = expansion_or es n c.in-Or.parts env in
+    rw (c.in-Or.is, nodes, whole, ← c.as_slice-in-Or.ensures)
+    (paid_as expanded.Or _ _ _ _ c.expand_all-in-Or.result c.disjunction.result c.disjunction.ensures.made c.disjunction.ensures.fault c.expand_all-in-Or.ensures)
 
-pub expand-returns-in_err-expand_all-in-Or : goal.expand-returns-in_err-expand_all-in-Or
-expand-returns-in_err-expand_all-in-Or t c =
-    let p = err_from_is_err_and c.from_residual-in_err-expand_all-in-Or.result c.from_residual-in_err-expand_all-in-Or.ensures.1 in
-    let nodes = nodes_or c.args.self.now.topology.now.edges c.args.self.now.symbols c.args.self.now.env.now c.in-Or.parts in
-    rw (p.1, p.2, c.in-Or.is, nodes, ← c.as_slice-in-Or.ensures) c.in_err-expand_all-in-Or.ensures
+pub expand-returns-in-ForAll : goal.expand-returns-in-ForAll
+expand-returns-in-ForAll t c =
+    let es = c.args.self.now.topology.now.edges in
+    let n = c.args.self.now.symbols in
+    let env = c.args.self.now.env.now in
+    let nodes = nodes_for_all es n env c.in-ForAll.balls c.in-ForAll.body in
+    let whole = expansion_for_all es n c.in-ForAll.balls c.in-ForAll.body env in
+    rw (c.in-ForAll.is, nodes, whole, ← c.as_slice-in-ForAll.ensures)
+    (paid_as expanded.And _ _ _ _ c.expand_over.result c.conjunction-in-ForAll.result c.conjunction-in-ForAll.ensures.made c.conjunction-in-ForAll.ensures.fault c.expand_over.ensures)
 
-pub expand-returns-in_ok-expand_all-in-Or : goal.expand-returns-in_ok-expand_all-in-Or
-expand-returns-in_ok-expand_all-in-Or t c =
-    let whole = expansion_or c.args.self.now.topology.now.edges c.args.self.now.symbols c.in-Or.parts c.args.self.now.env.now in
-    let nodes = nodes_or c.args.self.now.topology.now.edges c.args.self.now.symbols c.args.self.now.env.now c.in-Or.parts in (
-      rw (c.in-Or.is, whole, ← c.as_slice-in-Or.ensures) (ap expanded.Or c.in_ok-expand_all-in-Or.ensures.0),
-      rw (c.in-Or.is, nodes, ← c.as_slice-in-Or.ensures) c.in_ok-expand_all-in-Or.ensures.1,
-    )
-
-pub expand-returns-in_err-expand_over-in-ForAll : goal.expand-returns-in_err-expand_over-in-ForAll
-expand-returns-in_err-expand_over-in-ForAll t c =
-    let p = err_from_is_err_and c.from_residual-in_err-expand_over-in-ForAll.result c.from_residual-in_err-expand_over-in-ForAll.ensures.1 in
-    let nodes = nodes_for_all c.args.self.now.topology.now.edges c.args.self.now.symbols c.args.self.now.env.now c.in-ForAll.balls c.in-ForAll.body in
-    rw (p.1, p.2, c.in-ForAll.is, nodes, ← c.as_slice-in-ForAll.ensures) c.in_err-expand_over-in-ForAll.ensures
-
-pub expand-returns-in_ok-expand_over-in-ForAll : goal.expand-returns-in_ok-expand_over-in-ForAll
-expand-returns-in_ok-expand_over-in-ForAll t c =
-    let whole = expansion_for_all c.args.self.now.topology.now.edges c.args.self.now.symbols c.in-ForAll.balls c.in-ForAll.body c.args.self.now.env.now in
-    let nodes = nodes_for_all c.args.self.now.topology.now.edges c.args.self.now.symbols c.args.self.now.env.now c.in-ForAll.balls c.in-ForAll.body in (
-      rw (c.in-ForAll.is, whole, ← c.as_slice-in-ForAll.ensures) (ap expanded.And c.in_ok-expand_over-in-ForAll.ensures.0),
-      rw (c.in-ForAll.is, nodes, ← c.as_slice-in-ForAll.ensures) c.in_ok-expand_over-in-ForAll.ensures.1,
-    )
-
-pub expand-returns-in_err-expand_over-in-Exists : goal.expand-returns-in_err-expand_over-in-Exists
-expand-returns-in_err-expand_over-in-Exists t c =
-    let p = err_from_is_err_and c.from_residual-in_err-expand_over-in-Exists.result c.from_residual-in_err-expand_over-in-Exists.ensures.1 in
-    let nodes = nodes_exists c.args.self.now.topology.now.edges c.args.self.now.symbols c.args.self.now.env.now c.in-Exists.balls c.in-Exists.body in
-    rw (p.1, p.2, c.in-Exists.is, nodes, ← c.as_slice-in-Exists.ensures) c.in_err-expand_over-in-Exists.ensures
-
-pub expand-returns-in_ok-expand_over-in-Exists : goal.expand-returns-in_ok-expand_over-in-Exists
-expand-returns-in_ok-expand_over-in-Exists t c =
-    let whole = expansion_exists c.args.self.now.topology.now.edges c.args.self.now.symbols c.in-Exists.balls c.in-Exists.body c.args.self.now.env.now in
-    let nodes = nodes_exists c.args.self.now.topology.now.edges c.args.self.now.symbols c.args.self.now.env.now c.in-Exists.balls c.in-Exists.body in (
-      rw (c.in-Exists.is, whole, ← c.as_slice-in-Exists.ensures) (ap expanded.Or c.in_ok-expand_over-in-Exists.ensures.0),
-      rw (c.in-Exists.is, nodes, ← c.as_slice-in-Exists.ensures) c.in_ok-expand_over-in-Exists.ensures.1,
-    )
+pub expand-returns-in-Exists : goal.expand-returns-in-Exists
+expand-returns-in-Exists t c =
+    let es = c.args.self.now.topology.now.edges in
+    let n = c.args.self.now.symbols in
+    let env = c.args.self.now.env.now in
+    let nodes = nodes_exists es n env c.in-Exists.balls c.in-Exists.body in
+    let whole = expansion_exists es n c.in-Exists.balls c.in-Exists.body env in
+    rw (c.in-Exists.is, nodes, whole, ← c.as_slice-in-Exists.ensures)
+    (paid_as expanded.Or _ _ _ _ c.expand_over-in-Exists.result c.disjunction-in-Exists.result c.disjunction-in-Exists.ensures.made c.disjunction-in-Exists.ensures.fault c.expand_over-in-Exists.ensures)
 
 pub expand_over-returns-in_err-part : goal.expand_over-returns-in_err-part
 expand_over-returns-in_err-part t c =
