@@ -1,10 +1,18 @@
+-- what is looked for at a position
 pub mod Goals
+-- fillings of the cells of a domain, and which are admissible
 pub mod Fillings
+-- which boxes suffice for a goal
 pub mod Boxes
+-- cells at positions
 pub mod Cells
+-- fillings and periodic configurations that show a goal
 pub mod Witnesses
+-- what one box says of every box, filling and configuration
 pub mod Laws
+-- the goal that a value stands for
 pub mod Views
+-- how many clauses a question takes
 pub mod Counts
 -- lemmas on what stands above, with their proofs, for whoever cites them
 pub mod lemmas

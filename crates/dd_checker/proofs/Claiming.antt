@@ -9,7 +9,7 @@ use Rattle.dd_boxes.specs.Boxes.{Suffices, HoldsNowhere}
 use Rattle.dd_boxes.specs.lemmas.FromBox.{from_least, holds_nowhere}
 use Rattle.dd_pattern.specs.Tile.{Tile}
 use Rattle.dd_problem.specs.Problems.{box_problem}
-use Rattle.dd_problem.specs.Told.{IsToldGoal}
+use Rattle.dd_problem.specs.pushing.Told.{IsToldGoal}
 use Rattle.dd_problem.specs.lemmas.BoxShows.{box_shows, shown_decides}
 use Rattle.dd_certificate.specs.declared.answer.Side.TheVariants as side
 use Rattle.dd_certificate.specs.declared.answer.Side.{Side}

@@ -10,7 +10,7 @@ use Rattle.dd_formula.specs.declared.automaton.Automaton.{Automaton}
 use Rattle.dd_compile.specs.Valued.{SaysItsValue}
 use Rattle.dd_boxes.specs.Goals.{breaks, differ, always, IsGoalFor}
 use Rattle.dd_boxes.specs.Views.{numbers_of}
-use Rattle.dd_problem.specs.Told.{IsToldGoal}
+use Rattle.dd_problem.specs.pushing.Told.{IsToldGoal}
 use Rattle.dd_query.specs.declared.queries.Query.{Query}
 use Rattle.dd_query.specs.declared.queries.Query.TheVariants as query
 use Rattle.dd_script.specs.Parts.{Parts}

@@ -8,7 +8,7 @@ use Rattle.dd_clause.specs.declared.clause.Literal.{Literal}
 use Rattle.dd_clause.specs.Clauses.{negation, IsLiteralInRange}
 use Rattle.dd_derivation.specs.declared.propagation.VariableMark.{VariableMark}
 use Rattle.dd_derivation.specs.Derivations.{same_literal, is_among, is_literal_in_range, has_variable, is_proper}
-use Rattle.dd_derivation.specs.MarksOf.{FalsesAre, with_mark}
+use Rattle.dd_derivation.specs.checking.MarksOf.{FalsesAre, with_mark}
 use Rattle.dd_derivation.specs.lemmas.Soundness.{same_literal-eq, beq-refl}
 use Rattle.dd_derivation.specs.lemmas.Falses.{FalsesAre-start, in_range-true}
 

@@ -7,7 +7,7 @@ use Rattle.std.proofs.lemmas.Option.{slice_get_read}
 use Rattle.dd_clause.specs.declared.clause.Literal.{Literal}
 use Rattle.dd_derivation.specs.declared.step.Step.{Step}
 use Rattle.dd_derivation.specs.Derivations.{is_right, known_after, known_after_steps, refutes_from, clauses_before, is_step_right}
-use Rattle.dd_derivation.specs.MarksOf.{known_of}
+use Rattle.dd_derivation.specs.checking.MarksOf.{known_of}
 use Rattle.dd_derivation.specs.lemmas.Numbers.{length-before}
 use Rattle.dd_derivation.specs.lemmas.Falses.{is_last-drop}
 

@@ -4,7 +4,7 @@ ghost use Rattle.std.specs.Prelude.{◌≡◌, ℕ, ◌+◌, ◌≤◌, List, le
 ghost use Rattle.std.specs.Option.{option_copied};
 ghost use Rattle.dd_clause.specs.declared.clause.Literal.{Literal};
 ghost use Rattle.dd_derivation.specs.Derivations as spec;
-ghost use Rattle.dd_derivation.specs.MarksOf.{known_of, known_to};
+ghost use Rattle.dd_derivation.specs.checking.MarksOf.{known_of, known_to};
 
 use crate::step::Step;
 use dd_clause::{Clause, Literal};
@@ -21,7 +21,7 @@ pub struct Known<'a> {
 impl<'a> Model for Known<'a> {
     ghost use Rattle.std.specs.Prelude.{◌+◌, ◌≤◌, List, Option, length};
     ghost use Rattle.dd_clause.specs.declared.clause.Literal.{Literal};
-    ghost use Rattle.dd_derivation.specs.MarksOf.{known_to};
+    ghost use Rattle.dd_derivation.specs.checking.MarksOf.{known_to};
 
     ghost Value = { List (Option (List Literal)) };
 

@@ -3,8 +3,8 @@
 ghost use Rattle.std.specs.Prelude.{◌≡◌, ◌<◌, [], Bool, length, take, true, slice_index_or};
 ghost use Rattle.dd_clause.specs.declared.clause.Literal.{Literal};
 ghost use Rattle.dd_derivation.specs.Derivations as spec;
-ghost use Rattle.dd_derivation.specs.MarksOf.{literals_of, FalsesAre, AreUpTo, AreBelow};
-ghost use Rattle.dd_derivation.specs.MarksOf as marks_of;
+ghost use Rattle.dd_derivation.specs.checking.MarksOf.{literals_of, FalsesAre, AreUpTo, AreBelow};
+ghost use Rattle.dd_derivation.specs.checking.MarksOf as marks_of;
 
 use crate::known::Known;
 use crate::step::Step;

@@ -4,7 +4,7 @@ ghost use Rattle.std.specs.Prelude.{◌≡◌, ℕ, ◌+◌, ◌<◌, ◌≤◌,
 ghost use Rattle.dd_clause.specs.declared.clause.Literal.{Literal};
 ghost use Rattle.dd_clause.specs.Clauses.{Satisfies};
 ghost use Rattle.dd_derivation.specs.Derivations as spec;
-ghost use Rattle.dd_derivation.specs.MarksOf.{AreBelow, AreUpTo, known_of, known_to};
+ghost use Rattle.dd_derivation.specs.checking.MarksOf.{AreBelow, AreUpTo, known_of, known_to};
 
 use crate::known::{Known, delete_all, delete_named};
 use crate::propagation::{VariableMark, follow_hints, start_marks};

@@ -13,7 +13,7 @@ use Rattle.dd_lattice.specs.lemmas.RangeLaws.{in_range_from_test}
 use Rattle.dd_topology.specs.declared.edge.Edge.{Edge}
 use Rattle.dd_topology.specs.Topology.{extent, are_short, leaves, end_of, step, in_range}
 use Rattle.dd_topology.specs.Balls.{IsInBall, IsAdjacent, IsCellListOf, CellsLeaveRange}
-use Rattle.dd_expansion.specs.Near.{AreNear}
+use Rattle.dd_expansion.specs.expanding.Near.{AreNear}
 
 pub extent_moved : (p by : Place) → extent (moved p by) ≤ extent p + extent by
 extent_moved p by = omega (arith, ints)

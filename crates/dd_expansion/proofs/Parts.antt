@@ -15,8 +15,8 @@ use Rattle.dd_expansion.specs.declared.formulas.Formula.TheVariants as formula
 use Rattle.dd_expansion.specs.declared.formulas.Formula.TheFolds.{fold-roll-Formula}
 use Rattle.dd_expansion.specs.declared.formulas.Formula.TheOpen.{Formula-F}
 use Rattle.dd_expansion.specs.Limits.{balls_fit, formula_fits, formula_fits_step, greatest, depth, depth_step}
-use Rattle.dd_expansion.specs.Near.{AreNear}
-use Rattle.dd_expansion.specs.Budget.{IsPaid}
+use Rattle.dd_expansion.specs.expanding.Near.{AreNear}
+use Rattle.dd_expansion.specs.expanding.Budget.{IsPaid}
 use Rattle.dd_expansion.specs.declared.fault.ExpansionFault.{ExpansionFault}
 use Rattle.dd_expansion.specs.lemmas.Layers.{fits_and, depth_and}
 

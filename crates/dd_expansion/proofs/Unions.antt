@@ -14,7 +14,7 @@ use Rattle.dd_topology.specs.Topology.{extent}
 use Rattle.dd_topology.specs.lemmas.OrderLaws.{is-in_order}
 use Rattle.dd_expansion.specs.declared.formulas.BallOf.{BallOf}
 use Rattle.dd_expansion.specs.Terms.{ball_round, balls_of}
-use Rattle.dd_expansion.specs.Near.{AreNear}
+use Rattle.dd_expansion.specs.expanding.Near.{AreNear}
 
 -- one list of cells after another
 joined : (ps bs cs ds : List Cell) → HaveSameCells ps bs → HaveSameCells cs ds → HaveSameCells (ps ++ cs) (bs ++ ds)

@@ -1,14 +1,16 @@
--- Terms and balls, truth under symbols, reads, and the formula without variables.
+-- terms and balls
 pub mod Terms
+-- truth under symbols, and what is read
 pub mod Truth
 pub mod Reads
-pub mod Leaves
+-- the formula without variables, and its leaves
 pub mod Expansion
--- The limits of formulas, and cells of Z^d.
+pub mod Leaves
+-- the limits of formulas
 pub mod Limits
+-- cells of Z^d
 pub mod Placed
--- What the code keeps while it expands.
-pub mod Near
-pub mod Budget
+-- what the code keeps while it expands
+pub mod expanding
 -- lemmas on what stands above, with their proofs, for whoever cites them
 pub mod lemmas

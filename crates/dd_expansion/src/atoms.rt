@@ -4,7 +4,7 @@ ghost use Rattle.dd_topology.specs.Balls.{is_adjacent, same_place};
 ghost use Rattle.dd_expansion.specs.Terms.{same_cell};
 ghost use Rattle.dd_expansion.specs.Leaves.{instances};
 ghost use Rattle.dd_expansion.specs.Expansion.{constant, leaf, negated, both_have, equal_at, at_cell, at_cells};
-ghost use Rattle.dd_expansion.specs.Budget.{IsPaid};
+ghost use Rattle.dd_expansion.specs.expanding.Budget.{IsPaid};
 
 use crate::expanded::Expanded;
 use crate::fault::ExpansionFault;

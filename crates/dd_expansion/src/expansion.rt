@@ -5,10 +5,10 @@ ghost use Rattle.dd_lattice.specs.InOrder.{in_order};
 ghost use Rattle.dd_expansion.specs.declared.fault.ExpansionFault.TheVariants.{Instances};
 ghost use Rattle.dd_expansion.specs.Terms.{cell_of, balls_of, origin_at};
 ghost use Rattle.dd_expansion.specs.Limits.{term_fits, formula_fits, depth, IsFormula};
-ghost use Rattle.dd_expansion.specs.Near.{AreNear};
+ghost use Rattle.dd_expansion.specs.expanding.Near.{AreNear};
 ghost use Rattle.dd_expansion.specs.Leaves.{instances};
 ghost use Rattle.dd_expansion.specs.Expansion.{expansion, negated, any_of};
-ghost use Rattle.dd_expansion.specs.Budget.{IsPaid};
+ghost use Rattle.dd_expansion.specs.expanding.Budget.{IsPaid};
 
 use crate::atoms::{
     adjacent_at, negated, no_symbol_at, node_at, not_same_at, place_at, same_at, spend, symbol_at,

@@ -7,7 +7,7 @@ ghost use Rattle.dd_topology.specs.Balls.{ball};
 ghost use Rattle.dd_expansion.specs.declared.fault.ExpansionFault.TheVariants.{Instances};
 ghost use Rattle.dd_expansion.specs.Terms.{walk, cell_of, ball_round, balls_of};
 ghost use Rattle.dd_expansion.specs.Limits.{term_fits, ball_fits, balls_fit};
-ghost use Rattle.dd_expansion.specs.Near.{AreNear};
+ghost use Rattle.dd_expansion.specs.expanding.Near.{AreNear};
 
 use crate::fault::ExpansionFault;
 use crate::formulas::{BallOf, Term};

@@ -13,7 +13,7 @@ use Rattle.std.proofs.lemmas.List.Elements.{All-nil}
 use Rattle.dd_lattice.specs.Place.{Place, place, moved, IsCoordinateInRange, IsInRange}
 use Rattle.dd_lattice.specs.Boxes.{OnAxis, IsUpTo, is_active}
 use Rattle.dd_lattice.specs.Regions.{PlaceSet, IsRegionOf, IsFaultOf, LeavesRange, IsInEither, IsMoved, IsNearby, seen_from}
-use Rattle.dd_lattice.specs.Growth.{along, IsStretched, IsExtended}
+use Rattle.dd_lattice.specs.listing.Growth.{along, IsStretched, IsExtended}
 use Rattle.dd_lattice.specs.declared.fault.LatticeFault.{LatticeFault}
 use Rattle.dd_lattice.specs.declared.fault.LatticeFault.TheVariants.{Range, Memory}
 use Rattle.dd_lattice.specs.declared.growing.Axis.{Axis}

@@ -11,7 +11,7 @@ use Rattle.std.proofs.lemmas.List.Elements.{All-contains, Contains-append_left, 
 use Rattle.dd_lattice.specs.Place.{Place, IsInRange}
 use Rattle.dd_lattice.specs.Order.{place_cmp}
 use Rattle.dd_lattice.specs.Regions.{IsRegion, IsRegionOf, IsInEither}
-use Rattle.dd_lattice.specs.Merge.{next_position, from_left, from_right}
+use Rattle.dd_lattice.specs.listing.Merge.{next_position, from_left, from_right}
 use Rattle.dd_lattice.specs.lemmas.InOrderLaws.{places_equal, place_total}
 use Rattle.dd_lattice.specs.lemmas.ListLaws.{All-from_contains, Contains-first, Contains-later, Contains-cons_cases, Contains-nil, sorted_append, sorted_push, sorted_first, sorted_rest}
 

@@ -1,10 +1,15 @@
+-- positions without a bound, and the range of those that code holds
 pub mod Place
-pub mod Order
+-- cells: a position and a node
 pub mod Cells
+-- cell order, and lists in it
+pub mod Order
 pub mod InOrder
+-- boxes of positions, and where a position stands in a box's list
 pub mod Boxes
+-- finite sets of positions in range
 pub mod Regions
-pub mod Merge
-pub mod Growth
+-- what the loops that merge and stretch lists of positions keep
+pub mod listing
 -- lemmas on what stands above, with their proofs, for whoever cites them
 pub mod lemmas

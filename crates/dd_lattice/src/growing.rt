@@ -3,7 +3,7 @@
 ghost use Rattle.std.specs.Prelude.{◌≡◌, ◌+◌, ◌*◌, ◌≤◌, ℤ, pos, ◌-ℤ◌, ◌+ℤ◌, ◌≤ℤ◌, MatchResult};
 ghost use Rattle.dd_lattice.specs.Place.{most_coordinate};
 ghost use Rattle.dd_lattice.specs.Regions.{IsRegionOf, IsFaultOf, IsNearby};
-ghost use Rattle.dd_lattice.specs.Growth.{along, IsStretched, IsExtended};
+ghost use Rattle.dd_lattice.specs.listing.Growth.{along, IsStretched, IsExtended};
 
 use crate::fault::LatticeFault;
 use crate::position::{Position, REACH};

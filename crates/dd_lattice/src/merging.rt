@@ -2,7 +2,7 @@
 ghost use Rattle.std.specs.Prelude.{◌≡◌, IfOk};
 ghost use Rattle.dd_lattice.specs.Order.{place_cmp};
 ghost use Rattle.dd_lattice.specs.Regions.{IsRegion, IsRegionOf, IsInEither};
-ghost use Rattle.dd_lattice.specs.Merge.{next_position, from_left, from_right};
+ghost use Rattle.dd_lattice.specs.listing.Merge.{next_position, from_left, from_right};
 
 use crate::position::Position;
 use std::alloc::{AllocError, Global};

@@ -13,12 +13,12 @@ use Rattle.dd_formula.specs.LocalRule.{LocalRule, IsRule}
 use Rattle.dd_boxes.specs.Goals.{GoalOf}
 use Rattle.dd_boxes.specs.Boxes.{Reaches}
 use Rattle.dd_boxes.specs.Counts.{question_clauses, most_clauses}
-use Rattle.dd_problem.specs.Told.{IsToldGoal}
+use Rattle.dd_problem.specs.pushing.Told.{IsToldGoal}
 use Rattle.dd_boxes.specs.Cells.{box_cells}
 use Rattle.dd_problem.specs.Layouts.{cells_in}
 use Rattle.dd_problem.specs.Problems.{box_problem}
-use Rattle.dd_problem.specs.Numbered.{in_turn}
-use Rattle.dd_problem.specs.Pushed.{AreInputs, is_goal_wired, wired_problem}
+use Rattle.dd_problem.specs.pushing.Numbered.{in_turn}
+use Rattle.dd_problem.specs.pushing.Pushed.{AreInputs, is_goal_wired, wired_problem}
 use Rattle.dd_problem.specs.Shows.{Shows, DecidesBox}
 use Rattle.dd_problem.specs.lemmas.Filtered.{some_same}
 use Rattle.dd_problem.specs.lemmas.BoxShows.{box_shows, shown_decides}

@@ -22,13 +22,13 @@ use Rattle.dd_boxes.specs.Goals.{GoalOf, breaks, differ, always}
 use Rattle.dd_boxes.specs.Fillings.{in_box, is_box_cell}
 use Rattle.dd_boxes.specs.Boxes.{origin, Reaches}
 use Rattle.dd_boxes.specs.Counts.{question_clauses, most_clauses}
-use Rattle.dd_problem.specs.Told.{IsToldGoal}
+use Rattle.dd_problem.specs.pushing.Told.{IsToldGoal}
 use Rattle.dd_boxes.specs.Cells.{box_cells}
 use Rattle.dd_problem.specs.Layouts.{box_index, box_layout}
 use Rattle.dd_problem.specs.Clauses.{input}
 use Rattle.dd_problem.specs.Problems.{box_problem}
-use Rattle.dd_problem.specs.Numbered.{in_turn}
-use Rattle.dd_problem.specs.Pushed.{wired_problem, AreInputs, is_goal_wired}
+use Rattle.dd_problem.specs.pushing.Numbered.{in_turn}
+use Rattle.dd_problem.specs.pushing.Pushed.{wired_problem, AreInputs, is_goal_wired}
 use Rattle.dd_problem.specs.lemmas.BoxLayout.{box_within, bounds_ordered, box_is_layout, box_cell_there, box_cell_at}
 use Rattle.dd_problem.specs.lemmas.BoxValues.{box_values}
 use Rattle.dd_problem.specs.lemmas.BoxShows.{goal_reads_box}

@@ -19,7 +19,7 @@ use Rattle.dd_compile.specs.lemmas.MadeCount.{made_same}
 use Rattle.dd_formula.specs.LocalRule.{LocalRule, IsRule, reads_at, expansion_at}
 use Rattle.dd_boxes.specs.Goals.{GoalOf, breaks, differ, always}
 use Rattle.dd_boxes.specs.Boxes.{origin}
-use Rattle.dd_problem.specs.Told.{IsToldGoal}
+use Rattle.dd_problem.specs.pushing.Told.{IsToldGoal}
 use Rattle.dd_problem.specs.Layouts.{Layout, fits_in}
 use Rattle.dd_problem.specs.Clauses.{input, Part, cell_clauses, part_gates, part_clauses, units, some_true, some_false}
 use Rattle.dd_problem.specs.Problems.{wire, place_maker, premise_part, goal_part, input_count, problem}
@@ -27,7 +27,7 @@ use Rattle.dd_formula.specs.Automata.{counted}
 use Rattle.dd_compile.specs.ValueSignals.{are_wired_there}
 use Rattle.dd_problem.specs.Differing.{differ_made}
 use Rattle.dd_problem.specs.lemmas.ValueWires.{GoalWired, value_is_wired}
-use Rattle.dd_problem.specs.Pushed.{are_both_wired, is_wired_at, is_goal_wired, wired_part, wired_parts, wired_goal, wired_problem}
+use Rattle.dd_problem.specs.pushing.Pushed.{are_both_wired, is_wired_at, is_goal_wired, wired_part, wired_parts, wired_goal, wired_problem}
 use Rattle.dd_problem.specs.lemmas.RangesLeft.{row_within}
 use Rattle.dd_problem.specs.lemmas.Reading.{IsLayout}
 use Rattle.dd_problem.specs.lemmas.Wiring.{HasReads, all_of_range}

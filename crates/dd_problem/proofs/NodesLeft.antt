@@ -18,7 +18,7 @@ use Rattle.dd_compile.specs.lemmas.Layers.{wired_more}
 use Rattle.dd_formula.specs.LocalRule.{LocalRule, expansion_at}
 use Rattle.dd_problem.specs.Clauses.{Part, part_clauses}
 use Rattle.dd_problem.specs.Encodings.{Encoding, with_clause, with_gates, with_parts}
-use Rattle.dd_problem.specs.Pushed.{is_wired_at}
+use Rattle.dd_problem.specs.pushing.Pushed.{is_wired_at}
 use Rattle.dd_problem.specs.lemmas.RangesLeft.{range_to, range_step, range_ends}
 use Rattle.dd_problem.proofs.Growing.{same_encoding, extended_size, extended_by_none, with_gates-append}
 

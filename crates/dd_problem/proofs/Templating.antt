@@ -34,8 +34,8 @@ use Rattle.dd_boxes.specs.Witnesses.{ArePeriods}
 use Rattle.dd_problem.specs.Clauses.{input}
 use Rattle.dd_boxes.specs.Cells.{box_cells}
 use Rattle.dd_problem.specs.Layouts.{nth_cell, cells_in, torus_cells}
-use Rattle.dd_problem.specs.Numbered.{symbol_signals, numbered_wiring}
-use Rattle.dd_problem.specs.Pushed.{AreInputs, HasAllSymbols, is_wired_at}
+use Rattle.dd_problem.specs.pushing.Numbered.{symbol_signals, numbered_wiring}
+use Rattle.dd_problem.specs.pushing.Pushed.{AreInputs, HasAllSymbols, is_wired_at}
 use Rattle.dd_problem.specs.lemmas.Filtered.{some_same}
 use Rattle.dd_problem.specs.lemmas.CellOrder.{cells_by_number, All-range}
 use Rattle.dd_problem.specs.lemmas.BoxLayout.{bounds_ordered}

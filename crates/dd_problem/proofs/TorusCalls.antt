@@ -21,12 +21,12 @@ use Rattle.dd_formula.specs.LocalRule.{LocalRule, IsRule}
 use Rattle.dd_boxes.specs.Goals.{GoalOf}
 use Rattle.dd_boxes.specs.Counts.{question_clauses, most_clauses}
 use Rattle.dd_boxes.specs.Witnesses.{ArePeriods}
-use Rattle.dd_problem.specs.Told.{IsToldGoal}
+use Rattle.dd_problem.specs.pushing.Told.{IsToldGoal}
 use Rattle.dd_problem.specs.Layouts.{cells_in, torus_cells}
-use Rattle.dd_problem.specs.Grown.{torus_layout}
+use Rattle.dd_problem.specs.pushing.Grown.{torus_layout}
 use Rattle.dd_problem.specs.Problems.{torus_problem}
-use Rattle.dd_problem.specs.Grown.{question_reach, grown, near_cells, number_at, numbered_by, numbered_tile, torus_inputs}
-use Rattle.dd_problem.specs.Pushed.{AreInputs, is_goal_wired, wired_problem}
+use Rattle.dd_problem.specs.pushing.Grown.{question_reach, grown, near_cells, number_at, numbered_by, numbered_tile, torus_inputs}
+use Rattle.dd_problem.specs.pushing.Pushed.{AreInputs, is_goal_wired, wired_problem}
 use Rattle.dd_problem.specs.Shows.{ShowsTorus}
 use Rattle.dd_problem.specs.lemmas.RangesLeft.{row_within}
 use Rattle.dd_problem.specs.lemmas.CellOrder.{cells_nodes}

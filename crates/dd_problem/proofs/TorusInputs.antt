@@ -35,17 +35,17 @@ use Rattle.dd_formula.specs.lemmas.ReachLaws.{is_within, reads_within, automaton
 use Rattle.dd_boxes.specs.Goals.{GoalOf, breaks, differ, always, AreOver}
 use Rattle.dd_boxes.specs.Boxes.{origin}
 use Rattle.dd_boxes.specs.Witnesses.{ArePeriods}
-use Rattle.dd_problem.specs.Told.{IsToldGoal}
+use Rattle.dd_problem.specs.pushing.Told.{IsToldGoal}
 use Rattle.dd_problem.specs.Layouts.{torus, torus_cells}
-use Rattle.dd_problem.specs.Grown.{torus_layout}
+use Rattle.dd_problem.specs.pushing.Grown.{torus_layout}
 use Rattle.dd_problem.specs.Clauses.{input}
 use Rattle.dd_problem.specs.Problems.{torus_problem}
-use Rattle.dd_problem.specs.Grown.{goal_reach, question_reach, grown, near_cells, number_at, numbered_by, numbered_tile}
-use Rattle.dd_problem.specs.Pushed.{wired_problem, is_goal_wired}
+use Rattle.dd_problem.specs.pushing.Grown.{goal_reach, question_reach, grown, near_cells, number_at, numbered_by, numbered_tile}
+use Rattle.dd_problem.specs.pushing.Pushed.{wired_problem, is_goal_wired}
 use Rattle.dd_problem.specs.lemmas.CellOrder.{cells_ascending, cell_there}
 use Rattle.dd_problem.proofs.Matching.{Gives, Matches, GoalMatches, goal_is_wired, wired_is_problem}
 use Rattle.dd_problem.specs.lemmas.NumberedWires.{wire_there, signals_there}
-use Rattle.dd_problem.specs.Numbered.{symbol_signals}
+use Rattle.dd_problem.specs.pushing.Numbered.{symbol_signals}
 use Rattle.dd_problem.specs.lemmas.ValueWires.{HasInputs, GoalWired, passes_member}
 use Rattle.dd_problem.proofs.TorusLayout.{torus_size, torus_is_periodic, torus_is_layout, torus_cell_at}
 use Rattle.dd_problem.proofs.TorusShows.{goal_reads_torus}

@@ -26,7 +26,7 @@ use Rattle.dd_boxes.specs.Goals.{GoalOf}
 use Rattle.dd_boxes.specs.Witnesses.{ArePeriods}
 use Rattle.dd_problem.specs.Layouts.{nth_cell, torus, torus_cells}
 use Rattle.dd_problem.specs.lemmas.CellOrder.{cells_by_number}
-use Rattle.dd_problem.specs.Grown.{torus_layout}
+use Rattle.dd_problem.specs.pushing.Grown.{torus_layout}
 use Rattle.dd_problem.specs.lemmas.Reading.{IsLayout}
 use Rattle.dd_problem.specs.lemmas.Filtered.{some_same, slice_of_range}
 

@@ -8,8 +8,8 @@ use Rattle.dd_formula.specs.lemmas.AutomatonLaws.{near_reads}
 use Rattle.dd_boxes.specs.Goals.{GoalOf, breaks, differ, always, IsGoalFor}
 use Rattle.dd_boxes.specs.Boxes.{IsLeastRadius}
 use Rattle.dd_boxes.specs.lemmas.ReachLaws.{least_is_reach, least_is_farthest, least_is_none}
-use Rattle.dd_problem.specs.Told.{IsToldGoal}
-use Rattle.dd_problem.specs.Grown.{goal_reach, question_reach}
+use Rattle.dd_problem.specs.pushing.Told.{IsToldGoal}
+use Rattle.dd_problem.specs.pushing.Grown.{goal_reach, question_reach}
 
 most : (a b n : ℕ) → a ≤ n → b ≤ n → max a b ≤ n
 most a b n h k = omega arith

@@ -17,9 +17,9 @@ use Rattle.dd_cnf.specs.lemmas.ModelLaws.{Satisfies-is_satisfied, is_satisfied-S
 use Rattle.dd_boxes.specs.Goals.{GoalOf, breaks, differ, always}
 use Rattle.dd_boxes.specs.Witnesses.{ArePeriods, HasPeriods, IsWitness}
 use Rattle.dd_boxes.specs.lemmas.RuleLaws.{keeps_at, list_all_weaker}
-use Rattle.dd_problem.specs.Told.{IsToldGoal}
+use Rattle.dd_problem.specs.pushing.Told.{IsToldGoal}
 use Rattle.dd_problem.specs.Layouts.{torus, torus_cells, fits_in}
-use Rattle.dd_problem.specs.Grown.{torus_layout}
+use Rattle.dd_problem.specs.pushing.Grown.{torus_layout}
 use Rattle.dd_problem.specs.Problems.{problem_clauses}
 use Rattle.dd_problem.specs.Shows.{ShowsTorus}
 use Rattle.dd_problem.specs.lemmas.ValueWires.{GoalWired}

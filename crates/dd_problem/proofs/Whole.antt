@@ -16,7 +16,7 @@ use Rattle.dd_boxes.specs.Boxes.{origin}
 use Rattle.dd_boxes.specs.Goals.{GoalOf, breaks, differ, always}
 use Rattle.dd_problem.specs.Clauses.{Part, cell_clauses, part_gates, part_clauses}
 use Rattle.dd_problem.specs.Encodings.{Encoding, clause_list, extended, over_inputs, with_parts}
-use Rattle.dd_problem.specs.Pushed.{are_both_wired, is_wired_at, is_goal_wired, wired_parts, wired_goal, wired_problem}
+use Rattle.dd_problem.specs.pushing.Pushed.{are_both_wired, is_wired_at, is_goal_wired, wired_parts, wired_goal, wired_problem}
 use Rattle.dd_problem.specs.lemmas.Wiring.{all_of_range, range_at}
 use Rattle.dd_problem.proofs.Growing.{same_encoding, extended_size, with_parts-append}
 

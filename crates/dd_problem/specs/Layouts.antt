@@ -10,7 +10,7 @@ use Rattle.dd_formula.specs.LocalRule.{LocalRule, reads_at}
 use Rattle.dd_boxes.specs.Cells.{box_cells, cells_on}
 use Rattle.dd_boxes.specs.Fillings.{is_box_cell}
 use Rattle.dd_compile.specs.Wiring.{Wiring}
-use Rattle.dd_problem.specs.Numbered.{in_turn}
+use Rattle.dd_problem.specs.pushing.Numbered.{in_turn}
 
 -- The cells whose symbols the inputs say, the number of each cell that is read, from 0, and the places, in the order of
 -- their numbers; and each of the cells with its inputs as signals.

@@ -1,17 +1,17 @@
--- Which cells have inputs; the clauses over them, and those of a whole question on a box and on a torus.
+-- which cells have inputs
 pub mod Layouts
+-- the clauses over them, and what they say of two automata
 pub mod Clauses
 pub mod Differing
+-- a circuit and its clauses, as they grow
 pub mod Encodings
+-- the clauses of a whole question on a box and on a torus
 pub mod Problems
--- Symbols by the numbers of cells, and what it is for clauses to say what a question asks.
+-- symbols by the numbers of cells
 pub mod Symbols
+-- what it is for clauses to say what a question asks
 pub mod Shows
--- The same clauses over the inputs that the code keeps.
-pub mod Pushed
-pub mod Numbered
-pub mod Grown
--- what is known of goals while their clauses are made
-pub mod Told
+-- the same clauses over the inputs that the code keeps, and what is known of goals while their clauses are made
+pub mod pushing
 -- lemmas on what stands above, with their proofs, for whoever cites them
 pub mod lemmas

@@ -9,7 +9,7 @@ ghost use Rattle.dd_boxes.specs.Boxes.{origin};
 ghost use Rattle.dd_boxes.specs.Goals.{AreOver};
 ghost use Rattle.dd_boxes.specs.Views.{numbers_of};
 ghost use Rattle.dd_problem.specs.Differing.{apart, differ_made};
-ghost use Rattle.dd_problem.specs.Pushed.{are_both_wired};
+ghost use Rattle.dd_problem.specs.pushing.Pushed.{are_both_wired};
 
 use dd_circuit::{Circuit, Signal};
 use dd_compile::{Inputs, compile_value};

@@ -15,7 +15,7 @@ ghost use Rattle.dd_boxes.specs.Goals.{AreOver};
 ghost use Rattle.dd_boxes.specs.Views.{numbers_of};
 ghost use Rattle.dd_problem.specs.Differing.{differ_made};
 ghost use Rattle.dd_problem.specs.Encodings.{over_inputs, clause_list, with_clause, with_made};
-ghost use Rattle.dd_problem.specs.Pushed.{are_both_wired};
+ghost use Rattle.dd_problem.specs.pushing.Pushed.{are_both_wired};
 
 use crate::differing::compile_differ;
 use dd_circuit::{Circuit, Signal};

@@ -13,8 +13,8 @@ ghost use Rattle.dd_compile.specs.Templates.{rule_at};
 ghost use Rattle.dd_boxes.specs.Goals.{AreOver, IsGoalFor};
 ghost use Rattle.dd_boxes.specs.Views.{goal_of, numbers_of};
 ghost use Rattle.dd_problem.specs.Encodings.{with_parts};
-ghost use Rattle.dd_problem.specs.Pushed.{AreInputs, HasAllSymbols, is_wired_at, wired_part, wired_parts, broken_part, differ_part, wired_goal};
-ghost use Rattle.dd_problem.specs.Pushed.{are_both_wired, is_goal_wired};
+ghost use Rattle.dd_problem.specs.pushing.Pushed.{AreInputs, HasAllSymbols, is_wired_at, wired_part, wired_parts, broken_part, differ_part, wired_goal};
+ghost use Rattle.dd_problem.specs.pushing.Pushed.{are_both_wired, is_goal_wired};
 
 use crate::encoder::Encoder;
 use dd_boxes::Goal;

@@ -1,7 +1,7 @@
 //! What the gates of a goal keep.
 ghost use Rattle.dd_boxes.specs.Goals.{IsGoalFor};
 ghost use Rattle.dd_boxes.specs.Views.{goal_of};
-ghost use Rattle.dd_problem.specs.Told.{IsToldGoal};
+ghost use Rattle.dd_problem.specs.pushing.Told.{IsToldGoal};
 
 use dd_boxes::Goal;
 use dd_compile::says_its_value;

@@ -5,7 +5,7 @@ ghost use Rattle.dd_values.specs.Bounds.{most_variables};
 ghost use Rattle.dd_lattice.specs.Boxes.{volume};
 ghost use Rattle.dd_lattice.specs.Order.{cell_cmp};
 ghost use Rattle.dd_problem.specs.Layouts.{nth_cell, cells_in};
-ghost use Rattle.dd_problem.specs.Numbered.{symbol_signals, in_turn};
+ghost use Rattle.dd_problem.specs.pushing.Numbered.{symbol_signals, in_turn};
 
 use dd_circuit::Signal;
 use dd_compile::Inputs;

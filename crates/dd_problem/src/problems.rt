@@ -5,7 +5,7 @@ ghost use Rattle.dd_values.specs.Bounds.{most_variables};
 ghost use Rattle.dd_topology.specs.Topology.{extent};
 ghost use Rattle.dd_boxes.specs.Goals.{IsGoalFor};
 ghost use Rattle.dd_boxes.specs.Views.{goal_of};
-ghost use Rattle.dd_problem.specs.Pushed.{AreInputs, HasAllSymbols, is_goal_wired, wired_problem};
+ghost use Rattle.dd_problem.specs.pushing.Pushed.{AreInputs, HasAllSymbols, is_goal_wired, wired_problem};
 
 use crate::encoder::Encoder;
 use crate::gates::{push_goal, push_places};

@@ -11,10 +11,10 @@ ghost use Rattle.dd_boxes.specs.Counts.{question_clauses, most_clauses};
 ghost use Rattle.dd_boxes.specs.Views.{goal_of};
 ghost use Rattle.dd_boxes.specs.Witnesses.{ArePeriods};
 ghost use Rattle.dd_problem.specs.Problems.{torus_problem};
-ghost use Rattle.dd_problem.specs.Grown.{question_reach, margin, grown, near_cells};
-ghost use Rattle.dd_problem.specs.Grown.{number_at, numbered_by, numbered_tile, torus_inputs};
+ghost use Rattle.dd_problem.specs.pushing.Grown.{question_reach, margin, grown, near_cells};
+ghost use Rattle.dd_problem.specs.pushing.Grown.{number_at, numbered_by, numbered_tile, torus_inputs};
 ghost use Rattle.dd_problem.specs.Shows.{ShowsTorus};
-ghost use Rattle.dd_problem.specs.Told.{IsToldGoal};
+ghost use Rattle.dd_problem.specs.pushing.Told.{IsToldGoal};
 
 use crate::goals::told_goal;
 use crate::layouts::{cells_of, symbol_signals};

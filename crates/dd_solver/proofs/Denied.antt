@@ -10,8 +10,8 @@ use Rattle.dd_clause.specs.Clauses.{IsLiteralInRange, negation}
 use Rattle.dd_derivation.specs.Derivations.{same_literal, is_among, has_variable}
 use Rattle.dd_derivation.specs.lemmas.Soundness.{literal-eq, same_literal-eq, same_literal-refl}
 use Rattle.dd_solver.specs.declared.trail.Entry.{Entry}
-use Rattle.dd_solver.specs.Entries.{falses, IsFree, IsFull}
-use Rattle.dd_solver.specs.Values.{code, IsDenied}
+use Rattle.dd_solver.specs.searching.Entries.{falses, IsFree, IsFull}
+use Rattle.dd_solver.specs.searching.Values.{code, IsDenied}
 use Rattle.dd_solver.proofs.Trails.{falses-append, has_variable-in, in-has_variable, absent, take_shorter, among_snoc}
 use Rattle.dd_solver.proofs.Valued.{valued_of, length_within, full_exactly, falses-snoc}
 

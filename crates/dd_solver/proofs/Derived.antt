@@ -10,10 +10,10 @@ use Rattle.dd_derivation.specs.declared.propagation.Finding.TheVariants.{Forced}
 use Rattle.dd_derivation.specs.declared.step.Step.{Step}
 use Rattle.dd_derivation.specs.Derivations.{is_among, finding, clause_of, hint_finding, is_literal_in_range, is_proper, is_conflict, is_right, are_deletable, known_after, refutes_from}
 use Rattle.dd_solver.specs.declared.trail.Entry.{Entry}
-use Rattle.dd_solver.specs.Entries.{falses, AreInRange, Follows, IsTrail}
-use Rattle.dd_solver.specs.Analysis.{is_rightly_learned}
-use Rattle.dd_solver.specs.Deleting.{MayDelete}
-use Rattle.dd_solver.specs.Search.{after_step, known_through, is_derived}
+use Rattle.dd_solver.specs.searching.Entries.{falses, AreInRange, Follows, IsTrail}
+use Rattle.dd_solver.specs.searching.Analysis.{is_rightly_learned}
+use Rattle.dd_solver.specs.searching.Deleting.{MayDelete}
+use Rattle.dd_solver.specs.searching.Search.{after_step, known_through, is_derived}
 use Rattle.dd_solver.proofs.Forcing.{hint_clause, at_clause}
 use Rattle.dd_solver.proofs.Numbers.{Known, known_push, known_left, known_last, known_before, length-after}
 

@@ -14,7 +14,7 @@ use Rattle.dd_derivation.specs.declared.propagation.Finding.TheVariants.{Falsifi
 use Rattle.dd_derivation.specs.declared.step.Step.{Step}
 use Rattle.dd_derivation.specs.Derivations.{is_among, finding, clause_of, without, follow, is_conflict, known_after, is_proper, is_right, refutes_from}
 use Rattle.dd_solver.specs.Trimming.{is_hint, is_hinted, are_used}
-use Rattle.dd_solver.specs.Marking.{kept_step, kept_steps}
+use Rattle.dd_solver.specs.searching.Marking.{kept_step, kept_steps}
 use Rattle.dd_solver.proofs.Numbers.{Known, known_push, known_left, known_last, known_within, known_before, length-after}
 
 -- the hints, under new numbers of the same clauses, end in the conflict that they ended in

@@ -12,8 +12,8 @@ use Rattle.dd_derivation.specs.Derivations.{same_literal, is_among, has_variable
 use Rattle.dd_derivation.specs.lemmas.Soundness.{same_literal-refl}
 use Rattle.dd_derivation.specs.lemmas.Findings.{In, in_here, Forces, forces_from}
 use Rattle.dd_solver.specs.declared.trail.Entry.{Entry}
-use Rattle.dd_solver.specs.Entries.{falses, Follows, IsTrail}
-use Rattle.dd_solver.specs.Analysis.{marks, Grows, AreMarked, IsMarkedClause}
+use Rattle.dd_solver.specs.searching.Entries.{falses, Follows, IsTrail}
+use Rattle.dd_solver.specs.searching.Analysis.{marks, Grows, AreMarked, IsMarkedClause}
 use Rattle.dd_solver.proofs.Forcing.{in_left, in_right, in_cases, in_one, falsified_all, all_falsified, forced_from, hint_clause, at_clause}
 use Rattle.dd_solver.proofs.Trails.{falses-more, in_falses, in_falses_take, get_any, apart}
 

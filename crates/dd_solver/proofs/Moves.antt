@@ -13,16 +13,16 @@ use Rattle.dd_values.specs.Variables.{true_variables}
 use Rattle.dd_derivation.specs.declared.propagation.Finding.TheVariants.{Falsified, Forced, Open}
 use Rattle.dd_derivation.specs.declared.step.Step.{Step}
 use Rattle.dd_derivation.specs.Derivations.{same_literal, is_among, has_variable, is_proper, is_conflict, hint_finding, finding, clause_of, clauses_before, are_deletable, known_after}
-use Rattle.dd_derivation.specs.MarksOf.{known_of}
+use Rattle.dd_derivation.specs.checking.MarksOf.{known_of}
 use Rattle.dd_derivation.specs.lemmas.Soundness.{same_literal-eq, all_false}
 use Rattle.dd_derivation.specs.lemmas.Falses.{same_variable}
 use Rattle.dd_derivation.specs.lemmas.Findings.{In, forces_from}
 use Rattle.dd_solver.specs.declared.trail.Entry.{Entry}
 use Rattle.dd_solver.specs.declared.analysis.Turn.{Turn}
-use Rattle.dd_solver.specs.Entries.{falses, all_known, AreInRange, EntryOk}
-use Rattle.dd_solver.specs.Analysis.{is_rightly_learned, Asserts}
-use Rattle.dd_solver.specs.Deleting.{MayDelete}
-use Rattle.dd_solver.specs.Search.{State, after_step, known_through, known, IsSearch, AreAlive, AreOpen, GoesOn}
+use Rattle.dd_solver.specs.searching.Entries.{falses, all_known, AreInRange, EntryOk}
+use Rattle.dd_solver.specs.searching.Analysis.{is_rightly_learned, Asserts}
+use Rattle.dd_solver.specs.searching.Deleting.{MayDelete}
+use Rattle.dd_solver.specs.searching.Search.{State, after_step, known_through, known, IsSearch, AreAlive, AreOpen, GoesOn}
 use Rattle.dd_solver.proofs.Forcing.{all_falsified, hint_clause, at_clause}
 use Rattle.dd_solver.proofs.Trails.{in-has_variable, trail_push, trail_front}
 use Rattle.dd_solver.proofs.Numbers.{Known, known_left, known_within, past_none, in_list, length-all, holds_of_clause, length-before, before-more, known_of-push, all_alive, after_push, length-after}

@@ -9,8 +9,8 @@ use Rattle.std.proofs.lemmas.Option.{slice_get_within, get_or_from_slice_get}
 use Rattle.dd_clause.specs.declared.clause.Literal.{Literal}
 use Rattle.dd_derivation.specs.declared.step.Step.{Step}
 use Rattle.dd_derivation.specs.Derivations.{clause_of, without, are_deletable, known_after, clauses_before}
-use Rattle.dd_derivation.specs.MarksOf.{known_of, known_to}
-use Rattle.dd_solver.specs.Entries.{all_known}
+use Rattle.dd_derivation.specs.checking.MarksOf.{known_of, known_to}
+use Rattle.dd_solver.specs.searching.Entries.{all_known}
 
 abbrev pub Known : Type 0
 Known = List (Option (List Literal))

@@ -4,7 +4,7 @@ use Rattle.std.specs.Option.{is_none}
 use Rattle.std.proofs.lemmas.List.{map-append}
 use Rattle.std.proofs.Math.Nat.{pow-succ'}
 use Rattle.dd_solver.specs.declared.trail.Entry.{Entry}
-use Rattle.dd_solver.specs.Search.{trail_number, decisions}
+use Rattle.dd_solver.specs.searching.Search.{trail_number, decisions}
 
 three : (n : ℕ) → 3 ^ suc n ≡ 3 * 3 ^ n
 three n = pow-succ' 3 n

@@ -10,7 +10,7 @@ use Rattle.dd_derivation.specs.Derivations.{same_literal, is_among, has_variable
 use Rattle.dd_derivation.specs.lemmas.Soundness.{same_literal-eq}
 use Rattle.dd_derivation.specs.lemmas.Findings.{In, in_here}
 use Rattle.dd_solver.specs.declared.trail.Entry.{Entry}
-use Rattle.dd_solver.specs.Entries.{falses, EntryOk, IsTrail}
+use Rattle.dd_solver.specs.searching.Entries.{falses, EntryOk, IsTrail}
 
 pub falses-append : (xs ys : List Entry) → falses (xs ++ ys) ≡ falses xs ++ falses ys
 falses-append [] ys = refl

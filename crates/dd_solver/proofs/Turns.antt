@@ -9,8 +9,8 @@ use Rattle.dd_derivation.specs.lemmas.Findings.{In, in_here}
 use Rattle.dd_solver.specs.declared.trail.Entry.{Entry}
 use Rattle.dd_solver.specs.declared.analysis.Turn.{Turn}
 use Rattle.dd_solver.specs.declared.analysis.Choice.TheVariants.{Keep}
-use Rattle.dd_solver.specs.Entries.{falses, IsTrail}
-use Rattle.dd_solver.specs.Analysis.{marks, ChoiceSays, Asserts}
+use Rattle.dd_solver.specs.searching.Entries.{falses, IsTrail}
+use Rattle.dd_solver.specs.searching.Analysis.{marks, ChoiceSays, Asserts}
 use Rattle.dd_solver.proofs.Forcing.{in_left, in_cases, in_one, forced_from}
 use Rattle.dd_solver.proofs.Trails.{in_falses_take, at_falses_take, apart}
 

@@ -12,8 +12,8 @@ use Rattle.dd_clause.specs.Clauses.{IsLiteralInRange, negation}
 use Rattle.dd_values.specs.Variables.{true_variables}
 use Rattle.dd_derivation.specs.Derivations.{same_literal, is_among, has_variable}
 use Rattle.dd_solver.specs.declared.trail.Entry.{Entry}
-use Rattle.dd_solver.specs.Entries.{falses, IsFree, IsFull}
-use Rattle.dd_solver.specs.Values.{IsNewTo}
+use Rattle.dd_solver.specs.searching.Entries.{falses, IsFree, IsFull}
+use Rattle.dd_solver.specs.searching.Values.{IsNewTo}
 use Rattle.dd_solver.proofs.Trails.{falses-append, in_falses, at_falses, has_variable-in, in-has_variable, absent, take_shorter, among_snoc}
 
 -- a variable with this value makes its literal of this sign false

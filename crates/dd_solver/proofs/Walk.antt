@@ -10,8 +10,8 @@ use Rattle.dd_derivation.specs.Derivations.{is_among, hint_finding, is_proper}
 use Rattle.dd_solver.specs.declared.trail.Entry.{Entry}
 use Rattle.dd_solver.specs.declared.analysis.Turn.{Turn}
 use Rattle.dd_solver.specs.declared.analysis.Choice.TheVariants.{Keep}
-use Rattle.dd_solver.specs.Entries.{falses, IsTrail}
-use Rattle.dd_solver.specs.Analysis.{marks, Grows, IsMarkedClause, is_rightly_learned, ChoiceSays, Asserts}
+use Rattle.dd_solver.specs.searching.Entries.{falses, IsTrail}
+use Rattle.dd_solver.specs.searching.Analysis.{marks, Grows, IsMarkedClause, is_rightly_learned, ChoiceSays, Asserts}
 use Rattle.dd_solver.proofs.Leads.{Leads, AreFrom, covers_from, leads_conflict, leads_past, leads_kept, leads_forced, leads_all, proper_more, later_more, later_past}
 use Rattle.dd_solver.proofs.Turns.{TurnIs, turn_past, turn_resolved, turn_kept, turn_asserts}
 

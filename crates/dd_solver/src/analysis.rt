@@ -7,8 +7,8 @@ ghost use Rattle.std.specs.Prelude.{◌≡◌, ℕ, ◌<◌, ◌≤◌, true, []
 ghost use Rattle.dd_clause.specs.Clauses.{IsLiteralInRange, IsClauseInRange};
 ghost use Rattle.dd_derivation.specs.declared.propagation.Finding.TheVariants.{Falsified};
 ghost use Rattle.dd_derivation.specs.Derivations.{hint_finding, is_among};
-ghost use Rattle.dd_solver.specs.Entries.{falses, IsTrail, AreInRange};
-ghost use Rattle.dd_solver.specs.Analysis.{Grows, AreMarked, IsMarkedClause, is_rightly_learned, IsPlace, IsTurn, ChoiceSays, Asserts};
+ghost use Rattle.dd_solver.specs.searching.Entries.{falses, IsTrail, AreInRange};
+ghost use Rattle.dd_solver.specs.searching.Analysis.{Grows, AreMarked, IsMarkedClause, is_rightly_learned, IsPlace, IsTurn, ChoiceSays, Asserts};
 
 use crate::database::Database;
 use crate::order::Order;

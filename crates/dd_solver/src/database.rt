@@ -2,7 +2,7 @@
 ghost use Rattle.std.specs.Prelude.{◌≡◌, ◌≤◌, ◌+◌, length};
 ghost use Rattle.std.specs.Option.{option_copied};
 ghost use Rattle.dd_derivation.specs.Derivations.{clause_of};
-ghost use Rattle.dd_derivation.specs.MarksOf.{known_to};
+ghost use Rattle.dd_derivation.specs.checking.MarksOf.{known_to};
 
 use dd_clause::{Clause, Literal};
 use dd_derivation::{Known, Step};

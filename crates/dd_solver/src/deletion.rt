@@ -3,7 +3,7 @@
 // a literal of the trail. What is chosen is looked at exactly, so no promise rests on what is kept here.
 ghost use Rattle.std.specs.Prelude.{◌≡◌, ℕ, List, ◌<◌, false, length, IfOk, Some, slice_index_or};
 ghost use Rattle.dd_clause.specs.declared.clause.Literal.{Literal};
-ghost use Rattle.dd_solver.specs.Deleting.{AreChosen, MayDelete};
+ghost use Rattle.dd_solver.specs.searching.Deleting.{AreChosen, MayDelete};
 
 use crate::database::Database;
 use crate::trail::{Entry, Trail};

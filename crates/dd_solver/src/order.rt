@@ -2,7 +2,7 @@
 // those that took part in the latest conflicts, each with the value that it had last. They stand in a binary heap. What
 // is taken from it is looked at exactly, so no promise rests on the order: a bad one costs time.
 ghost use Rattle.std.specs.Prelude.{◌≡◌, ◌<◌, ◌^◌, MatchOption, ⊤};
-ghost use Rattle.dd_solver.specs.Entries.{IsFree, IsFull};
+ghost use Rattle.dd_solver.specs.searching.Entries.{IsFree, IsFull};
 
 use crate::trail::Trail;
 use dd_clause::Literal;

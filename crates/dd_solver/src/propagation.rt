@@ -2,8 +2,8 @@
 ghost use Rattle.std.specs.Prelude.{◌≡◌};
 ghost use Rattle.dd_derivation.specs.declared.propagation.Finding.TheVariants.{Open};
 ghost use Rattle.dd_derivation.specs.Derivations.{hint_finding, is_among};
-ghost use Rattle.dd_solver.specs.Entries.{falses};
-ghost use Rattle.dd_solver.specs.Search.{Says, AreOpenBetween};
+ghost use Rattle.dd_solver.specs.searching.Entries.{falses};
+ghost use Rattle.dd_solver.specs.searching.Search.{Says, AreOpenBetween};
 
 use crate::database::Database;
 use crate::trail::Trail;

@@ -5,10 +5,10 @@ ghost use Rattle.std.specs.Prelude.{◌≡◌, ℕ, ◌+◌, ◌<◌, ◌≤◌,
 ghost use Rattle.dd_clause.specs.declared.clause.Literal.{Literal};
 ghost use Rattle.dd_clause.specs.Clauses.{IsClauseInRange, Satisfies};
 ghost use Rattle.dd_derivation.specs.Derivations.{known_after};
-ghost use Rattle.dd_derivation.specs.MarksOf.{known_of};
+ghost use Rattle.dd_derivation.specs.checking.MarksOf.{known_of};
 ghost use Rattle.dd_values.specs.Variables.{true_variables};
-ghost use Rattle.dd_solver.specs.Entries.{IsFull};
-ghost use Rattle.dd_solver.specs.Search.{State, AreOpen, IsFalsified, IsForced, GoesOn, left};
+ghost use Rattle.dd_solver.specs.searching.Entries.{IsFull};
+ghost use Rattle.dd_solver.specs.searching.Search.{State, AreOpen, IsFalsified, IsForced, GoesOn, left};
 ghost use Rattle.dd_solver.specs.Answers.{IsAnswer, IsFound, IsRefuted, IsSatisfiable};
 
 use crate::analysis::{Turn, learn};
@@ -40,7 +40,7 @@ pub struct Search<'a> {
 
 impl<'a> Model for Search<'a> {
     ghost use Rattle.std.specs.Prelude.{◌≡◌, ◌+◌, ◌<◌, ◌^◌, length};
-    ghost use Rattle.dd_solver.specs.Search.{State, IsSearch, AreAlive};
+    ghost use Rattle.dd_solver.specs.searching.Search.{State, IsSearch, AreAlive};
 
     ghost Value = { State };
 

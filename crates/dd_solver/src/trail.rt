@@ -4,8 +4,8 @@ ghost use Rattle.std.specs.Prelude.{◌≡◌, ℕ, ◌+◌, ◌<◌, ◌≤◌,
 ghost use Rattle.dd_clause.specs.Clauses.{IsLiteralInRange};
 ghost use Rattle.dd_values.specs.Variables.{true_variables};
 ghost use Rattle.dd_derivation.specs.Derivations.{is_among, has_variable};
-ghost use Rattle.dd_solver.specs.Entries.{falses, IsFree, IsFull};
-ghost use Rattle.dd_solver.specs.Values.{code, IsDenied};
+ghost use Rattle.dd_solver.specs.searching.Entries.{falses, IsFree, IsFull};
+ghost use Rattle.dd_solver.specs.searching.Values.{code, IsDenied};
 
 use dd_clause::{Assignment, Literal};
 use dd_derivation::FalseLiterals;
@@ -37,8 +37,8 @@ pub struct Trail {
 }
 
 impl Model for Trail {
-    ghost use Rattle.dd_solver.specs.Entries.{EntryList};
-    ghost use Rattle.dd_solver.specs.Values.{IsDenied};
+    ghost use Rattle.dd_solver.specs.searching.Entries.{EntryList};
+    ghost use Rattle.dd_solver.specs.searching.Values.{IsDenied};
 
     ghost Value = { EntryList };
 

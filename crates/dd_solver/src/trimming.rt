@@ -4,7 +4,7 @@
 ghost use Rattle.std.specs.Prelude.{◌≡◌, ℕ, suc, ◌+◌, ◌<◌, ◌≤◌, ◌^◌, ◌||◌, [], true, false, length, map, All, IfOk, MatchOption, slice_index_or};
 ghost use Rattle.dd_derivation.specs.Derivations.{refutes};
 ghost use Rattle.dd_solver.specs.Trimming.{is_hint, are_used};
-ghost use Rattle.dd_solver.specs.Marking.{IsMarking, numbers_from, renamed, kept_step, kept_steps};
+ghost use Rattle.dd_solver.specs.searching.Marking.{IsMarking, numbers_from, renamed, kept_step, kept_steps};
 
 use dd_clause::{Clause, Cnf};
 use dd_derivation::Step;

@@ -4,8 +4,8 @@
 // one that is missed costs time. Nor does an invariant say that the places kept here are within their lists: the tests
 // below that look are never false.
 ghost use Rattle.std.specs.Prelude.{◌≡◌, ◌<◌, ◌^◌, length, IfOk, MatchOption, ⊤};
-ghost use Rattle.dd_solver.specs.Entries.{falses, IsFull};
-ghost use Rattle.dd_solver.specs.Search.{Says, AreOpenBetween};
+ghost use Rattle.dd_solver.specs.searching.Entries.{falses, IsFull};
+ghost use Rattle.dd_solver.specs.searching.Search.{Says, AreOpenBetween};
 
 use crate::database::Database;
 use crate::propagation::{Scan, look_at, scan_between};

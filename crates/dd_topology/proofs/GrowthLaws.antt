@@ -19,7 +19,7 @@ use Rattle.dd_lattice.specs.declared.fault.LatticeFault.{LatticeFault}
 use Rattle.dd_lattice.specs.declared.fault.LatticeFault.TheVariants.{Range, Memory}
 use Rattle.dd_topology.specs.declared.edge.Edge.{Edge}
 use Rattle.dd_topology.specs.Balls.{CellSet, IsAdjacent, IsInBall, IsCellListOf, IsCellFaultOf, CellsLeaveRange, edge_ends, edge_starts, beside, neighbours, ball, are_in_range}
-use Rattle.dd_topology.specs.Growth.{AddsCells}
+use Rattle.dd_topology.specs.keeping.Growth.{AddsCells}
 use Rattle.dd_topology.specs.lemmas.ListLaws.{in_flat_map, into_flat_map}
 use Rattle.dd_topology.specs.lemmas.OrderLaws.{kept-insert_key, has-insert_key, from-insert_key, is-in_order}
 use Rattle.dd_topology.proofs.BallLaws.{from_neighbours, into_neighbours, in_ball, ball_holds}

@@ -14,7 +14,7 @@ use Rattle.dd_lattice.specs.lemmas.RangeLaws.{test_from_in_range}
 use Rattle.dd_topology.specs.declared.edge.Edge.{Edge}
 use Rattle.dd_topology.specs.Topology.{leaves, end_of, in_range, IsMove, starts_alike, AreSingle}
 use Rattle.indexmap.specs.IndexSet.{insert_key}
-use Rattle.dd_topology.specs.Kept.{move_of}
+use Rattle.dd_topology.specs.keeping.Kept.{move_of}
 use Rattle.dd_topology.specs.declared.topology.Move.{Move}
 use Rattle.dd_topology.specs.lemmas.ListLaws.{found, missed, list_any-map, position-map, find-position, find_alike, insert_key-new}
 

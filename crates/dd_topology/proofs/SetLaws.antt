@@ -7,7 +7,7 @@ use Rattle.std.proofs.lemmas.List.{take-replicate, drop-replicate, take-append-d
 use Rattle.std.proofs.lemmas.List.Elements.{All-get_or, All-replicate, All-set, Contains-get_or}
 use Rattle.std.proofs.lemmas.List.FromFn.{get_or-map-range_with_len, length-map-range_with_len}
 use Rattle.dd_topology.specs.Sets.{SymbolSets, IsRow, IsSets, all_symbols, is_listed, symbol_row, restricted}
-use Rattle.dd_topology.specs.Kept.{in_rows}
+use Rattle.dd_topology.specs.keeping.Kept.{in_rows}
 use Rattle.dd_topology.specs.lemmas.ListLaws.{passes_any}
 
 pub item_below : (n m a t : ℕ) → a < n → t < m → a * m + t < n * m

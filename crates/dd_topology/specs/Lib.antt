@@ -1,13 +1,14 @@
--- Names, edges and moves, adjacency and balls, topologies and the built-in ones.
+-- names of nodes, and edges and moves
 pub mod Naming
 pub mod Topology
+-- adjacency and balls
 pub mod Balls
+-- the built-in topologies
 pub mod Grid
 pub mod Builtin
--- Which symbols the nodes allow.
+-- which symbols the nodes allow
 pub mod Sets
--- What is kept beside the edges, and a round of a ball's growth.
-pub mod Kept
-pub mod Growth
+-- what a topology keeps beside its edges, and a round of a ball's growth
+pub mod keeping
 -- lemmas on what stands above, with their proofs, for whoever cites them
 pub mod lemmas

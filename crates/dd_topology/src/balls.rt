@@ -7,7 +7,7 @@ ghost use Rattle.dd_lattice.specs.Order.{cell_cmp};
 ghost use Rattle.dd_lattice.specs.InOrder.{in_order};
 ghost use Rattle.dd_lattice.specs.declared.fault.LatticeFault.TheVariants.{Range};
 ghost use Rattle.dd_topology.specs.Balls.{same_place, leads, is_adjacent, IsAdjacent, IsInBall, IsCellListOf, IsCellFaultOf, edge_ends, edge_starts, neighbours, ball, are_in_range};
-ghost use Rattle.dd_topology.specs.Growth.{AddsCells};
+ghost use Rattle.dd_topology.specs.keeping.Growth.{AddsCells};
 
 use crate::edge::{Edge, end_of, start_of};
 use crate::topology::Topology;

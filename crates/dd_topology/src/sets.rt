@@ -16,7 +16,7 @@ pub struct Sets {
 impl Model for Sets {
     ghost use Rattle.std.specs.Prelude.{◌≡◌, ◌*◌, length};
     ghost use Rattle.dd_topology.specs.Sets.{SymbolSets, symbol_sets, IsSets};
-    ghost use Rattle.dd_topology.specs.Kept.{in_rows};
+    ghost use Rattle.dd_topology.specs.keeping.Kept.{in_rows};
 
     ghost Value = { SymbolSets };
 

@@ -8,7 +8,7 @@ ghost use Rattle.dd_topology.specs.Naming.{number_of};
 ghost use Rattle.dd_topology.specs.Topology.{leaves, step, in_range, IsMove, AreSingle, are_short};
 ghost use Rattle.dd_topology.specs.Grid.{grid, is_edge, IsGrid, IsTopologyFault};
 ghost use Rattle.dd_topology.specs.Balls.{is_adjacent, IsAdjacent, ball, IsInBall};
-ghost use Rattle.dd_topology.specs.Kept.{move_of};
+ghost use Rattle.dd_topology.specs.keeping.Kept.{move_of};
 
 use crate::edge::{Edge, end_of};
 use crate::fault::TopologyFault;
@@ -41,7 +41,7 @@ pub struct Topology {
 impl Model for Topology {
     ghost use Rattle.std.specs.Prelude.{◌≡◌, map};
     ghost use Rattle.dd_topology.specs.Grid.{Grid, grid, IsGrid};
-    ghost use Rattle.dd_topology.specs.Kept.{move_of};
+    ghost use Rattle.dd_topology.specs.keeping.Kept.{move_of};
 
     ghost Value = { Grid };
 

@@ -1,4 +1,8 @@
+-- limits that more than one crate keeps
 pub mod Bounds
-pub mod Counts
+-- truth values of numbered variables
 pub mod Variables
+-- counts of faults
+pub mod Counts
+-- what lists and boxes keep
 pub mod formers

@@ -12,7 +12,7 @@ use Rattle.dd_derivation.specs.declared.propagation.Finding.{Finding}
 use Rattle.dd_derivation.specs.declared.propagation.Finding.TheVariants.{Forced, Open}
 use Rattle.dd_derivation.specs.declared.propagation.VariableMark.{VariableMark}
 use Rattle.dd_derivation.specs.Derivations.{same_literal, is_among, is_literal_in_range, finding, clause_of, hint_finding, follow, is_conflict}
-use Rattle.dd_derivation.specs.MarksOf.{is_marked, with_mark, first_literal_of, literals_of, is_false_unmarked, is_false, FalsesAre, AreUpTo, AreBelow}
+use Rattle.dd_derivation.specs.checking.MarksOf.{is_marked, with_mark, first_literal_of, literals_of, is_false_unmarked, is_false, FalsesAre, AreUpTo, AreBelow}
 use Rattle.dd_derivation.specs.lemmas.Soundness.{same_literal-eq, same_literal-refl, literal-eq, beq-eq}
 use Rattle.dd_derivation.specs.lemmas.Findings.{In, Forces, forces_from, hint_finding-congr}
 

@@ -7,7 +7,7 @@ use Rattle.std.proofs.lemmas.Option.{slice_get_within, slice_get_past}
 use Rattle.dd_clause.specs.declared.clause.Literal.{Literal}
 use Rattle.dd_derivation.specs.declared.step.Step.{Step}
 use Rattle.dd_derivation.specs.Derivations.{clause_of, without, are_deletable, known_after, clauses_before}
-use Rattle.dd_derivation.specs.MarksOf.{known_of}
+use Rattle.dd_derivation.specs.checking.MarksOf.{known_of}
 
 cond_none : (b : Bool) → let n : Option (List Literal) = None in n ≡ cond b n n
 cond_none true = refl

@@ -19,7 +19,7 @@ use Rattle.dd_boxes.specs.Boxes.{origin, Reaches}
 use Rattle.dd_boxes.specs.lemmas.RuleLaws.{shifted_by_origin, list_all_weaker}
 use Rattle.dd_boxes.specs.lemmas.CutLaws.{flat_box}
 use Rattle.dd_boxes.specs.lemmas.FromBox.{box_alike}
-use Rattle.dd_problem.specs.Told.{IsToldGoal}
+use Rattle.dd_problem.specs.pushing.Told.{IsToldGoal}
 use Rattle.dd_boxes.specs.Cells.{box_cells}
 use Rattle.dd_problem.specs.Layouts.{box_index, box_layout, fits_in}
 use Rattle.dd_problem.specs.Problems.{problem_clauses}

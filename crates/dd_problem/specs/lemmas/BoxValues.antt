@@ -14,10 +14,10 @@ use Rattle.dd_boxes.specs.Fillings.{is_box_cell, is_cell_within}
 use Rattle.dd_boxes.specs.Boxes.{origin, Reaches}
 use Rattle.dd_boxes.specs.lemmas.RuleLaws.{shifted_by_origin}
 use Rattle.dd_boxes.specs.lemmas.FromBox.{box_over}
-use Rattle.dd_problem.specs.Told.{IsToldGoal}
+use Rattle.dd_problem.specs.pushing.Told.{IsToldGoal}
 use Rattle.dd_boxes.specs.Cells.{box_cells}
 use Rattle.dd_problem.specs.Layouts.{box_index, box_layout}
-use Rattle.dd_problem.specs.Numbered.{symbol_signals, in_turn}
+use Rattle.dd_problem.specs.pushing.Numbered.{symbol_signals, in_turn}
 use Rattle.dd_problem.specs.lemmas.BoxLayout.{bounds_ordered, box_is_layout, box_cell_there}
 use Rattle.dd_problem.specs.lemmas.CellOrder.{cells_ascending}
 use Rattle.dd_problem.specs.lemmas.NumberedWires.{turn_at, signals_there}

@@ -14,8 +14,8 @@ use Rattle.dd_circuit.specs.Circuits.{IsSignal, signal_of}
 use Rattle.dd_compile.specs.Wiring.{IsWiring, signal_for, signals_of, wire_of}
 use Rattle.dd_compile.specs.lemmas.WiringLaws.{read_by_place, signals_at_place}
 use Rattle.dd_problem.specs.Clauses.{input}
-use Rattle.dd_problem.specs.Pushed.{AreInputs}
-use Rattle.dd_problem.specs.Numbered.{symbol_signals, numbered_wiring}
+use Rattle.dd_problem.specs.pushing.Pushed.{AreInputs}
+use Rattle.dd_problem.specs.pushing.Numbered.{symbol_signals, numbered_wiring}
 use Rattle.dd_problem.specs.lemmas.RangesLeft.{row_within}
 use Rattle.dd_problem.specs.lemmas.Filtered.{some_same, slice_of_range}
 use Rattle.dd_problem.specs.lemmas.CellOrder.{All-range}

@@ -26,7 +26,7 @@ use Rattle.dd_boxes.specs.Goals.{GoalOf, breaks, differ, always}
 use Rattle.dd_boxes.specs.Boxes.{origin}
 use Rattle.dd_problem.specs.Layouts.{Layout}
 use Rattle.dd_problem.specs.Clauses.{input}
-use Rattle.dd_problem.specs.Numbered.{symbol_signals}
+use Rattle.dd_problem.specs.pushing.Numbered.{symbol_signals}
 use Rattle.dd_problem.specs.Differing.{differ_made}
 use Rattle.dd_problem.specs.lemmas.Filtered.{some_same, slice_of_range}
 use Rattle.dd_problem.specs.lemmas.RangesLeft.{row_within}

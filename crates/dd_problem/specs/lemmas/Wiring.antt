@@ -15,7 +15,7 @@ use Rattle.dd_expansion.specs.lemmas.LeavesAreReads.{leaves_are_reads}
 use Rattle.dd_formula.specs.LocalRule.{LocalRule, IsRule, is_true, reads_at, expansion_at}
 use Rattle.dd_boxes.specs.Goals.{GoalOf, breaks, differ, always, HasGoal}
 use Rattle.dd_boxes.specs.Boxes.{origin}
-use Rattle.dd_problem.specs.Told.{IsToldGoal}
+use Rattle.dd_problem.specs.pushing.Told.{IsToldGoal}
 use Rattle.dd_problem.specs.Layouts.{Layout, fits_in}
 use Rattle.dd_problem.specs.lemmas.Filtered.{filter_all}
 use Rattle.dd_formula.specs.Automata.{value}

@@ -1,6 +1,6 @@
 use Rattle.std.proofs.Common.{arith, ◌∙◌}
 use Rattle.dd_derivation.specs.lemmas.Numbers.{after_one, after_past, after_zero}
-use Rattle.dd_derivation.specs.MarksOf.{known_of}
+use Rattle.dd_derivation.specs.checking.MarksOf.{known_of}
 use Rattle.dd_derivation.proofs.known.delete_named.Goals as goal
 use Rattle.dd_derivation.proofs.known.delete_named.Goals.{then-number-ge1+then-place-alive, then-number-ge1+else-place-alive, else-number-ge1}
 

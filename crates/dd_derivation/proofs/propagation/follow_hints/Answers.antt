@@ -1,7 +1,7 @@
 use Rattle.std.proofs.Common.{◌≡◌, ◌∷◌, get_or, take, sym}
 use Rattle.dd_clause.specs.Clauses.{negation}
 use Rattle.dd_derivation.specs.declared.propagation.Finding.TheVariants.{Falsified, Forced, Open}
-use Rattle.dd_derivation.specs.MarksOf.{literals_of, with_mark}
+use Rattle.dd_derivation.specs.checking.MarksOf.{literals_of, with_mark}
 use Rattle.dd_derivation.specs.lemmas.Falses.{hint_seen, FalsesAre-forced, AreUpTo-marked, literals_of-more, conflict_now}
 use Rattle.dd_derivation.proofs.propagation.follow_hints.Goals as goal
 

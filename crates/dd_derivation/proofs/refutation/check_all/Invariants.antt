@@ -1,6 +1,6 @@
 use Rattle.std.proofs.Common.{◌≡◌, ◌+◌, ◌≤◌, ◌<◌, ℕ, true, false, length, take, drop, get_or}
 use Rattle.dd_derivation.specs.Derivations.{refutes, refutes_from, clauses_before}
-use Rattle.dd_derivation.specs.MarksOf.{known_of, AreBelow}
+use Rattle.dd_derivation.specs.checking.MarksOf.{known_of, AreBelow}
 use Rattle.dd_derivation.proofs.refutation.check_all.Given as goal
 
 abbrev pub invariant-loop-i : goal.invariant-loop-i

@@ -1,7 +1,7 @@
 use Rattle.std.proofs.Common.{sym, subst}
 use Rattle.dd_boxes.specs.Goals.{IsGoalFor}
 use Rattle.dd_boxes.specs.Views.{goal_of}
-use Rattle.dd_problem.specs.Told.{IsToldGoal}
+use Rattle.dd_problem.specs.pushing.Told.{IsToldGoal}
 use Rattle.dd_problem.proofs.goals.told_goal.Goals as goal
 
 pub returns-in-Breaks : goal.returns-in-Breaks

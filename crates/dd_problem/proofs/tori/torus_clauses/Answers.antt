@@ -1,6 +1,6 @@
 use Rattle.std.proofs.Common.{map, subst, sym}
-use Rattle.dd_problem.specs.Grown.{near_cells, number_at, numbered_tile, question_reach}
-use Rattle.dd_problem.specs.Pushed.{HasAllSymbols}
+use Rattle.dd_problem.specs.pushing.Grown.{near_cells, number_at, numbered_tile, question_reach}
+use Rattle.dd_problem.specs.pushing.Pushed.{HasAllSymbols}
 use Rattle.dd_problem.proofs.Templating.{numbered_full, torus_near}
 use Rattle.dd_pattern.specs.Periods.{periods_of}
 use Rattle.dd_boxes.specs.Views.{goal_of}

@@ -1,5 +1,5 @@
 use Rattle.std.proofs.Common.{take}
-use Rattle.dd_solver.specs.Analysis.{Grows, AreMarked}
+use Rattle.dd_solver.specs.searching.Analysis.{Grows, AreMarked}
 use Rattle.dd_solver.proofs.analysis.mark_literals.Given as goal
 
 abbrev pub invariant-loop-literal : goal.invariant-loop-literal

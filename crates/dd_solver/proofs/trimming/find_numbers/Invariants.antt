@@ -1,5 +1,5 @@
 use Rattle.std.proofs.Common.{◌≡◌, ◌+◌, ◌≤◌, ◌++◌, drop}
-use Rattle.dd_solver.specs.Marking.{numbers_from}
+use Rattle.dd_solver.specs.searching.Marking.{numbers_from}
 use Rattle.dd_solver.proofs.trimming.find_numbers.Given as goal
 
 abbrev pub invariant-loop-is_marked : goal.invariant-loop-is_marked

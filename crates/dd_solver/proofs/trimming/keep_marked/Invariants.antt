@@ -1,5 +1,5 @@
 use Rattle.std.proofs.Common.{◌≡◌, ◌++◌, drop}
-use Rattle.dd_solver.specs.Marking.{renamed, kept_steps}
+use Rattle.dd_solver.specs.searching.Marking.{renamed, kept_steps}
 use Rattle.dd_solver.proofs.trimming.keep_marked.Given as goal
 
 abbrev pub invariant-loop-place : goal.invariant-loop-place

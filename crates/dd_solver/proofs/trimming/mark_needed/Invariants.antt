@@ -1,4 +1,4 @@
-use Rattle.dd_solver.specs.Marking.{IsMarking}
+use Rattle.dd_solver.specs.searching.Marking.{IsMarking}
 use Rattle.dd_solver.proofs.trimming.mark_needed.Given as goal
 
 abbrev pub invariant-loop-place : goal.invariant-loop-place

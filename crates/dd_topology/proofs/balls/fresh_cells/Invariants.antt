@@ -1,5 +1,5 @@
 use Rattle.std.proofs.Common.{take}
-use Rattle.dd_topology.specs.Growth.{AddsCells}
+use Rattle.dd_topology.specs.keeping.Growth.{AddsCells}
 use Rattle.dd_topology.proofs.balls.fresh_cells.Given as goal
 
 abbrev pub invariant-loop-cell : goal.invariant-loop-cell

@@ -7,7 +7,7 @@ use Rattle.dd_expansion.specs.declared.expanded.Expanded.{Expanded}
 use Rattle.dd_expansion.specs.declared.expanded.Expanded.TheVariants as expanded
 use Rattle.dd_expansion.specs.declared.formulas.Formula.{Formula}
 use Rattle.dd_expansion.specs.Leaves.{instances}
-use Rattle.dd_expansion.specs.Near.{AreNear}
+use Rattle.dd_expansion.specs.expanding.Near.{AreNear}
 use Rattle.dd_expansion.specs.Expansion.{expansion}
 use Rattle.dd_expansion.proofs.formulas.Formula.TheLaws.{the_size}
 use Rattle.dd_expansion.specs.lemmas.Layers.{expansion_and, expansion_or, expansion_for_all, expansion_exists}

@@ -1,5 +1,5 @@
 use Rattle.std.proofs.Common.{◌≡◌, ◌<◌, ◌≤◌, ◌^◌, length}
-use Rattle.dd_solver.specs.Search.{IsSearch, AreAlive, left}
+use Rattle.dd_solver.specs.searching.Search.{IsSearch, AreAlive, left}
 use Rattle.dd_solver.proofs.search.Search.propagate.Given as goal
 
 abbrev pub invariant-turns : goal.invariant-turns

@@ -1,6 +1,6 @@
 use Rattle.std.proofs.Common.{◌≡◌, sym, subst}
-use Rattle.dd_solver.specs.Entries.{IsFull}
-use Rattle.dd_solver.specs.Search.{State, AreOpen}
+use Rattle.dd_solver.specs.searching.Entries.{IsFull}
+use Rattle.dd_solver.specs.searching.Search.{State, AreOpen}
 use Rattle.dd_solver.proofs.search.Search.run.Goals as goal
 
 pub assignment-requires-clause-open : goal.assignment-requires-clause-open

@@ -1,5 +1,5 @@
 use Rattle.std.proofs.Common.{◌≡◌}
-use Rattle.dd_solver.specs.Search.{left}
+use Rattle.dd_solver.specs.searching.Search.{left}
 use Rattle.dd_solver.proofs.search.Search.run.Given as goal
 
 abbrev pub invariant-turns : goal.invariant-turns

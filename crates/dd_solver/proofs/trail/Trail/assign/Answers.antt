@@ -1,7 +1,7 @@
 use Rattle.std.proofs.Common.{◌≡◌, false}
 use Rattle.dd_clause.specs.Clauses.{IsLiteralInRange}
 use Rattle.dd_derivation.specs.Derivations.{has_variable}
-use Rattle.dd_solver.specs.Entries.{falses}
+use Rattle.dd_solver.specs.searching.Entries.{falses}
 use Rattle.dd_solver.proofs.Denied.{room_more}
 use Rattle.dd_solver.proofs.trail.Trail.assign.Goals as goal
 

@@ -1,6 +1,6 @@
 use Rattle.std.proofs.Common.{◌≡◌, ℕ, ◌+◌, ◌-◌, true, ap, subst, arith}
 use Rattle.dd_derivation.specs.Derivations.{has_variable}
-use Rattle.dd_solver.specs.Entries.{falses}
+use Rattle.dd_solver.specs.searching.Entries.{falses}
 use Rattle.dd_solver.proofs.trail.Trail.find_free.Goals as goal
 
 pub returns : goal.returns

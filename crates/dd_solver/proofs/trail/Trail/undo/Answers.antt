@@ -1,7 +1,7 @@
 use Rattle.std.proofs.Common.{◌-◌, false, set, take, sym, ◌∙◌, subst, arith}
 use Rattle.dd_clause.specs.Clauses.{negation}
 use Rattle.dd_solver.specs.declared.trail.Entry.{Entry}
-use Rattle.dd_solver.specs.Values.{IsDenied, code}
+use Rattle.dd_solver.specs.searching.Values.{IsDenied, code}
 use Rattle.dd_solver.proofs.Denied.{denied_less}
 use Rattle.dd_solver.proofs.Trails.{take_shorter}
 use Rattle.dd_solver.proofs.trail.Trail.undo.Goals as goal

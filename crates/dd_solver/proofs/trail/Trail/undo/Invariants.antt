@@ -1,5 +1,5 @@
 use Rattle.std.proofs.Common.{◌≡◌, take, vec_len}
-use Rattle.dd_solver.specs.Values.{IsDenied}
+use Rattle.dd_solver.specs.searching.Values.{IsDenied}
 use Rattle.dd_solver.proofs.trail.Trail.undo.Given as goal
 
 abbrev pub invariant-loop-self : goal.invariant-loop-self

@@ -1,7 +1,7 @@
 use Rattle.std.proofs.Common.{◌<◌, ◌∙◌, sym, refl, length, Some, None}
 use Rattle.std.proofs.lemmas.List.{length-map}
 use Rattle.std.proofs.lemmas.Option.{slice_get_read}
-use Rattle.dd_topology.specs.Kept.{move_of}
+use Rattle.dd_topology.specs.keeping.Kept.{move_of}
 use Rattle.dd_topology.proofs.MoveLaws.{found_by_move}
 use Rattle.dd_topology.proofs.topology.Topology.edge_from.Goals as goal
 

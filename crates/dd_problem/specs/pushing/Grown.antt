@@ -12,7 +12,7 @@ use Rattle.dd_formula.specs.LocalRule.{LocalRule}
 use Rattle.dd_formula.specs.Reach.{reach, automaton_reach}
 use Rattle.dd_boxes.specs.Goals.{GoalOf, breaks, differ, always}
 use Rattle.dd_problem.specs.Layouts.{Layout, cells_in, torus, torus_cells}
-use Rattle.dd_problem.specs.Numbered.{numbered_wiring}
+use Rattle.dd_problem.specs.pushing.Numbered.{numbered_wiring}
 
 -- how far the goal reads, and how far the premise and the goal read
 abbrev pub goal_reach : GoalOf → ℕ

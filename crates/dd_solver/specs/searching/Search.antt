@@ -4,12 +4,12 @@ use Rattle.dd_clause.specs.declared.clause.Literal.{Literal}
 use Rattle.dd_derivation.specs.declared.propagation.Finding.TheVariants.{Falsified, Forced, Open}
 use Rattle.dd_derivation.specs.declared.step.Step.{Step}
 use Rattle.dd_derivation.specs.Derivations.{clause_of, hint_finding, is_among, known_after, is_right, refutes}
-use Rattle.dd_derivation.specs.MarksOf.{known_to}
+use Rattle.dd_derivation.specs.checking.MarksOf.{known_to}
 use Rattle.dd_solver.specs.declared.trail.Entry.{Entry}
 use Rattle.dd_solver.specs.declared.analysis.Turn.{Turn}
 use Rattle.dd_solver.specs.declared.propagation.Scan.{Scan}
 use Rattle.dd_solver.specs.declared.propagation.Scan.TheVariants.{Conflict, Unit, Nothing}
-use Rattle.dd_solver.specs.Entries.{falses, all_known, AreInRange, IsTrail}
+use Rattle.dd_solver.specs.searching.Entries.{falses, all_known, AreInRange, IsTrail}
 
 -- the number of variables, the clauses, the steps learned so far, and the trail
 pub record State : Type 0 where

@@ -4,7 +4,7 @@ use Rattle.dd_clause.specs.declared.clause.Literal.{Literal}
 use Rattle.dd_clause.specs.Clauses.{IsLiteralInRange}
 use Rattle.dd_derivation.specs.Derivations.{is_among, has_variable}
 use Rattle.dd_solver.specs.declared.trail.Entry.{Entry}
-use Rattle.dd_solver.specs.Entries.{falses}
+use Rattle.dd_solver.specs.searching.Entries.{falses}
 
 -- the place of a literal in a list of all of them
 abbrev pub code : Literal → ℕ

@@ -8,7 +8,7 @@ use Rattle.dd_solver.specs.declared.trail.Entry.{Entry}
 use Rattle.dd_solver.specs.declared.analysis.Turn.{Turn}
 use Rattle.dd_solver.specs.declared.analysis.Choice.{Choice}
 use Rattle.dd_solver.specs.declared.analysis.Choice.TheVariants.{Resolve, Keep}
-use Rattle.dd_solver.specs.Entries.{falses}
+use Rattle.dd_solver.specs.searching.Entries.{falses}
 
 -- the literal's variable is marked
 abbrev pub marks : List Bool → Literal → Bool

@@ -1,0 +1,4 @@
+pub mod Pushed
+pub mod Numbered
+pub mod Grown
+pub mod Told

@@ -1,0 +1,6 @@
+pub mod Entries
+pub mod Values
+pub mod Analysis
+pub mod Deleting
+pub mod Search
+pub mod Marking
