@@ -220,17 +220,11 @@ fn quantified(
     ))
 }
 
-fn group_end(
-    alloc: Global,
-    inner: Formula,
-    tokens: &[Lexeme],
-) -> Result<(Formula, &[Lexeme]), ReadFault>
+fn group_end(inner: Boxed<Formula>, tokens: &[Lexeme]) -> Result<(Formula, &[Lexeme]), ReadFault>
     ensures { Gives (λ x. (x.0, x.1.now)) result (group_end inner tokens.now) }
 {
     match tokens {
-        [Lexeme::Mark(Mark::Close), rest @ ..] => {
-            Ok((Formula::Group(Boxed::new(alloc, inner)?), rest))
-        }
+        [Lexeme::Mark(Mark::Close), rest @ ..] => Ok((Formula::Group(inner), rest)),
         _ => Err(ReadFault::Syntax),
     }
 }
@@ -241,13 +235,17 @@ fn group(alloc: Global, budget: u32, tokens: &[Lexeme]) -> Result<(Formula, &[Le
     ensures { Gives (λ x. (x.0, x.1.now)) result (group_at (unary_at budget) budget tokens.now) }
 {
     let (inner, rest) = whole(alloc, budget, tokens)?;
-    group_end(alloc, inner, rest)
+    group_end(inner, rest)
 }
 
 /// A formula that may stand alone, as far as it goes, and the tokens behind it. The budget bounds how many of `!`, quantifiers
 /// and parentheses stand in one another, and how many arrows of a kind follow one another.
 #[cycle(read)]
-fn whole(alloc: Global, budget: u32, tokens: &[Lexeme]) -> Result<(Formula, &[Lexeme]), ReadFault>
+fn whole(
+    alloc: Global,
+    budget: u32,
+    tokens: &[Lexeme],
+) -> Result<(Boxed<Formula>, &[Lexeme]), ReadFault>
     requires { budget ≤ 64 }
     ensures { Gives (λ x. (x.0, x.1.now)) result (whole_at (unary_at budget) budget tokens.now) }
 {
@@ -261,9 +259,9 @@ fn equivalence(
     alloc: Global,
     budget: u32,
     limit: u32,
-    first: Formula,
+    first: Boxed<Formula>,
     tokens: &[Lexeme],
-) -> Result<(Formula, &[Lexeme]), ReadFault>
+) -> Result<(Boxed<Formula>, &[Lexeme]), ReadFault>
     requires few { budget ≤ 64 }
     requires within { limit ≤ 64 }
     ensures { Gives (λ x. (x.0, x.1.now)) result (iff_more (implies_at (or_at (unary_at budget)) budget) limit first tokens.now) }
@@ -279,9 +277,9 @@ fn equivalence_end(
     alloc: Global,
     budget: u32,
     limit: u32,
-    left: Formula,
+    left: Boxed<Formula>,
     tokens: &[Lexeme],
-) -> Result<(Formula, &[Lexeme]), ReadFault>
+) -> Result<(Boxed<Formula>, &[Lexeme]), ReadFault>
     requires few { budget ≤ 64 }
     requires within { limit < 64 }
     ensures { Gives (λ x. (x.0, x.1.now)) result (iff_end (implies_at (or_at (unary_at budget)) budget) (iff_more (implies_at (or_at (unary_at budget)) budget) limit) left tokens.now) }
@@ -289,9 +287,8 @@ fn equivalence_end(
     match tokens {
         [Lexeme::Mark(Mark::BothWays), rest @ ..] => {
             let (right, rest) = implication(alloc, budget, budget, rest)?;
-            let left = Boxed::new(alloc, left)?;
-            let right = Boxed::new(alloc, right)?;
-            equivalence(alloc, budget, limit, Formula::Iff { left, right }, rest)
+            let both = Boxed::new(alloc, Formula::Iff { left, right })?;
+            equivalence(alloc, budget, limit, both, rest)
         }
         _ => Ok((left, tokens)),
     }
@@ -304,12 +301,13 @@ fn implication(
     budget: u32,
     limit: u32,
     tokens: &[Lexeme],
-) -> Result<(Formula, &[Lexeme]), ReadFault>
+) -> Result<(Boxed<Formula>, &[Lexeme]), ReadFault>
     requires few { budget ≤ 64 }
     requires within { limit ≤ 64 }
     ensures { Gives (λ x. (x.0, x.1.now)) result (implies_at (or_at (unary_at budget)) limit tokens.now) }
 {
-    let (premise, rest) = list(alloc, budget, Join::Or, tokens)?;
+    let (first, rest) = list(alloc, budget, Join::Or, tokens)?;
+    let premise = Boxed::new(alloc, first)?;
     if limit == 0 {
         return Ok((premise, rest));
     }
@@ -321,9 +319,9 @@ fn implication_end(
     alloc: Global,
     budget: u32,
     limit: u32,
-    premise: Formula,
+    premise: Boxed<Formula>,
     tokens: &[Lexeme],
-) -> Result<(Formula, &[Lexeme]), ReadFault>
+) -> Result<(Boxed<Formula>, &[Lexeme]), ReadFault>
     requires few { budget ≤ 64 }
     requires within { limit < 64 }
     ensures { Gives (λ x. (x.0, x.1.now)) result (implies_end premise (implies_at (or_at (unary_at budget)) limit) tokens.now) }
@@ -331,12 +329,11 @@ fn implication_end(
     match tokens {
         [Lexeme::Mark(Mark::Arrow), rest @ ..] => {
             let (conclusion, rest) = implication(alloc, budget, limit, rest)?;
-            let premise = Boxed::new(alloc, premise)?;
-            let conclusion = Boxed::new(alloc, conclusion)?;
-            let implied = Formula::Implies {
+            let both = Formula::Implies {
                 premise,
                 conclusion,
             };
+            let implied = Boxed::new(alloc, both)?;
             Ok((implied, rest))
         }
         _ => Ok((premise, tokens)),
@@ -427,11 +424,14 @@ const MOST_DEEP: u32 = 64;
 ///
 /// # Errors
 /// No formula of such a depth stands there, or want of memory.
-pub fn read_formula(alloc: Global, tokens: &[Lexeme]) -> Result<(Formula, &[Lexeme]), ReadFault>
+pub fn read_formula(
+    alloc: Global,
+    tokens: &[Lexeme],
+) -> Result<(Boxed<Formula>, &[Lexeme]), ReadFault>
     ensures { Gives (λ x. (x.0, x.1.now)) result (formula_at tokens.now) }
 {
     let (formula, rest) = whole(alloc, MOST_DEEP, tokens)?;
-    if capped_depth(&formula) > MOST_DEEP {
+    if capped_depth(formula.get()) > MOST_DEEP {
         return Err(ReadFault::Syntax);
     }
     Ok((formula, rest))

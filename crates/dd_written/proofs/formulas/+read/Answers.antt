@@ -1,6 +1,7 @@
 use Rattle.std.proofs.Common.{◌≡◌, true, false, List, drop, Some, ap, subst, sym, ◌∙◌, arith, rules}
 use Rattle.std.proofs.lemmas.Result.{err_from_is_err_and}
 use Rattle.dd_written.specs.declared.lexeme.Lexeme.{Lexeme}
+use Rattle.dd_written.specs.declared.tree.Formula.{Formula}
 use Rattle.dd_written.specs.reading.Readers.{Fails}
 use Rattle.dd_written.specs.reading.Formulas.{unary_at, member_at, or_at, implies_at, begins}
 use Rattle.dd_written.proofs.Rounds.{goes_on, stops, stuck, unary_next, implies_next, iff_next}
@@ -14,7 +15,8 @@ unary-returns t c = rw (unary_next c.args.budget c.args.tokens.now (λ e. omega 
 
 pub implication-returns : goal.implication-returns
 implication-returns t c =
-    rw (implies_next (or_at (unary_at c.args.budget)) c.args.limit c.args.tokens.now c.in_ok-premise.premise c.in_ok-premise.rest.now (λ e. omega (arith, e, c.if-limit-eq0.false)) c.in_ok-premise.ensures) c.implication_end.ensures
+    let read = c.in_ok-first.ensures ∙ ap (λ (f : Formula). Some (f, c.in_ok-first.rest.now)) (sym c.in_ok-premise.ensures) in
+    rw (implies_next (or_at (unary_at c.args.budget)) c.args.limit c.args.tokens.now c.in_ok-premise.premise c.in_ok-first.rest.now (λ e. omega (arith, e, c.if-limit-eq0.false)) read) c.implication_end.ensures
 
 pub equivalence-returns : goal.equivalence-returns
 equivalence-returns t c =
