@@ -1,6 +1,7 @@
 //! Commands, read from their first word to the end.
 ghost use Rattle.std.specs.Prelude.{◌≡◌, codes};
 ghost use Rattle.dd_written.specs.reading.Readers.{Gives};
+ghost use Rattle.dd_written.specs.reading.Formulas.{formula_at};
 ghost use Rattle.dd_commands.specs.reading.Commands.{case_at, cases_at, otherwise_of, dimension_of, edges_of, topology_of, only_of, weights_of, limits_of, rule_of, automaton_of, composition_of, configuration_of, body_of, command_of};
 
 use crate::command::{Case, Command};
@@ -8,8 +9,10 @@ use crate::head::Head;
 use crate::keywords::{head, kind};
 use crate::requests::request;
 use crate::vectors::{alone, edges, names, numbers, plain, shear, some_alone};
-use dd_values::Items;
-use dd_written::{Lexeme, Name, ReadFault, behind_word, read_formula, read_name, starts_word};
+use dd_values::{Boxed, Items};
+use dd_written::{
+    Formula, Lexeme, Name, ReadFault, behind_word, read_formula, read_name, starts_word,
+};
 use std::alloc::Global;
 
 fn case<'a>(
@@ -23,6 +26,7 @@ fn case<'a>(
     let (condition, rest) = read_formula(alloc, rest)?;
     let rest = behind_word(bytes, b"give", rest)?;
     let (symbol, rest) = read_name(rest)?;
+    let condition = condition.into_inner();
     Ok((Case { condition, symbol }, rest))
 }
 
@@ -116,12 +120,19 @@ fn limits(tokens: &[Lexeme]) -> Result<Command, ReadFault>
     }
 }
 
+fn formula(alloc: Global, tokens: &[Lexeme]) -> Result<(Formula, &[Lexeme]), ReadFault>
+    ensures { Gives (λ x. (x.0, x.1.now)) result (formula_at tokens.now) }
+{
+    let (formula, rest) = read_formula(alloc, tokens)?;
+    Ok((formula.into_inner(), rest))
+}
+
 fn rule(alloc: Global, tokens: &[Lexeme]) -> Result<Command, ReadFault>
     ensures { Gives (λ x. x) result (rule_of tokens.now) }
 {
     match tokens {
         [Lexeme::Word(name), rest @ ..] => {
-            let (formula, rest) = read_formula(alloc, rest)?;
+            let (formula, rest) = formula(alloc, rest)?;
             let name = *name;
             alone(Command::Rule { name, formula }, rest)
         }
@@ -212,12 +223,19 @@ fn body(alloc: Global, bytes: &[u8], head: Head, tokens: &[Lexeme]) -> Result<Co
 }
 
 /// A command, behind its mark.
-pub(crate) fn command(alloc: Global, bytes: &[u8], tokens: &[Lexeme]) -> Result<Command, ReadFault>
+pub(crate) fn command(
+    alloc: Global,
+    bytes: &[u8],
+    tokens: &[Lexeme],
+) -> Result<Boxed<Command>, ReadFault>
     ensures { Gives (λ x. x) result (command_of bytes.now tokens.now) }
 {
     match tokens {
         [Lexeme::Word(word), rest @ ..] => match head(bytes, *word) {
-            Some(head) => body(alloc, bytes, head, rest),
+            Some(head) => {
+                let command = body(alloc, bytes, head, rest)?;
+                Ok(Boxed::new(alloc, command)?)
+            }
             None => Err(ReadFault::Syntax),
         },
         _ => Err(ReadFault::Syntax),

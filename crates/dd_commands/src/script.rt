@@ -156,10 +156,11 @@ fn command_from(
         return Err(ReadFault::Syntax);
     }
     let command = command(alloc, bytes, part)?;
-    if command.head().stage() < from {
+    if command.get().head().stage() < from {
         return Err(ReadFault::Syntax);
     }
     let tokens = Items::from_slice(alloc, part)?;
+    let command = command.into_inner();
     Ok(Written { tokens, command })
 }
 

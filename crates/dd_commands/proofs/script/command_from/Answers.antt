@@ -1,7 +1,7 @@
-use Rattle.std.proofs.Common.{◌≡◌, true, false, ap, rules, arith}
+use Rattle.std.proofs.Common.{◌≡◌, true, false, ap, ◌∙◌, rules, arith}
 use Rattle.std.specs.List.{list_all}
 use Rattle.std.proofs.lemmas.Result.{err_from_is_err_and}
-use Rattle.dd_commands.specs.Heads.{stage}
+use Rattle.dd_commands.specs.Heads.{head_of, stage}
 use Rattle.dd_commands.specs.Scripts.{is_whole}
 use Rattle.dd_commands.specs.lemmas.Whole.{not_whole, fails_decides, too_early, may_stand}
 use Rattle.dd_commands.proofs.script.command_from.Goals as goal
@@ -19,10 +19,10 @@ returns-in_err-command c =
 pub returns-then-stage-from : goal.returns-then-stage-from
 returns-then-stage-from c =
     too_early c.formula_is_read.ensures c.args.bytes.now c.args.from c.args.part.now c.in_ok-command.command c.in_ok-command.ensures
-    (omega (arith, c.if-stage-from.true, c.stage.ensures.value, ap stage c.head.ensures))
+    (omega (arith, c.if-stage-from.true, c.stage.ensures.value, ap stage (c.head.ensures ∙ ap head_of c.get.ensures)))
 
 pub returns : goal.returns
 returns c =
     let all : list_all is_whole c.args.part.now ≡ true = search (rules, c.are_whole.ensures, c.if-not-are_whole.ensures) in
-    may_stand c.formula_is_read.ensures c.args.bytes.now c.args.from c.args.part.now c.in_ok-command.command c.in_ok-tokens.tokens c.in_ok-tokens.ensures all c.in_ok-command.ensures
-    (omega (arith, c.if-stage-from.false, c.stage.ensures.value, ap stage c.head.ensures))
+    rw c.into_inner-command.ensures (may_stand c.formula_is_read.ensures c.args.bytes.now c.args.from c.args.part.now c.in_ok-command.command c.in_ok-tokens.tokens c.in_ok-tokens.ensures all c.in_ok-command.ensures
+    (omega (arith, c.if-stage-from.false, c.stage.ensures.value, ap stage (c.head.ensures ∙ ap head_of c.get.ensures))))
