@@ -36,8 +36,8 @@ impl Expanded {
     }
 }
 
-/// The symbol of a cell that is counted from `at`.
-fn symbol_near<R: Reads>(cell: &Cell, at: &Position, read: &R) -> Option<u32>
+/// The symbol of a cell that is counted from a position; `None` where it has none or leaves the range of positions.
+pub fn symbol_near<R: Reads>(cell: &Cell, at: &Position, read: &R) -> Option<u32>
     ensures { result ≡ seen (R.symbols read.now) at.now cell.now }
 {
     let position = shift(&cell.position, at)?;

@@ -11,6 +11,7 @@ mod formulas;
 mod leaves;
 mod terms;
 
+pub use evaluation::symbol_near;
 pub use expanded::Expanded;
 pub use expansion::expand;
 pub use fault::ExpansionFault;

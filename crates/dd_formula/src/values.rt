@@ -4,13 +4,13 @@ ghost use Rattle.std.specs.List.Sorted.{IsStrictlySortedBy};
 ghost use Rattle.dd_lattice.specs.Order.{cell_cmp};
 ghost use Rattle.dd_pattern.specs.Filling.{filling_look};
 ghost use Rattle.dd_expansion.specs.Terms.{origin_at};
-ghost use Rattle.dd_expansion.specs.Leaves.{seen};
 ghost use Rattle.dd_formula.specs.Automata.{first_case, value};
 ghost use Rattle.dd_formula.specs.Values.{HasLook, HasCasesLook, are_given, is_read};
 ghost use Rattle.dd_formula.specs.valuing.Readable.{IsReadable, AreReadable, IsReadableAt, IsSeen};
 
 use crate::automaton::{Automaton, Cases};
-use dd_lattice::{Cell, Position, shift};
+use dd_expansion::symbol_near;
+use dd_lattice::{Cell, Position};
 use dd_pattern::{Filling, Reads};
 use std::alloc::{AllocError, Global};
 
@@ -121,15 +121,6 @@ fn origin(node: u32) -> Cell
         position: Position { x: 0, y: 0, z: 0 },
         node,
     }
-}
-
-/// The symbol of a cell that is counted from a position.
-fn symbol_near<R: Reads>(cell: &Cell, at: &Position, read: &R) -> Option<u32>
-    ensures { result ≡ seen (R.symbols read.now) at.now cell.now }
-{
-    let position = shift(&cell.position, at)?;
-    let node = cell.node;
-    read.symbol(&Cell { position, node })
 }
 
 /// The symbols of cells that are counted from a position, or `None` where one of them has no symbol or leaves the range
