@@ -1,11 +1,16 @@
--- The signals of cells, and the gates of formulas and rules over them.
+-- the signals of cells
 pub mod Wiring
+-- the gates of a formula without variables
 pub mod Compiling
+-- the signals of the cells that a rule reads, and what the signal of its gates says
 pub mod RuleSignals
+-- a rule at one of its nodes, of which gates are made that are placed at cell after cell
 pub mod Templates
--- The gates of the value of an automaton, and what they say.
+-- the gates of the value of an automaton
 pub mod ValueGates
+-- the signals of the cells that an automaton reads, and what the signals of its value say
 pub mod ValueSignals
+-- what the gates of an automaton's value are and say, wherever they stand
 pub mod Valued
 -- what the recursion over compositions keeps
 pub mod composing

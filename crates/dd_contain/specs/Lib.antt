@@ -1,5 +1,6 @@
 -- what is decided of a box question
 pub mod Decided
+-- which radii suffice, and which periods show the goal
 pub mod Questions
 -- of two rules
 pub mod Equal

@@ -1,10 +1,12 @@
 -- terms and balls
 pub mod Terms
--- truth under symbols, and what is read
+-- truth under symbols
 pub mod Truth
+-- the cells at which a formula looks
 pub mod Reads
--- the formula without variables, and its leaves
+-- the formula without variables
 pub mod Expansion
+-- the leaves of formulas without variables, their truth under symbols, and their sizes
 pub mod Leaves
 -- the limits of formulas
 pub mod Limits

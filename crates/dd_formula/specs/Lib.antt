@@ -1,15 +1,22 @@
--- Rules, the symbols that their nodes allow, how far they read, which configurations live in them, and why none is made.
+-- rules
 pub mod LocalRule
+-- symbols that the nodes of a rule allow
 pub mod Allowed
+-- how far rules and automata read
 pub mod Reach
+-- which periodic configurations live in a rule's subshift
 pub mod Living
+-- why a formula is refused as a rule
 pub mod Refusals
--- Automata: their values and reads, compositions, and why these are refused.
+-- automata and their values
 pub mod Automata
+-- what it takes to evaluate an automaton at a cell
 pub mod Values
+-- compositions of automata, and why they are refused
 pub mod Compositions
--- How many clauses a question takes.
+-- how many clauses a question takes
 pub mod Counts
+-- how many clauses say what an automaton gives a cell
 pub mod ValueCounts
 -- what the evaluation of compositions keeps
 pub mod valuing

@@ -1,5 +1,6 @@
--- exact fractions, and what the calls give and refuse
+-- exact fractions
 pub mod Exact
+-- sums, products and quotients whose numbers on the way fit
 pub mod Checked
 -- their order
 pub mod Order

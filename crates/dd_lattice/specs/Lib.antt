@@ -2,8 +2,9 @@
 pub mod Place
 -- cells: a position and a node
 pub mod Cells
--- cell order, and lists in it
+-- cell order
 pub mod Order
+-- the cells of a list in cell order, each once
 pub mod InOrder
 -- boxes of positions, and where a position stands in a box's list
 pub mod Boxes

@@ -1,11 +1,14 @@
--- Fillings and periodic configurations, and what is read of them at a cell.
+-- what is read at a cell
 pub mod Reading
+-- fillings: finitely many cells in cell order, with a symbol each
 pub mod Filling
--- Periods with a shear, and the configurations that repeat along them.
+-- periods with a shear
 pub mod Periods
+-- periodic configurations: the symbols of one fundamental box, for every cell
 pub mod Tile
+-- weights of symbols
 pub mod Weight
--- What the loops that list periods add.
+-- what the loops that list periods add
 pub mod listing
 -- lemmas on what stands above, with their proofs, for whoever cites them
 pub mod lemmas

@@ -1,7 +1,8 @@
 -- which cells have inputs
 pub mod Layouts
--- the clauses over them, and what they say of two automata
+-- the clauses over them
 pub mod Clauses
+-- the gates that say that the values of two automata at a cell are different
 pub mod Differing
 -- a circuit and its clauses, as they grow
 pub mod Encodings

@@ -1,8 +1,12 @@
--- The domains of a discharge, their admissible fillings, the patterns in these, and the program that they give
+-- what a discharge asks
 pub mod Asked
+-- the domains of a discharge along some vectors
 pub mod Domains
+-- the admissible fillings of a list of cells, in the lexicographic order of their symbols
 pub mod Fillings
+-- the patterns around a position that gives, and around those that give to it
 pub mod Patterns
+-- the program of a rule along some vectors: what each position is to hold at least
 pub mod Programs
 -- why there is none
 pub mod Faults

@@ -1,1 +1,2 @@
+-- the sample scripts, and the words that name them
 pub mod Sample

@@ -10,15 +10,17 @@ pub mod Runs
 pub mod Asking
 -- what the run of a sample writes, by its status
 pub mod Samples
--- right answers, and the texts of outputs
+-- right answers
 pub mod Answers
+-- the texts that a run writes
 pub mod Output
--- what a check reads and writes, by its status; which answers it accepts, and its lines
+-- what a check reads and writes, by its status
 pub mod Checked
+-- what the check of an output writes, by its bytes
 pub mod Checks
 -- that a check accepts what a run wrote
 pub mod Agreement
 -- the check of answers one by one
 pub mod checking
 -- how much is written of an answer
-pub mod Forms
+pub mod writing

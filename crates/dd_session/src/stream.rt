@@ -9,7 +9,7 @@ ghost use Rattle.dd_answer.specs.Asking.{AsksBoxes, AsksSomeBoxes, Engages};
 ghost use Rattle.dd_answer.specs.Right.{is_unknown};
 ghost use Rattle.dd_session.specs.declared.stream.RunFault.TheVariants.{WriteFault, Memory};
 ghost use Rattle.dd_session.specs.Asking.{HeaderTaken};
-ghost use Rattle.dd_session.specs.Forms.{text_in};
+ghost use Rattle.dd_session.specs.writing.Forms.{text_in};
 ghost use Rattle.dd_session.specs.Written.{Answered, AnsweredFront, AnsweredToEnd, AnsweredShort, WholeOutput, CutShort};
 
 use crate::output::header_text;

@@ -1,10 +1,12 @@
--- names of nodes, and edges and moves
+-- names, in the order in which they were first seen
 pub mod Naming
+-- moves along edges, over all of Z^3
 pub mod Topology
 -- adjacency and balls
 pub mod Balls
--- the built-in topologies
+-- topologies: a dimension, nodes, names of labels, and edges
 pub mod Grid
+-- the built-in topologies
 pub mod Builtin
 -- which symbols the nodes allow
 pub mod Sets
