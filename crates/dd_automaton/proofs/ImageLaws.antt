@@ -76,17 +76,6 @@ image_from_box f t n ok formed placed ss as_many each = record {
     below_by m (x ∷ xs) h zero d within = h zero (omega arith)
     below_by m (x ∷ xs) h (suc k) d within = below_by m xs (λ j below. h (suc j) (omega arith)) k d (omega arith)
 
--- and it is a configuration again
-pub image_periodic : (t : Tile) → IsPeriodic t → (ss : List ℕ) → length ss ≡ length t.symbols → IsPeriodic (tile t.dimension t.periods t.nodes ss)
-image_periodic t kept ss as_many = record {
-  tile = record {
-    some_dimension = kept.tile.some_dimension;
-    most_dimension = kept.tile.most_dimension;
-    periods = kept.tile.periods;
-    nodes_some = kept.tile.nodes_some;
-    full = as_many ∙ kept.tile.full;
-  };
-  small = omega (arith, as_many, kept.small);
 }
 
 -- the configuration gives symbols of the alphabet, and what is read at the cells of the box is there

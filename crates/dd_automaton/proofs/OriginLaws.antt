@@ -45,8 +45,5 @@ pub value_there : (f : Automaton) (t : Tile) (a : ℕ) (r : Option ℕ) → IsDe
 value_there f t a r defined ok placed node is =
     is ∙ ap (λ b. if b then Some (value f (tile_look t) (origin_at a)) else None) (read_at_origin f t a defined ok placed node)
 
-pub some_same : (x y : ℕ) → Some x ≡ Some y → x ≡ y
-some_same x y h = cc
-
 pub never_none : (x : ℕ) (r : Option ℕ) → r ≡ None → r ≡ Some x → ⊥
 never_none x r none some = let both : None ≡ Some x = sym none ∙ some in cc

@@ -13,6 +13,3 @@ pub all_narrowed : (symbols : List ℕ) (size i : ℕ) (list : List ℕ) → len
     (list ≡ symbols) × All (λ s. s < size) symbols
 all_narrowed symbols size i list past told =
     (told.read ∙ take_all i symbols past, All-from_get_or (λ s. s < size) symbols 0 (λ k h. told.below k (omega (arith, h, past))))
-
-pub not_narrowed : (symbols : List ℕ) (size i : ℕ) → i < length symbols → size ≤ get_or symbols i 0 → All (λ s. s < size) symbols → ⊥
-not_narrowed symbols size i within high all = let low : get_or symbols i 0 < size = all i 0 within in omega (arith, low, high)

@@ -17,13 +17,6 @@ use Rattle.dd_compile.specs.ValueGates.{fresh}
 use Rattle.dd_compile.specs.placing.Own.{signals_in_turn, own_wiring}
 use Rattle.dd_compile.specs.lemmas.ChoiceLaws.{fresh_length}
 
--- what all are is what is there and the rest
-pub fresh_start : (n k : ℕ) (none : List Signal) → none ≡ [] → fresh n k ≡ none ++ fresh (n + 0) (k - 0)
-fresh_start n k none is =
-    let e : n ≡ n + 0 = omega arith in
-    let f : k ≡ k - 0 = omega arith in
-    ap (λ j. fresh j k) e ∙ (ap (fresh (n + 0)) f ∙ ap (λ xs. xs ++ fresh (n + 0) (k - 0)) (sym is))
-
 pub fresh_step : (n k i v : ℕ) (now new : List Signal) → i < k → fresh n k ≡ now ++ fresh (n + i) (k - i) → v ≡ n + i + 1 → new ≡ now ++ signal_of v ∷ [] →
     fresh n k ≡ new ++ fresh (n + (i + 1)) (k - (i + 1))
 fresh_step n k i v now new below so_far is pushed =

@@ -8,13 +8,11 @@ use Rattle.dd_lattice.specs.declared.position.Cell.{Cell}
 use Rattle.dd_expansion.specs.declared.expanded.Expanded.{Expanded}
 use Rattle.dd_expansion.specs.declared.expanded.Expanded.TheFolds.{fold-Expanded}
 use Rattle.dd_expansion.specs.declared.expanded.Expanded.TheOpen.{Expanded-F}
-use Rattle.dd_pattern.specs.Reading.{Look}
 use Rattle.dd_expansion.specs.Leaves.{leaves_pass, total}
-use Rattle.dd_expansion.specs.Truth.{is_symbol}
 use Rattle.dd_circuit.specs.declared.gates.Signal.{Signal}
 use Rattle.dd_circuit.specs.declared.gates.Gate.{Gate}
 use Rattle.dd_circuit.specs.declared.gates.Gate.TheVariants.{And, Or, Iff}
-use Rattle.dd_circuit.specs.Circuits.{Network, signal_of, opposite, signal_value}
+use Rattle.dd_circuit.specs.Circuits.{Network, signal_of, opposite}
 use Rattle.dd_compile.specs.Wiring.{Wiring, wire_of}
 
 -- a signal, and the gates that are added for it
@@ -101,10 +99,6 @@ wire_or_zero (Some s) = s
 -- the wires, where each leaf has one
 abbrev pub certain : Wires → Cell → ℕ → Signal
 certain wires c s = wire_or_zero (wires c s)
-
--- each wire says whether its cell has its symbol
-abbrev pub WiresTell : (ℕ → Bool) → Wires → Look → Type 0
-WiresTell set wires look = (c : Cell) (s : ℕ) (w : Signal) → wires c s ≡ Some w → signal_value set w ≡ is_symbol s (look c)
 
 -- the gates of a formula, and of several, whose cells are counted from a place
 abbrev pub compiled : Wiring → Place → Expanded → Maker

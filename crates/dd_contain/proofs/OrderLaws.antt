@@ -27,23 +27,7 @@ never_itself p before = let tied = tied_itself periods_total p in absurd (cc (ti
 never_back : (p q : Periods) → IsBefore p q → IsBefore q p → ⊥
 never_back p q one other = never_itself p (periods_total.trans p q p one other)
 
--- one more has been asked
-pub none_more : (T : Periods → Type 0) (ps : List Periods) (n m : ℕ) (p : Periods) → n < length ps → p ≡ get_or ps n p → m ≡ n + 1 → NoneBefore T ps n → (T p → ⊥) →
-    NoneBefore T ps m
-none_more T ps n m p there is next none here k q below stands shows = elim (cases_order k n) [
-  | inl same ↦
-      (let mine : slice_get ps n ≡ Some p = slice_get_read ps (length ps) n p refl there is in
-      let at : slice_get ps n ≡ Some q = subst (λ i. slice_get ps i ≡ Some q) same stands in
-      let alike : q ≡ p = cc (mine, at) in
-      here (subst T alike shows))
-  | inr apart ↦ (elim apart [
-    | inl less ↦ none k q less stands shows
-    | inr more ↦ absurd (omega (arith, more, below, next))
-  ])
 ]
-
-pub first_here : (T : Periods → Type 0) (ps : List Periods) (n : ℕ) (p : Periods) → n < length ps → p ≡ get_or ps n p → NoneBefore T ps n → T p → IsFirstOf T ps p
-first_here T ps n p there is none shows = record { place = n; stands = slice_get_read ps (length ps) n p refl there is; shows = shows; before = none }
 
 -- an item of the list
 listed : (ps : List Periods) (q : Periods) → Contains ps q → (k : ℕ) × (k < length ps) × (slice_get ps k ≡ Some q)

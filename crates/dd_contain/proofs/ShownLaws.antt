@@ -11,7 +11,7 @@ use Rattle.dd_clause.specs.Clauses.{Satisfies}
 use Rattle.dd_boxes.specs.Goals.{GoalOf}
 use Rattle.dd_boxes.specs.Witnesses.{HasPeriods, IsWitness}
 use Rattle.dd_problem.specs.Symbols.{AreRead, HasOneEach}
-use Rattle.dd_problem.specs.Shows.{ShowsTorus, AreRefuted}
+use Rattle.dd_problem.specs.Shows.{ShowsTorus}
 
 -- a configuration of the periods has as many symbols as the torus has cells
 size_is : (x : LocalRule) (p : Periods) (t : Tile) → IsTile t → HasPeriods p t → Fits x t → length t.symbols ≡ periods_volume p * x.nodes
@@ -38,8 +38,3 @@ module _ (x : LocalRule) (g : GoalOf) (p : Periods) (clauses : List (List Litera
       let shown = shows.each set satisfied in
       let same_size : length shown.0.symbols ≡ length t.symbols = size_is x p shown.0 shown.2.tile shown.1 shown.2.fits ∙ sym (size_is x p t tile has fit) in
       (has, subst (IsWitness x g) (only shown.0 shown.1 shown.2.fits shown.3 same_size) shown.2)
-
-  pub none_shows : AreRefuted clauses → (t : Tile) → HasPeriods p t → IsWitness x g t → ⊥
-  none_shows refuted t has witness =
-      let read = shows.every t has witness in
-      refuted read.0 read.1

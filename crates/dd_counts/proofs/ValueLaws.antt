@@ -10,14 +10,10 @@ use Rattle.dd_formula.specs.declared.automaton.Automaton.{Automaton}
 use Rattle.dd_formula.specs.declared.automaton.Automaton.TheVariants as v
 use Rattle.dd_formula.specs.declared.automaton.Automaton.TheFolds.{fold-Automaton, fold-roll-Automaton, ind-Automaton, map-Automaton}
 use Rattle.dd_formula.specs.declared.automaton.Automaton.TheOpen.{Automaton-F}
-use Rattle.dd_formula.specs.declared.automaton.Cases.{Cases}
-use Rattle.dd_formula.specs.ValueCounts.{Valued, valued_step, value_clauses, given_clauses, gate_clause_count, choice_clauses, giving_clauses}
+use Rattle.dd_formula.specs.ValueCounts.{Valued, valued_step, value_clauses, gate_clause_count, choice_clauses, giving_clauses}
 
 abbrev valued : ℕ → Automaton → Valued
 valued n = fold-Automaton Valued (valued_step n)
-
-valued_given : (n : ℕ) (c : Cases) → valued n (v.Given c) ≡ valued_step n (Automaton-F.Given c)
-valued_given n c = ap (valued n) (sym (v.rolls-Given c)) ∙ fold-roll-Automaton Valued (valued_step n) (Automaton-F.Given c)
 
 valued_composed : (n : ℕ) (f g : Automaton) → valued n (v.Composed f g) ≡ valued_step n (Automaton-F.Composed (valued n f) (valued n g))
 valued_composed n f g = ap (valued n) (sym (v.rolls-Composed f g)) ∙ fold-roll-Automaton Valued (valued_step n) (Automaton-F.Composed f g)
@@ -41,9 +37,6 @@ counts_those : (n : ℕ) (f : Automaton) → CountsThose n f
 counts_those n = ind-Automaton (CountsThose n) (λ x y is.
     rw (fold-roll-Automaton Valued (valued_step n) x, fold-roll-Automaton Counted counted_step x, ← is) (step_counts n y))
 
-pub value_given : (n : ℕ) (c : Cases) (a : ℕ) → value_clauses n (v.Given c) a ≡ given_clauses n c a
-value_given n c a = ap (λ (f : Valued). f.clauses a) (valued_given n c)
-
 pub value_composed : (n : ℕ) (f g : Automaton) (a : ℕ) → value_clauses n (v.Composed f g) a ≡ total (map (λ c. value_clauses n g c.node) (cells_of f a)) + value_clauses n f a
 value_composed n f g a =
     ap (λ (h : Valued). h.clauses a) (valued_composed n f g)
@@ -60,5 +53,3 @@ by_case l n m sum cases got all is = let gates = choosing 0 m in omega (arith, g
 pub round : (l old p new gates q cases sum base cc i cases' sum' : ℕ) → old ≡ cut l (cases + sum + base) → gates ≡ cut l cc → q ≡ cut l (i + 4) → p ≡ cut l (gates + q) → new ≡ cut l (old + p) →
     cases' ≡ cases + cc → sum' ≡ sum + (i + 4) → new ≡ cut l (cases' + sum' + base)
 round l old p new gates q cases sum base cc i cases' sum' a b c d e f g = omega arith
-
-pub ruleset values = (value_given, value_composed)

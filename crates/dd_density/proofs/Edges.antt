@@ -29,9 +29,6 @@ step_at g u t v false false p q h = absurd (cc)
 pub step : (g : Transfer) (u t v : ℕ) → next_of g u t ≡ Some v → Step g u t v
 step g u t v h = step_at g u t v (nat_lt u g.states) (nat_lt t g.slices) refl refl h
 
-pub below_states : (g : Transfer) (u t v : ℕ) → IsTransfer g → next_of g u t ≡ Some v → v < g.states
-below_states g u t v well h = rw (step g u t v h).leads (mod_below (window_of g u t) g.states well.some_state)
-
 -- a state's last slice is its number modulo the slices
 mod_of_multiple : (x s n : ℕ) → 0 < s → 0 < n → n % s ≡ 0 → x % n % s ≡ x % s
 mod_of_multiple x s n some more h =

@@ -6,15 +6,13 @@ use Rattle.dd_simplex.specs.Programs.{LinearProgram}
 use Rattle.dd_rows.specs.declared.rows.Row.{Row}
 use Rattle.dd_rows.specs.declared.rows.Rows.{Rows}
 use Rattle.dd_discharge.specs.declared.bound.Bound.{Bound}
-use Rattle.dd_rows.specs.declared.fault.RowsFault.{RowsFault}
 use Rattle.dd_rows.specs.declared.fault.RowsFault.TheVariants as rows
 use Rattle.dd_discharge.specs.declared.fault.DischargeFault.{DischargeFault}
 use Rattle.dd_discharge.specs.declared.fault.DischargeFault.TheVariants as fault
-use Rattle.dd_rows.specs.Programs.{IsProgramOf, IsRowsFault, column_count}
+use Rattle.dd_rows.specs.Programs.{IsProgramOf, column_count}
 use Rattle.dd_discharge.specs.Amounts.{IsCertifiedBound}
 use Rattle.dd_discharge.specs.Bounds.{in_fractions, EndsWith, GivesNone, linear_program, IsBoundOf, IsDischargeFault}
 use Rattle.dd_discharge.specs.Certificates.{IsBoundCertificate}
-use Rattle.dd_discharge.specs.Faults.{fault_of_rows}
 
 -- the rows and the number of columns that the run is given
 pub record IsGiven (vs : List Place) (p : Rows) (n : ℕ) (rs : List Row) : Type 0 where
@@ -45,7 +43,3 @@ fault_from x ws radius margin vs pivots p n rs fault.Overflow h g e =
 fault_from x ws radius margin vs pivots p n rs fault.Pivots h g e =
     record { program = p; is_program = h; stops = subst (λ (l : LinearProgram). GivesNone l pivots fault.Pivots) (same_program vs p n rs g) e }
 fault_from x ws radius margin vs pivots p n rs fault.Memory h g e = tt
-
-pub large_from : (x : LocalRule) (ws : List ℕ) (radius margin : ℕ) (vs : List Place) (pivots : ℕ) (e : RowsFault) → IsRowsFault x ws radius margin vs e → IsDischargeFault x ws radius margin vs pivots (fault_of_rows e)
-large_from x ws radius margin vs pivots rows.Large h = h
-large_from x ws radius margin vs pivots rows.Memory h = tt

@@ -14,7 +14,7 @@ use Rattle.dd_fraction.specs.Order.{IsAtMost, IsNonneg}
 use Rattle.dd_simplex.specs.Programs.{fraction_sum}
 use Rattle.dd_discharge.specs.Amounts.{total_below}
 use Rattle.dd_discharge.specs.Denominators.{numerator_over}
-use Rattle.dd_discharge.specs.lemmas.WholeNumbers.{times_times, sum_times, four_factors, scaled_right, cancel_le, cancel}
+use Rattle.dd_discharge.specs.lemmas.WholeNumbers.{times_times, sum_times, scaled_right, cancel_le, cancel}
 use Rattle.dd_discharge.proofs.Multiples.{greatest_common-is, den_above}
 
 -- n over c is the fraction

@@ -18,12 +18,11 @@ use Rattle.dd_fraction.specs.Exact.{Exact, den_of}
 use Rattle.dd_fraction.specs.Order.{IsNonneg}
 use Rattle.dd_fraction.specs.Checked.{IsFraction}
 use Rattle.dd_simplex.specs.Programs.{fraction_at, zero_of}
-use Rattle.dd_discharge.specs.declared.bound.Bound.{Bound}
 use Rattle.dd_discharge.specs.declared.fault.DischargeFault.{DischargeFault}
 use Rattle.dd_discharge.specs.declared.fault.DischargeFault.TheVariants as fault
 use Rattle.dd_discharge.specs.Faults.{OnOverflow}
 use Rattle.dd_discharge.specs.Denominators.{joined_denominator, common_denominator, numerator_over, most_printed, printed, ArePrinted, HasUnprinted, IsPrintedAs}
-use Rattle.dd_discharge.proofs.Multiples.{printed_is, printed_none, unprinted, joined_above, joined_grows, each_divides, den_above}
+use Rattle.dd_discharge.proofs.Multiples.{printed_is, printed_none, unprinted, joined_above, joined_grows, each_divides}
 
 -- ---- the least common denominator of two lists
 pub common_past : (xs ys : List Exact) → None ≡ printed (common_denominator xs) → None ≡ printed (common_denominator (xs ++ ys))
@@ -127,14 +126,6 @@ are_printed v xs ys n m g e a b =
 
 pub unprinted_at : (xs : List Exact) (n : ℕ) → Some n ≡ printed (common_denominator xs) → Any (λ a. most_printed < numerator_over n a) xs → HasUnprinted xs
 unprinted_at xs n e h = inr (subst (λ (c : ℕ). Any (λ a. most_printed < numerator_over c a) xs) (printed_is (common_denominator xs) n e).0 h)
-
-pub unprinted_value : (v : Exact) (xs ys : List Exact) (n : ℕ) → Given v xs ys n → None ≡ printed (numerator_over n v) → HasUnprinted (xs ++ ys)
-unprinted_value v xs ys n g e =
-    unprinted_at (xs ++ ys) n g.common (0, v, longer xs ys g.some, at xs ys v g.some g.first, unprinted (numerator_over n v) e)
-  where
-    at : (xs ys : List Exact) (v : Exact) → 0 < length xs → fraction_at xs 0 ≡ v → get_or (xs ++ ys) 0 v ≡ v
-    at [] ys v p e = absurd (omega (arith, p))
-    at (x ∷ xs) ys v p e = e
 
 -- all but the first
 abbrev nothing : (X : Type 0) → List X

@@ -12,18 +12,6 @@ use Rattle.dd_evidence.specs.Lists.{listed, IsListedAfter, IsListTo}
 abbrev pub pattern_of : ℕ → Filled → Listed
 pattern_of a f = listed a f.symbols
 
--- one more filling
-pub one_more : (a i : ℕ) (found : List Filled) (f : Filled) (start old new : List Listed) (pattern : Listed) → i < length found → f ≡ get_or found i f →
-    old ≡ start ++ map (pattern_of a) (take i found) → pattern ≡ listed a f.symbols → new ≡ old ++ pattern ∷ [] →
-    new ≡ start ++ map (pattern_of a) (take (i + 1) found)
-one_more a i found f start old new pattern below is so_far made pushed =
-    let next : take (i + 1) found ≡ take i found ++ f ∷ [] = take_more found i f below ∙ ap (λ (g : Filled). take i found ++ g ∷ []) (sym is) in
-    let both : map (pattern_of a) (take (i + 1) found) ≡ map (pattern_of a) (take i found) ++ listed a f.symbols ∷ [] =
-    ap (map (pattern_of a)) next ∙ map-append (pattern_of a) (take i found) (f ∷ []) in
-    pushed ∙ (ap (λ (ps : List Listed). ps ++ pattern ∷ []) so_far
-    ∙ (ap (λ (p : Listed). (start ++ map (pattern_of a) (take i found)) ++ p ∷ []) made
-    ∙ (append_assoc start (map (pattern_of a) (take i found)) (listed a f.symbols ∷ []) ∙ ap (λ (ps : List Listed). start ++ ps) (sym both))))
-
 -- all fillings of a node
 pub node_done : (x : LocalRule) (a : ℕ) (found all : List Filled) (start new : List Listed) → AreBreakingFillings x a found → all ≡ found →
     new ≡ start ++ map (pattern_of a) all → IsListedAfter x a (λ before. before ≡ start) new

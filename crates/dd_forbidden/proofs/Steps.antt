@@ -77,9 +77,6 @@ of_reads r (c ∷ cs) h ks of =
 pub reads_of_nodes : (r : LocalRule) → IsRule r → (a : ℕ) → a < r.nodes → AreOf r (cells_at r a)
 reads_of_nodes r ok a below = of_reads r (reads_at r a) (ok.placed a below) [] (All-nil (λ c. c.node < r.nodes))
 
-pub first_of : (r : LocalRule) (c : Cell) (cs : List Cell) → AreOf r (c ∷ cs) → c.node < r.nodes
-first_of r c cs of = of 0 c (omega arith)
-
 pub rest_of : (r : LocalRule) (c : Cell) (cs : List Cell) → AreOf r (c ∷ cs) → AreOf r cs
 rest_of r c cs of = λ k d within. of (suc k) d (omega (arith, within))
 

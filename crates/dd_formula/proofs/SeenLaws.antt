@@ -19,14 +19,13 @@ use Rattle.dd_expansion.specs.Truth.{are_equal}
 use Rattle.dd_expansion.specs.Terms.{origin_at}
 use Rattle.dd_expansion.specs.lemmas.ListTests.{list_all-weaker}
 use Rattle.dd_formula.specs.LocalRule.{is_near}
-use Rattle.dd_formula.specs.Automata.{CommonNumbers, Counted, IsAutomaton, value, counted, cells_of, is_cell_of}
-use Rattle.dd_formula.specs.Values.{are_given, is_read, HasCasesLook}
+use Rattle.dd_formula.specs.Automata.{CommonNumbers, IsAutomaton, value, counted, cells_of, is_cell_of}
+use Rattle.dd_formula.specs.Values.{are_given, is_read}
 use Rattle.dd_formula.specs.valuing.Readable.{IsReadable, AreReadable, IsReadableAt, IsSeen}
 use Rattle.dd_formula.specs.declared.automaton.Automaton.{Automaton}
 use Rattle.dd_formula.specs.declared.automaton.Automaton.TheVariants as v
-use Rattle.dd_formula.specs.declared.automaton.Cases.{Cases}
 use Rattle.dd_formula.specs.lemmas.Reached.{filling_below, in_range}
-use Rattle.dd_formula.specs.lemmas.AutomatonLaws.{near_reads, counted_given, fits_given, outer_part, inner_part}
+use Rattle.dd_formula.specs.lemmas.AutomatonLaws.{near_reads}
 use Rattle.dd_formula.specs.lemmas.ValueLaws.{origin, shifted_by_none, moved_by_none, value_by_reads, value_composed, value_below, equal_values, read_by_both}
 
 -- a test of a list, by the places of its elements
@@ -134,24 +133,8 @@ module _ (f : Automaton) (s : CommonNumbers) (formed : IsAutomaton s f) (look : 
       (λ d e. ap (λ x. are_equal (filling_look near x) (look (shifted c.position d))) (shifted_by_none d) ∙ equal_seen (filling_look near d) (look (shifted c.position d)) (is_in_range (moved d.position c.position)) e)
       ((counted f).reads c.node) reads_seen)
 
--- the parts of what can be read at a node
-pub given_cases : (c : Cases) (a : ℕ) (look : Look) → IsReadable (v.Given c) a look → HasCasesLook c (origin_at a) look
-given_cases c a look h = record {
-  setting = h.has.setting;
-  fit = sym (fits_given h.has.setting c) ∙ h.has.formed.fits;
-  below = h.has.below;
-  symbols = h.has.symbols;
-  given = ap (λ (k : Counted). are_given look origin (k.reads a)) (sym (counted_given c)) ∙ h.given;
 }
 
-pub both_readable : (f g : Automaton) (a : ℕ) (look : Look) → IsReadable (v.Composed f g) a look → AreReadable f g a look
-both_readable f g a look h = record {
-  setting = h.has.setting;
-  outer = outer_part h.has.setting f g h.has.formed;
-  inner = inner_part h.has.setting f g h.has.formed;
-  below = h.has.below;
-  symbols = h.has.symbols;
-  given = h.given;
 }
 
 some_map : (h : Cell → ℕ) (cs : List Cell) → map Some (map h cs) ≡ map (λ d. Some (h d)) cs

@@ -8,7 +8,7 @@ use Rattle.std.proofs.lemmas.Int.{ints}
 use Rattle.std.proofs.lemmas.Cmp.{ranked}
 use lib.IntN.{ℤ, pos, negsuc, neg_ℤ, ◌*ℤ◌}
 use lib.Signed.{◌≤ℤ◌, ◌<ℤ◌}
-use Rattle.dd_fraction.specs.lemmas.Ring.{product_above, product_negative, product_nonneg}
+use Rattle.dd_fraction.specs.lemmas.Ring.{product_above}
 use Rattle.std.specs.declared.cmp.Ordering.{Ordering}
 use Rattle.std.specs.declared.cmp.Ordering.TheVariants.{Less, Equal, Greater}
 
@@ -72,41 +72,3 @@ rests_greater a b c d e w x y =
     let p : 0 < d * (a % b) = product_above d (a % b) w y in
     let z : b * (c % d) < d * (a % b) = rw (x) (omega (arith, p)) in
     greater_is _ _ z ∙ sym (rest_cmp a b c d e)
-
-cmp_up_lem : (u v : ℕ) → nat_cmp u v ≡ int_cmp (pos u) (pos v)
-cmp_up_lem u v = grind (arith, ints)
-
-pub cmp_up : (x y : ℤ) (d e : ℕ) → pos 0 ≤ℤ x → pos 0 ≤ℤ y
-    → nat_cmp (unsigned_abs x * e) (unsigned_abs y * d) ≡ int_cmp (x *ℤ pos e) (y *ℤ pos d)
-cmp_up (pos x) (pos y) d e p q = cmp_up_lem (x * e) (y * d)
-cmp_up (pos x) (negsuc y) d e p q = absurd (omega (arith, ints, q))
-cmp_up (negsuc x) y d e p q = absurd (omega (arith, ints, p))
-
-cmp_down_lem : (u v : ℕ) → 0 < u → 0 < v → nat_cmp v u ≡ int_cmp (neg_ℤ (pos u)) (neg_ℤ (pos v))
-cmp_down_lem u v p q = grind (arith, ints)
-
-pub cmp_down : (x y : ℤ) (d e : ℕ) → 0 < d → 0 < e → x <ℤ pos 0 → y <ℤ pos 0
-    → nat_cmp (unsigned_abs y * d) (unsigned_abs x * e) ≡ int_cmp (x *ℤ pos e) (y *ℤ pos d)
-cmp_down (pos x) y d e z w p q = absurd (omega (arith, ints, p))
-cmp_down (negsuc x) (pos y) d e z w p q = absurd (omega (arith, ints, q))
-cmp_down (negsuc x) (negsuc y) d e z w p q = cmp_down_lem (suc x * e) (suc y * d) (omega arith) (omega arith)
-
-less_lem : (u v : ℤ) → u <ℤ v → Less ≡ int_cmp u v
-less_lem u v h = grind (arith, ints)
-
-greater_lem : (u v : ℤ) → v <ℤ u → Greater ≡ int_cmp u v
-greater_lem u v h = grind (arith, ints)
-
-pub cmp_less : (x y : ℤ) (d e : ℕ) → 0 < e → x <ℤ pos 0 → pos 0 ≤ℤ y → Less ≡ int_cmp (x *ℤ pos e) (y *ℤ pos d)
-cmp_less x y d e w p q =
-    let a = product_negative x e w p in
-    let b = product_nonneg y (pos d) q (omega (arith, ints)) in
-    let c : (x *ℤ pos e) <ℤ (y *ℤ pos d) = omega (arith, ints, a, b) in
-    less_lem _ _ c
-
-pub cmp_greater : (x y : ℤ) (d e : ℕ) → 0 < d → pos 0 ≤ℤ x → y <ℤ pos 0 → Greater ≡ int_cmp (x *ℤ pos e) (y *ℤ pos d)
-cmp_greater x y d e w p q =
-    let a = product_nonneg x (pos e) p (omega (arith, ints)) in
-    let b = product_negative y d w q in
-    let c : (y *ℤ pos d) <ℤ (x *ℤ pos e) = omega (arith, ints, a, b) in
-    greater_lem _ _ c

@@ -8,38 +8,16 @@ use Rattle.std.proofs.lemmas.Int.{ints, unsigned_abs-mul, fits_signed_from_abs}
 use Rattle.std.proofs.Math.Nat.{mul-le-mul_right, div-le_self}
 use Rattle.dd_fraction.specs.Divisor.{greatest_common}
 use Rattle.dd_fraction.specs.Exact.{Exact, lowest, plus, minus, times, whole_of}
-use Rattle.dd_fraction.specs.Checked.{IsSmall, does_product_fit, does_sum_fit, does_less_product_fit, checked_product, checked_sum, checked_less_product}
+use Rattle.dd_fraction.specs.Checked.{IsSmall, does_less_product_fit, checked_less_product}
 use Rattle.dd_fraction.specs.lemmas.Lowest.{size_over, lowest_at, lowest_same_at, zero_is}
 use Rattle.dd_fraction.specs.lemmas.Laws.{minus_lowest, plus_low_right}
 use Rattle.dd_fraction.proofs.Quick.{within, size_plus, alike_plus}
-use Rattle.dd_fraction.specs.lemmas.Results.{kept, refused, times_at, plus_at}
+use Rattle.dd_fraction.specs.lemmas.Results.{times_at, plus_at}
 use Rattle.dd_fraction.specs.lemmas.Ring.{diff_self, diff_same, as_diff, product_above}
-
--- ---- a product, and then a sum
-none_first : (t u : Bool) (z : Exact) → t ≡ false → None ≡ cond (t && u) (Some z) None
-none_first true u z e = absurd cc
-none_first false u z e = refl
-
-made : (t u : Bool) (z : Exact) → t ≡ true → cond u (Some z) None ≡ cond (t && u) (Some z) None
-made true u z e = refl
-made false u z e = absurd cc
 
 chosen : (t : Bool) (z : Exact) → t ≡ true → Some z ≡ cond t (Some z) None
 chosen true z e = refl
 chosen false z e = absurd cc
-
-pub product_refused : (a q b : Exact) → None ≡ checked_product q b → None ≡ checked_less_product a q b
-product_refused a q b e =
-    none_first (does_product_fit q b) (does_sum_fit a (minus (times q b))) (plus a (minus (times q b)))
-    (refused (does_product_fit q b) (times q b) e)
-
-pub product_made : (a q b p : Exact) (r : Option Exact) → Some p ≡ checked_product q b → r ≡ checked_sum a (minus p)
-    → r ≡ checked_less_product a q b
-product_made a q b p r e f =
-    let w = kept (does_product_fit q b) p (times q b) e in
-    f
-    ∙ (ap (λ (x : Exact). checked_sum a (minus x)) w.1
-    ∙ made (does_product_fit q b) (does_sum_fit a (minus (times q b))) (plus a (minus (times q b))) w.0)
 
 -- ---- small numbers fit
 pub product_le : (x y m n : ℕ) → x ≤ m → y ≤ n → x * y ≤ m * n

@@ -286,9 +286,6 @@ pub fault_z : (d n : ℕ) (ps mid : List Place) (fault : LatticeFault) → 3 ≤
     IsFaultOf (IsNearby d n ps) fault
 fault_z d n ps mid fault more region = fault_weaker _ _ (λ p h. near_more 3 d n ps more p (near_from_z n ps mid region p h)) fault
 
-pub near_empty : (d n : ℕ) (ps : List Place) → ps ≡ [] → IsRegionOf (IsNearby d n ps) []
-near_empty d n ps e = subst (λ z. IsRegionOf (IsNearby d n z) []) (sym e) (near_nothing d n)
-
 pub far_leaves_more : (d n : ℕ) (ps : List Place) → 1 ≤ d → (ps ≡ [] → ⊥) → 1048576 < n → LeavesRange (IsNearby d n ps)
 far_leaves_more d n ps more some far =
     let h = far_leaves n ps some far in

@@ -16,13 +16,12 @@ use Rattle.dd_meancycle.specs.declared.table.EdgeMean.{EdgeMean}
 use Rattle.dd_meancycle.specs.declared.table.EdgeMean.TheVariants as edge_mean
 use Rattle.dd_meancycle.specs.declared.least.Mean.{Mean}
 use Rattle.dd_meancycle.specs.declared.least.Mean.TheVariants.{Least, NoCycle}
-use Rattle.dd_meancycle.specs.Means.{IsPath, IsCycle, IsLeastMeanCycle, IsAcyclic, IsMeanOf, ArePotentials, AreRanks, weight_of}
+use Rattle.dd_meancycle.specs.Means.{IsPath, IsCycle, IsMeanOf, ArePotentials, AreRanks, weight_of}
 use Rattle.dd_transfer.specs.Certificates.{potential_of}
 use Rattle.dd_meancycle.specs.table.Levels.{IsEdgeOf}
 use Rattle.dd_meancycle.specs.table.Walks.{IsWalk, AreAmong, edges_weight as edges_weight, natural_potential as natural}
 use Rattle.dd_meancycle.specs.table.Lists.{edge_at, AreEdgesTo, AreEdges, IsInStates}
 use Rattle.dd_meancycle.specs.table.LeastMean.{IsMean, IsLeastMean, IsSmallMean}
-use Rattle.dd_meancycle.proofs.WalkLaws.{cycle_weighs, walk_ends}
 
 -- one number more
 pub edges_more : (g : Transfer) (n : ℕ) (edges : List Edge) (o : Option Edge) → AreEdgesTo g n edges → o ≡ edge_at g n → AreEdgesTo g (n + 1) (edges ++ option_to_list o)

@@ -2,7 +2,7 @@
 use Rattle.std.proofs.Common.{◌≡◌, ℕ, ◌+◌, ◌*◌, ◌<◌, ◌≤◌, List, [], ◌∷◌, ◌++◌, length, arith, refl, sym, ap, ◌∙◌, subst}
 use Rattle.std.specs.List.{Contains}
 use Rattle.dd_meancycle.specs.declared.edges.Edge.{Edge}
-use Rattle.dd_meancycle.specs.table.Walks.{IsWalk, AreAmong, edges_weight, natural_potential, AreEdgePotentials, AreEdgeRanks}
+use Rattle.dd_meancycle.specs.table.Walks.{IsWalk, AreAmong, edges_weight, natural_potential, AreEdgePotentials}
 
 -- a walk of j edges: l * weight ≥ m * j - spread
 pub walk_weighs : (edges : List Edge) (m l : ℕ) (ps : List ℕ) → AreEdgePotentials edges m l ps →
@@ -17,10 +17,3 @@ walk_weighs edges m l ps given (e ∷ es) u v among walk =
 pub cycle_weighs : (edges : List Edge) (m l : ℕ) (ps : List ℕ) → AreEdgePotentials edges m l ps →
     (es : List Edge) (u : ℕ) → AreAmong edges es → IsWalk u es u → m * length es ≤ l * edges_weight es
 cycle_weighs edges m l ps given es u among walk = omega (arith, walk_weighs edges m l ps given es u u among walk)
-
-pub walk_ends : (edges : List Edge) (ranks : List ℕ) → AreEdgeRanks edges ranks →
-    (es : List Edge) (u v : ℕ) → AreAmong edges es → IsWalk u es v → natural_potential ranks v + length es ≤ natural_potential ranks u
-walk_ends edges ranks given [] u v among walk = rw walk (omega arith)
-walk_ends edges ranks given (e ∷ es) u v among walk =
-    let first : natural_potential ranks e.to < natural_potential ranks u = subst (λ (x : ℕ). natural_potential ranks e.to < natural_potential ranks x) walk.0 (given e among.0) in
-    omega (arith, walk_ends edges ranks given es e.to v among.1 walk.1)

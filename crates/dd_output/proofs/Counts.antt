@@ -104,10 +104,3 @@ many_fails e one least front count i bytes total lt is so_far =
     let step : Fails e (with_all front (many_at one least (suc (count - (i + 1))) bytes)) =
     fails_then e _ _ (fails_then e _ _ (fails_then e (before (copies (count - (i + 1)) least) (one bytes)) _ (fails_before e (one bytes) _ is))) in
     rw (← so_far, k) step
-
-pub many_done : {A : Type 0} (one : List ℕ → Read A) (least : List ℕ) (front : List A) (count i : ℕ) (bytes : List ℕ) (total : Read (List A)) → count ≤ i
-    → with_all front (many_at one least (count - i) bytes) ≡ total → total ≡ Ok (front, bytes)
-many_done {A} one least front count i bytes total le so_far =
-    let k : count - i ≡ 0 = omega arith in
-    let step : with_all front (many_at one least (count - i) bytes) ≡ Ok (front, bytes) = rw k (ap (λ (l : List A). Ok (l, bytes)) (append-nil front)) in
-    sym so_far ∙ step

@@ -44,9 +44,6 @@ done x = Ok x
 pub ok_is : {A : Type 0} (x y : A) → done x ≡ done y → x ≡ y
 ok_is x y e = cc
 
-abbrev pub stopped : {A : Type 0} → Stop → Result A Stop
-stopped s = Err s
-
 -- ---- the laws
 
 pub before_reads : {A : Type 0} (F : A → Type 0) (t : A → List ℕ) (C D : List ℕ → Type 0) (r : List ℕ → Read A) (d : List ℕ) → Reads F t C r

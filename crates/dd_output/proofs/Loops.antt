@@ -3,7 +3,7 @@ use Rattle.std.proofs.Common.{◌≡◌, ℕ, suc, ◌<◌, List, [], ◌∷◌,
 use Rattle.std.proofs.lemmas.List.{append-nil}
 use Rattle.dd_output.specs.declared.fault.ReadFault.{ReadFault}
 use Rattle.dd_output.specs.declared.fault.ReadFault.TheVariants as faults
-use Rattle.dd_output.specs.reading.Stops.{Stop, Read, ◌>>=◌, Fails, Entry, item, last, entries_at, until_at, next_at, before}
+use Rattle.dd_output.specs.reading.Stops.{Stop, Read, ◌>>=◌, Fails, Entry, item, entries_at, before}
 
 -- what was read before, and what is still read
 abbrev pub with_front : {A B : Type 0} → List A → Read (List A × B) → Read (List A × B)
@@ -27,12 +27,6 @@ goes_on entry law front bytes x rest total is so_far =
     let long : length (front ++ x ∷ []) ≡ suc (length front) = omega (arith, length-append front (x ∷ [])) in
     rw (long, ← regroup front x (entries_at entry (suc (length front)) rest), ← law.unrolled (length front) bytes x rest is) so_far
 
-pub ends : {A B : Type 0} (entry : ℕ → List ℕ → Read (Entry A B)) (k : ℕ) (front : List A) (bytes : List ℕ) (y : B) (rest : List ℕ) (total : Read (List A × B))
-    → entry k bytes ≡ Ok (last y, rest) → with_front front (entries_at entry k bytes) ≡ total → total ≡ Ok ((front, y), rest)
-ends {A} {B} entry k front bytes y rest total is so_far =
-    let one : with_front front (entries_at entry k bytes) ≡ Ok ((front, y), rest) = rw is (ap (λ (l : List A). Ok ((l, y), rest)) (append-nil front)) in
-    sym so_far ∙ one
-
 -- what stopped inside stopped outside
 pub fails_then : {A B : Type 0} (e : ReadFault) (r : Result A Stop) (f : A → Result B Stop) → Fails e r → Fails e (r >>= f)
 fails_then faults.Memory r f is = tt
@@ -43,8 +37,3 @@ pub fails_before : {A : Type 0} (e : ReadFault) (r : Result A Stop) (d : List �
 fails_before faults.Memory r d is = tt
 fails_before (faults.Stopped n) (Ok x) d is = elim is [ ]
 fails_before (faults.Stopped n) (Err s) d is = is
-
-pub entry_fails : {A B : Type 0} (e : ReadFault) (entry : ℕ → List ℕ → Read (Entry A B)) (k : ℕ) (front : List A) (bytes : List ℕ) (total : Read (List A × B))
-    → Fails e (entry k bytes) → with_front front (entries_at entry k bytes) ≡ total → Fails e total
-entry_fails e entry k front bytes total is so_far =
-    rw (← so_far) (fails_then e (entries_at entry k bytes) (λ o. Ok ((front ++ o.0.0, o.0.1), o.1)) (fails_then e (entry k bytes) (next_at (until_at entry (suc k) (length bytes))) is))

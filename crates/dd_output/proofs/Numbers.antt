@@ -5,7 +5,7 @@ use Rattle.std.specs.Fmt.{decimal}
 use Rattle.std.proofs.lemmas.Bool.{eqb-true, eq-eqb, ne_eqb, leb-true, le-leb, lt-ltb, ltb-true, and_parts, and_from, or_from, or_left, or_right, or_cases, both_ways}
 use Rattle.std.proofs.lemmas.Fmt.{decimal_digit, decimal_step, decimal_by_steps}
 use Rattle.std.proofs.lemmas.List.{append-nil}
-use Rattle.dd_output.specs.reading.Stops.{Stop, stop, Read, is_digit, goes_on, starts, digits_at, number_at}
+use Rattle.dd_output.specs.reading.Stops.{Stop, stop, is_digit, goes_on, starts, digits_at, number_at}
 use Rattle.dd_output.proofs.Laws.{Halts, Reads}
 use Rattle.dd_output.proofs.Tokens.{chosen_ok, chosen_err}
 
@@ -74,9 +74,6 @@ GoesOn_from bound n b is =
 
 module _ (low bound end other : ℕ) (after : ℕ → List ℕ) (small : low ≤ 1) (some : low ≤ bound) (fits : bound < 2 ^ 64)
     (end_is : is_digit end ≡ false) (other_is : is_digit other ≡ false) where
-  digits : ℕ → List ℕ → Read (ℕ × ℕ)
-  digits = digits_at bound end other after
-
   digits_step : (n d : ℕ) (bytes : List ℕ) → 0 < n → d < 10 → n * 10 + d ≤ bound
       → digits_at bound end other after n ((48 + d) ∷ bytes) ≡ digits_at bound end other after (n * 10 + d) bytes
   digits_step n d bytes more digit below =

@@ -16,9 +16,6 @@ use Rattle.dd_pattern.specs.declared.periods.Periods.{Periods}
 use Rattle.dd_pattern.specs.Periods.{periods_volume, periods_cmp, AreWithin, AreAllWithin}
 use Rattle.dd_pattern.specs.listing.Adding.{IsAdded, HasShear, IsPeriodUpTo, HasBox, most_along}
 
-pub periods_total : IsTotalOrder periods_cmp
-periods_total = search (comparing, rules) depth 12
-
 both_equal : (a b : Ordering) → ordering_then a b ≡ Equal → (a ≡ Equal) × (b ≡ Equal)
 both_equal Less b h = absurd (cc)
 both_equal Equal b h = (refl, h)
@@ -55,9 +52,6 @@ added_more a b c P Q R first second split from_first from_second q = (
     | inr r ↦ elim (split q r) [ inl p ↦ (second q).1 (inl ((first q).1 (inr p))) | inr new ↦ (second q).1 (inr new) ]
   ],
 )
-
-pub added_none : (a : List Periods) (P : Periods → Type 0) → ((q : Periods) → P q → ⊥) → IsAdded a a P
-added_none a P none q = (λ h. inl h, λ h. elim h [ inl old ↦ old | inr p ↦ absurd (none q p) ])
 
 last_or_before : (n i : ℕ) → n ≤ i + 1 → (n ≤ i) ⊎ (n ≡ i + 1)
 last_or_before n i h = elim (eq-or-lt_of_le h) [ inl last ↦ inr last | inr low ↦ inl (omega arith) ]

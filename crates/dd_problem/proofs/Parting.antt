@@ -7,7 +7,7 @@ use Rattle.dd_circuit.specs.declared.gates.Gate.TheVariants.{And}
 use Rattle.dd_circuit.specs.Circuits.{Network, IsSignal, size, signal_of, opposite}
 use Rattle.dd_compile.specs.Compiling.{Extends}
 use Rattle.dd_compile.specs.ValueGates.{fresh}
-use Rattle.dd_compile.specs.lemmas.CaseGates.{itself, next_is}
+use Rattle.dd_compile.specs.lemmas.CaseGates.{next_is}
 use Rattle.dd_compile.specs.lemmas.Progress.{Extends-trans}
 use Rattle.dd_problem.specs.Differing.{apart}
 
@@ -17,12 +17,6 @@ pub record Parting (xs ys : List Signal) (i : ℕ) (start now : Network) (signal
   pub signals_left : fresh (size start) (length (apart xs ys)) ≡ signals ++ fresh (size now) (length (apart (drop i xs) (drop i ys)))
   pub count : size now ≡ size start + i
 
-pub parting_start : (xs ys : List Signal) (start : Network) (signals : List Signal) → signals ≡ [] → Parting xs ys 0 start start signals
-parting_start xs ys start signals none = record {
-  extends = itself start;
-  gates_left = refl;
-  signals_left = ap (λ ss. ss ++ fresh (size start) (length (apart xs ys))) (sym none);
-  count = omega arith;
 }
 
 two_in : (m : ℕ) (a b : Signal) → IsSignal m a → IsSignal m b → All (IsSignal m) (a ∷ b ∷ [])
@@ -35,9 +29,6 @@ two_in m a b p q = λ k d h. at k d h
 
 module _ (xs ys : List Signal) (i : ℕ) (start now : Network) (signals : List Signal) (x y : Signal) (p : Parting xs ys i start now signals) (below : i < length xs) (below' : i < length ys)
     (is : x ≡ get_or xs i x) (is' : y ≡ get_or ys i y) where
-  pub parting_few : size start + length xs ≤ 16777216 → size now < 16777216
-  parting_few few = omega (arith, p.count, below, few)
-
   pub parting_in : (o : Signal) → o ≡ opposite y → All (IsSignal (size start)) xs → All (IsSignal (size start)) ys → All (IsSignal (size now)) (x ∷ o ∷ [])
   parting_in o turned first second =
       let a = subst (IsSignal (size start)) (sym is) (first i x below) in

@@ -46,26 +46,7 @@ none_read set m k one none =
     let no = none s one.1.0 in
     cc
 
-pub none_more : (set : ℕ → Bool) (m k n : ℕ) → ((t : ℕ) → t < n → set (input m k t) ≡ false) → set (input m k n) ≡ false → (t : ℕ) → t < n + 1 → set (input m k t) ≡ false
-none_more set m k n before here t below = elim (cases_lt t n) [
-  | inl earlier ↦ before t earlier
-  | inr last ↦ (let same : n ≡ t = omega arith in ap (λ j. set (input m k j)) (sym same) ∙ here)
 ]
-
--- one more symbol
-pub read_more : (set : ℕ → Bool) (m n s : ℕ) (symbols more : List ℕ) → AreAllRead set m n symbols → IsSymbolRead set m n s → more ≡ symbols ++ s ∷ [] → AreAllRead set m (n + 1) more
-read_more set m n s symbols more all one is =
-    subst (AreAllRead set m (n + 1)) (sym is) (
-      omega (arith, all.0, length-append symbols (s ∷ [])),
-      λ k d below. elim (cases_lt k n) [
-        | inl earlier ↦ subst (IsSymbolRead set m k) (sym (get_or-append symbols (s ∷ []) d k (omega (arith, all.0)))) (all.1 k d earlier)
-        | inr last ↦ at_end k d (omega arith)
-      ],
-    )
-  where
-    at_end : (k d : ℕ) → n ≡ k → IsSymbolRead set m k (get_or (symbols ++ s ∷ []) k d)
-    at_end k d same = subst (λ j. IsSymbolRead set m j (get_or (symbols ++ s ∷ []) j d)) same
-        (subst (λ j. IsSymbolRead set m n (get_or (symbols ++ s ∷ []) j d)) all.0 (subst (IsSymbolRead set m n) (sym (get_or-append_seam symbols s [] d)) one))
 
 pub one_each_there : (values found : List Bool) (m symbols n count : ℕ) → values ≡ found → m ≡ symbols → n ≡ count → HasOneEach (true_variables found) symbols count →
     HasOneEach (true_variables values) m n

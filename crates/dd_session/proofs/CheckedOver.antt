@@ -16,7 +16,7 @@ use Rattle.dd_session.specs.Answers.{has_unknown}
 use Rattle.dd_session.specs.Output.{IsLineOf}
 use Rattle.dd_session.specs.Sides.{Told, RefusedBy, status_of}
 use Rattle.dd_session.specs.Checks.{offset_line, IsOutput, IsCheckable, IsRefusedOutput, malformed, no_script}
-use Rattle.dd_session.specs.Checked.{CheckFront, ShortCheck, CheckedOver}
+use Rattle.dd_session.specs.Checked.{CheckedOver}
 use Rattle.dd_session.specs.checking.Judged.{RejectedHere, AcceptedAll, AllJudged, checked_status}
 
 output_itself : (o : Output) → IsWritableOutput o → IsOutput (output_text o) o
@@ -107,14 +107,6 @@ judged_over sink o s answers false status writable spelled same judged is =
 pub few_answers : (o : Output) (answers : List Answer) → IsWritableOutput o → answers ≡ o.answers → length answers ≤ 1000
 few_answers o answers writable is = rw is writable.1
 
--- the check was broken off
-pub short_over : (old new : Option (List ℕ)) (o : Output) (s : Parts) (answers : List Answer) → IsWritableOutput o → Spells o.script s
-    → answers ≡ o.answers → CheckFront old new s answers → ShortCheck old new (output_text o)
-short_over old new o s answers writable spelled same front = record {
-  output = o;
-  script = s;
-  checkable = checkable o s writable spelled;
-  front = subst (CheckFront old new s) same front;
 }
 
 pub same_over : {K : Type 0} (sink : Told K) (bytes other : List ℕ) (status : Status) → bytes ≡ other → CheckedOver sink other status → CheckedOver sink bytes status

@@ -8,8 +8,7 @@ use Rattle.dd_script.specs.Parts.{Parts}
 use Rattle.dd_script.specs.Scripts.{Spells, RefusedAs, RefusalKind}
 use Rattle.dd_session.specs.declared.status.Status.{Status}
 use Rattle.dd_session.specs.declared.status.Status.TheVariants.{Definite, SomeUnknown, Refused, ReadFault, WriteFault, Memory, BadWords, Rejected}
-use Rattle.dd_session.specs.Output.{long_line}
-use Rattle.dd_session.specs.Sides.{Told, RefusedBy}
+use Rattle.dd_session.specs.Sides.{Told}
 use Rattle.dd_session.specs.Runs.{RanOver, Ended, IsAccepted, IsAcceptedAs, DecidesStatus, RanWhole, RefusedWhole, IsRefusedInput, IsRefusedBy, too_long, no_run}
 
 -- What was read to the end is what was told.
@@ -87,29 +86,11 @@ ended_run source sink given bytes status to_end short same ran = by_status statu
   by_status BadWords run = absurd run
   by_status Rejected run = absurd run
 
--- The input was too long.
-pub ended_long : {S K : Type 0} (source : Told S) (sink : Told K) (status : Status) → GivesMore source.bytes_old source.bytes_new most_script
-    → RefusedBy sink long_line status → Ended source sink status
-ended_long source sink Refused more wrote = record { line = long_line; refused = too_long more refl; appends = wrote }
-ended_long source sink WriteFault more wrote = (inr record { line = long_line; refused = too_long more refl; front = wrote.0 }, wrote.1)
-ended_long source sink Definite more wrote = absurd wrote
-ended_long source sink SomeUnknown more wrote = absurd wrote
-ended_long source sink ReadFault more wrote = absurd wrote
-ended_long source sink Memory more wrote = absurd wrote
-ended_long source sink BadWords more wrote = absurd wrote
-ended_long source sink Rejected more wrote = absurd wrote
-
 -- no run ends by bad words
 pub never_ran : {K : Type 0} (sink : Told K) (bytes : List ℕ) (status : Status) → RanOver sink bytes status → status ≢ BadWords
 never_ran sink bytes status ran is = let none : ⊥ = subst (RanOver sink bytes) is ran in none
-
-pub never_refused : {K : Type 0} (sink : Told K) (line : List ℕ) (status : Status) → RefusedBy sink line status → status ≢ BadWords
-never_refused sink line status wrote is = let none : ⊥ = subst (RefusedBy sink line) is wrote in none
 
 -- ---- how much was taken
 
 pub took_all : (old new : Option (List ℕ)) (bytes : List ℕ) → ReadToEnd old new bytes → length bytes ≤ most_script → GivesAtMost old new (most_script + 1)
 took_all old new bytes to_end short = record { given = bytes; consumed = to_end.consumed; few = omega (arith, short) }
-
-pub took_none : (a : Option (List ℕ)) → GivesAtMost a a (most_script + 1)
-took_none a = record { given = []; consumed = Consumes-nil a; few = omega arith }

@@ -19,9 +19,9 @@ use Rattle.dd_script.specs.Questions.{query_at}
 use Rattle.dd_checker.specs.Certificates.{HasQuery, IsCertificate, IsCertificateFor}
 use Rattle.dd_checker.specs.Claims.{Claim}
 use Rattle.dd_session.specs.Answers.{has_unknown}
-use Rattle.dd_session.specs.Checks.{accepted_line, rejected_line, accepted_lines, checked_line, IsAcceptedAt, IsTrueAt, AcceptedTo, AllAccepted, FirstRejected, IsEnding, broken_off, rejected, finished}
+use Rattle.dd_session.specs.Checks.{accepted_line, rejected_line, accepted_lines, checked_line, IsAcceptedAt, IsTrueAt, AcceptedTo, AllAccepted, FirstRejected, broken_off, rejected, finished}
 use Rattle.dd_session.specs.Checked.{CheckFront}
-use Rattle.dd_session.specs.checking.Judged.{IsJudged, verdict_line, Judged, JudgedFront, nothing, part, most_of, RejectedHere, AcceptedEach, AcceptedAll, EachJudged, AllJudged}
+use Rattle.dd_session.specs.checking.Judged.{IsJudged, Judged, JudgedFront, nothing, part, most_of, RejectedHere, AcceptedEach, AcceptedAll, EachJudged}
 
 -- ---- a fact of what is there
 
@@ -44,12 +44,6 @@ accepted_within s answers n accepted =
     let there = some_there (slice_get answers (n - 1)) (λ a. IsCertificate s n a) accepted in
     let asked = some_there (query_at s n) (λ q. IsCertificateFor s q there.0) there.2 in
     (slice_get_within answers (n - 1) there.0 there.1, slice_get_within s.queries (n - 1) asked.0 asked.1)
-
-pub past_answers : (s : Parts) (answers : List Answer) (n : ℕ) → length answers ≤ n - 1 → ¬ IsAcceptedAt s answers n
-past_answers s answers n past accepted = omega (arith, past, (accepted_within s answers n accepted).0)
-
-pub past_queries : (s : Parts) (answers : List Answer) (n : ℕ) → length s.queries ≤ n - 1 → ¬ IsAcceptedAt s answers n
-past_queries s answers n past accepted = omega (arith, past, (accepted_within s answers n accepted).1)
 
 pub has_query_at : (s : Parts) (n : ℕ) → 1 ≤ n → n - 1 < length s.queries → HasQuery s n
 has_query_at s n numbered less = record { numbered = numbered; within = omega (arith, numbered, less) }
@@ -148,15 +142,6 @@ most_are s answers queries most same is = is ∙ ap (λ (l : List Query). max (l
 pub below_most : (s : Parts) (answers : List Answer) (queries : List Query) (most done : ℕ) → queries ≡ s.queries → most ≡ max (length queries) (length answers)
     → done < most → done < most_of s answers
 below_most s answers queries most done same is less = subst (λ (n : ℕ). done < n) (most_are s answers queries most same is) less
-
--- all were accepted, up to the greatest number
-pub accepted_most : (s : Parts) (answers : List Answer) (a b : Option (List ℕ)) (done most : ℕ) → most ≡ most_of s answers → done ≡ most → AcceptedTo s answers done
-    → Appends a b (accepted_lines done) → AcceptedEach a b s answers
-accepted_most s answers a b done most is at accepted wrote =
-    let all : done ≡ most_of s answers = at ∙ is in record {
-      accepted = subst (AcceptedTo s answers) all accepted;
-      appends = subst (λ (n : ℕ). Appends a b (accepted_lines n)) all wrote;
-    }
 
 -- where all numbers are accepted, there are as many answers as queries
 as_many : (queries answers most : ℕ) → most ≡ max queries answers → (1 ≤ most → (most - 1 < answers) × (most - 1 < queries)) → answers ≡ queries

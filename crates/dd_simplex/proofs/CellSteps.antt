@@ -7,7 +7,7 @@ use Rattle.std.proofs.lemmas.List.Edits.{map_over_more}
 use Rattle.std.proofs.lemmas.List.Folds.{list_all_more}
 use Rattle.std.proofs.lemmas.Grind.{common_steps}
 use Rattle.dd_fraction.specs.Exact.{Exact, times, plus, minus}
-use Rattle.dd_simplex.specs.table.Lines.{IsIdle, less, do_all_less_fit}
+use Rattle.dd_simplex.specs.table.Lines.{less, do_all_less_fit}
 use lib.IntN.{pos, neg_ℤ, ◌+ℤ◌, ◌*ℤ◌, *ℤ-one, +ℤ_idl, one}
 use Rattle.std.proofs.Common.{◌^◌}
 use Rattle.dd_fraction.specs.Exact.{inverse}
@@ -109,11 +109,4 @@ solved_size v e l n h =
     let k = inverse (fraction_at l.cells e) in
     length-map (slice_set l.cells e one_of) (λ (a : Exact). times a k) ∙ (length-set l.cells e one_of ∙ h)
 
--- a place at which nothing changes
-pub subtract_idle : (q : Exact) (us bs : List Exact) (i : ℕ) (a b : Exact) → i < length us → i < length bs → IsIdle (get_or us i a) q (get_or bs i b)
-    → (do_all_less_fit q (drop i us) (drop i bs) ≡ do_all_less_fit q (drop (i + 1) us) (drop (i + 1) bs))
-    × (take i us ++ less q (drop i us) (drop i bs) ≡ take (i + 1) us ++ less q (drop (i + 1) us) (drop (i + 1) bs))
-subtract_idle q us bs i a b p r h = (
-  fits_open q us bs i a b p r ∙ ap (λ (t : Bool). t && do_all_less_fit q (drop (i + 1) us) (drop (i + 1) bs)) h.fit,
-  rw (less_open q us bs i a b p r, h.value, take_more us i a p) (sym (append_assoc (take i us) (get_or us i a ∷ []) _)),
 )

@@ -64,9 +64,6 @@ precedes_chain a b c v w x p q = record {
       omega (arith, one, two);
 }
 
-by_order : (o : Ordering) (v w : ℕ) → Bool
-by_order o v w = is_lt o || (is_eq o && nat_lt v w)
-
 same_cmp : (a b : Exact) → IsAtMost a b → IsAtMost b a → exact_cmp a b ≡ Equal
 same_cmp a b p q = exact_cmp-same a b (at_most_antisymm a b p q)
 

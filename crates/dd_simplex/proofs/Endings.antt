@@ -33,9 +33,6 @@ at_most_from_less x z u e p = at_most_from_sum u (minus x) z same p
         ∙ (ap (λ (t : Exact). plus t (minus x)) (sym e ∙ plus_comm z x)
         ∙ (plus_comm (plus x z) (minus x) ∙ (ap (λ (t : Exact). plus (minus x) (plus t z)) (sym (minus_minus x)) ∙ plus_undo (minus x) z)))
 
-minus_zero : minus zero_of ≡ zero_of
-minus_zero = refl
-
 total_minus : (f : ℕ → Exact) (n : ℕ) → fraction_sum (λ v. minus (f v)) n ≡ minus (fraction_sum f n)
 total_minus f zero = refl
 total_minus f (suc n) = ap (λ (t : Exact). plus t (minus (f n))) (total_minus f n) ∙ sym (minus_plus (fraction_sum f n) (f n))
@@ -63,13 +60,7 @@ module _ (p : LinearProgram) (d : Dictionary) (g : IsProgram p) (r : IsReached p
   n : ℕ
   n = p.columns
 
-  m : ℕ
-  m = length p.rows
-
   -- columns u and slacks s that meet the rows with σ times their bounds
-  Meets : Exact → (ℕ → Exact) → (ℕ → Exact) → Type 0
-  Meets σ u s = (k : ℕ) → k < length p.rows → plus (fraction_sum (λ j. times (coefficient p k j) (u j)) p.columns) (s k) ≡ times σ (bound_at p k)
-
   abbrev slack_price : ℕ → Exact
   slack_price k = price d (p.columns + k)
 

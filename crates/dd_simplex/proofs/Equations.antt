@@ -8,7 +8,7 @@ use Rattle.dd_fraction.specs.lemmas.Laws.{times_comm, times_assoc, times_plus, z
 use Rattle.dd_fraction.specs.lemmas.Lowest.{zero_is, one_is}
 use Rattle.dd_fraction.specs.lemmas.OrderLaws.{times_inverse_positive}
 use Rattle.dd_simplex.specs.Programs.{fraction_sum, zero_of, one_of}
-use Rattle.dd_simplex.specs.Dictionaries.{Dictionary, pivoted, new_bound, new_entry, less_product}
+use Rattle.dd_simplex.specs.Dictionaries.{Dictionary, pivoted, new_bound, less_product}
 use Rattle.dd_simplex.specs.Laws.{dictionary_coefficient, price}
 use Rattle.dd_simplex.proofs.Totals.{sum_scaled, sum_with, total_low}
 
@@ -58,10 +58,6 @@ then_other d e r v h k = rw (eq_other v e h, eq_other v r k) (and_true (d.is_bas
     and_true : (b : Bool) → (b && true) ≡ b
     and_true true = refl
     and_true false = refl
-
--- ---- the coefficients, case by case
-entry_then : (d : Dictionary) (e r w : ℕ) → (pivoted d e r).entry e w ≡ new_entry d e r w
-entry_then d e r w = rw (eq_same e e refl) refl
 
 -- in the new row: those of the old one, divided by the pivot
 pub new_row : (n : ℕ) (d : Dictionary) (e r w : ℕ) → IsTurn n d e r → dictionary_coefficient (pivoted d e r) e w ≡ times (dictionary_coefficient d r w) (inverse (d.entry r e))

@@ -46,10 +46,6 @@ same_test true b f g = sym (f refl)
 same_test false true f g = g refl
 same_test false false f g = refl
 
-or_true : (a b : Bool) → b ≡ true → (a || b) ≡ true
-or_true true b h = refl
-or_true false b h = h
-
 module _ (n : ℕ) (t : Table) (d : Dictionary) (k : IsTable t) (s : StandsFor n t d) (e r : ℕ) (inside : e < length t.others) (line : r < length t.lines) where
   abbrev pub E : ℕ
   E = other_at t.others e
@@ -112,9 +108,6 @@ module _ (n : ℕ) (t : Table) (d : Dictionary) (k : IsTable t) (s : StandsFor n
   less_else q us j h p o =
       less_at q (slice_set us e zero_of) pivot.cells j (emptied_size us h) (in_emptied us j h p)
       ∙ (λ z. less_product (set_else us e j zero_of o z) q (pivot_else j p o z))
-
-  coefficient_test : ℕ → Exact → (ℕ → Exact) → Bool
-  coefficient_test w q a = d.is_basic w || cond (nat_eq w E) (does_product_fit q (new_entry d E R R)) (does_less_fit (a w) q (new_entry d E R w))
 
   pub coefficients_stand : (q : Exact) (us : List Exact) (a : ℕ → Exact) → length us ≡ length t.others → 0 < q.den
       → ((j : ℕ) → j < length t.others → a (other_at t.others j) ≡ fraction_at us j)
@@ -215,9 +208,6 @@ module _ (n : ℕ) (t : Table) (d : Dictionary) (k : IsTable t) (s : StandsFor n
               (and_right (does_quotient_fit (d.bound R) (d.entry R E)) _ f) (s.other_in j p))
 
   -- ---- the other rows
-  row_test : ℕ → Bool
-  row_test v = does_less_fit (d.bound v) (d.entry v E) (new_bound d E R) && do_coefficients_fit n d E R (d.entry v E) (d.entry v)
-
   changed_stands : (i : ℕ) → i < length t.lines
       → does_changed_fit e pivot (line_at t.lines i)
       ≡ (does_less_fit (d.bound (line_at t.lines i).basic) (d.entry (line_at t.lines i).basic E) (new_bound d E R)

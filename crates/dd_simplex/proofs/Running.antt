@@ -53,9 +53,6 @@ turn_is n k d e o h l = rw (h, l) refl
 place_in : (t : Table) (e : ℕ) → IsTable t → DoesEnter t (Some e) → e < length t.others
 place_in t e k h = let p = h.0 in let q = k.costs in omega (arith, p, q)
 
-abbrev at_place : Table → ℕ → ℕ
-at_place t e = other_at t.others e
-
 enters_is : (n : ℕ) (t : Table) (d : Dictionary) (k : IsTable t) (s : StandsFor n t d) (e : ℕ) → DoesEnter t (Some e) → entering n d ≡ Some (other_at t.others e)
 enters_is n t d k s e h = entering_stands n t d k s (Some e) h e refl
 

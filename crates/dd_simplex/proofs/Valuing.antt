@@ -15,14 +15,8 @@ use Rattle.dd_simplex.proofs.Places.{set_here, set_else}
 lt_more : (a i : ℕ) → a ≢ i → nat_lt a (i + 1) ≡ nat_lt a i
 lt_more a i h = grind (arith, h)
 
-not_below : (k : ℕ) → nat_lt k 0 ≡ false
-not_below k = grind arith
-
 lt_here : (i : ℕ) → nat_lt i (i + 1) ≡ true
 lt_here i = grind arith
-
-lt_yes : (a i : ℕ) → a < i → nat_lt a i ≡ true
-lt_yes a i p = grind (arith, p)
 
 -- ---- columns
 column_else : (n : ℕ) (t : Table) (d : Dictionary) (s : StandsFor n t d) (i j : ℕ) → j < n → i < length t.lines → j ≢ (line_at t.lines i).basic
@@ -65,13 +59,6 @@ columns_skip lines c i values b q sb r g = record {
       g.each n t d s e m j p ∙ column_else n t d s i j (omega (arith, p, m)) inside (λ (y : j ≡ (line_at t.lines i).basic). omega (arith, y, name, p, r));
 }
 
-pub columns_none : (lines : List Line) (c : ℕ) (values : List Exact) → length values ≡ c → ((j : ℕ) → j < c → fraction_at values j ≡ zero_of) → GiveColumns lines c 0 values
-columns_none lines c values h z = record { size = h; each = λ n t d s e m j p. z j p ∙ none (d.is_basic j) (s.line j) (d.bound j) }
-  where
-    none : (b : Bool) (k : ℕ) (a : Exact) → zero_of ≡ cond (b && nat_lt k 0) a zero_of
-    none true k a = ap (λ (b : Bool). cond b a zero_of) (sym (not_below k))
-    none false k a = refl
-
 -- ---- duals
 dual_else : (n : ℕ) (t : Table) (d : Dictionary) (s : StandsFor n t d) (i w : ℕ) → w < n → i < length t.others → w ≢ other_at t.others i
     → dual_so_far s.column d i w ≡ dual_so_far s.column d (i + 1) w
@@ -109,10 +96,3 @@ duals_skip t c i duals w q sw r g = record {
   size = g.size;
   each = λ n d s m k p. g.each n d s m k p ∙ dual_else n t d s i (c + k) (omega (arith, p, m)) q (λ (y : c + k ≡ other_at t.others i). let z = y ∙ sym sw in omega (arith, z, r));
 }
-
-pub duals_none : (t : Table) (c : ℕ) (duals : List Exact) → length duals ≡ length t.lines → ((k : ℕ) → k < length t.lines → fraction_at duals k ≡ zero_of) → GiveDuals t c 0 duals
-duals_none t c duals h z = record { size = h; each = λ n d s m k p. z k p ∙ none (d.is_basic (c + k)) (s.column (c + k)) (minus (d.cost (c + k))) }
-  where
-    none : (b : Bool) (k : ℕ) (a : Exact) → zero_of ≡ cond (not b && nat_lt k 0) a zero_of
-    none true k a = refl
-    none false k a = ap (λ (b : Bool). cond b a zero_of) (sym (not_below k))

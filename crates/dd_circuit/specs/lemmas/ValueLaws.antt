@@ -38,17 +38,6 @@ gate_value-alike n set other same (And ls) ok = all_alike n set other same ls ok
 gate_value-alike n set other same (Or ls) ok = any_alike n set other same ls ok
 gate_value-alike n set other same (Iff a b) ok = rw (signal_value-alike n set other same a ok.0, signal_value-alike n set other same b ok.1) refl
 
--- later variables change nothing of what earlier gates say
-pub agrees-alike : (n : ℕ) (gs : List Gate) (set other : ℕ → Bool) → Alike (n + length gs) set other → AreGates n gs → agrees set n gs ≡ agrees other n gs
-agrees-alike n [] set other same ok = refl
-agrees-alike n (g ∷ gs) set other same ok =
-    rw (
-      same (suc n) (omega arith) (omega arith),
-      gate_value-alike n set other (λ k p q. same k p (omega arith)) g ok.0,
-      agrees-alike (suc n) gs set other (λ k p q. same k p (omega arith)) ok.1,
-    )
-    refl
-
 and_assoc : (a b c : Bool) → (a && (b && c)) ≡ ((a && b) && c)
 and_assoc true b c = refl
 and_assoc false b c = refl

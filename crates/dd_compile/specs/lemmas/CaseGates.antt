@@ -41,14 +41,6 @@ pub record Choosing (rules : List Signal) (i : ℕ) (start now : Network) (chose
   pub before_is : before ≡ map opposite (take i rules)
   pub in_range : All (IsSignal (size start)) before
 
-pub choosing_start : (rules : List Signal) (start : Network) (chosen before : List Signal) → chosen ≡ [] → before ≡ [] → Choosing rules 0 start start chosen before
-choosing_start rules start chosen before none none' = record {
-  extends = itself start;
-  gates_left = refl;
-  signals_left = ap (λ xs. xs ++ fresh (size start) (length (choices [] rules))) (sym none);
-  count = omega arith;
-  before_is = none';
-  in_range = subst (All (IsSignal (size start))) (sym none') (λ k d h. absurd (omega arith));
 }
 
 pub choosing_step : (rules : List Signal) (i : ℕ) (start now new : Network) (chosen before members more after : List Signal) (l s : Signal) → Choosing rules i start now chosen before →
@@ -83,20 +75,6 @@ pub choosing_few : (rules : List Signal) (i : ℕ) (start now : Network) (chosen
     size start + length (choices [] rules) ≤ most_variables → size now < most_variables
 choosing_few rules i start now chosen before p within few = omega (arith, p.count, choices_length [] rules, few)
 
-pub choosing_end : (rules : List Signal) (i : ℕ) (start now new : Network) (chosen before members more : List Signal) (s : Signal) → Choosing rules i start now chosen before → length rules ≤ i →
-    members ≡ before → new.inputs ≡ now.inputs → new.gates ≡ now.gates ++ And members ∷ [] → s ≡ signal_of (size new) → more ≡ chosen ++ s ∷ [] →
-    (new.gates ≡ start.gates ++ choices [] rules) × (more ≡ fresh (size start) (length (choices [] rules)))
-choosing_end rules i start now new chosen before members more s p past are inputs gates signal pushed =
-    let one = one_gate now new (And members) inputs gates in
-    let here : choices (take i rules) (drop i rules) ≡ And members ∷ [] =
-    ap (choices (take i rules)) (drop_all i rules past) ∙ ap (λ xs. And xs ∷ []) (sym p.before_is ∙ sym are) in (
-      gates ∙ (ap (λ gs. now.gates ++ gs) (sym here) ∙ sym p.gates_left),
-      pushed
-          ∙ (ap (λ x. chosen ++ x ∷ []) signal
-          ∙ (ap (λ n. chosen ++ signal_of n ∷ []) one.1
-          ∙ (ap (λ gs. chosen ++ fresh (size now) (length gs)) (sym here) ∙ sym p.signals_left))),
-    )
-
 pub opposites_in_range : (n m : ℕ) (xs : List Signal) → n ≤ m → All (IsSignal n) xs → All (IsSignal m) xs
 opposites_in_range n m xs more ok = All-weaker (IsSignal n) (IsSignal m) (λ x h. (h.0, (let g = h.1 in omega (arith, g, more)))) xs ok
 
@@ -119,14 +97,6 @@ giving_step s xs fs members more i x f b so_far below below' is is' test grown =
     by true = sym (append_assoc members (f ∷ []) (giving s (drop (i + 1) xs) (drop (i + 1) fs)))
     by false = refl
 
-pub giving_end : (s : ℕ) (xs : List ℕ) (fs members : List Signal) (i : ℕ) → giving s xs fs ≡ members ++ giving s (drop i xs) (drop i fs) → length xs ≤ i → members ≡ giving s xs fs
-giving_end s xs fs members i so_far past =
-    sym (so_far ∙ (ap (λ ys. members ++ giving s ys (drop i fs)) (drop_all i xs past) ∙ append-none members))
-  where
-    append-none : (gs : List Signal) → gs ++ [] ≡ gs
-    append-none [] = refl
-    append-none (g ∷ gs) = ap (λ ys. g ∷ ys) (append-none gs)
-
 in_either : (n : ℕ) (f : Signal) (gs : List Signal) → IsSignal n f → All (IsSignal n) gs → (t : Bool) → All (IsSignal n) (if t then f ∷ gs else gs)
 in_either n f gs here rest true = with_first n f gs here rest
 in_either n f gs here rest false = rest
@@ -143,15 +113,6 @@ pub record Giving (k : ℕ) (xs : List ℕ) (fs : List Signal) (i : ℕ) (start 
   pub gates_left : start.gates ++ symbol_gates k xs fs ≡ now.gates ++ map (λ s. Or (giving s xs fs)) (range_with_len i (k - i))
   pub signals_left : fresh (size start) k ≡ signals ++ fresh (size now) (k - i)
   pub count : size now ≡ size start + i
-
-pub giving_start : (k : ℕ) (xs : List ℕ) (fs : List Signal) (start : Network) (signals : List Signal) → signals ≡ [] → Giving k xs fs 0 start start signals
-giving_start k xs fs start signals none =
-    let same : k ≡ k - 0 = omega arith in record {
-      extends = itself start;
-      gates_left = ap (λ n. start.gates ++ map (λ s. Or (giving s xs fs)) (range_with_len 0 n)) same;
-      signals_left = ap (fresh (size start)) same ∙ ap (λ ys. ys ++ fresh (size start) (k - 0)) (sym none);
-      count = omega arith;
-    }
 
 pub given_step : (k : ℕ) (xs : List ℕ) (fs : List Signal) (i : ℕ) (start now new : Network) (signals members more : List Signal) (s : Signal) → Giving k xs fs i start now signals → i < k →
     members ≡ giving i xs fs → new.inputs ≡ now.inputs → new.gates ≡ now.gates ++ Or members ∷ [] → s ≡ signal_of (size new) → more ≡ signals ++ s ∷ [] → Giving k xs fs (i + 1) start new more
@@ -172,18 +133,6 @@ given_step k xs fs i start now new signals members more s p below are inputs gat
           ∙ (sym (append_assoc signals (s ∷ []) (fresh (size new) (k - (i + 1)))) ∙ ap (λ ys. ys ++ fresh (size new) (k - (i + 1))) (sym pushed)))));
       count = omega (arith, one.1, p.count);
     }
-
-pub given_end : (k : ℕ) (xs : List ℕ) (fs : List Signal) (i : ℕ) (start now : Network) (signals : List Signal) → Giving k xs fs i start now signals → k ≤ i →
-    (now.gates ≡ start.gates ++ symbol_gates k xs fs) × (signals ≡ fresh (size start) k)
-given_end k xs fs i start now signals p past =
-    let none : k - i ≡ 0 = omega arith in (
-      sym (p.gates_left ∙ (ap (λ n. now.gates ++ map (λ s. Or (giving s xs fs)) (range_with_len i n)) none ∙ append-no_gates now.gates)),
-      sym (p.signals_left ∙ (ap (λ n. signals ++ fresh (size now) n) none ∙ append-no_signals signals)),
-    )
-  where
-    append-no_gates : (gs : List Gate) → gs ++ [] ≡ gs
-    append-no_gates [] = refl
-    append-no_gates (g ∷ gs) = ap (λ ys. g ∷ ys) (append-no_gates gs)
 
     append-no_signals : (gs : List Signal) → gs ++ [] ≡ gs
     append-no_signals [] = refl

@@ -219,9 +219,6 @@ module _ (k : ℕ) (c : Cases) (w : Wiring) (at : Cell) (start one two new : Net
         ∙ (ap (λ n. fresh n k) size_two
         ∙ (ap (λ n. fresh (n + length (choices [] rules)) k) size_one ∙ ap (λ ys. fresh (size start + length r.gates + length (choices [] ys)) k) h.rules_are))
 
-    pub value_extends : Extends start new
-    value_extends = Extends-trans start two new (Extends-trans start one two h.first h.second) h.third
-
     pub value_in_range : All (IsSignal (size new)) signals
     value_in_range =
         let n = size-append two new (symbol_gates k xs chosen) h.third.inputs h.gates in

@@ -56,9 +56,6 @@ leaf_wired n k w v d s inner h =
     rw there (symbol_wired n k (signals_of w (shifted v d)) s all.0 rest.1)
 
 module _ (n : ℕ) (w : Wiring) (r : LocalRule) (rule : IsRule r) (c : Cell) (exists : c.node < r.nodes) (inner : extent c.position ≤ 1048560) where
-  has : Cell → Bool
-  has d = are_signals n r.symbols (signals_of w (shifted c.position d))
-
   pub leaves_wired : are_reads_wired n w r c ≡ true → are_wired n (wires_near w c.position) (expansion_at r c.node) ≡ true
   leaves_wired h =
       let e = expansion_at r c.node in

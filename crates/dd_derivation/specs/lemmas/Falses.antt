@@ -12,7 +12,7 @@ use Rattle.dd_derivation.specs.declared.propagation.Finding.{Finding}
 use Rattle.dd_derivation.specs.declared.propagation.Finding.TheVariants.{Forced, Open}
 use Rattle.dd_derivation.specs.declared.propagation.VariableMark.{VariableMark}
 use Rattle.dd_derivation.specs.Derivations.{same_literal, is_among, is_literal_in_range, finding, clause_of, hint_finding, follow, is_conflict}
-use Rattle.dd_derivation.specs.checking.MarksOf.{is_marked, with_mark, first_literal_of, literals_of, is_false_unmarked, is_false, FalsesAre, AreUpTo, AreBelow}
+use Rattle.dd_derivation.specs.checking.MarksOf.{is_marked, with_mark, first_literal_of, literals_of, is_false_unmarked, is_false, FalsesAre, AreUpTo}
 use Rattle.dd_derivation.specs.lemmas.Soundness.{same_literal-eq, same_literal-refl, literal-eq, beq-eq}
 use Rattle.dd_derivation.specs.lemmas.Findings.{In, Forces, forces_from, hint_finding-congr}
 
@@ -186,11 +186,6 @@ FalsesAre-forced known marks step seen falses h l a e = at (clause_of known h) e
         FalsesAre-more marks step seen (seen ++ c) falses (negation l) a f.not_true (rw (negation-negation l) f.not_false) (λ x r.
         unmarked_more seen falses c l x (λ y v. (let q : is_literal_in_range (length marks) y ≡ false = rw v r in rw q at (a y))) f)
 
--- at the start nothing is false
-pub FalsesAre-none : (marks : List VariableMark) (step : ℕ) → AreBelow step marks → FalsesAre marks step [] []
-FalsesAre-none marks step a x = elim (cases_Bool (is_literal_in_range (length marks) x)) [
-  | inl t ↦ rw t (let r = in_range-from (length marks) x t in and_left _ _ (ne_eqb _ step (λ e. let b = a (x.variable - 1) (record { step = 0; positive = false }) (omega arith) in omega arith)))
-  | inr f ↦ rw f refl
 ]
 
 -- a literal of the step's own clause becomes false

@@ -8,7 +8,7 @@ use Rattle.std.proofs.lemmas.List.Elements.{filter-append}
 use Rattle.dd_clause.specs.declared.clause.Literal.{Literal}
 use Rattle.dd_clause.specs.Clauses.{negation}
 use Rattle.dd_derivation.specs.declared.propagation.Finding.{Finding}
-use Rattle.dd_derivation.specs.declared.propagation.Finding.TheVariants.{Falsified, Forced, Open}
+use Rattle.dd_derivation.specs.declared.propagation.Finding.TheVariants.{Forced, Open}
 use Rattle.dd_derivation.specs.Derivations.{same_literal, is_among, finding_of, finding, clause_of, hint_finding}
 use Rattle.dd_derivation.specs.lemmas.Soundness.{same_literal-eq, same_literal-refl}
 
@@ -40,9 +40,6 @@ forced_end p clause l s = rw (s.1, s.2) (turned (p (negation l)) (Forced l))
     turned : (b : Bool) (f : Finding) → cond (not b) f Open ≡ cond b Open f
     turned true f = refl
     turned false f = refl
-
-pub falsified_end : (p : Literal → Bool) (clause : List Literal) → Sums None (filter (λ x. not (p x)) clause) → finding p clause ≡ Falsified
-falsified_end p clause s = rw s refl
 
 -- two tests that agree find the same
 pub finding-congr : (p q : Literal → Bool) (clause : List Literal) → ((l : Literal) → p l ≡ q l) → finding p clause ≡ finding q clause

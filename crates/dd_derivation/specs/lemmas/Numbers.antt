@@ -112,9 +112,6 @@ after_one cs alive numbers i h n = rw (drop-cons numbers i 0 h, add-one i) (ap (
 pub deletes_none : (cs : List (List Literal)) (alive : List Bool) (numbers : List ℕ) (i : ℕ) → i < length numbers → is_some (clause_of (known_of cs alive) (get_or numbers i 0)) ≡ false → are_deletable (known_of cs alive) (drop i numbers) ≡ false
 deletes_none cs alive numbers i h e = rw (drop-cons numbers i 0 h, e) refl
 
-pub zero_none : (known : List (Option (List Literal))) (number : ℕ) → number ≡ 0 → is_some (clause_of known number) ≡ false
-zero_none known number e = rw e refl
-
 -- no number, or one past the end, deletes nothing
 pub after_zero : (known : List (Option (List Literal))) (numbers : List ℕ) (i : ℕ) → i < length numbers → get_or numbers i 0 ≡ 0 → known_after known (drop i numbers) ≡ known_after known (drop (i + 1) numbers)
 after_zero known numbers i h e = rw (drop-cons numbers i 0 h, add-one i, e) refl

@@ -52,14 +52,6 @@ total_first f (suc (suc n)) a z p h =
     let last = h (suc n) (omega arith) (omega arith) in
     omega (arith, ints, rest, last)
 
-pub total_alone : (f : ℕ → ℤ) (n : ℕ) → 0 < n → ((j : ℕ) → 1 ≤ j → j < n → f j ≡ pos 0) → total_below f n ≡ f 0
-total_alone f zero z h = absurd (omega (arith, z))
-total_alone f (suc zero) z h = omega (arith, ints)
-total_alone f (suc (suc n)) z h =
-    let rest = total_alone f (suc n) (omega arith) (λ j q r. h j q (omega arith)) in
-    let last = h (suc n) (omega arith) (omega arith) in
-    omega (arith, ints, rest, last)
-
 pub total_more : (f : ℕ → ℤ) (i : ℕ) (s t : ℤ) → s ≡ total_below f i → t ≡ f i → s +ℤ t ≡ total_below f (i + 1)
 total_more f i s t p q = (λ j. p j +ℤ q j) ∙ ap (total_below f) (next i)
   where

@@ -50,10 +50,6 @@ sum_times a b c = rw (← diff_self a, ← diff_self b, ← diff_self c) (simp a
 pub times_times : (a b c : ℤ) → a *ℤ (b *ℤ c) ≡ (a *ℤ b) *ℤ c
 times_times a b c = rw (← diff_self a, ← diff_self b, ← diff_self c) (simp as_diff (diff_same _ _ _ _ (omega arith)))
 
--- two products whose factors change places
-pub four_factors : (a b c d : ℤ) → (a *ℤ b) *ℤ (c *ℤ d) ≡ (a *ℤ c) *ℤ (b *ℤ d)
-four_factors a b c d = rw (← diff_self a, ← diff_self b, ← diff_self c, ← diff_self d) (simp as_diff (diff_same _ _ _ _ (omega arith)))
-
 -- ---- order
 product_nonneg : (x y : ℤ) → pos 0 ≤ℤ x → pos 0 ≤ℤ y → pos 0 ≤ℤ (x *ℤ y)
 product_nonneg (pos x) (pos y) p q = omega (arith, ints)

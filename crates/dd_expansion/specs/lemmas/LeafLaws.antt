@@ -5,11 +5,10 @@ use Rattle.std.specs.List.{list_all, flat_map}
 use Rattle.std.proofs.lemmas.Bool.{and_parts}
 use Rattle.std.proofs.lemmas.List.Folds.{list_all-append}
 use Rattle.dd_lattice.specs.declared.position.Cell.{Cell}
-use Rattle.dd_pattern.specs.Reading.{Look}
 use Rattle.dd_expansion.specs.declared.expanded.Expanded.{Expanded}
 use Rattle.dd_expansion.specs.declared.expanded.Expanded.TheFolds.{fold-roll-Expanded, ind-Expanded, map-Expanded}
 use Rattle.dd_expansion.specs.declared.expanded.Expanded.TheOpen.{Expanded-F}
-use Rattle.dd_expansion.specs.Leaves.{LeafTest, leaves_pass, leaves_pass_step, given, leaf_cells, leaf_cells_step}
+use Rattle.dd_expansion.specs.Leaves.{LeafTest, leaves_pass, leaves_pass_step, leaf_cells, leaf_cells_step}
 use Rattle.dd_expansion.specs.lemmas.ListTests.{and_true, and_four}
 
 -- the first test is passed only where the second is
@@ -47,10 +46,6 @@ step_weakens (Expanded-F.Iff e f) p q w h =
 pub leaves_weaken : (e : Expanded) → Weakens e
 leaves_weaken = ind-Expanded Weakens (λ x y is p q w.
     rw (fold-roll-Expanded Bool (leaves_pass_step p) x, fold-roll-Expanded Bool (leaves_pass_step q) x, ← is) (step_weakens y p q w))
-
--- symbols at more cells
-pub given_more : (e : Expanded) (less more : Look) → ((c : Cell) → is_some (less c) ≡ true → is_some (more c) ≡ true) → given e less ≡ true → given e more ≡ true
-given_more e less more w = leaves_weaken e (λ c s. is_some (less c)) (λ c s. is_some (more c)) (λ c s. w c)
 
 abbrev both_tests : LeafTest → LeafTest → LeafTest
 both_tests p q c s = p c s && q c s
@@ -121,7 +116,3 @@ step_tests (Expanded-F.Iff e f) test = rw (e.1 test, f.1 test, list_all-append t
 pub leaves_are_cells : (e : Expanded) → TestsCells e
 leaves_are_cells = ind-Expanded TestsCells (λ x y is test.
     rw (fold-roll-Expanded Bool (leaves_pass_step (λ c s. test c)) x, fold-roll-Expanded (List Cell) leaf_cells_step x, ← is) (step_tests y test))
-
--- a look gives a symbol to each leaf where it gives one to each of the leaves' cells
-pub given_at_cells : (e : Expanded) (look : Look) → given e look ≡ list_all (λ c. is_some (look c)) (leaf_cells e)
-given_at_cells e look = leaves_are_cells e (λ c. is_some (look c))

@@ -21,11 +21,8 @@ use Rattle.dd_expansion.specs.declared.formulas.Formula.TheFolds.{fold-roll-Form
 use Rattle.dd_expansion.specs.declared.formulas.Formula.TheOpen.{Formula-F}
 use Rattle.dd_expansion.specs.Terms.{walk, cell_of, ball_round, balls_of, origin_at}
 use Rattle.dd_expansion.specs.Reads.{Reading, both_cells, reads, reads_step}
-use Rattle.dd_expansion.specs.Leaves.{leaves_pass}
-use Rattle.dd_expansion.specs.Expansion.{expansion}
 use Rattle.dd_expansion.specs.Placed.{is_flat, is_placed}
 use Rattle.dd_expansion.specs.lemmas.ListTests.{all_pass, list_all-flat_map, list_all-weaker}
-use Rattle.dd_expansion.specs.lemmas.LeavesAreReads.{leaves_are_reads}
 
 -- along an axis past the dimension all coordinates are 0
 sum_is_zero : (x o : ℤ) → int_eq x (pos 0) ≡ true → int_eq o (pos 0) ≡ true → int_eq (x +ℤ o) (pos 0) ≡ true
@@ -213,14 +210,8 @@ module _ (g : Grid) where
       let here = and_parts (is_flat g.dimension c.position) (nat_lt c.node g.nodes) h in
       and_from _ _ (flat_moved g.dimension c.position (reversed e.offset) here.0 parts.offsets.back) parts.from
 
-  pub balls_placed : IsGrid g → (env : List Cell) (bs : List BallOf) → list_all (is_placed g) env ≡ true → list_all (is_placed g) (balls_of g.edges env bs) ≡ true
-  balls_placed ok = balls_pass g.edges (is_placed g) its_edge ok.edges end_placed start_placed
-
   pub reads_placed : IsGrid g → (f : Formula) (env : List Cell) → list_all (is_placed g) env ≡ true → list_all (is_placed g) (reads g.edges f env) ≡ true
   reads_placed ok = reads_pass g.edges (is_placed g) its_edge ok.edges end_placed start_placed
-
-  pub leaves_placed : IsGrid g → (n : ℕ) → 1 ≤ n → (f : Formula) (env : List Cell) → list_all (is_placed g) env ≡ true → leaves_pass (λ c s. is_placed g c) (expansion g.edges n f env) ≡ true
-  leaves_placed ok n some f env h = leaves_are_reads g.edges n some f env (is_placed g) ∙ reads_placed ok f env h
 
   pub origin_placed : (a : ℕ) → a < g.nodes → list_all (is_placed g) (origin_at a ∷ []) ≡ true
   origin_placed a below =

@@ -14,7 +14,7 @@ use Rattle.dd_expansion.specs.lemmas.ListTests.{list_all-alike, list_all-flat_ma
 use Rattle.dd_expansion.specs.Placed.{is_flat}
 use Rattle.dd_expansion.specs.lemmas.Placed.{flat_moved}
 use Rattle.dd_expansion.specs.lemmas.LeavesAreReads.{same_by_tests}
-use Rattle.dd_formula.specs.LocalRule.{LocalRule, IsRule, reads_at, cells_at, is_near, is_of, most_instances}
+use Rattle.dd_formula.specs.LocalRule.{LocalRule, IsRule, reads_at, cells_at, is_near, is_of}
 use Rattle.dd_formula.specs.Automata.{CommonNumbers, has_rules, has_rules_step, IsNodesOf, rule_has, is_cell_of, Counted, Checked, counted, counted_step, case_instances, cases_reads, cells_of, automaton_fits, automaton_fits_step, cases_fit, is_few, is_short, is_shallow, is_within, limits_step, are_within, IsAutomaton}
 use Rattle.dd_formula.specs.declared.automaton.Automaton.{Automaton}
 use Rattle.dd_formula.specs.declared.automaton.Automaton.TheVariants as v
@@ -124,9 +124,6 @@ module _ (s : CommonNumbers) (f : Automaton) (h : IsAutomaton s f) where
       let all = and_parts (is_few s.nodes (counted f) && is_short s.nodes (counted f)) (is_shallow (counted f)) (within_is s.nodes f h.within) in
       let two = and_parts (is_few s.nodes (counted f)) (is_short s.nodes (counted f)) all.0 in
       (two.0, two.1, all.1)
-
-  pub few_instances : (a : ℕ) → a < s.nodes → (counted f).instances a ≤ most_instances
-  few_instances a below = leb-true _ _ (range_at (λ b. nat_le ((counted f).instances b) most_instances) 0 s.nodes a parts_within.0 (omega arith) (omega arith))
 
   pub near_reads : (a : ℕ) → a < s.nodes → list_all is_near ((counted f).reads a) ≡ true
   near_reads a below = range_at (λ b. list_all is_near ((counted f).reads b)) 0 s.nodes a parts_within.1 (omega arith) (omega arith)

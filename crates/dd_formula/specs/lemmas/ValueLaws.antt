@@ -35,8 +35,6 @@ pub value_composed : (f g : Automaton) (look : Look) (at : Cell) → value (v.Co
 value_composed f g look at =
     ap (λ (h : Valuation). h look at) (ap value (sym (v.rolls-Composed f g)) ∙ fold-roll-Automaton Valuation value_step (Automaton-F.Composed f g))
 
-pub ruleset values = (value_given, value_composed)
-
 -- cells that are moved twice
 plus_assoc : (x y z : ℤ) → ((x +ℤ y) +ℤ z) ≡ (x +ℤ (y +ℤ z))
 plus_assoc x y z = omega (arith, ints)

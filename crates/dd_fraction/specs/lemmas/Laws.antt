@@ -32,9 +32,6 @@ pub times_is : (a b : Exact) → times a b ≡ lowest (a.num *ℤ b.num) (den_of
 unfolding times
 times_is a b = refl
 
-pub IsLowest-plus : (a b : Exact) → IsLowest (plus a b)
-IsLowest-plus a b = subst IsLowest (sym (plus_is a b)) (IsLowest-lowest _ _)
-
 pub IsLowest-times : (a b : Exact) → IsLowest (times a b)
 IsLowest-times a b = subst IsLowest (sym (times_is a b)) (IsLowest-lowest _ _)
 

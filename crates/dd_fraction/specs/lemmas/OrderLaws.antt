@@ -146,9 +146,6 @@ below_trans_right a b c p q =
     below_from_gap a c
     (subst IsPositive (plus_comm _ _ ∙ gaps a b c) (positive_plus _ _ (below_gap b c q) (at_most_gap a b p)))
 
-pub below_trans : (a b c : Exact) → IsBelow a b → IsBelow b c → IsBelow a c
-below_trans a b c p q = below_trans_left a b c p (at_most_below b c q)
-
 -- ---- against 0
 zero_gap : (a : Exact) → plus a (minus (whole_of (pos 0))) ≡ low a
 zero_gap a = plus_zero a
@@ -162,15 +159,6 @@ pub at_most_from_nonneg : (a : Exact) → IsNonneg a → IsAtMost (whole_of (pos
 at_most_from_nonneg a p =
     at_most_from_gap (whole_of (pos 0)) a (subst IsNonneg (sym (zero_gap a)) (nonneg_lowest a.num a.den p.sign))
 
-pub positive_from_below : (a : Exact) → IsBelow (whole_of (pos 0)) a → IsPositive a
-positive_from_below a p =
-    let g : IsPositive (low a) = subst IsPositive (zero_gap a) (below_gap (whole_of (pos 0)) a p) in
-    record { sign = positive_of_lowest a.num a.den g }
-
-pub below_from_positive : (a : Exact) → IsPositive a → IsBelow (whole_of (pos 0)) a
-below_from_positive a p =
-    below_from_gap (whole_of (pos 0)) a (subst IsPositive (sym (zero_gap a)) (positive_lowest a.num a.den p.sign))
-
 -- ---- sums, products and opposites keep or turn the order
 sum_gap : (a b c d : Exact)
     → plus (plus b (minus a)) (plus d (minus c)) ≡ plus (plus b d) (minus (plus a c))
@@ -180,10 +168,6 @@ pub at_most_plus : (a b c d : Exact) → IsAtMost a b → IsAtMost c d → IsAtM
 at_most_plus a b c d p q =
     at_most_from_gap _ _ (subst IsNonneg (sum_gap a b c d) (nonneg_plus _ _ (at_most_gap a b p) (at_most_gap c d q)))
 
-pub below_plus : (a b c d : Exact) → IsBelow a b → IsAtMost c d → IsBelow (plus a c) (plus b d)
-below_plus a b c d p q =
-    below_from_gap _ _ (subst IsPositive (sum_gap a b c d) (positive_plus _ _ (below_gap a b p) (at_most_gap c d q)))
-
 product_gap : (a b c : Exact) → times (plus b (minus a)) c ≡ plus (times b c) (minus (times a c))
 product_gap a b c = plus_times b (minus a) c ∙ ap (plus (times b c)) (sym (minus_times a c))
 
@@ -191,27 +175,17 @@ pub at_most_times : (a b c : Exact) → IsNonneg c → IsAtMost a b → IsAtMost
 at_most_times a b c n p =
     at_most_from_gap _ _ (subst IsNonneg (product_gap a b c) (nonneg_times _ c (at_most_gap a b p) n))
 
-pub below_times : (a b c : Exact) → IsPositive c → IsBelow a b → IsBelow (times a c) (times b c)
-below_times a b c n p =
-    below_from_gap _ _ (subst IsPositive (product_gap a b c) (positive_times _ c (below_gap a b p) n))
-
 minus_gap : (a b : Exact) → plus b (minus a) ≡ plus (minus a) (minus (minus b))
 minus_gap a b = plus_comm b (minus a) ∙ ap (plus (minus a)) (sym (minus_minus b))
 
 pub at_most_minus : (a b : Exact) → IsAtMost a b → IsAtMost (minus b) (minus a)
 at_most_minus a b p = at_most_from_gap _ _ (subst IsNonneg (minus_gap a b) (at_most_gap a b p))
 
-pub below_minus : (a b : Exact) → IsBelow a b → IsBelow (minus b) (minus a)
-below_minus a b p = below_from_gap _ _ (subst IsPositive (minus_gap a b) (below_gap a b p))
-
 -- ---- the order takes any form of a fraction
 low_gap : (a b : Exact) → plus b (minus a) ≡ plus (low b) (minus (low a))
 low_gap a b =
     sym (plus_low_right b (minus a))
     ∙ (sym (plus_low_left b (low (minus a))) ∙ ap (plus (low b)) (sym (minus_lowest a.num a.den)))
-
-pub at_most_low : (a b : Exact) → IsAtMost a b → IsAtMost (low a) (low b)
-at_most_low a b p = at_most_from_gap _ _ (subst IsNonneg (low_gap a b) (at_most_gap a b p))
 
 pub at_most_from_low : (a b : Exact) → IsAtMost (low a) (low b) → IsAtMost a b
 at_most_from_low a b p = at_most_from_gap a b (subst IsNonneg (sym (low_gap a b)) (at_most_gap _ _ p))
@@ -261,12 +235,6 @@ exact_cmp-same a b e =
     let r : a.num *ℤ pos (den_of b) ≡ b.num *ℤ pos (den_of a) = omega (arith, ints, p, q) in
     cmp_equal _ _ r
 
-pub exact_cmp_total : IsTotalOrder exact_cmp
-exact_cmp_total = record {
-  antisymm = λ a b. int_cmp_total.antisymm (a.num *ℤ pos (den_of b)) (b.num *ℤ pos (den_of a));
-  trans = λ a b c p q. exact_cmp-below a c
-      (below_trans a b c (exact_cmp_ranked a b Less (sym p)) (exact_cmp_ranked b c Less (sym q)));
-  congr = λ a b c p. congruent a b c (exact_cmp_ranked a b Equal (sym p)) (exact_cmp b c) refl;
 }
   where
     congruent : (a b c : Exact) → low a ≡ low b → (r : Ordering) → r ≡ exact_cmp b c → exact_cmp a c ≡ exact_cmp b c

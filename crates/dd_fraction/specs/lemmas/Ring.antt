@@ -46,9 +46,6 @@ pos_is n = same_in _ _ (omega (arith, diff_parts))
 
 pub ruleset as_diff = (pos_is, diff_sum, diff_product, diff_neg)
 
-pub times_sum : (a b c : ℤ) → a *ℤ (b +ℤ c) ≡ a *ℤ b +ℤ a *ℤ c
-times_sum a b c = rw (← diff_self a, ← diff_self b, ← diff_self c) (simp as_diff (diff_same _ _ _ _ (omega arith)))
-
 pub times_times : (a b c : ℤ) → a *ℤ (b *ℤ c) ≡ (a *ℤ b) *ℤ c
 times_times a b c = rw (← diff_self a, ← diff_self b, ← diff_self c) (simp as_diff (diff_same _ _ _ _ (omega arith)))
 

@@ -31,18 +31,7 @@ front_after a b c before text so_far more = record {
   whole = ap (λ (l : List ℕ). before ++ l) more.whole ∙ sym (append_assoc before more.gained more.missing);
 }
 
--- a front of a text is one of a longer text
-pub front_of_longer : (a b : Option (List ℕ)) (text rest : List ℕ) → GainsFront a b text → GainsFront a b (text ++ rest)
-front_of_longer a b text rest front = record {
-  gained = front.gained;
-  missing = front.missing ++ rest;
-  appends = front.appends;
-  whole = ap (λ (l : List ℕ). l ++ rest) front.whole ∙ append_assoc front.gained front.missing rest;
 }
-
--- a whole text is a front of itself
-pub front_of_whole : (a b : Option (List ℕ)) (text : List ℕ) → Appends a b text → GainsFront a b text
-front_of_whole a b text whole = record { gained = text; missing = []; appends = whole; whole = sym (append-nil text) }
 
 -- few more bytes were given
 pub gave_few_more : (a b c : Option (List ℕ)) (bytes : List ℕ) (room limit : ℕ) → Consumes a b bytes → GivesAtMost b c room → length bytes + room ≤ limit → GivesAtMost a c limit

@@ -44,9 +44,6 @@ pairs_step all now new w end h so_far pushed =
     let rest = range_to (w + 1) end in
     so_far ∙ (ap (λ r. now ++ pairs r) (range_step w end h) ∙ rw pushed (sym (append_assoc now (map (λ o. literal w false ∷ literal o false ∷ []) rest) (pairs rest))))
 
-pub pairs_end : (all now : List (List Literal)) (w end : ℕ) → end ≤ w → all ≡ now ++ pairs (range_to w end) → now ≡ all
-pairs_end all now w end h is = sym (is ∙ (ap (λ r. now ++ pairs r) (range_ends w end h) ∙ append-nil now))
-
 -- the literals of a range are in range
 pub range_in_range : (n from k : ℕ) → 1 ≤ from → from + k ≤ n + 1 → All (IsLiteralInRange n) (map (λ v. literal v true) (range_with_len from k))
 range_in_range n from zero low high = λ i d h. absurd (omega arith)

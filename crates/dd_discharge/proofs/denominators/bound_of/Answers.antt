@@ -7,8 +7,7 @@ use Rattle.std.proofs.lemmas.Int.{to_z-of_z}
 use Rattle.std.proofs.lemmas.Result.{err_from_is_err_and}
 use Rattle.dd_fraction.specs.Exact.{Exact}
 use Rattle.dd_discharge.specs.Denominators.{numerator_over, most_printed, printed, common_denominator, HasUnprinted}
-use Rattle.dd_discharge.proofs.Multiples.{printed_is}
-use Rattle.dd_discharge.proofs.Printing.{Given, small_numerator, small_denominator, signed_is, are_printed, unprinted_at, unprinted_value, any_back, any_later, tail_is, over_from, printed_as}
+use Rattle.dd_discharge.proofs.Printing.{Given, small_numerator, small_denominator, unprinted_at, any_back, any_later, tail_is, over_from, printed_as}
 use Rattle.dd_discharge.proofs.SmallBounds.{small_bound}
 use Rattle.dd_discharge.proofs.denominators.bound_of.Goals as goal
 

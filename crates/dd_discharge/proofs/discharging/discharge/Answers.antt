@@ -6,7 +6,7 @@ use Rattle.dd_discharge.specs.Bounds.{in_fractions, EndsWith, GivesNone, IsBound
 use Rattle.dd_discharge.specs.Certificates.{IsBoundCertificate}
 use Rattle.dd_discharge.specs.listing.Tables.{AreRowsOf}
 use Rattle.dd_discharge.proofs.Shapes.{program_rows}
-use Rattle.dd_discharge.proofs.Discharges.{IsGiven, bound_from, certificate_from, fault_from, large_from}
+use Rattle.dd_discharge.proofs.Discharges.{IsGiven, bound_from, certificate_from, fault_from}
 use Rattle.dd_discharge.proofs.discharging.discharge.Goals as goal
 
 pub best_of-requires : goal.best_of-requires
