@@ -11,7 +11,7 @@ use Rattle.dd_pattern.specs.Periods.{AreWithin}
 use Rattle.dd_pattern.specs.Tile.{Tile, IsTile}
 use Rattle.dd_formula.specs.LocalRule.{LocalRule}
 use Rattle.dd_formula.specs.Living.{Fits}
-use Rattle.dd_boxes.specs.declared.limits.Limits.{Limits}
+use Rattle.dd_values.specs.declared.limits.Limits.{Limits}
 use Rattle.dd_boxes.specs.Goals.{GoalOf, breaks}
 use Rattle.dd_boxes.specs.Boxes.{Suffices, IsLeastRadius}
 use Rattle.dd_boxes.specs.Witnesses.{IsWitness}

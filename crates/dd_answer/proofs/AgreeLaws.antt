@@ -23,7 +23,7 @@ use Rattle.dd_pattern.specs.lemmas.Residues.{residue_below}
 use Rattle.dd_expansion.specs.Placed.{is_flat}
 use Rattle.dd_formula.specs.LocalRule.{LocalRule}
 use Rattle.dd_formula.specs.Living.{Lives, IsFirstFalse}
-use Rattle.dd_boxes.specs.declared.limits.Limits.{Limits}
+use Rattle.dd_values.specs.declared.limits.Limits.{Limits}
 use Rattle.dd_boxes.specs.Goals.{GoalOf, breaks}
 use Rattle.dd_boxes.specs.Boxes.{Suffices}
 use Rattle.dd_certificate.specs.declared.answer.Listed.{Listed}

@@ -10,13 +10,13 @@ ghost use Rattle.dd_script.specs.Asking.{IsAskable};
 ghost use Rattle.dd_answer.specs.Writable.{IsWritableDecision, IsWritableEquality};
 ghost use Rattle.dd_answer.specs.Right.{side_of, written_no, written_decision, written_equality, IsRightBox, IsRightEqual};
 
-use dd_boxes::{Goal, Limits};
+use dd_boxes::Goal;
 use dd_certificate::{Answer, Reason, Side, refutations_fit};
 use dd_contain::{Decision, Equality, Half, decide, decide_equal};
 use dd_engines::{Engine, Roster};
 use dd_formula::Rule;
 use dd_pattern::Periodic;
-use dd_values::Items;
+use dd_values::{Items, Limits};
 use std::alloc::{AllocError, Global};
 
 /// The same numbers, as the answer has them.

@@ -3,8 +3,6 @@
 
 mod goals;
 mod laws;
-mod limits;
 
 pub use goals::{Goal, least_radius};
 pub use laws::one_box;
-pub use limits::Limits;

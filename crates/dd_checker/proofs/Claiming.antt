@@ -3,7 +3,7 @@ use Rattle.std.proofs.Common.{ℕ, List}
 use Rattle.dd_derivation.specs.declared.step.Step.{Step}
 use Rattle.dd_derivation.specs.lemmas.Soundness.{refutes_sound}
 use Rattle.dd_formula.specs.LocalRule.{LocalRule, IsRule}
-use Rattle.dd_boxes.specs.declared.limits.Limits.{Limits}
+use Rattle.dd_values.specs.declared.limits.Limits.{Limits}
 use Rattle.dd_boxes.specs.Goals.{GoalOf, breaks, IsGoalFor}
 use Rattle.dd_boxes.specs.Boxes.{Suffices, HoldsNowhere}
 use Rattle.dd_boxes.specs.lemmas.FromBox.{from_least, holds_nowhere}

@@ -7,7 +7,7 @@ use Rattle.dd_pattern.specs.declared.periods.Periods.{Periods}
 use Rattle.dd_pattern.specs.Periods.{AreWithin, periods_of, periods_volume}
 use Rattle.dd_pattern.specs.Tile.{Tile, tile, IsPeriodic}
 use Rattle.dd_formula.specs.LocalRule.{LocalRule, IsRule}
-use Rattle.dd_boxes.specs.declared.limits.Limits.{Limits}
+use Rattle.dd_values.specs.declared.limits.Limits.{Limits}
 use Rattle.dd_boxes.specs.Goals.{GoalOf}
 use Rattle.dd_boxes.specs.Witnesses.{IsWitness}
 use Rattle.dd_evidence.specs.Tiles.{given_periods, given_tile}

@@ -11,7 +11,7 @@ use Rattle.dd_formula.specs.LocalRule.{LocalRule, IsRule}
 use Rattle.dd_formula.specs.Living.{Fits}
 use Rattle.dd_formula.specs.lemmas.AutomatonLaws.{near_reads}
 use Rattle.dd_formula.specs.lemmas.ReachLaws.{reach_near, automaton_reach_within}
-use Rattle.dd_boxes.specs.declared.limits.Limits.{Limits}
+use Rattle.dd_values.specs.declared.limits.Limits.{Limits}
 use Rattle.dd_boxes.specs.Goals.{GoalOf, breaks, differ, always, IsGoalFor}
 use Rattle.dd_boxes.specs.Boxes.{IsLeastRadius}
 use Rattle.dd_boxes.specs.lemmas.ReachLaws.{least_is_reach, least_is_farthest, least_is_none}

@@ -1,6 +1,6 @@
 -- Which answers to the queries of a script are certificates.
 use Rattle.std.specs.Prelude.{ℕ, ◌≤◌, length, IsSomeAnd}
-use Rattle.dd_boxes.specs.declared.limits.Limits.{Limits}
+use Rattle.dd_values.specs.declared.limits.Limits.{Limits}
 use Rattle.dd_certificate.specs.declared.answer.Answer.{Answer}
 use Rattle.dd_certificate.specs.Bounds.{IsWritable}
 use Rattle.dd_query.specs.declared.queries.Query.{Query}

@@ -10,10 +10,11 @@ ghost use Rattle.dd_meanings.specs.Sound.{AreLimits};
 
 use crate::refutations::check_yes;
 use crate::witnesses::check_no;
-use dd_boxes::{Goal, Limits};
+use dd_boxes::Goal;
 use dd_certificate::{Answer, Reason, Side};
 use dd_derivation::Step;
 use dd_formula::Rule;
+use dd_values::Limits;
 use std::alloc::{AllocError, Global};
 
 fn is_limits(reason: Reason) -> bool

@@ -11,12 +11,13 @@ ghost use Rattle.dd_certificate.specs.Bounds.{IsWritableRefutation, most_count};
 ghost use Rattle.dd_checker.specs.Evidence.{IsYes};
 ghost use Rattle.dd_script.specs.Asking.{IsAskable};
 
-use dd_boxes::{Goal, Limits, least_radius};
+use dd_boxes::{Goal, least_radius};
 use dd_certificate::refutations_fit;
 use dd_clause::Cnf;
 use dd_derivation::{Marks, Step, check_refutation};
 use dd_formula::Rule;
 use dd_problem::box_clauses;
+use dd_values::Limits;
 use std::alloc::{AllocError, Global};
 
 /// The number of the last step, where the clauses have the numbers from 1 on and the steps those after them.

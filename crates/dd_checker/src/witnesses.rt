@@ -9,9 +9,10 @@ ghost use Rattle.dd_meanings.specs.Sound.{AreLimits};
 ghost use Rattle.dd_checker.specs.Given.{IsGiven};
 
 use crate::configurations::shows;
-use dd_boxes::{Goal, Limits};
+use dd_boxes::Goal;
 use dd_formula::Rule;
 use dd_pattern::Periodic;
+use dd_values::Limits;
 use std::alloc::{AllocError, Global};
 
 /// The period along an axis, 1 where none is given.

@@ -9,10 +9,11 @@ ghost use Rattle.dd_contain.specs.Equal.{joined, IsEqualDecided, HasBothNumbers}
 
 use crate::decision::{Decision, Enough};
 use crate::questions::decide;
-use dd_boxes::{Goal, Limits};
+use dd_boxes::Goal;
 use dd_engines::{Engine, Roster, first_asked_earlier, kept_is_transitive};
 use dd_formula::Rule;
 use dd_pattern::Periodic;
+use dd_values::Limits;
 use std::alloc::{AllocError, Global};
 
 /// Which of the two rules is the premise.

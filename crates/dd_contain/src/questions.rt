@@ -11,7 +11,7 @@ ghost use Rattle.dd_contain.specs.Questions.{AreNumbered, RefutesByNumbers, Show
 
 use crate::decision::Decision;
 use crate::search::{Questions, search};
-use dd_boxes::{Goal, Limits, least_radius};
+use dd_boxes::{Goal, least_radius};
 use dd_clause::Cnf;
 use dd_derivation::{Outcome, Step};
 use dd_engines::{Engine, Roster, kept_is_reflexive};
@@ -19,7 +19,7 @@ use dd_formula::Rule;
 use dd_pattern::{Periodic, Periods};
 use dd_problem::{box_clauses, read_torus, torus_clauses};
 use dd_solver::{solve, trimmed};
-use dd_values::Items;
+use dd_values::{Items, Limits};
 use std::alloc::{AllocError, Global};
 
 /// The number of the last step, where the clauses have the numbers from 1 on and the steps those after them.

@@ -1,8 +1,7 @@
 // What is known where a command stands.
-use dd_boxes::Limits;
 use dd_commands::Role;
 use dd_topology::{Names, Sets, Topology};
-use dd_values::Items;
+use dd_values::{Items, Limits};
 use dd_written::Text;
 
 /// What a formula may speak of. The labels of moves are those of the topology.

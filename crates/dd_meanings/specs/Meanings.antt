@@ -2,7 +2,7 @@
 use Rattle.std.specs.Prelude.{ℕ, List, [], length, map, true, false, if◌then◌else◌}
 use Rattle.dd_topology.specs.declared.builtin.Kind.{Kind}
 use Rattle.dd_topology.specs.Builtin.{grid_of}
-use Rattle.dd_boxes.specs.declared.limits.Limits.{Limits}
+use Rattle.dd_values.specs.declared.limits.Limits.{Limits}
 use Rattle.dd_formula.specs.LocalRule.{LocalRule}
 use Rattle.dd_formula.specs.declared.automaton.Automaton.{Automaton}
 use Rattle.dd_written.specs.Values.{name_text, written_value}

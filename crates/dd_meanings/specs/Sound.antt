@@ -5,7 +5,7 @@ use Rattle.dd_values.specs.Bounds.{most_weight}
 use Rattle.dd_topology.specs.Naming.{AreDistinct}
 use Rattle.dd_topology.specs.Grid.{Grid, IsGrid}
 use Rattle.dd_topology.specs.Sets.{allows}
-use Rattle.dd_boxes.specs.declared.limits.Limits.{Limits}
+use Rattle.dd_values.specs.declared.limits.Limits.{Limits}
 use Rattle.dd_pattern.specs.Tile.{Tile, IsTile}
 use Rattle.dd_formula.specs.LocalRule.{LocalRule, IsRule}
 use Rattle.dd_formula.specs.Automata.{IsAutomaton}

@@ -14,11 +14,10 @@ ghost use Rattle.dd_meanings.specs.Sound.{IsSoundMeaning};
 use crate::meaning::Meaning;
 use crate::names::{names_of, number_in};
 use crate::topologies::{default_topology, kind_names, topology_by};
-use dd_boxes::Limits;
 use dd_commands::Edge;
 use dd_faults::{Context, Refusal};
 use dd_topology::{Kind, Topology};
-use dd_values::Items;
+use dd_values::{Items, Limits};
 use dd_written::{Name, Number, number_value};
 use std::alloc::{AllocError, Global};
 

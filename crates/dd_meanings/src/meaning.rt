@@ -1,10 +1,9 @@
 // What a command means.
-use dd_boxes::Limits;
 use dd_formula::{Automaton, Rule};
 use dd_pattern::Periodic;
 use dd_query::Query;
 use dd_topology::{Names, Topology};
-use dd_values::Items;
+use dd_values::{Items, Limits};
 use dd_written::Word;
 
 /// What a command means.

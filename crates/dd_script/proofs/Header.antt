@@ -6,7 +6,7 @@ use Rattle.std.proofs.lemmas.List.{length-set, length-replicate}
 use Rattle.std.proofs.lemmas.List.FromFn.{length-range_with_len}
 use Rattle.dd_topology.specs.Grid.{Grid}
 use Rattle.dd_topology.specs.Sets.{IsSets, SymbolSets, all_symbols, restricted, symbol_row}
-use Rattle.dd_boxes.specs.declared.limits.Limits.{Limits}
+use Rattle.dd_values.specs.declared.limits.Limits.{Limits}
 use Rattle.dd_formula.specs.Automata.{IsAutomaton}
 use Rattle.dd_written.specs.Values.{word_text}
 use Rattle.dd_faults.specs.declared.context.Known.{Known}

@@ -9,7 +9,7 @@ use Rattle.dd_formula.specs.Counts.{largest_clauses}
 use Rattle.dd_counts.specs.Rules.{pattern_count}
 use Rattle.dd_transfer.specs.Transfers.{IsStrip, HasWeights, IsFew, strip_for}
 use Rattle.dd_rows.specs.Asked.{AreVectors, AreWeightsFor}
-use Rattle.dd_boxes.specs.declared.limits.Limits.{Limits}
+use Rattle.dd_values.specs.declared.limits.Limits.{Limits}
 use Rattle.dd_boxes.specs.Goals.{GoalOf, breaks, IsGoalFor}
 use Rattle.dd_boxes.specs.Boxes.{IsLeastRadius}
 use Rattle.dd_boxes.specs.Counts.{goal_clauses, most_clauses}

@@ -7,10 +7,9 @@ ghost use Rattle.dd_written.specs.Values.{word_text};
 ghost use Rattle.dd_faults.specs.Sound.{IsSound};
 ghost use Rattle.dd_script.specs.Walk.{known_start, unrestricted};
 
-use dd_boxes::Limits;
 use dd_faults::{Known, Setting};
 use dd_topology::{Kind, NameFault, Names, Sets, Topology};
-use dd_values::Items;
+use dd_values::{Items, Limits};
 use dd_written::{Name, Text, Word, name_text};
 use std::alloc::{AllocError, Global};
 

@@ -10,9 +10,10 @@ mod question;
 mod script;
 mod walking;
 
-pub use dd_boxes::{Goal, Limits};
+pub use dd_boxes::Goal;
 pub use dd_faults::Limit;
 pub use dd_query::Query;
+pub use dd_values::Limits;
 pub use fault::{ScriptFault, ScriptKind};
 pub use laws::{one_refusal, one_script, spelled_or_refused};
 pub use parsing::parse;

@@ -1,13 +1,13 @@
 // Scripts.
 use crate::question::Question;
-use dd_boxes::{Goal, Limits};
+use dd_boxes::Goal;
 use dd_faults::Known;
 use dd_formula::{Automaton, Rule};
 use dd_lattice::Position;
 use dd_pattern::Periodic;
 use dd_query::Query;
 use dd_topology::{Names, Sets, Topology};
-use dd_values::{Boxed, Items};
+use dd_values::{Boxed, Items, Limits};
 use std::marker::Model;
 
 /// What a script holds.

@@ -3,6 +3,8 @@
 
 mod boxed;
 mod items;
+mod limits;
 
 pub use boxed::Boxed;
 pub use items::Items;
+pub use limits::Limits;

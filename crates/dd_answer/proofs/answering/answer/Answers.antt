@@ -1,6 +1,6 @@
 use Rattle.std.proofs.Common.{sym, subst}
 use Rattle.std.proofs.lemmas.Result.{on_ok_weaker}
-use Rattle.dd_boxes.specs.declared.limits.Limits.{Limits}
+use Rattle.dd_values.specs.declared.limits.Limits.{Limits}
 use Rattle.dd_boxes.specs.Goals.{breaks}
 use Rattle.dd_boxes.specs.Views.{goal_of}
 use Rattle.dd_script.specs.Questions.{membership, box, equality, listing, density, discharge}
