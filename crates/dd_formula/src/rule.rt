@@ -85,9 +85,9 @@ impl Rule {
     {
         let sets = self.sets.copy(alloc)?;
         let edges = Items::from_slice(alloc, self.edges.as_slice())?;
-        let formula = self.formula.copy(alloc)?;
         let expansions = copy_expansions(alloc, self.expansions.as_slice())?;
         let reads = copy_reads(alloc, self.reads.as_slice())?;
+        let formula = self.formula.copy(alloc)?;
         Ok(Rule {
             dim: self.dim,
             nodes: self.nodes,
