@@ -29,13 +29,17 @@ abbrev pub in_box : ℕ → ℕ → Place → Bool
 in_box d n p =
     is_up_to (spread (is_active d 0) n) p.x && is_up_to (spread (is_active d 1) n) p.y && is_up_to (spread (is_active d 2) n) p.z
 
--- the cells of B(n), with each node
-abbrev pub is_box_cell : LocalRule → ℕ → Cell → Bool
-is_box_cell x n c = in_box x.dimension n c.position && nat_lt c.node x.nodes
+-- a cell of B(n) in d dimensions, with one of so many nodes
+abbrev pub is_cell_in_box : ℕ → ℕ → ℕ → Cell → Bool
+is_cell_in_box d nodes n c = in_box d n c.position && nat_lt c.node nodes
 
--- the same over the numbers of automata
+-- one of the rule's cells
+abbrev pub is_box_cell : LocalRule → ℕ → Cell → Bool
+is_box_cell x n c = is_cell_in_box x.dimension x.nodes n c
+
+-- a cell over the numbers of automata
 abbrev pub is_cell_within : CommonNumbers → ℕ → Cell → Bool
-is_cell_within s n c = in_box s.dimension n c.position && nat_lt c.node s.nodes
+is_cell_within s n c = is_cell_in_box s.dimension s.nodes n c
 
 -- exactly the cells of B(n) have symbols, allowed ones
 pub record IsBoxFilling (x : LocalRule) (n : ℕ) (look : Look) : Type 0 where

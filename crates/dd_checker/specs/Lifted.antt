@@ -1,10 +1,10 @@
 -- What a YES says of configurations that no data holds.
-use Rattle.std.specs.Prelude.{ℕ, ◌≡◌, ◌<◌, ◌&&◌, Bool, true, false, cond, nat_lt, Some, None, IsSomeAnd}
+use Rattle.std.specs.Prelude.{ℕ, ◌≡◌, ◌<◌, Bool, true, false, cond, Some, None, IsSomeAnd}
 use Rattle.dd_lattice.specs.Place.{Place}
 use Rattle.dd_lattice.specs.declared.position.Cell.{Cell}
 use Rattle.dd_topology.specs.Sets.{allows}
 use Rattle.dd_pattern.specs.Reading.{Look}
-use Rattle.dd_expansion.specs.Placed.{is_flat}
+use Rattle.dd_expansion.specs.Placed.{is_flat, is_cell_in}
 use Rattle.dd_formula.specs.LocalRule.{LocalRule}
 use Rattle.dd_formula.specs.Living.{Obeys}
 use Rattle.dd_boxes.specs.Goals.{GoalOf, breaks, HasGoal}
@@ -28,7 +28,7 @@ is_yes (answer.Bound numerator denominator common amounts duals) = false
 
 -- the symbols of all cells of Z^d with one of the nodes
 abbrev pub whole_look : ℕ → ℕ → (Cell → ℕ) → Look
-whole_look d nodes symbol_of c = cond (is_flat d c.position && nat_lt c.node nodes) (Some (symbol_of c)) None
+whole_look d nodes symbol_of c = cond (is_cell_in d nodes c) (Some (symbol_of c)) None
 
 -- a symbol for each cell of Z^d with one of the script's nodes, one that the node allows
 pub record IsWhole (s : Parts) (nodes : ℕ) (symbol_of : Cell → ℕ) : Type 0 where

@@ -8,6 +8,10 @@ use Rattle.dd_topology.specs.Grid.{Grid}
 abbrev pub is_flat : ℕ → Place → Bool
 is_flat d p = (nat_lt 1 d || int_eq p.y (pos 0)) && (nat_lt 2 d || int_eq p.z (pos 0))
 
--- a cell of Z^d with one of the nodes
+-- a cell of Z^d with one of so many nodes
+abbrev pub is_cell_in : ℕ → ℕ → Cell → Bool
+is_cell_in d nodes c = is_flat d c.position && nat_lt c.node nodes
+
+-- one of a topology's cells
 abbrev pub is_placed : Grid → Cell → Bool
-is_placed g c = is_flat g.dimension c.position && nat_lt c.node g.nodes
+is_placed g c = is_cell_in g.dimension g.nodes c

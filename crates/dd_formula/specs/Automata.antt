@@ -6,7 +6,7 @@ use Rattle.dd_lattice.specs.InOrder.{in_order}
 use Rattle.dd_lattice.specs.declared.position.Cell.{Cell}
 use Rattle.dd_pattern.specs.Reading.{Look}
 use Rattle.dd_expansion.specs.Leaves.{instances, total}
-use Rattle.dd_expansion.specs.Placed.{is_flat}
+use Rattle.dd_expansion.specs.Placed.{is_cell_in}
 use Rattle.dd_formula.specs.LocalRule.{LocalRule, is_true, reads_at, expansion_at, is_near, most_instances, most_depth}
 use Rattle.dd_formula.specs.declared.automaton.Automaton.{Automaton}
 use Rattle.dd_formula.specs.declared.automaton.Cases.{Cases}
@@ -143,9 +143,9 @@ pub record HaveNode (f g : Automaton) (a : ℕ) : Type 0 where
   pub inner : IsAutomaton setting g
   pub below : a < setting.nodes
 
--- a cell of Z^d with one of the nodes
+-- a cell over these numbers
 abbrev pub is_cell_of : CommonNumbers → Cell → Bool
-is_cell_of s c = is_flat s.dimension c.position && nat_lt c.node s.nodes
+is_cell_of s c = is_cell_in s.dimension s.nodes c
 
 -- the automaton can be read at these cells: over some numbers it is well formed, and they are cells that it may read at
 pub record HasCells (f : Automaton) (cs : List Cell) : Type 0 where

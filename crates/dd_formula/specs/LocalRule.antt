@@ -1,5 +1,5 @@
 -- A local rule: a formula with the topology and the alphabets that it speaks of.
-use Rattle.std.specs.Prelude.{ℕ, zero, suc, Bool, ◌<◌, ◌≤◌, ◌≡◌, true, false, ◌&&◌, is_some, nat_le, nat_lt, List, [], ◌∷◌, ◌++◌}
+use Rattle.std.specs.Prelude.{ℕ, zero, suc, Bool, ◌<◌, ◌≤◌, ◌≡◌, true, false, is_some, nat_le, nat_lt, List, [], ◌∷◌, ◌++◌}
 use Rattle.std.specs.List.{list_all}
 use Rattle.dd_lattice.specs.InOrder.{in_order}
 use Rattle.dd_lattice.specs.declared.position.Cell.{Cell}
@@ -15,7 +15,7 @@ use Rattle.dd_expansion.specs.Truth.{truth}
 use Rattle.dd_expansion.specs.Reads.{reads}
 use Rattle.dd_expansion.specs.Expansion.{expansion}
 use Rattle.dd_expansion.specs.Leaves.{leaves_pass, instances, seen}
-use Rattle.dd_expansion.specs.Placed.{is_flat}
+use Rattle.dd_expansion.specs.Placed.{is_cell_in}
 
 pub record LocalRule : Type 0 where
   pub dimension : ℕ
@@ -79,9 +79,9 @@ most_depth = 64
 abbrev pub is_near : Cell → Bool
 is_near c = nat_le (extent c.position) most_reach
 
--- a cell of Z^d with one of the rule's nodes
+-- one of the rule's cells
 abbrev pub is_of : LocalRule → Cell → Bool
-is_of r c = is_flat r.dimension c.position && nat_lt c.node r.nodes
+is_of r c = is_cell_in r.dimension r.nodes c
 
 -- a rule within them at each node
 abbrev pub IsSmall : LocalRule → Type 0

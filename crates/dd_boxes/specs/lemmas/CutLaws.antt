@@ -13,7 +13,7 @@ use Rattle.dd_pattern.specs.Reading.{Look}
 use Rattle.dd_expansion.specs.Placed.{is_flat}
 use Rattle.dd_formula.specs.LocalRule.{LocalRule, rule_allows, reads_at}
 use Rattle.dd_formula.specs.Allowed.{AreAllowed}
-use Rattle.dd_boxes.specs.Fillings.{place_fits, Admissible, is_up_to, in_box, is_box_cell, IsBoxFilling}
+use Rattle.dd_boxes.specs.Fillings.{place_fits, Admissible, is_up_to, in_box, is_cell_in_box, is_box_cell, IsBoxFilling}
 use Rattle.dd_boxes.specs.Boxes.{Covers}
 use Rattle.dd_boxes.specs.lemmas.RuleLaws.{from_place, shifted_twice, reads_given, keeps_at, list_all_weaker}
 
@@ -60,7 +60,7 @@ wider_axis : (active : Bool) (n m : ℕ) (x : ℤ) → n ≤ m → is_up_to (spr
 wider_axis true n m x le h = let small : unsigned_abs x ≤ n = leb-true _ _ h in le-leb _ _ (omega arith)
 wider_axis false n m x le h = h
 
-pub wider_cells : (d nodes n m : ℕ) (c : Cell) → n ≤ m → (in_box d n c.position && nat_lt c.node nodes) ≡ true → (in_box d m c.position && nat_lt c.node nodes) ≡ true
+pub wider_cells : (d nodes n m : ℕ) (c : Cell) → n ≤ m → is_cell_in_box d nodes n c ≡ true → is_cell_in_box d nodes m c ≡ true
 wider_cells d nodes n m c le h =
     let p = c.position in
     let both = and_parts (in_box d n p) (nat_lt c.node nodes) h in

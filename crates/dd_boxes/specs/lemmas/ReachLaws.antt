@@ -9,7 +9,7 @@ use Rattle.std.proofs.lemmas.Bool.Decides.{nat_tests, Decides-int_eq}
 use Rattle.dd_lattice.specs.Boxes.{is_active, spread}
 use Rattle.dd_lattice.specs.declared.position.Cell.{Cell}
 use Rattle.dd_topology.specs.Topology.{extent}
-use Rattle.dd_expansion.specs.Placed.{is_flat}
+use Rattle.dd_expansion.specs.Placed.{is_flat, is_cell_in}
 use Rattle.dd_formula.specs.LocalRule.{LocalRule, IsRule, reads_at, is_of}
 use Rattle.dd_formula.specs.Reach.{reach, automaton_reach}
 use Rattle.dd_formula.specs.Automata.{CommonNumbers, IsAutomaton, counted, is_cell_of}
@@ -17,7 +17,7 @@ use Rattle.dd_formula.specs.Values.{IsPlaced}
 use Rattle.dd_formula.specs.declared.automaton.Automaton.{Automaton}
 use Rattle.dd_formula.specs.lemmas.ReachLaws.{is_within, reads_within, reach_within, automaton_reads_within, automaton_reach_within}
 use Rattle.dd_boxes.specs.Goals.{GoalOf, breaks, differ, always}
-use Rattle.dd_boxes.specs.Fillings.{is_up_to, in_box, is_box_cell, is_cell_within}
+use Rattle.dd_boxes.specs.Fillings.{is_up_to, in_box, is_cell_in_box, is_box_cell, is_cell_within}
 use Rattle.dd_boxes.specs.Boxes.{IsLeastRadius}
 use Rattle.dd_boxes.specs.lemmas.RuleLaws.{list_all_weaker}
 use Rattle.dd_boxes.specs.lemmas.CutLaws.{box_parts, flat_box}
@@ -31,11 +31,10 @@ near_from : (active : Bool) (k : ℕ) (x : ℤ) → is_up_to (spread active k) x
 near_from true k x h = leb-true _ _ h
 near_from false k x h = let small : unsigned_abs x ≤ 0 = leb-true _ _ h in omega arith
 
-cell_from_within : (d nodes k : ℕ) → 1 ≤ d → (c : Cell) → ((is_flat d c.position && nat_lt c.node nodes) && is_within k c) ≡ true →
-    (in_box d k c.position && nat_lt c.node nodes) ≡ true
+cell_from_within : (d nodes k : ℕ) → 1 ≤ d → (c : Cell) → (is_cell_in d nodes c && is_within k c) ≡ true → is_cell_in_box d nodes k c ≡ true
 cell_from_within d nodes k some c h =
     let p = c.position in
-    let both = and_parts (is_flat d p && nat_lt c.node nodes) (is_within k c) h in
+    let both = and_parts (is_cell_in d nodes c) (is_within k c) h in
     let placed = and_parts (is_flat d p) (nat_lt c.node nodes) both.0 in
     let flat = and_parts (nat_lt 1 d || int_eq p.y (pos 0)) (nat_lt 2 d || int_eq p.z (pos 0)) placed.0 in
     let near : extent p ≤ k = leb-true _ _ both.1 in
@@ -51,7 +50,7 @@ cell_from_within d nodes k some c h =
 pub box_from_within : (r : LocalRule) (k : ℕ) → 1 ≤ r.dimension → (c : Cell) → (is_of r c && is_within k c) ≡ true → is_box_cell r k c ≡ true
 box_from_within r k some c h = cell_from_within r.dimension r.nodes k some c h
 
-pub within_from_cell : (d nodes k : ℕ) (c : Cell) → (in_box d k c.position && nat_lt c.node nodes) ≡ true → is_within k c ≡ true
+pub within_from_cell : (d nodes k : ℕ) (c : Cell) → is_cell_in_box d nodes k c ≡ true → is_within k c ≡ true
 within_from_cell d nodes k c h =
     let p = c.position in
     let parts = box_parts d k p (and_parts (in_box d k p) (nat_lt c.node nodes) h).0 in

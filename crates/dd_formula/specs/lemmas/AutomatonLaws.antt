@@ -11,7 +11,7 @@ use Rattle.dd_lattice.specs.declared.position.Cell.{Cell}
 use Rattle.dd_lattice.specs.lemmas.InOrderLaws.{list_all-in_order}
 use Rattle.dd_expansion.specs.Leaves.{total}
 use Rattle.dd_expansion.specs.lemmas.ListTests.{list_all-alike, list_all-flat_map, list_all-weaker}
-use Rattle.dd_expansion.specs.Placed.{is_flat}
+use Rattle.dd_expansion.specs.Placed.{is_flat, is_cell_in}
 use Rattle.dd_expansion.specs.lemmas.Placed.{flat_moved}
 use Rattle.dd_expansion.specs.lemmas.LeavesAreReads.{same_by_tests}
 use Rattle.dd_formula.specs.LocalRule.{LocalRule, IsRule, reads_at, cells_at, is_near, is_of}
@@ -204,7 +204,7 @@ rule_reads s r a rule has below =
     let dimension = eqb-true r.dimension s.dimension each.0 in
     let nodes = eqb-true r.nodes s.nodes each.1 in
     list_all-in_order (is_cell_of s) (reads_at r a)
-    ∙ (list_all-alike (is_cell_of s) (is_of r) (λ c. ap (λ d. is_flat d c.position && nat_lt c.node s.nodes) (sym dimension) ∙ ap (λ n. is_flat r.dimension c.position && nat_lt c.node n) (sym nodes)) (reads_at r a)
+    ∙ (list_all-alike (is_cell_of s) (is_of r) (λ c. ap (λ d. is_cell_in d s.nodes c) (sym dimension) ∙ ap (λ n. is_cell_in r.dimension n c) (sym nodes)) (reads_at r a)
     ∙ rule.placed a (omega arith))
 
 -- the rule of a case has the numbers
