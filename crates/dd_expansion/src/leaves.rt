@@ -8,7 +8,7 @@ ghost use Rattle.dd_lattice.specs.InOrder.{in_order};
 ghost use Rattle.dd_expansion.specs.Leaves.{leaf_cells};
 
 use crate::expanded::Expanded;
-use dd_lattice::Cell;
+use dd_lattice::{Cell, listed};
 use std::alloc::{AllocError, Global};
 use std::collections::BTreeSet;
 
@@ -54,12 +54,4 @@ fn add_all_cells(parts: &[Expanded], found: &mut BTreeSet<Cell>) -> Result<(), A
         add_cells(part, found)?;
     }
     Ok(())
-}
-
-/// The cells of the set, in cell order.
-fn listed(alloc: Global, found: &BTreeSet<Cell>) -> Result<Vec<Cell>, AllocError>
-    ensures list { IfOk result (λ v. v.items ≡ found.now.keys) }
-    ensures ascending { IfOk result (λ v. IsStrictlySortedBy cell_cmp v.items) }
-{
-    found.iter().copied().collect(alloc)
 }

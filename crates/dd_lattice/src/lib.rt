@@ -11,6 +11,6 @@ mod region;
 
 pub use bounds::{Box3, centred_box};
 pub use fault::LatticeFault;
-pub use ordering::in_order;
+pub use ordering::{in_order, listed};
 pub use position::{Cell, Position, shift};
 pub use region::{Region, positions};

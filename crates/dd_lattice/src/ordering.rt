@@ -21,7 +21,8 @@ pub fn in_order(alloc: Global, cells: &[Cell]) -> Result<Vec<Cell>, AllocError>
     listed(alloc, &found)
 }
 
-fn listed(alloc: Global, found: &BTreeSet<Cell>) -> Result<Vec<Cell>, AllocError>
+/// The cells of a set, in cell order.
+pub fn listed(alloc: Global, found: &BTreeSet<Cell>) -> Result<Vec<Cell>, AllocError>
     ensures list { IfOk result (λ v. v.items ≡ found.now.keys) }
     ensures order { IfOk result (λ v. IsStrictlySortedBy cell_cmp v.items) }
 {

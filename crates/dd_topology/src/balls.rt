@@ -162,8 +162,6 @@ fn listed(alloc: Global, found: &BTreeSet<Cell>) -> Result<Vec<Cell>, LatticeFau
     ensures ascending { IfOk result (λ v. IsStrictlySortedBy cell_cmp v.items) }
     ensures fault { IfErr result (λ fault. fault ≡ Range → ⊥) }
 {
-    match found.iter().copied().collect(alloc) {
-        Ok(cells) => Ok(cells),
-        Err(_) => Err(LatticeFault::Memory),
-    }
+    let cells = dd_lattice::listed(alloc, found)?;
+    Ok(cells)
 }
