@@ -21,16 +21,23 @@ pub record IsRegionOf (S : PlaceSet) (ps : List Place) : Type 0 where
   pub region : IsRegion ps
   pub members : (p : Place) → Contains ps p ↔ S p
 
--- some position of the set is out of range
-pub record LeavesRange (S : PlaceSet) : Type 0 where
-  pub at : Place
+-- some member of the set stands at a position that is out of range
+pub record LeavesRangeAt {X : Type 0} (position : X → Place) (S : X → Type 0) : Type 0 where
+  pub at : X
   pub member : S at
-  pub outside : IsInRange at → ⊥
+  pub outside : IsInRange (position at) → ⊥
 
--- the fault with which the region of a set isn't made: `Range` only where the set leaves the range
+-- the fault with which the list of a set isn't made: `Range` only where the set leaves the range
+abbrev pub IsFaultAt : {X : Type 0} → (X → Place) → (X → Type 0) → LatticeFault → Type 0
+IsFaultAt position S Range = LeavesRangeAt position S
+IsFaultAt position S Memory = Unit {0}
+
+-- of a set of positions
+abbrev pub LeavesRange : PlaceSet → Type 0
+LeavesRange S = LeavesRangeAt (λ (p : Place). p) S
+
 abbrev pub IsFaultOf : PlaceSet → LatticeFault → Type 0
-IsFaultOf S Range = LeavesRange S
-IsFaultOf S Memory = Unit {0}
+IsFaultOf S = IsFaultAt (λ (p : Place). p) S
 
 abbrev pub IsInEither : List Place → List Place → PlaceSet
 IsInEither ps qs p = Contains ps p ⊎ Contains qs p

@@ -5,9 +5,9 @@ use Rattle.std.specs.List.Sorted.{IsStrictlySortedBy}
 use Rattle.std.specs.Ordering.{int_eq}
 use Rattle.dd_lattice.specs.Place.{Place, moved, IsInRange, is_in_range}
 use Rattle.dd_lattice.specs.Order.{cell_cmp}
+use Rattle.dd_lattice.specs.Regions.{LeavesRangeAt, IsFaultAt}
 use Rattle.dd_lattice.specs.declared.position.Cell.{Cell}
 use Rattle.dd_lattice.specs.declared.fault.LatticeFault.{LatticeFault}
-use Rattle.dd_lattice.specs.declared.fault.LatticeFault.TheVariants.{Range, Memory}
 use Rattle.dd_topology.specs.declared.edge.Edge.{Edge}
 use Rattle.dd_topology.specs.Topology.{Leads, end_of, start_of}
 
@@ -31,15 +31,12 @@ pub record IsCellListOf (S : CellSet) (cells : List Cell) : Type 0 where
   pub members : (c : Cell) → Contains cells c ↔ S c
 
 -- some cell of the set is out of range
-pub record CellsLeaveRange (S : CellSet) : Type 0 where
-  pub at : Cell
-  pub member : S at
-  pub outside : ¬ IsInRange at.position
+abbrev pub CellsLeaveRange : CellSet → Type 0
+CellsLeaveRange S = LeavesRangeAt (λ (c : Cell). c.position) S
 
 -- the fault with which the list of a set is not made: `Range` only where the set leaves the range
 abbrev pub IsCellFaultOf : CellSet → LatticeFault → Type 0
-IsCellFaultOf S Range = CellsLeaveRange S
-IsCellFaultOf S Memory = Unit {0}
+IsCellFaultOf S = IsFaultAt (λ (c : Cell). c.position) S
 
 -- adjacency as a test
 abbrev pub same_place : Place → Place → Bool
