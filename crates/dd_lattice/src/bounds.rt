@@ -3,7 +3,7 @@ ghost use Rattle.std.specs.Prelude.{◌≡◌, ℕ, ◌+◌, ◌*◌, ◌<◌, �
 ghost use Rattle.dd_lattice.specs.Place.{Place, IsCoordinateInRange, IsInRange, place, most_coordinate};
 ghost use Rattle.dd_lattice.specs.Boxes.{IsAtMostOnEachAxis, IsBox, IsWithin, IsCentred, centred, spread, gap, volume, index_in, place_in};
 
-use crate::position::{Position, REACH};
+use crate::position::{MOST_COORDINATE, Position};
 use std::marker::Model;
 
 /// The positions from `low` to `high`, where `low` is at most `high` on each axis.
@@ -60,7 +60,7 @@ pub fn centred_box(dim: u32, radius: u32) -> Option<Box3>
     ensures value { result ≡ (if nat_le radius most_coordinate then Some (centred dim radius) else None) }
     ensures members { IfSome result (λ b. (p : Place) → IsWithin b p ↔ IsCentred dim radius p) }
 {
-    if radius > REACH as u32 {
+    if radius > MOST_COORDINATE as u32 {
         return None;
     }
     Some(around_origin(dim, radius))

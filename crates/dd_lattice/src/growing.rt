@@ -6,7 +6,7 @@ ghost use Rattle.dd_lattice.specs.Regions.{IsRegionOf, IsFaultOf, IsNearby};
 ghost use Rattle.dd_lattice.specs.listing.Growth.{along, IsStretched, IsExtended};
 
 use crate::fault::LatticeFault;
-use crate::position::{Position, REACH};
+use crate::position::{MOST_COORDINATE, Position};
 use crate::region::Region;
 use std::alloc::Global;
 
@@ -101,7 +101,7 @@ impl Region {
         if self.list().is_empty() {
             return Ok(Region::empty(alloc));
         }
-        if by > REACH as u32 {
+        if by > MOST_COORDINATE as u32 {
             return Err(LatticeFault::Range);
         }
         grown(alloc, self, dim, by)

@@ -11,7 +11,7 @@ use std::cmp::Ordering;
 use std::marker::Model;
 
 /// The greatest absolute value of a coordinate, 2^20.
-pub const REACH: i32 = 1_048_576;
+pub const MOST_COORDINATE: i32 = 1_048_576;
 
 /// A position of Z^3, each coordinate at most 2^20 in absolute value. In fewer than three dimensions the other
 /// coordinates are 0.
@@ -39,7 +39,13 @@ impl Position {
     pub fn new(x: i32, y: i32, z: i32) -> Option<Position>
         ensures { result ≡ (if is_in_range (place x y z) then Some (place x y z) else None) }
     {
-        if -REACH <= x && x <= REACH && -REACH <= y && y <= REACH && -REACH <= z && z <= REACH {
+        if -MOST_COORDINATE <= x
+            && x <= MOST_COORDINATE
+            && -MOST_COORDINATE <= y
+            && y <= MOST_COORDINATE
+            && -MOST_COORDINATE <= z
+            && z <= MOST_COORDINATE
+        {
             Some(Position { x, y, z })
         } else {
             None
