@@ -100,8 +100,8 @@ is_short nodes f = list_all (λ a. list_all is_near (f.reads a)) (range_with_len
 abbrev pub is_shallow : Counted → Bool
 is_shallow f = nat_le f.depth most_depth
 
-abbrev pub is_within : ℕ → Counted → Bool
-is_within nodes f = is_few nodes f && is_short nodes f && is_shallow f
+abbrev pub keeps_limits : ℕ → Counted → Bool
+keeps_limits nodes f = is_few nodes f && is_short nodes f && is_shallow f
 
 -- each part is within the limits
 pub record Checked : Type 0 where
@@ -109,7 +109,7 @@ pub record Checked : Type 0 where
   pub within : Bool
 
 abbrev pub checked : ℕ → Counted → Bool → Checked
-checked nodes f parts = record { counts = f; within = parts && is_within nodes f }
+checked nodes f parts = record { counts = f; within = parts && keeps_limits nodes f }
 
 abbrev pub limits_step : ℕ → Automaton-F Checked → Checked
 limits_step nodes (Automaton-F.Given c) = checked nodes (counted_step (Automaton-F.Given c)) true

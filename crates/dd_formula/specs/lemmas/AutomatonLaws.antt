@@ -15,7 +15,7 @@ use Rattle.dd_expansion.specs.Placed.{is_flat, is_cell_in}
 use Rattle.dd_expansion.specs.lemmas.Placed.{flat_moved}
 use Rattle.dd_expansion.specs.lemmas.LeavesAreReads.{same_by_tests}
 use Rattle.dd_formula.specs.LocalRule.{LocalRule, IsRule, reads_at, cells_at, is_near, is_of}
-use Rattle.dd_formula.specs.Automata.{CommonNumbers, has_rules, has_rules_step, IsNodesOf, rule_has, is_cell_of, Counted, Checked, counted, counted_step, case_instances, cases_reads, cells_of, automaton_fits, automaton_fits_step, cases_fit, is_few, is_short, is_shallow, is_within, limits_step, are_within, IsAutomaton}
+use Rattle.dd_formula.specs.Automata.{CommonNumbers, has_rules, has_rules_step, IsNodesOf, rule_has, is_cell_of, Counted, Checked, counted, counted_step, case_instances, cases_reads, cells_of, automaton_fits, automaton_fits_step, cases_fit, is_few, is_short, is_shallow, limits_step, are_within, IsAutomaton, keeps_limits}
 use Rattle.dd_formula.specs.declared.automaton.Automaton.{Automaton}
 use Rattle.dd_formula.specs.declared.automaton.Automaton.TheVariants as v
 use Rattle.dd_formula.specs.declared.automaton.Automaton.TheFolds.{fold-Automaton, fold-roll-Automaton, ind-Automaton, map-Automaton}
@@ -60,13 +60,13 @@ pub counts_those : (n : ℕ) (f : Automaton) → CountsThose n f
 counts_those n = ind-Automaton (CountsThose n) (λ x y is.
     rw (fold-roll-Automaton Checked (limits_step n) x, fold-roll-Automaton Counted counted_step x, ← is) (step_counts n y))
 
-pub within_composed : (n : ℕ) (f g : Automaton) → are_within n (v.Composed f g) ≡ ((are_within n f && are_within n g) && is_within n (counted (v.Composed f g)))
+pub within_composed : (n : ℕ) (f g : Automaton) → are_within n (v.Composed f g) ≡ ((are_within n f && are_within n g) && keeps_limits n (counted (v.Composed f g)))
 within_composed n f g =
     let parts = are_within n f && are_within n g in
     ap (λ (c : Checked). c.within) (checks_composed n f g)
-    ∙ (ap (λ (c : Counted). parts && is_within n (counted_step (Automaton-F.Composed c (checks n g).counts))) (counts_those n f)
-    ∙ (ap (λ (c : Counted). parts && is_within n (counted_step (Automaton-F.Composed (counted f) c))) (counts_those n g)
-    ∙ ap (λ (c : Counted). parts && is_within n c) (sym (counted_composed f g))))
+    ∙ (ap (λ (c : Counted). parts && keeps_limits n (counted_step (Automaton-F.Composed c (checks n g).counts))) (counts_those n f)
+    ∙ (ap (λ (c : Counted). parts && keeps_limits n (counted_step (Automaton-F.Composed (counted f) c))) (counts_those n g)
+    ∙ ap (λ (c : Counted). parts && keeps_limits n c) (sym (counted_composed f g))))
 
 -- the parts of a well-formed composition
 pub outer_part : (s : CommonNumbers) (f g : Automaton) → IsAutomaton s (v.Composed f g) → IsAutomaton s f
@@ -85,7 +85,7 @@ inner_part s f g h = record {
 
 -- a well-formed automaton is within the limits
 abbrev IsLimited : ℕ → Automaton → Type 0
-IsLimited n f = are_within n f ≡ true → is_within n (counted f) ≡ true
+IsLimited n f = are_within n f ≡ true → keeps_limits n (counted f) ≡ true
 
 abbrev Limited : ℕ → Type 0
 Limited n = (f : Automaton) × IsLimited n f
@@ -94,18 +94,18 @@ abbrev limited_layer : (n : ℕ) → Automaton-F (Limited n) → Automaton-F Aut
 limited_layer n y = map-Automaton (Limited n) Automaton (λ f. f.0) y
 
 abbrev Follows : ℕ → Automaton-F Automaton → Type 0
-Follows n x = (limits_step n (map-Automaton Automaton Checked (checks n) x)).within ≡ true → is_within n (counted_step (map-Automaton Automaton Counted counted x)) ≡ true
+Follows n x = (limits_step n (map-Automaton Automaton Checked (checks n) x)).within ≡ true → keeps_limits n (counted_step (map-Automaton Automaton Counted counted x)) ≡ true
 
 step_limited : (n : ℕ) (y : Automaton-F (Limited n)) → Follows n (limited_layer n y)
 step_limited n (Automaton-F.Given c) h = h
 step_limited n (Automaton-F.Composed f g) h =
-    let all = and_parts (are_within n f.0 && are_within n g.0) (is_within n (counted_step (Automaton-F.Composed (checks n f.0).counts (checks n g.0).counts))) h in
-    ap (λ (c : Counted). is_within n (counted_step (Automaton-F.Composed (counted f.0) c))) (sym (counts_those n g.0))
-    ∙ (ap (λ (c : Counted). is_within n (counted_step (Automaton-F.Composed c (checks n g.0).counts))) (sym (counts_those n f.0)) ∙ all.1)
+    let all = and_parts (are_within n f.0 && are_within n g.0) (keeps_limits n (counted_step (Automaton-F.Composed (checks n f.0).counts (checks n g.0).counts))) h in
+    ap (λ (c : Counted). keeps_limits n (counted_step (Automaton-F.Composed (counted f.0) c))) (sym (counts_those n g.0))
+    ∙ (ap (λ (c : Counted). keeps_limits n (counted_step (Automaton-F.Composed c (checks n g.0).counts))) (sym (counts_those n f.0)) ∙ all.1)
 
 pub within_is : (n : ℕ) (f : Automaton) → IsLimited n f
 within_is n = ind-Automaton (IsLimited n) (λ x y is h.
-    ap (is_within n) (fold-roll-Automaton Counted counted_step x)
+    ap (keeps_limits n) (fold-roll-Automaton Counted counted_step x)
     ∙ subst (Follows n) is (step_limited n y) (ap (λ (c : Checked). c.within) (sym (fold-roll-Automaton Checked (limits_step n) x)) ∙ h))
 
 -- a test of the numbers from k on
@@ -315,7 +315,7 @@ given_formed s c some fit few short =
       fits = fits_given s c ∙ fit;
       within =
           ap (λ (k : Checked). k.within) (checks_given s.nodes c)
-          ∙ (ap (is_within s.nodes) (sym (counted_given c))
+          ∙ (ap (keeps_limits s.nodes) (sym (counted_given c))
           ∙ and_from (is_few s.nodes (counted (v.Given c)) && is_short s.nodes (counted (v.Given c))) (is_shallow (counted (v.Given c)))
           (and_from (is_few s.nodes (counted (v.Given c))) (is_short s.nodes (counted (v.Given c))) few short) shallow);
     }

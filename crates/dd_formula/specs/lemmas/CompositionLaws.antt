@@ -5,7 +5,7 @@ use Rattle.std.specs.List.{list_all, range_with_len}
 use Rattle.std.proofs.lemmas.Bool.{and_from}
 use Rattle.dd_expansion.specs.lemmas.ListTests.{and_true}
 use Rattle.dd_formula.specs.LocalRule.{is_near, most_instances}
-use Rattle.dd_formula.specs.Automata.{CommonNumbers, Counted, has_rules, automaton_fits, is_few, is_short, is_shallow, are_within, is_within, IsAutomaton}
+use Rattle.dd_formula.specs.Automata.{CommonNumbers, Counted, has_rules, automaton_fits, is_few, is_short, is_shallow, are_within, keeps_limits, IsAutomaton}
 use Rattle.dd_formula.specs.Compositions.{StandFor, PassesDepth, composition}
 use Rattle.dd_formula.specs.declared.automaton.Automaton.{Automaton}
 use Rattle.dd_formula.specs.declared.automaton.Automaton.TheVariants as v
@@ -69,7 +69,7 @@ composition_formed s f g outer inner h = record {
   fits = fits_composed s f g ∙ and_from (automaton_fits s f) (automaton_fits s g) outer.fits inner.fits;
   within =
       within_composed s.nodes f g
-      ∙ and_from (are_within s.nodes f && are_within s.nodes g) (is_within s.nodes (composition f g))
+      ∙ and_from (are_within s.nodes f && are_within s.nodes g) (keeps_limits s.nodes (composition f g))
       (and_from (are_within s.nodes f) (are_within s.nodes g) outer.within inner.within)
       (and_from (is_few s.nodes (composition f g) && is_short s.nodes (composition f g)) (is_shallow (composition f g))
       (and_from (is_few s.nodes (composition f g)) (is_short s.nodes (composition f g)) h.0.0 h.0.1) h.1);
