@@ -23,7 +23,7 @@ use Rattle.dd_transfer.specs.Slices.{IsKeptFrom, cell_from, symbols_from, number
 use Rattle.dd_transfer.specs.Laws.{AreDigits, AreEdgesOf}
 use Rattle.dd_strips.specs.Strips.{LivesOnStrip, slices_weight, tile_weight}
 use Rattle.dd_strips.proofs.Residues.{residue_below, residue_small}
-use Rattle.dd_strips.proofs.Sums.{total, total-same, total-first}
+use Rattle.dd_strips.proofs.Sums.{total_below, total_below-same, total_below-first}
 use Rattle.dd_strips.proofs.Modular.{mod_of_power, mod_longer, mod_of_none}
 use Rattle.dd_strips.proofs.Tiles.{IsOnStrip, slice_symbol, tile_has, period_total}
 use Rattle.dd_strips.proofs.Rounds.{state_at, joined_round, Follows, follows}
@@ -212,17 +212,17 @@ module _ (r : LocalRule) (s : Strip) (walk : List ℕ) (rule : IsRule r) (for : 
     }
 
     -- and weighs what the walk does
-    walk_total : (ws : List ℕ) (states_ : List ℕ) → total (λ i. slice_weight r s ws (last_slice r s (slice_index states_ i))) (length states_) ≡ walk_weight r s ws states_
+    walk_total : (ws : List ℕ) (states_ : List ℕ) → total_below (λ i. slice_weight r s ws (last_slice r s (slice_index states_ i))) (length states_) ≡ walk_weight r s ws states_
     walk_total ws [] = refl
     walk_total ws (u ∷ us) =
         let rest = walk_total ws us in
-        let first = total-first (λ i. slice_weight r s ws (last_slice r s (slice_index (u ∷ us) i))) (length us) in
-        let sum : total (λ i. slice_weight r s ws (last_slice r s (slice_index (u ∷ us) i))) (suc (length us)) ≡ walk_weight r s ws (u ∷ us) = omega (arith, rest, first) in
+        let first = total_below-first (λ i. slice_weight r s ws (last_slice r s (slice_index (u ∷ us) i))) (length us) in
+        let sum : total_below (λ i. slice_weight r s ws (last_slice r s (slice_index (u ∷ us) i))) (suc (length us)) ≡ walk_weight r s ws (u ∷ us) = omega (arith, rest, first) in
         sum
 
     pub cycle_weighs : (ws : List ℕ) → tile_weight ws (tile_of r s walk) ≡ walk_weight r s ws walk
     cycle_weighs ws =
         sym (period_total r s (tile_of r s walk) for on_strip ws)
-        ∙ (total-same (λ i. slices_weight s ws (tile_look (tile_of r s walk)) (pos i) 1) (λ i. slice_weight r s ws (last_slice r s (slice_index walk i))) (length walk)
+        ∙ (total_below-same (λ i. slices_weight s ws (tile_look (tile_of r s walk)) (pos i) 1) (λ i. slice_weight r s ws (last_slice r s (slice_index walk i))) (length walk)
         (λ i lt. ap (total_weight ws) (symbols_there (pos i)) ∙ ap (λ (k : ℕ). slice_weight r s ws (last_slice r s (slice_index walk k))) (residue_small i (length walk) lt))
         ∙ walk_total ws walk)

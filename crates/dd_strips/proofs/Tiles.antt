@@ -19,7 +19,7 @@ use Rattle.dd_transfer.specs.Slices.{RepeatsAcross, HasSlices, across, cell_from
 use Rattle.dd_transfer.specs.Laws.{AreEdgesOf}
 use Rattle.dd_strips.specs.Strips.{slices_weight, tile_weight}
 use Rattle.dd_strips.proofs.Residues.{residue_below, residue_small, residue_round}
-use Rattle.dd_strips.proofs.Sums.{total, total-same, total-rows, total-turned, total-round, sum_by-listed, sum_by-places}
+use Rattle.dd_strips.proofs.Sums.{total_below, total_below-same, total_below-rows, total_below-turned, total_below-round, sum_by-listed, sum_by-places}
 use Rattle.dd_strips.proofs.Walks.{plus_zero, weight_none, weight_longer}
 
 -- it has the strip's nodes and periods, and symbols of the alphabet
@@ -150,52 +150,52 @@ module _ (r : LocalRule) (s : Strip) (t : Tile) (for : IsFor r s) (on : IsOnStri
     at i = slice_index ws (get_or t.symbols i 0)
 
     abbrev here : ℕ → ℕ → ℕ
-    here row i = total (λ a. at ((row * t.periods.x + i) * s.nodes + a)) s.nodes
+    here row i = total_below (λ a. at ((row * t.periods.x + i) * s.nodes + a)) s.nodes
 
-    one_slice : (i : ℕ) → i < t.periods.x → slices_weight s ws (tile_look t) (pos i) 1 ≡ total (λ row. here row i) (positions s)
+    one_slice : (i : ℕ) → i < t.periods.x → slices_weight s ws (tile_look t) (pos i) 1 ≡ total_below (λ row. here row i) (positions s)
     one_slice i lt =
         let f = λ (k : ℕ). unwrap_or (tile_look t (cell_from s (pos i) k)) 0 in
         let g = λ (k : ℕ). at ((k / s.nodes * t.periods.x + i) * s.nodes + k % s.nodes) in
         let many : 1 * cells s ≡ positions s * s.nodes = omega arith in
         sum_by-listed (slice_index ws) f (1 * cells s)
-        ∙ (ap (total (λ k. slice_index ws (f k))) many
-        ∙ (total-same (λ k. slice_index ws (f k)) g (positions s * s.nodes) (λ k below. ap (slice_index ws) (slice_symbol (pos i) k (omega (arith, below)))
+        ∙ (ap (total_below (λ k. slice_index ws (f k))) many
+        ∙ (total_below-same (λ k. slice_index ws (f k)) g (positions s * s.nodes) (λ k below. ap (slice_index ws) (slice_symbol (pos i) k (omega (arith, below)))
         ∙ ap (λ (v : ℕ). at ((k / s.nodes * t.periods.x + v) * s.nodes + k % s.nodes)) (residue_small i t.periods.x lt))
-        ∙ (total-rows g (positions s) s.nodes
-        ∙ total-same (λ row. total (λ a. g (row * s.nodes + a)) s.nodes) (λ row. here row i) (positions s)
-        (λ row _. total-same (λ a. g (row * s.nodes + a)) (λ a. at ((row * t.periods.x + i) * s.nodes + a)) s.nodes
+        ∙ (total_below-rows g (positions s) s.nodes
+        ∙ total_below-same (λ row. total_below (λ a. g (row * s.nodes + a)) s.nodes) (λ row. here row i) (positions s)
+        (λ row _. total_below-same (λ a. g (row * s.nodes + a)) (λ a. at ((row * t.periods.x + i) * s.nodes + a)) s.nodes
         (λ a a_lt. ap (λ (v : ℕ). at ((v * t.periods.x + i) * s.nodes + (row * s.nodes + a) % s.nodes)) (div-mul-add row s.nodes a a_lt)
         ∙ ap (λ (v : ℕ). at ((row * t.periods.x + i) * s.nodes + v)) (mod-mul-add row s.nodes a a_lt))))))
 
-    box_rows : tile_weight ws t ≡ total (λ row. total (λ i. here row i) t.periods.x) (positions s)
+    box_rows : tile_weight ws t ≡ total_below (λ row. total_below (λ i. here row i) t.periods.x) (positions s)
     box_rows =
         let p = t.periods in
         let many : length t.symbols ≡ (positions s * p.x) * s.nodes =
         on.tile.full ∙ (ap (λ (n : ℕ). p.z * p.y * p.x * n) on.nodes ∙ (ap (λ (n : ℕ). n * p.y * p.x * s.nodes) on.z_period ∙ (ap (λ (n : ℕ). s.z * n * p.x * s.nodes) on.y_period ∙ turned s.z s.y p.x s.nodes))) in
         sum_by-places (slice_index ws) t.symbols
-        ∙ (ap (total at) many
-        ∙ (total-rows at (positions s * p.x) s.nodes ∙ total-rows (λ m. total (λ a. at (m * s.nodes + a)) s.nodes) (positions s) p.x))
+        ∙ (ap (total_below at) many
+        ∙ (total_below-rows at (positions s * p.x) s.nodes ∙ total_below-rows (λ m. total_below (λ a. at (m * s.nodes + a)) s.nodes) (positions s) p.x))
       where
         turned : (z y x n : ℕ) → z * y * x * n ≡ (y * z * x) * n
         turned z y x n = ap (λ (v : ℕ). v * x * n) (let e : z * y ≡ y * z = omega arith in e)
 
-    pub period_total : total (λ i. slices_weight s ws (tile_look t) (pos i) 1) t.periods.x ≡ tile_weight ws t
+    pub period_total : total_below (λ i. slices_weight s ws (tile_look t) (pos i) 1) t.periods.x ≡ tile_weight ws t
     period_total =
-        total-same (λ i. slices_weight s ws (tile_look t) (pos i) 1) (λ i. total (λ row. here row i) (positions s)) t.periods.x one_slice
-        ∙ (sym (total-turned here (positions s) t.periods.x) ∙ sym box_rows)
+        total_below-same (λ i. slices_weight s ws (tile_look t) (pos i) 1) (λ i. total_below (λ row. here row i) (positions s)) t.periods.x one_slice
+        ∙ (sym (total_below-turned here (positions s) t.periods.x) ∙ sym box_rows)
 
     module _ (edges : AreEdgesOf r s (tile_look t)) where
-      pub slices_total : (x n : ℕ) → slices_weight s ws (tile_look t) (pos x) n ≡ total (λ k. slices_weight s ws (tile_look t) (pos (x + k)) 1) n
+      pub slices_total : (x n : ℕ) → slices_weight s ws (tile_look t) (pos x) n ≡ total_below (λ k. slices_weight s ws (tile_look t) (pos (x + k)) 1) n
       slices_total x zero = weight_none r s (tile_look t) edges ws (pos x)
       slices_total x (suc n) =
           let rest = slices_total x n in
           let more = weight_longer r s (tile_look t) edges ws (pos x) n in
-          let sum : slices_weight s ws (tile_look t) (pos x) (suc n) ≡ total (λ k. slices_weight s ws (tile_look t) (pos (x + k)) 1) n + slices_weight s ws (tile_look t) (pos (x + n)) 1 = omega (arith, rest, more) in
+          let sum : slices_weight s ws (tile_look t) (pos x) (suc n) ≡ total_below (λ k. slices_weight s ws (tile_look t) (pos (x + k)) 1) n + slices_weight s ws (tile_look t) (pos (x + n)) 1 = omega (arith, rest, more) in
           sum
 
       -- as many slices as the period weigh what the fundamental box does
       pub period_weighs : (x : ℕ) → slices_weight s ws (tile_look t) (pos x) t.periods.x ≡ tile_weight ws t
       period_weighs x =
           slices_total x t.periods.x
-          ∙ (total-round (λ k. slices_weight s ws (tile_look t) (pos k) 1) t.periods.x (λ k. ap (sum_by (slice_index ws)) (symbols_round (pos k) 1)) x
+          ∙ (total_below-round (λ k. slices_weight s ws (tile_look t) (pos k) 1) t.periods.x (λ k. ap (sum_by (slice_index ws)) (symbols_round (pos k) 1)) x
           ∙ period_total)
