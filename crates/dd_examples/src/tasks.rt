@@ -5,13 +5,10 @@ use crate::deciding::answered;
 use crate::rewriting::rewritten;
 use crate::squares::chessboard_membership;
 use dd_formula::Membership;
+use dd_output::MOST_OUTPUT;
 use dd_outside::{Source, read_all};
+use dd_values::MOST_SCRIPT;
 use std::alloc::Global;
-
-/// The greatest length of a script and of an output, in bytes.
-const MOST_SCRIPT: usize = 1_048_576;
-
-const MOST_OUTPUT: usize = 268_435_456;
 
 /// What the program is asked for.
 #[derive(Clone, Copy, Debug, PartialEq, Eq)]

@@ -15,9 +15,8 @@ use crate::fault::{Fault, Limit, Refusal, note_over};
 use crate::numbers::tokens;
 use crate::requests::request;
 use dd_commands::{Command, Written};
+use dd_values::MOST_COMMANDS;
 use std::alloc::{AllocError, Global};
-
-const MOST_COMMANDS: u32 = 1000;
 
 /// Notes the faults of a command of the header.
 fn note_command(

@@ -7,9 +7,8 @@ ghost use Rattle.dd_faults.specs.Commands.{unless, token_faults, entry_value, ha
 use crate::context::Context;
 use crate::fault::{Fault, Limit, note_if, note_over};
 use dd_commands::{Entry, Vector};
+use dd_values::MOST_WEIGHT;
 use dd_written::{Lexeme, Number, Text, number_value};
-
-const MOST_WEIGHT: u32 = 1000;
 
 /// Notes that numbers of entries do not agree.
 pub(crate) fn note_unless(found: &mut Option<Fault>, fits: bool)

@@ -19,5 +19,6 @@ pub use counts::plus;
 pub use dd_expansion::{BallOf, Expanded, Formula, Term};
 pub use fault::RuleFault;
 pub use lives::Membership;
+pub use making::MOST_INSTANCES;
 pub use reach::farthest;
 pub use rule::Rule;

@@ -17,12 +17,9 @@ use crate::names::number_in;
 use dd_commands::Case;
 use dd_expansion::{ExpansionFault, Formula, expand};
 use dd_faults::{Context, Fault, Known, Limit, Refusal};
-use dd_formula::{Rule, RuleFault, plus};
+use dd_formula::{MOST_INSTANCES, Rule, RuleFault, plus};
 use dd_values::Items;
 use std::alloc::{AllocError, Global};
-
-/// The greatest number of instances of an automaton at a node.
-const MOST_INSTANCES: u32 = 20_000;
 
 /// A case of an automaton: its formula, and the number of the symbol that it gives.
 #[derive(Drop)]

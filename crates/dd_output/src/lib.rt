@@ -16,5 +16,5 @@ mod writing;
 pub use fault::CertificateFault;
 pub use output::Output;
 pub use promises::{completes, one_offset, one_output, read_again};
-pub use reading::read_output;
+pub use reading::{MOST_OUTPUT, read_output};
 pub use writing::write_output;

@@ -20,14 +20,11 @@ use crate::fault::{CertificateFault, ReadFault};
 use crate::lexing::{begins, bytes_at, number_at, word_at};
 use crate::output::Output;
 use dd_certificate::{Answer, push_decimal};
-use dd_values::Items;
+use dd_values::{Items, MOST_COMMANDS, MOST_SCRIPT};
 use std::alloc::Global;
 
-/// The greatest number of queries.
-const MOST_QUERIES: u64 = 1000;
-
-/// The greatest length of a script, in bytes.
-const MOST_SCRIPT: u64 = 1_048_576;
+/// The greatest length of an output that is read, in bytes.
+pub const MOST_OUTPUT: usize = 268_435_456;
 
 /// The words before the answer to the query at this place, from 0.
 fn query_word(alloc: Global, place: u64) -> Result<Vec<u8>, ReadFault>
@@ -67,7 +64,7 @@ fn answer_entry(
 ) -> Result<(Option<Answer>, &[u8]), ReadFault>
     ensures { Gives (λ x. (answer_seen x.0, x.1.now)) result (answer_entry place bytes.now) }
 {
-    if place < MOST_QUERIES {
+    if place < MOST_COMMANDS as u64 {
         open_entry(alloc, place, bytes)
     } else {
         let rest = word_at(bytes, b"end\n")?;
@@ -94,7 +91,7 @@ fn answers_of(alloc: Global, bytes: &[u8]) -> Result<(Items<Answer>, &[u8]), Rea
 fn size_of_script(bytes: &[u8]) -> Result<(u64, u8, &[u8]), ReadFault>
     ensures value { Gives (λ x. ((x.0, x.1), x.2.now)) result (number_at 0 most_script 10 10 (λ n. replicate n 0 ++ 10 ∷ end_line) bytes.now) }
 {
-    number_at(bytes, 0, MOST_SCRIPT, b'\n', b'\n')
+    number_at(bytes, 0, MOST_SCRIPT as u64, b'\n', b'\n')
 }
 
 #[tactic(auto, unfolding(crate::specs::reading::Whole::script_at))]

@@ -15,13 +15,10 @@ use crate::session::{refuse, status_of};
 use crate::status::Status;
 use crate::stream::RunFault;
 use dd_certificate::Answer;
-use dd_output::{CertificateFault, Output, one_output, read_output};
+use dd_output::{CertificateFault, MOST_OUTPUT, Output, one_output, read_output};
 use dd_outside::{ReadAllFault, Sink, Source, read_all};
 use dd_script::{Script, parse, spelled_or_refused};
 use std::alloc::{AllocError, Global};
-
-// The greatest number of bytes of an output that is checked.
-const MOST_CHECKED: usize = 268_435_456;
 
 // The status of a check to the end.
 fn checked_status(accepted: bool, answers: &[Answer]) -> Status
@@ -88,7 +85,7 @@ fn check<S: Source, K: Sink>(alloc: Global, source: &mut S, sink: &mut K) -> Sta
     ensures source_faults { S.faults source.old ≤ S.faults source.new }
     ensures sink_faults { K.faults sink.old ≤ K.faults sink.new }
 {
-    match read_all(alloc, source, MOST_CHECKED) {
+    match read_all(alloc, source, MOST_OUTPUT) {
         Ok(bytes) => check_bytes(alloc, &bytes, sink),
         Err(ReadAllFault::TooLong) => refuse(sink, b"refused long\n"),
         Err(ReadAllFault::ReadFault) => Status::ReadFault,

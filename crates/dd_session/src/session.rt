@@ -25,10 +25,8 @@ use dd_outside::{ReadAllFault, Sink, Source, WriteFault, read_all, write_whole};
 use dd_sample::{sample_number, sample_script};
 use dd_sampling::samples_spell;
 use dd_script::{Script, ScriptKind, parse, spelled_or_refused};
+use dd_values::MOST_SCRIPT;
 use std::alloc::{AllocError, Global};
-
-// The greatest number of bytes of a script.
-const MOST_BYTES: usize = 1_048_576;
 
 fn is_text(word: &String, text: &str) -> bool
     ensures { IsTrue result ↔ string_bytes word.now ≡ text.now }
@@ -152,7 +150,7 @@ fn run<S: Source, K: Sink, E: Engine>(
 {
     // Law of a roster that is not asked.
     kept_is_reflexive();
-    match read_all(alloc, source, MOST_BYTES) {
+    match read_all(alloc, source, MOST_SCRIPT) {
         Ok(bytes) => run_bytes(alloc, &bytes, sink, roster),
         Err(ReadAllFault::TooLong) => refuse(sink, b"refused long\n"),
         Err(ReadAllFault::ReadFault) => Status::ReadFault,

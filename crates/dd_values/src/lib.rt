@@ -1,10 +1,12 @@
-//! The plain data of all crates: a list and a box that contracts see as what they hold.
+//! The plain data of all crates: a list and a box that contracts see as what they hold, and limits that several crates keep.
 #![tactic(auto)]
 
+mod bounds;
 mod boxed;
 mod items;
 mod limits;
 
+pub use bounds::{MOST_COMMANDS, MOST_SCRIPT, MOST_WEIGHT};
 pub use boxed::Boxed;
 pub use items::Items;
 pub use limits::Limits;
