@@ -7,5 +7,7 @@ mod rules;
 mod values;
 
 pub use clauses::{broken_clauses, place_clauses, question_clauses};
-pub use rules::{longer_states, patterns, states, window};
+pub use rules::{
+    MOST_LONGER_STATES, MOST_PATTERNS, MOST_STATES, longer_states, patterns, states, window,
+};
 pub use values::differ_clauses;

@@ -1,4 +1,4 @@
-//! Counts of rules.
+//! Counts of rules, and the greatest that may be asked for.
 ghost use Rattle.std.specs.Prelude.{◌≡◌, ◌^◌, ◌<◌, ◌≤◌};
 ghost use Rattle.dd_formula.specs.Counts.{cut};
 ghost use Rattle.dd_counts.specs.Rules.{pattern_count, least_x, greatest_x, slice_span, window, slices, states, longer_states};
@@ -6,6 +6,15 @@ ghost use Rattle.dd_counts.specs.Rules.{pattern_count, least_x, greatest_x, slic
 use crate::arithmetic::power;
 use dd_formula::Rule;
 use dd_lattice::Cell;
+
+/// The greatest number of patterns at a node.
+pub const MOST_PATTERNS: u32 = 65_536;
+
+/// The greatest number of states of a transfer graph.
+pub const MOST_STATES: u32 = 4_096;
+
+/// The greatest number of fillings of one slice more than a state has.
+pub const MOST_LONGER_STATES: u32 = 131_072;
 
 /// The number of ways to fill the cells that the rule reads at a node, or `limit + 1` where it passes the limit, which is
 /// below 2^31.

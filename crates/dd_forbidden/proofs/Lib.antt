@@ -1,5 +1,4 @@
 pub mod Lists
-pub mod Powers
 pub mod ExtensionLaws
 pub mod Steps
 pub mod SettledLaws

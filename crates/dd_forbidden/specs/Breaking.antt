@@ -1,5 +1,5 @@
 -- The fillings of a rule's reads under which the rule is false.
-use Rattle.std.specs.Prelude.{ℕ, ◌^◌, ◌≡◌, ◌&&◌, nat_lt, Bool, true, false, List, [], ◌∷◌, map, length}
+use Rattle.std.specs.Prelude.{ℕ, ◌≡◌, ◌&&◌, nat_lt, Bool, true, false, List, [], ◌∷◌, map}
 use Rattle.std.specs.List.{Contains}
 use Rattle.std.specs.List.Sorted.{IsStrictlySortedBy}
 use Rattle.std.specs.Ordering.{nat_cmp}
@@ -8,6 +8,7 @@ use Rattle.dd_lattice.specs.declared.position.Cell.{Cell}
 use Rattle.dd_pattern.specs.Filling.{Filled, filled, filling_look}
 use Rattle.dd_expansion.specs.Terms.{origin_at}
 use Rattle.dd_formula.specs.LocalRule.{LocalRule, rule_allows, is_true, cells_at}
+use Rattle.dd_counts.specs.Rules.{pattern_count, most_patterns}
 use Rattle.dd_forbidden.specs.declared.fault.ForbiddenFault.{ForbiddenFault}
 use Rattle.dd_forbidden.specs.declared.fault.ForbiddenFault.TheVariants.{Size, Memory}
 
@@ -22,12 +23,9 @@ are_allowed r (c ∷ cs) (s ∷ ss) = rule_allows r c.node s && are_allowed r cs
 abbrev pub is_true_at_origin : LocalRule → ℕ → List ℕ → Bool
 is_true_at_origin r a ss = is_true r (origin_at a) (filling_look (filled (cells_at r a) ss))
 
--- the number of fillings of so many cells with so many symbols passes 65,536
-abbrev pub passes : ℕ → ℕ → Bool
-passes symbols cells = nat_lt 65536 (symbols ^ cells)
-
+-- the cells that the rule reads at the node have more fillings than are looked through
 abbrev pub is_large : LocalRule → ℕ → Bool
-is_large r a = passes r.symbols (length (cells_at r a))
+is_large r a = nat_lt most_patterns (pattern_count r a)
 
 -- symbols for the cells that are read, under which the rule is false
 pub record IsBreaking (r : LocalRule) (a : ℕ) (ss : List ℕ) : Type 0 where

@@ -22,7 +22,7 @@ pub fn forbidden(alloc: Global, rule: &Rule, node: u32) -> Result<Vec<Filling>, 
     ensures ok { IfOk result (λ found. AreBreakingFillings rule.now node found.items) }
     ensures err { IfErr result (IsListingFault rule.now node) }
 {
-    if is_large(rule.symbols(), rule.reads(node).len()) {
+    if is_large(rule, node) {
         return Err(ForbiddenFault::Size);
     }
     let expansion = rule.expansion(node);

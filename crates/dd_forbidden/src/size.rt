@@ -1,22 +1,14 @@
 //! Whether the cells that are read have too many fillings.
-ghost use Rattle.std.specs.Prelude.{◌≡◌, ◌≤◌};
-ghost use Rattle.dd_forbidden.specs.Breaking.{passes};
+ghost use Rattle.std.specs.Prelude.{◌≡◌, ◌<◌};
+ghost use Rattle.dd_forbidden.specs.Breaking.{is_large};
 
-/// The greatest number of fillings of the whole alphabet.
-const MOST_FILLINGS: u32 = 65_536;
+use dd_counts::{MOST_PATTERNS, patterns};
+use dd_formula::Rule;
 
-/// Whether so many cells have more fillings than that.
-pub(crate) fn is_large(symbols: u32, cells: usize) -> bool
-    requires some { 1 ≤ symbols }
-    requires few { symbols ≤ 16 }
-    ensures { result ≡ passes symbols cells }
+/// Whether the cells that the rule reads at the node have more fillings with the whole alphabet than are looked through.
+pub(crate) fn is_large(rule: &Rule, node: u32) -> bool
+    requires { node < rule.now.nodes }
+    ensures { result ≡ is_large rule.now node }
 {
-    let mut fillings = 1;
-    for _ in 0..cells {
-        fillings *= symbols;
-        if fillings > MOST_FILLINGS {
-            return true;
-        }
-    }
-    false
+    patterns(rule, node, MOST_PATTERNS) > MOST_PATTERNS
 }

@@ -8,6 +8,7 @@ use Rattle.dd_formula.specs.Counts.{broken_clauses, largest_clauses}
 use Rattle.dd_formula.specs.ValueCounts.{differ_clauses}
 use Rattle.dd_formula.specs.declared.automaton.Automaton.{Automaton}
 use Rattle.dd_counts.specs.Rules.{pattern_count, states, longer_states}
+pub use Rattle.dd_counts.specs.Rules.{most_patterns, most_states, most_longer_states}
 use Rattle.dd_boxes.specs.Counts.{most_clauses}
 use Rattle.dd_faults.specs.declared.fault.Fault.{Fault}
 use Rattle.dd_faults.specs.declared.fault.Limit.TheVariants as limit
@@ -15,16 +16,6 @@ use Rattle.dd_faults.specs.declared.context.Known.{Known}
 use Rattle.dd_faults.specs.Order.{over}
 use Rattle.dd_query.specs.declared.queries.Query.{Query}
 use Rattle.dd_query.specs.declared.queries.Query.TheVariants as query
-
--- the greatest numbers of patterns at a node, of states of a transfer graph, and of fillings of one slice more
-abbrev pub most_patterns : ℕ
-most_patterns = 65536
-
-abbrev pub most_states : ℕ
-most_states = 4096
-
-abbrev pub most_longer_states : ℕ
-most_longer_states = 131072
 
 -- ---- box questions
 

@@ -10,18 +10,12 @@ ghost use Rattle.dd_query.specs.Sound.{longest_period, IsQueryWithin};
 
 use crate::aims::{anything, breaking, differing, is_long};
 use crate::queries::Query;
-use dd_counts::{longer_states, patterns, states};
+use dd_counts::{
+    MOST_LONGER_STATES, MOST_PATTERNS, MOST_STATES, longer_states, patterns, states,
+};
 use dd_faults::{Known, Limit, Refusal, refuse_if};
 use dd_formula::{Automaton, Rule};
 use std::alloc::Global;
-
-/// The greatest number of patterns at a node.
-const MOST_PATTERNS: u32 = 65_536;
-
-/// The greatest number of states of a transfer graph, and of fillings of one slice more.
-const MOST_STATES: u32 = 4_096;
-
-const MOST_LONGER_STATES: u32 = 131_072;
 
 fn has_many_patterns(rule: &Rule) -> bool
     ensures { result ≡ has_many_patterns rule.now }

@@ -1,5 +1,6 @@
 -- Transfer graphs: from a state an edge by a slice leads to the state whose last slice it is.
 use Rattle.std.specs.Prelude.{◌≡◌, ℕ, ◌+◌, ◌*◌, ◌%◌, ◌<◌, ◌≤◌, ◌^◌, Bool, false, ◌&&◌, cond, nat_lt, List, length, slice_index, slice_index_or, Option, Some, None}
+use Rattle.dd_counts.specs.Rules.{most_states, most_longer_states}
 
 -- a state is a row of slices, with the first as the most significant digit; with a slice more it is a window
 pub record Transfer : Type 0 where
@@ -34,8 +35,8 @@ pub record IsTransfer (g : Transfer) : Type 0 where
   pub weights : length g.weights ≡ g.slices
   pub some_state : 0 < g.states
   pub some_slice : 0 < g.slices
-  pub few : g.states ≤ 4096
-  pub small : g.states * g.slices ≤ 131072
+  pub few : g.states ≤ most_states
+  pub small : g.states * g.slices ≤ most_longer_states
   -- a state's last slice is its number modulo the slices
   pub divides : g.states % g.slices ≡ 0
   -- no walk through each state once is heavier

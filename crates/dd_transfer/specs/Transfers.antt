@@ -4,7 +4,7 @@ use Rattle.std.specs.List.{All}
 use Rattle.dd_values.specs.Bounds.{most_weight}
 use Rattle.dd_pattern.specs.Weight.{total_weight}
 use Rattle.dd_formula.specs.LocalRule.{LocalRule}
-use Rattle.dd_counts.specs.Rules.{slices, states, longer_states}
+use Rattle.dd_counts.specs.Rules.{slices, states, longer_states, most_states, most_longer_states}
 use Rattle.dd_transfer.specs.declared.fault.TransferFault.{TransferFault}
 use Rattle.dd_transfer.specs.declared.fault.TransferFault.TheVariants.{Size, Memory}
 use Rattle.dd_transfer.specs.declared.strip.Strip.{Strip}
@@ -28,13 +28,13 @@ pub record HasWeights (r : LocalRule) (weights : List ℕ) : Type 0 where
 abbrev pub strip_for : LocalRule → List ℕ → Strip
 strip_for r periods = strip_of (slice_index periods 0) (slice_index periods 1) r.nodes
 
--- more than 4,096 states, or more than 131,072 states and slices
+-- too many states, or too many states and slices
 abbrev pub IsTooLarge : LocalRule → Strip → Type 0
-IsTooLarge r s = (4096 < states r (positions s)) ⊎ (131072 < longer_states r (positions s))
+IsTooLarge r s = (most_states < states r (positions s)) ⊎ (most_longer_states < longer_states r (positions s))
 
 -- neither
 abbrev pub IsFew : LocalRule → Strip → Type 0
-IsFew r s = (states r (positions s) ≤ 4096) × (longer_states r (positions s) ≤ 131072)
+IsFew r s = (states r (positions s) ≤ most_states) × (longer_states r (positions s) ≤ most_longer_states)
 
 -- from the state u by the slice t to the state v: the window of u and t is one of the rule, and v is this window without
 -- its first slice

@@ -1,6 +1,6 @@
 //! The transfer graph of a rule over a strip.
 ghost use Rattle.std.specs.Prelude.{◌≡◌, ◌<◌, ◌≤◌, ℕ, IfOk, IfErr, length, slice_index};
-ghost use Rattle.dd_counts.specs.Rules.{slices, states, longer_states};
+ghost use Rattle.dd_counts.specs.Rules.{slices, states, longer_states, most_states, most_longer_states};
 ghost use Rattle.dd_pattern.specs.Weight.{AreWeights, total_weight};
 ghost use Rattle.dd_formula.specs.LocalRule.{IsRule};
 ghost use Rattle.dd_transfer.specs.Windows.{IsFor, AreWindows, cells, digits, positions, shown, window_cells};
@@ -13,14 +13,9 @@ use crate::placing::formulas;
 use crate::standing::stand;
 use crate::strip::Strip;
 use crate::windows::{Window, write_digits};
-use dd_counts::{longer_states, states, window};
+use dd_counts::{MOST_LONGER_STATES, MOST_STATES, longer_states, states, window};
 use dd_formula::Rule;
 use std::alloc::{AllocError, Global};
-
-/// The greatest numbers of states, and of windows, which are states with a slice more.
-const MOST_STATES: u32 = 4096;
-
-const MOST_WINDOWS: u32 = 131_072;
 
 /// The transfer graph of a rule over a strip with these periods in the second and the third axis, where each symbol weighs
 /// as much as its weight says.
@@ -47,8 +42,8 @@ pub fn graph(
     if states > MOST_STATES {
         return Err(TransferFault::Size);
     }
-    let count = longer_states(rule, strip.positions(), MOST_WINDOWS);
-    if count > MOST_WINDOWS {
+    let count = longer_states(rule, strip.positions(), MOST_LONGER_STATES);
+    if count > MOST_LONGER_STATES {
         return Err(TransferFault::Size);
     }
     Ok(graph_of(alloc, rule, strip, weights, states, count)?)
@@ -68,8 +63,8 @@ fn graph_of(
     requires weights { HasWeights rule.now weights.now }
     requires states { most ≡ states rule.now (positions strip) }
     requires count { count ≡ longer_states rule.now (positions strip) }
-    requires few { most ≤ 4096 }
-    requires small { count ≤ 131072 }
+    requires few { most ≤ most_states }
+    requires small { count ≤ most_longer_states }
     ensures { IfOk result (IsGraphOf rule.now strip weights.now) }
 {
     let slices = count / most;

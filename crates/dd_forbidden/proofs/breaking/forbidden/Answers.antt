@@ -1,8 +1,7 @@
-use Rattle.std.proofs.Common.{◌≡◌, ◌++◌, List, [], ℕ, ap, sym, subst, ◌∙◌, map, length}
+use Rattle.std.proofs.Common.{◌≡◌, ◌++◌, List, [], ℕ, ap, sym, subst, ◌∙◌, map}
 use Rattle.dd_lattice.specs.declared.position.Cell.{Cell}
 use Rattle.dd_pattern.specs.Filling.{Filled, filled}
 use Rattle.dd_formula.specs.LocalRule.{cells_at}
-use Rattle.dd_forbidden.specs.Breaking.{passes}
 use Rattle.dd_forbidden.specs.listing.Extensions.{extensions, AreOf}
 use Rattle.dd_forbidden.proofs.ExtensionLaws.{breaking_fillings}
 use Rattle.dd_forbidden.proofs.Steps.{reads_of_nodes, says_kept}
@@ -19,7 +18,7 @@ pub extend-requires-clause-rest : goal.extend-requires-clause-rest
 extend-requires-clause-rest c =
     let r = c.args.rule.now in
     let cells : c.as_slice-cells.result.now ≡ cells_at r c.args.node = c.as_slice-cells.ensures.value ∙ (c.in_ok-listed.ensures.list ∙ c.expansion-expansion.ensures.cells) in
-    subst (AreOf r) (sym cells) (reads_of_nodes r c.symbols.ensures.kept c.args.node c.requires)
+    subst (AreOf r) (sym cells) (reads_of_nodes r c.expansion-expansion.ensures.kept c.args.node c.requires)
 
 pub returns-clause-ok : goal.returns-clause-ok
 returns-clause-ok c =
@@ -33,7 +32,6 @@ returns-clause-ok c =
           ∙ (c.in_ok-extend.ensures.found
           ∙ (ap (λ (fs : List Filled). fs ++ listed c.as_slice-cells.result.now c.new-symbols.result) c.new-found.ensures
           ∙ (ap (λ cs. listed cs c.new-symbols.result) cells ∙ ap (listed (cells_at r a)) c.new-symbols.ensures)));
-      breaking = breaking_fillings r c.symbols.ensures.kept a;
-      few = ap (λ n. passes n (length (cells_at r a))) (sym c.symbols.ensures.value)
-          ∙ (ap (λ (cs : List Cell). passes c.symbols.result (length cs)) (sym c.reads.ensures.value) ∙ (sym c.is_large.ensures ∙ c.if-is_large.false));
+      breaking = breaking_fillings r c.expansion-expansion.ensures.kept a;
+      few = sym c.is_large.ensures ∙ c.if-is_large.false;
     }

@@ -1,8 +1,7 @@
 use Rattle.std.proofs.Common.{◌≡◌, ℕ, Bool, true, false, sym, ◌∙◌, arith}
 use Rattle.std.specs.Prelude.{nat_lt}
 use Rattle.std.proofs.lemmas.Bool.{lt-ltb, le-ltb}
-use Rattle.dd_counts.specs.Rules.{pattern_count}
-use Rattle.dd_query.specs.Limits.{most_patterns}
+use Rattle.dd_counts.specs.Rules.{pattern_count, most_patterns}
 use Rattle.dd_query.proofs.CutLaws.{passes}
 use Rattle.dd_query.proofs.LimitLaws.{none_more, some_at}
 use Rattle.dd_query.proofs.limits.has_many_patterns.Goals as goal

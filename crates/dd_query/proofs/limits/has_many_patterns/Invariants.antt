@@ -1,8 +1,7 @@
 use Rattle.std.proofs.Common.{◌≡◌, false}
 use Rattle.std.specs.Prelude.{nat_lt}
 use Rattle.std.specs.List.{list_any, range_with_len}
-use Rattle.dd_counts.specs.Rules.{pattern_count}
-use Rattle.dd_query.specs.Limits.{most_patterns}
+use Rattle.dd_counts.specs.Rules.{pattern_count, most_patterns}
 use Rattle.dd_query.proofs.limits.has_many_patterns.Given as goal
 
 abbrev pub invariant-loop-node : goal.invariant-loop-node
