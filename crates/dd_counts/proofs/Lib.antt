@@ -1,2 +1,1 @@
-pub mod CutLaws
 pub mod ValueLaws

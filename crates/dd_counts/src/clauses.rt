@@ -2,8 +2,7 @@
 ghost use Rattle.std.specs.Prelude.{◌≡◌, ◌≤◌, ◌^◌, ◌<◌, ℕ, length};
 ghost use Rattle.dd_formula.specs.Counts.{cut, rule_clauses, disallowed, disallowed_pairs, place_clauses, broken_clauses, largest_clauses};
 
-use crate::arithmetic::{cut_off, power, times};
-use dd_formula::{Rule, plus};
+use dd_formula::{Rule, cut_off, plus, power, times};
 
 /// The clauses of the gates of a rule at all its nodes.
 fn rule_clauses(rule: &Rule, limit: u32) -> u32

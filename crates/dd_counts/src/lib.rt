@@ -1,7 +1,6 @@
 //! How much work a question takes, each count cut off past a limit.
 #![tactic(auto)]
 
-mod arithmetic;
 mod clauses;
 mod rules;
 mod values;

@@ -3,8 +3,7 @@ ghost use Rattle.std.specs.Prelude.{◌≡◌, ◌^◌, ◌<◌, ◌≤◌};
 ghost use Rattle.dd_formula.specs.Counts.{cut};
 ghost use Rattle.dd_counts.specs.Rules.{pattern_count, least_x, greatest_x, slice_span, window, slices, states, longer_states};
 
-use crate::arithmetic::power;
-use dd_formula::Rule;
+use dd_formula::{Rule, power};
 use dd_lattice::Cell;
 
 /// The greatest number of patterns at a node.

@@ -6,8 +6,7 @@ ghost use Rattle.dd_formula.specs.Counts.{cut};
 ghost use Rattle.dd_formula.specs.Compositions.{HaveNodes};
 ghost use Rattle.dd_formula.specs.ValueCounts.{given_clauses, value_clauses, differ_at, differ_clauses};
 
-use crate::arithmetic::cut_off;
-use dd_formula::{Automaton, Cases, plus};
+use dd_formula::{Automaton, Cases, cut_off, plus};
 use dd_lattice::Cell;
 use std::alloc::{AllocError, Global};
 

@@ -1,11 +1,39 @@
 //! Counts that are cut off: past a limit, each is the first number over the limit.
-ghost use Rattle.std.specs.Prelude.{◌≡◌, ◌+◌, ◌^◌, ◌<◌};
+ghost use Rattle.std.specs.Prelude.{◌≡◌, ◌+◌, ◌*◌, ◌^◌, ◌<◌};
 ghost use Rattle.dd_formula.specs.Counts.{cut};
 
-/// The sum, cut off.
+/// The count, or `limit + 1` where it passes the limit, which is below 2^31.
+pub fn cut_off(limit: u32, count: u64) -> u32
+    requires { limit < 2 ^ 31 }
+    ensures { result ≡ cut limit count }
+{
+    count.min(limit as u64 + 1) as u32
+}
+
+/// The sum, or `limit + 1` where it passes the limit, which is below 2^31.
 pub fn plus(limit: u32, a: u32, b: u32) -> u32
     requires { limit < 2 ^ 31 }
     ensures { result ≡ cut limit (a + b) }
 {
-    (a as u64 + b as u64).min(limit as u64 + 1) as u32
+    cut_off(limit, a as u64 + b as u64)
+}
+
+/// The product, or `limit + 1` where it passes the limit, which is below 2^31.
+pub fn times(limit: u32, a: u32, b: u32) -> u32
+    requires { limit < 2 ^ 31 }
+    ensures { result ≡ cut limit (a * b) }
+{
+    cut_off(limit, a as u64 * b as u64)
+}
+
+/// The power, or `limit + 1` where it passes the limit, which is below 2^31.
+pub fn power(limit: u32, base: u32, exponent: u64) -> u32
+    requires { limit < 2 ^ 31 }
+    ensures { result ≡ cut limit (base ^ exponent) }
+{
+    let mut value = cut_off(limit, 1);
+    for _ in 0..exponent {
+        value = times(limit, value, base);
+    }
+    value
 }

@@ -15,7 +15,7 @@ mod shifting;
 mod values;
 
 pub use automaton::{Automaton, Cases};
-pub use counts::plus;
+pub use counts::{cut_off, plus, power, times};
 pub use dd_expansion::{BallOf, Expanded, Formula, Term};
 pub use fault::RuleFault;
 pub use lives::Membership;

@@ -1,6 +1,6 @@
 use Rattle.std.proofs.Common.{◌≡◌, ◌+◌, ◌*◌, ◌^◌, ℕ, max, ap, ◌∙◌, arith}
 use Rattle.dd_formula.specs.Counts.{cut, place_clauses, largest_region}
-use Rattle.dd_counts.proofs.CutLaws.{cut_times_left, cut_times_right}
+use Rattle.dd_formula.specs.lemmas.Cuts.{cut_times_left, cut_times_right}
 use Rattle.dd_counts.proofs.clauses.question_clauses.Goals as goal
 
 larger : (l a b m x y : ℕ) → a ≡ cut l x → b ≡ cut l y → m ≡ max a b → m ≡ cut l (max x y)

@@ -1,5 +1,5 @@
-use Rattle.dd_counts.proofs.CutLaws.{power_more}
-use Rattle.dd_counts.proofs.arithmetic.power.Goals as goal
+use Rattle.dd_formula.specs.lemmas.Cuts.{power_more}
+use Rattle.dd_formula.proofs.counts.power.Goals as goal
 
 pub loop-preserved : goal.loop-preserved
 loop-preserved c =
