@@ -7,7 +7,7 @@ ghost use Rattle.dd_certificate.specs.Bounds.{IsWritable};
 ghost use Rattle.dd_script.specs.Asking.{IsNarrow};
 ghost use Rattle.dd_checker.specs.Bounds.{IsStripCertificate};
 
-use crate::numbers::{is_denominator, is_list, is_number, is_short, is_signed_list};
+use crate::numbers::{has_writable_length, is_denominator, is_list, is_number, is_signed_list};
 use dd_certificate::Answer;
 use dd_density::{check_density, check_empty};
 use dd_formula::Rule;
@@ -23,7 +23,7 @@ fn is_writable(numerator: u64, denominator: u64, cycle: &[u64], potentials: &[i6
     if !is_denominator(denominator) {
         return false;
     }
-    if !is_short(cycle) {
+    if !has_writable_length(cycle) {
         return false;
     }
     if !is_list(cycle) {

@@ -78,8 +78,8 @@ pub(crate) fn is_signed_list(numbers: &[i64]) -> bool
     are_small_signed(numbers)
 }
 
-/// Not too many.
-pub(crate) fn is_short(numbers: &[u64]) -> bool
+/// Whether an output can hold how many they are.
+pub(crate) fn has_writable_length(numbers: &[u64]) -> bool
     ensures { IsTrue result ↔ (length numbers.now ≤ most_number) }
 {
     numbers.len() as u64 <= MOST_NUMBER

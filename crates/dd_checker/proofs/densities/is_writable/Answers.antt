@@ -9,8 +9,8 @@ returns-then-not-is_number c = nothing_holds _ (λ w. false≢true (sym c.if-not
 pub returns-then-not-is_denominator : goal.returns-then-not-is_denominator
 returns-then-not-is_denominator c = nothing_holds _ (λ w. false≢true (sym c.if-not-is_denominator.true ∙ c.is_denominator.ensures.1 w.1))
 
-pub returns-then-not-is_short : goal.returns-then-not-is_short
-returns-then-not-is_short c = nothing_holds _ (λ w. false≢true (sym c.if-not-is_short.true ∙ c.is_short.ensures.1 w.2))
+pub returns-then-not-has_writable_length : goal.returns-then-not-has_writable_length
+returns-then-not-has_writable_length c = nothing_holds _ (λ w. false≢true (sym c.if-not-has_writable_length.true ∙ c.has_writable_length.ensures.1 w.2))
 
 pub returns-then-not-is_list : goal.returns-then-not-is_list
 returns-then-not-is_list c = nothing_holds _ (λ w. false≢true (sym c.if-not-is_list.true ∙ c.is_list.ensures.1 w.3))
@@ -21,7 +21,7 @@ returns c = (
       (let signed = c.is_signed_list.ensures.0 h in (
         c.is_number.ensures.0 c.if-not-is_number.false,
         c.is_denominator.ensures.0 c.if-not-is_denominator.false,
-        c.is_short.ensures.0 c.if-not-is_short.false,
+        c.has_writable_length.ensures.0 c.if-not-has_writable_length.false,
         c.is_list.ensures.0 c.if-not-is_list.false,
         signed.0,
         signed.1,
