@@ -8,7 +8,7 @@ ghost use Rattle.dd_lattice.specs.Cells.{shifted};
 ghost use Rattle.dd_lattice.specs.Order.{cell_cmp};
 ghost use Rattle.dd_lattice.specs.declared.position.Cell.{Cell};
 ghost use Rattle.dd_topology.specs.Topology.{extent};
-ghost use Rattle.dd_formula.specs.LocalRule.{is_near};
+ghost use Rattle.dd_formula.specs.LocalRule.{is_near, most_reach};
 ghost use Rattle.dd_formula.specs.Automata.{counted};
 ghost use Rattle.dd_formula.specs.ValueCounts.{value_clauses};
 ghost use Rattle.dd_circuit.specs.Circuits.{IsSignal, size};
@@ -163,7 +163,7 @@ fn compile_inner(
 /// The cell that is counted from a position.
 fn cell_near(cell: &dd_lattice::Cell, at: &Position) -> dd_lattice::Cell
     requires near { is_near cell.now ≡ true }
-    requires inside { extent at.now ≤ most_coordinate - 16 }
+    requires inside { extent at.now ≤ most_coordinate - most_reach }
     ensures { result ≡ shifted at.now cell.now }
 {
     let Some(position) = shift(&cell.position, at) else {

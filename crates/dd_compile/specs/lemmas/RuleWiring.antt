@@ -1,5 +1,5 @@
 -- Where the reads of a rule have their signals, each leaf of its expansion has its wire.
-use Rattle.std.proofs.Common.{◌≡◌, ◌<◌, ◌≤◌, ◌+◌, ℕ, zero, suc, Bool, true, false, List, [], ◌∷◌, length, refl, ap, ◌∙◌, arith, Some, None}
+use Rattle.std.proofs.Common.{◌≡◌, ◌<◌, ◌≤◌, ◌+◌, ◌-◌, ℕ, zero, suc, Bool, true, false, List, [], ◌∷◌, length, refl, ap, ◌∙◌, arith, Some, None}
 use Rattle.std.specs.Prelude.{◌==◌, ◌&&◌, if◌then◌else◌, Option, nat_lt, slice_get}
 use Rattle.std.specs.List.{list_all}
 use Rattle.std.proofs.lemmas.Int.{ints}
@@ -11,7 +11,7 @@ use Rattle.dd_lattice.specs.lemmas.RangeLaws.{test_from_in_range}
 use Rattle.dd_topology.specs.Topology.{extent}
 use Rattle.dd_expansion.specs.Leaves.{LeafTest, leaves_pass}
 use Rattle.dd_expansion.specs.lemmas.LeafLaws.{leaves_weaken, leaves_both}
-use Rattle.dd_formula.specs.LocalRule.{LocalRule, IsRule, is_near, reads_at, cells_at, expansion_at}
+use Rattle.dd_formula.specs.LocalRule.{LocalRule, IsRule, is_near, most_reach, reads_at, cells_at, expansion_at}
 use Rattle.dd_formula.specs.lemmas.RuleLaws.{leaves_pass_reads, cells_pass_reads}
 use Rattle.dd_circuit.specs.declared.gates.Signal.{Signal}
 use Rattle.dd_compile.specs.Wiring.{Wiring, signal_for, signals_of}
@@ -29,9 +29,9 @@ in_range p h =
     test_from_in_range p (x, y, z)
 
 -- what a rule reads near a place of this extent is in the range of positions
-pub near_in_range : (v : Place) (d : Cell) → extent v ≤ 1048560 → is_near d ≡ true → is_in_range (moved d.position v) ≡ true
+pub near_in_range : (v : Place) (d : Cell) → extent v ≤ most_coordinate - most_reach → is_near d ≡ true → is_in_range (moved d.position v) ≡ true
 near_in_range v d inner near =
-    let close = leb-true (extent d.position) 16 near in
+    let close = leb-true (extent d.position) most_reach near in
     in_range (moved d.position v) (omega (arith, extent_moved d.position v, close, inner))
 
 signal_at : (n : ℕ) (ss : List Signal) (i : ℕ) → i < length ss → list_all (is_signal n) ss ≡ true → is_wire n (slice_get ss i) ≡ true
@@ -47,7 +47,7 @@ symbol_wired n k (Some ss) s h below =
     let within = ltb-true s k below in
     signal_at n ss s (omega (arith, long, within)) both.1
 
-leaf_wired : (n k : ℕ) (w : Wiring) (v : Place) (d : Cell) (s : ℕ) → extent v ≤ 1048560 → (are_signals n k (signals_of w (shifted v d)) && (is_near d && nat_lt s k)) ≡ true →
+leaf_wired : (n k : ℕ) (w : Wiring) (v : Place) (d : Cell) (s : ℕ) → extent v ≤ most_coordinate - most_reach → (are_signals n k (signals_of w (shifted v d)) && (is_near d && nat_lt s k)) ≡ true →
     is_wire n (wires_near w v d s) ≡ true
 leaf_wired n k w v d s inner h =
     let all = and_parts (are_signals n k (signals_of w (shifted v d))) (is_near d && nat_lt s k) h in
@@ -55,7 +55,7 @@ leaf_wired n k w v d s inner h =
     let there = near_in_range v d inner rest.0 in
     rw there (symbol_wired n k (signals_of w (shifted v d)) s all.0 rest.1)
 
-module _ (n : ℕ) (w : Wiring) (r : LocalRule) (rule : IsRule r) (c : Cell) (exists : c.node < r.nodes) (inner : extent c.position ≤ 1048560) where
+module _ (n : ℕ) (w : Wiring) (r : LocalRule) (rule : IsRule r) (c : Cell) (exists : c.node < r.nodes) (inner : extent c.position ≤ most_coordinate - most_reach) where
   pub leaves_wired : are_reads_wired n w r c ≡ true → are_wired n (wires_near w c.position) (expansion_at r c.node) ≡ true
   leaves_wired h =
       let e = expansion_at r c.node in
@@ -69,7 +69,7 @@ module _ (n : ℕ) (w : Wiring) (r : LocalRule) (rule : IsRule r) (c : Cell) (ex
       leaves_weaken e (λ d s. signals d s && (near d s && known d s)) (λ d s. is_wire n (wires_near w c.position d s)) (λ d s. leaf_wired n r.symbols w c.position d s inner) three
 
 -- a test behind the test of the range, of cells near the origin
-in_range_all : (v : Place) → extent v ≤ 1048560 → (test : Cell → Bool) (ds : List Cell) → list_all is_near ds ≡ true →
+in_range_all : (v : Place) → extent v ≤ most_coordinate - most_reach → (test : Cell → Bool) (ds : List Cell) → list_all is_near ds ≡ true →
     list_all (λ d. if is_in_range (moved d.position v) then test d else false) ds ≡ list_all test ds
 in_range_all v inner test [] near = refl
 in_range_all v inner test (d ∷ ds) near =
@@ -78,7 +78,7 @@ in_range_all v inner test (d ∷ ds) near =
     rw there (ap (λ b. test d && b) (in_range_all v inner test ds both.1))
 
 -- the same of the cells that a rule reads
-pub tested_reads : (r : LocalRule) → IsRule r → (c : Cell) → c.node < r.nodes → extent c.position ≤ 1048560 → (test : Cell → Bool) (cs : List Cell) → cs ≡ cells_at r c.node →
+pub tested_reads : (r : LocalRule) → IsRule r → (c : Cell) → c.node < r.nodes → extent c.position ≤ most_coordinate - most_reach → (test : Cell → Bool) (cs : List Cell) → cs ≡ cells_at r c.node →
     list_all (λ d. if is_in_range (moved d.position c.position) then test d else false) cs ≡ list_all test (reads_at r c.node)
 tested_reads r rule c exists inner test cs is =
     ap (list_all (λ d. if is_in_range (moved d.position c.position) then test d else false)) is
