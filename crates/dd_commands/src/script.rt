@@ -165,7 +165,7 @@ fn command_from(
 }
 
 fn commands(alloc: Global, bytes: &[u8], tokens: &[Lexeme]) -> Result<Items<Written>, SyntaxFault>
-    requires { length tokens.now ≤ 1048577 }
+    requires { length tokens.now ≤ most_script + 1 }
     ensures { Told bytes.now tokens.now result }
 {
     if part_length(tokens) > 0 {

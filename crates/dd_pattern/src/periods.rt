@@ -5,8 +5,9 @@ ghost use Rattle.std.specs.Cmp.{partial_order_from_own_ties};
 ghost use Rattle.std.specs.Cmp.Rules.{comparing};
 ghost use Rattle.std.specs.List.Sorted.{IsStrictlySortedBy};
 ghost use Rattle.std.specs.Ordering.{as_partial_cmp};
-ghost use Rattle.dd_lattice.specs.Place.{IsCoordinateInRange};
+ghost use Rattle.dd_lattice.specs.Place.{IsCoordinateInRange, most_coordinate};
 ghost use Rattle.dd_pattern.specs.Periods.{residue, quotient, periods_volume, periods_cmp, AreAllWithin};
+ghost use Rattle.dd_pattern.specs.Tile.{most_symbols};
 ghost use Rattle.dd_pattern.specs.listing.Adding.{IsAdded, HasShear, HasRow, HasPlane, most_along};
 
 use std::alloc::{AllocError, Global};
@@ -143,7 +144,7 @@ pub(crate) fn residue(x: i64, n: u32) -> u32
 /// A coordinate divided by `n`, rounded down.
 pub(crate) fn quotient(x: i32, n: u32) -> i32
     requires some { 0 < n }
-    requires small { n ≤ 65536 }
+    requires small { n ≤ most_symbols }
     ensures value { result ≡ quotient x n }
     ensures small { unsigned_abs result ≤ unsigned_abs x + 1 }
 {
@@ -153,8 +154,8 @@ pub(crate) fn quotient(x: i32, n: u32) -> i32
 /// The coordinate along x once the second period vector has been taken away so often.
 pub(crate) fn unsheared(x: i32, turns: i32, shear: u32) -> i64
     requires near { IsCoordinateInRange x }
-    requires turns { unsigned_abs turns ≤ 1048577 }
-    requires small { shear ≤ 65536 }
+    requires turns { unsigned_abs turns ≤ most_coordinate + 1 }
+    requires small { shear ≤ most_symbols }
     ensures { result ≡ x -ℤ turns *ℤ pos shear }
 {
     x as i64 - turns as i64 * shear as i64

@@ -2,6 +2,7 @@
 use Rattle.std.proofs.Common.{◌≡◌, ℕ, zero, suc, ◌+◌, ◌*◌, ◌≤◌, List, ◌++◌, length, codes, decimal, refl, arith, length-append}
 use Rattle.std.specs.List.{repeat}
 use Rattle.std.proofs.lemmas.Fmt.{length-decimal-le_succ}
+use Rattle.dd_values.specs.Bounds.{most_script}
 use Rattle.dd_sample.specs.Sample.{IsSampleNumber, rules_text, queries_text, sample_text}
 
 -- at most as long as it is
@@ -16,7 +17,7 @@ repeated : (n : ℕ) (xs : List ℕ) → length xs ≡ 8 → length (repeat n xs
 repeated zero xs is = omega arith
 repeated (suc n) xs is = omega (arith, length-append xs (repeat n xs), is, repeated n xs is)
 
-within : (n most : ℕ) → n ≤ most → most ≤ 1048576 → n ≤ 1048576
+within : (n most : ℕ) → n ≤ most → most ≤ most_script → n ≤ most_script
 within n most few limit = omega (arith, few, limit)
 
 -- ---- from the end of the sample to its beginning
@@ -43,7 +44,7 @@ height_fits number few =
     (length-decimal-le_succ (2 * number) (omega (arith, few)))
     (joined (codes "]") (from_symbols number) 1 (8 * number + 152) (fits (codes "]") 1 refl) (symbols_fit number))
 
-pub sample_fits : (number : ℕ) → IsSampleNumber number → length (sample_text number) ≤ 1048576
+pub sample_fits : (number : ℕ) → IsSampleNumber number → length (sample_text number) ≤ most_script
 unfolding sample_text
 sample_fits number is =
     within (length (rules_text ++ (codes "%conf c [2 " ++ from_height number))) (170 + (11 + (2 * number + 1 + (1 + (8 * number + 152)))))

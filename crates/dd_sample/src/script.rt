@@ -1,5 +1,6 @@
 // The text of a sample script.
 ghost use Rattle.std.specs.Prelude.{IfOk, ◌≡◌, ◌≤◌, length};
+ghost use Rattle.dd_values.specs.Bounds.{most_script};
 ghost use Rattle.dd_sample.specs.Sample.{IsSampleNumber, sample_text};
 
 use std::alloc::{AllocError, Global};
@@ -11,7 +12,7 @@ use std::alloc::{AllocError, Global};
 pub fn sample_script(alloc: Global, number: u32) -> Result<Vec<u8>, AllocError>
     requires { IsSampleNumber number }
     ensures value { IfOk result (λ text. text.items ≡ sample_text number) }
-    ensures fits { length (sample_text number) ≤ 1_048_576 }
+    ensures fits { length (sample_text number) ≤ most_script }
 {
     let height = 2 * number;
     let symbols = " 1 0 0 1".repeat(alloc, number as usize)?;

@@ -1,6 +1,7 @@
 -- Digits whose value is cut off, and how many tokens there are.
 use Rattle.std.proofs.Common.{◌≡◌, ℕ, zero, suc, ◌+◌, ◌-◌, ◌*◌, ◌≤◌, ◌<◌, List, [], ◌∷◌, ◌++◌, length, map, min, drop, get_or, sym, ap, ◌∙◌, arith}
 use Rattle.std.proofs.lemmas.List.{length-append, length-map, drop_more}
+use Rattle.dd_values.specs.Bounds.{most_script}
 use Rattle.dd_tokens.specs.declared.piece.Piece.{Piece}
 use Rattle.dd_tokens.specs.declared.piece.Piece.TheVariants.{Gap, Cut, Fault}
 use Rattle.dd_tokens.specs.declared.token.Tokens.{Tokens}
@@ -38,8 +39,8 @@ pub decimal_more : (digits : List ℕ) (i old new total : ℕ) → i < length di
 decimal_more digits i old new total lt made so_far =
     (omega (arith, made), decimal_next old new (get_or digits i 0) (drop (i + 1) digits) total made (ap (λ (ds : List ℕ). min (decimal old ds) 4294967295) (sym (drop_more digits i 0 lt)) ∙ so_far))
 
-pub few_made : (bytes : List ℕ) (t : Tokens) (made : List Lexeme) → t ≡ tokens_of bytes → made ≡ map (lexeme_of bytes) t.list → length bytes ≤ 1048576 → length made ≤ 1048576
+pub few_made : (bytes : List ℕ) (t : Tokens) (made : List Lexeme) → t ≡ tokens_of bytes → made ≡ map (lexeme_of bytes) t.list → length bytes ≤ most_script → length made ≤ most_script
 few_made bytes t made cut is few = omega (arith, ap length is, length-map t.list (lexeme_of bytes), ap (λ (u : Tokens). length u.list) cut, few_tokens bytes, few)
 
-pub one_more_few : (made : List Lexeme) (t : Lexeme) (new : List Lexeme) → new ≡ made ++ t ∷ [] → length made ≤ 1048576 → length new ≤ 1048577
+pub one_more_few : (made : List Lexeme) (t : Lexeme) (new : List Lexeme) → new ≡ made ++ t ∷ [] → length made ≤ most_script → length new ≤ most_script + 1
 one_more_few made t new pushed few = omega (arith, ap length pushed, length-append made (t ∷ []), few)

@@ -108,7 +108,7 @@ fn lexemes_in(alloc: Global, bytes: &[u8], list: &[Token]) -> Result<Items<Lexem
 pub fn lexemes(alloc: Global, bytes: &[u8]) -> Result<Items<Lexeme>, AllocError>
     requires { length bytes.now ≤ most_script }
     ensures value { IfOk result (λ lexemes. lexemes ≡ lexemes_of bytes.now) }
-    ensures few { IfOk result (λ lexemes. length lexemes ≤ 1048577) }
+    ensures few { IfOk result (λ lexemes. length lexemes ≤ most_script + 1) }
 {
     let cut = tokens(alloc, bytes)?;
     let mut lexemes = lexemes_in(alloc, bytes, cut.list.as_slice())?;
