@@ -1,7 +1,8 @@
-// The clauses of a small question, worked out by hand.
+// The clauses of a small question and the numbers of those of larger ones, worked out by hand.
 use crate::questions::clauses_of;
 use crate::scripts::script_of;
 use dd_clause::{Clause, Cnf};
+use dd_counts::question_clauses;
 use dd_problem::Goal;
 use dd_script::Script;
 use std::alloc::{AllocError, Global};
@@ -32,15 +33,82 @@ fn emptiness(alloc: Global, script: &str) -> Result<Cnf, Fail> {
     emptiness_of(alloc, &script)
 }
 
+/// No cell has both symbols.
+const BOTH: &str = "%dim 1 %rule x o=0 & o=1";
+
 #[test]
 fn no_cell_has_two_symbols(rt: HostRuntime) -> Result<(), Fail> {
     let alloc = rt.alloc();
-    let cnf = emptiness(alloc, "%dim 1 %rule x o=0 & o=1")?;
+    let cnf = emptiness(alloc, BOTH)?;
     assert_eq!(rt; cnf.variables(), 3);
     let wanted: [&[i64]; 6] = [&[1, 2], &[-1, -2], &[-3, 1], &[-3, 2], &[3, -1, -2], &[3]];
     assert_eq!(rt; cnf.clauses().len(), wanted.len());
     for (clause, wanted) in cnf.clauses().iter().zip(wanted) {
         assert_eq!(rt; numbers(alloc, clause)?.as_slice(), wanted);
+    }
+    assert_eq!(rt; size(alloc, BOTH, 0, 0, 1)? as usize, wanted.len());
+    Ok(())
+}
+
+/// How many clauses are counted for a question about the script's rule, up to a radius and a period.
+fn size_of(script: &Script, goal: u32, radius: u32, period: u32) -> Result<u32, Fail> {
+    if radius > 8 {
+        return Err("a radius".into());
+    }
+    let rule = script.rules().first().ok_or("a rule")?;
+    Ok(question_clauses(rule, goal, radius, period, 2_000_000))
+}
+
+fn size(alloc: Global, script: &str, goal: u32, radius: u32, period: u32) -> Result<u32, Fail> {
+    let script = script_of(alloc, &[script])?;
+    size_of(&script, goal, radius, period)
+}
+
+/// A script with a rule, how many clauses the goal takes, a radius, a period, and how many clauses the question has on its largest
+/// box or torus: there are `2 * radius + 1` or `period` positions along each axis, whichever are more. At each cell of each position one
+/// clause says that it has a symbol, one for each two symbols that it has not both, one for each symbol that its node doesn't
+/// allow that it hasn't that, and one that the rule is true there. To these the gates of the rule come: a gate over `k`
+/// parts has `k + 1` clauses, one that two parts are alike has 4, and no clause is left out where a cell lies at the edge.
+const SIZES: [(&str, u32, u32, u32, u32); 18] = [
+    // 1 + 1 + 1 of a cell, and a gate over two parts.
+    (BOTH, 0, 0, 1, 6),
+    (BOTH, 0, 1, 1, 18),
+    (BOTH, 0, 1, 4, 24),
+    // Nothing but a symbol is asked for, so there is no gate; a negation is none either.
+    ("%dim 1 %rule x o=1", 0, 8, 8, 51),
+    ("%dim 1 %rule x !(o.rt=1)", 0, 0, 8, 24),
+    // An implication is a gate over two parts, of which one is a gate over two: 3 + 3 + 3 on each of 9, 16 and 25 positions.
+    ("%rule x o=1 -> (o.rt=0 & o.up=0)", 0, 1, 3, 81),
+    ("%rule x o=1 -> (o.rt=0 & o.up=0)", 7, 1, 4, 151),
+    ("%rule x o=1 -> (o.rt=0 & o.up=0)", 7, 2, 4, 232),
+    ("%dim 1 %rule x o=1 <-> o.rt=1", 0, 1, 1, 21),
+    // A cell and its neighbour have both the symbol 0, both 1 or both 2: three gates over two and one over these, beside 1 + 3 + 1.
+    ("%dim 1 %alphabet 0 1 2 %rule x o.rt=o", 0, 0, 2, 36),
+    // One of three symbols isn't allowed: 1 + 3 + 1 + 1.
+    ("%dim 1 %alphabet 0 1 2 %only 0 0 2 %rule x o!=1", 0, 8, 8, 102),
+    // The second node has no such move, and a constant is a gate over nothing: 2 * 3 + 1.
+    (
+        "%dim 1 %nodes a b %topology (x a [0] b) (y b [0] a) %rule x o.x=1",
+        0,
+        1,
+        2,
+        21,
+    ),
+    // A cell and its neighbours are 4, 5 and 7: two gates over 4 beside 2 * 3, or one over 5 or 7 beside 3.
+    ("%topology hex %rule x Ep[o1] p=1", 0, 1, 3, 144),
+    ("%rule x Ep[o1] p=1", 1, 8, 8, 2602),
+    ("%dim 3 %rule x Ep[o1] p=1", 0, 1, 4, 704),
+    ("%dim 3 %rule x Ep[o1] p=1", 0, 8, 8, 54_043),
+    // The last that passes no limit, and one past it: a ball of 63 cells, at each two gates over two and one over these, beside 64 and 3.
+    ("%dim 3 %rule x Ap[o3] p=1", 1_670_829, 8, 8, 2_000_000),
+    ("%dim 3 %rule x Ap[o3] p=o", 0, 8, 8, 2_000_001),
+];
+
+#[test]
+fn questions_have_so_many_clauses(rt: HostRuntime) -> Result<(), Fail> {
+    for (script, goal, radius, period, wanted) in SIZES {
+        let size = size(rt.alloc(), script, goal, radius, period)?;
+        assert_eq!(rt; size, wanted, "{script} {goal} {radius} {period}");
     }
     Ok(())
 }
