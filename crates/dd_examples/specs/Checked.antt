@@ -3,11 +3,15 @@ use Rattle.std.specs.Prelude.{◌≡◌, ℕ, ◌-◌, ◌≤◌, List, length, 
 use Rattle.std.specs.List.{slice_get}
 use Rattle.dd_certificate.specs.declared.answer.Answer.{Answer}
 use Rattle.dd_output.specs.declared.output.Output.{Output}
-use Rattle.dd_output.specs.Outputs.{output_text}
+use Rattle.dd_output.specs.Outputs.{output_text, IsWritableOutput}
+use Rattle.dd_output.specs.Offsets.{IsOutputFault}
+use Rattle.dd_script.specs.declared.fault.ScriptFault.{ScriptFault}
 use Rattle.dd_script.specs.Parts.{Parts}
-use Rattle.dd_script.specs.Scripts.{Spells}
+use Rattle.dd_script.specs.Scripts.{Spells, IsScriptRefusal}
 use Rattle.dd_checker.specs.Certificates.{IsCertificate}
 use Rattle.dd_checker.specs.Claims.{Claim}
+use Rattle.dd_examples.specs.declared.checking.Unchecked.{Unchecked}
+use Rattle.dd_examples.specs.declared.checking.Unchecked.TheVariants as unchecked
 
 -- the answer is a certificate of the query with this number, from 1, and what it claims is true
 pub record IsRight (s : Parts) (number : ℕ) (a : Answer) : Type 0 where
@@ -38,3 +42,16 @@ pub record IsJudgedText (bytes : List ℕ) (accepted : Bool) : Type 0 where
   pub output : Output
   pub text : bytes ≡ output_text output
   pub judged : IsJudged output accepted
+
+-- the bytes are the text of an output within bounds, whose script is refused so, or memory was wanting for it
+pub record HasRefusedScript (bytes : List ℕ) (fault : ScriptFault) : Type 0 where
+  pub output : Output
+  pub bounds : IsWritableOutput output
+  pub text : bytes ≡ output_text output
+  pub refused : IsScriptRefusal output.script fault
+
+-- why bytes have no verdict: they are no output, with the offset where they stop being one, or memory was wanting to read them; else
+-- their script is refused
+abbrev pub IsUnchecked : List ℕ → Unchecked → Type 0
+IsUnchecked bytes (unchecked.Output fault) = IsOutputFault bytes fault
+IsUnchecked bytes (unchecked.Script fault) = HasRefusedScript bytes fault

@@ -1,7 +1,8 @@
 //! An output, read and checked: whether each of its answers is a certificate.
-ghost use Rattle.std.specs.Prelude.{◌+◌, ◌<◌, length, IsTrue, ◌↔◌, IfOk};
+ghost use Rattle.std.specs.Prelude.{◌+◌, ◌<◌, length, IsTrue, ◌↔◌, IfOk, IfErr};
 ghost use Rattle.dd_output.specs.Outputs.{IsWritableOutput};
-ghost use Rattle.dd_examples.specs.Checked.{IsRight, AreRight, IsJudged, IsJudgedText};
+ghost use Rattle.dd_script.specs.Scripts.{IsScriptRefusal};
+ghost use Rattle.dd_examples.specs.Checked.{IsRight, AreRight, IsJudged, IsJudgedText, IsUnchecked};
 
 use dd_certificate::Answer;
 use dd_checker::{Verdict, check_answer};
@@ -57,7 +58,8 @@ pub fn are_right(alloc: Global, script: &Script, answers: &[Answer]) -> Result<b
 /// Whether the answers of an output are right, or why its script is none.
 fn judged(alloc: Global, output: &Output) -> Result<bool, ScriptFault>
     requires { IsWritableOutput output.now }
-    ensures { IfOk result (IsJudged output.now) }
+    ensures judged { IfOk result (IsJudged output.now) }
+    ensures refused { IfErr result (IsScriptRefusal output.now.script) }
 {
     let script = parse(alloc, output.script.as_slice())?;
     match are_right(alloc, &script, output.answers.as_slice()) {
@@ -71,7 +73,8 @@ fn judged(alloc: Global, output: &Output) -> Result<bool, ScriptFault>
 
 /// Whether the bytes are an output with a right answer to each query of its script, or why they are no output of a script.
 pub fn checked(alloc: Global, bytes: &[u8]) -> Result<bool, Unchecked>
-    ensures { IfOk result (IsJudgedText bytes.now) }
+    ensures judged { IfOk result (IsJudgedText bytes.now) }
+    ensures refused { IfErr result (IsUnchecked bytes.now) }
 {
     match read_output(alloc, bytes) {
         Ok(output) => match judged(alloc, &output) {
