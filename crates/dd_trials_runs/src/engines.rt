@@ -1,4 +1,4 @@
-// Engines for runs, of which most are no good.
+//! Engines for runs, of which most are no good.
 ghost use Rattle.std.specs.Prelude.{false};
 
 use crate::runs::words_of;
@@ -13,7 +13,7 @@ use std::alloc::{AllocError, Global};
 
 /// What a fake engine proposes when it is asked.
 #[derive(Clone, Copy, Debug)]
-pub(crate) enum Habit {
+pub enum Habit {
     /// Nothing.
     Silent,
     /// A refutation without steps.
@@ -111,20 +111,22 @@ impl Engine for Fake {
 
 /// A member of a roster.
 #[derive(Clone, Copy, Debug)]
-pub(crate) enum Member {
+pub enum Member {
+    /// One that proposes what its habit is.
     Fake(Habit),
     Propagator,
+    /// One of so many flips.
     Walker(u32),
 }
 
 /// No engines at all.
-pub(crate) const NO_ENGINES: &[Member] = &[];
+pub const NO_ENGINES: &[Member] = &[];
 
 /// The engines of the program.
-pub(crate) const OF_PROGRAM: &[Member] = &[Member::Propagator, Member::Walker(10_000)];
+pub const OF_PROGRAM: &[Member] = &[Member::Propagator, Member::Walker(10_000)];
 
 /// The status of a session of one word over these bytes with these engines, and how many engines are left.
-pub(crate) fn session_over(
+pub fn session_over(
     alloc: Global,
     word: &str,
     bytes: &[u8],

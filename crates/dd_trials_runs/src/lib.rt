@@ -1,34 +1,17 @@
-//! Trials of whole runs that no clause tells: what scripts mean and how texts are refused, in words of the outside, and that each
-//! fault is answered where it comes.
+//! Trials of sessions that no clause tells: how texts and outputs are refused, that each fault is answered where it comes, and that
+//! engines that are no good change no line. What they run sessions with serves the trials of answers too.
 #![tactic(auto)]
 
 #[cfg(test)]
-mod automata;
-#[cfg(test)]
-mod bounds;
-#[cfg(test)]
-mod boxes;
-#[cfg(test)]
 mod checks;
-#[cfg(test)]
-mod densities;
-#[cfg(test)]
 mod engines;
-#[cfg(test)]
-mod forbidden;
-#[cfg(test)]
-mod formulas;
-#[cfg(test)]
-mod members;
 #[cfg(test)]
 mod refusals;
 #[cfg(test)]
 mod rosters;
-#[cfg(test)]
 mod runs;
 #[cfg(test)]
-mod samples;
-#[cfg(test)]
 mod statuses;
-#[cfg(test)]
-mod witnesses;
+
+pub use engines::{Habit, Member, NO_ENGINES, OF_PROGRAM, session_over};
+pub use runs::{HARD, Ran, first_lines, run_on, run_over, words_of};

@@ -1,17 +1,16 @@
-// Whole runs over bytes in memory.
-use crate::engines::{Member, NO_ENGINES, OF_PROGRAM, session_over};
-use dd_outside::{MemorySink, MemorySource};
-use dd_session::{Status, check_diddy};
+//! Whole runs over bytes in memory.
+use crate::engines::{Member, NO_ENGINES, session_over};
+use dd_outside::MemorySink;
+use dd_session::Status;
 use std::alloc::{AllocError, Global};
-use std::process::Abort;
 use std::test::Fail;
 
-/// A configuration in which no two neighbours are 1.
-pub(crate) const HARD: &str =
+/// A script that asks of a configuration in which no two neighbours are 1.
+pub const HARD: &str =
     "%rule hard o=1 -> (o.rt=0 & o.up=0)\n%conf c [2 2] 1 0 0 1\n%member c hard\n";
 
 /// The words behind the program's name, of a text with one blank between two of them.
-pub(crate) fn words_of(alloc: Global, text: &str) -> Result<Vec<String>, AllocError> {
+pub fn words_of(alloc: Global, text: &str) -> Result<Vec<String>, AllocError> {
     let mut words = Vec::new(alloc);
     for word in text.split(' ') {
         words.push(String::from_str(alloc, word)?)?;
@@ -21,15 +20,16 @@ pub(crate) fn words_of(alloc: Global, text: &str) -> Result<Vec<String>, AllocEr
 
 /// How a run ended.
 #[derive(Drop)]
-pub(crate) struct Ran {
-    pub(crate) status: Status,
-    pub(crate) output: Vec<u8>,
+pub struct Ran {
+    pub status: Status,
+    /// What it wrote.
+    pub output: Vec<u8>,
     /// How many engines are left.
-    pub(crate) left: usize,
+    pub left: usize,
 }
 
 /// A run over these bytes with these engines.
-pub(crate) fn run_over(alloc: Global, bytes: &[u8], members: &[Member]) -> Result<Ran, AllocError> {
+pub fn run_over(alloc: Global, bytes: &[u8], members: &[Member]) -> Result<Ran, AllocError> {
     let mut sink = MemorySink::new(alloc, 1_000_000, 5, Vec::new(alloc))?;
     let (status, left) = session_over(alloc, "run", bytes, members, &mut sink)?;
     let output = Vec::from_slice(alloc, sink.held_bytes())?;
@@ -41,50 +41,13 @@ pub(crate) fn run_over(alloc: Global, bytes: &[u8], members: &[Member]) -> Resul
 }
 
 /// The status of a run over these bytes without engines, and what it wrote.
-pub(crate) fn run_on(alloc: Global, bytes: &[u8]) -> Result<(Status, Vec<u8>), AllocError> {
+pub fn run_on(alloc: Global, bytes: &[u8]) -> Result<(Status, Vec<u8>), AllocError> {
     let ran = run_over(alloc, bytes, NO_ENGINES)?;
     Ok((ran.status, ran.output))
 }
 
-// The status of a check of these bytes.
-fn check_of(alloc: Global, bytes: &[u8]) -> Result<Status, AllocError> {
-    let mut source = MemorySource::new(Vec::from_slice(alloc, bytes)?, 7, Vec::new(alloc));
-    let mut sink = MemorySink::new(alloc, 400, 5, Vec::new(alloc))?;
-    Ok(check_diddy(alloc, &mut source, &mut sink))
-}
-
-// The status of a run or a check with these lines of answers, all right.
-fn status_with(answers: &str) -> Status {
-    if answers.contains("UNKNOWN") {
-        Status::SomeUnknown
-    } else {
-        Status::Definite
-    }
-}
-
-// The whole output for a script with these lines of answers.
-fn output_of(alloc: Global, script: &str, answers: &str) -> Result<String, AllocError> {
-    let length = script.len();
-    format!(in alloc; "diddy 1\nscript {length}\n{script}\n{answers}end\n")
-}
-
-// The whole output of a run over a script with these engines. Asserts that the run and a check of that output end as these lines of
-// answers say.
-fn checked_output(
-    rt: &impl Abort,
-    alloc: Global,
-    members: &[Member],
-    script: &str,
-    answers: &str,
-) -> Result<Vec<u8>, Fail> {
-    let Ran { status, output, .. } = run_over(alloc, script.as_bytes(), members)?;
-    assert_eq!(rt; status, status_with(answers), "{script}");
-    assert_eq!(rt; check_of(alloc, &output)?, status, "{script}");
-    Ok(output)
-}
-
 /// The first lines of the answers of an output.
-pub(crate) fn first_lines(alloc: Global, output: Vec<u8>) -> Result<String, Fail> {
+pub fn first_lines(alloc: Global, output: Vec<u8>) -> Result<String, Fail> {
     let mut lines = String::new(alloc);
     for line in String::from_utf8(output)?.lines() {
         if line.starts_with("query ") {
@@ -93,66 +56,4 @@ pub(crate) fn first_lines(alloc: Global, output: Vec<u8>) -> Result<String, Fail
         }
     }
     Ok(lines)
-}
-
-/// Asserts that a run over the script gives answers with these first lines, without engines and with those of the program, and
-/// that a check accepts each output.
-pub(crate) fn assert_first_lines(
-    rt: &impl Abort,
-    alloc: Global,
-    script: &str,
-    answers: &str,
-) -> Result<(), Fail> {
-    for members in [NO_ENGINES, OF_PROGRAM] {
-        let output = checked_output(rt, alloc, members, script, answers)?;
-        let lines = first_lines(alloc, output)?;
-        assert_eq!(rt; lines.as_str(), answers, "{script}");
-    }
-    Ok(())
-}
-
-/// Asserts that each script has the first lines of answers beside it, and that a check accepts the output.
-pub(crate) fn assert_lines(
-    rt: &impl Abort,
-    alloc: Global,
-    rows: &[(&str, &str)],
-) -> Result<(), Fail> {
-    for (script, answers) in rows {
-        assert_first_lines(rt, alloc, script, answers)?;
-    }
-    Ok(())
-}
-
-/// Asserts that each script has the lines of answers beside it without engines, and that a check accepts the output.
-pub(crate) fn assert_answers(
-    rt: &impl Abort,
-    alloc: Global,
-    rows: &[(&str, &str)],
-) -> Result<(), Fail> {
-    for (script, answers) in rows {
-        let output = checked_output(rt, alloc, NO_ENGINES, script, answers)?;
-        let wanted = output_of(alloc, script, answers)?;
-        assert_eq!(rt; output.as_slice(), wanted.as_bytes(), "{script}");
-    }
-    Ok(())
-}
-
-/// Asserts what a check makes of outputs for this script with each of these lines of answers: that it accepts them, or rejects
-/// one.
-pub(crate) fn assert_checks(
-    rt: &impl Abort,
-    alloc: Global,
-    script: &str,
-    rows: &[(&str, bool)],
-) -> Result<(), Fail> {
-    for (answers, accepted) in rows {
-        let output = output_of(alloc, script, answers)?;
-        let wanted = if *accepted {
-            status_with(answers)
-        } else {
-            Status::Rejected
-        };
-        assert_eq!(rt; check_of(alloc, output.as_bytes())?, wanted, "{answers}");
-    }
-    Ok(())
 }

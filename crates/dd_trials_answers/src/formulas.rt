@@ -1,5 +1,5 @@
 // What formulas say, by configurations in which they are true, or false first at a cell that was found by hand.
-use crate::runs::run_on;
+use dd_trials_runs::run_on;
 use std::alloc::{AllocError, Global};
 use std::test::Fail;
 

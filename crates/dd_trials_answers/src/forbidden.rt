@@ -1,5 +1,5 @@
 // Forbidden patterns: the lists that runs write, and what a check makes of each, and of lists that are not theirs.
-use crate::runs::{assert_answers, assert_checks};
+use crate::outputs::{assert_answers, assert_checks};
 use std::test::Fail;
 
 // Scripts, and the lines of their answers.

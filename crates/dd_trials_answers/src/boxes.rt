@@ -1,5 +1,5 @@
 // Box questions, by their answers' first lines.
-use crate::runs::{assert_answers, assert_lines};
+use crate::outputs::{assert_answers, assert_lines};
 use std::test::Fail;
 
 // Rules that contain others or are equal to them, and the least box that shows that they are not.

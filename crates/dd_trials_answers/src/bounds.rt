@@ -1,5 +1,5 @@
 // Discharging: values that are known, what a check makes of the answers of runs, and of answers that are not theirs.
-use crate::runs::{assert_answers, assert_checks, assert_lines};
+use crate::outputs::{assert_answers, assert_checks, assert_lines};
 use std::test::Fail;
 
 // Scripts, and the first lines of their answers.

@@ -1,5 +1,5 @@
 // What a check makes of answers to box questions and to membership: configurations and cells that show what they are to show, or not.
-use crate::runs::assert_checks;
+use crate::outputs::assert_checks;
 use std::test::Fail;
 
 // Each script has one query. Beside it stand the lines of answers, and whether a check accepts them.

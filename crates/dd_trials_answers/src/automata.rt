@@ -1,5 +1,5 @@
 // Whether two automata agree on a rule's configurations: what runs answer, and what a check makes of the answers.
-use crate::runs::{assert_answers, assert_checks, assert_first_lines, assert_lines};
+use crate::outputs::{assert_answers, assert_checks, assert_first_lines, assert_lines};
 use std::alloc::{AllocError, Global};
 use std::test::Fail;
 

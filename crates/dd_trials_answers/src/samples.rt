@@ -1,8 +1,9 @@
 // Runs of the sample scripts: their lines, worked out by hand, and words that ask for none.
-use crate::runs::{assert_first_lines, words_of};
+use crate::outputs::assert_first_lines;
 use dd_engines::Roster;
 use dd_outside::{MemorySink, MemorySource, ReadAllFault, read_all};
 use dd_session::{Status, run_diddy, sample_script};
+use dd_trials_runs::words_of;
 use std::test::Fail;
 
 const SMALLEST: &str = "%limits 3 3 1000\n\

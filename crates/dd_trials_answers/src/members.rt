@@ -1,6 +1,7 @@
 // Queries of membership.
 use crate::formulas;
-use crate::runs::{HARD, assert_answers};
+use crate::outputs::assert_answers;
+use dd_trials_runs::HARD;
 use std::test::Fail;
 
 // Scripts that ask nothing, the last with the greatest limits.

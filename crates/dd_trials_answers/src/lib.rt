@@ -1,0 +1,23 @@
+//! Trials of what runs answer to each kind of query, and of what a check makes of their answers and of others, in words of the outside.
+#![tactic(auto)]
+
+#[cfg(test)]
+mod automata;
+#[cfg(test)]
+mod bounds;
+#[cfg(test)]
+mod boxes;
+#[cfg(test)]
+mod densities;
+#[cfg(test)]
+mod forbidden;
+#[cfg(test)]
+mod formulas;
+#[cfg(test)]
+mod members;
+#[cfg(test)]
+mod outputs;
+#[cfg(test)]
+mod samples;
+#[cfg(test)]
+mod witnesses;
