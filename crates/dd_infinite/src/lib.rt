@@ -3,8 +3,6 @@
 
 mod excluding;
 mod functions;
-#[cfg(test)]
-mod trials;
 
 pub use excluding::excludes;
 pub use functions::{Checkerboard, Spike, allows_both, configuration};

@@ -1,4 +1,5 @@
-//! Trials of what runs answer to each kind of query, and of what a check makes of their answers and of others, in words of the outside.
+//! Trials of what runs answer to each kind of query, of what a check makes of their answers and of others, and of what accepted answers
+//! exclude from configurations that are functions, in words of the outside.
 #![tactic(auto)]
 
 #[cfg(test)]
@@ -9,6 +10,8 @@ mod bounds;
 mod boxes;
 #[cfg(test)]
 mod densities;
+#[cfg(test)]
+mod excluding;
 #[cfg(test)]
 mod forbidden;
 #[cfg(test)]

@@ -1,7 +1,7 @@
 use Rattle.std.proofs.Common.{length, get_or, ap, sym, subst, ◌∙◌, arith}
 use Rattle.std.specs.List.{Contains}
 use Rattle.std.proofs.lemmas.List.Elements.{Contains-get_or}
-use Rattle.dd_infinite.proofs.trials.answers_to.Goals as goal
+use Rattle.dd_trials_answers.proofs.excluding.answers_to.Goals as goal
 
 -- the query is one of the script's
 pub answer-requires : goal.answer-requires

@@ -1,10 +1,10 @@
 // What checked answers exclude from a spike, from a checkerboard and from a configuration of the script.
 ghost use Rattle.dd_checker.specs.Lifted.{IsWhole};
 
-use crate::{Checkerboard, Spike, allows_both, configuration, excludes};
 use dd_answer::answer;
 use dd_certificate::Answer;
 use dd_engines::Roster;
+use dd_infinite::{Checkerboard, Spike, allows_both, configuration, excludes};
 use dd_lattice::Position;
 use dd_pattern::Configuration;
 use dd_script::{Script, parse};
