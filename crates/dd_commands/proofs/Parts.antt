@@ -2,14 +2,14 @@
 use Rattle.std.proofs.Common.{◌≡◌, ℕ, suc, ◌+◌, ◌<◌, ◌≤◌, List, [], ◌∷◌, ◌++◌, length, take, drop, refl, sym, ap, subst, ◌∙◌, append_assoc, arith}
 use Rattle.std.specs.List.{prefix_len}
 use Rattle.std.specs.Prelude.{Err}
-use Rattle.std.proofs.lemmas.List.{append-nil, length-append}
+use Rattle.std.proofs.lemmas.List.{length-append}
 use Rattle.dd_written.specs.declared.lexeme.Mark.TheVariants as mark
 use Rattle.dd_written.specs.declared.lexeme.Lexeme.{Lexeme}
 use Rattle.dd_written.specs.declared.lexeme.Lexeme.TheVariants as lexeme
 use Rattle.dd_commands.specs.declared.script.Written.{Written}
 use Rattle.dd_written.specs.declared.fault.ReadFault.{ReadFault}
 use Rattle.dd_written.specs.declared.fault.ReadFault.TheVariants as faults
-use Rattle.dd_commands.specs.Scripts.{parts, stage_after, MayStand, AreCommands, IsFirstBad, AreWritten, IsBadCommand}
+use Rattle.dd_commands.specs.Scripts.{parts, stage_after, MayStand, AreCommands, IsFirstBad, IsBadCommand}
 use Rattle.dd_commands.specs.reading.Parts.{is_inside, FindsIfAny}
 
 one_more : (n : ℕ) → 1 + n ≡ suc n
@@ -87,9 +87,6 @@ is_fault bytes tokens rest part next cs number from s cut none =
 
 pub starts : (bytes : List ℕ) (tokens : List Lexeme) → (parts tokens).0 ≡ [] → Sofar bytes tokens tokens [] 0 0
 starts bytes tokens clean = record { done = []; split = refl; read = tt; reached = refl; count = refl; at_mark = clean; first = clean }
-
-pub written : (bytes : List ℕ) (tokens : List Lexeme) (cs : List Written) (number from : ℕ) → Sofar bytes tokens [] cs number from → AreWritten bytes tokens cs
-written bytes tokens cs number from s = (s.first, subst (λ (ps : List (List Lexeme)). AreCommands bytes 0 ps cs) (sym (s.split ∙ append-nil s.done)) s.read)
 
 pub nothing_before : (tokens : List Lexeme) → prefix_len is_inside tokens ≤ 0 → (parts tokens).0 ≡ []
 nothing_before tokens le =

@@ -74,6 +74,3 @@ fresh_at {X} key f xs i d seen new start found text added lt s at is all =
     nowhere key (take i xs) x (λ c. put.1 (subst (λ (s : List (List ℕ)). Contains s text) (sym s.listed) (subst (λ t. Contains (map key (take i xs)) t) (sym at) c))) in
     let passed : first_repeat key f (take i xs) (drop i xs) ≡ first_repeat key f (take (suc i) xs) (drop (suc i) xs) = repeat_at key f xs i d lt ∙ rw none refl in
     record { listed = put.0 ∙ rw (s.listed, at) (sym (map_more key xs i d lt)); rest = rw add-one (sym passed ∙ s.rest); kept = s.kept }
-
-pub all_seen : {X : Type 0} (key : X → List ℕ) (f : X → Fault) (xs : List X) (start : Option Fault) → Seen key f xs 0 [] start start
-all_seen key f xs start = record { listed = refl; rest = refl; kept = refl }

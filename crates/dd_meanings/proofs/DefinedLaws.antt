@@ -12,6 +12,3 @@ use Rattle.dd_meanings.proofs.NameLaws.{is_new}
 module _ (x : Context) (w : Word) (rest : List Fault) (h : named_again x.text x.known w ++ rest ≡ []) where
   pub new_name : IsNew x w
   new_name = is_new x w (both_nil (named_again x.text x.known w) rest h).0
-
-  pub behind_name : rest ≡ []
-  behind_name = (both_nil (named_again x.text x.known w) rest h).1

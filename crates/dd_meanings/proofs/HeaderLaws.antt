@@ -1,6 +1,6 @@
 -- What the commands of the header have where they have no fault.
 use Rattle.std.proofs.Common.{◌≡◌, ℕ, ◌≤◌, ◌<◌, Bool, true, false, cond, eqb, nat_lt, List, [], ◌∷◌, ◌++◌, length, map, slice_index_or, refl, sym, ap, ◌∙◌, subst, arith}
-use Rattle.std.specs.Prelude.{◌==◌, ◌||◌, ◌&&◌, nat_le, not, min}
+use Rattle.std.specs.Prelude.{◌==◌, ◌||◌, ◌&&◌, nat_le, min}
 use Rattle.std.specs.List.{All, flat_map}
 use Rattle.std.proofs.lemmas.Bool.{and_parts, eqb-true}
 use Rattle.std.proofs.lemmas.Bool.Decides.{nat_tests}
@@ -10,7 +10,6 @@ use Rattle.dd_written.specs.declared.lexeme.Number.{Number}
 use Rattle.dd_written.specs.declared.tree.Name.{Name}
 use Rattle.dd_written.specs.Values.{written_value, name_text}
 use Rattle.dd_commands.specs.declared.command.Command.TheVariants as command
-use Rattle.dd_topology.specs.declared.builtin.Kind.{Kind}
 use Rattle.dd_topology.specs.declared.builtin.Kind.TheVariants as kind
 use Rattle.dd_topology.specs.Naming.{AreDistinct}
 use Rattle.dd_topology.specs.Grid.{Grid, IsGrid, grid}
@@ -20,12 +19,11 @@ use Rattle.dd_faults.specs.declared.context.Context.{Context}
 use Rattle.dd_faults.specs.Order.{over}
 use Rattle.dd_faults.specs.Names.{missing, number_in}
 use Rattle.dd_faults.specs.Repeats.{twice_named}
-use Rattle.dd_faults.specs.Commands.{unless, dimension_of, kind_dimension, kind_nodes, kind_fits, weight_faults, restricted_again, passes_limits, faults_of}
-use Rattle.dd_meanings.specs.Topologies.{plain_kind, default_grid, kind_names}
+use Rattle.dd_faults.specs.Commands.{unless, dimension_of, weight_faults, restricted_again, faults_of}
+use Rattle.dd_meanings.specs.Topologies.{plain_kind, default_grid}
 use Rattle.dd_meanings.specs.Definitions.{symbol_of}
-use Rattle.dd_meanings.specs.Meanings.{limits}
-use Rattle.dd_meanings.specs.Sound.{IsGridOf, AreNames, IsSymbolRestriction, AreScriptWeights, AreLimits}
-use Rattle.dd_meanings.proofs.Nothing.{both_nil, fits, within, neither}
+use Rattle.dd_meanings.specs.Sound.{IsGridOf, AreNames, IsSymbolRestriction, AreScriptWeights}
+use Rattle.dd_meanings.proofs.Nothing.{both_nil, fits, within}
 use Rattle.dd_meanings.proofs.NameLaws.{number_below}
 
 at_most : (a b : ℕ) → nat_lt a b ≡ false → b ≤ a
@@ -107,50 +105,6 @@ names_are bytes most written names is some few distinct =
 
 -- ---- kinds
 
-kind_has : (t : Kind) → (grid_of t).nodes ≡ length (kind_names t)
-kind_has kind.Line = refl
-kind_has kind.Square = refl
-kind_has kind.King = refl
-kind_has kind.Triangle = refl
-kind_has kind.Hex = refl
-kind_has kind.Cube = refl
-
-kind_counts : (t : Kind) → (grid_of t).nodes ≡ kind_nodes t
-kind_counts kind.Line = refl
-kind_counts kind.Square = refl
-kind_counts kind.King = refl
-kind_counts kind.Triangle = refl
-kind_counts kind.Hex = refl
-kind_counts kind.Cube = refl
-
-few_names : (t : Kind) → (1 ≤ length (kind_names t)) × (length (kind_names t) ≤ 4)
-few_names kind.Line = (omega arith, omega arith)
-few_names kind.Square = (omega arith, omega arith)
-few_names kind.King = (omega arith, omega arith)
-few_names kind.Triangle = (omega arith, omega arith)
-few_names kind.Hex = (omega arith, omega arith)
-few_names kind.Cube = (omega arith, omega arith)
-
-pub kind_sound : (t : Kind) (g : Grid) (names : List (List ℕ)) → IsGrid g → g ≡ grid_of t → AreDistinct names → names ≡ kind_names t → AreNames 4 (kind_names t) × IsGridOf (length (kind_names t)) (grid_of t)
-kind_sound t g names sound is distinct named = (
-  record { some = (few_names t).0; few = (few_names t).1; distinct = subst AreDistinct named distinct },
-  record { grid = subst IsGrid is sound; nodes = kind_has t },
-)
-
-given : (b c : Bool) → b ≡ true → (not b || c) ≡ true → c ≡ true
-given true c is h = h
-given false c is h = absurd cc
-
--- nodes that are given are as many as those of a kind that fits
-pub given_sound : (x : Context) (t : Kind) (g : Grid) → faults_of x (command.Topology t) ≡ [] → x.known.nodes_are_given ≡ true → IsGrid g → g ≡ grid_of t → IsGridOf (length x.known.setting.nodes) (grid_of t)
-given_sound x t g h is sound at =
-    let k = x.known in
-    let both = and_parts (kind_dimension t == dimension_of k) (not k.nodes_are_given || length k.setting.nodes == kind_nodes t) (fits (kind_fits k t) h) in
-    record {
-      grid = subst IsGrid at sound;
-      nodes = kind_counts t ∙ sym (eqb-true (length k.setting.nodes) (kind_nodes t) (given k.nodes_are_given (length k.setting.nodes == kind_nodes t) is both.1));
-    }
-
 -- ---- symbols of a node
 
 symbols_below : (x : Context) (ns : List Name) → flat_map (missing x.text x.known.setting.symbols) ns ≡ [] → All (λ s. s < length x.known.setting.symbols) (map (symbol_of x) ns)
@@ -202,13 +156,3 @@ module _ (x : Context) (ns : List Number) (h : faults_of x (command.Weights ns) 
     each = length-map ns (written_value x.text) ∙ eqb-true (length ns) (length x.known.setting.symbols) (fits (length ns == length x.known.setting.symbols) weight_parts.0);
     light = light_values x ns weight_parts.1;
   }
-
-pub limits_are : (x : Context) (radius period pivots : Number) → faults_of x (command.Limits radius period pivots) ≡ [] → AreLimits (limits (written_value x.text radius) (written_value x.text period) (written_value x.text pivots))
-limits_are x radius period pivots h =
-    let r = written_value x.text radius in
-    let p = written_value x.text period in
-    let v = written_value x.text pivots in
-    let all = neither (nat_lt 8 r || nat_lt p 1 || nat_lt 8 p) (nat_lt 100000 v) (within (passes_limits r p v) limit.Limits h) in
-    let front = neither (nat_lt 8 r || nat_lt p 1) (nat_lt 8 p) all.0 in
-    let first = neither (nat_lt 8 r) (nat_lt p 1) front.0 in
-    record { radius = at_most 8 r first.0; period = (at_most p 1 first.1, at_most 8 p front.1); pivots = at_most 100000 v all.1 }

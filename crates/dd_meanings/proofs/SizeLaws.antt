@@ -24,7 +24,7 @@ use Rattle.dd_faults.specs.declared.fault.Refusal.{Refusal}
 use Rattle.dd_faults.specs.declared.fault.Refusal.TheVariants as refusal
 use Rattle.dd_faults.specs.declared.context.Known.{Known}
 use Rattle.dd_faults.specs.Sound.{IsSound}
-use Rattle.dd_query.specs.Made.{script_numbers, IsRuleOf}
+use Rattle.dd_query.specs.Made.{script_numbers}
 use Rattle.dd_meanings.specs.declared.cases.CaseOf.{CaseOf}
 use Rattle.dd_meanings.specs.Definitions.{rule_counts, count_faults}
 use Rattle.dd_meanings.specs.making.Parts.{refusal_of, rule_over, made_case, given_by, IsCaseOf, case_counts, reach_faults}
@@ -77,9 +77,6 @@ module _ (r : LocalRule) where
   pub small_is_few : IsSmall r → is_few r.nodes (rule_counts r) ≡ true
   small_is_few h = range_from (λ a. nat_le (instances (expansion_at r a)) most_instances) 0 r.nodes (λ a low high. le-leb _ _ (h a (omega arith)))
 
-  pub few_is_small : is_few r.nodes (rule_counts r) ≡ true → IsSmall r
-  few_is_small h a below = leb-true _ _ (range_at (λ b. nat_le (instances (expansion_at r b)) most_instances) 0 r.nodes a h (omega arith) (omega arith))
-
   large_is_not_few : IsLarge r → is_few r.nodes (rule_counts r) ≡ false
   large_is_not_few h = range_fails (λ a. nat_le (instances (expansion_at r a)) most_instances) r.nodes h.node h.exists (lt-leb _ _ h.many)
 
@@ -107,9 +104,6 @@ module _ (k : Known) where
   has_numbers f sound =
       let g = k.setting.topology in
       and_from _ _ (and_from _ _ (eq-eqb g.dimension g.dimension refl) (eq-eqb g.nodes g.nodes refl)) (eq-eqb k.setting.sets.symbols (length k.setting.symbols) sound.alphabet)
-
-  pub is_of_script : (f : Formula) → IsSound k → IsRuleOf k (rule_over k f)
-  is_of_script f sound = record { has = has_numbers f sound; edges = refl; allowed = refl }
 
   cases_pass : (cases : List CaseOf) → IsSound k → All (IsCaseOf k) cases → list_all (λ case. rule_has (script_numbers k) case.0 && nat_lt case.1 (length k.setting.symbols)) (map (made_case k) cases) ≡ true
   cases_pass [] sound h = refl

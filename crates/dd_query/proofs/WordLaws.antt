@@ -1,5 +1,5 @@
 -- The words of a question by their places.
-use Rattle.std.proofs.Common.{◌≡◌, ◌<◌, ℕ, zero, suc, List, [], ◌∷◌, Option, Some, None, length, map, refl, ap, ◌∙◌, arith}
+use Rattle.std.proofs.Common.{◌≡◌, ◌<◌, ℕ, zero, suc, List, [], ◌∷◌, Option, Some, None, length, map, refl, ap, arith}
 use Rattle.std.specs.Prelude.{bytes_eq, is_some, not, unwrap_or, slice_index, slice_get}
 use Rattle.std.specs.List.{zip, flat_map}
 use Rattle.std.proofs.lemmas.List.Quantifiers.{position-Some}
@@ -18,25 +18,6 @@ use Rattle.dd_query.proofs.Nils.{both_nil}
 
 abbrev numbers : Context → List Role → List Word → List ℕ
 numbers x rs ws = map (number_of_word x) (zip rs ws)
-
-pub no_role : (x : Context) (rs : List Role) (ws : List Word) (i : ℕ) → slice_get rs i ≡ None → slice_index (numbers x rs ws) i ≡ 0
-no_role x [] ws i h = refl
-no_role x (r ∷ rs) [] i h = refl
-no_role x (r ∷ rs) (w ∷ ws) zero h = absurd cc
-no_role x (r ∷ rs) (w ∷ ws) (suc i) h = no_role x rs ws i h
-
-pub no_word : (x : Context) (rs : List Role) (ws : List Word) (i : ℕ) → slice_get ws i ≡ None → slice_index (numbers x rs ws) i ≡ 0
-no_word x [] ws i h = refl
-no_word x (r ∷ rs) [] i h = refl
-no_word x (r ∷ rs) (w ∷ ws) zero h = absurd cc
-no_word x (r ∷ rs) (w ∷ ws) (suc i) h = no_word x rs ws i h
-
-pub at_word : (x : Context) (rs : List Role) (ws : List Word) (i : ℕ) (r : Role) (w : Word) → slice_get rs i ≡ Some r → slice_get ws i ≡ Some w →
-    slice_index (numbers x rs ws) i ≡ number_of_word x (r, w)
-at_word x [] ws i r w h g = absurd cc
-at_word x (q ∷ rs) [] i r w h g = absurd cc
-at_word x (q ∷ rs) (v ∷ ws) zero r w h g = (let same : q ≡ r = cc in let alike : v ≡ w = cc in ap (λ s. number_of_word x (s, v)) same ∙ ap (λ u. number_of_word x (r, u)) alike)
-at_word x (q ∷ rs) (v ∷ ws) (suc i) r w h g = at_word x rs ws i r w h g
 
 -- a name that is not missing has a number below that of the names
 number_below : (bytes : List ℕ) (names : List (List ℕ)) (n : Name) (o : Option ℕ) → place_of_name bytes names n ≡ o →

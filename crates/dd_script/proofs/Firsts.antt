@@ -37,9 +37,3 @@ counted n fs e = ltb-false 1000 n (not_passed (nat_lt 1000 n) limit.Commands (ni
 
 pub neither : (one : Option Fault) (fs : List Fault) → one ≡ None → fs ≡ [] → option_or one (first_fault fs) ≡ None
 neither one fs e none = ap (λ (o : Option Fault). option_or o (first_fault fs)) e ∙ ap first_fault none
-
-pub the_first : (one other : Option Fault) (f : Fault) → one ≡ Some f → option_or one other ≡ Some f
-the_first one other f e = ap (λ (o : Option Fault). option_or o other) e
-
-pub the_second : (one other : Option Fault) (f : Fault) → one ≡ None → other ≡ Some f → option_or one other ≡ Some f
-the_second one other f e found = ap (λ (o : Option Fault). option_or o other) e ∙ found

@@ -1,24 +1,22 @@
 -- Going through the commands, one after the other.
-use Rattle.std.proofs.Common.{◌≡◌, ℕ, ◌+◌, ◌<◌, ◌≤◌, true, false, List, [], ◌∷◌, length, drop, get_or, Option, Some, None, refl, sym, ap, subst, ◌∙◌, arith}
+use Rattle.std.proofs.Common.{◌≡◌, ℕ, ◌+◌, ◌<◌, ◌≤◌, true, false, List, [], ◌∷◌, length, drop, get_or, Option, None, sym, ap, subst, ◌∙◌, arith}
 use Rattle.std.specs.Prelude.{All, if◌then◌else◌}
 use Rattle.std.specs.Option.{option_or, option_map}
-use Rattle.std.proofs.lemmas.List.{drop_more, drop_all}
+use Rattle.std.proofs.lemmas.List.{drop_more}
 use Rattle.std.proofs.lemmas.List.Elements.{All-get_or}
 use Rattle.dd_written.specs.declared.lexeme.Lexeme.{Lexeme}
 use Rattle.dd_commands.specs.declared.script.Written.{Written}
 use Rattle.dd_commands.specs.Scripts.{stage_of, stage_after, IsWritten, AreCommands}
 use Rattle.dd_commands.specs.Heads.{head_of, is_once}
 use Rattle.dd_faults.specs.declared.fault.Fault.{Fault}
-use Rattle.dd_faults.specs.declared.fault.Refusal.{Refusal}
-use Rattle.dd_faults.specs.declared.fault.Refusal.TheVariants as refusal
 use Rattle.dd_faults.specs.Sound.{HasFewer}
 use Rattle.dd_meanings.specs.declared.meaning.Meaning.{Meaning}
 use Rattle.dd_meanings.specs.Meanings.{meaning as meaning_of}
 use Rattle.dd_script.specs.declared.draft.Draft.{Draft}
 use Rattle.dd_script.specs.Parts.{Parts, IsScriptOf}
-use Rattle.dd_script.specs.Walk.{start, Located, located, first_from, after_all, has_topology, first_located_fault, script_of}
+use Rattle.dd_script.specs.Walk.{Located, located, first_from, after_all, first_located_fault, script_of}
 use Rattle.dd_script.specs.drafting.Standing.{AreOrdered, IsFresh, IsReady}
-use Rattle.dd_script.specs.drafting.Drafts.{parts_of, draft_of, fault_at, behind, Leaves, Stays, Ends, Stops}
+use Rattle.dd_script.specs.drafting.Drafts.{parts_of, fault_at, behind, Leaves}
 use Rattle.dd_script.proofs.Places.{header_meant, still_fresh, fewer_next}
 
 -- the first fault from here on, and the script that comes of what is left
@@ -38,25 +36,6 @@ pub record Sofar (text : List ℕ) (ws : List Written) (i : ℕ) (d : Draft) : T
   pub same_text : d.context.text ≡ text
   pub faults : fault_from d (drop i ws) ≡ first_located_fault text ws
   pub leads : script_from d (drop i ws) ≡ script_of text ws
-
-start_fresh : IsFresh start
-start_fresh = record { rules = refl; automata = refl; configurations = refl; queries = refl }
-
-start_few : HasFewer 1 start.known
-start_few = record { rules = omega arith; automata = omega arith; configurations = omega arith }
-
-pub starts : (ws : List Written) (d : Draft) → d ≡ draft_of d.context.text (has_topology ws) 1 start → IsScriptOf start → AreOrdered 0 ws → Sofar d.context.text ws 0 d
-starts ws d begun kept ordered =
-    subst (Sofar d.context.text ws 0) (sym begun) (record {
-      from = 0;
-      ordered = ordered;
-      fresh = λ _. start_fresh;
-      few = start_few;
-      script = kept;
-      same_text = refl;
-      faults = refl;
-      leads = refl;
-    })
 
 -- the next command, as it stands
 pub record Stands (ws : List Written) (i : ℕ) (d : Draft) (w : Written) : Type 0 where
@@ -105,25 +84,6 @@ goes_on text ws i d w e lt is sofar leaves =
       faults = sym (behind_fault d.context.number (fault_at d w) (fault_from (behind d w) (drop (i + 1) ws)) leaves.faultless) ∙ sym (ap (fault_from d) here.split) ∙ sofar.faults;
       leads = sym (ap (script_from d) here.split) ∙ sofar.leads;
     })
-
-at_fault : (n : ℕ) (found : Option Fault) (f : Fault) (others : Option Located) → found ≡ Some f → option_or (option_map (located n) found) others ≡ Some (located n f)
-at_fault n found f others e = ap (λ (o : Option Fault). option_or (option_map (located n) o) others) e
-
-pub stops : (text : List ℕ) (ws : List Written) (i : ℕ) (d : Draft) (w : Written) (e : Draft) (r : Refusal) → i < length ws → w ≡ get_or ws i w → Sofar text ws i d → Stays d w e r → Stops text ws e r
-stops text ws i d w e refusal.Memory lt is sofar stays = stays ∙ sofar.same_text
-stops text ws i d w e (refusal.At f) lt is sofar stays =
-    let here = stands text ws i d w lt is sofar in
-    let found : first_located_fault text ws ≡ Some (located d.context.number f) = sym sofar.faults ∙ ap (fault_from d) here.split ∙ at_fault d.context.number (fault_at d w) f (fault_from (behind d w) (drop (i + 1) ws)) stays.1 in
-    (ap (λ (x : Draft). x.context.text) stays.0 ∙ sofar.same_text, found ∙ ap (λ (x : Draft). Some (located x.context.number f)) (sym stays.0))
-
-pub ends : (text : List ℕ) (ws : List Written) (i : ℕ) (d : Draft) → length ws ≤ i → Sofar text ws i d → Ends text ws d
-ends text ws i d le sofar =
-    let over : drop i ws ≡ [] = drop_all i ws le in
-    record {
-      faultless = sym sofar.faults ∙ ap (fault_from d) over;
-      script = sym (ap (script_from d) over) ∙ sofar.leads;
-      kept = sofar.script;
-    }
 
 -- ---- commands are in order
 

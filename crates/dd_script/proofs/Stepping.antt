@@ -1,45 +1,28 @@
 -- Going behind one command.
-use Rattle.std.proofs.Common.{◌≡◌, ◌+◌, List, [], None, refl, sym, ap, subst, ◌∙◌}
+use Rattle.std.proofs.Common.{◌≡◌, ◌+◌, List, [], None, sym, ap, subst, ◌∙◌}
 use Rattle.dd_formula.specs.LocalRule.{LocalRule}
 use Rattle.dd_formula.specs.declared.automaton.Automaton.{Automaton}
 use Rattle.dd_commands.specs.declared.script.Written.{Written}
-use Rattle.dd_faults.specs.declared.fault.Refusal.{Refusal}
-use Rattle.dd_faults.specs.declared.fault.Refusal.TheVariants as refusal
-use Rattle.dd_faults.specs.Order.{first_fault, Refuses}
+use Rattle.dd_faults.specs.Order.{first_fault}
 use Rattle.dd_faults.specs.Commands.{written_faults}
-use Rattle.dd_query.specs.Made.{AreMade}
 use Rattle.dd_meanings.specs.declared.meaning.Meaning.{Meaning}
 use Rattle.dd_meanings.specs.Meanings.{meaning as meaning_of, counted_sizes}
 use Rattle.dd_meanings.specs.Sound.{IsSoundMeaning}
 use Rattle.dd_script.specs.declared.draft.Draft.{Draft}
 use Rattle.dd_script.specs.Parts.{IsScriptOf}
 use Rattle.dd_script.specs.drafting.Standing.{IsReady}
-use Rattle.dd_script.specs.drafting.Drafts.{parts_of, with_meaning, Leaves, Stays}
-use Rattle.dd_script.proofs.Firsts.{none_first, counted, neither, the_first, the_second}
+use Rattle.dd_script.specs.drafting.Drafts.{parts_of, with_meaning, Leaves}
+use Rattle.dd_script.proofs.Firsts.{none_first, counted, neither}
 use Rattle.dd_script.proofs.Places.{header_stands}
 use Rattle.dd_script.proofs.Header.{HasSets, with_kept}
 
--- refused by what is written
-pub refused_written : (d : Draft) (w : Written) (e : Refusal) → Refuses e (first_fault (written_faults d.context w)) → Stays d w d e
-refused_written d w refusal.Memory refused = refl
-refused_written d w (refusal.At f) refused = (refl, the_first (first_fault (written_faults d.context w)) (first_fault (counted_sizes d.context d.rules d.automata w.command)) f refused)
-
 -- the same rules and automata under other names
 module _ (d : Draft) (w : Written) (rs : List LocalRule) (fs : List Automaton) (same_rules : rs ≡ d.rules) (same_automata : fs ≡ d.automata) where
-  pub made_at : AreMade d.context.known d.rules d.automata → AreMade d.context.known rs fs
-  made_at made = subst (λ (x : List LocalRule). AreMade d.context.known x fs) (sym same_rules) (subst (λ (x : List Automaton). AreMade d.context.known d.rules x) (sym same_automata) made)
-
   counted_at : counted_sizes d.context rs fs w.command ≡ counted_sizes d.context d.rules d.automata w.command
   counted_at = ap (λ (x : List LocalRule). counted_sizes d.context x fs w.command) same_rules ∙ ap (λ (x : List Automaton). counted_sizes d.context d.rules x w.command) same_automata
 
   meant_at : meaning_of d.context rs fs w.command ≡ meaning_of d.context d.rules d.automata w.command
   meant_at = ap (λ (x : List LocalRule). meaning_of d.context x fs w.command) same_rules ∙ ap (λ (x : List Automaton). meaning_of d.context d.rules x w.command) same_automata
-
-  -- refused by what is counted
-  pub refused_counted : (e : Refusal) → first_fault (written_faults d.context w) ≡ None → Refuses e (first_fault (counted_sizes d.context rs fs w.command)) → Stays d w d e
-  refused_counted refusal.Memory none refused = refl
-  refused_counted (refusal.At f) none refused =
-      (refl, the_second (first_fault (written_faults d.context w)) (first_fault (counted_sizes d.context d.rules d.automata w.command)) f none (sym (ap first_fault counted_at) ∙ refused))
 
   -- what the command means, and what it keeps
   pub sound_at : (m : Meaning) → m ≡ meaning_of d.context rs fs w.command → IsSoundMeaning d.context rs fs (meaning_of d.context rs fs w.command) → IsSoundMeaning d.context d.rules d.automata m

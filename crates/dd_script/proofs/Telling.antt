@@ -1,23 +1,18 @@
 -- How a fault is told.
 use Rattle.std.proofs.Common.{◌≡◌, ℕ, List, refl, sym, subst, ◌∙◌}
-use Rattle.std.specs.Prelude.{All, Err}
+use Rattle.std.specs.Prelude.{All}
 use Rattle.dd_commands.specs.declared.script.Written.{Written}
 use Rattle.dd_commands.specs.declared.script.Syntax.{Syntax}
-use Rattle.dd_commands.specs.declared.fault.SyntaxFault.{SyntaxFault}
-use Rattle.dd_commands.specs.declared.fault.SyntaxFault.TheVariants as unread
-use Rattle.dd_commands.specs.Scripts.{IsScript, IsWritten, Tells, parts}
+use Rattle.dd_commands.specs.Scripts.{IsScript, IsWritten, parts}
 use Rattle.dd_written.specs.Lexemes.{lexemes_of}
-use Rattle.dd_faults.specs.declared.fault.Fault.{Fault}
 use Rattle.dd_faults.specs.declared.fault.Refusal.{Refusal}
 use Rattle.dd_faults.specs.declared.fault.Refusal.TheVariants as refusal
 use Rattle.dd_script.specs.declared.draft.Draft.{Draft}
 use Rattle.dd_script.specs.declared.fault.ScriptFault.{ScriptFault}
-use Rattle.dd_script.specs.declared.fault.ScriptKind.{ScriptKind}
-use Rattle.dd_script.specs.declared.fault.ScriptKind.TheVariants as refused
 use Rattle.dd_script.specs.Parts.{Parts}
-use Rattle.dd_script.specs.Scripts.{Spells, HasFault, kind_of, IsRefusedAs, IsScriptRefusal}
+use Rattle.dd_script.specs.Scripts.{Spells, HasFault, kind_of, IsScriptRefusal}
 use Rattle.dd_script.specs.drafting.Standing.{AreOrdered}
-use Rattle.dd_script.specs.drafting.Drafts.{parts_of, Ends, Stops, StopsIn, IsKindOf, IsUnread}
+use Rattle.dd_script.specs.drafting.Drafts.{parts_of, Ends, Stops, StopsIn}
 use Rattle.dd_script.proofs.Sofar.{ordered}
 
 pub each_written : (text t : List ℕ) (ws vs : List Written) → t ≡ text → vs ≡ ws → All (IsWritten text) ws → All (IsWritten t) vs
@@ -49,15 +44,3 @@ stops_in text tree ws d (refusal.At f) written same stops =
 pub of_text : (text : List ℕ) (ws : List Written) (d : Draft) (r : Refusal) (e : ScriptFault) → Stops text ws d r → IsScriptRefusal d.context.text e → IsScriptRefusal text e
 of_text text ws d refusal.Memory e stops is = subst (λ (t : List ℕ). IsScriptRefusal t e) stops is
 of_text text ws d (refusal.At f) e stops is = subst (λ (t : List ℕ). IsScriptRefusal t e) stops.0 is
-
-pub told : (text : List ℕ) (n : ℕ) (f : Fault) → HasFault text n (kind_of text f) → (kind : ScriptKind) → IsKindOf text f kind → IsRefusedAs text n kind
-told text n f has refused.Syntax e = absurd e
-told text n f has (refused.Unknown name) e = subst (HasFault text n) (sym e) has
-told text n f has (refused.Twice name) e = subst (HasFault text n) (sym e) has
-told text n f has refused.Dimension e = subst (HasFault text n) (sym e) has
-told text n f has (refused.Size l) e = subst (HasFault text n) (sym e) has
-told text n f has refused.Memory e = absurd e
-
-pub is_unread : (bytes : List ℕ) (fault : SyntaxFault) (e : ScriptFault) → Tells bytes (Err fault) → IsUnread fault e → IsScriptRefusal bytes e
-is_unread bytes (unread.At n) e tells is = subst (IsScriptRefusal bytes) (sym is) tells
-is_unread bytes unread.Memory e tells is = subst (IsScriptRefusal bytes) (sym is) refl
