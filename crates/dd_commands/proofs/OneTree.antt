@@ -7,7 +7,7 @@ use Rattle.dd_commands.specs.declared.command.Command.{Command}
 use Rattle.dd_commands.specs.declared.script.Written.{Written}
 use Rattle.dd_commands.specs.declared.script.Syntax.{Syntax}
 use Rattle.dd_commands.specs.Scripts.{parts, stage_after, MayStand, AreCommands, IsFirstBad, IsScript, IsSyntaxFault}
-use Rattle.dd_commands.specs.lemmas.Options.{some_is}
+use Rattle.dd_written.specs.lemmas.Options.{some_is}
 use Rattle.dd_commands.specs.lemmas.CommandComplete.{command_again}
 
 abbrev written_of : List Lexeme → Command → Written

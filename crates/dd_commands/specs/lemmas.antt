@@ -1,5 +1,3 @@
-pub mod Options
-pub mod Many
 pub mod CommandSound
 pub mod CommandComplete
 pub mod Whole

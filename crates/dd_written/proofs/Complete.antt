@@ -10,7 +10,6 @@ use Rattle.dd_written.specs.declared.lexeme.Word.{Word}
 use Rattle.dd_written.specs.declared.lexeme.Lexeme.{Lexeme}
 use Rattle.dd_written.specs.declared.lexeme.Lexeme.TheVariants as lexeme
 use Rattle.dd_written.specs.declared.tree.Name.{Name}
-use Rattle.dd_written.specs.declared.tree.Name.TheVariants as name
 use Rattle.dd_written.specs.declared.tree.Term.{Term}
 use Rattle.dd_written.specs.declared.tree.Comparand.{Comparand}
 use Rattle.dd_written.specs.declared.tree.Comparand.TheVariants as side
@@ -26,11 +25,12 @@ use Rattle.dd_written.specs.declared.tree.Formula.TheFolds.{map-Formula, ind-For
 use Rattle.dd_written.specs.declared.tree.Formula.TheOpen.{Formula-F}
 use Rattle.dd_written.specs.Formulas.{text, stands, stands_step, tree_depth, greatest_depth, name_lexeme, move_text, term_text, atom_side_text, atom_text, ball_text, capital, sign, join_rank, IsWrittenFormula}
 use Rattle.dd_written.specs.reading.Readers.{Reader, ◌>>=◌}
-use Rattle.dd_written.specs.reading.Atoms.{name_at, moves_at, term_at, side_at, after_term, atom_at, leaf_at, balls_at, quantor_end, quantor_at}
+use Rattle.dd_written.specs.reading.Atoms.{moves_at, term_at, side_at, after_term, atom_at, leaf_at, balls_at, quantor_end, quantor_at}
 use Rattle.dd_written.specs.reading.Formulas.{begins, more_at, list_at, or_at, implies_end, implies_at, iff_more, whole_at, quantified_at, group_end, nested_at, unary_at, formula_at, ends}
 use Rattle.dd_written.proofs.Layers.{text_of, stands_of, depth_of}
-use Rattle.dd_written.proofs.Options.{and_is}
-use Rattle.dd_written.proofs.Rounds.{none_more}
+use Rattle.dd_written.specs.lemmas.Options.{and_is}
+use Rattle.dd_written.specs.lemmas.Rounds.{none_more}
+use Rattle.dd_written.specs.lemmas.Names.{name_again}
 use Rattle.dd_written.proofs.Sound.{more_text}
 
 lower : (low place limit : ℕ) → low ≤ place → nat_lt place limit ≡ true → nat_lt low limit ≡ true
@@ -61,10 +61,6 @@ sign_begins join.And tokens = refl
 sign_begins join.Or tokens = refl
 
 -- ---- atoms and quantifiers
-
-pub name_again : (n : Name) (rest : List Lexeme) → name_at (name_lexeme n ∷ rest) ≡ Some (n, rest)
-name_again (name.Word w) rest = refl
-name_again (name.Number n) rest = refl
 
 moves_none : (place : ℕ) (rest : List Lexeme) → ends place rest ≡ true → moves_at rest ≡ ([], rest)
 moves_none place (lexeme.Mark mark.Dot ∷ tokens) e = absurd cc

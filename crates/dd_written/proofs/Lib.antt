@@ -1,9 +1,7 @@
-pub mod Options
 pub mod Rounds
 pub mod Digits
 pub mod Depths
 pub mod Layers
-pub mod Many
 pub mod Sound
 pub mod Complete
 pub mod Ascii

@@ -1,5 +1,5 @@
 -- What is read of formulas is written so.
-use Rattle.std.proofs.Common.{◌≡◌, ℕ, zero, suc, ◌-◌, Bool, true, List, [], ◌∷◌, ◌++◌, map, length, drop, Option, Some, None, refl, sym, ap, subst, ◌∙◌, append_assoc, arith, le-leb, leb-true, inl, inr}
+use Rattle.std.proofs.Common.{◌≡◌, ℕ, zero, suc, ◌-◌, Bool, true, List, [], ◌∷◌, ◌++◌, map, length, drop, Some, None, refl, sym, ap, subst, ◌∙◌, append_assoc, arith, le-leb, leb-true, inl, inr}
 use Rattle.std.specs.Prelude.{nat_le, cond, ◌&&◌}
 use Rattle.std.specs.List.{flat_map, list_all}
 use Rattle.dd_written.specs.declared.lexeme.Mark.{Mark}
@@ -7,7 +7,6 @@ use Rattle.dd_written.specs.declared.lexeme.Mark.TheVariants as mark
 use Rattle.dd_written.specs.declared.lexeme.Word.{Word}
 use Rattle.dd_written.specs.declared.lexeme.Lexeme.{Lexeme}
 use Rattle.dd_written.specs.declared.lexeme.Lexeme.TheVariants as lexeme
-use Rattle.dd_written.specs.declared.tree.Name.{Name}
 use Rattle.dd_written.specs.declared.tree.Term.{Term}
 use Rattle.dd_written.specs.declared.tree.Comparand.{Comparand}
 use Rattle.dd_written.specs.declared.tree.Comparand.TheVariants as side
@@ -26,13 +25,9 @@ use Rattle.dd_written.specs.reading.Readers.{Reader, ◌>>=◌, ReadsAll}
 use Rattle.dd_written.specs.reading.Atoms.{name_at, moves_at, term_at, side_at, after_term, atom_at, leaf_at, balls_at, quantor_end, quantor_at}
 use Rattle.dd_written.specs.reading.Formulas.{begins, more_at, close, list_at, or_at, implies_end, implies_at, iff_more, whole_at, not_at, quantified_at, group_end, nested_at, unary_at, formula_at}
 use Rattle.dd_written.proofs.Layers.{text_of, stands_of}
-use Rattle.dd_written.proofs.Options.{bind_some, some_is, and_is, chosen}
-use Rattle.dd_written.proofs.Many.{many_sound}
-
-pub name_sound : (tokens : List Lexeme) (n : Name) (rest : List Lexeme) → name_at tokens ≡ Some (n, rest) → tokens ≡ name_lexeme n ∷ rest
-name_sound (lexeme.Word w ∷ tokens) n rest e = subst (λ (x : Name × List Lexeme). lexeme.Word w ∷ tokens ≡ name_lexeme x.0 ∷ x.1) (some_is _ _ e) refl
-name_sound (lexeme.Number m ∷ tokens) n rest e = subst (λ (x : Name × List Lexeme). lexeme.Number m ∷ tokens ≡ name_lexeme x.0 ∷ x.1) (some_is _ _ e) refl
-name_sound tokens n rest e = absurd cc
+use Rattle.dd_written.specs.lemmas.Options.{bind_some, some_is, nothing_some, and_is, chosen}
+use Rattle.dd_written.specs.lemmas.Many.{many_sound}
+use Rattle.dd_written.specs.lemmas.Names.{name_sound}
 
 moves_sound : (tokens : List Lexeme) → tokens ≡ flat_map move_text (moves_at tokens).0 ++ (moves_at tokens).1
 moves_sound (lexeme.Mark mark.Dot ∷ lexeme.Word label ∷ tokens) = ap (λ (ts : List Lexeme). lexeme.Mark mark.Dot ∷ lexeme.Word label ∷ ts) (moves_sound tokens)
@@ -275,12 +270,6 @@ nested_sound unary n place sound tokens x e = leaf_sound place tokens x e
 unary_sound : (budget : ℕ) → IsSound (unary_at budget) 0
 unary_sound zero tokens x e = leaf_sound 0 tokens x e
 unary_sound (suc budget) tokens x e = nested_sound (unary_at budget) budget 0 (unary_sound budget) tokens x e
-
-abbrev nothing : {X : Type 0} → Option X
-nothing = None
-
-nothing_some : {X : Type 0} (x : X) → nothing {X = X} ≡ Some x → ⊥
-nothing_some x e = absurd cc
 
 pub formula_sound : (tokens : List Lexeme) (x : Formula × List Lexeme) → formula_at tokens ≡ Some x → (tokens ≡ text x.0 ++ x.1) × IsWrittenFormula x.0
 formula_sound tokens x e =

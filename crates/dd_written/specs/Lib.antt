@@ -6,3 +6,5 @@ pub mod Values
 pub mod Formulas
 -- mirrors of the readers
 pub mod reading
+-- lemmas on what stands above, with their proofs, for whoever cites them
+pub mod lemmas

@@ -34,17 +34,14 @@ use Rattle.dd_written.specs.reading.Words.{starts_word, behind_word}
 use Rattle.dd_written.specs.reading.Atoms.{name_at}
 use Rattle.dd_written.specs.reading.Formulas.{ends}
 use Rattle.dd_written.specs.reading.Laws.{FormulasAreRead}
+use Rattle.dd_written.specs.lemmas.Many.{many_again, ByText, texts_stand}
+use Rattle.dd_written.specs.lemmas.Names.{name_again}
 use Rattle.dd_commands.specs.Table.{row}
 use Rattle.dd_commands.specs.Heads.{head_text, head_of, kind_text}
 use Rattle.dd_commands.specs.Commands.{entry_lexeme, vector_text, is_plain, second_vector_text, IsPlainShear, edge_text, IsBehind, IsCase, AreCases, AreLists, IsRequest, request_text, IsBody, IsCommand}
 use Rattle.dd_commands.specs.reading.Vectors.{some_alone, exactly, word_at, is_name, is_number, number_at, is_entry, entry_at, names_at, numbers_at, vector_end, vector_at, plain_at, is_vector, shear_at, edge_at, is_edge, names_of}
 use Rattle.dd_commands.specs.reading.Heads.{head_at, kind_at}
 use Rattle.dd_commands.specs.reading.Commands.{case_at, cases_at, otherwise_of, lists_of, request_of, edges_of, topology_of, only_of, weights_of, rule_of, automaton_of, configuration_of, body_of, command_of}
-use Rattle.dd_commands.specs.lemmas.Many.{many_again, ByText, texts_stand}
-
-name_again : (n : Name) (rest : List Lexeme) → name_at (name_lexeme n ∷ rest) ≡ Some (n, rest)
-name_again (name.Word w) rest = refl
-name_again (name.Number n) rest = refl
 
 -- ---- one of a kind after the other
 

@@ -29,22 +29,15 @@ use Rattle.dd_written.specs.reading.Words.{starts_word, behind_word}
 use Rattle.dd_written.specs.reading.Atoms.{name_at}
 use Rattle.dd_written.specs.reading.Formulas.{formula_at}
 use Rattle.dd_written.specs.reading.Laws.{FormulasAreRead}
+use Rattle.dd_written.specs.lemmas.Options.{bind_some, some_is, nothing_some, chosen}
+use Rattle.dd_written.specs.lemmas.Many.{many_sound, ByText, texts_read}
+use Rattle.dd_written.specs.lemmas.Names.{name_sound}
 use Rattle.dd_commands.specs.Table.{row, questions}
 use Rattle.dd_commands.specs.Heads.{head_text, head_of, kind_text}
 use Rattle.dd_commands.specs.Commands.{entry_lexeme, vector_text, is_plain, second_vector_text, IsPlainShear, edge_text, IsBehind, IsCase, AreLists, IsRequest, request_text, IsBody, IsCommand}
 use Rattle.dd_commands.specs.reading.Vectors.{alone, some_alone, exactly, word_at, is_name, is_number, number_at, is_entry, entry_at, names_at, numbers_at, entries_at, vector_end, vector_at, plain_at, is_vector, vectors_at, shear_at, edge_start, edge_end, edge_at, is_edge, edges_at, names_of}
 use Rattle.dd_commands.specs.reading.Heads.{plain_heads, plain_head as plain_head_at, question_at, or_question, head_at, kinds, kind_at}
 use Rattle.dd_commands.specs.reading.Commands.{case_at, cases_at, otherwise_of, lists_of, request_of, dimension_of, edges_of, topology_of, only_of, weights_of, limits_of, rule_of, automaton_of, composition_of, configuration_of, body_of, command_of}
-use Rattle.dd_commands.specs.lemmas.Options.{bind_some, some_is, chosen}
-use Rattle.dd_commands.specs.lemmas.Many.{many_sound, ByText, texts_read}
-
-name_sound : (tokens : List Lexeme) (n : Name) (rest : List Lexeme) → name_at tokens ≡ Some (n, rest) → tokens ≡ name_lexeme n ∷ rest
-name_sound (lexeme.Word w ∷ tokens) n rest e = subst (λ (x : Name × List Lexeme). lexeme.Word w ∷ tokens ≡ name_lexeme x.0 ∷ x.1) (some_is _ _ e) refl
-name_sound (lexeme.Number m ∷ tokens) n rest e = subst (λ (x : Name × List Lexeme). lexeme.Number m ∷ tokens ≡ name_lexeme x.0 ∷ x.1) (some_is _ _ e) refl
-name_sound tokens n rest e = absurd cc
-
-abbrev nothing : {X : Type 0} → Option X
-nothing = None
 
 alone_sound : {X : Type 0} (x : X) (tokens : List Lexeme) (y : X) → alone x tokens ≡ Some y → (x ≡ y) × (tokens ≡ [])
 alone_sound x [] y e = (some_is _ _ e, refl)
@@ -54,9 +47,6 @@ some_alone_sound : {X : Type 0} (xs : List X) (tokens : List Lexeme) (ys : List 
 some_alone_sound [] tokens ys e = absurd cc
 some_alone_sound {X} (x ∷ xs) [] ys e = (some_is _ _ e, refl, subst (λ (zs : List X). 1 ≤ length zs) (some_is _ _ e) (omega arith))
 some_alone_sound (x ∷ xs) (t ∷ tokens) ys e = absurd cc
-
-nothing_some : {X : Type 0} (x : X) → nothing {X = X} ≡ Some x → ⊥
-nothing_some x e = absurd cc
 
 -- ---- one of a kind after the other
 

@@ -13,7 +13,7 @@ use Rattle.dd_commands.specs.Heads.{head_of, stage}
 use Rattle.dd_commands.specs.Scripts.{is_whole, stage_of, MayStand}
 use Rattle.dd_commands.specs.reading.Commands.{command_of}
 use Rattle.dd_commands.specs.reading.Parts.{FindsIfAny}
-use Rattle.dd_commands.specs.lemmas.Options.{some_is}
+use Rattle.dd_written.specs.lemmas.Options.{some_is}
 use Rattle.dd_commands.specs.lemmas.CommandSound.{command_sound}
 use Rattle.dd_commands.specs.lemmas.CommandComplete.{command_again}
 

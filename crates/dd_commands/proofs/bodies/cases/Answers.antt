@@ -1,7 +1,7 @@
 use Rattle.std.proofs.Common.{◌≡◌, true, false, rules, codes}
 use Rattle.dd_written.specs.reading.Words.{starts_word}
 use Rattle.dd_commands.specs.reading.Commands.{case_at}
-use Rattle.dd_commands.proofs.Rounds.{goes_on, stops}
+use Rattle.dd_written.specs.lemmas.Rounds.{goes_on, stops}
 use Rattle.dd_commands.proofs.bodies.cases.Goals as goal
 
 pub returns-then-not-starts_word : goal.returns-then-not-starts_word

@@ -1,6 +1,6 @@
 use Rattle.std.proofs.Common.{◌≡◌, true, false, rules}
 use Rattle.dd_commands.specs.reading.Vectors.{is_edge, edge_at}
-use Rattle.dd_commands.proofs.Rounds.{goes_on, stops}
+use Rattle.dd_written.specs.lemmas.Rounds.{goes_on, stops}
 use Rattle.dd_commands.proofs.vectors.edges.Goals as goal
 
 pub returns-then-not-is_edge : goal.returns-then-not-is_edge

@@ -1,6 +1,6 @@
 use Rattle.std.proofs.Common.{◌≡◌, true, rules}
 use Rattle.dd_commands.specs.reading.Vectors.{is_entry, entry_at}
-use Rattle.dd_commands.proofs.Rounds.{goes_on}
+use Rattle.dd_written.specs.lemmas.Rounds.{goes_on}
 use Rattle.dd_commands.proofs.vectors.entries.Goals as goal
 
 pub loop-preserved : goal.loop-preserved

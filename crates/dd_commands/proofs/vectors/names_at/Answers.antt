@@ -1,7 +1,7 @@
 use Rattle.std.proofs.Common.{◌≡◌, true, rules}
 use Rattle.dd_written.specs.reading.Atoms.{name_at}
 use Rattle.dd_commands.specs.reading.Vectors.{is_name}
-use Rattle.dd_commands.proofs.Rounds.{goes_on}
+use Rattle.dd_written.specs.lemmas.Rounds.{goes_on}
 use Rattle.dd_commands.proofs.vectors.names_at.Goals as goal
 
 pub loop-preserved : goal.loop-preserved

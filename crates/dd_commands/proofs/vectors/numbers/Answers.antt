@@ -1,6 +1,6 @@
 use Rattle.std.proofs.Common.{◌≡◌, true, rules}
 use Rattle.dd_commands.specs.reading.Vectors.{is_number, number_at}
-use Rattle.dd_commands.proofs.Rounds.{goes_on}
+use Rattle.dd_written.specs.lemmas.Rounds.{goes_on}
 use Rattle.dd_commands.proofs.vectors.numbers.Goals as goal
 
 pub loop-preserved : goal.loop-preserved

@@ -4,7 +4,8 @@ use Rattle.dd_written.specs.declared.lexeme.Lexeme.{Lexeme}
 use Rattle.dd_written.specs.declared.tree.Formula.{Formula}
 use Rattle.dd_written.specs.reading.Readers.{Fails}
 use Rattle.dd_written.specs.reading.Formulas.{unary_at, member_at, or_at, implies_at, begins}
-use Rattle.dd_written.proofs.Rounds.{goes_on, stops, stuck, unary_next, implies_next, iff_next}
+use Rattle.dd_written.specs.lemmas.Rounds.{goes_on, stops}
+use Rattle.dd_written.proofs.Rounds.{stuck, unary_next, implies_next, iff_next}
 use Rattle.dd_written.proofs.formulas.+read.Goals as goal
 
 pub unary-nested-requires : goal.unary-nested-requires

@@ -3,7 +3,7 @@ use Rattle.std.proofs.Common.{◌≡◌, ℕ, zero, suc, ◌≤◌, ◌<◌, Boo
 use Rattle.std.specs.List.{flat_map}
 use Rattle.dd_written.specs.declared.lexeme.Lexeme.{Lexeme}
 use Rattle.dd_written.specs.reading.Readers.{◌>>=◌, Reader, many, ReadsAll}
-use Rattle.dd_commands.specs.lemmas.Options.{bind_some, some_is, chosen}
+use Rattle.dd_written.specs.lemmas.Options.{bind_some, some_is, chosen}
 
 pub many_sound : {X : Type 0} (reads : X → List Lexeme → List Lexeme → Type 0) (begins : List Lexeme → Bool) (item : Reader X)
     → ((tokens : List Lexeme) (x : X) (rest : List Lexeme) → begins tokens ≡ true → item tokens ≡ Some (x, rest) → reads x tokens rest)

@@ -1,0 +1,4 @@
+pub mod Options
+pub mod Many
+pub mod Rounds
+pub mod Names
