@@ -16,3 +16,5 @@ pub mod Commands
 pub mod Sound
 -- what comes of adding to what was seen
 pub mod walk
+-- lemmas on what stands above, with their proofs, for whoever cites them
+pub mod lemmas

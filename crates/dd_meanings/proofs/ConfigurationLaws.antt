@@ -3,7 +3,7 @@ use Rattle.std.proofs.Common.{◌≡◌, ◌<◌, ◌≤◌, ℕ, zero, suc, ◌
 use Rattle.std.specs.Prelude.{◌||◌, ◌&&◌, ◌==◌, nat_lt, nat_le, not, unwrap_or, slice_get, slice_index, if◌then◌else◌}
 use Rattle.std.specs.List.{All}
 use Rattle.std.specs.Option.{option_map_or}
-use Rattle.std.proofs.lemmas.Bool.{and_parts, ltb-false, leb-true, eqb-true}
+use Rattle.std.proofs.lemmas.Bool.{and_parts, or_parts, ltb-false, leb-true, eqb-true}
 use Rattle.std.proofs.lemmas.Bool.Decides.{nat_tests}
 use Rattle.std.proofs.lemmas.List.{length-map}
 use Rattle.std.proofs.lemmas.List.Elements.{All-cons, All-nil}
@@ -21,12 +21,14 @@ use Rattle.dd_faults.specs.declared.fault.Fault.TheVariants as fault
 use Rattle.dd_faults.specs.declared.context.Context.{Context}
 use Rattle.dd_faults.specs.Order.{when, over}
 use Rattle.dd_faults.specs.Names.{place_of_name}
-use Rattle.dd_faults.specs.Commands.{dimension_of, entry_value, has_entries, is_allowed, symbol_faults, product, period_at, shear_of, shear_fits, box_fits, box_faults}
+use Rattle.dd_faults.specs.Commands.{dimension_of, has_entries, is_allowed, symbol_faults, product, period_at, shear_of, shear_fits, box_fits, box_faults}
 use Rattle.dd_faults.specs.Sound.{IsSound}
 use Rattle.dd_meanings.specs.Definitions.{symbol_of, configuration_periods, tile_of}
 use Rattle.dd_meanings.specs.Sound.{IsConfigurationOf}
 use Rattle.dd_meanings.specs.making.Parts.{HasShortPeriods, tile_with}
-use Rattle.dd_meanings.proofs.Nothing.{both_nil, within, neither, present}
+use Rattle.dd_faults.specs.lemmas.Nothing.{both_nil, within}
+use Rattle.dd_faults.specs.lemmas.Periods.{entry_at, no_entry}
+use Rattle.dd_meanings.proofs.Nothing.{present}
 
 -- ---- symbols
 
@@ -72,20 +74,12 @@ symbol_allowed x k (n ∷ ns) (suc i) none below =
 
 -- ---- periods
 
-abbrev entry_at : List ℕ → List Entry → ℕ → ℕ
-entry_at bytes es axis = option_map_or (entry_value bytes) (slice_get es axis) 1
-
 product_is : (bytes : List ℕ) (es : List Entry) → length es ≤ 3 → product bytes es ≡ entry_at bytes es 0 * (entry_at bytes es 1 * (entry_at bytes es 2 * 1))
 product_is bytes [] few = refl
 product_is bytes (a ∷ []) few = refl
 product_is bytes (a ∷ b ∷ []) few = refl
 product_is bytes (a ∷ b ∷ c ∷ []) few = refl
 product_is bytes (a ∷ b ∷ c ∷ d ∷ es) few = absurd (omega (arith, few))
-
-no_entry : (bytes : List ℕ) (es : List Entry) (axis : ℕ) → length es ≤ axis → entry_at bytes es axis ≡ 1
-no_entry bytes [] axis h = refl
-no_entry bytes (e ∷ es) zero h = absurd (omega arith)
-no_entry bytes (e ∷ es) (suc axis) h = no_entry bytes es axis (omega arith)
 
 some_factor : (a b : ℕ) → 1 ≤ a * b → 1 ≤ a
 some_factor zero b h = omega (arith, h)
@@ -156,7 +150,7 @@ box_is x periods shear count none =
     let both = fits_or (box_fits x periods shear count) passed none in
     let all = and_parts (has_entries d periods && shear_fits d shear) (product x.text periods.entries * length x.known.setting.nodes == count) both.0 in
     let two = and_parts (has_entries d periods) (shear_fits d shear) all.0 in
-    let limits = neither (nat_lt 65536 count) (nat_le (period_at x.text periods 0) (shear_of x.text shear)) both.1 in
+    let limits = or_parts (nat_lt 65536 count) (nat_le (period_at x.text periods 0) (shear_of x.text shear)) both.1 in
     record {
       entries = eqb-true (length periods.entries) d two.0;
       sheared = two.1;

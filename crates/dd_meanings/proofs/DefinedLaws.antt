@@ -5,7 +5,7 @@ use Rattle.dd_faults.specs.declared.fault.Fault.{Fault}
 use Rattle.dd_faults.specs.declared.context.Context.{Context}
 use Rattle.dd_faults.specs.Names.{named_again}
 use Rattle.dd_meanings.specs.Sound.{IsNew}
-use Rattle.dd_meanings.proofs.Nothing.{both_nil}
+use Rattle.dd_faults.specs.lemmas.Nothing.{both_nil}
 use Rattle.dd_meanings.proofs.NameLaws.{is_new}
 
 -- a new name, and no fault in what follows it

@@ -22,7 +22,7 @@ use Rattle.dd_formula.specs.declared.automaton.Automaton.TheVariants as automato
 use Rattle.dd_meanings.specs.declared.cases.CaseOf.{CaseOf}
 use Rattle.dd_meanings.specs.Definitions.{case_of, symbol_of, automaton_of, automaton_at, count_faults}
 use Rattle.dd_meanings.specs.making.Parts.{refusal_of, meant_case, made_case, given_by, IsCaseOf}
-use Rattle.dd_meanings.proofs.Nothing.{both_nil}
+use Rattle.dd_faults.specs.lemmas.Nothing.{both_nil}
 use Rattle.dd_meanings.proofs.NameLaws.{number_below}
 use Rattle.dd_meanings.proofs.WellFormed.{is_formula}
 use Rattle.dd_meanings.proofs.SizeLaws.{fault_refuses, formed_passes}

@@ -25,9 +25,10 @@ use Rattle.dd_faults.specs.Names.{missing, number_in}
 use Rattle.dd_faults.specs.Repeats.{first_repeat, edge_key, twice_label, twice_labelled}
 use Rattle.dd_faults.specs.Commands.{dimension_of, unless, has_entries, is_far, edge_faults, faults_of}
 use Rattle.dd_meanings.specs.Topologies.{first_seen_names, label_text, labels_of, edge_of}
-use Rattle.dd_meanings.proofs.Nothing.{both_nil, fits, within, all_none}
+use Rattle.dd_faults.specs.lemmas.Nothing.{both_nil, fits, within}
+use Rattle.dd_query.specs.lemmas.Offsets.{offset_is}
+use Rattle.dd_meanings.proofs.Nothing.{all_none}
 use Rattle.dd_meanings.proofs.NameLaws.{contained, is_named, text_below, same_name, once}
-use Rattle.dd_meanings.proofs.OffsetLaws.{offset_within}
 
 -- the label of an edge is among the labels, its nodes are among the nodes, and it leads no further than 4 along an axis of Z^d
 pub record HasEnds (x : Context) (labels : List (List ℕ)) (e : Written) : Type 0 where
@@ -138,7 +139,7 @@ one_edge x labels e h =
     let label = below_test (number_in x.text labels (name.Word e.label)) (length labels) (text_below labels (label_text x.text e) h.label) in
     let from = below_test (number_in x.text nodes e.from) (length nodes) (text_below nodes (name_text x.text e.from) h.from) in
     let to = below_test (number_in x.text nodes e.to) (length nodes) (text_below nodes (name_text x.text e.to) h.to) in
-    and_from _ _ (and_from _ _ (and_from _ _ label from) to) (offset_within x.text e.offset (dimension_of x.known) h.close (eqb-true (length e.offset.entries) (dimension_of x.known) h.offset))
+    and_from _ _ (and_from _ _ (and_from _ _ label from) to) (offset_is x.text (dimension_of x.known) e.offset h.close h.offset)
 
 pub are_edges : (x : Context) (es : List Written) → faults_of x (command.Edges es) ≡ []
     → list_all (is_edge (dimension_of x.known) (length x.known.setting.nodes) (length (labels_of x.text es))) (map (edge_of x.text (labels_of x.text es) x.known.setting.nodes) es) ≡ true

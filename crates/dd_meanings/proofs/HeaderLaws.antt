@@ -2,8 +2,7 @@
 use Rattle.std.proofs.Common.{◌≡◌, ℕ, ◌≤◌, ◌<◌, Bool, true, false, cond, eqb, nat_lt, List, [], ◌∷◌, ◌++◌, length, map, slice_index_or, refl, sym, ap, ◌∙◌, subst, arith}
 use Rattle.std.specs.Prelude.{◌==◌, ◌||◌, ◌&&◌, nat_le, min}
 use Rattle.std.specs.List.{All, flat_map}
-use Rattle.std.proofs.lemmas.Bool.{and_parts, eqb-true}
-use Rattle.std.proofs.lemmas.Bool.Decides.{nat_tests}
+use Rattle.std.proofs.lemmas.Bool.{and_parts, eqb-true, ltb-false, leb-true}
 use Rattle.std.proofs.lemmas.List.{length-map}
 use Rattle.std.proofs.lemmas.List.Elements.{All-nil, All-cons, All-get_or}
 use Rattle.dd_written.specs.declared.lexeme.Number.{Number}
@@ -23,21 +22,15 @@ use Rattle.dd_faults.specs.Commands.{unless, dimension_of, weight_faults, restri
 use Rattle.dd_meanings.specs.Topologies.{plain_kind, default_grid}
 use Rattle.dd_meanings.specs.Definitions.{symbol_of}
 use Rattle.dd_meanings.specs.Sound.{IsGridOf, AreNames, IsSymbolRestriction, AreScriptWeights}
-use Rattle.dd_meanings.proofs.Nothing.{both_nil, fits, within}
+use Rattle.dd_faults.specs.lemmas.Nothing.{both_nil, fits, within}
 use Rattle.dd_meanings.proofs.NameLaws.{number_below}
-
-at_most : (a b : ℕ) → nat_lt a b ≡ false → b ≤ a
-at_most a b e = grind (arith, nat_tests, e)
-
-le_from : (a b : ℕ) → nat_le a b ≡ true → a ≤ b
-le_from a b e = grind (arith, nat_tests, e)
 
 -- ---- the dimension
 
 pub dimension_within : (x : Context) (n : Number) → faults_of x (command.Dimension n) ≡ [] → (1 ≤ written_value x.text n) × (written_value x.text n ≤ 3)
 dimension_within x n h =
     let both = and_parts (nat_le 1 (written_value x.text n)) (nat_le (written_value x.text n) 3) (fits (nat_le 1 (written_value x.text n) && nat_le (written_value x.text n) 3) h) in
-    (le_from 1 (written_value x.text n) both.0, le_from (written_value x.text n) 3 both.1)
+    (leb-true 1 (written_value x.text n) both.0, leb-true (written_value x.text n) 3 both.1)
 
 pub uncut : (n m : ℕ) → m ≡ min n 4294967295 → n ≤ 1000000 → m ≡ n
 uncut n m is le = omega (arith, is, le)
@@ -84,7 +77,7 @@ pub few_nodes : (x : Context) (names : List Name) → faults_of x (command.Nodes
 few_nodes x names h =
     let shape = unless (x.later || nat_le (length names) 1) in
     let many = over (nat_lt 4 (length names)) limit.Nodes in
-    at_most 4 (length names) (within (nat_lt 4 (length names)) limit.Nodes (both_nil shape many (both_nil (twice_named x.text names) (shape ++ many) h).1).1)
+    ltb-false 4 (length names) (within (nat_lt 4 (length names)) limit.Nodes (both_nil shape many (both_nil (twice_named x.text names) (shape ++ many) h).1).1)
 
 pub nodes_once : (x : Context) (names : List Name) → faults_of x (command.Nodes names) ≡ [] → twice_named x.text names ≡ []
 nodes_once x names h =
@@ -93,7 +86,7 @@ nodes_once x names h =
     (both_nil (twice_named x.text names) (shape ++ many) h).0
 
 pub few_symbols : (x : Context) (names : List Name) → faults_of x (command.Alphabet names) ≡ [] → length names ≤ 16
-few_symbols x names h = at_most 16 (length names) (within (nat_lt 16 (length names)) limit.Alphabet (both_nil (twice_named x.text names) (over (nat_lt 16 (length names)) limit.Alphabet) h).1)
+few_symbols x names h = ltb-false 16 (length names) (within (nat_lt 16 (length names)) limit.Alphabet (both_nil (twice_named x.text names) (over (nat_lt 16 (length names)) limit.Alphabet) h).1)
 
 pub symbols_once : (x : Context) (names : List Name) → faults_of x (command.Alphabet names) ≡ [] → twice_named x.text names ≡ []
 symbols_once x names h = (both_nil (twice_named x.text names) (over (nat_lt 16 (length names)) limit.Alphabet) h).0
@@ -130,7 +123,7 @@ restriction_is x node symbols some h =
 -- ---- weights and limits
 
 weight_light : (x : Context) (n : Number) → weight_faults x n ≡ [] → written_value x.text n ≤ 1000
-weight_light x n h = at_most 1000 (written_value x.text n) (within (nat_lt 1000 (written_value x.text n)) limit.Weight h)
+weight_light x n h = ltb-false 1000 (written_value x.text n) (within (nat_lt 1000 (written_value x.text n)) limit.Weight h)
 
 all_light : (x : Context) (ns : List Number) → flat_map (weight_faults x) ns ≡ [] → All (λ n. written_value x.text n ≤ 1000) ns
 all_light x [] h = All-nil (λ n. written_value x.text n ≤ 1000)

@@ -1,4 +1,4 @@
--- The meaning and the faults of a formula, from those of its parts; and how deep its parts are.
+-- The meaning of a formula, from those of its parts; which parts have no fault, and how deep they are.
 use Rattle.std.proofs.Common.{◌≡◌, ℕ, ◌+◌, ◌≤◌, ◌<◌, suc, zero, List, [], ◌∷◌, ◌++◌, map, length, slice_index_or, refl, sym, ap, ◌∙◌, arith}
 use Rattle.std.specs.Prelude.{max, nat_lt}
 use Rattle.std.specs.List.{flat_map}
@@ -14,17 +14,17 @@ use Rattle.dd_written.specs.declared.tree.Formula.TheOpen.{Formula-F as Written-
 use Rattle.dd_written.specs.Formulas.{tree_depth, tree_depth_step, greatest_depth}
 use Rattle.dd_expansion.specs.declared.formulas.Formula.{Formula}
 use Rattle.dd_written.specs.declared.tree.Name.TheVariants as name
-use Rattle.dd_faults.specs.declared.fault.Fault.{Fault}
 use Rattle.dd_faults.specs.declared.fault.Fault.TheVariants as fault
 use Rattle.dd_faults.specs.declared.fault.Limit.TheVariants as limit
 use Rattle.dd_faults.specs.Order.{when, over}
 use Rattle.dd_faults.specs.Names.{is_variable}
 use Rattle.dd_faults.specs.declared.context.Context.{Context}
-use Rattle.dd_faults.specs.Formulas.{ball_faults, quantor_faults, faults_step, formula_faults}
+use Rattle.dd_faults.specs.Formulas.{ball_faults, quantor_faults, formula_faults}
 use Rattle.dd_meanings.specs.Formulas.{joined_of, formula_step, formula_of}
-use Rattle.dd_meanings.proofs.Nothing.{both_nil}
+use Rattle.dd_faults.specs.lemmas.Nothing.{both_nil}
+use Rattle.dd_faults.specs.lemmas.Layers.{faults_not, faults_group, faults_list, faults_quantified, faults_implies, faults_iff}
 
-flat_map_map : {X Y Z : Type 0} (g : Y → List Z) (f : X → Y) (xs : List X) → flat_map g (map f xs) ≡ flat_map (λ x. g (f x)) xs
+map_map : {X Y Z : Type 0} (g : Y → List Z) (f : X → Y) (xs : List X) → flat_map g (map f xs) ≡ flat_map (λ x. g (f x)) xs
 flat_map_map g f [] = refl
 flat_map_map g f (x ∷ xs) = ap (λ (zs : List _). g (f x) ++ zs) (flat_map_map g f xs)
 
@@ -32,31 +32,10 @@ map_map : {X Y Z : Type 0} (g : Y → Z) (f : X → Y) (xs : List X) → map g (
 map_map g f [] = refl
 map_map g f (x ∷ xs) = ap (λ (zs : List _). g (f x) ∷ zs) (map_map g f xs)
 
-abbrev rolled : List Word → (List Word → List Fault) → List Fault
-rolled scope h = h scope
-
 pub formula_list : (x : Context) (j : Join) (fs : List Written) (scope : List Word) → formula_of x (v.List j fs) scope ≡ joined_of j (map (λ f. formula_of x f scope) fs)
 formula_list x j fs scope =
     ap (λ f. formula_of x f scope) (sym (v.rolls-List j fs))
     ∙ (ap (λ (h : List Word → Formula). h scope) (fold-roll-Formula (List Word → Formula) (formula_step x) (Written-F.List j fs)) ∙ ap (joined_of j) (map_map (λ (h : List Word → Formula). h scope) (formula_of x) fs))
-
-pub faults_list : (x : Context) (j : Join) (fs : List Written) (scope : List Word) → formula_faults x (v.List j fs) scope ≡ flat_map (λ f. formula_faults x f scope) fs
-faults_list x j fs scope =
-    ap (λ f. formula_faults x f scope) (sym (v.rolls-List j fs))
-    ∙ (ap (rolled scope) (fold-roll-Formula (List Word → List Fault) (faults_step x) (Written-F.List j fs)) ∙ flat_map_map (rolled scope) (formula_faults x) fs)
-
-pub faults_quantified : (x : Context) (q : Quantor) (w : Word) (balls : List Ball) (f : Written) (scope : List Word)
-    → formula_faults x (v.Quantified q w balls f) scope ≡ quantor_faults x scope w balls ++ formula_faults x f (scope ++ w ∷ [])
-faults_quantified x q w balls f scope =
-    ap (λ f. formula_faults x f scope) (sym (v.rolls-Quantified q w balls f)) ∙ ap (rolled scope) (fold-roll-Formula (List Word → List Fault) (faults_step x) (Written-F.Quantified q w balls f))
-
-pub faults_implies : (x : Context) (f g : Written) (scope : List Word) → formula_faults x (v.Implies f g) scope ≡ formula_faults x f scope ++ formula_faults x g scope
-faults_implies x f g scope =
-    ap (λ f. formula_faults x f scope) (sym (v.rolls-Implies f g)) ∙ ap (rolled scope) (fold-roll-Formula (List Word → List Fault) (faults_step x) (Written-F.Implies f g))
-
-pub faults_iff : (x : Context) (f g : Written) (scope : List Word) → formula_faults x (v.Iff f g) scope ≡ formula_faults x f scope ++ formula_faults x g scope
-faults_iff x f g scope =
-    ap (λ f. formula_faults x f scope) (sym (v.rolls-Iff f g)) ∙ ap (rolled scope) (fold-roll-Formula (List Word → List Fault) (faults_step x) (Written-F.Iff f g))
 
 -- a member is no deeper than the deepest
 pub member_depth : (fs : List Written) (i n most : ℕ) (f : Written) → i < length fs → f ≡ slice_index_or fs i f → n + greatest_depth (map tree_depth fs) ≤ most → n + tree_depth f ≤ most
@@ -90,12 +69,10 @@ pub list_parts : (x : Context) (scope : List Word) (whole : Written) (j : Join) 
 list_parts x scope whole j fs is none = sym (faults_list x j fs scope) ∙ (ap (λ h. formula_faults x h scope) (sym is) ∙ none)
 
 pub not_part : (x : Context) (scope : List Word) (whole f : Written) → whole ≡ v.Not f → none_in x scope whole → none_in x scope f
-not_part x scope whole f is none =
-    sym (ap (λ f. formula_faults x f scope) (sym (v.rolls-Not f)) ∙ ap (rolled scope) (fold-roll-Formula (List Word → List Fault) (faults_step x) (Written-F.Not f))) ∙ (ap (λ h. formula_faults x h scope) (sym is) ∙ none)
+not_part x scope whole f is none = sym (faults_not x f scope) ∙ (ap (λ h. formula_faults x h scope) (sym is) ∙ none)
 
 pub group_part : (x : Context) (scope : List Word) (whole f : Written) → whole ≡ v.Group f → none_in x scope whole → none_in x scope f
-group_part x scope whole f is none =
-    sym (ap (λ f. formula_faults x f scope) (sym (v.rolls-Group f)) ∙ ap (rolled scope) (fold-roll-Formula (List Word → List Fault) (faults_step x) (Written-F.Group f))) ∙ (ap (λ h. formula_faults x h scope) (sym is) ∙ none)
+group_part x scope whole f is none = sym (faults_group x f scope) ∙ (ap (λ h. formula_faults x h scope) (sym is) ∙ none)
 
 pub depth_not : (whole f : Written) → whole ≡ v.Not f → tree_depth whole ≡ 1 + tree_depth f
 depth_not whole f is = ap tree_depth is ∙ (ap tree_depth (sym (v.rolls-Not f)) ∙ fold-roll-Formula ℕ tree_depth_step (Written-F.Not f))

@@ -2,7 +2,6 @@ pub mod Nothing
 pub mod Making
 pub mod Layers
 pub mod NameLaws
-pub mod OffsetLaws
 pub mod EdgeLaws
 pub mod HeaderLaws
 pub mod WrittenLaws

@@ -3,7 +3,7 @@ use Rattle.std.proofs.Common.{◌≡◌, ℕ, ◌<◌, ◌+◌, zero, suc, Bool,
 use Rattle.std.specs.Prelude.{if◌then◌else◌, slice_get, bytes_eq, unwrap_or, is_some, option_map, codes, position, MatchOption, OnOk, Result, IfSome, nat_lt, not}
 use Rattle.std.specs.List.{list_any, position_or_len}
 use Rattle.std.specs.Cmp.Lexicographic.{nat_list_eq_equiv}
-use Rattle.std.proofs.lemmas.Bool.{false_from_ne_true, cond_both, ltb-true}
+use Rattle.std.proofs.lemmas.Bool.{or_parts, false_from_ne_true, cond_both, ltb-true}
 use Rattle.std.proofs.lemmas.Bool.Decides.{nat_tests}
 use Rattle.std.proofs.lemmas.List.{append-nil, append_assoc, length-map, length-take-le}
 use Rattle.std.proofs.lemmas.Map.Views.{list_any-from_Contains, Contains-from_any}
@@ -23,7 +23,7 @@ use Rattle.dd_faults.specs.Names.{place_of_name, missing, number_in, same_text, 
 use Rattle.dd_faults.specs.Repeats.{first_repeat}
 use Rattle.dd_meanings.specs.Formulas.{variable_number}
 use Rattle.dd_meanings.specs.Sound.{IsNew}
-use Rattle.dd_meanings.proofs.Nothing.{present, not_when, neither}
+use Rattle.dd_meanings.proofs.Nothing.{present, not_when}
 
 -- a test that some element passes is passed before the end
 found_before : {X : Type 0} (p : X → Bool) (xs : List X) → list_any p xs ≡ true → position_or_len p xs < length xs
@@ -110,8 +110,8 @@ is_new x w h =
     let k = x.known in
     let bytes = x.text in
     let none = not_when (is_some (place_of_name bytes k.rules (name.Word w)) || is_some (place_of_name bytes k.automata (name.Word w)) || is_some (place_of_name bytes k.configurations (name.Word w))) (fault.Twice (name.Word w)) h in
-    let both = neither (is_some (place_of_name bytes k.rules (name.Word w)) || is_some (place_of_name bytes k.automata (name.Word w))) (is_some (place_of_name bytes k.configurations (name.Word w))) none in
-    let front = neither (is_some (place_of_name bytes k.rules (name.Word w))) (is_some (place_of_name bytes k.automata (name.Word w))) both.0 in
+    let both = or_parts (is_some (place_of_name bytes k.rules (name.Word w)) || is_some (place_of_name bytes k.automata (name.Word w))) (is_some (place_of_name bytes k.configurations (name.Word w))) none in
+    let front = or_parts (is_some (place_of_name bytes k.rules (name.Word w))) (is_some (place_of_name bytes k.automata (name.Word w))) both.0 in
     record {
       rules = absent k.rules (word_text bytes w) front.0;
       automata = absent k.automata (word_text bytes w) front.1;

@@ -1,24 +1,11 @@
 -- Where there is no fault, there is none in a part.
-use Rattle.std.proofs.Common.{◌≡◌, ℕ, ◌<◌, zero, suc, Bool, true, false, List, [], ◌∷◌, ◌++◌, length, slice_index_or, refl, ap, ◌∙◌, arith}
-use Rattle.std.specs.Prelude.{◌||◌, not}
+use Rattle.std.proofs.Common.{◌≡◌, ℕ, ◌<◌, zero, suc, Bool, true, false, List, [], ◌∷◌, length, slice_index_or, refl, ap, ◌∙◌, arith}
+use Rattle.std.specs.Prelude.{not}
 use Rattle.std.specs.List.{All, flat_map}
 use Rattle.std.proofs.lemmas.List.Elements.{All-nil, All-cons}
-use Rattle.dd_faults.specs.declared.fault.Limit.{Limit}
 use Rattle.dd_faults.specs.declared.fault.Fault.{Fault}
-use Rattle.dd_faults.specs.Order.{when, over}
-use Rattle.dd_faults.specs.Commands.{unless}
-
-pub both_nil : {X : Type 0} (xs ys : List X) → xs ++ ys ≡ [] → (xs ≡ []) × (ys ≡ [])
-both_nil [] ys e = (refl, e)
-both_nil (x ∷ xs) ys e = absurd cc
-
-pub fits : (b : Bool) → unless b ≡ [] → b ≡ true
-fits true e = refl
-fits false e = absurd cc
-
-pub within : (b : Bool) (l : Limit) → over b l ≡ [] → b ≡ false
-within true l e = absurd cc
-within false l e = refl
+use Rattle.dd_faults.specs.Order.{when}
+use Rattle.dd_faults.specs.lemmas.Nothing.{both_nil}
 
 pub not_when : (b : Bool) (f : Fault) → when b f ≡ [] → b ≡ false
 not_when true f e = absurd cc
@@ -27,10 +14,6 @@ not_when false f e = refl
 pub present : (b : Bool) (f : Fault) → when (not b) f ≡ [] → b ≡ true
 present true f e = refl
 present false f e = absurd cc
-
-pub neither : (a b : Bool) → (a || b) ≡ false → (a ≡ false) × (b ≡ false)
-neither true b e = absurd cc
-neither false b e = (refl, e)
 
 -- no element has a fault
 pub all_none : {X Y : Type 0} (f : X → List Y) (xs : List X) → flat_map f xs ≡ [] → All (λ x. f x ≡ []) xs

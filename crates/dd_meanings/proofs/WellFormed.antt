@@ -39,7 +39,7 @@ use Rattle.dd_faults.specs.Formulas.{unknown_label, term_faults, names_symbol, s
 use Rattle.dd_faults.specs.Sound.{IsSound}
 use Rattle.dd_meanings.specs.Formulas.{label_of, term_of, equal_of, not_equal_of, atom_of, ball_of, joined_of, quantified_of, formula_step, formula_of}
 use Rattle.dd_meanings.specs.making.Parts.{IsFormulaOf}
-use Rattle.dd_meanings.proofs.Nothing.{both_nil, within}
+use Rattle.dd_faults.specs.lemmas.Nothing.{both_nil, within}
 use Rattle.dd_meanings.proofs.NameLaws.{number_below, variable_below}
 use Rattle.dd_meanings.proofs.Depths.{no_deeper}
 

@@ -31,7 +31,7 @@ use Rattle.dd_meanings.specs.declared.meaning.Meaning.TheVariants as meant
 use Rattle.dd_meanings.specs.Topologies.{kind_names}
 use Rattle.dd_meanings.specs.Meanings.{kind_meaning, meaning, counted_sizes}
 use Rattle.dd_meanings.specs.Sound.{IsSoundMeaning}
-use Rattle.dd_meanings.proofs.Nothing.{both_nil}
+use Rattle.dd_faults.specs.lemmas.Nothing.{both_nil}
 
 module _ (x : Context) (w : Written) (c : Command) (is : w.command ≡ c) where
   -- no fault of the command itself

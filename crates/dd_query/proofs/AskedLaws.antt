@@ -27,7 +27,7 @@ use Rattle.dd_faults.specs.Sound.{IsSound}
 use Rattle.dd_query.specs.Queries.{word_at, strip_periods, places_of, query_asked}
 use Rattle.dd_query.specs.Asked.{IsAsked}
 use Rattle.dd_query.specs.Sound.{AreStripPeriods, AreQueryVectors, IsQueryWithin}
-use Rattle.dd_query.proofs.Nils.{both_nil}
+use Rattle.dd_faults.specs.lemmas.Nothing.{both_nil}
 use Rattle.dd_query.proofs.WordLaws.{word_there}
 use Rattle.dd_query.proofs.ShapeLaws.{value_small, strip_is, all_close, all_whole, vectors_are}
 use Rattle.dd_query.proofs.VectorLaws.{IsReadFrom, vectors_differ}

@@ -1,4 +1,3 @@
-pub mod Nils
 pub mod WordLaws
 pub mod EntryLaws
 pub mod ShapeLaws

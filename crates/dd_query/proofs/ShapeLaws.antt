@@ -1,25 +1,23 @@
 -- The strips and the vectors of questions without a fault.
 use Rattle.std.proofs.Common.{◌≡◌, ◌≤◌, ◌+◌, ℕ, zero, suc, true, false, List, [], ◌∷◌, None, length, map, refl, ap, arith}
-use Rattle.std.specs.Prelude.{◌==◌, ◌≢◌, nat_lt, nat_le, cond, pos, ◌-ℤ◌, unsigned_abs, slice_get, slice_index, AllPairs}
+use Rattle.std.specs.Prelude.{◌==◌, ◌≢◌, nat_lt, slice_get, slice_index, AllPairs}
 use Rattle.std.specs.List.{list_any, list_all, flat_map}
-use Rattle.std.specs.Option.{option_map_or}
-use Rattle.std.proofs.lemmas.Bool.{eqb-true, ltb-false, lt-ltb, le-leb, and_parts, and_from}
-use Rattle.std.proofs.lemmas.Bool.Decides.{nat_tests}
-use Rattle.std.proofs.lemmas.Int.{ints}
-use Rattle.dd_topology.specs.Grid.{edge_reach, is_offset}
+use Rattle.std.proofs.lemmas.Bool.{eqb-true, or_parts, ltb-false, and_parts, and_from}
+use Rattle.dd_topology.specs.Grid.{is_offset}
 use Rattle.dd_written.specs.declared.lexeme.Number.{Number}
 use Rattle.dd_written.specs.Values.{written_value}
 use Rattle.dd_commands.specs.declared.command.Entry.{Entry}
-use Rattle.dd_commands.specs.declared.command.Entry.TheVariants as entry
 use Rattle.dd_commands.specs.declared.command.Vector.{Vector}
 use Rattle.dd_faults.specs.declared.fault.Limit.TheVariants as limit
 use Rattle.dd_faults.specs.declared.context.Context.{Context}
 use Rattle.dd_faults.specs.Order.{over}
 use Rattle.dd_faults.specs.Commands.{unless, dimension_of, entry_value, has_entries, is_far, radius_faults, is_no_strip, strip_faults, vector_faults}
-use Rattle.dd_query.specs.Vectors.{signed_value, coordinate, place_of}
+use Rattle.dd_faults.specs.lemmas.Nothing.{both_nil, fits, within}
+use Rattle.dd_faults.specs.lemmas.Periods.{entry_at, no_entry}
+use Rattle.dd_query.specs.Vectors.{place_of}
 use Rattle.dd_query.specs.Queries.{strip_periods}
 use Rattle.dd_query.specs.Sound.{AreStripPeriods, AreQueryVectors}
-use Rattle.dd_query.proofs.Nils.{both_nil, fits, within, neither}
+use Rattle.dd_query.specs.lemmas.Offsets.{offset_is}
 
 -- ---- numbers
 
@@ -35,20 +33,12 @@ no_value f (n ∷ ns) (suc i) h = no_value f ns i h
 
 -- ---- strips
 
-abbrev entry_at : List ℕ → List Entry → ℕ → ℕ
-entry_at bytes es axis = option_map_or (entry_value bytes) (slice_get es axis) 1
-
 period_within : (bytes : List ℕ) (es : List Entry) (j : ℕ) → list_any (is_no_strip bytes) es ≡ false → (1 ≤ entry_at bytes es j) × (entry_at bytes es j ≤ 64)
 period_within bytes [] j h = (omega arith, omega arith)
 period_within bytes (e ∷ es) zero h =
-    let here = neither (nat_lt (entry_value bytes e) 1) (nat_lt 64 (entry_value bytes e)) (neither (is_no_strip bytes e) (list_any (is_no_strip bytes) es) h).0 in
+    let here = or_parts (nat_lt (entry_value bytes e) 1) (nat_lt 64 (entry_value bytes e)) (or_parts (is_no_strip bytes e) (list_any (is_no_strip bytes) es) h).0 in
     (ltb-false (entry_value bytes e) 1 here.0, ltb-false 64 (entry_value bytes e) here.1)
-period_within bytes (e ∷ es) (suc j) h = period_within bytes es j (neither (is_no_strip bytes e) (list_any (is_no_strip bytes) es) h).1
-
-no_period : (bytes : List ℕ) (es : List Entry) (j : ℕ) → length es ≤ j → entry_at bytes es j ≡ 1
-no_period bytes [] j h = refl
-no_period bytes (e ∷ es) zero h = absurd (omega arith)
-no_period bytes (e ∷ es) (suc j) h = no_period bytes es j (omega arith)
+period_within bytes (e ∷ es) (suc j) h = period_within bytes es j (or_parts (is_no_strip bytes e) (list_any (is_no_strip bytes) es) h).1
 
 -- the one vector of a strip
 pub strip_is : (x : Context) (v : Vector) → flat_map (strip_faults x) (v ∷ []) ≡ [] → AreStripPeriods (dimension_of x.known) (strip_periods x.text (v ∷ []))
@@ -60,45 +50,16 @@ strip_is x v none =
     record {
       second = period_within x.text v.entries 0 short;
       third = period_within x.text v.entries 1 short;
-      no_second = λ h. no_period x.text v.entries 0 (omega (arith, less, h));
-      no_third = λ h. no_period x.text v.entries 1 (omega (arith, less, h));
+      no_second = λ h. no_entry x.text v.entries 0 (omega (arith, less, h));
+      no_third = λ h. no_entry x.text v.entries 1 (omega (arith, less, h));
     }
 
 -- ---- vectors
 
-close_entry : (bytes : List ℕ) (e : Entry) → nat_lt 4 (entry_value bytes e) ≡ false → unsigned_abs (signed_value bytes e) ≤ 4
-close_entry bytes (entry.Number n) h = ltb-false 4 (written_value bytes n) h
-close_entry bytes (entry.Negative n) h = negated (written_value bytes n) (ltb-false 4 (written_value bytes n) h)
-  where
-    negated : (m : ℕ) → m ≤ 4 → unsigned_abs (pos 0 -ℤ pos m) ≤ 4
-    negated zero small = omega arith
-    negated (suc m) small = omega (arith, ints, small)
-
-one_further : (a b : ℕ) → nat_lt (suc a) (suc b) ≡ nat_lt a b
-one_further a b = grind (arith, nat_tests)
-
-close_at : (bytes : List ℕ) (es : List Entry) (axis : ℕ) → list_any (λ e. nat_lt 4 (entry_value bytes e)) es ≡ false →
-    unsigned_abs (option_map_or (signed_value bytes) (slice_get es axis) (pos 0)) ≤ cond (nat_lt axis (length es)) 4 0
-close_at bytes [] axis h = omega (arith, ints)
-close_at bytes (e ∷ es) zero h =
-    let inside : nat_lt 0 (length (e ∷ es)) ≡ true = lt-ltb 0 (length (e ∷ es)) (omega arith) in
-    rw inside (close_entry bytes e (neither (nat_lt 4 (entry_value bytes e)) (list_any (λ a. nat_lt 4 (entry_value bytes a)) es) h).0)
-close_at bytes (e ∷ es) (suc axis) h =
-    let same : nat_lt (suc axis) (length (e ∷ es)) ≡ nat_lt axis (length es) = one_further axis (length es) in
-    rw same (close_at bytes es axis (neither (nat_lt 4 (entry_value bytes e)) (list_any (λ a. nat_lt 4 (entry_value bytes a)) es) h).1)
-
-on_axis : (bytes : List ℕ) (d : ℕ) (v : Vector) (axis : ℕ) → is_far bytes v ≡ false → has_entries d v ≡ true → nat_le (unsigned_abs (coordinate bytes v axis)) (edge_reach d axis) ≡ true
-on_axis bytes d v axis close all =
-    le-leb _ _ (rw (← eqb-true (length v.entries) d all) (close_at bytes v.entries axis close))
-
-offset_is : (bytes : List ℕ) (d : ℕ) (v : Vector) → is_far bytes v ≡ false → has_entries d v ≡ true → is_offset d (place_of bytes v) ≡ true
-offset_is bytes d v close all =
-    and_from _ _ (and_from _ _ (on_axis bytes d v 0 close all) (on_axis bytes d v 1 close all)) (on_axis bytes d v 2 close all)
-
 offsets_are : (bytes : List ℕ) (d : ℕ) (vs : List Vector) → list_any (is_far bytes) vs ≡ false → list_all (has_entries d) vs ≡ true → list_all (is_offset d) (map (place_of bytes) vs) ≡ true
 offsets_are bytes d [] close all = refl
 offsets_are bytes d (v ∷ vs) close all =
-    let near = neither (is_far bytes v) (list_any (is_far bytes) vs) close in
+    let near = or_parts (is_far bytes v) (list_any (is_far bytes) vs) close in
     let entries = and_parts (has_entries d v) (list_all (has_entries d) vs) all in
     and_from _ _ (offset_is bytes d v near.0 entries.0) (offsets_are bytes d vs near.1 entries.1)
 

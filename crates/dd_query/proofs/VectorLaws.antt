@@ -5,7 +5,7 @@ use Rattle.std.specs.List.{All, list_any, list_all, flat_map}
 use Rattle.std.specs.Option.{option_map_or}
 use Rattle.std.proofs.Math.Nat.{eq-or-lt_of_le}
 use Rattle.std.proofs.Math.Seq.{get_or-append_seam, append_snoc}
-use Rattle.std.proofs.lemmas.Bool.{ltb-false, cases_Bool, both_ways, and_parts, eqb-true}
+use Rattle.std.proofs.lemmas.Bool.{ltb-false, cases_Bool, or_parts, both_ways, and_parts, eqb-true}
 use Rattle.std.proofs.lemmas.Int.{ints}
 use Rattle.std.proofs.lemmas.List.{get_or_append_left, get_or-map, length-append, length-map}
 use Rattle.std.proofs.lemmas.List.Folds.{list_any_at}
@@ -21,7 +21,6 @@ use Rattle.dd_faults.specs.declared.fault.Fault.{Fault}
 use Rattle.dd_faults.specs.Repeats.{first_repeat, entry_text, entry_key, vector_key, twice_vector, twice_vectors}
 use Rattle.dd_faults.specs.Commands.{entry_value, has_entries, is_far}
 use Rattle.dd_query.specs.Vectors.{signed_value, coordinate, place_of}
-use Rattle.dd_query.proofs.Nils.{neither}
 use Rattle.dd_query.proofs.TextLaws.{IsSmallText, lexeme_small}
 
 -- each entry of a vector is a token of the text
@@ -99,8 +98,8 @@ same_key bytes [] [] long is h g near nearby = refl
 same_key bytes [] (b ∷ fs) long is h g near nearby = absurd (omega (arith, long))
 same_key bytes (a ∷ es) [] long is h g near nearby = absurd (omega (arith, long))
 same_key bytes (a ∷ es) (b ∷ fs) long is h g near nearby =
-    let one = neither (is_far_entry bytes a) (list_any (is_far_entry bytes) es) near in
-    let other = neither (is_far_entry bytes b) (list_any (is_far_entry bytes) fs) nearby in
+    let one = or_parts (is_far_entry bytes a) (list_any (is_far_entry bytes) es) near in
+    let other = or_parts (is_far_entry bytes b) (list_any (is_far_entry bytes) fs) nearby in
     let text : entry_text bytes a ≡ entry_text bytes b = same_text bytes a b (h 0 a (omega arith)) (g 0 b (omega arith)) one.0 other.0 (is 0 (omega arith)) in
     let rest : flat_map (entry_key bytes) es ≡ flat_map (entry_key bytes) fs =
     same_key bytes es fs (omega (arith, long)) (λ axis below. is (suc axis) (omega (arith, below))) (tail_read bytes a es h) (tail_read bytes b fs g) one.1 other.1 in
@@ -133,8 +132,8 @@ at_index p (v ∷ vs) (suc i) d h below = at_index p vs i d (and_parts (p v) (li
 
 none_at : (p : Vector → Bool) (vs : List Vector) (i : ℕ) (d : Vector) → list_any p vs ≡ false → i < length vs → p (get_or vs i d) ≡ false
 none_at p [] i d h below = absurd (omega (arith, below))
-none_at p (v ∷ vs) zero d h below = (neither (p v) (list_any p vs) h).0
-none_at p (v ∷ vs) (suc i) d h below = none_at p vs i d (neither (p v) (list_any p vs) h).1 (omega (arith, below))
+none_at p (v ∷ vs) zero d h below = (or_parts (p v) (list_any p vs) h).0
+none_at p (v ∷ vs) (suc i) d h below = none_at p vs i d (or_parts (p v) (list_any p vs) h).1 (omega (arith, below))
 
 nothing : Vector
 nothing = record { entries = [] }

@@ -14,7 +14,7 @@ use Rattle.dd_faults.specs.Order.{when}
 use Rattle.dd_faults.specs.Names.{place_of_name, missing, number_in, named}
 use Rattle.dd_faults.specs.Commands.{word_faults}
 use Rattle.dd_query.specs.Queries.{number_of_word}
-use Rattle.dd_query.proofs.Nils.{both_nil}
+use Rattle.dd_faults.specs.lemmas.Nothing.{both_nil}
 
 abbrev numbers : Context → List Role → List Word → List ℕ
 numbers x rs ws = map (number_of_word x) (zip rs ws)

@@ -12,3 +12,5 @@ pub mod Sound
 pub mod Asked
 -- goals as they are measured
 pub mod measuring
+-- lemmas on what stands above, with their proofs, for whoever cites them
+pub mod lemmas

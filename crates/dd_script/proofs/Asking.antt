@@ -22,10 +22,10 @@ use Rattle.dd_boxes.specs.Boxes.{IsLeastRadius}
 use Rattle.dd_boxes.specs.Counts.{goal_clauses, most_clauses}
 use Rattle.dd_boxes.specs.lemmas.ReachLaws.{least_is_reach, least_is_none, least_is_farthest}
 use Rattle.dd_faults.specs.declared.fault.Fault.{Fault}
-use Rattle.dd_faults.specs.declared.fault.Limit.{Limit}
 use Rattle.dd_faults.specs.declared.fault.Limit.TheVariants as limit
 use Rattle.dd_faults.specs.declared.context.Known.{Known}
 use Rattle.dd_faults.specs.Order.{over}
+use Rattle.dd_faults.specs.lemmas.Nothing.{within as not_over}
 use Rattle.dd_meanings.specs.Sound.{IsConfigurationOf}
 use Rattle.dd_query.specs.declared.queries.Query.{Query}
 use Rattle.dd_query.specs.declared.queries.Query.TheVariants as query
@@ -118,10 +118,6 @@ differing_askable k x f g of left right few =
     askable k x (differ (numbers_of_rule x) f g) (differing x f g)
     (record { dimension = refl; nodes = refl; symbols = refl; left = over_rule k x f of left; right = over_rule k x g of right })
     (aims_at_differing x f g of.rule) few
-
-not_over : (b : Bool) (l : Limit) → over b l ≡ [] → b ≡ false
-not_over true l h = cc
-not_over false l h = refl
 
 about_is : {X : Type 0} (xs : List X) (n : ℕ) (x : X) (f : X → List Fault) → slice_get xs n ≡ Some x → about xs n f ≡ f x
 about_is xs n x f is = rw is refl

@@ -12,7 +12,8 @@ use Rattle.dd_script.specs.declared.draft.Draft.{Draft}
 use Rattle.dd_script.specs.Parts.{IsScriptOf}
 use Rattle.dd_script.specs.drafting.Standing.{IsReady}
 use Rattle.dd_script.specs.drafting.Drafts.{parts_of, with_meaning, Leaves}
-use Rattle.dd_script.proofs.Firsts.{none_first, counted, neither}
+use Rattle.dd_faults.specs.lemmas.Nothing.{none_first}
+use Rattle.dd_script.proofs.Firsts.{counted, neither}
 use Rattle.dd_script.proofs.Places.{header_stands}
 use Rattle.dd_script.proofs.Header.{HasSets, with_kept}
 

@@ -1,6 +1,6 @@
 use Rattle.dd_faults.specs.Formulas.{formula_faults}
 use Rattle.dd_faults.proofs.Noting.{noted_both, noted_item}
-use Rattle.dd_faults.proofs.Layers.{faults_list, faults_quantified, faults_implies, faults_iff}
+use Rattle.dd_faults.specs.lemmas.Layers.{faults_list, faults_quantified, faults_implies, faults_iff}
 use Rattle.dd_faults.proofs.formulas.+faults.Goals as goal
 
 pub formula_in-returns-in_ok-inner-in-Quantified : goal.formula_in-returns-in_ok-inner-in-Quantified

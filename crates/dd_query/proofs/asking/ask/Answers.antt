@@ -2,7 +2,7 @@ use Rattle.std.proofs.Common.{◌≡◌, refl, sym, subst}
 use Rattle.dd_query.specs.declared.queries.Query.{Query}
 use Rattle.dd_query.specs.Queries.{query_of}
 use Rattle.dd_query.specs.Sound.{IsQueryWithin}
-use Rattle.dd_query.proofs.Nils.{none_first}
+use Rattle.dd_faults.specs.lemmas.Nothing.{none_first}
 use Rattle.dd_query.proofs.AskedLaws.{close_kept, within_kept}
 use Rattle.dd_query.proofs.asking.ask.Goals as goal
 

@@ -1,7 +1,8 @@
 use Rattle.std.proofs.Common.{◌≡◌, ◌≤◌, ap, arith}
 use Rattle.dd_faults.specs.Commands.{written_faults}
 use Rattle.dd_script.specs.declared.draft.Draft.{Draft}
-use Rattle.dd_script.proofs.Firsts.{none_first, counted}
+use Rattle.dd_faults.specs.lemmas.Nothing.{none_first}
+use Rattle.dd_script.proofs.Firsts.{counted}
 use Rattle.dd_script.proofs.Stepping.{leaves}
 use Rattle.dd_script.proofs.draft.Draft.step.Goals as goal
 

@@ -1,0 +1,33 @@
+-- Where there is no fault, there is none in a part.
+use Rattle.std.proofs.Common.{◌≡◌, Bool, true, false, List, [], ◌∷◌, ◌++◌, None, Some, refl}
+use Rattle.std.specs.Prelude.{nat_lt, if◌then◌else◌}
+use Rattle.dd_faults.specs.declared.fault.Limit.{Limit}
+use Rattle.dd_faults.specs.declared.fault.Fault.{Fault}
+use Rattle.dd_faults.specs.Order.{fault_rank, noted, first_fault, over}
+use Rattle.dd_faults.specs.Commands.{unless}
+
+pub both_nil : {X : Type 0} (xs ys : List X) → xs ++ ys ≡ [] → (xs ≡ []) × (ys ≡ [])
+both_nil [] ys e = (refl, e)
+both_nil (x ∷ xs) ys e = absurd cc
+
+pub fits : (b : Bool) → unless b ≡ [] → b ≡ true
+fits true e = refl
+fits false e = absurd cc
+
+pub within : (b : Bool) (l : Limit) → over b l ≡ [] → b ≡ false
+within true l e = absurd cc
+within false l e = refl
+
+-- a fault that is noted stays, or a better one takes its place
+some_stays : (g : Fault) (fs : List Fault) → noted (Some g) fs ≡ None → ⊥
+some_stays g [] e = absurd cc
+some_stays g (f ∷ fs) e =
+    (elim (nat_lt (fault_rank f) (fault_rank g)) as (λ b. noted (if b then Some f else Some g) fs ≡ None → ⊥) [
+      | true ↦ some_stays f fs
+      | false ↦ some_stays g fs
+    ]) e
+
+-- where no fault is the first there is none
+pub none_first : (fs : List Fault) → first_fault fs ≡ None → fs ≡ []
+none_first [] e = refl
+none_first (f ∷ fs) e = absurd (some_stays f fs e)
