@@ -37,7 +37,7 @@ fn term(context: &Context, scope: &[Word], term: &Term, found: &mut Option<Fault
 }
 
 /// Whether a term is a single word that is no variable.
-fn names_symbol(context: &Context, scope: &[Word], term: &Term) -> bool
+pub fn names_symbol(context: &Context, scope: &[Word], term: &Term) -> bool
     ensures { result ≡ names_symbol context.now.text scope.now term.now }
 {
     term.moves.len() == 0 && !is_variable(&context.text, scope, term.first)

@@ -20,8 +20,8 @@ fn product(text: &Text, entries: &[Entry]) -> u32
     }
 }
 
-/// The value of the entry for an axis, and 1 where there is none, cut as all values are.
-fn period_at(text: &Text, periods: &Vector, axis: usize) -> u32
+/// The value of the entry for an axis, and 1 where there is none; and the greatest number of 32 bits for all that are greater.
+pub fn period_at(text: &Text, periods: &Vector, axis: usize) -> u32
     ensures { result ≡ min (period_at text.now periods.now axis) 4294967295 }
 {
     match periods.entries.as_slice().get(axis) {
@@ -30,8 +30,8 @@ fn period_at(text: &Text, periods: &Vector, axis: usize) -> u32
     }
 }
 
-/// The shear, and 0 where none is given, cut as all values are.
-fn shear_of(text: &Text, shear: &Option<Vector>) -> u32
+/// The shear, and 0 where none is given; and the greatest number of 32 bits for all that are greater.
+pub fn shear_of(text: &Text, shear: &Option<Vector>) -> u32
     ensures { result ≡ min (shear_of text.now shear.now) 4294967295 }
 {
     match shear {

@@ -17,6 +17,10 @@ mod requests;
 mod symbols;
 mod twice;
 
+pub use atoms::names_symbol;
+pub use boxes::{period_at, shear_of};
 pub use checking::check;
 pub use context::{Context, Known, Setting};
 pub use fault::{Fault, Limit, Refusal, refuse_if};
+pub use formulas::within;
+pub use names::{number_in, place_among};

@@ -2,7 +2,7 @@
 ghost use Rattle.std.specs.Prelude.{◌≡◌, is_some, position, bytes_eq};
 ghost use Rattle.dd_written.specs.Values.{word_text};
 ghost use Rattle.dd_faults.specs.Order.{noted};
-ghost use Rattle.dd_faults.specs.Names.{place_of_name, missing, is_variable, unknown_variable, named_again};
+ghost use Rattle.dd_faults.specs.Names.{place_of_name, missing, number_in, is_variable, unknown_variable, named_again};
 
 use crate::context::Known;
 use crate::fault::{Fault, note_if};
@@ -16,6 +16,13 @@ pub(crate) fn is_named(text: &Text, names: &Names, name: Name) -> bool
     names.find(name_text(text, name)).is_some()
 }
 
+/// The number of a name, and 0 where it is none of the names.
+pub fn number_in(text: &Text, names: &Names, name: Name) -> u32
+    ensures { result ≡ number_in text.now names.now name }
+{
+    names.find(name_text(text, name)).unwrap_or(0)
+}
+
 /// Notes a name that is none of the names.
 pub(crate) fn note_missing(text: &Text, names: &Names, name: Name, found: &mut Option<Fault>)
     ensures { found.new ≡ noted found.old (missing text.now names.now name) }
@@ -24,7 +31,7 @@ pub(crate) fn note_missing(text: &Text, names: &Names, name: Name, found: &mut O
 }
 
 /// The first place of a text among those of words.
-fn place_among(text: &Text, words: &[Word], wanted: &str) -> Option<usize>
+pub fn place_among(text: &Text, words: &[Word], wanted: &str) -> Option<usize>
     ensures { result ≡ position (λ v. bytes_eq (word_text text.now v) wanted.now) words.now }
 {
     words

@@ -1,28 +1,17 @@
 //! Terms, atoms and balls with numbers in place of names.
-ghost use Rattle.std.specs.Prelude.{◌≡◌, ◌≤◌, [], length, map, position, bytes_eq, IfOk};
+ghost use Rattle.std.specs.Prelude.{◌≡◌, ◌≤◌, [], length, map, IfOk};
 ghost use Rattle.std.specs.List.{flat_map};
-ghost use Rattle.dd_written.specs.Values.{word_text};
 ghost use Rattle.dd_faults.specs.Names.{number_in, variable_of};
 ghost use Rattle.dd_faults.specs.Formulas.{names_symbol, ball_faults};
 ghost use Rattle.dd_meanings.specs.Formulas.{variable_number, label_of, term_of, equal_of, not_equal_of, atom_of, ball_of};
 
-use crate::names::number_in;
 use dd_expansion::{BallOf, Formula, Term};
-use dd_faults::Context;
+use dd_faults::{Context, names_symbol, number_in, place_among};
 use dd_values::Items;
 use dd_written::{
     Atom, Ball, Comparand, Name, Term as Written, Text, Word, name_text, number_value,
 };
 use std::alloc::{AllocError, Global};
-
-/// The first place of a text among those of words.
-fn place_among(text: &Text, words: &[Word], wanted: &str) -> Option<usize>
-    ensures { result ≡ position (λ v. bytes_eq (word_text text.now v) wanted.now) words.now }
-{
-    words
-        .iter()
-        .position(|word| text.part(word.start, word.length) == wanted)
-}
 
 /// The number of a variable, where the word is one.
 fn variable_of(text: &Text, scope: &[Word], word: Word) -> Option<u32>
@@ -76,14 +65,6 @@ fn term(
     let variable = variable(&context.text, scope, term.first);
     let moves = labels(alloc, context, term.moves.as_slice())?;
     Ok(Term { variable, moves })
-}
-
-/// Whether a term is a single word that is no variable.
-fn names_symbol(context: &Context, scope: &[Word], term: &Written) -> bool
-    requires { length scope.now ≤ 64 }
-    ensures { result ≡ names_symbol context.now.text scope.now term.now }
-{
-    term.moves.len() == 0 && variable_of(&context.text, scope, term.first).is_none()
 }
 
 fn symbol(context: &Context, name: Name) -> u32

@@ -13,10 +13,9 @@ ghost use Rattle.dd_meanings.specs.Definitions.{rule_faults};
 ghost use Rattle.dd_meanings.specs.making.Parts.{too_large, refusal_of, IsFormulaOf, rule_over, meant_case, IsCaseOf, made_case, case_counts, reach_faults};
 
 use crate::formulas::formula;
-use crate::names::number_in;
 use dd_commands::Case;
 use dd_expansion::{ExpansionFault, Formula, expand};
-use dd_faults::{Context, Fault, Known, Limit, Refusal};
+use dd_faults::{Context, Fault, Known, Limit, Refusal, number_in};
 use dd_formula::{MOST_INSTANCES, Rule, RuleFault, plus};
 use dd_values::Items;
 use std::alloc::{AllocError, Global};

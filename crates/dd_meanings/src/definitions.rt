@@ -12,21 +12,19 @@ ghost use Rattle.dd_faults.specs.Formulas.{formula_faults};
 ghost use Rattle.dd_faults.specs.Commands.{shear_of, case_faults, symbol_faults, box_faults};
 ghost use Rattle.dd_faults.specs.Sound.{IsSound};
 ghost use Rattle.dd_query.specs.Made.{script_numbers, IsRuleOf};
-ghost use Rattle.dd_meanings.specs.Definitions.{rule_of, automaton_of, composition_of, configuration_periods, tile_of, count_faults, rule_faults, automaton_faults};
+ghost use Rattle.dd_meanings.specs.Definitions.{rule_of, automaton_of, composition_of, tile_of, count_faults, rule_faults, automaton_faults};
 ghost use Rattle.dd_meanings.specs.making.Parts.{IsCaseOf, given_by, HasShortPeriods, tile_with};
 ghost use Rattle.dd_meanings.specs.Sound.{IsConfigurationOf};
 
 use crate::cases::{CaseOf, cases_of, has_few, refusal_of, rule_over, rules_of, too_large};
 use crate::formulas::formula;
 use crate::header::symbols_of;
-use crate::names::number_in;
 use dd_commands::{Case, Vector};
-use dd_faults::{Context, Known, Limit, Refusal};
+use dd_faults::{Context, Known, Limit, Refusal, number_in, period_at, shear_of};
 use dd_formula::{Automaton, Cases, Rule};
 use dd_pattern::Periodic;
-use dd_query::{entry_value, period_at};
 use dd_values::Items;
-use dd_written::{Formula, Name, Text, Word};
+use dd_written::{Formula, Name, Word};
 use std::alloc::{AllocError, Global};
 
 /// The rule of a formula over the script's topology and the symbols that its nodes allow.
@@ -114,32 +112,6 @@ pub(crate) fn composition(
     }
 }
 
-/// The periods of a configuration, and 1 along the axes that the script does not have.
-fn periods_of(text: &Text, periods: &Vector) -> [u32; 3]
-    requires { HasShortPeriods text.now periods.now }
-    ensures { result ≡ configuration_periods text.now periods.now }
-{
-    [
-        period_at(text, periods, 0),
-        period_at(text, periods, 1),
-        period_at(text, periods, 2),
-    ]
-}
-
-/// The shear, and 0 where none is given.
-fn shear_of(text: &Text, shear: &Option<Vector>) -> u32
-    requires { shear_of text.now shear.now ≤ most_symbols }
-    ensures { result ≡ shear_of text.now shear.now }
-{
-    let Some(vector) = shear else {
-        return 0;
-    };
-    match vector.entries.get(0) {
-        Some(entry) => entry_value(text, *entry),
-        None => 0,
-    }
-}
-
 /// The configuration with these symbols in its fundamental box.
 fn periodic(
     context: &Context,
@@ -153,12 +125,15 @@ fn periodic(
     ensures { result ≡ tile_with context.now periods.now shear.now symbols }
 {
     let topology = &context.known.setting.topology;
-    let along = periods_of(&context.text, periods);
-    let shear = shear_of(&context.text, shear);
+    let text = &context.text;
     match Periodic::new(
         topology.dim(),
-        along,
-        shear,
+        [
+            period_at(text, periods, 0),
+            period_at(text, periods, 1),
+            period_at(text, periods, 2),
+        ],
+        shear_of(text, shear),
         topology.nodes(),
         symbols.into_vec(),
     ) {

@@ -7,19 +7,10 @@ ghost use Rattle.dd_meanings.specs.Formulas.{ball_of, formula_of, joined_of, qua
 
 use crate::atoms::{atom, balls};
 use dd_expansion::{BallOf, Formula};
-use dd_faults::Context;
+use dd_faults::{Context, within};
 use dd_values::{Boxed, Items};
 use dd_written::{Ball, Formula as Written, Join, Quantor, Word};
 use std::alloc::{AllocError, Global};
-
-/// The scope in the body of a quantifier.
-fn within(alloc: Global, scope: &[Word], variable: Word) -> Result<Items<Word>, AllocError>
-    ensures { IfOk result (λ inner. inner ≡ scope.now ++ variable ∷ []) }
-{
-    let mut inner = Items::from_slice(alloc, scope)?;
-    inner.push(variable)?;
-    Ok(inner)
-}
 
 fn joined(join: Join, members: Items<Formula>) -> Formula
     ensures { result ≡ joined_of join members }

@@ -12,10 +12,10 @@ ghost use Rattle.dd_meanings.specs.Meanings.{meaning};
 ghost use Rattle.dd_meanings.specs.Sound.{IsSoundMeaning};
 
 use crate::meaning::Meaning;
-use crate::names::{names_of, number_in};
+use crate::names::names_of;
 use crate::topologies::{default_topology, kind_names, topology_by};
 use dd_commands::Edge;
-use dd_faults::{Context, Refusal};
+use dd_faults::{Context, Refusal, number_in};
 use dd_topology::{Kind, Topology};
 use dd_values::{Items, Limits};
 use dd_written::{Name, Number, number_value};

@@ -15,3 +15,4 @@ mod topologies;
 
 pub use meaning::Meaning;
 pub use meanings::mean;
+pub use names::{add_new, zero, zero_and_one};

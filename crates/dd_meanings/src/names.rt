@@ -1,7 +1,6 @@
 //! Lists of names.
 ghost use Rattle.std.specs.Prelude.{◌≡◌, ◌≤◌, ◌<◌, ◌^◌, ◌-◌, [], ◌∷◌, ◌++◌, length, map, codes, Contains, IfOk, OnOk};
 ghost use Rattle.dd_written.specs.Values.{name_text};
-ghost use Rattle.dd_faults.specs.Names.{number_in};
 ghost use Rattle.dd_faults.specs.Repeats.{twice_named};
 
 use dd_topology::{NameFault, Names};
@@ -9,7 +8,7 @@ use dd_written::{Name, Text, name_text};
 use std::alloc::{AllocError, Global};
 
 /// Adds a name that is not there yet.
-pub(crate) fn add_new(alloc: Global, names: &mut Names, text: &str) -> Result<(), AllocError>
+pub fn add_new(alloc: Global, names: &mut Names, text: &str) -> Result<(), AllocError>
     requires few { length names.old < 2 ^ 32 - 1 }
     requires new { ¬ Contains names.old text.now }
     ensures { OnOk result (names.new ≡ names.old ++ text.now ∷ []) }
@@ -22,7 +21,7 @@ pub(crate) fn add_new(alloc: Global, names: &mut Names, text: &str) -> Result<()
 }
 
 /// The name 0.
-pub(crate) fn zero(alloc: Global) -> Result<Names, AllocError>
+pub fn zero(alloc: Global) -> Result<Names, AllocError>
     ensures { IfOk result (λ names. names ≡ codes "0" ∷ []) }
 {
     let mut names = Names::new(alloc);
@@ -31,7 +30,7 @@ pub(crate) fn zero(alloc: Global) -> Result<Names, AllocError>
 }
 
 /// The names 0 and 1.
-pub(crate) fn zero_and_one(alloc: Global) -> Result<Names, AllocError>
+pub fn zero_and_one(alloc: Global) -> Result<Names, AllocError>
     ensures { IfOk result (λ names. names ≡ codes "0" ∷ codes "1" ∷ []) }
 {
     let mut names = zero(alloc)?;
@@ -50,11 +49,4 @@ pub(crate) fn names_of(alloc: Global, text: &Text, written: &[Name]) -> Result<N
         add_new(alloc, &mut names, name_text(text, *name))?;
     }
     Ok(names)
-}
-
-/// The number of a name, and 0 where it is none of the names.
-pub(crate) fn number_in(text: &Text, names: &Names, name: Name) -> u32
-    ensures { result ≡ number_in text.now names.now name }
-{
-    names.find(name_text(text, name)).unwrap_or(0)
 }

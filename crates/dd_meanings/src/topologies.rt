@@ -8,9 +8,9 @@ ghost use Rattle.dd_faults.specs.Commands.{dimension_of, edge_faults, faults_of}
 ghost use Rattle.dd_query.specs.Vectors.{IsClose};
 ghost use Rattle.dd_meanings.specs.Topologies.{plain_kind, default_grid, kind_names, labels_of, edge_of, grid_by};
 
-use crate::names::{add_new, number_in, zero, zero_and_one};
+use crate::names::{add_new, zero, zero_and_one};
 use dd_commands::Edge as Written;
-use dd_faults::Context;
+use dd_faults::{Context, number_in};
 use dd_query::position_of;
 use dd_topology::{Edge, Kind, Names, Topology, TopologyFault};
 use dd_written::{Name, Text, name_text};

@@ -3,7 +3,6 @@ ghost use Rattle.std.specs.Prelude.{◌≡◌, [], false, map, min, IfOk};
 ghost use Rattle.std.specs.List.{list_any};
 ghost use Rattle.dd_commands.specs.declared.table.Question.TheVariants as question;
 ghost use Rattle.dd_faults.specs.Order.{Resolves};
-ghost use Rattle.dd_faults.specs.Names.{number_in};
 ghost use Rattle.dd_faults.specs.Commands.{is_far, request_faults};
 ghost use Rattle.dd_faults.specs.Sound.{IsSound};
 ghost use Rattle.dd_query.specs.Vectors.{place_of};
@@ -15,21 +14,14 @@ ghost use Rattle.dd_query.specs.Sound.{AreStripPeriods, IsQueryWithin, IsSoundQu
 
 use crate::limits::is_within_limits;
 use crate::queries::Query;
-use crate::vectors::{period_at, position_of};
+use crate::vectors::position_of;
 use dd_commands::{Question, Request, Vector};
-use dd_faults::{Context, Refusal};
+use dd_faults::{Context, Refusal, number_in, period_at};
 use dd_formula::{Automaton, Rule};
 use dd_lattice::Position;
-use dd_topology::Names;
 use dd_values::Items;
-use dd_written::{Name, Text, name_text, number_value};
+use dd_written::{Name, Text, number_value};
 use std::alloc::{AllocError, Global};
-
-fn number_in(text: &Text, names: &Names, name: Name) -> u32
-    ensures { result ≡ number_in text.now names.now name }
-{
-    names.find(name_text(text, name)).unwrap_or(0)
-}
 
 /// The number of what the word at a place names.
 fn word_at(context: &Context, request: &Request, place: usize) -> u32

@@ -9,4 +9,4 @@ mod vectors;
 
 pub use asking::ask;
 pub use queries::Query;
-pub use vectors::{entry_value, period_at, position_of};
+pub use vectors::position_of;

@@ -1,31 +1,12 @@
 //! Vectors as positions.
-ghost use Rattle.std.specs.Prelude.{◌≡◌, false, nat_lt, min};
+ghost use Rattle.std.specs.Prelude.{◌≡◌, false, nat_lt};
 ghost use Rattle.dd_lattice.specs.Place.{IsCoordinateInRange};
-ghost use Rattle.dd_faults.specs.Commands.{entry_value, period_at};
+ghost use Rattle.dd_faults.specs.Commands.{entry_value};
 ghost use Rattle.dd_query.specs.Vectors.{signed_value, coordinate, place_of, IsClose};
 
 use dd_commands::{Entry, Vector};
 use dd_lattice::Position;
 use dd_written::{Text, number_value};
-
-/// The absolute value of an entry, and the greatest number of 32 bits for all that are greater.
-pub fn entry_value(text: &Text, entry: Entry) -> u32
-    ensures { result ≡ min (entry_value text.now entry) 4294967295 }
-{
-    match entry {
-        Entry::Number(number) | Entry::Negative(number) => number_value(text, number),
-    }
-}
-
-/// The value of the entry for an axis, and 1 where there is none; and the greatest number of 32 bits for all that are greater.
-pub fn period_at(text: &Text, periods: &Vector, axis: usize) -> u32
-    ensures { result ≡ min (period_at text.now periods.now axis) 4294967295 }
-{
-    match periods.entries.get(axis) {
-        Some(entry) => entry_value(text, *entry),
-        None => 1,
-    }
-}
 
 /// The value of an entry of at most 4 in absolute value.
 fn signed_value(text: &Text, entry: Entry) -> i32

@@ -1,5 +1,5 @@
 //! What is known where a script has said nothing, and what commands change of it.
-ghost use Rattle.std.specs.Prelude.{◌≡◌, ◌-◌, ◌^◌, ◌<◌, ◌≤◌, [], ◌∷◌, ◌++◌, length, codes, All, Contains, IfOk, OnOk};
+ghost use Rattle.std.specs.Prelude.{◌≡◌, ◌-◌, ◌^◌, ◌<◌, ◌≤◌, [], ◌∷◌, ◌++◌, length, All, Contains, IfOk, OnOk};
 ghost use Rattle.std.specs.List.{range_with_len};
 ghost use Rattle.dd_topology.specs.Grid.{IsGrid};
 ghost use Rattle.dd_topology.specs.Sets.{IsSets, restricted};
@@ -10,21 +10,10 @@ ghost use Rattle.dd_script.specs.Walk.{known_start, unrestricted};
 use dd_faults::{Known, Setting};
 use dd_topology::{Kind, NameFault, Names, Sets, Topology};
 use dd_values::{Items, Limits};
+use dd_meanings::{add_new, zero, zero_and_one};
+use dd_values::Items;
 use dd_written::{Name, Text, Word, name_text};
 use std::alloc::{AllocError, Global};
-
-/// Adds a name that is not there yet.
-fn add_text(alloc: Global, names: &mut Names, text: &str) -> Result<(), AllocError>
-    requires few { length names.old < 2 ^ 32 - 1 }
-    requires new { ¬ Contains names.old text.now }
-    ensures { OnOk result (names.new ≡ names.old ++ text.now ∷ []) }
-{
-    match names.add(String::from_str(alloc, text)?) {
-        Ok(_) => Ok(()),
-        Err(NameFault::Twice(_)) => unreachable!(),
-        Err(NameFault::Memory(_)) => Err(AllocError),
-    }
-}
 
 /// Adds the text of a word that is not there yet.
 pub(crate) fn add_name(
@@ -37,25 +26,7 @@ pub(crate) fn add_name(
     requires new { ¬ Contains names.old (word_text text.now name) }
     ensures { OnOk result (names.new ≡ names.old ++ word_text text.now name ∷ []) }
 {
-    add_text(alloc, names, name_text(text, Name::Word(name)))
-}
-
-/// The name 0.
-fn zero(alloc: Global) -> Result<Names, AllocError>
-    ensures { IfOk result (λ names. names ≡ codes "0" ∷ []) }
-{
-    let mut names = Names::new(alloc);
-    add_text(alloc, &mut names, "0")?;
-    Ok(names)
-}
-
-/// The names 0 and 1.
-fn zero_and_one(alloc: Global) -> Result<Names, AllocError>
-    ensures { IfOk result (λ names. names ≡ codes "0" ∷ codes "1" ∷ []) }
-{
-    let mut names = zero(alloc)?;
-    add_text(alloc, &mut names, "1")?;
-    Ok(names)
+    add_new(alloc, names, name_text(text, Name::Word(name)))
 }
 
 /// What formulas may speak of where a script has said nothing: the square grid with the node 0, and the symbols 0 and 1.
