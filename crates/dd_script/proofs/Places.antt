@@ -1,6 +1,6 @@
 -- The header comes before all else.
-use Rattle.std.proofs.Common.{◌≡◌, ℕ, ◌+◌, ◌≤◌, true, false, List, [], ◌∷◌, refl, arith}
-use Rattle.std.specs.Prelude.{if◌then◌else◌}
+use Rattle.std.proofs.Common.{◌≡◌, ℕ, ◌+◌, true, false, List, [], ◌∷◌, refl, arith}
+use Rattle.std.specs.Prelude.{nat_le, if◌then◌else◌}
 use Rattle.std.proofs.lemmas.List.{length-append}
 use Rattle.dd_topology.specs.declared.builtin.Kind.{Kind}
 use Rattle.dd_topology.specs.Builtin.{grid_of}
@@ -28,37 +28,21 @@ kind_header x k =
       | false ↦ refl
     ]
 
--- a command of the header means what belongs to it
-pub header_meant : (x : Context) (rules : List LocalRule) (automata : List Automaton) (c : Command) → stage (head_of c) ≤ 6 → is_header (meaning_of x rules automata c) ≡ true
-header_meant x rules automata (command.Dimension n) le = refl
-header_meant x rules automata (command.Nodes names) le = refl
-header_meant x rules automata (command.Alphabet names) le = refl
-header_meant x rules automata (command.Topology k) le = kind_header x k
-header_meant x rules automata (command.Edges es) le = refl
-header_meant x rules automata (command.Only node symbols) le = refl
-header_meant x rules automata (command.Weights ns) le = refl
-header_meant x rules automata (command.Limits radius period pivots) le = refl
-header_meant x rules automata (command.Rule name f) le = absurd (omega (arith, le))
-header_meant x rules automata (command.Automaton name cases symbol) le = absurd (omega (arith, le))
-header_meant x rules automata (command.Composition name outer inner) le = absurd (omega (arith, le))
-header_meant x rules automata (command.Configuration name periods shear symbols) le = absurd (omega (arith, le))
-header_meant x rules automata (command.Query r) le = absurd (omega (arith, le))
-
--- and what belongs to the header is meant by no other command
-pub header_stands : (x : Context) (rules : List LocalRule) (automata : List Automaton) (c : Command) → is_header (meaning_of x rules automata c) ≡ true → stage (head_of c) ≤ 6
-header_stands x rules automata (command.Dimension n) e = omega arith
-header_stands x rules automata (command.Nodes names) e = omega arith
-header_stands x rules automata (command.Alphabet names) e = omega arith
-header_stands x rules automata (command.Topology k) e = omega arith
-header_stands x rules automata (command.Edges es) e = omega arith
-header_stands x rules automata (command.Only node symbols) e = omega arith
-header_stands x rules automata (command.Weights ns) e = omega arith
-header_stands x rules automata (command.Limits radius period pivots) e = omega arith
-header_stands x rules automata (command.Rule name f) e = absurd cc
-header_stands x rules automata (command.Automaton name cases symbol) e = absurd cc
-header_stands x rules automata (command.Composition name outer inner) e = absurd cc
-header_stands x rules automata (command.Configuration name periods shear symbols) e = absurd cc
-header_stands x rules automata (command.Query r) e = absurd cc
+-- the header, and nothing else, means what belongs to it
+pub header_is : (x : Context) (rules : List LocalRule) (automata : List Automaton) (c : Command) → is_header (meaning_of x rules automata c) ≡ nat_le (stage (head_of c)) 6
+header_is x rules automata (command.Dimension n) = refl
+header_is x rules automata (command.Nodes names) = refl
+header_is x rules automata (command.Alphabet names) = refl
+header_is x rules automata (command.Topology k) = kind_header x k
+header_is x rules automata (command.Edges es) = refl
+header_is x rules automata (command.Only node symbols) = refl
+header_is x rules automata (command.Weights ns) = refl
+header_is x rules automata (command.Limits radius period pivots) = refl
+header_is x rules automata (command.Rule name f) = refl
+header_is x rules automata (command.Automaton name cases symbol) = refl
+header_is x rules automata (command.Composition name outer inner) = refl
+header_is x rules automata (command.Configuration name periods shear symbols) = refl
+header_is x rules automata (command.Query r) = refl
 
 same_fresh : (s t : Parts) → t.rules ≡ s.rules → t.automata ≡ s.automata → t.configurations ≡ s.configurations → t.queries ≡ s.queries → IsFresh s → IsFresh t
 same_fresh s t r a c q fresh =

@@ -2,6 +2,7 @@
 use Rattle.std.proofs.Common.{◌≡◌, ℕ, ◌+◌, ◌<◌, ◌≤◌, true, false, List, [], ◌∷◌, length, drop, get_or, Option, None, sym, ap, subst, ◌∙◌, arith}
 use Rattle.std.specs.Prelude.{All, if◌then◌else◌}
 use Rattle.std.specs.Option.{option_or, option_map}
+use Rattle.std.proofs.lemmas.Bool.{le-leb}
 use Rattle.std.proofs.lemmas.List.{drop_more}
 use Rattle.std.proofs.lemmas.List.Elements.{All-get_or}
 use Rattle.dd_written.specs.declared.lexeme.Lexeme.{Lexeme}
@@ -17,7 +18,7 @@ use Rattle.dd_script.specs.Parts.{Parts, IsScriptOf}
 use Rattle.dd_script.specs.Walk.{Located, located, first_from, after_all, first_located_fault, script_of}
 use Rattle.dd_script.specs.drafting.Standing.{AreOrdered, IsFresh, IsReady}
 use Rattle.dd_script.specs.drafting.Drafts.{parts_of, fault_at, behind, Leaves}
-use Rattle.dd_script.proofs.Places.{header_meant, still_fresh, fewer_next}
+use Rattle.dd_script.proofs.Places.{header_is, still_fresh, fewer_next}
 
 -- the first fault from here on, and the script that comes of what is left
 abbrev fault_from : Draft → List Written → Option Located
@@ -77,7 +78,7 @@ goes_on text ws i d w e lt is sofar leaves =
       ordered = here.others;
       fresh = λ le.
           let early : stage_of w ≤ 6 = omega (arith, behind_place w, le) in
-          still_fresh d.context.text (parts_of d) m (header_meant d.context d.rules d.automata w.command early) (here.ready early);
+          still_fresh d.context.text (parts_of d) m (header_is d.context d.rules d.automata w.command ∙ le-leb (stage_of w) 6 early) (here.ready early);
       few = fewer_next d.context.number (parts_of d) sofar.few d.context.text m;
       script = leaves.script;
       same_text = sofar.same_text;

@@ -1,8 +1,10 @@
 -- Going behind one command.
 use Rattle.std.proofs.Common.{◌≡◌, ◌+◌, List, [], None, sym, ap, subst, ◌∙◌}
+use Rattle.std.proofs.lemmas.Bool.{leb-true}
 use Rattle.dd_formula.specs.LocalRule.{LocalRule}
 use Rattle.dd_formula.specs.declared.automaton.Automaton.{Automaton}
 use Rattle.dd_commands.specs.declared.script.Written.{Written}
+use Rattle.dd_commands.specs.Scripts.{stage_of}
 use Rattle.dd_faults.specs.Order.{first_fault}
 use Rattle.dd_faults.specs.Commands.{written_faults}
 use Rattle.dd_meanings.specs.declared.meaning.Meaning.{Meaning}
@@ -14,7 +16,7 @@ use Rattle.dd_script.specs.drafting.Standing.{IsReady}
 use Rattle.dd_script.specs.drafting.Drafts.{parts_of, with_meaning, Leaves}
 use Rattle.dd_faults.specs.lemmas.Nothing.{none_first}
 use Rattle.dd_script.proofs.Firsts.{counted, neither}
-use Rattle.dd_script.proofs.Places.{header_stands}
+use Rattle.dd_script.proofs.Places.{header_is}
 use Rattle.dd_script.proofs.Header.{HasSets, with_kept}
 
 -- the same rules and automata under other names
@@ -51,7 +53,7 @@ module _ (d : Draft) (w : Written) (rs : List LocalRule) (fs : List Automaton) (
           counted = counted d.context.number _ (none_first (written_faults d.context w) none);
           script =
               with_kept d.context.text d.context.later d.context.number (parts_of d) (meaning_of d.context d.rules d.automata w.command) script
-              (λ header. ready (header_stands d.context d.rules d.automata w.command header))
+              (λ header. ready (leb-true (stage_of w) 6 (sym (header_is d.context d.rules d.automata w.command) ∙ header)))
               (subst (IsSoundMeaning d.context d.rules d.automata) means (sound_at m is sound))
               (subst (λ (x : Draft). HasSets x.context.known) all has);
         }
