@@ -6,6 +6,7 @@ ghost use Rattle.dd_faults.specs.Formulas.{unknown_label, term_faults, names_sym
 
 use crate::context::Context;
 use crate::fault::{Fault, Limit, note_if, note_over};
+use crate::limits::{MOST_BALLS, MOST_MOVES, WIDEST_RADIUS};
 use crate::names::{is_variable, note_missing, note_variable};
 use dd_written::{Atom, Ball, Comparand, Name, Term, Word, name_text, number_value};
 
@@ -33,7 +34,7 @@ fn term(context: &Context, scope: &[Word], term: &Term, found: &mut Option<Fault
 {
     note_variable(&context.text, scope, term.first, found);
     labels(context, term.moves.as_slice(), found);
-    note_over(found, term.moves.len() > 16, Limit::Moves);
+    note_over(found, term.moves.len() > MOST_MOVES, Limit::Moves);
 }
 
 /// Whether a term is a single word that is no variable.
@@ -101,7 +102,7 @@ fn ball(context: &Context, scope: &[Word], ball: &Ball, found: &mut Option<Fault
 {
     note_variable(&context.text, scope, ball.middle, found);
     let radius = number_value(&context.text, ball.radius);
-    note_over(found, radius > 3, Limit::Radius);
+    note_over(found, radius > WIDEST_RADIUS, Limit::Radius);
 }
 
 #[tactic(auto, using(crate::proofs::Noting::notes))]
@@ -126,6 +127,6 @@ pub(crate) fn quantor(
 {
     let bound = is_variable(&context.text, scope, variable);
     note_if(found, bound, Fault::Twice(Name::Word(variable)));
-    note_over(found, written.len() > 4, Limit::Balls);
+    note_over(found, written.len() > MOST_BALLS, Limit::Balls);
     balls(context, scope, written, found);
 }

@@ -5,6 +5,7 @@ ghost use Rattle.dd_faults.specs.Commands.{product, period_at, shear_of, shear_f
 
 use crate::context::Context;
 use crate::fault::{Fault, Limit, note_if, note_over};
+use crate::limits::MOST_IN_BOX;
 use crate::numbers::{entry_value, has_entries};
 use dd_commands::{Entry, Vector};
 use dd_written::Text;
@@ -74,7 +75,7 @@ fn is_too_large(text: &Text, periods: &Vector, shear: &Option<Vector>, count: us
     requires { period_at text.now periods.now 0 < 4294967295 }
     ensures { result ≡ (nat_lt 65536 count || nat_le (period_at text.now periods.now 0) (shear_of text.now shear.now)) }
 {
-    count > 65_536 || period_at(text, periods, 0) <= shear_of(text, shear)
+    count > MOST_IN_BOX || period_at(text, periods, 0) <= shear_of(text, shear)
 }
 
 /// Notes periods that do not agree with so many symbols, and what is too large.

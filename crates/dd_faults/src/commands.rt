@@ -11,6 +11,7 @@ use crate::context::Context;
 use crate::fault::{Fault, Limit, note_over};
 use crate::formulas::formula;
 use crate::header::{edges, kind_fits, missing_names, passes_limits, restricted_again};
+use crate::limits::{MOST_AXES, MOST_EDGES, MOST_NODES, MOST_SYMBOLS};
 use crate::names::{note_defined, note_missing};
 use crate::numbers::{note_unless, weights};
 use crate::symbols::symbols;
@@ -27,7 +28,7 @@ pub(crate) fn note_dimension(context: &Context, number: Number, found: &mut Opti
     ensures { found.new ≡ noted found.old (faults_of context.now (command.Dimension number)) }
 {
     let dimension = number_value(&context.text, number);
-    note_unless(found, dimension >= 1 && dimension <= 3);
+    note_unless(found, dimension >= 1 && dimension <= MOST_AXES);
 }
 
 #[tactic(auto, using(crate::proofs::Noting::notes))]
@@ -41,7 +42,7 @@ pub(crate) fn note_nodes(
 {
     note_names(alloc, &context.text, names, found)?;
     note_unless(found, context.later || names.len() <= 1);
-    note_over(found, names.len() > 4, Limit::Nodes);
+    note_over(found, names.len() > MOST_NODES, Limit::Nodes);
     Ok(())
 }
 
@@ -55,7 +56,7 @@ pub(crate) fn note_alphabet(
     ensures { OnOk result (found.new ≡ noted found.old (faults_of context.now (command.Alphabet names.now))) }
 {
     note_names(alloc, &context.text, names, found)?;
-    note_over(found, names.len() > 16, Limit::Alphabet);
+    note_over(found, names.len() > MOST_SYMBOLS, Limit::Alphabet);
     Ok(())
 }
 
@@ -76,7 +77,7 @@ pub(crate) fn note_edges(
 {
     edges(context, written, found);
     note_labels(alloc, &context.text, written, found)?;
-    note_over(found, written.len() > 64, Limit::Edges);
+    note_over(found, written.len() > MOST_EDGES, Limit::Edges);
     Ok(())
 }
 

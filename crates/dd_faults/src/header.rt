@@ -7,6 +7,7 @@ ghost use Rattle.dd_faults.specs.Commands.{kind_dimension, kind_nodes, kind_fits
 
 use crate::context::{Context, Known};
 use crate::fault::{Fault, Limit, note_if, note_over};
+use crate::limits::{GREATEST_PERIOD, GREATEST_RADIUS, MOST_PIVOTS};
 use crate::names::note_missing;
 use crate::numbers::{has_entries, is_far, note_unless};
 use dd_commands::Edge;
@@ -102,5 +103,8 @@ pub(crate) fn restricted_again(context: &Context, node: Name, found: &mut Option
 pub(crate) fn passes_limits(radius: u32, period: u32, pivots: u32) -> bool
     ensures { result ≡ passes_limits radius period pivots }
 {
-    radius > 8 || period < 1 || period > 8 || pivots > 100_000
+    radius > GREATEST_RADIUS
+        || period < 1
+        || period > GREATEST_PERIOD
+        || pivots > MOST_PIVOTS
 }

@@ -11,6 +11,7 @@ mod context;
 mod fault;
 mod formulas;
 mod header;
+mod limits;
 mod names;
 mod numbers;
 mod requests;

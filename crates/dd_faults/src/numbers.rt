@@ -6,6 +6,7 @@ ghost use Rattle.dd_faults.specs.Commands.{unless, token_faults, entry_value, ha
 
 use crate::context::Context;
 use crate::fault::{Fault, Limit, note_if, note_over};
+use crate::limits::{FARTHEST, GREATEST_NUMBER, LONGEST_STRIP, MOST_LETTERS, WIDEST_RADIUS};
 use dd_commands::{Entry, Vector};
 use dd_values::MOST_WEIGHT;
 use dd_written::{Lexeme, Number, Text, number_value};
@@ -21,9 +22,9 @@ fn token(text: &Text, token: Lexeme, found: &mut Option<Fault>)
     ensures { found.new ≡ noted found.old (token_faults text.now token) }
 {
     match token {
-        Lexeme::Word(word) => note_over(found, word.length > 32, Limit::Word),
+        Lexeme::Word(word) => note_over(found, word.length > MOST_LETTERS, Limit::Word),
         Lexeme::Number(number) | Lexeme::Negative(number) => {
-            note_over(found, number_value(text, number) > 1_000_000, Limit::Number);
+            note_over(found, number_value(text, number) > GREATEST_NUMBER, Limit::Number);
         }
         Lexeme::Mark(_) | Lexeme::Stray => {}
     }
@@ -62,7 +63,7 @@ pub(crate) fn is_far(text: &Text, vector: &Vector) -> bool
         .entries
         .as_slice()
         .iter()
-        .any(|entry| entry_value(text, *entry) > 4)
+        .any(|entry| entry_value(text, *entry) > FARTHEST)
 }
 
 fn radius(context: &Context, number: Number, found: &mut Option<Fault>)
@@ -70,7 +71,7 @@ fn radius(context: &Context, number: Number, found: &mut Option<Fault>)
 {
     note_over(
         found,
-        number_value(&context.text, number) > 3,
+        number_value(&context.text, number) > WIDEST_RADIUS,
         Limit::Radius,
     );
 }
@@ -110,7 +111,7 @@ fn is_no_strip(text: &Text, vector: &Vector) -> bool
 {
     vector.entries.as_slice().iter().any(|entry| {
         let period = entry_value(text, *entry);
-        period < 1 || period > 64
+        period < 1 || period > LONGEST_STRIP
     })
 }
 

@@ -6,6 +6,7 @@ ghost use Rattle.dd_faults.specs.Commands.{word_faults, list_faults, request_fau
 
 use crate::context::Context;
 use crate::fault::{Fault, Limit, note_over};
+use crate::limits::MOST_VECTORS;
 use crate::names::note_missing;
 use crate::numbers::{radii, strips, vectors};
 use crate::twice::note_vectors;
@@ -57,7 +58,7 @@ fn lists(
         Lists::Vectors => {
             note_vectors(alloc, &context.text, written, found)?;
             vectors(context, written, found);
-            note_over(found, written.len() > 16, Limit::Vectors);
+            note_over(found, written.len() > MOST_VECTORS, Limit::Vectors);
             Ok(())
         }
     }

@@ -15,6 +15,11 @@ use dd_values::Items;
 use dd_written::{Name, Text, Word, name_text};
 use std::alloc::{AllocError, Global};
 
+/// The limits of questions where a script has said nothing: the greatest radius, the greatest period, and how many pivots.
+const RADIUS_AT_START: u32 = 4;
+const PERIOD_AT_START: u32 = 4;
+const PIVOTS_AT_START: u32 = 10_000;
+
 /// Adds the text of a word that is not there yet.
 pub(crate) fn add_name(
     alloc: Global,
@@ -62,9 +67,9 @@ pub(crate) fn start(alloc: Global) -> Result<Known, AllocError>
         restricted: Items::new(alloc),
         weights,
         limits: Limits {
-            radius: 4,
-            period: 4,
-            pivots: 10_000,
+            radius: RADIUS_AT_START,
+            period: PERIOD_AT_START,
+            pivots: PIVOTS_AT_START,
         },
         rules: Names::new(alloc),
         automata: Names::new(alloc),

@@ -4,11 +4,14 @@ ghost use Rattle.dd_written.specs.Formulas.{tree_depth, greatest_depth, cut_dept
 
 use crate::tree::Formula;
 
+/// The greatest depth of a formula.
+pub(crate) const MOST_DEEP: u32 = 64;
+
 fn deeper(depth: u32) -> u32
     requires { depth ≤ 65 }
     ensures { result ≡ cut_depth (1 + depth) }
 {
-    (depth + 1).min(65)
+    (depth + 1).min(MOST_DEEP + 1)
 }
 
 /// The depth, and 65 for all that are deeper than 64.

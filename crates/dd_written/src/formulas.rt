@@ -4,7 +4,7 @@ ghost use Rattle.dd_written.specs.reading.Readers.{Gives, with_front};
 ghost use Rattle.dd_written.specs.reading.Atoms.{name_at, moves_at, term_at, side_at, after_term, atom_at, leaf_at, balls_at, quantor_end, quantor_at};
 ghost use Rattle.dd_written.specs.reading.Formulas.{begins, more_at, list_end, list_at, member_at, or_at, implies_end, implies_at, iff_end, iff_more, whole_at, not_at, quantified_at, group_end, group_at, nested_at, unary_at, formula_at};
 
-use crate::depth::capped_depth;
+use crate::depth::{MOST_DEEP, capped_depth};
 use crate::fault::ReadFault;
 use crate::lexeme::{Lexeme, Mark, Word};
 use crate::tree::{Atom, Ball, Comparand, Formula, Join, Name, Quantor, Term};
@@ -416,9 +416,6 @@ fn more_members(
     }
     Ok((members, rest))
 }
-
-/// The greatest depth of a formula.
-const MOST_DEEP: u32 = 64;
 
 /// A formula of a depth of at most 64 at the front, as far as it goes, and the tokens behind it.
 ///
