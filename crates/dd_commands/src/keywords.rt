@@ -25,7 +25,7 @@ impl Head {
             Head::Automaton => b"auto",
             Head::Composition => b"compose",
             Head::Configuration => b"conf",
-            Head::Question(question) => question.row().0,
+            Head::Question(question) => question.row().word,
         }
     }
 }
@@ -73,7 +73,7 @@ fn question(written: &[u8]) -> Option<Question>
     QUESTIONS
         .iter()
         .copied()
-        .find(|question| same_bytes(written, question.row().0))
+        .find(|question| same_bytes(written, question.row().word))
 }
 
 /// What the word says as the first of a command.

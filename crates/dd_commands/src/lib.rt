@@ -17,4 +17,4 @@ pub use command::{Case, Command, Edge, Entry, Request, Vector};
 pub use fault::SyntaxFault;
 pub use laws::{one_fault, one_tree, tree_or_fault};
 pub use script::{Syntax, Written, read};
-pub use table::{Lists, Question, Role};
+pub use table::{Lists, Question, QuestionRow, Role};

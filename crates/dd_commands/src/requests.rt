@@ -83,10 +83,10 @@ pub(crate) fn request(
 ) -> Result<Request, ReadFault>
     ensures { Gives (λ x. x) result (request_of question tokens.now) }
 {
-    let (_, names, count, kind) = question.row();
-    let (words, rest) = words(alloc, names.len(), tokens)?;
-    let (numbers, rest) = numbers(alloc, count, rest)?;
-    let vectors = lists(alloc, kind, rest)?;
+    let row = question.row();
+    let (words, rest) = words(alloc, row.names.len(), tokens)?;
+    let (numbers, rest) = numbers(alloc, row.numbers, rest)?;
+    let vectors = lists(alloc, row.lists, rest)?;
     Ok(Request {
         question,
         words,

@@ -46,33 +46,65 @@ pub(crate) const QUESTIONS: [Question; 8] = [
     Question::Discharge,
 ];
 
+/// The row of a question.
+#[derive(Clone, Copy)]
+pub struct QuestionRow {
+    /// The first word.
+    pub word: &'static [u8],
+    /// What the further words name.
+    pub names: &'static [Role],
+    /// How many numbers follow them.
+    pub numbers: usize,
+    /// Which vectors follow these.
+    pub lists: Lists,
+}
+
+fn entry(
+    word: &'static [u8],
+    names: &'static [Role],
+    numbers: usize,
+    lists: Lists,
+) -> QuestionRow
+    ensures word { result.word.now ≡ word.now }
+    ensures names { result.names.now ≡ names.now }
+    ensures numbers { result.numbers ≡ numbers }
+    ensures lists { result.lists ≡ lists }
+{
+    QuestionRow {
+        word,
+        names,
+        numbers,
+        lists,
+    }
+}
+
 impl Question {
-    /// The row of a question: its first word, what its further words name, how many numbers follow, and which vectors.
-    pub fn row(self) -> (&'static [u8], &'static [Role], usize, Lists)
-        ensures word { result.0.now ≡ (row self).word }
-        ensures names { result.1.now ≡ (row self).names }
-        ensures numbers { result.2 ≡ (row self).numbers }
-        ensures lists { result.3 ≡ (row self).lists }
+    /// The row of a question.
+    pub fn row(self) -> QuestionRow
+        ensures word { result.word.now ≡ (row self).word }
+        ensures names { result.names.now ≡ (row self).names }
+        ensures numbers { result.numbers ≡ (row self).numbers }
+        ensures lists { result.lists ≡ (row self).lists }
     {
         match self {
-            Question::Member => (
+            Question::Member => entry(
                 b"member",
                 &[Role::Configuration, Role::Rule],
                 0,
                 Lists::None,
             ),
-            Question::Contains => (b"contains", &[Role::Rule, Role::Rule], 0, Lists::None),
-            Question::Equal => (b"equal", &[Role::Rule, Role::Rule], 0, Lists::None),
-            Question::Empty => (b"empty", &[Role::Rule], 0, Lists::None),
-            Question::Agree => (
+            Question::Contains => entry(b"contains", &[Role::Rule, Role::Rule], 0, Lists::None),
+            Question::Equal => entry(b"equal", &[Role::Rule, Role::Rule], 0, Lists::None),
+            Question::Empty => entry(b"empty", &[Role::Rule], 0, Lists::None),
+            Question::Agree => entry(
                 b"same",
                 &[Role::Automaton, Role::Automaton, Role::Rule],
                 0,
                 Lists::None,
             ),
-            Question::Forbidden => (b"forbidden", &[Role::Rule], 0, Lists::None),
-            Question::Density => (b"density", &[Role::Rule], 0, Lists::Strip),
-            Question::Discharge => (b"discharge", &[Role::Rule], 2, Lists::Vectors),
+            Question::Forbidden => entry(b"forbidden", &[Role::Rule], 0, Lists::None),
+            Question::Density => entry(b"density", &[Role::Rule], 0, Lists::Strip),
+            Question::Discharge => entry(b"discharge", &[Role::Rule], 2, Lists::Vectors),
         }
     }
 }

@@ -74,8 +74,8 @@ pub(crate) fn request(
 ) -> Result<(), AllocError>
     ensures { OnOk result (found.new ≡ noted found.old (request_faults context.now request.now)) }
 {
-    let (_, roles, _, kind) = request.question.row();
-    words(context, roles, request.words.as_slice(), found);
+    let row = request.question.row();
+    words(context, row.names, request.words.as_slice(), found);
     radii(context, request.numbers.as_slice(), found);
-    lists(alloc, context, kind, request.vectors.as_slice(), found)
+    lists(alloc, context, row.lists, request.vectors.as_slice(), found)
 }

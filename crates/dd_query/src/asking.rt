@@ -27,8 +27,7 @@ use std::alloc::{AllocError, Global};
 fn word_at(context: &Context, request: &Request, place: usize) -> u32
     ensures { result ≡ word_at context.now request.now place }
 {
-    let (_, roles, _, _) = request.question.row();
-    let Some(role) = roles.get(place) else {
+    let Some(role) = request.question.row().names.get(place) else {
         return 0;
     };
     match request.words.get(place) {
