@@ -109,7 +109,7 @@ request_faults x r =
 
 abbrev pub faults_of : Context → Command → List Fault
 faults_of x (command.Dimension n) = unless (nat_le 1 (written_value x.text n) && nat_le (written_value x.text n) 3)
-faults_of x (command.Nodes names) = twice_named x.text names ++ (unless (x.later || nat_le (length names) 1) ++ over (nat_lt 4 (length names)) limit.Nodes)
+faults_of x (command.Nodes names) = twice_named x.text names ++ (unless (x.has_topology || nat_le (length names) 1) ++ over (nat_lt 4 (length names)) limit.Nodes)
 faults_of x (command.Alphabet names) = twice_named x.text names ++ over (nat_lt 16 (length names)) limit.Alphabet
 faults_of x (command.Topology k) = unless (kind_fits x.known k)
 faults_of x (command.Edges es) = flat_map (edge_faults x) es ++ (twice_labelled x.text es ++ over (nat_lt 64 (length es)) limit.Edges)

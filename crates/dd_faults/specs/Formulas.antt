@@ -42,17 +42,17 @@ atom_faults x scope (atom.Same t u) = term_faults x scope t ++ term_faults x sco
 atom_faults x scope (atom.AtNode t n) = term_faults x scope t ++ missing x.text x.known.setting.nodes n
 
 abbrev pub ball_faults : Context → List Word → Ball → List Fault
-ball_faults x scope b = unknown_variable x.text scope b.middle ++ over (nat_lt 3 (written_value x.text b.radius)) limit.Radius
+ball_faults x scope b = unknown_variable x.text scope b.centre ++ over (nat_lt 3 (written_value x.text b.radius)) limit.Radius
 
 -- a quantifier's variable is in scope in its body, and not in its balls
-abbrev pub quantor_faults : Context → List Word → Word → List Ball → List Fault
-quantor_faults x scope w balls =
+abbrev pub quantifier_faults : Context → List Word → Word → List Ball → List Fault
+quantifier_faults x scope w balls =
     when (is_variable x.text scope w) (fault.Twice (name.Word w)) ++ (over (nat_lt 4 (length balls)) limit.Balls ++ flat_map (ball_faults x scope) balls)
 
 abbrev pub faults_step : Context → Formula-F (List Word → List Fault) → List Word → List Fault
 faults_step x (Formula-F.Atom a) scope = atom_faults x scope a
 faults_step x (Formula-F.Not f) scope = f scope
-faults_step x (Formula-F.Quantified q w balls f) scope = quantor_faults x scope w balls ++ f (scope ++ w ∷ [])
+faults_step x (Formula-F.Quantified q w balls f) scope = quantifier_faults x scope w balls ++ f (scope ++ w ∷ [])
 faults_step x (Formula-F.Group f) scope = f scope
 faults_step x (Formula-F.List j fs) scope = flat_map (λ f. f scope) fs
 faults_step x (Formula-F.Implies f g) scope = f scope ++ g scope

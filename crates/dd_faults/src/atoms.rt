@@ -2,7 +2,7 @@
 ghost use Rattle.std.specs.Prelude.{◌≡◌};
 ghost use Rattle.std.specs.List.{flat_map};
 ghost use Rattle.dd_faults.specs.Order.{noted};
-ghost use Rattle.dd_faults.specs.Formulas.{unknown_label, term_faults, names_symbol, side_faults, atom_faults, ball_faults, quantor_faults};
+ghost use Rattle.dd_faults.specs.Formulas.{unknown_label, term_faults, names_symbol, side_faults, atom_faults, ball_faults, quantifier_faults};
 
 use crate::context::Context;
 use crate::fault::{Fault, Limit, note_if, note_over};
@@ -100,7 +100,7 @@ pub(crate) fn atom(context: &Context, scope: &[Word], atom: &Atom, found: &mut O
 fn ball(context: &Context, scope: &[Word], ball: &Ball, found: &mut Option<Fault>)
     ensures { found.new ≡ noted found.old (ball_faults context.now scope.now ball.now) }
 {
-    note_variable(&context.text, scope, ball.middle, found);
+    note_variable(&context.text, scope, ball.centre, found);
     let radius = number_value(&context.text, ball.radius);
     note_over(found, radius > WIDEST_RADIUS, Limit::Radius);
 }
@@ -116,14 +116,14 @@ fn balls(context: &Context, scope: &[Word], balls: &[Ball], found: &mut Option<F
 
 /// What stands before the body of a quantifier.
 #[tactic(auto, using(crate::proofs::Noting::notes))]
-pub(crate) fn quantor(
+pub(crate) fn quantifier(
     context: &Context,
     scope: &[Word],
     variable: Word,
     written: &[Ball],
     found: &mut Option<Fault>,
 )
-    ensures { found.new ≡ noted found.old (quantor_faults context.now scope.now variable written.now) }
+    ensures { found.new ≡ noted found.old (quantifier_faults context.now scope.now variable written.now) }
 {
     let bound = is_variable(&context.text, scope, variable);
     note_if(found, bound, Fault::Twice(Name::Word(variable)));

@@ -41,7 +41,7 @@ pub(crate) fn note_nodes(
     ensures { OnOk result (found.new ≡ noted found.old (faults_of context.now (command.Nodes names.now))) }
 {
     note_names(alloc, &context.text, names, found)?;
-    note_unless(found, context.later || names.len() <= 1);
+    note_unless(found, context.has_topology || names.len() <= 1);
     note_over(found, names.len() > MOST_NODES, Limit::Nodes);
     Ok(())
 }

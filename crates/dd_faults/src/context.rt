@@ -36,7 +36,7 @@ pub struct Known {
 pub struct Context {
     pub text: Text,
     /// Whether the script has a topology command.
-    pub later: bool,
+    pub has_topology: bool,
     /// The command's number, from 1.
     pub number: u32,
     pub known: Known,

@@ -4,7 +4,7 @@ ghost use Rattle.std.specs.List.{flat_map};
 ghost use Rattle.dd_faults.specs.Order.{noted};
 ghost use Rattle.dd_faults.specs.Formulas.{formula_faults};
 
-use crate::atoms::{atom, quantor};
+use crate::atoms::{atom, quantifier};
 use crate::context::Context;
 use crate::fault::Fault;
 use dd_values::Items;
@@ -44,7 +44,7 @@ fn formula_in(
             body,
             ..
         } => {
-            quantor(context, scope, *variable, balls.as_slice(), found);
+            quantifier(context, scope, *variable, balls.as_slice(), found);
             let inner = within(alloc, scope, *variable)?;
             formula_in(alloc, context, inner.as_slice(), body.get(), found)
         }

@@ -8,8 +8,8 @@ use Rattle.dd_written.specs.declared.tree.Comparand.{Comparand}
 use Rattle.dd_written.specs.declared.tree.Comparand.TheVariants as side
 use Rattle.dd_written.specs.declared.tree.Atom.{Atom}
 use Rattle.dd_written.specs.declared.tree.Atom.TheVariants as atom
-use Rattle.dd_written.specs.declared.tree.Quantor.{Quantor}
-use Rattle.dd_written.specs.declared.tree.Quantor.TheVariants as quantor
+use Rattle.dd_written.specs.declared.tree.Quantifier.{Quantifier}
+use Rattle.dd_written.specs.declared.tree.Quantifier.TheVariants as quantifier
 use Rattle.dd_written.specs.declared.tree.Join.{Join}
 use Rattle.dd_written.specs.declared.tree.Join.TheVariants as join
 use Rattle.dd_written.specs.declared.tree.Formula.{Formula as Written}
@@ -49,9 +49,9 @@ module _ (x : Context) where
   atom_flat scope (atom.Same t u) = fold-roll-Formula ℕ depth_step (Formula-F.Place (term_of x scope t) (term_of x scope u))
   atom_flat scope (atom.AtNode t n) = fold-roll-Formula ℕ depth_step (Formula-F.Node (term_of x scope t) _)
 
-  quantified_depth : (q : Quantor) (bs : List BallOf) (f : Formula) → depth (quantified_of q bs f) ≡ 1 + depth f
-  quantified_depth quantor.All bs f = fold-roll-Formula ℕ depth_step (Formula-F.ForAll bs f)
-  quantified_depth quantor.Exists bs f = fold-roll-Formula ℕ depth_step (Formula-F.Exists bs f)
+  quantified_depth : (q : Quantifier) (bs : List BallOf) (f : Formula) → depth (quantified_of q bs f) ≡ 1 + depth f
+  quantified_depth quantifier.All bs f = fold-roll-Formula ℕ depth_step (Formula-F.ForAll bs f)
+  quantified_depth quantifier.Exists bs f = fold-roll-Formula ℕ depth_step (Formula-F.Exists bs f)
 
   joined_depth : (j : Join) (fs : List Formula) → depth (joined_of j fs) ≡ list_depth (map depth fs)
   joined_depth join.And fs = fold-roll-Formula ℕ depth_step (Formula-F.And fs)

@@ -75,13 +75,13 @@ nodes_sound x written names d m g named dims many at sound =
 
 pub few_nodes : (x : Context) (names : List Name) → faults_of x (command.Nodes names) ≡ [] → length names ≤ 4
 few_nodes x names h =
-    let shape = unless (x.later || nat_le (length names) 1) in
+    let shape = unless (x.has_topology || nat_le (length names) 1) in
     let many = over (nat_lt 4 (length names)) limit.Nodes in
     ltb-false 4 (length names) (within (nat_lt 4 (length names)) limit.Nodes (both_nil shape many (both_nil (twice_named x.text names) (shape ++ many) h).1).1)
 
 pub nodes_once : (x : Context) (names : List Name) → faults_of x (command.Nodes names) ≡ [] → twice_named x.text names ≡ []
 nodes_once x names h =
-    let shape = unless (x.later || nat_le (length names) 1) in
+    let shape = unless (x.has_topology || nat_le (length names) 1) in
     let many = over (nat_lt 4 (length names)) limit.Nodes in
     (both_nil (twice_named x.text names) (shape ++ many) h).0
 

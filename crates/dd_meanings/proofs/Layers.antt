@@ -5,7 +5,7 @@ use Rattle.std.specs.List.{flat_map}
 use Rattle.std.proofs.lemmas.List.{length-append}
 use Rattle.dd_written.specs.declared.lexeme.Word.{Word}
 use Rattle.dd_written.specs.declared.tree.Ball.{Ball}
-use Rattle.dd_written.specs.declared.tree.Quantor.{Quantor}
+use Rattle.dd_written.specs.declared.tree.Quantifier.{Quantifier}
 use Rattle.dd_written.specs.declared.tree.Join.{Join}
 use Rattle.dd_written.specs.declared.tree.Formula.{Formula as Written}
 use Rattle.dd_written.specs.declared.tree.Formula.TheVariants as v
@@ -19,7 +19,7 @@ use Rattle.dd_faults.specs.declared.fault.Limit.TheVariants as limit
 use Rattle.dd_faults.specs.Order.{when, over}
 use Rattle.dd_faults.specs.Names.{is_variable}
 use Rattle.dd_faults.specs.declared.context.Context.{Context}
-use Rattle.dd_faults.specs.Formulas.{ball_faults, quantor_faults, formula_faults}
+use Rattle.dd_faults.specs.Formulas.{ball_faults, quantifier_faults, formula_faults}
 use Rattle.dd_meanings.specs.Formulas.{joined_of, formula_step, formula_of}
 use Rattle.dd_faults.specs.lemmas.Nothing.{both_nil}
 use Rattle.dd_faults.specs.lemmas.Layers.{faults_not, faults_group, faults_list, faults_quantified, faults_implies, faults_iff}
@@ -53,13 +53,13 @@ implies_parts x scope whole f g is none = both_nil (formula_faults x f scope) (f
 pub iff_parts : (x : Context) (scope : List Word) (whole f g : Written) → whole ≡ v.Iff f g → none_in x scope whole → none_in x scope f × none_in x scope g
 iff_parts x scope whole f g is none = both_nil (formula_faults x f scope) (formula_faults x g scope) (sym (faults_iff x f g scope) ∙ (ap (λ h. formula_faults x h scope) (sym is) ∙ none))
 
-pub quantified_parts : (x : Context) (scope : List Word) (whole : Written) (q : Quantor) (w : Word) (balls : List Ball) (f : Written) → whole ≡ v.Quantified q w balls f → none_in x scope whole
-    → (quantor_faults x scope w balls ≡ []) × none_in x (scope ++ w ∷ []) f
+pub quantified_parts : (x : Context) (scope : List Word) (whole : Written) (q : Quantifier) (w : Word) (balls : List Ball) (f : Written) → whole ≡ v.Quantified q w balls f → none_in x scope whole
+    → (quantifier_faults x scope w balls ≡ []) × none_in x (scope ++ w ∷ []) f
 quantified_parts x scope whole q w balls f is none =
-    both_nil (quantor_faults x scope w balls) (formula_faults x f (scope ++ w ∷ [])) (sym (faults_quantified x q w balls f scope) ∙ (ap (λ h. formula_faults x h scope) (sym is) ∙ none))
+    both_nil (quantifier_faults x scope w balls) (formula_faults x f (scope ++ w ∷ [])) (sym (faults_quantified x q w balls f scope) ∙ (ap (λ h. formula_faults x h scope) (sym is) ∙ none))
 
 -- the faults before the balls, and those of the balls
-pub balls_none : (x : Context) (scope : List Word) (w : Word) (balls : List Ball) → quantor_faults x scope w balls ≡ [] → flat_map (ball_faults x scope) balls ≡ []
+pub balls_none : (x : Context) (scope : List Word) (w : Word) (balls : List Ball) → quantifier_faults x scope w balls ≡ [] → flat_map (ball_faults x scope) balls ≡ []
 balls_none x scope w balls none =
     let again = when (is_variable x.text scope w) (fault.Twice (name.Word w)) in
     let many = over (nat_lt 4 (length balls)) limit.Balls in
@@ -83,7 +83,7 @@ depth_group whole f is = ap tree_depth is ∙ (ap tree_depth (sym (v.rolls-Group
 pub depth_list : (whole : Written) (j : Join) (fs : List Written) → whole ≡ v.List j fs → tree_depth whole ≡ 1 + greatest_depth (map tree_depth fs)
 depth_list whole j fs is = ap tree_depth is ∙ (ap tree_depth (sym (v.rolls-List j fs)) ∙ fold-roll-Formula ℕ tree_depth_step (Written-F.List j fs))
 
-pub depth_quantified : (whole : Written) (q : Quantor) (w : Word) (balls : List Ball) (f : Written) → whole ≡ v.Quantified q w balls f → tree_depth whole ≡ 1 + tree_depth f
+pub depth_quantified : (whole : Written) (q : Quantifier) (w : Word) (balls : List Ball) (f : Written) → whole ≡ v.Quantified q w balls f → tree_depth whole ≡ 1 + tree_depth f
 depth_quantified whole q w balls f is = ap tree_depth is ∙ (ap tree_depth (sym (v.rolls-Quantified q w balls f)) ∙ fold-roll-Formula ℕ tree_depth_step (Written-F.Quantified q w balls f))
 
 pub depth_implies : (whole f g : Written) → whole ≡ v.Implies f g → tree_depth whole ≡ 1 + max (tree_depth f) (tree_depth g)

@@ -14,8 +14,8 @@ use Rattle.dd_written.specs.declared.tree.Comparand.TheVariants as side
 use Rattle.dd_written.specs.declared.tree.Atom.{Atom}
 use Rattle.dd_written.specs.declared.tree.Atom.TheVariants as atom
 use Rattle.dd_written.specs.declared.tree.Ball.{Ball}
-use Rattle.dd_written.specs.declared.tree.Quantor.{Quantor}
-use Rattle.dd_written.specs.declared.tree.Quantor.TheVariants as quantor
+use Rattle.dd_written.specs.declared.tree.Quantifier.{Quantifier}
+use Rattle.dd_written.specs.declared.tree.Quantifier.TheVariants as quantifier
 use Rattle.dd_written.specs.declared.tree.Join.{Join}
 use Rattle.dd_written.specs.declared.tree.Join.TheVariants as join
 use Rattle.dd_written.specs.declared.tree.Formula.{Formula as Written}
@@ -35,7 +35,7 @@ use Rattle.dd_faults.specs.declared.fault.Fault.TheVariants as fault
 use Rattle.dd_faults.specs.declared.context.Context.{Context}
 use Rattle.dd_faults.specs.Order.{when, over}
 use Rattle.dd_faults.specs.Names.{missing, number_in, is_variable, unknown_variable}
-use Rattle.dd_faults.specs.Formulas.{unknown_label, term_faults, names_symbol, side_faults, atom_faults, ball_faults, quantor_faults, faults_step, formula_faults}
+use Rattle.dd_faults.specs.Formulas.{unknown_label, term_faults, names_symbol, side_faults, atom_faults, ball_faults, quantifier_faults, faults_step, formula_faults}
 use Rattle.dd_faults.specs.Sound.{IsSound}
 use Rattle.dd_meanings.specs.Formulas.{label_of, term_of, equal_of, not_equal_of, atom_of, ball_of, joined_of, quantified_of, formula_step, formula_of}
 use Rattle.dd_meanings.specs.making.Parts.{IsFormulaOf}
@@ -124,11 +124,11 @@ module _ (x : Context) (same : x.known.setting.topology.nodes ≡ length x.known
 
     ball_is : (b : Ball) → ball_faults x scope b ≡ [] → ball_fits (length scope + 1) (ball_of x scope b) ≡ true
     ball_is b none =
-        let both = both_nil (unknown_variable x.text scope b.middle) (over (nat_lt 3 (written_value x.text b.radius)) limit.Radius) none in
+        let both = both_nil (unknown_variable x.text scope b.centre) (over (nat_lt 3 (written_value x.text b.radius)) limit.Radius) none in
         let small : written_value x.text b.radius ≤ 3 = ltb-false 3 (written_value x.text b.radius) (within (nat_lt 3 (written_value x.text b.radius)) limit.Radius both.1) in
-        and_from _ _ (lt-ltb _ _ (variable_below x.text scope b.middle both.0)) (le-leb _ _ small)
+        and_from _ _ (lt-ltb _ _ (variable_below x.text scope b.centre both.0)) (le-leb _ _ small)
 
-    balls_are : (w : Word) (bs : List Ball) → quantor_faults x scope w bs ≡ [] → balls_fit (length scope + 1) (map (ball_of x scope) bs) ≡ true
+    balls_are : (w : Word) (bs : List Ball) → quantifier_faults x scope w bs ≡ [] → balls_fit (length scope + 1) (map (ball_of x scope) bs) ≡ true
     balls_are w bs none =
         let twice = both_nil (when (is_variable x.text scope w) (fault.Twice (name.Word w))) (over (nat_lt 4 (length bs)) limit.Balls ++ flat_map (ball_faults x scope) bs) none in
         let both = both_nil (over (nat_lt 4 (length bs)) limit.Balls) (flat_map (ball_faults x scope) bs) twice.1 in
@@ -138,9 +138,9 @@ module _ (x : Context) (same : x.known.setting.topology.nodes ≡ length x.known
         (list_all-map (ball_fits (length scope + 1)) (ball_of x scope) bs
         ∙ all_without (λ b. ball_fits (length scope + 1) (ball_of x scope b)) (ball_faults x scope) ball_is bs both.1)
 
-    quantified_is : (q : Quantor) (bs : List BallOf) (f : Formula) → balls_fit (length scope + 1) bs ≡ true → its_fits f (length scope + 1 + 1) ≡ true → its_fits (quantified_of q bs f) (length scope + 1) ≡ true
-    quantified_is quantor.All bs f h h' = rolled (Formula-F.ForAll bs f) (length scope + 1) (and_from _ _ h h')
-    quantified_is quantor.Exists bs f h h' = rolled (Formula-F.Exists bs f) (length scope + 1) (and_from _ _ h h')
+    quantified_is : (q : Quantifier) (bs : List BallOf) (f : Formula) → balls_fit (length scope + 1) bs ≡ true → its_fits f (length scope + 1 + 1) ≡ true → its_fits (quantified_of q bs f) (length scope + 1) ≡ true
+    quantified_is quantifier.All bs f h h' = rolled (Formula-F.ForAll bs f) (length scope + 1) (and_from _ _ h h')
+    quantified_is quantifier.Exists bs f h h' = rolled (Formula-F.Exists bs f) (length scope + 1) (and_from _ _ h h')
 
     joined_is : (j : Join) (fs : List Formula) → list_all (λ (f : ℕ → Bool). f (length scope + 1)) (map its_fits fs) ≡ true → its_fits (joined_of j fs) (length scope + 1) ≡ true
     joined_is join.And fs h = rolled (Formula-F.And fs) (length scope + 1) h
@@ -172,7 +172,7 @@ module _ (x : Context) (same : x.known.setting.topology.nodes ≡ length x.known
   step_fits (Written-F.Atom a) scope none = atom_is scope a none
   step_fits (Written-F.Not f) scope none = rolled (Formula-F.Not (formula_of x f.0 scope)) (length scope + 1) (f.1 scope none)
   step_fits (Written-F.Quantified q w bs f) scope none =
-      let both = both_nil (quantor_faults x scope w bs) (formula_faults x f.0 (scope ++ w ∷ [])) none in
+      let both = both_nil (quantifier_faults x scope w bs) (formula_faults x f.0 (scope ++ w ∷ [])) none in
       let longer : length (scope ++ w ∷ []) + 1 ≡ length scope + 1 + 1 = omega (arith, length-append scope (w ∷ [])) in
       let body = formula_of x f.0 (scope ++ w ∷ []) in
       quantified_is scope q (map (ball_of x scope) bs) body

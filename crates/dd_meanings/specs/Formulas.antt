@@ -8,8 +8,8 @@ use Rattle.dd_written.specs.declared.tree.Comparand.TheVariants as side
 use Rattle.dd_written.specs.declared.tree.Atom.{Atom}
 use Rattle.dd_written.specs.declared.tree.Atom.TheVariants as atom
 use Rattle.dd_written.specs.declared.tree.Ball.{Ball}
-use Rattle.dd_written.specs.declared.tree.Quantor.{Quantor}
-use Rattle.dd_written.specs.declared.tree.Quantor.TheVariants as quantor
+use Rattle.dd_written.specs.declared.tree.Quantifier.{Quantifier}
+use Rattle.dd_written.specs.declared.tree.Quantifier.TheVariants as quantifier
 use Rattle.dd_written.specs.declared.tree.Join.{Join}
 use Rattle.dd_written.specs.declared.tree.Join.TheVariants as join
 use Rattle.dd_written.specs.declared.tree.Formula.{Formula as Written}
@@ -54,15 +54,15 @@ atom_of x scope (atom.Same t u) = roll-Formula (Formula-F.Place (term_of x scope
 atom_of x scope (atom.AtNode t n) = roll-Formula (Formula-F.Node (term_of x scope t) (number_in x.text x.known.setting.nodes n))
 
 abbrev pub ball_of : Context → List Word → Ball → BallOf
-ball_of x scope b = record { variable = variable_number x.text scope b.middle; radius = written_value x.text b.radius }
+ball_of x scope b = record { variable = variable_number x.text scope b.centre; radius = written_value x.text b.radius }
 
 abbrev pub joined_of : Join → List Formula → Formula
 joined_of join.And fs = roll-Formula (Formula-F.And fs)
 joined_of join.Or fs = roll-Formula (Formula-F.Or fs)
 
-abbrev pub quantified_of : Quantor → List BallOf → Formula → Formula
-quantified_of quantor.All balls f = roll-Formula (Formula-F.ForAll balls f)
-quantified_of quantor.Exists balls f = roll-Formula (Formula-F.Exists balls f)
+abbrev pub quantified_of : Quantifier → List BallOf → Formula → Formula
+quantified_of quantifier.All balls f = roll-Formula (Formula-F.ForAll balls f)
+quantified_of quantifier.Exists balls f = roll-Formula (Formula-F.Exists balls f)
 
 -- in a scope; a quantifier's variable is in scope in its body, and not in its balls; parentheses leave nothing behind
 abbrev pub formula_step : Context → Written-F (List Word → Formula) → List Word → Formula

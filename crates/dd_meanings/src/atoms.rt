@@ -178,7 +178,7 @@ fn ball(context: &Context, scope: &[Word], ball: &Ball) -> BallOf
     ensures { result ≡ ball_of context.now scope.now ball.now }
 {
     BallOf {
-        variable: variable(&context.text, scope, ball.middle),
+        variable: variable(&context.text, scope, ball.centre),
         radius: number_value(&context.text, ball.radius),
     }
 }

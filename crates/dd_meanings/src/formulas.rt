@@ -9,7 +9,7 @@ use crate::atoms::{atom, balls};
 use dd_expansion::{BallOf, Formula};
 use dd_faults::{Context, within};
 use dd_values::{Boxed, Items};
-use dd_written::{Ball, Formula as Written, Join, Quantor, Word};
+use dd_written::{Ball, Formula as Written, Join, Quantifier, Word};
 use std::alloc::{AllocError, Global};
 
 fn joined(join: Join, members: Items<Formula>) -> Formula
@@ -21,12 +21,12 @@ fn joined(join: Join, members: Items<Formula>) -> Formula
     }
 }
 
-fn quantified(quantor: Quantor, balls: Items<BallOf>, body: Boxed<Formula>) -> Formula
-    ensures { result ≡ quantified_of quantor balls body }
+fn quantified(quantifier: Quantifier, balls: Items<BallOf>, body: Boxed<Formula>) -> Formula
+    ensures { result ≡ quantified_of quantifier balls body }
 {
-    match quantor {
-        Quantor::All => Formula::ForAll { balls, body },
-        Quantor::Exists => Formula::Exists { balls, body },
+    match quantifier {
+        Quantifier::All => Formula::ForAll { balls, body },
+        Quantifier::Exists => Formula::Exists { balls, body },
     }
 }
 
@@ -50,14 +50,14 @@ fn formula_in(
             Ok(Formula::Not(negated))
         }
         Written::Quantified {
-            quantor,
+            quantifier,
             variable,
             balls,
             body,
         } => {
             let balls = balls.as_slice();
             let body = body.get();
-            quantified_in(alloc, context, scope, *quantor, *variable, balls, body)
+            quantified_in(alloc, context, scope, *quantifier, *variable, balls, body)
         }
         Written::Group(inner) => formula_in(alloc, context, scope, inner.get()),
         Written::List { join, members } => {
@@ -120,7 +120,7 @@ fn quantified_in(
     alloc: Global,
     context: &Context,
     scope: &[Word],
-    quantor: Quantor,
+    quantifier: Quantifier,
     variable: Word,
     written: &[Ball],
     body: &Written,
@@ -128,12 +128,12 @@ fn quantified_in(
     requires shallow { length scope.now + (1 + tree_depth body.now) ≤ 64 }
     requires balls { flat_map (ball_faults context.now scope.now) written.now ≡ [] }
     requires body { formula_faults context.now body.now (scope.now ++ variable ∷ []) ≡ [] }
-    ensures { IfOk result (λ f. f ≡ quantified_of quantor (map (ball_of context.now scope.now) written.now) (formula_of context.now body.now (scope.now ++ variable ∷ []))) }
+    ensures { IfOk result (λ f. f ≡ quantified_of quantifier (map (ball_of context.now scope.now) written.now) (formula_of context.now body.now (scope.now ++ variable ∷ []))) }
 {
     let balls = balls(alloc, context, scope, written)?;
     let inner = within(alloc, scope, variable)?;
     let body = boxed_in(alloc, context, inner.as_slice(), body)?;
-    Ok(quantified(quantor, balls, body))
+    Ok(quantified(quantifier, balls, body))
 }
 
 #[cycle(meaning)]

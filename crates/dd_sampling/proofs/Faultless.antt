@@ -8,8 +8,8 @@ use Rattle.dd_written.specs.declared.tree.Comparand.TheVariants as side
 use Rattle.dd_written.specs.declared.tree.Atom.{Atom}
 use Rattle.dd_written.specs.declared.tree.Atom.TheVariants as atom
 use Rattle.dd_written.specs.declared.tree.Ball.{Ball}
-use Rattle.dd_written.specs.declared.tree.Quantor.{Quantor}
-use Rattle.dd_written.specs.declared.tree.Quantor.TheVariants as quantor
+use Rattle.dd_written.specs.declared.tree.Quantifier.{Quantifier}
+use Rattle.dd_written.specs.declared.tree.Quantifier.TheVariants as quantifier
 use Rattle.dd_written.specs.declared.tree.Join.{Join}
 use Rattle.dd_written.specs.declared.tree.Term.{Term as WrittenTerm}
 use Rattle.dd_written.specs.declared.tree.Formula.{Formula, roll-Formula}
@@ -22,7 +22,7 @@ use Rattle.dd_faults.specs.declared.context.Context.{Context}
 use Rattle.dd_faults.specs.Order.{over}
 use Rattle.dd_faults.specs.Names.{named_again}
 use Rattle.dd_faults.specs.Numbers.{token_faults}
-use Rattle.dd_faults.specs.Formulas.{formula_faults, faults_step, atom_faults, quantor_faults}
+use Rattle.dd_faults.specs.Formulas.{formula_faults, faults_step, atom_faults, quantifier_faults}
 use Rattle.dd_faults.specs.Commands.{written_faults}
 use Rattle.dd_meanings.specs.Formulas.{formula_of, formula_step, atom_of, joined_of, quantified_of, ball_of}
 use Rattle.dd_sampling.proofs.Lexing.{number_at}
@@ -42,8 +42,8 @@ atom_faulty x a scope = ap (λ (g : Faulty). g scope) (fold-roll-Formula Faulty 
 not_faulty : (x : Context) (f : Formula) (scope : List Word) → formula_faults x (roll-Formula (Formula-F.Not f)) scope ≡ formula_faults x f scope
 not_faulty x f scope = ap (λ (g : Faulty). g scope) (fold-roll-Formula Faulty (faults_step x) (Formula-F.Not f))
 
-quantified_faulty : (x : Context) (q : Quantor) (v : Word) (bs : List Ball) (f : Formula) (scope : List Word)
-    → formula_faults x (roll-Formula (Formula-F.Quantified q v bs f)) scope ≡ quantor_faults x scope v bs ++ formula_faults x f (scope ++ v ∷ [])
+quantified_faulty : (x : Context) (q : Quantifier) (v : Word) (bs : List Ball) (f : Formula) (scope : List Word)
+    → formula_faults x (roll-Formula (Formula-F.Quantified q v bs f)) scope ≡ quantifier_faults x scope v bs ++ formula_faults x f (scope ++ v ∷ [])
 quantified_faulty x q v bs f scope = ap (λ (g : Faulty). g scope) (fold-roll-Formula Faulty (faults_step x) (Formula-F.Quantified q v bs f))
 
 group_faulty : (x : Context) (f : Formula) (scope : List Word) → formula_faults x (roll-Formula (Formula-F.Group f)) scope ≡ formula_faults x f scope
@@ -67,7 +67,7 @@ atom_meaning x a scope = ap (λ (g : Meaning). g scope) (fold-roll-Formula Meani
 not_meaning : (x : Context) (f : Formula) (scope : List Word) → formula_of x (roll-Formula (Formula-F.Not f)) scope ≡ negation (formula_of x f scope)
 not_meaning x f scope = ap (λ (g : Meaning). g scope) (fold-roll-Formula Meaning (formula_step x) (Formula-F.Not f))
 
-quantified_meaning : (x : Context) (q : Quantor) (v : Word) (bs : List Ball) (f : Formula) (scope : List Word)
+quantified_meaning : (x : Context) (q : Quantifier) (v : Word) (bs : List Ball) (f : Formula) (scope : List Word)
     → formula_of x (roll-Formula (Formula-F.Quantified q v bs f)) scope ≡ quantified_of q (map (ball_of x scope) bs) (formula_of x f (scope ++ v ∷ []))
 quantified_meaning x q v bs f scope = ap (λ (g : Meaning). g scope) (fold-roll-Formula Meaning (formula_step x) (Formula-F.Quantified q v bs f))
 
@@ -103,7 +103,7 @@ dies_faults x = simp faulties
 zero_faults : (x : Context) → formula_faults x zero_rule [] ≡ atom_faults x [] (told (here 145) 147)
 zero_faults x = simp faulties
 
-dom_faults : (x : Context) → formula_faults x dom [] ≡ quantor_faults x [] (word_at 160 1) (ball 162 163 ∷ []) ++ atom_faults x (word_at 160 1 ∷ []) (told (here 166) 168)
+dom_faults : (x : Context) → formula_faults x dom [] ≡ quantifier_faults x [] (word_at 160 1) (ball 162 163 ∷ []) ++ atom_faults x (word_at 160 1 ∷ []) (told (here 166) 168)
 dom_faults x = simp faulties
 
 hard_means : (x : Context) → formula_of x hard []
@@ -121,13 +121,13 @@ dies_means x = simp meanings
 zero_means : (x : Context) → formula_of x zero_rule [] ≡ atom_of x [] (told (here 145) 147)
 zero_means x = simp meanings
 
-dom_means : (x : Context) → formula_of x dom [] ≡ quantified_of quantor.Exists (ball_of x [] (ball 162 163) ∷ []) (atom_of x (word_at 160 1 ∷ []) (told (here 166) 168))
+dom_means : (x : Context) → formula_of x dom [] ≡ quantified_of quantifier.Exists (ball_of x [] (ball 162 163) ∷ []) (atom_of x (word_at 160 1 ∷ []) (told (here 166) 168))
 dom_means x = simp meanings
 
 -- ---- where they stand
 
 abbrev pub standing : List ℕ → ℕ → List (List ℕ) → List (List ℕ) → Context
-standing bytes number rules configurations = record { text = bytes; later = false; number = number; known = known rules configurations }
+standing bytes number rules configurations = record { text = bytes; has_topology = false; number = number; known = known rules configurations }
 
 -- the context of a rule of a sample, behind the rules of these names
 abbrev pub behind : List ℕ → ℕ → List (List ℕ) → Context

@@ -8,7 +8,7 @@ use Rattle.dd_written.specs.declared.lexeme.Lexeme.TheVariants as lexeme
 use Rattle.dd_written.specs.declared.lexeme.Mark.TheVariants as mark
 use Rattle.dd_written.specs.declared.tree.Atom.{Atom}
 use Rattle.dd_written.specs.declared.tree.Ball.{Ball}
-use Rattle.dd_written.specs.declared.tree.Quantor.{Quantor}
+use Rattle.dd_written.specs.declared.tree.Quantifier.{Quantifier}
 use Rattle.dd_written.specs.declared.tree.Join.{Join}
 use Rattle.dd_written.specs.declared.tree.Formula.{Formula, roll-Formula}
 use Rattle.dd_written.specs.declared.tree.Formula.TheFolds.{fold-roll-Formula}
@@ -22,7 +22,7 @@ atom_text_is a = fold-roll-Formula (List Lexeme) text_step (Formula-F.Atom a)
 not_text_is : (f : Formula) → text (roll-Formula (Formula-F.Not f)) ≡ lexeme.Mark mark.Not ∷ text f
 not_text_is f = fold-roll-Formula (List Lexeme) text_step (Formula-F.Not f)
 
-quantified_text_is : (q : Quantor) (v : Word) (bs : List Ball) (f : Formula) → text (roll-Formula (Formula-F.Quantified q v bs f))
+quantified_text_is : (q : Quantifier) (v : Word) (bs : List Ball) (f : Formula) → text (roll-Formula (Formula-F.Quantified q v bs f))
     ≡ lexeme.Mark (capital q) ∷ lexeme.Word v ∷ lexeme.Mark mark.OpenList ∷ flat_map ball_text bs ++ lexeme.Mark mark.CloseList ∷ text f
 quantified_text_is q v bs f = fold-roll-Formula (List Lexeme) text_step (Formula-F.Quantified q v bs f)
 
@@ -43,7 +43,7 @@ atom_stands a p = ap (λ (s : ℕ → Bool). s p) (fold-roll-Formula (ℕ → Bo
 not_stands : (f : Formula) (p : ℕ) → stands (roll-Formula (Formula-F.Not f)) p ≡ stands f 0
 not_stands f p = ap (λ (s : ℕ → Bool). s p) (fold-roll-Formula (ℕ → Bool) stands_step (Formula-F.Not f))
 
-quantified_stands : (q : Quantor) (v : Word) (bs : List Ball) (f : Formula) (p : ℕ) → stands (roll-Formula (Formula-F.Quantified q v bs f)) p ≡ (nat_le 1 (length bs) && stands f 0)
+quantified_stands : (q : Quantifier) (v : Word) (bs : List Ball) (f : Formula) (p : ℕ) → stands (roll-Formula (Formula-F.Quantified q v bs f)) p ≡ (nat_le 1 (length bs) && stands f 0)
 quantified_stands q v bs f p = ap (λ (s : ℕ → Bool). s p) (fold-roll-Formula (ℕ → Bool) stands_step (Formula-F.Quantified q v bs f))
 
 group_stands : (f : Formula) (p : ℕ) → stands (roll-Formula (Formula-F.Group f)) p ≡ stands f 4
@@ -64,7 +64,7 @@ atom_depth a = fold-roll-Formula ℕ tree_depth_step (Formula-F.Atom a)
 not_depth : (f : Formula) → tree_depth (roll-Formula (Formula-F.Not f)) ≡ 1 + tree_depth f
 not_depth f = fold-roll-Formula ℕ tree_depth_step (Formula-F.Not f)
 
-quantified_depth : (q : Quantor) (v : Word) (bs : List Ball) (f : Formula) → tree_depth (roll-Formula (Formula-F.Quantified q v bs f)) ≡ 1 + tree_depth f
+quantified_depth : (q : Quantifier) (v : Word) (bs : List Ball) (f : Formula) → tree_depth (roll-Formula (Formula-F.Quantified q v bs f)) ≡ 1 + tree_depth f
 quantified_depth q v bs f = fold-roll-Formula ℕ tree_depth_step (Formula-F.Quantified q v bs f)
 
 group_depth : (f : Formula) → tree_depth (roll-Formula (Formula-F.Group f)) ≡ 1 + tree_depth f

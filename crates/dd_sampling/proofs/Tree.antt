@@ -10,7 +10,7 @@ use Rattle.dd_written.specs.declared.tree.Term.{Term}
 use Rattle.dd_written.specs.declared.tree.Comparand.TheVariants as side
 use Rattle.dd_written.specs.declared.tree.Atom.TheVariants as atom
 use Rattle.dd_written.specs.declared.tree.Ball.{Ball}
-use Rattle.dd_written.specs.declared.tree.Quantor.TheVariants as quantor
+use Rattle.dd_written.specs.declared.tree.Quantifier.TheVariants as quantifier
 use Rattle.dd_written.specs.declared.tree.Join.TheVariants as join
 use Rattle.dd_written.specs.declared.tree.Formula.{Formula, roll-Formula}
 use Rattle.dd_written.specs.declared.tree.Formula.TheOpen.{Formula-F}
@@ -61,7 +61,7 @@ abbrev pub then : Formula → Formula → Formula
 then f g = roll-Formula (Formula-F.Implies f g)
 
 abbrev pub ball : ℕ → ℕ → Ball
-ball s r = record { middle = word_at s 1; radius = number_at r 1 }
+ball s r = record { centre = word_at s 1; radius = number_at r 1 }
 
 abbrev pub hard : Formula
 hard = then (is (here 28) 30) (group (both (is (step 36 38) 41 ∷ is (step 45 47) 50 ∷ [])))
@@ -78,7 +78,7 @@ abbrev pub zero_rule : Formula
 zero_rule = is (here 145) 147
 
 abbrev pub dom : Formula
-dom = roll-Formula (Formula-F.Quantified quantor.Exists (word_at 160 1) (ball 162 163 ∷ []) (is (here 166) 168))
+dom = roll-Formula (Formula-F.Quantified quantifier.Exists (word_at 160 1) (ball 162 163 ∷ []) (is (here 166) 168))
 
 -- ---- their texts
 

@@ -147,20 +147,20 @@ sound_limits k l s are = record {
 
 -- ---- one meaning more
 
-pub with_kept : (text : List ℕ) (later : Bool) (n : ℕ) (s : Parts) (m : Meaning) → IsScriptOf s → (is_header m ≡ true → IsFresh s) → IsSoundMeaning (context text later n s) s.rules s.automata m → HasSets (with text s m).known → IsScriptOf (with text s m)
-with_kept text later n s (meaning.Topology g) is fresh sound has =
+pub with_kept : (text : List ℕ) (topology : Bool) (n : ℕ) (s : Parts) (m : Meaning) → IsScriptOf s → (is_header m ≡ true → IsFresh s) → IsSoundMeaning (context text topology n s) s.rules s.automata m → HasSets (with text s m).known → IsScriptOf (with text s m)
+with_kept text topology n s (meaning.Topology g) is fresh sound has =
     fresh_kept s (record (s.known) { setting = record (s.known.setting) { topology = g } }) is (fresh refl) (sound_topology s.known g is.known sound) refl refl refl
-with_kept text later n s (meaning.Nodes nodes given g) is fresh sound has =
+with_kept text topology n s (meaning.Nodes nodes given g) is fresh sound has =
     fresh_kept s (known_nodes s.known nodes given g) is (fresh refl) (sound_nodes s.known nodes given g is.known sound.0 sound.1 has) refl refl refl
-with_kept text later n s (meaning.Symbols symbols) is fresh sound has =
+with_kept text topology n s (meaning.Symbols symbols) is fresh sound has =
     fresh_kept s (known_symbols s.known symbols) is (fresh refl) (sound_symbols s.known symbols is.known sound has) refl refl refl
-with_kept text later n s (meaning.Only node symbols) is fresh sound has =
+with_kept text topology n s (meaning.Only node symbols) is fresh sound has =
     fresh_kept s (known_only s.known node symbols) is (fresh refl) (sound_only s.known node symbols is.known has) refl refl refl
-with_kept text later n s (meaning.Weights ws) is fresh sound has =
+with_kept text topology n s (meaning.Weights ws) is fresh sound has =
     fresh_kept s (record (s.known) { weights = ws }) is (fresh refl) (sound_weights s.known ws is.known sound) refl refl refl
-with_kept text later n s (meaning.Limits l) is fresh sound has =
+with_kept text topology n s (meaning.Limits l) is fresh sound has =
     fresh_kept s (record (s.known) { limits = l }) is (fresh refl) (sound_limits s.known l is.known sound) refl refl refl
-with_kept text later n s (meaning.Rule name rule) is fresh sound has = rule_more s (word_text text name) rule is sound.1 sound.2
-with_kept text later n s (meaning.Automaton name automaton) is fresh sound has = automaton_more s (word_text text name) automaton is sound.1
-with_kept text later n s (meaning.Configuration name configuration) is fresh sound has = configuration_more s (word_text text name) configuration is sound.1
-with_kept text later n s (meaning.Query query) is fresh sound has = query_more s query is sound
+with_kept text topology n s (meaning.Rule name rule) is fresh sound has = rule_more s (word_text text name) rule is sound.1 sound.2
+with_kept text topology n s (meaning.Automaton name automaton) is fresh sound has = automaton_more s (word_text text name) automaton is sound.1
+with_kept text topology n s (meaning.Configuration name configuration) is fresh sound has = configuration_more s (word_text text name) configuration is sound.1
+with_kept text topology n s (meaning.Query query) is fresh sound has = query_more s query is sound

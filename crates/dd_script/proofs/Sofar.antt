@@ -22,10 +22,10 @@ use Rattle.dd_script.proofs.Places.{header_is, still_fresh, fewer_next}
 
 -- the first fault from here on, and the script that comes of what is left
 abbrev fault_from : Draft → List Written → Option Located
-fault_from d ws = first_from d.context.text d.context.later d.context.number (parts_of d) ws
+fault_from d ws = first_from d.context.text d.context.has_topology d.context.number (parts_of d) ws
 
 abbrev script_from : Draft → List Written → Parts
-script_from d ws = after_all d.context.text d.context.later d.context.number (parts_of d) ws
+script_from d ws = after_all d.context.text d.context.has_topology d.context.number (parts_of d) ws
 
 -- i of the commands of the text are done; the first fault of the rest is that of all, and the rest leads to the whole script
 pub record Sofar (text : List ℕ) (ws : List Written) (i : ℕ) (d : Draft) : Type 0 where

@@ -52,7 +52,7 @@ module _ (d : Draft) (w : Written) (rs : List LocalRule) (fs : List Automaton) (
           left = ap (λ (x : Draft). record x { context = record (x.context) { number = x.context.number + 1 } }) all;
           counted = counted d.context.number _ (none_first (written_faults d.context w) none);
           script =
-              with_kept d.context.text d.context.later d.context.number (parts_of d) (meaning_of d.context d.rules d.automata w.command) script
+              with_kept d.context.text d.context.has_topology d.context.number (parts_of d) (meaning_of d.context d.rules d.automata w.command) script
               (λ header. ready (leb-true (stage_of w) 6 (sym (header_is d.context d.rules d.automata w.command) ∙ header)))
               (subst (IsSoundMeaning d.context d.rules d.automata) means (sound_at m is sound))
               (subst (λ (x : Draft). HasSets x.context.known) all has);

@@ -74,17 +74,17 @@ with bytes s (meaning.Query query) = record s { queries = s.queries ++ query ∷
 
 -- ---- one command after the other
 
--- where the command with the number n stands; later: whether the script has a topology command
+-- where the command with the number n stands; topology: whether the script has a topology command
 abbrev pub context : List ℕ → Bool → ℕ → Parts → Context
-context bytes later n s = record { text = bytes; later = later; number = n; known = s.known }
+context bytes topology n s = record { text = bytes; has_topology = topology; number = n; known = s.known }
 
 -- the first fault of what is written, and where there is none the first limit on counts that is passed
 abbrev pub fault_of : List ℕ → Bool → ℕ → Parts → Written → Option Fault
-fault_of bytes later n s w =
-    option_or (first_fault (written_faults (context bytes later n s) w)) (first_fault (counted_sizes (context bytes later n s) s.rules s.automata w.command))
+fault_of bytes topology n s w =
+    option_or (first_fault (written_faults (context bytes topology n s) w)) (first_fault (counted_sizes (context bytes topology n s) s.rules s.automata w.command))
 
 abbrev pub next : List ℕ → Bool → ℕ → Parts → Written → Parts
-next bytes later n s w = with bytes s (meaning_of (context bytes later n s) s.rules s.automata w.command)
+next bytes topology n s w = with bytes s (meaning_of (context bytes topology n s) s.rules s.automata w.command)
 
 -- a fault, with its command's number
 pub record Located : Type 0 where
@@ -96,13 +96,13 @@ located n f = record { command = n; fault = f }
 
 -- the first fault of the commands from the number n on
 abbrev pub first_from : List ℕ → Bool → ℕ → Parts → List Written → Option Located
-first_from bytes later n s [] = None
-first_from bytes later n s (w ∷ ws) = option_or (option_map (located n) (fault_of bytes later n s w)) (first_from bytes later (n + 1) (next bytes later n s w) ws)
+first_from bytes topology n s [] = None
+first_from bytes topology n s (w ∷ ws) = option_or (option_map (located n) (fault_of bytes topology n s w)) (first_from bytes topology (n + 1) (next bytes topology n s w) ws)
 
 -- a script with these commands more
 abbrev pub after_all : List ℕ → Bool → ℕ → Parts → List Written → Parts
-after_all bytes later n s [] = s
-after_all bytes later n s (w ∷ ws) = after_all bytes later (n + 1) (next bytes later n s w) ws
+after_all bytes topology n s [] = s
+after_all bytes topology n s (w ∷ ws) = after_all bytes topology (n + 1) (next bytes topology n s w) ws
 
 -- whether it is a topology command, by its place
 abbrev pub is_topology : Written → Bool

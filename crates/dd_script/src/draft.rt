@@ -34,16 +34,16 @@ pub(crate) struct Draft {
 }
 
 impl Draft {
-    /// Before the first command of a text. `later` is whether it has a topology command.
-    pub(crate) fn new(alloc: Global, text: Text, later: bool) -> Result<Draft, AllocError>
-        ensures begun { IfOk result (λ begun. begun ≡ draft_of text later 1 start) }
+    /// Before the first command of a text. `has_topology` is whether it has a topology command.
+    pub(crate) fn new(alloc: Global, text: Text, has_topology: bool) -> Result<Draft, AllocError>
+        ensures begun { IfOk result (λ begun. begun ≡ draft_of text has_topology 1 start) }
         ensures kept { OnOk result (IsScriptOf start) }
     {
         let known = start(alloc)?;
         Ok(Draft {
             context: Context {
                 text,
-                later,
+                has_topology,
                 number: 1,
                 known,
             },

@@ -105,8 +105,8 @@ fn script_of(alloc: Global, syntax: Syntax) -> Result<Script, ScriptFault>
     ensures refused { IfErr result (IsScriptRefusal syntax.text) }
 {
     let Syntax { text, commands } = syntax;
-    let later = has_topology(commands.as_slice());
-    match Draft::new(alloc, text, later) {
+    let topology = has_topology(commands.as_slice());
+    match Draft::new(alloc, text, topology) {
         Ok(draft) => script_from(alloc, draft, commands.as_slice()),
         Err(_) => Err(memory()),
     }

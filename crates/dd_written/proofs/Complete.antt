@@ -16,8 +16,8 @@ use Rattle.dd_written.specs.declared.tree.Comparand.TheVariants as side
 use Rattle.dd_written.specs.declared.tree.Atom.{Atom}
 use Rattle.dd_written.specs.declared.tree.Atom.TheVariants as atom
 use Rattle.dd_written.specs.declared.tree.Ball.{Ball}
-use Rattle.dd_written.specs.declared.tree.Quantor.{Quantor}
-use Rattle.dd_written.specs.declared.tree.Quantor.TheVariants as quantor
+use Rattle.dd_written.specs.declared.tree.Quantifier.{Quantifier}
+use Rattle.dd_written.specs.declared.tree.Quantifier.TheVariants as quantifier
 use Rattle.dd_written.specs.declared.tree.Join.{Join}
 use Rattle.dd_written.specs.declared.tree.Join.TheVariants as join
 use Rattle.dd_written.specs.declared.tree.Formula.{Formula, roll-Formula}
@@ -25,7 +25,7 @@ use Rattle.dd_written.specs.declared.tree.Formula.TheFolds.{map-Formula, ind-For
 use Rattle.dd_written.specs.declared.tree.Formula.TheOpen.{Formula-F}
 use Rattle.dd_written.specs.Formulas.{text, stands, stands_step, tree_depth, greatest_depth, name_lexeme, move_text, term_text, atom_side_text, atom_text, ball_text, capital, sign, join_rank, IsWrittenFormula}
 use Rattle.dd_written.specs.reading.Readers.{Reader, ◌>>=◌}
-use Rattle.dd_written.specs.reading.Atoms.{moves_at, term_at, side_at, after_term, atom_at, leaf_at, balls_at, quantor_end, quantor_at}
+use Rattle.dd_written.specs.reading.Atoms.{moves_at, term_at, side_at, after_term, atom_at, leaf_at, balls_at, quantifier_end, quantifier_at}
 use Rattle.dd_written.specs.reading.Formulas.{begins, more_at, list_at, or_at, implies_end, implies_at, iff_more, whole_at, quantified_at, group_end, nested_at, unary_at, formula_at, ends}
 use Rattle.dd_written.proofs.Layers.{text_of, stands_of, depth_of}
 use Rattle.dd_written.specs.lemmas.Options.{and_is}
@@ -93,9 +93,9 @@ balls_again : (balls : List Ball) (rest : List Lexeme) → balls_at (flat_map ba
 balls_again [] rest = refl
 balls_again (b ∷ balls) rest = ap (λ (x : List Ball × List Lexeme). (b ∷ x.0, x.1)) (balls_again balls rest)
 
-quantor_again : (variable : Word) (b : Ball) (balls : List Ball) (rest : List Lexeme)
-    → quantor_at (lexeme.Word variable ∷ lexeme.Mark mark.OpenList ∷ (flat_map ball_text (b ∷ balls) ++ lexeme.Mark mark.CloseList ∷ rest)) ≡ Some ((variable, b ∷ balls), rest)
-quantor_again variable b balls rest = ap (λ (x : List Ball × List Lexeme). quantor_end variable x.0 x.1) (balls_again (b ∷ balls) rest)
+quantifier_again : (variable : Word) (b : Ball) (balls : List Ball) (rest : List Lexeme)
+    → quantifier_at (lexeme.Word variable ∷ lexeme.Mark mark.OpenList ∷ (flat_map ball_text (b ∷ balls) ++ lexeme.Mark mark.CloseList ∷ rest)) ≡ Some ((variable, b ∷ balls), rest)
+quantifier_again variable b balls rest = ap (λ (x : List Ball × List Lexeme). quantifier_end variable x.0 x.1) (balls_again (b ∷ balls) rest)
 
 -- ---- lists
 
@@ -237,18 +237,18 @@ not_again : (budget : ℕ) (f : Formula) (rest : List Lexeme) → unary_at budge
 not_again budget f rest inner =
     ap (λ (ts : List Lexeme). unary_at (suc budget) (ts ++ rest)) (text_of (Formula-F.Not f)) ∙ ap (λ (r : Option (Formula × List Lexeme)). r >>= λ f. Some (roll-Formula (Formula-F.Not f.0), f.1)) inner
 
-nested_quantor : (unary : Reader Formula) (n : ℕ) (q : Quantor) (tokens : List Lexeme) → nested_at unary n (lexeme.Mark (capital q) ∷ tokens) ≡ quantified_at unary q tokens
-nested_quantor unary n quantor.All tokens = refl
-nested_quantor unary n quantor.Exists tokens = refl
+nested_quantifier : (unary : Reader Formula) (n : ℕ) (q : Quantifier) (tokens : List Lexeme) → nested_at unary n (lexeme.Mark (capital q) ∷ tokens) ≡ quantified_at unary q tokens
+nested_quantifier unary n quantifier.All tokens = refl
+nested_quantifier unary n quantifier.Exists tokens = refl
 
-quantified_again : (budget : ℕ) (q : Quantor) (variable : Word) (balls : List Ball) (f : Formula) (rest : List Lexeme) → nat_le 1 (length balls) ≡ true → unary_at budget (text f ++ rest) ≡ Some (f, rest)
+quantified_again : (budget : ℕ) (q : Quantifier) (variable : Word) (balls : List Ball) (f : Formula) (rest : List Lexeme) → nat_le 1 (length balls) ≡ true → unary_at budget (text f ++ rest) ≡ Some (f, rest)
     → unary_at (suc budget) (text (roll-Formula (Formula-F.Quantified q variable balls f)) ++ rest) ≡ Some (roll-Formula (Formula-F.Quantified q variable balls f), rest)
 quantified_again budget q variable [] f rest some inner = absurd (omega (arith, leb-true 1 0 some))
 quantified_again budget q variable (b ∷ balls) f rest some inner =
     let spelled : text (roll-Formula (Formula-F.Quantified q variable (b ∷ balls) f)) ++ rest ≡ lexeme.Mark (capital q) ∷ lexeme.Word variable ∷ lexeme.Mark mark.OpenList ∷ (flat_map ball_text (b ∷ balls) ++ lexeme.Mark mark.CloseList ∷ (text f ++ rest)) =
     ap (λ (ts : List Lexeme). ts ++ rest) (text_of (Formula-F.Quantified q variable (b ∷ balls) f))
     ∙ ap (λ (ts : List Lexeme). lexeme.Mark (capital q) ∷ lexeme.Word variable ∷ lexeme.Mark mark.OpenList ∷ ts) (append_assoc (flat_map ball_text (b ∷ balls)) (lexeme.Mark mark.CloseList ∷ text f) rest) in
-    ap (unary_at (suc budget)) spelled ∙ nested_quantor (unary_at budget) budget q _ ∙ rw (quantor_again variable b balls (text f ++ rest), inner) refl
+    ap (unary_at (suc budget)) spelled ∙ nested_quantifier (unary_at budget) budget q _ ∙ rw (quantifier_again variable b balls (text f ++ rest), inner) refl
 
 group_again : (budget : ℕ) (f : Formula) (rest : List Lexeme) → whole_at (unary_at budget) budget (text f ++ lexeme.Mark mark.Close ∷ rest) ≡ Some (f, lexeme.Mark mark.Close ∷ rest)
     → unary_at (suc budget) (text (roll-Formula (Formula-F.Group f)) ++ rest) ≡ Some (roll-Formula (Formula-F.Group f), rest)

@@ -13,8 +13,8 @@ use Rattle.dd_written.specs.declared.tree.Comparand.TheVariants as side
 use Rattle.dd_written.specs.declared.tree.Atom.{Atom}
 use Rattle.dd_written.specs.declared.tree.Atom.TheVariants as atom
 use Rattle.dd_written.specs.declared.tree.Ball.{Ball}
-use Rattle.dd_written.specs.declared.tree.Quantor.{Quantor}
-use Rattle.dd_written.specs.declared.tree.Quantor.TheVariants as quantor
+use Rattle.dd_written.specs.declared.tree.Quantifier.{Quantifier}
+use Rattle.dd_written.specs.declared.tree.Quantifier.TheVariants as quantifier
 use Rattle.dd_written.specs.declared.tree.Join.{Join}
 use Rattle.dd_written.specs.declared.tree.Join.TheVariants as join
 use Rattle.dd_written.specs.declared.tree.Formula.{Formula, roll-Formula}
@@ -22,7 +22,7 @@ use Rattle.dd_written.specs.declared.tree.Formula.TheFolds.{map-Formula, ind-For
 use Rattle.dd_written.specs.declared.tree.Formula.TheOpen.{Formula-F}
 use Rattle.dd_written.specs.Formulas.{text, stands, stands_step, name_lexeme, move_text, term_text, atom_side_text, atom_text, ball_text, capital, sign, join_rank, tree_depth, IsWrittenFormula}
 use Rattle.dd_written.specs.reading.Readers.{Reader, ◌>>=◌, ReadsAll}
-use Rattle.dd_written.specs.reading.Atoms.{name_at, moves_at, term_at, side_at, after_term, atom_at, leaf_at, balls_at, quantor_end, quantor_at}
+use Rattle.dd_written.specs.reading.Atoms.{name_at, moves_at, term_at, side_at, after_term, atom_at, leaf_at, balls_at, quantifier_end, quantifier_at}
 use Rattle.dd_written.specs.reading.Formulas.{begins, more_at, close, list_at, or_at, implies_end, implies_at, iff_more, whole_at, not_at, quantified_at, group_end, nested_at, unary_at, formula_at}
 use Rattle.dd_written.proofs.Layers.{text_of, stands_of}
 use Rattle.dd_written.specs.lemmas.Options.{bind_some, some_is, nothing_some, and_is, chosen}
@@ -34,7 +34,7 @@ moves_sound (lexeme.Mark mark.Dot ∷ lexeme.Word label ∷ tokens) = ap (λ (ts
 moves_sound tokens = refl
 
 balls_sound : (tokens : List Lexeme) → tokens ≡ flat_map ball_text (balls_at tokens).0 ++ (balls_at tokens).1
-balls_sound (lexeme.Word middle ∷ lexeme.Number radius ∷ tokens) = ap (λ (ts : List Lexeme). lexeme.Word middle ∷ lexeme.Number radius ∷ ts) (balls_sound tokens)
+balls_sound (lexeme.Word centre ∷ lexeme.Number radius ∷ tokens) = ap (λ (ts : List Lexeme). lexeme.Word centre ∷ lexeme.Number radius ∷ ts) (balls_sound tokens)
 balls_sound tokens = refl
 
 term_sound : (tokens : List Lexeme) (t : Term) (rest : List Lexeme) → term_at tokens ≡ Some (t, rest) → tokens ≡ term_text t ++ rest
@@ -101,7 +101,7 @@ not_takes place f tokens rest inner = (rw (text_of (Formula-F.Not f), inner.0) r
 abbrev Quantifies : List Lexeme → (Word × List Ball) × List Lexeme → Type 0
 Quantifies tokens x = (tokens ≡ lexeme.Word x.0.0 ∷ lexeme.Mark mark.OpenList ∷ (flat_map ball_text x.0.1 ++ lexeme.Mark mark.CloseList ∷ x.1)) × (nat_le 1 (length x.0.1) ≡ true)
 
-quantified_takes : (q : Quantor) (place : ℕ) (h : Word × List Ball) (f : Formula) (tokens rest after : List Lexeme) → Quantifies tokens (h, rest) → Takes rest 0 (f, after)
+quantified_takes : (q : Quantifier) (place : ℕ) (h : Word × List Ball) (f : Formula) (tokens rest after : List Lexeme) → Quantifies tokens (h, rest) → Takes rest 0 (f, after)
     → Takes (lexeme.Mark (capital q) ∷ tokens) place (roll-Formula (Formula-F.Quantified q h.0 h.1 f), after)
 quantified_takes q place h f tokens rest after head inner =
     (rw (text_of (Formula-F.Quantified q h.0 h.1 f), head.0, inner.0) (ap (λ (ts : List Lexeme). lexeme.Mark (capital q) ∷ lexeme.Word h.0 ∷ lexeme.Mark mark.OpenList ∷ ts) (sym (append_assoc (flat_map ball_text h.1) (lexeme.Mark mark.CloseList ∷ text f) after))), rw (stands_of (Formula-F.Quantified q h.0 h.1 f), head.1, inner.1) refl)
@@ -122,16 +122,16 @@ iff_takes f g before tokens rest first second = (
   rw (stands_of (Formula-F.Iff f g), first.1, second.1) refl,
 )
 
-end_sound : (variable : Word) (balls : List Ball) (tokens : List Lexeme) (x : (Word × List Ball) × List Lexeme) → quantor_end variable balls tokens ≡ Some x
+end_sound : (variable : Word) (balls : List Ball) (tokens : List Lexeme) (x : (Word × List Ball) × List Lexeme) → quantifier_end variable balls tokens ≡ Some x
     → Quantifies (lexeme.Word variable ∷ lexeme.Mark mark.OpenList ∷ (flat_map ball_text balls ++ tokens)) x
 end_sound variable (b ∷ bs) (lexeme.Mark mark.CloseList ∷ tokens) x e =
     subst (Quantifies (lexeme.Word variable ∷ lexeme.Mark mark.OpenList ∷ (flat_map ball_text (b ∷ bs) ++ lexeme.Mark mark.CloseList ∷ tokens))) (some_is _ _ e) (refl, le-leb 1 (suc (length bs)) (omega arith))
 end_sound variable balls tokens x e = absurd cc
 
-quantor_sound : (tokens : List Lexeme) (x : (Word × List Ball) × List Lexeme) → quantor_at tokens ≡ Some x → Quantifies tokens x
-quantor_sound (lexeme.Word variable ∷ lexeme.Mark mark.OpenList ∷ tokens) x e =
+quantifier_sound : (tokens : List Lexeme) (x : (Word × List Ball) × List Lexeme) → quantifier_at tokens ≡ Some x → Quantifies tokens x
+quantifier_sound (lexeme.Word variable ∷ lexeme.Mark mark.OpenList ∷ tokens) x e =
     subst (λ (ts : List Lexeme). Quantifies (lexeme.Word variable ∷ lexeme.Mark mark.OpenList ∷ ts) x) (sym (balls_sound tokens)) (end_sound variable (balls_at tokens).0 (balls_at tokens).1 x e)
-quantor_sound tokens x e = absurd cc
+quantifier_sound tokens x e = absurd cc
 
 module _ (unary : Reader Formula) (sound : IsSound unary 0) where
   not_sound : (place : ℕ) (tokens : List Lexeme) (x : Formula × List Lexeme) → not_at unary tokens ≡ Some x → Takes (lexeme.Mark mark.Not ∷ tokens) place x
@@ -139,11 +139,11 @@ module _ (unary : Reader Formula) (sound : IsSound unary 0) where
       let b = bind_some (unary tokens) (λ f. Some (roll-Formula (Formula-F.Not f.0), f.1)) x e in
       subst (Takes (lexeme.Mark mark.Not ∷ tokens) place) (some_is _ _ b.2) (not_takes place b.0.0 tokens b.0.1 (sound tokens b.0 b.1))
 
-  quantified_sound : (q : Quantor) (place : ℕ) (tokens : List Lexeme) (x : Formula × List Lexeme) → quantified_at unary q tokens ≡ Some x → Takes (lexeme.Mark (capital q) ∷ tokens) place x
+  quantified_sound : (q : Quantifier) (place : ℕ) (tokens : List Lexeme) (x : Formula × List Lexeme) → quantified_at unary q tokens ≡ Some x → Takes (lexeme.Mark (capital q) ∷ tokens) place x
   quantified_sound q place tokens x e =
-      let b = bind_some (quantor_at tokens) (λ h. unary h.1 >>= λ f. Some (roll-Formula (Formula-F.Quantified q h.0.0 h.0.1 f.0), f.1)) x e in
+      let b = bind_some (quantifier_at tokens) (λ h. unary h.1 >>= λ f. Some (roll-Formula (Formula-F.Quantified q h.0.0 h.0.1 f.0), f.1)) x e in
       let d = bind_some (unary b.0.1) (λ f. Some (roll-Formula (Formula-F.Quantified q b.0.0.0 b.0.0.1 f.0), f.1)) x b.2 in
-      subst (Takes (lexeme.Mark (capital q) ∷ tokens) place) (some_is _ _ d.2) (quantified_takes q place b.0.0 d.0.0 tokens b.0.1 d.0.1 (quantor_sound tokens b.0 b.1) (sound b.0.1 d.0 d.1))
+      subst (Takes (lexeme.Mark (capital q) ∷ tokens) place) (some_is _ _ d.2) (quantified_takes q place b.0.0 d.0.0 tokens b.0.1 d.0.1 (quantifier_sound tokens b.0 b.1) (sound b.0.1 d.0 d.1))
 
 -- what may stand at a place may stand at the next
 abbrev AlsoNext : Formula → Type 0
@@ -260,8 +260,8 @@ group_end_sound place f before tokens x inner e = absurd cc
 
 nested_sound : (unary : Reader Formula) (n place : ℕ) → IsSound unary 0 → IsSound (nested_at unary n) place
 nested_sound unary n place sound (lexeme.Mark mark.Not ∷ tokens) x e = not_sound unary sound place tokens x e
-nested_sound unary n place sound (lexeme.Mark mark.All ∷ tokens) x e = quantified_sound unary sound quantor.All place tokens x e
-nested_sound unary n place sound (lexeme.Mark mark.Exists ∷ tokens) x e = quantified_sound unary sound quantor.Exists place tokens x e
+nested_sound unary n place sound (lexeme.Mark mark.All ∷ tokens) x e = quantified_sound unary sound quantifier.All place tokens x e
+nested_sound unary n place sound (lexeme.Mark mark.Exists ∷ tokens) x e = quantified_sound unary sound quantifier.Exists place tokens x e
 nested_sound unary n place sound (lexeme.Mark mark.Open ∷ tokens) x e =
     let b = bind_some (whole_at unary n tokens) (λ f. group_end f.0 f.1) x e in
     group_end_sound place b.0.0 tokens b.0.1 x (whole_sound unary n sound tokens b.0 b.1) b.2

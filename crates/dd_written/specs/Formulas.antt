@@ -14,8 +14,8 @@ use Rattle.dd_written.specs.declared.tree.Comparand.TheVariants as side
 use Rattle.dd_written.specs.declared.tree.Atom.{Atom}
 use Rattle.dd_written.specs.declared.tree.Atom.TheVariants as atom
 use Rattle.dd_written.specs.declared.tree.Ball.{Ball}
-use Rattle.dd_written.specs.declared.tree.Quantor.{Quantor}
-use Rattle.dd_written.specs.declared.tree.Quantor.TheVariants as quantor
+use Rattle.dd_written.specs.declared.tree.Quantifier.{Quantifier}
+use Rattle.dd_written.specs.declared.tree.Quantifier.TheVariants as quantifier
 use Rattle.dd_written.specs.declared.tree.Join.{Join}
 use Rattle.dd_written.specs.declared.tree.Join.TheVariants as join
 use Rattle.dd_written.specs.declared.tree.Formula.{Formula}
@@ -44,11 +44,11 @@ atom_text (atom.Same t u) = term_text t ++ lexeme.Mark mark.At ∷ term_text u
 atom_text (atom.AtNode t n) = term_text t ++ lexeme.Mark mark.Colon ∷ name_lexeme n ∷ []
 
 abbrev pub ball_text : Ball → List Lexeme
-ball_text b = lexeme.Word b.middle ∷ lexeme.Number b.radius ∷ []
+ball_text b = lexeme.Word b.centre ∷ lexeme.Number b.radius ∷ []
 
-abbrev pub capital : Quantor → Mark
-capital quantor.All = mark.All
-capital quantor.Exists = mark.Exists
+abbrev pub capital : Quantifier → Mark
+capital quantifier.All = mark.All
+capital quantifier.Exists = mark.Exists
 
 abbrev pub sign : Join → Mark
 sign join.And = mark.And

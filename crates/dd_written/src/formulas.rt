@@ -1,13 +1,13 @@
 // Formulas, read from left to right.
 ghost use Rattle.std.specs.Prelude.{◌≡◌, ◌+◌, ◌<◌, ◌≤◌, length, Some};
 ghost use Rattle.dd_written.specs.reading.Readers.{Gives, with_front};
-ghost use Rattle.dd_written.specs.reading.Atoms.{name_at, moves_at, term_at, side_at, after_term, atom_at, leaf_at, balls_at, quantor_end, quantor_at};
+ghost use Rattle.dd_written.specs.reading.Atoms.{name_at, moves_at, term_at, side_at, after_term, atom_at, leaf_at, balls_at, quantifier_end, quantifier_at};
 ghost use Rattle.dd_written.specs.reading.Formulas.{begins, more_at, list_end, list_at, member_at, or_at, implies_end, implies_at, iff_end, iff_more, whole_at, not_at, quantified_at, group_end, group_at, nested_at, unary_at, formula_at};
 
 use crate::depth::{MOST_DEEP, capped_depth};
 use crate::fault::ReadFault;
 use crate::lexeme::{Lexeme, Mark, Word};
-use crate::tree::{Atom, Ball, Comparand, Formula, Join, Name, Quantor, Term};
+use crate::tree::{Atom, Ball, Comparand, Formula, Join, Name, Quantifier, Term};
 use dd_values::{Boxed, Items};
 use std::alloc::Global;
 
@@ -109,9 +109,9 @@ fn balls(alloc: Global, tokens: &[Lexeme]) -> Result<(Items<Ball>, &[Lexeme]), R
 {
     let mut balls = Items::new(alloc);
     let mut rest = tokens;
-    while let [Lexeme::Word(middle), Lexeme::Number(radius), after @ ..] = rest {
+    while let [Lexeme::Word(centre), Lexeme::Number(radius), after @ ..] = rest {
         balls.push(Ball {
-            middle: *middle,
+            centre: *centre,
             radius: *radius,
         })?;
         rest = after;
@@ -119,12 +119,12 @@ fn balls(alloc: Global, tokens: &[Lexeme]) -> Result<(Items<Ball>, &[Lexeme]), R
     Ok((balls, rest))
 }
 
-fn quantor_end(
+fn quantifier_end(
     variable: Word,
     balls: Items<Ball>,
     tokens: &[Lexeme],
 ) -> Result<((Word, Items<Ball>), &[Lexeme]), ReadFault>
-    ensures { Gives (λ x. (x.0, x.1.now)) result (quantor_end variable balls tokens.now) }
+    ensures { Gives (λ x. (x.0, x.1.now)) result (quantifier_end variable balls tokens.now) }
 {
     if balls.is_empty() {
         return Err(ReadFault::Syntax);
@@ -136,8 +136,8 @@ fn quantor_end(
 }
 
 /// The variable and the balls of a quantifier, behind its capital.
-fn quantor(alloc: Global, tokens: &[Lexeme]) -> Result<((Word, Items<Ball>), &[Lexeme]), ReadFault>
-    ensures { Gives (λ x. (x.0, x.1.now)) result (quantor_at tokens.now) }
+fn quantifier(alloc: Global, tokens: &[Lexeme]) -> Result<((Word, Items<Ball>), &[Lexeme]), ReadFault>
+    ensures { Gives (λ x. (x.0, x.1.now)) result (quantifier_at tokens.now) }
 {
     match tokens {
         [
@@ -146,7 +146,7 @@ fn quantor(alloc: Global, tokens: &[Lexeme]) -> Result<((Word, Items<Ball>), &[L
             rest @ ..,
         ] => {
             let (balls, rest) = balls(alloc, rest)?;
-            quantor_end(*variable, balls, rest)
+            quantifier_end(*variable, balls, rest)
         }
         _ => Err(ReadFault::Syntax),
     }
@@ -180,8 +180,8 @@ fn nested(alloc: Global, budget: u32, tokens: &[Lexeme]) -> Result<(Formula, &[L
 {
     match tokens {
         [Lexeme::Mark(Mark::Not), rest @ ..] => negated(alloc, budget, rest),
-        [Lexeme::Mark(Mark::All), rest @ ..] => quantified(alloc, budget, Quantor::All, rest),
-        [Lexeme::Mark(Mark::Exists), rest @ ..] => quantified(alloc, budget, Quantor::Exists, rest),
+        [Lexeme::Mark(Mark::All), rest @ ..] => quantified(alloc, budget, Quantifier::All, rest),
+        [Lexeme::Mark(Mark::Exists), rest @ ..] => quantified(alloc, budget, Quantifier::Exists, rest),
         [Lexeme::Mark(Mark::Open), rest @ ..] => group(alloc, budget, rest),
         _ => leaf(alloc, tokens),
     }
@@ -200,18 +200,18 @@ fn negated(alloc: Global, budget: u32, tokens: &[Lexeme]) -> Result<(Formula, &[
 fn quantified(
     alloc: Global,
     budget: u32,
-    quantor: Quantor,
+    quantifier: Quantifier,
     tokens: &[Lexeme],
 ) -> Result<(Formula, &[Lexeme]), ReadFault>
     requires { budget < 64 }
-    ensures { Gives (λ x. (x.0, x.1.now)) result (quantified_at (unary_at budget) quantor tokens.now) }
+    ensures { Gives (λ x. (x.0, x.1.now)) result (quantified_at (unary_at budget) quantifier tokens.now) }
 {
-    let ((variable, balls), rest) = self::quantor(alloc, tokens)?;
+    let ((variable, balls), rest) = self::quantifier(alloc, tokens)?;
     let (scope, rest) = unary(alloc, budget, rest)?;
     let body = Boxed::new(alloc, scope)?;
     Ok((
         Formula::Quantified {
-            quantor,
+            quantifier,
             variable,
             balls,
             body,

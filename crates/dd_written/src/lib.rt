@@ -17,5 +17,5 @@ pub use laws::{ascii_bytes, formula_is_read};
 pub use lexeme::{Lexeme, Mark, Number, Word};
 pub use lexing::lexemes;
 pub use text::{Text, name_text, number_value};
-pub use tree::{Atom, Ball, Comparand, Formula, Join, Name, Quantor, Term};
+pub use tree::{Atom, Ball, Comparand, Formula, Join, Name, Quantifier, Term};
 pub use words::{behind_word, same_bytes, starts_word, word_bytes};

@@ -38,16 +38,16 @@ pub enum Atom {
     AtNode { term: Term, node: Name },
 }
 
-/// A ball of a quantifier: its middle and its radius.
+/// A ball of a quantifier: its centre and its radius.
 #[derive(Clone, Copy, Debug, PartialEq, Eq)]
 pub struct Ball {
-    pub middle: Word,
+    pub centre: Word,
     pub radius: Number,
 }
 
 /// Whether a quantifier ranges over all cells or asks for one.
 #[derive(Clone, Copy, Debug, PartialEq, Eq)]
-pub enum Quantor {
+pub enum Quantifier {
     All,
     Exists,
 }
@@ -65,7 +65,7 @@ pub enum Formula {
     Atom(Atom),
     Not(Boxed<Formula>),
     Quantified {
-        quantor: Quantor,
+        quantifier: Quantifier,
         variable: Word,
         /// One or more.
         balls: Items<Ball>,

@@ -3,7 +3,7 @@ use Rattle.std.proofs.Common.{◌≡◌, List, [], ◌∷◌, ◌++◌, map, ref
 use Rattle.std.specs.List.{flat_map}
 use Rattle.dd_written.specs.declared.lexeme.Word.{Word}
 use Rattle.dd_written.specs.declared.tree.Ball.{Ball}
-use Rattle.dd_written.specs.declared.tree.Quantor.{Quantor}
+use Rattle.dd_written.specs.declared.tree.Quantifier.{Quantifier}
 use Rattle.dd_written.specs.declared.tree.Join.{Join}
 use Rattle.dd_written.specs.declared.tree.Formula.{Formula}
 use Rattle.dd_written.specs.declared.tree.Formula.TheVariants as v
@@ -11,7 +11,7 @@ use Rattle.dd_written.specs.declared.tree.Formula.TheFolds.{fold-roll-Formula}
 use Rattle.dd_written.specs.declared.tree.Formula.TheOpen.{Formula-F}
 use Rattle.dd_faults.specs.declared.fault.Fault.{Fault}
 use Rattle.dd_faults.specs.declared.context.Context.{Context}
-use Rattle.dd_faults.specs.Formulas.{quantor_faults, faults_step, formula_faults}
+use Rattle.dd_faults.specs.Formulas.{quantifier_faults, faults_step, formula_faults}
 
 flat_map_map : {X Y Z : Type 0} (g : Y → List Z) (f : X → Y) (xs : List X) → flat_map g (map f xs) ≡ flat_map (λ x. g (f x)) xs
 flat_map_map g f [] = refl
@@ -31,8 +31,8 @@ faults_list x j fs scope =
     ap (λ f. formula_faults x f scope) (sym (v.rolls-List j fs))
     ∙ (ap (rolled scope) (fold-roll-Formula (List Word → List Fault) (faults_step x) (Formula-F.List j fs)) ∙ flat_map_map (rolled scope) (formula_faults x) fs)
 
-pub faults_quantified : (x : Context) (q : Quantor) (w : Word) (balls : List Ball) (f : Formula) (scope : List Word)
-    → formula_faults x (v.Quantified q w balls f) scope ≡ quantor_faults x scope w balls ++ formula_faults x f (scope ++ w ∷ [])
+pub faults_quantified : (x : Context) (q : Quantifier) (w : Word) (balls : List Ball) (f : Formula) (scope : List Word)
+    → formula_faults x (v.Quantified q w balls f) scope ≡ quantifier_faults x scope w balls ++ formula_faults x f (scope ++ w ∷ [])
 faults_quantified x q w balls f scope =
     ap (λ f. formula_faults x f scope) (sym (v.rolls-Quantified q w balls f)) ∙ ap (rolled scope) (fold-roll-Formula (List Word → List Fault) (faults_step x) (Formula-F.Quantified q w balls f))
 

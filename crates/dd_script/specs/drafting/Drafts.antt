@@ -21,9 +21,9 @@ parts_of d = record { known = d.context.known; rules = d.rules; automata = d.aut
 
 -- at the command with the number n
 abbrev pub draft_of : List ℕ → Bool → ℕ → Parts → Draft
-draft_of text later n s =
+draft_of text topology n s =
     record {
-      context = context text later n s;
+      context = context text topology n s;
       rules = s.rules;
       automata = s.automata;
       configurations = s.configurations;
@@ -32,15 +32,15 @@ draft_of text later n s =
 
 -- with another meaning
 abbrev pub with_meaning : Draft → Meaning → Draft
-with_meaning d m = draft_of d.context.text d.context.later d.context.number (with d.context.text (parts_of d) m)
+with_meaning d m = draft_of d.context.text d.context.has_topology d.context.number (with d.context.text (parts_of d) m)
 
 -- the first fault of the next command
 abbrev pub fault_at : Draft → Written → Option Fault
-fault_at d w = fault_of d.context.text d.context.later d.context.number (parts_of d) w
+fault_at d w = fault_of d.context.text d.context.has_topology d.context.number (parts_of d) w
 
 -- behind the next command
 abbrev pub behind : Draft → Written → Draft
-behind d w = draft_of d.context.text d.context.later (d.context.number + 1) (next d.context.text d.context.later d.context.number (parts_of d) w)
+behind d w = draft_of d.context.text d.context.has_topology (d.context.number + 1) (next d.context.text d.context.has_topology d.context.number (parts_of d) w)
 
 -- the command has no fault, and what is left behind it is a script again
 pub record Leaves (d : Draft) (w : Written) (e : Draft) : Type 0 where

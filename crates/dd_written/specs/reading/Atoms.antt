@@ -65,15 +65,15 @@ leaf_at tokens = do
   Some (roll-Formula (Formula-F.Atom a.0), a.1)
 
 abbrev pub balls_at : List Lexeme → List Ball × List Lexeme
-balls_at (lexeme.Word middle ∷ lexeme.Number radius ∷ tokens) = (record { middle = middle; radius = radius } ∷ (balls_at tokens).0, (balls_at tokens).1)
+balls_at (lexeme.Word centre ∷ lexeme.Number radius ∷ tokens) = (record { centre = centre; radius = radius } ∷ (balls_at tokens).0, (balls_at tokens).1)
 balls_at tokens = ([], tokens)
 
-abbrev pub quantor_end : Word → List Ball → Reader (Word × List Ball)
-quantor_end variable [] tokens = None
-quantor_end variable (b ∷ bs) (lexeme.Mark mark.CloseList ∷ tokens) = Some ((variable, b ∷ bs), tokens)
-quantor_end variable (b ∷ bs) tokens = None
+abbrev pub quantifier_end : Word → List Ball → Reader (Word × List Ball)
+quantifier_end variable [] tokens = None
+quantifier_end variable (b ∷ bs) (lexeme.Mark mark.CloseList ∷ tokens) = Some ((variable, b ∷ bs), tokens)
+quantifier_end variable (b ∷ bs) tokens = None
 
 -- the variable and the balls of a quantifier, behind its capital
-abbrev pub quantor_at : Reader (Word × List Ball)
-quantor_at (lexeme.Word variable ∷ lexeme.Mark mark.OpenList ∷ tokens) = quantor_end variable (balls_at tokens).0 (balls_at tokens).1
-quantor_at tokens = None
+abbrev pub quantifier_at : Reader (Word × List Ball)
+quantifier_at (lexeme.Word variable ∷ lexeme.Mark mark.OpenList ∷ tokens) = quantifier_end variable (balls_at tokens).0 (balls_at tokens).1
+quantifier_at tokens = None

@@ -3,15 +3,15 @@ use Rattle.std.specs.Prelude.{ℕ, zero, suc, drop, List, [], ◌∷◌, length,
 use Rattle.dd_written.specs.declared.lexeme.Mark.TheVariants as mark
 use Rattle.dd_written.specs.declared.lexeme.Lexeme.{Lexeme}
 use Rattle.dd_written.specs.declared.lexeme.Lexeme.TheVariants as lexeme
-use Rattle.dd_written.specs.declared.tree.Quantor.{Quantor}
-use Rattle.dd_written.specs.declared.tree.Quantor.TheVariants as quantor
+use Rattle.dd_written.specs.declared.tree.Quantifier.{Quantifier}
+use Rattle.dd_written.specs.declared.tree.Quantifier.TheVariants as quantifier
 use Rattle.dd_written.specs.declared.tree.Join.{Join}
 use Rattle.dd_written.specs.declared.tree.Join.TheVariants as join
 use Rattle.dd_written.specs.declared.tree.Formula.{Formula, roll-Formula}
 use Rattle.dd_written.specs.declared.tree.Formula.TheOpen.{Formula-F}
 use Rattle.dd_written.specs.Formulas.{tree_depth}
 use Rattle.dd_written.specs.reading.Readers.{◌>>=◌, Reader, many}
-use Rattle.dd_written.specs.reading.Atoms.{leaf_at, quantor_at}
+use Rattle.dd_written.specs.reading.Atoms.{leaf_at, quantifier_at}
 
 -- whether the sign of a list stands at the front
 abbrev pub begins : Join → List Lexeme → Bool
@@ -82,9 +82,9 @@ not_at unary tokens = do
   f ← unary tokens
   Some (roll-Formula (Formula-F.Not f.0), f.1)
 
-abbrev pub quantified_at : Reader Formula → Quantor → Reader Formula
+abbrev pub quantified_at : Reader Formula → Quantifier → Reader Formula
 quantified_at unary q tokens = do
-  h ← quantor_at tokens
+  h ← quantifier_at tokens
   f ← unary h.1
   Some (roll-Formula (Formula-F.Quantified q h.0.0 h.0.1 f.0), f.1)
 
@@ -99,8 +99,8 @@ group_at unary n tokens = do
 
 abbrev pub nested_at : Reader Formula → ℕ → Reader Formula
 nested_at unary n (lexeme.Mark mark.Not ∷ tokens) = not_at unary tokens
-nested_at unary n (lexeme.Mark mark.All ∷ tokens) = quantified_at unary quantor.All tokens
-nested_at unary n (lexeme.Mark mark.Exists ∷ tokens) = quantified_at unary quantor.Exists tokens
+nested_at unary n (lexeme.Mark mark.All ∷ tokens) = quantified_at unary quantifier.All tokens
+nested_at unary n (lexeme.Mark mark.Exists ∷ tokens) = quantified_at unary quantifier.Exists tokens
 nested_at unary n (lexeme.Mark mark.Open ∷ tokens) = group_at unary n tokens
 nested_at unary n tokens = leaf_at tokens
 

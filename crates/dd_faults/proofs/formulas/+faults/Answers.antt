@@ -5,7 +5,7 @@ use Rattle.dd_faults.proofs.formulas.+faults.Goals as goal
 
 pub formula_in-returns-in_ok-inner-in-Quantified : goal.formula_in-returns-in_ok-inner-in-Quantified
 formula_in-returns-in_ok-inner-in-Quantified t c =
-    rw (c.in-Quantified.is, faults_quantified, noted_both, ← c.as_slice.ensures, ← c.quantor.ensures, ← c.get-in-Quantified.ensures, ← c.in_ok-inner-in-Quantified.ensures, ← c.as_slice-in-Quantified.ensures)
+    rw (c.in-Quantified.is, faults_quantified, noted_both, ← c.as_slice.ensures, ← c.quantifier.ensures, ← c.get-in-Quantified.ensures, ← c.in_ok-inner-in-Quantified.ensures, ← c.as_slice-in-Quantified.ensures)
     c.formula_in-in-Quantified.ensures
 
 pub formula_in-returns-in-List : goal.formula_in-returns-in-List

@@ -30,9 +30,9 @@ formula_in-quantified_in-requires t c =
     let q = c.in-Quantified in
     let x = c.args.context.now in
     let scope = c.args.scope.now in
-    let parts = quantified_parts x scope c.args.formula.now q.quantor q.variable q.balls q.body q.is c.requires.faultless in
+    let parts = quantified_parts x scope c.args.formula.now q.quantifier q.variable q.balls q.body q.is c.requires.faultless in
     let deep : tree_depth c.args.formula.now ≡ 1 + tree_depth c.get-body.result.now =
-    depth_quantified c.args.formula.now q.quantor q.variable q.balls q.body q.is ∙ ap (λ h. 1 + tree_depth h) (sym c.get-body.ensures) in
+    depth_quantified c.args.formula.now q.quantifier q.variable q.balls q.body q.is ∙ ap (λ h. 1 + tree_depth h) (sym c.get-body.ensures) in
     (omega (arith, deep, c.decreases), (omega (arith, deep, c.requires.shallow), (ap (flat_map (ball_faults x scope)) c.as_slice-balls.ensures ∙ balls_none x scope q.variable q.balls parts.0, ap (λ h. formula_faults x h (scope ++ q.variable ∷ [])) c.get-body.ensures ∙ parts.1)))
 
 pub formula_in-members_in-requires : goal.formula_in-members_in-requires
