@@ -15,6 +15,7 @@ pub enum Goal<'a> {
     Breaks(&'a Rule),
     /// The values of the two automata are different at some node of the position.
     Differ(&'a Automaton, &'a Automaton),
+    /// Nothing is asked of the position.
     Always,
 }
 

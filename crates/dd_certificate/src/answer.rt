@@ -1,4 +1,4 @@
-// What an output says of a query, with all that is needed to test it without searching again.
+//! What an output says of a query, with all that is needed to test it without searching again.
 use dd_derivation::Step;
 use dd_values::Items;
 
@@ -65,6 +65,7 @@ pub enum Answer {
         shear: u64,
         symbols: Items<u64>,
     },
+    /// It is not known, for this reason.
     Unknown {
         reason: Reason,
     },

@@ -1,4 +1,4 @@
-// Numbers in decimal, put at the end of a text with no memory of their own.
+//! Numbers in decimal, put at the end of a text with no memory of their own.
 ghost use Rattle.std.specs.Prelude.{◌≡◌, ◌++◌, OnOk};
 ghost use Rattle.std.specs.Fmt.{decimal, signed_decimal};
 

@@ -1,4 +1,4 @@
-// A refutation is by far the longest part of an output, so each step's words go straight to the end of the one text.
+//! A refutation is by far the longest part of an output, so each step's words go straight to the end of the one text.
 ghost use Rattle.std.specs.Prelude.{◌≡◌, ◌++◌, OnOk};
 ghost use Rattle.std.specs.List.{flat_map};
 ghost use Rattle.dd_certificate.specs.Text.{literal_text, literals_to_zero, numbers_to_zero, refutation_text, step_text};

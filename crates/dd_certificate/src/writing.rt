@@ -1,4 +1,4 @@
-// The text of an answer, written from the front into one growing text.
+//! The text of an answer, written from the front into one growing text.
 ghost use Rattle.std.specs.Prelude.{◌≡◌, ◌++◌, codes, OnOk, IfOk};
 ghost use Rattle.std.specs.List.{flat_map};
 ghost use Rattle.dd_certificate.specs.Text.{

@@ -3,7 +3,7 @@ ghost use Rattle.std.specs.Prelude.{◌≡◌, ◌≤◌, ◌↔◌, nat_le, uns
 ghost use Rattle.std.specs.List.{list_all};
 ghost use Rattle.dd_certificate.specs.Bounds.{most_number, IsWritableNumber, IsWritableSigned, IsWritableDenominator, IsWritableList};
 
-/// The greatest number of most lines.
+/// The greatest number that an output holds outside its refutations.
 const MOST_NUMBER: u64 = 1 << 40;
 
 pub(crate) fn is_number(number: u64) -> bool
@@ -12,7 +12,7 @@ pub(crate) fn is_number(number: u64) -> bool
     number <= MOST_NUMBER
 }
 
-/// From 1 on.
+/// A number that an output can hold, and not 0.
 pub(crate) fn is_denominator(number: u64) -> bool
     ensures { IsTrue result ↔ IsWritableDenominator number }
 {

@@ -1,4 +1,4 @@
-// The value of each variable of a circuit, gate by gate.
+//! The value of each variable of a circuit, gate by gate.
 ghost use Rattle.std.specs.Prelude.{◌≡◌, Bool, List, length, All, IfOk};
 ghost use Rattle.std.specs.List.{list_all, list_any};
 ghost use Rattle.dd_circuit.specs.Circuits.{IsSignal, IsGate, signal_value, gate_value};

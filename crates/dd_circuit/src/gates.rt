@@ -1,5 +1,5 @@
-// The parts of a circuit, and how it grows. A gate's variable is the number of inputs and of gates up
-// to it, so no gate stores one, and members that are variables of the circuit are earlier ones.
+//! The parts of a circuit, and how it grows. A gate's variable is the number of inputs and of gates up
+//! to it, so no gate stores one, and members that are variables of the circuit are earlier ones.
 ghost use Rattle.std.specs.Prelude.{◌≡◌, ◌+◌, ◌<◌, ◌≤◌, ◌∷◌, ◌++◌, [], All, IfOk, OnErr};
 ghost use Rattle.dd_values.specs.Bounds.{most_variables};
 ghost use Rattle.dd_circuit.specs.Circuits.{IsSignal, IsGate, AreGates, size, signal_of, opposite};
@@ -30,7 +30,9 @@ impl Signal {
 /// A gate over signals. `And` of no signal is true, and `Or` of none is false.
 #[derive(Debug, PartialEq, Drop)]
 pub enum Gate {
+    /// True where all signals are true.
     And(Items<Signal>),
+    /// True where some signal is true.
     Or(Items<Signal>),
     /// True where both signals are true or both are false.
     Iff(Signal, Signal),

@@ -1,4 +1,4 @@
-// An assignment is right for a clause list where it makes each clause true; looking needs one pass and no memory.
+//! An assignment is right for a clause list where it makes each clause true; looking needs one pass and no memory.
 ghost use Rattle.std.specs.Prelude.{◌≡◌, ◌↔◌, length, IsTrue};
 ghost use Rattle.dd_clause.specs.Clauses.{IsClauseInRange, is_clause_true, Satisfies};
 ghost use Rattle.dd_values.specs.Variables.{true_variables};

@@ -1,4 +1,4 @@
-// A clause is true where one of its literals is. Most clauses are short, so up to four literals need no memory.
+//! A clause is true where one of its literals is. Most clauses are short, so up to four literals need no memory.
 ghost use Rattle.std.specs.Prelude.{◌≡◌, ◌≤◌, length, IsOk, IfOk};
 ghost use Rattle.dd_clause.specs.Clauses as spec;
 

@@ -1,4 +1,4 @@
-// A formula in conjunctive normal form: clauses over the variables 1, 2, .. up to a number that the type knows.
+//! A formula in conjunctive normal form: clauses over the variables 1, 2, .. up to a number that the type knows.
 ghost use Rattle.std.specs.Prelude.{◌≡◌, ◌≤◌, ◌↔◌, [], ◌∷◌, ◌++◌, All, IsTrue, OnOk, OnErr};
 ghost use Rattle.dd_values.specs.Bounds.{most_variables};
 ghost use Rattle.dd_clause.specs.Clauses.{IsClauseInRange};

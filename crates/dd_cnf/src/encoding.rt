@@ -1,5 +1,5 @@
-// A gate's clauses allow its variable one value for each choice of its members' values: that of the
-// gate. So the clauses of all gates leave the inputs free, and fix everything else.
+//! A gate's clauses allow its variable one value for each choice of its members' values: that of the
+//! gate. So the clauses of all gates leave the inputs free, and fix everything else.
 ghost use Rattle.std.specs.Prelude.{◌≡◌, ◌+◌, ◌≤◌, ◌∷◌, ◌++◌, [], drop, length, All, IfOk, OnOk, OnErr};
 ghost use Rattle.dd_clause.specs.Clauses.{IsLiteralInRange, IsClauseInRange};
 ghost use Rattle.dd_circuit.specs.Circuits.{IsSignal, IsGate, size};

@@ -1,4 +1,4 @@
-// Commands as they are written.
+//! Commands as they are written.
 use crate::table::Question;
 use dd_topology::Kind;
 use dd_values::Items;
@@ -7,7 +7,9 @@ use dd_written::{Formula, Name, Number, Word};
 /// An entry of a vector.
 #[derive(Clone, Copy, Debug, PartialEq, Eq)]
 pub enum Entry {
+    /// A number without a sign.
     Number(Number),
+    /// A number with its `-`; it is not 0.
     Negative(Number),
 }
 
@@ -45,6 +47,7 @@ pub struct Request {
 /// A command, without its `%` and its first word.
 #[derive(Debug, Drop)]
 pub enum Command {
+    /// `dim number`, where the number is 1, 2 or 3 if nothing is wrong.
     Dimension {
         number: Number,
     },
@@ -56,6 +59,7 @@ pub enum Command {
     Alphabet {
         names: Items<Name>,
     },
+    /// `topology kind`: a built-in topology.
     Topology {
         kind: Kind,
     },
@@ -72,20 +76,24 @@ pub enum Command {
     Weights {
         weights: Items<Number>,
     },
+    /// `limits radius period pivots`.
     Limits {
         radius: Number,
         period: Number,
         pivots: Number,
     },
+    /// `rule name formula`.
     Rule {
         name: Word,
         formula: Formula,
     },
+    /// `auto name cases else default`, with any number of cases.
     Automaton {
         name: Word,
         cases: Items<Case>,
         default: Name,
     },
+    /// `compose name outer inner`: the values of `outer` on the configuration of the values of `inner`.
     Composition {
         name: Word,
         outer: Word,
@@ -98,5 +106,6 @@ pub enum Command {
         shear: Option<Vector>,
         symbols: Items<Name>,
     },
+    /// A question about what was defined.
     Query(Request),
 }

@@ -1,4 +1,4 @@
-// Why nothing was read.
+//! Why nothing was read.
 ghost use Rattle.std.specs.Prelude.{◌≡◌};
 ghost use Rattle.dd_commands.specs.declared.fault.SyntaxFault.TheVariants.{Memory};
 
@@ -11,6 +11,7 @@ pub enum SyntaxFault {
     /// This command is the first that is not well formed. Commands are numbered from 1; 0 is what stands before the first.
     #[error("command {command} is not well formed")]
     At { command: u32 },
+    /// Memory was wanting.
     #[error("out of memory")]
     Memory,
 }

@@ -1,19 +1,31 @@
-// What the first word of a command says.
+//! What the first word of a command says.
 use crate::table::Question;
 
 /// What the first word of a command says.
 #[derive(Clone, Copy, Debug, PartialEq, Eq)]
 pub enum Head {
+    /// `dim`
     Dimension,
+    /// `nodes`
     Nodes,
+    /// `alphabet`
     Alphabet,
+    /// `topology`
     Topology,
+    /// `only`
     Only,
+    /// `weights`
     Weights,
+    /// `limits`
     Limits,
+    /// `rule`
     Rule,
+    /// `auto`
     Automaton,
+    /// `compose`
     Composition,
+    /// `conf`
     Configuration,
+    /// The first word of a question, by its row.
     Question(Question),
 }

@@ -1,24 +1,25 @@
+//! Laws of scripts as they are written, as contracts of calls that do nothing.
 ghost use Rattle.std.specs.Prelude.{◌≡◌, ℕ, List};
 ghost use Rattle.dd_commands.specs.declared.script.Syntax.{Syntax};
 ghost use Rattle.dd_commands.specs.Scripts.{IsScript, IsSyntaxFault};
 
 use dd_written::formula_is_read;
 
-/// Bytes are the text of one tree at most.
+/// Does nothing; its contract says that bytes are the text of one tree at most.
 pub fn one_tree()
     ensures { (bytes : List ℕ) (s t : Syntax) → IsScript bytes s → IsScript bytes t → s ≡ t }
 {
     formula_is_read();
 }
 
-/// Bytes have one first fault at most.
+/// Does nothing; its contract says that bytes have one first fault at most.
 pub fn one_fault()
     ensures { (bytes : List ℕ) (m n : ℕ) → IsSyntaxFault bytes m → IsSyntaxFault bytes n → m ≡ n }
 {
     formula_is_read();
 }
 
-/// Bytes with a tree have no fault.
+/// Does nothing; its contract says that bytes with a tree have no fault.
 pub fn tree_or_fault()
     ensures { (bytes : List ℕ) (s : Syntax) (n : ℕ) → IsScript bytes s → IsSyntaxFault bytes n → ⊥ }
 {

@@ -6,14 +6,18 @@ ghost use Rattle.dd_commands.specs.Table.{row};
 /// What a word of a question names.
 #[derive(Clone, Copy, Debug, PartialEq, Eq)]
 pub enum Role {
+    /// A rule.
     Rule,
+    /// A cellular automaton.
     Automaton,
+    /// A periodic configuration.
     Configuration,
 }
 
 /// The vectors at the end of a question.
 #[derive(Clone, Copy, Debug, PartialEq, Eq)]
 pub enum Lists {
+    /// No vector.
     None,
     /// The periods of a strip: one vector without negative numbers.
     Strip,
@@ -24,13 +28,21 @@ pub enum Lists {
 /// The questions.
 #[derive(Clone, Copy, Debug, PartialEq, Eq)]
 pub enum Question {
+    /// `member c X`: does the configuration obey the rule?
     Member,
+    /// `contains Y X`: does each configuration that obeys X obey Y?
     Contains,
+    /// `equal X Y`: do the same configurations obey both rules?
     Equal,
+    /// `empty X`: does no configuration obey the rule?
     Empty,
+    /// `same f g X`: do the automata agree on each configuration that obeys X?
     Agree,
+    /// `forbidden X`: which patterns does the rule forbid?
     Forbidden,
+    /// `density X [5]`: the least density of the configurations of a strip with these periods.
     Density,
+    /// `discharge X r m [1 0] ..`: the best bound by discharging, with a radius, a margin and vectors.
     Discharge,
 }
 

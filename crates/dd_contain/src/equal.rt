@@ -19,7 +19,9 @@ use std::alloc::{AllocError, Global};
 /// Which of the two rules is the premise.
 #[derive(Debug, Clone, Copy, PartialEq, Eq)]
 pub enum Half {
+    /// The first rule.
     Left,
+    /// The second rule.
     Right,
 }
 

@@ -1,5 +1,5 @@
-// The clauses that a step may hint at: those of the list and the earlier steps', as far as they are alive. A number is
-// a place in one array of truth values, so deleting a clause writes one of them.
+//! The clauses that a step may hint at: those of the list and the earlier steps', as far as they are alive. A number is
+//! a place in one array of truth values, so deleting a clause writes one of them.
 ghost use Rattle.std.specs.Prelude.{◌≡◌, ℕ, ◌+◌, ◌≤◌, List, length, true, false, slice_index_or};
 ghost use Rattle.std.specs.Option.{option_copied};
 ghost use Rattle.dd_clause.specs.declared.clause.Literal.{Literal};

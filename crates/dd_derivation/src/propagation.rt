@@ -1,5 +1,5 @@
-// Unit propagation along hints: the literals of a step's clause are taken as false, and each hinted clause makes one
-// more literal true, until one is left with none. A mark says of which step it is, so nothing is undone between steps.
+//! Unit propagation along hints: the literals of a step's clause are taken as false, and each hinted clause makes one
+//! more literal true, until one is left with none. A mark says of which step it is, so nothing is undone between steps.
 ghost use Rattle.std.specs.Prelude.{◌≡◌, ◌<◌, [], Bool, length, take, true, slice_index_or};
 ghost use Rattle.dd_clause.specs.declared.clause.Literal.{Literal};
 ghost use Rattle.dd_derivation.specs.Derivations as spec;
@@ -14,8 +14,11 @@ use dd_clause::Literal;
 /// or nothing.
 #[derive(Clone, Copy, PartialEq, Eq)]
 pub enum Finding {
+    /// All of its literals are false.
     Falsified,
+    /// All but this literal, which is not false, are false; so it has to be true.
     Forced(Literal),
+    /// Nothing: two different literals are not false, or only one is not, and its opposite is false.
     Open,
 }
 

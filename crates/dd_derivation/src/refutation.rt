@@ -1,5 +1,5 @@
-// The check of a refutation: each step is right, and the last one's clause is empty. It takes no memory: its room is
-// made before, and may be used for any derivation of the same sizes.
+//! The check of a refutation: each step is right, and the last one's clause is empty. It takes no memory: its room is
+//! made before, and may be used for any derivation of the same sizes.
 ghost use Rattle.std.specs.Prelude.{◌≡◌, ℕ, ◌+◌, ◌<◌, ◌≤◌, Bool, true, false, List, length, slice_index_or, IfOk};
 ghost use Rattle.dd_clause.specs.declared.clause.Literal.{Literal};
 ghost use Rattle.dd_clause.specs.Clauses.{Satisfies};

@@ -1,4 +1,4 @@
-// What a search hands out: an assignment, or a derivation of the empty clause that anyone can check.
+//! What a search hands out: an assignment, or a derivation of the empty clause that anyone can check.
 use dd_clause::{Assignment, Clause};
 use dd_values::Items;
 

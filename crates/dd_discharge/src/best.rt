@@ -14,7 +14,7 @@ use dd_rows::Row;
 use dd_simplex::{Program, maximise};
 use std::alloc::{AllocError, Global};
 
-/// The same whole numbers.
+/// Whole numbers as fractions.
 fn fractions(alloc: Global, numbers: &[i64]) -> Result<Vec<Fraction>, AllocError>
     ensures { IfOk result (λ fractions. fractions.items ≡ map whole_of numbers.now) }
 {

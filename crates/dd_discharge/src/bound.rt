@@ -1,4 +1,4 @@
-// The bound of a rule along some vectors.
+//! The bound of a rule along some vectors.
 use dd_values::Items;
 
 /// A bound in lowest terms, with the amounts and the duals over a common denominator.
@@ -10,7 +10,7 @@ pub struct Bound {
     pub denominator: u64,
     /// The common denominator of the amounts and the duals, at least 1.
     pub common: u64,
-    /// The numerators of the amounts, one for each column of the program.
+    /// The numerators of the amounts, one for each column of the program after the first.
     pub amounts: Items<u64>,
     /// The numerators of the duals, one for each row of the program.
     pub duals: Items<u64>,

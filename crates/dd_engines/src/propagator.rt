@@ -1,5 +1,5 @@
-//! The engine that knows unit propagation alone: it refutes a list in one step where that can be done, and costs no more
-//! than one look at each literal.
+//! The engine that knows unit propagation alone: it refutes a list in one step where that can be done, and its cost is linear
+//! in the number of literals.
 ghost use Rattle.std.specs.Prelude.{◌≡◌, ◌-◌, ◌^◌, ◌≤◌, true, IfOk, OnErr};
 ghost use Rattle.dd_engines.specs.Proposals.{IsRight, GivenAfter};
 ghost use Rattle.dd_engines.specs.Rounds.{RisesByOne};

@@ -20,8 +20,11 @@ pub struct Roster<E = Box<dyn Engine>> {
 
 /// What one asking showed.
 pub enum Asked {
+    /// It proposed this, and it is right.
     Right(Outcome),
+    /// It proposed nothing.
     Silent,
+    /// It proposed something that is not right.
     Wrong,
 }
 

@@ -9,12 +9,17 @@ use std::alloc::{AllocError, Global};
 /// A formula at one cell, without variables. The cells of its leaves are counted from the origin.
 #[derive(Debug, Drop)]
 pub enum Expanded {
+    /// True or false.
     Constant(bool),
     /// The symbol at the cell is this one.
     Leaf { cell: Cell, symbol: u32 },
+    /// The part is false.
     Not(Boxed<Expanded>),
+    /// All parts are true, as where there is none.
     And(Items<Expanded>),
+    /// Some part is true, so there is one.
     Or(Items<Expanded>),
+    /// Both parts are true or both are false.
     Iff(Boxed<Expanded>, Boxed<Expanded>),
 }
 

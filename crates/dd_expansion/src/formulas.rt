@@ -57,10 +57,15 @@ pub enum Formula {
         term: Term,
         node: u32,
     },
+    /// The part is false.
     Not(Boxed<Formula>),
+    /// All parts are true, as where there is none.
     And(Items<Formula>),
+    /// Some part is true, so there is one.
     Or(Items<Formula>),
+    /// The first part is false, or the second is true.
     Implies(Boxed<Formula>, Boxed<Formula>),
+    /// Both parts are true or both are false.
     Iff(Boxed<Formula>, Boxed<Formula>),
     /// The body is true for each cell of the union of the balls.
     ForAll {

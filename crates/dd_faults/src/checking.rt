@@ -18,7 +18,7 @@ use dd_commands::{Command, Written};
 use dd_values::MOST_COMMANDS;
 use std::alloc::{AllocError, Global};
 
-/// Notes the faults of a command of the header.
+/// Notes the faults of a command, of whatever kind.
 fn note_command(
     alloc: Global,
     context: &Context,

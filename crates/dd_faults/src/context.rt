@@ -1,4 +1,4 @@
-// What is known where a command stands.
+//! What is known where a command stands.
 use dd_commands::Role;
 use dd_topology::{Names, Sets, Topology};
 use dd_values::{Items, Limits};

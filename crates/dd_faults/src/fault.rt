@@ -30,7 +30,7 @@ pub enum Limit {
     Limits,
     /// A term makes at most 16 moves.
     Moves,
-    /// A ball's radius and a margin are at most 3.
+    /// A ball's radius, and the radius and the margin of a discharge, are at most 3.
     Radius,
     /// A quantifier ranges over at most 4 balls.
     Balls,
@@ -46,7 +46,7 @@ pub enum Limit {
     Vectors,
     /// A rule that is listed has at most 65,536 fillings at a node.
     Patterns,
-    /// A strip has at most 4,096 states, and at most 131,072 edges.
+    /// A strip has at most 4,096 states, and at most 131,072 windows: states with one slice more.
     States,
     /// A box question has at most 2,000,000 clauses in its largest box or torus.
     Clauses,
@@ -73,6 +73,7 @@ pub enum Refusal {
     /// The first fault of the command.
     #[error("a command has a fault")]
     At(Fault),
+    /// Memory was wanting.
     #[error("out of memory")]
     Memory,
 }

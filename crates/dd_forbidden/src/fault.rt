@@ -7,8 +7,10 @@ use thiserror::Error;
 /// Why the forbidden patterns of a rule were not listed.
 #[derive(Debug, Drop, Error)]
 pub enum ForbiddenFault {
+    /// The number of symbols to the power of the number of cells that are read at the node passes 65,536.
     #[error("the reads have more than 65536 fillings")]
     Size,
+    /// Memory was wanting.
     #[error("out of memory")]
     Memory,
 }

@@ -26,6 +26,7 @@ pub struct Cases {
 /// A cellular automaton.
 #[derive(Debug, Drop)]
 pub enum Automaton {
+    /// Gives each cell a symbol by cases.
     Given(Cases),
     /// Gives each cell the value of the first on the configuration of the second's values.
     Composed(Boxed<Automaton>, Boxed<Automaton>),

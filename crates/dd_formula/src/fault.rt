@@ -7,12 +7,16 @@ use thiserror::Error;
 /// Why no rule or automaton was made.
 #[derive(Debug, Drop, Error)]
 pub enum RuleFault {
+    /// A cell is read that lies more than 16 away along an axis.
     #[error("a cell is read that lies more than 16 away")]
     Reach,
+    /// At some node a rule's expansion has more than 20,000 nodes, or a composition more than 20,000 instances.
     #[error("the expansion has more than 20000 nodes")]
     Instances,
+    /// Compositions are nested more than 64 deep.
     #[error("a composition is nested more than 64 deep")]
     Depth,
+    /// Memory was wanting.
     #[error("out of memory")]
     Memory,
 }

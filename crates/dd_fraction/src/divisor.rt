@@ -1,4 +1,4 @@
-// The greatest common divisor, by Euclid's rule: in machine words, once both numbers fit 64 bits.
+//! The greatest common divisor, by Euclid's rule: in machine words, once both numbers fit 64 bits.
 ghost use Rattle.std.specs.Prelude.{◌≡◌, ℕ, ◌%◌, ◌<◌, ◌≤◌, ◌/◌, ◌^◌};
 ghost use Rattle.std.specs.Int.RustNames.{unsigned_abs, int_div};
 ghost use lib.IntN.{pos};
@@ -28,7 +28,7 @@ pub fn greatest_common_divisor(a: u128, b: u128) -> u128
     word_divisor(y as u64, (x % y) as u64) as u128
 }
 
-/// Where one number is odd, without a division (Stein 1967).
+/// The greatest common divisor of two machine words.
 fn word_divisor(a: u64, b: u64) -> u64
     ensures { result ≡ greatest_common a b }
 {
@@ -48,6 +48,7 @@ fn word_divisor(a: u64, b: u64) -> u64
     word_divisor(b / 2, rest / 2) * 2
 }
 
+/// The same of an odd number and another one, without a division (Stein 1967).
 #[inline(always)]
 fn odd_divisor(a: u64, b: u64) -> u64
     requires { a % 2 ≡ 1 }

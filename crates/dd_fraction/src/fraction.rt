@@ -1,4 +1,4 @@
-// A fraction in lowest terms, and its arithmetic. Contracts see it as the exact fraction that it is.
+//! A fraction in lowest terms, and its arithmetic. Contracts see it as the exact fraction that it is.
 ghost use Rattle.std.specs.Prelude.{◌≡◌, ◌≢◌, ◌<◌, ◌^◌, ◌↔◌, Some, IsTrue, IfSome};
 ghost use Rattle.std.specs.Int.RustNames.{unsigned_abs};
 ghost use lib.IntN.{pos};

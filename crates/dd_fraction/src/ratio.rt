@@ -1,4 +1,4 @@
-// The order of two ratios, with no product: first the whole parts, and where they are equal what is left over them.
+//! The order of two ratios, with no product: first the whole parts, and where they are equal what is left over them.
 ghost use Rattle.std.specs.Prelude.{◌≡◌, ◌<◌, ◌*◌};
 ghost use Rattle.std.specs.Ordering.{nat_cmp};
 

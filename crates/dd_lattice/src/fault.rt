@@ -11,6 +11,7 @@ pub enum LatticeFault {
     /// A coordinate would pass 2^20 in absolute value.
     #[error("a coordinate would pass 2^20")]
     Range,
+    /// Memory was wanting.
     #[error("out of memory")]
     Memory,
 }

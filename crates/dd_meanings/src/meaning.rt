@@ -1,4 +1,4 @@
-// What a command means.
+//! What a command means.
 use dd_formula::{Automaton, Rule};
 use dd_pattern::Periodic;
 use dd_query::Query;
@@ -26,18 +26,23 @@ pub enum Meaning {
     },
     /// One for each symbol.
     Weights(Items<u32>),
+    /// The greatest radius, period and number of pivots from here on.
     Limits(Limits),
+    /// A rule with its name.
     Rule {
         name: Word,
         rule: Rule,
     },
+    /// An automaton with its name.
     Automaton {
         name: Word,
         automaton: Automaton,
     },
+    /// A configuration with its name.
     Configuration {
         name: Word,
         configuration: Periodic,
     },
+    /// A query, without a name.
     Query(Query),
 }

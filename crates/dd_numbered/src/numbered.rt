@@ -5,11 +5,16 @@ use dd_values::{Boxed, Items};
 /// A formula of the symbols of a list. It takes the place of an expansion where this is asked of many lists.
 #[derive(Debug, Drop)]
 pub enum Numbered {
+    /// True or false.
     Constant(bool),
     /// The symbol with the number in the list is this one.
     Leaf { number: usize, symbol: u32 },
+    /// The part is false.
     Not(Boxed<Numbered>),
+    /// All parts are true, as where there is none.
     And(Items<Numbered>),
+    /// Some part is true, so there is one.
     Or(Items<Numbered>),
+    /// Both parts are true or both are false.
     Iff(Boxed<Numbered>, Boxed<Numbered>),
 }

@@ -6,7 +6,8 @@ ghost use Rattle.dd_numbered.specs.settling.Parts.{AreAllSettled, IsAnySettled, 
 use crate::numbered::Numbered;
 
 impl Numbered {
-    /// The truth that the formula has whatever symbols follow; `None` where they may decide it. It takes no memory.
+    /// The truth that the formula has whatever symbols follow, where Kleene's tables settle it; else `None`, also where no symbol could
+    /// change it. It takes no memory.
     #[cycle(settled)]
     pub fn settled(&self, symbols: &[u32]) -> Option<bool>
         ensures { IfSome result (IsSettled self.now symbols.now) }

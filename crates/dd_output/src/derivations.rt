@@ -1,4 +1,4 @@
-// Refutations, read step by step.
+//! Refutations, read step by step.
 ghost use Rattle.std.specs.Prelude.{◌≡◌};
 ghost use Rattle.dd_certificate.specs.Bounds.{most_count};
 ghost use Rattle.dd_output.specs.reading.Stops.{Gives, number_at, many_at, copies};

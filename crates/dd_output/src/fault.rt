@@ -1,4 +1,4 @@
-// Why a text could not be read.
+//! Why a text could not be read.
 ghost use Rattle.std.specs.Prelude.{◌≡◌};
 ghost use Rattle.dd_output.specs.declared.fault.ReadFault.TheVariants.{Memory};
 
@@ -16,6 +16,7 @@ pub enum CertificateFault {
 /// What stopped the reading inside.
 #[derive(Debug, Drop)]
 pub(crate) enum ReadFault {
+    /// Memory was wanting.
     Memory,
     /// So many bytes were not read.
     Stopped(usize),

@@ -1,5 +1,5 @@
-// The tokens of a text: words, numbers and raw bytes. Each takes the byte that ends it, so that no text of a token is a front of
-// another. A reader is handed the bytes and hands back what it did not read.
+//! The tokens of a text: words, numbers and raw bytes. Each takes the byte that ends it, so that no text of a token is a front of
+//! another. A reader is handed the bytes and hands back what it did not read.
 ghost use Rattle.std.specs.Prelude.{◌≡◌, ◌<◌, ◌≤◌, ◌^◌, ◌-◌, ◌*◌, ◌+◌, true, length, [], IfOk, nat_le};
 ghost use Rattle.dd_output.specs.reading.Stops.{Gives, is_digit, goes_on, starts, word_at, digits_at, number_at, bytes_at, begins};
 

@@ -1,4 +1,4 @@
-// Lists in a text: those that a 0 ends, and the numbers that a line ends with.
+//! Lists in a text: those that a 0 ends, and the numbers that a line ends with.
 ghost use Rattle.std.specs.Prelude.{◌≡◌, ◌≤◌, ◌-◌, [], suc};
 ghost use Rattle.dd_certificate.specs.Bounds.{most_number};
 ghost use Rattle.dd_output.specs.reading.Stops.{Gives, number_at, map_at};
@@ -29,7 +29,7 @@ use std::alloc::Global;
 /// The greatest variable of a literal.
 const MOST_VARIABLE: u64 = 16_777_216;
 
-/// The greatest number of most lines.
+/// The greatest number that an output holds outside its refutations.
 pub(crate) const MOST_NUMBER: u64 = 1_099_511_627_776;
 
 /// A literal, or nothing at the end of a list.

@@ -1,4 +1,4 @@
-// Laws of outputs and their texts, for callers.
+//! Laws of outputs and their texts, for callers.
 ghost use Rattle.std.specs.Prelude.{◌≡◌, ◌++◌, ◌⊎◌, ℕ, List, Result, Ok, Err};
 ghost use Rattle.dd_output.specs.declared.output.Output.{Output};
 ghost use Rattle.dd_output.specs.Outputs.{output_text, IsWritableOutput, IsWellFormed};
@@ -7,22 +7,22 @@ ghost use Rattle.dd_output.specs.declared.fault.CertificateFault.{CertificateFau
 ghost use Rattle.dd_output.specs.declared.fault.CertificateFault.TheVariants as faults;
 ghost use Rattle.dd_output.specs.reading.Whole.{completion};
 
-/// Each text is the text of one output only.
+/// Does nothing; its contract says that each text is the text of one output only.
 pub fn one_output()
     ensures { (a b : Output) → IsWritableOutput a → IsWritableOutput b → output_text a ≡ output_text b → a ≡ b }
 {}
 
-/// What is read of the text of an output is that output, where there is memory for it.
+/// Does nothing; its contract says that what is read of the text of an output is that output, where there is memory for it.
 pub fn read_again()
     ensures { (o : Output) (read : Result Output CertificateFault) → IsWritableOutput o → ReadsOutput (output_text o) read → (read ≡ Ok o) ⊎ (read ≡ Err faults.Memory) }
 {}
 
-/// Bytes have one offset at most.
+/// Does nothing; its contract says that bytes have one offset at most.
 pub fn one_offset()
     ensures { (bytes : List ℕ) (m n : ℕ) → IsOffset bytes m → IsOffset bytes n → m ≡ n }
 {}
 
-/// What was read of an output, followed by the text that completes it, is well formed.
+/// Does nothing; its contract says that a front of an output, followed by the text that completes it, is an output.
 pub fn completes()
     ensures { (front more : List ℕ) → IsWellFormed (front ++ more) → IsWellFormed (front ++ completion front) }
 {}

@@ -1,4 +1,4 @@
-// A whole output: the script, the answers to its queries in order, and the end.
+//! A whole output: the script, the answers to its queries in order, and the end.
 ghost use Rattle.std.specs.Prelude.{◌≡◌, ◌∷◌, ◌++◌, ◌<◌, [], Ok, IfOk, replicate};
 ghost use Rattle.dd_values.specs.Bounds.{most_script, most_commands};
 ghost use Rattle.dd_output.specs.Outputs.{end_line};

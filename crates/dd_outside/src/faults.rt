@@ -1,4 +1,4 @@
-// Why a read or a write gave nothing.
+//! Why a read or a write gave nothing.
 ghost use Rattle.std.specs.Prelude.{◌≡◌};
 ghost use Rattle.dd_outside.specs.declared.faults.ReadAllFault.TheVariants.{ReadFault, Memory};
 

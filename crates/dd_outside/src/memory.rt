@@ -1,4 +1,4 @@
-// A source and a sink over memory, which fail at the calls that are listed.
+//! A source and a sink over memory, which fail at the calls that are listed.
 ghost use Rattle.std.specs.Prelude.{◌≡◌, ◌+◌, ◌-◌, ◌^◌, ◌<◌, ◌≤◌, ◌↔◌, [], ◌++◌, Some, length, take, drop, min, ◌⊎◌, Contains, IfOk, IsTrue, IsErr};
 
 use crate::faults::Failed;

@@ -1,4 +1,4 @@
-// A source and a sink that never fail.
+//! A source and a sink that never fail.
 ghost use Rattle.std.specs.Prelude.{◌≡◌, ◌<◌, ◌≤◌, None, Some, length, drop, IfOk};
 ghost use Rattle.dd_outside.specs.Bytes.{zero_fits};
 

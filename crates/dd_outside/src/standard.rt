@@ -1,4 +1,4 @@
-// Sources and sinks over std's readers and writers, which pass on what these tell.
+//! Sources and sinks over std's readers and writers, which pass on what these tell.
 ghost use Rattle.std.specs.Prelude.{◌≡◌};
 
 use crate::faults::Failed;

@@ -1,4 +1,4 @@
-// The queries of a script.
+//! The queries of a script.
 use dd_lattice::Position;
 use dd_values::Items;
 

@@ -10,6 +10,7 @@ pub enum RowsFault {
     /// Some first cells have more than 65,536 admissible fillings, or there are more than 2,048 rows or 256 columns.
     #[error("the program of the discharge is too large")]
     Large,
+    /// Memory was wanting.
     #[error("out of memory")]
     Memory,
 }

@@ -1,4 +1,4 @@
-// The program of a rule along some vectors: its patterns and its distinct rows.
+//! The program of a rule along some vectors: its patterns and its distinct rows.
 use dd_values::Items;
 
 /// A row: the sum of coefficient times column is at most the bound. Column 0 is what each position is to hold; then there is

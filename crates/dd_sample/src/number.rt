@@ -1,4 +1,4 @@
-// The numbers of samples, as words write them.
+//! The numbers of samples, as words write them.
 ghost use Rattle.std.specs.Prelude.{◌≡◌, ◌⊎◌, ◌↔◌, IsTrue, slice_index};
 ghost use Rattle.dd_sample.specs.Sample.{IsNumberOf};
 

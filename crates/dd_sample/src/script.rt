@@ -1,11 +1,11 @@
-// The text of a sample script.
+//! The text of a sample script.
 ghost use Rattle.std.specs.Prelude.{IfOk, ◌≡◌, ◌≤◌, length};
 ghost use Rattle.dd_values.specs.Bounds.{most_script};
 ghost use Rattle.dd_sample.specs.Sample.{IsSampleNumber, sample_text};
 
 use std::alloc::{AllocError, Global};
 
-/// The sample script with this number. Its first query asks for a configuration of four symbols for each one that the number counts;
+/// The sample script with this number. Its first query asks about a configuration of four symbols for each one that the number counts;
 /// its others are the same in all samples: two of containment, one of equality, one that takes a box of radius 3, a density and a bound.
 /// The text is no longer than a script may be.
 #[tactic(auto, unfolding(crate::specs::Sample::sample_text), using(crate::proofs::Lengths::sample_fits))]

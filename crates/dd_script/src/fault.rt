@@ -1,4 +1,4 @@
-// Why a text is no script.
+//! Why a text is no script.
 use dd_faults::Limit;
 
 /// What is wrong with a command.

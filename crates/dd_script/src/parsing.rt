@@ -1,4 +1,4 @@
-// Reading scripts.
+//! Reading scripts.
 ghost use Rattle.std.specs.Prelude.{◌≡◌, ◌≤◌, length, All, IfOk, IfErr};
 ghost use Rattle.dd_values.specs.Bounds.{most_script};
 ghost use Rattle.dd_commands.specs.Scripts.{IsScript, IsWritten};

@@ -1,4 +1,4 @@
-// What the queries of a script ask.
+//! What the queries of a script ask.
 use dd_boxes::Goal;
 use dd_formula::Rule;
 use dd_lattice::Position;

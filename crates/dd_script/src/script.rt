@@ -1,4 +1,4 @@
-// Scripts.
+//! Scripts.
 use crate::question::Question;
 use dd_boxes::Goal;
 use dd_faults::Known;

@@ -1,4 +1,4 @@
-// The check of the answers of an output, each line written as soon as it is known.
+//! The check of the answers of an output, each line written as soon as it is known.
 ghost use Rattle.std.specs.Prelude.{◌≡◌, ◌≤◌, length, IfOk, OnErr, IsErrOf, string_bytes};
 ghost use Rattle.dd_values.specs.Counts.{Rose};
 ghost use Rattle.std.specs.List.{list_any};

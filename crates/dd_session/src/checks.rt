@@ -1,4 +1,4 @@
-// The check of a whole output.
+//! The check of a whole output.
 ghost use Rattle.std.specs.Prelude.{◌≡◌, ◌+◌, ◌≤◌, ℕ, List, Some};
 ghost use Rattle.dd_outside.specs.Bytes.{GivesAtMost};
 ghost use Rattle.dd_output.specs.Outputs.{output_text, IsWritableOutput};

@@ -1,4 +1,4 @@
-// The texts that a run writes.
+//! The texts that a run writes.
 ghost use Rattle.std.specs.Prelude.{◌≡◌, IfOk, string_bytes};
 ghost use Rattle.dd_session.specs.Output.{header, limit_text, IsLineOf};
 

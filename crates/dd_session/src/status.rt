@@ -1,4 +1,4 @@
-// How a session ended.
+//! How a session ended.
 
 /// How a session ended. A program ends with the variant's number.
 #[derive(Clone, Copy, Debug, PartialEq, Eq)]

@@ -1,4 +1,4 @@
-// The output of a script, and the first lines of its answers, each part written as soon as it is made.
+//! The output of a script, and the first lines of its answers, each part written as soon as it is made.
 ghost use Rattle.std.specs.Prelude.{◌≡◌, ◌⊎◌, ◌≤◌, ◌∷◌, [], length, Contains, IfOk, OnOk, OnErr, IsErrOf};
 ghost use Rattle.dd_values.specs.Bounds.{most_commands};
 ghost use Rattle.dd_values.specs.Counts.{Rose};
@@ -23,7 +23,9 @@ use std::alloc::{AllocError, Global};
 
 #[derive(Clone, Copy, Debug, PartialEq, Eq)]
 pub(crate) enum RunFault {
+    /// The sink failed.
     WriteFault,
+    /// Memory was wanting.
     Memory,
 }
 

@@ -14,6 +14,7 @@ pub enum SimplexFault {
     /// The run needs more pivots than its limit.
     #[error("the simplex run passes its limit of pivots")]
     Pivots,
+    /// Memory was wanting.
     #[error("out of memory")]
     Memory,
 }

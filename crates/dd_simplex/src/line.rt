@@ -1,4 +1,4 @@
-// A line of a dictionary: a basic variable in terms of the others.
+//! A line of a dictionary: a basic variable in terms of the others.
 ghost use Rattle.std.specs.Prelude.{◌≡◌, ◌≢◌, ◌<◌, true, List, length, map};
 ghost use Rattle.std.specs.List.{list_all, All};
 ghost use lib.IntN.{pos};

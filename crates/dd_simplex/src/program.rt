@@ -1,4 +1,4 @@
-// A linear program, row by row.
+//! A linear program, row by row.
 ghost use Rattle.std.specs.Prelude.{◌≡◌, [], ◌∷◌, ◌++◌, ◌<◌, ◌^◌, length, IfOk, OnOk, OnErr};
 ghost use lib.IntN.{pos};
 ghost use lib.Signed.{◌≤ℤ◌};

@@ -1,4 +1,4 @@
-// The run: turns by Bland's rule, until nothing enters.
+//! The run: turns by Bland's rule, until nothing enters.
 ghost use Rattle.std.specs.Prelude.{◌≡◌, IfOk, IfErr};
 ghost use Rattle.dd_simplex.specs.Programs.{IsBest};
 ghost use Rattle.dd_simplex.specs.Runs.{RunEnds, IsRunRefusal};

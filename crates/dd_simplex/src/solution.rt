@@ -1,4 +1,4 @@
-// The columns and the duals that a dictionary gives.
+//! The columns and the duals that a dictionary gives.
 ghost use Rattle.std.specs.Prelude.{◌≡◌, ℕ, ◌+◌, ◌<◌, ◌≤◌, length, IfOk};
 ghost use Rattle.dd_simplex.specs.table.Lines.{other_at};
 ghost use Rattle.dd_simplex.specs.table.Values.{GiveColumns, GiveDuals};

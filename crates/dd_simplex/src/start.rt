@@ -1,4 +1,4 @@
-// The dictionary of a program's start: the slacks are basic, and the objective is column 0.
+//! The dictionary of a program's start: the slacks are basic, and the objective is column 0.
 ghost use Rattle.std.specs.Prelude.{◌≡◌, ℕ, ◌+◌, ◌<◌, ◌≤◌, ◌^◌, length, slice_index_or, IfOk};
 ghost use Rattle.dd_fraction.specs.Checked.{IsFraction};
 ghost use Rattle.dd_simplex.specs.Programs.{fraction_at, unit, row_at};

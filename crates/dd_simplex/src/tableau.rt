@@ -1,4 +1,4 @@
-// A dictionary as the run keeps it: its lines, its other variables and the objective.
+//! A dictionary as the run keeps it: its lines, its other variables and the objective.
 ghost use Rattle.std.specs.Prelude.{◌≡◌, ◌≢◌, ◌<◌, true, false, length, Option, Some, None, ℕ, MatchResult, IfOk, IfErr, slice_set};
 ghost use Rattle.std.specs.List.{All};
 ghost use lib.IntN.{pos};

@@ -1,4 +1,4 @@
-// The whole bytes, piece by piece.
+//! The whole bytes, piece by piece.
 ghost use Rattle.std.specs.Prelude.{◌≡◌, ◌≤◌, length, IfOk};
 ghost use Rattle.dd_values.specs.Bounds.{most_script};
 ghost use Rattle.dd_tokens.specs.Format.{tokens_of};

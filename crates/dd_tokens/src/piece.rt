@@ -1,4 +1,4 @@
-// What stands at the front of some bytes: a blank, a comment, a token, or a fault.
+//! What stands at the front of some bytes: a blank, a comment, a token, or a fault.
 ghost use Rattle.std.specs.Prelude.{◌≡◌, ◌≤◌, ◌<◌, ◌+◌, length, nat_le, ◌==◌, ◌&&◌};
 ghost use Rattle.std.specs.List.{prefix_len};
 ghost use Rattle.dd_values.specs.Bounds.{most_script};

@@ -1,4 +1,4 @@
-// The tokens of a script and where their bytes stand.
+//! The tokens of a script and where their bytes stand.
 use dd_values::Items;
 
 /// What a token is.

@@ -25,8 +25,10 @@ impl Model for Names {
 /// Why a name was not added. The name comes back.
 #[derive(Debug, Drop, Error)]
 pub enum NameFault {
+    /// The name was added before.
     #[error("the name is there already")]
     Twice(String),
+    /// Memory was wanting.
     #[error("out of memory")]
     Memory(String),
 }

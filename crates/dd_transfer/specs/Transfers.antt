@@ -28,7 +28,7 @@ pub record HasWeights (r : LocalRule) (weights : List ℕ) : Type 0 where
 abbrev pub strip_for : LocalRule → List ℕ → Strip
 strip_for r periods = strip_of (slice_index periods 0) (slice_index periods 1) r.nodes
 
--- too many states, or too many states and slices
+-- more than 4,096 states, or more than 131,072 windows
 abbrev pub IsTooLarge : LocalRule → Strip → Type 0
 IsTooLarge r s = (most_states < states r (positions s)) ⊎ (most_longer_states < longer_states r (positions s))
 

@@ -21,7 +21,7 @@ use std::alloc::{AllocError, Global};
 /// as much as its weight says.
 ///
 /// # Errors
-/// `Size` where there are more than 4,096 states or more than 131,072 states and slices; else `Memory`.
+/// `Size` where there are more than 4,096 states or more than 131,072 windows, which are states with one slice more; else `Memory`.
 pub fn graph(
     alloc: Global,
     rule: &Rule,

@@ -7,8 +7,10 @@ use thiserror::Error;
 /// Why the transfer graph of a rule over a strip was not made.
 #[derive(Debug, Drop, Error)]
 pub enum TransferFault {
-    #[error("the strip has more than 4096 states, or more than 131072 states and slices")]
+    /// The strip has more than 4,096 states, or more than 131,072 windows: states with one slice more.
+    #[error("the strip has more than 4096 states, or more than 131072 windows")]
     Size,
+    /// Memory was wanting.
     #[error("out of memory")]
     Memory,
 }

@@ -1,4 +1,4 @@
-// What checked answers exclude from a spike, from a checkerboard and from a configuration of the script.
+//! What checked answers exclude from a spike, from a checkerboard and from a configuration of the script.
 ghost use Rattle.dd_checker.specs.Lifted.{IsWhole};
 
 use dd_answer::answer;

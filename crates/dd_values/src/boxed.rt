@@ -1,4 +1,4 @@
-// A box for public fields: a `Box` that contracts see as its value, never as an address.
+//! A box for public fields: a `Box` that contracts see as its value, never as an address.
 ghost use Rattle.std.specs.Prelude.{◌≡◌, IfOk};
 
 use std::alloc::{AllocError, Global};

@@ -1,4 +1,4 @@
-// A list for public fields: a `Vec` that contracts see as the list of its items, never as a capacity.
+//! A list for public fields: a `Vec` that contracts see as the list of its items, never as a capacity.
 ghost use Rattle.std.specs.Prelude.{◌≡◌, [], ◌∷◌, ◌++◌, ◌<◌, length, slice_get, slice_index_or, ◌↔◌, IsTrue, IfOk, OnOk, OnErr, MatchOption};
 ghost use Rattle.std.specs.Option.{option_copied};
 ghost use Rattle.std.specs.Cmp.Lexicographic.{pointwise, lists_per};

@@ -1,4 +1,4 @@
-// How deep a formula is, as far as the limit asks.
+//! How deep a formula is, as far as the limit asks.
 ghost use Rattle.std.specs.Prelude.{◌≡◌, ◌≤◌, ◌+◌, map, max};
 ghost use Rattle.dd_written.specs.Formulas.{tree_depth, greatest_depth, cut_depth};
 

@@ -1,4 +1,4 @@
-// Why nothing was read.
+//! Why nothing was read.
 ghost use Rattle.std.specs.Prelude.{◌≡◌};
 ghost use Rattle.dd_written.specs.declared.fault.ReadFault.TheVariants.{Memory};
 
@@ -11,6 +11,7 @@ pub enum ReadFault {
     /// The tokens are no text of what was asked for.
     #[error("not well formed")]
     Syntax,
+    /// Memory was wanting.
     #[error("out of memory")]
     Memory,
 }

@@ -1,4 +1,4 @@
-// Formulas, read from left to right.
+//! Formulas, read from left to right.
 ghost use Rattle.std.specs.Prelude.{◌≡◌, ◌+◌, ◌<◌, ◌≤◌, length, Some};
 ghost use Rattle.dd_written.specs.reading.Readers.{Gives, with_front};
 ghost use Rattle.dd_written.specs.reading.Atoms.{name_at, moves_at, term_at, side_at, after_term, atom_at, leaf_at, balls_at, quantifier_end, quantifier_at};

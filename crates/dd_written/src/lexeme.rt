@@ -1,4 +1,4 @@
-// The tokens of a script as the grammar sees them.
+//! The tokens of a script as the grammar sees them.
 
 /// A word, by the place of its bytes.
 #[derive(Clone, Copy, Debug, PartialEq, Eq)]
@@ -62,9 +62,13 @@ pub enum Mark {
 /// A token as the grammar sees it.
 #[derive(Clone, Copy, Debug, PartialEq, Eq)]
 pub enum Lexeme {
+    /// Letters from `a` to `z`.
     Word(Word),
+    /// Digits without a leading zero.
     Number(Number),
+    /// A `-` directly before a number that is not 0.
     Negative(Number),
+    /// A capital or a sign.
     Mark(Mark),
     /// A byte that belongs to no token and no blank. It has no place in any command.
     Stray,

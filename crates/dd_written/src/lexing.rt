@@ -1,4 +1,4 @@
-// From the bytes of a script to its tokens as the grammar sees them.
+//! From the bytes of a script to its tokens as the grammar sees them.
 ghost use Rattle.std.specs.Prelude.{◌≡◌, ◌≤◌, ◌+◌, length, map, bytes_eq, IfOk};
 ghost use Rattle.dd_values.specs.Bounds.{most_script};
 ghost use Rattle.dd_written.specs.Lexemes.{mark_text, mark_at, token_text, lexeme_of, lexemes_of};

@@ -1,11 +1,13 @@
-// Formulas as they are written.
+//! Formulas as they are written.
 use crate::lexeme::{Number, Word};
 use dd_values::{Boxed, Items};
 
 /// A name: a word or a number.
 #[derive(Clone, Copy, Debug, PartialEq, Eq)]
 pub enum Name {
+    /// As `hard`.
     Word(Word),
+    /// As `0`.
     Number(Number),
 }
 
@@ -19,7 +21,9 @@ pub struct Term {
 /// What stands on the right of `=` and `!=`. A single word is a term without moves, though it may name a symbol.
 #[derive(Debug, Drop)]
 pub enum Comparand {
+    /// A variable with its moves, or the word for a symbol.
     Term(Term),
+    /// A number, which names a symbol.
     Number(Number),
 }
 
@@ -48,22 +52,29 @@ pub struct Ball {
 /// Whether a quantifier ranges over all cells or asks for one.
 #[derive(Clone, Copy, Debug, PartialEq, Eq)]
 pub enum Quantifier {
+    /// `A`: the body is true at all cells of the balls.
     All,
+    /// `E`: the body is true at some cell of the balls.
     Exists,
 }
 
 /// What joins the members of a list.
 #[derive(Clone, Copy, Debug, PartialEq, Eq)]
 pub enum Join {
+    /// `&`
     And,
+    /// `|`
     Or,
 }
 
 /// A formula as it is written, with its parentheses.
 #[derive(Debug, Drop)]
 pub enum Formula {
+    /// A formula without parts.
     Atom(Atom),
+    /// `!body`
     Not(Boxed<Formula>),
+    /// `A` or `E`, then `variable[balls] body`.
     Quantified {
         quantifier: Quantifier,
         variable: Word,

@@ -1,4 +1,4 @@
-// Words by their text.
+//! Words by their text.
 ghost use Rattle.std.specs.Prelude.{◌≡◌, bytes_eq, take, drop};
 ghost use Rattle.dd_written.specs.Values.{word_text};
 ghost use Rattle.dd_written.specs.reading.Readers.{Gives};
