@@ -11,3 +11,4 @@ pub use filling::Filling;
 pub use periodic::Periodic;
 pub use periods::Periods;
 pub use reading::{Configuration, Reads};
+pub use weight::weight_of;

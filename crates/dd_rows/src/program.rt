@@ -3,7 +3,6 @@ ghost use Rattle.std.specs.Prelude.{◌≡◌, ◌≤◌, ◌<◌, ℕ, map, len
 ghost use Rattle.std.specs.List.{flat_map};
 ghost use Rattle.dd_values.specs.Bounds.{most_weight};
 ghost use Rattle.dd_expansion.specs.Limits.{greatest};
-ghost use Rattle.dd_pattern.specs.Weight.{AreWeights, total_weight};
 ghost use Rattle.dd_rows.specs.Asked.{AreVectors, AreWeightsFor};
 ghost use Rattle.dd_rows.specs.Faults.{OnLarge};
 ghost use Rattle.dd_rows.specs.Patterns.{in_lexicographic_order};
@@ -22,6 +21,7 @@ use crate::sparse::{SparseRow, exchanges};
 use crate::views::Views;
 use dd_formula::Rule;
 use dd_lattice::Position;
+use dd_pattern::weight_of;
 use dd_values::Items;
 use indexmap::IndexSet;
 use std::alloc::{AllocError, Global};
@@ -72,19 +72,6 @@ fn all_patterns(
         }
     }
     Ok(patterns)
-}
-
-/// The sum of the symbols' weights.
-fn weight_of(symbols: &[u32], weights: &[u32]) -> u64
-    requires weights { AreWeights weights.now symbols.now }
-    requires few { length symbols.now ≤ 4 }
-    ensures { result ≡ total_weight weights.now symbols.now }
-{
-    let mut total = 0;
-    for symbol in symbols {
-        total += weights[*symbol as usize] as u64;
-    }
-    total
 }
 
 /// The row that a filling asks.

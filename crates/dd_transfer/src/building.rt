@@ -15,6 +15,7 @@ use crate::strip::Strip;
 use crate::windows::{Window, write_digits};
 use dd_counts::{MOST_LONGER_STATES, MOST_STATES, longer_states, states, window};
 use dd_formula::Rule;
+use dd_pattern::weight_of;
 use std::alloc::{AllocError, Global};
 
 /// The transfer graph of a rule over a strip with these periods in the second and the third axis, where each symbol weighs
@@ -143,17 +144,4 @@ fn zeros(alloc: Global, count: usize) -> Result<Vec<u32>, AllocError>
     ensures { IfOk result (λ v. length v.items ≡ count) }
 {
     vec![in alloc; 0; count]
-}
-
-/// The sum of the symbols' weights.
-fn weight_of(symbols: &[u32], weights: &[u32]) -> u64
-    requires weights { AreWeights weights.now symbols.now }
-    requires few { length symbols.now ≤ 16384 }
-    ensures { result ≡ total_weight weights.now symbols.now }
-{
-    let mut total = 0;
-    for symbol in symbols {
-        total += weights[*symbol as usize] as u64;
-    }
-    total
 }
