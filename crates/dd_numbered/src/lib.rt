@@ -10,4 +10,5 @@ mod truth;
 
 pub use numbered::Numbered;
 pub use numbers::Numbers;
-pub use ranks::Ranks;
+pub use ranks::{Ranks, rank};
+pub use truth::all_true;

@@ -1,5 +1,5 @@
 //! The places of cells in a list in cell order.
-ghost use Rattle.std.specs.Prelude.{◌≡◌};
+ghost use Rattle.std.specs.Prelude.{◌≡◌, ◌≤◌, length};
 ghost use Rattle.std.specs.List.Sorted.{IsStrictlySortedBy, IsStrictlySortedBy-prop};
 ghost use Rattle.dd_lattice.specs.Order.{cell_cmp};
 ghost use Rattle.dd_numbered.specs.Numbering.{rank};
@@ -26,9 +26,10 @@ impl<'a> Ranks<'a> {
 }
 
 /// The place of a cell among the cells, or as many as there are.
-fn rank(cells: &[Cell], cell: &Cell) -> usize
+pub fn rank(cells: &[Cell], cell: &Cell) -> usize
     requires { IsStrictlySortedBy cell_cmp cells.now }
-    ensures { result ≡ rank cells.now cell.now }
+    ensures value { result ≡ rank cells.now cell.now }
+    ensures most { result ≤ length cells.now }
 {
     match cells.binary_search(cell) {
         Ok(place) => place,

@@ -35,8 +35,9 @@ fn is_there(symbols: &[u32], number: usize, symbol: u32) -> bool
     }
 }
 
+/// Whether all of the formulas are true of the symbols. It takes no memory.
 #[cycle(truth)]
-fn all_true(parts: &[Numbered], symbols: &[u32]) -> bool
+pub fn all_true(parts: &[Numbered], symbols: &[u32]) -> bool
     ensures { result ≡ list_all (λ e. holds_in e symbols.now) parts.now }
 {
     for part in parts {

@@ -1,4 +1,3 @@
-pub mod NumberLaws
 pub mod Chosen
 pub mod Steps
 pub mod DomainLaws

@@ -5,7 +5,6 @@
 mod domain;
 mod fault;
 mod laws;
-mod numbers;
 mod pattern;
 mod places;
 mod program;

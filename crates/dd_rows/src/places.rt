@@ -5,10 +5,9 @@ ghost use Rattle.dd_lattice.specs.Order.{cell_cmp};
 ghost use Rattle.dd_rows.specs.listing.Levels.{AreOf, AreInRange};
 ghost use Rattle.dd_rows.specs.listing.Formulas.{SaysTrue, SayTrue};
 
-use crate::numbers::number_of;
 use dd_formula::Rule;
 use dd_lattice::{Cell, Position, shift};
-use dd_numbered::{Numbered, Numbers};
+use dd_numbered::{Numbered, Numbers, rank};
 use dd_values::Items;
 use std::alloc::{AllocError, Global};
 
@@ -38,7 +37,7 @@ impl Numbers for Near<'_> {
     fn number(&self, cell: &Cell) -> Option<usize> {
         let position = shift(&cell.position, &self.at)?;
         let node = cell.node;
-        Some(number_of(self.cells, &Cell { position, node }))
+        Some(rank(self.cells, &Cell { position, node }))
     }
 }
 

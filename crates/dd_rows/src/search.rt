@@ -12,28 +12,15 @@ ghost use Rattle.dd_numbered.specs.Numbering.{rank};
 ghost use Rattle.dd_rows.specs.listing.Formulas.{are_all_true};
 
 use crate::fault::RowsFault;
-use crate::numbers::number_of;
 use crate::places::formulas;
 use dd_formula::Rule;
 use dd_lattice::{Cell, shift};
-use dd_numbered::Numbered;
+use dd_numbered::{Numbered, all_true, rank};
 use dd_values::Items;
 use std::alloc::{AllocError, Global};
 
 /// The greatest number of admissible fillings of the first cells.
 const MOST_FILLINGS: usize = 65_536;
-
-/// Whether all formulas are true of the symbols.
-fn are_true(formulas: &[Numbered], symbols: &[u32]) -> bool
-    ensures { result ≡ are_all_true formulas.now symbols.now }
-{
-    for formula in formulas {
-        if !formula.truth(symbols) {
-            return false;
-        }
-    }
-    true
-}
 
 /// Writes the symbols and one more.
 fn write_longer(longer: &mut Vec<u32>, symbols: &[u32], symbol: u32) -> Result<(), AllocError>
@@ -64,7 +51,7 @@ fn extend(
     for symbol in 0..rule.symbols() {
         if rule.allows(node, symbol) {
             write_longer(longer, symbols, symbol)?;
-            if are_true(formulas, longer.as_slice()) {
+            if all_true(formulas, longer.as_slice()) {
                 if next.len() == MOST_FILLINGS {
                     return Err(RowsFault::Large);
                 }
@@ -126,7 +113,7 @@ fn last_number(rule: &Rule, cells: &[Cell], cell: &Cell) -> usize
     requires near { AreInRange cells.now }
     ensures { result ≡ last_number rule.now cells.now cell.now }
 {
-    let mut last = number_of(cells, cell);
+    let mut last = rank(cells, cell);
     for read in rule.reads(cell.node) {
         last = last.max(number_of_read(cells, cell, read));
     }
@@ -140,7 +127,7 @@ pub(crate) fn number_of_read(cells: &[Cell], cell: &Cell, read: &Cell) -> usize
     ensures { result ≡ rank cells.now (shifted cell.now.position read.now) }
 {
     match shift(&read.position, &cell.position) {
-        Some(position) => number_of(
+        Some(position) => rank(
             cells,
             &Cell {
                 position,

@@ -11,10 +11,10 @@ ghost use Rattle.dd_rows.specs.listing.Views.{view_of, centre_of, givers_of, Are
 
 use crate::domain::{box_cells, opposite};
 use crate::fault::RowsFault;
-use crate::numbers::number_of;
 use crate::search::number_of_read;
 use dd_formula::Rule;
 use dd_lattice::{Cell, Position};
+use dd_numbered::rank;
 use dd_values::Items;
 use std::alloc::{AllocError, Global};
 
@@ -78,7 +78,7 @@ fn centre(alloc: Global, cells: &[Cell], nodes: u32) -> Result<Items<usize>, All
 {
     let mut numbers = Items::new(alloc);
     for node in 0..nodes {
-        numbers.push(number_of(
+        numbers.push(rank(
             cells,
             &Cell {
                 position: ORIGIN,

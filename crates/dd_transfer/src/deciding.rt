@@ -1,14 +1,12 @@
 //! Whether a window is an edge.
 ghost use Rattle.std.specs.Prelude.{◌≡◌, ◌<◌, ◌↔◌, IsTrue};
-ghost use Rattle.std.specs.List.{list_all};
-ghost use Rattle.dd_numbered.specs.Numbered.{holds_in};
 ghost use Rattle.dd_formula.specs.Allowed.{AreAllowed};
 ghost use Rattle.dd_transfer.specs.Windows.{IsFullWindow, IsKept, shown_look};
 ghost use Rattle.dd_transfer.specs.placing.Formulas.{AllowsAll, AllowsEach, ArePlaces};
 
 use crate::windows::Window;
 use dd_formula::Rule;
-use dd_numbered::Numbered;
+use dd_numbered::{Numbered, all_true};
 
 /// Whether the node allows all symbols.
 fn allows_each(rule: &Rule, node: u32) -> bool
@@ -54,18 +52,6 @@ fn are_allowed(rule: &Rule, allows_all: bool, window: &Window) -> bool
     true
 }
 
-/// Whether all formulas are true of the symbols.
-fn are_true(formulas: &[Numbered], symbols: &[u32]) -> bool
-    ensures { result ≡ list_all (λ e. holds_in e symbols.now) formulas.now }
-{
-    for formula in formulas {
-        if !formula.truth(symbols) {
-            return false;
-        }
-    }
-    true
-}
-
 /// Whether each symbol of the window is allowed and the rule, of which these are the formulas at its places, is true where it
 /// stands.
 pub(crate) fn is_kept(rule: &Rule, formulas: &[Numbered], allows_all: bool, window: &Window) -> bool
@@ -74,7 +60,7 @@ pub(crate) fn is_kept(rule: &Rule, formulas: &[Numbered], allows_all: bool, wind
     requires formulas { ArePlaces rule.now window.now.strip formulas.now }
     ensures { IsTrue result ↔ IsKept rule.now (shown_look window.now) }
 {
-    if are_true(formulas, window.symbols()) {
+    if all_true(formulas, window.symbols()) {
         are_allowed(rule, allows_all, window)
     } else {
         false

@@ -5,7 +5,7 @@ use Rattle.dd_rows.specs.Fillings.{most_fillings}
 use Rattle.dd_rows.specs.listing.Levels.{extended_below}
 use Rattle.dd_rows.specs.listing.Formulas.{are_all_true}
 use Rattle.dd_rows.proofs.Steps.{extended_kept, extended_cut, extended_barred, extended_large}
-use Rattle.dd_rows.proofs.search.extend.Goals.{then-allows+in_ok-write_longer+then-are_true+else-len-eq-MOST_FILLINGS+in_ok-filling+in_ok-push, then-allows+in_ok-write_longer+else-are_true, else-allows}
+use Rattle.dd_rows.proofs.search.extend.Goals.{then-allows+in_ok-write_longer+then-all_true+else-len-eq-MOST_FILLINGS+in_ok-filling+in_ok-push, then-allows+in_ok-write_longer+else-all_true, else-allows}
 use Rattle.dd_rows.proofs.search.extend.Goals as goal
 
 pub returns-then-len-eq-MOST_FILLINGS-clause-err : goal.returns-then-len-eq-MOST_FILLINGS-clause-err
@@ -17,7 +17,7 @@ returns-then-len-eq-MOST_FILLINGS-clause-err c =
     let new : List ℕ = ss ++ n ∷ [] in
     let allowed : rule_allows x c.args.node n ≡ true = sym c.allows.ensures.value ∙ c.if-allows.true in
     let written : c.as_slice.result.now ≡ new = c.as_slice.ensures.value ∙ c.in_ok-write_longer.ensures in
-    let kept : q new ≡ true = ap q (sym written) ∙ (sym c.are_true.ensures ∙ c.if-are_true.true) in
+    let kept : q new ≡ true = ap q (sym written) ∙ (sym c.all_true.ensures ∙ c.if-all_true.true) in
     extended_large x q c.args.node ss new n x.symbols most_fillings c.args.next.now c.loop-symbol.next
     (let below = c.loop-symbol-test.true in let all = c.symbols-symbol-end.ensures.value in omega (arith, below, all)) allowed refl kept c.loop-symbol.invariant.0
     (sym c.len.ensures ∙ c.if-len-eq-MOST_FILLINGS.true)
@@ -35,11 +35,11 @@ loop-symbol-preserved c =
     let next : n + 1 ≡ suc n = omega arith in
     let before = c.loop-symbol.invariant in
     elim c.if-allows.branch [
-      | then-allows+in_ok-write_longer+then-are_true+else-len-eq-MOST_FILLINGS+in_ok-filling+in_ok-push w ↦
+      | then-allows+in_ok-write_longer+then-all_true+else-len-eq-MOST_FILLINGS+in_ok-filling+in_ok-push w ↦
           let allowed : rule_allows x a n ≡ true = sym c.allows.ensures.value ∙ w.if-allows.true in
           let written : w.as_slice.result.now ≡ new = w.as_slice.ensures.value ∙ w.in_ok-write_longer.ensures in
-          let kept : q new ≡ true = ap q (sym written) ∙ (sym w.are_true.ensures ∙ w.if-are_true.true) in
-          let copied : w.in_ok-filling.filling ≡ new = w.in_ok-filling.ensures ∙ (w.as_slice-then-are_true.ensures.value ∙ w.in_ok-write_longer.ensures) in
+          let kept : q new ≡ true = ap q (sym written) ∙ (sym w.all_true.ensures ∙ w.if-all_true.true) in
+          let copied : w.in_ok-filling.filling ≡ new = w.in_ok-filling.ensures ∙ (w.as_slice-then-all_true.ensures.value ∙ w.in_ok-write_longer.ensures) in
           let is = w.next-is ∙ (w.in_ok-push.ensures.ok ∙ ap (λ (f : List ℕ). c.loop-symbol.next ++ f ∷ []) copied) in
           let sizes = ap length is in
           let size = length-append c.loop-symbol.next (new ∷ []) in
@@ -50,10 +50,10 @@ loop-symbol-preserved c =
                 ∙ (append_assoc begun old (new ∷ []) ∙ ap (λ (xs : List (List ℕ)). begun ++ xs) (sym (extended_kept x q a ss new n (n + 1) next allowed refl kept)))),
             omega (arith, sizes, size, full, few, most),
           )
-      | then-allows+in_ok-write_longer+else-are_true w ↦
+      | then-allows+in_ok-write_longer+else-all_true w ↦
           let allowed : rule_allows x a n ≡ true = sym c.allows.ensures.value ∙ w.if-allows.true in
           let written : w.as_slice.result.now ≡ new = w.as_slice.ensures.value ∙ w.in_ok-write_longer.ensures in
-          let cut : q new ≡ false = ap q (sym written) ∙ (sym w.are_true.ensures ∙ w.if-are_true.false) in
+          let cut : q new ≡ false = ap q (sym written) ∙ (sym w.all_true.ensures ∙ w.if-all_true.false) in
           let sizes = ap length w.next-is in
           let most = before.1 in (
             w.next-is ∙ (before.0 ∙ ap (λ (xs : List (List ℕ)). begun ++ xs) (sym (extended_cut x q a ss new n (n + 1) next allowed refl cut))),

@@ -6,5 +6,5 @@ use Rattle.dd_rows.proofs.views.centre.Goals as goal
 
 pub loop-node-preserved : goal.loop-node-preserved
 loop-node-preserved c =
-    range_next (λ a. rank c.args.cells.now (cell origin a)) c.loop-node.node c.loop-node.numbers c.push.new.self c.number_of.result
-    c.loop-node.invariant c.number_of.ensures.value c.in_ok-push.ensures.ok
+    range_next (λ a. rank c.args.cells.now (cell origin a)) c.loop-node.node c.loop-node.numbers c.push.new.self c.rank.result
+    c.loop-node.invariant c.rank.ensures.value c.in_ok-push.ensures.ok
