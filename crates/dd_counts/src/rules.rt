@@ -31,7 +31,8 @@ fn x_of(cell: &Cell) -> i32
     cell.position.x
 }
 
-fn least_x(from: i32, cells: &[Cell]) -> i32
+/// The least x of the cells, `from` among them.
+pub fn least_x(from: i32, cells: &[Cell]) -> i32
     ensures { result ≡ least_x from cells.now }
 {
     let mut least = from;

@@ -5,24 +5,8 @@ ghost use Rattle.dd_formula.specs.LocalRule.{IsRule};
 ghost use Rattle.dd_formula.specs.Reach.{all_cells};
 ghost use Rattle.dd_transfer.specs.Windows.{stand};
 
+use dd_counts::least_x;
 use dd_formula::Rule;
-use dd_lattice::Cell;
-
-fn x_of(cell: &Cell) -> i32
-    ensures { result ≡ cell.now.position.x }
-{
-    cell.position.x
-}
-
-fn least_x(from: i32, cells: &[Cell]) -> i32
-    ensures { result ≡ least_x from cells.now }
-{
-    let mut least = from;
-    for cell in cells {
-        least = least.min(x_of(cell));
-    }
-    least
-}
 
 /// The least x of a cell that the rule reads, 0 among them.
 fn least_read(rule: &Rule) -> i32
