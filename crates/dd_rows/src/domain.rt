@@ -1,11 +1,9 @@
 //! The domain of a discharge, grown by its margin.
-ghost use Rattle.std.specs.Prelude.{◌≡◌, ◌<◌, ◌≤◌, IfOk, IfErr, [], pos, ◌-ℤ◌, All};
+ghost use Rattle.std.specs.Prelude.{◌≡◌, ◌<◌, ◌≤◌, IfOk, IfErr, [], All};
 ghost use Rattle.std.specs.List.Sorted.{IsStrictlySortedBy};
-ghost use Rattle.dd_lattice.specs.Place.{IsCoordinateInRange};
 ghost use Rattle.dd_lattice.specs.Order.{cell_cmp};
 ghost use Rattle.dd_lattice.specs.Boxes.{centred, positions_of};
 ghost use Rattle.dd_lattice.specs.Regions.{IsRegion, IsRegionOf, IsMoved};
-ghost use Rattle.dd_topology.specs.Topology.{reversed};
 ghost use Rattle.dd_rows.specs.Asked.{IsVector, AreVectors};
 ghost use Rattle.dd_rows.specs.listing.Levels.{AreOf, AreInRange};
 ghost use Rattle.dd_boxes.specs.Cells.{cells_on, box_cells};
@@ -14,27 +12,9 @@ ghost use Rattle.dd_rows.specs.Domains.{IsInDomain, IsInGround, IsGround};
 use crate::fault::RowsFault;
 use dd_formula::Rule;
 use dd_lattice::{Cell, LatticeFault, Position, Region, centred_box, positions};
+use dd_topology::reversed;
 use dd_values::Items;
 use std::alloc::{AllocError, Global};
-
-fn negated(coordinate: i32) -> i32
-    requires { IsCoordinateInRange coordinate }
-    ensures value { result ≡ pos 0 -ℤ coordinate }
-    ensures near { IsCoordinateInRange result }
-{
-    -coordinate
-}
-
-/// The position on the other side of the origin.
-pub(crate) fn opposite(position: &Position) -> Position
-    ensures { result ≡ reversed position.now }
-{
-    Position {
-        x: negated(position.x),
-        y: negated(position.y),
-        z: negated(position.z),
-    }
-}
 
 /// The positions of the centred box.
 fn box_region(alloc: Global, dim: u32, radius: u32) -> Result<Region, RowsFault>
@@ -64,7 +44,7 @@ fn domain(alloc: Global, dim: u32, radius: u32, vectors: &[Position]) -> Result<
     let around = box_region(alloc, dim, radius)?;
     let mut all = box_region(alloc, dim, radius)?;
     for vector in vectors {
-        let moved = match around.shifted(alloc, &opposite(vector)) {
+        let moved = match around.shifted(alloc, &reversed(vector)) {
             Ok(moved) => moved,
             Err(LatticeFault::Memory) => return Err(RowsFault::Memory),
             // Positions of the box lie within 3 of the origin, and vectors reach 4.

@@ -9,12 +9,13 @@ ghost use Rattle.dd_boxes.specs.Boxes.{origin};
 ghost use Rattle.dd_rows.specs.listing.Levels.{AreInRange};
 ghost use Rattle.dd_rows.specs.listing.Views.{view_of, centre_of, givers_of, AreViews};
 
-use crate::domain::{box_cells, opposite};
+use crate::domain::box_cells;
 use crate::fault::RowsFault;
 use crate::search::number_of_read;
 use dd_formula::Rule;
 use dd_lattice::{Cell, Position};
 use dd_numbered::rank;
+use dd_topology::reversed;
 use dd_values::Items;
 use std::alloc::{AllocError, Global};
 
@@ -66,7 +67,7 @@ fn givers(
 {
     let mut givers = Items::new(alloc);
     for vector in vectors {
-        givers.push(view(alloc, cells, boxed, &opposite(vector))?)?;
+        givers.push(view(alloc, cells, boxed, &reversed(vector))?)?;
     }
     Ok(givers)
 }

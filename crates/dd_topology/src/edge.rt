@@ -40,8 +40,8 @@ pub(crate) fn start_of(cell: &Cell, edge: &Edge) -> Option<Cell>
     }
 }
 
-/// The way back.
-fn reversed(offset: &Position) -> Position
+/// The way back: the position on the other side of the origin.
+pub fn reversed(offset: &Position) -> Position
     ensures { result ≡ reversed offset.now }
 {
     Position {

@@ -10,7 +10,7 @@ mod sets;
 mod topology;
 
 pub use builtin::Kind;
-pub use edge::Edge;
+pub use edge::{Edge, reversed};
 pub use fault::TopologyFault;
 pub use names::{NameFault, Names};
 pub use sets::Sets;

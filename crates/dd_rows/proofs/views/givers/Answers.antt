@@ -9,4 +9,4 @@ loop-vector-preserved c =
     let cells = c.args.cells.now in
     let boxed = c.args.boxed.now in
     mapped_next (λ v. view_of cells boxed (reversed v)) c.args.vectors.now c.loop-vector.vector-index c.vector-item.result c.loop-vector.givers c.push.new.self c.in_ok-view.field-0
-    c.loop-vector-test.true c.loop-vector.invariant c.vector-item.is (c.in_ok-view.ensures ∙ ap (view_of cells boxed) c.opposite.ensures) c.in_ok-push.ensures.ok
+    c.loop-vector-test.true c.loop-vector.invariant c.vector-item.is (c.in_ok-view.ensures ∙ ap (view_of cells boxed) c.reversed.ensures) c.in_ok-push.ensures.ok
