@@ -1,5 +1,5 @@
 //! YES to a box question: a radius, and steps that refute the clauses of its box.
-ghost use Rattle.std.specs.Prelude.{◌≡◌, ◌≤◌, ◌+◌, ◌-◌, ◌↔◌, length, IsTrue, IfOk};
+ghost use Rattle.std.specs.Prelude.{◌≤◌, ◌↔◌, IsTrue, IfOk};
 ghost use Rattle.dd_lattice.specs.Boxes.{centred, volume};
 ghost use Rattle.dd_boxes.specs.Goals.{IsGoalFor};
 ghost use Rattle.dd_boxes.specs.Boxes.{Reaches};
@@ -7,27 +7,18 @@ ghost use Rattle.dd_boxes.specs.Counts.{question_clauses, most_clauses};
 ghost use Rattle.dd_boxes.specs.Views.{goal_of};
 ghost use Rattle.dd_derivation.specs.Derivations.{IsRefuting};
 ghost use Rattle.dd_problem.specs.Problems.{box_problem};
-ghost use Rattle.dd_certificate.specs.Bounds.{IsWritableRefutation, most_count};
+ghost use Rattle.dd_certificate.specs.Bounds.{IsWritableRefutation};
 ghost use Rattle.dd_checker.specs.Evidence.{IsYes};
 ghost use Rattle.dd_script.specs.Asking.{IsAskable};
 
 use dd_boxes::{Goal, least_radius};
 use dd_certificate::refutations_fit;
 use dd_clause::Cnf;
-use dd_derivation::{Marks, Step, check_refutation};
+use dd_derivation::{Marks, Step, check_refutation, last_number};
 use dd_formula::Rule;
 use dd_problem::box_clauses;
 use dd_values::Limits;
 use std::alloc::{AllocError, Global};
-
-/// The number of the last step, where the clauses have the numbers from 1 on and the steps those after them.
-fn last_number(cnf: &Cnf, steps: &[Step]) -> u64
-    ensures value { result ≡ length cnf.now.clauses + length steps.now }
-    ensures few { length cnf.now.clauses + length steps.now ≤ most_count }
-{
-    let clauses = cnf.clauses();
-    clauses.len() as u64 + steps.len() as u64
-}
 
 /// Whether the steps refute the clauses of the box of this radius.
 fn refutes(

@@ -1,5 +1,5 @@
 //! The questions that the search asks of boxes and of periods.
-ghost use Rattle.std.specs.Prelude.{◌≡◌, ◌↔◌, ◌+◌, ◌-◌, ◌^◌, ◌≤◌, true, length, IfOk, OnOk, IfSome};
+ghost use Rattle.std.specs.Prelude.{◌≡◌, ◌↔◌, ◌≤◌, true, IfOk, OnOk, IfSome};
 ghost use Rattle.dd_boxes.specs.Boxes.{Suffices};
 ghost use Rattle.dd_boxes.specs.Goals.{IsGoalFor};
 ghost use Rattle.dd_boxes.specs.Views.{goal_of};
@@ -13,7 +13,7 @@ use crate::decision::Decision;
 use crate::search::{Questions, search};
 use dd_boxes::{Goal, least_radius};
 use dd_clause::Cnf;
-use dd_derivation::{Outcome, Step};
+use dd_derivation::{Outcome, Step, last_number};
 use dd_engines::{Engine, Roster, kept_is_reflexive};
 use dd_formula::Rule;
 use dd_pattern::{Periodic, Periods};
@@ -21,15 +21,6 @@ use dd_problem::{box_clauses, read_torus, torus_clauses};
 use dd_solver::{solve, trimmed};
 use dd_values::{Items, Limits};
 use std::alloc::{AllocError, Global};
-
-/// The number of the last step, where the clauses have the numbers from 1 on and the steps those after them.
-fn last_number(cnf: &Cnf, steps: &[Step]) -> u64
-    ensures value { result ≡ length cnf.now.clauses + length steps.now }
-    ensures few { length cnf.now.clauses + length steps.now ≤ 2 ^ 64 - 1 }
-{
-    let clauses = cnf.clauses();
-    clauses.len() as u64 + steps.len() as u64
-}
 
 /// Of steps that refute the clauses, those that the refutation uses.
 fn evidence(alloc: Global, cnf: &Cnf, steps: Items<Step>) -> Result<Items<Step>, AllocError>

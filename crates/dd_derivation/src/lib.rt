@@ -8,5 +8,5 @@ mod step;
 
 pub use known::{Known, delete_named};
 pub use propagation::{FalseLiterals, Finding, find};
-pub use refutation::{Marks, check_refutation, check_step};
+pub use refutation::{Marks, check_refutation, check_step, last_number};
 pub use step::{Outcome, Step};

@@ -1,6 +1,6 @@
 //! The check of a refutation: each step is right, and the last one's clause is empty. It takes no memory: its room is
 //! made before, and may be used for any derivation of the same sizes.
-ghost use Rattle.std.specs.Prelude.{◌≡◌, ℕ, ◌+◌, ◌<◌, ◌≤◌, Bool, true, false, List, length, slice_index_or, IfOk};
+ghost use Rattle.std.specs.Prelude.{◌≡◌, ℕ, ◌+◌, ◌<◌, ◌≤◌, Bool, true, false, List, length, slice_index_or, IfOk, ◌-◌, ◌^◌};
 ghost use Rattle.dd_clause.specs.declared.clause.Literal.{Literal};
 ghost use Rattle.dd_clause.specs.Clauses.{Satisfies};
 ghost use Rattle.dd_derivation.specs.Derivations as spec;
@@ -44,6 +44,15 @@ impl Marks {
         let alive = vec![in alloc; true; cnf.clauses().len() + steps.len()]?;
         Ok(Marks { variables, alive })
     }
+}
+
+/// The number of the last step, where the clauses have the numbers from 1 on and the steps those after them.
+pub fn last_number(cnf: &Cnf, steps: &[Step]) -> u64
+    ensures value { result ≡ length cnf.now.clauses + length steps.now }
+    ensures few { length cnf.now.clauses + length steps.now ≤ 2 ^ 64 - 1 }
+{
+    let clauses = cnf.clauses();
+    clauses.len() as u64 + steps.len() as u64
 }
 
 fn clear(marks: &mut [VariableMark])
