@@ -8,7 +8,7 @@ use dd_certificate::{Answer, write_answer};
 use std::alloc::{AllocError, Global};
 
 /// The lines before the first answer: the script's bytes, with their number before them.
-fn header(alloc: Global, script: &[u8]) -> Result<Vec<u8>, AllocError>
+pub fn header(alloc: Global, script: &[u8]) -> Result<Vec<u8>, AllocError>
     ensures { IfOk result (λ text. text.items ≡ header script.now) }
 {
     let mut text = format!(in alloc; "diddy 1\nscript {}\n", script.len())?.into_bytes();

@@ -1,9 +1,8 @@
--- The header as it is written, one text after another.
-use Rattle.std.proofs.Common.{◌≡◌, ℕ, List, ◌++◌, length, append_assoc}
-use Rattle.std.specs.Prelude.{codes}
-use Rattle.std.specs.Fmt.{decimal}
+-- The lines before the first answer are those of an output.
+use Rattle.std.proofs.Common.{◌≡◌, ℕ, List}
+use Rattle.dd_output.specs.Outputs.{header as lines_before}
 use Rattle.dd_session.specs.Output.{header}
 
-pub header_is : (bytes : List ℕ) → (codes "diddy 1\nscript " ++ (decimal (length bytes) ++ codes "\n")) ++ bytes ++ codes "\n" ≡ header bytes
+pub header_is : (bytes text : List ℕ) → text ≡ lines_before bytes → text ≡ header bytes
 unfolding header
-header_is bytes = append_assoc (codes "diddy 1\nscript " ++ (decimal (length bytes) ++ codes "\n")) bytes (codes "\n")
+header_is bytes text is = is

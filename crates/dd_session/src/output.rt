@@ -1,20 +1,9 @@
 //! The texts that a run writes.
 ghost use Rattle.std.specs.Prelude.{◌≡◌, IfOk, string_bytes};
-ghost use Rattle.dd_session.specs.Output.{header, limit_text, IsLineOf};
+ghost use Rattle.dd_session.specs.Output.{limit_text, IsLineOf};
 
 use dd_script::{Limit, ScriptKind};
 use std::alloc::{AllocError, Global};
-
-/// The lines before the first answer.
-#[tactic(auto, using(crate::proofs::Headers::header_is))]
-pub(crate) fn header_text(alloc: Global, bytes: &[u8]) -> Result<Vec<u8>, AllocError>
-    ensures { IfOk result (λ text. text.items ≡ header bytes.now) }
-{
-    let mut text = format!(in alloc; "diddy 1\nscript {}\n", bytes.len())?.into_bytes();
-    text.extend_from_slice(bytes)?;
-    text.push(b'\n')?;
-    Ok(text)
-}
 
 fn limit_text(limit: Limit) -> &'static str
     ensures { result.now ≡ limit_text limit }

@@ -12,10 +12,10 @@ ghost use Rattle.dd_session.specs.Asking.{HeaderTaken};
 ghost use Rattle.dd_session.specs.writing.Forms.{text_in};
 ghost use Rattle.dd_session.specs.Written.{Answered, AnsweredFront, AnsweredToEnd, AnsweredShort, WholeOutput, CutShort};
 
-use crate::output::header_text;
 use dd_answer::answer;
 use dd_certificate::{Answer, answer_line, write_answer};
 use dd_engines::{Engine, Roster, first_asked_earlier, kept_is_reflexive, kept_is_transitive};
+use dd_output::header;
 use dd_outside::{Sink, write_whole};
 use dd_query::Query;
 use dd_script::Script;
@@ -165,7 +165,7 @@ pub(crate) fn run_script<K: Sink, E: Engine>(
 {
     // Law of a roster that is not asked.
     kept_is_reflexive();
-    let header = header_text(alloc, bytes)?;
+    let header = header(alloc, bytes)?;
     write_whole(sink, &header)?;
     answer_to_end(alloc, script, Form::Whole, sink, roster)
 }
