@@ -1,5 +1,5 @@
 -- Walks of a transfer graph are the walks of its strip.
-use Rattle.std.proofs.Common.{◌≡◌, ℕ, zero, suc, ◌+◌, ◌*◌, ◌%◌, ◌≤◌, ◌^◌, List, [], ◌∷◌, ◌++◌, length, get_or, Some, arith, refl, sym, ap, ◌∙◌, subst}
+use Rattle.std.proofs.Common.{◌≡◌, ℕ, zero, suc, ◌+◌, ◌*◌, ◌%◌, ◌≤◌, ◌^◌, List, [], ◌∷◌, length, get_or, Some, arith, refl, sym, ap, ◌∙◌, subst}
 use Rattle.std.specs.Prelude.{ℤ, pos, ◌-ℤ◌, ◌≤ℤ◌}
 use Rattle.std.proofs.lemmas.Nat.{mod_below}
 use Rattle.dd_formula.specs.LocalRule.{LocalRule}
@@ -11,7 +11,7 @@ use Rattle.dd_transfer.specs.Transfers.{IsGraphOf, slice_weight}
 use Rattle.dd_transfer.specs.Certificates.{IsWalk, IsClosedWalk, IsInLowestTerms, walk_weight, IsDensityCertificate, IsEmptyCertificate, AreStripPotentials as RisesAlong, potential_of}
 use Rattle.dd_meancycle.specs.Means.{IsPath, IsCycle, ArePotentials, weight_of}
 use Rattle.dd_density.specs.graphs.Shown.{IsShown, AreFallen}
-use Rattle.dd_density.proofs.Edges.{last_slice, weight_small, step}
+use Rattle.dd_meancycle.specs.lemmas.StepLaws.{last_slice, weight_small, step}
 
 -- a path ends in its last state
 pub path_end : (g : Transfer) (ws : List ℕ) (u v d k : ℕ) → k + 1 ≡ length ws → IsPath g u ws v → v ≡ get_or ws k d
@@ -19,15 +19,6 @@ path_end g [] u v d k e walk = absurd (omega arith)
 path_end g (w ∷ []) u v d zero e walk = sym walk.1
 path_end g (w ∷ x ∷ ws) u v d zero e walk = absurd (omega arith)
 path_end g (w ∷ ws) u v d (suc k) e walk = path_end g ws w v d k (omega arith) walk.1
-
--- one state more
-pub path_push : (g : Transfer) (ss : List ℕ) (u v s : ℕ) → IsPath g u ss v → next_of g v (s % g.slices) ≡ Some s → IsPath g u (ss ++ s ∷ []) s
-path_push g [] u v s walk h = (ap (λ (x : ℕ). next_of g x (s % g.slices)) walk ∙ h, refl)
-path_push g (x ∷ ss) u v s walk h = (walk.0, path_push g ss x v s walk.1 h)
-
-pub weight_push : (g : Transfer) (ss : List ℕ) (s : ℕ) → weight_of g (ss ++ s ∷ []) ≡ weight_of g ss + weight_at g (s % g.slices)
-weight_push g [] s = omega arith
-weight_push g (x ∷ ss) s = let rest = weight_push g ss s in omega (arith, rest)
 
 pub weight_most : (g : Transfer) (ws : List ℕ) → IsTransfer g → weight_of g ws ≤ 2 ^ 25 * length ws
 weight_most g [] well = omega arith

@@ -1,12 +1,12 @@
 -- A cycle and potentials that the exact check confirms.
-use Rattle.std.proofs.Common.{◌≡◌, ℕ, zero, suc, ◌+◌, ◌*◌, ◌%◌, ◌<◌, ◌≤◌, ◌^◌, ◌-ℤ◌, ◌≤ℤ◌, List, [], ◌∷◌, ◌++◌, length, take, get_or, Some, ℤ, pos, unsigned_abs, arith, refl, sym, ap, ◌∙◌, subst}
+use Rattle.std.proofs.Common.{◌≡◌, ℕ, ◌*◌, ◌<◌, ◌≤◌, ◌^◌, ◌-ℤ◌, ◌≤ℤ◌, List, length, take, get_or, ℤ, pos, unsigned_abs, arith, sym, ap, ◌∙◌, subst}
 use Rattle.std.specs.List.{All}
 use Rattle.std.proofs.lemmas.List.Elements.{All-contains}
 use Rattle.std.proofs.lemmas.List.{take_all}
-use Rattle.dd_transfer.specs.Graphs.{Transfer, IsTransfer, next_of, weight_at}
+use Rattle.dd_transfer.specs.Graphs.{Transfer, weight_at}
 use Rattle.dd_meancycle.specs.declared.edges.Edge.{Edge}
 use Rattle.dd_meancycle.specs.declared.rises.Ratio.{Ratio}
-use Rattle.dd_meancycle.specs.Means.{IsPath, IsCycle, IsLeastMeanCycle, IsAcyclic, ArePotentials, AreRanks, weight_of}
+use Rattle.dd_meancycle.specs.Means.{IsCycle, IsLeastMeanCycle, IsAcyclic, ArePotentials, AreRanks, weight_of}
 use Rattle.dd_transfer.specs.Certificates.{potential_of}
 use Rattle.dd_meancycle.specs.table.Lists.{AreEdges, IsRisen, IsFallen}
 use Rattle.dd_meancycle.specs.table.Rises.{IsReduced}
@@ -15,15 +15,6 @@ use Rattle.dd_meancycle.proofs.EdgeLaws.{edge_of, cycle_least, no_cycle}
 -- what holds of all items that were passed holds of all
 pub all_taken : {X : Type 0} (P : X → Type 0) (xs : List X) (i : ℕ) → length xs ≤ i → All P (take i xs) → All P xs
 all_taken P xs i le all = subst (All P) (take_all i xs le) all
-
--- one state more
-pub path_push : (g : Transfer) (ss : List ℕ) (u v s : ℕ) → IsPath g u ss v → next_of g v (s % g.slices) ≡ Some s → IsPath g u (ss ++ s ∷ []) s
-path_push g [] u v s walk h = (ap (λ (x : ℕ). next_of g x (s % g.slices)) walk ∙ h, refl)
-path_push g (x ∷ ss) u v s walk h = (walk.0, path_push g ss x v s walk.1 h)
-
-pub weight_push : (g : Transfer) (ss : List ℕ) (s : ℕ) → weight_of g (ss ++ s ∷ []) ≡ weight_of g ss + weight_at g (s % g.slices)
-weight_push g [] s = omega arith
-weight_push g (x ∷ ss) s = let rest = weight_push g ss s in omega (arith, rest)
 
 pub confirmed_is : (g : Transfer) (edges : List Edge) (cycle : List ℕ) (ps : List ℤ) (whole mean : Ratio) → AreEdges g edges → IsCycle g cycle → whole.weight ≡ weight_of g cycle → whole.length ≡ length cycle →
     length cycle ≤ g.states → IsReduced whole mean → length ps ≡ g.states → All (λ p. unsigned_abs p ≤ 2 ^ 40) ps → IsRisen mean.weight mean.length ps edges → IsLeastMeanCycle g mean.weight mean.length cycle ps

@@ -1,16 +1,15 @@
 -- The edges of a graph as a list, and cycles of states.
-use Rattle.std.proofs.Common.{◌≡◌, ℕ, zero, suc, ◌+◌, ◌-◌, ◌*◌, ◌/◌, ◌%◌, ◌<◌, ◌≤◌, ◌^◌, Bool, true, false, cond, List, [], ◌∷◌, ◌++◌, map, length, get_or, Option, Some, None, arith, refl, sym, ap, ◌∙◌, subst, inl, inr}
-use Rattle.std.specs.Prelude.{◌⊎◌, ◌&&◌, nat_lt, slice_index_or, ℤ, pos, ◌-ℤ◌, ◌≤ℤ◌, unsigned_abs}
+use Rattle.std.proofs.Common.{◌≡◌, ℕ, zero, suc, ◌+◌, ◌-◌, ◌*◌, ◌/◌, ◌%◌, ◌<◌, ◌≤◌, ◌^◌, List, [], ◌∷◌, ◌++◌, map, length, get_or, Option, Some, None, arith, refl, sym, ap, ◌∙◌, subst, inl, inr}
+use Rattle.std.specs.Prelude.{ℤ, pos, ◌-ℤ◌, ◌≤ℤ◌, unsigned_abs}
 use Rattle.std.specs.Option.{option_map, option_to_list}
 use Rattle.std.specs.List.{Contains, All}
-use Rattle.std.proofs.lemmas.Bool.{cases_lt, cases_Bool}
-use Rattle.std.proofs.lemmas.Bool.Decides.{nat_tests}
+use Rattle.std.proofs.lemmas.Bool.{cases_lt}
 use Rattle.std.proofs.lemmas.Int.{ints}
 use Rattle.std.proofs.lemmas.List.{length-map, get_or_default}
 use Rattle.std.proofs.lemmas.List.Elements.{Contains-get_or, Contains-append_left, Contains-append_cases, Contains-push, All-contains}
-use Rattle.std.proofs.lemmas.Nat.{div-add-mod', mul-add-lt, div-mul-add, mod-mul-add, div_below, mod_below}
-use Rattle.std.proofs.Math.Nat.{le_of_mul-le-mul_right, mul-le-mul_left, mul-le-mul_right}
-use Rattle.dd_transfer.specs.Graphs.{Transfer, IsTransfer, target, next_of, window_of, weight_at}
+use Rattle.std.proofs.lemmas.Nat.{mul-add-lt, div-mul-add, mod-mul-add}
+use Rattle.std.proofs.Math.Nat.{le_of_mul-le-mul_right, mul-le-mul_right}
+use Rattle.dd_transfer.specs.Graphs.{Transfer, IsTransfer, next_of, weight_at}
 use Rattle.dd_meancycle.specs.declared.edges.Edge.{Edge}
 use Rattle.dd_meancycle.specs.declared.table.EdgeMean.{EdgeMean}
 use Rattle.dd_meancycle.specs.declared.table.EdgeMean.TheVariants as edge_mean
@@ -22,6 +21,7 @@ use Rattle.dd_meancycle.specs.table.Levels.{IsEdgeOf}
 use Rattle.dd_meancycle.specs.table.Walks.{IsWalk, AreAmong, edges_weight as edges_weight, natural_potential as natural}
 use Rattle.dd_meancycle.specs.table.Lists.{edge_at, AreEdgesTo, AreEdges, IsInStates}
 use Rattle.dd_meancycle.specs.table.LeastMean.{IsMean, IsLeastMean, IsSmallMean}
+use Rattle.dd_meancycle.specs.lemmas.StepLaws.{step, last_slice, below_states, weight_small}
 
 -- one number more
 pub edges_more : (g : Transfer) (n : ℕ) (edges : List Edge) (o : Option Edge) → AreEdgesTo g n edges → o ≡ edge_at g n → AreEdgesTo g (n + 1) (edges ++ option_to_list o)
@@ -56,51 +56,6 @@ edges_more g n edges (Some x) so_far is = record {
     only : (x e : Edge) → Contains (x ∷ []) e → x ≡ e
     only x e c = only_at x e c.0 c.1 c.2
 
--- what an edge of the graph is
-pub record Step (g : Transfer) (u t v : ℕ) : Type 0 where
-  pub state : u < g.states
-  pub slice : t < g.slices
-  pub leads : v ≡ window_of g u t % g.states
-
-led : (open_ : Bool) (x v : ℕ) → cond open_ (Some x) None ≡ Some v → v ≡ x
-led true x v h = cc
-led false x v h = absurd (cc)
-
-step_at : (g : Transfer) (u t v : ℕ) (p q : Bool) → nat_lt u g.states ≡ p → nat_lt t g.slices ≡ q → cond (p && q) (target g (window_of g u t)) None ≡ Some v → Step g u t v
-step_at g u t v true true p q h = record {
-  state = grind (arith, nat_tests);
-  slice = grind (arith, nat_tests);
-  leads = led (slice_index_or g.windows (window_of g u t) false) (window_of g u t % g.states) v h;
-}
-step_at g u t v true false p q h = absurd (cc)
-step_at g u t v false true p q h = absurd (cc)
-step_at g u t v false false p q h = absurd (cc)
-
-pub step : (g : Transfer) (u t v : ℕ) → next_of g u t ≡ Some v → Step g u t v
-step g u t v h = step_at g u t v (nat_lt u g.states) (nat_lt t g.slices) refl refl h
-
--- a state's last slice is its number modulo the slices
-mod_of_multiple : (x s n : ℕ) → 0 < s → 0 < n → n % s ≡ 0 → x % n % s ≡ x % s
-mod_of_multiple x s n some more h =
-    let q = x / n in
-    let k = n / s in
-    let split : x ≡ q * n + x % n = omega arith in
-    let whole : n ≡ k * s = omega arith in
-    let r = x % n % s in
-    let j = x % n / s in
-    let inner : x % n ≡ j * s + r = omega arith in
-    let all : x ≡ (q * k + j) * s + r = (let p : q * n ≡ q * (k * s) = ap (λ (z : ℕ). q * z) whole in omega arith) in
-    let small : r < s = mod_below (x % n) s some in
-    sym (ap (λ (z : ℕ). z % s) all ∙ mod-mul-add (q * k + j) s r small)
-
-pub last_slice : (g : Transfer) (u t v : ℕ) → IsTransfer g → next_of g u t ≡ Some v → v % g.slices ≡ t
-last_slice g u t v well h =
-    let s = step g u t v h in
-    ap (λ (x : ℕ). x % g.slices) s.leads ∙ (mod_of_multiple (window_of g u t) g.slices g.states well.some_slice well.some_state well.divides ∙ mod-mul-add u g.slices t s.slice)
-
-pub below_states : (g : Transfer) (u t v : ℕ) → IsTransfer g → next_of g u t ≡ Some v → v < g.states
-below_states g u t v well h = rw (step g u t v h).leads (mod_below (window_of g u t) g.states well.some_state)
-
 pub record EdgeParts (g : Transfer) (number : ℕ) (e : Edge) : Type 0 where
   pub next_is : next_of g (number / g.slices) (number % g.slices) ≡ Some e.to
   pub from_is : e.from ≡ number / g.slices
@@ -118,12 +73,6 @@ parts_at g number e (Some v) t h =
 
 pub edge_parts : (g : Transfer) (number : ℕ) (e : Edge) → edge_at g number ≡ Some e → EdgeParts g number e
 edge_parts g number e h = parts_at g number e (next_of g (number / g.slices) (number % g.slices)) refl h
-
--- a slice weighs less than 2^25
-pub weight_small : (g : Transfer) (t : ℕ) → IsTransfer g → t < g.slices → weight_at g t ≤ 2 ^ 25
-weight_small g t well lt =
-    let once : 1 * weight_at g t ≤ g.states * weight_at g t = mul-le-mul_right (weight_at g t) well.some_state in
-    omega (arith, once, well.light t lt)
 
 -- an edge of the list is one of the graph, by the last slice of the state to which it leads
 pub record Edged (g : Transfer) (e : Edge) : Type 0 where

@@ -2,8 +2,7 @@ use Rattle.std.proofs.Common.{◌≡◌, ◌≤◌, ◌<◌, ◌+◌, ◌*◌, �
 use Rattle.std.proofs.lemmas.List.{take_more}
 use Rattle.dd_transfer.specs.Graphs.{next_of, weight_at}
 use Rattle.dd_meancycle.specs.Means.{IsPath, weight_of}
-use Rattle.dd_meancycle.proofs.EdgeLaws.{weight_small, step}
-use Rattle.dd_meancycle.proofs.Confirmed.{path_push, weight_push}
+use Rattle.dd_meancycle.specs.lemmas.StepLaws.{weight_small, step, path_push, weight_push}
 use Rattle.dd_meancycle.proofs.confirming.cycle_weight.Goals as goal
 
 pub loop-state-preserved : goal.loop-state-preserved

@@ -1,12 +1,13 @@
--- The edges of a transfer graph.
-use Rattle.std.proofs.Common.{◌≡◌, ℕ, ◌+◌, ◌*◌, ◌/◌, ◌%◌, ◌<◌, ◌≤◌, ◌^◌, Bool, true, false, cond, Some, None, arith, refl, sym, ap, ◌∙◌}
+-- What a step of a transfer graph is, and what one step more adds to a path.
+use Rattle.std.proofs.Common.{◌≡◌, ℕ, ◌+◌, ◌*◌, ◌/◌, ◌%◌, ◌<◌, ◌≤◌, ◌^◌, Bool, true, false, cond, List, [], ◌∷◌, ◌++◌, Some, None, arith, refl, sym, ap, ◌∙◌}
 use Rattle.std.specs.Prelude.{◌&&◌, nat_lt, slice_index_or}
 use Rattle.std.proofs.lemmas.Bool.Decides.{nat_tests}
 use Rattle.std.proofs.lemmas.Nat.{mod-mul-add, mod_below}
 use Rattle.std.proofs.Math.Nat.{mul-le-mul_right}
 use Rattle.dd_transfer.specs.Graphs.{Transfer, IsTransfer, target, next_of, window_of, weight_at}
+use Rattle.dd_meancycle.specs.Means.{IsPath, weight_of}
 
--- what an edge of a graph is
+-- what an edge of the graph is
 pub record Step (g : Transfer) (u t v : ℕ) : Type 0 where
   pub state : u < g.states
   pub slice : t < g.slices
@@ -48,8 +49,20 @@ last_slice g u t v well h =
     let s = step g u t v h in
     ap (λ (x : ℕ). x % g.slices) s.leads ∙ (mod_of_multiple (window_of g u t) g.slices g.states well.some_slice well.some_state well.divides ∙ mod-mul-add u g.slices t s.slice)
 
+pub below_states : (g : Transfer) (u t v : ℕ) → IsTransfer g → next_of g u t ≡ Some v → v < g.states
+below_states g u t v well h = rw (step g u t v h).leads (mod_below (window_of g u t) g.states well.some_state)
+
 -- a slice weighs at most 2^25
 pub weight_small : (g : Transfer) (t : ℕ) → IsTransfer g → t < g.slices → weight_at g t ≤ 2 ^ 25
 weight_small g t well lt =
     let once : 1 * weight_at g t ≤ g.states * weight_at g t = mul-le-mul_right (weight_at g t) well.some_state in
     omega (arith, once, well.light t lt)
+
+-- one state more
+pub path_push : (g : Transfer) (ss : List ℕ) (u v s : ℕ) → IsPath g u ss v → next_of g v (s % g.slices) ≡ Some s → IsPath g u (ss ++ s ∷ []) s
+path_push g [] u v s walk h = (ap (λ (x : ℕ). next_of g x (s % g.slices)) walk ∙ h, refl)
+path_push g (x ∷ ss) u v s walk h = (walk.0, path_push g ss x v s walk.1 h)
+
+pub weight_push : (g : Transfer) (ss : List ℕ) (s : ℕ) → weight_of g (ss ++ s ∷ []) ≡ weight_of g ss + weight_at g (s % g.slices)
+weight_push g [] s = omega arith
+weight_push g (x ∷ ss) s = let rest = weight_push g ss s in omega (arith, rest)
