@@ -92,10 +92,6 @@ positive_part : (g q l : ℕ) → g * q ≡ l → 0 < l → 0 < q
 positive_part g zero l e pos = absurd (omega (arith, e))
 positive_part g (suc q) l e pos = omega arith
 
-pub gcd_positive : (a b g : ℕ) → IsGcd a b g → 0 < b → 0 < g
-gcd_positive a b zero is some = absurd (let e : b ≡ 0 = dvd_antisymm (dvd-zero b) is.1 in omega arith)
-gcd_positive a b (suc g) is some = omega arith
-
 -- the quotients by the greatest common divisor
 pub quotients_lowest : (a b g : ℕ) → IsGcd a b g → 0 < b → 0 < g → IsInLowestTerms (a / g) (b / g) a b
 quotients_lowest a b g is some g_pos =

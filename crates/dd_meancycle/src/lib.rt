@@ -2,6 +2,7 @@
 #![tactic(auto)]
 
 mod confirming;
+mod divisor;
 mod edges;
 mod least;
 mod levels;
@@ -11,4 +12,5 @@ mod seeking;
 mod table;
 mod turning;
 
+pub use divisor::gcd;
 pub use least::{Mean, least_mean};
