@@ -3,3 +3,4 @@ pub mod CutLaws
 pub mod FromBox
 pub mod ReachLaws
 pub mod OneBoxLaws
+pub mod SizeLaws

@@ -1,74 +1,11 @@
--- What the search asks is small where the largest of the question's limits is.
-use Rattle.std.proofs.Common.{◌≡◌, ℕ, zero, suc, ◌+◌, ◌*◌, ◌^◌, ◌≤◌, ap, ◌∙◌, arith, pos}
-use Rattle.std.specs.Prelude.{◌-ℤ◌}
-use Rattle.std.proofs.Math.Nat.{pow-zero, pow-suc}
-use Rattle.std.proofs.lemmas.Int.{ints}
+-- No torus within a question's periods has more positions than its largest region.
+use Rattle.std.proofs.Common.{◌≡◌, ℕ, zero, suc, ◌*◌, ◌^◌, ◌≤◌, arith}
 use Rattle.std.proofs.lemmas.Nat.{mul-le}
-use Rattle.dd_lattice.specs.Boxes.{span, centred, volume}
 use Rattle.dd_pattern.specs.declared.periods.Periods.{Periods}
 use Rattle.dd_pattern.specs.Periods.{AreWithin, periods_volume as tile_volume}
-use Rattle.dd_formula.specs.LocalRule.{LocalRule}
-use Rattle.dd_formula.specs.Counts.{place_clauses, largest_region, largest_clauses}
-use Rattle.dd_boxes.specs.Goals.{GoalOf}
-use Rattle.dd_boxes.specs.Counts.{goal_clauses, question_clauses, most_clauses}
+use Rattle.dd_formula.specs.Counts.{largest_region}
+use Rattle.dd_boxes.specs.lemmas.SizeLaws.{first_power, second_power, third_power}
 
--- more positions take more clauses
-sum_up : (n m each rest : ℕ) → n ≤ m → n * each + rest ≤ m * each + rest
-sum_up n m each rest le = let most : n * each ≤ m * each = mul-le n each m each le (omega arith) in omega (arith, most)
-
-clauses_up : (x : LocalRule) (g : GoalOf) (n m : ℕ) → n ≤ m → question_clauses x g n ≤ question_clauses x g m
-clauses_up x g n m le = sum_up n m (place_clauses x) (goal_clauses g) le
-
-at_most : (a b : ℕ) → a ≤ b → b ≤ most_clauses → a ≤ most_clauses
-at_most a b h k = omega (arith, h, k)
-
-pub fewer : (x : LocalRule) (g : GoalOf) (radius period n : ℕ) → n ≤ largest_region x.dimension radius period →
-    largest_clauses x (goal_clauses g) radius period ≤ most_clauses → question_clauses x g n ≤ most_clauses
-fewer x g radius period n le few =
-    at_most (question_clauses x g n) (question_clauses x g (largest_region x.dimension radius period)) (clauses_up x g n (largest_region x.dimension radius period) le) few
-
--- ---- the positions of boxes and of tori as powers
-
-first_power : (b : ℕ) → b ^ 1 ≡ b
-first_power b = let none = pow-zero b in let one : b ^ 1 ≡ b ^ 0 * b = pow-suc b 0 in one ∙ (ap (λ m. m * b) none ∙ (omega arith))
-
-second_power : (b : ℕ) → b ^ 2 ≡ b * b
-second_power b = let two : b ^ 2 ≡ b ^ 1 * b = pow-suc b 1 in two ∙ ap (λ m. m * b) (first_power b)
-
-third_power : (b : ℕ) → b ^ 3 ≡ b * b * b
-third_power b = let three : b ^ 3 ≡ b ^ 2 * b = pow-suc b 2 in three ∙ ap (λ m. m * b) (second_power b)
-
-side_is : (n : ℕ) → span (pos 0 -ℤ pos n) (pos n) ≡ 2 * n + 1
-side_is n = omega (arith, ints)
-
-box_positions : (d n : ℕ) → 1 ≤ d → d ≤ 3 → volume (centred d n) ≡ (2 * n + 1) ^ d
-box_positions zero n low high = absurd (omega arith)
-box_positions (suc zero) n low high = let side = side_is n in rw (first_power (2 * n + 1), side) (omega arith)
-box_positions (suc (suc zero)) n low high = let side = side_is n in rw (second_power (2 * n + 1), side) (omega arith)
-box_positions (suc (suc (suc zero))) n low high = let side = side_is n in rw (third_power (2 * n + 1), side) (omega arith)
-box_positions (suc (suc (suc (suc d)))) n low high = absurd (omega arith)
-
--- a larger box has more positions
-squares_up : (a b : ℕ) → a ≤ b → a * a ≤ b * b
-squares_up a b le = mul-le a a b b le le
-
-cubes_up : (a b : ℕ) → a ≤ b → a * a * a ≤ b * b * b
-cubes_up a b le = mul-le (a * a) a (b * b) b (squares_up a b le) le
-
-powers_up : (d a b : ℕ) → 1 ≤ d → d ≤ 3 → a ≤ b → a ^ d ≤ b ^ d
-powers_up zero a b low high le = absurd (omega arith)
-powers_up (suc zero) a b low high le = rw (first_power a, first_power b) le
-powers_up (suc (suc zero)) a b low high le = rw (second_power a, second_power b) (squares_up a b le)
-powers_up (suc (suc (suc zero))) a b low high le = rw (third_power a, third_power b) (cubes_up a b le)
-powers_up (suc (suc (suc (suc d)))) a b low high le = absurd (omega arith)
-
-pub box_up : (d n m p : ℕ) → 1 ≤ d → d ≤ 3 → n ≤ m → volume (centred d n) ≤ largest_region d m p
-box_up d n m p low high le =
-    let is = box_positions d n low high in
-    let up = powers_up d (2 * n + 1) (2 * m + 1) low high (omega (arith, le)) in
-    omega (arith, is, up)
-
--- and no torus of the periods has more than the largest
 line_up : (x y z p : ℕ) → x ≤ p → y ≡ 1 → z ≡ 1 → z * y * x ≤ p
 line_up x y z p on_x on_y on_z = rw (on_y, on_z) (omega (arith, on_x))
 

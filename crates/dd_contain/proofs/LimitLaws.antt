@@ -24,7 +24,8 @@ use Rattle.dd_contain.specs.declared.decision.Decision.TheVariants.{Yes, No, Unk
 use Rattle.dd_contain.specs.Decided.{IsDecidedBy}
 use Rattle.dd_contain.specs.searching.Listed.{AsksRadii, AsksWithin}
 use Rattle.dd_contain.specs.Questions.{AsksRadius, AsksPeriods, RefutesByNumbers, ShowsAt, Displays, IsSmallQuestion, IsDecided, HasNumbers}
-use Rattle.dd_contain.proofs.CountLaws.{fewer, box_up, torus_up}
+use Rattle.dd_boxes.specs.lemmas.SizeLaws.{fewer, box_up}
+use Rattle.dd_contain.proofs.CountLaws.{torus_up}
 
 -- a rule reads nothing further than 16 away, so the least radius is at most 16
 reads_near : (y : LocalRule) (a : ℕ) → IsRule y → a < y.nodes → list_all (λ c. is_of y c && is_near c) (reads_at y a) ≡ true

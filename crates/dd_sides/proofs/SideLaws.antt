@@ -3,25 +3,16 @@ use Rattle.std.proofs.Common.{◌≡◌, ℕ, zero, suc, ◌-◌, ◌*◌, ◌^�
 use Rattle.std.specs.Prelude.{ℤ, pos, unsigned_abs, ◌||◌, nat_lt}
 use Rattle.std.specs.Ordering.{int_eq}
 use Rattle.std.proofs.lemmas.Bool.{and_parts, lt-ltb}
-use Rattle.std.proofs.Math.Nat.{pow-zero, pow-suc}
 use Rattle.std.proofs.lemmas.Bool.Decides.{Decides-int_eq}
 use Rattle.dd_lattice.specs.Place.{Place}
 use Rattle.dd_lattice.specs.Boxes.{is_active}
+use Rattle.dd_boxes.specs.lemmas.SizeLaws.{first_power, second_power, third_power}
 use Rattle.dd_expansion.specs.Placed.{is_flat}
 use Rattle.dd_sides.specs.Sums.{box_sum, size_volume, from_outside}
 use Rattle.dd_sides.specs.Sides.{side_length, side}
 use Rattle.dd_sides.specs.Boundaries.{left_on, inner_count, outer_count}
 use Rattle.dd_sides.specs.lemmas.BoxLaws.{kept}
 use Rattle.dd_sides.proofs.CountLaws.{outside_count}
-
-first_power : (b : ℕ) → b ^ 1 ≡ b
-first_power b = let none = pow-zero b in let one : b ^ 1 ≡ b ^ 0 * b = pow-suc b 0 in one ∙ (ap (λ m. m * b) none ∙ (omega arith))
-
-second_power : (b : ℕ) → b ^ 2 ≡ b * b
-second_power b = let two : b ^ 2 ≡ b ^ 1 * b = pow-suc b 1 in two ∙ ap (λ m. m * b) (first_power b)
-
-third_power : (b : ℕ) → b ^ 3 ≡ b * b * b
-third_power b = let three : b ^ 3 ≡ b ^ 2 * b = pow-suc b 2 in three ∙ ap (λ m. m * b) (second_power b)
 
 -- a box has three, two or one of its axes active
 pub side_volume : (d n : ℕ) → 1 ≤ d → d ≤ 3 → size_volume (side d n) ≡ n ^ d
