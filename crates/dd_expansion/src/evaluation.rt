@@ -21,10 +21,10 @@ impl Expanded {
                 let there = symbol_near(cell, at, read)?;
                 Some(there == *symbol)
             }
-            Expanded::Not(inner) => match inner.get().evaluate(at, read) {
-                Some(value) => Some(!value),
-                None => None,
-            },
+            Expanded::Not(inner) => {
+                let value = inner.get().evaluate(at, read)?;
+                Some(!value)
+            }
             Expanded::And(parts) => evaluate_and(parts.as_slice(), at, read),
             Expanded::Or(parts) => evaluate_or(parts.as_slice(), at, read),
             Expanded::Iff(left, right) => {

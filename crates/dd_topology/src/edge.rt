@@ -17,13 +17,11 @@ pub struct Edge {
 pub(crate) fn end_of(cell: &Cell, edge: &Edge) -> Option<Cell>
     ensures { result ≡ in_range (end_of cell.now edge.now) }
 {
-    match shift(&cell.position, &edge.offset) {
-        Some(position) => Some(Cell {
-            position,
-            node: edge.to,
-        }),
-        None => None,
-    }
+    let position = shift(&cell.position, &edge.offset)?;
+    Some(Cell {
+        position,
+        node: edge.to,
+    })
 }
 
 /// The cell from which an edge leads to a cell, or `None` where a coordinate passes 2^20.
@@ -31,13 +29,11 @@ pub(crate) fn start_of(cell: &Cell, edge: &Edge) -> Option<Cell>
     ensures { result ≡ in_range (start_of cell.now edge.now) }
 {
     let back = reversed(&edge.offset);
-    match shift(&cell.position, &back) {
-        Some(position) => Some(Cell {
-            position,
-            node: edge.from,
-        }),
-        None => None,
-    }
+    let position = shift(&cell.position, &back)?;
+    Some(Cell {
+        position,
+        node: edge.from,
+    })
 }
 
 /// The way back: the position on the other side of the origin.
