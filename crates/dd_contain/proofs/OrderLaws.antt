@@ -27,8 +27,6 @@ never_itself p before = let tied = tied_itself periods_total p in absurd (cc (ti
 never_back : (p q : Periods) → IsBefore p q → IsBefore q p → ⊥
 never_back p q one other = never_itself p (periods_total.trans p q p one other)
 
-]
-
 -- an item of the list
 listed : (ps : List Periods) (q : Periods) → Contains ps q → (k : ℕ) × (k < length ps) × (slice_get ps k ≡ Some q)
 listed ps q there = (there.0, there.1, slice_get_read ps (length ps) there.0 q refl there.1 (sym there.2))

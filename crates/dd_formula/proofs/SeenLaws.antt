@@ -133,10 +133,6 @@ module _ (f : Automaton) (s : CommonNumbers) (formed : IsAutomaton s f) (look : 
       (λ d e. ap (λ x. are_equal (filling_look near x) (look (shifted c.position d))) (shifted_by_none d) ∙ equal_seen (filling_look near d) (look (shifted c.position d)) (is_in_range (moved d.position c.position)) e)
       ((counted f).reads c.node) reads_seen)
 
-}
-
-}
-
 some_map : (h : Cell → ℕ) (cs : List Cell) → map Some (map h cs) ≡ map (λ d. Some (h d)) cs
 some_map h [] = refl
 some_map h (c ∷ cs) = ap (λ xs. Some (h c) ∷ xs) (some_map h cs)

@@ -1,7 +1,10 @@
 -- A cycle and potentials that the exact check confirms.
-use Rattle.std.proofs.Common.{◌≡◌, ℕ, ◌*◌, ◌<◌, ◌≤◌, ◌^◌, ◌-ℤ◌, ◌≤ℤ◌, List, length, take, get_or, ℤ, pos, unsigned_abs, arith, sym, ap, ◌∙◌, subst}
-use Rattle.std.specs.List.{All}
-use Rattle.std.proofs.lemmas.List.Elements.{All-contains}
+use Rattle.std.proofs.Common.{◌≡◌, ℕ, ◌*◌, ◌<◌, ◌≤◌, ◌^◌, ◌-ℤ◌, ◌≤ℤ◌, List, length, take, get_or, true, ℤ, pos, unsigned_abs, arith, sym, ap, ◌∙◌, subst}
+use Rattle.std.specs.Prelude.{nat_le}
+use Rattle.std.specs.List.{All, list_all}
+use Rattle.std.proofs.lemmas.Bool.{leb-true}
+use Rattle.std.proofs.lemmas.List.Sums.{AllPass-from_list_all}
+use Rattle.std.proofs.lemmas.List.Elements.{All-contains, All-weaker}
 use Rattle.std.proofs.lemmas.List.{take_all}
 use Rattle.dd_transfer.specs.Graphs.{Transfer, weight_at}
 use Rattle.dd_meancycle.specs.declared.edges.Edge.{Edge}
@@ -15,6 +18,12 @@ use Rattle.dd_meancycle.proofs.EdgeLaws.{edge_of, cycle_least, no_cycle}
 -- what holds of all items that were passed holds of all
 pub all_taken : {X : Type 0} (P : X → Type 0) (xs : List X) (i : ℕ) → length xs ≤ i → All P (take i xs) → All P xs
 all_taken P xs i le all = subst (All P) (take_all i xs le) all
+
+-- potentials that are found to be small
+pub all_bounded : (ps : List ℤ) → list_all (λ p. nat_le (unsigned_abs p) (2 ^ 40)) ps ≡ true → All (λ p. unsigned_abs p ≤ 2 ^ 40) ps
+all_bounded ps h =
+    All-weaker (λ p. nat_le (unsigned_abs p) (2 ^ 40) ≡ true) (λ p. unsigned_abs p ≤ 2 ^ 40) (λ p le. leb-true (unsigned_abs p) (2 ^ 40) le) ps
+    (AllPass-from_list_all (λ p. nat_le (unsigned_abs p) (2 ^ 40)) ps h)
 
 pub confirmed_is : (g : Transfer) (edges : List Edge) (cycle : List ℕ) (ps : List ℤ) (whole mean : Ratio) → AreEdges g edges → IsCycle g cycle → whole.weight ≡ weight_of g cycle → whole.length ≡ length cycle →
     length cycle ≤ g.states → IsReduced whole mean → length ps ≡ g.states → All (λ p. unsigned_abs p ≤ 2 ^ 40) ps → IsRisen mean.weight mean.length ps edges → IsLeastMeanCycle g mean.weight mean.length cycle ps

@@ -1,7 +1,7 @@
 //! The exact check of a cycle and potentials, which show a graph's least mean, or of ranks, which show that it has no cycle; or
 //! they are turned down.
-ghost use Rattle.std.specs.Prelude.{◌≡◌, ℕ, ◌*◌, ◌%◌, ◌<◌, ◌≤◌, ◌^◌, ◌↔◌, IsTrue, IfSome, length, slice_index, pos, ◌-ℤ◌, ◌≤ℤ◌, unsigned_abs, Some};
-ghost use Rattle.std.specs.List.{All};
+ghost use Rattle.std.specs.Prelude.{◌≡◌, ℕ, ◌*◌, ◌%◌, ◌<◌, ◌≤◌, ◌^◌, ◌↔◌, IsTrue, IfSome, length, slice_index, pos, ◌-ℤ◌, ◌≤ℤ◌, unsigned_abs, nat_le, Some};
+ghost use Rattle.std.specs.List.{All, list_all};
 ghost use Rattle.dd_transfer.specs.Graphs.{next_of, IsTransfer};
 ghost use Rattle.dd_meancycle.specs.Means.{IsCycle, IsLeastMeanCycle, IsAcyclic, weight_of};
 ghost use Rattle.dd_transfer.specs.Certificates.{potential_of};
@@ -51,10 +51,7 @@ fn is_rise(from: i64, to: i64, l: u64, weight: u32, m: u64) -> bool
     let product = l as u128 * weight as u128;
     let most = product as i128 - m as i128;
     let rise = to as i128 - from as i128;
-    if rise > most {
-        return false;
-    }
-    true
+    rise <= most
 }
 
 /// Whether the potential rises so along an edge.
@@ -81,21 +78,16 @@ fn are_risen(edges: &[Edge], potentials: &[i64], mean: Ratio) -> bool
 }
 
 fn is_bounded(potential: &i64) -> bool
-    ensures { IsTrue result → unsigned_abs potential.now ≤ 2 ^ 40 }
+    ensures { result ≡ nat_le (unsigned_abs potential.now) (2 ^ 40) }
 {
     potential.unsigned_abs() <= MOST_POTENTIAL
 }
 
 /// Whether each potential is at most 2^40 in absolute value.
 fn are_bounded(potentials: &[i64]) -> bool
-    ensures { IsTrue result → All (λ p. unsigned_abs p ≤ 2 ^ 40) potentials.now }
+    ensures { result ≡ list_all (λ p. nat_le (unsigned_abs p) (2 ^ 40)) potentials.now }
 {
-    for potential in potentials {
-        if !is_bounded(potential) {
-            return false;
-        }
-    }
-    true
+    potentials.iter().all(|potential| is_bounded(potential))
 }
 
 /// The mean of a cycle in lowest terms, where the cycle and the potentials show that it is the graph's least one.

@@ -17,8 +17,6 @@ pub record Parting (xs ys : List Signal) (i : ℕ) (start now : Network) (signal
   pub signals_left : fresh (size start) (length (apart xs ys)) ≡ signals ++ fresh (size now) (length (apart (drop i xs) (drop i ys)))
   pub count : size now ≡ size start + i
 
-}
-
 two_in : (m : ℕ) (a b : Signal) → IsSignal m a → IsSignal m b → All (IsSignal m) (a ∷ b ∷ [])
 two_in m a b p q = λ k d h. at k d h
   where

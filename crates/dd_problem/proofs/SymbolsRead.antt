@@ -46,8 +46,6 @@ none_read set m k one none =
     let no = none s one.1.0 in
     cc
 
-]
-
 pub one_each_there : (values found : List Bool) (m symbols n count : ℕ) → values ≡ found → m ≡ symbols → n ≡ count → HasOneEach (true_variables found) symbols count →
     HasOneEach (true_variables values) m n
 one_each_there values found m symbols n count same_values same_symbols same_count h =

@@ -107,7 +107,5 @@ judged_over sink o s answers false status writable spelled same judged is =
 pub few_answers : (o : Output) (answers : List Answer) → IsWritableOutput o → answers ≡ o.answers → length answers ≤ 1000
 few_answers o answers writable is = rw is writable.1
 
-}
-
 pub same_over : {K : Type 0} (sink : Told K) (bytes other : List ℕ) (status : Status) → bytes ≡ other → CheckedOver sink other status → CheckedOver sink bytes status
 same_over sink bytes other status is over = subst (λ (l : List ℕ). CheckedOver sink l status) (sym is) over

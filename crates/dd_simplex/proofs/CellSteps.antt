@@ -108,5 +108,3 @@ pub solved_size : (v e : ℕ) (l : Line) (n : ℕ) → length l.cells ≡ n → 
 solved_size v e l n h =
     let k = inverse (fraction_at l.cells e) in
     length-map (slice_set l.cells e one_of) (λ (a : Exact). times a k) ∙ (length-set l.cells e one_of ∙ h)
-
-)

@@ -41,8 +41,6 @@ pub record Choosing (rules : List Signal) (i : ℕ) (start now : Network) (chose
   pub before_is : before ≡ map opposite (take i rules)
   pub in_range : All (IsSignal (size start)) before
 
-}
-
 pub choosing_step : (rules : List Signal) (i : ℕ) (start now new : Network) (chosen before members more after : List Signal) (l s : Signal) → Choosing rules i start now chosen before →
     All (IsSignal (size start)) rules → i < length rules → l ≡ get_or rules i l → members ≡ l ∷ before → new.inputs ≡ now.inputs → new.gates ≡ now.gates ++ And members ∷ [] → s ≡ signal_of (size new) →
     more ≡ chosen ++ s ∷ [] → after ≡ before ++ opposite l ∷ [] → Choosing rules (i + 1) start new more after

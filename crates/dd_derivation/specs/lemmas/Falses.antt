@@ -186,8 +186,6 @@ FalsesAre-forced known marks step seen falses h l a e = at (clause_of known h) e
         FalsesAre-more marks step seen (seen ++ c) falses (negation l) a f.not_true (rw (negation-negation l) f.not_false) (λ x r.
         unmarked_more seen falses c l x (λ y v. (let q : is_literal_in_range (length marks) y ≡ false = rw v r in rw q at (a y))) f)
 
-]
-
 -- a literal of the step's own clause becomes false
 pub FalsesAre-start : (marks : List VariableMark) (step : ℕ) (falses : List Literal) (l : Literal) → FalsesAre marks step [] falses → is_literal_in_range (length marks) l ≡ true → is_among falses l ≡ false → is_among falses (negation l) ≡ false → FalsesAre (with_mark marks step l) step [] (l ∷ falses)
 FalsesAre-start marks step falses l a r f g = FalsesAre-more marks step [] [] falses l a f g (λ x n. (let q : false ≡ is_among falses x = rw n at (a x) in rw (apart' (length marks) x l n r, ← q) refl))

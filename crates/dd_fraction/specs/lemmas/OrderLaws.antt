@@ -234,13 +234,3 @@ exact_cmp-same a b e =
     let q = t.cross in
     let r : a.num *ℤ pos (den_of b) ≡ b.num *ℤ pos (den_of a) = omega (arith, ints, p, q) in
     cmp_equal _ _ r
-
-}
-  where
-    congruent : (a b c : Exact) → low a ≡ low b → (r : Ordering) → r ≡ exact_cmp b c → exact_cmp a c ≡ exact_cmp b c
-    congruent a b c e Less h =
-        exact_cmp-below a c (below_trans_right a b c (at_most_same a b e) (exact_cmp_ranked b c Less h)) ∙ h
-    congruent a b c e Equal h =
-        exact_cmp-same a c (e ∙ exact_cmp_ranked b c Equal h) ∙ h
-    congruent a b c e Greater h =
-        exact_cmp-above a c (below_trans_left c b a (exact_cmp_ranked b c Greater h) (at_most_same b a (sym e))) ∙ h

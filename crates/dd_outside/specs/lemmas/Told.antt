@@ -31,8 +31,6 @@ front_after a b c before text so_far more = record {
   whole = ap (λ (l : List ℕ). before ++ l) more.whole ∙ sym (append_assoc before more.gained more.missing);
 }
 
-}
-
 -- few more bytes were given
 pub gave_few_more : (a b c : Option (List ℕ)) (bytes : List ℕ) (room limit : ℕ) → Consumes a b bytes → GivesAtMost b c room → length bytes + room ≤ limit → GivesAtMost a c limit
 gave_few_more a b c bytes room limit so_far more fits = record {

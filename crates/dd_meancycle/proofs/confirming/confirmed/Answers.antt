@@ -2,7 +2,7 @@ use Rattle.std.proofs.Common.{◌≡◌, ◌≤◌, ◌<◌, ℕ, length, arith,
 use Rattle.std.specs.List.{All}
 use Rattle.dd_meancycle.specs.table.Levels.{IsEdgeOf}
 use Rattle.dd_meancycle.proofs.EdgeLaws.{all_fit}
-use Rattle.dd_meancycle.proofs.Confirmed.{confirmed_is}
+use Rattle.dd_meancycle.proofs.Confirmed.{all_bounded, confirmed_is}
 use Rattle.dd_meancycle.proofs.confirming.confirmed.Goals as goal
 
 pub are_risen-requires : goal.are_risen-requires
@@ -15,4 +15,4 @@ returns-then-are_risen c =
     let w = c.in_ok-weight.ensures in
     let short : length c.args.cycle.now ≤ c.args.graph.now.states = omega (arith, c.if-cycle-states.false, c.states.ensures.value) in
     let len : length c.args.potentials.now ≡ c.args.graph.now.states = omega (arith, c.if-potentials-states.false, c.states-else-cycle-states.ensures.value) in
-    confirmed_is c.args.graph.now c.args.edges.now c.args.cycle.now c.args.potentials.now _ c.reduced-mean.result c.requires w.0 w.1 refl short c.reduced-mean.ensures len (c.if-are_bounded.ensures refl) (c.if-are_risen.ensures refl)
+    confirmed_is c.args.graph.now c.args.edges.now c.args.cycle.now c.args.potentials.now _ c.reduced-mean.result c.requires w.0 w.1 refl short c.reduced-mean.ensures len (all_bounded c.args.potentials.now (sym c.if-are_bounded.ensures)) (c.if-are_risen.ensures refl)
