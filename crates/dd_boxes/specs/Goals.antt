@@ -34,8 +34,14 @@ pub record AreOver (x : LocalRule) (s : CommonNumbers) (f g : Automaton) : Type 
   pub left : IsAutomaton s f
   pub right : IsAutomaton s g
 
--- a goal for questions about a rule
+-- a goal for questions about a rule: a rule like it, or two automata over its numbers
 abbrev pub IsGoalFor : LocalRule → GoalOf → Type 0
-IsGoalFor x (breaks y) = IsRule y × AreAlike x y
+IsGoalFor x (breaks y) = AreAlike x y
 IsGoalFor x (differ s f g) = AreOver x s f g
 IsGoalFor x always = Unit {0}
+
+-- the rule of a goal, where it has one, keeps what each rule keeps
+abbrev pub KeepsRule : GoalOf → Type 0
+KeepsRule (breaks y) = IsRule y
+KeepsRule (differ s f g) = Unit {0}
+KeepsRule always = Unit {0}

@@ -1,7 +1,7 @@
 //! What a box question looks for at the origin, and how far that reads.
 ghost use Rattle.std.specs.Prelude.{IfOk};
 ghost use Rattle.dd_boxes.specs.Boxes.{IsLeastRadius};
-ghost use Rattle.dd_boxes.specs.Goals.{IsGoalFor};
+ghost use Rattle.dd_boxes.specs.Goals.{IsGoalFor, KeepsRule};
 ghost use Rattle.dd_boxes.specs.Views.{goal_of, IsGoal};
 ghost use Rattle.dd_formula.specs.LocalRule.{LocalRule, IsRule};
 
@@ -17,6 +17,20 @@ pub enum Goal<'a> {
     Differ(&'a Automaton, &'a Automaton),
     /// Nothing is asked of the position.
     Always,
+}
+
+/// Only looks at the goal's rule, where it has one, for what it keeps.
+pub fn keeps_rule(goal: &Goal)
+    ensures { (x : LocalRule) → KeepsRule (goal_of x goal.now) }
+{
+    match goal {
+        Goal::Breaks(rule) => {
+            // Made for its fact: what a rule keeps.
+            let _nodes = rule.nodes();
+        }
+        Goal::Differ(_, _) => {}
+        Goal::Always => {}
+    }
 }
 
 /// The least radius of a box that holds all cells that the goal reads at the origin's nodes.

@@ -4,5 +4,5 @@
 mod goals;
 mod laws;
 
-pub use goals::{Goal, least_radius};
+pub use goals::{Goal, keeps_rule, least_radius};
 pub use laws::one_box;

@@ -38,7 +38,7 @@ some_then None P Q h p = p
 module _ (s : Parts) (sound : AreSound s) (told : All IsTold s.automata) (listed : ListedBreak) (laws : BoundLaws) where
   asked_claims : (a : Answer) (k : Asked) → IsSoundAsked s.known k → IsToldAsked k → IsCertificateOf s.known.limits k a → ClaimOf k a
   asked_claims a (membership x t) ok gates h = member_claims x t a h
-  asked_claims a (box x g) ok gates h = box_claims s.known.limits x g a ok.0.rule ok.1.goal (gates ok.1.goal) h
+  asked_claims a (box x g) ok gates h = box_claims s.known.limits x g a ok.0.rule ok.1.goal (gates ok.1.goal ok.1.rule) h
   asked_claims a (equality x y) ok gates h = equal_claims s.known.limits x y ok.0.rule ok.1.rule ok.2.goal ok.3.goal a h
   asked_claims a (listing x) ok gates h = list_claims listed x a h
   asked_claims a (density x strip ws) ok gates h = strip_claims laws x strip ws ok.0.rule ok.1.strip a h

@@ -66,7 +66,7 @@ module _ (l : Limits) (x y : LocalRule) (left_rule : IsRule x) (right_rule : IsR
   equal_claims (answer.Outside place) h = h
   equal_claims (answer.Yes radius steps) h = h
   equal_claims (answer.YesBoth left right left_steps right_steps) h =
-      (yes_claims l x (breaks y) left left_steps left_rule left_goal left_goal h.0, yes_claims l y (breaks x) right right_steps right_rule right_goal right_goal h.1)
+      (yes_claims l x (breaks y) left left_steps left_rule left_goal (right_rule, left_goal) h.0, yes_claims l y (breaks x) right right_steps right_rule right_goal (left_rule, right_goal) h.1)
   equal_claims (answer.No s periods shear symbols) h = side_claims l x y s periods shear symbols h
   equal_claims (answer.Unknown r) h = tt
   equal_claims (answer.List patterns) h = h

@@ -7,7 +7,7 @@ use Rattle.dd_derivation.specs.declared.step.Step.{Step}
 use Rattle.dd_pattern.specs.Tile.{Tile}
 use Rattle.dd_formula.specs.LocalRule.{LocalRule, IsRule}
 use Rattle.dd_values.specs.declared.limits.Limits.{Limits}
-use Rattle.dd_boxes.specs.Goals.{GoalOf, breaks, IsGoalFor}
+use Rattle.dd_boxes.specs.Goals.{GoalOf, breaks, IsGoalFor, KeepsRule}
 use Rattle.dd_certificate.specs.declared.answer.Side.{Side}
 use Rattle.dd_certificate.specs.declared.answer.Side.TheVariants as side
 use Rattle.dd_certificate.specs.declared.answer.Reason.{Reason}
@@ -32,10 +32,10 @@ pub nothing_holds : (A : Type 0) → (A → ⊥) → (false ≡ true) ↔ A
 nothing_holds A none = (λ h. absurd (false≢true h), λ a. absurd (none a))
 
 module _ (l : Limits) (x : LocalRule) (g : GoalOf) (limits : AreLimits l) (rule : IsRule x) (ok : IsGoalFor x g) where
-  pub yes_decides : (n : ℕ) (steps : List Step) (b : Bool) → (b ≡ true) ↔ IsYes l x g n steps → (b ≡ true → IsWritableRefutation steps) →
+  pub yes_decides : KeepsRule g → (n : ℕ) (steps : List Step) (b : Bool) → (b ≡ true) ↔ IsYes l x g n steps → (b ≡ true → IsWritableRefutation steps) →
       (b ≡ true) ↔ (IsWritable (answer.Yes n steps) × IsBoxCertificate l x g (answer.Yes n steps))
-  yes_decides n steps b exact writable = (
-    λ h. ((radius_writable l x g n steps limits rule ok (exact.0 h), writable h), exact.0 h),
+  yes_decides kept n steps b exact writable = (
+    λ h. ((radius_writable l x g n steps limits rule kept ok (exact.0 h), writable h), exact.0 h),
     λ both. exact.1 both.1,
   )
 
@@ -117,14 +117,14 @@ module _ (l : Limits) (x y : LocalRule) (g : GoalOf) where
 -- ---- the results of the parts, as results of the whole
 
 module _ {E : Type 0} (l : Limits) (x : LocalRule) (g : GoalOf) (limits : AreLimits l) (rule : IsRule x) (ok : IsGoalFor x g) where
-  pub yes_result : (n : ℕ) (taken steps : List Step) → taken ≡ steps → (r : Result Bool E) → IfOk r (λ b. (b ≡ true) ↔ IsYes l x g n taken) →
+  pub yes_result : KeepsRule g → (n : ℕ) (taken steps : List Step) → taken ≡ steps → (r : Result Bool E) → IfOk r (λ b. (b ≡ true) ↔ IsYes l x g n taken) →
       IfOk r (λ b. b ≡ true → IsWritableRefutation taken) →
       IfOk r (λ b. (b ≡ true) ↔ (IsWritable (answer.Yes n steps) × IsBoxCertificate l x g (answer.Yes n steps)))
-  yes_result n taken steps same r exact writable =
+  yes_result kept n taken steps same r exact writable =
       subst (λ (ss : List Step). IfOk r (λ b. (b ≡ true) ↔ (IsWritable (answer.Yes n ss) × IsBoxCertificate l x g (answer.Yes n ss)))) same
       (if_both r (λ b. (b ≡ true) ↔ IsYes l x g n taken) (λ b. b ≡ true → IsWritableRefutation taken)
       (λ b. (b ≡ true) ↔ (IsWritable (answer.Yes n taken) × IsBoxCertificate l x g (answer.Yes n taken)))
-      (yes_decides l x g limits rule ok n taken) exact writable)
+      (yes_decides l x g limits rule ok kept n taken) exact writable)
 
   pub no_result : (s : Side) → s ≡ side.Whole → (taken along : List ℕ) → taken ≡ along → (shear : ℕ) (read symbols : List ℕ) → read ≡ symbols →
       (r : Result Bool E) → IfOk r (λ b. (b ≡ true) ↔ IsNo l x g taken shear read) →
@@ -182,7 +182,7 @@ module _ {E : Type 0} (l : Limits) (x y : LocalRule) (limits : AreLimits l) (lef
       (if_both r (λ c. (c ≡ true) ↔ IsYes l y (breaks x) m right_taken) (λ c. c ≡ true → IsWritableRefutation right_taken) (λ c. whole c right_taken)
       (λ c k w. (
         λ h. (
-          (radius_writable l x (breaks y) n steps limits left_rule left_goal here, radius_writable l y (breaks x) m right_taken limits right_rule right_goal (k.0 h), here_fits, w h),
+          (radius_writable l x (breaks y) n steps limits left_rule right_rule left_goal here, radius_writable l y (breaks x) m right_taken limits right_rule left_rule right_goal (k.0 h), here_fits, w h),
           (here, k.0 h),
         ),
         λ both. k.1 both.1.1,

@@ -8,7 +8,7 @@ use Rattle.dd_formula.specs.LocalRule.{LocalRule}
 use Rattle.dd_formula.specs.Values.{IsPlaced}
 use Rattle.dd_formula.specs.declared.automaton.Automaton.{Automaton}
 use Rattle.dd_compile.specs.Valued.{SaysItsValue}
-use Rattle.dd_boxes.specs.Goals.{breaks, differ, always, IsGoalFor}
+use Rattle.dd_boxes.specs.Goals.{breaks, differ, always, IsGoalFor, KeepsRule}
 use Rattle.dd_boxes.specs.Views.{numbers_of}
 use Rattle.dd_problem.specs.pushing.Told.{IsToldGoal}
 use Rattle.dd_query.specs.declared.queries.Query.{Query}
@@ -27,7 +27,7 @@ stands_at xs n x is = (n, slice_get_within xs n x is, get_or_from_slice_get xs n
 -- a goal that is for questions about the rule is one whose gates say what it asks
 abbrev pub IsToldAsked : Asked → Type 0
 IsToldAsked (membership x t) = Unit {0}
-IsToldAsked (box x g) = IsGoalFor x g → IsToldGoal x g
+IsToldAsked (box x g) = IsGoalFor x g → KeepsRule g → IsToldGoal x g
 IsToldAsked (equality x y) = Unit {0}
 IsToldAsked (listing x) = Unit {0}
 IsToldAsked (density x strip ws) = Unit {0}
@@ -54,7 +54,7 @@ module _ (s : Parts) (told : All IsTold s.automata) where
 
   agree_told : (left right : ℕ) (x : LocalRule) (f g : Automaton) → slice_get s.automata left ≡ Some f → slice_get s.automata right ≡ Some g →
       IsToldAsked (box x (differ (numbers_of x) f g))
-  agree_told left right x f g f_is g_is over =
+  agree_told left right x f g f_is g_is over kept =
       let one = told_at left f f_is in
       let other = told_at right g g_is in
       record { over = over; left_placed = one.0; right_placed = other.0; left_says = one.1; right_says = other.1 }
@@ -64,9 +64,9 @@ module _ (s : Parts) (told : All IsTold s.automata) where
   asked_told (query.Member configuration rule) k is =
       both_then membership (slice_get s.rules rule) (slice_get s.configurations configuration) k (λ x t _ _. tt) is
   asked_told (query.Contains outer inner) k is =
-      both_then (λ x y. box x (breaks y)) (slice_get s.rules inner) (slice_get s.rules outer) k (λ x y _ _ ok. ok) is
+      both_then (λ x y. box x (breaks y)) (slice_get s.rules inner) (slice_get s.rules outer) k (λ x y _ _ ok kept. (kept, ok)) is
   asked_told (query.Equal left right) k is = both_then equality (slice_get s.rules left) (slice_get s.rules right) k (λ x y _ _. tt) is
-  asked_told (query.Empty rule) k is = one_then (λ x. box x always) (slice_get s.rules rule) k (λ x ok. ok) is
+  asked_told (query.Empty rule) k is = one_then (λ x. box x always) (slice_get s.rules rule) k (λ x ok kept. ok) is
   asked_told (query.Agree left right rule) k is =
       three_then (λ x f g. box x (differ (numbers_of x) f g)) (slice_get s.rules rule) (slice_get s.automata left) (slice_get s.automata right) k
       (λ x f g f_is g_is. agree_told left right x f g f_is g_is) is

@@ -12,7 +12,7 @@ use Rattle.dd_formula.specs.Living.{Fits}
 use Rattle.dd_formula.specs.lemmas.AutomatonLaws.{near_reads}
 use Rattle.dd_formula.specs.lemmas.ReachLaws.{reach_near, automaton_reach_within}
 use Rattle.dd_values.specs.declared.limits.Limits.{Limits}
-use Rattle.dd_boxes.specs.Goals.{GoalOf, breaks, differ, always, IsGoalFor}
+use Rattle.dd_boxes.specs.Goals.{GoalOf, breaks, differ, always, IsGoalFor, KeepsRule}
 use Rattle.dd_boxes.specs.Boxes.{IsLeastRadius}
 use Rattle.dd_boxes.specs.lemmas.ReachLaws.{least_is_reach, least_is_farthest, least_is_none}
 use Rattle.dd_certificate.specs.declared.answer.Side.{Side}
@@ -43,18 +43,18 @@ module _ (fit : (x : LocalRule) (t : Tile) (place : List ℤ) → IsRule x → I
 
 -- ---- radii: rules and automata read nothing farther than 16 away, so the least radius is at most 16
 
-pub least_small : (x : LocalRule) (g : GoalOf) (least : ℕ) → IsRule x → IsGoalFor x g → IsLeastRadius g least → least ≤ 16
-least_small x (breaks y) least rule ok is = let far = least_is_reach y least ok.0 is in let near = reach_near y ok.0 in omega (arith, far, near)
-least_small x (differ s f g) least rule ok is =
+pub least_small : (x : LocalRule) (g : GoalOf) (least : ℕ) → IsRule x → KeepsRule g → IsGoalFor x g → IsLeastRadius g least → least ≤ 16
+least_small x (breaks y) least rule kept ok is = let far = least_is_reach y least kept is in let near = reach_near y kept in omega (arith, far, near)
+least_small x (differ s f g) least rule kept ok is =
     let far = least_is_farthest s f g (subst (λ d. 1 ≤ d) (sym ok.dimension) rule.dimension.0) least is in
     let left = automaton_reach_within f s.nodes 16 (near_reads s f ok.left) in
     let right = automaton_reach_within g s.nodes 16 (near_reads s g ok.right) in
     omega (arith, far, left, right)
-least_small x always least rule ok is = let none = least_is_none least is in omega (arith, none)
+least_small x always least rule kept ok is = let none = least_is_none least is in omega (arith, none)
 
-pub radius_writable : (l : Limits) (x : LocalRule) (g : GoalOf) (n : ℕ) (steps : List Step) → AreLimits l → IsRule x → IsGoalFor x g → IsYes l x g n steps → IsWritableNumber n
-radius_writable l x g n steps limits rule ok told =
-    let least = least_small x g told.least rule ok told.is_least in
+pub radius_writable : (l : Limits) (x : LocalRule) (g : GoalOf) (n : ℕ) (steps : List Step) → AreLimits l → IsRule x → KeepsRule g → IsGoalFor x g → IsYes l x g n steps → IsWritableNumber n
+radius_writable l x g n steps limits rule kept ok told =
+    let least = least_small x g told.least rule kept ok told.is_least in
     let most = limits.radius in
     let high = told.high in
     omega (arith, least, most, high)

@@ -11,7 +11,7 @@ use Rattle.dd_formula.specs.LocalRule.{LocalRule, IsRule, is_near, is_of, reads_
 use Rattle.dd_formula.specs.lemmas.AutomatonLaws.{near_reads}
 use Rattle.dd_formula.specs.lemmas.ReachLaws.{automaton_reach_within}
 use Rattle.dd_boxes.specs.lemmas.ReachLaws.{least_is_farthest}
-use Rattle.dd_boxes.specs.Goals.{GoalOf, breaks, differ, always, IsGoalFor}
+use Rattle.dd_boxes.specs.Goals.{GoalOf, breaks, differ, always, IsGoalFor, KeepsRule}
 use Rattle.dd_boxes.specs.Fillings.{is_box_cell}
 use Rattle.dd_boxes.specs.Boxes.{Suffices, IsLeastRadius}
 use Rattle.dd_boxes.specs.lemmas.RuleLaws.{list_all_weaker}
@@ -35,15 +35,15 @@ reads_near y a rule node =
     list_all-from_AllPass (λ c. is_of y c && is_near c) (reads_at y a) (λ i c h.
     and_from (is_of y (get_or (reads_at y a) i c)) (is_near (get_or (reads_at y a) i c)) (placed i c h) (near i c h))
 
-pub least_small : (x : LocalRule) (g : GoalOf) (least : ℕ) → IsRule x → IsGoalFor x g → IsLeastRadius g least → least ≤ 16
-least_small x (breaks y) least rule ok is =
-    is.least 16 (λ a node. list_all_weaker (λ c. is_of y c && is_near c) (is_box_cell y 16) (box_from_within y 16 ok.0.dimension.0) (reads_at y a) (reads_near y a ok.0 node))
-least_small x (differ s f g) least rule ok is =
+pub least_small : (x : LocalRule) (g : GoalOf) (least : ℕ) → IsRule x → KeepsRule g → IsGoalFor x g → IsLeastRadius g least → least ≤ 16
+least_small x (breaks y) least rule kept ok is =
+    is.least 16 (λ a node. list_all_weaker (λ c. is_of y c && is_near c) (is_box_cell y 16) (box_from_within y 16 kept.dimension.0) (reads_at y a) (reads_near y a kept node))
+least_small x (differ s f g) least rule kept ok is =
     let far = least_is_farthest s f g (subst (λ d. 1 ≤ d) (sym ok.dimension) rule.dimension.0) least is in
     let left = automaton_reach_within f s.nodes 16 (near_reads s f ok.left) in
     let right = automaton_reach_within g s.nodes 16 (near_reads s g ok.right) in
     omega (arith, far, left, right)
-least_small x always least rule ok is = let none : least ≤ 0 = is.least 0 tt in omega (arith, none)
+least_small x always least rule kept ok is = let none : least ≤ 0 = is.least 0 tt in omega (arith, none)
 
 within_most : (d p m : ℕ) (q : Periods) → p ≤ m → AreWithin d p q → AreWithin d m q
 within_most d p m q le within =

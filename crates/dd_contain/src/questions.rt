@@ -11,7 +11,7 @@ ghost use Rattle.dd_contain.specs.Questions.{AreNumbered, RefutesByNumbers, Show
 
 use crate::decision::Decision;
 use crate::search::{Questions, search};
-use dd_boxes::{Goal, least_radius};
+use dd_boxes::{Goal, keeps_rule, least_radius};
 use dd_clause::Cnf;
 use dd_derivation::{Outcome, Step, last_number};
 use dd_engines::{Engine, Roster, kept_is_reflexive};
@@ -137,8 +137,9 @@ pub fn decide<E: Engine>(
     kept_is_reflexive();
     let least = least_radius(alloc, goal)?;
     let most = limits.radius.max(least);
-    // Read for what its type keeps.
+    // Read for what their types keep.
     let _symbols = premise.symbols();
+    keeps_rule(goal);
     let question = BoxQuestion {
         alloc,
         premise,

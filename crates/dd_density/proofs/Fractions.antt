@@ -3,7 +3,7 @@ use Rattle.std.proofs.Common.{◌≡◌, ℕ, zero, suc, ◌+◌, ◌*◌, ◌/�
 use Rattle.std.specs.Int.{IsGcd}
 use Prim.Native.Nat.{◌∣◌}
 use Rattle.std.proofs.lemmas.Nat.{mod_below, mod-mul-add, div-add-mod'}
-use Rattle.std.proofs.lemmas.Nat.Gcd.{IsGcd-from_zero, IsGcd-from_mod, same_from_IsGcd, mod-eq-zero_of_dvd}
+use Rattle.std.proofs.lemmas.Nat.Gcd.{IsGcd-from_zero, IsGcd-from_mod, same_from_IsGcd, dvd_antisymm, dvd-zero, mod-eq-zero_of_dvd}
 use Rattle.std.proofs.Math.Nat.{mul-le-mul_left, mul-le-mul_right, le_of_mul-le-mul_right, eq_of_mul-eq-mul_right, mul_comm, dvd-mul_right, mul-dvd-mul_left, dvd_of_mul-dvd-mul_left}
 use Rattle.dd_transfer.specs.Certificates.{IsInLowestTerms}
 
@@ -91,6 +91,10 @@ lowest_small n d a b some p =
 positive_part : (g q l : ℕ) → g * q ≡ l → 0 < l → 0 < q
 positive_part g zero l e pos = absurd (omega (arith, e))
 positive_part g (suc q) l e pos = omega arith
+
+pub gcd_positive : (a b g : ℕ) → IsGcd a b g → 0 < b → 0 < g
+gcd_positive a b zero is some = absurd (let e : b ≡ 0 = dvd_antisymm (dvd-zero b) is.1 in omega arith)
+gcd_positive a b (suc g) is some = omega arith
 
 -- the quotients by the greatest common divisor
 pub quotients_lowest : (a b g : ℕ) → IsGcd a b g → 0 < b → 0 < g → IsInLowestTerms (a / g) (b / g) a b

@@ -1,13 +1,26 @@
 //! Fractions in lowest terms.
 ghost use Rattle.std.specs.Prelude.{◌<◌};
+ghost use Rattle.std.specs.Int.{IsGcd};
 ghost use Rattle.dd_transfer.specs.Certificates.{IsInLowestTerms};
-
-use dd_meancycle::gcd;
 
 #[derive(Clone, Copy, Debug)]
 pub(crate) struct Ratio {
     pub numerator: u128,
     pub denominator: u128,
+}
+
+fn gcd(a: u128, b: u128) -> u128
+    ensures value { IsGcd a b result }
+    ensures above { 0 < b → 0 < result }
+{
+    let mut x = a;
+    let mut y = b;
+    while y != 0 {
+        let rest = x % y;
+        x = y;
+        y = rest;
+    }
+    x
 }
 
 /// The fraction `a / b` in lowest terms.

@@ -2,7 +2,6 @@
 #![tactic(auto)]
 
 mod confirming;
-mod divisor;
 mod edges;
 mod least;
 mod levels;
@@ -12,5 +11,4 @@ mod seeking;
 mod table;
 mod turning;
 
-pub use divisor::gcd;
 pub use least::{Mean, least_mean};

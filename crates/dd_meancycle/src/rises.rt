@@ -1,9 +1,9 @@
 //! Means of rises in the table of least weights, potentials and ranks.
 ghost use Rattle.std.specs.Prelude.{◌≡◌, ℕ, ◌-◌, ◌*◌, ◌<◌, ◌≤◌, ◌^◌, length, IfOk, slice_index_or, MatchOption, ⊤, Option, None};
+ghost use Rattle.std.specs.Int.{IsGcd};
 ghost use Rattle.dd_meancycle.specs.table.Levels.{level_weight_at};
 ghost use Rattle.dd_meancycle.specs.table.Rises.{Reads, IsSteepest, IsPotential, IsSteeper, IsLesser, IsGentler, LeastSoFar, IsHeight, IsRank, IsReduced};
 
-use crate::divisor::gcd;
 use crate::levels::{Level, weight_at};
 use std::alloc::{AllocError, Global};
 
@@ -116,11 +116,27 @@ pub(crate) fn gentlest(levels: &[Level], last: usize, states: u32) -> Option<Ste
     best
 }
 
+fn gcd(a: u64, b: u64) -> u64
+    ensures { IsGcd a b result }
+{
+    let mut x = a;
+    let mut y = b;
+    while y != 0 {
+        let rest = x % y;
+        x = y;
+        y = rest;
+    }
+    x
+}
+
 pub(crate) fn reduced(mean: Ratio) -> Ratio
     requires { 0 < mean.length }
     ensures { IsReduced mean result }
 {
-    let common = gcd(mean.weight as u128, mean.length as u128) as u64;
+    let common = gcd(mean.weight, mean.length);
+    if common == 0 {
+        return mean;
+    }
     Ratio {
         weight: mean.weight / common,
         length: mean.length / common,

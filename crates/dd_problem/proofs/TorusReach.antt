@@ -46,6 +46,6 @@ question_is x g far least n rule good is_far is greater =
     greater ∙ (ap (λ k. max k least) is_far ∙ ap (max (reach x)) (least_is x g least rule good is))
 
 pub told_is_goal : (x : LocalRule) (g : GoalOf) → IsToldGoal x g → IsGoalFor x g
-told_is_goal x (breaks y) told = told
+told_is_goal x (breaks y) told = told.1
 told_is_goal x (differ s f g) told = told.over
 told_is_goal x always told = tt

@@ -7,13 +7,15 @@ use dd_boxes::Goal;
 use dd_compile::says_its_value;
 use dd_formula::Rule;
 
-/// Only looks at the goal's automata, for what they keep.
+/// Only looks at the goal's rule or automata, for what they keep.
 pub(crate) fn told_goal(premise: &Rule, goal: &Goal)
     requires { IsGoalFor premise.now (goal_of premise.now goal.now) }
     ensures { IsToldGoal premise.now (goal_of premise.now goal.now) }
 {
     match goal {
-        Goal::Breaks(_) => {}
+        Goal::Breaks(rule) => {
+            let _nodes = rule.nodes();
+        }
         Goal::Differ(left, right) => {
             left.reads_are_placed();
             right.reads_are_placed();

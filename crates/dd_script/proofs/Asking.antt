@@ -16,7 +16,7 @@ use Rattle.dd_formula.specs.Reach.{automaton_cells}
 use Rattle.dd_formula.specs.declared.automaton.Automaton.{Automaton}
 use Rattle.dd_formula.specs.lemmas.FarthestLaws.{farthest-append}
 use Rattle.dd_rows.specs.Asked.{AreVectors}
-use Rattle.dd_boxes.specs.Goals.{GoalOf, breaks, differ, always, AreAlike, IsGoalFor}
+use Rattle.dd_boxes.specs.Goals.{GoalOf, breaks, differ, always, AreAlike, IsGoalFor, KeepsRule}
 use Rattle.dd_boxes.specs.Views.{numbers_of as numbers_of_rule}
 use Rattle.dd_boxes.specs.Boxes.{IsLeastRadius}
 use Rattle.dd_boxes.specs.Counts.{goal_clauses, most_clauses}
@@ -87,9 +87,10 @@ aims_at_differing x f g ok = record {
 at_most : (n m : ℕ) → n ≡ m → nat_lt most_clauses m ≡ false → n ≤ most_clauses
 at_most n m is few = let le : m ≤ most_clauses = ltb-false most_clauses m few in omega (arith, is, le)
 
-askable : (k : Known) (x : LocalRule) (g : GoalOf) (aim : Aim) → IsGoalFor x g → Aims g aim → is_long k x aim ≡ false → IsAskable k.limits x g
-askable k x g aim goal aims few = record {
+askable : (k : Known) (x : LocalRule) (g : GoalOf) (aim : Aim) → IsGoalFor x g → KeepsRule g → Aims g aim → is_long k x aim ≡ false → IsAskable k.limits x g
+askable k x g aim goal kept aims few = record {
   goal = goal;
+  rule = kept;
   small = λ least is.
       at_most (largest_clauses x (goal_clauses g) (max k.limits.radius least) k.limits.period) (clauses_of k x aim)
       (ap (λ n. largest_clauses x n (max k.limits.radius least) k.limits.period) aims.clauses
@@ -98,7 +99,7 @@ askable k x g aim goal aims few = record {
 }
 
 breaking_askable : (k : Known) (x y : LocalRule) → IsOf k x → IsOf k y → is_long k x (breaking y) ≡ false → IsAskable k.limits x (breaks y)
-breaking_askable k x y here there few = askable k x (breaks y) (breaking y) (there.rule, alike k x y here there) (aims_at_breaking y there.rule) few
+breaking_askable k x y here there few = askable k x (breaks y) (breaking y) (alike k x y here there) there.rule (aims_at_breaking y there.rule) few
 
 abbrev setting : ℕ → ℕ → ℕ → CommonNumbers
 setting d n m = record { dimension = d; nodes = n; symbols = m }
@@ -117,7 +118,7 @@ differing_askable : (k : Known) (x : LocalRule) (f g : Automaton) → IsOf k x �
 differing_askable k x f g of left right few =
     askable k x (differ (numbers_of_rule x) f g) (differing x f g)
     (record { dimension = refl; nodes = refl; symbols = refl; left = over_rule k x f of left; right = over_rule k x g of right })
-    (aims_at_differing x f g of.rule) few
+    tt (aims_at_differing x f g of.rule) few
 
 about_is : {X : Type 0} (xs : List X) (n : ℕ) (x : X) (f : X → List Fault) → slice_get xs n ≡ Some x → about xs n f ≡ f x
 about_is xs n x f is = rw is refl
@@ -205,7 +206,7 @@ module _ (s : Parts) (ok : IsScriptOf s) where
   empty_sound rule x sound x_is =
       let here = rule_of rule x x_is in
       let sizes : empty_sizes s.known x ≡ [] = sym (about_is s.rules rule x (empty_sizes s.known) x_is) ∙ sound.sizes in
-      (here, askable s.known x always anything tt aims_at_anything (not_over (is_long s.known x anything) limit.Clauses sizes))
+      (here, askable s.known x always anything tt tt aims_at_anything (not_over (is_long s.known x anything) limit.Clauses sizes))
 
   automaton_of : (n : ℕ) (f : Automaton) → slice_get s.automata n ≡ Some f → IsAutomaton (script_numbers s.known) f
   automaton_of n f is =

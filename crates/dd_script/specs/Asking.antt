@@ -10,7 +10,7 @@ use Rattle.dd_counts.specs.Rules.{pattern_count}
 use Rattle.dd_transfer.specs.Transfers.{IsStrip, HasWeights, IsFew, strip_for}
 use Rattle.dd_rows.specs.Asked.{AreVectors, AreWeightsFor}
 use Rattle.dd_values.specs.declared.limits.Limits.{Limits}
-use Rattle.dd_boxes.specs.Goals.{GoalOf, breaks, IsGoalFor}
+use Rattle.dd_boxes.specs.Goals.{GoalOf, breaks, IsGoalFor, KeepsRule}
 use Rattle.dd_boxes.specs.Boxes.{IsLeastRadius}
 use Rattle.dd_boxes.specs.Counts.{goal_clauses, most_clauses}
 use Rattle.dd_boxes.specs.Views.{goal_of}
@@ -40,6 +40,7 @@ pub record IsOf (k : Known) (x : LocalRule) : Type 0 where
 -- a goal for the premise, on whose largest box and torus the question takes at most 2,000,000 clauses
 pub record IsAskable (l : Limits) (x : LocalRule) (g : GoalOf) : Type 0 where
   pub goal : IsGoalFor x g
+  pub rule : KeepsRule g
   pub small : (least : ℕ) → IsLeastRadius g least → largest_clauses x (goal_clauses g) (max l.radius least) l.period ≤ most_clauses
 
 -- at each node the cells that the rule reads have few fillings

@@ -64,7 +64,7 @@ goal_at_origin : (x : LocalRule) (g : GoalOf) (n : ℕ) (look : Look) (v : Place
 goal_at_origin x (breaks y) n look v ok reach covers there = (
   there.0,
   there.1,
-  keeps_at y (cut x n look v) look origin v there.0 (cut_at_origin x n look v) (cut_reads x y n look v there.0 ok.1 there.1 reach covers) ∙ there.2,
+  keeps_at y (cut x n look v) look origin v there.0 (cut_at_origin x n look v) (cut_reads x y n look v there.0 ok there.1 reach covers) ∙ there.2,
 )
 goal_at_origin x (differ s f g) n look v ok reach covers there =
     (there.0, there.1, differ_at_origin x s f g n look v there.0 ok there.1 reach covers there.2)

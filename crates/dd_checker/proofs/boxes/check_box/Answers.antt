@@ -8,6 +8,7 @@ pub returns-in-Yes : goal.returns-in-Yes
 returns-in-Yes c =
     rw c.in-Yes.is
     (yes_result c.args.limits.now c.args.premise.now (goal_of c.args.premise.now c.args.goal.now) c.requires.limits c.symbols-symbols.ensures.kept c.requires.askable.goal
+    c.requires.askable.rule
     c.in-Yes.radius c.as_slice.result.now c.in-Yes.steps c.as_slice.ensures c.check_yes.result c.check_yes.ensures.exact c.check_yes.ensures.writable)
 
 pub returns-then-not-is_whole : goal.returns-then-not-is_whole

@@ -1,6 +1,6 @@
 use Rattle.std.proofs.Common.{ℕ}
 use Rattle.std.specs.Int.{IsGcd}
-use Rattle.dd_meancycle.proofs.divisor.gcd.Given as goal
+use Rattle.dd_meancycle.proofs.rises.gcd.Given as goal
 
 abbrev pub invariant-loop-y : goal.invariant-loop-y
 invariant-loop-y l = (g : ℕ) → IsGcd l.x l.y g → IsGcd l.a l.b g

@@ -1,8 +1,8 @@
 use Rattle.std.proofs.Common.{arith}
 use Rattle.std.specs.Int.{IsGcd}
-use Rattle.std.proofs.lemmas.Nat.Gcd.{IsGcd-from_mod, IsGcd-from_zero, le_of_dvd}
-use Rattle.dd_meancycle.proofs.Gentle.{gcd_positive}
-use Rattle.dd_meancycle.proofs.divisor.gcd.Goals as goal
+use Rattle.std.proofs.lemmas.Nat.Gcd.{IsGcd-from_mod, IsGcd-from_zero}
+use Rattle.dd_density.proofs.Fractions.{gcd_positive}
+use Rattle.dd_density.proofs.lowest.gcd.Goals as goal
 
 pub loop-y-preserved : goal.loop-y-preserved
 loop-y-preserved c = λ g h. c.loop-y.invariant g (IsGcd-from_mod c.loop-y.x c.loop-y.y g h)
@@ -10,4 +10,4 @@ loop-y-preserved c = λ g h. c.loop-y.invariant g (IsGcd-from_mod c.loop-y.x c.l
 pub returns : goal.returns
 returns c =
     let is : IsGcd c.args.a c.args.b c.loop-y.x = c.loop-y.invariant c.loop-y.x (IsGcd-from_zero c.loop-y.x c.loop-y.y (omega arith)) in
-    record { value = is; above = λ some. gcd_positive c.args.a c.args.b c.loop-y.x is some; within = λ some. le_of_dvd some is.1 }
+    record { value = is; above = λ some. gcd_positive c.args.a c.args.b c.loop-y.x is some }
