@@ -58,7 +58,10 @@ fn is_rise(from: i64, to: i64, weight: u64, mean: Ratio) -> bool
     let product = mean.denominator * weight as u128;
     let most = product as i128 - mean.numerator as i128;
     let rise = to as i128 - from as i128;
-    rise <= most
+    if rise > most {
+        return false;
+    }
+    true
 }
 
 /// Whether the potential rises so from a state to another.

@@ -51,7 +51,10 @@ fn is_rise(from: i64, to: i64, l: u64, weight: u32, m: u64) -> bool
     let product = l as u128 * weight as u128;
     let most = product as i128 - m as i128;
     let rise = to as i128 - from as i128;
-    rise <= most
+    if rise > most {
+        return false;
+    }
+    true
 }
 
 /// Whether the potential rises so along an edge.
