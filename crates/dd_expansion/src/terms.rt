@@ -33,10 +33,10 @@ fn walk(topology: &Topology, from: &Cell, labels: &[u32]) -> Option<Cell>
 {
     match labels {
         [] => Some(*from),
-        [label, rest @ ..] => {
-            let next = step(topology, from, *label)?;
-            walk(topology, &next, rest)
-        }
+        [label, rest @ ..] => match step(topology, from, *label) {
+            Some(next) => walk(topology, &next, rest),
+            None => None,
+        },
     }
 }
 
@@ -47,8 +47,10 @@ pub(crate) fn cell_of(topology: &Topology, env: &[Cell], term: &Term) -> Option<
     requires fits { term_fits topology.now (length env.now) term.now ≡ true }
     ensures { result ≡ cell_of topology.now.edges env.now term.now }
 {
-    let cell = env.get(term.variable as usize)?;
-    walk(topology, cell, term.moves.as_slice())
+    match env.get(term.variable as usize) {
+        Some(cell) => walk(topology, cell, term.moves.as_slice()),
+        None => None,
+    }
 }
 
 /// The ball of a radius round a cell, in cell order.
