@@ -26,8 +26,7 @@ pub fn forbidden(alloc: Global, rule: &Rule, node: u32) -> Result<Vec<Filling>, 
         return Err(ForbiddenFault::Size);
     }
     let expansion = rule.expansion(node);
-    let listed = expansion.cells(alloc)?;
-    let cells = listed.as_slice();
+    let cells = rule.reads(node);
     let ranks = Ranks::new(cells);
     let formula = Numbered::new(alloc, expansion, &ranks)?;
     let mut symbols = Items::new(alloc);
