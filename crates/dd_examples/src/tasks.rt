@@ -1,31 +1,41 @@
 //! What the program does, by its word.
 
-use crate::checking::checked;
+use crate::checking::{Unchecked, checked};
 use crate::deciding::answered;
 use crate::rewriting::rewritten;
 use crate::squares::chessboard_membership;
 use dd_formula::Membership;
-use dd_output::MOST_OUTPUT;
-use dd_outside::{Source, read_all};
+use dd_output::{CertificateFault, MOST_OUTPUT};
+use dd_outside::{ReadAllFault, Source, read_all};
+use dd_script::{ScriptFault, ScriptKind};
 use dd_values::MOST_SCRIPT;
 use std::alloc::Global;
 
 /// What the program is asked for.
 #[derive(Clone, Copy, Debug, PartialEq, Eq)]
 pub enum Task {
+    /// To write again the output that is read.
     Rewrite,
+    /// To write the first line of each answer to the script that is read.
     Answer,
+    /// To say whether each answer of the output that is read is a certificate.
     Check,
+    /// To say whether the chessboard is a configuration of hard squares.
     Squares,
 }
 
 /// Why nothing is written.
 #[derive(Clone, Copy, Debug, PartialEq, Eq)]
 pub enum Fault {
+    /// The words name no task.
     Words,
+    /// The input could not be read, or is too long.
     Input,
+    /// The bytes, or those that an output gives as its script, spell none.
     Script,
+    /// The bytes are no output.
     Output,
+    /// Memory was wanting.
     Memory,
 }
 
@@ -42,6 +52,46 @@ impl Fault {
     }
 }
 
+impl From<ReadAllFault> for Fault {
+    fn from(fault: ReadAllFault) -> Fault {
+        match fault {
+            ReadAllFault::ReadFault | ReadAllFault::TooLong => Fault::Input,
+            ReadAllFault::Memory => Fault::Memory,
+        }
+    }
+}
+
+impl From<CertificateFault> for Fault {
+    fn from(fault: CertificateFault) -> Fault {
+        match fault {
+            CertificateFault::Malformed(_) => Fault::Output,
+            CertificateFault::Memory => Fault::Memory,
+        }
+    }
+}
+
+impl From<ScriptFault> for Fault {
+    fn from(fault: ScriptFault) -> Fault {
+        match fault.kind {
+            ScriptKind::Syntax
+            | ScriptKind::Unknown(_)
+            | ScriptKind::Twice(_)
+            | ScriptKind::Dimension
+            | ScriptKind::Size(_) => Fault::Script,
+            ScriptKind::Memory => Fault::Memory,
+        }
+    }
+}
+
+impl From<Unchecked> for Fault {
+    fn from(fault: Unchecked) -> Fault {
+        match fault {
+            Unchecked::Output(fault) => Fault::from(fault),
+            Unchecked::Script(fault) => Fault::from(fault),
+        }
+    }
+}
+
 // A line, or want of memory.
 fn line(alloc: Global, text: &[u8]) -> Result<Vec<u8>, Fault> {
     match Vec::from_slice(alloc, text) {
@@ -51,33 +101,21 @@ fn line(alloc: Global, text: &[u8]) -> Result<Vec<u8>, Fault> {
 }
 
 fn rewritten_text<S: Source>(alloc: Global, source: &mut S) -> Result<Vec<u8>, Fault> {
-    let Ok(bytes) = read_all(alloc, source, MOST_OUTPUT) else {
-        return Err(Fault::Input);
-    };
-    match rewritten(alloc, &bytes) {
-        Ok(text) => Ok(text),
-        Err(_) => Err(Fault::Output),
-    }
+    let bytes = read_all(alloc, source, MOST_OUTPUT)?;
+    Ok(rewritten(alloc, &bytes)?)
 }
 
 fn answered_text<S: Source>(alloc: Global, source: &mut S) -> Result<Vec<u8>, Fault> {
-    let Ok(bytes) = read_all(alloc, source, MOST_SCRIPT) else {
-        return Err(Fault::Input);
-    };
-    match answered(alloc, &bytes) {
-        Ok(text) => Ok(text),
-        Err(_) => Err(Fault::Script),
-    }
+    let bytes = read_all(alloc, source, MOST_SCRIPT)?;
+    Ok(answered(alloc, &bytes)?)
 }
 
 fn checked_text<S: Source>(alloc: Global, source: &mut S) -> Result<Vec<u8>, Fault> {
-    let Ok(bytes) = read_all(alloc, source, MOST_OUTPUT) else {
-        return Err(Fault::Input);
-    };
-    match checked(alloc, &bytes) {
-        Ok(true) => line(alloc, b"accepted\n"),
-        Ok(false) => line(alloc, b"rejected\n"),
-        Err(_) => Err(Fault::Output),
+    let bytes = read_all(alloc, source, MOST_OUTPUT)?;
+    if checked(alloc, &bytes)? {
+        line(alloc, b"accepted\n")
+    } else {
+        line(alloc, b"rejected\n")
     }
 }
 
