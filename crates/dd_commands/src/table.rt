@@ -71,12 +71,7 @@ pub struct QuestionRow {
     pub lists: Lists,
 }
 
-fn entry(
-    word: &'static [u8],
-    names: &'static [Role],
-    numbers: usize,
-    lists: Lists,
-) -> QuestionRow
+fn entry(word: &'static [u8], names: &'static [Role], numbers: usize, lists: Lists) -> QuestionRow
     ensures word { result.word.now ≡ word.now }
     ensures names { result.names.now ≡ names.now }
     ensures numbers { result.numbers ≡ numbers }

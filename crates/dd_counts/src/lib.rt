@@ -7,6 +7,7 @@ mod values;
 
 pub use clauses::{broken_clauses, place_clauses, question_clauses};
 pub use rules::{
-    MOST_LONGER_STATES, MOST_PATTERNS, MOST_STATES, least_x, longer_states, patterns, states, window,
+    MOST_LONGER_STATES, MOST_PATTERNS, MOST_STATES, least_x, longer_states, patterns, states,
+    window,
 };
 pub use values::differ_clauses;

@@ -103,8 +103,5 @@ pub(crate) fn restricted_again(context: &Context, node: Name, found: &mut Option
 pub(crate) fn passes_limits(radius: u32, period: u32, pivots: u32) -> bool
     ensures { result ≡ passes_limits radius period pivots }
 {
-    radius > GREATEST_RADIUS
-        || period < 1
-        || period > GREATEST_PERIOD
-        || pivots > MOST_PIVOTS
+    radius > GREATEST_RADIUS || period < 1 || period > GREATEST_PERIOD || pivots > MOST_PIVOTS
 }

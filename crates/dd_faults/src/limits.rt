@@ -32,6 +32,7 @@ pub(crate) const MOST_BALLS: usize = 4;
 
 /// The greatest radius and the greatest period that a script may have tried.
 pub(crate) const GREATEST_RADIUS: u32 = 8;
+
 pub(crate) const GREATEST_PERIOD: u32 = 8;
 
 /// How many pivots a script may allow at most.

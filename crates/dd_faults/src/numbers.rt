@@ -24,7 +24,11 @@ fn token(text: &Text, token: Lexeme, found: &mut Option<Fault>)
     match token {
         Lexeme::Word(word) => note_over(found, word.length > MOST_LETTERS, Limit::Word),
         Lexeme::Number(number) | Lexeme::Negative(number) => {
-            note_over(found, number_value(text, number) > GREATEST_NUMBER, Limit::Number);
+            note_over(
+                found,
+                number_value(text, number) > GREATEST_NUMBER,
+                Limit::Number,
+            );
         }
         Lexeme::Mark(_) | Lexeme::Stray => {}
     }

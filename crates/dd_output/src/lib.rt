@@ -17,6 +17,4 @@ pub use fault::CertificateFault;
 pub use output::Output;
 pub use promises::{completes, one_offset, one_output, read_again};
 pub use reading::{MOST_OUTPUT, read_output};
-pub use writing::write_output;
-pub use reading::read_output;
 pub use writing::{header, write_output};

@@ -10,9 +10,7 @@ ghost use Rattle.dd_query.specs.Sound.{longest_period, IsQueryWithin};
 
 use crate::aims::{anything, breaking, differing, is_long};
 use crate::queries::Query;
-use dd_counts::{
-    MOST_LONGER_STATES, MOST_PATTERNS, MOST_STATES, longer_states, patterns, states,
-};
+use dd_counts::{MOST_LONGER_STATES, MOST_PATTERNS, MOST_STATES, longer_states, patterns, states};
 use dd_faults::{Known, Limit, Refusal, refuse_if};
 use dd_formula::{Automaton, Rule};
 use std::alloc::Global;

@@ -85,7 +85,13 @@ const SIZES: [(&str, u32, u32, u32, u32); 18] = [
     // A cell and its neighbour have both the symbol 0, both 1 or both 2: three gates over two and one over these, beside 1 + 3 + 1.
     ("%dim 1 %alphabet 0 1 2 %rule x o.rt=o", 0, 0, 2, 36),
     // One of three symbols isn't allowed: 1 + 3 + 1 + 1.
-    ("%dim 1 %alphabet 0 1 2 %only 0 0 2 %rule x o!=1", 0, 8, 8, 102),
+    (
+        "%dim 1 %alphabet 0 1 2 %only 0 0 2 %rule x o!=1",
+        0,
+        8,
+        8,
+        102,
+    ),
     // The second node has no such move, and a constant is a gate over nothing: 2 * 3 + 1.
     (
         "%dim 1 %nodes a b %topology (x a [0] b) (y b [0] a) %rule x o.x=1",

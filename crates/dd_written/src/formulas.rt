@@ -136,7 +136,10 @@ fn quantifier_end(
 }
 
 /// The variable and the balls of a quantifier, behind its capital.
-fn quantifier(alloc: Global, tokens: &[Lexeme]) -> Result<((Word, Items<Ball>), &[Lexeme]), ReadFault>
+fn quantifier(
+    alloc: Global,
+    tokens: &[Lexeme],
+) -> Result<((Word, Items<Ball>), &[Lexeme]), ReadFault>
     ensures { Gives (λ x. (x.0, x.1.now)) result (quantifier_at tokens.now) }
 {
     match tokens {
@@ -181,7 +184,12 @@ fn nested(alloc: Global, budget: u32, tokens: &[Lexeme]) -> Result<(Formula, &[L
     match tokens {
         [Lexeme::Mark(Mark::Not), rest @ ..] => negated(alloc, budget, rest),
         [Lexeme::Mark(Mark::All), rest @ ..] => quantified(alloc, budget, Quantifier::All, rest),
-        [Lexeme::Mark(Mark::Exists), rest @ ..] => quantified(alloc, budget, Quantifier::Exists, rest),
+        [Lexeme::Mark(Mark::Exists), rest @ ..] => quantified(
+            alloc,
+            budget,
+            Quantifier::Exists,
+            rest,
+        ),
         [Lexeme::Mark(Mark::Open), rest @ ..] => group(alloc, budget, rest),
         _ => leaf(alloc, tokens),
     }

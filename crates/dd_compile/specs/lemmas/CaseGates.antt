@@ -131,7 +131,3 @@ given_step k xs fs i start now new signals members more s p below are inputs gat
           ∙ (sym (append_assoc signals (s ∷ []) (fresh (size new) (k - (i + 1)))) ∙ ap (λ ys. ys ++ fresh (size new) (k - (i + 1))) (sym pushed)))));
       count = omega (arith, one.1, p.count);
     }
-
-    append-no_signals : (gs : List Signal) → gs ++ [] ≡ gs
-    append-no_signals [] = refl
-    append-no_signals (g ∷ gs) = ap (λ ys. g ∷ ys) (append-no_signals gs)
