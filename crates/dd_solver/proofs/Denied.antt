@@ -1,9 +1,9 @@
 -- Literals become false and are taken back again.
 use Rattle.std.proofs.Common.{◌≡◌, ◌≢◌, ℕ, zero, suc, ◌+◌, ◌*◌, ◌<◌, ◌≤◌, Bool, true, false, cond, not, ◌&&◌, ◌||◌, List, [], ◌∷◌, ◌++◌, refl, ap, sym, ◌∙◌, subst, length, get_or, set, take, inl, inr, arith, eqb, get_or-set_same, get_or-set_other}
 use Rattle.std.specs.Bool.{IsTrue}
-use Rattle.std.specs.Prelude.{◌↔◌, replicate}
+use Rattle.std.specs.Prelude.{◌↔◌}
 use Rattle.std.proofs.lemmas.Bool.{cases_eq, cases_Bool, false≢true, false_from_ne_true, and_parts, and_from, or_left}
-use Rattle.std.proofs.lemmas.List.{length-set, length-append, length-take, take-append-le, get_or-take, get_or_append_left, take_all, take_more, length-replicate}
+use Rattle.std.proofs.lemmas.List.{length-set, length-append, length-take, take-append-le, get_or-take, get_or_append_left, take_all, take_more}
 use Rattle.std.proofs.Math.Seq.{get_or-append_seam, take-append_seam}
 use Rattle.dd_clause.specs.declared.clause.Literal.{Literal}
 use Rattle.dd_clause.specs.Clauses.{IsLiteralInRange, negation}
@@ -35,18 +35,6 @@ code_within n l r = go l.positive
     go : (p : Bool) → 2 * l.variable + cond p 1 0 < 2 * n + 2
     go true = let b = r.1 in omega arith
     go false = let b = r.1 in omega arith
-
-all_false : (m i : ℕ) → get_or (replicate m false) i false ≡ false
-all_false zero i = refl
-all_false (suc m) zero = refl
-all_false (suc m) (suc i) = all_false m i
-
-pub denied_none : (n : ℕ) (denied : List Bool) → denied ≡ replicate (2 * n + 2) false → IsDenied n [] denied
-denied_none n denied e = rw e (record {
-  as_many = length-replicate (2 * n + 2) false;
-  news = λ k d h. absurd (omega arith);
-  denied_ok = λ l. all_false (2 * n + 2) (code l);
-})
 
 -- a literal that is not the one that became false
 other : (x m : Literal) (xs : List Literal) → code x ≢ code m → is_among (m ∷ xs) x ≡ is_among xs x

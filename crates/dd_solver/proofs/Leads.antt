@@ -142,10 +142,6 @@ module _ (n : ℕ) (known : List (Option (List Literal))) (trail : List Entry) (
           let h : has_variable x.variable (xs ++ l ∷ []) ≡ false = rw (list_any-append (λ y. eqb y.variable x.variable) xs (l ∷ []), f, g) refl in
           rw (q'.0, h, proper_snoc n xs l r q.1 (λ y i. a y (or_right _ _ i))) refl
 
--- the learned clause is right when the whole trail was walked
-pub leads_all : (known : List (Option (List Literal))) (trail : List Entry) (marked : List Bool) (learned : List Literal) (hints : List ℕ) → Leads known trail 0 marked learned hints → is_conflict known learned hints ≡ true
-leads_all known trail marked learned hints leads = leads learned (record { within = λ x i. inr i; learned_in = λ x i. i; marked_in = λ k d h m. absurd (omega arith) })
-
 pub later_more : (trail : List Entry) (j : ℕ) (d : Entry) (learned : List Literal) → j < length trail → AreFrom trail (j + 1) learned → AreFrom trail j (learned ++ negation (get_or trail j d).literal ∷ [])
 later_more trail j d learned l later x i = elim (in_cases learned _ x i) [
   | inl a ↦ (let w = later x a in (w.0, omega arith, w.2, λ d'. w.3 d'))

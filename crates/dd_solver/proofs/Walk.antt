@@ -1,7 +1,7 @@
 -- What the walk along the trail keeps at each place.
 use Rattle.std.proofs.Common.{◌≡◌, ℕ, ◌+◌, ◌<◌, Bool, true, false, List, [], ◌∷◌, ◌++◌, reverse, Option, Some, None, refl, sym, subst, length, get_or}
 use Rattle.std.specs.Option.{MatchOption}
-use Rattle.std.proofs.lemmas.Bool.{and_from, false≢true}
+use Rattle.std.proofs.lemmas.Bool.{false≢true}
 use Rattle.std.proofs.lemmas.List.{reverse-append}
 use Rattle.dd_clause.specs.declared.clause.Literal.{Literal}
 use Rattle.dd_clause.specs.Clauses.{negation}
@@ -11,8 +11,8 @@ use Rattle.dd_solver.specs.declared.trail.Entry.{Entry}
 use Rattle.dd_solver.specs.declared.analysis.Turn.{Turn}
 use Rattle.dd_solver.specs.declared.analysis.Choice.TheVariants.{Keep}
 use Rattle.dd_solver.specs.searching.Entries.{falses, IsTrail}
-use Rattle.dd_solver.specs.searching.Analysis.{marks, Grows, IsMarkedClause, is_rightly_learned, ChoiceSays, Asserts}
-use Rattle.dd_solver.proofs.Leads.{Leads, AreFrom, covers_from, leads_conflict, leads_past, leads_kept, leads_forced, leads_all, proper_more, later_more, later_past}
+use Rattle.dd_solver.specs.searching.Analysis.{marks, Grows, IsMarkedClause, ChoiceSays, Asserts}
+use Rattle.dd_solver.proofs.Leads.{Leads, AreFrom, covers_from, leads_conflict, leads_past, leads_kept, leads_forced, proper_more, later_more, later_past}
 use Rattle.dd_solver.proofs.Turns.{TurnIs, turn_past, turn_resolved, turn_kept, turn_asserts}
 
 pub record Walk (n : ℕ) (known : List (Option (List Literal))) (trail : List Entry) (i : ℕ) (marked : List Bool) (learned : List Literal) (hints : List ℕ) (turn : Option Turn) : Type 0 where
@@ -53,9 +53,6 @@ module _ (n : ℕ) (known : List (Option (List Literal))) (trail : List Entry) (
     turns = turn_resolved trail j d marked marked' learned turn m w.turns;
     proper = w.proper;
   }
-
-  pub walk_right : (marked : List Bool) (learned : List Literal) (hints : List ℕ) (turn : Option Turn) → Walk n known trail 0 marked learned hints turn → is_rightly_learned n known learned (reverse hints) ≡ true
-  walk_right marked learned hints turn w = and_from _ _ w.proper (leads_all known trail marked learned (reverse hints) w.leads)
 
   pub walk_turn : (marked : List Bool) (learned : List Literal) (hints : List ℕ) (turn : Option Turn) → Walk n known trail 0 marked learned hints turn → MatchOption turn (learned ≡ []) (Asserts trail learned)
   walk_turn marked learned hints turn w = turn_asserts n known trail marked learned turn ok w.turns

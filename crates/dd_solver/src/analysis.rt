@@ -231,7 +231,7 @@ fn take_mark(marked: &mut [bool], literal: Literal) -> bool {
     false
 }
 
-/// Takes the marks of a clause's variables away, and makes those more active whose values a decision led to.
+/// Takes the marks of a clause's variables away, and makes those more active whose values came after a decision.
 fn bump_marked(order: &mut Order, trail: &Trail, marked: &mut [bool], literals: &[Literal]) {
     for literal in literals {
         if take_mark(marked, *literal) && !trail.is_fixed(literal.variable) {

@@ -13,14 +13,16 @@ use std::alloc::{AllocError, Global};
 /// After how many learned clauses some are deleted first.
 const FIRST_REVIEW: usize = 4000;
 
-/// How many more there are before the next time, and how many more each time.
+/// What the number of clauses from one review to the next begins with.
 const FIRST_GAP: usize = 2000;
 
+/// What that number grows by at each review.
 const GAP_GROWTH: usize = 300;
 
-/// Clauses of so many levels or literals, or of fewer, are kept.
+/// Clauses of so many levels, or of fewer, are kept.
 const KEPT_LEVELS: u32 = 2;
 
+/// Clauses of so many literals, or of fewer, are kept.
 const KEPT_LENGTH: usize = 2;
 
 /// A learned clause that may be deleted. The least are kept: those of few levels, then the short, then the new.

@@ -1,4 +1,4 @@
-// The order in which variables are decided (Moskewicz, Madigan, Zhao, Zhang and Malik 2001, Een and Sorensson 2003): first
+// The order in which variables are decided (Moskewicz, Madigan, Zhao, Zhang and Malik 2001, Eén and Sörensson 2003): first
 // those that took part in the latest conflicts, each with the value that it had last. They stand in a binary heap. What
 // is taken from it is looked at exactly, so no promise rests on the order: a bad one costs time.
 ghost use Rattle.std.specs.Prelude.{◌≡◌, ◌<◌, ◌^◌, MatchOption, ⊤};
@@ -8,7 +8,7 @@ use crate::trail::Trail;
 use dd_clause::Literal;
 use std::alloc::{AllocError, Global};
 
-/// What a variable's activity gains at first, and the least that it ever gains.
+/// What a conflict adds to a variable's activity at first, and the least that one ever adds.
 const FIRST_INCREMENT: u64 = 1 << 10;
 
 /// Where an activity is above this, all are made smaller.
@@ -16,6 +16,9 @@ const MOST_ACTIVE: u64 = 1 << 60;
 
 /// How many bits the activities then lose.
 const LOST_BITS: u32 = 32;
+
+/// After each conflict the increment grows by this part of itself.
+const GROWTH_PART: u64 = 64;
 
 /// How active a variable was, its place in the heap, and the value that it had last.
 #[derive(Clone, Copy)]
@@ -253,6 +256,6 @@ impl Order {
 
     /// Later conflicts count for more than those before.
     pub fn decay(&mut self) {
-        self.increment = self.increment.saturating_add(self.increment / 64);
+        self.increment = self.increment.saturating_add(self.increment / GROWTH_PART);
     }
 }

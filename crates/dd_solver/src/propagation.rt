@@ -13,8 +13,11 @@ use dd_derivation::{Finding, find};
 /// What a look at clauses finds: the number of one that is falsified, or of one that forces a literal.
 #[derive(Clone, Copy)]
 pub enum Scan {
+    /// All literals of the clause of this number are false.
     Conflict(u64),
+    /// All but this one are, which has no value.
     Unit(u64, Literal),
+    /// No such clause was found.
     Nothing,
 }
 

@@ -15,7 +15,9 @@ use std::marker::Model;
 /// A literal that is true: it was decided, or the clause of a number forced it.
 #[derive(Clone, Copy, Debug)]
 pub struct Entry {
+    /// The literal.
     pub literal: Literal,
+    /// The number of the clause that forced it, and nothing where it was decided.
     pub reason: Option<u64>,
 }
 
@@ -33,7 +35,7 @@ pub struct Trail {
     entries: Vec<Entry>,
     denied: Vec<bool>,
     spots: Vec<Spot>,
-    levels: Vec<usize>,
+    decision_places: Vec<usize>,
 }
 
 impl Model for Trail {
@@ -63,17 +65,17 @@ fn set_spot(spots: &mut Vec<Spot>, variable: u32, spot: Spot) {
 }
 
 /// Notes where a decision stands.
-fn note_decision(levels: &mut Vec<usize>, entry: Entry, place: usize) -> Result<(), AllocError> {
+fn note_decision(places: &mut Vec<usize>, entry: Entry, place: usize) -> Result<(), AllocError> {
     if entry.reason.is_none() {
-        levels.push(place)?;
+        places.push(place)?;
     }
     Ok(())
 }
 
 /// How many of the decisions stand below a place.
-fn count_below(levels: &[usize], place: usize) -> usize {
-    for count in (0..levels.len()).rev() {
-        if levels[count] < place {
+fn count_below(places: &[usize], place: usize) -> usize {
+    for count in (0..places.len()).rev() {
+        if places[count] < place {
             return count + 1;
         }
     }
@@ -92,7 +94,7 @@ impl Trail {
             entries: Vec::new(alloc),
             denied: vec![in alloc; false; 2 * variables + 2]?,
             spots: vec![in alloc; Spot { place: 0, level: 0 }; variables + 1]?,
-            levels: Vec::new(alloc),
+            decision_places: Vec::new(alloc),
         })
     }
 
@@ -113,9 +115,9 @@ impl Trail {
         ensures room { OnOk result (length self.old.entries < self.old.variables) }
     {
         let place = self.entries.len();
-        note_decision(&mut self.levels, entry, place)?;
+        note_decision(&mut self.decision_places, entry, place)?;
         self.entries.push(entry)?;
-        let level = self.levels.len();
+        let level = self.decision_places.len();
         set_spot(
             &mut self.spots,
             entry.literal.variable,
@@ -136,8 +138,8 @@ impl Trail {
             self.denied[place_of(entry.literal.negation())] = false;
             self.entries.truncate(last);
         }
-        self.levels
-            .truncate(count_below(self.levels.as_slice(), place));
+        self.decision_places
+            .truncate(count_below(self.decision_places.as_slice(), place));
     }
 
     /// Whether each variable has a value.
@@ -191,7 +193,7 @@ impl Trail {
         None
     }
 
-    /// How many decisions led to the variable's value.
+    /// The decision level of the variable's value: how many decisions stand on the trail up to it.
     pub fn level(&self, variable: u32) -> usize {
         let variable = variable as usize;
         if variable < self.spots.len() {
@@ -200,14 +202,9 @@ impl Trail {
         0
     }
 
-    /// Whether some literal was decided.
-    pub fn has_decision(&self) -> bool {
-        !self.levels.is_empty()
-    }
-
     /// Whether the variable has its value by clauses alone, with no decision before it.
     pub fn is_fixed(&self, variable: u32) -> bool {
-        match self.levels.first() {
+        match self.decision_places.first() {
             None => true,
             Some(first) => self.place(variable) < *first,
         }
@@ -215,7 +212,7 @@ impl Trail {
 
     /// Whether the variable got its value since the last decision.
     pub fn is_latest(&self, variable: u32) -> bool {
-        match self.levels.last() {
+        match self.decision_places.last() {
             None => true,
             Some(last) => self.place(variable) >= *last,
         }

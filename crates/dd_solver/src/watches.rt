@@ -2,7 +2,7 @@
 // that it watches are not false. So only the clauses that watch a literal are looked at when it becomes false, and
 // nothing is undone on a return. What a clause is found to say is looked at exactly, so no promise rests on the watches:
 // one that is missed costs time. Nor does an invariant say that the places kept here are within their lists: the tests
-// below that look are never false.
+// below that look for this never fail.
 ghost use Rattle.std.specs.Prelude.{◌≡◌, ◌<◌, ◌^◌, length, IfOk, MatchOption, ⊤};
 ghost use Rattle.dd_solver.specs.searching.Entries.{falses, IsFull};
 ghost use Rattle.dd_solver.specs.searching.Search.{Says, AreOpenBetween};
@@ -327,6 +327,7 @@ impl Watches {
         ensures { IfOk result (Says database.now (falses trail.now.entries) ⊤) }
     {
         let entries = trail.entries();
+        // This many turns are never made. A `loop` would have to be shown to end, by places of which nothing is known.
         for _ in 0..u64::MAX {
             let read = self.read;
             if read >= entries.len() {
