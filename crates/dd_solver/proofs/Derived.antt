@@ -1,5 +1,5 @@
 -- The learned steps are a derivation, and a learned clause may be hinted at from then on.
-use Rattle.std.proofs.Common.{◌≡◌, ℕ, suc, ◌+◌, ◌<◌, Bool, true, false, ◌&&◌, List, [], ◌∷◌, ◌++◌, Option, Some, None, refl, ap, sym, ◌∙◌, subst, length, get_or, take, inl, inr, arith}
+use Rattle.std.proofs.Common.{◌≡◌, ℕ, suc, ◌+◌, Bool, true, false, ◌&&◌, List, [], ◌∷◌, ◌++◌, Option, Some, None, refl, ◌∙◌, subst, length, get_or, take, inl, inr, arith}
 use Rattle.std.specs.List.{list_all}
 use Rattle.std.proofs.lemmas.Bool.{and_parts, and_from, or_right, leb-true}
 use Rattle.std.proofs.lemmas.List.{length-append}
@@ -8,9 +8,10 @@ use Rattle.dd_clause.specs.declared.clause.Literal.{Literal}
 use Rattle.dd_clause.specs.Clauses.{IsLiteralInRange, IsClauseInRange}
 use Rattle.dd_derivation.specs.declared.propagation.Finding.TheVariants.{Forced}
 use Rattle.dd_derivation.specs.declared.step.Step.{Step}
-use Rattle.dd_derivation.specs.Derivations.{is_among, finding, clause_of, hint_finding, is_literal_in_range, is_proper, is_conflict, is_right, are_deletable, known_after, refutes_from}
-use Rattle.dd_solver.specs.declared.trail.Entry.{Entry}
-use Rattle.dd_solver.specs.searching.Entries.{falses, AreInRange, Follows, IsTrail}
+use Rattle.dd_derivation.specs.Derivations.{is_among, finding, hint_finding, is_literal_in_range, is_proper, is_conflict, is_right, are_deletable, known_after, refutes_from}
+use Rattle.dd_trail.specs.declared.trail.Entry.{Entry}
+use Rattle.dd_trail.specs.Trails.{falses}
+use Rattle.dd_solver.specs.searching.Reasons.{AreInRange, Follows, IsTrail}
 use Rattle.dd_solver.specs.searching.Analysis.{is_rightly_learned}
 use Rattle.dd_solver.specs.searching.Deleting.{MayDelete}
 use Rattle.dd_solver.specs.searching.Search.{after_step, known_through, is_derived}

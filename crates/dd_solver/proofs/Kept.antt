@@ -1,8 +1,8 @@
 -- The marked steps of a refutation refute too. Each clause that a marked step hints at is marked or one of the list's,
 -- so it is known under its new number when the hint is followed; and what is known there is the same clause.
-use Rattle.std.proofs.Common.{◌≡◌, ℕ, zero, suc, ◌<◌, ◌≤◌, Bool, true, false, cond, ◌&&◌, ◌||◌, List, [], ◌∷◌, ◌++◌, map, Option, Some, None, refl, ap, sym, ◌∙◌, subst, length, inl, inr, ◌⊎◌, arith}
-use Rattle.std.specs.List.{list_all, slice_get, slice_set, All}
-use Rattle.std.specs.Option.{option_map_or, option_and_then}
+use Rattle.std.proofs.Common.{◌≡◌, ℕ, suc, ◌<◌, ◌≤◌, Bool, true, false, cond, ◌&&◌, ◌||◌, List, [], ◌∷◌, ◌++◌, map, Option, Some, None, refl, ap, sym, ◌∙◌, subst, length, inl, inr, ◌⊎◌, arith}
+use Rattle.std.specs.List.{list_all, All}
+use Rattle.std.specs.Option.{option_map_or}
 use Rattle.std.proofs.lemmas.Bool.{and_parts, and_from, or_cases, or_left, or_right, false≢true, eqb-true, eq-eqb}
 use Rattle.std.proofs.lemmas.List.{length-append}
 use Rattle.std.proofs.lemmas.List.Elements.{All-nil, All-cons}
@@ -12,7 +12,7 @@ use Rattle.dd_clause.specs.Clauses.{negation}
 use Rattle.dd_derivation.specs.declared.propagation.Finding.{Finding}
 use Rattle.dd_derivation.specs.declared.propagation.Finding.TheVariants.{Falsified, Forced, Open}
 use Rattle.dd_derivation.specs.declared.step.Step.{Step}
-use Rattle.dd_derivation.specs.Derivations.{is_among, finding, clause_of, without, follow, is_conflict, known_after, is_proper, is_right, refutes_from}
+use Rattle.dd_derivation.specs.Derivations.{is_among, finding, clause_of, follow, is_conflict, known_after, is_proper, is_right, refutes_from}
 use Rattle.dd_solver.specs.Trimming.{is_hint, is_hinted, are_used}
 use Rattle.dd_solver.specs.searching.Marking.{kept_step, kept_steps}
 use Rattle.dd_solver.proofs.Numbers.{Known, known_push, known_left, known_last, known_within, known_before, length-after}

@@ -11,11 +11,13 @@ use Rattle.dd_derivation.specs.declared.propagation.Finding.TheVariants.{Falsifi
 use Rattle.dd_derivation.specs.Derivations.{same_literal, is_among, has_variable, clause_of, hint_finding, is_conflict, is_literal_in_range, is_proper}
 use Rattle.dd_derivation.specs.lemmas.Soundness.{same_literal-refl}
 use Rattle.dd_derivation.specs.lemmas.Findings.{In, in_here, Forces, forces_from}
-use Rattle.dd_solver.specs.declared.trail.Entry.{Entry}
-use Rattle.dd_solver.specs.searching.Entries.{falses, Follows, IsTrail}
+use Rattle.dd_trail.specs.declared.trail.Entry.{Entry}
+use Rattle.dd_trail.specs.Trails.{falses}
+use Rattle.dd_solver.specs.searching.Reasons.{Follows, IsTrail}
 use Rattle.dd_solver.specs.searching.Analysis.{marks, Grows, AreMarked, IsMarkedClause}
 use Rattle.dd_solver.proofs.Forcing.{in_left, in_right, in_cases, in_one, falsified_all, all_falsified, forced_from, hint_clause, at_clause}
-use Rattle.dd_solver.proofs.Trails.{falses-more, in_falses, in_falses_take, get_any, apart}
+use Rattle.dd_trail.specs.lemmas.Trails.{falses-more, in_falses, in_falses_take, get_any}
+use Rattle.dd_solver.proofs.Trails.{apart}
 
 -- the literals that may be false where the hints behind place i begin
 pub record Start (trail : List Entry) (i : ℕ) (marked : List Bool) (learned start : List Literal) : Type 0 where

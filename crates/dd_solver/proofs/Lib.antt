@@ -1,7 +1,5 @@
 pub mod Forcing
 pub mod Trails
-pub mod Valued
-pub mod Denied
 pub mod Numbers
 pub mod Leads
 pub mod Turns

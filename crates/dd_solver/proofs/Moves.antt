@@ -5,7 +5,7 @@ use Rattle.std.specs.List.{All, slice_get}
 use Rattle.std.specs.Option.{MatchOption, option_map_or}
 use Rattle.std.proofs.lemmas.Bool.{or_cases, and_parts, cases_lt, false≢true, true_from_ne_false, false_from_ne_true}
 use Rattle.std.proofs.lemmas.List.{length-append, length-replicate, append-nil}
-use Rattle.std.proofs.lemmas.List.Elements.{All-head, All-tail, All-push}
+use Rattle.std.proofs.lemmas.List.Elements.{All-head, All-tail}
 use Rattle.std.proofs.lemmas.Option.{slice_get-get_or}
 use Rattle.dd_clause.specs.declared.clause.Literal.{Literal}
 use Rattle.dd_clause.specs.Clauses.{IsLiteralInRange, IsClauseInRange, is_true_under, is_clause_true, Satisfies}
@@ -17,15 +17,18 @@ use Rattle.dd_derivation.specs.checking.MarksOf.{known_of}
 use Rattle.dd_derivation.specs.lemmas.Soundness.{same_literal-eq, all_false}
 use Rattle.dd_derivation.specs.lemmas.Falses.{same_variable}
 use Rattle.dd_derivation.specs.lemmas.Findings.{In, forces_from}
-use Rattle.dd_solver.specs.declared.trail.Entry.{Entry}
+use Rattle.dd_trail.specs.declared.trail.Entry.{Entry}
 use Rattle.dd_solver.specs.declared.analysis.Turn.{Turn}
-use Rattle.dd_solver.specs.searching.Entries.{falses, all_known, AreInRange, EntryOk}
+use Rattle.dd_trail.specs.Trails.{falses}
+use Rattle.dd_solver.specs.searching.Reasons.{all_known, AreInRange, EntryOk}
 use Rattle.dd_solver.specs.searching.Analysis.{is_rightly_learned, Asserts}
 use Rattle.dd_solver.specs.searching.Deleting.{MayDelete}
 use Rattle.dd_solver.specs.searching.Search.{State, after_step, known_through, known, IsSearch, AreAlive, AreOpen, GoesOn}
 use Rattle.dd_solver.proofs.Forcing.{all_falsified, hint_clause, at_clause}
-use Rattle.dd_solver.proofs.Trails.{in-has_variable, trail_push, trail_front}
-use Rattle.dd_solver.proofs.Numbers.{Known, known_left, known_within, past_none, in_list, length-all, holds_of_clause, length-before, before-more, known_of-push, all_alive, after_push, length-after}
+use Rattle.dd_trail.specs.lemmas.Trails.{in-has_variable}
+use Rattle.dd_solver.proofs.Trails.{trail_push, trail_front}
+use Rattle.dd_derivation.specs.lemmas.Numbers.{length-before}
+use Rattle.dd_solver.proofs.Numbers.{Known, known_left, known_within, past_none, in_list, length-all, holds_of_clause, before-more, known_of-push, all_alive, after_push, length-after}
 use Rattle.dd_solver.proofs.Derived.{through_more, length-through, trail_after, hint_new, in_range_after, right_from, derived_more, refutes_last}
 
 pub all_in : (P : Literal → Type 0) (c : List Literal) (x : Literal) → All P c → In c x → P x

@@ -1,16 +1,16 @@
 -- The clauses by number.
-use Rattle.std.proofs.Common.{◌≡◌, ℕ, zero, suc, ◌+◌, ◌-◌, ◌<◌, ◌≤◌, Bool, true, false, cond, ◌&&◌, List, [], ◌∷◌, ◌++◌, map, Option, Some, None, is_some, refl, ap, sym, ◌∙◌, subst, length, inl, inr, ◌⊎◌, arith}
+use Rattle.std.proofs.Common.{◌≡◌, ℕ, zero, suc, ◌+◌, ◌-◌, ◌<◌, Bool, true, false, cond, List, [], ◌∷◌, ◌++◌, map, Option, Some, None, is_some, refl, ap, sym, ◌∙◌, subst, length, inl, inr, ◌⊎◌, arith}
 use Rattle.std.specs.Prelude.{replicate}
 use Rattle.std.specs.List.{slice_get, slice_set, All}
 use Rattle.std.specs.Option.{option_and_then}
 use Rattle.std.proofs.lemmas.Bool.{and_parts, and_from, false≢true}
-use Rattle.std.proofs.lemmas.List.{length-append, map-append, append_assoc}
+use Rattle.std.proofs.lemmas.List.{map-append, append_assoc}
 use Rattle.std.proofs.lemmas.Option.{slice_get_within, get_or_from_slice_get}
 use Rattle.dd_clause.specs.declared.clause.Literal.{Literal}
 use Rattle.dd_derivation.specs.declared.step.Step.{Step}
 use Rattle.dd_derivation.specs.Derivations.{clause_of, without, are_deletable, known_after, clauses_before}
-use Rattle.dd_derivation.specs.checking.MarksOf.{known_of, known_to}
-use Rattle.dd_solver.specs.searching.Entries.{all_known}
+use Rattle.dd_derivation.specs.checking.MarksOf.{known_of}
+use Rattle.dd_solver.specs.searching.Reasons.{all_known}
 
 abbrev pub Known : Type 0
 Known = List (Option (List Literal))
@@ -116,18 +116,6 @@ holds_of_clause P cs (suc k) c a h =
     subst P (get_or_from_slice_get cs k c c g) (a k c (slice_get_within cs k c g))
 
 -- those that are alive
-
-pub length-known_of : (cs : List (List Literal)) (alive : List Bool) → length cs ≤ length alive → length (known_of cs alive) ≡ length cs
-length-known_of [] alive h = refl
-length-known_of (c ∷ cs) [] h = absurd (omega arith)
-length-known_of (c ∷ cs) (a ∷ alive) h = ap suc (length-known_of cs alive (omega arith))
-
-length-map : (steps : List Step) → length (map (λ s. s.clause) steps) ≡ length steps
-length-map [] = refl
-length-map (s ∷ steps) = ap suc (length-map steps)
-
-pub length-before : (clauses : List (List Literal)) (steps : List Step) → length (clauses_before clauses steps) ≡ length clauses + length steps
-length-before clauses steps = length-append clauses (map (λ s. s.clause) steps) ∙ ap (λ (n : ℕ). length clauses + n) (length-map steps)
 
 pub before-more : (cs : List (List Literal)) (steps : List Step) (s : Step) → clauses_before cs (steps ++ s ∷ []) ≡ clauses_before cs steps ++ s.clause ∷ []
 before-more cs steps s = ap (λ (ys : List (List Literal)). cs ++ ys) (map-append (λ x. x.clause) steps (s ∷ [])) ∙ sym (append_assoc cs (map (λ x. x.clause) steps) (s.clause ∷ []))

@@ -6,10 +6,10 @@ use Rattle.std.proofs.lemmas.List.{get_or-drop, length-drop}
 use Rattle.dd_clause.specs.declared.clause.Literal.{Literal}
 use Rattle.dd_derivation.specs.declared.step.Step.{Step}
 use Rattle.dd_derivation.specs.Derivations.{refutes}
-use Rattle.dd_solver.specs.searching.Entries.{all_known}
+use Rattle.dd_solver.specs.searching.Reasons.{all_known}
 use Rattle.dd_solver.specs.Trimming.{is_hint, are_used}
 use Rattle.dd_solver.specs.searching.Marking.{IsNeeded, IsMarking, numbers_from, renamed, kept_steps}
-use Rattle.dd_solver.proofs.Trails.{get_any}
+use Rattle.dd_trail.specs.lemmas.Trails.{get_any}
 use Rattle.dd_solver.proofs.Kept.{Agree, hinted_by, IsPlanned, Plan, refutes_kept, used_kept}
 use Rattle.dd_solver.proofs.Numbers.{known_within, length-all}
 

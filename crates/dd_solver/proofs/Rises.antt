@@ -3,7 +3,7 @@ use Rattle.std.proofs.Common.{◌≡◌, ℕ, zero, suc, ◌-◌, ◌*◌, ◌^�
 use Rattle.std.specs.Option.{is_none}
 use Rattle.std.proofs.lemmas.List.{map-append}
 use Rattle.std.proofs.Math.Nat.{pow-succ'}
-use Rattle.dd_solver.specs.declared.trail.Entry.{Entry}
+use Rattle.dd_trail.specs.declared.trail.Entry.{Entry}
 use Rattle.dd_solver.specs.searching.Search.{trail_number, decisions}
 
 three : (n : ℕ) → 3 ^ suc n ≡ 3 * 3 ^ n

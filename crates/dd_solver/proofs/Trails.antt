@@ -1,89 +1,15 @@
--- Entries of a trail by place, and the literals that they make false.
-use Rattle.std.proofs.Common.{◌≡◌, ℕ, zero, suc, ◌+◌, ◌<◌, ◌≤◌, Bool, true, false, ◌||◌, List, [], ◌∷◌, ◌++◌, Option, refl, ap, sym, ◌∙◌, subst, length, get_or, take, eqb, inl, inr, arith}
-use Rattle.std.proofs.lemmas.Bool.{cases_eq, eq-eqb, eqb-true, or_cases, or_left, or_right, false≢true, false_from_ne_true}
-use Rattle.std.proofs.lemmas.List.{take_more, take-append-le, length-append, length-take, get_or-take, get_or_append_left}
-use Rattle.std.proofs.lemmas.List.Folds.{list_any-append}
+-- A trail whose literals were decided or are forced: it stays one where an entry is added, or where it is cut.
+use Rattle.std.proofs.Common.{◌≡◌, ℕ, ◌<◌, true, List, [], ◌∷◌, ◌++◌, Option, sym, ◌∙◌, subst, length, get_or, take, inl, inr, arith}
+use Rattle.std.proofs.lemmas.Bool.{cases_eq, false≢true}
+use Rattle.std.proofs.lemmas.List.{take-append-le, length-append, length-take, get_or-take, get_or_append_left}
 use Rattle.std.proofs.Math.Seq.{get_or-append_seam, take-append_seam}
 use Rattle.dd_clause.specs.declared.clause.Literal.{Literal}
 use Rattle.dd_clause.specs.Clauses.{negation}
-use Rattle.dd_derivation.specs.Derivations.{same_literal, is_among, has_variable}
-use Rattle.dd_derivation.specs.lemmas.Soundness.{same_literal-eq}
-use Rattle.dd_derivation.specs.lemmas.Findings.{In, in_here}
-use Rattle.dd_solver.specs.declared.trail.Entry.{Entry}
-use Rattle.dd_solver.specs.searching.Entries.{falses, EntryOk, IsTrail}
-
-pub falses-append : (xs ys : List Entry) → falses (xs ++ ys) ≡ falses xs ++ falses ys
-falses-append [] ys = refl
-falses-append (x ∷ xs) ys = ap (λ (zs : List Literal). negation x.literal ∷ zs) (falses-append xs ys)
-
-pub falses-more : (trail : List Entry) (j : ℕ) (d : Entry) → j < length trail → falses (take (j + 1) trail) ≡ falses (take j trail) ++ negation (get_or trail j d).literal ∷ []
-falses-more trail j d h = ap falses (take_more trail j d h) ∙ falses-append (take j trail) (get_or trail j d ∷ [])
-
--- a false literal is the negation of an entry's
-pub in_falses : (trail : List Entry) (x : Literal) → In (falses trail) x → (k : ℕ) × (k < length trail) × ((d : Entry) → negation (get_or trail k d).literal ≡ x)
-in_falses [] x h = absurd (false≢true h)
-in_falses (e ∷ trail) x h = elim (or_cases (same_literal x (negation e.literal)) (is_among (falses trail) x) h) [
-  | inl a ↦ (0, omega arith, λ d. sym (same_literal-eq x (negation e.literal) a))
-  | inr a ↦ let r = in_falses trail x a in (suc r.0, omega arith, λ d. r.2 d)
-]
-
-pub at_falses : (trail : List Entry) (k : ℕ) (d : Entry) → k < length trail → In (falses trail) (negation (get_or trail k d).literal)
-at_falses [] k d h = absurd (omega arith)
-at_falses (e ∷ trail) zero d h = in_here (falses trail) (negation e.literal)
-at_falses (e ∷ trail) (suc k) d h = or_right _ _ (at_falses trail k d (omega arith))
-
--- the same among the first entries
-pub in_falses_take : (trail : List Entry) (j : ℕ) (x : Literal) → j ≤ length trail → In (falses (take j trail)) x → (k : ℕ) × (k < j) × ((d : Entry) → negation (get_or trail k d).literal ≡ x)
-in_falses_take trail j x l h =
-    let r = in_falses (take j trail) x h in
-    let lt : r.0 < j = omega (arith, length-take j trail, r.1) in
-    (r.0, lt, λ d. ap (λ (e : Entry). negation e.literal) (sym (get_or-take j trail r.0 d lt)) ∙ r.2 d)
-
-pub at_falses_take : (trail : List Entry) (j k : ℕ) (d : Entry) → j ≤ length trail → k < j → In (falses (take j trail)) (negation (get_or trail k d).literal)
-at_falses_take trail j k d l h = subst (λ (e : Entry). In (falses (take j trail)) (negation e.literal)) (get_or-take j trail k d h) (at_falses (take j trail) k d (omega (arith, length-take j trail)))
-
-pub has_variable-in : (xs : List Literal) (y : Literal) → In xs y → has_variable y.variable xs ≡ true
-has_variable-in [] y h = absurd (false≢true h)
-has_variable-in (x ∷ xs) y h = elim (or_cases (same_literal y x) (is_among xs y) h) [
-  | inl a ↦ or_left _ _ (eq-eqb x.variable y.variable (ap (λ (l : Literal). l.variable) (sym (same_literal-eq y x a))))
-  | inr a ↦ or_right _ _ (has_variable-in xs y a)
-]
-
-pub in-has_variable : (xs : List Literal) (v : ℕ) → has_variable v xs ≡ true → (y : Literal) × (In xs y) × (y.variable ≡ v)
-in-has_variable [] v h = absurd (false≢true h)
-in-has_variable (x ∷ xs) v h = elim (or_cases (eqb x.variable v) (has_variable v xs) h) [
-  | inl a ↦ (x, in_here xs x, eqb-true _ _ a)
-  | inr a ↦ let r = in-has_variable xs v a in (r.0, or_right _ _ r.1, r.2)
-]
-
--- no literal of a variable is among those that do not have it
-pub absent : (xs : List Literal) (x : Literal) (v : ℕ) → x.variable ≡ v → has_variable v xs ≡ false → is_among xs x ≡ false
-absent xs x v q f = false_from_ne_true _ (λ h. false≢true (sym f ∙ subst (λ (w : ℕ). has_variable w xs ≡ true) q (has_variable-in xs x h)))
-
-pub get_any : {A : Type 0} (xs : List A) (j : ℕ) (d d' : A) → j < length xs → get_or xs j d ≡ get_or xs j d'
-get_any [] j d d' h = absurd (omega arith)
-get_any (x ∷ xs) zero d d' h = refl
-get_any (x ∷ xs) (suc j) d d' h = get_any xs j d d' (omega arith)
-
-pub take_shorter : (trail : List Entry) (k j : ℕ) → k ≤ j → take k (take j trail) ≡ take k trail
-take_shorter trail zero j h = refl
-take_shorter [] (suc k) zero h = refl
-take_shorter [] (suc k) (suc j) h = refl
-take_shorter (e ∷ trail) (suc k) zero h = absurd (omega arith)
-take_shorter (e ∷ trail) (suc k) (suc j) h = ap (λ (xs : List Entry). e ∷ xs) (take_shorter trail k j (omega arith))
-
-or_comm : (a b : Bool) → (a || b) ≡ (b || a)
-or_comm true true = refl
-or_comm true false = refl
-or_comm false true = refl
-or_comm false false = refl
-
-or_false : (a : Bool) → (a || false) ≡ a
-or_false true = refl
-or_false false = refl
-
-pub among_snoc : (xs : List Literal) (y x : Literal) → is_among (xs ++ y ∷ []) x ≡ is_among (y ∷ xs) x
-among_snoc xs y x = list_any-append (same_literal x) xs (y ∷ []) ∙ ap (λ (b : Bool). is_among xs x || b) (or_false (same_literal x y)) ∙ or_comm (is_among xs x) (same_literal x y)
+use Rattle.dd_derivation.specs.Derivations.{has_variable}
+use Rattle.dd_trail.specs.declared.trail.Entry.{Entry}
+use Rattle.dd_trail.specs.Trails.{falses}
+use Rattle.dd_trail.specs.lemmas.Trails.{has_variable-in, at_falses_take, take_shorter}
+use Rattle.dd_solver.specs.searching.Reasons.{EntryOk, IsTrail}
 
 -- no two entries have one variable
 pub apart : (n : ℕ) (known : List (Option (List Literal))) (trail : List Entry) → IsTrail n known trail → (j k : ℕ) (d : Entry) → j < k → k < length trail → (get_or trail j d).literal.variable ≡ (get_or trail k d).literal.variable → ⊥

@@ -6,13 +6,15 @@ use Rattle.dd_clause.specs.declared.clause.Literal.{Literal}
 use Rattle.dd_clause.specs.Clauses.{negation}
 use Rattle.dd_derivation.specs.Derivations.{is_among}
 use Rattle.dd_derivation.specs.lemmas.Findings.{In, in_here}
-use Rattle.dd_solver.specs.declared.trail.Entry.{Entry}
+use Rattle.dd_trail.specs.declared.trail.Entry.{Entry}
 use Rattle.dd_solver.specs.declared.analysis.Turn.{Turn}
 use Rattle.dd_solver.specs.declared.analysis.Choice.TheVariants.{Keep}
-use Rattle.dd_solver.specs.searching.Entries.{falses, IsTrail}
+use Rattle.dd_trail.specs.Trails.{falses}
+use Rattle.dd_solver.specs.searching.Reasons.{IsTrail}
 use Rattle.dd_solver.specs.searching.Analysis.{marks, ChoiceSays, Asserts}
 use Rattle.dd_solver.proofs.Forcing.{in_left, in_cases, in_one, forced_from}
-use Rattle.dd_solver.proofs.Trails.{in_falses_take, at_falses_take, apart}
+use Rattle.dd_trail.specs.lemmas.Trails.{in_falses_take, at_falses_take}
+use Rattle.dd_solver.proofs.Trails.{apart}
 
 -- the turn's literal is of an entry at or above its place, the others are false before it, and nothing is marked from
 -- its place up to place i

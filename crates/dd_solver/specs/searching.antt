@@ -1,5 +1,4 @@
-pub mod Entries
-pub mod Values
+pub mod Reasons
 pub mod Analysis
 pub mod Deleting
 pub mod Search

@@ -7,13 +7,13 @@ ghost use Rattle.std.specs.Prelude.{◌≡◌, ℕ, ◌<◌, ◌≤◌, true, []
 ghost use Rattle.dd_clause.specs.Clauses.{IsLiteralInRange, IsClauseInRange};
 ghost use Rattle.dd_derivation.specs.declared.propagation.Finding.TheVariants.{Falsified};
 ghost use Rattle.dd_derivation.specs.Derivations.{hint_finding, is_among};
-ghost use Rattle.dd_solver.specs.searching.Entries.{falses, IsTrail, AreInRange};
+ghost use Rattle.dd_trail.specs.declared.trail.Entry.{Entry};
+ghost use Rattle.dd_trail.specs.Trails.{falses};
+ghost use Rattle.dd_solver.specs.searching.Reasons.{IsTrail, AreInRange};
 ghost use Rattle.dd_solver.specs.searching.Analysis.{Grows, AreMarked, IsMarkedClause, is_rightly_learned, IsPlace, IsTurn, ChoiceSays, Asserts};
 
-use crate::database::Database;
-use crate::order::Order;
-use crate::trail::{Entry, Trail};
 use dd_clause::Literal;
+use dd_trail::{Database, Entry, Order, Trail};
 use std::alloc::{AllocError, Global};
 
 /// A place of the trail to return to, where a decision stands, and the literal that is forced there.

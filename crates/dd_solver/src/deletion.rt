@@ -5,9 +5,8 @@ ghost use Rattle.std.specs.Prelude.{◌≡◌, ℕ, List, ◌<◌, false, length
 ghost use Rattle.dd_clause.specs.declared.clause.Literal.{Literal};
 ghost use Rattle.dd_solver.specs.searching.Deleting.{AreChosen, MayDelete};
 
-use crate::database::Database;
-use crate::trail::{Entry, Trail};
 use dd_clause::Literal;
+use dd_trail::{Database, Entry, Trail};
 use std::alloc::{AllocError, Global};
 
 /// After how many learned clauses some are deleted first.

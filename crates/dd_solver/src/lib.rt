@@ -3,14 +3,9 @@
 #![tactic(auto)]
 
 mod analysis;
-mod database;
 mod deletion;
-mod order;
-mod propagation;
 mod search;
-mod trail;
 mod trimming;
-mod watches;
 
 pub use search::solve;
 pub use trimming::trimmed;

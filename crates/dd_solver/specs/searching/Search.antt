@@ -1,15 +1,14 @@
 -- The state of a search, and why it ends.
-use Rattle.std.specs.Prelude.{◌≡◌, ℕ, zero, suc, ◌<◌, ◌≤◌, ◌+◌, ◌-◌, ◌*◌, ◌^◌, ◌&&◌, ◌++◌, ◌∷◌, Bool, true, false, if◌then◌else◌, List, [], map, Option, Some, None, is_none, length, take, slice_index_or, MatchOption}
+use Rattle.std.specs.Prelude.{◌≡◌, ℕ, zero, suc, ◌<◌, ◌+◌, ◌-◌, ◌*◌, ◌^◌, ◌&&◌, ◌++◌, ◌∷◌, Bool, true, if◌then◌else◌, List, [], map, Option, Some, None, is_none, length, take, slice_index_or, MatchOption}
 use Rattle.dd_clause.specs.declared.clause.Literal.{Literal}
 use Rattle.dd_derivation.specs.declared.propagation.Finding.TheVariants.{Falsified, Forced, Open}
 use Rattle.dd_derivation.specs.declared.step.Step.{Step}
 use Rattle.dd_derivation.specs.Derivations.{clause_of, hint_finding, is_among, known_after, is_right, refutes}
 use Rattle.dd_derivation.specs.checking.MarksOf.{known_to}
-use Rattle.dd_solver.specs.declared.trail.Entry.{Entry}
+use Rattle.dd_trail.specs.declared.trail.Entry.{Entry}
 use Rattle.dd_solver.specs.declared.analysis.Turn.{Turn}
-use Rattle.dd_solver.specs.declared.propagation.Scan.{Scan}
-use Rattle.dd_solver.specs.declared.propagation.Scan.TheVariants.{Conflict, Unit, Nothing}
-use Rattle.dd_solver.specs.searching.Entries.{falses, all_known, AreInRange, IsTrail}
+use Rattle.dd_trail.specs.Trails.{falses}
+use Rattle.dd_solver.specs.searching.Reasons.{all_known, AreInRange, IsTrail}
 
 -- the number of variables, the clauses, the steps learned so far, and the trail
 pub record State : Type 0 where
@@ -47,16 +46,6 @@ pub record IsSearch (s : State) : Type 0 where
 pub record AreAlive (clauses : List (List Literal)) (steps : List Step) (alive : List Bool) : Type 0 where
   pub as_many : length alive ≡ length clauses + length steps
   pub same : known_to clauses steps alive ≡ known_through (all_known clauses) steps
-
--- a clause that is falsified or forces a literal, or else what is then said
-abbrev pub Says : List (Option (List Literal)) → List Literal → Type 0 → Scan → Type 0
-Says known falses otherwise (Conflict r) = hint_finding known (is_among falses) r ≡ Falsified
-Says known falses otherwise (Unit r l) = hint_finding known (is_among falses) r ≡ Forced l
-Says known falses otherwise Nothing = otherwise
-
--- the clauses after one number up to another are not falsified, and force no literal
-abbrev pub AreOpenBetween : List (Option (List Literal)) → List Literal → ℕ → ℕ → Type 0
-AreOpenBetween known falses from to = (r : ℕ) → from < r → r ≤ to → hint_finding known (is_among falses) r ≡ Open
 
 -- no clause is falsified, and none forces a literal
 abbrev pub AreOpen : State → Type 0

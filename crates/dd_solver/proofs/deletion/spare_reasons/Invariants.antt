@@ -1,5 +1,5 @@
 use Rattle.std.proofs.Common.{◌≡◌, ℕ, ◌<◌, false, Some, get_or}
-use Rattle.dd_solver.specs.declared.trail.Entry.{Entry}
+use Rattle.dd_trail.specs.declared.trail.Entry.{Entry}
 use Rattle.dd_solver.proofs.deletion.spare_reasons.Given as goal
 
 abbrev pub invariant-loop-entry : goal.invariant-loop-entry

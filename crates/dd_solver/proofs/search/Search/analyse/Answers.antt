@@ -2,7 +2,7 @@ use Rattle.std.proofs.Common.{◌≡◌, take, drop, true, [], ◌++◌, length,
 use Rattle.std.specs.Option.{MatchOption}
 use Rattle.std.proofs.lemmas.List.{length-take, length-append, length-drop}
 use Rattle.dd_derivation.specs.declared.step.Step.{Step}
-use Rattle.dd_solver.specs.searching.Entries.{all_known}
+use Rattle.dd_solver.specs.searching.Reasons.{all_known}
 use Rattle.dd_solver.specs.searching.Analysis.{is_rightly_learned, Asserts}
 use Rattle.dd_solver.specs.searching.Deleting.{MayDelete}
 use Rattle.dd_solver.specs.searching.Search.{known_through}

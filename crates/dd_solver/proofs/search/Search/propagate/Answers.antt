@@ -1,10 +1,11 @@
-use Rattle.std.proofs.Common.{◌≡◌, List, Option, Some, length, subst, ◌∙◌, arith}
-use Rattle.dd_clause.specs.declared.clause.Literal.{Literal}
+use Rattle.std.proofs.Common.{◌≡◌, Some, length, subst, ◌∙◌, arith}
 use Rattle.dd_derivation.specs.declared.propagation.Finding.TheVariants.{Forced}
 use Rattle.dd_derivation.specs.Derivations.{hint_finding, is_among}
-use Rattle.dd_solver.specs.declared.trail.Entry.{Entry}
-use Rattle.dd_solver.specs.searching.Entries.{IsFull, falses, all_known}
-use Rattle.dd_solver.specs.searching.Search.{AreOpenBetween, known_through}
+use Rattle.dd_trail.specs.declared.trail.Entry.{Entry}
+use Rattle.dd_trail.specs.Trails.{IsFull, falses}
+use Rattle.dd_solver.specs.searching.Reasons.{all_known}
+use Rattle.dd_trail.specs.Propagation.{AreOpenBetween}
+use Rattle.dd_solver.specs.searching.Search.{known_through}
 use Rattle.dd_solver.proofs.Moves.{forced_in_range, forced_new, entry_forced, search_push, all_open}
 use Rattle.dd_solver.proofs.Numbers.{Known}
 use Rattle.dd_solver.proofs.Rises.{push_falls}

@@ -1,5 +1,5 @@
 use Rattle.std.proofs.Common.{◌≡◌, sym, subst}
-use Rattle.dd_solver.specs.searching.Entries.{IsFull}
+use Rattle.dd_trail.specs.Trails.{IsFull}
 use Rattle.dd_solver.specs.searching.Search.{State, AreOpen}
 use Rattle.dd_solver.proofs.search.Search.run.Goals as goal
 

@@ -1,0 +1,15 @@
+//! The trail of a search over clauses: the literals that are true, in the order in which they became so; what the clauses
+//! make true next, found by two watched literals; and which variable is decided next.
+#![tactic(auto)]
+
+mod database;
+mod order;
+mod propagation;
+mod trail;
+mod watches;
+
+pub use database::Database;
+pub use order::Order;
+pub use propagation::Scan;
+pub use trail::{Entry, Trail};
+pub use watches::Watches;

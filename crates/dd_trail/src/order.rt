@@ -1,0 +1,261 @@
+// The order in which variables are decided (Moskewicz, Madigan, Zhao, Zhang and Malik 2001, Eén and Sörensson 2003): first
+// those that took part in the latest conflicts, each with the value that it had last. They stand in a binary heap. What
+// is taken from it is looked at exactly, so no promise rests on the order: a bad one costs time.
+ghost use Rattle.std.specs.Prelude.{◌≡◌, ◌<◌, ◌^◌, MatchOption, ⊤};
+ghost use Rattle.dd_trail.specs.Trails.{IsFree, IsFull};
+
+use crate::trail::Trail;
+use dd_clause::Literal;
+use std::alloc::{AllocError, Global};
+
+/// What a conflict adds to a variable's activity at first, and the least that one ever adds.
+const FIRST_INCREMENT: u64 = 1 << 10;
+
+/// Where an activity is above this, all are made smaller.
+const MOST_ACTIVE: u64 = 1 << 60;
+
+/// How many bits the activities then lose.
+const LOST_BITS: u32 = 32;
+
+/// After each conflict the increment grows by this part of itself.
+const GROWTH_PART: u64 = 64;
+
+/// How active a variable was, its place in the heap, and the value that it had last.
+#[derive(Clone, Copy)]
+struct Rank {
+    activity: u64,
+    place: usize,
+    value: bool,
+}
+
+/// The variables. Those at the first places of the heap wait to be decided, and those that were taken stand behind them
+/// until they are put back. Each variable's rank stands under its number. A conflict adds the increment to an activity.
+#[derive(Drop)]
+pub struct Order {
+    heap: Vec<usize>,
+    ranks: Vec<Rank>,
+    waiting: usize,
+    increment: u64,
+}
+
+impl Order {
+    /// All variables wait, and are to be false.
+    pub fn new(alloc: Global, variables: usize) -> Result<Order, AllocError> {
+        let idle = Rank {
+            activity: 0,
+            place: 0,
+            value: false,
+        };
+        let mut heap: Vec<usize> = Vec::with_capacity(alloc, variables)?;
+        let mut ranks: Vec<Rank> = Vec::with_capacity(alloc, variables.saturating_add(1))?;
+        ranks.push(idle)?;
+        for place in 0..variables {
+            heap.push(place + 1)?;
+            ranks.push(Rank { place, ..idle })?;
+        }
+        Ok(Order {
+            heap,
+            ranks,
+            waiting: variables,
+            increment: FIRST_INCREMENT,
+        })
+    }
+
+    fn variable_at(&self, place: usize) -> usize {
+        if place < self.heap.len() {
+            return self.heap[place];
+        }
+        0
+    }
+
+    fn place(&self, variable: usize) -> usize {
+        if variable < self.ranks.len() {
+            return self.ranks[variable].place;
+        }
+        0
+    }
+
+    fn activity(&self, variable: usize) -> u64 {
+        if variable < self.ranks.len() {
+            return self.ranks[variable].activity;
+        }
+        0
+    }
+
+    fn last_value(&self, variable: usize) -> bool {
+        variable < self.ranks.len() && self.ranks[variable].value
+    }
+
+    fn put(&mut self, variable: usize, place: usize)
+        ensures { self.new.waiting ≡ self.old.waiting }
+    {
+        if variable < self.ranks.len() && place < self.heap.len() {
+            self.heap[place] = variable;
+            self.ranks[variable].place = place;
+        }
+    }
+
+    /// Whether a variable is more active than another, or as active and of a lower number.
+    fn is_before(&self, variable: usize, other: usize) -> bool {
+        let activity = self.activity(variable);
+        let others = self.activity(other);
+        activity > others || (activity == others && variable < other)
+    }
+
+    /// Moves a variable up in the heap, from a place where it may stand too low.
+    fn rise(&mut self, variable: usize, from: usize) {
+        let mut place = from;
+        while place > 0 {
+            let parent = (place - 1) / 2;
+            let above = self.variable_at(parent);
+            if !self.is_before(variable, above) {
+                break;
+            }
+            self.put(above, place);
+            place = parent;
+        }
+        self.put(variable, place);
+    }
+
+    /// Of the two places below this one, that of the variable that comes first.
+    fn find_below(&self, place: usize) -> Option<usize>
+        ensures { MatchOption result ⊤ (λ below. (place < below) × (below < self.now.waiting)) }
+    {
+        let waiting = self.waiting;
+        if place >= waiting / 2 {
+            return None;
+        }
+        let left = 2 * place + 1;
+        let right = left + 1;
+        if right < waiting && self.is_before(self.variable_at(right), self.variable_at(left)) {
+            return Some(right);
+        }
+        Some(left)
+    }
+
+    /// Moves a variable down in the heap, from a place where it may stand too high.
+    fn sink(&mut self, variable: usize, from: usize) {
+        let mut place = from;
+        while let Some(below) = self.find_below(place) {
+            let other = self.variable_at(below);
+            if !self.is_before(other, variable) {
+                break;
+            }
+            self.put(other, place);
+            place = below;
+        }
+        self.put(variable, place);
+    }
+
+    /// Takes the first variable that waits.
+    fn pop(&mut self) -> Option<usize> {
+        if self.waiting == 0 {
+            return None;
+        }
+        let last = self.waiting - 1;
+        let first = self.variable_at(0);
+        let moved = self.variable_at(last);
+        self.waiting = last;
+        self.put(first, last);
+        self.sink(moved, 0);
+        Some(first)
+    }
+
+    /// A literal whose variable has no value, as the order has it. Nothing where each variable has one.
+    pub fn choose(&mut self, trail: &Trail) -> Option<Literal>
+        requires { trail.now.variables < 2 ^ 32 }
+        ensures { MatchOption result (IsFull trail.now.variables trail.now.entries) (λ l. IsFree trail.now.variables trail.now.entries l.variable) }
+    {
+        let waiting = if trail.is_full() { 0 } else { self.waiting };
+        for _ in 0..waiting {
+            let Some(variable) = self.pop() else {
+                break;
+            };
+            if trail.is_free(variable) {
+                return Some(Literal {
+                    variable: variable as u32,
+                    positive: self.last_value(variable),
+                });
+            }
+        }
+        match trail.find_free() {
+            None => None,
+            Some(variable) => Some(Literal {
+                variable,
+                positive: false,
+            }),
+        }
+    }
+
+    /// Puts a variable back that was taken, with the value that it had.
+    fn put_back(&mut self, variable: usize, value: bool) {
+        let waiting = self.waiting;
+        let place = self.place(variable);
+        if variable < self.ranks.len() {
+            self.ranks[variable].value = value;
+        }
+        if place >= waiting && waiting < self.heap.len() {
+            let other = self.variable_at(waiting);
+            self.put(other, place);
+            self.waiting = waiting + 1;
+            self.rise(variable, waiting);
+        }
+    }
+
+    /// Puts the variables back that lose their values where the trail is cut at a place.
+    pub fn put_back_from(&mut self, trail: &Trail, place: usize) {
+        let entries = trail.entries();
+        for i in place..entries.len() {
+            let literal = entries[i].literal;
+            self.put_back(literal.variable as usize, literal.positive);
+        }
+    }
+
+    /// Makes all activities smaller. Some that differed become equal, and then the lesser variable comes first: so the
+    /// heap is arranged again.
+    fn rescale(&mut self) {
+        for rank in self.ranks.iter_mut() {
+            rank.activity >>= LOST_BITS;
+        }
+        self.increment = (self.increment >> LOST_BITS).max(FIRST_INCREMENT);
+        self.arrange();
+    }
+
+    /// The variable took part in a conflict.
+    pub fn bump(&mut self, variable: u32) {
+        let variable = variable as usize;
+        let activity = self.activity(variable).saturating_add(self.increment);
+        if variable < self.ranks.len() {
+            self.ranks[variable].activity = activity;
+        }
+        if activity > MOST_ACTIVE {
+            self.rescale();
+        }
+        let place = self.place(variable);
+        if place < self.waiting {
+            self.rise(variable, place);
+        }
+    }
+
+    /// Counts the variables of a clause of the list.
+    pub fn count(&mut self, literals: &[Literal]) {
+        for literal in literals {
+            let variable = literal.variable as usize;
+            if variable < self.ranks.len() {
+                self.ranks[variable].activity = self.activity(variable).saturating_add(1);
+            }
+        }
+    }
+
+    /// Puts the most active variables first.
+    pub fn arrange(&mut self) {
+        for place in (0..self.waiting / 2).rev() {
+            self.sink(self.variable_at(place), place);
+        }
+    }
+
+    /// Later conflicts count for more than those before.
+    pub fn decay(&mut self) {
+        self.increment = self.increment.saturating_add(self.increment / GROWTH_PART);
+    }
+}

@@ -1,0 +1,242 @@
+// The literals that are true, in the order in which they became so, and which literals are false. What a trail says
+// of a literal depends on its entries alone; one truth value for each literal makes each look cost the same.
+ghost use Rattle.std.specs.Prelude.{◌≡◌, ℕ, ◌+◌, ◌<◌, ◌≤◌, ◌^◌, ◌++◌, ◌∷◌, [], true, false, length, take, slice_set, ◌-◌, IfOk, OnOk, OnErr, MatchOption, IsTrue, ◌↔◌};
+ghost use Rattle.dd_clause.specs.Clauses.{IsLiteralInRange};
+ghost use Rattle.dd_values.specs.Variables.{true_variables};
+ghost use Rattle.dd_derivation.specs.Derivations.{is_among, has_variable};
+ghost use Rattle.dd_trail.specs.Trails.{falses, IsFree, IsFull};
+ghost use Rattle.dd_trail.specs.keeping.Values.{code, IsDenied};
+
+use dd_clause::{Assignment, Literal};
+use dd_derivation::FalseLiterals;
+use std::alloc::{AllocError, Global};
+use std::marker::Model;
+
+/// A literal that is true: it was decided, or the clause of a number forced it.
+#[derive(Clone, Copy, Debug)]
+pub struct Entry {
+    /// The literal.
+    pub literal: Literal,
+    /// The number of the clause that forced it, and nothing where it was decided.
+    pub reason: Option<u64>,
+}
+
+/// Where a variable's entry stands, and how many decisions stand up to there.
+#[derive(Clone, Copy)]
+struct Spot {
+    place: usize,
+    level: usize,
+}
+
+/// The entries; for each literal whether it is false; of each variable its entry's place, and the places of the decisions.
+#[derive(Drop)]
+pub struct Trail {
+    variables: usize,
+    entries: Vec<Entry>,
+    denied: Vec<bool>,
+    spots: Vec<Spot>,
+    decision_places: Vec<usize>,
+}
+
+impl Model for Trail {
+    ghost use Rattle.dd_trail.specs.Trails.{EntryList};
+    ghost use Rattle.dd_trail.specs.keeping.Values.{IsDenied};
+
+    ghost Value = { EntryList };
+
+    ghost view = { λ t. record { variables = t.variables; entries = t.entries.items } };
+
+    ghost invariant = { λ t. IsDenied t.variables t.entries.items t.denied.items };
+}
+
+/// The place of a literal in a list of all of them.
+pub fn place_of(literal: Literal) -> usize
+    ensures { result ≡ code literal }
+{
+    let place = 2 * literal.variable as usize;
+    if literal.positive { place + 1 } else { place }
+}
+
+fn set_spot(spots: &mut Vec<Spot>, variable: u32, spot: Spot) {
+    let variable = variable as usize;
+    if variable < spots.len() {
+        spots[variable] = spot;
+    }
+}
+
+/// Notes where a decision stands.
+fn note_decision(places: &mut Vec<usize>, entry: Entry, place: usize) -> Result<(), AllocError> {
+    if entry.reason.is_none() {
+        places.push(place)?;
+    }
+    Ok(())
+}
+
+/// How many of the decisions stand below a place.
+fn count_below(places: &[usize], place: usize) -> usize {
+    for count in (0..places.len()).rev() {
+        if places[count] < place {
+            return count + 1;
+        }
+    }
+    0
+}
+
+impl Trail {
+    /// No entries over this many variables.
+    pub fn new(alloc: Global, variables: usize) -> Result<Trail, AllocError>
+        requires { variables < 2 ^ 32 }
+        ensures variables { IfOk result (λ trail. trail.variables ≡ variables) }
+        ensures entries { IfOk result (λ trail. trail.entries ≡ []) }
+    {
+        Ok(Trail {
+            variables,
+            entries: Vec::new(alloc),
+            denied: vec![in alloc; false; 2 * variables + 2]?,
+            spots: vec![in alloc; Spot { place: 0, level: 0 }; variables + 1]?,
+            decision_places: Vec::new(alloc),
+        })
+    }
+
+    /// The literals that are true, in the order in which they became so.
+    pub fn entries(&self) -> &[Entry]
+        ensures { result.now ≡ self.now.entries }
+    {
+        self.entries.as_slice()
+    }
+
+    /// Makes a literal true whose variable has no value.
+    pub fn assign(&mut self, entry: Entry) -> Result<(), AllocError>
+        requires in_range { IsLiteralInRange self.old.variables entry.literal }
+        requires fresh { has_variable entry.literal.variable (falses self.old.entries) ≡ false }
+        ensures variables { self.new.variables ≡ self.old.variables }
+        ensures entries { OnOk result (self.new.entries ≡ self.old.entries ++ entry ∷ []) }
+        ensures failed { OnErr result (self.new.entries ≡ self.old.entries) }
+        ensures room { OnOk result (length self.old.entries < self.old.variables) }
+    {
+        let place = self.entries.len();
+        note_decision(&mut self.decision_places, entry, place)?;
+        self.entries.push(entry)?;
+        let level = self.decision_places.len();
+        set_spot(
+            &mut self.spots,
+            entry.literal.variable,
+            Spot { place, level },
+        );
+        self.denied[place_of(entry.literal.negation())] = true;
+        Ok(())
+    }
+
+    /// Takes back all entries from a place on.
+    pub fn undo(&mut self, place: usize)
+        ensures variables { self.new.variables ≡ self.old.variables }
+        ensures entries { self.new.entries ≡ take place self.old.entries }
+    {
+        while self.entries.len() > place {
+            let last = self.entries.len() - 1;
+            let entry = self.entries[last];
+            self.denied[place_of(entry.literal.negation())] = false;
+            self.entries.truncate(last);
+        }
+        self.decision_places
+            .truncate(count_below(self.decision_places.as_slice(), place));
+    }
+
+    /// Whether each variable has a value.
+    pub fn is_full(&self) -> bool
+        ensures { IsTrue result ↔ IsFull self.now.variables self.now.entries }
+    {
+        self.entries.len() == self.variables
+    }
+
+    /// Whether there is a variable of this number, and it has no value.
+    pub fn is_free(&self, variable: usize) -> bool
+        ensures { IsTrue result ↔ IsFree self.now.variables self.now.entries variable }
+    {
+        if variable == 0 || variable > self.variables {
+            return false;
+        }
+        !self.denied[2 * variable] && !self.denied[2 * variable + 1]
+    }
+
+    /// A variable that has no value.
+    pub fn find_free(&self) -> Option<u32>
+        requires { self.now.variables < 2 ^ 32 }
+        ensures { MatchOption result (IsFull self.now.variables self.now.entries) (IsFree self.now.variables self.now.entries) }
+    {
+        for i in 0..self.variables {
+            if self.is_free(i + 1) {
+                return Some(i as u32 + 1);
+            }
+        }
+        None
+    }
+
+    /// The values of the variables. One that has none is false.
+    pub fn assignment(&self, alloc: Global) -> Result<Assignment, AllocError>
+        ensures length { IfOk result (λ values. length values ≡ self.now.variables) }
+        ensures values { IfOk result (λ values. (v : ℕ) → 1 ≤ v → v ≤ self.now.variables → true_variables values v ≡ is_among (falses self.now.entries) (record { variable = v; positive = false })) }
+    {
+        let mut values: Vec<bool> = Vec::new(alloc);
+        for i in 0..self.variables {
+            values.push(self.denied[2 * i + 2])?;
+        }
+        Ok(Assignment::new(values))
+    }
+
+    /// The number of the clause that forced the variable's value.
+    pub fn reason(&self, variable: u32) -> Option<u64> {
+        let place = self.place(variable);
+        if place < self.entries.len() {
+            return self.entries[place].reason;
+        }
+        None
+    }
+
+    /// The decision level of the variable's value: how many decisions stand on the trail up to it.
+    pub fn level(&self, variable: u32) -> usize {
+        let variable = variable as usize;
+        if variable < self.spots.len() {
+            return self.spots[variable].level;
+        }
+        0
+    }
+
+    /// Whether the variable has its value by clauses alone, with no decision before it.
+    pub fn is_fixed(&self, variable: u32) -> bool {
+        match self.decision_places.first() {
+            None => true,
+            Some(first) => self.place(variable) < *first,
+        }
+    }
+
+    /// Whether the variable got its value since the last decision.
+    pub fn is_latest(&self, variable: u32) -> bool {
+        match self.decision_places.last() {
+            None => true,
+            Some(last) => self.place(variable) >= *last,
+        }
+    }
+
+    /// Of each literal, by its place in a list of all of them, whether it is false.
+    pub fn denied(&self) -> &[bool] {
+        self.denied.as_slice()
+    }
+
+    fn place(&self, variable: u32) -> usize {
+        let variable = variable as usize;
+        if variable < self.spots.len() {
+            return self.spots[variable].place;
+        }
+        0
+    }
+}
+
+impl FalseLiterals for Trail {
+    ghost is_false = { λ t. is_among (falses t.entries) };
+
+    fn is_false(&self, literal: Literal) -> bool {
+        let place = place_of(literal);
+        place < self.denied.len() && self.denied[place]
+    }
+}

@@ -1,0 +1,380 @@
+// Two watched literals (Moskewicz, Madigan, Zhao, Zhang and Malik 2001): a clause needs no look while the two literals
+// that it watches are not false. So only the clauses that watch a literal are looked at when it becomes false, and
+// nothing is undone on a return. What a clause is found to say is looked at exactly, so no promise rests on the watches:
+// one that is missed costs time. Nor does an invariant say that the places kept here are within their lists: the tests
+// below that look for this never fail.
+ghost use Rattle.std.specs.Prelude.{◌≡◌, ◌<◌, ◌^◌, length, IfOk, MatchOption, ⊤};
+ghost use Rattle.dd_trail.specs.Trails.{falses, IsFull};
+ghost use Rattle.dd_trail.specs.Propagation.{Says, AreOpenBetween};
+
+use crate::database::Database;
+use crate::propagation::{Scan, look_at, scan_between};
+use crate::trail::{Trail, place_of};
+use dd_clause::Literal;
+use std::alloc::{AllocError, Global};
+use std::mem;
+
+/// A literal in four bytes: its place in a list of all literals.
+#[derive(Clone, Copy, PartialEq, Eq)]
+struct Code {
+    place: u32,
+}
+
+impl Code {
+    fn new(literal: Literal) -> Code {
+        Code {
+            place: u32::try_from(place_of(literal)).unwrap_or(0),
+        }
+    }
+
+    fn negation(self) -> Code {
+        Code {
+            place: self.place ^ 1,
+        }
+    }
+
+    fn place(self) -> usize {
+        self.place as usize
+    }
+
+    /// Whether the literal is one of those that the list denies.
+    fn is_false(self, denied: &[bool]) -> bool {
+        let place = self.place();
+        place < denied.len() && denied[place]
+    }
+
+    fn is_true(self, denied: &[bool]) -> bool {
+        self.negation().is_false(denied)
+    }
+}
+
+/// Stands behind the literals of each clause. It is no literal's, and never false.
+const END: Code = Code { place: 0 };
+
+/// A clause that watches a literal, by the place of its literals, and another of its literals. Where that one is true,
+/// the clause needs no look.
+#[derive(Clone, Copy)]
+struct Watcher {
+    clause: u32,
+    other: Code,
+}
+
+/// For each literal the clauses that watch it, and room for such a list while it is passed; the literals of all clauses,
+/// those first that a clause watches, and beside each its clause's number; how many clauses there are; how far the trail
+/// is read, and the list of its next literal; how many clauses were looked at since they were added; and whether there
+/// are watchers of deleted clauses.
+#[derive(Drop)]
+pub struct Watches {
+    lists: Vec<Vec<Watcher>>,
+    passed: Vec<Watcher>,
+    literals: Vec<Code>,
+    numbers: Vec<u32>,
+    count: u32,
+    read: usize,
+    at: usize,
+    scanned: u64,
+    has_deleted: bool,
+}
+
+/// What is done with a clause whose watched literal became false: it stays with the other watched literal true, or it
+/// watches a further literal beside the other, or all but the other are false.
+#[derive(Clone, Copy)]
+enum Look {
+    Stays(Code),
+    Moves(Code, Code),
+    AllFalse,
+}
+
+fn watch(lists: &mut Vec<Vec<Watcher>>, literal: Code, watcher: Watcher) -> Result<(), AllocError> {
+    let list = literal.place();
+    if list < lists.len() {
+        lists[list].push(watcher)?;
+    }
+    Ok(())
+}
+
+/// The first place, from one on, of a literal that is not false.
+fn find_not_false(denied: &[bool], literals: &[Code], from: usize) -> Option<usize>
+    ensures { MatchOption result ⊤ (λ place. place < length literals.now) }
+{
+    for place in from..literals.len() {
+        if !literals[place].is_false(denied) {
+            return Some(place);
+        }
+    }
+    None
+}
+
+/// Looks in the clause at a place for another literal to watch, in place of the one that became false.
+fn rewatch(denied: &[bool], literals: &mut [Code], clause: u32, became_false: Code) -> Look {
+    let first = clause as usize;
+    let second = first + 1;
+    if second >= literals.len() {
+        return Look::Stays(became_false);
+    }
+    let other = if literals[first] == became_false {
+        literals[second]
+    } else {
+        literals[first]
+    };
+    if other.is_true(denied) {
+        return Look::Stays(other);
+    }
+    match find_not_false(denied, literals, second + 1) {
+        Some(place) if literals[place] != END => {
+            let next = literals[place];
+            literals[first] = other;
+            literals[second] = next;
+            literals[place] = became_false;
+            Look::Moves(next, other)
+        }
+        _ => Look::AllFalse,
+    }
+}
+
+/// Passes the watchers of a literal that became false, from a place on. Those that watch a further literal now go to
+/// its list, and the last takes their place. Gives the place of one whose clause may be falsified or force a literal.
+fn pass_from(
+    denied: &[bool],
+    literals: &mut [Code],
+    lists: &mut Vec<Vec<Watcher>>,
+    passed: &mut Vec<Watcher>,
+    became_false: Code,
+    from: usize,
+) -> Result<Option<usize>, AllocError> {
+    let mut at = from;
+    while at < passed.len() {
+        let watcher = passed[at];
+        let clause = watcher.clause;
+        if watcher.other.is_true(denied) {
+            at += 1;
+            continue;
+        }
+        match rewatch(denied, literals, clause, became_false) {
+            Look::Stays(other) => {
+                passed[at] = Watcher { clause, other };
+                at += 1;
+            }
+            Look::Moves(next, other) => {
+                passed.swap_remove(at);
+                watch(lists, next, Watcher { clause, other })?;
+            }
+            Look::AllFalse => return Ok(Some(at)),
+        }
+    }
+    Ok(None)
+}
+
+fn is_alive(alive: &[bool], number: u32) -> bool {
+    let number = number as usize;
+    number >= 1 && number <= alive.len() && alive[number - 1]
+}
+
+impl Watches {
+    /// No clause watches a literal yet.
+    pub fn new(alloc: Global, variables: usize) -> Result<Watches, AllocError>
+        requires { variables < 2 ^ 32 }
+    {
+        let mut lists: Vec<Vec<Watcher>> = Vec::new(alloc);
+        for _ in 0..2 * variables + 2 {
+            lists.push(Vec::new(alloc))?;
+        }
+        Ok(Watches {
+            lists,
+            passed: Vec::new(alloc),
+            literals: Vec::new(alloc),
+            numbers: Vec::new(alloc),
+            count: 0,
+            read: 0,
+            at: 0,
+            scanned: 0,
+            has_deleted: false,
+        })
+    }
+
+    /// The next clause watches its first two literals.
+    pub fn add(&mut self, literals: &[Literal]) -> Result<(), AllocError> {
+        let start = self.literals.len();
+        self.count = self.count.saturating_add(1);
+        for literal in literals {
+            self.literals.push(Code::new(*literal))?;
+            self.numbers.push(self.count)?;
+        }
+        self.literals.push(END)?;
+        self.numbers.push(self.count)?;
+        let end = self.literals.len();
+        self.watch_first(start, end)
+    }
+
+    /// The clause whose literals begin at a place, and end before another with the mark of an end, watches the first two.
+    fn watch_first(&mut self, start: usize, end: usize) -> Result<(), AllocError> {
+        let clause = u32::try_from(start).unwrap_or(0);
+        if end <= self.literals.len() && start < end && end - start > 2 {
+            let first = self.literals[start];
+            let second = self.literals[start + 1];
+            let other = second;
+            watch(&mut self.lists, first, Watcher { clause, other })?;
+            let other = first;
+            watch(&mut self.lists, second, Watcher { clause, other })?;
+        }
+        Ok(())
+    }
+
+    /// The literal at a place, and its clause's number.
+    fn literal_at(&self, place: usize) -> Option<(Code, u32)> {
+        if place < self.literals.len() && place < self.numbers.len() {
+            return Some((self.literals[place], self.numbers[place]));
+        }
+        None
+    }
+
+    fn put(&mut self, place: usize, literal: Code, number: u32) {
+        if place < self.literals.len() && place < self.numbers.len() {
+            self.literals[place] = literal;
+            self.numbers[place] = number;
+        }
+    }
+
+    /// Drops the literals of the clauses that are not alive, and their watchers.
+    fn drop_deleted(&mut self, alive: &[bool]) -> Result<(), AllocError> {
+        for list in self.lists.iter_mut() {
+            list.clear();
+        }
+        let mut start = 0usize;
+        let mut kept = 0usize;
+        for place in 0..self.literals.len() {
+            let Some((literal, number)) = self.literal_at(place) else {
+                break;
+            };
+            if is_alive(alive, number) {
+                self.put(kept, literal, number);
+                kept = kept.saturating_add(1);
+                if literal == END {
+                    self.watch_first(start, kept)?;
+                    start = kept;
+                }
+            }
+        }
+        self.literals.truncate(kept);
+        self.numbers.truncate(kept);
+        self.has_deleted = false;
+        self.at = 0;
+        Ok(())
+    }
+
+    /// Some clauses are deleted, if there are such numbers: they are dropped at the next cut.
+    pub fn note_deleted(&mut self, numbers: &[u64]) {
+        if !numbers.is_empty() {
+            self.has_deleted = true;
+        }
+    }
+
+    /// The trail was cut to this length. Of each clause it is told whether it is alive.
+    pub fn cut(&mut self, length: usize, alive: &[bool]) -> Result<(), AllocError> {
+        if length <= self.read {
+            self.read = length;
+            self.at = 0;
+        }
+        if self.has_deleted {
+            self.drop_deleted(alive)?;
+        }
+        Ok(())
+    }
+
+    /// The number of the clause at a place.
+    fn number(&self, clause: u32) -> u64 {
+        let clause = clause as usize;
+        if clause < self.numbers.len() {
+            return u64::from(self.numbers[clause]);
+        }
+        0
+    }
+
+    /// Takes a literal's list out to be passed, or puts it back.
+    fn exchange(&mut self, literal: Code) {
+        let list = literal.place();
+        if list < self.lists.len() {
+            mem::swap(&mut self.lists[list], &mut self.passed);
+        }
+    }
+
+    /// Passes the watchers of a literal that became false, from where they were passed to. Gives the place of a clause
+    /// that may be falsified or force a literal.
+    fn pass(&mut self, trail: &Trail, became_false: Code) -> Result<Option<u32>, AllocError> {
+        self.exchange(became_false);
+        let found = pass_from(
+            trail.denied(),
+            self.literals.as_mut_slice(),
+            &mut self.lists,
+            &mut self.passed,
+            became_false,
+            self.at,
+        )?;
+        let mut clause: Option<u32> = None;
+        if let Some(at) = found {
+            if at < self.passed.len() {
+                clause = Some(self.passed[at].clause);
+            }
+            self.at = at.saturating_add(1);
+        }
+        self.exchange(became_false);
+        Ok(clause)
+    }
+
+    /// Reads the trail on from where it was read to, until a clause is falsified or forces a literal: of each literal
+    /// that became false all watchers are passed.
+    fn read(&mut self, database: &Database, trail: &Trail) -> Result<Scan, AllocError>
+        ensures { IfOk result (Says database.now (falses trail.now.entries) ⊤) }
+    {
+        let entries = trail.entries();
+        // This many turns are never made. A `loop` would have to be shown to end, by places of which nothing is known.
+        for _ in 0..u64::MAX {
+            let read = self.read;
+            if read >= entries.len() {
+                break;
+            }
+            let became_false = Code::new(entries[read].literal).negation();
+            match self.pass(trail, became_false)? {
+                None => {
+                    self.read = read.saturating_add(1);
+                    self.at = 0;
+                }
+                Some(clause) => match look_at(database, trail, self.number(clause)) {
+                    Scan::Nothing => {}
+                    seen => return Ok(seen),
+                },
+            }
+        }
+        Ok(Scan::Nothing)
+    }
+
+    /// Looks for a clause that is falsified or forces a literal. A clause that was added is looked at once, as it may
+    /// have one literal; where each variable has a value, all are looked at once more.
+    pub fn find(&mut self, database: &Database, trail: &Trail) -> Result<Scan, AllocError>
+        requires { trail.now.variables < 2 ^ 32 }
+        ensures { IfOk result (Says database.now (falses trail.now.entries) (IsFull trail.now.variables trail.now.entries → AreOpenBetween database.now (falses trail.now.entries) 0 (length database.now))) }
+    {
+        match self.read(database, trail)? {
+            Scan::Conflict(number) => return Ok(Scan::Conflict(number)),
+            Scan::Unit(number, literal) => return Ok(Scan::Unit(number, literal)),
+            Scan::Nothing => {}
+        }
+        let count = database.count();
+        match scan_between(database, trail, self.scanned, count) {
+            Scan::Conflict(number) => return Ok(Scan::Conflict(number)),
+            Scan::Unit(number, literal) => {
+                self.scanned = number;
+                return Ok(Scan::Unit(number, literal));
+            }
+            Scan::Nothing => self.scanned = count,
+        }
+        if !trail.is_full() {
+            return Ok(Scan::Nothing);
+        }
+        match scan_between(database, trail, 0, count) {
+            Scan::Conflict(number) => Ok(Scan::Conflict(number)),
+            Scan::Unit(number, literal) => Ok(Scan::Unit(number, literal)),
+            Scan::Nothing => Ok(Scan::Nothing),
+        }
+    }
+}
