@@ -5,7 +5,7 @@ use Rattle.dd_lattice.specs.Boxes.{centred, volume}
 use Rattle.dd_formula.specs.LocalRule.{LocalRule, IsRule}
 use Rattle.dd_formula.specs.Counts.{place_clauses, largest_region, largest_clauses}
 use Rattle.dd_values.specs.declared.limits.Limits.{Limits}
-use Rattle.dd_boxes.specs.declared.limits.Limits.{Limits}
+use Rattle.dd_values.specs.declared.limits.Limits.{Limits}
 use Rattle.dd_boxes.specs.Goals.{GoalOf}
 use Rattle.dd_boxes.specs.Boxes.{IsLeastRadius}
 use Rattle.dd_boxes.specs.Counts.{question_clauses, most_clauses}

@@ -24,10 +24,6 @@ use Rattle.dd_meanings.specs.Formulas.{joined_of, formula_step, formula_of}
 use Rattle.dd_faults.specs.lemmas.Nothing.{both_nil}
 use Rattle.dd_faults.specs.lemmas.Layers.{faults_not, faults_group, faults_list, faults_quantified, faults_implies, faults_iff}
 
-map_map : {X Y Z : Type 0} (g : Y → List Z) (f : X → Y) (xs : List X) → flat_map g (map f xs) ≡ flat_map (λ x. g (f x)) xs
-flat_map_map g f [] = refl
-flat_map_map g f (x ∷ xs) = ap (λ (zs : List _). g (f x) ++ zs) (flat_map_map g f xs)
-
 map_map : {X Y Z : Type 0} (g : Y → Z) (f : X → Y) (xs : List X) → map g (map f xs) ≡ map (λ x. g (f x)) xs
 map_map g f [] = refl
 map_map g f (x ∷ xs) = ap (λ (zs : List _). g (f x) ∷ zs) (map_map g f xs)

@@ -3,13 +3,16 @@ ghost use Rattle.std.specs.Prelude.{◌≡◌};
 ghost use Rattle.dd_output.specs.declared.fault.ReadFault.TheVariants.{Memory};
 
 use std::alloc::{AllocError, AllocFailed};
+use thiserror::Error;
 
 /// Why an output could not be read.
-#[derive(Clone, Copy, Debug, PartialEq, Eq)]
+#[derive(Clone, Copy, Debug, PartialEq, Eq, Error)]
 pub enum CertificateFault {
     /// The bytes are no output. As many as are given here begin one, and one more of them does not.
+    #[error("no output goes on after {0} bytes")]
     Malformed(u64),
     /// There is no memory for the output.
+    #[error("out of memory")]
     Memory,
 }
 

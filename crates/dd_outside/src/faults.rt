@@ -3,23 +3,29 @@ ghost use Rattle.std.specs.Prelude.{◌≡◌};
 ghost use Rattle.dd_outside.specs.declared.faults.ReadAllFault.TheVariants.{ReadFault, Memory};
 
 use std::alloc::{AllocError, AllocFailed};
+use thiserror::Error;
 
 /// One read or one write failed.
-#[derive(Clone, Copy, Debug, PartialEq, Eq)]
+#[derive(Clone, Copy, Debug, PartialEq, Eq, Error)]
+#[error("a read or a write failed")]
 pub struct Failed;
 
 /// A piece was not written whole, since the sink failed.
-#[derive(Clone, Copy, Debug, PartialEq, Eq)]
+#[derive(Clone, Copy, Debug, PartialEq, Eq, Error)]
+#[error("a piece was not written whole")]
 pub struct WriteFault;
 
 /// A source was not read to its end.
-#[derive(Clone, Copy, Debug, PartialEq, Eq)]
+#[derive(Clone, Copy, Debug, PartialEq, Eq, Error)]
 pub enum ReadAllFault {
     /// The source failed.
+    #[error("the source failed")]
     ReadFault,
     /// The source gave more bytes than the limit.
+    #[error("the source has more bytes than the limit")]
     TooLong,
     /// Memory was wanting.
+    #[error("out of memory")]
     Memory,
 }
 

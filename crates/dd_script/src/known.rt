@@ -10,15 +10,17 @@ ghost use Rattle.dd_script.specs.Walk.{known_start, unrestricted};
 use dd_faults::{Known, Setting};
 use dd_meanings::{add_new, zero, zero_and_one};
 use dd_topology::{Kind, NameFault, Names, Sets, Topology};
-use dd_values::{Items, Items, Limits};
+use dd_values::{Items, Limits};
 use dd_written::{Name, Text, Word, name_text};
 use std::alloc::{AllocError, Global};
 
-/// The limits of questions where a script has said nothing: the greatest radius, the greatest period, and how many pivots.
+/// The greatest radius where a script has said nothing.
 const RADIUS_AT_START: u32 = 4;
 
+/// The greatest period where a script has said nothing.
 const PERIOD_AT_START: u32 = 4;
 
+/// The greatest number of pivots where a script has said nothing.
 const PIVOTS_AT_START: u32 = 10_000;
 
 /// Adds the text of a word that is not there yet.
