@@ -14,7 +14,7 @@ use Rattle.dd_session.specs.declared.status.Status.{Status}
 use Rattle.dd_session.specs.declared.status.Status.TheVariants.{Definite, SomeUnknown, Refused, ReadFault, WriteFault, Memory, BadWords, Rejected}
 use Rattle.dd_session.specs.Answers.{has_unknown}
 use Rattle.dd_session.specs.Output.{IsLineOf}
-use Rattle.dd_session.specs.Sides.{Told, RefusedBy, status_of}
+use Rattle.dd_session.specs.Sides.{Told, RefusedBy, RefusedFor, status_of}
 use Rattle.dd_session.specs.Checks.{offset_line, IsOutput, IsCheckable, IsRefusedOutput, malformed, no_script}
 use Rattle.dd_session.specs.Checked.{CheckedOver}
 use Rattle.dd_session.specs.checking.Judged.{RejectedHere, AcceptedAll, AllJudged, checked_status}
@@ -56,11 +56,12 @@ pub same_spelled : (o : Output) (bytes : List ℕ) (s : Parts) → bytes ≡ o.s
 same_spelled o bytes s is spelled = subst (λ (l : List ℕ). Spells l s) is spelled
 
 -- the script in the output is none
-pub script_over : {K : Type 0} (sink : Told K) (o : Output) (bytes : List ℕ) (n : ℕ) (kind : ScriptKind) (line text : List ℕ) (status : Status) → IsWritableOutput o
-    → bytes ≡ o.script → IsRefusedAs bytes n kind → IsLineOf (codes "refused script") n kind line → text ≡ line → RefusedBy sink text status → CheckedOver sink (output_text o) status
-script_over sink o bytes n kind line text status writable of fault is same wrote =
-    refused_over sink (output_text o) line status
-    (refused_script o n kind line writable (subst (λ (l : List ℕ). IsRefusedAs l n kind) of fault) is) (subst (λ (l : List ℕ). RefusedBy sink l status) same wrote)
+pub script_over : {K : Type 0} (sink : Told K) (o : Output) (bytes : List ℕ) (n : ℕ) (kind : ScriptKind) (status : Status) → IsWritableOutput o
+    → bytes ≡ o.script → IsRefusedAs bytes n kind → RefusedFor sink (codes "refused script") n kind status → CheckedOver sink (output_text o) status
+script_over sink o bytes n kind status writable of fault (inl refused) =
+    refused_over sink (output_text o) refused.line status
+    (refused_script o n kind refused.line writable (subst (λ (l : List ℕ). IsRefusedAs l n kind) of fault) refused.line_is) refused.wrote
+script_over sink o bytes n kind status writable of fault (inr (is, kept)) = subst (CheckedOver sink (output_text o)) (sym is) (inr kept)
 
 checkable : (o : Output) (s : Parts) → IsWritableOutput o → Spells o.script s → IsCheckable (output_text o) o s
 checkable o s writable spelled = record { output = output_itself o writable; spelled = spelled }

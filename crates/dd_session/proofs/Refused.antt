@@ -1,13 +1,15 @@
 -- Why bytes are refused, by what their reader told.
-use Rattle.std.proofs.Common.{◌≡◌, ℕ, List, string_bytes, subst, inr}
+use Rattle.std.proofs.Common.{◌≡◌, ℕ, List, string_bytes, subst, sym, inl, inr}
 use Rattle.dd_script.specs.declared.fault.ScriptKind.{ScriptKind}
 use Rattle.dd_script.specs.declared.fault.ScriptKind.TheVariants as refused
 use Rattle.dd_script.specs.Scripts.{IsRefusedAs, RefusedAs, RefusalKind, syntax, unknown, twice, dimension, size}
 use Rattle.dd_session.specs.declared.status.Status.{Status}
 use Rattle.dd_session.specs.declared.status.Status.TheVariants.{Definite, SomeUnknown, Refused, ReadFault, WriteFault, Memory, BadWords, Rejected}
 use Rattle.dd_session.specs.Output.{IsLineOf, refused_line, refused_words}
-use Rattle.dd_session.specs.Sides.{Told, RefusedBy}
+use Rattle.dd_session.specs.Sides.{Told, RefusedBy, RefusedFor}
+use Rattle.dd_session.specs.Asking.{IsToEnd}
 use Rattle.dd_session.specs.Runs.{IsRefusedBy, RanOver}
+use Rattle.dd_session.proofs.Engaging.{never_to_end}
 
 no_script : (bytes : List ℕ) (n : ℕ) (k : RefusalKind) (line : List ℕ) → RefusedAs bytes n k → line ≡ refused_line refused_words n k → IsRefusedBy bytes line
 no_script bytes n k line refused is = record { command = n; kind = k; no_script = refused; line_is = is }
@@ -32,7 +34,14 @@ refusal_over sink bytes line Memory why wrote = absurd wrote
 refusal_over sink bytes line BadWords why wrote = absurd wrote
 refusal_over sink bytes line Rejected why wrote = absurd wrote
 
-pub line_over : {K : Type 0} (sink : Told K) (bytes : List ℕ) (n : ℕ) (kind : ScriptKind) (line text : List ℕ) (status : Status)
-    → IsRefusedAs bytes n kind → IsLineOf refused_words n kind line → text ≡ line → RefusedBy sink text status → RanOver sink bytes status
-line_over sink bytes n kind line text status fault is same wrote =
-    refusal_over sink bytes line status (refused_by bytes n kind line fault is) (subst (λ (l : List ℕ). RefusedBy sink l status) same wrote)
+pub line_over : {K : Type 0} (sink : Told K) (bytes : List ℕ) (n : ℕ) (kind : ScriptKind) (status : Status)
+    → IsRefusedAs bytes n kind → RefusedFor sink refused_words n kind status → RanOver sink bytes status
+line_over sink bytes n kind status fault (inl refused) =
+    refusal_over sink bytes refused.line status (refused_by bytes n kind refused.line fault refused.line_is) refused.wrote
+line_over sink bytes n kind status fault (inr (is, kept)) = subst (RanOver sink bytes) (sym is) (inr kept)
+
+-- no run came to its end so
+pub refused_to_end : {K : Type 0} (sink : Told K) (words : List ℕ) (n : ℕ) (kind : ScriptKind) (status : Status)
+    → RefusedFor sink words n kind status → ¬ IsToEnd status
+refused_to_end sink words n kind status (inl refused) to_end = never_to_end sink refused.line status refused.wrote to_end
+refused_to_end sink words n kind status (inr (is, kept)) to_end = subst IsToEnd is to_end

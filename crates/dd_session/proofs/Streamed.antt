@@ -1,5 +1,5 @@
 -- How the texts of answers, or their first lines, come one after the other, and what is written of an output that is cut short.
-use Rattle.std.proofs.Common.{◌≡◌, ℕ, ◌+◌, ◌<◌, List, [], ◌∷◌, ◌++◌, length, take, drop, get_or, Bool, true, false, ◌||◌, refl, sym, ◌∙◌, ap, subst, inl, inr, Result, Ok, Err, IfOk, OnErr, append-nil, append_assoc, length-append, take-append-drop, length-take-le, arith}
+use Rattle.std.proofs.Common.{◌≡◌, ℕ, ◌+◌, ◌<◌, List, [], ◌∷◌, ◌++◌, length, take, drop, get_or, Bool, true, false, ◌||◌, refl, sym, ◌∙◌, ap, subst, inl, inr, Result, Ok, Err, IfOk, OnOk, OnErr, append-nil, append_assoc, length-append, take-append-drop, length-take-le, arith}
 use Rattle.std.proofs.KnownBytes.{Appends-trans, Appends-nil}
 use Rattle.std.proofs.lemmas.List.{take_more}
 use Rattle.std.specs.declared.option.Option.{Option}
@@ -54,6 +54,10 @@ after_first queries done next less is = omega (arith, is, length-take-le done qu
 
 -- ---- answers one by one, of each of which so much is written
 
+-- Nothing was written of a text.
+pub front_of_nothing : (a : Option (List ℕ)) (text : List ℕ) → GainsFront a a text
+front_of_nothing a text = record { gained = []; missing = text; appends = Appends-nil a; whole = refl }
+
 module _ (written : ℕ → Answer → List ℕ) where
   texts-append : (first : ℕ) (xs ys : List Answer) → texts written first (xs ++ ys) ≡ texts written first xs ++ texts written (first + length xs) ys
   texts-append first [] ys = ap (λ (n : ℕ). texts written n ys) (omega arith)
@@ -63,26 +67,29 @@ module _ (written : ℕ → Answer → List ℕ) where
       ∙ sym (append_assoc (written first x) (texts written (first + 1) xs) (texts written (first + length (x ∷ xs)) ys))
 
   -- One answer was written.
-  pub answered_one : (a b : Option (List ℕ)) (s : Parts) (q : Query) (text : List ℕ) (number : ℕ) (x : Answer) (u : Bool)
-      → Right s q x → IsWritable x → u ≡ is_unknown x → text ≡ written number x → Appends a b text → Answered written a b s (q ∷ []) number u
-  answered_one a b s q text number x u is_right fits known is_text gained = record {
+  pub answered_one : (a b : Option (List ℕ)) (s : Parts) (q : Query) (number : ℕ) (x : Answer) (r : Result Bool RunFault)
+      → Right s q x → IsWritable x → IfOk r (λ u. u ≡ is_unknown x) → OnOk r (Appends a b (written number x))
+      → IfOk r (λ u. Answered written a b s (q ∷ []) number u)
+  answered_one a b s q number x (Ok u) is_right fits known gained = record {
     answers = x ∷ [];
     right = (is_right, fits, tt);
     each = refl;
     unknown_is = or_false (is_unknown x) ∙ sym known;
-    appends = subst (Appends a b) (is_text ∙ sym (append-nil (written number x))) gained;
+    appends = subst (Appends a b) (sym (append-nil (written number x))) gained;
   }
     where
       or_false : (b : Bool) → (b || false) ≡ b
       or_false true = refl
       or_false false = refl
+  answered_one a b s q number x (Err e) is_right fits known gained = tt
 
-  pub front_of_one : (a b : Option (List ℕ)) (s : Parts) (q : Query) (text : List ℕ) (number : ℕ) (x : Answer)
-      → Right s q x → IsWritable x → text ≡ written number x → GainsFront a b text → AnsweredFront written a b s (q ∷ []) number
-  front_of_one a b s q text number x is_right fits is_text front = record {
+  pub front_of_one : (a b : Option (List ℕ)) (s : Parts) (q : Query) (number : ℕ) (x : Answer) (r : Result Bool RunFault)
+      → Right s q x → IsWritable x → OnErr r (GainsFront a b (written number x)) → OnErr r (AnsweredFront written a b s (q ∷ []) number)
+  front_of_one a b s q number x (Ok u) is_right fits front = tt
+  front_of_one a b s q number x (Err e) is_right fits front = record {
     answers = x ∷ [];
     right = (is_right, fits, tt);
-    front = subst (GainsFront a b) (is_text ∙ sym (append-nil (written number x))) front;
+    front = subst (GainsFront a b) (sym (append-nil (written number x))) front;
   }
 
   -- No answer was written.

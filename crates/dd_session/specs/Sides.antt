@@ -1,11 +1,13 @@
 -- A source and a sink before and after a call, and what each status says of them.
-use Rattle.std.specs.Prelude.{◌≡◌, ℕ, List, Bool, true, false}
+use Rattle.std.specs.Prelude.{◌≡◌, ◌⊎◌, ℕ, List, Bool, true, false}
 use Rattle.std.specs.declared.option.Option.{Option}
 use Rattle.std.specs.Io.KnownBytes.{Appends}
 use Rattle.dd_values.specs.Counts.{Rose}
 use Rattle.dd_outside.specs.Bytes.{GainsFront}
+use Rattle.dd_script.specs.declared.fault.ScriptKind.{ScriptKind}
 use Rattle.dd_session.specs.declared.status.Status.{Status}
 use Rattle.dd_session.specs.declared.status.Status.TheVariants.{Definite, SomeUnknown, Refused, ReadFault, WriteFault, Memory, BadWords, Rejected}
+use Rattle.dd_session.specs.Output.{IsLineOf}
 
 -- A source or a sink before and after a call: itself, the bytes that it tells, and how often it has failed.
 pub record Told (X : Type 0) : Type 0 where
@@ -36,6 +38,16 @@ RefusedBy sink line ReadFault = ⊥
 RefusedBy sink line Memory = ⊥
 RefusedBy sink line BadWords = ⊥
 RefusedBy sink line Rejected = ⊥
+
+-- The line, from these words on, for what was found wrong with a command was written, or a front of it.
+pub record LineRefused {K : Type 0} (sink : Told K) (words : List ℕ) (command : ℕ) (kind : ScriptKind) (status : Status) : Type 0 where
+  pub line : List ℕ
+  pub line_is : IsLineOf words command kind line
+  pub wrote : RefusedBy sink line status
+
+-- So it is, or memory was wanting before.
+abbrev pub RefusedFor : {K : Type 0} → Told K → List ℕ → ℕ → ScriptKind → Status → Type 0
+RefusedFor sink words command kind status = LineRefused sink words command kind status ⊎ ((status ≡ Memory) × IsUntouched sink)
 
 -- The status of a run to the end, by whether some answer is that it is not known.
 abbrev pub status_of : Bool → Status

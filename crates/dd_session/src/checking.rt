@@ -5,6 +5,7 @@ ghost use Rattle.std.specs.List.{list_any};
 ghost use Rattle.dd_values.specs.Bounds.{most_commands};
 ghost use Rattle.dd_answer.specs.Right.{is_unknown};
 ghost use Rattle.dd_session.specs.Checked.{CheckFront};
+ghost use Rattle.dd_session.specs.Checks.{checked_line};
 ghost use Rattle.dd_session.specs.checking.Judged.{
   verdict_line,
   IsJudged,
@@ -37,6 +38,13 @@ fn verdict_line(alloc: Global, number: u32, accepted: bool) -> Result<String, Al
     } else {
         format!(in alloc; "query {number} rejected\n")
     }
+}
+
+// The last line, where the answers to so many queries are accepted.
+fn checked_line(alloc: Global, count: usize) -> Result<String, AllocError>
+    ensures { IfOk result (λ line. string_bytes line ≡ checked_line count) }
+{
+    format!(in alloc; "checked {count}\n")
 }
 
 // Whether there are a query and an answer with the number, and the answer is a certificate.
@@ -122,7 +130,7 @@ pub(crate) fn check_all<K: Sink>(
     if !are_accepted {
         return Ok(false);
     }
-    let line = format!(in alloc; "checked {}\n", answers.len())?;
+    let line = checked_line(alloc, answers.len())?;
     write_whole(sink, line.as_bytes())?;
     Ok(true)
 }

@@ -1,17 +1,16 @@
 //! The check of a whole output.
-ghost use Rattle.std.specs.Prelude.{◌≡◌, ◌+◌, ◌≤◌, ℕ, List, Some};
+ghost use Rattle.std.specs.Prelude.{◌≡◌, ◌+◌, ◌≤◌, ℕ, List, Some, IfOk, string_bytes};
 ghost use Rattle.dd_outside.specs.Bytes.{GivesAtMost};
 ghost use Rattle.dd_output.specs.Outputs.{output_text, IsWritableOutput};
 ghost use Rattle.dd_script.specs.Scripts.{Spells};
 ghost use Rattle.dd_session.specs.Answers.{has_unknown};
 ghost use Rattle.dd_session.specs.Sides.{told};
-ghost use Rattle.dd_session.specs.Checks.{most_checked};
+ghost use Rattle.dd_session.specs.Checks.{most_checked, offset_line};
 ghost use Rattle.dd_session.specs.Checked.{CheckedOver, CheckEnded, CheckDecides};
 ghost use Rattle.dd_session.specs.checking.Judged.{checked_status};
 
 use crate::checking::{check_all, has_unknown};
-use crate::output::refused_text;
-use crate::session::{refuse, status_of};
+use crate::session::{refuse, refuse_fault, status_of};
 use crate::status::Status;
 use crate::stream::RunFault;
 use dd_certificate::Answer;
@@ -54,11 +53,15 @@ fn check_output<K: Sink>(alloc: Global, output: &Output, sink: &mut K) -> Status
 {
     match parse(alloc, output.script.as_slice()) {
         Ok(script) => check_script(alloc, output, &script, sink),
-        Err(fault) => match refused_text(alloc, "refused script", fault.command, &fault.kind) {
-            Ok(line) => refuse(sink, line.as_bytes()),
-            Err(AllocError) => Status::Memory,
-        },
+        Err(fault) => refuse_fault(alloc, "refused script", &fault, sink),
     }
+}
+
+// The line for bytes that are no output.
+fn offset_line(alloc: Global, offset: u64) -> Result<String, AllocError>
+    ensures { IfOk result (λ line. string_bytes line ≡ offset_line offset) }
+{
+    format!(in alloc; "refused at {offset}\n")
 }
 
 // Checks an input that is not too long.
@@ -68,12 +71,10 @@ fn check_bytes<K: Sink>(alloc: Global, bytes: &[u8], sink: &mut K) -> Status
 {
     match read_output(alloc, bytes) {
         Ok(output) => check_output(alloc, &output, sink),
-        Err(CertificateFault::Malformed(offset)) => {
-            match format!(in alloc; "refused at {offset}\n") {
-                Ok(line) => refuse(sink, line.as_bytes()),
-                Err(AllocError) => Status::Memory,
-            }
-        }
+        Err(CertificateFault::Malformed(offset)) => match offset_line(alloc, offset) {
+            Ok(line) => refuse(sink, line.as_bytes()),
+            Err(AllocError) => Status::Memory,
+        },
         Err(CertificateFault::Memory) => Status::Memory,
     }
 }

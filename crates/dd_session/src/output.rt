@@ -1,6 +1,7 @@
 //! The texts that a run writes.
-ghost use Rattle.std.specs.Prelude.{◌≡◌, IfOk, string_bytes};
-ghost use Rattle.dd_session.specs.Output.{limit_text, IsLineOf};
+ghost use Rattle.std.specs.Prelude.{◌≡◌, IfOk, string_bytes, ◌++◌, codes};
+ghost use Rattle.dd_session.specs.Output.{limit_text, IsLineOf, header};
+ghost use Rattle.std.specs.Fmt.{decimal};
 
 use dd_script::{Limit, ScriptKind};
 use std::alloc::{AllocError, Global};
@@ -32,6 +33,19 @@ fn limit_text(limit: Limit) -> &'static str
     }
 }
 
+// The line for a command that is refused, from these words on, with what is wrong with it, and a name.
+fn refused_line(
+    alloc: Global,
+    words: &str,
+    command: u32,
+    fault: &str,
+    name: &str,
+) -> Result<String, AllocError>
+    ensures { IfOk result (λ line. string_bytes line ≡ words.now ++ (codes " " ++ (decimal command ++ (codes " " ++ (fault.now ++ (name.now ++ codes "\n")))))) }
+{
+    format!(in alloc; "{words} {command} {fault}{name}\n")
+}
+
 /// The line for a text that is no script, from these words on. Want of memory has none.
 pub(crate) fn refused_text(
     alloc: Global,
@@ -42,12 +56,12 @@ pub(crate) fn refused_text(
     ensures { IfOk result (λ line. IsLineOf words.now command kind.now (string_bytes line)) }
 {
     match kind {
-        ScriptKind::Syntax => format!(in alloc; "{words} {command} syntax\n"),
-        ScriptKind::Unknown(name) => format!(in alloc; "{words} {command} unknown {name}\n"),
-        ScriptKind::Twice(name) => format!(in alloc; "{words} {command} twice {name}\n"),
-        ScriptKind::Dimension => format!(in alloc; "{words} {command} dimension\n"),
+        ScriptKind::Syntax => refused_line(alloc, words, command, "syntax", ""),
+        ScriptKind::Unknown(name) => refused_line(alloc, words, command, "unknown ", name.as_str()),
+        ScriptKind::Twice(name) => refused_line(alloc, words, command, "twice ", name.as_str()),
+        ScriptKind::Dimension => refused_line(alloc, words, command, "dimension", ""),
         ScriptKind::Size(limit) => {
-            format!(in alloc; "{words} {command} size {}\n", limit_text(*limit))
+            refused_line(alloc, words, command, "size ", limit_text(*limit))
         }
         ScriptKind::Memory => Err(AllocError),
     }

@@ -11,7 +11,7 @@ ghost use Rattle.dd_session.specs.Asking.{HeaderTaken, Begun, HasBegun, IsToEnd,
 ghost use Rattle.dd_session.specs.Checks.{most_checked};
 ghost use Rattle.dd_session.specs.Checked.{CheckEnded, CheckDecides};
 ghost use Rattle.dd_session.specs.Words.{IsOnly, IsSample, IsSampleOf, AreBad};
-ghost use Rattle.dd_session.specs.Sides.{told, status_of, RefusedBy};
+ghost use Rattle.dd_session.specs.Sides.{told, status_of, RefusedBy, RefusedFor};
 ghost use Rattle.dd_session.specs.Runs.{RanOver, Ended, DecidesStatus, IsAccepted};
 ghost use Rattle.dd_session.specs.Samples.{is_memory, LinesOf, SampleEnded};
 
@@ -24,7 +24,7 @@ use dd_engines::{Engine, Roster, kept_is_reflexive};
 use dd_outside::{ReadAllFault, Sink, Source, WriteFault, read_all, write_whole};
 use dd_sample::{sample_number, sample_script};
 use dd_sampling::samples_spell;
-use dd_script::{Script, ScriptKind, parse, spelled_or_refused};
+use dd_script::{Script, ScriptFault, ScriptKind, parse, spelled_or_refused};
 use dd_values::MOST_SCRIPT;
 use std::alloc::{AllocError, Global};
 
@@ -67,6 +67,22 @@ pub(crate) fn refuse<K: Sink>(sink: &mut K, line: &[u8]) -> Status
     match write_whole(sink, line) {
         Ok(()) => Status::Refused,
         Err(WriteFault) => Status::WriteFault,
+    }
+}
+
+/// Writes the line for a text that is no script, from these words on.
+pub(crate) fn refuse_fault<K: Sink>(
+    alloc: Global,
+    words: &str,
+    fault: &ScriptFault,
+    sink: &mut K,
+) -> Status
+    ensures wrote { RefusedFor (told K.held K.faults sink.old sink.new) words.now fault.now.command fault.now.kind result }
+    ensures later { K.faults sink.old ≤ K.faults sink.new }
+{
+    match refused_text(alloc, words, fault.command, &fault.kind) {
+        Ok(line) => refuse(sink, line.as_bytes()),
+        Err(AllocError) => Status::Memory,
     }
 }
 
@@ -124,10 +140,7 @@ fn run_bytes<K: Sink, E: Engine>(
     kept_is_reflexive();
     match parse(alloc, bytes) {
         Ok(script) => run_accepted(alloc, bytes, &script, sink, roster),
-        Err(fault) => match refused_text(alloc, "refused", fault.command, &fault.kind) {
-            Ok(line) => refuse(sink, line.as_bytes()),
-            Err(AllocError) => Status::Memory,
-        },
+        Err(fault) => refuse_fault(alloc, "refused", &fault, sink),
     }
 }
 

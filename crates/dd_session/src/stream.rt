@@ -1,7 +1,9 @@
 //! The output of a script, and the first lines of its answers, each part written as soon as it is made.
 ghost use Rattle.std.specs.Prelude.{◌≡◌, ◌⊎◌, ◌≤◌, ◌∷◌, [], length, Contains, IfOk, OnOk, OnErr, IsErrOf};
+ghost use Rattle.std.specs.Io.KnownBytes.{Appends};
 ghost use Rattle.dd_values.specs.Bounds.{most_commands};
 ghost use Rattle.dd_values.specs.Counts.{Rose};
+ghost use Rattle.dd_outside.specs.Bytes.{GainsFront};
 ghost use Rattle.dd_engines.specs.Rosters.{roster_seen};
 ghost use Rattle.dd_engines.specs.Rounds.{Kept};
 ghost use Rattle.dd_script.specs.Scripts.{Spells};
@@ -71,6 +73,25 @@ fn text_in(alloc: Global, form: Form, number: u32, answer: &Answer) -> Result<Ve
     }
 }
 
+// Writes so much of the answer to the query with the number. True where it is unknown.
+fn write_one<K: Sink>(
+    alloc: Global,
+    form: Form,
+    number: u32,
+    answer: &Answer,
+    sink: &mut K,
+) -> Result<bool, RunFault>
+    ensures unknown { IfOk result (λ unknown. unknown ≡ is_unknown answer.now) }
+    ensures wrote { OnOk result (Appends (K.held sink.old) (K.held sink.new) (text_in form number answer.now)) }
+    ensures cut { OnErr result (GainsFront (K.held sink.old) (K.held sink.new) (text_in form number answer.now)) }
+    ensures later { K.faults sink.old ≤ K.faults sink.new }
+    ensures write_fault { IsErrOf result RunFault.WriteFault → Rose (K.faults sink.old) (K.faults sink.new) }
+{
+    let text = text_in(alloc, form, number, answer)?;
+    write_whole(sink, &text)?;
+    Ok(is_unknown(answer))
+}
+
 // Answers one query, and writes so much of it. True where the answer is unknown.
 fn answer_one<K: Sink, E: Engine>(
     alloc: Global,
@@ -90,9 +111,7 @@ fn answer_one<K: Sink, E: Engine>(
     ensures asked { OnOk result (Engages (AsksBoxes script.now query.now) (roster_seen E.asked E.given E.sound roster.old) (roster_seen E.asked E.given E.sound roster.new)) }
 {
     let found = answer(alloc, script, query, roster)?;
-    let text = text_in(alloc, form, number, &found)?;
-    write_whole(sink, &text)?;
-    Ok(is_unknown(&found))
+    write_one(alloc, form, number, &found, sink)
 }
 
 // Answers all queries in order, and writes so much of each before the next answer is made. True where an answer is unknown.

@@ -8,8 +8,8 @@ use Rattle.dd_session.proofs.checks.check_bytes.Goals as goal
 pub returns-in-Ok-clause-checked : goal.returns-in-Ok-clause-checked
 returns-in-Ok-clause-checked g c = same_over _ c.args.bytes.now _ _ c.in-Ok.ensures.1 c.check_output.ensures.checked
 
-pub returns-in-Ok-format-clause-checked : goal.returns-in-Ok-format-clause-checked
-returns-in-Ok-format-clause-checked g c =
+pub returns-in-Ok-offset_line-clause-checked : goal.returns-in-Ok-offset_line-clause-checked
+returns-in-Ok-offset_line-clause-checked g c =
     let is : c.as_bytes.result.now ≡ offset_line c.in-Err-Malformed.offset = search rules in
     let at : c.in-Err-Malformed.field-0 ≡ faults.Malformed c.in-Err-Malformed.offset = search rules in
     offset_over _ c.args.bytes.now (offset_line c.in-Err-Malformed.offset) c.as_bytes.result.now c.in-Err-Malformed.offset _

@@ -7,7 +7,7 @@ parse-requires g c = few_bytes c.args.output.now c.as_slice.result.now c.require
 pub check_script-requires-clause-spelled : goal.check_script-requires-clause-spelled
 check_script-requires-clause-spelled g c = same_spelled c.args.output.now c.as_slice.result.now _ c.as_slice.ensures c.in-Ok.ensures.spelled
 
-pub returns-in-Ok-refused_text-clause-checked : goal.returns-in-Ok-refused_text-clause-checked
-returns-in-Ok-refused_text-clause-checked g c =
-    script_over _ c.args.output.now c.as_slice.result.now c.in-Err.fault.command c.in-Err.fault.kind _ c.as_bytes.result.now _
-    c.requires c.as_slice.ensures c.in-Err.ensures.refused c.in-Ok-refused_text.ensures c.as_bytes.ensures.value c.refuse.ensures.wrote
+pub returns-in-Err-clause-checked : goal.returns-in-Err-clause-checked
+returns-in-Err-clause-checked g c =
+    script_over _ c.args.output.now c.as_slice.result.now c.in-Err.fault.command c.in-Err.fault.kind _
+    c.requires c.as_slice.ensures c.in-Err.ensures.refused c.refuse_fault.ensures.wrote

@@ -1,12 +1,11 @@
 use Rattle.dd_session.specs.Sides.{told}
-use Rattle.dd_session.proofs.Engaging.{begun, never_to_end}
-use Rattle.dd_session.proofs.Refused.{line_over}
+use Rattle.dd_session.proofs.Engaging.{begun}
+use Rattle.dd_session.proofs.Refused.{line_over, refused_to_end}
 use Rattle.dd_session.proofs.session.run_bytes.Goals as goal
 
-pub returns-in-Ok-refused_text-clause-ran : goal.returns-in-Ok-refused_text-clause-ran
-returns-in-Ok-refused_text-clause-ran g c =
-    line_over _ c.args.bytes.now c.in-Err.fault.command c.in-Err.fault.kind _ c.as_bytes.result.now _
-    c.in-Err.ensures.refused c.in-Ok-refused_text.ensures c.as_bytes.ensures.value c.refuse.ensures.wrote
+pub returns-in-Err-clause-ran : goal.returns-in-Err-clause-ran
+returns-in-Err-clause-ran g c =
+    line_over _ c.args.bytes.now c.in-Err.fault.command c.in-Err.fault.kind _ c.in-Err.ensures.refused c.refuse_fault.ensures.wrote
 
 pub returns-in-Ok-clause-late : goal.returns-in-Ok-clause-late
 returns-in-Ok-clause-late g c = begun _ _ _ _ c.in-Ok.script c.in-Ok.ensures.spelled c.run_accepted.ensures.late
@@ -18,6 +17,7 @@ returns-in-Ok-clause-asked g c = λ to_end. record {
   first = c.run_accepted.ensures.asked to_end;
 }
 
-pub returns-in-Ok-refused_text-clause-asked : goal.returns-in-Ok-refused_text-clause-asked
-returns-in-Ok-refused_text-clause-asked g c = λ to_end.
-    absurd (never_to_end (told g.K.Sink.held g.K.Sink.faults c.args.sink.now c.refuse.new.sink) c.as_bytes.result.now _ c.refuse.ensures.wrote to_end)
+pub returns-in-Err-clause-asked : goal.returns-in-Err-clause-asked
+returns-in-Err-clause-asked g c = λ to_end.
+    absurd (refused_to_end (told g.K.Sink.held g.K.Sink.faults c.args.sink.now c.refuse_fault.new.sink) _ c.in-Err.fault.command c.in-Err.fault.kind _
+    c.refuse_fault.ensures.wrote to_end)
