@@ -71,14 +71,13 @@ map_more f xs i d within = ap (map f) (take_more xs i d within) ∙ map-append f
 longer : (env inner : List Cell) (c : Cell) → inner ≡ env ++ c ∷ [] → length env + 1 ≡ length inner
 longer env inner c is = sym (ap length is ∙ length-append env (c ∷ []))
 
-pub inner_fits : (g : Grid) (n : ℕ) (bs : List BallOf) (body f : Formula) (env inner : List Cell) (c : Cell) → formula_fits g n (formula.ForAll bs body) (length env) ≡ true → f ≡ body → inner ≡ env ++ c ∷ [] →
-    formula_fits g n f (length inner) ≡ true
-inner_fits g n bs body f env inner c h same is =
+pub inner_fits : (g : Grid) (n : ℕ) (body f : Formula) (env inner : List Cell) (c : Cell) → formula_fits g n body (length env + 1) ≡ true → f ≡ body → inner ≡ env ++ c ∷ [] → formula_fits g n f (length inner) ≡ true
+inner_fits g n body f env inner c h same is =
     let P : ℕ → Type 0 = λ m. formula_fits g n f m ≡ true in
-    subst P (longer env inner c is) (ap (λ x. formula_fits g n x (length env + 1)) same ∙ (quantified_fits g n bs body (length env) h).1)
+    subst P (longer env inner c is) (ap (λ x. formula_fits g n x (length env + 1)) same ∙ h)
 
-pub inner_depth : (bs : List BallOf) (body f : Formula) (env inner : List Cell) (c : Cell) → depth (formula.ForAll bs body) + length env ≤ 65 → f ≡ body → inner ≡ env ++ c ∷ [] → depth f + length inner ≤ 65
-inner_depth bs body f env inner c h same is = omega (arith, h, quantified_depth bs body, ap depth same, longer env inner c is)
+pub inner_depth : (body f : Formula) (env inner : List Cell) (c : Cell) → depth body + (length env + 1) ≤ 65 → f ≡ body → inner ≡ env ++ c ∷ [] → depth f + length inner ≤ 65
+inner_depth body f env inner c h same is = omega (arith, h, ap depth same, longer env inner c is)
 
 pub inner_near : (env inner : List Cell) (c : Cell) → AreNear (12 * length env) env → extent c.position ≤ 12 * (length env + 1) → inner ≡ env ++ c ∷ [] → AreNear (12 * length inner) inner
 inner_near env inner c near here is = subst (λ l. AreNear (12 * length l) l) (sym is) (near_push env c near here)
@@ -98,7 +97,10 @@ pub paid_more : {X : Type 0} (cost : X → ℕ) (xs : List X) (i : ℕ) (x : X) 
     now + sum_by cost (take (i + 1) xs) ≡ first
 paid_more cost xs i x left now first within is before one = omega (arith, sum_by_more cost xs i x within, ap cost is, before, one)
 
--- what is left does not pay for one more value, so the whole has a greater cost
+-- what is left does not pay for one more value, so the whole has a greater cost; so too where a gate was paid before
+pub few_at : {X : Type 0} (cost : X → ℕ) (xs : List X) (i : ℕ) (x : X) (left first : ℕ) → i < length xs → x ≡ get_or xs i x → left + sum_by cost (take i xs) ≡ first → left < cost x → first < sum_by cost xs
+few_at cost xs i x left first within is paid few = omega (arith, sum_by_more_le cost xs i x within, ap cost is, paid, few)
+
 pub few_for_all : {X : Type 0} (cost : X → ℕ) (xs : List X) (i : ℕ) (x : X) (left first before : ℕ) → i < length xs → x ≡ get_or xs i x → left + sum_by cost (take i xs) ≡ first → first + 1 ≡ before → left < cost x →
     before < 1 + sum_by cost xs
 few_for_all cost xs i x left first before within is paid gate few = omega (arith, sum_by_more_le cost xs i x within, ap cost is, paid, gate, few)
@@ -108,3 +110,8 @@ pub paid_as : {S T : Type 0} (f : S → T) (before after cost : ℕ) (value : S)
     IsPaid before after (f value) cost r'
 paid_as f before after cost value (Ok x) r' made fault paid = subst (IsPaid before after (f value) cost) (sym made) (ap f paid.0, paid.1)
 paid_as f before after cost value (Err e) r' made fault few = subst (IsPaid before after (f value) cost) (sym fault) few
+
+-- what was spent before is a part of the cost
+pub paid_after : {T : Type 0} (before mid after spent cost : ℕ) (value : T) (r : Result T ExpansionFault) → mid + spent ≡ before → IsPaid mid after value cost r → IsPaid before after value (spent + cost) r
+paid_after before mid after spent cost value (Ok made) h paid = (paid.0, omega (arith, h, paid.1))
+paid_after before mid after spent cost value (Err fault) h few = λ is. omega (arith, h, few is)

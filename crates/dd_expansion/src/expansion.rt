@@ -1,5 +1,5 @@
 //! The expansion of a formula at a cell, within a budget of nodes.
-ghost use Rattle.std.specs.Prelude.{◌≡◌, ◌+◌, ◌*◌, ◌<◌, ◌≤◌, ◌∷◌, ◌++◌, [], true, length, map, Ok, Err, IfOk, IfErr};
+ghost use Rattle.std.specs.Prelude.{ℕ, ◌≡◌, ◌+◌, ◌*◌, ◌<◌, ◌≤◌, ◌∷◌, ◌++◌, [], true, length, map, Ok, Err, IfOk, IfErr};
 ghost use Rattle.std.specs.List.{sum_by};
 ghost use Rattle.dd_lattice.specs.InOrder.{in_order};
 ghost use Rattle.dd_expansion.specs.declared.fault.ExpansionFault.TheVariants.{Instances};
@@ -7,7 +7,8 @@ ghost use Rattle.dd_expansion.specs.Terms.{cell_of, balls_of, origin_at};
 ghost use Rattle.dd_expansion.specs.Limits.{term_fits, formula_fits, depth, IsFormula};
 ghost use Rattle.dd_expansion.specs.expanding.Near.{AreNear};
 ghost use Rattle.dd_expansion.specs.Leaves.{instances};
-ghost use Rattle.dd_expansion.specs.Expansion.{expansion, negated, any_of};
+ghost use Rattle.dd_expansion.specs.declared.expanded.Expanded.{Expanded as AnyExpanded};
+ghost use Rattle.dd_expansion.specs.Expansion.{expansion, negated, any_of, both_alike};
 ghost use Rattle.dd_expansion.specs.expanding.Budget.{IsPaid};
 
 use crate::atoms::{
@@ -104,14 +105,12 @@ impl<'a> Scope<'a> {
             Formula::Implies(premise, conclusion) => {
                 spend(budget, 2)?;
                 let one = self.expand_boxed(premise, budget)?;
-                let other = self.expand(conclusion.get(), budget)?;
-                Ok(implied(alloc, one, other)?)
+                implication(alloc, one, self.expand(conclusion.get(), budget))
             }
             Formula::Iff(first, second) => {
                 spend(budget, 1)?;
                 let one = self.expand_boxed(first, budget)?;
-                let other = self.expand_boxed(second, budget)?;
-                Ok(Expanded::Iff(one, other))
+                equivalence(one, self.expand_boxed(second, budget))
             }
             Formula::ForAll { balls, body } => {
                 conjunction(self.expand_over(balls.as_slice(), body, budget))
@@ -197,9 +196,28 @@ impl<'a> Scope<'a> {
     {
         spend(budget, 1)?;
         let cells = cells_of(self.alloc, self.topology, self.env, balls)?;
+        self.expand_each(&cells, body, budget)
+    }
+
+    /// The expansions of a body for each of some cells, which is the cell of one more variable.
+    #[cycle(expand)]
+    fn expand_each(
+        &self,
+        cells: &[Cell],
+        body: &Boxed<Formula>,
+        budget: &mut u32,
+    ) -> Result<Items<Expanded>, ExpansionFault>
+        requires fits { formula_fits self.now.topology.now self.now.symbols body.now (length self.now.env.now + 1) ≡ true }
+        requires depth { depth body.now + (length self.now.env.now + 1) ≤ 65 }
+        requires near { AreNear (12 * length self.now.env.now) self.now.env.now }
+        requires cells { AreNear (12 * (length self.now.env.now + 1)) cells.now }
+        ensures { let es = self.now.topology.now.edges in
+            IsPaid budget.old budget.new (map (λ c. expansion es self.now.symbols body.now (self.now.env.now ++ c ∷ [])) cells.now)
+            (sum_by (λ c. instances (expansion es self.now.symbols body.now (self.now.env.now ++ c ∷ []))) cells.now) result }
+    {
         let mut inner = Vec::from_slice(self.alloc, self.env)?;
         let mut parts = Items::new(self.alloc);
-        for cell in &cells {
+        for cell in cells {
             inner.push(*cell)?;
             let inside = Scope {
                 env: &inner,
@@ -231,6 +249,33 @@ fn disjunction(parts: Result<Items<Expanded>, ExpansionFault>) -> Result<Expande
 {
     match parts {
         Ok(made) => Ok(Expanded::Or(made)),
+        Err(fault) => Err(fault),
+    }
+}
+
+/// The implication of a premise and a conclusion, or the conclusion's fault.
+fn implication(
+    alloc: Global,
+    premise: Boxed<Expanded>,
+    conclusion: Result<Expanded, ExpansionFault>,
+) -> Result<Expanded, ExpansionFault>
+    ensures { (before after cost : ℕ) → (value : AnyExpanded) → IsPaid before after value cost conclusion → IsPaid before after (any_of (negated premise ∷ value ∷ [])) cost result }
+{
+    match conclusion {
+        Ok(made) => Ok(implied(alloc, premise, made)?),
+        Err(fault) => Err(fault),
+    }
+}
+
+/// The equivalence of two parts, or the second one's fault.
+fn equivalence(
+    first: Boxed<Expanded>,
+    second: Result<Boxed<Expanded>, ExpansionFault>,
+) -> Result<Expanded, ExpansionFault>
+    ensures { (before after cost : ℕ) → (value : AnyExpanded) → IsPaid before after value cost second → IsPaid before after (both_alike first value) cost result }
+{
+    match second {
+        Ok(made) => Ok(Expanded::Iff(first, made)),
         Err(fault) => Err(fault),
     }
 }

@@ -1,5 +1,5 @@
 //! First-order formulas whose quantifiers range over balls.
-ghost use Rattle.std.specs.Prelude.{◌≡◌, IfOk};
+ghost use Rattle.std.specs.Prelude.{◌≡◌, Ok, IfOk};
 
 use dd_values::{Boxed, Items};
 use std::alloc::{AllocError, Global};
@@ -106,22 +106,22 @@ impl Formula {
                 term: term.copy(alloc)?,
                 symbol: *symbol,
             }),
-            Formula::Same { left, right } => Ok(Formula::Same {
-                left: left.copy(alloc)?,
-                right: right.copy(alloc)?,
-            }),
-            Formula::NotSame { left, right } => Ok(Formula::NotSame {
-                left: left.copy(alloc)?,
-                right: right.copy(alloc)?,
-            }),
-            Formula::Adjacent { left, right } => Ok(Formula::Adjacent {
-                left: left.copy(alloc)?,
-                right: right.copy(alloc)?,
-            }),
-            Formula::Place { left, right } => Ok(Formula::Place {
-                left: left.copy(alloc)?,
-                right: right.copy(alloc)?,
-            }),
+            Formula::Same { left, right } => {
+                let (left, right) = copy_terms(alloc, left, right)?;
+                Ok(Formula::Same { left, right })
+            }
+            Formula::NotSame { left, right } => {
+                let (left, right) = copy_terms(alloc, left, right)?;
+                Ok(Formula::NotSame { left, right })
+            }
+            Formula::Adjacent { left, right } => {
+                let (left, right) = copy_terms(alloc, left, right)?;
+                Ok(Formula::Adjacent { left, right })
+            }
+            Formula::Place { left, right } => {
+                let (left, right) = copy_terms(alloc, left, right)?;
+                Ok(Formula::Place { left, right })
+            }
             Formula::Node { term, node } => Ok(Formula::Node {
                 term: term.copy(alloc)?,
                 node: *node,
@@ -129,24 +129,60 @@ impl Formula {
             Formula::Not(inner) => Ok(Formula::Not(copy_boxed(alloc, inner)?)),
             Formula::And(parts) => Ok(Formula::And(copy_all(alloc, parts.as_slice())?)),
             Formula::Or(parts) => Ok(Formula::Or(copy_all(alloc, parts.as_slice())?)),
-            Formula::Implies(left, right) => Ok(Formula::Implies(
-                copy_boxed(alloc, left)?,
-                copy_boxed(alloc, right)?,
-            )),
-            Formula::Iff(left, right) => Ok(Formula::Iff(
-                copy_boxed(alloc, left)?,
-                copy_boxed(alloc, right)?,
-            )),
-            Formula::ForAll { balls, body } => Ok(Formula::ForAll {
-                balls: Items::from_slice(alloc, balls.as_slice())?,
-                body: copy_boxed(alloc, body)?,
-            }),
-            Formula::Exists { balls, body } => Ok(Formula::Exists {
-                balls: Items::from_slice(alloc, balls.as_slice())?,
-                body: copy_boxed(alloc, body)?,
-            }),
+            Formula::Implies(left, right) => {
+                let one = copy_boxed(alloc, left)?;
+                let (left, right) = paired(one, copy_boxed(alloc, right))?;
+                Ok(Formula::Implies(left, right))
+            }
+            Formula::Iff(left, right) => {
+                let one = copy_boxed(alloc, left)?;
+                let (left, right) = paired(one, copy_boxed(alloc, right))?;
+                Ok(Formula::Iff(left, right))
+            }
+            Formula::ForAll { balls, body } => {
+                let (balls, body) = copy_quantified(alloc, balls, body)?;
+                Ok(Formula::ForAll { balls, body })
+            }
+            Formula::Exists { balls, body } => {
+                let (balls, body) = copy_quantified(alloc, balls, body)?;
+                Ok(Formula::Exists { balls, body })
+            }
         }
     }
+}
+
+fn copy_terms(alloc: Global, left: &Term, right: &Term) -> Result<(Term, Term), AllocError>
+    ensures { IfOk result (λ c. c ≡ (left.now, right.now)) }
+{
+    let left = left.copy(alloc)?;
+    let right = right.copy(alloc)?;
+    Ok((left, right))
+}
+
+/// Both halves, or the fault of the second.
+fn paired(
+    left: Boxed<Formula>,
+    right: Result<Boxed<Formula>, AllocError>,
+) -> Result<(Boxed<Formula>, Boxed<Formula>), AllocError>
+    ensures { IfOk result (λ c. (c.0 ≡ left) × (right ≡ Ok c.1)) }
+{
+    match right {
+        Ok(right) => Ok((left, right)),
+        Err(fault) => Err(fault),
+    }
+}
+
+#[cycle(copy)]
+fn copy_quantified(
+    alloc: Global,
+    balls: &Items<BallOf>,
+    body: &Boxed<Formula>,
+) -> Result<(Items<BallOf>, Boxed<Formula>), AllocError>
+    ensures { IfOk result (λ c. c ≡ (balls.now, body.now)) }
+{
+    let body = copy_boxed(alloc, body)?;
+    let balls = Items::from_slice(alloc, balls.as_slice())?;
+    Ok((balls, body))
 }
 
 #[cycle(copy)]

@@ -11,8 +11,8 @@ use Rattle.dd_expansion.specs.expanding.Near.{AreNear}
 use Rattle.dd_expansion.specs.Expansion.{expansion}
 use Rattle.dd_expansion.proofs.formulas.Formula.TheLaws.{the_size}
 use Rattle.dd_expansion.specs.lemmas.Layers.{expansion_and, expansion_or, expansion_for_all, expansion_exists}
-use Rattle.dd_expansion.proofs.Nodes.{nodes_and, nodes_or, nodes_for_all, nodes_exists}
-use Rattle.dd_expansion.proofs.Parts.{part_fits, part_depth, inner_fits, inner_depth, inner_near, item_near, made_more, paid_more, paid_as, few_for_all}
+use Rattle.dd_expansion.proofs.Nodes.{nodes_and, nodes_or, nodes_for_all, nodes_exists, nodes_implies, nodes_iff, expansion_implies, expansion_iff}
+use Rattle.dd_expansion.proofs.Parts.{part_fits, part_depth, quantified_fits, quantified_depth, inner_fits, inner_depth, inner_near, item_near, made_more, paid_more, paid_as, paid_after, few_at, few_for_all}
 use Rattle.dd_expansion.proofs.expansion.Scope.+expand.Goals as goal
 
 pub expand_all-expand-requires : goal.expand_all-expand-requires
@@ -90,8 +90,48 @@ expand-returns-in-Exists t c =
     rw (c.in-Exists.is, nodes, whole, ← c.as_slice-in-Exists.ensures)
     (paid_as expanded.Or _ _ _ _ c.expand_over-in-Exists.result c.disjunction-in-Exists.result c.disjunction-in-Exists.ensures.made c.disjunction-in-Exists.ensures.fault c.expand_over-in-Exists.ensures)
 
-pub expand_over-returns-in_err-part : goal.expand_over-returns-in_err-part
-expand_over-returns-in_err-part t c =
+pub expand-returns-in_ok-one-in-Implies : goal.expand-returns-in_ok-one-in-Implies
+expand-returns-in_ok-one-in-Implies t c =
+    let es = c.args.self.now.topology.now.edges in
+    let n = c.args.self.now.symbols in
+    let env = c.args.self.now.env.now in
+    let nodes = nodes_implies es n env c.in-Implies.premise c.in-Implies.conclusion in
+    let whole = expansion_implies es n env c.in-Implies.premise c.in-Implies.conclusion in
+    let one = c.in_ok-one-in-Implies.ensures in
+    let last = rw c.get.ensures at c.expand.ensures in
+    let joined = rw one.0 at (c.implication.ensures _ _ _ _ last) in
+    rw (c.in-Implies.is, nodes, whole) (paid_after _ _ _ 2 _ _ _ c.in_ok-spend-in-Implies.ensures.ok (paid_after _ _ _ _ _ _ _ one.1 joined))
+
+pub expand-returns-in_ok-one-in-Iff : goal.expand-returns-in_ok-one-in-Iff
+expand-returns-in_ok-one-in-Iff t c =
+    let es = c.args.self.now.topology.now.edges in
+    let n = c.args.self.now.symbols in
+    let env = c.args.self.now.env.now in
+    let nodes = nodes_iff es n env c.in-Iff.first c.in-Iff.second in
+    let whole = expansion_iff es n env c.in-Iff.first c.in-Iff.second in
+    let one = c.in_ok-one-in-Iff.ensures in
+    let joined = rw one.0 at (c.equivalence.ensures _ _ _ _ c.expand_boxed-in-Iff-2.ensures) in
+    rw (c.in-Iff.is, nodes, whole) (paid_after _ _ _ 1 _ _ _ c.in_ok-spend-in-Iff.ensures.ok (paid_after _ _ _ _ _ _ _ one.1 joined))
+
+pub expand_over-expand_each-requires : goal.expand_over-expand_each-requires
+expand_over-expand_each-requires t c =
+    let env = c.args.self.now.env.now in (
+      omega (arith, c.decreases),
+      (
+        (quantified_fits c.args.self.now.topology.now c.args.self.now.symbols c.args.balls.now c.args.body.now (length env) c.requires.fits).1,
+        (
+          omega (arith, c.requires.depth, quantified_depth c.args.balls.now c.args.body.now),
+          (c.requires.near, subst (AreNear (12 * (length env + 1))) (sym c.deref.ensures.value) c.in_ok-cells.ensures.near),
+        ),
+      ),
+    )
+
+pub expand_over-returns : goal.expand_over-returns
+expand_over-returns t c =
+    rw (← c.in_ok-cells.ensures.list, ← c.deref.ensures.value) (paid_after _ _ _ 1 _ _ c.expand_each.result c.in_ok-spend.ensures.ok c.expand_each.ensures)
+
+pub expand_each-returns-in_err-part : goal.expand_each-returns-in_err-part
+expand_each-returns-in_err-part t c =
     let p = err_from_is_err_and c.from_residual-in_err-part.result c.from_residual-in_err-part.ensures.1 in
     let body = c.args.body.now in
     let env = c.args.self.now.env.now in
@@ -99,13 +139,13 @@ expand_over-returns-in_err-part t c =
     let nodes : Cell → ℕ = λ d. instances (expansion c.args.self.now.topology.now.edges c.args.self.now.symbols body (env ++ d ∷ [])) in
     let scope : c.deref.result.now ≡ env ++ cell ∷ [] = c.deref.ensures.value ∙ (c.in_ok-push.ensures.items ∙ ap (λ l. l ++ cell ∷ []) c.loop-cell.invariant.scope) in
     let few = rw (c.get.ensures, scope) at c.in_err-part.ensures in
-    let cells = c.deref-cell-items.result.now in
+    let cells = c.args.cells.now in
     let within : c.loop-cell.cell-index < length cells = omega arith in
-    rw (p.1, p.2, ← c.in_ok-cells.ensures.list, ← c.deref-cell-items.ensures.value)
-    (λ fault. few_for_all nodes cells c.loop-cell.cell-index cell c.loop-cell.budget _ _ within c.cell-item.is c.loop-cell.invariant.paid c.in_ok-spend.ensures.ok (few fault))
+    rw (p.1, p.2)
+    (λ fault. few_at nodes cells c.loop-cell.cell-index cell c.loop-cell.budget _ within c.cell-item.is c.loop-cell.invariant.paid (few fault))
 
-pub expand_over-loop-cell-preserved : goal.expand_over-loop-cell-preserved
-expand_over-loop-cell-preserved t c =
+pub expand_each-loop-cell-preserved : goal.expand_each-loop-cell-preserved
+expand_each-loop-cell-preserved t c =
     let body = c.args.body.now in
     let env = c.args.self.now.env.now in
     let cell = c.cell-item.result in
@@ -115,7 +155,7 @@ expand_over-loop-cell-preserved t c =
     let scope : c.deref.result.now ≡ env ++ cell ∷ [] = c.deref.ensures.value ∙ pushed in
     let made = rw (c.get.ensures, scope) at c.in_ok-part.ensures.0 in
     let paid = rw (c.get.ensures, scope) at c.in_ok-part.ensures.1 in
-    let cells = c.deref-cell-items.result.now in
+    let cells = c.args.cells.now in
     let at = c.loop-cell.cell-index in
     let within : at < length cells = omega arith in
     record {
@@ -124,19 +164,18 @@ expand_over-loop-cell-preserved t c =
       paid = paid_more nodes cells at cell c.loop-cell.budget _ _ within c.cell-item.is c.loop-cell.invariant.paid paid;
     }
 
-pub expand_over-expand-requires : goal.expand_over-expand-requires
-expand_over-expand-requires t c =
+pub expand_each-expand-requires : goal.expand_each-expand-requires
+expand_each-expand-requires t c =
     let env = c.args.self.now.env.now in
     let cell = c.cell-item.result in
     let body = c.get.result.now in
     let scope : c.deref.result.now ≡ env ++ cell ∷ [] = c.deref.ensures.value ∙ (c.in_ok-push.ensures.items ∙ ap (λ l. l ++ cell ∷ []) c.loop-cell.invariant.scope) in
-    let near = subst (AreNear (12 * (length env + 1))) (sym c.deref-cell-items.ensures.value) c.in_ok-cells.ensures.near in
-    let here = item_near (12 * (length env + 1)) c.deref-cell-items.result.now c.loop-cell.cell-index cell near (omega arith) c.cell-item.is in (
+    let here = item_near (12 * (length env + 1)) c.args.cells.now c.loop-cell.cell-index cell c.requires.cells (omega arith) c.cell-item.is in (
       omega (arith, ap the_size c.get.ensures, c.decreases),
       (
-        inner_fits c.args.self.now.topology.now c.args.self.now.symbols c.args.balls.now c.args.body.now body env c.deref.result.now cell c.requires.fits c.get.ensures scope,
+        inner_fits c.args.self.now.topology.now c.args.self.now.symbols c.args.body.now body env c.deref.result.now cell c.requires.fits c.get.ensures scope,
         (
-          inner_depth c.args.balls.now c.args.body.now body env c.deref.result.now cell c.requires.depth c.get.ensures scope,
+          inner_depth c.args.body.now body env c.deref.result.now cell c.requires.depth c.get.ensures scope,
           inner_near env c.deref.result.now cell c.requires.near here scope,
         ),
       ),

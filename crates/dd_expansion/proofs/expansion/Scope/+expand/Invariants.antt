@@ -10,9 +10,9 @@ invariant-expand_all-loop-formula l = record {
   paid : l.budget + sum_by (λ f. instances (expansion l.self.topology.now.edges l.self.symbols f l.self.env.now)) (take l.formula-index l.formulas) ≡ l.initial.budget;
 }
 
-abbrev pub invariant-expand_over-loop-cell : goal.invariant-expand_over-loop-cell
-invariant-expand_over-loop-cell l = record {
+abbrev pub invariant-expand_each-loop-cell : goal.invariant-expand_each-loop-cell
+invariant-expand_each-loop-cell l = record {
   scope : l.inner.items ≡ l.self.env.now;
-  made : l.parts ≡ map (λ c. expansion l.self.topology.now.edges l.self.symbols l.body (l.self.env.now ++ c ∷ [])) (take l.cell-index l.cell-items);
-  paid : l.budget + sum_by (λ c. instances (expansion l.self.topology.now.edges l.self.symbols l.body (l.self.env.now ++ c ∷ []))) (take l.cell-index l.cell-items) ≡ l.initial.budget;
+  made : l.parts ≡ map (λ c. expansion l.self.topology.now.edges l.self.symbols l.body (l.self.env.now ++ c ∷ [])) (take l.cell-index l.cells);
+  paid : l.budget + sum_by (λ c. instances (expansion l.self.topology.now.edges l.self.symbols l.body (l.self.env.now ++ c ∷ []))) (take l.cell-index l.cells) ≡ l.initial.budget;
 }
