@@ -1,5 +1,5 @@
 //! Adjacent cells, and balls: a ball grows in rounds, each from the cells that the round before found first.
-ghost use Rattle.std.specs.Prelude.{◌≡◌, ◌↔◌, ◌++◌, true, false, IsTrue, IfOk, IfErr, OnOk};
+ghost use Rattle.std.specs.Prelude.{◌≡◌, ◌↔◌, ◌++◌, [], true, false, IsTrue, IfOk, IfErr, OnOk};
 ghost use Rattle.std.specs.List.{flat_map};
 ghost use Rattle.std.specs.List.Sorted.{IsStrictlySortedBy};
 ghost use Rattle.dd_lattice.specs.Place.{moved};
@@ -31,21 +31,36 @@ impl Topology {
         ensures list { IfOk result (λ v. v.items ≡ in_order (ball self.now.edges centre.now radius)) }
         ensures fault { IfErr result (IsCellFaultOf (IsInBall self.now.edges centre.now radius)) }
     {
+        let mut found = BTreeSet::new(alloc);
+        self.ball_within(alloc, centre, radius, &mut found)
+    }
+
+    /// The same, where the cells that the rounds find are gathered in a set that is empty at first.
+    fn ball_within(
+        &self,
+        alloc: Global,
+        centre: &Cell,
+        radius: u32,
+        found: &mut BTreeSet<Cell>,
+    ) -> Result<Vec<Cell>, LatticeFault>
+        requires empty { found.old.keys ≡ [] }
+        ensures cells { IfOk result (λ v. IsCellListOf (IsInBall self.now.edges centre.now radius) v.items) }
+        ensures list { IfOk result (λ v. v.items ≡ in_order (ball self.now.edges centre.now radius)) }
+        ensures fault { IfErr result (IsCellFaultOf (IsInBall self.now.edges centre.now radius)) }
+    {
         // A cell holds only a position in range: the rounds begin with one.
         let position = &centre.position;
         let _ = &position.x;
-        let mut found = BTreeSet::new(alloc);
         found.insert(*centre)?;
         let mut frontier = Vec::new(alloc);
         frontier.push(*centre)?;
         for _ in 0..radius {
             if frontier.is_empty() {
-                return listed(alloc, &found);
+                return listed(alloc, found);
             }
-            let reached = neighbours_of(alloc, self.edges(), &frontier)?;
-            frontier = fresh_cells(alloc, &mut found, &reached)?;
+            frontier = next_frontier(alloc, self.edges(), found, &frontier)?;
         }
-        listed(alloc, &found)
+        listed(alloc, found)
     }
 }
 
@@ -154,6 +169,21 @@ fn fresh_cells(
         }
     }
     Ok(fresh)
+}
+
+/// Adds the cells adjacent to those of the frontier to those that are found, and gives those that were not among them.
+fn next_frontier(
+    alloc: Global,
+    edges: &[Edge],
+    found: &mut BTreeSet<Cell>,
+    frontier: &[Cell],
+) -> Result<Vec<Cell>, LatticeFault>
+    ensures cells { IfOk result (λ fresh. AddsCells found.old.keys (flat_map (neighbours edges.now) frontier.now) found.new.keys fresh.items) }
+    ensures in_range { OnOk result (are_in_range (flat_map (neighbours edges.now) frontier.now) ≡ true) }
+    ensures fault { IfErr result (λ fault. fault ≡ Range → are_in_range (flat_map (neighbours edges.now) frontier.now) ≡ false) }
+{
+    let reached = neighbours_of(alloc, edges, frontier)?;
+    fresh_cells(alloc, found, &reached)
 }
 
 /// The cells of the set, in cell order.

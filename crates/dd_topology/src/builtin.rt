@@ -1,5 +1,5 @@
 //! The built-in topologies.
-ghost use Rattle.std.specs.Prelude.{◌≡◌, ◌-◌, ◌^◌, ◌<◌, ◌≤◌, true, false, length, map, bytes_eq, IfOk};
+ghost use Rattle.std.specs.Prelude.{◌≡◌, ◌-◌, ◌^◌, ◌<◌, ◌≤◌, ◌++◌, ◌∷◌, [], true, false, length, map, bytes_eq, Contains, IfOk, OnOk};
 ghost use Rattle.std.specs.List.{list_all};
 ghost use Rattle.dd_lattice.specs.Place.{place, IsInRange};
 ghost use Rattle.dd_topology.specs.Topology.{starts_alike};
@@ -191,8 +191,8 @@ fn made(
     requires single { has_repeat starts_alike edges.now ≡ false }
     ensures { IfOk result (λ topology. topology ≡ grid dim nodes (map (λ label. label.now) labels.now) edges.now) }
 {
-    let labels = names_of(alloc, labels)?;
     let edges = Vec::from_slice(alloc, edges)?;
+    let labels = names_of(alloc, labels)?;
     match Topology::from_edges(alloc, dim, nodes, labels, edges) {
         Ok(topology) => Ok(topology),
         Err(TopologyFault::Twice(_)) => unreachable!(),
@@ -207,11 +207,20 @@ fn names_of(alloc: Global, texts: &[&str]) -> Result<Names, AllocError>
 {
     let mut names = Names::new(alloc);
     for text in texts {
-        match names.add(String::from_str(alloc, text)?) {
-            Ok(_) => {}
-            Err(NameFault::Twice(_)) => unreachable!(),
-            Err(NameFault::Memory(_)) => return Err(AllocError),
-        }
+        add_name(alloc, &mut names, text)?;
     }
     Ok(names)
+}
+
+/// Adds a name that is not there yet.
+fn add_name(alloc: Global, names: &mut Names, text: &str) -> Result<(), AllocError>
+    requires few { length names.old < 2 ^ 32 - 1 }
+    requires new { ¬ Contains names.old text.now }
+    ensures { OnOk result (names.new ≡ names.old ++ text.now ∷ []) }
+{
+    match names.add(String::from_str(alloc, text)?) {
+        Ok(_) => Ok(()),
+        Err(NameFault::Twice(_)) => unreachable!(),
+        Err(NameFault::Memory(_)) => Err(AllocError),
+    }
 }
