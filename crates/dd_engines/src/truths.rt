@@ -18,7 +18,6 @@ pub struct Truths {
 
 impl Truths {
     /// What the values make true.
-    #[tactic(auto, using(crate::proofs::Counting::all_marked))]
     pub fn new(alloc: Global, clauses: &[Clause], values: &[bool]) -> Result<Truths, AllocError>
         requires { All (IsClauseInRange (length values.now)) clauses.now }
         ensures counts { IfOk result (λ truths. truths.counts.items ≡ map (true_count values.now) clauses.now) }
@@ -37,7 +36,6 @@ impl Truths {
     }
 
     /// One more literal of a clause is true.
-    #[tactic(auto, using(crate::proofs::Counting::some_written))]
     fn raise_one(&mut self, number: usize)
         requires within { number < length self.old.counts.items }
         requires listed { IsListed self.old.counts.items self.old.marks.items self.old.first_block }
@@ -48,7 +46,6 @@ impl Truths {
     }
 
     /// One literal less of a clause is true.
-    #[tactic(auto, using(crate::proofs::Counting::some_written, crate::proofs::Counting::written_marked))]
     fn lower_one(&mut self, number: usize)
         requires within { number < length self.old.counts.items }
         requires listed { IsListed self.old.counts.items self.old.marks.items self.old.first_block }

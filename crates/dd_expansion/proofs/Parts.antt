@@ -71,6 +71,10 @@ map_more f xs i d within = ap (map f) (take_more xs i d within) ∙ map-append f
 longer : (env inner : List Cell) (c : Cell) → inner ≡ env ++ c ∷ [] → length env + 1 ≡ length inner
 longer env inner c is = sym (ap length is ∙ length-append env (c ∷ []))
 
+-- the environment of the body, which was copied, pushed to and borrowed
+pub inner_is : (env before after now : List Cell) (c : Cell) → before ≡ env → after ≡ before ++ c ∷ [] → now ≡ after → now ≡ env ++ c ∷ []
+inner_is env before after now c same pushed borrowed = borrowed ∙ (pushed ∙ ap (λ l. l ++ c ∷ []) same)
+
 pub inner_fits : (g : Grid) (n : ℕ) (body f : Formula) (env inner : List Cell) (c : Cell) → formula_fits g n body (length env + 1) ≡ true → f ≡ body → inner ≡ env ++ c ∷ [] → formula_fits g n f (length inner) ≡ true
 inner_fits g n body f env inner c h same is =
     let P : ℕ → Type 0 = λ m. formula_fits g n f m ≡ true in

@@ -191,13 +191,9 @@ module _ (f g : Automaton) (a : ℕ) (look : Look) (h : AreReadable f g a look) 
         ∙ sym (value_composed f g look (origin_at a))
 
 -- one cell more
-pub values_more : (h : Cell → ℕ) (cs : List Cell) (i : ℕ) (c : Cell) → i < length cs → c ≡ get_or cs i c → map h (take (i + 1) cs) ≡ map h (take i cs) ++ h c ∷ []
+pub values_more : {Y : Type 0} (h : Cell → Y) (cs : List Cell) (i : ℕ) (c : Cell) → i < length cs → c ≡ get_or cs i c → map h (take (i + 1) cs) ≡ map h (take i cs) ++ h c ∷ []
 values_more h cs i c below is =
     ap (map h) (take_more cs i c below) ∙ (map-append h (take i cs) (get_or cs i c ∷ []) ∙ ap (λ d. map h (take i cs) ++ h d ∷ []) (sym is))
-
-pub looks_more : (look : Look) (cs : List Cell) (i : ℕ) (c : Cell) → i < length cs → c ≡ get_or cs i c → map look (take (i + 1) cs) ≡ map look (take i cs) ++ look c ∷ []
-looks_more look cs i c below is =
-    ap (map look) (take_more cs i c below) ∙ (map-append look (take i cs) (get_or cs i c ∷ []) ∙ ap (λ d. map look (take i cs) ++ look d ∷ []) (sym is))
 
 -- the cells in cell order are given where all reads are
 pub cells_given : (f : Automaton) (c : Cell) (look : Look) (cs : List Cell) → cs ≡ cells_of f c.node → are_given look c.position cs ≡ is_read f c look

@@ -11,7 +11,7 @@ ghost use Rattle.dd_formula.specs.Allowed.{AreAllowed};
 ghost use Rattle.dd_formula.specs.Refusals.{IsRuleRefusal};
 
 use crate::fault::RuleFault;
-use crate::making::{copy_expansions, copy_reads, parts_of};
+use crate::making::{Parts, copy_expansions, copy_reads, parts_of};
 use dd_expansion::{Expanded, Formula};
 use dd_lattice::Cell;
 use dd_pattern::Reads;
@@ -67,15 +67,20 @@ impl Rule {
         ensures rule { OnOk result (IsRule (local_rule topology.now sets.now formula)) }
         ensures err { IfErr result (IsRuleRefusal (local_rule topology.now sets.now formula)) }
     {
-        let parts = parts_of(alloc, topology, sets, &formula)?;
+        let Parts {
+            sets,
+            edges,
+            expansions,
+            reads,
+        } = parts_of(alloc, topology, sets, &formula)?;
         Ok(Rule {
             dim: topology.dim(),
             nodes: topology.nodes(),
-            sets: parts.sets,
-            edges: parts.edges,
+            sets,
+            edges,
             formula,
-            expansions: parts.expansions,
-            reads: parts.reads,
+            expansions,
+            reads,
         })
     }
 

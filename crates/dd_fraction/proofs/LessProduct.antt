@@ -1,5 +1,5 @@
 -- Differences a - q · b: a product and then a sum, or all at once where the numbers have 16 bits.
-use Rattle.std.proofs.Common.{◌≡◌, ℕ, ◌+◌, ◌*◌, ◌^◌, ◌<◌, ◌≤◌, refl, sym, ap, subst, ◌∙◌, arith, Option, Some, None, Bool, true, false, cond, ◌&&◌}
+use Rattle.std.proofs.Common.{◌≡◌, ℕ, ◌+◌, ◌*◌, ◌^◌, ◌<◌, ◌≤◌, refl, sym, ap, subst, ◌∙◌, arith, Some, None, Bool, true, false, cond}
 use lib.IntN.{ℤ, pos, neg_ℤ, ◌+ℤ◌, ◌-ℤ◌, ◌*ℤ◌}
 use Rattle.std.specs.Int.{w32, w64}
 use Rattle.std.specs.Int.RustNames.{unsigned_abs}
@@ -25,6 +25,12 @@ product_le x y m n p q =
     let left : x * y ≤ m * y = mul-le-mul_right y p in
     let right : y * m ≤ n * m = mul-le-mul_right m q in
     omega (arith, left, right)
+
+pub small_sizes : (x y z : ℕ) → x < 2 ^ 16 → y < 2 ^ 16 → z < 2 ^ 16 → x * (y * z) < 2 ^ 64
+small_sizes x y z p q r =
+    let inner : y * z ≤ 2 ^ 16 * 2 ^ 16 = product_le y z (2 ^ 16) (2 ^ 16) (omega (arith, q)) (omega (arith, r)) in
+    let all : x * (y * z) ≤ 2 ^ 16 * (2 ^ 16 * 2 ^ 16) = product_le x (y * z) (2 ^ 16) (2 ^ 16 * 2 ^ 16) (omega (arith, p)) inner in
+    omega (arith, all)
 
 pub size_times : (x y : ℤ) (m n : ℕ) → unsigned_abs x ≤ m → unsigned_abs y ≤ n → unsigned_abs (x *ℤ y) ≤ m * n
 size_times x y m n p q = rw (unsigned_abs-mul x y) (product_le (unsigned_abs x) (unsigned_abs y) m n p q)

@@ -2,7 +2,7 @@
 use Rattle.std.proofs.Common.{◌≡◌, ℕ, ◌+◌, ◌<◌, List, [], ◌∷◌, ◌++◌, length, take, drop, get_or, Option, Some, None, Bool, true, false, cond, ◌&&◌, refl, sym, ap, subst, ◌∙◌, arith, drop-cons, add-one, append_assoc}
 use Rattle.std.specs.Prelude.{map}
 use Rattle.std.specs.List.{slice_set, list_all}
-use Rattle.std.proofs.lemmas.List.{take_more, length-map, length-set, take_more_set, drop-set-lt}
+use Rattle.std.proofs.lemmas.List.{length-map, length-set, take_more_set, drop-set-lt}
 use Rattle.std.proofs.lemmas.List.Edits.{map_over_more}
 use Rattle.std.proofs.lemmas.List.Folds.{list_all_more}
 use Rattle.std.proofs.lemmas.Grind.{common_steps}

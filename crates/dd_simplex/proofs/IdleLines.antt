@@ -2,7 +2,7 @@
 use Rattle.std.proofs.Common.{◌≡◌, ◌≢◌, ℕ, suc, ◌<◌, List, [], ◌∷◌, length, drop, true, ◌&&◌, refl, sym, ap, subst, ◌∙◌, arith}
 use Rattle.std.specs.List.{slice_set, list_all, All}
 use Rattle.std.proofs.lemmas.List.{set-get_or}
-use Rattle.std.proofs.lemmas.List.Elements.{All-get_or, All-from_get_or, All-set, All-map, All-drop}
+use Rattle.std.proofs.lemmas.List.Elements.{All-get_or, All-from_get_or, All-set, All-map, All-drop, All-weaker}
 use lib.IntN.{pos}
 use Rattle.dd_fraction.specs.Exact.{Exact, times, minus, inverse}
 use Rattle.dd_fraction.specs.Checked.{IsFraction, does_product_fit, does_sum_fit}
@@ -71,6 +71,14 @@ table_fractions t k =
       bound = k.bounds i p;
       cells = All-from_get_or IsFraction (line_at t.lines i).cells zero_of (λ j q. k.fractions i j p (let z = k.cells i p in omega (arith, z, q)));
     })
+
+pub table_sizes : (t : Table) → IsTable t → All (λ l. length l.cells ≡ length t.others) t.lines
+table_sizes t k =
+    All-from_get_or (λ (l : Line). length l.cells ≡ length t.others) t.lines (record { basic = 0; bound = zero_of; cells = [] }) k.cells
+
+pub place_within : (t : Table) → IsTable t → (e : ℕ) → e < length t.others → All (λ l. e < length l.cells) t.lines
+place_within t k e p =
+    All-weaker (λ (l : Line). length l.cells ≡ length t.others) (λ (l : Line). e < length l.cells) (λ l h. omega (arith, h, p)) t.lines (table_sizes t k)
 
 pub back_fractions : (rows back : List Line) (leaving : Line) (r : ℕ) → r < length rows → drop r rows ≡ leaving ∷ back → All HasFractions rows → All HasFractions back
 back_fractions rows back leaving r p s h =

@@ -1,6 +1,6 @@
 -- Why the rounds of growth make a ball: only cells beside the frontier can be new.
-use Rattle.std.proofs.Common.{◌≡◌, ◌+◌, ◌<◌, ◌≤◌, ◌↔◌, ℕ, zero, suc, List, [], ◌∷◌, ◌++◌, Bool, true, false, ◌&&◌, refl, ap, sym, ◌∙◌, subst, inl, inr, ◌⊎◌, arith, take, get_or, length, Contains, true≢false, add-one, zero-add, suc-add, ◌-◌}
-use Rattle.std.specs.Prelude.{Result, Ok, Err, IfOk}
+use Rattle.std.proofs.Common.{◌≡◌, ◌+◌, ◌<◌, ◌≤◌, ◌↔◌, ℕ, zero, suc, List, [], ◌∷◌, ◌++◌, Bool, true, false, ◌&&◌, refl, ap, sym, ◌∙◌, subst, inl, inr, ◌⊎◌, arith, take, get_or, length, Contains, true≢false, add-one, zero-add, suc-add, ◌-◌, eq-eqb}
+use Rattle.std.specs.Prelude.{Result, Ok, Err, IfOk, Some, None, cond, ◌==◌, if◌then◌else◌}
 use Rattle.std.specs.List.{All, flat_map, list_all}
 use Rattle.std.specs.List.Sorted.{IsStrictlySortedBy}
 use Rattle.std.specs.BTreeSet.{insert_key}
@@ -18,6 +18,7 @@ use Rattle.dd_lattice.specs.lemmas.ListLaws.{All-from_contains, Contains-first, 
 use Rattle.dd_lattice.specs.declared.fault.LatticeFault.{LatticeFault}
 use Rattle.dd_lattice.specs.declared.fault.LatticeFault.TheVariants.{Range, Memory}
 use Rattle.dd_topology.specs.declared.edge.Edge.{Edge}
+use Rattle.dd_topology.specs.Topology.{in_range}
 use Rattle.dd_topology.specs.Balls.{CellSet, IsAdjacent, IsInBall, IsCellListOf, IsCellFaultOf, CellsLeaveRange, edge_ends, edge_starts, beside, neighbours, ball, are_in_range}
 use Rattle.dd_topology.specs.keeping.Growth.{AddsCells}
 use Rattle.dd_topology.specs.lemmas.ListLaws.{in_flat_map, into_flat_map}
@@ -225,3 +226,18 @@ part_out_of_range f xs i x below is far =
     let d = some_fails (λ c. is_in_range c.position) (f x) far in
     let there : Contains (flat_map f xs) d.0 = into_flat_map f xs x d.0 (i, below, sym is) d.1 in
     false_from_ne_true (are_in_range (flat_map f xs)) (λ near. true≢false (sym (list_all_member (λ c. is_in_range c.position) (flat_map f xs) d.0 near there) ∙ d.2))
+
+-- where an edge has the node of a cell, and a cell in range at its other end
+module _ (n m : ℕ) (other given : Cell) (same : n ≡ m) (near : Some given ≡ in_range other) where
+  given_is : (given ≡ other) × (is_in_range other.position ≡ true)
+  given_is = by_test (is_in_range other.position) near
+    where
+      by_test : (b : Bool) → Some given ≡ (if b then Some other else None) → (given ≡ other) × (b ≡ true)
+      by_test true h = (cc, refl)
+      by_test false h = absurd (cc)
+
+  pub other_end : given ∷ [] ≡ cond (n == m) (other ∷ []) []
+  other_end = ap (λ d. d ∷ []) given_is.0 ∙ sym (ap (λ b. cond b (other ∷ []) []) (eq-eqb n m same))
+
+  pub other_in_range : are_in_range (cond (n == m) (other ∷ []) []) ≡ true
+  other_in_range = ap (λ b. are_in_range (cond b (other ∷ []) [])) (eq-eqb n m same) ∙ ap (λ b. b && true) given_is.1

@@ -69,6 +69,20 @@ choosing_step rules i start now new chosen before members more after l s p ok be
       in_range = subst (All (IsSignal (size start))) (sym grown) (All-push (IsSignal (size start)) before (opposite l) p.in_range (subst (λ x. IsSignal (size start) (opposite x)) (sym is) (ok i l below)));
     }
 
+pub choosing_end : (rules : List Signal) (i : ℕ) (start now new : Network) (chosen before members all : List Signal) (s : Signal) → Choosing rules i start now chosen before → length rules ≤ i →
+    members ≡ before → new.inputs ≡ now.inputs → new.gates ≡ now.gates ++ And members ∷ [] → s ≡ signal_of (size new) → all ≡ chosen ++ s ∷ [] →
+    (new.gates ≡ start.gates ++ choices [] rules) × (all ≡ fresh (size start) (length (choices [] rules)))
+choosing_end rules i start now new chosen before members all s p past are inputs gates signal pushed =
+    let one = one_gate now new (And members) inputs gates in
+    let here : choices (take i rules) (drop i rules) ≡ And members ∷ [] =
+    ap (choices (take i rules)) (drop_all i rules past) ∙ ap (λ xs. And xs ∷ []) (sym (are ∙ p.before_is)) in (
+      gates ∙ sym (p.gates_left ∙ ap (λ gs. now.gates ++ gs) here),
+      pushed
+          ∙ sym (p.signals_left
+          ∙ (ap (λ gs. chosen ++ fresh (size now) (length gs)) here
+          ∙ (ap (λ n. chosen ++ signal_of n ∷ []) (sym one.1) ∙ ap (λ x. chosen ++ x ∷ []) (sym signal)))),
+    )
+
 pub choosing_few : (rules : List Signal) (i : ℕ) (start now : Network) (chosen before : List Signal) → Choosing rules i start now chosen before → i ≤ length rules →
     size start + length (choices [] rules) ≤ most_variables → size now < most_variables
 choosing_few rules i start now chosen before p within few = omega (arith, p.count, choices_length [] rules, few)

@@ -1,9 +1,10 @@
 -- How far the gates of formulas have come, and the gate that ends them.
-use Rattle.std.proofs.Common.{◌≡◌, ℕ, ◌+◌, ◌<◌, ◌≤◌, true, List, [], ◌∷◌, ◌++◌, map, length, drop, get_or, refl, ap, sym, ◌∙◌, arith, length-append, append_assoc, drop-cons, add-one, Ok, Err, Result}
+use Rattle.std.proofs.Common.{◌≡◌, ℕ, ◌+◌, ◌<◌, ◌≤◌, true, List, [], ◌∷◌, ◌++◌, map, length, drop, get_or, refl, ap, sym, subst, ◌∙◌, arith, length-append, append-nil, append_assoc, drop-cons, add-one, Ok, Err, Result}
 use Rattle.std.specs.List.{All}
-use Rattle.std.specs.Result.{IfOk}
+use Rattle.std.specs.Result.{IfOk, OnErr}
 use Rattle.std.specs.declared.alloc.AllocError.{AllocError}
 use Rattle.std.proofs.lemmas.Bool.{and_parts}
+use Rattle.std.proofs.lemmas.List.{drop_all}
 use Rattle.std.proofs.lemmas.List.Elements.{All-push, All-weaker}
 use Rattle.dd_lattice.specs.declared.position.Cell.{Cell}
 use Rattle.dd_expansion.specs.declared.expanded.Expanded.{Expanded}
@@ -26,6 +27,16 @@ Extends-trans a b c first rest = record {
   added = first.added ++ rest.added;
   gates = rest.gates ∙ (ap (λ gs. gs ++ rest.added) first.gates ∙ append_assoc a.gates first.added rest.added);
 }
+
+-- one more gate
+pub one_more : (old mid new : Network) (g : Gate) → Extends old mid → new.inputs ≡ mid.inputs → new.gates ≡ mid.gates ++ g ∷ [] → Extends old new
+one_more old mid new g so_far inputs gates = Extends-trans old mid new so_far (record { inputs = inputs; added = g ∷ []; gates = gates })
+
+-- one more gate, or none for want of memory
+pub at_most_one_more : (old mid new : Network) (g : Gate) (r : Result Signal AllocError) → Extends old mid → new.inputs ≡ mid.inputs → IfOk r (λ s. new.gates ≡ mid.gates ++ g ∷ []) →
+    OnErr r (new ≡ mid) → Extends old new
+at_most_one_more old mid new g (Ok s) so_far inputs gates same = one_more old mid new g so_far inputs gates
+at_most_one_more old mid new g (Err x) so_far inputs gates same = subst (Extends old) (sym same) so_far
 
 -- what all parts make is what is made so far and what the parts from i on make
 pub record Progress (w : Wires) (parts : List Expanded) (i : ℕ) (start now : Network) (signals : List Signal) : Type 0 where
@@ -66,6 +77,20 @@ progress_step w parts i start now new signals more part s p within here extends 
       wired = all_wired-more (size now) (size new) w (drop (i + 1) parts) (omega arith) both.1;
       in_range = rw pushed (All-push (IsSignal (size new)) signals s (All-weaker (IsSignal (size now)) (IsSignal (size new)) (λ x h. (h.0, (let g = h.1 in omega (arith, g, count)))) signals p.in_range) ok);
     }
+
+-- where the parts end
+pub progress_end : (w : Wires) (parts : List Expanded) (i : ℕ) (start now : Network) (signals : List Signal) → Progress w parts i start now signals → length parts ≤ i →
+    (size now ≡ size start + all_counts parts)
+    × ((now.gates ≡ start.gates ++ (all_made (map (made (certain w)) parts) (size start)).gates) × (signals ≡ (all_made (map (made (certain w)) parts) (size start)).signals))
+progress_end w parts i start now signals p past =
+    let none : drop i parts ≡ [] = drop_all i parts past in
+    let count = ap (λ ps. size now + all_counts ps) none in (
+      omega (arith, count, p.count_left),
+      (
+        sym (p.gates_left ∙ (ap (λ ps. now.gates ++ (all_made (map (made (certain w)) ps) (size now)).gates) none ∙ append-nil now.gates)),
+        sym (p.signals_left ∙ (ap (λ ps. signals ++ (all_made (map (made (certain w)) ps) (size now)).signals) none ∙ append-nil signals)),
+      ),
+    )
 
 -- a gate after the gates of its parts is what the definition makes
 abbrev Ends : Network → Network → Made → Result Signal AllocError → Type 0

@@ -1,8 +1,9 @@
 -- What the calls give: results are in lowest terms and within the bounds, and a refusal comes where a number doesn't fit.
-use Rattle.std.proofs.Common.{◌≡◌, ℕ, zero, suc, ◌*◌, ◌/◌, ◌%◌, ◌^◌, ◌<◌, ◌≤◌, refl, ap, subst, ◌∙◌, arith, max, Some, None, Bool, true, false, cond}
+use Rattle.std.proofs.Common.{◌≡◌, ℕ, zero, suc, ◌*◌, ◌/◌, ◌%◌, ◌^◌, ◌<◌, ◌≤◌, refl, sym, ap, subst, ◌∙◌, arith, max, Some, None, Bool, true, false, cond}
 use lib.IntN.{ℤ, pos, negsuc, ◌+ℤ◌, ◌*ℤ◌}
 use Rattle.std.specs.Int.{IsGcd, w64}
 use Rattle.std.specs.Int.RustNames.{unsigned_abs, int_div}
+use Rattle.std.proofs.lemmas.Bool.{ltb-true}
 use Rattle.std.proofs.lemmas.Int.{ints}
 use Rattle.std.proofs.lemmas.Nat.{mod_below}
 use Rattle.std.proofs.lemmas.Nat.Gcd.{same_from_IsGcd, IsGcd-swap}
@@ -92,6 +93,16 @@ bounded_some z x e = kept (is_bounded z) x z e
 pub size_some : (n x : ℕ) → Some x ≡ bounded_size n → (is_bounded (pos n) ≡ true) × (x ≡ n)
 size_some n x e = kept (is_bounded (pos n)) x n e
 
+pub bounded_within : (z x : ℤ) → Some x ≡ bounded z → unsigned_abs x < 2 ^ 127
+bounded_within z x e =
+    let w = bounded_some z x e in
+    ltb-true _ _ (subst (λ (n : ℤ). is_bounded n ≡ true) (sym w.1) w.0)
+
+pub size_within : (n x : ℕ) → Some x ≡ bounded_size n → x < 2 ^ 127
+size_within n x e =
+    let w = size_some n x e in
+    ltb-true _ _ (subst (λ (k : ℕ). is_bounded (pos k) ≡ true) (sym w.1) w.0)
+
 -- ---- a product. The denominators of fractions are at least 1
 pub times_at : (a b : Exact) (n : ℤ) (d : ℕ) → 0 < a.den → 0 < b.den
     → n ≡ a.num *ℤ b.num → d ≡ a.den * b.den → lowest n d ≡ times a b
@@ -130,6 +141,19 @@ crossed a b l r e f =
     let x = bounded_some (a.num *ℤ pos b.den) l e in
     let y = bounded_some (b.num *ℤ pos a.den) r f in
     record { left = x.0; right = y.0; both = λ i. x.1 i +ℤ y.1 i }
+
+-- where a cross product is refused
+pub sum_none_first : (a b : Exact) → None ≡ bounded (a.num *ℤ pos b.den) → None ≡ checked_sum a b
+sum_none_first a b e =
+    let x = refused (is_bounded (a.num *ℤ pos b.den)) (a.num *ℤ pos b.den) e in
+    rw x refl
+
+pub sum_none_second : (a b : Exact) (l : ℤ) → Some l ≡ bounded (a.num *ℤ pos b.den)
+    → None ≡ bounded (b.num *ℤ pos a.den) → None ≡ checked_sum a b
+sum_none_second a b l e f =
+    let x = bounded_some (a.num *ℤ pos b.den) l e in
+    let y = refused (is_bounded (b.num *ℤ pos a.den)) (b.num *ℤ pos a.den) f in
+    rw (x.0, y) refl
 
 -- where the sum of both is refused
 pub sum_none_third : (a b : Exact) (l r : ℤ)

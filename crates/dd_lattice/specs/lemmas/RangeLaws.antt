@@ -1,5 +1,5 @@
 -- The range of positions, as a fact and as a test.
-use Rattle.std.proofs.Common.{◌≡◌, Bool, true, false, ℤ, Some, None, if◌then◌else◌, refl, arith}
+use Rattle.std.proofs.Common.{◌≡◌, Bool, true, false, ℤ, Option, Some, None, if◌then◌else◌, refl, ap, arith}
 use Rattle.std.proofs.lemmas.Int.{ints}
 use Rattle.dd_lattice.specs.Place.{Place, IsCoordinateInRange, is_coordinate_in_range, IsInRange, is_in_range}
 
@@ -32,3 +32,12 @@ in_range_if_given p q h =
 -- a sum that isn't given is out of range
 pub outside_if_not_given : (p : Place) → None ≡ (if is_in_range p then Some p else None) → IsInRange p → ⊥
 outside_if_not_given p h near = left_out (is_in_range p) p h (test_from_in_range p near)
+
+-- what is made of a sum where there is one
+pub of_sum : {X : Type 0} (b : Bool) (p q : Place) (made : Place → Option X) → Some q ≡ (if b then Some p else None) → made q ≡ (if b then made p else None)
+of_sum true p q made h = ap made (chosen true p q h).1
+of_sum false p q made h = absurd (cc)
+
+pub of_no_sum : {X : Type 0} (b : Bool) (p : Place) (made : Option X) → None ≡ (if b then Some p else None) → None ≡ (if b then made else None)
+of_no_sum true p made h = absurd (cc)
+of_no_sum false p made h = refl

@@ -1,11 +1,11 @@
 -- Lemmas on what is told of bytes.
-use Rattle.std.proofs.Common.{◌≡◌, ℕ, ◌+◌, ◌-◌, ◌≤◌, List, [], ◌++◌, sym, ◌∙◌, ap, subst, length, take, drop, arith, append_assoc, append-nil, length-append, length-take, take-append-drop}
+use Rattle.std.proofs.Common.{◌≡◌, ℕ, ◌+◌, ◌-◌, ◌≤◌, List, ◌++◌, sym, ◌∙◌, ap, subst, length, take, drop, arith, append_assoc, length-append, length-take, take-append-drop}
 use Rattle.std.proofs.Math.Seq.{take-add}
 use Rattle.std.proofs.lemmas.List.{take_rest, take_at, drop-drop}
 use Rattle.std.proofs.KnownBytes.{Appends-trans, Appends-kept, Consumes-trans}
 use Rattle.std.specs.declared.option.Option.{Option}
 use Rattle.std.specs.Io.KnownBytes.{Appends, Consumes, Keeps}
-use Rattle.dd_outside.specs.Bytes.{GainsFront, GivesAtMost}
+use Rattle.dd_outside.specs.Bytes.{GainsFront, GivesAtMost, ReadsOn}
 
 -- the next part of a piece was written
 pub wrote_more : (a b c : Option (List ℕ)) (piece : List ℕ) (at n : ℕ) → Appends a b (take at piece) → Appends b c (take n (take (length piece - at) (drop at piece))) → Appends a c (take (at + n) piece)
@@ -38,6 +38,15 @@ gave_few_more a b c bytes room limit so_far more fits = record {
   consumed = Consumes-trans a b c _ _ so_far more.consumed;
   few = omega (arith, length-append bytes more.given, more.few);
 }
+
+-- what one more read adds to the length
+pub read_on_length : (a b : Option (List ℕ)) (before after : List ℕ) (count : ℕ) → ReadsOn a b before after count → length after ≡ length before + count
+read_on_length a b before after count read = omega (arith, ap length read.appended, length-append before read.given, read.counted)
+
+-- what one more read adds to the bytes that the source gave
+pub read_on_consumes : (a b c : Option (List ℕ)) (before after : List ℕ) (count : ℕ) → Consumes a b before → ReadsOn b c before after count → Consumes a c after
+read_on_consumes a b c before after count so_far read =
+    subst (Consumes a c) (sym read.appended) (Consumes-trans a b c _ _ so_far read.consumed)
 
 pub length_take_at_most : (n : ℕ) (l : List ℕ) → length (take n l) ≤ n
 length_take_at_most n l = omega (arith, length-take {A = ℕ})

@@ -10,6 +10,7 @@ use Rattle.dd_formula.specs.declared.automaton.Automaton.{Automaton}
 use Rattle.dd_formula.specs.lemmas.AutomatonLaws.{near_cells, node_at}
 use Rattle.dd_circuit.specs.Circuits.{Network, size}
 use Rattle.dd_compile.specs.Wiring.{Wiring}
+use Rattle.dd_compile.specs.lemmas.Progress.{Extends-trans}
 use Rattle.dd_compile.proofs.Composing.{value_few, value_wired, value_inside, composing_step}
 use Rattle.dd_compile.proofs.Composed.{cases_say, comes_after, inner_wired, outer_wired, whole_length, outer_few, composed_gates, composed_signals, composed_says}
 use Rattle.dd_compile.proofs.automata.+compile_near.Goals as goal
@@ -148,3 +149,15 @@ compile_inner-loop-cell-preserved t c =
     composing_step c.args.symbols c.args.automaton.now c.args.inputs.now c.args.cells.now c.args.at.now c.loop-cell.cell-index c.args.circuit.now c.loop-cell.circuit c.loop-cell.values
     c.cell-item.result c.cell_near-there.result c.loop-cell.invariant c.loop-cell-test.true c.cell-item.is c.cell_near-there.ensures
     c.compile_near.new.circuit c.in_ok-signals.signals.items c.add.new.self e.extends e.signals e.gates e.in_range e.says c.in_ok-add.ensures.ok
+
+pub compile_inner-returns-in_err-add-clause-extends : goal.compile_inner-returns-in_err-add-clause-extends
+compile_inner-returns-in_err-add-clause-extends t c =
+    Extends-trans c.args.circuit.now c.loop-cell.circuit c.compile_near.new.circuit c.loop-cell.invariant.extends c.compile_near.ensures.extends
+
+pub compile_inner-returns-in_err-signals-clause-extends : goal.compile_inner-returns-in_err-signals-clause-extends
+compile_inner-returns-in_err-signals-clause-extends t c =
+    Extends-trans c.args.circuit.now c.loop-cell.circuit c.compile_near.new.circuit c.loop-cell.invariant.extends c.compile_near.ensures.extends
+
+pub compile_composed-returns-clause-extends : goal.compile_composed-returns-clause-extends
+compile_composed-returns-clause-extends t c =
+    Extends-trans c.args.circuit.now c.compile_inner.new.circuit c.compile_near.new.circuit c.compile_inner.ensures.extends c.compile_near.ensures.extends

@@ -61,3 +61,11 @@ returns c =
       in_range = a.in_range;
       says = a.says;
     }
+
+pub returns-in_err-given-clause-extends : goal.returns-in_err-given-clause-extends
+returns-in_err-given-clause-extends c =
+    Extends-trans c.args.circuit.now c.compile_rules.new.circuit c.choose.new.circuit c.compile_rules.ensures.extends c.choose.ensures.extends
+
+pub returns-in_err-chosen-clause-extends : goal.returns-in_err-chosen-clause-extends
+returns-in_err-chosen-clause-extends c =
+    Extends-trans c.args.circuit.now c.compile_rules.new.circuit c.choose.new.circuit c.compile_rules.ensures.extends c.choose.ensures.extends

@@ -4,6 +4,7 @@ use Rattle.dd_formula.specs.LocalRule.{LocalRule}
 use Rattle.dd_formula.specs.declared.automaton.Cases.{Cases}
 use Rattle.dd_circuit.specs.Circuits.{Network, size}
 use Rattle.dd_compile.specs.Wiring.{Wiring}
+use Rattle.dd_compile.specs.lemmas.Progress.{Extends-trans}
 use Rattle.dd_compile.specs.lemmas.CaseRules.{ruling_start, ruling_step, ruling_end, case_node, case_wired, case_few, size_more}
 use Rattle.dd_compile.proofs.values.compile_rules.Goals as goal
 
@@ -51,3 +52,11 @@ returns c =
     let past : length cases.cases ≤ c.loop-rule.rule-index = subst (λ xs. length xs ≤ c.loop-rule.rule-index) c.as_slice-rule-items.ensures c.loop-rule-test.false in
     let e = ruling_end c.args.inputs.now cases c.args.at.now c.loop-rule.rule-index c.args.circuit.now c.loop-rule.circuit c.loop-rule.signals.items p past in
     record { extends = p.extends; gates = e.gates; signals = e.signals_are; in_range = p.in_range; says = e.says }
+
+pub returns-in_err-push-clause-extends : goal.returns-in_err-push-clause-extends
+returns-in_err-push-clause-extends c =
+    Extends-trans c.args.circuit.now c.loop-rule.circuit c.compile_rule.new.circuit c.loop-rule.invariant.extends c.compile_rule.ensures.extends
+
+pub returns-in_err-signal-clause-extends : goal.returns-in_err-signal-clause-extends
+returns-in_err-signal-clause-extends c =
+    Extends-trans c.args.circuit.now c.loop-rule.circuit c.compile_rule.new.circuit c.loop-rule.invariant.extends c.compile_rule.ensures.extends

@@ -1,4 +1,5 @@
 use Rattle.std.proofs.Common.{◌≡◌, ◌<◌, ℕ, List, length, get_or, true, false, ap, ◌∙◌, arith, eq-eqb}
+use Rattle.std.proofs.lemmas.Grind.{common_steps}
 use Rattle.std.proofs.lemmas.Bool.{ne_eqb}
 use Rattle.std.proofs.lemmas.List.{get_or_default}
 use Rattle.dd_circuit.specs.declared.gates.Signal.{Signal}
@@ -29,3 +30,6 @@ loop-number-preserved c =
           giving_step c.args.symbol xs fs c.loop-number.members.items c.if-other-symbol.members.items i x f false c.loop-number.invariant below below' is is'
           (ne_eqb x c.args.symbol w.if-other-symbol.false) (ap (λ v. v.items) w.members-is)
     ]
+
+pub returns : goal.returns
+returns c = grind (arith, common_steps)

@@ -1,4 +1,4 @@
-use Rattle.std.proofs.Common.{◌≡◌, ap, sym, ◌∙◌, arith, map}
+use Rattle.std.proofs.Common.{◌≡◌, refl, ap, sym, ◌∙◌, arith, map}
 use Rattle.std.specs.List.{range_with_len}
 use Rattle.std.proofs.lemmas.List.FromFn.{map-range_with_len_more}
 use Rattle.std.proofs.lemmas.Result.{err_from_is_err_and}
@@ -17,11 +17,8 @@ pub loop-symbol-preserved : goal.loop-symbol-preserved
 loop-symbol-preserved c =
     let symbol = c.loop-symbol.symbol in
     let more = map-range_with_len_more (both_have c.args.first.now c.args.second.now) 0 symbol symbol (omega arith) in
-    let pushed = c.in_ok-push.ensures.ok in
-    let part = c.in_ok-part.ensures in
-    let before = c.loop-symbol.invariant.made in
     record {
-      made = cc;
+      made = rw (c.in_ok-push.ensures.ok, c.loop-symbol.invariant.made, c.in_ok-part.ensures, more) refl;
       paid = omega (arith, c.in_ok-spend-2.ensures.ok, c.loop-symbol.invariant.paid);
     }
 

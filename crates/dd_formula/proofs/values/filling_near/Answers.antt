@@ -6,7 +6,7 @@ use Rattle.dd_pattern.specs.Reading.{Look}
 use Rattle.dd_expansion.specs.Leaves.{seen}
 use Rattle.dd_formula.specs.Values.{are_given}
 use Rattle.dd_formula.specs.valuing.Readable.{IsSeen}
-use Rattle.dd_formula.proofs.SeenLaws.{looks_more, fails_at, as_many, all_given, seen_filling}
+use Rattle.dd_formula.proofs.SeenLaws.{values_more, fails_at, as_many, all_given, seen_filling}
 use Rattle.dd_formula.proofs.values.filling_near.Goals as goal
 
 pub loop-cell-init : goal.loop-cell-init
@@ -21,7 +21,7 @@ loop-cell-preserved g c =
     ∙ (map-append Some c.loop-cell.symbols.items (c.in-Some.symbol ∷ [])
     ∙ (ap (λ xs. xs ++ Some c.in-Some.symbol ∷ []) c.loop-cell.invariant
     ∙ (ap (λ x. map look (take c.loop-cell.cell-index cells) ++ x ∷ []) here
-    ∙ sym (looks_more look cells c.loop-cell.cell-index c.cell-item.result c.loop-cell-test.true c.cell-item.is))))
+    ∙ sym (values_more look cells c.loop-cell.cell-index c.cell-item.result c.loop-cell-test.true c.cell-item.is))))
 
 pub new-requires-clause-as_many : goal.new-requires-clause-as_many
 new-requires-clause-as_many g c =

@@ -1,4 +1,5 @@
 use Rattle.std.proofs.Common.{◌≡◌, ◌≤◌, ◌+◌, ◌*◌, pos, ◌-ℤ◌, ◌+ℤ◌, ap, ◌∙◌, arith}
+use Rattle.std.proofs.lemmas.Grind.{common_steps}
 use Rattle.std.specs.Prelude.{◌≤ℤ◌}
 use Rattle.std.proofs.lemmas.Int.{ints}
 use Rattle.std.proofs.lemmas.Result.{err_from_is_err_and}
@@ -61,3 +62,6 @@ loop-copies-preserved c =
     (longer_run c.args.axis low high s ps run (omega (arith, ints)) c.loop-copies.invariant.0)
     (run_extended c.args.axis low high s ps run (omega (arith, ints)) short c.loop-copies.invariant.0) c.in_ok-run-2.ensures in
     (rw is at longer, omega arith, room)
+
+pub returns : goal.returns
+returns c = grind (arith, common_steps)

@@ -1,4 +1,5 @@
 use Rattle.std.proofs.Common.{◌∙◌, arith}
+use Rattle.std.proofs.lemmas.Grind.{common_steps}
 use Rattle.dd_tokens.proofs.Steps.{passed, cut_off}
 use Rattle.dd_tokens.proofs.cutting.tokens.Goals as goal
 
@@ -13,3 +14,6 @@ loop-rest-preserved c =
     let of = c.in-Cut.ensures in
     let part = c.split_at-in-Cut.ensures in
     (omega (arith, of.within, part.back_len, c.loop-rest.invariant.0), cut_off _ _ _ _ _ _ _ of.value of.within part.back c.in_ok-push-in-Cut.ensures.ok ∙ c.loop-rest.invariant.1)
+
+pub returns : goal.returns
+returns c = grind (arith, common_steps)

@@ -1,4 +1,5 @@
 use Rattle.std.proofs.Common.{arith, ◌<◌, length, Contains, subst, sym, ◌∙◌}
+use Rattle.std.proofs.lemmas.Grind.{common_steps}
 use Rattle.dd_lattice.specs.Order.{cell_cmp}
 use Rattle.dd_lattice.specs.lemmas.InOrderLaws.{cells_equal}
 use Rattle.dd_topology.specs.lemmas.OrderLaws.{has-insert_key}
@@ -18,3 +19,6 @@ loop-cell-preserved c =
           rw (w.fresh-is, same) (adds_known _ _ _ _ _ x below c.cell-item.is c.loop-cell.invariant (subst (λ l. Contains l x) (sym keys ∙ same) (has-insert_key cell_cmp cells_equal _ x)))
           )
     ]
+
+pub returns-clause-cells : goal.returns-clause-cells
+returns-clause-cells c = grind (arith, common_steps)

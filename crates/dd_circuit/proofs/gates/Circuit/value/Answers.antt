@@ -1,4 +1,5 @@
 use Rattle.std.proofs.Common.{◌∙◌, arith}
+use Rattle.std.proofs.lemmas.Grind.{common_steps}
 use Rattle.dd_circuit.specs.lemmas.ValueLaws.{gate_here, values_step, values_done, values_only}
 use Rattle.dd_circuit.proofs.gates.Circuit.value.Goals as goal
 
@@ -21,3 +22,6 @@ pub returns-clause-only : goal.returns-clause-only
 returns-clause-only c =
     values_only c.args.self.now c.args.inputs.now c.loop-gate.values.items c.gates-gate-items.result.now c.loop-gate.gate-index
     c.gates-gate-items.ensures.in_range c.gates-gate-items.ensures.value (omega arith) c.loop-gate.invariant
+
+pub returns-clause-exact : goal.returns-clause-exact
+returns-clause-exact c = grind (arith, common_steps)

@@ -1,4 +1,5 @@
 use Rattle.std.proofs.Common.{◌≡◌, ◌+◌, ◌*◌, ◌∷◌, ◌++◌, [], ◌<◌, ◌∙◌, ℕ, length, take, ap, sym, subst, refl, arith}
+use Rattle.std.proofs.lemmas.Grind.{common_steps}
 use Rattle.std.proofs.lemmas.List.{take_at}
 use Rattle.std.proofs.lemmas.Result.{err_from_is_err_and}
 use denote.Param.Weighed.{at_most}
@@ -11,8 +12,8 @@ use Rattle.dd_expansion.specs.expanding.Near.{AreNear}
 use Rattle.dd_expansion.specs.Expansion.{expansion}
 use Rattle.dd_expansion.proofs.formulas.Formula.TheLaws.{the_size}
 use Rattle.dd_expansion.specs.lemmas.Layers.{expansion_and, expansion_or, expansion_for_all, expansion_exists}
-use Rattle.dd_expansion.proofs.Nodes.{nodes_and, nodes_or, nodes_for_all, nodes_exists, nodes_implies, nodes_iff, expansion_implies, expansion_iff}
-use Rattle.dd_expansion.proofs.Parts.{part_fits, part_depth, quantified_fits, quantified_depth, inner_fits, inner_depth, inner_near, item_near, made_more, paid_more, paid_as, paid_after, few_at, few_for_all}
+use Rattle.dd_expansion.proofs.Nodes.{nodes_and, nodes_or, nodes_for_all, nodes_exists, nodes_not, nodes_implies, nodes_iff, expansion_not, expansion_implies, expansion_iff}
+use Rattle.dd_expansion.proofs.Parts.{part_fits, part_depth, quantified_fits, quantified_depth, inner_is, inner_fits, inner_depth, inner_near, item_near, made_more, paid_more, paid_as, paid_after, few_at, few_for_all}
 use Rattle.dd_expansion.proofs.expansion.Scope.+expand.Goals as goal
 
 pub expand_all-expand-requires : goal.expand_all-expand-requires
@@ -137,7 +138,7 @@ expand_each-returns-in_err-part t c =
     let env = c.args.self.now.env.now in
     let cell = c.cell-item.result in
     let nodes : Cell → ℕ = λ d. instances (expansion c.args.self.now.topology.now.edges c.args.self.now.symbols body (env ++ d ∷ [])) in
-    let scope : c.deref.result.now ≡ env ++ cell ∷ [] = c.deref.ensures.value ∙ (c.in_ok-push.ensures.items ∙ ap (λ l. l ++ cell ∷ []) c.loop-cell.invariant.scope) in
+    let scope = inner_is env c.loop-cell.inner.items c.push.new.self.items c.deref.result.now cell c.loop-cell.invariant.scope c.in_ok-push.ensures.items c.deref.ensures.value in
     let few = rw (c.get.ensures, scope) at c.in_err-part.ensures in
     let cells = c.args.cells.now in
     let within : c.loop-cell.cell-index < length cells = omega arith in
@@ -152,7 +153,7 @@ expand_each-loop-cell-preserved t c =
     let one : Cell → Expanded = λ d. expansion c.args.self.now.topology.now.edges c.args.self.now.symbols body (env ++ d ∷ []) in
     let nodes : Cell → ℕ = λ d. instances (expansion c.args.self.now.topology.now.edges c.args.self.now.symbols body (env ++ d ∷ [])) in
     let pushed = c.in_ok-push.ensures.items ∙ ap (λ l. l ++ cell ∷ []) c.loop-cell.invariant.scope in
-    let scope : c.deref.result.now ≡ env ++ cell ∷ [] = c.deref.ensures.value ∙ pushed in
+    let scope = inner_is env c.loop-cell.inner.items c.push.new.self.items c.deref.result.now cell c.loop-cell.invariant.scope c.in_ok-push.ensures.items c.deref.ensures.value in
     let made = rw (c.get.ensures, scope) at c.in_ok-part.ensures.0 in
     let paid = rw (c.get.ensures, scope) at c.in_ok-part.ensures.1 in
     let cells = c.args.cells.now in
@@ -169,7 +170,7 @@ expand_each-expand-requires t c =
     let env = c.args.self.now.env.now in
     let cell = c.cell-item.result in
     let body = c.get.result.now in
-    let scope : c.deref.result.now ≡ env ++ cell ∷ [] = c.deref.ensures.value ∙ (c.in_ok-push.ensures.items ∙ ap (λ l. l ++ cell ∷ []) c.loop-cell.invariant.scope) in
+    let scope = inner_is env c.loop-cell.inner.items c.push.new.self.items c.deref.result.now cell c.loop-cell.invariant.scope c.in_ok-push.ensures.items c.deref.ensures.value in
     let here = item_near (12 * (length env + 1)) c.args.cells.now c.loop-cell.cell-index cell c.requires.cells (omega arith) c.cell-item.is in (
       omega (arith, ap the_size c.get.ensures, c.decreases),
       (
@@ -180,3 +181,93 @@ expand_each-expand-requires t c =
         ),
       ),
     )
+
+pub expand-returns-in-Not : goal.expand-returns-in-Not
+expand-returns-in-Not t c =
+    let es = c.args.self.now.topology.now.edges in
+    let n = c.args.self.now.symbols in
+    let env = c.args.self.now.env.now in
+    let nodes = nodes_not es n env c.in-Not.inner in
+    let whole = expansion_not es n env c.in-Not.inner in
+    rw (c.in-Not.is, nodes, whole) c.expand_not.ensures
+
+few_before : (before count first second whole : ℕ) → before < count → whole ≡ count + (first + second) → before < whole
+few_before before count first second whole few is = omega arith
+
+few_after : (before mid count first second whole : ℕ) → mid + count ≡ before → mid < first → whole ≡ count + (first + second) → before < whole
+few_after before mid count first second whole spent few is = omega arith
+
+pub expand-returns-in_err-spend-in-Implies : goal.expand-returns-in_err-spend-in-Implies
+expand-returns-in_err-spend-in-Implies t c =
+    let es = c.args.self.now.topology.now.edges in
+    let n = c.args.self.now.symbols in
+    let env = c.args.self.now.env.now in
+    let p = err_from_is_err_and c.from_residual.result c.from_residual.ensures.1 in
+    let nodes = nodes_implies es n env c.in-Implies.premise c.in-Implies.conclusion in
+    rw (p.1, p.2, c.in-Implies.is) (λ few. few_before _ 2 _ _ _ c.in_err-spend-in-Implies.ensures.few nodes)
+
+pub expand-returns-in_err-one-in-Implies : goal.expand-returns-in_err-one-in-Implies
+expand-returns-in_err-one-in-Implies t c =
+    let es = c.args.self.now.topology.now.edges in
+    let n = c.args.self.now.symbols in
+    let env = c.args.self.now.env.now in
+    let p = err_from_is_err_and c.from_residual-in_err-one-in-Implies.result c.from_residual-in_err-one-in-Implies.ensures.1 in
+    let nodes = nodes_implies es n env c.in-Implies.premise c.in-Implies.conclusion in
+    rw (p.1, p.2, c.in-Implies.is) (λ few. few_after _ _ 2 _ _ _ c.in_ok-spend-in-Implies.ensures.ok (c.in_err-one-in-Implies.ensures few) nodes)
+
+pub expand-returns-in_err-spend-in-Iff : goal.expand-returns-in_err-spend-in-Iff
+expand-returns-in_err-spend-in-Iff t c =
+    let es = c.args.self.now.topology.now.edges in
+    let n = c.args.self.now.symbols in
+    let env = c.args.self.now.env.now in
+    let p = err_from_is_err_and c.from_residual-in_err-spend-in-Iff.result c.from_residual-in_err-spend-in-Iff.ensures.1 in
+    let nodes = nodes_iff es n env c.in-Iff.first c.in-Iff.second in
+    rw (p.1, p.2, c.in-Iff.is) (λ few. few_before _ 1 _ _ _ c.in_err-spend-in-Iff.ensures.few nodes)
+
+pub expand-returns-in_err-one-in-Iff : goal.expand-returns-in_err-one-in-Iff
+expand-returns-in_err-one-in-Iff t c =
+    let es = c.args.self.now.topology.now.edges in
+    let n = c.args.self.now.symbols in
+    let env = c.args.self.now.env.now in
+    let p = err_from_is_err_and c.from_residual-in_err-one-in-Iff.result c.from_residual-in_err-one-in-Iff.ensures.1 in
+    let nodes = nodes_iff es n env c.in-Iff.first c.in-Iff.second in
+    rw (p.1, p.2, c.in-Iff.is) (λ few. few_after _ _ 1 _ _ _ c.in_ok-spend-in-Iff.ensures.ok (c.in_err-one-in-Iff.ensures few) nodes)
+
+pub expand_each-returns : goal.expand_each-returns
+expand_each-returns t c = grind (arith, common_steps)
+
+pub expand_all-returns : goal.expand_all-returns
+expand_all-returns t c = grind (arith, common_steps)
+
+pub expand_boxed-returns : goal.expand_boxed-returns
+expand_boxed-returns t c = grind (arith, common_steps)
+
+pub expand-cell-requires-clause-near : goal.expand-cell-requires-clause-near
+expand-cell-requires-clause-near t c = grind (arith, common_steps)
+
+pub expand_over-cells_of-requires-clause-near : goal.expand_over-cells_of-requires-clause-near
+expand_over-cells_of-requires-clause-near t c = grind (arith, common_steps)
+
+pub expand-cell-requires-in-Node-clause-near : goal.expand-cell-requires-in-Node-clause-near
+expand-cell-requires-in-Node-clause-near t c = grind (arith, common_steps)
+
+pub expand-cell-requires-in-NotSymbol-clause-near : goal.expand-cell-requires-in-NotSymbol-clause-near
+expand-cell-requires-in-NotSymbol-clause-near t c = grind (arith, common_steps)
+
+pub expand-cell-requires-in-Adjacent-clause-near : goal.expand-cell-requires-in-Adjacent-clause-near
+expand-cell-requires-in-Adjacent-clause-near t c = grind (arith, common_steps)
+
+pub expand-cell-requires-in-Adjacent-2-clause-near : goal.expand-cell-requires-in-Adjacent-2-clause-near
+expand-cell-requires-in-Adjacent-2-clause-near t c = grind (arith, common_steps)
+
+pub expand-cell-requires-in-Same-2-clause-near : goal.expand-cell-requires-in-Same-2-clause-near
+expand-cell-requires-in-Same-2-clause-near t c = grind (arith, common_steps)
+
+pub expand-cell-requires-in-Place-2-clause-near : goal.expand-cell-requires-in-Place-2-clause-near
+expand-cell-requires-in-Place-2-clause-near t c = grind (arith, common_steps)
+
+pub expand_not-returns : goal.expand_not-returns
+expand_not-returns t c = grind (arith, common_steps)
+
+pub expand-cell-requires-in-NotSame-2-clause-near : goal.expand-cell-requires-in-NotSame-2-clause-near
+expand-cell-requires-in-NotSame-2-clause-near t c = grind (arith, common_steps)

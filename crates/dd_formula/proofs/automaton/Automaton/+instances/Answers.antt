@@ -1,4 +1,5 @@
 use Rattle.std.proofs.Common.{◌≡◌, ◌<◌, ◌+◌, List, ℕ, map, take, ap, sym, ◌∙◌, subst, arith}
+use Rattle.std.proofs.lemmas.Grind.{common_steps}
 use Rattle.std.specs.List.{list_all}
 use Rattle.dd_lattice.specs.declared.position.Cell.{Cell}
 use Rattle.dd_expansion.specs.Leaves.{total}
@@ -8,7 +9,7 @@ use Rattle.dd_formula.specs.declared.automaton.Automaton.TheVariants as v
 use Rattle.dd_formula.specs.Automata.{CommonNumbers, IsAutomaton, counted, cells_of, is_cell_of}
 use Rattle.dd_formula.specs.Counts.{cut}
 use Rattle.dd_formula.specs.lemmas.Cuts.{total_more, total-take-le, next_cut, cut_passed}
-use Rattle.dd_formula.specs.lemmas.AutomatonLaws.{depth_composed, outer_part, inner_part, near_cells, instances_composed}
+use Rattle.dd_formula.specs.lemmas.AutomatonLaws.{depth_composed, outer_part, inner_part, near_cells, node_at, instances_composed}
 use Rattle.dd_formula.proofs.automaton.Automaton.+instances.Goals as goal
 
 pub instances-composed_instances-requires : goal.instances-composed_instances-requires
@@ -79,3 +80,23 @@ instances_from-loop-cell-preserved t c =
     let cell : Cell = c.cell-item.result in
     next_cut 20000 c.loop-cell.sum c.in_ok-instances.field-0 c.plus-sum.result (total (map at (take i cells))) (at cell) (total (map at (take (i + 1) cells)))
     c.loop-cell.invariant c.in_ok-instances.ensures c.plus-sum.ensures (total_more at cells i cell c.loop-cell-test.true c.cell-item.is)
+
+pub instances_from-instances-requires : goal.instances_from-instances-requires
+instances_from-instances-requires t c =
+    let s : CommonNumbers = c.requires.setting in (
+      omega (arith, c.decreases),
+      record {
+        setting = s;
+        formed = c.requires.formed;
+        below = node_at s c.args.cells.now c.loop-cell.cell-index c.cell-item.result c.requires.cells c.loop-cell-test.true c.cell-item.is;
+      },
+    )
+
+pub composed_instances-instances-requires : goal.composed_instances-instances-requires
+composed_instances-instances-requires t c = grind (arith, common_steps)
+
+pub composed_instances-instances-requires-2 : goal.composed_instances-instances-requires-2
+composed_instances-instances-requires-2 t c = grind (arith, common_steps)
+
+pub instances_from-returns : goal.instances_from-returns
+instances_from-returns t c = grind (arith, common_steps)

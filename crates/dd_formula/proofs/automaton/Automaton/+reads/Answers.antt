@@ -1,5 +1,7 @@
 use Rattle.std.proofs.Common.{◌≡◌, List, ◌++◌, map, ap, sym, ◌∙◌, subst, arith}
+use Rattle.std.proofs.lemmas.Grind.{common_steps}
 use Rattle.std.specs.List.{list_all, flat_map}
+use Rattle.std.proofs.lemmas.Bool.{leb-true}
 use Rattle.std.proofs.lemmas.Result.{IfOk-weaker}
 use Rattle.dd_lattice.specs.Cells.{shifted}
 use Rattle.dd_lattice.specs.declared.position.Cell.{Cell}
@@ -10,7 +12,7 @@ use Rattle.dd_formula.specs.declared.automaton.Automaton.{Automaton}
 use Rattle.dd_formula.specs.declared.automaton.Automaton.TheVariants as v
 use Rattle.dd_formula.specs.Automata.{CommonNumbers, IsAutomaton, counted, cells_of, is_cell_of}
 use Rattle.dd_formula.specs.lemmas.Cuts.{flat_more}
-use Rattle.dd_formula.specs.lemmas.AutomatonLaws.{depth_composed, reads_composed, outer_part, inner_part, near_cells, node_at, passes_at, passes_both, moved_placed, moved_cells}
+use Rattle.dd_formula.specs.lemmas.AutomatonLaws.{depth_composed, reads_given, reads_composed, outer_part, inner_part, near_cells, node_at, passes_at, passes_both, moved_placed, moved_cells}
 use Rattle.dd_formula.proofs.automaton.Automaton.+reads.Goals as goal
 
 pub reads-composed_reads-requires : goal.reads-composed_reads-requires
@@ -100,3 +102,26 @@ reads_from-returns-clause-placed t c =
     ap (list_all (is_cell_of s)) is
     ∙ (list_all-in_order (is_cell_of s) c.deref.result.now
     ∙ (ap (list_all (is_cell_of s)) c.deref.ensures.value ∙ c.loop-cell.invariant.placed s formed placed))) c.in_order.ensures.list
+
+pub reads-returns-in-Given-clause-list : goal.reads-returns-in-Given-clause-list
+reads-returns-in-Given-clause-list t c =
+    let same = ap (λ (f : Automaton). cells_of f c.args.node) c.in-Given.is ∙ reads_given c.in-Given.cases c.args.node in
+    IfOk-weaker c.reads.result _ _ (λ r is. is ∙ sym same) c.reads.ensures.list
+
+pub reads_from-reads-requires : goal.reads_from-reads-requires
+reads_from-reads-requires t c =
+    let s : CommonNumbers = c.requires.setting in (
+      omega (arith, c.decreases),
+      record {
+        setting = s;
+        formed = c.requires.formed;
+        below = node_at s c.args.cells.now c.loop-cell.cell-index c.cell-item.result c.requires.cells c.loop-cell-test.true c.cell-item.is;
+      },
+    )
+
+pub reads_from-push_shifted-requires-clause-by : goal.reads_from-push_shifted-requires-clause-by
+reads_from-push_shifted-requires-clause-by t c =
+    leb-true _ _ (passes_at is_near c.args.cells.now c.loop-cell.cell-index c.cell-item.result c.requires.near c.loop-cell-test.true c.cell-item.is)
+
+pub reads_from-returns-clause-list : goal.reads_from-returns-clause-list
+reads_from-returns-clause-list t c = grind (arith, common_steps)

@@ -1,4 +1,5 @@
 use Rattle.std.proofs.Common.{◌++◌, ◌∷◌, [], map, take, ap, sym, ◌∙◌, subst, arith}
+use Rattle.std.proofs.lemmas.Grind.{common_steps}
 use Rattle.std.specs.List.{list_all}
 use Rattle.std.proofs.lemmas.Result.{IfOk-weaker}
 use Rattle.dd_lattice.specs.declared.position.Cell.{Cell}
@@ -73,3 +74,13 @@ values_near-loop-cell-preserved t c =
     ∙ (ap (λ vs. vs ++ c.in_ok-value_near.field-0 ∷ []) c.loop-cell.invariant
     ∙ (ap (λ x. map (value f look) (take c.loop-cell.cell-index c.args.cells.now) ++ x ∷ []) here
     ∙ sym (values_more (value f look) c.args.cells.now c.loop-cell.cell-index cell c.loop-cell-test.true c.cell-item.is)))
+
+pub values_near-reads-requires : goal.values_near-reads-requires
+values_near-reads-requires t c = record {
+  setting = c.requires.setting;
+  formed = c.requires.formed;
+  below = node_at c.requires.setting c.args.cells.now c.loop-cell.cell-index c.cell-item.result c.requires.cells c.loop-cell-test.true c.cell-item.is;
+}
+
+pub composed_value-new-values-requires-clause-as_many : goal.composed_value-new-values-requires-clause-as_many
+composed_value-new-values-requires-clause-as_many t c = grind (arith, common_steps)

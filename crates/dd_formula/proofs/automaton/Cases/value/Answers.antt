@@ -1,4 +1,6 @@
 use Rattle.std.proofs.Common.{◌≡◌, ◌<◌, ℕ, List, length, get_or, true, false, sym, ◌∙◌, ap, subst, arith}
+use Rattle.std.proofs.lemmas.Grind.{common_steps}
+use Rattle.std.proofs.lemmas.Option.{none-some, same_Some}
 use Rattle.dd_formula.specs.LocalRule.{LocalRule, is_true}
 use Rattle.dd_pattern.specs.Reading.{HasSymbolsBelow}
 use Rattle.dd_formula.specs.lemmas.AutomatonLaws.{case_has, rule_nodes}
@@ -31,7 +33,7 @@ returns-in-Some-true g c =
     let is : case ≡ get_or cases i case = c.loop-rule-item.is ∙ ap (λ xs. get_or xs i case) same in
     let below : i < length cases = subst (λ xs. i < length xs) same c.loop-rule-test.true in
     let answer = told case.0 at look c.truth.result (case_given cases look at.position at.node i case c.requires.given below is) c.truth.ensures.value in
-    let here : is_true case.0 at look ≡ true = (let was = c.in-Some-true.is in let yes = c.in-Some-true.field-0-test in cc) in
+    let here : is_true case.0 at look ≡ true = same_Some (is_true case.0 at look) c.in-Some-true.field-0 (sym answer ∙ c.in-Some-true.is) ∙ c.in-Some-true.field-0-test in
     sym (c.loop-rule.invariant ∙ case_step cases c.args.self.now.otherwise look at i case true below is here)
 
 pub loop-rule-preserved : goal.loop-rule-preserved
@@ -45,7 +47,7 @@ loop-rule-preserved g c =
     let is : case ≡ get_or cases i case = c.loop-rule-item.is ∙ ap (λ xs. get_or xs i case) same in
     let below : i < length cases = subst (λ xs. i < length xs) same c.loop-rule-test.true in
     let answer = told case.0 at look c.truth.result (case_given cases look at.position at.node i case c.requires.given below is) c.truth.ensures.value in
-    let here : is_true case.0 at look ≡ false = (let was = c.in-Some-false.is in let no = c.in-Some-false.field-0-test in cc) in
+    let here : is_true case.0 at look ≡ false = same_Some (is_true case.0 at look) c.in-Some-false.field-0 (sym answer ∙ c.in-Some-false.is) ∙ c.in-Some-false.field-0-test in
     c.loop-rule.invariant ∙ case_step cases c.args.self.now.otherwise look at i case false below is here
 
 pub unreachable-requires : goal.unreachable-requires
@@ -59,5 +61,7 @@ unreachable-requires g c =
     let is : case ≡ get_or cases i case = c.loop-rule-item.is ∙ ap (λ xs. get_or xs i case) same in
     let below : i < length cases = subst (λ xs. i < length xs) same c.loop-rule-test.true in
     let answer = told case.0 at look c.truth.result (case_given cases look at.position at.node i case c.requires.given below is) c.truth.ensures.value in
-    let was = c.in-None.is in
-    absurd (cc)
+    absurd (none-some (is_true case.0 at look) (sym c.in-None.is ∙ answer))
+
+pub returns : goal.returns
+returns g c = grind (arith, common_steps)

@@ -1,5 +1,6 @@
-use Rattle.std.proofs.Common.{◌≡◌, ◌<◌, ℕ, length, Bool, true, false, Option, Some, None, arith, ap, ◌∙◌}
+use Rattle.std.proofs.Common.{◌≡◌, ◌<◌, ℕ, length, Bool, true, false, Option, Some, None, sym, arith, ap, ◌∙◌}
 use borrow.Author.Count.{below_more}
+use Rattle.std.proofs.lemmas.Option.{none-some, same_Some}
 use Rattle.std.specs.Prelude.{cond}
 use Rattle.dd_lattice.specs.declared.position.Cell.{Cell}
 use Rattle.dd_pattern.specs.Tile.{Tile, IsPeriodic, cell_in, tile_look}
@@ -33,7 +34,7 @@ loop-number-preserved c =
     let number = c.loop-number.number in
     let within : number < length t.symbols = omega (arith, ap length count.value, c.loop-number-test.true) in
     let answer = told r t number c.cell_at-cell.result c.truth.result c.truth.ensures.kept c.requires count.kept within c.cell_at-cell.ensures.value c.truth.ensures.value in
-    let here : is_true r (cell_in t number) (tile_look t) ≡ true = (let is = c.in-Some-true.is in let yes = c.in-Some-true.field-0-test in cc) in
+    let here : is_true r (cell_in t number) (tile_look t) ≡ true = same_Some (is_true r (cell_in t number) (tile_look t)) c.in-Some-true.field-0 (sym answer ∙ c.in-Some-true.is) ∙ c.in-Some-true.field-0-test in
     below_more (true_in r t) number c.loop-number.invariant here
 
 pub returns-in-Some-false : goal.returns-in-Some-false
@@ -44,7 +45,7 @@ returns-in-Some-false c =
     let number = c.loop-number.number in
     let within : number < length t.symbols = omega (arith, ap length count.value, c.loop-number-test.true) in
     let answer = told r t number c.cell_at-cell.result c.truth.result c.truth.ensures.kept c.requires count.kept within c.cell_at-cell.ensures.value c.truth.ensures.value in
-    let here : is_true r (cell_in t number) (tile_look t) ≡ false = (let is = c.in-Some-false.is in let no = c.in-Some-false.field-0-test in cc) in
+    let here : is_true r (cell_in t number) (tile_look t) ≡ false = same_Some (is_true r (cell_in t number) (tile_look t)) c.in-Some-false.field-0 (sym answer ∙ c.in-Some-false.is) ∙ c.in-Some-false.field-0-test in
     rw c.cell_at-cell.ensures.value (first_from_box r t count.kept.tile number within here c.loop-number.invariant)
 
 pub unreachable-requires : goal.unreachable-requires
@@ -55,8 +56,7 @@ unreachable-requires c =
     let number = c.loop-number.number in
     let within : number < length t.symbols = omega (arith, ap length count.value, c.loop-number-test.true) in
     let answer = told r t number c.cell_at-cell.result c.truth.result c.truth.ensures.kept c.requires count.kept within c.cell_at-cell.ensures.value c.truth.ensures.value in
-    let is = c.in-None.is in
-    absurd (cc)
+    absurd (none-some (is_true r (cell_in t number) (tile_look t)) (sym c.in-None.is ∙ answer))
 
 pub returns : goal.returns
 returns c =

@@ -7,10 +7,37 @@ use Rattle.std.proofs.lemmas.Int.{to_z-of_z}
 use Rattle.dd_fraction.specs.Exact.{Exact}
 use Rattle.dd_fraction.specs.Checked.{IsFraction}
 use Rattle.dd_fraction.proofs.Quick.{as_lowest, unit_left, unit_right}
-use Rattle.dd_fraction.specs.lemmas.Results.{bounded_some, product_some, size_some}
+use Rattle.dd_fraction.specs.lemmas.Results.{bounded_some, bounded_within, product_some, size_some, size_within}
 use Rattle.dd_fraction.specs.lemmas.Ring.{product_above}
 use Rattle.dd_fraction.proofs.fraction.Fraction.mul.Goals as goal
 use Rattle.dd_fraction.proofs.fraction.Fraction.mul.Goals.{then-is_unit-via-then-is_unit, then-is_unit-via-else-is_unit+then-is_unit-2}
+
+pub in_lowest_terms-requires : goal.in_lowest_terms-requires
+in_lowest_terms-requires c =
+    let a : Exact = record { num = c.self.inside.num; den = c.self.inside.den } in
+    let b : Exact = record { num = c.other.inside.num; den = c.other.inside.den } in
+    let one : SFits w128 c.self.inside.num = search rules in
+    let two : SFits w128 c.other.inside.num = search rules in
+    let three : SFits w128 c.in_ok-num.num = search rules in
+    let num = simp to_z-of_z at c.in_ok-num.ensures in
+    let n = bounded_some (a.num *ℤ b.num) c.in_ok-num.num num in
+    let d = size_some (a.den * b.den) c.in_ok-den.den c.in_ok-den.ensures in
+    let alone : IsFraction (record { num = c.in_ok-num.num; den = c.in_ok-den.den }) =
+    elim c.then-is_unit.branch [
+      | then-is_unit-via-then-is_unit w ↦
+          let unit = c.is_unit.ensures.0 w.if-is_unit.true in
+          unit_left a b c.in_ok-num.num c.in_ok-den.den
+          (ap (λ (t : Exact). t.den) c.self.view_is ∙ unit.0)
+          (ap (λ (t : Exact). unsigned_abs t.num) c.self.view_is ∙ unit.1)
+          c.other.invariant n.1 d.1
+      | then-is_unit-via-else-is_unit+then-is_unit-2 w ↦
+          let unit = w.is_unit-else-is_unit.ensures.0 w.if-is_unit-2.true in
+          unit_right a b c.in_ok-num.num c.in_ok-den.den
+          (ap (λ (t : Exact). t.den) c.other.view_is ∙ unit.0)
+          (ap (λ (t : Exact). unsigned_abs t.num) c.other.view_is ∙ unit.1)
+          c.self.invariant n.1 d.1
+    ] in
+    simp to_z-of_z alone
 
 pub returns-then-is_unit : goal.returns-then-is_unit
 returns-then-is_unit c =
@@ -43,10 +70,20 @@ returns-then-is_unit c =
     c.self.invariant c.other.invariant num c.in_ok-den.ensures
     (as_lowest c.in_lowest_terms.result c.in_ok-num.num c.in_ok-den.den alone made))
 
+pub reduced-requires-clause-bounded : goal.reduced-requires-clause-bounded
+reduced-requires-clause-bounded c =
+    let one : SFits w128 c.self.inside.num = search rules in
+    let two : SFits w128 c.other.inside.num = search rules in
+    let three : SFits w128 c.in_ok-num.num = search rules in
+    simp to_z-of_z (bounded_within (c.self.inside.num *ℤ c.other.inside.num) c.in_ok-num.num (simp to_z-of_z at c.in_ok-num.ensures))
+
 pub reduced-requires-clause-above : goal.reduced-requires-clause-above
 reduced-requires-clause-above c =
     let w = size_some (c.self.inside.den * c.other.inside.den) c.in_ok-den.den c.in_ok-den.ensures in
     rw (w.1) (product_above c.self.inside.den c.other.inside.den c.self.invariant.above c.other.invariant.above)
+
+pub reduced-requires-clause-below : goal.reduced-requires-clause-below
+reduced-requires-clause-below c = size_within (c.self.inside.den * c.other.inside.den) c.in_ok-den.den c.in_ok-den.ensures
 
 pub returns : goal.returns
 returns c =

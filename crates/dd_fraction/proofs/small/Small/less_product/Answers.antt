@@ -1,12 +1,13 @@
-use Rattle.std.proofs.Common.{◌≡◌, ◌*◌, refl, sym, ap, subst, ◌∙◌, rules, Some}
+use Rattle.std.proofs.Common.{◌≡◌, ℕ, ◌*◌, ◌<◌, refl, sym, ap, subst, ◌∙◌, arith, rules, Some}
 use Rattle.std.specs.Int.{w16, w32, w64}
 use mir.Val.{SFits}
 use lib.IntN.{pos, ◌-ℤ◌, ◌*ℤ◌}
 use Rattle.std.proofs.lemmas.Int.{to_z-of_z}
 use Rattle.dd_fraction.specs.Exact.{Exact}
-use Rattle.dd_fraction.proofs.LessProduct.{small_words, small_less_product, less_product_at, alike_less_product}
+use Rattle.dd_fraction.specs.lemmas.Ring.{product_above}
+use Rattle.dd_fraction.proofs.LessProduct.{small_sizes, small_words, small_less_product, less_product_at, alike_less_product}
 use Rattle.dd_fraction.proofs.small.Small.less_product.Goals as goal
-use Rattle.dd_fraction.proofs.small.Small.less_product.Goals.{After-from-7, After-from-9}
+use Rattle.dd_fraction.proofs.small.Small.less_product.Goals.{After-from-7, After-from-9, After-from-11}
 
 pub returns-then-den-from : goal.returns-then-den-from
 returns-then-den-from c =
@@ -59,6 +60,22 @@ right_is c =
     let num = simp (factor, other, to_z-of_z) at c.from-8.ensures in
     λ i. num i *ℤ c.from-9.ensures i
 
+size_is : (c : After-from-11)
+    → c.from-10.result * c.from-11.result ≡ c.self.inside.den * (c.factor.inside.den * c.other.inside.den)
+size_is c = λ i. c.from-10.ensures i * (c.from-11.ensures ∙ (λ j. c.from-3.ensures j * c.from-4.ensures j)) i
+
+pub overflow_mul-from : goal.overflow_mul-from
+overflow_mul-from c =
+    let small = small_sizes c.self.inside.den c.factor.inside.den c.other.inside.den
+    c.self.invariant.below c.factor.invariant.below c.other.invariant.below in
+    rw (size_is c) (omega (arith, small))
+
+pub reduced_words-requires-2 : goal.reduced_words-requires-2
+reduced_words-requires-2 c =
+    subst (λ (n : ℕ). 0 < n) (sym (size_is c))
+    (product_above c.self.inside.den (c.factor.inside.den * c.other.inside.den) c.self.invariant.above
+    (product_above c.factor.inside.den c.other.inside.den c.factor.invariant.above c.other.invariant.above))
+
 pub overflow_mul-left : goal.overflow_mul-left
 overflow_mul-left c =
     let one : SFits w64 c.from-6.result = search rules in
@@ -108,10 +125,8 @@ returns c =
     let difference : SFits w64 (c.from-6.result *ℤ c.from-7.result -ℤ c.from-8.result *ℤ c.from-9.result) =
     subst (SFits w64) (sym (difference_is last)) w.difference in
     let made = simp to_z-of_z at c.reduced_words-2.ensures in
-    let size : c.from-10.result * c.from-11.result ≡ a.den * (q.den * b.den) =
-    λ i. c.from-10.ensures i * (c.from-11.ensures ∙ (λ j. c.from-3.ensures j * c.from-4.ensures j)) i in
     rw (← c.self.view_is, ← c.factor.view_is, ← c.other.view_is)
     (ap (λ (t : Exact). Some t)
     (made ∙ less_product_at a q b _ _ c.self.invariant.above c.factor.invariant.above c.other.invariant.above
-    (difference_is last) size)
+    (difference_is last) (size_is (goal.at.returns c).After-from-11))
     ∙ small_less_product a q b c.self.invariant c.factor.invariant c.other.invariant)

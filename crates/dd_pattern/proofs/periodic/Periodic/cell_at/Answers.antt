@@ -1,7 +1,7 @@
-use Rattle.std.proofs.Common.{◌≡◌, ◌%◌, rules, sym, subst}
+use Rattle.std.proofs.Common.{◌≡◌, ◌%◌, arith, rules, sym, subst}
 use Rattle.dd_lattice.specs.Cells.{cell}
 use Rattle.dd_pattern.specs.Tile.{IsTile, IsPeriodic, IsInBox, cell_in}
-use Rattle.dd_pattern.specs.lemmas.BoxLaws.{in_box}
+use Rattle.dd_pattern.specs.lemmas.BoxLaws.{in_box, index_of_cell}
 use Rattle.dd_pattern.proofs.periodic.Periodic.cell_at.Goals as goal
 
 pub returns-clause-in_box : goal.returns-clause-in_box
@@ -10,3 +10,6 @@ returns-clause-in_box c =
     let ok : IsTile t = (subst IsPeriodic c.self.view_is c.self.invariant).tile in
     let is : cell c.position_of-position.result (c.args.number % c.self.inside.nodes) ≡ cell_in t c.args.number = search rules in
     subst (IsInBox t) (sym is) (in_box t ok c.args.number c.requires)
+
+pub returns-clause-number : goal.returns-clause-number
+returns-clause-number c = grind (arith, in_box, index_of_cell)

@@ -1,4 +1,5 @@
-use Rattle.std.proofs.Common.{◌<◌, ◌∙◌, sym, refl, length, Some, None}
+use Rattle.std.proofs.Common.{◌<◌, ◌∙◌, sym, refl, length, Some, None, arith}
+use Rattle.std.proofs.lemmas.Grind.{common_steps}
 use Rattle.std.proofs.lemmas.List.{length-map}
 use Rattle.std.proofs.lemmas.Option.{slice_get_read}
 use Rattle.dd_topology.specs.keeping.Kept.{move_of}
@@ -17,3 +18,6 @@ pub returns-in-None-clause-edge : goal.returns-in-None-clause-edge
 returns-in-None-clause-edge c =
     let t = c.self.inside in
     rw (← c.self.view_is) (found_by_move t.edges t.moves.keys c.self.invariant.1 c.args.cell.now c.args.label None (sym c.in-None.is ∙ c.get_index_of.ensures.index))
+
+pub index-requires : goal.index-requires
+index-requires c = grind (arith, common_steps)

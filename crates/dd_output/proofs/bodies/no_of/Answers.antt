@@ -1,0 +1,8 @@
+use Rattle.std.proofs.Common.{arith}
+use Rattle.std.proofs.lemmas.Grind.{common_steps}
+use Rattle.dd_output.specs.reading.Grammar.{no_row}
+use Rattle.dd_output.proofs.bodies.no_of.Goals as goal
+
+pub returns : goal.returns
+unfolding no_row
+returns c = grind (arith, common_steps)
