@@ -4,7 +4,7 @@
 ghost use Rattle.std.specs.Prelude.{◌≡◌, ℕ, ◌+◌, ◌<◌, ◌≤◌, ◌^◌, ◌++◌, ◌∷◌, [], true, false, List, length, All, IfOk, OnOk, OnErr, MatchOption, IsTrue, ◌↔◌};
 ghost use Rattle.dd_clause.specs.declared.clause.Literal.{Literal};
 ghost use Rattle.dd_clause.specs.Clauses.{IsClauseInRange, Satisfies};
-ghost use Rattle.dd_derivation.specs.Derivations.{known_after};
+ghost use Rattle.dd_derivation.specs.Derivations.{known_after, refutes};
 ghost use Rattle.dd_derivation.specs.checking.MarksOf.{known_of};
 ghost use Rattle.dd_values.specs.Variables.{true_variables};
 ghost use Rattle.dd_trail.specs.Trails.{IsFull};
@@ -206,18 +206,30 @@ impl<'a> Search<'a> {
         Items::from_vec(self.steps)
     }
 
-    fn run(mut self, alloc: Global) -> Result<Outcome, AllocError>
-        ensures { IfOk result (IsAnswer self.entry.variables self.entry.clauses) }
+    /// Goes on until an assignment satisfies the clauses, or the steps refute them, where it gives none.
+    fn settle(&mut self, alloc: Global) -> Result<Option<Assignment>, AllocError>
+        ensures same { (self.new.variables ≡ self.old.variables) × (self.new.clauses ≡ self.old.clauses) }
+        ensures settled { IfOk result (λ found. MatchOption found (refutes self.new.variables self.new.clauses self.new.steps ≡ true)
+            (λ values. (length values ≡ self.new.variables) × Satisfies (true_variables values) self.new.clauses)) }
     {
         'turns: loop {
             if let Some(conflict) = self.propagate()? {
                 match self.analyse(alloc, conflict)? {
-                    None => return Ok(Outcome::Refuted(self.into_steps())),
+                    None => return Ok(None),
                     Some(turn) => self.backtrack(turn)?,
                 }
             } else if !self.decide()? {
-                return Ok(Outcome::Found(self.assignment(alloc)?));
+                return Ok(Some(self.assignment(alloc)?));
             }
+        }
+    }
+
+    fn run(mut self, alloc: Global) -> Result<Outcome, AllocError>
+        ensures { IfOk result (IsAnswer self.entry.variables self.entry.clauses) }
+    {
+        match self.settle(alloc)? {
+            None => Ok(Outcome::Refuted(self.into_steps())),
+            Some(values) => Ok(Outcome::Found(values)),
         }
     }
 }

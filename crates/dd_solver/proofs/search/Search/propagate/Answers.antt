@@ -1,4 +1,5 @@
 use Rattle.std.proofs.Common.{◌≡◌, Some, length, subst, ◌∙◌, arith}
+use Rattle.std.proofs.lemmas.Grind.{common_steps}
 use Rattle.dd_derivation.specs.declared.propagation.Finding.TheVariants.{Forced}
 use Rattle.dd_derivation.specs.Derivations.{hint_finding, is_among}
 use Rattle.dd_trail.specs.declared.trail.Entry.{Entry}
@@ -66,3 +67,6 @@ returns-in-Nothing-clause-conflict c =
     let o : IsFull s.trail.variables s.trail.entries → AreOpenBetween c.new-database.result (falses s.trail.entries) 0 (length c.new-database.result) = rw c.in-Nothing.is at c.in_ok-found.ensures in
     let h = subst (λ (known : Known). IsFull s.trail.variables s.trail.entries → AreOpenBetween known (falses s.trail.entries) 0 (length known)) d o in
     λ full. all_open now p (h full)
+
+pub invariant_of-self-in_err-assign-in-Unit : goal.invariant_of-self-in_err-assign-in-Unit
+invariant_of-self-in_err-assign-in-Unit c = grind (arith, common_steps)

@@ -1,7 +1,7 @@
 use Rattle.std.proofs.Common.{◌≡◌, sym, subst}
 use Rattle.dd_trail.specs.Trails.{IsFull}
 use Rattle.dd_solver.specs.searching.Search.{State, AreOpen}
-use Rattle.dd_solver.proofs.search.Search.run.Goals as goal
+use Rattle.dd_solver.proofs.search.Search.settle.Goals as goal
 
 pub assignment-requires-clause-open : goal.assignment-requires-clause-open
 assignment-requires-clause-open c =

@@ -1,6 +1,6 @@
 use Rattle.std.proofs.Common.{◌≡◌}
 use Rattle.dd_solver.specs.searching.Search.{left}
-use Rattle.dd_solver.proofs.search.Search.run.Given as goal
+use Rattle.dd_solver.proofs.search.Search.settle.Given as goal
 
 abbrev pub invariant-turns : goal.invariant-turns
 invariant-turns l = record {
