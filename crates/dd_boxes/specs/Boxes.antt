@@ -1,5 +1,5 @@
 -- When a box shows that a goal holds nowhere.
-use Rattle.std.specs.Prelude.{ℕ, ◌<◌, ◌≤◌, ◌≡◌, true, is_some, pos}
+use Rattle.std.specs.Prelude.{ℕ, ◌<◌, ◌≤◌, ◌≡◌, true, is_some, max, pos}
 use Rattle.std.specs.List.{list_all}
 use Rattle.dd_lattice.specs.Place.{Place, place}
 use Rattle.dd_lattice.specs.Cells.{shifted}
@@ -10,6 +10,7 @@ use Rattle.dd_expansion.specs.Placed.{is_flat}
 use Rattle.dd_formula.specs.LocalRule.{LocalRule, reads_at}
 use Rattle.dd_formula.specs.Allowed.{AreAllowed, HasAllowed}
 use Rattle.dd_formula.specs.Living.{Fits, Obeys, Lives}
+use Rattle.dd_formula.specs.Reach.{reach, automaton_reach}
 use Rattle.dd_formula.specs.Automata.{counted}
 use Rattle.dd_boxes.specs.Goals.{GoalOf, breaks, differ, always, HasGoal}
 use Rattle.dd_boxes.specs.Fillings.{Admissible, is_box_cell, is_cell_within, IsBoxFilling, IsConfiguration}
@@ -27,6 +28,12 @@ Reaches (breaks y) n = (a : ℕ) → a < y.nodes → list_all (is_box_cell y n) 
 Reaches (differ s f g) n =
     (a : ℕ) → a < s.nodes → (list_all (is_cell_within s n) ((counted f).reads a) ≡ true) × (list_all (is_cell_within s n) ((counted g).reads a) ≡ true)
 Reaches always n = Unit {0}
+
+-- how far a goal reads from the origin
+abbrev pub goal_reach : GoalOf → ℕ
+goal_reach (breaks y) = reach y
+goal_reach (differ s f g) = max (automaton_reach s.nodes f) (automaton_reach s.nodes g)
+goal_reach always = 0
 
 pub record IsLeastRadius (g : GoalOf) (n : ℕ) : Type 0 where
   pub reaches : Reaches g n

@@ -12,6 +12,8 @@ pub mod Witnesses
 pub mod Laws
 -- the goal that a value stands for
 pub mod Views
+-- what a discharge may be asked
+pub mod Discharges
 -- how many clauses a question takes
 pub mod Counts
 -- lemmas on what stands above, with their proofs, for whoever cites them

@@ -1,21 +1,12 @@
 -- From a question's limits to what the search asks, and from what it finds to the decision.
-use Rattle.std.proofs.Common.{◌≡◌, ℕ, ◌<◌, ◌≤◌, true, get_or, sym, subst, arith}
-use Rattle.std.specs.Prelude.{◌&&◌, max}
-use Rattle.std.specs.List.{list_all}
-use Rattle.std.proofs.lemmas.Bool.{and_from}
-use Rattle.std.proofs.lemmas.List.Sums.{AllPass-from_list_all, list_all-from_AllPass}
+use Rattle.std.proofs.Common.{◌≡◌, ℕ, ◌≤◌, subst, arith}
+use Rattle.std.specs.Prelude.{max}
 use Rattle.dd_derivation.specs.Derivations.{IsRefuting}
 use Rattle.dd_problem.specs.Problems.{box_problem}
 use Rattle.dd_lattice.specs.Boxes.{centred, volume}
-use Rattle.dd_formula.specs.LocalRule.{LocalRule, IsRule, is_near, is_of, reads_at}
-use Rattle.dd_formula.specs.lemmas.AutomatonLaws.{near_reads}
-use Rattle.dd_formula.specs.lemmas.ReachLaws.{automaton_reach_within}
-use Rattle.dd_boxes.specs.lemmas.ReachLaws.{least_is_farthest}
-use Rattle.dd_boxes.specs.Goals.{GoalOf, breaks, differ, always, IsGoalFor, KeepsRule}
-use Rattle.dd_boxes.specs.Fillings.{is_box_cell}
+use Rattle.dd_formula.specs.LocalRule.{LocalRule, IsRule}
+use Rattle.dd_boxes.specs.Goals.{GoalOf, IsGoalFor}
 use Rattle.dd_boxes.specs.Boxes.{Suffices, IsLeastRadius}
-use Rattle.dd_boxes.specs.lemmas.RuleLaws.{list_all_weaker}
-use Rattle.dd_boxes.specs.lemmas.ReachLaws.{box_from_within}
 use Rattle.dd_boxes.specs.lemmas.FromBox.{from_least}
 use Rattle.dd_pattern.specs.declared.periods.Periods.{Periods}
 use Rattle.dd_pattern.specs.Periods.{AreWithin, periods_volume as tile_volume}
@@ -26,24 +17,6 @@ use Rattle.dd_contain.specs.searching.Listed.{AsksRadii, AsksWithin}
 use Rattle.dd_contain.specs.Questions.{AsksRadius, AsksPeriods, RefutesByNumbers, ShowsAt, Displays, IsSmallQuestion, IsDecided, HasNumbers}
 use Rattle.dd_boxes.specs.lemmas.SizeLaws.{fewer, box_up}
 use Rattle.dd_contain.proofs.CountLaws.{torus_up}
-
--- a rule reads nothing further than 16 away, so the least radius is at most 16
-reads_near : (y : LocalRule) (a : ℕ) → IsRule y → a < y.nodes → list_all (λ c. is_of y c && is_near c) (reads_at y a) ≡ true
-reads_near y a rule node =
-    let placed = AllPass-from_list_all (is_of y) (reads_at y a) (rule.placed a node) in
-    let near = AllPass-from_list_all is_near (reads_at y a) (rule.short a node) in
-    list_all-from_AllPass (λ c. is_of y c && is_near c) (reads_at y a) (λ i c h.
-    and_from (is_of y (get_or (reads_at y a) i c)) (is_near (get_or (reads_at y a) i c)) (placed i c h) (near i c h))
-
-pub least_small : (x : LocalRule) (g : GoalOf) (least : ℕ) → IsRule x → KeepsRule g → IsGoalFor x g → IsLeastRadius g least → least ≤ 16
-least_small x (breaks y) least rule kept ok is =
-    is.least 16 (λ a node. list_all_weaker (λ c. is_of y c && is_near c) (is_box_cell y 16) (box_from_within y 16 kept.dimension.0) (reads_at y a) (reads_near y a kept node))
-least_small x (differ s f g) least rule kept ok is =
-    let far = least_is_farthest s f g (subst (λ d. 1 ≤ d) (sym ok.dimension) rule.dimension.0) least is in
-    let left = automaton_reach_within f s.nodes 16 (near_reads s f ok.left) in
-    let right = automaton_reach_within g s.nodes 16 (near_reads s g ok.right) in
-    omega (arith, far, left, right)
-least_small x always least rule kept ok is = let none : least ≤ 0 = is.least 0 tt in omega (arith, none)
 
 within_most : (d p m : ℕ) (q : Periods) → p ≤ m → AreWithin d p q → AreWithin d m q
 within_most d p m q le within =

@@ -21,7 +21,7 @@ use Rattle.dd_expansion.specs.Limits.{greatest}
 use Rattle.dd_formula.specs.LocalRule.{LocalRule}
 use Rattle.dd_rows.specs.declared.rows.Row.{Row}
 use Rattle.dd_rows.specs.declared.rows.Rows.{Rows}
-use Rattle.dd_rows.specs.Asked.{AreWeightsFor}
+use Rattle.dd_boxes.specs.Discharges.{AreWeightsFor}
 use Rattle.dd_boxes.specs.Cells.{box_cells}
 use Rattle.dd_rows.specs.Fillings.{look_of, fillings}
 use Rattle.dd_rows.specs.Patterns.{origin, pattern_at, givers, pattern_number}

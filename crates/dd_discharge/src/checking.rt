@@ -1,6 +1,6 @@
 //! Whether a claimed bound of a rule along some vectors is certified.
 ghost use Rattle.std.specs.Prelude.{◌≡◌, ◌≤◌, IfOk, true, false};
-ghost use Rattle.dd_rows.specs.Asked.{AreVectors, AreWeightsFor};
+ghost use Rattle.dd_boxes.specs.Discharges.{AreVectors, AreWeightsFor};
 ghost use Rattle.dd_discharge.specs.Amounts.{bound_claimed};
 ghost use Rattle.dd_discharge.specs.Denominators.{most_printed};
 ghost use Rattle.dd_discharge.specs.Certificates.{IsBoundCertificate};

@@ -1,6 +1,6 @@
 //! The best bound of a rule along some vectors.
 ghost use Rattle.std.specs.Prelude.{◌≤◌, IfOk, IfErr};
-ghost use Rattle.dd_rows.specs.Asked.{AreVectors, AreWeightsFor};
+ghost use Rattle.dd_boxes.specs.Discharges.{AreVectors, AreWeightsFor};
 ghost use Rattle.dd_discharge.specs.Printed.{IsSmallBound};
 ghost use Rattle.dd_discharge.specs.Bounds.{IsBoundOf, IsDischargeFault};
 ghost use Rattle.dd_discharge.specs.Certificates.{IsBoundCertificate};

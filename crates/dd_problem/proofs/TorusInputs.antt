@@ -35,12 +35,13 @@ use Rattle.dd_formula.specs.lemmas.ReachLaws.{is_within, reads_within, automaton
 use Rattle.dd_boxes.specs.Goals.{GoalOf, breaks, differ, always, AreOver}
 use Rattle.dd_boxes.specs.Boxes.{origin}
 use Rattle.dd_boxes.specs.Witnesses.{ArePeriods}
+use Rattle.dd_boxes.specs.Boxes.{goal_reach}
 use Rattle.dd_problem.specs.pushing.Told.{IsToldGoal}
 use Rattle.dd_problem.specs.Layouts.{torus, torus_cells}
 use Rattle.dd_problem.specs.pushing.Grown.{torus_layout}
 use Rattle.dd_problem.specs.Clauses.{input}
 use Rattle.dd_problem.specs.Problems.{torus_problem}
-use Rattle.dd_problem.specs.pushing.Grown.{goal_reach, question_reach, grown, near_cells, number_at, numbered_by, numbered_tile}
+use Rattle.dd_problem.specs.pushing.Grown.{question_reach, grown, near_cells, number_at, numbered_by, numbered_tile}
 use Rattle.dd_problem.specs.pushing.Pushed.{wired_problem, is_goal_wired}
 use Rattle.dd_problem.specs.lemmas.CellOrder.{cells_ascending, cell_there}
 use Rattle.dd_problem.proofs.Matching.{Gives, Matches, GoalMatches, goal_is_wired, wired_is_problem}

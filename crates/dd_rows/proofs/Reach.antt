@@ -9,7 +9,7 @@ use Rattle.dd_lattice.specs.Boxes.{OnAxis, IsUpTo, IsCentred, is_active}
 use Rattle.dd_lattice.specs.Regions.{IsRegionOf, IsMoved, IsNearby, LeavesRange}
 use Rattle.dd_lattice.specs.lemmas.ListLaws.{Contains-nil}
 use Rattle.dd_topology.specs.Topology.{reversed}
-use Rattle.dd_rows.specs.Asked.{IsVector}
+use Rattle.dd_boxes.specs.Discharges.{IsVector}
 use Rattle.dd_rows.specs.Domains.{IsInDomain}
 
 -- at most n from 0 on each axis

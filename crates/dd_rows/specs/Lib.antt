@@ -1,5 +1,3 @@
--- what a discharge asks
-pub mod Asked
 -- the domains of a discharge along some vectors
 pub mod Domains
 -- the admissible fillings of a list of cells, in the lexicographic order of their symbols

@@ -4,7 +4,7 @@ ghost use Rattle.std.specs.List.Sorted.{IsStrictlySortedBy};
 ghost use Rattle.dd_lattice.specs.Order.{cell_cmp};
 ghost use Rattle.dd_lattice.specs.Boxes.{centred, positions_of};
 ghost use Rattle.dd_lattice.specs.Regions.{IsRegion, IsRegionOf, IsMoved};
-ghost use Rattle.dd_rows.specs.Asked.{IsVector, AreVectors};
+ghost use Rattle.dd_boxes.specs.Discharges.{IsVector, AreVectors};
 ghost use Rattle.dd_rows.specs.listing.Levels.{AreOf, AreInRange};
 ghost use Rattle.dd_boxes.specs.Cells.{cells_on, box_cells};
 ghost use Rattle.dd_rows.specs.Domains.{IsInDomain, IsInGround, IsGround};

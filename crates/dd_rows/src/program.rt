@@ -3,7 +3,7 @@ ghost use Rattle.std.specs.Prelude.{◌≡◌, ◌≤◌, ◌<◌, ℕ, map, len
 ghost use Rattle.std.specs.List.{flat_map};
 ghost use Rattle.dd_values.specs.Bounds.{most_weight};
 ghost use Rattle.dd_expansion.specs.Limits.{greatest};
-ghost use Rattle.dd_rows.specs.Asked.{AreVectors, AreWeightsFor};
+ghost use Rattle.dd_boxes.specs.Discharges.{AreVectors, AreWeightsFor};
 ghost use Rattle.dd_rows.specs.Faults.{OnLarge};
 ghost use Rattle.dd_rows.specs.Patterns.{in_lexicographic_order};
 ghost use Rattle.dd_rows.specs.Programs.{IsProgramOf, IsRowsFault, add_row, first_seen, column_count, most_columns, most_rows};

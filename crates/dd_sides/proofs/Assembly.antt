@@ -25,7 +25,7 @@ use Rattle.dd_boxes.specs.lemmas.RuleLaws.{place_same, shifted_by_origin, moved_
 use Rattle.dd_rows.specs.declared.rows.Row.{Row}
 use Rattle.dd_rows.specs.declared.rows.Rows.{Rows}
 use Rattle.dd_discharge.specs.declared.bound.Bound.{Bound}
-use Rattle.dd_rows.specs.Asked.{IsVector, AreVectors}
+use Rattle.dd_boxes.specs.Discharges.{IsVector, AreVectors}
 use Rattle.dd_boxes.specs.Cells.{box_cells}
 use Rattle.dd_rows.specs.Fillings.{look_of, fillings}
 use Rattle.dd_rows.specs.Patterns.{pattern_at, patterns, pattern_number}

@@ -5,7 +5,7 @@ ghost use Rattle.dd_lattice.specs.Regions.{seen_from};
 ghost use Rattle.dd_expansion.specs.Placed.{is_flat};
 ghost use Rattle.dd_formula.specs.LocalRule.{LocalRule, IsRule};
 ghost use Rattle.dd_discharge.specs.declared.bound.Bound.{Bound};
-ghost use Rattle.dd_rows.specs.Asked.{AreVectors};
+ghost use Rattle.dd_boxes.specs.Discharges.{AreVectors};
 ghost use Rattle.dd_discharge.specs.Certificates.{IsBoundCertificate};
 ghost use Rattle.dd_sides.specs.Sums.{Size, box_sum, from_outside};
 ghost use Rattle.dd_sides.specs.Sides.{side, IsSide};

@@ -1,5 +1,7 @@
 -- limits that more than one crate keeps
 pub mod Bounds
+-- the ranges of the limits within which questions are answered
+pub mod Ranges
 -- truth values of numbered variables
 pub mod Variables
 -- counts of faults

@@ -1,5 +1,5 @@
 -- The least radius of a goal is how far it reads.
-use Rattle.std.proofs.Common.{◌≡◌, ℕ, ◌<◌, ◌≤◌, Bool, true, false, List, [], ◌∷◌, refl, arith, ℤ, pos}
+use Rattle.std.proofs.Common.{◌≡◌, ℕ, ◌<◌, ◌≤◌, Bool, true, false, List, [], ◌∷◌, refl, sym, subst, arith, ℤ, pos}
 use Rattle.std.specs.Prelude.{◌&&◌, ◌||◌, max, nat_lt, unsigned_abs}
 use Rattle.std.specs.Ordering.{int_eq}
 use Rattle.std.specs.List.{list_all}
@@ -10,15 +10,16 @@ use Rattle.dd_lattice.specs.Boxes.{is_active, spread}
 use Rattle.dd_lattice.specs.declared.position.Cell.{Cell}
 use Rattle.dd_topology.specs.Topology.{extent}
 use Rattle.dd_expansion.specs.Placed.{is_flat, is_cell_in}
-use Rattle.dd_formula.specs.LocalRule.{LocalRule, IsRule, reads_at, is_of}
+use Rattle.dd_formula.specs.LocalRule.{LocalRule, IsRule, most_reach, reads_at, is_of}
 use Rattle.dd_formula.specs.Reach.{reach, automaton_reach}
 use Rattle.dd_formula.specs.Automata.{CommonNumbers, IsAutomaton, counted, is_cell_of}
 use Rattle.dd_formula.specs.Values.{IsPlaced}
 use Rattle.dd_formula.specs.declared.automaton.Automaton.{Automaton}
-use Rattle.dd_formula.specs.lemmas.ReachLaws.{is_within, reads_within, reach_within, automaton_reads_within, automaton_reach_within}
-use Rattle.dd_boxes.specs.Goals.{GoalOf, breaks, differ, always}
+use Rattle.dd_formula.specs.lemmas.AutomatonLaws.{near_reads}
+use Rattle.dd_formula.specs.lemmas.ReachLaws.{is_within, reads_within, reach_within, reach_near, automaton_reads_within, automaton_reach_within}
+use Rattle.dd_boxes.specs.Goals.{GoalOf, breaks, differ, always, IsGoalFor, KeepsRule}
 use Rattle.dd_boxes.specs.Fillings.{is_up_to, in_box, is_cell_in_box, is_box_cell, is_cell_within}
-use Rattle.dd_boxes.specs.Boxes.{IsLeastRadius}
+use Rattle.dd_boxes.specs.Boxes.{goal_reach, IsLeastRadius}
 use Rattle.dd_boxes.specs.lemmas.RuleLaws.{list_all_weaker}
 use Rattle.dd_boxes.specs.lemmas.CutLaws.{box_parts, flat_box}
 
@@ -47,7 +48,7 @@ cell_from_within d nodes k some c h =
     active_first : (d : ℕ) → 1 ≤ d → nat_lt 0 d ≡ true
     active_first d h = grind (arith, nat_tests)
 
-pub box_from_within : (r : LocalRule) (k : ℕ) → 1 ≤ r.dimension → (c : Cell) → (is_of r c && is_within k c) ≡ true → is_box_cell r k c ≡ true
+box_from_within : (r : LocalRule) (k : ℕ) → 1 ≤ r.dimension → (c : Cell) → (is_of r c && is_within k c) ≡ true → is_box_cell r k c ≡ true
 box_from_within r k some c h = cell_from_within r.dimension r.nodes k some c h
 
 pub within_from_cell : (d nodes k : ℕ) (c : Cell) → is_cell_in_box d nodes k c ≡ true → is_within k c ≡ true
@@ -127,3 +128,23 @@ least_is_reach y least ok is = one_least (breaks y) least (reach y) is (reach_is
 
 pub least_is_none : (least : ℕ) → IsLeastRadius always least → least ≡ 0
 least_is_none least is = let down : least ≤ 0 = is.least 0 tt in omega (arith, down)
+
+-- the least radius of a goal is how far it reads
+pub least_is_goal_reach : (x : LocalRule) (g : GoalOf) (least : ℕ) → IsRule x → IsGoalFor x g → KeepsRule g → IsLeastRadius g least → least ≡ goal_reach g
+least_is_goal_reach x (breaks y) least rule goal kept is = least_is_reach y least kept is
+least_is_goal_reach x (differ s f g) least rule goal kept is =
+    let some : 1 ≤ s.dimension = subst (λ d. 1 ≤ d) (sym goal.dimension) rule.dimension.0 in
+    least_is_farthest s f g some least is
+least_is_goal_reach x always least rule goal kept is = least_is_none least is
+
+-- rules and automata read nothing farther away than the greatest reach
+pub goal_near : (x : LocalRule) (g : GoalOf) → IsGoalFor x g → KeepsRule g → goal_reach g ≤ most_reach
+goal_near x (breaks y) goal kept = reach_near y kept
+goal_near x (differ s f g) goal kept =
+    let left = automaton_reach_within f s.nodes most_reach (near_reads s f goal.left) in
+    let right = automaton_reach_within g s.nodes most_reach (near_reads s g goal.right) in
+    omega (arith, left, right)
+goal_near x always goal kept = omega arith
+
+pub least_near : (x : LocalRule) (g : GoalOf) (least : ℕ) → IsRule x → IsGoalFor x g → KeepsRule g → IsLeastRadius g least → least ≤ most_reach
+least_near x g least rule goal kept is = subst (λ n. n ≤ most_reach) (sym (least_is_goal_reach x g least rule goal kept is)) (goal_near x g goal kept)

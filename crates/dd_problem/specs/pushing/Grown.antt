@@ -9,17 +9,13 @@ use Rattle.dd_pattern.specs.Periods.{periods_volume}
 use Rattle.dd_pattern.specs.Tile.{Tile, tile, tile_index}
 use Rattle.dd_compile.specs.Wiring.{Wiring}
 use Rattle.dd_formula.specs.LocalRule.{LocalRule}
-use Rattle.dd_formula.specs.Reach.{reach, automaton_reach}
-use Rattle.dd_boxes.specs.Goals.{GoalOf, breaks, differ, always}
+use Rattle.dd_formula.specs.Reach.{reach}
+use Rattle.dd_boxes.specs.Goals.{GoalOf}
+use Rattle.dd_boxes.specs.Boxes.{goal_reach}
 use Rattle.dd_problem.specs.Layouts.{Layout, cells_in, torus, torus_cells}
 use Rattle.dd_problem.specs.pushing.Numbered.{numbered_wiring}
 
--- how far the goal reads, and how far the premise and the goal read
-abbrev pub goal_reach : GoalOf → ℕ
-goal_reach (breaks y) = reach y
-goal_reach (differ s f g) = max (automaton_reach s.nodes f) (automaton_reach s.nodes g)
-goal_reach always = 0
-
+-- how far the premise and the goal read
 abbrev pub question_reach : LocalRule → GoalOf → ℕ
 question_reach x g = max (reach x) (goal_reach g)
 

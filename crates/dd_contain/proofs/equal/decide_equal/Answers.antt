@@ -1,4 +1,5 @@
-use Rattle.std.proofs.Common.{rules}
+use Rattle.std.proofs.Common.{rules, arith}
+use Rattle.std.proofs.lemmas.Grind.{common_steps}
 use Rattle.dd_contain.specs.declared.decision.Decision.{Decision}
 use Rattle.dd_contain.specs.declared.decision.Decision.TheVariants.{Yes, No, Unknown}
 use Rattle.dd_formula.specs.LocalRule.{LocalRule}
@@ -36,3 +37,6 @@ returns-in_ok-second-in_default-clause-numbered g c =
     let both = both_numbered c.args.left.now c.args.right.now c.in_default.first c.in_ok-second-in_default.second
     first c.in_ok-second-in_default.ensures.numbered in
     search rules
+
+pub returns-in-No-clause-decided : goal.returns-in-No-clause-decided
+returns-in-No-clause-decided c = grind (arith, common_steps)

@@ -3,10 +3,11 @@ use Rattle.std.specs.Prelude.{max, IfOk}
 use Rattle.std.proofs.lemmas.Result.{IfOk-weaker}
 use Rattle.dd_boxes.specs.Boxes.{Suffices}
 use Rattle.dd_boxes.specs.Views.{goal_of}
+use Rattle.dd_boxes.specs.lemmas.ReachLaws.{least_near}
 use Rattle.dd_contain.specs.Decided.{IsDecidedBy}
 use Rattle.dd_contain.specs.searching.Listed.{AsksWithin}
 use Rattle.dd_contain.specs.Questions.{AsksPeriods, RefutesByNumbers, ShowsAt, Displays, IsDecided, HasNumbers}
-use Rattle.dd_contain.proofs.LimitLaws.{least_small, radii_asked, periods_asked, decided, numbered}
+use Rattle.dd_contain.proofs.LimitLaws.{radii_asked, periods_asked, decided, numbered}
 use Rattle.dd_contain.proofs.questions.decide.Goals as goal
 
 pub least_radius-requires : goal.least_radius-requires
@@ -15,7 +16,7 @@ least_radius-requires e c = (c.args.premise.now, c.requires.goal)
 pub search-requires-clause-radius : goal.search-requires-clause-radius
 search-requires-clause-radius e c =
     let top : c.max-most.result ≡ max c.args.limits.now.radius c.in_ok-least.least = search rules in
-    let small = least_small c.args.premise.now (goal_of c.args.premise.now c.args.goal.now) c.in_ok-least.least c.symbols-symbols.ensures.kept (c.keeps_rule.ensures c.args.premise.now) c.requires.goal (c.in_ok-least.ensures c.args.premise.now c.symbols-symbols.ensures.kept c.requires.goal) in
+    let small = least_near c.args.premise.now (goal_of c.args.premise.now c.args.goal.now) c.in_ok-least.least c.symbols-symbols.ensures.kept c.requires.goal (c.keeps_rule.ensures c.args.premise.now) (c.in_ok-least.ensures c.args.premise.now c.symbols-symbols.ensures.kept c.requires.goal) in
     omega (arith, top, small, c.requires.radius)
 
 pub search-requires-clause-some : goal.search-requires-clause-some

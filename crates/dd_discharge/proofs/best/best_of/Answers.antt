@@ -1,4 +1,5 @@
 use Rattle.std.proofs.Common.{◌≡◌, ap, subst, sym, ◌∙◌, IfOk, ℕ, List, length, arith}
+use Rattle.std.proofs.lemmas.Grind.{common_steps}
 use Rattle.std.proofs.lemmas.List.{length-map}
 use Rattle.std.proofs.lemmas.Result.{IfOk-weaker}
 use Rattle.dd_fraction.specs.Exact.{Exact, IsLowest}
@@ -34,3 +35,12 @@ bound_of-requires-clause-some_dual c =
     let taken : length c.as_slice-2.result.now ≡ length s.duals = ap length c.as_slice-2.ensures in
     let some = c.requires.some in
     omega (arith, taken, each, some)
+
+pub returns-clause-err : goal.returns-clause-err
+returns-clause-err c = grind (arith, common_steps)
+
+pub returns-clause-ends : goal.returns-clause-ends
+returns-clause-ends c = grind (arith, common_steps)
+
+pub bound_of-requires-clause-sign : goal.bound_of-requires-clause-sign
+bound_of-requires-clause-sign c = grind (arith, common_steps)

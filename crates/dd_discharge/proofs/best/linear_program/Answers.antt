@@ -1,4 +1,5 @@
 use Rattle.std.proofs.Common.{◌≡◌, ◌<◌, ◌≤◌, ap, subst, sym, ◌∙◌, ◌++◌, ◌∷◌, [], List, arith, rules, ℕ, ℤ, pos, get_or, map, length, to_z}
+use Rattle.std.proofs.lemmas.Grind.{common_steps, elements}
 use Rattle.std.specs.Int.{w64}
 use Rattle.dd_simplex.specs.Programs.{cap_row}
 use Rattle.dd_simplex.specs.Programs as simplex
@@ -61,3 +62,9 @@ loop-i-preserved c =
           ∙ next_program rows c.args.columns c.loop-i.i r c.loop-i.program cs (to_z w64 r.bound) c.loop-i-test.true c.index-rows-i.is c.loop-i.invariant.program
           (c.in_ok-coefficients.ensures ∙ ap (map whole_of) c.as_slice.ensures) (to_z_pos w64 r.bound (omega (arith, small, same))));
     }
+
+pub returns : goal.returns
+returns c = grind (arith, common_steps)
+
+pub row-requires-clause-bound : goal.row-requires-clause-bound
+row-requires-clause-bound c = grind (arith, elements)

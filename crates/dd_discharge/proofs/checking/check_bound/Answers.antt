@@ -1,4 +1,5 @@
-use Rattle.std.proofs.Common.{◌≡◌, ◌+◌, ◌*◌, ℕ, List, length, ap, sym, subst, ◌∙◌}
+use Rattle.std.proofs.Common.{◌≡◌, ◌+◌, ◌*◌, ℕ, List, length, ap, sym, subst, ◌∙◌, arith}
+use Rattle.std.proofs.lemmas.Grind.{common_steps}
 use Rattle.dd_rows.specs.declared.rows.Row.{Row}
 use Rattle.dd_rows.specs.declared.rows.Rows.{Rows}
 use Rattle.dd_discharge.specs.declared.bound.Bound.{Bound}
@@ -32,3 +33,6 @@ returns-clause-no c = λ f h.
     c.is_certified.ensures.no f
     (subst (λ (n : ℕ). IsCertifiedBound c.as_slice.result.now (1 + length vs * n) b) (sym c.len.ensures)
     (subst (λ (rs : List Row). IsCertifiedBound rs (1 + length vs * length p.patterns) b) (sym c.as_slice.ensures) there))
+
+pub returns-clause-yes : goal.returns-clause-yes
+returns-clause-yes c = grind (arith, common_steps)

@@ -1,4 +1,5 @@
 use Rattle.std.proofs.Common.{◌≡◌, ◌≤◌, ◌<◌, ◌^◌, ◌++◌, ap, subst, sym, ◌∙◌, arith, rules, ℕ, List, ℤ, pos, map, drop, Some}
+use Rattle.std.proofs.lemmas.Grind.{common_steps}
 use Rattle.std.specs.Int.{w128}
 use mir.Val.{SFits}
 use Rattle.std.specs.Int.RustNames.{unsigned_abs}
@@ -90,3 +91,6 @@ returns-clause-small c =
     (c.in_ok-amounts.ensures.value ∙ ap (map (numerator_over n)) (tail_is xs))
     (subst (All (λ a. numerator_over n a ≤ most_printed)) (tail_is xs) c.in_ok-amounts.ensures.printed)
     c.in_ok-duals.ensures.value c.in_ok-duals.ensures.printed c.requires.some_dual
+
+pub returns-in_default-numerator_over-clause-err : goal.returns-in_default-numerator_over-clause-err
+returns-in_default-numerator_over-clause-err c = grind (arith, common_steps)

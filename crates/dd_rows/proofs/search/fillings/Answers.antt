@@ -1,4 +1,5 @@
 use Rattle.std.proofs.Common.{◌≡◌, ◌<◌, ◌+◌, ℕ, List, length, sym, ◌∙◌, ap, subst, take, map, get_or, arith}
+use Rattle.std.proofs.lemmas.Grind.{common_steps}
 use Rattle.std.proofs.lemmas.List.{get_or_default}
 use Rattle.std.specs.Bool.{nat_eq}
 use Rattle.std.proofs.lemmas.List.FromFn.{get_or-map-range_with_len, length-map-range_with_len}
@@ -81,3 +82,9 @@ loop-k-preserved c =
     let sizes = ap length whole in
     let few = c.in_ok-level.ensures.few in
     (whole, few_next x cells k c.loop-k.invariant.1 (omega (arith, sizes, few)))
+
+pub returns-clause-ok : goal.returns-clause-ok
+returns-clause-ok c = grind (arith, common_steps)
+
+pub next_level-requires : goal.next_level-requires
+next_level-requires c = grind (arith, common_steps)

@@ -1,3 +1,5 @@
+use Rattle.std.proofs.Common.{arith}
+use Rattle.std.proofs.lemmas.Grind.{common_steps}
 use Rattle.dd_values.specs.Variables.{true_variables}
 use Rattle.dd_boxes.specs.Views.{goal_of}
 use Rattle.dd_contain.proofs.ShownLaws.{one_each, read_shows}
@@ -16,3 +18,9 @@ returns-in-Found-clause-found g c =
     let shown = read_shows c.args.self.now.premise.now (goal_of c.args.self.now.premise.now c.args.self.now.goal.now) c.args.at.now c.in_ok-cnf.cnf.clauses c.in_ok-cnf.ensures.shows
     (true_variables c.in-Found.found) answer.1 c.in_ok-periodic-in-Found.periodic c.symbols-symbols.ensures.kept.tile read.periods read.fits read.only in
     ((c.in_ok-periodic-in-Found.periodic, shown), shown)
+
+pub read_torus-requires-clause-periods : goal.read_torus-requires-clause-periods
+read_torus-requires-clause-periods c = grind (arith, common_steps)
+
+pub returns-clause-found : goal.returns-clause-found
+returns-clause-found c = grind (arith, common_steps)

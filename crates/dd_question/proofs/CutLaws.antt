@@ -1,0 +1,23 @@
+-- Counts that are cut off pass their limit exactly where the whole counts do.
+use Rattle.std.proofs.Common.{◌≡◌, ℕ, max, ap, ◌∙◌, arith}
+use Rattle.std.specs.Prelude.{nat_lt}
+use Rattle.std.proofs.lemmas.Bool.Decides.{nat_tests}
+use Rattle.dd_values.specs.declared.limits.Limits.{Limits}
+use Rattle.dd_formula.specs.LocalRule.{LocalRule}
+use Rattle.dd_formula.specs.Counts.{cut, largest_clauses}
+use Rattle.dd_boxes.specs.Goals.{GoalOf}
+use Rattle.dd_boxes.specs.Counts.{goal_clauses, most_clauses}
+use Rattle.dd_boxes.specs.Boxes.{goal_reach}
+use Rattle.dd_question.specs.Excesses.{clauses_of, is_long}
+
+passes_alike : (l n : ℕ) → nat_lt l (cut l n) ≡ nat_lt l n
+passes_alike l n = grind (arith, nat_tests)
+
+pub passes : (l n count : ℕ) → count ≡ cut l n → nat_lt l count ≡ nat_lt l n
+passes l n count is = ap (nat_lt l) is ∙ passes_alike l n
+
+pub long_is : (l : Limits) (x : LocalRule) (g : GoalOf) (radius far count : ℕ) → radius ≡ max l.radius far → far ≡ goal_reach g →
+    count ≡ cut most_clauses (largest_clauses x (goal_clauses g) radius l.period) → nat_lt most_clauses count ≡ is_long l x g
+long_is l x g radius far count greater reaches is =
+    let most : radius ≡ max l.radius (goal_reach g) = greater ∙ ap (max l.radius) reaches in
+    passes most_clauses (clauses_of l x g) count (is ∙ ap (λ e. cut most_clauses (largest_clauses x (goal_clauses g) e l.period)) most)

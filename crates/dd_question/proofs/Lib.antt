@@ -1,0 +1,3 @@
+pub mod CutLaws
+pub mod LimitLaws
+pub mod SoundLaws

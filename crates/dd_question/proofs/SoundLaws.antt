@@ -1,0 +1,65 @@
+-- A question that is well formed and passes no limit is sound.
+use Rattle.std.proofs.Common.{◌≡◌, ℕ, ◌≤◌, Bool, true, false, List, max, refl, ap, sym, subst, ◌∙◌, None}
+use Rattle.std.specs.Prelude.{◌||◌, nat_lt}
+use Rattle.std.proofs.lemmas.Bool.{or_parts, ltb-false, false≢true}
+use Rattle.dd_values.specs.declared.limits.Limits.{Limits}
+use Rattle.dd_formula.specs.LocalRule.{LocalRule, IsRule}
+use Rattle.dd_formula.specs.Counts.{largest_clauses}
+use Rattle.dd_counts.specs.Rules.{pattern_count, states, longer_states, most_patterns, most_states, most_longer_states}
+use Rattle.dd_transfer.specs.Transfers.{IsFew, strip_for}
+use Rattle.dd_boxes.specs.Goals.{GoalOf, breaks, AreAlike, IsGoalFor, KeepsRule}
+use Rattle.dd_boxes.specs.Counts.{goal_clauses, most_clauses}
+use Rattle.dd_boxes.specs.lemmas.ReachLaws.{least_is_goal_reach}
+use Rattle.dd_question.specs.declared.excess.Excess.{Excess}
+use Rattle.dd_question.specs.declared.excess.Excess.TheVariants as excess
+use Rattle.dd_question.specs.Questions.{Asked, membership, box, equality, listing, density, discharge}
+use Rattle.dd_question.specs.Formed.{IsFormed}
+use Rattle.dd_question.specs.Excesses.{clauses_of, is_long, has_many_patterns, has_many_states, strip_volume, passed, excess_of}
+use Rattle.dd_question.specs.Sound.{IsAskable, HasFewPatterns, IsSoundAsked}
+use Rattle.dd_question.proofs.LimitLaws.{some_at}
+
+within : (b : Bool) (e : Excess) → passed b e ≡ None → b ≡ false
+within true e is = absurd (cc is)
+within false e is = refl
+
+askable : (l : Limits) (x : LocalRule) (g : GoalOf) → IsRule x → IsGoalFor x g → KeepsRule g → is_long l x g ≡ false → IsAskable l x g
+askable l x g ok goal kept few = record {
+  goal = goal;
+  rule = kept;
+  small = λ least is.
+      (let le : clauses_of l x g ≤ most_clauses = ltb-false most_clauses (clauses_of l x g) few in
+      let same = ap (λ r. largest_clauses x (goal_clauses g) (max l.radius r) l.period) (least_is_goal_reach x g least ok goal kept is) in
+      subst (λ n. n ≤ most_clauses) (sym same) le);
+}
+
+turned_round : (x y : LocalRule) → AreAlike x y → AreAlike y x
+turned_round x y same = record { dimension = sym same.dimension; nodes = sym same.nodes; symbols = sym same.symbols }
+
+few_patterns : (x : LocalRule) → has_many_patterns x ≡ false → HasFewPatterns x
+few_patterns x few a below = cases (nat_lt most_patterns (pattern_count x a)) refl where
+  cases : (b : Bool) → nat_lt most_patterns (pattern_count x a) ≡ b → pattern_count x a ≤ most_patterns
+  cases true many = absurd (false≢true (sym few ∙ some_at (λ n. nat_lt most_patterns (pattern_count x n)) x.nodes a below many))
+  cases false none = ltb-false most_patterns (pattern_count x a) none
+
+few_states : (x : LocalRule) (strip : List ℕ) → has_many_states x (strip_volume strip) ≡ false → IsFew x (strip_for x strip)
+few_states x strip few =
+    let volume = strip_volume strip in
+    let both = or_parts (nat_lt most_states (states x volume)) (nat_lt most_longer_states (longer_states x volume)) few in
+    (ltb-false most_states (states x volume) both.0, ltb-false most_longer_states (longer_states x volume) both.1)
+
+pub sound : (l : Limits) (a : Asked) → IsFormed a → excess_of l a ≡ None → IsSoundAsked l a
+sound l (membership x t) formed none = formed
+sound l (box x g) formed none = (formed.0, askable l x g formed.0 formed.1 formed.2 (within (is_long l x g) excess.Clauses none))
+sound l (equality x y) formed none =
+    let both = or_parts (is_long l x (breaks y)) (is_long l y (breaks x)) (within (is_long l x (breaks y) || is_long l y (breaks x)) excess.Clauses none) in (
+      formed.0,
+      formed.1,
+      askable l x (breaks y) formed.0 formed.2 formed.1 both.0,
+      askable l y (breaks x) formed.1 (turned_round x y formed.2) formed.0 both.1,
+    )
+sound l (listing x) formed none = (formed, few_patterns x (within (has_many_patterns x) excess.Patterns none))
+sound l (density x strip ws) formed none = (
+  formed.0,
+  record { strip = formed.1; weights = formed.2; few = few_states x strip (within (has_many_states x (strip_volume strip)) excess.States none) },
+)
+sound l (discharge x radius margin vs ws) formed none = formed

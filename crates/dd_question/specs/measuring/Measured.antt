@@ -1,0 +1,14 @@
+-- Goals as they are measured: each count cut off past its limit.
+use Rattle.std.specs.Prelude.{◌≡◌, ◌≤◌}
+use Rattle.dd_formula.specs.LocalRule.{most_reach}
+use Rattle.dd_formula.specs.Counts.{cut}
+use Rattle.dd_boxes.specs.Goals.{GoalOf}
+use Rattle.dd_boxes.specs.Counts.{goal_clauses, most_clauses}
+use Rattle.dd_boxes.specs.Boxes.{goal_reach}
+use Rattle.dd_question.specs.declared.aims.Aim.{Aim}
+
+-- how far a goal reads, and how many clauses it has
+pub record IsMeasureOf (m : Aim) (g : GoalOf) : Type 0 where
+  pub radius : m.radius ≡ goal_reach g
+  pub near : m.radius ≤ most_reach
+  pub clauses : m.clauses ≡ cut most_clauses (goal_clauses g)

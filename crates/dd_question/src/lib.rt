@@ -1,0 +1,14 @@
+//! Questions about rules: whether a configuration lives in a subshift, whether a subshift holds a goal, whether two are equal, which
+//! patterns are forbidden, how light a strip can be and what a discharge can show; and which of them ask for too much work.
+#![tactic(auto)]
+
+mod aims;
+mod excess;
+mod laws;
+mod limits;
+mod question;
+
+pub use aims::MOST_CLAUSES;
+pub use excess::Excess;
+pub use laws::sound_questions;
+pub use question::Question;

@@ -1,0 +1,86 @@
+//! Which limit on its work a question passes.
+ghost use Rattle.std.specs.Prelude.{◌≡◌, ◌≤◌, IfOk, slice_index};
+ghost use Rattle.dd_boxes.specs.Goals.{IsGoalFor};
+ghost use Rattle.dd_boxes.specs.Views.{goal_of};
+ghost use Rattle.dd_values.specs.Ranges.{AreLimits};
+ghost use Rattle.dd_question.specs.Views.{asked_of};
+ghost use Rattle.dd_question.specs.Formed.{IsFormed};
+ghost use Rattle.dd_question.specs.Excesses.{is_long, has_many_patterns, has_many_states, strip_volume, excess_of};
+
+use crate::aims::{MOST_CLAUSES, aim_of};
+use crate::excess::Excess;
+use crate::question::Question;
+use dd_boxes::Goal;
+use dd_counts::{
+    MOST_LONGER_STATES, MOST_PATTERNS, MOST_STATES, longer_states, patterns, question_clauses,
+    states,
+};
+use dd_formula::Rule;
+use dd_values::Limits;
+use std::alloc::{AllocError, Global};
+
+/// Whether the question with this premise and this goal has too many clauses, in the largest box or torus that may be tried.
+fn is_long(alloc: Global, limits: &Limits, premise: &Rule, goal: &Goal) -> Result<bool, AllocError>
+    requires limits { AreLimits limits.now }
+    requires goal { IsGoalFor premise.now (goal_of premise.now goal.now) }
+    ensures { IfOk result (λ long. long ≡ is_long limits.now premise.now (goal_of premise.now goal.now)) }
+{
+    let aim = aim_of(alloc, premise, goal)?;
+    let radius = limits.radius.max(aim.radius);
+    let clauses = question_clauses(premise, aim.clauses, radius, limits.period, MOST_CLAUSES);
+    Ok(clauses > MOST_CLAUSES)
+}
+
+fn has_many_patterns(rule: &Rule) -> bool
+    ensures { result ≡ has_many_patterns rule.now }
+{
+    for node in 0..rule.nodes() {
+        if patterns(rule, node, MOST_PATTERNS) > MOST_PATTERNS {
+            return true;
+        }
+    }
+    false
+}
+
+fn has_many_states(rule: &Rule, volume: u32) -> bool
+    ensures { result ≡ has_many_states rule.now volume }
+{
+    states(rule, volume, MOST_STATES) > MOST_STATES
+        || longer_states(rule, volume, MOST_LONGER_STATES) > MOST_LONGER_STATES
+}
+
+fn strip_volume(strip: [u32; 2]) -> u32
+    requires second { slice_index strip 0 ≤ 64 }
+    requires third { slice_index strip 1 ≤ 64 }
+    ensures { result ≡ strip_volume strip }
+{
+    strip[0] * strip[1]
+}
+
+impl Question<'_> {
+    /// The limit that the work of the question passes, if any, where box questions are searched within these limits.
+    ///
+    /// # Errors
+    /// `AllocError` where memory was wanting.
+    pub fn excess(&self, alloc: Global, limits: &Limits) -> Result<Option<Excess>, AllocError>
+        requires limits { AreLimits limits.now }
+        requires formed { IsFormed (asked_of self.now) }
+        ensures { IfOk result (λ passed. passed ≡ excess_of limits.now (asked_of self.now)) }
+    {
+        match *self {
+            Question::Membership { .. } | Question::Discharge { .. } => Ok(None),
+            Question::Box { premise, goal } => {
+                Ok(is_long(alloc, limits, premise, &goal)?.then_some(Excess::Clauses))
+            }
+            Question::Equality { left, right } => {
+                let left_in_right = is_long(alloc, limits, left, &Goal::Breaks(right))?;
+                let right_in_left = is_long(alloc, limits, right, &Goal::Breaks(left))?;
+                Ok((left_in_right || right_in_left).then_some(Excess::Clauses))
+            }
+            Question::Listing { rule } => Ok(has_many_patterns(rule).then_some(Excess::Patterns)),
+            Question::Density { rule, strip, .. } => {
+                Ok(has_many_states(rule, strip_volume(strip)).then_some(Excess::States))
+            }
+        }
+    }
+}

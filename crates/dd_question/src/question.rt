@@ -1,0 +1,44 @@
+//! What is asked of rules.
+use dd_boxes::Goal;
+use dd_formula::Rule;
+use dd_lattice::Position;
+use dd_pattern::Periodic;
+
+/// What a query asks, by the rules and the configuration that it names, its strip or its vectors, and the script's weights.
+#[derive(Clone, Copy)]
+pub enum Question<'a> {
+    /// Does the configuration live in the rule's subshift?
+    Membership {
+        rule: &'a Rule,
+        configuration: &'a Periodic,
+    },
+    /// Can a configuration that obeys the premise have the goal?
+    Box {
+        premise: &'a Rule,
+        goal: Goal<'a>,
+    },
+    /// Can a configuration of either rule break the other?
+    Equality {
+        left: &'a Rule,
+        right: &'a Rule,
+    },
+    /// Which symbols of the cells that the rule reads at a node break it there?
+    Listing {
+        rule: &'a Rule,
+    },
+    /// What do the configurations with these periods in the axes after the first weigh at least a position?
+    Density {
+        rule: &'a Rule,
+        strip: [u32; 2],
+        weights: &'a [u32],
+    },
+    /// What can each position hold at least, once each has given along these vectors amounts that the pattern of this radius
+    /// around it determines, on a domain grown by this margin?
+    Discharge {
+        rule: &'a Rule,
+        radius: u32,
+        margin: u32,
+        vectors: &'a [Position],
+        weights: &'a [u32],
+    },
+}
