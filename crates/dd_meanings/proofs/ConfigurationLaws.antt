@@ -1,17 +1,18 @@
 -- Configurations without faults.
-use Rattle.std.proofs.Common.{◌≡◌, ◌<◌, ◌≤◌, ℕ, zero, suc, ◌+◌, ◌*◌, ◌%◌, Bool, true, false, List, [], ◌∷◌, length, map, Option, Some, None, refl, sym, ap, ◌∙◌, subst, arith}
-use Rattle.std.specs.Prelude.{◌||◌, ◌&&◌, ◌==◌, nat_lt, nat_le, not, unwrap_or, slice_get, slice_index, if◌then◌else◌}
+use Rattle.std.proofs.Common.{◌≡◌, ◌<◌, ◌≤◌, ℕ, zero, suc, ◌+◌, ◌*◌, ◌%◌, Bool, true, false, List, [], ◌∷◌, ◌++◌, length, map, Option, Some, None, refl, sym, ap, ◌∙◌, subst, arith}
+use Rattle.std.specs.Prelude.{◌||◌, ◌&&◌, ◌==◌, nat_lt, nat_le, not, unwrap_or, slice_index, if◌then◌else◌}
 use Rattle.std.specs.List.{All}
 use Rattle.std.specs.Option.{option_map_or}
-use Rattle.std.proofs.lemmas.Bool.{and_parts, or_parts, ltb-false, leb-true, eqb-true}
-use Rattle.std.proofs.lemmas.Bool.Decides.{nat_tests}
+use Rattle.std.proofs.lemmas.Bool.{and_parts, or_parts, ltb-false, leb-true, leb-false, eqb-true}
 use Rattle.std.proofs.lemmas.List.{length-map}
 use Rattle.std.proofs.lemmas.List.Elements.{All-cons, All-nil}
 use Rattle.dd_topology.specs.Sets.{allows}
+use Rattle.dd_written.specs.declared.lexeme.Word.{Word}
 use Rattle.dd_written.specs.declared.tree.Name.{Name}
 use Rattle.dd_written.specs.Values.{name_text}
 use Rattle.dd_commands.specs.declared.command.Entry.{Entry}
 use Rattle.dd_commands.specs.declared.command.Vector.{Vector}
+use Rattle.dd_commands.specs.declared.command.Command.TheVariants as command
 use Rattle.dd_pattern.specs.Periods.{ArePeriodsIn, periods_of as with_shear}
 use Rattle.dd_pattern.specs.Tile.{IsPeriodic, IsTile}
 use Rattle.dd_topology.specs.lemmas.NamingLaws.{slice_get-number_of}
@@ -21,14 +22,15 @@ use Rattle.dd_faults.specs.declared.fault.Fault.TheVariants as fault
 use Rattle.dd_faults.specs.declared.context.Context.{Context}
 use Rattle.dd_faults.specs.Order.{when, over}
 use Rattle.dd_faults.specs.Names.{place_of_name}
-use Rattle.dd_faults.specs.Commands.{dimension_of, has_entries, is_allowed, symbol_faults, product, period_at, shear_of, shear_fits, box_fits, box_faults}
+use Rattle.dd_faults.specs.Commands.{dimension_of, has_entries, is_allowed, symbol_faults, product, period_at, shear_of, shear_fits, box_fits, box_faults, faults_of}
 use Rattle.dd_faults.specs.Sound.{IsSound}
 use Rattle.dd_meanings.specs.Definitions.{symbol_of, configuration_periods, tile_of}
-use Rattle.dd_meanings.specs.Sound.{IsConfigurationOf}
+use Rattle.dd_meanings.specs.Sound.{IsNew, IsConfigurationOf}
 use Rattle.dd_meanings.specs.making.Parts.{HasShortPeriods, tile_with}
 use Rattle.dd_faults.specs.lemmas.Nothing.{both_nil, within}
 use Rattle.dd_faults.specs.lemmas.Periods.{entry_at, no_entry}
 use Rattle.dd_meanings.proofs.Nothing.{present}
+use Rattle.dd_meanings.proofs.NameLaws.{new_name}
 
 -- ---- symbols
 
@@ -136,9 +138,6 @@ record IsBox (x : Context) (periods : Vector) (shear : Option Vector) (count : �
   small : count ≤ 65536
   less : shear_of x.text shear < period_at x.text periods 0
 
-less_from : (a b : ℕ) → nat_le a b ≡ false → b < a
-less_from a b h = grind (arith, nat_tests, h)
-
 fits_or : (fits passed : Bool) → (if fits then over passed limit.Periods else fault.Dimension ∷ []) ≡ [] → (fits ≡ true) × (passed ≡ false)
 fits_or true passed none = (refl, within passed limit.Periods none)
 fits_or false passed none = absurd cc
@@ -156,7 +155,7 @@ box_is x periods shear count none =
       sheared = two.1;
       size = eqb-true (product x.text periods.entries * length x.known.setting.nodes) count all.1;
       small = ltb-false 65536 count limits.0;
-      less = less_from (period_at x.text periods 0) (shear_of x.text shear) limits.1;
+      less = leb-false (period_at x.text periods 0) (shear_of x.text shear) limits.1;
     }
 
 no_shear : (bytes : List ℕ) (d : ℕ) (shear : Option Vector) → shear_fits d shear ≡ true → d < 2 → shear_of bytes shear ≡ 0
@@ -165,9 +164,15 @@ no_shear bytes d (Some v) fits low =
     let two : 2 ≤ d = leb-true 2 d (and_parts (nat_le 2 d) (has_entries 1 v) fits).0 in
     absurd (omega (arith, two, low))
 
-module _ (x : Context) (periods : Vector) (shear : Option Vector) (ns : List Name) (sound : IsSound x.known) (some : 1 ≤ length ns) (none : box_faults x periods shear (length ns) ≡ []) where
+module _ (x : Context) (called : Word) (periods : Vector) (shear : Option Vector) (ns : List Name) (sound : IsSound x.known) (some : 1 ≤ length ns) (none : faults_of x (command.Configuration called periods shear ns) ≡ []) where
+  parts : IsNew x called × (symbol_faults x 0 ns ++ box_faults x periods shear (length ns) ≡ [])
+  parts = new_name x called (symbol_faults x 0 ns ++ box_faults x periods shear (length ns)) none
+
+  named_and_boxed : (symbol_faults x 0 ns ≡ []) × (box_faults x periods shear (length ns) ≡ [])
+  named_and_boxed = both_nil (symbol_faults x 0 ns) (box_faults x periods shear (length ns)) parts.1
+
   box : IsBox x periods shear (length ns)
-  box = box_is x periods shear (length ns) none
+  box = box_is x periods shear (length ns) named_and_boxed.1
 
   few : length periods.entries ≤ 3
   few = omega (arith, box.entries, sound.grid.dimension.1)
@@ -217,15 +222,18 @@ module _ (x : Context) (periods : Vector) (shear : Option Vector) (ns : List Nam
       subst (λ (ss : List ℕ). IsPeriodic (tile_with x periods shear ss)) (sym made)
       (record { tile = is_tile; small = (let count : length (map (symbol_of x) ns) ≡ length ns = length-map ns (symbol_of x) in omega (arith, count, box.small)) })
 
-  pub is_configuration : symbol_faults x 0 ns ≡ [] → IsConfigurationOf x.known (tile_of x periods shear ns)
-  is_configuration named = record {
-    tile = is_tile;
-    dimension = refl;
-    nodes = refl;
-    symbols = symbols_below x 0 ns named;
-    allowed = λ i below.
-        let at = symbol_allowed x 0 ns i named below in
-        let zero_more : 0 + i ≡ i = omega arith in
-        ap (λ n. allows x.known.setting.sets (i % n) (slice_index (map (symbol_of x) ns) i)) sound.nodes
-        ∙ (ap (λ j. allows x.known.setting.sets (node_at x j) (slice_index (map (symbol_of x) ns) i)) (sym zero_more) ∙ at);
-  }
+  pub is_configuration : IsNew x called × IsConfigurationOf x.known (tile_of x periods shear ns)
+  is_configuration = (
+    parts.0,
+    record {
+      tile = is_tile;
+      dimension = refl;
+      nodes = refl;
+      symbols = symbols_below x 0 ns named_and_boxed.0;
+      allowed = λ i below.
+          let at = symbol_allowed x 0 ns i named_and_boxed.0 below in
+          let zero_more : 0 + i ≡ i = omega arith in
+          ap (λ n. allows x.known.setting.sets (i % n) (slice_index (map (symbol_of x) ns) i)) sound.nodes
+          ∙ (ap (λ j. allows x.known.setting.sets (node_at x j) (slice_index (map (symbol_of x) ns) i)) (sym zero_more) ∙ at);
+    },
+  )

@@ -1,29 +1,38 @@
 -- Cases without faults, and automata by their numbers.
-use Rattle.std.proofs.Common.{◌≡◌, ◌<◌, ◌≤◌, ℕ, List, [], ◌∷◌, length, map, get_or, refl, sym, ap, ◌∙◌, subst}
+use Rattle.std.proofs.Common.{◌≡◌, ◌<◌, ◌≤◌, ℕ, List, [], ◌∷◌, ◌++◌, length, map, slice_index_or, sym, ap, ◌∙◌, subst, arith}
 use Rattle.std.specs.Prelude.{unwrap_or, Option}
 use Rattle.std.specs.List.{All, flat_map}
-use Rattle.std.proofs.lemmas.List.Elements.{All-cons, All-nil, All-head, All-tail}
-use Rattle.std.proofs.lemmas.Option.{slice_get_read}
+use Rattle.std.proofs.lemmas.List.Elements.{All-cons, All-nil, All-head, All-tail, All-get_or}
+use Rattle.std.proofs.lemmas.Option.{slice_get-get_or}
+use Rattle.std.proofs.lemmas.Simd.{map-map}
 use Rattle.dd_written.specs.Formulas.{tree_depth}
+use Rattle.dd_written.specs.declared.lexeme.Word.{Word}
 use Rattle.dd_written.specs.declared.tree.Name.{Name}
+use Rattle.dd_written.specs.declared.tree.Name.TheVariants as name
 use Rattle.dd_commands.specs.declared.command.Case.{Case}
+use Rattle.dd_commands.specs.declared.command.Command.TheVariants as command
+use Rattle.dd_faults.specs.declared.fault.Fault.{Fault}
+use Rattle.dd_faults.specs.declared.fault.Refusal.{Refusal}
 use Rattle.dd_faults.specs.declared.context.Context.{Context}
-use Rattle.dd_faults.specs.Names.{missing}
+use Rattle.dd_faults.specs.Names.{missing, number_in}
 use Rattle.dd_faults.specs.Formulas.{formula_faults}
-use Rattle.dd_faults.specs.Commands.{case_faults}
+use Rattle.dd_faults.specs.Commands.{case_faults, faults_of}
 use Rattle.dd_faults.specs.Order.{first_fault, Refuses}
 use Rattle.dd_faults.specs.Sound.{IsSound}
 use Rattle.dd_formula.specs.LocalRule.{LocalRule}
 use Rattle.dd_formula.specs.Automata.{CommonNumbers, IsAutomaton, counted}
-use Rattle.dd_formula.specs.Compositions.{OverBoth, IsCompositionFault, composition}
+use Rattle.dd_formula.specs.Compositions.{AreAutomata, OverBoth, IsCompositionFault, composition}
 use Rattle.dd_formula.specs.declared.fault.RuleFault.{RuleFault}
 use Rattle.dd_formula.specs.declared.automaton.Automaton.{Automaton}
 use Rattle.dd_formula.specs.declared.automaton.Automaton.TheVariants as automaton
 use Rattle.dd_meanings.specs.declared.cases.CaseOf.{CaseOf}
-use Rattle.dd_meanings.specs.Definitions.{case_of, symbol_of, automaton_of, automaton_at, count_faults}
+use Rattle.dd_meanings.specs.declared.meaning.Meaning.TheVariants as meant
+use Rattle.dd_meanings.specs.Made.{script_numbers}
+use Rattle.dd_meanings.specs.Sound.{IsNew}
+use Rattle.dd_meanings.specs.Definitions.{case_of, symbol_of, automaton_of, automaton_at, automaton_named, composition_of, automaton_faults}
 use Rattle.dd_meanings.specs.making.Parts.{refusal_of, meant_case, made_case, given_by, IsCaseOf}
 use Rattle.dd_faults.specs.lemmas.Nothing.{both_nil}
-use Rattle.dd_meanings.proofs.NameLaws.{number_below}
+use Rattle.dd_meanings.proofs.NameLaws.{number_below, new_name}
 use Rattle.dd_meanings.proofs.WellFormed.{is_formula}
 use Rattle.dd_meanings.proofs.SizeLaws.{fault_refuses, formed_passes}
 
@@ -35,68 +44,73 @@ case_is x c sound none shallow =
 abbrev IsShallow : Case → Type 0
 IsShallow c = tree_depth c.condition ≤ 64
 
-pub cases_are : (x : Context) (cs : List Case) → IsSound x.known → flat_map (case_faults x) cs ≡ [] → All IsShallow cs → All (IsCaseOf x.known) (map (meant_case x) cs)
-cases_are x [] sound none shallow = All-nil (IsCaseOf x.known)
-cases_are x (c ∷ cs) sound none shallow =
+each_is : (x : Context) (cs : List Case) → IsSound x.known → flat_map (case_faults x) cs ≡ [] → All IsShallow cs → All (IsCaseOf x.known) (map (meant_case x) cs)
+each_is x [] sound none shallow = All-nil (IsCaseOf x.known)
+each_is x (c ∷ cs) sound none shallow =
     let both = both_nil (case_faults x c) (flat_map (case_faults x) cs) none in
     All-cons (IsCaseOf x.known) (meant_case x c) (map (meant_case x) cs) (case_is x c sound both.0 (All-head IsShallow c cs shallow))
-    (cases_are x cs sound both.1 (All-tail IsShallow c cs shallow))
+    (each_is x cs sound both.1 (All-tail IsShallow c cs shallow))
+
+pub cases_are : (x : Context) (cs : List Case) (called : Word) (default : Name) → IsSound x.known → faults_of x (command.Automaton called cs default) ≡ [] → All IsShallow cs → All (IsCaseOf x.known) (map (meant_case x) cs)
+cases_are x cs called default sound none shallow =
+    let unknown = missing x.text x.known.setting.symbols default in
+    each_is x cs sound (both_nil (flat_map (case_faults x) cs) unknown (new_name x called (flat_map (case_faults x) cs ++ unknown) none).1).0 shallow
 
 -- with their rules they are the cases that are meant
-cases_meant : (x : Context) (cs : List Case) → map (made_case x.known) (map (meant_case x) cs) ≡ map (case_of x) cs
-cases_meant x [] = refl
-cases_meant x (c ∷ cs) = ap (λ (rest : List (LocalRule × ℕ)). case_of x c ∷ rest) (cases_meant x cs)
-
-automaton_meant : (x : Context) (cs : List Case) (n : ℕ) → given_by x.known (map (meant_case x) cs) n ≡ automaton.Given (record { cases = map (case_of x) cs; otherwise = n })
-automaton_meant x cs n = ap (λ (made : List (LocalRule × ℕ)). automaton.Given (record { cases = made; otherwise = n })) (cases_meant x cs)
-
-pub automaton_is : (x : Context) (cs : List Case) (default : Name) (meant : List CaseOf) (n : ℕ) → meant ≡ map (meant_case x) cs → n ≡ symbol_of x default →
-    given_by x.known meant n ≡ automaton_of x cs default
-automaton_is x cs default meant n cases symbol =
+pub automaton_is : (x : Context) (cs : List Case) (default : Name) (made : List CaseOf) (n : ℕ) → made ≡ map (meant_case x) cs → n ≡ symbol_of x default →
+    given_by x.known made n ≡ automaton_of x cs default
+automaton_is x cs default made n cases symbol =
     ap (λ (l : List CaseOf). given_by x.known l n) cases
-    ∙ (automaton_meant x cs n ∙ ap (λ t. automaton.Given (record { cases = map (case_of x) cs; otherwise = t })) symbol)
+    ∙ (ap (λ (rules : List (LocalRule × ℕ)). automaton.Given (record { cases = rules; otherwise = n })) (map-map (made_case x.known) (meant_case x) cs) ∙ ap (λ t. automaton.Given (record { cases = map (case_of x) cs; otherwise = t })) symbol)
 
--- ---- automata by their numbers
+pub automaton_refuses : (x : Context) (cs : List Case) (default : Name) (made : List CaseOf) (n : ℕ) (e : Refusal) → made ≡ map (meant_case x) cs → n ≡ symbol_of x default →
+    Refuses e (first_fault (automaton_faults x (given_by x.known made n))) → Refuses e (first_fault (automaton_faults x (automaton_of x cs default)))
+automaton_refuses x cs default made n e cases symbol h = subst (λ (f : Automaton). Refuses e (first_fault (automaton_faults x f))) (automaton_is x cs default made n cases symbol) h
 
-pub at_number : (automata : List Automaton) (i : ℕ) (f : Automaton) → i < length automata → f ≡ get_or automata i f → automaton_at automata i ≡ f
-at_number automata i f below is =
-    ap (λ (o : Option Automaton). unwrap_or o (automaton.Given (record { cases = []; otherwise = 0 }))) (slice_get_read automata (length automata) i f refl below is)
+-- ---- automata by their names
 
-pub formed_at : (s : CommonNumbers) (automata : List Automaton) (i : ℕ) (f : Automaton) → All (IsAutomaton s) automata → i < length automata → f ≡ get_or automata i f → IsAutomaton s f
-formed_at s automata i f all below is = subst (IsAutomaton s) (sym is) (all i f below)
+pub at_number : (automata : List Automaton) (i : ℕ) (d : Automaton) → i < length automata → automaton_at automata i ≡ slice_index_or automata i d
+at_number automata i d below = ap (λ (o : Option Automaton). unwrap_or o (automaton.Given (record { cases = []; otherwise = 0 }))) (slice_get-get_or automata i d below)
 
--- one of the automata
-pub record StandsAt (automata : List Automaton) (i : ℕ) (f : Automaton) : Type 0 where
-  pub below : i < length automata
-  pub is : f ≡ get_or automata i f
+pub named_below : (x : Context) (automata : List Automaton) (w : Word) → length automata ≡ length x.known.automata → missing x.text x.known.automata (name.Word w) ≡ [] → number_in x.text x.known.automata (name.Word w) < length automata
+named_below x automata w named known = let below = number_below x.text x.known.automata (name.Word w) known in omega (arith, below, named)
 
--- a copy of it
-pub same_stands : (automata : List Automaton) (i j : ℕ) (f h : Automaton) → i ≡ j → j < length automata → f ≡ h → h ≡ get_or automata i h → StandsAt automata j f
-same_stands automata i j f h at below same is =
-    record { below = below; is = subst (λ n. f ≡ get_or automata n f) at (subst (λ y. y ≡ get_or automata i y) (sym same) is) }
+module _ (x : Context) (automata : List Automaton) (called outer inner : Word) (f g : Automaton) (named : length automata ≡ length x.known.automata) (formed : All (IsAutomaton (script_numbers x.known)) automata)
+    (none : faults_of x (command.Composition called outer inner) ≡ []) (first : f ≡ automaton_named x automata outer) (second : g ≡ automaton_named x automata inner) where
+  abbrev numbers : CommonNumbers
+  numbers = script_numbers x.known
 
-module _ (automata : List Automaton) (i j : ℕ) (f g : Automaton) (first : StandsAt automata i f) (second : StandsAt automata j g) where
+  abbrev unknown : Word → List Fault
+  unknown w = missing x.text x.known.automata (name.Word w)
+
   abbrev whole : Automaton
-  whole = automaton.Composed (automaton_at automata i) (automaton_at automata j)
+  whole = composition_of x automata outer inner
 
-  pub composed : automaton.Composed f g ≡ whole
-  composed =
-      sym (ap (λ h. automaton.Composed h (automaton_at automata j)) (at_number automata i f first.below first.is)
-      ∙ ap (automaton.Composed f) (at_number automata j g second.below second.is))
+  parts : IsNew x called × (unknown outer ++ unknown inner ≡ [])
+  parts = new_name x called (unknown outer ++ unknown inner) none
 
-  formed : OverBoth f g (λ s. IsAutomaton s (automaton.Composed f g)) → (s : CommonNumbers) → All (IsAutomaton s) automata → IsAutomaton s (automaton.Composed f g)
-  formed each s all = each s (formed_at s automata i f all first.below first.is) (formed_at s automata j g all second.below second.is)
+  both : (unknown outer ≡ []) × (unknown inner ≡ [])
+  both = both_nil (unknown outer) (unknown inner) parts.1
 
-  pub composition_passes : OverBoth f g (λ s. IsAutomaton s (automaton.Composed f g)) → (s : CommonNumbers) → All (IsAutomaton s) automata → count_faults s.nodes (counted whole) ≡ []
-  composition_passes each s all =
-      subst (λ (h : Automaton). count_faults s.nodes (counted h) ≡ []) composed (formed_passes s (automaton.Composed f g) (formed each s all))
+  is_formed : (w : Word) (h : Automaton) → unknown w ≡ [] → h ≡ automaton_named x automata w → IsAutomaton numbers h
+  is_formed w h known is =
+      let i = number_in x.text x.known.automata (name.Word w) in
+      let below = named_below x automata w named known in
+      subst (IsAutomaton numbers) (sym (is ∙ at_number automata i h below)) (All-get_or (IsAutomaton numbers) automata i h below formed)
 
-  pub composition_formed : OverBoth f g (λ s. IsAutomaton s (automaton.Composed f g)) → (s : CommonNumbers) → All (IsAutomaton s) automata → IsAutomaton s whole
-  composition_formed each s all = subst (IsAutomaton s) composed (formed each s all)
+  pub are_automata : AreAutomata f g
+  are_automata = record { setting = numbers; outer = is_formed outer f both.0 first; inner = is_formed inner g both.1 second }
 
-  pub composition_refuses : (e : RuleFault) → OverBoth f g (λ s. IsCompositionFault s.nodes (composition f g) e) → (s : CommonNumbers) → All (IsAutomaton s) automata →
-      Refuses (refusal_of e) (first_fault (count_faults s.nodes (counted whole)))
-  composition_refuses e each s all =
-      subst (λ (h : Automaton). Refuses (refusal_of e) (first_fault (count_faults s.nodes (counted h)))) composed
-      (fault_refuses s.nodes (counted (automaton.Composed f g)) e
-      (each s (formed_at s automata i f all first.below first.is) (formed_at s automata j g all second.below second.is)))
+  composed : automaton.Composed f g ≡ whole
+  composed = ap (λ h. automaton.Composed h g) first ∙ ap (automaton.Composed (automaton_named x automata outer)) second
+
+  pub composition_is : (h : Automaton) → h ≡ automaton.Composed f g → OverBoth f g (λ s. IsAutomaton s (automaton.Composed f g)) →
+      ((automaton_faults x whole ≡ []) × (meant.Automaton called h ≡ meant.Automaton called whole)) × (IsNew x called × IsAutomaton numbers whole)
+  composition_is h is each =
+      let formed : IsAutomaton numbers whole = subst (IsAutomaton numbers) composed (each numbers (is_formed outer f both.0 first) (is_formed inner g both.1 second)) in
+      ((formed_passes numbers whole formed, ap (meant.Automaton called) (is ∙ composed)), (parts.0, formed))
+
+  pub composition_refuses : (e : RuleFault) → OverBoth f g (λ s. IsCompositionFault s.nodes (composition f g) e) → Refuses (refusal_of e) (first_fault (automaton_faults x whole))
+  composition_refuses e each =
+      subst (λ (h : Automaton). Refuses (refusal_of e) (first_fault (automaton_faults x h))) composed
+      (fault_refuses numbers.nodes (counted (automaton.Composed f g)) e (each numbers (is_formed outer f both.0 first) (is_formed inner g both.1 second)))

@@ -25,26 +25,20 @@ use Rattle.dd_expansion.specs.Limits.{greatest, list_depth, depth, depth_step}
 use Rattle.dd_faults.specs.declared.context.Context.{Context}
 use Rattle.dd_faults.specs.Names.{number_in}
 use Rattle.dd_faults.specs.Formulas.{names_symbol}
-use Rattle.dd_meanings.specs.Formulas.{term_of, equal_of, not_equal_of, atom_of, ball_of, joined_of, quantified_of, formula_step, formula_of}
+use Rattle.dd_meanings.specs.Formulas.{term_of, with_side, atom_of, ball_of, joined_of, quantified_of, formula_step, formula_of}
 
 module _ (x : Context) where
-  equal_flat : (scope : List Word) (t : Term) (r : Comparand) → depth (equal_of x scope t r) ≡ 0
-  equal_flat scope t (side.Number n) = fold-roll-Formula ℕ depth_step (Formula-F.Symbol t (number_in x.text x.known.setting.symbols (name.Number n)))
-  equal_flat scope t (side.Term u) = elim (cases_Bool (names_symbol x.text scope u)) [
-    | inl e ↦ rw e (fold-roll-Formula ℕ depth_step (Formula-F.Symbol t (number_in x.text x.known.setting.symbols (name.Word u.first))))
-    | inr e ↦ rw e (fold-roll-Formula ℕ depth_step (Formula-F.Same t (term_of x scope u)))
-  ]
-
-  not_equal_flat : (scope : List Word) (t : Term) (r : Comparand) → depth (not_equal_of x scope t r) ≡ 0
-  not_equal_flat scope t (side.Number n) = fold-roll-Formula ℕ depth_step (Formula-F.NotSymbol t (number_in x.text x.known.setting.symbols (name.Number n)))
-  not_equal_flat scope t (side.Term u) = elim (cases_Bool (names_symbol x.text scope u)) [
-    | inl e ↦ rw e (fold-roll-Formula ℕ depth_step (Formula-F.NotSymbol t (number_in x.text x.known.setting.symbols (name.Word u.first))))
-    | inr e ↦ rw e (fold-roll-Formula ℕ depth_step (Formula-F.NotSame t (term_of x scope u)))
+  side_flat : (by : Term → ℕ → Formula) (by_both : Term → Term → Formula) → ((t : Term) (n : ℕ) → depth (by t n) ≡ 0) → ((t u : Term) → depth (by_both t u) ≡ 0) →
+      (scope : List Word) (t : Term) (r : Comparand) → depth (with_side by by_both x scope t r) ≡ 0
+  side_flat by by_both one two scope t (side.Number n) = one t (number_in x.text x.known.setting.symbols (name.Number n))
+  side_flat by by_both one two scope t (side.Term u) = elim (cases_Bool (names_symbol x.text scope u)) [
+    | inl e ↦ rw e (one t (number_in x.text x.known.setting.symbols (name.Word u.first)))
+    | inr e ↦ rw e (two t (term_of x scope u))
   ]
 
   atom_flat : (scope : List Word) (a : Atom) → depth (atom_of x scope a) ≡ 0
-  atom_flat scope (atom.Equal t r) = equal_flat scope (term_of x scope t) r
-  atom_flat scope (atom.NotEqual t r) = not_equal_flat scope (term_of x scope t) r
+  atom_flat scope (atom.Equal t r) = side_flat _ _ (λ t n. fold-roll-Formula ℕ depth_step (Formula-F.Symbol t n)) (λ t u. fold-roll-Formula ℕ depth_step (Formula-F.Same t u)) scope (term_of x scope t) r
+  atom_flat scope (atom.NotEqual t r) = side_flat _ _ (λ t n. fold-roll-Formula ℕ depth_step (Formula-F.NotSymbol t n)) (λ t u. fold-roll-Formula ℕ depth_step (Formula-F.NotSame t u)) scope (term_of x scope t) r
   atom_flat scope (atom.Adjacent t u) = fold-roll-Formula ℕ depth_step (Formula-F.Adjacent (term_of x scope t) (term_of x scope u))
   atom_flat scope (atom.Same t u) = fold-roll-Formula ℕ depth_step (Formula-F.Place (term_of x scope t) (term_of x scope u))
   atom_flat scope (atom.AtNode t n) = fold-roll-Formula ℕ depth_step (Formula-F.Node (term_of x scope t) _)

@@ -1,12 +1,13 @@
 -- Edges with numbers in place of names: they are edges of a topology, and no label has two of them from one node.
-use Rattle.std.proofs.Common.{◌≡◌, ℕ, ◌≤◌, ◌<◌, Bool, true, false, nat_lt, List, [], ◌∷◌, ◌++◌, length, map, take, slice_index_or, Some, Contains, refl, sym, ap, ◌∙◌, subst, inl, inr, arith, true≢false}
+use Rattle.std.proofs.Common.{◌≡◌, ℕ, ◌≤◌, ◌<◌, Bool, true, false, nat_lt, List, [], ◌∷◌, ◌++◌, length, map, take, slice_index_or, Some, Contains, refl, sym, ap, ◌∙◌, subst, inl, inr, true≢false}
 use Rattle.std.specs.Prelude.{if◌then◌else◌, bytes_eq, codes, ◌==◌}
 use Rattle.std.specs.List.{All, list_any, list_all, flat_map}
 use Rattle.std.specs.Option.{option_map}
-use Rattle.std.proofs.lemmas.Bool.{and_parts, and_from, eqb-true}
-use Rattle.std.proofs.lemmas.Bool.Decides.{nat_tests}
-use Rattle.std.proofs.lemmas.List.{length-map, take-map, get_or-map}
-use Rattle.std.proofs.lemmas.List.Elements.{All-head, All-tail, All-contains, All-contains_itself, All-take, All-get_or, Contains-append_left, Contains-push}
+use Rattle.std.proofs.lemmas.Bool.{and_parts, and_from, eqb-true, lt-ltb, ltb-false}
+use Rattle.std.proofs.lemmas.List.{length-map, take-map}
+use Rattle.std.proofs.lemmas.List.Folds.{list_all-map}
+use Rattle.std.proofs.lemmas.List.Sums.{list_all-from_AllPass}
+use Rattle.std.proofs.lemmas.List.Elements.{All-contains, All-contains_itself, All-take, All-get_or, Contains-append_left, Contains-push}
 use Rattle.std.proofs.lemmas.Option.{slice_get_within, slice_get-map, slice_get-get_or}
 use Rattle.std.proofs.lemmas.Slice.Eq.{bytes_eq-Decides}
 use Rattle.dd_written.specs.declared.tree.Name.TheVariants as name
@@ -16,7 +17,7 @@ use Rattle.dd_commands.specs.declared.command.Command.TheVariants as command
 use Rattle.dd_topology.specs.declared.edge.Edge.{Edge}
 use Rattle.dd_topology.specs.Topology.{starts_alike}
 use Rattle.dd_topology.specs.Grid.{is_edge, IsFirstTwice}
-use Rattle.dd_lattice.specs.lemmas.ListLaws.{Contains-first, Contains-later, Contains-nil, Contains-cons_cases, All-from_contains}
+use Rattle.dd_lattice.specs.lemmas.ListLaws.{Contains-nil, Contains-cons_cases, Contains-map, Contains-from_map, All-from_contains}
 use Rattle.dd_topology.specs.lemmas.ListLaws.{some_passes, passes_any}
 use Rattle.dd_faults.specs.declared.fault.Limit.TheVariants as limit
 use Rattle.dd_faults.specs.declared.context.Context.{Context}
@@ -27,7 +28,7 @@ use Rattle.dd_faults.specs.Commands.{dimension_of, unless, has_entries, is_far, 
 use Rattle.dd_meanings.specs.Topologies.{first_seen_names, label_text, labels_of, edge_of}
 use Rattle.dd_faults.specs.lemmas.Nothing.{both_nil, fits, within}
 use Rattle.dd_query.specs.lemmas.Offsets.{offset_is}
-use Rattle.dd_meanings.proofs.Nothing.{all_none}
+use Rattle.dd_meanings.proofs.Nothing.{all_where}
 use Rattle.dd_meanings.proofs.NameLaws.{contained, is_named, text_below, same_name, once}
 
 -- the label of an edge is among the labels, its nodes are among the nodes, and it leads no further than 4 along an axis of Z^d
@@ -37,22 +38,6 @@ pub record HasEnds (x : Context) (labels : List (List ℕ)) (e : Written) : Type
   pub to : Contains x.known.setting.nodes (name_text x.text e.to)
   pub offset : has_entries (dimension_of x.known) e.offset ≡ true
   pub close : is_far x.text e.offset ≡ false
-
--- ---- lists
-
-contains_map : {X Y : Type 0} (f : X → Y) (xs : List X) (x : X) → Contains xs x → Contains (map f xs) (f x)
-contains_map f xs x (k, below, is) = (k, rw (length-map xs f) below, get_or-map f xs k x (f x) below ∙ ap f is)
-
-from_map : {X Y : Type 0} (f : X → Y) (xs : List X) (y : Y) → Contains (map f xs) y → (x : X) × Contains xs x × (f x ≡ y)
-from_map f [] y h = absurd (Contains-nil y h)
-from_map f (x ∷ xs) y h = elim (Contains-cons_cases (f x) (map f xs) y h) [
-  | inl same ↦ (x, Contains-first x xs, same)
-  | inr other ↦ (let rest = from_map f xs y other in (rest.0, Contains-later x xs rest.0 rest.1, rest.2))
-]
-
-pass_all : {X Y : Type 0} (p : Y → Bool) (f : X → Y) (xs : List X) → All (λ x. p (f x) ≡ true) xs → list_all p (map f xs) ≡ true
-pass_all p f [] h = refl
-pass_all p f (x ∷ xs) h = and_from (p (f x)) (list_all p (map f xs)) (All-head (λ x. p (f x) ≡ true) x xs h) (pass_all p f xs (All-tail (λ x. p (f x) ≡ true) x xs h))
 
 -- ---- labels in the order in which they are first seen
 
@@ -81,7 +66,7 @@ seen_all seen (n ∷ ns) m h =
     ]
 
 labelled : (bytes : List ℕ) (es : List Written) (e : Written) → Contains es e → Contains (labels_of bytes es) (label_text bytes e)
-labelled bytes es e h = seen_all [] (map (label_text bytes) es) (label_text bytes e) (contains_map (label_text bytes) es e h)
+labelled bytes es e h = seen_all [] (map (label_text bytes) es) (label_text bytes e) (Contains-map (label_text bytes) es e h)
 
 -- ---- the edges of a command without a fault
 
@@ -113,15 +98,14 @@ module _ (x : Context) (es : List Written) (h : faults_of x (command.Edges es) �
 
   pub few_edges : length es ≤ 64
   few_edges =
-      let few : nat_lt 64 (length es) ≡ false = within (nat_lt 64 (length es)) limit.Edges (both_nil (twice_labelled x.text es) (over (nat_lt 64 (length es)) limit.Edges) parts.1).1 in
-      grind (arith, nat_tests, few)
+      ltb-false 64 (length es) (within (nat_lt 64 (length es)) limit.Edges (both_nil (twice_labelled x.text es) (over (nat_lt 64 (length es)) limit.Edges) parts.1).1)
 
   none_twice : first_repeat (edge_key x.text) twice_label [] es ≡ []
   none_twice = (both_nil (twice_labelled x.text es) (over (nat_lt 64 (length es)) limit.Edges) parts.1).0
 
   have_ends : All (HasEnds x (labels_of x.text es)) es
   have_ends = All-from_contains (HasEnds x (labels_of x.text es)) es (λ e there.
-      let one = one_none x e (All-contains (λ e. edge_faults x e ≡ []) es e (all_none (edge_faults x) es parts.0) there) in
+      let one = All-contains (IsFaultless x) es e (all_where (IsFaultless x) (edge_faults x) (one_none x) es parts.0) there in
       record {
         label = labelled x.text es e there;
         from = is_named x.text x.known.setting.nodes e.from one.from;
@@ -130,15 +114,12 @@ module _ (x : Context) (es : List Written) (h : faults_of x (command.Edges es) �
         close = one.close;
       })
 
-below_test : (a b : ℕ) → a < b → nat_lt a b ≡ true
-below_test a b h = grind (arith, nat_tests, h)
-
 one_edge : (x : Context) (labels : List (List ℕ)) (e : Written) → HasEnds x labels e → is_edge (dimension_of x.known) (length x.known.setting.nodes) (length labels) (edge_of x.text labels x.known.setting.nodes e) ≡ true
 one_edge x labels e h =
     let nodes = x.known.setting.nodes in
-    let label = below_test (number_in x.text labels (name.Word e.label)) (length labels) (text_below labels (label_text x.text e) h.label) in
-    let from = below_test (number_in x.text nodes e.from) (length nodes) (text_below nodes (name_text x.text e.from) h.from) in
-    let to = below_test (number_in x.text nodes e.to) (length nodes) (text_below nodes (name_text x.text e.to) h.to) in
+    let label = lt-ltb _ _ (text_below labels (label_text x.text e) h.label) in
+    let from = lt-ltb _ _ (text_below nodes (name_text x.text e.from) h.from) in
+    let to = lt-ltb _ _ (text_below nodes (name_text x.text e.to) h.to) in
     and_from _ _ (and_from _ _ (and_from _ _ label from) to) (offset_is x.text (dimension_of x.known) e.offset h.close h.offset)
 
 pub are_edges : (x : Context) (es : List Written) → faults_of x (command.Edges es) ≡ []
@@ -147,8 +128,9 @@ are_edges x es h =
     let d = dimension_of x.known in
     let labels : List (List ℕ) = labels_of x.text es in
     let nodes = x.known.setting.nodes in
-    pass_all (is_edge d (length nodes) (length labels)) (edge_of x.text labels nodes) es
-    (All-from_contains (λ e. is_edge d (length nodes) (length labels) (edge_of x.text labels nodes e) ≡ true) es (λ e there.
+    let fits : Written → Bool = λ e. is_edge d (length nodes) (length labels) (edge_of x.text labels nodes e) in
+    list_all-map (is_edge d (length nodes) (length labels)) (edge_of x.text labels nodes) es
+    ∙ list_all-from_AllPass fits es (All-from_contains (λ e. is_edge d (length nodes) (length labels) (edge_of x.text labels nodes e) ≡ true) es (λ e there.
     one_edge x labels e (All-contains (HasEnds x labels) es e (have_ends x es h) there)))
 
 -- edges with one label and one first node have one key
@@ -164,9 +146,6 @@ same_key x labels e f h g alike =
     ap (λ (t : List ℕ). t ++ codes "," ++ name_text bytes e.from) label ∙ ap (λ (t : List ℕ). label_text bytes f ++ codes "," ++ t) from in
     (bytes_eq-Decides (edge_key bytes e) (edge_key bytes f)).1 key
 
-some_injective : (a b : Edge) → Some a ≡ Some b → a ≡ b
-some_injective a b e = cc
-
 never_twice : (x : Context) (labels : List (List ℕ)) (es : List Written) (label : ℕ) → All (HasEnds x labels) es → first_repeat (edge_key x.text) twice_label [] es ≡ []
     → IsFirstTwice (map (edge_of x.text labels x.known.setting.nodes) es) label → ⊥
 never_twice x labels es label ends none twice =
@@ -174,12 +153,13 @@ never_twice x labels es label ends none twice =
     let i = twice.at in
     let found = some_passes (starts_alike twice.edge) (take i (map g es)) twice.repeats in
     let before : Contains (map g (take i es)) found.0 = subst (λ (xs : List Edge). Contains xs found.0) (take-map g i es) found.1 in
-    let other = from_map g (take i es) found.0 before in
+    let other = Contains-from_map g (take i es) found.0 before in
     let f = other.0 in
     let lt : i < length es = rw (length-map es g) at (slice_get_within (map g es) i twice.edge twice.stands) in
     let e : Written = slice_index_or es i f in
-    let here : twice.edge ≡ g e = some_injective twice.edge (g e) (sym twice.stands ∙ (slice_get-map g es i ∙ ap (option_map g) (slice_get-get_or es i f lt))) in
-    let alike : starts_alike (g e) (g f) ≡ true = ap (λ (y : Edge). starts_alike y (g f)) (sym here) ∙ (ap (λ (y : Edge). starts_alike twice.edge y) other.2 ∙ found.2) in
+    let stands : Some twice.edge ≡ Some (g e) = sym twice.stands ∙ (slice_get-map g es i ∙ ap (option_map g) (slice_get-get_or es i f lt)) in
+    let here : twice.edge ≡ g e = cc stands in
+    let alike : starts_alike (g e) (g f) ≡ true = ap (λ (y : Edge). starts_alike y (g f)) (sym here) ∙ (ap (λ (y : Edge). starts_alike twice.edge y) (sym other.2) ∙ found.2) in
     let there : Contains es f = All-contains (Contains es) (take i es) f (All-take (Contains es) i es (All-contains_itself es)) other.1 in
     let same = same_key x labels e f (All-get_or (HasEnds x labels) es i f lt ends) (All-contains (HasEnds x labels) es f ends there) alike in
     let no_other = once (edge_key x.text) twice_label [] es none i f lt in

@@ -1,10 +1,10 @@
 -- What the commands of the header have where they have no fault.
-use Rattle.std.proofs.Common.{◌≡◌, ℕ, ◌≤◌, ◌<◌, Bool, true, false, cond, eqb, nat_lt, List, [], ◌∷◌, ◌++◌, length, map, slice_index_or, refl, sym, ap, ◌∙◌, subst, arith}
+use Rattle.std.proofs.Common.{◌≡◌, ℕ, ◌≤◌, ◌<◌, Bool, true, false, cond, eqb, nat_lt, List, [], ◌++◌, length, map, slice_index_or, refl, sym, ap, ◌∙◌, subst, arith}
 use Rattle.std.specs.Prelude.{◌==◌, ◌||◌, ◌&&◌, nat_le, min}
 use Rattle.std.specs.List.{All, flat_map}
-use Rattle.std.proofs.lemmas.Bool.{and_parts, eqb-true, ltb-false, leb-true}
+use Rattle.std.proofs.lemmas.Bool.{and_parts, or_parts, eqb-true, ltb-false, leb-true}
 use Rattle.std.proofs.lemmas.List.{length-map}
-use Rattle.std.proofs.lemmas.List.Elements.{All-nil, All-cons, All-get_or}
+use Rattle.std.proofs.lemmas.List.Elements.{All-map, All-get_or}
 use Rattle.dd_written.specs.declared.lexeme.Number.{Number}
 use Rattle.dd_written.specs.declared.tree.Name.{Name}
 use Rattle.dd_written.specs.Values.{written_value, name_text}
@@ -18,11 +18,14 @@ use Rattle.dd_faults.specs.declared.context.Context.{Context}
 use Rattle.dd_faults.specs.Order.{over}
 use Rattle.dd_faults.specs.Names.{missing, number_in}
 use Rattle.dd_faults.specs.Repeats.{twice_named}
-use Rattle.dd_faults.specs.Commands.{unless, dimension_of, weight_faults, restricted_again, faults_of}
+use Rattle.dd_faults.specs.Commands.{unless, dimension_of, weight_faults, passes_limits, restricted_again, faults_of}
+use Rattle.dd_faults.specs.Sound.{IsSound}
+use Rattle.dd_meanings.specs.Meanings.{limits}
 use Rattle.dd_meanings.specs.Topologies.{plain_kind, default_grid}
 use Rattle.dd_meanings.specs.Definitions.{symbol_of}
 use Rattle.dd_meanings.specs.Sound.{IsGridOf, AreNames, IsSymbolRestriction, AreScriptWeights}
 use Rattle.dd_faults.specs.lemmas.Nothing.{both_nil, fits, within}
+use Rattle.dd_meanings.proofs.Nothing.{all_where}
 use Rattle.dd_meanings.proofs.NameLaws.{number_below}
 
 -- ---- the dimension
@@ -64,12 +67,15 @@ default_is x n d m g h is many at =
     let same : d ≡ written_value x.text n = uncut (written_value x.text n) d is (omega (arith, both.1)) in
     at ∙ (ap (λ k. default_grid k m) same ∙ ap (default_grid (written_value x.text n)) many)
 
-pub nodes_sound : (x : Context) (written : List Name) (names : List (List ℕ)) (d m : ℕ) (g : Grid) → names ≡ map (name_text x.text) written → d ≡ dimension_of x.known → m ≡ length names → g ≡ default_grid d m → IsGrid g
-    → IsGridOf (length (map (name_text x.text) written)) (default_grid (dimension_of x.known) (length written))
-nodes_sound x written names d m g named dims many at sound =
+pub nodes_are : (x : Context) (written : List Name) (names : List (List ℕ)) (d m : ℕ) (g : Grid) → names ≡ map (name_text x.text) written → d ≡ dimension_of x.known → m ≡ length names → g ≡ default_grid d m
+    → g ≡ default_grid (dimension_of x.known) (length written)
+nodes_are x written names d m g named dims many at =
     let count : m ≡ length written = many ∙ (ap length named ∙ length-map written (name_text x.text)) in
-    let is : g ≡ default_grid (dimension_of x.known) (length written) = at ∙ (ap (λ k. default_grid k m) dims ∙ ap (default_grid (dimension_of x.known)) count) in
-    record { grid = subst IsGrid is sound; nodes = default_nodes (dimension_of x.known) (length written) ∙ sym (length-map written (name_text x.text)) }
+    at ∙ (ap (λ k. default_grid k m) dims ∙ ap (default_grid (dimension_of x.known)) count)
+
+pub nodes_sound : (x : Context) (written : List Name) (g : Grid) → IsGrid g → g ≡ default_grid (dimension_of x.known) (length written) → IsGridOf (length (map (name_text x.text) written)) (default_grid (dimension_of x.known) (length written))
+nodes_sound x written g sound is =
+    subst (λ n. IsGridOf n (default_grid (dimension_of x.known) (length written))) (sym (length-map written (name_text x.text))) (default_sound (dimension_of x.known) (length written) g sound is)
 
 -- ---- names
 
@@ -96,16 +102,7 @@ names_are bytes most written names is some few distinct =
     let many : length (map (name_text bytes) written) ≡ length written = length-map written (name_text bytes) in
     record { some = omega (arith, many, some); few = omega (arith, many, few); distinct = subst AreDistinct is distinct }
 
--- ---- kinds
-
 -- ---- symbols of a node
-
-symbols_below : (x : Context) (ns : List Name) → flat_map (missing x.text x.known.setting.symbols) ns ≡ [] → All (λ s. s < length x.known.setting.symbols) (map (symbol_of x) ns)
-symbols_below x [] none = All-nil (λ s. s < length x.known.setting.symbols)
-symbols_below x (n ∷ ns) none =
-    let names = x.known.setting.symbols in
-    let both = both_nil (missing x.text names n) (flat_map (missing x.text names) ns) none in
-    All-cons (λ s. s < length names) (symbol_of x n) (map (symbol_of x) ns) (number_below x.text names n both.0) (symbols_below x ns both.1)
 
 pub restriction_is : (x : Context) (node : Name) (symbols : List Name) → 1 ≤ length symbols → faults_of x (command.Only node symbols) ≡ []
     → IsSymbolRestriction x.known (number_in x.text x.known.setting.nodes node) (map (symbol_of x) symbols)
@@ -118,34 +115,47 @@ restriction_is x node symbols some h =
     let second = both_nil again (none ++ twice) first.1 in
     let third = both_nil none twice second.1 in
     let many : length (map (symbol_of x) symbols) ≡ length symbols = length-map symbols (symbol_of x) in
-    record { exists = number_below x.text x.known.setting.nodes node first.0; some = omega (arith, many, some); below = symbols_below x symbols third.0 }
+    let IsBelow : ℕ → Type 0 = λ s. s < length x.known.setting.symbols in
+    let below = All-map IsBelow (symbol_of x) symbols (all_where (λ n. IsBelow (symbol_of x n)) (missing x.text x.known.setting.symbols) (number_below x.text x.known.setting.symbols) symbols third.0) in
+    record { exists = number_below x.text x.known.setting.nodes node first.0; some = omega (arith, many, some); below = below }
 
 -- ---- weights and limits
 
 weight_light : (x : Context) (n : Number) → weight_faults x n ≡ [] → written_value x.text n ≤ 1000
 weight_light x n h = ltb-false 1000 (written_value x.text n) (within (nat_lt 1000 (written_value x.text n)) limit.Weight h)
 
-all_light : (x : Context) (ns : List Number) → flat_map (weight_faults x) ns ≡ [] → All (λ n. written_value x.text n ≤ 1000) ns
-all_light x [] h = All-nil (λ n. written_value x.text n ≤ 1000)
-all_light x (n ∷ ns) h =
-    let both = both_nil (weight_faults x n) (flat_map (weight_faults x) ns) h in
-    All-cons (λ n. written_value x.text n ≤ 1000) n ns (weight_light x n both.0) (all_light x ns both.1)
-
-light_values : (x : Context) (ns : List Number) → flat_map (weight_faults x) ns ≡ [] → All (λ w. w ≤ 1000) (map (written_value x.text) ns)
-light_values x [] h = All-nil (λ w. w ≤ 1000)
-light_values x (n ∷ ns) h =
-    let both = both_nil (weight_faults x n) (flat_map (weight_faults x) ns) h in
-    All-cons (λ w. w ≤ 1000) (written_value x.text n) (map (written_value x.text) ns) (weight_light x n both.0) (light_values x ns both.1)
-
 module _ (x : Context) (ns : List Number) (h : faults_of x (command.Weights ns) ≡ []) where
   weight_parts : (unless (length ns == length x.known.setting.symbols) ≡ []) × (flat_map (weight_faults x) ns ≡ [])
   weight_parts = both_nil (unless (length ns == length x.known.setting.symbols)) (flat_map (weight_faults x) ns) h
 
   pub weights_light : All (λ n. written_value x.text n ≤ 1000) ns
-  weights_light = all_light x ns weight_parts.1
+  weights_light = all_where (λ n. written_value x.text n ≤ 1000) (weight_faults x) (weight_light x) ns weight_parts.1
 
   pub weights_are : AreScriptWeights x.known (map (written_value x.text) ns)
   weights_are = record {
     each = length-map ns (written_value x.text) ∙ eqb-true (length ns) (length x.known.setting.symbols) (fits (length ns == length x.known.setting.symbols) weight_parts.0);
-    light = light_values x ns weight_parts.1;
+    light = All-map (λ w. w ≤ 1000) (written_value x.text) ns weights_light;
   }
+
+pub limits_sound : (x : Context) (radius period pivots : Number) → IsSound x.known → faults_of x (command.Limits radius period pivots) ≡ [] →
+    IsSound (record (x.known) { limits = limits (written_value x.text radius) (written_value x.text period) (written_value x.text pivots) })
+limits_sound x radius period pivots s h =
+    let r = written_value x.text radius in
+    let p = written_value x.text period in
+    let v = written_value x.text pivots in
+    let all = or_parts (nat_lt 8 r || nat_lt p 1 || nat_lt 8 p) (nat_lt 100000 v) (within (passes_limits r p v) limit.Limits h) in
+    let three = or_parts (nat_lt 8 r || nat_lt p 1) (nat_lt 8 p) all.0 in
+    let two = or_parts (nat_lt 8 r) (nat_lt p 1) three.0 in
+    record {
+      grid = s.grid;
+      nodes = s.nodes;
+      few_nodes = s.few_nodes;
+      symbols = s.symbols;
+      sets = s.sets;
+      alphabet = s.alphabet;
+      weights = s.weights;
+      light = s.light;
+      radius = ltb-false 8 r two.0;
+      period = (ltb-false p 1 two.1, ltb-false 8 p three.1);
+      pivots = ltb-false 100000 v all.1;
+    }

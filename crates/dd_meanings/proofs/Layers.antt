@@ -1,8 +1,9 @@
 -- The meaning of a formula, from those of its parts; which parts have no fault, and how deep they are.
-use Rattle.std.proofs.Common.{◌≡◌, ℕ, ◌+◌, ◌≤◌, ◌<◌, suc, zero, List, [], ◌∷◌, ◌++◌, map, length, slice_index_or, refl, sym, ap, ◌∙◌, arith}
+use Rattle.std.proofs.Common.{◌≡◌, ℕ, ◌+◌, ◌≤◌, ◌<◌, suc, zero, List, [], ◌∷◌, ◌++◌, map, length, slice_index_or, sym, ap, ◌∙◌, arith}
 use Rattle.std.specs.Prelude.{max, nat_lt}
 use Rattle.std.specs.List.{flat_map}
 use Rattle.std.proofs.lemmas.List.{length-append}
+use Rattle.std.proofs.lemmas.Simd.{map-map}
 use Rattle.dd_written.specs.declared.lexeme.Word.{Word}
 use Rattle.dd_written.specs.declared.tree.Ball.{Ball}
 use Rattle.dd_written.specs.declared.tree.Quantifier.{Quantifier}
@@ -24,14 +25,10 @@ use Rattle.dd_meanings.specs.Formulas.{joined_of, formula_step, formula_of}
 use Rattle.dd_faults.specs.lemmas.Nothing.{both_nil}
 use Rattle.dd_faults.specs.lemmas.Layers.{faults_not, faults_group, faults_list, faults_quantified, faults_implies, faults_iff}
 
-map_map : {X Y Z : Type 0} (g : Y → Z) (f : X → Y) (xs : List X) → map g (map f xs) ≡ map (λ x. g (f x)) xs
-map_map g f [] = refl
-map_map g f (x ∷ xs) = ap (λ (zs : List _). g (f x) ∷ zs) (map_map g f xs)
-
 pub formula_list : (x : Context) (j : Join) (fs : List Written) (scope : List Word) → formula_of x (v.List j fs) scope ≡ joined_of j (map (λ f. formula_of x f scope) fs)
 formula_list x j fs scope =
     ap (λ f. formula_of x f scope) (sym (v.rolls-List j fs))
-    ∙ (ap (λ (h : List Word → Formula). h scope) (fold-roll-Formula (List Word → Formula) (formula_step x) (Written-F.List j fs)) ∙ ap (joined_of j) (map_map (λ (h : List Word → Formula). h scope) (formula_of x) fs))
+    ∙ (ap (λ (h : List Word → Formula). h scope) (fold-roll-Formula (List Word → Formula) (formula_step x) (Written-F.List j fs)) ∙ ap (joined_of j) (map-map (λ (h : List Word → Formula). h scope) (formula_of x) fs))
 
 -- a member is no deeper than the deepest
 pub member_depth : (fs : List Written) (i n most : ℕ) (f : Written) → i < length fs → f ≡ slice_index_or fs i f → n + greatest_depth (map tree_depth fs) ≤ most → n + tree_depth f ≤ most

@@ -1,10 +1,9 @@
 -- Names by their numbers, and names that are given once.
-use Rattle.std.proofs.Common.{◌≡◌, ℕ, ◌<◌, ◌+◌, zero, suc, Bool, true, false, cond, ◌||◌, ltb, List, [], ◌∷◌, ◌++◌, length, map, take, slice_index_or, Option, Some, None, Contains, refl, sym, ap, ◌∙◌, subst, arith, true≢false}
+use Rattle.std.proofs.Common.{◌≡◌, ℕ, ◌<◌, ◌+◌, zero, suc, Bool, true, false, cond, ◌||◌, List, [], ◌∷◌, ◌++◌, length, map, take, slice_index_or, Option, Some, None, Contains, refl, sym, ap, ◌∙◌, subst, arith, true≢false}
 use Rattle.std.specs.Prelude.{if◌then◌else◌, slice_get, bytes_eq, unwrap_or, is_some, option_map, codes, position, MatchOption, OnOk, Result, IfSome, nat_lt, not}
 use Rattle.std.specs.List.{list_any, position_or_len}
 use Rattle.std.specs.Cmp.Lexicographic.{nat_list_eq_equiv}
-use Rattle.std.proofs.lemmas.Bool.{or_parts, false_from_ne_true, cond_both, ltb-true}
-use Rattle.std.proofs.lemmas.Bool.Decides.{nat_tests}
+use Rattle.std.proofs.lemmas.Bool.{or_parts, false_from_ne_true, cond_both, ltb-true, lt-ltb}
 use Rattle.std.proofs.lemmas.List.{append-nil, append_assoc, length-map, length-take-le}
 use Rattle.std.proofs.lemmas.Map.Views.{list_any-from_Contains, Contains-from_any}
 use Rattle.std.proofs.lemmas.Option.{slice_get_within, get_or_from_slice_get}
@@ -21,6 +20,7 @@ use Rattle.dd_faults.specs.declared.context.Context.{Context}
 use Rattle.dd_faults.specs.Order.{when}
 use Rattle.dd_faults.specs.Names.{place_of_name, missing, number_in, same_text, variable_of, is_variable, unknown_variable, named_again}
 use Rattle.dd_faults.specs.Repeats.{first_repeat}
+use Rattle.dd_faults.specs.lemmas.Nothing.{both_nil}
 use Rattle.dd_meanings.specs.Formulas.{variable_number}
 use Rattle.dd_meanings.specs.Sound.{IsNew}
 use Rattle.dd_meanings.proofs.Nothing.{present, not_when}
@@ -47,8 +47,7 @@ number_found : (names : List (List ℕ)) (text : List ℕ) → Contains names te
 number_found names text there =
     let at = position_or_len (bytes_eq text) names in
     let below = found_before (bytes_eq text) names (among names text there) in
-    let test : ltb at (length names) ≡ true = grind (arith, nat_tests, below) in
-    ap (λ b. cond b (Some at) None) test
+    ap (λ b. cond b (Some at) None) (lt-ltb at (length names) below)
 
 -- what stands at the number of a name is the name
 pub number_at : (names : List (List ℕ)) (text : List ℕ) → Contains names text → slice_get names (unwrap_or (number_of names text) 0) ≡ Some text
@@ -60,13 +59,11 @@ number_at names text there =
 pub text_below : (names : List (List ℕ)) (text : List ℕ) → Contains names text → unwrap_or (number_of names text) 0 < length names
 text_below names text there = slice_get_within names (unwrap_or (number_of names text) 0) text (number_at names text there)
 
-some_injective : (a b : List ℕ) → Some a ≡ Some b → a ≡ b
-some_injective a b e = cc
-
 -- names with one number are one name
 pub same_name : (names : List (List ℕ)) (a b : List ℕ) → Contains names a → Contains names b → unwrap_or (number_of names a) 0 ≡ unwrap_or (number_of names b) 0 → a ≡ b
 same_name names a b there there' same =
-    some_injective a b (sym (number_at names a there) ∙ (ap (slice_get names) same ∙ number_at names b there'))
+    let is : Some a ≡ Some b = sym (number_at names a there) ∙ (ap (slice_get names) same ∙ number_at names b there') in
+    cc is
 
 -- a name that is not missing is there
 named_from : (bytes : List ℕ) (names : List (List ℕ)) (n : Name) (r : Option ℕ) → place_of_name bytes names n ≡ r → when (not (is_some r)) (fault.Unknown n) ≡ [] → Contains names (name_text bytes n)
@@ -105,7 +102,7 @@ variable_below bytes scope w none =
 absent : (names : List (List ℕ)) (text : List ℕ) → is_some (number_of names text) ≡ false → ¬ Contains names text
 absent names text h there = true≢false (sym (ap is_some (number_found names text there)) ∙ h)
 
-pub is_new : (x : Context) (w : Word) → named_again x.text x.known w ≡ [] → IsNew x w
+is_new : (x : Context) (w : Word) → named_again x.text x.known w ≡ [] → IsNew x w
 is_new x w h =
     let k = x.known in
     let bytes = x.text in
@@ -117,6 +114,10 @@ is_new x w h =
       automata = absent k.automata (word_text bytes w) front.1;
       configurations = absent k.configurations (word_text bytes w) both.1;
     }
+
+-- a new name, and no fault in what follows it
+pub new_name : (x : Context) (w : Word) (rest : List Fault) → named_again x.text x.known w ++ rest ≡ [] → IsNew x w × (rest ≡ [])
+new_name x w rest h = let both = both_nil (named_again x.text x.known w) rest h in (is_new x w both.0, both.1)
 
 -- ---- names that are given once
 

@@ -1,8 +1,8 @@
 -- Where there is no fault, there is none in a part.
-use Rattle.std.proofs.Common.{◌≡◌, ℕ, ◌<◌, zero, suc, Bool, true, false, List, [], ◌∷◌, length, slice_index_or, refl, ap, ◌∙◌, arith}
+use Rattle.std.proofs.Common.{◌≡◌, ℕ, ◌<◌, Bool, true, false, List, [], ◌∷◌, length, slice_index_or, refl, ap, ◌∙◌}
 use Rattle.std.specs.Prelude.{not}
 use Rattle.std.specs.List.{All, flat_map}
-use Rattle.std.proofs.lemmas.List.Elements.{All-nil, All-cons}
+use Rattle.std.proofs.lemmas.List.Elements.{All-nil, All-cons, All-get_or}
 use Rattle.dd_faults.specs.declared.fault.Fault.{Fault}
 use Rattle.dd_faults.specs.Order.{when}
 use Rattle.dd_faults.specs.lemmas.Nothing.{both_nil}
@@ -15,15 +15,13 @@ pub present : (b : Bool) (f : Fault) → when (not b) f ≡ [] → b ≡ true
 present true f e = refl
 present false f e = absurd cc
 
--- no element has a fault
-pub all_none : {X Y : Type 0} (f : X → List Y) (xs : List X) → flat_map f xs ≡ [] → All (λ x. f x ≡ []) xs
-all_none f [] h = All-nil (λ x. f x ≡ [])
-all_none f (x ∷ xs) h = let parts = both_nil (f x) (flat_map f xs) h in All-cons (λ x. f x ≡ []) x xs parts.0 (all_none f xs parts.1)
+-- what holds of the elements without faults holds of all, where there is no fault
+pub all_where : {X Y : Type 0} (P : X → Type 0) (f : X → List Y) → ((x : X) → f x ≡ [] → P x) → (xs : List X) → flat_map f xs ≡ [] → All P xs
+all_where P f each [] h = All-nil P
+all_where P f each (x ∷ xs) h = let parts = both_nil (f x) (flat_map f xs) h in All-cons P x xs (each x parts.0) (all_where P f each xs parts.1)
 
 pub none_at : {X Y : Type 0} (f : X → List Y) (xs : List X) (i : ℕ) (d : X) → i < length xs → flat_map f xs ≡ [] → f (slice_index_or xs i d) ≡ []
-none_at f [] i d lt h = absurd (omega (arith, lt))
-none_at f (x ∷ xs) zero d lt h = (both_nil (f x) (flat_map f xs) h).0
-none_at f (x ∷ xs) (suc i) d lt h = none_at f xs i d (omega (arith, lt)) (both_nil (f x) (flat_map f xs) h).1
+none_at f xs i d lt h = All-get_or (λ x. f x ≡ []) xs i d lt (all_where (λ x. f x ≡ []) f (λ x e. e) xs h)
 
 -- the same for items that are not copied
 pub none_item : {X Y : Type 0} (f : X → List Y) (xs : List X) (i : ℕ) (x : X) → i < length xs → x ≡ slice_index_or xs i x → flat_map f xs ≡ [] → f x ≡ []

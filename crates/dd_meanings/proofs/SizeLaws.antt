@@ -24,7 +24,7 @@ use Rattle.dd_faults.specs.declared.fault.Refusal.{Refusal}
 use Rattle.dd_faults.specs.declared.fault.Refusal.TheVariants as refusal
 use Rattle.dd_faults.specs.declared.context.Known.{Known}
 use Rattle.dd_faults.specs.Sound.{IsSound}
-use Rattle.dd_query.specs.Made.{script_numbers}
+use Rattle.dd_meanings.specs.Made.{script_numbers}
 use Rattle.dd_meanings.specs.declared.cases.CaseOf.{CaseOf}
 use Rattle.dd_meanings.specs.Definitions.{rule_counts, count_faults}
 use Rattle.dd_meanings.specs.making.Parts.{refusal_of, rule_over, made_case, given_by, IsCaseOf, case_counts, reach_faults}

@@ -5,6 +5,7 @@ use Rattle.std.specs.List.{list_all, flat_map}
 use Rattle.std.proofs.lemmas.Bool.{and_from, lt-ltb, le-leb, ltb-false, cases_Bool}
 use Rattle.std.proofs.lemmas.List.{length-map, length-append}
 use Rattle.std.proofs.lemmas.List.Folds.{list_all-map}
+use Rattle.std.proofs.lemmas.List.Sums.{list_all-from_AllPass}
 use Rattle.dd_written.specs.declared.lexeme.Word.{Word}
 use Rattle.dd_written.specs.declared.tree.Name.{Name}
 use Rattle.dd_written.specs.declared.tree.Name.TheVariants as name
@@ -37,18 +38,15 @@ use Rattle.dd_faults.specs.Order.{when, over}
 use Rattle.dd_faults.specs.Names.{missing, number_in, is_variable, unknown_variable}
 use Rattle.dd_faults.specs.Formulas.{unknown_label, term_faults, names_symbol, side_faults, atom_faults, ball_faults, quantifier_faults, faults_step, formula_faults}
 use Rattle.dd_faults.specs.Sound.{IsSound}
-use Rattle.dd_meanings.specs.Formulas.{label_of, term_of, equal_of, not_equal_of, atom_of, ball_of, joined_of, quantified_of, formula_step, formula_of}
+use Rattle.dd_meanings.specs.Formulas.{label_of, term_of, with_side, atom_of, ball_of, joined_of, quantified_of, formula_step, formula_of}
 use Rattle.dd_meanings.specs.making.Parts.{IsFormulaOf}
 use Rattle.dd_faults.specs.lemmas.Nothing.{both_nil, within}
+use Rattle.dd_meanings.proofs.Nothing.{all_where}
 use Rattle.dd_meanings.proofs.NameLaws.{number_below, variable_below}
 use Rattle.dd_meanings.proofs.Depths.{no_deeper}
 
--- what holds of the elements without faults holds of all, where there is no fault
 all_without : {X F : Type 0} (p : X → Bool) (g : X → List F) → ((x : X) → g x ≡ [] → p x ≡ true) → (xs : List X) → flat_map g xs ≡ [] → list_all p xs ≡ true
-all_without p g each [] none = refl
-all_without p g each (x ∷ xs) none =
-    let both = both_nil (g x) (flat_map g xs) none in
-    and_from (p x) (list_all p xs) (each x both.0) (all_without p g each xs both.1)
+all_without p g each xs none = list_all-from_AllPass p xs (all_where (λ x. p x ≡ true) g each xs none)
 
 module _ (x : Context) (same : x.known.setting.topology.nodes ≡ length x.known.setting.nodes) (alphabet : x.known.setting.sets.symbols ≡ length x.known.setting.symbols) where
   -- with so many variables in scope
@@ -78,38 +76,32 @@ module _ (x : Context) (same : x.known.setting.topology.nodes ≡ length x.known
         ∙ all_without (λ w. nat_lt (label_of x w) (length labels)) (unknown_label x)
         (λ w none. lt-ltb _ _ (number_below x.text labels (name.Word w) none)) t.moves rest.0)
 
-    -- what stands on the right, a symbol or a term
-    equal_is : (t : Term) (r : Comparand) → term_fits x.known.setting.topology (length scope + 1) t ≡ true → side_faults x scope r ≡ [] → its_fits (equal_of x scope t r) (length scope + 1) ≡ true
-    equal_is t (side.Number n) h none =
-        rolled (Formula-F.Symbol t (number_in x.text x.known.setting.symbols (name.Number n))) (length scope + 1) (and_from _ _ h (symbol_is (name.Number n) none))
-    equal_is t (side.Term u) h none = elim (cases_Bool (names_symbol x.text scope u)) [
-      | inl e ↦
-          let unknown : missing x.text x.known.setting.symbols (name.Word u.first) ≡ [] = rw e at none in
-          rw e (rolled (Formula-F.Symbol t (number_in x.text x.known.setting.symbols (name.Word u.first))) (length scope + 1) (and_from _ _ h (symbol_is (name.Word u.first) unknown)))
-      | inr e ↦
-          let unknown : term_faults x scope u ≡ [] = rw e at none in
-          rw e (rolled (Formula-F.Same t (term_of x scope u)) (length scope + 1) (and_from _ _ h (term_is u unknown)))
-    ]
+    abbrev FitsHere : Formula → Type 0
+    FitsHere f = its_fits f (length scope + 1) ≡ true
 
-    not_equal_is : (t : Term) (r : Comparand) → term_fits x.known.setting.topology (length scope + 1) t ≡ true → side_faults x scope r ≡ [] → its_fits (not_equal_of x scope t r) (length scope + 1) ≡ true
-    not_equal_is t (side.Number n) h none =
-        rolled (Formula-F.NotSymbol t (number_in x.text x.known.setting.symbols (name.Number n))) (length scope + 1) (and_from _ _ h (symbol_is (name.Number n) none))
-    not_equal_is t (side.Term u) h none = elim (cases_Bool (names_symbol x.text scope u)) [
+    abbrev TermFits : Term → Type 0
+    TermFits t = term_fits x.known.setting.topology (length scope + 1) t ≡ true
+
+    -- what stands on the right, a symbol or a term
+    side_is : (by : Term → ℕ → Formula) (by_both : Term → Term → Formula) → ((t : Term) (n : ℕ) → TermFits t → symbol n ≡ true → FitsHere (by t n)) → ((t u : Term) → TermFits t → TermFits u → FitsHere (by_both t u)) →
+        (t : Term) (r : Comparand) → TermFits t → side_faults x scope r ≡ [] → FitsHere (with_side by by_both x scope t r)
+    side_is by by_both one two t (side.Number n) h none = one t (number_in x.text x.known.setting.symbols (name.Number n)) h (symbol_is (name.Number n) none)
+    side_is by by_both one two t (side.Term u) h none = elim (cases_Bool (names_symbol x.text scope u)) [
       | inl e ↦
           let unknown : missing x.text x.known.setting.symbols (name.Word u.first) ≡ [] = rw e at none in
-          rw e (rolled (Formula-F.NotSymbol t (number_in x.text x.known.setting.symbols (name.Word u.first))) (length scope + 1) (and_from _ _ h (symbol_is (name.Word u.first) unknown)))
+          rw e (one t (number_in x.text x.known.setting.symbols (name.Word u.first)) h (symbol_is (name.Word u.first) unknown))
       | inr e ↦
           let unknown : term_faults x scope u ≡ [] = rw e at none in
-          rw e (rolled (Formula-F.NotSame t (term_of x scope u)) (length scope + 1) (and_from _ _ h (term_is u unknown)))
+          rw e (two t (term_of x scope u) h (term_is u unknown))
     ]
 
     atom_is : (a : Atom) → atom_faults x scope a ≡ [] → its_fits (atom_of x scope a) (length scope + 1) ≡ true
     atom_is (atom.Equal t r) none =
         let both = both_nil (term_faults x scope t) (side_faults x scope r) none in
-        equal_is (term_of x scope t) r (term_is t both.0) both.1
+        side_is _ _ (λ t n h h'. rolled (Formula-F.Symbol t n) (length scope + 1) (and_from _ _ h h')) (λ t u h h'. rolled (Formula-F.Same t u) (length scope + 1) (and_from _ _ h h')) (term_of x scope t) r (term_is t both.0) both.1
     atom_is (atom.NotEqual t r) none =
         let both = both_nil (term_faults x scope t) (side_faults x scope r) none in
-        not_equal_is (term_of x scope t) r (term_is t both.0) both.1
+        side_is _ _ (λ t n h h'. rolled (Formula-F.NotSymbol t n) (length scope + 1) (and_from _ _ h h')) (λ t u h h'. rolled (Formula-F.NotSame t u) (length scope + 1) (and_from _ _ h h')) (term_of x scope t) r (term_is t both.0) both.1
     atom_is (atom.Adjacent t u) none =
         let both = both_nil (term_faults x scope t) (term_faults x scope u) none in
         rolled (Formula-F.Adjacent (term_of x scope t) (term_of x scope u)) (length scope + 1) (and_from _ _ (term_is t both.0) (term_is u both.1))

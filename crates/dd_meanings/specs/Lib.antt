@@ -1,5 +1,7 @@
 -- what each command means, and the limits of it
 pub mod Meanings
+-- the rules and automata of a script, made
+pub mod Made
 -- what each meaning keeps
 pub mod Sound
 -- what is defined, and its counts

@@ -3,7 +3,6 @@ use Rattle.std.specs.Prelude.{ℕ, List, [], length, map, true, false, if◌then
 use Rattle.dd_topology.specs.declared.builtin.Kind.{Kind}
 use Rattle.dd_topology.specs.Builtin.{grid_of}
 use Rattle.dd_values.specs.declared.limits.Limits.{Limits}
-use Rattle.dd_formula.specs.LocalRule.{LocalRule}
 use Rattle.dd_formula.specs.declared.automaton.Automaton.{Automaton}
 use Rattle.dd_written.specs.Values.{name_text, written_value}
 use Rattle.dd_commands.specs.declared.command.Command.{Command}
@@ -12,7 +11,6 @@ use Rattle.dd_faults.specs.declared.fault.Fault.{Fault}
 use Rattle.dd_faults.specs.declared.context.Context.{Context}
 use Rattle.dd_faults.specs.Names.{number_in}
 use Rattle.dd_faults.specs.Commands.{dimension_of}
-use Rattle.dd_query.specs.Limits.{query_sizes}
 use Rattle.dd_query.specs.Queries.{query_of}
 use Rattle.dd_meanings.specs.declared.meaning.Meaning.{Meaning}
 use Rattle.dd_meanings.specs.declared.meaning.Meaning.TheVariants as meant
@@ -26,33 +24,33 @@ limits radius period pivots = record { radius = radius; period = period; pivots 
 abbrev pub kind_meaning : Context → Kind → Meaning
 kind_meaning x k = if x.known.nodes_are_given then meant.Topology (grid_of k) else meant.Nodes (kind_names k) false (grid_of k)
 
-abbrev pub meaning : Context → List LocalRule → List Automaton → Command → Meaning
-meaning x rules automata (command.Dimension n) = meant.Topology (default_grid (written_value x.text n) (length x.known.setting.nodes))
-meaning x rules automata (command.Nodes names) = meant.Nodes (map (name_text x.text) names) true (default_grid (dimension_of x.known) (length names))
-meaning x rules automata (command.Alphabet names) = meant.Symbols (map (name_text x.text) names)
-meaning x rules automata (command.Topology k) = kind_meaning x k
-meaning x rules automata (command.Edges es) = meant.Topology (grid_by x.text (dimension_of x.known) x.known.setting.nodes es)
-meaning x rules automata (command.Only node symbols) = meant.Only (number_in x.text x.known.setting.nodes node) (map (symbol_of x) symbols)
-meaning x rules automata (command.Weights ns) = meant.Weights (map (written_value x.text) ns)
-meaning x rules automata (command.Limits radius period pivots) = meant.Limits (limits (written_value x.text radius) (written_value x.text period) (written_value x.text pivots))
-meaning x rules automata (command.Rule name f) = meant.Rule name (rule_of x f)
-meaning x rules automata (command.Automaton name cases symbol) = meant.Automaton name (automaton_of x cases symbol)
-meaning x rules automata (command.Composition name outer inner) = meant.Automaton name (composition_of x automata outer inner)
-meaning x rules automata (command.Configuration name periods shear symbols) = meant.Configuration name (tile_of x periods shear symbols)
-meaning x rules automata (command.Query r) = meant.Query (query_of x r)
+abbrev pub meaning : Context → List Automaton → Command → Meaning
+meaning x automata (command.Dimension n) = meant.Topology (default_grid (written_value x.text n) (length x.known.setting.nodes))
+meaning x automata (command.Nodes names) = meant.Nodes (map (name_text x.text) names) true (default_grid (dimension_of x.known) (length names))
+meaning x automata (command.Alphabet names) = meant.Symbols (map (name_text x.text) names)
+meaning x automata (command.Topology k) = kind_meaning x k
+meaning x automata (command.Edges es) = meant.Topology (grid_by x.text (dimension_of x.known) x.known.setting.nodes es)
+meaning x automata (command.Only node symbols) = meant.Only (number_in x.text x.known.setting.nodes node) (map (symbol_of x) symbols)
+meaning x automata (command.Weights ns) = meant.Weights (map (written_value x.text) ns)
+meaning x automata (command.Limits radius period pivots) = meant.Limits (limits (written_value x.text radius) (written_value x.text period) (written_value x.text pivots))
+meaning x automata (command.Rule name f) = meant.Rule name (rule_of x f)
+meaning x automata (command.Automaton name cases symbol) = meant.Automaton name (automaton_of x cases symbol)
+meaning x automata (command.Composition name outer inner) = meant.Automaton name (composition_of x automata outer inner)
+meaning x automata (command.Configuration name periods shear symbols) = meant.Configuration name (tile_of x periods shear symbols)
+meaning x automata (command.Query r) = meant.Query (query_of x r)
 
 -- the limits that only what is made can pass
-abbrev pub counted_sizes : Context → List LocalRule → List Automaton → Command → List Fault
-counted_sizes x rules automata (command.Dimension n) = []
-counted_sizes x rules automata (command.Nodes names) = []
-counted_sizes x rules automata (command.Alphabet names) = []
-counted_sizes x rules automata (command.Topology k) = []
-counted_sizes x rules automata (command.Edges es) = []
-counted_sizes x rules automata (command.Only node symbols) = []
-counted_sizes x rules automata (command.Weights ns) = []
-counted_sizes x rules automata (command.Limits radius period pivots) = []
-counted_sizes x rules automata (command.Rule name f) = rule_faults (rule_of x f)
-counted_sizes x rules automata (command.Automaton name cases symbol) = automaton_faults x (automaton_of x cases symbol)
-counted_sizes x rules automata (command.Composition name outer inner) = automaton_faults x (composition_of x automata outer inner)
-counted_sizes x rules automata (command.Configuration name periods shear symbols) = []
-counted_sizes x rules automata (command.Query r) = query_sizes x.known rules automata (query_of x r)
+abbrev pub counted_sizes : Context → List Automaton → Command → List Fault
+counted_sizes x automata (command.Dimension n) = []
+counted_sizes x automata (command.Nodes names) = []
+counted_sizes x automata (command.Alphabet names) = []
+counted_sizes x automata (command.Topology k) = []
+counted_sizes x automata (command.Edges es) = []
+counted_sizes x automata (command.Only node symbols) = []
+counted_sizes x automata (command.Weights ns) = []
+counted_sizes x automata (command.Limits radius period pivots) = []
+counted_sizes x automata (command.Rule name f) = rule_faults (rule_of x f)
+counted_sizes x automata (command.Automaton name cases symbol) = automaton_faults x (automaton_of x cases symbol)
+counted_sizes x automata (command.Composition name outer inner) = automaton_faults x (composition_of x automata outer inner)
+counted_sizes x automata (command.Configuration name periods shear symbols) = []
+counted_sizes x automata (command.Query r) = []

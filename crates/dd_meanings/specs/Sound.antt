@@ -5,17 +5,16 @@ use Rattle.dd_values.specs.Bounds.{most_weight}
 use Rattle.dd_topology.specs.Naming.{AreDistinct}
 use Rattle.dd_topology.specs.Grid.{Grid, IsGrid}
 use Rattle.dd_topology.specs.Sets.{allows}
-use Rattle.dd_values.specs.declared.limits.Limits.{Limits}
 use Rattle.dd_pattern.specs.Tile.{Tile, IsTile}
-use Rattle.dd_formula.specs.LocalRule.{LocalRule, IsRule}
+use Rattle.dd_formula.specs.LocalRule.{IsRule}
 use Rattle.dd_formula.specs.Automata.{IsAutomaton}
-use Rattle.dd_formula.specs.declared.automaton.Automaton.{Automaton}
 use Rattle.dd_written.specs.declared.lexeme.Word.{Word}
 use Rattle.dd_written.specs.Values.{word_text}
 use Rattle.dd_faults.specs.declared.context.Known.{Known}
 use Rattle.dd_faults.specs.declared.context.Context.{Context}
-use Rattle.dd_query.specs.Made.{script_numbers, IsRuleOf}
-use Rattle.dd_query.specs.Sound.{IsSoundQuery}
+use Rattle.dd_faults.specs.Sound.{IsSound}
+use Rattle.dd_meanings.specs.Made.{script_numbers, IsRuleOf}
+use Rattle.dd_query.specs.Sound.{IsQueryWithin}
 use Rattle.dd_meanings.specs.declared.meaning.Meaning.{Meaning}
 use Rattle.dd_meanings.specs.declared.meaning.Meaning.TheVariants as meant
 
@@ -41,11 +40,6 @@ pub record AreScriptWeights (k : Known) (weights : List ℕ) : Type 0 where
   pub each : length weights ≡ length k.setting.symbols
   pub light : All (λ w. w ≤ most_weight) weights
 
-pub record AreLimits (l : Limits) : Type 0 where
-  pub radius : l.radius ≤ 8
-  pub period : (1 ≤ l.period) × (l.period ≤ 8)
-  pub pivots : l.pivots ≤ 100000
-
 -- a name that no rule, automaton or configuration has
 pub record IsNew (x : Context) (w : Word) : Type 0 where
   pub rules : ¬ Contains x.known.rules (word_text x.text w)
@@ -61,14 +55,14 @@ pub record IsConfigurationOf (k : Known) (t : Tile) : Type 0 where
   -- the nodes stand innermost
   pub allowed : (i : ℕ) → i < length t.symbols → allows k.setting.sets (i % t.nodes) (slice_index t.symbols i) ≡ true
 
-abbrev pub IsSoundMeaning : Context → List LocalRule → List Automaton → Meaning → Type 0
-IsSoundMeaning x rules automata (meant.Topology g) = IsGridOf (length x.known.setting.nodes) g
-IsSoundMeaning x rules automata (meant.Nodes names given g) = AreNames 4 names × IsGridOf (length names) g
-IsSoundMeaning x rules automata (meant.Symbols names) = AreNames 16 names
-IsSoundMeaning x rules automata (meant.Only node symbols) = IsSymbolRestriction x.known node symbols
-IsSoundMeaning x rules automata (meant.Weights ws) = AreScriptWeights x.known ws
-IsSoundMeaning x rules automata (meant.Limits l) = AreLimits l
-IsSoundMeaning x rules automata (meant.Rule name r) = IsNew x name × IsRule r × IsRuleOf x.known r
-IsSoundMeaning x rules automata (meant.Automaton name f) = IsNew x name × IsAutomaton (script_numbers x.known) f
-IsSoundMeaning x rules automata (meant.Configuration name t) = IsNew x name × IsConfigurationOf x.known t
-IsSoundMeaning x rules automata (meant.Query q) = IsSoundQuery x.known rules automata q
+abbrev pub IsSoundMeaning : Context → Meaning → Type 0
+IsSoundMeaning x (meant.Topology g) = IsGridOf (length x.known.setting.nodes) g
+IsSoundMeaning x (meant.Nodes names given g) = AreNames 4 names × IsGridOf (length names) g
+IsSoundMeaning x (meant.Symbols names) = AreNames 16 names
+IsSoundMeaning x (meant.Only node symbols) = IsSymbolRestriction x.known node symbols
+IsSoundMeaning x (meant.Weights ws) = AreScriptWeights x.known ws
+IsSoundMeaning x (meant.Limits l) = IsSound (record (x.known) { limits = l })
+IsSoundMeaning x (meant.Rule name r) = IsNew x name × IsRule r × IsRuleOf x.known r
+IsSoundMeaning x (meant.Automaton name f) = IsNew x name × IsAutomaton (script_numbers x.known) f
+IsSoundMeaning x (meant.Configuration name t) = IsNew x name × IsConfigurationOf x.known t
+IsSoundMeaning x (meant.Query q) = IsQueryWithin x.known q

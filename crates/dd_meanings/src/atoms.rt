@@ -46,11 +46,11 @@ fn label(context: &Context, word: Word) -> u32
 fn labels(alloc: Global, context: &Context, moves: &[Word]) -> Result<Items<u32>, AllocError>
     ensures { IfOk result (λ labels. labels ≡ map (label_of context.now) moves.now) }
 {
-    let mut labels = Items::new(alloc);
-    for word in moves {
-        labels.push(label(context, *word))?;
-    }
-    Ok(labels)
+    let labels: Vec<u32> = moves
+        .iter()
+        .map(|word| label(context, *word))
+        .collect(alloc)?;
+    Ok(Items::from_vec(labels))
 }
 
 fn term(

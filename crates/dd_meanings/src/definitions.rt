@@ -1,43 +1,49 @@
-//! Rules, automata and configurations from commands without faults.
+//! What the commands that define something mean.
 ghost use Rattle.std.specs.Prelude.{◌≡◌, ◌<◌, ◌≤◌, [], length, IfOk, OnOk};
-ghost use Rattle.std.specs.List.{All, flat_map};
+ghost use Rattle.std.specs.List.{All};
 ghost use Rattle.dd_pattern.specs.Tile.{most_symbols, IsPeriodic};
-ghost use Rattle.dd_formula.specs.LocalRule.{IsRule};
 ghost use Rattle.dd_formula.specs.Automata.{IsAutomaton, counted};
 ghost use Rattle.dd_written.specs.declared.tree.Name.TheVariants as name;
 ghost use Rattle.dd_written.specs.Formulas.{tree_depth};
+ghost use Rattle.dd_commands.specs.declared.command.Command.TheVariants as command;
 ghost use Rattle.dd_faults.specs.Order.{Resolves};
 ghost use Rattle.dd_faults.specs.Names.{missing};
-ghost use Rattle.dd_faults.specs.Formulas.{formula_faults};
-ghost use Rattle.dd_faults.specs.Commands.{shear_of, case_faults, symbol_faults, box_faults};
+ghost use Rattle.dd_faults.specs.Commands.{shear_of, faults_of};
 ghost use Rattle.dd_faults.specs.Sound.{IsSound};
-ghost use Rattle.dd_query.specs.Made.{script_numbers, IsRuleOf};
-ghost use Rattle.dd_meanings.specs.Definitions.{rule_of, automaton_of, composition_of, tile_of, count_faults, rule_faults, automaton_faults};
+ghost use Rattle.dd_meanings.specs.Made.{script_numbers};
+ghost use Rattle.dd_meanings.specs.Meanings.{meaning, counted_sizes};
+ghost use Rattle.dd_meanings.specs.Definitions.{automaton_named, count_faults};
 ghost use Rattle.dd_meanings.specs.making.Parts.{IsCaseOf, given_by, HasShortPeriods, tile_with};
-ghost use Rattle.dd_meanings.specs.Sound.{IsConfigurationOf};
+ghost use Rattle.dd_meanings.specs.Sound.{IsSoundMeaning};
 
 use crate::cases::{CaseOf, cases_of, has_few, refusal_of, rule_over, rules_of, too_large};
 use crate::formulas::formula;
 use crate::header::symbols_of;
+use crate::meaning::Meaning;
 use dd_commands::{Case, Vector};
 use dd_faults::{Context, Known, Limit, Refusal, number_in, period_at, shear_of};
-use dd_formula::{Automaton, Cases, Rule};
+use dd_formula::{Automaton, Cases};
 use dd_pattern::Periodic;
 use dd_values::Items;
 use dd_written::{Formula, Name, Word};
 use std::alloc::{AllocError, Global};
 
 /// The rule of a formula over the script's topology and the symbols that its nodes allow.
-pub(crate) fn rule(alloc: Global, context: &Context, formula: &Formula) -> Result<Rule, Refusal>
+pub(crate) fn rule(
+    alloc: Global,
+    context: &Context,
+    name: Word,
+    formula: &Formula,
+) -> Result<Meaning, Refusal>
     requires sound { IsSound context.now.known }
     requires shallow { tree_depth formula.now ≤ 64 }
-    requires faultless { formula_faults context.now formula.now [] ≡ [] }
-    ensures exact { let rule = rule_of context.now formula.now in Resolves result (rule_faults rule) rule }
-    ensures rule { OnOk result (IsRule (rule_of context.now formula.now)) }
-    ensures of_script { OnOk result (IsRuleOf context.now.known (rule_of context.now formula.now)) }
+    requires faultless { faults_of context.now (command.Rule name formula.now) ≡ [] }
+    ensures exact { Resolves result (counted_sizes context.now [] (command.Rule name formula.now)) (meaning context.now [] (command.Rule name formula.now)) }
+    ensures sound { OnOk result (IsSoundMeaning context.now (meaning context.now [] (command.Rule name formula.now))) }
 {
     let meant = self::formula(alloc, context, formula)?;
-    rule_over(alloc, &context.known, meant)
+    let rule = rule_over(alloc, &context.known, meant)?;
+    Ok(Meaning::Rule { name, rule })
 }
 
 /// The automaton by these cases, and by a symbol where none of them is true.
@@ -71,19 +77,35 @@ fn given(
 pub(crate) fn automaton(
     alloc: Global,
     context: &Context,
+    name: Word,
     cases: &[Case],
     default: Name,
-) -> Result<Automaton, Refusal>
+) -> Result<Meaning, Refusal>
     requires sound { IsSound context.now.known }
     requires shallow { All (λ c. tree_depth c.condition ≤ 64) cases.now }
-    requires cases { flat_map (case_faults context.now) cases.now ≡ [] }
-    requires default { missing context.now.text context.now.known.setting.symbols default ≡ [] }
-    ensures exact { let f = automaton_of context.now cases.now default in Resolves result (automaton_faults context.now f) f }
-    ensures sound { OnOk result (IsAutomaton (script_numbers context.now.known) (automaton_of context.now cases.now default)) }
+    requires faultless { faults_of context.now (command.Automaton name cases.now default) ≡ [] }
+    ensures exact { Resolves result (counted_sizes context.now [] (command.Automaton name cases.now default)) (meaning context.now [] (command.Automaton name cases.now default)) }
+    ensures sound { OnOk result (IsSoundMeaning context.now (meaning context.now [] (command.Automaton name cases.now default))) }
 {
     let meant = cases_of(alloc, context, cases)?;
     let otherwise = number_in(&context.text, &context.known.setting.symbols, default);
-    given(alloc, &context.known, meant, otherwise)
+    let automaton = given(alloc, &context.known, meant, otherwise)?;
+    Ok(Meaning::Automaton { name, automaton })
+}
+
+/// A copy of the automaton with this name.
+fn named(
+    alloc: Global,
+    context: &Context,
+    automata: &[Automaton],
+    word: Word,
+) -> Result<Automaton, AllocError>
+    requires named { length automata.now ≡ length context.now.known.automata }
+    requires known { missing context.now.text context.now.known.automata (name.Word word) ≡ [] }
+    ensures { IfOk result (λ f. f ≡ automaton_named context.now automata.now word) }
+{
+    let number = number_in(&context.text, &context.known.automata, Name::Word(word));
+    automata[number as usize].copy(alloc)
 }
 
 /// The composition of two automata by their names.
@@ -91,23 +113,20 @@ pub(crate) fn composition(
     alloc: Global,
     context: &Context,
     automata: &[Automaton],
+    name: Word,
     outer: Word,
     inner: Word,
-) -> Result<Automaton, Refusal>
+) -> Result<Meaning, Refusal>
     requires named { length automata.now ≡ length context.now.known.automata }
     requires formed { All (IsAutomaton (script_numbers context.now.known)) automata.now }
-    requires outer { missing context.now.text context.now.known.automata (name.Word outer) ≡ [] }
-    requires inner { missing context.now.text context.now.known.automata (name.Word inner) ≡ [] }
-    ensures exact { let f = composition_of context.now automata.now outer inner in Resolves result (automaton_faults context.now f) f }
-    ensures sound { OnOk result (IsAutomaton (script_numbers context.now.known) (composition_of context.now automata.now outer inner)) }
+    requires faultless { faults_of context.now (command.Composition name outer inner) ≡ [] }
+    ensures exact { Resolves result (counted_sizes context.now automata.now (command.Composition name outer inner)) (meaning context.now automata.now (command.Composition name outer inner)) }
+    ensures sound { OnOk result (IsSoundMeaning context.now (meaning context.now automata.now (command.Composition name outer inner))) }
 {
-    let names = &context.known.automata;
-    let outer = number_in(&context.text, names, Name::Word(outer)) as usize;
-    let inner = number_in(&context.text, names, Name::Word(inner)) as usize;
-    let first = automata[outer].copy(alloc)?;
-    let second = automata[inner].copy(alloc)?;
-    match Automaton::composed(alloc, first, second) {
-        Ok(composed) => Ok(composed),
+    let outer = named(alloc, context, automata, outer)?;
+    let inner = named(alloc, context, automata, inner)?;
+    match Automaton::composed(alloc, outer, inner) {
+        Ok(automaton) => Ok(Meaning::Automaton { name, automaton }),
         Err((fault, _, _)) => Err(refusal_of(fault)),
     }
 }
@@ -146,17 +165,21 @@ fn periodic(
 pub(crate) fn configuration(
     alloc: Global,
     context: &Context,
+    name: Word,
     periods: &Vector,
     shear: &Option<Vector>,
     symbols: &[Name],
-) -> Result<Periodic, AllocError>
+) -> Result<Meaning, Refusal>
     requires sound { IsSound context.now.known }
     requires some { 1 ≤ length symbols.now }
-    requires symbols { symbol_faults context.now 0 symbols.now ≡ [] }
-    requires fits { box_faults context.now periods.now shear.now (length symbols.now) ≡ [] }
-    ensures exact { IfOk result (λ t. t ≡ tile_of context.now periods.now shear.now symbols.now) }
-    ensures sound { OnOk result (IsConfigurationOf context.now.known (tile_of context.now periods.now shear.now symbols.now)) }
+    requires faultless { faults_of context.now (command.Configuration name periods.now shear.now symbols.now) ≡ [] }
+    ensures exact { Resolves result [] (meaning context.now [] (command.Configuration name periods.now shear.now symbols.now)) }
+    ensures sound { OnOk result (IsSoundMeaning context.now (meaning context.now [] (command.Configuration name periods.now shear.now symbols.now))) }
 {
     let symbols = symbols_of(alloc, context, symbols)?;
-    Ok(periodic(context, periods, shear, symbols))
+    let configuration = periodic(context, periods, shear, symbols);
+    Ok(Meaning::Configuration {
+        name,
+        configuration,
+    })
 }

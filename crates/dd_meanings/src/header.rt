@@ -28,8 +28,8 @@ pub(crate) fn dimension(
 ) -> Result<Meaning, Refusal>
     requires sound { IsSound context.now.known }
     requires faultless { faults_of context.now (command.Dimension number) ≡ [] }
-    ensures exact { Resolves result [] (meaning context.now [] [] (command.Dimension number)) }
-    ensures sound { OnOk result (IsSoundMeaning context.now [] [] (meaning context.now [] [] (command.Dimension number))) }
+    ensures exact { Resolves result [] (meaning context.now [] (command.Dimension number)) }
+    ensures sound { OnOk result (IsSoundMeaning context.now (meaning context.now [] (command.Dimension number))) }
 {
     let dimension = number_value(&context.text, number);
     let nodes = context.known.setting.nodes.count();
@@ -42,8 +42,8 @@ pub(crate) fn nodes(alloc: Global, context: &Context, names: &[Name]) -> Result<
     requires sound { IsSound context.now.known }
     requires some { 1 ≤ length names.now }
     requires faultless { faults_of context.now (command.Nodes names.now) ≡ [] }
-    ensures exact { Resolves result [] (meaning context.now [] [] (command.Nodes names.now)) }
-    ensures sound { OnOk result (IsSoundMeaning context.now [] [] (meaning context.now [] [] (command.Nodes names.now))) }
+    ensures exact { Resolves result [] (meaning context.now [] (command.Nodes names.now)) }
+    ensures sound { OnOk result (IsSoundMeaning context.now (meaning context.now [] (command.Nodes names.now))) }
 {
     let nodes = names_of(alloc, &context.text, names)?;
     let dimension = context.known.setting.topology.dim();
@@ -59,8 +59,8 @@ pub(crate) fn nodes(alloc: Global, context: &Context, names: &[Name]) -> Result<
 pub(crate) fn alphabet(alloc: Global, context: &Context, names: &[Name]) -> Result<Meaning, Refusal>
     requires some { 1 ≤ length names.now }
     requires faultless { faults_of context.now (command.Alphabet names.now) ≡ [] }
-    ensures exact { Resolves result [] (meaning context.now [] [] (command.Alphabet names.now)) }
-    ensures sound { OnOk result (IsSoundMeaning context.now [] [] (meaning context.now [] [] (command.Alphabet names.now))) }
+    ensures exact { Resolves result [] (meaning context.now [] (command.Alphabet names.now)) }
+    ensures sound { OnOk result (IsSoundMeaning context.now (meaning context.now [] (command.Alphabet names.now))) }
 {
     let symbols = names_of(alloc, &context.text, names)?;
     let _count = symbols.count();
@@ -69,16 +69,18 @@ pub(crate) fn alphabet(alloc: Global, context: &Context, names: &[Name]) -> Resu
 
 pub(crate) fn kind(alloc: Global, context: &Context, kind: Kind) -> Result<Meaning, Refusal>
     requires faultless { faults_of context.now (command.Topology kind) ≡ [] }
-    ensures exact { Resolves result [] (meaning context.now [] [] (command.Topology kind)) }
-    ensures sound { OnOk result (IsSoundMeaning context.now [] [] (meaning context.now [] [] (command.Topology kind))) }
+    ensures exact { Resolves result [] (meaning context.now [] (command.Topology kind)) }
+    ensures sound { OnOk result (IsSoundMeaning context.now (meaning context.now [] (command.Topology kind))) }
 {
-    let topology = Topology::builtin(alloc, kind)?;
-    let _dimension = topology.dim();
     if context.known.nodes_are_given {
+        let topology = Topology::builtin(alloc, kind)?;
+        let _dimension = topology.dim();
         return Ok(Meaning::Topology(topology));
     }
     let nodes = kind_names(alloc, kind)?;
     let _count = nodes.count();
+    let topology = Topology::builtin(alloc, kind)?;
+    let _dimension = topology.dim();
     Ok(Meaning::Nodes {
         nodes,
         given: false,
@@ -89,8 +91,8 @@ pub(crate) fn kind(alloc: Global, context: &Context, kind: Kind) -> Result<Meani
 pub(crate) fn edges(alloc: Global, context: &Context, edges: &[Edge]) -> Result<Meaning, Refusal>
     requires sound { IsSound context.now.known }
     requires faultless { faults_of context.now (command.Edges edges.now) ≡ [] }
-    ensures exact { Resolves result [] (meaning context.now [] [] (command.Edges edges.now)) }
-    ensures sound { OnOk result (IsSoundMeaning context.now [] [] (meaning context.now [] [] (command.Edges edges.now))) }
+    ensures exact { Resolves result [] (meaning context.now [] (command.Edges edges.now)) }
+    ensures sound { OnOk result (IsSoundMeaning context.now (meaning context.now [] (command.Edges edges.now))) }
 {
     let topology = topology_by(alloc, context, edges)?;
     let _dimension = topology.dim();
@@ -105,11 +107,13 @@ pub(crate) fn symbols_of(
 ) -> Result<Items<u32>, AllocError>
     ensures { IfOk result (λ symbols. symbols ≡ map (symbol_of context.now) names.now) }
 {
-    let mut symbols = Items::new(alloc);
-    for name in names {
-        symbols.push(number_in(&context.text, &context.known.setting.symbols, *name))?;
-    }
-    Ok(symbols)
+    let text = &context.text;
+    let known = &context.known.setting.symbols;
+    let symbols: Vec<u32> = names
+        .iter()
+        .map(|name| number_in(text, known, *name))
+        .collect(alloc)?;
+    Ok(Items::from_vec(symbols))
 }
 
 pub(crate) fn only(
@@ -120,8 +124,8 @@ pub(crate) fn only(
 ) -> Result<Meaning, Refusal>
     requires some { 1 ≤ length symbols.now }
     requires faultless { faults_of context.now (command.Only node symbols.now) ≡ [] }
-    ensures exact { Resolves result [] (meaning context.now [] [] (command.Only node symbols.now)) }
-    ensures sound { OnOk result (IsSoundMeaning context.now [] [] (meaning context.now [] [] (command.Only node symbols.now))) }
+    ensures exact { Resolves result [] (meaning context.now [] (command.Only node symbols.now)) }
+    ensures sound { OnOk result (IsSoundMeaning context.now (meaning context.now [] (command.Only node symbols.now))) }
 {
     let node = number_in(&context.text, &context.known.setting.nodes, node);
     let symbols = symbols_of(alloc, context, symbols)?;
@@ -146,17 +150,18 @@ pub(crate) fn weights(
     weights: &[Number],
 ) -> Result<Meaning, Refusal>
     requires faultless { faults_of context.now (command.Weights weights.now) ≡ [] }
-    ensures exact { Resolves result [] (meaning context.now [] [] (command.Weights weights.now)) }
-    ensures sound { OnOk result (IsSoundMeaning context.now [] [] (meaning context.now [] [] (command.Weights weights.now))) }
+    ensures exact { Resolves result [] (meaning context.now [] (command.Weights weights.now)) }
+    ensures sound { OnOk result (IsSoundMeaning context.now (meaning context.now [] (command.Weights weights.now))) }
 {
     let weights = values_of(alloc, context, weights)?;
     Ok(Meaning::Weights(weights))
 }
 
 pub(crate) fn limits(context: &Context, radius: Number, period: Number, pivots: Number) -> Meaning
-    requires { faults_of context.now (command.Limits radius period pivots) ≡ [] }
-    ensures exact { result ≡ meaning context.now [] [] (command.Limits radius period pivots) }
-    ensures sound { IsSoundMeaning context.now [] [] (meaning context.now [] [] (command.Limits radius period pivots)) }
+    requires sound { IsSound context.now.known }
+    requires faultless { faults_of context.now (command.Limits radius period pivots) ≡ [] }
+    ensures exact { result ≡ meaning context.now [] (command.Limits radius period pivots) }
+    ensures sound { IsSoundMeaning context.now (meaning context.now [] (command.Limits radius period pivots)) }
 {
     let text = &context.text;
     Meaning::Limits(Limits {

@@ -4,7 +4,6 @@
 
 mod atoms;
 mod cases;
-mod defined;
 mod definitions;
 mod formulas;
 mod header;

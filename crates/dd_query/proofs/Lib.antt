@@ -4,5 +4,3 @@ pub mod ShapeLaws
 pub mod TextLaws
 pub mod VectorLaws
 pub mod AskedLaws
-pub mod CutLaws
-pub mod LimitLaws

@@ -1,14 +1,11 @@
 -- What each query of a script keeps.
-use Rattle.std.specs.Prelude.{ℕ, ◌≡◌, ◌≢◌, ◌<◌, ◌≤◌, true, List, [], length, slice_index, AllPairs}
+use Rattle.std.specs.Prelude.{ℕ, ◌≡◌, ◌≢◌, ◌<◌, ◌≤◌, true, List, length, slice_index, AllPairs}
 use Rattle.std.specs.List.{list_all}
 use Rattle.dd_lattice.specs.Place.{Place}
 use Rattle.dd_topology.specs.Grid.{is_offset}
-use Rattle.dd_formula.specs.LocalRule.{LocalRule}
-use Rattle.dd_formula.specs.declared.automaton.Automaton.{Automaton}
 use Rattle.dd_faults.specs.declared.context.Known.{Known}
 use Rattle.dd_query.specs.declared.queries.Query.{Query}
 use Rattle.dd_query.specs.declared.queries.Query.TheVariants as query
-use Rattle.dd_query.specs.Limits.{query_sizes}
 
 -- the greatest period of a strip
 abbrev pub longest_period : ℕ
@@ -47,8 +44,3 @@ IsQueryWithin k (query.Forbidden rule) = rule < length k.rules
 IsQueryWithin k (query.Density rule strip) = (rule < length k.rules) × AreStripPeriods k.setting.topology.dimension strip
 IsQueryWithin k (query.Discharge rule radius margin vectors) =
     (rule < length k.rules) × (radius ≤ widest_radius) × (margin ≤ widest_radius) × AreQueryVectors k.setting.topology.dimension vectors
-
-pub record IsSoundQuery (k : Known) (rules : List LocalRule) (automata : List Automaton) (q : Query) : Type 0 where
-  pub within : IsQueryWithin k q
-  -- it passes no limit
-  pub sizes : query_sizes k rules automata q ≡ []

@@ -1,23 +1,18 @@
-//! Queries from questions, within the limits on their work.
-ghost use Rattle.std.specs.Prelude.{◌≡◌, [], false, map, min, IfOk};
+//! Queries from questions.
+ghost use Rattle.std.specs.Prelude.{◌≡◌, [], false, map, min, IfOk, OnOk};
 ghost use Rattle.std.specs.List.{list_any};
 ghost use Rattle.dd_commands.specs.declared.table.Question.TheVariants as question;
-ghost use Rattle.dd_faults.specs.Order.{Resolves};
 ghost use Rattle.dd_faults.specs.Commands.{is_far, request_faults};
 ghost use Rattle.dd_faults.specs.Sound.{IsSound};
 ghost use Rattle.dd_query.specs.Vectors.{place_of};
 ghost use Rattle.dd_query.specs.Queries.{word_at, value_at, strip_periods, query_of};
 ghost use Rattle.dd_query.specs.Asked.{IsAsked};
-ghost use Rattle.dd_query.specs.Limits.{query_sizes};
-ghost use Rattle.dd_query.specs.Made.{AreMade};
-ghost use Rattle.dd_query.specs.Sound.{AreStripPeriods, IsQueryWithin, IsSoundQuery};
+ghost use Rattle.dd_query.specs.Sound.{AreStripPeriods, IsQueryWithin};
 
-use crate::limits::is_within_limits;
 use crate::queries::Query;
 use crate::vectors::position_of;
 use dd_commands::{Question, Request, Vector};
-use dd_faults::{Context, Refusal, number_in, period_at};
-use dd_formula::{Automaton, Rule};
+use dd_faults::{Context, number_in, period_at};
 use dd_lattice::Position;
 use dd_values::Items;
 use dd_written::{Name, Text, number_value};
@@ -75,7 +70,8 @@ fn positions(alloc: Global, text: &Text, vectors: &[Vector]) -> Result<Items<Pos
 fn asked(alloc: Global, context: &Context, request: &Request) -> Result<Query, AllocError>
     requires within { IsQueryWithin context.now.known (query_of context.now request.now) }
     requires close { request.now.question ≡ question.Discharge → list_any (is_far context.now.text) request.now.vectors ≡ false }
-    ensures { IfOk result (λ q. q ≡ query_of context.now request.now) }
+    ensures exact { IfOk result (λ q. q ≡ query_of context.now request.now) }
+    ensures within { OnOk result (IsQueryWithin context.now.known (query_of context.now request.now)) }
 {
     let first = word_at(context, request, 0);
     let second = word_at(context, request, 1);
@@ -112,22 +108,13 @@ fn asked(alloc: Global, context: &Context, request: &Request) -> Result<Query, A
     })
 }
 
-/// The query that a question without a fault asks, within the limits on its work.
-pub fn ask(
-    alloc: Global,
-    context: &Context,
-    rules: &[Rule],
-    automata: &[Automaton],
-    request: &Request,
-) -> Result<Query, Refusal>
+/// The query that a question without a fault asks.
+pub fn ask(alloc: Global, context: &Context, request: &Request) -> Result<Query, AllocError>
     requires sound { IsSound context.now.known }
-    requires made { AreMade context.now.known rules.now automata.now }
     requires written { IsAsked context.now.text request.now }
     requires faultless { request_faults context.now request.now ≡ [] }
-    ensures exact { let q = query_of context.now request.now in Resolves result (query_sizes context.now.known rules.now automata.now q) q }
-    ensures sound { IfOk result (IsSoundQuery context.now.known rules.now automata.now) }
+    ensures exact { IfOk result (λ q. q ≡ query_of context.now request.now) }
+    ensures within { OnOk result (IsQueryWithin context.now.known (query_of context.now request.now)) }
 {
-    let query = asked(alloc, context, request)?;
-    is_within_limits(alloc, &context.known, rules, automata, &query)?;
-    Ok(query)
+    asked(alloc, context, request)
 }

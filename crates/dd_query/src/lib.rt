@@ -1,9 +1,7 @@
-//! The queries of scripts, and the limits on the work that they ask for.
+//! The queries of scripts.
 #![tactic(auto)]
 
-mod aims;
 mod asking;
-mod limits;
 mod queries;
 mod vectors;
 

@@ -1,9 +1,12 @@
 -- The questions of a sample are without a fault.
-use Rattle.std.proofs.Common.{◌≡◌, ℕ, ◌*◌, List, [], ◌∷◌, ◌++◌, map, Bool, true, false, codes, refl, sym, ap, ◌∙◌}
+use Rattle.std.proofs.Common.{◌≡◌, ℕ, List, [], ◌∷◌, ◌++◌, map, Bool, true, false, Option, Some, None, codes, refl, sym, ap, ◌∙◌}
 use Rattle.std.proofs.lemmas.List.{map_push}
 use Rattle.std.specs.Prelude.{nat_lt, not, ◌||◌, is_some, unwrap_or, if◌then◌else◌, bytes_eq}
-use Rattle.std.specs.List.{flat_map, list_any}
+use Rattle.std.specs.List.{flat_map, list_any, slice_get}
+use Rattle.std.specs.Option.{option_map, option_and_then}
 use Rattle.dd_topology.specs.Naming.{number_of}
+use Rattle.dd_lattice.specs.Place.{Place}
+use Rattle.dd_pattern.specs.Tile.{Tile}
 use Rattle.dd_formula.specs.LocalRule.{LocalRule}
 use Rattle.dd_written.specs.declared.lexeme.Word.{Word}
 use Rattle.dd_written.specs.declared.lexeme.Number.{Number}
@@ -19,20 +22,26 @@ use Rattle.dd_commands.specs.Commands.{request_text}
 use Rattle.dd_faults.specs.declared.fault.Fault.{Fault}
 use Rattle.dd_faults.specs.declared.fault.Fault.TheVariants as fault
 use Rattle.dd_faults.specs.declared.fault.Limit.TheVariants as limit
-use Rattle.dd_faults.specs.declared.context.Known.{Known}
 use Rattle.dd_faults.specs.declared.context.Context.{Context}
 use Rattle.dd_faults.specs.Order.{when, over}
 use Rattle.dd_faults.specs.Names.{missing}
 use Rattle.dd_faults.specs.Numbers.{token_faults, entry_value, is_far}
 use Rattle.dd_faults.specs.Repeats.{first_repeat, vector_key, entry_key, twice_vector, twice_vectors}
 use Rattle.dd_faults.specs.Commands.{written_faults, radius_faults, vector_faults}
-use Rattle.dd_query.specs.Limits.{about, contains_sizes, equal_sizes, query_sizes, has_many_states, is_long, breaking}
+use Rattle.dd_query.specs.declared.queries.Query.{Query}
 use Rattle.dd_query.specs.Queries.{query_of}
+use Rattle.dd_boxes.specs.Goals.{breaks}
+use Rattle.dd_question.specs.declared.excess.Excess.{Excess}
+use Rattle.dd_question.specs.declared.excess.Excess.TheVariants as excess
+use Rattle.dd_question.specs.Questions.{membership, box, equality, density, discharge}
+use Rattle.dd_question.specs.Excesses.{is_long, passed, excess_of}
+use Rattle.dd_script.specs.Parts.{Parts}
+use Rattle.dd_script.specs.Questions.{of_both, query_excess}
 use Rattle.dd_sampling.proofs.Lexing.{Stands, number_at, up_word, up_number, up_lexeme, word_up, number_up}
 use Rattle.dd_sampling.proofs.Whole.{tail_text}
 use Rattle.dd_sampling.proofs.Tree.{word_at, up_entry, up_vector, up_request, question_written, vector, plus, minus, member_hard, row_hard, hard_row, hard_equals_row, zero_dies, density_dom, discharge_dom}
 use Rattle.dd_sampling.proofs.Meant.{plain_rule, hard_meant, row_meant, dies_meant, zero_meant, dom_meant}
-use Rattle.dd_sampling.proofs.Sizes.{known, row_hard_short, hard_row_short, zero_dies_short, dom_narrow}
+use Rattle.dd_sampling.proofs.Sizes.{limits, known, row_hard_short, hard_row_short, zero_dies_short, dom_narrow}
 use Rattle.dd_sampling.proofs.Faultless.{standing, names_5}
 
 none_and : (xs ys : List Fault) → xs ≡ [] → ys ≡ [] → xs ++ ys ≡ []
@@ -181,59 +190,78 @@ discharge_faultless bytes p stands =
     (none_and _ _ (none_and _ _ radius (none_and _ _ margin refl))
     (none_and _ _ once (none_and _ _ vectors refl))))
 
--- ---- what is counted of each
+-- ---- what each asks passes no limit
 
-abbrev rules_5 : List LocalRule
+abbrev pub rules_5 : List LocalRule
 rules_5 = plain_rule hard_meant ∷ plain_rule row_meant ∷ plain_rule dies_meant ∷ plain_rule zero_meant ∷ plain_rule dom_meant ∷ []
 
-abbrev now : Known
-now = known names_5 (codes "c" ∷ [])
+-- the script with these queries
+abbrev pub script : List Tile → List Query → Parts
+script tiles queries = record { known = known names_5 (codes "c" ∷ []); rules = rules_5; automata = []; configurations = tiles; queries = queries }
+
+abbrev pub excess_at : List ℕ → ℕ → ℕ → List Tile → List Query → Word × Request → Option Excess
+excess_at bytes number p tiles queries a = query_excess (script tiles queries) (query_of (asked_in bytes number) (up_request p a.1))
 
 abbrev number_by : List ℕ → ℕ
 number_by t = unwrap_or (number_of names_5 t) 0
 
-abbrev contains_by : List ℕ → List ℕ → List Fault
-contains_by outer inner = about rules_5 (number_by outer) (λ y. about rules_5 (number_by inner) (λ x. contains_sizes now y x))
+abbrev rule_by : List ℕ → Option LocalRule
+rule_by t = slice_get rules_5 (number_by t)
 
-abbrev equal_by : List ℕ → List ℕ → List Fault
-equal_by left right = about rules_5 (number_by left) (λ x. about rules_5 (number_by right) (λ y. equal_sizes now x y))
+abbrev contains_by : List ℕ → List ℕ → Option Excess
+contains_by outer inner = option_and_then (excess_of limits) (of_both (λ x y. box x (breaks y)) (rule_by inner) (rule_by outer))
 
-abbrev pub sizes_of : List ℕ → ℕ → ℕ → Word × Request → List Fault
-sizes_of bytes number p a = query_sizes now rules_5 [] (query_of (asked_in bytes number) (up_request p a.1))
+abbrev equal_by : List ℕ → List ℕ → Option Excess
+equal_by left right = option_and_then (excess_of limits) (of_both equality (rule_by left) (rule_by right))
 
-by_texts : (f : List ℕ → List ℕ → List Fault) (bytes : List ℕ) (v u : Word) (t s : List ℕ) → word_text bytes v ≡ t → word_text bytes u ≡ s → f (word_text bytes v) (word_text bytes u) ≡ f t s
+by_texts : (f : List ℕ → List ℕ → Option Excess) (bytes : List ℕ) (v u : Word) (t s : List ℕ) → word_text bytes v ≡ t → word_text bytes u ≡ s → f (word_text bytes v) (word_text bytes u) ≡ f t s
 by_texts f bytes v u t s first second = ap (λ (x : List ℕ). f x (word_text bytes u)) first ∙ ap (f t) second
 
-pub row_hard_few : (bytes : List ℕ) (p : ℕ) → Stands bytes p tail_text → sizes_of bytes 9 p row_hard ≡ []
-row_hard_few bytes p stands =
-    by_texts contains_by bytes (up_word p (word_at 26 3)) (up_word p (word_at 30 4)) (codes "row") (codes "hard")
-    (word_up bytes p tail_text stands (word_at 26 3)) (word_up bytes p tail_text stands (word_at 30 4))
-    ∙ ap (λ (b : Bool). over b limit.Clauses) (row_hard_short names_5 (codes "c" ∷ []))
+membership_light : (x : Option LocalRule) (t : Option Tile) → option_and_then (excess_of limits) (of_both membership x t) ≡ None
+membership_light (Some x) (Some t) = refl
+membership_light (Some x) None = refl
+membership_light None t = refl
 
-pub hard_row_few : (bytes : List ℕ) (p : ℕ) → Stands bytes p tail_text → sizes_of bytes 10 p hard_row ≡ []
-hard_row_few bytes p stands =
-    by_texts contains_by bytes (up_word p (word_at 45 4)) (up_word p (word_at 50 3)) (codes "hard") (codes "row")
-    (word_up bytes p tail_text stands (word_at 45 4)) (word_up bytes p tail_text stands (word_at 50 3))
-    ∙ ap (λ (b : Bool). over b limit.Clauses) (hard_row_short names_5 (codes "c" ∷ []))
+discharge_light : (x : Option LocalRule) (radius margin : ℕ) (vs : List Place) (ws : List ℕ) → option_and_then (excess_of limits) (option_map (λ y. discharge y radius margin vs ws) x) ≡ None
+discharge_light (Some x) radius margin vs ws = refl
+discharge_light None radius margin vs ws = refl
 
-pub equal_few : (bytes : List ℕ) (p : ℕ) → Stands bytes p tail_text → sizes_of bytes 11 p hard_equals_row ≡ []
-equal_few bytes p stands =
-    by_texts equal_by bytes (up_word p (word_at 61 4)) (up_word p (word_at 66 3)) (codes "hard") (codes "row")
-    (word_up bytes p tail_text stands (word_at 61 4)) (word_up bytes p tail_text stands (word_at 66 3))
-    ∙ (ap (λ (b : Bool). over (b || is_long now (plain_rule row_meant) (breaking (plain_rule hard_meant))) limit.Clauses) (row_hard_short names_5 (codes "c" ∷ []))
-    ∙ ap (λ (b : Bool). over b limit.Clauses) (hard_row_short names_5 (codes "c" ∷ [])))
+module _ (bytes : List ℕ) (p : ℕ) (stands : Stands bytes p tail_text) (tiles : List Tile) (queries : List Query) where
+  pub member_few : excess_at bytes 8 p tiles queries member_hard ≡ None
+  member_few = membership_light _ _
 
-pub zero_dies_few : (bytes : List ℕ) (p : ℕ) → Stands bytes p tail_text → sizes_of bytes 12 p zero_dies ≡ []
-zero_dies_few bytes p stands =
-    by_texts contains_by bytes (up_word p (word_at 80 4)) (up_word p (word_at 85 4)) (codes "zero") (codes "dies")
-    (word_up bytes p tail_text stands (word_at 80 4)) (word_up bytes p tail_text stands (word_at 85 4))
-    ∙ ap (λ (b : Bool). over b limit.Clauses) (zero_dies_short names_5 (codes "c" ∷ []))
+  pub row_hard_few : excess_at bytes 9 p tiles queries row_hard ≡ None
+  row_hard_few =
+      by_texts contains_by bytes (up_word p (word_at 26 3)) (up_word p (word_at 30 4)) (codes "row") (codes "hard")
+      (word_up bytes p tail_text stands (word_at 26 3)) (word_up bytes p tail_text stands (word_at 30 4))
+      ∙ ap (λ (b : Bool). passed b excess.Clauses) row_hard_short
 
-abbrev states_by : List ℕ → ℕ → List Fault
-states_by t v = about rules_5 (number_by t) (λ r. over (has_many_states r (v * 1)) limit.States)
+  pub hard_row_few : excess_at bytes 10 p tiles queries hard_row ≡ None
+  hard_row_few =
+      by_texts contains_by bytes (up_word p (word_at 45 4)) (up_word p (word_at 50 3)) (codes "hard") (codes "row")
+      (word_up bytes p tail_text stands (word_at 45 4)) (word_up bytes p tail_text stands (word_at 50 3))
+      ∙ ap (λ (b : Bool). passed b excess.Clauses) hard_row_short
 
-pub density_few : (bytes : List ℕ) (p : ℕ) → Stands bytes p tail_text → sizes_of bytes 13 p density_dom ≡ []
-density_few bytes p stands =
-    let five : written_value bytes (up_number p (number_at 104 1)) ≡ 5 = value_up bytes p tail_text stands (number_at 104 1) in
-    ap (λ (t : List ℕ). states_by t (written_value bytes (up_number p (number_at 104 1)))) (word_up bytes p tail_text stands (word_at 99 3))
-    ∙ (ap (states_by (codes "dom")) five ∙ ap (λ (b : Bool). over b limit.States) dom_narrow)
+  pub equal_few : excess_at bytes 11 p tiles queries hard_equals_row ≡ None
+  equal_few =
+      by_texts equal_by bytes (up_word p (word_at 61 4)) (up_word p (word_at 66 3)) (codes "hard") (codes "row")
+      (word_up bytes p tail_text stands (word_at 61 4)) (word_up bytes p tail_text stands (word_at 66 3))
+      ∙ (ap (λ (b : Bool). passed (b || is_long limits (plain_rule row_meant) (breaks (plain_rule hard_meant))) excess.Clauses) row_hard_short
+      ∙ ap (λ (b : Bool). passed b excess.Clauses) hard_row_short)
+
+  pub zero_dies_few : excess_at bytes 12 p tiles queries zero_dies ≡ None
+  zero_dies_few =
+      by_texts contains_by bytes (up_word p (word_at 80 4)) (up_word p (word_at 85 4)) (codes "zero") (codes "dies")
+      (word_up bytes p tail_text stands (word_at 80 4)) (word_up bytes p tail_text stands (word_at 85 4))
+      ∙ ap (λ (b : Bool). passed b excess.Clauses) zero_dies_short
+
+  pub density_few : excess_at bytes 13 p tiles queries density_dom ≡ None
+  density_few =
+      let states_by : List ℕ → ℕ → Option Excess =
+      λ t v. option_and_then (excess_of limits) (option_map (λ x. density x (v ∷ 1 ∷ []) (0 ∷ 1 ∷ [])) (rule_by t)) in
+      let five : written_value bytes (up_number p (number_at 104 1)) ≡ 5 = value_up bytes p tail_text stands (number_at 104 1) in
+      ap (λ (t : List ℕ). states_by t (written_value bytes (up_number p (number_at 104 1)))) (word_up bytes p tail_text stands (word_at 99 3))
+      ∙ (ap (states_by (codes "dom")) five ∙ ap (λ (b : Bool). passed b excess.States) dom_narrow)
+
+  pub discharge_few : excess_at bytes 14 p tiles queries discharge_dom ≡ None
+  discharge_few = discharge_light _ _ _ _ _

@@ -10,19 +10,24 @@ use Rattle.dd_expansion.specs.Leaves.{instances, clause_count}
 use Rattle.dd_formula.specs.LocalRule.{LocalRule, reads_at, expansion_at, is_near}
 use Rattle.dd_formula.specs.Reach.{farthest}
 use Rattle.dd_formula.specs.Counts.{cell_clause_count, disallowed_pairs, largest_region}
-use Rattle.dd_counts.specs.Rules.{greatest_x, least_x}
+use Rattle.dd_counts.specs.Rules.{greatest_x, least_x, most_states, most_longer_states}
+use Rattle.dd_values.specs.declared.limits.Limits.{Limits}
+use Rattle.dd_boxes.specs.Goals.{breaks}
 use Rattle.dd_boxes.specs.Counts.{most_clauses}
 use Rattle.dd_faults.specs.declared.fault.Fault.{Fault}
 use Rattle.dd_faults.specs.declared.fault.Limit.TheVariants as limit
 use Rattle.dd_faults.specs.declared.context.Known.{Known}
 use Rattle.dd_faults.specs.declared.context.Setting.{Setting}
 use Rattle.dd_faults.specs.Order.{over}
-use Rattle.dd_query.specs.Limits.{is_long, breaking, has_many_states, most_states, most_longer_states}
+use Rattle.dd_question.specs.Excesses.{is_long, has_many_states}
 use Rattle.dd_meanings.specs.Definitions.{rule_faults}
 use Rattle.dd_topology.specs.Builtin.{square}
 use Rattle.dd_topology.specs.Sets.{all_symbols}
 use Rattle.std.proofs.Common.{codes}
 use Rattle.dd_sampling.proofs.Meant.{plain_rule, Counts, hard_meant, row_meant, dies_meant, zero_meant, dom_meant, hard_counts, row_counts, dies_counts, zero_counts, dom_counts}
+
+abbrev pub limits : Limits
+limits = record { radius = 3; period = 3; pivots = 1000 }
 
 -- what a sample says of cells, and the names that it has given
 abbrev pub setting : Setting
@@ -35,7 +40,7 @@ known rules configurations =
       nodes_are_given = false;
       restricted = [];
       weights = 0 ∷ 1 ∷ [];
-      limits = record { radius = 3; period = 3; pivots = 1000 };
+      limits = limits;
       rules = rules;
       automata = [];
       configurations = configurations;
@@ -74,9 +79,9 @@ abbrev long_by : LocalRule → ℕ → ℕ → List Cell → Bool
 long_by x clauses goal cells =
     nat_lt most_clauses (largest_region x.dimension (max 3 (farthest (in_order cells ++ []))) 3 * (x.nodes * cell_clause_count x.symbols + disallowed_pairs x + (clauses + 0)) + (goal + 0 + 1))
 
-is_short_by : {f g : Formula} {e h : Expanded} {nodes clauses others goal : ℕ} {read cells : List Cell} (rules configurations : List (List ℕ)) → Counts f e nodes clauses read → Counts g h others goal cells
-    → long_by (plain_rule f) clauses goal cells ≡ false → is_long (known rules configurations) (plain_rule f) (breaking (plain_rule g)) ≡ false
-is_short_by {f} {g} {e} {h} {nodes} {clauses} {others} {goal} {read} {cells} rules configurations premise broken short =
+is_short_by : {f g : Formula} {e h : Expanded} {nodes clauses others goal : ℕ} {read cells : List Cell} → Counts f e nodes clauses read → Counts g h others goal cells
+    → long_by (plain_rule f) clauses goal cells ≡ false → is_long limits (plain_rule f) (breaks (plain_rule g)) ≡ false
+is_short_by {f} {g} {e} {h} {nodes} {clauses} {others} {goal} {read} {cells} premise broken short =
     let x : LocalRule = plain_rule f in
     let y : LocalRule = plain_rule g in
     ap (λ (k : Expanded). long_by x (clause_count k) (clause_count (expansion_at y 0)) (reads_at y 0)) premise.expanded
@@ -85,14 +90,14 @@ is_short_by {f} {g} {e} {h} {nodes} {clauses} {others} {goal} {read} {cells} rul
     ∙ (ap (λ (c : ℕ). long_by x clauses c (reads_at y 0)) broken.clauses_are
     ∙ (ap (λ (cs : List Cell). long_by x clauses goal cs) broken.cells_are ∙ short))))
 
-pub row_hard_short : (rules configurations : List (List ℕ)) → is_long (known rules configurations) (plain_rule hard_meant) (breaking (plain_rule row_meant)) ≡ false
-row_hard_short rules configurations = is_short_by rules configurations hard_counts row_counts refl
+pub row_hard_short : is_long limits (plain_rule hard_meant) (breaks (plain_rule row_meant)) ≡ false
+row_hard_short = is_short_by hard_counts row_counts refl
 
-pub hard_row_short : (rules configurations : List (List ℕ)) → is_long (known rules configurations) (plain_rule row_meant) (breaking (plain_rule hard_meant)) ≡ false
-hard_row_short rules configurations = is_short_by rules configurations row_counts hard_counts refl
+pub hard_row_short : is_long limits (plain_rule row_meant) (breaks (plain_rule hard_meant)) ≡ false
+hard_row_short = is_short_by row_counts hard_counts refl
 
-pub zero_dies_short : (rules configurations : List (List ℕ)) → is_long (known rules configurations) (plain_rule dies_meant) (breaking (plain_rule zero_meant)) ≡ false
-zero_dies_short rules configurations = is_short_by rules configurations dies_counts zero_counts refl
+pub zero_dies_short : is_long limits (plain_rule dies_meant) (breaks (plain_rule zero_meant)) ≡ false
+zero_dies_short = is_short_by dies_counts zero_counts refl
 
 abbrev span_by : List Cell → ℕ
 span_by cells = unsigned_abs (greatest_x (pos 0) (in_order cells ++ []) -ℤ least_x (pos 0) (in_order cells ++ [])) + 1

@@ -14,6 +14,7 @@ use Rattle.dd_commands.specs.declared.script.Written.{Written}
 use Rattle.dd_commands.specs.declared.script.Syntax.{Syntax}
 use Rattle.dd_commands.specs.Scripts.{IsScript}
 use Rattle.dd_faults.specs.declared.fault.Fault.{Fault}
+use Rattle.dd_faults.specs.declared.fault.Fault.TheVariants as fault
 use Rattle.dd_faults.specs.Order.{first_fault}
 use Rattle.dd_faults.specs.Commands.{written_faults}
 use Rattle.dd_query.specs.declared.queries.Query.{Query}
@@ -21,8 +22,9 @@ use Rattle.dd_query.specs.Queries.{query_of}
 use Rattle.dd_meanings.specs.declared.meaning.Meaning.TheVariants as meaning
 use Rattle.dd_meanings.specs.Definitions.{rule_faults, tile_of}
 use Rattle.dd_meanings.specs.Formulas.{formula_of}
+use Rattle.dd_question.specs.declared.excess.Excess.{Excess}
 use Rattle.dd_script.specs.Parts.{Parts}
-use Rattle.dd_script.specs.Walk.{located, start, fault_of, next, with, first_from, first_located_fault, script_of}
+use Rattle.dd_script.specs.Walk.{located, start, limit_of, fault_of, next, with, first_from, first_located_fault, script_of}
 use Rattle.dd_script.specs.Scripts.{Spells}
 use Rattle.dd_sample.specs.Sample.{IsSampleNumber, sample_text}
 use Rattle.dd_sampling.proofs.Lexing.{Stands, number_at, turn_numbers}
@@ -34,12 +36,16 @@ use Rattle.dd_sampling.proofs.Meant.{plain_rule, hard_meant, row_meant, dies_mea
 use Rattle.dd_sampling.proofs.Sizes.{known, hard_few, row_few, dies_few, zero_few, dom_few}
 use Rattle.dd_sampling.proofs.Faultless.{behind, names_1, names_2, names_3, names_4, names_5, hard_faultless, row_faultless, dies_faultless, zero_faultless, dom_faultless, hard_meaning, row_meaning, dies_meaning, zero_meaning, dom_meaning}
 use Rattle.dd_sampling.proofs.Symbols.{conf_faultless}
-use Rattle.dd_sampling.proofs.Questions.{asked_in, member_faultless, row_hard_faultless, hard_row_faultless, equal_faultless, zero_dies_faultless, density_faultless, discharge_faultless, row_hard_few, hard_row_few, equal_few, zero_dies_few, density_few}
+use Rattle.dd_sampling.proofs.Questions.{asked_in, rules_5, member_faultless, row_hard_faultless, hard_row_faultless, equal_faultless, zero_dies_faultless, density_faultless, discharge_faultless, member_few, row_hard_few, hard_row_few, equal_few, zero_dies_few, density_few, discharge_few}
 
 -- ---- one command more
 
-no_fault : (fs gs : List Fault) → fs ≡ [] → gs ≡ [] → option_or (first_fault fs) (first_fault gs) ≡ None
-no_fault fs gs first second = ap (λ (hs : List Fault). option_or (first_fault hs) (first_fault gs)) first ∙ ap first_fault second
+no_fault : (fs gs : List Fault) → fs ≡ [] → gs ≡ [] → option_or (first_fault fs) (option_or (first_fault gs) None) ≡ None
+no_fault fs gs first second = rw (first, second) refl
+
+-- the same for a question
+no_excess : (fs : List Fault) (o : Option Excess) → fs ≡ [] → o ≡ None → option_or (first_fault fs) (option_or (first_fault []) (option_map (λ e. fault.Size (limit_of e)) o)) ≡ None
+no_excess fs o first second = rw (first, second) refl
 
 one_more : (bytes : List ℕ) (n : ℕ) (s t : Parts) (w : Written) (ws : List Written) → fault_of bytes false n s w ≡ None → next bytes false n s w ≡ t
     → first_from bytes false (n + 1) t ws ≡ None → first_from bytes false n s (w ∷ ws) ≡ None
@@ -74,9 +80,6 @@ rules_3 = plain_rule hard_meant ∷ plain_rule row_meant ∷ plain_rule dies_mea
 
 abbrev rules_4 : List LocalRule
 rules_4 = plain_rule hard_meant ∷ plain_rule row_meant ∷ plain_rule dies_meant ∷ plain_rule zero_meant ∷ []
-
-abbrev rules_5 : List LocalRule
-rules_5 = plain_rule hard_meant ∷ plain_rule row_meant ∷ plain_rule dies_meant ∷ plain_rule zero_meant ∷ plain_rule dom_meant ∷ []
 
 limits_none : (more : List ℕ) → fault_of (front_text ++ more) false 1 start limits_written ≡ None
 limits_none more = refl
@@ -150,18 +153,18 @@ asking_row_hard p = question_written p row_hard ∷ asking_hard_row p
 questions_none : (bytes : List ℕ) (p : ℕ) (tiles : List Tile) → Stands bytes p tail_text → NoneFrom bytes 8 tiles (map (question_written p) questions)
 questions_none bytes p tiles stands =
     let seven : NoneFrom bytes 14 tiles (asking_discharge p) =
-    λ qs. question_more bytes 14 p tiles qs discharge_dom [] (no_fault _ [] (discharge_faultless bytes p stands) refl) (λ rs. refl) in
+    λ qs. question_more bytes 14 p tiles qs discharge_dom [] (no_excess _ _ (discharge_faultless bytes p stands) (discharge_few bytes p stands tiles qs)) (λ rs. refl) in
     let six : NoneFrom bytes 13 tiles (asking_density p) =
-    λ qs. question_more bytes 13 p tiles qs density_dom (asking_discharge p) (no_fault _ _ (density_faultless bytes p stands) (density_few bytes p stands)) seven in
+    λ qs. question_more bytes 13 p tiles qs density_dom (asking_discharge p) (no_excess _ _ (density_faultless bytes p stands) (density_few bytes p stands tiles qs)) seven in
     let five : NoneFrom bytes 12 tiles (asking_zero_dies p) =
-    λ qs. question_more bytes 12 p tiles qs zero_dies (asking_density p) (no_fault _ _ (zero_dies_faultless bytes p stands) (zero_dies_few bytes p stands)) six in
+    λ qs. question_more bytes 12 p tiles qs zero_dies (asking_density p) (no_excess _ _ (zero_dies_faultless bytes p stands) (zero_dies_few bytes p stands tiles qs)) six in
     let four : NoneFrom bytes 11 tiles (asking_equal p) =
-    λ qs. question_more bytes 11 p tiles qs hard_equals_row (asking_zero_dies p) (no_fault _ _ (equal_faultless bytes p stands) (equal_few bytes p stands)) five in
+    λ qs. question_more bytes 11 p tiles qs hard_equals_row (asking_zero_dies p) (no_excess _ _ (equal_faultless bytes p stands) (equal_few bytes p stands tiles qs)) five in
     let three : NoneFrom bytes 10 tiles (asking_hard_row p) =
-    λ qs. question_more bytes 10 p tiles qs hard_row (asking_equal p) (no_fault _ _ (hard_row_faultless bytes p stands) (hard_row_few bytes p stands)) four in
+    λ qs. question_more bytes 10 p tiles qs hard_row (asking_equal p) (no_excess _ _ (hard_row_faultless bytes p stands) (hard_row_few bytes p stands tiles qs)) four in
     let two : NoneFrom bytes 9 tiles (asking_row_hard p) =
-    λ qs. question_more bytes 9 p tiles qs row_hard (asking_hard_row p) (no_fault _ _ (row_hard_faultless bytes p stands) (row_hard_few bytes p stands)) three in
-    λ qs. question_more bytes 8 p tiles qs member_hard (asking_row_hard p) (no_fault _ [] (member_faultless bytes p stands) refl) two
+    λ qs. question_more bytes 9 p tiles qs row_hard (asking_hard_row p) (no_excess _ _ (row_hard_faultless bytes p stands) (row_hard_few bytes p stands tiles qs)) three in
+    λ qs. question_more bytes 8 p tiles qs member_hard (asking_row_hard p) (no_excess _ _ (member_faultless bytes p stands) (member_few bytes p stands tiles qs)) two
 
 -- ---- all of them
 

@@ -1,5 +1,5 @@
 -- The first fault of a list.
-use Rattle.std.proofs.Common.{◌≡◌, ◌≤◌, ℕ, false, List, [], ◌++◌, Option, None, ap, ◌∙◌}
+use Rattle.std.proofs.Common.{◌≡◌, ◌≤◌, ℕ, List, [], ◌++◌, Option, None}
 use Rattle.std.specs.Prelude.{nat_lt}
 use Rattle.std.specs.Option.{option_or}
 use Rattle.std.proofs.lemmas.Bool.{ltb-false}
@@ -12,7 +12,8 @@ use Rattle.dd_faults.specs.lemmas.Nothing.{both_nil, within}
 pub counted : (n : ℕ) (fs : List Fault) → over (nat_lt 1000 n) limit.Commands ++ fs ≡ [] → n ≤ 1000
 counted n fs e = ltb-false 1000 n (within (nat_lt 1000 n) limit.Commands (both_nil (over (nat_lt 1000 n) limit.Commands) fs e).0)
 
--- ---- what is written before what is counted
+-- ---- what is written before what is counted, and that before what is asked
 
-pub neither : (one : Option Fault) (fs : List Fault) → one ≡ None → fs ≡ [] → option_or one (first_fault fs) ≡ None
-neither one fs e none = ap (λ (o : Option Fault). option_or o (first_fault fs)) e ∙ ap first_fault none
+pub last_of_three : (written counted : List Fault) (asked found : Option Fault) → first_fault written ≡ None → counted ≡ [] → asked ≡ found →
+    option_or (first_fault written) (option_or (first_fault counted) asked) ≡ found
+last_of_three written counted asked found one two three = rw (one, two) three

@@ -1,23 +1,25 @@
 -- What every script keeps, where the header says more.
-use Rattle.std.proofs.Common.{◌≡◌, ℕ, List, [], ◌∷◌, ◌++◌, length, replicate, Bool, true, refl, sym, ap, subst, ◌∙◌, arith}
+use Rattle.std.proofs.Common.{◌≡◌, ℕ, List, [], ◌∷◌, ◌++◌, length, replicate, Bool, true, Option, Some, None, refl, sym, ap, subst, ◌∙◌, arith}
 use Rattle.std.specs.List.{All, range_with_len}
+use Rattle.std.specs.Option.{option_map}
 use Rattle.std.proofs.lemmas.List.Elements.{All-nil}
 use Rattle.std.proofs.lemmas.List.{length-set, length-replicate}
 use Rattle.std.proofs.lemmas.List.FromFn.{length-range_with_len}
 use Rattle.dd_topology.specs.Grid.{Grid}
 use Rattle.dd_topology.specs.Sets.{IsSets, SymbolSets, all_symbols, restricted, symbol_row}
-use Rattle.dd_values.specs.declared.limits.Limits.{Limits}
 use Rattle.dd_formula.specs.Automata.{IsAutomaton}
 use Rattle.dd_written.specs.Values.{word_text}
+use Rattle.dd_faults.specs.declared.fault.Fault.TheVariants as fault
 use Rattle.dd_faults.specs.declared.context.Known.{Known}
 use Rattle.dd_faults.specs.Sound.{IsSound}
-use Rattle.dd_query.specs.Made.{IsRuleOf, script_numbers}
-use Rattle.dd_query.specs.Sound.{IsSoundQuery}
+use Rattle.dd_meanings.specs.Made.{IsRuleOf, script_numbers}
 use Rattle.dd_meanings.specs.declared.meaning.Meaning.{Meaning}
 use Rattle.dd_meanings.specs.declared.meaning.Meaning.TheVariants as meaning
-use Rattle.dd_meanings.specs.Sound.{IsConfigurationOf, IsSoundMeaning, IsGridOf, AreNames, AreScriptWeights, AreLimits}
-use Rattle.dd_script.specs.Parts.{Parts, IsScriptOf}
-use Rattle.dd_script.specs.Walk.{unrestricted, with, context}
+use Rattle.dd_meanings.specs.Sound.{IsConfigurationOf, IsSoundMeaning, IsGridOf, AreNames, AreScriptWeights}
+use Rattle.dd_script.specs.Parts.{Parts}
+use Rattle.dd_script.specs.Questions.{query_excess}
+use Rattle.dd_script.specs.Kept.{IsQueryOf, IsScriptOf}
+use Rattle.dd_script.specs.Walk.{unrestricted, with, context, limit_of, asked_fault}
 use Rattle.dd_script.specs.drafting.Standing.{IsFresh, is_header}
 use Rattle.dd_script.proofs.Ranges.{light_range}
 use Rattle.dd_script.proofs.Kept.{rule_more, automaton_more, configuration_more, query_more}
@@ -35,7 +37,7 @@ fresh_kept s k is fresh sound r a c = record {
   rules = is.rules;
   configurations_named = is.configurations_named ∙ ap length (sym c);
   configurations = subst (All (IsConfigurationOf k)) (sym fresh.configurations) (All-nil (IsConfigurationOf k));
-  queries = subst (All (IsSoundQuery k s.rules s.automata)) (sym fresh.queries) (All-nil (IsSoundQuery k s.rules s.automata));
+  queries = subst (All (IsQueryOf (record s { known = k }))) (sym fresh.queries) (All-nil (IsQueryOf (record s { known = k })));
 }
 
 sets_of : (s : SymbolSets) (n : ℕ) → length s.allowed ≡ n → IsSets (length s.allowed) s → IsSets n s
@@ -130,37 +132,26 @@ sound_weights k ws s are = record {
   pivots = s.pivots;
 }
 
-sound_limits : (k : Known) (l : Limits) → IsSound k → AreLimits l → IsSound (record k { limits = l })
-sound_limits k l s are = record {
-  grid = s.grid;
-  nodes = s.nodes;
-  few_nodes = s.few_nodes;
-  symbols = s.symbols;
-  sets = s.sets;
-  alphabet = s.alphabet;
-  weights = s.weights;
-  light = s.light;
-  radius = are.radius;
-  period = are.period;
-  pivots = are.pivots;
-}
-
 -- ---- one meaning more
 
-pub with_kept : (text : List ℕ) (topology : Bool) (n : ℕ) (s : Parts) (m : Meaning) → IsScriptOf s → (is_header m ≡ true → IsFresh s) → IsSoundMeaning (context text topology n s) s.rules s.automata m → HasSets (with text s m).known → IsScriptOf (with text s m)
-with_kept text topology n s (meaning.Topology g) is fresh sound has =
+unmapped : {X Y : Type 0} (f : X → Y) (o : Option X) → option_map f o ≡ None → o ≡ None
+unmapped f None e = refl
+unmapped f (Some x) e = absurd cc
+
+pub with_kept : (text : List ℕ) (topology : Bool) (n : ℕ) (s : Parts) (m : Meaning) → IsScriptOf s → (is_header m ≡ true → IsFresh s) → IsSoundMeaning (context text topology n s) m → asked_fault s m ≡ None → HasSets (with text s m).known → IsScriptOf (with text s m)
+with_kept text topology n s (meaning.Topology g) is fresh sound light has =
     fresh_kept s (record (s.known) { setting = record (s.known.setting) { topology = g } }) is (fresh refl) (sound_topology s.known g is.known sound) refl refl refl
-with_kept text topology n s (meaning.Nodes nodes given g) is fresh sound has =
+with_kept text topology n s (meaning.Nodes nodes given g) is fresh sound light has =
     fresh_kept s (known_nodes s.known nodes given g) is (fresh refl) (sound_nodes s.known nodes given g is.known sound.0 sound.1 has) refl refl refl
-with_kept text topology n s (meaning.Symbols symbols) is fresh sound has =
+with_kept text topology n s (meaning.Symbols symbols) is fresh sound light has =
     fresh_kept s (known_symbols s.known symbols) is (fresh refl) (sound_symbols s.known symbols is.known sound has) refl refl refl
-with_kept text topology n s (meaning.Only node symbols) is fresh sound has =
+with_kept text topology n s (meaning.Only node symbols) is fresh sound light has =
     fresh_kept s (known_only s.known node symbols) is (fresh refl) (sound_only s.known node symbols is.known has) refl refl refl
-with_kept text topology n s (meaning.Weights ws) is fresh sound has =
+with_kept text topology n s (meaning.Weights ws) is fresh sound light has =
     fresh_kept s (record (s.known) { weights = ws }) is (fresh refl) (sound_weights s.known ws is.known sound) refl refl refl
-with_kept text topology n s (meaning.Limits l) is fresh sound has =
-    fresh_kept s (record (s.known) { limits = l }) is (fresh refl) (sound_limits s.known l is.known sound) refl refl refl
-with_kept text topology n s (meaning.Rule name rule) is fresh sound has = rule_more s (word_text text name) rule is sound.1 sound.2
-with_kept text topology n s (meaning.Automaton name automaton) is fresh sound has = automaton_more s (word_text text name) automaton is sound.1
-with_kept text topology n s (meaning.Configuration name configuration) is fresh sound has = configuration_more s (word_text text name) configuration is sound.1
-with_kept text topology n s (meaning.Query query) is fresh sound has = query_more s query is sound
+with_kept text topology n s (meaning.Limits l) is fresh sound light has =
+    fresh_kept s (record (s.known) { limits = l }) is (fresh refl) sound refl refl refl
+with_kept text topology n s (meaning.Rule name rule) is fresh sound light has = rule_more s (word_text text name) rule is sound.1 sound.2
+with_kept text topology n s (meaning.Automaton name automaton) is fresh sound light has = automaton_more s (word_text text name) automaton is sound.1
+with_kept text topology n s (meaning.Configuration name configuration) is fresh sound light has = configuration_more s (word_text text name) configuration is sound.1
+with_kept text topology n s (meaning.Query query) is fresh sound light has = query_more s query is sound (unmapped (λ e. fault.Size (limit_of e)) (query_excess s query) light)

@@ -1,23 +1,25 @@
 -- What every script keeps, where more is defined and asked.
-use Rattle.std.proofs.Common.{◌≡◌, ℕ, ◌<◌, ◌≤◌, List, [], ◌∷◌, ◌++◌, length, refl, ◌∙◌, arith}
-use Rattle.std.specs.List.{All}
+use Rattle.std.proofs.Common.{◌≡◌, ℕ, ◌<◌, ◌≤◌, List, [], ◌∷◌, ◌++◌, None, length, refl, ap, ◌∙◌, arith}
+use Rattle.std.specs.List.{All, slice_get}
+use Rattle.std.specs.Option.{option_and_then}
 use Rattle.std.proofs.lemmas.List.{length-append}
 use Rattle.std.proofs.lemmas.List.Elements.{All-weaker}
 use Rattle.dd_formula.specs.LocalRule.{LocalRule, IsRule}
 use Rattle.dd_formula.specs.Automata.{IsAutomaton}
 use Rattle.dd_formula.specs.declared.automaton.Automaton.{Automaton}
 use Rattle.dd_pattern.specs.Tile.{Tile}
-use Rattle.dd_faults.specs.declared.fault.Fault.{Fault}
 use Rattle.dd_faults.specs.declared.context.Known.{Known}
 use Rattle.dd_faults.specs.Sound.{IsSound}
 use Rattle.dd_query.specs.declared.queries.Query.{Query}
 use Rattle.dd_query.specs.declared.queries.Query.TheVariants as query
-use Rattle.dd_query.specs.Limits.{about, query_sizes}
-use Rattle.dd_query.specs.Made.{IsRuleOf, script_numbers}
-use Rattle.dd_query.specs.Sound.{IsQueryWithin, IsSoundQuery}
+use Rattle.dd_query.specs.Sound.{IsQueryWithin}
+use Rattle.dd_meanings.specs.Made.{IsRuleOf, script_numbers}
 use Rattle.dd_meanings.specs.Sound.{IsConfigurationOf}
-use Rattle.dd_script.specs.Parts.{Parts, IsScriptOf}
-use Rattle.dd_script.proofs.Extending.{Extends, extends_more, extends_itself, about_same, one_longer, all_more}
+use Rattle.dd_question.specs.Excesses.{excess_of}
+use Rattle.dd_script.specs.Parts.{Parts}
+use Rattle.dd_script.specs.Questions.{asked, query_excess}
+use Rattle.dd_script.specs.Kept.{IsQueryOf, IsScriptOf}
+use Rattle.dd_script.proofs.Extending.{Extends, extends_more, extends_itself, one_longer, all_more}
 
 -- the same with other names
 abbrev pub with_names : Known → List (List ℕ) → List (List ℕ) → List (List ℕ) → Known
@@ -54,44 +56,46 @@ within_kept k R A C (query.Forbidden rule) r a c has = omega (arith, r, has)
 within_kept k R A C (query.Density rule strip) r a c has = (omega (arith, r, has.0), has.1)
 within_kept k R A C (query.Discharge rule radius margin vectors) r a c has = (omega (arith, r, has.0), has.1, has.2, has.3)
 
--- more names, and a rule or an automaton for each
-module _ (s : Parts) (is : IsScriptOf s) (R A C : List (List ℕ)) (rs : List LocalRule) (fs : List Automaton) (more_rules : Extends s.rules rs) (more_automata : Extends s.automata fs) where
-  rule_there : (n : ℕ) → n < length s.known.rules → n < length s.rules
-  rule_there n lt = omega (arith, lt, is.made.rules_named)
+-- more names, and what stands for each
+module _ (s : Parts) (is : IsScriptOf s) (R A C : List (List ℕ)) (rs : List LocalRule) (fs : List Automaton) (ts : List Tile) (qs : List Query)
+    (more_rules : Extends s.rules rs) (more_automata : Extends s.automata fs) (more_configurations : Extends s.configurations ts) where
+  abbrev grown : Parts
+  grown = record { known = with_names s.known R A C; rules = rs; automata = fs; configurations = ts; queries = qs }
 
-  automaton_there : (n : ℕ) → n < length s.known.automata → n < length s.automata
-  automaton_there n lt = omega (arith, lt, is.made.automata_named)
+  rule_same : (n : ℕ) → n < length s.known.rules → slice_get rs n ≡ slice_get s.rules n
+  rule_same n lt = more_rules.same n (omega (arith, lt, is.made.rules_named))
 
-  of_rule : (n : ℕ) (f g : LocalRule → List Fault) → n < length s.known.rules → ((r : LocalRule) → g r ≡ f r) → about rs n g ≡ about s.rules n f
-  of_rule n f g lt same = about_same s.rules rs n f g more_rules (rule_there n lt) same
+  automaton_same : (n : ℕ) → n < length s.known.automata → slice_get fs n ≡ slice_get s.automata n
+  automaton_same n lt = more_automata.same n (omega (arith, lt, is.made.automata_named))
 
-  of_automaton : (n : ℕ) (f g : Automaton → List Fault) → n < length s.known.automata → ((r : Automaton) → g r ≡ f r) → about fs n g ≡ about s.automata n f
-  of_automaton n f g lt same = about_same s.automata fs n f g more_automata (automaton_there n lt) same
+  configuration_same : (n : ℕ) → n < length s.known.configurations → slice_get ts n ≡ slice_get s.configurations n
+  configuration_same n lt = more_configurations.same n (omega (arith, lt, is.configurations_named))
 
-  sizes_same : (q : Query) → IsQueryWithin s.known q → query_sizes (with_names s.known R A C) rs fs q ≡ query_sizes s.known s.rules s.automata q
-  sizes_same (query.Member configuration rule) has = refl
-  sizes_same (query.Contains outer inner) has = of_rule outer _ _ has.0 (λ y. of_rule inner _ _ has.1 (λ x. refl))
-  sizes_same (query.Equal left right) has = of_rule left _ _ has.0 (λ x. of_rule right _ _ has.1 (λ y. refl))
-  sizes_same (query.Empty rule) has = of_rule rule _ _ has (λ x. refl)
-  sizes_same (query.Agree left right rule) has = of_automaton left _ _ has.0 (λ f. of_automaton right _ _ has.1 (λ g. of_rule rule _ _ has.2 (λ x. refl)))
-  sizes_same (query.Forbidden rule) has = of_rule rule _ _ has (λ x. refl)
-  sizes_same (query.Density rule strip) has = of_rule rule _ _ has.0 (λ x. refl)
-  sizes_same (query.Discharge rule radius margin vectors) has = refl
+  asked_same : (q : Query) → IsQueryWithin s.known q → asked grown q ≡ asked s q
+  asked_same (query.Member configuration rule) has = rw (rule_same rule has.1, configuration_same configuration has.0) refl
+  asked_same (query.Contains outer inner) has = rw (rule_same inner has.1, rule_same outer has.0) refl
+  asked_same (query.Equal left right) has = rw (rule_same left has.0, rule_same right has.1) refl
+  asked_same (query.Empty rule) has = rw (rule_same rule has) refl
+  asked_same (query.Agree left right rule) has = rw (rule_same rule has.2, automaton_same left has.0, automaton_same right has.1) refl
+  asked_same (query.Forbidden rule) has = rw (rule_same rule has) refl
+  asked_same (query.Density rule strip) has = rw (rule_same rule has.0) refl
+  asked_same (query.Discharge rule radius margin vectors) has = rw (rule_same rule has.0) refl
 
-  query_kept : length s.known.rules ≤ length R → length s.known.automata ≤ length A → length s.known.configurations ≤ length C → (q : Query) → IsSoundQuery s.known s.rules s.automata q → IsSoundQuery (with_names s.known R A C) rs fs q
-  query_kept r a c q sound = record {
-    within = within_kept s.known R A C q r a c sound.within;
-    sizes = sizes_same q sound.within ∙ sound.sizes;
-  }
+  module _ (r : length s.known.rules ≤ length R) (a : length s.known.automata ≤ length A) (c : length s.known.configurations ≤ length C) where
+    query_kept : (q : Query) → IsQueryOf s q → IsQueryOf grown q
+    query_kept q of = record {
+      within = within_kept s.known R A C q r a c of.within;
+      light = ap (option_and_then (excess_of s.known.limits)) (asked_same q of.within) ∙ of.light;
+    }
 
-  queries_kept : length s.known.rules ≤ length R → length s.known.automata ≤ length A → length s.known.configurations ≤ length C → All (IsSoundQuery (with_names s.known R A C) rs fs) s.queries
-  queries_kept r a c = All-weaker (IsSoundQuery s.known s.rules s.automata) (IsSoundQuery (with_names s.known R A C) rs fs) (query_kept r a c) s.queries is.queries
+    queries_kept : All (IsQueryOf grown) s.queries
+    queries_kept = All-weaker (IsQueryOf s) (IsQueryOf grown) query_kept s.queries is.queries
 
-  rules_kept : (xs : List LocalRule) → All (IsRuleOf s.known) xs → All (IsRuleOf (with_names s.known R A C)) xs
-  rules_kept xs all = All-weaker (IsRuleOf s.known) (IsRuleOf (with_names s.known R A C)) (rule_kept s.known R A C) xs all
+rules_kept : (s : Parts) (R A C : List (List ℕ)) → All (IsRuleOf s.known) s.rules → All (IsRuleOf (with_names s.known R A C)) s.rules
+rules_kept s R A C all = All-weaker (IsRuleOf s.known) (IsRuleOf (with_names s.known R A C)) (rule_kept s.known R A C) s.rules all
 
-  configurations_kept : (ts : List Tile) → All (IsConfigurationOf s.known) ts → All (IsConfigurationOf (with_names s.known R A C)) ts
-  configurations_kept ts all = All-weaker (IsConfigurationOf s.known) (IsConfigurationOf (with_names s.known R A C)) (configuration_kept s.known R A C) ts all
+configurations_kept : (s : Parts) (R A C : List (List ℕ)) → All (IsConfigurationOf s.known) s.configurations → All (IsConfigurationOf (with_names s.known R A C)) s.configurations
+configurations_kept s R A C all = All-weaker (IsConfigurationOf s.known) (IsConfigurationOf (with_names s.known R A C)) (configuration_kept s.known R A C) s.configurations all
 
 longer : {X : Type 0} (xs : List X) (x : X) → length xs ≤ length (xs ++ x ∷ [])
 longer xs x = omega (arith, length-append xs (x ∷ []))
@@ -110,13 +114,15 @@ rule_more s text r is rule of =
       made = record {
         rules_named = one_longer s.rules s.known.rules r text is.made.rules_named;
         automata_named = is.made.automata_named;
-        rules_have = rules_kept s is R A C (s.rules ++ r ∷ []) s.automata (extends_more s.rules (r ∷ [])) (extends_itself s.automata) (s.rules ++ r ∷ []) (all_more (IsRuleOf s.known) s.rules r is.made.rules_have of);
+        rules_have = all_more (IsRuleOf (with_names s.known R A C)) s.rules r (rules_kept s R A C is.made.rules_have) (rule_kept s.known R A C r of);
         automata_have = is.made.automata_have;
       };
       rules = all_more IsRule s.rules r is.rules rule;
       configurations_named = is.configurations_named;
-      configurations = configurations_kept s is R A C (s.rules ++ r ∷ []) s.automata (extends_more s.rules (r ∷ [])) (extends_itself s.automata) s.configurations is.configurations;
-      queries = queries_kept s is R A C (s.rules ++ r ∷ []) s.automata (extends_more s.rules (r ∷ [])) (extends_itself s.automata) (longer s.known.rules text) (itself A) (itself C);
+      configurations = configurations_kept s R A C is.configurations;
+      queries =
+          queries_kept s is R A C (s.rules ++ r ∷ []) s.automata s.configurations s.queries
+          (extends_more s.rules (r ∷ [])) (extends_itself s.automata) (extends_itself s.configurations) (longer s.known.rules text) (itself A) (itself C);
     }
 
 pub automaton_more : (s : Parts) (text : List ℕ) (f : Automaton) → IsScriptOf s → IsAutomaton (script_numbers s.known) f
@@ -130,13 +136,15 @@ automaton_more s text f is automaton =
       made = record {
         rules_named = is.made.rules_named;
         automata_named = one_longer s.automata s.known.automata f text is.made.automata_named;
-        rules_have = rules_kept s is R A C s.rules (s.automata ++ f ∷ []) (extends_itself s.rules) (extends_more s.automata (f ∷ [])) s.rules is.made.rules_have;
+        rules_have = rules_kept s R A C is.made.rules_have;
         automata_have = all_more (IsAutomaton (script_numbers s.known)) s.automata f is.made.automata_have automaton;
       };
       rules = is.rules;
       configurations_named = is.configurations_named;
-      configurations = configurations_kept s is R A C s.rules (s.automata ++ f ∷ []) (extends_itself s.rules) (extends_more s.automata (f ∷ [])) s.configurations is.configurations;
-      queries = queries_kept s is R A C s.rules (s.automata ++ f ∷ []) (extends_itself s.rules) (extends_more s.automata (f ∷ [])) (itself R) (longer s.known.automata text) (itself C);
+      configurations = configurations_kept s R A C is.configurations;
+      queries =
+          queries_kept s is R A C s.rules (s.automata ++ f ∷ []) s.configurations s.queries
+          (extends_itself s.rules) (extends_more s.automata (f ∷ [])) (extends_itself s.configurations) (itself R) (longer s.known.automata text) (itself C);
     }
 
 pub configuration_more : (s : Parts) (text : List ℕ) (t : Tile) → IsScriptOf s → IsConfigurationOf s.known t
@@ -150,21 +158,32 @@ configuration_more s text t is configuration =
       made = record {
         rules_named = is.made.rules_named;
         automata_named = is.made.automata_named;
-        rules_have = rules_kept s is R A C s.rules s.automata (extends_itself s.rules) (extends_itself s.automata) s.rules is.made.rules_have;
+        rules_have = rules_kept s R A C is.made.rules_have;
         automata_have = is.made.automata_have;
       };
       rules = is.rules;
       configurations_named = one_longer s.configurations s.known.configurations t text is.configurations_named;
-      configurations = configurations_kept s is R A C s.rules s.automata (extends_itself s.rules) (extends_itself s.automata) (s.configurations ++ t ∷ []) (all_more (IsConfigurationOf s.known) s.configurations t is.configurations configuration);
-      queries = queries_kept s is R A C s.rules s.automata (extends_itself s.rules) (extends_itself s.automata) (itself R) (itself A) (longer s.known.configurations text);
+      configurations = all_more (IsConfigurationOf (with_names s.known R A C)) s.configurations t (configurations_kept s R A C is.configurations) (configuration_kept s.known R A C t configuration);
+      queries =
+          queries_kept s is R A C s.rules s.automata (s.configurations ++ t ∷ []) s.queries
+          (extends_itself s.rules) (extends_itself s.automata) (extends_more s.configurations (t ∷ [])) (itself R) (itself A) (longer s.known.configurations text);
     }
 
-pub query_more : (s : Parts) (q : Query) → IsScriptOf s → IsSoundQuery s.known s.rules s.automata q → IsScriptOf (record s { queries = s.queries ++ q ∷ [] })
-query_more s q is sound = record {
-  known = is.known;
-  made = is.made;
-  rules = is.rules;
-  configurations_named = is.configurations_named;
-  configurations = is.configurations;
-  queries = all_more (IsSoundQuery s.known s.rules s.automata) s.queries q is.queries sound;
-}
+pub query_more : (s : Parts) (q : Query) → IsScriptOf s → IsQueryWithin s.known q → query_excess s q ≡ None → IsScriptOf (record s { queries = s.queries ++ q ∷ [] })
+query_more s q is within light =
+    let R : List (List ℕ) = s.known.rules in
+    let A : List (List ℕ) = s.known.automata in
+    let C : List (List ℕ) = s.known.configurations in
+    let same : (p : Query) → IsQueryOf s p → IsQueryOf (record s { queries = s.queries ++ q ∷ [] }) p =
+    query_kept s is R A C s.rules s.automata s.configurations (s.queries ++ q ∷ [])
+    (extends_itself s.rules) (extends_itself s.automata) (extends_itself s.configurations) (itself R) (itself A) (itself C) in
+    record {
+      known = is.known;
+      made = is.made;
+      rules = is.rules;
+      configurations_named = is.configurations_named;
+      configurations = is.configurations;
+      queries =
+          all_more (IsQueryOf (record s { queries = s.queries ++ q ∷ [] })) s.queries q (All-weaker (IsQueryOf s) (IsQueryOf (record s { queries = s.queries ++ q ∷ [] })) same s.queries is.queries)
+          (same q (record { within = within; light = light }));
+    }

@@ -7,7 +7,7 @@ use Rattle.std.specs.List.{All}
 use Rattle.std.specs.Ordering.{int_eq, is_eq}
 use Rattle.std.specs.declared.cmp.Ordering.{Ordering}
 use Rattle.std.specs.declared.cmp.Ordering.TheVariants.{Less, Equal, Greater}
-use Rattle.std.proofs.lemmas.Bool.{and_parts, and_from, or_parts, leb-true, ltb-false}
+use Rattle.std.proofs.lemmas.Bool.{and_parts, and_from, leb-true}
 use Rattle.std.proofs.lemmas.Cmp.{tied_itself}
 use Rattle.std.proofs.lemmas.List.Elements.{All-weaker}
 use Rattle.std.proofs.lemmas.List.Sums.{AllPass-from_list_all}
@@ -17,10 +17,8 @@ use Rattle.dd_lattice.specs.Order.{place_cmp}
 use Rattle.dd_lattice.specs.lemmas.InOrderLaws.{place_total, places_equal}
 use Rattle.dd_topology.specs.Grid.{edge_reach, is_offset}
 use Rattle.dd_formula.specs.LocalRule.{LocalRule}
-use Rattle.dd_counts.specs.Rules.{states, longer_states}
 use Rattle.dd_transfer.specs.Transfers.{IsStrip, HasWeights}
-use Rattle.dd_rows.specs.Asked.{IsVector, AreVectors, AreWeightsFor}
-use Rattle.dd_query.specs.Limits.{most_states, most_longer_states, has_many_states}
+use Rattle.dd_boxes.specs.Discharges.{IsVector, AreVectors, AreWeightsFor}
 use Rattle.dd_query.specs.Sound.{AreStripPeriods as IsStripIn, AreQueryVectors as AreVectorsIn}
 
 -- ---- strips
@@ -34,11 +32,6 @@ strip_of x d strip same h = record {
   y_unused = λ low. h.no_second (omega (arith, low, same));
   z_unused = λ low. h.no_third (omega (arith, low, same));
 }
-
-pub few_states : (x : LocalRule) (volume : ℕ) → has_many_states x volume ≡ false → (states x volume ≤ 4096) × (longer_states x volume ≤ 131072)
-few_states x volume few =
-    let both = or_parts (nat_lt most_states (states x volume)) (nat_lt most_longer_states (longer_states x volume)) few in
-    (ltb-false most_states (states x volume) both.0, ltb-false most_longer_states (longer_states x volume) both.1)
 
 -- ---- weights
 

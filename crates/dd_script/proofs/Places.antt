@@ -4,7 +4,6 @@ use Rattle.std.specs.Prelude.{nat_le, if◌then◌else◌}
 use Rattle.std.proofs.lemmas.List.{length-append}
 use Rattle.dd_topology.specs.declared.builtin.Kind.{Kind}
 use Rattle.dd_topology.specs.Builtin.{grid_of}
-use Rattle.dd_formula.specs.LocalRule.{LocalRule}
 use Rattle.dd_formula.specs.declared.automaton.Automaton.{Automaton}
 use Rattle.dd_written.specs.Values.{word_text}
 use Rattle.dd_commands.specs.declared.command.Command.{Command}
@@ -29,20 +28,20 @@ kind_header x k =
     ]
 
 -- the header, and nothing else, means what belongs to it
-pub header_is : (x : Context) (rules : List LocalRule) (automata : List Automaton) (c : Command) → is_header (meaning_of x rules automata c) ≡ nat_le (stage (head_of c)) 6
-header_is x rules automata (command.Dimension n) = refl
-header_is x rules automata (command.Nodes names) = refl
-header_is x rules automata (command.Alphabet names) = refl
-header_is x rules automata (command.Topology k) = kind_header x k
-header_is x rules automata (command.Edges es) = refl
-header_is x rules automata (command.Only node symbols) = refl
-header_is x rules automata (command.Weights ns) = refl
-header_is x rules automata (command.Limits radius period pivots) = refl
-header_is x rules automata (command.Rule name f) = refl
-header_is x rules automata (command.Automaton name cases symbol) = refl
-header_is x rules automata (command.Composition name outer inner) = refl
-header_is x rules automata (command.Configuration name periods shear symbols) = refl
-header_is x rules automata (command.Query r) = refl
+pub header_is : (x : Context) (automata : List Automaton) (c : Command) → is_header (meaning_of x automata c) ≡ nat_le (stage (head_of c)) 6
+header_is x automata (command.Dimension n) = refl
+header_is x automata (command.Nodes names) = refl
+header_is x automata (command.Alphabet names) = refl
+header_is x automata (command.Topology k) = kind_header x k
+header_is x automata (command.Edges es) = refl
+header_is x automata (command.Only node symbols) = refl
+header_is x automata (command.Weights ns) = refl
+header_is x automata (command.Limits radius period pivots) = refl
+header_is x automata (command.Rule name f) = refl
+header_is x automata (command.Automaton name cases symbol) = refl
+header_is x automata (command.Composition name outer inner) = refl
+header_is x automata (command.Configuration name periods shear symbols) = refl
+header_is x automata (command.Query r) = refl
 
 same_fresh : (s t : Parts) → t.rules ≡ s.rules → t.automata ≡ s.automata → t.configurations ≡ s.configurations → t.queries ≡ s.queries → IsFresh s → IsFresh t
 same_fresh s t r a c q fresh =

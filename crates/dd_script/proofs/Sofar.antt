@@ -14,7 +14,8 @@ use Rattle.dd_faults.specs.Sound.{HasFewer}
 use Rattle.dd_meanings.specs.declared.meaning.Meaning.{Meaning}
 use Rattle.dd_meanings.specs.Meanings.{meaning as meaning_of}
 use Rattle.dd_script.specs.declared.draft.Draft.{Draft}
-use Rattle.dd_script.specs.Parts.{Parts, IsScriptOf}
+use Rattle.dd_script.specs.Parts.{Parts}
+use Rattle.dd_script.specs.Kept.{IsScriptOf}
 use Rattle.dd_script.specs.Walk.{Located, located, first_from, after_all, first_located_fault, script_of}
 use Rattle.dd_script.specs.drafting.Standing.{AreOrdered, IsFresh, IsReady}
 use Rattle.dd_script.specs.drafting.Drafts.{parts_of, fault_at, behind, Leaves}
@@ -72,13 +73,13 @@ behind_fault n found others e = ap (λ (o : Option Fault). option_or (option_map
 pub goes_on : (text : List ℕ) (ws : List Written) (i : ℕ) (d : Draft) (w : Written) (e : Draft) → i < length ws → w ≡ get_or ws i w → Sofar text ws i d → Leaves d w e → Sofar text ws (i + 1) e
 goes_on text ws i d w e lt is sofar leaves =
     let here = stands text ws i d w lt is sofar in
-    let m : Meaning = meaning_of d.context d.rules d.automata w.command in
+    let m : Meaning = meaning_of d.context d.automata w.command in
     subst (Sofar text ws (i + 1)) (sym leaves.left) (record {
       from = stage_after w;
       ordered = here.others;
       fresh = λ le.
           let early : stage_of w ≤ 6 = omega (arith, behind_place w, le) in
-          still_fresh d.context.text (parts_of d) m (header_is d.context d.rules d.automata w.command ∙ le-leb (stage_of w) 6 early) (here.ready early);
+          still_fresh d.context.text (parts_of d) m (header_is d.context d.automata w.command ∙ le-leb (stage_of w) 6 early) (here.ready early);
       few = fewer_next d.context.number (parts_of d) sofar.few d.context.text m;
       script = leaves.script;
       same_text = sofar.same_text;

@@ -1,9 +1,11 @@
--- the parts of a script, and what every script keeps
+-- the parts of a script
 pub mod Parts
+-- what the queries ask, and which limit on its work that passes
+pub mod Questions
+-- what every script keeps
+pub mod Kept
 -- what each command leaves, and the first fault
 pub mod Walk
--- what the queries ask
-pub mod Questions
 -- what is known of each question that a script asks
 pub mod Asking
 -- which bytes spell a script, and how all others are refused

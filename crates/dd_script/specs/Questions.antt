@@ -1,29 +1,15 @@
 -- What the queries of a script ask.
-use Rattle.std.specs.Prelude.{ℕ, ◌-◌, List, Option, Some, None, option_map}
+use Rattle.std.specs.Prelude.{ℕ, ◌-◌, Option, Some, None, option_map}
 use Rattle.std.specs.List.{slice_get}
-use Rattle.dd_lattice.specs.Place.{Place}
-use Rattle.dd_pattern.specs.Tile.{Tile}
-use Rattle.dd_formula.specs.LocalRule.{LocalRule}
-use Rattle.dd_boxes.specs.Goals.{GoalOf, breaks, differ, always}
+use Rattle.std.specs.Option.{option_and_then}
+use Rattle.dd_boxes.specs.Goals.{breaks, differ, always}
 use Rattle.dd_boxes.specs.Views.{numbers_of}
 use Rattle.dd_query.specs.declared.queries.Query.{Query}
 use Rattle.dd_query.specs.declared.queries.Query.TheVariants as query
+use Rattle.dd_question.specs.Questions.{Asked, membership, box, equality, listing, density, discharge}
+use Rattle.dd_question.specs.declared.excess.Excess.{Excess}
+use Rattle.dd_question.specs.Excesses.{excess_of}
 use Rattle.dd_script.specs.Parts.{Parts}
-
-pub data Asked : Type 0 where
-  -- does the configuration live in the rule's subshift?
-  membership : LocalRule → Tile → Asked
-  -- can a configuration that obeys the rule have the goal?
-  box : LocalRule → GoalOf → Asked
-  -- can a configuration of either rule break the other?
-  equality : LocalRule → LocalRule → Asked
-  -- which symbols of the cells that the rule reads at a node break it there?
-  listing : LocalRule → Asked
-  -- with these weights, what do the configurations with these periods in the axes after the first weigh at least a position?
-  density : LocalRule → List ℕ → List ℕ → Asked
-  -- with these weights, what can each position hold at least, once each has given along these vectors amounts that the pattern
-  -- of this radius around it determines, on a domain grown by this margin?
-  discharge : LocalRule → ℕ → ℕ → List Place → List ℕ → Asked
 
 -- something of two items, where both are there
 abbrev pub of_both : {X Y Z : Type 0} → (X → Y → Z) → Option X → Option Y → Option Z
@@ -47,6 +33,10 @@ asked s (query.Agree left right rule) =
 asked s (query.Forbidden rule) = option_map listing (slice_get s.rules rule)
 asked s (query.Density rule strip) = option_map (λ x. density x strip s.known.weights) (slice_get s.rules rule)
 asked s (query.Discharge rule radius margin vectors) = option_map (λ x. discharge x radius margin vectors s.known.weights) (slice_get s.rules rule)
+
+-- the limit on its work that the question passes, searched as far as the script says
+abbrev pub query_excess : Parts → Query → Option Excess
+query_excess s q = option_and_then (excess_of s.known.limits) (asked s q)
 
 -- the query with a number, from 1
 abbrev pub query_at : Parts → ℕ → Option Query

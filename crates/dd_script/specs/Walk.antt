@@ -9,7 +9,10 @@ use Rattle.dd_commands.specs.declared.head.Head.TheVariants as head
 use Rattle.dd_commands.specs.declared.script.Written.{Written}
 use Rattle.dd_commands.specs.Heads.{stage}
 use Rattle.dd_commands.specs.Scripts.{stage_of}
+use Rattle.dd_faults.specs.declared.fault.Limit.{Limit}
+use Rattle.dd_faults.specs.declared.fault.Limit.TheVariants as limit
 use Rattle.dd_faults.specs.declared.fault.Fault.{Fault}
+use Rattle.dd_faults.specs.declared.fault.Fault.TheVariants as fault
 use Rattle.dd_faults.specs.declared.context.Known.{Known}
 use Rattle.dd_faults.specs.declared.context.Context.{Context}
 use Rattle.dd_faults.specs.Order.{first_fault}
@@ -17,7 +20,10 @@ use Rattle.dd_faults.specs.Commands.{written_faults}
 use Rattle.dd_meanings.specs.declared.meaning.Meaning.{Meaning}
 use Rattle.dd_meanings.specs.declared.meaning.Meaning.TheVariants as meaning
 use Rattle.dd_meanings.specs.Meanings.{meaning as meaning_of, counted_sizes}
+use Rattle.dd_question.specs.declared.excess.Excess.{Excess}
+use Rattle.dd_question.specs.declared.excess.Excess.TheVariants as excess
 use Rattle.dd_script.specs.Parts.{Parts}
+use Rattle.dd_script.specs.Questions.{query_excess}
 
 -- ---- where a script has said nothing
 
@@ -78,13 +84,37 @@ with bytes s (meaning.Query query) = record s { queries = s.queries ++ query ∷
 abbrev pub context : List ℕ → Bool → ℕ → Parts → Context
 context bytes topology n s = record { text = bytes; has_topology = topology; number = n; known = s.known }
 
--- the first fault of what is written, and where there is none the first limit on counts that is passed
+-- an excess, among the limits of scripts
+abbrev pub limit_of : Excess → Limit
+limit_of excess.Clauses = limit.Clauses
+limit_of excess.Patterns = limit.Patterns
+limit_of excess.States = limit.States
+
+-- the limit that what is asked passes, where something is asked
+abbrev pub asked_fault : Parts → Meaning → Option Fault
+asked_fault s (meaning.Topology g) = None
+asked_fault s (meaning.Nodes nodes given g) = None
+asked_fault s (meaning.Symbols symbols) = None
+asked_fault s (meaning.Only node symbols) = None
+asked_fault s (meaning.Weights weights) = None
+asked_fault s (meaning.Limits limits) = None
+asked_fault s (meaning.Rule name rule) = None
+asked_fault s (meaning.Automaton name automaton) = None
+asked_fault s (meaning.Configuration name configuration) = None
+asked_fault s (meaning.Query query) = option_map (λ e. fault.Size (limit_of e)) (query_excess s query)
+
+abbrev pub meaning_at : List ℕ → Bool → ℕ → Parts → Written → Meaning
+meaning_at bytes topology n s w = meaning_of (context bytes topology n s) s.automata w.command
+
+-- the first fault of what is written; where there is none, the first limit on counts that is passed; and where there is none, the
+-- limit that what is asked passes
 abbrev pub fault_of : List ℕ → Bool → ℕ → Parts → Written → Option Fault
 fault_of bytes topology n s w =
-    option_or (first_fault (written_faults (context bytes topology n s) w)) (first_fault (counted_sizes (context bytes topology n s) s.rules s.automata w.command))
+    option_or (first_fault (written_faults (context bytes topology n s) w))
+    (option_or (first_fault (counted_sizes (context bytes topology n s) s.automata w.command)) (asked_fault s (meaning_at bytes topology n s w)))
 
 abbrev pub next : List ℕ → Bool → ℕ → Parts → Written → Parts
-next bytes topology n s w = with bytes s (meaning_of (context bytes topology n s) s.rules s.automata w.command)
+next bytes topology n s w = with bytes s (meaning_at bytes topology n s w)
 
 -- a fault, with its command's number
 pub record Located : Type 0 where

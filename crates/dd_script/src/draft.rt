@@ -3,18 +3,21 @@ ghost use Rattle.std.specs.Prelude.{◌≡◌, ◌+◌, ◌-◌, ◌^◌, ◌<�
 ghost use Rattle.dd_values.specs.Bounds.{most_commands};
 ghost use Rattle.dd_written.specs.Values.{word_text};
 ghost use Rattle.dd_commands.specs.Scripts.{IsWritten};
+ghost use Rattle.dd_faults.specs.Order.{Accepts, Refuses};
 ghost use Rattle.dd_faults.specs.Sound.{IsSound, HasFewer};
+ghost use Rattle.dd_query.specs.Sound.{IsQueryWithin};
 ghost use Rattle.dd_meanings.specs.declared.meaning.Meaning.TheVariants as meant;
 ghost use Rattle.dd_meanings.specs.Sound.{IsSoundMeaning};
-ghost use Rattle.dd_script.specs.Parts.{IsScriptOf};
-ghost use Rattle.dd_script.specs.Walk.{start};
+ghost use Rattle.dd_script.specs.Kept.{IsScriptOf};
+ghost use Rattle.dd_script.specs.Walk.{start, asked_fault};
 ghost use Rattle.dd_script.specs.drafting.Standing.{IsReady};
-ghost use Rattle.dd_script.specs.drafting.Drafts.{parts_of, draft_of, with_meaning, Leaves, Stays};
+ghost use Rattle.dd_script.specs.drafting.Drafts.{parts_of, draft_of, with_meaning, fault_at, Means, Leaves, Stays};
 
 use crate::known::{add_name, restrict, set_nodes, set_symbols, set_topology, set_weights, start};
+use crate::questions::{limit_of, question_of};
 use crate::script::{Contents, Script};
 use dd_commands::Written;
-use dd_faults::{Context, Refusal, check};
+use dd_faults::{Context, Fault, Refusal, check};
 use dd_formula::{Automaton, Rule};
 use dd_meanings::{Meaning, mean};
 use dd_pattern::Periodic;
@@ -108,7 +111,7 @@ impl Draft {
     /// Adds what a command means.
     fn add(&mut self, alloc: Global, meaning: Meaning) -> Result<(), AllocError>
         requires sound { IsSound self.old.context.known }
-        requires meaning { IsSoundMeaning self.old.context self.old.rules self.old.automata meaning }
+        requires meaning { IsSoundMeaning self.old.context meaning }
         requires few { HasFewer most_commands self.old.context.known }
         ensures added { OnOk result (self.new ≡ with_meaning self.old meaning) }
         ensures text { self.new.context.text ≡ self.old.context.text }
@@ -143,6 +146,53 @@ impl Draft {
         }
     }
 
+    /// Refuses a query that asks for too much work.
+    fn check_query(&self, alloc: Global, query: &Query) -> Result<(), Refusal>
+        requires script { IsScriptOf (parts_of self.now) }
+        requires within { IsQueryWithin self.now.context.known query.now }
+        ensures { Accepts result (asked_fault (parts_of self.now) (meant.Query query.now)) }
+    {
+        let known = &self.context.known;
+        let question = question_of(
+            known,
+            self.rules.as_slice(),
+            self.automata.as_slice(),
+            self.configurations.as_slice(),
+            query,
+        );
+        match question.excess(alloc, &known.limits)? {
+            Some(excess) => Err(Refusal::At(Fault::Size(limit_of(excess)))),
+            None => Ok(()),
+        }
+    }
+
+    /// Gives a meaning back; or refuses a query that asks for too much work.
+    fn weigh(&self, alloc: Global, meaning: Meaning) -> Result<Meaning, Refusal>
+        requires script { IsScriptOf (parts_of self.now) }
+        requires sound { IsSoundMeaning self.now.context meaning }
+        ensures work { Accepts result (asked_fault (parts_of self.now) meaning) }
+        ensures same { IfOk result (λ given. given ≡ meaning) }
+    {
+        match meaning {
+            Meaning::Query(query) => {
+                self.check_query(alloc, &query)?;
+                Ok(Meaning::Query(query))
+            }
+            other => Ok(other),
+        }
+    }
+
+    /// What the next command means; or it is refused for its first fault.
+    fn meaning_of(&self, alloc: Global, written: &Written) -> Result<Meaning, Refusal>
+        requires written { IsWritten self.now.context.text written.now }
+        requires script { IsScriptOf (parts_of self.now) }
+        ensures { MatchResult result (Means self.now written.now) (λ refusal. Refuses refusal (fault_at self.now written.now)) }
+    {
+        check(alloc, &self.context, written)?;
+        let meaning = mean(alloc, &self.context, self.automata.as_slice(), written)?;
+        self.weigh(alloc, meaning)
+    }
+
     /// Goes behind the next command; or refuses it for its first fault, and stays where it is.
     pub(crate) fn step(&mut self, alloc: Global, written: &Written) -> Result<(), Refusal>
         requires written { IsWritten self.old.context.text written.now }
@@ -151,10 +201,7 @@ impl Draft {
         requires few { HasFewer self.old.context.number self.old.context.known }
         ensures { MatchResult result (λ _. Leaves self.old written.now self.new) (Stays self.old written.now self.new) }
     {
-        check(alloc, &self.context, written)?;
-        let rules = self.rules.as_slice();
-        let automata = self.automata.as_slice();
-        let meaning = mean(alloc, &self.context, rules, automata, written)?;
+        let meaning = self.meaning_of(alloc, written)?;
         self.add(alloc, meaning)?;
         // Each node allows some symbols.
         let _symbols = self.context.known.setting.sets.symbols();

@@ -6,16 +6,16 @@ mod fault;
 mod known;
 mod laws;
 mod parsing;
-mod question;
+mod questions;
 mod script;
 mod walking;
 
 pub use dd_boxes::Goal;
 pub use dd_faults::Limit;
 pub use dd_query::Query;
+pub use dd_question::Question;
 pub use dd_values::Limits;
 pub use fault::{ScriptFault, ScriptKind};
 pub use laws::{one_refusal, one_script, spelled_or_refused};
 pub use parsing::parse;
-pub use question::Question;
 pub use script::Script;

@@ -2,7 +2,7 @@
 ghost use Rattle.std.specs.Prelude.{◌≡◌, ◌≤◌, length, All, IfOk, IfErr};
 ghost use Rattle.dd_values.specs.Bounds.{most_script};
 ghost use Rattle.dd_commands.specs.Scripts.{IsScript, IsWritten};
-ghost use Rattle.dd_script.specs.Parts.{IsScriptOf};
+ghost use Rattle.dd_script.specs.Kept.{IsScriptOf};
 ghost use Rattle.dd_script.specs.Scripts.{Spells, IsScriptRefusal};
 ghost use Rattle.dd_script.specs.Walk.{start, has_topology};
 ghost use Rattle.dd_script.specs.drafting.Drafts.{draft_of, StopsIn, IsKindOf, IsUnread};

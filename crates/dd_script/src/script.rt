@@ -1,11 +1,10 @@
 //! Scripts.
-use crate::question::Question;
-use dd_boxes::Goal;
+use crate::questions::question_of;
 use dd_faults::Known;
 use dd_formula::{Automaton, Rule};
-use dd_lattice::Position;
 use dd_pattern::Periodic;
 use dd_query::Query;
+use dd_question::{Question, sound_questions};
 use dd_topology::{Names, Sets, Topology};
 use dd_values::{Boxed, Items, Limits};
 use std::marker::Model;
@@ -33,7 +32,8 @@ impl Model for Script {
     ghost use Rattle.std.specs.Coded.{codes};
     ghost use Rattle.dd_expansion.specs.contracts.formulas.Formula as formula_type;
     ghost use Rattle.dd_formula.specs.contracts.automaton.Automaton as automaton_type;
-    ghost use Rattle.dd_script.specs.Parts.{Parts, IsScriptOf};
+    ghost use Rattle.dd_script.specs.Parts.{Parts};
+    ghost use Rattle.dd_script.specs.Kept.{IsScriptOf};
 
     ghost Value = { Parts };
 
@@ -47,8 +47,16 @@ impl Model for Script {
 /// The readers take no memory.
 impl Script {
     ghost use Rattle.std.specs.Prelude.{◌≡◌};
-    ghost use Rattle.dd_meanings.specs.Sound.{AreLimits};
-    ghost use Rattle.dd_script.specs.Parts.{IsScriptOf};
+    ghost use Rattle.dd_values.specs.Ranges.{AreLimits};
+    ghost use Rattle.dd_script.specs.Kept.{IsScriptOf};
+
+    /// What it says of cells and names.
+    fn known(&self) -> &Known
+        ensures value { result.now ≡ self.now.known }
+        ensures kept { IsScriptOf self.now }
+    {
+        &self.contents.get().known
+    }
 
     /// The dimension: 1, 2 or 3.
     pub fn dim(&self) -> u32
@@ -143,7 +151,8 @@ impl Script {
 /// What the queries ask. Nothing here takes memory.
 impl Script {
     ghost use Rattle.std.specs.Prelude.{Contains};
-    ghost use Rattle.dd_script.specs.Asking.{asked_of, Asks, AreSound};
+    ghost use Rattle.dd_question.specs.Views.{asked_of};
+    ghost use Rattle.dd_script.specs.Asking.{Asks, AreSound};
 
     /// What a query of the script asks, of whichever kind it is: with the rules, automata and configurations themselves in place of
     /// their numbers, and with the script's weights where something is weighed.
@@ -151,60 +160,21 @@ impl Script {
         requires { Contains self.now.queries query.now }
         ensures { Asks self.now query.now (asked_of result) }
     {
-        let rules = self.rules();
-        let automata = self.automata();
-        let configurations = self.configurations();
-        match query {
-            Query::Member {
-                configuration,
-                rule,
-            } => Question::Membership {
-                rule: &rules[*rule as usize],
-                configuration: &configurations[*configuration as usize],
-            },
-            Query::Contains { outer, inner } => Question::Box {
-                premise: &rules[*inner as usize],
-                goal: Goal::Breaks(&rules[*outer as usize]),
-            },
-            Query::Equal { left, right } => Question::Equality {
-                left: &rules[*left as usize],
-                right: &rules[*right as usize],
-            },
-            Query::Empty { rule } => Question::Box {
-                premise: &rules[*rule as usize],
-                goal: Goal::Always,
-            },
-            Query::Agree { left, right, rule } => Question::Box {
-                premise: &rules[*rule as usize],
-                goal: Goal::Differ(&automata[*left as usize], &automata[*right as usize]),
-            },
-            Query::Forbidden { rule } => Question::Listing {
-                rule: &rules[*rule as usize],
-            },
-            Query::Density { rule, strip } => Question::Density {
-                rule: &rules[*rule as usize],
-                strip: *strip,
-                weights: self.weights(),
-            },
-            Query::Discharge {
-                rule,
-                radius,
-                margin,
-                vectors,
-            } => Question::Discharge {
-                rule: &rules[*rule as usize],
-                radius: *radius,
-                margin: *margin,
-                vectors: vectors.as_slice(),
-                weights: self.weights(),
-            },
-        }
+        self.sound_questions();
+        question_of(
+            self.known(),
+            self.rules(),
+            self.automata(),
+            self.configurations(),
+            query,
+        )
     }
 
     /// Does nothing; its contract says that what the queries ask is sound.
     pub fn sound_questions(&self)
         ensures { AreSound self.now }
     {
+        sound_questions();
         // Read for what its type keeps.
         let _limits = self.limits();
     }

@@ -1,7 +1,7 @@
 //! The commands of a text, one after the other.
 ghost use Rattle.std.specs.Prelude.{◌≡◌, All, MatchResult};
 ghost use Rattle.dd_commands.specs.Scripts.{IsWritten};
-ghost use Rattle.dd_script.specs.Parts.{IsScriptOf};
+ghost use Rattle.dd_script.specs.Kept.{IsScriptOf};
 ghost use Rattle.dd_script.specs.Walk.{start, is_topology, has_topology};
 ghost use Rattle.dd_script.specs.drafting.Standing.{AreOrdered};
 ghost use Rattle.dd_script.specs.drafting.Drafts.{draft_of, Ends, Stops};

@@ -8,12 +8,14 @@ use Rattle.dd_faults.specs.declared.fault.Fault.{Fault}
 use Rattle.dd_faults.specs.declared.fault.Refusal.{Refusal}
 use Rattle.dd_faults.specs.declared.fault.Refusal.TheVariants as refusal
 use Rattle.dd_meanings.specs.declared.meaning.Meaning.{Meaning}
+use Rattle.dd_meanings.specs.Sound.{IsSoundMeaning}
 use Rattle.dd_script.specs.declared.draft.Draft.{Draft}
 use Rattle.dd_script.specs.declared.fault.ScriptFault.{ScriptFault}
 use Rattle.dd_script.specs.declared.fault.ScriptKind.{ScriptKind}
 use Rattle.dd_script.specs.declared.fault.ScriptKind.TheVariants as refused
-use Rattle.dd_script.specs.Parts.{Parts, IsScriptOf}
-use Rattle.dd_script.specs.Walk.{with, context, fault_of, next, located, first_located_fault, script_of}
+use Rattle.dd_script.specs.Parts.{Parts}
+use Rattle.dd_script.specs.Kept.{IsScriptOf}
+use Rattle.dd_script.specs.Walk.{with, context, asked_fault, meaning_at, fault_of, next, located, first_located_fault, script_of}
 use Rattle.dd_script.specs.Scripts.{unknown, twice, dimension, size, kind_of, HasFault}
 
 abbrev pub parts_of : Draft → Parts
@@ -37,6 +39,14 @@ with_meaning d m = draft_of d.context.text d.context.has_topology d.context.numb
 -- the first fault of the next command
 abbrev pub fault_at : Draft → Written → Option Fault
 fault_at d w = fault_of d.context.text d.context.has_topology d.context.number (parts_of d) w
+
+-- the next command has no fault, and this is what it means
+pub record Means (d : Draft) (w : Written) (m : Meaning) : Type 0 where
+  pub faultless : fault_at d w ≡ None
+  pub is : m ≡ meaning_at d.context.text d.context.has_topology d.context.number (parts_of d) w
+  pub sound : IsSoundMeaning d.context m
+  pub light : asked_fault (parts_of d) m ≡ None
+  pub counted : d.context.number ≤ most_commands
 
 -- behind the next command
 abbrev pub behind : Draft → Written → Draft

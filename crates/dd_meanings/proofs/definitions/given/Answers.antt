@@ -3,7 +3,7 @@ use Rattle.dd_formula.specs.LocalRule.{LocalRule}
 use Rattle.dd_formula.specs.Automata.{IsAutomaton, counted, is_few, cases_fit}
 use Rattle.dd_formula.specs.declared.automaton.Automaton.TheVariants as automaton
 use Rattle.dd_faults.specs.Order.{first_fault, Refuses}
-use Rattle.dd_query.specs.Made.{script_numbers}
+use Rattle.dd_meanings.specs.Made.{script_numbers}
 use Rattle.dd_meanings.specs.declared.cases.CaseOf.{CaseOf}
 use Rattle.dd_meanings.specs.Definitions.{count_faults}
 use Rattle.dd_meanings.specs.making.Parts.{given_by, case_counts}

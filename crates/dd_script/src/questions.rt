@@ -1,0 +1,87 @@
+//! What queries ask, and which limit that passes.
+ghost use Rattle.std.specs.Prelude.{◌≡◌, List, Some, length};
+ghost use Rattle.dd_query.specs.declared.queries.Query.{Query as AnyQuery};
+ghost use Rattle.dd_query.specs.Sound.{IsQueryWithin};
+ghost use Rattle.dd_meanings.specs.Made.{AreMade};
+ghost use Rattle.dd_question.specs.Views.{asked_of};
+ghost use Rattle.dd_script.specs.Questions.{asked};
+ghost use Rattle.dd_script.specs.Walk.{limit_of};
+
+use dd_boxes::Goal;
+use dd_faults::{Known, Limit};
+use dd_formula::{Automaton, Rule};
+use dd_pattern::Periodic;
+use dd_query::Query;
+use dd_question::{Excess, Question};
+
+/// What a query asks: with the rules, automata and configurations themselves in place of their numbers, and with the weights where
+/// something is weighed.
+pub(crate) fn question_of<'a>(
+    known: &'a Known,
+    rules: &'a [Rule],
+    automata: &'a [Automaton],
+    configurations: &'a [Periodic],
+    query: &'a Query,
+) -> Question<'a>
+    requires made { AreMade known.now rules.now automata.now }
+    requires named { length configurations.now ≡ length known.now.configurations }
+    requires within { IsQueryWithin known.now query.now }
+    ensures { (queries : List AnyQuery) → asked (record { known = known.now; rules = rules.now; automata = automata.now; configurations = configurations.now; queries = queries }) query.now ≡ Some (asked_of result) }
+{
+    match query {
+        Query::Member {
+            configuration,
+            rule,
+        } => Question::Membership {
+            rule: &rules[*rule as usize],
+            configuration: &configurations[*configuration as usize],
+        },
+        Query::Contains { outer, inner } => Question::Box {
+            premise: &rules[*inner as usize],
+            goal: Goal::Breaks(&rules[*outer as usize]),
+        },
+        Query::Equal { left, right } => Question::Equality {
+            left: &rules[*left as usize],
+            right: &rules[*right as usize],
+        },
+        Query::Empty { rule } => Question::Box {
+            premise: &rules[*rule as usize],
+            goal: Goal::Always,
+        },
+        Query::Agree { left, right, rule } => Question::Box {
+            premise: &rules[*rule as usize],
+            goal: Goal::Differ(&automata[*left as usize], &automata[*right as usize]),
+        },
+        Query::Forbidden { rule } => Question::Listing {
+            rule: &rules[*rule as usize],
+        },
+        Query::Density { rule, strip } => Question::Density {
+            rule: &rules[*rule as usize],
+            strip: *strip,
+            weights: known.weights.as_slice(),
+        },
+        Query::Discharge {
+            rule,
+            radius,
+            margin,
+            vectors,
+        } => Question::Discharge {
+            rule: &rules[*rule as usize],
+            radius: *radius,
+            margin: *margin,
+            vectors: vectors.as_slice(),
+            weights: known.weights.as_slice(),
+        },
+    }
+}
+
+/// The limit of scripts that a question passes.
+pub(crate) fn limit_of(excess: Excess) -> Limit
+    ensures { result ≡ limit_of excess }
+{
+    match excess {
+        Excess::Clauses => Limit::Clauses,
+        Excess::Patterns => Limit::Patterns,
+        Excess::States => Limit::States,
+    }
+}
