@@ -1,7 +1,6 @@
 -- A right answer is a certificate: what is decided of a box has the radius and the refutation of a YES, and the
 -- configuration of a NO is given back by what is written of it.
-use Rattle.std.proofs.Common.{◌≡◌, ℕ, List, max, refl, ap, sym, subst, ◌∙◌, Some, None}
-use Rattle.std.specs.Prelude.{Option, IsSomeAnd}
+use Rattle.std.proofs.Common.{◌≡◌, ℕ, List, max, refl, ap, sym, subst, ◌∙◌}
 use Rattle.dd_derivation.specs.Derivations.{IsRefuting}
 use Rattle.dd_problem.specs.Problems.{box_problem}
 use Rattle.dd_lattice.specs.Place.{Place}
@@ -19,21 +18,18 @@ use Rattle.dd_certificate.specs.declared.answer.Answer.{Answer}
 use Rattle.dd_certificate.specs.declared.answer.Answer.TheVariants as answer
 use Rattle.dd_certificate.specs.declared.answer.Reason.{Reason}
 use Rattle.dd_certificate.specs.declared.answer.Reason.TheVariants as reason
-use Rattle.dd_certificate.specs.Bounds.{IsWritable}
 use Rattle.dd_contain.specs.declared.decision.Decision.{Decision}
 use Rattle.dd_contain.specs.declared.decision.Decision.TheVariants as decision
 use Rattle.dd_contain.specs.Decided.{IsLeast}
 use Rattle.dd_contain.specs.Questions.{Displays, IsDecided}
 use Rattle.dd_contain.specs.Equal.{joined, UnlessNo}
-use Rattle.dd_query.specs.declared.queries.Query.{Query}
-use Rattle.dd_script.specs.Parts.{Parts}
-use Rattle.dd_script.specs.Questions.{Asked, membership, box, equality, listing, density, discharge, asked}
+use Rattle.dd_question.specs.Questions.{Asked, membership, box, equality, listing, density, discharge}
 use Rattle.dd_evidence.specs.Tiles.{given_periods, written_periods, IsWrittenBack}
-use Rattle.dd_answer.specs.Right.{Right, IsRightTo, IsRightBox, IsRightEqual, written_decision, written_equality}
-use Rattle.dd_answer.specs.Bounds.{IsRightDensity, IsRightReason, IsRightDischarge}
-use Rattle.dd_checker.specs.Bounds.{IsStripCertificate, IsDischargeReason, IsDischargeCertificate}
-use Rattle.dd_checker.specs.Evidence.{IsYes, IsNo, IsBoxCertificate, IsEqualCertificate}
-use Rattle.dd_checker.specs.Certificates.{IsCertificateOf, IsCertificateFor}
+use Rattle.dd_respond.specs.Right.{IsRightTo, IsRightBox, IsRightEqual, written_decision, written_equality}
+use Rattle.dd_respond.specs.Bounds.{IsRightDensity, IsRightReason, IsRightDischarge}
+use Rattle.dd_verify.specs.Bounds.{IsStripCertificate, IsDischargeReason, IsDischargeCertificate}
+use Rattle.dd_verify.specs.Evidence.{IsYes, IsNo, IsBoxCertificate, IsEqualCertificate}
+use Rattle.dd_verify.specs.Certificates.{IsCertificateOf}
 
 density_is : (x : LocalRule) (strip ws : List ℕ) (a : Answer) → IsRightDensity x strip ws a → IsStripCertificate x strip ws a
 density_is x strip ws answer.Inside h = h
@@ -115,18 +111,10 @@ module _ (back : AreWrittenBack) (l : Limits) where
       let both = right.decided in
       subst (IsEqualCertificate l x y) (sym (right.written ∙ ap written_equality both.join)) (joined_is x y both.left both.right both.left_decided both.right_decided)
 
-  right_is : (k : Asked) (a : Answer) → IsRightTo l k a → IsCertificateOf l k a
-  right_is (membership x t) a right = right
-  right_is (box x g) a right = box_is x g a right
-  right_is (equality x y) a right = equal_is x y a right
-  right_is (listing x) a right = right
-  right_is (density x strip ws) a right = density_is x strip ws a right
-  right_is (discharge x radius margin vs ws) a right = discharge_is x radius margin vs ws l.pivots a right
-
-some_then : {X : Type 0} (o : Option X) (P Q : X → Type 0) → ((x : X) → P x → Q x) → IsSomeAnd o P → IsSomeAnd o Q
-some_then (Some x) P Q h p = h x p
-some_then None P Q h p = p
-
-pub right_is_certificate : AreWrittenBack → (s : Parts) (q : Query) (a : Answer) → IsWritable a → Right s q a → IsCertificateFor s q a
-right_is_certificate back s q a writable right =
-    (writable, some_then (asked s q) (λ k. IsRightTo s.known.limits k a) (λ k. IsCertificateOf s.known.limits k a) (λ k. right_is back s.known.limits k a) right)
+  pub right_is_certificate : (k : Asked) (a : Answer) → IsRightTo l k a → IsCertificateOf l k a
+  right_is_certificate (membership x t) a right = right
+  right_is_certificate (box x g) a right = box_is x g a right
+  right_is_certificate (equality x y) a right = equal_is x y a right
+  right_is_certificate (listing x) a right = right
+  right_is_certificate (density x strip ws) a right = density_is x strip ws a right
+  right_is_certificate (discharge x radius margin vs ws) a right = discharge_is x radius margin vs ws l.pivots a right

@@ -1,17 +1,16 @@
 //! The law of right answers, as the contract of a call that does nothing.
 ghost use Rattle.dd_certificate.specs.declared.answer.Answer.{Answer as AnyAnswer};
-ghost use Rattle.dd_certificate.specs.Bounds.{IsWritable};
-ghost use Rattle.dd_query.specs.declared.queries.Query.{Query as AnyQuery};
-ghost use Rattle.dd_script.specs.Parts.{Parts};
-ghost use Rattle.dd_answer.specs.Right.{Right};
-ghost use Rattle.dd_checker.specs.Certificates.{IsCertificateFor};
+ghost use Rattle.dd_question.specs.Questions.{Asked};
+ghost use Rattle.dd_respond.specs.Right.{IsRightTo};
+ghost use Rattle.dd_values.specs.declared.limits.Limits.{Limits as AnyLimits};
+ghost use Rattle.dd_verify.specs.Certificates.{IsCertificateOf};
 
 use dd_evidence::written_back;
 
-/// Does nothing; its contract says that each right answer to a query that an output can hold is a certificate, also that
-/// nothing is known within the limits.
+/// Does nothing; its contract says that each right answer to a question within some limits is a certificate of it within these, also
+/// that nothing is known within them.
 pub fn right_is_certificate()
-    ensures { (s : Parts) (query : AnyQuery) (answer : AnyAnswer) → IsWritable answer → Right s query answer → IsCertificateFor s query answer }
+    ensures { (limits : AnyLimits) (question : Asked) (answer : AnyAnswer) → IsRightTo limits question answer → IsCertificateOf limits question answer }
 {
     written_back();
 }

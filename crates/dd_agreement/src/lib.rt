@@ -1,4 +1,4 @@
-//! That what a run answers the check accepts.
+//! That what is answered the check accepts.
 #![tactic(auto)]
 
 mod laws;

@@ -1,5 +1,1 @@
-pub mod WritableLaws
-pub mod Measuring
-pub mod AgreeLaws
 pub mod QueryLaws
-pub mod AskingLaws

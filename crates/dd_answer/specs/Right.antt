@@ -1,88 +1,11 @@
--- Which answers are right.
-use Rattle.std.specs.Prelude.{◌≡◌, Bool, true, false, IsSomeAnd}
-use Rattle.dd_pattern.specs.Tile.{Tile}
-use Rattle.dd_formula.specs.LocalRule.{LocalRule}
-use Rattle.dd_values.specs.declared.limits.Limits.{Limits}
-use Rattle.dd_boxes.specs.Goals.{GoalOf}
+-- Which answers to the queries of a script are right.
+use Rattle.std.specs.Prelude.{IsSomeAnd}
 use Rattle.dd_certificate.specs.declared.answer.Answer.{Answer}
-use Rattle.dd_certificate.specs.declared.answer.Answer.TheVariants as answer
-use Rattle.dd_certificate.specs.declared.answer.Side.{Side}
-use Rattle.dd_certificate.specs.declared.answer.Side.TheVariants as side
-use Rattle.dd_certificate.specs.declared.answer.Reason.TheVariants as reason
-use Rattle.dd_contain.specs.declared.decision.Decision.{Decision}
-use Rattle.dd_contain.specs.declared.decision.Decision.TheVariants as decision
-use Rattle.dd_contain.specs.declared.equal.Equality.{Equality}
-use Rattle.dd_contain.specs.declared.equal.Equality.TheVariants as equal
-use Rattle.dd_contain.specs.declared.equal.Half.{Half}
-use Rattle.dd_contain.specs.declared.equal.Half.TheVariants as half
-use Rattle.dd_contain.specs.Questions.{IsDecided}
-use Rattle.dd_contain.specs.Equal.{IsEqualDecided}
 use Rattle.dd_query.specs.declared.queries.Query.{Query}
+use Rattle.dd_respond.specs.Right.{IsRightTo}
 use Rattle.dd_script.specs.Parts.{Parts}
-use Rattle.dd_script.specs.Questions.{Asked, membership, box, equality, listing, density, discharge, asked}
-use Rattle.dd_evidence.specs.Tiles.{written_periods}
-use Rattle.dd_evidence.specs.Answers.{IsMemberCertificate, IsListCertificate}
-use Rattle.dd_answer.specs.Bounds.{IsRightDensity, IsRightDischarge}
-
--- ---- box questions
-
--- NO, by a configuration: its periods along the axes that there are, its shear and its symbols
-abbrev pub written_no : Side → Tile → Answer
-written_no s t = answer.No s (written_periods t) t.periods.shear t.symbols
-
--- a decision as it is answered
-abbrev pub written_decision : Decision → Answer
-written_decision (decision.Yes n steps) = answer.Yes n steps
-written_decision (decision.No t) = written_no side.Whole t
-written_decision decision.Unknown = answer.Unknown reason.Limits
-
--- the side of an equality as it is answered
-abbrev pub side_of : Half → Side
-side_of half.Left = side.Left
-side_of half.Right = side.Right
-
--- the decision of an equality as it is answered
-abbrev pub written_equality : Equality → Answer
-written_equality (equal.Yes left right) = answer.YesBoth left.radius right.radius left.steps right.steps
-written_equality (equal.No h t) = written_no (side_of h) t
-written_equality equal.Unknown = answer.Unknown reason.Limits
-
--- what the question with this premise and this goal comes to within the limits
-pub record IsRightBox (l : Limits) (x : LocalRule) (g : GoalOf) (a : Answer) : Type 0 where
-  pub decision : Decision
-  pub decided : IsDecided x g l.radius l.period decision
-  pub written : a ≡ written_decision decision
-
--- what the question of equality comes to within the limits
-pub record IsRightEqual (l : Limits) (x y : LocalRule) (a : Answer) : Type 0 where
-  pub decision : Equality
-  pub decided : IsEqualDecided x y l.radius l.period decision
-  pub written : a ≡ written_equality decision
-
--- ---- all questions
-
--- the questions that have one answer only are answered by it
-abbrev pub IsRightTo : Limits → Asked → Answer → Type 0
-IsRightTo l (membership x t) a = IsMemberCertificate x t a
-IsRightTo l (box x g) a = IsRightBox l x g a
-IsRightTo l (equality x y) a = IsRightEqual l x y a
-IsRightTo l (listing x) a = IsListCertificate x a
-IsRightTo l (density x strip ws) a = IsRightDensity x strip ws a
-IsRightTo l (discharge x radius margin vs ws) a = IsRightDischarge x radius margin vs ws l.pivots a
+use Rattle.dd_script.specs.Questions.{asked}
 
 -- the answer to what the query asks, within the script's limits
 abbrev pub Right : Parts → Query → Answer → Type 0
 Right s q a = IsSomeAnd (asked s q) (λ k. IsRightTo s.known.limits k a)
-
--- no definite answer: a stated limit was met
-abbrev pub is_unknown : Answer → Bool
-is_unknown answer.Inside = false
-is_unknown (answer.Outside place) = false
-is_unknown (answer.Yes radius steps) = false
-is_unknown (answer.YesBoth left right left_steps right_steps) = false
-is_unknown (answer.No s periods shear symbols) = false
-is_unknown (answer.Unknown r) = true
-is_unknown (answer.List patterns) = false
-is_unknown (answer.Density numerator denominator cycle potentials) = false
-is_unknown (answer.Empty ranks) = false
-is_unknown (answer.Bound numerator denominator common amounts duals) = false

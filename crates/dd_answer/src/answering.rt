@@ -3,18 +3,15 @@ ghost use Rattle.std.specs.Prelude.{IfOk, OnOk, Contains};
 ghost use Rattle.dd_certificate.specs.Bounds.{IsWritable};
 ghost use Rattle.dd_engines.specs.Rosters.{roster_seen};
 ghost use Rattle.dd_engines.specs.Rounds.{Kept};
-ghost use Rattle.dd_answer.specs.Asking.{AsksBoxes, Engages};
+ghost use Rattle.dd_respond.specs.Asking.{Engages};
+ghost use Rattle.dd_answer.specs.Asking.{AsksBoxes};
 ghost use Rattle.dd_answer.specs.Right.{Right};
 
-use crate::boxes::{compared, decided};
-use crate::densities::least;
-use crate::discharges::discharged;
-use crate::lists::listed;
-use crate::members::member;
 use dd_certificate::Answer;
-use dd_engines::{Engine, Roster, kept_is_reflexive};
+use dd_engines::{Engine, Roster};
 use dd_query::Query;
-use dd_script::{Question, Script};
+use dd_respond::respond;
+use dd_script::Script;
 use std::alloc::{AllocError, Global};
 
 /// The right answer to a query of a script, with each number and each list within the bounds of an output.
@@ -32,28 +29,7 @@ pub fn answer<E: Engine>(
     ensures kept { Kept (roster_seen E.asked E.given E.sound roster.old) (roster_seen E.asked E.given E.sound roster.new) }
     ensures asked { OnOk result (Engages (AsksBoxes script.now query.now) (roster_seen E.asked E.given E.sound roster.old) (roster_seen E.asked E.given E.sound roster.new)) }
 {
-    // Law of a roster that is not asked.
-    kept_is_reflexive();
     let limits = script.limits();
-    match script.question(query) {
-        Question::Membership {
-            rule,
-            configuration,
-        } => member(alloc, rule, configuration),
-        Question::Box { premise, goal } => decided(alloc, premise, &goal, limits, roster),
-        Question::Equality { left, right } => compared(alloc, left, right, limits, roster),
-        Question::Listing { rule } => listed(alloc, rule),
-        Question::Density {
-            rule,
-            strip,
-            weights,
-        } => least(alloc, rule, strip, weights),
-        Question::Discharge {
-            rule,
-            radius,
-            margin,
-            vectors,
-            weights,
-        } => discharged(alloc, rule, radius, margin, vectors, weights, limits.pivots),
-    }
+    let question = script.question(query);
+    respond(alloc, &question, limits, roster)
 }

@@ -2,13 +2,11 @@
 ghost use Rattle.std.specs.Prelude.{Contains};
 ghost use Rattle.dd_certificate.specs.declared.answer.Answer.{Answer as AnyAnswer};
 ghost use Rattle.dd_query.specs.declared.queries.Query.{Query as AnyQuery};
+ghost use Rattle.dd_respond.specs.Laws.{SayTheSame};
 ghost use Rattle.dd_answer.specs.Right.{Right};
-ghost use Rattle.dd_answer.specs.Laws.{SayTheSame};
 
-use dd_discharge::one_outcome;
-use dd_evidence::one_list;
+use dd_respond::one_response;
 use dd_script::Script;
-use dd_strips::one_density;
 
 /// Does nothing; its contract says that all right answers to a query of the script have the same line. They differ in their evidence alone,
 /// so whether the right answer is that nothing is known within the limits is a matter of the script.
@@ -16,7 +14,5 @@ pub fn one_line(script: &Script)
     ensures { (query : AnyQuery) (a b : AnyAnswer) → Contains script.now.queries query → Right script.now query a → Right script.now query b → SayTheSame a b }
 {
     script.sound_questions();
-    one_list();
-    one_density();
-    one_outcome();
+    one_response();
 }

@@ -2,12 +2,7 @@
 #![tactic(auto)]
 
 mod answering;
-mod boxes;
-mod densities;
-mod discharges;
 mod laws;
-mod lists;
-mod members;
 
 pub use answering::answer;
 pub use dd_certificate::Answer;

@@ -1,41 +1,63 @@
 -- From the test of a query to the verdict.
 use Rattle.std.proofs.Common.{◌≡◌, ℕ, ◌-◌, ◌<◌, Bool, true, false, List, length, get_or, refl, ap, sym, subst, ◌∙◌, arith, Some}
-use Rattle.std.specs.Prelude.{◌↔◌, Option, IsSomeAnd}
+use Rattle.std.specs.Prelude.{◌↔◌, Option, IsSomeAnd, slice_get}
 use Rattle.std.specs.List.{Contains}
 use Rattle.std.proofs.lemmas.Bool.{false≢true}
 use Rattle.std.proofs.lemmas.Option.{slice_get_read}
 use Rattle.std.proofs.lemmas.List.Elements.{Contains-get_or}
 use Rattle.dd_certificate.specs.declared.answer.Answer.{Answer}
+use Rattle.dd_certificate.specs.Bounds.{IsWritable}
+use Rattle.dd_question.specs.Questions.{Asked}
 use Rattle.dd_query.specs.declared.queries.Query.{Query}
 use Rattle.dd_script.specs.Parts.{Parts}
+use Rattle.dd_script.specs.Questions.{asked, query_at}
+use Rattle.dd_values.specs.declared.limits.Limits.{Limits}
+use Rattle.dd_verify.specs.Certificates.{IsCertificateOf}
 use Rattle.dd_checker.specs.declared.verdict.Verdict.TheVariants as verdict
-use Rattle.dd_script.specs.Questions.{query_at}
 use Rattle.dd_checker.specs.Certificates.{IsCertificateFor, IsCertificate, HasQuery}
+use Rattle.dd_checker.specs.Claims.{ClaimFor, Claim}
 
-module _ (s : Parts) (number : ℕ) (has : HasQuery s number) where
-  pub index_within : number - 1 < length s.queries
-  index_within = let some = has.numbered in let within = has.within in omega (arith, some, within)
+-- a certificate of what the query asks is one of the query
+pub certificate_for : (s : Parts) (q : Query) (k : Asked) (a : Answer) (l : Limits) → asked s q ≡ Some k → l ≡ s.known.limits → (b : Bool) →
+    (b ≡ true) ↔ (IsWritable a × IsCertificateOf l k a) → (b ≡ true) ↔ IsCertificateFor s q a
+certificate_for s q k a l asks limits b told =
+    subst (λ (o : Option Asked). (b ≡ true) ↔ (IsWritable a × IsSomeAnd o (λ j. IsCertificateOf s.known.limits j a))) (sym asks)
+    (subst (λ (m : Limits). (b ≡ true) ↔ (IsWritable a × IsCertificateOf m k a)) limits told)
 
-  module _ (qs : List Query) (same : qs ≡ s.queries) (q : Query) (is : q ≡ get_or qs (number - 1) q) where
-    query_is : query_at s number ≡ Some q
-    query_is = slice_get_read s.queries (length s.queries) (number - 1) q refl index_within (is ∙ ap (λ xs. get_or xs (number - 1) q) same)
+-- ---- the query that is read of the list
 
-    pub query_stands : Contains s.queries q
-    query_stands =
-        subst (Contains s.queries) (sym (is ∙ ap (λ xs. get_or xs (number - 1) q) same)) (Contains-get_or s.queries (number - 1) q index_within)
+module _ (qs queries : List Query) (n : ℕ) (q : Query) (same : qs ≡ queries) (is : q ≡ get_or qs n q) (within : n < length queries) where
+  read : q ≡ get_or queries n q
+  read = is ∙ ap (λ xs. get_or xs n q) same
 
-    module _ (a : Answer) (b : Bool) (told : (b ≡ true) ↔ IsCertificateFor s q a) where
-      from_query : IsCertificateFor s q a → IsCertificate s number a
-      from_query h = subst (λ (o : Option Query). IsSomeAnd o (λ p. IsCertificateFor s p a)) (sym query_is) h
+  pub item_stands : Contains queries q
+  item_stands = subst (Contains queries) (sym read) (Contains-get_or queries n q within)
 
-      to_query : IsCertificate s number a → IsCertificateFor s q a
-      to_query h = subst (λ (o : Option Query). IsSomeAnd o (λ p. IsCertificateFor s p a)) query_is h
+  pub item_is : slice_get queries n ≡ Some q
+  item_is = slice_get_read queries (length queries) n q refl within read
 
-      pub accepted : b ≡ true → IsCertificate s number a
-      accepted h = from_query (told.0 h)
+pub index_within : (s : Parts) (number : ℕ) → HasQuery s number → number - 1 < length s.queries
+index_within s number has = let some = has.numbered in let within = has.within in omega (arith, some, within)
 
-      pub accepts : b ≡ true → (verdict.Accepted ≡ verdict.Accepted) ↔ IsCertificate s number a
-      accepts h = (λ _. accepted h, λ _. refl)
+-- ---- the query with a number
 
-      pub rejects : b ≡ false → (verdict.Rejected ≡ verdict.Accepted) ↔ IsCertificate s number a
-      rejects h = (λ e. absurd (cc), λ k. absurd (false≢true (sym h ∙ told.1 (to_query k))))
+module _ (s : Parts) (number : ℕ) (q : Query) (is : query_at s number ≡ Some q) (a : Answer) where
+  from_query : IsCertificateFor s q a → IsCertificate s number a
+  from_query h = subst (λ (o : Option Query). IsSomeAnd o (λ p. IsCertificateFor s p a)) (sym is) h
+
+  to_query : IsCertificate s number a → IsCertificateFor s q a
+  to_query h = subst (λ (o : Option Query). IsSomeAnd o (λ p. IsCertificateFor s p a)) is h
+
+  -- what a certificate of the query claims is true
+  pub claim_at : (IsCertificateFor s q a → ClaimFor s q a) → IsCertificate s number a → Claim s number a
+  claim_at told h = subst (λ (o : Option Query). IsSomeAnd o (λ p. ClaimFor s p a)) (sym is) (told (to_query h))
+
+  module _ (b : Bool) (told : (b ≡ true) ↔ IsCertificateFor s q a) where
+    pub accepted : b ≡ true → IsCertificate s number a
+    accepted h = from_query (told.0 h)
+
+    pub accepts : b ≡ true → (verdict.Accepted ≡ verdict.Accepted) ↔ IsCertificate s number a
+    accepts h = (λ _. accepted h, λ _. refl)
+
+    pub rejects : b ≡ false → (verdict.Rejected ≡ verdict.Accepted) ↔ IsCertificate s number a
+    rejects h = (λ e. absurd (cc), λ k. absurd (false≢true (sym h ∙ told.1 (to_query k))))

@@ -1,23 +1,11 @@
 -- Which answers to the queries of a script are certificates.
 use Rattle.std.specs.Prelude.{ℕ, ◌≤◌, length, IsSomeAnd}
-use Rattle.dd_values.specs.declared.limits.Limits.{Limits}
 use Rattle.dd_certificate.specs.declared.answer.Answer.{Answer}
 use Rattle.dd_certificate.specs.Bounds.{IsWritable}
 use Rattle.dd_query.specs.declared.queries.Query.{Query}
 use Rattle.dd_script.specs.Parts.{Parts}
-use Rattle.dd_script.specs.Questions.{Asked, membership, box, equality, listing, density, discharge, asked, query_at}
-use Rattle.dd_evidence.specs.Answers.{IsMemberCertificate, IsListCertificate}
-use Rattle.dd_checker.specs.Evidence.{IsBoxCertificate, IsEqualCertificate}
-use Rattle.dd_checker.specs.Bounds.{IsStripCertificate, IsDischargeCertificate}
-
--- of what is asked, within these limits
-abbrev pub IsCertificateOf : Limits → Asked → Answer → Type 0
-IsCertificateOf l (membership x t) a = IsMemberCertificate x t a
-IsCertificateOf l (box x g) a = IsBoxCertificate l x g a
-IsCertificateOf l (equality x y) a = IsEqualCertificate l x y a
-IsCertificateOf l (listing x) a = IsListCertificate x a
-IsCertificateOf l (density x strip ws) a = IsStripCertificate x strip ws a
-IsCertificateOf l (discharge x radius margin vs ws) a = IsDischargeCertificate x radius margin vs ws a
+use Rattle.dd_script.specs.Questions.{asked, query_at}
+use Rattle.dd_verify.specs.Certificates.{IsCertificateOf}
 
 -- an output can hold the answer, and it is a certificate of what the query asks, within the script's limits
 abbrev pub IsCertificateFor : Parts → Query → Answer → Type 0

@@ -11,7 +11,8 @@ use Rattle.dd_boxes.specs.Goals.{GoalOf, breaks, HasGoal}
 use Rattle.dd_certificate.specs.declared.answer.Answer.{Answer}
 use Rattle.dd_certificate.specs.declared.answer.Answer.TheVariants as answer
 use Rattle.dd_script.specs.Parts.{Parts}
-use Rattle.dd_script.specs.Questions.{Asked, membership, box, equality, listing, density, discharge, asked, query_at}
+use Rattle.dd_question.specs.Questions.{Asked, membership, box, equality, listing, density, discharge}
+use Rattle.dd_script.specs.Questions.{asked, query_at}
 
 -- of one question, or of both of an equality
 abbrev pub is_yes : Answer → Bool

@@ -1,40 +1,41 @@
 //! Laws of certificates, as contracts of calls that change nothing.
-ghost use Rattle.std.specs.Prelude.{◌≡◌, ℕ, true};
+ghost use Rattle.std.specs.Prelude.{◌≡◌, ℕ, true, Contains};
 ghost use Rattle.dd_expansion.specs.Placed.{is_flat};
 ghost use Rattle.dd_certificate.specs.declared.answer.Answer.{Answer as AnyAnswer};
-ghost use Rattle.dd_checker.specs.Certificates.{IsCertificate};
-ghost use Rattle.dd_checker.specs.Claims.{Claim};
+ghost use Rattle.dd_checker.specs.Certificates.{IsCertificateFor, IsCertificate};
+ghost use Rattle.dd_checker.specs.Claims.{ClaimFor, Claim};
 ghost use Rattle.dd_checker.specs.Lifted.{is_yes, whole_look, IsWhole, IsNowhereAt};
 
-use crate::automata::told_automata;
 use dd_certificate::Answer;
-use dd_discharge::best_bound;
-use dd_evidence::listed_break;
 use dd_lattice::Position;
 use dd_pattern::Configuration;
+use dd_query::Query;
 use dd_script::Script;
-use dd_sides::bound_holds;
-use dd_strips::{strip_empty, strip_least};
+use dd_verify::claims_hold;
 
-/// Only looks at the script's automata; its contract says that what a certificate claims is true: of a bound also that boxes of
-/// every side length, wherever they lie, weigh at least what it says, up to what may come in from outside them.
+/// Only looks at what the query asks; its contract says that what a certificate of the query claims is true.
+pub(crate) fn query_certified(script: &Script, query: &Query)
+    requires { Contains script.now.queries query.now }
+    ensures { (answer : AnyAnswer) → IsCertificateFor script.now query.now answer → ClaimFor script.now query.now answer }
+{
+    let question = script.question(query);
+    claims_hold(&question);
+}
+
+/// Only looks at what the script's queries ask; its contract says that what a certificate claims is true: of a bound also that boxes
+/// of every side length, wherever they lie, weigh at least what it says, up to what may come in from outside them.
 pub fn certified(script: &Script)
     ensures { (number : ℕ) (answer : AnyAnswer) → IsCertificate script.now number answer → Claim script.now number answer }
 {
-    // Read for what its type keeps.
-    let _limits = script.limits();
-    script.sound_questions();
-    told_automata(script);
-    listed_break();
-    strip_least();
-    strip_empty();
-    best_bound();
-    bound_holds();
+    let queries = script.queries();
+    for at in 0..queries.len() {
+        query_certified(script, &queries[at]);
+    }
 }
 
-/// Only looks at the script's automata; its contract draws the conclusion of a YES that is a certificate for any configuration,
-/// also for one that no data holds: where it obeys the premise of a side at every place of Z^d, that side's goal does not hold
-/// at `place`. It takes no memory.
+/// Only looks at what the script's queries ask; its contract draws the conclusion of a YES that is a certificate for any
+/// configuration, also for one that no data holds: where it obeys the premise of a side at every place of Z^d, that side's goal does
+/// not hold at `place`. It takes no memory.
 pub fn lifted<C: Configuration>(
     script: &Script,
     _query: u32,
@@ -49,13 +50,6 @@ pub fn lifted<C: Configuration>(
     ensures { IsNowhereAt script.now _query
         (whole_look script.now.known.setting.topology.dimension (C.nodes _configuration.now) (C.symbol_of _configuration.now)) _place.now }
 {
-    // Read for what its type keeps.
-    let _limits = script.limits();
     script.sound_questions();
-    told_automata(script);
-    listed_break();
-    strip_least();
-    strip_empty();
-    best_bound();
-    bound_holds();
+    certified(script);
 }

@@ -9,7 +9,8 @@ use Rattle.dd_topology.specs.Sets.{allows}
 use Rattle.dd_pattern.specs.Periods.{residue, unsheared}
 use Rattle.dd_pattern.specs.Tile.{Tile, IsTile, IsReadModulo, tile_index}
 use Rattle.dd_meanings.specs.Sound.{IsConfigurationOf}
-use Rattle.dd_script.specs.Parts.{Parts, IsScriptOf}
+use Rattle.dd_script.specs.Parts.{Parts}
+use Rattle.dd_script.specs.Kept.{IsScriptOf}
 use Rattle.dd_checker.specs.Lifted.{IsWhole}
 use Rattle.dd_infinite.specs.Functions.{spike, checkerboard, tiled, IsForBoth}
 

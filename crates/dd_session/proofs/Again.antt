@@ -12,7 +12,12 @@ use Rattle.dd_output.specs.Outputs.{header as whole_header, answers_text, output
 use Rattle.dd_query.specs.declared.queries.Query.{Query}
 use Rattle.dd_script.specs.Parts.{Parts}
 use Rattle.dd_script.specs.Scripts.{Spells}
+use Rattle.dd_script.specs.Questions.{asked}
+use Rattle.dd_question.specs.Questions.{Asked}
+use Rattle.dd_values.specs.declared.limits.Limits.{Limits}
 use Rattle.dd_answer.specs.Right.{Right}
+use Rattle.dd_respond.specs.Right.{IsRightTo}
+use Rattle.dd_verify.specs.Certificates.{IsCertificateOf}
 use Rattle.dd_checker.specs.Certificates.{IsCertificateFor, IsCertificate}
 use Rattle.dd_checker.specs.Claims.{Claim}
 use Rattle.dd_session.specs.declared.status.Status.{Status}
@@ -28,7 +33,7 @@ use Rattle.dd_session.proofs.CheckEnds.{OneOutput}
 use Rattle.dd_session.proofs.Numbered.{few_queries}
 
 abbrev AreCertificates : Type 0
-AreCertificates = (s : Parts) (q : Query) (a : Answer) → IsWritable a → Right s q a → IsCertificateFor s q a
+AreCertificates = (l : Limits) (k : Asked) (a : Answer) → IsRightTo l k a → IsCertificateOf l k a
 
 abbrev ClaimsAreTrue : Parts → Type 0
 ClaimsAreTrue s = (number : ℕ) (a : Answer) → IsCertificate s number a → Claim s number a
@@ -60,16 +65,20 @@ all_writable s queries [] right = All-nil IsWritable
 all_writable s [] (a ∷ answers) right = absurd right
 all_writable s (q ∷ queries) (a ∷ answers) right = All-cons IsWritable a answers right.1 (all_writable s queries answers right.2)
 
+some_then : {X : Type 0} (o : Option X) (P Q : X → Type 0) → ((x : X) → P x → Q x) → IsSomeAnd o P → IsSomeAnd o Q
+some_then (Some x) P Q h p = h x p
+some_then None P Q h p = p
+
+certificate_for : AreCertificates → (s : Parts) (q : Query) (a : Answer) → IsWritable a → Right s q a → IsCertificateFor s q a
+certificate_for are s q a writable right =
+    (writable, some_then (asked s q) (λ k. IsRightTo s.known.limits k a) (λ k. IsCertificateOf s.known.limits k a) (λ k. are s.known.limits k a) right)
+
 certificate_at : AreCertificates → (s : Parts) (queries : List Query) (answers : List Answer) → AllRight s queries answers → (i : ℕ) → i < length answers →
     IsSomeAnd (slice_get answers i) (λ a. IsSomeAnd (slice_get queries i) (λ q. IsCertificateFor s q a))
 certificate_at are s queries [] right i below = absurd (omega arith)
 certificate_at are s [] (a ∷ answers) right i below = absurd right
-certificate_at are s (q ∷ queries) (a ∷ answers) right zero below = are s q a right.1 right.0
+certificate_at are s (q ∷ queries) (a ∷ answers) right zero below = certificate_for are s q a right.1 right.0
 certificate_at are s (q ∷ queries) (a ∷ answers) right (suc i) below = certificate_at are s queries answers right.2 i (omega (arith, below))
-
-some_then : {X : Type 0} (o : Option X) (P Q : X → Type 0) → ((x : X) → P x → Q x) → IsSomeAnd o P → IsSomeAnd o Q
-some_then (Some x) P Q h p = h x p
-some_then None P Q h p = p
 
 all_accepted : AreCertificates → (s : Parts) (answers : List Answer) → ClaimsAreTrue s → AllRight s s.queries answers → length answers ≡ length s.queries → AllAccepted s answers
 all_accepted are s answers claims right each =

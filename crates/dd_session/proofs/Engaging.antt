@@ -11,9 +11,11 @@ use Rattle.dd_certificate.specs.Text.{answer_text}
 use Rattle.dd_sample.specs.Sample.{sample_text}
 use Rattle.dd_query.specs.declared.queries.Query.{Query}
 use Rattle.dd_script.specs.Parts.{Parts}
-use Rattle.dd_script.specs.Questions.{Asked, membership, box, equality, listing, density, discharge, asked}
+use Rattle.dd_question.specs.Questions.{Asked, membership, box, equality, listing, density, discharge}
+use Rattle.dd_script.specs.Questions.{asked}
 use Rattle.dd_script.specs.Scripts.{Spells}
-use Rattle.dd_answer.specs.Asking.{IsBoxQuestion, AsksBoxes, AsksSomeBoxes, Engages}
+use Rattle.dd_answer.specs.Asking.{AsksBoxes, AsksSomeBoxes}
+use Rattle.dd_respond.specs.Asking.{IsBoxQuestion, Engages}
 use Rattle.dd_session.specs.declared.status.Status.{Status}
 use Rattle.dd_session.specs.declared.status.Status.TheVariants.{Definite, SomeUnknown, Refused, ReadFault, WriteFault, Memory, BadWords, Rejected}
 use Rattle.dd_session.specs.declared.stream.RunFault.{RunFault}

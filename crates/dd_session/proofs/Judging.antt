@@ -12,7 +12,7 @@ use Rattle.dd_outside.specs.lemmas.Told.{front_after}
 use Rattle.dd_certificate.specs.declared.answer.Answer.{Answer}
 use Rattle.dd_query.specs.declared.queries.Query.{Query}
 use Rattle.dd_script.specs.Parts.{Parts}
-use Rattle.dd_answer.specs.Right.{is_unknown}
+use Rattle.dd_respond.specs.Right.{is_unknown}
 use Rattle.dd_checker.specs.declared.verdict.Verdict.{Verdict}
 use Rattle.dd_checker.specs.declared.verdict.Verdict.TheVariants.{Accepted}
 use Rattle.dd_script.specs.Questions.{query_at}

@@ -14,10 +14,9 @@ use Rattle.dd_faults.specs.Order.{fault_rank, over, better, noted, first_fault}
 use Rattle.dd_faults.specs.Commands.{token_faults, faults_of, written_faults}
 use Rattle.dd_meanings.specs.declared.meaning.Meaning.{Meaning}
 use Rattle.dd_meanings.specs.declared.meaning.Meaning.TheVariants as meaning
-use Rattle.dd_meanings.specs.Meanings.{meaning as meaning_of, counted_sizes}
 use Rattle.dd_query.specs.declared.queries.Query.{Query}
 use Rattle.dd_script.specs.Parts.{Parts}
-use Rattle.dd_script.specs.Walk.{start, with, context, fault_of, next, Located, located, first_from, after_all, has_topology, script_of}
+use Rattle.dd_script.specs.Walk.{start, with, context, meaning_at, fault_of, next, Located, located, first_from, after_all, has_topology, script_of}
 use Rattle.dd_script.specs.Scripts.{Spells}
 
 -- ---- where nothing is found, nothing is found first
@@ -58,7 +57,7 @@ within x w is = not_over (nat_lt 1000 x.number) (flat_map (token_faults x.text) 
 few_numbered : (bytes : List ℕ) (later : Bool) (n : ℕ) (s : Parts) (w : Written) → fault_of bytes later n s w ≡ None → n ≤ 1000
 few_numbered bytes later n s w is =
     let x = context bytes later n s in
-    ltb-false 1000 n (within x w (front_none (first_fault (written_faults x w)) (first_fault (counted_sizes x s.rules s.automata w.command)) is))
+    ltb-false 1000 n (within x w (front_none (first_fault (written_faults x w)) _ is))
 
 -- ---- the commands
 
@@ -92,7 +91,7 @@ few_made : (bytes : List ℕ) (later : Bool) (n : ℕ) (s : Parts) (ws : List Wr
 few_made bytes later n s [] = omega arith
 few_made bytes later n s (w ∷ ws) =
     let after = next bytes later n s w in
-    let one : length after.queries ≤ length s.queries + 1 = one_query bytes s (meaning_of (context bytes later n s) s.rules s.automata w.command) in
+    let one : length after.queries ≤ length s.queries + 1 = one_query bytes s (meaning_at bytes later n s w) in
     let more : length (after_all bytes later (n + 1) after ws).queries ≤ length after.queries + length ws = few_made bytes later (n + 1) after ws in
     omega (arith, one, more)
 

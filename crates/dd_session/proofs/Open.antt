@@ -7,8 +7,9 @@ use Rattle.dd_certificate.specs.declared.answer.Answer.{Answer}
 use Rattle.dd_query.specs.declared.queries.Query.{Query}
 use Rattle.dd_script.specs.Parts.{Parts}
 use Rattle.dd_script.specs.Scripts.{Spells}
-use Rattle.dd_answer.specs.Right.{Right, is_unknown}
-use Rattle.dd_answer.specs.Laws.{SayTheSame}
+use Rattle.dd_answer.specs.Right.{Right}
+use Rattle.dd_respond.specs.Right.{is_unknown}
+use Rattle.dd_respond.specs.Laws.{SayTheSame}
 use Rattle.dd_session.specs.Answers.{AllRight, IsOpenAs, has_unknown}
 use Rattle.dd_session.specs.declared.status.Status.{Status}
 use Rattle.dd_session.specs.Sides.{Told, status_of}

@@ -10,7 +10,8 @@ use Rattle.dd_certificate.specs.declared.answer.Answer.{Answer}
 use Rattle.dd_certificate.specs.Text.{answer_text}
 use Rattle.dd_certificate.specs.Bounds.{IsWritable}
 use Rattle.dd_query.specs.declared.queries.Query.{Query}
-use Rattle.dd_answer.specs.Right.{Right, is_unknown}
+use Rattle.dd_answer.specs.Right.{Right}
+use Rattle.dd_respond.specs.Right.{is_unknown}
 use Rattle.dd_script.specs.Parts.{Parts}
 use Rattle.dd_session.specs.Answers.{AllRight, has_unknown, texts}
 use Rattle.dd_session.specs.Output.{header}

@@ -3,7 +3,7 @@ ghost use Rattle.std.specs.Prelude.{◌≡◌, ◌≤◌, length, IfOk, OnErr, I
 ghost use Rattle.dd_values.specs.Counts.{Rose};
 ghost use Rattle.std.specs.List.{list_any};
 ghost use Rattle.dd_values.specs.Bounds.{most_commands};
-ghost use Rattle.dd_answer.specs.Right.{is_unknown};
+ghost use Rattle.dd_respond.specs.Right.{is_unknown};
 ghost use Rattle.dd_session.specs.Checked.{CheckFront};
 ghost use Rattle.dd_session.specs.Checks.{checked_line};
 ghost use Rattle.dd_session.specs.checking.Judged.{

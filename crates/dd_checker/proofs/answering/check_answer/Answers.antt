@@ -1,5 +1,8 @@
-use Rattle.std.proofs.Common.{length, ap, arith}
-use Rattle.dd_checker.proofs.Verdicts.{index_within, query_stands, accepted, accepts, rejects}
+use Rattle.std.proofs.Common.{◌≡◌, ◌-◌, Some, length, ap, sym, subst, arith}
+use Rattle.dd_question.specs.Sound.{IsSoundAsked}
+use Rattle.dd_question.specs.Views.{asked_of}
+use Rattle.dd_script.specs.Questions.{query_at}
+use Rattle.dd_checker.proofs.Verdicts.{certificate_for, index_within, item_stands, item_is, claim_at, accepted, accepts, rejects}
 use Rattle.dd_checker.proofs.answering.check_answer.Goals as goal
 
 pub bounds-queries-number : goal.bounds-queries-number
@@ -7,27 +10,49 @@ bounds-queries-number c =
     let within = index_within c.args.script.now c.args.query c.requires in
     omega (arith, within, ap length c.queries-queries.ensures.value)
 
-pub check_query-requires : goal.check_query-requires
-check_query-requires c =
-    query_stands c.args.script.now c.args.query c.requires c.queries-queries.result.now c.queries-queries.ensures.value
-    c.index-queries-number.result c.index-queries-number.is
+pub query_certified-requires : goal.query_certified-requires
+query_certified-requires c =
+    item_stands c.queries-queries.result.now c.args.script.now.queries (c.args.query - 1) c.index-queries-number.result c.queries-queries.ensures.value
+    c.index-queries-number.is (index_within c.args.script.now c.args.query c.requires)
+
+pub question-question-requires : goal.question-question-requires
+question-question-requires c =
+    item_stands c.queries-queries.result.now c.args.script.now.queries (c.args.query - 1) c.index-queries-number.result c.queries-queries.ensures.value
+    c.index-queries-number.is (index_within c.args.script.now c.args.query c.requires)
+
+pub check_question-requires-clause-limits : goal.check_question-requires-clause-limits
+check_question-requires-clause-limits c = c.limits-limits.ensures.within
+
+pub check_question-requires-clause-sound : goal.check_question-requires-clause-sound
+check_question-requires-clause-sound c =
+    subst (λ l. IsSoundAsked l (asked_of c.question-question.result)) (sym c.limits-limits.ensures.value) c.question-question.ensures.sound.sound
 
 pub returns-then-accepted : goal.returns-then-accepted
 returns-then-accepted c =
     let s = c.args.script.now in
     let n = c.args.query in
+    let a = c.args.answer.now in
+    let q = c.index-queries-number.result in
+    let is : query_at s n ≡ Some q =
+    item_is c.queries-queries.result.now s.queries (n - 1) q c.queries-queries.ensures.value c.index-queries-number.is (index_within s n c.requires) in
+    let told = certificate_for s q (asked_of c.question-question.result) a c.limits-limits.result.now c.question-question.ensures.is c.limits-limits.ensures.value
+    c.in_ok-accepted.accepted c.in_ok-accepted.ensures in
     record {
-      exact = accepts s n c.requires c.queries-queries.result.now c.queries-queries.ensures.value c.index-queries-number.result
-          c.index-queries-number.is c.args.answer.now c.in_ok-accepted.accepted c.in_ok-accepted.ensures c.if-accepted.true;
-      claim = λ _.
-          c.certified.ensures n c.args.answer.now
-          (accepted s n c.requires c.queries-queries.result.now c.queries-queries.ensures.value c.index-queries-number.result
-          c.index-queries-number.is c.args.answer.now c.in_ok-accepted.accepted c.in_ok-accepted.ensures c.if-accepted.true);
+      exact = accepts s n q is a c.in_ok-accepted.accepted told c.if-accepted.true;
+      claim = λ _. claim_at s n q is a (c.query_certified.ensures a) (accepted s n q is a c.in_ok-accepted.accepted told c.if-accepted.true);
     }
 
 pub returns-else-accepted : goal.returns-else-accepted
-returns-else-accepted c = record {
-  exact = rejects c.args.script.now c.args.query c.requires c.queries-queries.result.now c.queries-queries.ensures.value c.index-queries-number.result
-      c.index-queries-number.is c.args.answer.now c.in_ok-accepted.accepted c.in_ok-accepted.ensures c.if-accepted.false;
-  claim = λ e. absurd (cc e);
-}
+returns-else-accepted c =
+    let s = c.args.script.now in
+    let n = c.args.query in
+    let a = c.args.answer.now in
+    let q = c.index-queries-number.result in
+    let is : query_at s n ≡ Some q =
+    item_is c.queries-queries.result.now s.queries (n - 1) q c.queries-queries.ensures.value c.index-queries-number.is (index_within s n c.requires) in
+    let told = certificate_for s q (asked_of c.question-question.result) a c.limits-limits.result.now c.question-question.ensures.is c.limits-limits.ensures.value
+    c.in_ok-accepted.accepted c.in_ok-accepted.ensures in
+    record {
+      exact = rejects s n q is a c.in_ok-accepted.accepted told c.if-accepted.false;
+      claim = λ e. absurd (cc e);
+    }

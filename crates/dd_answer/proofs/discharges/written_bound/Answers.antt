@@ -1,5 +1,0 @@
-use Rattle.dd_answer.proofs.Measuring.{bound_fits}
-use Rattle.dd_answer.proofs.discharges.written_bound.Goals as goal
-
-pub returns-clause-writable : goal.returns-clause-writable
-returns-clause-writable c = bound_fits c.args.bound c.requires

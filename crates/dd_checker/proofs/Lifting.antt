@@ -1,0 +1,121 @@
+-- What a YES that is a certificate says of configurations that no data holds.
+use Rattle.std.proofs.Common.{◌≡◌, ℕ, ◌-◌, ◌<◌, Bool, true, false, List, refl, ap, sym, subst, ◌∙◌, arith, Some, None}
+use Rattle.std.specs.Prelude.{Option, IsSomeAnd, IfSome, cond, ◌&&◌, ◌==◌, is_some, nat_lt, slice_get}
+use Rattle.std.specs.List.{Contains}
+use Rattle.std.proofs.lemmas.Bool.{and_from, and_parts, eqb-true, lt-ltb, ltb-true, false≢true}
+use Rattle.std.proofs.lemmas.Option.{slice_get_within, get_or_from_slice_get}
+use Rattle.dd_lattice.specs.declared.position.Cell.{Cell}
+use Rattle.dd_lattice.specs.Place.{Place}
+use Rattle.dd_topology.specs.Sets.{row_allows}
+use Rattle.dd_pattern.specs.Reading.{Look}
+use Rattle.dd_derivation.specs.declared.step.Step.{Step}
+use Rattle.dd_expansion.specs.Placed.{is_flat}
+use Rattle.dd_formula.specs.LocalRule.{LocalRule, rule_allows}
+use Rattle.dd_formula.specs.Allowed.{AreAllowed}
+use Rattle.dd_boxes.specs.Goals.{GoalOf, breaks}
+use Rattle.dd_boxes.specs.Fillings.{IsConfiguration}
+use Rattle.dd_boxes.specs.Boxes.{HoldsNowhere}
+use Rattle.dd_meanings.specs.Made.{script_numbers, IsRuleOf}
+use Rattle.dd_faults.specs.declared.context.Known.{Known}
+use Rattle.dd_query.specs.declared.queries.Query.{Query}
+use Rattle.dd_script.specs.Parts.{Parts}
+use Rattle.dd_certificate.specs.declared.answer.Answer.{Answer}
+use Rattle.dd_certificate.specs.declared.answer.Answer.TheVariants as answer
+use Rattle.dd_question.specs.Questions.{Asked, membership, box, equality, listing, density, discharge}
+use Rattle.dd_script.specs.Questions.{asked, query_at}
+use Rattle.dd_script.specs.Asking.{AreOf, AreSound}
+use Rattle.dd_verify.specs.Holding.{MemberClaim, BoxClaim, EqualClaim, ListClaim}
+use Rattle.dd_verify.specs.Bounds.{StripClaim, DischargeClaim}
+use Rattle.dd_verify.specs.Claims.{ClaimOf}
+use Rattle.dd_checker.specs.Claims.{ClaimFor, Claim}
+use Rattle.dd_checker.specs.Lifted.{is_yes, whole_look, IsWhole, IsNotAt, IsAskedNotAt, IsNowhereAt}
+
+-- what follows from what an item is and has
+some_then : {X : Type 0} (o : Option X) (P Q : X → Type 0) → ((x : X) → o ≡ Some x → P x → Q x) → IsSomeAnd o P → IsSomeAnd o Q
+some_then (Some x) P Q h p = h x refl p
+some_then None P Q h p = p
+
+-- an item stands in its list
+stands_at : (xs : List Query) (n : ℕ) (x : Query) → slice_get xs n ≡ Some x → Contains xs x
+stands_at xs n x is = (n, slice_get_within xs n x is, get_or_from_slice_get xs n x x is)
+
+-- an answer that is YES is one of two
+yes_cases : (P : Answer → Type 0) → ((n : ℕ) (steps : List Step) → P (answer.Yes n steps)) →
+    ((n m : ℕ) (steps others : List Step) → P (answer.YesBoth n m steps others)) → (a : Answer) → is_yes a ≡ true → P a
+yes_cases P one both answer.Inside h = absurd (false≢true h)
+yes_cases P one both (answer.Outside place) h = absurd (false≢true h)
+yes_cases P one both (answer.Yes radius steps) h = one radius steps
+yes_cases P one both (answer.YesBoth left right left_steps right_steps) h = both left right left_steps right_steps
+yes_cases P one both (answer.No s periods shear symbols) h = absurd (false≢true h)
+yes_cases P one both (answer.Unknown r) h = absurd (false≢true h)
+yes_cases P one both (answer.List patterns) h = absurd (false≢true h)
+yes_cases P one both (answer.Density numerator denominator cycle potentials) h = absurd (false≢true h)
+yes_cases P one both (answer.Empty ranks) h = absurd (false≢true h)
+yes_cases P one both (answer.Bound numerator denominator common amounts duals) h = absurd (false≢true h)
+
+record HasSetting (k : Known) (x : LocalRule) : Type 0 where
+  dimension : x.dimension ≡ k.setting.topology.dimension
+  nodes : x.nodes ≡ k.setting.topology.nodes
+
+setting_of : (k : Known) (x : LocalRule) → IsRuleOf k x → HasSetting k x
+setting_of k x of =
+    let n = script_numbers k in
+    let two = and_parts ((x.dimension == n.dimension) && (x.nodes == n.nodes)) (x.symbols == n.symbols) of.has in
+    let each = and_parts (x.dimension == n.dimension) (x.nodes == n.nodes) two.0 in
+    record { dimension = eqb-true _ _ each.0; nodes = eqb-true _ _ each.1 }
+
+module _ (s : Parts) (nodes : ℕ) (symbol_of : Cell → ℕ) (whole : IsWhole s nodes symbol_of) where
+  abbrev look : Look
+  look = whole_look s.known.setting.topology.dimension nodes symbol_of
+
+  look_allowed : (x : LocalRule) → IsRuleOf s.known x → AreAllowed x look
+  look_allowed x of c = cases (is_flat s.known.setting.topology.dimension c.position) (nat_lt c.node nodes) refl refl where
+    cases : (flat low : Bool) → is_flat s.known.setting.topology.dimension c.position ≡ flat → nat_lt c.node nodes ≡ low →
+        IfSome (cond (flat && low) (Some (symbol_of c)) None) (λ t. rule_allows x c.node t ≡ true)
+    cases true true flat low =
+        ap (λ rows. row_allows rows c.node (symbol_of c)) of.allowed ∙ whole.allowed c flat (ltb-true c.node nodes low)
+    cases true false flat low = tt
+    cases false low flat is = tt
+
+  look_whole : (x : LocalRule) → IsRuleOf s.known x → IsConfiguration x look
+  look_whole x of = record {
+    everywhere = λ c flat node.
+        (let has = setting_of s.known x of in
+        let there : is_flat s.known.setting.topology.dimension c.position ≡ true = subst (λ d. is_flat d c.position ≡ true) has.dimension flat in
+        let below : c.node < nodes = (let same = has.nodes in let theirs = whole.same_nodes in omega (arith, node, same, theirs)) in
+        ap (λ b. is_some (cond b (Some (symbol_of c)) None))
+        (and_from (is_flat s.known.setting.topology.dimension c.position) (nat_lt c.node nodes) there (lt-ltb c.node nodes below)));
+    allowed = look_allowed x of;
+  }
+
+  module _ (v : Place) (flat : is_flat s.known.setting.topology.dimension v ≡ true) where
+    not_at : (x : LocalRule) (g : GoalOf) (n : ℕ) → IsRuleOf s.known x → HoldsNowhere x g n → IsNotAt x g look v
+    not_at x g n of nowhere obeys there =
+        let level : is_flat x.dimension v ≡ true = subst (λ d. is_flat d v ≡ true) (sym (setting_of s.known x of).dimension) flat in
+        nowhere.configurations look (look_whole x of) obeys v level there
+
+    asked_not_at : (a : Answer) → is_yes a ≡ true → (k : Asked) → AreOf s.known k → ClaimOf k a → IsAskedNotAt k look v
+    asked_not_at a told (membership x t) ok =
+        yes_cases (λ b. MemberClaim x t b → ⊥) (λ n steps claim. claim) (λ n m steps others claim. claim) a told
+    asked_not_at a told (box x g) ok =
+        yes_cases (λ b. BoxClaim x g b → IsNotAt x g look v) (λ n steps claim. not_at x g n ok claim) (λ n m steps others claim. absurd claim) a told
+    asked_not_at a told (equality x y) ok =
+        yes_cases (λ b. EqualClaim x y b → IsNotAt x (breaks y) look v × IsNotAt y (breaks x) look v)
+        (λ n steps claim. absurd claim)
+        (λ n m steps others claim. (not_at x (breaks y) n ok.0 claim.0, not_at y (breaks x) m ok.1 claim.1))
+        a told
+    asked_not_at a told (listing x) ok =
+        yes_cases (λ b. ListClaim x b → ⊥) (λ n steps claim. claim) (λ n m steps others claim. claim) a told
+    asked_not_at a told (density x strip ws) ok =
+        yes_cases (λ b. StripClaim x strip ws b → ⊥) (λ n steps claim. claim) (λ n m steps others claim. claim) a told
+    asked_not_at a told (discharge x radius margin vs ws) ok =
+        yes_cases (λ b. DischargeClaim x radius margin vs ws b → ⊥) (λ n steps claim. claim) (λ n m steps others claim. claim) a told
+
+    -- where a YES claims what is true, the goal does not hold at v
+    pub lifted_law : AreSound s → (number : ℕ) (a : Answer) → is_yes a ≡ true → Claim s number a → IsNowhereAt s number look v
+    lifted_law sound number a told h =
+        some_then (query_at s number) (λ q. ClaimFor s q a) (λ q. IsSomeAnd (asked s q) (λ k. IsAskedNotAt k look v))
+        (λ q is claim.
+        some_then (asked s q) (λ k. ClaimOf k a) (λ k. IsAskedNotAt k look v)
+        (λ k asks holds. asked_not_at a told k (sound q k (stands_at s.queries (number - 1) q is) asks).of holds) claim)
+        h

@@ -1,5 +1,0 @@
-use Rattle.dd_checker.proofs.Narrowing.{IsNarrowed}
-use Rattle.dd_checker.proofs.witnesses.narrowed.Given as goal
-
-abbrev pub invariant-loop-symbol : goal.invariant-loop-symbol
-invariant-loop-symbol l = IsNarrowed l.symbols l.size l.symbol-index l.list.items

@@ -1,0 +1,324 @@
+-- Two right answers to a question differ in their evidence alone: a least radius, first periods and a first cell are one.
+use Rattle.std.proofs.Common.{◌≡◌, ℕ, ◌<◌, ◌≤◌, ◌||◌, ◌&&◌, Bool, true, false, List, [], ℤ, pos, refl, ap, sym, subst, ◌∙◌, arith, inl, inr}
+use Rattle.std.specs.Prelude.{◌⊎◌, max, nat_lt}
+use Rattle.std.specs.Ordering.{int_eq, ordering_then, nat_cmp}
+use Rattle.std.proofs.lemmas.Map.Lookups.{exact_unsigned}
+use Rattle.std.specs.declared.cmp.Ordering.{Ordering}
+use Rattle.std.specs.declared.cmp.Ordering.TheVariants.{Less, Equal, Greater}
+use Rattle.std.specs.Cmp.{IsTotalOrder}
+use Rattle.std.proofs.lemmas.Bool.{cases_order, ltb-false, false≢true}
+use Rattle.std.proofs.lemmas.Cmp.{nat_cmp_total, int_cmp_total, on_total, then_total}
+use Rattle.dd_derivation.specs.Derivations.{IsRefuting}
+use Rattle.dd_problem.specs.Problems.{box_problem}
+use Rattle.dd_lattice.specs.declared.position.Cell.{Cell}
+use Rattle.dd_lattice.specs.Place.{Place}
+use Rattle.dd_discharge.specs.Outcomes.{HasOneOutcome}
+use Rattle.dd_lattice.specs.Order.{cell_cmp}
+use Rattle.dd_lattice.specs.lemmas.InOrderLaws.{cells_equal}
+use Rattle.dd_pattern.specs.declared.periods.Periods.{Periods}
+use Rattle.dd_pattern.specs.Periods.{periods_volume, periods_cmp, residue, IsBefore}
+use Rattle.dd_pattern.specs.Tile.{Tile, IsTile, IsInBox}
+use Rattle.dd_pattern.specs.lemmas.Residues.{residue_below}
+use Rattle.dd_expansion.specs.Placed.{is_flat}
+use Rattle.dd_formula.specs.LocalRule.{LocalRule}
+use Rattle.dd_formula.specs.Living.{Lives, IsFirstFalse}
+use Rattle.dd_values.specs.declared.limits.Limits.{Limits}
+use Rattle.dd_boxes.specs.Goals.{GoalOf, breaks}
+use Rattle.dd_boxes.specs.Boxes.{Suffices}
+use Rattle.dd_certificate.specs.declared.answer.Listed.{Listed}
+use Rattle.dd_certificate.specs.declared.answer.Answer.{Answer}
+use Rattle.dd_certificate.specs.declared.answer.Answer.TheVariants as answer
+use Rattle.dd_certificate.specs.Text.{answer_line}
+use Rattle.dd_contain.specs.declared.decision.Decision.{Decision}
+use Rattle.dd_contain.specs.declared.decision.Decision.TheVariants as decision
+use Rattle.dd_contain.specs.declared.equal.Equality.{Equality}
+use Rattle.dd_contain.specs.Decided.{IsLeast, IsFirst, IsDecidedBy}
+use Rattle.dd_contain.specs.Questions.{ShowsAt, Displays, IsDecided}
+use Rattle.dd_contain.specs.Equal.{joined, UnlessNo, IsEqualDecided}
+use Rattle.dd_question.specs.Questions.{Asked, membership, box, equality, listing, density, discharge}
+use Rattle.dd_question.specs.Sound.{IsSoundAsked}
+use Rattle.dd_evidence.specs.Cells.{written_cell}
+use Rattle.dd_evidence.specs.Lists.{IsForbiddenList}
+use Rattle.dd_evidence.specs.Answers.{IsMemberCertificate, IsListCertificate}
+use Rattle.dd_respond.specs.Right.{IsRightTo, IsRightBox, IsRightEqual, written_decision, written_equality, is_unknown}
+use Rattle.dd_respond.specs.Laws.{SayTheSame}
+use Rattle.dd_respond.proofs.Measuring.{IsOneDensity, density_agree, discharge_agree}
+
+-- ---- the least and the first are one
+
+least_one : (S : ℕ → Type 0) (low high n m : ℕ) → IsLeast S low high n → IsLeast S low high m → n ≡ m
+least_one S low high n m one other = elim (cases_order n m) [
+  | inl same ↦ same
+  | inr apart ↦ (elim apart [
+    | inl less ↦ absurd (other.first n one.low less one.holds)
+    | inr more ↦ absurd (one.first m other.low more other.holds)
+  ])
+]
+
+-- periods that compare equal are equal
+both_equal : (a b : Ordering) → ordering_then a b ≡ Equal → (a ≡ Equal) × (b ≡ Equal)
+both_equal Less b h = absurd (cc)
+both_equal Equal b h = (refl, h)
+both_equal Greater b h = absurd (cc)
+
+abbrev sheared : ℕ → ℕ → ℕ → ℕ → Periods
+sheared x y z shear = record { x = x; y = y; z = z; shear = shear }
+
+periods_equal : (p q : Periods) → periods_cmp p q ≡ Equal → p ≡ q
+periods_equal p q h =
+    let sizes = nat_cmp (periods_volume p) (periods_volume q) in
+    let xs = nat_cmp p.x q.x in
+    let ys = nat_cmp p.y q.y in
+    let zs = nat_cmp p.z q.z in
+    let all = both_equal (ordering_then (ordering_then (ordering_then sizes xs) ys) zs) (nat_cmp p.shear q.shear) h in
+    let to_z = both_equal (ordering_then (ordering_then sizes xs) ys) zs all.0 in
+    let to_y = both_equal (ordering_then sizes xs) ys to_z.0 in
+    let to_x = both_equal sizes xs to_y.0 in
+    let x = exact_unsigned p.x q.x to_x.1 in
+    let y = exact_unsigned p.y q.y to_y.1 in
+    let z = exact_unsigned p.z q.z to_z.1 in
+    let shear = exact_unsigned p.shear q.shear all.1 in
+    ap (λ a. sheared a p.y p.z p.shear) x ∙ (ap (λ b. sheared q.x b p.z p.shear) y ∙ (ap (λ c. sheared q.x q.y c p.shear) z ∙ ap (λ d. sheared q.x q.y q.z d) shear))
+
+periods_total : IsTotalOrder periods_cmp
+periods_total =
+    then_total
+    (then_total
+    (then_total (then_total (on_total periods_volume nat_cmp_total) (on_total (λ (p : Periods). p.x) nat_cmp_total)) (on_total (λ (p : Periods). p.y) nat_cmp_total))
+    (on_total (λ (p : Periods). p.z) nat_cmp_total))
+    (on_total (λ (p : Periods). p.shear) nat_cmp_total)
+
+-- one of two periods is before the other, or they are the same
+in_order : (p q : Periods) → IsBefore p q ⊎ (IsBefore q p ⊎ (p ≡ q))
+in_order p q = cases (periods_cmp p q) refl where
+  cases : (o : Ordering) → periods_cmp p q ≡ o → IsBefore p q ⊎ (IsBefore q p ⊎ (p ≡ q))
+  cases Less is = inl is
+  cases Equal is = inr (inr (periods_equal p q is))
+  cases Greater is = let back : periods_cmp q p ≡ Less = periods_total.antisymm q p ∙ cc is in inr (inl back)
+
+first_one : (T : Periods → Type 0) (d n : ℕ) (p q : Periods) → IsFirst T d n p → IsFirst T d n q → p ≡ q
+first_one T d n p q one other = elim (in_order p q) [
+  | inl less ↦ absurd (other.first p one.within less one.shows)
+  | inr rest ↦ (elim rest [
+    | inl more ↦ absurd (one.first q other.within more other.shows)
+    | inr same ↦ same
+  ])
+]
+
+-- ---- decisions without their evidence
+
+abbrev bare_tile : Tile → Tile
+bare_tile t = record { dimension = t.dimension; periods = t.periods; nodes = t.nodes; symbols = [] }
+
+abbrev bare : Decision → Decision
+bare (decision.Yes n steps) = decision.Yes n []
+bare (decision.No t) = decision.No (bare_tile t)
+bare decision.Unknown = decision.Unknown
+
+same_tile : (x : LocalRule) (g : GoalOf) (p q : Periods) (t u : Tile) → p ≡ q → Displays x g p t → Displays x g q u → bare_tile t ≡ bare_tile u
+same_tile x g p q t u same one other =
+    let dimension : t.dimension ≡ u.dimension = one.1.fits.dimension ∙ sym other.1.fits.dimension in
+    let nodes : t.nodes ≡ u.nodes = one.1.fits.nodes ∙ sym other.1.fits.nodes in
+    let periods : t.periods ≡ u.periods = one.0 ∙ (same ∙ sym other.0) in
+    cc (dimension, nodes, periods)
+
+module _ (x : LocalRule) (g : GoalOf) (least most p : ℕ) where
+  abbrev Decides : Decision → Type 0
+  Decides d = IsDecidedBy (Suffices x g) (λ k steps. IsRefuting (box_problem x g k) steps) (ShowsAt x g) (Displays x g) least most x.dimension p d
+
+  one_decision : (d e : Decision) → Decides d → Decides e → bare d ≡ bare e
+  one_decision (decision.Yes n steps) (decision.Yes m others) h k = ap (λ r. decision.Yes r []) (least_one (Suffices x g) least most n m h.0 k.0)
+  one_decision (decision.Yes n steps) (decision.No u) h k = absurd (k.0 n h.0.low h.0.high h.0.holds)
+  one_decision (decision.Yes n steps) decision.Unknown h k = absurd (k.0 n h.0.low h.0.high h.0.holds)
+  one_decision (decision.No t) (decision.Yes m others) h k = absurd (h.0 m k.0.low k.0.high k.0.holds)
+  one_decision (decision.No t) (decision.No u) h k =
+      ap (λ r. decision.No r) (same_tile x g h.1.0 k.1.0 t u (first_one (ShowsAt x g) x.dimension p h.1.0 k.1.0 h.1.1 k.1.1) h.1.2 k.1.2)
+  one_decision (decision.No t) decision.Unknown h k = absurd (k.1 h.1.0 h.1.1.within h.1.1.shows)
+  one_decision decision.Unknown (decision.Yes m others) h k = absurd (h.0 m k.0.low k.0.high k.0.holds)
+  one_decision decision.Unknown (decision.No u) h k = absurd (h.1 k.1.0 k.1.1.within k.1.1.shows)
+  one_decision decision.Unknown decision.Unknown h k = refl
+
+decided_alike : (x : LocalRule) (g : GoalOf) (n p : ℕ) (d e : Decision) → IsDecided x g n p d → IsDecided x g n p e → bare d ≡ bare e
+decided_alike x g n p d e h k =
+    let up : h.0 ≤ k.0 = h.1.least k.0 k.1.reaches in
+    let down : k.0 ≤ h.0 = k.1.least h.0 h.1.reaches in
+    let same : k.0 ≡ h.0 = omega (arith, up, down) in
+    one_decision x g h.0 (max n h.0) p d e h.2
+    (subst (λ l. IsDecidedBy (Suffices x g) (λ k steps. IsRefuting (box_problem x g k) steps) (ShowsAt x g) (Displays x g) l (max n l) x.dimension p e) same k.2)
+
+-- ---- the answers of box questions
+
+decision_line : (number : ℕ) (d : Decision) → answer_line number (written_decision d) ≡ answer_line number (written_decision (bare d))
+decision_line number (decision.Yes n steps) = refl
+decision_line number (decision.No t) = refl
+decision_line number decision.Unknown = refl
+
+decision_unknown : (d : Decision) → is_unknown (written_decision d) ≡ is_unknown (written_decision (bare d))
+decision_unknown (decision.Yes n steps) = refl
+decision_unknown (decision.No t) = refl
+decision_unknown decision.Unknown = refl
+
+box_agree : (l : Limits) (x : LocalRule) (g : GoalOf) (a b : Answer) → IsRightBox l x g a → IsRightBox l x g b → SayTheSame a b
+box_agree l x g a b h k =
+    let same = decided_alike x g l.radius l.period h.decision k.decision h.decided k.decided in
+    record {
+      line = λ number.
+          ap (answer_line number) h.written ∙ (decision_line number h.decision
+          ∙ (ap (λ d. answer_line number (written_decision d)) same
+          ∙ (sym (decision_line number k.decision) ∙ sym (ap (answer_line number) k.written))));
+      unknown =
+          ap is_unknown h.written ∙ (decision_unknown h.decision
+          ∙ (ap (λ d. is_unknown (written_decision d)) same
+          ∙ (sym (decision_unknown k.decision) ∙ sym (ap is_unknown k.written))));
+    }
+
+-- ---- the answers of questions of equality
+
+joined_line : (number : ℕ) (l r : Decision) → answer_line number (written_equality (joined l r)) ≡ answer_line number (written_equality (joined (bare l) (bare r)))
+joined_line number (decision.No t) r = refl
+joined_line number (decision.Yes n steps) (decision.No t) = refl
+joined_line number decision.Unknown (decision.No t) = refl
+joined_line number (decision.Yes n steps) (decision.Yes m others) = refl
+joined_line number (decision.Yes n steps) decision.Unknown = refl
+joined_line number decision.Unknown (decision.Yes m others) = refl
+joined_line number decision.Unknown decision.Unknown = refl
+
+joined_unknown : (l r : Decision) → is_unknown (written_equality (joined l r)) ≡ is_unknown (written_equality (joined (bare l) (bare r)))
+joined_unknown (decision.No t) r = refl
+joined_unknown (decision.Yes n steps) (decision.No t) = refl
+joined_unknown decision.Unknown (decision.No t) = refl
+joined_unknown (decision.Yes n steps) (decision.Yes m others) = refl
+joined_unknown (decision.Yes n steps) decision.Unknown = refl
+joined_unknown decision.Unknown (decision.Yes m others) = refl
+joined_unknown decision.Unknown decision.Unknown = refl
+
+unless_bare : (d : Decision) (P : Type 0) → UnlessNo (bare d) P ≡ UnlessNo d P
+unless_bare (decision.Yes n steps) P = refl
+unless_bare (decision.No t) P = refl
+unless_bare decision.Unknown P = refl
+
+-- where the left decision is NO the right one does not matter
+joined_bare : (l r k : Decision) → UnlessNo l (bare r ≡ bare k) → joined (bare l) (bare r) ≡ joined (bare l) (bare k)
+joined_bare (decision.No t) r k same = refl
+joined_bare (decision.Yes n steps) r k same = ap (joined (decision.Yes n [])) same
+joined_bare decision.Unknown r k same = ap (joined decision.Unknown) same
+
+unless_both : (d : Decision) (P Q R : Type 0) → (P → Q → R) → UnlessNo d P → UnlessNo d Q → UnlessNo d R
+unless_both (decision.Yes n steps) P Q R f h k = f h k
+unless_both (decision.No t) P Q R f h k = tt
+unless_both decision.Unknown P Q R f h k = f h k
+
+equal_bare : (x y : LocalRule) (n p : ℕ) (one other : Equality) (h : IsEqualDecided x y n p one) (k : IsEqualDecided x y n p other) →
+    joined (bare h.left) (bare h.right) ≡ joined (bare k.left) (bare k.right)
+equal_bare x y n p one other h k =
+    let left : bare h.left ≡ bare k.left = decided_alike x (breaks y) n p h.left k.left h.left_decided k.left_decided in
+    let P : Type 0 = IsDecided y (breaks x) n p h.right in
+    let Q : Type 0 = IsDecided y (breaks x) n p k.right in
+    let theirs : UnlessNo (bare k.left) Q = subst (λ (T : Type 0). T) (sym (unless_bare k.left Q)) k.right_decided in
+    let ours : UnlessNo h.left Q = subst (λ (T : Type 0). T) (unless_bare h.left Q) (subst (λ d. UnlessNo d Q) (sym left) theirs) in
+    joined_bare h.left h.right k.right
+    (unless_both h.left P Q (bare h.right ≡ bare k.right) (decided_alike y (breaks x) n p h.right k.right) h.right_decided ours)
+    ∙ ap (λ d. joined d (bare k.right)) left
+
+equal_agree : (l : Limits) (x y : LocalRule) (a b : Answer) → IsRightEqual l x y a → IsRightEqual l x y b → SayTheSame a b
+equal_agree l x y a b h k =
+    let one = h.decided in
+    let other = k.decided in
+    let same = equal_bare x y l.radius l.period h.decision k.decision one other in
+    let a_is = h.written ∙ ap written_equality one.join in
+    let b_is = k.written ∙ ap written_equality other.join in
+    record {
+      line = λ number.
+          ap (answer_line number) a_is ∙ (joined_line number one.left one.right
+          ∙ (ap (λ e. answer_line number (written_equality e)) same
+          ∙ (sym (joined_line number other.left other.right) ∙ sym (ap (answer_line number) b_is))));
+      unknown =
+          ap is_unknown a_is ∙ (joined_unknown one.left one.right
+          ∙ (ap (λ e. is_unknown (written_equality e)) same
+          ∙ (sym (joined_unknown other.left other.right) ∙ sym (ap is_unknown b_is))));
+    }
+
+-- ---- membership
+
+cells_total : IsTotalOrder cell_cmp
+cells_total =
+    then_total
+    (on_total (λ (c : Cell). c.position)
+    (then_total (then_total (on_total (λ (p : Place). p.z) int_cmp_total) (on_total (λ (p : Place). p.y) int_cmp_total)) (on_total (λ (p : Place). p.x) int_cmp_total)))
+    (on_total (λ (c : Cell). c.node) nat_cmp_total)
+
+first_cell : (x : LocalRule) (t : Tile) (c d : Cell) → IsFirstFalse x t c → IsFirstFalse x t d → c ≡ d
+first_cell x t c d one other = cases (cell_cmp c d) refl where
+  cases : (o : Ordering) → cell_cmp c d ≡ o → c ≡ d
+  cases Less is = absurd (false≢true (sym one.here ∙ other.before c one.within is))
+  cases Equal is = cells_equal c d is
+  cases Greater is =
+      let back : cell_cmp d c ≡ Less = cells_total.antisymm d c ∙ cc is in
+      absurd (false≢true (sym other.here ∙ one.before d other.within back))
+
+-- the cells of the fundamental box are cells of Z^d
+axis_flat : (unused : Bool) (z : ℤ) → (unused ≡ false → z ≡ pos 0) → (unused || int_eq z (pos 0)) ≡ true
+axis_flat true z is = refl
+axis_flat false z is = ap (λ (c : ℤ). int_eq c (pos 0)) (is refl)
+
+base_flat : (z : ℤ) (n : ℕ) → n ≡ 1 → pos (residue z n) ≡ z → z ≡ pos 0
+base_flat z n one is =
+    let below : residue z n < n = residue_below z n (omega (arith, one)) in
+    let none : residue z n ≡ 0 = omega (arith, below, one) in
+    sym is ∙ ap pos none
+
+both : (a b : Bool) → a ≡ true → b ≡ true → (a && b) ≡ true
+both true b here there = there
+both false b here there = here
+
+flat_in_box : (t : Tile) (c : Cell) → IsTile t → IsInBox t c → is_flat t.dimension c.position ≡ true
+flat_in_box t c tile at =
+    both (nat_lt 1 t.dimension || int_eq c.position.y (pos 0)) (nat_lt 2 t.dimension || int_eq c.position.z (pos 0))
+    (axis_flat (nat_lt 1 t.dimension) c.position.y
+    (λ unused. base_flat c.position.y t.periods.y (tile.periods.y_unused (let low = ltb-false 1 t.dimension unused in omega (arith, low))) (ap (λ (p : Place). p.y) at.base)))
+    (axis_flat (nat_lt 2 t.dimension) c.position.z
+    (λ unused. base_flat c.position.z t.periods.z (tile.periods.z_unused (let low = ltb-false 2 t.dimension unused in omega (arith, low))) (ap (λ (p : Place). p.z) at.base)))
+
+module _ (x : LocalRule) (t : Tile) (tile : IsTile t) (dimension : t.dimension ≡ x.dimension) (nodes : t.nodes ≡ x.nodes) where
+  not_both : (c : Cell) → Lives x t → IsFirstFalse x t c → ⊥
+  not_both c lives first =
+      let flat : is_flat x.dimension c.position ≡ true = subst (λ d. is_flat d c.position ≡ true) dimension (flat_in_box t c tile first.within) in
+      let node : c.node < x.nodes = subst (λ n. c.node < n) nodes first.within.node in
+      false≢true (sym first.here ∙ lives c.position c.node flat node)
+
+  member_agree : (a b : Answer) → IsMemberCertificate x t a → IsMemberCertificate x t b → SayTheSame a b
+  member_agree answer.Inside answer.Inside h k = record { line = λ number. refl; unknown = refl }
+  member_agree answer.Inside (answer.Outside there) h k = absurd (not_both k.0 h k.1)
+  member_agree (answer.Outside here) answer.Inside h k = absurd (not_both h.0 k h.1)
+  member_agree (answer.Outside here) (answer.Outside there) h k =
+      let same : here ≡ there = h.2 ∙ (ap (written_cell x.dimension) (first_cell x t h.0 k.0 h.1 k.1) ∙ sym k.2) in
+      record { line = λ number. ap (λ p. answer_line number (answer.Outside p)) same; unknown = refl }
+  member_agree answer.Inside b h k = absurd k
+  member_agree (answer.Outside here) b h k = absurd k
+  member_agree a b h k = absurd h
+
+-- ---- forbidden patterns
+
+abbrev pub AreOneList : Type 0
+AreOneList = (x : LocalRule) (some others : List Listed) → IsForbiddenList x some → IsForbiddenList x others → some ≡ others
+
+list_agree : AreOneList → (x : LocalRule) (a b : Answer) → IsListCertificate x a → IsListCertificate x b → SayTheSame a b
+list_agree one x (answer.List some) (answer.List others) h k =
+    record { line = λ number. ap (λ ps. answer_line number (answer.List ps)) (one x some others h k); unknown = refl }
+list_agree one x (answer.List some) b h k = absurd k
+list_agree one x a b h k = absurd h
+
+-- ---- all questions
+
+abbrev pub HaveOneOutcome : Type 0
+HaveOneOutcome = (x : LocalRule) (ws : List ℕ) (radius margin : ℕ) (vs : List Place) (pivots : ℕ) → HasOneOutcome x ws radius margin vs pivots
+
+module _ (one : AreOneList) (density_one : IsOneDensity) (outcome_one : HaveOneOutcome) (l : Limits) where
+  pub right_agree : (k : Asked) (a b : Answer) → IsSoundAsked l k → IsRightTo l k a → IsRightTo l k b → SayTheSame a b
+  right_agree (membership x t) a b ok h k = member_agree x t ok.1 ok.2.dimension ok.2.nodes a b h k
+  right_agree (box x g) a b ok h k = box_agree l x g a b h k
+  right_agree (equality x y) a b ok h k = equal_agree l x y a b h k
+  right_agree (listing x) a b ok h k = list_agree one x a b h k
+  right_agree (density x strip ws) a b ok h k = density_agree density_one x strip ws a b h k
+  right_agree (discharge x radius margin vs ws) a b ok h k =
+      discharge_agree x radius margin vs ws l.pivots (outcome_one x ws radius margin vs l.pivots) a b h k

@@ -1,0 +1,4 @@
+pub mod WritableLaws
+pub mod Measuring
+pub mod AgreeLaws
+pub mod AskingLaws

@@ -1,0 +1,10 @@
+-- which answers are right
+pub mod Right
+-- which answers about least densities and discharging are right
+pub mod Bounds
+-- what all right answers to a question have in common
+pub mod Laws
+-- which decisions an output can hold
+pub mod Writable
+-- which questions engines are asked
+pub mod Asking

@@ -1,0 +1,49 @@
+//! Answers to queries of the least density of a strip.
+ghost use Rattle.std.specs.Prelude.{◌≡◌, IfOk};
+ghost use Rattle.dd_certificate.specs.Bounds.{IsWritable};
+ghost use Rattle.dd_question.specs.Sound.{IsNarrow};
+ghost use Rattle.dd_respond.specs.Bounds.{written_density, IsRightDensity};
+
+use dd_certificate::Answer;
+use dd_density::{Density, least_density};
+use dd_formula::Rule;
+use dd_strips::{strip_empty, strip_least};
+use std::alloc::{AllocError, Global};
+
+fn written_density(density: Density) -> Answer
+    ensures { result ≡ written_density density }
+{
+    match density {
+        Density::Least {
+            numerator,
+            denominator,
+            walk,
+            potentials,
+        } => Answer::Density {
+            numerator,
+            denominator,
+            cycle: walk,
+            potentials,
+        },
+        Density::Empty { ranks } => Answer::Empty { ranks },
+    }
+}
+
+/// The least density of the configurations on a strip, or that there are none, with what shows it.
+pub(crate) fn least(
+    alloc: Global,
+    rule: &Rule,
+    strip: [u32; 2],
+    weights: &[u32],
+) -> Result<Answer, AllocError>
+    requires { IsNarrow rule.now strip weights.now }
+    ensures right { IfOk result (IsRightDensity rule.now strip weights.now) }
+    ensures writable { IfOk result IsWritable }
+{
+    strip_least();
+    strip_empty();
+    // Read for what its type keeps.
+    let _nodes = rule.nodes();
+    let density = least_density(alloc, rule, strip, weights)?;
+    Ok(written_density(density))
+}

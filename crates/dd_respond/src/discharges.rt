@@ -1,0 +1,61 @@
+//! Answers to queries of discharging.
+ghost use Rattle.std.specs.Prelude.{◌≡◌, IfOk};
+ghost use Rattle.dd_certificate.specs.Bounds.{IsWritable};
+ghost use Rattle.dd_discharge.specs.Printed.{IsSmallBound};
+ghost use Rattle.dd_question.specs.Formed.{IsDischargeable};
+ghost use Rattle.dd_respond.specs.Bounds.{written_bound, IsReasonOf, IsRightDischarge};
+
+use dd_certificate::{Answer, Reason};
+use dd_discharge::{Bound, DischargeFault, discharge};
+use dd_formula::Rule;
+use dd_lattice::Position;
+use std::alloc::{AllocError, Global};
+
+fn written_bound(bound: Bound) -> Answer
+    requires { IsSmallBound bound }
+    ensures same { result ≡ written_bound bound }
+    ensures writable { IsWritable result }
+{
+    Answer::Bound {
+        numerator: bound.numerator,
+        denominator: bound.denominator,
+        common: bound.common,
+        amounts: bound.amounts,
+        duals: bound.duals,
+    }
+}
+
+/// Why there is no bound, unless memory is wanting.
+fn reason_of(fault: DischargeFault) -> Result<Reason, AllocError>
+    ensures reason { IfOk result (IsReasonOf fault) }
+{
+    match fault {
+        DischargeFault::Large => Ok(Reason::Large),
+        DischargeFault::Overflow => Ok(Reason::Overflow),
+        DischargeFault::Pivots => Ok(Reason::Pivots),
+        DischargeFault::Memory => Err(AllocError),
+    }
+}
+
+/// The best bound, with what shows it; or why there is none.
+pub(crate) fn discharged(
+    alloc: Global,
+    rule: &Rule,
+    radius: u32,
+    margin: u32,
+    vectors: &[Position],
+    weights: &[u32],
+    pivots: u32,
+) -> Result<Answer, AllocError>
+    requires { IsDischargeable rule.now radius margin vectors.now weights.now }
+    ensures right { IfOk result (IsRightDischarge rule.now radius margin vectors.now weights.now pivots) }
+    ensures writable { IfOk result IsWritable }
+{
+    match discharge(alloc, rule, weights, radius, margin, vectors, pivots) {
+        Ok(bound) => Ok(written_bound(bound)),
+        Err(fault) => {
+            let reason = reason_of(fault)?;
+            Ok(Answer::Unknown { reason })
+        }
+    }
+}

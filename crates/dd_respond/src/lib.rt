@@ -1,0 +1,13 @@
+//! The right answers to questions.
+#![tactic(auto)]
+
+mod boxes;
+mod densities;
+mod discharges;
+mod laws;
+mod lists;
+mod members;
+mod responding;
+
+pub use laws::one_response;
+pub use responding::respond;

@@ -1,0 +1,23 @@
+//! Answers to queries of forbidden patterns.
+ghost use Rattle.std.specs.Prelude.{IfOk};
+ghost use Rattle.dd_certificate.specs.Bounds.{IsWritable};
+ghost use Rattle.dd_question.specs.Sound.{HasFewPatterns};
+ghost use Rattle.dd_evidence.specs.Answers.{IsListCertificate};
+
+use dd_certificate::Answer;
+use dd_evidence::{forbidden_patterns, lists_fit};
+use dd_formula::Rule;
+use std::alloc::{AllocError, Global};
+
+/// The list of the patterns that a rule forbids.
+pub(crate) fn listed(alloc: Global, rule: &Rule) -> Result<Answer, AllocError>
+    requires { HasFewPatterns rule.now }
+    ensures right { IfOk result (IsListCertificate rule.now) }
+    ensures writable { IfOk result IsWritable }
+{
+    lists_fit();
+    // Read for what its type keeps.
+    let _nodes = rule.nodes();
+    let patterns = forbidden_patterns(alloc, rule)?;
+    Ok(Answer::List { patterns })
+}

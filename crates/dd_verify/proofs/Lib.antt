@@ -1,0 +1,15 @@
+pub mod FirstCells
+pub mod Periodics
+pub mod Differing
+pub mod Claiming
+pub mod Writable
+pub mod Deciding
+pub mod Counting
+pub mod Narrowing
+pub mod PlaceLaws
+pub mod Giving
+pub mod Listing
+pub mod SmallNumbers
+pub mod WholeSides
+pub mod Weighing
+pub mod Certifying

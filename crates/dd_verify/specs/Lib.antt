@@ -1,0 +1,12 @@
+-- which answers to questions are certificates
+pub mod Certificates
+-- what the answers to questions claim
+pub mod Claims
+-- which answers to a box question are certificates
+pub mod Evidence
+-- what the answers to a question claim, kind by kind
+pub mod Holding
+-- which answers about least densities and discharging are certificates, and what they claim
+pub mod Bounds
+-- the numbers of configurations
+pub mod Given

@@ -1,0 +1,181 @@
+//! Answers to box questions.
+ghost use Rattle.std.specs.Prelude.{◌≡◌, ◌↔◌, IsTrue, IfOk};
+ghost use Rattle.dd_boxes.specs.Goals.{breaks};
+ghost use Rattle.dd_boxes.specs.Views.{goal_of};
+ghost use Rattle.dd_certificate.specs.declared.answer.Answer.TheVariants as answer;
+ghost use Rattle.dd_certificate.specs.Bounds.{IsWritable};
+ghost use Rattle.dd_verify.specs.Evidence.{IsNoOfSide, IsBoxCertificate, IsEqualCertificate};
+ghost use Rattle.dd_question.specs.Sound.{IsAskable};
+ghost use Rattle.dd_values.specs.Ranges.{AreLimits};
+
+use crate::refutations::check_yes;
+use crate::witnesses::check_no;
+use dd_boxes::Goal;
+use dd_certificate::{Answer, Reason, Side};
+use dd_derivation::Step;
+use dd_formula::Rule;
+use dd_values::Limits;
+use std::alloc::{AllocError, Global};
+
+fn is_limits(reason: Reason) -> bool
+    ensures { IsTrue result ↔ (reason ≡ Reason.Limits) }
+{
+    matches!(reason, Reason::Limits)
+}
+
+fn is_whole(side: Side) -> bool
+    ensures { IsTrue result ↔ (side ≡ Side.Whole) }
+{
+    matches!(side, Side::Whole)
+}
+
+/// Whether an answer is a certificate of a box question, one that an output can hold.
+pub(crate) fn check_box(
+    alloc: Global,
+    premise: &Rule,
+    goal: &Goal,
+    limits: &Limits,
+    answer: &Answer,
+) -> Result<bool, AllocError>
+    requires limits { AreLimits limits.now }
+    requires askable { IsAskable limits.now premise.now (goal_of premise.now goal.now) }
+    ensures { IfOk result (λ accepted. IsTrue accepted ↔ (IsWritable answer.now × IsBoxCertificate limits.now premise.now (goal_of premise.now goal.now) answer.now)) }
+{
+    // Read for what its type keeps.
+    let _symbols = premise.symbols();
+    match answer {
+        Answer::Yes { radius, steps } => {
+            check_yes(alloc, premise, goal, limits, *radius, steps.as_slice())
+        }
+        Answer::No {
+            side,
+            periods,
+            shear,
+            symbols,
+        } => {
+            if !is_whole(*side) {
+                return Ok(false);
+            }
+            check_no(
+                alloc,
+                premise,
+                goal,
+                limits,
+                periods.as_slice(),
+                *shear,
+                symbols.as_slice(),
+            )
+        }
+        Answer::Unknown { reason } => Ok(is_limits(*reason)),
+        _ => Ok(false),
+    }
+}
+
+/// Whether the configuration shows the goal of the side's question.
+fn check_side(
+    alloc: Global,
+    left: &Rule,
+    right: &Rule,
+    limits: &Limits,
+    side: Side,
+    periods: &[u64],
+    shear: u64,
+    symbols: &[u64],
+) -> Result<bool, AllocError>
+    requires limits { AreLimits limits.now }
+    requires left { IsAskable limits.now left.now (breaks right.now) }
+    requires right { IsAskable limits.now right.now (breaks left.now) }
+    ensures { IfOk result (λ accepted. IsTrue accepted ↔ IsNoOfSide limits.now left.now right.now side periods.now shear symbols.now) }
+{
+    match side {
+        Side::Whole => Ok(false),
+        Side::Left => {
+            let goal = Goal::Breaks(right);
+            check_no(alloc, left, &goal, limits, periods, shear, symbols)
+        }
+        Side::Right => {
+            let goal = Goal::Breaks(left);
+            check_no(alloc, right, &goal, limits, periods, shear, symbols)
+        }
+    }
+}
+
+/// Whether both radii are such as were asked for, and the steps refute the clauses of their boxes.
+fn check_both(
+    alloc: Global,
+    left: &Rule,
+    right: &Rule,
+    limits: &Limits,
+    left_radius: u64,
+    right_radius: u64,
+    left_steps: &[Step],
+    right_steps: &[Step],
+) -> Result<bool, AllocError>
+    requires limits { AreLimits limits.now }
+    requires left { IsAskable limits.now left.now (breaks right.now) }
+    requires right { IsAskable limits.now right.now (breaks left.now) }
+    ensures { IfOk result (λ accepted. IsTrue accepted ↔ (IsWritable (answer.YesBoth left_radius right_radius left_steps.now right_steps.now)
+        × IsEqualCertificate limits.now left.now right.now (answer.YesBoth left_radius right_radius left_steps.now right_steps.now))) }
+{
+    // Read for what their types keep.
+    let _left = left.symbols();
+    let _right = right.symbols();
+    let goal = Goal::Breaks(right);
+    if !check_yes(alloc, left, &goal, limits, left_radius, left_steps)? {
+        return Ok(false);
+    }
+    let goal = Goal::Breaks(left);
+    check_yes(alloc, right, &goal, limits, right_radius, right_steps)
+}
+
+/// Whether an answer is a certificate of whether two rules allow the same configurations, one that an output can hold.
+pub(crate) fn check_equal(
+    alloc: Global,
+    left: &Rule,
+    right: &Rule,
+    limits: &Limits,
+    answer: &Answer,
+) -> Result<bool, AllocError>
+    requires limits { AreLimits limits.now }
+    requires left { IsAskable limits.now left.now (breaks right.now) }
+    requires right { IsAskable limits.now right.now (breaks left.now) }
+    ensures { IfOk result (λ accepted. IsTrue accepted ↔ (IsWritable answer.now × IsEqualCertificate limits.now left.now right.now answer.now)) }
+{
+    // Read for what their types keep.
+    let _left = left.symbols();
+    let _right = right.symbols();
+    match answer {
+        Answer::YesBoth {
+            left: left_radius,
+            right: right_radius,
+            left_steps,
+            right_steps,
+        } => check_both(
+            alloc,
+            left,
+            right,
+            limits,
+            *left_radius,
+            *right_radius,
+            left_steps.as_slice(),
+            right_steps.as_slice(),
+        ),
+        Answer::No {
+            side,
+            periods,
+            shear,
+            symbols,
+        } => check_side(
+            alloc,
+            left,
+            right,
+            limits,
+            *side,
+            periods.as_slice(),
+            *shear,
+            symbols.as_slice(),
+        ),
+        Answer::Unknown { reason } => Ok(is_limits(*reason)),
+        _ => Ok(false),
+    }
+}

@@ -1,0 +1,113 @@
+//! Answers to queries of the least density of a strip.
+ghost use Rattle.std.specs.Prelude.{◌↔◌, IsTrue, IfOk};
+ghost use Rattle.dd_transfer.specs.Transfers.{strip_for};
+ghost use Rattle.dd_transfer.specs.Certificates.{IsDensityCertificate, IsEmptyCertificate};
+ghost use Rattle.dd_certificate.specs.declared.answer.Answer.TheVariants as answer;
+ghost use Rattle.dd_certificate.specs.Bounds.{IsWritable};
+ghost use Rattle.dd_question.specs.Sound.{IsNarrow};
+ghost use Rattle.dd_verify.specs.Bounds.{IsStripCertificate};
+
+use crate::numbers::{has_writable_length, is_denominator, is_list, is_number, is_signed_list};
+use dd_certificate::Answer;
+use dd_density::{check_density, check_empty};
+use dd_formula::Rule;
+use std::alloc::{AllocError, Global};
+
+/// Whether an output can hold this density, cycle and potentials.
+fn is_writable(numerator: u64, denominator: u64, cycle: &[u64], potentials: &[i64]) -> bool
+    ensures { IsTrue result ↔ IsWritable (answer.Density numerator denominator cycle.now potentials.now) }
+{
+    if !is_number(numerator) {
+        return false;
+    }
+    if !is_denominator(denominator) {
+        return false;
+    }
+    if !has_writable_length(cycle) {
+        return false;
+    }
+    if !is_list(cycle) {
+        return false;
+    }
+    is_signed_list(potentials)
+}
+
+/// Whether the cycle and the potentials show that this is the least density, and an output can hold them.
+fn is_least(
+    alloc: Global,
+    rule: &Rule,
+    strip: [u32; 2],
+    weights: &[u32],
+    numerator: u64,
+    denominator: u64,
+    cycle: &[u64],
+    potentials: &[i64],
+) -> Result<bool, AllocError>
+    requires { IsNarrow rule.now strip weights.now }
+    ensures { IfOk result (λ accepted. IsTrue accepted ↔ (IsWritable (answer.Density numerator denominator cycle.now potentials.now)
+        × IsDensityCertificate rule.now (strip_for rule.now strip) weights.now numerator denominator cycle.now potentials.now)) }
+{
+    if !is_writable(numerator, denominator, cycle, potentials) {
+        return Ok(false);
+    }
+    check_density(
+        alloc,
+        rule,
+        strip,
+        weights,
+        numerator,
+        denominator,
+        cycle,
+        potentials,
+    )
+}
+
+/// Whether the ranks show that the strip has no configuration, and an output can hold them.
+fn is_empty(
+    alloc: Global,
+    rule: &Rule,
+    strip: [u32; 2],
+    weights: &[u32],
+    ranks: &[u64],
+) -> Result<bool, AllocError>
+    requires { IsNarrow rule.now strip weights.now }
+    ensures { IfOk result (λ accepted. IsTrue accepted ↔ (IsWritable (answer.Empty ranks.now)
+        × IsEmptyCertificate rule.now (strip_for rule.now strip) ranks.now)) }
+{
+    if !is_list(ranks) {
+        return Ok(false);
+    }
+    check_empty(alloc, rule, strip, ranks)
+}
+
+/// Whether an answer is a certificate of the least density of a strip, one that an output can hold.
+pub(crate) fn check_strip(
+    alloc: Global,
+    rule: &Rule,
+    strip: [u32; 2],
+    weights: &[u32],
+    answer: &Answer,
+) -> Result<bool, AllocError>
+    requires { IsNarrow rule.now strip weights.now }
+    ensures { IfOk result (λ accepted. IsTrue accepted ↔ (IsWritable answer.now × IsStripCertificate rule.now strip weights.now answer.now)) }
+{
+    match answer {
+        Answer::Density {
+            numerator,
+            denominator,
+            cycle,
+            potentials,
+        } => is_least(
+            alloc,
+            rule,
+            strip,
+            weights,
+            *numerator,
+            *denominator,
+            cycle.as_slice(),
+            potentials.as_slice(),
+        ),
+        Answer::Empty { ranks } => is_empty(alloc, rule, strip, weights, ranks.as_slice()),
+        _ => Ok(false),
+    }
+}

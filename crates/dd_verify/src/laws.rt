@@ -1,0 +1,54 @@
+//! What certificates claim, as the contracts of calls that change nothing.
+ghost use Rattle.dd_boxes.specs.Goals.{IsGoalFor, KeepsRule};
+ghost use Rattle.dd_boxes.specs.Views.{goal_of};
+ghost use Rattle.dd_certificate.specs.declared.answer.Answer.{Answer as AnyAnswer};
+ghost use Rattle.dd_formula.specs.LocalRule.{LocalRule};
+ghost use Rattle.dd_problem.specs.pushing.Told.{IsToldGoal};
+ghost use Rattle.dd_question.specs.Sound.{IsSoundAsked};
+ghost use Rattle.dd_question.specs.Views.{asked_of};
+ghost use Rattle.dd_values.specs.declared.limits.Limits.{Limits as AnyLimits};
+ghost use Rattle.dd_verify.specs.Certificates.{IsCertificateOf};
+ghost use Rattle.dd_verify.specs.Claims.{ClaimOf};
+
+use dd_boxes::Goal;
+use dd_compile::says_its_value;
+use dd_discharge::best_bound;
+use dd_evidence::listed_break;
+use dd_question::Question;
+use dd_sides::bound_holds;
+use dd_strips::{strip_empty, strip_least};
+
+/// Only looks at the goal's automata, for what they keep: each cell that one reads is a cell of Z^d with one of the nodes, and
+/// the gates of its value say the value.
+fn tell_goal(goal: &Goal)
+    ensures { (x : LocalRule) → IsGoalFor x (goal_of x goal.now) → KeepsRule (goal_of x goal.now) → IsToldGoal x (goal_of x goal.now) }
+{
+    match goal {
+        Goal::Breaks(_) => {}
+        Goal::Differ(left, right) => {
+            left.reads_are_placed();
+            right.reads_are_placed();
+            says_its_value(left);
+            says_its_value(right);
+        }
+        Goal::Always => {}
+    }
+}
+
+/// Only looks at the question's automata; its contract says that what a certificate of the question claims is true, where the
+/// question is sound: of a bound also that boxes of every side length, wherever they lie, weigh at least what it says, up to what
+/// may come in from outside them.
+pub fn claims_hold(question: &Question)
+    ensures { (limits : AnyLimits) (answer : AnyAnswer) → IsSoundAsked limits (asked_of question.now) → IsCertificateOf limits (asked_of question.now) answer →
+        ClaimOf (asked_of question.now) answer }
+{
+    listed_break();
+    strip_least();
+    strip_empty();
+    best_bound();
+    bound_holds();
+    match question {
+        Question::Box { goal, .. } => tell_goal(goal),
+        _ => {}
+    }
+}

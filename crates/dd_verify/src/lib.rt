@@ -1,0 +1,18 @@
+//! The check of answers to questions: which are certificates, and what they claim. It trusts nothing of a search, and does none.
+#![tactic(auto)]
+
+mod answering;
+mod boxes;
+mod configurations;
+mod densities;
+mod discharges;
+mod laws;
+mod lists;
+mod numbers;
+mod places;
+mod refutations;
+mod witnesses;
+
+pub use answering::check_question;
+pub use configurations::check_periodic;
+pub use laws::claims_hold;

@@ -1,0 +1,55 @@
+//! Answers to queries of forbidden patterns.
+ghost use Rattle.std.specs.Prelude.{◌≡◌, ◌↔◌, IsTrue, IfOk};
+ghost use Rattle.dd_certificate.specs.Bounds.{IsWritable};
+ghost use Rattle.dd_question.specs.Sound.{HasFewPatterns};
+ghost use Rattle.dd_evidence.specs.Lists.{IsForbiddenList};
+ghost use Rattle.dd_evidence.specs.Answers.{IsListCertificate};
+
+use dd_certificate::{Answer, Listed};
+use dd_evidence::{forbidden_patterns, lists_fit, one_list};
+use dd_formula::Rule;
+use std::alloc::{AllocError, Global};
+
+fn is_same(left: &Listed, right: &Listed) -> bool
+    ensures { IsTrue result ↔ (left.now ≡ right.now) }
+{
+    left.node == right.node && left.symbols.as_slice() == right.symbols.as_slice()
+}
+
+fn are_same(left: &[Listed], right: &[Listed]) -> bool
+    ensures { IsTrue result ↔ (left.now ≡ right.now) }
+{
+    if left.len() != right.len() {
+        return false;
+    }
+    for at in 0..left.len() {
+        if !is_same(&left[at], &right[at]) {
+            return false;
+        }
+    }
+    true
+}
+
+/// Whether these are the patterns that the rule forbids, in their order.
+fn is_list(alloc: Global, rule: &Rule, patterns: &[Listed]) -> Result<bool, AllocError>
+    requires { HasFewPatterns rule.now }
+    ensures { IfOk result (λ same. IsTrue same ↔ IsForbiddenList rule.now patterns.now) }
+{
+    one_list();
+    let list = forbidden_patterns(alloc, rule)?;
+    Ok(are_same(list.as_slice(), patterns))
+}
+
+/// Whether an answer is the list of the patterns that a rule forbids, one that an output can hold.
+pub(crate) fn check_list(alloc: Global, rule: &Rule, answer: &Answer) -> Result<bool, AllocError>
+    requires { HasFewPatterns rule.now }
+    ensures { IfOk result (λ accepted. IsTrue accepted ↔ (IsWritable answer.now × IsListCertificate rule.now answer.now)) }
+{
+    lists_fit();
+    // Read for what its type keeps.
+    let _nodes = rule.nodes();
+    match answer {
+        Answer::List { patterns } => is_list(alloc, rule, patterns.as_slice()),
+        _ => Ok(false),
+    }
+}

@@ -1,0 +1,69 @@
+//! YES to a box question: a radius, and steps that refute the clauses of its box.
+ghost use Rattle.std.specs.Prelude.{◌≤◌, ◌↔◌, IsTrue, IfOk};
+ghost use Rattle.dd_lattice.specs.Boxes.{centred, volume};
+ghost use Rattle.dd_boxes.specs.Goals.{IsGoalFor};
+ghost use Rattle.dd_boxes.specs.Boxes.{Reaches};
+ghost use Rattle.dd_boxes.specs.Counts.{question_clauses, most_clauses};
+ghost use Rattle.dd_boxes.specs.Views.{goal_of};
+ghost use Rattle.dd_derivation.specs.Derivations.{IsRefuting};
+ghost use Rattle.dd_problem.specs.Problems.{box_problem};
+ghost use Rattle.dd_certificate.specs.Bounds.{IsWritableRefutation};
+ghost use Rattle.dd_verify.specs.Evidence.{IsYes};
+ghost use Rattle.dd_question.specs.Sound.{IsAskable};
+
+use dd_boxes::{Goal, least_radius};
+use dd_certificate::refutations_fit;
+use dd_derivation::{Marks, Step, check_refutation, last_number};
+use dd_formula::Rule;
+use dd_problem::box_clauses;
+use dd_values::Limits;
+use std::alloc::{AllocError, Global};
+
+/// Whether the steps refute the clauses of the box of this radius.
+fn refutes(
+    alloc: Global,
+    premise: &Rule,
+    goal: &Goal,
+    radius: u32,
+    steps: &[Step],
+) -> Result<bool, AllocError>
+    requires goal { IsGoalFor premise.now (goal_of premise.now goal.now) }
+    requires reaches { Reaches (goal_of premise.now goal.now) radius }
+    requires few { question_clauses premise.now (goal_of premise.now goal.now) (volume (centred premise.now.dimension radius)) ≤ most_clauses }
+    ensures exact { IfOk result (λ refuted. IsTrue refuted ↔ IsRefuting (box_problem premise.now (goal_of premise.now goal.now) radius) steps.now) }
+    ensures writable { IfOk result (λ refuted. IsTrue refuted → IsWritableRefutation steps.now) }
+{
+    refutations_fit();
+    let cnf = box_clauses(alloc, premise, goal, radius)?;
+    // Read for their bounds alone.
+    let _variable = cnf.variables();
+    let _number = last_number(&cnf, steps);
+    let mut marks = Marks::new(alloc, &cnf, steps)?;
+    Ok(check_refutation(&cnf, steps, &mut marks))
+}
+
+/// Whether the radius is one that was asked for, and the steps refute the clauses of its box.
+pub(crate) fn check_yes(
+    alloc: Global,
+    premise: &Rule,
+    goal: &Goal,
+    limits: &Limits,
+    radius: u64,
+    steps: &[Step],
+) -> Result<bool, AllocError>
+    requires { IsAskable limits.now premise.now (goal_of premise.now goal.now) }
+    ensures exact { IfOk result (λ accepted. IsTrue accepted ↔ IsYes limits.now premise.now (goal_of premise.now goal.now) radius steps.now) }
+    ensures writable { IfOk result (λ accepted. IsTrue accepted → IsWritableRefutation steps.now) }
+{
+    // Read for what its type keeps.
+    let _symbols = premise.symbols();
+    let least = least_radius(alloc, goal)?;
+    let most = limits.radius.max(least);
+    if radius < u64::from(least) {
+        return Ok(false);
+    }
+    if radius > u64::from(most) {
+        return Ok(false);
+    }
+    refutes(alloc, premise, goal, radius as u32, steps)
+}
