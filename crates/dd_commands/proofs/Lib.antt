@@ -1,4 +1,3 @@
-pub mod Rounds
 pub mod Parts
 pub mod OneTree
 pub mod Texts

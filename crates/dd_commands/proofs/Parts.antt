@@ -2,14 +2,14 @@
 use Rattle.std.proofs.Common.{◌≡◌, ℕ, suc, ◌+◌, ◌<◌, ◌≤◌, List, [], ◌∷◌, ◌++◌, length, take, drop, refl, sym, ap, subst, ◌∙◌, append_assoc, arith}
 use Rattle.std.specs.List.{prefix_len}
 use Rattle.std.specs.Prelude.{Err}
-use Rattle.std.proofs.lemmas.List.{length-append}
+use Rattle.std.proofs.lemmas.List.{append-nil}
 use Rattle.dd_written.specs.declared.lexeme.Mark.TheVariants as mark
 use Rattle.dd_written.specs.declared.lexeme.Lexeme.{Lexeme}
 use Rattle.dd_written.specs.declared.lexeme.Lexeme.TheVariants as lexeme
 use Rattle.dd_commands.specs.declared.script.Written.{Written}
 use Rattle.dd_written.specs.declared.fault.ReadFault.{ReadFault}
 use Rattle.dd_written.specs.declared.fault.ReadFault.TheVariants as faults
-use Rattle.dd_commands.specs.Scripts.{parts, stage_after, MayStand, AreCommands, IsFirstBad, IsBadCommand}
+use Rattle.dd_commands.specs.Scripts.{parts, stage_after, MayStand, AreCommands, IsFirstBad, AreWritten, IsBadCommand}
 use Rattle.dd_commands.specs.reading.Parts.{is_inside, FindsIfAny}
 
 one_more : (n : ℕ) → 1 + n ≡ suc n
@@ -35,58 +35,42 @@ behind_mark [] some none = absurd (omega (arith, some))
 behind_mark (lexeme.Mark mark.Percent ∷ tokens) some none = refl
 behind_mark (t ∷ tokens) some none = absurd cc
 
--- the place behind some commands
-abbrev pub stage_behind : ℕ → List Written → ℕ
-stage_behind from [] = from
-stage_behind from (c ∷ cs) = stage_behind (stage_after c) cs
-
-behind_push : (from : ℕ) (cs : List Written) (c : Written) → stage_behind from (cs ++ c ∷ []) ≡ stage_after c
-behind_push from [] c = refl
-behind_push from (d ∷ cs) c = behind_push (stage_after d) cs c
-
--- ---- the parts that were read, and those that are left
+-- ---- the parts that are left, and what they say of the whole
 pub record Sofar (bytes : List ℕ) (tokens rest : List Lexeme) (cs : List Written) (number from : ℕ) : Type 0 where
-  pub done : List (List Lexeme)
-  pub split : (parts tokens).1 ≡ done ++ (parts rest).1
-  pub read : AreCommands bytes 0 done cs
-  pub reached : stage_behind 0 cs ≡ from
-  pub count : length done ≡ number
   pub at_mark : (parts rest).0 ≡ []
-  pub first : (parts tokens).0 ≡ []
-
-read_push : (bytes : List ℕ) (from : ℕ) (ps : List (List Lexeme)) (cs : List Written) (p : List Lexeme) (c : Written) → AreCommands bytes from ps cs → MayStand bytes (stage_behind from cs) p c → AreCommands bytes from (ps ++ p ∷ []) (cs ++ c ∷ [])
-read_push bytes from [] [] p c each one = (one, tt)
-read_push bytes from [] (d ∷ cs) p c each one = absurd each
-read_push bytes from (q ∷ ps) [] p c each one = absurd each
-read_push bytes from (q ∷ ps) (d ∷ cs) p c each one = (each.0, read_push bytes (stage_after d) ps cs p c each.1 one)
-
-pub goes_on : (bytes : List ℕ) (tokens rest part next : List Lexeme) (cs new : List Written) (number from : ℕ) (c : Written) → Sofar bytes tokens rest cs number from → (parts rest).1 ≡ part ∷ (parts next).1 → (parts next).0 ≡ [] → MayStand bytes from part c → new ≡ cs ++ c ∷ []
-    → Sofar bytes tokens next new (number + 1) (stage_after c)
-goes_on bytes tokens rest part next cs new number from c s cut clean is pushed = record {
-  done = s.done ++ part ∷ [];
-  split = s.split ∙ ap (λ (ps : List (List Lexeme)). s.done ++ ps) cut ∙ sym (append_assoc s.done (part ∷ []) (parts next).1);
-  read = subst (AreCommands bytes 0 (s.done ++ part ∷ [])) (sym pushed) (read_push bytes 0 s.done cs part c s.read (subst (λ (n : ℕ). MayStand bytes n part c) (sym s.reached) is));
-  reached = ap (stage_behind 0) pushed ∙ behind_push 0 cs c;
-  count = length-append s.done (part ∷ []) ∙ ap (λ n. n + 1) s.count;
-  at_mark = clean;
-  first = s.first;
-}
-
-bad_at : (bytes : List ℕ) (from : ℕ) (ps : List (List Lexeme)) (cs : List Written) (bad : List Lexeme) (after : List (List Lexeme)) → AreCommands bytes from ps cs → ((c : Written) → MayStand bytes (stage_behind from cs) bad c → ⊥) → IsFirstBad bytes from (ps ++ bad ∷ after) (length ps)
-bad_at bytes from [] [] bad after each none = none
-bad_at bytes from [] (c ∷ cs) bad after each none = absurd each
-bad_at bytes from (p ∷ ps) [] bad after each none = absurd each
-bad_at bytes from (p ∷ ps) (c ∷ cs) bad after each none = (c, each.0, bad_at bytes (stage_after c) ps cs bad after each.1 none)
-
-pub is_fault : (bytes : List ℕ) (tokens rest part next : List Lexeme) (cs : List Written) (number from : ℕ) → Sofar bytes tokens rest cs number from → (parts rest).1 ≡ part ∷ (parts next).1 → ((c : Written) → MayStand bytes from part c → ⊥) → IsBadCommand bytes tokens (number + 1)
-is_fault bytes tokens rest part next cs number from s cut none =
-    let e : number + 1 ≡ suc number = omega arith in
-    let b : IsFirstBad bytes 0 (s.done ++ part ∷ (parts next).1) (length s.done) = bad_at bytes 0 s.done cs part (parts next).1 s.read (λ c may. none c (subst (λ (n : ℕ). MayStand bytes n part c) s.reached may)) in
-    let d : IsFirstBad bytes 0 (parts tokens).1 number = subst (IsFirstBad bytes 0 (parts tokens).1) s.count (subst (λ (ps : List (List Lexeme)). IsFirstBad bytes 0 ps (length s.done)) (sym (s.split ∙ ap (λ (ps : List (List Lexeme)). s.done ++ ps) cut)) b) in
-    subst (IsBadCommand bytes tokens) (sym e) (s.first, d)
+  pub written : (ws : List Written) → AreCommands bytes from (parts rest).1 ws → AreWritten bytes tokens (cs ++ ws)
+  pub bad : (place : ℕ) → IsFirstBad bytes from (parts rest).1 place → IsBadCommand bytes tokens (number + suc place)
 
 pub starts : (bytes : List ℕ) (tokens : List Lexeme) → (parts tokens).0 ≡ [] → Sofar bytes tokens tokens [] 0 0
-starts bytes tokens clean = record { done = []; split = refl; read = tt; reached = refl; count = refl; at_mark = clean; first = clean }
+starts bytes tokens clean = record {
+  at_mark = clean;
+  written = λ ws are. (clean, are);
+  bad = λ place is.
+      let first : IsBadCommand bytes tokens (suc place) = (clean, is) in
+      let count : suc place ≡ 0 + suc place = omega arith in
+      subst (IsBadCommand bytes tokens) count first;
+}
+
+pub goes_on : (bytes : List ℕ) (tokens rest part next : List Lexeme) (cs new : List Written) (number from after : ℕ) (c : Written) → Sofar bytes tokens rest cs number from → (parts rest).1 ≡ part ∷ (parts next).1 → (parts next).0 ≡ [] → MayStand bytes from part c → new ≡ cs ++ c ∷ [] → after ≡ stage_after c
+    → Sofar bytes tokens next new (number + 1) after
+goes_on bytes tokens rest part next cs new number from after c s cut clean is pushed behind = record {
+  at_mark = clean;
+  written = λ ws are.
+      let others : AreCommands bytes (stage_after c) (parts next).1 ws = subst (λ (n : ℕ). AreCommands bytes n (parts next).1 ws) behind are in
+      let all : AreWritten bytes tokens (cs ++ c ∷ ws) = s.written (c ∷ ws) (subst (λ (ps : List (List Lexeme)). AreCommands bytes from ps (c ∷ ws)) (sym cut) (is, others)) in
+      rw (pushed, append_assoc cs (c ∷ []) ws) all;
+  bad = λ place b.
+      let other : IsFirstBad bytes (stage_after c) (parts next).1 place = subst (λ (n : ℕ). IsFirstBad bytes n (parts next).1 place) behind b in
+      let count : number + suc (suc place) ≡ number + 1 + suc place = omega arith in
+      subst (IsBadCommand bytes tokens) count (s.bad (suc place) (subst (λ (ps : List (List Lexeme)). IsFirstBad bytes from ps (suc place)) (sym cut) (c, is, other)));
+}
+
+pub is_fault : (bytes : List ℕ) (tokens rest part next : List Lexeme) (cs : List Written) (number from : ℕ) → Sofar bytes tokens rest cs number from → (parts rest).1 ≡ part ∷ (parts next).1 → ((c : Written) → MayStand bytes from part c → ⊥) → IsBadCommand bytes tokens (number + 1)
+is_fault bytes tokens rest part next cs number from s cut none = s.bad 0 (subst (λ (ps : List (List Lexeme)). IsFirstBad bytes from ps 0) (sym cut) none)
+
+pub all_read : (bytes : List ℕ) (tokens rest : List Lexeme) (cs : List Written) (number from : ℕ) → Sofar bytes tokens rest cs number from → length rest ≤ 0 → AreWritten bytes tokens cs
+all_read bytes tokens [] cs number from s none = subst (AreWritten bytes tokens) (append-nil cs) (s.written [] tt)
+all_read bytes tokens (t ∷ rest) cs number from s none = absurd (omega (arith, none))
 
 pub nothing_before : (tokens : List Lexeme) → prefix_len is_inside tokens ≤ 0 → (parts tokens).0 ≡ []
 nothing_before tokens le =
@@ -101,6 +85,3 @@ something_before (t ∷ tokens) lt none = absurd cc
 pub none_read : (e : ReadFault) (P : Written → Type 0) → e ≡ faults.Syntax → FindsIfAny (Err e) P → (c : Written) → P c → ⊥
 none_read faults.Memory P is decided = absurd cc
 none_read faults.Syntax P is decided = decided
-
-pub next_is : (bytes : List ℕ) (tokens rest : List Lexeme) (cs : List Written) (number : ℕ) (c : Written) (from : ℕ) → from ≡ stage_after c → Sofar bytes tokens rest cs number (stage_after c) → Sofar bytes tokens rest cs number from
-next_is bytes tokens rest cs number c from e s = subst (Sofar bytes tokens rest cs number) (sym e) s

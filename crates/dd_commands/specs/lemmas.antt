@@ -1,3 +1,4 @@
+pub mod Items
 pub mod CommandSound
 pub mod CommandComplete
 pub mod Whole

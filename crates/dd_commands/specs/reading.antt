@@ -1,4 +1,5 @@
 pub mod Heads
+pub mod Listed
 pub mod Vectors
 pub mod Commands
 pub mod Parts

@@ -2,18 +2,31 @@
 ghost use Rattle.std.specs.Prelude.{◌≡◌, codes};
 ghost use Rattle.dd_written.specs.reading.Readers.{Gives};
 ghost use Rattle.dd_written.specs.reading.Formulas.{formula_at};
-ghost use Rattle.dd_commands.specs.reading.Commands.{case_at, cases_at, otherwise_of, dimension_of, edges_of, topology_of, only_of, weights_of, limits_of, rule_of, automaton_of, composition_of, configuration_of, body_of, command_of};
+ghost use Rattle.dd_commands.specs.reading.Commands.{name_behind, case_at, cases_at, otherwise_of, dimension_of, edges_of, topology_of, only_of, weights_of, limits_of, rule_of, automaton_of, composition_of, configuration_of, body_of, command_of};
 
 use crate::command::{Case, Command};
 use crate::head::Head;
 use crate::keywords::{head, kind};
+use crate::listed::{all, alone};
 use crate::requests::request;
-use crate::vectors::{alone, edges, names, numbers, plain, shear, some_alone};
+use crate::vectors::{plain, shear};
 use dd_values::{Boxed, Items};
 use dd_written::{
     Formula, Lexeme, Name, ReadFault, behind_word, read_formula, read_name, starts_word,
 };
 use std::alloc::Global;
+
+/// The name behind a word that is wanted.
+fn name_behind<'a>(
+    bytes: &[u8],
+    wanted: &[u8],
+    tokens: &'a [Lexeme],
+) -> Result<(Name, &'a [Lexeme]), ReadFault>
+    ensures { Gives (λ x. (x.0, x.1.now)) result (name_behind bytes.now wanted.now tokens.now) }
+{
+    let rest = behind_word(bytes, wanted, tokens)?;
+    read_name(rest)
+}
 
 fn case<'a>(
     alloc: Global,
@@ -24,8 +37,7 @@ fn case<'a>(
 {
     let rest = behind_word(bytes, b"when", tokens)?;
     let (condition, rest) = read_formula(alloc, rest)?;
-    let rest = behind_word(bytes, b"give", rest)?;
-    let (symbol, rest) = read_name(rest)?;
+    let (symbol, rest) = name_behind(bytes, b"give", rest)?;
     let condition = condition.into_inner();
     Ok((Case { condition, symbol }, rest))
 }
@@ -53,8 +65,7 @@ fn cases<'a>(
 fn otherwise(bytes: &[u8], tokens: &[Lexeme]) -> Result<Name, ReadFault>
     ensures { Gives (λ x. x) result (otherwise_of bytes.now tokens.now) }
 {
-    let rest = behind_word(bytes, b"else", tokens)?;
-    let (symbol, rest) = read_name(rest)?;
+    let (symbol, rest) = name_behind(bytes, b"else", tokens)?;
     alone(symbol, rest)
 }
 
@@ -70,8 +81,7 @@ fn dimension(tokens: &[Lexeme]) -> Result<Command, ReadFault>
 fn edge_list(alloc: Global, tokens: &[Lexeme]) -> Result<Command, ReadFault>
     ensures { Gives (λ x. x) result (edges_of tokens.now) }
 {
-    let (edges, rest) = edges(alloc, tokens)?;
-    let edges = some_alone(edges, rest)?;
+    let edges = all(alloc, tokens)?;
     Ok(Command::Edges { edges })
 }
 
@@ -91,15 +101,14 @@ fn only(alloc: Global, tokens: &[Lexeme]) -> Result<Command, ReadFault>
     ensures { Gives (λ x. x) result (only_of tokens.now) }
 {
     let (node, rest) = read_name(tokens)?;
-    let symbols = names(alloc, rest)?;
+    let symbols = all(alloc, rest)?;
     Ok(Command::Only { node, symbols })
 }
 
 fn weights(alloc: Global, tokens: &[Lexeme]) -> Result<Command, ReadFault>
     ensures { Gives (λ x. x) result (weights_of tokens.now) }
 {
-    let (weights, rest) = numbers(alloc, tokens)?;
-    let weights = some_alone(weights, rest)?;
+    let weights = all(alloc, tokens)?;
     Ok(Command::Weights { weights })
 }
 
@@ -180,7 +189,7 @@ fn configuration(alloc: Global, tokens: &[Lexeme]) -> Result<Command, ReadFault>
         [Lexeme::Word(name), rest @ ..] => {
             let (periods, rest) = plain(alloc, rest)?;
             let (shear, rest) = shear(alloc, rest)?;
-            let symbols = names(alloc, rest)?;
+            let symbols = all(alloc, rest)?;
             let name = *name;
             Ok(Command::Configuration {
                 name,
@@ -200,11 +209,11 @@ fn body(alloc: Global, bytes: &[u8], head: Head, tokens: &[Lexeme]) -> Result<Co
     match head {
         Head::Dimension => dimension(tokens),
         Head::Nodes => {
-            let names = names(alloc, tokens)?;
+            let names = all(alloc, tokens)?;
             Ok(Command::Nodes { names })
         }
         Head::Alphabet => {
-            let names = names(alloc, tokens)?;
+            let names = all(alloc, tokens)?;
             Ok(Command::Alphabet { names })
         }
         Head::Topology => topology(alloc, bytes, tokens),

@@ -8,6 +8,7 @@ mod fault;
 mod head;
 mod keywords;
 mod laws;
+mod listed;
 mod requests;
 mod script;
 mod table;

@@ -1,30 +1,24 @@
 //! The faults of terms, atoms and what stands before the body of a quantifier.
 ghost use Rattle.std.specs.Prelude.{◌≡◌};
-ghost use Rattle.std.specs.List.{flat_map};
 ghost use Rattle.dd_faults.specs.Order.{noted};
 ghost use Rattle.dd_faults.specs.Formulas.{unknown_label, term_faults, names_symbol, side_faults, atom_faults, ball_faults, quantifier_faults};
 
 use crate::context::Context;
+use crate::each::{Notes, note_each};
 use crate::fault::{Fault, Limit, note_if, note_over};
 use crate::limits::{MOST_BALLS, MOST_MOVES, WIDEST_RADIUS};
 use crate::names::{is_variable, note_missing, note_variable};
 use dd_written::{Atom, Ball, Comparand, Name, Term, Word, name_text, number_value};
 
-fn label(context: &Context, word: Word, found: &mut Option<Fault>)
-    ensures { found.new ≡ noted found.old (unknown_label context.now word) }
-{
-    let name = Name::Word(word);
-    let topology = &context.known.setting.topology;
-    let unknown = topology.label(name_text(&context.text, name)).is_none();
-    note_if(found, unknown, Fault::Unknown(name));
-}
+/// Labels of moves.
+impl Notes<Word> for Context {
+    ghost faults = { unknown_label };
 
-#[tactic(auto, using(crate::proofs::Noting::notes))]
-fn labels(context: &Context, moves: &[Word], found: &mut Option<Fault>)
-    ensures { found.new ≡ noted found.old (flat_map (unknown_label context.now) moves.now) }
-{
-    for word in moves {
-        label(context, *word, found);
+    fn note(&self, word: &Word, found: &mut Option<Fault>) {
+        let name = Name::Word(*word);
+        let topology = &self.known.setting.topology;
+        let unknown = topology.label(name_text(&self.text, name)).is_none();
+        note_if(found, unknown, Fault::Unknown(name));
     }
 }
 
@@ -33,7 +27,7 @@ fn term(context: &Context, scope: &[Word], term: &Term, found: &mut Option<Fault
     ensures { found.new ≡ noted found.old (term_faults context.now scope.now term.now) }
 {
     note_variable(&context.text, scope, term.first, found);
-    labels(context, term.moves.as_slice(), found);
+    note_each(context, term.moves.as_slice(), found);
     note_over(found, term.moves.len() > MOST_MOVES, Limit::Moves);
 }
 
@@ -96,21 +90,21 @@ pub(crate) fn atom(context: &Context, scope: &[Word], atom: &Atom, found: &mut O
     }
 }
 
-#[tactic(auto, using(crate::proofs::Noting::notes))]
-fn ball(context: &Context, scope: &[Word], ball: &Ball, found: &mut Option<Fault>)
-    ensures { found.new ≡ noted found.old (ball_faults context.now scope.now ball.now) }
-{
-    note_variable(&context.text, scope, ball.centre, found);
-    let radius = number_value(&context.text, ball.radius);
-    note_over(found, radius > WIDEST_RADIUS, Limit::Radius);
+/// Balls, whose centres are variables of a scope.
+#[derive(Clone, Copy)]
+struct Balls<'a> {
+    context: &'a Context,
+    scope: &'a [Word],
 }
 
-#[tactic(auto, using(crate::proofs::Noting::notes))]
-fn balls(context: &Context, scope: &[Word], balls: &[Ball], found: &mut Option<Fault>)
-    ensures { found.new ≡ noted found.old (flat_map (ball_faults context.now scope.now) balls.now) }
-{
-    for written in balls {
-        ball(context, scope, written, found);
+impl<'a> Notes<Ball> for Balls<'a> {
+    ghost faults = { λ balls. ball_faults balls.context.now balls.scope.now };
+
+    #[tactic(auto, using(crate::proofs::Noting::notes))]
+    fn note(&self, ball: &Ball, found: &mut Option<Fault>) {
+        note_variable(&self.context.text, self.scope, ball.centre, found);
+        let radius = number_value(&self.context.text, ball.radius);
+        note_over(found, radius > WIDEST_RADIUS, Limit::Radius);
     }
 }
 
@@ -128,5 +122,5 @@ pub(crate) fn quantifier(
     let bound = is_variable(&context.text, scope, variable);
     note_if(found, bound, Fault::Twice(Name::Word(variable)));
     note_over(found, written.len() > MOST_BALLS, Limit::Balls);
-    balls(context, scope, written, found);
+    note_each(&Balls { context, scope }, written, found);
 }

@@ -11,8 +11,8 @@ use crate::commands::{
     note_edges, note_limits, note_nodes, note_only, note_rule, note_topology, note_weights,
 };
 use crate::context::Context;
+use crate::each::note_each;
 use crate::fault::{Fault, Limit, Refusal, note_over};
-use crate::numbers::tokens;
 use crate::requests::request;
 use dd_commands::{Command, Written};
 use dd_values::MOST_COMMANDS;
@@ -73,7 +73,7 @@ pub fn check(alloc: Global, context: &Context, written: &Written) -> Result<(), 
 {
     let mut found = None;
     note_over(&mut found, context.number > MOST_COMMANDS, Limit::Commands);
-    tokens(&context.text, written.tokens.as_slice(), &mut found);
+    note_each(&context.text, written.tokens.as_slice(), &mut found);
     note_command(alloc, context, &written.command, &mut found)?;
     match found {
         Some(fault) => Err(Refusal::At(fault)),

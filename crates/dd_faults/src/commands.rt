@@ -8,14 +8,15 @@ ghost use Rattle.dd_faults.specs.Sound.{IsSound};
 use crate::boxes::note_box;
 use crate::cases::cases;
 use crate::context::Context;
+use crate::each::note_each;
 use crate::fault::{Fault, Limit, note_over};
 use crate::formulas::formula;
-use crate::header::{edges, kind_fits, missing_names, passes_limits, restricted_again};
+use crate::header::{kind_fits, passes_limits, restricted_again};
 use crate::limits::{MOST_AXES, MOST_EDGES, MOST_NODES, MOST_SYMBOLS};
 use crate::names::{note_defined, note_missing};
-use crate::numbers::{note_unless, weights};
+use crate::numbers::note_unless;
 use crate::symbols::symbols;
-use crate::twice::{note_labels, note_names};
+use crate::twice::note_twice;
 use dd_commands::{Case, Edge, Vector};
 use dd_topology::Kind;
 use dd_written::{Formula, Name, Number, Word, number_value};
@@ -40,7 +41,7 @@ pub(crate) fn note_nodes(
 ) -> Result<(), AllocError>
     ensures { OnOk result (found.new ≡ noted found.old (faults_of context.now (command.Nodes names.now))) }
 {
-    note_names(alloc, &context.text, names, found)?;
+    note_twice(alloc, &context.text, names, found)?;
     note_unless(found, context.has_topology || names.len() <= 1);
     note_over(found, names.len() > MOST_NODES, Limit::Nodes);
     Ok(())
@@ -55,7 +56,7 @@ pub(crate) fn note_alphabet(
 ) -> Result<(), AllocError>
     ensures { OnOk result (found.new ≡ noted found.old (faults_of context.now (command.Alphabet names.now))) }
 {
-    note_names(alloc, &context.text, names, found)?;
+    note_twice(alloc, &context.text, names, found)?;
     note_over(found, names.len() > MOST_SYMBOLS, Limit::Alphabet);
     Ok(())
 }
@@ -75,8 +76,8 @@ pub(crate) fn note_edges(
 ) -> Result<(), AllocError>
     ensures { OnOk result (found.new ≡ noted found.old (faults_of context.now (command.Edges written.now))) }
 {
-    edges(context, written, found);
-    note_labels(alloc, &context.text, written, found)?;
+    note_each(context, written, found);
+    note_twice(alloc, &context.text, written, found)?;
     note_over(found, written.len() > MOST_EDGES, Limit::Edges);
     Ok(())
 }
@@ -92,11 +93,10 @@ pub(crate) fn note_only(
     ensures { OnOk result (found.new ≡ noted found.old (faults_of context.now (command.Only node symbols.now))) }
 {
     let text = &context.text;
-    let setting = &context.known.setting;
-    note_missing(text, &setting.nodes, node, found);
+    note_missing(text, &context.known.setting.nodes, node, found);
     restricted_again(context, node, found);
-    missing_names(text, &setting.symbols, symbols, found);
-    note_names(alloc, text, symbols, found)
+    note_each(context, symbols, found);
+    note_twice(alloc, text, symbols, found)
 }
 
 #[tactic(auto, using(crate::proofs::Noting::notes))]
@@ -105,7 +105,7 @@ pub(crate) fn note_weights(context: &Context, numbers: &[Number], found: &mut Op
 {
     let symbols = context.known.setting.symbols.count() as usize;
     note_unless(found, numbers.len() == symbols);
-    weights(context, numbers, found);
+    note_each(context, numbers, found);
 }
 
 pub(crate) fn note_limits(

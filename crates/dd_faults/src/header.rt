@@ -1,18 +1,19 @@
 //! The faults of commands of the header.
 ghost use Rattle.std.specs.Prelude.{◌≡◌, ◌==◌};
-ghost use Rattle.std.specs.List.{flat_map, list_any};
+ghost use Rattle.std.specs.List.{list_any};
 ghost use Rattle.dd_faults.specs.Order.{noted};
 ghost use Rattle.dd_faults.specs.Names.{missing};
 ghost use Rattle.dd_faults.specs.Commands.{kind_dimension, kind_nodes, kind_fits, edge_faults, is_restricted, restricted_again, passes_limits};
 
 use crate::context::{Context, Known};
+use crate::each::Notes;
 use crate::fault::{Fault, Limit, note_if, note_over};
 use crate::limits::{GREATEST_PERIOD, GREATEST_RADIUS, MOST_PIVOTS};
 use crate::names::note_missing;
 use crate::numbers::{has_entries, is_far, note_unless};
 use dd_commands::Edge;
-use dd_topology::{Kind, Names};
-use dd_written::{Name, Text, name_text};
+use dd_topology::Kind;
+use dd_written::{Name, name_text};
 
 fn kind_dimension(kind: Kind) -> u32
     ensures { result ≡ kind_dimension kind }
@@ -44,34 +45,25 @@ pub(crate) fn kind_fits(known: &Known, kind: Kind) -> bool
     !known.nodes_are_given || setting.nodes.count() == kind_nodes(kind)
 }
 
-#[tactic(auto, using(crate::proofs::Noting::notes))]
-fn edge(context: &Context, edge: &Edge, found: &mut Option<Fault>)
-    ensures { found.new ≡ noted found.old (edge_faults context.now edge.now) }
-{
-    let setting = &context.known.setting;
-    note_missing(&context.text, &setting.nodes, edge.from, found);
-    note_missing(&context.text, &setting.nodes, edge.to, found);
-    note_unless(found, has_entries(setting.topology.dim(), &edge.offset));
-    note_over(found, is_far(&context.text, &edge.offset), Limit::Offset);
-}
+impl Notes<Edge> for Context {
+    ghost faults = { edge_faults };
 
-/// Notes the faults of edges.
-#[tactic(auto, using(crate::proofs::Noting::notes))]
-pub(crate) fn edges(context: &Context, edges: &[Edge], found: &mut Option<Fault>)
-    ensures { found.new ≡ noted found.old (flat_map (edge_faults context.now) edges.now) }
-{
-    for written in edges {
-        edge(context, written, found);
+    #[tactic(auto, using(crate::proofs::Noting::notes))]
+    fn note(&self, edge: &Edge, found: &mut Option<Fault>) {
+        let setting = &self.known.setting;
+        note_missing(&self.text, &setting.nodes, edge.from, found);
+        note_missing(&self.text, &setting.nodes, edge.to, found);
+        note_unless(found, has_entries(setting.topology.dim(), &edge.offset));
+        note_over(found, is_far(&self.text, &edge.offset), Limit::Offset);
     }
 }
 
-/// Notes the names that are none of the names.
-#[tactic(auto, using(crate::proofs::Noting::notes))]
-pub(crate) fn missing_names(text: &Text, names: &Names, written: &[Name], found: &mut Option<Fault>)
-    ensures { found.new ≡ noted found.old (flat_map (missing text.now names.now) written.now) }
-{
-    for name in written {
-        note_missing(text, names, *name, found);
+/// Names of symbols.
+impl Notes<Name> for Context {
+    ghost faults = { λ x. missing x.text x.known.setting.symbols };
+
+    fn note(&self, name: &Name, found: &mut Option<Fault>) {
+        note_missing(&self.text, &self.known.setting.symbols, *name, found);
     }
 }
 

@@ -8,6 +8,7 @@ mod cases;
 mod checking;
 mod commands;
 mod context;
+mod each;
 mod fault;
 mod formulas;
 mod header;

@@ -1,10 +1,11 @@
 //! The faults of tokens, and what vectors and numbers have.
 ghost use Rattle.std.specs.Prelude.{◌≡◌, min};
-ghost use Rattle.std.specs.List.{flat_map, list_any};
+ghost use Rattle.std.specs.List.{list_any};
 ghost use Rattle.dd_faults.specs.Order.{noted};
 ghost use Rattle.dd_faults.specs.Commands.{unless, token_faults, entry_value, has_entries, is_far, is_no_strip, radius_faults, strip_faults, vector_faults, weight_faults};
 
 use crate::context::Context;
+use crate::each::Notes;
 use crate::fault::{Fault, Limit, note_if, note_over};
 use crate::limits::{FARTHEST, GREATEST_NUMBER, LONGEST_STRIP, MOST_LETTERS, WIDEST_RADIUS};
 use dd_commands::{Entry, Vector};
@@ -18,29 +19,22 @@ pub(crate) fn note_unless(found: &mut Option<Fault>, fits: bool)
     note_if(found, !fits, Fault::Dimension);
 }
 
-fn token(text: &Text, token: Lexeme, found: &mut Option<Fault>)
-    ensures { found.new ≡ noted found.old (token_faults text.now token) }
-{
-    match token {
-        Lexeme::Word(word) => note_over(found, word.length > MOST_LETTERS, Limit::Word),
-        Lexeme::Number(number) | Lexeme::Negative(number) => {
-            note_over(
-                found,
-                number_value(text, number) > GREATEST_NUMBER,
-                Limit::Number,
-            );
-        }
-        Lexeme::Mark(_) | Lexeme::Stray => {}
-    }
-}
+/// Words and numbers that are too large.
+impl Notes<Lexeme> for Text {
+    ghost faults = { token_faults };
 
-/// Notes words and numbers that are too large.
-#[tactic(auto, using(crate::proofs::Noting::notes))]
-pub(crate) fn tokens(text: &Text, tokens: &[Lexeme], found: &mut Option<Fault>)
-    ensures { found.new ≡ noted found.old (flat_map (token_faults text.now) tokens.now) }
-{
-    for lexeme in tokens {
-        token(text, *lexeme, found);
+    fn note(&self, token: &Lexeme, found: &mut Option<Fault>) {
+        match *token {
+            Lexeme::Word(word) => note_over(found, word.length > MOST_LETTERS, Limit::Word),
+            Lexeme::Number(number) | Lexeme::Negative(number) => {
+                note_over(
+                    found,
+                    number_value(self, number) > GREATEST_NUMBER,
+                    Limit::Number,
+                );
+            }
+            Lexeme::Mark(_) | Lexeme::Stray => {}
+        }
     }
 }
 
@@ -70,43 +64,34 @@ pub(crate) fn is_far(text: &Text, vector: &Vector) -> bool
         .any(|entry| entry_value(text, *entry) > FARTHEST)
 }
 
-fn radius(context: &Context, number: Number, found: &mut Option<Fault>)
-    ensures { found.new ≡ noted found.old (radius_faults context.now number) }
-{
-    note_over(
-        found,
-        number_value(&context.text, number) > WIDEST_RADIUS,
-        Limit::Radius,
-    );
+/// Radii and margins of questions.
+#[derive(Clone, Copy)]
+pub(crate) struct Radii<'a> {
+    pub(crate) context: &'a Context,
 }
 
-/// Notes the numbers of a question that are over 3.
-#[tactic(auto, using(crate::proofs::Noting::notes))]
-pub(crate) fn radii(context: &Context, numbers: &[Number], found: &mut Option<Fault>)
-    ensures { found.new ≡ noted found.old (flat_map (radius_faults context.now) numbers.now) }
-{
-    for number in numbers {
-        radius(context, *number, found);
+impl<'a> Notes<Number> for Radii<'a> {
+    ghost faults = { λ radii. radius_faults radii.context.now };
+
+    fn note(&self, radius: &Number, found: &mut Option<Fault>) {
+        note_over(
+            found,
+            number_value(&self.context.text, *radius) > WIDEST_RADIUS,
+            Limit::Radius,
+        );
     }
 }
 
-fn weight(context: &Context, number: Number, found: &mut Option<Fault>)
-    ensures { found.new ≡ noted found.old (weight_faults context.now number) }
-{
-    note_over(
-        found,
-        number_value(&context.text, number) > MOST_WEIGHT,
-        Limit::Weight,
-    );
-}
+/// Weights that are over 1,000.
+impl Notes<Number> for Context {
+    ghost faults = { weight_faults };
 
-/// Notes the weights that are over 1,000.
-#[tactic(auto, using(crate::proofs::Noting::notes))]
-pub(crate) fn weights(context: &Context, weights: &[Number], found: &mut Option<Fault>)
-    ensures { found.new ≡ noted found.old (flat_map (weight_faults context.now) weights.now) }
-{
-    for number in weights {
-        weight(context, *number, found);
+    fn note(&self, weight: &Number, found: &mut Option<Fault>) {
+        note_over(
+            found,
+            number_value(&self.text, *weight) > MOST_WEIGHT,
+            Limit::Weight,
+        );
     }
 }
 
@@ -119,41 +104,36 @@ fn is_no_strip(text: &Text, vector: &Vector) -> bool
     })
 }
 
-#[tactic(auto, using(crate::proofs::Noting::notes))]
-fn strip(context: &Context, periods: &Vector, found: &mut Option<Fault>)
-    ensures { found.new ≡ noted found.old (strip_faults context.now periods.now) }
-{
-    let dimension = context.known.setting.topology.dim() as usize;
-    let fits = dimension > 0 && periods.entries.len() == dimension - 1;
-    note_unless(found, fits);
-    note_over(found, is_no_strip(&context.text, periods), Limit::Periods);
+/// Periods of strips.
+#[derive(Clone, Copy)]
+pub(crate) struct Strips<'a> {
+    pub(crate) context: &'a Context,
 }
 
-/// Notes the faults of the periods of strips.
-#[tactic(auto, using(crate::proofs::Noting::notes))]
-pub(crate) fn strips(context: &Context, vectors: &[Vector], found: &mut Option<Fault>)
-    ensures { found.new ≡ noted found.old (flat_map (strip_faults context.now) vectors.now) }
-{
-    for periods in vectors {
-        strip(context, periods, found);
+impl<'a> Notes<Vector> for Strips<'a> {
+    ghost faults = { λ strips. strip_faults strips.context.now };
+
+    #[tactic(auto, using(crate::proofs::Noting::notes))]
+    fn note(&self, periods: &Vector, found: &mut Option<Fault>) {
+        let dimension = self.context.known.setting.topology.dim() as usize;
+        let fits = dimension > 0 && periods.entries.len() == dimension - 1;
+        note_unless(found, fits);
+        note_over(
+            found,
+            is_no_strip(&self.context.text, periods),
+            Limit::Periods,
+        );
     }
 }
 
-#[tactic(auto, using(crate::proofs::Noting::notes))]
-fn vector(context: &Context, vector: &Vector, found: &mut Option<Fault>)
-    ensures { found.new ≡ noted found.old (vector_faults context.now vector.now) }
-{
-    let dimension = context.known.setting.topology.dim();
-    note_unless(found, has_entries(dimension, vector));
-    note_over(found, is_far(&context.text, vector), Limit::Vectors);
-}
+/// Vectors of a discharge.
+impl Notes<Vector> for Context {
+    ghost faults = { vector_faults };
 
-/// Notes the faults of vectors.
-#[tactic(auto, using(crate::proofs::Noting::notes))]
-pub(crate) fn vectors(context: &Context, vectors: &[Vector], found: &mut Option<Fault>)
-    ensures { found.new ≡ noted found.old (flat_map (vector_faults context.now) vectors.now) }
-{
-    for written in vectors {
-        vector(context, written, found);
+    #[tactic(auto, using(crate::proofs::Noting::notes))]
+    fn note(&self, vector: &Vector, found: &mut Option<Fault>) {
+        let dimension = self.known.setting.topology.dim();
+        note_unless(found, has_entries(dimension, vector));
+        note_over(found, is_far(&self.text, vector), Limit::Vectors);
     }
 }

@@ -5,11 +5,12 @@ ghost use Rattle.dd_faults.specs.Order.{noted};
 ghost use Rattle.dd_faults.specs.Commands.{word_faults, list_faults, request_faults};
 
 use crate::context::Context;
+use crate::each::note_each;
 use crate::fault::{Fault, Limit, note_over};
 use crate::limits::MOST_VECTORS;
 use crate::names::note_missing;
-use crate::numbers::{radii, strips, vectors};
-use crate::twice::note_vectors;
+use crate::numbers::{Radii, Strips};
+use crate::twice::note_twice;
 use dd_commands::{Lists, Request, Role, Vector};
 use dd_written::{Name, Word};
 use std::alloc::{AllocError, Global};
@@ -52,12 +53,12 @@ fn lists(
     match kind {
         Lists::None => Ok(()),
         Lists::Strip => {
-            strips(context, written, found);
+            note_each(&Strips { context }, written, found);
             Ok(())
         }
         Lists::Vectors => {
-            note_vectors(alloc, &context.text, written, found)?;
-            vectors(context, written, found);
+            note_twice(alloc, &context.text, written, found)?;
+            note_each(context, written, found);
             note_over(found, written.len() > MOST_VECTORS, Limit::Vectors);
             Ok(())
         }
@@ -76,6 +77,6 @@ pub(crate) fn request(
 {
     let row = request.question.row();
     words(context, row.names, request.words.as_slice(), found);
-    radii(context, request.numbers.as_slice(), found);
+    note_each(&Radii { context }, request.numbers.as_slice(), found);
     lists(alloc, context, row.lists, request.vectors.as_slice(), found)
 }

@@ -1,15 +1,15 @@
 -- Bytes that are tokens and blanks whole are ASCII.
-use Rattle.std.proofs.Common.{◌≡◌, ℕ, zero, suc, ◌+◌, ◌-◌, ◌<◌, ◌≤◌, Bool, true, false, List, [], ◌∷◌, length, take, drop, refl, sym, subst, arith}
-use Rattle.std.specs.Prelude.{◌==◌, ◌&&◌, ◌||◌, not, nat_le, nat_lt, if◌then◌else◌}
+use Rattle.std.proofs.Common.{◌≡◌, ℕ, zero, suc, ◌+◌, ◌-◌, ◌<◌, Bool, true, false, List, [], ◌∷◌, length, take, drop, refl, sym, subst, arith}
+use Rattle.std.specs.Prelude.{◌==◌, ◌&&◌, not, nat_le, nat_lt, if◌then◌else◌}
 use Rattle.std.specs.List.{prefix_len, list_any, list_all}
 use Rattle.std.specs.Str.{IsAscii}
 use Rattle.std.proofs.lemmas.Bool.{and_parts, or_cases, eqb-true, leb-true, ltb-true, false≢true}
-use Rattle.std.proofs.lemmas.List.Sums.{prefix_len-le-length}
+use Rattle.std.proofs.lemmas.Bool.Decides.{nat_tests}
 use Rattle.std.proofs.lemmas.Str.Ascii.{IsAscii-nil, IsAscii-cons}
 use Rattle.std.proofs.Common.{inl, inr}
 use Rattle.dd_tokens.specs.declared.piece.Piece.{Piece}
 use Rattle.dd_tokens.specs.declared.piece.Piece.TheVariants.{Gap, Cut, Fault}
-use Rattle.dd_tokens.specs.declared.token.TokenKind.TheVariants.{Word, Number, Negative, Mark}
+use Rattle.dd_tokens.specs.declared.token.TokenKind.TheVariants.{Number, Mark}
 use Rattle.dd_tokens.specs.declared.token.Tokens.{Tokens}
 use Rattle.dd_tokens.specs.Format.{is_blank, is_letter, is_digit, is_sign, is_comment, is_pair, is_both_ways, starts, starts_positive, comment, number, front, first, piece_size, with_piece, tokens_after, tokens_of}
 
@@ -32,17 +32,7 @@ one_of b (n ∷ ns) low e =
     ]
 
 low_blank : IsLow is_blank
-low_blank b e =
-    elim (or_cases (b == 32 || b == 9 || b == 10) (b == 13) e) [
-      | inl first ↦ elim (or_cases (b == 32 || b == 9) (b == 10) first) [
-        | inl second ↦ elim (or_cases (b == 32) (b == 9) second) [
-          | inl here ↦ is_one b 32 (omega arith) here
-          | inr here ↦ is_one b 9 (omega arith) here
-        ]
-        | inr here ↦ is_one b 10 (omega arith) here
-      ]
-      | inr here ↦ is_one b 13 (omega arith) here
-    ]
+low_blank b e = grind (arith, nat_tests, or_cases, e)
 
 low_letter : IsLow is_letter
 low_letter b e = omega (arith, leb-true b 122 (and_parts (nat_le 97 b) (nat_le b 122) e).1)
@@ -58,16 +48,11 @@ low_sign b e = one_of b (65 ∷ 69 ∷ 37 ∷ 40 ∷ 41 ∷ 91 ∷ 93 ∷ 46 ∷
 
 -- ---- the front of some bytes
 
--- so many bytes are there, one at least, and are ASCII
-record Passes (n : ℕ) (bytes : List ℕ) : Type 0 where
-  some : 0 < n
-  within : n ≤ length bytes
-  ascii : IsAscii (take n bytes)
-
-abbrev Stands : Piece → List ℕ → Type 0
-Stands (Gap n) bytes = Passes n bytes
-Stands (Cut kind n) bytes = Passes n bytes
-Stands (Fault n) bytes = n < length bytes
+-- the first byte and those of its piece behind it are ASCII; or the fault is within them
+abbrev Stands : Piece → ℕ → List ℕ → Type 0
+Stands (Gap n) b bytes = (b < 128) × IsAscii (take (n - 1) bytes)
+Stands (Cut kind n) b bytes = (b < 128) × IsAscii (take (n - 1) bytes)
+Stands (Fault n) b bytes = n < length (b ∷ bytes)
 
 one_more : (n : ℕ) → 1 + n ≡ suc n
 one_more n = omega arith
@@ -81,47 +66,36 @@ run_ascii p low (b ∷ bytes) = run_step p low b bytes (p b) refl (run_ascii p l
     run_step p low b bytes false e more = rw e IsAscii-nil
 
 -- a byte, and those behind it that pass a test
-run_passes : (p : ℕ → Bool) → IsLow p → (b : ℕ) (bytes : List ℕ) → b < 128 → Passes (1 + prefix_len p bytes) (b ∷ bytes)
-run_passes p low b bytes lt = record {
-  some = omega arith;
-  within = omega (arith, prefix_len-le-length p bytes);
-  ascii = subst (λ (n : ℕ). IsAscii (take n (b ∷ bytes))) (sym (one_more (prefix_len p bytes))) (IsAscii-cons b (take (prefix_len p bytes) bytes) lt (run_ascii p low bytes));
-}
-
-one_passes : (b : ℕ) (bytes : List ℕ) → b < 128 → Passes 1 (b ∷ bytes)
-one_passes b bytes lt = record { some = omega arith; within = omega arith; ascii = IsAscii-cons b [] lt IsAscii-nil }
-
-two_pass : (b c : ℕ) (bytes : List ℕ) → b < 128 → c < 128 → Passes 2 (b ∷ c ∷ bytes)
-two_pass b c bytes lt next = record { some = omega arith; within = omega arith; ascii = IsAscii-cons b (c ∷ []) lt (IsAscii-cons c [] next IsAscii-nil) }
-
-three_pass : (b c d : ℕ) (bytes : List ℕ) → b < 128 → c < 128 → d < 128 → Passes 3 (b ∷ c ∷ d ∷ bytes)
-three_pass b c d bytes lt next last = record { some = omega arith; within = omega arith; ascii = IsAscii-cons b (c ∷ d ∷ []) lt (IsAscii-cons c (d ∷ []) next (IsAscii-cons d [] last IsAscii-nil)) }
+run_stands : (p : ℕ → Bool) → IsLow p → (b : ℕ) (bytes : List ℕ) → b < 128 → Stands (Gap (1 + prefix_len p bytes)) b bytes
+run_stands p low b bytes lt =
+    let before : 1 + prefix_len p bytes - 1 ≡ prefix_len p bytes = omega arith in
+    (lt, subst (λ (n : ℕ). IsAscii (take n bytes)) (sym before) (run_ascii p low bytes))
 
 -- both are this byte and that
-pair_passes : (b m n : ℕ) (bytes : List ℕ) → m < 128 → n < 128 → (b == m && starts (λ c. c == n) bytes) ≡ true → Passes 2 (b ∷ bytes)
-pair_passes b m n [] low next e = absurd (false≢true (and_parts (b == m) false e).1)
-pair_passes b m n (c ∷ bytes) low next e =
+pair_stands : (b m n : ℕ) (bytes : List ℕ) → m < 128 → n < 128 → (b == m && starts (λ c. c == n) bytes) ≡ true → Stands (Cut Mark 2) b bytes
+pair_stands b m n [] low next e = absurd (false≢true (and_parts (b == m) false e).1)
+pair_stands b m n (c ∷ bytes) low next e =
     let both = and_parts (b == m) (c == n) e in
-    two_pass b c bytes (is_one b m low both.0) (is_one c n next both.1)
+    (is_one b m low both.0, IsAscii-cons c [] (is_one c n next both.1) IsAscii-nil)
 
-pairs_pass : (b : ℕ) (bytes : List ℕ) → is_pair b bytes ≡ true → Passes 2 (b ∷ bytes)
-pairs_pass b bytes e =
+pairs_stand : (b : ℕ) (bytes : List ℕ) → is_pair b bytes ≡ true → Stands (Cut Mark 2) b bytes
+pairs_stand b bytes e =
     elim (or_cases (b == 45 && starts (λ c. c == 62) bytes) (b == 33 && starts (λ c. c == 61) bytes) e) [
-      | inl arrow ↦ pair_passes b 45 62 bytes (omega arith) (omega arith) arrow
-      | inr unequal ↦ pair_passes b 33 61 bytes (omega arith) (omega arith) unequal
+      | inl arrow ↦ pair_stands b 45 62 bytes (omega arith) (omega arith) arrow
+      | inr unequal ↦ pair_stands b 33 61 bytes (omega arith) (omega arith) unequal
     ]
 
-both_ways_pass : (b : ℕ) (bytes : List ℕ) → is_both_ways b bytes ≡ true → Passes 3 (b ∷ bytes)
-both_ways_pass b [] e = absurd (false≢true (and_parts (b == 60 && false) false e).1)
-both_ways_pass b (c ∷ []) e = absurd (false≢true (and_parts (b == 60 && c == 45) false e).1)
-both_ways_pass b (c ∷ d ∷ bytes) e =
+both_ways_stands : (b : ℕ) (bytes : List ℕ) → is_both_ways b bytes ≡ true → Stands (Cut Mark 3) b bytes
+both_ways_stands b [] e = absurd (false≢true (and_parts (b == 60 && false) false e).1)
+both_ways_stands b (c ∷ []) e = absurd (false≢true (and_parts (b == 60 && c == 45) false e).1)
+both_ways_stands b (c ∷ d ∷ bytes) e =
     let last = and_parts (b == 60 && c == 45) (d == 62) e in
     let both = and_parts (b == 60) (c == 45) last.0 in
-    three_pass b c d bytes (is_one b 60 (omega arith) both.0) (is_one c 45 (omega arith) both.1) (is_one d 62 (omega arith) last.1)
+    (is_one b 60 (omega arith) both.0, IsAscii-cons c (d ∷ []) (is_one c 45 (omega arith) both.1) (IsAscii-cons d [] (is_one d 62 (omega arith) last.1) IsAscii-nil))
 
-if_stands : (t : Bool) (p q : Piece) (bytes : List ℕ) → (t ≡ true → Stands p bytes) → (t ≡ false → Stands q bytes) → Stands (if t then p else q) bytes
-if_stands true p q bytes one other = one refl
-if_stands false p q bytes one other = other refl
+if_stands : (t : Bool) (p q : Piece) (b : ℕ) (bytes : List ℕ) → (t ≡ true → Stands p b bytes) → (t ≡ false → Stands q b bytes) → Stands (if t then p else q) b bytes
+if_stands true p q b bytes one other = one refl
+if_stands false p q b bytes one other = other refl
 
 starts_some : (p : ℕ → Bool) (n : ℕ) (bytes : List ℕ) → starts p (drop n bytes) ≡ true → n < length bytes
 starts_some p zero [] e = absurd (false≢true e)
@@ -129,66 +103,34 @@ starts_some p (suc n) [] e = absurd (false≢true e)
 starts_some p zero (b ∷ bytes) e = omega arith
 starts_some p (suc n) (b ∷ bytes) e = omega (arith, starts_some p n bytes e)
 
-comment_stands : (b : ℕ) (bytes : List ℕ) → b < 128 → Stands (comment bytes) (b ∷ bytes)
+comment_stands : (b : ℕ) (bytes : List ℕ) → b < 128 → Stands (comment bytes) b bytes
 comment_stands b bytes lt =
     let n : ℕ = prefix_len is_comment bytes in
-    if_stands (starts (λ c. nat_le 128 c) (drop n bytes)) (Fault (1 + n)) (Gap (1 + n)) (b ∷ bytes)
+    if_stands (starts (λ c. nat_le 128 c) (drop n bytes)) (Fault (1 + n)) (Gap (1 + n)) b bytes
     (λ e. omega (arith, starts_some (λ c. nat_le 128 c) n bytes e))
-    (λ _. run_passes is_comment low_comment b bytes lt)
+    (λ _. run_stands is_comment low_comment b bytes lt)
 
-number_stands : (b : ℕ) (bytes : List ℕ) → b < 128 → Stands (number b bytes) (b ∷ bytes)
-number_stands b bytes lt =
-    if_stands (b == 48 && starts is_digit bytes) (Fault 0) (Cut Number (1 + prefix_len is_digit bytes)) (b ∷ bytes)
-    (λ _. omega arith)
-    (λ _. run_passes is_digit low_digit b bytes lt)
+number_stands : (b : ℕ) (bytes : List ℕ) → b < 128 → Stands (number b bytes) b bytes
+number_stands b bytes lt = if_stands (b == 48 && starts is_digit bytes) (Fault 0) (Cut Number (1 + prefix_len is_digit bytes)) b bytes (λ _. omega arith) (λ _. run_stands is_digit low_digit b bytes lt)
 
--- the pieces at the front, from the last that is looked for on
-abbrev negative_or_none : ℕ → List ℕ → Piece
-negative_or_none b bytes = if b == 45 && starts_positive bytes then Cut Negative (1 + prefix_len is_digit bytes) else Fault 0
-
-abbrev mark_or_less : ℕ → List ℕ → Piece
-mark_or_less b bytes = if is_both_ways b bytes then Cut Mark 3 else (if is_pair b bytes then Cut Mark 2 else (if is_sign b then Cut Mark 1 else negative_or_none b bytes))
-
-abbrev word_or_less : ℕ → List ℕ → Piece
-word_or_less b bytes = if is_letter b then Cut Word (1 + prefix_len is_letter bytes) else (if is_digit b then number b bytes else mark_or_less b bytes)
-
-negative_stands : (b : ℕ) (bytes : List ℕ) → Stands (negative_or_none b bytes) (b ∷ bytes)
-negative_stands b bytes =
-    if_stands (b == 45 && starts_positive bytes) (Cut Negative (1 + prefix_len is_digit bytes)) (Fault 0) (b ∷ bytes)
-    (λ e. run_passes is_digit low_digit b bytes (is_one b 45 (omega arith) (and_parts (b == 45) (starts_positive bytes) e).0))
-    (λ _. omega arith)
-
-mark_stands : (b : ℕ) (bytes : List ℕ) → Stands (mark_or_less b bytes) (b ∷ bytes)
-mark_stands b bytes =
-    if_stands (is_both_ways b bytes) (Cut Mark 3) (if is_pair b bytes then Cut Mark 2 else (if is_sign b then Cut Mark 1 else negative_or_none b bytes)) (b ∷ bytes) (both_ways_pass b bytes)
-    (λ _. if_stands (is_pair b bytes) (Cut Mark 2) (if is_sign b then Cut Mark 1 else negative_or_none b bytes) (b ∷ bytes) (pairs_pass b bytes)
-    (λ _. if_stands (is_sign b) (Cut Mark 1) (negative_or_none b bytes) (b ∷ bytes) (λ e. one_passes b bytes (low_sign b e))
-    (λ _. negative_stands b bytes)))
-
-word_stands : (b : ℕ) (bytes : List ℕ) → Stands (word_or_less b bytes) (b ∷ bytes)
-word_stands b bytes =
-    if_stands (is_letter b) (Cut Word (1 + prefix_len is_letter bytes)) (if is_digit b then number b bytes else mark_or_less b bytes) (b ∷ bytes) (λ e. run_passes is_letter low_letter b bytes (low_letter b e))
-    (λ _. if_stands (is_digit b) (number b bytes) (mark_or_less b bytes) (b ∷ bytes) (λ e. number_stands b bytes (low_digit b e))
-    (λ _. mark_stands b bytes))
-
-front_stands : (b : ℕ) (bytes : List ℕ) → Stands (front b bytes) (b ∷ bytes)
+front_stands : (b : ℕ) (bytes : List ℕ) → Stands (front b bytes) b bytes
 front_stands b bytes =
-    if_stands (is_blank b) (Gap 1) (if b == 45 && starts (λ c. c == 45) bytes then comment bytes else word_or_less b bytes) (b ∷ bytes) (λ e. one_passes b bytes (low_blank b e))
-    (λ _. if_stands (b == 45 && starts (λ c. c == 45) bytes) (comment bytes) (word_or_less b bytes) (b ∷ bytes) (λ e. comment_stands b bytes (is_one b 45 (omega arith) (and_parts (b == 45) (starts (λ c. c == 45) bytes) e).0))
-    (λ _. word_stands b bytes))
+    if_stands (is_blank b) _ _ b bytes (λ e. (low_blank b e, IsAscii-nil))
+    (λ _. if_stands (b == 45 && starts (λ c. c == 45) bytes) _ _ b bytes (λ e. comment_stands b bytes (is_one b 45 (omega arith) (and_parts (b == 45) (starts (λ c. c == 45) bytes) e).0))
+    (λ _. if_stands (is_letter b) _ _ b bytes (λ e. run_stands is_letter low_letter b bytes (low_letter b e))
+    (λ _. if_stands (is_digit b) _ _ b bytes (λ e. number_stands b bytes (low_digit b e))
+    (λ _. if_stands (is_both_ways b bytes) _ _ b bytes (both_ways_stands b bytes)
+    (λ _. if_stands (is_pair b bytes) _ _ b bytes (pairs_stand b bytes)
+    (λ _. if_stands (is_sign b) _ _ b bytes (λ e. (low_sign b e, IsAscii-nil))
+    (λ _. if_stands (b == 45 && starts_positive bytes) _ (Fault 0) b bytes (λ e. run_stands is_digit low_digit b bytes (is_one b 45 (omega arith) (and_parts (b == 45) (starts_positive bytes) e).0))
+    (λ _. omega arith))))))))
 
 -- ---- the whole
 
-passed : (n b : ℕ) (bytes : List ℕ) → Passes n (b ∷ bytes) → (IsAscii (take (n - 1) bytes) → IsAscii bytes) → IsAscii (b ∷ bytes)
-passed zero b bytes passes more = absurd (omega (arith, passes.some))
-passed (suc n) b bytes passes more =
-    let same : suc n - 1 ≡ n = omega arith in
-    IsAscii-cons b bytes (passes.ascii 0) (more (subst (λ (k : ℕ). IsAscii (take k bytes)) (sym same) (λ i. passes.ascii (suc i))))
-
-at_piece : (p : Piece) (place b : ℕ) (bytes : List ℕ) (rest : Tokens) → Stands p (b ∷ bytes) → (IsAscii (take (piece_size p - 1) bytes) → rest.stop ≡ place + 1 + length bytes → IsAscii bytes)
+at_piece : (p : Piece) (place b : ℕ) (bytes : List ℕ) (rest : Tokens) → Stands p b bytes → (IsAscii (take (piece_size p - 1) bytes) → rest.stop ≡ place + 1 + length bytes → IsAscii bytes)
     → (with_piece p place rest).stop ≡ place + length (b ∷ bytes) → IsAscii (b ∷ bytes)
-at_piece (Gap n) place b bytes rest stands more e = passed n b bytes stands (λ a. more a (omega (arith, e)))
-at_piece (Cut kind n) place b bytes rest stands more e = passed n b bytes stands (λ a. more a (omega (arith, e)))
+at_piece (Gap n) place b bytes rest stands more e = IsAscii-cons b bytes stands.0 (more stands.1 (omega (arith, e)))
+at_piece (Cut kind n) place b bytes rest stands more e = IsAscii-cons b bytes stands.0 (more stands.1 (omega (arith, e)))
 at_piece (Fault n) place b bytes rest stands more e = absurd (omega (arith, e, stands))
 
 ascii_after : (within place : ℕ) (bytes : List ℕ) → IsAscii (take within bytes) → (tokens_after within place bytes).stop ≡ place + length bytes → IsAscii bytes

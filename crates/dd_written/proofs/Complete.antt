@@ -2,7 +2,7 @@
 use Rattle.std.proofs.Common.{◌≡◌, ℕ, zero, suc, ◌-◌, ◌+◌, ◌≤◌, ◌<◌, Bool, true, false, List, [], ◌∷◌, ◌++◌, map, length, drop, Option, Some, refl, sym, ap, subst, ◌∙◌, append_assoc, arith}
 use Rattle.std.specs.Prelude.{nat_le, nat_lt, ◌&&◌, max}
 use Rattle.std.specs.List.{flat_map, list_all, AllByRecursion}
-use Rattle.std.proofs.lemmas.Bool.{ltb-true, le-leb, leb-true}
+use Rattle.std.proofs.lemmas.Bool.{and_parts, ltb-true, le-leb, leb-true}
 use Rattle.std.proofs.lemmas.List.{length-append}
 use Rattle.dd_written.specs.declared.lexeme.Mark.{Mark}
 use Rattle.dd_written.specs.declared.lexeme.Mark.TheVariants as mark
@@ -28,7 +28,6 @@ use Rattle.dd_written.specs.reading.Readers.{Reader, ◌>>=◌}
 use Rattle.dd_written.specs.reading.Atoms.{moves_at, term_at, side_at, after_term, atom_at, leaf_at, balls_at, quantifier_end, quantifier_at}
 use Rattle.dd_written.specs.reading.Formulas.{begins, more_at, list_at, or_at, implies_end, implies_at, iff_more, whole_at, quantified_at, group_end, nested_at, unary_at, formula_at, ends}
 use Rattle.dd_written.proofs.Layers.{text_of, stands_of, depth_of}
-use Rattle.dd_written.specs.lemmas.Options.{and_is}
 use Rattle.dd_written.specs.lemmas.Rounds.{none_more}
 use Rattle.dd_written.specs.lemmas.Names.{name_again}
 use Rattle.dd_written.proofs.Sound.{more_text}
@@ -262,7 +261,7 @@ members_again : (budget place : ℕ) (fs : List Known) → place ≤ 3 → list_
     → AllByRecursion (ReadBy (level_at budget budget place) place) (map formula_of fs)
 members_again budget place [] le fit deep = tt
 members_again budget place (f ∷ fs) le fit deep =
-    let a = and_is (stands f.0 place) (list_all (λ (h : ℕ → Bool). h place) (map stands (map formula_of fs))) fit in
+    let a = and_parts (stands f.0 place) (list_all (λ (h : ℕ → Bool). h place) (map stands (map formula_of fs))) fit in
     (λ rest e. f.1.low budget budget place rest le a.0 deep.0 deep.0 e, members_again budget place fs le a.1 deep.1)
 
 list_level : (j : Join) (budget n : ℕ) (tokens : List Lexeme) → list_at j (level_at budget budget (join_rank j - 1)) tokens ≡ level_at budget n (suc (join_rank j - 1)) tokens
@@ -332,7 +331,7 @@ low_again (Formula-F.Not f) (suc budget) n place rest le fit deep few e =
 low_again (Formula-F.Quantified q variable balls f) zero n place rest le fit deep few e = absurd (omega (arith, deep, depth_of (Formula-F.Quantified q variable balls f.0)))
 low_again (Formula-F.Quantified q variable balls f) (suc budget) n place rest le fit deep few e =
     let deep_f : tree_depth f.0 ≤ budget = omega (arith, deep, depth_of (Formula-F.Quantified q variable balls f.0)) in
-    let both = and_is (nat_le 1 (length balls)) (stands f.0 0) (fits_at (Formula-F.Quantified q variable balls f.0) place fit) in
+    let both = and_parts (nat_le 1 (length balls)) (stands f.0 0) (fits_at (Formula-F.Quantified q variable balls f.0) place fit) in
     lifted (suc budget) n place _ _ rest le e (quantified_again budget q variable balls f.0 rest both.0 (f.1.low budget budget 0 rest (omega arith) both.1 deep_f deep_f (ends_low 0 place rest (omega arith) e)))
 low_again (Formula-F.Group f) zero n place rest le fit deep few e = absurd (omega (arith, deep, depth_of (Formula-F.Group f.0)))
 low_again (Formula-F.Group f) (suc budget) n place rest le fit deep few e =
@@ -340,18 +339,18 @@ low_again (Formula-F.Group f) (suc budget) n place rest le fit deep few e =
     lifted (suc budget) n place _ _ rest le e (group_again budget f.0 rest (top_read f.0 f.1 budget (lexeme.Mark mark.Close ∷ rest) (fits_at (Formula-F.Group f.0) place fit) deep_f refl))
 low_again (Formula-F.List j fs) budget n place rest le fit deep few e =
     let x : Formula-F Formula = Formula-F.List j (map formula_of fs) in
-    let a = and_is (nat_le (join_rank j) place && nat_le 2 (length (map stands (map formula_of fs)))) (list_all (λ (h : ℕ → Bool). h (join_rank j - 1)) (map stands (map formula_of fs))) (fits_at x place fit) in
-    let b = and_is (nat_le (join_rank j) place) (nat_le 2 (length (map stands (map formula_of fs)))) a.0 in
+    let a = and_parts (nat_le (join_rank j) place && nat_le 2 (length (map stands (map formula_of fs)))) (list_all (λ (h : ℕ → Bool). h (join_rank j - 1)) (map stands (map formula_of fs))) (fits_at x place fit) in
+    let b = and_parts (nat_le (join_rank j) place) (nat_le 2 (length (map stands (map formula_of fs)))) a.0 in
     listed_again budget n place j fs rest le (leb-true (join_rank j) place b.0) b.1 a.1 (omega (arith, deep, depth_of x)) e
 low_again (Formula-F.Implies f g) budget n place rest le fit deep few e =
     let x : Formula-F Formula = Formula-F.Implies f.0 g.0 in
-    let a = and_is (nat_le 3 place && stands f.0 2) (stands g.0 3) (fits_at x place fit) in
-    let b = and_is (nat_le 3 place) (stands f.0 2) a.0 in
+    let a = and_parts (nat_le 3 place && stands f.0 2) (stands g.0 3) (fits_at x place fit) in
+    let b = and_parts (nat_le 3 place) (stands f.0 2) a.0 in
     let same : 3 ≡ place = omega (arith, le, leb-true 3 place b.0) in
     subst (λ (p : ℕ). ends p rest ≡ true → level_at budget n p (text (roll-Formula x) ++ rest) ≡ Some (roll-Formula x, rest)) same (implies_low f g budget n rest b.1 a.1 (omega (arith, deep, depth_of x)) (omega (arith, few, depth_of x))) e
 low_again (Formula-F.Iff f g) budget n place rest le fit deep few e =
-    let a = and_is (nat_le 4 place && stands f.0 4) (stands g.0 3) (fits_at (Formula-F.Iff f.0 g.0) place fit) in
-    let b = and_is (nat_le 4 place) (stands f.0 4) a.0 in
+    let a = and_parts (nat_le 4 place && stands f.0 4) (stands g.0 3) (fits_at (Formula-F.Iff f.0 g.0) place fit) in
+    let b = and_parts (nat_le 4 place) (stands f.0 4) a.0 in
     absurd (omega (arith, le, leb-true 4 place b.0))
 
 -- all but `<->` may stand one place lower than alone
@@ -365,8 +364,8 @@ list_lower join.Or fs fit = same_lower (Formula-F.List join.Or fs) (fits_at (For
 iff_again : (f g : Known) → IsTop (roll-Formula (Formula-F.Iff f.0 g.0))
 iff_again f g budget n rest fit deep few e =
     let x : Formula-F Formula = Formula-F.Iff f.0 g.0 in
-    let a = and_is (nat_le 4 4 && stands f.0 4) (stands g.0 3) (fits_at x 4 fit) in
-    let b = and_is (nat_le 4 4) (stands f.0 4) a.0 in
+    let a = and_parts (nat_le 4 4 && stands f.0 4) (stands g.0 3) (fits_at x 4 fit) in
+    let b = and_parts (nat_le 4 4) (stands f.0 4) a.0 in
     let deep_x : 1 + max (tree_depth f.0) (tree_depth g.0) ≤ budget = omega (arith, deep, depth_of x) in
     let few_x : 1 + max (tree_depth f.0) (tree_depth g.0) ≤ n = omega (arith, few, depth_of x) in
     let t = iff_top f g b.1 a.1 budget n rest deep_x few_x e in

@@ -1,7 +1,8 @@
 -- What is read of formulas is written so.
-use Rattle.std.proofs.Common.{◌≡◌, ℕ, zero, suc, ◌-◌, Bool, true, List, [], ◌∷◌, ◌++◌, map, length, drop, Some, None, refl, sym, ap, subst, ◌∙◌, append_assoc, arith, le-leb, leb-true, inl, inr}
+use Rattle.std.proofs.Common.{◌≡◌, ℕ, zero, suc, ◌-◌, Bool, true, List, [], ◌∷◌, ◌++◌, map, length, drop, Option, Some, None, refl, sym, ap, subst, ◌∙◌, append_assoc, arith, le-leb, leb-true, inl, inr}
 use Rattle.std.specs.Prelude.{nat_le, cond, ◌&&◌}
 use Rattle.std.specs.List.{flat_map, list_all}
+use Rattle.std.proofs.lemmas.Bool.{and_parts}
 use Rattle.dd_written.specs.declared.lexeme.Mark.{Mark}
 use Rattle.dd_written.specs.declared.lexeme.Mark.TheVariants as mark
 use Rattle.dd_written.specs.declared.lexeme.Word.{Word}
@@ -25,7 +26,7 @@ use Rattle.dd_written.specs.reading.Readers.{Reader, ◌>>=◌, ReadsAll}
 use Rattle.dd_written.specs.reading.Atoms.{name_at, moves_at, term_at, side_at, after_term, atom_at, leaf_at, balls_at, quantifier_end, quantifier_at}
 use Rattle.dd_written.specs.reading.Formulas.{begins, more_at, close, list_at, or_at, implies_end, implies_at, iff_more, whole_at, not_at, quantified_at, group_end, nested_at, unary_at, formula_at}
 use Rattle.dd_written.proofs.Layers.{text_of, stands_of}
-use Rattle.dd_written.specs.lemmas.Options.{bind_some, some_is, nothing_some, and_is, chosen}
+use Rattle.dd_written.specs.lemmas.Options.{bind_some, some_is, nothing_some, chosen}
 use Rattle.dd_written.specs.lemmas.Many.{many_sound}
 use Rattle.dd_written.specs.lemmas.Names.{name_sound}
 
@@ -55,22 +56,20 @@ behind_mark t m part tokens rest e = ap (λ (ts : List Lexeme). term_text t ++ l
 abbrev IsAtomText : List Lexeme → Atom × List Lexeme → Type 0
 IsAtomText tokens x = tokens ≡ atom_text x.0 ++ x.1
 
+-- what is made of a term and of what is read behind its mark
+after_made : {X : Type 0} (t : Term) (m : Mark) (make : X → Atom) (write : X → List Lexeme) (read : Option (X × List Lexeme)) (tokens : List Lexeme) (x : Atom × List Lexeme)
+    → ((s : X) → atom_text (make s) ≡ term_text t ++ lexeme.Mark m ∷ write s) → ((s : X) (rest : List Lexeme) → read ≡ Some (s, rest) → tokens ≡ write s ++ rest)
+    → (read >>= λ s. Some (make s.0, s.1)) ≡ Some x → IsAtomText (term_text t ++ lexeme.Mark m ∷ tokens) x
+after_made t m make write read tokens x spelled sound e =
+    let b = bind_some read (λ s. Some (make s.0, s.1)) x e in
+    subst (IsAtomText (term_text t ++ lexeme.Mark m ∷ tokens)) (some_is _ _ b.2) (behind_mark t m (write b.0.0) tokens b.0.1 (sound b.0.0 b.0.1 b.1) ∙ ap (λ (ts : List Lexeme). ts ++ b.0.1) (sym (spelled b.0.0)))
+
 after_sound : (t : Term) (tokens : List Lexeme) (x : Atom × List Lexeme) → after_term t tokens ≡ Some x → IsAtomText (term_text t ++ tokens) x
-after_sound t (lexeme.Mark mark.Equal ∷ tokens) x e =
-    let b = bind_some (side_at tokens) (λ s. Some (atom.Equal t s.0, s.1)) x e in
-    subst (IsAtomText (term_text t ++ lexeme.Mark mark.Equal ∷ tokens)) (some_is _ _ b.2) (behind_mark t mark.Equal (atom_side_text b.0.0) tokens b.0.1 (side_sound tokens b.0.0 b.0.1 b.1))
-after_sound t (lexeme.Mark mark.NotEqual ∷ tokens) x e =
-    let b = bind_some (side_at tokens) (λ s. Some (atom.NotEqual t s.0, s.1)) x e in
-    subst (IsAtomText (term_text t ++ lexeme.Mark mark.NotEqual ∷ tokens)) (some_is _ _ b.2) (behind_mark t mark.NotEqual (atom_side_text b.0.0) tokens b.0.1 (side_sound tokens b.0.0 b.0.1 b.1))
-after_sound t (lexeme.Mark mark.Tilde ∷ tokens) x e =
-    let b = bind_some (term_at tokens) (λ u. Some (atom.Adjacent t u.0, u.1)) x e in
-    subst (IsAtomText (term_text t ++ lexeme.Mark mark.Tilde ∷ tokens)) (some_is _ _ b.2) (behind_mark t mark.Tilde (term_text b.0.0) tokens b.0.1 (term_sound tokens b.0.0 b.0.1 b.1))
-after_sound t (lexeme.Mark mark.At ∷ tokens) x e =
-    let b = bind_some (term_at tokens) (λ u. Some (atom.Same t u.0, u.1)) x e in
-    subst (IsAtomText (term_text t ++ lexeme.Mark mark.At ∷ tokens)) (some_is _ _ b.2) (behind_mark t mark.At (term_text b.0.0) tokens b.0.1 (term_sound tokens b.0.0 b.0.1 b.1))
-after_sound t (lexeme.Mark mark.Colon ∷ tokens) x e =
-    let b = bind_some (name_at tokens) (λ n. Some (atom.AtNode t n.0, n.1)) x e in
-    subst (IsAtomText (term_text t ++ lexeme.Mark mark.Colon ∷ tokens)) (some_is _ _ b.2) (behind_mark t mark.Colon (name_lexeme b.0.0 ∷ []) tokens b.0.1 (name_sound tokens b.0.0 b.0.1 b.1))
+after_sound t (lexeme.Mark mark.Equal ∷ tokens) x e = after_made t mark.Equal (λ s. atom.Equal t s) atom_side_text (side_at tokens) tokens x (λ s. refl) (side_sound tokens) e
+after_sound t (lexeme.Mark mark.NotEqual ∷ tokens) x e = after_made t mark.NotEqual (λ s. atom.NotEqual t s) atom_side_text (side_at tokens) tokens x (λ s. refl) (side_sound tokens) e
+after_sound t (lexeme.Mark mark.Tilde ∷ tokens) x e = after_made t mark.Tilde (λ u. atom.Adjacent t u) term_text (term_at tokens) tokens x (λ u. refl) (term_sound tokens) e
+after_sound t (lexeme.Mark mark.At ∷ tokens) x e = after_made t mark.At (λ u. atom.Same t u) term_text (term_at tokens) tokens x (λ u. refl) (term_sound tokens) e
+after_sound t (lexeme.Mark mark.Colon ∷ tokens) x e = after_made t mark.Colon (λ n. atom.AtNode t n) (λ n. name_lexeme n ∷ []) (name_at tokens) tokens x (λ n. refl) (name_sound tokens) e
 after_sound t tokens x e = absurd cc
 
 atom_sound : (tokens : List Lexeme) (x : Atom × List Lexeme) → atom_at tokens ≡ Some x → IsAtomText tokens x
@@ -158,16 +157,16 @@ next_step (Formula-F.Not f) place e = e
 next_step (Formula-F.Quantified q variable balls f) place e = e
 next_step (Formula-F.Group f) place e = e
 next_step (Formula-F.List j fs) place e =
-    let a = and_is (nat_le (join_rank j) place && nat_le 2 (length (map stands fs))) (list_all (λ f. f (join_rank j - 1)) (map stands fs)) e in
-    let b = and_is (nat_le (join_rank j) place) (nat_le 2 (length (map stands fs))) a.0 in
+    let a = and_parts (nat_le (join_rank j) place && nat_le 2 (length (map stands fs))) (list_all (λ f. f (join_rank j - 1)) (map stands fs)) e in
+    let b = and_parts (nat_le (join_rank j) place) (nat_le 2 (length (map stands fs))) a.0 in
     rw (le_next (join_rank j) place b.0, b.1, a.1) refl
 next_step (Formula-F.Implies f g) place e =
-    let a = and_is (nat_le 3 place && stands f 2) (stands g 3) e in
-    let b = and_is (nat_le 3 place) (stands f 2) a.0 in
+    let a = and_parts (nat_le 3 place && stands f 2) (stands g 3) e in
+    let b = and_parts (nat_le 3 place) (stands f 2) a.0 in
     rw (le_next 3 place b.0, b.1, a.1) refl
 next_step (Formula-F.Iff f g) place e =
-    let a = and_is (nat_le 4 place && stands f 4) (stands g 3) e in
-    let b = and_is (nat_le 4 place) (stands f 4) a.0 in
+    let a = and_parts (nat_le 4 place && stands f 4) (stands g 3) e in
+    let b = and_parts (nat_le 4 place) (stands f 4) a.0 in
     rw (le_next 4 place b.0, b.1, a.1) refl
 
 stands_more : (f : Formula) → AlsoNext f

@@ -67,24 +67,22 @@ fn after_term(alloc: Global, term: Term, tokens: &[Lexeme]) -> Result<(Atom, &[L
 {
     match tokens {
         [Lexeme::Mark(Mark::Equal), rest @ ..] => {
-            let (side, rest) = side(alloc, rest)?;
-            Ok((Atom::Equal { term, side }, rest))
+            side(alloc, rest).map(|(side, rest)| (Atom::Equal { term, side }, rest))
         }
         [Lexeme::Mark(Mark::NotEqual), rest @ ..] => {
-            let (side, rest) = side(alloc, rest)?;
-            Ok((Atom::NotEqual { term, side }, rest))
+            side(alloc, rest).map(|(side, rest)| (Atom::NotEqual { term, side }, rest))
         }
         [Lexeme::Mark(Mark::Tilde), rest @ ..] => {
-            let (right, rest) = self::term(alloc, rest)?;
-            Ok((Atom::Adjacent { left: term, right }, rest))
+            self::term(alloc, rest).map(|(right, rest)| (
+                Atom::Adjacent { left: term, right },
+                rest,
+            ))
         }
         [Lexeme::Mark(Mark::At), rest @ ..] => {
-            let (right, rest) = self::term(alloc, rest)?;
-            Ok((Atom::Same { left: term, right }, rest))
+            self::term(alloc, rest).map(|(right, rest)| (Atom::Same { left: term, right }, rest))
         }
         [Lexeme::Mark(Mark::Colon), rest @ ..] => {
-            let (node, rest) = read_name(rest)?;
-            Ok((Atom::AtNode { term, node }, rest))
+            read_name(rest).map(|(node, rest)| (Atom::AtNode { term, node }, rest))
         }
         _ => Err(ReadFault::Syntax),
     }

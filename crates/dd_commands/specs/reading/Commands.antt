@@ -20,16 +20,21 @@ use Rattle.dd_written.specs.reading.Atoms.{name_at}
 use Rattle.dd_written.specs.reading.Formulas.{formula_at}
 use Rattle.dd_commands.specs.Table.{row}
 use Rattle.dd_commands.specs.reading.Heads.{head_at, kind_at}
-use Rattle.dd_commands.specs.reading.Vectors.{alone, some_alone, exactly, word_at, number_at, numbers_at, names_of, plain_at, vectors_at, shear_at, edges_at}
+use Rattle.dd_commands.specs.reading.Listed.{alone, exactly, all_of}
+use Rattle.dd_commands.specs.reading.Vectors.{is_word, word_at, is_number, number_at, is_name, is_vector, vector_at, plain_at, shear_at, is_edge, edge_at}
 
 -- ---- cases
+
+abbrev pub name_behind : List ℕ → List ℕ → Reader Name
+name_behind bytes wanted tokens = do
+  ts ← behind_word bytes wanted tokens
+  name_at ts
 
 abbrev pub case_at : List ℕ → Reader Case
 case_at bytes tokens = do
   ts ← behind_word bytes (codes "when") tokens
   f ← formula_at ts
-  rest ← behind_word bytes (codes "give") f.1
-  n ← name_at rest
+  n ← name_behind bytes (codes "give") f.1
   Some (record { condition = f.0; symbol = n.0 }, n.1)
 
 abbrev pub cases_at : List ℕ → Reader (List Case)
@@ -37,8 +42,7 @@ cases_at bytes tokens = many (starts_word bytes (codes "when")) (case_at bytes) 
 
 abbrev pub otherwise_of : List ℕ → List Lexeme → Option Name
 otherwise_of bytes tokens = do
-  ts ← behind_word bytes (codes "else") tokens
-  n ← name_at ts
+  n ← name_behind bytes (codes "else") tokens
   alone n.0 n.1
 
 -- ---- questions
@@ -48,18 +52,20 @@ lists_of lists.None tokens = alone [] tokens
 lists_of lists.Strip tokens = do
   v ← plain_at tokens
   alone (v.0 ∷ []) v.1
-lists_of lists.Vectors tokens = do
-  vs ← vectors_at tokens
-  some_alone vs.0 vs.1
+lists_of lists.Vectors tokens = all_of is_vector vector_at tokens
 
 abbrev pub request_of : Question → List Lexeme → Option Request
 request_of q tokens = do
-  ws ← exactly word_at (length (row q).names) tokens
-  ns ← exactly number_at (row q).numbers ws.1
+  ws ← exactly is_word word_at (length (row q).names) tokens
+  ns ← exactly is_number number_at (row q).numbers ws.1
   vs ← lists_of (row q).lists ns.1
   Some (record { question = q; words = ws.0; numbers = ns.0; vectors = vs })
 
 -- ---- what stands behind the first word
+
+-- one name or more, to the end
+abbrev pub names_of : List Lexeme → Option (List Name)
+names_of tokens = all_of is_name name_at tokens
 
 abbrev pub dimension_of : List Lexeme → Option Command
 dimension_of (lexeme.Number n ∷ []) = Some (command.Dimension n)
@@ -67,9 +73,8 @@ dimension_of tokens = None
 
 abbrev pub edges_of : List Lexeme → Option Command
 edges_of tokens = do
-  es ← edges_at tokens
-  some ← some_alone es.0 es.1
-  Some (command.Edges some)
+  es ← all_of is_edge edge_at tokens
+  Some (command.Edges es)
 
 abbrev pub topology_of : List ℕ → List Lexeme → Option Command
 topology_of bytes (lexeme.Word w ∷ []) = do
@@ -85,9 +90,8 @@ only_of tokens = do
 
 abbrev pub weights_of : List Lexeme → Option Command
 weights_of tokens = do
-  ns ← numbers_at tokens
-  some ← some_alone ns.0 ns.1
-  Some (command.Weights some)
+  ns ← all_of is_number number_at tokens
+  Some (command.Weights ns)
 
 abbrev pub limits_of : List Lexeme → Option Command
 limits_of (lexeme.Number radius ∷ lexeme.Number period ∷ lexeme.Number pivots ∷ []) = Some (command.Limits radius period pivots)

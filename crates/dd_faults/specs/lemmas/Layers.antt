@@ -1,6 +1,7 @@
 -- The faults of a formula, from those of its parts.
-use Rattle.std.proofs.Common.{◌≡◌, List, [], ◌∷◌, ◌++◌, map, refl, sym, ap, ◌∙◌}
+use Rattle.std.proofs.Common.{◌≡◌, List, [], ◌∷◌, ◌++◌, sym, ap, ◌∙◌}
 use Rattle.std.specs.List.{flat_map}
+use Rattle.std.proofs.lemmas.List.Folds.{flat_map-map}
 use Rattle.dd_written.specs.declared.lexeme.Word.{Word}
 use Rattle.dd_written.specs.declared.tree.Ball.{Ball}
 use Rattle.dd_written.specs.declared.tree.Quantifier.{Quantifier}
@@ -12,10 +13,6 @@ use Rattle.dd_written.specs.declared.tree.Formula.TheOpen.{Formula-F}
 use Rattle.dd_faults.specs.declared.fault.Fault.{Fault}
 use Rattle.dd_faults.specs.declared.context.Context.{Context}
 use Rattle.dd_faults.specs.Formulas.{quantifier_faults, faults_step, formula_faults}
-
-flat_map_map : {X Y Z : Type 0} (g : Y → List Z) (f : X → Y) (xs : List X) → flat_map g (map f xs) ≡ flat_map (λ x. g (f x)) xs
-flat_map_map g f [] = refl
-flat_map_map g f (x ∷ xs) = ap (λ (zs : List _). g (f x) ++ zs) (flat_map_map g f xs)
 
 abbrev rolled : List Word → (List Word → List Fault) → List Fault
 rolled scope h = h scope
@@ -29,7 +26,7 @@ faults_group x f scope = ap (λ f. formula_faults x f scope) (sym (v.rolls-Group
 pub faults_list : (x : Context) (j : Join) (fs : List Formula) (scope : List Word) → formula_faults x (v.List j fs) scope ≡ flat_map (λ f. formula_faults x f scope) fs
 faults_list x j fs scope =
     ap (λ f. formula_faults x f scope) (sym (v.rolls-List j fs))
-    ∙ (ap (rolled scope) (fold-roll-Formula (List Word → List Fault) (faults_step x) (Formula-F.List j fs)) ∙ flat_map_map (rolled scope) (formula_faults x) fs)
+    ∙ (ap (rolled scope) (fold-roll-Formula (List Word → List Fault) (faults_step x) (Formula-F.List j fs)) ∙ flat_map-map (rolled scope) (formula_faults x) fs)
 
 pub faults_quantified : (x : Context) (q : Quantifier) (w : Word) (balls : List Ball) (f : Formula) (scope : List Word)
     → formula_faults x (v.Quantified q w balls f) scope ≡ quantifier_faults x scope w balls ++ formula_faults x f (scope ++ w ∷ [])

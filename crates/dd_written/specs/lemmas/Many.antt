@@ -21,17 +21,23 @@ many_sound {X} reads begins item sound (suc n) tokens xs rest e =
 abbrev nothing : {X : Type 0} → List Lexeme → Option (List X × List Lexeme)
 nothing tokens = Some ([], tokens)
 
--- Each is read again where its beginning stands, and takes a token at least.
+-- Each is read again where its beginning stands, and where fewer stand there than may be read, none begins behind them.
 pub many_again : {X : Type 0} (reads : X → List Lexeme → List Lexeme → Type 0) (begins : List Lexeme → Bool) (item : Reader X)
-    → ((x : X) (tokens rest : List Lexeme) → reads x tokens rest → (begins tokens ≡ true) × (item tokens ≡ Some (x, rest)) × (length rest < length tokens))
-    → (n : ℕ) (xs : List X) (tokens rest : List Lexeme) → length tokens ≤ n → ReadsAll reads xs tokens rest → begins rest ≡ false → many begins item n tokens ≡ Some (xs, rest)
-many_again {X} reads begins item again zero [] tokens rest le all ended = ap (nothing {X = X}) all
-many_again {X} reads begins item again zero (x ∷ xs) tokens rest le all ended = absurd (omega (arith, le, (again x tokens all.0 all.1).2))
-many_again {X} reads begins item again (suc n) [] tokens rest le all ended = subst (λ (ts : List Lexeme). many begins item (suc n) ts ≡ nothing {X = X} rest) (sym all) (rw ended refl)
-many_again {X} reads begins item again (suc n) (x ∷ xs) tokens rest le all ended =
+    → ((x : X) (tokens rest : List Lexeme) → reads x tokens rest → (begins tokens ≡ true) × (item tokens ≡ Some (x, rest)))
+    → (n : ℕ) (xs : List X) (tokens rest : List Lexeme) → length xs ≤ n → (length xs < n → begins rest ≡ false) → ReadsAll reads xs tokens rest → many begins item n tokens ≡ Some (xs, rest)
+many_again {X} reads begins item again zero [] tokens rest le ended all = ap (nothing {X = X}) all
+many_again {X} reads begins item again zero (x ∷ xs) tokens rest le ended all = absurd (omega (arith, le))
+many_again {X} reads begins item again (suc n) [] tokens rest le ended all = subst (λ (ts : List Lexeme). many begins item (suc n) ts ≡ nothing {X = X} rest) (sym all) (rw (ended (omega arith)) refl)
+many_again {X} reads begins item again (suc n) (x ∷ xs) tokens rest le ended all =
     let one = again x tokens all.0 all.1 in
-    let others : many begins item n all.0 ≡ Some (xs, rest) = many_again reads begins item again n xs all.0 rest (omega (arith, le, one.2)) all.2 ended in
+    let others : many begins item n all.0 ≡ Some (xs, rest) = many_again reads begins item again n xs all.0 rest (omega (arith, le)) (λ lt. ended (omega (arith, lt))) all.2 in
     rw (one.0, one.1, others) refl
+
+-- where each takes a token, there are as many tokens as items
+pub few_items : {X : Type 0} (reads : X → List Lexeme → List Lexeme → Type 0) → ((x : X) (tokens rest : List Lexeme) → reads x tokens rest → length rest < length tokens)
+    → (xs : List X) (tokens rest : List Lexeme) → ReadsAll reads xs tokens rest → length xs ≤ length tokens
+few_items reads takes [] tokens rest all = omega arith
+few_items reads takes (x ∷ xs) tokens rest all = omega (arith, takes x tokens all.0 all.1, few_items reads takes xs all.0 rest all.2)
 
 -- what is read by its text
 abbrev pub ByText : {X : Type 0} → (X → List Lexeme) → X → List Lexeme → List Lexeme → Type 0

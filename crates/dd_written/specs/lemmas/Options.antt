@@ -1,6 +1,5 @@
 -- Steps that may give nothing.
 use Rattle.std.proofs.Common.{◌≡◌, Bool, true, false, cond, ◌⊎◌, inl, inr, Option, Some, None, refl}
-use Rattle.std.specs.Prelude.{◌&&◌}
 use Rattle.dd_written.specs.reading.Readers.{◌>>=◌}
 
 -- the value of a step that did not fail
@@ -13,10 +12,6 @@ given x = Some x
 
 pub some_is : {A : Type 0} (x y : A) → given x ≡ given y → x ≡ y
 some_is x y e = cc
-
-pub and_is : (a b : Bool) → (a && b) ≡ true → (a ≡ true) × (b ≡ true)
-and_is true b e = (refl, e)
-and_is false b e = absurd cc
 
 pub chosen : {A : Type 0} (b : Bool) (x y z : A) → cond b x y ≡ z → ((b ≡ true) × (x ≡ z)) ⊎ ((b ≡ false) × (y ≡ z))
 chosen true x y z e = inl (refl, e)

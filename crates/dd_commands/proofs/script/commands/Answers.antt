@@ -1,7 +1,8 @@
 use Rattle.std.proofs.Common.{sym, ap, subst, ◌∙◌, arith}
+use Rattle.std.proofs.lemmas.Grind.{common_steps}
 use Rattle.dd_commands.specs.Heads.{next_stage}
 use Rattle.dd_commands.specs.Scripts.{MayStand}
-use Rattle.dd_commands.proofs.Parts.{Sofar, something_before, nothing_before, starts, is_fault, goes_on, next_is, none_read}
+use Rattle.dd_commands.proofs.Parts.{Sofar, something_before, nothing_before, starts, is_fault, goes_on, all_read, none_read}
 use Rattle.dd_commands.proofs.script.commands.Goals as goal
 
 pub returns-then-part_length-gt0 : goal.returns-then-part_length-gt0
@@ -17,6 +18,9 @@ returns-in-Err-Syntax c = is_fault c.args.bytes.now c.args.tokens.now c.loop-res
 pub loop-rest-preserved : goal.loop-rest-preserved
 loop-rest-preserved c = (
   omega (arith, c.loop-rest.invariant.0, c.next_part.ensures.shorter),
-  next_is c.args.bytes.now c.args.tokens.now c.next_part.result.1.now _ _ c.in-Ok.written _ (c.next_stage-from.ensures ∙ ap next_stage c.head.ensures)
-      (goes_on c.args.bytes.now c.args.tokens.now c.loop-rest.rest.now c.next_part.result.0.now c.next_part.result.1.now c.loop-rest.commands _ c.loop-rest.number c.loop-rest.from c.in-Ok.written c.loop-rest.invariant.1 c.next_part.ensures.part c.next_part.ensures.at_mark c.in-Ok.ensures c.in_ok-push-in-Ok.ensures.ok),
+  goes_on c.args.bytes.now c.args.tokens.now c.loop-rest.rest.now c.next_part.result.0.now c.next_part.result.1.now c.loop-rest.commands _ c.loop-rest.number c.loop-rest.from _ c.in-Ok.written c.loop-rest.invariant.1 c.next_part.ensures.part c.next_part.ensures.at_mark c.in-Ok.ensures c.in_ok-push-in-Ok.ensures.ok
+      (c.next_stage-from.ensures ∙ ap next_stage c.head.ensures),
 )
+
+pub returns : goal.returns
+returns c = all_read c.args.bytes.now c.args.tokens.now c.loop-rest.rest.now c.loop-rest.commands c.loop-rest.number c.loop-rest.from c.loop-rest.invariant.1 (grind (arith, common_steps))

@@ -1,0 +1,26 @@
+//! What is noted of each item of a list.
+ghost use Rattle.std.specs.Prelude.{◌≡◌, List};
+ghost use Rattle.std.specs.List.{flat_map};
+ghost use Rattle.dd_faults.specs.declared.fault.Fault.{Fault as AnyFault};
+ghost use Rattle.dd_faults.specs.Order.{noted};
+
+use crate::fault::Fault;
+
+/// What an item is judged by.
+pub(crate) trait Notes<T> {
+    /// What is wrong with an item.
+    ghost faults: { Self → T → List AnyFault };
+
+    /// Notes the faults of an item.
+    fn note(&self, item: &T, found: &mut Option<Fault>)
+        ensures { found.new ≡ noted found.old (faults self.now item.now) };
+}
+
+/// Notes the faults of each item.
+pub(crate) fn note_each<T, N: Notes<T>>(notes: &N, items: &[T], found: &mut Option<Fault>)
+    ensures { found.new ≡ noted found.old (flat_map (N.faults notes.now) items.now) }
+{
+    for item in items {
+        notes.note(item, found);
+    }
+}
