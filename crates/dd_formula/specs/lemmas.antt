@@ -8,3 +8,4 @@ pub mod AutomatonLaws
 pub mod CompositionLaws
 pub mod FarthestLaws
 pub mod ValueLaws
+pub mod FirstCells

@@ -22,23 +22,23 @@ axis_flat : (unused : Bool) (z : ℤ) → (unused ≡ false → z ≡ pos 0) →
 axis_flat true z is = refl
 axis_flat false z is = ap (λ (c : ℤ). int_eq c (pos 0)) (is refl)
 
-base_flat : (z w : ℤ) (n : ℕ) → n ≡ 1 → pos (residue w n) ≡ z → z ≡ pos 0
-base_flat z w n one is =
-    let below : residue w n < n = residue_below w n (omega (arith, one)) in
-    let none : residue w n ≡ 0 = omega (arith, below, one) in
+base_flat : (z : ℤ) (n : ℕ) → n ≡ 1 → pos (residue z n) ≡ z → z ≡ pos 0
+base_flat z n one is =
+    let below : residue z n < n = residue_below z n (omega (arith, one)) in
+    let none : residue z n ≡ 0 = omega (arith, below, one) in
     sym is ∙ ap pos none
 
 both : (a b : Bool) → a ≡ true → b ≡ true → (a && b) ≡ true
 both true b here there = there
 both false b here there = here
 
-pub flat_in_box : (t : Tile) (c : Cell) → IsTile t → IsInBox t c → is_flat t.dimension c.position ≡ true
+flat_in_box : (t : Tile) (c : Cell) → IsTile t → IsInBox t c → is_flat t.dimension c.position ≡ true
 flat_in_box t c tile at =
     both (nat_lt 1 t.dimension || int_eq c.position.y (pos 0)) (nat_lt 2 t.dimension || int_eq c.position.z (pos 0))
     (axis_flat (nat_lt 1 t.dimension) c.position.y
-    (λ unused. base_flat c.position.y c.position.y t.periods.y (tile.periods.y_unused (let low = ltb-false 1 t.dimension unused in omega (arith, low))) (ap (λ (p : Place). p.y) at.base)))
+    (λ unused. base_flat c.position.y t.periods.y (tile.periods.y_unused (let low = ltb-false 1 t.dimension unused in omega (arith, low))) (ap (λ (p : Place). p.y) at.base)))
     (axis_flat (nat_lt 2 t.dimension) c.position.z
-    (λ unused. base_flat c.position.z c.position.z t.periods.z (tile.periods.z_unused (let low = ltb-false 2 t.dimension unused in omega (arith, low))) (ap (λ (p : Place). p.z) at.base)))
+    (λ unused. base_flat c.position.z t.periods.z (tile.periods.z_unused (let low = ltb-false 2 t.dimension unused in omega (arith, low))) (ap (λ (p : Place). p.z) at.base)))
 
 -- a configuration does not live where the rule is false at a cell of its box
 pub not_both : (x : LocalRule) (t : Tile) → IsTile t → Fits x t → (c : Cell) → IsFirstFalse x t c → Lives x t → ⊥
