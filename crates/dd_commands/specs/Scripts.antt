@@ -1,5 +1,5 @@
 -- Scripts: commands in order, or the first that is not well formed.
-use Rattle.std.specs.Prelude.{◌≡◌, ℕ, zero, suc, ◌≤◌, List, [], ◌∷◌, Bool, true, false, Result, Ok, Err, All, Contains}
+use Rattle.std.specs.Prelude.{◌≡◌, ℕ, zero, suc, ◌≤◌, List, [], ◌∷◌, Bool, true, false, Result, Ok, Err}
 use Rattle.std.specs.List.{list_all}
 use Rattle.dd_written.specs.declared.lexeme.Mark.TheVariants as mark
 use Rattle.dd_written.specs.declared.lexeme.Lexeme.{Lexeme}
@@ -73,7 +73,6 @@ Tells bytes (Ok s) = IsScript bytes s
 Tells bytes (Err (fault.At n)) = IsSyntaxFault bytes n
 Tells bytes (Err fault.Memory) = Unit {0}
 
--- the command is written in a text: its tokens are among those of the text
+-- the command is what its tokens say in this text
 pub record IsWritten (bytes : List ℕ) (w : Written) : Type 0 where
   pub is : IsCommand bytes w.command w.tokens
-  pub among : All (λ t. Contains (lexemes_of bytes) t) w.tokens

@@ -11,7 +11,7 @@ use crate::command::Command;
 use crate::fault::SyntaxFault;
 use crate::head::Head;
 use dd_values::Items;
-use dd_written::{Lexeme, Mark, ReadFault, Text, ascii_bytes, formula_is_read, lexemes};
+use dd_written::{Lexeme, Mark, ReadFault, Text, formula_is_read, lexemes};
 use std::alloc::Global;
 
 /// A command and its tokens, behind its mark.
@@ -199,7 +199,6 @@ pub fn read(alloc: Global, bytes: &[u8]) -> Result<Syntax, SyntaxFault>
     ensures tells { Tells bytes.now result }
     ensures written { IfOk result (λ s. All (IsWritten s.text) s.commands) }
 {
-    ascii_bytes();
     let lexemes = lexemes(alloc, bytes)?;
     let commands = commands(alloc, bytes, lexemes.as_slice())?;
     let text = Text::new(alloc, bytes)?;

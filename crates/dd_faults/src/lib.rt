@@ -26,3 +26,4 @@ pub use context::{Context, Known, Setting};
 pub use fault::{Fault, Limit, Refusal, refuse_if};
 pub use formulas::within;
 pub use names::{number_in, place_among};
+pub use numbers::signed_value;

@@ -1,8 +1,8 @@
 //! The faults of tokens, and what vectors and numbers have.
-ghost use Rattle.std.specs.Prelude.{◌≡◌, min};
+ghost use Rattle.std.specs.Prelude.{◌≡◌, ◌≤◌, false, min, nat_lt, unsigned_abs};
 ghost use Rattle.std.specs.List.{list_any};
 ghost use Rattle.dd_faults.specs.Order.{noted};
-ghost use Rattle.dd_faults.specs.Commands.{unless, token_faults, entry_value, has_entries, is_far, is_no_strip, radius_faults, strip_faults, vector_faults, weight_faults};
+ghost use Rattle.dd_faults.specs.Commands.{unless, token_faults, entry_value, signed_value, has_entries, is_far, is_no_strip, radius_faults, strip_faults, vector_faults, weight_faults};
 
 use crate::context::Context;
 use crate::each::Notes;
@@ -44,6 +44,18 @@ pub(crate) fn entry_value(text: &Text, entry: Entry) -> u32
 {
     match entry {
         Entry::Number(number) | Entry::Negative(number) => number_value(text, number),
+    }
+}
+
+/// The number of an entry of at most 4 in absolute value.
+pub fn signed_value(text: &Text, entry: Entry) -> i32
+    requires { nat_lt 4 (entry_value text.now entry) ≡ false }
+    ensures value { result ≡ signed_value text.now entry }
+    ensures near { unsigned_abs result ≤ 4 }
+{
+    match entry {
+        Entry::Number(number) => number_value(text, number) as i32,
+        Entry::Negative(number) => -(number_value(text, number) as i32),
     }
 }
 

@@ -1,13 +1,16 @@
 //! What is given twice.
 ghost use Rattle.std.specs.Prelude.{◌≡◌, ◌++◌, [], ◌∷◌, ℕ, List, string_bytes, Contains, IfOk, OnOk};
-ghost use Rattle.dd_written.specs.Values.{name_text};
+ghost use Rattle.dd_written.specs.Values.{name_text, number_text};
 ghost use Rattle.dd_faults.specs.declared.fault.Fault.{Fault as AnyFault};
 ghost use Rattle.dd_faults.specs.declared.fault.Fault.TheVariants.{Twice};
+ghost use Rattle.dd_faults.specs.Numbers.{entry_number};
 ghost use Rattle.dd_faults.specs.Order.{noted};
-ghost use Rattle.dd_faults.specs.Repeats.{first_repeat, edge_key, twice_label, entry_text, vector_key, twice_vector};
+ghost use Rattle.dd_faults.specs.Repeats.{first_repeat, edge_key, twice_label, entry_key, vector_key, twice_vector};
 ghost use Rattle.dd_faults.specs.walk.Adding.{IsAdded};
 
 use crate::fault::{Fault, note_if};
+use crate::limits::FARTHEST;
+use crate::numbers::{entry_value, signed_value};
 use dd_commands::{Edge, Entry, Vector};
 use dd_topology::{NameFault, Names};
 use dd_written::{Name, Text, name_text};
@@ -101,11 +104,21 @@ impl Keyed for Edge {
 }
 
 fn entry_text(text: &Text, entry: Entry) -> &str
-    ensures { result.now ≡ entry_text text.now entry }
+    ensures { result.now ≡ number_text text.now (entry_number entry) }
 {
     match entry {
         Entry::Number(number) | Entry::Negative(number) => name_text(text, Name::Number(number)),
     }
+}
+
+/// The number of an entry of at most 4 in absolute value, and the text of any other, with a comma behind it.
+fn entry_key(alloc: Global, text: &Text, entry: Entry) -> Result<String, AllocError>
+    ensures { IfOk result (λ key. string_bytes key ≡ entry_key text.now entry) }
+{
+    if entry_value(text, entry) > FARTHEST {
+        return format!(in alloc; "{},", entry_text(text, entry));
+    }
+    format!(in alloc; "{},", signed_value(text, entry))
 }
 
 impl Keyed for Vector {
@@ -113,12 +126,10 @@ impl Keyed for Vector {
 
     ghost repeated = { twice_vector };
 
-    /// The entries, each with a comma behind it.
     fn key(&self, alloc: Global, text: &Text) -> Result<String, AllocError> {
         let mut key = String::new(alloc);
         for entry in self.entries.as_slice() {
-            key.push_str(entry_text(text, *entry))?;
-            key.push_str(",")?;
+            key.push_str(entry_key(alloc, text, *entry)?.as_str())?;
         }
         Ok(key)
     }

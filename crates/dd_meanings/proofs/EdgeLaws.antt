@@ -1,5 +1,5 @@
 -- Edges with numbers in place of names: they are edges of a topology, and no label has two of them from one node.
-use Rattle.std.proofs.Common.{◌≡◌, ℕ, ◌≤◌, ◌<◌, Bool, true, false, nat_lt, List, [], ◌∷◌, ◌++◌, length, map, take, slice_index_or, Some, Contains, refl, sym, ap, ◌∙◌, subst, inl, inr, true≢false}
+use Rattle.std.proofs.Common.{◌≡◌, ℕ, ◌≤◌, ◌<◌, Bool, true, false, nat_lt, List, [], ◌∷◌, ◌++◌, length, map, take, slice_index_or, Some, Contains, refl, sym, ap, ◌∙◌, subst, inl, inr}
 use Rattle.std.specs.Prelude.{if◌then◌else◌, bytes_eq, codes, ◌==◌}
 use Rattle.std.specs.List.{All, list_any, list_all, flat_map}
 use Rattle.std.specs.Option.{option_map}
@@ -9,7 +9,6 @@ use Rattle.std.proofs.lemmas.List.Folds.{list_all-map}
 use Rattle.std.proofs.lemmas.List.Sums.{list_all-from_AllPass}
 use Rattle.std.proofs.lemmas.List.Elements.{All-contains, All-contains_itself, All-take, All-get_or, Contains-append_left, Contains-push}
 use Rattle.std.proofs.lemmas.Option.{slice_get_within, slice_get-map, slice_get-get_or}
-use Rattle.std.proofs.lemmas.Slice.Eq.{bytes_eq-Decides}
 use Rattle.dd_written.specs.declared.tree.Name.TheVariants as name
 use Rattle.dd_written.specs.Values.{name_text}
 use Rattle.dd_commands.specs.declared.command.Edge.{Edge as Written}
@@ -18,7 +17,7 @@ use Rattle.dd_topology.specs.declared.edge.Edge.{Edge}
 use Rattle.dd_topology.specs.Topology.{starts_alike}
 use Rattle.dd_topology.specs.Grid.{is_edge, IsFirstTwice}
 use Rattle.dd_lattice.specs.lemmas.ListLaws.{Contains-nil, Contains-cons_cases, Contains-map, Contains-from_map, All-from_contains}
-use Rattle.dd_topology.specs.lemmas.ListLaws.{some_passes, passes_any}
+use Rattle.dd_topology.specs.lemmas.ListLaws.{some_passes}
 use Rattle.dd_faults.specs.declared.fault.Limit.TheVariants as limit
 use Rattle.dd_faults.specs.declared.context.Context.{Context}
 use Rattle.dd_faults.specs.Order.{over}
@@ -26,10 +25,10 @@ use Rattle.dd_faults.specs.Names.{missing, number_in}
 use Rattle.dd_faults.specs.Repeats.{first_repeat, edge_key, twice_label, twice_labelled}
 use Rattle.dd_faults.specs.Commands.{dimension_of, unless, has_entries, is_far, edge_faults, faults_of}
 use Rattle.dd_meanings.specs.Topologies.{first_seen_names, label_text, labels_of, edge_of}
-use Rattle.dd_faults.specs.lemmas.Nothing.{both_nil, fits, within}
+use Rattle.dd_faults.specs.lemmas.Nothing.{both_nil, fits, within, all_where}
+use Rattle.dd_faults.specs.lemmas.Repeats.{once}
 use Rattle.dd_query.specs.lemmas.Offsets.{offset_is}
-use Rattle.dd_meanings.proofs.Nothing.{all_where}
-use Rattle.dd_meanings.proofs.NameLaws.{contained, is_named, text_below, same_name, once}
+use Rattle.dd_meanings.proofs.NameLaws.{contained, is_named, text_below, same_name}
 
 -- the label of an edge is among the labels, its nodes are among the nodes, and it leads no further than 4 along an axis of Z^d
 pub record HasEnds (x : Context) (labels : List (List ℕ)) (e : Written) : Type 0 where
@@ -135,16 +134,14 @@ are_edges x es h =
 
 -- edges with one label and one first node have one key
 same_key : (x : Context) (labels : List (List ℕ)) (e f : Written) → HasEnds x labels e → HasEnds x labels f
-    → starts_alike (edge_of x.text labels x.known.setting.nodes e) (edge_of x.text labels x.known.setting.nodes f) ≡ true → bytes_eq (edge_key x.text e) (edge_key x.text f) ≡ true
+    → starts_alike (edge_of x.text labels x.known.setting.nodes e) (edge_of x.text labels x.known.setting.nodes f) ≡ true → edge_key x.text e ≡ edge_key x.text f
 same_key x labels e f h g alike =
     let bytes = x.text in
     let nodes = x.known.setting.nodes in
     let parts = and_parts (number_in bytes labels (name.Word e.label) == number_in bytes labels (name.Word f.label)) (number_in bytes nodes e.from == number_in bytes nodes f.from) alike in
     let label : label_text bytes e ≡ label_text bytes f = same_name labels (label_text bytes e) (label_text bytes f) h.label g.label (eqb-true _ _ parts.0) in
     let from : name_text bytes e.from ≡ name_text bytes f.from = same_name nodes (name_text bytes e.from) (name_text bytes f.from) h.from g.from (eqb-true _ _ parts.1) in
-    let key : edge_key bytes e ≡ edge_key bytes f =
-    ap (λ (t : List ℕ). t ++ codes "," ++ name_text bytes e.from) label ∙ ap (λ (t : List ℕ). label_text bytes f ++ codes "," ++ t) from in
-    (bytes_eq-Decides (edge_key bytes e) (edge_key bytes f)).1 key
+    ap (λ (t : List ℕ). t ++ codes "," ++ name_text bytes e.from) label ∙ ap (λ (t : List ℕ). label_text bytes f ++ codes "," ++ t) from
 
 never_twice : (x : Context) (labels : List (List ℕ)) (es : List Written) (label : ℕ) → All (HasEnds x labels) es → first_repeat (edge_key x.text) twice_label [] es ≡ []
     → IsFirstTwice (map (edge_of x.text labels x.known.setting.nodes) es) label → ⊥
@@ -162,8 +159,7 @@ never_twice x labels es label ends none twice =
     let alike : starts_alike (g e) (g f) ≡ true = ap (λ (y : Edge). starts_alike y (g f)) (sym here) ∙ (ap (λ (y : Edge). starts_alike twice.edge y) (sym other.2) ∙ found.2) in
     let there : Contains es f = All-contains (Contains es) (take i es) f (All-take (Contains es) i es (All-contains_itself es)) other.1 in
     let same = same_key x labels e f (All-get_or (HasEnds x labels) es i f lt ends) (All-contains (HasEnds x labels) es f ends there) alike in
-    let no_other = once (edge_key x.text) twice_label [] es none i f lt in
-    true≢false (sym (passes_any (λ y. bytes_eq (edge_key x.text e) (edge_key x.text y)) (take i es) f other.1 same) ∙ no_other)
+    once (edge_key x.text) twice_label es i f none lt (subst (Contains (map (edge_key x.text) (take i es))) (sym same) (Contains-map (edge_key x.text) (take i es) f other.1))
 
 pub not_twice : (x : Context) (es : List Written) (label : ℕ) → faults_of x (command.Edges es) ≡ [] → IsFirstTwice (map (edge_of x.text (labels_of x.text es) x.known.setting.nodes) es) label → ⊥
 not_twice x es label h twice = never_twice x (labels_of x.text es) es label (have_ends x es h) (none_twice x es h) twice

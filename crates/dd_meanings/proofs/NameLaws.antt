@@ -2,10 +2,9 @@
 use Rattle.std.proofs.Common.{◌≡◌, ℕ, ◌<◌, ◌+◌, zero, suc, Bool, true, false, cond, ◌||◌, List, [], ◌∷◌, ◌++◌, length, map, take, slice_index_or, Option, Some, None, Contains, refl, sym, ap, ◌∙◌, subst, arith, true≢false}
 use Rattle.std.specs.Prelude.{if◌then◌else◌, slice_get, bytes_eq, unwrap_or, is_some, option_map, codes, position, MatchOption, OnOk, Result, IfSome, nat_lt, not}
 use Rattle.std.specs.List.{list_any, position_or_len}
-use Rattle.std.specs.Cmp.Lexicographic.{nat_list_eq_equiv}
-use Rattle.std.proofs.lemmas.Bool.{or_parts, false_from_ne_true, cond_both, ltb-true, lt-ltb}
-use Rattle.std.proofs.lemmas.List.{append-nil, append_assoc, length-map, length-take-le}
-use Rattle.std.proofs.lemmas.Map.Views.{list_any-from_Contains, Contains-from_any}
+use Rattle.std.proofs.lemmas.Bool.{or_parts, cond_both, ltb-true, lt-ltb}
+use Rattle.std.proofs.lemmas.List.{length-map, length-take-le}
+use Rattle.std.proofs.lemmas.Map.Views.{Contains-from_any}
 use Rattle.std.proofs.lemmas.Option.{slice_get_within, get_or_from_slice_get}
 use Rattle.std.proofs.lemmas.Slice.Eq.{bytes_eq-Decides}
 use Rattle.dd_written.specs.declared.lexeme.Word.{Word}
@@ -13,7 +12,7 @@ use Rattle.dd_written.specs.declared.tree.Name.{Name}
 use Rattle.dd_written.specs.declared.tree.Name.TheVariants as name
 use Rattle.dd_written.specs.Values.{word_text, name_text}
 use Rattle.dd_topology.specs.Naming.{number_of}
-use Rattle.dd_topology.specs.lemmas.NamingLaws.{unknown, slice_get-number_of}
+use Rattle.dd_topology.specs.lemmas.NamingLaws.{slice_get-number_of}
 use Rattle.dd_faults.specs.declared.fault.Fault.{Fault}
 use Rattle.dd_faults.specs.declared.fault.Fault.TheVariants as fault
 use Rattle.dd_faults.specs.declared.context.Context.{Context}
@@ -21,6 +20,7 @@ use Rattle.dd_faults.specs.Order.{when}
 use Rattle.dd_faults.specs.Names.{place_of_name, missing, number_in, same_text, variable_of, is_variable, unknown_variable, named_again}
 use Rattle.dd_faults.specs.Repeats.{first_repeat}
 use Rattle.dd_faults.specs.lemmas.Nothing.{both_nil}
+use Rattle.dd_faults.specs.lemmas.Repeats.{among, not_among, once}
 use Rattle.dd_meanings.specs.Formulas.{variable_number}
 use Rattle.dd_meanings.specs.Sound.{IsNew}
 use Rattle.dd_meanings.proofs.Nothing.{present, not_when}
@@ -33,12 +33,6 @@ found_before {X} p (x ∷ xs) h = by (p x) refl h (found_before p xs)
     by : (b : Bool) → p x ≡ b → (b || list_any p xs) ≡ true → (list_any p xs ≡ true → position_or_len p xs < length xs) → position_or_len p (x ∷ xs) < length (x ∷ xs)
     by true e h rest = rw e (omega arith)
     by false e h rest = let more = rest h in rw e (omega (arith, more))
-
-pub among : (names : List (List ℕ)) (text : List ℕ) → Contains names text → list_any (bytes_eq text) names ≡ true
-among names text there = list_any-from_Contains nat_list_eq_equiv text names there
-
-pub not_among : (names : List (List ℕ)) (text : List ℕ) → ¬ Contains names text → list_any (bytes_eq text) names ≡ false
-not_among names text h = false_from_ne_true (list_any (bytes_eq text) names) (λ e. h (Contains-from_any (λ x y. (bytes_eq-Decides x y).0) text names e))
 
 pub contained : (names : List (List ℕ)) (text : List ℕ) → list_any (bytes_eq text) names ≡ true → Contains names text
 contained names text e = Contains-from_any (λ x y. (bytes_eq-Decides x y).0) text names e
@@ -121,29 +115,10 @@ new_name x w rest h = let both = both_nil (named_again x.text x.known w) rest h 
 
 -- ---- names that are given once
 
-abbrev same : {X : Type 0} → (X → List ℕ) → X → List X → Bool
-same key x before = list_any (λ y. bytes_eq (key x) (key y)) before
-
--- where nothing is given twice, nothing is the same as something before it
-once_step : (b : Bool) (f : Fault) (rest : List Fault) → (if b then f ∷ [] else rest) ≡ [] → (b ≡ false) × (rest ≡ [])
-once_step true f rest e = absurd cc
-once_step false f rest e = (refl, e)
-
-pub once : {X : Type 0} (key : X → List ℕ) (f : X → Fault) (before xs : List X) → first_repeat key f before xs ≡ [] → (i : ℕ) (d : X) → i < length xs → same key (slice_index_or xs i d) (before ++ take i xs) ≡ false
-once key f before [] h i d lt = absurd (omega (arith, lt))
-once {X} key f before (x ∷ xs) h zero d lt = rw (append-nil before) (once_step (same key x before) (f x) (first_repeat key f (before ++ x ∷ []) xs) h).0
-once {X} key f before (x ∷ xs) h (suc i) d lt =
-    let parts = once_step (same key x before) (f x) (first_repeat key f (before ++ x ∷ []) xs) h in
-    let rest = once key f (before ++ x ∷ []) xs parts.1 i d (omega (arith, lt)) in
-    rw (append_assoc before (x ∷ []) (take i xs)) at rest
-
 -- a name of which none is given twice is not among those before it
 pub fresh : {X : Type 0} (key : X → List ℕ) (f : X → Fault) (xs : List X) (i : ℕ) (d : X) (names : List (List ℕ)) (text : List ℕ) → first_repeat key f [] xs ≡ [] → i < length xs
     → names ≡ map key (take i xs) → text ≡ key (slice_index_or xs i d) → ¬ Contains names text
-fresh {X} key f xs i d names text none lt is at there =
-    let x : X = slice_index_or xs i d in
-    let moved : Contains (map key (take i xs)) (key x) = subst (λ t. Contains (map key (take i xs)) t) at (subst (λ (ns : List (List ℕ)). Contains ns text) is there) in
-    unknown key (key x) (take i xs) (once key f [] xs none i d lt) moved
+fresh key f xs i d names text none lt is at there = once key f xs i d none lt (subst (λ t. Contains (map key (take i xs)) t) at (subst (λ (ns : List (List ℕ)). Contains ns text) is there))
 
 pub few_taken : {X : Type 0} (key : X → List ℕ) (xs : List X) (i : ℕ) → i < length xs → length (map key (take i xs)) ≡ i
 few_taken key xs i lt = length-map (take i xs) key ∙ length-take-le i xs (omega (arith, lt))

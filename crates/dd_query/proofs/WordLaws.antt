@@ -1,5 +1,5 @@
 -- The words of a question by their places.
-use Rattle.std.proofs.Common.{◌≡◌, ◌<◌, ℕ, zero, suc, List, [], ◌∷◌, Option, Some, None, length, map, refl, ap, arith}
+use Rattle.std.proofs.Common.{◌≡◌, ◌<◌, ℕ, zero, suc, List, [], ◌∷◌, Option, Some, None, length, map, refl, subst, arith}
 use Rattle.std.specs.Prelude.{bytes_eq, is_some, not, unwrap_or, slice_index, slice_get}
 use Rattle.std.specs.List.{zip, flat_map}
 use Rattle.std.proofs.lemmas.List.Quantifiers.{position-Some}
@@ -36,9 +36,6 @@ word_there x (q ∷ rs) [] i r long none h = absurd (omega (arith, long))
 word_there x (q ∷ rs) (w ∷ ws) zero r long none h =
     let here = is_there x.text (named x.known q) (name.Word w) (both_nil (word_faults x (q, w)) (flat_map (word_faults x) (zip rs ws)) none).0 in
     let same : q ≡ r = cc in
-    here_at q r same here
-  where
-    here_at : (p s : Role) → p ≡ s → number_in x.text (named x.known p) (name.Word w) < length (named x.known p) → number_in x.text (named x.known p) (name.Word w) < length (named x.known s)
-    here_at p s is below = (let lengths : length (named x.known p) ≡ length (named x.known s) = ap (λ t. length (named x.known t)) is in omega (arith, lengths, below))
+    subst (λ (p : Role). number_in x.text (named x.known q) (name.Word w) < length (named x.known p)) same here
 word_there x (q ∷ rs) (w ∷ ws) (suc i) r long none h =
     word_there x rs ws i r (omega (arith, long)) (both_nil (word_faults x (q, w)) (flat_map (word_faults x) (zip rs ws)) none).1 h

@@ -2,11 +2,11 @@
 ghost use Rattle.std.specs.Prelude.{◌≡◌, [], false, map, min, IfOk, OnOk};
 ghost use Rattle.std.specs.List.{list_any};
 ghost use Rattle.dd_commands.specs.declared.table.Question.TheVariants as question;
+ghost use Rattle.dd_commands.specs.Commands.{IsRequest};
 ghost use Rattle.dd_faults.specs.Commands.{is_far, request_faults};
 ghost use Rattle.dd_faults.specs.Sound.{IsSound};
 ghost use Rattle.dd_query.specs.Vectors.{place_of};
 ghost use Rattle.dd_query.specs.Queries.{word_at, value_at, strip_periods, query_of};
-ghost use Rattle.dd_query.specs.Asked.{IsAsked};
 ghost use Rattle.dd_query.specs.Sound.{AreStripPeriods, IsQueryWithin};
 
 use crate::queries::Query;
@@ -111,7 +111,7 @@ fn asked(alloc: Global, context: &Context, request: &Request) -> Result<Query, A
 /// The query that a question without a fault asks.
 pub fn ask(alloc: Global, context: &Context, request: &Request) -> Result<Query, AllocError>
     requires sound { IsSound context.now.known }
-    requires written { IsAsked context.now.text request.now }
+    requires written { IsRequest request.now }
     requires faultless { request_faults context.now request.now ≡ [] }
     ensures exact { IfOk result (λ q. q ≡ query_of context.now request.now) }
     ensures within { OnOk result (IsQueryWithin context.now.known (query_of context.now request.now)) }

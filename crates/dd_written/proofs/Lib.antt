@@ -5,4 +5,3 @@ pub mod Layers
 pub mod Sound
 pub mod Complete
 pub mod Ascii
-pub mod AsciiBytes

@@ -1,5 +1,7 @@
 //! From the bytes of a script to its tokens as the grammar sees them.
 ghost use Rattle.std.specs.Prelude.{◌≡◌, ◌≤◌, ◌+◌, length, map, bytes_eq, IfOk};
+ghost use Rattle.std.specs.Char.{is_ascii};
+ghost use Rattle.std.specs.List.{list_all};
 ghost use Rattle.dd_values.specs.Bounds.{most_script};
 ghost use Rattle.dd_written.specs.Lexemes.{mark_text, mark_at, token_text, lexeme_of, lexemes_of};
 
@@ -104,7 +106,13 @@ fn lexemes_in(alloc: Global, bytes: &[u8], list: &[Token]) -> Result<Items<Lexem
     Ok(lexemes)
 }
 
-/// The tokens of at most 1,048,576 bytes, and a stray one where the bytes are not tokens and blanks whole.
+fn is_ascii(bytes: &[u8]) -> bool
+    ensures { result ≡ list_all is_ascii bytes.now }
+{
+    bytes.iter().all(|byte| byte.is_ascii())
+}
+
+/// The tokens of at most 1,048,576 bytes, and a stray one where the bytes are not tokens and blanks whole, all ASCII.
 pub fn lexemes(alloc: Global, bytes: &[u8]) -> Result<Items<Lexeme>, AllocError>
     requires { length bytes.now ≤ most_script }
     ensures value { IfOk result (λ lexemes. lexemes ≡ lexemes_of bytes.now) }
@@ -112,7 +120,7 @@ pub fn lexemes(alloc: Global, bytes: &[u8]) -> Result<Items<Lexeme>, AllocError>
 {
     let cut = tokens(alloc, bytes)?;
     let mut lexemes = lexemes_in(alloc, bytes, cut.list.as_slice())?;
-    if cut.stop as usize == bytes.len() {
+    if cut.stop as usize == bytes.len() && is_ascii(bytes) {
         return Ok(lexemes);
     }
     lexemes.push(Lexeme::Stray)?;

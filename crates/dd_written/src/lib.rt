@@ -13,7 +13,7 @@ mod words;
 
 pub use fault::ReadFault;
 pub use formulas::{read_formula, read_name};
-pub use laws::{ascii_bytes, formula_is_read};
+pub use laws::formula_is_read;
 pub use lexeme::{Lexeme, Mark, Number, Word};
 pub use lexing::lexemes;
 pub use text::{Text, name_text, number_value};

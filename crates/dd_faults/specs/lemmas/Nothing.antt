@@ -1,6 +1,8 @@
 -- Where there is no fault, there is none in a part.
 use Rattle.std.proofs.Common.{◌≡◌, Bool, true, false, List, [], ◌∷◌, ◌++◌, None, Some, refl}
 use Rattle.std.specs.Prelude.{nat_lt, if◌then◌else◌}
+use Rattle.std.specs.List.{All, flat_map}
+use Rattle.std.proofs.lemmas.List.Elements.{All-nil, All-cons}
 use Rattle.dd_faults.specs.declared.fault.Limit.{Limit}
 use Rattle.dd_faults.specs.declared.fault.Fault.{Fault}
 use Rattle.dd_faults.specs.Order.{fault_rank, noted, first_fault, over}
@@ -9,6 +11,11 @@ use Rattle.dd_faults.specs.Commands.{unless}
 pub both_nil : {X : Type 0} (xs ys : List X) → xs ++ ys ≡ [] → (xs ≡ []) × (ys ≡ [])
 both_nil [] ys e = (refl, e)
 both_nil (x ∷ xs) ys e = absurd cc
+
+-- what holds of the elements without faults holds of all, where there is no fault
+pub all_where : {X Y : Type 0} (P : X → Type 0) (f : X → List Y) → ((x : X) → f x ≡ [] → P x) → (xs : List X) → flat_map f xs ≡ [] → All P xs
+all_where P f each [] h = All-nil P
+all_where P f each (x ∷ xs) h = (let parts = both_nil (f x) (flat_map f xs) h in All-cons P x xs (each x parts.0) (all_where P f each xs parts.1))
 
 pub fits : (b : Bool) → unless b ≡ [] → b ≡ true
 fits true e = refl

@@ -11,7 +11,7 @@ commands-requires c = omega (arith, c.in_ok-lexemes.ensures.few, ap length c.as_
 pub new-requires : goal.new-requires
 new-requires c =
     let e = c.as_slice.ensures ∙ c.in_ok-lexemes.ensures.value in
-    ascii_text c.ascii_bytes.ensures c.args.bytes.now c.in_ok-commands.commands
+    ascii_text c.args.bytes.now c.in_ok-commands.commands
     (subst (λ (ts : List Lexeme). AreWritten c.args.bytes.now ts c.in_ok-commands.commands) e c.in_ok-commands.ensures)
 
 pub returns-clause-tells : goal.returns-clause-tells
@@ -21,7 +21,5 @@ returns-clause-tells c =
 
 pub returns-clause-written : goal.returns-clause-written
 returns-clause-written c =
-    let e = c.as_slice.ensures ∙ c.in_ok-lexemes.ensures.value in
     subst (λ (text : List ℕ). All (IsWritten text) c.in_ok-commands.commands) (sym c.in_ok-text.ensures)
-    (all_written c.args.bytes.now c.in_ok-commands.commands
-    (subst (λ (ts : List Lexeme). AreWritten c.args.bytes.now ts c.in_ok-commands.commands) e c.in_ok-commands.ensures))
+    (all_written c.args.bytes.now 0 _ c.in_ok-commands.commands c.in_ok-commands.ensures.1).0

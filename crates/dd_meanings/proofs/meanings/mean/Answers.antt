@@ -112,7 +112,7 @@ returns-in-Configuration c = rw (c.in-Configuration.is, ← c.as_slice-in-Config
 pub query-requires : goal.query-requires
 query-requires c = record {
   sound = c.requires.sound;
-  written = record { written = c.args.written.now; stands = c.requires.written; asks = c.in-Query.is };
+  written = (body c.args.context.now c.args.written.now _ c.in-Query.is c.requires.written).1.0;
   faultless = no_fault c.args.context.now c.args.written.now _ c.in-Query.is c.requires.faultless;
 }
 
