@@ -1,7 +1,6 @@
 //! Commands, read from their first word to the end.
 ghost use Rattle.std.specs.Prelude.{◌≡◌, codes};
 ghost use Rattle.dd_written.specs.reading.Readers.{Gives};
-ghost use Rattle.dd_written.specs.reading.Formulas.{formula_at};
 ghost use Rattle.dd_commands.specs.reading.Commands.{name_behind, case_at, cases_at, otherwise_of, dimension_of, edges_of, topology_of, only_of, weights_of, limits_of, rule_of, automaton_of, composition_of, configuration_of, body_of, command_of};
 
 use crate::command::{Case, Command};
@@ -11,9 +10,7 @@ use crate::listed::{all, alone};
 use crate::requests::request;
 use crate::vectors::{plain, shear};
 use dd_values::{Boxed, Items};
-use dd_written::{
-    Formula, Lexeme, Name, ReadFault, behind_word, read_formula, read_name, starts_word,
-};
+use dd_written::{Lexeme, Name, ReadFault, behind_word, read_formula, read_name, starts_word};
 use std::alloc::Global;
 
 /// The name behind a word that is wanted.
@@ -38,7 +35,6 @@ fn case<'a>(
     let rest = behind_word(bytes, b"when", tokens)?;
     let (condition, rest) = read_formula(alloc, rest)?;
     let (symbol, rest) = name_behind(bytes, b"give", rest)?;
-    let condition = condition.into_inner();
     Ok((Case { condition, symbol }, rest))
 }
 
@@ -129,19 +125,12 @@ fn limits(tokens: &[Lexeme]) -> Result<Command, ReadFault>
     }
 }
 
-fn formula(alloc: Global, tokens: &[Lexeme]) -> Result<(Formula, &[Lexeme]), ReadFault>
-    ensures { Gives (λ x. (x.0, x.1.now)) result (formula_at tokens.now) }
-{
-    let (formula, rest) = read_formula(alloc, tokens)?;
-    Ok((formula.into_inner(), rest))
-}
-
 fn rule(alloc: Global, tokens: &[Lexeme]) -> Result<Command, ReadFault>
     ensures { Gives (λ x. x) result (rule_of tokens.now) }
 {
     match tokens {
         [Lexeme::Word(name), rest @ ..] => {
-            let (formula, rest) = formula(alloc, rest)?;
+            let (formula, rest) = read_formula(alloc, rest)?;
             let name = *name;
             alone(Command::Rule { name, formula }, rest)
         }

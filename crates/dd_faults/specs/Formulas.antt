@@ -54,9 +54,7 @@ faults_step x (Formula-F.Atom a) scope = atom_faults x scope a
 faults_step x (Formula-F.Not f) scope = f scope
 faults_step x (Formula-F.Quantified q w balls f) scope = quantifier_faults x scope w balls ++ f (scope ++ w ∷ [])
 faults_step x (Formula-F.Group f) scope = f scope
-faults_step x (Formula-F.List j fs) scope = flat_map (λ f. f scope) fs
-faults_step x (Formula-F.Implies f g) scope = f scope ++ g scope
-faults_step x (Formula-F.Iff f g) scope = f scope ++ g scope
+faults_step x (Formula-F.Chain j fs) scope = flat_map (λ f. f scope) fs
 
 abbrev pub formula_faults : Context → Formula → List Word → List Fault
 formula_faults x = fold-Formula (List Word → List Fault) (faults_step x)

@@ -49,36 +49,23 @@ fn formula_in(
             formula_in(alloc, context, inner.as_slice(), body.get(), found)
         }
         Formula::Group(inner) => formula_in(alloc, context, scope, inner.get(), found),
-        Formula::List { members, .. } => {
-            members_in(alloc, context, scope, members.as_slice(), found)
-        }
-        Formula::Implies {
-            premise,
-            conclusion,
-        } => {
-            formula_in(alloc, context, scope, premise.get(), found)?;
-            formula_in(alloc, context, scope, conclusion.get(), found)
-        }
-        Formula::Iff { left, right } => {
-            formula_in(alloc, context, scope, left.get(), found)?;
-            formula_in(alloc, context, scope, right.get(), found)
-        }
+        Formula::Chain { parts, .. } => parts_in(alloc, context, scope, parts.as_slice(), found),
     }
 }
 
 #[cycle(faults)]
 #[tactic(auto, using(crate::proofs::Layers::layers))]
-fn members_in(
+fn parts_in(
     alloc: Global,
     context: &Context,
     scope: &[Word],
-    members: &[Formula],
+    parts: &[Formula],
     found: &mut Option<Fault>,
 ) -> Result<(), AllocError>
-    ensures { OnOk result (found.new ≡ noted found.old (flat_map (λ f. formula_faults context.now f scope.now) members.now)) }
+    ensures { OnOk result (found.new ≡ noted found.old (flat_map (λ f. formula_faults context.now f scope.now) parts.now)) }
 {
-    for member in members {
-        formula_in(alloc, context, scope, member, found)?;
+    for part in parts {
+        formula_in(alloc, context, scope, part, found)?;
     }
     Ok(())
 }

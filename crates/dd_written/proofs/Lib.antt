@@ -1,4 +1,3 @@
-pub mod Rounds
 pub mod Digits
 pub mod Depths
 pub mod Layers

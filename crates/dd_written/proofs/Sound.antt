@@ -1,5 +1,5 @@
 -- What is read of formulas is written so.
-use Rattle.std.proofs.Common.{◌≡◌, ℕ, zero, suc, ◌-◌, Bool, true, List, [], ◌∷◌, ◌++◌, map, length, drop, Option, Some, None, refl, sym, ap, subst, ◌∙◌, append_assoc, arith, le-leb, leb-true, inl, inr}
+use Rattle.std.proofs.Common.{◌≡◌, ℕ, zero, suc, ◌-◌, ◌≤◌, ◌<◌, Bool, true, List, [], ◌∷◌, ◌++◌, map, length, drop, Option, Some, None, refl, sym, ap, subst, ◌∙◌, append_assoc, arith, le-leb, leb-true, inl, inr}
 use Rattle.std.specs.Prelude.{nat_le, cond, ◌&&◌}
 use Rattle.std.specs.List.{flat_map, list_all}
 use Rattle.std.proofs.lemmas.Bool.{and_parts}
@@ -22,9 +22,9 @@ use Rattle.dd_written.specs.declared.tree.Formula.{Formula, roll-Formula}
 use Rattle.dd_written.specs.declared.tree.Formula.TheFolds.{map-Formula, ind-Formula}
 use Rattle.dd_written.specs.declared.tree.Formula.TheOpen.{Formula-F}
 use Rattle.dd_written.specs.Formulas.{text, stands, stands_step, name_lexeme, move_text, term_text, atom_side_text, atom_text, ball_text, capital, sign, join_rank, tree_depth, IsWrittenFormula}
-use Rattle.dd_written.specs.reading.Readers.{Reader, ◌>>=◌, ReadsAll}
+use Rattle.dd_written.specs.reading.Readers.{Reader, ◌>>=◌, ReadsAll, with_front}
 use Rattle.dd_written.specs.reading.Atoms.{name_at, moves_at, term_at, side_at, after_term, atom_at, leaf_at, balls_at, quantifier_end, quantifier_at}
-use Rattle.dd_written.specs.reading.Formulas.{begins, more_at, close, list_at, or_at, implies_end, implies_at, iff_more, whole_at, not_at, quantified_at, group_end, nested_at, unary_at, formula_at}
+use Rattle.dd_written.specs.reading.Formulas.{begins, more_at, chain_end, chain_at, join_at, level_at, not_at, quantified_at, group_end, nested_at, unary_at, formula_at}
 use Rattle.dd_written.proofs.Layers.{text_of, stands_of}
 use Rattle.dd_written.specs.lemmas.Options.{bind_some, some_is, nothing_some, chosen}
 use Rattle.dd_written.specs.lemmas.Many.{many_sound}
@@ -109,18 +109,6 @@ group_takes : (place : ℕ) (f : Formula) (tokens rest : List Lexeme) → Takes 
 group_takes place f tokens rest inner =
     (rw (text_of (Formula-F.Group f), inner.0) (ap (λ (ts : List Lexeme). lexeme.Mark mark.Open ∷ ts) (sym (append_assoc (text f) (lexeme.Mark mark.Close ∷ []) rest))), rw (stands_of (Formula-F.Group f)) inner.1)
 
-implies_takes : (f g : Formula) (before tokens rest : List Lexeme) → Takes before 2 (f, lexeme.Mark mark.Arrow ∷ tokens) → Takes tokens 3 (g, rest) → Takes before 3 (roll-Formula (Formula-F.Implies f g), rest)
-implies_takes f g before tokens rest first second = (
-  first.0 ∙ ap (λ (ts : List Lexeme). text f ++ lexeme.Mark mark.Arrow ∷ ts) second.0 ∙ sym (append_assoc (text f) (lexeme.Mark mark.Arrow ∷ text g) rest) ∙ ap (λ (ts : List Lexeme). ts ++ rest) (sym (text_of (Formula-F.Implies f g))),
-  rw (stands_of (Formula-F.Implies f g), first.1, second.1) refl,
-)
-
-iff_takes : (f g : Formula) (before tokens rest : List Lexeme) → Takes before 4 (f, lexeme.Mark mark.BothWays ∷ tokens) → Takes tokens 3 (g, rest) → Takes before 4 (roll-Formula (Formula-F.Iff f g), rest)
-iff_takes f g before tokens rest first second = (
-  first.0 ∙ ap (λ (ts : List Lexeme). text f ++ lexeme.Mark mark.BothWays ∷ ts) second.0 ∙ sym (append_assoc (text f) (lexeme.Mark mark.BothWays ∷ text g) rest) ∙ ap (λ (ts : List Lexeme). ts ++ rest) (sym (text_of (Formula-F.Iff f g))),
-  rw (stands_of (Formula-F.Iff f g), first.1, second.1) refl,
-)
-
 end_sound : (variable : Word) (balls : List Ball) (tokens : List Lexeme) (x : (Word × List Ball) × List Lexeme) → quantifier_end variable balls tokens ≡ Some x
     → Quantifies (lexeme.Word variable ∷ lexeme.Mark mark.OpenList ∷ (flat_map ball_text balls ++ tokens)) x
 end_sound variable (b ∷ bs) (lexeme.Mark mark.CloseList ∷ tokens) x e =
@@ -148,132 +136,130 @@ module _ (unary : Reader Formula) (sound : IsSound unary 0) where
 abbrev AlsoNext : Formula → Type 0
 AlsoNext f = (place : ℕ) → stands f place ≡ true → stands f (suc place) ≡ true
 
-le_next : (n place : ℕ) → nat_le n place ≡ true → nat_le n (suc place) ≡ true
-le_next n place e = le-leb n (suc place) (omega (arith, leb-true n place e))
-
 next_step : (x : Formula-F Formula) (place : ℕ) → stands_step (map-Formula Formula (ℕ → Bool) stands x) place ≡ true → stands_step (map-Formula Formula (ℕ → Bool) stands x) (suc place) ≡ true
 next_step (Formula-F.Atom a) place e = e
 next_step (Formula-F.Not f) place e = e
 next_step (Formula-F.Quantified q variable balls f) place e = e
 next_step (Formula-F.Group f) place e = e
-next_step (Formula-F.List j fs) place e =
+next_step (Formula-F.Chain j fs) place e =
     let a = and_parts (nat_le (join_rank j) place && nat_le 2 (length (map stands fs))) (list_all (λ f. f (join_rank j - 1)) (map stands fs)) e in
     let b = and_parts (nat_le (join_rank j) place) (nat_le 2 (length (map stands fs))) a.0 in
-    rw (le_next (join_rank j) place b.0, b.1, a.1) refl
-next_step (Formula-F.Implies f g) place e =
-    let a = and_parts (nat_le 3 place && stands f 2) (stands g 3) e in
-    let b = and_parts (nat_le 3 place) (stands f 2) a.0 in
-    rw (le_next 3 place b.0, b.1, a.1) refl
-next_step (Formula-F.Iff f g) place e =
-    let a = and_parts (nat_le 4 place && stands f 4) (stands g 3) e in
-    let b = and_parts (nat_le 4 place) (stands f 4) a.0 in
-    rw (le_next 4 place b.0, b.1, a.1) refl
+    rw (le-leb (join_rank j) (suc place) (omega (arith, leb-true (join_rank j) place b.0)), b.1, a.1) refl
 
 stands_more : (f : Formula) → AlsoNext f
 stands_more = ind-Formula AlsoNext (λ x y is place e. rw (stands_of x) (next_step x place (sym (ap (λ (h : ℕ → Bool). h place) (stands_of x)) ∙ e)))
 
-takes_more : (tokens : List Lexeme) (place : ℕ) (x : Formula × List Lexeme) → Takes tokens place x → Takes tokens (suc place) x
-takes_more tokens place x takes = (takes.0, stands_more x.0 place takes.1)
+-- ---- chains
 
--- ---- lists
-
--- the members behind the first, each behind its sign
+-- the parts behind the first, each behind its sign
 abbrev pub more_text : Join → List Formula → List Lexeme
 more_text j fs = flat_map (λ u. lexeme.Mark (sign j) ∷ u) (map text fs)
 
 begins_sound : (j : Join) (tokens : List Lexeme) → begins j tokens ≡ true → tokens ≡ lexeme.Mark (sign j) ∷ drop 1 tokens
 begins_sound join.And (lexeme.Mark mark.And ∷ tokens) e = refl
 begins_sound join.Or (lexeme.Mark mark.Or ∷ tokens) e = refl
+begins_sound join.Implies (lexeme.Mark mark.Arrow ∷ tokens) e = refl
+begins_sound join.Iff (lexeme.Mark mark.BothWays ∷ tokens) e = refl
 begins_sound j tokens e = absurd cc
 
--- a member behind its sign, which may stand at a place
-abbrev IsMember : Join → ℕ → Formula → List Lexeme → List Lexeme → Type 0
-IsMember j place f tokens rest = (tokens ≡ lexeme.Mark (sign j) ∷ (text f ++ rest)) × (stands f place ≡ true)
+-- a part behind its sign, which may stand at a place
+abbrev IsPart : Join → ℕ → Formula → List Lexeme → List Lexeme → Type 0
+IsPart j place f tokens rest = (tokens ≡ lexeme.Mark (sign j) ∷ (text f ++ rest)) × (stands f place ≡ true)
 
 abbrev TakesMore : Join → List Lexeme → ℕ → List Formula × List Lexeme → Type 0
 TakesMore j tokens place x = (tokens ≡ more_text j x.0 ++ x.1) × (list_all (λ (h : ℕ → Bool). h place) (map stands x.0) ≡ true)
 
-members_take : (j : Join) (place : ℕ) (fs : List Formula) (tokens rest : List Lexeme) → ReadsAll (IsMember j place) fs tokens rest → TakesMore j tokens place (fs, rest)
-members_take j place [] tokens rest all = (all, refl)
-members_take j place (f ∷ fs) tokens rest all =
-    let others = members_take j place fs all.0 rest all.2 in
+parts_take : (j : Join) (place : ℕ) (fs : List Formula) (tokens rest : List Lexeme) → ReadsAll (IsPart j place) fs tokens rest → TakesMore j tokens place (fs, rest)
+parts_take j place [] tokens rest all = (all, refl)
+parts_take j place (f ∷ fs) tokens rest all =
+    let others = parts_take j place fs all.0 rest all.2 in
     (all.1.0 ∙ ap (λ (ts : List Lexeme). lexeme.Mark (sign j) ∷ (text f ++ ts)) others.0 ∙ ap (λ (ts : List Lexeme). lexeme.Mark (sign j) ∷ ts) (sym (append_assoc (text f) (more_text j fs) rest)), rw (all.1.1, others.1) refl)
 
-member_sound : (j : Join) (member : Reader Formula) (place : ℕ) → IsSound member place → (tokens : List Lexeme) (f : Formula) (rest : List Lexeme) → begins j tokens ≡ true → member (drop 1 tokens) ≡ Some (f, rest) → IsMember j place f tokens rest
-member_sound j member place sound tokens f rest e is =
+part_sound : (j : Join) (part : Reader Formula) (place : ℕ) → IsSound part place → (tokens : List Lexeme) (f : Formula) (rest : List Lexeme) → begins j tokens ≡ true → part (drop 1 tokens) ≡ Some (f, rest) → IsPart j place f tokens rest
+part_sound j part place sound tokens f rest e is =
     let takes = sound (drop 1 tokens) (f, rest) is in
     (begins_sound j tokens e ∙ ap (λ (ts : List Lexeme). lexeme.Mark (sign j) ∷ ts) takes.0, takes.1)
 
-more_sound : (j : Join) (member : Reader Formula) (place : ℕ) → IsSound member place → (n : ℕ) (tokens : List Lexeme) (x : List Formula × List Lexeme) → more_at j member n tokens ≡ Some x → TakesMore j tokens place x
-more_sound j member place sound n tokens x e =
-    members_take j place x.0 tokens x.1 (many_sound (IsMember j place) (begins j) (λ ts. member (drop 1 ts)) (member_sound j member place sound) n tokens x.0 x.1 e)
+more_sound : (j : Join) (part : Reader Formula) (place : ℕ) → IsSound part place → (n : ℕ) (tokens : List Lexeme) (x : List Formula × List Lexeme) → more_at j part n tokens ≡ Some x → TakesMore j tokens place x
+more_sound j part place sound n tokens x e =
+    parts_take j place x.0 tokens x.1 (many_sound (IsPart j place) (begins j) (λ ts. part (drop 1 ts)) (part_sound j part place sound) n tokens x.0 x.1 e)
 
-close_takes : (j : Join) (place : ℕ) (f : Formula) (fs : List Formula) (tokens rest after : List Lexeme) → join_rank j ≡ suc place → Takes tokens place (f, rest) → TakesMore j rest place (fs, after)
-    → Takes tokens (suc place) (close j f fs, after)
-close_takes j place f [] tokens rest after ranked first others = (first.0 ∙ ap (λ (ts : List Lexeme). text f ++ ts) others.0, stands_more f place first.1)
-close_takes j place f (g ∷ gs) tokens rest after ranked first others =
+chain_takes : (j : Join) (place : ℕ) (f g : Formula) (gs : List Formula) (tokens rest after : List Lexeme) → join_rank j ≡ suc place → Takes tokens place (f, rest) → TakesMore j rest place (g ∷ gs, after)
+    → Takes tokens (suc place) (roll-Formula (Formula-F.Chain j (f ∷ g ∷ gs)), after)
+chain_takes j place f g gs tokens rest after ranked first others =
     let before : join_rank j - 1 ≡ place = omega (arith, ranked) in
     let two : nat_le 2 (length (map stands (f ∷ g ∷ gs))) ≡ true = le-leb 2 (length (map stands (f ∷ g ∷ gs))) (omega arith) in
     let fits : nat_le (join_rank j) (suc place) ≡ true = le-leb (join_rank j) (suc place) (omega (arith, ranked)) in
     let all : list_all (λ (h : ℕ → Bool). h (join_rank j - 1)) (map stands (f ∷ g ∷ gs)) ≡ true = subst (λ (p : ℕ). list_all (λ (h : ℕ → Bool). h p) (map stands (f ∷ g ∷ gs)) ≡ true) (sym before) (rw first.1 others.1) in (
-      first.0 ∙ ap (λ (ts : List Lexeme). text f ++ ts) others.0 ∙ sym (append_assoc (text f) (more_text j (g ∷ gs)) after) ∙ ap (λ (ts : List Lexeme). ts ++ after) (sym (text_of (Formula-F.List j (f ∷ g ∷ gs)))),
-      ap (λ (h : ℕ → Bool). h (suc place)) (stands_of (Formula-F.List j (f ∷ g ∷ gs))) ∙ rw (fits, two) all,
+      first.0 ∙ ap (λ (ts : List Lexeme). text f ++ ts) others.0 ∙ sym (append_assoc (text f) (more_text j (g ∷ gs)) after) ∙ ap (λ (ts : List Lexeme). ts ++ after) (sym (text_of (Formula-F.Chain j (f ∷ g ∷ gs)))),
+      ap (λ (h : ℕ → Bool). h (suc place)) (stands_of (Formula-F.Chain j (f ∷ g ∷ gs))) ∙ rw (fits, two) all,
     )
 
-list_sound : (j : Join) (member : Reader Formula) (place : ℕ) → join_rank j ≡ suc place → IsSound member place → IsSound (list_at j member) (suc place)
-list_sound j member place ranked sound tokens x e =
-    let b = bind_some (member tokens) (λ f. more_at j member (length f.1) f.1 >>= λ m. Some (close j f.0 m.0, m.1)) x e in
-    let d = bind_some (more_at j member (length b.0.1) b.0.1) (λ m. Some (close j b.0.0 m.0, m.1)) x b.2 in
-    subst (Takes tokens (suc place)) (some_is _ _ d.2) (close_takes j place b.0.0 d.0.0 tokens b.0.1 d.0.1 ranked (sound tokens b.0 b.1) (more_sound j member place sound (length b.0.1) b.0.1 d.0 d.1))
+-- where the sign stands, a part is read behind it
+more_some : (j : Join) (part : Reader Formula) (n : ℕ) (tokens : List Lexeme) (rest : List Lexeme) → 0 < n → begins j tokens ≡ true → more_at j part n tokens ≡ Some ([], rest) → ⊥
+more_some j part zero tokens rest some sign e = absurd (omega (arith, some))
+more_some j part (suc n) tokens rest some sign e =
+    let read : (part (drop 1 tokens) >>= λ f. more_at j part n f.1 >>= λ m. Some (f.0 ∷ m.0, m.1)) ≡ Some ([], rest) = rw sign at e in
+    let b = bind_some (part (drop 1 tokens)) (λ f. more_at j part n f.1 >>= λ m. Some (f.0 ∷ m.0, m.1)) ([], rest) read in
+    let d = bind_some (more_at j part n b.0.1) (λ m. Some (b.0.0 ∷ m.0, m.1)) ([], rest) b.2 in
+    absurd (omega (arith, ap (λ (x : List Formula × List Lexeme). length x.0) (some_is _ _ d.2)))
 
--- ---- arrows
+chained_takes : (j : Join) (part : Reader Formula) (place : ℕ) (f : Formula) (fs : List Formula) (tokens rest after : List Lexeme) → join_rank j ≡ suc place → begins j rest ≡ true → Takes tokens place (f, rest)
+    → more_at j part (length rest) rest ≡ Some (fs, after) → TakesMore j rest place (fs, after) → Takes tokens (suc place) (roll-Formula (Formula-F.Chain j (f ∷ fs)), after)
+chained_takes j part place f [] tokens rest after ranked sign first read others = absurd (more_some j part (length rest) rest after (omega (arith, ap length (begins_sound j rest sign))) sign read)
+chained_takes j part place f (g ∷ gs) tokens rest after ranked sign first read others = chain_takes j place f g gs tokens rest after ranked first others
 
-implies_end_sound : (next : Reader Formula) → IsSound next 3 → (f : Formula) (before tokens : List Lexeme) (x : Formula × List Lexeme) → Takes before 2 (f, tokens) → implies_end f next tokens ≡ Some x → Takes before 3 x
-implies_end_sound next sound f before (lexeme.Mark mark.Arrow ∷ tokens) x first e =
-    let b = bind_some (next tokens) (λ g. Some (roll-Formula (Formula-F.Implies f g.0), g.1)) x e in
-    subst (Takes before 3) (some_is _ _ b.2) (implies_takes f b.0.0 before tokens b.0.1 first (sound tokens b.0 b.1))
-implies_end_sound next sound f before tokens x first e = subst (Takes before 3) (some_is _ _ e) (takes_more before 2 (f, tokens) first)
+module _ (j : Join) (part : Reader Formula) (place : ℕ) (ranked : join_rank j ≡ suc place) (sound : IsSound part place) where
+  chain_end_sound : (f : Formula) (before tokens : List Lexeme) (x : Formula × List Lexeme) → Takes before place (f, tokens) → chain_end j part f tokens ≡ Some x → Takes before (suc place) x
+  chain_end_sound f before tokens x first e =
+      let more = more_at j part (length tokens) tokens in
+      elim (chosen (begins j tokens) (with_front (f ∷ []) more >>= λ m. Some (roll-Formula (Formula-F.Chain j m.0), m.1)) (Some (f, tokens)) (Some x) e) [
+        | inl there ↦
+            let b = bind_some (with_front (f ∷ []) more) (λ m. Some (roll-Formula (Formula-F.Chain j m.0), m.1)) x there.1 in
+            let d = bind_some more (λ m. Some (f ∷ m.0, m.1)) b.0 b.1 in
+            let takes = chained_takes j part place f d.0.0 before tokens d.0.1 ranked there.0 first d.1 (more_sound j part place sound (length tokens) tokens d.0 d.1) in
+            subst (Takes before (suc place)) (some_is _ _ b.2) (subst (λ (m : List Formula × List Lexeme). Takes before (suc place) (roll-Formula (Formula-F.Chain j m.0), m.1)) (some_is _ _ d.2) takes)
+        | inr ended ↦ subst (Takes before (suc place)) (some_is _ _ ended.1) (first.0, stands_more f place first.1)
+      ]
 
-implies_sound : (part : Reader Formula) → IsSound part 2 → (n : ℕ) → IsSound (implies_at part n) 3
-implies_sound part sound zero tokens x e = takes_more tokens 2 x (sound tokens x e)
-implies_sound part sound (suc n) tokens x e =
-    let b = bind_some (part tokens) (λ f. implies_end f.0 (implies_at part n) f.1) x e in
-    implies_end_sound (implies_at part n) (implies_sound part sound n) b.0.0 tokens b.0.1 x (sound tokens b.0 b.1) b.2
+  chain_sound : IsSound (chain_at j part) (suc place)
+  chain_sound tokens x e =
+      let b = bind_some (part tokens) (λ f. chain_end j part f.0 f.1) x e in
+      chain_end_sound b.0.0 tokens b.0.1 x (sound tokens b.0 b.1) b.2
 
-iff_more_sound : (part : Reader Formula) → IsSound part 3 → (n : ℕ) (f : Formula) (before tokens : List Lexeme) (x : Formula × List Lexeme) → Takes before 4 (f, tokens) → iff_more part n f tokens ≡ Some x → Takes before 4 x
-iff_more_sound part sound zero f before tokens x first e = subst (Takes before 4) (some_is _ _ e) first
-iff_more_sound part sound (suc n) f before (lexeme.Mark mark.BothWays ∷ tokens) x first e =
-    let b = bind_some (part tokens) (λ g. iff_more part n (roll-Formula (Formula-F.Iff f g.0)) g.1) x e in
-    iff_more_sound part sound n (roll-Formula (Formula-F.Iff f b.0.0)) before b.0.1 x (iff_takes f b.0.0 before tokens b.0.1 first (sound tokens b.0 b.1)) b.2
-iff_more_sound part sound (suc n) f before tokens x first e = subst (Takes before 4) (some_is _ _ e) first
+-- the places of the four signs
+pub rank_join : (place : ℕ) → place < 4 → join_rank (join_at (suc place)) ≡ suc place
+rank_join zero lt = refl
+rank_join (suc zero) lt = refl
+rank_join (suc (suc zero)) lt = refl
+rank_join (suc (suc (suc zero))) lt = refl
+rank_join (suc (suc (suc (suc n)))) lt = absurd (omega (arith, lt))
 
-whole_sound : (unary : Reader Formula) (n : ℕ) → IsSound unary 0 → IsSound (whole_at unary n) 4
-whole_sound unary n sound tokens x e =
-    let part = implies_sound (or_at unary) (list_sound join.Or (list_at join.And unary) 1 refl (list_sound join.And unary 0 refl sound)) n in
-    let b = bind_some (implies_at (or_at unary) n tokens) (λ f. iff_more (implies_at (or_at unary) n) n f.0 f.1) x e in
-    iff_more_sound (implies_at (or_at unary) n) part n b.0.0 tokens b.0.1 x (takes_more tokens 3 b.0 (part tokens b.0 b.1)) b.2
+level_sound : (unary : Reader Formula) (place : ℕ) → place ≤ 4 → IsSound unary 0 → IsSound (level_at unary place) place
+level_sound unary zero le sound = sound
+level_sound unary (suc place) le sound = chain_sound (join_at (suc place)) (level_at unary place) place (rank_join place (omega (arith, le))) (level_sound unary place (omega (arith, le)) sound)
 
 group_end_sound : (place : ℕ) (f : Formula) (before tokens : List Lexeme) (x : Formula × List Lexeme) → Takes before 4 (f, tokens) → group_end f tokens ≡ Some x → Takes (lexeme.Mark mark.Open ∷ before) place x
 group_end_sound place f before (lexeme.Mark mark.Close ∷ tokens) x inner e = subst (Takes (lexeme.Mark mark.Open ∷ before) place) (some_is _ _ e) (group_takes place f before tokens inner)
 group_end_sound place f before tokens x inner e = absurd cc
 
-nested_sound : (unary : Reader Formula) (n place : ℕ) → IsSound unary 0 → IsSound (nested_at unary n) place
-nested_sound unary n place sound (lexeme.Mark mark.Not ∷ tokens) x e = not_sound unary sound place tokens x e
-nested_sound unary n place sound (lexeme.Mark mark.All ∷ tokens) x e = quantified_sound unary sound quantifier.All place tokens x e
-nested_sound unary n place sound (lexeme.Mark mark.Exists ∷ tokens) x e = quantified_sound unary sound quantifier.Exists place tokens x e
-nested_sound unary n place sound (lexeme.Mark mark.Open ∷ tokens) x e =
-    let b = bind_some (whole_at unary n tokens) (λ f. group_end f.0 f.1) x e in
-    group_end_sound place b.0.0 tokens b.0.1 x (whole_sound unary n sound tokens b.0 b.1) b.2
-nested_sound unary n place sound tokens x e = leaf_sound place tokens x e
+nested_sound : (unary : Reader Formula) (place : ℕ) → IsSound unary 0 → IsSound (nested_at unary) place
+nested_sound unary place sound (lexeme.Mark mark.Not ∷ tokens) x e = not_sound unary sound place tokens x e
+nested_sound unary place sound (lexeme.Mark mark.All ∷ tokens) x e = quantified_sound unary sound quantifier.All place tokens x e
+nested_sound unary place sound (lexeme.Mark mark.Exists ∷ tokens) x e = quantified_sound unary sound quantifier.Exists place tokens x e
+nested_sound unary place sound (lexeme.Mark mark.Open ∷ tokens) x e =
+    let b = bind_some (level_at unary 4 tokens) (λ f. group_end f.0 f.1) x e in
+    group_end_sound place b.0.0 tokens b.0.1 x (level_sound unary 4 (omega arith) sound tokens b.0 b.1) b.2
+nested_sound unary place sound tokens x e = leaf_sound place tokens x e
 
 unary_sound : (budget : ℕ) → IsSound (unary_at budget) 0
 unary_sound zero tokens x e = leaf_sound 0 tokens x e
-unary_sound (suc budget) tokens x e = nested_sound (unary_at budget) budget 0 (unary_sound budget) tokens x e
+unary_sound (suc budget) tokens x e = nested_sound (unary_at budget) 0 (unary_sound budget) tokens x e
 
 pub formula_sound : (tokens : List Lexeme) (x : Formula × List Lexeme) → formula_at tokens ≡ Some x → (tokens ≡ text x.0 ++ x.1) × IsWrittenFormula x.0
 formula_sound tokens x e =
-    let b = bind_some (whole_at (unary_at 64) 64 tokens) (λ f. cond (nat_le (tree_depth f.0) 64) (Some f) None) x e in
-    let s = whole_sound (unary_at 64) 64 (unary_sound 64) tokens b.0 b.1 in
+    let b = bind_some (level_at (unary_at 64) 4 tokens) (λ f. cond (nat_le (tree_depth f.0) 64) (Some f) None) x e in
+    let s = level_sound (unary_at 64) 4 (omega arith) (unary_sound 64) tokens b.0 b.1 in
     elim (chosen (nat_le (tree_depth b.0.0) 64) (Some b.0) None (Some x) b.2) [
       | inl within ↦ subst (λ (x : Formula × List Lexeme). (tokens ≡ text x.0 ++ x.1) × IsWrittenFormula x.0) (some_is _ _ within.1) (s.0, record { grouped = s.1; shallow = leb-true (tree_depth b.0.0) 64 within.0 })
       | inr deep ↦ absurd (nothing_some x deep.1)

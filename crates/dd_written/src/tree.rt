@@ -58,13 +58,17 @@ pub enum Quantifier {
     Exists,
 }
 
-/// What joins the members of a list.
+/// The sign between the parts of a chain, from the one that binds tightest.
 #[derive(Clone, Copy, Debug, PartialEq, Eq)]
 pub enum Join {
     /// `&`
     And,
     /// `|`
     Or,
+    /// `->`, which groups to the right.
+    Implies,
+    /// `<->`, which groups to the left.
+    Iff,
 }
 
 /// A formula as it is written, with its parentheses.
@@ -84,19 +88,9 @@ pub enum Formula {
     },
     /// A formula in parentheses.
     Group(Boxed<Formula>),
-    /// Two or more members with `&` or `|` between them.
-    List {
+    /// Two or more parts with the same sign between each two.
+    Chain {
         join: Join,
-        members: Items<Formula>,
-    },
-    /// `premise -> conclusion`, grouped to the right.
-    Implies {
-        premise: Boxed<Formula>,
-        conclusion: Boxed<Formula>,
-    },
-    /// `left <-> right`, grouped to the left.
-    Iff {
-        left: Boxed<Formula>,
-        right: Boxed<Formula>,
+        parts: Items<Formula>,
     },
 }
