@@ -23,21 +23,17 @@ use Rattle.dd_query.proofs.ShapeLaws.{value_small, strip_is, all_close, vectors_
 module _ (x : Context) (r : Request) (is : IsRequest r) (none : request_faults x r ≡ []) where
   -- ---- no list of its faults has one
 
-  words_none : (flat_map (word_faults x) (zip (row r.question).names r.words) ≡ []) × (flat_map (radius_faults x) r.numbers ++ list_faults x (row r.question).lists r.vectors ≡ [])
-  words_none =
-      both_nil (flat_map (word_faults x) (zip (row r.question).names r.words)) (flat_map (radius_faults x) r.numbers ++ list_faults x (row r.question).lists r.vectors) none
-
-  rest_none : (flat_map (radius_faults x) r.numbers ≡ []) × (list_faults x (row r.question).lists r.vectors ≡ [])
-  rest_none = both_nil (flat_map (radius_faults x) r.numbers) (list_faults x (row r.question).lists r.vectors) words_none.1
+  parts : (flat_map (word_faults x) (zip (row r.question).names r.words) ≡ []) × (flat_map (radius_faults x) r.numbers ≡ []) × (list_faults x (row r.question).lists r.vectors ≡ [])
+  parts = (let words = both_nil _ _ none in let rest = both_nil _ _ words.1 in (words.0, rest.0, rest.1))
 
   lists_are : (q : Question) → r.question ≡ q → AreLists (row q).lists r.vectors × (list_faults x (row q).lists r.vectors ≡ [])
-  lists_are q at = subst (λ (p : Question). AreLists (row p).lists r.vectors × (list_faults x (row p).lists r.vectors ≡ [])) at (is.vectors, rest_none.1)
+  lists_are q at = subst (λ (p : Question). AreLists (row p).lists r.vectors × (list_faults x (row p).lists r.vectors ≡ [])) at (is.vectors, parts.2)
 
   -- ---- its query
 
   there : (q : Question) (i : ℕ) (named_by : Role) → r.question ≡ q → slice_get (row q).names i ≡ Some named_by → word_at x r i < length (named x.known named_by)
   there q i named_by at place =
-      word_there x (row r.question).names r.words i named_by is.words words_none.0
+      word_there x (row r.question).names r.words i named_by is.words parts.0
       (subst (λ (p : Question). slice_get (row p).names i ≡ Some named_by) (sym at) place)
 
   strip_kept : r.question ≡ question.Density → AreStripPeriods (dimension_of x.known) (strip_periods x.text r.vectors)
@@ -59,4 +55,4 @@ module _ (x : Context) (r : Request) (is : IsRequest r) (none : request_faults x
   within_kept question.Density sound at = (there question.Density 0 role.Rule at refl, strip_kept at)
   within_kept question.Discharge sound at =
       let lists = lists_are question.Discharge at in
-      (there question.Discharge 0 role.Rule at refl, value_small x r.numbers 0 rest_none.0, value_small x r.numbers 1 rest_none.0, vectors_are x r.vectors lists.1 sound.grid.dimension.1 lists.0)
+      (there question.Discharge 0 role.Rule at refl, value_small x r.numbers 0 parts.1, value_small x r.numbers 1 parts.1, vectors_are x r.vectors lists.1 sound.grid.dimension.1 lists.0)
