@@ -1,12 +1,11 @@
 //! What is given twice.
-ghost use Rattle.std.specs.Prelude.{◌≡◌, ◌++◌, [], ◌∷◌, ℕ, List, string_bytes, Contains, IfOk, OnOk};
+ghost use Rattle.std.specs.Prelude.{◌≡◌, ◌++◌, [], ◌∷◌, ℕ, List, string_bytes, Contains, MatchBool, IfOk, OnOk};
 ghost use Rattle.dd_written.specs.Values.{name_text, number_text};
 ghost use Rattle.dd_faults.specs.declared.fault.Fault.{Fault as AnyFault};
 ghost use Rattle.dd_faults.specs.declared.fault.Fault.TheVariants.{Twice};
 ghost use Rattle.dd_faults.specs.Numbers.{entry_number};
 ghost use Rattle.dd_faults.specs.Order.{noted};
 ghost use Rattle.dd_faults.specs.Repeats.{first_repeat, edge_key, twice_label, entry_key, vector_key, twice_vector};
-ghost use Rattle.dd_faults.specs.walk.Adding.{IsAdded};
 
 use crate::fault::{Fault, note_if};
 use crate::limits::FARTHEST;
@@ -40,7 +39,7 @@ fn add_new<T: Keyed>(
     item: &T,
     seen: &mut Names,
 ) -> Result<bool, AllocError>
-    ensures { IfOk result (IsAdded seen.old (T.key text.now item.now) seen.new) }
+    ensures { IfOk result (λ added. MatchBool added ((seen.new ≡ seen.old ++ T.key text.now item.now ∷ []) × (¬ Contains seen.old (T.key text.now item.now))) (Contains seen.old (T.key text.now item.now))) }
 {
     if seen.count() > TOO_MANY {
         return Err(AllocError);

@@ -30,25 +30,24 @@ use Rattle.dd_query.proofs.VectorLaws.{IsGiven, vectors_differ}
 
 pub value_small : (x : Context) (ns : List Number) (i : ℕ) → flat_map (radius_faults x) ns ≡ [] → option_map_or (written_value x.text) (slice_get ns i) 0 ≤ 3
 value_small x [] i none = omega arith
-value_small x (n ∷ ns) zero none = ltb-false 3 (written_value x.text n) (within (nat_lt 3 (written_value x.text n)) limit.Radius (both_nil (radius_faults x n) (flat_map (radius_faults x) ns) none).0)
-value_small x (n ∷ ns) (suc i) none = value_small x ns i (both_nil (radius_faults x n) (flat_map (radius_faults x) ns) none).1
+value_small x (n ∷ ns) zero none = ltb-false 3 (written_value x.text n) (within _ _ (both_nil _ _ none).0)
+value_small x (n ∷ ns) (suc i) none = value_small x ns i (both_nil _ _ none).1
 
 -- ---- strips
 
 period_within : (bytes : List ℕ) (es : List Entry) (j : ℕ) → list_any (is_no_strip bytes) es ≡ false → (1 ≤ entry_at bytes es j) × (entry_at bytes es j ≤ 64)
 period_within bytes [] j h = (omega arith, omega arith)
 period_within bytes (e ∷ es) zero h =
-    let here = or_parts (nat_lt (entry_value bytes e) 1) (nat_lt 64 (entry_value bytes e)) (or_parts (is_no_strip bytes e) (list_any (is_no_strip bytes) es) h).0 in
+    let here = or_parts _ _ (or_parts _ _ h).0 in
     (ltb-false (entry_value bytes e) 1 here.0, ltb-false 64 (entry_value bytes e) here.1)
-period_within bytes (e ∷ es) (suc j) h = period_within bytes es j (or_parts (is_no_strip bytes e) (list_any (is_no_strip bytes) es) h).1
+period_within bytes (e ∷ es) (suc j) h = period_within bytes es j (or_parts _ _ h).1
 
 -- the one vector of a strip
 pub strip_is : (x : Context) (v : Vector) → flat_map (strip_faults x) (v ∷ []) ≡ [] → AreStripPeriods (dimension_of x.known) (strip_periods x.text (v ∷ []))
 strip_is x v none =
-    let d = dimension_of x.known in
-    let both = both_nil (unless (length v.entries + 1 == d)) (over (list_any (is_no_strip x.text) v.entries) limit.Periods) (both_nil (strip_faults x v) [] none).0 in
-    let less : length v.entries + 1 ≡ d = eqb-true (length v.entries + 1) d (fits (length v.entries + 1 == d) both.0) in
-    let short = within (list_any (is_no_strip x.text) v.entries) limit.Periods both.1 in
+    let both = both_nil _ _ (both_nil (strip_faults x v) [] none).0 in
+    let less = eqb-true (length v.entries + 1) (dimension_of x.known) (fits _ both.0) in
+    let short = within _ _ both.1 in
     record {
       second = period_within x.text v.entries 0 short;
       third = period_within x.text v.entries 1 short;
@@ -59,16 +58,12 @@ strip_is x v none =
 -- ---- vectors
 
 module _ (x : Context) (vs : List Vector) (none : list_faults x lists.Vectors vs ≡ []) where
-  parts : (twice_vectors x.text vs ≡ []) × (flat_map (vector_faults x) vs ++ over (nat_lt 16 (length vs)) limit.Vectors ≡ [])
-  parts = both_nil (twice_vectors x.text vs) (flat_map (vector_faults x) vs ++ over (nat_lt 16 (length vs)) limit.Vectors) none
-
-  each : (flat_map (vector_faults x) vs ≡ []) × (over (nat_lt 16 (length vs)) limit.Vectors ≡ [])
-  each = both_nil (flat_map (vector_faults x) vs) (over (nat_lt 16 (length vs)) limit.Vectors) parts.1
+  parts : (twice_vectors x.text vs ≡ []) × (flat_map (vector_faults x) vs ≡ []) × (over (nat_lt 16 (length vs)) limit.Vectors ≡ [])
+  parts = (let twice = both_nil _ _ none in let each = both_nil _ _ twice.1 in (twice.0, each.0, each.1))
 
   are_given : All (IsGiven x.text (dimension_of x.known)) vs
   are_given =
-      all_where (IsGiven x.text (dimension_of x.known)) (vector_faults x)
-      (λ v h. let both = both_nil (unless (has_entries (dimension_of x.known) v)) (over (is_far x.text v) limit.Vectors) h in (fits _ both.0, within _ _ both.1)) vs each.0
+      all_where (IsGiven x.text (dimension_of x.known)) (vector_faults x) (λ v h. let both = both_nil _ _ h in (fits _ both.0, within _ _ both.1)) vs parts.1
 
   pub all_close : list_any (is_far x.text) vs ≡ false
   all_close = list_any_none (is_far x.text) vs (λ i v below. (are_given i v below).1)
@@ -79,7 +74,7 @@ module _ (x : Context) (vs : List Vector) (none : list_faults x lists.Vectors vs
       let same = length-map vs (place_of x.text) in
       record {
         some = omega (arith, same, some);
-        few = omega (arith, same, ltb-false 16 (length vs) (within (nat_lt 16 (length vs)) limit.Vectors each.1));
+        few = omega (arith, same, ltb-false 16 (length vs) (within _ _ parts.2));
         short =
             list_all-map (is_offset d) (place_of x.text) vs
             ∙ list_all-from_AllPass (λ v. is_offset d (place_of x.text v)) vs (λ i v below. offset_is x.text d (get_or vs i v) (are_given i v below).1 (are_given i v below).0);

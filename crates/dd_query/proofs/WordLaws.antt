@@ -34,8 +34,8 @@ pub word_there : (x : Context) (rs : List Role) (ws : List Word) (i : ℕ) (r : 
 word_there x [] ws i r long none h = absurd cc
 word_there x (q ∷ rs) [] i r long none h = absurd (omega (arith, long))
 word_there x (q ∷ rs) (w ∷ ws) zero r long none h =
-    let here = is_there x.text (named x.known q) (name.Word w) (both_nil (word_faults x (q, w)) (flat_map (word_faults x) (zip rs ws)) none).0 in
+    let here = is_there x.text (named x.known q) (name.Word w) (both_nil _ _ none).0 in
     let same : q ≡ r = cc in
     subst (λ (p : Role). number_in x.text (named x.known q) (name.Word w) < length (named x.known p)) same here
 word_there x (q ∷ rs) (w ∷ ws) (suc i) r long none h =
-    word_there x rs ws i r (omega (arith, long)) (both_nil (word_faults x (q, w)) (flat_map (word_faults x) (zip rs ws)) none).1 h
+    word_there x rs ws i r (omega (arith, long)) (both_nil _ _ none).1 h
