@@ -16,11 +16,7 @@ use Rattle.dd_query.specs.Vectors.{coordinate, place_of}
 
 close_entry : (bytes : List ℕ) (e : Entry) → nat_lt 4 (entry_value bytes e) ≡ false → unsigned_abs (signed_value bytes e) ≤ 4
 close_entry bytes (entry.Number n) h = ltb-false 4 (written_value bytes n) h
-close_entry bytes (entry.Negative n) h = negated (written_value bytes n) (ltb-false 4 (written_value bytes n) h)
-  where
-    negated : (m : ℕ) → m ≤ 4 → unsigned_abs (pos 0 -ℤ pos m) ≤ 4
-    negated zero small = omega arith
-    negated (suc m) small = omega (arith, ints, small)
+close_entry bytes (entry.Negative n) h = omega (arith, ints, ltb-false 4 (written_value bytes n) h)
 
 pub near_at : (bytes : List ℕ) (es : List Entry) (axis : ℕ) (e : Entry) → list_any (λ a. nat_lt 4 (entry_value bytes a)) es ≡ false → slice_get es axis ≡ Some e → nat_lt 4 (entry_value bytes e) ≡ false
 near_at bytes [] axis e h is = absurd cc
