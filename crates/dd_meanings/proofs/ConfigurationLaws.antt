@@ -1,12 +1,14 @@
 -- Configurations without faults.
-use Rattle.std.proofs.Common.{◌≡◌, ◌<◌, ◌≤◌, ℕ, zero, suc, ◌+◌, ◌*◌, ◌%◌, Bool, true, false, List, [], ◌∷◌, ◌++◌, length, map, Option, Some, None, refl, sym, ap, ◌∙◌, subst, arith}
-use Rattle.std.specs.Prelude.{◌||◌, ◌&&◌, ◌==◌, nat_lt, nat_le, not, unwrap_or, slice_index, if◌then◌else◌}
-use Rattle.std.specs.List.{All}
+use Rattle.std.proofs.Common.{◌≡◌, ◌<◌, ◌≤◌, ℕ, zero, suc, ◌+◌, ◌*◌, ◌%◌, true, false, List, [], ◌∷◌, ◌++◌, length, map, Option, Some, None, refl, sym, ap, ◌∙◌, subst, arith}
+use Rattle.std.specs.Prelude.{◌||◌, ◌&&◌, ◌==◌, nat_lt, nat_le, not, unwrap_or, slice_index, if◌then◌else◌, Bool}
 use Rattle.std.specs.Option.{option_map_or}
+use Rattle.std.proofs.Math.Nat.{mul_comm}
 use Rattle.std.proofs.lemmas.Bool.{and_parts, or_parts, ltb-false, leb-true, leb-false, eqb-true}
 use Rattle.std.proofs.lemmas.List.{length-map}
-use Rattle.std.proofs.lemmas.List.Elements.{All-cons, All-nil}
+use Rattle.std.proofs.lemmas.List.Elements.{All-from_get_or}
+use Rattle.std.proofs.lemmas.Option.{slice_get_within}
 use Rattle.dd_topology.specs.Sets.{allows}
+use Rattle.dd_topology.specs.lemmas.NamingLaws.{slice_get-number_of}
 use Rattle.dd_written.specs.declared.lexeme.Word.{Word}
 use Rattle.dd_written.specs.declared.tree.Name.{Name}
 use Rattle.dd_written.specs.Values.{name_text}
@@ -15,20 +17,18 @@ use Rattle.dd_commands.specs.declared.command.Vector.{Vector}
 use Rattle.dd_commands.specs.declared.command.Command.TheVariants as command
 use Rattle.dd_pattern.specs.Periods.{ArePeriodsIn, periods_of as with_shear}
 use Rattle.dd_pattern.specs.Tile.{IsPeriodic, IsTile}
-use Rattle.dd_topology.specs.lemmas.NamingLaws.{slice_get-number_of}
-use Rattle.std.proofs.lemmas.Option.{slice_get_within}
 use Rattle.dd_faults.specs.declared.fault.Limit.TheVariants as limit
 use Rattle.dd_faults.specs.declared.fault.Fault.TheVariants as fault
 use Rattle.dd_faults.specs.declared.context.Context.{Context}
 use Rattle.dd_faults.specs.Order.{when, over}
 use Rattle.dd_faults.specs.Names.{place_of_name}
-use Rattle.dd_faults.specs.Commands.{dimension_of, has_entries, is_allowed, symbol_faults, product, period_at, shear_of, shear_fits, box_fits, box_faults, faults_of}
+use Rattle.dd_faults.specs.Commands.{dimension_of, has_entries, is_allowed, symbol_faults, product, period_at, shear_of, shear_fits, box_fits, box_faults, faults_of, entry_value}
 use Rattle.dd_faults.specs.Sound.{IsSound}
-use Rattle.dd_meanings.specs.Definitions.{symbol_of, configuration_periods, tile_of}
-use Rattle.dd_meanings.specs.Sound.{IsNew, IsConfigurationOf}
-use Rattle.dd_meanings.specs.making.Parts.{HasShortPeriods, tile_with}
 use Rattle.dd_faults.specs.lemmas.Nothing.{both_nil, within}
 use Rattle.dd_faults.specs.lemmas.Periods.{entry_at, no_entry}
+use Rattle.dd_meanings.specs.Definitions.{symbol_of, configuration_periods, tile_of}
+use Rattle.dd_meanings.specs.Sound.{IsNew, IsConfigurationOf}
+use Rattle.dd_meanings.specs.making.Parts.{tile_with}
 use Rattle.dd_meanings.proofs.Nothing.{present}
 use Rattle.dd_meanings.proofs.NameLaws.{new_name}
 
@@ -47,42 +47,30 @@ allowed_from x a n (Some t) is h = record {
   allowed = h;
 }
 
-allowed_is : (x : Context) (a : ℕ) (n : Name) → is_allowed x a n ≡ true → IsAllowedAt x a (symbol_of x n)
-allowed_is x a n h = allowed_from x a n (place_of_name x.text x.known.setting.symbols n) refl h
-
 abbrev node_at : Context → ℕ → ℕ
 node_at x k = k % length x.known.setting.nodes
 
-symbols_below : (x : Context) (k : ℕ) (ns : List Name) → symbol_faults x k ns ≡ [] → All (λ s. s < length x.known.setting.symbols) (map (symbol_of x) ns)
-symbols_below x k [] none = All-nil (λ s. s < length x.known.setting.symbols)
-symbols_below x k (n ∷ ns) none =
-    let both = both_nil (when (not (is_allowed x (node_at x k) n)) (fault.Unknown n)) (symbol_faults x (k + 1) ns) none in
-    let here = allowed_is x (node_at x k) n (present (is_allowed x (node_at x k) n) (fault.Unknown n) both.0) in
-    All-cons (λ s. s < length x.known.setting.symbols) (symbol_of x n) (map (symbol_of x) ns) here.below (symbols_below x (k + 1) ns both.1)
-
-symbol_allowed : (x : Context) (k : ℕ) (ns : List Name) (i : ℕ) → symbol_faults x k ns ≡ [] → i < length (map (symbol_of x) ns) →
-    allows x.known.setting.sets (node_at x (k + i)) (slice_index (map (symbol_of x) ns) i) ≡ true
-symbol_allowed x k [] i none below = absurd (omega (arith, below))
-symbol_allowed x k (n ∷ ns) zero none below =
-    let both = both_nil (when (not (is_allowed x (node_at x k) n)) (fault.Unknown n)) (symbol_faults x (k + 1) ns) none in
-    let here = allowed_is x (node_at x k) n (present (is_allowed x (node_at x k) n) (fault.Unknown n) both.0) in
-    let same : k + 0 ≡ k = omega arith in
-    ap (λ j. allows x.known.setting.sets (node_at x j) (symbol_of x n)) same ∙ here.allowed
-symbol_allowed x k (n ∷ ns) (suc i) none below =
-    let both = both_nil (when (not (is_allowed x (node_at x k) n)) (fault.Unknown n)) (symbol_faults x (k + 1) ns) none in
-    let same : k + suc i ≡ k + 1 + i = omega arith in
-    ap (λ j. allows x.known.setting.sets (node_at x j) (slice_index (map (symbol_of x) ns) i)) same
-    ∙ symbol_allowed x (k + 1) ns i both.1 (omega (arith, below))
+symbols_are : (x : Context) (k : ℕ) (ns : List Name) → symbol_faults x k ns ≡ [] → (i : ℕ) → i < length (map (symbol_of x) ns) → IsAllowedAt x (node_at x (k + i)) (slice_index (map (symbol_of x) ns) i)
+symbols_are x k [] none i below = absurd (omega (arith, below))
+symbols_are x k (n ∷ ns) none zero below =
+    let same : k ≡ k + 0 = omega arith in
+    let here = present (is_allowed x (node_at x k) n) (fault.Unknown n) (both_nil (when (not (is_allowed x (node_at x k) n)) (fault.Unknown n)) (symbol_faults x (k + 1) ns) none).0 in
+    subst (λ j. IsAllowedAt x (node_at x j) (symbol_of x n)) same (allowed_from x (node_at x k) n (place_of_name x.text x.known.setting.symbols n) refl here)
+symbols_are x k (n ∷ ns) none (suc i) below =
+    let same : k + 1 + i ≡ k + suc i = omega arith in
+    let rest = (both_nil (when (not (is_allowed x (node_at x k) n)) (fault.Unknown n)) (symbol_faults x (k + 1) ns) none).1 in
+    subst (λ j. IsAllowedAt x (node_at x j) (slice_index (map (symbol_of x) ns) i)) same (symbols_are x (k + 1) ns rest i (omega (arith, below)))
 
 -- ---- periods
 
-product_is : (bytes : List ℕ) (es : List Entry) → length es ≤ 3 → product bytes es ≡ entry_at bytes es 0 * (entry_at bytes es 1 * (entry_at bytes es 2 * 1))
-product_is bytes [] few = refl
-product_is bytes (a ∷ []) few = refl
-product_is bytes (a ∷ b ∷ []) few = refl
-product_is bytes (a ∷ b ∷ c ∷ []) few = refl
-product_is bytes (a ∷ b ∷ c ∷ d ∷ es) few = absurd (omega (arith, few))
+volume_is : (bytes : List ℕ) (es : List Entry) → length es ≤ 3 → product bytes es ≡ entry_at bytes es 2 * entry_at bytes es 1 * entry_at bytes es 0
+volume_is bytes [] few = refl
+volume_is bytes (a ∷ []) few = omega arith
+volume_is bytes (a ∷ b ∷ []) few = omega arith
+volume_is bytes (a ∷ b ∷ c ∷ []) few = omega arith
+volume_is bytes (a ∷ b ∷ c ∷ d ∷ es) few = absurd (omega (arith, few))
 
+-- the factors of a product that is not 0 are not 0
 some_factor : (a b : ℕ) → 1 ≤ a * b → 1 ≤ a
 some_factor zero b h = omega (arith, h)
 some_factor (suc a) b h = omega arith
@@ -91,44 +79,10 @@ other_factor : (a b : ℕ) → 1 ≤ a * b → 1 ≤ b
 other_factor a zero h = omega (arith, h)
 other_factor a (suc b) h = omega arith
 
-first_most : (a b : ℕ) → 1 ≤ b → a ≤ a * b
-first_most a zero h = absurd (omega arith)
-first_most a (suc b) h = omega arith
-
-second_most : (a b : ℕ) → 1 ≤ a → b ≤ a * b
-second_most zero b h = absurd (omega arith)
-second_most (suc a) b h = omega arith
-
--- the factors of a product that is not 0 are not 0, and none of them is greater
-record AreFactors (x y z m : ℕ) : Type 0 where
-  x_some : 1 ≤ x
-  y_some : 1 ≤ y
-  z_some : 1 ≤ z
-  x_most : x ≤ m
-  y_most : y ≤ m
-  z_most : z ≤ m
-
-factors : (x y z n m : ℕ) → 1 ≤ x * (y * (z * 1)) * n → x * (y * (z * 1)) * n ≤ m → AreFactors x y z m
-factors x y z n m some most =
-    let all : 1 ≤ x * (y * (z * 1)) = some_factor (x * (y * (z * 1))) n some in
-    let nodes : 1 ≤ n = other_factor (x * (y * (z * 1))) n some in
-    let first : 1 ≤ x = some_factor x (y * (z * 1)) all in
-    let rest : 1 ≤ y * (z * 1) = other_factor x (y * (z * 1)) all in
-    let second : 1 ≤ y = some_factor y (z * 1) rest in
-    let last : 1 ≤ z * 1 = other_factor y (z * 1) rest in
-    let whole = first_most (x * (y * (z * 1))) n nodes in
-    let x_in = first_most x (y * (z * 1)) rest in
-    let rest_in = second_most x (y * (z * 1)) first in
-    let y_in = first_most y (z * 1) last in
-    let z_in = second_most y (z * 1) second in
-    record {
-      x_some = first;
-      y_some = second;
-      z_some = omega (arith, last);
-      x_most = omega (arith, whole, x_in, most);
-      y_most = omega (arith, whole, rest_in, y_in, most);
-      z_most = omega (arith, whole, rest_in, z_in, most);
-    }
+entry_some : (bytes : List ℕ) (es : List Entry) (axis : ℕ) → 1 ≤ product bytes es → 1 ≤ entry_at bytes es axis
+entry_some bytes [] axis h = omega arith
+entry_some bytes (e ∷ es) zero h = some_factor (entry_value bytes e) (product bytes es) h
+entry_some bytes (e ∷ es) (suc axis) h = entry_some bytes es axis (other_factor (entry_value bytes e) (product bytes es) h)
 
 -- a box that fits, and passes no limit
 record IsBox (x : Context) (periods : Vector) (shear : Option Vector) (count : ℕ) : Type 0 where
@@ -174,53 +128,34 @@ module _ (x : Context) (called : Word) (periods : Vector) (shear : Option Vector
   box : IsBox x periods shear (length ns)
   box = box_is x periods shear (length ns) named_and_boxed.1
 
-  few : length periods.entries ≤ 3
-  few = omega (arith, box.entries, sound.grid.dimension.1)
+  period_some : (axis : ℕ) → 1 ≤ period_at x.text periods axis
+  period_some axis = entry_some x.text periods.entries axis (some_factor (product x.text periods.entries) (length x.known.setting.nodes) (omega (arith, box.size, some)))
 
-  by_periods : period_at x.text periods 0 * (period_at x.text periods 1 * (period_at x.text periods 2 * 1)) * length x.known.setting.nodes ≡ length ns
-  by_periods = ap (λ n. n * length x.known.setting.nodes) (sym (product_is x.text periods.entries few)) ∙ box.size
+  count : length (map (symbol_of x) ns) ≡ length ns
+  count = length-map ns (symbol_of x)
 
-  its_factors : AreFactors (period_at x.text periods 0) (period_at x.text periods 1) (period_at x.text periods 2) 65536
-  its_factors =
-      factors (period_at x.text periods 0) (period_at x.text periods 1) (period_at x.text periods 2) (length x.known.setting.nodes) 65536
-      (omega (arith, by_periods, some)) (omega (arith, by_periods, box.small))
-
-  pub periods_short : HasShortPeriods x.text periods
-  periods_short = record { first = its_factors.x_most; second = its_factors.y_most; third = its_factors.z_most }
-
-  pub shear_short : shear_of x.text shear ≤ 65536
-  shear_short = omega (arith, box.less, its_factors.x_most)
-
-  periods_are : ArePeriodsIn (dimension_of x.known) (with_shear (configuration_periods x.text periods) (shear_of x.text shear))
-  periods_are = record {
-    x_some = its_factors.x_some;
-    y_some = its_factors.y_some;
-    z_some = its_factors.z_some;
-    y_unused = λ h. no_entry x.text periods.entries 1 (omega (arith, box.entries, h));
-    z_unused = λ h. no_entry x.text periods.entries 2 (omega (arith, box.entries, h));
-    shear_small = box.less;
-    shear_unused = no_shear x.text (dimension_of x.known) shear box.sheared;
+  is_tile : IsTile (tile_of x periods shear ns)
+  is_tile = record {
+    some_dimension = omega (arith, sound.grid.dimension.0);
+    most_dimension = sound.grid.dimension.1;
+    periods = record {
+      x_some = period_some 0;
+      y_some = period_some 1;
+      z_some = period_some 2;
+      y_unused = λ h. no_entry x.text periods.entries 1 (omega (arith, box.entries, h));
+      z_unused = λ h. no_entry x.text periods.entries 2 (omega (arith, box.entries, h));
+      shear_small = box.less;
+      shear_unused = no_shear x.text (dimension_of x.known) shear box.sheared;
+    };
+    nodes_some = omega (arith, sound.grid.nodes);
+    full =
+        count ∙ (sym box.size ∙ (ap (λ n. n * length x.known.setting.nodes) (volume_is x.text periods.entries (omega (arith, box.entries, sound.grid.dimension.1)))
+        ∙ ap (λ n. period_at x.text periods 2 * period_at x.text periods 1 * period_at x.text periods 0 * n) (sym sound.nodes)));
   }
-
-  pub is_tile : IsTile (tile_of x periods shear ns)
-  is_tile =
-      let px = period_at x.text periods 0 in
-      let py = period_at x.text periods 1 in
-      let pz = period_at x.text periods 2 in
-      let by_nodes : (pz * py * px) * x.known.setting.topology.nodes ≡ (pz * py * px) * length x.known.setting.nodes = ap (λ n. (pz * py * px) * n) sound.nodes in
-      let count : length (map (symbol_of x) ns) ≡ length ns = length-map ns (symbol_of x) in
-      record {
-        some_dimension = omega (arith, sound.grid.dimension.0);
-        most_dimension = sound.grid.dimension.1;
-        periods = periods_are;
-        nodes_some = omega (arith, sound.grid.nodes);
-        full = omega (arith, count, by_periods, by_nodes);
-      }
 
   pub is_periodic : (symbols : List ℕ) → symbols ≡ map (symbol_of x) ns → IsPeriodic (tile_with x periods shear symbols)
   is_periodic symbols made =
-      subst (λ (ss : List ℕ). IsPeriodic (tile_with x periods shear ss)) (sym made)
-      (record { tile = is_tile; small = (let count : length (map (symbol_of x) ns) ≡ length ns = length-map ns (symbol_of x) in omega (arith, count, box.small)) })
+      subst (λ (ss : List ℕ). IsPeriodic (tile_with x periods shear ss)) (sym made) (record { tile = is_tile; small = omega (arith, count, box.small) })
 
   pub is_configuration : IsNew x called × IsConfigurationOf x.known (tile_of x periods shear ns)
   is_configuration = (
@@ -229,11 +164,10 @@ module _ (x : Context) (called : Word) (periods : Vector) (shear : Option Vector
       tile = is_tile;
       dimension = refl;
       nodes = refl;
-      symbols = symbols_below x 0 ns named_and_boxed.0;
+      symbols = All-from_get_or (λ s. s < length x.known.setting.symbols) (map (symbol_of x) ns) 0 (λ i below. (symbols_are x 0 ns named_and_boxed.0 i below).below);
       allowed = λ i below.
-          let at = symbol_allowed x 0 ns i named_and_boxed.0 below in
-          let zero_more : 0 + i ≡ i = omega arith in
+          let same : i ≡ 0 + i = omega arith in
           ap (λ n. allows x.known.setting.sets (i % n) (slice_index (map (symbol_of x) ns) i)) sound.nodes
-          ∙ (ap (λ j. allows x.known.setting.sets (node_at x j) (slice_index (map (symbol_of x) ns) i)) (sym zero_more) ∙ at);
+          ∙ (ap (λ j. allows x.known.setting.sets (node_at x j) (slice_index (map (symbol_of x) ns) i)) same ∙ (symbols_are x 0 ns named_and_boxed.0 i below).allowed);
     },
   )

@@ -8,6 +8,5 @@ pub mod WrittenLaws
 pub mod Depths
 pub mod WellFormed
 pub mod SizeLaws
-pub mod CaseLists
 pub mod DefinitionLaws
 pub mod ConfigurationLaws

@@ -1,8 +1,13 @@
-use Rattle.std.proofs.Common.{[], refl, sym, subst}
+use Rattle.std.proofs.Common.{◌≡◌, true, [], refl, ap, sym, subst}
 use Rattle.dd_faults.specs.Formulas.{formula_faults}
+use Rattle.dd_formula.specs.LocalRule.{local_rule}
+use Rattle.dd_formula.specs.Automata.{rule_has}
+use Rattle.dd_formula.specs.lemmas.CasesLaws.{has_numbers}
+use Rattle.dd_meanings.specs.declared.meaning.Meaning.TheVariants as meant
 use Rattle.dd_meanings.specs.making.Parts.{IsFormulaOf}
 use Rattle.dd_meanings.proofs.NameLaws.{new_name}
-use Rattle.dd_meanings.proofs.SizeLaws.{has_numbers}
+use Rattle.dd_meanings.proofs.SizeLaws.{rule_passes, rule_refuses}
+use Rattle.dd_meanings.proofs.DefinitionLaws.{same_numbers}
 use Rattle.dd_meanings.proofs.WellFormed.{is_formula}
 use Rattle.dd_meanings.proofs.definitions.rule.Goals as goal
 
@@ -10,14 +15,26 @@ pub formula-requires-clause-faultless : goal.formula-requires-clause-faultless
 formula-requires-clause-faultless c =
     let x = c.args.context.now in (new_name x c.args.name (formula_faults x c.args.formula.now []) c.requires.faultless).1
 
-pub rule_over-requires-clause-formula : goal.rule_over-requires-clause-formula
-rule_over-requires-clause-formula c =
+pub new-requires-clause-formula : goal.new-requires-clause-formula
+new-requires-clause-formula c =
     let x = c.args.context.now in
     let faultless = (new_name x c.args.name (formula_faults x c.args.formula.now []) c.requires.faultless).1 in
     subst (IsFormulaOf x.known) (sym c.in_ok-meant.ensures) (is_formula x c.args.formula.now c.requires.sound faultless c.requires.shallow)
 
-pub returns-clause-sound : goal.returns-clause-sound
-returns-clause-sound c =
+pub returns-in-Ok-clause-exact : goal.returns-in-Ok-clause-exact
+returns-in-Ok-clause-exact c =
+    let k = c.args.context.now.known in
+    rw (← c.in_ok-meant.ensures) (rule_passes (local_rule k.setting.topology k.setting.sets c.in_ok-meant.meant) c.in-Ok.ensures.rule, ap (meant.Rule c.args.name) c.in-Ok.ensures.ok)
+
+pub returns-in-Ok-clause-sound : goal.returns-in-Ok-clause-sound
+returns-in-Ok-clause-sound c =
     let x = c.args.context.now in
-    let named = (new_name x c.args.name (formula_faults x c.args.formula.now []) c.requires.faultless).0 in
-    rw (← c.in_ok-meant.ensures) (named, c.in_ok-rule.ensures.rule, record { has = has_numbers x.known c.in_ok-meant.meant c.requires.sound; edges = refl; allowed = refl })
+    let r = local_rule x.known.setting.topology x.known.setting.sets c.in_ok-meant.meant in
+    let has = subst (λ s. rule_has s r ≡ true) (same_numbers x.known c.requires.sound) (has_numbers x.known.setting.topology x.known.setting.sets c.in_ok-meant.meant) in
+    rw (← c.in_ok-meant.ensures)
+    ((new_name x c.args.name (formula_faults x c.args.formula.now []) c.requires.faultless).0, c.in-Ok.ensures.rule, record { has = has; edges = refl; allowed = refl })
+
+pub returns-in-Err-clause-exact : goal.returns-in-Err-clause-exact
+returns-in-Err-clause-exact c =
+    let k = c.args.context.now.known in
+    rw (← c.in_ok-meant.ensures, c.refusal_of.ensures) (rule_refuses (local_rule k.setting.topology k.setting.sets c.in_ok-meant.meant) c.in-Err.fault c.in-Err.ensures.err)
