@@ -1,3 +1,4 @@
 pub mod Parts
 pub mod OneTree
 pub mod Texts
+pub mod Rounds

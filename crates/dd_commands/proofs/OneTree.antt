@@ -8,7 +8,7 @@ use Rattle.dd_commands.specs.declared.script.Written.{Written}
 use Rattle.dd_commands.specs.declared.script.Syntax.{Syntax}
 use Rattle.dd_commands.specs.Scripts.{parts, stage_after, MayStand, AreCommands, IsFirstBad, IsScript, IsSyntaxFault}
 use Rattle.dd_written.specs.lemmas.Options.{some_is}
-use Rattle.dd_commands.specs.lemmas.CommandComplete.{command_again}
+use Rattle.dd_commands.specs.lemmas.Commands.{command_again}
 
 abbrev written_of : List Lexeme → Command → Written
 written_of tokens c = record { tokens = tokens; command = c }

@@ -8,50 +8,38 @@ use Rattle.dd_commands.specs.declared.head.Head.{Head}
 use Rattle.dd_commands.specs.declared.head.Head.TheVariants as head
 use Rattle.dd_commands.specs.Table.{row}
 
--- the first word of each command
-abbrev pub head_text : Head → List ℕ
-head_text head.Dimension = codes "dim"
-head_text head.Nodes = codes "nodes"
-head_text head.Alphabet = codes "alphabet"
-head_text head.Topology = codes "topology"
-head_text head.Only = codes "only"
-head_text head.Weights = codes "weights"
-head_text head.Limits = codes "limits"
-head_text head.Rule = codes "rule"
-head_text head.Automaton = codes "auto"
-head_text head.Composition = codes "compose"
-head_text head.Configuration = codes "conf"
-head_text (head.Question q) = (row q).word
+-- The first word; the place in the order of commands, where each stands behind all of a lower place; and whether it is given once.
+pub record HeadRow : Type 0 where
+  pub word : List ℕ
+  pub stage : ℕ
+  pub once : Bool
 
--- the place in the order of commands: each stands behind all of a lower place
-abbrev pub stage : Head → ℕ
-stage head.Dimension = 0
-stage head.Nodes = 1
-stage head.Alphabet = 2
-stage head.Topology = 3
-stage head.Only = 4
-stage head.Weights = 5
-stage head.Limits = 6
-stage head.Rule = 7
-stage head.Automaton = 7
-stage head.Composition = 7
-stage head.Configuration = 7
-stage (head.Question q) = 7
+abbrev pub entry : List ℕ → ℕ → Bool → HeadRow
+entry word stage once = record { word = word; stage = stage; once = once }
 
 -- the commands of the header are given once, but for the alphabets of nodes
+abbrev pub head_row : Head → HeadRow
+head_row head.Dimension = entry (codes "dim") 0 true
+head_row head.Nodes = entry (codes "nodes") 1 true
+head_row head.Alphabet = entry (codes "alphabet") 2 true
+head_row head.Topology = entry (codes "topology") 3 true
+head_row head.Only = entry (codes "only") 4 false
+head_row head.Weights = entry (codes "weights") 5 true
+head_row head.Limits = entry (codes "limits") 6 true
+head_row head.Rule = entry (codes "rule") 7 false
+head_row head.Automaton = entry (codes "auto") 7 false
+head_row head.Composition = entry (codes "compose") 7 false
+head_row head.Configuration = entry (codes "conf") 7 false
+head_row (head.Question q) = entry (row q).word 7 false
+
+abbrev pub head_text : Head → List ℕ
+head_text h = (head_row h).word
+
+abbrev pub stage : Head → ℕ
+stage h = (head_row h).stage
+
 abbrev pub is_once : Head → Bool
-is_once head.Dimension = true
-is_once head.Nodes = true
-is_once head.Alphabet = true
-is_once head.Topology = true
-is_once head.Only = false
-is_once head.Weights = true
-is_once head.Limits = true
-is_once head.Rule = false
-is_once head.Automaton = false
-is_once head.Composition = false
-is_once head.Configuration = false
-is_once (head.Question q) = false
+is_once h = (head_row h).once
 
 -- the first place at which a command may stand behind this one
 abbrev pub next_stage : Head → ℕ

@@ -26,9 +26,3 @@ row question.Agree = entry (codes "same") (role.Automaton ∷ role.Automaton ∷
 row question.Forbidden = entry (codes "forbidden") (role.Rule ∷ []) 0 lists.None
 row question.Density = entry (codes "density") (role.Rule ∷ []) 0 lists.Strip
 row question.Discharge = entry (codes "discharge") (role.Rule ∷ []) 2 lists.Vectors
-
--- all questions
-abbrev pub questions : List Question
-questions =
-    question.Member ∷ question.Contains ∷ question.Equal ∷ question.Empty ∷ question.Agree ∷ question.Forbidden ∷ question.Density
-    ∷ question.Discharge ∷ []

@@ -1,58 +1,84 @@
-//! One of a kind after the other.
-ghost use Rattle.std.specs.Prelude.{◌≡◌, Bool, List};
-ghost use Rattle.dd_written.specs.declared.lexeme.Lexeme.{Lexeme as AnyLexeme};
-ghost use Rattle.dd_written.specs.reading.Readers.{Gives, Reader, many};
-ghost use Rattle.dd_commands.specs.reading.Listed.{alone, some_alone, exactly, all_of};
+//! What is read from the front of tokens, and one of a kind after the other.
+ghost use Rattle.std.specs.Prelude.{◌≡◌, ℕ, List};
+ghost use Rattle.dd_written.specs.reading.Readers.{Gives, Reader};
+ghost use Rattle.dd_commands.specs.reading.Forms.{at_most, each_at, some_at, exactly_at, alone};
 
 use dd_values::Items;
 use dd_written::{Lexeme, ReadFault};
 use std::alloc::Global;
 
-/// What stands in lists. Its first token tells whether there is one.
-pub(crate) trait Listed: Drop {
-    /// Whether one begins there.
-    ghost begins: { List AnyLexeme → Bool };
-
-    ghost item: { Reader Self };
-
-    fn begins(tokens: &[Lexeme]) -> bool
-        ensures { result ≡ begins tokens.now };
-
-    /// The first, and the tokens behind it.
-    fn read(alloc: Global, tokens: &[Lexeme]) -> Result<(Self, &[Lexeme]), ReadFault>
-        ensures { Gives (λ x. (x.0, x.1.now)) result (item tokens.now) };
+/// The bytes of a script, and where memory for what is read of them comes from.
+#[derive(Clone, Copy)]
+pub(crate) struct Source<'a> {
+    pub(crate) alloc: Global,
+    pub(crate) bytes: &'a [u8],
 }
 
-/// As many as stand there, and no more than are asked for.
-pub(crate) fn many<T: Listed>(
-    alloc: Global,
+/// What can be read from the front of tokens.
+pub(crate) trait Listed: Drop {
+    ghost item: { List ℕ → Reader Self };
+
+    /// The first, and the tokens behind it.
+    fn read<'a>(from: Source, tokens: &'a [Lexeme]) -> Result<(Self, &'a [Lexeme]), ReadFault>
+        ensures { Gives (λ x. (x.0, x.1.now)) result (item from.entry.bytes.now tokens.now) };
+}
+
+/// As many as can be read, and no more than are asked for.
+fn at_most<'a, T: Listed>(
+    from: Source,
     most: usize,
-    tokens: &[Lexeme],
-) -> Result<(Items<T>, &[Lexeme]), ReadFault>
-    ensures { Gives (λ x. (x.0, x.1.now)) result (many T.begins T.item most tokens.now) }
+    tokens: &'a [Lexeme],
+) -> Result<(Items<T>, &'a [Lexeme]), ReadFault>
+    ensures { Gives (λ x. (x.0, x.1.now)) result (at_most (T.item from.entry.bytes.now) most tokens.now) }
 {
-    let mut items = Items::new(alloc);
+    let mut items = Items::new(from.alloc);
     let mut rest = tokens;
     for _ in 0..most {
-        if !T::begins(rest) {
-            return Ok((items, rest));
+        match T::read(from, rest) {
+            Ok((next, after)) => {
+                items.push(next)?;
+                rest = after;
+            }
+            Err(ReadFault::Syntax) => return Ok((items, rest)),
+            Err(ReadFault::Memory) => return Err(ReadFault::Memory),
         }
-        let (next, after) = T::read(alloc, rest)?;
-        items.push(next)?;
-        rest = after;
+    }
+    Ok((items, rest))
+}
+
+/// As many as stand there.
+pub(crate) fn each<'a, T: Listed>(
+    from: Source,
+    tokens: &'a [Lexeme],
+) -> Result<(Items<T>, &'a [Lexeme]), ReadFault>
+    ensures { Gives (λ x. (x.0, x.1.now)) result (each_at (T.item from.entry.bytes.now) tokens.now) }
+{
+    at_most(from, tokens.len(), tokens)
+}
+
+/// One or more.
+pub(crate) fn some<'a, T: Listed>(
+    from: Source,
+    tokens: &'a [Lexeme],
+) -> Result<(Items<T>, &'a [Lexeme]), ReadFault>
+    ensures { Gives (λ x. (x.0, x.1.now)) result (some_at (T.item from.entry.bytes.now) tokens.now) }
+{
+    let (items, rest) = each(from, tokens)?;
+    if items.is_empty() {
+        return Err(ReadFault::Syntax);
     }
     Ok((items, rest))
 }
 
 /// So many.
-pub(crate) fn exactly<T: Listed>(
-    alloc: Global,
+pub(crate) fn exactly<'a, T: Listed>(
+    from: Source,
     count: usize,
-    tokens: &[Lexeme],
-) -> Result<(Items<T>, &[Lexeme]), ReadFault>
-    ensures { Gives (λ x. (x.0, x.1.now)) result (exactly T.begins T.item count tokens.now) }
+    tokens: &'a [Lexeme],
+) -> Result<(Items<T>, &'a [Lexeme]), ReadFault>
+    ensures { Gives (λ x. (x.0, x.1.now)) result (exactly_at count (T.item from.entry.bytes.now) tokens.now) }
 {
-    let (items, rest) = many(alloc, count, tokens)?;
+    let (items, rest) = at_most(from, count, tokens)?;
     if items.len() != count {
         return Err(ReadFault::Syntax);
     }
@@ -67,22 +93,4 @@ pub(crate) fn alone<T: Drop>(read: T, rest: &[Lexeme]) -> Result<T, ReadFault>
         [] => Ok(read),
         _ => Err(ReadFault::Syntax),
     }
-}
-
-/// What was read, where there is one at least and nothing is left.
-fn some_alone<T: Drop>(items: Items<T>, rest: &[Lexeme]) -> Result<Items<T>, ReadFault>
-    ensures { Gives (λ x. x) result (some_alone items rest.now) }
-{
-    if items.is_empty() || !rest.is_empty() {
-        return Err(ReadFault::Syntax);
-    }
-    Ok(items)
-}
-
-/// One or more, to the end.
-pub(crate) fn all<T: Listed>(alloc: Global, tokens: &[Lexeme]) -> Result<Items<T>, ReadFault>
-    ensures { Gives (λ x. x) result (all_of T.begins T.item tokens.now) }
-{
-    let (items, rest) = many(alloc, tokens.len(), tokens)?;
-    some_alone(items, rest)
 }

@@ -2,7 +2,7 @@
 ghost use Rattle.std.specs.Prelude.{◌≡◌, [], ◌∷◌, ◌+◌, ◌<◌, ◌≤◌, length, IfOk, All};
 ghost use Rattle.std.specs.List.{prefix_len, list_all};
 ghost use Rattle.dd_values.specs.Bounds.{most_script};
-ghost use Rattle.dd_commands.specs.Heads.{stage, is_once, next_stage, head_of};
+ghost use Rattle.dd_commands.specs.Heads.{head_of};
 ghost use Rattle.dd_commands.specs.Scripts.{parts, is_whole, stage_of, stage_after, MayStand, IsWritten, Tells};
 ghost use Rattle.dd_commands.specs.reading.Parts.{is_inside, FindsIfAny, Told};
 
@@ -10,6 +10,7 @@ use crate::bodies::command;
 use crate::command::Command;
 use crate::fault::SyntaxFault;
 use crate::head::Head;
+use crate::listed::Source;
 use dd_values::Items;
 use dd_written::{Lexeme, Mark, ReadFault, Text, formula_is_read, lexemes};
 use std::alloc::Global;
@@ -52,60 +53,6 @@ fn next_part(tokens: &[Lexeme]) -> (&[Lexeme], &[Lexeme])
 {
     let after = tokens.split_at(1).1;
     after.split_at(part_length(after))
-}
-
-impl Head {
-    /// The place in the order of commands: each stands behind all of a lower place.
-    fn stage(self) -> u32
-        ensures value { result ≡ stage self }
-        ensures within { result ≤ 7 }
-    {
-        match self {
-            Head::Dimension => 0,
-            Head::Nodes => 1,
-            Head::Alphabet => 2,
-            Head::Topology => 3,
-            Head::Only => 4,
-            Head::Weights => 5,
-            Head::Limits => 6,
-            Head::Rule
-            | Head::Automaton
-            | Head::Composition
-            | Head::Configuration
-            | Head::Question(_) => 7,
-        }
-    }
-
-    /// Whether a script may give such a command only once.
-    fn is_once(self) -> bool
-        ensures { result ≡ is_once self }
-    {
-        match self {
-            Head::Dimension
-            | Head::Nodes
-            | Head::Alphabet
-            | Head::Topology
-            | Head::Weights
-            | Head::Limits => true,
-            Head::Only
-            | Head::Rule
-            | Head::Automaton
-            | Head::Composition
-            | Head::Configuration
-            | Head::Question(_) => false,
-        }
-    }
-
-    /// The first place at which a command may stand behind this one.
-    fn next_stage(self) -> u32
-        ensures { result ≡ next_stage self }
-    {
-        if self.is_once() {
-            self.stage() + 1
-        } else {
-            self.stage()
-        }
-    }
 }
 
 impl Command {
@@ -155,8 +102,8 @@ fn command_from(
     if !are_whole(part) {
         return Err(ReadFault::Syntax);
     }
-    let command = command(alloc, bytes, part)?;
-    if command.get().head().stage() < from {
+    let command = command(Source { alloc, bytes }, part)?;
+    if command.get().head().row().stage < from {
         return Err(ReadFault::Syntax);
     }
     let tokens = Items::from_slice(alloc, part)?;

@@ -3,24 +3,17 @@ ghost use Rattle.std.specs.Prelude.{◌≡◌};
 ghost use Rattle.dd_written.specs.reading.Atoms.{name_at};
 ghost use Rattle.dd_written.specs.reading.Readers.{Gives};
 ghost use Rattle.dd_commands.specs.Commands.{is_plain_entry, is_plain};
-ghost use Rattle.dd_commands.specs.reading.Vectors.{is_word, word_at, is_number, number_at, is_name, is_entry, entry_at, vector_end, is_vector, vector_at, plain_at, shear_at, edge_start, edge_end, is_edge, edge_at};
+ghost use Rattle.dd_commands.specs.reading.Vectors.{word_at, number_at, entry_at, vector_end, vector_at, plain, shear, edge_start, edge_end, edge_at};
 
 use crate::command::{Edge, Entry, Vector};
-use crate::listed::{Listed, many};
+use crate::listed::{Listed, Source, each};
 use dd_values::Items;
 use dd_written::{Lexeme, Mark, Name, Number, ReadFault, Word, read_name};
-use std::alloc::Global;
 
 impl Listed for Word {
-    ghost begins = { is_word };
+    ghost item = { λ bytes. word_at };
 
-    ghost item = { word_at };
-
-    fn begins(tokens: &[Lexeme]) -> bool {
-        matches!(tokens, [Lexeme::Word(_), ..])
-    }
-
-    fn read(_alloc: Global, tokens: &[Lexeme]) -> Result<(Word, &[Lexeme]), ReadFault> {
+    fn read<'a>(_from: Source, tokens: &'a [Lexeme]) -> Result<(Word, &'a [Lexeme]), ReadFault> {
         match tokens {
             [Lexeme::Word(word), rest @ ..] => Ok((*word, rest)),
             _ => Err(ReadFault::Syntax),
@@ -29,15 +22,9 @@ impl Listed for Word {
 }
 
 impl Listed for Number {
-    ghost begins = { is_number };
+    ghost item = { λ bytes. number_at };
 
-    ghost item = { number_at };
-
-    fn begins(tokens: &[Lexeme]) -> bool {
-        matches!(tokens, [Lexeme::Number(_), ..])
-    }
-
-    fn read(_alloc: Global, tokens: &[Lexeme]) -> Result<(Number, &[Lexeme]), ReadFault> {
+    fn read<'a>(_from: Source, tokens: &'a [Lexeme]) -> Result<(Number, &'a [Lexeme]), ReadFault> {
         match tokens {
             [Lexeme::Number(number), rest @ ..] => Ok((*number, rest)),
             _ => Err(ReadFault::Syntax),
@@ -46,29 +33,17 @@ impl Listed for Number {
 }
 
 impl Listed for Name {
-    ghost begins = { is_name };
+    ghost item = { λ bytes. name_at };
 
-    ghost item = { name_at };
-
-    fn begins(tokens: &[Lexeme]) -> bool {
-        matches!(tokens, [Lexeme::Word(_), ..] | [Lexeme::Number(_), ..])
-    }
-
-    fn read(_alloc: Global, tokens: &[Lexeme]) -> Result<(Name, &[Lexeme]), ReadFault> {
+    fn read<'a>(_from: Source, tokens: &'a [Lexeme]) -> Result<(Name, &'a [Lexeme]), ReadFault> {
         read_name(tokens)
     }
 }
 
 impl Listed for Entry {
-    ghost begins = { is_entry };
+    ghost item = { λ bytes. entry_at };
 
-    ghost item = { entry_at };
-
-    fn begins(tokens: &[Lexeme]) -> bool {
-        matches!(tokens, [Lexeme::Number(_), ..] | [Lexeme::Negative(_), ..])
-    }
-
-    fn read(_alloc: Global, tokens: &[Lexeme]) -> Result<(Entry, &[Lexeme]), ReadFault> {
+    fn read<'a>(_from: Source, tokens: &'a [Lexeme]) -> Result<(Entry, &'a [Lexeme]), ReadFault> {
         match tokens {
             [Lexeme::Number(number), rest @ ..] => Ok((Entry::Number(*number), rest)),
             [Lexeme::Negative(number), rest @ ..] => Ok((Entry::Negative(*number), rest)),
@@ -78,18 +53,12 @@ impl Listed for Entry {
 }
 
 impl Listed for Vector {
-    ghost begins = { is_vector };
+    ghost item = { λ bytes. vector_at };
 
-    ghost item = { vector_at };
-
-    fn begins(tokens: &[Lexeme]) -> bool {
-        matches!(tokens, [Lexeme::Mark(Mark::OpenList), ..])
-    }
-
-    fn read(alloc: Global, tokens: &[Lexeme]) -> Result<(Vector, &[Lexeme]), ReadFault> {
+    fn read<'a>(from: Source, tokens: &'a [Lexeme]) -> Result<(Vector, &'a [Lexeme]), ReadFault> {
         match tokens {
             [Lexeme::Mark(Mark::OpenList), rest @ ..] => {
-                let (entries, rest) = many(alloc, rest.len(), rest)?;
+                let (entries, rest) = each(from, rest)?;
                 vector_end(entries, rest)
             }
             _ => Err(ReadFault::Syntax),
@@ -98,22 +67,16 @@ impl Listed for Vector {
 }
 
 impl Listed for Edge {
-    ghost begins = { is_edge };
+    ghost item = { λ bytes. edge_at };
 
-    ghost item = { edge_at };
-
-    fn begins(tokens: &[Lexeme]) -> bool {
-        matches!(tokens, [Lexeme::Mark(Mark::Open), ..])
-    }
-
-    fn read(alloc: Global, tokens: &[Lexeme]) -> Result<(Edge, &[Lexeme]), ReadFault> {
+    fn read<'a>(from: Source, tokens: &'a [Lexeme]) -> Result<(Edge, &'a [Lexeme]), ReadFault> {
         let (label, rest) = edge_start(tokens)?;
-        let (from, rest) = read_name(rest)?;
-        let (offset, rest) = Vector::read(alloc, rest)?;
+        let (start, rest) = read_name(rest)?;
+        let (offset, rest) = Vector::read(from, rest)?;
         let (to, rest) = read_name(rest)?;
         let edge = Edge {
             label,
-            from,
+            from: start,
             offset,
             to,
         };
@@ -141,10 +104,13 @@ fn is_plain(vector: &Vector) -> bool
 }
 
 /// A vector without negative numbers.
-pub(crate) fn plain(alloc: Global, tokens: &[Lexeme]) -> Result<(Vector, &[Lexeme]), ReadFault>
-    ensures { Gives (λ x. (x.0, x.1.now)) result (plain_at tokens.now) }
+pub(crate) fn plain<'a>(
+    from: Source,
+    tokens: &'a [Lexeme],
+) -> Result<(Vector, &'a [Lexeme]), ReadFault>
+    ensures { Gives (λ x. (x.0, x.1.now)) result (plain.item tokens.now) }
 {
-    let (vector, rest) = Vector::read(alloc, tokens)?;
+    let (vector, rest) = Vector::read(from, tokens)?;
     if !is_plain(&vector) {
         return Err(ReadFault::Syntax);
     }
@@ -152,17 +118,17 @@ pub(crate) fn plain(alloc: Global, tokens: &[Lexeme]) -> Result<(Vector, &[Lexem
 }
 
 /// A vector without negative numbers, where one stands there.
-pub(crate) fn shear(
-    alloc: Global,
-    tokens: &[Lexeme],
-) -> Result<(Option<Vector>, &[Lexeme]), ReadFault>
-    ensures { Gives (λ x. (x.0, x.1.now)) result (shear_at tokens.now) }
+pub(crate) fn shear<'a>(
+    from: Source,
+    tokens: &'a [Lexeme],
+) -> Result<(Option<Vector>, &'a [Lexeme]), ReadFault>
+    ensures { Gives (λ x. (x.0, x.1.now)) result (shear.item tokens.now) }
 {
-    if !Vector::begins(tokens) {
-        return Ok((None, tokens));
+    match plain(from, tokens) {
+        Ok((shear, rest)) => Ok((Some(shear), rest)),
+        Err(ReadFault::Syntax) => Ok((None, tokens)),
+        Err(ReadFault::Memory) => Err(ReadFault::Memory),
     }
-    let (shear, rest) = plain(alloc, tokens)?;
-    Ok((Some(shear), rest))
 }
 
 fn edge_start(tokens: &[Lexeme]) -> Result<(Word, &[Lexeme]), ReadFault>

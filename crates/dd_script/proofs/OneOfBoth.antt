@@ -11,7 +11,7 @@ use Rattle.dd_commands.specs.declared.script.Syntax.{Syntax}
 use Rattle.dd_commands.specs.Heads.{head_of, stage}
 use Rattle.dd_commands.specs.Scripts.{parts, is_whole, stage_after, MayStand, AreCommands, IsFirstBad, IsScript, IsSyntaxFault}
 use Rattle.dd_commands.specs.reading.Commands.{command_of}
-use Rattle.dd_commands.specs.lemmas.CommandComplete.{command_again}
+use Rattle.dd_commands.specs.lemmas.Commands.{command_again}
 use Rattle.dd_commands.specs.lemmas.Whole.{may_stand, too_early, not_whole}
 
 abbrev CommandOrNone : List ℕ → ℕ → List Lexeme → Type 0

@@ -14,8 +14,7 @@ use Rattle.dd_commands.specs.Scripts.{is_whole, stage_of, MayStand}
 use Rattle.dd_commands.specs.reading.Commands.{command_of}
 use Rattle.dd_commands.specs.reading.Parts.{FindsIfAny}
 use Rattle.dd_written.specs.lemmas.Options.{some_is}
-use Rattle.dd_commands.specs.lemmas.CommandSound.{command_sound}
-use Rattle.dd_commands.specs.lemmas.CommandComplete.{command_again}
+use Rattle.dd_commands.specs.lemmas.Commands.{command_sound, command_again}
 
 none_some : {X : Type 0} (read : Option X) (x : X) → read ≡ None → read ≡ Some x → ⊥
 none_some None x e f = absurd cc

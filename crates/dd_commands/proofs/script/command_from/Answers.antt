@@ -16,13 +16,13 @@ returns-in_err-command c =
     let p = err_from_is_err_and c.from_residual.result c.from_residual.ensures.1 in
     rw (p.1, p.2) (fails_decides c.formula_is_read.ensures c.args.bytes.now c.args.from c.args.part.now c.in_err-command.field-0.0 c.in_err-command.ensures)
 
-pub returns-then-stage-from : goal.returns-then-stage-from
-returns-then-stage-from c =
+pub returns-then-row-from : goal.returns-then-row-from
+returns-then-row-from c =
     too_early c.formula_is_read.ensures c.args.bytes.now c.args.from c.args.part.now c.in_ok-command.command c.in_ok-command.ensures
-    (omega (arith, c.if-stage-from.true, c.stage.ensures.value, ap stage (c.head.ensures ∙ ap head_of c.get.ensures)))
+    (omega (arith, c.if-row-from.true, c.row.ensures.stage, ap stage (c.head.ensures ∙ ap head_of c.get.ensures)))
 
 pub returns : goal.returns
 returns c =
     let all : list_all is_whole c.args.part.now ≡ true = search (rules, c.are_whole.ensures, c.if-not-are_whole.ensures) in
     rw c.into_inner-command.ensures (may_stand c.formula_is_read.ensures c.args.bytes.now c.args.from c.args.part.now c.in_ok-command.command c.in_ok-tokens.tokens c.in_ok-tokens.ensures all c.in_ok-command.ensures
-    (omega (arith, c.if-stage-from.false, c.stage.ensures.value, ap stage (c.head.ensures ∙ ap head_of c.get.ensures))))
+    (omega (arith, c.if-row-from.false, c.row.ensures.stage, ap stage (c.head.ensures ∙ ap head_of c.get.ensures))))
