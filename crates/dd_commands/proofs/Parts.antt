@@ -15,20 +15,14 @@ use Rattle.dd_commands.specs.reading.Parts.{is_inside, FindsIfAny}
 one_more : (n : ℕ) → 1 + n ≡ suc n
 one_more n = omega arith
 
-pub head_is : (tokens : List Lexeme) → (parts tokens).0 ≡ take (prefix_len is_inside tokens) tokens
-head_is [] = refl
-head_is (lexeme.Mark mark.Percent ∷ tokens) = refl
-head_is (t ∷ tokens) = ap (λ (ts : List Lexeme). t ∷ ts) (head_is tokens) ∙ sym (ap (λ n. take n (t ∷ tokens)) (one_more (prefix_len is_inside tokens)))
-
-pub tail_is : (tokens : List Lexeme) → (parts tokens).1 ≡ (parts (drop (prefix_len is_inside tokens) tokens)).1
-tail_is [] = refl
-tail_is (lexeme.Mark mark.Percent ∷ tokens) = refl
-tail_is (t ∷ tokens) = tail_is tokens ∙ sym (ap (λ n. (parts (drop n (t ∷ tokens))).1) (one_more (prefix_len is_inside tokens)))
-
-pub at_mark : (tokens : List Lexeme) → (parts (drop (prefix_len is_inside tokens) tokens)).0 ≡ []
-at_mark [] = refl
-at_mark (lexeme.Mark mark.Percent ∷ tokens) = refl
-at_mark (t ∷ tokens) = ap (λ n. (parts (drop n (t ∷ tokens))).0) (one_more (prefix_len is_inside tokens)) ∙ at_mark tokens
+-- what stands before the first mark, the parts behind it, and that these begin at a mark
+pub cut : (tokens : List Lexeme) → let n = prefix_len is_inside tokens in
+    ((parts tokens).0 ≡ take n tokens) × ((parts tokens).1 ≡ (parts (drop n tokens)).1) × ((parts (drop n tokens)).0 ≡ [])
+cut [] = (refl, refl, refl)
+cut (lexeme.Mark mark.Percent ∷ tokens) = (refl, refl, refl)
+cut (t ∷ tokens) =
+    let rest = cut tokens in
+    rw (one_more (prefix_len is_inside tokens)) (ap (λ (ts : List Lexeme). t ∷ ts) rest.0, rest.1, rest.2)
 
 pub behind_mark : (tokens : List Lexeme) → 0 < length tokens → (parts tokens).0 ≡ [] → (parts tokens).1 ≡ (parts (drop 1 tokens)).0 ∷ (parts (drop 1 tokens)).1
 behind_mark [] some none = absurd (omega (arith, some))
@@ -75,7 +69,7 @@ all_read bytes tokens (t ∷ rest) cs number from s none = absurd (omega (arith,
 pub nothing_before : (tokens : List Lexeme) → prefix_len is_inside tokens ≤ 0 → (parts tokens).0 ≡ []
 nothing_before tokens le =
     let none : prefix_len is_inside tokens ≡ 0 = omega (arith, le) in
-    head_is tokens ∙ ap (λ n. take n tokens) none
+    (cut tokens).0 ∙ ap (λ n. take n tokens) none
 
 pub something_before : (tokens : List Lexeme) → 0 < prefix_len is_inside tokens → (parts tokens).0 ≡ [] → ⊥
 something_before [] lt none = omega (arith, lt)

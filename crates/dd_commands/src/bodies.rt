@@ -7,19 +7,18 @@ ghost use Rattle.dd_commands.specs.reading.Commands.{case, topology, body, comma
 
 use crate::command::{Case, Command};
 use crate::head::Head;
-use crate::listed::{Listed, Source, alone, each, some};
+use crate::keywords::behind;
+use crate::listed::{Listed, Read, Source, alone, each, some};
 use crate::requests::query;
 use crate::vectors::{plain, shear};
 use dd_topology::Kind;
 use dd_values::Boxed;
-use dd_written::{
-    Formula, Lexeme, Name, Number, ReadFault, Word, behind_word, read_formula, read_name,
-};
+use dd_written::{Formula, Lexeme, Name, Number, ReadFault, Word, read_formula, read_name};
 
 impl Listed for Formula {
     ghost item = { λ bytes. formula_at };
 
-    fn read<'a>(from: Source, tokens: &'a [Lexeme]) -> Result<(Formula, &'a [Lexeme]), ReadFault> {
+    fn read<'a>(from: Source, tokens: &'a [Lexeme]) -> Read<'a, Formula> {
         read_formula(from.alloc, tokens)
     }
 }
@@ -27,16 +26,16 @@ impl Listed for Formula {
 impl Listed for Case {
     ghost item = { λ bytes. (case bytes).item };
 
-    fn read<'a>(from: Source, tokens: &'a [Lexeme]) -> Result<(Case, &'a [Lexeme]), ReadFault> {
-        let rest = behind_word(from.bytes, b"when", tokens)?;
+    fn read<'a>(from: Source, tokens: &'a [Lexeme]) -> Read<'a, Case> {
+        let rest = behind(from, b"when", tokens)?;
         let (condition, rest) = Formula::read(from, rest)?;
-        let rest = behind_word(from.bytes, b"give", rest)?;
+        let rest = behind(from, b"give", rest)?;
         let (symbol, rest) = read_name(rest)?;
         Ok((Case { condition, symbol }, rest))
     }
 }
 
-fn topology<'a>(from: Source, tokens: &'a [Lexeme]) -> Result<(Command, &'a [Lexeme]), ReadFault>
+fn topology<'a>(from: Source, tokens: &'a [Lexeme]) -> Read<'a, Command>
     ensures { Gives (λ x. (x.0, x.1.now)) result ((topology from.entry.bytes.now tokens.now).item tokens.now) }
 {
     match tokens {
@@ -51,7 +50,7 @@ fn topology<'a>(from: Source, tokens: &'a [Lexeme]) -> Result<(Command, &'a [Lex
     }
 }
 
-fn only<'a>(from: Source, tokens: &'a [Lexeme]) -> Result<(Command, &'a [Lexeme]), ReadFault>
+fn only<'a>(from: Source, tokens: &'a [Lexeme]) -> Read<'a, Command>
     ensures { Gives (λ x. (x.0, x.1.now)) result ((body from.entry.bytes.now head.Only tokens.now).item tokens.now) }
 {
     let (node, rest) = read_name(tokens)?;
@@ -59,7 +58,7 @@ fn only<'a>(from: Source, tokens: &'a [Lexeme]) -> Result<(Command, &'a [Lexeme]
     Ok((Command::Only { node, symbols }, rest))
 }
 
-fn limits<'a>(from: Source, tokens: &'a [Lexeme]) -> Result<(Command, &'a [Lexeme]), ReadFault>
+fn limits<'a>(from: Source, tokens: &'a [Lexeme]) -> Read<'a, Command>
     ensures { Gives (λ x. (x.0, x.1.now)) result ((body from.entry.bytes.now head.Limits tokens.now).item tokens.now) }
 {
     let (radius, rest) = Number::read(from, tokens)?;
@@ -73,7 +72,7 @@ fn limits<'a>(from: Source, tokens: &'a [Lexeme]) -> Result<(Command, &'a [Lexem
     Ok((limits, rest))
 }
 
-fn rule<'a>(from: Source, tokens: &'a [Lexeme]) -> Result<(Command, &'a [Lexeme]), ReadFault>
+fn rule<'a>(from: Source, tokens: &'a [Lexeme]) -> Read<'a, Command>
     ensures { Gives (λ x. (x.0, x.1.now)) result ((body from.entry.bytes.now head.Rule tokens.now).item tokens.now) }
 {
     let (name, rest) = Word::read(from, tokens)?;
@@ -81,12 +80,12 @@ fn rule<'a>(from: Source, tokens: &'a [Lexeme]) -> Result<(Command, &'a [Lexeme]
     Ok((Command::Rule { name, formula }, rest))
 }
 
-fn automaton<'a>(from: Source, tokens: &'a [Lexeme]) -> Result<(Command, &'a [Lexeme]), ReadFault>
+fn automaton<'a>(from: Source, tokens: &'a [Lexeme]) -> Read<'a, Command>
     ensures { Gives (λ x. (x.0, x.1.now)) result ((body from.entry.bytes.now head.Automaton tokens.now).item tokens.now) }
 {
     let (name, rest) = Word::read(from, tokens)?;
     let (cases, rest) = each(from, rest)?;
-    let rest = behind_word(from.bytes, b"else", rest)?;
+    let rest = behind(from, b"else", rest)?;
     let (default, rest) = read_name(rest)?;
     let automaton = Command::Automaton {
         name,
@@ -96,7 +95,7 @@ fn automaton<'a>(from: Source, tokens: &'a [Lexeme]) -> Result<(Command, &'a [Le
     Ok((automaton, rest))
 }
 
-fn composition<'a>(from: Source, tokens: &'a [Lexeme]) -> Result<(Command, &'a [Lexeme]), ReadFault>
+fn composition<'a>(from: Source, tokens: &'a [Lexeme]) -> Read<'a, Command>
     ensures { Gives (λ x. (x.0, x.1.now)) result ((body from.entry.bytes.now head.Composition tokens.now).item tokens.now) }
 {
     let (name, rest) = Word::read(from, tokens)?;
@@ -105,10 +104,7 @@ fn composition<'a>(from: Source, tokens: &'a [Lexeme]) -> Result<(Command, &'a [
     Ok((Command::Composition { name, outer, inner }, rest))
 }
 
-fn configuration<'a>(
-    from: Source,
-    tokens: &'a [Lexeme],
-) -> Result<(Command, &'a [Lexeme]), ReadFault>
+fn configuration<'a>(from: Source, tokens: &'a [Lexeme]) -> Read<'a, Command>
     ensures { Gives (λ x. (x.0, x.1.now)) result ((body from.entry.bytes.now head.Configuration tokens.now).item tokens.now) }
 {
     let (name, rest) = Word::read(from, tokens)?;
@@ -125,11 +121,7 @@ fn configuration<'a>(
 }
 
 /// What stands behind the first word of a command.
-fn body<'a>(
-    from: Source,
-    head: Head,
-    tokens: &'a [Lexeme],
-) -> Result<(Command, &'a [Lexeme]), ReadFault>
+fn body<'a>(from: Source, head: Head, tokens: &'a [Lexeme]) -> Read<'a, Command>
     ensures { Gives (λ x. (x.0, x.1.now)) result ((body from.entry.bytes.now head tokens.now).item tokens.now) }
 {
     match head {

@@ -2,10 +2,10 @@
 ghost use Rattle.std.specs.Prelude.{◌≡◌, ◌≤◌};
 ghost use Rattle.dd_written.specs.reading.Readers.{Gives};
 ghost use Rattle.dd_commands.specs.Heads.{head_row, head_text, next_stage, kind_text};
-ghost use Rattle.dd_commands.specs.reading.Commands.{one_of, keyword, heads, kinds};
+ghost use Rattle.dd_commands.specs.reading.Commands.{one_of, keyword, heads, kinds, wanted};
 
 use crate::head::Head;
-use crate::listed::{Listed, Source};
+use crate::listed::{Listed, Read, Source};
 use crate::table::Question;
 use dd_topology::Kind;
 use dd_written::{Lexeme, ReadFault, Word, same_bytes, word_bytes};
@@ -74,7 +74,7 @@ fn head(written: &[u8]) -> Option<Head>
 impl Listed for Head {
     ghost item = { λ bytes. (keyword head_text heads bytes).item };
 
-    fn read<'a>(from: Source, tokens: &'a [Lexeme]) -> Result<(Head, &'a [Lexeme]), ReadFault> {
+    fn read<'a>(from: Source, tokens: &'a [Lexeme]) -> Read<'a, Head> {
         let (word, rest) = Word::read(from, tokens)?;
         match head(word_bytes(from.bytes, word)) {
             Some(head) => Ok((head, rest)),
@@ -109,13 +109,28 @@ fn kind(written: &[u8]) -> Option<Kind>
 impl Listed for Kind {
     ghost item = { λ bytes. (keyword kind_text kinds bytes).item };
 
-    fn read<'a>(from: Source, tokens: &'a [Lexeme]) -> Result<(Kind, &'a [Lexeme]), ReadFault> {
+    fn read<'a>(from: Source, tokens: &'a [Lexeme]) -> Read<'a, Kind> {
         let (word, rest) = Word::read(from, tokens)?;
         match kind(word_bytes(from.bytes, word)) {
             Some(kind) => Ok((kind, rest)),
             None => Err(ReadFault::Syntax),
         }
     }
+}
+
+/// The tokens behind a word that is wanted.
+pub(crate) fn behind<'a>(
+    from: Source,
+    text: &[u8],
+    tokens: &'a [Lexeme],
+) -> Result<&'a [Lexeme], ReadFault>
+    ensures { Gives (λ x. (tt, x.now)) result ((wanted from.entry.bytes.now text.now).item tokens.now) }
+{
+    let (word, rest) = Word::read(from, tokens)?;
+    if !same_bytes(word_bytes(from.bytes, word), text) {
+        return Err(ReadFault::Syntax);
+    }
+    Ok(rest)
 }
 
 const HEADS: [Head; 19] = [

@@ -14,21 +14,19 @@ pub(crate) struct Source<'a> {
     pub(crate) bytes: &'a [u8],
 }
 
+/// What was read, and the tokens behind it.
+pub(crate) type Read<'a, T> = Result<(T, &'a [Lexeme]), ReadFault>;
+
 /// What can be read from the front of tokens.
 pub(crate) trait Listed: Drop {
     ghost item: { List ℕ → Reader Self };
 
-    /// The first, and the tokens behind it.
-    fn read<'a>(from: Source, tokens: &'a [Lexeme]) -> Result<(Self, &'a [Lexeme]), ReadFault>
+    fn read<'a>(from: Source, tokens: &'a [Lexeme]) -> Read<'a, Self>
         ensures { Gives (λ x. (x.0, x.1.now)) result (item from.entry.bytes.now tokens.now) };
 }
 
 /// As many as can be read, and no more than are asked for.
-fn at_most<'a, T: Listed>(
-    from: Source,
-    most: usize,
-    tokens: &'a [Lexeme],
-) -> Result<(Items<T>, &'a [Lexeme]), ReadFault>
+fn at_most<'a, T: Listed>(from: Source, most: usize, tokens: &'a [Lexeme]) -> Read<'a, Items<T>>
     ensures { Gives (λ x. (x.0, x.1.now)) result (at_most (T.item from.entry.bytes.now) most tokens.now) }
 {
     let mut items = Items::new(from.alloc);
@@ -47,20 +45,14 @@ fn at_most<'a, T: Listed>(
 }
 
 /// As many as stand there.
-pub(crate) fn each<'a, T: Listed>(
-    from: Source,
-    tokens: &'a [Lexeme],
-) -> Result<(Items<T>, &'a [Lexeme]), ReadFault>
+pub(crate) fn each<'a, T: Listed>(from: Source, tokens: &'a [Lexeme]) -> Read<'a, Items<T>>
     ensures { Gives (λ x. (x.0, x.1.now)) result (each_at (T.item from.entry.bytes.now) tokens.now) }
 {
     at_most(from, tokens.len(), tokens)
 }
 
 /// One or more.
-pub(crate) fn some<'a, T: Listed>(
-    from: Source,
-    tokens: &'a [Lexeme],
-) -> Result<(Items<T>, &'a [Lexeme]), ReadFault>
+pub(crate) fn some<'a, T: Listed>(from: Source, tokens: &'a [Lexeme]) -> Read<'a, Items<T>>
     ensures { Gives (λ x. (x.0, x.1.now)) result (some_at (T.item from.entry.bytes.now) tokens.now) }
 {
     let (items, rest) = each(from, tokens)?;
@@ -75,7 +67,7 @@ pub(crate) fn exactly<'a, T: Listed>(
     from: Source,
     count: usize,
     tokens: &'a [Lexeme],
-) -> Result<(Items<T>, &'a [Lexeme]), ReadFault>
+) -> Read<'a, Items<T>>
     ensures { Gives (λ x. (x.0, x.1.now)) result (exactly_at count (T.item from.entry.bytes.now) tokens.now) }
 {
     let (items, rest) = at_most(from, count, tokens)?;

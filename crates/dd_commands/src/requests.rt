@@ -5,18 +5,14 @@ ghost use Rattle.dd_commands.specs.declared.head.Head.TheVariants as head;
 ghost use Rattle.dd_commands.specs.reading.Commands.{listed, body};
 
 use crate::command::{Command, Request, Vector};
-use crate::listed::{Source, exactly, some};
+use crate::listed::{Read, Source, exactly, some};
 use crate::table::{Lists, Question};
 use crate::vectors::plain;
 use dd_values::Items;
 use dd_written::{Lexeme, ReadFault};
 
 /// The vectors at the end of a question.
-fn lists<'a>(
-    from: Source,
-    lists: Lists,
-    tokens: &'a [Lexeme],
-) -> Result<(Items<Vector>, &'a [Lexeme]), ReadFault>
+fn lists<'a>(from: Source, lists: Lists, tokens: &'a [Lexeme]) -> Read<'a, Items<Vector>>
     ensures { Gives (λ x. (x.0, x.1.now)) result ((listed lists).item tokens.now) }
 {
     match lists {
@@ -32,11 +28,7 @@ fn lists<'a>(
 }
 
 /// What stands behind the first word of a question.
-pub(crate) fn query<'a>(
-    from: Source,
-    question: Question,
-    tokens: &'a [Lexeme],
-) -> Result<(Command, &'a [Lexeme]), ReadFault>
+pub(crate) fn query<'a>(from: Source, question: Question, tokens: &'a [Lexeme]) -> Read<'a, Command>
     ensures { Gives (λ x. (x.0, x.1.now)) result ((body from.entry.bytes.now (head.Question question) tokens.now).item tokens.now) }
 {
     let row = question.row();

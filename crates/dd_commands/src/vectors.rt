@@ -3,17 +3,17 @@ ghost use Rattle.std.specs.Prelude.{◌≡◌};
 ghost use Rattle.dd_written.specs.reading.Atoms.{name_at};
 ghost use Rattle.dd_written.specs.reading.Readers.{Gives};
 ghost use Rattle.dd_commands.specs.Commands.{is_plain_entry, is_plain};
-ghost use Rattle.dd_commands.specs.reading.Vectors.{word_at, number_at, entry_at, vector_end, vector_at, plain, shear, edge_start, edge_end, edge_at};
+ghost use Rattle.dd_commands.specs.reading.Vectors.{word_at, number_at, entry_at, vector_at, plain, shear, edge_start, edge_at};
 
 use crate::command::{Edge, Entry, Vector};
-use crate::listed::{Listed, Source, each};
+use crate::listed::{Listed, Read, Source, each};
 use dd_values::Items;
 use dd_written::{Lexeme, Mark, Name, Number, ReadFault, Word, read_name};
 
 impl Listed for Word {
     ghost item = { λ bytes. word_at };
 
-    fn read<'a>(_from: Source, tokens: &'a [Lexeme]) -> Result<(Word, &'a [Lexeme]), ReadFault> {
+    fn read<'a>(_from: Source, tokens: &'a [Lexeme]) -> Read<'a, Word> {
         match tokens {
             [Lexeme::Word(word), rest @ ..] => Ok((*word, rest)),
             _ => Err(ReadFault::Syntax),
@@ -24,7 +24,7 @@ impl Listed for Word {
 impl Listed for Number {
     ghost item = { λ bytes. number_at };
 
-    fn read<'a>(_from: Source, tokens: &'a [Lexeme]) -> Result<(Number, &'a [Lexeme]), ReadFault> {
+    fn read<'a>(_from: Source, tokens: &'a [Lexeme]) -> Read<'a, Number> {
         match tokens {
             [Lexeme::Number(number), rest @ ..] => Ok((*number, rest)),
             _ => Err(ReadFault::Syntax),
@@ -35,7 +35,7 @@ impl Listed for Number {
 impl Listed for Name {
     ghost item = { λ bytes. name_at };
 
-    fn read<'a>(_from: Source, tokens: &'a [Lexeme]) -> Result<(Name, &'a [Lexeme]), ReadFault> {
+    fn read<'a>(_from: Source, tokens: &'a [Lexeme]) -> Read<'a, Name> {
         read_name(tokens)
     }
 }
@@ -43,7 +43,7 @@ impl Listed for Name {
 impl Listed for Entry {
     ghost item = { λ bytes. entry_at };
 
-    fn read<'a>(_from: Source, tokens: &'a [Lexeme]) -> Result<(Entry, &'a [Lexeme]), ReadFault> {
+    fn read<'a>(_from: Source, tokens: &'a [Lexeme]) -> Read<'a, Entry> {
         match tokens {
             [Lexeme::Number(number), rest @ ..] => Ok((Entry::Number(*number), rest)),
             [Lexeme::Negative(number), rest @ ..] => Ok((Entry::Negative(*number), rest)),
@@ -55,11 +55,14 @@ impl Listed for Entry {
 impl Listed for Vector {
     ghost item = { λ bytes. vector_at };
 
-    fn read<'a>(from: Source, tokens: &'a [Lexeme]) -> Result<(Vector, &'a [Lexeme]), ReadFault> {
+    fn read<'a>(from: Source, tokens: &'a [Lexeme]) -> Read<'a, Vector> {
         match tokens {
             [Lexeme::Mark(Mark::OpenList), rest @ ..] => {
                 let (entries, rest) = each(from, rest)?;
-                vector_end(entries, rest)
+                match rest {
+                    [Lexeme::Mark(Mark::CloseList), rest @ ..] => Ok((Vector { entries }, rest)),
+                    _ => Err(ReadFault::Syntax),
+                }
             }
             _ => Err(ReadFault::Syntax),
         }
@@ -69,7 +72,7 @@ impl Listed for Vector {
 impl Listed for Edge {
     ghost item = { λ bytes. edge_at };
 
-    fn read<'a>(from: Source, tokens: &'a [Lexeme]) -> Result<(Edge, &'a [Lexeme]), ReadFault> {
+    fn read<'a>(from: Source, tokens: &'a [Lexeme]) -> Read<'a, Edge> {
         let (label, rest) = edge_start(tokens)?;
         let (start, rest) = read_name(rest)?;
         let (offset, rest) = Vector::read(from, rest)?;
@@ -80,16 +83,10 @@ impl Listed for Edge {
             offset,
             to,
         };
-        edge_end(edge, rest)
-    }
-}
-
-fn vector_end(entries: Items<Entry>, tokens: &[Lexeme]) -> Result<(Vector, &[Lexeme]), ReadFault>
-    ensures { Gives (λ x. (x.0, x.1.now)) result (vector_end entries tokens.now) }
-{
-    match tokens {
-        [Lexeme::Mark(Mark::CloseList), rest @ ..] => Ok((Vector { entries }, rest)),
-        _ => Err(ReadFault::Syntax),
+        match rest {
+            [Lexeme::Mark(Mark::Close), rest @ ..] => Ok((edge, rest)),
+            _ => Err(ReadFault::Syntax),
+        }
     }
 }
 
@@ -104,10 +101,7 @@ fn is_plain(vector: &Vector) -> bool
 }
 
 /// A vector without negative numbers.
-pub(crate) fn plain<'a>(
-    from: Source,
-    tokens: &'a [Lexeme],
-) -> Result<(Vector, &'a [Lexeme]), ReadFault>
+pub(crate) fn plain<'a>(from: Source, tokens: &'a [Lexeme]) -> Read<'a, Vector>
     ensures { Gives (λ x. (x.0, x.1.now)) result (plain.item tokens.now) }
 {
     let (vector, rest) = Vector::read(from, tokens)?;
@@ -118,10 +112,7 @@ pub(crate) fn plain<'a>(
 }
 
 /// A vector without negative numbers, where one stands there.
-pub(crate) fn shear<'a>(
-    from: Source,
-    tokens: &'a [Lexeme],
-) -> Result<(Option<Vector>, &'a [Lexeme]), ReadFault>
+pub(crate) fn shear<'a>(from: Source, tokens: &'a [Lexeme]) -> Read<'a, Option<Vector>>
     ensures { Gives (λ x. (x.0, x.1.now)) result (shear.item tokens.now) }
 {
     match plain(from, tokens) {
@@ -136,15 +127,6 @@ fn edge_start(tokens: &[Lexeme]) -> Result<(Word, &[Lexeme]), ReadFault>
 {
     match tokens {
         [Lexeme::Mark(Mark::Open), Lexeme::Word(label), rest @ ..] => Ok((*label, rest)),
-        _ => Err(ReadFault::Syntax),
-    }
-}
-
-fn edge_end(edge: Edge, tokens: &[Lexeme]) -> Result<(Edge, &[Lexeme]), ReadFault>
-    ensures { Gives (λ x. (x.0, x.1.now)) result (edge_end edge tokens.now) }
-{
-    match tokens {
-        [Lexeme::Mark(Mark::Close), rest @ ..] => Ok((edge, rest)),
         _ => Err(ReadFault::Syntax),
     }
 }

@@ -22,7 +22,6 @@ use Rattle.dd_commands.specs.declared.head.Head.TheVariants as head
 use Rattle.dd_written.specs.Values.{word_text}
 use Rattle.dd_written.specs.Formulas.{text, name_lexeme}
 use Rattle.dd_written.specs.reading.Readers.{◌>>=◌, ReadsAll}
-use Rattle.dd_written.specs.reading.Words.{behind_word}
 use Rattle.dd_written.specs.reading.Formulas.{formula_at, ends}
 use Rattle.dd_written.specs.reading.Laws.{FormulasAreRead}
 use Rattle.dd_written.specs.lemmas.Options.{bind_some, some_is, nothing_some, chosen}
@@ -37,23 +36,6 @@ use Rattle.dd_commands.specs.lemmas.Forms.{Reads, alone_is, made_reads, then_rea
 use Rattle.dd_commands.specs.lemmas.Items.{word_reads, number_reads, name_reads, vector_reads, plain_reads, shear_reads, edge_reads}
 
 -- ---- words by their text
-
-behind_sound : (bytes text : List ℕ) (tokens rest : List Lexeme) → behind_word bytes text tokens ≡ Some rest → IsBehind bytes text tokens rest
-behind_sound bytes text (lexeme.Word w ∷ tokens) rest e =
-    elim (chosen (bytes_eq (word_text bytes w) text) (Some tokens) None (Some rest) e) [
-      | inl same ↦ (w, (bytes_eq-Decides (word_text bytes w) text).0 same.0, ap (λ (ts : List Lexeme). lexeme.Word w ∷ ts) (some_is _ _ same.1))
-      | inr other ↦ absurd (nothing_some rest other.1)
-    ]
-behind_sound bytes text tokens rest e = absurd cc
-
-wanted_reads : (bytes text : List ℕ) → Reads (wanted bytes text)
-wanted_reads bytes text = record {
-  written = λ tokens x rest e.
-      let b = bind_some (behind_word bytes text tokens) (λ ts. Some (tt, ts)) (x, rest) e in
-      subst (λ (y : Unit {0} × List Lexeme). IsBehind bytes text tokens y.1) (some_is _ _ b.2) (behind_sound bytes text tokens b.0 b.1);
-  read = λ x tokens rest is any. rw (is.2, (bytes_eq-Decides (word_text bytes is.0) text).1 is.1) refl;
-  last = tt;
-}
 
 module _ {X : Type 0} (text_of : X → List ℕ) where
   found : (written : List ℕ) (xs : List X) (x : X) → one_of text_of xs written ≡ Some x → written ≡ text_of x
@@ -74,6 +56,9 @@ module _ {X : Type 0} (text_of : X → List ℕ) where
     read = λ x tokens rest is any. rw (is.2, is.1, first x) refl;
     last = tt;
   }
+
+wanted_reads : (bytes spelt : List ℕ) → Reads (wanted bytes spelt)
+wanted_reads bytes spelt = keyword_reads {X = Unit {0}} (λ x. spelt) (tt ∷ []) (λ x. rw ((bytes_eq-Decides spelt spelt).1 refl) refl) bytes
 
 -- no command begins with the word of another
 head_first : (h : Head) → one_of head_text heads (head_text h) ≡ Some h

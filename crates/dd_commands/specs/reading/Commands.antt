@@ -18,7 +18,6 @@ use Rattle.dd_commands.specs.declared.head.Head.TheVariants as head
 use Rattle.dd_written.specs.Values.{word_text}
 use Rattle.dd_written.specs.Formulas.{text, IsWrittenFormula}
 use Rattle.dd_written.specs.reading.Readers.{◌>>=◌, Reader}
-use Rattle.dd_written.specs.reading.Words.{behind_word}
 use Rattle.dd_written.specs.reading.Formulas.{formula_at, ends}
 use Rattle.dd_commands.specs.Table.{row}
 use Rattle.dd_commands.specs.Heads.{head_text, kind_text}
@@ -51,11 +50,7 @@ kinds = kind.Line ∷ kind.Square ∷ kind.King ∷ kind.Triangle ∷ kind.Hex �
 
 -- a word that is wanted
 abbrev pub wanted : List ℕ → List ℕ → Form (Unit {0})
-wanted bytes word_is = record {
-  writes = λ x tokens rest. IsBehind bytes word_is tokens rest;
-  ends = λ rest. Unit {0};
-  item = λ tokens. behind_word bytes word_is tokens >>= λ ts. Some (tt, ts);
-}
+wanted bytes text_is = keyword {X = Unit {0}} (λ x. text_is) (tt ∷ []) bytes
 
 -- ---- formulas, cases and lists
 
