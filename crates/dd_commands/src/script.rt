@@ -29,18 +29,15 @@ pub struct Syntax {
     pub commands: Items<Written>,
 }
 
-fn is_inside(token: Lexeme) -> bool
-    ensures { result ≡ is_inside token }
-{
-    !matches!(token, Lexeme::Mark(Mark::Percent))
-}
-
 /// How many tokens stand before the next mark of a command.
 fn part_length(tokens: &[Lexeme]) -> usize
     ensures value { result ≡ prefix_len is_inside tokens.now }
     ensures within { result ≤ length tokens.now }
 {
-    tokens.iter().take_while(|token| is_inside(**token)).count()
+    tokens
+        .iter()
+        .take_while(|token| !matches!(token, Lexeme::Mark(Mark::Percent)))
+        .count()
 }
 
 /// The part behind a mark, and what follows it.
@@ -76,17 +73,11 @@ impl Command {
     }
 }
 
-/// Whether a token is one, and no byte that belongs to none.
-fn is_whole(token: Lexeme) -> bool
-    ensures { result ≡ is_whole token }
-{
-    !matches!(token, Lexeme::Stray)
-}
-
+/// Whether each token is one, and no byte that belongs to none.
 fn are_whole(part: &[Lexeme]) -> bool
     ensures { result ≡ list_all is_whole part.now }
 {
-    part.iter().all(|token| is_whole(*token))
+    part.iter().all(|token| !matches!(token, Lexeme::Stray))
 }
 
 /// A command that may stand at this place or a later one.

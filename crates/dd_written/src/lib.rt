@@ -18,4 +18,4 @@ pub use lexeme::{Lexeme, Mark, Number, Word};
 pub use lexing::lexemes;
 pub use text::{Text, name_text, number_value};
 pub use tree::{Atom, Ball, Comparand, Formula, Join, Name, Quantifier, Term};
-pub use words::{behind_word, same_bytes, starts_word, word_bytes};
+pub use words::{same_bytes, word_bytes};

@@ -1,5 +1,5 @@
 -- A part is read exactly where it is a command that may stand there.
-use Rattle.std.proofs.Common.{◌≡◌, ℕ, ◌≤◌, ◌<◌, Bool, true, false, List, Option, Some, None, sym, ap, ◌∙◌, arith}
+use Rattle.std.proofs.Common.{◌≡◌, ℕ, ◌≤◌, ◌<◌, true, false, List, Some, sym, ap, ◌∙◌, arith}
 use Rattle.std.specs.Prelude.{Err}
 use Rattle.std.specs.List.{list_all}
 use Rattle.dd_written.specs.declared.lexeme.Lexeme.{Lexeme}
@@ -13,18 +13,11 @@ use Rattle.dd_commands.specs.Heads.{head_of, stage}
 use Rattle.dd_commands.specs.Scripts.{is_whole, stage_of, MayStand}
 use Rattle.dd_commands.specs.reading.Commands.{command_of}
 use Rattle.dd_commands.specs.reading.Parts.{FindsIfAny}
-use Rattle.dd_written.specs.lemmas.Options.{some_is}
+use Rattle.dd_written.specs.lemmas.Options.{some_is, nothing_some}
 use Rattle.dd_commands.specs.lemmas.Commands.{command_sound, command_again}
 
-none_some : {X : Type 0} (read : Option X) (x : X) → read ≡ None → read ≡ Some x → ⊥
-none_some None x e f = absurd cc
-none_some (Some y) x e f = absurd cc
-
-not_both : (b : Bool) → b ≡ false → b ≡ true → ⊥
-not_both b e f = absurd cc
-
 pub not_whole : (bytes : List ℕ) (from : ℕ) (part : List Lexeme) → list_all is_whole part ≡ false → (w : Written) → MayStand bytes from part w → ⊥
-not_whole bytes from part e w may = not_both (list_all is_whole part) e may.whole
+not_whole bytes from part e w may = cc (e, may.whole)
 
 module _ (law : FormulasAreRead) where
   pub may_stand : (bytes : List ℕ) (from : ℕ) (part : List Lexeme) (c : Command) (tokens : List Lexeme) → tokens ≡ part → list_all is_whole part ≡ true → command_of bytes part ≡ Some c → from ≤ stage (head_of c)
@@ -39,4 +32,4 @@ module _ (law : FormulasAreRead) where
 
   pub fails_decides : (bytes : List ℕ) (from : ℕ) (part : List Lexeme) (e : ReadFault) → Fails e (command_of bytes part) → FindsIfAny (Err e) (MayStand bytes from part)
   fails_decides bytes from part faults.Memory fails = tt
-  fails_decides bytes from part faults.Syntax fails = λ w may. none_some (command_of bytes part) w.command fails (command_again law bytes part w.command may.is)
+  fails_decides bytes from part faults.Syntax fails = λ w may. nothing_some w.command (sym fails ∙ command_again law bytes part w.command may.is)
