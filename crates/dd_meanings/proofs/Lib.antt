@@ -5,7 +5,6 @@ pub mod NameLaws
 pub mod EdgeLaws
 pub mod HeaderLaws
 pub mod WrittenLaws
-pub mod Depths
 pub mod WellFormed
 pub mod SizeLaws
 pub mod DefinitionLaws

@@ -56,9 +56,26 @@ atom_of x scope (atom.AtNode t n) = roll-Formula (Formula-F.Node (term_of x scop
 abbrev pub ball_of : Context → List Word → Ball → BallOf
 ball_of x scope b = record { variable = variable_number x.text scope b.centre; radius = written_value x.text b.radius }
 
+-- `->` groups to the right
+abbrev pub implied_of : List Formula → Formula
+implied_of [] = roll-Formula (Formula-F.And [])
+implied_of (f ∷ []) = f
+implied_of (f ∷ g ∷ gs) = roll-Formula (Formula-F.Implies f (implied_of (g ∷ gs)))
+
+-- `<->` groups to the left: what stands on the left of some parts, and these
+abbrev pub iff_behind : Formula → List Formula → Formula
+iff_behind f [] = f
+iff_behind f (g ∷ gs) = iff_behind (roll-Formula (Formula-F.Iff f g)) gs
+
+abbrev pub iff_of : List Formula → Formula
+iff_of [] = roll-Formula (Formula-F.And [])
+iff_of (f ∷ fs) = iff_behind f fs
+
 abbrev pub joined_of : Join → List Formula → Formula
 joined_of join.And fs = roll-Formula (Formula-F.And fs)
 joined_of join.Or fs = roll-Formula (Formula-F.Or fs)
+joined_of join.Implies fs = implied_of fs
+joined_of join.Iff fs = iff_of fs
 
 abbrev pub quantified_of : Quantifier → List BallOf → Formula → Formula
 quantified_of quantifier.All balls f = roll-Formula (Formula-F.ForAll balls f)
@@ -70,9 +87,7 @@ formula_step x (Written-F.Atom a) scope = atom_of x scope a
 formula_step x (Written-F.Not f) scope = roll-Formula (Formula-F.Not (f scope))
 formula_step x (Written-F.Quantified q w balls f) scope = quantified_of q (map (ball_of x scope) balls) (f (scope ++ w ∷ []))
 formula_step x (Written-F.Group f) scope = f scope
-formula_step x (Written-F.List j fs) scope = joined_of j (map (λ f. f scope) fs)
-formula_step x (Written-F.Implies f g) scope = roll-Formula (Formula-F.Implies (f scope) (g scope))
-formula_step x (Written-F.Iff f g) scope = roll-Formula (Formula-F.Iff (f scope) (g scope))
+formula_step x (Written-F.Chain j fs) scope = joined_of j (map (λ f. f scope) fs)
 
 -- the formula that is meant, in a scope
 abbrev pub formula_of : Context → Written → List Word → Formula

@@ -52,13 +52,13 @@ abbrev pub is : Term → ℕ → Formula
 is t s = roll-Formula (Formula-F.Atom (atom.Equal t (side.Number (number_at s 1))))
 
 abbrev pub both : List Formula → Formula
-both fs = roll-Formula (Formula-F.List join.And fs)
+both fs = roll-Formula (Formula-F.Chain join.And fs)
 
 abbrev pub group : Formula → Formula
 group f = roll-Formula (Formula-F.Group f)
 
 abbrev pub then : Formula → Formula → Formula
-then f g = roll-Formula (Formula-F.Implies f g)
+then f g = roll-Formula (Formula-F.Chain join.Implies (f ∷ g ∷ []))
 
 abbrev pub ball : ℕ → ℕ → Ball
 ball s r = record { centre = word_at s 1; radius = number_at r 1 }
