@@ -53,7 +53,10 @@ fn deepest(join: Join, parts: &[Formula]) -> u32
 {
     let mut deepest = 0;
     for place in 0..parts.len() {
-        let part = deeper(capped_depth(&parts[place]), signs_over(join, parts.len(), place));
+        let part = deeper(
+            capped_depth(&parts[place]),
+            signs_over(join, parts.len(), place),
+        );
         deepest = part.max(deepest);
     }
     deepest

@@ -325,10 +325,7 @@ fn more_parts(
 ///
 /// # Errors
 /// No formula of such a depth stands there, or want of memory.
-pub fn read_formula(
-    alloc: Global,
-    tokens: &[Lexeme],
-) -> Result<(Formula, &[Lexeme]), ReadFault>
+pub fn read_formula(alloc: Global, tokens: &[Lexeme]) -> Result<(Formula, &[Lexeme]), ReadFault>
     ensures { Gives (λ x. (x.0, x.1.now)) result (formula_at tokens.now) }
 {
     let (formula, rest) = chain(alloc, MOST_DEEP, Join::Iff, tokens)?;

@@ -23,9 +23,12 @@ quantified_in-formula_in-requires t c =
     let inner : c.as_slice.result.now ≡ a.scope.now ++ a.variable ∷ [] = c.as_slice.ensures ∙ c.in_ok-inner.ensures in
     let deep = depth_quantified a.quantifier a.variable a.written.now a.body.now ∙ ap (λ h. 1 + tree_depth h) (sym c.get.ensures) in
     let parts = quantified_parts a.context.now a.scope.now a.quantifier a.variable a.written.now a.body.now c.requires.faultless in (
-      omega (arith, ap the_size c.get.ensures, c.decreases), (
-      deeper a.scope.now c.as_slice.result.now a.variable _ _ inner deep c.requires.shallow,
-      ap (λ h. formula_faults a.context.now h c.as_slice.result.now) c.get.ensures ∙ ap (formula_faults a.context.now a.body.now) inner ∙ parts.1))
+      omega (arith, ap the_size c.get.ensures, c.decreases),
+      (
+        deeper a.scope.now c.as_slice.result.now a.variable _ _ inner deep c.requires.shallow,
+        ap (λ h. formula_faults a.context.now h c.as_slice.result.now) c.get.ensures ∙ ap (formula_faults a.context.now a.body.now) inner ∙ parts.1,
+      ),
+    )
 
 pub formula_in-returns-in_ok-parts-in-Chain : goal.formula_in-returns-in_ok-parts-in-Chain
 formula_in-returns-in_ok-parts-in-Chain t c =
@@ -43,9 +46,12 @@ parts_in-formula_in-requires t c =
     let k = length a.scope.now in
     let shallow = parts_shallow a.join (length (map tree_depth fs)) 0 k 64 fs (omega (arith, depth_chain a.join fs, c.requires.shallow)) in
     let none = sym (faults_chain a.context.now a.join fs a.scope.now) ∙ c.requires.faultless in (
-      omega (arith, at_most the_size fs i c.part-item.result c.loop-part-test.true, ap the_size c.part-item.is, c.decreases), (
-      one_of_all (λ f. k + tree_depth f ≤ 64) fs i c.part-item.result c.loop-part-test.true c.part-item.is shallow,
-      none_item (λ f. formula_faults a.context.now f a.scope.now) fs i c.part-item.result c.loop-part-test.true c.part-item.is none))
+      omega (arith, at_most the_size fs i c.part-item.result c.loop-part-test.true, ap the_size c.part-item.is, c.decreases),
+      (
+        one_of_all (λ f. k + tree_depth f ≤ 64) fs i c.part-item.result c.loop-part-test.true c.part-item.is shallow,
+        none_item (λ f. formula_faults a.context.now f a.scope.now) fs i c.part-item.result c.loop-part-test.true c.part-item.is none,
+      ),
+    )
 
 pub parts_in-loop-part-preserved : goal.parts_in-loop-part-preserved
 parts_in-loop-part-preserved t c =
