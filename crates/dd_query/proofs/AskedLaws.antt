@@ -1,5 +1,5 @@
 -- What a question without a fault has, and what its query keeps.
-use Rattle.std.proofs.Common.{◌≡◌, ◌<◌, ℕ, false, List, [], ◌++◌, Some, length, refl, sym, subst}
+use Rattle.std.proofs.Common.{◌≡◌, ◌<◌, ℕ, false, List, [], Some, length, refl, sym, subst}
 use Rattle.std.specs.Prelude.{slice_get}
 use Rattle.std.specs.List.{flat_map, list_any, zip}
 use Rattle.dd_commands.specs.declared.table.Role.{Role}

@@ -1,6 +1,6 @@
 -- The numbers, the strips and the vectors of questions without a fault.
-use Rattle.std.proofs.Common.{◌≡◌, ◌≤◌, ◌+◌, ℕ, zero, suc, true, false, List, [], ◌∷◌, ◌++◌, length, map, get_or, ◌∙◌, arith}
-use Rattle.std.specs.Prelude.{◌==◌, nat_lt, slice_get}
+use Rattle.std.proofs.Common.{◌≡◌, ◌≤◌, ◌+◌, ℕ, zero, suc, false, List, [], ◌∷◌, length, map, get_or, ◌∙◌, arith}
+use Rattle.std.specs.Prelude.{nat_lt, slice_get}
 use Rattle.std.specs.List.{All, list_any, flat_map}
 use Rattle.std.specs.Option.{option_map_or}
 use Rattle.std.proofs.lemmas.Bool.{eqb-true, or_parts, ltb-false}
@@ -17,7 +17,7 @@ use Rattle.dd_faults.specs.declared.fault.Limit.TheVariants as limit
 use Rattle.dd_faults.specs.declared.context.Context.{Context}
 use Rattle.dd_faults.specs.Order.{over}
 use Rattle.dd_faults.specs.Repeats.{twice_vectors}
-use Rattle.dd_faults.specs.Commands.{unless, dimension_of, entry_value, has_entries, is_far, radius_faults, is_no_strip, strip_faults, vector_faults, list_faults}
+use Rattle.dd_faults.specs.Commands.{dimension_of, entry_value, is_far, radius_faults, is_no_strip, strip_faults, vector_faults, list_faults}
 use Rattle.dd_faults.specs.lemmas.Nothing.{both_nil, fits, within, all_where}
 use Rattle.dd_faults.specs.lemmas.Periods.{entry_at, no_entry}
 use Rattle.dd_query.specs.Vectors.{place_of}
