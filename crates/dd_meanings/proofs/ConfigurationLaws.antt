@@ -2,8 +2,8 @@
 use Rattle.std.proofs.Common.{◌≡◌, ◌<◌, ◌≤◌, ℕ, zero, suc, ◌+◌, ◌*◌, ◌%◌, true, false, List, [], ◌∷◌, ◌++◌, length, map, Option, Some, None, refl, sym, ap, ◌∙◌, subst, arith}
 use Rattle.std.specs.Prelude.{◌||◌, ◌&&◌, ◌==◌, nat_lt, nat_le, not, unwrap_or, slice_index, if◌then◌else◌, Bool}
 use Rattle.std.specs.Option.{option_map_or}
-use Rattle.std.proofs.Math.Nat.{mul_comm}
-use Rattle.std.proofs.lemmas.Bool.{and_parts, or_parts, ltb-false, leb-true, leb-false, eqb-true}
+use Rattle.std.proofs.lemmas.Bool.{and_parts, leb-true}
+use Rattle.std.proofs.lemmas.Grind.{common_steps}
 use Rattle.std.proofs.lemmas.List.{length-map}
 use Rattle.std.proofs.lemmas.List.Elements.{All-from_get_or}
 use Rattle.std.proofs.lemmas.Option.{slice_get_within}
@@ -71,18 +71,13 @@ volume_is bytes (a ∷ b ∷ c ∷ []) few = omega arith
 volume_is bytes (a ∷ b ∷ c ∷ d ∷ es) few = absurd (omega (arith, few))
 
 -- the factors of a product that is not 0 are not 0
-some_factor : (a b : ℕ) → 1 ≤ a * b → 1 ≤ a
-some_factor zero b h = omega (arith, h)
-some_factor (suc a) b h = omega arith
-
-other_factor : (a b : ℕ) → 1 ≤ a * b → 1 ≤ b
-other_factor a zero h = omega (arith, h)
-other_factor a (suc b) h = omega arith
+some_factor : (a b : ℕ) → 1 ≤ a * b → 1 ≤ b
+some_factor a b h = grind arith
 
 entry_some : (bytes : List ℕ) (es : List Entry) (axis : ℕ) → 1 ≤ product bytes es → 1 ≤ entry_at bytes es axis
 entry_some bytes [] axis h = omega arith
-entry_some bytes (e ∷ es) zero h = some_factor (entry_value bytes e) (product bytes es) h
-entry_some bytes (e ∷ es) (suc axis) h = entry_some bytes es axis (other_factor (entry_value bytes e) (product bytes es) h)
+entry_some bytes (e ∷ es) zero h = grind arith
+entry_some bytes (e ∷ es) (suc axis) h = entry_some bytes es axis (some_factor (entry_value bytes e) (product bytes es) h)
 
 -- a box that fits, and passes no limit
 record IsBox (x : Context) (periods : Vector) (shear : Option Vector) (count : ℕ) : Type 0 where
@@ -92,31 +87,18 @@ record IsBox (x : Context) (periods : Vector) (shear : Option Vector) (count : �
   small : count ≤ 65536
   less : shear_of x.text shear < period_at x.text periods 0
 
-fits_or : (fits passed : Bool) → (if fits then over passed limit.Periods else fault.Dimension ∷ []) ≡ [] → (fits ≡ true) × (passed ≡ false)
-fits_or true passed none = (refl, within passed limit.Periods none)
-fits_or false passed none = absurd cc
-
 box_is : (x : Context) (periods : Vector) (shear : Option Vector) (count : ℕ) → box_faults x periods shear count ≡ [] → IsBox x periods shear count
-box_is x periods shear count none =
-    let d = dimension_of x.known in
-    let passed = nat_lt 65536 count || nat_le (period_at x.text periods 0) (shear_of x.text shear) in
-    let both = fits_or (box_fits x periods shear count) passed none in
-    let all = and_parts (has_entries d periods && shear_fits d shear) (product x.text periods.entries * length x.known.setting.nodes == count) both.0 in
-    let two = and_parts (has_entries d periods) (shear_fits d shear) all.0 in
-    let limits = or_parts (nat_lt 65536 count) (nat_le (period_at x.text periods 0) (shear_of x.text shear)) both.1 in
-    record {
-      entries = eqb-true (length periods.entries) d two.0;
-      sheared = two.1;
-      size = eqb-true (product x.text periods.entries * length x.known.setting.nodes) count all.1;
-      small = ltb-false 65536 count limits.0;
-      less = leb-false (period_at x.text periods 0) (shear_of x.text shear) limits.1;
-    }
+box_is x periods shear count none = record {
+  entries = grind (arith, common_steps);
+  sheared = grind (arith, common_steps);
+  size = grind (arith, common_steps);
+  small = grind (arith, common_steps);
+  less = grind (arith, common_steps);
+}
 
 no_shear : (bytes : List ℕ) (d : ℕ) (shear : Option Vector) → shear_fits d shear ≡ true → d < 2 → shear_of bytes shear ≡ 0
 no_shear bytes d None fits low = refl
-no_shear bytes d (Some v) fits low =
-    let two : 2 ≤ d = leb-true 2 d (and_parts (nat_le 2 d) (has_entries 1 v) fits).0 in
-    absurd (omega (arith, two, low))
+no_shear bytes d (Some v) fits low = grind (arith, common_steps)
 
 module _ (x : Context) (called : Word) (periods : Vector) (shear : Option Vector) (ns : List Name) (sound : IsSound x.known) (some : 1 ≤ length ns) (none : faults_of x (command.Configuration called periods shear ns) ≡ []) where
   parts : IsNew x called × (symbol_faults x 0 ns ++ box_faults x periods shear (length ns) ≡ [])
@@ -129,7 +111,9 @@ module _ (x : Context) (called : Word) (periods : Vector) (shear : Option Vector
   box = box_is x periods shear (length ns) named_and_boxed.1
 
   period_some : (axis : ℕ) → 1 ≤ period_at x.text periods axis
-  period_some axis = entry_some x.text periods.entries axis (some_factor (product x.text periods.entries) (length x.known.setting.nodes) (omega (arith, box.size, some)))
+  period_some axis =
+      let volume : 1 ≤ product x.text periods.entries = grind (arith, box.size, some) in
+      entry_some x.text periods.entries axis volume
 
   count : length (map (symbol_of x) ns) ≡ length ns
   count = length-map ns (symbol_of x)

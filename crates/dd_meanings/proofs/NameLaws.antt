@@ -1,12 +1,15 @@
 -- Names by their numbers, and names that are given once.
-use Rattle.std.proofs.Common.{◌≡◌, ℕ, ◌<◌, ◌+◌, Bool, true, false, cond, ◌||◌, List, [], ◌∷◌, ◌++◌, length, map, take, slice_index_or, Option, Some, None, Contains, refl, sym, ap, ◌∙◌, subst, arith, true≢false}
+use Rattle.std.proofs.Common.{◌≡◌, ℕ, ◌<◌, ◌+◌, Bool, true, false, cond, List, [], ◌∷◌, ◌++◌, length, map, take, slice_index_or, Option, Some, None, Contains, refl, sym, ap, ◌∙◌, subst, arith, true≢false, inl, inr, Decides}
 use Rattle.std.specs.Prelude.{if◌then◌else◌, slice_get, bytes_eq, unwrap_or, is_some, option_map, codes, position, MatchOption, OnOk, Result, IfSome, nat_lt, not}
 use Rattle.std.specs.List.{list_any, position_or_len}
-use Rattle.std.proofs.lemmas.Bool.{or_parts, cond_both, ltb-true, lt-ltb}
+use Rattle.std.specs.Cmp.Lexicographic.{nat_list_eq_equiv}
+use Rattle.std.proofs.lemmas.Bool.{false_from_ne_true, cond_both, cases_lt, ltb-true, lt-ltb}
 use Rattle.std.proofs.lemmas.List.{length-map, length-take-le}
-use Rattle.std.proofs.lemmas.Map.Views.{Contains-from_any}
+use Rattle.std.proofs.lemmas.Map.Views.{list_any-from_Contains, Contains-from_any}
 use Rattle.std.proofs.lemmas.Option.{slice_get_within, get_or_from_slice_get}
 use Rattle.std.proofs.lemmas.Slice.Eq.{bytes_eq-Decides}
+use Rattle.std.proofs.lemmas.List.Sums.{fails_before_first}
+use Rattle.std.proofs.lemmas.Grind.{common_steps}
 use Rattle.dd_written.specs.declared.lexeme.Word.{Word}
 use Rattle.dd_written.specs.declared.tree.Name.{Name}
 use Rattle.dd_written.specs.declared.tree.Name.TheVariants as name
@@ -20,27 +23,23 @@ use Rattle.dd_faults.specs.Order.{when}
 use Rattle.dd_faults.specs.Names.{place_of_name, missing, number_in, same_text, variable_of, is_variable, unknown_variable, named_again}
 use Rattle.dd_faults.specs.Repeats.{first_repeat}
 use Rattle.dd_faults.specs.lemmas.Nothing.{both_nil}
-use Rattle.dd_faults.specs.lemmas.Repeats.{among, not_among, once}
+use Rattle.dd_faults.specs.lemmas.Repeats.{once}
 use Rattle.dd_meanings.specs.Formulas.{variable_number}
 use Rattle.dd_meanings.specs.Sound.{IsNew}
-use Rattle.dd_meanings.proofs.Nothing.{present, not_when}
+use Rattle.dd_meanings.proofs.Nothing.{present}
 
--- a test that some element passes is passed before the end
-found_before : {X : Type 0} (p : X → Bool) (xs : List X) → list_any p xs ≡ true → position_or_len p xs < length xs
-found_before p [] h = absurd cc
-found_before {X} p (x ∷ xs) h = by (p x) refl h (found_before p xs)
-  where
-    by : (b : Bool) → p x ≡ b → (b || list_any p xs) ≡ true → (list_any p xs ≡ true → position_or_len p xs < length xs) → position_or_len p (x ∷ xs) < length (x ∷ xs)
-    by true e h rest = rw e (omega arith)
-    by false e h rest = let more = rest h in rw e (omega (arith, more))
-
-pub contained : (names : List (List ℕ)) (text : List ℕ) → list_any (bytes_eq text) names ≡ true → Contains names text
-contained names text e = Contains-from_any (λ x y. (bytes_eq-Decides x y).0) text names e
+pub stands : (names : List (List ℕ)) (text : List ℕ) → Decides (list_any (bytes_eq text) names) (Contains names text)
+stands names text = (Contains-from_any (λ x y. (bytes_eq-Decides x y).0) text names, list_any-from_Contains nat_list_eq_equiv text names)
 
 number_found : (names : List (List ℕ)) (text : List ℕ) → Contains names text → number_of names text ≡ Some (position_or_len (bytes_eq text) names)
 number_found names text there =
     let at = position_or_len (bytes_eq text) names in
-    let below = found_before (bytes_eq text) names (among names text there) in
+    let holds = (bytes_eq-Decides text (slice_index_or names there.0 text)).1 (sym there.2) in
+    let below : at < length names =
+    elim (cases_lt at (length names)) [
+      | inl less ↦ less
+      | inr past ↦ absurd (true≢false (sym holds ∙ fails_before_first (bytes_eq text) names there.0 text (omega (arith, there.1))))
+    ] in
     ap (λ b. cond b (Some at) None) (lt-ltb at (length names) below)
 
 -- what stands at the number of a name is the name
@@ -97,17 +96,11 @@ absent : (names : List (List ℕ)) (text : List ℕ) → is_some (number_of name
 absent names text h there = true≢false (sym (ap is_some (number_found names text there)) ∙ h)
 
 is_new : (x : Context) (w : Word) → named_again x.text x.known w ≡ [] → IsNew x w
-is_new x w h =
-    let k = x.known in
-    let bytes = x.text in
-    let none = not_when (is_some (place_of_name bytes k.rules (name.Word w)) || is_some (place_of_name bytes k.automata (name.Word w)) || is_some (place_of_name bytes k.configurations (name.Word w))) (fault.Twice (name.Word w)) h in
-    let both = or_parts (is_some (place_of_name bytes k.rules (name.Word w)) || is_some (place_of_name bytes k.automata (name.Word w))) (is_some (place_of_name bytes k.configurations (name.Word w))) none in
-    let front = or_parts (is_some (place_of_name bytes k.rules (name.Word w))) (is_some (place_of_name bytes k.automata (name.Word w))) both.0 in
-    record {
-      rules = absent k.rules (word_text bytes w) front.0;
-      automata = absent k.automata (word_text bytes w) front.1;
-      configurations = absent k.configurations (word_text bytes w) both.1;
-    }
+is_new x w h = record {
+  rules = absent x.known.rules (word_text x.text w) (grind (arith, common_steps));
+  automata = absent x.known.automata (word_text x.text w) (grind (arith, common_steps));
+  configurations = absent x.known.configurations (word_text x.text w) (grind (arith, common_steps));
+}
 
 -- a new name, and no fault in what follows it
 pub new_name : (x : Context) (w : Word) (rest : List Fault) → named_again x.text x.known w ++ rest ≡ [] → IsNew x w × (rest ≡ [])
@@ -129,9 +122,9 @@ pub seen : (names : List (List ℕ)) (text : List ℕ) (r : Option ℕ) → Matc
 seen names text None exact is = absurd cc
 seen names text (Some i) exact is =
     let there : Contains names text = (i, slice_get_within names i text exact, get_or_from_slice_get names i text text exact) in
-    rw (among names text there) refl
+    rw ((stands names text).1 there) refl
 
 pub unseen : {T E : Type 0} (names : List (List ℕ)) (text : List ℕ) (later : List (List ℕ)) (made : Result T E) (r : Option ℕ) → MatchOption r (¬ Contains names text) (λ i. slice_get names i ≡ Some text) → is_some r ≡ false
     → OnOk made (later ≡ names ++ text ∷ []) → OnOk made (later ≡ (if list_any (bytes_eq text) names then names else names ++ text ∷ []))
-unseen names text later made None exact is ok = rw (not_among names text exact) ok
+unseen names text later made None exact is ok = rw (false_from_ne_true (list_any (bytes_eq text) names) (λ e. exact ((stands names text).0 e))) ok
 unseen names text later made (Some i) exact is ok = absurd cc

@@ -3,6 +3,7 @@ use Rattle.std.proofs.Common.{◌≡◌, ◌≤◌, ◌<◌, ℕ, zero, suc, ◌
 use Rattle.std.specs.Prelude.{◌&&◌, ◌++◌, not, nat_le}
 use Rattle.std.specs.List.{list_all, range_with_len}
 use Rattle.std.proofs.lemmas.Bool.{and_from, and_parts, le-leb}
+use Rattle.std.proofs.lemmas.Grind.{common_steps}
 use Rattle.dd_expansion.specs.Leaves.{instances}
 use Rattle.dd_formula.specs.LocalRule.{LocalRule, most_instances, expansion_at, reads_at, is_near, IsSmall, IsRule}
 use Rattle.dd_formula.specs.Refusals.{IsRuleRefusal}
@@ -24,26 +25,13 @@ none_passed n f h h' h'' = rw (h, h', h'') refl
 
 -- why a composition is refused
 pub fault_refuses : (n : ℕ) (f : Counted) (e : RuleFault) → IsCompositionFault n f e → Refuses (refusal_of e) (first_fault (count_faults n f))
-fault_refuses n f rule_fault.Instances h = rw h (by (is_short n f) (is_shallow f))
-  where
-    by : (short shallow : Bool) → noted (Some (fault.Size limit.Instances)) (over (not short) limit.Reach ++ over (not shallow) limit.Depth) ≡ Some (fault.Size limit.Instances)
-    by true true = refl
-    by true false = refl
-    by false true = refl
-    by false false = refl
-fault_refuses n f rule_fault.Reach h = rw (h.0, h.1) (by (is_shallow f))
-  where
-    by : (shallow : Bool) → noted (Some (fault.Size limit.Reach)) (over (not shallow) limit.Depth) ≡ Some (fault.Size limit.Reach)
-    by true = refl
-    by false = refl
-fault_refuses n f rule_fault.Depth h = rw (h.0.0, h.0.1, h.1) refl
+fault_refuses n f rule_fault.Instances h = grind (arith, common_steps)
+fault_refuses n f rule_fault.Reach h = grind (arith, common_steps)
+fault_refuses n f rule_fault.Depth h = grind (arith, common_steps)
 fault_refuses n f rule_fault.Memory h = tt
 
 pub formed_passes : (s : CommonNumbers) (f : Automaton) → IsAutomaton s f → count_faults s.nodes (counted f) ≡ []
-formed_passes s f h =
-    let all = and_parts (is_few s.nodes (counted f) && is_short s.nodes (counted f)) (is_shallow (counted f)) (within_is s.nodes f h.within) in
-    let two = and_parts (is_few s.nodes (counted f)) (is_short s.nodes (counted f)) all.0 in
-    none_passed s.nodes (counted f) two.0 two.1 all.1
+formed_passes s f h = let passes = within_is s.nodes f h.within in grind (arith, common_steps)
 
 -- ---- rules
 

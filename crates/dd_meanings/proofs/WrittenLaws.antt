@@ -1,7 +1,8 @@
 -- What a command has that is written and has no fault.
-use Rattle.std.proofs.Common.{◌≡◌, ℕ, ◌≤◌, List, [], ◌∷◌, ◌++◌, subst}
+use Rattle.std.proofs.Common.{◌≡◌, ℕ, ◌≤◌, List, [], ◌∷◌, ◌++◌, subst, arith}
 use Rattle.std.specs.Prelude.{nat_lt}
 use Rattle.std.specs.List.{All, flat_map}
+use Rattle.std.proofs.lemmas.Grind.{common_steps}
 use Rattle.std.proofs.lemmas.List.Elements.{All-nil, All-cons}
 use Rattle.dd_written.specs.declared.lexeme.Lexeme.{Lexeme}
 use Rattle.dd_written.specs.Formulas.{tree_depth}
@@ -20,10 +21,7 @@ use Rattle.dd_faults.specs.lemmas.Nothing.{both_nil}
 module _ (x : Context) (w : Written) (c : Command) (is : w.command ≡ c) where
   -- no fault of the command itself
   pub no_fault : written_faults x w ≡ [] → faults_of x c ≡ []
-  no_fault h =
-      let tokens = flat_map (token_faults x.text) w.tokens in
-      let both = both_nil (over (nat_lt 1000 x.number) limit.Commands) (tokens ++ faults_of x w.command) h in
-      subst (λ (d : Command). faults_of x d ≡ []) is (both_nil tokens (faults_of x w.command) both.1).1
+  no_fault h = grind (arith, common_steps, both_nil)
 
   -- its parts, as they are written
   pub body : IsWritten x.text w → (tokens : List Lexeme) × IsBody x.text c tokens
