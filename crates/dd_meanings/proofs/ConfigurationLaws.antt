@@ -26,11 +26,10 @@ use Rattle.dd_faults.specs.Commands.{dimension_of, has_entries, is_allowed, symb
 use Rattle.dd_faults.specs.Sound.{IsSound}
 use Rattle.dd_faults.specs.lemmas.Nothing.{both_nil, within}
 use Rattle.dd_faults.specs.lemmas.Periods.{entry_at, no_entry}
-use Rattle.dd_meanings.specs.Definitions.{symbol_of, configuration_periods, tile_of}
+use Rattle.dd_meanings.specs.Definitions.{symbol_of, configuration_periods, tile_of, tile_with}
 use Rattle.dd_meanings.specs.Sound.{IsNew, IsConfigurationOf}
-use Rattle.dd_meanings.specs.making.Parts.{tile_with}
-use Rattle.dd_meanings.proofs.Nothing.{present}
-use Rattle.dd_meanings.proofs.NameLaws.{new_name}
+use Rattle.dd_meanings.proofs.Nothing.{parts}
+use Rattle.dd_meanings.proofs.NameLaws.{is_new}
 
 -- ---- symbols
 
@@ -54,11 +53,11 @@ symbols_are : (x : Context) (k : ℕ) (ns : List Name) → symbol_faults x k ns 
 symbols_are x k [] none i below = absurd (omega (arith, below))
 symbols_are x k (n ∷ ns) none zero below =
     let same : k ≡ k + 0 = omega arith in
-    let here = present (is_allowed x (node_at x k) n) (fault.Unknown n) (both_nil (when (not (is_allowed x (node_at x k) n)) (fault.Unknown n)) (symbol_faults x (k + 1) ns) none).0 in
+    let here : is_allowed x (node_at x k) n ≡ true = grind (arith, parts) in
     subst (λ j. IsAllowedAt x (node_at x j) (symbol_of x n)) same (allowed_from x (node_at x k) n (place_of_name x.text x.known.setting.symbols n) refl here)
 symbols_are x k (n ∷ ns) none (suc i) below =
     let same : k + 1 + i ≡ k + suc i = omega arith in
-    let rest = (both_nil (when (not (is_allowed x (node_at x k) n)) (fault.Unknown n)) (symbol_faults x (k + 1) ns) none).1 in
+    let rest : symbol_faults x (k + 1) ns ≡ [] = grind (arith, parts) in
     subst (λ j. IsAllowedAt x (node_at x j) (slice_index (map (symbol_of x) ns) i)) same (symbols_are x (k + 1) ns rest i (omega (arith, below)))
 
 -- ---- periods
@@ -101,14 +100,11 @@ no_shear bytes d None fits low = refl
 no_shear bytes d (Some v) fits low = grind (arith, common_steps)
 
 module _ (x : Context) (called : Word) (periods : Vector) (shear : Option Vector) (ns : List Name) (sound : IsSound x.known) (some : 1 ≤ length ns) (none : faults_of x (command.Configuration called periods shear ns) ≡ []) where
-  parts : IsNew x called × (symbol_faults x 0 ns ++ box_faults x periods shear (length ns) ≡ [])
-  parts = new_name x called (symbol_faults x 0 ns ++ box_faults x periods shear (length ns)) none
-
-  named_and_boxed : (symbol_faults x 0 ns ≡ []) × (box_faults x periods shear (length ns) ≡ [])
-  named_and_boxed = both_nil (symbol_faults x 0 ns) (box_faults x periods shear (length ns)) parts.1
+  named : symbol_faults x 0 ns ≡ []
+  named = grind (arith, parts)
 
   box : IsBox x periods shear (length ns)
-  box = box_is x periods shear (length ns) named_and_boxed.1
+  box = box_is x periods shear (length ns) (grind (arith, parts))
 
   period_some : (axis : ℕ) → 1 ≤ period_at x.text periods axis
   period_some axis =
@@ -143,15 +139,15 @@ module _ (x : Context) (called : Word) (periods : Vector) (shear : Option Vector
 
   pub is_configuration : IsNew x called × IsConfigurationOf x.known (tile_of x periods shear ns)
   is_configuration = (
-    parts.0,
+    is_new x called (grind (arith, parts)),
     record {
       tile = is_tile;
       dimension = refl;
       nodes = refl;
-      symbols = All-from_get_or (λ s. s < length x.known.setting.symbols) (map (symbol_of x) ns) 0 (λ i below. (symbols_are x 0 ns named_and_boxed.0 i below).below);
+      symbols = All-from_get_or (λ s. s < length x.known.setting.symbols) (map (symbol_of x) ns) 0 (λ i below. (symbols_are x 0 ns named i below).below);
       allowed = λ i below.
           let same : i ≡ 0 + i = omega arith in
           ap (λ n. allows x.known.setting.sets (i % n) (slice_index (map (symbol_of x) ns) i)) sound.nodes
-          ∙ (ap (λ j. allows x.known.setting.sets (node_at x j) (slice_index (map (symbol_of x) ns) i)) same ∙ (symbols_are x 0 ns named_and_boxed.0 i below).allowed);
+          ∙ (ap (λ j. allows x.known.setting.sets (node_at x j) (slice_index (map (symbol_of x) ns) i)) same ∙ (symbols_are x 0 ns named i below).allowed);
     },
   )

@@ -36,8 +36,8 @@ use Rattle.dd_meanings.specs.Sound.{IsNew}
 use Rattle.dd_meanings.specs.Definitions.{case_of, symbol_of, automaton_of, automaton_at, automaton_named, composition_of, automaton_faults}
 use Rattle.dd_meanings.specs.making.Parts.{refusal_of, meant_case}
 use Rattle.dd_faults.specs.lemmas.Nothing.{both_nil}
-use Rattle.dd_meanings.proofs.Nothing.{none_at}
-use Rattle.dd_meanings.proofs.NameLaws.{number_below, new_name}
+use Rattle.dd_meanings.proofs.Nothing.{parts, none_at}
+use Rattle.dd_meanings.proofs.NameLaws.{number_below, is_new}
 use Rattle.dd_meanings.proofs.WellFormed.{is_formula}
 use Rattle.dd_meanings.proofs.SizeLaws.{fault_refuses, formed_passes}
 
@@ -65,8 +65,7 @@ symbol_below x n sound known = omega (arith, number_below x.text x.known.setting
 
 case_is : (x : Context) (c : Case) → IsSound x.known → case_faults x c ≡ [] → tree_depth c.condition ≤ 64 → IsCaseOver x.known.setting.topology x.known.setting.sets (meant_case x c)
 case_is x c sound none shallow =
-    let both = both_nil (formula_faults x c.condition []) (missing x.text x.known.setting.symbols c.symbol) none in
-    record { formula = is_formula x c.condition sound both.0 shallow; symbol = symbol_below x c.symbol sound both.1 }
+    record { formula = is_formula x c.condition sound (grind (arith, parts)) shallow; symbol = symbol_below x c.symbol sound (grind (arith, parts)) }
 
 module _ (x : Context) (called : Word) (cs : List Case) (default : Name) (sound : IsSound x.known) (shallow : All (λ c. tree_depth c.condition ≤ 64) cs) (none : faults_of x (command.Automaton called cs default) ≡ []) where
   abbrev g : Grid
@@ -75,14 +74,8 @@ module _ (x : Context) (called : Word) (cs : List Case) (default : Name) (sound 
   abbrev sets : SymbolSets
   sets = x.known.setting.sets
 
-  abbrev unknown : List Fault
-  unknown = missing x.text x.known.setting.symbols default
-
-  parts : IsNew x called × (flat_map (case_faults x) cs ++ unknown ≡ [])
-  parts = new_name x called (flat_map (case_faults x) cs ++ unknown) none
-
-  both : (flat_map (case_faults x) cs ≡ []) × (unknown ≡ [])
-  both = both_nil (flat_map (case_faults x) cs) unknown parts.1
+  none_here : flat_map (case_faults x) cs ≡ []
+  none_here = grind (arith, parts)
 
   module _ (made : List (Formula × ℕ)) (n : ℕ) (first : made ≡ map (meant_case x) cs) (second : n ≡ symbol_of x default) where
     abbrev over : Automaton
@@ -92,10 +85,10 @@ module _ (x : Context) (called : Word) (cs : List Case) (default : Name) (sound 
     are_cases =
         let P = IsCaseOver g sets in
         subst (All P) (sym first) (All-map P (meant_case x) cs (λ i d below.
-        case_is x (slice_index_or cs i d) sound (none_at (case_faults x) cs i d below both.0) (shallow i d below)))
+        case_is x (slice_index_or cs i d) sound (none_at (case_faults x) cs i d below none_here) (shallow i d below)))
 
     pub is_symbol : n < sets.symbols
-    is_symbol = omega (arith, second, symbol_below x default sound both.1)
+    is_symbol = omega (arith, second, symbol_below x default sound (grind (arith, parts)))
 
     -- with their rules they are the cases that are meant
     as_meant : over ≡ automaton_of x cs default
@@ -107,7 +100,7 @@ module _ (x : Context) (called : Word) (cs : List Case) (default : Name) (sound 
 
     pub cases_defined : (f : Automaton) → f ≡ over → IsAutomaton (numbers_over g sets) over → IsDefined x called f (automaton_of x cs default)
     cases_defined f is formed =
-        defined x called f (automaton_of x cs default) parts.0 (is ∙ as_meant)
+        defined x called f (automaton_of x cs default) (is_new x called (grind (arith, parts))) (is ∙ as_meant)
         (subst (λ s. IsAutomaton s (automaton_of x cs default)) (same_numbers x.known sound) (subst (IsAutomaton (numbers_over g sets)) as_meant formed))
 
     pub cases_refused : (e : RuleFault) → IsCasesRefusal g.nodes (counted over) e → IsRefused x (automaton_of x cs default) e
@@ -127,34 +120,31 @@ module _ (x : Context) (automata : List Automaton) (called outer inner : Word) (
   abbrev numbers : CommonNumbers
   numbers = script_numbers x.known
 
-  abbrev unknown_name : Word → List Fault
-  unknown_name w = missing x.text x.known.automata (name.Word w)
-
   abbrev whole : Automaton
   whole = composition_of x automata outer inner
 
-  new_parts : IsNew x called × (unknown_name outer ++ unknown_name inner ≡ [])
-  new_parts = new_name x called (unknown_name outer ++ unknown_name inner) none
-
-  both_known : (unknown_name outer ≡ []) × (unknown_name inner ≡ [])
-  both_known = both_nil (unknown_name outer) (unknown_name inner) new_parts.1
-
-  is_formed : (w : Word) (h : Automaton) → unknown_name w ≡ [] → h ≡ automaton_named x automata w → IsAutomaton numbers h
+  is_formed : (w : Word) (h : Automaton) → missing x.text x.known.automata (name.Word w) ≡ [] → h ≡ automaton_named x automata w → IsAutomaton numbers h
   is_formed w h known is =
       let i = number_in x.text x.known.automata (name.Word w) in
       let below = named_below x automata w named known in
       subst (IsAutomaton numbers) (sym (is ∙ at_number automata i h below)) (All-get_or (IsAutomaton numbers) automata i h below formed)
 
+  first_formed : IsAutomaton numbers f
+  first_formed = is_formed outer f (grind (arith, parts)) first
+
+  second_formed : IsAutomaton numbers g
+  second_formed = is_formed inner g (grind (arith, parts)) second
+
   pub are_automata : AreAutomata f g
-  are_automata = record { setting = numbers; outer = is_formed outer f both_known.0 first; inner = is_formed inner g both_known.1 second }
+  are_automata = record { setting = numbers; outer = first_formed; inner = second_formed }
 
   composed : automaton.Composed f g ≡ whole
   composed = ap (λ h. automaton.Composed h g) first ∙ ap (automaton.Composed (automaton_named x automata outer)) second
 
   pub composition_defined : (h : Automaton) → h ≡ automaton.Composed f g → OverBoth f g (λ s. IsAutomaton s (automaton.Composed f g)) → IsDefined x called h whole
   composition_defined h is each =
-      defined x called h whole new_parts.0 (is ∙ composed) (subst (IsAutomaton numbers) composed (each numbers (is_formed outer f both_known.0 first) (is_formed inner g both_known.1 second)))
+      defined x called h whole (is_new x called (grind (arith, parts))) (is ∙ composed) (subst (IsAutomaton numbers) composed (each numbers first_formed second_formed))
 
   pub composition_refused : (e : RuleFault) → OverBoth f g (λ s. IsCompositionFault s.nodes (composition f g) e) → IsRefused x whole e
   composition_refused e each =
-      subst (λ (h : Automaton). IsRefused x h e) composed (fault_refuses numbers.nodes (counted (automaton.Composed f g)) e (each numbers (is_formed outer f both_known.0 first) (is_formed inner g both_known.1 second)))
+      subst (λ (h : Automaton). IsRefused x h e) composed (fault_refuses numbers.nodes (counted (automaton.Composed f g)) e (each numbers first_formed second_formed))

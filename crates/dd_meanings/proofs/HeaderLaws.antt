@@ -27,7 +27,7 @@ use Rattle.dd_meanings.specs.Topologies.{plain_kind, default_grid}
 use Rattle.dd_meanings.specs.Definitions.{symbol_of}
 use Rattle.dd_meanings.specs.Sound.{IsGridOf, AreNames, IsSymbolRestriction, AreScriptWeights}
 use Rattle.dd_faults.specs.lemmas.Nothing.{both_nil, fits, within}
-use Rattle.dd_meanings.proofs.Nothing.{all_where}
+use Rattle.dd_meanings.proofs.Nothing.{parts, all_where}
 use Rattle.dd_meanings.proofs.NameLaws.{number_below}
 
 -- ---- the dimension
@@ -53,12 +53,6 @@ default_sound d n g sound is = record { grid = subst IsGrid is sound; nodes = de
 
 -- ---- names
 
-pub nodes_are : (x : Context) (names : List Name) → faults_of x (command.Nodes names) ≡ [] → (twice_named x.text names ≡ []) × (length names ≤ 4)
-nodes_are x names h = (grind (arith, common_steps, both_nil), grind (arith, common_steps, nat_tests, both_nil, within))
-
-pub symbols_are : (x : Context) (names : List Name) → faults_of x (command.Alphabet names) ≡ [] → (twice_named x.text names ≡ []) × (length names ≤ 16)
-symbols_are x names h = (grind (arith, common_steps, both_nil), grind (arith, common_steps, nat_tests, both_nil, within))
-
 pub names_are : (bytes : List ℕ) (most : ℕ) (written : List Name) (names : List (List ℕ)) → names ≡ map (name_text bytes) written → 1 ≤ length written → length written ≤ most → AreDistinct names → AreNames most (map (name_text bytes) written)
 names_are bytes most written names is some few distinct =
     let many : length (map (name_text bytes) written) ≡ length written = length-map written (name_text bytes) in
@@ -70,8 +64,8 @@ pub restriction_is : (x : Context) (node : Name) (symbols : List Name) → 1 ≤
     → IsSymbolRestriction x.known (number_in x.text x.known.setting.nodes node) (map (symbol_of x) symbols)
 restriction_is x node symbols some h =
     let known = missing x.text x.known.setting.symbols in
-    let here : missing x.text x.known.setting.nodes node ≡ [] = grind (arith, common_steps, both_nil) in
-    let none : flat_map known symbols ≡ [] = grind (arith, common_steps, both_nil) in
+    let here : missing x.text x.known.setting.nodes node ≡ [] = grind (arith, parts) in
+    let none : flat_map known symbols ≡ [] = grind (arith, parts) in
     let many : length (map (symbol_of x) symbols) ≡ length symbols = length-map symbols (symbol_of x) in
     record {
       exists = number_below x.text x.known.setting.nodes node here;
@@ -86,12 +80,12 @@ restriction_is x node symbols some h =
 module _ (x : Context) (ns : List Number) (h : faults_of x (command.Weights ns) ≡ []) where
   pub weights_light : All (λ n. written_value x.text n ≤ 1000) ns
   weights_light =
-      let none : flat_map (weight_faults x) ns ≡ [] = grind (arith, common_steps, both_nil) in
+      let none : flat_map (weight_faults x) ns ≡ [] = grind (arith, parts) in
       all_where (λ n. written_value x.text n ≤ 1000) (weight_faults x) (λ n light. grind (arith, common_steps)) ns none
 
   pub weights_are : AreScriptWeights x.known (map (written_value x.text) ns)
   weights_are =
-      let many : length ns ≡ length x.known.setting.symbols = grind (arith, common_steps, both_nil, fits) in
+      let many : length ns ≡ length x.known.setting.symbols = grind (arith, parts) in
       record { each = length-map ns (written_value x.text) ∙ many; light = All-map (λ w. w ≤ 1000) (written_value x.text) ns weights_light }
 
 pub limits_sound : (x : Context) (radius period pivots : Number) → IsSound x.known → faults_of x (command.Limits radius period pivots) ≡ [] →

@@ -95,16 +95,12 @@ variable_below bytes scope w none =
 absent : (names : List (List ℕ)) (text : List ℕ) → is_some (number_of names text) ≡ false → ¬ Contains names text
 absent names text h there = true≢false (sym (ap is_some (number_found names text there)) ∙ h)
 
-is_new : (x : Context) (w : Word) → named_again x.text x.known w ≡ [] → IsNew x w
+pub is_new : (x : Context) (w : Word) → named_again x.text x.known w ≡ [] → IsNew x w
 is_new x w h = record {
   rules = absent x.known.rules (word_text x.text w) (grind (arith, common_steps));
   automata = absent x.known.automata (word_text x.text w) (grind (arith, common_steps));
   configurations = absent x.known.configurations (word_text x.text w) (grind (arith, common_steps));
 }
-
--- a new name, and no fault in what follows it
-pub new_name : (x : Context) (w : Word) (rest : List Fault) → named_again x.text x.known w ++ rest ≡ [] → IsNew x w × (rest ≡ [])
-new_name x w rest h = let both = both_nil (named_again x.text x.known w) rest h in (is_new x w both.0, both.1)
 
 -- ---- names that are given once
 

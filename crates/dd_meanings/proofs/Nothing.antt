@@ -6,10 +6,12 @@ use Rattle.std.proofs.lemmas.List.Elements.{All-get_or}
 use Rattle.dd_faults.specs.declared.fault.Fault.{Fault}
 use Rattle.dd_faults.specs.Order.{when}
 pub use Rattle.dd_faults.specs.lemmas.Nothing.{all_where}
+use Rattle.std.proofs.lemmas.Bool.Decides.{nat_tests}
+use Rattle.std.proofs.lemmas.Grind.{common_steps}
+use Rattle.dd_faults.specs.lemmas.Nothing.{both_nil, fits, within}
 
-pub not_when : (b : Bool) (f : Fault) → when b f ≡ [] → b ≡ false
-not_when true f e = absurd cc
-not_when false f e = refl
+-- what `grind` needs to take a list without faults apart
+pub ruleset parts = (common_steps, nat_tests, both_nil, fits, within)
 
 pub present : (b : Bool) (f : Fault) → when (not b) f ≡ [] → b ≡ true
 present true f e = refl

@@ -53,9 +53,12 @@ abbrev pub configuration_periods : List ℕ → Vector → List ℕ
 configuration_periods bytes v = period_at bytes v 0 ∷ period_at bytes v 1 ∷ period_at bytes v 2 ∷ []
 
 -- the symbols stand in cell order; without a second list the shear is 0
+abbrev pub tile_with : Context → Vector → Option Vector → List ℕ → Tile
+tile_with x periods shear symbols =
+    tile (dimension_of x.known) (with_shear (configuration_periods x.text periods) (shear_of x.text shear)) x.known.setting.topology.nodes symbols
+
 abbrev pub tile_of : Context → Vector → Option Vector → List Name → Tile
-tile_of x periods shear symbols =
-    tile (dimension_of x.known) (with_shear (configuration_periods x.text periods) (shear_of x.text shear)) x.known.setting.topology.nodes (map (symbol_of x) symbols)
+tile_of x periods shear symbols = tile_with x periods shear (map (symbol_of x) symbols)
 
 -- ---- its counts
 

@@ -13,8 +13,8 @@ ghost use Rattle.dd_faults.specs.Commands.{case_faults, faults_of};
 ghost use Rattle.dd_faults.specs.Sound.{IsSound};
 ghost use Rattle.dd_meanings.specs.Made.{script_numbers};
 ghost use Rattle.dd_meanings.specs.Meanings.{meaning, counted_sizes};
-ghost use Rattle.dd_meanings.specs.Definitions.{automaton_named};
-ghost use Rattle.dd_meanings.specs.making.Parts.{refusal_of, meant_case, tile_with};
+ghost use Rattle.dd_meanings.specs.Definitions.{automaton_named, tile_with};
+ghost use Rattle.dd_meanings.specs.making.Parts.{refusal_of, meant_case};
 ghost use Rattle.dd_meanings.specs.Sound.{IsSoundMeaning};
 
 use crate::formulas::formula;
@@ -42,6 +42,7 @@ fn refusal_of(fault: RuleFault) -> Refusal
 }
 
 /// The rule of a formula over the script's topology and the symbols that its nodes allow.
+#[tactic(auto, using(crate::proofs::Nothing::parts))]
 pub(crate) fn rule(
     alloc: Global,
     context: &Context,

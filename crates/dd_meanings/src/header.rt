@@ -38,6 +38,7 @@ pub(crate) fn dimension(
     Ok(Meaning::Topology(topology))
 }
 
+#[tactic(auto, using(crate::proofs::Nothing::parts))]
 pub(crate) fn nodes(alloc: Global, context: &Context, names: &[Name]) -> Result<Meaning, Refusal>
     requires sound { IsSound context.now.known }
     requires some { 1 ≤ length names.now }
@@ -56,6 +57,7 @@ pub(crate) fn nodes(alloc: Global, context: &Context, names: &[Name]) -> Result<
     })
 }
 
+#[tactic(auto, using(crate::proofs::Nothing::parts))]
 pub(crate) fn alphabet(alloc: Global, context: &Context, names: &[Name]) -> Result<Meaning, Refusal>
     requires some { 1 ≤ length names.now }
     requires faultless { faults_of context.now (command.Alphabet names.now) ≡ [] }
@@ -72,15 +74,13 @@ pub(crate) fn kind(alloc: Global, context: &Context, kind: Kind) -> Result<Meani
     ensures exact { Resolves result [] (meaning context.now [] (command.Topology kind)) }
     ensures sound { OnOk result (IsSoundMeaning context.now (meaning context.now [] (command.Topology kind))) }
 {
+    let topology = Topology::builtin(alloc, kind)?;
+    let _dimension = topology.dim();
     if context.known.nodes_are_given {
-        let topology = Topology::builtin(alloc, kind)?;
-        let _dimension = topology.dim();
         return Ok(Meaning::Topology(topology));
     }
     let nodes = kind_names(alloc, kind)?;
     let _count = nodes.count();
-    let topology = Topology::builtin(alloc, kind)?;
-    let _dimension = topology.dim();
     Ok(Meaning::Nodes {
         nodes,
         given: false,

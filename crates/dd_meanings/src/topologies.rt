@@ -26,19 +26,6 @@ fn plain_kind(dimension: u32) -> Kind
     }
 }
 
-/// A topology without edges.
-fn without_edges(alloc: Global, dimension: u32, nodes: u32) -> Result<Topology, AllocError>
-    requires dimension { (1 ≤ dimension) × (dimension ≤ 3) }
-    requires nodes { 1 ≤ nodes }
-    ensures { IfOk result (λ topology. topology ≡ grid dimension nodes [] []) }
-{
-    match Topology::from_edges(alloc, dimension, nodes, Names::new(alloc), Vec::new(alloc)) {
-        Ok(topology) => Ok(topology),
-        Err(TopologyFault::Twice(_)) => unreachable!(),
-        Err(TopologyFault::Memory) => Err(AllocError),
-    }
-}
-
 /// The topology where none is given: with one node the grid of the dimension, and with more one without edges.
 pub(crate) fn default_topology(
     alloc: Global,
@@ -52,7 +39,11 @@ pub(crate) fn default_topology(
     if nodes == 1 {
         return Topology::builtin(alloc, plain_kind(dimension));
     }
-    without_edges(alloc, dimension, nodes)
+    match Topology::from_edges(alloc, dimension, nodes, Names::new(alloc), Vec::new(alloc)) {
+        Ok(topology) => Ok(topology),
+        Err(TopologyFault::Twice(_)) => unreachable!(),
+        Err(TopologyFault::Memory) => Err(AllocError),
+    }
 }
 
 /// The names of the nodes of a kind, where a script gives none.
@@ -120,6 +111,7 @@ fn edges_of(
 }
 
 /// The topology by edges. Its labels are numbered in the order in which they are first seen.
+#[tactic(auto, using(crate::proofs::Nothing::parts))]
 pub(crate) fn topology_by(
     alloc: Global,
     context: &Context,

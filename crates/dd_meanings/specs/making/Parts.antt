@@ -1,22 +1,18 @@
 -- The parts of definitions, and why they are not made.
-use Rattle.std.specs.Prelude.{ℕ, List, [], Option}
-use Rattle.dd_pattern.specs.Periods.{periods_of as with_shear}
-use Rattle.dd_pattern.specs.Tile.{Tile, tile}
+use Rattle.std.specs.Prelude.{ℕ, []}
 use Rattle.dd_expansion.specs.declared.formulas.Formula.{Formula}
 use Rattle.dd_expansion.specs.Limits.{IsFormula}
 use Rattle.dd_formula.specs.declared.fault.RuleFault.{RuleFault}
 use Rattle.dd_formula.specs.declared.fault.RuleFault.TheVariants as rule_fault
 use Rattle.dd_commands.specs.declared.command.Case.{Case}
-use Rattle.dd_commands.specs.declared.command.Vector.{Vector}
 use Rattle.dd_faults.specs.declared.fault.Fault.TheVariants as fault
 use Rattle.dd_faults.specs.declared.fault.Limit.TheVariants as limit
 use Rattle.dd_faults.specs.declared.fault.Refusal.{Refusal}
 use Rattle.dd_faults.specs.declared.fault.Refusal.TheVariants as refusal
 use Rattle.dd_faults.specs.declared.context.Known.{Known}
 use Rattle.dd_faults.specs.declared.context.Context.{Context}
-use Rattle.dd_faults.specs.Commands.{dimension_of, shear_of}
 use Rattle.dd_meanings.specs.Formulas.{formula_of}
-use Rattle.dd_meanings.specs.Definitions.{symbol_of, configuration_periods}
+use Rattle.dd_meanings.specs.Definitions.{symbol_of}
 
 -- the refusal of a command for which no rule or automaton was made
 abbrev pub refusal_of : RuleFault → Refusal
@@ -32,8 +28,3 @@ IsFormulaOf k f = IsFormula k.setting.topology k.setting.sets.symbols f
 -- a case with its formula and its symbol by numbers
 abbrev pub meant_case : Context → Case → Formula × ℕ
 meant_case x c = (formula_of x c.condition [], symbol_of x c.symbol)
-
--- the configuration with these symbols in its fundamental box
-abbrev pub tile_with : Context → Vector → Option Vector → List ℕ → Tile
-tile_with x periods shear symbols =
-    tile (dimension_of x.known) (with_shear (configuration_periods x.text periods) (shear_of x.text shear)) x.known.setting.topology.nodes symbols

@@ -21,6 +21,6 @@ returns-in-Ok c =
 pub returns-clause-exact : goal.returns-clause-exact
 returns-clause-exact c =
     rw c.refusal_of.ensures (
-      cases_refused c.args.context.now c.args.name c.args.cases.now c.args.default c.requires.sound c.requires.shallow c.requires.faultless c.as_slice-meant.result.now c.number_in-otherwise.result (c.as_slice-meant.ensures ∙ c.in_ok-meant.ensures) c.number_in-otherwise.ensures
-      c.in-Err.fault c.in-Err.ensures.fault
+    cases_refused c.args.context.now c.args.name c.args.cases.now c.args.default c.requires.sound c.requires.shallow c.requires.faultless c.as_slice-meant.result.now c.number_in-otherwise.result (c.as_slice-meant.ensures ∙ c.in_ok-meant.ensures) c.number_in-otherwise.ensures
+    c.in-Err.fault c.in-Err.ensures.fault
     )

@@ -1,19 +1,14 @@
-use Rattle.std.proofs.Common.{[], refl}
-use Rattle.dd_faults.specs.Formulas.{formula_faults}
-use Rattle.dd_faults.specs.Names.{missing}
+use Rattle.std.proofs.Common.{[], refl, arith}
 use Rattle.dd_faults.specs.Commands.{case_faults}
-use Rattle.dd_faults.specs.lemmas.Nothing.{both_nil}
 use Rattle.dd_meanings.specs.making.Parts.{meant_case}
-use Rattle.dd_meanings.proofs.Nothing.{none_item}
+use Rattle.dd_meanings.proofs.Nothing.{parts, none_item}
 use Rattle.dd_meanings.proofs.Making.{made_item}
 use Rattle.dd_meanings.proofs.definitions.cases_of.Goals as goal
 
 pub formula-requires-clause-faultless : goal.formula-requires-clause-faultless
 formula-requires-clause-faultless c =
-    let x = c.args.context.now in
-    let case = c.case-item.result in
-    (both_nil (formula_faults x case.condition []) (missing x.text x.known.setting.symbols case.symbol)
-    (none_item (case_faults x) c.args.cases.now c.loop-case.case-index case c.loop-case-test.true c.case-item.is c.requires.faultless)).0
+    let none = none_item (case_faults c.args.context.now) c.args.cases.now c.loop-case.case-index c.case-item.result c.loop-case-test.true c.case-item.is c.requires.faultless in
+    grind (arith, parts)
 
 pub loop-case-preserved : goal.loop-case-preserved
 loop-case-preserved c =

@@ -15,6 +15,6 @@ returns-in-Ok c =
 pub returns-clause-exact : goal.returns-clause-exact
 returns-clause-exact c =
     rw c.refusal_of.ensures (
-      composition_refused c.args.context.now c.args.automata.now c.args.name c.args.outer c.args.inner c.in_ok-outer.outer c.in_ok-inner.inner c.requires.named c.requires.formed c.requires.faultless c.in_ok-outer.ensures c.in_ok-inner.ensures
-      c.in-Err.fault c.in-Err.ensures.fault
+    composition_refused c.args.context.now c.args.automata.now c.args.name c.args.outer c.args.inner c.in_ok-outer.outer c.in_ok-inner.inner c.requires.named c.requires.formed c.requires.faultless c.in_ok-outer.ensures c.in_ok-inner.ensures
+    c.in-Err.fault c.in-Err.ensures.fault
     )

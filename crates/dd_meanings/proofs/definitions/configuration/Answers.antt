@@ -1,5 +1,5 @@
 use Rattle.dd_pattern.specs.lemmas.TileSizes.{sizes_of}
-use Rattle.dd_meanings.specs.making.Parts.{tile_with}
+use Rattle.dd_meanings.specs.Definitions.{tile_with}
 use Rattle.dd_meanings.proofs.ConfigurationLaws.{is_periodic, is_configuration}
 use Rattle.dd_meanings.proofs.definitions.configuration.Goals as goal
 

@@ -1,25 +1,21 @@
-use Rattle.std.proofs.Common.{◌≡◌, true, [], refl, ap, sym, subst}
+use Rattle.std.proofs.Common.{◌≡◌, true, [], refl, ap, sym, subst, arith}
 use Rattle.dd_faults.specs.Formulas.{formula_faults}
 use Rattle.dd_formula.specs.LocalRule.{local_rule}
 use Rattle.dd_formula.specs.Automata.{rule_has}
 use Rattle.dd_formula.specs.lemmas.CasesLaws.{has_numbers}
 use Rattle.dd_meanings.specs.declared.meaning.Meaning.TheVariants as meant
 use Rattle.dd_meanings.specs.making.Parts.{IsFormulaOf}
-use Rattle.dd_meanings.proofs.NameLaws.{new_name}
+use Rattle.dd_meanings.proofs.Nothing.{parts}
+use Rattle.dd_meanings.proofs.NameLaws.{is_new}
 use Rattle.dd_meanings.proofs.SizeLaws.{rule_passes, rule_refuses}
 use Rattle.dd_meanings.proofs.DefinitionLaws.{same_numbers}
 use Rattle.dd_meanings.proofs.WellFormed.{is_formula}
 use Rattle.dd_meanings.proofs.definitions.rule.Goals as goal
 
-pub formula-requires-clause-faultless : goal.formula-requires-clause-faultless
-formula-requires-clause-faultless c =
-    let x = c.args.context.now in (new_name x c.args.name (formula_faults x c.args.formula.now []) c.requires.faultless).1
-
 pub new-requires-clause-formula : goal.new-requires-clause-formula
 new-requires-clause-formula c =
     let x = c.args.context.now in
-    let faultless = (new_name x c.args.name (formula_faults x c.args.formula.now []) c.requires.faultless).1 in
-    subst (IsFormulaOf x.known) (sym c.in_ok-meant.ensures) (is_formula x c.args.formula.now c.requires.sound faultless c.requires.shallow)
+    subst (IsFormulaOf x.known) (sym c.in_ok-meant.ensures) (is_formula x c.args.formula.now c.requires.sound (grind (arith, parts)) c.requires.shallow)
 
 pub returns-in-Ok-clause-exact : goal.returns-in-Ok-clause-exact
 returns-in-Ok-clause-exact c =
@@ -32,7 +28,7 @@ returns-in-Ok-clause-sound c =
     let r = local_rule x.known.setting.topology x.known.setting.sets c.in_ok-meant.meant in
     let has = subst (λ s. rule_has s r ≡ true) (same_numbers x.known c.requires.sound) (has_numbers x.known.setting.topology x.known.setting.sets c.in_ok-meant.meant) in
     rw (← c.in_ok-meant.ensures)
-    ((new_name x c.args.name (formula_faults x c.args.formula.now []) c.requires.faultless).0, c.in-Ok.ensures.rule, record { has = has; edges = refl; allowed = refl })
+    (is_new x c.args.name (grind (arith, parts)), c.in-Ok.ensures.rule, record { has = has; edges = refl; allowed = refl })
 
 pub returns-in-Err-clause-exact : goal.returns-in-Err-clause-exact
 returns-in-Err-clause-exact c =

@@ -2,11 +2,9 @@ use Rattle.std.proofs.Common.{length, refl, ap, arith}
 use Rattle.std.proofs.lemmas.List.{length-map}
 use Rattle.dd_written.specs.Values.{name_text}
 use Rattle.dd_faults.specs.Commands.{dimension_of}
-use Rattle.dd_meanings.proofs.HeaderLaws.{nodes_are, names_are, default_sound}
+use Rattle.dd_meanings.proofs.Nothing.{parts}
+use Rattle.dd_meanings.proofs.HeaderLaws.{names_are, default_sound}
 use Rattle.dd_meanings.proofs.header.nodes.Goals as goal
-
-pub names_of-requires : goal.names_of-requires
-names_of-requires c = let are = nodes_are c.args.context.now c.args.names.now c.requires.faultless in record { few = omega (arith, are.1); distinct = are.0 }
 
 pub default_topology-requires-clause-nodes : goal.default_topology-requires-clause-nodes
 default_topology-requires-clause-nodes c =
@@ -22,6 +20,6 @@ returns-clause-sound c =
     let names = c.args.names.now in
     let count = length-map names (name_text x.text) in
     let is = rw (c.dim-dimension.ensures.value, c.count.ensures.number, c.in_ok-nodes.ensures, count) at c.in_ok-topology.ensures in (
-      names_are x.text 4 names c.in_ok-nodes.nodes c.in_ok-nodes.ensures c.requires.some (nodes_are x names c.requires.faultless).1 c.count.ensures.distinct,
+      names_are x.text 4 names c.in_ok-nodes.nodes c.in_ok-nodes.ensures c.requires.some (grind (arith, parts)) c.count.ensures.distinct,
       rw count (default_sound (dimension_of x.known) (length names) c.in_ok-topology.topology c.dim-dimension-2.ensures.grid is),
     )
