@@ -1,9 +1,10 @@
 //! The faults of commands of the header.
 ghost use Rattle.std.specs.Prelude.{◌≡◌, ◌==◌};
 ghost use Rattle.std.specs.List.{list_any};
+ghost use Rattle.dd_topology.specs.Builtin.{grid_of};
 ghost use Rattle.dd_faults.specs.Order.{noted};
 ghost use Rattle.dd_faults.specs.Names.{missing};
-ghost use Rattle.dd_faults.specs.Commands.{kind_dimension, kind_nodes, kind_fits, edge_faults, is_restricted, restricted_again, passes_limits};
+ghost use Rattle.dd_faults.specs.Commands.{kind_fits, edge_faults, is_restricted, restricted_again, passes_limits};
 
 use crate::context::{Context, Known};
 use crate::each::Notes;
@@ -16,7 +17,7 @@ use dd_topology::Kind;
 use dd_written::{Name, name_text};
 
 fn kind_dimension(kind: Kind) -> u32
-    ensures { result ≡ kind_dimension kind }
+    ensures { result ≡ (grid_of kind).dimension }
 {
     match kind {
         Kind::Line => 1,
@@ -26,7 +27,7 @@ fn kind_dimension(kind: Kind) -> u32
 }
 
 fn kind_nodes(kind: Kind) -> u32
-    ensures { result ≡ kind_nodes kind }
+    ensures { result ≡ (grid_of kind).nodes }
 {
     match kind {
         Kind::Hex => 2,
