@@ -33,7 +33,7 @@ fn query(alloc: Global, context: &Context, request: &Request) -> Result<Meaning,
 }
 
 /// What a command without faults means; refused where a rule or an automaton has too many instances, reads too far or is too deep.
-#[tactic(none)]
+#[tactic(auto, using(crate::proofs::Nothing::parts))]
 pub fn mean(
     alloc: Global,
     context: &Context,

@@ -2,13 +2,6 @@ use Rattle.std.proofs.Common.{refl}
 use Rattle.dd_meanings.proofs.WrittenLaws.{no_fault, body, all_shallow}
 use Rattle.dd_meanings.proofs.meanings.mean.Goals as goal
 
-pub dimension-requires : goal.dimension-requires
-dimension-requires c =
-    record { sound = c.requires.sound; faultless = no_fault c.args.context.now c.args.written.now _ c.in-Dimension.is c.requires.faultless }
-
-pub returns-in-Dimension : goal.returns-in-Dimension
-returns-in-Dimension c = rw c.in-Dimension.is c.dimension.ensures
-
 pub nodes-requires : goal.nodes-requires
 nodes-requires c =
     rw c.as_slice.ensures (record {
@@ -30,16 +23,6 @@ alphabet-requires c =
 pub returns-in-Alphabet : goal.returns-in-Alphabet
 returns-in-Alphabet c = rw (c.in-Alphabet.is, ← c.as_slice-in-Alphabet.ensures) c.alphabet.ensures
 
-pub kind-requires : goal.kind-requires
-kind-requires c = record { faultless = no_fault c.args.context.now c.args.written.now _ c.in-Topology.is c.requires.faultless }
-
-pub returns-in-Topology : goal.returns-in-Topology
-returns-in-Topology c = rw c.in-Topology.is c.kind.ensures
-
-pub edges-requires : goal.edges-requires
-edges-requires c =
-    rw c.as_slice-in-Edges.ensures (record { sound = c.requires.sound; faultless = no_fault c.args.context.now c.args.written.now _ c.in-Edges.is c.requires.faultless })
-
 pub returns-in-Edges : goal.returns-in-Edges
 returns-in-Edges c = rw (c.in-Edges.is, ← c.as_slice-in-Edges.ensures) c.edges.ensures
 
@@ -53,15 +36,8 @@ only-requires c =
 pub returns-in-Only : goal.returns-in-Only
 returns-in-Only c = rw (c.in-Only.is, ← c.as_slice-in-Only.ensures) c.only.ensures
 
-pub weights-requires : goal.weights-requires
-weights-requires c =
-    rw c.as_slice-in-Weights.ensures (record { faultless = no_fault c.args.context.now c.args.written.now _ c.in-Weights.is c.requires.faultless })
-
 pub returns-in-Weights : goal.returns-in-Weights
 returns-in-Weights c = rw (c.in-Weights.is, ← c.as_slice-in-Weights.ensures) c.weights.ensures
-
-pub limits-requires : goal.limits-requires
-limits-requires c = record { sound = c.requires.sound; faultless = no_fault c.args.context.now c.args.written.now _ c.in-Limits.is c.requires.faultless }
 
 pub returns-in-Limits : goal.returns-in-Limits
 returns-in-Limits c = rw c.in-Limits.is (record { exact = (refl, c.limits.ensures.exact); sound = c.limits.ensures.sound })
@@ -87,13 +63,6 @@ automaton-requires c =
 
 pub returns-in-Automaton : goal.returns-in-Automaton
 returns-in-Automaton c = rw (c.in-Automaton.is, ← c.as_slice-in-Automaton.ensures) c.automaton.ensures
-
-pub composition-requires : goal.composition-requires
-composition-requires c = record {
-  named = c.requires.named;
-  formed = c.requires.formed;
-  faultless = no_fault c.args.context.now c.args.written.now _ c.in-Composition.is c.requires.faultless;
-}
 
 pub returns-in-Composition : goal.returns-in-Composition
 returns-in-Composition c = rw c.in-Composition.is c.composition.ensures
