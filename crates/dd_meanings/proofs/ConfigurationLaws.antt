@@ -1,8 +1,7 @@
 -- Configurations without faults.
-use Rattle.std.proofs.Common.{◌≡◌, ◌<◌, ◌≤◌, ℕ, zero, suc, ◌+◌, ◌*◌, ◌%◌, true, false, List, [], ◌∷◌, ◌++◌, length, map, Option, Some, None, refl, sym, ap, ◌∙◌, subst, arith}
-use Rattle.std.specs.Prelude.{◌||◌, ◌&&◌, ◌==◌, nat_lt, nat_le, not, unwrap_or, slice_index, if◌then◌else◌, Bool}
+use Rattle.std.proofs.Common.{◌≡◌, ◌<◌, ◌≤◌, ℕ, zero, suc, ◌+◌, ◌*◌, ◌%◌, true, false, List, [], ◌∷◌, length, map, Option, Some, None, refl, sym, ap, ◌∙◌, subst, arith}
+use Rattle.std.specs.Prelude.{unwrap_or, slice_index}
 use Rattle.std.specs.Option.{option_map_or}
-use Rattle.std.proofs.lemmas.Bool.{and_parts, leb-true}
 use Rattle.std.proofs.lemmas.Grind.{common_steps}
 use Rattle.std.proofs.lemmas.List.{length-map}
 use Rattle.std.proofs.lemmas.List.Elements.{All-from_get_or}
@@ -15,18 +14,15 @@ use Rattle.dd_written.specs.Values.{name_text}
 use Rattle.dd_commands.specs.declared.command.Entry.{Entry}
 use Rattle.dd_commands.specs.declared.command.Vector.{Vector}
 use Rattle.dd_commands.specs.declared.command.Command.TheVariants as command
-use Rattle.dd_pattern.specs.Periods.{ArePeriodsIn, periods_of as with_shear}
 use Rattle.dd_pattern.specs.Tile.{IsPeriodic, IsTile}
 use Rattle.dd_faults.specs.declared.fault.Limit.TheVariants as limit
 use Rattle.dd_faults.specs.declared.fault.Fault.TheVariants as fault
 use Rattle.dd_faults.specs.declared.context.Context.{Context}
-use Rattle.dd_faults.specs.Order.{when, over}
 use Rattle.dd_faults.specs.Names.{place_of_name}
-use Rattle.dd_faults.specs.Commands.{dimension_of, has_entries, is_allowed, symbol_faults, product, period_at, shear_of, shear_fits, box_fits, box_faults, faults_of, entry_value}
+use Rattle.dd_faults.specs.Commands.{dimension_of, is_allowed, symbol_faults, product, period_at, shear_of, shear_fits, box_faults, faults_of, entry_value}
 use Rattle.dd_faults.specs.Sound.{IsSound}
-use Rattle.dd_faults.specs.lemmas.Nothing.{both_nil, within}
 use Rattle.dd_faults.specs.lemmas.Periods.{entry_at, no_entry}
-use Rattle.dd_meanings.specs.Definitions.{symbol_of, configuration_periods, tile_of, tile_with}
+use Rattle.dd_meanings.specs.Definitions.{symbol_of, tile_of, tile_with}
 use Rattle.dd_meanings.specs.Sound.{IsNew, IsConfigurationOf}
 use Rattle.dd_meanings.proofs.Nothing.{parts}
 use Rattle.dd_meanings.proofs.NameLaws.{is_new}

@@ -1,5 +1,5 @@
 -- Automata without faults, by cases and by their names.
-use Rattle.std.proofs.Common.{◌≡◌, ◌<◌, ◌≤◌, ℕ, List, [], ◌∷◌, ◌++◌, length, map, slice_index_or, sym, ap, ◌∙◌, subst, arith}
+use Rattle.std.proofs.Common.{◌≡◌, ◌<◌, ◌≤◌, ℕ, List, [], length, map, slice_index_or, sym, ap, ◌∙◌, subst, arith}
 use Rattle.std.specs.Prelude.{unwrap_or, Option}
 use Rattle.std.specs.List.{All, flat_map}
 use Rattle.std.proofs.lemmas.List.Elements.{All-map, All-get_or}
@@ -14,11 +14,9 @@ use Rattle.dd_written.specs.declared.tree.Name.{Name}
 use Rattle.dd_written.specs.declared.tree.Name.TheVariants as name
 use Rattle.dd_commands.specs.declared.command.Case.{Case}
 use Rattle.dd_commands.specs.declared.command.Command.TheVariants as command
-use Rattle.dd_faults.specs.declared.fault.Fault.{Fault}
 use Rattle.dd_faults.specs.declared.context.Known.{Known}
 use Rattle.dd_faults.specs.declared.context.Context.{Context}
 use Rattle.dd_faults.specs.Names.{missing, number_in}
-use Rattle.dd_faults.specs.Formulas.{formula_faults}
 use Rattle.dd_faults.specs.Commands.{case_faults, faults_of}
 use Rattle.dd_faults.specs.Order.{first_fault, Refuses}
 use Rattle.dd_faults.specs.Sound.{IsSound}
@@ -35,7 +33,6 @@ use Rattle.dd_meanings.specs.Made.{script_numbers}
 use Rattle.dd_meanings.specs.Sound.{IsNew}
 use Rattle.dd_meanings.specs.Definitions.{case_of, symbol_of, automaton_of, automaton_at, automaton_named, composition_of, automaton_faults}
 use Rattle.dd_meanings.specs.making.Parts.{refusal_of, meant_case}
-use Rattle.dd_faults.specs.lemmas.Nothing.{both_nil}
 use Rattle.dd_meanings.proofs.Nothing.{parts, none_at}
 use Rattle.dd_meanings.proofs.NameLaws.{number_below, is_new}
 use Rattle.dd_meanings.proofs.WellFormed.{is_formula}

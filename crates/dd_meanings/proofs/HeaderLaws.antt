@@ -1,9 +1,8 @@
 -- What the commands of the header have where they have no fault.
-use Rattle.std.proofs.Common.{◌≡◌, ℕ, ◌≤◌, ◌<◌, Bool, true, false, cond, eqb, nat_lt, List, [], ◌++◌, length, map, slice_index_or, refl, sym, ap, ◌∙◌, subst, arith}
-use Rattle.std.specs.Prelude.{◌==◌, ◌||◌, ◌&&◌, nat_le, min}
+use Rattle.std.proofs.Common.{◌≡◌, ℕ, ◌≤◌, ◌<◌, Bool, true, false, cond, eqb, List, [], length, map, slice_index_or, refl, sym, ◌∙◌, subst, arith}
+use Rattle.std.specs.Prelude.{min}
 use Rattle.std.specs.List.{All, flat_map}
 use Rattle.std.proofs.lemmas.Bool.{eqb-true}
-use Rattle.std.proofs.lemmas.Bool.Decides.{nat_tests}
 use Rattle.std.proofs.lemmas.Grind.{common_steps}
 use Rattle.std.proofs.lemmas.List.{length-map}
 use Rattle.std.proofs.lemmas.List.Elements.{All-map, All-get_or}
@@ -17,16 +16,14 @@ use Rattle.dd_topology.specs.Grid.{Grid, IsGrid, grid}
 use Rattle.dd_topology.specs.Builtin.{grid_of}
 use Rattle.dd_faults.specs.declared.fault.Limit.TheVariants as limit
 use Rattle.dd_faults.specs.declared.context.Context.{Context}
-use Rattle.dd_faults.specs.Order.{over}
 use Rattle.dd_faults.specs.Names.{missing, number_in}
-use Rattle.dd_faults.specs.Repeats.{twice_named}
-use Rattle.dd_faults.specs.Commands.{unless, dimension_of, weight_faults, passes_limits, restricted_again, faults_of}
+use Rattle.dd_faults.specs.Commands.{weight_faults, passes_limits, faults_of}
 use Rattle.dd_faults.specs.Sound.{IsSound}
 use Rattle.dd_meanings.specs.Meanings.{limits}
-use Rattle.dd_meanings.specs.Topologies.{plain_kind, default_grid}
+use Rattle.dd_meanings.specs.Topologies.{default_grid}
 use Rattle.dd_meanings.specs.Definitions.{symbol_of}
 use Rattle.dd_meanings.specs.Sound.{IsGridOf, AreNames, IsSymbolRestriction, AreScriptWeights}
-use Rattle.dd_faults.specs.lemmas.Nothing.{both_nil, fits, within}
+use Rattle.dd_faults.specs.lemmas.Nothing.{within}
 use Rattle.dd_meanings.proofs.Nothing.{parts, all_where}
 use Rattle.dd_meanings.proofs.NameLaws.{number_below}
 

@@ -22,7 +22,6 @@ use Rattle.dd_faults.specs.declared.context.Context.{Context}
 use Rattle.dd_faults.specs.Order.{when}
 use Rattle.dd_faults.specs.Names.{place_of_name, missing, number_in, same_text, variable_of, is_variable, unknown_variable, named_again}
 use Rattle.dd_faults.specs.Repeats.{first_repeat}
-use Rattle.dd_faults.specs.lemmas.Nothing.{both_nil}
 use Rattle.dd_faults.specs.lemmas.Repeats.{once}
 use Rattle.dd_meanings.specs.Formulas.{variable_number}
 use Rattle.dd_meanings.specs.Sound.{IsNew}

@@ -1,8 +1,8 @@
 -- The first limit that rules and automata pass.
-use Rattle.std.proofs.Common.{◌≡◌, ◌≤◌, ◌<◌, ℕ, zero, suc, ◌+◌, Bool, true, false, [], refl, ap, ◌∙◌, Some, arith}
-use Rattle.std.specs.Prelude.{◌&&◌, ◌++◌, not, nat_le}
+use Rattle.std.proofs.Common.{◌≡◌, ◌≤◌, ◌<◌, ℕ, zero, suc, ◌+◌, Bool, true, [], refl, arith}
+use Rattle.std.specs.Prelude.{nat_le}
 use Rattle.std.specs.List.{list_all, range_with_len}
-use Rattle.std.proofs.lemmas.Bool.{and_from, and_parts, le-leb}
+use Rattle.std.proofs.lemmas.Bool.{and_from, le-leb}
 use Rattle.std.proofs.lemmas.Grind.{common_steps}
 use Rattle.dd_expansion.specs.Leaves.{instances}
 use Rattle.dd_formula.specs.LocalRule.{LocalRule, most_instances, expansion_at, reads_at, is_near, IsSmall, IsRule}
@@ -14,7 +14,7 @@ use Rattle.dd_formula.specs.declared.fault.RuleFault.{RuleFault}
 use Rattle.dd_formula.specs.declared.fault.RuleFault.TheVariants as rule_fault
 use Rattle.dd_formula.specs.lemmas.AutomatonLaws.{within_is}
 use Rattle.dd_formula.specs.lemmas.CasesLaws.{refused, passes_one}
-use Rattle.dd_faults.specs.Order.{noted, over, first_fault, Refuses}
+use Rattle.dd_faults.specs.Order.{first_fault, Refuses}
 use Rattle.dd_faults.specs.declared.fault.Fault.TheVariants as fault
 use Rattle.dd_faults.specs.declared.fault.Limit.TheVariants as limit
 use Rattle.dd_meanings.specs.Definitions.{rule_counts, count_faults, rule_faults}

@@ -1,7 +1,6 @@
 -- What a command has that is written and has no fault.
-use Rattle.std.proofs.Common.{◌≡◌, ℕ, ◌≤◌, List, [], ◌∷◌, ◌++◌, subst, arith}
-use Rattle.std.specs.Prelude.{nat_lt}
-use Rattle.std.specs.List.{All, flat_map}
+use Rattle.std.proofs.Common.{◌≡◌, ℕ, ◌≤◌, List, [], ◌∷◌, subst, arith}
+use Rattle.std.specs.List.{All}
 use Rattle.std.proofs.lemmas.Grind.{common_steps}
 use Rattle.std.proofs.lemmas.List.Elements.{All-nil, All-cons}
 use Rattle.dd_written.specs.declared.lexeme.Lexeme.{Lexeme}
@@ -14,8 +13,7 @@ use Rattle.dd_commands.specs.Commands.{IsCase, IsBody}
 use Rattle.dd_commands.specs.Scripts.{IsWritten}
 use Rattle.dd_faults.specs.declared.fault.Limit.TheVariants as limit
 use Rattle.dd_faults.specs.declared.context.Context.{Context}
-use Rattle.dd_faults.specs.Order.{over}
-use Rattle.dd_faults.specs.Commands.{token_faults, faults_of, written_faults}
+use Rattle.dd_faults.specs.Commands.{faults_of, written_faults}
 use Rattle.dd_faults.specs.lemmas.Nothing.{both_nil}
 
 module _ (x : Context) (w : Written) (c : Command) (is : w.command ≡ c) where
