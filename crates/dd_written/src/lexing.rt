@@ -3,7 +3,7 @@ ghost use Rattle.std.specs.Prelude.{◌≡◌, ◌≤◌, ◌+◌, length, map, 
 ghost use Rattle.std.specs.Char.{is_ascii};
 ghost use Rattle.std.specs.List.{list_all};
 ghost use Rattle.dd_values.specs.Bounds.{most_script};
-ghost use Rattle.dd_written.specs.Lexemes.{mark_text, mark_at, token_text, lexeme_of, lexemes_of};
+ghost use Rattle.dd_written.specs.Lexemes.{mark_text, mark_at, lexeme_of, lexemes_of};
 
 use crate::lexeme::{Lexeme, Mark, Number, Word};
 use crate::words::{part, same_bytes};
@@ -67,29 +67,15 @@ fn mark(written: &[u8]) -> Option<Mark>
         .find(|mark| same_bytes(written, mark.text()))
 }
 
-fn text(bytes: &[u8], token: Token) -> &[u8]
-    ensures { result.now ≡ token_text bytes.now token }
-{
-    part(bytes, token.start, token.length)
-}
-
 fn lexeme(bytes: &[u8], token: Token) -> Lexeme
     ensures { result ≡ lexeme_of bytes.now token }
 {
+    let Token { start, length, .. } = token;
     match token.kind {
-        TokenKind::Word => Lexeme::Word(Word {
-            start: token.start,
-            length: token.length,
-        }),
-        TokenKind::Number => Lexeme::Number(Number {
-            start: token.start,
-            length: token.length,
-        }),
-        TokenKind::Negative => Lexeme::Negative(Number {
-            start: token.start,
-            length: token.length,
-        }),
-        TokenKind::Mark => match mark(text(bytes, token)) {
+        TokenKind::Word => Lexeme::Word(Word { start, length }),
+        TokenKind::Number => Lexeme::Number(Number { start, length }),
+        TokenKind::Negative => Lexeme::Negative(Number { start, length }),
+        TokenKind::Mark => match mark(part(bytes, start, length)) {
             Some(mark) => Lexeme::Mark(mark),
             None => Lexeme::Stray,
         },
