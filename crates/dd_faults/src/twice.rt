@@ -1,9 +1,8 @@
 //! What is given twice.
 ghost use Rattle.std.specs.Prelude.{◌≡◌, ◌++◌, [], ◌∷◌, ℕ, List, string_bytes, Contains, MatchBool, IfOk, OnOk};
-ghost use Rattle.dd_written.specs.Values.{name_text, number_text};
+ghost use Rattle.dd_written.specs.Values.{name_text};
 ghost use Rattle.dd_faults.specs.declared.fault.Fault.{Fault as AnyFault};
 ghost use Rattle.dd_faults.specs.declared.fault.Fault.TheVariants.{Twice};
-ghost use Rattle.dd_faults.specs.Numbers.{entry_number};
 ghost use Rattle.dd_faults.specs.Order.{noted};
 ghost use Rattle.dd_faults.specs.Repeats.{first_repeat, edge_key, twice_label, entry_key, vector_key, twice_vector};
 
@@ -102,22 +101,15 @@ impl Keyed for Edge {
     }
 }
 
-fn entry_text(text: &Text, entry: Entry) -> &str
-    ensures { result.now ≡ number_text text.now (entry_number entry) }
-{
-    match entry {
-        Entry::Number(number) | Entry::Negative(number) => name_text(text, Name::Number(number)),
-    }
-}
-
 /// The number of an entry of at most 4 in absolute value, and the text of any other, with a comma behind it.
 fn entry_key(alloc: Global, text: &Text, entry: Entry) -> Result<String, AllocError>
     ensures { IfOk result (λ key. string_bytes key ≡ entry_key text.now entry) }
 {
-    if entry_value(text, entry) > FARTHEST {
-        return format!(in alloc; "{},", entry_text(text, entry));
+    if entry_value(text, entry) <= FARTHEST {
+        return format!(in alloc; "{},", signed_value(text, entry));
     }
-    format!(in alloc; "{},", signed_value(text, entry))
+    let (Entry::Number(number) | Entry::Negative(number)) = entry;
+    format!(in alloc; "{},", name_text(text, Name::Number(number)))
 }
 
 impl Keyed for Vector {
