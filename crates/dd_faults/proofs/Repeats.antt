@@ -7,7 +7,7 @@ use Rattle.dd_faults.specs.Repeats.{first_repeat}
 use Rattle.dd_faults.specs.lemmas.Repeats.{among, not_among}
 
 module _ {X : Type 0} (key : X → List ℕ) (f : X → Fault) (xs : List X) (i : ℕ) (x : X) (seen : List (List ℕ))
-  (lt : i < length xs) (at : x ≡ slice_index_or xs i x) (so_far : first_repeat key f seen (drop i xs) ≡ first_repeat key f [] xs) where
+    (lt : i < length xs) (at : x ≡ slice_index_or xs i x) (so_far : first_repeat key f seen (drop i xs) ≡ first_repeat key f [] xs) where
   next : (if list_any (bytes_eq (key x)) seen then f x ∷ [] else first_repeat key f (seen ++ key x ∷ []) (drop (i + 1) xs)) ≡ first_repeat key f [] xs
   next =
       let left : drop i xs ≡ x ∷ drop (suc i) xs = drop-cons xs i x lt ∙ ap (λ (y : X). y ∷ drop (suc i) xs) (sym at) in
