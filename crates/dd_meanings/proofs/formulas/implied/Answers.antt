@@ -1,4 +1,4 @@
-use Rattle.std.proofs.Common.{◌≡◌, List, [], ◌∷◌, ◌++◌, sym, ap, ◌∙◌}
+use Rattle.std.proofs.Common.{◌≡◌, [], ◌∷◌, ◌++◌, sym, ap, ◌∙◌}
 use Rattle.dd_expansion.specs.declared.formulas.Formula.{Formula, roll-Formula}
 use Rattle.dd_expansion.specs.declared.formulas.Formula.TheVariants as v
 use Rattle.dd_expansion.specs.declared.formulas.Formula.TheOpen.{Formula-F}
