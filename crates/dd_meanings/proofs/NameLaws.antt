@@ -25,7 +25,7 @@ use Rattle.dd_faults.specs.Repeats.{first_repeat}
 use Rattle.dd_faults.specs.lemmas.Repeats.{once}
 use Rattle.dd_meanings.specs.Formulas.{variable_number}
 use Rattle.dd_meanings.specs.Sound.{IsNew}
-use Rattle.dd_meanings.proofs.Nothing.{present}
+use Rattle.dd_meanings.proofs.Nothing.{parts}
 
 pub stands : (names : List (List ℕ)) (text : List ℕ) → Decides (list_any (bytes_eq text) names) (Contains names text)
 stands names text = (Contains-from_any (λ x y. (bytes_eq-Decides x y).0) text names, list_any-from_Contains nat_list_eq_equiv text names)
@@ -68,27 +68,11 @@ pub is_named : (bytes : List ℕ) (names : List (List ℕ)) (n : Name) → missi
 is_named bytes names n h = named_from bytes names n (place_of_name bytes names n) refl h
 
 pub number_below : (bytes : List ℕ) (names : List (List ℕ)) (n : Name) → missing bytes names n ≡ [] → number_in bytes names n < length names
-number_below bytes names n h = text_below names (name_text bytes n) (is_named bytes names n h)
+number_below bytes names n h = grind (arith, parts)
 
 -- a variable that is one is among those in scope
-position_below : {X : Type 0} (p : X → Bool) (xs : List X) → IfSome (position p xs) (λ i. i < length xs)
-position_below p xs =
-    cond_both (nat_lt (position_or_len p xs) (length xs)) (Some (position_or_len p xs)) None (λ o. IfSome o (λ i. i < length xs)) (λ e. ltb-true _ _ e) (λ _. tt)
-
-variable_option : (b : Bool) (o : Option ℕ) (n : ℕ) → IfSome o (λ i. i < n) → IfSome (cond b (Some 0) (option_map (λ k. k + 1) o)) (λ i. i < n + 1)
-variable_option true o n small = omega arith
-variable_option false None n small = tt
-variable_option false (Some i) n small = omega (arith, small)
-
-below_option : (o : Option ℕ) (n : ℕ) → IfSome o (λ i. i < n) → is_some o ≡ true → unwrap_or o 0 < n
-below_option None n small is = absurd cc
-below_option (Some i) n small is = small
-
 pub variable_below : (bytes : List ℕ) (scope : List Word) (w : Word) → unknown_variable bytes scope w ≡ [] → variable_number bytes scope w < length scope + 1
-variable_below bytes scope w none =
-    below_option (variable_of bytes scope w) (length scope + 1)
-    (variable_option (bytes_eq (word_text bytes w) (codes "o")) (position (same_text bytes w) scope) (length scope) (position_below (same_text bytes w) scope))
-    (present (is_variable bytes scope w) (fault.Unknown (name.Word w)) none)
+variable_below bytes scope w none = grind (arith, common_steps)
 
 -- a name that is defined nowhere is none of those
 absent : (names : List (List ℕ)) (text : List ℕ) → is_some (number_of names text) ≡ false → ¬ Contains names text

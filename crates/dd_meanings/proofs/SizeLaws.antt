@@ -37,8 +37,7 @@ formed_passes s f h = let passes = within_is s.nodes f h.within in grind (arith,
 
 range_from : (p : ℕ → Bool) (k n : ℕ) → ((a : ℕ) → k ≤ a → a < k + n → p a ≡ true) → list_all p (range_with_len k n) ≡ true
 range_from p k zero each = refl
-range_from p k (suc n) each =
-    and_from (p k) (list_all p (range_with_len (k + 1) n)) (each k (omega arith) (omega arith)) (range_from p (k + 1) n (λ a low high. each a (omega arith) (omega arith)))
+range_from p k (suc n) each = grind (arith, common_steps, each k, range_from p (k + 1) n)
 
 module _ (r : LocalRule) where
   small_is_few : IsSmall r → is_few r.nodes (rule_counts r) ≡ true
