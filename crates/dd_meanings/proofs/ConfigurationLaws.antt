@@ -15,8 +15,6 @@ use Rattle.dd_commands.specs.declared.command.Entry.{Entry}
 use Rattle.dd_commands.specs.declared.command.Vector.{Vector}
 use Rattle.dd_commands.specs.declared.command.Command.TheVariants as command
 use Rattle.dd_pattern.specs.Tile.{IsPeriodic, IsTile}
-use Rattle.dd_faults.specs.declared.fault.Limit.TheVariants as limit
-use Rattle.dd_faults.specs.declared.fault.Fault.TheVariants as fault
 use Rattle.dd_faults.specs.declared.context.Context.{Context}
 use Rattle.dd_faults.specs.Names.{place_of_name}
 use Rattle.dd_faults.specs.Commands.{dimension_of, is_allowed, symbol_faults, product, period_at, shear_of, shear_fits, box_faults, faults_of, entry_value}

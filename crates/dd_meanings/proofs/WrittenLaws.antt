@@ -11,7 +11,6 @@ use Rattle.dd_commands.specs.declared.command.Command.{Command}
 use Rattle.dd_commands.specs.declared.script.Written.{Written}
 use Rattle.dd_commands.specs.Commands.{IsCase, IsBody}
 use Rattle.dd_commands.specs.Scripts.{IsWritten}
-use Rattle.dd_faults.specs.declared.fault.Limit.TheVariants as limit
 use Rattle.dd_faults.specs.declared.context.Context.{Context}
 use Rattle.dd_faults.specs.Commands.{faults_of, written_faults}
 use Rattle.dd_faults.specs.lemmas.Nothing.{both_nil}

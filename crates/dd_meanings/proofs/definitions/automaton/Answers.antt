@@ -1,5 +1,4 @@
-use Rattle.std.proofs.Common.{sym, ◌∙◌, subst}
-use Rattle.dd_meanings.specs.Definitions.{automaton_of}
+use Rattle.std.proofs.Common.{◌∙◌}
 use Rattle.dd_meanings.proofs.DefinitionLaws.{are_cases, is_symbol, cases_defined, cases_refused}
 use Rattle.dd_meanings.proofs.definitions.automaton.Goals as goal
 

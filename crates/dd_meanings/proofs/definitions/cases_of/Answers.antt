@@ -1,4 +1,4 @@
-use Rattle.std.proofs.Common.{[], refl, arith}
+use Rattle.std.proofs.Common.{refl, arith}
 use Rattle.dd_faults.specs.Commands.{case_faults}
 use Rattle.dd_meanings.specs.making.Parts.{meant_case}
 use Rattle.dd_meanings.proofs.Nothing.{parts, none_item}

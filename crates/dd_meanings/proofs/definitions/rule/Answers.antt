@@ -1,5 +1,4 @@
-use Rattle.std.proofs.Common.{◌≡◌, true, [], refl, ap, sym, subst, arith}
-use Rattle.dd_faults.specs.Formulas.{formula_faults}
+use Rattle.std.proofs.Common.{◌≡◌, true, refl, ap, sym, subst, arith}
 use Rattle.dd_formula.specs.LocalRule.{local_rule}
 use Rattle.dd_formula.specs.Automata.{rule_has}
 use Rattle.dd_formula.specs.lemmas.CasesLaws.{has_numbers}
