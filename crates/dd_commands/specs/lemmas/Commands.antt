@@ -32,7 +32,7 @@ use Rattle.dd_commands.specs.Commands.{vector_text, second_vector_text, edge_tex
 use Rattle.dd_commands.specs.reading.Forms.{Form, as_made, ◌▸◌, some, alone}
 use Rattle.dd_commands.specs.reading.Vectors.{name, plain}
 use Rattle.dd_commands.specs.reading.Commands.{one_of, keyword, heads, kinds, wanted, formula, case_parts, case, listed, topology, body, command_of}
-use Rattle.dd_commands.specs.lemmas.Forms.{Reads, alone_is, made_reads, then_reads, exactly_reads, each_reads, some_reads, shorter, texts_whole, singles_read, singles_stand, singles_whole}
+use Rattle.dd_commands.specs.lemmas.Forms.{Reads, alone_is, made_reads, then_reads, exactly_reads, each_reads, some_reads, shorter, texts_whole, singles_read, singles_stand, some_singles, singles_some}
 use Rattle.dd_commands.specs.lemmas.Items.{word_reads, number_reads, name_reads, vector_reads, plain_reads, shear_reads, edge_reads}
 
 -- ---- words by their text
@@ -88,12 +88,12 @@ listed_reads lists.Vectors = some_reads vector_reads (λ rest. tt) (shorter vect
 
 listed_lists : (l : Lists) (vs : List Vector) (tokens : List Lexeme) → (listed l).writes vs tokens [] → AreLists l vs × (tokens ≡ flat_map vector_text vs)
 listed_lists lists.None vs tokens w = (w.0, rw (w.0, w.1) refl)
-listed_lists lists.Strip vs tokens w = ((w.0, sym w.1, w.2.1), rw (← w.1) w.2.0)
+listed_lists lists.Strip vs tokens w = ((w.0, sym w.1, w.2.0), rw (← w.1) w.2.1)
 listed_lists lists.Vectors vs tokens w = (w.0, texts_read vector_text vs tokens [] w.1 ∙ append-nil (flat_map vector_text vs))
 
 lists_listed : (l : Lists) (vs : List Vector) (tokens : List Lexeme) → AreLists l vs → tokens ≡ flat_map vector_text vs → (listed l).writes vs tokens []
 lists_listed lists.None vs tokens are e = (are, e ∙ ap (flat_map vector_text) are)
-lists_listed lists.Strip vs tokens are e = (are.0, sym are.1, (e ∙ ap (flat_map vector_text) are.1, are.2))
+lists_listed lists.Strip vs tokens are e = (are.0, sym are.1, (are.2, e ∙ ap (flat_map vector_text) are.1))
 lists_listed lists.Vectors vs tokens are e = (are, texts_whole vector_text vs tokens e)
 
 module _ (law : FormulasAreRead) where
@@ -165,12 +165,6 @@ module _ (law : FormulasAreRead) where
   abbrev Spelled : List ℕ → Head → List Lexeme → Command → Type 0
   Spelled bytes h tokens c = (head_of c ≡ h) × IsBody bytes c tokens
 
-  names_are : (ns : List Name) (tokens : List Lexeme) → (some name).writes ns tokens [] → (1 ≤ length ns) × (tokens ≡ map name_lexeme ns)
-  names_are ns tokens w = (w.0, singles_read name_lexeme ns tokens [] w.1 ∙ append-nil (map name_lexeme ns))
-
-  are_names : (ns : List Name) (tokens : List Lexeme) → 1 ≤ length ns → tokens ≡ map name_lexeme ns → (some name).writes ns tokens []
-  are_names ns tokens some e = (some, singles_whole name_lexeme ns tokens e)
-
   topology_spelled : (bytes : List ℕ) (tokens : List Lexeme) (c : Command) → (topology bytes tokens).writes c tokens [] → Spelled bytes head.Topology tokens c
   topology_spelled bytes (lexeme.Word v ∷ tokens) c w = subst (Spelled bytes head.Topology (lexeme.Word v ∷ tokens)) w.1 (refl, w.2)
   topology_spelled bytes tokens c w =
@@ -178,14 +172,13 @@ module _ (law : FormulasAreRead) where
 
   spelled : (bytes : List ℕ) (h : Head) (tokens : List Lexeme) (c : Command) → (body bytes h tokens).writes c tokens [] → Spelled bytes h tokens c
   spelled bytes head.Dimension tokens c w = subst (Spelled bytes head.Dimension tokens) w.1 (refl, w.2)
-  spelled bytes head.Nodes tokens c w = subst (Spelled bytes head.Nodes tokens) w.1 (refl, names_are w.0 tokens w.2)
-  spelled bytes head.Alphabet tokens c w = subst (Spelled bytes head.Alphabet tokens) w.1 (refl, names_are w.0 tokens w.2)
+  spelled bytes head.Nodes tokens c w = subst (Spelled bytes head.Nodes tokens) w.1 (refl, some_singles name_lexeme w.0 tokens w.2)
+  spelled bytes head.Alphabet tokens c w = subst (Spelled bytes head.Alphabet tokens) w.1 (refl, some_singles name_lexeme w.0 tokens w.2)
   spelled bytes head.Topology tokens c w = topology_spelled bytes tokens c w
   spelled bytes head.Only tokens c w =
-      let ns = names_are w.0.1 w.2.0 w.2.2 in
+      let ns = some_singles name_lexeme w.0.1 w.2.0 w.2.2 in
       subst (Spelled bytes head.Only tokens) w.1 (refl, (ns.0, rw (w.2.1, ns.1) refl))
-  spelled bytes head.Weights tokens c w =
-      subst (Spelled bytes head.Weights tokens) w.1 (refl, (w.2.0, singles_read lexeme.Number w.0 tokens [] w.2.1 ∙ append-nil (map lexeme.Number w.0)))
+  spelled bytes head.Weights tokens c w = subst (Spelled bytes head.Weights tokens) w.1 (refl, some_singles lexeme.Number w.0 tokens w.2)
   spelled bytes head.Limits tokens c w = subst (Spelled bytes head.Limits tokens) w.1 (refl, rw (w.2.1, w.2.2.1, w.2.2.2) refl)
   spelled bytes head.Rule tokens c w = subst (Spelled bytes head.Rule tokens) w.1 (refl, (w.2.2.1, rw (w.2.1, w.2.2.0, append-nil (text w.0.1)) refl))
   spelled bytes head.Automaton tokens c w =
@@ -194,8 +187,8 @@ module _ (law : FormulasAreRead) where
   spelled bytes head.Composition tokens c w = subst (Spelled bytes head.Composition tokens) w.1 (refl, rw (w.2.1, w.2.2.1, w.2.2.2) refl)
   spelled bytes head.Configuration tokens c w =
       let p = w.2.2 in
-      let ns = names_are w.0.1.1.1 p.2.0 p.2.2 in
-      subst (Spelled bytes head.Configuration tokens) w.1 (refl, (ns.0, p.1.1, p.2.1.1, rw (w.2.1, p.1.0, p.2.1.0, ns.1) refl))
+      let ns = some_singles name_lexeme w.0.1.1.1 p.2.0 p.2.2 in
+      subst (Spelled bytes head.Configuration tokens) w.1 (refl, (ns.0, p.1.0, p.2.1.0, rw (w.2.1, p.1.1, p.2.1.1, ns.1) refl))
   spelled bytes (head.Question q) tokens c w =
       let p = w.2.2 in
       let ls = listed_lists (row q).lists w.0.1.1 p.0 p.2 in
@@ -209,19 +202,19 @@ module _ (law : FormulasAreRead) where
 
   stands : (bytes : List ℕ) (c : Command) (tokens : List Lexeme) → IsBody bytes c tokens → (body bytes (head_of c) tokens).writes c tokens []
   stands bytes (command.Dimension n) tokens is = (n, refl, is)
-  stands bytes (command.Nodes ns) tokens is = (ns, refl, are_names ns tokens is.0 is.1)
-  stands bytes (command.Alphabet ns) tokens is = (ns, refl, are_names ns tokens is.0 is.1)
+  stands bytes (command.Nodes ns) tokens is = (ns, refl, singles_some name_lexeme ns tokens is)
+  stands bytes (command.Alphabet ns) tokens is = (ns, refl, singles_some name_lexeme ns tokens is)
   stands bytes (command.Topology k) tokens is = subst (λ (ts : List Lexeme). (topology bytes ts).writes (command.Topology k) ts []) (sym is.2) (k, refl, (is.0, is.1, refl))
   stands bytes (command.Edges es) tokens is = subst (λ (ts : List Lexeme). (topology bytes ts).writes (command.Edges es) ts []) (sym is.1) (edges_stand bytes es is.0)
-  stands bytes (command.Only node ns) tokens is = ((node, ns), refl, (_, is.1, are_names ns _ is.0 refl))
-  stands bytes (command.Weights ns) tokens is = (ns, refl, (is.0, singles_whole lexeme.Number ns tokens is.1))
+  stands bytes (command.Only node ns) tokens is = ((node, ns), refl, (_, is.1, singles_some name_lexeme ns _ (is.0, refl)))
+  stands bytes (command.Weights ns) tokens is = (ns, refl, singles_some lexeme.Number ns tokens is)
   stands bytes (command.Limits radius period pivots) tokens is = ((radius, (period, pivots)), refl, (_, is, (_, refl, refl)))
   stands bytes (command.Rule name f) tokens is = ((name, f), refl, (text f, is.1, (sym (append-nil (text f)), is.0)))
   stands bytes (command.Automaton name cases symbol) tokens is =
       ((name, (cases, (tt, symbol))), refl, (is.0, is.1, (is.2.last, is.2.before, (_, is.2.otherwise, refl))))
   stands bytes (command.Composition name outer inner) tokens is = ((name, (outer, inner)), refl, (_, is, (_, refl, refl)))
   stands bytes (command.Configuration name periods shear ns) tokens is =
-      ((name, (periods, (shear, ns))), refl, (_, is.3, (_, (refl, is.1), (_, (refl, is.2), are_names ns _ is.0 refl))))
+      ((name, (periods, (shear, ns))), refl, (_, is.3, (_, (is.1, refl), (_, (is.2, refl), singles_some name_lexeme ns _ (is.0, refl)))))
   stands bytes (command.Query r) tokens is =
       let others = map lexeme.Number r.numbers ++ flat_map vector_text r.vectors in
       let words = subst (λ (ts : List Lexeme). ReadsAll (ByText (λ w. lexeme.Word w ∷ [])) r.words ts others) (sym is.1) (singles_stand lexeme.Word r.words others) in (

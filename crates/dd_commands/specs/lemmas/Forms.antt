@@ -1,15 +1,15 @@
 -- What is read of a form is written so, and what is written so is read; and this holds of forms put together.
 use Rattle.std.proofs.Common.{◌≡◌, ℕ, ◌+◌, ◌≤◌, ◌<◌, List, [], ◌∷◌, ◌++◌, map, length, Option, Some, None, refl, sym, ap, subst, ◌∙◌, arith, inl, inr}
-use Rattle.std.specs.Prelude.{is_some, ◌==◌, if◌then◌else◌}
+use Rattle.std.specs.Prelude.{Bool, true, is_some, ◌==◌, nat_le, if◌then◌else◌}
 use Rattle.std.specs.List.{flat_map}
-use Rattle.std.proofs.lemmas.Bool.{eqb-true, eq-eqb}
+use Rattle.std.proofs.lemmas.Bool.{eqb-true, eq-eqb, leb-true, le-leb}
 use Rattle.std.proofs.lemmas.List.{append-nil, length-append}
 use Rattle.std.proofs.lemmas.List.Concat.{flat_map_single}
 use Rattle.dd_written.specs.declared.lexeme.Lexeme.{Lexeme}
 use Rattle.dd_written.specs.reading.Readers.{◌>>=◌, Reader, ReadsAll}
 use Rattle.dd_written.specs.lemmas.Options.{bind_some, some_is, nothing_some, chosen}
 use Rattle.dd_written.specs.lemmas.Many.{many_sound, many_again, few_items, ByText, texts_read, texts_stand}
-use Rattle.dd_commands.specs.reading.Forms.{Form, by_text, as_made, ◌▸◌, at_most, each, not_none, some, exactly, alone}
+use Rattle.dd_commands.specs.reading.Forms.{Form, by_text, as_made, ◌▸◌, tested, such, at_most, each, some, exactly, alone}
 
 pub record Reads {X : Type 0} (f : Form X) : Type 0 where
   pub written : (tokens : List Lexeme) (x : X) (rest : List Lexeme) → f.item tokens ≡ Some (x, rest) → f.writes x tokens rest
@@ -39,18 +39,22 @@ then_reads {X} {Y} {f} {g} is ended are = record {
   last = are.last;
 }
 
+tested_is : {X : Type 0} (test : X → Bool) (item : Reader X) (tokens : List Lexeme) (x : X) (rest : List Lexeme) → tested test item tokens ≡ Some (x, rest) → (test x ≡ true) × (item tokens ≡ Some (x, rest))
+tested_is {X} test item tokens x rest e =
+    let b = bind_some (item tokens) (λ y. if test y.0 then Some y else None) (x, rest) e in
+    elim (chosen (test b.0.0) (Some b.0) None (Some (x, rest)) b.2) [
+      | inl is ↦ (ap (λ (y : X × List Lexeme). test y.0) (sym (some_is _ _ is.1)) ∙ is.0, b.1 ∙ is.1)
+      | inr other ↦ absurd (nothing_some (x, rest) other.1)
+    ]
+
+pub such_reads : {X : Type 0} {f : Form X} (P : X → Type 0) (test : X → Bool) → ((x : X) → test x ≡ true → P x) → ((x : X) → P x → test x ≡ true) → Reads f → Reads (such P test f)
+such_reads {X} {f} P test holds told is = record {
+  written = λ tokens x rest e. let t = tested_is test f.item tokens x rest e in (holds x t.0, is.written tokens x rest t.1);
+  read = λ x tokens rest w ended. rw (is.read x tokens rest w.1 ended, told x w.0) refl;
+  last = is.last;
+}
+
 -- ---- one after the other
-
-not_none_is : {X : Type 0} (xs : List X) (tokens : List Lexeme) (ys : List X) (rest : List Lexeme) → not_none xs tokens ≡ Some (ys, rest) → (1 ≤ length ys) × (xs ≡ ys) × (tokens ≡ rest)
-not_none_is [] tokens ys rest e = absurd cc
-not_none_is {X} (x ∷ xs) tokens ys rest e =
-    let same = some_is _ _ e in
-    let count : length (x ∷ xs) ≡ length ys = ap (λ (m : List X × List Lexeme). length m.0) same in
-    (omega (arith, count), ap (λ (m : List X × List Lexeme). m.0) same, ap (λ (m : List X × List Lexeme). m.1) same)
-
-not_none_some : {X : Type 0} (xs : List X) (rest : List Lexeme) → 1 ≤ length xs → not_none xs rest ≡ Some (xs, rest)
-not_none_some [] rest some = absurd (omega (arith, some))
-not_none_some (x ∷ xs) rest some = refl
 
 module _ {X : Type 0} {f : Form X} (is : Reads f) (free : (rest : List Lexeme) → f.ends rest) where
   most_read : (n : ℕ) (xs : List X) (tokens rest : List Lexeme) → length xs ≤ n → (length xs < n → f.item rest ≡ None) → ReadsAll f.writes xs tokens rest → at_most f.item n tokens ≡ Some (xs, rest)
@@ -63,12 +67,7 @@ module _ {X : Type 0} {f : Form X} (is : Reads f) (free : (rest : List Lexeme) �
 
   pub exactly_reads : (n : ℕ) → Reads (exactly n f)
   exactly_reads n = record {
-    written = λ tokens xs rest e.
-        let b = bind_some (at_most f.item n tokens) (λ m. if length m.0 == n then Some m else None) (xs, rest) e in
-        elim (chosen (length b.0.0 == n) (Some b.0) None (Some (xs, rest)) b.2) [
-          | inl all ↦ subst (λ (m : List X × List Lexeme). (exactly n f).writes m.0 tokens m.1) (some_is _ _ all.1) (eqb-true _ _ all.0, most_written n tokens b.0.0 b.0.1 b.1)
-          | inr other ↦ absurd (nothing_some (xs, rest) other.1)
-        ];
+    written = λ tokens xs rest e. let t = tested_is (λ xs. length xs == n) (at_most f.item n) tokens xs rest e in (eqb-true _ _ t.0, most_written n tokens xs rest t.1);
     read = λ xs tokens rest w any. rw (most_read n xs tokens rest (omega (arith, w.0)) (λ lt. absurd (omega (arith, w.0, lt))) w.1, eq-eqb (length xs) n w.0) refl;
     last = tt;
   }
@@ -82,15 +81,7 @@ module _ {X : Type 0} {f : Form X} (is : Reads f) (free : (rest : List Lexeme) �
     }
 
     pub some_reads : Reads (some f)
-    some_reads = record {
-      written = λ tokens xs rest e.
-          let b = bind_some ((each f).item tokens) (λ m. not_none m.0 m.1) (xs, rest) e in
-          let s = not_none_is b.0.0 b.0.1 xs rest b.2 in
-          let all = each_reads.written tokens b.0.0 b.0.1 b.1 in
-          (s.0, subst (λ (ys : List X). ReadsAll f.writes ys tokens rest) s.1 (subst (ReadsAll f.writes b.0.0 tokens) s.2 all));
-      read = λ xs tokens rest w ended. rw (each_reads.read xs tokens rest w.1 ended) (not_none_some xs rest w.0);
-      last = none;
-    }
+    some_reads = such_reads (λ xs. 1 ≤ length xs) (λ xs. nat_le 1 (length xs)) (λ xs. leb-true 1 (length xs)) (λ xs. le-leb 1 (length xs)) each_reads
 
 -- ---- lists of what has a text
 
@@ -109,5 +100,8 @@ module _ {X : Type 0} (lexeme : X → Lexeme) where
   pub singles_stand : (xs : List X) (rest : List Lexeme) → ReadsAll (ByText (λ x. lexeme x ∷ [])) xs (map lexeme xs ++ rest) rest
   singles_stand xs rest = subst (λ (ts : List Lexeme). ReadsAll (ByText (λ x. lexeme x ∷ [])) xs (ts ++ rest) rest) (flat_map_single lexeme xs) (texts_stand (λ x. lexeme x ∷ []) xs rest)
 
-  pub singles_whole : (xs : List X) (tokens : List Lexeme) → tokens ≡ map lexeme xs → ReadsAll (ByText (λ x. lexeme x ∷ [])) xs tokens []
-  singles_whole xs tokens e = texts_whole (λ x. lexeme x ∷ []) xs tokens (e ∙ sym (flat_map_single lexeme xs))
+  pub some_singles : (xs : List X) (tokens : List Lexeme) → (1 ≤ length xs) × ReadsAll (ByText (λ x. lexeme x ∷ [])) xs tokens [] → (1 ≤ length xs) × (tokens ≡ map lexeme xs)
+  some_singles xs tokens w = (w.0, singles_read xs tokens [] w.1 ∙ append-nil (map lexeme xs))
+
+  pub singles_some : (xs : List X) (tokens : List Lexeme) → (1 ≤ length xs) × (tokens ≡ map lexeme xs) → (1 ≤ length xs) × ReadsAll (ByText (λ x. lexeme x ∷ [])) xs tokens []
+  singles_some xs tokens w = (w.0, texts_whole (λ x. lexeme x ∷ []) xs tokens (w.1 ∙ sym (flat_map_single lexeme xs)))

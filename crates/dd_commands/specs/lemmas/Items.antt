@@ -11,7 +11,7 @@ use Rattle.dd_written.specs.declared.tree.Name.{Name}
 use Rattle.dd_written.specs.declared.tree.Name.TheVariants as names
 use Rattle.dd_written.specs.Formulas.{name_lexeme}
 use Rattle.dd_written.specs.reading.Atoms.{name_at}
-use Rattle.dd_written.specs.lemmas.Options.{bind_some, some_is, nothing_some, chosen}
+use Rattle.dd_written.specs.lemmas.Options.{bind_some, some_is}
 use Rattle.dd_written.specs.lemmas.Many.{texts_read, texts_stand}
 use Rattle.dd_written.specs.lemmas.Names.{name_sound, name_again}
 use Rattle.dd_commands.specs.declared.command.Entry.{Entry}
@@ -21,7 +21,7 @@ use Rattle.dd_commands.specs.declared.command.Edge.{Edge}
 use Rattle.dd_commands.specs.Commands.{entry_lexeme, vector_text, is_plain, second_vector_text, IsPlainShear, edge_text}
 use Rattle.dd_commands.specs.reading.Forms.{single}
 use Rattle.dd_commands.specs.reading.Vectors.{word_at, word, number_at, number, name, entry_at, entries, vector_end, vector_at, vector, plain, or_none, shear, edge_start, edge_end, edge_at, edge}
-use Rattle.dd_commands.specs.lemmas.Forms.{Reads, each_reads, shorter}
+use Rattle.dd_commands.specs.lemmas.Forms.{Reads, such_reads, each_reads, shorter}
 
 -- ---- single tokens
 
@@ -87,23 +87,14 @@ pub vector_reads : Reads vector
 vector_reads = record { written = vector_written; read = λ v tokens rest e any. ap vector_at e ∙ vector_again v rest; last = tt }
 
 pub plain_reads : Reads plain
-plain_reads = record {
-  written = λ tokens x rest e.
-      let b = bind_some (vector_at tokens) (λ v. cond (is_plain v.0) (Some v) None) (x, rest) e in
-      elim (chosen (is_plain b.0.0) (Some b.0) None (Some (x, rest)) b.2) [
-        | inl is ↦ subst (λ (y : Vector × List Lexeme). plain.writes y.0 tokens y.1) (some_is _ _ is.1) (vector_written tokens b.0.0 b.0.1 b.1, is.0)
-        | inr other ↦ absurd (nothing_some (x, rest) other.1)
-      ];
-  read = λ v tokens rest w any. rw (vector_reads.read v tokens rest w.0 any, w.1) refl;
-  last = tt;
-}
+plain_reads = such_reads (λ v. is_plain v ≡ true) is_plain (λ v e. e) (λ v e. e) vector_reads
 
 shear_written : (tokens : List Lexeme) (read : Option (Vector × List Lexeme)) (s : Option Vector) (rest : List Lexeme) → plain.item tokens ≡ read → or_none read tokens ≡ Some (s, rest) → shear.writes s tokens rest
-shear_written tokens None s rest is e = subst (λ (y : Option Vector × List Lexeme). shear.writes y.0 tokens y.1) (some_is _ _ e) (refl, tt)
+shear_written tokens None s rest is e = subst (λ (y : Option Vector × List Lexeme). shear.writes y.0 tokens y.1) (some_is _ _ e) (tt, refl)
 shear_written tokens (Some v) s rest is e = subst (λ (y : Option Vector × List Lexeme). shear.writes y.0 tokens y.1) (some_is _ _ e) (plain_reads.written tokens v.0 v.1 is)
 
 shear_again : (s : Option Vector) (tokens rest : List Lexeme) → shear.writes s tokens rest → plain.item rest ≡ None → shear.item tokens ≡ Some (s, rest)
-shear_again None tokens rest w ended = rw (w.0, ended) refl
+shear_again None tokens rest w ended = rw (w.1, ended) refl
 shear_again (Some v) tokens rest w ended = rw (plain_reads.read v tokens rest w tt) refl
 
 pub shear_reads : Reads shear

@@ -1,5 +1,5 @@
 -- Forms: how one of a kind is written, and how it is read; and forms put together.
-use Rattle.std.specs.Prelude.{◌≡◌, ℕ, ◌≤◌, List, [], ◌∷◌, ◌++◌, length, ◌==◌, Option, Some, None, is_some, if◌then◌else◌}
+use Rattle.std.specs.Prelude.{◌≡◌, ℕ, ◌≤◌, List, [], ◌∷◌, ◌++◌, length, ◌==◌, nat_le, Bool, Option, Some, None, is_some, if◌then◌else◌}
 use Rattle.dd_written.specs.declared.lexeme.Lexeme.{Lexeme}
 use Rattle.dd_written.specs.reading.Readers.{◌>>=◌, Reader, many, ReadsAll}
 
@@ -34,6 +34,13 @@ f ▸ g = record {
   item = λ tokens. f.item tokens >>= λ x. g.item x.1 >>= λ y. Some ((x.0, y.0), y.1);
 }
 
+abbrev pub tested : {X : Type 0} → (X → Bool) → Reader X → Reader X
+tested test item tokens = item tokens >>= λ x. if test x.0 then Some x else None
+
+-- one of which this holds, as the test tells
+abbrev pub such : {X : Type 0} → (X → Type 0) → (X → Bool) → Form X → Form X
+such P test f = record { writes = λ x tokens rest. P x × f.writes x tokens rest; ends = f.ends; item = tested test f.item }
+
 -- at most n, as many as can be read
 abbrev pub at_most : {X : Type 0} → Reader X → ℕ → Reader (List X)
 at_most item n tokens = many (λ ts. is_some (item ts)) item n tokens
@@ -45,20 +52,16 @@ each_at item tokens = at_most item (length tokens) tokens
 abbrev pub each : {X : Type 0} → Form X → Form (List X)
 each f = record { writes = ReadsAll f.writes; ends = λ rest. f.item rest ≡ None; item = each_at f.item }
 
-abbrev pub not_none : {X : Type 0} → List X → Reader (List X)
-not_none [] tokens = None
-not_none (x ∷ xs) tokens = Some (x ∷ xs, tokens)
-
 -- one or more
 abbrev pub some_at : {X : Type 0} → Reader X → Reader (List X)
-some_at item tokens = each_at item tokens >>= λ xs. not_none xs.0 xs.1
+some_at item = tested (λ xs. nat_le 1 (length xs)) (each_at item)
 
 abbrev pub some : {X : Type 0} → Form X → Form (List X)
-some f = record { writes = λ xs tokens rest. (1 ≤ length xs) × ReadsAll f.writes xs tokens rest; ends = (each f).ends; item = some_at f.item }
+some f = such (λ xs. 1 ≤ length xs) (λ xs. nat_le 1 (length xs)) (each f)
 
 -- n of a kind
 abbrev pub exactly_at : {X : Type 0} → ℕ → Reader X → Reader (List X)
-exactly_at n item tokens = at_most item n tokens >>= λ xs. if length xs.0 == n then Some xs else None
+exactly_at n item = tested (λ xs. length xs == n) (at_most item n)
 
 abbrev pub exactly : {X : Type 0} → ℕ → Form X → Form (List X)
 exactly n f = record { writes = λ xs tokens rest. (length xs ≡ n) × ReadsAll f.writes xs tokens rest; ends = λ rest. Unit {0}; item = exactly_at n f.item }

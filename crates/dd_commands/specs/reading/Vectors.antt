@@ -1,5 +1,5 @@
 -- Reading names, numbers, vectors and edges.
-use Rattle.std.specs.Prelude.{◌≡◌, List, ◌∷◌, ◌++◌, true, Option, Some, None, if◌then◌else◌}
+use Rattle.std.specs.Prelude.{◌≡◌, List, ◌∷◌, ◌++◌, true, Option, Some, None}
 use Rattle.dd_written.specs.declared.lexeme.Mark.TheVariants as mark
 use Rattle.dd_written.specs.declared.lexeme.Word.{Word}
 use Rattle.dd_written.specs.declared.lexeme.Number.{Number}
@@ -14,7 +14,7 @@ use Rattle.dd_written.specs.Formulas.{name_lexeme}
 use Rattle.dd_written.specs.reading.Readers.{◌>>=◌, Reader}
 use Rattle.dd_written.specs.reading.Atoms.{name_at}
 use Rattle.dd_commands.specs.Commands.{entry_lexeme, vector_text, is_plain, second_vector_text, IsPlainShear, edge_text}
-use Rattle.dd_commands.specs.reading.Forms.{Form, by_text, single, each}
+use Rattle.dd_commands.specs.reading.Forms.{Form, by_text, single, such, each}
 
 abbrev pub word_at : Reader Word
 word_at (lexeme.Word w ∷ tokens) = Some (w, tokens)
@@ -58,11 +58,7 @@ vector = by_text vector_text vector_at
 
 -- without negative numbers
 abbrev pub plain : Form Vector
-plain = record {
-  writes = λ v tokens rest. (tokens ≡ vector_text v ++ rest) × (is_plain v ≡ true);
-  ends = λ rest. Unit {0};
-  item = λ tokens. vector_at tokens >>= λ v. if is_plain v.0 then Some v else None;
-}
+plain = such (λ v. is_plain v ≡ true) is_plain vector
 
 abbrev pub or_none : Option (Vector × List Lexeme) → Reader (Option Vector)
 or_none (Some v) tokens = Some (Some v.0, v.1)
@@ -71,7 +67,7 @@ or_none None tokens = Some (None, tokens)
 -- a second vector, where one stands there
 abbrev pub shear : Form (Option Vector)
 shear = record {
-  writes = λ s tokens rest. (tokens ≡ second_vector_text s ++ rest) × IsPlainShear s;
+  writes = λ s tokens rest. IsPlainShear s × (tokens ≡ second_vector_text s ++ rest);
   ends = λ rest. plain.item rest ≡ None;
   item = λ tokens. or_none (plain.item tokens) tokens;
 }
