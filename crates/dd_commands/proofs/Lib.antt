@@ -1,4 +1,3 @@
 pub mod Parts
 pub mod OneTree
 pub mod Texts
-pub mod Rounds

@@ -1,16 +1,13 @@
 -- The parts of a script, cut one after the other, and what is known of those that were read.
 use Rattle.std.proofs.Common.{◌≡◌, ℕ, suc, ◌+◌, ◌<◌, ◌≤◌, List, [], ◌∷◌, ◌++◌, length, take, drop, refl, sym, ap, subst, ◌∙◌, append_assoc, arith}
 use Rattle.std.specs.List.{prefix_len}
-use Rattle.std.specs.Prelude.{Err}
 use Rattle.std.proofs.lemmas.List.{append-nil}
 use Rattle.dd_written.specs.declared.lexeme.Mark.TheVariants as mark
 use Rattle.dd_written.specs.declared.lexeme.Lexeme.{Lexeme}
 use Rattle.dd_written.specs.declared.lexeme.Lexeme.TheVariants as lexeme
 use Rattle.dd_commands.specs.declared.script.Written.{Written}
-use Rattle.dd_written.specs.declared.fault.ReadFault.{ReadFault}
-use Rattle.dd_written.specs.declared.fault.ReadFault.TheVariants as faults
 use Rattle.dd_commands.specs.Scripts.{parts, stage_after, MayStand, AreCommands, IsFirstBad, AreWritten, IsBadCommand}
-use Rattle.dd_commands.specs.reading.Parts.{is_inside, FindsIfAny}
+use Rattle.dd_commands.specs.reading.Parts.{is_inside}
 
 one_more : (n : ℕ) → 1 + n ≡ suc n
 one_more n = omega arith
@@ -75,7 +72,3 @@ pub something_before : (tokens : List Lexeme) → 0 < prefix_len is_inside token
 something_before [] lt none = omega (arith, lt)
 something_before (lexeme.Mark mark.Percent ∷ tokens) lt none = omega (arith, lt)
 something_before (t ∷ tokens) lt none = absurd cc
-
-pub none_read : (e : ReadFault) (P : Written → Type 0) → e ≡ faults.Syntax → FindsIfAny (Err e) P → (c : Written) → P c → ⊥
-none_read faults.Memory P is decided = absurd cc
-none_read faults.Syntax P is decided = decided

@@ -8,14 +8,14 @@ ghost use Rattle.dd_commands.specs.reading.Commands.{case, topology, body, comma
 use crate::command::{Case, Command};
 use crate::head::Head;
 use crate::keywords::behind;
-use crate::listed::{Listed, Read, Source, alone, each, some};
+use crate::reading::{FromTokens, Read, Source, alone, each, some};
 use crate::requests::query;
 use crate::vectors::{plain, shear};
 use dd_topology::Kind;
 use dd_values::Boxed;
 use dd_written::{Formula, Lexeme, Name, Number, ReadFault, Word, read_formula, read_name};
 
-impl Listed for Formula {
+impl FromTokens for Formula {
     ghost item = { λ bytes. formula_at };
 
     fn read<'a>(from: Source, tokens: &'a [Lexeme]) -> Read<'a, Formula> {
@@ -23,7 +23,7 @@ impl Listed for Formula {
     }
 }
 
-impl Listed for Case {
+impl FromTokens for Case {
     ghost item = { λ bytes. (case bytes).item };
 
     fn read<'a>(from: Source, tokens: &'a [Lexeme]) -> Read<'a, Case> {

@@ -5,7 +5,7 @@ ghost use Rattle.dd_commands.specs.Heads.{head_row, head_text, next_stage, kind_
 ghost use Rattle.dd_commands.specs.reading.Commands.{one_of, keyword, heads, kinds, wanted};
 
 use crate::head::Head;
-use crate::listed::{Listed, Read, Source};
+use crate::reading::{FromTokens, Read, Source};
 use crate::table::Question;
 use dd_topology::Kind;
 use dd_written::{Lexeme, ReadFault, Word, same_bytes, word_bytes};
@@ -71,7 +71,7 @@ fn head(written: &[u8]) -> Option<Head>
         .find(|head| same_bytes(written, head.row().word))
 }
 
-impl Listed for Head {
+impl FromTokens for Head {
     ghost item = { λ bytes. (keyword head_text heads bytes).item };
 
     fn read<'a>(from: Source, tokens: &'a [Lexeme]) -> Read<'a, Head> {
@@ -106,7 +106,7 @@ fn kind(written: &[u8]) -> Option<Kind>
         .find(|kind| same_bytes(written, kind_text(*kind)))
 }
 
-impl Listed for Kind {
+impl FromTokens for Kind {
     ghost item = { λ bytes. (keyword kind_text kinds bytes).item };
 
     fn read<'a>(from: Source, tokens: &'a [Lexeme]) -> Read<'a, Kind> {

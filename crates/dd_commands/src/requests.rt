@@ -5,7 +5,7 @@ ghost use Rattle.dd_commands.specs.declared.head.Head.TheVariants as head;
 ghost use Rattle.dd_commands.specs.reading.Commands.{listed, body};
 
 use crate::command::{Command, Request, Vector};
-use crate::listed::{Read, Source, exactly, some};
+use crate::reading::{Read, Source, exactly, some};
 use crate::table::{Lists, Question};
 use crate::vectors::plain;
 use dd_values::Items;

@@ -2,15 +2,16 @@
 ghost use Rattle.std.specs.Prelude.{◌≡◌, [], ◌∷◌, ◌+◌, ◌<◌, ◌≤◌, length, IfOk, All};
 ghost use Rattle.std.specs.List.{prefix_len, list_all};
 ghost use Rattle.dd_values.specs.Bounds.{most_script};
+ghost use Rattle.dd_written.specs.reading.Readers.{Gives};
 ghost use Rattle.dd_commands.specs.Heads.{head_of};
-ghost use Rattle.dd_commands.specs.Scripts.{parts, is_whole, stage_of, stage_after, MayStand, IsWritten, Tells};
-ghost use Rattle.dd_commands.specs.reading.Parts.{is_inside, FindsIfAny, Told};
+ghost use Rattle.dd_commands.specs.Scripts.{parts, is_whole, IsWritten, Tells};
+ghost use Rattle.dd_commands.specs.reading.Parts.{is_inside, written_of, Told};
 
 use crate::bodies::command;
 use crate::command::Command;
 use crate::fault::SyntaxFault;
 use crate::head::Head;
-use crate::listed::Source;
+use crate::reading::Source;
 use dd_values::Items;
 use dd_written::{Lexeme, Mark, ReadFault, Text, formula_is_read, lexemes};
 use std::alloc::Global;
@@ -87,9 +88,8 @@ fn command_from(
     from: u32,
     part: &[Lexeme],
 ) -> Result<Written, ReadFault>
-    ensures { FindsIfAny result (MayStand bytes.now from part.now) }
+    ensures { Gives (λ x. x) result (written_of bytes.now from part.now) }
 {
-    formula_is_read();
     if !are_whole(part) {
         return Err(ReadFault::Syntax);
     }
@@ -106,6 +106,7 @@ fn commands(alloc: Global, bytes: &[u8], tokens: &[Lexeme]) -> Result<Items<Writ
     requires { length tokens.now ≤ most_script + 1 }
     ensures { Told bytes.now tokens.now result }
 {
+    formula_is_read();
     if part_length(tokens) > 0 {
         return Err(SyntaxFault::At { command: 0 });
     }

@@ -6,11 +6,11 @@ ghost use Rattle.dd_commands.specs.Commands.{is_plain_entry, is_plain};
 ghost use Rattle.dd_commands.specs.reading.Vectors.{word_at, number_at, entry_at, vector_at, plain, shear, edge_start, edge_at};
 
 use crate::command::{Edge, Entry, Vector};
-use crate::listed::{Listed, Read, Source, each};
+use crate::reading::{FromTokens, Read, Source, each};
 use dd_values::Items;
 use dd_written::{Lexeme, Mark, Name, Number, ReadFault, Word, read_name};
 
-impl Listed for Word {
+impl FromTokens for Word {
     ghost item = { λ bytes. word_at };
 
     fn read<'a>(_from: Source, tokens: &'a [Lexeme]) -> Read<'a, Word> {
@@ -21,7 +21,7 @@ impl Listed for Word {
     }
 }
 
-impl Listed for Number {
+impl FromTokens for Number {
     ghost item = { λ bytes. number_at };
 
     fn read<'a>(_from: Source, tokens: &'a [Lexeme]) -> Read<'a, Number> {
@@ -32,7 +32,7 @@ impl Listed for Number {
     }
 }
 
-impl Listed for Name {
+impl FromTokens for Name {
     ghost item = { λ bytes. name_at };
 
     fn read<'a>(_from: Source, tokens: &'a [Lexeme]) -> Read<'a, Name> {
@@ -40,7 +40,7 @@ impl Listed for Name {
     }
 }
 
-impl Listed for Entry {
+impl FromTokens for Entry {
     ghost item = { λ bytes. entry_at };
 
     fn read<'a>(_from: Source, tokens: &'a [Lexeme]) -> Read<'a, Entry> {
@@ -52,7 +52,7 @@ impl Listed for Entry {
     }
 }
 
-impl Listed for Vector {
+impl FromTokens for Vector {
     ghost item = { λ bytes. vector_at };
 
     fn read<'a>(from: Source, tokens: &'a [Lexeme]) -> Read<'a, Vector> {
@@ -69,7 +69,7 @@ impl Listed for Vector {
     }
 }
 
-impl Listed for Edge {
+impl FromTokens for Edge {
     ghost item = { λ bytes. edge_at };
 
     fn read<'a>(from: Source, tokens: &'a [Lexeme]) -> Read<'a, Edge> {

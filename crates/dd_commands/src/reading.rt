@@ -18,7 +18,7 @@ pub(crate) struct Source<'a> {
 pub(crate) type Read<'a, T> = Result<(T, &'a [Lexeme]), ReadFault>;
 
 /// What can be read from the front of tokens.
-pub(crate) trait Listed: Drop {
+pub(crate) trait FromTokens: Drop {
     ghost item: { List ℕ → Reader Self };
 
     fn read<'a>(from: Source, tokens: &'a [Lexeme]) -> Read<'a, Self>
@@ -26,7 +26,7 @@ pub(crate) trait Listed: Drop {
 }
 
 /// As many as can be read, and no more than are asked for.
-fn at_most<'a, T: Listed>(from: Source, most: usize, tokens: &'a [Lexeme]) -> Read<'a, Items<T>>
+fn at_most<'a, T: FromTokens>(from: Source, most: usize, tokens: &'a [Lexeme]) -> Read<'a, Items<T>>
     ensures { Gives (λ x. (x.0, x.1.now)) result (at_most (T.item from.entry.bytes.now) most tokens.now) }
 {
     let mut items = Items::new(from.alloc);
@@ -45,14 +45,14 @@ fn at_most<'a, T: Listed>(from: Source, most: usize, tokens: &'a [Lexeme]) -> Re
 }
 
 /// As many as stand there.
-pub(crate) fn each<'a, T: Listed>(from: Source, tokens: &'a [Lexeme]) -> Read<'a, Items<T>>
+pub(crate) fn each<'a, T: FromTokens>(from: Source, tokens: &'a [Lexeme]) -> Read<'a, Items<T>>
     ensures { Gives (λ x. (x.0, x.1.now)) result (each_at (T.item from.entry.bytes.now) tokens.now) }
 {
     at_most(from, tokens.len(), tokens)
 }
 
 /// One or more.
-pub(crate) fn some<'a, T: Listed>(from: Source, tokens: &'a [Lexeme]) -> Read<'a, Items<T>>
+pub(crate) fn some<'a, T: FromTokens>(from: Source, tokens: &'a [Lexeme]) -> Read<'a, Items<T>>
     ensures { Gives (λ x. (x.0, x.1.now)) result (some_at (T.item from.entry.bytes.now) tokens.now) }
 {
     let (items, rest) = each(from, tokens)?;
@@ -63,7 +63,7 @@ pub(crate) fn some<'a, T: Listed>(from: Source, tokens: &'a [Lexeme]) -> Read<'a
 }
 
 /// So many.
-pub(crate) fn exactly<'a, T: Listed>(
+pub(crate) fn exactly<'a, T: FromTokens>(
     from: Source,
     count: usize,
     tokens: &'a [Lexeme],
