@@ -3,24 +3,18 @@ use Rattle.std.proofs.Common.{◌≡◌, ℕ, zero, suc, List, [], ◌∷◌, re
 use Rattle.dd_written.specs.declared.lexeme.Lexeme.{Lexeme}
 use Rattle.dd_written.specs.Lexemes.{lexemes_of}
 use Rattle.dd_written.specs.reading.Laws.{FormulasAreRead}
-use Rattle.dd_commands.specs.declared.command.Command.{Command}
 use Rattle.dd_commands.specs.declared.script.Written.{Written}
 use Rattle.dd_commands.specs.declared.script.Syntax.{Syntax}
 use Rattle.dd_commands.specs.Scripts.{parts, stage_after, MayStand, AreCommands, IsFirstBad, IsScript, IsSyntaxFault}
 use Rattle.dd_written.specs.lemmas.Options.{some_is}
-use Rattle.dd_commands.specs.lemmas.Commands.{command_again}
-
-abbrev written_of : List Lexeme → Command → Written
-written_of tokens c = record { tokens = tokens; command = c }
+use Rattle.dd_commands.specs.lemmas.Whole.{written_again}
 
 abbrev syntax_of : List ℕ → List Written → Syntax
 syntax_of text cs = record { text = text; commands = cs }
 
 module _ (law : FormulasAreRead) where
   one_command : (bytes : List ℕ) (from : ℕ) (p : List Lexeme) (c d : Written) → MayStand bytes from p c → MayStand bytes from p d → c ≡ d
-  one_command bytes from p c d one other =
-      let same : c.command ≡ d.command = some_is c.command d.command (sym (command_again law bytes p c.command one.is) ∙ command_again law bytes p d.command other.is) in
-      ap (λ (e : Command). written_of c.tokens e) same ∙ ap (λ (ts : List Lexeme). written_of ts d.command) (one.tokens ∙ sym other.tokens)
+  one_command bytes from p c d one other = some_is c d (sym (written_again law bytes from p c one) ∙ written_again law bytes from p d other)
 
   same_commands : (bytes : List ℕ) (from : ℕ) (ps : List (List Lexeme)) (cs ds : List Written) → AreCommands bytes from ps cs → AreCommands bytes from ps ds → cs ≡ ds
   same_commands bytes from [] [] [] one other = refl

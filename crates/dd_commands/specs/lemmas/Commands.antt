@@ -1,5 +1,5 @@
 -- What is read of commands is written so, and what is written so is read.
-use Rattle.std.proofs.Common.{◌≡◌, ℕ, ◌+◌, ◌≤◌, ◌<◌, List, [], ◌∷◌, ◌++◌, map, length, Option, Some, None, refl, sym, ap, subst, ◌∙◌, arith, codes, bytes_eq, inl, inr}
+use Rattle.std.proofs.Common.{◌≡◌, ℕ, ◌≤◌, ◌<◌, List, [], ◌∷◌, ◌++◌, map, length, Some, None, refl, sym, ap, subst, ◌∙◌, arith, codes, bytes_eq, inl, inr}
 use Rattle.std.specs.List.{flat_map}
 use Rattle.std.proofs.lemmas.List.{append-nil, length-append}
 use Rattle.std.proofs.lemmas.Slice.Eq.{bytes_eq-Decides}
@@ -21,15 +21,15 @@ use Rattle.dd_commands.specs.declared.head.Head.{Head}
 use Rattle.dd_commands.specs.declared.head.Head.TheVariants as head
 use Rattle.dd_written.specs.Values.{word_text}
 use Rattle.dd_written.specs.Formulas.{text, name_lexeme}
-use Rattle.dd_written.specs.reading.Readers.{◌>>=◌, ReadsAll}
+use Rattle.dd_written.specs.reading.Readers.{ReadsAll}
 use Rattle.dd_written.specs.reading.Formulas.{formula_at, ends}
 use Rattle.dd_written.specs.reading.Laws.{FormulasAreRead}
-use Rattle.dd_written.specs.lemmas.Options.{bind_some, some_is, nothing_some, chosen}
+use Rattle.dd_written.specs.lemmas.Options.{bind_some, some_is, chosen}
 use Rattle.dd_written.specs.lemmas.Many.{ByText, texts_read}
 use Rattle.dd_commands.specs.Table.{row}
 use Rattle.dd_commands.specs.Heads.{head_text, head_of, kind_text}
-use Rattle.dd_commands.specs.Commands.{vector_text, second_vector_text, edge_text, IsBehind, IsCase, AreLists, IsBody, IsCommand}
-use Rattle.dd_commands.specs.reading.Forms.{Form, as_made, ◌▸◌, some, alone}
+use Rattle.dd_commands.specs.Commands.{vector_text, edge_text, IsBehind, IsCase, AreLists, IsBody, IsCommand}
+use Rattle.dd_commands.specs.reading.Forms.{some}
 use Rattle.dd_commands.specs.reading.Vectors.{name, plain}
 use Rattle.dd_commands.specs.reading.Commands.{one_of, keyword, heads, kinds, wanted, formula, case_parts, case, listed, topology, body, command_of}
 use Rattle.dd_commands.specs.lemmas.Forms.{Reads, alone_is, made_reads, then_reads, exactly_reads, each_reads, some_reads, shorter, texts_whole, singles_read, singles_stand, some_singles, singles_some}

@@ -9,7 +9,7 @@ use Rattle.dd_written.specs.declared.lexeme.Lexeme.{Lexeme}
 use Rattle.dd_written.specs.reading.Readers.{◌>>=◌, Reader, ReadsAll}
 use Rattle.dd_written.specs.lemmas.Options.{bind_some, some_is, nothing_some, chosen}
 use Rattle.dd_written.specs.lemmas.Many.{many_sound, many_again, few_items, ByText, texts_read, texts_stand}
-use Rattle.dd_commands.specs.reading.Forms.{Form, by_text, as_made, ◌▸◌, tested, such, at_most, each, some, exactly, alone}
+use Rattle.dd_commands.specs.reading.Forms.{Form, as_made, ◌▸◌, tested, such, at_most, each, some, exactly, alone}
 
 pub record Reads {X : Type 0} (f : Form X) : Type 0 where
   pub written : (tokens : List Lexeme) (x : X) (rest : List Lexeme) → f.item tokens ≡ Some (x, rest) → f.writes x tokens rest

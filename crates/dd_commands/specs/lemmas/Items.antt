@@ -1,5 +1,5 @@
 -- Names, numbers, vectors and edges are read as they are written.
-use Rattle.std.proofs.Common.{◌≡◌, ℕ, ◌+◌, ◌≤◌, true, List, [], ◌∷◌, ◌++◌, map, length, Option, Some, None, refl, sym, ap, subst, ◌∙◌, append_assoc, arith, cond, inl, inr}
+use Rattle.std.proofs.Common.{◌≡◌, true, List, [], ◌∷◌, ◌++◌, map, Option, Some, None, refl, sym, ap, subst, ◌∙◌, append_assoc, arith}
 use Rattle.std.specs.List.{flat_map}
 use Rattle.std.proofs.lemmas.List.Concat.{flat_map_single}
 use Rattle.dd_written.specs.declared.lexeme.Mark.TheVariants as mark
@@ -8,7 +8,6 @@ use Rattle.dd_written.specs.declared.lexeme.Number.{Number}
 use Rattle.dd_written.specs.declared.lexeme.Lexeme.{Lexeme}
 use Rattle.dd_written.specs.declared.lexeme.Lexeme.TheVariants as lexeme
 use Rattle.dd_written.specs.declared.tree.Name.{Name}
-use Rattle.dd_written.specs.declared.tree.Name.TheVariants as names
 use Rattle.dd_written.specs.Formulas.{name_lexeme}
 use Rattle.dd_written.specs.reading.Atoms.{name_at}
 use Rattle.dd_written.specs.lemmas.Options.{bind_some, some_is}
@@ -18,7 +17,7 @@ use Rattle.dd_commands.specs.declared.command.Entry.{Entry}
 use Rattle.dd_commands.specs.declared.command.Entry.TheVariants as entry
 use Rattle.dd_commands.specs.declared.command.Vector.{Vector}
 use Rattle.dd_commands.specs.declared.command.Edge.{Edge}
-use Rattle.dd_commands.specs.Commands.{entry_lexeme, vector_text, is_plain, second_vector_text, IsPlainShear, edge_text}
+use Rattle.dd_commands.specs.Commands.{entry_lexeme, vector_text, is_plain, edge_text}
 use Rattle.dd_commands.specs.reading.Forms.{single}
 use Rattle.dd_commands.specs.reading.Vectors.{word_at, word, number_at, number, name, entry_at, entries, vector_end, vector_at, vector, plain, or_none, shear, edge_start, edge_end, edge_at, edge}
 use Rattle.dd_commands.specs.lemmas.Forms.{Reads, such_reads, each_reads, shorter}

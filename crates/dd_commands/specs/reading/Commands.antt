@@ -1,5 +1,5 @@
 -- Reading commands.
-use Rattle.std.specs.Prelude.{◌≡◌, ℕ, List, [], ◌∷◌, ◌++◌, length, true, Option, Some, None, bytes_eq, codes}
+use Rattle.std.specs.Prelude.{◌≡◌, ℕ, List, [], ◌∷◌, ◌++◌, length, true, Option, Some, bytes_eq, codes}
 use Rattle.std.specs.List.{find}
 use Rattle.dd_topology.specs.declared.builtin.Kind.{Kind}
 use Rattle.dd_topology.specs.declared.builtin.Kind.TheVariants as kind
@@ -17,7 +17,7 @@ use Rattle.dd_commands.specs.declared.head.Head.{Head}
 use Rattle.dd_commands.specs.declared.head.Head.TheVariants as head
 use Rattle.dd_written.specs.Values.{word_text}
 use Rattle.dd_written.specs.Formulas.{text, IsWrittenFormula}
-use Rattle.dd_written.specs.reading.Readers.{◌>>=◌, Reader}
+use Rattle.dd_written.specs.reading.Readers.{◌>>=◌}
 use Rattle.dd_written.specs.reading.Formulas.{formula_at, ends}
 use Rattle.dd_commands.specs.Table.{row}
 use Rattle.dd_commands.specs.Heads.{head_text, kind_text}
