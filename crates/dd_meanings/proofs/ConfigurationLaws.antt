@@ -110,8 +110,8 @@ module _ (x : Context) (called : Word) (periods : Vector) (shear : Option Vector
 
   is_tile : IsTile (tile_of x periods shear ns)
   is_tile = record {
-    some_dimension = omega (arith, sound.grid.dimension.0);
-    most_dimension = sound.grid.dimension.1;
+    some_dimension = omega (arith, sound.setting.topology.grid.dimension.0);
+    most_dimension = sound.setting.topology.grid.dimension.1;
     periods = record {
       x_some = period_some 0;
       y_some = period_some 1;
@@ -121,17 +121,17 @@ module _ (x : Context) (called : Word) (periods : Vector) (shear : Option Vector
       shear_small = box.less;
       shear_unused = no_shear x.text (dimension_of x.known) shear box.sheared;
     };
-    nodes_some = omega (arith, sound.grid.nodes);
+    nodes_some = omega (arith, sound.setting.topology.grid.nodes);
     full =
-        count ∙ (sym box.size ∙ (ap (λ n. n * length x.known.setting.nodes) (volume_is x.text periods.entries (omega (arith, box.entries, sound.grid.dimension.1)))
-        ∙ ap (λ n. period_at x.text periods 2 * period_at x.text periods 1 * period_at x.text periods 0 * n) (sym sound.nodes)));
+        count ∙ (sym box.size ∙ (ap (λ n. n * length x.known.setting.nodes) (volume_is x.text periods.entries (omega (arith, box.entries, sound.setting.topology.grid.dimension.1)))
+        ∙ ap (λ n. period_at x.text periods 2 * period_at x.text periods 1 * period_at x.text periods 0 * n) (sym sound.setting.topology.nodes)));
   }
 
   pub is_periodic : (symbols : List ℕ) → symbols ≡ map (symbol_of x) ns → IsPeriodic (tile_with x periods shear symbols)
   is_periodic symbols made =
       subst (λ (ss : List ℕ). IsPeriodic (tile_with x periods shear ss)) (sym made) (record { tile = is_tile; small = omega (arith, count, box.small) })
 
-  pub is_configuration : IsNew x called × IsConfigurationOf x.known (tile_of x periods shear ns)
+  pub is_configuration : IsNew x called × IsConfigurationOf x.known.setting (tile_of x periods shear ns)
   is_configuration = (
     is_new x called (grind (arith, parts)),
     record {
@@ -141,7 +141,7 @@ module _ (x : Context) (called : Word) (periods : Vector) (shear : Option Vector
       symbols = All-from_get_or (λ s. s < length x.known.setting.symbols) (map (symbol_of x) ns) 0 (λ i below. (symbols_are x 0 ns named i below).below);
       allowed = λ i below.
           let same : i ≡ 0 + i = omega arith in
-          ap (λ n. allows x.known.setting.sets (i % n) (slice_index (map (symbol_of x) ns) i)) sound.nodes
+          ap (λ n. allows x.known.setting.sets (i % n) (slice_index (map (symbol_of x) ns) i)) sound.setting.topology.nodes
           ∙ (ap (λ j. allows x.known.setting.sets (node_at x j) (slice_index (map (symbol_of x) ns) i)) same ∙ (symbols_are x 0 ns named i below).allowed);
     },
   )

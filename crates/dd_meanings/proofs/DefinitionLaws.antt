@@ -42,7 +42,7 @@ use Rattle.dd_meanings.proofs.SizeLaws.{fault_refuses, formed_passes}
 pub same_numbers : (k : Known) → IsSound k → numbers_over k.setting.topology k.setting.sets ≡ script_numbers k
 same_numbers k sound =
     let with_symbols : ℕ → CommonNumbers = λ n. record { dimension = k.setting.topology.dimension; nodes = k.setting.topology.nodes; symbols = n } in
-    ap with_symbols sound.alphabet
+    ap with_symbols sound.setting.alphabet
 
 -- an automaton that is made as it is meant
 abbrev pub IsDefined : Context → Word → Automaton → Automaton → Type 0
@@ -58,7 +58,7 @@ IsRefused x whole e = Refuses (refusal_of e) (first_fault (automaton_faults x wh
 -- ---- automata by cases
 
 symbol_below : (x : Context) (n : Name) → IsSound x.known → missing x.text x.known.setting.symbols n ≡ [] → symbol_of x n < x.known.setting.sets.symbols
-symbol_below x n sound known = omega (arith, number_below x.text x.known.setting.symbols n known, sound.alphabet)
+symbol_below x n sound known = omega (arith, number_below x.text x.known.setting.symbols n known, sound.setting.alphabet)
 
 case_is : (x : Context) (c : Case) → IsSound x.known → case_faults x c ≡ [] → tree_depth c.condition ≤ 64 → IsCaseOver x.known.setting.topology x.known.setting.sets (meant_case x c)
 case_is x c sound none shallow =

@@ -10,6 +10,7 @@ use Rattle.dd_written.specs.declared.lexeme.Number.{Number}
 use Rattle.dd_written.specs.declared.tree.Name.{Name}
 use Rattle.dd_written.specs.Values.{written_value, name_text}
 use Rattle.dd_commands.specs.declared.command.Command.TheVariants as command
+use Rattle.dd_values.specs.Ranges.{AreLimits}
 use Rattle.dd_topology.specs.declared.builtin.Kind.TheVariants as kind
 use Rattle.dd_topology.specs.Naming.{AreDistinct}
 use Rattle.dd_topology.specs.Grid.{Grid, IsGrid, grid}
@@ -18,11 +19,11 @@ use Rattle.dd_faults.specs.declared.fault.Limit.TheVariants as limit
 use Rattle.dd_faults.specs.declared.context.Context.{Context}
 use Rattle.dd_faults.specs.Names.{missing, number_in}
 use Rattle.dd_faults.specs.Commands.{weight_faults, passes_limits, faults_of}
-use Rattle.dd_faults.specs.Sound.{IsSound}
+use Rattle.dd_faults.specs.Sound.{IsGridOf, AreWeights}
 use Rattle.dd_meanings.specs.Meanings.{limits}
 use Rattle.dd_meanings.specs.Topologies.{default_grid}
 use Rattle.dd_meanings.specs.Definitions.{symbol_of}
-use Rattle.dd_meanings.specs.Sound.{IsGridOf, AreNames, IsSymbolRestriction, AreScriptWeights}
+use Rattle.dd_meanings.specs.Sound.{AreNames, IsSymbolRestriction}
 use Rattle.dd_faults.specs.lemmas.Nothing.{within}
 use Rattle.dd_meanings.proofs.Nothing.{parts, all_where}
 use Rattle.dd_meanings.proofs.NameLaws.{number_below}
@@ -58,7 +59,7 @@ names_are bytes most written names is some few distinct =
 -- ---- symbols of a node
 
 pub restriction_is : (x : Context) (node : Name) (symbols : List Name) → 1 ≤ length symbols → faults_of x (command.Only node symbols) ≡ []
-    → IsSymbolRestriction x.known (number_in x.text x.known.setting.nodes node) (map (symbol_of x) symbols)
+    → IsSymbolRestriction x.known.setting (number_in x.text x.known.setting.nodes node) (map (symbol_of x) symbols)
 restriction_is x node symbols some h =
     let known = missing x.text x.known.setting.symbols in
     let here : missing x.text x.known.setting.nodes node ≡ [] = grind (arith, parts) in
@@ -80,28 +81,16 @@ module _ (x : Context) (ns : List Number) (h : faults_of x (command.Weights ns) 
       let none : flat_map (weight_faults x) ns ≡ [] = grind (arith, parts) in
       all_where (λ n. written_value x.text n ≤ 1000) (weight_faults x) (λ n light. grind (arith, common_steps)) ns none
 
-  pub weights_are : AreScriptWeights x.known (map (written_value x.text) ns)
+  pub weights_are : AreWeights (length x.known.setting.symbols) (map (written_value x.text) ns)
   weights_are =
       let many : length ns ≡ length x.known.setting.symbols = grind (arith, parts) in
       record { each = length-map ns (written_value x.text) ∙ many; light = All-map (λ w. w ≤ 1000) (written_value x.text) ns weights_light }
 
-pub limits_sound : (x : Context) (radius period pivots : Number) → IsSound x.known → faults_of x (command.Limits radius period pivots) ≡ [] →
-    IsSound (record (x.known) { limits = limits (written_value x.text radius) (written_value x.text period) (written_value x.text pivots) })
-limits_sound x radius period pivots s h =
+pub limits_sound : (x : Context) (radius period pivots : Number) → faults_of x (command.Limits radius period pivots) ≡ [] →
+    AreLimits (limits (written_value x.text radius) (written_value x.text period) (written_value x.text pivots))
+limits_sound x radius period pivots h =
     let r = written_value x.text radius in
     let p = written_value x.text period in
     let v = written_value x.text pivots in
     let passes : passes_limits r p v ≡ false = within (passes_limits r p v) limit.Limits h in
-    record {
-      grid = s.grid;
-      nodes = s.nodes;
-      few_nodes = s.few_nodes;
-      symbols = s.symbols;
-      sets = s.sets;
-      alphabet = s.alphabet;
-      weights = s.weights;
-      light = s.light;
-      radius = grind (arith, common_steps);
-      period = (grind (arith, common_steps), grind (arith, common_steps));
-      pivots = grind (arith, common_steps);
-    }
+    record { radius = grind (arith, common_steps); period = (grind (arith, common_steps), grind (arith, common_steps)); pivots = grind (arith, common_steps) }

@@ -247,5 +247,5 @@ module _ (x : Context) (same : x.known.setting.topology.nodes ≡ length x.known
 
 pub is_formula : (x : Context) (f : Written) → IsSound x.known → formula_faults x f [] ≡ [] → written_depth f ≤ 64 → IsFormulaOf x.known (formula_of x f [])
 is_formula x f sound none shallow =
-    let fine = all_fine x sound.nodes sound.alphabet f [] none in
+    let fine = all_fine x sound.setting.topology.nodes sound.setting.alphabet f [] none in
     record { numbers = fine.0; depth = omega (arith, fine.1, shallow) }

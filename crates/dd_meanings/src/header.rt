@@ -158,8 +158,7 @@ pub(crate) fn weights(
 }
 
 pub(crate) fn limits(context: &Context, radius: Number, period: Number, pivots: Number) -> Meaning
-    requires sound { IsSound context.now.known }
-    requires faultless { faults_of context.now (command.Limits radius period pivots) ≡ [] }
+    requires { faults_of context.now (command.Limits radius period pivots) ≡ [] }
     ensures exact { result ≡ meaning context.now [] (command.Limits radius period pivots) }
     ensures sound { IsSoundMeaning context.now (meaning context.now [] (command.Limits radius period pivots)) }
 {

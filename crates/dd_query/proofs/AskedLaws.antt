@@ -55,4 +55,4 @@ module _ (x : Context) (r : Request) (is : IsRequest r) (none : request_faults x
   within_kept question.Density sound at = (there question.Density 0 role.Rule at refl, strip_kept at)
   within_kept question.Discharge sound at =
       let lists = lists_are question.Discharge at in
-      (there question.Discharge 0 role.Rule at refl, value_small x r.numbers 0 parts.1, value_small x r.numbers 1 parts.1, vectors_are x r.vectors lists.1 sound.grid.dimension.1 lists.0)
+      (there question.Discharge 0 role.Rule at refl, value_small x r.numbers 0 parts.1, value_small x r.numbers 1 parts.1, vectors_are x r.vectors lists.1 sound.setting.topology.grid.dimension.1 lists.0)

@@ -1,9 +1,8 @@
 -- The strips, weights and vectors of a script's queries are those that densities and discharging ask for.
-use Rattle.std.proofs.Common.{◌≡◌, ℕ, zero, suc, ◌≤◌, Bool, true, false, List, length, refl, ap, subst, arith}
+use Rattle.std.proofs.Common.{◌≡◌, ℕ, zero, suc, ◌≤◌, Bool, true, false, List, refl, ap, sym, subst, ◌∙◌, arith}
 use lib.IntN.{ℤ, pos, negsuc}
 use Rattle.std.specs.Prelude.{◌||◌, ◌&&◌, nat_lt, nat_le, cond, unsigned_abs}
 use Rattle.std.specs.Bool.{Decides}
-use Rattle.std.specs.List.{All}
 use Rattle.std.specs.Ordering.{int_eq, is_eq}
 use Rattle.std.specs.declared.cmp.Ordering.{Ordering}
 use Rattle.std.specs.declared.cmp.Ordering.TheVariants.{Less, Equal, Greater}
@@ -18,32 +17,26 @@ use Rattle.dd_lattice.specs.lemmas.InOrderLaws.{place_total, places_equal}
 use Rattle.dd_topology.specs.Grid.{edge_reach, is_offset}
 use Rattle.dd_formula.specs.LocalRule.{LocalRule}
 use Rattle.dd_transfer.specs.Transfers.{IsStrip, HasWeights}
+use Rattle.dd_faults.specs.Sound.{AreWeights}
 use Rattle.dd_boxes.specs.Discharges.{IsVector, AreVectors, AreWeightsFor}
 use Rattle.dd_query.specs.Sound.{AreStripPeriods as IsStripIn, AreQueryVectors as AreVectorsIn}
 
--- ---- strips
+module _ (x : LocalRule) (n d : ℕ) (symbols : x.symbols ≡ n) (dimension : x.dimension ≡ d) where
+  pub strip_of : (strip : List ℕ) → IsStripIn d strip → IsStrip x strip
+  strip_of strip h = record {
+    y_some = h.second.0;
+    z_some = h.third.0;
+    y_most = h.second.1;
+    z_most = h.third.1;
+    y_unused = λ low. h.no_second (omega (arith, low, dimension));
+    z_unused = λ low. h.no_third (omega (arith, low, dimension));
+  }
 
-pub strip_of : (x : LocalRule) (d : ℕ) (strip : List ℕ) → x.dimension ≡ d → IsStripIn d strip → IsStrip x strip
-strip_of x d strip same h = record {
-  y_some = h.second.0;
-  z_some = h.third.0;
-  y_most = h.second.1;
-  z_most = h.third.1;
-  y_unused = λ low. h.no_second (omega (arith, low, same));
-  z_unused = λ low. h.no_third (omega (arith, low, same));
-}
+  pub has_weights : (ws : List ℕ) → AreWeights n ws → HasWeights x ws
+  has_weights ws are = record { each = are.each ∙ sym symbols; small = are.light }
 
--- ---- weights
-
-module _ (x : LocalRule) (ws : List ℕ) (n : ℕ) (each : length ws ≡ n) (same : x.symbols ≡ n) (light : All (λ w. w ≤ 1000) ws) where
-  as_many : length ws ≡ x.symbols
-  as_many = omega (arith, each, same)
-
-  pub has_weights : HasWeights x ws
-  has_weights = record { each = as_many; small = light }
-
-  pub weights_for : AreWeightsFor x ws
-  weights_for = record { as_many = as_many; small = light }
+  pub weights_for : (ws : List ℕ) → AreWeights n ws → AreWeightsFor x ws
+  weights_for ws are = record { as_many = are.each ∙ sym symbols; small = are.light }
 
 -- ---- vectors
 

@@ -11,12 +11,12 @@ use Rattle.dd_script.specs.Questions.{asked}
 
 -- the rules that a question is about are the script's
 abbrev pub AreOf : Known → Asked → Type 0
-AreOf k (membership x t) = IsRuleOf k x
-AreOf k (box x g) = IsRuleOf k x
-AreOf k (equality x y) = IsRuleOf k x × IsRuleOf k y
-AreOf k (listing x) = IsRuleOf k x
-AreOf k (density x strip ws) = IsRuleOf k x
-AreOf k (discharge x radius margin vs ws) = IsRuleOf k x
+AreOf k (membership x t) = IsRuleOf k.setting x
+AreOf k (box x g) = IsRuleOf k.setting x
+AreOf k (equality x y) = IsRuleOf k.setting x × IsRuleOf k.setting y
+AreOf k (listing x) = IsRuleOf k.setting x
+AreOf k (density x strip ws) = IsRuleOf k.setting x
+AreOf k (discharge x radius margin vs ws) = IsRuleOf k.setting x
 
 -- the question goes together, passes no limit, and is about the script's rules
 pub record IsSoundIn (k : Known) (a : Asked) : Type 0 where

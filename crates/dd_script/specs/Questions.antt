@@ -13,8 +13,7 @@ use Rattle.dd_script.specs.Parts.{Parts}
 
 -- something of two items, where both are there
 abbrev pub of_both : {X Y Z : Type 0} → (X → Y → Z) → Option X → Option Y → Option Z
-of_both f (Some x) (Some y) = Some (f x y)
-of_both f (Some x) None = None
+of_both f (Some x) y = option_map (f x) y
 of_both f None y = None
 
 -- something of three

@@ -1,13 +1,11 @@
-use Rattle.std.proofs.Common.{◌≡◌, true, refl, ap, sym, subst, arith}
+use Rattle.std.proofs.Common.{refl, ap, sym, subst, arith}
 use Rattle.dd_formula.specs.LocalRule.{local_rule}
-use Rattle.dd_formula.specs.Automata.{rule_has}
-use Rattle.dd_formula.specs.lemmas.CasesLaws.{has_numbers}
 use Rattle.dd_meanings.specs.declared.meaning.Meaning.TheVariants as meant
+use Rattle.dd_meanings.specs.Made.{IsRuleOf}
 use Rattle.dd_meanings.specs.making.Parts.{IsFormulaOf}
 use Rattle.dd_meanings.proofs.Nothing.{parts}
 use Rattle.dd_meanings.proofs.NameLaws.{is_new}
 use Rattle.dd_meanings.proofs.SizeLaws.{rule_passes, rule_refuses}
-use Rattle.dd_meanings.proofs.DefinitionLaws.{same_numbers}
 use Rattle.dd_meanings.proofs.WellFormed.{is_formula}
 use Rattle.dd_meanings.proofs.definitions.rule.Goals as goal
 
@@ -24,10 +22,8 @@ returns-in-Ok-clause-exact c =
 pub returns-in-Ok-clause-sound : goal.returns-in-Ok-clause-sound
 returns-in-Ok-clause-sound c =
     let x = c.args.context.now in
-    let r = local_rule x.known.setting.topology x.known.setting.sets c.in_ok-meant.meant in
-    let has = subst (λ s. rule_has s r ≡ true) (same_numbers x.known c.requires.sound) (has_numbers x.known.setting.topology x.known.setting.sets c.in_ok-meant.meant) in
-    rw (← c.in_ok-meant.ensures)
-    (is_new x c.args.name (grind (arith, parts)), c.in-Ok.ensures.rule, record { has = has; edges = refl; allowed = refl })
+    let of : IsRuleOf x.known.setting (local_rule x.known.setting.topology x.known.setting.sets c.in_ok-meant.meant) = record { rule = c.in-Ok.ensures.rule; dimension = refl; nodes = refl; symbols = c.requires.sound.setting.alphabet; edges = refl; allowed = refl } in
+    rw (← c.in_ok-meant.ensures) (is_new x c.args.name (grind (arith, parts)), of)
 
 pub returns-in-Err-clause-exact : goal.returns-in-Err-clause-exact
 returns-in-Err-clause-exact c =

@@ -1,22 +1,33 @@
-use Rattle.std.proofs.Common.{ap, subst}
-use Rattle.std.specs.Prelude.{ℕ, List, IfOk, IfErr}
+use Rattle.std.proofs.Common.{◌≡◌, ap, sym, subst, ◌∙◌}
+use Rattle.std.specs.Prelude.{ℕ, List, Bool, All}
+use Rattle.dd_commands.specs.declared.script.Written.{Written}
+use Rattle.dd_commands.specs.Scripts.{IsScript, IsWritten}
 use Rattle.dd_script.specs.declared.draft.Draft.{Draft}
-use Rattle.dd_script.specs.Scripts.{Spells, IsScriptRefusal}
-use Rattle.dd_script.proofs.Telling.{each_written, tree_of}
+use Rattle.dd_script.specs.Scripts.{Spells}
+use Rattle.dd_script.specs.Walk.{start, has_topology}
+use Rattle.dd_script.specs.drafting.Drafts.{draft_of}
+use Rattle.dd_script.proofs.Walking.{tree_of}
 use Rattle.dd_script.proofs.parsing.script_of.Goals as goal
 
-pub script_from-requires-clause-written : goal.script_from-requires-clause-written
-script_from-requires-clause-written c =
-    tree_of c.in-Ok.draft.context.text c.args.syntax c.as_slice-in-Ok.result.now (ap (λ (d : Draft). d.context.text) c.in-Ok.ensures.begun) c.as_slice-in-Ok.ensures c.requires.written
+pub walk-requires-clause-begun : goal.walk-requires-clause-begun
+walk-requires-clause-begun c =
+    let begun = c.in_ok-draft.ensures.begun in
+    let same : c.in_ok-draft.draft.context.text ≡ c.args.syntax.text = ap (λ (d : Draft). d.context.text) begun in
+    begun ∙ ap (λ (b : Bool). draft_of c.args.syntax.text b 1 start) c.has_topology.ensures
+    ∙ ap (λ (t : List ℕ). draft_of t (has_topology c.as_slice-written.result.now) 1 start) (sym same)
 
-pub script_from-requires-clause-each : goal.script_from-requires-clause-each
-script_from-requires-clause-each c =
-    each_written c.args.syntax.text c.in-Ok.draft.context.text c.args.syntax.commands c.as_slice-in-Ok.result.now (ap (λ (d : Draft). d.context.text) c.in-Ok.ensures.begun) c.as_slice-in-Ok.ensures c.requires.each
+pub walk-requires-clause-written : goal.walk-requires-clause-written
+walk-requires-clause-written c =
+    let same : c.in_ok-draft.draft.context.text ≡ c.args.syntax.text = ap (λ (d : Draft). d.context.text) c.in_ok-draft.ensures.begun in
+    subst (λ (t : List ℕ). IsScript t (tree_of t c.as_slice-written.result.now)) (sym same)
+    (subst (λ (ws : List Written). IsScript c.args.syntax.text (tree_of c.args.syntax.text ws)) (sym c.as_slice-written.ensures) c.requires.written)
 
-pub returns-in-Ok-clause-spelled : goal.returns-in-Ok-clause-spelled
-returns-in-Ok-clause-spelled c =
-    subst (λ (t : List ℕ). IfOk c.script_from.result (Spells t)) (ap (λ (d : Draft). d.context.text) c.in-Ok.ensures.begun) c.script_from.ensures.spelled
+pub walk-requires-clause-each : goal.walk-requires-clause-each
+walk-requires-clause-each c =
+    let same : c.in_ok-draft.draft.context.text ≡ c.args.syntax.text = ap (λ (d : Draft). d.context.text) c.in_ok-draft.ensures.begun in
+    subst (λ (t : List ℕ). All (IsWritten t) c.as_slice-written.result.now) (sym same) (subst (All (IsWritten c.args.syntax.text)) (sym c.as_slice-written.ensures) c.requires.each)
 
-pub returns-in-Ok-clause-refused : goal.returns-in-Ok-clause-refused
-returns-in-Ok-clause-refused c =
-    subst (λ (t : List ℕ). IfErr c.script_from.result (IsScriptRefusal t)) (ap (λ (d : Draft). d.context.text) c.in-Ok.ensures.begun) c.script_from.ensures.refused
+pub returns-in-Ok-into_script-clause-spelled : goal.returns-in-Ok-into_script-clause-spelled
+returns-in-Ok-into_script-clause-spelled c =
+    let same : c.in_ok-draft.draft.context.text ≡ c.args.syntax.text = ap (λ (d : Draft). d.context.text) c.in_ok-draft.ensures.begun in
+    subst (λ (t : List ℕ). Spells t c.in-Ok-into_script.script) same (subst (Spells c.in_ok-draft.draft.context.text) (sym c.in-Ok-into_script.ensures) c.in-Ok.ensures.spelled)

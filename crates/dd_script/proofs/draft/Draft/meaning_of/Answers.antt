@@ -2,14 +2,14 @@ use Rattle.std.proofs.Common.{sym, subst}
 use Rattle.dd_faults.specs.Commands.{written_faults}
 use Rattle.dd_faults.specs.lemmas.Nothing.{none_first}
 use Rattle.dd_meanings.specs.Sound.{IsSoundMeaning}
-use Rattle.dd_script.proofs.Stepping.{weighed}
+use Rattle.dd_script.proofs.Walking.{weighed}
 use Rattle.dd_script.proofs.draft.Draft.meaning_of.Goals as goal
 
 pub mean-requires-clause-named : goal.mean-requires-clause-named
-mean-requires-clause-named c = rw c.as_slice.ensures c.requires.script.made.automata_named
+mean-requires-clause-named c = rw c.as_slice.ensures c.requires.script.automata.named
 
 pub mean-requires-clause-formed : goal.mean-requires-clause-formed
-mean-requires-clause-formed c = rw c.as_slice.ensures c.requires.script.made.automata_have
+mean-requires-clause-formed c = rw c.as_slice.ensures c.requires.script.automata.each
 
 pub mean-requires-clause-faultless : goal.mean-requires-clause-faultless
 mean-requires-clause-faultless c = none_first (written_faults c.args.self.now.context c.args.written.now) c.in_ok-check.ensures
@@ -20,6 +20,6 @@ weigh-requires-clause-sound c = subst (IsSoundMeaning c.args.self.now.context) (
 pub returns : goal.returns
 returns c =
     weighed c.args.self.now c.args.written.now c.as_slice.result.now c.as_slice.ensures
-    c.in_ok-meaning.meaning c.in_ok-meaning.ensures.exact.1 c.in_ok-check.ensures c.in_ok-meaning.ensures.exact.0
+    c.in_ok-meaning.meaning c.in_ok-check.ensures c.in_ok-meaning.ensures.exact
     (subst (IsSoundMeaning c.args.self.now.context) (sym c.in_ok-meaning.ensures.exact.1) c.in_ok-meaning.ensures.sound)
     c.weigh.result c.weigh.ensures.work c.weigh.ensures.same
