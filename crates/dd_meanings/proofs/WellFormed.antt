@@ -13,7 +13,8 @@ use Rattle.dd_written.specs.declared.tree.Term.{Term as WrittenTerm}
 use Rattle.dd_written.specs.declared.tree.Comparand.{Comparand}
 use Rattle.dd_written.specs.declared.tree.Comparand.TheVariants as side
 use Rattle.dd_written.specs.declared.tree.Atom.{Atom}
-use Rattle.dd_written.specs.declared.tree.Atom.TheVariants as atom
+use Rattle.dd_written.specs.declared.tree.Relation.{Relation}
+use Rattle.dd_written.specs.declared.tree.Relation.TheVariants as relation
 use Rattle.dd_written.specs.declared.tree.Ball.{Ball}
 use Rattle.dd_written.specs.declared.tree.Quantifier.{Quantifier}
 use Rattle.dd_written.specs.declared.tree.Quantifier.TheVariants as quantifier
@@ -36,9 +37,11 @@ use Rattle.dd_faults.specs.declared.fault.Fault.TheVariants as fault
 use Rattle.dd_faults.specs.declared.context.Context.{Context}
 use Rattle.dd_faults.specs.Order.{when, over}
 use Rattle.dd_faults.specs.Names.{missing, number_in, is_variable, unknown_variable}
-use Rattle.dd_faults.specs.Formulas.{unknown_label, term_faults, names_symbol, side_faults, atom_faults, ball_faults, quantifier_faults, faults_step, formula_faults}
+use Rattle.dd_faults.specs.Formulas.{unknown_label, term_faults, names_symbol, side_faults, relation_faults, atom_faults, ball_faults, quantifier_faults, faults_step, formula_faults}
 use Rattle.dd_faults.specs.Sound.{IsSound}
-use Rattle.dd_meanings.specs.Formulas.{label_of, term_of, with_side, atom_of, ball_of, implied_of, iff_behind, joined_of, quantified_of, formula_step, formula_of}
+use Rattle.dd_meanings.specs.declared.atoms.Side.{Side}
+use Rattle.dd_meanings.specs.declared.atoms.Side.TheVariants as right
+use Rattle.dd_meanings.specs.Formulas.{label_of, term_of, side_of, equal_of, not_equal_of, said_of, atom_of, ball_of, implied_of, iff_behind, joined_of, quantified_of, formula_step, formula_of}
 use Rattle.dd_meanings.specs.making.Parts.{IsFormulaOf}
 use Rattle.dd_faults.specs.lemmas.Nothing.{both_nil, within}
 use Rattle.dd_meanings.proofs.Nothing.{all_where}
@@ -87,35 +90,34 @@ module _ (x : Context) (same : x.known.setting.topology.nodes ≡ length x.known
     TermFits t = term_fits x.known.setting.topology (length scope + 1) t ≡ true
 
     -- what stands on the right, a symbol or a term
-    side_is : (by : Term → ℕ → Formula) (by_both : Term → Term → Formula) → ((t : Term) (n : ℕ) → TermFits t → symbol n ≡ true → FitsHere (by t n)) → ((t u : Term) → TermFits t → TermFits u → FitsHere (by_both t u)) →
-        (t : Term) (r : Comparand) → TermFits t → side_faults x scope r ≡ [] → FitsHere (with_side by by_both x scope t r)
-    side_is by by_both one two t (side.Number n) h none = one t (number_in x.text x.known.setting.symbols (name.Number n)) h (symbol_is (name.Number n) none)
-    side_is by by_both one two t (side.Term u) h none = elim (cases_Bool (names_symbol x.text scope u)) [
-      | inl e ↦
-          let unknown : missing x.text x.known.setting.symbols (name.Word u.first) ≡ [] = rw e at none in
-          rw e (one t (number_in x.text x.known.setting.symbols (name.Word u.first)) h (symbol_is (name.Word u.first) unknown))
-      | inr e ↦
-          let unknown : term_faults x scope u ≡ [] = rw e at none in
-          rw e (two t (term_of x scope u) h (term_is u unknown))
+    abbrev SideFits : Side → Type 0
+    SideFits (right.Symbol n) = symbol n ≡ true
+    SideFits (right.Term u) = TermFits u
+
+    side_is : (r : Comparand) → side_faults x scope r ≡ [] → SideFits (side_of x scope r)
+    side_is (side.Number n) none = symbol_is (name.Number n) none
+    side_is (side.Term u) none = elim (cases_Bool (names_symbol x.text scope u)) [
+      | inl e ↦ let unknown : missing x.text x.known.setting.symbols (name.Word u.first) ≡ [] = rw e at none in rw e (symbol_is (name.Word u.first) unknown)
+      | inr e ↦ let unknown : term_faults x scope u ≡ [] = rw e at none in rw e (term_is u unknown)
     ]
 
+    equal_is : (t : Term) (s : Side) → TermFits t → SideFits s → FitsHere (equal_of t s) × FitsHere (not_equal_of t s)
+    equal_is t (right.Symbol n) h h' = (rolled (Formula-F.Symbol t n) (length scope + 1) 0 (and_from _ _ h h') (omega arith), rolled (Formula-F.NotSymbol t n) (length scope + 1) 0 (and_from _ _ h h') (omega arith))
+    equal_is t (right.Term u) h h' = (rolled (Formula-F.Same t u) (length scope + 1) 0 (and_from _ _ h h') (omega arith), rolled (Formula-F.NotSame t u) (length scope + 1) 0 (and_from _ _ h h') (omega arith))
+
+    said_is : (t : Term) (r : Relation) → TermFits t → relation_faults x scope r ≡ [] → FitsHere (said_of x scope t r)
+    said_is t (relation.Equal r) h none = (equal_is t (side_of x scope r) h (side_is r none)).0
+    said_is t (relation.NotEqual r) h none = (equal_is t (side_of x scope r) h (side_is r none)).1
+    said_is t (relation.Adjacent u) h none = rolled (Formula-F.Adjacent t (term_of x scope u)) (length scope + 1) 0 (and_from _ _ h (term_is u none)) (omega arith)
+    said_is t (relation.Same u) h none = rolled (Formula-F.Place t (term_of x scope u)) (length scope + 1) 0 (and_from _ _ h (term_is u none)) (omega arith)
+    said_is t (relation.AtNode n) h none =
+        let below = number_below x.text x.known.setting.nodes n none in
+        rolled (Formula-F.Node t (number_in x.text x.known.setting.nodes n)) (length scope + 1) 0 (and_from _ _ h (lt-ltb _ _ (omega (arith, below, same)))) (omega arith)
+
     atom_is : (a : Atom) → atom_faults x scope a ≡ [] → FitsHere (atom_of x scope a)
-    atom_is (atom.Equal t r) none =
-        let both = both_nil (term_faults x scope t) (side_faults x scope r) none in
-        side_is _ _ (λ t n h h'. rolled (Formula-F.Symbol t n) (length scope + 1) 0 (and_from _ _ h h') (omega arith)) (λ t u h h'. rolled (Formula-F.Same t u) (length scope + 1) 0 (and_from _ _ h h') (omega arith)) (term_of x scope t) r (term_is t both.0) both.1
-    atom_is (atom.NotEqual t r) none =
-        let both = both_nil (term_faults x scope t) (side_faults x scope r) none in
-        side_is _ _ (λ t n h h'. rolled (Formula-F.NotSymbol t n) (length scope + 1) 0 (and_from _ _ h h') (omega arith)) (λ t u h h'. rolled (Formula-F.NotSame t u) (length scope + 1) 0 (and_from _ _ h h') (omega arith)) (term_of x scope t) r (term_is t both.0) both.1
-    atom_is (atom.Adjacent t u) none =
-        let both = both_nil (term_faults x scope t) (term_faults x scope u) none in
-        rolled (Formula-F.Adjacent (term_of x scope t) (term_of x scope u)) (length scope + 1) 0 (and_from _ _ (term_is t both.0) (term_is u both.1)) (omega arith)
-    atom_is (atom.Same t u) none =
-        let both = both_nil (term_faults x scope t) (term_faults x scope u) none in
-        rolled (Formula-F.Place (term_of x scope t) (term_of x scope u)) (length scope + 1) 0 (and_from _ _ (term_is t both.0) (term_is u both.1)) (omega arith)
-    atom_is (atom.AtNode t n) none =
-        let both = both_nil (term_faults x scope t) (missing x.text x.known.setting.nodes n) none in
-        let below = number_below x.text x.known.setting.nodes n both.1 in
-        rolled (Formula-F.Node (term_of x scope t) (number_in x.text x.known.setting.nodes n)) (length scope + 1) 0 (and_from _ _ (term_is t both.0) (lt-ltb _ _ (omega (arith, below, same)))) (omega arith)
+    atom_is a none =
+        let both = both_nil (term_faults x scope a.term) (relation_faults x scope a.relation) none in
+        said_is (term_of x scope a.term) a.relation (term_is a.term both.0) both.1
 
     ball_is : (b : Ball) → ball_faults x scope b ≡ [] → ball_fits (length scope + 1) (ball_of x scope b) ≡ true
     ball_is b none =

@@ -4,14 +4,11 @@ use Rattle.std.specs.Prelude.{nat_lt}
 use Rattle.std.specs.List.{flat_map}
 use Rattle.dd_written.specs.declared.lexeme.Word.{Word}
 use Rattle.dd_written.specs.declared.lexeme.Lexeme.{Lexeme}
-use Rattle.dd_written.specs.declared.tree.Comparand.TheVariants as side
 use Rattle.dd_written.specs.declared.tree.Atom.{Atom}
-use Rattle.dd_written.specs.declared.tree.Atom.TheVariants as atom
 use Rattle.dd_written.specs.declared.tree.Ball.{Ball}
 use Rattle.dd_written.specs.declared.tree.Quantifier.{Quantifier}
 use Rattle.dd_written.specs.declared.tree.Quantifier.TheVariants as quantifier
 use Rattle.dd_written.specs.declared.tree.Join.{Join}
-use Rattle.dd_written.specs.declared.tree.Term.{Term as WrittenTerm}
 use Rattle.dd_written.specs.declared.tree.Formula.{Formula, roll-Formula}
 use Rattle.dd_written.specs.declared.tree.Formula.TheFolds.{fold-roll-Formula}
 use Rattle.dd_written.specs.declared.tree.Formula.TheOpen.{Formula-F}
@@ -25,9 +22,8 @@ use Rattle.dd_faults.specs.Numbers.{token_faults}
 use Rattle.dd_faults.specs.Formulas.{formula_faults, faults_step, atom_faults, quantifier_faults}
 use Rattle.dd_faults.specs.Commands.{written_faults}
 use Rattle.dd_meanings.specs.Formulas.{formula_of, formula_step, atom_of, joined_of, quantified_of, ball_of}
-use Rattle.dd_sampling.proofs.Lexing.{number_at}
 use Rattle.dd_sampling.proofs.Whole.{front_text}
-use Rattle.dd_sampling.proofs.Tree.{word_at, w, here, step, steps, ball, hard, row, dies, zero_rule, dom, hard_text, row_text, dies_text, zero_text, dom_text, rule_written}
+use Rattle.dd_sampling.proofs.Tree.{word_at, w, here, step, steps, told, ball, hard, row, dies, zero_rule, dom, hard_text, row_text, dies_text, zero_text, dom_text, rule_written}
 use Rattle.dd_sampling.proofs.Meant.{implied, negation, conjunction, hard_meant, row_meant, dies_meant, zero_meant, dom_meant}
 use Rattle.dd_sampling.proofs.Sizes.{known}
 
@@ -78,9 +74,6 @@ chain_meaning x j fs scope = ap (λ (g : Meaning). g scope) (fold-roll-Formula M
 ruleset meanings = (atom_meaning, not_meaning, quantified_meaning, group_meaning, chain_meaning)
 
 -- ---- the rules, atom by atom
-
-abbrev told : WrittenTerm → ℕ → Atom
-told t s = atom.Equal t (side.Number (number_at s 1))
 
 hard_faults : (x : Context) → formula_faults x hard []
     ≡ atom_faults x [] (told (here 28) 30) ++ ((atom_faults x [] (told (step 36 38) 41) ++ (atom_faults x [] (told (step 45 47) 50) ++ [])) ++ [])

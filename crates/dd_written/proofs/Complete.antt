@@ -3,18 +3,17 @@ use Rattle.std.proofs.Common.{◌≡◌, ℕ, zero, suc, ◌-◌, ◌+◌, ◌�
 use Rattle.std.specs.Prelude.{nat_le, nat_lt, ◌&&◌}
 use Rattle.std.specs.List.{flat_map, list_all, AllByRecursion}
 use Rattle.std.proofs.lemmas.Bool.{and_parts, ltb-true, le-leb, leb-true}
+use Rattle.std.proofs.lemmas.Bool.Decides.{nat_tests}
 use Rattle.std.proofs.lemmas.List.{length-append}
-use Rattle.dd_written.specs.declared.lexeme.Mark.{Mark}
 use Rattle.dd_written.specs.declared.lexeme.Mark.TheVariants as mark
 use Rattle.dd_written.specs.declared.lexeme.Word.{Word}
 use Rattle.dd_written.specs.declared.lexeme.Lexeme.{Lexeme}
 use Rattle.dd_written.specs.declared.lexeme.Lexeme.TheVariants as lexeme
-use Rattle.dd_written.specs.declared.tree.Name.{Name}
-use Rattle.dd_written.specs.declared.tree.Term.{Term}
-use Rattle.dd_written.specs.declared.tree.Comparand.{Comparand}
+use Rattle.dd_written.specs.declared.tree.Name.TheVariants as name
 use Rattle.dd_written.specs.declared.tree.Comparand.TheVariants as side
+use Rattle.dd_written.specs.declared.tree.Relation.{Relation}
+use Rattle.dd_written.specs.declared.tree.Relation.TheVariants as relation
 use Rattle.dd_written.specs.declared.tree.Atom.{Atom}
-use Rattle.dd_written.specs.declared.tree.Atom.TheVariants as atom
 use Rattle.dd_written.specs.declared.tree.Ball.{Ball}
 use Rattle.dd_written.specs.declared.tree.Quantifier.{Quantifier}
 use Rattle.dd_written.specs.declared.tree.Quantifier.TheVariants as quantifier
@@ -23,76 +22,57 @@ use Rattle.dd_written.specs.declared.tree.Join.TheVariants as join
 use Rattle.dd_written.specs.declared.tree.Formula.{Formula, roll-Formula}
 use Rattle.dd_written.specs.declared.tree.Formula.TheFolds.{map-Formula, ind-Formula}
 use Rattle.dd_written.specs.declared.tree.Formula.TheOpen.{Formula-F}
-use Rattle.dd_written.specs.Formulas.{text, stands, stands_step, tree_depth, chain_depth, name_lexeme, move_text, term_text, atom_side_text, atom_text, ball_text, capital, sign, join_rank, IsWrittenFormula}
+use Rattle.dd_written.specs.Formulas.{text, stands, stands_step, tree_depth, chain_depth, move_text, relation_text, atom_text, ball_text, capital, sign, join_rank, IsWrittenFormula}
 use Rattle.dd_written.specs.reading.Readers.{Reader, ◌>>=◌}
-use Rattle.dd_written.specs.reading.Atoms.{moves_at, term_at, side_at, after_term, atom_at, leaf_at, balls_at, quantifier_end, quantifier_at}
+use Rattle.dd_written.specs.reading.Atoms.{moves_at, relation_at, leaf_at, balls_at, quantifier_end, quantifier_at}
 use Rattle.dd_written.specs.reading.Formulas.{begins, more_at, chain_at, join_at, level_at, quantified_at, group_end, nested_at, unary_at, formula_at, ends}
 use Rattle.dd_written.proofs.Layers.{text_of, stands_of, depth_of}
 use Rattle.dd_written.specs.lemmas.Rounds.{none_more}
-use Rattle.dd_written.specs.lemmas.Names.{name_again}
 use Rattle.dd_written.proofs.Sound.{more_text, rank_join}
-
-lower : (low place limit : ℕ) → low ≤ place → nat_lt place limit ≡ true → nat_lt low limit ≡ true
-lower low place limit le e = le-leb (suc low) limit (omega (arith, le, ltb-true place limit e))
 
 ends_low : (low place : ℕ) (rest : List Lexeme) → low ≤ place → ends place rest ≡ true → ends low rest ≡ true
 ends_low low place (lexeme.Mark mark.Dot ∷ tokens) le e = e
-ends_low low place (lexeme.Mark mark.And ∷ tokens) le e = lower low place 1 le e
-ends_low low place (lexeme.Mark mark.Or ∷ tokens) le e = lower low place 2 le e
-ends_low low place (lexeme.Mark mark.Arrow ∷ tokens) le e = lower low place 3 le e
-ends_low low place (lexeme.Mark mark.BothWays ∷ tokens) le e = lower low place 4 le e
+ends_low low place (lexeme.Mark mark.And ∷ tokens) le e = grind (arith, nat_tests)
+ends_low low place (lexeme.Mark mark.Or ∷ tokens) le e = grind (arith, nat_tests)
+ends_low low place (lexeme.Mark mark.Arrow ∷ tokens) le e = grind (arith, nat_tests)
+ends_low low place (lexeme.Mark mark.BothWays ∷ tokens) le e = grind (arith, nat_tests)
 ends_low low place tokens le e = refl
 
-not_lower : (place limit : ℕ) → limit ≤ place → nat_lt place limit ≡ true → ⊥
-not_lower place limit le e = omega (arith, le, ltb-true place limit e)
-
 ends_begins : (j : Join) (place : ℕ) (rest : List Lexeme) → join_rank j ≤ place → ends place rest ≡ true → begins j rest ≡ false
-ends_begins join.And place (lexeme.Mark mark.And ∷ tokens) le e = absurd (not_lower place 1 le e)
-ends_begins join.Or place (lexeme.Mark mark.Or ∷ tokens) le e = absurd (not_lower place 2 le e)
-ends_begins join.Implies place (lexeme.Mark mark.Arrow ∷ tokens) le e = absurd (not_lower place 3 le e)
-ends_begins join.Iff place (lexeme.Mark mark.BothWays ∷ tokens) le e = absurd (not_lower place 4 le e)
+ends_begins join.And place (lexeme.Mark mark.And ∷ tokens) le e = absurd (omega (arith, le, ltb-true place 1 e))
+ends_begins join.Or place (lexeme.Mark mark.Or ∷ tokens) le e = absurd (omega (arith, le, ltb-true place 2 e))
+ends_begins join.Implies place (lexeme.Mark mark.Arrow ∷ tokens) le e = absurd (omega (arith, le, ltb-true place 3 e))
+ends_begins join.Iff place (lexeme.Mark mark.BothWays ∷ tokens) le e = absurd (omega (arith, le, ltb-true place 4 e))
 ends_begins j place tokens le e = refl
 
-sign_ends : (j : Join) (place : ℕ) (tokens : List Lexeme) → place < join_rank j → ends place (lexeme.Mark (sign j) ∷ tokens) ≡ true
-sign_ends join.And place tokens lt = le-leb (suc place) 1 lt
-sign_ends join.Or place tokens lt = le-leb (suc place) 2 lt
-sign_ends join.Implies place tokens lt = le-leb (suc place) 3 lt
-sign_ends join.Iff place tokens lt = le-leb (suc place) 4 lt
-
-sign_begins : (j : Join) (tokens : List Lexeme) → begins j (lexeme.Mark (sign j) ∷ tokens) ≡ true
-sign_begins join.And tokens = refl
-sign_begins join.Or tokens = refl
-sign_begins join.Implies tokens = refl
-sign_begins join.Iff tokens = refl
+-- a sign stands behind a formula of a tighter place
+sign_there : (j : Join) (place : ℕ) (tokens : List Lexeme) → place < join_rank j → (ends place (lexeme.Mark (sign j) ∷ tokens) ≡ true) × (begins j (lexeme.Mark (sign j) ∷ tokens) ≡ true)
+sign_there join.And place tokens lt = (le-leb (suc place) 1 lt, refl)
+sign_there join.Or place tokens lt = (le-leb (suc place) 2 lt, refl)
+sign_there join.Implies place tokens lt = (le-leb (suc place) 3 lt, refl)
+sign_there join.Iff place tokens lt = (le-leb (suc place) 4 lt, refl)
 
 -- ---- atoms and quantifiers
 
-moves_none : (place : ℕ) (rest : List Lexeme) → ends place rest ≡ true → moves_at rest ≡ ([], rest)
-moves_none place (lexeme.Mark mark.Dot ∷ tokens) e = absurd cc
-moves_none place tokens e = refl
-
 moves_again : (labels : List Word) (place : ℕ) (rest : List Lexeme) → ends place rest ≡ true → moves_at (flat_map move_text labels ++ rest) ≡ (labels, rest)
-moves_again [] place rest e = moves_none place rest e
+moves_again [] place (lexeme.Mark mark.Dot ∷ tokens) e = absurd cc
+moves_again [] place rest e = refl
 moves_again (label ∷ labels) place rest e = ap (λ (x : List Word × List Lexeme). (label ∷ x.0, x.1)) (moves_again labels place rest e)
 
-term_again : (t : Term) (place : ℕ) (rest : List Lexeme) → ends place rest ≡ true → term_at (term_text t ++ rest) ≡ Some (t, rest)
-term_again t place rest e = ap (λ (x : List Word × List Lexeme). Some (record { first = t.first; moves = x.0 }, x.1)) (moves_again t.moves place rest e)
+relation_again : (r : Relation) (rest : List Lexeme) → ends 0 rest ≡ true → (ends 0 (relation_text r ++ rest) ≡ true) × (relation_at (relation_text r ++ rest) ≡ Some (r, rest))
+relation_again (relation.Equal (side.Number n)) rest e = (refl, refl)
+relation_again (relation.Equal (side.Term t)) rest e = (refl, rw (moves_again t.moves 0 rest e) refl)
+relation_again (relation.NotEqual (side.Number n)) rest e = (refl, refl)
+relation_again (relation.NotEqual (side.Term t)) rest e = (refl, rw (moves_again t.moves 0 rest e) refl)
+relation_again (relation.Adjacent t) rest e = (refl, rw (moves_again t.moves 0 rest e) refl)
+relation_again (relation.Same t) rest e = (refl, rw (moves_again t.moves 0 rest e) refl)
+relation_again (relation.AtNode (name.Word w)) rest e = (refl, refl)
+relation_again (relation.AtNode (name.Number n)) rest e = (refl, refl)
 
-side_again : (s : Comparand) (place : ℕ) (rest : List Lexeme) → ends place rest ≡ true → side_at (atom_side_text s ++ rest) ≡ Some (s, rest)
-side_again (side.Number n) place rest e = refl
-side_again (side.Term t) place rest e = ap (λ (r : Option (Term × List Lexeme)). r >>= λ t. Some (side.Term t.0, t.1)) (term_again t place rest e)
-
--- a term, its mark and what stands behind it
-marked_again : (t : Term) (m : Mark) (part rest : List Lexeme) → ends 0 (lexeme.Mark m ∷ (part ++ rest)) ≡ true → atom_at ((term_text t ++ lexeme.Mark m ∷ part) ++ rest) ≡ after_term t (lexeme.Mark m ∷ (part ++ rest))
-marked_again t m part rest e =
-    ap atom_at (append_assoc (term_text t) (lexeme.Mark m ∷ part) rest) ∙ ap (λ (r : Option (Term × List Lexeme)). r >>= λ t. after_term t.0 t.1) (term_again t 0 (lexeme.Mark m ∷ (part ++ rest)) e)
-
-atom_again : (a : Atom) (rest : List Lexeme) → ends 0 rest ≡ true → atom_at (atom_text a ++ rest) ≡ Some (a, rest)
-atom_again (atom.Equal t s) rest e = marked_again t mark.Equal (atom_side_text s) rest refl ∙ ap (λ (r : Option (Comparand × List Lexeme)). r >>= λ s. Some (atom.Equal t s.0, s.1)) (side_again s 0 rest e)
-atom_again (atom.NotEqual t s) rest e = marked_again t mark.NotEqual (atom_side_text s) rest refl ∙ ap (λ (r : Option (Comparand × List Lexeme)). r >>= λ s. Some (atom.NotEqual t s.0, s.1)) (side_again s 0 rest e)
-atom_again (atom.Adjacent t u) rest e = marked_again t mark.Tilde (term_text u) rest refl ∙ ap (λ (r : Option (Term × List Lexeme)). r >>= λ u. Some (atom.Adjacent t u.0, u.1)) (term_again u 0 rest e)
-atom_again (atom.Same t u) rest e = marked_again t mark.At (term_text u) rest refl ∙ ap (λ (r : Option (Term × List Lexeme)). r >>= λ u. Some (atom.Same t u.0, u.1)) (term_again u 0 rest e)
-atom_again (atom.AtNode t n) rest e = marked_again t mark.Colon (name_lexeme n ∷ []) rest refl ∙ ap (λ (r : Option (Name × List Lexeme)). r >>= λ n. Some (atom.AtNode t n.0, n.1)) (name_again n rest)
+atom_again : (a : Atom) (rest : List Lexeme) → ends 0 rest ≡ true → leaf_at (atom_text a ++ rest) ≡ Some (roll-Formula (Formula-F.Atom a), rest)
+atom_again a rest e =
+    let r = relation_again a.relation rest e in
+    rw (append_assoc (flat_map move_text a.term.moves) (relation_text a.relation) rest, moves_again a.term.moves 0 (relation_text a.relation ++ rest) r.0, r.1) refl
 
 balls_again : (balls : List Ball) (rest : List Lexeme) → balls_at (flat_map ball_text balls ++ lexeme.Mark mark.CloseList ∷ rest) ≡ (balls, lexeme.Mark mark.CloseList ∷ rest)
 balls_again [] rest = refl
@@ -110,7 +90,7 @@ ReadBy part place f = (rest : List Lexeme) → ends place rest ≡ true → part
 
 ends_more : (j : Join) (place : ℕ) (fs : List Formula) (rest : List Lexeme) → place < join_rank j → ends place rest ≡ true → ends place (more_text j fs ++ rest) ≡ true
 ends_more j place [] rest lt e = e
-ends_more j place (f ∷ fs) rest lt e = sign_ends j place ((text f ++ more_text j fs) ++ rest) lt
+ends_more j place (f ∷ fs) rest lt e = (sign_there j place ((text f ++ more_text j fs) ++ rest) lt).0
 
 more_again : (j : Join) (part : Reader Formula) (place : ℕ) (fs : List Formula) (n : ℕ) (rest : List Lexeme) → AllByRecursion (ReadBy part place) fs → length fs ≤ n → place < join_rank j → begins j rest ≡ false → ends place rest ≡ true
     → more_at j part n (more_text j fs ++ rest) ≡ Some (fs, rest)
@@ -119,7 +99,7 @@ more_again j part place (f ∷ fs) zero rest each enough lt none e = absurd (ome
 more_again j part place (f ∷ fs) (suc n) rest each enough lt none e =
     let parted : (text f ++ more_text j fs) ++ rest ≡ text f ++ (more_text j fs ++ rest) = append_assoc (text f) (more_text j fs) rest in
     let first : part (text f ++ (more_text j fs ++ rest)) ≡ Some (f, more_text j fs ++ rest) = each.0 (more_text j fs ++ rest) (ends_more j place fs rest lt e) in
-    rw (sign_begins j ((text f ++ more_text j fs) ++ rest), parted, first, more_again j part place fs n rest each.1 (omega (arith, enough)) lt none e) refl
+    rw ((sign_there j place ((text f ++ more_text j fs) ++ rest) lt).1, parted, first, more_again j part place fs n rest each.1 (omega (arith, enough)) lt none e) refl
 
 length_more : (j : Join) (fs : List Formula) (rest : List Lexeme) → length fs ≤ length (more_text j fs ++ rest)
 length_more j [] rest = omega arith
@@ -135,10 +115,10 @@ chain_again : (j : Join) (part : Reader Formula) (place : ℕ) (f g : Formula) (
     → chain_at j part (text (roll-Formula (Formula-F.Chain j (f ∷ g ∷ gs))) ++ rest) ≡ Some (roll-Formula (Formula-F.Chain j (f ∷ g ∷ gs)), rest)
 chain_again j part place f g gs rest each lt none e =
     let behind = more_text j (g ∷ gs) ++ rest in
-    let spelled : text (roll-Formula (Formula-F.Chain j (f ∷ g ∷ gs))) ++ rest ≡ text f ++ behind = ap (λ (ts : List Lexeme). ts ++ rest) (text_of (Formula-F.Chain j (f ∷ g ∷ gs))) ∙ append_assoc (text f) (more_text j (g ∷ gs)) rest in
+    let spelled : text (roll-Formula (Formula-F.Chain j (f ∷ g ∷ gs))) ++ rest ≡ text f ++ behind = rw (text_of (Formula-F.Chain j (f ∷ g ∷ gs))) (append_assoc (text f) (more_text j (g ∷ gs)) rest) in
     let first : part (text f ++ behind) ≡ Some (f, behind) = each.0 behind (ends_more j place (g ∷ gs) rest lt e) in
     let others = more_again j part place (g ∷ gs) (length behind) rest each.1 (length_more j (g ∷ gs) rest) lt none e in
-    ap (chain_at j part) spelled ∙ rw (first, others, sign_begins j ((text g ++ more_text j gs) ++ rest)) refl
+    ap (chain_at j part) spelled ∙ rw (first, others, (sign_there j place ((text g ++ more_text j gs) ++ rest) lt).1) refl
 
 -- ---- places
 
@@ -169,24 +149,9 @@ layer y = map-Formula Known Formula formula_of y
 lifted : (budget place : ℕ) (f : Formula) (tokens rest : List Lexeme) → place ≤ 4 → ends place rest ≡ true → unary_at budget tokens ≡ Some (f, rest) → level_at (unary_at budget) place tokens ≡ Some (f, rest)
 lifted budget place f tokens rest le e r = level_to (unary_at budget) tokens f rest place 0 place (omega arith) le e r
 
-unary_word : (budget : ℕ) (word : Word) (tokens : List Lexeme) → unary_at budget (lexeme.Word word ∷ tokens) ≡ leaf_at (lexeme.Word word ∷ tokens)
-unary_word zero word tokens = refl
-unary_word (suc budget) word tokens = refl
-
 unary_atom : (budget : ℕ) (a : Atom) (rest : List Lexeme) → unary_at budget (atom_text a ++ rest) ≡ leaf_at (atom_text a ++ rest)
-unary_atom budget (atom.Equal t s) rest = unary_word budget t.first _
-unary_atom budget (atom.NotEqual t s) rest = unary_word budget t.first _
-unary_atom budget (atom.Adjacent t u) rest = unary_word budget t.first _
-unary_atom budget (atom.Same t u) rest = unary_word budget t.first _
-unary_atom budget (atom.AtNode t n) rest = unary_word budget t.first _
-
-leaf_again : (budget : ℕ) (a : Atom) (rest : List Lexeme) → ends 0 rest ≡ true → unary_at budget (text (roll-Formula (Formula-F.Atom a)) ++ rest) ≡ Some (roll-Formula (Formula-F.Atom a), rest)
-leaf_again budget a rest e =
-    ap (λ (ts : List Lexeme). unary_at budget (ts ++ rest)) (text_of (Formula-F.Atom a)) ∙ unary_atom budget a rest ∙ ap (λ (r : Option (Atom × List Lexeme)). r >>= λ a. Some (roll-Formula (Formula-F.Atom a.0), a.1)) (atom_again a rest e)
-
-not_again : (budget : ℕ) (f : Formula) (rest : List Lexeme) → unary_at budget (text f ++ rest) ≡ Some (f, rest) → unary_at (suc budget) (text (roll-Formula (Formula-F.Not f)) ++ rest) ≡ Some (roll-Formula (Formula-F.Not f), rest)
-not_again budget f rest inner =
-    ap (λ (ts : List Lexeme). unary_at (suc budget) (ts ++ rest)) (text_of (Formula-F.Not f)) ∙ ap (λ (r : Option (Formula × List Lexeme)). r >>= λ f. Some (roll-Formula (Formula-F.Not f.0), f.1)) inner
+unary_atom zero a rest = refl
+unary_atom (suc budget) a rest = refl
 
 nested_quantifier : (unary : Reader Formula) (q : Quantifier) (tokens : List Lexeme) → nested_at unary (lexeme.Mark (capital q) ∷ tokens) ≡ quantified_at unary q tokens
 nested_quantifier unary quantifier.All tokens = refl
@@ -197,16 +162,8 @@ quantified_again : (budget : ℕ) (q : Quantifier) (variable : Word) (balls : Li
 quantified_again budget q variable [] f rest some inner = absurd (omega (arith, leb-true 1 0 some))
 quantified_again budget q variable (b ∷ balls) f rest some inner =
     let spelled : text (roll-Formula (Formula-F.Quantified q variable (b ∷ balls) f)) ++ rest ≡ lexeme.Mark (capital q) ∷ lexeme.Word variable ∷ lexeme.Mark mark.OpenList ∷ (flat_map ball_text (b ∷ balls) ++ lexeme.Mark mark.CloseList ∷ (text f ++ rest)) =
-    ap (λ (ts : List Lexeme). ts ++ rest) (text_of (Formula-F.Quantified q variable (b ∷ balls) f))
-    ∙ ap (λ (ts : List Lexeme). lexeme.Mark (capital q) ∷ lexeme.Word variable ∷ lexeme.Mark mark.OpenList ∷ ts) (append_assoc (flat_map ball_text (b ∷ balls)) (lexeme.Mark mark.CloseList ∷ text f) rest) in
+    simp (text_of, append_assoc) in
     ap (unary_at (suc budget)) spelled ∙ nested_quantifier (unary_at budget) q _ ∙ rw (quantifier_again variable b balls (text f ++ rest), inner) refl
-
-group_again : (budget : ℕ) (f : Formula) (rest : List Lexeme) → level_at (unary_at budget) 4 (text f ++ lexeme.Mark mark.Close ∷ rest) ≡ Some (f, lexeme.Mark mark.Close ∷ rest)
-    → unary_at (suc budget) (text (roll-Formula (Formula-F.Group f)) ++ rest) ≡ Some (roll-Formula (Formula-F.Group f), rest)
-group_again budget f rest inner =
-    let spelled : text (roll-Formula (Formula-F.Group f)) ++ rest ≡ lexeme.Mark mark.Open ∷ (text f ++ lexeme.Mark mark.Close ∷ rest) =
-    ap (λ (ts : List Lexeme). ts ++ rest) (text_of (Formula-F.Group f)) ∙ ap (λ (ts : List Lexeme). lexeme.Mark mark.Open ∷ ts) (append_assoc (text f) (lexeme.Mark mark.Close ∷ []) rest) in
-    ap (unary_at (suc budget)) spelled ∙ ap (λ (r : Option (Formula × List Lexeme)). r >>= λ f. group_end f.0 f.1) inner
 
 -- the parts of a chain, each of which is read again
 parts_again : (budget place : ℕ) (j : Join) (n i : ℕ) (fs : List Known) → place ≤ 4 → list_all (λ (h : ℕ → Bool). h place) (map stands (map formula_of fs)) ≡ true → chain_depth j n i (map tree_depth (map formula_of fs)) ≤ budget
@@ -236,29 +193,26 @@ chained_again budget place j (f ∷ g ∷ gs) rest le ranked two fit deep e =
     let read = chain_again j part low f.0 g.0 (map formula_of gs) rest each (omega (arith, is.1)) (ends_begins j place rest ranked e) (ends_low low place rest (omega (arith, ranked)) e) in
     level_to (unary_at budget) _ _ rest (place - join_rank j) (suc low) place (omega (arith, is.1, ranked)) le e (subst (λ (k : Join). chain_at k part (text whole ++ rest) ≡ Some (whole, rest)) (sym is.0) read)
 
-fits_at : (x : Formula-F Formula) (place : ℕ) → stands (roll-Formula x) place ≡ true → stands_step (map-Formula Formula (ℕ → Bool) stands x) place ≡ true
-fits_at x place fit = sym (ap (λ (h : ℕ → Bool). h place) (stands_of x)) ∙ fit
-
 step_again : (y : Formula-F Known) → IsReadAgain (roll-Formula (layer y))
-step_again (Formula-F.Atom a) budget place rest le fit deep e = lifted budget place _ _ rest le e (leaf_again budget a rest (ends_low 0 place rest (omega arith) e))
-step_again (Formula-F.Not f) zero place rest le fit deep e = absurd (omega (arith, deep, depth_of (Formula-F.Not f.0)))
-step_again (Formula-F.Not f) (suc budget) place rest le fit deep e =
-    let x : Formula-F Formula = Formula-F.Not f.0 in
-    lifted (suc budget) place _ _ rest le e (not_again budget f.0 rest (f.1 budget 0 rest (omega arith) (fits_at x place fit) (omega (arith, deep, depth_of x)) (ends_low 0 place rest (omega arith) e)))
-step_again (Formula-F.Quantified q variable balls f) zero place rest le fit deep e = absurd (omega (arith, deep, depth_of (Formula-F.Quantified q variable balls f.0)))
-step_again (Formula-F.Quantified q variable balls f) (suc budget) place rest le fit deep e =
-    let x : Formula-F Formula = Formula-F.Quantified q variable balls f.0 in
-    let both = and_parts (nat_le 1 (length balls)) (stands f.0 0) (fits_at x place fit) in
-    lifted (suc budget) place _ _ rest le e (quantified_again budget q variable balls f.0 rest both.0 (f.1 budget 0 rest (omega arith) both.1 (omega (arith, deep, depth_of x)) (ends_low 0 place rest (omega arith) e)))
-step_again (Formula-F.Group f) zero place rest le fit deep e = absurd (omega (arith, deep, depth_of (Formula-F.Group f.0)))
-step_again (Formula-F.Group f) (suc budget) place rest le fit deep e =
-    let x : Formula-F Formula = Formula-F.Group f.0 in
-    lifted (suc budget) place _ _ rest le e (group_again budget f.0 rest (f.1 budget 4 (lexeme.Mark mark.Close ∷ rest) (omega arith) (fits_at x place fit) (omega (arith, deep, depth_of x)) refl))
+step_again (Formula-F.Atom a) budget place rest le fit deep e = lifted budget place _ _ rest le e (rw (text_of (Formula-F.Atom a)) (unary_atom budget a rest ∙ atom_again a rest (ends_low 0 place rest (omega arith) e)))
 step_again (Formula-F.Chain j fs) budget place rest le fit deep e =
     let x : Formula-F Formula = Formula-F.Chain j (map formula_of fs) in
-    let a = and_parts (nat_le (join_rank j) place && nat_le 2 (length (map stands (map formula_of fs)))) (list_all (λ (h : ℕ → Bool). h (join_rank j - 1)) (map stands (map formula_of fs))) (fits_at x place fit) in
+    let a = and_parts (nat_le (join_rank j) place && nat_le 2 (length (map stands (map formula_of fs)))) (list_all (λ (h : ℕ → Bool). h (join_rank j - 1)) (map stands (map formula_of fs))) (rw (stands_of x place) at fit) in
     let b = and_parts (nat_le (join_rank j) place) (nat_le 2 (length (map stands (map formula_of fs)))) a.0 in
     chained_again budget place j fs rest le (leb-true (join_rank j) place b.0) b.1 a.1 (omega (arith, deep, depth_of x)) e
+step_again y zero place rest le fit deep e = absurd (omega (arith, deep, depth_of (layer y)))
+step_again (Formula-F.Not f) (suc budget) place rest le fit deep e =
+    let x : Formula-F Formula = Formula-F.Not f.0 in
+    lifted (suc budget) place _ _ rest le e (rw (text_of x, f.1 budget 0 rest (omega arith) (rw (stands_of x place) at fit) (omega (arith, deep, depth_of x)) (ends_low 0 place rest (omega arith) e)) refl)
+step_again (Formula-F.Quantified q variable balls f) (suc budget) place rest le fit deep e =
+    let x : Formula-F Formula = Formula-F.Quantified q variable balls f.0 in
+    let both = and_parts (nat_le 1 (length balls)) (stands f.0 0) (rw (stands_of x place) at fit) in
+    lifted (suc budget) place _ _ rest le e (quantified_again budget q variable balls f.0 rest both.0 (f.1 budget 0 rest (omega arith) both.1 (omega (arith, deep, depth_of x)) (ends_low 0 place rest (omega arith) e)))
+step_again (Formula-F.Group f) (suc budget) place rest le fit deep e =
+    let x : Formula-F Formula = Formula-F.Group f.0 in
+    let inner = f.1 budget 4 (lexeme.Mark mark.Close ∷ rest) (omega arith) (rw (stands_of x place) at fit) (omega (arith, deep, depth_of x)) refl in
+    let spelled : text (roll-Formula x) ++ rest ≡ lexeme.Mark mark.Open ∷ (text f.0 ++ lexeme.Mark mark.Close ∷ rest) = simp (text_of, append_assoc) in
+    lifted (suc budget) place _ _ rest le e (ap (unary_at (suc budget)) spelled ∙ ap (λ (r : Option (Formula × List Lexeme)). r >>= λ f. group_end f.0 f.1) inner)
 
 read_again : (f : Formula) → IsReadAgain f
 read_again = ind-Formula IsReadAgain (λ x y is. subst (λ (z : Formula-F Formula). IsReadAgain (roll-Formula z)) is (step_again y))

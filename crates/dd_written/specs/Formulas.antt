@@ -11,8 +11,9 @@ use Rattle.dd_written.specs.declared.tree.Name.TheVariants as name
 use Rattle.dd_written.specs.declared.tree.Term.{Term}
 use Rattle.dd_written.specs.declared.tree.Comparand.{Comparand}
 use Rattle.dd_written.specs.declared.tree.Comparand.TheVariants as side
+use Rattle.dd_written.specs.declared.tree.Relation.{Relation}
+use Rattle.dd_written.specs.declared.tree.Relation.TheVariants as relation
 use Rattle.dd_written.specs.declared.tree.Atom.{Atom}
-use Rattle.dd_written.specs.declared.tree.Atom.TheVariants as atom
 use Rattle.dd_written.specs.declared.tree.Ball.{Ball}
 use Rattle.dd_written.specs.declared.tree.Quantifier.{Quantifier}
 use Rattle.dd_written.specs.declared.tree.Quantifier.TheVariants as quantifier
@@ -36,12 +37,15 @@ abbrev pub atom_side_text : Comparand → List Lexeme
 atom_side_text (side.Term t) = term_text t
 atom_side_text (side.Number n) = lexeme.Number n ∷ []
 
+abbrev pub relation_text : Relation → List Lexeme
+relation_text (relation.Equal s) = lexeme.Mark mark.Equal ∷ atom_side_text s
+relation_text (relation.NotEqual s) = lexeme.Mark mark.NotEqual ∷ atom_side_text s
+relation_text (relation.Adjacent t) = lexeme.Mark mark.Tilde ∷ term_text t
+relation_text (relation.Same t) = lexeme.Mark mark.At ∷ term_text t
+relation_text (relation.AtNode n) = lexeme.Mark mark.Colon ∷ name_lexeme n ∷ []
+
 abbrev pub atom_text : Atom → List Lexeme
-atom_text (atom.Equal t s) = term_text t ++ lexeme.Mark mark.Equal ∷ atom_side_text s
-atom_text (atom.NotEqual t s) = term_text t ++ lexeme.Mark mark.NotEqual ∷ atom_side_text s
-atom_text (atom.Adjacent t u) = term_text t ++ lexeme.Mark mark.Tilde ∷ term_text u
-atom_text (atom.Same t u) = term_text t ++ lexeme.Mark mark.At ∷ term_text u
-atom_text (atom.AtNode t n) = term_text t ++ lexeme.Mark mark.Colon ∷ name_lexeme n ∷ []
+atom_text a = term_text a.term ++ relation_text a.relation
 
 abbrev pub ball_text : Ball → List Lexeme
 ball_text b = lexeme.Word b.centre ∷ lexeme.Number b.radius ∷ []

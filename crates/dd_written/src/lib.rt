@@ -17,5 +17,5 @@ pub use laws::formula_is_read;
 pub use lexeme::{Lexeme, Mark, Number, Word};
 pub use lexing::lexemes;
 pub use text::{Text, name_text, number_value};
-pub use tree::{Atom, Ball, Comparand, Formula, Join, Name, Quantifier, Term};
+pub use tree::{Atom, Ball, Comparand, Formula, Join, Name, Quantifier, Relation, Term};
 pub use words::{same_bytes, word_bytes};

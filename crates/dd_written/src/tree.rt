@@ -27,19 +27,26 @@ pub enum Comparand {
     Number(Number),
 }
 
-/// A formula without parts.
+/// What an atom says of its term.
 #[derive(Debug, Drop)]
-pub enum Atom {
-    /// `term = side`
-    Equal { term: Term, side: Comparand },
-    /// `term != side`
-    NotEqual { term: Term, side: Comparand },
-    /// `left ~ right`
-    Adjacent { left: Term, right: Term },
-    /// `left @ right`
-    Same { left: Term, right: Term },
-    /// `term : node`
-    AtNode { term: Term, node: Name },
+pub enum Relation {
+    /// `= side`
+    Equal(Comparand),
+    /// `!= side`
+    NotEqual(Comparand),
+    /// `~ right`
+    Adjacent(Term),
+    /// `@ right`
+    Same(Term),
+    /// `: node`
+    AtNode(Name),
+}
+
+/// A formula without parts: a term, and what is said of it.
+#[derive(Debug, Drop)]
+pub struct Atom {
+    pub term: Term,
+    pub relation: Relation,
 }
 
 /// A ball of a quantifier: its centre and its radius.

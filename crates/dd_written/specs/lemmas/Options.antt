@@ -1,11 +1,16 @@
 -- Steps that may give nothing.
-use Rattle.std.proofs.Common.{◌≡◌, Bool, true, false, cond, ◌⊎◌, inl, inr, Option, Some, None, refl}
+use Rattle.std.proofs.Common.{◌≡◌, Bool, true, false, cond, ◌⊎◌, inl, inr, Option, Some, None, IfSome, refl}
 use Rattle.dd_written.specs.reading.Readers.{◌>>=◌}
 
 -- the value of a step that did not fail
 pub bind_some : {A B : Type 0} (r : Option A) (f : A → Option B) (y : B) → (r >>= f) ≡ Some y → (x : A) × (r ≡ Some x) × (f x ≡ Some y)
 bind_some (Some x) f y e = (x, refl, e)
 bind_some None f y e = absurd cc
+
+-- what holds of what a step gives, and of what the step behind it gives
+pub followed : {A B : Type 0} (r : Option A) (f : A → Option B) (P : A → Type 0) (Q : B → Type 0) → IfSome r P → ((x : A) → P x → IfSome (f x) Q) → IfSome (r >>= f) Q
+followed (Some x) f P Q h step = step x h
+followed None f P Q h step = tt
 
 abbrev given : {A : Type 0} → A → Option A
 given x = Some x

@@ -49,11 +49,6 @@ level_at unary (suc place) = chain_at (join_at (suc place)) (level_at unary plac
 abbrev pub part_at : Join → Reader Formula → Reader Formula
 part_at j unary = level_at unary (join_rank j - 1)
 
-abbrev pub not_at : Reader Formula → Reader Formula
-not_at unary tokens = do
-  f ← unary tokens
-  Some (roll-Formula (Formula-F.Not f.0), f.1)
-
 abbrev pub quantified_at : Reader Formula → Quantifier → Reader Formula
 quantified_at unary q tokens = do
   h ← quantifier_at tokens
@@ -70,7 +65,9 @@ group_at unary tokens = do
   group_end f.0 f.1
 
 abbrev pub nested_at : Reader Formula → Reader Formula
-nested_at unary (lexeme.Mark mark.Not ∷ tokens) = not_at unary tokens
+nested_at unary (lexeme.Mark mark.Not ∷ tokens) = do
+  f ← unary tokens
+  Some (roll-Formula (Formula-F.Not f.0), f.1)
 nested_at unary (lexeme.Mark mark.All ∷ tokens) = quantified_at unary quantifier.All tokens
 nested_at unary (lexeme.Mark mark.Exists ∷ tokens) = quantified_at unary quantifier.Exists tokens
 nested_at unary (lexeme.Mark mark.Open ∷ tokens) = group_at unary tokens

@@ -5,7 +5,7 @@ use Rattle.dd_written.specs.reading.Readers.{with_front}
 use Rattle.dd_written.proofs.formulas.+read.Given as goal
 
 abbrev pub invariant-more_parts-loop : goal.invariant-more_parts-loop
-invariant-more_parts-loop l = with_front l.parts (more_at l.join (part_at l.join (unary_at l.budget)) (length l.tokens - l.counter) l.rest) ≡ with_front l.fn.front (more_at l.join (part_at l.join (unary_at l.budget)) (length l.tokens) l.tokens)
+invariant-more_parts-loop l = with_front l.parts (more_at l.join (part_at l.join (unary_at l.budget)) (length l.tokens - l.counter) l.rest) ≡ with_front l.fn.parts (more_at l.join (part_at l.join (unary_at l.budget)) (length l.tokens) l.tokens)
 
 abbrev pub decreases-unary : goal.decreases-unary
 decreases-unary l = 20 * l.budget
@@ -24,9 +24,6 @@ decreases-chain l = 20 * l.budget + 4 * join_rank l.join
 
 abbrev pub decreases-group : goal.decreases-group
 decreases-group l = 20 * l.budget + 18
-
-abbrev pub decreases-negated : goal.decreases-negated
-decreases-negated l = 20 * l.budget + 18
 
 abbrev pub decreases-quantified : goal.decreases-quantified
 decreases-quantified l = 20 * l.budget + 18
