@@ -4,6 +4,7 @@ use Rattle.std.specs.Prelude.{is_some, option_map}
 use Rattle.std.specs.List.{flat_map}
 use Rattle.std.proofs.Math.Seq.{take-suc}
 use Rattle.std.proofs.lemmas.List.{flat_map_more}
+use Rattle.std.proofs.lemmas.Grind.{common_steps}
 use Rattle.dd_faults.specs.declared.fault.Fault.{Fault}
 use Rattle.dd_faults.specs.Order.{better, noted}
 
@@ -16,6 +17,9 @@ is_some_map f None = refl
 is_some_map f (Some n) = refl
 
 pub ruleset notes = (noted_both)
+
+-- the same in a loop over a list
+pub ruleset loops = (common_steps, noted_both)
 
 pub ruleset some_map = (is_some_map)
 

@@ -9,6 +9,7 @@ use Rattle.dd_commands.specs.declared.command.Vector.{Vector}
 use Rattle.std.specs.Option.{option_map_or}
 use Rattle.dd_faults.specs.declared.context.Context.{Context}
 use Rattle.dd_faults.specs.Commands.{entry_value, product, period_at, box_fits}
+use Rattle.dd_faults.proofs.Noting.{noted_both}
 
 low : (a : ℕ) → a < 4294967295 → min a 4294967295 ≡ a
 low a lt = omega arith
@@ -72,6 +73,6 @@ cut_le p s lt =
 pub first_of_box : (x : Context) (v : Vector) (shear : Option Vector) (count : ℕ) → count < 4294967295 → 1 ≤ count → box_fits x v shear count ≡ true → period_at x.text v 0 < 4294967295
 first_of_box x v shear count few some fits = first x.text v.entries (length x.known.setting.nodes) count few some (eqb-true _ _ (and_parts _ _ fits).1)
 
-pub ruleset comparisons = (cut_le, first_of_box)
+pub ruleset comparisons = (noted_both, cut_le, first_of_box)
 
 pub ruleset products = (cut_product, cut_seen, volume_seen)

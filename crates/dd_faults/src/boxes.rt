@@ -1,14 +1,44 @@
-//! The faults of periods and shears.
-ghost use Rattle.std.specs.Prelude.{◌≡◌, ◌≤◌, ◌<◌, ◌||◌, nat_lt, nat_le, min};
+//! The faults of the symbols, periods and shears of configurations.
+ghost use Rattle.std.specs.Prelude.{◌≡◌, ◌≤◌, ◌<◌, ◌++◌, ◌||◌, length, nat_lt, nat_le, min, OnOk};
 ghost use Rattle.dd_faults.specs.Order.{noted};
-ghost use Rattle.dd_faults.specs.Commands.{product, period_at, shear_of, shear_fits, box_fits, box_faults};
+ghost use Rattle.dd_faults.specs.Commands.{HasSets, is_allowed, symbol_faults, product, period_at, shear_of, shear_fits, box_fits, box_faults};
 
 use crate::context::Context;
 use crate::fault::{Fault, Limit, note_if, note_over};
 use crate::limits::MOST_IN_BOX;
-use crate::numbers::{entry_value, has_entries};
+use crate::numbers::{entry_value, has_entries, note_unless};
 use dd_commands::{Entry, Vector};
-use dd_written::Text;
+use dd_written::{Name, Text, name_text};
+use std::alloc::AllocError;
+
+/// As many symbols as no script has are taken for want of memory.
+const TOO_MANY: usize = 4_294_967_295;
+
+/// Whether a name is that of a symbol that the node allows.
+fn is_allowed(context: &Context, node: u32, name: Name) -> bool
+    requires { node < length context.now.known.setting.sets.allowed }
+    ensures { result ≡ is_allowed context.now node name }
+{
+    let setting = &context.known.setting;
+    match setting.symbols.find(name_text(&context.text, name)) {
+        Some(symbol) => setting.sets.allows(node, symbol),
+        None => false,
+    }
+}
+
+/// Notes the names of no symbol, and the symbols that their nodes do not allow. The nodes stand innermost.
+fn symbols(context: &Context, written: &[Name], found: &mut Option<Fault>)
+    requires { HasSets context.now.known }
+    ensures { found.new ≡ noted found.old (symbol_faults context.now 0 written.now) }
+{
+    let nodes = context.known.setting.nodes.count() as usize;
+    let mut place = 0;
+    for name in written {
+        let allowed = is_allowed(context, (place % nodes) as u32, *name);
+        note_if(found, !allowed, Fault::Unknown(*name));
+        place += 1;
+    }
+}
 
 /// The product of the values of entries, and the greatest number of 32 bits for all that are greater.
 #[tactic(auto, using(crate::proofs::Products::products))]
@@ -25,7 +55,7 @@ fn product(text: &Text, entries: &[Entry]) -> u32
 pub fn period_at(text: &Text, periods: &Vector, axis: usize) -> u32
     ensures { result ≡ min (period_at text.now periods.now axis) 4294967295 }
 {
-    match periods.entries.as_slice().get(axis) {
+    match periods.entries.get(axis) {
         Some(entry) => entry_value(text, *entry),
         None => 1,
     }
@@ -35,13 +65,10 @@ pub fn period_at(text: &Text, periods: &Vector, axis: usize) -> u32
 pub fn shear_of(text: &Text, shear: &Option<Vector>) -> u32
     ensures { result ≡ min (shear_of text.now shear.now) 4294967295 }
 {
-    match shear {
-        Some(entries) => match entries.entries.as_slice().get(0) {
-            Some(entry) => entry_value(text, *entry),
-            None => 0,
-        },
-        None => 0,
-    }
+    let Some(Vector { entries }) = shear else {
+        return 0;
+    };
+    entries.get(0).map_or(0, |entry| entry_value(text, *entry))
 }
 
 fn shear_fits(dimension: u32, shear: &Option<Vector>) -> bool
@@ -78,23 +105,30 @@ fn is_too_large(text: &Text, periods: &Vector, shear: &Option<Vector>, count: us
     count > MOST_IN_BOX || period_at(text, periods, 0) <= shear_of(text, shear)
 }
 
-/// Notes periods that do not agree with so many symbols, and what is too large.
+/// Notes names that are not those of symbols which their nodes allow, periods that do not agree with so many symbols, and what is
+/// too large.
 #[tactic(auto, using(crate::proofs::Products::comparisons))]
-pub(crate) fn note_box(
+pub(crate) fn configuration(
     context: &Context,
     periods: &Vector,
     shear: &Option<Vector>,
-    count: usize,
+    written: &[Name],
     found: &mut Option<Fault>,
-)
-    requires some { 1 ≤ count }
-    requires few { count < 4294967295 }
-    ensures { found.new ≡ noted found.old (box_faults context.now periods.now shear.now count) }
+) -> Result<(), AllocError>
+    requires sets { HasSets context.now.known }
+    requires some { 1 ≤ length written.now }
+    ensures { OnOk result (found.new ≡ noted found.old (symbol_faults context.now 0 written.now ++ box_faults context.now periods.now shear.now (length written.now))) }
 {
+    let count = written.len();
+    if count >= TOO_MANY {
+        return Err(AllocError);
+    }
+    symbols(context, written, found);
     if box_fits(context, periods, shear, count) {
         let passed = is_too_large(&context.text, periods, shear, count);
         note_over(found, passed, Limit::Periods);
     } else {
-        note_if(found, true, Fault::Dimension);
+        note_unless(found, false);
     }
+    Ok(())
 }

@@ -1,5 +1,5 @@
 //! What is given twice.
-ghost use Rattle.std.specs.Prelude.{◌≡◌, ◌++◌, [], ◌∷◌, ℕ, List, string_bytes, Contains, MatchBool, IfOk, OnOk};
+ghost use Rattle.std.specs.Prelude.{◌≡◌, [], ℕ, List, string_bytes, IfOk, OnOk};
 ghost use Rattle.dd_written.specs.Values.{name_text};
 ghost use Rattle.dd_faults.specs.declared.fault.Fault.{Fault as AnyFault};
 ghost use Rattle.dd_faults.specs.declared.fault.Fault.TheVariants.{Twice};
@@ -15,7 +15,7 @@ use dd_written::{Name, Text, name_text};
 use std::alloc::{AllocError, Global};
 
 /// More names than any script has.
-const TOO_MANY: u32 = 4_000_000;
+const TOO_MANY: usize = 4_000_000;
 
 /// What may be given twice: two with the same key are the same.
 pub(crate) trait Keyed {
@@ -30,27 +30,7 @@ pub(crate) trait Keyed {
         ensures { result ≡ repeated self.now };
 }
 
-/// Adds the key of an item that is not there yet, and tells whether it was added. More keys than any script has are taken for
-/// want of memory.
-fn add_new<T: Keyed>(
-    alloc: Global,
-    text: &Text,
-    item: &T,
-    seen: &mut Names,
-) -> Result<bool, AllocError>
-    ensures { IfOk result (λ added. MatchBool added ((seen.new ≡ seen.old ++ T.key text.now item.now ∷ []) × (¬ Contains seen.old (T.key text.now item.now))) (Contains seen.old (T.key text.now item.now))) }
-{
-    if seen.count() > TOO_MANY {
-        return Err(AllocError);
-    }
-    match seen.add(item.key(alloc, text)?) {
-        Ok(_) => Ok(true),
-        Err(NameFault::Twice(_)) => Ok(false),
-        Err(NameFault::Memory(_)) => Err(AllocError),
-    }
-}
-
-/// Notes the first that is given twice.
+/// Notes the first that is given twice. More items than any script has are taken for want of memory.
 pub(crate) fn note_twice<T: Keyed>(
     alloc: Global,
     text: &Text,
@@ -59,11 +39,18 @@ pub(crate) fn note_twice<T: Keyed>(
 ) -> Result<(), AllocError>
     ensures { OnOk result (found.new ≡ noted found.old (first_repeat (T.key text.now) T.repeated [] items.now)) }
 {
+    if items.len() > TOO_MANY {
+        return Err(AllocError);
+    }
     let mut seen = Names::new(alloc);
     for item in items {
-        if !add_new(alloc, text, item, &mut seen)? {
-            note_if(found, true, item.repeated());
-            return Ok(());
+        match seen.add(item.key(alloc, text)?) {
+            Ok(_) => {}
+            Err(NameFault::Twice(_)) => {
+                note_if(found, true, item.repeated());
+                return Ok(());
+            }
+            Err(NameFault::Memory(_)) => return Err(AllocError),
         }
     }
     Ok(())

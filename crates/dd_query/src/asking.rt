@@ -22,12 +22,13 @@ use std::alloc::{AllocError, Global};
 fn word_at(context: &Context, request: &Request, place: usize) -> u32
     ensures { result ≡ word_at context.now request.now place }
 {
-    let Some(role) = request.question.row().names.get(place) else {
-        return 0;
-    };
-    match request.words.get(place) {
-        Some(word) => number_in(&context.text, context.known.named(*role), Name::Word(*word)),
-        None => 0,
+    let roles = request.question.row().names;
+    match (roles.get(place), request.words.get(place)) {
+        (Some(role), Some(word)) => {
+            let names = context.known.named(*role);
+            number_in(&context.text, names, Name::Word(*word))
+        }
+        _ => 0,
     }
 }
 
@@ -35,10 +36,8 @@ fn word_at(context: &Context, request: &Request, place: usize) -> u32
 fn value_at(context: &Context, request: &Request, place: usize) -> u32
     ensures { result ≡ min (value_at context.now request.now place) 4294967295 }
 {
-    match request.numbers.get(place) {
-        Some(number) => number_value(&context.text, *number),
-        None => 0,
-    }
+    let number = request.numbers.get(place);
+    number.map_or(0, |number| number_value(&context.text, *number))
 }
 
 /// The periods of a strip along the second and the third axis.

@@ -25,8 +25,9 @@ pub fn position_of(text: &Text, vector: &Vector) -> Position
     requires { IsClose text.now vector.now }
     ensures { result ≡ place_of text.now vector.now }
 {
-    let x = coordinate(text, vector, 0);
-    let y = coordinate(text, vector, 1);
-    let z = coordinate(text, vector, 2);
-    Position { x, y, z }
+    Position {
+        x: coordinate(text, vector, 0),
+        y: coordinate(text, vector, 1),
+        z: coordinate(text, vector, 2),
+    }
 }
