@@ -4,7 +4,7 @@ ghost use Rattle.dd_commands.specs.Scripts.{IsWritten};
 ghost use Rattle.dd_faults.specs.Order.{noted, first_fault, Accepts};
 ghost use Rattle.dd_faults.specs.Commands.{faults_of, written_faults};
 ghost use Rattle.dd_faults.specs.Sound.{IsSound};
-ghost use Rattle.dd_faults.specs.walk.Shape.{HasSymbols};
+ghost use Rattle.dd_faults.specs.walk.Shape.{HasSymbols, IsHeader};
 
 use crate::boxes::configuration;
 use crate::context::Context;
@@ -22,16 +22,15 @@ use dd_values::MOST_COMMANDS;
 use dd_written::{Name, number_value};
 use std::alloc::{AllocError, Global};
 
-/// Notes the faults of a command, of whatever kind.
+/// Notes the faults of a command of the header.
 #[tactic(auto, using(crate::proofs::Noting::notes))]
-fn note_command(
+fn note_header(
     alloc: Global,
     context: &Context,
     command: &Command,
     found: &mut Option<Fault>,
 ) -> Result<(), AllocError>
-    requires sound { IsSound context.now.known }
-    requires symbols { HasSymbols command.now }
+    requires { IsHeader command.now }
     ensures { OnOk result (found.new ≡ noted found.old (faults_of context.now command.now)) }
 {
     let text = &context.text;
@@ -75,6 +74,26 @@ fn note_command(
             let passed = passes_limits(text, *radius, *period, *pivots);
             note_over(found, passed, Limit::Limits);
         }
+        _ => {}
+    }
+    Ok(())
+}
+
+/// Notes the faults of a command, of whatever kind.
+#[tactic(auto, using(crate::proofs::Noting::notes))]
+fn note_command(
+    alloc: Global,
+    context: &Context,
+    command: &Command,
+    found: &mut Option<Fault>,
+) -> Result<(), AllocError>
+    requires sound { IsSound context.now.known }
+    requires symbols { HasSymbols command.now }
+    ensures { OnOk result (found.new ≡ noted found.old (faults_of context.now command.now)) }
+{
+    let text = &context.text;
+    let known = &context.known;
+    match command {
         Command::Rule { name, formula } => {
             note_defined(text, known, *name, found);
             self::formula(alloc, context, &[], formula, found)?;
@@ -86,7 +105,7 @@ fn note_command(
         } => {
             note_defined(text, known, *name, found);
             self::cases(alloc, context, cases.as_slice(), found)?;
-            note_missing(text, &setting.symbols, *default, found);
+            note_missing(text, &known.setting.symbols, *default, found);
         }
         Command::Composition { name, outer, inner } => {
             note_defined(text, known, *name, found);
@@ -103,6 +122,7 @@ fn note_command(
             configuration(context, periods, shear, symbols.as_slice(), found)?;
         }
         Command::Query(written) => request(alloc, context, written, found)?,
+        header => note_header(alloc, context, header, found)?,
     }
     Ok(())
 }

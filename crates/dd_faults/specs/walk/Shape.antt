@@ -7,3 +7,12 @@ use Rattle.dd_commands.specs.declared.command.Command.TheVariants as command
 abbrev pub HasSymbols : Command → Type 0
 HasSymbols (command.Configuration called periods shear symbols) = 1 ≤ length symbols
 HasSymbols c = Unit {0}
+
+-- neither a definition nor a question
+abbrev pub IsHeader : Command → Type 0
+IsHeader (command.Rule called f) = ⊥
+IsHeader (command.Automaton called cases symbol) = ⊥
+IsHeader (command.Composition called outer inner) = ⊥
+IsHeader (command.Configuration called periods shear symbols) = ⊥
+IsHeader (command.Query r) = ⊥
+IsHeader c = Unit {0}
