@@ -1,7 +1,8 @@
 -- The first that is the same as one before it, looked for one after the other.
-use Rattle.std.proofs.Common.{◌≡◌, ℕ, ◌+◌, ◌<◌, suc, List, [], ◌∷◌, ◌++◌, length, drop, slice_index_or, Contains, sym, ap, ◌∙◌, add-one, drop-cons}
+use Rattle.std.proofs.Common.{◌≡◌, ℕ, ◌+◌, ◌<◌, List, [], ◌∷◌, ◌++◌, length, drop, slice_index_or, Contains, arith}
 use Rattle.std.specs.Prelude.{bytes_eq, if◌then◌else◌}
 use Rattle.std.specs.List.{list_any}
+use Rattle.std.proofs.lemmas.Grind.{common_steps}
 use Rattle.dd_faults.specs.declared.fault.Fault.{Fault}
 use Rattle.dd_faults.specs.Repeats.{first_repeat}
 use Rattle.dd_faults.specs.lemmas.Repeats.{among, not_among}
@@ -10,8 +11,7 @@ module _ {X : Type 0} (key : X → List ℕ) (f : X → Fault) (xs : List X) (i 
     (lt : i < length xs) (at : x ≡ slice_index_or xs i x) (so_far : first_repeat key f seen (drop i xs) ≡ first_repeat key f [] xs) where
   next : (if list_any (bytes_eq (key x)) seen then f x ∷ [] else first_repeat key f (seen ++ key x ∷ []) (drop (i + 1) xs)) ≡ first_repeat key f [] xs
   next =
-      let left : drop i xs ≡ x ∷ drop (suc i) xs = drop-cons xs i x lt ∙ ap (λ (y : X). y ∷ drop (suc i) xs) (sym at) in
-      rw add-one (rw left at so_far)
+      let left : drop i xs ≡ x ∷ drop (i + 1) xs = grind (arith, common_steps) in rw left at so_far
 
   pub twice_at : Contains seen (key x) → f x ∷ [] ≡ first_repeat key f [] xs
   twice_at there = rw (among seen (key x) there) at next

@@ -41,7 +41,6 @@ fn symbols(context: &Context, written: &[Name], found: &mut Option<Fault>)
 }
 
 /// The product of the values of entries, and the greatest number of 32 bits for all that are greater.
-#[tactic(auto, using(crate::proofs::Products::products))]
 fn product(text: &Text, entries: &[Entry]) -> u32
     ensures { result ≡ min (product text.now entries.now) 4294967295 }
 {
@@ -82,7 +81,6 @@ fn shear_fits(dimension: u32, shear: &Option<Vector>) -> bool
 
 /// Whether there are as many symbols as the product of the periods and the nodes, and a period for each axis. So few symbols
 /// tell a product from one that is cut.
-#[tactic(auto, using(crate::proofs::Products::products))]
 fn box_fits(context: &Context, periods: &Vector, shear: &Option<Vector>, count: usize) -> bool
     requires { count < 4294967295 }
     ensures { result ≡ box_fits context.now periods.now shear.now count }
@@ -97,7 +95,6 @@ fn box_fits(context: &Context, periods: &Vector, shear: &Option<Vector>, count: 
 }
 
 /// Whether there are too many symbols, or the shear is not less than the first period.
-#[tactic(auto, using(crate::proofs::Products::comparisons))]
 fn is_too_large(text: &Text, periods: &Vector, shear: &Option<Vector>, count: usize) -> bool
     requires { period_at text.now periods.now 0 < 4294967295 }
     ensures { result ≡ (nat_lt 65536 count || nat_le (period_at text.now periods.now 0) (shear_of text.now shear.now)) }
@@ -107,7 +104,7 @@ fn is_too_large(text: &Text, periods: &Vector, shear: &Option<Vector>, count: us
 
 /// Notes names that are not those of symbols which their nodes allow, periods that do not agree with so many symbols, and what is
 /// too large.
-#[tactic(auto, using(crate::proofs::Products::comparisons))]
+#[tactic(auto, using(crate::proofs::Products::boxes))]
 pub(crate) fn configuration(
     context: &Context,
     periods: &Vector,

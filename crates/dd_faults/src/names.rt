@@ -40,7 +40,6 @@ pub fn place_among(text: &Text, words: &[Word], wanted: &str) -> Option<usize>
 }
 
 /// Whether a word is a variable.
-#[tactic(auto, using(crate::proofs::Noting::some_map))]
 pub(crate) fn is_variable(text: &Text, scope: &[Word], word: Word) -> bool
     ensures { result ≡ is_variable text.now scope.now word }
 {

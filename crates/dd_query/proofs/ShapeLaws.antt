@@ -18,7 +18,7 @@ use Rattle.dd_faults.specs.declared.context.Context.{Context}
 use Rattle.dd_faults.specs.Order.{over}
 use Rattle.dd_faults.specs.Repeats.{twice_vectors}
 use Rattle.dd_faults.specs.Commands.{dimension_of, entry_value, is_far, radius_faults, is_no_strip, strip_faults, vector_faults, list_faults}
-use Rattle.dd_faults.specs.lemmas.Nothing.{both_nil, fits, within, all_where}
+use Rattle.dd_faults.specs.lemmas.Nothing.{parts, both_nil, within, all_where}
 use Rattle.dd_faults.specs.lemmas.Periods.{entry_at, no_entry}
 use Rattle.dd_query.specs.Vectors.{place_of}
 use Rattle.dd_query.specs.Queries.{strip_periods}
@@ -37,17 +37,14 @@ value_small x (n ∷ ns) (suc i) none = value_small x ns i (both_nil _ _ none).1
 
 period_within : (bytes : List ℕ) (es : List Entry) (j : ℕ) → list_any (is_no_strip bytes) es ≡ false → (1 ≤ entry_at bytes es j) × (entry_at bytes es j ≤ 64)
 period_within bytes [] j h = (omega arith, omega arith)
-period_within bytes (e ∷ es) zero h =
-    let here = or_parts _ _ (or_parts _ _ h).0 in
-    (ltb-false (entry_value bytes e) 1 here.0, ltb-false 64 (entry_value bytes e) here.1)
+period_within bytes (e ∷ es) zero h = grind (arith, nat_tests)
 period_within bytes (e ∷ es) (suc j) h = period_within bytes es j (or_parts _ _ h).1
 
 -- the one vector of a strip
 pub strip_is : (x : Context) (v : Vector) → flat_map (strip_faults x) (v ∷ []) ≡ [] → AreStripPeriods (dimension_of x.known) (strip_periods x.text (v ∷ []))
 strip_is x v none =
-    let both = both_nil _ _ (both_nil (strip_faults x v) [] none).0 in
-    let less = eqb-true (length v.entries + 1) (dimension_of x.known) (fits _ both.0) in
-    let short = within _ _ both.1 in
+    let less : length v.entries + 1 ≡ dimension_of x.known = grind (arith, parts) in
+    let short : list_any (is_no_strip x.text) v.entries ≡ false = grind (arith, parts) in
     record {
       second = period_within x.text v.entries 0 short;
       third = period_within x.text v.entries 1 short;
@@ -58,12 +55,8 @@ strip_is x v none =
 -- ---- vectors
 
 module _ (x : Context) (vs : List Vector) (none : list_faults x lists.Vectors vs ≡ []) where
-  parts : (twice_vectors x.text vs ≡ []) × (flat_map (vector_faults x) vs ≡ []) × (over (nat_lt 16 (length vs)) limit.Vectors ≡ [])
-  parts = (let twice = both_nil _ _ none in let each = both_nil _ _ twice.1 in (twice.0, each.0, each.1))
-
   are_given : All (IsGiven x.text (dimension_of x.known)) vs
-  are_given =
-      all_where (IsGiven x.text (dimension_of x.known)) (vector_faults x) (λ v h. let both = both_nil _ _ h in (fits _ both.0, within _ _ both.1)) vs parts.1
+  are_given = all_where (IsGiven x.text (dimension_of x.known)) (vector_faults x) (λ v h. (grind (arith, parts), grind (arith, parts))) vs (grind (arith, parts))
 
   pub all_close : list_any (is_far x.text) vs ≡ false
   all_close = list_any_none (is_far x.text) vs (λ i v below. (are_given i v below).1)
@@ -74,9 +67,9 @@ module _ (x : Context) (vs : List Vector) (none : list_faults x lists.Vectors vs
       let same = length-map vs (place_of x.text) in
       record {
         some = omega (arith, same, some);
-        few = omega (arith, same, ltb-false 16 (length vs) (within _ _ parts.2));
+        few = grind (arith, parts);
         short =
             list_all-map (is_offset d) (place_of x.text) vs
             ∙ list_all-from_AllPass (λ v. is_offset d (place_of x.text v)) vs (λ i v below. offset_is x.text d (get_or vs i v) (are_given i v below).1 (are_given i v below).0);
-        distinct = vectors_differ x.text d vs small are_given parts.0;
+        distinct = vectors_differ x.text d vs small are_given (grind (arith, parts));
       }

@@ -4,7 +4,7 @@ use Rattle.std.specs.Prelude.{if◌then◌else◌, bytes_eq}
 use Rattle.std.specs.List.{list_any}
 use Rattle.std.specs.Cmp.Lexicographic.{nat_list_eq_equiv}
 use Rattle.std.proofs.lemmas.Bool.{false_from_ne_true}
-use Rattle.std.proofs.lemmas.List.{append-nil, append_assoc}
+use Rattle.std.proofs.lemmas.Grind.{common_steps}
 use Rattle.std.proofs.lemmas.Map.Views.{list_any-from_Contains, Contains-from_any}
 use Rattle.std.proofs.lemmas.Slice.Eq.{bytes_eq-Decides}
 use Rattle.dd_faults.specs.declared.fault.Fault.{Fault}
@@ -23,10 +23,8 @@ no_repeat false f rest e = (refl, e)
 module _ {X : Type 0} (key : X → List ℕ) (f : X → Fault) where
   unseen : (seen : List (List ℕ)) (xs : List X) (i : ℕ) (d : X) → first_repeat key f seen xs ≡ [] → i < length xs → list_any (bytes_eq (key (slice_index_or xs i d))) (seen ++ map key (take i xs)) ≡ false
   unseen seen [] i d none lt = absurd (omega (arith, lt))
-  unseen seen (x ∷ xs) zero d none lt = rw (append-nil seen) (no_repeat (list_any (bytes_eq (key x)) seen) (f x) (first_repeat key f (seen ++ key x ∷ []) xs) none).0
-  unseen seen (x ∷ xs) (suc i) d none lt =
-      let rest = unseen (seen ++ key x ∷ []) xs i d (no_repeat (list_any (bytes_eq (key x)) seen) (f x) (first_repeat key f (seen ++ key x ∷ []) xs) none).1 (omega (arith, lt)) in
-      rw (append_assoc seen (key x ∷ []) (map key (take i xs))) at rest
+  unseen seen (x ∷ xs) zero d none lt = grind (arith, common_steps, no_repeat)
+  unseen seen (x ∷ xs) (suc i) d none lt = grind (arith, common_steps, no_repeat, unseen (seen ++ key x ∷ []) xs i d)
 
   pub once : (xs : List X) (i : ℕ) (d : X) → first_repeat key f [] xs ≡ [] → i < length xs → ¬ Contains (map key (take i xs)) (key (slice_index_or xs i d))
   once xs i d none lt there = true≢false (sym (among (map key (take i xs)) (key (slice_index_or xs i d)) there) ∙ unseen [] xs i d none lt)
