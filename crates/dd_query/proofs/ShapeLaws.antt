@@ -37,7 +37,7 @@ value_small x (n ∷ ns) (suc i) none = value_small x ns i (both_nil _ _ none).1
 
 period_within : (bytes : List ℕ) (es : List Entry) (j : ℕ) → list_any (is_no_strip bytes) es ≡ false → (1 ≤ entry_at bytes es j) × (entry_at bytes es j ≤ 64)
 period_within bytes [] j h = (omega arith, omega arith)
-period_within bytes (e ∷ es) zero h = grind (arith, nat_tests)
+period_within bytes (e ∷ es) zero h = grind (arith, parts)
 period_within bytes (e ∷ es) (suc j) h = period_within bytes es j (or_parts _ _ h).1
 
 -- the one vector of a strip

@@ -14,7 +14,7 @@ use Rattle.dd_faults.specs.Order.{when}
 use Rattle.dd_faults.specs.Names.{place_of_name, missing, number_in, named}
 use Rattle.dd_faults.specs.Commands.{word_faults}
 use Rattle.dd_query.specs.Queries.{number_of_word}
-use Rattle.dd_faults.specs.lemmas.Nothing.{both_nil, number_below}
+use Rattle.dd_faults.specs.lemmas.Nothing.{both_nil, parts}
 
 abbrev numbers : Context → List Role → List Word → List ℕ
 numbers x rs ws = map (number_of_word x) (zip rs ws)
@@ -25,7 +25,7 @@ pub word_there : (x : Context) (rs : List Role) (ws : List Word) (i : ℕ) (r : 
 word_there x [] ws i r long none h = absurd cc
 word_there x (q ∷ rs) [] i r long none h = absurd (omega (arith, long))
 word_there x (q ∷ rs) (w ∷ ws) zero r long none h =
-    let here : number_in x.text (named x.known q) (name.Word w) < length (named x.known q) = number_below _ _ _ (both_nil _ _ none).0 in
+    let here : number_in x.text (named x.known q) (name.Word w) < length (named x.known q) = grind (arith, parts) in
     let same : q ≡ r = cc in
     subst (λ (p : Role). number_in x.text (named x.known q) (name.Word w) < length (named x.known p)) same here
 word_there x (q ∷ rs) (w ∷ ws) (suc i) r long none h = word_there x rs ws i r (omega (arith, long)) (both_nil _ _ none).1 h
