@@ -23,4 +23,4 @@ first bytes (e ∷ es) nodes n lt some is = bounded (entry_value bytes e) (produ
 pub first_of_box : (x : Context) (v : Vector) (shear : Option Vector) (count : ℕ) → count < 4294967295 → 1 ≤ count → box_fits x v shear count ≡ true → period_at x.text v 0 < 4294967295
 first_of_box x v shear count few some fits = first x.text v.entries (length x.known.setting.nodes) count few some (eqb-true _ _ (and_parts _ _ fits).1)
 
-pub ruleset boxes = (noted_both, first_of_box)
+pub ruleset boxes = (common_steps, noted_both, first_of_box)

@@ -94,14 +94,6 @@ fn box_fits(context: &Context, periods: &Vector, shear: &Option<Vector>, count: 
     volume.saturating_mul(setting.nodes.count()) as usize == count
 }
 
-/// Whether there are too many symbols, or the shear is not less than the first period.
-fn is_too_large(text: &Text, periods: &Vector, shear: &Option<Vector>, count: usize) -> bool
-    requires { period_at text.now periods.now 0 < 4294967295 }
-    ensures { result ≡ (nat_lt 65536 count || nat_le (period_at text.now periods.now 0) (shear_of text.now shear.now)) }
-{
-    count > MOST_IN_BOX || period_at(text, periods, 0) <= shear_of(text, shear)
-}
-
 /// Notes names that are not those of symbols which their nodes allow, periods that do not agree with so many symbols, and what is
 /// too large.
 #[tactic(auto, using(crate::proofs::Products::boxes))]
@@ -116,13 +108,13 @@ pub(crate) fn configuration(
     requires some { 1 ≤ length written.now }
     ensures { OnOk result (found.new ≡ noted found.old (symbol_faults context.now 0 written.now ++ box_faults context.now periods.now shear.now (length written.now))) }
 {
-    let count = written.len();
+    let (text, count) = (&context.text, written.len());
     if count >= TOO_MANY {
         return Err(AllocError);
     }
     symbols(context, written, found);
     if box_fits(context, periods, shear, count) {
-        let passed = is_too_large(&context.text, periods, shear, count);
+        let passed = count > MOST_IN_BOX || period_at(text, periods, 0) <= shear_of(text, shear);
         note_over(found, passed, Limit::Periods);
     } else {
         note_unless(found, false);
