@@ -3,7 +3,7 @@ ghost use Rattle.std.specs.Prelude.{◌≡◌};
 ghost use Rattle.dd_written.specs.reading.Atoms.{name_at};
 ghost use Rattle.dd_written.specs.reading.Readers.{Gives};
 ghost use Rattle.dd_commands.specs.Commands.{is_plain_entry, is_plain};
-ghost use Rattle.dd_commands.specs.reading.Vectors.{word_at, number_at, entry_at, vector_at, plain, shear, edge_start, edge_at};
+ghost use Rattle.dd_commands.specs.reading.Vectors.{word_at, number_at, entry_at, mark_at, vector, plain, shear, edge};
 
 use crate::command::{Edge, Entry, Vector};
 use crate::reading::{FromTokens, Read, Source, each};
@@ -52,41 +52,45 @@ impl FromTokens for Entry {
     }
 }
 
+/// The tokens behind a mark that is wanted.
+#[tactic(auto, unfolding(crate::specs::reading::Vectors::same_mark))]
+fn past<'a>(wanted: Mark, tokens: &'a [Lexeme]) -> Result<&'a [Lexeme], ReadFault>
+    ensures { Gives (λ x. (tt, x.now)) result (mark_at wanted tokens.now) }
+{
+    match tokens {
+        [Lexeme::Mark(mark), rest @ ..] if *mark == wanted => Ok(rest),
+        _ => Err(ReadFault::Syntax),
+    }
+}
+
 impl FromTokens for Vector {
-    ghost item = { λ bytes. vector_at };
+    ghost item = { λ bytes. vector.item };
 
     fn read<'a>(from: Source, tokens: &'a [Lexeme]) -> Read<'a, Vector> {
-        match tokens {
-            [Lexeme::Mark(Mark::OpenList), rest @ ..] => {
-                let (entries, rest) = each(from, rest)?;
-                match rest {
-                    [Lexeme::Mark(Mark::CloseList), rest @ ..] => Ok((Vector { entries }, rest)),
-                    _ => Err(ReadFault::Syntax),
-                }
-            }
-            _ => Err(ReadFault::Syntax),
-        }
+        let rest = past(Mark::OpenList, tokens)?;
+        let (entries, rest) = each(from, rest)?;
+        let rest = past(Mark::CloseList, rest)?;
+        Ok((Vector { entries }, rest))
     }
 }
 
 impl FromTokens for Edge {
-    ghost item = { λ bytes. edge_at };
+    ghost item = { λ bytes. edge.item };
 
     fn read<'a>(from: Source, tokens: &'a [Lexeme]) -> Read<'a, Edge> {
-        let (label, rest) = edge_start(tokens)?;
+        let rest = past(Mark::Open, tokens)?;
+        let (label, rest) = Word::read(from, rest)?;
         let (start, rest) = read_name(rest)?;
         let (offset, rest) = Vector::read(from, rest)?;
         let (to, rest) = read_name(rest)?;
+        let rest = past(Mark::Close, rest)?;
         let edge = Edge {
             label,
             from: start,
             offset,
             to,
         };
-        match rest {
-            [Lexeme::Mark(Mark::Close), rest @ ..] => Ok((edge, rest)),
-            _ => Err(ReadFault::Syntax),
-        }
+        Ok((edge, rest))
     }
 }
 
@@ -119,14 +123,5 @@ pub(crate) fn shear<'a>(from: Source, tokens: &'a [Lexeme]) -> Read<'a, Option<V
         Ok((shear, rest)) => Ok((Some(shear), rest)),
         Err(ReadFault::Syntax) => Ok((None, tokens)),
         Err(ReadFault::Memory) => Err(ReadFault::Memory),
-    }
-}
-
-fn edge_start(tokens: &[Lexeme]) -> Result<(Word, &[Lexeme]), ReadFault>
-    ensures { Gives (λ x. (x.0, x.1.now)) result (edge_start tokens.now) }
-{
-    match tokens {
-        [Lexeme::Mark(Mark::Open), Lexeme::Word(label), rest @ ..] => Ok((*label, rest)),
-        _ => Err(ReadFault::Syntax),
     }
 }

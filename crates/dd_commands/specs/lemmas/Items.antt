@@ -1,7 +1,8 @@
 -- Names, numbers, vectors and edges are read as they are written.
-use Rattle.std.proofs.Common.{◌≡◌, true, List, [], ◌∷◌, ◌++◌, map, Option, Some, None, refl, sym, ap, subst, ◌∙◌, append_assoc, arith}
-use Rattle.std.specs.List.{flat_map}
-use Rattle.std.proofs.lemmas.List.Concat.{flat_map_single}
+use denote.Enum.Bare.{same_true, true_same}
+use Rattle.std.proofs.Common.{◌≡◌, true, List, [], ◌∷◌, ◌++◌, map, Option, Some, None, refl, ap, subst, ◌∙◌, append_assoc, arith, inl, inr}
+use Rattle.dd_written.specs.contracts.lexeme.Mark.{the_type}
+use Rattle.dd_written.specs.declared.lexeme.Mark.{Mark}
 use Rattle.dd_written.specs.declared.lexeme.Mark.TheVariants as mark
 use Rattle.dd_written.specs.declared.lexeme.Word.{Word}
 use Rattle.dd_written.specs.declared.lexeme.Number.{Number}
@@ -10,8 +11,7 @@ use Rattle.dd_written.specs.declared.lexeme.Lexeme.TheVariants as lexeme
 use Rattle.dd_written.specs.declared.tree.Name.{Name}
 use Rattle.dd_written.specs.Formulas.{name_lexeme}
 use Rattle.dd_written.specs.reading.Atoms.{name_at}
-use Rattle.dd_written.specs.lemmas.Options.{bind_some, some_is}
-use Rattle.dd_written.specs.lemmas.Many.{texts_read, texts_stand}
+use Rattle.dd_written.specs.lemmas.Options.{some_is, nothing_some, chosen}
 use Rattle.dd_written.specs.lemmas.Names.{name_sound, name_again}
 use Rattle.dd_commands.specs.declared.command.Entry.{Entry}
 use Rattle.dd_commands.specs.declared.command.Entry.TheVariants as entry
@@ -19,8 +19,8 @@ use Rattle.dd_commands.specs.declared.command.Vector.{Vector}
 use Rattle.dd_commands.specs.declared.command.Edge.{Edge}
 use Rattle.dd_commands.specs.Commands.{entry_lexeme, vector_text, is_plain, edge_text}
 use Rattle.dd_commands.specs.reading.Forms.{single}
-use Rattle.dd_commands.specs.reading.Vectors.{word_at, word, number_at, number, name, entry_at, entries, vector_end, vector_at, vector, plain, or_none, shear, edge_start, edge_end, edge_at, edge}
-use Rattle.dd_commands.specs.lemmas.Forms.{Reads, such_reads, each_reads, shorter}
+use Rattle.dd_commands.specs.reading.Vectors.{word_at, word, number_at, number, name, entry_at, same_mark, mark_at, sign, vector_parts, vector, plain, or_none, shear, edge_parts, edge}
+use Rattle.dd_commands.specs.lemmas.Forms.{Reads, made_reads, then_reads, such_reads, each_reads, shorter, singles_read, singles_stand}
 
 -- ---- single tokens
 
@@ -53,37 +53,45 @@ entry_again (entry.Negative n) rest = refl
 entry_reads : Reads (single entry_lexeme entry_at)
 entry_reads = record { written = entry_written; read = λ x tokens rest e any. ap entry_at e ∙ entry_again x rest; last = tt }
 
+same_again : (m : Mark) → same_mark m m ≡ true
+unfolding same_mark
+same_again m = true_same the_type m m refl
+
+same_one : (m n : Mark) → same_mark m n ≡ true → m ≡ n
+unfolding same_mark
+same_one m n e = same_true the_type tt m n e
+
+sign_written : (m : Mark) (tokens : List Lexeme) (x : Unit {0}) (rest : List Lexeme) → mark_at m tokens ≡ Some (x, rest) → tokens ≡ lexeme.Mark m ∷ rest
+sign_written m (lexeme.Mark n ∷ tokens) x rest e =
+    elim (chosen (same_mark n m) (Some (tt, tokens)) None (Some (x, rest)) e) [
+      | inl same ↦ rw (same_one n m same.0) (ap (λ (y : Unit {0} × List Lexeme). lexeme.Mark m ∷ y.1) (some_is _ _ same.1))
+      | inr other ↦ absurd (nothing_some (x, rest) other.1)
+    ]
+sign_written m tokens x rest e = absurd cc
+
+sign_reads : (m : Mark) → Reads (sign m)
+sign_reads m = record { written = sign_written m; read = λ x tokens rest e any. rw (e, same_again m) refl; last = tt }
+
 -- ---- vectors
 
-abbrev pub entry_text : Entry → List Lexeme
-entry_text n = entry_lexeme n ∷ []
+vector_parts_read : Reads vector_parts
+vector_parts_read =
+    made_reads _ (then_reads (sign_reads mark.OpenList) (λ y ts rest w. tt)
+    (then_reads (each_reads entry_reads (λ rest. tt) (shorter (λ n. entry_lexeme n ∷ []) (λ n. omega arith)) refl) (λ y ts rest w. ap entry_at w)
+    (sign_reads mark.CloseList)))
 
-vector_end_written : (es : List Entry) (tokens : List Lexeme) (v : Vector) (rest : List Lexeme) → vector_end es tokens ≡ Some (v, rest) → (es ≡ v.entries) × (tokens ≡ lexeme.Mark mark.CloseList ∷ rest)
-vector_end_written es (lexeme.Mark mark.CloseList ∷ tokens) v rest e = let same = some_is _ _ e in (ap (λ (y : Vector × List Lexeme). y.0.entries) same, ap (λ (y : Vector × List Lexeme). lexeme.Mark mark.CloseList ∷ y.1) same)
-vector_end_written es tokens v rest e = absurd cc
-
--- its entries, and the bracket behind them
-spelled : (v : Vector) (rest : List Lexeme) → vector_text v ++ rest ≡ lexeme.Mark mark.OpenList ∷ flat_map entry_text v.entries ++ lexeme.Mark mark.CloseList ∷ rest
-spelled v rest = rw (flat_map_single entry_lexeme v.entries) (ap (λ (ts : List Lexeme). lexeme.Mark mark.OpenList ∷ ts) (append_assoc (map entry_lexeme v.entries) (lexeme.Mark mark.CloseList ∷ []) rest))
-
-entries_read : Reads entries
-entries_read = each_reads entry_reads (λ rest. tt) (shorter entry_text (λ n. omega arith)) refl
-
-vector_written : (tokens : List Lexeme) (v : Vector) (rest : List Lexeme) → vector_at tokens ≡ Some (v, rest) → tokens ≡ vector_text v ++ rest
-vector_written (lexeme.Mark mark.OpenList ∷ tokens) v rest e =
-    let b = bind_some (entries.item tokens) (λ es. vector_end es.0 es.1) (v, rest) e in
-    let d = vector_end_written b.0.0 b.0.1 v rest b.2 in
-    let inner : tokens ≡ flat_map entry_text b.0.0 ++ b.0.1 = texts_read entry_text b.0.0 tokens b.0.1 (entries_read.written tokens b.0.0 b.0.1 b.1) in
-    rw (inner, d.0, d.1) (sym (spelled v rest))
-vector_written tokens v rest e = absurd cc
-
-vector_again : (v : Vector) (rest : List Lexeme) → vector_at (vector_text v ++ rest) ≡ Some (v, rest)
-vector_again v rest =
-    let behind : List Lexeme = lexeme.Mark mark.CloseList ∷ rest in
-    ap vector_at (spelled v rest) ∙ rw (entries_read.read v.entries (flat_map entry_text v.entries ++ behind) behind (texts_stand entry_text v.entries behind) refl) refl
+vector_spelled : (tokens : List Lexeme) (v : Vector) (rest : List Lexeme) → vector_parts.writes v tokens rest → tokens ≡ vector_text v ++ rest
+vector_spelled tokens v rest w =
+    subst (λ (u : Vector). tokens ≡ vector_text u ++ rest) w.1 (rw (w.2.1, singles_read entry_lexeme w.0.1.0 w.2.0 w.2.2.0 w.2.2.1, w.2.2.2) (simp append_assoc))
 
 pub vector_reads : Reads vector
-vector_reads = record { written = vector_written; read = λ v tokens rest e any. ap vector_at e ∙ vector_again v rest; last = tt }
+vector_reads = record {
+  written = λ tokens v rest e. vector_spelled tokens v rest (vector_parts_read.written tokens v rest e);
+  read = λ v tokens rest e any.
+      let behind : List Lexeme = lexeme.Mark mark.CloseList ∷ rest in
+      vector_parts_read.read v tokens rest ((tt, (v.entries, tt)), refl, (map entry_lexeme v.entries ++ behind, e ∙ simp append_assoc, (behind, singles_stand entry_lexeme v.entries behind, refl))) tt;
+  last = tt;
+}
 
 pub plain_reads : Reads plain
 plain_reads = such_reads (λ v. is_plain v ≡ true) is_plain (λ v e. e) (λ v e. e) vector_reads
@@ -101,34 +109,24 @@ shear_reads = record { written = λ tokens s rest e. shear_written tokens (plain
 
 -- ---- edges
 
-edge_start_written : (tokens : List Lexeme) (label : Word) (rest : List Lexeme) → edge_start tokens ≡ Some (label, rest) → tokens ≡ lexeme.Mark mark.Open ∷ lexeme.Word label ∷ rest
-edge_start_written (lexeme.Mark mark.Open ∷ lexeme.Word w ∷ tokens) label rest e = ap (λ (y : Word × List Lexeme). lexeme.Mark mark.Open ∷ lexeme.Word y.0 ∷ y.1) (some_is _ _ e)
-edge_start_written tokens label rest e = absurd cc
+edge_parts_read : Reads edge_parts
+edge_parts_read =
+    made_reads _ (then_reads (sign_reads mark.Open) (λ y ts rest w. tt)
+    (then_reads word_reads (λ y ts rest w. tt)
+    (then_reads name_reads (λ y ts rest w. tt)
+    (then_reads vector_reads (λ y ts rest w. tt)
+    (then_reads name_reads (λ y ts rest w. tt) (sign_reads mark.Close))))))
 
-edge_end_written : (edge : Edge) (tokens : List Lexeme) (x : Edge) (rest : List Lexeme) → edge_end edge tokens ≡ Some (x, rest) → (edge ≡ x) × (tokens ≡ lexeme.Mark mark.Close ∷ rest)
-edge_end_written edge (lexeme.Mark mark.Close ∷ tokens) x rest e = let same = some_is _ _ e in (ap (λ (y : Edge × List Lexeme). y.0) same, ap (λ (y : Edge × List Lexeme). lexeme.Mark mark.Close ∷ y.1) same)
-edge_end_written edge tokens x rest e = absurd cc
-
-edge_spelled : (label : Word) (from : Name) (offset : Vector) (to : Name) (tokens one two three after rest : List Lexeme)
-    → tokens ≡ lexeme.Mark mark.Open ∷ lexeme.Word label ∷ one → one ≡ name_lexeme from ∷ two → two ≡ vector_text offset ++ three → three ≡ name_lexeme to ∷ after → after ≡ lexeme.Mark mark.Close ∷ rest
-    → tokens ≡ edge_text (record { label = label; from = from; offset = offset; to = to }) ++ rest
-edge_spelled label from offset to tokens one two three after rest e f g h i =
-    rw (e, f, g, h, i) (ap (λ (ts : List Lexeme). lexeme.Mark mark.Open ∷ lexeme.Word label ∷ name_lexeme from ∷ ts) (sym (append_assoc (vector_text offset) (name_lexeme to ∷ lexeme.Mark mark.Close ∷ []) rest)))
-
-edge_written : (tokens : List Lexeme) (x : Edge) (rest : List Lexeme) → edge_at tokens ≡ Some (x, rest) → tokens ≡ edge_text x ++ rest
-edge_written tokens x rest e =
-    let label = bind_some _ _ _ e in
-    let from = bind_some _ _ _ label.2 in
-    let offset = bind_some _ _ _ from.2 in
-    let to = bind_some _ _ _ offset.2 in
-    let end = edge_end_written _ to.0.1 x rest to.2 in
-    subst (λ (y : Edge). tokens ≡ edge_text y ++ rest) end.0
-    (edge_spelled label.0.0 from.0.0 offset.0.0 to.0.0 tokens label.0.1 from.0.1 offset.0.1 to.0.1 rest (edge_start_written tokens label.0.0 label.0.1 label.1) (name_sound label.0.1 from.0.0 from.0.1 from.1) (vector_written from.0.1 offset.0.0 offset.0.1 offset.1) (name_sound offset.0.1 to.0.0 to.0.1 to.1) end.1)
-
-edge_again : (e : Edge) (rest : List Lexeme) → edge_at (edge_text e ++ rest) ≡ Some (e, rest)
-edge_again e rest =
-    let behind : List Lexeme = name_lexeme e.to ∷ lexeme.Mark mark.Close ∷ rest in
-    rw (append_assoc (vector_text e.offset) (name_lexeme e.to ∷ lexeme.Mark mark.Close ∷ []) rest, name_again e.from (vector_text e.offset ++ behind), vector_again e.offset behind, name_again e.to (lexeme.Mark mark.Close ∷ rest)) refl
+edge_spelled : (tokens : List Lexeme) (e : Edge) (rest : List Lexeme) → edge_parts.writes e tokens rest → tokens ≡ edge_text e ++ rest
+edge_spelled tokens e rest w =
+    subst (λ (x : Edge). tokens ≡ edge_text x ++ rest) w.1 (rw (w.2.1, w.2.2.1, w.2.2.2.1, w.2.2.2.2.1, w.2.2.2.2.2.1, w.2.2.2.2.2.2) (simp append_assoc))
 
 pub edge_reads : Reads edge
-edge_reads = record { written = edge_written; read = λ x tokens rest e any. ap edge_at e ∙ edge_again x rest; last = tt }
+edge_reads = record {
+  written = λ tokens x rest e. edge_spelled tokens x rest (edge_parts_read.written tokens x rest e);
+  read = λ x tokens rest e any.
+      let behind : List Lexeme = vector_text x.offset ++ name_lexeme x.to ∷ lexeme.Mark mark.Close ∷ rest in
+      let whole : tokens ≡ lexeme.Mark mark.Open ∷ lexeme.Word x.label ∷ name_lexeme x.from ∷ behind = e ∙ simp append_assoc in
+      edge_parts_read.read x tokens rest ((tt, (x.label, (x.from, (x.offset, (x.to, tt))))), refl, (_, whole, (_, refl, (_, refl, (_, refl, (_, refl, refl)))))) tt;
+  last = tt;
+}

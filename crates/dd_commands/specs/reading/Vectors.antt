@@ -1,5 +1,8 @@
 -- Reading names, numbers, vectors and edges.
-use Rattle.std.specs.Prelude.{◌≡◌, List, ◌∷◌, ◌++◌, true, Option, Some, None}
+use denote.Enum.Bare.{sameb}
+use Rattle.std.specs.Prelude.{◌≡◌, List, ◌∷◌, ◌++◌, Bool, true, Option, Some, None, if◌then◌else◌}
+use Rattle.dd_written.specs.contracts.lexeme.Mark.{the_type}
+use Rattle.dd_written.specs.declared.lexeme.Mark.{Mark}
 use Rattle.dd_written.specs.declared.lexeme.Mark.TheVariants as mark
 use Rattle.dd_written.specs.declared.lexeme.Word.{Word}
 use Rattle.dd_written.specs.declared.lexeme.Number.{Number}
@@ -11,10 +14,10 @@ use Rattle.dd_commands.specs.declared.command.Entry.TheVariants as entry
 use Rattle.dd_commands.specs.declared.command.Vector.{Vector}
 use Rattle.dd_commands.specs.declared.command.Edge.{Edge}
 use Rattle.dd_written.specs.Formulas.{name_lexeme}
-use Rattle.dd_written.specs.reading.Readers.{◌>>=◌, Reader}
+use Rattle.dd_written.specs.reading.Readers.{Reader}
 use Rattle.dd_written.specs.reading.Atoms.{name_at}
 use Rattle.dd_commands.specs.Commands.{entry_lexeme, vector_text, is_plain, second_vector_text, IsPlainShear, edge_text}
-use Rattle.dd_commands.specs.reading.Forms.{Form, by_text, single, such, each}
+use Rattle.dd_commands.specs.reading.Forms.{Form, by_text, single, as_made, ◌▸◌, such, each}
 
 abbrev pub word_at : Reader Word
 word_at (lexeme.Word w ∷ tokens) = Some (w, tokens)
@@ -38,23 +41,25 @@ entry_at (lexeme.Number n ∷ tokens) = Some (entry.Number n, tokens)
 entry_at (lexeme.Negative n ∷ tokens) = Some (entry.Negative n, tokens)
 entry_at tokens = None
 
-abbrev pub entries : Form (List Entry)
-entries = each (single entry_lexeme entry_at)
+-- whether two marks are one
+unfoldable pub same_mark : Mark → Mark → Bool
+same_mark = sameb the_type
+
+abbrev pub mark_at : Mark → Reader (Unit {0})
+mark_at wanted (lexeme.Mark m ∷ tokens) = if same_mark m wanted then Some (tt, tokens) else None
+mark_at wanted tokens = None
+
+-- a mark that is wanted
+abbrev pub sign : Mark → Form (Unit {0})
+sign wanted = single (λ x. lexeme.Mark wanted) (mark_at wanted)
 
 -- ---- vectors
 
-abbrev pub vector_end : List Entry → Reader Vector
-vector_end es (lexeme.Mark mark.CloseList ∷ tokens) = Some (record { entries = es }, tokens)
-vector_end es tokens = None
-
-abbrev pub vector_at : Reader Vector
-vector_at (lexeme.Mark mark.OpenList ∷ tokens) = do
-  es ← entries.item tokens
-  vector_end es.0 es.1
-vector_at tokens = None
+abbrev pub vector_parts : Form Vector
+vector_parts = as_made (λ x. record { entries = x.1.0 }) (sign mark.OpenList ▸ each (single entry_lexeme entry_at) ▸ sign mark.CloseList)
 
 abbrev pub vector : Form Vector
-vector = by_text vector_text vector_at
+vector = by_text vector_text vector_parts.item
 
 -- without negative numbers
 abbrev pub plain : Form Vector
@@ -74,21 +79,10 @@ shear = record {
 
 -- ---- edges
 
-abbrev pub edge_start : Reader Word
-edge_start (lexeme.Mark mark.Open ∷ lexeme.Word label ∷ tokens) = Some (label, tokens)
-edge_start tokens = None
-
-abbrev pub edge_end : Edge → Reader Edge
-edge_end e (lexeme.Mark mark.Close ∷ tokens) = Some (e, tokens)
-edge_end e tokens = None
-
-abbrev pub edge_at : Reader Edge
-edge_at tokens = do
-  label ← edge_start tokens
-  from ← name_at label.1
-  offset ← vector_at from.1
-  to ← name_at offset.1
-  edge_end (record { label = label.0; from = from.0; offset = offset.0; to = to.0 }) to.1
+abbrev pub edge_parts : Form Edge
+edge_parts =
+    as_made (λ x. record { label = x.1.0; from = x.1.1.0; offset = x.1.1.1.0; to = x.1.1.1.1.0 })
+    (sign mark.Open ▸ word ▸ name ▸ vector ▸ name ▸ sign mark.Close)
 
 abbrev pub edge : Form Edge
-edge = by_text edge_text edge_at
+edge = by_text edge_text edge_parts.item
