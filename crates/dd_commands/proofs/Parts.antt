@@ -2,10 +2,7 @@
 use Rattle.std.proofs.Common.{◌≡◌, ℕ, suc, ◌+◌, ◌<◌, ◌≤◌, List, [], ◌∷◌, ◌++◌, length, take, drop, refl, sym, ap, subst, ◌∙◌, append_assoc, arith}
 use Rattle.std.specs.List.{prefix_len}
 use Rattle.std.proofs.lemmas.List.{append-nil}
-use Rattle.dd_written.specs.declared.lexeme.Mark.TheVariants as mark
-use Rattle.dd_written.specs.declared.lexeme.Lexeme.{Lexeme}
-use Rattle.dd_written.specs.declared.lexeme.Lexeme.TheVariants as lexeme
-use Rattle.dd_commands.specs.declared.script.Written.{Written}
+use Rattle.dd_commands.specs.Tree.{Mark, Lexeme, Written}
 use Rattle.dd_commands.specs.Scripts.{parts, stage_after, MayStand, AreCommands, IsFirstBad, AreWritten, IsBadCommand}
 use Rattle.dd_commands.specs.reading.Parts.{is_inside}
 
@@ -16,14 +13,14 @@ one_more n = omega arith
 pub cut : (tokens : List Lexeme) → let n = prefix_len is_inside tokens in
     ((parts tokens).0 ≡ take n tokens) × ((parts tokens).1 ≡ (parts (drop n tokens)).1) × ((parts (drop n tokens)).0 ≡ [])
 cut [] = (refl, refl, refl)
-cut (lexeme.Mark mark.Percent ∷ tokens) = (refl, refl, refl)
+cut (Lexeme.Mark Mark.Percent ∷ tokens) = (refl, refl, refl)
 cut (t ∷ tokens) =
     let rest = cut tokens in
     rw (one_more (prefix_len is_inside tokens)) (ap (λ (ts : List Lexeme). t ∷ ts) rest.0, rest.1, rest.2)
 
 pub behind_mark : (tokens : List Lexeme) → 0 < length tokens → (parts tokens).0 ≡ [] → (parts tokens).1 ≡ (parts (drop 1 tokens)).0 ∷ (parts (drop 1 tokens)).1
 behind_mark [] some none = absurd (omega (arith, some))
-behind_mark (lexeme.Mark mark.Percent ∷ tokens) some none = refl
+behind_mark (Lexeme.Mark Mark.Percent ∷ tokens) some none = refl
 behind_mark (t ∷ tokens) some none = absurd cc
 
 -- ---- the parts that are left, and what they say of the whole
@@ -70,5 +67,5 @@ nothing_before tokens le =
 
 pub something_before : (tokens : List Lexeme) → 0 < prefix_len is_inside tokens → (parts tokens).0 ≡ [] → ⊥
 something_before [] lt none = omega (arith, lt)
-something_before (lexeme.Mark mark.Percent ∷ tokens) lt none = omega (arith, lt)
+something_before (Lexeme.Mark Mark.Percent ∷ tokens) lt none = omega (arith, lt)
 something_before (t ∷ tokens) lt none = absurd cc

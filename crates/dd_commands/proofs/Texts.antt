@@ -8,11 +8,8 @@ use Rattle.std.proofs.lemmas.Bool.{ltb-true, and_parts, and_from}
 use Rattle.std.proofs.lemmas.List.Elements.{All-nil, All-cons}
 use Rattle.std.proofs.lemmas.Str.Ascii.{IsAscii-nil, IsAscii-cons}
 use Rattle.dd_tokens.specs.Format.{tokens_of}
-use Rattle.dd_written.specs.declared.lexeme.Mark.TheVariants as mark
-use Rattle.dd_written.specs.declared.lexeme.Lexeme.{Lexeme}
-use Rattle.dd_written.specs.declared.lexeme.Lexeme.TheVariants as lexeme
+use Rattle.dd_commands.specs.Tree.{Mark, Lexeme, Written}
 use Rattle.dd_written.specs.Lexemes.{lexeme_of, lexemes_of}
-use Rattle.dd_commands.specs.declared.script.Written.{Written}
 use Rattle.dd_commands.specs.Commands.{IsCommand}
 use Rattle.dd_commands.specs.Scripts.{parts, is_whole, stage_after, AreCommands, AreWritten, IsWritten}
 
@@ -26,12 +23,12 @@ all_written bytes from (p ∷ ps) (w ∷ ws) each =
 
 -- no token is stray where none is in a part
 abbrev with_end : Bool → List Lexeme → List Lexeme
-with_end ends tokens = tokens ++ (if ends then [] else lexeme.Stray ∷ [])
+with_end ends tokens = tokens ++ (if ends then [] else Lexeme.Stray ∷ [])
 
 no_stray : (ends : Bool) (tokens : List Lexeme) → list_all is_whole (parts (with_end ends tokens)).0 ≡ true → list_all (list_all is_whole) (parts (with_end ends tokens)).1 ≡ true → ends ≡ true
 no_stray true tokens before each = refl
 no_stray false [] before each = absurd cc
-no_stray false (lexeme.Mark mark.Percent ∷ tokens) before each = (let both = and_parts _ _ each in no_stray false tokens both.0 both.1)
+no_stray false (Lexeme.Mark Mark.Percent ∷ tokens) before each = (let both = and_parts _ _ each in no_stray false tokens both.0 both.1)
 no_stray false (t ∷ tokens) before each = no_stray false tokens (and_parts (is_whole t) (list_all is_whole (parts (with_end false tokens)).0) before).1 each
 
 ascii : (bytes : List ℕ) → list_all is_ascii bytes ≡ true → IsAscii bytes

@@ -3,22 +3,7 @@ use Rattle.std.proofs.Common.{◌≡◌, ℕ, ◌≤◌, ◌<◌, List, [], ◌�
 use Rattle.std.specs.List.{flat_map}
 use Rattle.std.proofs.lemmas.List.{append-nil, length-append}
 use Rattle.std.proofs.lemmas.Slice.Eq.{bytes_eq-Decides}
-use Rattle.dd_topology.specs.declared.builtin.Kind.{Kind}
-use Rattle.dd_topology.specs.declared.builtin.Kind.TheVariants as kind
-use Rattle.dd_written.specs.declared.lexeme.Lexeme.{Lexeme}
-use Rattle.dd_written.specs.declared.lexeme.Lexeme.TheVariants as lexeme
-use Rattle.dd_written.specs.declared.tree.Name.{Name}
-use Rattle.dd_written.specs.declared.tree.Name.TheVariants as names
-use Rattle.dd_commands.specs.declared.table.Lists.{Lists}
-use Rattle.dd_commands.specs.declared.table.Lists.TheVariants as lists
-use Rattle.dd_commands.specs.declared.table.Question.TheVariants as question
-use Rattle.dd_commands.specs.declared.command.Vector.{Vector}
-use Rattle.dd_commands.specs.declared.command.Edge.{Edge}
-use Rattle.dd_commands.specs.declared.command.Case.{Case}
-use Rattle.dd_commands.specs.declared.command.Command.{Command}
-use Rattle.dd_commands.specs.declared.command.Command.TheVariants as command
-use Rattle.dd_commands.specs.declared.head.Head.{Head}
-use Rattle.dd_commands.specs.declared.head.Head.TheVariants as head
+use Rattle.dd_commands.specs.Tree.{Kind, Lexeme, Name, Lists, Question, Vector, Edge, Case, Command, Head}
 use Rattle.dd_written.specs.Values.{word_text}
 use Rattle.dd_written.specs.Formulas.{text, name_lexeme}
 use Rattle.dd_written.specs.reading.Readers.{ReadsAll}
@@ -62,12 +47,12 @@ wanted_reads bytes spelt = keyword_reads {X = Unit {0}} (λ x. spelt) (tt ∷ []
 
 -- no command begins with the word of another
 head_first : (h : Head) → one_of head_text heads (head_text h) ≡ Some h
-head_first (head.Question question.Member) = refl
-head_first (head.Question q) = refl
+head_first (Head.Question Question.Member) = refl
+head_first (Head.Question q) = refl
 head_first h = refl
 
 kind_first : (k : Kind) → one_of kind_text kinds (kind_text k) ≡ Some k
-kind_first kind.Line = refl
+kind_first Kind.Line = refl
 kind_first k = refl
 
 -- ---- lists
@@ -78,23 +63,23 @@ names_read = some_reads name_reads (λ rest. tt) (shorter (λ n. name_lexeme n �
 -- names are no vector
 no_shear : (ns : List Name) (tokens rest : List Lexeme) → (some name).writes ns tokens rest → plain.item tokens ≡ None
 no_shear [] tokens rest w = absurd (omega (arith, w.0))
-no_shear (names.Word v ∷ ns) tokens rest w = ap plain.item w.1.1
-no_shear (names.Number n ∷ ns) tokens rest w = ap plain.item w.1.1
+no_shear (Name.Word v ∷ ns) tokens rest w = ap plain.item w.1.1
+no_shear (Name.Number n ∷ ns) tokens rest w = ap plain.item w.1.1
 
 listed_reads : (l : Lists) → Reads (listed l)
-listed_reads lists.None = record { written = λ tokens vs rest e. (ap (λ y. y.0) (sym (some_is _ _ e)), ap (λ y. y.1) (some_is _ _ e)); read = λ vs tokens rest w any. rw (w.0, w.1) refl; last = tt }
-listed_reads lists.Strip = made_reads (λ v. v ∷ []) plain_reads
-listed_reads lists.Vectors = some_reads vector_reads (λ rest. tt) (shorter vector_text (λ v. omega arith)) refl
+listed_reads Lists.None = record { written = λ tokens vs rest e. (ap (λ y. y.0) (sym (some_is _ _ e)), ap (λ y. y.1) (some_is _ _ e)); read = λ vs tokens rest w any. rw (w.0, w.1) refl; last = tt }
+listed_reads Lists.Strip = made_reads (λ v. v ∷ []) plain_reads
+listed_reads Lists.Vectors = some_reads vector_reads (λ rest. tt) (shorter vector_text (λ v. omega arith)) refl
 
 listed_lists : (l : Lists) (vs : List Vector) (tokens : List Lexeme) → (listed l).writes vs tokens [] → AreLists l vs × (tokens ≡ flat_map vector_text vs)
-listed_lists lists.None vs tokens w = (w.0, rw (w.0, w.1) refl)
-listed_lists lists.Strip vs tokens w = ((w.0, sym w.1, w.2.0), rw (← w.1) w.2.1)
-listed_lists lists.Vectors vs tokens w = (w.0, texts_read vector_text vs tokens [] w.1 ∙ append-nil (flat_map vector_text vs))
+listed_lists Lists.None vs tokens w = (w.0, rw (w.0, w.1) refl)
+listed_lists Lists.Strip vs tokens w = ((w.0, sym w.1, w.2.0), rw (← w.1) w.2.1)
+listed_lists Lists.Vectors vs tokens w = (w.0, texts_read vector_text vs tokens [] w.1 ∙ append-nil (flat_map vector_text vs))
 
 lists_listed : (l : Lists) (vs : List Vector) (tokens : List Lexeme) → AreLists l vs → tokens ≡ flat_map vector_text vs → (listed l).writes vs tokens []
-lists_listed lists.None vs tokens are e = (are, e ∙ ap (flat_map vector_text) are)
-lists_listed lists.Strip vs tokens are e = (are.0, sym are.1, (are.2, e ∙ ap (flat_map vector_text) are.1))
-lists_listed lists.Vectors vs tokens are e = (are, texts_whole vector_text vs tokens e)
+lists_listed Lists.None vs tokens are e = (are, e ∙ ap (flat_map vector_text) are)
+lists_listed Lists.Strip vs tokens are e = (are.0, sym are.1, (are.2, e ∙ ap (flat_map vector_text) are.1))
+lists_listed Lists.Vectors vs tokens are e = (are, texts_whole vector_text vs tokens e)
 
 module _ (law : FormulasAreRead) where
   formula_reads : Reads formula
@@ -136,26 +121,26 @@ module _ (law : FormulasAreRead) where
   -- ---- bodies
 
   topology_reads : (bytes : List ℕ) (tokens : List Lexeme) → Reads (topology bytes tokens)
-  topology_reads bytes (lexeme.Word w ∷ tokens) = made_reads (λ k. command.Topology k) (keyword_reads kind_text kinds kind_first bytes)
-  topology_reads bytes tokens = made_reads (λ es. command.Edges es) (some_reads edge_reads (λ rest. tt) (shorter edge_text (λ e. omega arith)) refl)
+  topology_reads bytes (Lexeme.Word w ∷ tokens) = made_reads (λ k. Command.Topology k) (keyword_reads kind_text kinds kind_first bytes)
+  topology_reads bytes tokens = made_reads (λ es. Command.Edges es) (some_reads edge_reads (λ rest. tt) (shorter edge_text (λ e. omega arith)) refl)
 
   body_reads : (bytes : List ℕ) (h : Head) (tokens : List Lexeme) → Reads (body bytes h tokens)
-  body_reads bytes head.Dimension tokens = made_reads _ number_reads
-  body_reads bytes head.Nodes tokens = made_reads _ names_read
-  body_reads bytes head.Alphabet tokens = made_reads _ names_read
-  body_reads bytes head.Topology tokens = topology_reads bytes tokens
-  body_reads bytes head.Only tokens = made_reads _ (then_reads name_reads (λ y ts rest w. tt) names_read)
-  body_reads bytes head.Weights tokens = made_reads _ (some_reads number_reads (λ rest. tt) (shorter (λ n. lexeme.Number n ∷ []) (λ n. omega arith)) refl)
-  body_reads bytes head.Limits tokens = made_reads _ (then_reads number_reads (λ y ts rest w. tt) (then_reads number_reads (λ y ts rest w. tt) number_reads))
-  body_reads bytes head.Rule tokens = made_reads _ (then_reads word_reads (λ y ts rest w. tt) formula_reads)
-  body_reads bytes head.Automaton tokens =
+  body_reads bytes Head.Dimension tokens = made_reads _ number_reads
+  body_reads bytes Head.Nodes tokens = made_reads _ names_read
+  body_reads bytes Head.Alphabet tokens = made_reads _ names_read
+  body_reads bytes Head.Topology tokens = topology_reads bytes tokens
+  body_reads bytes Head.Only tokens = made_reads _ (then_reads name_reads (λ y ts rest w. tt) names_read)
+  body_reads bytes Head.Weights tokens = made_reads _ (some_reads number_reads (λ rest. tt) (shorter (λ n. Lexeme.Number n ∷ []) (λ n. omega arith)) refl)
+  body_reads bytes Head.Limits tokens = made_reads _ (then_reads number_reads (λ y ts rest w. tt) (then_reads number_reads (λ y ts rest w. tt) number_reads))
+  body_reads bytes Head.Rule tokens = made_reads _ (then_reads word_reads (λ y ts rest w. tt) formula_reads)
+  body_reads bytes Head.Automaton tokens =
       made_reads _ (then_reads word_reads (λ y ts rest w. tt)
       (then_reads (each_reads (case_reads bytes) (λ rest. tt) (case_shorter bytes) refl) (λ y ts rest w. rw (w.1.2, w.1.1) refl)
       (then_reads (wanted_reads bytes (codes "else")) (λ y ts rest w. tt) name_reads)))
-  body_reads bytes head.Composition tokens = made_reads _ (then_reads word_reads (λ y ts rest w. tt) (then_reads word_reads (λ y ts rest w. tt) word_reads))
-  body_reads bytes head.Configuration tokens =
+  body_reads bytes Head.Composition tokens = made_reads _ (then_reads word_reads (λ y ts rest w. tt) (then_reads word_reads (λ y ts rest w. tt) word_reads))
+  body_reads bytes Head.Configuration tokens =
       made_reads _ (then_reads word_reads (λ y ts rest w. tt) (then_reads plain_reads (λ y ts rest w. tt) (then_reads shear_reads no_shear names_read)))
-  body_reads bytes (head.Question q) tokens =
+  body_reads bytes (Head.Question q) tokens =
       made_reads _ (then_reads (exactly_reads word_reads (λ rest. tt) (length (row q).names)) (λ y ts rest w. tt)
       (then_reads (exactly_reads number_reads (λ rest. tt) (row q).numbers) (λ y ts rest w. tt) (listed_reads (row q).lists)))
 
@@ -165,62 +150,62 @@ module _ (law : FormulasAreRead) where
   abbrev Spelled : List ℕ → Head → List Lexeme → Command → Type 0
   Spelled bytes h tokens c = (head_of c ≡ h) × IsBody bytes c tokens
 
-  topology_spelled : (bytes : List ℕ) (tokens : List Lexeme) (c : Command) → (topology bytes tokens).writes c tokens [] → Spelled bytes head.Topology tokens c
-  topology_spelled bytes (lexeme.Word v ∷ tokens) c w = subst (Spelled bytes head.Topology (lexeme.Word v ∷ tokens)) w.1 (refl, w.2)
+  topology_spelled : (bytes : List ℕ) (tokens : List Lexeme) (c : Command) → (topology bytes tokens).writes c tokens [] → Spelled bytes Head.Topology tokens c
+  topology_spelled bytes (Lexeme.Word v ∷ tokens) c w = subst (Spelled bytes Head.Topology (Lexeme.Word v ∷ tokens)) w.1 (refl, w.2)
   topology_spelled bytes tokens c w =
-      subst (Spelled bytes head.Topology tokens) w.1 (refl, (w.2.0, texts_read edge_text w.0 tokens [] w.2.1 ∙ append-nil (flat_map edge_text w.0)))
+      subst (Spelled bytes Head.Topology tokens) w.1 (refl, (w.2.0, texts_read edge_text w.0 tokens [] w.2.1 ∙ append-nil (flat_map edge_text w.0)))
 
   spelled : (bytes : List ℕ) (h : Head) (tokens : List Lexeme) (c : Command) → (body bytes h tokens).writes c tokens [] → Spelled bytes h tokens c
-  spelled bytes head.Dimension tokens c w = subst (Spelled bytes head.Dimension tokens) w.1 (refl, w.2)
-  spelled bytes head.Nodes tokens c w = subst (Spelled bytes head.Nodes tokens) w.1 (refl, some_singles name_lexeme w.0 tokens w.2)
-  spelled bytes head.Alphabet tokens c w = subst (Spelled bytes head.Alphabet tokens) w.1 (refl, some_singles name_lexeme w.0 tokens w.2)
-  spelled bytes head.Topology tokens c w = topology_spelled bytes tokens c w
-  spelled bytes head.Only tokens c w =
+  spelled bytes Head.Dimension tokens c w = subst (Spelled bytes Head.Dimension tokens) w.1 (refl, w.2)
+  spelled bytes Head.Nodes tokens c w = subst (Spelled bytes Head.Nodes tokens) w.1 (refl, some_singles name_lexeme w.0 tokens w.2)
+  spelled bytes Head.Alphabet tokens c w = subst (Spelled bytes Head.Alphabet tokens) w.1 (refl, some_singles name_lexeme w.0 tokens w.2)
+  spelled bytes Head.Topology tokens c w = topology_spelled bytes tokens c w
+  spelled bytes Head.Only tokens c w =
       let ns = some_singles name_lexeme w.0.1 w.2.0 w.2.2 in
-      subst (Spelled bytes head.Only tokens) w.1 (refl, (ns.0, rw (w.2.1, ns.1) refl))
-  spelled bytes head.Weights tokens c w = subst (Spelled bytes head.Weights tokens) w.1 (refl, some_singles lexeme.Number w.0 tokens w.2)
-  spelled bytes head.Limits tokens c w = subst (Spelled bytes head.Limits tokens) w.1 (refl, rw (w.2.1, w.2.2.1, w.2.2.2) refl)
-  spelled bytes head.Rule tokens c w = subst (Spelled bytes head.Rule tokens) w.1 (refl, (w.2.2.1, rw (w.2.1, w.2.2.0, append-nil (text w.0.1)) refl))
-  spelled bytes head.Automaton tokens c w =
+      subst (Spelled bytes Head.Only tokens) w.1 (refl, (ns.0, rw (w.2.1, ns.1) refl))
+  spelled bytes Head.Weights tokens c w = subst (Spelled bytes Head.Weights tokens) w.1 (refl, some_singles Lexeme.Number w.0 tokens w.2)
+  spelled bytes Head.Limits tokens c w = subst (Spelled bytes Head.Limits tokens) w.1 (refl, rw (w.2.1, w.2.2.1, w.2.2.2) refl)
+  spelled bytes Head.Rule tokens c w = subst (Spelled bytes Head.Rule tokens) w.1 (refl, (w.2.2.1, rw (w.2.1, w.2.2.0, append-nil (text w.0.1)) refl))
+  spelled bytes Head.Automaton tokens c w =
       let otherwise = subst (IsBehind bytes (codes "else") w.2.2.0) w.2.2.2.2 w.2.2.2.1 in
-      subst (Spelled bytes head.Automaton tokens) w.1 (refl, (w.2.0, w.2.1, record { last = w.2.2.0; before = w.2.2.1; otherwise = otherwise }))
-  spelled bytes head.Composition tokens c w = subst (Spelled bytes head.Composition tokens) w.1 (refl, rw (w.2.1, w.2.2.1, w.2.2.2) refl)
-  spelled bytes head.Configuration tokens c w =
+      subst (Spelled bytes Head.Automaton tokens) w.1 (refl, (w.2.0, w.2.1, record { last = w.2.2.0; before = w.2.2.1; otherwise = otherwise }))
+  spelled bytes Head.Composition tokens c w = subst (Spelled bytes Head.Composition tokens) w.1 (refl, rw (w.2.1, w.2.2.1, w.2.2.2) refl)
+  spelled bytes Head.Configuration tokens c w =
       let p = w.2.2 in
       let ns = some_singles name_lexeme w.0.1.1.1 p.2.0 p.2.2 in
-      subst (Spelled bytes head.Configuration tokens) w.1 (refl, (ns.0, p.1.0, p.2.1.0, rw (w.2.1, p.1.1, p.2.1.1, ns.1) refl))
-  spelled bytes (head.Question q) tokens c w =
+      subst (Spelled bytes Head.Configuration tokens) w.1 (refl, (ns.0, p.1.0, p.2.1.0, rw (w.2.1, p.1.1, p.2.1.1, ns.1) refl))
+  spelled bytes (Head.Question q) tokens c w =
       let p = w.2.2 in
       let ls = listed_lists (row q).lists w.0.1.1 p.0 p.2 in
-      let words = singles_read lexeme.Word w.0.0 tokens w.2.0 w.2.1.1 in
-      let numbers = singles_read lexeme.Number w.0.1.0 w.2.0 p.0 p.1.1 in
-      subst (Spelled bytes (head.Question q) tokens) w.1 (refl, (record { words = w.2.1.0; numbers = p.1.0; vectors = ls.0 }, rw (words, numbers, ls.1) refl))
+      let words = singles_read Lexeme.Word w.0.0 tokens w.2.0 w.2.1.1 in
+      let numbers = singles_read Lexeme.Number w.0.1.0 w.2.0 p.0 p.1.1 in
+      subst (Spelled bytes (Head.Question q) tokens) w.1 (refl, (record { words = w.2.1.0; numbers = p.1.0; vectors = ls.0 }, rw (words, numbers, ls.1) refl))
 
-  edges_stand : (bytes : List ℕ) (es : List Edge) → 1 ≤ length es → (topology bytes (flat_map edge_text es)).writes (command.Edges es) (flat_map edge_text es) []
+  edges_stand : (bytes : List ℕ) (es : List Edge) → 1 ≤ length es → (topology bytes (flat_map edge_text es)).writes (Command.Edges es) (flat_map edge_text es) []
   edges_stand bytes [] some = absurd (omega (arith, some))
   edges_stand bytes (e ∷ es) some = (e ∷ es, refl, (some, texts_whole edge_text (e ∷ es) _ refl))
 
   stands : (bytes : List ℕ) (c : Command) (tokens : List Lexeme) → IsBody bytes c tokens → (body bytes (head_of c) tokens).writes c tokens []
-  stands bytes (command.Dimension n) tokens is = (n, refl, is)
-  stands bytes (command.Nodes ns) tokens is = (ns, refl, singles_some name_lexeme ns tokens is)
-  stands bytes (command.Alphabet ns) tokens is = (ns, refl, singles_some name_lexeme ns tokens is)
-  stands bytes (command.Topology k) tokens is = subst (λ (ts : List Lexeme). (topology bytes ts).writes (command.Topology k) ts []) (sym is.2) (k, refl, (is.0, is.1, refl))
-  stands bytes (command.Edges es) tokens is = subst (λ (ts : List Lexeme). (topology bytes ts).writes (command.Edges es) ts []) (sym is.1) (edges_stand bytes es is.0)
-  stands bytes (command.Only node ns) tokens is = ((node, ns), refl, (_, is.1, singles_some name_lexeme ns _ (is.0, refl)))
-  stands bytes (command.Weights ns) tokens is = (ns, refl, singles_some lexeme.Number ns tokens is)
-  stands bytes (command.Limits radius period pivots) tokens is = ((radius, (period, pivots)), refl, (_, is, (_, refl, refl)))
-  stands bytes (command.Rule name f) tokens is = ((name, f), refl, (text f, is.1, (sym (append-nil (text f)), is.0)))
-  stands bytes (command.Automaton name cases symbol) tokens is =
+  stands bytes (Command.Dimension n) tokens is = (n, refl, is)
+  stands bytes (Command.Nodes ns) tokens is = (ns, refl, singles_some name_lexeme ns tokens is)
+  stands bytes (Command.Alphabet ns) tokens is = (ns, refl, singles_some name_lexeme ns tokens is)
+  stands bytes (Command.Topology k) tokens is = subst (λ (ts : List Lexeme). (topology bytes ts).writes (Command.Topology k) ts []) (sym is.2) (k, refl, (is.0, is.1, refl))
+  stands bytes (Command.Edges es) tokens is = subst (λ (ts : List Lexeme). (topology bytes ts).writes (Command.Edges es) ts []) (sym is.1) (edges_stand bytes es is.0)
+  stands bytes (Command.Only node ns) tokens is = ((node, ns), refl, (_, is.1, singles_some name_lexeme ns _ (is.0, refl)))
+  stands bytes (Command.Weights ns) tokens is = (ns, refl, singles_some Lexeme.Number ns tokens is)
+  stands bytes (Command.Limits radius period pivots) tokens is = ((radius, (period, pivots)), refl, (_, is, (_, refl, refl)))
+  stands bytes (Command.Rule name f) tokens is = ((name, f), refl, (text f, is.1, (sym (append-nil (text f)), is.0)))
+  stands bytes (Command.Automaton name cases symbol) tokens is =
       ((name, (cases, (tt, symbol))), refl, (is.0, is.1, (is.2.last, is.2.before, (_, is.2.otherwise, refl))))
-  stands bytes (command.Composition name outer inner) tokens is = ((name, (outer, inner)), refl, (_, is, (_, refl, refl)))
-  stands bytes (command.Configuration name periods shear ns) tokens is =
+  stands bytes (Command.Composition name outer inner) tokens is = ((name, (outer, inner)), refl, (_, is, (_, refl, refl)))
+  stands bytes (Command.Configuration name periods shear ns) tokens is =
       ((name, (periods, (shear, ns))), refl, (_, is.3, (_, (is.1, refl), (_, (is.2, refl), singles_some name_lexeme ns _ (is.0, refl)))))
-  stands bytes (command.Query r) tokens is =
-      let others = map lexeme.Number r.numbers ++ flat_map vector_text r.vectors in
-      let words = subst (λ (ts : List Lexeme). ReadsAll (ByText (λ w. lexeme.Word w ∷ [])) r.words ts others) (sym is.1) (singles_stand lexeme.Word r.words others) in (
+  stands bytes (Command.Query r) tokens is =
+      let others = map Lexeme.Number r.numbers ++ flat_map vector_text r.vectors in
+      let words = subst (λ (ts : List Lexeme). ReadsAll (ByText (λ w. Lexeme.Word w ∷ [])) r.words ts others) (sym is.1) (singles_stand Lexeme.Word r.words others) in (
         (r.words, (r.numbers, r.vectors)),
         refl,
-        (others, (is.0.words, words), (_, (is.0.numbers, singles_stand lexeme.Number r.numbers _), lists_listed (row r.question).lists r.vectors _ is.0.vectors refl)),
+        (others, (is.0.words, words), (_, (is.0.numbers, singles_stand Lexeme.Number r.numbers _), lists_listed (row r.question).lists r.vectors _ is.0.vectors refl)),
       )
 
   pub command_sound : (bytes : List ℕ) (tokens : List Lexeme) (c : Command) → command_of bytes tokens ≡ Some c → IsCommand bytes c tokens

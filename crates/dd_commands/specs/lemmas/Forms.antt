@@ -5,7 +5,7 @@ use Rattle.std.specs.List.{flat_map}
 use Rattle.std.proofs.lemmas.Bool.{eqb-true, eq-eqb, leb-true, le-leb}
 use Rattle.std.proofs.lemmas.List.{append-nil, length-append}
 use Rattle.std.proofs.lemmas.List.Concat.{flat_map_single}
-use Rattle.dd_written.specs.declared.lexeme.Lexeme.{Lexeme}
+use Rattle.dd_commands.specs.Tree.{Lexeme}
 use Rattle.dd_written.specs.reading.Readers.{◌>>=◌, Reader, ReadsAll}
 use Rattle.dd_written.specs.lemmas.Options.{bind_some, some_is, nothing_some, chosen}
 use Rattle.dd_written.specs.lemmas.Many.{many_sound, many_again, few_items, ByText, texts_read, texts_stand}

@@ -1,22 +1,12 @@
 -- Names, numbers, vectors and edges are read as they are written.
 use denote.Enum.Bare.{same_true, true_same}
-use Rattle.std.proofs.Common.{◌≡◌, true, List, [], ◌∷◌, ◌++◌, map, Option, Some, None, refl, ap, subst, ◌∙◌, append_assoc, arith, inl, inr}
+use Rattle.std.proofs.Common.{◌≡◌, true, List, [], ◌∷◌, ◌++◌, map, Option, Some, None, refl, sym, ap, subst, ◌∙◌, append_assoc, arith, inl, inr}
 use Rattle.dd_written.specs.contracts.lexeme.Mark.{the_type}
-use Rattle.dd_written.specs.declared.lexeme.Mark.{Mark}
-use Rattle.dd_written.specs.declared.lexeme.Mark.TheVariants as mark
-use Rattle.dd_written.specs.declared.lexeme.Word.{Word}
-use Rattle.dd_written.specs.declared.lexeme.Number.{Number}
-use Rattle.dd_written.specs.declared.lexeme.Lexeme.{Lexeme}
-use Rattle.dd_written.specs.declared.lexeme.Lexeme.TheVariants as lexeme
-use Rattle.dd_written.specs.declared.tree.Name.{Name}
+use Rattle.dd_commands.specs.Tree.{Mark, Word, Number, Lexeme, Name, Entry, Vector, Edge}
 use Rattle.dd_written.specs.Formulas.{name_lexeme}
 use Rattle.dd_written.specs.reading.Atoms.{name_at}
 use Rattle.dd_written.specs.lemmas.Options.{some_is, nothing_some, chosen}
 use Rattle.dd_written.specs.lemmas.Names.{name_sound, name_again}
-use Rattle.dd_commands.specs.declared.command.Entry.{Entry}
-use Rattle.dd_commands.specs.declared.command.Entry.TheVariants as entry
-use Rattle.dd_commands.specs.declared.command.Vector.{Vector}
-use Rattle.dd_commands.specs.declared.command.Edge.{Edge}
 use Rattle.dd_commands.specs.Commands.{entry_lexeme, vector_text, is_plain, edge_text}
 use Rattle.dd_commands.specs.reading.Forms.{single}
 use Rattle.dd_commands.specs.reading.Vectors.{word_at, word, number_at, number, name, entry_at, same_mark, mark_at, sign, vector_parts, vector, plain, or_none, shear, edge_parts, edge}
@@ -24,15 +14,15 @@ use Rattle.dd_commands.specs.lemmas.Forms.{Reads, made_reads, then_reads, such_r
 
 -- ---- single tokens
 
-word_written : (tokens : List Lexeme) (x : Word) (rest : List Lexeme) → word_at tokens ≡ Some (x, rest) → tokens ≡ lexeme.Word x ∷ rest
-word_written (lexeme.Word w ∷ tokens) x rest e = ap (λ (y : Word × List Lexeme). lexeme.Word y.0 ∷ y.1) (some_is _ _ e)
+word_written : (tokens : List Lexeme) (x : Word) (rest : List Lexeme) → word_at tokens ≡ Some (x, rest) → tokens ≡ Lexeme.Word x ∷ rest
+word_written (Lexeme.Word w ∷ tokens) x rest e = ap (λ (y : Word × List Lexeme). Lexeme.Word y.0 ∷ y.1) (some_is _ _ e)
 word_written tokens x rest e = absurd cc
 
 pub word_reads : Reads word
 word_reads = record { written = word_written; read = λ x tokens rest e any. ap word_at e; last = tt }
 
-number_written : (tokens : List Lexeme) (x : Number) (rest : List Lexeme) → number_at tokens ≡ Some (x, rest) → tokens ≡ lexeme.Number x ∷ rest
-number_written (lexeme.Number n ∷ tokens) x rest e = ap (λ (y : Number × List Lexeme). lexeme.Number y.0 ∷ y.1) (some_is _ _ e)
+number_written : (tokens : List Lexeme) (x : Number) (rest : List Lexeme) → number_at tokens ≡ Some (x, rest) → tokens ≡ Lexeme.Number x ∷ rest
+number_written (Lexeme.Number n ∷ tokens) x rest e = ap (λ (y : Number × List Lexeme). Lexeme.Number y.0 ∷ y.1) (some_is _ _ e)
 number_written tokens x rest e = absurd cc
 
 pub number_reads : Reads number
@@ -42,13 +32,13 @@ pub name_reads : Reads name
 name_reads = record { written = name_sound; read = λ x tokens rest e any. ap name_at e ∙ name_again x rest; last = tt }
 
 entry_written : (tokens : List Lexeme) (x : Entry) (rest : List Lexeme) → entry_at tokens ≡ Some (x, rest) → tokens ≡ entry_lexeme x ∷ rest
-entry_written (lexeme.Number n ∷ tokens) x rest e = ap (λ (y : Entry × List Lexeme). entry_lexeme y.0 ∷ y.1) (some_is _ _ e)
-entry_written (lexeme.Negative n ∷ tokens) x rest e = ap (λ (y : Entry × List Lexeme). entry_lexeme y.0 ∷ y.1) (some_is _ _ e)
+entry_written (Lexeme.Number n ∷ tokens) x rest e = ap (λ (y : Entry × List Lexeme). entry_lexeme y.0 ∷ y.1) (some_is _ _ e)
+entry_written (Lexeme.Negative n ∷ tokens) x rest e = ap (λ (y : Entry × List Lexeme). entry_lexeme y.0 ∷ y.1) (some_is _ _ e)
 entry_written tokens x rest e = absurd cc
 
 entry_again : (n : Entry) (rest : List Lexeme) → entry_at (entry_lexeme n ∷ rest) ≡ Some (n, rest)
-entry_again (entry.Number n) rest = refl
-entry_again (entry.Negative n) rest = refl
+entry_again (Entry.Number n) rest = refl
+entry_again (Entry.Negative n) rest = refl
 
 entry_reads : Reads (single entry_lexeme entry_at)
 entry_reads = record { written = entry_written; read = λ x tokens rest e any. ap entry_at e ∙ entry_again x rest; last = tt }
@@ -61,10 +51,10 @@ same_one : (m n : Mark) → same_mark m n ≡ true → m ≡ n
 unfolding same_mark
 same_one m n e = same_true the_type tt m n e
 
-sign_written : (m : Mark) (tokens : List Lexeme) (x : Unit {0}) (rest : List Lexeme) → mark_at m tokens ≡ Some (x, rest) → tokens ≡ lexeme.Mark m ∷ rest
-sign_written m (lexeme.Mark n ∷ tokens) x rest e =
+sign_written : (m : Mark) (tokens : List Lexeme) (x : Unit {0}) (rest : List Lexeme) → mark_at m tokens ≡ Some (x, rest) → tokens ≡ Lexeme.Mark m ∷ rest
+sign_written m (Lexeme.Mark n ∷ tokens) x rest e =
     elim (chosen (same_mark n m) (Some (tt, tokens)) None (Some (x, rest)) e) [
-      | inl same ↦ rw (same_one n m same.0) (ap (λ (y : Unit {0} × List Lexeme). lexeme.Mark m ∷ y.1) (some_is _ _ same.1))
+      | inl same ↦ rw (same_one n m same.0) (ap (λ (y : Unit {0} × List Lexeme). Lexeme.Mark m ∷ y.1) (some_is _ _ same.1))
       | inr other ↦ absurd (nothing_some (x, rest) other.1)
     ]
 sign_written m tokens x rest e = absurd cc
@@ -76,9 +66,9 @@ sign_reads m = record { written = sign_written m; read = λ x tokens rest e any.
 
 vector_parts_read : Reads vector_parts
 vector_parts_read =
-    made_reads _ (then_reads (sign_reads mark.OpenList) (λ y ts rest w. tt)
+    made_reads _ (then_reads (sign_reads Mark.OpenList) (λ y ts rest w. tt)
     (then_reads (each_reads entry_reads (λ rest. tt) (shorter (λ n. entry_lexeme n ∷ []) (λ n. omega arith)) refl) (λ y ts rest w. ap entry_at w)
-    (sign_reads mark.CloseList)))
+    (sign_reads Mark.CloseList)))
 
 vector_spelled : (tokens : List Lexeme) (v : Vector) (rest : List Lexeme) → vector_parts.writes v tokens rest → tokens ≡ vector_text v ++ rest
 vector_spelled tokens v rest w =
@@ -88,7 +78,7 @@ pub vector_reads : Reads vector
 vector_reads = record {
   written = λ tokens v rest e. vector_spelled tokens v rest (vector_parts_read.written tokens v rest e);
   read = λ v tokens rest e any.
-      let behind : List Lexeme = lexeme.Mark mark.CloseList ∷ rest in
+      let behind : List Lexeme = Lexeme.Mark Mark.CloseList ∷ rest in
       vector_parts_read.read v tokens rest ((tt, (v.entries, tt)), refl, (map entry_lexeme v.entries ++ behind, e ∙ simp append_assoc, (behind, singles_stand entry_lexeme v.entries behind, refl))) tt;
   last = tt;
 }
@@ -111,22 +101,24 @@ shear_reads = record { written = λ tokens s rest e. shear_written tokens (plain
 
 edge_parts_read : Reads edge_parts
 edge_parts_read =
-    made_reads _ (then_reads (sign_reads mark.Open) (λ y ts rest w. tt)
+    made_reads _ (then_reads (sign_reads Mark.Open) (λ y ts rest w. tt)
     (then_reads word_reads (λ y ts rest w. tt)
     (then_reads name_reads (λ y ts rest w. tt)
     (then_reads vector_reads (λ y ts rest w. tt)
-    (then_reads name_reads (λ y ts rest w. tt) (sign_reads mark.Close))))))
+    (then_reads name_reads (λ y ts rest w. tt) (sign_reads Mark.Close))))))
 
 edge_spelled : (tokens : List Lexeme) (e : Edge) (rest : List Lexeme) → edge_parts.writes e tokens rest → tokens ≡ edge_text e ++ rest
 edge_spelled tokens e rest w =
-    subst (λ (x : Edge). tokens ≡ edge_text x ++ rest) w.1 (rw (w.2.1, w.2.2.1, w.2.2.2.1, w.2.2.2.2.1, w.2.2.2.2.2.1, w.2.2.2.2.2.2) (simp append_assoc))
+    let tail = append_assoc (vector_text w.0.1.1.1.0) (name_lexeme w.0.1.1.1.1.0 ∷ Lexeme.Mark Mark.Close ∷ []) rest in
+    subst (λ (x : Edge). tokens ≡ edge_text x ++ rest) w.1
+    (rw (w.2.1, w.2.2.1, w.2.2.2.1, w.2.2.2.2.1, w.2.2.2.2.2.1, w.2.2.2.2.2.2) (ap (λ (ts : List Lexeme). Lexeme.Mark Mark.Open ∷ Lexeme.Word w.0.1.0 ∷ name_lexeme w.0.1.1.0 ∷ ts) (sym tail)))
 
 pub edge_reads : Reads edge
 edge_reads = record {
   written = λ tokens x rest e. edge_spelled tokens x rest (edge_parts_read.written tokens x rest e);
   read = λ x tokens rest e any.
-      let behind : List Lexeme = vector_text x.offset ++ name_lexeme x.to ∷ lexeme.Mark mark.Close ∷ rest in
-      let whole : tokens ≡ lexeme.Mark mark.Open ∷ lexeme.Word x.label ∷ name_lexeme x.from ∷ behind = e ∙ simp append_assoc in
+      let behind : List Lexeme = vector_text x.offset ++ name_lexeme x.to ∷ Lexeme.Mark Mark.Close ∷ rest in
+      let whole : tokens ≡ Lexeme.Mark Mark.Open ∷ Lexeme.Word x.label ∷ name_lexeme x.from ∷ behind = e ∙ simp append_assoc in
       edge_parts_read.read x tokens rest ((tt, (x.label, (x.from, (x.offset, (x.to, tt))))), refl, (_, whole, (_, refl, (_, refl, (_, refl, (_, refl, refl)))))) tt;
   last = tt;
 }

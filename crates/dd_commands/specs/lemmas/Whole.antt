@@ -3,12 +3,10 @@ use Rattle.std.proofs.Common.{◌≡◌, ℕ, List, Some, None, refl, sym, ap, s
 use Rattle.std.specs.Prelude.{nat_lt}
 use Rattle.std.specs.List.{list_all}
 use Rattle.std.proofs.lemmas.Bool.{ltb-false, le-ltb}
-use Rattle.dd_written.specs.declared.lexeme.Lexeme.{Lexeme}
+use Rattle.dd_commands.specs.Tree.{Lexeme, Command, Written}
 use Rattle.dd_written.specs.reading.Readers.{◌>>=◌}
 use Rattle.dd_written.specs.reading.Laws.{FormulasAreRead}
 use Rattle.dd_written.specs.lemmas.Options.{bind_some, some_is, nothing_some, chosen}
-use Rattle.dd_commands.specs.declared.command.Command.{Command}
-use Rattle.dd_commands.specs.declared.script.Written.{Written}
 use Rattle.dd_commands.specs.Heads.{head_of, stage}
 use Rattle.dd_commands.specs.Scripts.{is_whole, MayStand}
 use Rattle.dd_commands.specs.reading.Commands.{command_of}

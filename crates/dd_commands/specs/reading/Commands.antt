@@ -1,20 +1,7 @@
 -- Reading commands.
 use Rattle.std.specs.Prelude.{◌≡◌, ℕ, List, [], ◌∷◌, ◌++◌, length, true, Option, Some, bytes_eq, codes}
 use Rattle.std.specs.List.{find}
-use Rattle.dd_topology.specs.declared.builtin.Kind.{Kind}
-use Rattle.dd_topology.specs.declared.builtin.Kind.TheVariants as kind
-use Rattle.dd_written.specs.declared.lexeme.Lexeme.{Lexeme}
-use Rattle.dd_written.specs.declared.lexeme.Lexeme.TheVariants as lexeme
-use Rattle.dd_written.specs.declared.tree.Formula.{Formula}
-use Rattle.dd_commands.specs.declared.table.Lists.{Lists}
-use Rattle.dd_commands.specs.declared.table.Lists.TheVariants as lists
-use Rattle.dd_commands.specs.declared.table.Question.TheVariants as question
-use Rattle.dd_commands.specs.declared.command.Vector.{Vector}
-use Rattle.dd_commands.specs.declared.command.Case.{Case}
-use Rattle.dd_commands.specs.declared.command.Command.{Command}
-use Rattle.dd_commands.specs.declared.command.Command.TheVariants as command
-use Rattle.dd_commands.specs.declared.head.Head.{Head}
-use Rattle.dd_commands.specs.declared.head.Head.TheVariants as head
+use Rattle.dd_commands.specs.Tree.{Kind, Lexeme, Formula, Lists, Question, Vector, Case, Command, Head}
 use Rattle.dd_written.specs.Values.{word_text}
 use Rattle.dd_written.specs.Formulas.{text, IsWrittenFormula}
 use Rattle.dd_written.specs.reading.Readers.{◌>>=◌}
@@ -40,13 +27,13 @@ keyword text_of xs bytes = record {
 
 abbrev pub heads : List Head
 heads =
-    head.Dimension ∷ head.Nodes ∷ head.Alphabet ∷ head.Topology ∷ head.Only ∷ head.Weights ∷ head.Limits ∷ head.Rule ∷ head.Automaton
-    ∷ head.Composition ∷ head.Configuration ∷ head.Question question.Member ∷ head.Question question.Contains ∷ head.Question question.Equal
-    ∷ head.Question question.Empty ∷ head.Question question.Agree ∷ head.Question question.Forbidden ∷ head.Question question.Density
-    ∷ head.Question question.Discharge ∷ []
+    Head.Dimension ∷ Head.Nodes ∷ Head.Alphabet ∷ Head.Topology ∷ Head.Only ∷ Head.Weights ∷ Head.Limits ∷ Head.Rule ∷ Head.Automaton
+    ∷ Head.Composition ∷ Head.Configuration ∷ Head.Question Question.Member ∷ Head.Question Question.Contains ∷ Head.Question Question.Equal
+    ∷ Head.Question Question.Empty ∷ Head.Question Question.Agree ∷ Head.Question Question.Forbidden ∷ Head.Question Question.Density
+    ∷ Head.Question Question.Discharge ∷ []
 
 abbrev pub kinds : List Kind
-kinds = kind.Line ∷ kind.Square ∷ kind.King ∷ kind.Triangle ∷ kind.Hex ∷ kind.Cube ∷ []
+kinds = Kind.Line ∷ Kind.Square ∷ Kind.King ∷ Kind.Triangle ∷ Kind.Hex ∷ Kind.Cube ∷ []
 
 -- a word that is wanted
 abbrev pub wanted : List ℕ → List ℕ → Form (Unit {0})
@@ -66,33 +53,33 @@ case bytes = record { writes = IsCase bytes; ends = λ rest. Unit {0}; item = (c
 
 -- the vectors at the end of a question
 abbrev pub listed : Lists → Form (List Vector)
-listed lists.None = record { writes = λ vs tokens rest. (vs ≡ []) × (tokens ≡ rest); ends = λ rest. Unit {0}; item = λ tokens. Some ([], tokens) }
-listed lists.Strip = as_made (λ v. v ∷ []) plain
-listed lists.Vectors = some vector
+listed Lists.None = record { writes = λ vs tokens rest. (vs ≡ []) × (tokens ≡ rest); ends = λ rest. Unit {0}; item = λ tokens. Some ([], tokens) }
+listed Lists.Strip = as_made (λ v. v ∷ []) plain
+listed Lists.Vectors = some vector
 
 -- ---- what stands behind the first word
 
 -- the name of a topology, or its edges
 abbrev pub topology : List ℕ → List Lexeme → Form Command
-topology bytes (lexeme.Word w ∷ tokens) = as_made (λ k. command.Topology k) (keyword kind_text kinds bytes)
-topology bytes tokens = as_made (λ es. command.Edges es) (some edge)
+topology bytes (Lexeme.Word w ∷ tokens) = as_made (λ k. Command.Topology k) (keyword kind_text kinds bytes)
+topology bytes tokens = as_made (λ es. Command.Edges es) (some edge)
 
 -- what begins with these tokens
 abbrev pub body : List ℕ → Head → List Lexeme → Form Command
-body bytes head.Dimension tokens = as_made (λ n. command.Dimension n) number
-body bytes head.Nodes tokens = as_made (λ ns. command.Nodes ns) (some name)
-body bytes head.Alphabet tokens = as_made (λ ns. command.Alphabet ns) (some name)
-body bytes head.Topology tokens = topology bytes tokens
-body bytes head.Only tokens = as_made (λ x. command.Only x.0 x.1) (name ▸ some name)
-body bytes head.Weights tokens = as_made (λ ns. command.Weights ns) (some number)
-body bytes head.Limits tokens = as_made (λ x. command.Limits x.0 x.1.0 x.1.1) (number ▸ number ▸ number)
-body bytes head.Rule tokens = as_made (λ x. command.Rule x.0 x.1) (word ▸ formula)
-body bytes head.Automaton tokens =
-    as_made (λ x. command.Automaton x.0 x.1.0 x.1.1.1) (word ▸ each (case bytes) ▸ wanted bytes (codes "else") ▸ name)
-body bytes head.Composition tokens = as_made (λ x. command.Composition x.0 x.1.0 x.1.1) (word ▸ word ▸ word)
-body bytes head.Configuration tokens = as_made (λ x. command.Configuration x.0 x.1.0 x.1.1.0 x.1.1.1) (word ▸ plain ▸ shear ▸ some name)
-body bytes (head.Question q) tokens =
-    as_made (λ x. command.Query (record { question = q; words = x.0; numbers = x.1.0; vectors = x.1.1 }))
+body bytes Head.Dimension tokens = as_made (λ n. Command.Dimension n) number
+body bytes Head.Nodes tokens = as_made (λ ns. Command.Nodes ns) (some name)
+body bytes Head.Alphabet tokens = as_made (λ ns. Command.Alphabet ns) (some name)
+body bytes Head.Topology tokens = topology bytes tokens
+body bytes Head.Only tokens = as_made (λ x. Command.Only x.0 x.1) (name ▸ some name)
+body bytes Head.Weights tokens = as_made (λ ns. Command.Weights ns) (some number)
+body bytes Head.Limits tokens = as_made (λ x. Command.Limits x.0 x.1.0 x.1.1) (number ▸ number ▸ number)
+body bytes Head.Rule tokens = as_made (λ x. Command.Rule x.0 x.1) (word ▸ formula)
+body bytes Head.Automaton tokens =
+    as_made (λ x. Command.Automaton x.0 x.1.0 x.1.1.1) (word ▸ each (case bytes) ▸ wanted bytes (codes "else") ▸ name)
+body bytes Head.Composition tokens = as_made (λ x. Command.Composition x.0 x.1.0 x.1.1) (word ▸ word ▸ word)
+body bytes Head.Configuration tokens = as_made (λ x. Command.Configuration x.0 x.1.0 x.1.1.0 x.1.1.1) (word ▸ plain ▸ shear ▸ some name)
+body bytes (Head.Question q) tokens =
+    as_made (λ x. Command.Query (record { question = q; words = x.0; numbers = x.1.0; vectors = x.1.1 }))
     (exactly (length (row q).names) word ▸ exactly (row q).numbers number ▸ listed (row q).lists)
 
 abbrev pub command_of : List ℕ → List Lexeme → Option Command

@@ -1,6 +1,6 @@
 -- Forms: how one of a kind is written, and how it is read; and forms put together.
 use Rattle.std.specs.Prelude.{◌≡◌, ℕ, ◌≤◌, List, [], ◌∷◌, ◌++◌, length, ◌==◌, nat_le, Bool, Option, Some, None, is_some, if◌then◌else◌}
-use Rattle.dd_written.specs.declared.lexeme.Lexeme.{Lexeme}
+use Rattle.dd_commands.specs.Tree.{Lexeme}
 use Rattle.dd_written.specs.reading.Readers.{◌>>=◌, Reader, many, ReadsAll}
 
 -- How one is written from some tokens to those behind it, what may follow it, and its reader.

@@ -2,17 +2,7 @@
 use denote.Enum.Bare.{sameb}
 use Rattle.std.specs.Prelude.{◌≡◌, List, ◌∷◌, ◌++◌, Bool, true, Option, Some, None, if◌then◌else◌}
 use Rattle.dd_written.specs.contracts.lexeme.Mark.{the_type}
-use Rattle.dd_written.specs.declared.lexeme.Mark.{Mark}
-use Rattle.dd_written.specs.declared.lexeme.Mark.TheVariants as mark
-use Rattle.dd_written.specs.declared.lexeme.Word.{Word}
-use Rattle.dd_written.specs.declared.lexeme.Number.{Number}
-use Rattle.dd_written.specs.declared.lexeme.Lexeme.{Lexeme}
-use Rattle.dd_written.specs.declared.lexeme.Lexeme.TheVariants as lexeme
-use Rattle.dd_written.specs.declared.tree.Name.{Name}
-use Rattle.dd_commands.specs.declared.command.Entry.{Entry}
-use Rattle.dd_commands.specs.declared.command.Entry.TheVariants as entry
-use Rattle.dd_commands.specs.declared.command.Vector.{Vector}
-use Rattle.dd_commands.specs.declared.command.Edge.{Edge}
+use Rattle.dd_commands.specs.Tree.{Mark, Word, Number, Lexeme, Name, Entry, Vector, Edge}
 use Rattle.dd_written.specs.Formulas.{name_lexeme}
 use Rattle.dd_written.specs.reading.Readers.{Reader}
 use Rattle.dd_written.specs.reading.Atoms.{name_at}
@@ -20,25 +10,25 @@ use Rattle.dd_commands.specs.Commands.{entry_lexeme, vector_text, is_plain, seco
 use Rattle.dd_commands.specs.reading.Forms.{Form, by_text, single, as_made, ◌▸◌, such, each}
 
 abbrev pub word_at : Reader Word
-word_at (lexeme.Word w ∷ tokens) = Some (w, tokens)
+word_at (Lexeme.Word w ∷ tokens) = Some (w, tokens)
 word_at tokens = None
 
 abbrev pub word : Form Word
-word = single lexeme.Word word_at
+word = single Lexeme.Word word_at
 
 abbrev pub number_at : Reader Number
-number_at (lexeme.Number n ∷ tokens) = Some (n, tokens)
+number_at (Lexeme.Number n ∷ tokens) = Some (n, tokens)
 number_at tokens = None
 
 abbrev pub number : Form Number
-number = single lexeme.Number number_at
+number = single Lexeme.Number number_at
 
 abbrev pub name : Form Name
 name = single name_lexeme name_at
 
 abbrev pub entry_at : Reader Entry
-entry_at (lexeme.Number n ∷ tokens) = Some (entry.Number n, tokens)
-entry_at (lexeme.Negative n ∷ tokens) = Some (entry.Negative n, tokens)
+entry_at (Lexeme.Number n ∷ tokens) = Some (Entry.Number n, tokens)
+entry_at (Lexeme.Negative n ∷ tokens) = Some (Entry.Negative n, tokens)
 entry_at tokens = None
 
 -- whether two marks are one
@@ -46,17 +36,17 @@ unfoldable pub same_mark : Mark → Mark → Bool
 same_mark = sameb the_type
 
 abbrev pub mark_at : Mark → Reader (Unit {0})
-mark_at wanted (lexeme.Mark m ∷ tokens) = if same_mark m wanted then Some (tt, tokens) else None
+mark_at wanted (Lexeme.Mark m ∷ tokens) = if same_mark m wanted then Some (tt, tokens) else None
 mark_at wanted tokens = None
 
 -- a mark that is wanted
 abbrev pub sign : Mark → Form (Unit {0})
-sign wanted = single (λ x. lexeme.Mark wanted) (mark_at wanted)
+sign wanted = single (λ x. Lexeme.Mark wanted) (mark_at wanted)
 
 -- ---- vectors
 
 abbrev pub vector_parts : Form Vector
-vector_parts = as_made (λ x. record { entries = x.1.0 }) (sign mark.OpenList ▸ each (single entry_lexeme entry_at) ▸ sign mark.CloseList)
+vector_parts = as_made (λ x. record { entries = x.1.0 }) (sign Mark.OpenList ▸ each (single entry_lexeme entry_at) ▸ sign Mark.CloseList)
 
 abbrev pub vector : Form Vector
 vector = by_text vector_text vector_parts.item
@@ -82,7 +72,7 @@ shear = record {
 abbrev pub edge_parts : Form Edge
 edge_parts =
     as_made (λ x. record { label = x.1.0; from = x.1.1.0; offset = x.1.1.1.0; to = x.1.1.1.1.0 })
-    (sign mark.Open ▸ word ▸ name ▸ vector ▸ name ▸ sign mark.Close)
+    (sign Mark.Open ▸ word ▸ name ▸ vector ▸ name ▸ sign Mark.Close)
 
 abbrev pub edge : Form Edge
 edge = by_text edge_text edge_parts.item

@@ -1,6 +1,6 @@
 use Rattle.std.proofs.Common.{ap, subst, ◌-◌}
 use Rattle.std.specs.Prelude.{is_some}
-use Rattle.dd_written.specs.declared.fault.ReadFault.{ReadFault}
+use Rattle.dd_commands.specs.Tree.{ReadFault}
 use Rattle.dd_written.specs.reading.Readers.{Fails}
 use Rattle.dd_written.specs.lemmas.Rounds.{goes_on, stops}
 use Rattle.dd_commands.specs.reading.Forms.{at_most}

@@ -1,6 +1,6 @@
 use Rattle.std.proofs.Common.{sym, ap, subst, ◌∙◌, arith}
 use Rattle.std.proofs.lemmas.Grind.{common_steps}
-use Rattle.dd_written.specs.declared.fault.ReadFault.{ReadFault}
+use Rattle.dd_commands.specs.Tree.{ReadFault}
 use Rattle.dd_written.specs.reading.Readers.{Fails}
 use Rattle.dd_written.specs.lemmas.Options.{nothing_some}
 use Rattle.dd_commands.specs.Heads.{next_stage}

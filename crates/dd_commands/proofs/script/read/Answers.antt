@@ -1,6 +1,6 @@
 use Rattle.std.proofs.Common.{ℕ, List, length, sym, ap, subst, ◌∙◌, arith}
 use Rattle.std.specs.Prelude.{All}
-use Rattle.dd_written.specs.declared.lexeme.Lexeme.{Lexeme}
+use Rattle.dd_commands.specs.Tree.{Lexeme}
 use Rattle.dd_commands.specs.Scripts.{AreWritten, IsWritten}
 use Rattle.dd_commands.proofs.Texts.{all_written, ascii_text}
 use Rattle.dd_commands.proofs.script.read.Goals as goal
