@@ -42,6 +42,7 @@ fn part_length(tokens: &[Lexeme]) -> usize
 }
 
 /// The part behind a mark, and what follows it.
+#[tactic(auto, using(crate::proofs::Parts::cut, crate::proofs::Parts::behind_mark))]
 fn next_part(tokens: &[Lexeme]) -> (&[Lexeme], &[Lexeme])
     requires some { 0 < length tokens.now }
     requires at_mark { (parts tokens.now).0 ≡ [] }
@@ -102,6 +103,7 @@ fn command_from(
     Ok(Written { tokens, command })
 }
 
+#[tactic(auto, using(crate::proofs::Parts::something_before, crate::proofs::Parts::starts, crate::proofs::Parts::nothing_before, crate::proofs::Parts::all_read))]
 fn commands(alloc: Global, bytes: &[u8], tokens: &[Lexeme]) -> Result<Items<Written>, SyntaxFault>
     requires { length tokens.now ≤ most_script + 1 }
     ensures { Told bytes.now tokens.now result }
@@ -133,6 +135,7 @@ fn commands(alloc: Global, bytes: &[u8], tokens: &[Lexeme]) -> Result<Items<Writ
 }
 
 /// The syntax tree of a script of at most 1,048,576 bytes, or the first command that is not well formed.
+#[tactic(auto, using(crate::proofs::Texts::ascii_text))]
 pub fn read(alloc: Global, bytes: &[u8]) -> Result<Syntax, SyntaxFault>
     requires { length bytes.now ≤ most_script }
     ensures tells { Tells bytes.now result }
