@@ -1,10 +1,13 @@
 -- The parts of a script, cut one after the other, and what is known of those that were read.
-use Rattle.std.proofs.Common.{◌≡◌, ℕ, suc, ◌+◌, ◌<◌, ◌≤◌, List, [], ◌∷◌, ◌++◌, length, take, drop, refl, sym, ap, subst, ◌∙◌, append_assoc, arith}
+use Rattle.std.proofs.Common.{◌≡◌, ℕ, suc, ◌+◌, ◌<◌, ◌≤◌, List, [], ◌∷◌, ◌++◌, length, take, drop, Some, None, refl, sym, ap, subst, ◌∙◌, append_assoc, arith}
 use Rattle.std.specs.List.{prefix_len}
 use Rattle.std.proofs.lemmas.List.{append-nil}
+use Rattle.dd_written.specs.reading.Laws.{FormulasAreRead}
+use Rattle.dd_written.specs.lemmas.Options.{nothing_some}
 use Rattle.dd_commands.specs.Tree.{Mark, Lexeme, Written}
-use Rattle.dd_commands.specs.Scripts.{parts, stage_after, MayStand, AreCommands, IsFirstBad, AreWritten, IsBadCommand}
-use Rattle.dd_commands.specs.reading.Parts.{is_inside}
+use Rattle.dd_commands.specs.Scripts.{parts, stage_after, AreCommands, IsFirstBad, AreWritten, IsBadCommand}
+use Rattle.dd_commands.specs.reading.Parts.{is_inside, written_of}
+use Rattle.dd_commands.specs.lemmas.Whole.{written_sound, written_again}
 
 one_more : (n : ℕ) → 1 + n ≡ suc n
 one_more n = omega arith
@@ -39,22 +42,23 @@ starts bytes tokens clean = record {
       subst (IsBadCommand bytes tokens) count first;
 }
 
-pub goes_on : (bytes : List ℕ) (tokens rest part next : List Lexeme) (cs new : List Written) (number from after : ℕ) (c : Written) → Sofar bytes tokens rest cs number from → (parts rest).1 ≡ part ∷ (parts next).1 → (parts next).0 ≡ [] → MayStand bytes from part c → new ≡ cs ++ c ∷ [] → after ≡ stage_after c
-    → Sofar bytes tokens next new (number + 1) after
-goes_on bytes tokens rest part next cs new number from after c s cut clean is pushed behind = record {
-  at_mark = clean;
-  written = λ ws are.
-      let others : AreCommands bytes (stage_after c) (parts next).1 ws = subst (λ (n : ℕ). AreCommands bytes n (parts next).1 ws) behind are in
-      let all : AreWritten bytes tokens (cs ++ c ∷ ws) = s.written (c ∷ ws) (subst (λ (ps : List (List Lexeme)). AreCommands bytes from ps (c ∷ ws)) (sym cut) (is, others)) in
-      rw (pushed, append_assoc cs (c ∷ []) ws) all;
-  bad = λ place b.
-      let other : IsFirstBad bytes (stage_after c) (parts next).1 place = subst (λ (n : ℕ). IsFirstBad bytes n (parts next).1 place) behind b in
-      let count : number + suc (suc place) ≡ number + 1 + suc place = omega arith in
-      subst (IsBadCommand bytes tokens) count (s.bad (suc place) (subst (λ (ps : List (List Lexeme)). IsFirstBad bytes from ps (suc place)) (sym cut) (c, is, other)));
-}
+module _ (law : FormulasAreRead) where
+  pub goes_on : (bytes : List ℕ) (tokens rest part next : List Lexeme) (cs new : List Written) (number from after : ℕ) (c : Written) → Sofar bytes tokens rest cs number from → (parts rest).1 ≡ part ∷ (parts next).1 → (parts next).0 ≡ []
+      → written_of bytes from part ≡ Some c → new ≡ cs ++ c ∷ [] → after ≡ stage_after c → Sofar bytes tokens next new (number + 1) after
+  goes_on bytes tokens rest part next cs new number from after c s cut clean is pushed behind =
+      let may = written_sound law bytes from part c is in record {
+        at_mark = clean;
+        written = λ ws are.
+            let all : AreWritten bytes tokens (cs ++ c ∷ ws) = s.written (c ∷ ws) (rw cut (may, subst (λ (n : ℕ). AreCommands bytes n (parts next).1 ws) behind are)) in
+            rw (pushed, append_assoc cs (c ∷ []) ws) all;
+        bad = λ place b.
+            let count : number + suc (suc place) ≡ number + 1 + suc place = omega arith in
+            subst (IsBadCommand bytes tokens) count (s.bad (suc place) (rw cut (c, may, subst (λ (n : ℕ). IsFirstBad bytes n (parts next).1 place) behind b)));
+      }
 
-pub is_fault : (bytes : List ℕ) (tokens rest part next : List Lexeme) (cs : List Written) (number from : ℕ) → Sofar bytes tokens rest cs number from → (parts rest).1 ≡ part ∷ (parts next).1 → ((c : Written) → MayStand bytes from part c → ⊥) → IsBadCommand bytes tokens (number + 1)
-is_fault bytes tokens rest part next cs number from s cut none = s.bad 0 (subst (λ (ps : List (List Lexeme)). IsFirstBad bytes from ps 0) (sym cut) none)
+  pub is_fault : (bytes : List ℕ) (tokens rest part next : List Lexeme) (cs : List Written) (number from : ℕ) → Sofar bytes tokens rest cs number from → (parts rest).1 ≡ part ∷ (parts next).1 → written_of bytes from part ≡ None
+      → IsBadCommand bytes tokens (number + 1)
+  is_fault bytes tokens rest part next cs number from s cut none = s.bad 0 (rw cut (λ w may. nothing_some w (sym none ∙ written_again law bytes from part w may)))
 
 pub all_read : (bytes : List ℕ) (tokens rest : List Lexeme) (cs : List Written) (number from : ℕ) → Sofar bytes tokens rest cs number from → length rest ≤ 0 → AreWritten bytes tokens cs
 all_read bytes tokens [] cs number from s none = subst (AreWritten bytes tokens) (append-nil cs) (s.written [] tt)

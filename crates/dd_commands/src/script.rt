@@ -103,7 +103,7 @@ fn command_from(
     Ok(Written { tokens, command })
 }
 
-#[tactic(auto, using(crate::proofs::Parts::something_before, crate::proofs::Parts::starts, crate::proofs::Parts::nothing_before, crate::proofs::Parts::all_read))]
+#[tactic(auto, using(crate::proofs::Parts::starts, crate::proofs::Parts::nothing_before, crate::proofs::Parts::something_before))]
 fn commands(alloc: Global, bytes: &[u8], tokens: &[Lexeme]) -> Result<Items<Written>, SyntaxFault>
     requires { length tokens.now ≤ most_script + 1 }
     ensures { Told bytes.now tokens.now result }
