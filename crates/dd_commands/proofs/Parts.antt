@@ -1,7 +1,6 @@
 -- The parts of a script, cut one after the other, and what is known of those that were read.
-use Rattle.std.proofs.Common.{◌≡◌, ℕ, suc, ◌+◌, ◌<◌, ◌≤◌, List, [], ◌∷◌, ◌++◌, length, take, drop, Some, None, refl, sym, ap, subst, ◌∙◌, append_assoc, arith}
+use Rattle.std.proofs.Common.{◌≡◌, ℕ, suc, ◌+◌, ◌<◌, ◌≤◌, List, [], ◌∷◌, ◌++◌, length, take, drop, Some, None, refl, sym, ap, subst, ◌∙◌, append_assoc, arith, append-nil}
 use Rattle.std.specs.List.{prefix_len}
-use Rattle.std.proofs.lemmas.List.{append-nil}
 use Rattle.dd_written.specs.reading.Laws.{FormulasAreRead}
 use Rattle.dd_written.specs.lemmas.Options.{nothing_some}
 use Rattle.dd_commands.specs.Tree.{Mark, Lexeme, Written}

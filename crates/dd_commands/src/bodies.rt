@@ -50,14 +50,6 @@ fn topology<'a>(from: Source, tokens: &'a [Lexeme]) -> Read<'a, Command>
     }
 }
 
-fn only<'a>(from: Source, tokens: &'a [Lexeme]) -> Read<'a, Command>
-    ensures { Gives (λ x. (x.0, x.1.now)) result ((body from.entry.bytes.now head.Only tokens.now).item tokens.now) }
-{
-    let (node, rest) = read_name(tokens)?;
-    let (symbols, rest) = some(from, rest)?;
-    Ok((Command::Only { node, symbols }, rest))
-}
-
 fn limits<'a>(from: Source, tokens: &'a [Lexeme]) -> Read<'a, Command>
     ensures { Gives (λ x. (x.0, x.1.now)) result ((body from.entry.bytes.now head.Limits tokens.now).item tokens.now) }
 {
@@ -70,14 +62,6 @@ fn limits<'a>(from: Source, tokens: &'a [Lexeme]) -> Read<'a, Command>
         pivots,
     };
     Ok((limits, rest))
-}
-
-fn rule<'a>(from: Source, tokens: &'a [Lexeme]) -> Read<'a, Command>
-    ensures { Gives (λ x. (x.0, x.1.now)) result ((body from.entry.bytes.now head.Rule tokens.now).item tokens.now) }
-{
-    let (name, rest) = Word::read(from, tokens)?;
-    let (formula, rest) = Formula::read(from, rest)?;
-    Ok((Command::Rule { name, formula }, rest))
 }
 
 fn automaton<'a>(from: Source, tokens: &'a [Lexeme]) -> Read<'a, Command>
@@ -138,13 +122,21 @@ fn body<'a>(from: Source, head: Head, tokens: &'a [Lexeme]) -> Read<'a, Command>
             Ok((Command::Alphabet { names }, rest))
         }
         Head::Topology => topology(from, tokens),
-        Head::Only => only(from, tokens),
+        Head::Only => {
+            let (node, rest) = read_name(tokens)?;
+            let (symbols, rest) = some(from, rest)?;
+            Ok((Command::Only { node, symbols }, rest))
+        }
         Head::Weights => {
             let (weights, rest) = some(from, tokens)?;
             Ok((Command::Weights { weights }, rest))
         }
         Head::Limits => limits(from, tokens),
-        Head::Rule => rule(from, tokens),
+        Head::Rule => {
+            let (name, rest) = Word::read(from, tokens)?;
+            let (formula, rest) = Formula::read(from, rest)?;
+            Ok((Command::Rule { name, formula }, rest))
+        }
         Head::Automaton => automaton(from, tokens),
         Head::Composition => composition(from, tokens),
         Head::Configuration => configuration(from, tokens),

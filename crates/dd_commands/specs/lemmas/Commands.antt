@@ -1,7 +1,5 @@
 -- What is read of commands is written so, and what is written so is read.
-use Rattle.std.proofs.Common.{◌≡◌, ℕ, ◌≤◌, ◌<◌, List, [], ◌∷◌, ◌++◌, map, length, Some, None, refl, sym, ap, subst, ◌∙◌, arith, codes, bytes_eq, inl, inr}
-use Rattle.std.specs.List.{flat_map}
-use Rattle.std.proofs.lemmas.List.{append-nil, length-append}
+use Rattle.std.proofs.Common.{◌≡◌, ℕ, ◌≤◌, ◌<◌, List, [], ◌∷◌, ◌++◌, map, length, Some, None, refl, sym, ap, subst, ◌∙◌, arith, codes, bytes_eq, inl, inr, flat_map, append-nil, length-append}
 use Rattle.std.proofs.lemmas.Slice.Eq.{bytes_eq-Decides}
 use Rattle.dd_commands.specs.Tree.{Kind, Lexeme, Name, Lists, Question, Vector, Edge, Case, Command, Head}
 use Rattle.dd_written.specs.Values.{word_text}
@@ -112,11 +110,7 @@ module _ (law : FormulasAreRead) where
   }
 
   case_shorter : (bytes : List ℕ) (c : Case) (tokens rest : List Lexeme) → IsCase bytes c tokens rest → length rest < length tokens
-  case_shorter bytes c tokens rest is =
-      let one = ap length is.when.2 in
-      let two = ap length is.give.2 in
-      let both = length-append (text c.condition) is.middle in
-      omega (arith, one, two, both)
+  case_shorter bytes c tokens rest is = omega (arith, ap length is.when.2, ap length is.give.2, length-append (text c.condition) is.middle)
 
   -- ---- bodies
 

@@ -1,9 +1,5 @@
 -- What is read of a form is written so, and what is written so is read; and this holds of forms put together.
-use Rattle.std.proofs.Common.{◌≡◌, ℕ, ◌+◌, ◌≤◌, ◌<◌, List, [], ◌∷◌, ◌++◌, map, length, Option, Some, None, refl, sym, ap, subst, ◌∙◌, arith, inl, inr}
-use Rattle.std.specs.Prelude.{Bool, true, is_some, ◌==◌, nat_le, if◌then◌else◌}
-use Rattle.std.specs.List.{flat_map}
-use Rattle.std.proofs.lemmas.Bool.{eqb-true, eq-eqb, leb-true, le-leb}
-use Rattle.std.proofs.lemmas.List.{append-nil, length-append}
+use Rattle.std.proofs.Common.{◌≡◌, ℕ, ◌+◌, ◌≤◌, ◌<◌, List, [], ◌∷◌, ◌++◌, map, length, Option, Some, None, refl, sym, ap, subst, ◌∙◌, arith, inl, inr, Bool, true, is_some, ◌==◌, nat_le, if◌then◌else◌, flat_map, eqb-true, eq-eqb, leb-true, le-leb, append-nil, length-append}
 use Rattle.std.proofs.lemmas.List.Concat.{flat_map_single}
 use Rattle.dd_commands.specs.Tree.{Lexeme}
 use Rattle.dd_written.specs.reading.Readers.{◌>>=◌, Reader, ReadsAll}

@@ -1,8 +1,6 @@
 -- A part is read exactly where it is a command that may stand there.
-use Rattle.std.proofs.Common.{◌≡◌, ℕ, List, Some, None, refl, sym, ap, subst, inl, inr}
-use Rattle.std.specs.Prelude.{nat_lt}
+use Rattle.std.proofs.Common.{◌≡◌, ℕ, List, Some, None, refl, sym, ap, subst, inl, inr, nat_lt, ltb-false, le-ltb}
 use Rattle.std.specs.List.{list_all}
-use Rattle.std.proofs.lemmas.Bool.{ltb-false, le-ltb}
 use Rattle.dd_commands.specs.Tree.{Lexeme, Command, Written}
 use Rattle.dd_written.specs.reading.Readers.{◌>>=◌}
 use Rattle.dd_written.specs.reading.Laws.{FormulasAreRead}

@@ -1,6 +1,5 @@
 -- Reading commands.
-use Rattle.std.specs.Prelude.{◌≡◌, ℕ, List, [], ◌∷◌, ◌++◌, length, true, Option, Some, bytes_eq, codes}
-use Rattle.std.specs.List.{find}
+use Rattle.std.specs.Prelude.{◌≡◌, ℕ, List, [], ◌∷◌, ◌++◌, length, true, Option, Some, bytes_eq, codes, find}
 use Rattle.dd_commands.specs.Tree.{Kind, Lexeme, Formula, Lists, Question, Vector, Case, Command, Head}
 use Rattle.dd_written.specs.Values.{word_text}
 use Rattle.dd_written.specs.Formulas.{text, IsWrittenFormula}

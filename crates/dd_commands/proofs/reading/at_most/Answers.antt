@@ -1,7 +1,4 @@
-use Rattle.std.proofs.Common.{ap, subst, ◌-◌}
-use Rattle.std.specs.Prelude.{is_some}
-use Rattle.dd_commands.specs.Tree.{ReadFault}
-use Rattle.dd_written.specs.reading.Readers.{Fails}
+use Rattle.std.proofs.Common.{ap, ◌-◌, is_some}
 use Rattle.dd_written.specs.lemmas.Rounds.{goes_on, stops}
 use Rattle.dd_commands.specs.reading.Forms.{at_most}
 use Rattle.dd_commands.proofs.reading.at_most.Goals as goal
@@ -9,7 +6,7 @@ use Rattle.dd_commands.proofs.reading.at_most.Goals as goal
 pub returns-in-Err-Syntax : goal.returns-in-Err-Syntax
 returns-in-Err-Syntax g c =
     let item = g.T.FromTokens.item c.args.from.bytes.now in
-    let none = subst (λ (f : ReadFault). Fails f (item c.loop.rest.now)) c.in-Err-Syntax.field-0-is c.in-Err-Syntax.ensures in
+    let none = rw c.in-Err-Syntax.field-0-is at c.in-Err-Syntax.ensures in
     stops (λ ts. is_some (item ts)) item c.loop.items (c.args.most - c.loop.counter) c.loop.rest.now (at_most item c.args.most c.args.tokens.now) (ap (λ o. is_some o) none) c.loop.invariant
 
 pub loop-preserved : goal.loop-preserved
