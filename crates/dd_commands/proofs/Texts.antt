@@ -13,11 +13,10 @@ use Rattle.dd_commands.specs.Scripts.{parts, is_whole, stage_after, AreCommands,
 
 pub all_written : (bytes : List ℕ) (from : ℕ) (ps : List (List Lexeme)) (ws : List Written) → AreCommands bytes from ps ws → All (IsWritten bytes) ws × (list_all (list_all is_whole) ps ≡ true)
 all_written bytes from [] [] each = (All-nil (IsWritten bytes), refl)
-all_written bytes from [] (w ∷ ws) each = absurd each
-all_written bytes from (p ∷ ps) [] each = absurd each
 all_written bytes from (p ∷ ps) (w ∷ ws) each =
     let more = all_written bytes (stage_after w) ps ws each.1 in
     (All-cons (IsWritten bytes) w ws (record { is = subst (IsCommand bytes w.command) (sym each.0.tokens) each.0.is }) more.0, and_from _ _ each.0.whole more.1)
+all_written bytes from ps ws each = absurd search
 
 -- no token is stray where none is in a part
 abbrev with_end : Bool → List Lexeme → List Lexeme
