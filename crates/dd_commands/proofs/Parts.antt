@@ -1,5 +1,5 @@
 -- The parts of a script, cut one after the other, and what is known of those that were read.
-use Rattle.std.proofs.Common.{◌≡◌, ℕ, suc, ◌+◌, ◌<◌, ◌≤◌, List, [], ◌∷◌, ◌++◌, length, take, drop, Some, None, refl, sym, ap, subst, ◌∙◌, append_assoc, arith, append-nil}
+use Rattle.std.proofs.Common.{◌≡◌, ℕ, suc, ◌+◌, ◌<◌, ◌≤◌, List, [], ◌∷◌, ◌++◌, length, take, drop, Some, None, zero-add, refl, sym, ap, subst, ◌∙◌, append_assoc, arith, append-nil}
 use Rattle.std.specs.List.{prefix_len}
 use Rattle.dd_written.specs.reading.Laws.{FormulasAreRead}
 use Rattle.dd_written.specs.lemmas.Options.{nothing_some}
@@ -8,9 +8,6 @@ use Rattle.dd_commands.specs.Scripts.{parts, stage_after, AreCommands, IsFirstBa
 use Rattle.dd_commands.specs.reading.Parts.{is_inside, written_of}
 use Rattle.dd_commands.specs.lemmas.Whole.{written_sound, written_again}
 
-one_more : (n : ℕ) → 1 + n ≡ suc n
-one_more n = omega arith
-
 -- what stands before the first mark, the parts behind it, and that these begin at a mark
 pub cut : (tokens : List Lexeme) → let n = prefix_len is_inside tokens in
     ((parts tokens).0 ≡ take n tokens) × ((parts tokens).1 ≡ (parts (drop n tokens)).1) × ((parts (drop n tokens)).0 ≡ [])
@@ -18,7 +15,8 @@ cut [] = (refl, refl, refl)
 cut (Lexeme.Mark Mark.Percent ∷ tokens) = (refl, refl, refl)
 cut (t ∷ tokens) =
     let rest = cut tokens in
-    rw (one_more (prefix_len is_inside tokens)) (ap (λ (ts : List Lexeme). t ∷ ts) rest.0, rest.1, rest.2)
+    let more : 1 + prefix_len is_inside tokens ≡ suc (prefix_len is_inside tokens) = omega arith in
+    rw more (ap (λ (ts : List Lexeme). t ∷ ts) rest.0, rest.1, rest.2)
 
 pub behind_mark : (tokens : List Lexeme) → 0 < length tokens → (parts tokens).0 ≡ [] → (parts tokens).1 ≡ (parts (drop 1 tokens)).0 ∷ (parts (drop 1 tokens)).1
 behind_mark [] some none = absurd (omega (arith, some))
@@ -35,10 +33,7 @@ pub starts : (bytes : List ℕ) (tokens : List Lexeme) → (parts tokens).0 ≡ 
 starts bytes tokens clean = record {
   at_mark = clean;
   written = λ ws are. (clean, are);
-  bad = λ place is.
-      let first : IsBadCommand bytes tokens (suc place) = (clean, is) in
-      let count : suc place ≡ 0 + suc place = omega arith in
-      subst (IsBadCommand bytes tokens) count first;
+  bad = λ place is. rw zero-add (clean, is);
 }
 
 module _ (law : FormulasAreRead) where

@@ -2,10 +2,9 @@
 use Rattle.std.proofs.Common.{◌≡◌, ℕ, ◌+◌, ◌≤◌, ◌<◌, List, [], ◌∷◌, ◌++◌, map, length, Option, Some, None, refl, sym, ap, subst, ◌∙◌, arith, inl, inr, Bool, true, is_some, ◌==◌, nat_le, if◌then◌else◌, flat_map, eqb-true, eq-eqb, leb-true, le-leb, append-nil, length-append}
 use Rattle.std.proofs.lemmas.List.Concat.{flat_map_single}
 use Rattle.dd_commands.specs.Tree.{Lexeme}
-use Rattle.dd_written.specs.reading.Readers.{◌>>=◌, Reader, ReadsAll}
-use Rattle.dd_written.specs.lemmas.Options.{bind_some, some_is, nothing_some, chosen}
-use Rattle.dd_written.specs.lemmas.Many.{many_sound, many_again, few_items, ByText, texts_read, texts_stand}
-use Rattle.dd_commands.specs.reading.Forms.{Form, as_made, ◌▸◌, tested, such, at_most, each, some, exactly, alone}
+pub use Rattle.dd_written.specs.lemmas.Options.{bind_some, some_is, nothing_some, chosen}
+pub use Rattle.dd_written.specs.lemmas.Many.{many_sound, many_again, few_items, ByText, texts_read, texts_stand}
+use Rattle.dd_commands.specs.reading.Forms.{◌>>=◌, Reader, ReadsAll, Form, as_made, ◌▸◌, tested, such, at_most, each, some, exactly, alone}
 
 pub record Reads {X : Type 0} (f : Form X) : Type 0 where
   pub written : (tokens : List Lexeme) (x : X) (rest : List Lexeme) → f.item tokens ≡ Some (x, rest) → f.writes x tokens rest

@@ -5,12 +5,11 @@ use Rattle.dd_written.specs.contracts.lexeme.Mark.{the_type}
 use Rattle.dd_commands.specs.Tree.{Mark, Word, Number, Lexeme, Name, Entry, Vector, Edge}
 use Rattle.dd_written.specs.Formulas.{name_lexeme}
 use Rattle.dd_written.specs.reading.Atoms.{name_at}
-use Rattle.dd_written.specs.lemmas.Options.{some_is, nothing_some, chosen}
 use Rattle.dd_written.specs.lemmas.Names.{name_sound, name_again}
 use Rattle.dd_commands.specs.Commands.{entry_lexeme, vector_text, is_plain, edge_text}
 use Rattle.dd_commands.specs.reading.Forms.{single}
 use Rattle.dd_commands.specs.reading.Vectors.{word_at, word, number_at, number, name, entry_at, same_mark, mark_at, sign, vector_parts, vector, plain, or_none, shear, edge_parts, edge}
-use Rattle.dd_commands.specs.lemmas.Forms.{Reads, made_reads, then_reads, such_reads, each_reads, shorter, singles_read, singles_stand}
+use Rattle.dd_commands.specs.lemmas.Forms.{some_is, nothing_some, chosen, Reads, made_reads, then_reads, such_reads, each_reads, shorter, singles_read, singles_stand}
 
 -- ---- single tokens
 

@@ -1,7 +1,7 @@
 -- Forms: how one of a kind is written, and how it is read; and forms put together.
 use Rattle.std.specs.Prelude.{◌≡◌, ℕ, ◌≤◌, List, [], ◌∷◌, ◌++◌, length, ◌==◌, nat_le, Bool, Option, Some, None, is_some, if◌then◌else◌}
 use Rattle.dd_commands.specs.Tree.{Lexeme}
-use Rattle.dd_written.specs.reading.Readers.{◌>>=◌, Reader, many, ReadsAll}
+pub use Rattle.dd_written.specs.reading.Readers.{◌>>=◌, Reader, many, ReadsAll}
 
 -- How one is written from some tokens to those behind it, what may follow it, and its reader.
 pub record Form (X : Type 0) : Type 1 where

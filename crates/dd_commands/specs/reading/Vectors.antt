@@ -4,10 +4,9 @@ use Rattle.std.specs.Prelude.{◌≡◌, List, ◌∷◌, ◌++◌, Bool, true, 
 use Rattle.dd_written.specs.contracts.lexeme.Mark.{the_type}
 use Rattle.dd_commands.specs.Tree.{Mark, Word, Number, Lexeme, Name, Entry, Vector, Edge}
 use Rattle.dd_written.specs.Formulas.{name_lexeme}
-use Rattle.dd_written.specs.reading.Readers.{Reader}
 use Rattle.dd_written.specs.reading.Atoms.{name_at}
 use Rattle.dd_commands.specs.Commands.{entry_lexeme, vector_text, is_plain, second_vector_text, IsPlainShear, edge_text}
-use Rattle.dd_commands.specs.reading.Forms.{Form, by_text, single, as_made, ◌▸◌, such, each}
+use Rattle.dd_commands.specs.reading.Forms.{Reader, Form, by_text, single, as_made, ◌▸◌, such, each}
 
 abbrev pub word_at : Reader Word
 word_at (Lexeme.Word w ∷ tokens) = Some (w, tokens)
