@@ -39,8 +39,8 @@ use Rattle.dd_faults.specs.Order.{when, over}
 use Rattle.dd_faults.specs.Names.{missing, number_in, is_variable, unknown_variable}
 use Rattle.dd_faults.specs.Formulas.{unknown_label, term_faults, names_symbol, side_faults, relation_faults, atom_faults, ball_faults, quantifier_faults, faults_step, formula_faults}
 use Rattle.dd_faults.specs.Sound.{IsSound}
-use Rattle.dd_meanings.specs.declared.atoms.Side.{Side}
-use Rattle.dd_meanings.specs.declared.atoms.Side.TheVariants as right
+use Rattle.dd_meanings.specs.declared.atoms.Operand.{Operand}
+use Rattle.dd_meanings.specs.declared.atoms.Operand.TheVariants as operand
 use Rattle.dd_meanings.specs.Formulas.{label_of, term_of, side_of, equal_of, not_equal_of, said_of, atom_of, ball_of, implied_of, iff_behind, joined_of, quantified_of, formula_step, formula_of}
 use Rattle.dd_meanings.specs.making.Parts.{IsFormulaOf}
 use Rattle.dd_faults.specs.lemmas.Nothing.{both_nil, within}
@@ -90,9 +90,9 @@ module _ (x : Context) (same : x.known.setting.topology.nodes ≡ length x.known
     TermFits t = term_fits x.known.setting.topology (length scope + 1) t ≡ true
 
     -- what stands on the right, a symbol or a term
-    abbrev SideFits : Side → Type 0
-    SideFits (right.Symbol n) = symbol n ≡ true
-    SideFits (right.Term u) = TermFits u
+    abbrev SideFits : Operand → Type 0
+    SideFits (operand.Symbol n) = symbol n ≡ true
+    SideFits (operand.Term u) = TermFits u
 
     side_is : (r : Comparand) → side_faults x scope r ≡ [] → SideFits (side_of x scope r)
     side_is (side.Number n) none = symbol_is (name.Number n) none
@@ -101,9 +101,9 @@ module _ (x : Context) (same : x.known.setting.topology.nodes ≡ length x.known
       | inr e ↦ let unknown : term_faults x scope u ≡ [] = rw e at none in rw e (term_is u unknown)
     ]
 
-    equal_is : (t : Term) (s : Side) → TermFits t → SideFits s → FitsHere (equal_of t s) × FitsHere (not_equal_of t s)
-    equal_is t (right.Symbol n) h h' = (rolled (Formula-F.Symbol t n) (length scope + 1) 0 (and_from _ _ h h') (omega arith), rolled (Formula-F.NotSymbol t n) (length scope + 1) 0 (and_from _ _ h h') (omega arith))
-    equal_is t (right.Term u) h h' = (rolled (Formula-F.Same t u) (length scope + 1) 0 (and_from _ _ h h') (omega arith), rolled (Formula-F.NotSame t u) (length scope + 1) 0 (and_from _ _ h h') (omega arith))
+    equal_is : (t : Term) (s : Operand) → TermFits t → SideFits s → FitsHere (equal_of t s) × FitsHere (not_equal_of t s)
+    equal_is t (operand.Symbol n) h h' = (rolled (Formula-F.Symbol t n) (length scope + 1) 0 (and_from _ _ h h') (omega arith), rolled (Formula-F.NotSymbol t n) (length scope + 1) 0 (and_from _ _ h h') (omega arith))
+    equal_is t (operand.Term u) h h' = (rolled (Formula-F.Same t u) (length scope + 1) 0 (and_from _ _ h h') (omega arith), rolled (Formula-F.NotSame t u) (length scope + 1) 0 (and_from _ _ h h') (omega arith))
 
     said_is : (t : Term) (r : Relation) → TermFits t → relation_faults x scope r ≡ [] → FitsHere (said_of x scope t r)
     said_is t (relation.Equal r) h none = (equal_is t (side_of x scope r) h (side_is r none)).0

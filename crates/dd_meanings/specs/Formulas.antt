@@ -24,8 +24,8 @@ use Rattle.dd_expansion.specs.declared.formulas.Formula.TheOpen.{Formula-F}
 use Rattle.dd_faults.specs.declared.context.Context.{Context}
 use Rattle.dd_faults.specs.Names.{number_in, variable_of}
 use Rattle.dd_faults.specs.Formulas.{names_symbol}
-use Rattle.dd_meanings.specs.declared.atoms.Side.{Side}
-use Rattle.dd_meanings.specs.declared.atoms.Side.TheVariants as right
+use Rattle.dd_meanings.specs.declared.atoms.Operand.{Operand}
+use Rattle.dd_meanings.specs.declared.atoms.Operand.TheVariants as operand
 
 -- the number of a word that is a variable
 abbrev pub variable_number : List ℕ → List Word → Word → ℕ
@@ -38,17 +38,17 @@ abbrev pub term_of : Context → List Word → WrittenTerm → Term
 term_of x scope t = record { variable = variable_number x.text scope t.first; moves = map (label_of x) t.moves }
 
 -- what stands on the right of `=` and `!=`: a symbol, or a term
-abbrev pub side_of : Context → List Word → Comparand → Side
-side_of x scope (side.Number n) = right.Symbol (number_in x.text x.known.setting.symbols (name.Number n))
-side_of x scope (side.Term u) = if names_symbol x.text scope u then right.Symbol (number_in x.text x.known.setting.symbols (name.Word u.first)) else right.Term (term_of x scope u)
+abbrev pub side_of : Context → List Word → Comparand → Operand
+side_of x scope (side.Number n) = operand.Symbol (number_in x.text x.known.setting.symbols (name.Number n))
+side_of x scope (side.Term u) = if names_symbol x.text scope u then operand.Symbol (number_in x.text x.known.setting.symbols (name.Word u.first)) else operand.Term (term_of x scope u)
 
-abbrev pub equal_of : Term → Side → Formula
-equal_of t (right.Symbol n) = roll-Formula (Formula-F.Symbol t n)
-equal_of t (right.Term u) = roll-Formula (Formula-F.Same t u)
+abbrev pub equal_of : Term → Operand → Formula
+equal_of t (operand.Symbol n) = roll-Formula (Formula-F.Symbol t n)
+equal_of t (operand.Term u) = roll-Formula (Formula-F.Same t u)
 
-abbrev pub not_equal_of : Term → Side → Formula
-not_equal_of t (right.Symbol n) = roll-Formula (Formula-F.NotSymbol t n)
-not_equal_of t (right.Term u) = roll-Formula (Formula-F.NotSame t u)
+abbrev pub not_equal_of : Term → Operand → Formula
+not_equal_of t (operand.Symbol n) = roll-Formula (Formula-F.NotSymbol t n)
+not_equal_of t (operand.Term u) = roll-Formula (Formula-F.NotSame t u)
 
 -- what is said of a term
 abbrev pub said_of : Context → List Word → Term → Relation → Formula

@@ -75,7 +75,7 @@ fn symbol(context: &Context, name: Name) -> u32
 
 /// What stands on the right of `=` and `!=`.
 #[derive(Debug, Drop)]
-pub(crate) enum Side {
+pub(crate) enum Operand {
     Symbol(u32),
     Term(Term),
 }
@@ -85,38 +85,38 @@ fn side(
     context: &Context,
     scope: &[Word],
     side: &Comparand,
-) -> Result<Side, AllocError>
+) -> Result<Operand, AllocError>
     requires { length scope.now ≤ 64 }
     ensures { IfOk result (λ s. s ≡ side_of context.now scope.now side.now) }
 {
     match side {
-        Comparand::Number(number) => Ok(Side::Symbol(symbol(context, Name::Number(*number)))),
+        Comparand::Number(number) => Ok(Operand::Symbol(symbol(context, Name::Number(*number)))),
         Comparand::Term(written) => {
             if names_symbol(context, scope, written) {
-                return Ok(Side::Symbol(symbol(context, Name::Word(written.first))));
+                return Ok(Operand::Symbol(symbol(context, Name::Word(written.first))));
             }
-            Ok(Side::Term(term(alloc, context, scope, written)?))
+            Ok(Operand::Term(term(alloc, context, scope, written)?))
         }
     }
 }
 
 /// A term has the symbol, or that of the term, on the right.
-fn equal(term: Term, side: Side) -> Formula
+fn equal(term: Term, side: Operand) -> Formula
     ensures { result ≡ equal_of term side }
 {
     match side {
-        Side::Symbol(symbol) => Formula::Symbol { term, symbol },
-        Side::Term(right) => Formula::Same { left: term, right },
+        Operand::Symbol(symbol) => Formula::Symbol { term, symbol },
+        Operand::Term(right) => Formula::Same { left: term, right },
     }
 }
 
 /// A term has another symbol than what stands on the right.
-fn not_equal(term: Term, side: Side) -> Formula
+fn not_equal(term: Term, side: Operand) -> Formula
     ensures { result ≡ not_equal_of term side }
 {
     match side {
-        Side::Symbol(symbol) => Formula::NotSymbol { term, symbol },
-        Side::Term(right) => Formula::NotSame { left: term, right },
+        Operand::Symbol(symbol) => Formula::NotSymbol { term, symbol },
+        Operand::Term(right) => Formula::NotSame { left: term, right },
     }
 }
 
