@@ -1,6 +1,6 @@
 -- What is written of formulas is read, unless what follows would go on.
 use Rattle.std.proofs.Common.{◌≡◌, ℕ, zero, suc, ◌-◌, ◌+◌, ◌≤◌, ◌<◌, Bool, true, false, List, [], ◌∷◌, ◌++◌, map, length, drop, Option, Some, refl, sym, ap, subst, ◌∙◌, append_assoc, arith}
-use Rattle.std.specs.Prelude.{nat_le, nat_lt, ◌&&◌}
+use Rattle.std.specs.Prelude.{nat_le, ◌&&◌}
 use Rattle.std.specs.List.{flat_map, list_all, AllByRecursion}
 use Rattle.std.proofs.lemmas.Bool.{and_parts, ltb-true, le-leb, leb-true}
 use Rattle.std.proofs.lemmas.Bool.Decides.{nat_tests}
@@ -22,7 +22,7 @@ use Rattle.dd_written.specs.declared.tree.Join.TheVariants as join
 use Rattle.dd_written.specs.declared.tree.Formula.{Formula, roll-Formula}
 use Rattle.dd_written.specs.declared.tree.Formula.TheFolds.{map-Formula, ind-Formula}
 use Rattle.dd_written.specs.declared.tree.Formula.TheOpen.{Formula-F}
-use Rattle.dd_written.specs.Formulas.{text, stands, stands_step, tree_depth, chain_depth, move_text, relation_text, atom_text, ball_text, capital, sign, join_rank, IsWrittenFormula}
+use Rattle.dd_written.specs.Formulas.{text, stands, tree_depth, chain_depth, move_text, relation_text, atom_text, ball_text, capital, sign, join_rank, IsWrittenFormula}
 use Rattle.dd_written.specs.reading.Readers.{Reader, ◌>>=◌}
 use Rattle.dd_written.specs.reading.Atoms.{moves_at, relation_at, leaf_at, balls_at, quantifier_end, quantifier_at}
 use Rattle.dd_written.specs.reading.Formulas.{begins, more_at, chain_at, join_at, level_at, quantified_at, group_end, nested_at, unary_at, formula_at, ends}
@@ -107,10 +107,6 @@ length_more j (f ∷ fs) rest =
     let parted : length ((text f ++ more_text j fs) ++ rest) ≡ length (text f) + length (more_text j fs ++ rest) = ap length (append_assoc (text f) (more_text j fs) rest) ∙ length-append (text f) (more_text j fs ++ rest) in
     omega (arith, parted, length_more j fs rest)
 
--- one part alone
-alone : (j : Join) (part : Reader Formula) (tokens : List Lexeme) (f : Formula) (rest : List Lexeme) → part tokens ≡ Some (f, rest) → begins j rest ≡ false → chain_at j part tokens ≡ Some (f, rest)
-alone j part tokens f rest e none = rw (e, none) refl
-
 chain_again : (j : Join) (part : Reader Formula) (place : ℕ) (f g : Formula) (gs : List Formula) (rest : List Lexeme) → AllByRecursion (ReadBy part place) (f ∷ g ∷ gs) → place < join_rank j → begins j rest ≡ false → ends place rest ≡ true
     → chain_at j part (text (roll-Formula (Formula-F.Chain j (f ∷ g ∷ gs))) ++ rest) ≡ Some (roll-Formula (Formula-F.Chain j (f ∷ g ∷ gs)), rest)
 chain_again j part place f g gs rest each lt none e =
@@ -128,7 +124,7 @@ level_to unary tokens f rest zero low place eq le e r =
     subst (λ (p : ℕ). level_at unary p tokens ≡ Some (f, rest)) same r
 level_to unary tokens f rest (suc more) low place eq le e r =
     let none = ends_begins (join_at (suc low)) place rest (omega (arith, rank_join low (omega (arith, eq, le)), eq)) e in
-    level_to unary tokens f rest more (suc low) place (omega (arith, eq)) le e (alone (join_at (suc low)) (level_at unary low) tokens f rest r none)
+    level_to unary tokens f rest more (suc low) place (omega (arith, eq)) le e (rw (r, none) refl)
 
 -- ---- formulas
 

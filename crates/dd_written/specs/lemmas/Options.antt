@@ -1,5 +1,6 @@
 -- Steps that may give nothing.
 use Rattle.std.proofs.Common.{◌≡◌, Bool, true, false, cond, ◌⊎◌, inl, inr, Option, Some, None, IfSome, refl}
+pub use Rattle.std.proofs.lemmas.Option.{same_Some as some_is, none-some as nothing_some}
 use Rattle.dd_written.specs.reading.Readers.{◌>>=◌}
 
 -- the value of a step that did not fail
@@ -12,18 +13,6 @@ pub followed : {A B : Type 0} (r : Option A) (f : A → Option B) (P : A → Typ
 followed (Some x) f P Q h step = step x h
 followed None f P Q h step = tt
 
-abbrev given : {A : Type 0} → A → Option A
-given x = Some x
-
-pub some_is : {A : Type 0} (x y : A) → given x ≡ given y → x ≡ y
-some_is x y e = cc
-
 pub chosen : {A : Type 0} (b : Bool) (x y z : A) → cond b x y ≡ z → ((b ≡ true) × (x ≡ z)) ⊎ ((b ≡ false) × (y ≡ z))
 chosen true x y z e = inl (refl, e)
 chosen false x y z e = inr (refl, e)
-
-abbrev nothing : {A : Type 0} → Option A
-nothing = None
-
-pub nothing_some : {A : Type 0} (x : A) → nothing {A = A} ≡ Some x → ⊥
-nothing_some x e = absurd cc
