@@ -27,6 +27,7 @@ fn is_allowed(context: &Context, node: u32, name: Name) -> bool
 }
 
 /// Notes the names of no symbol, and the symbols that their nodes do not allow. The nodes stand innermost.
+#[tactic(auto, using(crate::proofs::Nodes::nodes))]
 fn symbols(context: &Context, written: &[Name], found: &mut Option<Fault>)
     requires { HasSets context.now.known }
     ensures { found.new ≡ noted found.old (symbol_faults context.now 0 written.now) }

@@ -31,6 +31,7 @@ pub(crate) trait Keyed {
 }
 
 /// Notes the first that is given twice. More items than any script has are taken for want of memory.
+#[tactic(auto, using(crate::proofs::Repeats::repeats))]
 pub(crate) fn note_twice<T: Keyed>(
     alloc: Global,
     text: &Text,
