@@ -1,9 +1,9 @@
 -- The numbers, the strips and the vectors of questions without a fault.
 use Rattle.std.proofs.Common.{◌≡◌, ◌≤◌, ◌+◌, ℕ, zero, suc, false, List, [], ◌∷◌, length, map, get_or, ◌∙◌, arith}
-use Rattle.std.specs.Prelude.{nat_lt, slice_get}
+use Rattle.std.specs.Prelude.{slice_get}
 use Rattle.std.specs.List.{All, list_any, flat_map}
 use Rattle.std.specs.Option.{option_map_or}
-use Rattle.std.proofs.lemmas.Bool.{eqb-true, or_parts, ltb-false}
+use Rattle.std.proofs.lemmas.Bool.{or_parts, ltb-false}
 use Rattle.std.proofs.lemmas.List.{length-map}
 use Rattle.std.proofs.lemmas.List.Folds.{list_all-map, list_any_none}
 use Rattle.std.proofs.lemmas.List.Sums.{list_all-from_AllPass}
@@ -13,11 +13,8 @@ use Rattle.dd_written.specs.Values.{written_value}
 use Rattle.dd_commands.specs.declared.table.Lists.TheVariants as lists
 use Rattle.dd_commands.specs.declared.command.Entry.{Entry}
 use Rattle.dd_commands.specs.declared.command.Vector.{Vector}
-use Rattle.dd_faults.specs.declared.fault.Limit.TheVariants as limit
 use Rattle.dd_faults.specs.declared.context.Context.{Context}
-use Rattle.dd_faults.specs.Order.{over}
-use Rattle.dd_faults.specs.Repeats.{twice_vectors}
-use Rattle.dd_faults.specs.Commands.{dimension_of, entry_value, is_far, radius_faults, is_no_strip, strip_faults, vector_faults, list_faults}
+use Rattle.dd_faults.specs.Commands.{dimension_of, is_far, radius_faults, is_no_strip, strip_faults, vector_faults, list_faults}
 use Rattle.dd_faults.specs.lemmas.Nothing.{parts, both_nil, within, all_where}
 use Rattle.dd_faults.specs.lemmas.Periods.{entry_at, no_entry}
 use Rattle.dd_query.specs.Vectors.{place_of}

@@ -1,17 +1,12 @@
 -- The words of a question by their places.
-use Rattle.std.proofs.Common.{◌≡◌, ◌<◌, ℕ, zero, suc, List, [], ◌∷◌, Option, Some, None, length, map, refl, subst, arith}
-use Rattle.std.specs.Prelude.{bytes_eq, is_some, not, unwrap_or, slice_index, slice_get}
+use Rattle.std.proofs.Common.{◌≡◌, ◌<◌, ℕ, zero, suc, List, [], ◌∷◌, Some, length, map, subst, arith}
+use Rattle.std.specs.Prelude.{slice_index, slice_get}
 use Rattle.std.specs.List.{zip, flat_map}
-use Rattle.std.proofs.lemmas.List.Quantifiers.{position-Some}
 use Rattle.dd_written.specs.declared.lexeme.Word.{Word}
-use Rattle.dd_written.specs.declared.tree.Name.{Name}
 use Rattle.dd_written.specs.declared.tree.Name.TheVariants as name
-use Rattle.dd_written.specs.Values.{name_text}
 use Rattle.dd_commands.specs.declared.table.Role.{Role}
-use Rattle.dd_faults.specs.declared.fault.Fault.TheVariants as fault
 use Rattle.dd_faults.specs.declared.context.Context.{Context}
-use Rattle.dd_faults.specs.Order.{when}
-use Rattle.dd_faults.specs.Names.{place_of_name, missing, number_in, named}
+use Rattle.dd_faults.specs.Names.{number_in, named}
 use Rattle.dd_faults.specs.Commands.{word_faults}
 use Rattle.dd_query.specs.Queries.{number_of_word}
 use Rattle.dd_faults.specs.lemmas.Nothing.{both_nil, parts}
