@@ -8,7 +8,7 @@ ghost use Rattle.dd_commands.specs.reading.Commands.{case, topology, body, comma
 use crate::command::{Case, Command};
 use crate::head::Head;
 use crate::keywords::behind;
-use crate::reading::{FromTokens, Read, Source, alone, each, some};
+use crate::reading::{FromTokens, Read, Source, each, some};
 use crate::requests::query;
 use crate::vectors::{plain, shear};
 use dd_topology::Kind;
@@ -150,5 +150,8 @@ pub(crate) fn command(from: Source, tokens: &[Lexeme]) -> Result<Boxed<Command>,
 {
     let (head, rest) = Head::read(from, tokens)?;
     let (command, rest) = body(from, head, rest)?;
-    alone(Boxed::new(from.alloc, command)?, rest)
+    match rest {
+        [] => Ok(Boxed::new(from.alloc, command)?),
+        _ => Err(ReadFault::Syntax),
+    }
 }

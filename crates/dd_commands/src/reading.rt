@@ -1,7 +1,7 @@
 //! What is read from the front of tokens, and one of a kind after the other.
 ghost use Rattle.std.specs.Prelude.{◌≡◌, ℕ, List};
 ghost use Rattle.dd_written.specs.reading.Readers.{Gives, Reader};
-ghost use Rattle.dd_commands.specs.reading.Forms.{at_most, each_at, some_at, exactly_at, alone};
+ghost use Rattle.dd_commands.specs.reading.Forms.{at_most, each_at, some_at, exactly_at};
 
 use dd_values::Items;
 use dd_written::{Lexeme, ReadFault};
@@ -75,14 +75,4 @@ pub(crate) fn exactly<'a, T: FromTokens>(
         return Err(ReadFault::Syntax);
     }
     Ok((items, rest))
-}
-
-/// What was read, where nothing is left.
-pub(crate) fn alone<T: Drop>(read: T, rest: &[Lexeme]) -> Result<T, ReadFault>
-    ensures { Gives (λ x. x) result (alone read rest.now) }
-{
-    match rest {
-        [] => Ok(read),
-        _ => Err(ReadFault::Syntax),
-    }
 }
