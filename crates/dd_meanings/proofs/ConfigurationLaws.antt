@@ -72,23 +72,6 @@ entry_some bytes [] axis h = omega arith
 entry_some bytes (e ∷ es) zero h = grind arith
 entry_some bytes (e ∷ es) (suc axis) h = entry_some bytes es axis (some_factor (entry_value bytes e) (product bytes es) h)
 
--- a box that fits, and passes no limit
-record IsBox (x : Context) (periods : Vector) (shear : Option Vector) (count : ℕ) : Type 0 where
-  entries : length periods.entries ≡ dimension_of x.known
-  sheared : shear_fits (dimension_of x.known) shear ≡ true
-  size : product x.text periods.entries * length x.known.setting.nodes ≡ count
-  small : count ≤ 65536
-  less : shear_of x.text shear < period_at x.text periods 0
-
-box_is : (x : Context) (periods : Vector) (shear : Option Vector) (count : ℕ) → box_faults x periods shear count ≡ [] → IsBox x periods shear count
-box_is x periods shear count none = record {
-  entries = grind (arith, common_steps);
-  sheared = grind (arith, common_steps);
-  size = grind (arith, common_steps);
-  small = grind (arith, common_steps);
-  less = grind (arith, common_steps);
-}
-
 no_shear : (bytes : List ℕ) (d : ℕ) (shear : Option Vector) → shear_fits d shear ≡ true → d < 2 → shear_of bytes shear ≡ 0
 no_shear bytes d None fits low = refl
 no_shear bytes d (Some v) fits low = grind (arith, common_steps)
@@ -97,13 +80,17 @@ module _ (x : Context) (called : Word) (periods : Vector) (shear : Option Vector
   named : symbol_faults x 0 ns ≡ []
   named = grind (arith, parts)
 
-  box : IsBox x periods shear (length ns)
-  box = box_is x periods shear (length ns) (grind (arith, parts))
+  box : box_faults x periods shear (length ns) ≡ []
+  box = grind (arith, parts)
+
+  entries : length periods.entries ≡ dimension_of x.known
+  entries = grind (arith, parts, box)
+
+  size : product x.text periods.entries * length x.known.setting.nodes ≡ length ns
+  size = grind (arith, parts, box)
 
   period_some : (axis : ℕ) → 1 ≤ period_at x.text periods axis
-  period_some axis =
-      let volume : 1 ≤ product x.text periods.entries = grind (arith, box.size, some) in
-      entry_some x.text periods.entries axis volume
+  period_some axis = let volume : 1 ≤ product x.text periods.entries = grind (arith, size, some) in entry_some x.text periods.entries axis volume
 
   count : length (map (symbol_of x) ns) ≡ length ns
   count = length-map ns (symbol_of x)
@@ -116,20 +103,20 @@ module _ (x : Context) (called : Word) (periods : Vector) (shear : Option Vector
       x_some = period_some 0;
       y_some = period_some 1;
       z_some = period_some 2;
-      y_unused = λ h. no_entry x.text periods.entries 1 (omega (arith, box.entries, h));
-      z_unused = λ h. no_entry x.text periods.entries 2 (omega (arith, box.entries, h));
-      shear_small = box.less;
-      shear_unused = no_shear x.text (dimension_of x.known) shear box.sheared;
+      y_unused = λ h. no_entry x.text periods.entries 1 (omega (arith, entries, h));
+      z_unused = λ h. no_entry x.text periods.entries 2 (omega (arith, entries, h));
+      shear_small = grind (arith, parts, box);
+      shear_unused = no_shear x.text (dimension_of x.known) shear (grind (arith, parts, box));
     };
     nodes_some = omega (arith, sound.setting.topology.grid.nodes);
     full =
-        count ∙ (sym box.size ∙ (ap (λ n. n * length x.known.setting.nodes) (volume_is x.text periods.entries (omega (arith, box.entries, sound.setting.topology.grid.dimension.1)))
+        count ∙ (sym size ∙ (ap (λ n. n * length x.known.setting.nodes) (volume_is x.text periods.entries (omega (arith, entries, sound.setting.topology.grid.dimension.1)))
         ∙ ap (λ n. period_at x.text periods 2 * period_at x.text periods 1 * period_at x.text periods 0 * n) (sym sound.setting.topology.nodes)));
   }
 
   pub is_periodic : (symbols : List ℕ) → symbols ≡ map (symbol_of x) ns → IsPeriodic (tile_with x periods shear symbols)
   is_periodic symbols made =
-      subst (λ (ss : List ℕ). IsPeriodic (tile_with x periods shear ss)) (sym made) (record { tile = is_tile; small = omega (arith, count, box.small) })
+      subst (λ (ss : List ℕ). IsPeriodic (tile_with x periods shear ss)) (sym made) (record { tile = is_tile; small = grind (arith, parts, box, count) })
 
   pub is_configuration : IsNew x called × IsConfigurationOf x.known.setting (tile_of x periods shear ns)
   is_configuration = (

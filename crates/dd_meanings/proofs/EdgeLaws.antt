@@ -1,33 +1,31 @@
 -- Edges with numbers in place of names: they are edges of a topology, and no label has two of them from one node.
 use Rattle.std.proofs.Common.{◌≡◌, ℕ, ◌<◌, Bool, true, false, List, [], ◌∷◌, ◌++◌, length, map, take, slice_index_or, Some, Contains, refl, sym, ap, ◌∙◌, subst, inl, inr, ◌⊎◌, arith}
-use Rattle.std.specs.Prelude.{if◌then◌else◌, bytes_eq}
+use Rattle.std.specs.Prelude.{if◌then◌else◌, bytes_eq, is_some}
 use Rattle.std.specs.List.{All, list_any, list_all, flat_map}
 use Rattle.std.specs.Option.{option_map}
-use Rattle.std.proofs.lemmas.Bool.{and_from, lt-ltb}
 use Rattle.std.proofs.lemmas.Grind.{common_steps}
 use Rattle.std.proofs.lemmas.List.{length-map, take-map}
 use Rattle.std.proofs.lemmas.List.Folds.{list_all-map}
 use Rattle.std.proofs.lemmas.List.Sums.{list_all-from_AllPass}
 use Rattle.std.proofs.lemmas.List.Elements.{All-contains, All-contains_itself, All-take, Contains-append_left, Contains-push, Contains-get_or}
 use Rattle.std.proofs.lemmas.Option.{slice_get_within, slice_get-map, slice_get-get_or}
-use Rattle.dd_written.specs.declared.tree.Name.TheVariants as name
 use Rattle.dd_written.specs.Values.{name_text}
 use Rattle.dd_commands.specs.declared.command.Edge.{Edge as Written}
 use Rattle.dd_commands.specs.declared.command.Command.TheVariants as command
 use Rattle.dd_topology.specs.declared.edge.Edge.{Edge}
 use Rattle.dd_topology.specs.Topology.{starts_alike}
+use Rattle.dd_topology.specs.Naming.{number_of}
 use Rattle.dd_topology.specs.Grid.{is_edge, IsFirstTwice}
 use Rattle.dd_lattice.specs.lemmas.ListLaws.{Contains-nil, Contains-cons_cases, Contains-map, Contains-from_map}
 use Rattle.dd_topology.specs.lemmas.ListLaws.{some_passes}
-use Rattle.dd_faults.specs.declared.fault.Limit.TheVariants as limit
 use Rattle.dd_faults.specs.declared.context.Context.{Context}
 use Rattle.dd_faults.specs.Repeats.{edge_key, twice_label, twice_labelled}
-use Rattle.dd_faults.specs.Commands.{dimension_of, has_entries, is_far, edge_faults, faults_of}
+use Rattle.dd_faults.specs.Commands.{dimension_of, is_far, edge_faults, faults_of}
 use Rattle.dd_faults.specs.lemmas.Repeats.{once}
 use Rattle.dd_query.specs.lemmas.Offsets.{offset_is}
 use Rattle.dd_meanings.specs.Topologies.{first_seen_names, label_text, labels_of, edge_of}
 use Rattle.dd_meanings.proofs.Nothing.{parts, none_at}
-use Rattle.dd_meanings.proofs.NameLaws.{stands, is_named, text_below, same_name}
+use Rattle.dd_meanings.proofs.NameLaws.{stands, is_found, same_name}
 
 -- ---- labels in the order in which they are first seen
 
@@ -50,42 +48,24 @@ seen_all seen (n ∷ ns) m (inr h) =
 
 -- ---- the edges of a command without a fault
 
--- the label of an edge is among the labels, its nodes are among the nodes, and it leads no further than 4 along an axis of Z^d
-record HasEnds (x : Context) (labels : List (List ℕ)) (e : Written) : Type 0 where
-  label : Contains labels (label_text x.text e)
-  from : Contains x.known.setting.nodes (name_text x.text e.from)
-  to : Contains x.known.setting.nodes (name_text x.text e.to)
-  offset : has_entries (dimension_of x.known) e.offset ≡ true
-  close : is_far x.text e.offset ≡ false
-
-ends_are : (x : Context) (labels : List (List ℕ)) (e : Written) → edge_faults x e ≡ [] → Contains labels (label_text x.text e) → HasEnds x labels e
-ends_are x labels e h label = record {
-  label = label;
-  from = is_named x.text x.known.setting.nodes e.from (grind (arith, parts));
-  to = is_named x.text x.known.setting.nodes e.to (grind (arith, parts));
-  offset = grind (arith, parts);
-  close = grind (arith, parts);
-}
-
 pub close_edge : (x : Context) (e : Written) → edge_faults x e ≡ [] → is_far x.text e.offset ≡ false
 close_edge x e h = grind (arith, common_steps)
 
-one_edge : (x : Context) (labels : List (List ℕ)) (e : Written) → HasEnds x labels e → is_edge (dimension_of x.known) (length x.known.setting.nodes) (length labels) (edge_of x.text labels x.known.setting.nodes e) ≡ true
-one_edge x labels e h =
-    let nodes = x.known.setting.nodes in
-    let label = lt-ltb _ _ (text_below labels (label_text x.text e) h.label) in
-    let from = lt-ltb _ _ (text_below nodes (name_text x.text e.from) h.from) in
-    let to = lt-ltb _ _ (text_below nodes (name_text x.text e.to) h.to) in
-    and_from _ _ (and_from _ _ (and_from _ _ label from) to) (offset_is x.text (dimension_of x.known) e.offset h.close h.offset)
+-- it has no fault, and its label is among the labels
+abbrev IsLabelled : Context → List (List ℕ) → Written → Type 0
+IsLabelled x labels e = (edge_faults x e ≡ []) × (is_some (number_of labels (label_text x.text e)) ≡ true)
+
+one_edge : (x : Context) (labels : List (List ℕ)) (e : Written) → IsLabelled x labels e → is_edge (dimension_of x.known) (length x.known.setting.nodes) (length labels) (edge_of x.text labels x.known.setting.nodes e) ≡ true
+one_edge x labels e (h, label) =
+    let offset = offset_is x.text (dimension_of x.known) e.offset (grind (arith, parts)) (grind (arith, parts)) in
+    grind (arith, parts)
 
 -- edges with one label and one first node have one key
-same_key : (x : Context) (labels : List (List ℕ)) (e f : Written) → HasEnds x labels e → HasEnds x labels f
+same_key : (x : Context) (labels : List (List ℕ)) (e f : Written) → IsLabelled x labels e → IsLabelled x labels f
     → starts_alike (edge_of x.text labels x.known.setting.nodes e) (edge_of x.text labels x.known.setting.nodes f) ≡ true → edge_key x.text e ≡ edge_key x.text f
-same_key x labels e f h g alike =
-    let bytes = x.text in
-    let nodes = x.known.setting.nodes in
-    let label : label_text bytes e ≡ label_text bytes f = same_name labels (label_text bytes e) (label_text bytes f) h.label g.label (grind (arith, common_steps)) in
-    let from : name_text bytes e.from ≡ name_text bytes f.from = same_name nodes (name_text bytes e.from) (name_text bytes f.from) h.from g.from (grind (arith, common_steps)) in
+same_key x labels e f (h, label) (g, label') alike =
+    let one = same_name labels (label_text x.text e) (label_text x.text f) label label' (grind (arith, common_steps)) in
+    let other = same_name x.known.setting.nodes (name_text x.text e.from) (name_text x.text f.from) (grind (arith, parts)) (grind (arith, parts)) (grind (arith, common_steps)) in
     (cc)
 
 module _ (x : Context) (es : List Written) (h : faults_of x (command.Edges es) ≡ []) where
@@ -101,16 +81,15 @@ module _ (x : Context) (es : List Written) (h : faults_of x (command.Edges es) �
   none_twice : twice_labelled x.text es ≡ []
   none_twice = grind (arith, parts)
 
-  have_ends : All (HasEnds x labels) es
-  have_ends i d lt =
+  are_labelled : All (IsLabelled x labels) es
+  are_labelled i d lt =
       let e = slice_index_or es i d in
-      ends_are x labels e (none_at (edge_faults x) es i d lt each_none)
-      (seen_all [] (map (label_text x.text) es) (label_text x.text e) (inr (Contains-map (label_text x.text) es e (Contains-get_or es i d lt))))
+      (none_at (edge_faults x) es i d lt each_none, is_found labels _ (seen_all [] (map (label_text x.text) es) (label_text x.text e) (inr (Contains-map (label_text x.text) es e (Contains-get_or es i d lt)))))
 
   pub are_edges : list_all (is_edge (dimension_of x.known) (length x.known.setting.nodes) (length labels)) (map numbered es) ≡ true
   are_edges =
       let fits = is_edge (dimension_of x.known) (length x.known.setting.nodes) (length labels) in
-      list_all-map fits numbered es ∙ list_all-from_AllPass (λ e. fits (numbered e)) es (λ i d lt. one_edge x labels (slice_index_or es i d) (have_ends i d lt))
+      list_all-map fits numbered es ∙ list_all-from_AllPass (λ e. fits (numbered e)) es (λ i d lt. one_edge x labels (slice_index_or es i d) (are_labelled i d lt))
 
   pub not_twice : (label : ℕ) → IsFirstTwice (map numbered es) label → ⊥
   not_twice label twice =
@@ -125,5 +104,5 @@ module _ (x : Context) (es : List Written) (h : faults_of x (command.Edges es) �
       let here : twice.edge ≡ numbered e = cc stands in
       let alike : starts_alike (numbered e) (numbered f) ≡ true = ap (λ (y : Edge). starts_alike y (numbered f)) (sym here) ∙ (ap (λ (y : Edge). starts_alike twice.edge y) (sym other.2) ∙ found.2) in
       let there : Contains es f = All-contains (Contains es) (take i es) f (All-take (Contains es) i es (All-contains_itself es)) other.1 in
-      let same = same_key x labels e f (have_ends i f lt) (All-contains (HasEnds x labels) es f have_ends there) alike in
+      let same = same_key x labels e f (are_labelled i f lt) (All-contains (IsLabelled x labels) es f are_labelled there) alike in
       once (edge_key x.text) twice_label es i f none_twice lt (subst (Contains (map (edge_key x.text) (take i es))) (sym same) (Contains-map (edge_key x.text) (take i es) f other.1))

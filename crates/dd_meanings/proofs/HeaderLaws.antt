@@ -1,30 +1,24 @@
 -- What the commands of the header have where they have no fault.
-use Rattle.std.proofs.Common.{◌≡◌, ℕ, ◌≤◌, ◌<◌, Bool, true, false, cond, eqb, List, [], length, map, slice_index_or, refl, sym, ◌∙◌, subst, arith}
+use Rattle.std.proofs.Common.{◌≡◌, ℕ, ◌≤◌, ◌<◌, List, [], ◌∷◌, length, map, refl, ◌∙◌, subst, arith}
 use Rattle.std.specs.Prelude.{min}
-use Rattle.std.specs.List.{All, flat_map}
-use Rattle.std.proofs.lemmas.Bool.{eqb-true}
+use Rattle.std.specs.List.{flat_map}
 use Rattle.std.proofs.lemmas.Grind.{common_steps}
 use Rattle.std.proofs.lemmas.List.{length-map}
-use Rattle.std.proofs.lemmas.List.Elements.{All-map, All-get_or}
+use Rattle.std.proofs.lemmas.List.Elements.{All-map}
 use Rattle.dd_written.specs.declared.lexeme.Number.{Number}
 use Rattle.dd_written.specs.declared.tree.Name.{Name}
 use Rattle.dd_written.specs.Values.{written_value, name_text}
 use Rattle.dd_commands.specs.declared.command.Command.TheVariants as command
-use Rattle.dd_values.specs.Ranges.{AreLimits}
-use Rattle.dd_topology.specs.declared.builtin.Kind.TheVariants as kind
 use Rattle.dd_topology.specs.Naming.{AreDistinct}
-use Rattle.dd_topology.specs.Grid.{Grid, IsGrid, grid}
-use Rattle.dd_topology.specs.Builtin.{grid_of}
-use Rattle.dd_faults.specs.declared.fault.Limit.TheVariants as limit
+use Rattle.dd_topology.specs.Grid.{Grid, IsGrid}
 use Rattle.dd_faults.specs.declared.context.Context.{Context}
 use Rattle.dd_faults.specs.Names.{missing, number_in}
-use Rattle.dd_faults.specs.Commands.{weight_faults, passes_limits, faults_of}
+use Rattle.dd_faults.specs.Commands.{weight_faults, faults_of}
 use Rattle.dd_faults.specs.Sound.{IsGridOf, AreWeights}
-use Rattle.dd_meanings.specs.Meanings.{limits}
 use Rattle.dd_meanings.specs.Topologies.{default_grid}
 use Rattle.dd_meanings.specs.Definitions.{symbol_of}
 use Rattle.dd_meanings.specs.Sound.{AreNames, IsSymbolRestriction}
-use Rattle.dd_faults.specs.lemmas.Nothing.{within}
+use Rattle.dd_faults.specs.lemmas.Nothing.{both_nil}
 use Rattle.dd_meanings.proofs.Nothing.{parts, all_where}
 use Rattle.dd_meanings.proofs.NameLaws.{number_below}
 
@@ -33,18 +27,9 @@ use Rattle.dd_meanings.proofs.NameLaws.{number_below}
 pub dimension_is : (x : Context) (n : Number) (d : ℕ) → faults_of x (command.Dimension n) ≡ [] → d ≡ min (written_value x.text n) 4294967295 → d ≡ written_value x.text n
 dimension_is x n d h is = grind (arith, common_steps)
 
-pub value_next : (bytes : List ℕ) (ns : List Number) (i : ℕ) (d : Number) (m : ℕ) → All (λ n. written_value bytes n ≤ 1000) ns → i < length ns → m ≡ min (written_value bytes (slice_index_or ns i d)) 4294967295 → m ≡ written_value bytes (slice_index_or ns i d)
-value_next bytes ns i d m light lt is = let small = All-get_or (λ n. written_value bytes n ≤ 1000) ns i d lt light in omega (arith, is, small)
-
 -- the default topology has the nodes that it is asked for
 default_nodes : (d n : ℕ) → (default_grid d n).nodes ≡ n
-default_nodes d n = by (eqb n 1) (eqb d 1) (eqb d 3) refl
-  where
-    by : (a b c : Bool) → eqb n 1 ≡ a → (cond a (grid_of (cond b kind.Line (cond c kind.Cube kind.Square))) (grid d n [] [])).nodes ≡ n
-    by true true c e = sym (eqb-true n 1 e)
-    by true false true e = sym (eqb-true n 1 e)
-    by true false false e = sym (eqb-true n 1 e)
-    by false b c e = refl
+default_nodes d n = grind (arith, parts)
 
 pub default_sound : (d n : ℕ) (g : Grid) → IsGrid g → g ≡ default_grid d n → IsGridOf n (default_grid d n)
 default_sound d n g sound is = record { grid = subst IsGrid is sound; nodes = default_nodes d n }
@@ -75,22 +60,23 @@ restriction_is x node symbols some h =
 
 -- ---- weights and limits
 
+-- no weight without a fault is cut
+pub uncut : (x : Context) (ns : List Number) → flat_map (weight_faults x) ns ≡ [] → map (λ n. min (written_value x.text n) 4294967295) ns ≡ map (written_value x.text) ns
+uncut x [] none = refl
+uncut x (n ∷ ns) none =
+    let both = both_nil (weight_faults x n) (flat_map (weight_faults x) ns) none in
+    let here : min (written_value x.text n) 4294967295 ≡ written_value x.text n = grind (arith, common_steps) in
+    rw (here, uncut x ns both.1) refl
+
 module _ (x : Context) (ns : List Number) (h : faults_of x (command.Weights ns) ≡ []) where
-  pub weights_light : All (λ n. written_value x.text n ≤ 1000) ns
-  weights_light =
-      let none : flat_map (weight_faults x) ns ≡ [] = grind (arith, parts) in
-      all_where (λ n. written_value x.text n ≤ 1000) (weight_faults x) (λ n light. grind (arith, common_steps)) ns none
+  none : flat_map (weight_faults x) ns ≡ []
+  none = grind (arith, parts)
+
+  pub values_are : map (λ n. min (written_value x.text n) 4294967295) ns ≡ map (written_value x.text) ns
+  values_are = uncut x ns none
 
   pub weights_are : AreWeights (length x.known.setting.symbols) (map (written_value x.text) ns)
   weights_are =
       let many : length ns ≡ length x.known.setting.symbols = grind (arith, parts) in
-      record { each = length-map ns (written_value x.text) ∙ many; light = All-map (λ w. w ≤ 1000) (written_value x.text) ns weights_light }
-
-pub limits_sound : (x : Context) (radius period pivots : Number) → faults_of x (command.Limits radius period pivots) ≡ [] →
-    AreLimits (limits (written_value x.text radius) (written_value x.text period) (written_value x.text pivots))
-limits_sound x radius period pivots h =
-    let r = written_value x.text radius in
-    let p = written_value x.text period in
-    let v = written_value x.text pivots in
-    let passes : passes_limits r p v ≡ false = within (passes_limits r p v) limit.Limits h in
-    record { radius = grind (arith, common_steps); period = (grind (arith, common_steps), grind (arith, common_steps)); pivots = grind (arith, common_steps) }
+      let light = all_where (λ n. written_value x.text n ≤ 1000) (weight_faults x) (λ n light. grind (arith, common_steps)) ns none in
+      record { each = length-map ns (written_value x.text) ∙ many; light = All-map (λ w. w ≤ 1000) (written_value x.text) ns light }

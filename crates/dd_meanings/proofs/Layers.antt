@@ -1,12 +1,9 @@
 -- The meaning of a formula, from those of its parts; which parts have no fault, and how deep they are.
-use Rattle.std.proofs.Common.{◌≡◌, ℕ, ◌+◌, ◌≤◌, ◌<◌, List, [], ◌∷◌, ◌++◌, map, length, slice_index_or, refl, sym, ap, subst, ◌∙◌, append_assoc, arith}
-use Rattle.std.specs.Prelude.{nat_lt}
-use Rattle.std.specs.List.{All, flat_map}
-use Rattle.std.proofs.lemmas.List.{length-append}
+use Rattle.std.proofs.Common.{◌≡◌, ℕ, ◌+◌, ◌≤◌, ◌<◌, List, [], ◌∷◌, ◌++◌, map, length, slice_index_or, sym, ap, subst, ◌∙◌, arith}
+use Rattle.std.specs.List.{All}
 use Rattle.std.proofs.lemmas.List.Elements.{All-nil, All-cons, All-get_or}
 use Rattle.std.proofs.lemmas.Simd.{map-map}
 use Rattle.dd_written.specs.declared.lexeme.Word.{Word}
-use Rattle.dd_written.specs.declared.tree.Name.TheVariants as name
 use Rattle.dd_written.specs.declared.tree.Ball.{Ball}
 use Rattle.dd_written.specs.declared.tree.Quantifier.{Quantifier}
 use Rattle.dd_written.specs.declared.tree.Join.{Join}
@@ -16,16 +13,10 @@ use Rattle.dd_written.specs.declared.tree.Formula.TheFolds.{fold-roll-Formula}
 use Rattle.dd_written.specs.declared.tree.Formula.TheOpen.{Formula-F as Written-F}
 use Rattle.dd_written.specs.Formulas.{tree_depth, tree_depth_step, chain_depth}
 use Rattle.dd_expansion.specs.declared.formulas.Formula.{Formula, roll-Formula}
+use Rattle.dd_expansion.specs.declared.formulas.Formula.TheVariants as meant
 use Rattle.dd_expansion.specs.declared.formulas.Formula.TheOpen.{Formula-F}
-use Rattle.dd_faults.specs.declared.fault.Fault.TheVariants as fault
-use Rattle.dd_faults.specs.declared.fault.Limit.TheVariants as limit
-use Rattle.dd_faults.specs.Order.{when, over}
-use Rattle.dd_faults.specs.Names.{is_variable}
 use Rattle.dd_faults.specs.declared.context.Context.{Context}
-use Rattle.dd_faults.specs.Formulas.{ball_faults, quantifier_faults, formula_faults}
 use Rattle.dd_meanings.specs.Formulas.{implied_of, joined_of, formula_step, formula_of}
-use Rattle.dd_faults.specs.lemmas.Nothing.{both_nil}
-use Rattle.dd_faults.specs.lemmas.Layers.{faults_quantified}
 
 pub formula_chain : (x : Context) (j : Join) (fs : List Written) (scope : List Word) → formula_of x (v.Chain j fs) scope ≡ joined_of j (map (λ f. formula_of x f scope) fs)
 formula_chain x j fs scope =
@@ -33,14 +24,10 @@ formula_chain x j fs scope =
     ∙ (ap (λ (h : List Word → Formula). h scope) (fold-roll-Formula (List Word → Formula) (formula_step x) (Written-F.Chain j fs)) ∙ ap (joined_of j) (map-map (λ (h : List Word → Formula). h scope) (formula_of x) fs))
 
 -- the last two parts may be joined first
-implied_last : (fs : List Formula) (f g : Formula) → implied_of (fs ++ f ∷ g ∷ []) ≡ implied_of (fs ++ roll-Formula (Formula-F.Implies f g) ∷ [])
-implied_last [] f g = refl
-implied_last (h ∷ []) f g = refl
+pub implied_last : (fs : List Formula) (f g : Formula) → implied_of (fs ++ f ∷ [] ++ g ∷ []) ≡ implied_of (fs ++ meant.Implies f g ∷ [])
+implied_last [] f g = meant.rolls-Implies f g
+implied_last (h ∷ []) f g = ap (λ (whole : Formula). roll-Formula (Formula-F.Implies h whole)) (meant.rolls-Implies f g)
 implied_last (h ∷ k ∷ fs) f g = ap (λ (whole : Formula). roll-Formula (Formula-F.Implies h whole)) (implied_last (k ∷ fs) f g)
-
--- one part more, in a loop from the last one back
-pub implied_next : (old new : List Formula) (f g : Formula) (total : Formula) → old ≡ new ++ f ∷ [] → implied_of (old ++ g ∷ []) ≡ total → implied_of (new ++ roll-Formula (Formula-F.Implies f g) ∷ []) ≡ total
-implied_next old new f g total popped so_far = sym (implied_last new f g) ∙ ap implied_of (sym (append_assoc new (f ∷ []) (g ∷ [])) ∙ ap (λ (fs : List Formula). fs ++ g ∷ []) (sym popped)) ∙ so_far
 
 -- how deep a formula is, from how deep its parts are
 pub depth_chain : (j : Join) (fs : List Written) → tree_depth (v.Chain j fs) ≡ chain_depth j (length (map tree_depth fs)) 0 (map tree_depth fs)
@@ -56,21 +43,5 @@ parts_shallow j n i k most (f ∷ fs) le = All-cons (λ f. k + tree_depth f ≤ 
 
 pub one_of_all : {X : Type 0} (P : X → Type 0) (xs : List X) (i : ℕ) (x : X) → i < length xs → x ≡ slice_index_or xs i x → All P xs → P x
 one_of_all P xs i x lt is all = subst P (sym is) (All-get_or P xs i x lt all)
-
--- where a quantifier has no fault, neither what stands before its body nor the body has one
-pub quantified_parts : (x : Context) (scope : List Word) (q : Quantifier) (w : Word) (balls : List Ball) (f : Written) → formula_faults x (v.Quantified q w balls f) scope ≡ []
-    → (quantifier_faults x scope w balls ≡ []) × (formula_faults x f (scope ++ w ∷ []) ≡ [])
-quantified_parts x scope q w balls f none = both_nil (quantifier_faults x scope w balls) (formula_faults x f (scope ++ w ∷ [])) (sym (faults_quantified x q w balls f scope) ∙ none)
-
--- the faults before the balls, and those of the balls
-pub balls_none : (x : Context) (scope : List Word) (w : Word) (balls : List Ball) → quantifier_faults x scope w balls ≡ [] → flat_map (ball_faults x scope) balls ≡ []
-balls_none x scope w balls none =
-    let again = when (is_variable x.text scope w) (fault.Twice (name.Word w)) in
-    let many = over (nat_lt 4 (length balls)) limit.Balls in
-    (both_nil many (flat_map (ball_faults x scope) balls) (both_nil again (many ++ flat_map (ball_faults x scope) balls) none).1).1
-
--- a scope with one variable more, in a body that is one less deep
-pub deeper : (scope inner : List Word) (w : Word) (d n : ℕ) → inner ≡ scope ++ w ∷ [] → d ≡ 1 + n → length scope + d ≤ 64 → length inner + n ≤ 64
-deeper scope inner w d n is at le = let many : length inner ≡ length scope + 1 = ap length is ∙ length-append scope (w ∷ []) in omega (arith, many, at, le)
 
 pub ruleset layers = (formula_chain)

@@ -1,10 +1,7 @@
 -- Where there is no fault, there is none in a part.
-use Rattle.std.proofs.Common.{◌≡◌, ℕ, ◌<◌, Bool, true, false, List, [], length, slice_index_or, refl, ap, ◌∙◌}
-use Rattle.std.specs.Prelude.{not}
+use Rattle.std.proofs.Common.{◌≡◌, ℕ, ◌<◌, List, [], length, slice_index_or, ap, ◌∙◌}
 use Rattle.std.specs.List.{flat_map}
 use Rattle.std.proofs.lemmas.List.Elements.{All-get_or}
-use Rattle.dd_faults.specs.declared.fault.Fault.{Fault}
-use Rattle.dd_faults.specs.Order.{when}
 pub use Rattle.dd_faults.specs.lemmas.Nothing.{all_where}
 use Rattle.std.proofs.lemmas.Bool.Decides.{nat_tests}
 use Rattle.std.proofs.lemmas.Grind.{common_steps}
@@ -12,10 +9,6 @@ use Rattle.dd_faults.specs.lemmas.Nothing.{both_nil, fits, within}
 
 -- what `grind` needs to take a list without faults apart
 pub ruleset parts = (common_steps, nat_tests, both_nil, fits, within)
-
-pub present : (b : Bool) (f : Fault) → when (not b) f ≡ [] → b ≡ true
-present true f e = refl
-present false f e = absurd cc
 
 pub none_at : {X Y : Type 0} (f : X → List Y) (xs : List X) (i : ℕ) (d : X) → i < length xs → flat_map f xs ≡ [] → f (slice_index_or xs i d) ≡ []
 none_at f xs i d lt h = All-get_or (λ x. f x ≡ []) xs i d lt (all_where (λ x. f x ≡ []) f (λ x e. e) xs h)

@@ -2,12 +2,12 @@
 use Rattle.std.proofs.Common.{◌≡◌, ◌≤◌, ◌<◌, ℕ, zero, suc, ◌+◌, Bool, true, [], refl, arith}
 use Rattle.std.specs.Prelude.{nat_le}
 use Rattle.std.specs.List.{list_all, range_with_len}
-use Rattle.std.proofs.lemmas.Bool.{and_from, le-leb}
+use Rattle.std.proofs.lemmas.Bool.{le-leb}
 use Rattle.std.proofs.lemmas.Grind.{common_steps}
 use Rattle.dd_expansion.specs.Leaves.{instances}
 use Rattle.dd_formula.specs.LocalRule.{LocalRule, most_instances, expansion_at, reads_at, is_near, IsSmall, IsRule}
 use Rattle.dd_formula.specs.Refusals.{IsRuleRefusal}
-use Rattle.dd_formula.specs.Automata.{CommonNumbers, Counted, IsAutomaton, counted, is_few, is_short, is_shallow}
+use Rattle.dd_formula.specs.Automata.{CommonNumbers, Counted, IsAutomaton, counted, is_few}
 use Rattle.dd_formula.specs.Compositions.{IsCompositionFault}
 use Rattle.dd_formula.specs.declared.automaton.Automaton.{Automaton}
 use Rattle.dd_formula.specs.declared.fault.RuleFault.{RuleFault}
@@ -15,13 +15,8 @@ use Rattle.dd_formula.specs.declared.fault.RuleFault.TheVariants as rule_fault
 use Rattle.dd_formula.specs.lemmas.AutomatonLaws.{within_is}
 use Rattle.dd_formula.specs.lemmas.CasesLaws.{refused, passes_one}
 use Rattle.dd_faults.specs.Order.{first_fault, Refuses}
-use Rattle.dd_faults.specs.declared.fault.Fault.TheVariants as fault
-use Rattle.dd_faults.specs.declared.fault.Limit.TheVariants as limit
 use Rattle.dd_meanings.specs.Definitions.{rule_counts, count_faults, rule_faults}
 use Rattle.dd_meanings.specs.making.Parts.{refusal_of}
-
-none_passed : (n : ℕ) (f : Counted) → is_few n f ≡ true → is_short n f ≡ true → is_shallow f ≡ true → count_faults n f ≡ []
-none_passed n f h h' h'' = rw (h, h', h'') refl
 
 -- why a composition is refused
 pub fault_refuses : (n : ℕ) (f : Counted) (e : RuleFault) → IsCompositionFault n f e → Refuses (refusal_of e) (first_fault (count_faults n f))
@@ -48,6 +43,4 @@ module _ (r : LocalRule) where
   rule_refuses e h = fault_refuses r.nodes (rule_counts r) e (passes_one r.nodes (rule_counts r) e (refused r (rule_counts r) (λ a. omega arith) (λ a far. far) e small_is_few h))
 
   pub rule_passes : IsRule r → rule_faults r ≡ []
-  rule_passes h =
-      none_passed r.nodes (rule_counts r) (small_is_few h.small)
-      (range_from (λ a. list_all is_near (reads_at r a)) 0 r.nodes (λ a low high. h.short a (omega arith))) refl
+  rule_passes h = rw (small_is_few h.small, range_from (λ a. list_all is_near (reads_at r a)) 0 r.nodes (λ a low high. h.short a (omega arith))) refl

@@ -2,7 +2,7 @@
 use Rattle.std.proofs.Common.{◌≡◌, ◌≤◌, ℕ, ◌+◌, ◌-◌, Bool, true, false, cond, List, [], ◌∷◌, ◌++◌, length, map, refl, sym, ap, ◌∙◌, subst, inl, inr, arith}
 use Rattle.std.specs.Prelude.{nat_lt, nat_le, max}
 use Rattle.std.specs.List.{list_all, flat_map}
-use Rattle.std.proofs.lemmas.Bool.{and_from, lt-ltb, le-leb, ltb-false, cases_Bool}
+use Rattle.std.proofs.lemmas.Bool.{and_from, lt-ltb, cases_Bool}
 use Rattle.std.proofs.lemmas.List.{length-map, length-append}
 use Rattle.std.proofs.lemmas.List.Folds.{list_all-map}
 use Rattle.std.proofs.lemmas.List.Sums.{list_all-from_AllPass}
@@ -23,7 +23,6 @@ use Rattle.dd_written.specs.declared.tree.Join.TheVariants as join
 use Rattle.dd_written.specs.declared.tree.Formula.{Formula as Written}
 use Rattle.dd_written.specs.declared.tree.Formula.TheFolds.{fold-roll-Formula as written_rolls, ind-Formula, map-Formula as map_written}
 use Rattle.dd_written.specs.declared.tree.Formula.TheOpen.{Formula-F as Written-F}
-use Rattle.dd_written.specs.Values.{written_value}
 use Rattle.dd_written.specs.Formulas.{tree_depth as written_depth, tree_depth_step as written_step, signs_over, chain_depth}
 use Rattle.dd_expansion.specs.declared.formulas.Term.{Term}
 use Rattle.dd_expansion.specs.declared.formulas.BallOf.{BallOf}
@@ -31,24 +30,21 @@ use Rattle.dd_expansion.specs.declared.formulas.Formula.{Formula, roll-Formula}
 use Rattle.dd_expansion.specs.declared.formulas.Formula.TheFolds.{fold-roll-Formula, map-Formula}
 use Rattle.dd_expansion.specs.declared.formulas.Formula.TheOpen.{Formula-F}
 use Rattle.dd_expansion.specs.Limits.{term_fits, ball_fits, balls_fit, formula_fits, formula_fits_step, greatest, list_depth, depth, depth_step}
-use Rattle.dd_faults.specs.declared.fault.Limit.TheVariants as limit
 use Rattle.dd_faults.specs.declared.fault.Fault.{Fault}
-use Rattle.dd_faults.specs.declared.fault.Fault.TheVariants as fault
 use Rattle.dd_faults.specs.declared.context.Context.{Context}
-use Rattle.dd_faults.specs.Order.{when, over}
-use Rattle.dd_faults.specs.Names.{missing, number_in, is_variable, unknown_variable}
+use Rattle.dd_faults.specs.Names.{missing, number_in}
 use Rattle.dd_faults.specs.Formulas.{unknown_label, term_faults, names_symbol, side_faults, relation_faults, atom_faults, ball_faults, quantifier_faults, faults_step, formula_faults}
 use Rattle.dd_faults.specs.Sound.{IsSound}
 use Rattle.dd_meanings.specs.declared.atoms.Operand.{Operand}
 use Rattle.dd_meanings.specs.declared.atoms.Operand.TheVariants as operand
 use Rattle.dd_meanings.specs.Formulas.{label_of, term_of, side_of, equal_of, not_equal_of, said_of, atom_of, ball_of, implied_of, iff_behind, joined_of, quantified_of, formula_step, formula_of}
 use Rattle.dd_meanings.specs.making.Parts.{IsFormulaOf}
-use Rattle.dd_faults.specs.lemmas.Nothing.{both_nil, within}
-use Rattle.dd_meanings.proofs.Nothing.{all_where}
+use Rattle.dd_faults.specs.lemmas.Nothing.{both_nil}
+use Rattle.dd_meanings.proofs.Nothing.{parts, all_where}
 use Rattle.dd_meanings.proofs.NameLaws.{number_below, variable_below}
 
-all_without : {X F : Type 0} (p : X → Bool) (g : X → List F) → ((x : X) → g x ≡ [] → p x ≡ true) → (xs : List X) → flat_map g xs ≡ [] → list_all p xs ≡ true
-all_without p g each xs none = list_all-from_AllPass p xs (all_where (λ x. p x ≡ true) g each xs none)
+all_without : {X Y F : Type 0} (p : Y → Bool) (h : X → Y) (g : X → List F) → ((x : X) → g x ≡ [] → p (h x) ≡ true) → (xs : List X) → flat_map g xs ≡ [] → list_all p (map h xs) ≡ true
+all_without p h g each xs none = list_all-map p h xs ∙ list_all-from_AllPass (λ x. p (h x)) xs (all_where (λ x. p (h x) ≡ true) g each xs none)
 
 module _ (x : Context) (same : x.known.setting.topology.nodes ≡ length x.known.setting.nodes) (alphabet : x.known.setting.sets.symbols ≡ length x.known.setting.symbols) where
   -- with so many variables in scope
@@ -72,16 +68,11 @@ module _ (x : Context) (same : x.known.setting.topology.nodes ≡ length x.known
   module _ (scope : List Word) where
     term_is : (t : WrittenTerm) → term_faults x scope t ≡ [] → term_fits x.known.setting.topology (length scope + 1) (term_of x scope t) ≡ true
     term_is t none =
-        let both = both_nil (unknown_variable x.text scope t.first) (flat_map (unknown_label x) t.moves ++ over (nat_lt 16 (length t.moves)) limit.Moves) none in
-        let rest = both_nil (flat_map (unknown_label x) t.moves) (over (nat_lt 16 (length t.moves)) limit.Moves) both.1 in
         let labels = x.known.setting.topology.labels in
-        let short : length t.moves ≤ 16 = ltb-false 16 (length t.moves) (within (nat_lt 16 (length t.moves)) limit.Moves rest.1) in
-        let few : length (map (label_of x) t.moves) ≤ 16 = omega (arith, length-map t.moves (label_of x), short) in
-        and_from _ _
-        (and_from _ _ (lt-ltb _ _ (variable_below x.text scope t.first both.0)) (le-leb _ _ few))
-        (list_all-map (λ l. nat_lt l (length labels)) (label_of x) t.moves
-        ∙ all_without (λ w. nat_lt (label_of x w) (length labels)) (unknown_label x)
-        (λ w none. lt-ltb _ _ (number_below x.text labels (name.Word w) none)) t.moves rest.0)
+        let each : flat_map (unknown_label x) t.moves ≡ [] = grind (arith, parts) in
+        let moves = all_without (λ l. nat_lt l (length labels)) (label_of x) (unknown_label x) (λ w none. lt-ltb _ _ (number_below x.text labels (name.Word w) none)) t.moves each in
+        let below = variable_below x.text scope t.first (grind (arith, parts)) in
+        grind (arith, parts, length-map t.moves (label_of x))
 
     abbrev FitsHere : Formula → Type 0
     FitsHere f = Fine f (length scope + 1) 0
@@ -121,19 +112,13 @@ module _ (x : Context) (same : x.known.setting.topology.nodes ≡ length x.known
 
     ball_is : (b : Ball) → ball_faults x scope b ≡ [] → ball_fits (length scope + 1) (ball_of x scope b) ≡ true
     ball_is b none =
-        let both = both_nil (unknown_variable x.text scope b.centre) (over (nat_lt 3 (written_value x.text b.radius)) limit.Radius) none in
-        let small : written_value x.text b.radius ≤ 3 = ltb-false 3 (written_value x.text b.radius) (within (nat_lt 3 (written_value x.text b.radius)) limit.Radius both.1) in
-        and_from _ _ (lt-ltb _ _ (variable_below x.text scope b.centre both.0)) (le-leb _ _ small)
+        let below = variable_below x.text scope b.centre (grind (arith, parts)) in grind (arith, parts)
 
     balls_are : (w : Word) (bs : List Ball) → quantifier_faults x scope w bs ≡ [] → balls_fit (length scope + 1) (map (ball_of x scope) bs) ≡ true
     balls_are w bs none =
-        let twice = both_nil (when (is_variable x.text scope w) (fault.Twice (name.Word w))) (over (nat_lt 4 (length bs)) limit.Balls ++ flat_map (ball_faults x scope) bs) none in
-        let both = both_nil (over (nat_lt 4 (length bs)) limit.Balls) (flat_map (ball_faults x scope) bs) twice.1 in
-        let short : length bs ≤ 4 = ltb-false 4 (length bs) (within (nat_lt 4 (length bs)) limit.Balls both.0) in
-        let few : length (map (ball_of x scope) bs) ≤ 4 = omega (arith, length-map bs (ball_of x scope), short) in
-        and_from _ _ (le-leb _ _ few)
-        (list_all-map (ball_fits (length scope + 1)) (ball_of x scope) bs
-        ∙ all_without (λ b. ball_fits (length scope + 1) (ball_of x scope b)) (ball_faults x scope) ball_is bs both.1)
+        let each : flat_map (ball_faults x scope) bs ≡ [] = grind (arith, parts) in
+        let fit = all_without (ball_fits (length scope + 1)) (ball_of x scope) (ball_faults x scope) ball_is bs each in
+        grind (arith, parts, length-map bs (ball_of x scope))
 
     quantified_is : (q : Quantifier) (bs : List BallOf) (f : Formula) (d : ℕ) → balls_fit (length scope + 1) bs ≡ true → Fine f (length scope + 1 + 1) d → Fine (quantified_of q bs f) (length scope + 1) (1 + d)
     quantified_is quantifier.All bs f d fit body = rolled (Formula-F.ForAll bs f) (length scope + 1) (1 + d) (and_from _ _ fit body.0) (omega (arith, body.1))

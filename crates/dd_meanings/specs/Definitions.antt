@@ -4,8 +4,10 @@ use Rattle.std.specs.List.{slice_get}
 use Rattle.dd_pattern.specs.Periods.{periods_of as with_shear}
 use Rattle.dd_pattern.specs.Tile.{Tile, tile}
 use Rattle.dd_expansion.specs.Leaves.{instances}
+use Rattle.dd_expansion.specs.declared.formulas.Formula.{Formula as Meant}
 use Rattle.dd_formula.specs.LocalRule.{LocalRule, local_rule, reads_at, expansion_at}
 use Rattle.dd_formula.specs.Automata.{Counted, counted, is_few, is_short, is_shallow}
+use Rattle.dd_formula.specs.ByCases.{by_cases}
 use Rattle.dd_formula.specs.declared.automaton.Automaton.{Automaton}
 use Rattle.dd_formula.specs.declared.automaton.Automaton.TheVariants as automaton
 use Rattle.dd_written.specs.declared.lexeme.Word.{Word}
@@ -31,11 +33,11 @@ rule_of x f = local_rule x.known.setting.topology x.known.setting.sets (formula_
 abbrev pub symbol_of : Context → Name → ℕ
 symbol_of x n = number_in x.text x.known.setting.symbols n
 
-abbrev pub case_of : Context → Case → LocalRule × ℕ
-case_of x c = (rule_of x c.condition, symbol_of x c.symbol)
+abbrev pub case_of : Context → Case → Meant × ℕ
+case_of x c = (formula_of x c.condition [], symbol_of x c.symbol)
 
 abbrev pub automaton_of : Context → List Case → Name → Automaton
-automaton_of x cases symbol = automaton.Given (record { cases = map (case_of x) cases; otherwise = symbol_of x symbol })
+automaton_of x cases symbol = by_cases x.known.setting.topology x.known.setting.sets (map (case_of x) cases) (symbol_of x symbol)
 
 -- the automaton with a number; where there is none, one without cases
 abbrev pub automaton_at : List Automaton → ℕ → Automaton

@@ -13,13 +13,13 @@ ghost use Rattle.dd_faults.specs.Commands.{case_faults, faults_of};
 ghost use Rattle.dd_faults.specs.Sound.{IsSound};
 ghost use Rattle.dd_meanings.specs.Made.{script_numbers};
 ghost use Rattle.dd_meanings.specs.Meanings.{meaning, counted_sizes};
-ghost use Rattle.dd_meanings.specs.Definitions.{automaton_named, tile_with};
-ghost use Rattle.dd_meanings.specs.making.Parts.{refusal_of, meant_case};
+ghost use Rattle.dd_meanings.specs.Definitions.{case_of, automaton_named, tile_with};
+ghost use Rattle.dd_meanings.specs.making.Parts.{refusal_of};
 ghost use Rattle.dd_meanings.specs.Sound.{IsSoundMeaning};
 
-use crate::formulas::formula;
+use crate::formulas::formula_in;
 use crate::header::symbols_of;
-use crate::meaning::Meaning;
+use crate::meaning::{Meaning, Resolved};
 use dd_commands::{Case, Vector};
 use dd_expansion::Formula as Meant;
 use dd_faults::{Context, Fault, Limit, Refusal, number_in, period_at, shear_of};
@@ -43,19 +43,14 @@ fn refusal_of(fault: RuleFault) -> Refusal
 
 /// The rule of a formula over the script's topology and the symbols that its nodes allow.
 #[tactic(auto, using(crate::proofs::Nothing::parts))]
-pub(crate) fn rule(
-    alloc: Global,
-    context: &Context,
-    name: Word,
-    formula: &Formula,
-) -> Result<Meaning, Refusal>
+pub(crate) fn rule(alloc: Global, context: &Context, name: Word, formula: &Formula) -> Resolved
     requires sound { IsSound context.now.known }
     requires shallow { tree_depth formula.now ≤ 64 }
     requires faultless { faults_of context.now (command.Rule name formula.now) ≡ [] }
     ensures exact { Resolves result (counted_sizes context.now [] (command.Rule name formula.now)) (meaning context.now [] (command.Rule name formula.now)) }
     ensures sound { OnOk result (IsSoundMeaning context.now (meaning context.now [] (command.Rule name formula.now))) }
 {
-    let meant = self::formula(alloc, context, formula)?;
+    let meant = formula_in(alloc, context, &[], formula)?;
     let setting = &context.known.setting;
     match Rule::new(alloc, &setting.topology, &setting.sets, meant) {
         Ok(rule) => Ok(Meaning::Rule { name, rule }),
@@ -71,11 +66,11 @@ fn cases_of(
 ) -> Result<Items<(Meant, u32)>, AllocError>
     requires shallow { All (λ c. tree_depth c.condition ≤ 64) cases.now }
     requires faultless { flat_map (case_faults context.now) cases.now ≡ [] }
-    ensures { IfOk result (λ made. made ≡ map (meant_case context.now) cases.now) }
+    ensures { IfOk result (λ made. made ≡ map (case_of context.now) cases.now) }
 {
     let mut made = Items::new(alloc);
     for case in cases {
-        let condition = formula(alloc, context, &case.condition)?;
+        let condition = formula_in(alloc, context, &[], &case.condition)?;
         let symbol = number_in(&context.text, &context.known.setting.symbols, case.symbol);
         made.push((condition, symbol))?;
     }
@@ -89,7 +84,7 @@ pub(crate) fn automaton(
     name: Word,
     cases: &[Case],
     default: Name,
-) -> Result<Meaning, Refusal>
+) -> Resolved
     requires sound { IsSound context.now.known }
     requires shallow { All (λ c. tree_depth c.condition ≤ 64) cases.now }
     requires faultless { faults_of context.now (command.Automaton name cases.now default) ≡ [] }
@@ -129,7 +124,7 @@ pub(crate) fn composition(
     name: Word,
     outer: Word,
     inner: Word,
-) -> Result<Meaning, Refusal>
+) -> Resolved
     requires named { length automata.now ≡ length context.now.known.automata }
     requires formed { All (IsAutomaton (script_numbers context.now.known)) automata.now }
     requires faultless { faults_of context.now (command.Composition name outer inner) ≡ [] }
@@ -181,7 +176,7 @@ pub(crate) fn configuration(
     periods: &Vector,
     shear: &Option<Vector>,
     symbols: &[Name],
-) -> Result<Meaning, Refusal>
+) -> Resolved
     requires sound { IsSound context.now.known }
     requires some { 1 ≤ length symbols.now }
     requires faultless { faults_of context.now (command.Configuration name periods.now shear.now symbols.now) ≡ [] }

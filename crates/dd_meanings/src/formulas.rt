@@ -12,6 +12,7 @@ use dd_written::{Ball, Formula as Written, Join, Quantifier, Word};
 use std::alloc::{AllocError, Global};
 
 /// `->` groups to the right: from the last part back.
+#[tactic(auto, using(crate::proofs::Layers::implied_last))]
 fn implied(alloc: Global, parts: Items<Formula>) -> Result<Formula, AllocError>
     ensures { IfOk result (λ f. f ≡ implied_of parts) }
 {
@@ -68,7 +69,7 @@ fn quantified(quantifier: Quantifier, balls: Items<BallOf>, body: Boxed<Formula>
 /// The formula that a written one without faults means in a scope.
 #[cycle(meaning)]
 #[tactic(auto, using(crate::proofs::Layers::layers))]
-fn formula_in(
+pub(crate) fn formula_in(
     alloc: Global,
     context: &Context,
     scope: &[Word],
@@ -140,17 +141,4 @@ fn parts_in(
         made.push(formula_in(alloc, context, scope, part)?)?;
     }
     Ok(made)
-}
-
-/// The formula that a written one without faults means, with the origin as its free variable.
-pub(crate) fn formula(
-    alloc: Global,
-    context: &Context,
-    written: &Written,
-) -> Result<Formula, AllocError>
-    requires shallow { tree_depth written.now ≤ 64 }
-    requires faultless { formula_faults context.now written.now [] ≡ [] }
-    ensures { IfOk result (λ f. f ≡ formula_of context.now written.now []) }
-{
-    formula_in(alloc, context, &[], written)
 }

@@ -12,7 +12,7 @@ ghost use Rattle.dd_meanings.specs.Made.{script_numbers};
 ghost use Rattle.dd_meanings.specs.Meanings.{meaning, counted_sizes};
 ghost use Rattle.dd_meanings.specs.Sound.{IsSoundMeaning};
 
-use crate::meaning::Meaning;
+use crate::meaning::{Meaning, Resolved};
 use crate::{definitions, header};
 use dd_commands::{Command, Request, Written};
 use dd_faults::{Context, Refusal};
@@ -21,7 +21,7 @@ use dd_query::ask;
 use std::alloc::Global;
 
 /// The query of a question.
-fn query(alloc: Global, context: &Context, request: &Request) -> Result<Meaning, Refusal>
+fn query(alloc: Global, context: &Context, request: &Request) -> Resolved
     requires sound { IsSound context.now.known }
     requires written { IsRequest request.now }
     requires faultless { request_faults context.now request.now ≡ [] }

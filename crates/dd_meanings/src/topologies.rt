@@ -8,11 +8,11 @@ ghost use Rattle.dd_faults.specs.Commands.{dimension_of, edge_faults, faults_of}
 ghost use Rattle.dd_query.specs.Vectors.{IsClose};
 ghost use Rattle.dd_meanings.specs.Topologies.{plain_kind, default_grid, kind_names, labels_of, edge_of, grid_by};
 
-use crate::names::{add_new, zero, zero_and_one};
+use crate::names::{zero, zero_and_one};
 use dd_commands::Edge as Written;
 use dd_faults::{Context, number_in};
 use dd_query::position_of;
-use dd_topology::{Edge, Kind, Names, Topology, TopologyFault};
+use dd_topology::{Edge, Kind, NameFault, Names, Topology, TopologyFault};
 use dd_written::{Name, Text, name_text};
 use std::alloc::{AllocError, Global};
 
@@ -61,10 +61,11 @@ fn add_once(alloc: Global, labels: &mut Names, text: &str) -> Result<(), AllocEr
     requires { length labels.old < 2 ^ 32 - 1 }
     ensures { OnOk result (labels.new ≡ (if list_any (bytes_eq text.now) labels.old then labels.old else labels.old ++ text.now ∷ [])) }
 {
-    if labels.find(text).is_some() {
-        return Ok(());
+    match labels.add(String::from_str(alloc, text)?) {
+        Ok(_) => Ok(()),
+        Err(NameFault::Twice(_)) => Ok(()),
+        Err(NameFault::Memory(_)) => Err(AllocError),
     }
-    add_new(alloc, labels, text)
 }
 
 /// The labels of edges, each once, in the order in which they are first seen.

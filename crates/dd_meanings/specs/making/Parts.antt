@@ -1,18 +1,13 @@
 -- The parts of definitions, and why they are not made.
-use Rattle.std.specs.Prelude.{ℕ, []}
 use Rattle.dd_expansion.specs.declared.formulas.Formula.{Formula}
 use Rattle.dd_expansion.specs.Limits.{IsFormula}
 use Rattle.dd_formula.specs.declared.fault.RuleFault.{RuleFault}
 use Rattle.dd_formula.specs.declared.fault.RuleFault.TheVariants as rule_fault
-use Rattle.dd_commands.specs.declared.command.Case.{Case}
 use Rattle.dd_faults.specs.declared.fault.Fault.TheVariants as fault
 use Rattle.dd_faults.specs.declared.fault.Limit.TheVariants as limit
 use Rattle.dd_faults.specs.declared.fault.Refusal.{Refusal}
 use Rattle.dd_faults.specs.declared.fault.Refusal.TheVariants as refusal
 use Rattle.dd_faults.specs.declared.context.Known.{Known}
-use Rattle.dd_faults.specs.declared.context.Context.{Context}
-use Rattle.dd_meanings.specs.Formulas.{formula_of}
-use Rattle.dd_meanings.specs.Definitions.{symbol_of}
 
 -- the refusal of a command for which no rule or automaton was made
 abbrev pub refusal_of : RuleFault → Refusal
@@ -24,7 +19,3 @@ refusal_of rule_fault.Memory = refusal.Memory
 -- a formula over the script's topology and symbols
 abbrev pub IsFormulaOf : Known → Formula → Type 0
 IsFormulaOf k f = IsFormula k.setting.topology k.setting.sets.symbols f
-
--- a case with its formula and its symbol by numbers
-abbrev pub meant_case : Context → Case → Formula × ℕ
-meant_case x c = (formula_of x c.condition [], symbol_of x c.symbol)

@@ -1,33 +1,31 @@
-use Rattle.std.proofs.Common.{◌≡◌, ◌+◌, ◌≤◌, map, length, [], ◌∷◌, ◌++◌, sym, ap, subst, ◌∙◌, arith}
+use Rattle.std.proofs.Common.{◌≡◌, ◌+◌, ◌≤◌, map, length, [], ◌∷◌, sym, ap, subst, ◌∙◌, arith}
 use denote.Param.Weighed.{at_most}
 use Rattle.std.specs.Prelude.{IfOk}
+use Rattle.std.proofs.lemmas.List.{length-append}
 use Rattle.dd_written.specs.Formulas.{tree_depth}
 use Rattle.dd_written.proofs.tree.Formula.TheLaws.{the_size}
 use Rattle.dd_expansion.specs.declared.formulas.Formula.{Formula}
 use Rattle.dd_faults.specs.Formulas.{formula_faults}
-use Rattle.dd_faults.specs.lemmas.Layers.{faults_chain}
+use Rattle.dd_faults.specs.lemmas.Layers.{faults_chain, faults_quantified}
+use Rattle.dd_faults.specs.lemmas.Nothing.{both_nil}
 use Rattle.dd_meanings.specs.Formulas.{joined_of, formula_of}
 use Rattle.dd_meanings.proofs.Nothing.{none_item}
 use Rattle.dd_meanings.proofs.Making.{made_item}
-use Rattle.dd_meanings.proofs.Layers.{formula_chain, depth_chain, depth_quantified, parts_shallow, one_of_all, quantified_parts, balls_none, deeper}
+use Rattle.dd_meanings.proofs.Layers.{formula_chain, depth_chain, depth_quantified, parts_shallow, one_of_all}
 use Rattle.dd_meanings.proofs.formulas.+meaning.Goals as goal
 
 pub quantified_in-balls-requires-clause-faultless : goal.quantified_in-balls-requires-clause-faultless
 quantified_in-balls-requires-clause-faultless t c =
     let a = c.args in
-    balls_none a.context.now a.scope.now a.variable a.written.now (quantified_parts a.context.now a.scope.now a.quantifier a.variable a.written.now a.body.now c.requires.faultless).0
+    let none = sym (faults_quantified a.context.now a.quantifier a.variable a.written.now a.body.now a.scope.now) ∙ c.requires.faultless in (both_nil _ _ (both_nil _ _ (both_nil _ _ none).0).1).1
 
 pub quantified_in-formula_in-requires : goal.quantified_in-formula_in-requires
 quantified_in-formula_in-requires t c =
     let a = c.args in
-    let inner : c.as_slice.result.now ≡ a.scope.now ++ a.variable ∷ [] = c.as_slice.ensures ∙ c.in_ok-inner.ensures in
-    let deep = depth_quantified a.quantifier a.variable a.written.now a.body.now ∙ ap (λ h. 1 + tree_depth h) (sym c.get.ensures) in
-    let parts = quantified_parts a.context.now a.scope.now a.quantifier a.variable a.written.now a.body.now c.requires.faultless in (
+    let none = sym (faults_quantified a.context.now a.quantifier a.variable a.written.now a.body.now a.scope.now) ∙ c.requires.faultless in
+    let deep = depth_quantified a.quantifier a.variable a.written.now a.body.now in (
       omega (arith, ap the_size c.get.ensures, c.decreases),
-      (
-        deeper a.scope.now c.as_slice.result.now a.variable _ _ inner deep c.requires.shallow,
-        ap (λ h. formula_faults a.context.now h c.as_slice.result.now) c.get.ensures ∙ ap (formula_faults a.context.now a.body.now) inner ∙ parts.1,
-      ),
+      rw (c.as_slice.ensures, c.in_ok-inner.ensures, c.get.ensures) (omega (arith, deep, length-append a.scope.now (a.variable ∷ []), c.requires.shallow), (both_nil _ _ none).1),
     )
 
 pub formula_in-returns-in_ok-parts-in-Chain : goal.formula_in-returns-in_ok-parts-in-Chain

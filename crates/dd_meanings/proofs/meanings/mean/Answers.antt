@@ -1,58 +1,28 @@
-use Rattle.dd_meanings.proofs.WrittenLaws.{no_fault, body, all_shallow}
+use Rattle.dd_meanings.proofs.WrittenLaws.{body, all_shallow}
 use Rattle.dd_meanings.proofs.meanings.mean.Goals as goal
 
-pub nodes-requires : goal.nodes-requires
-nodes-requires c =
-    rw c.as_slice.ensures (record {
-      sound = c.requires.sound;
-      some = (body c.args.context.now c.args.written.now _ c.in-Nodes.is c.requires.written).1.0;
-      faultless = no_fault c.args.context.now c.args.written.now _ c.in-Nodes.is c.requires.faultless;
-    })
+pub nodes-requires-clause-some : goal.nodes-requires-clause-some
+nodes-requires-clause-some c = rw c.as_slice.ensures (body c.args.context.now.text c.args.written.now _ c.in-Nodes.is c.requires.written).1.0
 
-pub alphabet-requires : goal.alphabet-requires
-alphabet-requires c =
-    rw c.as_slice-in-Alphabet.ensures (record {
-      some = (body c.args.context.now c.args.written.now _ c.in-Alphabet.is c.requires.written).1.0;
-      faultless = no_fault c.args.context.now c.args.written.now _ c.in-Alphabet.is c.requires.faultless;
-    })
+pub alphabet-requires-clause-some : goal.alphabet-requires-clause-some
+alphabet-requires-clause-some c = rw c.as_slice-in-Alphabet.ensures (body c.args.context.now.text c.args.written.now _ c.in-Alphabet.is c.requires.written).1.0
 
-pub only-requires : goal.only-requires
-only-requires c =
-    rw c.as_slice-in-Only.ensures (record {
-      some = (body c.args.context.now c.args.written.now _ c.in-Only.is c.requires.written).1.0;
-      faultless = no_fault c.args.context.now c.args.written.now _ c.in-Only.is c.requires.faultless;
-    })
+pub only-requires-clause-some : goal.only-requires-clause-some
+only-requires-clause-some c = rw c.as_slice-in-Only.ensures (body c.args.context.now.text c.args.written.now _ c.in-Only.is c.requires.written).1.0
 
-pub rule-requires : goal.rule-requires
-rule-requires c = record {
-  sound = c.requires.sound;
-  shallow = (body c.args.context.now c.args.written.now _ c.in-Rule.is c.requires.written).1.0.shallow;
-  faultless = no_fault c.args.context.now c.args.written.now _ c.in-Rule.is c.requires.faultless;
-}
+pub rule-requires-clause-shallow : goal.rule-requires-clause-shallow
+rule-requires-clause-shallow c = (body c.args.context.now.text c.args.written.now _ c.in-Rule.is c.requires.written).1.0.shallow
 
-pub automaton-requires : goal.automaton-requires
-automaton-requires c =
-    let cases = (body c.args.context.now c.args.written.now _ c.in-Automaton.is c.requires.written).1 in
-    rw c.as_slice-in-Automaton.ensures (record {
-      sound = c.requires.sound;
-      shallow = all_shallow c.args.context.now.text c.in-Automaton.cases cases.0 cases.2.last cases.2.before;
-      faultless = no_fault c.args.context.now c.args.written.now _ c.in-Automaton.is c.requires.faultless;
-    })
+pub automaton-requires-clause-shallow : goal.automaton-requires-clause-shallow
+automaton-requires-clause-shallow c =
+    let cases = (body c.args.context.now.text c.args.written.now _ c.in-Automaton.is c.requires.written).1 in
+    rw c.as_slice-in-Automaton.ensures (all_shallow c.args.context.now.text c.in-Automaton.cases cases.0 cases.2.last cases.2.before)
 
-pub configuration-requires : goal.configuration-requires
-configuration-requires c =
-    rw c.as_slice-in-Configuration.ensures (record {
-      sound = c.requires.sound;
-      some = (body c.args.context.now c.args.written.now _ c.in-Configuration.is c.requires.written).1.0;
-      faultless = no_fault c.args.context.now c.args.written.now _ c.in-Configuration.is c.requires.faultless;
-    })
+pub configuration-requires-clause-some : goal.configuration-requires-clause-some
+configuration-requires-clause-some c = rw c.as_slice-in-Configuration.ensures (body c.args.context.now.text c.args.written.now _ c.in-Configuration.is c.requires.written).1.0
 
-pub query-requires : goal.query-requires
-query-requires c = record {
-  sound = c.requires.sound;
-  written = (body c.args.context.now c.args.written.now _ c.in-Query.is c.requires.written).1.0;
-  faultless = no_fault c.args.context.now c.args.written.now _ c.in-Query.is c.requires.faultless;
-}
+pub query-requires-clause-written : goal.query-requires-clause-written
+query-requires-clause-written c = (body c.args.context.now.text c.args.written.now _ c.in-Query.is c.requires.written).1.0
 
 pub returns-in-Automaton : goal.returns-in-Automaton
 returns-in-Automaton c = rw (c.in-Automaton.is, ← c.as_slice-in-Automaton.ensures) c.automaton.ensures
