@@ -8,6 +8,8 @@ use Rattle.std.proofs.lemmas.List.{length-map, take-map}
 use Rattle.std.proofs.lemmas.List.Folds.{list_all-map}
 use Rattle.std.proofs.lemmas.List.Sums.{list_all-from_AllPass}
 use Rattle.std.proofs.lemmas.List.Elements.{All-contains, All-contains_itself, All-take, Contains-append_left, Contains-push, Contains-get_or}
+use Rattle.std.proofs.lemmas.Map.Views.{Contains-from_any}
+use Rattle.std.proofs.lemmas.Slice.Eq.{bytes_eq-Decides}
 use Rattle.std.proofs.lemmas.Option.{slice_get_within, slice_get-map, slice_get-get_or}
 use Rattle.dd_written.specs.Values.{name_text}
 use Rattle.dd_commands.specs.declared.command.Edge.{Edge as Written}
@@ -25,7 +27,7 @@ use Rattle.dd_faults.specs.lemmas.Repeats.{once}
 use Rattle.dd_query.specs.lemmas.Offsets.{offset_is}
 use Rattle.dd_meanings.specs.Topologies.{first_seen_names, label_text, labels_of, edge_of}
 use Rattle.dd_meanings.proofs.Nothing.{parts, none_at}
-use Rattle.dd_meanings.proofs.NameLaws.{stands, is_found, same_name}
+use Rattle.dd_meanings.proofs.NameLaws.{is_found, same_name}
 
 -- ---- labels in the order in which they are first seen
 
@@ -35,7 +37,7 @@ stepped b seen n = if b then seen else seen ++ n ∷ []
 -- the names that are seen after one more
 kept : (b : Bool) (seen : List (List ℕ)) (n m : List ℕ) → list_any (bytes_eq n) seen ≡ b → Contains seen m ⊎ (n ≡ m) → Contains (stepped b seen n) m
 kept true seen n m is (inl h) = h
-kept true seen n m is (inr same) = subst (Contains seen) same ((stands seen n).0 is)
+kept true seen n m is (inr same) = subst (Contains seen) same (Contains-from_any (λ x y. (bytes_eq-Decides x y).0) n seen is)
 kept false seen n m is (inl h) = Contains-append_left seen (n ∷ []) m h
 kept false seen n m is (inr same) = subst (Contains (seen ++ n ∷ [])) same (Contains-push seen n)
 
@@ -75,16 +77,11 @@ module _ (x : Context) (es : List Written) (h : faults_of x (command.Edges es) �
   abbrev numbered : Written → Edge
   numbered = edge_of x.text labels x.known.setting.nodes
 
-  each_none : flat_map (edge_faults x) es ≡ []
-  each_none = grind (arith, parts)
-
-  none_twice : twice_labelled x.text es ≡ []
-  none_twice = grind (arith, parts)
-
   are_labelled : All (IsLabelled x labels) es
   are_labelled i d lt =
       let e = slice_index_or es i d in
-      (none_at (edge_faults x) es i d lt each_none, is_found labels _ (seen_all [] (map (label_text x.text) es) (label_text x.text e) (inr (Contains-map (label_text x.text) es e (Contains-get_or es i d lt)))))
+      let each : flat_map (edge_faults x) es ≡ [] = grind (arith, parts) in
+      (none_at (edge_faults x) es i d lt each, is_found labels _ (seen_all [] (map (label_text x.text) es) (label_text x.text e) (inr (Contains-map (label_text x.text) es e (Contains-get_or es i d lt)))))
 
   pub are_edges : list_all (is_edge (dimension_of x.known) (length x.known.setting.nodes) (length labels)) (map numbered es) ≡ true
   are_edges =
@@ -105,4 +102,5 @@ module _ (x : Context) (es : List Written) (h : faults_of x (command.Edges es) �
       let alike : starts_alike (numbered e) (numbered f) ≡ true = ap (λ (y : Edge). starts_alike y (numbered f)) (sym here) ∙ (ap (λ (y : Edge). starts_alike twice.edge y) (sym other.2) ∙ found.2) in
       let there : Contains es f = All-contains (Contains es) (take i es) f (All-take (Contains es) i es (All-contains_itself es)) other.1 in
       let same = same_key x labels e f (are_labelled i f lt) (All-contains (IsLabelled x labels) es f are_labelled there) alike in
-      once (edge_key x.text) twice_label es i f none_twice lt (subst (Contains (map (edge_key x.text) (take i es))) (sym same) (Contains-map (edge_key x.text) (take i es) f other.1))
+      let none : twice_labelled x.text es ≡ [] = grind (arith, parts) in
+      once (edge_key x.text) twice_label es i f none lt (subst (Contains (map (edge_key x.text) (take i es))) (sym same) (Contains-map (edge_key x.text) (take i es) f other.1))

@@ -28,11 +28,8 @@ pub dimension_is : (x : Context) (n : Number) (d : ℕ) → faults_of x (command
 dimension_is x n d h is = grind (arith, common_steps)
 
 -- the default topology has the nodes that it is asked for
-default_nodes : (d n : ℕ) → (default_grid d n).nodes ≡ n
-default_nodes d n = grind (arith, parts)
-
 pub default_sound : (d n : ℕ) (g : Grid) → IsGrid g → g ≡ default_grid d n → IsGridOf n (default_grid d n)
-default_sound d n g sound is = record { grid = subst IsGrid is sound; nodes = default_nodes d n }
+default_sound d n g sound is = record { grid = subst IsGrid is sound; nodes = grind (arith, parts) }
 
 -- ---- names
 

@@ -19,9 +19,6 @@ use Rattle.dd_meanings.specs.Formulas.{variable_number}
 use Rattle.dd_meanings.specs.Sound.{IsNew}
 use Rattle.dd_meanings.proofs.Nothing.{parts}
 
-pub stands : (names : List (List ℕ)) (text : List ℕ) → Decides (list_any (bytes_eq text) names) (Contains names text)
-stands names text = (Contains-from_any (λ x y. (bytes_eq-Decides x y).0) text names, list_any-from_Contains nat_list_eq_equiv text names)
-
 -- a name that is there has a number
 pub is_found : (names : List (List ℕ)) (text : List ℕ) → Contains names text → is_some (number_of names text) ≡ true
 is_found names text there =

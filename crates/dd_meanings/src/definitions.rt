@@ -102,6 +102,7 @@ pub(crate) fn automaton(
 }
 
 /// A copy of the automaton with this name.
+#[tactic(auto, using(crate::proofs::Nothing::parts))]
 fn named(
     alloc: Global,
     context: &Context,
