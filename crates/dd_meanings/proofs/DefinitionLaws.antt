@@ -74,9 +74,6 @@ cases_refused x whole e h = fault_refuses x.known.setting.topology.nodes (counte
 
 -- ---- automata by their names
 
-pub named_below : (x : Context) (automata : List Automaton) (w : Word) → length automata ≡ length x.known.automata → missing x.text x.known.automata (name.Word w) ≡ [] → number_in x.text x.known.automata (name.Word w) < length automata
-named_below x automata w named known = omega (arith, number_below x.text x.known.automata (name.Word w) known, named)
-
 module _ (x : Context) (automata : List Automaton) (called outer inner : Word) (named : length automata ≡ length x.known.automata) (formed : All (IsAutomaton (script_numbers x.known)) automata)
     (none : faults_of x (command.Composition called outer inner) ≡ []) where
   abbrev whole : Automaton
@@ -86,7 +83,7 @@ module _ (x : Context) (automata : List Automaton) (called outer inner : Word) (
   is_formed w known =
       let i = number_in x.text x.known.automata (name.Word w) in
       let other : Automaton = automaton.Given (record { cases = []; otherwise = 0 }) in
-      rw (unwrap_or-slice_get automata i other) (All-get_or (IsAutomaton (script_numbers x.known)) automata i other (named_below x automata w named known) formed)
+      rw (unwrap_or-slice_get automata i other) (All-get_or (IsAutomaton (script_numbers x.known)) automata i other (omega (arith, number_below x.text x.known.automata (name.Word w) known, named)) formed)
 
   pub are_automata : AreAutomata (automaton_named x automata outer) (automaton_named x automata inner)
   are_automata = record { setting = script_numbers x.known; outer = is_formed outer (grind (arith, parts)); inner = is_formed inner (grind (arith, parts)) }

@@ -50,9 +50,6 @@ seen_all seen (n ∷ ns) m (inr h) =
 
 -- ---- the edges of a command without a fault
 
-pub close_edge : (x : Context) (e : Written) → edge_faults x e ≡ [] → is_far x.text e.offset ≡ false
-close_edge x e h = grind (arith, common_steps)
-
 -- it has no fault, and its label is among the labels
 abbrev IsLabelled : Context → List (List ℕ) → Written → Type 0
 IsLabelled x labels e = (edge_faults x e ≡ []) × (is_some (number_of labels (label_text x.text e)) ≡ true)

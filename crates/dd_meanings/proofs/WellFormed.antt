@@ -29,7 +29,7 @@ use Rattle.dd_expansion.specs.declared.formulas.BallOf.{BallOf}
 use Rattle.dd_expansion.specs.declared.formulas.Formula.{Formula, roll-Formula}
 use Rattle.dd_expansion.specs.declared.formulas.Formula.TheFolds.{fold-roll-Formula, map-Formula}
 use Rattle.dd_expansion.specs.declared.formulas.Formula.TheOpen.{Formula-F}
-use Rattle.dd_expansion.specs.Limits.{term_fits, ball_fits, balls_fit, formula_fits, formula_fits_step, greatest, list_depth, depth, depth_step}
+use Rattle.dd_expansion.specs.Limits.{term_fits, ball_fits, balls_fit, formula_fits, formula_fits_step, greatest, list_depth, depth, depth_step, IsFormula}
 use Rattle.dd_faults.specs.declared.fault.Fault.{Fault}
 use Rattle.dd_faults.specs.declared.context.Context.{Context}
 use Rattle.dd_faults.specs.Names.{missing, number_in}
@@ -38,7 +38,6 @@ use Rattle.dd_faults.specs.Sound.{IsSound}
 use Rattle.dd_meanings.specs.declared.atoms.Operand.{Operand}
 use Rattle.dd_meanings.specs.declared.atoms.Operand.TheVariants as operand
 use Rattle.dd_meanings.specs.Formulas.{label_of, term_of, side_of, equal_of, not_equal_of, said_of, atom_of, ball_of, implied_of, iff_behind, joined_of, quantified_of, formula_step, formula_of}
-use Rattle.dd_meanings.specs.making.Parts.{IsFormulaOf}
 use Rattle.dd_faults.specs.lemmas.Nothing.{both_nil}
 use Rattle.dd_meanings.proofs.Nothing.{parts, all_where}
 use Rattle.dd_meanings.proofs.NameLaws.{number_below, variable_below}
@@ -232,7 +231,7 @@ module _ (x : Context) (same : x.known.setting.topology.nodes ≡ length x.known
       let means = ap (λ (h : List Word → Formula). h scope) (written_rolls (List Word → Formula) (formula_step x) z) in
       (ap (λ (f : Formula). its_fits f (length scope + 1)) means ∙ made.0, omega (arith, ap depth means, written_rolls ℕ written_step z, made.1)))
 
-pub is_formula : (x : Context) (f : Written) → IsSound x.known → formula_faults x f [] ≡ [] → written_depth f ≤ 64 → IsFormulaOf x.known (formula_of x f [])
+pub is_formula : (x : Context) (f : Written) → IsSound x.known → formula_faults x f [] ≡ [] → written_depth f ≤ 64 → IsFormula x.known.setting.topology x.known.setting.sets.symbols (formula_of x f [])
 is_formula x f sound none shallow =
     let fine = all_fine x sound.setting.topology.nodes sound.setting.alphabet f [] none in
     record { numbers = fine.0; depth = omega (arith, fine.1, shallow) }
