@@ -22,7 +22,7 @@ use Rattle.dd_lattice.specs.lemmas.ListLaws.{Contains-nil, Contains-cons_cases, 
 use Rattle.dd_topology.specs.lemmas.ListLaws.{some_passes}
 use Rattle.dd_faults.specs.declared.context.Context.{Context}
 use Rattle.dd_faults.specs.Repeats.{edge_key, twice_label, twice_labelled}
-use Rattle.dd_faults.specs.Commands.{dimension_of, is_far, edge_faults, faults_of}
+use Rattle.dd_faults.specs.Commands.{dimension_of, edge_faults, faults_of}
 use Rattle.dd_faults.specs.lemmas.Repeats.{once}
 use Rattle.dd_query.specs.lemmas.Offsets.{offset_is}
 use Rattle.dd_meanings.specs.Topologies.{first_seen_names, label_text, labels_of, edge_of}

@@ -1,10 +1,7 @@
 -- Names by their numbers, and names that are given once.
-use Rattle.std.proofs.Common.{◌≡◌, ℕ, ◌<◌, ◌+◌, true, false, List, [], length, slice_index_or, Option, Some, None, Contains, refl, sym, ◌∙◌, arith, true≢false, Decides}
+use Rattle.std.proofs.Common.{◌≡◌, ℕ, ◌<◌, ◌+◌, true, false, List, [], length, slice_index_or, Option, Some, None, Contains, refl, sym, ◌∙◌, arith, true≢false}
 use Rattle.std.specs.Prelude.{bytes_eq, unwrap_or, is_some}
-use Rattle.std.specs.List.{list_any}
-use Rattle.std.specs.Cmp.Lexicographic.{nat_list_eq_equiv}
 use Rattle.std.proofs.lemmas.Bool.Decides.{nat_tests}
-use Rattle.std.proofs.lemmas.Map.Views.{list_any-from_Contains, Contains-from_any}
 use Rattle.std.proofs.lemmas.Slice.Eq.{bytes_eq-Decides}
 use Rattle.std.proofs.lemmas.List.Sums.{fails_before_first}
 use Rattle.std.proofs.lemmas.Grind.{common_steps}
