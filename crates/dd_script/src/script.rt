@@ -54,23 +54,7 @@ impl Model for Script {
 impl Script {
     ghost use Rattle.std.specs.Prelude.{◌≡◌};
     ghost use Rattle.dd_values.specs.Ranges.{AreLimits};
-    ghost use Rattle.dd_script.specs.Parts.{parts};
     ghost use Rattle.dd_script.specs.Kept.{IsScriptOf};
-
-    /// What it says of cells and names.
-    fn known(&self) -> &Known
-        ensures value { result.now ≡ self.now.known }
-        ensures kept { IsScriptOf self.now }
-    {
-        &self.contents.get().known
-    }
-
-    /// What it defines and asks.
-    fn made(&self) -> &Made
-        ensures { parts self.now.known result.now ≡ self.now }
-    {
-        &self.contents.get().made
-    }
 
     /// The dimension: 1, 2 or 3.
     pub fn dim(&self) -> u32
@@ -175,7 +159,8 @@ impl Script {
         ensures { Asks self.now query.now (asked_of result) }
     {
         self.sound_questions();
-        question_of(self.known(), self.made(), query)
+        let contents = self.contents.get();
+        question_of(&contents.known, &contents.made, query)
     }
 
     /// Does nothing; its contract says that what the queries ask is sound.
