@@ -1,39 +1,32 @@
 -- What the queries of a script ask: it goes together, as its rules, automata and configurations are the script's.
 use Rattle.std.proofs.Common.{◌≡◌, ◌<◌, ℕ, List, refl, ap, sym, subst, ◌∙◌, Some, None}
 use Rattle.std.specs.Prelude.{Option, option_map, IfSome}
-use Rattle.std.specs.List.{All, Contains, slice_get}
+use Rattle.std.specs.List.{All, slice_get}
 use Rattle.std.specs.Option.{option_and_then}
 use Rattle.std.proofs.lemmas.List.Elements.{All-contains}
 use Rattle.std.proofs.lemmas.Option.{slice_get_within, get_or_from_slice_get}
-use Rattle.dd_formula.specs.LocalRule.{LocalRule}
-use Rattle.dd_formula.specs.Automata.{CommonNumbers, IsAutomaton}
-use Rattle.dd_formula.specs.declared.automaton.Automaton.{Automaton}
+use Rattle.dd_formula.specs.Automata.{CommonNumbers}
 use Rattle.dd_values.specs.declared.limits.Limits.{Limits}
 use Rattle.dd_boxes.specs.Discharges.{AreVectors}
 use Rattle.dd_boxes.specs.Goals.{breaks, differ, always, AreAlike}
 use Rattle.dd_boxes.specs.Views.{numbers_of}
-use Rattle.dd_faults.specs.declared.context.Known.{Known}
-use Rattle.dd_query.specs.declared.queries.Query.{Query}
 use Rattle.dd_query.specs.declared.queries.Query.TheVariants as query
-use Rattle.dd_query.specs.Sound.{IsQueryWithin}
-use Rattle.dd_meanings.specs.Made.{script_numbers, IsRuleOf}
-use Rattle.dd_meanings.specs.Sound.{IsConfigurationOf}
 use Rattle.dd_question.specs.Questions.{Asked, membership, box, equality, listing, density, discharge}
 use Rattle.dd_question.specs.Formed.{IsFormed}
 use Rattle.dd_question.specs.Excesses.{excess_of}
 use Rattle.dd_question.specs.Sound.{IsSoundAsked}
-use Rattle.dd_script.specs.Parts.{Parts}
+use Rattle.dd_script.specs.Parts.{Parts, LocalRule, Automaton, Known, Query}
 use Rattle.dd_script.specs.Questions.{of_both, of_three, asked}
-use Rattle.dd_script.specs.Kept.{IsQueryOf, IsScriptOf}
+use Rattle.dd_script.specs.Kept.{IsQueryOf, AreNamed, IsScriptOf, IsAutomaton, IsQueryWithin, script_numbers, IsRuleOf}
 use Rattle.dd_script.specs.Asking.{AreOf, AreSound}
 use Rattle.dd_script.proofs.Measures.{strip_of, has_weights, weights_for, vectors_of}
 
 -- an item of a list of such items
-item_at : {X : Type 0} (P : X → Type 0) (xs : List X) (n : ℕ) → All P xs → IfSome (slice_get xs n) P
-item_at {X = X} P xs n all = by (slice_get xs n) refl where
+item_at : {X : Type 0} {P : X → Type 0} {names : List (List ℕ)} {xs : List X} → AreNamed P names xs → (n : ℕ) → IfSome (slice_get xs n) P
+item_at {X = X} {P = P} {xs = xs} are n = by (slice_get xs n) refl where
   by : (o : Option X) → slice_get xs n ≡ o → IfSome o P
   by None is = tt
-  by (Some x) is = subst P (get_or_from_slice_get xs n x x is) (all n x (slice_get_within xs n x is))
+  by (Some x) is = subst P (get_or_from_slice_get xs n x x is) (are.each n x (slice_get_within xs n x is))
 
 -- a question that goes together, about rules of the script
 abbrev FitsIn : Known → Asked → Type 0
@@ -59,15 +52,6 @@ module _ (s : Parts) (ok : IsScriptOf s) where
   abbrev IsOf : LocalRule → Type 0
   IsOf = IsRuleOf s.known.setting
 
-  rule_at : (n : ℕ) → IfSome (slice_get s.rules n) IsOf
-  rule_at n = item_at IsOf s.rules n ok.rules.each
-
-  automaton_at : (n : ℕ) → IfSome (slice_get s.automata n) (IsAutomaton (script_numbers s.known))
-  automaton_at n = item_at (IsAutomaton (script_numbers s.known)) s.automata n ok.automata.each
-
-  configuration_at : (n : ℕ) → IfSome (slice_get s.configurations n) (IsConfigurationOf s.known.setting)
-  configuration_at n = item_at (IsConfigurationOf s.known.setting) s.configurations n ok.configurations.each
-
   alike : (x y : LocalRule) → IsOf x → IsOf y → AreAlike x y
   alike x y of also = record { dimension = also.dimension ∙ sym of.dimension; nodes = also.nodes ∙ sym of.nodes; symbols = also.symbols ∙ sym of.symbols }
 
@@ -79,29 +63,29 @@ module _ (s : Parts) (ok : IsScriptOf s) where
 
   pub asked_fits : (q : Query) (a : Asked) → IsQueryWithin s.known q → asked s q ≡ Some a → FitsIn s.known a
   asked_fits (query.Member configuration rule) a within =
-      of_both_fits s.known membership (slice_get s.rules rule) (slice_get s.configurations configuration) a (rule_at rule) (configuration_at configuration)
+      of_both_fits s.known membership (slice_get s.rules rule) (slice_get s.configurations configuration) a (item_at ok.rules rule) (item_at ok.configurations configuration)
       (λ x t of told.
       let below : All (λ (n : ℕ). n < x.symbols) t.symbols = subst (λ (m : ℕ). All (λ (n : ℕ). n < m) t.symbols) (sym of.symbols) told.symbols in
       ((of.rule, told.tile, record { dimension = told.dimension ∙ sym of.dimension; nodes = told.nodes ∙ sym of.nodes; symbols = below }), of))
   asked_fits (query.Contains outer inner) a within =
-      of_both_fits s.known (λ x y. box x (breaks y)) (slice_get s.rules inner) (slice_get s.rules outer) a (rule_at inner) (rule_at outer)
+      of_both_fits s.known (λ x y. box x (breaks y)) (slice_get s.rules inner) (slice_get s.rules outer) a (item_at ok.rules inner) (item_at ok.rules outer)
       (λ x y of also. ((of.rule, alike x y of also, also.rule), of))
   asked_fits (query.Equal left right) a within =
-      of_both_fits s.known equality (slice_get s.rules left) (slice_get s.rules right) a (rule_at left) (rule_at right)
+      of_both_fits s.known equality (slice_get s.rules left) (slice_get s.rules right) a (item_at ok.rules left) (item_at ok.rules right)
       (λ x y of also. ((of.rule, also.rule, alike x y of also), (of, also)))
   asked_fits (query.Empty rule) a within =
-      of_one_fits s.known (λ x. box x always) (slice_get s.rules rule) a (rule_at rule) (λ x of. ((of.rule, tt, tt), of))
+      of_one_fits s.known (λ x. box x always) (slice_get s.rules rule) a (item_at ok.rules rule) (λ x of. ((of.rule, tt, tt), of))
   asked_fits (query.Agree left right rule) a within =
       of_three_fits s.known (λ x f g. box x (differ (numbers_of x) f g)) (slice_get s.rules rule) (slice_get s.automata left) (slice_get s.automata right) a
-      (rule_at rule) (automaton_at left) (automaton_at right)
+      (item_at ok.rules rule) (item_at ok.automata left) (item_at ok.automata right)
       (λ x f g of formed also.
       ((of.rule, record { dimension = refl; nodes = refl; symbols = refl; left = over_rule x f of formed; right = over_rule x g of also }, tt), of))
-  asked_fits (query.Forbidden rule) a within = of_one_fits s.known listing (slice_get s.rules rule) a (rule_at rule) (λ x of. (of.rule, of))
+  asked_fits (query.Forbidden rule) a within = of_one_fits s.known listing (slice_get s.rules rule) a (item_at ok.rules rule) (λ x of. (of.rule, of))
   asked_fits (query.Density rule strip) a within =
-      of_one_fits s.known (λ x. density x strip s.known.weights) (slice_get s.rules rule) a (rule_at rule)
+      of_one_fits s.known (λ x. density x strip s.known.weights) (slice_get s.rules rule) a (item_at ok.rules rule)
       (λ x of. ((of.rule, strip_of x _ _ of.symbols of.dimension strip within.1, has_weights x _ _ of.symbols of.dimension s.known.weights ok.known.weights), of))
   asked_fits (query.Discharge rule radius margin vectors) a within =
-      of_one_fits s.known (λ x. discharge x radius margin vectors s.known.weights) (slice_get s.rules rule) a (rule_at rule)
+      of_one_fits s.known (λ x. discharge x radius margin vectors s.known.weights) (slice_get s.rules rule) a (item_at ok.rules rule)
       (λ x of. (
         (
           of.rule,
@@ -115,12 +99,9 @@ module _ (s : Parts) (ok : IsScriptOf s) where
         of,
       ))
 
-  pub query_of : (q : Query) → Contains s.queries q → IsQueryOf s q
-  query_of q there = All-contains (IsQueryOf s) s.queries q ok.queries there
-
   -- what passes no limit is sound
   pub questions_sound : ((l : Limits) (a : Asked) → IsFormed a → excess_of l a ≡ None → IsSoundAsked l a) → AreSound s
   questions_sound law q a there is =
-      let of = query_of q there in
+      let of = All-contains (IsQueryOf s) s.queries q ok.queries there in
       let fits = asked_fits q a of.within is in
       record { sound = law s.known.limits a fits.0 (sym (ap (option_and_then (excess_of s.known.limits)) is) ∙ of.light); of = fits.1 }

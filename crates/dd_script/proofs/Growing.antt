@@ -4,19 +4,11 @@ use Rattle.std.specs.List.{All, slice_get}
 use Rattle.std.specs.Option.{option_and_then}
 use Rattle.std.proofs.lemmas.List.{length-append}
 use Rattle.std.proofs.lemmas.List.Elements.{All-push, All-weaker}
-use Rattle.dd_formula.specs.LocalRule.{LocalRule}
-use Rattle.dd_formula.specs.Automata.{IsAutomaton}
-use Rattle.dd_formula.specs.declared.automaton.Automaton.{Automaton}
-use Rattle.dd_pattern.specs.Tile.{Tile}
-use Rattle.dd_query.specs.declared.queries.Query.{Query}
 use Rattle.dd_query.specs.declared.queries.Query.TheVariants as query
-use Rattle.dd_query.specs.Sound.{IsQueryWithin}
-use Rattle.dd_meanings.specs.Made.{IsRuleOf, script_numbers}
-use Rattle.dd_meanings.specs.Sound.{IsConfigurationOf}
 use Rattle.dd_question.specs.Excesses.{excess_of}
-use Rattle.dd_script.specs.Parts.{Parts}
-use Rattle.dd_script.specs.Questions.{asked, query_excess}
-use Rattle.dd_script.specs.Kept.{IsQueryOf, AreNamed, IsScriptOf}
+use Rattle.dd_script.specs.Parts.{Parts, LocalRule, Automaton, Tile, Query}
+use Rattle.dd_script.specs.Questions.{asked}
+use Rattle.dd_script.specs.Kept.{IsQueryOf, AreNamed, IsScriptOf, IsAutomaton, IsQueryWithin, IsRuleOf, script_numbers, IsConfigurationOf, query_excess}
 
 -- items with their names, which begin with the old ones
 pub record Grown {X : Type 0} (P : X → Type 0) (old : List X) (names : List (List ℕ)) (xs : List X) : Type 0 where
@@ -39,61 +31,52 @@ one_more {P = P} {names = names} {xs = xs} name x are is = record {
   same = get_left xs (x ∷ []);
 }
 
-module _ (s : Parts) (is : IsScriptOf s) {R A C : List (List ℕ)} {rs : List LocalRule} {fs : List Automaton} {ts : List Tile} (qs : List Query)
-    (rules : Grown (IsRuleOf s.known.setting) s.rules R rs) (automata : Grown (IsAutomaton (script_numbers s.known)) s.automata A fs)
-    (configurations : Grown (IsConfigurationOf s.known.setting) s.configurations C ts) where
-  abbrev pub grown : Parts
-  grown = record { known = record (s.known) { rules = R; automata = A; configurations = C }; rules = rs; automata = fs; configurations = ts; queries = qs }
+-- what a number named is still there
+still : {X : Type 0} {P Q : X → Type 0} {before names : List (List ℕ)} {old xs : List X} → AreNamed Q before old → Grown P old names xs → (n : ℕ) → n < length before → (n < length names) × (slice_get xs n ≡ slice_get old n)
+still was grown n lt = (omega (arith, lt, was.named, grown.more, grown.are.named), grown.same n (omega (arith, lt, was.named)))
 
-  rule_at : (n : ℕ) → n < length s.known.rules → (n < length R) × (slice_get rs n ≡ slice_get s.rules n)
-  rule_at n lt = let below : n < length s.rules = omega (arith, lt, is.rules.named) in (omega (arith, below, rules.more, rules.are.named), rules.same n below)
+module _ (s : Parts) (is : IsScriptOf s) {R A C : List (List ℕ)} {rs : List LocalRule} {fs : List Automaton} {ts : List Tile} (rules : Grown (IsRuleOf s.known.setting) s.rules R rs)
+    (automata : Grown (IsAutomaton (script_numbers s.known)) s.automata A fs) (configurations : Grown (IsConfigurationOf s.known.setting) s.configurations C ts) where
+  abbrev pub grown : List Query → Parts
+  grown qs = record { known = record (s.known) { rules = R; automata = A; configurations = C }; rules = rs; automata = fs; configurations = ts; queries = qs }
 
-  automaton_at : (n : ℕ) → n < length s.known.automata → (n < length A) × (slice_get fs n ≡ slice_get s.automata n)
-  automaton_at n lt = let below : n < length s.automata = omega (arith, lt, is.automata.named) in (omega (arith, below, automata.more, automata.are.named), automata.same n below)
+  module _ (qs : List Query) where
+    -- a query names what it named, and asks the same
+    same_query : (q : Query) → IsQueryWithin s.known q → IsQueryWithin (grown qs).known q × (asked (grown qs) q ≡ asked s q)
+    same_query (query.Member configuration rule) has =
+        let t = still is.configurations configurations configuration has.0 in let x = still is.rules rules rule has.1 in ((t.0, x.0), rw (x.1, t.1) refl)
+    same_query (query.Contains outer inner) has = let x = still is.rules rules outer has.0 in let y = still is.rules rules inner has.1 in ((x.0, y.0), rw (x.1, y.1) refl)
+    same_query (query.Equal left right) has = let x = still is.rules rules left has.0 in let y = still is.rules rules right has.1 in ((x.0, y.0), rw (x.1, y.1) refl)
+    same_query (query.Empty rule) has = let x = still is.rules rules rule has in (x.0, rw (x.1) refl)
+    same_query (query.Agree left right rule) has =
+        let f = still is.automata automata left has.0 in
+        let g = still is.automata automata right has.1 in
+        let x = still is.rules rules rule has.2 in
+        ((f.0, g.0, x.0), rw (f.1, g.1, x.1) refl)
+    same_query (query.Forbidden rule) has = let x = still is.rules rules rule has in (x.0, rw (x.1) refl)
+    same_query (query.Density rule strip) has = let x = still is.rules rules rule has.0 in ((x.0, has.1), rw (x.1) refl)
+    same_query (query.Discharge rule radius margin vectors) has = let x = still is.rules rules rule has.0 in ((x.0, has.1, has.2, has.3), rw (x.1) refl)
 
-  configuration_at : (n : ℕ) → n < length s.known.configurations → (n < length C) × (slice_get ts n ≡ slice_get s.configurations n)
-  configuration_at n lt =
-      let below : n < length s.configurations = omega (arith, lt, is.configurations.named) in (omega (arith, below, configurations.more, configurations.are.named), configurations.same n below)
+    query_kept : (q : Query) → IsQueryOf s q → IsQueryOf (grown qs) q
+    query_kept q of = let same = same_query q of.within in record { within = same.0; light = ap (option_and_then (excess_of s.known.limits)) same.1 ∙ of.light }
 
-  -- a query names what it named, and asks the same
-  same_query : (q : Query) → IsQueryWithin s.known q → IsQueryWithin grown.known q × (asked grown q ≡ asked s q)
-  same_query (query.Member configuration rule) has = let t = configuration_at configuration has.0 in let x = rule_at rule has.1 in ((t.0, x.0), rw (x.1, t.1) refl)
-  same_query (query.Contains outer inner) has = let x = rule_at outer has.0 in let y = rule_at inner has.1 in ((x.0, y.0), rw (x.1, y.1) refl)
-  same_query (query.Equal left right) has = let x = rule_at left has.0 in let y = rule_at right has.1 in ((x.0, y.0), rw (x.1, y.1) refl)
-  same_query (query.Empty rule) has = let x = rule_at rule has in (x.0, rw (x.1) refl)
-  same_query (query.Agree left right rule) has =
-      let f = automaton_at left has.0 in let g = automaton_at right has.1 in let x = rule_at rule has.2 in ((f.0, g.0, x.0), rw (f.1, g.1, x.1) refl)
-  same_query (query.Forbidden rule) has = let x = rule_at rule has in (x.0, rw (x.1) refl)
-  same_query (query.Density rule strip) has = let x = rule_at rule has.0 in ((x.0, has.1), rw (x.1) refl)
-  same_query (query.Discharge rule radius margin vectors) has = let x = rule_at rule has.0 in ((x.0, has.1, has.2, has.3), rw (x.1) refl)
+    queries_kept : All (IsQueryOf (grown qs)) s.queries
+    queries_kept = All-weaker (IsQueryOf s) (IsQueryOf (grown qs)) query_kept s.queries is.queries
 
-  query_kept : (q : Query) → IsQueryOf s q → IsQueryOf grown q
-  query_kept q of = let same = same_query q of.within in record { within = same.0; light = ap (option_and_then (excess_of s.known.limits)) same.1 ∙ of.light }
+    script_kept : All (IsQueryOf (grown qs)) qs → IsScriptOf (grown qs)
+    script_kept queries = record {
+      known = record { setting = is.known.setting; weights = is.known.weights; limits = is.known.limits };
+      rules = rules.are;
+      automata = automata.are;
+      configurations = configurations.are;
+      queries = queries;
+    }
 
-  pub queries_kept : All (IsQueryOf grown) s.queries
-  queries_kept = All-weaker (IsQueryOf s) (IsQueryOf grown) query_kept s.queries is.queries
+  -- with more definitions
+  pub more_defined : IsScriptOf (grown s.queries)
+  more_defined = script_kept s.queries (queries_kept s.queries)
 
-  pub script_kept : All (IsQueryOf grown) qs → IsScriptOf grown
-  script_kept queries = record {
-    known = record { setting = is.known.setting; weights = is.known.weights; limits = is.known.limits };
-    rules = rules.are;
-    automata = automata.are;
-    configurations = configurations.are;
-    queries = queries;
-  }
-
--- with more definitions
-pub more_defined : (s : Parts) → IsScriptOf s → {R A C : List (List ℕ)} {rs : List LocalRule} {fs : List Automaton} {ts : List Tile} → Grown (IsRuleOf s.known.setting) s.rules R rs
-    → Grown (IsAutomaton (script_numbers s.known)) s.automata A fs → Grown (IsConfigurationOf s.known.setting) s.configurations C ts
-    → IsScriptOf (record { known = record (s.known) { rules = R; automata = A; configurations = C }; rules = rs; automata = fs; configurations = ts; queries = s.queries })
-more_defined s is rules automata configurations = script_kept s is s.queries rules automata configurations (queries_kept s is s.queries rules automata configurations)
-
--- with a query more
-pub more_asked : (s : Parts) (q : Query) → IsScriptOf s → IsQueryWithin s.known q → query_excess s q ≡ None → IsScriptOf (record s { queries = s.queries ++ q ∷ [] })
-more_asked s q is within light =
-    let t : Parts = record s { queries = s.queries ++ q ∷ [] } in
-    let rules = stay is.rules in
-    let automata = stay is.automata in
-    let configurations = stay is.configurations in
-    let here : IsQueryOf t q = query_kept s is t.queries rules automata configurations q (record { within = within; light = light }) in
-    script_kept s is t.queries rules automata configurations (All-push (IsQueryOf t) s.queries q (queries_kept s is t.queries rules automata configurations) here)
+  -- with a query more
+  pub more_asked : (q : Query) → IsQueryWithin s.known q → query_excess s q ≡ None → IsScriptOf (grown (s.queries ++ q ∷ []))
+  more_asked q within light =
+      let all : List Query = s.queries ++ q ∷ [] in script_kept all (All-push (IsQueryOf (grown all)) s.queries q (queries_kept all) (query_kept all q (record { within = within; light = light })))

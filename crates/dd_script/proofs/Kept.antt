@@ -1,44 +1,37 @@
 -- What every script keeps, behind each command.
-use Rattle.std.proofs.Common.{◌≡◌, ℕ, zero, suc, ◌+◌, ◌≤◌, List, [], length, replicate, Bool, true, false, Option, Some, None, refl, sym, subst, ◌∙◌, arith}
+use Rattle.std.proofs.Common.{◌≡◌, ℕ, ◌≤◌, List, [], length, replicate, Bool, true, false, Option, Some, None, refl, sym, subst, ◌∙◌, arith}
 use Rattle.std.specs.Prelude.{if◌then◌else◌}
 use Rattle.std.specs.List.{All, range_with_len}
 use Rattle.std.specs.Option.{option_map}
-use Rattle.std.proofs.lemmas.List.Elements.{All-nil, All-cons}
+use Rattle.std.proofs.lemmas.List.Elements.{All-nil}
 use Rattle.std.proofs.lemmas.List.{length-set, length-replicate}
-use Rattle.std.proofs.lemmas.List.FromFn.{length-range_with_len}
+use Rattle.std.proofs.lemmas.List.FromFn.{length-range_with_len, get_or-range_with_len}
 use Rattle.dd_values.specs.declared.limits.Limits.{Limits}
 use Rattle.dd_values.specs.Ranges.{AreLimits}
 use Rattle.dd_topology.specs.Grid.{Grid}
 use Rattle.dd_topology.specs.Builtin.{grid_of}
 use Rattle.dd_topology.specs.Sets.{IsSets, symbol_row}
-use Rattle.dd_formula.specs.Automata.{IsAutomaton}
-use Rattle.dd_written.specs.Values.{word_text}
 use Rattle.dd_commands.specs.declared.command.Command.{Command}
 use Rattle.dd_commands.specs.declared.command.Command.TheVariants as command
 use Rattle.dd_commands.specs.Heads.{head_of, stage}
 use Rattle.dd_faults.specs.declared.fault.Fault.TheVariants as fault
 use Rattle.dd_faults.specs.declared.context.Setting.{Setting}
-use Rattle.dd_faults.specs.declared.context.Known.{Known}
 use Rattle.dd_faults.specs.Sound.{IsSetting, AreWeights}
-use Rattle.dd_meanings.specs.Made.{IsRuleOf, script_numbers}
-use Rattle.dd_meanings.specs.declared.meaning.Meaning.{Meaning}
 use Rattle.dd_meanings.specs.declared.meaning.Meaning.TheVariants as meant
 use Rattle.dd_meanings.specs.Meanings.{meaning}
 use Rattle.dd_meanings.specs.Topologies.{kind_names}
-use Rattle.dd_meanings.specs.Sound.{IsConfigurationOf, IsSoundMeaning}
+use Rattle.dd_meanings.specs.Sound.{IsSoundMeaning}
 use Rattle.dd_script.specs.declared.draft.Draft.{Draft}
-use Rattle.dd_script.specs.Parts.{Parts}
-use Rattle.dd_script.specs.Questions.{query_excess}
-use Rattle.dd_script.specs.Kept.{IsQueryOf, AreNamed, IsScriptOf}
-use Rattle.dd_script.specs.Walk.{with, limit_of, asked_fault}
+use Rattle.dd_script.specs.Parts.{Parts, Known}
+use Rattle.dd_script.specs.Kept.{IsQueryOf, AreNamed, IsScriptOf, IsAutomaton, IsRuleOf, script_numbers, IsConfigurationOf, query_excess}
+use Rattle.dd_script.specs.Walk.{with, limit_of, asked_fault, word_text, Meaning}
 use Rattle.dd_script.specs.drafting.Standing.{IsFresh, IsReady}
 use Rattle.dd_script.specs.drafting.Drafts.{parts_of}
 use Rattle.dd_script.proofs.Growing.{stay, one_more, more_defined, more_asked}
 
 -- the numbers below a number are light, as weights
-light_range : (a n : ℕ) → a + n ≤ 1001 → All (λ w. w ≤ 1000) (range_with_len a n)
-light_range a zero le = All-nil (λ w. w ≤ 1000)
-light_range a (suc n) le = All-cons (λ w. w ≤ 1000) a (range_with_len (a + 1) n) (omega (arith, le)) (light_range (a + 1) n (omega (arith, le)))
+light_range : (n : ℕ) → n ≤ 1001 → All (λ w. w ≤ 1000) (range_with_len 0 n)
+light_range n le = λ i d lt. omega (arith, le, length-range_with_len 0 n, get_or-range_with_len 0 n i d)
 
 unmapped : {X Y : Type 0} (f : X → Y) (o : Option X) → option_map f o ≡ None → o ≡ None
 unmapped f None e = refl
@@ -69,6 +62,10 @@ changed s is fresh place {S = S} {given = given} {only = only} {ws = ws} {l = l}
       },
       λ header. fresh,
     )
+
+-- past the header, anything may be defined
+past : (place : ℕ) {s : Parts} → 7 ≤ place → IsScriptOf s → Behind place s
+past place le is = (is, λ header. absurd (omega (arith, le, header)))
 
 module _ (d : Draft) (is : IsScriptOf (parts_of d)) where
   abbrev s : Parts
@@ -108,7 +105,7 @@ module _ (d : Draft) (is : IsScriptOf (parts_of d)) where
         sets = record { symbols = has.symbols; nodes = length-replicate (length s.known.setting.nodes) _; rows = has.rows };
         alphabet = refl;
       })
-      (record { each = length-range_with_len 0 _; light = light_range 0 _ (omega (arith, sound.few)) }) is.known.limits
+      (record { each = length-range_with_len 0 _; light = light_range _ (omega (arith, sound.few)) }) is.known.limits
   kept_behind (command.Topology t) =
       (elim (d.context.known.nodes_are_given) as (λ b. KeptBy 3 (if b then meant.Topology (grid_of t) else meant.Nodes (kind_names t) false (grid_of t))) [
         | true ↦ by_topology 3 (omega arith) (grid_of t)
@@ -128,13 +125,9 @@ module _ (d : Draft) (is : IsScriptOf (parts_of d)) where
       is.known.weights is.known.limits
   kept_behind (command.Weights ns) = λ ready sound light has. changed s is (ready (omega arith)) 5 is.known.setting sound is.known.limits
   kept_behind (command.Limits radius period pivots) = λ ready sound light has. changed s is (ready (omega arith)) 6 is.known.setting is.known.weights sound
-  kept_behind (command.Rule name f) = λ ready sound light has.
-      (more_defined s is (one_more (word_text d.context.text name) _ is.rules sound.1) (stay is.automata) (stay is.configurations), λ header. absurd (omega (arith, header)))
-  kept_behind (command.Automaton name cases symbol) = λ ready sound light has.
-      (more_defined s is (stay is.rules) (one_more (word_text d.context.text name) _ is.automata sound.1) (stay is.configurations), λ header. absurd (omega (arith, header)))
-  kept_behind (command.Composition name outer inner) = λ ready sound light has.
-      (more_defined s is (stay is.rules) (one_more (word_text d.context.text name) _ is.automata sound.1) (stay is.configurations), λ header. absurd (omega (arith, header)))
-  kept_behind (command.Configuration name periods shear symbols) = λ ready sound light has.
-      (more_defined s is (stay is.rules) (stay is.automata) (one_more (word_text d.context.text name) _ is.configurations sound.1), λ header. absurd (omega (arith, header)))
+  kept_behind (command.Rule name f) = λ ready sound light has. past 7 (omega arith) (more_defined s is (one_more (word_text d.context.text name) _ is.rules sound.1) (stay is.automata) (stay is.configurations))
+  kept_behind (command.Automaton name cases symbol) = λ ready sound light has. past 7 (omega arith) (more_defined s is (stay is.rules) (one_more (word_text d.context.text name) _ is.automata sound.1) (stay is.configurations))
+  kept_behind (command.Composition name outer inner) = λ ready sound light has. past 7 (omega arith) (more_defined s is (stay is.rules) (one_more (word_text d.context.text name) _ is.automata sound.1) (stay is.configurations))
+  kept_behind (command.Configuration name periods shear symbols) = λ ready sound light has. past 7 (omega arith) (more_defined s is (stay is.rules) (stay is.automata) (one_more (word_text d.context.text name) _ is.configurations sound.1))
   kept_behind (command.Query r) = λ ready sound light has.
-      (more_asked s _ is sound (unmapped (λ e. fault.Size (limit_of e)) (query_excess s _) light), λ header. absurd (omega (arith, header)))
+      past 7 (omega arith) (more_asked s is (stay is.rules) (stay is.automata) (stay is.configurations) _ sound (unmapped (λ e. fault.Size (limit_of e)) (query_excess s _) light))

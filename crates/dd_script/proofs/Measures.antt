@@ -50,11 +50,9 @@ same_place p q = (equal (place_cmp p q) refl, λ is. subst (λ (r : Place). is_e
 -- an entry along an axis, or 0 where there is no such axis
 on_axis : (active : Bool) (z : ℤ) → nat_le (unsigned_abs z) (cond active 4 0) ≡ true → (unsigned_abs z ≤ 4) × ((active || int_eq z (pos 0)) ≡ true)
 on_axis true z h = (leb-true (unsigned_abs z) 4 h, refl)
-on_axis false z h = none z (leb-true (unsigned_abs z) 0 h) where
-  none : (y : ℤ) → unsigned_abs y ≤ 0 → (unsigned_abs y ≤ 4) × (int_eq y (pos 0) ≡ true)
-  none (pos zero) le = (omega arith, refl)
-  none (pos (suc n)) le = absurd (omega (arith, le))
-  none (negsuc n) le = absurd (omega (arith, le))
+on_axis false (pos zero) h = (omega arith, refl)
+on_axis false (pos (suc n)) h = absurd (omega (arith, leb-true (suc n) 0 h))
+on_axis false (negsuc n) h = absurd (omega (arith, leb-true (suc n) 0 h))
 
 vector_of : (d : ℕ) (v : Place) → is_offset d v ≡ true → IsVector d v
 vector_of d v h =

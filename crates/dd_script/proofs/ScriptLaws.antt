@@ -2,10 +2,9 @@
 use Rattle.std.proofs.Common.{◌≡◌, ◌⊎◌, ℕ, List, Option, Some, None, refl, sym, ap, ◌∙◌, inl, inr}
 use Rattle.dd_commands.specs.declared.script.Syntax.{Syntax}
 use Rattle.dd_commands.specs.Scripts.{IsScript, IsSyntaxFault}
-use Rattle.dd_faults.specs.declared.fault.Fault.{Fault}
 use Rattle.dd_faults.specs.declared.fault.Fault.TheVariants as fault
 use Rattle.dd_script.specs.Parts.{Parts}
-use Rattle.dd_script.specs.Walk.{Located, located, first_located_fault, script_of}
+use Rattle.dd_script.specs.Walk.{Located, located, first_located_fault, script_of, Fault}
 use Rattle.dd_script.specs.Scripts.{Spells, RefusalKind, syntax, kind_of, HasFault, RefusedAs}
 
 abbrev OneTree : Type 0

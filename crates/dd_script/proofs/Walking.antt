@@ -5,27 +5,21 @@ use Rattle.std.specs.Option.{option_or, option_map}
 use Rattle.std.proofs.lemmas.Bool.{ltb-false}
 use Rattle.std.proofs.lemmas.List.{drop_more}
 use Rattle.std.proofs.lemmas.List.Elements.{All-get_or}
-use Rattle.dd_formula.specs.declared.automaton.Automaton.{Automaton}
 use Rattle.dd_written.specs.declared.lexeme.Lexeme.{Lexeme}
 use Rattle.dd_written.specs.Lexemes.{lexemes_of}
-use Rattle.dd_commands.specs.declared.script.Written.{Written}
 use Rattle.dd_commands.specs.declared.script.Syntax.{Syntax}
 use Rattle.dd_commands.specs.Heads.{head_of, is_once}
-use Rattle.dd_commands.specs.Scripts.{parts, stage_of, stage_after, AreCommands, IsScript, IsWritten}
-use Rattle.dd_faults.specs.declared.fault.Fault.{Fault}
+use Rattle.dd_commands.specs.Scripts.{parts, stage_after, AreCommands, IsScript, IsWritten}
 use Rattle.dd_faults.specs.declared.fault.Limit.TheVariants as limit
 use Rattle.dd_faults.specs.declared.fault.Refusal.{Refusal}
 use Rattle.dd_faults.specs.declared.fault.Refusal.TheVariants as refusal
-use Rattle.dd_faults.specs.Order.{first_fault, over, Accepts, Refuses}
-use Rattle.dd_faults.specs.Commands.{written_faults}
+use Rattle.dd_faults.specs.Order.{over, Accepts, Refuses}
 use Rattle.dd_faults.specs.lemmas.Nothing.{both_nil, within, none_first}
-use Rattle.dd_meanings.specs.declared.meaning.Meaning.{Meaning}
-use Rattle.dd_meanings.specs.Meanings.{meaning as meaning_of, counted_sizes}
 use Rattle.dd_meanings.specs.Sound.{IsSoundMeaning}
 use Rattle.dd_script.specs.declared.draft.Draft.{Draft}
-use Rattle.dd_script.specs.Parts.{Parts}
+use Rattle.dd_script.specs.Parts.{Parts, Automaton}
 use Rattle.dd_script.specs.Kept.{IsScriptOf}
-use Rattle.dd_script.specs.Walk.{start, asked_fault, Located, located, first_from, after_all, has_topology, first_located_fault, script_of}
+use Rattle.dd_script.specs.Walk.{start, asked_fault, Located, located, first_from, after_all, has_topology, first_located_fault, script_of, Written, stage_of, Fault, first_fault, written_faults, Meaning, meaning_of, counted_sizes}
 use Rattle.dd_script.specs.Scripts.{Spells, kind_of, HasFault}
 use Rattle.dd_script.specs.drafting.Standing.{IsReady}
 use Rattle.dd_script.specs.drafting.Drafts.{parts_of, draft_of, with_meaning, fault_at, behind, Means, Leaves}
@@ -34,11 +28,6 @@ use Rattle.dd_script.proofs.Kept.{HasSets, kept_behind}
 -- a command without a fault is one of the first thousand
 counted : (n : ℕ) (fs : List Fault) → over (nat_lt 1000 n) limit.Commands ++ fs ≡ [] → n ≤ 1000
 counted n fs e = ltb-false 1000 n (within (nat_lt 1000 n) limit.Commands (both_nil (over (nat_lt 1000 n) limit.Commands) fs e).0)
-
--- what is written comes before what is counted, and that before what is asked
-last_of_three : (written counted : List Fault) (asked found : Option Fault) → first_fault written ≡ None → counted ≡ [] → asked ≡ found →
-    option_or (first_fault written) (option_or (first_fault counted) asked) ≡ found
-last_of_three written counted asked found one two three = rw (one, two) three
 
 -- ---- behind one command
 
@@ -49,9 +38,7 @@ module _ (d : Draft) (w : Written) (fs : List Automaton) (same : fs ≡ d.made.a
   meant = subst (λ (x : List Automaton). m ≡ meaning_of d.context x w.command) same exact.1
 
   asked_is : (found : Option Fault) → asked_fault (parts_of d) m ≡ found → fault_at d w ≡ found
-  asked_is found is =
-      last_of_three (written_faults d.context w) _ _ found none (subst (λ (x : List Automaton). counted_sizes d.context x w.command ≡ []) same exact.0)
-      (ap (asked_fault (parts_of d)) (sym meant) ∙ is)
+  asked_is found is = rw (none, subst (λ (x : List Automaton). counted_sizes d.context x w.command ≡ []) same exact.0, ← meant) is
 
   means : IsSoundMeaning d.context m → asked_fault (parts_of d) m ≡ None → Means d w m
   means sound light = record {
@@ -126,15 +113,16 @@ behind_place w =
       | false ↦ omega arith
     ])
 
-no_fault_here : (n : ℕ) (found : Option Fault) (others : Option Located) → found ≡ None → option_or (option_map (located n) found) others ≡ others
-no_fault_here n found others e = ap (λ (o : Option Fault). option_or (option_map (located n) o) others) e
-
 module _ (text : List ℕ) (ws : List Written) (i : ℕ) (d : Draft) (w : Written) (lt : i < length ws) (is : w ≡ get_or ws i w) (sofar : Sofar text ws i d) where
   split : drop i ws ≡ w ∷ drop (i + 1) ws
   split = drop_more ws i w lt ∙ ap (λ (v : Written). v ∷ drop (i + 1) ws) (sym is)
 
   here : (sofar.from ≤ stage_of w) × (left : List (List Lexeme)) × AreCommands text (stage_after w) left (drop (i + 1) ws)
   here = next_one text sofar.from sofar.left w (drop (i + 1) ws) (subst (AreCommands text sofar.from sofar.left) split sofar.are)
+
+  -- the first fault from here on, where this one's is the command's
+  abbrev first_with : Option Fault → Option Located
+  first_with found = option_or (option_map (located d.context.number) found) (fault_from (behind d w) (drop (i + 1) ws))
 
   pub ready : IsReady (stage_of w) (parts_of d)
   ready = λ header. sofar.fresh (omega (arith, header, here.0))
@@ -151,20 +139,18 @@ module _ (text : List ℕ) (ws : List Written) (i : ℕ) (d : Draft) (w : Writte
         fresh = λ header. leaves.fresh (omega (arith, behind_place w, header));
         script = leaves.script;
         same_text = sofar.same_text;
-        faults = sym (no_fault_here d.context.number (fault_at d w) (fault_from (behind d w) (drop (i + 1) ws)) leaves.faultless) ∙ sym (ap (fault_from d) split) ∙ sofar.faults;
+        faults = sym (ap first_with leaves.faultless) ∙ sym (ap (fault_from d) split) ∙ sofar.faults;
         leads = sym (ap (script_from d) split) ∙ sofar.leads;
       })
 
   -- the walk stops here, and the text and the number are still those of the command
   pub stops : IsScript text (tree_of text ws) → (f : Fault) → fault_at d w ≡ Some f → (t : List ℕ) (n : ℕ) → t ≡ d.context.text → n ≡ d.context.number → HasFault t n (kind_of t f)
   stops written f found t n same number =
-      let first : fault_from d (w ∷ drop (i + 1) ws) ≡ Some (located d.context.number f) =
-      ap (λ (o : Option Fault). option_or (option_map (located d.context.number) o) (fault_from (behind d w) (drop (i + 1) ws))) found in
       subst (λ (u : List ℕ). HasFault u n (kind_of u f)) (sym (same ∙ sofar.same_text)) (record {
         tree = tree_of text ws;
         written = written;
         found = f;
-        comes_first = sym sofar.faults ∙ ap (fault_from d) split ∙ first ∙ ap (λ (m : ℕ). Some (located m f)) (sym number);
+        comes_first = sym sofar.faults ∙ ap (fault_from d) split ∙ ap first_with found ∙ ap (λ (m : ℕ). Some (located m f)) (sym number);
         is = refl;
       })
 

@@ -1,12 +1,10 @@
 -- What is known of each question that a script asks.
 use Rattle.std.specs.Prelude.{◌≡◌, Some}
 use Rattle.std.specs.List.{Contains}
-use Rattle.dd_faults.specs.declared.context.Known.{Known}
-use Rattle.dd_query.specs.declared.queries.Query.{Query}
-use Rattle.dd_meanings.specs.Made.{IsRuleOf}
 use Rattle.dd_question.specs.Questions.{Asked, membership, box, equality, listing, density, discharge}
 use Rattle.dd_question.specs.Sound.{IsSoundAsked}
-use Rattle.dd_script.specs.Parts.{Parts}
+use Rattle.dd_script.specs.Kept.{IsRuleOf}
+use Rattle.dd_script.specs.Parts.{Parts, Known, Query}
 use Rattle.dd_script.specs.Questions.{asked}
 
 -- the rules that a question is about are the script's

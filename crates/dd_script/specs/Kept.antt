@@ -1,14 +1,13 @@
 -- What every script keeps.
 use Rattle.std.specs.Prelude.{◌≡◌, None, ℕ, List, length}
 use Rattle.std.specs.List.{All}
-use Rattle.dd_formula.specs.Automata.{IsAutomaton}
+pub use Rattle.dd_formula.specs.Automata.{IsAutomaton}
 use Rattle.dd_faults.specs.Sound.{IsSound}
-use Rattle.dd_query.specs.declared.queries.Query.{Query}
-use Rattle.dd_query.specs.Sound.{IsQueryWithin}
-use Rattle.dd_meanings.specs.Made.{script_numbers, IsRuleOf}
-use Rattle.dd_meanings.specs.Sound.{IsConfigurationOf}
-use Rattle.dd_script.specs.Parts.{Parts}
-use Rattle.dd_script.specs.Questions.{query_excess}
+pub use Rattle.dd_query.specs.Sound.{IsQueryWithin}
+pub use Rattle.dd_meanings.specs.Made.{script_numbers, IsRuleOf}
+pub use Rattle.dd_meanings.specs.Sound.{IsConfigurationOf}
+use Rattle.dd_script.specs.Parts.{Parts, Query}
+pub use Rattle.dd_script.specs.Questions.{query_excess}
 
 -- it names what there is, its numbers and vectors are within their bounds, and what it asks passes no limit
 pub record IsQueryOf (s : Parts) (q : Query) : Type 0 where

@@ -1,10 +1,10 @@
 -- The parts of a script.
 use Rattle.std.specs.Prelude.{List}
-use Rattle.dd_formula.specs.LocalRule.{LocalRule}
-use Rattle.dd_formula.specs.declared.automaton.Automaton.{Automaton}
-use Rattle.dd_pattern.specs.Tile.{Tile}
-use Rattle.dd_faults.specs.declared.context.Known.{Known}
-use Rattle.dd_query.specs.declared.queries.Query.{Query}
+pub use Rattle.dd_formula.specs.LocalRule.{LocalRule}
+pub use Rattle.dd_formula.specs.declared.automaton.Automaton.{Automaton}
+pub use Rattle.dd_pattern.specs.Tile.{Tile}
+pub use Rattle.dd_faults.specs.declared.context.Known.{Known}
+pub use Rattle.dd_query.specs.declared.queries.Query.{Query}
 use Rattle.dd_script.specs.declared.script.Made.{Made}
 
 -- what a script says of cells and names; its rules, automata and configurations, in the order of their definitions; and its

@@ -1,12 +1,8 @@
 -- Scripts as far as their commands have been gone through.
 use Rattle.std.specs.Prelude.{ℕ, ◌+◌, ◌≡◌, ◌≤◌, List, Bool, Option, None}
 use Rattle.dd_values.specs.Bounds.{most_commands}
-use Rattle.dd_commands.specs.declared.script.Written.{Written}
-use Rattle.dd_commands.specs.Scripts.{stage_of}
 use Rattle.dd_commands.specs.declared.fault.SyntaxFault.{SyntaxFault}
 use Rattle.dd_commands.specs.declared.fault.SyntaxFault.TheVariants as unread
-use Rattle.dd_faults.specs.declared.fault.Fault.{Fault}
-use Rattle.dd_meanings.specs.declared.meaning.Meaning.{Meaning}
 use Rattle.dd_meanings.specs.Sound.{IsSoundMeaning}
 use Rattle.dd_script.specs.declared.draft.Draft.{Draft}
 use Rattle.dd_script.specs.declared.fault.ScriptFault.{ScriptFault}
@@ -14,7 +10,7 @@ use Rattle.dd_script.specs.declared.fault.ScriptKind.TheVariants as refused
 use Rattle.dd_script.specs.Parts.{Parts, parts}
 use Rattle.dd_script.specs.Kept.{IsScriptOf}
 use Rattle.dd_script.specs.drafting.Standing.{IsReady}
-use Rattle.dd_script.specs.Walk.{with, context, asked_fault, meaning_at, fault_of, next}
+use Rattle.dd_script.specs.Walk.{with, context, asked_fault, meaning_at, fault_of, next, Written, stage_of, Fault, Meaning}
 
 abbrev pub parts_of : Draft → Parts
 parts_of d = parts d.context.known d.made
