@@ -21,7 +21,7 @@ use Rattle.dd_meanings.specs.declared.meaning.Meaning.TheVariants as meaning
 pub use Rattle.dd_meanings.specs.Meanings.{meaning as meaning_of, counted_sizes}
 use Rattle.dd_question.specs.declared.excess.Excess.{Excess}
 use Rattle.dd_question.specs.declared.excess.Excess.TheVariants as excess
-use Rattle.dd_script.specs.Kept.{query_excess}
+use Rattle.dd_script.specs.Questions.{query_excess}
 use Rattle.dd_script.specs.Parts.{Parts, Known}
 
 -- ---- where a script has said nothing
