@@ -104,8 +104,5 @@ pub fn parse(alloc: Global, bytes: &[u8]) -> Result<Script, ScriptFault>
     ensures spelled { IfOk result (Spells bytes.now) }
     ensures refused { IfErr result (IsScriptRefusal bytes.now) }
 {
-    match read(alloc, bytes) {
-        Ok(syntax) => script_of(alloc, syntax),
-        Err(fault) => Err(ScriptFault::from(fault)),
-    }
+    script_of(alloc, read(alloc, bytes)?)
 }
