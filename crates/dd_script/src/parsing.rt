@@ -82,10 +82,7 @@ fn script_of(alloc: Global, syntax: Syntax) -> Result<Script, ScriptFault>
     let written = commands.as_slice();
     let mut draft = Draft::new(alloc, text, has_topology(written))?;
     match walk(alloc, &mut draft, written) {
-        Ok(()) => match draft.into_script(alloc) {
-            Ok(script) => Ok(script),
-            Err(error) => Err(ScriptFault::from(error)),
-        },
+        Ok(()) => Ok(draft.into_script(alloc)?),
         Err(fault) => {
             drop(draft);
             Err(fault)

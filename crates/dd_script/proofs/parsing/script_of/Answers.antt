@@ -9,5 +9,5 @@ walk-requires-clause-written c = rw (c.in_ok-draft.ensures.begun, c.as_slice-wri
 pub walk-requires-clause-each : goal.walk-requires-clause-each
 walk-requires-clause-each c = rw (c.in_ok-draft.ensures.begun, c.as_slice-written.ensures) c.requires.each
 
-pub returns-in-Ok-into_script-clause-spelled : goal.returns-in-Ok-into_script-clause-spelled
-returns-in-Ok-into_script-clause-spelled c = rw c.in-Ok-into_script.ensures (rw c.in_ok-draft.ensures.begun at c.in-Ok.ensures.spelled)
+pub returns-in-Ok-clause-spelled : goal.returns-in-Ok-clause-spelled
+returns-in-Ok-clause-spelled c = rw c.in_ok-into_script-in-Ok.ensures (rw c.in_ok-draft.ensures.begun at c.in-Ok.ensures.spelled)
