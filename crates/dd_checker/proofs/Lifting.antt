@@ -1,8 +1,8 @@
 -- What a YES that is a certificate says of configurations that no data holds.
 use Rattle.std.proofs.Common.{◌≡◌, ℕ, ◌-◌, ◌<◌, Bool, true, false, List, refl, ap, sym, subst, ◌∙◌, arith, Some, None}
-use Rattle.std.specs.Prelude.{Option, IsSomeAnd, IfSome, cond, ◌&&◌, ◌==◌, is_some, nat_lt, slice_get}
+use Rattle.std.specs.Prelude.{Option, IsSomeAnd, IfSome, cond, ◌&&◌, is_some, nat_lt, slice_get}
 use Rattle.std.specs.List.{Contains}
-use Rattle.std.proofs.lemmas.Bool.{and_from, and_parts, eqb-true, lt-ltb, ltb-true, false≢true}
+use Rattle.std.proofs.lemmas.Bool.{and_from, lt-ltb, ltb-true, false≢true}
 use Rattle.std.proofs.lemmas.Option.{slice_get_within, get_or_from_slice_get}
 use Rattle.dd_lattice.specs.declared.position.Cell.{Cell}
 use Rattle.dd_lattice.specs.Place.{Place}
@@ -15,8 +15,7 @@ use Rattle.dd_formula.specs.Allowed.{AreAllowed}
 use Rattle.dd_boxes.specs.Goals.{GoalOf, breaks}
 use Rattle.dd_boxes.specs.Fillings.{IsConfiguration}
 use Rattle.dd_boxes.specs.Boxes.{HoldsNowhere}
-use Rattle.dd_meanings.specs.Made.{script_numbers, IsRuleOf}
-use Rattle.dd_faults.specs.declared.context.Known.{Known}
+use Rattle.dd_meanings.specs.Made.{IsRuleOf}
 use Rattle.dd_query.specs.declared.queries.Query.{Query}
 use Rattle.dd_script.specs.Parts.{Parts}
 use Rattle.dd_certificate.specs.declared.answer.Answer.{Answer}
@@ -53,22 +52,11 @@ yes_cases P one both (answer.Density numerator denominator cycle potentials) h =
 yes_cases P one both (answer.Empty ranks) h = absurd (false≢true h)
 yes_cases P one both (answer.Bound numerator denominator common amounts duals) h = absurd (false≢true h)
 
-record HasSetting (k : Known) (x : LocalRule) : Type 0 where
-  dimension : x.dimension ≡ k.setting.topology.dimension
-  nodes : x.nodes ≡ k.setting.topology.nodes
-
-setting_of : (k : Known) (x : LocalRule) → IsRuleOf k x → HasSetting k x
-setting_of k x of =
-    let n = script_numbers k in
-    let two = and_parts ((x.dimension == n.dimension) && (x.nodes == n.nodes)) (x.symbols == n.symbols) of.has in
-    let each = and_parts (x.dimension == n.dimension) (x.nodes == n.nodes) two.0 in
-    record { dimension = eqb-true _ _ each.0; nodes = eqb-true _ _ each.1 }
-
 module _ (s : Parts) (nodes : ℕ) (symbol_of : Cell → ℕ) (whole : IsWhole s nodes symbol_of) where
   abbrev look : Look
   look = whole_look s.known.setting.topology.dimension nodes symbol_of
 
-  look_allowed : (x : LocalRule) → IsRuleOf s.known x → AreAllowed x look
+  look_allowed : (x : LocalRule) → IsRuleOf s.known.setting x → AreAllowed x look
   look_allowed x of c = cases (is_flat s.known.setting.topology.dimension c.position) (nat_lt c.node nodes) refl refl where
     cases : (flat low : Bool) → is_flat s.known.setting.topology.dimension c.position ≡ flat → nat_lt c.node nodes ≡ low →
         IfSome (cond (flat && low) (Some (symbol_of c)) None) (λ t. rule_allows x c.node t ≡ true)
@@ -77,21 +65,20 @@ module _ (s : Parts) (nodes : ℕ) (symbol_of : Cell → ℕ) (whole : IsWhole s
     cases true false flat low = tt
     cases false low flat is = tt
 
-  look_whole : (x : LocalRule) → IsRuleOf s.known x → IsConfiguration x look
+  look_whole : (x : LocalRule) → IsRuleOf s.known.setting x → IsConfiguration x look
   look_whole x of = record {
     everywhere = λ c flat node.
-        (let has = setting_of s.known x of in
-        let there : is_flat s.known.setting.topology.dimension c.position ≡ true = subst (λ d. is_flat d c.position ≡ true) has.dimension flat in
-        let below : c.node < nodes = (let same = has.nodes in let theirs = whole.same_nodes in omega (arith, node, same, theirs)) in
+        (let there : is_flat s.known.setting.topology.dimension c.position ≡ true = subst (λ d. is_flat d c.position ≡ true) of.dimension flat in
+        let below : c.node < nodes = (let same = of.nodes in let theirs = whole.same_nodes in omega (arith, node, same, theirs)) in
         ap (λ b. is_some (cond b (Some (symbol_of c)) None))
         (and_from (is_flat s.known.setting.topology.dimension c.position) (nat_lt c.node nodes) there (lt-ltb c.node nodes below)));
     allowed = look_allowed x of;
   }
 
   module _ (v : Place) (flat : is_flat s.known.setting.topology.dimension v ≡ true) where
-    not_at : (x : LocalRule) (g : GoalOf) (n : ℕ) → IsRuleOf s.known x → HoldsNowhere x g n → IsNotAt x g look v
+    not_at : (x : LocalRule) (g : GoalOf) (n : ℕ) → IsRuleOf s.known.setting x → HoldsNowhere x g n → IsNotAt x g look v
     not_at x g n of nowhere obeys there =
-        let level : is_flat x.dimension v ≡ true = subst (λ d. is_flat d v ≡ true) (sym (setting_of s.known x of).dimension) flat in
+        let level : is_flat x.dimension v ≡ true = subst (λ d. is_flat d v ≡ true) (sym of.dimension) flat in
         nowhere.configurations look (look_whole x of) obeys v level there
 
     asked_not_at : (a : Answer) → is_yes a ≡ true → (k : Asked) → AreOf s.known k → ClaimOf k a → IsAskedNotAt k look v

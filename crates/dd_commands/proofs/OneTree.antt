@@ -1,54 +1,40 @@
 -- Bytes are the text of one tree at most, or have one first fault, and never both.
 use Rattle.std.proofs.Common.{◌≡◌, ℕ, zero, suc, List, [], ◌∷◌, refl, sym, ap, subst, ◌∙◌}
-use Rattle.dd_written.specs.declared.lexeme.Lexeme.{Lexeme}
+use Rattle.dd_commands.specs.Tree.{Lexeme, Written, Syntax}
 use Rattle.dd_written.specs.Lexemes.{lexemes_of}
 use Rattle.dd_written.specs.reading.Laws.{FormulasAreRead}
-use Rattle.dd_commands.specs.declared.command.Command.{Command}
-use Rattle.dd_commands.specs.declared.script.Written.{Written}
-use Rattle.dd_commands.specs.declared.script.Syntax.{Syntax}
 use Rattle.dd_commands.specs.Scripts.{parts, stage_after, MayStand, AreCommands, IsFirstBad, IsScript, IsSyntaxFault}
 use Rattle.dd_written.specs.lemmas.Options.{some_is}
-use Rattle.dd_commands.specs.lemmas.CommandComplete.{command_again}
-
-abbrev written_of : List Lexeme → Command → Written
-written_of tokens c = record { tokens = tokens; command = c }
+use Rattle.dd_commands.specs.lemmas.Whole.{written_again}
 
 abbrev syntax_of : List ℕ → List Written → Syntax
 syntax_of text cs = record { text = text; commands = cs }
 
 module _ (law : FormulasAreRead) where
   one_command : (bytes : List ℕ) (from : ℕ) (p : List Lexeme) (c d : Written) → MayStand bytes from p c → MayStand bytes from p d → c ≡ d
-  one_command bytes from p c d one other =
-      let same : c.command ≡ d.command = some_is c.command d.command (sym (command_again law bytes p c.command one.is) ∙ command_again law bytes p d.command other.is) in
-      ap (λ (e : Command). written_of c.tokens e) same ∙ ap (λ (ts : List Lexeme). written_of ts d.command) (one.tokens ∙ sym other.tokens)
+  one_command bytes from p c d one other = some_is c d (sym (written_again law bytes from p c one) ∙ written_again law bytes from p d other)
 
   same_commands : (bytes : List ℕ) (from : ℕ) (ps : List (List Lexeme)) (cs ds : List Written) → AreCommands bytes from ps cs → AreCommands bytes from ps ds → cs ≡ ds
   same_commands bytes from [] [] [] one other = refl
-  same_commands bytes from [] [] (d ∷ ds) one other = absurd other
-  same_commands bytes from [] (c ∷ cs) ds one other = absurd one
-  same_commands bytes from (p ∷ ps) [] ds one other = absurd one
-  same_commands bytes from (p ∷ ps) (c ∷ cs) [] one other = absurd other
   same_commands bytes from (p ∷ ps) (c ∷ cs) (d ∷ ds) one other =
       let same : c ≡ d = one_command bytes from p c d one.0 other.0 in
       let rest : cs ≡ ds = same_commands bytes (stage_after d) ps cs ds (subst (λ (e : Written). AreCommands bytes (stage_after e) ps cs) same one.1) other.1 in
       ap (λ (e : Written). e ∷ cs) same ∙ ap (λ (es : List Written). d ∷ es) rest
+  same_commands bytes from ps cs ds one other = absurd search
 
   not_both : (bytes : List ℕ) (from : ℕ) (ps : List (List Lexeme)) (cs : List Written) (place : ℕ) → AreCommands bytes from ps cs → IsFirstBad bytes from ps place → ⊥
-  not_both bytes from [] cs place one bad = bad
-  not_both bytes from (p ∷ ps) [] place one bad = one
   not_both bytes from (p ∷ ps) (c ∷ cs) zero one bad = bad c one.0
   not_both bytes from (p ∷ ps) (c ∷ cs) (suc place) one bad =
       let same : c ≡ bad.0 = one_command bytes from p c bad.0 one.0 bad.1 in
       not_both bytes (stage_after bad.0) ps cs place (subst (λ (e : Written). AreCommands bytes (stage_after e) ps cs) same one.1) bad.2
+  not_both bytes from ps cs place one bad = search
 
   one_bad : (bytes : List ℕ) (from : ℕ) (ps : List (List Lexeme)) (m n : ℕ) → IsFirstBad bytes from ps m → IsFirstBad bytes from ps n → m ≡ n
-  one_bad bytes from [] m n one other = absurd one
   one_bad bytes from (p ∷ ps) zero zero one other = refl
-  one_bad bytes from (p ∷ ps) zero (suc n) one other = absurd (one other.0 other.1)
-  one_bad bytes from (p ∷ ps) (suc m) zero one other = absurd (other one.0 one.1)
   one_bad bytes from (p ∷ ps) (suc m) (suc n) one other =
       let same : one.0 ≡ other.0 = one_command bytes from p one.0 other.0 one.1 other.1 in
       ap suc (one_bad bytes (stage_after other.0) ps m n (subst (λ (e : Written). IsFirstBad bytes (stage_after e) ps m) same one.2) other.2)
+  one_bad bytes from ps m n one other = absurd search
 
   pub one_tree : (bytes : List ℕ) (s t : Syntax) → IsScript bytes s → IsScript bytes t → s ≡ t
   one_tree bytes s t one other =
@@ -56,9 +42,8 @@ module _ (law : FormulasAreRead) where
 
   pub one_fault : (bytes : List ℕ) (m n : ℕ) → IsSyntaxFault bytes m → IsSyntaxFault bytes n → m ≡ n
   one_fault bytes zero zero one other = refl
-  one_fault bytes zero (suc n) one other = absurd (one other.0)
-  one_fault bytes (suc m) zero one other = absurd (other one.0)
   one_fault bytes (suc m) (suc n) one other = ap suc (one_bad bytes 0 (parts (lexemes_of bytes)).1 m n one.1 other.1)
+  one_fault bytes m n one other = absurd search
 
   pub tree_or_fault : (bytes : List ℕ) (s : Syntax) (n : ℕ) → IsScript bytes s → IsSyntaxFault bytes n → ⊥
   tree_or_fault bytes s zero one bad = bad one.1.0

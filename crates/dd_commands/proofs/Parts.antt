@@ -1,38 +1,26 @@
 -- The parts of a script, cut one after the other, and what is known of those that were read.
-use Rattle.std.proofs.Common.{◌≡◌, ℕ, suc, ◌+◌, ◌<◌, ◌≤◌, List, [], ◌∷◌, ◌++◌, length, take, drop, refl, sym, ap, subst, ◌∙◌, append_assoc, arith}
+use Rattle.std.proofs.Common.{◌≡◌, ℕ, suc, ◌+◌, ◌<◌, ◌≤◌, List, [], ◌∷◌, ◌++◌, length, take, drop, Some, None, zero-add, refl, sym, ap, subst, ◌∙◌, append_assoc, arith, append-nil}
 use Rattle.std.specs.List.{prefix_len}
-use Rattle.std.specs.Prelude.{Err}
-use Rattle.std.proofs.lemmas.List.{append-nil}
-use Rattle.dd_written.specs.declared.lexeme.Mark.TheVariants as mark
-use Rattle.dd_written.specs.declared.lexeme.Lexeme.{Lexeme}
-use Rattle.dd_written.specs.declared.lexeme.Lexeme.TheVariants as lexeme
-use Rattle.dd_commands.specs.declared.script.Written.{Written}
-use Rattle.dd_written.specs.declared.fault.ReadFault.{ReadFault}
-use Rattle.dd_written.specs.declared.fault.ReadFault.TheVariants as faults
-use Rattle.dd_commands.specs.Scripts.{parts, stage_after, MayStand, AreCommands, IsFirstBad, AreWritten, IsBadCommand}
-use Rattle.dd_commands.specs.reading.Parts.{is_inside, FindsIfAny}
+use Rattle.dd_written.specs.reading.Laws.{FormulasAreRead}
+use Rattle.dd_written.specs.lemmas.Options.{nothing_some}
+use Rattle.dd_commands.specs.Tree.{Mark, Lexeme, Written}
+use Rattle.dd_commands.specs.Scripts.{parts, stage_after, AreCommands, IsFirstBad, AreWritten, IsBadCommand}
+use Rattle.dd_commands.specs.reading.Parts.{is_inside, written_of}
+use Rattle.dd_commands.specs.lemmas.Whole.{written_sound, written_again}
 
-one_more : (n : ℕ) → 1 + n ≡ suc n
-one_more n = omega arith
-
-pub head_is : (tokens : List Lexeme) → (parts tokens).0 ≡ take (prefix_len is_inside tokens) tokens
-head_is [] = refl
-head_is (lexeme.Mark mark.Percent ∷ tokens) = refl
-head_is (t ∷ tokens) = ap (λ (ts : List Lexeme). t ∷ ts) (head_is tokens) ∙ sym (ap (λ n. take n (t ∷ tokens)) (one_more (prefix_len is_inside tokens)))
-
-pub tail_is : (tokens : List Lexeme) → (parts tokens).1 ≡ (parts (drop (prefix_len is_inside tokens) tokens)).1
-tail_is [] = refl
-tail_is (lexeme.Mark mark.Percent ∷ tokens) = refl
-tail_is (t ∷ tokens) = tail_is tokens ∙ sym (ap (λ n. (parts (drop n (t ∷ tokens))).1) (one_more (prefix_len is_inside tokens)))
-
-pub at_mark : (tokens : List Lexeme) → (parts (drop (prefix_len is_inside tokens) tokens)).0 ≡ []
-at_mark [] = refl
-at_mark (lexeme.Mark mark.Percent ∷ tokens) = refl
-at_mark (t ∷ tokens) = ap (λ n. (parts (drop n (t ∷ tokens))).0) (one_more (prefix_len is_inside tokens)) ∙ at_mark tokens
+-- what stands before the first mark, the parts behind it, and that these begin at a mark
+pub cut : (tokens : List Lexeme) → let n = prefix_len is_inside tokens in
+    ((parts tokens).0 ≡ take n tokens) × ((parts tokens).1 ≡ (parts (drop n tokens)).1) × ((parts (drop n tokens)).0 ≡ [])
+cut [] = (refl, refl, refl)
+cut (Lexeme.Mark Mark.Percent ∷ tokens) = (refl, refl, refl)
+cut (t ∷ tokens) =
+    let rest = cut tokens in
+    let more : 1 + prefix_len is_inside tokens ≡ suc (prefix_len is_inside tokens) = omega arith in
+    rw more (ap (λ (ts : List Lexeme). t ∷ ts) rest.0, rest.1, rest.2)
 
 pub behind_mark : (tokens : List Lexeme) → 0 < length tokens → (parts tokens).0 ≡ [] → (parts tokens).1 ≡ (parts (drop 1 tokens)).0 ∷ (parts (drop 1 tokens)).1
 behind_mark [] some none = absurd (omega (arith, some))
-behind_mark (lexeme.Mark mark.Percent ∷ tokens) some none = refl
+behind_mark (Lexeme.Mark Mark.Percent ∷ tokens) some none = refl
 behind_mark (t ∷ tokens) some none = absurd cc
 
 -- ---- the parts that are left, and what they say of the whole
@@ -45,28 +33,26 @@ pub starts : (bytes : List ℕ) (tokens : List Lexeme) → (parts tokens).0 ≡ 
 starts bytes tokens clean = record {
   at_mark = clean;
   written = λ ws are. (clean, are);
-  bad = λ place is.
-      let first : IsBadCommand bytes tokens (suc place) = (clean, is) in
-      let count : suc place ≡ 0 + suc place = omega arith in
-      subst (IsBadCommand bytes tokens) count first;
+  bad = λ place is. rw zero-add (clean, is);
 }
 
-pub goes_on : (bytes : List ℕ) (tokens rest part next : List Lexeme) (cs new : List Written) (number from after : ℕ) (c : Written) → Sofar bytes tokens rest cs number from → (parts rest).1 ≡ part ∷ (parts next).1 → (parts next).0 ≡ [] → MayStand bytes from part c → new ≡ cs ++ c ∷ [] → after ≡ stage_after c
-    → Sofar bytes tokens next new (number + 1) after
-goes_on bytes tokens rest part next cs new number from after c s cut clean is pushed behind = record {
-  at_mark = clean;
-  written = λ ws are.
-      let others : AreCommands bytes (stage_after c) (parts next).1 ws = subst (λ (n : ℕ). AreCommands bytes n (parts next).1 ws) behind are in
-      let all : AreWritten bytes tokens (cs ++ c ∷ ws) = s.written (c ∷ ws) (subst (λ (ps : List (List Lexeme)). AreCommands bytes from ps (c ∷ ws)) (sym cut) (is, others)) in
-      rw (pushed, append_assoc cs (c ∷ []) ws) all;
-  bad = λ place b.
-      let other : IsFirstBad bytes (stage_after c) (parts next).1 place = subst (λ (n : ℕ). IsFirstBad bytes n (parts next).1 place) behind b in
-      let count : number + suc (suc place) ≡ number + 1 + suc place = omega arith in
-      subst (IsBadCommand bytes tokens) count (s.bad (suc place) (subst (λ (ps : List (List Lexeme)). IsFirstBad bytes from ps (suc place)) (sym cut) (c, is, other)));
-}
+module _ (law : FormulasAreRead) where
+  pub goes_on : (bytes : List ℕ) (tokens rest part next : List Lexeme) (cs new : List Written) (number from after : ℕ) (c : Written) → Sofar bytes tokens rest cs number from → (parts rest).1 ≡ part ∷ (parts next).1 → (parts next).0 ≡ []
+      → written_of bytes from part ≡ Some c → new ≡ cs ++ c ∷ [] → after ≡ stage_after c → Sofar bytes tokens next new (number + 1) after
+  goes_on bytes tokens rest part next cs new number from after c s cut clean is pushed behind =
+      let may = written_sound law bytes from part c is in record {
+        at_mark = clean;
+        written = λ ws are.
+            let all : AreWritten bytes tokens (cs ++ c ∷ ws) = s.written (c ∷ ws) (rw cut (may, subst (λ (n : ℕ). AreCommands bytes n (parts next).1 ws) behind are)) in
+            rw (pushed, append_assoc cs (c ∷ []) ws) all;
+        bad = λ place b.
+            let count : number + suc (suc place) ≡ number + 1 + suc place = omega arith in
+            subst (IsBadCommand bytes tokens) count (s.bad (suc place) (rw cut (c, may, subst (λ (n : ℕ). IsFirstBad bytes n (parts next).1 place) behind b)));
+      }
 
-pub is_fault : (bytes : List ℕ) (tokens rest part next : List Lexeme) (cs : List Written) (number from : ℕ) → Sofar bytes tokens rest cs number from → (parts rest).1 ≡ part ∷ (parts next).1 → ((c : Written) → MayStand bytes from part c → ⊥) → IsBadCommand bytes tokens (number + 1)
-is_fault bytes tokens rest part next cs number from s cut none = s.bad 0 (subst (λ (ps : List (List Lexeme)). IsFirstBad bytes from ps 0) (sym cut) none)
+  pub is_fault : (bytes : List ℕ) (tokens rest part next : List Lexeme) (cs : List Written) (number from : ℕ) → Sofar bytes tokens rest cs number from → (parts rest).1 ≡ part ∷ (parts next).1 → written_of bytes from part ≡ None
+      → IsBadCommand bytes tokens (number + 1)
+  is_fault bytes tokens rest part next cs number from s cut none = s.bad 0 (rw cut (λ w may. nothing_some w (sym none ∙ written_again law bytes from part w may)))
 
 pub all_read : (bytes : List ℕ) (tokens rest : List Lexeme) (cs : List Written) (number from : ℕ) → Sofar bytes tokens rest cs number from → length rest ≤ 0 → AreWritten bytes tokens cs
 all_read bytes tokens [] cs number from s none = subst (AreWritten bytes tokens) (append-nil cs) (s.written [] tt)
@@ -75,13 +61,9 @@ all_read bytes tokens (t ∷ rest) cs number from s none = absurd (omega (arith,
 pub nothing_before : (tokens : List Lexeme) → prefix_len is_inside tokens ≤ 0 → (parts tokens).0 ≡ []
 nothing_before tokens le =
     let none : prefix_len is_inside tokens ≡ 0 = omega (arith, le) in
-    head_is tokens ∙ ap (λ n. take n tokens) none
+    (cut tokens).0 ∙ ap (λ n. take n tokens) none
 
 pub something_before : (tokens : List Lexeme) → 0 < prefix_len is_inside tokens → (parts tokens).0 ≡ [] → ⊥
 something_before [] lt none = omega (arith, lt)
-something_before (lexeme.Mark mark.Percent ∷ tokens) lt none = omega (arith, lt)
+something_before (Lexeme.Mark Mark.Percent ∷ tokens) lt none = omega (arith, lt)
 something_before (t ∷ tokens) lt none = absurd cc
-
-pub none_read : (e : ReadFault) (P : Written → Type 0) → e ≡ faults.Syntax → FindsIfAny (Err e) P → (c : Written) → P c → ⊥
-none_read faults.Memory P is decided = absurd cc
-none_read faults.Syntax P is decided = decided

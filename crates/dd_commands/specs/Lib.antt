@@ -1,3 +1,5 @@
+-- the types of what is written
+pub mod Tree
 -- the table of questions
 pub mod Table
 -- the first words of commands, and their order

@@ -1,13 +1,7 @@
 -- Scripts: commands in order, or the first that is not well formed.
-use Rattle.std.specs.Prelude.{◌≡◌, ℕ, zero, suc, ◌≤◌, List, [], ◌∷◌, Bool, true, false, Result, Ok, Err, All, Contains}
+use Rattle.std.specs.Prelude.{◌≡◌, ℕ, zero, suc, ◌≤◌, List, [], ◌∷◌, Bool, true, false, Result, Ok, Err}
 use Rattle.std.specs.List.{list_all}
-use Rattle.dd_written.specs.declared.lexeme.Mark.TheVariants as mark
-use Rattle.dd_written.specs.declared.lexeme.Lexeme.{Lexeme}
-use Rattle.dd_written.specs.declared.lexeme.Lexeme.TheVariants as lexeme
-use Rattle.dd_commands.specs.declared.script.Written.{Written}
-use Rattle.dd_commands.specs.declared.script.Syntax.{Syntax}
-use Rattle.dd_commands.specs.declared.fault.SyntaxFault.{SyntaxFault}
-use Rattle.dd_commands.specs.declared.fault.SyntaxFault.TheVariants as fault
+use Rattle.dd_commands.specs.Tree.{Mark, Lexeme, Written, Syntax, SyntaxFault}
 use Rattle.dd_commands.specs.Heads.{head_of, stage, next_stage}
 use Rattle.dd_commands.specs.Commands.{IsCommand}
 use Rattle.dd_written.specs.Lexemes.{lexemes_of}
@@ -15,16 +9,16 @@ use Rattle.dd_written.specs.Lexemes.{lexemes_of}
 -- what stands before the first command, and each command without its mark
 abbrev pub parts : List Lexeme → List Lexeme × List (List Lexeme)
 parts [] = ([], [])
-parts (lexeme.Mark mark.Percent ∷ tokens) = ([], (parts tokens).0 ∷ (parts tokens).1)
+parts (Lexeme.Mark Mark.Percent ∷ tokens) = ([], (parts tokens).0 ∷ (parts tokens).1)
 parts (t ∷ tokens) = (t ∷ (parts tokens).0, (parts tokens).1)
 
 -- a token, and no byte that belongs to none
 abbrev pub is_whole : Lexeme → Bool
-is_whole (lexeme.Word w) = true
-is_whole (lexeme.Number n) = true
-is_whole (lexeme.Negative n) = true
-is_whole (lexeme.Mark m) = true
-is_whole lexeme.Stray = false
+is_whole (Lexeme.Word w) = true
+is_whole (Lexeme.Number n) = true
+is_whole (Lexeme.Negative n) = true
+is_whole (Lexeme.Mark m) = true
+is_whole Lexeme.Stray = false
 
 abbrev pub stage_of : Written → ℕ
 stage_of w = stage (head_of w.command)
@@ -70,10 +64,9 @@ IsSyntaxFault bytes n = IsBadCommand bytes (lexemes_of bytes) n
 
 abbrev pub Tells : List ℕ → Result Syntax SyntaxFault → Type 0
 Tells bytes (Ok s) = IsScript bytes s
-Tells bytes (Err (fault.At n)) = IsSyntaxFault bytes n
-Tells bytes (Err fault.Memory) = Unit {0}
+Tells bytes (Err (SyntaxFault.At n)) = IsSyntaxFault bytes n
+Tells bytes (Err SyntaxFault.Memory) = Unit {0}
 
--- the command is written in a text: its tokens are among those of the text
+-- the command is what its tokens say in this text
 pub record IsWritten (bytes : List ℕ) (w : Written) : Type 0 where
   pub is : IsCommand bytes w.command w.tokens
-  pub among : All (λ t. Contains (lexemes_of bytes) t) w.tokens

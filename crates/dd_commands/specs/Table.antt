@@ -1,11 +1,6 @@
 -- The table of questions.
 use Rattle.std.specs.Prelude.{ℕ, List, [], ◌∷◌, codes}
-use Rattle.dd_commands.specs.declared.table.Role.{Role}
-use Rattle.dd_commands.specs.declared.table.Role.TheVariants as role
-use Rattle.dd_commands.specs.declared.table.Lists.{Lists}
-use Rattle.dd_commands.specs.declared.table.Lists.TheVariants as lists
-use Rattle.dd_commands.specs.declared.table.Question.{Question}
-use Rattle.dd_commands.specs.declared.table.Question.TheVariants as question
+use Rattle.dd_commands.specs.Tree.{Role, Lists, Question}
 
 -- The first word, what each further word names, how many numbers follow them, and which vectors follow these.
 pub record QuestionRow : Type 0 where
@@ -18,17 +13,11 @@ abbrev pub entry : List ℕ → List Role → ℕ → Lists → QuestionRow
 entry word names numbers ls = record { word = word; names = names; numbers = numbers; lists = ls }
 
 abbrev pub row : Question → QuestionRow
-row question.Member = entry (codes "member") (role.Configuration ∷ role.Rule ∷ []) 0 lists.None
-row question.Contains = entry (codes "contains") (role.Rule ∷ role.Rule ∷ []) 0 lists.None
-row question.Equal = entry (codes "equal") (role.Rule ∷ role.Rule ∷ []) 0 lists.None
-row question.Empty = entry (codes "empty") (role.Rule ∷ []) 0 lists.None
-row question.Agree = entry (codes "same") (role.Automaton ∷ role.Automaton ∷ role.Rule ∷ []) 0 lists.None
-row question.Forbidden = entry (codes "forbidden") (role.Rule ∷ []) 0 lists.None
-row question.Density = entry (codes "density") (role.Rule ∷ []) 0 lists.Strip
-row question.Discharge = entry (codes "discharge") (role.Rule ∷ []) 2 lists.Vectors
-
--- all questions
-abbrev pub questions : List Question
-questions =
-    question.Member ∷ question.Contains ∷ question.Equal ∷ question.Empty ∷ question.Agree ∷ question.Forbidden ∷ question.Density
-    ∷ question.Discharge ∷ []
+row Question.Member = entry (codes "member") (Role.Configuration ∷ Role.Rule ∷ []) 0 Lists.None
+row Question.Contains = entry (codes "contains") (Role.Rule ∷ Role.Rule ∷ []) 0 Lists.None
+row Question.Equal = entry (codes "equal") (Role.Rule ∷ Role.Rule ∷ []) 0 Lists.None
+row Question.Empty = entry (codes "empty") (Role.Rule ∷ []) 0 Lists.None
+row Question.Agree = entry (codes "same") (Role.Automaton ∷ Role.Automaton ∷ Role.Rule ∷ []) 0 Lists.None
+row Question.Forbidden = entry (codes "forbidden") (Role.Rule ∷ []) 0 Lists.None
+row Question.Density = entry (codes "density") (Role.Rule ∷ []) 0 Lists.Strip
+row Question.Discharge = entry (codes "discharge") (Role.Rule ∷ []) 2 Lists.Vectors

@@ -1,4 +1,4 @@
+pub mod Forms
 pub mod Items
-pub mod CommandSound
-pub mod CommandComplete
+pub mod Commands
 pub mod Whole

@@ -1,5 +1,4 @@
-pub mod Heads
-pub mod Listed
+pub mod Forms
 pub mod Vectors
 pub mod Commands
 pub mod Parts

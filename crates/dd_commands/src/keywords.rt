@@ -1,31 +1,84 @@
-//! The first words of commands and the names of topologies, by their text.
-ghost use Rattle.std.specs.Prelude.{◌≡◌, bytes_eq};
-ghost use Rattle.dd_written.specs.Values.{word_text};
-ghost use Rattle.dd_commands.specs.Heads.{head_text, kind_text};
-ghost use Rattle.dd_commands.specs.reading.Heads.{plain_head, question_at, head_at, kind_at};
+//! The first words of commands, with the order of commands, and the names of topologies.
+ghost use Rattle.std.specs.Prelude.{◌≡◌, ◌≤◌};
+ghost use Rattle.dd_written.specs.reading.Readers.{Gives};
+ghost use Rattle.dd_commands.specs.Heads.{head_row, head_text, next_stage, kind_text};
+ghost use Rattle.dd_commands.specs.reading.Commands.{one_of, keyword, heads, kinds, wanted};
 
 use crate::head::Head;
-use crate::table::{QUESTIONS, Question};
+use crate::reading::{FromTokens, Read, Source};
+use crate::table::Question;
 use dd_topology::Kind;
-use dd_written::{Word, same_bytes, word_bytes};
+use dd_written::{Lexeme, ReadFault, Word, same_bytes, word_bytes};
+
+/// The row of a first word.
+#[derive(Clone, Copy)]
+pub(crate) struct HeadRow {
+    pub(crate) word: &'static [u8],
+    /// The place in the order of commands: each stands behind all of a lower place.
+    pub(crate) stage: u32,
+    /// Whether a script may give such a command only once.
+    pub(crate) once: bool,
+}
+
+fn row(word: &'static [u8], stage: u32, once: bool) -> HeadRow
+    ensures word { result.word.now ≡ word.now }
+    ensures stage { result.stage ≡ stage }
+    ensures once { result.once ≡ once }
+{
+    HeadRow { word, stage, once }
+}
 
 impl Head {
-    fn text(self) -> &'static [u8]
-        ensures { result.now ≡ head_text self }
+    /// The row of a first word.
+    pub(crate) fn row(self) -> HeadRow
+        ensures word { result.word.now ≡ (head_row self).word }
+        ensures stage { result.stage ≡ (head_row self).stage }
+        ensures once { result.once ≡ (head_row self).once }
+        ensures within { result.stage ≤ 7 }
     {
         match self {
-            Head::Dimension => b"dim",
-            Head::Nodes => b"nodes",
-            Head::Alphabet => b"alphabet",
-            Head::Topology => b"topology",
-            Head::Only => b"only",
-            Head::Weights => b"weights",
-            Head::Limits => b"limits",
-            Head::Rule => b"rule",
-            Head::Automaton => b"auto",
-            Head::Composition => b"compose",
-            Head::Configuration => b"conf",
-            Head::Question(question) => question.row().word,
+            Head::Dimension => row(b"dim", 0, true),
+            Head::Nodes => row(b"nodes", 1, true),
+            Head::Alphabet => row(b"alphabet", 2, true),
+            Head::Topology => row(b"topology", 3, true),
+            Head::Only => row(b"only", 4, false),
+            Head::Weights => row(b"weights", 5, true),
+            Head::Limits => row(b"limits", 6, true),
+            Head::Rule => row(b"rule", 7, false),
+            Head::Automaton => row(b"auto", 7, false),
+            Head::Composition => row(b"compose", 7, false),
+            Head::Configuration => row(b"conf", 7, false),
+            Head::Question(question) => row(question.row().word, 7, false),
+        }
+    }
+
+    /// The first place at which a command may stand behind this one.
+    pub(crate) fn next_stage(self) -> u32
+        ensures { result ≡ next_stage self }
+    {
+        let row = self.row();
+        if row.once { row.stage + 1 } else { row.stage }
+    }
+}
+
+/// The first word of a command that these bytes are.
+fn head(written: &[u8]) -> Option<Head>
+    ensures { result ≡ one_of head_text heads written.now }
+{
+    HEADS
+        .iter()
+        .copied()
+        .find(|head| same_bytes(written, head.row().word))
+}
+
+impl FromTokens for Head {
+    ghost item = { λ bytes. (keyword head_text heads bytes).item };
+
+    fn read<'a>(from: Source, tokens: &'a [Lexeme]) -> Read<'a, Head> {
+        let (word, rest) = Word::read(from, tokens)?;
+        match head(word_bytes(from.bytes, word)) {
+            Some(head) => Ok((head, rest)),
+            None => Err(ReadFault::Syntax),
         }
     }
 }
@@ -43,65 +96,70 @@ fn kind_text(kind: Kind) -> &'static [u8]
     }
 }
 
-/// The command of the header, or the definition, that begins with the word.
-fn plain(written: &[u8]) -> Option<Head>
-    ensures { result ≡ plain_head written.now }
+/// The topology that these bytes name.
+fn kind(written: &[u8]) -> Option<Kind>
+    ensures { result ≡ one_of kind_text kinds written.now }
 {
-    let heads = [
-        Head::Dimension,
-        Head::Nodes,
-        Head::Alphabet,
-        Head::Topology,
-        Head::Only,
-        Head::Weights,
-        Head::Limits,
-        Head::Rule,
-        Head::Automaton,
-        Head::Composition,
-        Head::Configuration,
-    ];
-    heads
-        .iter()
-        .copied()
-        .find(|head| same_bytes(written, head.text()))
-}
-
-/// The question that begins with the word.
-fn question(written: &[u8]) -> Option<Question>
-    ensures { result ≡ question_at written.now }
-{
-    QUESTIONS
-        .iter()
-        .copied()
-        .find(|question| same_bytes(written, question.row().word))
-}
-
-/// What the word says as the first of a command.
-pub(crate) fn head(bytes: &[u8], word: Word) -> Option<Head>
-    ensures { result ≡ head_at (word_text bytes.now word) }
-{
-    let written = word_bytes(bytes, word);
-    match plain(written) {
-        Some(head) => Some(head),
-        None => question(written).map(Head::Question),
-    }
-}
-
-/// The topology that the word names.
-pub(crate) fn kind(bytes: &[u8], word: Word) -> Option<Kind>
-    ensures { result ≡ kind_at (word_text bytes.now word) }
-{
-    let written = word_bytes(bytes, word);
-    let kinds = [
-        Kind::Line,
-        Kind::Square,
-        Kind::King,
-        Kind::Triangle,
-        Kind::Hex,
-        Kind::Cube,
-    ];
-    kinds
+    KINDS
         .iter()
         .copied()
         .find(|kind| same_bytes(written, kind_text(*kind)))
 }
+
+impl FromTokens for Kind {
+    ghost item = { λ bytes. (keyword kind_text kinds bytes).item };
+
+    fn read<'a>(from: Source, tokens: &'a [Lexeme]) -> Read<'a, Kind> {
+        let (word, rest) = Word::read(from, tokens)?;
+        match kind(word_bytes(from.bytes, word)) {
+            Some(kind) => Ok((kind, rest)),
+            None => Err(ReadFault::Syntax),
+        }
+    }
+}
+
+/// The tokens behind a word that is wanted.
+pub(crate) fn behind<'a>(
+    from: Source,
+    text: &[u8],
+    tokens: &'a [Lexeme],
+) -> Result<&'a [Lexeme], ReadFault>
+    ensures { Gives (λ x. (tt, x.now)) result ((wanted from.entry.bytes.now text.now).item tokens.now) }
+{
+    let (word, rest) = Word::read(from, tokens)?;
+    if !same_bytes(word_bytes(from.bytes, word), text) {
+        return Err(ReadFault::Syntax);
+    }
+    Ok(rest)
+}
+
+const HEADS: [Head; 19] = [
+    Head::Dimension,
+    Head::Nodes,
+    Head::Alphabet,
+    Head::Topology,
+    Head::Only,
+    Head::Weights,
+    Head::Limits,
+    Head::Rule,
+    Head::Automaton,
+    Head::Composition,
+    Head::Configuration,
+    Head::Question(Question::Member),
+    Head::Question(Question::Contains),
+    Head::Question(Question::Equal),
+    Head::Question(Question::Empty),
+    Head::Question(Question::Agree),
+    Head::Question(Question::Forbidden),
+    Head::Question(Question::Density),
+    Head::Question(Question::Discharge),
+];
+
+const KINDS: [Kind; 6] = [
+    Kind::Line,
+    Kind::Square,
+    Kind::King,
+    Kind::Triangle,
+    Kind::Hex,
+    Kind::Cube,
+];

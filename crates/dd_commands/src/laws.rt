@@ -6,6 +6,7 @@ ghost use Rattle.dd_commands.specs.Scripts.{IsScript, IsSyntaxFault};
 use dd_written::formula_is_read;
 
 /// Does nothing; its contract says that bytes are the text of one tree at most.
+#[tactic(auto, using(crate::proofs::OneTree::one_tree))]
 pub fn one_tree()
     ensures { (bytes : List ℕ) (s t : Syntax) → IsScript bytes s → IsScript bytes t → s ≡ t }
 {
@@ -13,6 +14,7 @@ pub fn one_tree()
 }
 
 /// Does nothing; its contract says that bytes have one first fault at most.
+#[tactic(auto, using(crate::proofs::OneTree::one_fault))]
 pub fn one_fault()
     ensures { (bytes : List ℕ) (m n : ℕ) → IsSyntaxFault bytes m → IsSyntaxFault bytes n → m ≡ n }
 {
@@ -20,6 +22,7 @@ pub fn one_fault()
 }
 
 /// Does nothing; its contract says that bytes with a tree have no fault.
+#[tactic(auto, using(crate::proofs::OneTree::tree_or_fault))]
 pub fn tree_or_fault()
     ensures { (bytes : List ℕ) (s : Syntax) (n : ℕ) → IsScript bytes s → IsSyntaxFault bytes n → ⊥ }
 {

@@ -8,7 +8,7 @@ mod fault;
 mod head;
 mod keywords;
 mod laws;
-mod listed;
+mod reading;
 mod requests;
 mod script;
 mod table;

@@ -1,48 +1,45 @@
 //! Questions, read by their rows.
 ghost use Rattle.std.specs.Prelude.{◌≡◌};
 ghost use Rattle.dd_written.specs.reading.Readers.{Gives};
-ghost use Rattle.dd_commands.specs.reading.Commands.{lists_of, request_of};
+ghost use Rattle.dd_commands.specs.declared.head.Head.TheVariants as head;
+ghost use Rattle.dd_commands.specs.reading.Commands.{listed, body};
 
-use crate::command::{Request, Vector};
-use crate::listed::{all, alone, exactly};
+use crate::command::{Command, Request, Vector};
+use crate::reading::{Read, Source, exactly, some};
 use crate::table::{Lists, Question};
 use crate::vectors::plain;
 use dd_values::Items;
 use dd_written::{Lexeme, ReadFault};
-use std::alloc::Global;
 
 /// The vectors at the end of a question.
-fn lists(alloc: Global, lists: Lists, tokens: &[Lexeme]) -> Result<Items<Vector>, ReadFault>
-    ensures { Gives (λ x. x) result (lists_of lists tokens.now) }
+fn lists<'a>(from: Source, lists: Lists, tokens: &'a [Lexeme]) -> Read<'a, Items<Vector>>
+    ensures { Gives (λ x. (x.0, x.1.now)) result ((listed lists).item tokens.now) }
 {
     match lists {
-        Lists::None => alone(Items::new(alloc), tokens),
+        Lists::None => Ok((Items::new(from.alloc), tokens)),
         Lists::Strip => {
-            let (periods, rest) = plain(alloc, tokens)?;
-            let mut one = Items::new(alloc);
+            let (periods, rest) = plain(from, tokens)?;
+            let mut one = Items::new(from.alloc);
             one.push(periods)?;
-            alone(one, rest)
+            Ok((one, rest))
         }
-        Lists::Vectors => all(alloc, tokens),
+        Lists::Vectors => some(from, tokens),
     }
 }
 
 /// What stands behind the first word of a question.
-pub(crate) fn request(
-    alloc: Global,
-    question: Question,
-    tokens: &[Lexeme],
-) -> Result<Request, ReadFault>
-    ensures { Gives (λ x. x) result (request_of question tokens.now) }
+pub(crate) fn query<'a>(from: Source, question: Question, tokens: &'a [Lexeme]) -> Read<'a, Command>
+    ensures { Gives (λ x. (x.0, x.1.now)) result ((body from.entry.bytes.now (head.Question question) tokens.now).item tokens.now) }
 {
     let row = question.row();
-    let (words, rest) = exactly(alloc, row.names.len(), tokens)?;
-    let (numbers, rest) = exactly(alloc, row.numbers, rest)?;
-    let vectors = lists(alloc, row.lists, rest)?;
-    Ok(Request {
+    let (words, rest) = exactly(from, row.names.len(), tokens)?;
+    let (numbers, rest) = exactly(from, row.numbers, rest)?;
+    let (vectors, rest) = lists(from, row.lists, rest)?;
+    let request = Request {
         question,
         words,
         numbers,
         vectors,
-    })
+    };
+    Ok((Command::Query(request), rest))
 }

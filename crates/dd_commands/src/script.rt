@@ -2,16 +2,18 @@
 ghost use Rattle.std.specs.Prelude.{◌≡◌, [], ◌∷◌, ◌+◌, ◌<◌, ◌≤◌, length, IfOk, All};
 ghost use Rattle.std.specs.List.{prefix_len, list_all};
 ghost use Rattle.dd_values.specs.Bounds.{most_script};
-ghost use Rattle.dd_commands.specs.Heads.{stage, is_once, next_stage, head_of};
-ghost use Rattle.dd_commands.specs.Scripts.{parts, is_whole, stage_of, stage_after, MayStand, IsWritten, Tells};
-ghost use Rattle.dd_commands.specs.reading.Parts.{is_inside, FindsIfAny, Told};
+ghost use Rattle.dd_written.specs.reading.Readers.{Gives};
+ghost use Rattle.dd_commands.specs.Heads.{head_of};
+ghost use Rattle.dd_commands.specs.Scripts.{parts, is_whole, IsWritten, Tells};
+ghost use Rattle.dd_commands.specs.reading.Parts.{is_inside, written_of, Told};
 
 use crate::bodies::command;
 use crate::command::Command;
 use crate::fault::SyntaxFault;
 use crate::head::Head;
+use crate::reading::Source;
 use dd_values::Items;
-use dd_written::{Lexeme, Mark, ReadFault, Text, ascii_bytes, formula_is_read, lexemes};
+use dd_written::{Lexeme, Mark, ReadFault, Text, formula_is_read, lexemes};
 use std::alloc::Global;
 
 /// A command and its tokens, behind its mark.
@@ -28,21 +30,19 @@ pub struct Syntax {
     pub commands: Items<Written>,
 }
 
-fn is_inside(token: Lexeme) -> bool
-    ensures { result ≡ is_inside token }
-{
-    !matches!(token, Lexeme::Mark(Mark::Percent))
-}
-
 /// How many tokens stand before the next mark of a command.
 fn part_length(tokens: &[Lexeme]) -> usize
     ensures value { result ≡ prefix_len is_inside tokens.now }
     ensures within { result ≤ length tokens.now }
 {
-    tokens.iter().take_while(|token| is_inside(**token)).count()
+    tokens
+        .iter()
+        .take_while(|token| !matches!(token, Lexeme::Mark(Mark::Percent)))
+        .count()
 }
 
 /// The part behind a mark, and what follows it.
+#[tactic(auto, using(crate::proofs::Parts::cut, crate::proofs::Parts::behind_mark))]
 fn next_part(tokens: &[Lexeme]) -> (&[Lexeme], &[Lexeme])
     requires some { 0 < length tokens.now }
     requires at_mark { (parts tokens.now).0 ≡ [] }
@@ -52,60 +52,6 @@ fn next_part(tokens: &[Lexeme]) -> (&[Lexeme], &[Lexeme])
 {
     let after = tokens.split_at(1).1;
     after.split_at(part_length(after))
-}
-
-impl Head {
-    /// The place in the order of commands: each stands behind all of a lower place.
-    fn stage(self) -> u32
-        ensures value { result ≡ stage self }
-        ensures within { result ≤ 7 }
-    {
-        match self {
-            Head::Dimension => 0,
-            Head::Nodes => 1,
-            Head::Alphabet => 2,
-            Head::Topology => 3,
-            Head::Only => 4,
-            Head::Weights => 5,
-            Head::Limits => 6,
-            Head::Rule
-            | Head::Automaton
-            | Head::Composition
-            | Head::Configuration
-            | Head::Question(_) => 7,
-        }
-    }
-
-    /// Whether a script may give such a command only once.
-    fn is_once(self) -> bool
-        ensures { result ≡ is_once self }
-    {
-        match self {
-            Head::Dimension
-            | Head::Nodes
-            | Head::Alphabet
-            | Head::Topology
-            | Head::Weights
-            | Head::Limits => true,
-            Head::Only
-            | Head::Rule
-            | Head::Automaton
-            | Head::Composition
-            | Head::Configuration
-            | Head::Question(_) => false,
-        }
-    }
-
-    /// The first place at which a command may stand behind this one.
-    fn next_stage(self) -> u32
-        ensures { result ≡ next_stage self }
-    {
-        if self.is_once() {
-            self.stage() + 1
-        } else {
-            self.stage()
-        }
-    }
 }
 
 impl Command {
@@ -129,17 +75,11 @@ impl Command {
     }
 }
 
-/// Whether a token is one, and no byte that belongs to none.
-fn is_whole(token: Lexeme) -> bool
-    ensures { result ≡ is_whole token }
-{
-    !matches!(token, Lexeme::Stray)
-}
-
+/// Whether each token is one, and no byte that belongs to none.
 fn are_whole(part: &[Lexeme]) -> bool
     ensures { result ≡ list_all is_whole part.now }
 {
-    part.iter().all(|token| is_whole(*token))
+    part.iter().all(|token| !matches!(token, Lexeme::Stray))
 }
 
 /// A command that may stand at this place or a later one.
@@ -149,14 +89,13 @@ fn command_from(
     from: u32,
     part: &[Lexeme],
 ) -> Result<Written, ReadFault>
-    ensures { FindsIfAny result (MayStand bytes.now from part.now) }
+    ensures { Gives (λ x. x) result (written_of bytes.now from part.now) }
 {
-    formula_is_read();
     if !are_whole(part) {
         return Err(ReadFault::Syntax);
     }
-    let command = command(alloc, bytes, part)?;
-    if command.get().head().stage() < from {
+    let command = command(Source { alloc, bytes }, part)?;
+    if command.get().head().row().stage < from {
         return Err(ReadFault::Syntax);
     }
     let tokens = Items::from_slice(alloc, part)?;
@@ -164,10 +103,12 @@ fn command_from(
     Ok(Written { tokens, command })
 }
 
+#[tactic(auto, using(crate::proofs::Parts::starts, crate::proofs::Parts::nothing_before, crate::proofs::Parts::something_before))]
 fn commands(alloc: Global, bytes: &[u8], tokens: &[Lexeme]) -> Result<Items<Written>, SyntaxFault>
     requires { length tokens.now ≤ most_script + 1 }
     ensures { Told bytes.now tokens.now result }
 {
+    formula_is_read();
     if part_length(tokens) > 0 {
         return Err(SyntaxFault::At { command: 0 });
     }
@@ -194,12 +135,12 @@ fn commands(alloc: Global, bytes: &[u8], tokens: &[Lexeme]) -> Result<Items<Writ
 }
 
 /// The syntax tree of a script of at most 1,048,576 bytes, or the first command that is not well formed.
+#[tactic(auto, using(crate::proofs::Texts::ascii_text))]
 pub fn read(alloc: Global, bytes: &[u8]) -> Result<Syntax, SyntaxFault>
     requires { length bytes.now ≤ most_script }
     ensures tells { Tells bytes.now result }
     ensures written { IfOk result (λ s. All (IsWritten s.text) s.commands) }
 {
-    ascii_bytes();
     let lexemes = lexemes(alloc, bytes)?;
     let commands = commands(alloc, bytes, lexemes.as_slice())?;
     let text = Text::new(alloc, bytes)?;

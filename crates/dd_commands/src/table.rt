@@ -46,18 +46,6 @@ pub enum Question {
     Discharge,
 }
 
-/// All questions.
-pub(crate) const QUESTIONS: [Question; 8] = [
-    Question::Member,
-    Question::Contains,
-    Question::Equal,
-    Question::Empty,
-    Question::Agree,
-    Question::Forbidden,
-    Question::Density,
-    Question::Discharge,
-];
-
 /// The row of a question.
 #[derive(Clone, Copy)]
 pub struct QuestionRow {

@@ -3,24 +3,17 @@ ghost use Rattle.std.specs.Prelude.{◌≡◌};
 ghost use Rattle.dd_written.specs.reading.Atoms.{name_at};
 ghost use Rattle.dd_written.specs.reading.Readers.{Gives};
 ghost use Rattle.dd_commands.specs.Commands.{is_plain_entry, is_plain};
-ghost use Rattle.dd_commands.specs.reading.Vectors.{is_word, word_at, is_number, number_at, is_name, is_entry, entry_at, vector_end, is_vector, vector_at, plain_at, shear_at, edge_start, edge_end, is_edge, edge_at};
+ghost use Rattle.dd_commands.specs.reading.Vectors.{word_at, number_at, entry_at, mark_at, vector, plain, shear, edge};
 
 use crate::command::{Edge, Entry, Vector};
-use crate::listed::{Listed, many};
+use crate::reading::{FromTokens, Read, Source, each};
 use dd_values::Items;
 use dd_written::{Lexeme, Mark, Name, Number, ReadFault, Word, read_name};
-use std::alloc::Global;
 
-impl Listed for Word {
-    ghost begins = { is_word };
+impl FromTokens for Word {
+    ghost item = { λ bytes. word_at };
 
-    ghost item = { word_at };
-
-    fn begins(tokens: &[Lexeme]) -> bool {
-        matches!(tokens, [Lexeme::Word(_), ..])
-    }
-
-    fn read(_alloc: Global, tokens: &[Lexeme]) -> Result<(Word, &[Lexeme]), ReadFault> {
+    fn read<'a>(_from: Source, tokens: &'a [Lexeme]) -> Read<'a, Word> {
         match tokens {
             [Lexeme::Word(word), rest @ ..] => Ok((*word, rest)),
             _ => Err(ReadFault::Syntax),
@@ -28,16 +21,10 @@ impl Listed for Word {
     }
 }
 
-impl Listed for Number {
-    ghost begins = { is_number };
+impl FromTokens for Number {
+    ghost item = { λ bytes. number_at };
 
-    ghost item = { number_at };
-
-    fn begins(tokens: &[Lexeme]) -> bool {
-        matches!(tokens, [Lexeme::Number(_), ..])
-    }
-
-    fn read(_alloc: Global, tokens: &[Lexeme]) -> Result<(Number, &[Lexeme]), ReadFault> {
+    fn read<'a>(_from: Source, tokens: &'a [Lexeme]) -> Read<'a, Number> {
         match tokens {
             [Lexeme::Number(number), rest @ ..] => Ok((*number, rest)),
             _ => Err(ReadFault::Syntax),
@@ -45,30 +32,18 @@ impl Listed for Number {
     }
 }
 
-impl Listed for Name {
-    ghost begins = { is_name };
+impl FromTokens for Name {
+    ghost item = { λ bytes. name_at };
 
-    ghost item = { name_at };
-
-    fn begins(tokens: &[Lexeme]) -> bool {
-        matches!(tokens, [Lexeme::Word(_), ..] | [Lexeme::Number(_), ..])
-    }
-
-    fn read(_alloc: Global, tokens: &[Lexeme]) -> Result<(Name, &[Lexeme]), ReadFault> {
+    fn read<'a>(_from: Source, tokens: &'a [Lexeme]) -> Read<'a, Name> {
         read_name(tokens)
     }
 }
 
-impl Listed for Entry {
-    ghost begins = { is_entry };
+impl FromTokens for Entry {
+    ghost item = { λ bytes. entry_at };
 
-    ghost item = { entry_at };
-
-    fn begins(tokens: &[Lexeme]) -> bool {
-        matches!(tokens, [Lexeme::Number(_), ..] | [Lexeme::Negative(_), ..])
-    }
-
-    fn read(_alloc: Global, tokens: &[Lexeme]) -> Result<(Entry, &[Lexeme]), ReadFault> {
+    fn read<'a>(_from: Source, tokens: &'a [Lexeme]) -> Read<'a, Entry> {
         match tokens {
             [Lexeme::Number(number), rest @ ..] => Ok((Entry::Number(*number), rest)),
             [Lexeme::Negative(number), rest @ ..] => Ok((Entry::Negative(*number), rest)),
@@ -77,56 +52,45 @@ impl Listed for Entry {
     }
 }
 
-impl Listed for Vector {
-    ghost begins = { is_vector };
-
-    ghost item = { vector_at };
-
-    fn begins(tokens: &[Lexeme]) -> bool {
-        matches!(tokens, [Lexeme::Mark(Mark::OpenList), ..])
-    }
-
-    fn read(alloc: Global, tokens: &[Lexeme]) -> Result<(Vector, &[Lexeme]), ReadFault> {
-        match tokens {
-            [Lexeme::Mark(Mark::OpenList), rest @ ..] => {
-                let (entries, rest) = many(alloc, rest.len(), rest)?;
-                vector_end(entries, rest)
-            }
-            _ => Err(ReadFault::Syntax),
-        }
+/// The tokens behind a mark that is wanted.
+#[tactic(auto, unfolding(crate::specs::reading::Vectors::same_mark))]
+fn past<'a>(wanted: Mark, tokens: &'a [Lexeme]) -> Result<&'a [Lexeme], ReadFault>
+    ensures { Gives (λ x. (tt, x.now)) result (mark_at wanted tokens.now) }
+{
+    match tokens {
+        [Lexeme::Mark(mark), rest @ ..] if *mark == wanted => Ok(rest),
+        _ => Err(ReadFault::Syntax),
     }
 }
 
-impl Listed for Edge {
-    ghost begins = { is_edge };
+impl FromTokens for Vector {
+    ghost item = { λ bytes. vector.item };
 
-    ghost item = { edge_at };
-
-    fn begins(tokens: &[Lexeme]) -> bool {
-        matches!(tokens, [Lexeme::Mark(Mark::Open), ..])
+    fn read<'a>(from: Source, tokens: &'a [Lexeme]) -> Read<'a, Vector> {
+        let rest = past(Mark::OpenList, tokens)?;
+        let (entries, rest) = each(from, rest)?;
+        let rest = past(Mark::CloseList, rest)?;
+        Ok((Vector { entries }, rest))
     }
+}
 
-    fn read(alloc: Global, tokens: &[Lexeme]) -> Result<(Edge, &[Lexeme]), ReadFault> {
-        let (label, rest) = edge_start(tokens)?;
-        let (from, rest) = read_name(rest)?;
-        let (offset, rest) = Vector::read(alloc, rest)?;
+impl FromTokens for Edge {
+    ghost item = { λ bytes. edge.item };
+
+    fn read<'a>(from: Source, tokens: &'a [Lexeme]) -> Read<'a, Edge> {
+        let rest = past(Mark::Open, tokens)?;
+        let (label, rest) = Word::read(from, rest)?;
+        let (start, rest) = read_name(rest)?;
+        let (offset, rest) = Vector::read(from, rest)?;
         let (to, rest) = read_name(rest)?;
+        let rest = past(Mark::Close, rest)?;
         let edge = Edge {
             label,
-            from,
+            from: start,
             offset,
             to,
         };
-        edge_end(edge, rest)
-    }
-}
-
-fn vector_end(entries: Items<Entry>, tokens: &[Lexeme]) -> Result<(Vector, &[Lexeme]), ReadFault>
-    ensures { Gives (λ x. (x.0, x.1.now)) result (vector_end entries tokens.now) }
-{
-    match tokens {
-        [Lexeme::Mark(Mark::CloseList), rest @ ..] => Ok((Vector { entries }, rest)),
-        _ => Err(ReadFault::Syntax),
+        Ok((edge, rest))
     }
 }
 
@@ -141,10 +105,10 @@ fn is_plain(vector: &Vector) -> bool
 }
 
 /// A vector without negative numbers.
-pub(crate) fn plain(alloc: Global, tokens: &[Lexeme]) -> Result<(Vector, &[Lexeme]), ReadFault>
-    ensures { Gives (λ x. (x.0, x.1.now)) result (plain_at tokens.now) }
+pub(crate) fn plain<'a>(from: Source, tokens: &'a [Lexeme]) -> Read<'a, Vector>
+    ensures { Gives (λ x. (x.0, x.1.now)) result (plain.item tokens.now) }
 {
-    let (vector, rest) = Vector::read(alloc, tokens)?;
+    let (vector, rest) = Vector::read(from, tokens)?;
     if !is_plain(&vector) {
         return Err(ReadFault::Syntax);
     }
@@ -152,33 +116,12 @@ pub(crate) fn plain(alloc: Global, tokens: &[Lexeme]) -> Result<(Vector, &[Lexem
 }
 
 /// A vector without negative numbers, where one stands there.
-pub(crate) fn shear(
-    alloc: Global,
-    tokens: &[Lexeme],
-) -> Result<(Option<Vector>, &[Lexeme]), ReadFault>
-    ensures { Gives (λ x. (x.0, x.1.now)) result (shear_at tokens.now) }
+pub(crate) fn shear<'a>(from: Source, tokens: &'a [Lexeme]) -> Read<'a, Option<Vector>>
+    ensures { Gives (λ x. (x.0, x.1.now)) result (shear.item tokens.now) }
 {
-    if !Vector::begins(tokens) {
-        return Ok((None, tokens));
-    }
-    let (shear, rest) = plain(alloc, tokens)?;
-    Ok((Some(shear), rest))
-}
-
-fn edge_start(tokens: &[Lexeme]) -> Result<(Word, &[Lexeme]), ReadFault>
-    ensures { Gives (λ x. (x.0, x.1.now)) result (edge_start tokens.now) }
-{
-    match tokens {
-        [Lexeme::Mark(Mark::Open), Lexeme::Word(label), rest @ ..] => Ok((*label, rest)),
-        _ => Err(ReadFault::Syntax),
-    }
-}
-
-fn edge_end(edge: Edge, tokens: &[Lexeme]) -> Result<(Edge, &[Lexeme]), ReadFault>
-    ensures { Gives (λ x. (x.0, x.1.now)) result (edge_end edge tokens.now) }
-{
-    match tokens {
-        [Lexeme::Mark(Mark::Close), rest @ ..] => Ok((edge, rest)),
-        _ => Err(ReadFault::Syntax),
+    match plain(from, tokens) {
+        Ok((shear, rest)) => Ok((Some(shear), rest)),
+        Err(ReadFault::Syntax) => Ok((None, tokens)),
+        Err(ReadFault::Memory) => Err(ReadFault::Memory),
     }
 }

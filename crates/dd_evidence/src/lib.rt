@@ -1,4 +1,4 @@
-//! What answers write of the parts of a script: cells, configurations, and the patterns that rules forbid.
+//! What answers write of parts of questions: cells, configurations, and the patterns that rules forbid.
 #![tactic(auto)]
 
 mod laws;

@@ -1,5 +1,6 @@
 -- The rules by which the faults of a formula are noted.
-use Rattle.dd_faults.specs.lemmas.Layers.{faults_list, faults_quantified, faults_implies, faults_iff}
+use Rattle.std.proofs.lemmas.Grind.{common_steps}
+use Rattle.dd_faults.specs.lemmas.Layers.{faults_chain, faults_quantified}
 use Rattle.dd_faults.proofs.Noting.{noted_both}
 
-pub ruleset layers = (noted_both, faults_list, faults_quantified, faults_implies, faults_iff)
+pub ruleset layers = (common_steps, noted_both, faults_chain, faults_quantified)

@@ -4,7 +4,7 @@ use Rattle.std.specs.List.{flat_map, list_any, zip}
 use Rattle.std.specs.Option.{option_map_or}
 use Rattle.dd_values.specs.Bounds.{most_weight, most_commands}
 use Rattle.dd_topology.specs.declared.builtin.Kind.{Kind}
-use Rattle.dd_topology.specs.declared.builtin.Kind.TheVariants as kind
+use Rattle.dd_topology.specs.Builtin.{grid_of}
 use Rattle.dd_written.specs.declared.lexeme.Word.{Word}
 use Rattle.dd_written.specs.declared.lexeme.Number.{Number}
 use Rattle.dd_written.specs.declared.tree.Name.{Name}
@@ -28,7 +28,7 @@ use Rattle.dd_faults.specs.declared.fault.Fault.TheVariants as fault
 use Rattle.dd_faults.specs.declared.context.Known.{Known}
 use Rattle.dd_faults.specs.declared.context.Context.{Context}
 use Rattle.dd_faults.specs.Order.{when, over}
-pub use Rattle.dd_faults.specs.Numbers.{unless, dimension_of, token_faults, entry_number, entry_value, has_entries, is_far}
+pub use Rattle.dd_faults.specs.Numbers.{unless, dimension_of, token_faults, entry_number, entry_value, signed_value, has_entries, is_far}
 pub use Rattle.dd_faults.specs.Boxes.{HasSets, is_allowed, symbol_faults, product, period_at, shear_of, shear_fits, box_fits, box_faults}
 use Rattle.dd_faults.specs.Names.{place_of_name, missing, named, named_again}
 use Rattle.dd_faults.specs.Formulas.{formula_faults}
@@ -36,24 +36,9 @@ use Rattle.dd_faults.specs.Repeats.{twice_named, twice_labelled, twice_vectors}
 
 -- ---- the header
 
-abbrev pub kind_dimension : Kind → ℕ
-kind_dimension kind.Line = 1
-kind_dimension kind.Square = 2
-kind_dimension kind.King = 2
-kind_dimension kind.Triangle = 2
-kind_dimension kind.Hex = 2
-kind_dimension kind.Cube = 3
-
-abbrev pub kind_nodes : Kind → ℕ
-kind_nodes kind.Line = 1
-kind_nodes kind.Square = 1
-kind_nodes kind.King = 1
-kind_nodes kind.Triangle = 1
-kind_nodes kind.Hex = 2
-kind_nodes kind.Cube = 1
-
+-- the topology of a kind has the dimension of the script, and as many nodes as were named
 abbrev pub kind_fits : Known → Kind → Bool
-kind_fits k t = kind_dimension t == dimension_of k && (not k.nodes_are_given || length k.setting.nodes == kind_nodes t)
+kind_fits k t = (grid_of t).dimension == dimension_of k && (not k.nodes_are_given || length k.setting.nodes == (grid_of t).nodes)
 
 abbrev pub edge_faults : Context → Edge → List Fault
 edge_faults x e =

@@ -6,8 +6,9 @@ use Rattle.dd_written.specs.declared.tree.Name.TheVariants as name
 use Rattle.dd_written.specs.declared.tree.Term.{Term}
 use Rattle.dd_written.specs.declared.tree.Comparand.{Comparand}
 use Rattle.dd_written.specs.declared.tree.Comparand.TheVariants as side
+use Rattle.dd_written.specs.declared.tree.Relation.{Relation}
+use Rattle.dd_written.specs.declared.tree.Relation.TheVariants as relation
 use Rattle.dd_written.specs.declared.tree.Atom.{Atom}
-use Rattle.dd_written.specs.declared.tree.Atom.TheVariants as atom
 use Rattle.dd_written.specs.declared.tree.Ball.{Ball}
 use Rattle.dd_written.specs.declared.tree.Formula.{Formula}
 use Rattle.dd_written.specs.declared.tree.Formula.TheFolds.{fold-Formula}
@@ -34,12 +35,15 @@ abbrev pub side_faults : Context → List Word → Comparand → List Fault
 side_faults x scope (side.Number n) = missing x.text x.known.setting.symbols (name.Number n)
 side_faults x scope (side.Term t) = if names_symbol x.text scope t then missing x.text x.known.setting.symbols (name.Word t.first) else term_faults x scope t
 
+abbrev pub relation_faults : Context → List Word → Relation → List Fault
+relation_faults x scope (relation.Equal r) = side_faults x scope r
+relation_faults x scope (relation.NotEqual r) = side_faults x scope r
+relation_faults x scope (relation.Adjacent t) = term_faults x scope t
+relation_faults x scope (relation.Same t) = term_faults x scope t
+relation_faults x scope (relation.AtNode n) = missing x.text x.known.setting.nodes n
+
 abbrev pub atom_faults : Context → List Word → Atom → List Fault
-atom_faults x scope (atom.Equal t r) = term_faults x scope t ++ side_faults x scope r
-atom_faults x scope (atom.NotEqual t r) = term_faults x scope t ++ side_faults x scope r
-atom_faults x scope (atom.Adjacent t u) = term_faults x scope t ++ term_faults x scope u
-atom_faults x scope (atom.Same t u) = term_faults x scope t ++ term_faults x scope u
-atom_faults x scope (atom.AtNode t n) = term_faults x scope t ++ missing x.text x.known.setting.nodes n
+atom_faults x scope a = term_faults x scope a.term ++ relation_faults x scope a.relation
 
 abbrev pub ball_faults : Context → List Word → Ball → List Fault
 ball_faults x scope b = unknown_variable x.text scope b.centre ++ over (nat_lt 3 (written_value x.text b.radius)) limit.Radius
@@ -54,9 +58,7 @@ faults_step x (Formula-F.Atom a) scope = atom_faults x scope a
 faults_step x (Formula-F.Not f) scope = f scope
 faults_step x (Formula-F.Quantified q w balls f) scope = quantifier_faults x scope w balls ++ f (scope ++ w ∷ [])
 faults_step x (Formula-F.Group f) scope = f scope
-faults_step x (Formula-F.List j fs) scope = flat_map (λ f. f scope) fs
-faults_step x (Formula-F.Implies f g) scope = f scope ++ g scope
-faults_step x (Formula-F.Iff f g) scope = f scope ++ g scope
+faults_step x (Formula-F.Chain j fs) scope = flat_map (λ f. f scope) fs
 
 abbrev pub formula_faults : Context → Formula → List Word → List Fault
 formula_faults x = fold-Formula (List Word → List Fault) (faults_step x)

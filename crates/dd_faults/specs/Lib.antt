@@ -14,7 +14,7 @@ pub mod Boxes
 pub mod Commands
 -- what every script keeps
 pub mod Sound
--- what comes of adding to what was seen
+-- what the walk over a command needs of its shape
 pub mod walk
 -- lemmas on what stands above, with their proofs, for whoever cites them
 pub mod lemmas

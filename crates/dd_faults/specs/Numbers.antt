@@ -1,5 +1,5 @@
 -- The faults of tokens, and what is asked of numbers and vectors.
-use Rattle.std.specs.Prelude.{ℕ, List, [], length, Bool, not, ◌==◌, nat_lt}
+use Rattle.std.specs.Prelude.{ℕ, List, [], length, Bool, not, ◌==◌, nat_lt, ℤ, pos, ◌-ℤ◌}
 use Rattle.std.specs.List.{list_any}
 use Rattle.dd_written.specs.declared.lexeme.Number.{Number}
 use Rattle.dd_written.specs.declared.lexeme.Lexeme.{Lexeme}
@@ -38,6 +38,11 @@ entry_number (entry.Negative n) = n
 
 abbrev pub entry_value : List ℕ → Entry → ℕ
 entry_value bytes e = written_value bytes (entry_number e)
+
+-- the number of an entry, with its sign
+abbrev pub signed_value : List ℕ → Entry → ℤ
+signed_value bytes (entry.Number n) = pos (written_value bytes n)
+signed_value bytes (entry.Negative n) = pos 0 -ℤ pos (written_value bytes n)
 
 abbrev pub has_entries : ℕ → Vector → Bool
 has_entries d v = length v.entries == d

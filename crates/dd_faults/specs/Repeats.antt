@@ -1,19 +1,21 @@
 -- What is given twice: the first that is the same as one before it.
-use Rattle.std.specs.Prelude.{ℕ, List, [], ◌∷◌, ◌++◌, if◌then◌else◌, bytes_eq, codes}
+use Rattle.std.specs.Prelude.{ℕ, List, [], ◌∷◌, ◌++◌, if◌then◌else◌, nat_lt, bytes_eq, codes}
 use Rattle.std.specs.List.{list_any, flat_map}
+use Rattle.std.specs.Fmt.{signed_decimal}
 use Rattle.dd_written.specs.declared.tree.Name.{Name}
 use Rattle.dd_written.specs.declared.tree.Name.TheVariants as name
 use Rattle.dd_written.specs.Values.{word_text, number_text, name_text}
 use Rattle.dd_commands.specs.declared.command.Entry.{Entry}
-use Rattle.dd_commands.specs.declared.command.Entry.TheVariants as entry
 use Rattle.dd_commands.specs.declared.command.Vector.{Vector}
 use Rattle.dd_commands.specs.declared.command.Edge.{Edge}
 use Rattle.dd_faults.specs.declared.fault.Fault.{Fault}
 use Rattle.dd_faults.specs.declared.fault.Fault.TheVariants as fault
+use Rattle.dd_faults.specs.Numbers.{entry_number, entry_value, signed_value}
 
-abbrev pub first_repeat : {X : Type 0} → (X → List ℕ) → (X → Fault) → List X → List X → List Fault
-first_repeat key f before [] = []
-first_repeat key f before (x ∷ xs) = if list_any (λ y. bytes_eq (key x) (key y)) before then f x ∷ [] else first_repeat key f (before ++ x ∷ []) xs
+-- Two with one key are the same; the keys of those before are seen.
+abbrev pub first_repeat : {X : Type 0} → (X → List ℕ) → (X → Fault) → List (List ℕ) → List X → List Fault
+first_repeat key f seen [] = []
+first_repeat key f seen (x ∷ xs) = if list_any (bytes_eq (key x)) seen then f x ∷ [] else first_repeat key f (seen ++ key x ∷ []) xs
 
 abbrev pub twice_named : List ℕ → List Name → List Fault
 twice_named bytes names = first_repeat (name_text bytes) fault.Twice [] names
@@ -28,13 +30,10 @@ twice_label e = fault.Twice (name.Word e.label)
 abbrev pub twice_labelled : List ℕ → List Edge → List Fault
 twice_labelled bytes es = first_repeat (edge_key bytes) twice_label [] es
 
--- the entries as they are written, each with a comma behind it
-abbrev pub entry_text : List ℕ → Entry → List ℕ
-entry_text bytes (entry.Number n) = number_text bytes n
-entry_text bytes (entry.Negative n) = number_text bytes n
-
+-- An entry of at most 4 in absolute value goes by its number, and any other as it is written. So two vectors without far entries are
+-- the same exactly where they have the same numbers.
 abbrev pub entry_key : List ℕ → Entry → List ℕ
-entry_key bytes e = entry_text bytes e ++ codes ","
+entry_key bytes e = (if nat_lt 4 (entry_value bytes e) then number_text bytes (entry_number e) else signed_decimal (signed_value bytes e)) ++ codes ","
 
 abbrev pub vector_key : List ℕ → Vector → List ℕ
 vector_key bytes v = flat_map (entry_key bytes) v.entries

@@ -1,3 +1,4 @@
 pub mod Nothing
 pub mod Layers
 pub mod Periods
+pub mod Repeats

@@ -8,7 +8,7 @@ use crate::each::{Notes, note_each};
 use crate::fault::{Fault, Limit, note_if, note_over};
 use crate::limits::{MOST_BALLS, MOST_MOVES, WIDEST_RADIUS};
 use crate::names::{is_variable, note_missing, note_variable};
-use dd_written::{Atom, Ball, Comparand, Name, Term, Word, name_text, number_value};
+use dd_written::{Atom, Ball, Comparand, Name, Relation, Term, Word, name_text, number_value};
 
 /// Labels of moves.
 impl Notes<Word> for Context {
@@ -60,31 +60,11 @@ fn side(context: &Context, scope: &[Word], side: &Comparand, found: &mut Option<
 pub(crate) fn atom(context: &Context, scope: &[Word], atom: &Atom, found: &mut Option<Fault>)
     ensures { found.new ≡ noted found.old (atom_faults context.now scope.now atom.now) }
 {
-    match atom {
-        Atom::Equal {
-            term: left,
-            side: right,
-        } => {
-            term(context, scope, left, found);
-            side(context, scope, right, found);
-        }
-        Atom::NotEqual {
-            term: left,
-            side: right,
-        } => {
-            term(context, scope, left, found);
-            side(context, scope, right, found);
-        }
-        Atom::Adjacent { left, right } => {
-            term(context, scope, left, found);
-            term(context, scope, right, found);
-        }
-        Atom::Same { left, right } => {
-            term(context, scope, left, found);
-            term(context, scope, right, found);
-        }
-        Atom::AtNode { term: left, node } => {
-            term(context, scope, left, found);
+    term(context, scope, &atom.term, found);
+    match &atom.relation {
+        Relation::Equal(right) | Relation::NotEqual(right) => side(context, scope, right, found),
+        Relation::Adjacent(right) | Relation::Same(right) => term(context, scope, right, found),
+        Relation::AtNode(node) => {
             note_missing(&context.text, &context.known.setting.nodes, *node, found);
         }
     }

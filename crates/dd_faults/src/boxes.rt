@@ -1,17 +1,47 @@
-//! The faults of periods and shears.
-ghost use Rattle.std.specs.Prelude.{◌≡◌, ◌≤◌, ◌<◌, ◌||◌, nat_lt, nat_le, min};
+//! The faults of the symbols, periods and shears of configurations.
+ghost use Rattle.std.specs.Prelude.{◌≡◌, ◌≤◌, ◌<◌, ◌++◌, ◌||◌, length, nat_lt, nat_le, min, OnOk};
 ghost use Rattle.dd_faults.specs.Order.{noted};
-ghost use Rattle.dd_faults.specs.Commands.{product, period_at, shear_of, shear_fits, box_fits, box_faults};
+ghost use Rattle.dd_faults.specs.Commands.{HasSets, is_allowed, symbol_faults, product, period_at, shear_of, shear_fits, box_fits, box_faults};
 
 use crate::context::Context;
 use crate::fault::{Fault, Limit, note_if, note_over};
 use crate::limits::MOST_IN_BOX;
-use crate::numbers::{entry_value, has_entries};
+use crate::numbers::{entry_value, has_entries, note_unless};
 use dd_commands::{Entry, Vector};
-use dd_written::Text;
+use dd_written::{Name, Text, name_text};
+use std::alloc::AllocError;
+
+/// As many symbols as no script has are taken for want of memory.
+const TOO_MANY: usize = 4_294_967_295;
+
+/// Whether a name is that of a symbol that the node allows.
+fn is_allowed(context: &Context, node: u32, name: Name) -> bool
+    requires { node < length context.now.known.setting.sets.allowed }
+    ensures { result ≡ is_allowed context.now node name }
+{
+    let setting = &context.known.setting;
+    match setting.symbols.find(name_text(&context.text, name)) {
+        Some(symbol) => setting.sets.allows(node, symbol),
+        None => false,
+    }
+}
+
+/// Notes the names of no symbol, and the symbols that their nodes do not allow. The nodes stand innermost.
+#[tactic(auto, using(crate::proofs::Nodes::nodes))]
+fn symbols(context: &Context, written: &[Name], found: &mut Option<Fault>)
+    requires { HasSets context.now.known }
+    ensures { found.new ≡ noted found.old (symbol_faults context.now 0 written.now) }
+{
+    let nodes = context.known.setting.nodes.count() as usize;
+    let mut place = 0;
+    for name in written {
+        let allowed = is_allowed(context, (place % nodes) as u32, *name);
+        note_if(found, !allowed, Fault::Unknown(*name));
+        place += 1;
+    }
+}
 
 /// The product of the values of entries, and the greatest number of 32 bits for all that are greater.
-#[tactic(auto, using(crate::proofs::Products::products))]
 fn product(text: &Text, entries: &[Entry]) -> u32
     ensures { result ≡ min (product text.now entries.now) 4294967295 }
 {
@@ -25,7 +55,7 @@ fn product(text: &Text, entries: &[Entry]) -> u32
 pub fn period_at(text: &Text, periods: &Vector, axis: usize) -> u32
     ensures { result ≡ min (period_at text.now periods.now axis) 4294967295 }
 {
-    match periods.entries.as_slice().get(axis) {
+    match periods.entries.get(axis) {
         Some(entry) => entry_value(text, *entry),
         None => 1,
     }
@@ -35,13 +65,10 @@ pub fn period_at(text: &Text, periods: &Vector, axis: usize) -> u32
 pub fn shear_of(text: &Text, shear: &Option<Vector>) -> u32
     ensures { result ≡ min (shear_of text.now shear.now) 4294967295 }
 {
-    match shear {
-        Some(entries) => match entries.entries.as_slice().get(0) {
-            Some(entry) => entry_value(text, *entry),
-            None => 0,
-        },
-        None => 0,
-    }
+    let Some(Vector { entries }) = shear else {
+        return 0;
+    };
+    entries.get(0).map_or(0, |entry| entry_value(text, *entry))
 }
 
 fn shear_fits(dimension: u32, shear: &Option<Vector>) -> bool
@@ -55,7 +82,6 @@ fn shear_fits(dimension: u32, shear: &Option<Vector>) -> bool
 
 /// Whether there are as many symbols as the product of the periods and the nodes, and a period for each axis. So few symbols
 /// tell a product from one that is cut.
-#[tactic(auto, using(crate::proofs::Products::products))]
 fn box_fits(context: &Context, periods: &Vector, shear: &Option<Vector>, count: usize) -> bool
     requires { count < 4294967295 }
     ensures { result ≡ box_fits context.now periods.now shear.now count }
@@ -69,32 +95,30 @@ fn box_fits(context: &Context, periods: &Vector, shear: &Option<Vector>, count: 
     volume.saturating_mul(setting.nodes.count()) as usize == count
 }
 
-/// Whether there are too many symbols, or the shear is not less than the first period.
-#[tactic(auto, using(crate::proofs::Products::comparisons))]
-fn is_too_large(text: &Text, periods: &Vector, shear: &Option<Vector>, count: usize) -> bool
-    requires { period_at text.now periods.now 0 < 4294967295 }
-    ensures { result ≡ (nat_lt 65536 count || nat_le (period_at text.now periods.now 0) (shear_of text.now shear.now)) }
-{
-    count > MOST_IN_BOX || period_at(text, periods, 0) <= shear_of(text, shear)
-}
-
-/// Notes periods that do not agree with so many symbols, and what is too large.
-#[tactic(auto, using(crate::proofs::Products::comparisons))]
-pub(crate) fn note_box(
+/// Notes names that are not those of symbols which their nodes allow, periods that do not agree with so many symbols, and what is
+/// too large.
+#[tactic(auto, using(crate::proofs::Products::boxes))]
+pub(crate) fn configuration(
     context: &Context,
     periods: &Vector,
     shear: &Option<Vector>,
-    count: usize,
+    written: &[Name],
     found: &mut Option<Fault>,
-)
-    requires some { 1 ≤ count }
-    requires few { count < 4294967295 }
-    ensures { found.new ≡ noted found.old (box_faults context.now periods.now shear.now count) }
+) -> Result<(), AllocError>
+    requires sets { HasSets context.now.known }
+    requires some { 1 ≤ length written.now }
+    ensures { OnOk result (found.new ≡ noted found.old (symbol_faults context.now 0 written.now ++ box_faults context.now periods.now shear.now (length written.now))) }
 {
+    let (text, count) = (&context.text, written.len());
+    if count >= TOO_MANY {
+        return Err(AllocError);
+    }
+    symbols(context, written, found);
     if box_fits(context, periods, shear, count) {
-        let passed = is_too_large(&context.text, periods, shear, count);
+        let passed = count > MOST_IN_BOX || period_at(text, periods, 0) <= shear_of(text, shear);
         note_over(found, passed, Limit::Periods);
     } else {
-        note_if(found, true, Fault::Dimension);
+        note_unless(found, false);
     }
+    Ok(())
 }

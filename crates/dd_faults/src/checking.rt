@@ -1,24 +1,86 @@
-//! The first fault of a command.
+//! The first fault of a command, of whatever kind.
 ghost use Rattle.std.specs.Prelude.{◌≡◌, OnOk};
 ghost use Rattle.dd_commands.specs.Scripts.{IsWritten};
 ghost use Rattle.dd_faults.specs.Order.{noted, first_fault, Accepts};
 ghost use Rattle.dd_faults.specs.Commands.{faults_of, written_faults};
 ghost use Rattle.dd_faults.specs.Sound.{IsSound};
-ghost use Rattle.dd_faults.specs.walk.Shape.{HasSymbols};
+ghost use Rattle.dd_faults.specs.walk.Shape.{HasSymbols, IsHeader};
 
-use crate::commands::{
-    note_alphabet, note_automaton, note_composition, note_configuration, note_dimension,
-    note_edges, note_limits, note_nodes, note_only, note_rule, note_topology, note_weights,
-};
+use crate::boxes::configuration;
 use crate::context::Context;
 use crate::each::note_each;
-use crate::fault::{Fault, Limit, Refusal, note_over};
+use crate::fault::{Fault, Limit, Refusal, note_if, note_over};
+use crate::formulas::{cases, formula};
+use crate::header::{is_restricted, kind_fits, passes_limits};
+use crate::limits::{MOST_AXES, MOST_EDGES, MOST_NODES, MOST_SYMBOLS};
+use crate::names::{note_defined, note_missing};
+use crate::numbers::note_unless;
 use crate::requests::request;
+use crate::twice::note_twice;
 use dd_commands::{Command, Written};
 use dd_values::MOST_COMMANDS;
+use dd_written::{Name, number_value};
 use std::alloc::{AllocError, Global};
 
+/// Notes the faults of a command of the header.
+#[tactic(auto, using(crate::proofs::Noting::notes))]
+fn note_header(
+    alloc: Global,
+    context: &Context,
+    command: &Command,
+    found: &mut Option<Fault>,
+) -> Result<(), AllocError>
+    requires { IsHeader command.now }
+    ensures { OnOk result (found.new ≡ noted found.old (faults_of context.now command.now)) }
+{
+    let text = &context.text;
+    let known = &context.known;
+    let setting = &known.setting;
+    match command {
+        Command::Dimension { number } => {
+            let dimension = number_value(text, *number);
+            note_unless(found, dimension >= 1 && dimension <= MOST_AXES);
+        }
+        Command::Nodes { names } => {
+            note_twice(alloc, text, names.as_slice(), found)?;
+            note_unless(found, context.has_topology || names.len() <= 1);
+            note_over(found, names.len() > MOST_NODES, Limit::Nodes);
+        }
+        Command::Alphabet { names } => {
+            note_twice(alloc, text, names.as_slice(), found)?;
+            note_over(found, names.len() > MOST_SYMBOLS, Limit::Alphabet);
+        }
+        Command::Topology { kind } => note_unless(found, kind_fits(known, *kind)),
+        Command::Edges { edges } => {
+            note_each(context, edges.as_slice(), found);
+            note_twice(alloc, text, edges.as_slice(), found)?;
+            note_over(found, edges.len() > MOST_EDGES, Limit::Edges);
+        }
+        Command::Only { node, symbols } => {
+            note_missing(text, &setting.nodes, *node, found);
+            note_if(found, is_restricted(context, *node), Fault::Twice(*node));
+            note_each(context, symbols.as_slice(), found);
+            note_twice(alloc, text, symbols.as_slice(), found)?;
+        }
+        Command::Weights { weights } => {
+            note_unless(found, weights.len() == setting.symbols.count() as usize);
+            note_each(context, weights.as_slice(), found);
+        }
+        Command::Limits {
+            radius,
+            period,
+            pivots,
+        } => {
+            let passed = passes_limits(text, *radius, *period, *pivots);
+            note_over(found, passed, Limit::Limits);
+        }
+        _ => {}
+    }
+    Ok(())
+}
+
 /// Notes the faults of a command, of whatever kind.
+#[tactic(auto, using(crate::proofs::Noting::notes))]
 fn note_command(
     alloc: Global,
     context: &Context,
@@ -29,37 +91,38 @@ fn note_command(
     requires symbols { HasSymbols command.now }
     ensures { OnOk result (found.new ≡ noted found.old (faults_of context.now command.now)) }
 {
+    let text = &context.text;
+    let known = &context.known;
     match command {
-        Command::Dimension { number } => note_dimension(context, *number, found),
-        Command::Nodes { names } => note_nodes(alloc, context, names.as_slice(), found)?,
-        Command::Alphabet { names } => note_alphabet(alloc, context, names.as_slice(), found)?,
-        Command::Topology { kind } => note_topology(context, *kind, found),
-        Command::Edges { edges } => note_edges(alloc, context, edges.as_slice(), found)?,
-        Command::Only { node, symbols } => {
-            note_only(alloc, context, *node, symbols.as_slice(), found)?
+        Command::Rule { name, formula } => {
+            note_defined(text, known, *name, found);
+            self::formula(alloc, context, &[], formula, found)?;
         }
-        Command::Weights { weights } => note_weights(context, weights.as_slice(), found),
-        Command::Limits {
-            radius,
-            period,
-            pivots,
-        } => note_limits(context, *radius, *period, *pivots, found),
-        Command::Rule { name, formula } => note_rule(alloc, context, *name, formula, found)?,
         Command::Automaton {
             name,
             cases,
             default,
-        } => note_automaton(alloc, context, *name, cases.as_slice(), *default, found)?,
+        } => {
+            note_defined(text, known, *name, found);
+            self::cases(alloc, context, cases.as_slice(), found)?;
+            note_missing(text, &known.setting.symbols, *default, found);
+        }
         Command::Composition { name, outer, inner } => {
-            note_composition(context, *name, *outer, *inner, found)
+            note_defined(text, known, *name, found);
+            note_missing(text, &known.automata, Name::Word(*outer), found);
+            note_missing(text, &known.automata, Name::Word(*inner), found);
         }
         Command::Configuration {
             name,
             periods,
             shear,
             symbols,
-        } => note_configuration(context, *name, periods, shear, symbols.as_slice(), found)?,
+        } => {
+            note_defined(text, known, *name, found);
+            configuration(context, periods, shear, symbols.as_slice(), found)?;
+        }
         Command::Query(written) => request(alloc, context, written, found)?,
+        header => note_header(alloc, context, header, found)?,
     }
     Ok(())
 }

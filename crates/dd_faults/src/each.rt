@@ -17,6 +17,7 @@ pub(crate) trait Notes<T> {
 }
 
 /// Notes the faults of each item.
+#[tactic(auto, using(crate::proofs::Noting::loops))]
 pub(crate) fn note_each<T, N: Notes<T>>(notes: &N, items: &[T], found: &mut Option<Fault>)
     ensures { found.new ≡ noted found.old (flat_map (N.faults notes.now) items.now) }
 {

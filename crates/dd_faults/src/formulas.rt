@@ -3,10 +3,13 @@ ghost use Rattle.std.specs.Prelude.{◌≡◌, [], ◌∷◌, ◌++◌, IfOk, On
 ghost use Rattle.std.specs.List.{flat_map};
 ghost use Rattle.dd_faults.specs.Order.{noted};
 ghost use Rattle.dd_faults.specs.Formulas.{formula_faults};
+ghost use Rattle.dd_faults.specs.Commands.{case_faults};
 
 use crate::atoms::{atom, quantifier};
 use crate::context::Context;
 use crate::fault::Fault;
+use crate::names::note_missing;
+use dd_commands::Case;
 use dd_values::Items;
 use dd_written::{Formula, Word};
 use std::alloc::{AllocError, Global};
@@ -21,23 +24,21 @@ pub fn within(alloc: Global, scope: &[Word], variable: Word) -> Result<Items<Wor
 }
 
 /// Notes the faults of a formula in a scope.
-#[cycle(faults)]
 #[tactic(auto, using(crate::proofs::Layers::layers))]
-fn formula_in(
+pub(crate) fn formula(
     alloc: Global,
     context: &Context,
     scope: &[Word],
-    formula: &Formula,
+    written: &Formula,
     found: &mut Option<Fault>,
 ) -> Result<(), AllocError>
-    ensures { OnOk result (found.new ≡ noted found.old (formula_faults context.now formula.now scope.now)) }
+    ensures { OnOk result (found.new ≡ noted found.old (formula_faults context.now written.now scope.now)) }
 {
-    match formula {
-        Formula::Atom(written) => {
-            atom(context, scope, written, found);
-            Ok(())
+    match written {
+        Formula::Atom(written) => atom(context, scope, written, found),
+        Formula::Not(inner) | Formula::Group(inner) => {
+            formula(alloc, context, scope, inner.get(), found)?
         }
-        Formula::Not(inner) => formula_in(alloc, context, scope, inner.get(), found),
         Formula::Quantified {
             variable,
             balls,
@@ -46,51 +47,31 @@ fn formula_in(
         } => {
             quantifier(context, scope, *variable, balls.as_slice(), found);
             let inner = within(alloc, scope, *variable)?;
-            formula_in(alloc, context, inner.as_slice(), body.get(), found)
+            formula(alloc, context, inner.as_slice(), body.get(), found)?;
         }
-        Formula::Group(inner) => formula_in(alloc, context, scope, inner.get(), found),
-        Formula::List { members, .. } => {
-            members_in(alloc, context, scope, members.as_slice(), found)
+        Formula::Chain { parts, .. } => {
+            for part in parts.as_slice() {
+                formula(alloc, context, scope, part, found)?;
+            }
         }
-        Formula::Implies {
-            premise,
-            conclusion,
-        } => {
-            formula_in(alloc, context, scope, premise.get(), found)?;
-            formula_in(alloc, context, scope, conclusion.get(), found)
-        }
-        Formula::Iff { left, right } => {
-            formula_in(alloc, context, scope, left.get(), found)?;
-            formula_in(alloc, context, scope, right.get(), found)
-        }
-    }
-}
-
-#[cycle(faults)]
-#[tactic(auto, using(crate::proofs::Layers::layers))]
-fn members_in(
-    alloc: Global,
-    context: &Context,
-    scope: &[Word],
-    members: &[Formula],
-    found: &mut Option<Fault>,
-) -> Result<(), AllocError>
-    ensures { OnOk result (found.new ≡ noted found.old (flat_map (λ f. formula_faults context.now f scope.now) members.now)) }
-{
-    for member in members {
-        formula_in(alloc, context, scope, member, found)?;
     }
     Ok(())
 }
 
-/// Notes the faults of a formula with the origin as its free variable.
-pub(crate) fn formula(
+/// Notes the faults of the cases of an automaton.
+#[tactic(auto, using(crate::proofs::Noting::loops))]
+pub(crate) fn cases(
     alloc: Global,
     context: &Context,
-    written: &Formula,
+    cases: &[Case],
     found: &mut Option<Fault>,
 ) -> Result<(), AllocError>
-    ensures { OnOk result (found.new ≡ noted found.old (formula_faults context.now written.now [])) }
+    ensures { OnOk result (found.new ≡ noted found.old (flat_map (case_faults context.now) cases.now)) }
 {
-    formula_in(alloc, context, &[], written, found)
+    let symbols = &context.known.setting.symbols;
+    for case in cases {
+        formula(alloc, context, &[], &case.condition, found)?;
+        note_missing(&context.text, symbols, case.symbol, found);
+    }
+    Ok(())
 }

@@ -1,36 +1,29 @@
 //! The faults of commands of the header.
-ghost use Rattle.std.specs.Prelude.{◌≡◌, ◌==◌};
-ghost use Rattle.std.specs.List.{list_any};
-ghost use Rattle.dd_faults.specs.Order.{noted};
+ghost use Rattle.std.specs.Prelude.{◌≡◌};
+ghost use Rattle.dd_topology.specs.Builtin.{grid_of};
+ghost use Rattle.dd_written.specs.Values.{written_value};
 ghost use Rattle.dd_faults.specs.Names.{missing};
-ghost use Rattle.dd_faults.specs.Commands.{kind_dimension, kind_nodes, kind_fits, edge_faults, is_restricted, restricted_again, passes_limits};
+ghost use Rattle.dd_faults.specs.Commands.{kind_fits, edge_faults, is_restricted, passes_limits};
 
 use crate::context::{Context, Known};
 use crate::each::Notes;
-use crate::fault::{Fault, Limit, note_if, note_over};
+use crate::fault::{Fault, Limit, note_over};
 use crate::limits::{GREATEST_PERIOD, GREATEST_RADIUS, MOST_PIVOTS};
 use crate::names::note_missing;
 use crate::numbers::{has_entries, is_far, note_unless};
 use dd_commands::Edge;
 use dd_topology::Kind;
-use dd_written::{Name, name_text};
+use dd_written::{Name, Number, Text, name_text, number_value};
 
-fn kind_dimension(kind: Kind) -> u32
-    ensures { result ≡ kind_dimension kind }
+/// The dimension and the number of nodes of a kind of topology.
+fn kind_shape(kind: Kind) -> (u32, u32)
+    ensures { result ≡ ((grid_of kind).dimension, (grid_of kind).nodes) }
 {
     match kind {
-        Kind::Line => 1,
-        Kind::Square | Kind::King | Kind::Triangle | Kind::Hex => 2,
-        Kind::Cube => 3,
-    }
-}
-
-fn kind_nodes(kind: Kind) -> u32
-    ensures { result ≡ kind_nodes kind }
-{
-    match kind {
-        Kind::Hex => 2,
-        Kind::Line | Kind::Square | Kind::King | Kind::Triangle | Kind::Cube => 1,
+        Kind::Line => (1, 1),
+        Kind::Square | Kind::King | Kind::Triangle => (2, 1),
+        Kind::Hex => (2, 2),
+        Kind::Cube => (3, 1),
     }
 }
 
@@ -38,11 +31,10 @@ fn kind_nodes(kind: Kind) -> u32
 pub(crate) fn kind_fits(known: &Known, kind: Kind) -> bool
     ensures { result ≡ kind_fits known.now kind }
 {
+    let (dimension, nodes) = kind_shape(kind);
     let setting = &known.setting;
-    if kind_dimension(kind) != setting.topology.dim() {
-        return false;
-    }
-    !known.nodes_are_given || setting.nodes.count() == kind_nodes(kind)
+    dimension == setting.topology.dim()
+        && (!known.nodes_are_given || setting.nodes.count() == nodes)
 }
 
 impl Notes<Edge> for Context {
@@ -67,33 +59,24 @@ impl Notes<Name> for Context {
     }
 }
 
-fn is_among(numbers: &[u32], wanted: u32) -> bool
-    ensures { result ≡ list_any (λ n. n == wanted) numbers.now }
-{
-    numbers.iter().any(|number| *number == wanted)
-}
-
 /// Whether the symbols of a node are restricted.
-fn is_restricted(context: &Context, node: Name) -> bool
+pub(crate) fn is_restricted(context: &Context, node: Name) -> bool
     ensures { result ≡ is_restricted context.now node }
 {
     let known = &context.known;
     match known.setting.nodes.find(name_text(&context.text, node)) {
-        Some(number) => is_among(known.restricted.as_slice(), number),
+        Some(number) => known.restricted.as_slice().contains(&number),
         None => false,
     }
 }
 
-/// Notes a node whose symbols are restricted already.
-pub(crate) fn restricted_again(context: &Context, node: Name, found: &mut Option<Fault>)
-    ensures { found.new ≡ noted found.old (restricted_again context.now node) }
-{
-    note_if(found, is_restricted(context, node), Fault::Twice(node));
-}
-
 /// Whether the limits of questions are passed.
-pub(crate) fn passes_limits(radius: u32, period: u32, pivots: u32) -> bool
-    ensures { result ≡ passes_limits radius period pivots }
+pub(crate) fn passes_limits(text: &Text, radius: Number, period: Number, pivots: Number) -> bool
+    ensures { result ≡ passes_limits (written_value text.now radius) (written_value text.now period) (written_value text.now pivots) }
 {
-    radius > GREATEST_RADIUS || period < 1 || period > GREATEST_PERIOD || pivots > MOST_PIVOTS
+    let period = number_value(text, period);
+    number_value(text, radius) > GREATEST_RADIUS
+        || period < 1
+        || period > GREATEST_PERIOD
+        || number_value(text, pivots) > MOST_PIVOTS
 }

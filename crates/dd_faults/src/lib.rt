@@ -4,9 +4,7 @@
 
 mod atoms;
 mod boxes;
-mod cases;
 mod checking;
-mod commands;
 mod context;
 mod each;
 mod fault;
@@ -16,13 +14,13 @@ mod limits;
 mod names;
 mod numbers;
 mod requests;
-mod symbols;
 mod twice;
 
 pub use atoms::names_symbol;
 pub use boxes::{period_at, shear_of};
 pub use checking::check;
 pub use context::{Context, Known, Setting};
-pub use fault::{Fault, Limit, Refusal, refuse_if};
+pub use fault::{Fault, Limit, Refusal};
 pub use formulas::within;
 pub use names::{number_in, place_among};
+pub use numbers::signed_value;

@@ -40,26 +40,19 @@ pub fn place_among(text: &Text, words: &[Word], wanted: &str) -> Option<usize>
 }
 
 /// Whether a word is a variable.
-#[tactic(auto, using(crate::proofs::Noting::some_map))]
 pub(crate) fn is_variable(text: &Text, scope: &[Word], word: Word) -> bool
     ensures { result ≡ is_variable text.now scope.now word }
 {
     let wanted = text.part(word.start, word.length);
-    if wanted == "o" {
-        return true;
-    }
-    place_among(text, scope, wanted).is_some()
+    wanted == "o" || place_among(text, scope, wanted).is_some()
 }
 
 /// Notes a word that is no variable.
 pub(crate) fn note_variable(text: &Text, scope: &[Word], word: Word, found: &mut Option<Fault>)
     ensures { found.new ≡ noted found.old (unknown_variable text.now scope.now word) }
 {
-    note_if(
-        found,
-        !is_variable(text, scope, word),
-        Fault::Unknown(Name::Word(word)),
-    );
+    let known = is_variable(text, scope, word);
+    note_if(found, !known, Fault::Unknown(Name::Word(word)));
 }
 
 /// Notes a name that a rule, an automaton or a configuration has already.

@@ -1,8 +1,8 @@
 //! The faults of tokens, and what vectors and numbers have.
-ghost use Rattle.std.specs.Prelude.{◌≡◌, min};
+ghost use Rattle.std.specs.Prelude.{◌≡◌, ◌≤◌, false, min, nat_lt, unsigned_abs};
 ghost use Rattle.std.specs.List.{list_any};
 ghost use Rattle.dd_faults.specs.Order.{noted};
-ghost use Rattle.dd_faults.specs.Commands.{unless, token_faults, entry_value, has_entries, is_far, is_no_strip, radius_faults, strip_faults, vector_faults, weight_faults};
+ghost use Rattle.dd_faults.specs.Commands.{unless, token_faults, entry_value, signed_value, has_entries, is_far, is_no_strip, radius_faults, strip_faults, vector_faults, weight_faults};
 
 use crate::context::Context;
 use crate::each::Notes;
@@ -27,11 +27,8 @@ impl Notes<Lexeme> for Text {
         match *token {
             Lexeme::Word(word) => note_over(found, word.length > MOST_LETTERS, Limit::Word),
             Lexeme::Number(number) | Lexeme::Negative(number) => {
-                note_over(
-                    found,
-                    number_value(self, number) > GREATEST_NUMBER,
-                    Limit::Number,
-                );
+                let value = number_value(self, number);
+                note_over(found, value > GREATEST_NUMBER, Limit::Number);
             }
             Lexeme::Mark(_) | Lexeme::Stray => {}
         }
@@ -42,8 +39,19 @@ impl Notes<Lexeme> for Text {
 pub(crate) fn entry_value(text: &Text, entry: Entry) -> u32
     ensures { result ≡ min (entry_value text.now entry) 4294967295 }
 {
+    let (Entry::Number(number) | Entry::Negative(number)) = entry;
+    number_value(text, number)
+}
+
+/// The number of an entry of at most 4 in absolute value.
+pub fn signed_value(text: &Text, entry: Entry) -> i32
+    requires { nat_lt 4 (entry_value text.now entry) ≡ false }
+    ensures value { result ≡ signed_value text.now entry }
+    ensures near { unsigned_abs result ≤ 4 }
+{
     match entry {
-        Entry::Number(number) | Entry::Negative(number) => number_value(text, number),
+        Entry::Number(number) => number_value(text, number) as i32,
+        Entry::Negative(number) => -(number_value(text, number) as i32),
     }
 }
 
@@ -57,28 +65,22 @@ pub(crate) fn has_entries(dimension: u32, vector: &Vector) -> bool
 pub(crate) fn is_far(text: &Text, vector: &Vector) -> bool
     ensures { result ≡ is_far text.now vector.now }
 {
-    vector
-        .entries
-        .as_slice()
-        .iter()
-        .any(|entry| entry_value(text, *entry) > FARTHEST)
+    let mut entries = vector.entries.as_slice().iter();
+    entries.any(|entry| entry_value(text, *entry) > FARTHEST)
 }
 
-/// Radii and margins of questions.
+/// Numbers and vectors of questions: radii and margins, and periods of strips.
 #[derive(Clone, Copy)]
-pub(crate) struct Radii<'a> {
+pub(crate) struct Asked<'a> {
     pub(crate) context: &'a Context,
 }
 
-impl<'a> Notes<Number> for Radii<'a> {
-    ghost faults = { λ radii. radius_faults radii.context.now };
+impl<'a> Notes<Number> for Asked<'a> {
+    ghost faults = { λ asked. radius_faults asked.context.now };
 
     fn note(&self, radius: &Number, found: &mut Option<Fault>) {
-        note_over(
-            found,
-            number_value(&self.context.text, *radius) > WIDEST_RADIUS,
-            Limit::Radius,
-        );
+        let value = number_value(&self.context.text, *radius);
+        note_over(found, value > WIDEST_RADIUS, Limit::Radius);
     }
 }
 
@@ -87,11 +89,8 @@ impl Notes<Number> for Context {
     ghost faults = { weight_faults };
 
     fn note(&self, weight: &Number, found: &mut Option<Fault>) {
-        note_over(
-            found,
-            number_value(&self.text, *weight) > MOST_WEIGHT,
-            Limit::Weight,
-        );
+        let value = number_value(&self.text, *weight);
+        note_over(found, value > MOST_WEIGHT, Limit::Weight);
     }
 }
 
@@ -104,25 +103,16 @@ fn is_no_strip(text: &Text, vector: &Vector) -> bool
     })
 }
 
-/// Periods of strips.
-#[derive(Clone, Copy)]
-pub(crate) struct Strips<'a> {
-    pub(crate) context: &'a Context,
-}
-
-impl<'a> Notes<Vector> for Strips<'a> {
-    ghost faults = { λ strips. strip_faults strips.context.now };
+impl<'a> Notes<Vector> for Asked<'a> {
+    ghost faults = { λ asked. strip_faults asked.context.now };
 
     #[tactic(auto, using(crate::proofs::Noting::notes))]
     fn note(&self, periods: &Vector, found: &mut Option<Fault>) {
         let dimension = self.context.known.setting.topology.dim() as usize;
         let fits = dimension > 0 && periods.entries.len() == dimension - 1;
         note_unless(found, fits);
-        note_over(
-            found,
-            is_no_strip(&self.context.text, periods),
-            Limit::Periods,
-        );
+        let passed = is_no_strip(&self.context.text, periods);
+        note_over(found, passed, Limit::Periods);
     }
 }
 

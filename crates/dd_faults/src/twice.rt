@@ -1,20 +1,21 @@
 //! What is given twice.
-ghost use Rattle.std.specs.Prelude.{◌≡◌, ◌++◌, [], ◌∷◌, ℕ, List, string_bytes, Contains, IfOk, OnOk};
+ghost use Rattle.std.specs.Prelude.{◌≡◌, [], ℕ, List, string_bytes, IfOk, OnOk};
 ghost use Rattle.dd_written.specs.Values.{name_text};
 ghost use Rattle.dd_faults.specs.declared.fault.Fault.{Fault as AnyFault};
 ghost use Rattle.dd_faults.specs.declared.fault.Fault.TheVariants.{Twice};
 ghost use Rattle.dd_faults.specs.Order.{noted};
-ghost use Rattle.dd_faults.specs.Repeats.{first_repeat, edge_key, twice_label, entry_text, vector_key, twice_vector};
-ghost use Rattle.dd_faults.specs.walk.Adding.{IsAdded};
+ghost use Rattle.dd_faults.specs.Repeats.{first_repeat, edge_key, twice_label, entry_key, vector_key, twice_vector};
 
 use crate::fault::{Fault, note_if};
+use crate::limits::FARTHEST;
+use crate::numbers::{entry_value, signed_value};
 use dd_commands::{Edge, Entry, Vector};
 use dd_topology::{NameFault, Names};
 use dd_written::{Name, Text, name_text};
 use std::alloc::{AllocError, Global};
 
 /// More names than any script has.
-const TOO_MANY: u32 = 4_000_000;
+const TOO_MANY: usize = 4_000_000;
 
 /// What may be given twice: two with the same key are the same.
 pub(crate) trait Keyed {
@@ -29,27 +30,8 @@ pub(crate) trait Keyed {
         ensures { result ≡ repeated self.now };
 }
 
-/// Adds the key of an item that is not there yet, and tells whether it was added. More keys than any script has are taken for
-/// want of memory.
-fn add_new<T: Keyed>(
-    alloc: Global,
-    text: &Text,
-    item: &T,
-    seen: &mut Names,
-) -> Result<bool, AllocError>
-    ensures { IfOk result (IsAdded seen.old (T.key text.now item.now) seen.new) }
-{
-    if seen.count() > TOO_MANY {
-        return Err(AllocError);
-    }
-    match seen.add(item.key(alloc, text)?) {
-        Ok(_) => Ok(true),
-        Err(NameFault::Twice(_)) => Ok(false),
-        Err(NameFault::Memory(_)) => Err(AllocError),
-    }
-}
-
-/// Notes the first that is given twice.
+/// Notes the first that is given twice. More items than any script has are taken for want of memory.
+#[tactic(auto, using(crate::proofs::Repeats::repeats))]
 pub(crate) fn note_twice<T: Keyed>(
     alloc: Global,
     text: &Text,
@@ -58,11 +40,18 @@ pub(crate) fn note_twice<T: Keyed>(
 ) -> Result<(), AllocError>
     ensures { OnOk result (found.new ≡ noted found.old (first_repeat (T.key text.now) T.repeated [] items.now)) }
 {
+    if items.len() > TOO_MANY {
+        return Err(AllocError);
+    }
     let mut seen = Names::new(alloc);
     for item in items {
-        if !add_new(alloc, text, item, &mut seen)? {
-            note_if(found, true, item.repeated());
-            return Ok(());
+        match seen.add(item.key(alloc, text)?) {
+            Ok(_) => {}
+            Err(NameFault::Twice(_)) => {
+                note_if(found, true, item.repeated());
+                return Ok(());
+            }
+            Err(NameFault::Memory(_)) => return Err(AllocError),
         }
     }
     Ok(())
@@ -100,12 +89,15 @@ impl Keyed for Edge {
     }
 }
 
-fn entry_text(text: &Text, entry: Entry) -> &str
-    ensures { result.now ≡ entry_text text.now entry }
+/// The number of an entry of at most 4 in absolute value, and the text of any other, with a comma behind it.
+fn entry_key(alloc: Global, text: &Text, entry: Entry) -> Result<String, AllocError>
+    ensures { IfOk result (λ key. string_bytes key ≡ entry_key text.now entry) }
 {
-    match entry {
-        Entry::Number(number) | Entry::Negative(number) => name_text(text, Name::Number(number)),
+    if entry_value(text, entry) <= FARTHEST {
+        return format!(in alloc; "{},", signed_value(text, entry));
     }
+    let (Entry::Number(number) | Entry::Negative(number)) = entry;
+    format!(in alloc; "{},", name_text(text, Name::Number(number)))
 }
 
 impl Keyed for Vector {
@@ -113,12 +105,10 @@ impl Keyed for Vector {
 
     ghost repeated = { twice_vector };
 
-    /// The entries, each with a comma behind it.
     fn key(&self, alloc: Global, text: &Text) -> Result<String, AllocError> {
         let mut key = String::new(alloc);
         for entry in self.entries.as_slice() {
-            key.push_str(entry_text(text, *entry))?;
-            key.push_str(",")?;
+            key.push_str(entry_key(alloc, text, *entry)?.as_str())?;
         }
         Ok(key)
     }

@@ -3,3 +3,4 @@ pub mod PartLaws
 pub mod LivesLaws
 pub mod Reaching
 pub mod SeenLaws
+pub mod CaseCounts

@@ -14,6 +14,8 @@ pub mod Automata
 pub mod Values
 -- compositions of automata, and why they are refused
 pub mod Compositions
+-- automata by cases that are given as formulas, and why they are refused
+pub mod ByCases
 -- how many clauses a question takes
 pub mod Counts
 -- how many clauses say what an automaton gives a cell

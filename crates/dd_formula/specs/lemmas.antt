@@ -6,5 +6,7 @@ pub mod Ranges
 pub mod ReachLaws
 pub mod AutomatonLaws
 pub mod CompositionLaws
+pub mod CasesLaws
 pub mod FarthestLaws
 pub mod ValueLaws
+pub mod FirstCells

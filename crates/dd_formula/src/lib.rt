@@ -2,6 +2,7 @@
 #![tactic(auto)]
 
 mod automaton;
+mod by_cases;
 mod composition;
 mod counts;
 mod fault;

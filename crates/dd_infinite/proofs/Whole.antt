@@ -47,7 +47,7 @@ module _ (s : Parts) (one : s.known.setting.topology.nodes ≡ 1)
   for_both = record { spike = whole spike (λ c. either _); checkerboard = whole checkerboard (λ c. odd_or_even _) }
 
 pub has_rows : (s : Parts) → IsScriptOf s → s.known.setting.topology.nodes ≡ 1 → 0 < length s.known.setting.sets.allowed
-has_rows s ok one = let n = ok.known.sets.nodes in let m = ok.known.nodes in omega (arith, n, m, one)
+has_rows s ok one = let n = ok.known.setting.sets.nodes in let m = ok.known.setting.topology.nodes in omega (arith, n, m, one)
 
 -- the node stands innermost in a cell's number
 node_of : (t : Tile) (c : Cell) → c.node < t.nodes → tile_index t c % t.nodes ≡ c.node
@@ -73,7 +73,7 @@ number_below t ok read c below =
 
 pub whole_of : (s : Parts) → IsScriptOf s → (t : Tile) → IsReadModulo t → Contains s.configurations t → IsWhole s t.nodes (tiled t)
 whole_of s ok t read among =
-    let kept : IsConfigurationOf s.known t = All-contains (IsConfigurationOf s.known) s.configurations t ok.configurations among in
+    let kept : IsConfigurationOf s.known.setting t = All-contains (IsConfigurationOf s.known.setting) s.configurations t ok.configurations.each among in
     record {
       same_nodes = kept.nodes;
       allowed = λ c flat below.

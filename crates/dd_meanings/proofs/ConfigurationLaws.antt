@@ -1,36 +1,29 @@
 -- Configurations without faults.
-use Rattle.std.proofs.Common.{◌≡◌, ◌<◌, ◌≤◌, ℕ, zero, suc, ◌+◌, ◌*◌, ◌%◌, Bool, true, false, List, [], ◌∷◌, ◌++◌, length, map, Option, Some, None, refl, sym, ap, ◌∙◌, subst, arith}
-use Rattle.std.specs.Prelude.{◌||◌, ◌&&◌, ◌==◌, nat_lt, nat_le, not, unwrap_or, slice_index, if◌then◌else◌}
-use Rattle.std.specs.List.{All}
+use Rattle.std.proofs.Common.{◌≡◌, ◌<◌, ◌≤◌, ℕ, zero, suc, ◌+◌, ◌*◌, ◌%◌, true, false, List, [], ◌∷◌, length, map, Option, Some, None, refl, sym, ap, ◌∙◌, subst, arith}
+use Rattle.std.specs.Prelude.{unwrap_or, slice_index}
 use Rattle.std.specs.Option.{option_map_or}
-use Rattle.std.proofs.lemmas.Bool.{and_parts, or_parts, ltb-false, leb-true, leb-false, eqb-true}
+use Rattle.std.proofs.lemmas.Grind.{common_steps}
 use Rattle.std.proofs.lemmas.List.{length-map}
-use Rattle.std.proofs.lemmas.List.Elements.{All-cons, All-nil}
+use Rattle.std.proofs.lemmas.List.Elements.{All-from_get_or}
+use Rattle.std.proofs.lemmas.Option.{slice_get_within}
 use Rattle.dd_topology.specs.Sets.{allows}
+use Rattle.dd_topology.specs.lemmas.NamingLaws.{slice_get-number_of}
 use Rattle.dd_written.specs.declared.lexeme.Word.{Word}
 use Rattle.dd_written.specs.declared.tree.Name.{Name}
 use Rattle.dd_written.specs.Values.{name_text}
 use Rattle.dd_commands.specs.declared.command.Entry.{Entry}
 use Rattle.dd_commands.specs.declared.command.Vector.{Vector}
 use Rattle.dd_commands.specs.declared.command.Command.TheVariants as command
-use Rattle.dd_pattern.specs.Periods.{ArePeriodsIn, periods_of as with_shear}
 use Rattle.dd_pattern.specs.Tile.{IsPeriodic, IsTile}
-use Rattle.dd_topology.specs.lemmas.NamingLaws.{slice_get-number_of}
-use Rattle.std.proofs.lemmas.Option.{slice_get_within}
-use Rattle.dd_faults.specs.declared.fault.Limit.TheVariants as limit
-use Rattle.dd_faults.specs.declared.fault.Fault.TheVariants as fault
 use Rattle.dd_faults.specs.declared.context.Context.{Context}
-use Rattle.dd_faults.specs.Order.{when, over}
 use Rattle.dd_faults.specs.Names.{place_of_name}
-use Rattle.dd_faults.specs.Commands.{dimension_of, has_entries, is_allowed, symbol_faults, product, period_at, shear_of, shear_fits, box_fits, box_faults, faults_of}
+use Rattle.dd_faults.specs.Commands.{dimension_of, is_allowed, symbol_faults, product, period_at, shear_of, shear_fits, box_faults, faults_of, entry_value}
 use Rattle.dd_faults.specs.Sound.{IsSound}
-use Rattle.dd_meanings.specs.Definitions.{symbol_of, configuration_periods, tile_of}
-use Rattle.dd_meanings.specs.Sound.{IsNew, IsConfigurationOf}
-use Rattle.dd_meanings.specs.making.Parts.{HasShortPeriods, tile_with}
-use Rattle.dd_faults.specs.lemmas.Nothing.{both_nil, within}
 use Rattle.dd_faults.specs.lemmas.Periods.{entry_at, no_entry}
-use Rattle.dd_meanings.proofs.Nothing.{present}
-use Rattle.dd_meanings.proofs.NameLaws.{new_name}
+use Rattle.dd_meanings.specs.Definitions.{symbol_of, tile_of, tile_with}
+use Rattle.dd_meanings.specs.Sound.{IsNew, IsConfigurationOf}
+use Rattle.dd_meanings.proofs.Nothing.{parts}
+use Rattle.dd_meanings.proofs.NameLaws.{is_new}
 
 -- ---- symbols
 
@@ -47,193 +40,95 @@ allowed_from x a n (Some t) is h = record {
   allowed = h;
 }
 
-allowed_is : (x : Context) (a : ℕ) (n : Name) → is_allowed x a n ≡ true → IsAllowedAt x a (symbol_of x n)
-allowed_is x a n h = allowed_from x a n (place_of_name x.text x.known.setting.symbols n) refl h
-
 abbrev node_at : Context → ℕ → ℕ
 node_at x k = k % length x.known.setting.nodes
 
-symbols_below : (x : Context) (k : ℕ) (ns : List Name) → symbol_faults x k ns ≡ [] → All (λ s. s < length x.known.setting.symbols) (map (symbol_of x) ns)
-symbols_below x k [] none = All-nil (λ s. s < length x.known.setting.symbols)
-symbols_below x k (n ∷ ns) none =
-    let both = both_nil (when (not (is_allowed x (node_at x k) n)) (fault.Unknown n)) (symbol_faults x (k + 1) ns) none in
-    let here = allowed_is x (node_at x k) n (present (is_allowed x (node_at x k) n) (fault.Unknown n) both.0) in
-    All-cons (λ s. s < length x.known.setting.symbols) (symbol_of x n) (map (symbol_of x) ns) here.below (symbols_below x (k + 1) ns both.1)
-
-symbol_allowed : (x : Context) (k : ℕ) (ns : List Name) (i : ℕ) → symbol_faults x k ns ≡ [] → i < length (map (symbol_of x) ns) →
-    allows x.known.setting.sets (node_at x (k + i)) (slice_index (map (symbol_of x) ns) i) ≡ true
-symbol_allowed x k [] i none below = absurd (omega (arith, below))
-symbol_allowed x k (n ∷ ns) zero none below =
-    let both = both_nil (when (not (is_allowed x (node_at x k) n)) (fault.Unknown n)) (symbol_faults x (k + 1) ns) none in
-    let here = allowed_is x (node_at x k) n (present (is_allowed x (node_at x k) n) (fault.Unknown n) both.0) in
-    let same : k + 0 ≡ k = omega arith in
-    ap (λ j. allows x.known.setting.sets (node_at x j) (symbol_of x n)) same ∙ here.allowed
-symbol_allowed x k (n ∷ ns) (suc i) none below =
-    let both = both_nil (when (not (is_allowed x (node_at x k) n)) (fault.Unknown n)) (symbol_faults x (k + 1) ns) none in
-    let same : k + suc i ≡ k + 1 + i = omega arith in
-    ap (λ j. allows x.known.setting.sets (node_at x j) (slice_index (map (symbol_of x) ns) i)) same
-    ∙ symbol_allowed x (k + 1) ns i both.1 (omega (arith, below))
+symbols_are : (x : Context) (k : ℕ) (ns : List Name) → symbol_faults x k ns ≡ [] → (i : ℕ) → i < length (map (symbol_of x) ns) → IsAllowedAt x (node_at x (k + i)) (slice_index (map (symbol_of x) ns) i)
+symbols_are x k [] none i below = absurd (omega (arith, below))
+symbols_are x k (n ∷ ns) none zero below =
+    let same : k ≡ k + 0 = omega arith in
+    let here : is_allowed x (node_at x k) n ≡ true = grind (arith, parts) in
+    subst (λ j. IsAllowedAt x (node_at x j) (symbol_of x n)) same (allowed_from x (node_at x k) n (place_of_name x.text x.known.setting.symbols n) refl here)
+symbols_are x k (n ∷ ns) none (suc i) below =
+    let same : k + 1 + i ≡ k + suc i = omega arith in
+    let rest : symbol_faults x (k + 1) ns ≡ [] = grind (arith, parts) in
+    subst (λ j. IsAllowedAt x (node_at x j) (slice_index (map (symbol_of x) ns) i)) same (symbols_are x (k + 1) ns rest i (omega (arith, below)))
 
 -- ---- periods
 
-product_is : (bytes : List ℕ) (es : List Entry) → length es ≤ 3 → product bytes es ≡ entry_at bytes es 0 * (entry_at bytes es 1 * (entry_at bytes es 2 * 1))
-product_is bytes [] few = refl
-product_is bytes (a ∷ []) few = refl
-product_is bytes (a ∷ b ∷ []) few = refl
-product_is bytes (a ∷ b ∷ c ∷ []) few = refl
-product_is bytes (a ∷ b ∷ c ∷ d ∷ es) few = absurd (omega (arith, few))
+volume_is : (bytes : List ℕ) (es : List Entry) → length es ≤ 3 → product bytes es ≡ entry_at bytes es 2 * entry_at bytes es 1 * entry_at bytes es 0
+volume_is bytes [] few = refl
+volume_is bytes (a ∷ []) few = omega arith
+volume_is bytes (a ∷ b ∷ []) few = omega arith
+volume_is bytes (a ∷ b ∷ c ∷ []) few = omega arith
+volume_is bytes (a ∷ b ∷ c ∷ d ∷ es) few = absurd (omega (arith, few))
 
-some_factor : (a b : ℕ) → 1 ≤ a * b → 1 ≤ a
-some_factor zero b h = omega (arith, h)
-some_factor (suc a) b h = omega arith
+-- the factors of a product that is not 0 are not 0
+some_factor : (a b : ℕ) → 1 ≤ a * b → 1 ≤ b
+some_factor a b h = grind arith
 
-other_factor : (a b : ℕ) → 1 ≤ a * b → 1 ≤ b
-other_factor a zero h = omega (arith, h)
-other_factor a (suc b) h = omega arith
-
-first_most : (a b : ℕ) → 1 ≤ b → a ≤ a * b
-first_most a zero h = absurd (omega arith)
-first_most a (suc b) h = omega arith
-
-second_most : (a b : ℕ) → 1 ≤ a → b ≤ a * b
-second_most zero b h = absurd (omega arith)
-second_most (suc a) b h = omega arith
-
--- the factors of a product that is not 0 are not 0, and none of them is greater
-record AreFactors (x y z m : ℕ) : Type 0 where
-  x_some : 1 ≤ x
-  y_some : 1 ≤ y
-  z_some : 1 ≤ z
-  x_most : x ≤ m
-  y_most : y ≤ m
-  z_most : z ≤ m
-
-factors : (x y z n m : ℕ) → 1 ≤ x * (y * (z * 1)) * n → x * (y * (z * 1)) * n ≤ m → AreFactors x y z m
-factors x y z n m some most =
-    let all : 1 ≤ x * (y * (z * 1)) = some_factor (x * (y * (z * 1))) n some in
-    let nodes : 1 ≤ n = other_factor (x * (y * (z * 1))) n some in
-    let first : 1 ≤ x = some_factor x (y * (z * 1)) all in
-    let rest : 1 ≤ y * (z * 1) = other_factor x (y * (z * 1)) all in
-    let second : 1 ≤ y = some_factor y (z * 1) rest in
-    let last : 1 ≤ z * 1 = other_factor y (z * 1) rest in
-    let whole = first_most (x * (y * (z * 1))) n nodes in
-    let x_in = first_most x (y * (z * 1)) rest in
-    let rest_in = second_most x (y * (z * 1)) first in
-    let y_in = first_most y (z * 1) last in
-    let z_in = second_most y (z * 1) second in
-    record {
-      x_some = first;
-      y_some = second;
-      z_some = omega (arith, last);
-      x_most = omega (arith, whole, x_in, most);
-      y_most = omega (arith, whole, rest_in, y_in, most);
-      z_most = omega (arith, whole, rest_in, z_in, most);
-    }
-
--- a box that fits, and passes no limit
-record IsBox (x : Context) (periods : Vector) (shear : Option Vector) (count : ℕ) : Type 0 where
-  entries : length periods.entries ≡ dimension_of x.known
-  sheared : shear_fits (dimension_of x.known) shear ≡ true
-  size : product x.text periods.entries * length x.known.setting.nodes ≡ count
-  small : count ≤ 65536
-  less : shear_of x.text shear < period_at x.text periods 0
-
-fits_or : (fits passed : Bool) → (if fits then over passed limit.Periods else fault.Dimension ∷ []) ≡ [] → (fits ≡ true) × (passed ≡ false)
-fits_or true passed none = (refl, within passed limit.Periods none)
-fits_or false passed none = absurd cc
-
-box_is : (x : Context) (periods : Vector) (shear : Option Vector) (count : ℕ) → box_faults x periods shear count ≡ [] → IsBox x periods shear count
-box_is x periods shear count none =
-    let d = dimension_of x.known in
-    let passed = nat_lt 65536 count || nat_le (period_at x.text periods 0) (shear_of x.text shear) in
-    let both = fits_or (box_fits x periods shear count) passed none in
-    let all = and_parts (has_entries d periods && shear_fits d shear) (product x.text periods.entries * length x.known.setting.nodes == count) both.0 in
-    let two = and_parts (has_entries d periods) (shear_fits d shear) all.0 in
-    let limits = or_parts (nat_lt 65536 count) (nat_le (period_at x.text periods 0) (shear_of x.text shear)) both.1 in
-    record {
-      entries = eqb-true (length periods.entries) d two.0;
-      sheared = two.1;
-      size = eqb-true (product x.text periods.entries * length x.known.setting.nodes) count all.1;
-      small = ltb-false 65536 count limits.0;
-      less = leb-false (period_at x.text periods 0) (shear_of x.text shear) limits.1;
-    }
+entry_some : (bytes : List ℕ) (es : List Entry) (axis : ℕ) → 1 ≤ product bytes es → 1 ≤ entry_at bytes es axis
+entry_some bytes [] axis h = omega arith
+entry_some bytes (e ∷ es) zero h = grind arith
+entry_some bytes (e ∷ es) (suc axis) h = entry_some bytes es axis (some_factor (entry_value bytes e) (product bytes es) h)
 
 no_shear : (bytes : List ℕ) (d : ℕ) (shear : Option Vector) → shear_fits d shear ≡ true → d < 2 → shear_of bytes shear ≡ 0
 no_shear bytes d None fits low = refl
-no_shear bytes d (Some v) fits low =
-    let two : 2 ≤ d = leb-true 2 d (and_parts (nat_le 2 d) (has_entries 1 v) fits).0 in
-    absurd (omega (arith, two, low))
+no_shear bytes d (Some v) fits low = grind (arith, common_steps)
 
 module _ (x : Context) (called : Word) (periods : Vector) (shear : Option Vector) (ns : List Name) (sound : IsSound x.known) (some : 1 ≤ length ns) (none : faults_of x (command.Configuration called periods shear ns) ≡ []) where
-  parts : IsNew x called × (symbol_faults x 0 ns ++ box_faults x periods shear (length ns) ≡ [])
-  parts = new_name x called (symbol_faults x 0 ns ++ box_faults x periods shear (length ns)) none
+  named : symbol_faults x 0 ns ≡ []
+  named = grind (arith, parts)
 
-  named_and_boxed : (symbol_faults x 0 ns ≡ []) × (box_faults x periods shear (length ns) ≡ [])
-  named_and_boxed = both_nil (symbol_faults x 0 ns) (box_faults x periods shear (length ns)) parts.1
+  box : box_faults x periods shear (length ns) ≡ []
+  box = grind (arith, parts)
 
-  box : IsBox x periods shear (length ns)
-  box = box_is x periods shear (length ns) named_and_boxed.1
+  entries : length periods.entries ≡ dimension_of x.known
+  entries = grind (arith, parts, box)
 
-  few : length periods.entries ≤ 3
-  few = omega (arith, box.entries, sound.grid.dimension.1)
+  size : product x.text periods.entries * length x.known.setting.nodes ≡ length ns
+  size = grind (arith, parts, box)
 
-  by_periods : period_at x.text periods 0 * (period_at x.text periods 1 * (period_at x.text periods 2 * 1)) * length x.known.setting.nodes ≡ length ns
-  by_periods = ap (λ n. n * length x.known.setting.nodes) (sym (product_is x.text periods.entries few)) ∙ box.size
+  period_some : (axis : ℕ) → 1 ≤ period_at x.text periods axis
+  period_some axis = let volume : 1 ≤ product x.text periods.entries = grind (arith, size, some) in entry_some x.text periods.entries axis volume
 
-  its_factors : AreFactors (period_at x.text periods 0) (period_at x.text periods 1) (period_at x.text periods 2) 65536
-  its_factors =
-      factors (period_at x.text periods 0) (period_at x.text periods 1) (period_at x.text periods 2) (length x.known.setting.nodes) 65536
-      (omega (arith, by_periods, some)) (omega (arith, by_periods, box.small))
+  count : length (map (symbol_of x) ns) ≡ length ns
+  count = length-map ns (symbol_of x)
 
-  pub periods_short : HasShortPeriods x.text periods
-  periods_short = record { first = its_factors.x_most; second = its_factors.y_most; third = its_factors.z_most }
-
-  pub shear_short : shear_of x.text shear ≤ 65536
-  shear_short = omega (arith, box.less, its_factors.x_most)
-
-  periods_are : ArePeriodsIn (dimension_of x.known) (with_shear (configuration_periods x.text periods) (shear_of x.text shear))
-  periods_are = record {
-    x_some = its_factors.x_some;
-    y_some = its_factors.y_some;
-    z_some = its_factors.z_some;
-    y_unused = λ h. no_entry x.text periods.entries 1 (omega (arith, box.entries, h));
-    z_unused = λ h. no_entry x.text periods.entries 2 (omega (arith, box.entries, h));
-    shear_small = box.less;
-    shear_unused = no_shear x.text (dimension_of x.known) shear box.sheared;
+  is_tile : IsTile (tile_of x periods shear ns)
+  is_tile = record {
+    some_dimension = omega (arith, sound.setting.topology.grid.dimension.0);
+    most_dimension = sound.setting.topology.grid.dimension.1;
+    periods = record {
+      x_some = period_some 0;
+      y_some = period_some 1;
+      z_some = period_some 2;
+      y_unused = λ h. no_entry x.text periods.entries 1 (omega (arith, entries, h));
+      z_unused = λ h. no_entry x.text periods.entries 2 (omega (arith, entries, h));
+      shear_small = grind (arith, parts, box);
+      shear_unused = no_shear x.text (dimension_of x.known) shear (grind (arith, parts, box));
+    };
+    nodes_some = omega (arith, sound.setting.topology.grid.nodes);
+    full =
+        count ∙ (sym size ∙ (ap (λ n. n * length x.known.setting.nodes) (volume_is x.text periods.entries (omega (arith, entries, sound.setting.topology.grid.dimension.1)))
+        ∙ ap (λ n. period_at x.text periods 2 * period_at x.text periods 1 * period_at x.text periods 0 * n) (sym sound.setting.topology.nodes)));
   }
-
-  pub is_tile : IsTile (tile_of x periods shear ns)
-  is_tile =
-      let px = period_at x.text periods 0 in
-      let py = period_at x.text periods 1 in
-      let pz = period_at x.text periods 2 in
-      let by_nodes : (pz * py * px) * x.known.setting.topology.nodes ≡ (pz * py * px) * length x.known.setting.nodes = ap (λ n. (pz * py * px) * n) sound.nodes in
-      let count : length (map (symbol_of x) ns) ≡ length ns = length-map ns (symbol_of x) in
-      record {
-        some_dimension = omega (arith, sound.grid.dimension.0);
-        most_dimension = sound.grid.dimension.1;
-        periods = periods_are;
-        nodes_some = omega (arith, sound.grid.nodes);
-        full = omega (arith, count, by_periods, by_nodes);
-      }
 
   pub is_periodic : (symbols : List ℕ) → symbols ≡ map (symbol_of x) ns → IsPeriodic (tile_with x periods shear symbols)
   is_periodic symbols made =
-      subst (λ (ss : List ℕ). IsPeriodic (tile_with x periods shear ss)) (sym made)
-      (record { tile = is_tile; small = (let count : length (map (symbol_of x) ns) ≡ length ns = length-map ns (symbol_of x) in omega (arith, count, box.small)) })
+      subst (λ (ss : List ℕ). IsPeriodic (tile_with x periods shear ss)) (sym made) (record { tile = is_tile; small = grind (arith, parts, box, count) })
 
-  pub is_configuration : IsNew x called × IsConfigurationOf x.known (tile_of x periods shear ns)
+  pub is_configuration : IsNew x called × IsConfigurationOf x.known.setting (tile_of x periods shear ns)
   is_configuration = (
-    parts.0,
+    is_new x called (grind (arith, parts)),
     record {
       tile = is_tile;
       dimension = refl;
       nodes = refl;
-      symbols = symbols_below x 0 ns named_and_boxed.0;
+      symbols = All-from_get_or (λ s. s < length x.known.setting.symbols) (map (symbol_of x) ns) 0 (λ i below. (symbols_are x 0 ns named i below).below);
       allowed = λ i below.
-          let at = symbol_allowed x 0 ns i named_and_boxed.0 below in
-          let zero_more : 0 + i ≡ i = omega arith in
-          ap (λ n. allows x.known.setting.sets (i % n) (slice_index (map (symbol_of x) ns) i)) sound.nodes
-          ∙ (ap (λ j. allows x.known.setting.sets (node_at x j) (slice_index (map (symbol_of x) ns) i)) (sym zero_more) ∙ at);
+          let same : i ≡ 0 + i = omega arith in
+          ap (λ n. allows x.known.setting.sets (i % n) (slice_index (map (symbol_of x) ns) i)) sound.setting.topology.nodes
+          ∙ (ap (λ j. allows x.known.setting.sets (node_at x j) (slice_index (map (symbol_of x) ns) i)) same ∙ (symbols_are x 0 ns named i below).allowed);
     },
   )

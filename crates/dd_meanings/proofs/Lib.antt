@@ -5,9 +5,7 @@ pub mod NameLaws
 pub mod EdgeLaws
 pub mod HeaderLaws
 pub mod WrittenLaws
-pub mod Depths
 pub mod WellFormed
 pub mod SizeLaws
-pub mod CaseLists
 pub mod DefinitionLaws
 pub mod ConfigurationLaws

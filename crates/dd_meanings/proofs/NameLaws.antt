@@ -1,162 +1,53 @@
 -- Names by their numbers, and names that are given once.
-use Rattle.std.proofs.Common.{◌≡◌, ℕ, ◌<◌, ◌+◌, zero, suc, Bool, true, false, cond, ◌||◌, List, [], ◌∷◌, ◌++◌, length, map, take, slice_index_or, Option, Some, None, Contains, refl, sym, ap, ◌∙◌, subst, arith, true≢false}
-use Rattle.std.specs.Prelude.{if◌then◌else◌, slice_get, bytes_eq, unwrap_or, is_some, option_map, codes, position, MatchOption, OnOk, Result, IfSome, nat_lt, not}
-use Rattle.std.specs.List.{list_any, position_or_len}
-use Rattle.std.specs.Cmp.Lexicographic.{nat_list_eq_equiv}
-use Rattle.std.proofs.lemmas.Bool.{or_parts, false_from_ne_true, cond_both, ltb-true, lt-ltb}
-use Rattle.std.proofs.lemmas.List.{append-nil, append_assoc, length-map, length-take-le}
-use Rattle.std.proofs.lemmas.Map.Views.{list_any-from_Contains, Contains-from_any}
-use Rattle.std.proofs.lemmas.Option.{slice_get_within, get_or_from_slice_get}
+use Rattle.std.proofs.Common.{◌≡◌, ℕ, ◌<◌, ◌+◌, true, false, List, [], length, slice_index_or, Option, Some, None, Contains, refl, sym, ◌∙◌, arith, true≢false}
+use Rattle.std.specs.Prelude.{bytes_eq, unwrap_or, is_some}
+use Rattle.std.proofs.lemmas.Bool.Decides.{nat_tests}
 use Rattle.std.proofs.lemmas.Slice.Eq.{bytes_eq-Decides}
+use Rattle.std.proofs.lemmas.List.Sums.{fails_before_first}
+use Rattle.std.proofs.lemmas.Grind.{common_steps}
 use Rattle.dd_written.specs.declared.lexeme.Word.{Word}
 use Rattle.dd_written.specs.declared.tree.Name.{Name}
-use Rattle.dd_written.specs.declared.tree.Name.TheVariants as name
-use Rattle.dd_written.specs.Values.{word_text, name_text}
+use Rattle.dd_written.specs.Values.{word_text}
 use Rattle.dd_topology.specs.Naming.{number_of}
-use Rattle.dd_topology.specs.lemmas.NamingLaws.{unknown, slice_get-number_of}
-use Rattle.dd_faults.specs.declared.fault.Fault.{Fault}
-use Rattle.dd_faults.specs.declared.fault.Fault.TheVariants as fault
+use Rattle.dd_topology.specs.lemmas.NamingLaws.{slice_get-number_of}
 use Rattle.dd_faults.specs.declared.context.Context.{Context}
-use Rattle.dd_faults.specs.Order.{when}
-use Rattle.dd_faults.specs.Names.{place_of_name, missing, number_in, same_text, variable_of, is_variable, unknown_variable, named_again}
-use Rattle.dd_faults.specs.Repeats.{first_repeat}
-use Rattle.dd_faults.specs.lemmas.Nothing.{both_nil}
+use Rattle.dd_faults.specs.Names.{missing, number_in, unknown_variable, named_again}
 use Rattle.dd_meanings.specs.Formulas.{variable_number}
 use Rattle.dd_meanings.specs.Sound.{IsNew}
-use Rattle.dd_meanings.proofs.Nothing.{present, not_when}
+use Rattle.dd_meanings.proofs.Nothing.{parts}
 
--- a test that some element passes is passed before the end
-found_before : {X : Type 0} (p : X → Bool) (xs : List X) → list_any p xs ≡ true → position_or_len p xs < length xs
-found_before p [] h = absurd cc
-found_before {X} p (x ∷ xs) h = by (p x) refl h (found_before p xs)
-  where
-    by : (b : Bool) → p x ≡ b → (b || list_any p xs) ≡ true → (list_any p xs ≡ true → position_or_len p xs < length xs) → position_or_len p (x ∷ xs) < length (x ∷ xs)
-    by true e h rest = rw e (omega arith)
-    by false e h rest = let more = rest h in rw e (omega (arith, more))
+-- a name that is there has a number
+pub is_found : (names : List (List ℕ)) (text : List ℕ) → Contains names text → is_some (number_of names text) ≡ true
+is_found names text there =
+    let holds = (bytes_eq-Decides text (slice_index_or names there.0 text)).1 (sym there.2) in
+    let fails = fails_before_first (bytes_eq text) names there.0 text in
+    grind (arith, common_steps, nat_tests, there.1)
 
-pub among : (names : List (List ℕ)) (text : List ℕ) → Contains names text → list_any (bytes_eq text) names ≡ true
-among names text there = list_any-from_Contains nat_list_eq_equiv text names there
-
-pub not_among : (names : List (List ℕ)) (text : List ℕ) → ¬ Contains names text → list_any (bytes_eq text) names ≡ false
-not_among names text h = false_from_ne_true (list_any (bytes_eq text) names) (λ e. h (Contains-from_any (λ x y. (bytes_eq-Decides x y).0) text names e))
-
-pub contained : (names : List (List ℕ)) (text : List ℕ) → list_any (bytes_eq text) names ≡ true → Contains names text
-contained names text e = Contains-from_any (λ x y. (bytes_eq-Decides x y).0) text names e
-
-number_found : (names : List (List ℕ)) (text : List ℕ) → Contains names text → number_of names text ≡ Some (position_or_len (bytes_eq text) names)
-number_found names text there =
-    let at = position_or_len (bytes_eq text) names in
-    let below = found_before (bytes_eq text) names (among names text there) in
-    ap (λ b. cond b (Some at) None) (lt-ltb at (length names) below)
-
--- what stands at the number of a name is the name
-pub number_at : (names : List (List ℕ)) (text : List ℕ) → Contains names text → slice_get names (unwrap_or (number_of names text) 0) ≡ Some text
-number_at names text there =
-    let is = number_found names text there in
-    let at : slice_get names (position_or_len (bytes_eq text) names) ≡ Some text = slice_get-number_of names text (position_or_len (bytes_eq text) names) is in
-    ap (λ (r : Option ℕ). slice_get names (unwrap_or r 0)) is ∙ at
-
-pub text_below : (names : List (List ℕ)) (text : List ℕ) → Contains names text → unwrap_or (number_of names text) 0 < length names
-text_below names text there = slice_get_within names (unwrap_or (number_of names text) 0) text (number_at names text there)
+some_number : (o : Option ℕ) → is_some o ≡ true → o ≡ Some (unwrap_or o 0)
+some_number None there = absurd cc
+some_number (Some i) there = refl
 
 -- names with one number are one name
-pub same_name : (names : List (List ℕ)) (a b : List ℕ) → Contains names a → Contains names b → unwrap_or (number_of names a) 0 ≡ unwrap_or (number_of names b) 0 → a ≡ b
+pub same_name : (names : List (List ℕ)) (a b : List ℕ) → is_some (number_of names a) ≡ true → is_some (number_of names b) ≡ true → unwrap_or (number_of names a) 0 ≡ unwrap_or (number_of names b) 0 → a ≡ b
 same_name names a b there there' same =
-    let is : Some a ≡ Some b = sym (number_at names a there) ∙ (ap (slice_get names) same ∙ number_at names b there') in
-    cc is
-
--- a name that is not missing is there
-named_from : (bytes : List ℕ) (names : List (List ℕ)) (n : Name) (r : Option ℕ) → place_of_name bytes names n ≡ r → when (not (is_some r)) (fault.Unknown n) ≡ [] → Contains names (name_text bytes n)
-named_from bytes names n None is h = absurd cc
-named_from bytes names n (Some i) is h =
-    let at = slice_get-number_of names (name_text bytes n) i is in
-    (i, slice_get_within names i (name_text bytes n) at, get_or_from_slice_get names i (name_text bytes n) (name_text bytes n) at)
-
-pub is_named : (bytes : List ℕ) (names : List (List ℕ)) (n : Name) → missing bytes names n ≡ [] → Contains names (name_text bytes n)
-is_named bytes names n h = named_from bytes names n (place_of_name bytes names n) refl h
+    let one = slice_get-number_of names a _ (some_number _ there) in
+    let other = slice_get-number_of names b _ (some_number _ there') in
+    let is : Some a ≡ Some b = cc in (cc)
 
 pub number_below : (bytes : List ℕ) (names : List (List ℕ)) (n : Name) → missing bytes names n ≡ [] → number_in bytes names n < length names
-number_below bytes names n h = text_below names (name_text bytes n) (is_named bytes names n h)
+number_below bytes names n h = grind (arith, parts)
 
 -- a variable that is one is among those in scope
-position_below : {X : Type 0} (p : X → Bool) (xs : List X) → IfSome (position p xs) (λ i. i < length xs)
-position_below p xs =
-    cond_both (nat_lt (position_or_len p xs) (length xs)) (Some (position_or_len p xs)) None (λ o. IfSome o (λ i. i < length xs)) (λ e. ltb-true _ _ e) (λ _. tt)
-
-variable_option : (b : Bool) (o : Option ℕ) (n : ℕ) → IfSome o (λ i. i < n) → IfSome (cond b (Some 0) (option_map (λ k. k + 1) o)) (λ i. i < n + 1)
-variable_option true o n small = omega arith
-variable_option false None n small = tt
-variable_option false (Some i) n small = omega (arith, small)
-
-below_option : (o : Option ℕ) (n : ℕ) → IfSome o (λ i. i < n) → is_some o ≡ true → unwrap_or o 0 < n
-below_option None n small is = absurd cc
-below_option (Some i) n small is = small
-
 pub variable_below : (bytes : List ℕ) (scope : List Word) (w : Word) → unknown_variable bytes scope w ≡ [] → variable_number bytes scope w < length scope + 1
-variable_below bytes scope w none =
-    below_option (variable_of bytes scope w) (length scope + 1)
-    (variable_option (bytes_eq (word_text bytes w) (codes "o")) (position (same_text bytes w) scope) (length scope) (position_below (same_text bytes w) scope))
-    (present (is_variable bytes scope w) (fault.Unknown (name.Word w)) none)
+variable_below bytes scope w none = grind (arith, common_steps)
 
 -- a name that is defined nowhere is none of those
 absent : (names : List (List ℕ)) (text : List ℕ) → is_some (number_of names text) ≡ false → ¬ Contains names text
-absent names text h there = true≢false (sym (ap is_some (number_found names text there)) ∙ h)
+absent names text h there = true≢false (sym (is_found names text there) ∙ h)
 
-is_new : (x : Context) (w : Word) → named_again x.text x.known w ≡ [] → IsNew x w
-is_new x w h =
-    let k = x.known in
-    let bytes = x.text in
-    let none = not_when (is_some (place_of_name bytes k.rules (name.Word w)) || is_some (place_of_name bytes k.automata (name.Word w)) || is_some (place_of_name bytes k.configurations (name.Word w))) (fault.Twice (name.Word w)) h in
-    let both = or_parts (is_some (place_of_name bytes k.rules (name.Word w)) || is_some (place_of_name bytes k.automata (name.Word w))) (is_some (place_of_name bytes k.configurations (name.Word w))) none in
-    let front = or_parts (is_some (place_of_name bytes k.rules (name.Word w))) (is_some (place_of_name bytes k.automata (name.Word w))) both.0 in
-    record {
-      rules = absent k.rules (word_text bytes w) front.0;
-      automata = absent k.automata (word_text bytes w) front.1;
-      configurations = absent k.configurations (word_text bytes w) both.1;
-    }
-
--- a new name, and no fault in what follows it
-pub new_name : (x : Context) (w : Word) (rest : List Fault) → named_again x.text x.known w ++ rest ≡ [] → IsNew x w × (rest ≡ [])
-new_name x w rest h = let both = both_nil (named_again x.text x.known w) rest h in (is_new x w both.0, both.1)
-
--- ---- names that are given once
-
-abbrev same : {X : Type 0} → (X → List ℕ) → X → List X → Bool
-same key x before = list_any (λ y. bytes_eq (key x) (key y)) before
-
--- where nothing is given twice, nothing is the same as something before it
-once_step : (b : Bool) (f : Fault) (rest : List Fault) → (if b then f ∷ [] else rest) ≡ [] → (b ≡ false) × (rest ≡ [])
-once_step true f rest e = absurd cc
-once_step false f rest e = (refl, e)
-
-pub once : {X : Type 0} (key : X → List ℕ) (f : X → Fault) (before xs : List X) → first_repeat key f before xs ≡ [] → (i : ℕ) (d : X) → i < length xs → same key (slice_index_or xs i d) (before ++ take i xs) ≡ false
-once key f before [] h i d lt = absurd (omega (arith, lt))
-once {X} key f before (x ∷ xs) h zero d lt = rw (append-nil before) (once_step (same key x before) (f x) (first_repeat key f (before ++ x ∷ []) xs) h).0
-once {X} key f before (x ∷ xs) h (suc i) d lt =
-    let parts = once_step (same key x before) (f x) (first_repeat key f (before ++ x ∷ []) xs) h in
-    let rest = once key f (before ++ x ∷ []) xs parts.1 i d (omega (arith, lt)) in
-    rw (append_assoc before (x ∷ []) (take i xs)) at rest
-
--- a name of which none is given twice is not among those before it
-pub fresh : {X : Type 0} (key : X → List ℕ) (f : X → Fault) (xs : List X) (i : ℕ) (d : X) (names : List (List ℕ)) (text : List ℕ) → first_repeat key f [] xs ≡ [] → i < length xs
-    → names ≡ map key (take i xs) → text ≡ key (slice_index_or xs i d) → ¬ Contains names text
-fresh {X} key f xs i d names text none lt is at there =
-    let x : X = slice_index_or xs i d in
-    let moved : Contains (map key (take i xs)) (key x) = subst (λ t. Contains (map key (take i xs)) t) at (subst (λ (ns : List (List ℕ)). Contains ns text) is there) in
-    unknown key (key x) (take i xs) (once key f [] xs none i d lt) moved
-
-pub few_taken : {X : Type 0} (key : X → List ℕ) (xs : List X) (i : ℕ) → i < length xs → length (map key (take i xs)) ≡ i
-few_taken key xs i lt = length-map (take i xs) key ∙ length-take-le i xs (omega (arith, lt))
-
--- a name that is found is seen already, and one that is not goes last
-pub seen : (names : List (List ℕ)) (text : List ℕ) (r : Option ℕ) → MatchOption r (¬ Contains names text) (λ i. slice_get names i ≡ Some text) → is_some r ≡ true
-    → names ≡ (if list_any (bytes_eq text) names then names else names ++ text ∷ [])
-seen names text None exact is = absurd cc
-seen names text (Some i) exact is =
-    let there : Contains names text = (i, slice_get_within names i text exact, get_or_from_slice_get names i text text exact) in
-    rw (among names text there) refl
-
-pub unseen : {T E : Type 0} (names : List (List ℕ)) (text : List ℕ) (later : List (List ℕ)) (made : Result T E) (r : Option ℕ) → MatchOption r (¬ Contains names text) (λ i. slice_get names i ≡ Some text) → is_some r ≡ false
-    → OnOk made (later ≡ names ++ text ∷ []) → OnOk made (later ≡ (if list_any (bytes_eq text) names then names else names ++ text ∷ []))
-unseen names text later made None exact is ok = rw (not_among names text exact) ok
-unseen names text later made (Some i) exact is ok = absurd cc
+pub is_new : (x : Context) (w : Word) → named_again x.text x.known w ≡ [] → IsNew x w
+is_new x w h = record {
+  rules = absent x.known.rules (word_text x.text w) (grind (arith, common_steps));
+  automata = absent x.known.automata (word_text x.text w) (grind (arith, common_steps));
+  configurations = absent x.known.configurations (word_text x.text w) (grind (arith, common_steps));
+}

@@ -1,24 +1,14 @@
 -- Where there is no fault, there is none in a part.
-use Rattle.std.proofs.Common.{◌≡◌, ℕ, ◌<◌, Bool, true, false, List, [], ◌∷◌, length, slice_index_or, refl, ap, ◌∙◌}
-use Rattle.std.specs.Prelude.{not}
-use Rattle.std.specs.List.{All, flat_map}
-use Rattle.std.proofs.lemmas.List.Elements.{All-nil, All-cons, All-get_or}
-use Rattle.dd_faults.specs.declared.fault.Fault.{Fault}
-use Rattle.dd_faults.specs.Order.{when}
-use Rattle.dd_faults.specs.lemmas.Nothing.{both_nil}
+use Rattle.std.proofs.Common.{◌≡◌, ℕ, ◌<◌, List, [], length, slice_index_or, ap, ◌∙◌}
+use Rattle.std.specs.List.{flat_map}
+use Rattle.std.proofs.lemmas.List.Elements.{All-get_or}
+pub use Rattle.dd_faults.specs.lemmas.Nothing.{all_where}
+use Rattle.std.proofs.lemmas.Bool.Decides.{nat_tests}
+use Rattle.std.proofs.lemmas.Grind.{common_steps}
+use Rattle.dd_faults.specs.lemmas.Nothing.{both_nil, fits, within}
 
-pub not_when : (b : Bool) (f : Fault) → when b f ≡ [] → b ≡ false
-not_when true f e = absurd cc
-not_when false f e = refl
-
-pub present : (b : Bool) (f : Fault) → when (not b) f ≡ [] → b ≡ true
-present true f e = refl
-present false f e = absurd cc
-
--- what holds of the elements without faults holds of all, where there is no fault
-pub all_where : {X Y : Type 0} (P : X → Type 0) (f : X → List Y) → ((x : X) → f x ≡ [] → P x) → (xs : List X) → flat_map f xs ≡ [] → All P xs
-all_where P f each [] h = All-nil P
-all_where P f each (x ∷ xs) h = let parts = both_nil (f x) (flat_map f xs) h in All-cons P x xs (each x parts.0) (all_where P f each xs parts.1)
+-- what `grind` needs to take a list without faults apart
+pub ruleset parts = (common_steps, nat_tests, both_nil, fits, within)
 
 pub none_at : {X Y : Type 0} (f : X → List Y) (xs : List X) (i : ℕ) (d : X) → i < length xs → flat_map f xs ≡ [] → f (slice_index_or xs i d) ≡ []
 none_at f xs i d lt h = All-get_or (λ x. f x ≡ []) xs i d lt (all_where (λ x. f x ≡ []) f (λ x e. e) xs h)

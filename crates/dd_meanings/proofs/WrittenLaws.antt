@@ -1,7 +1,6 @@
--- What a command has that is written and has no fault.
-use Rattle.std.proofs.Common.{◌≡◌, ℕ, ◌≤◌, List, [], ◌∷◌, ◌++◌, subst}
-use Rattle.std.specs.Prelude.{nat_lt}
-use Rattle.std.specs.List.{All, flat_map}
+-- What a command has that is written.
+use Rattle.std.proofs.Common.{◌≡◌, ℕ, ◌≤◌, List, [], ◌∷◌, subst}
+use Rattle.std.specs.List.{All}
 use Rattle.std.proofs.lemmas.List.Elements.{All-nil, All-cons}
 use Rattle.dd_written.specs.declared.lexeme.Lexeme.{Lexeme}
 use Rattle.dd_written.specs.Formulas.{tree_depth}
@@ -11,23 +10,10 @@ use Rattle.dd_commands.specs.declared.command.Command.{Command}
 use Rattle.dd_commands.specs.declared.script.Written.{Written}
 use Rattle.dd_commands.specs.Commands.{IsCase, IsBody}
 use Rattle.dd_commands.specs.Scripts.{IsWritten}
-use Rattle.dd_faults.specs.declared.fault.Limit.TheVariants as limit
-use Rattle.dd_faults.specs.declared.context.Context.{Context}
-use Rattle.dd_faults.specs.Order.{over}
-use Rattle.dd_faults.specs.Commands.{token_faults, faults_of, written_faults}
-use Rattle.dd_faults.specs.lemmas.Nothing.{both_nil}
 
-module _ (x : Context) (w : Written) (c : Command) (is : w.command ≡ c) where
-  -- no fault of the command itself
-  pub no_fault : written_faults x w ≡ [] → faults_of x c ≡ []
-  no_fault h =
-      let tokens = flat_map (token_faults x.text) w.tokens in
-      let both = both_nil (over (nat_lt 1000 x.number) limit.Commands) (tokens ++ faults_of x w.command) h in
-      subst (λ (d : Command). faults_of x d ≡ []) is (both_nil tokens (faults_of x w.command) both.1).1
-
-  -- its parts, as they are written
-  pub body : IsWritten x.text w → (tokens : List Lexeme) × IsBody x.text c tokens
-  body h = (h.is.0, subst (λ (d : Command). IsBody x.text d h.is.0) is h.is.2)
+-- its parts, as they are written
+pub body : (bytes : List ℕ) (w : Written) (c : Command) → w.command ≡ c → IsWritten bytes w → (tokens : List Lexeme) × IsBody bytes c tokens
+body bytes w c is h = (h.is.0, subst (λ (d : Command). IsBody bytes d h.is.0) is h.is.2)
 
 pub all_shallow : (bytes : List ℕ) (cases : List Case) (tokens rest : List Lexeme) → ReadsAll (IsCase bytes) cases tokens rest → All (λ c. tree_depth c.condition ≤ 64) cases
 all_shallow bytes [] tokens rest h = All-nil (λ c. tree_depth c.condition ≤ 64)

@@ -4,8 +4,10 @@ use Rattle.std.specs.List.{slice_get}
 use Rattle.dd_pattern.specs.Periods.{periods_of as with_shear}
 use Rattle.dd_pattern.specs.Tile.{Tile, tile}
 use Rattle.dd_expansion.specs.Leaves.{instances}
+use Rattle.dd_expansion.specs.declared.formulas.Formula.{Formula as Meant}
 use Rattle.dd_formula.specs.LocalRule.{LocalRule, local_rule, reads_at, expansion_at}
 use Rattle.dd_formula.specs.Automata.{Counted, counted, is_few, is_short, is_shallow}
+use Rattle.dd_formula.specs.ByCases.{by_cases}
 use Rattle.dd_formula.specs.declared.automaton.Automaton.{Automaton}
 use Rattle.dd_formula.specs.declared.automaton.Automaton.TheVariants as automaton
 use Rattle.dd_written.specs.declared.lexeme.Word.{Word}
@@ -31,11 +33,11 @@ rule_of x f = local_rule x.known.setting.topology x.known.setting.sets (formula_
 abbrev pub symbol_of : Context → Name → ℕ
 symbol_of x n = number_in x.text x.known.setting.symbols n
 
-abbrev pub case_of : Context → Case → LocalRule × ℕ
-case_of x c = (rule_of x c.condition, symbol_of x c.symbol)
+abbrev pub case_of : Context → Case → Meant × ℕ
+case_of x c = (formula_of x c.condition [], symbol_of x c.symbol)
 
 abbrev pub automaton_of : Context → List Case → Name → Automaton
-automaton_of x cases symbol = automaton.Given (record { cases = map (case_of x) cases; otherwise = symbol_of x symbol })
+automaton_of x cases symbol = by_cases x.known.setting.topology x.known.setting.sets (map (case_of x) cases) (symbol_of x symbol)
 
 -- the automaton with a number; where there is none, one without cases
 abbrev pub automaton_at : List Automaton → ℕ → Automaton
@@ -53,9 +55,12 @@ abbrev pub configuration_periods : List ℕ → Vector → List ℕ
 configuration_periods bytes v = period_at bytes v 0 ∷ period_at bytes v 1 ∷ period_at bytes v 2 ∷ []
 
 -- the symbols stand in cell order; without a second list the shear is 0
+abbrev pub tile_with : Context → Vector → Option Vector → List ℕ → Tile
+tile_with x periods shear symbols =
+    tile (dimension_of x.known) (with_shear (configuration_periods x.text periods) (shear_of x.text shear)) x.known.setting.topology.nodes symbols
+
 abbrev pub tile_of : Context → Vector → Option Vector → List Name → Tile
-tile_of x periods shear symbols =
-    tile (dimension_of x.known) (with_shear (configuration_periods x.text periods) (shear_of x.text shear)) x.known.setting.topology.nodes (map (symbol_of x) symbols)
+tile_of x periods shear symbols = tile_with x periods shear (map (symbol_of x) symbols)
 
 -- ---- its counts
 

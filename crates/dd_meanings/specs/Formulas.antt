@@ -5,8 +5,9 @@ use Rattle.dd_written.specs.declared.tree.Name.TheVariants as name
 use Rattle.dd_written.specs.declared.tree.Term.{Term as WrittenTerm}
 use Rattle.dd_written.specs.declared.tree.Comparand.{Comparand}
 use Rattle.dd_written.specs.declared.tree.Comparand.TheVariants as side
+use Rattle.dd_written.specs.declared.tree.Relation.{Relation}
+use Rattle.dd_written.specs.declared.tree.Relation.TheVariants as relation
 use Rattle.dd_written.specs.declared.tree.Atom.{Atom}
-use Rattle.dd_written.specs.declared.tree.Atom.TheVariants as atom
 use Rattle.dd_written.specs.declared.tree.Ball.{Ball}
 use Rattle.dd_written.specs.declared.tree.Quantifier.{Quantifier}
 use Rattle.dd_written.specs.declared.tree.Quantifier.TheVariants as quantifier
@@ -23,6 +24,8 @@ use Rattle.dd_expansion.specs.declared.formulas.Formula.TheOpen.{Formula-F}
 use Rattle.dd_faults.specs.declared.context.Context.{Context}
 use Rattle.dd_faults.specs.Names.{number_in, variable_of}
 use Rattle.dd_faults.specs.Formulas.{names_symbol}
+use Rattle.dd_meanings.specs.declared.atoms.Operand.{Operand}
+use Rattle.dd_meanings.specs.declared.atoms.Operand.TheVariants as operand
 
 -- the number of a word that is a variable
 abbrev pub variable_number : List ℕ → List Word → Word → ℕ
@@ -34,31 +37,53 @@ label_of x w = number_in x.text x.known.setting.topology.labels (name.Word w)
 abbrev pub term_of : Context → List Word → WrittenTerm → Term
 term_of x scope t = record { variable = variable_number x.text scope t.first; moves = map (label_of x) t.moves }
 
--- what is said of a term and a symbol, or of two terms
-abbrev pub with_side : (Term → ℕ → Formula) → (Term → Term → Formula) → Context → List Word → Term → Comparand → Formula
-with_side symbol same x scope t (side.Number n) = symbol t (number_in x.text x.known.setting.symbols (name.Number n))
-with_side symbol same x scope t (side.Term u) =
-    if names_symbol x.text scope u then symbol t (number_in x.text x.known.setting.symbols (name.Word u.first)) else same t (term_of x scope u)
+-- what stands on the right of `=` and `!=`: a symbol, or a term
+abbrev pub side_of : Context → List Word → Comparand → Operand
+side_of x scope (side.Number n) = operand.Symbol (number_in x.text x.known.setting.symbols (name.Number n))
+side_of x scope (side.Term u) = if names_symbol x.text scope u then operand.Symbol (number_in x.text x.known.setting.symbols (name.Word u.first)) else operand.Term (term_of x scope u)
 
-abbrev pub equal_of : Context → List Word → Term → Comparand → Formula
-equal_of = with_side (λ t n. roll-Formula (Formula-F.Symbol t n)) (λ t u. roll-Formula (Formula-F.Same t u))
+abbrev pub equal_of : Term → Operand → Formula
+equal_of t (operand.Symbol n) = roll-Formula (Formula-F.Symbol t n)
+equal_of t (operand.Term u) = roll-Formula (Formula-F.Same t u)
 
-abbrev pub not_equal_of : Context → List Word → Term → Comparand → Formula
-not_equal_of = with_side (λ t n. roll-Formula (Formula-F.NotSymbol t n)) (λ t u. roll-Formula (Formula-F.NotSame t u))
+abbrev pub not_equal_of : Term → Operand → Formula
+not_equal_of t (operand.Symbol n) = roll-Formula (Formula-F.NotSymbol t n)
+not_equal_of t (operand.Term u) = roll-Formula (Formula-F.NotSame t u)
+
+-- what is said of a term
+abbrev pub said_of : Context → List Word → Term → Relation → Formula
+said_of x scope t (relation.Equal r) = equal_of t (side_of x scope r)
+said_of x scope t (relation.NotEqual r) = not_equal_of t (side_of x scope r)
+said_of x scope t (relation.Adjacent u) = roll-Formula (Formula-F.Adjacent t (term_of x scope u))
+said_of x scope t (relation.Same u) = roll-Formula (Formula-F.Place t (term_of x scope u))
+said_of x scope t (relation.AtNode n) = roll-Formula (Formula-F.Node t (number_in x.text x.known.setting.nodes n))
 
 abbrev pub atom_of : Context → List Word → Atom → Formula
-atom_of x scope (atom.Equal t r) = equal_of x scope (term_of x scope t) r
-atom_of x scope (atom.NotEqual t r) = not_equal_of x scope (term_of x scope t) r
-atom_of x scope (atom.Adjacent t u) = roll-Formula (Formula-F.Adjacent (term_of x scope t) (term_of x scope u))
-atom_of x scope (atom.Same t u) = roll-Formula (Formula-F.Place (term_of x scope t) (term_of x scope u))
-atom_of x scope (atom.AtNode t n) = roll-Formula (Formula-F.Node (term_of x scope t) (number_in x.text x.known.setting.nodes n))
+atom_of x scope a = said_of x scope (term_of x scope a.term) a.relation
 
 abbrev pub ball_of : Context → List Word → Ball → BallOf
 ball_of x scope b = record { variable = variable_number x.text scope b.centre; radius = written_value x.text b.radius }
 
+-- `->` groups to the right
+abbrev pub implied_of : List Formula → Formula
+implied_of [] = roll-Formula (Formula-F.And [])
+implied_of (f ∷ []) = f
+implied_of (f ∷ g ∷ gs) = roll-Formula (Formula-F.Implies f (implied_of (g ∷ gs)))
+
+-- `<->` groups to the left: what stands on the left of some parts, and these
+abbrev pub iff_behind : Formula → List Formula → Formula
+iff_behind f [] = f
+iff_behind f (g ∷ gs) = iff_behind (roll-Formula (Formula-F.Iff f g)) gs
+
+abbrev pub iff_of : List Formula → Formula
+iff_of [] = roll-Formula (Formula-F.And [])
+iff_of (f ∷ fs) = iff_behind f fs
+
 abbrev pub joined_of : Join → List Formula → Formula
 joined_of join.And fs = roll-Formula (Formula-F.And fs)
 joined_of join.Or fs = roll-Formula (Formula-F.Or fs)
+joined_of join.Implies fs = implied_of fs
+joined_of join.Iff fs = iff_of fs
 
 abbrev pub quantified_of : Quantifier → List BallOf → Formula → Formula
 quantified_of quantifier.All balls f = roll-Formula (Formula-F.ForAll balls f)
@@ -70,9 +95,7 @@ formula_step x (Written-F.Atom a) scope = atom_of x scope a
 formula_step x (Written-F.Not f) scope = roll-Formula (Formula-F.Not (f scope))
 formula_step x (Written-F.Quantified q w balls f) scope = quantified_of q (map (ball_of x scope) balls) (f (scope ++ w ∷ []))
 formula_step x (Written-F.Group f) scope = f scope
-formula_step x (Written-F.List j fs) scope = joined_of j (map (λ f. f scope) fs)
-formula_step x (Written-F.Implies f g) scope = roll-Formula (Formula-F.Implies (f scope) (g scope))
-formula_step x (Written-F.Iff f g) scope = roll-Formula (Formula-F.Iff (f scope) (g scope))
+formula_step x (Written-F.Chain j fs) scope = joined_of j (map (λ f. f scope) fs)
 
 -- the formula that is meant, in a scope
 abbrev pub formula_of : Context → Written → List Word → Formula

@@ -10,5 +10,5 @@ pub mod Definitions
 pub mod Formulas
 -- topologies
 pub mod Topologies
--- the parts of definitions as they are made
+-- why definitions are not made
 pub mod making

@@ -1,27 +1,20 @@
 -- What each meaning keeps.
 use Rattle.std.specs.Prelude.{ℕ, ◌≡◌, ◌<◌, ◌≤◌, ◌%◌, true, List, length, slice_index, Contains}
 use Rattle.std.specs.List.{All}
-use Rattle.dd_values.specs.Bounds.{most_weight}
+use Rattle.dd_values.specs.Ranges.{AreLimits}
 use Rattle.dd_topology.specs.Naming.{AreDistinct}
-use Rattle.dd_topology.specs.Grid.{Grid, IsGrid}
 use Rattle.dd_topology.specs.Sets.{allows}
 use Rattle.dd_pattern.specs.Tile.{Tile, IsTile}
-use Rattle.dd_formula.specs.LocalRule.{IsRule}
 use Rattle.dd_formula.specs.Automata.{IsAutomaton}
 use Rattle.dd_written.specs.declared.lexeme.Word.{Word}
 use Rattle.dd_written.specs.Values.{word_text}
-use Rattle.dd_faults.specs.declared.context.Known.{Known}
+use Rattle.dd_faults.specs.declared.context.Setting.{Setting}
 use Rattle.dd_faults.specs.declared.context.Context.{Context}
-use Rattle.dd_faults.specs.Sound.{IsSound}
+use Rattle.dd_faults.specs.Sound.{IsGridOf, AreWeights}
 use Rattle.dd_meanings.specs.Made.{script_numbers, IsRuleOf}
 use Rattle.dd_query.specs.Sound.{IsQueryWithin}
 use Rattle.dd_meanings.specs.declared.meaning.Meaning.{Meaning}
 use Rattle.dd_meanings.specs.declared.meaning.Meaning.TheVariants as meant
-
--- a topology of so many nodes
-pub record IsGridOf (n : ℕ) (g : Grid) : Type 0 where
-  pub grid : IsGrid g
-  pub nodes : g.nodes ≡ n
 
 -- one name at least, so many at most, and none twice
 pub record AreNames (most : ℕ) (names : List (List ℕ)) : Type 0 where
@@ -30,15 +23,10 @@ pub record AreNames (most : ℕ) (names : List (List ℕ)) : Type 0 where
   pub distinct : AreDistinct names
 
 -- one of the nodes, and some of the symbols
-pub record IsSymbolRestriction (k : Known) (node : ℕ) (symbols : List ℕ) : Type 0 where
-  pub exists : node < length k.setting.nodes
+pub record IsSymbolRestriction (s : Setting) (node : ℕ) (symbols : List ℕ) : Type 0 where
+  pub exists : node < length s.nodes
   pub some : 1 ≤ length symbols
-  pub below : All (λ s. s < length k.setting.symbols) symbols
-
--- one for each symbol, none over 1,000
-pub record AreScriptWeights (k : Known) (weights : List ℕ) : Type 0 where
-  pub each : length weights ≡ length k.setting.symbols
-  pub light : All (λ w. w ≤ most_weight) weights
+  pub below : All (λ t. t < length s.symbols) symbols
 
 -- a name that no rule, automaton or configuration has
 pub record IsNew (x : Context) (w : Word) : Type 0 where
@@ -47,22 +35,22 @@ pub record IsNew (x : Context) (w : Word) : Type 0 where
   pub configurations : ¬ Contains x.known.configurations (word_text x.text w)
 
 -- a configuration of the script's dimension and nodes, each cell with a symbol that its node allows
-pub record IsConfigurationOf (k : Known) (t : Tile) : Type 0 where
+pub record IsConfigurationOf (s : Setting) (t : Tile) : Type 0 where
   pub tile : IsTile t
-  pub dimension : t.dimension ≡ k.setting.topology.dimension
-  pub nodes : t.nodes ≡ k.setting.topology.nodes
-  pub symbols : All (λ s. s < length k.setting.symbols) t.symbols
+  pub dimension : t.dimension ≡ s.topology.dimension
+  pub nodes : t.nodes ≡ s.topology.nodes
+  pub symbols : All (λ symbol. symbol < length s.symbols) t.symbols
   -- the nodes stand innermost
-  pub allowed : (i : ℕ) → i < length t.symbols → allows k.setting.sets (i % t.nodes) (slice_index t.symbols i) ≡ true
+  pub allowed : (i : ℕ) → i < length t.symbols → allows s.sets (i % t.nodes) (slice_index t.symbols i) ≡ true
 
 abbrev pub IsSoundMeaning : Context → Meaning → Type 0
 IsSoundMeaning x (meant.Topology g) = IsGridOf (length x.known.setting.nodes) g
 IsSoundMeaning x (meant.Nodes names given g) = AreNames 4 names × IsGridOf (length names) g
 IsSoundMeaning x (meant.Symbols names) = AreNames 16 names
-IsSoundMeaning x (meant.Only node symbols) = IsSymbolRestriction x.known node symbols
-IsSoundMeaning x (meant.Weights ws) = AreScriptWeights x.known ws
-IsSoundMeaning x (meant.Limits l) = IsSound (record (x.known) { limits = l })
-IsSoundMeaning x (meant.Rule name r) = IsNew x name × IsRule r × IsRuleOf x.known r
+IsSoundMeaning x (meant.Only node symbols) = IsSymbolRestriction x.known.setting node symbols
+IsSoundMeaning x (meant.Weights ws) = AreWeights (length x.known.setting.symbols) ws
+IsSoundMeaning x (meant.Limits l) = AreLimits l
+IsSoundMeaning x (meant.Rule name r) = IsNew x name × IsRuleOf x.known.setting r
 IsSoundMeaning x (meant.Automaton name f) = IsNew x name × IsAutomaton (script_numbers x.known) f
-IsSoundMeaning x (meant.Configuration name t) = IsNew x name × IsConfigurationOf x.known t
+IsSoundMeaning x (meant.Configuration name t) = IsNew x name × IsConfigurationOf x.known.setting t
 IsSoundMeaning x (meant.Query q) = IsQueryWithin x.known q

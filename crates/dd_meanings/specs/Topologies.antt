@@ -22,12 +22,8 @@ default_grid d nodes = if nodes == 1 then grid_of (plain_kind d) else grid d nod
 
 -- the names of the nodes of a kind, where none are given
 abbrev pub kind_names : Kind → List (List ℕ)
-kind_names kind.Line = codes "0" ∷ []
-kind_names kind.Square = codes "0" ∷ []
-kind_names kind.King = codes "0" ∷ []
-kind_names kind.Triangle = codes "0" ∷ []
 kind_names kind.Hex = codes "0" ∷ codes "1" ∷ []
-kind_names kind.Cube = codes "0" ∷ []
+kind_names k = codes "0" ∷ []
 
 -- ---- edges
 

@@ -3,13 +3,13 @@ ghost use Rattle.std.specs.Prelude.{◌≡◌, ◌≤◌, [], length, map, IfOk}
 ghost use Rattle.std.specs.List.{flat_map};
 ghost use Rattle.dd_faults.specs.Names.{number_in, variable_of};
 ghost use Rattle.dd_faults.specs.Formulas.{names_symbol, ball_faults};
-ghost use Rattle.dd_meanings.specs.Formulas.{variable_number, label_of, term_of, equal_of, not_equal_of, atom_of, ball_of};
+ghost use Rattle.dd_meanings.specs.Formulas.{variable_number, label_of, term_of, side_of, equal_of, not_equal_of, atom_of, ball_of};
 
 use dd_expansion::{BallOf, Formula, Term};
 use dd_faults::{Context, names_symbol, number_in, place_among};
 use dd_values::Items;
 use dd_written::{
-    Atom, Ball, Comparand, Name, Term as Written, Text, Word, name_text, number_value,
+    Atom, Ball, Comparand, Name, Relation, Term as Written, Text, Word, name_text, number_value,
 };
 use std::alloc::{AllocError, Global};
 
@@ -73,57 +73,50 @@ fn symbol(context: &Context, name: Name) -> u32
     number_in(&context.text, &context.known.setting.symbols, name)
 }
 
-/// A term has the symbol, or that of the term, on the right.
-fn equal(
+/// What stands on the right of `=` and `!=`.
+#[derive(Debug, Drop)]
+pub(crate) enum Operand {
+    Symbol(u32),
+    Term(Term),
+}
+
+fn side(
     alloc: Global,
     context: &Context,
     scope: &[Word],
-    term: Term,
     side: &Comparand,
-) -> Result<Formula, AllocError>
+) -> Result<Operand, AllocError>
     requires { length scope.now ≤ 64 }
-    ensures { IfOk result (λ f. f ≡ equal_of context.now scope.now term side.now) }
+    ensures { IfOk result (λ s. s ≡ side_of context.now scope.now side.now) }
 {
     match side {
-        Comparand::Number(number) => Ok(Formula::Symbol {
-            term,
-            symbol: symbol(context, Name::Number(*number)),
-        }),
+        Comparand::Number(number) => Ok(Operand::Symbol(symbol(context, Name::Number(*number)))),
         Comparand::Term(written) => {
             if names_symbol(context, scope, written) {
-                let symbol = symbol(context, Name::Word(written.first));
-                return Ok(Formula::Symbol { term, symbol });
+                return Ok(Operand::Symbol(symbol(context, Name::Word(written.first))));
             }
-            let right = self::term(alloc, context, scope, written)?;
-            Ok(Formula::Same { left: term, right })
+            Ok(Operand::Term(term(alloc, context, scope, written)?))
         }
     }
 }
 
-/// A term has another symbol than what stands on the right.
-fn not_equal(
-    alloc: Global,
-    context: &Context,
-    scope: &[Word],
-    term: Term,
-    side: &Comparand,
-) -> Result<Formula, AllocError>
-    requires { length scope.now ≤ 64 }
-    ensures { IfOk result (λ f. f ≡ not_equal_of context.now scope.now term side.now) }
+/// A term has the symbol, or that of the term, on the right.
+fn equal(term: Term, side: Operand) -> Formula
+    ensures { result ≡ equal_of term side }
 {
     match side {
-        Comparand::Number(number) => Ok(Formula::NotSymbol {
-            term,
-            symbol: symbol(context, Name::Number(*number)),
-        }),
-        Comparand::Term(written) => {
-            if names_symbol(context, scope, written) {
-                let symbol = symbol(context, Name::Word(written.first));
-                return Ok(Formula::NotSymbol { term, symbol });
-            }
-            let right = self::term(alloc, context, scope, written)?;
-            Ok(Formula::NotSame { left: term, right })
-        }
+        Operand::Symbol(symbol) => Formula::Symbol { term, symbol },
+        Operand::Term(right) => Formula::Same { left: term, right },
+    }
+}
+
+/// A term has another symbol than what stands on the right.
+fn not_equal(term: Term, side: Operand) -> Formula
+    ensures { result ≡ not_equal_of term side }
+{
+    match side {
+        Operand::Symbol(symbol) => Formula::NotSymbol { term, symbol },
+        Operand::Term(right) => Formula::NotSame { left: term, right },
     }
 }
 
@@ -136,36 +129,19 @@ pub(crate) fn atom(
     requires { length scope.now ≤ 64 }
     ensures { IfOk result (λ f. f ≡ atom_of context.now scope.now atom.now) }
 {
-    match atom {
-        Atom::Equal {
-            term: written,
-            side,
-        } => {
-            let term = term(alloc, context, scope, written)?;
-            equal(alloc, context, scope, term, side)
+    let term = term(alloc, context, scope, &atom.term)?;
+    match &atom.relation {
+        Relation::Equal(side) => Ok(equal(term, self::side(alloc, context, scope, side)?)),
+        Relation::NotEqual(side) => Ok(not_equal(term, self::side(alloc, context, scope, side)?)),
+        Relation::Adjacent(right) => {
+            let right = self::term(alloc, context, scope, right)?;
+            Ok(Formula::Adjacent { left: term, right })
         }
-        Atom::NotEqual {
-            term: written,
-            side,
-        } => {
-            let term = term(alloc, context, scope, written)?;
-            not_equal(alloc, context, scope, term, side)
+        Relation::Same(right) => {
+            let right = self::term(alloc, context, scope, right)?;
+            Ok(Formula::Place { left: term, right })
         }
-        Atom::Adjacent { left, right } => {
-            let left = term(alloc, context, scope, left)?;
-            let right = term(alloc, context, scope, right)?;
-            Ok(Formula::Adjacent { left, right })
-        }
-        Atom::Same { left, right } => {
-            let left = term(alloc, context, scope, left)?;
-            let right = term(alloc, context, scope, right)?;
-            Ok(Formula::Place { left, right })
-        }
-        Atom::AtNode {
-            term: written,
-            node,
-        } => {
-            let term = term(alloc, context, scope, written)?;
+        Relation::AtNode(node) => {
             let node = number_in(&context.text, &context.known.setting.nodes, *node);
             Ok(Formula::Node { term, node })
         }

@@ -1,76 +1,80 @@
 //! What the commands that define something mean.
-ghost use Rattle.std.specs.Prelude.{◌≡◌, ◌<◌, ◌≤◌, [], length, IfOk, OnOk};
-ghost use Rattle.std.specs.List.{All};
-ghost use Rattle.dd_pattern.specs.Tile.{most_symbols, IsPeriodic};
-ghost use Rattle.dd_formula.specs.Automata.{IsAutomaton, counted};
+ghost use Rattle.std.specs.Prelude.{◌≡◌, ◌≤◌, [], length, map, IfOk, OnOk};
+ghost use Rattle.std.specs.List.{All, flat_map};
+ghost use Rattle.dd_pattern.specs.Tile.{IsPeriodic};
+ghost use Rattle.dd_pattern.specs.lemmas.TileSizes.{Sizes};
+ghost use Rattle.dd_formula.specs.Automata.{IsAutomaton};
 ghost use Rattle.dd_written.specs.declared.tree.Name.TheVariants as name;
 ghost use Rattle.dd_written.specs.Formulas.{tree_depth};
 ghost use Rattle.dd_commands.specs.declared.command.Command.TheVariants as command;
 ghost use Rattle.dd_faults.specs.Order.{Resolves};
 ghost use Rattle.dd_faults.specs.Names.{missing};
-ghost use Rattle.dd_faults.specs.Commands.{shear_of, faults_of};
+ghost use Rattle.dd_faults.specs.Commands.{case_faults, faults_of};
 ghost use Rattle.dd_faults.specs.Sound.{IsSound};
 ghost use Rattle.dd_meanings.specs.Made.{script_numbers};
 ghost use Rattle.dd_meanings.specs.Meanings.{meaning, counted_sizes};
-ghost use Rattle.dd_meanings.specs.Definitions.{automaton_named, count_faults};
-ghost use Rattle.dd_meanings.specs.making.Parts.{IsCaseOf, given_by, HasShortPeriods, tile_with};
+ghost use Rattle.dd_meanings.specs.Definitions.{case_of, automaton_named, tile_with};
+ghost use Rattle.dd_meanings.specs.making.Parts.{refusal_of};
 ghost use Rattle.dd_meanings.specs.Sound.{IsSoundMeaning};
 
-use crate::cases::{CaseOf, cases_of, has_few, refusal_of, rule_over, rules_of, too_large};
-use crate::formulas::formula;
+use crate::formulas::formula_in;
 use crate::header::symbols_of;
-use crate::meaning::Meaning;
+use crate::meaning::{Meaning, Resolved};
 use dd_commands::{Case, Vector};
-use dd_faults::{Context, Known, Limit, Refusal, number_in, period_at, shear_of};
-use dd_formula::{Automaton, Cases};
+use dd_expansion::Formula as Meant;
+use dd_faults::{Context, Fault, Limit, Refusal, number_in, period_at, shear_of};
+use dd_formula::{Automaton, Rule, RuleFault};
 use dd_pattern::Periodic;
 use dd_values::Items;
 use dd_written::{Formula, Name, Word};
 use std::alloc::{AllocError, Global};
 
+/// The refusal of a command for which no rule or automaton was made.
+fn refusal_of(fault: RuleFault) -> Refusal
+    ensures { result ≡ refusal_of fault }
+{
+    match fault {
+        RuleFault::Reach => Refusal::At(Fault::Size(Limit::Reach)),
+        RuleFault::Instances => Refusal::At(Fault::Size(Limit::Instances)),
+        RuleFault::Depth => Refusal::At(Fault::Size(Limit::Depth)),
+        RuleFault::Memory => Refusal::Memory,
+    }
+}
+
 /// The rule of a formula over the script's topology and the symbols that its nodes allow.
-pub(crate) fn rule(
-    alloc: Global,
-    context: &Context,
-    name: Word,
-    formula: &Formula,
-) -> Result<Meaning, Refusal>
+#[tactic(auto, using(crate::proofs::Nothing::parts))]
+pub(crate) fn rule(alloc: Global, context: &Context, name: Word, formula: &Formula) -> Resolved
     requires sound { IsSound context.now.known }
     requires shallow { tree_depth formula.now ≤ 64 }
     requires faultless { faults_of context.now (command.Rule name formula.now) ≡ [] }
     ensures exact { Resolves result (counted_sizes context.now [] (command.Rule name formula.now)) (meaning context.now [] (command.Rule name formula.now)) }
     ensures sound { OnOk result (IsSoundMeaning context.now (meaning context.now [] (command.Rule name formula.now))) }
 {
-    let meant = self::formula(alloc, context, formula)?;
-    let rule = rule_over(alloc, &context.known, meant)?;
-    Ok(Meaning::Rule { name, rule })
+    let meant = formula_in(alloc, context, &[], formula)?;
+    let setting = &context.known.setting;
+    match Rule::new(alloc, &setting.topology, &setting.sets, meant) {
+        Ok(rule) => Ok(Meaning::Rule { name, rule }),
+        Err(fault) => Err(refusal_of(fault)),
+    }
 }
 
-/// The automaton by these cases, and by a symbol where none of them is true.
-fn given(
+/// Cases without faults, with their formulas and symbols by numbers.
+fn cases_of(
     alloc: Global,
-    known: &Known,
-    cases: Items<CaseOf>,
-    default: u32,
-) -> Result<Automaton, Refusal>
-    requires sound { IsSound known.now }
-    requires cases { All (IsCaseOf known.now) cases }
-    requires default { default < length known.now.setting.symbols }
-    ensures exact { let f = given_by known.now cases default in Resolves result (count_faults known.now.setting.topology.nodes (counted f)) f }
-    ensures sound { OnOk result (IsAutomaton (script_numbers known.now) (given_by known.now cases default)) }
+    context: &Context,
+    cases: &[Case],
+) -> Result<Items<(Meant, u32)>, AllocError>
+    requires shallow { All (λ c. tree_depth c.condition ≤ 64) cases.now }
+    requires faultless { flat_map (case_faults context.now) cases.now ≡ [] }
+    ensures { IfOk result (λ made. made ≡ map (case_of context.now) cases.now) }
 {
-    if !has_few(alloc, known, cases.as_slice())? {
-        return Err(too_large(Limit::Instances));
+    let mut made = Items::new(alloc);
+    for case in cases {
+        let condition = formula_in(alloc, context, &[], &case.condition)?;
+        let symbol = number_in(&context.text, &context.known.setting.symbols, case.symbol);
+        made.push((condition, symbol))?;
     }
-    let rules = rules_of(alloc, known, cases)?;
-    let made = Cases {
-        cases: rules,
-        otherwise: default,
-    };
-    match Automaton::given(made, known.setting.topology.nodes()) {
-        Ok(automaton) => Ok(automaton),
-        Err(_) => Err(too_large(Limit::Instances)),
-    }
+    Ok(made)
 }
 
 /// The automaton by these cases, and by a symbol where none of them is true.
@@ -80,7 +84,7 @@ pub(crate) fn automaton(
     name: Word,
     cases: &[Case],
     default: Name,
-) -> Result<Meaning, Refusal>
+) -> Resolved
     requires sound { IsSound context.now.known }
     requires shallow { All (λ c. tree_depth c.condition ≤ 64) cases.now }
     requires faultless { faults_of context.now (command.Automaton name cases.now default) ≡ [] }
@@ -88,12 +92,17 @@ pub(crate) fn automaton(
     ensures sound { OnOk result (IsSoundMeaning context.now (meaning context.now [] (command.Automaton name cases.now default))) }
 {
     let meant = cases_of(alloc, context, cases)?;
-    let otherwise = number_in(&context.text, &context.known.setting.symbols, default);
-    let automaton = given(alloc, &context.known, meant, otherwise)?;
-    Ok(Meaning::Automaton { name, automaton })
+    let setting = &context.known.setting;
+    let otherwise = number_in(&context.text, &setting.symbols, default);
+    let meant = meant.as_slice();
+    match Automaton::by_cases(alloc, &setting.topology, &setting.sets, meant, otherwise) {
+        Ok(automaton) => Ok(Meaning::Automaton { name, automaton }),
+        Err(fault) => Err(refusal_of(fault)),
+    }
 }
 
 /// A copy of the automaton with this name.
+#[tactic(auto, using(crate::proofs::Nothing::parts))]
 fn named(
     alloc: Global,
     context: &Context,
@@ -116,7 +125,7 @@ pub(crate) fn composition(
     name: Word,
     outer: Word,
     inner: Word,
-) -> Result<Meaning, Refusal>
+) -> Resolved
     requires named { length automata.now ≡ length context.now.known.automata }
     requires formed { All (IsAutomaton (script_numbers context.now.known)) automata.now }
     requires faultless { faults_of context.now (command.Composition name outer inner) ≡ [] }
@@ -138,8 +147,7 @@ fn periodic(
     shear: &Option<Vector>,
     symbols: Items<u32>,
 ) -> Periodic
-    requires short { HasShortPeriods context.now.text periods.now }
-    requires sheared { shear_of context.now.text shear.now ≤ most_symbols }
+    requires sizes { Sizes (tile_with context.now periods.now shear.now symbols) }
     requires periodic { IsPeriodic (tile_with context.now periods.now shear.now symbols) }
     ensures { result ≡ tile_with context.now periods.now shear.now symbols }
 {
@@ -169,7 +177,7 @@ pub(crate) fn configuration(
     periods: &Vector,
     shear: &Option<Vector>,
     symbols: &[Name],
-) -> Result<Meaning, Refusal>
+) -> Resolved
     requires sound { IsSound context.now.known }
     requires some { 1 ≤ length symbols.now }
     requires faultless { faults_of context.now (command.Configuration name periods.now shear.now symbols.now) ≡ [] }

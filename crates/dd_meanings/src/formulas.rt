@@ -1,9 +1,8 @@
 //! Formulas with numbers in place of names.
-ghost use Rattle.std.specs.Prelude.{◌≡◌, ◌+◌, ◌≤◌, [], ◌∷◌, ◌++◌, length, map, max, IfOk};
-ghost use Rattle.std.specs.List.{flat_map};
-ghost use Rattle.dd_written.specs.Formulas.{tree_depth, greatest_depth};
-ghost use Rattle.dd_faults.specs.Formulas.{ball_faults, formula_faults};
-ghost use Rattle.dd_meanings.specs.Formulas.{ball_of, formula_of, joined_of, quantified_of};
+ghost use Rattle.std.specs.Prelude.{◌≡◌, ◌+◌, ◌≤◌, [], length, map, IfOk};
+ghost use Rattle.dd_written.specs.Formulas.{tree_depth};
+ghost use Rattle.dd_faults.specs.Formulas.{formula_faults};
+ghost use Rattle.dd_meanings.specs.Formulas.{formula_of, implied_of, iff_of, joined_of, quantified_of};
 
 use crate::atoms::{atom, balls};
 use dd_expansion::{BallOf, Formula};
@@ -12,12 +11,49 @@ use dd_values::{Boxed, Items};
 use dd_written::{Ball, Formula as Written, Join, Quantifier, Word};
 use std::alloc::{AllocError, Global};
 
-fn joined(join: Join, members: Items<Formula>) -> Formula
-    ensures { result ≡ joined_of join members }
+/// `->` groups to the right: from the last part back.
+#[tactic(auto, using(crate::proofs::Layers::implied_last))]
+fn implied(alloc: Global, parts: Items<Formula>) -> Result<Formula, AllocError>
+    ensures { IfOk result (λ f. f ≡ implied_of parts) }
+{
+    let mut front = parts;
+    let Some(last) = front.pop() else {
+        return Ok(Formula::And(front));
+    };
+    let mut whole = last;
+    while let Some(premise) = front.pop() {
+        let conclusion = Boxed::new(alloc, whole)?;
+        whole = Formula::Implies(Boxed::new(alloc, premise)?, conclusion);
+    }
+    Ok(whole)
+}
+
+/// `<->` groups to the left: from the first part on.
+fn equivalent(alloc: Global, parts: Items<Formula>) -> Result<Formula, AllocError>
+    ensures { IfOk result (λ f. f ≡ iff_of parts) }
+{
+    let mut turned = parts.into_vec();
+    turned.reverse();
+    let mut back = Items::from_vec(turned);
+    let Some(first) = back.pop() else {
+        return Ok(Formula::And(back));
+    };
+    let mut whole = first;
+    while let Some(next) = back.pop() {
+        let left = Boxed::new(alloc, whole)?;
+        whole = Formula::Iff(left, Boxed::new(alloc, next)?);
+    }
+    Ok(whole)
+}
+
+fn joined(alloc: Global, join: Join, parts: Items<Formula>) -> Result<Formula, AllocError>
+    ensures { IfOk result (λ f. f ≡ joined_of join parts) }
 {
     match join {
-        Join::And => Formula::And(members),
-        Join::Or => Formula::Or(members),
+        Join::And => Ok(Formula::And(parts)),
+        Join::Or => Ok(Formula::Or(parts)),
+        Join::Implies => implied(alloc, parts),
+        Join::Iff => equivalent(alloc, parts),
     }
 }
 
@@ -33,7 +69,7 @@ fn quantified(quantifier: Quantifier, balls: Items<BallOf>, body: Boxed<Formula>
 /// The formula that a written one without faults means in a scope.
 #[cycle(meaning)]
 #[tactic(auto, using(crate::proofs::Layers::layers))]
-fn formula_in(
+pub(crate) fn formula_in(
     alloc: Global,
     context: &Context,
     scope: &[Word],
@@ -46,8 +82,8 @@ fn formula_in(
     match formula {
         Written::Atom(written) => atom(alloc, context, scope, written),
         Written::Not(inner) => {
-            let negated = boxed_in(alloc, context, scope, inner.get())?;
-            Ok(Formula::Not(negated))
+            let negated = formula_in(alloc, context, scope, inner.get())?;
+            Ok(Formula::Not(Boxed::new(alloc, negated)?))
         }
         Written::Quantified {
             quantifier,
@@ -56,62 +92,14 @@ fn formula_in(
             body,
         } => {
             let balls = balls.as_slice();
-            let body = body.get();
             quantified_in(alloc, context, scope, *quantifier, *variable, balls, body)
         }
         Written::Group(inner) => formula_in(alloc, context, scope, inner.get()),
-        Written::List { join, members } => {
-            let members = members_in(alloc, context, scope, members.as_slice())?;
-            Ok(joined(*join, members))
-        }
-        Written::Implies {
-            premise,
-            conclusion,
-        } => {
-            let (left, right) = both_in(alloc, context, scope, premise.get(), conclusion.get())?;
-            Ok(Formula::Implies(left, right))
-        }
-        Written::Iff { left, right } => {
-            let (left, right) = both_in(alloc, context, scope, left.get(), right.get())?;
-            Ok(Formula::Iff(left, right))
+        Written::Chain { join, parts } => {
+            let parts = parts_in(alloc, context, scope, *join, parts.as_slice())?;
+            joined(alloc, *join, parts)
         }
     }
-}
-
-/// The same, on the heap.
-#[cycle(meaning)]
-fn boxed_in(
-    alloc: Global,
-    context: &Context,
-    scope: &[Word],
-    formula: &Written,
-) -> Result<Boxed<Formula>, AllocError>
-    requires shallow { length scope.now + tree_depth formula.now ≤ 64 }
-    requires faultless { formula_faults context.now formula.now scope.now ≡ [] }
-    ensures { IfOk result (λ f. f ≡ formula_of context.now formula.now scope.now) }
-{
-    let meant = formula_in(alloc, context, scope, formula)?;
-    Boxed::new(alloc, meant)
-}
-
-/// The same of two formulas.
-#[cycle(meaning)]
-fn both_in(
-    alloc: Global,
-    context: &Context,
-    scope: &[Word],
-    left: &Written,
-    right: &Written,
-) -> Result<(Boxed<Formula>, Boxed<Formula>), AllocError>
-    requires shallow { length scope.now + max (tree_depth left.now) (tree_depth right.now) ≤ 64 }
-    requires left { formula_faults context.now left.now scope.now ≡ [] }
-    requires right { formula_faults context.now right.now scope.now ≡ [] }
-    ensures left { IfOk result (λ both. both.0 ≡ formula_of context.now left.now scope.now) }
-    ensures right { IfOk result (λ both. both.1 ≡ formula_of context.now right.now scope.now) }
-{
-    let left = boxed_in(alloc, context, scope, left)?;
-    let right = boxed_in(alloc, context, scope, right)?;
-    Ok((left, right))
 }
 
 /// The formula of a quantifier with its balls and its body.
@@ -123,46 +111,34 @@ fn quantified_in(
     quantifier: Quantifier,
     variable: Word,
     written: &[Ball],
-    body: &Written,
+    body: &Boxed<Written>,
 ) -> Result<Formula, AllocError>
-    requires shallow { length scope.now + (1 + tree_depth body.now) ≤ 64 }
-    requires balls { flat_map (ball_faults context.now scope.now) written.now ≡ [] }
-    requires body { formula_faults context.now body.now (scope.now ++ variable ∷ []) ≡ [] }
-    ensures { IfOk result (λ f. f ≡ quantified_of quantifier (map (ball_of context.now scope.now) written.now) (formula_of context.now body.now (scope.now ++ variable ∷ []))) }
+    requires shallow { length scope.now + tree_depth (Written.Quantified quantifier variable written.now body.now) ≤ 64 }
+    requires faultless { formula_faults context.now (Written.Quantified quantifier variable written.now body.now) scope.now ≡ [] }
+    ensures { IfOk result (λ f. f ≡ formula_of context.now (Written.Quantified quantifier variable written.now body.now) scope.now) }
 {
     let balls = balls(alloc, context, scope, written)?;
     let inner = within(alloc, scope, variable)?;
-    let body = boxed_in(alloc, context, inner.as_slice(), body)?;
-    Ok(quantified(quantifier, balls, body))
+    let meant = formula_in(alloc, context, inner.as_slice(), body.get())?;
+    Ok(quantified(quantifier, balls, Boxed::new(alloc, meant)?))
 }
 
+/// The formulas of the parts of a chain.
 #[cycle(meaning)]
-fn members_in(
+fn parts_in(
     alloc: Global,
     context: &Context,
     scope: &[Word],
-    members: &[Written],
+    join: Join,
+    parts: &[Written],
 ) -> Result<Items<Formula>, AllocError>
-    requires shallow { length scope.now + greatest_depth (map tree_depth members.now) ≤ 64 }
-    requires faultless { flat_map (λ f. formula_faults context.now f scope.now) members.now ≡ [] }
-    ensures { IfOk result (λ made. made ≡ map (λ f. formula_of context.now f scope.now) members.now) }
+    requires shallow { length scope.now + tree_depth (Written.Chain join parts.now) ≤ 64 }
+    requires faultless { formula_faults context.now (Written.Chain join parts.now) scope.now ≡ [] }
+    ensures { IfOk result (λ made. made ≡ map (λ f. formula_of context.now f scope.now) parts.now) }
 {
     let mut made = Items::new(alloc);
-    for member in members {
-        made.push(formula_in(alloc, context, scope, member)?)?;
+    for part in parts {
+        made.push(formula_in(alloc, context, scope, part)?)?;
     }
     Ok(made)
-}
-
-/// The formula that a written one without faults means, with the origin as its free variable.
-pub(crate) fn formula(
-    alloc: Global,
-    context: &Context,
-    written: &Written,
-) -> Result<Formula, AllocError>
-    requires shallow { tree_depth written.now ≤ 64 }
-    requires faultless { formula_faults context.now written.now [] ≡ [] }
-    ensures { IfOk result (λ f. f ≡ formula_of context.now written.now []) }
-{
-    formula_in(alloc, context, &[], written)
 }

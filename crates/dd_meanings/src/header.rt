@@ -1,8 +1,5 @@
 //! What the commands of the header mean.
 ghost use Rattle.std.specs.Prelude.{◌≡◌, ◌≤◌, [], length, map, IfOk, OnOk};
-ghost use Rattle.std.specs.List.{All};
-ghost use Rattle.dd_values.specs.Bounds.{most_weight};
-ghost use Rattle.dd_written.specs.Values.{written_value};
 ghost use Rattle.dd_commands.specs.declared.command.Command.TheVariants as command;
 ghost use Rattle.dd_faults.specs.Order.{Resolves};
 ghost use Rattle.dd_faults.specs.Sound.{IsSound};
@@ -11,21 +8,17 @@ ghost use Rattle.dd_meanings.specs.Definitions.{symbol_of};
 ghost use Rattle.dd_meanings.specs.Meanings.{meaning};
 ghost use Rattle.dd_meanings.specs.Sound.{IsSoundMeaning};
 
-use crate::meaning::Meaning;
+use crate::meaning::{Meaning, Resolved};
 use crate::names::names_of;
 use crate::topologies::{default_topology, kind_names, topology_by};
 use dd_commands::Edge;
-use dd_faults::{Context, Refusal, number_in};
+use dd_faults::{Context, number_in};
 use dd_topology::{Kind, Topology};
 use dd_values::{Items, Limits};
 use dd_written::{Name, Number, number_value};
 use std::alloc::{AllocError, Global};
 
-pub(crate) fn dimension(
-    alloc: Global,
-    context: &Context,
-    number: Number,
-) -> Result<Meaning, Refusal>
+pub(crate) fn dimension(alloc: Global, context: &Context, number: Number) -> Resolved
     requires sound { IsSound context.now.known }
     requires faultless { faults_of context.now (command.Dimension number) ≡ [] }
     ensures exact { Resolves result [] (meaning context.now [] (command.Dimension number)) }
@@ -38,7 +31,8 @@ pub(crate) fn dimension(
     Ok(Meaning::Topology(topology))
 }
 
-pub(crate) fn nodes(alloc: Global, context: &Context, names: &[Name]) -> Result<Meaning, Refusal>
+#[tactic(auto, using(crate::proofs::Nothing::parts))]
+pub(crate) fn nodes(alloc: Global, context: &Context, names: &[Name]) -> Resolved
     requires sound { IsSound context.now.known }
     requires some { 1 ≤ length names.now }
     requires faultless { faults_of context.now (command.Nodes names.now) ≡ [] }
@@ -56,7 +50,8 @@ pub(crate) fn nodes(alloc: Global, context: &Context, names: &[Name]) -> Result<
     })
 }
 
-pub(crate) fn alphabet(alloc: Global, context: &Context, names: &[Name]) -> Result<Meaning, Refusal>
+#[tactic(auto, using(crate::proofs::Nothing::parts))]
+pub(crate) fn alphabet(alloc: Global, context: &Context, names: &[Name]) -> Resolved
     requires some { 1 ≤ length names.now }
     requires faultless { faults_of context.now (command.Alphabet names.now) ≡ [] }
     ensures exact { Resolves result [] (meaning context.now [] (command.Alphabet names.now)) }
@@ -67,20 +62,18 @@ pub(crate) fn alphabet(alloc: Global, context: &Context, names: &[Name]) -> Resu
     Ok(Meaning::Symbols(symbols))
 }
 
-pub(crate) fn kind(alloc: Global, context: &Context, kind: Kind) -> Result<Meaning, Refusal>
+pub(crate) fn kind(alloc: Global, context: &Context, kind: Kind) -> Resolved
     requires faultless { faults_of context.now (command.Topology kind) ≡ [] }
     ensures exact { Resolves result [] (meaning context.now [] (command.Topology kind)) }
     ensures sound { OnOk result (IsSoundMeaning context.now (meaning context.now [] (command.Topology kind))) }
 {
+    let topology = Topology::builtin(alloc, kind)?;
+    let _dimension = topology.dim();
     if context.known.nodes_are_given {
-        let topology = Topology::builtin(alloc, kind)?;
-        let _dimension = topology.dim();
         return Ok(Meaning::Topology(topology));
     }
     let nodes = kind_names(alloc, kind)?;
     let _count = nodes.count();
-    let topology = Topology::builtin(alloc, kind)?;
-    let _dimension = topology.dim();
     Ok(Meaning::Nodes {
         nodes,
         given: false,
@@ -88,7 +81,7 @@ pub(crate) fn kind(alloc: Global, context: &Context, kind: Kind) -> Result<Meani
     })
 }
 
-pub(crate) fn edges(alloc: Global, context: &Context, edges: &[Edge]) -> Result<Meaning, Refusal>
+pub(crate) fn edges(alloc: Global, context: &Context, edges: &[Edge]) -> Resolved
     requires sound { IsSound context.now.known }
     requires faultless { faults_of context.now (command.Edges edges.now) ≡ [] }
     ensures exact { Resolves result [] (meaning context.now [] (command.Edges edges.now)) }
@@ -116,12 +109,7 @@ pub(crate) fn symbols_of(
     Ok(Items::from_vec(symbols))
 }
 
-pub(crate) fn only(
-    alloc: Global,
-    context: &Context,
-    node: Name,
-    symbols: &[Name],
-) -> Result<Meaning, Refusal>
+pub(crate) fn only(alloc: Global, context: &Context, node: Name, symbols: &[Name]) -> Resolved
     requires some { 1 ≤ length symbols.now }
     requires faultless { faults_of context.now (command.Only node symbols.now) ≡ [] }
     ensures exact { Resolves result [] (meaning context.now [] (command.Only node symbols.now)) }
@@ -132,34 +120,22 @@ pub(crate) fn only(
     Ok(Meaning::Only { node, symbols })
 }
 
-/// The values of numbers that are within a limit.
-fn values_of(alloc: Global, context: &Context, numbers: &[Number]) -> Result<Items<u32>, AllocError>
-    requires { All (λ n. written_value context.now.text n ≤ most_weight) numbers.now }
-    ensures { IfOk result (λ values. values ≡ map (written_value context.now.text) numbers.now) }
-{
-    let mut values = Items::new(alloc);
-    for number in numbers {
-        values.push(number_value(&context.text, *number))?;
-    }
-    Ok(values)
-}
-
-pub(crate) fn weights(
-    alloc: Global,
-    context: &Context,
-    weights: &[Number],
-) -> Result<Meaning, Refusal>
+pub(crate) fn weights(alloc: Global, context: &Context, weights: &[Number]) -> Resolved
     requires faultless { faults_of context.now (command.Weights weights.now) ≡ [] }
     ensures exact { Resolves result [] (meaning context.now [] (command.Weights weights.now)) }
     ensures sound { OnOk result (IsSoundMeaning context.now (meaning context.now [] (command.Weights weights.now))) }
 {
-    let weights = values_of(alloc, context, weights)?;
-    Ok(Meaning::Weights(weights))
+    let text = &context.text;
+    let values: Vec<u32> = weights
+        .iter()
+        .map(|weight| number_value(text, *weight))
+        .collect(alloc)?;
+    Ok(Meaning::Weights(Items::from_vec(values)))
 }
 
+#[tactic(auto, using(crate::proofs::Nothing::parts))]
 pub(crate) fn limits(context: &Context, radius: Number, period: Number, pivots: Number) -> Meaning
-    requires sound { IsSound context.now.known }
-    requires faultless { faults_of context.now (command.Limits radius period pivots) ≡ [] }
+    requires { faults_of context.now (command.Limits radius period pivots) ≡ [] }
     ensures exact { result ≡ meaning context.now [] (command.Limits radius period pivots) }
     ensures sound { IsSoundMeaning context.now (meaning context.now [] (command.Limits radius period pivots)) }
 {

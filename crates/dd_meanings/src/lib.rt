@@ -3,7 +3,6 @@
 #![tactic(auto)]
 
 mod atoms;
-mod cases;
 mod definitions;
 mod formulas;
 mod header;

@@ -1,4 +1,5 @@
 //! What a command means.
+use dd_faults::Refusal;
 use dd_formula::{Automaton, Rule};
 use dd_pattern::Periodic;
 use dd_query::Query;
@@ -46,3 +47,6 @@ pub enum Meaning {
     /// A query, without a name.
     Query(Query),
 }
+
+/// What a command means, or why it is refused.
+pub(crate) type Resolved = Result<Meaning, Refusal>;

@@ -3,16 +3,16 @@ ghost use Rattle.std.specs.Prelude.{◌≡◌, [], length, OnOk};
 ghost use Rattle.std.specs.List.{All};
 ghost use Rattle.dd_formula.specs.Automata.{IsAutomaton};
 ghost use Rattle.dd_commands.specs.declared.command.Command.TheVariants as command;
+ghost use Rattle.dd_commands.specs.Commands.{IsRequest};
 ghost use Rattle.dd_commands.specs.Scripts.{IsWritten};
 ghost use Rattle.dd_faults.specs.Order.{Resolves};
 ghost use Rattle.dd_faults.specs.Commands.{request_faults, written_faults};
 ghost use Rattle.dd_faults.specs.Sound.{IsSound};
-ghost use Rattle.dd_query.specs.Asked.{IsAsked};
 ghost use Rattle.dd_meanings.specs.Made.{script_numbers};
 ghost use Rattle.dd_meanings.specs.Meanings.{meaning, counted_sizes};
 ghost use Rattle.dd_meanings.specs.Sound.{IsSoundMeaning};
 
-use crate::meaning::Meaning;
+use crate::meaning::{Meaning, Resolved};
 use crate::{definitions, header};
 use dd_commands::{Command, Request, Written};
 use dd_faults::{Context, Refusal};
@@ -21,9 +21,9 @@ use dd_query::ask;
 use std::alloc::Global;
 
 /// The query of a question.
-fn query(alloc: Global, context: &Context, request: &Request) -> Result<Meaning, Refusal>
+fn query(alloc: Global, context: &Context, request: &Request) -> Resolved
     requires sound { IsSound context.now.known }
-    requires written { IsAsked context.now.text request.now }
+    requires written { IsRequest request.now }
     requires faultless { request_faults context.now request.now ≡ [] }
     ensures exact { Resolves result [] (meaning context.now [] (command.Query request.now)) }
     ensures sound { OnOk result (IsSoundMeaning context.now (meaning context.now [] (command.Query request.now))) }
@@ -33,7 +33,7 @@ fn query(alloc: Global, context: &Context, request: &Request) -> Result<Meaning,
 }
 
 /// What a command without faults means; refused where a rule or an automaton has too many instances, reads too far or is too deep.
-#[tactic(none)]
+#[tactic(auto, using(crate::proofs::Nothing::parts))]
 pub fn mean(
     alloc: Global,
     context: &Context,

@@ -39,6 +39,7 @@ pub fn zero_and_one(alloc: Global) -> Result<Names, AllocError>
 }
 
 /// The texts of names of which none is given twice.
+#[tactic(auto, using(crate::proofs::Nothing::parts))]
 pub(crate) fn names_of(alloc: Global, text: &Text, written: &[Name]) -> Result<Names, AllocError>
     requires few { length written.now ≤ 16 }
     requires distinct { twice_named text.now written.now ≡ [] }

@@ -8,11 +8,11 @@ ghost use Rattle.dd_faults.specs.Commands.{dimension_of, edge_faults, faults_of}
 ghost use Rattle.dd_query.specs.Vectors.{IsClose};
 ghost use Rattle.dd_meanings.specs.Topologies.{plain_kind, default_grid, kind_names, labels_of, edge_of, grid_by};
 
-use crate::names::{add_new, zero, zero_and_one};
+use crate::names::{zero, zero_and_one};
 use dd_commands::Edge as Written;
 use dd_faults::{Context, number_in};
 use dd_query::position_of;
-use dd_topology::{Edge, Kind, Names, Topology, TopologyFault};
+use dd_topology::{Edge, Kind, NameFault, Names, Topology, TopologyFault};
 use dd_written::{Name, Text, name_text};
 use std::alloc::{AllocError, Global};
 
@@ -23,19 +23,6 @@ fn plain_kind(dimension: u32) -> Kind
         1 => Kind::Line,
         3 => Kind::Cube,
         _ => Kind::Square,
-    }
-}
-
-/// A topology without edges.
-fn without_edges(alloc: Global, dimension: u32, nodes: u32) -> Result<Topology, AllocError>
-    requires dimension { (1 ≤ dimension) × (dimension ≤ 3) }
-    requires nodes { 1 ≤ nodes }
-    ensures { IfOk result (λ topology. topology ≡ grid dimension nodes [] []) }
-{
-    match Topology::from_edges(alloc, dimension, nodes, Names::new(alloc), Vec::new(alloc)) {
-        Ok(topology) => Ok(topology),
-        Err(TopologyFault::Twice(_)) => unreachable!(),
-        Err(TopologyFault::Memory) => Err(AllocError),
     }
 }
 
@@ -52,7 +39,11 @@ pub(crate) fn default_topology(
     if nodes == 1 {
         return Topology::builtin(alloc, plain_kind(dimension));
     }
-    without_edges(alloc, dimension, nodes)
+    match Topology::from_edges(alloc, dimension, nodes, Names::new(alloc), Vec::new(alloc)) {
+        Ok(topology) => Ok(topology),
+        Err(TopologyFault::Twice(_)) => unreachable!(),
+        Err(TopologyFault::Memory) => Err(AllocError),
+    }
 }
 
 /// The names of the nodes of a kind, where a script gives none.
@@ -70,10 +61,11 @@ fn add_once(alloc: Global, labels: &mut Names, text: &str) -> Result<(), AllocEr
     requires { length labels.old < 2 ^ 32 - 1 }
     ensures { OnOk result (labels.new ≡ (if list_any (bytes_eq text.now) labels.old then labels.old else labels.old ++ text.now ∷ [])) }
 {
-    if labels.find(text).is_some() {
-        return Ok(());
+    match labels.add(String::from_str(alloc, text)?) {
+        Ok(_) => Ok(()),
+        Err(NameFault::Twice(_)) => Ok(()),
+        Err(NameFault::Memory(_)) => Err(AllocError),
     }
-    add_new(alloc, labels, text)
 }
 
 /// The labels of edges, each once, in the order in which they are first seen.
@@ -120,6 +112,7 @@ fn edges_of(
 }
 
 /// The topology by edges. Its labels are numbered in the order in which they are first seen.
+#[tactic(auto, using(crate::proofs::Nothing::parts))]
 pub(crate) fn topology_by(
     alloc: Global,
     context: &Context,

@@ -1,6 +1,4 @@
 pub mod WordLaws
-pub mod EntryLaws
-pub mod ShapeLaws
-pub mod TextLaws
 pub mod VectorLaws
+pub mod ShapeLaws
 pub mod AskedLaws

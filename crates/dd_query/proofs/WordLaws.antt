@@ -1,32 +1,18 @@
 -- The words of a question by their places.
-use Rattle.std.proofs.Common.{◌≡◌, ◌<◌, ℕ, zero, suc, List, [], ◌∷◌, Option, Some, None, length, map, refl, ap, arith}
-use Rattle.std.specs.Prelude.{bytes_eq, is_some, not, unwrap_or, slice_index, slice_get}
+use Rattle.std.proofs.Common.{◌≡◌, ◌<◌, ℕ, zero, suc, List, [], ◌∷◌, Some, length, map, subst, arith}
+use Rattle.std.specs.Prelude.{slice_index, slice_get}
 use Rattle.std.specs.List.{zip, flat_map}
-use Rattle.std.proofs.lemmas.List.Quantifiers.{position-Some}
 use Rattle.dd_written.specs.declared.lexeme.Word.{Word}
-use Rattle.dd_written.specs.declared.tree.Name.{Name}
 use Rattle.dd_written.specs.declared.tree.Name.TheVariants as name
-use Rattle.dd_written.specs.Values.{name_text}
 use Rattle.dd_commands.specs.declared.table.Role.{Role}
-use Rattle.dd_faults.specs.declared.fault.Fault.TheVariants as fault
 use Rattle.dd_faults.specs.declared.context.Context.{Context}
-use Rattle.dd_faults.specs.Order.{when}
-use Rattle.dd_faults.specs.Names.{place_of_name, missing, number_in, named}
+use Rattle.dd_faults.specs.Names.{number_in, named}
 use Rattle.dd_faults.specs.Commands.{word_faults}
 use Rattle.dd_query.specs.Queries.{number_of_word}
-use Rattle.dd_faults.specs.lemmas.Nothing.{both_nil}
+use Rattle.dd_faults.specs.lemmas.Nothing.{both_nil, parts}
 
 abbrev numbers : Context → List Role → List Word → List ℕ
 numbers x rs ws = map (number_of_word x) (zip rs ws)
-
--- a name that is not missing has a number below that of the names
-number_below : (bytes : List ℕ) (names : List (List ℕ)) (n : Name) (o : Option ℕ) → place_of_name bytes names n ≡ o →
-    when (not (is_some o)) (fault.Unknown n) ≡ [] → unwrap_or o 0 < length names
-number_below bytes names n None is none = absurd cc
-number_below bytes names n (Some i) is none = (position-Some (bytes_eq (name_text bytes n)) names i [] is).0
-
-pub is_there : (bytes : List ℕ) (names : List (List ℕ)) (n : Name) → missing bytes names n ≡ [] → number_in bytes names n < length names
-is_there bytes names n none = number_below bytes names n (place_of_name bytes names n) refl none
 
 -- a word of a question without a fault names something of its role
 pub word_there : (x : Context) (rs : List Role) (ws : List Word) (i : ℕ) (r : Role) → length ws ≡ length rs → flat_map (word_faults x) (zip rs ws) ≡ [] → slice_get rs i ≡ Some r →
@@ -34,11 +20,7 @@ pub word_there : (x : Context) (rs : List Role) (ws : List Word) (i : ℕ) (r : 
 word_there x [] ws i r long none h = absurd cc
 word_there x (q ∷ rs) [] i r long none h = absurd (omega (arith, long))
 word_there x (q ∷ rs) (w ∷ ws) zero r long none h =
-    let here = is_there x.text (named x.known q) (name.Word w) (both_nil (word_faults x (q, w)) (flat_map (word_faults x) (zip rs ws)) none).0 in
+    let here : number_in x.text (named x.known q) (name.Word w) < length (named x.known q) = grind (arith, parts) in
     let same : q ≡ r = cc in
-    here_at q r same here
-  where
-    here_at : (p s : Role) → p ≡ s → number_in x.text (named x.known p) (name.Word w) < length (named x.known p) → number_in x.text (named x.known p) (name.Word w) < length (named x.known s)
-    here_at p s is below = (let lengths : length (named x.known p) ≡ length (named x.known s) = ap (λ t. length (named x.known t)) is in omega (arith, lengths, below))
-word_there x (q ∷ rs) (w ∷ ws) (suc i) r long none h =
-    word_there x rs ws i r (omega (arith, long)) (both_nil (word_faults x (q, w)) (flat_map (word_faults x) (zip rs ws)) none).1 h
+    subst (λ (p : Role). number_in x.text (named x.known q) (name.Word w) < length (named x.known p)) same here
+word_there x (q ∷ rs) (w ∷ ws) (suc i) r long none h = word_there x rs ws i r (omega (arith, long)) (both_nil _ _ none).1 h

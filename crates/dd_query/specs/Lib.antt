@@ -4,7 +4,5 @@ pub mod Vectors
 pub mod Queries
 -- what each query of a script keeps
 pub mod Sound
--- questions as a script asks them
-pub mod Asked
 -- lemmas on what stands above, with their proofs, for whoever cites them
 pub mod lemmas

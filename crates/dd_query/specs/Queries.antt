@@ -1,6 +1,7 @@
 -- The queries that questions ask.
-use Rattle.std.specs.Prelude.{ℕ, List, [], ◌∷◌, map, slice_index}
+use Rattle.std.specs.Prelude.{ℕ, List, [], ◌∷◌, map, slice_get, slice_index}
 use Rattle.std.specs.List.{zip}
+use Rattle.std.specs.Option.{option_map_or}
 use Rattle.dd_lattice.specs.Place.{Place}
 use Rattle.dd_written.specs.declared.lexeme.Word.{Word}
 use Rattle.dd_written.specs.declared.tree.Name.TheVariants as name
@@ -32,7 +33,7 @@ word_at x r place = slice_index (numbers_of_words x r) place
 
 -- the value of the number at this place
 abbrev pub value_at : Context → Request → ℕ → ℕ
-value_at x r place = slice_index (map (written_value x.text) r.numbers) place
+value_at x r place = option_map_or (written_value x.text) (slice_get r.numbers place) 0
 
 -- the periods of a strip along the second and the third axis, and 1 where there is no such axis
 abbrev pub strip_periods : List ℕ → List Vector → List ℕ

@@ -1,18 +1,10 @@
 -- Vectors as they are written, and the positions that they stand for.
-use Rattle.std.specs.Prelude.{◌≡◌, ℕ, List, false, ℤ, pos, ◌-ℤ◌}
+use Rattle.std.specs.Prelude.{◌≡◌, ℕ, List, false, ℤ, pos}
 use Rattle.std.specs.List.{slice_get}
 use Rattle.std.specs.Option.{option_map_or}
 use Rattle.dd_lattice.specs.Place.{Place, place}
-use Rattle.dd_commands.specs.declared.command.Entry.{Entry}
-use Rattle.dd_commands.specs.declared.command.Entry.TheVariants as entry
 use Rattle.dd_commands.specs.declared.command.Vector.{Vector}
-use Rattle.dd_written.specs.Values.{written_value}
-use Rattle.dd_faults.specs.Commands.{is_far}
-
--- the number of an entry, with its sign
-abbrev pub signed_value : List ℕ → Entry → ℤ
-signed_value bytes (entry.Number n) = pos (written_value bytes n)
-signed_value bytes (entry.Negative n) = pos 0 -ℤ pos (written_value bytes n)
+use Rattle.dd_faults.specs.Commands.{signed_value, is_far}
 
 -- the number of the entry for an axis, and 0 where there is none
 abbrev pub coordinate : List ℕ → Vector → ℕ → ℤ

@@ -2,11 +2,11 @@
 ghost use Rattle.std.specs.Prelude.{◌≡◌, [], false, map, min, IfOk, OnOk};
 ghost use Rattle.std.specs.List.{list_any};
 ghost use Rattle.dd_commands.specs.declared.table.Question.TheVariants as question;
+ghost use Rattle.dd_commands.specs.Commands.{IsRequest};
 ghost use Rattle.dd_faults.specs.Commands.{is_far, request_faults};
 ghost use Rattle.dd_faults.specs.Sound.{IsSound};
 ghost use Rattle.dd_query.specs.Vectors.{place_of};
 ghost use Rattle.dd_query.specs.Queries.{word_at, value_at, strip_periods, query_of};
-ghost use Rattle.dd_query.specs.Asked.{IsAsked};
 ghost use Rattle.dd_query.specs.Sound.{AreStripPeriods, IsQueryWithin};
 
 use crate::queries::Query;
@@ -22,12 +22,13 @@ use std::alloc::{AllocError, Global};
 fn word_at(context: &Context, request: &Request, place: usize) -> u32
     ensures { result ≡ word_at context.now request.now place }
 {
-    let Some(role) = request.question.row().names.get(place) else {
-        return 0;
-    };
-    match request.words.get(place) {
-        Some(word) => number_in(&context.text, context.known.named(*role), Name::Word(*word)),
-        None => 0,
+    let roles = request.question.row().names;
+    match (roles.get(place), request.words.get(place)) {
+        (Some(role), Some(word)) => {
+            let names = context.known.named(*role);
+            number_in(&context.text, names, Name::Word(*word))
+        }
+        _ => 0,
     }
 }
 
@@ -35,10 +36,8 @@ fn word_at(context: &Context, request: &Request, place: usize) -> u32
 fn value_at(context: &Context, request: &Request, place: usize) -> u32
     ensures { result ≡ min (value_at context.now request.now place) 4294967295 }
 {
-    match request.numbers.get(place) {
-        Some(number) => number_value(&context.text, *number),
-        None => 0,
-    }
+    let number = request.numbers.get(place);
+    number.map_or(0, |number| number_value(&context.text, *number))
 }
 
 /// The periods of a strip along the second and the third axis.
@@ -111,7 +110,7 @@ fn asked(alloc: Global, context: &Context, request: &Request) -> Result<Query, A
 /// The query that a question without a fault asks.
 pub fn ask(alloc: Global, context: &Context, request: &Request) -> Result<Query, AllocError>
     requires sound { IsSound context.now.known }
-    requires written { IsAsked context.now.text request.now }
+    requires written { IsRequest request.now }
     requires faultless { request_faults context.now request.now ≡ [] }
     ensures exact { IfOk result (λ q. q ≡ query_of context.now request.now) }
     ensures within { OnOk result (IsQueryWithin context.now.known (query_of context.now request.now)) }

@@ -4,7 +4,7 @@ use dd_formula::Rule;
 use dd_lattice::Position;
 use dd_pattern::Periodic;
 
-/// What a query asks, by the rules and the configuration that it names, its strip or its vectors, and the script's weights.
+/// What is asked: of rules and a configuration, over a strip or along vectors, with weights where something is weighed.
 #[derive(Clone, Copy)]
 pub enum Question<'a> {
     /// Does the configuration live in the rule's subshift?

@@ -1,27 +1,23 @@
 -- Two right answers to a question differ in their evidence alone: a least radius, first periods and a first cell are one.
-use Rattle.std.proofs.Common.{◌≡◌, ℕ, ◌<◌, ◌≤◌, ◌||◌, ◌&&◌, Bool, true, false, List, [], ℤ, pos, refl, ap, sym, subst, ◌∙◌, arith, inl, inr}
-use Rattle.std.specs.Prelude.{◌⊎◌, max, nat_lt}
-use Rattle.std.specs.Ordering.{int_eq, ordering_then, nat_cmp}
+use Rattle.std.proofs.Common.{◌≡◌, ℕ, ◌≤◌, List, [], refl, ap, sym, subst, ◌∙◌, arith, inl, inr}
+use Rattle.std.specs.Prelude.{◌⊎◌, max}
+use Rattle.std.specs.Ordering.{ordering_then, nat_cmp}
 use Rattle.std.proofs.lemmas.Map.Lookups.{exact_unsigned}
 use Rattle.std.specs.declared.cmp.Ordering.{Ordering}
 use Rattle.std.specs.declared.cmp.Ordering.TheVariants.{Less, Equal, Greater}
 use Rattle.std.specs.Cmp.{IsTotalOrder}
-use Rattle.std.proofs.lemmas.Bool.{cases_order, ltb-false, false≢true}
-use Rattle.std.proofs.lemmas.Cmp.{nat_cmp_total, int_cmp_total, on_total, then_total}
+use Rattle.std.proofs.lemmas.Bool.{cases_order}
+use Rattle.std.proofs.lemmas.Cmp.{nat_cmp_total, on_total, then_total}
 use Rattle.dd_derivation.specs.Derivations.{IsRefuting}
 use Rattle.dd_problem.specs.Problems.{box_problem}
-use Rattle.dd_lattice.specs.declared.position.Cell.{Cell}
 use Rattle.dd_lattice.specs.Place.{Place}
 use Rattle.dd_discharge.specs.Outcomes.{HasOneOutcome}
-use Rattle.dd_lattice.specs.Order.{cell_cmp}
-use Rattle.dd_lattice.specs.lemmas.InOrderLaws.{cells_equal}
 use Rattle.dd_pattern.specs.declared.periods.Periods.{Periods}
-use Rattle.dd_pattern.specs.Periods.{periods_volume, periods_cmp, residue, IsBefore}
-use Rattle.dd_pattern.specs.Tile.{Tile, IsTile, IsInBox}
-use Rattle.dd_pattern.specs.lemmas.Residues.{residue_below}
-use Rattle.dd_expansion.specs.Placed.{is_flat}
+use Rattle.dd_pattern.specs.Periods.{periods_volume, periods_cmp, IsBefore}
+use Rattle.dd_pattern.specs.Tile.{Tile, IsTile}
 use Rattle.dd_formula.specs.LocalRule.{LocalRule}
-use Rattle.dd_formula.specs.Living.{Lives, IsFirstFalse}
+use Rattle.dd_formula.specs.Living.{Fits}
+use Rattle.dd_formula.specs.lemmas.FirstCells.{not_both, first_cell}
 use Rattle.dd_values.specs.declared.limits.Limits.{Limits}
 use Rattle.dd_boxes.specs.Goals.{GoalOf, breaks}
 use Rattle.dd_boxes.specs.Boxes.{Suffices}
@@ -240,56 +236,11 @@ equal_agree l x y a b h k =
 
 -- ---- membership
 
-cells_total : IsTotalOrder cell_cmp
-cells_total =
-    then_total
-    (on_total (λ (c : Cell). c.position)
-    (then_total (then_total (on_total (λ (p : Place). p.z) int_cmp_total) (on_total (λ (p : Place). p.y) int_cmp_total)) (on_total (λ (p : Place). p.x) int_cmp_total)))
-    (on_total (λ (c : Cell). c.node) nat_cmp_total)
-
-first_cell : (x : LocalRule) (t : Tile) (c d : Cell) → IsFirstFalse x t c → IsFirstFalse x t d → c ≡ d
-first_cell x t c d one other = cases (cell_cmp c d) refl where
-  cases : (o : Ordering) → cell_cmp c d ≡ o → c ≡ d
-  cases Less is = absurd (false≢true (sym one.here ∙ other.before c one.within is))
-  cases Equal is = cells_equal c d is
-  cases Greater is =
-      let back : cell_cmp d c ≡ Less = cells_total.antisymm d c ∙ cc is in
-      absurd (false≢true (sym other.here ∙ one.before d other.within back))
-
--- the cells of the fundamental box are cells of Z^d
-axis_flat : (unused : Bool) (z : ℤ) → (unused ≡ false → z ≡ pos 0) → (unused || int_eq z (pos 0)) ≡ true
-axis_flat true z is = refl
-axis_flat false z is = ap (λ (c : ℤ). int_eq c (pos 0)) (is refl)
-
-base_flat : (z : ℤ) (n : ℕ) → n ≡ 1 → pos (residue z n) ≡ z → z ≡ pos 0
-base_flat z n one is =
-    let below : residue z n < n = residue_below z n (omega (arith, one)) in
-    let none : residue z n ≡ 0 = omega (arith, below, one) in
-    sym is ∙ ap pos none
-
-both : (a b : Bool) → a ≡ true → b ≡ true → (a && b) ≡ true
-both true b here there = there
-both false b here there = here
-
-flat_in_box : (t : Tile) (c : Cell) → IsTile t → IsInBox t c → is_flat t.dimension c.position ≡ true
-flat_in_box t c tile at =
-    both (nat_lt 1 t.dimension || int_eq c.position.y (pos 0)) (nat_lt 2 t.dimension || int_eq c.position.z (pos 0))
-    (axis_flat (nat_lt 1 t.dimension) c.position.y
-    (λ unused. base_flat c.position.y t.periods.y (tile.periods.y_unused (let low = ltb-false 1 t.dimension unused in omega (arith, low))) (ap (λ (p : Place). p.y) at.base)))
-    (axis_flat (nat_lt 2 t.dimension) c.position.z
-    (λ unused. base_flat c.position.z t.periods.z (tile.periods.z_unused (let low = ltb-false 2 t.dimension unused in omega (arith, low))) (ap (λ (p : Place). p.z) at.base)))
-
-module _ (x : LocalRule) (t : Tile) (tile : IsTile t) (dimension : t.dimension ≡ x.dimension) (nodes : t.nodes ≡ x.nodes) where
-  not_both : (c : Cell) → Lives x t → IsFirstFalse x t c → ⊥
-  not_both c lives first =
-      let flat : is_flat x.dimension c.position ≡ true = subst (λ d. is_flat d c.position ≡ true) dimension (flat_in_box t c tile first.within) in
-      let node : c.node < x.nodes = subst (λ n. c.node < n) nodes first.within.node in
-      false≢true (sym first.here ∙ lives c.position c.node flat node)
-
+module _ (x : LocalRule) (t : Tile) (tile : IsTile t) (fits : Fits x t) where
   member_agree : (a b : Answer) → IsMemberCertificate x t a → IsMemberCertificate x t b → SayTheSame a b
   member_agree answer.Inside answer.Inside h k = record { line = λ number. refl; unknown = refl }
-  member_agree answer.Inside (answer.Outside there) h k = absurd (not_both k.0 h k.1)
-  member_agree (answer.Outside here) answer.Inside h k = absurd (not_both h.0 k h.1)
+  member_agree answer.Inside (answer.Outside there) h k = absurd (not_both x t tile fits k.0 k.1 h)
+  member_agree (answer.Outside here) answer.Inside h k = absurd (not_both x t tile fits h.0 h.1 k)
   member_agree (answer.Outside here) (answer.Outside there) h k =
       let same : here ≡ there = h.2 ∙ (ap (written_cell x.dimension) (first_cell x t h.0 k.0 h.1 k.1) ∙ sym k.2) in
       record { line = λ number. ap (λ p. answer_line number (answer.Outside p)) same; unknown = refl }
@@ -315,7 +266,7 @@ HaveOneOutcome = (x : LocalRule) (ws : List ℕ) (radius margin : ℕ) (vs : Lis
 
 module _ (one : AreOneList) (density_one : IsOneDensity) (outcome_one : HaveOneOutcome) (l : Limits) where
   pub right_agree : (k : Asked) (a b : Answer) → IsSoundAsked l k → IsRightTo l k a → IsRightTo l k b → SayTheSame a b
-  right_agree (membership x t) a b ok h k = member_agree x t ok.1 ok.2.dimension ok.2.nodes a b h k
+  right_agree (membership x t) a b ok h k = member_agree x t ok.1 ok.2 a b h k
   right_agree (box x g) a b ok h k = box_agree l x g a b h k
   right_agree (equality x y) a b ok h k = equal_agree l x y a b h k
   right_agree (listing x) a b ok h k = list_agree one x a b h k

@@ -1,4 +1,4 @@
-//! Answers to queries of the least density of a strip.
+//! Answers to questions about the least density of a strip.
 ghost use Rattle.std.specs.Prelude.{◌≡◌, IfOk};
 ghost use Rattle.dd_certificate.specs.Bounds.{IsWritable};
 ghost use Rattle.dd_question.specs.Sound.{IsNarrow};

@@ -1,4 +1,4 @@
-//! Answers to queries of discharging.
+//! Answers to questions about discharging.
 ghost use Rattle.std.specs.Prelude.{◌≡◌, IfOk};
 ghost use Rattle.dd_certificate.specs.Bounds.{IsWritable};
 ghost use Rattle.dd_discharge.specs.Printed.{IsSmallBound};

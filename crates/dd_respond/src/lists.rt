@@ -1,4 +1,4 @@
-//! Answers to queries of forbidden patterns.
+//! Answers to questions about forbidden patterns.
 ghost use Rattle.std.specs.Prelude.{IfOk};
 ghost use Rattle.dd_certificate.specs.Bounds.{IsWritable};
 ghost use Rattle.dd_question.specs.Sound.{HasFewPatterns};

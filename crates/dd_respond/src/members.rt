@@ -1,4 +1,4 @@
-//! Answers to queries of membership.
+//! Answers to questions about membership.
 ghost use Rattle.std.specs.Prelude.{◌≡◌, ◌≤◌, IfOk};
 ghost use Rattle.dd_formula.specs.Living.{Fits};
 ghost use Rattle.dd_certificate.specs.Bounds.{IsWritable};

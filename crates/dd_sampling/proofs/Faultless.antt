@@ -4,14 +4,11 @@ use Rattle.std.specs.Prelude.{nat_lt}
 use Rattle.std.specs.List.{flat_map}
 use Rattle.dd_written.specs.declared.lexeme.Word.{Word}
 use Rattle.dd_written.specs.declared.lexeme.Lexeme.{Lexeme}
-use Rattle.dd_written.specs.declared.tree.Comparand.TheVariants as side
 use Rattle.dd_written.specs.declared.tree.Atom.{Atom}
-use Rattle.dd_written.specs.declared.tree.Atom.TheVariants as atom
 use Rattle.dd_written.specs.declared.tree.Ball.{Ball}
 use Rattle.dd_written.specs.declared.tree.Quantifier.{Quantifier}
 use Rattle.dd_written.specs.declared.tree.Quantifier.TheVariants as quantifier
 use Rattle.dd_written.specs.declared.tree.Join.{Join}
-use Rattle.dd_written.specs.declared.tree.Term.{Term as WrittenTerm}
 use Rattle.dd_written.specs.declared.tree.Formula.{Formula, roll-Formula}
 use Rattle.dd_written.specs.declared.tree.Formula.TheFolds.{fold-roll-Formula}
 use Rattle.dd_written.specs.declared.tree.Formula.TheOpen.{Formula-F}
@@ -25,9 +22,8 @@ use Rattle.dd_faults.specs.Numbers.{token_faults}
 use Rattle.dd_faults.specs.Formulas.{formula_faults, faults_step, atom_faults, quantifier_faults}
 use Rattle.dd_faults.specs.Commands.{written_faults}
 use Rattle.dd_meanings.specs.Formulas.{formula_of, formula_step, atom_of, joined_of, quantified_of, ball_of}
-use Rattle.dd_sampling.proofs.Lexing.{number_at}
 use Rattle.dd_sampling.proofs.Whole.{front_text}
-use Rattle.dd_sampling.proofs.Tree.{word_at, w, here, step, steps, ball, hard, row, dies, zero_rule, dom, hard_text, row_text, dies_text, zero_text, dom_text, rule_written}
+use Rattle.dd_sampling.proofs.Tree.{word_at, w, here, step, steps, told, ball, hard, row, dies, zero_rule, dom, hard_text, row_text, dies_text, zero_text, dom_text, rule_written}
 use Rattle.dd_sampling.proofs.Meant.{implied, negation, conjunction, hard_meant, row_meant, dies_meant, zero_meant, dom_meant}
 use Rattle.dd_sampling.proofs.Sizes.{known}
 
@@ -49,14 +45,11 @@ quantified_faulty x q v bs f scope = ap (λ (g : Faulty). g scope) (fold-roll-Fo
 group_faulty : (x : Context) (f : Formula) (scope : List Word) → formula_faults x (roll-Formula (Formula-F.Group f)) scope ≡ formula_faults x f scope
 group_faulty x f scope = ap (λ (g : Faulty). g scope) (fold-roll-Formula Faulty (faults_step x) (Formula-F.Group f))
 
-list_faulty : (x : Context) (j : Join) (fs : List Formula) (scope : List Word)
-    → formula_faults x (roll-Formula (Formula-F.List j fs)) scope ≡ flat_map (λ (g : Faulty). g scope) (map (formula_faults x) fs)
-list_faulty x j fs scope = ap (λ (g : Faulty). g scope) (fold-roll-Formula Faulty (faults_step x) (Formula-F.List j fs))
+chain_faulty : (x : Context) (j : Join) (fs : List Formula) (scope : List Word)
+    → formula_faults x (roll-Formula (Formula-F.Chain j fs)) scope ≡ flat_map (λ (g : Faulty). g scope) (map (formula_faults x) fs)
+chain_faulty x j fs scope = ap (λ (g : Faulty). g scope) (fold-roll-Formula Faulty (faults_step x) (Formula-F.Chain j fs))
 
-implies_faulty : (x : Context) (f g : Formula) (scope : List Word) → formula_faults x (roll-Formula (Formula-F.Implies f g)) scope ≡ formula_faults x f scope ++ formula_faults x g scope
-implies_faulty x f g scope = ap (λ (h : Faulty). h scope) (fold-roll-Formula Faulty (faults_step x) (Formula-F.Implies f g))
-
-ruleset faulties = (atom_faulty, not_faulty, quantified_faulty, group_faulty, list_faulty, implies_faulty)
+ruleset faulties = (atom_faulty, not_faulty, quantified_faulty, group_faulty, chain_faulty)
 
 abbrev Meaning : Type 0
 Meaning = List Word → Meant
@@ -74,29 +67,23 @@ quantified_meaning x q v bs f scope = ap (λ (g : Meaning). g scope) (fold-roll-
 group_meaning : (x : Context) (f : Formula) (scope : List Word) → formula_of x (roll-Formula (Formula-F.Group f)) scope ≡ formula_of x f scope
 group_meaning x f scope = ap (λ (g : Meaning). g scope) (fold-roll-Formula Meaning (formula_step x) (Formula-F.Group f))
 
-list_meaning : (x : Context) (j : Join) (fs : List Formula) (scope : List Word)
-    → formula_of x (roll-Formula (Formula-F.List j fs)) scope ≡ joined_of j (map (λ (g : Meaning). g scope) (map (formula_of x) fs))
-list_meaning x j fs scope = ap (λ (g : Meaning). g scope) (fold-roll-Formula Meaning (formula_step x) (Formula-F.List j fs))
+chain_meaning : (x : Context) (j : Join) (fs : List Formula) (scope : List Word)
+    → formula_of x (roll-Formula (Formula-F.Chain j fs)) scope ≡ joined_of j (map (λ (g : Meaning). g scope) (map (formula_of x) fs))
+chain_meaning x j fs scope = ap (λ (g : Meaning). g scope) (fold-roll-Formula Meaning (formula_step x) (Formula-F.Chain j fs))
 
-implies_meaning : (x : Context) (f g : Formula) (scope : List Word) → formula_of x (roll-Formula (Formula-F.Implies f g)) scope ≡ implied (formula_of x f scope) (formula_of x g scope)
-implies_meaning x f g scope = ap (λ (h : Meaning). h scope) (fold-roll-Formula Meaning (formula_step x) (Formula-F.Implies f g))
-
-ruleset meanings = (atom_meaning, not_meaning, quantified_meaning, group_meaning, list_meaning, implies_meaning)
+ruleset meanings = (atom_meaning, not_meaning, quantified_meaning, group_meaning, chain_meaning)
 
 -- ---- the rules, atom by atom
 
-abbrev told : WrittenTerm → ℕ → Atom
-told t s = atom.Equal t (side.Number (number_at s 1))
-
 hard_faults : (x : Context) → formula_faults x hard []
-    ≡ atom_faults x [] (told (here 28) 30) ++ (atom_faults x [] (told (step 36 38) 41) ++ (atom_faults x [] (told (step 45 47) 50) ++ []))
+    ≡ atom_faults x [] (told (here 28) 30) ++ ((atom_faults x [] (told (step 36 38) 41) ++ (atom_faults x [] (told (step 45 47) 50) ++ [])) ++ [])
 hard_faults x = simp faulties
 
-row_faults : (x : Context) → formula_faults x row [] ≡ atom_faults x [] (told (here 63) 65) ++ atom_faults x [] (told (step 70 72) 75)
+row_faults : (x : Context) → formula_faults x row [] ≡ atom_faults x [] (told (here 63) 65) ++ (atom_faults x [] (told (step 70 72) 75) ++ [])
 row_faults x = simp faulties
 
 dies_faults : (x : Context) → formula_faults x dies []
-    ≡ (atom_faults x [] (told (here 89) 91) ++ atom_faults x [] (told (step 96 98) 101))
+    ≡ (atom_faults x [] (told (here 89) 91) ++ (atom_faults x [] (told (step 96 98) 101) ++ []))
     ++ ((atom_faults x [] (told (here 108) 110) ++ (atom_faults x [] (told (step 114 116) 119) ++ (atom_faults x [] (told (steps 123 125 128) 131) ++ []))) ++ [])
 dies_faults x = simp faulties
 

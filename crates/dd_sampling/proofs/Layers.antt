@@ -1,5 +1,5 @@
 -- What each kind of written formula is written as, where it may stand, and how deep it is.
-use Rattle.std.proofs.Common.{◌≡◌, ℕ, ◌+◌, ◌≤◌, List, [], ◌∷◌, ◌++◌, length, map, Bool, true, ap, arith, max}
+use Rattle.std.proofs.Common.{◌≡◌, ℕ, ◌+◌, ◌≤◌, List, [], ◌∷◌, ◌++◌, length, map, Bool, true, ap, arith}
 use Rattle.std.specs.Prelude.{◌&&◌, nat_le, ◌-◌}
 use Rattle.std.specs.List.{flat_map, list_all}
 use Rattle.dd_written.specs.declared.lexeme.Word.{Word}
@@ -13,7 +13,7 @@ use Rattle.dd_written.specs.declared.tree.Join.{Join}
 use Rattle.dd_written.specs.declared.tree.Formula.{Formula, roll-Formula}
 use Rattle.dd_written.specs.declared.tree.Formula.TheFolds.{fold-roll-Formula}
 use Rattle.dd_written.specs.declared.tree.Formula.TheOpen.{Formula-F}
-use Rattle.dd_written.specs.Formulas.{text, text_step, stands, stands_step, tree_depth, tree_depth_step, greatest_depth, separated_by, sign, join_rank, capital, ball_text, atom_text, IsWrittenFormula}
+use Rattle.dd_written.specs.Formulas.{text, text_step, stands, stands_step, tree_depth, tree_depth_step, chain_depth, separated_by, sign, join_rank, capital, ball_text, atom_text, IsWrittenFormula}
 use Rattle.dd_sampling.proofs.Tree.{hard, row, dies, zero_rule, dom, hard_text, row_text, dies_text, zero_text, dom_text}
 
 atom_text_is : (a : Atom) → text (roll-Formula (Formula-F.Atom a)) ≡ atom_text a
@@ -29,13 +29,10 @@ quantified_text_is q v bs f = fold-roll-Formula (List Lexeme) text_step (Formula
 group_text_is : (f : Formula) → text (roll-Formula (Formula-F.Group f)) ≡ lexeme.Mark mark.Open ∷ text f ++ lexeme.Mark mark.Close ∷ []
 group_text_is f = fold-roll-Formula (List Lexeme) text_step (Formula-F.Group f)
 
-list_text_is : (j : Join) (fs : List Formula) → text (roll-Formula (Formula-F.List j fs)) ≡ separated_by (sign j) (map text fs)
-list_text_is j fs = fold-roll-Formula (List Lexeme) text_step (Formula-F.List j fs)
+chain_text_is : (j : Join) (fs : List Formula) → text (roll-Formula (Formula-F.Chain j fs)) ≡ separated_by (sign j) (map text fs)
+chain_text_is j fs = fold-roll-Formula (List Lexeme) text_step (Formula-F.Chain j fs)
 
-implies_text_is : (f g : Formula) → text (roll-Formula (Formula-F.Implies f g)) ≡ text f ++ lexeme.Mark mark.Arrow ∷ text g
-implies_text_is f g = fold-roll-Formula (List Lexeme) text_step (Formula-F.Implies f g)
-
-ruleset texts = (atom_text_is, not_text_is, quantified_text_is, group_text_is, list_text_is, implies_text_is)
+ruleset texts = (atom_text_is, not_text_is, quantified_text_is, group_text_is, chain_text_is)
 
 atom_stands : (a : Atom) (p : ℕ) → stands (roll-Formula (Formula-F.Atom a)) p ≡ true
 atom_stands a p = ap (λ (s : ℕ → Bool). s p) (fold-roll-Formula (ℕ → Bool) stands_step (Formula-F.Atom a))
@@ -49,14 +46,11 @@ quantified_stands q v bs f p = ap (λ (s : ℕ → Bool). s p) (fold-roll-Formul
 group_stands : (f : Formula) (p : ℕ) → stands (roll-Formula (Formula-F.Group f)) p ≡ stands f 4
 group_stands f p = ap (λ (s : ℕ → Bool). s p) (fold-roll-Formula (ℕ → Bool) stands_step (Formula-F.Group f))
 
-list_stands : (j : Join) (fs : List Formula) (p : ℕ) → stands (roll-Formula (Formula-F.List j fs)) p
+chain_stands : (j : Join) (fs : List Formula) (p : ℕ) → stands (roll-Formula (Formula-F.Chain j fs)) p
     ≡ (nat_le (join_rank j) p && nat_le 2 (length (map stands fs)) && list_all (λ (s : ℕ → Bool). s (join_rank j - 1)) (map stands fs))
-list_stands j fs p = ap (λ (s : ℕ → Bool). s p) (fold-roll-Formula (ℕ → Bool) stands_step (Formula-F.List j fs))
+chain_stands j fs p = ap (λ (s : ℕ → Bool). s p) (fold-roll-Formula (ℕ → Bool) stands_step (Formula-F.Chain j fs))
 
-implies_stands : (f g : Formula) (p : ℕ) → stands (roll-Formula (Formula-F.Implies f g)) p ≡ (nat_le 3 p && stands f 2 && stands g 3)
-implies_stands f g p = ap (λ (s : ℕ → Bool). s p) (fold-roll-Formula (ℕ → Bool) stands_step (Formula-F.Implies f g))
-
-ruleset places = (atom_stands, not_stands, quantified_stands, group_stands, list_stands, implies_stands)
+ruleset places = (atom_stands, not_stands, quantified_stands, group_stands, chain_stands)
 
 atom_depth : (a : Atom) → tree_depth (roll-Formula (Formula-F.Atom a)) ≡ 0
 atom_depth a = fold-roll-Formula ℕ tree_depth_step (Formula-F.Atom a)
@@ -70,13 +64,10 @@ quantified_depth q v bs f = fold-roll-Formula ℕ tree_depth_step (Formula-F.Qua
 group_depth : (f : Formula) → tree_depth (roll-Formula (Formula-F.Group f)) ≡ 1 + tree_depth f
 group_depth f = fold-roll-Formula ℕ tree_depth_step (Formula-F.Group f)
 
-list_depth : (j : Join) (fs : List Formula) → tree_depth (roll-Formula (Formula-F.List j fs)) ≡ 1 + greatest_depth (map tree_depth fs)
-list_depth j fs = fold-roll-Formula ℕ tree_depth_step (Formula-F.List j fs)
+chain_depth_is : (j : Join) (fs : List Formula) → tree_depth (roll-Formula (Formula-F.Chain j fs)) ≡ chain_depth j (length (map tree_depth fs)) 0 (map tree_depth fs)
+chain_depth_is j fs = fold-roll-Formula ℕ tree_depth_step (Formula-F.Chain j fs)
 
-implies_depth : (f g : Formula) → tree_depth (roll-Formula (Formula-F.Implies f g)) ≡ 1 + max (tree_depth f) (tree_depth g)
-implies_depth f g = fold-roll-Formula ℕ tree_depth_step (Formula-F.Implies f g)
-
-ruleset depths = (atom_depth, not_depth, quantified_depth, group_depth, list_depth, implies_depth)
+ruleset depths = (atom_depth, not_depth, quantified_depth, group_depth, chain_depth_is)
 
 formula : (f : Formula) (d : ℕ) → stands f 4 ≡ true → tree_depth f ≡ d → d ≤ 64 → IsWrittenFormula f
 formula f d grouped deep few = record { grouped = grouped; shallow = omega (arith, deep, few) }

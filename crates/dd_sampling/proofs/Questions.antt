@@ -1,7 +1,7 @@
 -- The questions of a sample are without a fault.
 use Rattle.std.proofs.Common.{◌≡◌, ℕ, List, [], ◌∷◌, ◌++◌, map, Bool, true, false, Option, Some, None, codes, refl, sym, ap, ◌∙◌}
-use Rattle.std.proofs.lemmas.List.{map_push}
-use Rattle.std.specs.Prelude.{nat_lt, not, ◌||◌, is_some, unwrap_or, if◌then◌else◌, bytes_eq}
+use Rattle.std.specs.Fmt.{signed_decimal, digits}
+use Rattle.std.specs.Prelude.{pos, ◌-ℤ◌, nat_lt, not, ◌||◌, is_some, unwrap_or, if◌then◌else◌, bytes_eq}
 use Rattle.std.specs.List.{flat_map, list_any, slice_get}
 use Rattle.std.specs.Option.{option_map, option_and_then}
 use Rattle.dd_topology.specs.Naming.{number_of}
@@ -77,8 +77,10 @@ far_up bytes p ys stands (e ∷ es) =
     ∙ ap (λ (b : Bool). nat_lt 4 (entry_value ys e) || b) (far_up bytes p ys stands es)
 
 entry_key_up : (bytes : List ℕ) (p : ℕ) (ys : List ℕ) → Stands bytes p ys → (e : Entry) → entry_key bytes (up_entry p e) ≡ entry_key ys e
-entry_key_up bytes p ys stands (entry.Number k) = ap (λ (t : List ℕ). t ++ codes ",") (number_up bytes p ys stands k)
-entry_key_up bytes p ys stands (entry.Negative k) = ap (λ (t : List ℕ). t ++ codes ",") (number_up bytes p ys stands k)
+entry_key_up bytes p ys stands (entry.Number k) =
+    ap (λ (t : List ℕ). (if nat_lt 4 (value_from 0 (unsigned t)) then t else signed_decimal (pos (value_from 0 (unsigned t)))) ++ codes ",") (number_up bytes p ys stands k)
+entry_key_up bytes p ys stands (entry.Negative k) =
+    ap (λ (t : List ℕ). (if nat_lt 4 (value_from 0 (unsigned t)) then t else signed_decimal (pos 0 -ℤ pos (value_from 0 (unsigned t)))) ++ codes ",") (number_up bytes p ys stands k)
 
 keys_up : (bytes : List ℕ) (p : ℕ) (ys : List ℕ) → Stands bytes p ys → (es : List Entry) → flat_map (entry_key bytes) (map (up_entry p) es) ≡ flat_map (entry_key ys) es
 keys_up bytes p ys stands [] = refl
@@ -89,22 +91,12 @@ keys_up bytes p ys stands (e ∷ es) =
 key_up : (bytes : List ℕ) (p : ℕ) (ys : List ℕ) → Stands bytes p ys → (v : Vector) → vector_key bytes (up_vector p v) ≡ vector_key ys v
 key_up bytes p ys stands v = keys_up bytes p ys stands v.entries
 
-seen_up : (bytes : List ℕ) (p : ℕ) (ys : List ℕ) → Stands bytes p ys → (x : Vector) (before : List Vector)
-    → list_any (λ y. bytes_eq (vector_key bytes (up_vector p x)) (vector_key bytes y)) (map (up_vector p) before) ≡ list_any (λ y. bytes_eq (vector_key ys x) (vector_key ys y)) before
-seen_up bytes p ys stands x [] = refl
-seen_up bytes p ys stands x (y ∷ before) =
-    ap (λ (t : List ℕ). bytes_eq t (vector_key bytes (up_vector p y)) || list_any (λ y. bytes_eq (vector_key bytes (up_vector p x)) (vector_key bytes y)) (map (up_vector p) before)) (key_up bytes p ys stands x)
-    ∙ (ap (λ (t : List ℕ). bytes_eq (vector_key ys x) t || list_any (λ y. bytes_eq (vector_key bytes (up_vector p x)) (vector_key bytes y)) (map (up_vector p) before)) (key_up bytes p ys stands y)
-    ∙ ap (λ (b : Bool). bytes_eq (vector_key ys x) (vector_key ys y) || b) (seen_up bytes p ys stands x before))
-
-repeats_up : (bytes : List ℕ) (p : ℕ) (ys : List ℕ) → Stands bytes p ys → (before xs : List Vector)
-    → first_repeat (vector_key bytes) twice_vector (map (up_vector p) before) (map (up_vector p) xs) ≡ first_repeat (vector_key ys) twice_vector before xs
-repeats_up bytes p ys stands before [] = refl
-repeats_up bytes p ys stands before (x ∷ xs) =
-    let rest : List Vector → List Fault = λ (b : List Vector). first_repeat (vector_key bytes) twice_vector b (map (up_vector p) xs) in
-    ap (λ (b : Bool). if b then fault.TwiceVector ∷ [] else rest (map (up_vector p) before ++ up_vector p x ∷ [])) (seen_up bytes p ys stands x before)
-    ∙ ap (λ (fs : List Fault). if list_any (λ y. bytes_eq (vector_key ys x) (vector_key ys y)) before then fault.TwiceVector ∷ [] else fs)
-    (ap rest (sym (map_push (up_vector p) before x)) ∙ repeats_up bytes p ys stands (before ++ x ∷ []) xs)
+repeats_up : (bytes : List ℕ) (p : ℕ) (ys : List ℕ) → Stands bytes p ys → (seen : List (List ℕ)) (xs : List Vector)
+    → first_repeat (vector_key bytes) twice_vector seen (map (up_vector p) xs) ≡ first_repeat (vector_key ys) twice_vector seen xs
+repeats_up bytes p ys stands seen [] = refl
+repeats_up bytes p ys stands seen (x ∷ xs) =
+    ap (λ (k : List ℕ). if list_any (bytes_eq k) seen then fault.TwiceVector ∷ [] else first_repeat (vector_key bytes) twice_vector (seen ++ k ∷ []) (map (up_vector p) xs)) (key_up bytes p ys stands x)
+    ∙ ap (λ (fs : List Fault). if list_any (bytes_eq (vector_key ys x)) seen then fault.TwiceVector ∷ [] else fs) (repeats_up bytes p ys stands (seen ++ vector_key ys x ∷ []) xs)
 
 -- ---- words
 
@@ -164,6 +156,7 @@ density_faultless bytes p stands =
 
 -- the tokens, the word, the numbers and the vectors of the last question
 pub discharge_faultless : (bytes : List ℕ) (p : ℕ) → Stands bytes p tail_text → written_faults (asked_in bytes 14) (question_written p discharge_dom) ≡ []
+unfolding digits
 discharge_faultless bytes p stands =
     let x : Context = asked_in bytes 14 in
     let r : Request = discharge_dom.1 in

@@ -8,7 +8,8 @@ use Rattle.dd_written.specs.declared.lexeme.Mark.TheVariants as mark
 use Rattle.dd_written.specs.declared.tree.Name.TheVariants as name
 use Rattle.dd_written.specs.declared.tree.Term.{Term}
 use Rattle.dd_written.specs.declared.tree.Comparand.TheVariants as side
-use Rattle.dd_written.specs.declared.tree.Atom.TheVariants as atom
+use Rattle.dd_written.specs.declared.tree.Relation.TheVariants as relation
+use Rattle.dd_written.specs.declared.tree.Atom.{Atom}
 use Rattle.dd_written.specs.declared.tree.Ball.{Ball}
 use Rattle.dd_written.specs.declared.tree.Quantifier.TheVariants as quantifier
 use Rattle.dd_written.specs.declared.tree.Join.TheVariants as join
@@ -48,17 +49,20 @@ step s m = record { first = word_at s 1; moves = word_at m 2 ∷ [] }
 abbrev pub steps : ℕ → ℕ → ℕ → Term
 steps s m k = record { first = word_at s 1; moves = word_at m 2 ∷ word_at k 2 ∷ [] }
 
+abbrev pub told : Term → ℕ → Atom
+told t s = record { term = t; relation = relation.Equal (side.Number (number_at s 1)) }
+
 abbrev pub is : Term → ℕ → Formula
-is t s = roll-Formula (Formula-F.Atom (atom.Equal t (side.Number (number_at s 1))))
+is t s = roll-Formula (Formula-F.Atom (told t s))
 
 abbrev pub both : List Formula → Formula
-both fs = roll-Formula (Formula-F.List join.And fs)
+both fs = roll-Formula (Formula-F.Chain join.And fs)
 
 abbrev pub group : Formula → Formula
 group f = roll-Formula (Formula-F.Group f)
 
 abbrev pub then : Formula → Formula → Formula
-then f g = roll-Formula (Formula-F.Implies f g)
+then f g = roll-Formula (Formula-F.Chain join.Implies (f ∷ g ∷ []))
 
 abbrev pub ball : ℕ → ℕ → Ball
 ball s r = record { centre = word_at s 1; radius = number_at r 1 }

@@ -1,9 +1,11 @@
 -- The tokens of a sample.
 use Rattle.std.proofs.Common.{◌≡◌, ℕ, zero, suc, ◌+◌, ◌*◌, ◌≤◌, List, [], ◌∷◌, ◌++◌, length, map, take, drop, true, codes, refl, sym, ap, ◌∙◌, arith, append_assoc, length-append, append-nil, subst}
 use Rattle.std.proofs.lemmas.List.{map-append}
-use Rattle.std.specs.Prelude.{◌==◌, if◌then◌else◌, Bool}
-use Rattle.std.proofs.lemmas.Bool.{eq-eqb}
-use Rattle.std.specs.List.{repeat}
+use Rattle.std.specs.Prelude.{◌==◌, ◌&&◌, if◌then◌else◌, Bool}
+use Rattle.std.specs.Char.{is_ascii}
+use Rattle.std.specs.List.{repeat, list_all}
+use Rattle.std.proofs.lemmas.Bool.{eq-eqb, lt-ltb, and_from}
+use Rattle.std.proofs.lemmas.List.Folds.{list_all-append}
 use Rattle.dd_tokens.specs.declared.token.Token.{Token}
 use Rattle.dd_tokens.specs.declared.token.Tokens.{Tokens}
 use Rattle.dd_tokens.specs.Format.{tokens_after, tokens_of, with_front}
@@ -154,10 +156,29 @@ whole_length d ds n =
     let last : length tail_text ≡ 152 = refl in
     length-append (upper d ds n) tail_text ∙ omega (arith, upper_length d ds n, last)
 
+-- ---- its bytes are ASCII
+
+ascii_digits : (ds : List ℕ) → AreDigits ds → list_all is_ascii ds ≡ true
+ascii_digits [] digits = refl
+ascii_digits (d ∷ ds) digits = and_from _ _ (lt-ltb d 128 (omega (arith, digits.1))) (ascii_digits ds digits.2)
+
+ascii_turns : (n : ℕ) → list_all is_ascii (repeat n turn) ≡ true
+ascii_turns zero = refl
+ascii_turns (suc n) = list_all-append is_ascii turn (repeat n turn) ∙ ascii_turns n
+
+ascii_all : (d : ℕ) (ds : List ℕ) (n : ℕ) → d ≤ 57 → AreDigits ds → list_all is_ascii (whole d ds n) ≡ true
+ascii_all d ds n high digits =
+    ap (list_all is_ascii) (regrouped d ds n)
+    ∙ (list_all-append is_ascii front_text (from_digits d ds n)
+    ∙ and_from (is_ascii d) _ (lt-ltb d 128 (omega (arith, high)))
+    (list_all-append is_ascii ds (93 ∷ (repeat n turn ++ tail_text))
+    ∙ and_from _ _ (ascii_digits ds digits) (list_all-append is_ascii (repeat n turn) tail_text ∙ and_from _ _ (ascii_turns n) refl)))
+
 no_stray : (d : ℕ) (ds : List ℕ) (n : ℕ) → 49 ≤ d → d ≤ 57 → AreDigits ds → stray (whole d ds n) ≡ []
 no_stray d ds n low high digits =
     let stop : (tokens_of (whole d ds n)).stop ≡ tail_at ds n + 152 = ap (λ (ts : Tokens). ts.stop) (cut d ds n low high digits) in
-    let same : ((tokens_of (whole d ds n)).stop == length (whole d ds n)) ≡ true = eq-eqb _ _ (stop ∙ sym (whole_length d ds n)) in
+    let same : ((tokens_of (whole d ds n)).stop == length (whole d ds n) && list_all is_ascii (whole d ds n)) ≡ true =
+    and_from _ _ (eq-eqb _ _ (stop ∙ sym (whole_length d ds n))) (ascii_all d ds n high digits) in
     ap (λ (b : Bool). if b then [] else lexeme.Stray ∷ []) same
 
 pub lexed : (d : ℕ) (ds : List ℕ) (n : ℕ) → 49 ≤ d → d ≤ 57 → AreDigits ds → lexemes_of (whole d ds n) ≡ all_lexemes ds n

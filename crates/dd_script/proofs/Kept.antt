@@ -1,189 +1,133 @@
--- What every script keeps, where more is defined and asked.
-use Rattle.std.proofs.Common.{◌≡◌, ℕ, ◌<◌, ◌≤◌, List, [], ◌∷◌, ◌++◌, None, length, refl, ap, ◌∙◌, arith}
-use Rattle.std.specs.List.{All, slice_get}
-use Rattle.std.specs.Option.{option_and_then}
-use Rattle.std.proofs.lemmas.List.{length-append}
-use Rattle.std.proofs.lemmas.List.Elements.{All-weaker}
-use Rattle.dd_formula.specs.LocalRule.{LocalRule, IsRule}
-use Rattle.dd_formula.specs.Automata.{IsAutomaton}
-use Rattle.dd_formula.specs.declared.automaton.Automaton.{Automaton}
-use Rattle.dd_pattern.specs.Tile.{Tile}
-use Rattle.dd_faults.specs.declared.context.Known.{Known}
-use Rattle.dd_faults.specs.Sound.{IsSound}
-use Rattle.dd_query.specs.declared.queries.Query.{Query}
-use Rattle.dd_query.specs.declared.queries.Query.TheVariants as query
-use Rattle.dd_query.specs.Sound.{IsQueryWithin}
-use Rattle.dd_meanings.specs.Made.{IsRuleOf, script_numbers}
-use Rattle.dd_meanings.specs.Sound.{IsConfigurationOf}
-use Rattle.dd_question.specs.Excesses.{excess_of}
-use Rattle.dd_script.specs.Parts.{Parts}
-use Rattle.dd_script.specs.Questions.{asked, query_excess}
-use Rattle.dd_script.specs.Kept.{IsQueryOf, IsScriptOf}
-use Rattle.dd_script.proofs.Extending.{Extends, extends_more, extends_itself, one_longer, all_more}
+-- What every script keeps, behind each command.
+use Rattle.std.proofs.Common.{◌≡◌, ℕ, ◌≤◌, List, [], length, replicate, Bool, true, false, Option, Some, None, refl, sym, subst, ◌∙◌, arith}
+use Rattle.std.specs.Prelude.{if◌then◌else◌}
+use Rattle.std.specs.List.{All, range_with_len}
+use Rattle.std.specs.Option.{option_map}
+use Rattle.std.proofs.lemmas.List.Elements.{All-nil}
+use Rattle.std.proofs.lemmas.List.{length-set, length-replicate}
+use Rattle.std.proofs.lemmas.List.FromFn.{length-range_with_len, get_or-range_with_len}
+use Rattle.dd_values.specs.declared.limits.Limits.{Limits}
+use Rattle.dd_values.specs.Ranges.{AreLimits}
+use Rattle.dd_topology.specs.Grid.{Grid}
+use Rattle.dd_topology.specs.Builtin.{grid_of}
+use Rattle.dd_topology.specs.Sets.{IsSets, symbol_row}
+use Rattle.dd_commands.specs.declared.command.Command.{Command}
+use Rattle.dd_commands.specs.declared.command.Command.TheVariants as command
+use Rattle.dd_commands.specs.Heads.{head_of, stage}
+use Rattle.dd_faults.specs.declared.fault.Fault.TheVariants as fault
+use Rattle.dd_faults.specs.declared.context.Setting.{Setting}
+use Rattle.dd_faults.specs.Sound.{IsSetting, AreWeights}
+use Rattle.dd_meanings.specs.declared.meaning.Meaning.TheVariants as meant
+use Rattle.dd_meanings.specs.Meanings.{meaning}
+use Rattle.dd_meanings.specs.Topologies.{kind_names}
+use Rattle.dd_meanings.specs.Sound.{IsSoundMeaning}
+use Rattle.dd_script.specs.declared.draft.Draft.{Draft}
+use Rattle.dd_script.specs.Parts.{Parts, Known}
+use Rattle.dd_script.specs.Kept.{IsQueryOf, AreNamed, IsScriptOf, IsAutomaton, IsRuleOf, script_numbers, IsConfigurationOf, query_excess}
+use Rattle.dd_script.specs.Walk.{with, limit_of, asked_fault, word_text, Meaning}
+use Rattle.dd_script.specs.drafting.Standing.{IsFresh, IsReady}
+use Rattle.dd_script.specs.drafting.Drafts.{parts_of}
+use Rattle.dd_script.proofs.Growing.{stay, one_more, more_defined, more_asked}
 
--- the same with other names
-abbrev pub with_names : Known → List (List ℕ) → List (List ℕ) → List (List ℕ) → Known
-with_names k R A C = record k { rules = R; automata = A; configurations = C }
+-- the numbers below a number are light, as weights
+light_range : (n : ℕ) → n ≤ 1001 → All (λ w. w ≤ 1000) (range_with_len 0 n)
+light_range n le = λ i d lt. omega (arith, le, length-range_with_len 0 n, get_or-range_with_len 0 n i d)
 
-sound_names : (k : Known) (R A C : List (List ℕ)) → IsSound k → IsSound (with_names k R A C)
-sound_names k R A C s = record {
-  grid = s.grid;
-  nodes = s.nodes;
-  few_nodes = s.few_nodes;
-  symbols = s.symbols;
-  sets = s.sets;
-  alphabet = s.alphabet;
-  weights = s.weights;
-  light = s.light;
-  radius = s.radius;
-  period = s.period;
-  pivots = s.pivots;
-}
+unmapped : {X Y : Type 0} (f : X → Y) (o : Option X) → option_map f o ≡ None → o ≡ None
+unmapped f None e = refl
+unmapped f (Some x) e = absurd cc
 
-rule_kept : (k : Known) (R A C : List (List ℕ)) (r : LocalRule) → IsRuleOf k r → IsRuleOf (with_names k R A C) r
-rule_kept k R A C r is = record { has = is.has; edges = is.edges; allowed = is.allowed }
+abbrev pub HasSets : Known → Type 0
+HasSets k = IsSets (length k.setting.sets.allowed) k.setting.sets
 
-configuration_kept : (k : Known) (R A C : List (List ℕ)) (t : Tile) → IsConfigurationOf k t → IsConfigurationOf (with_names k R A C) t
-configuration_kept k R A C t is = record { tile = is.tile; dimension = is.dimension; nodes = is.nodes; symbols = is.symbols; allowed = is.allowed }
+-- where there are no items, they have any property
+of_none : {X : Type 0} (P Q : X → Type 0) (names : List (List ℕ)) (xs : List X) → AreNamed P names xs → xs ≡ [] → AreNamed Q names xs
+of_none P Q names xs are none = record { named = are.named; each = subst (All Q) (sym none) (All-nil Q) }
 
-within_kept : (k : Known) (R A C : List (List ℕ)) (q : Query) → length k.rules ≤ length R → length k.automata ≤ length A → length k.configurations ≤ length C → IsQueryWithin k q → IsQueryWithin (with_names k R A C) q
-within_kept k R A C (query.Member configuration rule) r a c has = (omega (arith, c, has.0), omega (arith, r, has.1))
-within_kept k R A C (query.Contains outer inner) r a c has = (omega (arith, r, has.0), omega (arith, r, has.1))
-within_kept k R A C (query.Equal left right) r a c has = (omega (arith, r, has.0), omega (arith, r, has.1))
-within_kept k R A C (query.Empty rule) r a c has = omega (arith, r, has)
-within_kept k R A C (query.Agree left right rule) r a c has = (omega (arith, a, has.0), omega (arith, a, has.1), omega (arith, r, has.2))
-within_kept k R A C (query.Forbidden rule) r a c has = omega (arith, r, has)
-within_kept k R A C (query.Density rule strip) r a c has = (omega (arith, r, has.0), has.1)
-within_kept k R A C (query.Discharge rule radius margin vectors) r a c has = (omega (arith, r, has.0), has.1, has.2, has.3)
+-- what is left behind a command of this place is a script, in which the header has defined nothing
+abbrev Behind : ℕ → Parts → Type 0
+Behind place s = IsScriptOf s × IsReady place s
 
--- more names, and what stands for each
-module _ (s : Parts) (is : IsScriptOf s) (R A C : List (List ℕ)) (rs : List LocalRule) (fs : List Automaton) (ts : List Tile) (qs : List Query)
-    (more_rules : Extends s.rules rs) (more_automata : Extends s.automata fs) (more_configurations : Extends s.configurations ts) where
-  abbrev grown : Parts
-  grown = record { known = with_names s.known R A C; rules = rs; automata = fs; configurations = ts; queries = qs }
+-- where nothing is defined, all that is known may change, but the names
+changed : (s : Parts) → IsScriptOf s → IsFresh s → (place : ℕ) {S : Setting} {given : Bool} {only ws : List ℕ} {l : Limits} → IsSetting S → AreWeights (length S.symbols) ws → AreLimits l
+    → Behind place (record s { known = record (s.known) { setting = S; nodes_are_given = given; restricted = only; weights = ws; limits = l } })
+changed s is fresh place {S = S} {given = given} {only = only} {ws = ws} {l = l} setting weights limits =
+    let k : Known = record (s.known) { setting = S; nodes_are_given = given; restricted = only; weights = ws; limits = l } in (
+      record {
+        known = record { setting = setting; weights = weights; limits = limits };
+        rules = of_none (IsRuleOf s.known.setting) (IsRuleOf S) s.known.rules s.rules is.rules fresh.0;
+        automata = of_none (IsAutomaton (script_numbers s.known)) (IsAutomaton (script_numbers k)) s.known.automata s.automata is.automata fresh.1;
+        configurations = of_none (IsConfigurationOf s.known.setting) (IsConfigurationOf S) s.known.configurations s.configurations is.configurations fresh.2;
+        queries = subst (All (IsQueryOf (record s { known = k }))) (sym fresh.3) (All-nil (IsQueryOf (record s { known = k })));
+      },
+      λ header. fresh,
+    )
 
-  rule_same : (n : ℕ) → n < length s.known.rules → slice_get rs n ≡ slice_get s.rules n
-  rule_same n lt = more_rules.same n (omega (arith, lt, is.made.rules_named))
+-- past the header, anything may be defined
+past : (place : ℕ) {s : Parts} → 7 ≤ place → IsScriptOf s → Behind place s
+past place le is = (is, λ header. absurd (omega (arith, le, header)))
 
-  automaton_same : (n : ℕ) → n < length s.known.automata → slice_get fs n ≡ slice_get s.automata n
-  automaton_same n lt = more_automata.same n (omega (arith, lt, is.made.automata_named))
+module _ (d : Draft) (is : IsScriptOf (parts_of d)) where
+  abbrev s : Parts
+  s = parts_of d
 
-  configuration_same : (n : ℕ) → n < length s.known.configurations → slice_get ts n ≡ slice_get s.configurations n
-  configuration_same n lt = more_configurations.same n (omega (arith, lt, is.configurations_named))
+  abbrev KeptBy : ℕ → Meaning → Type 0
+  KeptBy place m = IsReady place s → IsSoundMeaning d.context m → asked_fault s m ≡ None → HasSets (with d.context.text s m).known → Behind place (with d.context.text s m)
 
-  asked_same : (q : Query) → IsQueryWithin s.known q → asked grown q ≡ asked s q
-  asked_same (query.Member configuration rule) has = rw (rule_same rule has.1, configuration_same configuration has.0) refl
-  asked_same (query.Contains outer inner) has = rw (rule_same inner has.1, rule_same outer has.0) refl
-  asked_same (query.Equal left right) has = rw (rule_same left has.0, rule_same right has.1) refl
-  asked_same (query.Empty rule) has = rw (rule_same rule has) refl
-  asked_same (query.Agree left right rule) has = rw (rule_same rule has.2, automaton_same left has.0, automaton_same right has.1) refl
-  asked_same (query.Forbidden rule) has = rw (rule_same rule has) refl
-  asked_same (query.Density rule strip) has = rw (rule_same rule has.0) refl
-  asked_same (query.Discharge rule radius margin vectors) has = rw (rule_same rule has.0) refl
+  by_topology : (place : ℕ) → place ≤ 6 → (g : Grid) → KeptBy place (meant.Topology g)
+  by_topology place header g ready sound light has =
+      let k = is.known.setting in
+      changed s is (ready header) place (record { topology = sound; nodes = k.nodes; symbols = k.symbols; sets = k.sets; alphabet = k.alphabet }) is.known.weights is.known.limits
 
-  module _ (r : length s.known.rules ≤ length R) (a : length s.known.automata ≤ length A) (c : length s.known.configurations ≤ length C) where
-    query_kept : (q : Query) → IsQueryOf s q → IsQueryOf grown q
-    query_kept q of = record {
-      within = within_kept s.known R A C q r a c of.within;
-      light = ap (option_and_then (excess_of s.known.limits)) (asked_same q of.within) ∙ of.light;
-    }
+  by_nodes : (place : ℕ) → place ≤ 6 → (nodes : List (List ℕ)) (given : Bool) (g : Grid) → KeptBy place (meant.Nodes nodes given g)
+  by_nodes place header nodes given g ready sound light has =
+      let k = is.known.setting in
+      changed s is (ready header) place
+      (record {
+        topology = sound.1;
+        nodes = (sound.0.some, sound.0.few);
+        symbols = k.symbols;
+        sets = record { symbols = has.symbols; nodes = length-replicate (length nodes) (replicate (length s.known.setting.symbols) true); rows = has.rows };
+        alphabet = refl;
+      })
+      is.known.weights is.known.limits
 
-    queries_kept : All (IsQueryOf grown) s.queries
-    queries_kept = All-weaker (IsQueryOf s) (IsQueryOf grown) query_kept s.queries is.queries
-
-rules_kept : (s : Parts) (R A C : List (List ℕ)) → All (IsRuleOf s.known) s.rules → All (IsRuleOf (with_names s.known R A C)) s.rules
-rules_kept s R A C all = All-weaker (IsRuleOf s.known) (IsRuleOf (with_names s.known R A C)) (rule_kept s.known R A C) s.rules all
-
-configurations_kept : (s : Parts) (R A C : List (List ℕ)) → All (IsConfigurationOf s.known) s.configurations → All (IsConfigurationOf (with_names s.known R A C)) s.configurations
-configurations_kept s R A C all = All-weaker (IsConfigurationOf s.known) (IsConfigurationOf (with_names s.known R A C)) (configuration_kept s.known R A C) s.configurations all
-
-longer : {X : Type 0} (xs : List X) (x : X) → length xs ≤ length (xs ++ x ∷ [])
-longer xs x = omega (arith, length-append xs (x ∷ []))
-
-itself : {X : Type 0} (xs : List X) → length xs ≤ length xs
-itself xs = omega arith
-
-pub rule_more : (s : Parts) (text : List ℕ) (r : LocalRule) → IsScriptOf s → IsRule r → IsRuleOf s.known r
-    → IsScriptOf (record s { known = record (s.known) { rules = s.known.rules ++ text ∷ [] }; rules = s.rules ++ r ∷ [] })
-rule_more s text r is rule of =
-    let R : List (List ℕ) = s.known.rules ++ text ∷ [] in
-    let A : List (List ℕ) = s.known.automata in
-    let C : List (List ℕ) = s.known.configurations in
-    record {
-      known = sound_names s.known R A C is.known;
-      made = record {
-        rules_named = one_longer s.rules s.known.rules r text is.made.rules_named;
-        automata_named = is.made.automata_named;
-        rules_have = all_more (IsRuleOf (with_names s.known R A C)) s.rules r (rules_kept s R A C is.made.rules_have) (rule_kept s.known R A C r of);
-        automata_have = is.made.automata_have;
-      };
-      rules = all_more IsRule s.rules r is.rules rule;
-      configurations_named = is.configurations_named;
-      configurations = configurations_kept s R A C is.configurations;
-      queries =
-          queries_kept s is R A C (s.rules ++ r ∷ []) s.automata s.configurations s.queries
-          (extends_more s.rules (r ∷ [])) (extends_itself s.automata) (extends_itself s.configurations) (longer s.known.rules text) (itself A) (itself C);
-    }
-
-pub automaton_more : (s : Parts) (text : List ℕ) (f : Automaton) → IsScriptOf s → IsAutomaton (script_numbers s.known) f
-    → IsScriptOf (record s { known = record (s.known) { automata = s.known.automata ++ text ∷ [] }; automata = s.automata ++ f ∷ [] })
-automaton_more s text f is automaton =
-    let R : List (List ℕ) = s.known.rules in
-    let A : List (List ℕ) = s.known.automata ++ text ∷ [] in
-    let C : List (List ℕ) = s.known.configurations in
-    record {
-      known = sound_names s.known R A C is.known;
-      made = record {
-        rules_named = is.made.rules_named;
-        automata_named = one_longer s.automata s.known.automata f text is.made.automata_named;
-        rules_have = rules_kept s R A C is.made.rules_have;
-        automata_have = all_more (IsAutomaton (script_numbers s.known)) s.automata f is.made.automata_have automaton;
-      };
-      rules = is.rules;
-      configurations_named = is.configurations_named;
-      configurations = configurations_kept s R A C is.configurations;
-      queries =
-          queries_kept s is R A C s.rules (s.automata ++ f ∷ []) s.configurations s.queries
-          (extends_itself s.rules) (extends_more s.automata (f ∷ [])) (extends_itself s.configurations) (itself R) (longer s.known.automata text) (itself C);
-    }
-
-pub configuration_more : (s : Parts) (text : List ℕ) (t : Tile) → IsScriptOf s → IsConfigurationOf s.known t
-    → IsScriptOf (record s { known = record (s.known) { configurations = s.known.configurations ++ text ∷ [] }; configurations = s.configurations ++ t ∷ [] })
-configuration_more s text t is configuration =
-    let R : List (List ℕ) = s.known.rules in
-    let A : List (List ℕ) = s.known.automata in
-    let C : List (List ℕ) = s.known.configurations ++ text ∷ [] in
-    record {
-      known = sound_names s.known R A C is.known;
-      made = record {
-        rules_named = is.made.rules_named;
-        automata_named = is.made.automata_named;
-        rules_have = rules_kept s R A C is.made.rules_have;
-        automata_have = is.made.automata_have;
-      };
-      rules = is.rules;
-      configurations_named = one_longer s.configurations s.known.configurations t text is.configurations_named;
-      configurations = all_more (IsConfigurationOf (with_names s.known R A C)) s.configurations t (configurations_kept s R A C is.configurations) (configuration_kept s.known R A C t configuration);
-      queries =
-          queries_kept s is R A C s.rules s.automata (s.configurations ++ t ∷ []) s.queries
-          (extends_itself s.rules) (extends_itself s.automata) (extends_more s.configurations (t ∷ [])) (itself R) (itself A) (longer s.known.configurations text);
-    }
-
-pub query_more : (s : Parts) (q : Query) → IsScriptOf s → IsQueryWithin s.known q → query_excess s q ≡ None → IsScriptOf (record s { queries = s.queries ++ q ∷ [] })
-query_more s q is within light =
-    let R : List (List ℕ) = s.known.rules in
-    let A : List (List ℕ) = s.known.automata in
-    let C : List (List ℕ) = s.known.configurations in
-    let same : (p : Query) → IsQueryOf s p → IsQueryOf (record s { queries = s.queries ++ q ∷ [] }) p =
-    query_kept s is R A C s.rules s.automata s.configurations (s.queries ++ q ∷ [])
-    (extends_itself s.rules) (extends_itself s.automata) (extends_itself s.configurations) (itself R) (itself A) (itself C) in
-    record {
-      known = is.known;
-      made = is.made;
-      rules = is.rules;
-      configurations_named = is.configurations_named;
-      configurations = is.configurations;
-      queries =
-          all_more (IsQueryOf (record s { queries = s.queries ++ q ∷ [] })) s.queries q (All-weaker (IsQueryOf s) (IsQueryOf (record s { queries = s.queries ++ q ∷ [] })) same s.queries is.queries)
-          (same q (record { within = within; light = light }));
-    }
+  pub kept_behind : (c : Command) → KeptBy (stage (head_of c)) (meaning d.context d.made.automata c)
+  kept_behind (command.Dimension n) = by_topology 0 (omega arith) _
+  kept_behind (command.Nodes names) = by_nodes 1 (omega arith) _ true _
+  kept_behind (command.Alphabet names) = λ ready sound light has.
+      let k = is.known.setting in
+      changed s is (ready (omega arith)) 2
+      (record {
+        topology = k.topology;
+        nodes = k.nodes;
+        symbols = (sound.some, sound.few);
+        sets = record { symbols = has.symbols; nodes = length-replicate (length s.known.setting.nodes) _; rows = has.rows };
+        alphabet = refl;
+      })
+      (record { each = length-range_with_len 0 _; light = light_range _ (omega (arith, sound.few)) }) is.known.limits
+  kept_behind (command.Topology t) =
+      (elim (d.context.known.nodes_are_given) as (λ b. KeptBy 3 (if b then meant.Topology (grid_of t) else meant.Nodes (kind_names t) false (grid_of t))) [
+        | true ↦ by_topology 3 (omega arith) (grid_of t)
+        | false ↦ by_nodes 3 (omega arith) (kind_names t) false (grid_of t)
+      ])
+  kept_behind (command.Edges es) = by_topology 3 (omega arith) _
+  kept_behind (command.Only node symbols) = λ ready sound light has.
+      let k = is.known.setting in
+      changed s is (ready (omega arith)) 4
+      (record {
+        topology = k.topology;
+        nodes = k.nodes;
+        symbols = k.symbols;
+        sets = record { symbols = has.symbols; nodes = length-set s.known.setting.sets.allowed _ (symbol_row s.known.setting.sets.symbols _) ∙ k.sets.nodes; rows = has.rows };
+        alphabet = k.alphabet;
+      })
+      is.known.weights is.known.limits
+  kept_behind (command.Weights ns) = λ ready sound light has. changed s is (ready (omega arith)) 5 is.known.setting sound is.known.limits
+  kept_behind (command.Limits radius period pivots) = λ ready sound light has. changed s is (ready (omega arith)) 6 is.known.setting is.known.weights sound
+  kept_behind (command.Rule name f) = λ ready sound light has. past 7 (omega arith) (more_defined s is (one_more (word_text d.context.text name) _ is.rules sound.1) (stay is.automata) (stay is.configurations))
+  kept_behind (command.Automaton name cases symbol) = λ ready sound light has. past 7 (omega arith) (more_defined s is (stay is.rules) (one_more (word_text d.context.text name) _ is.automata sound.1) (stay is.configurations))
+  kept_behind (command.Composition name outer inner) = λ ready sound light has. past 7 (omega arith) (more_defined s is (stay is.rules) (one_more (word_text d.context.text name) _ is.automata sound.1) (stay is.configurations))
+  kept_behind (command.Configuration name periods shear symbols) = λ ready sound light has. past 7 (omega arith) (more_defined s is (stay is.rules) (stay is.automata) (one_more (word_text d.context.text name) _ is.configurations sound.1))
+  kept_behind (command.Query r) = λ ready sound light has.
+      past 7 (omega arith) (more_asked s is (stay is.rules) (stay is.automata) (stay is.configurations) _ sound (unmapped (λ e. fault.Size (limit_of e)) (query_excess s _) light))

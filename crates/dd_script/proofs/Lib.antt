@@ -1,12 +1,6 @@
-pub mod Ranges
-pub mod Extending
+pub mod Growing
 pub mod Kept
-pub mod Header
-pub mod Firsts
-pub mod Places
-pub mod Stepping
-pub mod Sofar
-pub mod Telling
+pub mod Walking
 pub mod OneOfBoth
 pub mod ScriptLaws
 pub mod Measures

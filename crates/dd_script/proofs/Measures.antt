@@ -1,9 +1,8 @@
 -- The strips, weights and vectors of a script's queries are those that densities and discharging ask for.
-use Rattle.std.proofs.Common.{◌≡◌, ℕ, zero, suc, ◌≤◌, Bool, true, false, List, length, refl, ap, subst, arith}
+use Rattle.std.proofs.Common.{◌≡◌, ℕ, zero, suc, ◌≤◌, Bool, true, false, List, refl, ap, sym, subst, ◌∙◌, arith}
 use lib.IntN.{ℤ, pos, negsuc}
 use Rattle.std.specs.Prelude.{◌||◌, ◌&&◌, nat_lt, nat_le, cond, unsigned_abs}
 use Rattle.std.specs.Bool.{Decides}
-use Rattle.std.specs.List.{All}
 use Rattle.std.specs.Ordering.{int_eq, is_eq}
 use Rattle.std.specs.declared.cmp.Ordering.{Ordering}
 use Rattle.std.specs.declared.cmp.Ordering.TheVariants.{Less, Equal, Greater}
@@ -18,32 +17,26 @@ use Rattle.dd_lattice.specs.lemmas.InOrderLaws.{place_total, places_equal}
 use Rattle.dd_topology.specs.Grid.{edge_reach, is_offset}
 use Rattle.dd_formula.specs.LocalRule.{LocalRule}
 use Rattle.dd_transfer.specs.Transfers.{IsStrip, HasWeights}
+use Rattle.dd_faults.specs.Sound.{AreWeights}
 use Rattle.dd_boxes.specs.Discharges.{IsVector, AreVectors, AreWeightsFor}
 use Rattle.dd_query.specs.Sound.{AreStripPeriods as IsStripIn, AreQueryVectors as AreVectorsIn}
 
--- ---- strips
+module _ (x : LocalRule) (n d : ℕ) (symbols : x.symbols ≡ n) (dimension : x.dimension ≡ d) where
+  pub strip_of : (strip : List ℕ) → IsStripIn d strip → IsStrip x strip
+  strip_of strip h = record {
+    y_some = h.second.0;
+    z_some = h.third.0;
+    y_most = h.second.1;
+    z_most = h.third.1;
+    y_unused = λ low. h.no_second (omega (arith, low, dimension));
+    z_unused = λ low. h.no_third (omega (arith, low, dimension));
+  }
 
-pub strip_of : (x : LocalRule) (d : ℕ) (strip : List ℕ) → x.dimension ≡ d → IsStripIn d strip → IsStrip x strip
-strip_of x d strip same h = record {
-  y_some = h.second.0;
-  z_some = h.third.0;
-  y_most = h.second.1;
-  z_most = h.third.1;
-  y_unused = λ low. h.no_second (omega (arith, low, same));
-  z_unused = λ low. h.no_third (omega (arith, low, same));
-}
+  pub has_weights : (ws : List ℕ) → AreWeights n ws → HasWeights x ws
+  has_weights ws are = record { each = are.each ∙ sym symbols; small = are.light }
 
--- ---- weights
-
-module _ (x : LocalRule) (ws : List ℕ) (n : ℕ) (each : length ws ≡ n) (same : x.symbols ≡ n) (light : All (λ w. w ≤ 1000) ws) where
-  as_many : length ws ≡ x.symbols
-  as_many = omega (arith, each, same)
-
-  pub has_weights : HasWeights x ws
-  has_weights = record { each = as_many; small = light }
-
-  pub weights_for : AreWeightsFor x ws
-  weights_for = record { as_many = as_many; small = light }
+  pub weights_for : (ws : List ℕ) → AreWeights n ws → AreWeightsFor x ws
+  weights_for ws are = record { as_many = are.each ∙ sym symbols; small = are.light }
 
 -- ---- vectors
 
@@ -57,11 +50,9 @@ same_place p q = (equal (place_cmp p q) refl, λ is. subst (λ (r : Place). is_e
 -- an entry along an axis, or 0 where there is no such axis
 on_axis : (active : Bool) (z : ℤ) → nat_le (unsigned_abs z) (cond active 4 0) ≡ true → (unsigned_abs z ≤ 4) × ((active || int_eq z (pos 0)) ≡ true)
 on_axis true z h = (leb-true (unsigned_abs z) 4 h, refl)
-on_axis false z h = none z (leb-true (unsigned_abs z) 0 h) where
-  none : (y : ℤ) → unsigned_abs y ≤ 0 → (unsigned_abs y ≤ 4) × (int_eq y (pos 0) ≡ true)
-  none (pos zero) le = (omega arith, refl)
-  none (pos (suc n)) le = absurd (omega (arith, le))
-  none (negsuc n) le = absurd (omega (arith, le))
+on_axis false (pos zero) h = (omega arith, refl)
+on_axis false (pos (suc n)) h = absurd (omega (arith, leb-true (suc n) 0 h))
+on_axis false (negsuc n) h = absurd (omega (arith, leb-true (suc n) 0 h))
 
 vector_of : (d : ℕ) (v : Place) → is_offset d v ≡ true → IsVector d v
 vector_of d v h =

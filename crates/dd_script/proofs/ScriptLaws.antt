@@ -2,11 +2,10 @@
 use Rattle.std.proofs.Common.{◌≡◌, ◌⊎◌, ℕ, List, Option, Some, None, refl, sym, ap, ◌∙◌, inl, inr}
 use Rattle.dd_commands.specs.declared.script.Syntax.{Syntax}
 use Rattle.dd_commands.specs.Scripts.{IsScript, IsSyntaxFault}
-use Rattle.dd_faults.specs.declared.fault.Fault.{Fault}
 use Rattle.dd_faults.specs.declared.fault.Fault.TheVariants as fault
 use Rattle.dd_script.specs.Parts.{Parts}
-use Rattle.dd_script.specs.Walk.{Located, located, first_located_fault, script_of}
-use Rattle.dd_script.specs.Scripts.{Spells, RefusalKind, syntax, unknown, twice, dimension, size, kind_of, HasFault, RefusedAs}
+use Rattle.dd_script.specs.Walk.{Located, located, first_located_fault, script_of, Fault}
+use Rattle.dd_script.specs.Scripts.{Spells, RefusalKind, syntax, kind_of, HasFault, RefusedAs}
 
 abbrev OneTree : Type 0
 OneTree = (bytes : List ℕ) (s t : Syntax) → IsScript bytes s → IsScript bytes t → s ≡ t
@@ -20,19 +19,13 @@ TreeOrFault = (bytes : List ℕ) (s : Syntax) (n : ℕ) → IsScript bytes s →
 abbrev Either : Type 0
 Either = (bytes : List ℕ) → ((s : Syntax) × IsScript bytes s) ⊎ ((n : ℕ) × IsSyntaxFault bytes n)
 
-some_same : {X : Type 0} (x y : X) → Some x ≡ Some y → x ≡ y
-some_same x y e = cc
-
 -- a refusal is by a command that is not well formed, or by a fault
 abbrev Refusal : List ℕ → ℕ → RefusalKind → Type 0
 Refusal bytes n k = ((k ≡ syntax) × IsSyntaxFault bytes n) ⊎ HasFault bytes n k
 
 by_kind : (bytes : List ℕ) (n : ℕ) (k : RefusalKind) → RefusedAs bytes n k → Refusal bytes n k
 by_kind bytes n syntax refused = inl (refl, refused)
-by_kind bytes n (unknown text) refused = inr refused
-by_kind bytes n (twice text) refused = inr refused
-by_kind bytes n dimension refused = inr refused
-by_kind bytes n (size l) refused = inr refused
+by_kind bytes n k refused = inr refused
 
 module _ (one_tree : OneTree) where
   pub one_script : (bytes : List ℕ) (s t : Parts) → Spells bytes s → Spells bytes t → s ≡ t
@@ -43,7 +36,7 @@ module _ (one_tree : OneTree) where
   one_found : (bytes : List ℕ) (m n : ℕ) (k l : RefusalKind) → HasFault bytes m k → HasFault bytes n l → (m ≡ n) × (k ≡ l)
   one_found bytes m n k l one other =
       let tree : one.tree ≡ other.tree = one_tree bytes one.tree other.tree one.written other.written in
-      let same : located m one.found ≡ located n other.found = some_same _ _ (sym one.comes_first ∙ ap (λ (t : Syntax). first_located_fault bytes t.commands) tree ∙ other.comes_first) in
+      let same : located m one.found ≡ located n other.found = cc (one.comes_first, ap (λ (t : Syntax). first_located_fault bytes t.commands) tree, other.comes_first) in
       (ap (λ (x : Located). x.command) same, one.is ∙ ap (λ (x : Located). kind_of bytes x.fault) same ∙ sym other.is)
 
   module _ (tree_or_fault : TreeOrFault) where
@@ -76,11 +69,8 @@ abbrev SpelledOrRefused : List ℕ → Type 0
 SpelledOrRefused bytes = ((s : Parts) × Spells bytes s) ⊎ ((n : ℕ) × (k : RefusalKind) × RefusedAs bytes n k)
 
 has_fault : (bytes : List ℕ) (n : ℕ) (f : Fault) → HasFault bytes n (kind_of bytes f) → RefusedAs bytes n (kind_of bytes f)
-has_fault bytes n (fault.Unknown name) has = has
-has_fault bytes n (fault.Twice name) has = has
-has_fault bytes n fault.TwiceVector has = has
 has_fault bytes n fault.Dimension has = has
-has_fault bytes n (fault.Size l) has = has
+has_fault bytes n f has = has
 
 by_first : (bytes : List ℕ) (tree : Syntax) → IsScript bytes tree → (found : Option Located) → first_located_fault bytes tree.commands ≡ found → SpelledOrRefused bytes
 by_first bytes tree written None none = inl (script_of bytes tree.commands, record { tree = tree; written = written; faultless = none; meaning = refl })

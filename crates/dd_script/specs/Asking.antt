@@ -1,22 +1,20 @@
 -- What is known of each question that a script asks.
 use Rattle.std.specs.Prelude.{◌≡◌, Some}
 use Rattle.std.specs.List.{Contains}
-use Rattle.dd_faults.specs.declared.context.Known.{Known}
-use Rattle.dd_query.specs.declared.queries.Query.{Query}
-use Rattle.dd_meanings.specs.Made.{IsRuleOf}
 use Rattle.dd_question.specs.Questions.{Asked, membership, box, equality, listing, density, discharge}
 use Rattle.dd_question.specs.Sound.{IsSoundAsked}
-use Rattle.dd_script.specs.Parts.{Parts}
+use Rattle.dd_script.specs.Kept.{IsRuleOf}
+use Rattle.dd_script.specs.Parts.{Parts, Known, Query}
 use Rattle.dd_script.specs.Questions.{asked}
 
 -- the rules that a question is about are the script's
 abbrev pub AreOf : Known → Asked → Type 0
-AreOf k (membership x t) = IsRuleOf k x
-AreOf k (box x g) = IsRuleOf k x
-AreOf k (equality x y) = IsRuleOf k x × IsRuleOf k y
-AreOf k (listing x) = IsRuleOf k x
-AreOf k (density x strip ws) = IsRuleOf k x
-AreOf k (discharge x radius margin vs ws) = IsRuleOf k x
+AreOf k (membership x t) = IsRuleOf k.setting x
+AreOf k (box x g) = IsRuleOf k.setting x
+AreOf k (equality x y) = IsRuleOf k.setting x × IsRuleOf k.setting y
+AreOf k (listing x) = IsRuleOf k.setting x
+AreOf k (density x strip ws) = IsRuleOf k.setting x
+AreOf k (discharge x radius margin vs ws) = IsRuleOf k.setting x
 
 -- the question goes together, passes no limit, and is about the script's rules
 pub record IsSoundIn (k : Known) (a : Asked) : Type 0 where

@@ -1,10 +1,11 @@
 -- The parts of a script.
 use Rattle.std.specs.Prelude.{List}
-use Rattle.dd_formula.specs.LocalRule.{LocalRule}
-use Rattle.dd_formula.specs.declared.automaton.Automaton.{Automaton}
-use Rattle.dd_pattern.specs.Tile.{Tile}
-use Rattle.dd_faults.specs.declared.context.Known.{Known}
-use Rattle.dd_query.specs.declared.queries.Query.{Query}
+pub use Rattle.dd_formula.specs.LocalRule.{LocalRule}
+pub use Rattle.dd_formula.specs.declared.automaton.Automaton.{Automaton}
+pub use Rattle.dd_pattern.specs.Tile.{Tile}
+pub use Rattle.dd_faults.specs.declared.context.Known.{Known}
+pub use Rattle.dd_query.specs.declared.queries.Query.{Query}
+use Rattle.dd_script.specs.declared.script.Made.{Made}
 
 -- what a script says of cells and names; its rules, automata and configurations, in the order of their definitions; and its
 -- queries, in order
@@ -14,3 +15,7 @@ pub record Parts : Type 0 where
   pub automata : List Automaton
   pub configurations : List Tile
   pub queries : List Query
+
+-- what is known, with what is defined and asked
+abbrev pub parts : Known → Made → Parts
+parts k m = record { known = k; rules = m.rules; automata = m.automata; configurations = m.configurations; queries = m.queries }

@@ -4,17 +4,15 @@ use Rattle.std.specs.List.{slice_get}
 use Rattle.std.specs.Option.{option_and_then}
 use Rattle.dd_boxes.specs.Goals.{breaks, differ, always}
 use Rattle.dd_boxes.specs.Views.{numbers_of}
-use Rattle.dd_query.specs.declared.queries.Query.{Query}
 use Rattle.dd_query.specs.declared.queries.Query.TheVariants as query
 use Rattle.dd_question.specs.Questions.{Asked, membership, box, equality, listing, density, discharge}
 use Rattle.dd_question.specs.declared.excess.Excess.{Excess}
 use Rattle.dd_question.specs.Excesses.{excess_of}
-use Rattle.dd_script.specs.Parts.{Parts}
+use Rattle.dd_script.specs.Parts.{Parts, Query}
 
 -- something of two items, where both are there
 abbrev pub of_both : {X Y Z : Type 0} → (X → Y → Z) → Option X → Option Y → Option Z
-of_both f (Some x) (Some y) = Some (f x y)
-of_both f (Some x) None = None
+of_both f (Some x) y = option_map (f x) y
 of_both f None y = None
 
 -- something of three

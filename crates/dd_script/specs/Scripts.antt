@@ -3,14 +3,12 @@ use Rattle.std.specs.Prelude.{ℕ, ◌≡◌, List, Some, None, string_bytes, co
 use Rattle.dd_written.specs.Values.{name_text}
 use Rattle.dd_commands.specs.declared.script.Syntax.{Syntax}
 use Rattle.dd_commands.specs.Scripts.{IsScript, IsSyntaxFault}
-use Rattle.dd_faults.specs.declared.fault.Limit.{Limit}
-use Rattle.dd_faults.specs.declared.fault.Fault.{Fault}
 use Rattle.dd_faults.specs.declared.fault.Fault.TheVariants as fault
 use Rattle.dd_script.specs.declared.fault.ScriptKind.{ScriptKind}
 use Rattle.dd_script.specs.declared.fault.ScriptKind.TheVariants as refused
 use Rattle.dd_script.specs.declared.fault.ScriptFault.{ScriptFault}
 use Rattle.dd_script.specs.Parts.{Parts}
-use Rattle.dd_script.specs.Walk.{located, first_located_fault, script_of}
+use Rattle.dd_script.specs.Walk.{located, first_located_fault, script_of, Limit, Fault}
 
 -- the bytes are a text of the grammar, with this meaning, and without a fault
 pub record Spells (bytes : List ℕ) (s : Parts) : Type 0 where

@@ -4,26 +4,25 @@ use Rattle.std.specs.List.{list_any, range_with_len}
 use Rattle.std.specs.Option.{option_or, option_map}
 use Rattle.dd_topology.specs.Builtin.{square}
 use Rattle.dd_topology.specs.Sets.{all_symbols, restricted}
-use Rattle.dd_written.specs.Values.{word_text}
+pub use Rattle.dd_written.specs.Values.{word_text}
 use Rattle.dd_commands.specs.declared.head.Head.TheVariants as head
-use Rattle.dd_commands.specs.declared.script.Written.{Written}
+pub use Rattle.dd_commands.specs.declared.script.Written.{Written}
 use Rattle.dd_commands.specs.Heads.{stage}
-use Rattle.dd_commands.specs.Scripts.{stage_of}
-use Rattle.dd_faults.specs.declared.fault.Limit.{Limit}
+pub use Rattle.dd_commands.specs.Scripts.{stage_of}
+pub use Rattle.dd_faults.specs.declared.fault.Limit.{Limit}
 use Rattle.dd_faults.specs.declared.fault.Limit.TheVariants as limit
-use Rattle.dd_faults.specs.declared.fault.Fault.{Fault}
+pub use Rattle.dd_faults.specs.declared.fault.Fault.{Fault}
 use Rattle.dd_faults.specs.declared.fault.Fault.TheVariants as fault
-use Rattle.dd_faults.specs.declared.context.Known.{Known}
 use Rattle.dd_faults.specs.declared.context.Context.{Context}
-use Rattle.dd_faults.specs.Order.{first_fault}
-use Rattle.dd_faults.specs.Commands.{written_faults}
-use Rattle.dd_meanings.specs.declared.meaning.Meaning.{Meaning}
+pub use Rattle.dd_faults.specs.Order.{first_fault}
+pub use Rattle.dd_faults.specs.Commands.{written_faults}
+pub use Rattle.dd_meanings.specs.declared.meaning.Meaning.{Meaning}
 use Rattle.dd_meanings.specs.declared.meaning.Meaning.TheVariants as meaning
-use Rattle.dd_meanings.specs.Meanings.{meaning as meaning_of, counted_sizes}
+pub use Rattle.dd_meanings.specs.Meanings.{meaning as meaning_of, counted_sizes}
 use Rattle.dd_question.specs.declared.excess.Excess.{Excess}
 use Rattle.dd_question.specs.declared.excess.Excess.TheVariants as excess
-use Rattle.dd_script.specs.Parts.{Parts}
 use Rattle.dd_script.specs.Questions.{query_excess}
+use Rattle.dd_script.specs.Parts.{Parts, Known}
 
 -- ---- where a script has said nothing
 

@@ -1,39 +1,57 @@
 //! A script as far as its commands have been gone through.
-ghost use Rattle.std.specs.Prelude.{◌≡◌, ◌+◌, ◌-◌, ◌^◌, ◌<◌, length, Contains, OnOk, IfOk, MatchResult};
-ghost use Rattle.dd_values.specs.Bounds.{most_commands};
+ghost use Rattle.std.specs.Prelude.{◌≡◌, ◌++◌, [], ◌∷◌, Contains, OnOk, OnErr, IfOk, IfErr, MatchResult};
 ghost use Rattle.dd_written.specs.Values.{word_text};
-ghost use Rattle.dd_commands.specs.Scripts.{IsWritten};
+ghost use Rattle.dd_commands.specs.Scripts.{IsWritten, stage_of};
 ghost use Rattle.dd_faults.specs.Order.{Accepts, Refuses};
-ghost use Rattle.dd_faults.specs.Sound.{IsSound, HasFewer};
+ghost use Rattle.dd_faults.specs.Sound.{IsSound};
 ghost use Rattle.dd_query.specs.Sound.{IsQueryWithin};
 ghost use Rattle.dd_meanings.specs.declared.meaning.Meaning.TheVariants as meant;
 ghost use Rattle.dd_meanings.specs.Sound.{IsSoundMeaning};
 ghost use Rattle.dd_script.specs.Kept.{IsScriptOf};
 ghost use Rattle.dd_script.specs.Walk.{start, asked_fault};
 ghost use Rattle.dd_script.specs.drafting.Standing.{IsReady};
-ghost use Rattle.dd_script.specs.drafting.Drafts.{parts_of, draft_of, with_meaning, fault_at, Means, Leaves, Stays};
+ghost use Rattle.dd_script.specs.drafting.Drafts.{parts_of, draft_of, with_meaning, fault_at, Means, Leaves};
 
-use crate::known::{add_name, restrict, set_nodes, set_symbols, set_topology, set_weights, start};
+use crate::known::{restrict, set_nodes, set_symbols, start};
 use crate::questions::{limit_of, question_of};
-use crate::script::{Contents, Script};
+use crate::script::{Contents, Made, Script};
 use dd_commands::Written;
 use dd_faults::{Context, Fault, Refusal, check};
-use dd_formula::{Automaton, Rule};
-use dd_meanings::{Meaning, mean};
-use dd_pattern::Periodic;
+use dd_meanings::{Meaning, add_new, mean};
 use dd_query::Query;
+use dd_topology::Names;
 use dd_values::{Boxed, Items};
-use dd_written::{Text, Word};
+use dd_written::{Name, Text, Word, name_text};
 use std::alloc::{AllocError, Global};
+
+/// More names than any script has.
+const TOO_MANY: u32 = 4_000_000;
 
 /// A script as far as its commands have been gone through, and where the next command stands.
 #[derive(Drop)]
 pub(crate) struct Draft {
     pub(crate) context: Context,
-    pub(crate) rules: Items<Rule>,
-    pub(crate) automata: Items<Automaton>,
-    pub(crate) configurations: Items<Periodic>,
-    pub(crate) queries: Items<Query>,
+    pub(crate) made: Made,
+}
+
+/// Adds an item and its name, which is not there yet. More names than any script has are taken for want of memory.
+fn add_named<T: Drop>(
+    alloc: Global,
+    text: &Text,
+    names: &mut Names,
+    items: &mut Items<T>,
+    name: Word,
+    item: T,
+) -> Result<(), AllocError>
+    requires { ¬ Contains names.old (word_text text.now name) }
+    ensures names { OnOk result (names.new ≡ names.old ++ word_text text.now name ∷ []) }
+    ensures items { OnOk result (items.new ≡ items.old ++ item ∷ []) }
+{
+    if names.count() > TOO_MANY {
+        return Err(AllocError);
+    }
+    items.push(item)?;
+    add_new(alloc, names, name_text(text, Name::Word(name)))
 }
 
 impl Draft {
@@ -50,99 +68,71 @@ impl Draft {
                 number: 1,
                 known,
             },
-            rules: Items::new(alloc),
-            automata: Items::new(alloc),
-            configurations: Items::new(alloc),
-            queries: Items::new(alloc),
+            made: Made {
+                rules: Items::new(alloc),
+                automata: Items::new(alloc),
+                configurations: Items::new(alloc),
+                queries: Items::new(alloc),
+            },
         })
-    }
-
-    /// Adds a rule and its name.
-    fn add_rule(&mut self, alloc: Global, name: Word, rule: Rule) -> Result<(), AllocError>
-        requires few { length self.old.context.known.rules < 2 ^ 32 - 1 }
-        requires new { ¬ Contains self.old.context.known.rules (word_text self.old.context.text name) }
-        ensures added { OnOk result (self.new ≡ with_meaning self.old (meant.Rule name rule)) }
-        ensures text { self.new.context.text ≡ self.old.context.text }
-    {
-        self.rules.push(rule)?;
-        let context = &mut self.context;
-        add_name(alloc, &context.text, &mut context.known.rules, name)
-    }
-
-    /// Adds an automaton and its name.
-    fn add_automaton(
-        &mut self,
-        alloc: Global,
-        name: Word,
-        automaton: Automaton,
-    ) -> Result<(), AllocError>
-        requires few { length self.old.context.known.automata < 2 ^ 32 - 1 }
-        requires new { ¬ Contains self.old.context.known.automata (word_text self.old.context.text name) }
-        ensures added { OnOk result (self.new ≡ with_meaning self.old (meant.Automaton name automaton)) }
-        ensures text { self.new.context.text ≡ self.old.context.text }
-    {
-        self.automata.push(automaton)?;
-        let context = &mut self.context;
-        add_name(alloc, &context.text, &mut context.known.automata, name)
-    }
-
-    /// Adds a configuration and its name.
-    fn add_configuration(
-        &mut self,
-        alloc: Global,
-        name: Word,
-        configuration: Periodic,
-    ) -> Result<(), AllocError>
-        requires few { length self.old.context.known.configurations < 2 ^ 32 - 1 }
-        requires new { ¬ Contains self.old.context.known.configurations (word_text self.old.context.text name) }
-        ensures added { OnOk result (self.new ≡ with_meaning self.old (meant.Configuration name configuration)) }
-        ensures text { self.new.context.text ≡ self.old.context.text }
-    {
-        self.configurations.push(configuration)?;
-        let context = &mut self.context;
-        add_name(
-            alloc,
-            &context.text,
-            &mut context.known.configurations,
-            name,
-        )
     }
 
     /// Adds what a command means.
     fn add(&mut self, alloc: Global, meaning: Meaning) -> Result<(), AllocError>
         requires sound { IsSound self.old.context.known }
         requires meaning { IsSoundMeaning self.old.context meaning }
-        requires few { HasFewer most_commands self.old.context.known }
         ensures added { OnOk result (self.new ≡ with_meaning self.old meaning) }
         ensures text { self.new.context.text ≡ self.old.context.text }
+        ensures number { self.new.context.number ≡ self.old.context.number }
     {
+        let text = &self.context.text;
+        let known = &mut self.context.known;
+        let made = &mut self.made;
         match meaning {
             Meaning::Topology(topology) => {
-                set_topology(&mut self.context.known, topology);
+                known.setting.topology = topology;
                 Ok(())
             }
             Meaning::Nodes {
                 nodes,
                 given,
                 topology,
-            } => set_nodes(alloc, &mut self.context.known, nodes, given, topology),
-            Meaning::Symbols(symbols) => set_symbols(alloc, &mut self.context.known, symbols),
-            Meaning::Only { node, symbols } => restrict(&mut self.context.known, node, symbols),
+            } => set_nodes(alloc, known, nodes, given, topology),
+            Meaning::Symbols(symbols) => set_symbols(alloc, known, symbols),
+            Meaning::Only { node, symbols } => restrict(known, node, symbols),
             Meaning::Weights(weights) => {
-                set_weights(&mut self.context.known, weights);
+                known.weights = weights;
                 Ok(())
             }
             Meaning::Limits(limits) => {
-                self.context.known.limits = limits;
+                known.limits = limits;
                 Ok(())
             }
-            Meaning::Rule { name, rule } => self.add_rule(alloc, name, rule),
-            Meaning::Automaton { name, automaton } => self.add_automaton(alloc, name, automaton),
+            Meaning::Rule { name, rule } => {
+                add_named(alloc, text, &mut known.rules, &mut made.rules, name, rule)
+            }
+            Meaning::Automaton { name, automaton } => {
+                add_named(
+                    alloc,
+                    text,
+                    &mut known.automata,
+                    &mut made.automata,
+                    name,
+                    automaton,
+                )
+            }
             Meaning::Configuration {
                 name,
                 configuration,
-            } => self.add_configuration(alloc, name, configuration),
-            Meaning::Query(query) => self.queries.push(query),
+            } => add_named(
+                alloc,
+                text,
+                &mut known.configurations,
+                &mut made.configurations,
+                name,
+                configuration,
+            ),
+            Meaning::Query(query) => made.queries.push(query),
         }
     }
 
@@ -153,14 +143,7 @@ impl Draft {
         ensures { Accepts result (asked_fault (parts_of self.now) (meant.Query query.now)) }
     {
         let known = &self.context.known;
-        let question = question_of(
-            known,
-            self.rules.as_slice(),
-            self.automata.as_slice(),
-            self.configurations.as_slice(),
-            query,
-        );
-        match question.excess(alloc, &known.limits)? {
+        match question_of(known, &self.made, query).excess(alloc, &known.limits)? {
             Some(excess) => Err(Refusal::At(Fault::Size(limit_of(excess)))),
             None => Ok(()),
         }
@@ -189,17 +172,19 @@ impl Draft {
         ensures { MatchResult result (Means self.now written.now) (λ refusal. Refuses refusal (fault_at self.now written.now)) }
     {
         check(alloc, &self.context, written)?;
-        let meaning = mean(alloc, &self.context, self.automata.as_slice(), written)?;
+        let meaning = mean(alloc, &self.context, self.made.automata.as_slice(), written)?;
         self.weigh(alloc, meaning)
     }
 
-    /// Goes behind the next command; or refuses it for its first fault, and stays where it is.
+    /// Goes behind the next command; or refuses it for its first fault.
     pub(crate) fn step(&mut self, alloc: Global, written: &Written) -> Result<(), Refusal>
         requires written { IsWritten self.old.context.text written.now }
         requires script { IsScriptOf (parts_of self.old) }
-        requires ready { IsReady (parts_of self.old) written.now }
-        requires few { HasFewer self.old.context.number self.old.context.known }
-        ensures { MatchResult result (λ _. Leaves self.old written.now self.new) (Stays self.old written.now self.new) }
+        requires ready { IsReady (stage_of written.now) (parts_of self.old) }
+        ensures left { OnOk result (Leaves self.old written.now self.new) }
+        ensures refused { IfErr result (λ refusal. Refuses refusal (fault_at self.old written.now)) }
+        ensures text { self.new.context.text ≡ self.old.context.text }
+        ensures number { OnErr result (self.new.context.number ≡ self.old.context.number) }
     {
         let meaning = self.meaning_of(alloc, written)?;
         self.add(alloc, meaning)?;
@@ -214,23 +199,10 @@ impl Draft {
         requires { IsScriptOf (parts_of self) }
         ensures { IfOk result (λ script. script ≡ parts_of self) }
     {
-        let Draft {
-            context,
-            rules,
-            automata,
-            configurations,
-            queries,
-        } = self;
-        let contents = Boxed::new(
-            alloc,
-            Contents {
-                known: context.known,
-                rules,
-                automata,
-                configurations,
-                queries,
-            },
-        )?;
-        Ok(Script { contents })
+        let Draft { context, made } = self;
+        let known = context.known;
+        Ok(Script {
+            contents: Boxed::new(alloc, Contents { known, made })?,
+        })
     }
 }

@@ -1,5 +1,11 @@
 //! Why a text is no script.
+ghost use Rattle.std.specs.Prelude.{◌≡◌};
+ghost use Rattle.dd_script.specs.declared.fault.ScriptKind.TheVariants as refused;
+ghost use Rattle.dd_script.specs.drafting.Drafts.{IsUnread};
+
+use dd_commands::SyntaxFault;
 use dd_faults::Limit;
+use std::alloc::AllocError;
 use thiserror::Error;
 
 /// What is wrong with a command.
@@ -32,4 +38,29 @@ pub enum ScriptKind {
 pub struct ScriptFault {
     pub command: u32,
     pub kind: ScriptKind,
+}
+
+impl From<AllocError> for ScriptFault {
+    ghost from_gives = { λ _ fault. fault ≡ record { command = 0; kind = refused.Memory } };
+
+    fn from(_error: AllocError) -> ScriptFault {
+        ScriptFault {
+            command: 0,
+            kind: ScriptKind::Memory,
+        }
+    }
+}
+
+impl From<SyntaxFault> for ScriptFault {
+    ghost from_gives = { IsUnread };
+
+    fn from(fault: SyntaxFault) -> ScriptFault {
+        match fault {
+            SyntaxFault::Memory => ScriptFault::from(AllocError),
+            SyntaxFault::At { command } => ScriptFault {
+                command,
+                kind: ScriptKind::Syntax,
+            },
+        }
+    }
 }

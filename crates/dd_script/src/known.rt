@@ -1,17 +1,14 @@
 //! What is known where a script has said nothing, and what commands change of it.
 ghost use Rattle.std.specs.Prelude.{◌≡◌, ◌-◌, ◌^◌, ◌<◌, ◌≤◌, [], ◌∷◌, ◌++◌, length, All, Contains, IfOk, OnOk};
 ghost use Rattle.std.specs.List.{range_with_len};
-ghost use Rattle.dd_topology.specs.Grid.{IsGrid};
-ghost use Rattle.dd_topology.specs.Sets.{IsSets, restricted};
-ghost use Rattle.dd_written.specs.Values.{word_text};
-ghost use Rattle.dd_faults.specs.Sound.{IsSound};
+ghost use Rattle.dd_topology.specs.Sets.{restricted};
+ghost use Rattle.dd_faults.specs.Sound.{IsSetting, IsSound};
 ghost use Rattle.dd_script.specs.Walk.{known_start, unrestricted};
 
 use dd_faults::{Known, Setting};
-use dd_meanings::{add_new, zero, zero_and_one};
-use dd_topology::{Kind, NameFault, Names, Sets, Topology};
+use dd_meanings::{zero, zero_and_one};
+use dd_topology::{Kind, Names, Sets, Topology};
 use dd_values::{Items, Limits};
-use dd_written::{Name, Text, Word, name_text};
 use std::alloc::{AllocError, Global};
 
 /// The greatest radius where a script has said nothing.
@@ -23,25 +20,10 @@ const PERIOD_AT_START: u32 = 4;
 /// The greatest number of pivots where a script has said nothing.
 const PIVOTS_AT_START: u32 = 10_000;
 
-/// Adds the text of a word that is not there yet.
-pub(crate) fn add_name(
-    alloc: Global,
-    text: &Text,
-    names: &mut Names,
-    name: Word,
-) -> Result<(), AllocError>
-    requires few { length names.old < 2 ^ 32 - 1 }
-    requires new { ¬ Contains names.old (word_text text.now name) }
-    ensures { OnOk result (names.new ≡ names.old ++ word_text text.now name ∷ []) }
-{
-    add_new(alloc, names, name_text(text, Name::Word(name)))
-}
-
 /// What formulas may speak of where a script has said nothing: the square grid with the node 0, and the symbols 0 and 1.
 fn setting_at_start(alloc: Global) -> Result<Setting, AllocError>
     ensures known { IfOk result (λ setting. setting ≡ known_start.setting) }
-    ensures grid { OnOk result (IsGrid known_start.setting.topology) }
-    ensures sets { OnOk result (IsSets 1 known_start.setting.sets) }
+    ensures sound { OnOk result (IsSetting known_start.setting) }
 {
     let sets = Sets::new(alloc, 1, 2)?;
     let nodes = zero(alloc)?;
@@ -80,15 +62,10 @@ pub(crate) fn start(alloc: Global) -> Result<Known, AllocError>
     })
 }
 
-/// The numbers below a number.
-fn numbers_below(alloc: Global, count: u32) -> Result<Items<u32>, AllocError>
-    ensures { IfOk result (λ numbers. numbers ≡ range_with_len 0 count) }
+fn numbers_below(alloc: Global, count: u32) -> Result<Vec<u32>, AllocError>
+    ensures { IfOk result (λ numbers. numbers.items ≡ range_with_len 0 count) }
 {
-    let mut numbers = Items::new(alloc);
-    for number in 0..count {
-        numbers.push(number)?;
-    }
-    Ok(numbers)
+    (0..count).collect(alloc)
 }
 
 /// Each node allows each symbol anew.
@@ -132,7 +109,7 @@ pub(crate) fn set_symbols(
     requires symbols { 1 ≤ length symbols }
     ensures { OnOk result (known.new ≡ unrestricted (record (known.old) { setting = record (known.old.setting) { symbols = symbols }; weights = range_with_len 0 (length symbols) })) }
 {
-    known.weights = numbers_below(alloc, symbols.count())?;
+    known.weights = Items::from_vec(numbers_below(alloc, symbols.count())?);
     known.setting.symbols = symbols;
     allow_all(alloc, known)
 }
@@ -147,18 +124,4 @@ pub(crate) fn restrict(known: &mut Known, node: u32, symbols: Items<u32>) -> Res
     known.restricted.push(node)?;
     known.setting.sets.restrict(node, symbols.as_slice());
     Ok(())
-}
-
-/// Another topology of the same nodes.
-pub(crate) fn set_topology(known: &mut Known, topology: Topology)
-    ensures { known.new ≡ record (known.old) { setting = record (known.old.setting) { topology = topology } } }
-{
-    known.setting.topology = topology;
-}
-
-/// Other weights.
-pub(crate) fn set_weights(known: &mut Known, weights: Items<u32>)
-    ensures { known.new ≡ record (known.old) { weights = weights } }
-{
-    known.weights = weights;
 }

@@ -8,7 +8,6 @@ mod laws;
 mod parsing;
 mod questions;
 mod script;
-mod walking;
 
 pub use dd_boxes::Goal;
 pub use dd_faults::Limit;

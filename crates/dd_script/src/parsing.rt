@@ -1,103 +1,77 @@
-//! Reading scripts.
-ghost use Rattle.std.specs.Prelude.{◌≡◌, ◌≤◌, length, All, IfOk, IfErr};
+//! Reading scripts: the commands of a text, one after the other.
+ghost use Rattle.std.specs.Prelude.{◌≡◌, ◌≤◌, length, All, IfOk, IfErr, OnOk};
 ghost use Rattle.dd_values.specs.Bounds.{most_script};
 ghost use Rattle.dd_commands.specs.Scripts.{IsScript, IsWritten};
+ghost use Rattle.dd_script.specs.Scripts.{Spells, HasFault, kind_of, IsScriptRefusal};
 ghost use Rattle.dd_script.specs.Kept.{IsScriptOf};
-ghost use Rattle.dd_script.specs.Scripts.{Spells, IsScriptRefusal};
-ghost use Rattle.dd_script.specs.Walk.{start, has_topology};
-ghost use Rattle.dd_script.specs.drafting.Drafts.{draft_of, StopsIn, IsKindOf, IsUnread};
+ghost use Rattle.dd_script.specs.Walk.{start, is_topology, has_topology};
+ghost use Rattle.dd_script.specs.drafting.Drafts.{parts_of, draft_of};
 
 use crate::draft::Draft;
 use crate::fault::{ScriptFault, ScriptKind};
 use crate::script::Script;
-use crate::walking::{has_topology, walk};
-use dd_commands::{Syntax, SyntaxFault, Written, read};
-use dd_faults::{Context, Fault, Refusal};
+use dd_commands::{Command, Syntax, Written, read};
+use dd_faults::{Fault, Refusal};
 use dd_written::{Text, name_text};
 use std::alloc::{AllocError, Global};
 
-/// The kind of a fault, with the text of the name.
-fn kind_of(alloc: Global, text: &Text, fault: Fault) -> Result<ScriptKind, AllocError>
-    ensures { IfOk result (IsKindOf text.now fault) }
+fn is_topology(written: &Written) -> bool
+    ensures { result ≡ is_topology written.now }
 {
-    match fault {
+    matches!(
+        written.command,
+        Command::Topology { .. } | Command::Edges { .. }
+    )
+}
+
+/// Whether one of the commands gives a topology.
+fn has_topology(commands: &[Written]) -> bool
+    ensures { result ≡ has_topology commands.now }
+{
+    commands.iter().any(|written| is_topology(written))
+}
+
+/// The refusal of the command with this number for a fault.
+fn told(alloc: Global, text: &Text, command: u32, fault: Fault) -> Result<ScriptFault, AllocError>
+    requires { HasFault text.now command (kind_of text.now fault) }
+    ensures { IfOk result (IsScriptRefusal text.now) }
+{
+    let kind = match fault {
         Fault::Unknown(name) => {
-            let name = String::from_str(alloc, name_text(text, name))?;
-            Ok(ScriptKind::Unknown(name))
+            ScriptKind::Unknown(String::from_str(alloc, name_text(text, name))?)
         }
-        Fault::Twice(name) => {
-            let name = String::from_str(alloc, name_text(text, name))?;
-            Ok(ScriptKind::Twice(name))
-        }
-        Fault::TwiceVector => Ok(ScriptKind::Twice(String::from_str(alloc, "vector")?)),
-        Fault::Dimension => Ok(ScriptKind::Dimension),
-        Fault::Size(limit) => Ok(ScriptKind::Size(limit)),
-    }
+        Fault::Twice(name) => ScriptKind::Twice(String::from_str(alloc, name_text(text, name))?),
+        Fault::TwiceVector => ScriptKind::Twice(String::from_str(alloc, "vector")?),
+        Fault::Dimension => ScriptKind::Dimension,
+        Fault::Size(limit) => ScriptKind::Size(limit),
+    };
+    Ok(ScriptFault { command, kind })
 }
 
-/// Want of memory.
-fn memory() -> ScriptFault
-    ensures { result ≡ record { command = 0; kind = ScriptKind.Memory } }
-{
-    ScriptFault {
-        command: 0,
-        kind: ScriptKind::Memory,
-    }
-}
-
-/// Why a text is not well formed.
-fn unread(fault: SyntaxFault) -> ScriptFault
-    ensures { IsUnread fault result }
-{
-    match fault {
-        SyntaxFault::Memory => memory(),
-        SyntaxFault::At { command } => ScriptFault {
-            command,
-            kind: ScriptKind::Syntax,
-        },
-    }
-}
-
-/// Why the commands make no script: the refusal of the command that stands here.
-fn told(alloc: Global, context: &Context, refusal: Refusal) -> ScriptFault
-    requires { StopsIn context.now.text context.now.number refusal }
-    ensures { IsScriptRefusal context.now.text result }
-{
-    match refusal {
-        Refusal::Memory => memory(),
-        Refusal::At(fault) => match kind_of(alloc, &context.text, fault) {
-            Ok(kind) => ScriptFault {
-                command: context.number,
-                kind,
-            },
-            Err(_) => memory(),
-        },
-    }
-}
-
-/// The script of commands behind the draft of their text before the first, or why they make none.
-fn script_from(alloc: Global, mut draft: Draft, commands: &[Written]) -> Result<Script, ScriptFault>
-    requires begun { draft ≡ draft_of draft.context.text (has_topology commands.now) 1 start }
+/// Goes behind the last of the commands of a text; or tells of the first command with a fault, and its first fault.
+fn walk(alloc: Global, draft: &mut Draft, commands: &[Written]) -> Result<(), ScriptFault>
+    requires begun { draft.old ≡ draft_of draft.old.context.text (has_topology commands.now) 1 start }
     requires kept { IsScriptOf start }
-    requires written { IsScript draft.context.text (record { text = draft.context.text; commands = commands.now }) }
-    requires each { All (IsWritten draft.context.text) commands.now }
-    ensures spelled { IfOk result (Spells draft.context.text) }
-    ensures refused { IfErr result (IsScriptRefusal draft.context.text) }
+    requires written { IsScript draft.old.context.text (record { text = draft.old.context.text; commands = commands.now }) }
+    requires each { All (IsWritten draft.old.context.text) commands.now }
+    ensures spelled { OnOk result (Spells draft.old.context.text (parts_of draft.new)) }
+    ensures kept { OnOk result (IsScriptOf (parts_of draft.new)) }
+    ensures refused { IfErr result (IsScriptRefusal draft.old.context.text) }
 {
-    match walk(alloc, &mut draft, commands) {
-        Ok(()) => match draft.into_script(alloc) {
-            Ok(script) => Ok(script),
-            Err(_) => Err(memory()),
-        },
-        Err(refusal) => {
-            let fault = told(alloc, &draft.context, refusal);
-            drop(draft);
-            Err(fault)
+    for written in commands {
+        match draft.step(alloc, written) {
+            Ok(()) => {}
+            Err(Refusal::Memory) => return Err(ScriptFault::from(AllocError)),
+            Err(Refusal::At(fault)) => {
+                let context = &draft.context;
+                return Err(told(alloc, &context.text, context.number, fault)?);
+            }
         }
     }
+    Ok(())
 }
 
-/// The script of what is written, or why it makes none.
+/// The script of what is written; or the first command with a fault, and its first fault.
 fn script_of(alloc: Global, syntax: Syntax) -> Result<Script, ScriptFault>
     requires written { IsScript syntax.text syntax }
     requires each { All (IsWritten syntax.text) syntax.commands }
@@ -105,10 +79,14 @@ fn script_of(alloc: Global, syntax: Syntax) -> Result<Script, ScriptFault>
     ensures refused { IfErr result (IsScriptRefusal syntax.text) }
 {
     let Syntax { text, commands } = syntax;
-    let topology = has_topology(commands.as_slice());
-    match Draft::new(alloc, text, topology) {
-        Ok(draft) => script_from(alloc, draft, commands.as_slice()),
-        Err(_) => Err(memory()),
+    let written = commands.as_slice();
+    let mut draft = Draft::new(alloc, text, has_topology(written))?;
+    match walk(alloc, &mut draft, written) {
+        Ok(()) => Ok(draft.into_script(alloc)?),
+        Err(fault) => {
+            drop(draft);
+            Err(fault)
+        }
     }
 }
 
@@ -123,8 +101,5 @@ pub fn parse(alloc: Global, bytes: &[u8]) -> Result<Script, ScriptFault>
     ensures spelled { IfOk result (Spells bytes.now) }
     ensures refused { IfErr result (IsScriptRefusal bytes.now) }
 {
-    match read(alloc, bytes) {
-        Ok(syntax) => script_of(alloc, syntax),
-        Err(fault) => Err(unread(fault)),
-    }
+    script_of(alloc, read(alloc, bytes)?)
 }

@@ -1,33 +1,29 @@
 //! What queries ask, and which limit that passes.
-ghost use Rattle.std.specs.Prelude.{◌≡◌, List, Some, length};
-ghost use Rattle.dd_query.specs.declared.queries.Query.{Query as AnyQuery};
+ghost use Rattle.std.specs.Prelude.{◌≡◌, Some, length};
 ghost use Rattle.dd_query.specs.Sound.{IsQueryWithin};
-ghost use Rattle.dd_meanings.specs.Made.{AreMade};
 ghost use Rattle.dd_question.specs.Views.{asked_of};
+ghost use Rattle.dd_script.specs.Parts.{parts};
 ghost use Rattle.dd_script.specs.Questions.{asked};
 ghost use Rattle.dd_script.specs.Walk.{limit_of};
 
+use crate::script::Made;
 use dd_boxes::Goal;
 use dd_faults::{Known, Limit};
-use dd_formula::{Automaton, Rule};
-use dd_pattern::Periodic;
 use dd_query::Query;
 use dd_question::{Excess, Question};
 
 /// What a query asks: with the rules, automata and configurations themselves in place of their numbers, and with the weights where
 /// something is weighed.
-pub(crate) fn question_of<'a>(
-    known: &'a Known,
-    rules: &'a [Rule],
-    automata: &'a [Automaton],
-    configurations: &'a [Periodic],
-    query: &'a Query,
-) -> Question<'a>
-    requires made { AreMade known.now rules.now automata.now }
-    requires named { length configurations.now ≡ length known.now.configurations }
+pub(crate) fn question_of<'a>(known: &'a Known, made: &'a Made, query: &'a Query) -> Question<'a>
+    requires rules { length made.now.rules ≡ length known.now.rules }
+    requires automata { length made.now.automata ≡ length known.now.automata }
+    requires configurations { length made.now.configurations ≡ length known.now.configurations }
     requires within { IsQueryWithin known.now query.now }
-    ensures { (queries : List AnyQuery) → asked (record { known = known.now; rules = rules.now; automata = automata.now; configurations = configurations.now; queries = queries }) query.now ≡ Some (asked_of result) }
+    ensures { asked (parts known.now made.now) query.now ≡ Some (asked_of result) }
 {
+    let rules = made.rules.as_slice();
+    let automata = made.automata.as_slice();
+    let configurations = made.configurations.as_slice();
     match query {
         Query::Member {
             configuration,

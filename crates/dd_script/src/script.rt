@@ -9,14 +9,20 @@ use dd_topology::{Names, Sets, Topology};
 use dd_values::{Boxed, Items, Limits};
 use std::marker::Model;
 
-/// What a script holds.
+/// What the commands behind the header define and ask, in order.
 #[derive(Drop)]
-pub(crate) struct Contents {
-    pub(crate) known: Known,
+pub(crate) struct Made {
     pub(crate) rules: Items<Rule>,
     pub(crate) automata: Items<Automaton>,
     pub(crate) configurations: Items<Periodic>,
     pub(crate) queries: Items<Query>,
+}
+
+/// What a script holds.
+#[derive(Drop)]
+pub(crate) struct Contents {
+    pub(crate) known: Known,
+    pub(crate) made: Made,
 }
 
 /// A script: what it says of cells, what it defines, and what it asks. Its numbers are in range, its parts agree in dimension,
@@ -32,16 +38,16 @@ impl Model for Script {
     ghost use Rattle.std.specs.Coded.{codes};
     ghost use Rattle.dd_expansion.specs.contracts.formulas.Formula as formula_type;
     ghost use Rattle.dd_formula.specs.contracts.automaton.Automaton as automaton_type;
-    ghost use Rattle.dd_script.specs.Parts.{Parts};
+    ghost use Rattle.dd_script.specs.Parts.{Parts, parts};
     ghost use Rattle.dd_script.specs.Kept.{IsScriptOf};
 
     ghost Value = { Parts };
 
     ghost coded = { Prim.hlevel (codes, formula_type.the_row.coded, automaton_type.the_row.coded) };
 
-    ghost view = { λ s. record { known = s.contents.known; rules = s.contents.rules; automata = s.contents.automata; configurations = s.contents.configurations; queries = s.contents.queries } };
+    ghost view = { λ s. parts s.contents.known s.contents.made };
 
-    ghost invariant = { λ s. IsScriptOf (record { known = s.contents.known; rules = s.contents.rules; automata = s.contents.automata; configurations = s.contents.configurations; queries = s.contents.queries }) };
+    ghost invariant = { λ s. IsScriptOf (parts s.contents.known s.contents.made) };
 }
 
 /// The readers take no memory.
@@ -49,14 +55,6 @@ impl Script {
     ghost use Rattle.std.specs.Prelude.{◌≡◌};
     ghost use Rattle.dd_values.specs.Ranges.{AreLimits};
     ghost use Rattle.dd_script.specs.Kept.{IsScriptOf};
-
-    /// What it says of cells and names.
-    fn known(&self) -> &Known
-        ensures value { result.now ≡ self.now.known }
-        ensures kept { IsScriptOf self.now }
-    {
-        &self.contents.get().known
-    }
 
     /// The dimension: 1, 2 or 3.
     pub fn dim(&self) -> u32
@@ -120,7 +118,7 @@ impl Script {
         ensures value { result.now ≡ self.now.rules }
         ensures kept { IsScriptOf self.now }
     {
-        self.contents.get().rules.as_slice()
+        self.contents.get().made.rules.as_slice()
     }
 
     /// The automata, compositions among them, in the order of their definitions.
@@ -128,7 +126,7 @@ impl Script {
         ensures value { result.now ≡ self.now.automata }
         ensures kept { IsScriptOf self.now }
     {
-        self.contents.get().automata.as_slice()
+        self.contents.get().made.automata.as_slice()
     }
 
     /// The configurations, in the order of their definitions.
@@ -136,7 +134,7 @@ impl Script {
         ensures value { result.now ≡ self.now.configurations }
         ensures kept { IsScriptOf self.now }
     {
-        self.contents.get().configurations.as_slice()
+        self.contents.get().made.configurations.as_slice()
     }
 
     /// The queries, in order.
@@ -144,7 +142,7 @@ impl Script {
         ensures value { result.now ≡ self.now.queries }
         ensures kept { IsScriptOf self.now }
     {
-        self.contents.get().queries.as_slice()
+        self.contents.get().made.queries.as_slice()
     }
 }
 
@@ -161,13 +159,8 @@ impl Script {
         ensures { Asks self.now query.now (asked_of result) }
     {
         self.sound_questions();
-        question_of(
-            self.known(),
-            self.rules(),
-            self.automata(),
-            self.configurations(),
-            query,
-        )
+        let contents = self.contents.get();
+        question_of(&contents.known, &contents.made, query)
     }
 
     /// Does nothing; its contract says that what the queries ask is sound.

@@ -12,7 +12,8 @@ use std::alloc::{AllocError, Global};
 /// and no blank begins.
 pub fn tokens(alloc: Global, bytes: &[u8]) -> Result<Tokens, AllocError>
     requires { length bytes.now ≤ most_script }
-    ensures { IfOk result (λ cut. cut ≡ tokens_of bytes.now) }
+    ensures value { IfOk result (λ cut. cut ≡ tokens_of bytes.now) }
+    ensures few { IfOk result (λ cut. length cut.list ≤ length bytes.now) }
 {
     let mut list = Items::new(alloc);
     let mut place = 0;

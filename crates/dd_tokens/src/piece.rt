@@ -1,8 +1,8 @@
 //! What stands at the front of some bytes: a blank, a comment, a token, or a fault.
-ghost use Rattle.std.specs.Prelude.{◌≡◌, ◌≤◌, ◌<◌, ◌+◌, length, nat_le, ◌==◌, ◌&&◌};
+ghost use Rattle.std.specs.Prelude.{◌≡◌, ◌≤◌, ◌<◌, ◌+◌, length, nat_le, ◌&&◌};
 ghost use Rattle.std.specs.List.{prefix_len};
 ghost use Rattle.dd_values.specs.Bounds.{most_script};
-ghost use Rattle.dd_tokens.specs.Format.{is_blank, is_letter, is_digit, is_sign, is_comment, is_pair, is_both_ways, starts_positive, starts, comment, number, front, first, IsPieceWithin};
+ghost use Rattle.dd_tokens.specs.Format.{is_blank, is_letter, is_digit, is_sign, is_comment, is_pair, is_both_ways, starts_positive, comment, number, front, first, IsPieceWithin};
 
 use crate::token::TokenKind;
 
@@ -110,37 +110,22 @@ fn number(first: u8, bytes: &[u8]) -> Piece
     }
 }
 
-fn starts_with(bytes: &[u8], byte: u8) -> bool
-    ensures { result ≡ starts (λ c. c == byte) bytes.now }
-{
-    match bytes {
-        [] => false,
-        [c, ..] => *c == byte,
-    }
-}
-
 fn starts_positive(bytes: &[u8]) -> bool
     ensures { result ≡ starts_positive bytes.now }
 {
-    match bytes {
-        [] => false,
-        [c, ..] => *c >= b'1' && *c <= b'9',
-    }
+    matches!(bytes, [b'1'..=b'9', ..])
 }
 
 fn is_pair(first: u8, bytes: &[u8]) -> bool
     ensures { result ≡ is_pair first bytes.now }
 {
-    (first == b'-' && starts_with(bytes, b'>')) || (first == b'!' && starts_with(bytes, b'='))
+    (first == b'-' && matches!(bytes, [b'>', ..])) || (first == b'!' && matches!(bytes, [b'=', ..]))
 }
 
 fn is_both_ways(first: u8, bytes: &[u8]) -> bool
     ensures { result ≡ is_both_ways first bytes.now }
 {
-    match bytes {
-        [c, d, ..] => first == b'<' && *c == b'-' && *d == b'>',
-        _ => false,
-    }
+    first == b'<' && matches!(bytes, [b'-', b'>', ..])
 }
 
 fn front(first: u8, bytes: &[u8]) -> Piece
@@ -151,7 +136,7 @@ fn front(first: u8, bytes: &[u8]) -> Piece
     if is_blank(first) {
         return Piece::Gap(1);
     }
-    if first == b'-' && starts_with(bytes, b'-') {
+    if first == b'-' && matches!(bytes, [b'-', ..]) {
         return comment(bytes);
     }
     if is_letter(first) {

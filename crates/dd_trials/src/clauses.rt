@@ -56,7 +56,7 @@ fn size_of(script: &Script, goal: u32, radius: u32, period: u32) -> Result<u32, 
         return Err("a radius".into());
     }
     let rule = script.rules().first().ok_or("a rule")?;
-    Ok(question_clauses(rule, goal, radius, period, 2_000_000))
+    Ok(question_clauses(rule, goal, radius, period, MOST_CLAUSES))
 }
 
 fn size(alloc: Global, script: &str, goal: u32, radius: u32, period: u32) -> Result<u32, Fail> {

@@ -4,11 +4,11 @@ use Rattle.std.specs.Prelude.{max}
 use Rattle.dd_lattice.specs.Boxes.{centred, volume}
 use Rattle.dd_formula.specs.LocalRule.{LocalRule, IsRule}
 use Rattle.dd_values.specs.declared.limits.Limits.{Limits}
-use Rattle.dd_values.specs.declared.limits.Limits.{Limits}
 use Rattle.dd_boxes.specs.Goals.{GoalOf}
 use Rattle.dd_boxes.specs.Boxes.{IsLeastRadius}
 use Rattle.dd_boxes.specs.Counts.{question_clauses, most_clauses}
 use Rattle.dd_boxes.specs.lemmas.SizeLaws.{fewer, box_up}
+use Rattle.dd_boxes.specs.lemmas.ReachLaws.{one_least}
 use Rattle.dd_derivation.specs.declared.step.Step.{Step}
 use Rattle.dd_verify.specs.Evidence.{IsYes}
 use Rattle.dd_question.specs.Sound.{IsAskable}
@@ -20,9 +20,6 @@ box_few l x g least n rule askable is le =
     fewer x g most l.period (volume (centred x.dimension n)) (box_up x.dimension n most l.period rule.dimension.0 rule.dimension.1 le) (askable.small least is)
 
 -- ---- other radii are not asked for: the least radius is one
-
-one_least : (g : GoalOf) (m n : ℕ) → IsLeastRadius g m → IsLeastRadius g n → m ≡ n
-one_least g m n a b = let up : m ≤ n = a.least n b.reaches in let down : n ≤ m = b.least m a.reaches in omega (arith, up, down)
 
 pub too_near : (l : Limits) (x : LocalRule) (g : GoalOf) (n : ℕ) (steps : List Step) (least : ℕ) → IsLeastRadius g least → n < least → IsYes l x g n steps → ⊥
 too_near l x g n steps least is near told =

@@ -1,4 +1,3 @@
-pub mod FirstCells
 pub mod Periodics
 pub mod Differing
 pub mod Claiming

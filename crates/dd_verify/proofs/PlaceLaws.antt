@@ -11,7 +11,7 @@ use Rattle.dd_lattice.specs.declared.position.Cell.{Cell}
 use Rattle.dd_pattern.specs.Tile.{Tile}
 use Rattle.dd_formula.specs.Living.{IsFirstFalse}
 use Rattle.dd_evidence.specs.Cells.{written_cell, IsOutside}
-use Rattle.dd_verify.proofs.FirstCells.{first_cell}
+use Rattle.dd_formula.specs.lemmas.FirstCells.{first_cell}
 
 -- d coordinates of xs, and then n
 module _ (d n : ℕ) (xs place : List ℤ) (few : d ≤ length xs) where

@@ -1,6 +1,6 @@
 -- What the admissible fillings within reach of a box weigh on it, each configuration that obeys the rule weighs too.
 use Rattle.std.proofs.Common.{◌≡◌, ◌<◌, ◌≤◌, ◌+◌, ◌*◌, ◌^◌, ℕ, Bool, true, false, List, length, refl, ap, ◌∙◌, arith, None}
-use Rattle.std.specs.Prelude.{◌&&◌, ◌||◌, ℤ, pos, ◌+ℤ◌, ◌-ℤ◌, cond, nat_lt, int_le, int_lt, Option, is_some, unwrap_or, IfSome}
+use Rattle.std.specs.Prelude.{◌&&◌, ◌||◌, ℤ, pos, ◌+ℤ◌, ◌-ℤ◌, cond, nat_lt, int_le, int_lt, is_some, unwrap_or}
 use Rattle.std.specs.List.{range_with_len}
 use Rattle.std.specs.Ordering.{int_eq}
 use Rattle.std.proofs.lemmas.Bool.{and_parts, and_from, cond_both, lt-ltb, ltb-true}
@@ -18,14 +18,14 @@ use Rattle.dd_formula.specs.LocalRule.{LocalRule, IsRule, rule_allows}
 use Rattle.dd_formula.specs.Living.{Obeys}
 use Rattle.dd_boxes.specs.Fillings.{Admissible, IsConfiguration}
 use Rattle.dd_boxes.specs.lemmas.RuleLaws.{reads_given, keeps_at}
-use Rattle.dd_boxes.specs.lemmas.CutLaws.{cond_domain}
+use Rattle.dd_boxes.specs.lemmas.CutLaws.{cond_domain, cond_symbols}
 use Rattle.dd_discharge.specs.declared.bound.Bound.{Bound}
 use Rattle.dd_discharge.specs.Amounts.{held_over}
 use Rattle.dd_sides.specs.Sides.{side_length, side, is_near_run, is_in_grown, is_grown_cell, IsSideFilling, position_weight, side_weight}
 use Rattle.dd_sides.specs.Boundaries.{boundary}
 use Rattle.dd_sides.specs.Lifted.{reach_of, HoldsOnSides}
 use Rattle.dd_sides.specs.lemmas.BoxLaws.{IsAt, box_at_most}
-use Rattle.dd_sides.specs.lemmas.GroundCells.{range_below}
+use Rattle.dd_sides.specs.lemmas.GroundCells.{active_first, range_below}
 use Rattle.dd_sides.specs.lemmas.WordLaws.{mapped_alike}
 
 -- ---- the grown box lies in Z^d
@@ -55,22 +55,15 @@ run_near : (active : Bool) (n e i : ℕ) (a c : ℤ) → i < side_length active 
 run_near true n e i a c low is flat = on_near n e i a c low is
 run_near false n e i a c low is flat = (Decides-int_eq c (pos 0)).1 (at_zero i a c low is ((Decides-int_eq a (pos 0)).0 flat))
 
-first_active : (d : ℕ) (b : Bool) → 1 ≤ d → (is_active d 0 || b) ≡ true
-first_active d b some = ap (λ (a : Bool). a || b) (lt-ltb 0 d some)
-
 at_grown : (d n e : ℕ) (u p : Place) → 1 ≤ d → is_flat d u ≡ true → IsAt (side d n) u p → is_in_grown d n e u p ≡ true
 at_grown d n e u p some flat at =
     let parts = and_parts (nat_lt 1 d || int_eq u.y (pos 0)) (nat_lt 2 d || int_eq u.z (pos 0)) flat in
-    let on_x = run_near (is_active d 0) n e at.i u.x p.x at.i_below (ap (λ (q : Place). q.x) at.is) (first_active d (int_eq u.x (pos 0)) some) in
+    let on_x = run_near (is_active d 0) n e at.i u.x p.x at.i_below (ap (λ (q : Place). q.x) at.is) (active_first d (int_eq u.x (pos 0)) some) in
     let on_y = run_near (is_active d 1) n e at.j u.y p.y at.j_below (ap (λ (q : Place). q.y) at.is) parts.0 in
     let on_z = run_near (is_active d 2) n e at.k u.z p.z at.k_below (ap (λ (q : Place). q.z) at.is) parts.1 in
     and_from _ _ (and_from _ _ on_x on_y) on_z
 
 -- ---- the part of a configuration within reach of the box
-
-part_symbols : (P : ℕ → Type 0) (b : Bool) (o : Option ℕ) → IfSome o P → IfSome (cond b o None) P
-part_symbols P true o h = h
-part_symbols P false o h = tt
 
 as_much : (a b : ℕ) → a ≡ b → a ≤ b
 as_much a b same = omega (arith, same)
@@ -87,7 +80,7 @@ module _ (x : LocalRule) (n e : ℕ) (u : Place) (look : Look) where
     domain = λ c. cond_domain (is_grown_cell x n e u c) (look c) (λ h.
         let both = and_parts (is_in_grown x.dimension n e u c.position) (nat_lt c.node x.nodes) h in
         whole.everywhere c (grown_flat x.dimension n e u c.position both.0) (ltb-true c.node x.nodes both.1));
-    allowed = λ c. part_symbols (λ s. rule_allows x c.node s ≡ true) (is_grown_cell x n e u c) (look c) (whole.allowed c);
+    allowed = λ c. cond_symbols (λ s. rule_allows x c.node s ≡ true) (is_grown_cell x n e u c) (look c) (whole.allowed c);
   }
 
   part_admissible : Obeys x look → Admissible x part

@@ -1,4 +1,4 @@
-//! Answers to queries of the least density of a strip.
+//! Answers to questions about the least density of a strip.
 ghost use Rattle.std.specs.Prelude.{◌↔◌, IsTrue, IfOk};
 ghost use Rattle.dd_transfer.specs.Transfers.{strip_for};
 ghost use Rattle.dd_transfer.specs.Certificates.{IsDensityCertificate, IsEmptyCertificate};

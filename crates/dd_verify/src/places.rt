@@ -1,4 +1,4 @@
-//! Answers to queries of membership. Nothing here takes memory.
+//! Answers to questions about membership. Nothing here takes memory.
 ghost use Rattle.std.specs.Prelude.{◌≡◌, ◌≤◌, ◌↔◌, [], ◌∷◌, pos, IsTrue};
 ghost use Rattle.dd_formula.specs.Living.{Fits};
 ghost use Rattle.dd_certificate.specs.Bounds.{IsWritable};

@@ -1,28 +1,26 @@
--- The depth of a list, member after member, cut off.
-use Rattle.std.proofs.Common.{◌≡◌, ℕ, ◌+◌, ◌≤◌, ◌<◌, List, [], ◌∷◌, ◌++◌, map, length, take, slice_index_or, refl, sym, ap, ◌∙◌, arith}
+-- The depth of a chain, part after part, cut off.
+use Rattle.std.proofs.Common.{◌≡◌, ℕ, ◌+◌, ◌≤◌, ◌<◌, List, ◌∷◌, map, length, drop, slice_index_or, sym, ap, ◌∙◌, arith}
 use Rattle.std.specs.Prelude.{max}
-use Rattle.std.proofs.lemmas.List.{map_more}
+use Rattle.std.proofs.lemmas.List.{drop_more}
+use Rattle.dd_written.specs.declared.tree.Join.{Join}
 use Rattle.dd_written.specs.declared.tree.Formula.{Formula}
-use Rattle.dd_written.specs.Formulas.{tree_depth, greatest_depth, cut_depth}
+use Rattle.dd_written.specs.Formulas.{tree_depth, signs_over, chain_depth, cut_depth}
 
-pub cut_max : (x y : ℕ) → cut_depth (max (cut_depth x) (cut_depth y)) ≡ cut_depth (max x y)
-cut_max x y = omega arith
+pub cut_sum : (more depth : ℕ) → cut_depth (cut_depth more + cut_depth depth) ≡ cut_depth (more + depth)
+cut_sum more depth = omega arith
 
-pub cut_next : (x : ℕ) → cut_depth (1 + cut_depth x) ≡ cut_depth (1 + x)
-cut_next x = omega arith
+pub cut_next : (depth : ℕ) → cut_depth (1 + cut_depth depth) ≡ cut_depth (1 + depth)
+cut_next depth = omega arith
 
-pub cut_larger : (x y : ℕ) → cut_depth (1 + max (cut_depth x) (cut_depth y)) ≡ cut_depth (1 + max x y)
-cut_larger x y = omega arith
+-- what was found before a part, and what is still to come
+abbrev pub so_far : Join → ℕ → ℕ → List Formula → ℕ → ℕ
+so_far j n i fs old = cut_depth (max old (chain_depth j n i (map tree_depth (drop i fs))))
 
-pub greatest_push : (ds : List ℕ) (d : ℕ) → greatest_depth (ds ++ d ∷ []) ≡ max d (greatest_depth ds)
-greatest_push [] d = refl
-greatest_push (e ∷ ds) d = ap (max e) (greatest_push ds d) ∙ omega arith
+pub deepest_next : (j : Join) (fs : List Formula) (n i : ℕ) (f : Formula) (old new part deep over total : ℕ) → i < length fs → f ≡ slice_index_or fs i f → deep ≡ cut_depth (tree_depth f) → over ≡ cut_depth (signs_over j n i)
+    → part ≡ cut_depth (over + deep) → new ≡ max part old → old ≤ 65 → so_far j n i fs old ≡ total → (new ≤ 65) × (so_far j n (i + 1) fs new ≡ total)
+deepest_next j fs n i f old new part deep over total lt is measured signs at made few before =
+    let from : drop i fs ≡ f ∷ drop (i + 1) fs = drop_more fs i f lt ∙ ap (λ (g : Formula). g ∷ drop (i + 1) fs) (sym is) in
+    let rest : chain_depth j n i (map tree_depth (drop i fs)) ≡ max (signs_over j n i + tree_depth f) (chain_depth j n (i + 1) (map tree_depth (drop (i + 1) fs))) = ap (λ (gs : List Formula). chain_depth j n i (map tree_depth gs)) from in
+    (omega (arith, at, made, few), omega (arith, measured, signs, at, made, rest, before))
 
-pub greatest_next : (fs : List Formula) (i : ℕ) (f : Formula) (old new d : ℕ) → i < length fs → f ≡ slice_index_or fs i f → old ≡ cut_depth (greatest_depth (map tree_depth (take i fs))) → d ≡ cut_depth (tree_depth f) → new ≡ max d old
-    → (new ≤ 65) × (new ≡ cut_depth (greatest_depth (map tree_depth (take (i + 1) fs))))
-greatest_next fs i f old new d lt is before at made =
-    let grown : map tree_depth (take (i + 1) fs) ≡ map tree_depth (take i fs) ++ tree_depth f ∷ [] = map_more tree_depth fs i f lt ∙ ap (λ (g : Formula). map tree_depth (take i fs) ++ tree_depth g ∷ []) (sym is) in
-    let all : greatest_depth (map tree_depth (take (i + 1) fs)) ≡ max (tree_depth f) (greatest_depth (map tree_depth (take i fs))) = ap greatest_depth grown ∙ greatest_push (map tree_depth (take i fs)) (tree_depth f) in
-    (omega (arith, before, at, made), omega (arith, before, at, made, all))
-
-pub ruleset depths = (cut_max, cut_next, cut_larger)
+pub ruleset depths = (cut_sum, cut_next)

@@ -1,5 +1,5 @@
 -- What each kind of formula is written as, where it stands, and how deep it is.
-use Rattle.std.proofs.Common.{◌≡◌, ℕ, Bool, List}
+use Rattle.std.proofs.Common.{◌≡◌, ℕ, Bool, List, ap}
 use Rattle.dd_written.specs.declared.lexeme.Lexeme.{Lexeme}
 use Rattle.dd_written.specs.declared.tree.Formula.{Formula, roll-Formula}
 use Rattle.dd_written.specs.declared.tree.Formula.TheFolds.{fold-roll-Formula, map-Formula}
@@ -9,8 +9,8 @@ use Rattle.dd_written.specs.Formulas.{text, text_step, stands, stands_step, tree
 pub text_of : (x : Formula-F Formula) → text (roll-Formula x) ≡ text_step (map-Formula Formula (List Lexeme) text x)
 text_of x = fold-roll-Formula (List Lexeme) text_step x
 
-pub stands_of : (x : Formula-F Formula) → stands (roll-Formula x) ≡ stands_step (map-Formula Formula (ℕ → Bool) stands x)
-stands_of x = fold-roll-Formula (ℕ → Bool) stands_step x
+pub stands_of : (x : Formula-F Formula) (place : ℕ) → stands (roll-Formula x) place ≡ stands_step (map-Formula Formula (ℕ → Bool) stands x) place
+stands_of x place = ap (λ (h : ℕ → Bool). h place) (fold-roll-Formula (ℕ → Bool) stands_step x)
 
 pub depth_of : (x : Formula-F Formula) → tree_depth (roll-Formula x) ≡ tree_depth_step (map-Formula Formula ℕ tree_depth x)
 depth_of x = fold-roll-Formula ℕ tree_depth_step x

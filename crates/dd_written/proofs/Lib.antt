@@ -1,8 +1,6 @@
-pub mod Rounds
 pub mod Digits
 pub mod Depths
 pub mod Layers
 pub mod Sound
 pub mod Complete
 pub mod Ascii
-pub mod AsciiBytes

@@ -11,8 +11,9 @@ use Rattle.dd_written.specs.declared.tree.Name.TheVariants as name
 use Rattle.dd_written.specs.declared.tree.Term.{Term}
 use Rattle.dd_written.specs.declared.tree.Comparand.{Comparand}
 use Rattle.dd_written.specs.declared.tree.Comparand.TheVariants as side
+use Rattle.dd_written.specs.declared.tree.Relation.{Relation}
+use Rattle.dd_written.specs.declared.tree.Relation.TheVariants as relation
 use Rattle.dd_written.specs.declared.tree.Atom.{Atom}
-use Rattle.dd_written.specs.declared.tree.Atom.TheVariants as atom
 use Rattle.dd_written.specs.declared.tree.Ball.{Ball}
 use Rattle.dd_written.specs.declared.tree.Quantifier.{Quantifier}
 use Rattle.dd_written.specs.declared.tree.Quantifier.TheVariants as quantifier
@@ -36,12 +37,15 @@ abbrev pub atom_side_text : Comparand → List Lexeme
 atom_side_text (side.Term t) = term_text t
 atom_side_text (side.Number n) = lexeme.Number n ∷ []
 
+abbrev pub relation_text : Relation → List Lexeme
+relation_text (relation.Equal s) = lexeme.Mark mark.Equal ∷ atom_side_text s
+relation_text (relation.NotEqual s) = lexeme.Mark mark.NotEqual ∷ atom_side_text s
+relation_text (relation.Adjacent t) = lexeme.Mark mark.Tilde ∷ term_text t
+relation_text (relation.Same t) = lexeme.Mark mark.At ∷ term_text t
+relation_text (relation.AtNode n) = lexeme.Mark mark.Colon ∷ name_lexeme n ∷ []
+
 abbrev pub atom_text : Atom → List Lexeme
-atom_text (atom.Equal t s) = term_text t ++ lexeme.Mark mark.Equal ∷ atom_side_text s
-atom_text (atom.NotEqual t s) = term_text t ++ lexeme.Mark mark.NotEqual ∷ atom_side_text s
-atom_text (atom.Adjacent t u) = term_text t ++ lexeme.Mark mark.Tilde ∷ term_text u
-atom_text (atom.Same t u) = term_text t ++ lexeme.Mark mark.At ∷ term_text u
-atom_text (atom.AtNode t n) = term_text t ++ lexeme.Mark mark.Colon ∷ name_lexeme n ∷ []
+atom_text a = term_text a.term ++ relation_text a.relation
 
 abbrev pub ball_text : Ball → List Lexeme
 ball_text b = lexeme.Word b.centre ∷ lexeme.Number b.radius ∷ []
@@ -53,6 +57,8 @@ capital quantifier.Exists = mark.Exists
 abbrev pub sign : Join → Mark
 sign join.And = mark.And
 sign join.Or = mark.Or
+sign join.Implies = mark.Arrow
+sign join.Iff = mark.BothWays
 
 -- texts with a mark between each two
 abbrev pub separated_by : Mark → List (List Lexeme) → List Lexeme
@@ -64,19 +70,19 @@ text_step (Formula-F.Atom a) = atom_text a
 text_step (Formula-F.Not f) = lexeme.Mark mark.Not ∷ f
 text_step (Formula-F.Quantified q variable balls f) = lexeme.Mark (capital q) ∷ lexeme.Word variable ∷ lexeme.Mark mark.OpenList ∷ flat_map ball_text balls ++ lexeme.Mark mark.CloseList ∷ f
 text_step (Formula-F.Group f) = lexeme.Mark mark.Open ∷ f ++ lexeme.Mark mark.Close ∷ []
-text_step (Formula-F.List j fs) = separated_by (sign j) fs
-text_step (Formula-F.Implies f g) = f ++ lexeme.Mark mark.Arrow ∷ g
-text_step (Formula-F.Iff f g) = f ++ lexeme.Mark mark.BothWays ∷ g
+text_step (Formula-F.Chain j fs) = separated_by (sign j) fs
 
 -- the tokens of a formula
 abbrev pub text : Formula → List Lexeme
 text = fold-Formula (List Lexeme) text_step
 
--- The places of a formula, from the tightest: 0 behind `!` and a quantifier and as a member of an `&` list, 1 as a member
--- of an `|` list, 2 left of `->`, 3 right of `->` and right of `<->`, 4 left of `<->`, in parentheses and alone.
+-- The places of a formula, from the tightest: 0 behind `!` and a quantifier and as a part of `&`, 1 as a part of `|`,
+-- 2 of `->`, 3 of `<->`, 4 in parentheses and alone.
 abbrev pub join_rank : Join → ℕ
 join_rank join.And = 1
 join_rank join.Or = 2
+join_rank join.Implies = 3
+join_rank join.Iff = 4
 
 -- whether a formula may stand at such a place without parentheses
 abbrev pub stands_step : Formula-F (ℕ → Bool) → ℕ → Bool
@@ -84,25 +90,29 @@ stands_step (Formula-F.Atom a) place = true
 stands_step (Formula-F.Not f) place = f 0
 stands_step (Formula-F.Quantified q variable balls f) place = nat_le 1 (length balls) && f 0
 stands_step (Formula-F.Group f) place = f 4
-stands_step (Formula-F.List j fs) place = nat_le (join_rank j) place && nat_le 2 (length fs) && list_all (λ f. f (join_rank j - 1)) fs
-stands_step (Formula-F.Implies f g) place = nat_le 3 place && f 2 && g 3
-stands_step (Formula-F.Iff f g) place = nat_le 4 place && f 4 && g 3
+stands_step (Formula-F.Chain j fs) place = nat_le (join_rank j) place && nat_le 2 (length fs) && list_all (λ f. f (join_rank j - 1)) fs
 
 abbrev pub stands : Formula → ℕ → Bool
 stands = fold-Formula (ℕ → Bool) stands_step
 
-abbrev pub greatest_depth : List ℕ → ℕ
-greatest_depth [] = 0
-greatest_depth (d ∷ ds) = max d (greatest_depth ds)
+-- How many of the signs of n parts stand over part i: `a -> b -> c` is `a -> (b -> c)`, and `a <-> b <-> c` is `(a <-> b) <-> c`.
+abbrev pub signs_over : Join → ℕ → ℕ → ℕ
+signs_over join.And n i = 1
+signs_over join.Or n i = 1
+signs_over join.Implies n i = min (i + 1) (n - 1)
+signs_over join.Iff n i = min (n - i) (n - 1)
+
+-- how deep the parts from part i on make a chain of n parts
+abbrev pub chain_depth : Join → ℕ → ℕ → List ℕ → ℕ
+chain_depth j n i [] = 0
+chain_depth j n i (d ∷ ds) = max (signs_over j n i + d) (chain_depth j n (i + 1) ds)
 
 abbrev pub tree_depth_step : Formula-F ℕ → ℕ
 tree_depth_step (Formula-F.Atom a) = 0
 tree_depth_step (Formula-F.Not d) = 1 + d
 tree_depth_step (Formula-F.Quantified q variable balls d) = 1 + d
 tree_depth_step (Formula-F.Group d) = 1 + d
-tree_depth_step (Formula-F.List j ds) = 1 + greatest_depth ds
-tree_depth_step (Formula-F.Implies d e) = 1 + max d e
-tree_depth_step (Formula-F.Iff d e) = 1 + max d e
+tree_depth_step (Formula-F.Chain j ds) = chain_depth j (length ds) 0 ds
 
 abbrev pub tree_depth : Formula → ℕ
 tree_depth = fold-Formula ℕ tree_depth_step

@@ -1,6 +1,7 @@
 -- The tokens of a script as the grammar sees them.
-use Rattle.std.specs.Prelude.{ℕ, List, [], ◌∷◌, ◌++◌, length, map, take, drop, ◌==◌, Option, Some, None, if◌then◌else◌, codes, bytes_eq}
-use Rattle.std.specs.List.{find}
+use Rattle.std.specs.Prelude.{ℕ, List, [], ◌∷◌, ◌++◌, length, map, take, drop, ◌==◌, ◌&&◌, Option, Some, None, if◌then◌else◌, codes, bytes_eq}
+use Rattle.std.specs.List.{find, list_all}
+use Rattle.std.specs.Char.{is_ascii}
 use Rattle.dd_tokens.specs.declared.token.Token.{Token}
 use Rattle.dd_tokens.specs.declared.token.TokenKind.TheVariants as token
 use Rattle.dd_tokens.specs.Format.{tokens_of}
@@ -53,9 +54,9 @@ lexeme_of bytes t = elim t.kind as (λ kind. Lexeme) [
   | token.Mark ↦ marked (mark_at (token_text bytes t))
 ]
 
--- what follows the tokens: a byte that belongs to none, or nothing
+-- what follows the tokens: nothing, where they and the blanks are all of the bytes, which are ASCII; else a byte that belongs to none
 abbrev pub stray : List ℕ → List Lexeme
-stray bytes = if (tokens_of bytes).stop == length bytes then [] else lexeme.Stray ∷ []
+stray bytes = if (tokens_of bytes).stop == length bytes && list_all is_ascii bytes then [] else lexeme.Stray ∷ []
 
 abbrev pub lexemes_of : List ℕ → List Lexeme
 lexemes_of bytes = map (lexeme_of bytes) (tokens_of bytes).list ++ stray bytes

@@ -1,17 +1,32 @@
 //! How deep a formula is, as far as the limit asks.
-ghost use Rattle.std.specs.Prelude.{◌≡◌, ◌≤◌, ◌+◌, map, max};
-ghost use Rattle.dd_written.specs.Formulas.{tree_depth, greatest_depth, cut_depth};
+ghost use Rattle.std.specs.Prelude.{◌≡◌, ◌<◌, ◌≤◌, ◌+◌, length, map};
+ghost use Rattle.dd_written.specs.Formulas.{tree_depth, signs_over, chain_depth, cut_depth};
 
-use crate::tree::Formula;
+use crate::tree::{Formula, Join};
 
 /// The greatest depth of a formula.
 pub(crate) const MOST_DEEP: u32 = 64;
 
-fn deeper(depth: u32) -> u32
-    requires { depth ≤ 65 }
-    ensures { result ≡ cut_depth (1 + depth) }
+fn deeper(depth: u32, more: u32) -> u32
+    requires depth { depth ≤ 65 }
+    requires more { more ≤ 65 }
+    ensures { result ≡ cut_depth (more + depth) }
 {
-    (depth + 1).min(MOST_DEEP + 1)
+    (more + depth).min(MOST_DEEP + 1)
+}
+
+/// How many signs of a chain of so many parts stand over one of them.
+fn signs_over(join: Join, count: usize, place: usize) -> u32
+    requires { place < count }
+    ensures { result ≡ cut_depth (signs_over join count place) }
+{
+    let signs = match join {
+        Join::And => 1,
+        Join::Or => 1,
+        Join::Implies => (place + 1).min(count - 1),
+        Join::Iff => (count - place).min(count - 1),
+    };
+    signs.min(65) as u32
 }
 
 /// The depth, and 65 for all that are deeper than 64.
@@ -23,29 +38,26 @@ pub(crate) fn capped_depth(formula: &Formula) -> u32
 {
     match formula {
         Formula::Atom(_) => 0,
-        Formula::Not(inner) => deeper(capped_depth(inner.get())),
-        Formula::Quantified { body, .. } => deeper(capped_depth(body.get())),
-        Formula::Group(inner) => deeper(capped_depth(inner.get())),
-        Formula::List { members, .. } => deeper(greatest(members.as_slice())),
-        Formula::Implies {
-            premise,
-            conclusion,
-        } => deeper(capped_depth(premise.get()).max(capped_depth(conclusion.get()))),
-        Formula::Iff { left, right } => deeper(capped_depth(left.get()).max(capped_depth(
-            right.get(),
-        ))),
+        Formula::Not(inner) => deeper(capped_depth(inner.get()), 1),
+        Formula::Quantified { body, .. } => deeper(capped_depth(body.get()), 1),
+        Formula::Group(inner) => deeper(capped_depth(inner.get()), 1),
+        Formula::Chain { join, parts } => deepest(*join, parts.as_slice()),
     }
 }
 
 #[cycle(measure)]
 #[tactic(auto, using(crate::proofs::Depths::depths))]
-fn greatest(members: &[Formula]) -> u32
-    ensures value { result ≡ cut_depth (greatest_depth (map tree_depth members.now)) }
+fn deepest(join: Join, parts: &[Formula]) -> u32
+    ensures value { result ≡ cut_depth (chain_depth join (length parts.now) 0 (map tree_depth parts.now)) }
     ensures within { result ≤ 65 }
 {
-    let mut greatest = 0;
-    for member in members {
-        greatest = capped_depth(member).max(greatest);
+    let mut deepest = 0;
+    for place in 0..parts.len() {
+        let part = deeper(
+            capped_depth(&parts[place]),
+            signs_over(join, parts.len(), place),
+        );
+        deepest = part.max(deepest);
     }
-    greatest
+    deepest
 }

@@ -2,8 +2,12 @@
 ghost use Rattle.std.specs.Prelude.{◌≡◌};
 ghost use Rattle.dd_written.specs.declared.fault.ReadFault.TheVariants.{Memory};
 
+use crate::lexeme::Lexeme;
 use std::alloc::AllocError;
 use thiserror::Error;
+
+/// What was read at the front of some tokens, and the tokens behind it.
+pub(crate) type Read<'a, T> = Result<(T, &'a [Lexeme]), ReadFault>;
 
 /// Why nothing was read of the tokens.
 #[derive(Debug, Drop, Error)]

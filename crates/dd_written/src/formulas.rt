@@ -1,18 +1,18 @@
 //! Formulas, read from left to right.
-ghost use Rattle.std.specs.Prelude.{◌≡◌, ◌+◌, ◌<◌, ◌≤◌, length, Some};
+ghost use Rattle.std.specs.Prelude.{◌≡◌, length, Some};
 ghost use Rattle.dd_written.specs.reading.Readers.{Gives, with_front};
-ghost use Rattle.dd_written.specs.reading.Atoms.{name_at, moves_at, term_at, side_at, after_term, atom_at, leaf_at, balls_at, quantifier_end, quantifier_at};
-ghost use Rattle.dd_written.specs.reading.Formulas.{begins, more_at, list_end, list_at, member_at, or_at, implies_end, implies_at, iff_end, iff_more, whole_at, not_at, quantified_at, group_end, group_at, nested_at, unary_at, formula_at};
+ghost use Rattle.dd_written.specs.reading.Atoms.{name_at, moves_at, term_at, side_at, relation_at, leaf_at, balls_at, quantifier_at};
+ghost use Rattle.dd_written.specs.reading.Formulas.{begins, part_at, more_at, chain_at, chain_end, quantified_at, group_at, nested_at, unary_at, formula_at};
 
 use crate::depth::{MOST_DEEP, capped_depth};
-use crate::fault::ReadFault;
+use crate::fault::{Read, ReadFault};
 use crate::lexeme::{Lexeme, Mark, Word};
-use crate::tree::{Atom, Ball, Comparand, Formula, Join, Name, Quantifier, Term};
+use crate::tree::{Atom, Ball, Comparand, Formula, Join, Name, Quantifier, Relation, Term};
 use dd_values::{Boxed, Items};
 use std::alloc::Global;
 
 /// The name at the front, and the tokens behind it.
-pub fn read_name(tokens: &[Lexeme]) -> Result<(Name, &[Lexeme]), ReadFault>
+pub fn read_name(tokens: &[Lexeme]) -> Read<'_, Name>
     ensures { Gives (λ x. (x.0, x.1.now)) result (name_at tokens.now) }
 {
     match tokens {
@@ -22,7 +22,7 @@ pub fn read_name(tokens: &[Lexeme]) -> Result<(Name, &[Lexeme]), ReadFault>
     }
 }
 
-fn moves(alloc: Global, tokens: &[Lexeme]) -> Result<(Items<Word>, &[Lexeme]), ReadFault>
+fn moves(alloc: Global, tokens: &[Lexeme]) -> Read<'_, Items<Word>>
     ensures { Gives (λ x. (x.0, x.1.now)) result (Some (moves_at tokens.now)) }
 {
     let mut moves = Items::new(alloc);
@@ -34,7 +34,7 @@ fn moves(alloc: Global, tokens: &[Lexeme]) -> Result<(Items<Word>, &[Lexeme]), R
     Ok((moves, rest))
 }
 
-fn term(alloc: Global, tokens: &[Lexeme]) -> Result<(Term, &[Lexeme]), ReadFault>
+fn term(alloc: Global, tokens: &[Lexeme]) -> Read<'_, Term>
     ensures { Gives (λ x. (x.0, x.1.now)) result (term_at tokens.now) }
 {
     match tokens {
@@ -50,7 +50,7 @@ fn term(alloc: Global, tokens: &[Lexeme]) -> Result<(Term, &[Lexeme]), ReadFault
     }
 }
 
-fn side(alloc: Global, tokens: &[Lexeme]) -> Result<(Comparand, &[Lexeme]), ReadFault>
+fn side(alloc: Global, tokens: &[Lexeme]) -> Read<'_, Comparand>
     ensures { Gives (λ x. (x.0, x.1.now)) result (side_at tokens.now) }
 {
     match tokens {
@@ -62,47 +62,40 @@ fn side(alloc: Global, tokens: &[Lexeme]) -> Result<(Comparand, &[Lexeme]), Read
     }
 }
 
-fn after_term(alloc: Global, term: Term, tokens: &[Lexeme]) -> Result<(Atom, &[Lexeme]), ReadFault>
-    ensures { Gives (λ x. (x.0, x.1.now)) result (after_term term tokens.now) }
+/// What is said of a term, behind it.
+fn relation(alloc: Global, tokens: &[Lexeme]) -> Read<'_, Relation>
+    ensures { Gives (λ x. (x.0, x.1.now)) result (relation_at tokens.now) }
 {
     match tokens {
         [Lexeme::Mark(Mark::Equal), rest @ ..] => {
-            side(alloc, rest).map(|(side, rest)| (Atom::Equal { term, side }, rest))
+            side(alloc, rest).map(|(side, rest)| (Relation::Equal(side), rest))
         }
         [Lexeme::Mark(Mark::NotEqual), rest @ ..] => {
-            side(alloc, rest).map(|(side, rest)| (Atom::NotEqual { term, side }, rest))
+            side(alloc, rest).map(|(side, rest)| (Relation::NotEqual(side), rest))
         }
         [Lexeme::Mark(Mark::Tilde), rest @ ..] => {
-            self::term(alloc, rest).map(|(right, rest)| (
-                Atom::Adjacent { left: term, right },
-                rest,
-            ))
+            term(alloc, rest).map(|(right, rest)| (Relation::Adjacent(right), rest))
         }
         [Lexeme::Mark(Mark::At), rest @ ..] => {
-            self::term(alloc, rest).map(|(right, rest)| (Atom::Same { left: term, right }, rest))
+            term(alloc, rest).map(|(right, rest)| (Relation::Same(right), rest))
         }
         [Lexeme::Mark(Mark::Colon), rest @ ..] => {
-            read_name(rest).map(|(node, rest)| (Atom::AtNode { term, node }, rest))
+            read_name(rest).map(|(node, rest)| (Relation::AtNode(node), rest))
         }
         _ => Err(ReadFault::Syntax),
     }
 }
 
-fn atom(alloc: Global, tokens: &[Lexeme]) -> Result<(Atom, &[Lexeme]), ReadFault>
-    ensures { Gives (λ x. (x.0, x.1.now)) result (atom_at tokens.now) }
-{
-    let (term, rest) = term(alloc, tokens)?;
-    after_term(alloc, term, rest)
-}
-
-fn leaf(alloc: Global, tokens: &[Lexeme]) -> Result<(Formula, &[Lexeme]), ReadFault>
+/// A formula without parts.
+fn leaf(alloc: Global, tokens: &[Lexeme]) -> Read<'_, Formula>
     ensures { Gives (λ x. (x.0, x.1.now)) result (leaf_at tokens.now) }
 {
-    let (atom, rest) = atom(alloc, tokens)?;
-    Ok((Formula::Atom(atom), rest))
+    let (term, rest) = term(alloc, tokens)?;
+    let (relation, rest) = relation(alloc, rest)?;
+    Ok((Formula::Atom(Atom { term, relation }), rest))
 }
 
-fn balls(alloc: Global, tokens: &[Lexeme]) -> Result<(Items<Ball>, &[Lexeme]), ReadFault>
+fn balls(alloc: Global, tokens: &[Lexeme]) -> Read<'_, Items<Ball>>
     ensures { Gives (λ x. (x.0, x.1.now)) result (Some (balls_at tokens.now)) }
 {
     let mut balls = Items::new(alloc);
@@ -117,37 +110,22 @@ fn balls(alloc: Global, tokens: &[Lexeme]) -> Result<(Items<Ball>, &[Lexeme]), R
     Ok((balls, rest))
 }
 
-fn quantifier_end(
-    variable: Word,
-    balls: Items<Ball>,
-    tokens: &[Lexeme],
-) -> Result<((Word, Items<Ball>), &[Lexeme]), ReadFault>
-    ensures { Gives (λ x. (x.0, x.1.now)) result (quantifier_end variable balls tokens.now) }
-{
-    if balls.is_empty() {
-        return Err(ReadFault::Syntax);
-    }
-    match tokens {
-        [Lexeme::Mark(Mark::CloseList), rest @ ..] => Ok(((variable, balls), rest)),
-        _ => Err(ReadFault::Syntax),
-    }
-}
-
 /// The variable and the balls of a quantifier, behind its capital.
-fn quantifier(
-    alloc: Global,
-    tokens: &[Lexeme],
-) -> Result<((Word, Items<Ball>), &[Lexeme]), ReadFault>
+fn quantifier(alloc: Global, tokens: &[Lexeme]) -> Read<'_, (Word, Items<Ball>)>
     ensures { Gives (λ x. (x.0, x.1.now)) result (quantifier_at tokens.now) }
 {
-    match tokens {
-        [
-            Lexeme::Word(variable),
-            Lexeme::Mark(Mark::OpenList),
-            rest @ ..,
-        ] => {
-            let (balls, rest) = balls(alloc, rest)?;
-            quantifier_end(*variable, balls, rest)
+    let [
+        Lexeme::Word(variable),
+        Lexeme::Mark(Mark::OpenList),
+        rest @ ..,
+    ] = tokens
+    else {
+        return Err(ReadFault::Syntax);
+    };
+    let (balls, rest) = balls(alloc, rest)?;
+    match rest {
+        [Lexeme::Mark(Mark::CloseList), rest @ ..] if !balls.is_empty() => {
+            Ok(((*variable, balls), rest))
         }
         _ => Err(ReadFault::Syntax),
     }
@@ -159,13 +137,14 @@ fn begins(join: Join, tokens: &[Lexeme]) -> bool
     match join {
         Join::And => matches!(tokens, [Lexeme::Mark(Mark::And), ..]),
         Join::Or => matches!(tokens, [Lexeme::Mark(Mark::Or), ..]),
+        Join::Implies => matches!(tokens, [Lexeme::Mark(Mark::Arrow), ..]),
+        Join::Iff => matches!(tokens, [Lexeme::Mark(Mark::BothWays), ..]),
     }
 }
 
-/// A formula of the tightest place. The budget bounds how many stand in one another.
+/// A formula of the tightest place. The budget bounds how many of `!`, quantifiers and parentheses stand in one another.
 #[cycle(read)]
-fn unary(alloc: Global, budget: u32, tokens: &[Lexeme]) -> Result<(Formula, &[Lexeme]), ReadFault>
-    requires { budget ≤ 64 }
+fn unary(alloc: Global, budget: u32, tokens: &[Lexeme]) -> Read<'_, Formula>
     ensures { Gives (λ x. (x.0, x.1.now)) result (unary_at budget tokens.now) }
 {
     if budget == 0 {
@@ -175,12 +154,14 @@ fn unary(alloc: Global, budget: u32, tokens: &[Lexeme]) -> Result<(Formula, &[Le
 }
 
 #[cycle(read)]
-fn nested(alloc: Global, budget: u32, tokens: &[Lexeme]) -> Result<(Formula, &[Lexeme]), ReadFault>
-    requires { budget < 64 }
-    ensures { Gives (λ x. (x.0, x.1.now)) result (nested_at (unary_at budget) budget tokens.now) }
+fn nested(alloc: Global, budget: u32, tokens: &[Lexeme]) -> Read<'_, Formula>
+    ensures { Gives (λ x. (x.0, x.1.now)) result (nested_at (unary_at budget) tokens.now) }
 {
     match tokens {
-        [Lexeme::Mark(Mark::Not), rest @ ..] => negated(alloc, budget, rest),
+        [Lexeme::Mark(Mark::Not), rest @ ..] => {
+            let (negated, rest) = unary(alloc, budget, rest)?;
+            Ok((Formula::Not(Boxed::new(alloc, negated)?), rest))
+        }
         [Lexeme::Mark(Mark::All), rest @ ..] => quantified(alloc, budget, Quantifier::All, rest),
         [Lexeme::Mark(Mark::Exists), rest @ ..] => quantified(
             alloc,
@@ -194,247 +175,110 @@ fn nested(alloc: Global, budget: u32, tokens: &[Lexeme]) -> Result<(Formula, &[L
 }
 
 #[cycle(read)]
-fn negated(alloc: Global, budget: u32, tokens: &[Lexeme]) -> Result<(Formula, &[Lexeme]), ReadFault>
-    requires { budget < 64 }
-    ensures { Gives (λ x. (x.0, x.1.now)) result (not_at (unary_at budget) tokens.now) }
-{
-    let (negated, rest) = unary(alloc, budget, tokens)?;
-    Ok((Formula::Not(Boxed::new(alloc, negated)?), rest))
-}
-
-#[cycle(read)]
 fn quantified(
     alloc: Global,
     budget: u32,
     quantifier: Quantifier,
     tokens: &[Lexeme],
-) -> Result<(Formula, &[Lexeme]), ReadFault>
-    requires { budget < 64 }
+) -> Read<'_, Formula>
     ensures { Gives (λ x. (x.0, x.1.now)) result (quantified_at (unary_at budget) quantifier tokens.now) }
 {
     let ((variable, balls), rest) = self::quantifier(alloc, tokens)?;
-    let (scope, rest) = unary(alloc, budget, rest)?;
-    let body = Boxed::new(alloc, scope)?;
-    Ok((
-        Formula::Quantified {
-            quantifier,
-            variable,
-            balls,
-            body,
-        },
-        rest,
-    ))
+    let (body, rest) = unary(alloc, budget, rest)?;
+    let formula = Formula::Quantified {
+        quantifier,
+        variable,
+        balls,
+        body: Boxed::new(alloc, body)?,
+    };
+    Ok((formula, rest))
 }
 
-fn group_end(inner: Boxed<Formula>, tokens: &[Lexeme]) -> Result<(Formula, &[Lexeme]), ReadFault>
-    ensures { Gives (λ x. (x.0, x.1.now)) result (group_end inner tokens.now) }
+#[cycle(read)]
+fn group(alloc: Global, budget: u32, tokens: &[Lexeme]) -> Read<'_, Formula>
+    ensures { Gives (λ x. (x.0, x.1.now)) result (group_at (unary_at budget) tokens.now) }
 {
-    match tokens {
-        [Lexeme::Mark(Mark::Close), rest @ ..] => Ok((Formula::Group(inner), rest)),
+    let (inner, rest) = chain(alloc, budget, Join::Iff, tokens)?;
+    match rest {
+        [Lexeme::Mark(Mark::Close), rest @ ..] => {
+            Ok((Formula::Group(Boxed::new(alloc, inner)?), rest))
+        }
         _ => Err(ReadFault::Syntax),
     }
 }
 
+/// A part of a chain: the looser a sign binds, the looser are those that its parts may hold.
 #[cycle(read)]
-fn group(alloc: Global, budget: u32, tokens: &[Lexeme]) -> Result<(Formula, &[Lexeme]), ReadFault>
-    requires { budget < 64 }
-    ensures { Gives (λ x. (x.0, x.1.now)) result (group_at (unary_at budget) budget tokens.now) }
-{
-    let (inner, rest) = whole(alloc, budget, tokens)?;
-    group_end(inner, rest)
-}
-
-/// A formula that may stand alone, as far as it goes, and the tokens behind it. The budget bounds how many of `!`, quantifiers
-/// and parentheses stand in one another, and how many arrows of a kind follow one another.
-#[cycle(read)]
-fn whole(
-    alloc: Global,
-    budget: u32,
-    tokens: &[Lexeme],
-) -> Result<(Boxed<Formula>, &[Lexeme]), ReadFault>
-    requires { budget ≤ 64 }
-    ensures { Gives (λ x. (x.0, x.1.now)) result (whole_at (unary_at budget) budget tokens.now) }
-{
-    let (first, rest) = implication(alloc, budget, budget, tokens)?;
-    equivalence(alloc, budget, budget, first, rest)
-}
-
-/// What was read goes on by double arrows, as many as the limit allows.
-#[cycle(read)]
-fn equivalence(
-    alloc: Global,
-    budget: u32,
-    limit: u32,
-    first: Boxed<Formula>,
-    tokens: &[Lexeme],
-) -> Result<(Boxed<Formula>, &[Lexeme]), ReadFault>
-    requires few { budget ≤ 64 }
-    requires within { limit ≤ 64 }
-    ensures { Gives (λ x. (x.0, x.1.now)) result (iff_more (implies_at (or_at (unary_at budget)) budget) limit first tokens.now) }
-{
-    if limit == 0 {
-        return Ok((first, tokens));
-    }
-    equivalence_end(alloc, budget, limit - 1, first, tokens)
-}
-
-#[cycle(read)]
-fn equivalence_end(
-    alloc: Global,
-    budget: u32,
-    limit: u32,
-    left: Boxed<Formula>,
-    tokens: &[Lexeme],
-) -> Result<(Boxed<Formula>, &[Lexeme]), ReadFault>
-    requires few { budget ≤ 64 }
-    requires within { limit < 64 }
-    ensures { Gives (λ x. (x.0, x.1.now)) result (iff_end (implies_at (or_at (unary_at budget)) budget) (iff_more (implies_at (or_at (unary_at budget)) budget) limit) left tokens.now) }
-{
-    match tokens {
-        [Lexeme::Mark(Mark::BothWays), rest @ ..] => {
-            let (right, rest) = implication(alloc, budget, budget, rest)?;
-            let both = Boxed::new(alloc, Formula::Iff { left, right })?;
-            equivalence(alloc, budget, limit, both, rest)
-        }
-        _ => Ok((left, tokens)),
-    }
-}
-
-/// Members of an `|` list with at most so many arrows between them.
-#[cycle(read)]
-fn implication(
-    alloc: Global,
-    budget: u32,
-    limit: u32,
-    tokens: &[Lexeme],
-) -> Result<(Boxed<Formula>, &[Lexeme]), ReadFault>
-    requires few { budget ≤ 64 }
-    requires within { limit ≤ 64 }
-    ensures { Gives (λ x. (x.0, x.1.now)) result (implies_at (or_at (unary_at budget)) limit tokens.now) }
-{
-    let (first, rest) = list(alloc, budget, Join::Or, tokens)?;
-    let premise = Boxed::new(alloc, first)?;
-    if limit == 0 {
-        return Ok((premise, rest));
-    }
-    implication_end(alloc, budget, limit - 1, premise, rest)
-}
-
-#[cycle(read)]
-fn implication_end(
-    alloc: Global,
-    budget: u32,
-    limit: u32,
-    premise: Boxed<Formula>,
-    tokens: &[Lexeme],
-) -> Result<(Boxed<Formula>, &[Lexeme]), ReadFault>
-    requires few { budget ≤ 64 }
-    requires within { limit < 64 }
-    ensures { Gives (λ x. (x.0, x.1.now)) result (implies_end premise (implies_at (or_at (unary_at budget)) limit) tokens.now) }
-{
-    match tokens {
-        [Lexeme::Mark(Mark::Arrow), rest @ ..] => {
-            let (conclusion, rest) = implication(alloc, budget, limit, rest)?;
-            let both = Formula::Implies {
-                premise,
-                conclusion,
-            };
-            let implied = Boxed::new(alloc, both)?;
-            Ok((implied, rest))
-        }
-        _ => Ok((premise, tokens)),
-    }
-}
-
-/// A member of such a list: those of an `|` list are `&` lists.
-#[cycle(read)]
-fn member(
-    alloc: Global,
-    budget: u32,
-    join: Join,
-    tokens: &[Lexeme],
-) -> Result<(Formula, &[Lexeme]), ReadFault>
-    requires { budget ≤ 64 }
-    ensures { Gives (λ x. (x.0, x.1.now)) result (member_at join (unary_at budget) tokens.now) }
+fn part(alloc: Global, budget: u32, join: Join, tokens: &[Lexeme]) -> Read<'_, Formula>
+    ensures { Gives (λ x. (x.0, x.1.now)) result (part_at join (unary_at budget) tokens.now) }
 {
     match join {
         Join::And => unary(alloc, budget, tokens),
-        Join::Or => list(alloc, budget, Join::And, tokens),
+        Join::Or => chain(alloc, budget, Join::And, tokens),
+        Join::Implies => chain(alloc, budget, Join::Or, tokens),
+        Join::Iff => chain(alloc, budget, Join::Implies, tokens),
     }
 }
 
-/// One member, or a list of two or more with the sign between them.
+/// One part, or a chain of two or more with the sign between them, as far as it goes.
 #[cycle(read)]
-fn list(
-    alloc: Global,
-    budget: u32,
-    join: Join,
-    tokens: &[Lexeme],
-) -> Result<(Formula, &[Lexeme]), ReadFault>
-    requires { budget ≤ 64 }
-    ensures { Gives (λ x. (x.0, x.1.now)) result (list_at join (member_at join (unary_at budget)) tokens.now) }
+fn chain(alloc: Global, budget: u32, join: Join, tokens: &[Lexeme]) -> Read<'_, Formula>
+    ensures { Gives (λ x. (x.0, x.1.now)) result (chain_at join (part_at join (unary_at budget)) tokens.now) }
 {
-    let (first, rest) = member(alloc, budget, join, tokens)?;
-    list_end(alloc, budget, join, first, rest)
+    let (first, rest) = part(alloc, budget, join, tokens)?;
+    chain_end(alloc, budget, join, first, rest)
 }
 
 #[cycle(read)]
-#[tactic(auto, using(crate::proofs::Rounds::lists))]
-fn list_end(
+fn chain_end(
     alloc: Global,
     budget: u32,
     join: Join,
     first: Formula,
     tokens: &[Lexeme],
-) -> Result<(Formula, &[Lexeme]), ReadFault>
-    requires { budget ≤ 64 }
-    ensures { Gives (λ x. (x.0, x.1.now)) result (list_end join (member_at join (unary_at budget)) first tokens.now) }
+) -> Read<'_, Formula>
+    ensures { Gives (λ x. (x.0, x.1.now)) result (chain_end join (part_at join (unary_at budget)) first tokens.now) }
 {
     if !begins(join, tokens) {
         return Ok((first, tokens));
     }
     let mut front = Items::new(alloc);
     front.push(first)?;
-    let (members, rest) = more_members(alloc, budget, join, front, tokens)?;
-    Ok((Formula::List { join, members }, rest))
+    let (parts, rest) = more_parts(alloc, budget, join, front, tokens)?;
+    Ok((Formula::Chain { join, parts }, rest))
 }
 
 #[cycle(read)]
-fn more_members(
+fn more_parts(
     alloc: Global,
     budget: u32,
     join: Join,
-    front: Items<Formula>,
+    mut parts: Items<Formula>,
     tokens: &[Lexeme],
-) -> Result<(Items<Formula>, &[Lexeme]), ReadFault>
-    requires { budget ≤ 64 }
-    ensures { Gives (λ x. (x.0, x.1.now)) result (with_front front (more_at join (member_at join (unary_at budget)) (length tokens.now) tokens.now)) }
+) -> Read<'_, Items<Formula>>
+    ensures { Gives (λ x. (x.0, x.1.now)) result (with_front parts (more_at join (part_at join (unary_at budget)) (length tokens.now) tokens.now)) }
 {
-    let mut members = front;
     let mut rest = tokens;
     for _ in 0..tokens.len() {
         if !begins(join, rest) {
-            return Ok((members, rest));
+            return Ok((parts, rest));
         }
-        let (next, after) = member(alloc, budget, join, rest.split_at(1).1)?;
-        members.push(next)?;
+        let (next, after) = part(alloc, budget, join, rest.split_at(1).1)?;
+        parts.push(next)?;
         rest = after;
     }
-    Ok((members, rest))
+    Ok((parts, rest))
 }
 
 /// A formula of a depth of at most 64 at the front, as far as it goes, and the tokens behind it.
 ///
 /// # Errors
 /// No formula of such a depth stands there, or want of memory.
-pub fn read_formula(
-    alloc: Global,
-    tokens: &[Lexeme],
-) -> Result<(Boxed<Formula>, &[Lexeme]), ReadFault>
+pub fn read_formula(alloc: Global, tokens: &[Lexeme]) -> Read<'_, Formula>
     ensures { Gives (λ x. (x.0, x.1.now)) result (formula_at tokens.now) }
 {
-    let (formula, rest) = whole(alloc, MOST_DEEP, tokens)?;
-    if capped_depth(formula.get()) > MOST_DEEP {
+    let (formula, rest) = chain(alloc, MOST_DEEP, Join::Iff, tokens)?;
+    if capped_depth(&formula) > MOST_DEEP {
         return Err(ReadFault::Syntax);
     }
     Ok((formula, rest))

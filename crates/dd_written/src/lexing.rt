@@ -1,7 +1,9 @@
 //! From the bytes of a script to its tokens as the grammar sees them.
 ghost use Rattle.std.specs.Prelude.{◌≡◌, ◌≤◌, ◌+◌, length, map, bytes_eq, IfOk};
+ghost use Rattle.std.specs.Char.{is_ascii};
+ghost use Rattle.std.specs.List.{list_all};
 ghost use Rattle.dd_values.specs.Bounds.{most_script};
-ghost use Rattle.dd_written.specs.Lexemes.{mark_text, mark_at, token_text, lexeme_of, lexemes_of};
+ghost use Rattle.dd_written.specs.Lexemes.{mark_text, mark_at, lexeme_of, lexemes_of};
 
 use crate::lexeme::{Lexeme, Mark, Number, Word};
 use crate::words::{part, same_bytes};
@@ -65,29 +67,15 @@ fn mark(written: &[u8]) -> Option<Mark>
         .find(|mark| same_bytes(written, mark.text()))
 }
 
-fn text(bytes: &[u8], token: Token) -> &[u8]
-    ensures { result.now ≡ token_text bytes.now token }
-{
-    part(bytes, token.start, token.length)
-}
-
 fn lexeme(bytes: &[u8], token: Token) -> Lexeme
     ensures { result ≡ lexeme_of bytes.now token }
 {
+    let Token { start, length, .. } = token;
     match token.kind {
-        TokenKind::Word => Lexeme::Word(Word {
-            start: token.start,
-            length: token.length,
-        }),
-        TokenKind::Number => Lexeme::Number(Number {
-            start: token.start,
-            length: token.length,
-        }),
-        TokenKind::Negative => Lexeme::Negative(Number {
-            start: token.start,
-            length: token.length,
-        }),
-        TokenKind::Mark => match mark(text(bytes, token)) {
+        TokenKind::Word => Lexeme::Word(Word { start, length }),
+        TokenKind::Number => Lexeme::Number(Number { start, length }),
+        TokenKind::Negative => Lexeme::Negative(Number { start, length }),
+        TokenKind::Mark => match mark(part(bytes, start, length)) {
             Some(mark) => Lexeme::Mark(mark),
             None => Lexeme::Stray,
         },
@@ -104,7 +92,13 @@ fn lexemes_in(alloc: Global, bytes: &[u8], list: &[Token]) -> Result<Items<Lexem
     Ok(lexemes)
 }
 
-/// The tokens of at most 1,048,576 bytes, and a stray one where the bytes are not tokens and blanks whole.
+fn is_ascii(bytes: &[u8]) -> bool
+    ensures { result ≡ list_all is_ascii bytes.now }
+{
+    bytes.iter().all(|byte| byte.is_ascii())
+}
+
+/// The tokens of at most 1,048,576 bytes, and a stray one where the bytes are not tokens and blanks whole, all ASCII.
 pub fn lexemes(alloc: Global, bytes: &[u8]) -> Result<Items<Lexeme>, AllocError>
     requires { length bytes.now ≤ most_script }
     ensures value { IfOk result (λ lexemes. lexemes ≡ lexemes_of bytes.now) }
@@ -112,7 +106,7 @@ pub fn lexemes(alloc: Global, bytes: &[u8]) -> Result<Items<Lexeme>, AllocError>
 {
     let cut = tokens(alloc, bytes)?;
     let mut lexemes = lexemes_in(alloc, bytes, cut.list.as_slice())?;
-    if cut.stop as usize == bytes.len() {
+    if cut.stop as usize == bytes.len() && is_ascii(bytes) {
         return Ok(lexemes);
     }
     lexemes.push(Lexeme::Stray)?;

@@ -13,9 +13,9 @@ mod words;
 
 pub use fault::ReadFault;
 pub use formulas::{read_formula, read_name};
-pub use laws::{ascii_bytes, formula_is_read};
+pub use laws::formula_is_read;
 pub use lexeme::{Lexeme, Mark, Number, Word};
 pub use lexing::lexemes;
 pub use text::{Text, name_text, number_value};
-pub use tree::{Atom, Ball, Comparand, Formula, Join, Name, Quantifier, Term};
-pub use words::{behind_word, same_bytes, starts_word, word_bytes};
+pub use tree::{Atom, Ball, Comparand, Formula, Join, Name, Quantifier, Relation, Term};
+pub use words::{same_bytes, word_bytes};

@@ -27,19 +27,26 @@ pub enum Comparand {
     Number(Number),
 }
 
-/// A formula without parts.
+/// What an atom says of its term.
 #[derive(Debug, Drop)]
-pub enum Atom {
-    /// `term = side`
-    Equal { term: Term, side: Comparand },
-    /// `term != side`
-    NotEqual { term: Term, side: Comparand },
-    /// `left ~ right`
-    Adjacent { left: Term, right: Term },
-    /// `left @ right`
-    Same { left: Term, right: Term },
-    /// `term : node`
-    AtNode { term: Term, node: Name },
+pub enum Relation {
+    /// `= side`
+    Equal(Comparand),
+    /// `!= side`
+    NotEqual(Comparand),
+    /// `~ right`
+    Adjacent(Term),
+    /// `@ right`
+    Same(Term),
+    /// `: node`
+    AtNode(Name),
+}
+
+/// A formula without parts: a term, and what is said of it.
+#[derive(Debug, Drop)]
+pub struct Atom {
+    pub term: Term,
+    pub relation: Relation,
 }
 
 /// A ball of a quantifier: its centre and its radius.
@@ -58,13 +65,17 @@ pub enum Quantifier {
     Exists,
 }
 
-/// What joins the members of a list.
+/// The sign between the parts of a chain, from the one that binds tightest.
 #[derive(Clone, Copy, Debug, PartialEq, Eq)]
 pub enum Join {
     /// `&`
     And,
     /// `|`
     Or,
+    /// `->`, which groups to the right.
+    Implies,
+    /// `<->`, which groups to the left.
+    Iff,
 }
 
 /// A formula as it is written, with its parentheses.
@@ -84,19 +95,9 @@ pub enum Formula {
     },
     /// A formula in parentheses.
     Group(Boxed<Formula>),
-    /// Two or more members with `&` or `|` between them.
-    List {
+    /// Two or more parts with the same sign between each two.
+    Chain {
         join: Join,
-        members: Items<Formula>,
-    },
-    /// `premise -> conclusion`, grouped to the right.
-    Implies {
-        premise: Boxed<Formula>,
-        conclusion: Boxed<Formula>,
-    },
-    /// `left <-> right`, grouped to the left.
-    Iff {
-        left: Boxed<Formula>,
-        right: Boxed<Formula>,
+        parts: Items<Formula>,
     },
 }

@@ -1,11 +1,8 @@
 //! Words by their text.
 ghost use Rattle.std.specs.Prelude.{◌≡◌, bytes_eq, take, drop};
 ghost use Rattle.dd_written.specs.Values.{word_text};
-ghost use Rattle.dd_written.specs.reading.Readers.{Gives};
-ghost use Rattle.dd_written.specs.reading.Words.{starts_word, behind_word};
 
-use crate::fault::ReadFault;
-use crate::lexeme::{Lexeme, Word};
+use crate::lexeme::Word;
 
 /// So many bytes from a place on, as far as there are.
 pub(crate) fn part(bytes: &[u8], start: u32, length: u32) -> &[u8]
@@ -29,34 +26,4 @@ pub fn same_bytes(text: &[u8], wanted: &[u8]) -> bool
     ensures { result ≡ bytes_eq text.now wanted.now }
 {
     text == wanted
-}
-
-/// Whether the first token is the word that is wanted.
-pub fn starts_word(bytes: &[u8], wanted: &[u8], tokens: &[Lexeme]) -> bool
-    ensures { result ≡ starts_word bytes.now wanted.now tokens.now }
-{
-    match tokens {
-        [Lexeme::Word(word), ..] => same_bytes(word_bytes(bytes, *word), wanted),
-        _ => false,
-    }
-}
-
-/// The tokens behind the word that is wanted.
-pub fn behind_word<'a>(
-    bytes: &[u8],
-    wanted: &[u8],
-    tokens: &'a [Lexeme],
-) -> Result<&'a [Lexeme], ReadFault>
-    ensures { Gives (λ x. x.now) result (behind_word bytes.now wanted.now tokens.now) }
-{
-    match tokens {
-        [Lexeme::Word(word), rest @ ..] => {
-            if same_bytes(word_bytes(bytes, *word), wanted) {
-                Ok(rest)
-            } else {
-                Err(ReadFault::Syntax)
-            }
-        }
-        _ => Err(ReadFault::Syntax),
-    }
 }

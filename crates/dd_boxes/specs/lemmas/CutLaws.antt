@@ -85,7 +85,7 @@ pub cond_domain : (b : Bool) (o : Option ℕ) → (b ≡ true → is_some o ≡ 
 cond_domain true o h = h refl
 cond_domain false o h = refl
 
-cond_symbols : (P : ℕ → Type 0) (b : Bool) (o : Option ℕ) → IfSome o P → IfSome (cond b o None) P
+pub cond_symbols : (P : ℕ → Type 0) (b : Bool) (o : Option ℕ) → IfSome o P → IfSome (cond b o None) P
 cond_symbols P true o h = h
 cond_symbols P false o h = tt
 

@@ -78,7 +78,7 @@ reach_is_least r ok = record {
 }
 
 -- there is one least radius
-one_least : (g : GoalOf) (m n : ℕ) → IsLeastRadius g m → IsLeastRadius g n → m ≡ n
+pub one_least : (g : GoalOf) (m n : ℕ) → IsLeastRadius g m → IsLeastRadius g n → m ≡ n
 one_least g m n a b = let up : m ≤ n = a.least n b.reaches in let down : n ≤ m = b.least m a.reaches in omega (arith, up, down)
 
 -- two automata read as far as the one that reads farther

@@ -1,43 +1,35 @@
 -- A part is read exactly where it is a command that may stand there.
-use Rattle.std.proofs.Common.{◌≡◌, ℕ, ◌≤◌, ◌<◌, Bool, true, false, List, Option, Some, None, sym, ap, ◌∙◌, arith}
-use Rattle.std.specs.Prelude.{Err}
+use Rattle.std.proofs.Common.{◌≡◌, ℕ, List, Some, None, refl, sym, ap, subst, inl, inr, nat_lt, ltb-false, le-ltb}
 use Rattle.std.specs.List.{list_all}
-use Rattle.dd_written.specs.declared.lexeme.Lexeme.{Lexeme}
-use Rattle.dd_written.specs.declared.fault.ReadFault.{ReadFault}
-use Rattle.dd_written.specs.declared.fault.ReadFault.TheVariants as faults
-use Rattle.dd_written.specs.reading.Readers.{Fails}
+use Rattle.dd_commands.specs.Tree.{Lexeme, Command, Written}
+use Rattle.dd_written.specs.reading.Readers.{◌>>=◌}
 use Rattle.dd_written.specs.reading.Laws.{FormulasAreRead}
-use Rattle.dd_commands.specs.declared.command.Command.{Command}
-use Rattle.dd_commands.specs.declared.script.Written.{Written}
+use Rattle.dd_written.specs.lemmas.Options.{bind_some, some_is, nothing_some, chosen}
 use Rattle.dd_commands.specs.Heads.{head_of, stage}
-use Rattle.dd_commands.specs.Scripts.{is_whole, stage_of, MayStand}
+use Rattle.dd_commands.specs.Scripts.{is_whole, MayStand}
 use Rattle.dd_commands.specs.reading.Commands.{command_of}
-use Rattle.dd_commands.specs.reading.Parts.{FindsIfAny}
-use Rattle.dd_written.specs.lemmas.Options.{some_is}
-use Rattle.dd_commands.specs.lemmas.CommandSound.{command_sound}
-use Rattle.dd_commands.specs.lemmas.CommandComplete.{command_again}
+use Rattle.dd_commands.specs.reading.Parts.{standing_of, written_of}
+use Rattle.dd_commands.specs.lemmas.Commands.{command_sound, command_again}
 
-none_some : {X : Type 0} (read : Option X) (x : X) → read ≡ None → read ≡ Some x → ⊥
-none_some None x e f = absurd cc
-none_some (Some y) x e f = absurd cc
+abbrev with_tokens : List Lexeme → Command → Written
+with_tokens tokens c = record { tokens = tokens; command = c }
 
-not_both : (b : Bool) → b ≡ false → b ≡ true → ⊥
-not_both b e f = absurd cc
+module _ (law : FormulasAreRead) (bytes : List ℕ) (from : ℕ) (part : List Lexeme) (w : Written) where
+  pub written_sound : written_of bytes from part ≡ Some w → MayStand bytes from part w
+  written_sound e =
+      elim (chosen (list_all is_whole part) (command_of bytes part >>= standing_of from part) None (Some w) e) [
+        | inl whole ↦
+            let c = bind_some (command_of bytes part) (standing_of from part) w whole.1 in
+            elim (chosen (nat_lt (stage (head_of c.0)) from) None (Some (with_tokens part c.0)) (Some w) c.2) [
+              | inl early ↦ absurd (nothing_some w early.1)
+              | inr ordered ↦
+                  subst (MayStand bytes from part) (some_is _ _ ordered.1)
+                  (record { tokens = refl; whole = whole.0; is = command_sound law bytes part c.0 c.1; ordered = ltb-false _ _ ordered.0 })
+            ]
+        | inr other ↦ absurd (nothing_some w other.1)
+      ]
 
-pub not_whole : (bytes : List ℕ) (from : ℕ) (part : List Lexeme) → list_all is_whole part ≡ false → (w : Written) → MayStand bytes from part w → ⊥
-not_whole bytes from part e w may = not_both (list_all is_whole part) e may.whole
-
-module _ (law : FormulasAreRead) where
-  pub may_stand : (bytes : List ℕ) (from : ℕ) (part : List Lexeme) (c : Command) (tokens : List Lexeme) → tokens ≡ part → list_all is_whole part ≡ true → command_of bytes part ≡ Some c → from ≤ stage (head_of c)
-      → MayStand bytes from part (record { tokens = tokens; command = c })
-  may_stand bytes from part c tokens same whole e le = record { tokens = same; whole = whole; is = command_sound law bytes part c e; ordered = le }
-
-  pub too_early : (bytes : List ℕ) (from : ℕ) (part : List Lexeme) (c : Command) → command_of bytes part ≡ Some c → stage (head_of c) < from → (w : Written) → MayStand bytes from part w → ⊥
-  too_early bytes from part c e lt w may =
-      let same : c ≡ w.command = some_is c w.command (sym e ∙ command_again law bytes part w.command may.is) in
-      let equal : stage (head_of c) ≡ stage_of w = ap (λ d. stage (head_of d)) same in
-      omega (arith, lt, equal, may.ordered)
-
-  pub fails_decides : (bytes : List ℕ) (from : ℕ) (part : List Lexeme) (e : ReadFault) → Fails e (command_of bytes part) → FindsIfAny (Err e) (MayStand bytes from part)
-  fails_decides bytes from part faults.Memory fails = tt
-  fails_decides bytes from part faults.Syntax fails = λ w may. none_some (command_of bytes part) w.command fails (command_again law bytes part w.command may.is)
+  pub written_again : MayStand bytes from part w → written_of bytes from part ≡ Some w
+  written_again may =
+      rw (may.whole, command_again law bytes part w.command may.is, le-ltb _ _ may.ordered)
+      (ap (λ (ts : List Lexeme). Some (with_tokens ts w.command)) (sym may.tokens))

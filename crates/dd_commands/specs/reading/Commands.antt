@@ -1,143 +1,87 @@
 -- Reading commands.
-use Rattle.std.specs.Prelude.{ℕ, List, [], ◌∷◌, length, Option, Some, None, codes}
-use Rattle.dd_written.specs.declared.lexeme.Lexeme.{Lexeme}
-use Rattle.dd_written.specs.declared.lexeme.Lexeme.TheVariants as lexeme
-use Rattle.dd_written.specs.declared.tree.Name.{Name}
-use Rattle.dd_commands.specs.declared.table.Lists.{Lists}
-use Rattle.dd_commands.specs.declared.table.Lists.TheVariants as lists
-use Rattle.dd_commands.specs.declared.table.Question.{Question}
-use Rattle.dd_commands.specs.declared.command.Vector.{Vector}
-use Rattle.dd_commands.specs.declared.command.Case.{Case}
-use Rattle.dd_commands.specs.declared.command.Request.{Request}
-use Rattle.dd_commands.specs.declared.command.Command.{Command}
-use Rattle.dd_commands.specs.declared.command.Command.TheVariants as command
-use Rattle.dd_commands.specs.declared.head.Head.{Head}
-use Rattle.dd_commands.specs.declared.head.Head.TheVariants as head
+use Rattle.std.specs.Prelude.{◌≡◌, ℕ, List, [], ◌∷◌, ◌++◌, length, true, Option, Some, bytes_eq, codes, find}
+use Rattle.dd_commands.specs.Tree.{Kind, Lexeme, Formula, Lists, Question, Vector, Case, Command, Head}
 use Rattle.dd_written.specs.Values.{word_text}
-use Rattle.dd_written.specs.reading.Readers.{Reader, ◌>>=◌, many}
-use Rattle.dd_written.specs.reading.Words.{starts_word, behind_word}
-use Rattle.dd_written.specs.reading.Atoms.{name_at}
-use Rattle.dd_written.specs.reading.Formulas.{formula_at}
+use Rattle.dd_written.specs.Formulas.{text, IsWrittenFormula}
+use Rattle.dd_written.specs.reading.Formulas.{formula_at, ends}
 use Rattle.dd_commands.specs.Table.{row}
-use Rattle.dd_commands.specs.reading.Heads.{head_at, kind_at}
-use Rattle.dd_commands.specs.reading.Listed.{alone, exactly, all_of}
-use Rattle.dd_commands.specs.reading.Vectors.{is_word, word_at, is_number, number_at, is_name, is_vector, vector_at, plain_at, shear_at, is_edge, edge_at}
+use Rattle.dd_commands.specs.Heads.{head_text, kind_text}
+use Rattle.dd_commands.specs.Commands.{IsBehind, IsCase}
+use Rattle.dd_commands.specs.reading.Forms.{◌>>=◌, Form, as_made, ◌▸◌, each, some, exactly, alone}
+use Rattle.dd_commands.specs.reading.Vectors.{word_at, word, number, name, vector, plain, shear, edge}
 
--- ---- cases
+-- ---- words by their text
 
-abbrev pub name_behind : List ℕ → List ℕ → Reader Name
-name_behind bytes wanted tokens = do
-  ts ← behind_word bytes wanted tokens
-  name_at ts
+-- the one of these whose text this is
+abbrev pub one_of : {X : Type 0} → (X → List ℕ) → List X → List ℕ → Option X
+one_of text_of xs written = find (λ x. bytes_eq written (text_of x)) xs
 
-abbrev pub case_at : List ℕ → Reader Case
-case_at bytes tokens = do
-  ts ← behind_word bytes (codes "when") tokens
-  f ← formula_at ts
-  n ← name_behind bytes (codes "give") f.1
-  Some (record { condition = f.0; symbol = n.0 }, n.1)
+abbrev pub keyword : {X : Type 0} → (X → List ℕ) → List X → List ℕ → Form X
+keyword text_of xs bytes = record {
+  writes = λ x tokens rest. IsBehind bytes (text_of x) tokens rest;
+  ends = λ rest. Unit {0};
+  item = λ tokens. word_at tokens >>= λ w. one_of text_of xs (word_text bytes w.0) >>= λ x. Some (x, w.1);
+}
 
-abbrev pub cases_at : List ℕ → Reader (List Case)
-cases_at bytes tokens = many (starts_word bytes (codes "when")) (case_at bytes) (length tokens) tokens
+abbrev pub heads : List Head
+heads =
+    Head.Dimension ∷ Head.Nodes ∷ Head.Alphabet ∷ Head.Topology ∷ Head.Only ∷ Head.Weights ∷ Head.Limits ∷ Head.Rule ∷ Head.Automaton
+    ∷ Head.Composition ∷ Head.Configuration ∷ Head.Question Question.Member ∷ Head.Question Question.Contains ∷ Head.Question Question.Equal
+    ∷ Head.Question Question.Empty ∷ Head.Question Question.Agree ∷ Head.Question Question.Forbidden ∷ Head.Question Question.Density
+    ∷ Head.Question Question.Discharge ∷ []
 
-abbrev pub otherwise_of : List ℕ → List Lexeme → Option Name
-otherwise_of bytes tokens = do
-  n ← name_behind bytes (codes "else") tokens
-  alone n.0 n.1
+abbrev pub kinds : List Kind
+kinds = Kind.Line ∷ Kind.Square ∷ Kind.King ∷ Kind.Triangle ∷ Kind.Hex ∷ Kind.Cube ∷ []
 
--- ---- questions
+-- a word that is wanted
+abbrev pub wanted : List ℕ → List ℕ → Form (Unit {0})
+wanted bytes text_is = keyword {X = Unit {0}} (λ x. text_is) (tt ∷ []) bytes
 
-abbrev pub lists_of : Lists → List Lexeme → Option (List Vector)
-lists_of lists.None tokens = alone [] tokens
-lists_of lists.Strip tokens = do
-  v ← plain_at tokens
-  alone (v.0 ∷ []) v.1
-lists_of lists.Vectors tokens = all_of is_vector vector_at tokens
+-- ---- formulas, cases and lists
 
-abbrev pub request_of : Question → List Lexeme → Option Request
-request_of q tokens = do
-  ws ← exactly is_word word_at (length (row q).names) tokens
-  ns ← exactly is_number number_at (row q).numbers ws.1
-  vs ← lists_of (row q).lists ns.1
-  Some (record { question = q; words = ws.0; numbers = ns.0; vectors = vs })
+abbrev pub formula : Form Formula
+formula = record { writes = λ f tokens rest. (tokens ≡ text f ++ rest) × IsWrittenFormula f; ends = λ rest. ends 4 rest ≡ true; item = formula_at }
+
+abbrev pub case_parts : List ℕ → Form Case
+case_parts bytes =
+    as_made (λ x. record { condition = x.1.0; symbol = x.1.1.1 }) (wanted bytes (codes "when") ▸ formula ▸ wanted bytes (codes "give") ▸ name)
+
+abbrev pub case : List ℕ → Form Case
+case bytes = record { writes = IsCase bytes; ends = λ rest. Unit {0}; item = (case_parts bytes).item }
+
+-- the vectors at the end of a question
+abbrev pub listed : Lists → Form (List Vector)
+listed Lists.None = record { writes = λ vs tokens rest. (vs ≡ []) × (tokens ≡ rest); ends = λ rest. Unit {0}; item = λ tokens. Some ([], tokens) }
+listed Lists.Strip = as_made (λ v. v ∷ []) plain
+listed Lists.Vectors = some vector
 
 -- ---- what stands behind the first word
 
--- one name or more, to the end
-abbrev pub names_of : List Lexeme → Option (List Name)
-names_of tokens = all_of is_name name_at tokens
+-- the name of a topology, or its edges
+abbrev pub topology : List ℕ → List Lexeme → Form Command
+topology bytes (Lexeme.Word w ∷ tokens) = as_made (λ k. Command.Topology k) (keyword kind_text kinds bytes)
+topology bytes tokens = as_made (λ es. Command.Edges es) (some edge)
 
-abbrev pub dimension_of : List Lexeme → Option Command
-dimension_of (lexeme.Number n ∷ []) = Some (command.Dimension n)
-dimension_of tokens = None
-
-abbrev pub edges_of : List Lexeme → Option Command
-edges_of tokens = do
-  es ← all_of is_edge edge_at tokens
-  Some (command.Edges es)
-
-abbrev pub topology_of : List ℕ → List Lexeme → Option Command
-topology_of bytes (lexeme.Word w ∷ []) = do
-  k ← kind_at (word_text bytes w)
-  Some (command.Topology k)
-topology_of bytes tokens = edges_of tokens
-
-abbrev pub only_of : List Lexeme → Option Command
-only_of tokens = do
-  node ← name_at tokens
-  symbols ← names_of node.1
-  Some (command.Only node.0 symbols)
-
-abbrev pub weights_of : List Lexeme → Option Command
-weights_of tokens = do
-  ns ← all_of is_number number_at tokens
-  Some (command.Weights ns)
-
-abbrev pub limits_of : List Lexeme → Option Command
-limits_of (lexeme.Number radius ∷ lexeme.Number period ∷ lexeme.Number pivots ∷ []) = Some (command.Limits radius period pivots)
-limits_of tokens = None
-
-abbrev pub rule_of : List Lexeme → Option Command
-rule_of (lexeme.Word name ∷ tokens) = do
-  f ← formula_at tokens
-  alone (command.Rule name f.0) f.1
-rule_of tokens = None
-
-abbrev pub automaton_of : List ℕ → List Lexeme → Option Command
-automaton_of bytes (lexeme.Word name ∷ tokens) = do
-  cases ← cases_at bytes tokens
-  symbol ← otherwise_of bytes cases.1
-  Some (command.Automaton name cases.0 symbol)
-automaton_of bytes tokens = None
-
-abbrev pub composition_of : List Lexeme → Option Command
-composition_of (lexeme.Word name ∷ lexeme.Word outer ∷ lexeme.Word inner ∷ []) = Some (command.Composition name outer inner)
-composition_of tokens = None
-
-abbrev pub configuration_of : List Lexeme → Option Command
-configuration_of (lexeme.Word name ∷ tokens) = do
-  periods ← plain_at tokens
-  shear ← shear_at periods.1
-  symbols ← names_of shear.1
-  Some (command.Configuration name periods.0 shear.0 symbols)
-configuration_of tokens = None
-
-abbrev pub body_of : List ℕ → Head → List Lexeme → Option Command
-body_of bytes head.Dimension tokens = dimension_of tokens
-body_of bytes head.Nodes tokens = names_of tokens >>= λ ns. Some (command.Nodes ns)
-body_of bytes head.Alphabet tokens = names_of tokens >>= λ ns. Some (command.Alphabet ns)
-body_of bytes head.Topology tokens = topology_of bytes tokens
-body_of bytes head.Only tokens = only_of tokens
-body_of bytes head.Weights tokens = weights_of tokens
-body_of bytes head.Limits tokens = limits_of tokens
-body_of bytes head.Rule tokens = rule_of tokens
-body_of bytes head.Automaton tokens = automaton_of bytes tokens
-body_of bytes head.Composition tokens = composition_of tokens
-body_of bytes head.Configuration tokens = configuration_of tokens
-body_of bytes (head.Question q) tokens = request_of q tokens >>= λ r. Some (command.Query r)
+-- what begins with these tokens
+abbrev pub body : List ℕ → Head → List Lexeme → Form Command
+body bytes Head.Dimension tokens = as_made (λ n. Command.Dimension n) number
+body bytes Head.Nodes tokens = as_made (λ ns. Command.Nodes ns) (some name)
+body bytes Head.Alphabet tokens = as_made (λ ns. Command.Alphabet ns) (some name)
+body bytes Head.Topology tokens = topology bytes tokens
+body bytes Head.Only tokens = as_made (λ x. Command.Only x.0 x.1) (name ▸ some name)
+body bytes Head.Weights tokens = as_made (λ ns. Command.Weights ns) (some number)
+body bytes Head.Limits tokens = as_made (λ x. Command.Limits x.0 x.1.0 x.1.1) (number ▸ number ▸ number)
+body bytes Head.Rule tokens = as_made (λ x. Command.Rule x.0 x.1) (word ▸ formula)
+body bytes Head.Automaton tokens =
+    as_made (λ x. Command.Automaton x.0 x.1.0 x.1.1.1) (word ▸ each (case bytes) ▸ wanted bytes (codes "else") ▸ name)
+body bytes Head.Composition tokens = as_made (λ x. Command.Composition x.0 x.1.0 x.1.1) (word ▸ word ▸ word)
+body bytes Head.Configuration tokens = as_made (λ x. Command.Configuration x.0 x.1.0 x.1.1.0 x.1.1.1) (word ▸ plain ▸ shear ▸ some name)
+body bytes (Head.Question q) tokens =
+    as_made (λ x. Command.Query (record { question = q; words = x.0; numbers = x.1.0; vectors = x.1.1 }))
+    (exactly (length (row q).names) word ▸ exactly (row q).numbers number ▸ listed (row q).lists)
 
 abbrev pub command_of : List ℕ → List Lexeme → Option Command
-command_of bytes (lexeme.Word w ∷ tokens) = do
-  h ← head_at (word_text bytes w)
-  body_of bytes h tokens
-command_of bytes tokens = None
+command_of bytes tokens = do
+  h ← (keyword head_text heads bytes).item tokens
+  c ← (body bytes h.0 h.1).item h.1
+  alone c.0 c.1

@@ -1,93 +1,77 @@
 -- Reading names, numbers, vectors and edges.
-use Rattle.std.specs.Prelude.{List, ◌∷◌, length, Bool, true, false, Option, Some, None, if◌then◌else◌}
-use Rattle.dd_written.specs.declared.lexeme.Mark.TheVariants as mark
-use Rattle.dd_written.specs.declared.lexeme.Word.{Word}
-use Rattle.dd_written.specs.declared.lexeme.Number.{Number}
-use Rattle.dd_written.specs.declared.lexeme.Lexeme.{Lexeme}
-use Rattle.dd_written.specs.declared.lexeme.Lexeme.TheVariants as lexeme
-use Rattle.dd_commands.specs.declared.command.Entry.{Entry}
-use Rattle.dd_commands.specs.declared.command.Entry.TheVariants as entry
-use Rattle.dd_commands.specs.declared.command.Vector.{Vector}
-use Rattle.dd_commands.specs.declared.command.Edge.{Edge}
-use Rattle.dd_commands.specs.Commands.{is_plain}
-use Rattle.dd_written.specs.reading.Readers.{◌>>=◌, Reader, many}
+use denote.Enum.Bare.{sameb}
+use Rattle.std.specs.Prelude.{◌≡◌, List, ◌∷◌, ◌++◌, Bool, true, Option, Some, None, if◌then◌else◌}
+use Rattle.dd_written.specs.contracts.lexeme.Mark.{the_type}
+use Rattle.dd_commands.specs.Tree.{Mark, Word, Number, Lexeme, Name, Entry, Vector, Edge}
+use Rattle.dd_written.specs.Formulas.{name_lexeme}
 use Rattle.dd_written.specs.reading.Atoms.{name_at}
-
-abbrev pub is_word : List Lexeme → Bool
-is_word (lexeme.Word w ∷ tokens) = true
-is_word tokens = false
+use Rattle.dd_commands.specs.Commands.{entry_lexeme, vector_text, is_plain, second_vector_text, IsPlainShear, edge_text}
+use Rattle.dd_commands.specs.reading.Forms.{Reader, Form, by_text, single, as_made, ◌▸◌, such, each}
 
 abbrev pub word_at : Reader Word
-word_at (lexeme.Word w ∷ tokens) = Some (w, tokens)
+word_at (Lexeme.Word w ∷ tokens) = Some (w, tokens)
 word_at tokens = None
 
-abbrev pub is_number : List Lexeme → Bool
-is_number (lexeme.Number n ∷ tokens) = true
-is_number tokens = false
+abbrev pub word : Form Word
+word = single Lexeme.Word word_at
 
 abbrev pub number_at : Reader Number
-number_at (lexeme.Number n ∷ tokens) = Some (n, tokens)
+number_at (Lexeme.Number n ∷ tokens) = Some (n, tokens)
 number_at tokens = None
 
-abbrev pub is_name : List Lexeme → Bool
-is_name (lexeme.Word w ∷ tokens) = true
-is_name (lexeme.Number n ∷ tokens) = true
-is_name tokens = false
+abbrev pub number : Form Number
+number = single Lexeme.Number number_at
 
-abbrev pub is_entry : List Lexeme → Bool
-is_entry (lexeme.Number n ∷ tokens) = true
-is_entry (lexeme.Negative n ∷ tokens) = true
-is_entry tokens = false
+abbrev pub name : Form Name
+name = single name_lexeme name_at
 
 abbrev pub entry_at : Reader Entry
-entry_at (lexeme.Number n ∷ tokens) = Some (entry.Number n, tokens)
-entry_at (lexeme.Negative n ∷ tokens) = Some (entry.Negative n, tokens)
+entry_at (Lexeme.Number n ∷ tokens) = Some (Entry.Number n, tokens)
+entry_at (Lexeme.Negative n ∷ tokens) = Some (Entry.Negative n, tokens)
 entry_at tokens = None
+
+-- whether two marks are one
+unfoldable pub same_mark : Mark → Mark → Bool
+same_mark = sameb the_type
+
+abbrev pub mark_at : Mark → Reader (Unit {0})
+mark_at wanted (Lexeme.Mark m ∷ tokens) = if same_mark m wanted then Some (tt, tokens) else None
+mark_at wanted tokens = None
+
+-- a mark that is wanted
+abbrev pub sign : Mark → Form (Unit {0})
+sign wanted = single (λ x. Lexeme.Mark wanted) (mark_at wanted)
 
 -- ---- vectors
 
-abbrev pub vector_end : List Entry → Reader Vector
-vector_end es (lexeme.Mark mark.CloseList ∷ tokens) = Some (record { entries = es }, tokens)
-vector_end es tokens = None
+abbrev pub vector_parts : Form Vector
+vector_parts = as_made (λ x. record { entries = x.1.0 }) (sign Mark.OpenList ▸ each (single entry_lexeme entry_at) ▸ sign Mark.CloseList)
 
-abbrev pub is_vector : List Lexeme → Bool
-is_vector (lexeme.Mark mark.OpenList ∷ tokens) = true
-is_vector tokens = false
-
-abbrev pub vector_at : Reader Vector
-vector_at (lexeme.Mark mark.OpenList ∷ tokens) = do
-  es ← many is_entry entry_at (length tokens) tokens
-  vector_end es.0 es.1
-vector_at tokens = None
+abbrev pub vector : Form Vector
+vector = by_text vector_text vector_parts.item
 
 -- without negative numbers
-abbrev pub plain_at : Reader Vector
-plain_at tokens = do
-  v ← vector_at tokens
-  if is_plain v.0 then Some v else None
+abbrev pub plain : Form Vector
+plain = such (λ v. is_plain v ≡ true) is_plain vector
+
+abbrev pub or_none : Option (Vector × List Lexeme) → Reader (Option Vector)
+or_none (Some v) tokens = Some (Some v.0, v.1)
+or_none None tokens = Some (None, tokens)
 
 -- a second vector, where one stands there
-abbrev pub shear_at : Reader (Option Vector)
-shear_at tokens = if is_vector tokens then (plain_at tokens >>= λ v. Some (Some v.0, v.1)) else Some (None, tokens)
+abbrev pub shear : Form (Option Vector)
+shear = record {
+  writes = λ s tokens rest. IsPlainShear s × (tokens ≡ second_vector_text s ++ rest);
+  ends = λ rest. plain.item rest ≡ None;
+  item = λ tokens. or_none (plain.item tokens) tokens;
+}
 
 -- ---- edges
 
-abbrev pub edge_start : Reader Word
-edge_start (lexeme.Mark mark.Open ∷ lexeme.Word label ∷ tokens) = Some (label, tokens)
-edge_start tokens = None
+abbrev pub edge_parts : Form Edge
+edge_parts =
+    as_made (λ x. record { label = x.1.0; from = x.1.1.0; offset = x.1.1.1.0; to = x.1.1.1.1.0 })
+    (sign Mark.Open ▸ word ▸ name ▸ vector ▸ name ▸ sign Mark.Close)
 
-abbrev pub edge_end : Edge → Reader Edge
-edge_end e (lexeme.Mark mark.Close ∷ tokens) = Some (e, tokens)
-edge_end e tokens = None
-
-abbrev pub is_edge : List Lexeme → Bool
-is_edge (lexeme.Mark mark.Open ∷ tokens) = true
-is_edge tokens = false
-
-abbrev pub edge_at : Reader Edge
-edge_at tokens = do
-  label ← edge_start tokens
-  from ← name_at label.1
-  offset ← vector_at from.1
-  to ← name_at offset.1
-  edge_end (record { label = label.0; from = from.0; offset = offset.0; to = to.0 }) to.1
+abbrev pub edge : Form Edge
+edge = by_text edge_text edge_parts.item

@@ -1,14 +1,23 @@
 -- Where there is no fault, there is none in a part.
-use Rattle.std.proofs.Common.{◌≡◌, Bool, true, false, List, [], ◌∷◌, ◌++◌, None, Some, refl}
-use Rattle.std.specs.Prelude.{nat_lt, if◌then◌else◌}
+use Rattle.std.proofs.Common.{◌≡◌, ℕ, ◌<◌, Bool, true, false, List, [], ◌∷◌, ◌++◌, length, None, Some, refl, arith}
+use Rattle.std.specs.List.{All, flat_map}
+use Rattle.std.proofs.lemmas.List.Elements.{All-nil, All-cons}
+use Rattle.std.proofs.lemmas.Grind.{common_steps}
+use Rattle.dd_written.specs.declared.tree.Name.{Name}
 use Rattle.dd_faults.specs.declared.fault.Limit.{Limit}
 use Rattle.dd_faults.specs.declared.fault.Fault.{Fault}
-use Rattle.dd_faults.specs.Order.{fault_rank, noted, first_fault, over}
+use Rattle.dd_faults.specs.Order.{noted, first_fault, over}
+use Rattle.dd_faults.specs.Names.{missing, number_in}
 use Rattle.dd_faults.specs.Commands.{unless}
 
 pub both_nil : {X : Type 0} (xs ys : List X) → xs ++ ys ≡ [] → (xs ≡ []) × (ys ≡ [])
 both_nil [] ys e = (refl, e)
 both_nil (x ∷ xs) ys e = absurd cc
+
+-- what holds of the elements without faults holds of all, where there is no fault
+pub all_where : {X Y : Type 0} (P : X → Type 0) (f : X → List Y) → ((x : X) → f x ≡ [] → P x) → (xs : List X) → flat_map f xs ≡ [] → All P xs
+all_where P f each [] h = All-nil P
+all_where P f each (x ∷ xs) h = (let parts = both_nil (f x) (flat_map f xs) h in All-cons P x xs (each x parts.0) (all_where P f each xs parts.1))
 
 pub fits : (b : Bool) → unless b ≡ [] → b ≡ true
 fits true e = refl
@@ -18,14 +27,17 @@ pub within : (b : Bool) (l : Limit) → over b l ≡ [] → b ≡ false
 within true l e = absurd cc
 within false l e = refl
 
+-- what `grind` needs to take a list without faults apart
+pub ruleset parts = (common_steps, both_nil, fits, within)
+
+-- a name that is not missing has a number below that of the names
+pub number_below : (bytes : List ℕ) (names : List (List ℕ)) (n : Name) → missing bytes names n ≡ [] → number_in bytes names n < length names
+number_below bytes names n none = grind (arith, parts)
+
 -- a fault that is noted stays, or a better one takes its place
 some_stays : (g : Fault) (fs : List Fault) → noted (Some g) fs ≡ None → ⊥
 some_stays g [] e = absurd cc
-some_stays g (f ∷ fs) e =
-    (elim (nat_lt (fault_rank f) (fault_rank g)) as (λ b. noted (if b then Some f else Some g) fs ≡ None → ⊥) [
-      | true ↦ some_stays f fs
-      | false ↦ some_stays g fs
-    ]) e
+some_stays g (f ∷ fs) e = grind (arith, some_stays f fs, some_stays g fs)
 
 -- where no fault is the first there is none
 pub none_first : (fs : List Fault) → first_fault fs ≡ None → fs ≡ []

@@ -104,7 +104,7 @@ short_y v e h = omega (arith, h)
 short_z : (v : Place) (e : ℕ) → extent v ≤ e → unsigned_abs v.z ≤ e
 short_z v e h = omega (arith, h)
 
-active_first : (d : ℕ) (b : Bool) → 1 ≤ d → (is_active d 0 || b) ≡ true
+pub active_first : (d : ℕ) (b : Bool) → 1 ≤ d → (is_active d 0 || b) ≡ true
 active_first d b some = ap (λ (a : Bool). a || b) (lt-ltb 0 d some)
 
 within_reach : (d radius margin : ℕ) (vs : List Place) → 1 ≤ d → ((v : Place) → Contains vs v → is_flat d v ≡ true) → (w : Place) → IsInGround d radius margin vs w →

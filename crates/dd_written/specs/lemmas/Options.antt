@@ -1,5 +1,6 @@
 -- Steps that may give nothing.
-use Rattle.std.proofs.Common.{◌≡◌, Bool, true, false, cond, ◌⊎◌, inl, inr, Option, Some, None, refl}
+use Rattle.std.proofs.Common.{◌≡◌, Bool, true, false, cond, ◌⊎◌, inl, inr, Option, Some, None, IfSome, refl}
+pub use Rattle.std.proofs.lemmas.Option.{same_Some as some_is, none-some as nothing_some}
 use Rattle.dd_written.specs.reading.Readers.{◌>>=◌}
 
 -- the value of a step that did not fail
@@ -7,18 +8,11 @@ pub bind_some : {A B : Type 0} (r : Option A) (f : A → Option B) (y : B) → (
 bind_some (Some x) f y e = (x, refl, e)
 bind_some None f y e = absurd cc
 
-abbrev given : {A : Type 0} → A → Option A
-given x = Some x
-
-pub some_is : {A : Type 0} (x y : A) → given x ≡ given y → x ≡ y
-some_is x y e = cc
+-- what holds of what a step gives, and of what the step behind it gives
+pub followed : {A B : Type 0} (r : Option A) (f : A → Option B) (P : A → Type 0) (Q : B → Type 0) → IfSome r P → ((x : A) → P x → IfSome (f x) Q) → IfSome (r >>= f) Q
+followed (Some x) f P Q h step = step x h
+followed None f P Q h step = tt
 
 pub chosen : {A : Type 0} (b : Bool) (x y z : A) → cond b x y ≡ z → ((b ≡ true) × (x ≡ z)) ⊎ ((b ≡ false) × (y ≡ z))
 chosen true x y z e = inl (refl, e)
 chosen false x y z e = inr (refl, e)
-
-abbrev nothing : {A : Type 0} → Option A
-nothing = None
-
-pub nothing_some : {A : Type 0} (x : A) → nothing {A = A} ≡ Some x → ⊥
-nothing_some x e = absurd cc

@@ -9,8 +9,8 @@ use Rattle.dd_written.specs.declared.tree.Name.TheVariants as name
 use Rattle.dd_written.specs.declared.tree.Term.{Term}
 use Rattle.dd_written.specs.declared.tree.Comparand.{Comparand}
 use Rattle.dd_written.specs.declared.tree.Comparand.TheVariants as side
-use Rattle.dd_written.specs.declared.tree.Atom.{Atom}
-use Rattle.dd_written.specs.declared.tree.Atom.TheVariants as atom
+use Rattle.dd_written.specs.declared.tree.Relation.{Relation}
+use Rattle.dd_written.specs.declared.tree.Relation.TheVariants as relation
 use Rattle.dd_written.specs.declared.tree.Ball.{Ball}
 use Rattle.dd_written.specs.declared.tree.Formula.{Formula, roll-Formula}
 use Rattle.dd_written.specs.declared.tree.Formula.TheOpen.{Formula-F}
@@ -36,33 +36,30 @@ side_at tokens = do
   t ← term_at tokens
   Some (side.Term t.0, t.1)
 
-abbrev pub after_term : Term → Reader Atom
-after_term t (lexeme.Mark mark.Equal ∷ tokens) = do
+abbrev pub relation_at : Reader Relation
+relation_at (lexeme.Mark mark.Equal ∷ tokens) = do
   s ← side_at tokens
-  Some (atom.Equal t s.0, s.1)
-after_term t (lexeme.Mark mark.NotEqual ∷ tokens) = do
+  Some (relation.Equal s.0, s.1)
+relation_at (lexeme.Mark mark.NotEqual ∷ tokens) = do
   s ← side_at tokens
-  Some (atom.NotEqual t s.0, s.1)
-after_term t (lexeme.Mark mark.Tilde ∷ tokens) = do
-  u ← term_at tokens
-  Some (atom.Adjacent t u.0, u.1)
-after_term t (lexeme.Mark mark.At ∷ tokens) = do
-  u ← term_at tokens
-  Some (atom.Same t u.0, u.1)
-after_term t (lexeme.Mark mark.Colon ∷ tokens) = do
-  n ← name_at tokens
-  Some (atom.AtNode t n.0, n.1)
-after_term t tokens = None
-
-abbrev pub atom_at : Reader Atom
-atom_at tokens = do
+  Some (relation.NotEqual s.0, s.1)
+relation_at (lexeme.Mark mark.Tilde ∷ tokens) = do
   t ← term_at tokens
-  after_term t.0 t.1
+  Some (relation.Adjacent t.0, t.1)
+relation_at (lexeme.Mark mark.At ∷ tokens) = do
+  t ← term_at tokens
+  Some (relation.Same t.0, t.1)
+relation_at (lexeme.Mark mark.Colon ∷ tokens) = do
+  n ← name_at tokens
+  Some (relation.AtNode n.0, n.1)
+relation_at tokens = None
 
+-- a formula without parts
 abbrev pub leaf_at : Reader Formula
 leaf_at tokens = do
-  a ← atom_at tokens
-  Some (roll-Formula (Formula-F.Atom a.0), a.1)
+  t ← term_at tokens
+  r ← relation_at t.1
+  Some (roll-Formula (Formula-F.Atom (record { term = t.0; relation = r.0 })), r.1)
 
 abbrev pub balls_at : List Lexeme → List Ball × List Lexeme
 balls_at (lexeme.Word centre ∷ lexeme.Number radius ∷ tokens) = (record { centre = centre; radius = radius } ∷ (balls_at tokens).0, (balls_at tokens).1)

@@ -1,26 +1,20 @@
-use Rattle.std.proofs.Common.{sym, ap, subst, ◌∙◌, arith}
+use Rattle.std.proofs.Common.{ap, ◌∙◌, arith}
 use Rattle.std.proofs.lemmas.Grind.{common_steps}
 use Rattle.dd_commands.specs.Heads.{next_stage}
-use Rattle.dd_commands.specs.Scripts.{MayStand}
-use Rattle.dd_commands.proofs.Parts.{Sofar, something_before, nothing_before, starts, is_fault, goes_on, all_read, none_read}
+use Rattle.dd_commands.proofs.Parts.{is_fault, goes_on, all_read}
 use Rattle.dd_commands.proofs.script.commands.Goals as goal
 
-pub returns-then-part_length-gt0 : goal.returns-then-part_length-gt0
-returns-then-part_length-gt0 c = something_before c.args.tokens.now (omega (arith, c.if-part_length-gt0.true, c.part_length.ensures.value))
-
-pub loop-rest-init : goal.loop-rest-init
-loop-rest-init c =
-    (omega arith, subst (λ cs. Sofar c.args.bytes.now c.args.tokens.now c.args.tokens.now cs 0 0) (sym c.new-commands.ensures) (starts c.args.bytes.now c.args.tokens.now (nothing_before c.args.tokens.now (omega (arith, c.if-part_length-gt0.false, c.part_length.ensures.value)))))
-
 pub returns-in-Err-Syntax : goal.returns-in-Err-Syntax
-returns-in-Err-Syntax c = is_fault c.args.bytes.now c.args.tokens.now c.loop-rest.rest.now c.next_part.result.0.now c.next_part.result.1.now c.loop-rest.commands c.loop-rest.number c.loop-rest.from c.loop-rest.invariant.1 c.next_part.ensures.part (none_read c.in-Err-Syntax.field-0 (MayStand c.args.bytes.now c.loop-rest.from c.next_part.result.0.now) c.in-Err-Syntax.field-0-is c.in-Err-Syntax.ensures)
+returns-in-Err-Syntax c =
+    let none = rw c.in-Err-Syntax.field-0-is at c.in-Err-Syntax.ensures in
+    is_fault c.formula_is_read.ensures _ _ _ c.next_part.result.0.now c.next_part.result.1.now _ _ _ c.loop-rest.invariant.1 c.next_part.ensures.part none
 
 pub loop-rest-preserved : goal.loop-rest-preserved
 loop-rest-preserved c = (
   omega (arith, c.loop-rest.invariant.0, c.next_part.ensures.shorter),
-  goes_on c.args.bytes.now c.args.tokens.now c.loop-rest.rest.now c.next_part.result.0.now c.next_part.result.1.now c.loop-rest.commands _ c.loop-rest.number c.loop-rest.from _ c.in-Ok.written c.loop-rest.invariant.1 c.next_part.ensures.part c.next_part.ensures.at_mark c.in-Ok.ensures c.in_ok-push-in-Ok.ensures.ok
+  goes_on c.formula_is_read.ensures _ _ _ c.next_part.result.0.now c.next_part.result.1.now _ _ _ _ _ c.in-Ok.written c.loop-rest.invariant.1 c.next_part.ensures.part c.next_part.ensures.at_mark c.in-Ok.ensures c.in_ok-push-in-Ok.ensures.ok
       (c.next_stage-from.ensures ∙ ap next_stage c.head.ensures),
 )
 
 pub returns : goal.returns
-returns c = all_read c.args.bytes.now c.args.tokens.now c.loop-rest.rest.now c.loop-rest.commands c.loop-rest.number c.loop-rest.from c.loop-rest.invariant.1 (grind (arith, common_steps))
+returns c = all_read _ _ _ _ _ _ c.loop-rest.invariant.1 (grind (arith, common_steps))

@@ -1,15 +1,10 @@
-use Rattle.std.proofs.Common.{◌≡◌, true, false, rules}
-use Rattle.dd_faults.proofs.Repeats.{twice_at, fresh_at}
+use Rattle.std.proofs.Common.{Contains}
+use Rattle.dd_faults.proofs.Repeats.{twice_at}
 use Rattle.dd_faults.proofs.twice.note_twice.Goals as goal
 
-pub returns-then-not-branch : goal.returns-then-not-branch
-returns-then-not-branch g c =
-    let there : c.in_ok-add_new.field-0 ≡ false = search (rules, c.if-not-branch.true) in
-    twice_at (g.T.Keyed.key c.args.text.now) g.T.Keyed.repeated c.args.items.now c.loop-item.item-index c.item-item.result c.loop-item.seen c.add_new.new.seen _ c.loop-item.found c.loop-item-test.true c.item-item.is c.loop-item.invariant
-    c.note_if.new.found c.in_ok-add_new.field-0 c.in_ok-add_new.ensures there (rw c.repeated.ensures at c.note_if.ensures)
-
-pub loop-item-preserved : goal.loop-item-preserved
-loop-item-preserved g c =
-    let added : c.in_ok-add_new.field-0 ≡ true = search (rules, c.if-not-branch.false) in
-    fresh_at (g.T.Keyed.key c.args.text.now) g.T.Keyed.repeated c.args.items.now c.loop-item.item-index c.item-item.result c.loop-item.seen c.add_new.new.seen _ c.loop-item.found c.loop-item-test.true c.item-item.is c.loop-item.invariant
-    c.in_ok-add_new.field-0 c.in_ok-add_new.ensures added
+pub returns-in-Err-Twice : goal.returns-in-Err-Twice
+returns-in-Err-Twice g c =
+    let key = g.T.Keyed.key c.args.text.now in
+    let there : Contains c.loop-item.seen (key c.item-item.result) = rw c.in_ok-key.ensures at (rw c.in-Err-Twice.field-0-is at c.in-Err-Twice.ensures.refusal).1 in
+    let one = twice_at key g.T.Keyed.repeated c.loop-item.seen c.args.items.now c.loop-item.item-index c.item-item.result c.loop-item-test.true c.item-item.is c.loop-item.invariant.0 there in
+    rw (one, ← c.loop-item.invariant.1) (rw c.repeated.ensures at c.note_if.ensures)

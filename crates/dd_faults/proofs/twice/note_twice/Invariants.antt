@@ -1,5 +1,8 @@
-use Rattle.dd_faults.proofs.Repeats.{Seen}
+use Rattle.std.proofs.Common.{◌≡◌, [], drop, length}
+use Rattle.dd_faults.specs.Repeats.{first_repeat}
 use Rattle.dd_faults.proofs.twice.note_twice.Given as goal
 
 abbrev pub invariant-loop-item : goal.invariant-loop-item
-invariant-loop-item g l = Seen (g.T.Keyed.key l.text) g.T.Keyed.repeated l.items l.item-index l.seen l.fn.found l.found
+invariant-loop-item g l =
+    (first_repeat (g.T.Keyed.key l.text) g.T.Keyed.repeated l.seen (drop l.item-index l.items) ≡ first_repeat (g.T.Keyed.key l.text) g.T.Keyed.repeated [] l.items)
+    × (l.found ≡ l.fn.found) × (length l.seen ≡ l.item-index)

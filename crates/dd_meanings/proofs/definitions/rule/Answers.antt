@@ -1,23 +1,23 @@
-use Rattle.std.proofs.Common.{[], refl, sym, subst}
-use Rattle.dd_faults.specs.Formulas.{formula_faults}
-use Rattle.dd_meanings.specs.making.Parts.{IsFormulaOf}
-use Rattle.dd_meanings.proofs.NameLaws.{new_name}
-use Rattle.dd_meanings.proofs.SizeLaws.{has_numbers}
+use Rattle.std.proofs.Common.{refl, ap, arith}
+use Rattle.dd_meanings.specs.declared.meaning.Meaning.TheVariants as meant
+use Rattle.dd_meanings.specs.Definitions.{rule_of}
+use Rattle.dd_meanings.proofs.Nothing.{parts}
+use Rattle.dd_meanings.proofs.NameLaws.{is_new}
+use Rattle.dd_meanings.proofs.SizeLaws.{rule_passes, rule_refuses}
 use Rattle.dd_meanings.proofs.WellFormed.{is_formula}
 use Rattle.dd_meanings.proofs.definitions.rule.Goals as goal
 
-pub formula-requires-clause-faultless : goal.formula-requires-clause-faultless
-formula-requires-clause-faultless c =
-    let x = c.args.context.now in (new_name x c.args.name (formula_faults x c.args.formula.now []) c.requires.faultless).1
+pub new-requires-clause-formula : goal.new-requires-clause-formula
+new-requires-clause-formula c = rw c.in_ok-meant.ensures (is_formula c.args.context.now c.args.formula.now c.requires.sound (grind (arith, parts)) c.requires.shallow)
 
-pub rule_over-requires-clause-formula : goal.rule_over-requires-clause-formula
-rule_over-requires-clause-formula c =
+pub returns-in-Ok : goal.returns-in-Ok
+returns-in-Ok c =
     let x = c.args.context.now in
-    let faultless = (new_name x c.args.name (formula_faults x c.args.formula.now []) c.requires.faultless).1 in
-    subst (IsFormulaOf x.known) (sym c.in_ok-meant.ensures) (is_formula x c.args.formula.now c.requires.sound faultless c.requires.shallow)
+    let ok = rw c.in_ok-meant.ensures at c.in-Ok.ensures in
+    record {
+      exact = (rule_passes (rule_of x c.args.formula.now) ok.rule, ap (meant.Rule c.args.name) ok.ok);
+      sound = (is_new x c.args.name (grind (arith, parts)), record { rule = ok.rule; dimension = refl; nodes = refl; symbols = c.requires.sound.setting.alphabet; edges = refl; allowed = refl });
+    }
 
-pub returns-clause-sound : goal.returns-clause-sound
-returns-clause-sound c =
-    let x = c.args.context.now in
-    let named = (new_name x c.args.name (formula_faults x c.args.formula.now []) c.requires.faultless).0 in
-    rw (← c.in_ok-meant.ensures) (named, c.in_ok-rule.ensures.rule, record { has = has_numbers x.known c.in_ok-meant.meant c.requires.sound; edges = refl; allowed = refl })
+pub returns-in-Err-clause-exact : goal.returns-in-Err-clause-exact
+returns-in-Err-clause-exact c = rw c.refusal_of.ensures (rule_refuses (rule_of c.args.context.now c.args.formula.now) c.in-Err.fault (rw c.in_ok-meant.ensures at c.in-Err.ensures.err))

@@ -1,120 +1,31 @@
-use Rattle.std.proofs.Common.{refl}
-use Rattle.dd_meanings.proofs.WrittenLaws.{no_fault, body, all_shallow}
+use Rattle.dd_meanings.proofs.WrittenLaws.{body, all_shallow}
 use Rattle.dd_meanings.proofs.meanings.mean.Goals as goal
 
-pub dimension-requires : goal.dimension-requires
-dimension-requires c =
-    record { sound = c.requires.sound; faultless = no_fault c.args.context.now c.args.written.now _ c.in-Dimension.is c.requires.faultless }
+pub nodes-requires-clause-some : goal.nodes-requires-clause-some
+nodes-requires-clause-some c = rw c.as_slice.ensures (body c.args.context.now.text c.args.written.now _ c.in-Nodes.is c.requires.written).1.0
 
-pub returns-in-Dimension : goal.returns-in-Dimension
-returns-in-Dimension c = rw c.in-Dimension.is c.dimension.ensures
+pub alphabet-requires-clause-some : goal.alphabet-requires-clause-some
+alphabet-requires-clause-some c = rw c.as_slice-in-Alphabet.ensures (body c.args.context.now.text c.args.written.now _ c.in-Alphabet.is c.requires.written).1.0
 
-pub nodes-requires : goal.nodes-requires
-nodes-requires c =
-    rw c.as_slice.ensures (record {
-      sound = c.requires.sound;
-      some = (body c.args.context.now c.args.written.now _ c.in-Nodes.is c.requires.written).1.0;
-      faultless = no_fault c.args.context.now c.args.written.now _ c.in-Nodes.is c.requires.faultless;
-    })
+pub only-requires-clause-some : goal.only-requires-clause-some
+only-requires-clause-some c = rw c.as_slice-in-Only.ensures (body c.args.context.now.text c.args.written.now _ c.in-Only.is c.requires.written).1.0
 
-pub returns-in-Nodes : goal.returns-in-Nodes
-returns-in-Nodes c = rw (c.in-Nodes.is, ← c.as_slice.ensures) c.nodes.ensures
+pub rule-requires-clause-shallow : goal.rule-requires-clause-shallow
+rule-requires-clause-shallow c = (body c.args.context.now.text c.args.written.now _ c.in-Rule.is c.requires.written).1.0.shallow
 
-pub alphabet-requires : goal.alphabet-requires
-alphabet-requires c =
-    rw c.as_slice-in-Alphabet.ensures (record {
-      some = (body c.args.context.now c.args.written.now _ c.in-Alphabet.is c.requires.written).1.0;
-      faultless = no_fault c.args.context.now c.args.written.now _ c.in-Alphabet.is c.requires.faultless;
-    })
+pub automaton-requires-clause-shallow : goal.automaton-requires-clause-shallow
+automaton-requires-clause-shallow c =
+    let cases = (body c.args.context.now.text c.args.written.now _ c.in-Automaton.is c.requires.written).1 in
+    rw c.as_slice-in-Automaton.ensures (all_shallow c.args.context.now.text c.in-Automaton.cases cases.0 cases.2.last cases.2.before)
 
-pub returns-in-Alphabet : goal.returns-in-Alphabet
-returns-in-Alphabet c = rw (c.in-Alphabet.is, ← c.as_slice-in-Alphabet.ensures) c.alphabet.ensures
+pub configuration-requires-clause-some : goal.configuration-requires-clause-some
+configuration-requires-clause-some c = rw c.as_slice-in-Configuration.ensures (body c.args.context.now.text c.args.written.now _ c.in-Configuration.is c.requires.written).1.0
 
-pub kind-requires : goal.kind-requires
-kind-requires c = record { faultless = no_fault c.args.context.now c.args.written.now _ c.in-Topology.is c.requires.faultless }
-
-pub returns-in-Topology : goal.returns-in-Topology
-returns-in-Topology c = rw c.in-Topology.is c.kind.ensures
-
-pub edges-requires : goal.edges-requires
-edges-requires c =
-    rw c.as_slice-in-Edges.ensures (record { sound = c.requires.sound; faultless = no_fault c.args.context.now c.args.written.now _ c.in-Edges.is c.requires.faultless })
-
-pub returns-in-Edges : goal.returns-in-Edges
-returns-in-Edges c = rw (c.in-Edges.is, ← c.as_slice-in-Edges.ensures) c.edges.ensures
-
-pub only-requires : goal.only-requires
-only-requires c =
-    rw c.as_slice-in-Only.ensures (record {
-      some = (body c.args.context.now c.args.written.now _ c.in-Only.is c.requires.written).1.0;
-      faultless = no_fault c.args.context.now c.args.written.now _ c.in-Only.is c.requires.faultless;
-    })
-
-pub returns-in-Only : goal.returns-in-Only
-returns-in-Only c = rw (c.in-Only.is, ← c.as_slice-in-Only.ensures) c.only.ensures
-
-pub weights-requires : goal.weights-requires
-weights-requires c =
-    rw c.as_slice-in-Weights.ensures (record { faultless = no_fault c.args.context.now c.args.written.now _ c.in-Weights.is c.requires.faultless })
-
-pub returns-in-Weights : goal.returns-in-Weights
-returns-in-Weights c = rw (c.in-Weights.is, ← c.as_slice-in-Weights.ensures) c.weights.ensures
-
-pub limits-requires : goal.limits-requires
-limits-requires c = record { sound = c.requires.sound; faultless = no_fault c.args.context.now c.args.written.now _ c.in-Limits.is c.requires.faultless }
-
-pub returns-in-Limits : goal.returns-in-Limits
-returns-in-Limits c = rw c.in-Limits.is (record { exact = (refl, c.limits.ensures.exact); sound = c.limits.ensures.sound })
-
-pub rule-requires : goal.rule-requires
-rule-requires c = record {
-  sound = c.requires.sound;
-  shallow = (body c.args.context.now c.args.written.now _ c.in-Rule.is c.requires.written).1.0.shallow;
-  faultless = no_fault c.args.context.now c.args.written.now _ c.in-Rule.is c.requires.faultless;
-}
-
-pub returns-in-Rule : goal.returns-in-Rule
-returns-in-Rule c = rw c.in-Rule.is c.rule.ensures
-
-pub automaton-requires : goal.automaton-requires
-automaton-requires c =
-    let cases = (body c.args.context.now c.args.written.now _ c.in-Automaton.is c.requires.written).1 in
-    rw c.as_slice-in-Automaton.ensures (record {
-      sound = c.requires.sound;
-      shallow = all_shallow c.args.context.now.text c.in-Automaton.cases cases.0 cases.2.last cases.2.before;
-      faultless = no_fault c.args.context.now c.args.written.now _ c.in-Automaton.is c.requires.faultless;
-    })
+pub query-requires-clause-written : goal.query-requires-clause-written
+query-requires-clause-written c = (body c.args.context.now.text c.args.written.now _ c.in-Query.is c.requires.written).1.0
 
 pub returns-in-Automaton : goal.returns-in-Automaton
 returns-in-Automaton c = rw (c.in-Automaton.is, ← c.as_slice-in-Automaton.ensures) c.automaton.ensures
 
-pub composition-requires : goal.composition-requires
-composition-requires c = record {
-  named = c.requires.named;
-  formed = c.requires.formed;
-  faultless = no_fault c.args.context.now c.args.written.now _ c.in-Composition.is c.requires.faultless;
-}
-
 pub returns-in-Composition : goal.returns-in-Composition
 returns-in-Composition c = rw c.in-Composition.is c.composition.ensures
-
-pub configuration-requires : goal.configuration-requires
-configuration-requires c =
-    rw c.as_slice-in-Configuration.ensures (record {
-      sound = c.requires.sound;
-      some = (body c.args.context.now c.args.written.now _ c.in-Configuration.is c.requires.written).1.0;
-      faultless = no_fault c.args.context.now c.args.written.now _ c.in-Configuration.is c.requires.faultless;
-    })
-
-pub returns-in-Configuration : goal.returns-in-Configuration
-returns-in-Configuration c = rw (c.in-Configuration.is, ← c.as_slice-in-Configuration.ensures) c.configuration.ensures
-
-pub query-requires : goal.query-requires
-query-requires c = record {
-  sound = c.requires.sound;
-  written = record { written = c.args.written.now; stands = c.requires.written; asks = c.in-Query.is };
-  faultless = no_fault c.args.context.now c.args.written.now _ c.in-Query.is c.requires.faultless;
-}
-
-pub returns-in-Query : goal.returns-in-Query
-returns-in-Query c = rw c.in-Query.is c.query.ensures

@@ -1,9 +1,10 @@
-use Rattle.std.proofs.Common.{sym, ◌∙◌}
-use Rattle.dd_meanings.proofs.NameLaws.{seen, unseen}
+use Rattle.dd_faults.specs.lemmas.Repeats.{among, not_among}
 use Rattle.dd_meanings.proofs.topologies.add_once.Goals as goal
 
-pub returns-then-is_some : goal.returns-then-is_some
-returns-then-is_some c = seen c.args.labels.now c.args.text.now c.find.result c.find.ensures.exact (sym c.is_some.ensures ∙ c.if-is_some.true)
+pub returns-in-Ok : goal.returns-in-Ok
+returns-in-Ok c = rw (not_among c.args.labels.now c.args.text.now (rw (c.in_ok-from_str.ensures.ok) at c.in-Ok.ensures.first)) (rw (c.in_ok-from_str.ensures.ok) at c.in-Ok.ensures.added)
 
-pub returns : goal.returns
-returns c = unseen c.args.labels.now c.args.text.now c.add_new.new.names c.add_new.result c.find.result c.find.ensures.exact (sym c.is_some.ensures ∙ c.if-is_some.false) c.add_new.ensures
+pub returns-in-Err-Twice : goal.returns-in-Err-Twice
+returns-in-Err-Twice c =
+    let refusal = rw c.in-Err-Twice.field-0-is at c.in-Err-Twice.ensures.refusal in
+    rw (among c.args.labels.now c.args.text.now (rw c.in_ok-from_str.ensures.ok at refusal.1)) c.in-Err-Twice.ensures.unchanged

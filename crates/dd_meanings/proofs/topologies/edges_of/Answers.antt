@@ -1,13 +1,13 @@
+use Rattle.std.proofs.Common.{arith}
 use Rattle.dd_faults.specs.Commands.{edge_faults}
-use Rattle.dd_meanings.proofs.Nothing.{none_item}
+use Rattle.dd_meanings.proofs.Nothing.{parts, none_item}
 use Rattle.dd_meanings.specs.Topologies.{edge_of}
 use Rattle.dd_meanings.proofs.Making.{made_item}
-use Rattle.dd_meanings.proofs.EdgeLaws.{close_edge}
 use Rattle.dd_meanings.proofs.topologies.edges_of.Goals as goal
 
 pub edge_of-next-requires : goal.edge_of-next-requires
 edge_of-next-requires c =
-    close_edge c.args.context.now c.edge-item.result (none_item (edge_faults c.args.context.now) c.args.written.now c.loop-edge.edge-index c.edge-item.result c.loop-edge-test.true c.edge-item.is c.requires)
+    let none = none_item (edge_faults c.args.context.now) c.args.written.now c.loop-edge.edge-index c.edge-item.result c.loop-edge-test.true c.edge-item.is c.requires in grind (arith, parts)
 
 pub loop-edge-preserved : goal.loop-edge-preserved
 loop-edge-preserved c =

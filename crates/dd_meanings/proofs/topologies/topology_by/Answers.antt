@@ -1,11 +1,5 @@
-use Rattle.dd_meanings.proofs.EdgeLaws.{few_edges, each_none, are_edges, not_twice}
+use Rattle.dd_meanings.proofs.EdgeLaws.{are_edges, not_twice}
 use Rattle.dd_meanings.proofs.topologies.topology_by.Goals as goal
-
-pub labels_of-requires : goal.labels_of-requires
-labels_of-requires c = few_edges c.args.context.now c.args.written.now c.requires.faultless
-
-pub edges_of-requires : goal.edges_of-requires
-edges_of-requires c = each_none c.args.context.now c.args.written.now c.requires.faultless
 
 pub from_edges-requires-clause-edges : goal.from_edges-requires-clause-edges
 from_edges-requires-clause-edges c =
@@ -14,4 +8,4 @@ from_edges-requires-clause-edges c =
 pub unreachable-requires : goal.unreachable-requires
 unreachable-requires c =
     let refusal = rw c.in-Err-Twice.field-0-is at c.in-Err-Twice.ensures.fault in
-    not_twice c.args.context.now c.args.written.now c.in-Err-Twice.field-0-0 c.requires.faultless (rw (c.in_ok-edges.ensures, c.in_ok-labels.ensures) at refusal)
+    not_twice c.args.context.now c.args.written.now c.requires.faultless c.in-Err-Twice.field-0-0 (rw (c.in_ok-edges.ensures, c.in_ok-labels.ensures) at refusal)

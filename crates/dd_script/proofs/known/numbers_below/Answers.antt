@@ -1,5 +1,6 @@
-use Rattle.dd_script.proofs.Ranges.{range_more}
+use Rattle.std.proofs.Common.{refl, arith}
+use Rattle.std.proofs.lemmas.Iterator.{YieldsList-from_range, items_from_collect}
 use Rattle.dd_script.proofs.known.numbers_below.Goals as goal
 
-pub loop-number-preserved : goal.loop-number-preserved
-loop-number-preserved c = range_more c.loop-number.number _ _ c.loop-number.invariant c.in_ok-push.ensures.ok
+pub returns : goal.returns
+returns c = items_from_collect _ c.collect.ensures.ran (YieldsList-from_range 0 c.args.count c.args.count refl (omega arith))

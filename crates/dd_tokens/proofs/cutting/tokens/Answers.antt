@@ -1,4 +1,4 @@
-use Rattle.std.proofs.Common.{◌∙◌, arith}
+use Rattle.std.proofs.Common.{◌∙◌, length, length-append, ap, arith}
 use Rattle.std.proofs.lemmas.Grind.{common_steps}
 use Rattle.dd_tokens.proofs.Steps.{passed, cut_off}
 use Rattle.dd_tokens.proofs.cutting.tokens.Goals as goal
@@ -7,13 +7,17 @@ pub loop-rest-preserved-in-Gap : goal.loop-rest-preserved-in-Gap
 loop-rest-preserved-in-Gap c =
     let of = c.in-Gap.ensures in
     let part = c.split_at.ensures in
-    (omega (arith, of.within, part.back_len, c.loop-rest.invariant.0), passed _ _ _ _ _ of.value of.within part.back ∙ c.loop-rest.invariant.1)
+    (omega (arith, of.within, part.back_len, c.loop-rest.invariant.0), omega (arith, c.loop-rest.invariant.1), passed _ _ _ _ _ of.value of.within part.back ∙ c.loop-rest.invariant.2)
 
 pub loop-rest-preserved : goal.loop-rest-preserved
 loop-rest-preserved c =
     let of = c.in-Cut.ensures in
     let part = c.split_at-in-Cut.ensures in
-    (omega (arith, of.within, part.back_len, c.loop-rest.invariant.0), cut_off _ _ _ _ _ _ _ of.value of.within part.back c.in_ok-push-in-Cut.ensures.ok ∙ c.loop-rest.invariant.1)
+    let pushed = c.in_ok-push-in-Cut.ensures.ok in (
+      omega (arith, of.within, part.back_len, c.loop-rest.invariant.0),
+      omega (arith, of.within, simp length-append at (ap length pushed), c.loop-rest.invariant.1),
+      cut_off _ _ _ _ _ _ _ of.value of.within part.back pushed ∙ c.loop-rest.invariant.2,
+    )
 
 pub returns : goal.returns
 returns c = grind (arith, common_steps)

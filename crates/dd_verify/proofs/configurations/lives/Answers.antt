@@ -1,4 +1,4 @@
-use Rattle.dd_verify.proofs.FirstCells.{not_both}
+use Rattle.dd_formula.specs.lemmas.FirstCells.{not_both}
 use Rattle.dd_verify.proofs.Deciding.{nothing_holds}
 use Rattle.dd_verify.proofs.configurations.lives.Goals as goal
 

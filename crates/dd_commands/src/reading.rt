@@ -1,0 +1,78 @@
+//! What is read from the front of tokens, and one of a kind after the other.
+ghost use Rattle.std.specs.Prelude.{◌≡◌, ℕ, List};
+ghost use Rattle.dd_written.specs.reading.Readers.{Gives, Reader};
+ghost use Rattle.dd_commands.specs.reading.Forms.{at_most, each_at, some_at, exactly_at};
+
+use dd_values::Items;
+use dd_written::{Lexeme, ReadFault};
+use std::alloc::Global;
+
+/// The bytes of a script, and where memory for what is read of them comes from.
+#[derive(Clone, Copy)]
+pub(crate) struct Source<'a> {
+    pub(crate) alloc: Global,
+    pub(crate) bytes: &'a [u8],
+}
+
+/// What was read, and the tokens behind it.
+pub(crate) type Read<'a, T> = Result<(T, &'a [Lexeme]), ReadFault>;
+
+/// What can be read from the front of tokens.
+pub(crate) trait FromTokens: Drop {
+    ghost item: { List ℕ → Reader Self };
+
+    fn read<'a>(from: Source, tokens: &'a [Lexeme]) -> Read<'a, Self>
+        ensures { Gives (λ x. (x.0, x.1.now)) result (item from.entry.bytes.now tokens.now) };
+}
+
+/// As many as can be read, and no more than are asked for.
+fn at_most<'a, T: FromTokens>(from: Source, most: usize, tokens: &'a [Lexeme]) -> Read<'a, Items<T>>
+    ensures { Gives (λ x. (x.0, x.1.now)) result (at_most (T.item from.entry.bytes.now) most tokens.now) }
+{
+    let mut items = Items::new(from.alloc);
+    let mut rest = tokens;
+    for _ in 0..most {
+        match T::read(from, rest) {
+            Ok((next, after)) => {
+                items.push(next)?;
+                rest = after;
+            }
+            Err(ReadFault::Syntax) => return Ok((items, rest)),
+            Err(ReadFault::Memory) => return Err(ReadFault::Memory),
+        }
+    }
+    Ok((items, rest))
+}
+
+/// As many as stand there.
+pub(crate) fn each<'a, T: FromTokens>(from: Source, tokens: &'a [Lexeme]) -> Read<'a, Items<T>>
+    ensures { Gives (λ x. (x.0, x.1.now)) result (each_at (T.item from.entry.bytes.now) tokens.now) }
+{
+    at_most(from, tokens.len(), tokens)
+}
+
+/// One or more.
+pub(crate) fn some<'a, T: FromTokens>(from: Source, tokens: &'a [Lexeme]) -> Read<'a, Items<T>>
+    ensures { Gives (λ x. (x.0, x.1.now)) result (some_at (T.item from.entry.bytes.now) tokens.now) }
+{
+    let (items, rest) = each(from, tokens)?;
+    if items.is_empty() {
+        return Err(ReadFault::Syntax);
+    }
+    Ok((items, rest))
+}
+
+/// So many.
+pub(crate) fn exactly<'a, T: FromTokens>(
+    from: Source,
+    count: usize,
+    tokens: &'a [Lexeme],
+) -> Read<'a, Items<T>>
+    ensures { Gives (λ x. (x.0, x.1.now)) result (exactly_at count (T.item from.entry.bytes.now) tokens.now) }
+{
+    let (items, rest) = at_most(from, count, tokens)?;
+    if items.len() != count {
+        return Err(ReadFault::Syntax);
+    }
+    Ok((items, rest))
+}

@@ -1,8 +1,0 @@
-use Rattle.std.proofs.Common.{◌≡◌, take}
-use Rattle.std.specs.List.{flat_map}
-use Rattle.dd_faults.specs.Order.{noted}
-use Rattle.dd_faults.specs.Commands.{case_faults}
-use Rattle.dd_faults.proofs.cases.cases.Given as goal
-
-abbrev pub invariant-loop-written : goal.invariant-loop-written
-invariant-loop-written l = l.found ≡ noted l.fn.found (flat_map (case_faults l.context) (take l.written-index l.cases))

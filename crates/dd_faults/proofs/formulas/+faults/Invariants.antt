@@ -1,8 +1,0 @@
-use Rattle.std.proofs.Common.{◌≡◌, take}
-use Rattle.std.specs.List.{flat_map}
-use Rattle.dd_faults.specs.Order.{noted}
-use Rattle.dd_faults.specs.Formulas.{formula_faults}
-use Rattle.dd_faults.proofs.formulas.+faults.Given as goal
-
-abbrev pub invariant-members_in-loop-member : goal.invariant-members_in-loop-member
-invariant-members_in-loop-member l = l.found ≡ noted l.fn.found (flat_map (λ f. formula_faults l.context f l.scope) (take l.member-index l.members))

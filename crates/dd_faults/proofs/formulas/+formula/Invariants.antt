@@ -1,0 +1,8 @@
+use Rattle.std.proofs.Common.{◌≡◌, take}
+use Rattle.std.specs.List.{flat_map}
+use Rattle.dd_faults.specs.Order.{noted}
+use Rattle.dd_faults.specs.Formulas.{formula_faults}
+use Rattle.dd_faults.proofs.formulas.+formula.Given as goal
+
+abbrev pub invariant-loop-part : goal.invariant-loop-part
+invariant-loop-part l = l.found ≡ noted l.fn.found (flat_map (λ f. formula_faults l.context f l.scope) (take l.part-index l.part-items))

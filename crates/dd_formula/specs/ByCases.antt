@@ -1,0 +1,42 @@
+-- Automata by cases that are given as formulas, and why they are refused.
+use Rattle.std.specs.Prelude.{ℕ, ◌<◌, ◌≡◌, false, List, map}
+use Rattle.dd_topology.specs.Grid.{Grid}
+use Rattle.dd_topology.specs.Sets.{SymbolSets}
+use Rattle.dd_expansion.specs.declared.formulas.Formula.{Formula}
+use Rattle.dd_expansion.specs.Limits.{IsFormula}
+use Rattle.dd_formula.specs.LocalRule.{LocalRule, local_rule}
+use Rattle.dd_formula.specs.Automata.{CommonNumbers, Counted, counted_step, is_few, is_short}
+use Rattle.dd_formula.specs.Compositions.{PassesInstances}
+use Rattle.dd_formula.specs.declared.automaton.Automaton.{Automaton}
+use Rattle.dd_formula.specs.declared.automaton.Automaton.TheOpen.{Automaton-F}
+use Rattle.dd_formula.specs.declared.automaton.Automaton.TheVariants as v
+use Rattle.dd_formula.specs.declared.fault.RuleFault.{RuleFault}
+use Rattle.dd_formula.specs.declared.fault.RuleFault.TheVariants.{Reach, Instances, Depth, Memory}
+
+-- the numbers of rules over a topology and the symbols that its nodes allow
+abbrev pub numbers_over : Grid → SymbolSets → CommonNumbers
+numbers_over g s = record { dimension = g.dimension; nodes = g.nodes; symbols = s.symbols }
+
+-- a case is a formula over them, with one of the symbols
+pub record IsCaseOver (g : Grid) (s : SymbolSets) (case : Formula × ℕ) : Type 0 where
+  pub formula : IsFormula g s.symbols case.0
+  pub symbol : case.1 < s.symbols
+
+-- the case with the formula's rule
+abbrev pub case_over : Grid → SymbolSets → Formula × ℕ → LocalRule × ℕ
+case_over g s case = (local_rule g s case.0, case.1)
+
+-- the automaton that gives a cell the symbol of the first case that is true there, else another
+abbrev pub by_cases : Grid → SymbolSets → List (Formula × ℕ) → ℕ → Automaton
+by_cases g s cases otherwise = v.Given (record { cases = map (case_over g s) cases; otherwise = otherwise })
+
+-- what is counted of it, which the other symbol doesn't change
+abbrev pub counts_over : Grid → SymbolSets → List (Formula × ℕ) → Counted
+counts_over g s cases = counted_step (Automaton-F.Given (record { cases = map (case_over g s) cases; otherwise = 0 }))
+
+-- why it isn't made: too many instances at some node; else a cell that is too far away
+abbrev pub IsCasesRefusal : ℕ → Counted → RuleFault → Type 0
+IsCasesRefusal n f Instances = is_few n f ≡ false
+IsCasesRefusal n f Reach = PassesInstances n f × (is_short n f ≡ false)
+IsCasesRefusal n f Depth = ⊥
+IsCasesRefusal n f Memory = Unit {0}

@@ -1,0 +1,36 @@
+-- Why no rule is made of a formula, and no automaton by cases.
+use Rattle.std.proofs.Common.{◌≡◌, ◌≤◌, ℕ, true, false, refl, arith}
+use Rattle.std.specs.Prelude.{nat_le}
+use Rattle.std.specs.List.{list_all}
+use Rattle.std.proofs.lemmas.Bool.{and_from, lt-leb, eq-eqb}
+use Rattle.dd_topology.specs.Grid.{Grid}
+use Rattle.dd_topology.specs.Sets.{SymbolSets}
+use Rattle.dd_expansion.specs.declared.formulas.Formula.{Formula}
+use Rattle.dd_expansion.specs.Leaves.{instances}
+use Rattle.dd_formula.specs.LocalRule.{LocalRule, local_rule, expansion_at, reads_at, is_near, most_instances, IsSmall}
+use Rattle.dd_formula.specs.Automata.{Counted, is_few, rule_has}
+use Rattle.dd_formula.specs.Refusals.{IsRuleRefusal}
+use Rattle.dd_formula.specs.Compositions.{IsCompositionFault}
+use Rattle.dd_formula.specs.ByCases.{numbers_over, IsCasesRefusal}
+use Rattle.dd_formula.specs.declared.fault.RuleFault.{RuleFault}
+use Rattle.dd_formula.specs.declared.fault.RuleFault.TheVariants.{Reach, Instances, Depth, Memory}
+use Rattle.dd_formula.specs.lemmas.CompositionLaws.{range_fails}
+
+-- what has at least a rule's instances and reads at least its cells is refused where the rule is
+module _ (r : LocalRule) (f : Counted) (large : (a : ℕ) → instances (expansion_at r a) ≤ f.instances a) (far : (a : ℕ) → list_all is_near (reads_at r a) ≡ false → list_all is_near (f.reads a) ≡ false) where
+  pub refused : (e : RuleFault) → (IsSmall r → is_few r.nodes f ≡ true) → IsRuleRefusal r e → IsCasesRefusal r.nodes f e
+  refused Instances few h = range_fails (λ a. nat_le (f.instances a) most_instances) r.nodes h.node h.exists (lt-leb _ _ (omega (arith, h.many, large h.node)))
+  refused Reach few h = (few h.0, range_fails (λ a. list_all is_near (f.reads a)) r.nodes h.1.node h.1.exists (far h.1.node h.1.far))
+  refused Depth few h = h
+  refused Memory few h = tt
+
+-- the limits of automata by cases are limits of compositions
+pub passes_one : (n : ℕ) (f : Counted) (e : RuleFault) → IsCasesRefusal n f e → IsCompositionFault n f e
+passes_one n f Instances h = h
+passes_one n f Reach h = h
+passes_one n f Depth h = absurd h
+passes_one n f Memory h = tt
+
+-- a rule over a topology and its symbols has their numbers
+pub has_numbers : (g : Grid) (s : SymbolSets) (f : Formula) → rule_has (numbers_over g s) (local_rule g s f) ≡ true
+has_numbers g s f = and_from _ _ (and_from _ _ (eq-eqb g.dimension g.dimension refl) (eq-eqb g.nodes g.nodes refl)) (eq-eqb s.symbols s.symbols refl)

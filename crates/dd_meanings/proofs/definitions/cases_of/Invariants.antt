@@ -1,0 +1,6 @@
+use Rattle.std.proofs.Common.{◌≡◌, map, take}
+use Rattle.dd_meanings.specs.Definitions.{case_of}
+use Rattle.dd_meanings.proofs.definitions.cases_of.Given as goal
+
+abbrev pub invariant-loop-case : goal.invariant-loop-case
+invariant-loop-case l = l.made ≡ map (case_of l.context) (take l.case-index l.cases)
