@@ -1,14 +1,11 @@
 -- Commands are what their tokens say, and a text of commands is ASCII.
 use Rattle.std.proofs.Common.{◌≡◌, ℕ, Bool, true, false, List, [], ◌∷◌, ◌++◌, map, length, refl, sym, ap, subst, ◌==◌, ◌&&◌, if◌then◌else◌, All, IsAscii}
-use Rattle.std.specs.List.{list_all}
-use Rattle.std.specs.Char.{is_ascii}
-use Rattle.std.proofs.lemmas.Bool.{ltb-true, and_parts, and_from}
-use Rattle.std.proofs.lemmas.List.Elements.{All-nil, All-cons}
+use Rattle.std.specs.{List.list_all, Char.is_ascii}
+use Rattle.std.proofs.lemmas.{Bool.ltb-true, Bool.and_parts, Bool.and_from, List.Elements.All-nil, List.Elements.All-cons}
 use Rattle.std.proofs.lemmas.Str.Ascii.{IsAscii-nil, IsAscii-cons}
 use Rattle.dd_tokens.specs.Format.{tokens_of}
-use Rattle.dd_commands.specs.Tree.{Mark, Lexeme, Written}
+use Rattle.dd_commands.specs.{Tree.Mark, Tree.Lexeme, Tree.Written, Commands.IsCommand}
 use Rattle.dd_written.specs.Lexemes.{lexeme_of, lexemes_of}
-use Rattle.dd_commands.specs.Commands.{IsCommand}
 use Rattle.dd_commands.specs.Scripts.{parts, is_whole, stage_after, AreCommands, AreWritten, IsWritten}
 
 pub all_written : (bytes : List ℕ) (from : ℕ) (ps : List (List Lexeme)) (ws : List Written) → AreCommands bytes from ps ws → All (IsWritten bytes) ws × (list_all (list_all is_whole) ps ≡ true)

@@ -1,7 +1,6 @@
 -- The first words of commands, the order of commands, and the names of topologies.
 use Rattle.std.specs.Prelude.{ℕ, ◌+◌, List, Bool, true, false, if◌then◌else◌, codes}
-use Rattle.dd_commands.specs.Tree.{Kind, Command, Head}
-use Rattle.dd_commands.specs.Table.{row}
+use Rattle.dd_commands.specs.{Tree.Kind, Tree.Head, Tree.Command, Table.row}
 
 -- The first word; the place in the order of commands, where each stands behind all of a lower place; and whether it is given once.
 pub record HeadRow : Type 0 where

@@ -2,8 +2,7 @@
 use Rattle.std.specs.Prelude.{◌≡◌, ℕ, zero, suc, ◌≤◌, List, [], ◌∷◌, Bool, true, false, Result, Ok, Err}
 use Rattle.std.specs.List.{list_all}
 use Rattle.dd_commands.specs.Tree.{Mark, Lexeme, Written, Syntax, SyntaxFault}
-use Rattle.dd_commands.specs.Heads.{head_of, stage, next_stage}
-use Rattle.dd_commands.specs.Commands.{IsCommand}
+use Rattle.dd_commands.specs.{Heads.head_of, Heads.stage, Heads.next_stage, Commands.IsCommand}
 use Rattle.dd_written.specs.Lexemes.{lexemes_of}
 
 -- what stands before the first command, and each command without its mark

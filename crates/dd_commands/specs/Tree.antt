@@ -1,12 +1,6 @@
 -- The types of what is written, from words to scripts, passed on from one place. Declares nothing.
 pub use Rattle.dd_topology.specs.declared.builtin.Kind.{Kind}
-pub use Rattle.dd_written.specs.declared.fault.ReadFault.{ReadFault}
-pub use Rattle.dd_written.specs.declared.lexeme.Word.{Word}
-pub use Rattle.dd_written.specs.declared.lexeme.Number.{Number}
-pub use Rattle.dd_written.specs.declared.lexeme.Mark.{Mark}
-pub use Rattle.dd_written.specs.declared.lexeme.Lexeme.{Lexeme}
-pub use Rattle.dd_written.specs.declared.tree.Name.{Name}
-pub use Rattle.dd_written.specs.declared.tree.Formula.{Formula}
+pub use Rattle.dd_written.specs.Tree.{ReadFault, Word, Number, Mark, Lexeme, Name, Term, Comparand, Relation, Atom, Ball, Quantifier, Join, Formula, roll-Formula, Formula-F, fold-Formula, fold-roll-Formula, map-Formula, ind-Formula}
 pub use Rattle.dd_commands.specs.declared.table.Role.{Role}
 pub use Rattle.dd_commands.specs.declared.table.Lists.{Lists}
 pub use Rattle.dd_commands.specs.declared.table.Question.{Question}

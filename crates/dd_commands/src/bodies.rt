@@ -1,8 +1,6 @@
 //! Commands, read from their first word to the end.
 ghost use Rattle.std.specs.Prelude.{◌≡◌};
-ghost use Rattle.dd_written.specs.reading.Readers.{Gives};
-ghost use Rattle.dd_written.specs.reading.Formulas.{formula_at};
-ghost use Rattle.dd_commands.specs.declared.head.Head.TheVariants as head;
+ghost use Rattle.dd_written.specs.reading.{Readers.Gives, Formulas.formula_at};
 ghost use Rattle.dd_commands.specs.reading.Commands.{case, topology, body, command_of};
 
 use crate::command::{Case, Command};
@@ -51,7 +49,7 @@ fn topology<'a>(from: Source, tokens: &'a [Lexeme]) -> Read<'a, Command>
 }
 
 fn limits<'a>(from: Source, tokens: &'a [Lexeme]) -> Read<'a, Command>
-    ensures { Gives (λ x. (x.0, x.1.now)) result ((body from.entry.bytes.now head.Limits tokens.now).item tokens.now) }
+    ensures { Gives (λ x. (x.0, x.1.now)) result ((body from.entry.bytes.now Head.Limits tokens.now).item tokens.now) }
 {
     let (radius, rest) = Number::read(from, tokens)?;
     let (period, rest) = Number::read(from, rest)?;
@@ -65,7 +63,7 @@ fn limits<'a>(from: Source, tokens: &'a [Lexeme]) -> Read<'a, Command>
 }
 
 fn automaton<'a>(from: Source, tokens: &'a [Lexeme]) -> Read<'a, Command>
-    ensures { Gives (λ x. (x.0, x.1.now)) result ((body from.entry.bytes.now head.Automaton tokens.now).item tokens.now) }
+    ensures { Gives (λ x. (x.0, x.1.now)) result ((body from.entry.bytes.now Head.Automaton tokens.now).item tokens.now) }
 {
     let (name, rest) = Word::read(from, tokens)?;
     let (cases, rest) = each(from, rest)?;
@@ -80,7 +78,7 @@ fn automaton<'a>(from: Source, tokens: &'a [Lexeme]) -> Read<'a, Command>
 }
 
 fn composition<'a>(from: Source, tokens: &'a [Lexeme]) -> Read<'a, Command>
-    ensures { Gives (λ x. (x.0, x.1.now)) result ((body from.entry.bytes.now head.Composition tokens.now).item tokens.now) }
+    ensures { Gives (λ x. (x.0, x.1.now)) result ((body from.entry.bytes.now Head.Composition tokens.now).item tokens.now) }
 {
     let (name, rest) = Word::read(from, tokens)?;
     let (outer, rest) = Word::read(from, rest)?;
@@ -89,7 +87,7 @@ fn composition<'a>(from: Source, tokens: &'a [Lexeme]) -> Read<'a, Command>
 }
 
 fn configuration<'a>(from: Source, tokens: &'a [Lexeme]) -> Read<'a, Command>
-    ensures { Gives (λ x. (x.0, x.1.now)) result ((body from.entry.bytes.now head.Configuration tokens.now).item tokens.now) }
+    ensures { Gives (λ x. (x.0, x.1.now)) result ((body from.entry.bytes.now Head.Configuration tokens.now).item tokens.now) }
 {
     let (name, rest) = Word::read(from, tokens)?;
     let (periods, rest) = plain(from, rest)?;

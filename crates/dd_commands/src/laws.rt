@@ -1,7 +1,6 @@
 //! Laws of scripts as they are written, as contracts of calls that do nothing.
 ghost use Rattle.std.specs.Prelude.{◌≡◌, ℕ, List};
-ghost use Rattle.dd_commands.specs.declared.script.Syntax.{Syntax};
-ghost use Rattle.dd_commands.specs.Scripts.{IsScript, IsSyntaxFault};
+ghost use Rattle.dd_commands.specs.{declared.script.Syntax.Syntax, Scripts.IsScript, Scripts.IsSyntaxFault};
 
 use dd_written::formula_is_read;
 

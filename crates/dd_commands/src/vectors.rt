@@ -1,7 +1,6 @@
 //! Words, names, numbers, vectors and edges.
 ghost use Rattle.std.specs.Prelude.{◌≡◌};
-ghost use Rattle.dd_written.specs.reading.Atoms.{name_at};
-ghost use Rattle.dd_written.specs.reading.Readers.{Gives};
+ghost use Rattle.dd_written.specs.reading.{Atoms.name_at, Readers.Gives};
 ghost use Rattle.dd_commands.specs.Commands.{is_plain_entry, is_plain};
 ghost use Rattle.dd_commands.specs.reading.Vectors.{word_at, number_at, entry_at, mark_at, vector, plain, shear, edge};
 

@@ -2,8 +2,7 @@
 use Rattle.std.proofs.Common.{◌≡◌, ℕ, ◌+◌, ◌<◌, List, [], ◌∷◌, ◌++◌, length, take, slice_index_or, Option, refl, arith}
 use Rattle.std.specs.List.{flat_map}
 use Rattle.std.proofs.lemmas.Grind.{common_steps}
-use Rattle.dd_faults.specs.declared.fault.Fault.{Fault}
-use Rattle.dd_faults.specs.Order.{better, noted}
+use Rattle.dd_faults.specs.{Tree.Fault, Order.better, Order.noted}
 
 pub noted_both : (found : Option Fault) (fs gs : List Fault) → noted found (fs ++ gs) ≡ noted (noted found fs) gs
 noted_both found [] gs = refl

@@ -1,13 +1,9 @@
 -- Periods of boxes with few symbols.
-use Rattle.std.proofs.Common.{◌≡◌, ℕ, ◌*◌, ◌≤◌, ◌<◌, List, [], ◌∷◌, length, Option, true, arith}
-use Rattle.std.specs.Prelude.{slice_get}
+use Rattle.std.proofs.Common.{◌≡◌, ℕ, ◌*◌, ◌≤◌, ◌<◌, List, [], ◌∷◌, length, Option, true, arith, slice_get}
 use Rattle.std.specs.Option.{option_map_or}
 use Rattle.std.proofs.Math.Nat.{le-mul_of_pos_right, mul_assoc}
-use Rattle.std.proofs.lemmas.Bool.{and_parts, eqb-true}
-use Rattle.std.proofs.lemmas.Grind.{common_steps}
-use Rattle.dd_commands.specs.declared.command.Entry.{Entry}
-use Rattle.dd_commands.specs.declared.command.Vector.{Vector}
-use Rattle.dd_faults.specs.declared.context.Context.{Context}
+use Rattle.std.proofs.lemmas.{Bool.and_parts, Bool.eqb-true, Grind.common_steps}
+use Rattle.dd_faults.specs.Tree.{Entry, Vector, Context}
 use Rattle.dd_faults.specs.Commands.{entry_value, product, period_at, box_fits}
 use Rattle.dd_faults.proofs.Noting.{noted_both}
 

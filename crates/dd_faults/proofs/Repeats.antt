@@ -1,8 +1,7 @@
 -- The first that is the same as one before it, looked for one after the other.
 use Rattle.std.proofs.Common.{◌≡◌, ℕ, ◌+◌, ◌<◌, List, [], ◌∷◌, ◌++◌, length, drop, slice_index_or, Contains, refl, sym, ◌∙◌, arith}
 use Rattle.std.proofs.lemmas.Grind.{common_steps}
-use Rattle.dd_faults.specs.declared.fault.Fault.{Fault}
-use Rattle.dd_faults.specs.Repeats.{first_repeat}
+use Rattle.dd_faults.specs.{Tree.Fault, Repeats.first_repeat}
 use Rattle.dd_faults.specs.lemmas.Repeats.{among, not_among}
 
 module _ {X : Type 0} (key : X → List ℕ) (f : X → Fault) (seen : List (List ℕ)) (x : X) (rest all : List X) where

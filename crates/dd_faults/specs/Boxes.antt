@@ -2,17 +2,8 @@
 use Rattle.std.specs.Prelude.{◌≡◌, ℕ, ◌≤◌, ◌+◌, ◌*◌, ◌%◌, List, [], ◌∷◌, ◌++◌, length, Bool, true, false, not, ◌&&◌, ◌||◌, ◌==◌, nat_le, nat_lt, Option, Some, None, slice_get, if◌then◌else◌}
 use Rattle.std.specs.Option.{option_map_or}
 use Rattle.dd_topology.specs.Sets.{allows}
-use Rattle.dd_written.specs.declared.tree.Name.{Name}
-use Rattle.dd_commands.specs.declared.command.Entry.{Entry}
-use Rattle.dd_commands.specs.declared.command.Vector.{Vector}
-use Rattle.dd_faults.specs.declared.fault.Limit.TheVariants as limit
-use Rattle.dd_faults.specs.declared.fault.Fault.{Fault}
-use Rattle.dd_faults.specs.declared.fault.Fault.TheVariants as fault
-use Rattle.dd_faults.specs.declared.context.Known.{Known}
-use Rattle.dd_faults.specs.declared.context.Context.{Context}
-use Rattle.dd_faults.specs.Order.{when, over}
-use Rattle.dd_faults.specs.Names.{place_of_name}
-use Rattle.dd_faults.specs.Numbers.{dimension_of, entry_value, has_entries}
+use Rattle.dd_faults.specs.Tree.{Name, Entry, Vector, Limit, Fault, Known, Context}
+use Rattle.dd_faults.specs.{Order.when, Order.over, Names.place_of_name, Numbers.dimension_of, Numbers.entry_value, Numbers.has_entries}
 
 -- there is a node, and each node has its symbols
 abbrev pub HasSets : Known → Type 0
@@ -25,7 +16,7 @@ is_allowed x a n = option_map_or (λ t. allows x.known.setting.sets a t) (place_
 -- symbols from the k-th on: the nodes stand innermost
 abbrev pub symbol_faults : Context → ℕ → List Name → List Fault
 symbol_faults x k [] = []
-symbol_faults x k (n ∷ ns) = when (not (is_allowed x (k % length x.known.setting.nodes) n)) (fault.Unknown n) ++ symbol_faults x (k + 1) ns
+symbol_faults x k (n ∷ ns) = when (not (is_allowed x (k % length x.known.setting.nodes) n)) (Fault.Unknown n) ++ symbol_faults x (k + 1) ns
 
 abbrev pub product : List ℕ → List Entry → ℕ
 product bytes [] = 1
@@ -52,5 +43,5 @@ box_fits x periods shear count =
 -- where the numbers of entries fit, no period is 0, since there is a symbol
 abbrev pub box_faults : Context → Vector → Option Vector → ℕ → List Fault
 box_faults x periods shear count =
-    if box_fits x periods shear count then over (nat_lt 65536 count || nat_le (period_at x.text periods 0) (shear_of x.text shear)) limit.Periods
-    else fault.Dimension ∷ []
+    if box_fits x periods shear count then over (nat_lt 65536 count || nat_le (period_at x.text periods 0) (shear_of x.text shear)) Limit.Periods
+    else Fault.Dimension ∷ []

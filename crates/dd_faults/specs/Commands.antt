@@ -1,37 +1,15 @@
 -- The faults of commands, in the order of their text.
 use Rattle.std.specs.Prelude.{ℕ, ◌+◌, List, [], ◌++◌, length, Bool, false, not, ◌&&◌, ◌||◌, ◌==◌, nat_le, nat_lt}
-use Rattle.std.specs.List.{flat_map, list_any, zip}
-use Rattle.std.specs.Option.{option_map_or}
+use Rattle.std.specs.{List.flat_map, List.list_any, List.zip, Option.option_map_or}
 use Rattle.dd_values.specs.Bounds.{most_weight, most_commands}
-use Rattle.dd_topology.specs.declared.builtin.Kind.{Kind}
+use Rattle.dd_faults.specs.Tree.{Kind, Word, Number, Name, Role, Lists, Entry, Vector, Edge, Case, Request, Command, Written, Limit, Fault, Known, Context}
 use Rattle.dd_topology.specs.Builtin.{grid_of}
-use Rattle.dd_written.specs.declared.lexeme.Word.{Word}
-use Rattle.dd_written.specs.declared.lexeme.Number.{Number}
-use Rattle.dd_written.specs.declared.tree.Name.{Name}
-use Rattle.dd_written.specs.declared.tree.Name.TheVariants as name
 use Rattle.dd_written.specs.Values.{written_value}
-use Rattle.dd_commands.specs.declared.table.Role.{Role}
-use Rattle.dd_commands.specs.declared.table.Lists.{Lists}
-use Rattle.dd_commands.specs.declared.table.Lists.TheVariants as lists
-use Rattle.dd_commands.specs.declared.command.Entry.{Entry}
-use Rattle.dd_commands.specs.declared.command.Vector.{Vector}
-use Rattle.dd_commands.specs.declared.command.Edge.{Edge}
-use Rattle.dd_commands.specs.declared.command.Case.{Case}
-use Rattle.dd_commands.specs.declared.command.Request.{Request}
-use Rattle.dd_commands.specs.declared.command.Command.{Command}
-use Rattle.dd_commands.specs.declared.command.Command.TheVariants as command
-use Rattle.dd_commands.specs.declared.script.Written.{Written}
 use Rattle.dd_commands.specs.Table.{row}
-use Rattle.dd_faults.specs.declared.fault.Limit.TheVariants as limit
-use Rattle.dd_faults.specs.declared.fault.Fault.{Fault}
-use Rattle.dd_faults.specs.declared.fault.Fault.TheVariants as fault
-use Rattle.dd_faults.specs.declared.context.Known.{Known}
-use Rattle.dd_faults.specs.declared.context.Context.{Context}
-use Rattle.dd_faults.specs.Order.{when, over}
+use Rattle.dd_faults.specs.{Order.when, Order.over, Formulas.formula_faults}
 pub use Rattle.dd_faults.specs.Numbers.{unless, dimension_of, token_faults, entry_number, entry_value, signed_value, has_entries, is_far}
 pub use Rattle.dd_faults.specs.Boxes.{HasSets, is_allowed, symbol_faults, product, period_at, shear_of, shear_fits, box_fits, box_faults}
 use Rattle.dd_faults.specs.Names.{place_of_name, missing, named, named_again}
-use Rattle.dd_faults.specs.Formulas.{formula_faults}
 use Rattle.dd_faults.specs.Repeats.{twice_named, twice_labelled, twice_vectors}
 
 -- ---- the header
@@ -43,17 +21,17 @@ kind_fits k t = (grid_of t).dimension == dimension_of k && (not k.nodes_are_give
 abbrev pub edge_faults : Context → Edge → List Fault
 edge_faults x e =
     missing x.text x.known.setting.nodes e.from
-    ++ (missing x.text x.known.setting.nodes e.to ++ (unless (has_entries (dimension_of x.known) e.offset) ++ over (is_far x.text e.offset) limit.Offset))
+    ++ (missing x.text x.known.setting.nodes e.to ++ (unless (has_entries (dimension_of x.known) e.offset) ++ over (is_far x.text e.offset) Limit.Offset))
 
 -- the script has restricted the symbols of the node
 abbrev pub is_restricted : Context → Name → Bool
 is_restricted x n = option_map_or (λ a. list_any (λ b. b == a) x.known.restricted) (place_of_name x.text x.known.setting.nodes n) false
 
 abbrev pub restricted_again : Context → Name → List Fault
-restricted_again x n = when (is_restricted x n) (fault.Twice n)
+restricted_again x n = when (is_restricted x n) (Fault.Twice n)
 
 abbrev pub weight_faults : Context → Number → List Fault
-weight_faults x n = over (nat_lt most_weight (written_value x.text n)) limit.Weight
+weight_faults x n = over (nat_lt most_weight (written_value x.text n)) Limit.Weight
 
 abbrev pub passes_limits : ℕ → ℕ → ℕ → Bool
 passes_limits radius period pivots = nat_lt 8 radius || nat_lt period 1 || nat_lt 8 period || nat_lt 100000 pivots
@@ -66,25 +44,25 @@ case_faults x c = formula_faults x c.condition [] ++ missing x.text x.known.sett
 -- ---- questions
 
 abbrev pub word_faults : Context → Role × Word → List Fault
-word_faults x w = missing x.text (named x.known w.0) (name.Word w.1)
+word_faults x w = missing x.text (named x.known w.0) (Name.Word w.1)
 
 abbrev pub radius_faults : Context → Number → List Fault
-radius_faults x n = over (nat_lt 3 (written_value x.text n)) limit.Radius
+radius_faults x n = over (nat_lt 3 (written_value x.text n)) Limit.Radius
 
 -- a period that is not in 1..64
 abbrev pub is_no_strip : List ℕ → Entry → Bool
 is_no_strip bytes e = nat_lt (entry_value bytes e) 1 || nat_lt 64 (entry_value bytes e)
 
 abbrev pub strip_faults : Context → Vector → List Fault
-strip_faults x v = unless (length v.entries + 1 == dimension_of x.known) ++ over (list_any (is_no_strip x.text) v.entries) limit.Periods
+strip_faults x v = unless (length v.entries + 1 == dimension_of x.known) ++ over (list_any (is_no_strip x.text) v.entries) Limit.Periods
 
 abbrev pub vector_faults : Context → Vector → List Fault
-vector_faults x v = unless (has_entries (dimension_of x.known) v) ++ over (is_far x.text v) limit.Vectors
+vector_faults x v = unless (has_entries (dimension_of x.known) v) ++ over (is_far x.text v) Limit.Vectors
 
 abbrev pub list_faults : Context → Lists → List Vector → List Fault
-list_faults x lists.None vs = []
-list_faults x lists.Strip vs = flat_map (strip_faults x) vs
-list_faults x lists.Vectors vs = twice_vectors x.text vs ++ (flat_map (vector_faults x) vs ++ over (nat_lt 16 (length vs)) limit.Vectors)
+list_faults x Lists.None vs = []
+list_faults x Lists.Strip vs = flat_map (strip_faults x) vs
+list_faults x Lists.Vectors vs = twice_vectors x.text vs ++ (flat_map (vector_faults x) vs ++ over (nat_lt 16 (length vs)) Limit.Vectors)
 
 abbrev pub request_faults : Context → Request → List Fault
 request_faults x r =
@@ -93,24 +71,24 @@ request_faults x r =
 -- ---- commands
 
 abbrev pub faults_of : Context → Command → List Fault
-faults_of x (command.Dimension n) = unless (nat_le 1 (written_value x.text n) && nat_le (written_value x.text n) 3)
-faults_of x (command.Nodes names) = twice_named x.text names ++ (unless (x.has_topology || nat_le (length names) 1) ++ over (nat_lt 4 (length names)) limit.Nodes)
-faults_of x (command.Alphabet names) = twice_named x.text names ++ over (nat_lt 16 (length names)) limit.Alphabet
-faults_of x (command.Topology k) = unless (kind_fits x.known k)
-faults_of x (command.Edges es) = flat_map (edge_faults x) es ++ (twice_labelled x.text es ++ over (nat_lt 64 (length es)) limit.Edges)
-faults_of x (command.Only node symbols) =
+faults_of x (Command.Dimension n) = unless (nat_le 1 (written_value x.text n) && nat_le (written_value x.text n) 3)
+faults_of x (Command.Nodes names) = twice_named x.text names ++ (unless (x.has_topology || nat_le (length names) 1) ++ over (nat_lt 4 (length names)) Limit.Nodes)
+faults_of x (Command.Alphabet names) = twice_named x.text names ++ over (nat_lt 16 (length names)) Limit.Alphabet
+faults_of x (Command.Topology k) = unless (kind_fits x.known k)
+faults_of x (Command.Edges es) = flat_map (edge_faults x) es ++ (twice_labelled x.text es ++ over (nat_lt 64 (length es)) Limit.Edges)
+faults_of x (Command.Only node symbols) =
     missing x.text x.known.setting.nodes node ++ (restricted_again x node ++ (flat_map (missing x.text x.known.setting.symbols) symbols ++ twice_named x.text symbols))
-faults_of x (command.Weights ns) = unless (length ns == length x.known.setting.symbols) ++ flat_map (weight_faults x) ns
-faults_of x (command.Limits radius period pivots) = over (passes_limits (written_value x.text radius) (written_value x.text period) (written_value x.text pivots)) limit.Limits
-faults_of x (command.Rule called f) = named_again x.text x.known called ++ formula_faults x f []
-faults_of x (command.Automaton called cases symbol) =
+faults_of x (Command.Weights ns) = unless (length ns == length x.known.setting.symbols) ++ flat_map (weight_faults x) ns
+faults_of x (Command.Limits radius period pivots) = over (passes_limits (written_value x.text radius) (written_value x.text period) (written_value x.text pivots)) Limit.Limits
+faults_of x (Command.Rule called f) = named_again x.text x.known called ++ formula_faults x f []
+faults_of x (Command.Automaton called cases symbol) =
     named_again x.text x.known called ++ (flat_map (case_faults x) cases ++ missing x.text x.known.setting.symbols symbol)
-faults_of x (command.Composition called outer inner) =
-    named_again x.text x.known called ++ (missing x.text x.known.automata (name.Word outer) ++ missing x.text x.known.automata (name.Word inner))
-faults_of x (command.Configuration called periods shear symbols) =
+faults_of x (Command.Composition called outer inner) =
+    named_again x.text x.known called ++ (missing x.text x.known.automata (Name.Word outer) ++ missing x.text x.known.automata (Name.Word inner))
+faults_of x (Command.Configuration called periods shear symbols) =
     named_again x.text x.known called ++ (symbol_faults x 0 symbols ++ box_faults x periods shear (length symbols))
-faults_of x (command.Query r) = request_faults x r
+faults_of x (Command.Query r) = request_faults x r
 
 -- the command with its number and its tokens
 abbrev pub written_faults : Context → Written → List Fault
-written_faults x w = over (nat_lt most_commands x.number) limit.Commands ++ (flat_map (token_faults x.text) w.tokens ++ faults_of x w.command)
+written_faults x w = over (nat_lt most_commands x.number) Limit.Commands ++ (flat_map (token_faults x.text) w.tokens ++ faults_of x w.command)

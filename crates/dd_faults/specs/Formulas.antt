@@ -1,57 +1,41 @@
 -- The faults of formulas, in the order of the text.
 use Rattle.std.specs.Prelude.{ℕ, List, [], ◌∷◌, ◌++◌, length, Bool, not, ◌&&◌, ◌==◌, nat_lt, if◌then◌else◌}
 use Rattle.std.specs.List.{flat_map}
-use Rattle.dd_written.specs.declared.lexeme.Word.{Word}
-use Rattle.dd_written.specs.declared.tree.Name.TheVariants as name
-use Rattle.dd_written.specs.declared.tree.Term.{Term}
-use Rattle.dd_written.specs.declared.tree.Comparand.{Comparand}
-use Rattle.dd_written.specs.declared.tree.Comparand.TheVariants as side
-use Rattle.dd_written.specs.declared.tree.Relation.{Relation}
-use Rattle.dd_written.specs.declared.tree.Relation.TheVariants as relation
-use Rattle.dd_written.specs.declared.tree.Atom.{Atom}
-use Rattle.dd_written.specs.declared.tree.Ball.{Ball}
-use Rattle.dd_written.specs.declared.tree.Formula.{Formula}
-use Rattle.dd_written.specs.declared.tree.Formula.TheFolds.{fold-Formula}
-use Rattle.dd_written.specs.declared.tree.Formula.TheOpen.{Formula-F}
+use Rattle.dd_faults.specs.Tree.{Word, Name, Term, Comparand, Relation, Atom, Ball, Formula, Formula-F, fold-Formula, Limit, Fault, Context}
 use Rattle.dd_written.specs.Values.{written_value}
-use Rattle.dd_faults.specs.declared.fault.Limit.TheVariants as limit
-use Rattle.dd_faults.specs.declared.fault.Fault.{Fault}
-use Rattle.dd_faults.specs.declared.fault.Fault.TheVariants as fault
-use Rattle.dd_faults.specs.declared.context.Context.{Context}
-use Rattle.dd_faults.specs.Order.{when, over}
-use Rattle.dd_faults.specs.Names.{missing, is_variable, unknown_variable}
+use Rattle.dd_faults.specs.{Order.when, Order.over, Names.missing, Names.is_variable, Names.unknown_variable}
 
 abbrev pub unknown_label : Context → Word → List Fault
-unknown_label x w = missing x.text x.known.setting.topology.labels (name.Word w)
+unknown_label x w = missing x.text x.known.setting.topology.labels (Name.Word w)
 
 abbrev pub term_faults : Context → List Word → Term → List Fault
-term_faults x scope t = unknown_variable x.text scope t.first ++ (flat_map (unknown_label x) t.moves ++ over (nat_lt 16 (length t.moves)) limit.Moves)
+term_faults x scope t = unknown_variable x.text scope t.first ++ (flat_map (unknown_label x) t.moves ++ over (nat_lt 16 (length t.moves)) Limit.Moves)
 
 -- a single word that is no variable names a symbol
 abbrev pub names_symbol : List ℕ → List Word → Term → Bool
 names_symbol bytes scope t = length t.moves == 0 && not (is_variable bytes scope t.first)
 
 abbrev pub side_faults : Context → List Word → Comparand → List Fault
-side_faults x scope (side.Number n) = missing x.text x.known.setting.symbols (name.Number n)
-side_faults x scope (side.Term t) = if names_symbol x.text scope t then missing x.text x.known.setting.symbols (name.Word t.first) else term_faults x scope t
+side_faults x scope (Comparand.Number n) = missing x.text x.known.setting.symbols (Name.Number n)
+side_faults x scope (Comparand.Term t) = if names_symbol x.text scope t then missing x.text x.known.setting.symbols (Name.Word t.first) else term_faults x scope t
 
 abbrev pub relation_faults : Context → List Word → Relation → List Fault
-relation_faults x scope (relation.Equal r) = side_faults x scope r
-relation_faults x scope (relation.NotEqual r) = side_faults x scope r
-relation_faults x scope (relation.Adjacent t) = term_faults x scope t
-relation_faults x scope (relation.Same t) = term_faults x scope t
-relation_faults x scope (relation.AtNode n) = missing x.text x.known.setting.nodes n
+relation_faults x scope (Relation.Equal r) = side_faults x scope r
+relation_faults x scope (Relation.NotEqual r) = side_faults x scope r
+relation_faults x scope (Relation.Adjacent t) = term_faults x scope t
+relation_faults x scope (Relation.Same t) = term_faults x scope t
+relation_faults x scope (Relation.AtNode n) = missing x.text x.known.setting.nodes n
 
 abbrev pub atom_faults : Context → List Word → Atom → List Fault
 atom_faults x scope a = term_faults x scope a.term ++ relation_faults x scope a.relation
 
 abbrev pub ball_faults : Context → List Word → Ball → List Fault
-ball_faults x scope b = unknown_variable x.text scope b.centre ++ over (nat_lt 3 (written_value x.text b.radius)) limit.Radius
+ball_faults x scope b = unknown_variable x.text scope b.centre ++ over (nat_lt 3 (written_value x.text b.radius)) Limit.Radius
 
 -- a quantifier's variable is in scope in its body, and not in its balls
 abbrev pub quantifier_faults : Context → List Word → Word → List Ball → List Fault
 quantifier_faults x scope w balls =
-    when (is_variable x.text scope w) (fault.Twice (name.Word w)) ++ (over (nat_lt 4 (length balls)) limit.Balls ++ flat_map (ball_faults x scope) balls)
+    when (is_variable x.text scope w) (Fault.Twice (Name.Word w)) ++ (over (nat_lt 4 (length balls)) Limit.Balls ++ flat_map (ball_faults x scope) balls)
 
 abbrev pub faults_step : Context → Formula-F (List Word → List Fault) → List Word → List Fault
 faults_step x (Formula-F.Atom a) scope = atom_faults x scope a

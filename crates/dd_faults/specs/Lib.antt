@@ -1,3 +1,5 @@
+-- the types of what is written, of its faults and of what is known
+pub mod Tree
 -- the one order of faults
 pub mod Order
 -- names and variables by their texts

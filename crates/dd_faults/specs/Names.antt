@@ -1,15 +1,8 @@
 -- Names and variables by their texts.
 use Rattle.std.specs.Prelude.{ℕ, ◌+◌, List, Bool, not, ◌||◌, Option, Some, is_some, unwrap_or, option_map, if◌then◌else◌, codes, bytes_eq, position}
 use Rattle.dd_topology.specs.Naming.{number_of}
-use Rattle.dd_written.specs.declared.lexeme.Word.{Word}
-use Rattle.dd_written.specs.declared.tree.Name.{Name}
-use Rattle.dd_written.specs.declared.tree.Name.TheVariants as name
+use Rattle.dd_faults.specs.Tree.{Word, Name, Role, Fault, Known}
 use Rattle.dd_written.specs.Values.{word_text, name_text}
-use Rattle.dd_commands.specs.declared.table.Role.{Role}
-use Rattle.dd_commands.specs.declared.table.Role.TheVariants as role
-use Rattle.dd_faults.specs.declared.fault.Fault.{Fault}
-use Rattle.dd_faults.specs.declared.fault.Fault.TheVariants as fault
-use Rattle.dd_faults.specs.declared.context.Known.{Known}
 use Rattle.dd_faults.specs.Order.{when}
 
 -- the place of a name among names
@@ -18,7 +11,7 @@ place_of_name bytes names n = number_of names (name_text bytes n)
 
 -- unknown, where it is none of the names
 abbrev pub missing : List ℕ → List (List ℕ) → Name → List Fault
-missing bytes names n = when (not (is_some (place_of_name bytes names n))) (fault.Unknown n)
+missing bytes names n = when (not (is_some (place_of_name bytes names n))) (Fault.Unknown n)
 
 -- the number of a name that is one of the names
 abbrev pub number_in : List ℕ → List (List ℕ) → Name → ℕ
@@ -26,9 +19,9 @@ number_in bytes names n = unwrap_or (place_of_name bytes names n) 0
 
 -- the names that words of a role may stand for
 abbrev pub named : Known → Role → List (List ℕ)
-named k role.Rule = k.rules
-named k role.Automaton = k.automata
-named k role.Configuration = k.configurations
+named k Role.Rule = k.rules
+named k Role.Automaton = k.automata
+named k Role.Configuration = k.configurations
 
 -- two words with the same text
 abbrev pub same_text : List ℕ → Word → Word → Bool
@@ -43,9 +36,9 @@ is_variable bytes scope w = is_some (variable_of bytes scope w)
 
 -- unknown, where it is no variable
 abbrev pub unknown_variable : List ℕ → List Word → Word → List Fault
-unknown_variable bytes scope w = when (not (is_variable bytes scope w)) (fault.Unknown (name.Word w))
+unknown_variable bytes scope w = when (not (is_variable bytes scope w)) (Fault.Unknown (Name.Word w))
 
 -- rules, automata and configurations share one set of names
 abbrev pub named_again : List ℕ → Known → Word → List Fault
 named_again bytes k w =
-    when (is_some (place_of_name bytes k.rules (name.Word w)) || is_some (place_of_name bytes k.automata (name.Word w)) || is_some (place_of_name bytes k.configurations (name.Word w))) (fault.Twice (name.Word w))
+    when (is_some (place_of_name bytes k.rules (Name.Word w)) || is_some (place_of_name bytes k.automata (Name.Word w)) || is_some (place_of_name bytes k.configurations (Name.Word w))) (Fault.Twice (Name.Word w))

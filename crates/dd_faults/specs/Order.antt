@@ -1,42 +1,37 @@
 -- The one order of faults.
 use Rattle.std.specs.Prelude.{◌≡◌, ℕ, ◌+◌, List, [], ◌∷◌, Bool, Option, Some, None, Result, Ok, Err, nat_lt, if◌then◌else◌}
-use Rattle.dd_faults.specs.declared.fault.Limit.{Limit}
-use Rattle.dd_faults.specs.declared.fault.Limit.TheVariants as limit
-use Rattle.dd_faults.specs.declared.fault.Fault.{Fault}
-use Rattle.dd_faults.specs.declared.fault.Fault.TheVariants as fault
-use Rattle.dd_faults.specs.declared.fault.Refusal.{Refusal}
-use Rattle.dd_faults.specs.declared.fault.Refusal.TheVariants as refusal
+use Rattle.dd_faults.specs.Tree.{Limit, Fault, Refusal}
 
 -- the limits in their order
 abbrev pub limit_rank : Limit → ℕ
-limit_rank limit.Commands = 0
-limit_rank limit.Word = 1
-limit_rank limit.Number = 2
-limit_rank limit.Nodes = 3
-limit_rank limit.Alphabet = 4
-limit_rank limit.Edges = 5
-limit_rank limit.Offset = 6
-limit_rank limit.Weight = 7
-limit_rank limit.Limits = 8
-limit_rank limit.Moves = 9
-limit_rank limit.Radius = 10
-limit_rank limit.Balls = 11
-limit_rank limit.Instances = 12
-limit_rank limit.Reach = 13
-limit_rank limit.Depth = 14
-limit_rank limit.Periods = 15
-limit_rank limit.Vectors = 16
-limit_rank limit.Patterns = 17
-limit_rank limit.States = 18
-limit_rank limit.Clauses = 19
+limit_rank Limit.Commands = 0
+limit_rank Limit.Word = 1
+limit_rank Limit.Number = 2
+limit_rank Limit.Nodes = 3
+limit_rank Limit.Alphabet = 4
+limit_rank Limit.Edges = 5
+limit_rank Limit.Offset = 6
+limit_rank Limit.Weight = 7
+limit_rank Limit.Limits = 8
+limit_rank Limit.Moves = 9
+limit_rank Limit.Radius = 10
+limit_rank Limit.Balls = 11
+limit_rank Limit.Instances = 12
+limit_rank Limit.Reach = 13
+limit_rank Limit.Depth = 14
+limit_rank Limit.Periods = 15
+limit_rank Limit.Vectors = 16
+limit_rank Limit.Patterns = 17
+limit_rank Limit.States = 18
+limit_rank Limit.Clauses = 19
 
 -- unknown names, then what is given twice, then dimensions, then limits
 abbrev pub fault_rank : Fault → ℕ
-fault_rank (fault.Unknown n) = 0
-fault_rank (fault.Twice n) = 1
-fault_rank fault.TwiceVector = 1
-fault_rank fault.Dimension = 2
-fault_rank (fault.Size l) = 3 + limit_rank l
+fault_rank (Fault.Unknown n) = 0
+fault_rank (Fault.Twice n) = 1
+fault_rank Fault.TwiceVector = 1
+fault_rank Fault.Dimension = 2
+fault_rank (Fault.Size l) = 3 + limit_rank l
 
 -- a fault that comes later counts only where its rank is less
 abbrev pub better : Option Fault → Fault → Option Fault
@@ -57,12 +52,12 @@ when holds f = if holds then f ∷ [] else []
 
 -- the limit, where it is passed
 abbrev pub over : Bool → Limit → List Fault
-over passed l = when passed (fault.Size l)
+over passed l = when passed (Fault.Size l)
 
 -- refused for this fault; or memory ran out
 abbrev pub Refuses : Refusal → Option Fault → Type 0
-Refuses refusal.Memory found = Unit {0}
-Refuses (refusal.At f) found = found ≡ Some f
+Refuses Refusal.Memory found = Unit {0}
+Refuses (Refusal.At f) found = found ≡ Some f
 
 -- accepted where there is no fault, and else refused for it
 abbrev pub Accepts : {X : Type 0} → Result X Refusal → Option Fault → Type 0

@@ -1,15 +1,8 @@
 -- What is given twice: the first that is the same as one before it.
 use Rattle.std.specs.Prelude.{ℕ, List, [], ◌∷◌, ◌++◌, if◌then◌else◌, nat_lt, bytes_eq, codes}
-use Rattle.std.specs.List.{list_any, flat_map}
-use Rattle.std.specs.Fmt.{signed_decimal}
-use Rattle.dd_written.specs.declared.tree.Name.{Name}
-use Rattle.dd_written.specs.declared.tree.Name.TheVariants as name
+use Rattle.std.specs.{List.list_any, List.flat_map, Fmt.signed_decimal}
+use Rattle.dd_faults.specs.Tree.{Name, Entry, Vector, Edge, Fault}
 use Rattle.dd_written.specs.Values.{word_text, number_text, name_text}
-use Rattle.dd_commands.specs.declared.command.Entry.{Entry}
-use Rattle.dd_commands.specs.declared.command.Vector.{Vector}
-use Rattle.dd_commands.specs.declared.command.Edge.{Edge}
-use Rattle.dd_faults.specs.declared.fault.Fault.{Fault}
-use Rattle.dd_faults.specs.declared.fault.Fault.TheVariants as fault
 use Rattle.dd_faults.specs.Numbers.{entry_number, entry_value, signed_value}
 
 -- Two with one key are the same; the keys of those before are seen.
@@ -18,14 +11,14 @@ first_repeat key f seen [] = []
 first_repeat key f seen (x ∷ xs) = if list_any (bytes_eq (key x)) seen then f x ∷ [] else first_repeat key f (seen ++ key x ∷ []) xs
 
 abbrev pub twice_named : List ℕ → List Name → List Fault
-twice_named bytes names = first_repeat (name_text bytes) fault.Twice [] names
+twice_named bytes names = first_repeat (name_text bytes) Fault.Twice [] names
 
 -- the label and the first node, with a comma between them
 abbrev pub edge_key : List ℕ → Edge → List ℕ
 edge_key bytes e = word_text bytes e.label ++ codes "," ++ name_text bytes e.from
 
 abbrev pub twice_label : Edge → Fault
-twice_label e = fault.Twice (name.Word e.label)
+twice_label e = Fault.Twice (Name.Word e.label)
 
 abbrev pub twice_labelled : List ℕ → List Edge → List Fault
 twice_labelled bytes es = first_repeat (edge_key bytes) twice_label [] es
@@ -39,7 +32,7 @@ abbrev pub vector_key : List ℕ → Vector → List ℕ
 vector_key bytes v = flat_map (entry_key bytes) v.entries
 
 abbrev pub twice_vector : Vector → Fault
-twice_vector v = fault.TwiceVector
+twice_vector v = Fault.TwiceVector
 
 abbrev pub twice_vectors : List ℕ → List Vector → List Fault
 twice_vectors bytes vs = first_repeat (vector_key bytes) twice_vector [] vs

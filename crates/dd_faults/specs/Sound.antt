@@ -1,12 +1,9 @@
 -- What every script keeps of what it has said.
 use Rattle.std.specs.Prelude.{ℕ, ◌≡◌, ◌≤◌, List, length}
 use Rattle.std.specs.List.{All}
-use Rattle.dd_values.specs.Bounds.{most_weight}
-use Rattle.dd_values.specs.Ranges.{AreLimits}
-use Rattle.dd_topology.specs.Grid.{Grid, IsGrid}
-use Rattle.dd_topology.specs.Sets.{IsSets}
-use Rattle.dd_faults.specs.declared.context.Setting.{Setting}
-use Rattle.dd_faults.specs.declared.context.Known.{Known}
+use Rattle.dd_values.specs.{Bounds.most_weight, Ranges.AreLimits}
+use Rattle.dd_topology.specs.{Grid.Grid, Grid.IsGrid, Sets.IsSets}
+use Rattle.dd_faults.specs.Tree.{Setting, Known}
 
 -- a topology of so many nodes
 pub record IsGridOf (n : ℕ) (g : Grid) : Type 0 where

@@ -1,10 +1,8 @@
 //! The first fault of a command, of whatever kind.
 ghost use Rattle.std.specs.Prelude.{◌≡◌, OnOk};
 ghost use Rattle.dd_commands.specs.Scripts.{IsWritten};
-ghost use Rattle.dd_faults.specs.Order.{noted, first_fault, Accepts};
-ghost use Rattle.dd_faults.specs.Commands.{faults_of, written_faults};
-ghost use Rattle.dd_faults.specs.Sound.{IsSound};
-ghost use Rattle.dd_faults.specs.walk.Shape.{HasSymbols, IsHeader};
+ghost use Rattle.dd_faults.specs.{Order.noted, Order.first_fault, Order.Accepts, Commands.faults_of, Commands.written_faults};
+ghost use Rattle.dd_faults.specs.{Sound.IsSound, walk.Shape.HasSymbols, walk.Shape.IsHeader};
 
 use crate::boxes::configuration;
 use crate::context::Context;

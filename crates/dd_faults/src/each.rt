@@ -1,8 +1,6 @@
 //! What is noted of each item of a list.
-ghost use Rattle.std.specs.Prelude.{◌≡◌, List};
-ghost use Rattle.std.specs.List.{flat_map};
-ghost use Rattle.dd_faults.specs.declared.fault.Fault.{Fault as AnyFault};
-ghost use Rattle.dd_faults.specs.Order.{noted};
+ghost use Rattle.std.specs.{Prelude.◌≡◌, Prelude.List, List.flat_map};
+ghost use Rattle.dd_faults.specs.{declared.fault.Fault.Fault as AnyFault, Order.noted};
 
 use crate::fault::Fault;
 

@@ -1,9 +1,7 @@
 //! The faults of formulas.
 ghost use Rattle.std.specs.Prelude.{◌≡◌, [], ◌∷◌, ◌++◌, IfOk, OnOk};
 ghost use Rattle.std.specs.List.{flat_map};
-ghost use Rattle.dd_faults.specs.Order.{noted};
-ghost use Rattle.dd_faults.specs.Formulas.{formula_faults};
-ghost use Rattle.dd_faults.specs.Commands.{case_faults};
+ghost use Rattle.dd_faults.specs.{Order.noted, Formulas.formula_faults, Commands.case_faults};
 
 use crate::atoms::{atom, quantifier};
 use crate::context::Context;

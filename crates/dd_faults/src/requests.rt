@@ -1,8 +1,6 @@
 //! The faults of questions, by their rows.
-ghost use Rattle.std.specs.Prelude.{◌≡◌, OnOk};
-ghost use Rattle.std.specs.List.{flat_map, zip};
-ghost use Rattle.dd_faults.specs.Order.{noted};
-ghost use Rattle.dd_faults.specs.Commands.{word_faults, request_faults};
+ghost use Rattle.std.specs.{Prelude.◌≡◌, Prelude.OnOk, List.flat_map, List.zip};
+ghost use Rattle.dd_faults.specs.{Order.noted, Commands.word_faults, Commands.request_faults};
 
 use crate::context::Context;
 use crate::each::note_each;

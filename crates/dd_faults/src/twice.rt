@@ -1,9 +1,7 @@
 //! What is given twice.
 ghost use Rattle.std.specs.Prelude.{◌≡◌, [], ℕ, List, string_bytes, IfOk, OnOk};
 ghost use Rattle.dd_written.specs.Values.{name_text};
-ghost use Rattle.dd_faults.specs.declared.fault.Fault.{Fault as AnyFault};
-ghost use Rattle.dd_faults.specs.declared.fault.Fault.TheVariants.{Twice};
-ghost use Rattle.dd_faults.specs.Order.{noted};
+ghost use Rattle.dd_faults.specs.{declared.fault.Fault.Fault as AnyFault, declared.fault.Fault.TheVariants.Twice, Order.noted};
 ghost use Rattle.dd_faults.specs.Repeats.{first_repeat, edge_key, twice_label, entry_key, vector_key, twice_vector};
 
 use crate::fault::{Fault, note_if};

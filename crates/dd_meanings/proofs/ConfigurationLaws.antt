@@ -1,29 +1,17 @@
 -- Configurations without faults.
-use Rattle.std.proofs.Common.{◌≡◌, ◌<◌, ◌≤◌, ℕ, zero, suc, ◌+◌, ◌*◌, ◌%◌, true, false, List, [], ◌∷◌, length, map, Option, Some, None, refl, sym, ap, ◌∙◌, subst, arith}
-use Rattle.std.specs.Prelude.{unwrap_or, slice_index}
+use Rattle.std.proofs.Common.{◌≡◌, ◌<◌, ◌≤◌, ℕ, zero, suc, ◌+◌, ◌*◌, ◌%◌, true, false, List, [], ◌∷◌, length, map, Option, Some, None, refl, sym, ap, ◌∙◌, subst, arith, unwrap_or, slice_index}
 use Rattle.std.specs.Option.{option_map_or}
-use Rattle.std.proofs.lemmas.Grind.{common_steps}
-use Rattle.std.proofs.lemmas.List.{length-map}
-use Rattle.std.proofs.lemmas.List.Elements.{All-from_get_or}
-use Rattle.std.proofs.lemmas.Option.{slice_get_within}
+use Rattle.std.proofs.lemmas.{Grind.common_steps, List.length-map, List.Elements.All-from_get_or, Option.slice_get_within}
 use Rattle.dd_topology.specs.Sets.{allows}
 use Rattle.dd_topology.specs.lemmas.NamingLaws.{slice_get-number_of}
-use Rattle.dd_written.specs.declared.lexeme.Word.{Word}
-use Rattle.dd_written.specs.declared.tree.Name.{Name}
+use Rattle.dd_faults.specs.Tree.{Word, Name, Entry, Vector, Command, Context}
 use Rattle.dd_written.specs.Values.{name_text}
-use Rattle.dd_commands.specs.declared.command.Entry.{Entry}
-use Rattle.dd_commands.specs.declared.command.Vector.{Vector}
-use Rattle.dd_commands.specs.declared.command.Command.TheVariants as command
 use Rattle.dd_pattern.specs.Tile.{IsPeriodic, IsTile}
-use Rattle.dd_faults.specs.declared.context.Context.{Context}
-use Rattle.dd_faults.specs.Names.{place_of_name}
+use Rattle.dd_faults.specs.{Names.place_of_name, Sound.IsSound}
 use Rattle.dd_faults.specs.Commands.{dimension_of, is_allowed, symbol_faults, product, period_at, shear_of, shear_fits, box_faults, faults_of, entry_value}
-use Rattle.dd_faults.specs.Sound.{IsSound}
 use Rattle.dd_faults.specs.lemmas.Periods.{entry_at, no_entry}
-use Rattle.dd_meanings.specs.Definitions.{symbol_of, tile_of, tile_with}
-use Rattle.dd_meanings.specs.Sound.{IsNew, IsConfigurationOf}
-use Rattle.dd_meanings.proofs.Nothing.{parts}
-use Rattle.dd_meanings.proofs.NameLaws.{is_new}
+use Rattle.dd_meanings.specs.{Definitions.symbol_of, Definitions.tile_of, Definitions.tile_with, Sound.IsNew, Sound.IsConfigurationOf}
+use Rattle.dd_meanings.proofs.{Nothing.parts, NameLaws.is_new}
 
 -- ---- symbols
 
@@ -76,7 +64,7 @@ no_shear : (bytes : List ℕ) (d : ℕ) (shear : Option Vector) → shear_fits d
 no_shear bytes d None fits low = refl
 no_shear bytes d (Some v) fits low = grind (arith, common_steps)
 
-module _ (x : Context) (called : Word) (periods : Vector) (shear : Option Vector) (ns : List Name) (sound : IsSound x.known) (some : 1 ≤ length ns) (none : faults_of x (command.Configuration called periods shear ns) ≡ []) where
+module _ (x : Context) (called : Word) (periods : Vector) (shear : Option Vector) (ns : List Name) (sound : IsSound x.known) (some : 1 ≤ length ns) (none : faults_of x (Command.Configuration called periods shear ns) ≡ []) where
   named : symbol_faults x 0 ns ≡ []
   named = grind (arith, parts)
 

@@ -1,35 +1,20 @@
 -- Automata without faults, by cases and by their names.
 use Rattle.std.proofs.Common.{◌≡◌, ◌<◌, ◌≤◌, ℕ, List, [], length, map, slice_index_or, ap, subst, arith}
 use Rattle.std.specs.List.{All, flat_map}
-use Rattle.std.proofs.lemmas.List.Elements.{All-map, All-get_or}
-use Rattle.std.proofs.lemmas.Option.{unwrap_or-slice_get}
+use Rattle.std.proofs.lemmas.{List.Elements.All-map, List.Elements.All-get_or, Option.unwrap_or-slice_get}
 use Rattle.dd_written.specs.Formulas.{tree_depth}
-use Rattle.dd_written.specs.declared.lexeme.Word.{Word}
-use Rattle.dd_written.specs.declared.tree.Name.{Name}
-use Rattle.dd_written.specs.declared.tree.Name.TheVariants as name
-use Rattle.dd_commands.specs.declared.command.Case.{Case}
-use Rattle.dd_commands.specs.declared.command.Command.TheVariants as command
-use Rattle.dd_faults.specs.declared.context.Known.{Known}
-use Rattle.dd_faults.specs.declared.context.Context.{Context}
-use Rattle.dd_faults.specs.Names.{missing, number_in}
-use Rattle.dd_faults.specs.Commands.{case_faults, faults_of}
-use Rattle.dd_faults.specs.Order.{first_fault, Refuses}
+use Rattle.dd_faults.specs.Tree.{Word, Name, Case, Command, Known, Context}
+use Rattle.dd_faults.specs.{Names.missing, Names.number_in, Commands.case_faults, Commands.faults_of, Order.first_fault, Order.Refuses}
 use Rattle.dd_faults.specs.Sound.{IsSound}
 use Rattle.dd_formula.specs.Automata.{CommonNumbers, IsAutomaton, counted}
 use Rattle.dd_formula.specs.ByCases.{numbers_over, IsCaseOver, IsCasesRefusal}
 use Rattle.dd_formula.specs.Compositions.{AreAutomata, OverBoth, IsCompositionFault}
 use Rattle.dd_formula.specs.lemmas.CasesLaws.{passes_one}
-use Rattle.dd_formula.specs.declared.fault.RuleFault.{RuleFault}
-use Rattle.dd_formula.specs.declared.automaton.Automaton.{Automaton}
+use Rattle.dd_formula.specs.{declared.fault.RuleFault.RuleFault, declared.automaton.Automaton.Automaton}
 use Rattle.dd_formula.specs.declared.automaton.Automaton.TheVariants as automaton
-use Rattle.dd_meanings.specs.declared.meaning.Meaning.TheVariants as meant
-use Rattle.dd_meanings.specs.Made.{script_numbers}
-use Rattle.dd_meanings.specs.Sound.{IsNew}
+use Rattle.dd_meanings.specs.{declared.meaning.Meaning.Meaning, Made.script_numbers, Sound.IsNew, making.Parts.refusal_of}
 use Rattle.dd_meanings.specs.Definitions.{case_of, symbol_of, automaton_of, automaton_named, composition_of, automaton_faults}
-use Rattle.dd_meanings.specs.making.Parts.{refusal_of}
-use Rattle.dd_meanings.proofs.Nothing.{parts, none_at}
-use Rattle.dd_meanings.proofs.NameLaws.{number_below, is_new}
-use Rattle.dd_meanings.proofs.WellFormed.{is_formula}
+use Rattle.dd_meanings.proofs.{Nothing.parts, Nothing.none_at, NameLaws.number_below, NameLaws.is_new, WellFormed.is_formula}
 use Rattle.dd_meanings.proofs.SizeLaws.{fault_refuses, formed_passes}
 
 -- the rules of a script have its numbers
@@ -41,10 +26,10 @@ same_numbers k sound =
 -- an automaton that is made as it is meant
 abbrev pub IsDefined : Context → Word → Automaton → Automaton → Type 0
 IsDefined x called made whole =
-    ((automaton_faults x whole ≡ []) × (meant.Automaton called made ≡ meant.Automaton called whole)) × (IsNew x called × IsAutomaton (script_numbers x.known) whole)
+    ((automaton_faults x whole ≡ []) × (Meaning.Automaton called made ≡ Meaning.Automaton called whole)) × (IsNew x called × IsAutomaton (script_numbers x.known) whole)
 
 defined : (x : Context) (called : Word) (made whole : Automaton) → IsNew x called → made ≡ whole → IsAutomaton (script_numbers x.known) whole → IsDefined x called made whole
-defined x called made whole new is formed = ((formed_passes (script_numbers x.known) whole formed, ap (meant.Automaton called) is), (new, formed))
+defined x called made whole new is formed = ((formed_passes (script_numbers x.known) whole formed, ap (Meaning.Automaton called) is), (new, formed))
 
 -- ---- automata by cases
 
@@ -55,7 +40,7 @@ case_is : (x : Context) (c : Case) → IsSound x.known → case_faults x c ≡ [
 case_is x c sound none shallow =
     record { formula = is_formula x c.condition sound (grind (arith, parts)) shallow; symbol = symbol_below x c.symbol sound (grind (arith, parts)) }
 
-module _ (x : Context) (called : Word) (cs : List Case) (default : Name) (sound : IsSound x.known) (shallow : All (λ c. tree_depth c.condition ≤ 64) cs) (none : faults_of x (command.Automaton called cs default) ≡ []) where
+module _ (x : Context) (called : Word) (cs : List Case) (default : Name) (sound : IsSound x.known) (shallow : All (λ c. tree_depth c.condition ≤ 64) cs) (none : faults_of x (Command.Automaton called cs default) ≡ []) where
   pub are_cases : All (IsCaseOver x.known.setting.topology x.known.setting.sets) (map (case_of x) cs)
   are_cases =
       let each : flat_map (case_faults x) cs ≡ [] = grind (arith, parts) in
@@ -75,15 +60,15 @@ cases_refused x whole e h = fault_refuses x.known.setting.topology.nodes (counte
 -- ---- automata by their names
 
 module _ (x : Context) (automata : List Automaton) (called outer inner : Word) (named : length automata ≡ length x.known.automata) (formed : All (IsAutomaton (script_numbers x.known)) automata)
-    (none : faults_of x (command.Composition called outer inner) ≡ []) where
+    (none : faults_of x (Command.Composition called outer inner) ≡ []) where
   abbrev whole : Automaton
   whole = composition_of x automata outer inner
 
-  is_formed : (w : Word) → missing x.text x.known.automata (name.Word w) ≡ [] → IsAutomaton (script_numbers x.known) (automaton_named x automata w)
+  is_formed : (w : Word) → missing x.text x.known.automata (Name.Word w) ≡ [] → IsAutomaton (script_numbers x.known) (automaton_named x automata w)
   is_formed w known =
-      let i = number_in x.text x.known.automata (name.Word w) in
+      let i = number_in x.text x.known.automata (Name.Word w) in
       let other : Automaton = automaton.Given (record { cases = []; otherwise = 0 }) in
-      rw (unwrap_or-slice_get automata i other) (All-get_or (IsAutomaton (script_numbers x.known)) automata i other (omega (arith, number_below x.text x.known.automata (name.Word w) known, named)) formed)
+      rw (unwrap_or-slice_get automata i other) (All-get_or (IsAutomaton (script_numbers x.known)) automata i other (omega (arith, number_below x.text x.known.automata (Name.Word w) known, named)) formed)
 
   pub are_automata : AreAutomata (automaton_named x automata outer) (automaton_named x automata inner)
   are_automata = record { setting = script_numbers x.known; outer = is_formed outer (grind (arith, parts)); inner = is_formed inner (grind (arith, parts)) }

@@ -1,33 +1,22 @@
 -- Edges with numbers in place of names: they are edges of a topology, and no label has two of them from one node.
-use Rattle.std.proofs.Common.{◌≡◌, ℕ, ◌<◌, Bool, true, false, List, [], ◌∷◌, ◌++◌, length, map, take, slice_index_or, Some, Contains, refl, sym, ap, ◌∙◌, subst, inl, inr, ◌⊎◌, arith}
-use Rattle.std.specs.Prelude.{if◌then◌else◌, bytes_eq, is_some}
+use Rattle.std.proofs.Common.{◌≡◌, ℕ, ◌<◌, Bool, true, false, List, [], ◌∷◌, ◌++◌, length, map, take, slice_index_or, Some, Contains, refl, sym, ap, ◌∙◌, subst, inl, inr, ◌⊎◌, arith, if◌then◌else◌, bytes_eq, is_some}
 use Rattle.std.specs.List.{All, list_any, list_all, flat_map}
 use Rattle.std.specs.Option.{option_map}
-use Rattle.std.proofs.lemmas.Grind.{common_steps}
-use Rattle.std.proofs.lemmas.List.{length-map, take-map}
-use Rattle.std.proofs.lemmas.List.Folds.{list_all-map}
-use Rattle.std.proofs.lemmas.List.Sums.{list_all-from_AllPass}
+use Rattle.std.proofs.lemmas.{Grind.common_steps, List.length-map, List.take-map, List.Folds.list_all-map, List.Sums.list_all-from_AllPass}
 use Rattle.std.proofs.lemmas.List.Elements.{All-contains, All-contains_itself, All-take, Contains-append_left, Contains-push, Contains-get_or}
-use Rattle.std.proofs.lemmas.Map.Views.{Contains-from_any}
-use Rattle.std.proofs.lemmas.Slice.Eq.{bytes_eq-Decides}
+use Rattle.std.proofs.lemmas.{Map.Views.Contains-from_any, Slice.Eq.bytes_eq-Decides}
 use Rattle.std.proofs.lemmas.Option.{slice_get_within, slice_get-map, slice_get-get_or}
 use Rattle.dd_written.specs.Values.{name_text}
-use Rattle.dd_commands.specs.declared.command.Edge.{Edge as Written}
-use Rattle.dd_commands.specs.declared.command.Command.TheVariants as command
-use Rattle.dd_topology.specs.declared.edge.Edge.{Edge}
-use Rattle.dd_topology.specs.Topology.{starts_alike}
-use Rattle.dd_topology.specs.Naming.{number_of}
-use Rattle.dd_topology.specs.Grid.{is_edge, IsFirstTwice}
+use Rattle.dd_faults.specs.Tree.{Edge as Written, Command, Context}
+use Rattle.dd_topology.specs.{declared.edge.Edge.Edge, Topology.starts_alike, Naming.number_of, Grid.is_edge, Grid.IsFirstTwice}
 use Rattle.dd_lattice.specs.lemmas.ListLaws.{Contains-nil, Contains-cons_cases, Contains-map, Contains-from_map}
 use Rattle.dd_topology.specs.lemmas.ListLaws.{some_passes}
-use Rattle.dd_faults.specs.declared.context.Context.{Context}
 use Rattle.dd_faults.specs.Repeats.{edge_key, twice_label, twice_labelled}
 use Rattle.dd_faults.specs.Commands.{dimension_of, edge_faults, faults_of}
 use Rattle.dd_faults.specs.lemmas.Repeats.{once}
 use Rattle.dd_query.specs.lemmas.Offsets.{offset_is}
 use Rattle.dd_meanings.specs.Topologies.{first_seen_names, label_text, labels_of, edge_of}
-use Rattle.dd_meanings.proofs.Nothing.{parts, none_at}
-use Rattle.dd_meanings.proofs.NameLaws.{is_found, same_name}
+use Rattle.dd_meanings.proofs.{Nothing.parts, Nothing.none_at, NameLaws.is_found, NameLaws.same_name}
 
 -- ---- labels in the order in which they are first seen
 
@@ -67,7 +56,7 @@ same_key x labels e f (h, label) (g, label') alike =
     let other = same_name x.known.setting.nodes (name_text x.text e.from) (name_text x.text f.from) (grind (arith, parts)) (grind (arith, parts)) (grind (arith, common_steps)) in
     (cc)
 
-module _ (x : Context) (es : List Written) (h : faults_of x (command.Edges es) ≡ []) where
+module _ (x : Context) (es : List Written) (h : faults_of x (Command.Edges es) ≡ []) where
   abbrev labels : List (List ℕ)
   labels = labels_of x.text es
 

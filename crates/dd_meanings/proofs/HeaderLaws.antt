@@ -1,30 +1,18 @@
 -- What the commands of the header have where they have no fault.
-use Rattle.std.proofs.Common.{◌≡◌, ℕ, ◌≤◌, ◌<◌, List, [], ◌∷◌, length, map, refl, ◌∙◌, subst, arith}
-use Rattle.std.specs.Prelude.{min}
+use Rattle.std.proofs.Common.{◌≡◌, ℕ, ◌≤◌, ◌<◌, List, [], ◌∷◌, length, map, refl, ◌∙◌, subst, arith, min}
 use Rattle.std.specs.List.{flat_map}
-use Rattle.std.proofs.lemmas.Grind.{common_steps}
-use Rattle.std.proofs.lemmas.List.{length-map}
-use Rattle.std.proofs.lemmas.List.Elements.{All-map}
-use Rattle.dd_written.specs.declared.lexeme.Number.{Number}
-use Rattle.dd_written.specs.declared.tree.Name.{Name}
+use Rattle.std.proofs.lemmas.{Grind.common_steps, List.length-map, List.Elements.All-map}
+use Rattle.dd_faults.specs.Tree.{Number, Name, Command, Context}
 use Rattle.dd_written.specs.Values.{written_value, name_text}
-use Rattle.dd_commands.specs.declared.command.Command.TheVariants as command
-use Rattle.dd_topology.specs.Naming.{AreDistinct}
-use Rattle.dd_topology.specs.Grid.{Grid, IsGrid}
-use Rattle.dd_faults.specs.declared.context.Context.{Context}
-use Rattle.dd_faults.specs.Names.{missing, number_in}
-use Rattle.dd_faults.specs.Commands.{weight_faults, faults_of}
-use Rattle.dd_faults.specs.Sound.{IsGridOf, AreWeights}
-use Rattle.dd_meanings.specs.Topologies.{default_grid}
-use Rattle.dd_meanings.specs.Definitions.{symbol_of}
-use Rattle.dd_meanings.specs.Sound.{AreNames, IsSymbolRestriction}
+use Rattle.dd_topology.specs.{Naming.AreDistinct, Grid.Grid, Grid.IsGrid}
+use Rattle.dd_faults.specs.{Names.missing, Names.number_in, Commands.weight_faults, Commands.faults_of, Sound.IsGridOf, Sound.AreWeights}
+use Rattle.dd_meanings.specs.{Topologies.default_grid, Definitions.symbol_of, Sound.AreNames, Sound.IsSymbolRestriction}
 use Rattle.dd_faults.specs.lemmas.Nothing.{both_nil}
-use Rattle.dd_meanings.proofs.Nothing.{parts, all_where}
-use Rattle.dd_meanings.proofs.NameLaws.{number_below}
+use Rattle.dd_meanings.proofs.{Nothing.parts, Nothing.all_where, NameLaws.number_below}
 
 -- ---- the dimension
 
-pub dimension_is : (x : Context) (n : Number) (d : ℕ) → faults_of x (command.Dimension n) ≡ [] → d ≡ min (written_value x.text n) 4294967295 → d ≡ written_value x.text n
+pub dimension_is : (x : Context) (n : Number) (d : ℕ) → faults_of x (Command.Dimension n) ≡ [] → d ≡ min (written_value x.text n) 4294967295 → d ≡ written_value x.text n
 dimension_is x n d h is = grind (arith, common_steps)
 
 -- the default topology has the nodes that it is asked for
@@ -40,7 +28,7 @@ names_are bytes most written names is some few distinct =
 
 -- ---- symbols of a node
 
-pub restriction_is : (x : Context) (node : Name) (symbols : List Name) → 1 ≤ length symbols → faults_of x (command.Only node symbols) ≡ []
+pub restriction_is : (x : Context) (node : Name) (symbols : List Name) → 1 ≤ length symbols → faults_of x (Command.Only node symbols) ≡ []
     → IsSymbolRestriction x.known.setting (number_in x.text x.known.setting.nodes node) (map (symbol_of x) symbols)
 restriction_is x node symbols some h =
     let known = missing x.text x.known.setting.symbols in
@@ -65,7 +53,7 @@ uncut x (n ∷ ns) none =
     let here : min (written_value x.text n) 4294967295 ≡ written_value x.text n = grind (arith, common_steps) in
     rw (here, uncut x ns both.1) refl
 
-module _ (x : Context) (ns : List Number) (h : faults_of x (command.Weights ns) ≡ []) where
+module _ (x : Context) (ns : List Number) (h : faults_of x (Command.Weights ns) ≡ []) where
   none : flat_map (weight_faults x) ns ≡ []
   none = grind (arith, parts)
 

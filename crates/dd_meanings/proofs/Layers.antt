@@ -1,21 +1,13 @@
 -- The meaning of a formula, from those of its parts; which parts have no fault, and how deep they are.
 use Rattle.std.proofs.Common.{◌≡◌, ℕ, ◌+◌, ◌≤◌, ◌<◌, List, [], ◌∷◌, ◌++◌, map, length, slice_index_or, sym, ap, subst, ◌∙◌, arith}
 use Rattle.std.specs.List.{All}
-use Rattle.std.proofs.lemmas.List.Elements.{All-nil, All-cons, All-get_or}
-use Rattle.std.proofs.lemmas.Simd.{map-map}
-use Rattle.dd_written.specs.declared.lexeme.Word.{Word}
-use Rattle.dd_written.specs.declared.tree.Ball.{Ball}
-use Rattle.dd_written.specs.declared.tree.Quantifier.{Quantifier}
-use Rattle.dd_written.specs.declared.tree.Join.{Join}
-use Rattle.dd_written.specs.declared.tree.Formula.{Formula as Written}
+use Rattle.std.proofs.lemmas.{List.Elements.All-nil, List.Elements.All-cons, List.Elements.All-get_or, Simd.map-map}
+use Rattle.dd_faults.specs.Tree.{Word, Ball, Quantifier, Join, Formula as Written, Formula-F as Written-F, fold-roll-Formula, Context}
 use Rattle.dd_written.specs.declared.tree.Formula.TheVariants as v
-use Rattle.dd_written.specs.declared.tree.Formula.TheFolds.{fold-roll-Formula}
-use Rattle.dd_written.specs.declared.tree.Formula.TheOpen.{Formula-F as Written-F}
 use Rattle.dd_written.specs.Formulas.{tree_depth, tree_depth_step, chain_depth}
 use Rattle.dd_expansion.specs.declared.formulas.Formula.{Formula, roll-Formula}
 use Rattle.dd_expansion.specs.declared.formulas.Formula.TheVariants as meant
 use Rattle.dd_expansion.specs.declared.formulas.Formula.TheOpen.{Formula-F}
-use Rattle.dd_faults.specs.declared.context.Context.{Context}
 use Rattle.dd_meanings.specs.Formulas.{implied_of, joined_of, formula_step, formula_of}
 
 pub formula_chain : (x : Context) (j : Join) (fs : List Written) (scope : List Word) → formula_of x (v.Chain j fs) scope ≡ joined_of j (map (λ f. formula_of x f scope) fs)

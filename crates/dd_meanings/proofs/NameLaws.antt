@@ -1,19 +1,12 @@
 -- Names by their numbers, and names that are given once.
-use Rattle.std.proofs.Common.{◌≡◌, ℕ, ◌<◌, ◌+◌, true, false, List, [], length, slice_index_or, Option, Some, None, Contains, refl, sym, ◌∙◌, arith, true≢false}
-use Rattle.std.specs.Prelude.{bytes_eq, unwrap_or, is_some}
-use Rattle.std.proofs.lemmas.Bool.Decides.{nat_tests}
-use Rattle.std.proofs.lemmas.Slice.Eq.{bytes_eq-Decides}
-use Rattle.std.proofs.lemmas.List.Sums.{fails_before_first}
-use Rattle.std.proofs.lemmas.Grind.{common_steps}
-use Rattle.dd_written.specs.declared.lexeme.Word.{Word}
-use Rattle.dd_written.specs.declared.tree.Name.{Name}
+use Rattle.std.proofs.Common.{◌≡◌, ℕ, ◌<◌, ◌+◌, true, false, List, [], length, slice_index_or, Option, Some, None, Contains, refl, sym, ◌∙◌, arith, true≢false, bytes_eq, unwrap_or, is_some}
+use Rattle.std.proofs.lemmas.{Bool.Decides.nat_tests, Slice.Eq.bytes_eq-Decides, List.Sums.fails_before_first, Grind.common_steps}
+use Rattle.dd_faults.specs.Tree.{Word, Name, Context}
 use Rattle.dd_written.specs.Values.{word_text}
 use Rattle.dd_topology.specs.Naming.{number_of}
 use Rattle.dd_topology.specs.lemmas.NamingLaws.{slice_get-number_of}
-use Rattle.dd_faults.specs.declared.context.Context.{Context}
 use Rattle.dd_faults.specs.Names.{missing, number_in, unknown_variable, named_again}
-use Rattle.dd_meanings.specs.Formulas.{variable_number}
-use Rattle.dd_meanings.specs.Sound.{IsNew}
+use Rattle.dd_meanings.specs.{Formulas.variable_number, Sound.IsNew}
 use Rattle.dd_meanings.proofs.Nothing.{parts}
 
 -- a name that is there has a number

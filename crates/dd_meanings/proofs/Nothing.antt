@@ -1,10 +1,8 @@
 -- Where there is no fault, there is none in a part.
 use Rattle.std.proofs.Common.{◌≡◌, ℕ, ◌<◌, List, [], length, slice_index_or, ap, ◌∙◌}
 use Rattle.std.specs.List.{flat_map}
-use Rattle.std.proofs.lemmas.List.Elements.{All-get_or}
+use Rattle.std.proofs.lemmas.{List.Elements.All-get_or, Bool.Decides.nat_tests, Grind.common_steps}
 pub use Rattle.dd_faults.specs.lemmas.Nothing.{all_where}
-use Rattle.std.proofs.lemmas.Bool.Decides.{nat_tests}
-use Rattle.std.proofs.lemmas.Grind.{common_steps}
 use Rattle.dd_faults.specs.lemmas.Nothing.{both_nil, fits, within}
 
 -- what `grind` needs to take a list without faults apart

@@ -1,46 +1,21 @@
 -- A written formula without a fault means a formula whose numbers fit, and that is no deeper.
-use Rattle.std.proofs.Common.{◌≡◌, ◌≤◌, ℕ, ◌+◌, ◌-◌, Bool, true, false, cond, List, [], ◌∷◌, ◌++◌, length, map, refl, sym, ap, ◌∙◌, subst, inl, inr, arith}
-use Rattle.std.specs.Prelude.{nat_lt, nat_le, max}
+use Rattle.std.proofs.Common.{◌≡◌, ◌≤◌, ℕ, ◌+◌, ◌-◌, Bool, true, false, cond, List, [], ◌∷◌, ◌++◌, length, map, refl, sym, ap, ◌∙◌, subst, inl, inr, arith, nat_lt, nat_le, max}
 use Rattle.std.specs.List.{list_all, flat_map}
-use Rattle.std.proofs.lemmas.Bool.{and_from, lt-ltb, cases_Bool}
-use Rattle.std.proofs.lemmas.List.{length-map, length-append}
-use Rattle.std.proofs.lemmas.List.Folds.{list_all-map}
+use Rattle.std.proofs.lemmas.{Bool.and_from, Bool.lt-ltb, Bool.cases_Bool, List.length-map, List.length-append, List.Folds.list_all-map}
 use Rattle.std.proofs.lemmas.List.Sums.{list_all-from_AllPass}
-use Rattle.dd_written.specs.declared.lexeme.Word.{Word}
-use Rattle.dd_written.specs.declared.tree.Name.{Name}
-use Rattle.dd_written.specs.declared.tree.Name.TheVariants as name
-use Rattle.dd_written.specs.declared.tree.Term.{Term as WrittenTerm}
-use Rattle.dd_written.specs.declared.tree.Comparand.{Comparand}
-use Rattle.dd_written.specs.declared.tree.Comparand.TheVariants as side
-use Rattle.dd_written.specs.declared.tree.Atom.{Atom}
-use Rattle.dd_written.specs.declared.tree.Relation.{Relation}
-use Rattle.dd_written.specs.declared.tree.Relation.TheVariants as relation
-use Rattle.dd_written.specs.declared.tree.Ball.{Ball}
-use Rattle.dd_written.specs.declared.tree.Quantifier.{Quantifier}
-use Rattle.dd_written.specs.declared.tree.Quantifier.TheVariants as quantifier
-use Rattle.dd_written.specs.declared.tree.Join.{Join}
-use Rattle.dd_written.specs.declared.tree.Join.TheVariants as join
-use Rattle.dd_written.specs.declared.tree.Formula.{Formula as Written}
-use Rattle.dd_written.specs.declared.tree.Formula.TheFolds.{fold-roll-Formula as written_rolls, ind-Formula, map-Formula as map_written}
-use Rattle.dd_written.specs.declared.tree.Formula.TheOpen.{Formula-F as Written-F}
+use Rattle.dd_faults.specs.Tree.{Word, Name, Term as WrittenTerm, Comparand, Relation, Atom, Ball, Quantifier, Join, Formula as Written, Formula-F as Written-F, fold-roll-Formula as written_rolls, map-Formula as map_written, ind-Formula, Fault, Context}
 use Rattle.dd_written.specs.Formulas.{tree_depth as written_depth, tree_depth_step as written_step, signs_over, chain_depth}
-use Rattle.dd_expansion.specs.declared.formulas.Term.{Term}
-use Rattle.dd_expansion.specs.declared.formulas.BallOf.{BallOf}
+use Rattle.dd_expansion.specs.{declared.formulas.Term.Term, declared.formulas.BallOf.BallOf}
 use Rattle.dd_expansion.specs.declared.formulas.Formula.{Formula, roll-Formula}
 use Rattle.dd_expansion.specs.declared.formulas.Formula.TheFolds.{fold-roll-Formula, map-Formula}
 use Rattle.dd_expansion.specs.declared.formulas.Formula.TheOpen.{Formula-F}
 use Rattle.dd_expansion.specs.Limits.{term_fits, ball_fits, balls_fit, formula_fits, formula_fits_step, greatest, list_depth, depth, depth_step, IsFormula}
-use Rattle.dd_faults.specs.declared.fault.Fault.{Fault}
-use Rattle.dd_faults.specs.declared.context.Context.{Context}
-use Rattle.dd_faults.specs.Names.{missing, number_in}
+use Rattle.dd_faults.specs.{Names.missing, Names.number_in, Sound.IsSound}
 use Rattle.dd_faults.specs.Formulas.{unknown_label, term_faults, names_symbol, side_faults, relation_faults, atom_faults, ball_faults, quantifier_faults, faults_step, formula_faults}
-use Rattle.dd_faults.specs.Sound.{IsSound}
 use Rattle.dd_meanings.specs.declared.atoms.Operand.{Operand}
-use Rattle.dd_meanings.specs.declared.atoms.Operand.TheVariants as operand
 use Rattle.dd_meanings.specs.Formulas.{label_of, term_of, side_of, equal_of, not_equal_of, said_of, atom_of, ball_of, implied_of, iff_behind, joined_of, quantified_of, formula_step, formula_of}
 use Rattle.dd_faults.specs.lemmas.Nothing.{both_nil}
-use Rattle.dd_meanings.proofs.Nothing.{parts, all_where}
-use Rattle.dd_meanings.proofs.NameLaws.{number_below, variable_below}
+use Rattle.dd_meanings.proofs.{Nothing.parts, Nothing.all_where, NameLaws.number_below, NameLaws.variable_below}
 
 all_without : {X Y F : Type 0} (p : Y → Bool) (h : X → Y) (g : X → List F) → ((x : X) → g x ≡ [] → p (h x) ≡ true) → (xs : List X) → flat_map g xs ≡ [] → list_all p (map h xs) ≡ true
 all_without p h g each xs none = list_all-map p h xs ∙ list_all-from_AllPass (λ x. p (h x)) xs (all_where (λ x. p (h x) ≡ true) g each xs none)
@@ -69,7 +44,7 @@ module _ (x : Context) (same : x.known.setting.topology.nodes ≡ length x.known
     term_is t none =
         let labels = x.known.setting.topology.labels in
         let each : flat_map (unknown_label x) t.moves ≡ [] = grind (arith, parts) in
-        let moves = all_without (λ l. nat_lt l (length labels)) (label_of x) (unknown_label x) (λ w none. lt-ltb _ _ (number_below x.text labels (name.Word w) none)) t.moves each in
+        let moves = all_without (λ l. nat_lt l (length labels)) (label_of x) (unknown_label x) (λ w none. lt-ltb _ _ (number_below x.text labels (Name.Word w) none)) t.moves each in
         let below = variable_below x.text scope t.first (grind (arith, parts)) in
         grind (arith, parts, length-map t.moves (label_of x))
 
@@ -81,26 +56,26 @@ module _ (x : Context) (same : x.known.setting.topology.nodes ≡ length x.known
 
     -- what stands on the right, a symbol or a term
     abbrev SideFits : Operand → Type 0
-    SideFits (operand.Symbol n) = symbol n ≡ true
-    SideFits (operand.Term u) = TermFits u
+    SideFits (Operand.Symbol n) = symbol n ≡ true
+    SideFits (Operand.Term u) = TermFits u
 
     side_is : (r : Comparand) → side_faults x scope r ≡ [] → SideFits (side_of x scope r)
-    side_is (side.Number n) none = symbol_is (name.Number n) none
-    side_is (side.Term u) none = elim (cases_Bool (names_symbol x.text scope u)) [
-      | inl e ↦ let unknown : missing x.text x.known.setting.symbols (name.Word u.first) ≡ [] = rw e at none in rw e (symbol_is (name.Word u.first) unknown)
+    side_is (Comparand.Number n) none = symbol_is (Name.Number n) none
+    side_is (Comparand.Term u) none = elim (cases_Bool (names_symbol x.text scope u)) [
+      | inl e ↦ let unknown : missing x.text x.known.setting.symbols (Name.Word u.first) ≡ [] = rw e at none in rw e (symbol_is (Name.Word u.first) unknown)
       | inr e ↦ let unknown : term_faults x scope u ≡ [] = rw e at none in rw e (term_is u unknown)
     ]
 
     equal_is : (t : Term) (s : Operand) → TermFits t → SideFits s → FitsHere (equal_of t s) × FitsHere (not_equal_of t s)
-    equal_is t (operand.Symbol n) h h' = (rolled (Formula-F.Symbol t n) (length scope + 1) 0 (and_from _ _ h h') (omega arith), rolled (Formula-F.NotSymbol t n) (length scope + 1) 0 (and_from _ _ h h') (omega arith))
-    equal_is t (operand.Term u) h h' = (rolled (Formula-F.Same t u) (length scope + 1) 0 (and_from _ _ h h') (omega arith), rolled (Formula-F.NotSame t u) (length scope + 1) 0 (and_from _ _ h h') (omega arith))
+    equal_is t (Operand.Symbol n) h h' = (rolled (Formula-F.Symbol t n) (length scope + 1) 0 (and_from _ _ h h') (omega arith), rolled (Formula-F.NotSymbol t n) (length scope + 1) 0 (and_from _ _ h h') (omega arith))
+    equal_is t (Operand.Term u) h h' = (rolled (Formula-F.Same t u) (length scope + 1) 0 (and_from _ _ h h') (omega arith), rolled (Formula-F.NotSame t u) (length scope + 1) 0 (and_from _ _ h h') (omega arith))
 
     said_is : (t : Term) (r : Relation) → TermFits t → relation_faults x scope r ≡ [] → FitsHere (said_of x scope t r)
-    said_is t (relation.Equal r) h none = (equal_is t (side_of x scope r) h (side_is r none)).0
-    said_is t (relation.NotEqual r) h none = (equal_is t (side_of x scope r) h (side_is r none)).1
-    said_is t (relation.Adjacent u) h none = rolled (Formula-F.Adjacent t (term_of x scope u)) (length scope + 1) 0 (and_from _ _ h (term_is u none)) (omega arith)
-    said_is t (relation.Same u) h none = rolled (Formula-F.Place t (term_of x scope u)) (length scope + 1) 0 (and_from _ _ h (term_is u none)) (omega arith)
-    said_is t (relation.AtNode n) h none =
+    said_is t (Relation.Equal r) h none = (equal_is t (side_of x scope r) h (side_is r none)).0
+    said_is t (Relation.NotEqual r) h none = (equal_is t (side_of x scope r) h (side_is r none)).1
+    said_is t (Relation.Adjacent u) h none = rolled (Formula-F.Adjacent t (term_of x scope u)) (length scope + 1) 0 (and_from _ _ h (term_is u none)) (omega arith)
+    said_is t (Relation.Same u) h none = rolled (Formula-F.Place t (term_of x scope u)) (length scope + 1) 0 (and_from _ _ h (term_is u none)) (omega arith)
+    said_is t (Relation.AtNode n) h none =
         let below = number_below x.text x.known.setting.nodes n none in
         rolled (Formula-F.Node t (number_in x.text x.known.setting.nodes n)) (length scope + 1) 0 (and_from _ _ h (lt-ltb _ _ (omega (arith, below, same)))) (omega arith)
 
@@ -120,8 +95,8 @@ module _ (x : Context) (same : x.known.setting.topology.nodes ≡ length x.known
         grind (arith, parts, length-map bs (ball_of x scope))
 
     quantified_is : (q : Quantifier) (bs : List BallOf) (f : Formula) (d : ℕ) → balls_fit (length scope + 1) bs ≡ true → Fine f (length scope + 1 + 1) d → Fine (quantified_of q bs f) (length scope + 1) (1 + d)
-    quantified_is quantifier.All bs f d fit body = rolled (Formula-F.ForAll bs f) (length scope + 1) (1 + d) (and_from _ _ fit body.0) (omega (arith, body.1))
-    quantified_is quantifier.Exists bs f d fit body = rolled (Formula-F.Exists bs f) (length scope + 1) (1 + d) (and_from _ _ fit body.0) (omega (arith, body.1))
+    quantified_is Quantifier.All bs f d fit body = rolled (Formula-F.ForAll bs f) (length scope + 1) (1 + d) (and_from _ _ fit body.0) (omega (arith, body.1))
+    quantified_is Quantifier.Exists bs f d fit body = rolled (Formula-F.Exists bs f) (length scope + 1) (1 + d) (and_from _ _ fit body.0) (omega (arith, body.1))
 
   -- in each scope
   abbrev IsFine : Written → Type 0
@@ -165,7 +140,7 @@ module _ (x : Context) (same : x.known.setting.topology.nodes ≡ length x.known
 
     -- the parts from part i of n on, under the i signs before them
     implied_is : (n i : ℕ) (f : Known) (fs : List Known) → n ≡ i + (1 + length fs) → faults (f ∷ fs) ≡ []
-        → (its_fits (implied_of (meant (f ∷ fs))) (length scope + 1) ≡ true) × (i + depth (implied_of (meant (f ∷ fs))) ≤ chain_depth join.Implies n i (depths (f ∷ fs)))
+        → (its_fits (implied_of (meant (f ∷ fs))) (length scope + 1) ≡ true) × (i + depth (implied_of (meant (f ∷ fs))) ≤ chain_depth Join.Implies n i (depths (f ∷ fs)))
     implied_is n i f [] count none =
         let first = f.1 scope (both_nil (formula_faults x f.0 scope) [] none).0 in
         (first.0, omega (arith, first.1, count))
@@ -179,7 +154,7 @@ module _ (x : Context) (same : x.known.setting.topology.nodes ≡ length x.known
 
     -- what the first i of n parts mean, and the parts behind them
     iff_is : (n i : ℕ) (left : Formula) (d : ℕ) (fs : List Known) → 1 ≤ i → n ≡ i + length fs → Fine left (length scope + 1) d → faults fs ≡ []
-        → Fine (iff_behind left (meant fs)) (length scope + 1) (max (d + (n - i)) (chain_depth join.Iff n i (depths fs)))
+        → Fine (iff_behind left (meant fs)) (length scope + 1) (max (d + (n - i)) (chain_depth Join.Iff n i (depths fs)))
     iff_is n i left d [] some count fine none = (fine.0, omega (arith, fine.1))
     iff_is n i left d (f ∷ fs) some count fine none =
         let both = both_nil (formula_faults x f.0 scope) (faults fs) none in
@@ -189,19 +164,19 @@ module _ (x : Context) (same : x.known.setting.topology.nodes ≡ length x.known
         (others.0, omega (arith, others.1, count, some))
 
     chain_is : (j : Join) (fs : List Known) → faults fs ≡ [] → Fine (joined_of j (meant fs)) (length scope + 1) (chain_depth j (length (depths fs)) 0 (depths fs))
-    chain_is join.And fs none =
-        let is = list_is join.And (λ n i. refl) (length (depths fs)) 0 fs none in
-        rolled (Formula-F.And (meant fs)) (length scope + 1) _ is.0 (list_no_deeper join.And (length (depths fs)) fs is.1 (λ n i. refl))
-    chain_is join.Or fs none =
-        let is = list_is join.Or (λ n i. refl) (length (depths fs)) 0 fs none in
-        rolled (Formula-F.Or (meant fs)) (length scope + 1) _ is.0 (list_no_deeper join.Or (length (depths fs)) fs is.1 (λ n i. refl))
-    chain_is join.Implies [] none = rolled (Formula-F.And []) (length scope + 1) 0 refl (omega arith)
-    chain_is join.Implies (f ∷ fs) none =
+    chain_is Join.And fs none =
+        let is = list_is Join.And (λ n i. refl) (length (depths fs)) 0 fs none in
+        rolled (Formula-F.And (meant fs)) (length scope + 1) _ is.0 (list_no_deeper Join.And (length (depths fs)) fs is.1 (λ n i. refl))
+    chain_is Join.Or fs none =
+        let is = list_is Join.Or (λ n i. refl) (length (depths fs)) 0 fs none in
+        rolled (Formula-F.Or (meant fs)) (length scope + 1) _ is.0 (list_no_deeper Join.Or (length (depths fs)) fs is.1 (λ n i. refl))
+    chain_is Join.Implies [] none = rolled (Formula-F.And []) (length scope + 1) 0 refl (omega arith)
+    chain_is Join.Implies (f ∷ fs) none =
         let count : length (depths (f ∷ fs)) ≡ 0 + (1 + length fs) = omega (arith, length-map fs (λ f. f.0), length-map (map (λ f. f.0) fs) written_depth) in
         let is = implied_is (length (depths (f ∷ fs))) 0 f fs count none in
         (is.0, omega (arith, is.1))
-    chain_is join.Iff [] none = rolled (Formula-F.And []) (length scope + 1) 0 refl (omega arith)
-    chain_is join.Iff (f ∷ fs) none =
+    chain_is Join.Iff [] none = rolled (Formula-F.And []) (length scope + 1) 0 refl (omega arith)
+    chain_is Join.Iff (f ∷ fs) none =
         let count : length (depths (f ∷ fs)) ≡ 1 + length fs = omega (arith, length-map fs (λ f. f.0), length-map (map (λ f. f.0) fs) written_depth) in
         let both = both_nil (formula_faults x f.0 scope) (faults fs) none in
         let is = iff_is (length (depths (f ∷ fs))) 1 _ (written_depth f.0) fs (omega arith) count (f.1 scope both.0) both.1 in

@@ -2,14 +2,10 @@
 use Rattle.std.proofs.Common.{◌≡◌, ℕ, ◌≤◌, List, [], ◌∷◌, subst}
 use Rattle.std.specs.List.{All}
 use Rattle.std.proofs.lemmas.List.Elements.{All-nil, All-cons}
-use Rattle.dd_written.specs.declared.lexeme.Lexeme.{Lexeme}
+use Rattle.dd_faults.specs.Tree.{Lexeme, Case, Command, Written}
 use Rattle.dd_written.specs.Formulas.{tree_depth}
 use Rattle.dd_written.specs.reading.Readers.{ReadsAll}
-use Rattle.dd_commands.specs.declared.command.Case.{Case}
-use Rattle.dd_commands.specs.declared.command.Command.{Command}
-use Rattle.dd_commands.specs.declared.script.Written.{Written}
-use Rattle.dd_commands.specs.Commands.{IsCase, IsBody}
-use Rattle.dd_commands.specs.Scripts.{IsWritten}
+use Rattle.dd_commands.specs.{Commands.IsCase, Commands.IsBody, Scripts.IsWritten}
 
 -- its parts, as they are written
 pub body : (bytes : List ℕ) (w : Written) (c : Command) → w.command ≡ c → IsWritten bytes w → (tokens : List Lexeme) × IsBody bytes c tokens

@@ -1,27 +1,14 @@
 -- What commands define, and the limits on its counts.
 use Rattle.std.specs.Prelude.{ℕ, List, [], ◌∷◌, ◌++◌, map, not, Option, unwrap_or}
 use Rattle.std.specs.List.{slice_get}
-use Rattle.dd_pattern.specs.Periods.{periods_of as with_shear}
-use Rattle.dd_pattern.specs.Tile.{Tile, tile}
-use Rattle.dd_expansion.specs.Leaves.{instances}
-use Rattle.dd_expansion.specs.declared.formulas.Formula.{Formula as Meant}
+use Rattle.dd_pattern.specs.{Periods.periods_of as with_shear, Tile.Tile, Tile.tile}
+use Rattle.dd_expansion.specs.{Leaves.instances, declared.formulas.Formula.Formula as Meant}
 use Rattle.dd_formula.specs.LocalRule.{LocalRule, local_rule, reads_at, expansion_at}
 use Rattle.dd_formula.specs.Automata.{Counted, counted, is_few, is_short, is_shallow}
-use Rattle.dd_formula.specs.ByCases.{by_cases}
-use Rattle.dd_formula.specs.declared.automaton.Automaton.{Automaton}
+use Rattle.dd_formula.specs.{ByCases.by_cases, declared.automaton.Automaton.Automaton}
 use Rattle.dd_formula.specs.declared.automaton.Automaton.TheVariants as automaton
-use Rattle.dd_written.specs.declared.lexeme.Word.{Word}
-use Rattle.dd_written.specs.declared.tree.Name.{Name}
-use Rattle.dd_written.specs.declared.tree.Name.TheVariants as name
-use Rattle.dd_written.specs.declared.tree.Formula.{Formula}
-use Rattle.dd_commands.specs.declared.command.Case.{Case}
-use Rattle.dd_commands.specs.declared.command.Vector.{Vector}
-use Rattle.dd_faults.specs.declared.fault.Limit.TheVariants as limit
-use Rattle.dd_faults.specs.declared.fault.Fault.{Fault}
-use Rattle.dd_faults.specs.declared.context.Context.{Context}
-use Rattle.dd_faults.specs.Order.{over}
-use Rattle.dd_faults.specs.Names.{number_in}
-use Rattle.dd_faults.specs.Commands.{dimension_of, period_at, shear_of}
+use Rattle.dd_faults.specs.Tree.{Word, Name, Formula, Vector, Case, Limit, Fault, Context}
+use Rattle.dd_faults.specs.{Order.over, Names.number_in, Commands.dimension_of, Commands.period_at, Commands.shear_of}
 use Rattle.dd_meanings.specs.Formulas.{formula_of}
 
 -- ---- what is defined
@@ -44,7 +31,7 @@ abbrev pub automaton_at : List Automaton → ℕ → Automaton
 automaton_at automata n = unwrap_or (slice_get automata n) (automaton.Given (record { cases = []; otherwise = 0 }))
 
 abbrev pub automaton_named : Context → List Automaton → Word → Automaton
-automaton_named x automata w = automaton_at automata (number_in x.text x.known.automata (name.Word w))
+automaton_named x automata w = automaton_at automata (number_in x.text x.known.automata (Name.Word w))
 
 -- the second automaton, and then the first
 abbrev pub composition_of : Context → List Automaton → Word → Word → Automaton
@@ -70,7 +57,7 @@ rule_counts r = record { reads = reads_at r; instances = λ a. instances (expans
 
 -- instances before reach, and reach before depth
 abbrev pub count_faults : ℕ → Counted → List Fault
-count_faults nodes f = over (not (is_few nodes f)) limit.Instances ++ (over (not (is_short nodes f)) limit.Reach ++ over (not (is_shallow f)) limit.Depth)
+count_faults nodes f = over (not (is_few nodes f)) Limit.Instances ++ (over (not (is_short nodes f)) Limit.Reach ++ over (not (is_shallow f)) Limit.Depth)
 
 abbrev pub rule_faults : LocalRule → List Fault
 rule_faults r = count_faults r.nodes (rule_counts r)

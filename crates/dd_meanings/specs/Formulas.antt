@@ -1,62 +1,43 @@
 -- Formulas with numbers in place of names.
 use Rattle.std.specs.Prelude.{ℕ, List, [], ◌∷◌, ◌++◌, map, unwrap_or, if◌then◌else◌}
-use Rattle.dd_written.specs.declared.lexeme.Word.{Word}
-use Rattle.dd_written.specs.declared.tree.Name.TheVariants as name
-use Rattle.dd_written.specs.declared.tree.Term.{Term as WrittenTerm}
-use Rattle.dd_written.specs.declared.tree.Comparand.{Comparand}
-use Rattle.dd_written.specs.declared.tree.Comparand.TheVariants as side
-use Rattle.dd_written.specs.declared.tree.Relation.{Relation}
-use Rattle.dd_written.specs.declared.tree.Relation.TheVariants as relation
-use Rattle.dd_written.specs.declared.tree.Atom.{Atom}
-use Rattle.dd_written.specs.declared.tree.Ball.{Ball}
-use Rattle.dd_written.specs.declared.tree.Quantifier.{Quantifier}
-use Rattle.dd_written.specs.declared.tree.Quantifier.TheVariants as quantifier
-use Rattle.dd_written.specs.declared.tree.Join.{Join}
-use Rattle.dd_written.specs.declared.tree.Join.TheVariants as join
-use Rattle.dd_written.specs.declared.tree.Formula.{Formula as Written}
-use Rattle.dd_written.specs.declared.tree.Formula.TheFolds.{fold-Formula}
-use Rattle.dd_written.specs.declared.tree.Formula.TheOpen.{Formula-F as Written-F}
+use Rattle.dd_faults.specs.Tree.{Word, Name, Term as WrittenTerm, Comparand, Relation, Atom, Ball, Quantifier, Join, Formula as Written, Formula-F as Written-F, fold-Formula, Context}
 use Rattle.dd_written.specs.Values.{written_value}
-use Rattle.dd_expansion.specs.declared.formulas.Term.{Term}
-use Rattle.dd_expansion.specs.declared.formulas.BallOf.{BallOf}
+use Rattle.dd_expansion.specs.{declared.formulas.Term.Term, declared.formulas.BallOf.BallOf}
 use Rattle.dd_expansion.specs.declared.formulas.Formula.{Formula, roll-Formula}
 use Rattle.dd_expansion.specs.declared.formulas.Formula.TheOpen.{Formula-F}
-use Rattle.dd_faults.specs.declared.context.Context.{Context}
-use Rattle.dd_faults.specs.Names.{number_in, variable_of}
-use Rattle.dd_faults.specs.Formulas.{names_symbol}
+use Rattle.dd_faults.specs.{Names.number_in, Names.variable_of, Formulas.names_symbol}
 use Rattle.dd_meanings.specs.declared.atoms.Operand.{Operand}
-use Rattle.dd_meanings.specs.declared.atoms.Operand.TheVariants as operand
 
 -- the number of a word that is a variable
 abbrev pub variable_number : List ℕ → List Word → Word → ℕ
 variable_number bytes scope w = unwrap_or (variable_of bytes scope w) 0
 
 abbrev pub label_of : Context → Word → ℕ
-label_of x w = number_in x.text x.known.setting.topology.labels (name.Word w)
+label_of x w = number_in x.text x.known.setting.topology.labels (Name.Word w)
 
 abbrev pub term_of : Context → List Word → WrittenTerm → Term
 term_of x scope t = record { variable = variable_number x.text scope t.first; moves = map (label_of x) t.moves }
 
 -- what stands on the right of `=` and `!=`: a symbol, or a term
 abbrev pub side_of : Context → List Word → Comparand → Operand
-side_of x scope (side.Number n) = operand.Symbol (number_in x.text x.known.setting.symbols (name.Number n))
-side_of x scope (side.Term u) = if names_symbol x.text scope u then operand.Symbol (number_in x.text x.known.setting.symbols (name.Word u.first)) else operand.Term (term_of x scope u)
+side_of x scope (Comparand.Number n) = Operand.Symbol (number_in x.text x.known.setting.symbols (Name.Number n))
+side_of x scope (Comparand.Term u) = if names_symbol x.text scope u then Operand.Symbol (number_in x.text x.known.setting.symbols (Name.Word u.first)) else Operand.Term (term_of x scope u)
 
 abbrev pub equal_of : Term → Operand → Formula
-equal_of t (operand.Symbol n) = roll-Formula (Formula-F.Symbol t n)
-equal_of t (operand.Term u) = roll-Formula (Formula-F.Same t u)
+equal_of t (Operand.Symbol n) = roll-Formula (Formula-F.Symbol t n)
+equal_of t (Operand.Term u) = roll-Formula (Formula-F.Same t u)
 
 abbrev pub not_equal_of : Term → Operand → Formula
-not_equal_of t (operand.Symbol n) = roll-Formula (Formula-F.NotSymbol t n)
-not_equal_of t (operand.Term u) = roll-Formula (Formula-F.NotSame t u)
+not_equal_of t (Operand.Symbol n) = roll-Formula (Formula-F.NotSymbol t n)
+not_equal_of t (Operand.Term u) = roll-Formula (Formula-F.NotSame t u)
 
 -- what is said of a term
 abbrev pub said_of : Context → List Word → Term → Relation → Formula
-said_of x scope t (relation.Equal r) = equal_of t (side_of x scope r)
-said_of x scope t (relation.NotEqual r) = not_equal_of t (side_of x scope r)
-said_of x scope t (relation.Adjacent u) = roll-Formula (Formula-F.Adjacent t (term_of x scope u))
-said_of x scope t (relation.Same u) = roll-Formula (Formula-F.Place t (term_of x scope u))
-said_of x scope t (relation.AtNode n) = roll-Formula (Formula-F.Node t (number_in x.text x.known.setting.nodes n))
+said_of x scope t (Relation.Equal r) = equal_of t (side_of x scope r)
+said_of x scope t (Relation.NotEqual r) = not_equal_of t (side_of x scope r)
+said_of x scope t (Relation.Adjacent u) = roll-Formula (Formula-F.Adjacent t (term_of x scope u))
+said_of x scope t (Relation.Same u) = roll-Formula (Formula-F.Place t (term_of x scope u))
+said_of x scope t (Relation.AtNode n) = roll-Formula (Formula-F.Node t (number_in x.text x.known.setting.nodes n))
 
 abbrev pub atom_of : Context → List Word → Atom → Formula
 atom_of x scope a = said_of x scope (term_of x scope a.term) a.relation
@@ -80,14 +61,14 @@ iff_of [] = roll-Formula (Formula-F.And [])
 iff_of (f ∷ fs) = iff_behind f fs
 
 abbrev pub joined_of : Join → List Formula → Formula
-joined_of join.And fs = roll-Formula (Formula-F.And fs)
-joined_of join.Or fs = roll-Formula (Formula-F.Or fs)
-joined_of join.Implies fs = implied_of fs
-joined_of join.Iff fs = iff_of fs
+joined_of Join.And fs = roll-Formula (Formula-F.And fs)
+joined_of Join.Or fs = roll-Formula (Formula-F.Or fs)
+joined_of Join.Implies fs = implied_of fs
+joined_of Join.Iff fs = iff_of fs
 
 abbrev pub quantified_of : Quantifier → List BallOf → Formula → Formula
-quantified_of quantifier.All balls f = roll-Formula (Formula-F.ForAll balls f)
-quantified_of quantifier.Exists balls f = roll-Formula (Formula-F.Exists balls f)
+quantified_of Quantifier.All balls f = roll-Formula (Formula-F.ForAll balls f)
+quantified_of Quantifier.Exists balls f = roll-Formula (Formula-F.Exists balls f)
 
 -- in a scope; a quantifier's variable is in scope in its body, and not in its balls; parentheses leave nothing behind
 abbrev pub formula_step : Context → Written-F (List Word → Formula) → List Word → Formula

@@ -1,20 +1,13 @@
 -- What each command means, and the limits on its counts.
 use Rattle.std.specs.Prelude.{ℕ, List, [], length, map, true, false, if◌then◌else◌}
-use Rattle.dd_topology.specs.declared.builtin.Kind.{Kind}
+use Rattle.dd_faults.specs.Tree.{Kind, Command, Fault, Context}
 use Rattle.dd_topology.specs.Builtin.{grid_of}
 use Rattle.dd_values.specs.declared.limits.Limits.{Limits}
 use Rattle.dd_formula.specs.declared.automaton.Automaton.{Automaton}
 use Rattle.dd_written.specs.Values.{name_text, written_value}
-use Rattle.dd_commands.specs.declared.command.Command.{Command}
-use Rattle.dd_commands.specs.declared.command.Command.TheVariants as command
-use Rattle.dd_faults.specs.declared.fault.Fault.{Fault}
-use Rattle.dd_faults.specs.declared.context.Context.{Context}
-use Rattle.dd_faults.specs.Names.{number_in}
-use Rattle.dd_faults.specs.Commands.{dimension_of}
+use Rattle.dd_faults.specs.{Names.number_in, Commands.dimension_of}
 use Rattle.dd_query.specs.Queries.{query_of}
-use Rattle.dd_meanings.specs.declared.meaning.Meaning.{Meaning}
-use Rattle.dd_meanings.specs.declared.meaning.Meaning.TheVariants as meant
-use Rattle.dd_meanings.specs.Topologies.{default_grid, kind_names, grid_by}
+use Rattle.dd_meanings.specs.{declared.meaning.Meaning.Meaning, Topologies.default_grid, Topologies.kind_names, Topologies.grid_by}
 use Rattle.dd_meanings.specs.Definitions.{symbol_of, rule_of, automaton_of, composition_of, tile_of, rule_faults, automaton_faults}
 
 abbrev pub limits : ℕ → ℕ → ℕ → Limits
@@ -22,35 +15,35 @@ limits radius period pivots = record { radius = radius; period = period; pivots 
 
 -- a kind of topology, with nodes of its own where no command has named any
 abbrev pub kind_meaning : Context → Kind → Meaning
-kind_meaning x k = if x.known.nodes_are_given then meant.Topology (grid_of k) else meant.Nodes (kind_names k) false (grid_of k)
+kind_meaning x k = if x.known.nodes_are_given then Meaning.Topology (grid_of k) else Meaning.Nodes (kind_names k) false (grid_of k)
 
 abbrev pub meaning : Context → List Automaton → Command → Meaning
-meaning x automata (command.Dimension n) = meant.Topology (default_grid (written_value x.text n) (length x.known.setting.nodes))
-meaning x automata (command.Nodes names) = meant.Nodes (map (name_text x.text) names) true (default_grid (dimension_of x.known) (length names))
-meaning x automata (command.Alphabet names) = meant.Symbols (map (name_text x.text) names)
-meaning x automata (command.Topology k) = kind_meaning x k
-meaning x automata (command.Edges es) = meant.Topology (grid_by x.text (dimension_of x.known) x.known.setting.nodes es)
-meaning x automata (command.Only node symbols) = meant.Only (number_in x.text x.known.setting.nodes node) (map (symbol_of x) symbols)
-meaning x automata (command.Weights ns) = meant.Weights (map (written_value x.text) ns)
-meaning x automata (command.Limits radius period pivots) = meant.Limits (limits (written_value x.text radius) (written_value x.text period) (written_value x.text pivots))
-meaning x automata (command.Rule name f) = meant.Rule name (rule_of x f)
-meaning x automata (command.Automaton name cases symbol) = meant.Automaton name (automaton_of x cases symbol)
-meaning x automata (command.Composition name outer inner) = meant.Automaton name (composition_of x automata outer inner)
-meaning x automata (command.Configuration name periods shear symbols) = meant.Configuration name (tile_of x periods shear symbols)
-meaning x automata (command.Query r) = meant.Query (query_of x r)
+meaning x automata (Command.Dimension n) = Meaning.Topology (default_grid (written_value x.text n) (length x.known.setting.nodes))
+meaning x automata (Command.Nodes names) = Meaning.Nodes (map (name_text x.text) names) true (default_grid (dimension_of x.known) (length names))
+meaning x automata (Command.Alphabet names) = Meaning.Symbols (map (name_text x.text) names)
+meaning x automata (Command.Topology k) = kind_meaning x k
+meaning x automata (Command.Edges es) = Meaning.Topology (grid_by x.text (dimension_of x.known) x.known.setting.nodes es)
+meaning x automata (Command.Only node symbols) = Meaning.Only (number_in x.text x.known.setting.nodes node) (map (symbol_of x) symbols)
+meaning x automata (Command.Weights ns) = Meaning.Weights (map (written_value x.text) ns)
+meaning x automata (Command.Limits radius period pivots) = Meaning.Limits (limits (written_value x.text radius) (written_value x.text period) (written_value x.text pivots))
+meaning x automata (Command.Rule name f) = Meaning.Rule name (rule_of x f)
+meaning x automata (Command.Automaton name cases symbol) = Meaning.Automaton name (automaton_of x cases symbol)
+meaning x automata (Command.Composition name outer inner) = Meaning.Automaton name (composition_of x automata outer inner)
+meaning x automata (Command.Configuration name periods shear symbols) = Meaning.Configuration name (tile_of x periods shear symbols)
+meaning x automata (Command.Query r) = Meaning.Query (query_of x r)
 
 -- the limits that only what is made can pass
 abbrev pub counted_sizes : Context → List Automaton → Command → List Fault
-counted_sizes x automata (command.Dimension n) = []
-counted_sizes x automata (command.Nodes names) = []
-counted_sizes x automata (command.Alphabet names) = []
-counted_sizes x automata (command.Topology k) = []
-counted_sizes x automata (command.Edges es) = []
-counted_sizes x automata (command.Only node symbols) = []
-counted_sizes x automata (command.Weights ns) = []
-counted_sizes x automata (command.Limits radius period pivots) = []
-counted_sizes x automata (command.Rule name f) = rule_faults (rule_of x f)
-counted_sizes x automata (command.Automaton name cases symbol) = automaton_faults x (automaton_of x cases symbol)
-counted_sizes x automata (command.Composition name outer inner) = automaton_faults x (composition_of x automata outer inner)
-counted_sizes x automata (command.Configuration name periods shear symbols) = []
-counted_sizes x automata (command.Query r) = []
+counted_sizes x automata (Command.Dimension n) = []
+counted_sizes x automata (Command.Nodes names) = []
+counted_sizes x automata (Command.Alphabet names) = []
+counted_sizes x automata (Command.Topology k) = []
+counted_sizes x automata (Command.Edges es) = []
+counted_sizes x automata (Command.Only node symbols) = []
+counted_sizes x automata (Command.Weights ns) = []
+counted_sizes x automata (Command.Limits radius period pivots) = []
+counted_sizes x automata (Command.Rule name f) = rule_faults (rule_of x f)
+counted_sizes x automata (Command.Automaton name cases symbol) = automaton_faults x (automaton_of x cases symbol)
+counted_sizes x automata (Command.Composition name outer inner) = automaton_faults x (composition_of x automata outer inner)
+counted_sizes x automata (Command.Configuration name periods shear symbols) = []
+counted_sizes x automata (Command.Query r) = []

@@ -2,19 +2,13 @@
 use Rattle.std.specs.Prelude.{ℕ, ◌≡◌, ◌<◌, ◌≤◌, ◌%◌, true, List, length, slice_index, Contains}
 use Rattle.std.specs.List.{All}
 use Rattle.dd_values.specs.Ranges.{AreLimits}
-use Rattle.dd_topology.specs.Naming.{AreDistinct}
-use Rattle.dd_topology.specs.Sets.{allows}
+use Rattle.dd_topology.specs.{Naming.AreDistinct, Sets.allows}
 use Rattle.dd_pattern.specs.Tile.{Tile, IsTile}
 use Rattle.dd_formula.specs.Automata.{IsAutomaton}
-use Rattle.dd_written.specs.declared.lexeme.Word.{Word}
+use Rattle.dd_faults.specs.{Tree.Word, Tree.Setting, Tree.Context, Sound.IsGridOf, Sound.AreWeights}
 use Rattle.dd_written.specs.Values.{word_text}
-use Rattle.dd_faults.specs.declared.context.Setting.{Setting}
-use Rattle.dd_faults.specs.declared.context.Context.{Context}
-use Rattle.dd_faults.specs.Sound.{IsGridOf, AreWeights}
-use Rattle.dd_meanings.specs.Made.{script_numbers, IsRuleOf}
+use Rattle.dd_meanings.specs.{Made.script_numbers, Made.IsRuleOf, declared.meaning.Meaning.Meaning}
 use Rattle.dd_query.specs.Sound.{IsQueryWithin}
-use Rattle.dd_meanings.specs.declared.meaning.Meaning.{Meaning}
-use Rattle.dd_meanings.specs.declared.meaning.Meaning.TheVariants as meant
 
 -- one name at least, so many at most, and none twice
 pub record AreNames (most : ℕ) (names : List (List ℕ)) : Type 0 where
@@ -44,13 +38,13 @@ pub record IsConfigurationOf (s : Setting) (t : Tile) : Type 0 where
   pub allowed : (i : ℕ) → i < length t.symbols → allows s.sets (i % t.nodes) (slice_index t.symbols i) ≡ true
 
 abbrev pub IsSoundMeaning : Context → Meaning → Type 0
-IsSoundMeaning x (meant.Topology g) = IsGridOf (length x.known.setting.nodes) g
-IsSoundMeaning x (meant.Nodes names given g) = AreNames 4 names × IsGridOf (length names) g
-IsSoundMeaning x (meant.Symbols names) = AreNames 16 names
-IsSoundMeaning x (meant.Only node symbols) = IsSymbolRestriction x.known.setting node symbols
-IsSoundMeaning x (meant.Weights ws) = AreWeights (length x.known.setting.symbols) ws
-IsSoundMeaning x (meant.Limits l) = AreLimits l
-IsSoundMeaning x (meant.Rule name r) = IsNew x name × IsRuleOf x.known.setting r
-IsSoundMeaning x (meant.Automaton name f) = IsNew x name × IsAutomaton (script_numbers x.known) f
-IsSoundMeaning x (meant.Configuration name t) = IsNew x name × IsConfigurationOf x.known.setting t
-IsSoundMeaning x (meant.Query q) = IsQueryWithin x.known q
+IsSoundMeaning x (Meaning.Topology g) = IsGridOf (length x.known.setting.nodes) g
+IsSoundMeaning x (Meaning.Nodes names given g) = AreNames 4 names × IsGridOf (length names) g
+IsSoundMeaning x (Meaning.Symbols names) = AreNames 16 names
+IsSoundMeaning x (Meaning.Only node symbols) = IsSymbolRestriction x.known.setting node symbols
+IsSoundMeaning x (Meaning.Weights ws) = AreWeights (length x.known.setting.symbols) ws
+IsSoundMeaning x (Meaning.Limits l) = AreLimits l
+IsSoundMeaning x (Meaning.Rule name r) = IsNew x name × IsRuleOf x.known.setting r
+IsSoundMeaning x (Meaning.Automaton name f) = IsNew x name × IsAutomaton (script_numbers x.known) f
+IsSoundMeaning x (Meaning.Configuration name t) = IsNew x name × IsConfigurationOf x.known.setting t
+IsSoundMeaning x (Meaning.Query q) = IsQueryWithin x.known q

@@ -1,20 +1,14 @@
 -- The topologies that commands give.
 use Rattle.std.specs.Prelude.{ℕ, ◌==◌, List, [], ◌∷◌, ◌++◌, length, map, if◌then◌else◌, codes, bytes_eq}
 use Rattle.std.specs.List.{list_any}
-use Rattle.dd_topology.specs.declared.edge.Edge.{Edge}
-use Rattle.dd_topology.specs.declared.builtin.Kind.{Kind}
-use Rattle.dd_topology.specs.declared.builtin.Kind.TheVariants as kind
-use Rattle.dd_topology.specs.Grid.{Grid, grid}
-use Rattle.dd_topology.specs.Builtin.{grid_of}
-use Rattle.dd_written.specs.declared.tree.Name.TheVariants as name
+use Rattle.dd_topology.specs.{declared.edge.Edge.Edge, Grid.Grid, Grid.grid, Builtin.grid_of}
+use Rattle.dd_faults.specs.{Tree.Kind, Tree.Name, Tree.Edge as Written, Names.number_in}
 use Rattle.dd_written.specs.Values.{word_text}
-use Rattle.dd_commands.specs.declared.command.Edge.{Edge as Written}
-use Rattle.dd_faults.specs.Names.{number_in}
 use Rattle.dd_query.specs.Vectors.{place_of}
 
 -- the grid of a dimension
 abbrev pub plain_kind : ℕ → Kind
-plain_kind d = if d == 1 then kind.Line else (if d == 3 then kind.Cube else kind.Square)
+plain_kind d = if d == 1 then Kind.Line else (if d == 3 then Kind.Cube else Kind.Square)
 
 -- After a dimension, and after names of nodes: with one node the grid of the dimension, and with more a topology without edges.
 abbrev pub default_grid : ℕ → ℕ → Grid
@@ -22,7 +16,7 @@ default_grid d nodes = if nodes == 1 then grid_of (plain_kind d) else grid d nod
 
 -- the names of the nodes of a kind, where none are given
 abbrev pub kind_names : Kind → List (List ℕ)
-kind_names kind.Hex = codes "0" ∷ codes "1" ∷ []
+kind_names Kind.Hex = codes "0" ∷ codes "1" ∷ []
 kind_names k = codes "0" ∷ []
 
 -- ---- edges
@@ -41,7 +35,7 @@ labels_of bytes es = first_seen_names [] (map (label_text bytes) es)
 abbrev pub edge_of : List ℕ → List (List ℕ) → List (List ℕ) → Written → Edge
 edge_of bytes labels nodes e =
     record {
-      label = number_in bytes labels (name.Word e.label);
+      label = number_in bytes labels (Name.Word e.label);
       from = number_in bytes nodes e.from;
       offset = place_of bytes e.offset;
       to = number_in bytes nodes e.to;

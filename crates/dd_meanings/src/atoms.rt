@@ -1,8 +1,7 @@
 //! Terms, atoms and balls with numbers in place of names.
 ghost use Rattle.std.specs.Prelude.{◌≡◌, ◌≤◌, [], length, map, IfOk};
 ghost use Rattle.std.specs.List.{flat_map};
-ghost use Rattle.dd_faults.specs.Names.{number_in, variable_of};
-ghost use Rattle.dd_faults.specs.Formulas.{names_symbol, ball_faults};
+ghost use Rattle.dd_faults.specs.{Names.number_in, Names.variable_of, Formulas.names_symbol, Formulas.ball_faults};
 ghost use Rattle.dd_meanings.specs.Formulas.{variable_number, label_of, term_of, side_of, equal_of, not_equal_of, atom_of, ball_of};
 
 use dd_expansion::{BallOf, Formula, Term};

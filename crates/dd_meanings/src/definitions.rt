@@ -4,17 +4,11 @@ ghost use Rattle.std.specs.List.{All, flat_map};
 ghost use Rattle.dd_pattern.specs.Tile.{IsPeriodic};
 ghost use Rattle.dd_pattern.specs.lemmas.TileSizes.{Sizes};
 ghost use Rattle.dd_formula.specs.Automata.{IsAutomaton};
-ghost use Rattle.dd_written.specs.declared.tree.Name.TheVariants as name;
 ghost use Rattle.dd_written.specs.Formulas.{tree_depth};
 ghost use Rattle.dd_commands.specs.declared.command.Command.TheVariants as command;
-ghost use Rattle.dd_faults.specs.Order.{Resolves};
-ghost use Rattle.dd_faults.specs.Names.{missing};
-ghost use Rattle.dd_faults.specs.Commands.{case_faults, faults_of};
-ghost use Rattle.dd_faults.specs.Sound.{IsSound};
-ghost use Rattle.dd_meanings.specs.Made.{script_numbers};
-ghost use Rattle.dd_meanings.specs.Meanings.{meaning, counted_sizes};
-ghost use Rattle.dd_meanings.specs.Definitions.{case_of, automaton_named, tile_with};
-ghost use Rattle.dd_meanings.specs.making.Parts.{refusal_of};
+ghost use Rattle.dd_faults.specs.{Order.Resolves, Names.missing, Commands.case_faults, Commands.faults_of, Sound.IsSound};
+ghost use Rattle.dd_meanings.specs.{Made.script_numbers, Meanings.meaning, Meanings.counted_sizes};
+ghost use Rattle.dd_meanings.specs.{Definitions.case_of, Definitions.automaton_named, Definitions.tile_with, making.Parts.refusal_of};
 ghost use Rattle.dd_meanings.specs.Sound.{IsSoundMeaning};
 
 use crate::formulas::formula_in;
@@ -110,7 +104,7 @@ fn named(
     word: Word,
 ) -> Result<Automaton, AllocError>
     requires named { length automata.now ≡ length context.now.known.automata }
-    requires known { missing context.now.text context.now.known.automata (name.Word word) ≡ [] }
+    requires known { missing context.now.text context.now.known.automata (Name.Word word) ≡ [] }
     ensures { IfOk result (λ f. f ≡ automaton_named context.now automata.now word) }
 {
     let number = number_in(&context.text, &context.known.automata, Name::Word(word));

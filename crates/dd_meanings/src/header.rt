@@ -1,12 +1,8 @@
 //! What the commands of the header mean.
 ghost use Rattle.std.specs.Prelude.{◌≡◌, ◌≤◌, [], length, map, IfOk, OnOk};
 ghost use Rattle.dd_commands.specs.declared.command.Command.TheVariants as command;
-ghost use Rattle.dd_faults.specs.Order.{Resolves};
-ghost use Rattle.dd_faults.specs.Sound.{IsSound};
-ghost use Rattle.dd_faults.specs.Commands.{faults_of};
-ghost use Rattle.dd_meanings.specs.Definitions.{symbol_of};
-ghost use Rattle.dd_meanings.specs.Meanings.{meaning};
-ghost use Rattle.dd_meanings.specs.Sound.{IsSoundMeaning};
+ghost use Rattle.dd_faults.specs.{Order.Resolves, Sound.IsSound, Commands.faults_of};
+ghost use Rattle.dd_meanings.specs.{Definitions.symbol_of, Meanings.meaning, Sound.IsSoundMeaning};
 
 use crate::meaning::{Meaning, Resolved};
 use crate::names::names_of;

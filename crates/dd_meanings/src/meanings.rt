@@ -2,15 +2,9 @@
 ghost use Rattle.std.specs.Prelude.{◌≡◌, [], length, OnOk};
 ghost use Rattle.std.specs.List.{All};
 ghost use Rattle.dd_formula.specs.Automata.{IsAutomaton};
-ghost use Rattle.dd_commands.specs.declared.command.Command.TheVariants as command;
-ghost use Rattle.dd_commands.specs.Commands.{IsRequest};
-ghost use Rattle.dd_commands.specs.Scripts.{IsWritten};
-ghost use Rattle.dd_faults.specs.Order.{Resolves};
-ghost use Rattle.dd_faults.specs.Commands.{request_faults, written_faults};
-ghost use Rattle.dd_faults.specs.Sound.{IsSound};
-ghost use Rattle.dd_meanings.specs.Made.{script_numbers};
-ghost use Rattle.dd_meanings.specs.Meanings.{meaning, counted_sizes};
-ghost use Rattle.dd_meanings.specs.Sound.{IsSoundMeaning};
+ghost use Rattle.dd_commands.specs.{Commands.IsRequest, Scripts.IsWritten};
+ghost use Rattle.dd_faults.specs.{Order.Resolves, Commands.request_faults, Commands.written_faults, Sound.IsSound};
+ghost use Rattle.dd_meanings.specs.{Made.script_numbers, Meanings.meaning, Meanings.counted_sizes, Sound.IsSoundMeaning};
 
 use crate::meaning::{Meaning, Resolved};
 use crate::{definitions, header};
@@ -25,8 +19,8 @@ fn query(alloc: Global, context: &Context, request: &Request) -> Resolved
     requires sound { IsSound context.now.known }
     requires written { IsRequest request.now }
     requires faultless { request_faults context.now request.now ≡ [] }
-    ensures exact { Resolves result [] (meaning context.now [] (command.Query request.now)) }
-    ensures sound { OnOk result (IsSoundMeaning context.now (meaning context.now [] (command.Query request.now))) }
+    ensures exact { Resolves result [] (meaning context.now [] (Command.Query request.now)) }
+    ensures sound { OnOk result (IsSoundMeaning context.now (meaning context.now [] (Command.Query request.now))) }
 {
     let query = ask(alloc, context, request)?;
     Ok(Meaning::Query(query))

@@ -3,8 +3,7 @@ ghost use Rattle.std.specs.Prelude.{◌≡◌, ◌≤◌, ◌<◌, ◌^◌, ◌-
 ghost use Rattle.std.specs.List.{list_any, flat_map};
 ghost use Rattle.dd_topology.specs.Grid.{grid};
 ghost use Rattle.dd_commands.specs.declared.command.Command.TheVariants as command;
-ghost use Rattle.dd_faults.specs.Sound.{IsSound};
-ghost use Rattle.dd_faults.specs.Commands.{dimension_of, edge_faults, faults_of};
+ghost use Rattle.dd_faults.specs.{Sound.IsSound, Commands.dimension_of, Commands.edge_faults, Commands.faults_of};
 ghost use Rattle.dd_query.specs.Vectors.{IsClose};
 ghost use Rattle.dd_meanings.specs.Topologies.{plain_kind, default_grid, kind_names, labels_of, edge_of, grid_by};
 

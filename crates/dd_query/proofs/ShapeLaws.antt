@@ -1,25 +1,15 @@
 -- The numbers, the strips and the vectors of questions without a fault.
-use Rattle.std.proofs.Common.{◌≡◌, ◌≤◌, ◌+◌, ℕ, zero, suc, false, List, [], ◌∷◌, length, map, get_or, ◌∙◌, arith}
-use Rattle.std.specs.Prelude.{slice_get}
-use Rattle.std.specs.List.{All, list_any, flat_map}
-use Rattle.std.specs.Option.{option_map_or}
-use Rattle.std.proofs.lemmas.Bool.{or_parts, ltb-false}
-use Rattle.std.proofs.lemmas.List.{length-map}
-use Rattle.std.proofs.lemmas.List.Folds.{list_all-map, list_any_none}
+use Rattle.std.proofs.Common.{◌≡◌, ◌≤◌, ◌+◌, ℕ, zero, suc, false, List, [], ◌∷◌, length, map, get_or, ◌∙◌, arith, slice_get}
+use Rattle.std.specs.{List.All, List.list_any, List.flat_map, Option.option_map_or}
+use Rattle.std.proofs.lemmas.{Bool.or_parts, Bool.ltb-false, List.length-map, List.Folds.list_all-map, List.Folds.list_any_none}
 use Rattle.std.proofs.lemmas.List.Sums.{list_all-from_AllPass}
 use Rattle.dd_topology.specs.Grid.{is_offset}
-use Rattle.dd_written.specs.declared.lexeme.Number.{Number}
+use Rattle.dd_faults.specs.Tree.{Number, Lists, Entry, Vector, Context}
 use Rattle.dd_written.specs.Values.{written_value}
-use Rattle.dd_commands.specs.declared.table.Lists.TheVariants as lists
-use Rattle.dd_commands.specs.declared.command.Entry.{Entry}
-use Rattle.dd_commands.specs.declared.command.Vector.{Vector}
-use Rattle.dd_faults.specs.declared.context.Context.{Context}
 use Rattle.dd_faults.specs.Commands.{dimension_of, is_far, radius_faults, is_no_strip, strip_faults, vector_faults, list_faults}
 use Rattle.dd_faults.specs.lemmas.Nothing.{parts, both_nil, within, all_where}
 use Rattle.dd_faults.specs.lemmas.Periods.{entry_at, no_entry}
-use Rattle.dd_query.specs.Vectors.{place_of}
-use Rattle.dd_query.specs.Queries.{strip_periods}
-use Rattle.dd_query.specs.Sound.{AreStripPeriods, AreQueryVectors}
+use Rattle.dd_query.specs.{Vectors.place_of, Queries.strip_periods, Sound.AreStripPeriods, Sound.AreQueryVectors}
 use Rattle.dd_query.specs.lemmas.Offsets.{offset_is}
 use Rattle.dd_query.proofs.VectorLaws.{IsGiven, vectors_differ}
 
@@ -51,7 +41,7 @@ strip_is x v none =
 
 -- ---- vectors
 
-module _ (x : Context) (vs : List Vector) (none : list_faults x lists.Vectors vs ≡ []) where
+module _ (x : Context) (vs : List Vector) (none : list_faults x Lists.Vectors vs ≡ []) where
   are_given : All (IsGiven x.text (dimension_of x.known)) vs
   are_given = all_where (IsGiven x.text (dimension_of x.known)) (vector_faults x) (λ v h. (grind (arith, parts), grind (arith, parts))) vs (grind (arith, parts))
 

@@ -1,14 +1,10 @@
 -- Vectors of a discharge of which none is given twice have different positions.
-use Rattle.std.proofs.Common.{◌≡◌, ◌≢◌, ◌<◌, ◌≤◌, ℕ, zero, suc, Bool, true, false, List, [], ◌∷◌, ◌++◌, length, map, take, get_or, refl, ap, sym, ◌∙◌, arith}
-use Rattle.std.specs.Prelude.{ℤ, pos, AllPairs, codes, nat_lt, slice_get}
-use Rattle.std.specs.List.{All, list_any, flat_map}
-use Rattle.std.specs.Option.{option_map_or}
-use Rattle.std.specs.Fmt.{signed_decimal}
+use Rattle.std.proofs.Common.{◌≡◌, ◌≢◌, ◌<◌, ◌≤◌, ℕ, zero, suc, Bool, true, false, List, [], ◌∷◌, ◌++◌, length, map, take, get_or, refl, ap, sym, ◌∙◌, arith, ℤ, pos, AllPairs, codes, nat_lt, slice_get}
+use Rattle.std.specs.{List.All, List.list_any, List.flat_map, Option.option_map_or, Fmt.signed_decimal}
 use Rattle.std.proofs.lemmas.Bool.{or_parts, eqb-true}
 use Rattle.std.proofs.lemmas.List.{get_or-map, get_or-take, length-map, length-take-le}
 use Rattle.dd_lattice.specs.Place.{Place}
-use Rattle.dd_commands.specs.declared.command.Entry.{Entry}
-use Rattle.dd_commands.specs.declared.command.Vector.{Vector}
+use Rattle.dd_faults.specs.Tree.{Entry, Vector}
 use Rattle.dd_faults.specs.Repeats.{entry_key, vector_key, twice_vector, twice_vectors}
 use Rattle.dd_faults.specs.Commands.{entry_value, signed_value, has_entries, is_far}
 use Rattle.dd_faults.specs.lemmas.Repeats.{once}

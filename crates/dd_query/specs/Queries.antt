@@ -1,27 +1,16 @@
 -- The queries that questions ask.
 use Rattle.std.specs.Prelude.{ℕ, List, [], ◌∷◌, map, slice_get, slice_index}
-use Rattle.std.specs.List.{zip}
-use Rattle.std.specs.Option.{option_map_or}
+use Rattle.std.specs.{List.zip, Option.option_map_or}
 use Rattle.dd_lattice.specs.Place.{Place}
-use Rattle.dd_written.specs.declared.lexeme.Word.{Word}
-use Rattle.dd_written.specs.declared.tree.Name.TheVariants as name
+use Rattle.dd_faults.specs.Tree.{Word, Name, Role, Question, Vector, Request, Context}
 use Rattle.dd_written.specs.Values.{written_value}
-use Rattle.dd_commands.specs.declared.table.Role.{Role}
-use Rattle.dd_commands.specs.declared.table.Question.{Question}
-use Rattle.dd_commands.specs.declared.table.Question.TheVariants as question
-use Rattle.dd_commands.specs.declared.command.Vector.{Vector}
-use Rattle.dd_commands.specs.declared.command.Request.{Request}
 use Rattle.dd_commands.specs.Table.{row}
-use Rattle.dd_faults.specs.declared.context.Context.{Context}
-use Rattle.dd_faults.specs.Names.{number_in, named}
-use Rattle.dd_faults.specs.Commands.{period_at}
-use Rattle.dd_query.specs.Vectors.{place_of}
-use Rattle.dd_query.specs.declared.queries.Query.{Query}
-use Rattle.dd_query.specs.declared.queries.Query.TheVariants as query
+use Rattle.dd_faults.specs.{Names.number_in, Names.named, Commands.period_at}
+use Rattle.dd_query.specs.{Vectors.place_of, declared.queries.Query.Query}
 
 -- the number of what a word names, among what has its role
 abbrev pub number_of_word : Context → Role × Word → ℕ
-number_of_word x w = number_in x.text (named x.known w.0) (name.Word w.1)
+number_of_word x w = number_in x.text (named x.known w.0) (Name.Word w.1)
 
 -- the numbers of the words, by their roles in the table
 abbrev pub numbers_of_words : Context → Request → List ℕ
@@ -48,14 +37,14 @@ places_of x r = map (place_of x.text) r.vectors
 
 -- what each question asks
 abbrev pub query_asked : Question → Context → Request → Query
-query_asked question.Member x r = query.Member (word_at x r 0) (word_at x r 1)
-query_asked question.Contains x r = query.Contains (word_at x r 0) (word_at x r 1)
-query_asked question.Equal x r = query.Equal (word_at x r 0) (word_at x r 1)
-query_asked question.Empty x r = query.Empty (word_at x r 0)
-query_asked question.Agree x r = query.Agree (word_at x r 0) (word_at x r 1) (word_at x r 2)
-query_asked question.Forbidden x r = query.Forbidden (word_at x r 0)
-query_asked question.Density x r = query.Density (word_at x r 0) (request_strip x r)
-query_asked question.Discharge x r = query.Discharge (word_at x r 0) (value_at x r 0) (value_at x r 1) (places_of x r)
+query_asked Question.Member x r = Query.Member (word_at x r 0) (word_at x r 1)
+query_asked Question.Contains x r = Query.Contains (word_at x r 0) (word_at x r 1)
+query_asked Question.Equal x r = Query.Equal (word_at x r 0) (word_at x r 1)
+query_asked Question.Empty x r = Query.Empty (word_at x r 0)
+query_asked Question.Agree x r = Query.Agree (word_at x r 0) (word_at x r 1) (word_at x r 2)
+query_asked Question.Forbidden x r = Query.Forbidden (word_at x r 0)
+query_asked Question.Density x r = Query.Density (word_at x r 0) (request_strip x r)
+query_asked Question.Discharge x r = Query.Discharge (word_at x r 0) (value_at x r 0) (value_at x r 1) (places_of x r)
 
 abbrev pub query_of : Context → Request → Query
 query_of x r = query_asked r.question x r

@@ -3,9 +3,8 @@ use Rattle.std.specs.Prelude.{ℕ, ◌≡◌, ◌≢◌, ◌<◌, ◌≤◌, tru
 use Rattle.std.specs.List.{list_all}
 use Rattle.dd_lattice.specs.Place.{Place}
 use Rattle.dd_topology.specs.Grid.{is_offset}
-use Rattle.dd_faults.specs.declared.context.Known.{Known}
+use Rattle.dd_faults.specs.Tree.{Known}
 use Rattle.dd_query.specs.declared.queries.Query.{Query}
-use Rattle.dd_query.specs.declared.queries.Query.TheVariants as query
 
 -- the greatest period of a strip
 abbrev pub longest_period : ℕ
@@ -35,12 +34,12 @@ pub record AreQueryVectors (d : ℕ) (vectors : List Place) : Type 0 where
 
 -- its numbers are those of rules, automata and configurations, and its periods, radii and vectors are within their bounds
 abbrev pub IsQueryWithin : Known → Query → Type 0
-IsQueryWithin k (query.Member configuration rule) = (configuration < length k.configurations) × (rule < length k.rules)
-IsQueryWithin k (query.Contains outer inner) = (outer < length k.rules) × (inner < length k.rules)
-IsQueryWithin k (query.Equal left right) = (left < length k.rules) × (right < length k.rules)
-IsQueryWithin k (query.Empty rule) = rule < length k.rules
-IsQueryWithin k (query.Agree left right rule) = (left < length k.automata) × (right < length k.automata) × (rule < length k.rules)
-IsQueryWithin k (query.Forbidden rule) = rule < length k.rules
-IsQueryWithin k (query.Density rule strip) = (rule < length k.rules) × AreStripPeriods k.setting.topology.dimension strip
-IsQueryWithin k (query.Discharge rule radius margin vectors) =
+IsQueryWithin k (Query.Member configuration rule) = (configuration < length k.configurations) × (rule < length k.rules)
+IsQueryWithin k (Query.Contains outer inner) = (outer < length k.rules) × (inner < length k.rules)
+IsQueryWithin k (Query.Equal left right) = (left < length k.rules) × (right < length k.rules)
+IsQueryWithin k (Query.Empty rule) = rule < length k.rules
+IsQueryWithin k (Query.Agree left right rule) = (left < length k.automata) × (right < length k.automata) × (rule < length k.rules)
+IsQueryWithin k (Query.Forbidden rule) = rule < length k.rules
+IsQueryWithin k (Query.Density rule strip) = (rule < length k.rules) × AreStripPeriods k.setting.topology.dimension strip
+IsQueryWithin k (Query.Discharge rule radius margin vectors) =
     (rule < length k.rules) × (radius ≤ widest_radius) × (margin ≤ widest_radius) × AreQueryVectors k.setting.topology.dimension vectors

@@ -1,13 +1,10 @@
 //! Queries from questions.
 ghost use Rattle.std.specs.Prelude.{◌≡◌, [], false, map, min, IfOk, OnOk};
 ghost use Rattle.std.specs.List.{list_any};
-ghost use Rattle.dd_commands.specs.declared.table.Question.TheVariants as question;
 ghost use Rattle.dd_commands.specs.Commands.{IsRequest};
-ghost use Rattle.dd_faults.specs.Commands.{is_far, request_faults};
-ghost use Rattle.dd_faults.specs.Sound.{IsSound};
-ghost use Rattle.dd_query.specs.Vectors.{place_of};
+ghost use Rattle.dd_faults.specs.{Commands.is_far, Commands.request_faults, Sound.IsSound};
+ghost use Rattle.dd_query.specs.{Vectors.place_of, Sound.AreStripPeriods, Sound.IsQueryWithin};
 ghost use Rattle.dd_query.specs.Queries.{word_at, value_at, strip_periods, query_of};
-ghost use Rattle.dd_query.specs.Sound.{AreStripPeriods, IsQueryWithin};
 
 use crate::queries::Query;
 use crate::vectors::position_of;
@@ -68,7 +65,7 @@ fn positions(alloc: Global, text: &Text, vectors: &[Vector]) -> Result<Items<Pos
 /// The query that a question asks.
 fn asked(alloc: Global, context: &Context, request: &Request) -> Result<Query, AllocError>
     requires within { IsQueryWithin context.now.known (query_of context.now request.now) }
-    requires close { request.now.question ≡ question.Discharge → list_any (is_far context.now.text) request.now.vectors ≡ false }
+    requires close { request.now.question ≡ Question.Discharge → list_any (is_far context.now.text) request.now.vectors ≡ false }
     ensures exact { IfOk result (λ q. q ≡ query_of context.now request.now) }
     ensures within { OnOk result (IsQueryWithin context.now.known (query_of context.now request.now)) }
 {

@@ -1,24 +1,16 @@
 -- What the queries of a script ask: it goes together, as its rules, automata and configurations are the script's.
-use Rattle.std.proofs.Common.{◌≡◌, ◌<◌, ℕ, List, refl, ap, sym, subst, ◌∙◌, Some, None}
-use Rattle.std.specs.Prelude.{Option, option_map, IfSome}
-use Rattle.std.specs.List.{All, slice_get}
-use Rattle.std.specs.Option.{option_and_then}
-use Rattle.std.proofs.lemmas.List.Elements.{All-contains}
-use Rattle.std.proofs.lemmas.Option.{slice_get_within, get_or_from_slice_get}
+use Rattle.std.proofs.Common.{◌≡◌, ◌<◌, ℕ, List, refl, ap, sym, subst, ◌∙◌, Some, None, Option, option_map, IfSome}
+use Rattle.std.specs.{List.All, List.slice_get, Option.option_and_then}
+use Rattle.std.proofs.lemmas.{List.Elements.All-contains, Option.slice_get_within, Option.get_or_from_slice_get}
 use Rattle.dd_formula.specs.Automata.{CommonNumbers}
 use Rattle.dd_values.specs.declared.limits.Limits.{Limits}
-use Rattle.dd_boxes.specs.Discharges.{AreVectors}
+use Rattle.dd_boxes.specs.{Discharges.AreVectors, Views.numbers_of}
 use Rattle.dd_boxes.specs.Goals.{breaks, differ, always, AreAlike}
-use Rattle.dd_boxes.specs.Views.{numbers_of}
-use Rattle.dd_query.specs.declared.queries.Query.TheVariants as query
 use Rattle.dd_question.specs.Questions.{Asked, membership, box, equality, listing, density, discharge}
-use Rattle.dd_question.specs.Formed.{IsFormed}
-use Rattle.dd_question.specs.Excesses.{excess_of}
-use Rattle.dd_question.specs.Sound.{IsSoundAsked}
+use Rattle.dd_question.specs.{Formed.IsFormed, Excesses.excess_of, Sound.IsSoundAsked}
 use Rattle.dd_script.specs.Parts.{Parts, LocalRule, Automaton, Known, Query}
-use Rattle.dd_script.specs.Questions.{of_both, of_three, asked}
+use Rattle.dd_script.specs.{Questions.of_both, Questions.of_three, Questions.asked, Asking.AreOf, Asking.AreSound}
 use Rattle.dd_script.specs.Kept.{IsQueryOf, AreNamed, IsScriptOf, IsAutomaton, IsQueryWithin, script_numbers, IsRuleOf}
-use Rattle.dd_script.specs.Asking.{AreOf, AreSound}
 use Rattle.dd_script.proofs.Measures.{strip_of, has_weights, weights_for, vectors_of}
 
 -- an item of a list of such items
@@ -62,29 +54,29 @@ module _ (s : Parts) (ok : IsScriptOf s) where
       subst (λ (n : CommonNumbers). IsAutomaton n f) same formed
 
   pub asked_fits : (q : Query) (a : Asked) → IsQueryWithin s.known q → asked s q ≡ Some a → FitsIn s.known a
-  asked_fits (query.Member configuration rule) a within =
+  asked_fits (Query.Member configuration rule) a within =
       of_both_fits s.known membership (slice_get s.rules rule) (slice_get s.configurations configuration) a (item_at ok.rules rule) (item_at ok.configurations configuration)
       (λ x t of told.
       let below : All (λ (n : ℕ). n < x.symbols) t.symbols = subst (λ (m : ℕ). All (λ (n : ℕ). n < m) t.symbols) (sym of.symbols) told.symbols in
       ((of.rule, told.tile, record { dimension = told.dimension ∙ sym of.dimension; nodes = told.nodes ∙ sym of.nodes; symbols = below }), of))
-  asked_fits (query.Contains outer inner) a within =
+  asked_fits (Query.Contains outer inner) a within =
       of_both_fits s.known (λ x y. box x (breaks y)) (slice_get s.rules inner) (slice_get s.rules outer) a (item_at ok.rules inner) (item_at ok.rules outer)
       (λ x y of also. ((of.rule, alike x y of also, also.rule), of))
-  asked_fits (query.Equal left right) a within =
+  asked_fits (Query.Equal left right) a within =
       of_both_fits s.known equality (slice_get s.rules left) (slice_get s.rules right) a (item_at ok.rules left) (item_at ok.rules right)
       (λ x y of also. ((of.rule, also.rule, alike x y of also), (of, also)))
-  asked_fits (query.Empty rule) a within =
+  asked_fits (Query.Empty rule) a within =
       of_one_fits s.known (λ x. box x always) (slice_get s.rules rule) a (item_at ok.rules rule) (λ x of. ((of.rule, tt, tt), of))
-  asked_fits (query.Agree left right rule) a within =
+  asked_fits (Query.Agree left right rule) a within =
       of_three_fits s.known (λ x f g. box x (differ (numbers_of x) f g)) (slice_get s.rules rule) (slice_get s.automata left) (slice_get s.automata right) a
       (item_at ok.rules rule) (item_at ok.automata left) (item_at ok.automata right)
       (λ x f g of formed also.
       ((of.rule, record { dimension = refl; nodes = refl; symbols = refl; left = over_rule x f of formed; right = over_rule x g of also }, tt), of))
-  asked_fits (query.Forbidden rule) a within = of_one_fits s.known listing (slice_get s.rules rule) a (item_at ok.rules rule) (λ x of. (of.rule, of))
-  asked_fits (query.Density rule strip) a within =
+  asked_fits (Query.Forbidden rule) a within = of_one_fits s.known listing (slice_get s.rules rule) a (item_at ok.rules rule) (λ x of. (of.rule, of))
+  asked_fits (Query.Density rule strip) a within =
       of_one_fits s.known (λ x. density x strip s.known.weights) (slice_get s.rules rule) a (item_at ok.rules rule)
       (λ x of. ((of.rule, strip_of x _ _ of.symbols of.dimension strip within.1, has_weights x _ _ of.symbols of.dimension s.known.weights ok.known.weights), of))
-  asked_fits (query.Discharge rule radius margin vectors) a within =
+  asked_fits (Query.Discharge rule radius margin vectors) a within =
       of_one_fits s.known (λ x. discharge x radius margin vectors s.known.weights) (slice_get s.rules rule) a (item_at ok.rules rule)
       (λ x of. (
         (

@@ -1,10 +1,7 @@
 -- What every script keeps, where more is defined and asked.
 use Rattle.std.proofs.Common.{◌≡◌, ℕ, zero, suc, ◌<◌, ◌≤◌, List, [], ◌∷◌, ◌++◌, None, length, refl, ap, ◌∙◌, arith}
-use Rattle.std.specs.List.{All, slice_get}
-use Rattle.std.specs.Option.{option_and_then}
-use Rattle.std.proofs.lemmas.List.{length-append}
-use Rattle.std.proofs.lemmas.List.Elements.{All-push, All-weaker}
-use Rattle.dd_query.specs.declared.queries.Query.TheVariants as query
+use Rattle.std.specs.{List.All, List.slice_get, Option.option_and_then}
+use Rattle.std.proofs.lemmas.{List.length-append, List.Elements.All-push, List.Elements.All-weaker}
 use Rattle.dd_question.specs.Excesses.{excess_of}
 use Rattle.dd_script.specs.Parts.{Parts, LocalRule, Automaton, Tile, Query}
 use Rattle.dd_script.specs.Questions.{asked}
@@ -43,19 +40,19 @@ module _ (s : Parts) (is : IsScriptOf s) {R A C : List (List ℕ)} {rs : List Lo
   module _ (qs : List Query) where
     -- a query names what it named, and asks the same
     same_query : (q : Query) → IsQueryWithin s.known q → IsQueryWithin (grown qs).known q × (asked (grown qs) q ≡ asked s q)
-    same_query (query.Member configuration rule) has =
+    same_query (Query.Member configuration rule) has =
         let t = still is.configurations configurations configuration has.0 in let x = still is.rules rules rule has.1 in ((t.0, x.0), rw (x.1, t.1) refl)
-    same_query (query.Contains outer inner) has = let x = still is.rules rules outer has.0 in let y = still is.rules rules inner has.1 in ((x.0, y.0), rw (x.1, y.1) refl)
-    same_query (query.Equal left right) has = let x = still is.rules rules left has.0 in let y = still is.rules rules right has.1 in ((x.0, y.0), rw (x.1, y.1) refl)
-    same_query (query.Empty rule) has = let x = still is.rules rules rule has in (x.0, rw (x.1) refl)
-    same_query (query.Agree left right rule) has =
+    same_query (Query.Contains outer inner) has = let x = still is.rules rules outer has.0 in let y = still is.rules rules inner has.1 in ((x.0, y.0), rw (x.1, y.1) refl)
+    same_query (Query.Equal left right) has = let x = still is.rules rules left has.0 in let y = still is.rules rules right has.1 in ((x.0, y.0), rw (x.1, y.1) refl)
+    same_query (Query.Empty rule) has = let x = still is.rules rules rule has in (x.0, rw (x.1) refl)
+    same_query (Query.Agree left right rule) has =
         let f = still is.automata automata left has.0 in
         let g = still is.automata automata right has.1 in
         let x = still is.rules rules rule has.2 in
         ((f.0, g.0, x.0), rw (f.1, g.1, x.1) refl)
-    same_query (query.Forbidden rule) has = let x = still is.rules rules rule has in (x.0, rw (x.1) refl)
-    same_query (query.Density rule strip) has = let x = still is.rules rules rule has.0 in ((x.0, has.1), rw (x.1) refl)
-    same_query (query.Discharge rule radius margin vectors) has = let x = still is.rules rules rule has.0 in ((x.0, has.1, has.2, has.3), rw (x.1) refl)
+    same_query (Query.Forbidden rule) has = let x = still is.rules rules rule has in (x.0, rw (x.1) refl)
+    same_query (Query.Density rule strip) has = let x = still is.rules rules rule has.0 in ((x.0, has.1), rw (x.1) refl)
+    same_query (Query.Discharge rule radius margin vectors) has = let x = still is.rules rules rule has.0 in ((x.0, has.1, has.2, has.3), rw (x.1) refl)
 
     query_kept : (q : Query) → IsQueryOf s q → IsQueryOf (grown qs) q
     query_kept q of = let same = same_query q of.within in record { within = same.0; light = ap (option_and_then (excess_of s.known.limits)) same.1 ∙ of.light }

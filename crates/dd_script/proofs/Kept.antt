@@ -1,31 +1,16 @@
 -- What every script keeps, behind each command.
-use Rattle.std.proofs.Common.{◌≡◌, ℕ, ◌≤◌, List, [], length, replicate, Bool, true, false, Option, Some, None, refl, sym, subst, ◌∙◌, arith}
-use Rattle.std.specs.Prelude.{if◌then◌else◌}
-use Rattle.std.specs.List.{All, range_with_len}
-use Rattle.std.specs.Option.{option_map}
-use Rattle.std.proofs.lemmas.List.Elements.{All-nil}
-use Rattle.std.proofs.lemmas.List.{length-set, length-replicate}
+use Rattle.std.proofs.Common.{◌≡◌, ℕ, ◌≤◌, List, [], length, replicate, Bool, true, false, Option, Some, None, refl, sym, subst, ◌∙◌, arith, if◌then◌else◌}
+use Rattle.std.specs.{List.All, List.range_with_len, Option.option_map}
+use Rattle.std.proofs.lemmas.{List.Elements.All-nil, List.length-set, List.length-replicate}
 use Rattle.std.proofs.lemmas.List.FromFn.{length-range_with_len, get_or-range_with_len}
-use Rattle.dd_values.specs.declared.limits.Limits.{Limits}
-use Rattle.dd_values.specs.Ranges.{AreLimits}
-use Rattle.dd_topology.specs.Grid.{Grid}
-use Rattle.dd_topology.specs.Builtin.{grid_of}
-use Rattle.dd_topology.specs.Sets.{IsSets, symbol_row}
-use Rattle.dd_commands.specs.declared.command.Command.{Command}
-use Rattle.dd_commands.specs.declared.command.Command.TheVariants as command
+use Rattle.dd_values.specs.{declared.limits.Limits.Limits, Ranges.AreLimits}
+use Rattle.dd_topology.specs.{Grid.Grid, Builtin.grid_of, Sets.IsSets, Sets.symbol_row}
+use Rattle.dd_faults.specs.{Tree.Command, Tree.Fault, Tree.Setting, Sound.IsSetting, Sound.AreWeights}
 use Rattle.dd_commands.specs.Heads.{head_of, stage}
-use Rattle.dd_faults.specs.declared.fault.Fault.TheVariants as fault
-use Rattle.dd_faults.specs.declared.context.Setting.{Setting}
-use Rattle.dd_faults.specs.Sound.{IsSetting, AreWeights}
-use Rattle.dd_meanings.specs.declared.meaning.Meaning.TheVariants as meant
-use Rattle.dd_meanings.specs.Meanings.{meaning}
-use Rattle.dd_meanings.specs.Topologies.{kind_names}
-use Rattle.dd_meanings.specs.Sound.{IsSoundMeaning}
-use Rattle.dd_script.specs.declared.draft.Draft.{Draft}
-use Rattle.dd_script.specs.Parts.{Parts, Known}
+use Rattle.dd_meanings.specs.{Meanings.meaning, Topologies.kind_names, Sound.IsSoundMeaning}
+use Rattle.dd_script.specs.{declared.draft.Draft.Draft, Parts.Parts, Parts.Known, drafting.Standing.IsFresh, drafting.Standing.IsReady}
 use Rattle.dd_script.specs.Kept.{IsQueryOf, AreNamed, IsScriptOf, IsAutomaton, IsRuleOf, script_numbers, IsConfigurationOf, query_excess}
 use Rattle.dd_script.specs.Walk.{with, limit_of, asked_fault, word_text, Meaning}
-use Rattle.dd_script.specs.drafting.Standing.{IsFresh, IsReady}
 use Rattle.dd_script.specs.drafting.Drafts.{parts_of}
 use Rattle.dd_script.proofs.Growing.{stay, one_more, more_defined, more_asked}
 
@@ -74,12 +59,12 @@ module _ (d : Draft) (is : IsScriptOf (parts_of d)) where
   abbrev KeptBy : ℕ → Meaning → Type 0
   KeptBy place m = IsReady place s → IsSoundMeaning d.context m → asked_fault s m ≡ None → HasSets (with d.context.text s m).known → Behind place (with d.context.text s m)
 
-  by_topology : (place : ℕ) → place ≤ 6 → (g : Grid) → KeptBy place (meant.Topology g)
+  by_topology : (place : ℕ) → place ≤ 6 → (g : Grid) → KeptBy place (Meaning.Topology g)
   by_topology place header g ready sound light has =
       let k = is.known.setting in
       changed s is (ready header) place (record { topology = sound; nodes = k.nodes; symbols = k.symbols; sets = k.sets; alphabet = k.alphabet }) is.known.weights is.known.limits
 
-  by_nodes : (place : ℕ) → place ≤ 6 → (nodes : List (List ℕ)) (given : Bool) (g : Grid) → KeptBy place (meant.Nodes nodes given g)
+  by_nodes : (place : ℕ) → place ≤ 6 → (nodes : List (List ℕ)) (given : Bool) (g : Grid) → KeptBy place (Meaning.Nodes nodes given g)
   by_nodes place header nodes given g ready sound light has =
       let k = is.known.setting in
       changed s is (ready header) place
@@ -93,9 +78,9 @@ module _ (d : Draft) (is : IsScriptOf (parts_of d)) where
       is.known.weights is.known.limits
 
   pub kept_behind : (c : Command) → KeptBy (stage (head_of c)) (meaning d.context d.made.automata c)
-  kept_behind (command.Dimension n) = by_topology 0 (omega arith) _
-  kept_behind (command.Nodes names) = by_nodes 1 (omega arith) _ true _
-  kept_behind (command.Alphabet names) = λ ready sound light has.
+  kept_behind (Command.Dimension n) = by_topology 0 (omega arith) _
+  kept_behind (Command.Nodes names) = by_nodes 1 (omega arith) _ true _
+  kept_behind (Command.Alphabet names) = λ ready sound light has.
       let k = is.known.setting in
       changed s is (ready (omega arith)) 2
       (record {
@@ -106,13 +91,13 @@ module _ (d : Draft) (is : IsScriptOf (parts_of d)) where
         alphabet = refl;
       })
       (record { each = length-range_with_len 0 _; light = light_range _ (omega (arith, sound.few)) }) is.known.limits
-  kept_behind (command.Topology t) =
-      (elim (d.context.known.nodes_are_given) as (λ b. KeptBy 3 (if b then meant.Topology (grid_of t) else meant.Nodes (kind_names t) false (grid_of t))) [
+  kept_behind (Command.Topology t) =
+      (elim (d.context.known.nodes_are_given) as (λ b. KeptBy 3 (if b then Meaning.Topology (grid_of t) else Meaning.Nodes (kind_names t) false (grid_of t))) [
         | true ↦ by_topology 3 (omega arith) (grid_of t)
         | false ↦ by_nodes 3 (omega arith) (kind_names t) false (grid_of t)
       ])
-  kept_behind (command.Edges es) = by_topology 3 (omega arith) _
-  kept_behind (command.Only node symbols) = λ ready sound light has.
+  kept_behind (Command.Edges es) = by_topology 3 (omega arith) _
+  kept_behind (Command.Only node symbols) = λ ready sound light has.
       let k = is.known.setting in
       changed s is (ready (omega arith)) 4
       (record {
@@ -123,11 +108,11 @@ module _ (d : Draft) (is : IsScriptOf (parts_of d)) where
         alphabet = k.alphabet;
       })
       is.known.weights is.known.limits
-  kept_behind (command.Weights ns) = λ ready sound light has. changed s is (ready (omega arith)) 5 is.known.setting sound is.known.limits
-  kept_behind (command.Limits radius period pivots) = λ ready sound light has. changed s is (ready (omega arith)) 6 is.known.setting is.known.weights sound
-  kept_behind (command.Rule name f) = λ ready sound light has. past 7 (omega arith) (more_defined s is (one_more (word_text d.context.text name) _ is.rules sound.1) (stay is.automata) (stay is.configurations))
-  kept_behind (command.Automaton name cases symbol) = λ ready sound light has. past 7 (omega arith) (more_defined s is (stay is.rules) (one_more (word_text d.context.text name) _ is.automata sound.1) (stay is.configurations))
-  kept_behind (command.Composition name outer inner) = λ ready sound light has. past 7 (omega arith) (more_defined s is (stay is.rules) (one_more (word_text d.context.text name) _ is.automata sound.1) (stay is.configurations))
-  kept_behind (command.Configuration name periods shear symbols) = λ ready sound light has. past 7 (omega arith) (more_defined s is (stay is.rules) (stay is.automata) (one_more (word_text d.context.text name) _ is.configurations sound.1))
-  kept_behind (command.Query r) = λ ready sound light has.
-      past 7 (omega arith) (more_asked s is (stay is.rules) (stay is.automata) (stay is.configurations) _ sound (unmapped (λ e. fault.Size (limit_of e)) (query_excess s _) light))
+  kept_behind (Command.Weights ns) = λ ready sound light has. changed s is (ready (omega arith)) 5 is.known.setting sound is.known.limits
+  kept_behind (Command.Limits radius period pivots) = λ ready sound light has. changed s is (ready (omega arith)) 6 is.known.setting is.known.weights sound
+  kept_behind (Command.Rule name f) = λ ready sound light has. past 7 (omega arith) (more_defined s is (one_more (word_text d.context.text name) _ is.rules sound.1) (stay is.automata) (stay is.configurations))
+  kept_behind (Command.Automaton name cases symbol) = λ ready sound light has. past 7 (omega arith) (more_defined s is (stay is.rules) (one_more (word_text d.context.text name) _ is.automata sound.1) (stay is.configurations))
+  kept_behind (Command.Composition name outer inner) = λ ready sound light has. past 7 (omega arith) (more_defined s is (stay is.rules) (one_more (word_text d.context.text name) _ is.automata sound.1) (stay is.configurations))
+  kept_behind (Command.Configuration name periods shear symbols) = λ ready sound light has. past 7 (omega arith) (more_defined s is (stay is.rules) (stay is.automata) (one_more (word_text d.context.text name) _ is.configurations sound.1))
+  kept_behind (Command.Query r) = λ ready sound light has.
+      past 7 (omega arith) (more_asked s is (stay is.rules) (stay is.automata) (stay is.configurations) _ sound (unmapped (λ e. Fault.Size (limit_of e)) (query_excess s _) light))

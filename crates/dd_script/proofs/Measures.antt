@@ -1,18 +1,11 @@
 -- The strips, weights and vectors of a script's queries are those that densities and discharging ask for.
-use Rattle.std.proofs.Common.{◌≡◌, ℕ, zero, suc, ◌≤◌, Bool, true, false, List, refl, ap, sym, subst, ◌∙◌, arith}
+use Rattle.std.proofs.Common.{◌≡◌, ℕ, zero, suc, ◌≤◌, Bool, true, false, List, refl, ap, sym, subst, ◌∙◌, arith, ◌||◌, ◌&&◌, nat_lt, nat_le, cond, unsigned_abs}
 use lib.IntN.{ℤ, pos, negsuc}
-use Rattle.std.specs.Prelude.{◌||◌, ◌&&◌, nat_lt, nat_le, cond, unsigned_abs}
-use Rattle.std.specs.Bool.{Decides}
-use Rattle.std.specs.Ordering.{int_eq, is_eq}
-use Rattle.std.specs.declared.cmp.Ordering.{Ordering}
+use Rattle.std.specs.{Bool.Decides, Ordering.int_eq, Ordering.is_eq, declared.cmp.Ordering.Ordering}
 use Rattle.std.specs.declared.cmp.Ordering.TheVariants.{Less, Equal, Greater}
-use Rattle.std.proofs.lemmas.Bool.{and_parts, and_from, leb-true}
-use Rattle.std.proofs.lemmas.Cmp.{tied_itself}
-use Rattle.std.proofs.lemmas.List.Elements.{All-weaker}
-use Rattle.std.proofs.lemmas.List.Sums.{AllPass-from_list_all}
-use Rattle.std.proofs.lemmas.Map.Made.{IsDistinct-from_AllPairs}
-use Rattle.dd_lattice.specs.Place.{Place}
-use Rattle.dd_lattice.specs.Order.{place_cmp}
+use Rattle.std.proofs.lemmas.{Bool.and_parts, Bool.and_from, Bool.leb-true, Cmp.tied_itself, List.Elements.All-weaker}
+use Rattle.std.proofs.lemmas.{List.Sums.AllPass-from_list_all, Map.Made.IsDistinct-from_AllPairs}
+use Rattle.dd_lattice.specs.{Place.Place, Order.place_cmp}
 use Rattle.dd_lattice.specs.lemmas.InOrderLaws.{place_total, places_equal}
 use Rattle.dd_topology.specs.Grid.{edge_reach, is_offset}
 use Rattle.dd_formula.specs.LocalRule.{LocalRule}

@@ -1,11 +1,9 @@
 -- Bytes have a tree, or a first fault.
 use Rattle.std.proofs.Common.{◌≡◌, ◌⊎◌, ℕ, zero, suc, List, [], ◌∷◌, Option, Some, None, refl, sym, ◌∙◌, inl, inr}
-use Rattle.dd_written.specs.declared.lexeme.Lexeme.{Lexeme}
+use Rattle.dd_faults.specs.Tree.{Lexeme, Written, Syntax}
 use Rattle.dd_written.specs.Lexemes.{lexemes_of}
 use Rattle.dd_written.specs.reading.Laws.{FormulasAreRead}
 use Rattle.dd_written.specs.lemmas.Options.{nothing_some}
-use Rattle.dd_commands.specs.declared.script.Written.{Written}
-use Rattle.dd_commands.specs.declared.script.Syntax.{Syntax}
 use Rattle.dd_commands.specs.Scripts.{parts, stage_after, MayStand, AreCommands, IsFirstBad, IsScript, IsSyntaxFault}
 use Rattle.dd_commands.specs.reading.Parts.{written_of}
 use Rattle.dd_commands.specs.lemmas.Whole.{written_sound, written_again}

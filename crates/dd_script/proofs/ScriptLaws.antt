@@ -1,8 +1,7 @@
 -- Bytes spell one script, or are refused in one way, and never both.
 use Rattle.std.proofs.Common.{◌≡◌, ◌⊎◌, ℕ, List, Option, Some, None, refl, sym, ap, ◌∙◌, inl, inr}
-use Rattle.dd_commands.specs.declared.script.Syntax.{Syntax}
+use Rattle.dd_faults.specs.Tree.{Syntax, Fault}
 use Rattle.dd_commands.specs.Scripts.{IsScript, IsSyntaxFault}
-use Rattle.dd_faults.specs.declared.fault.Fault.TheVariants as fault
 use Rattle.dd_script.specs.Parts.{Parts}
 use Rattle.dd_script.specs.Walk.{Located, located, first_located_fault, script_of, Fault}
 use Rattle.dd_script.specs.Scripts.{Spells, RefusalKind, syntax, kind_of, HasFault, RefusedAs}
@@ -69,7 +68,7 @@ abbrev SpelledOrRefused : List ℕ → Type 0
 SpelledOrRefused bytes = ((s : Parts) × Spells bytes s) ⊎ ((n : ℕ) × (k : RefusalKind) × RefusedAs bytes n k)
 
 has_fault : (bytes : List ℕ) (n : ℕ) (f : Fault) → HasFault bytes n (kind_of bytes f) → RefusedAs bytes n (kind_of bytes f)
-has_fault bytes n fault.Dimension has = has
+has_fault bytes n Fault.Dimension has = has
 has_fault bytes n f has = has
 
 by_first : (bytes : List ℕ) (tree : Syntax) → IsScript bytes tree → (found : Option Located) → first_located_fault bytes tree.commands ≡ found → SpelledOrRefused bytes

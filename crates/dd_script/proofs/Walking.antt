@@ -1,33 +1,23 @@
 -- Going through the commands, one after the other.
-use Rattle.std.proofs.Common.{◌≡◌, ℕ, ◌+◌, ◌<◌, ◌≤◌, true, false, List, [], ◌∷◌, ◌++◌, length, drop, get_or, Option, Some, None, Result, Ok, Err, refl, sym, ap, subst, ◌∙◌, arith}
-use Rattle.std.specs.Prelude.{All, IfOk, MatchResult, nat_lt, if◌then◌else◌}
+use Rattle.std.proofs.Common.{◌≡◌, ℕ, ◌+◌, ◌<◌, ◌≤◌, true, false, List, [], ◌∷◌, ◌++◌, length, drop, get_or, Option, Some, None, Result, Ok, Err, refl, sym, ap, subst, ◌∙◌, arith, All, IfOk, MatchResult, nat_lt, if◌then◌else◌}
 use Rattle.std.specs.Option.{option_or, option_map}
-use Rattle.std.proofs.lemmas.Bool.{ltb-false}
-use Rattle.std.proofs.lemmas.List.{drop_more}
-use Rattle.std.proofs.lemmas.List.Elements.{All-get_or}
-use Rattle.dd_written.specs.declared.lexeme.Lexeme.{Lexeme}
+use Rattle.std.proofs.lemmas.{Bool.ltb-false, List.drop_more, List.Elements.All-get_or}
+use Rattle.dd_faults.specs.Tree.{Lexeme, Syntax, Limit, Refusal}
 use Rattle.dd_written.specs.Lexemes.{lexemes_of}
-use Rattle.dd_commands.specs.declared.script.Syntax.{Syntax}
 use Rattle.dd_commands.specs.Heads.{head_of, is_once}
 use Rattle.dd_commands.specs.Scripts.{parts, stage_after, AreCommands, IsScript, IsWritten}
-use Rattle.dd_faults.specs.declared.fault.Limit.TheVariants as limit
-use Rattle.dd_faults.specs.declared.fault.Refusal.{Refusal}
-use Rattle.dd_faults.specs.declared.fault.Refusal.TheVariants as refusal
 use Rattle.dd_faults.specs.Order.{over, Accepts, Refuses}
 use Rattle.dd_faults.specs.lemmas.Nothing.{both_nil, within, none_first}
 use Rattle.dd_meanings.specs.Sound.{IsSoundMeaning}
-use Rattle.dd_script.specs.declared.draft.Draft.{Draft}
-use Rattle.dd_script.specs.Parts.{Parts, Automaton}
-use Rattle.dd_script.specs.Kept.{IsScriptOf}
+use Rattle.dd_script.specs.{declared.draft.Draft.Draft, Parts.Parts, Parts.Automaton, Kept.IsScriptOf}
 use Rattle.dd_script.specs.Walk.{start, asked_fault, Located, located, first_from, after_all, has_topology, first_located_fault, script_of, Written, stage_of, Fault, first_fault, written_faults, Meaning, meaning_of, counted_sizes}
-use Rattle.dd_script.specs.Scripts.{Spells, kind_of, HasFault}
-use Rattle.dd_script.specs.drafting.Standing.{IsReady}
+use Rattle.dd_script.specs.{Scripts.Spells, Scripts.kind_of, Scripts.HasFault, drafting.Standing.IsReady}
 use Rattle.dd_script.specs.drafting.Drafts.{parts_of, draft_of, with_meaning, fault_at, behind, Means, Leaves}
 use Rattle.dd_script.proofs.Kept.{HasSets, kept_behind}
 
 -- a command without a fault is one of the first thousand
-counted : (n : ℕ) (fs : List Fault) → over (nat_lt 1000 n) limit.Commands ++ fs ≡ [] → n ≤ 1000
-counted n fs e = ltb-false 1000 n (within (nat_lt 1000 n) limit.Commands (both_nil (over (nat_lt 1000 n) limit.Commands) fs e).0)
+counted : (n : ℕ) (fs : List Fault) → over (nat_lt 1000 n) Limit.Commands ++ fs ≡ [] → n ≤ 1000
+counted n fs e = ltb-false 1000 n (within (nat_lt 1000 n) Limit.Commands (both_nil (over (nat_lt 1000 n) Limit.Commands) fs e).0)
 
 -- ---- behind one command
 
@@ -53,8 +43,8 @@ module _ (d : Draft) (w : Written) (fs : List Automaton) (same : fs ≡ d.made.a
   pub weighed : IsSoundMeaning d.context m → (r : Result Meaning Refusal) → Accepts r (asked_fault (parts_of d) m) → IfOk r (λ given. given ≡ m) →
       MatchResult r (Means d w) (λ e. Refuses e (fault_at d w))
   weighed sound (Ok given) light given_is = subst (Means d w) (sym given_is) (means sound light)
-  weighed sound (Err refusal.Memory) h given_is = tt
-  weighed sound (Err (refusal.At f)) h given_is = asked_is (Some f) h
+  weighed sound (Err Refusal.Memory) h given_is = tt
+  weighed sound (Err (Refusal.At f)) h given_is = asked_is (Some f) h
 
 pub leaves : (d : Draft) (w : Written) (m : Meaning) → Means d w m → IsScriptOf (parts_of d) → IsReady (stage_of w) (parts_of d) → (e : Draft) → e ≡ with_meaning d m → HasSets e.context.known
     → Leaves d w (record e { context = record (e.context) { number = e.context.number + 1 } })

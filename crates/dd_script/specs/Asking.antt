@@ -1,11 +1,8 @@
 -- What is known of each question that a script asks.
-use Rattle.std.specs.Prelude.{◌≡◌, Some}
-use Rattle.std.specs.List.{Contains}
+use Rattle.std.specs.{Prelude.◌≡◌, Prelude.Some, List.Contains}
 use Rattle.dd_question.specs.Questions.{Asked, membership, box, equality, listing, density, discharge}
 use Rattle.dd_question.specs.Sound.{IsSoundAsked}
-use Rattle.dd_script.specs.Kept.{IsRuleOf}
-use Rattle.dd_script.specs.Parts.{Parts, Known, Query}
-use Rattle.dd_script.specs.Questions.{asked}
+use Rattle.dd_script.specs.{Kept.IsRuleOf, Parts.Parts, Parts.Known, Parts.Query, Questions.asked}
 
 -- the rules that a question is about are the script's
 abbrev pub AreOf : Known → Asked → Type 0

@@ -4,8 +4,7 @@ use Rattle.std.specs.List.{All}
 pub use Rattle.dd_formula.specs.Automata.{IsAutomaton}
 use Rattle.dd_faults.specs.Sound.{IsSound}
 pub use Rattle.dd_query.specs.Sound.{IsQueryWithin}
-pub use Rattle.dd_meanings.specs.Made.{script_numbers, IsRuleOf}
-pub use Rattle.dd_meanings.specs.Sound.{IsConfigurationOf}
+pub use Rattle.dd_meanings.specs.{Made.script_numbers, Made.IsRuleOf, Sound.IsConfigurationOf}
 use Rattle.dd_script.specs.Parts.{Parts, Query}
 pub use Rattle.dd_script.specs.Questions.{query_excess}
 

@@ -1,7 +1,6 @@
 -- The parts of a script.
 use Rattle.std.specs.Prelude.{List}
-pub use Rattle.dd_formula.specs.LocalRule.{LocalRule}
-pub use Rattle.dd_formula.specs.declared.automaton.Automaton.{Automaton}
+pub use Rattle.dd_formula.specs.{LocalRule.LocalRule, declared.automaton.Automaton.Automaton}
 pub use Rattle.dd_pattern.specs.Tile.{Tile}
 pub use Rattle.dd_faults.specs.declared.context.Known.{Known}
 pub use Rattle.dd_query.specs.declared.queries.Query.{Query}

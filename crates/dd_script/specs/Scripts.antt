@@ -1,13 +1,9 @@
 -- Which bytes spell a script, and how all others are refused.
 use Rattle.std.specs.Prelude.{ℕ, ◌≡◌, List, Some, None, string_bytes, codes}
 use Rattle.dd_written.specs.Values.{name_text}
-use Rattle.dd_commands.specs.declared.script.Syntax.{Syntax}
+use Rattle.dd_faults.specs.Tree.{Syntax, Fault}
 use Rattle.dd_commands.specs.Scripts.{IsScript, IsSyntaxFault}
-use Rattle.dd_faults.specs.declared.fault.Fault.TheVariants as fault
-use Rattle.dd_script.specs.declared.fault.ScriptKind.{ScriptKind}
-use Rattle.dd_script.specs.declared.fault.ScriptKind.TheVariants as refused
-use Rattle.dd_script.specs.declared.fault.ScriptFault.{ScriptFault}
-use Rattle.dd_script.specs.Parts.{Parts}
+use Rattle.dd_script.specs.{declared.fault.ScriptKind.ScriptKind, declared.fault.ScriptFault.ScriptFault, Parts.Parts}
 use Rattle.dd_script.specs.Walk.{located, first_located_fault, script_of, Limit, Fault}
 
 -- the bytes are a text of the grammar, with this meaning, and without a fault
@@ -27,11 +23,11 @@ pub data RefusalKind : Type 0 where
 
 -- the kind of a fault, with the text of the name
 abbrev pub kind_of : List ℕ → Fault → RefusalKind
-kind_of bytes (fault.Unknown name) = unknown (name_text bytes name)
-kind_of bytes (fault.Twice name) = twice (name_text bytes name)
-kind_of bytes fault.TwiceVector = twice (codes "vector")
-kind_of bytes fault.Dimension = dimension
-kind_of bytes (fault.Size l) = size l
+kind_of bytes (Fault.Unknown name) = unknown (name_text bytes name)
+kind_of bytes (Fault.Twice name) = twice (name_text bytes name)
+kind_of bytes Fault.TwiceVector = twice (codes "vector")
+kind_of bytes Fault.Dimension = dimension
+kind_of bytes (Fault.Size l) = size l
 
 -- the bytes are a text of the grammar, and the first fault of its commands is of this kind
 pub record HasFault (bytes : List ℕ) (n : ℕ) (k : RefusalKind) : Type 0 where
@@ -51,12 +47,12 @@ RefusedAs bytes n (size l) = HasFault bytes n (size l)
 
 -- refused so; or memory was wanting
 abbrev pub IsRefusedAs : List ℕ → ℕ → ScriptKind → Type 0
-IsRefusedAs bytes n refused.Syntax = RefusedAs bytes n syntax
-IsRefusedAs bytes n (refused.Unknown text) = RefusedAs bytes n (unknown (string_bytes text))
-IsRefusedAs bytes n (refused.Twice text) = RefusedAs bytes n (twice (string_bytes text))
-IsRefusedAs bytes n refused.Dimension = RefusedAs bytes n dimension
-IsRefusedAs bytes n (refused.Size l) = RefusedAs bytes n (size l)
-IsRefusedAs bytes n refused.Memory = n ≡ 0
+IsRefusedAs bytes n ScriptKind.Syntax = RefusedAs bytes n syntax
+IsRefusedAs bytes n (ScriptKind.Unknown text) = RefusedAs bytes n (unknown (string_bytes text))
+IsRefusedAs bytes n (ScriptKind.Twice text) = RefusedAs bytes n (twice (string_bytes text))
+IsRefusedAs bytes n ScriptKind.Dimension = RefusedAs bytes n dimension
+IsRefusedAs bytes n (ScriptKind.Size l) = RefusedAs bytes n (size l)
+IsRefusedAs bytes n ScriptKind.Memory = n ≡ 0
 
 abbrev pub IsScriptRefusal : List ℕ → ScriptFault → Type 0
 IsScriptRefusal bytes e = IsRefusedAs bytes e.command e.kind

@@ -1,28 +1,15 @@
 -- The commands of a script one after the other: what each leaves, and the first fault.
 use Rattle.std.specs.Prelude.{ℕ, ◌+◌, List, [], ◌∷◌, ◌++◌, length, Bool, false, ◌==◌, Option, None, codes}
-use Rattle.std.specs.List.{list_any, range_with_len}
-use Rattle.std.specs.Option.{option_or, option_map}
-use Rattle.dd_topology.specs.Builtin.{square}
-use Rattle.dd_topology.specs.Sets.{all_symbols, restricted}
+use Rattle.std.specs.{List.list_any, List.range_with_len, Option.option_or, Option.option_map}
+use Rattle.dd_topology.specs.{Builtin.square, Sets.all_symbols, Sets.restricted}
 pub use Rattle.dd_written.specs.Values.{word_text}
-use Rattle.dd_commands.specs.declared.head.Head.TheVariants as head
-pub use Rattle.dd_commands.specs.declared.script.Written.{Written}
+use Rattle.dd_faults.specs.Tree.{Head, Limit, Fault, Context}
+pub use Rattle.dd_commands.specs.{declared.script.Written.Written, Scripts.stage_of}
 use Rattle.dd_commands.specs.Heads.{stage}
-pub use Rattle.dd_commands.specs.Scripts.{stage_of}
-pub use Rattle.dd_faults.specs.declared.fault.Limit.{Limit}
-use Rattle.dd_faults.specs.declared.fault.Limit.TheVariants as limit
-pub use Rattle.dd_faults.specs.declared.fault.Fault.{Fault}
-use Rattle.dd_faults.specs.declared.fault.Fault.TheVariants as fault
-use Rattle.dd_faults.specs.declared.context.Context.{Context}
-pub use Rattle.dd_faults.specs.Order.{first_fault}
-pub use Rattle.dd_faults.specs.Commands.{written_faults}
-pub use Rattle.dd_meanings.specs.declared.meaning.Meaning.{Meaning}
-use Rattle.dd_meanings.specs.declared.meaning.Meaning.TheVariants as meaning
-pub use Rattle.dd_meanings.specs.Meanings.{meaning as meaning_of, counted_sizes}
+pub use Rattle.dd_faults.specs.{declared.fault.Limit.Limit, declared.fault.Fault.Fault, Order.first_fault, Commands.written_faults}
+pub use Rattle.dd_meanings.specs.{declared.meaning.Meaning.Meaning, Meanings.meaning as meaning_of, Meanings.counted_sizes}
 use Rattle.dd_question.specs.declared.excess.Excess.{Excess}
-use Rattle.dd_question.specs.declared.excess.Excess.TheVariants as excess
-use Rattle.dd_script.specs.Questions.{query_excess}
-use Rattle.dd_script.specs.Parts.{Parts, Known}
+use Rattle.dd_script.specs.{Questions.query_excess, Parts.Parts, Parts.Known}
 
 -- ---- where a script has said nothing
 
@@ -56,26 +43,26 @@ unrestricted k =
 -- The script with a command more, of this meaning. Where nodes or symbols change, each node allows each symbol anew; and
 -- where symbols change, the weight of each is its number.
 abbrev pub with : List ℕ → Parts → Meaning → Parts
-with bytes s (meaning.Topology g) = record s { known = record (s.known) { setting = record (s.known.setting) { topology = g } } }
-with bytes s (meaning.Nodes nodes given g) =
+with bytes s (Meaning.Topology g) = record s { known = record (s.known) { setting = record (s.known.setting) { topology = g } } }
+with bytes s (Meaning.Nodes nodes given g) =
     record s { known = unrestricted (record (s.known) { setting = record (s.known.setting) { nodes = nodes; topology = g }; nodes_are_given = given }) }
-with bytes s (meaning.Symbols symbols) =
+with bytes s (Meaning.Symbols symbols) =
     record s { known = unrestricted (record (s.known) { setting = record (s.known.setting) { symbols = symbols }; weights = range_with_len 0 (length symbols) }) }
-with bytes s (meaning.Only node symbols) =
+with bytes s (Meaning.Only node symbols) =
     record s {
       known = record (s.known) {
         setting = record (s.known.setting) { sets = restricted s.known.setting.sets node symbols };
         restricted = s.known.restricted ++ node ∷ [];
       };
     }
-with bytes s (meaning.Weights weights) = record s { known = record (s.known) { weights = weights } }
-with bytes s (meaning.Limits limits) = record s { known = record (s.known) { limits = limits } }
-with bytes s (meaning.Rule name rule) = record s { known = record (s.known) { rules = s.known.rules ++ word_text bytes name ∷ [] }; rules = s.rules ++ rule ∷ [] }
-with bytes s (meaning.Automaton name automaton) =
+with bytes s (Meaning.Weights weights) = record s { known = record (s.known) { weights = weights } }
+with bytes s (Meaning.Limits limits) = record s { known = record (s.known) { limits = limits } }
+with bytes s (Meaning.Rule name rule) = record s { known = record (s.known) { rules = s.known.rules ++ word_text bytes name ∷ [] }; rules = s.rules ++ rule ∷ [] }
+with bytes s (Meaning.Automaton name automaton) =
     record s { known = record (s.known) { automata = s.known.automata ++ word_text bytes name ∷ [] }; automata = s.automata ++ automaton ∷ [] }
-with bytes s (meaning.Configuration name configuration) =
+with bytes s (Meaning.Configuration name configuration) =
     record s { known = record (s.known) { configurations = s.known.configurations ++ word_text bytes name ∷ [] }; configurations = s.configurations ++ configuration ∷ [] }
-with bytes s (meaning.Query query) = record s { queries = s.queries ++ query ∷ [] }
+with bytes s (Meaning.Query query) = record s { queries = s.queries ++ query ∷ [] }
 
 -- ---- one command after the other
 
@@ -85,22 +72,22 @@ context bytes topology n s = record { text = bytes; has_topology = topology; num
 
 -- an excess, among the limits of scripts
 abbrev pub limit_of : Excess → Limit
-limit_of excess.Clauses = limit.Clauses
-limit_of excess.Patterns = limit.Patterns
-limit_of excess.States = limit.States
+limit_of Excess.Clauses = Limit.Clauses
+limit_of Excess.Patterns = Limit.Patterns
+limit_of Excess.States = Limit.States
 
 -- the limit that what is asked passes, where something is asked
 abbrev pub asked_fault : Parts → Meaning → Option Fault
-asked_fault s (meaning.Topology g) = None
-asked_fault s (meaning.Nodes nodes given g) = None
-asked_fault s (meaning.Symbols symbols) = None
-asked_fault s (meaning.Only node symbols) = None
-asked_fault s (meaning.Weights weights) = None
-asked_fault s (meaning.Limits limits) = None
-asked_fault s (meaning.Rule name rule) = None
-asked_fault s (meaning.Automaton name automaton) = None
-asked_fault s (meaning.Configuration name configuration) = None
-asked_fault s (meaning.Query query) = option_map (λ e. fault.Size (limit_of e)) (query_excess s query)
+asked_fault s (Meaning.Topology g) = None
+asked_fault s (Meaning.Nodes nodes given g) = None
+asked_fault s (Meaning.Symbols symbols) = None
+asked_fault s (Meaning.Only node symbols) = None
+asked_fault s (Meaning.Weights weights) = None
+asked_fault s (Meaning.Limits limits) = None
+asked_fault s (Meaning.Rule name rule) = None
+asked_fault s (Meaning.Automaton name automaton) = None
+asked_fault s (Meaning.Configuration name configuration) = None
+asked_fault s (Meaning.Query query) = option_map (λ e. Fault.Size (limit_of e)) (query_excess s query)
 
 abbrev pub meaning_at : List ℕ → Bool → ℕ → Parts → Written → Meaning
 meaning_at bytes topology n s w = meaning_of (context bytes topology n s) s.automata w.command
@@ -135,7 +122,7 @@ after_all bytes topology n s (w ∷ ws) = after_all bytes topology (n + 1) (next
 
 -- whether it is a topology command, by its place
 abbrev pub is_topology : Written → Bool
-is_topology w = stage_of w == stage head.Topology
+is_topology w = stage_of w == stage Head.Topology
 
 abbrev pub has_topology : List Written → Bool
 has_topology ws = list_any is_topology ws

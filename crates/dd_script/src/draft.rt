@@ -2,14 +2,10 @@
 ghost use Rattle.std.specs.Prelude.{◌≡◌, ◌++◌, [], ◌∷◌, Contains, OnOk, OnErr, IfOk, IfErr, MatchResult};
 ghost use Rattle.dd_written.specs.Values.{word_text};
 ghost use Rattle.dd_commands.specs.Scripts.{IsWritten, stage_of};
-ghost use Rattle.dd_faults.specs.Order.{Accepts, Refuses};
-ghost use Rattle.dd_faults.specs.Sound.{IsSound};
+ghost use Rattle.dd_faults.specs.{Order.Accepts, Order.Refuses, Sound.IsSound};
 ghost use Rattle.dd_query.specs.Sound.{IsQueryWithin};
-ghost use Rattle.dd_meanings.specs.declared.meaning.Meaning.TheVariants as meant;
 ghost use Rattle.dd_meanings.specs.Sound.{IsSoundMeaning};
-ghost use Rattle.dd_script.specs.Kept.{IsScriptOf};
-ghost use Rattle.dd_script.specs.Walk.{start, asked_fault};
-ghost use Rattle.dd_script.specs.drafting.Standing.{IsReady};
+ghost use Rattle.dd_script.specs.{Kept.IsScriptOf, Walk.start, Walk.asked_fault, drafting.Standing.IsReady};
 ghost use Rattle.dd_script.specs.drafting.Drafts.{parts_of, draft_of, with_meaning, fault_at, Means, Leaves};
 
 use crate::known::{restrict, set_nodes, set_symbols, start};
@@ -140,7 +136,7 @@ impl Draft {
     fn check_query(&self, alloc: Global, query: &Query) -> Result<(), Refusal>
         requires script { IsScriptOf (parts_of self.now) }
         requires within { IsQueryWithin self.now.context.known query.now }
-        ensures { Accepts result (asked_fault (parts_of self.now) (meant.Query query.now)) }
+        ensures { Accepts result (asked_fault (parts_of self.now) (Meaning.Query query.now)) }
     {
         let known = &self.context.known;
         match question_of(known, &self.made, query).excess(alloc, &known.limits)? {

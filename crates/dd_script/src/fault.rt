@@ -1,6 +1,5 @@
 //! Why a text is no script.
 ghost use Rattle.std.specs.Prelude.{◌≡◌};
-ghost use Rattle.dd_script.specs.declared.fault.ScriptKind.TheVariants as refused;
 ghost use Rattle.dd_script.specs.drafting.Drafts.{IsUnread};
 
 use dd_commands::SyntaxFault;
@@ -41,7 +40,7 @@ pub struct ScriptFault {
 }
 
 impl From<AllocError> for ScriptFault {
-    ghost from_gives = { λ _ fault. fault ≡ record { command = 0; kind = refused.Memory } };
+    ghost from_gives = { λ _ fault. fault ≡ record { command = 0; kind = ScriptKind.Memory } };
 
     fn from(_error: AllocError) -> ScriptFault {
         ScriptFault {

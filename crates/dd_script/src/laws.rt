@@ -1,8 +1,7 @@
 //! What bytes spell is determined by them.
 ghost use Rattle.std.specs.Prelude.{◌≡◌, ◌≤◌, ◌⊎◌, ℕ, List, length};
 ghost use Rattle.dd_values.specs.Bounds.{most_script};
-ghost use Rattle.dd_script.specs.Parts.{Parts};
-ghost use Rattle.dd_script.specs.Scripts.{Spells, RefusedAs, RefusalKind};
+ghost use Rattle.dd_script.specs.{Parts.Parts, Scripts.Spells, Scripts.RefusedAs, Scripts.RefusalKind};
 
 use dd_commands::{one_fault, one_tree, tree_or_fault};
 use dd_written::formula_is_read;

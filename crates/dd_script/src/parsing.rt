@@ -3,8 +3,7 @@ ghost use Rattle.std.specs.Prelude.{◌≡◌, ◌≤◌, length, All, IfOk, IfE
 ghost use Rattle.dd_values.specs.Bounds.{most_script};
 ghost use Rattle.dd_commands.specs.Scripts.{IsScript, IsWritten};
 ghost use Rattle.dd_script.specs.Scripts.{Spells, HasFault, kind_of, IsScriptRefusal};
-ghost use Rattle.dd_script.specs.Kept.{IsScriptOf};
-ghost use Rattle.dd_script.specs.Walk.{start, is_topology, has_topology};
+ghost use Rattle.dd_script.specs.{Kept.IsScriptOf, Walk.start, Walk.is_topology, Walk.has_topology};
 ghost use Rattle.dd_script.specs.drafting.Drafts.{parts_of, draft_of};
 
 use crate::draft::Draft;

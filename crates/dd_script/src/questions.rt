@@ -2,9 +2,7 @@
 ghost use Rattle.std.specs.Prelude.{◌≡◌, Some, length};
 ghost use Rattle.dd_query.specs.Sound.{IsQueryWithin};
 ghost use Rattle.dd_question.specs.Views.{asked_of};
-ghost use Rattle.dd_script.specs.Parts.{parts};
-ghost use Rattle.dd_script.specs.Questions.{asked};
-ghost use Rattle.dd_script.specs.Walk.{limit_of};
+ghost use Rattle.dd_script.specs.{Parts.parts, Questions.asked, Walk.limit_of};
 
 use crate::script::Made;
 use dd_boxes::Goal;

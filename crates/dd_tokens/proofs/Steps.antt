@@ -1,9 +1,7 @@
 -- What is left to cut, before and after a piece.
 use Rattle.std.proofs.Common.{◌≡◌, ℕ, zero, suc, ◌+◌, ◌-◌, ◌<◌, ◌≤◌, List, [], ◌∷◌, ◌++◌, length, drop, refl, sym, ap, ◌∙◌, append_assoc, arith}
-use Rattle.dd_tokens.specs.declared.piece.Piece.{Piece}
-use Rattle.dd_tokens.specs.declared.piece.Piece.TheVariants.{Gap, Cut}
-use Rattle.dd_tokens.specs.declared.token.TokenKind.{TokenKind}
-use Rattle.dd_tokens.specs.declared.token.Token.{Token}
+use Rattle.dd_tokens.specs.{declared.piece.Piece.Piece, declared.piece.Piece.TheVariants.Gap, declared.piece.Piece.TheVariants.Cut}
+use Rattle.dd_tokens.specs.{declared.token.TokenKind.TokenKind, declared.token.Token.Token}
 use Rattle.dd_tokens.specs.Format.{tokens_after, first, with_piece, piece_size, with_front, IsPieceWithin}
 
 -- the bytes that belong to a piece are passed over

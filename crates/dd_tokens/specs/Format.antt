@@ -2,9 +2,7 @@
 use Rattle.std.specs.Prelude.{ℕ, zero, suc, ◌+◌, ◌-◌, List, [], ◌∷◌, ◌++◌, ◌<◌, ◌≤◌, Bool, false, ◌&&◌, ◌||◌, not, ◌==◌, nat_le, if◌then◌else◌, drop}
 use Rattle.std.specs.List.{prefix_len, list_any}
 use Rattle.dd_tokens.specs.declared.token.TokenKind.TheVariants.{Word, Number, Negative, Mark}
-use Rattle.dd_tokens.specs.declared.token.Token.{Token}
-use Rattle.dd_tokens.specs.declared.token.Tokens.{Tokens}
-use Rattle.dd_tokens.specs.declared.piece.Piece.{Piece}
+use Rattle.dd_tokens.specs.{declared.token.Token.Token, declared.token.Tokens.Tokens, declared.piece.Piece.Piece}
 use Rattle.dd_tokens.specs.declared.piece.Piece.TheVariants.{Gap, Cut, Fault}
 
 -- space, tab, line feed, carriage return

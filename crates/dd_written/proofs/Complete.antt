@@ -1,85 +1,66 @@
 -- What is written of formulas is read, unless what follows would go on.
-use Rattle.std.proofs.Common.{◌≡◌, ℕ, zero, suc, ◌-◌, ◌+◌, ◌≤◌, ◌<◌, Bool, true, false, List, [], ◌∷◌, ◌++◌, map, length, drop, Option, Some, refl, sym, ap, subst, ◌∙◌, append_assoc, arith}
-use Rattle.std.specs.Prelude.{nat_le, ◌&&◌}
+use Rattle.std.proofs.Common.{◌≡◌, ℕ, zero, suc, ◌-◌, ◌+◌, ◌≤◌, ◌<◌, Bool, true, false, List, [], ◌∷◌, ◌++◌, map, length, drop, Option, Some, refl, sym, ap, subst, ◌∙◌, append_assoc, arith, nat_le, ◌&&◌}
 use Rattle.std.specs.List.{flat_map, list_all, AllByRecursion}
 use Rattle.std.proofs.lemmas.Bool.{and_parts, ltb-true, le-leb, leb-true}
-use Rattle.std.proofs.lemmas.Bool.Decides.{nat_tests}
-use Rattle.std.proofs.lemmas.List.{length-append}
-use Rattle.dd_written.specs.declared.lexeme.Mark.TheVariants as mark
-use Rattle.dd_written.specs.declared.lexeme.Word.{Word}
-use Rattle.dd_written.specs.declared.lexeme.Lexeme.{Lexeme}
-use Rattle.dd_written.specs.declared.lexeme.Lexeme.TheVariants as lexeme
-use Rattle.dd_written.specs.declared.tree.Name.TheVariants as name
-use Rattle.dd_written.specs.declared.tree.Comparand.TheVariants as side
-use Rattle.dd_written.specs.declared.tree.Relation.{Relation}
-use Rattle.dd_written.specs.declared.tree.Relation.TheVariants as relation
-use Rattle.dd_written.specs.declared.tree.Atom.{Atom}
-use Rattle.dd_written.specs.declared.tree.Ball.{Ball}
-use Rattle.dd_written.specs.declared.tree.Quantifier.{Quantifier}
-use Rattle.dd_written.specs.declared.tree.Quantifier.TheVariants as quantifier
-use Rattle.dd_written.specs.declared.tree.Join.{Join}
-use Rattle.dd_written.specs.declared.tree.Join.TheVariants as join
-use Rattle.dd_written.specs.declared.tree.Formula.{Formula, roll-Formula}
-use Rattle.dd_written.specs.declared.tree.Formula.TheFolds.{map-Formula, ind-Formula}
-use Rattle.dd_written.specs.declared.tree.Formula.TheOpen.{Formula-F}
+use Rattle.std.proofs.lemmas.{Bool.Decides.nat_tests, List.length-append}
+use Rattle.dd_written.specs.Tree.{Word, Mark, Lexeme, Name, Comparand, Relation, Atom, Ball, Quantifier, Join, Formula, roll-Formula, Formula-F, map-Formula, ind-Formula}
 use Rattle.dd_written.specs.Formulas.{text, stands, tree_depth, chain_depth, move_text, relation_text, atom_text, ball_text, capital, sign, join_rank, IsWrittenFormula}
 use Rattle.dd_written.specs.reading.Readers.{Reader, ◌>>=◌}
 use Rattle.dd_written.specs.reading.Atoms.{moves_at, relation_at, leaf_at, balls_at, quantifier_end, quantifier_at}
 use Rattle.dd_written.specs.reading.Formulas.{begins, more_at, chain_at, join_at, level_at, quantified_at, group_end, nested_at, unary_at, formula_at, ends}
-use Rattle.dd_written.proofs.Layers.{text_of, stands_of, depth_of}
+use Rattle.dd_written.proofs.{Layers.text_of, Layers.stands_of, Layers.depth_of, Sound.more_text, Sound.rank_join}
 use Rattle.dd_written.specs.lemmas.Rounds.{none_more}
-use Rattle.dd_written.proofs.Sound.{more_text, rank_join}
 
 ends_low : (low place : ℕ) (rest : List Lexeme) → low ≤ place → ends place rest ≡ true → ends low rest ≡ true
-ends_low low place (lexeme.Mark mark.Dot ∷ tokens) le e = e
-ends_low low place (lexeme.Mark mark.And ∷ tokens) le e = grind (arith, nat_tests)
-ends_low low place (lexeme.Mark mark.Or ∷ tokens) le e = grind (arith, nat_tests)
-ends_low low place (lexeme.Mark mark.Arrow ∷ tokens) le e = grind (arith, nat_tests)
-ends_low low place (lexeme.Mark mark.BothWays ∷ tokens) le e = grind (arith, nat_tests)
+ends_low low place (Lexeme.Mark Mark.Dot ∷ tokens) le e = e
+ends_low low place (Lexeme.Mark Mark.And ∷ tokens) le e = grind (arith, nat_tests)
+ends_low low place (Lexeme.Mark Mark.Or ∷ tokens) le e = grind (arith, nat_tests)
+ends_low low place (Lexeme.Mark Mark.Arrow ∷ tokens) le e = grind (arith, nat_tests)
+ends_low low place (Lexeme.Mark Mark.BothWays ∷ tokens) le e = grind (arith, nat_tests)
 ends_low low place tokens le e = refl
 
 ends_begins : (j : Join) (place : ℕ) (rest : List Lexeme) → join_rank j ≤ place → ends place rest ≡ true → begins j rest ≡ false
-ends_begins join.And place (lexeme.Mark mark.And ∷ tokens) le e = absurd (omega (arith, le, ltb-true place 1 e))
-ends_begins join.Or place (lexeme.Mark mark.Or ∷ tokens) le e = absurd (omega (arith, le, ltb-true place 2 e))
-ends_begins join.Implies place (lexeme.Mark mark.Arrow ∷ tokens) le e = absurd (omega (arith, le, ltb-true place 3 e))
-ends_begins join.Iff place (lexeme.Mark mark.BothWays ∷ tokens) le e = absurd (omega (arith, le, ltb-true place 4 e))
+ends_begins Join.And place (Lexeme.Mark Mark.And ∷ tokens) le e = absurd (omega (arith, le, ltb-true place 1 e))
+ends_begins Join.Or place (Lexeme.Mark Mark.Or ∷ tokens) le e = absurd (omega (arith, le, ltb-true place 2 e))
+ends_begins Join.Implies place (Lexeme.Mark Mark.Arrow ∷ tokens) le e = absurd (omega (arith, le, ltb-true place 3 e))
+ends_begins Join.Iff place (Lexeme.Mark Mark.BothWays ∷ tokens) le e = absurd (omega (arith, le, ltb-true place 4 e))
 ends_begins j place tokens le e = refl
 
 -- a sign stands behind a formula of a tighter place
-sign_there : (j : Join) (place : ℕ) (tokens : List Lexeme) → place < join_rank j → (ends place (lexeme.Mark (sign j) ∷ tokens) ≡ true) × (begins j (lexeme.Mark (sign j) ∷ tokens) ≡ true)
-sign_there join.And place tokens lt = (le-leb (suc place) 1 lt, refl)
-sign_there join.Or place tokens lt = (le-leb (suc place) 2 lt, refl)
-sign_there join.Implies place tokens lt = (le-leb (suc place) 3 lt, refl)
-sign_there join.Iff place tokens lt = (le-leb (suc place) 4 lt, refl)
+sign_there : (j : Join) (place : ℕ) (tokens : List Lexeme) → place < join_rank j → (ends place (Lexeme.Mark (sign j) ∷ tokens) ≡ true) × (begins j (Lexeme.Mark (sign j) ∷ tokens) ≡ true)
+sign_there Join.And place tokens lt = (le-leb (suc place) 1 lt, refl)
+sign_there Join.Or place tokens lt = (le-leb (suc place) 2 lt, refl)
+sign_there Join.Implies place tokens lt = (le-leb (suc place) 3 lt, refl)
+sign_there Join.Iff place tokens lt = (le-leb (suc place) 4 lt, refl)
 
 -- ---- atoms and quantifiers
 
 moves_again : (labels : List Word) (place : ℕ) (rest : List Lexeme) → ends place rest ≡ true → moves_at (flat_map move_text labels ++ rest) ≡ (labels, rest)
-moves_again [] place (lexeme.Mark mark.Dot ∷ tokens) e = absurd cc
+moves_again [] place (Lexeme.Mark Mark.Dot ∷ tokens) e = absurd cc
 moves_again [] place rest e = refl
 moves_again (label ∷ labels) place rest e = ap (λ (x : List Word × List Lexeme). (label ∷ x.0, x.1)) (moves_again labels place rest e)
 
 relation_again : (r : Relation) (rest : List Lexeme) → ends 0 rest ≡ true → (ends 0 (relation_text r ++ rest) ≡ true) × (relation_at (relation_text r ++ rest) ≡ Some (r, rest))
-relation_again (relation.Equal (side.Number n)) rest e = (refl, refl)
-relation_again (relation.Equal (side.Term t)) rest e = (refl, rw (moves_again t.moves 0 rest e) refl)
-relation_again (relation.NotEqual (side.Number n)) rest e = (refl, refl)
-relation_again (relation.NotEqual (side.Term t)) rest e = (refl, rw (moves_again t.moves 0 rest e) refl)
-relation_again (relation.Adjacent t) rest e = (refl, rw (moves_again t.moves 0 rest e) refl)
-relation_again (relation.Same t) rest e = (refl, rw (moves_again t.moves 0 rest e) refl)
-relation_again (relation.AtNode (name.Word w)) rest e = (refl, refl)
-relation_again (relation.AtNode (name.Number n)) rest e = (refl, refl)
+relation_again (Relation.Equal (Comparand.Number n)) rest e = (refl, refl)
+relation_again (Relation.Equal (Comparand.Term t)) rest e = (refl, rw (moves_again t.moves 0 rest e) refl)
+relation_again (Relation.NotEqual (Comparand.Number n)) rest e = (refl, refl)
+relation_again (Relation.NotEqual (Comparand.Term t)) rest e = (refl, rw (moves_again t.moves 0 rest e) refl)
+relation_again (Relation.Adjacent t) rest e = (refl, rw (moves_again t.moves 0 rest e) refl)
+relation_again (Relation.Same t) rest e = (refl, rw (moves_again t.moves 0 rest e) refl)
+relation_again (Relation.AtNode (Name.Word w)) rest e = (refl, refl)
+relation_again (Relation.AtNode (Name.Number n)) rest e = (refl, refl)
 
 atom_again : (a : Atom) (rest : List Lexeme) → ends 0 rest ≡ true → leaf_at (atom_text a ++ rest) ≡ Some (roll-Formula (Formula-F.Atom a), rest)
 atom_again a rest e =
     let r = relation_again a.relation rest e in
     rw (append_assoc (flat_map move_text a.term.moves) (relation_text a.relation) rest, moves_again a.term.moves 0 (relation_text a.relation ++ rest) r.0, r.1) refl
 
-balls_again : (balls : List Ball) (rest : List Lexeme) → balls_at (flat_map ball_text balls ++ lexeme.Mark mark.CloseList ∷ rest) ≡ (balls, lexeme.Mark mark.CloseList ∷ rest)
+balls_again : (balls : List Ball) (rest : List Lexeme) → balls_at (flat_map ball_text balls ++ Lexeme.Mark Mark.CloseList ∷ rest) ≡ (balls, Lexeme.Mark Mark.CloseList ∷ rest)
 balls_again [] rest = refl
 balls_again (b ∷ balls) rest = ap (λ (x : List Ball × List Lexeme). (b ∷ x.0, x.1)) (balls_again balls rest)
 
 quantifier_again : (variable : Word) (b : Ball) (balls : List Ball) (rest : List Lexeme)
-    → quantifier_at (lexeme.Word variable ∷ lexeme.Mark mark.OpenList ∷ (flat_map ball_text (b ∷ balls) ++ lexeme.Mark mark.CloseList ∷ rest)) ≡ Some ((variable, b ∷ balls), rest)
+    → quantifier_at (Lexeme.Word variable ∷ Lexeme.Mark Mark.OpenList ∷ (flat_map ball_text (b ∷ balls) ++ Lexeme.Mark Mark.CloseList ∷ rest)) ≡ Some ((variable, b ∷ balls), rest)
 quantifier_again variable b balls rest = ap (λ (x : List Ball × List Lexeme). quantifier_end variable x.0 x.1) (balls_again (b ∷ balls) rest)
 
 -- ---- chains
@@ -149,15 +130,15 @@ unary_atom : (budget : ℕ) (a : Atom) (rest : List Lexeme) → unary_at budget 
 unary_atom zero a rest = refl
 unary_atom (suc budget) a rest = refl
 
-nested_quantifier : (unary : Reader Formula) (q : Quantifier) (tokens : List Lexeme) → nested_at unary (lexeme.Mark (capital q) ∷ tokens) ≡ quantified_at unary q tokens
-nested_quantifier unary quantifier.All tokens = refl
-nested_quantifier unary quantifier.Exists tokens = refl
+nested_quantifier : (unary : Reader Formula) (q : Quantifier) (tokens : List Lexeme) → nested_at unary (Lexeme.Mark (capital q) ∷ tokens) ≡ quantified_at unary q tokens
+nested_quantifier unary Quantifier.All tokens = refl
+nested_quantifier unary Quantifier.Exists tokens = refl
 
 quantified_again : (budget : ℕ) (q : Quantifier) (variable : Word) (balls : List Ball) (f : Formula) (rest : List Lexeme) → nat_le 1 (length balls) ≡ true → unary_at budget (text f ++ rest) ≡ Some (f, rest)
     → unary_at (suc budget) (text (roll-Formula (Formula-F.Quantified q variable balls f)) ++ rest) ≡ Some (roll-Formula (Formula-F.Quantified q variable balls f), rest)
 quantified_again budget q variable [] f rest some inner = absurd (omega (arith, leb-true 1 0 some))
 quantified_again budget q variable (b ∷ balls) f rest some inner =
-    let spelled : text (roll-Formula (Formula-F.Quantified q variable (b ∷ balls) f)) ++ rest ≡ lexeme.Mark (capital q) ∷ lexeme.Word variable ∷ lexeme.Mark mark.OpenList ∷ (flat_map ball_text (b ∷ balls) ++ lexeme.Mark mark.CloseList ∷ (text f ++ rest)) =
+    let spelled : text (roll-Formula (Formula-F.Quantified q variable (b ∷ balls) f)) ++ rest ≡ Lexeme.Mark (capital q) ∷ Lexeme.Word variable ∷ Lexeme.Mark Mark.OpenList ∷ (flat_map ball_text (b ∷ balls) ++ Lexeme.Mark Mark.CloseList ∷ (text f ++ rest)) =
     simp (text_of, append_assoc) in
     ap (unary_at (suc budget)) spelled ∙ nested_quantifier (unary_at budget) q _ ∙ rw (quantifier_again variable b balls (text f ++ rest), inner) refl
 
@@ -170,10 +151,10 @@ parts_again budget place j n i (f ∷ fs) le fit deep =
     (λ rest e. f.1 budget place rest le a.0 (omega (arith, deep)) e, parts_again budget place j n (i + 1) fs le a.1 (omega (arith, deep)))
 
 join_ranked : (j : Join) → (join_at (suc (join_rank j - 1)) ≡ j) × (1 ≤ join_rank j) × (join_rank j ≤ 4)
-join_ranked join.And = (refl, omega arith, omega arith)
-join_ranked join.Or = (refl, omega arith, omega arith)
-join_ranked join.Implies = (refl, omega arith, omega arith)
-join_ranked join.Iff = (refl, omega arith, omega arith)
+join_ranked Join.And = (refl, omega arith, omega arith)
+join_ranked Join.Or = (refl, omega arith, omega arith)
+join_ranked Join.Implies = (refl, omega arith, omega arith)
+join_ranked Join.Iff = (refl, omega arith, omega arith)
 
 chained_again : (budget place : ℕ) (j : Join) (fs : List Known) (rest : List Lexeme) → place ≤ 4 → join_rank j ≤ place → nat_le 2 (length (map stands (map formula_of fs))) ≡ true
     → list_all (λ (h : ℕ → Bool). h (join_rank j - 1)) (map stands (map formula_of fs)) ≡ true → chain_depth j (length (map tree_depth (map formula_of fs))) 0 (map tree_depth (map formula_of fs)) ≤ budget → ends place rest ≡ true
@@ -206,8 +187,8 @@ step_again (Formula-F.Quantified q variable balls f) (suc budget) place rest le 
     lifted (suc budget) place _ _ rest le e (quantified_again budget q variable balls f.0 rest both.0 (f.1 budget 0 rest (omega arith) both.1 (omega (arith, deep, depth_of x)) (ends_low 0 place rest (omega arith) e)))
 step_again (Formula-F.Group f) (suc budget) place rest le fit deep e =
     let x : Formula-F Formula = Formula-F.Group f.0 in
-    let inner = f.1 budget 4 (lexeme.Mark mark.Close ∷ rest) (omega arith) (rw (stands_of x place) at fit) (omega (arith, deep, depth_of x)) refl in
-    let spelled : text (roll-Formula x) ++ rest ≡ lexeme.Mark mark.Open ∷ (text f.0 ++ lexeme.Mark mark.Close ∷ rest) = simp (text_of, append_assoc) in
+    let inner = f.1 budget 4 (Lexeme.Mark Mark.Close ∷ rest) (omega arith) (rw (stands_of x place) at fit) (omega (arith, deep, depth_of x)) refl in
+    let spelled : text (roll-Formula x) ++ rest ≡ Lexeme.Mark Mark.Open ∷ (text f.0 ++ Lexeme.Mark Mark.Close ∷ rest) = simp (text_of, append_assoc) in
     lifted (suc budget) place _ _ rest le e (ap (unary_at (suc budget)) spelled ∙ ap (λ (r : Option (Formula × List Lexeme)). r >>= λ f. group_end f.0 f.1) inner)
 
 read_again : (f : Formula) → IsReadAgain f

@@ -1,9 +1,7 @@
 -- The depth of a chain, part after part, cut off.
-use Rattle.std.proofs.Common.{◌≡◌, ℕ, ◌+◌, ◌≤◌, ◌<◌, List, ◌∷◌, map, length, drop, slice_index_or, sym, ap, ◌∙◌, arith}
-use Rattle.std.specs.Prelude.{max}
+use Rattle.std.proofs.Common.{◌≡◌, ℕ, ◌+◌, ◌≤◌, ◌<◌, List, ◌∷◌, map, length, drop, slice_index_or, sym, ap, ◌∙◌, arith, max}
 use Rattle.std.proofs.lemmas.List.{drop_more}
-use Rattle.dd_written.specs.declared.tree.Join.{Join}
-use Rattle.dd_written.specs.declared.tree.Formula.{Formula}
+use Rattle.dd_written.specs.Tree.{Join, Formula}
 use Rattle.dd_written.specs.Formulas.{tree_depth, signs_over, chain_depth, cut_depth}
 
 pub cut_sum : (more depth : ℕ) → cut_depth (cut_depth more + cut_depth depth) ≡ cut_depth (more + depth)

@@ -1,9 +1,6 @@
 -- What each kind of formula is written as, where it stands, and how deep it is.
 use Rattle.std.proofs.Common.{◌≡◌, ℕ, Bool, List, ap}
-use Rattle.dd_written.specs.declared.lexeme.Lexeme.{Lexeme}
-use Rattle.dd_written.specs.declared.tree.Formula.{Formula, roll-Formula}
-use Rattle.dd_written.specs.declared.tree.Formula.TheFolds.{fold-roll-Formula, map-Formula}
-use Rattle.dd_written.specs.declared.tree.Formula.TheOpen.{Formula-F}
+use Rattle.dd_written.specs.Tree.{Lexeme, Formula, roll-Formula, Formula-F, fold-roll-Formula, map-Formula}
 use Rattle.dd_written.specs.Formulas.{text, text_step, stands, stands_step, tree_depth, tree_depth_step}
 
 pub text_of : (x : Formula-F Formula) → text (roll-Formula x) ≡ text_step (map-Formula Formula (List Lexeme) text x)

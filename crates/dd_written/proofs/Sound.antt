@@ -1,22 +1,8 @@
 -- What is read of formulas is written so.
-use Rattle.std.proofs.Common.{◌≡◌, ℕ, zero, suc, ◌-◌, ◌≤◌, ◌<◌, Bool, true, List, [], ◌∷◌, ◌++◌, map, length, drop, Some, IfSome, refl, sym, ap, subst, ◌∙◌, append_assoc, arith, le-leb, leb-true, inl, inr}
-use Rattle.std.specs.Prelude.{nat_le, ◌&&◌}
+use Rattle.std.proofs.Common.{◌≡◌, ℕ, zero, suc, ◌-◌, ◌≤◌, ◌<◌, Bool, true, List, [], ◌∷◌, ◌++◌, map, length, drop, Some, IfSome, refl, sym, ap, subst, ◌∙◌, append_assoc, arith, le-leb, leb-true, inl, inr, nat_le, ◌&&◌}
 use Rattle.std.specs.List.{flat_map, list_all}
-use Rattle.std.proofs.lemmas.Bool.{and_parts, cases_Bool}
-use Rattle.std.proofs.lemmas.List.{length-map}
-use Rattle.std.proofs.lemmas.Option.{MatchOption-at_some}
-use Rattle.dd_written.specs.declared.lexeme.Mark.TheVariants as mark
-use Rattle.dd_written.specs.declared.lexeme.Word.{Word}
-use Rattle.dd_written.specs.declared.lexeme.Lexeme.{Lexeme}
-use Rattle.dd_written.specs.declared.lexeme.Lexeme.TheVariants as lexeme
-use Rattle.dd_written.specs.declared.tree.Ball.{Ball}
-use Rattle.dd_written.specs.declared.tree.Quantifier.{Quantifier}
-use Rattle.dd_written.specs.declared.tree.Quantifier.TheVariants as quantifier
-use Rattle.dd_written.specs.declared.tree.Join.{Join}
-use Rattle.dd_written.specs.declared.tree.Join.TheVariants as join
-use Rattle.dd_written.specs.declared.tree.Formula.{Formula, roll-Formula}
-use Rattle.dd_written.specs.declared.tree.Formula.TheFolds.{map-Formula, ind-Formula}
-use Rattle.dd_written.specs.declared.tree.Formula.TheOpen.{Formula-F}
+use Rattle.std.proofs.lemmas.{Bool.and_parts, Bool.cases_Bool, List.length-map, Option.MatchOption-at_some}
+use Rattle.dd_written.specs.Tree.{Word, Mark, Lexeme, Ball, Quantifier, Join, Formula, roll-Formula, Formula-F, map-Formula, ind-Formula}
 use Rattle.dd_written.specs.Formulas.{text, stands, stands_step, move_text, term_text, atom_side_text, relation_text, ball_text, capital, sign, join_rank, tree_depth, IsWrittenFormula}
 use Rattle.dd_written.specs.reading.Readers.{Reader, with_front}
 use Rattle.dd_written.specs.reading.Atoms.{moves_at, term_at, side_at, relation_at, leaf_at, balls_at, quantifier_end, quantifier_at}
@@ -25,11 +11,11 @@ use Rattle.dd_written.proofs.Layers.{text_of, stands_of}
 use Rattle.dd_written.specs.lemmas.Options.{followed}
 
 moves_sound : (tokens : List Lexeme) → tokens ≡ flat_map move_text (moves_at tokens).0 ++ (moves_at tokens).1
-moves_sound (lexeme.Mark mark.Dot ∷ lexeme.Word label ∷ tokens) = ap (λ (ts : List Lexeme). lexeme.Mark mark.Dot ∷ lexeme.Word label ∷ ts) (moves_sound tokens)
+moves_sound (Lexeme.Mark Mark.Dot ∷ Lexeme.Word label ∷ tokens) = ap (λ (ts : List Lexeme). Lexeme.Mark Mark.Dot ∷ Lexeme.Word label ∷ ts) (moves_sound tokens)
 moves_sound tokens = refl
 
 balls_sound : (tokens : List Lexeme) → tokens ≡ flat_map ball_text (balls_at tokens).0 ++ (balls_at tokens).1
-balls_sound (lexeme.Word centre ∷ lexeme.Number radius ∷ tokens) = ap (λ (ts : List Lexeme). lexeme.Word centre ∷ lexeme.Number radius ∷ ts) (balls_sound tokens)
+balls_sound (Lexeme.Word centre ∷ Lexeme.Number radius ∷ tokens) = ap (λ (ts : List Lexeme). Lexeme.Word centre ∷ Lexeme.Number radius ∷ ts) (balls_sound tokens)
 balls_sound tokens = refl
 
 -- what is read stands before what is left
@@ -37,20 +23,20 @@ abbrev Spells : {X : Type 0} → (X → List Lexeme) → List Lexeme → X × Li
 Spells text tokens x = tokens ≡ text x.0 ++ x.1
 
 term_sound : (tokens : List Lexeme) → IfSome (term_at tokens) (Spells term_text tokens)
-term_sound (lexeme.Word first ∷ tokens) = ap (λ (ts : List Lexeme). lexeme.Word first ∷ ts) (moves_sound tokens)
+term_sound (Lexeme.Word first ∷ tokens) = ap (λ (ts : List Lexeme). Lexeme.Word first ∷ ts) (moves_sound tokens)
 term_sound tokens = tt
 
 side_sound : (tokens : List Lexeme) → IfSome (side_at tokens) (Spells atom_side_text tokens)
-side_sound (lexeme.Number n ∷ tokens) = refl
+side_sound (Lexeme.Number n ∷ tokens) = refl
 side_sound tokens = term_sound tokens
 
 relation_sound : (tokens : List Lexeme) → IfSome (relation_at tokens) (Spells relation_text tokens)
-relation_sound (lexeme.Mark mark.Equal ∷ tokens) = followed (side_at tokens) _ _ _ (side_sound tokens) (λ s e. rw e refl)
-relation_sound (lexeme.Mark mark.NotEqual ∷ tokens) = followed (side_at tokens) _ _ _ (side_sound tokens) (λ s e. rw e refl)
-relation_sound (lexeme.Mark mark.Tilde ∷ tokens) = followed (term_at tokens) _ _ _ (term_sound tokens) (λ t e. rw e refl)
-relation_sound (lexeme.Mark mark.At ∷ tokens) = followed (term_at tokens) _ _ _ (term_sound tokens) (λ t e. rw e refl)
-relation_sound (lexeme.Mark mark.Colon ∷ lexeme.Word w ∷ tokens) = refl
-relation_sound (lexeme.Mark mark.Colon ∷ lexeme.Number n ∷ tokens) = refl
+relation_sound (Lexeme.Mark Mark.Equal ∷ tokens) = followed (side_at tokens) _ _ _ (side_sound tokens) (λ s e. rw e refl)
+relation_sound (Lexeme.Mark Mark.NotEqual ∷ tokens) = followed (side_at tokens) _ _ _ (side_sound tokens) (λ s e. rw e refl)
+relation_sound (Lexeme.Mark Mark.Tilde ∷ tokens) = followed (term_at tokens) _ _ _ (term_sound tokens) (λ t e. rw e refl)
+relation_sound (Lexeme.Mark Mark.At ∷ tokens) = followed (term_at tokens) _ _ _ (term_sound tokens) (λ t e. rw e refl)
+relation_sound (Lexeme.Mark Mark.Colon ∷ Lexeme.Word w ∷ tokens) = refl
+relation_sound (Lexeme.Mark Mark.Colon ∷ Lexeme.Number n ∷ tokens) = refl
 relation_sound tokens = tt
 
 -- the tokens are a formula that may stand at a place, and what is left
@@ -66,16 +52,16 @@ leaf_sound place tokens =
 
 -- the balls are one or more
 abbrev Quantifies : List Lexeme → (Word × List Ball) × List Lexeme → Type 0
-Quantifies tokens x = (tokens ≡ lexeme.Word x.0.0 ∷ lexeme.Mark mark.OpenList ∷ (flat_map ball_text x.0.1 ++ lexeme.Mark mark.CloseList ∷ x.1)) × (nat_le 1 (length x.0.1) ≡ true)
+Quantifies tokens x = (tokens ≡ Lexeme.Word x.0.0 ∷ Lexeme.Mark Mark.OpenList ∷ (flat_map ball_text x.0.1 ++ Lexeme.Mark Mark.CloseList ∷ x.1)) × (nat_le 1 (length x.0.1) ≡ true)
 
-end_sound : (variable : Word) (balls : List Ball) (tokens : List Lexeme) → IfSome (quantifier_end variable balls tokens) (Quantifies (lexeme.Word variable ∷ lexeme.Mark mark.OpenList ∷ (flat_map ball_text balls ++ tokens)))
-end_sound variable (b ∷ bs) (lexeme.Mark mark.CloseList ∷ tokens) = (refl, le-leb 1 (suc (length bs)) (omega arith))
+end_sound : (variable : Word) (balls : List Ball) (tokens : List Lexeme) → IfSome (quantifier_end variable balls tokens) (Quantifies (Lexeme.Word variable ∷ Lexeme.Mark Mark.OpenList ∷ (flat_map ball_text balls ++ tokens)))
+end_sound variable (b ∷ bs) (Lexeme.Mark Mark.CloseList ∷ tokens) = (refl, le-leb 1 (suc (length bs)) (omega arith))
 end_sound variable balls tokens = tt
 
 quantifier_sound : (tokens : List Lexeme) → IfSome (quantifier_at tokens) (Quantifies tokens)
-quantifier_sound (lexeme.Word variable ∷ lexeme.Mark mark.OpenList ∷ tokens) =
+quantifier_sound (Lexeme.Word variable ∷ Lexeme.Mark Mark.OpenList ∷ tokens) =
     let end = end_sound variable (balls_at tokens).0 (balls_at tokens).1 in
-    subst (λ (ts : List Lexeme). IfSome (quantifier_end variable (balls_at tokens).0 (balls_at tokens).1) (Quantifies (lexeme.Word variable ∷ lexeme.Mark mark.OpenList ∷ ts))) (sym (balls_sound tokens)) end
+    subst (λ (ts : List Lexeme). IfSome (quantifier_end variable (balls_at tokens).0 (balls_at tokens).1) (Quantifies (Lexeme.Word variable ∷ Lexeme.Mark Mark.OpenList ∷ ts))) (sym (balls_sound tokens)) end
 quantifier_sound tokens = tt
 
 -- what may stand at a place may stand at the next
@@ -99,13 +85,13 @@ stands_more = ind-Formula AlsoNext (λ x y is place e. rw (stands_of x (suc plac
 
 -- the parts behind the first, each behind its sign
 abbrev pub more_text : Join → List Formula → List Lexeme
-more_text j fs = flat_map (λ u. lexeme.Mark (sign j) ∷ u) (map text fs)
+more_text j fs = flat_map (λ u. Lexeme.Mark (sign j) ∷ u) (map text fs)
 
-begins_sound : (j : Join) (tokens : List Lexeme) → begins j tokens ≡ true → tokens ≡ lexeme.Mark (sign j) ∷ drop 1 tokens
-begins_sound join.And (lexeme.Mark mark.And ∷ tokens) e = refl
-begins_sound join.Or (lexeme.Mark mark.Or ∷ tokens) e = refl
-begins_sound join.Implies (lexeme.Mark mark.Arrow ∷ tokens) e = refl
-begins_sound join.Iff (lexeme.Mark mark.BothWays ∷ tokens) e = refl
+begins_sound : (j : Join) (tokens : List Lexeme) → begins j tokens ≡ true → tokens ≡ Lexeme.Mark (sign j) ∷ drop 1 tokens
+begins_sound Join.And (Lexeme.Mark Mark.And ∷ tokens) e = refl
+begins_sound Join.Or (Lexeme.Mark Mark.Or ∷ tokens) e = refl
+begins_sound Join.Implies (Lexeme.Mark Mark.Arrow ∷ tokens) e = refl
+begins_sound Join.Iff (Lexeme.Mark Mark.BothWays ∷ tokens) e = refl
 begins_sound j tokens e = absurd cc
 
 -- such parts behind each other, and one at least where the sign stands
@@ -148,8 +134,8 @@ rank_join (suc (suc zero)) lt = refl
 rank_join (suc (suc (suc zero))) lt = refl
 rank_join (suc (suc (suc (suc n)))) lt = absurd (omega (arith, lt))
 
-group_end_sound : (place : ℕ) (f : Formula) (before tokens : List Lexeme) → Takes before 4 (f, tokens) → IfSome (group_end f tokens) (Takes (lexeme.Mark mark.Open ∷ before) place)
-group_end_sound place f before (lexeme.Mark mark.Close ∷ tokens) t = (simp (text_of, append_assoc, t.0), simp (stands_of, t.1))
+group_end_sound : (place : ℕ) (f : Formula) (before tokens : List Lexeme) → Takes before 4 (f, tokens) → IfSome (group_end f tokens) (Takes (Lexeme.Mark Mark.Open ∷ before) place)
+group_end_sound place f before (Lexeme.Mark Mark.Close ∷ tokens) t = (simp (text_of, append_assoc, t.0), simp (stands_of, t.1))
 group_end_sound place f before tokens t = tt
 
 module _ (unary : Reader Formula) (sound : IsSound unary 0) where
@@ -157,15 +143,15 @@ module _ (unary : Reader Formula) (sound : IsSound unary 0) where
   level_sound zero le = sound
   level_sound (suc place) le = chain_sound (join_at (suc place)) (level_at unary place) place (rank_join place (omega (arith, le))) (level_sound place (omega (arith, le)))
 
-  quantified_sound : (q : Quantifier) (place : ℕ) (tokens : List Lexeme) → IfSome (quantified_at unary q tokens) (Takes (lexeme.Mark (capital q) ∷ tokens) place)
+  quantified_sound : (q : Quantifier) (place : ℕ) (tokens : List Lexeme) → IfSome (quantified_at unary q tokens) (Takes (Lexeme.Mark (capital q) ∷ tokens) place)
   quantified_sound q place tokens =
       followed (quantifier_at tokens) _ _ _ (quantifier_sound tokens) (λ h e. followed (unary h.1) _ _ _ (sound h.1) (λ f t. (simp (text_of, append_assoc, e.0, t.0), simp (stands_of, e.1, t.1))))
 
   nested_sound : (place : ℕ) → IsSound (nested_at unary) place
-  nested_sound place (lexeme.Mark mark.Not ∷ tokens) = followed (unary tokens) _ _ _ (sound tokens) (λ f t. (simp (text_of, t.0), simp (stands_of, t.1)))
-  nested_sound place (lexeme.Mark mark.All ∷ tokens) = quantified_sound quantifier.All place tokens
-  nested_sound place (lexeme.Mark mark.Exists ∷ tokens) = quantified_sound quantifier.Exists place tokens
-  nested_sound place (lexeme.Mark mark.Open ∷ tokens) = followed (level_at unary 4 tokens) _ _ _ (level_sound 4 (omega arith) tokens) (λ f t. group_end_sound place f.0 tokens f.1 t)
+  nested_sound place (Lexeme.Mark Mark.Not ∷ tokens) = followed (unary tokens) _ _ _ (sound tokens) (λ f t. (simp (text_of, t.0), simp (stands_of, t.1)))
+  nested_sound place (Lexeme.Mark Mark.All ∷ tokens) = quantified_sound Quantifier.All place tokens
+  nested_sound place (Lexeme.Mark Mark.Exists ∷ tokens) = quantified_sound Quantifier.Exists place tokens
+  nested_sound place (Lexeme.Mark Mark.Open ∷ tokens) = followed (level_at unary 4 tokens) _ _ _ (level_sound 4 (omega arith) tokens) (λ f t. group_end_sound place f.0 tokens f.1 t)
   nested_sound place tokens = leaf_sound place tokens
 
 unary_sound : (budget : ℕ) → IsSound (unary_at budget) 0

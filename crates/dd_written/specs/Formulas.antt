@@ -1,75 +1,55 @@
 -- Formulas: what each is written as, where each may stand without parentheses, and how deep each is.
 use Rattle.std.specs.Prelude.{◌≡◌, ℕ, ◌+◌, ◌-◌, ◌≤◌, List, [], ◌∷◌, ◌++◌, length, Bool, true, ◌&&◌, nat_le, max, min}
 use Rattle.std.specs.List.{flat_map, list_all}
-use Rattle.dd_written.specs.declared.lexeme.Mark.{Mark}
-use Rattle.dd_written.specs.declared.lexeme.Mark.TheVariants as mark
-use Rattle.dd_written.specs.declared.lexeme.Word.{Word}
-use Rattle.dd_written.specs.declared.lexeme.Lexeme.{Lexeme}
-use Rattle.dd_written.specs.declared.lexeme.Lexeme.TheVariants as lexeme
-use Rattle.dd_written.specs.declared.tree.Name.{Name}
-use Rattle.dd_written.specs.declared.tree.Name.TheVariants as name
-use Rattle.dd_written.specs.declared.tree.Term.{Term}
-use Rattle.dd_written.specs.declared.tree.Comparand.{Comparand}
-use Rattle.dd_written.specs.declared.tree.Comparand.TheVariants as side
-use Rattle.dd_written.specs.declared.tree.Relation.{Relation}
-use Rattle.dd_written.specs.declared.tree.Relation.TheVariants as relation
-use Rattle.dd_written.specs.declared.tree.Atom.{Atom}
-use Rattle.dd_written.specs.declared.tree.Ball.{Ball}
-use Rattle.dd_written.specs.declared.tree.Quantifier.{Quantifier}
-use Rattle.dd_written.specs.declared.tree.Quantifier.TheVariants as quantifier
-use Rattle.dd_written.specs.declared.tree.Join.{Join}
-use Rattle.dd_written.specs.declared.tree.Join.TheVariants as join
-use Rattle.dd_written.specs.declared.tree.Formula.{Formula}
-use Rattle.dd_written.specs.declared.tree.Formula.TheFolds.{fold-Formula}
-use Rattle.dd_written.specs.declared.tree.Formula.TheOpen.{Formula-F}
+use Rattle.dd_written.specs.Tree.{Word, Mark, Lexeme, Name, Term, Comparand, Relation, Atom, Ball, Quantifier, Join, Formula, Formula-F, fold-Formula}
 
 abbrev pub name_lexeme : Name → Lexeme
-name_lexeme (name.Word w) = lexeme.Word w
-name_lexeme (name.Number n) = lexeme.Number n
+name_lexeme (Name.Word w) = Lexeme.Word w
+name_lexeme (Name.Number n) = Lexeme.Number n
 
 abbrev pub move_text : Word → List Lexeme
-move_text label = lexeme.Mark mark.Dot ∷ lexeme.Word label ∷ []
+move_text label = Lexeme.Mark Mark.Dot ∷ Lexeme.Word label ∷ []
 
 abbrev pub term_text : Term → List Lexeme
-term_text t = lexeme.Word t.first ∷ flat_map move_text t.moves
+term_text t = Lexeme.Word t.first ∷ flat_map move_text t.moves
 
 abbrev pub atom_side_text : Comparand → List Lexeme
-atom_side_text (side.Term t) = term_text t
-atom_side_text (side.Number n) = lexeme.Number n ∷ []
+atom_side_text (Comparand.Term t) = term_text t
+atom_side_text (Comparand.Number n) = Lexeme.Number n ∷ []
 
 abbrev pub relation_text : Relation → List Lexeme
-relation_text (relation.Equal s) = lexeme.Mark mark.Equal ∷ atom_side_text s
-relation_text (relation.NotEqual s) = lexeme.Mark mark.NotEqual ∷ atom_side_text s
-relation_text (relation.Adjacent t) = lexeme.Mark mark.Tilde ∷ term_text t
-relation_text (relation.Same t) = lexeme.Mark mark.At ∷ term_text t
-relation_text (relation.AtNode n) = lexeme.Mark mark.Colon ∷ name_lexeme n ∷ []
+relation_text (Relation.Equal s) = Lexeme.Mark Mark.Equal ∷ atom_side_text s
+relation_text (Relation.NotEqual s) = Lexeme.Mark Mark.NotEqual ∷ atom_side_text s
+relation_text (Relation.Adjacent t) = Lexeme.Mark Mark.Tilde ∷ term_text t
+relation_text (Relation.Same t) = Lexeme.Mark Mark.At ∷ term_text t
+relation_text (Relation.AtNode n) = Lexeme.Mark Mark.Colon ∷ name_lexeme n ∷ []
 
 abbrev pub atom_text : Atom → List Lexeme
 atom_text a = term_text a.term ++ relation_text a.relation
 
 abbrev pub ball_text : Ball → List Lexeme
-ball_text b = lexeme.Word b.centre ∷ lexeme.Number b.radius ∷ []
+ball_text b = Lexeme.Word b.centre ∷ Lexeme.Number b.radius ∷ []
 
 abbrev pub capital : Quantifier → Mark
-capital quantifier.All = mark.All
-capital quantifier.Exists = mark.Exists
+capital Quantifier.All = Mark.All
+capital Quantifier.Exists = Mark.Exists
 
 abbrev pub sign : Join → Mark
-sign join.And = mark.And
-sign join.Or = mark.Or
-sign join.Implies = mark.Arrow
-sign join.Iff = mark.BothWays
+sign Join.And = Mark.And
+sign Join.Or = Mark.Or
+sign Join.Implies = Mark.Arrow
+sign Join.Iff = Mark.BothWays
 
 -- texts with a mark between each two
 abbrev pub separated_by : Mark → List (List Lexeme) → List Lexeme
 separated_by m [] = []
-separated_by m (t ∷ ts) = t ++ flat_map (λ u. lexeme.Mark m ∷ u) ts
+separated_by m (t ∷ ts) = t ++ flat_map (λ u. Lexeme.Mark m ∷ u) ts
 
 abbrev pub text_step : Formula-F (List Lexeme) → List Lexeme
 text_step (Formula-F.Atom a) = atom_text a
-text_step (Formula-F.Not f) = lexeme.Mark mark.Not ∷ f
-text_step (Formula-F.Quantified q variable balls f) = lexeme.Mark (capital q) ∷ lexeme.Word variable ∷ lexeme.Mark mark.OpenList ∷ flat_map ball_text balls ++ lexeme.Mark mark.CloseList ∷ f
-text_step (Formula-F.Group f) = lexeme.Mark mark.Open ∷ f ++ lexeme.Mark mark.Close ∷ []
+text_step (Formula-F.Not f) = Lexeme.Mark Mark.Not ∷ f
+text_step (Formula-F.Quantified q variable balls f) = Lexeme.Mark (capital q) ∷ Lexeme.Word variable ∷ Lexeme.Mark Mark.OpenList ∷ flat_map ball_text balls ++ Lexeme.Mark Mark.CloseList ∷ f
+text_step (Formula-F.Group f) = Lexeme.Mark Mark.Open ∷ f ++ Lexeme.Mark Mark.Close ∷ []
 text_step (Formula-F.Chain j fs) = separated_by (sign j) fs
 
 -- the tokens of a formula
@@ -79,10 +59,10 @@ text = fold-Formula (List Lexeme) text_step
 -- The places of a formula, from the tightest: 0 behind `!` and a quantifier and as a part of `&`, 1 as a part of `|`,
 -- 2 of `->`, 3 of `<->`, 4 in parentheses and alone.
 abbrev pub join_rank : Join → ℕ
-join_rank join.And = 1
-join_rank join.Or = 2
-join_rank join.Implies = 3
-join_rank join.Iff = 4
+join_rank Join.And = 1
+join_rank Join.Or = 2
+join_rank Join.Implies = 3
+join_rank Join.Iff = 4
 
 -- whether a formula may stand at such a place without parentheses
 abbrev pub stands_step : Formula-F (ℕ → Bool) → ℕ → Bool
@@ -97,10 +77,10 @@ stands = fold-Formula (ℕ → Bool) stands_step
 
 -- How many of the signs of n parts stand over part i: `a -> b -> c` is `a -> (b -> c)`, and `a <-> b <-> c` is `(a <-> b) <-> c`.
 abbrev pub signs_over : Join → ℕ → ℕ → ℕ
-signs_over join.And n i = 1
-signs_over join.Or n i = 1
-signs_over join.Implies n i = min (i + 1) (n - 1)
-signs_over join.Iff n i = min (n - i) (n - 1)
+signs_over Join.And n i = 1
+signs_over Join.Or n i = 1
+signs_over Join.Implies n i = min (i + 1) (n - 1)
+signs_over Join.Iff n i = min (n - i) (n - 1)
 
 -- how deep the parts from part i on make a chain of n parts
 abbrev pub chain_depth : Join → ℕ → ℕ → List ℕ → ℕ

@@ -1,3 +1,5 @@
+-- the types of what is written
+pub mod Tree
 -- the tokens of a script as the grammar sees them
 pub mod Lexemes
 -- the texts of words and numbers, and the values of numbers

@@ -1,9 +1,6 @@
 -- The texts of words and numbers, and the values of numbers.
 use Rattle.std.specs.Prelude.{ℕ, ◌+◌, ◌-◌, ◌*◌, List, [], ◌∷◌, take, drop, ◌==◌, if◌then◌else◌}
-use Rattle.dd_written.specs.declared.lexeme.Word.{Word}
-use Rattle.dd_written.specs.declared.lexeme.Number.{Number}
-use Rattle.dd_written.specs.declared.tree.Name.{Name}
-use Rattle.dd_written.specs.declared.tree.Name.TheVariants as name
+use Rattle.dd_written.specs.Tree.{Word, Number, Name}
 
 abbrev pub word_text : List ℕ → Word → List ℕ
 word_text bytes w = take w.length (drop w.start bytes)
@@ -12,8 +9,8 @@ abbrev pub number_text : List ℕ → Number → List ℕ
 number_text bytes n = take n.length (drop n.start bytes)
 
 abbrev pub name_text : List ℕ → Name → List ℕ
-name_text bytes (name.Word w) = word_text bytes w
-name_text bytes (name.Number n) = number_text bytes n
+name_text bytes (Name.Word w) = word_text bytes w
+name_text bytes (Name.Number n) = number_text bytes n
 
 -- the value of more digits, behind some of this value
 abbrev pub decimal : ℕ → List ℕ → ℕ

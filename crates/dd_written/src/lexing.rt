@@ -1,7 +1,6 @@
 //! From the bytes of a script to its tokens as the grammar sees them.
 ghost use Rattle.std.specs.Prelude.{◌≡◌, ◌≤◌, ◌+◌, length, map, bytes_eq, IfOk};
-ghost use Rattle.std.specs.Char.{is_ascii};
-ghost use Rattle.std.specs.List.{list_all};
+ghost use Rattle.std.specs.{Char.is_ascii, List.list_all};
 ghost use Rattle.dd_values.specs.Bounds.{most_script};
 ghost use Rattle.dd_written.specs.Lexemes.{mark_text, mark_at, lexeme_of, lexemes_of};
 

@@ -18,8 +18,7 @@ pub struct Text {
 }
 
 impl Model for Text {
-    ghost use Rattle.std.specs.Prelude.{ℕ, List};
-    ghost use Rattle.std.specs.Str.{IsAscii};
+    ghost use Rattle.std.specs.{Prelude.ℕ, Prelude.List, Str.IsAscii};
 
     ghost Value = { List ℕ };
 

@@ -1,16 +1,12 @@
 -- What is read of commands is written so, and what is written so is read.
 use Rattle.std.proofs.Common.{◌≡◌, ℕ, ◌≤◌, ◌<◌, List, [], ◌∷◌, ◌++◌, map, length, Some, None, refl, sym, ap, subst, ◌∙◌, arith, codes, bytes_eq, inl, inr, flat_map, append-nil, length-append}
 use Rattle.std.proofs.lemmas.Slice.Eq.{bytes_eq-Decides}
-use Rattle.dd_commands.specs.Tree.{Kind, Lexeme, Name, Lists, Question, Vector, Edge, Case, Command, Head}
-use Rattle.dd_written.specs.Values.{word_text}
-use Rattle.dd_written.specs.Formulas.{text, name_lexeme}
-use Rattle.dd_written.specs.reading.Formulas.{formula_at, ends}
-use Rattle.dd_written.specs.reading.Laws.{FormulasAreRead}
-use Rattle.dd_commands.specs.Table.{row}
-use Rattle.dd_commands.specs.Heads.{head_text, head_of, kind_text}
+use Rattle.dd_commands.specs.Tree.{Kind, Lexeme, Name, Lists, Question, Head, Vector, Edge, Case, Command}
+use Rattle.dd_written.specs.{Values.word_text, Formulas.text, Formulas.name_lexeme}
+use Rattle.dd_written.specs.reading.{Formulas.formula_at, Formulas.ends, Laws.FormulasAreRead}
+use Rattle.dd_commands.specs.{Table.row, Heads.head_text, Heads.head_of, Heads.kind_text}
 use Rattle.dd_commands.specs.Commands.{vector_text, edge_text, IsBehind, IsCase, AreLists, IsBody, IsCommand}
-use Rattle.dd_commands.specs.reading.Forms.{ReadsAll, some}
-use Rattle.dd_commands.specs.reading.Vectors.{name, plain}
+use Rattle.dd_commands.specs.reading.{Forms.ReadsAll, Forms.some, Vectors.name, Vectors.plain}
 use Rattle.dd_commands.specs.reading.Commands.{one_of, keyword, heads, kinds, wanted, formula, case_parts, case, listed, topology, body, command_of}
 use Rattle.dd_commands.specs.lemmas.Forms.{ByText, texts_read, bind_some, some_is, chosen, Reads, alone_is, made_reads, then_reads, exactly_reads, each_reads, some_reads, shorter, texts_whole, singles_read, singles_stand, some_singles, singles_some}
 use Rattle.dd_commands.specs.lemmas.Items.{word_reads, number_reads, name_reads, vector_reads, plain_reads, shear_reads, edge_reads}

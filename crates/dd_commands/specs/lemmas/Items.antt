@@ -1,9 +1,8 @@
 -- Names, numbers, vectors and edges are read as they are written.
 use denote.Enum.Bare.{same_true, true_same}
 use Rattle.std.proofs.Common.{◌≡◌, true, List, [], ◌∷◌, ◌++◌, map, Option, Some, None, refl, sym, ap, subst, ◌∙◌, append_assoc, arith, inl, inr}
-use Rattle.dd_written.specs.contracts.lexeme.Mark.{the_type}
-use Rattle.dd_commands.specs.Tree.{Mark, Word, Number, Lexeme, Entry, Vector, Edge}
-use Rattle.dd_written.specs.Formulas.{name_lexeme}
+use Rattle.dd_written.specs.{contracts.lexeme.Mark.the_type, Formulas.name_lexeme}
+use Rattle.dd_commands.specs.Tree.{Word, Number, Mark, Lexeme, Entry, Vector, Edge}
 use Rattle.dd_written.specs.reading.Atoms.{name_at}
 use Rattle.dd_written.specs.lemmas.Names.{name_sound, name_again}
 use Rattle.dd_commands.specs.Commands.{entry_lexeme, vector_text, is_plain, edge_text}

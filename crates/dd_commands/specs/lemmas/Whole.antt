@@ -1,14 +1,10 @@
 -- A part is read exactly where it is a command that may stand there.
 use Rattle.std.proofs.Common.{◌≡◌, ℕ, List, Some, None, refl, sym, ap, subst, inl, inr, nat_lt, ltb-false, le-ltb}
 use Rattle.std.specs.List.{list_all}
-use Rattle.dd_commands.specs.Tree.{Lexeme, Command, Written}
-use Rattle.dd_written.specs.reading.Readers.{◌>>=◌}
-use Rattle.dd_written.specs.reading.Laws.{FormulasAreRead}
+use Rattle.dd_commands.specs.{Tree.Lexeme, Tree.Command, Tree.Written, Heads.head_of, Heads.stage, Scripts.is_whole, Scripts.MayStand}
+use Rattle.dd_written.specs.reading.{Readers.◌>>=◌, Laws.FormulasAreRead}
 use Rattle.dd_written.specs.lemmas.Options.{bind_some, some_is, nothing_some, chosen}
-use Rattle.dd_commands.specs.Heads.{head_of, stage}
-use Rattle.dd_commands.specs.Scripts.{is_whole, MayStand}
-use Rattle.dd_commands.specs.reading.Commands.{command_of}
-use Rattle.dd_commands.specs.reading.Parts.{standing_of, written_of}
+use Rattle.dd_commands.specs.reading.{Commands.command_of, Parts.standing_of, Parts.written_of}
 use Rattle.dd_commands.specs.lemmas.Commands.{command_sound, command_again}
 
 abbrev with_tokens : List Lexeme → Command → Written

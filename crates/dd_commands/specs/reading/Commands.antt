@@ -1,12 +1,9 @@
 -- Reading commands.
 use Rattle.std.specs.Prelude.{◌≡◌, ℕ, List, [], ◌∷◌, ◌++◌, length, true, Option, Some, bytes_eq, codes, find}
-use Rattle.dd_commands.specs.Tree.{Kind, Lexeme, Formula, Lists, Question, Vector, Case, Command, Head}
-use Rattle.dd_written.specs.Values.{word_text}
-use Rattle.dd_written.specs.Formulas.{text, IsWrittenFormula}
+use Rattle.dd_commands.specs.Tree.{Kind, Lexeme, Formula, Lists, Question, Head, Vector, Case, Command}
+use Rattle.dd_written.specs.{Values.word_text, Formulas.text, Formulas.IsWrittenFormula}
 use Rattle.dd_written.specs.reading.Formulas.{formula_at, ends}
-use Rattle.dd_commands.specs.Table.{row}
-use Rattle.dd_commands.specs.Heads.{head_text, kind_text}
-use Rattle.dd_commands.specs.Commands.{IsBehind, IsCase}
+use Rattle.dd_commands.specs.{Table.row, Heads.head_text, Heads.kind_text, Commands.IsBehind, Commands.IsCase}
 use Rattle.dd_commands.specs.reading.Forms.{◌>>=◌, Form, as_made, ◌▸◌, each, some, exactly, alone}
 use Rattle.dd_commands.specs.reading.Vectors.{word_at, word, number, name, vector, plain, shear, edge}
 

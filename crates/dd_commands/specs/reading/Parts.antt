@@ -3,8 +3,7 @@ use Rattle.std.specs.Prelude.{ℕ, List, Bool, true, false, Option, Some, None, 
 use Rattle.std.specs.List.{list_all}
 use Rattle.dd_commands.specs.Tree.{Mark, Lexeme, Command, Written, SyntaxFault}
 use Rattle.dd_written.specs.reading.Readers.{◌>>=◌}
-use Rattle.dd_commands.specs.Heads.{head_of, stage}
-use Rattle.dd_commands.specs.Scripts.{is_whole, AreWritten, IsBadCommand}
+use Rattle.dd_commands.specs.{Heads.head_of, Heads.stage, Scripts.is_whole, Scripts.AreWritten, Scripts.IsBadCommand}
 use Rattle.dd_commands.specs.reading.Commands.{command_of}
 
 abbrev pub is_inside : Lexeme → Bool

@@ -1,9 +1,8 @@
 -- Reading names, numbers, vectors and edges.
 use denote.Enum.Bare.{sameb}
 use Rattle.std.specs.Prelude.{◌≡◌, List, ◌∷◌, ◌++◌, Bool, true, Option, Some, None, if◌then◌else◌}
-use Rattle.dd_written.specs.contracts.lexeme.Mark.{the_type}
-use Rattle.dd_commands.specs.Tree.{Mark, Word, Number, Lexeme, Name, Entry, Vector, Edge}
-use Rattle.dd_written.specs.Formulas.{name_lexeme}
+use Rattle.dd_written.specs.{contracts.lexeme.Mark.the_type, Formulas.name_lexeme}
+use Rattle.dd_commands.specs.Tree.{Word, Number, Mark, Lexeme, Name, Entry, Vector, Edge}
 use Rattle.dd_written.specs.reading.Atoms.{name_at}
 use Rattle.dd_commands.specs.Commands.{entry_lexeme, vector_text, is_plain, second_vector_text, IsPlainShear, edge_text}
 use Rattle.dd_commands.specs.reading.Forms.{Reader, Form, by_text, single, as_made, ◌▸◌, such, each}

@@ -2,16 +2,8 @@
 use Rattle.std.proofs.Common.{◌≡◌, List, [], ◌∷◌, ◌++◌, sym, ap, ◌∙◌}
 use Rattle.std.specs.List.{flat_map}
 use Rattle.std.proofs.lemmas.List.Folds.{flat_map-map}
-use Rattle.dd_written.specs.declared.lexeme.Word.{Word}
-use Rattle.dd_written.specs.declared.tree.Ball.{Ball}
-use Rattle.dd_written.specs.declared.tree.Quantifier.{Quantifier}
-use Rattle.dd_written.specs.declared.tree.Join.{Join}
-use Rattle.dd_written.specs.declared.tree.Formula.{Formula, roll-Formula}
+use Rattle.dd_faults.specs.Tree.{Word, Ball, Quantifier, Join, Formula, roll-Formula, Formula-F, fold-roll-Formula, map-Formula, Fault, Context}
 use Rattle.dd_written.specs.declared.tree.Formula.TheVariants as v
-use Rattle.dd_written.specs.declared.tree.Formula.TheFolds.{fold-roll-Formula, map-Formula}
-use Rattle.dd_written.specs.declared.tree.Formula.TheOpen.{Formula-F}
-use Rattle.dd_faults.specs.declared.fault.Fault.{Fault}
-use Rattle.dd_faults.specs.declared.context.Context.{Context}
 use Rattle.dd_faults.specs.Formulas.{quantifier_faults, faults_step, formula_faults}
 
 -- what a formula of a kind has, from what its parts have

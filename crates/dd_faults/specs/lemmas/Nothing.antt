@@ -1,13 +1,8 @@
 -- Where there is no fault, there is none in a part.
 use Rattle.std.proofs.Common.{◌≡◌, ℕ, ◌<◌, Bool, true, false, List, [], ◌∷◌, ◌++◌, length, None, Some, refl, arith}
 use Rattle.std.specs.List.{All, flat_map}
-use Rattle.std.proofs.lemmas.List.Elements.{All-nil, All-cons}
-use Rattle.std.proofs.lemmas.Grind.{common_steps}
-use Rattle.dd_written.specs.declared.tree.Name.{Name}
-use Rattle.dd_faults.specs.declared.fault.Limit.{Limit}
-use Rattle.dd_faults.specs.declared.fault.Fault.{Fault}
-use Rattle.dd_faults.specs.Order.{noted, first_fault, over}
-use Rattle.dd_faults.specs.Names.{missing, number_in}
+use Rattle.std.proofs.lemmas.{List.Elements.All-nil, List.Elements.All-cons, Grind.common_steps}
+use Rattle.dd_faults.specs.{Tree.Name, Tree.Limit, Tree.Fault, Order.noted, Order.first_fault, Order.over, Names.missing, Names.number_in}
 use Rattle.dd_faults.specs.Commands.{unless}
 
 pub both_nil : {X : Type 0} (xs ys : List X) → xs ++ ys ≡ [] → (xs ≡ []) × (ys ≡ [])

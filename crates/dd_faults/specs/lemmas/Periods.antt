@@ -1,9 +1,7 @@
 -- Periods by their axes.
 use Rattle.std.proofs.Common.{◌≡◌, ℕ, ◌≤◌, zero, suc, List, [], ◌∷◌, length, refl, arith}
-use Rattle.std.specs.Prelude.{slice_get}
-use Rattle.std.specs.Option.{option_map_or}
-use Rattle.dd_commands.specs.declared.command.Entry.{Entry}
-use Rattle.dd_faults.specs.Commands.{entry_value}
+use Rattle.std.specs.{Prelude.slice_get, Option.option_map_or}
+use Rattle.dd_faults.specs.{Tree.Entry, Commands.entry_value}
 
 -- the value of the entry for an axis, and 1 where there is none
 abbrev pub entry_at : List ℕ → List Entry → ℕ → ℕ

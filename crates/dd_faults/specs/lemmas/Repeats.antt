@@ -1,14 +1,9 @@
 -- Where nothing is given twice, nothing has the key of one before it.
 use Rattle.std.proofs.Common.{◌≡◌, ℕ, zero, suc, ◌<◌, Bool, true, false, List, [], ◌∷◌, ◌++◌, length, map, take, slice_index_or, Contains, refl, sym, ◌∙◌, arith, true≢false}
-use Rattle.std.specs.Prelude.{if◌then◌else◌, bytes_eq}
-use Rattle.std.specs.List.{list_any}
-use Rattle.std.specs.Cmp.Lexicographic.{nat_list_eq_equiv}
-use Rattle.std.proofs.lemmas.Bool.{false_from_ne_true}
-use Rattle.std.proofs.lemmas.Grind.{common_steps}
-use Rattle.std.proofs.lemmas.Map.Views.{list_any-from_Contains, Contains-from_any}
+use Rattle.std.specs.{Prelude.if◌then◌else◌, Prelude.bytes_eq, List.list_any, Cmp.Lexicographic.nat_list_eq_equiv}
+use Rattle.std.proofs.lemmas.{Bool.false_from_ne_true, Grind.common_steps, Map.Views.list_any-from_Contains, Map.Views.Contains-from_any}
 use Rattle.std.proofs.lemmas.Slice.Eq.{bytes_eq-Decides}
-use Rattle.dd_faults.specs.declared.fault.Fault.{Fault}
-use Rattle.dd_faults.specs.Repeats.{first_repeat}
+use Rattle.dd_faults.specs.{Tree.Fault, Repeats.first_repeat}
 
 pub among : (seen : List (List ℕ)) (key : List ℕ) → Contains seen key → list_any (bytes_eq key) seen ≡ true
 among seen key there = list_any-from_Contains nat_list_eq_equiv key seen there

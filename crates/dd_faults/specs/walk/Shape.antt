@@ -1,18 +1,17 @@
 -- What the walk over a command needs of its shape.
 use Rattle.std.specs.Prelude.{◌≤◌, length}
-use Rattle.dd_commands.specs.declared.command.Command.{Command}
-use Rattle.dd_commands.specs.declared.command.Command.TheVariants as command
+use Rattle.dd_faults.specs.Tree.{Command}
 
 -- a configuration has symbols
 abbrev pub HasSymbols : Command → Type 0
-HasSymbols (command.Configuration called periods shear symbols) = 1 ≤ length symbols
+HasSymbols (Command.Configuration called periods shear symbols) = 1 ≤ length symbols
 HasSymbols c = Unit {0}
 
 -- neither a definition nor a question
 abbrev pub IsHeader : Command → Type 0
-IsHeader (command.Rule called f) = ⊥
-IsHeader (command.Automaton called cases symbol) = ⊥
-IsHeader (command.Composition called outer inner) = ⊥
-IsHeader (command.Configuration called periods shear symbols) = ⊥
-IsHeader (command.Query r) = ⊥
+IsHeader (Command.Rule called f) = ⊥
+IsHeader (Command.Automaton called cases symbol) = ⊥
+IsHeader (Command.Composition called outer inner) = ⊥
+IsHeader (Command.Configuration called periods shear symbols) = ⊥
+IsHeader (Command.Query r) = ⊥
 IsHeader c = Unit {0}

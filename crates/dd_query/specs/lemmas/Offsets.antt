@@ -1,22 +1,18 @@
 -- Offsets that lead no further than 4 along an axis.
 use Rattle.std.proofs.Common.{◌≡◌, ◌≤◌, ℕ, zero, suc, true, false, List, [], ◌∷◌, Option, Some, None, length, refl, ap, subst, ◌∙◌, arith}
 use Rattle.std.specs.Prelude.{nat_lt, nat_le, pos, unsigned_abs, slice_get}
-use Rattle.std.specs.List.{list_any}
-use Rattle.std.specs.Option.{option_map_or}
+use Rattle.std.specs.{List.list_any, Option.option_map_or}
 use Rattle.std.proofs.lemmas.Bool.{eqb-true, ltb-false, lt-ltb, le-leb, or_parts, and_from}
-use Rattle.std.proofs.lemmas.Int.{ints}
-use Rattle.std.proofs.lemmas.Option.{slice_get_within}
+use Rattle.std.proofs.lemmas.{Int.ints, Option.slice_get_within}
 use Rattle.dd_topology.specs.Grid.{edge_reach, is_offset}
 use Rattle.dd_written.specs.Values.{written_value}
-use Rattle.dd_commands.specs.declared.command.Entry.{Entry}
-use Rattle.dd_commands.specs.declared.command.Entry.TheVariants as entry
-use Rattle.dd_commands.specs.declared.command.Vector.{Vector}
+use Rattle.dd_faults.specs.Tree.{Entry, Vector}
 use Rattle.dd_faults.specs.Commands.{entry_value, signed_value, has_entries, is_far}
 use Rattle.dd_query.specs.Vectors.{coordinate, place_of}
 
 close_entry : (bytes : List ℕ) (e : Entry) → nat_lt 4 (entry_value bytes e) ≡ false → unsigned_abs (signed_value bytes e) ≤ 4
-close_entry bytes (entry.Number n) h = ltb-false 4 (written_value bytes n) h
-close_entry bytes (entry.Negative n) h = omega (arith, ints, ltb-false 4 (written_value bytes n) h)
+close_entry bytes (Entry.Number n) h = ltb-false 4 (written_value bytes n) h
+close_entry bytes (Entry.Negative n) h = omega (arith, ints, ltb-false 4 (written_value bytes n) h)
 
 pub near_at : (bytes : List ℕ) (es : List Entry) (axis : ℕ) (e : Entry) → list_any (λ a. nat_lt 4 (entry_value bytes a)) es ≡ false → slice_get es axis ≡ Some e → nat_lt 4 (entry_value bytes e) ≡ false
 near_at bytes [] axis e h is = absurd cc

@@ -1,15 +1,10 @@
 -- Scripts as far as their commands have been gone through.
 use Rattle.std.specs.Prelude.{ℕ, ◌+◌, ◌≡◌, ◌≤◌, List, Bool, Option, None}
 use Rattle.dd_values.specs.Bounds.{most_commands}
-use Rattle.dd_commands.specs.declared.fault.SyntaxFault.{SyntaxFault}
-use Rattle.dd_commands.specs.declared.fault.SyntaxFault.TheVariants as unread
+use Rattle.dd_faults.specs.Tree.{SyntaxFault}
 use Rattle.dd_meanings.specs.Sound.{IsSoundMeaning}
-use Rattle.dd_script.specs.declared.draft.Draft.{Draft}
-use Rattle.dd_script.specs.declared.fault.ScriptFault.{ScriptFault}
-use Rattle.dd_script.specs.declared.fault.ScriptKind.TheVariants as refused
-use Rattle.dd_script.specs.Parts.{Parts, parts}
-use Rattle.dd_script.specs.Kept.{IsScriptOf}
-use Rattle.dd_script.specs.drafting.Standing.{IsReady}
+use Rattle.dd_script.specs.{declared.draft.Draft.Draft, declared.fault.ScriptFault.ScriptFault, declared.fault.ScriptKind.ScriptKind}
+use Rattle.dd_script.specs.{Parts.Parts, Parts.parts, Kept.IsScriptOf, drafting.Standing.IsReady}
 use Rattle.dd_script.specs.Walk.{with, context, asked_fault, meaning_at, fault_of, next, Written, stage_of, Fault, Meaning}
 
 abbrev pub parts_of : Draft → Parts
@@ -52,5 +47,5 @@ pub record Leaves (d : Draft) (w : Written) (e : Draft) : Type 0 where
 
 -- the command that is not well formed; or memory was wanting
 abbrev pub IsUnread : SyntaxFault → ScriptFault → Type 0
-IsUnread unread.Memory e = e ≡ record { command = 0; kind = refused.Memory }
-IsUnread (unread.At n) e = e ≡ record { command = n; kind = refused.Syntax }
+IsUnread SyntaxFault.Memory e = e ≡ record { command = 0; kind = ScriptKind.Memory }
+IsUnread (SyntaxFault.At n) e = e ≡ record { command = n; kind = ScriptKind.Syntax }

@@ -1,7 +1,7 @@
 -- One of a kind after the other: what is read of them, and that it is read again.
 use Rattle.std.proofs.Common.{◌≡◌, ℕ, zero, suc, ◌≤◌, ◌<◌, Bool, true, false, List, [], ◌∷◌, ◌++◌, length, Option, Some, refl, sym, ap, subst, ◌∙◌, append_assoc, arith, inl, inr}
 use Rattle.std.specs.List.{flat_map}
-use Rattle.dd_written.specs.declared.lexeme.Lexeme.{Lexeme}
+use Rattle.dd_written.specs.Tree.{Lexeme}
 use Rattle.dd_written.specs.reading.Readers.{◌>>=◌, Reader, many, ReadsAll}
 use Rattle.dd_written.specs.lemmas.Options.{bind_some, some_is, chosen}
 

@@ -1,24 +1,16 @@
 -- Reading formulas.
 use Rattle.std.specs.Prelude.{ℕ, zero, suc, ◌-◌, drop, List, [], ◌∷◌, length, Bool, true, false, nat_le, nat_lt, if◌then◌else◌, Some, None}
-use Rattle.dd_written.specs.declared.lexeme.Mark.TheVariants as mark
-use Rattle.dd_written.specs.declared.lexeme.Lexeme.{Lexeme}
-use Rattle.dd_written.specs.declared.lexeme.Lexeme.TheVariants as lexeme
-use Rattle.dd_written.specs.declared.tree.Quantifier.{Quantifier}
-use Rattle.dd_written.specs.declared.tree.Quantifier.TheVariants as quantifier
-use Rattle.dd_written.specs.declared.tree.Join.{Join}
-use Rattle.dd_written.specs.declared.tree.Join.TheVariants as join
-use Rattle.dd_written.specs.declared.tree.Formula.{Formula, roll-Formula}
-use Rattle.dd_written.specs.declared.tree.Formula.TheOpen.{Formula-F}
+use Rattle.dd_written.specs.Tree.{Mark, Lexeme, Quantifier, Join, Formula, roll-Formula, Formula-F}
 use Rattle.dd_written.specs.Formulas.{join_rank, tree_depth}
 use Rattle.dd_written.specs.reading.Readers.{◌>>=◌, Reader, many, with_front}
 use Rattle.dd_written.specs.reading.Atoms.{leaf_at, quantifier_at}
 
 -- whether the sign of a chain stands at the front
 abbrev pub begins : Join → List Lexeme → Bool
-begins join.And (lexeme.Mark mark.And ∷ tokens) = true
-begins join.Or (lexeme.Mark mark.Or ∷ tokens) = true
-begins join.Implies (lexeme.Mark mark.Arrow ∷ tokens) = true
-begins join.Iff (lexeme.Mark mark.BothWays ∷ tokens) = true
+begins Join.And (Lexeme.Mark Mark.And ∷ tokens) = true
+begins Join.Or (Lexeme.Mark Mark.Or ∷ tokens) = true
+begins Join.Implies (Lexeme.Mark Mark.Arrow ∷ tokens) = true
+begins Join.Iff (Lexeme.Mark Mark.BothWays ∷ tokens) = true
 begins j tokens = false
 
 -- at most n parts more, each behind the sign
@@ -36,10 +28,10 @@ chain_at j part tokens = do
 
 -- the sign of the loosest chains that may stand at a place
 abbrev pub join_at : ℕ → Join
-join_at (suc zero) = join.And
-join_at (suc (suc zero)) = join.Or
-join_at (suc (suc (suc zero))) = join.Implies
-join_at place = join.Iff
+join_at (suc zero) = Join.And
+join_at (suc (suc zero)) = Join.Or
+join_at (suc (suc (suc zero))) = Join.Implies
+join_at place = Join.Iff
 
 -- a formula that may stand at a place, where unary reads those of the tightest
 abbrev pub level_at : Reader Formula → ℕ → Reader Formula
@@ -56,7 +48,7 @@ quantified_at unary q tokens = do
   Some (roll-Formula (Formula-F.Quantified q h.0.0 h.0.1 f.0), f.1)
 
 abbrev pub group_end : Formula → Reader Formula
-group_end f (lexeme.Mark mark.Close ∷ tokens) = Some (roll-Formula (Formula-F.Group f), tokens)
+group_end f (Lexeme.Mark Mark.Close ∷ tokens) = Some (roll-Formula (Formula-F.Group f), tokens)
 group_end f tokens = None
 
 abbrev pub group_at : Reader Formula → Reader Formula
@@ -65,12 +57,12 @@ group_at unary tokens = do
   group_end f.0 f.1
 
 abbrev pub nested_at : Reader Formula → Reader Formula
-nested_at unary (lexeme.Mark mark.Not ∷ tokens) = do
+nested_at unary (Lexeme.Mark Mark.Not ∷ tokens) = do
   f ← unary tokens
   Some (roll-Formula (Formula-F.Not f.0), f.1)
-nested_at unary (lexeme.Mark mark.All ∷ tokens) = quantified_at unary quantifier.All tokens
-nested_at unary (lexeme.Mark mark.Exists ∷ tokens) = quantified_at unary quantifier.Exists tokens
-nested_at unary (lexeme.Mark mark.Open ∷ tokens) = group_at unary tokens
+nested_at unary (Lexeme.Mark Mark.All ∷ tokens) = quantified_at unary Quantifier.All tokens
+nested_at unary (Lexeme.Mark Mark.Exists ∷ tokens) = quantified_at unary Quantifier.Exists tokens
+nested_at unary (Lexeme.Mark Mark.Open ∷ tokens) = group_at unary tokens
 nested_at unary tokens = leaf_at tokens
 
 -- a formula of the tightest place, with at most so many of `!`, quantifiers and parentheses in one another
@@ -86,9 +78,9 @@ formula_at tokens = do
 
 -- what follows a formula that stands at a place, and cannot belong to it
 abbrev pub ends : ℕ → List Lexeme → Bool
-ends place (lexeme.Mark mark.Dot ∷ tokens) = false
-ends place (lexeme.Mark mark.And ∷ tokens) = nat_lt place 1
-ends place (lexeme.Mark mark.Or ∷ tokens) = nat_lt place 2
-ends place (lexeme.Mark mark.Arrow ∷ tokens) = nat_lt place 3
-ends place (lexeme.Mark mark.BothWays ∷ tokens) = nat_lt place 4
+ends place (Lexeme.Mark Mark.Dot ∷ tokens) = false
+ends place (Lexeme.Mark Mark.And ∷ tokens) = nat_lt place 1
+ends place (Lexeme.Mark Mark.Or ∷ tokens) = nat_lt place 2
+ends place (Lexeme.Mark Mark.Arrow ∷ tokens) = nat_lt place 3
+ends place (Lexeme.Mark Mark.BothWays ∷ tokens) = nat_lt place 4
 ends place tokens = true

@@ -1,8 +1,6 @@
 -- What the reader of formulas promises to those that are built upon it.
 use Rattle.std.specs.Prelude.{◌≡◌, List, ◌++◌, true, Some}
-use Rattle.dd_written.specs.declared.lexeme.Lexeme.{Lexeme}
-use Rattle.dd_written.specs.declared.tree.Formula.{Formula}
-use Rattle.dd_written.specs.Formulas.{text, IsWrittenFormula}
+use Rattle.dd_written.specs.{Tree.Lexeme, Tree.Formula, Formulas.text, Formulas.IsWrittenFormula}
 use Rattle.dd_written.specs.reading.Formulas.{formula_at, ends}
 
 -- What is read of a formula is written so; and a formula is read wherever what follows it cannot belong to it.

@@ -1,8 +1,6 @@
 -- Reading from left to right, one token ahead.
 use Rattle.std.specs.Prelude.{◌≡◌, ℕ, zero, suc, List, [], ◌∷◌, ◌++◌, Bool, Option, Some, None, Result, Ok, Err, if◌then◌else◌}
-use Rattle.dd_written.specs.declared.fault.ReadFault.{ReadFault}
-use Rattle.dd_written.specs.declared.fault.ReadFault.TheVariants as faults
-use Rattle.dd_written.specs.declared.lexeme.Lexeme.{Lexeme}
+use Rattle.dd_written.specs.Tree.{ReadFault, Lexeme}
 
 -- What was read from the front, and what is left; or nothing, where nothing of this kind stands there.
 abbrev pub Reader : Type 0 → Type 0
@@ -15,8 +13,8 @@ None >>= f = None
 
 -- What a function returned, seen by view, is what reading gives, unless memory ran out.
 abbrev pub Fails : {Y : Type 0} → ReadFault → Option Y → Type 0
-Fails faults.Memory read = Unit {0}
-Fails faults.Syntax read = read ≡ None
+Fails ReadFault.Memory read = Unit {0}
+Fails ReadFault.Syntax read = read ≡ None
 
 abbrev pub Gives : {X Y : Type 0} → (X → Y) → Result X ReadFault → Option Y → Type 0
 Gives view (Ok x) read = read ≡ Some (view x)

@@ -1,6 +1,5 @@
 use Rattle.std.proofs.Common.{◌≡◌, drop}
-use Rattle.dd_faults.specs.Order.{noted}
-use Rattle.dd_faults.specs.Commands.{symbol_faults}
+use Rattle.dd_faults.specs.{Order.noted, Commands.symbol_faults}
 use Rattle.dd_faults.proofs.boxes.symbols.Given as goal
 
 abbrev pub invariant-loop-name : goal.invariant-loop-name

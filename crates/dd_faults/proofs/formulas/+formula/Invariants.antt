@@ -1,7 +1,6 @@
 use Rattle.std.proofs.Common.{◌≡◌, take}
 use Rattle.std.specs.List.{flat_map}
-use Rattle.dd_faults.specs.Order.{noted}
-use Rattle.dd_faults.specs.Formulas.{formula_faults}
+use Rattle.dd_faults.specs.{Order.noted, Formulas.formula_faults}
 use Rattle.dd_faults.proofs.formulas.+formula.Given as goal
 
 abbrev pub invariant-loop-part : goal.invariant-loop-part

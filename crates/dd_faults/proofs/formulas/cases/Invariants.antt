@@ -1,7 +1,6 @@
 use Rattle.std.proofs.Common.{◌≡◌, take}
 use Rattle.std.specs.List.{flat_map}
-use Rattle.dd_faults.specs.Order.{noted}
-use Rattle.dd_faults.specs.Commands.{case_faults}
+use Rattle.dd_faults.specs.{Order.noted, Commands.case_faults}
 use Rattle.dd_faults.proofs.formulas.cases.Given as goal
 
 abbrev pub invariant-loop-case : goal.invariant-loop-case

@@ -1,8 +1,7 @@
 use Rattle.std.proofs.Common.{refl, arith}
 use Rattle.dd_faults.specs.Commands.{case_faults}
 use Rattle.dd_meanings.specs.Definitions.{case_of}
-use Rattle.dd_meanings.proofs.Nothing.{parts, none_item}
-use Rattle.dd_meanings.proofs.Making.{made_item}
+use Rattle.dd_meanings.proofs.{Nothing.parts, Nothing.none_item, Making.made_item}
 use Rattle.dd_meanings.proofs.definitions.cases_of.Goals as goal
 
 pub formula_in-requires-clause-faultless : goal.formula_in-requires-clause-faultless

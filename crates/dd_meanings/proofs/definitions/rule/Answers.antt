@@ -1,10 +1,6 @@
 use Rattle.std.proofs.Common.{refl, ap, arith}
-use Rattle.dd_meanings.specs.declared.meaning.Meaning.TheVariants as meant
-use Rattle.dd_meanings.specs.Definitions.{rule_of}
-use Rattle.dd_meanings.proofs.Nothing.{parts}
-use Rattle.dd_meanings.proofs.NameLaws.{is_new}
-use Rattle.dd_meanings.proofs.SizeLaws.{rule_passes, rule_refuses}
-use Rattle.dd_meanings.proofs.WellFormed.{is_formula}
+use Rattle.dd_meanings.specs.{declared.meaning.Meaning.Meaning, Definitions.rule_of}
+use Rattle.dd_meanings.proofs.{Nothing.parts, NameLaws.is_new, SizeLaws.rule_passes, SizeLaws.rule_refuses, WellFormed.is_formula}
 use Rattle.dd_meanings.proofs.definitions.rule.Goals as goal
 
 pub new-requires-clause-formula : goal.new-requires-clause-formula
@@ -15,7 +11,7 @@ returns-in-Ok c =
     let x = c.args.context.now in
     let ok = rw c.in_ok-meant.ensures at c.in-Ok.ensures in
     record {
-      exact = (rule_passes (rule_of x c.args.formula.now) ok.rule, ap (meant.Rule c.args.name) ok.ok);
+      exact = (rule_passes (rule_of x c.args.formula.now) ok.rule, ap (Meaning.Rule c.args.name) ok.ok);
       sound = (is_new x c.args.name (grind (arith, parts)), record { rule = ok.rule; dimension = refl; nodes = refl; symbols = c.requires.sound.setting.alphabet; edges = refl; allowed = refl });
     }
 

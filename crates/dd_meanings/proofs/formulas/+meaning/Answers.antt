@@ -1,16 +1,13 @@
-use Rattle.std.proofs.Common.{◌≡◌, ◌+◌, ◌≤◌, map, length, [], ◌∷◌, sym, ap, subst, ◌∙◌, arith}
+use Rattle.std.proofs.Common.{◌≡◌, ◌+◌, ◌≤◌, map, length, [], ◌∷◌, sym, ap, subst, ◌∙◌, arith, IfOk}
 use denote.Param.Weighed.{at_most}
-use Rattle.std.specs.Prelude.{IfOk}
 use Rattle.std.proofs.lemmas.List.{length-append}
 use Rattle.dd_written.specs.Formulas.{tree_depth}
 use Rattle.dd_written.proofs.tree.Formula.TheLaws.{the_size}
 use Rattle.dd_expansion.specs.declared.formulas.Formula.{Formula}
 use Rattle.dd_faults.specs.Formulas.{formula_faults}
-use Rattle.dd_faults.specs.lemmas.Layers.{faults_chain, faults_quantified}
-use Rattle.dd_faults.specs.lemmas.Nothing.{both_nil}
+use Rattle.dd_faults.specs.lemmas.{Layers.faults_chain, Layers.faults_quantified, Nothing.both_nil}
 use Rattle.dd_meanings.specs.Formulas.{joined_of, formula_of}
-use Rattle.dd_meanings.proofs.Nothing.{none_item}
-use Rattle.dd_meanings.proofs.Making.{made_item}
+use Rattle.dd_meanings.proofs.{Nothing.none_item, Making.made_item}
 use Rattle.dd_meanings.proofs.Layers.{formula_chain, depth_chain, depth_quantified, parts_shallow, one_of_all}
 use Rattle.dd_meanings.proofs.formulas.+meaning.Goals as goal
 

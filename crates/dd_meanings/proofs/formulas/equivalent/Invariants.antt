@@ -1,5 +1,4 @@
-use Rattle.std.proofs.Common.{◌≡◌, length}
-use Rattle.std.specs.Prelude.{reverse}
+use Rattle.std.proofs.Common.{◌≡◌, length, reverse}
 use Rattle.dd_meanings.specs.Formulas.{iff_of, iff_behind}
 use Rattle.dd_meanings.proofs.formulas.equivalent.Given as goal
 

@@ -1,6 +1,5 @@
 use Rattle.std.proofs.Common.{arith}
-use Rattle.dd_meanings.proofs.Nothing.{parts}
-use Rattle.dd_meanings.proofs.HeaderLaws.{names_are}
+use Rattle.dd_meanings.proofs.{Nothing.parts, HeaderLaws.names_are}
 use Rattle.dd_meanings.proofs.header.alphabet.Goals as goal
 
 pub returns-clause-sound : goal.returns-clause-sound

@@ -2,8 +2,7 @@ use Rattle.std.proofs.Common.{length, refl, ap, arith}
 use Rattle.std.proofs.lemmas.List.{length-map}
 use Rattle.dd_written.specs.Values.{name_text}
 use Rattle.dd_faults.specs.Commands.{dimension_of}
-use Rattle.dd_meanings.proofs.Nothing.{parts}
-use Rattle.dd_meanings.proofs.HeaderLaws.{names_are, default_sound}
+use Rattle.dd_meanings.proofs.{Nothing.parts, HeaderLaws.names_are, HeaderLaws.default_sound}
 use Rattle.dd_meanings.proofs.header.nodes.Goals as goal
 
 pub default_topology-requires-clause-nodes : goal.default_topology-requires-clause-nodes

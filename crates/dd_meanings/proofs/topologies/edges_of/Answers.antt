@@ -1,8 +1,7 @@
 use Rattle.std.proofs.Common.{arith}
 use Rattle.dd_faults.specs.Commands.{edge_faults}
-use Rattle.dd_meanings.proofs.Nothing.{parts, none_item}
+use Rattle.dd_meanings.proofs.{Nothing.parts, Nothing.none_item, Making.made_item}
 use Rattle.dd_meanings.specs.Topologies.{edge_of}
-use Rattle.dd_meanings.proofs.Making.{made_item}
 use Rattle.dd_meanings.proofs.topologies.edges_of.Goals as goal
 
 pub edge_of-next-requires : goal.edge_of-next-requires

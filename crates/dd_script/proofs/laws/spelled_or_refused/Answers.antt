@@ -1,5 +1,4 @@
-use Rattle.dd_script.proofs.ScriptLaws.{never_both, spelled_or_refused}
-use Rattle.dd_script.proofs.OneOfBoth.{script_or_fault}
+use Rattle.dd_script.proofs.{ScriptLaws.never_both, ScriptLaws.spelled_or_refused, OneOfBoth.script_or_fault}
 use Rattle.dd_script.proofs.laws.spelled_or_refused.Goals as goal
 
 pub returns-clause-never_both : goal.returns-clause-never_both

@@ -1,5 +1,5 @@
 use Rattle.std.proofs.Common.{◌≡◌, ℕ, zero, suc, ◌-◌, true, List, drop, Some, refl, ap, sym, ◌∙◌, arith, rules}
-use Rattle.dd_written.specs.declared.lexeme.Lexeme.{Lexeme}
+use Rattle.dd_written.specs.Tree.{Lexeme}
 use Rattle.dd_written.specs.reading.Formulas.{begins, part_at, nested_at, unary_at}
 use Rattle.dd_written.specs.lemmas.Rounds.{goes_on}
 use Rattle.dd_written.proofs.formulas.+read.Goals as goal

@@ -1,7 +1,6 @@
 use Rattle.std.proofs.Common.{◌≡◌, ◌-◌, ◌+◌, ◌*◌, length}
 use Rattle.dd_written.specs.Formulas.{join_rank}
-use Rattle.dd_written.specs.reading.Formulas.{more_at, part_at, unary_at}
-use Rattle.dd_written.specs.reading.Readers.{with_front}
+use Rattle.dd_written.specs.reading.{Formulas.more_at, Formulas.part_at, Formulas.unary_at, Readers.with_front}
 use Rattle.dd_written.proofs.formulas.+read.Given as goal
 
 abbrev pub invariant-more_parts-loop : goal.invariant-more_parts-loop

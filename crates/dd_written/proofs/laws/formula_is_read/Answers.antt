@@ -1,5 +1,4 @@
-use Rattle.dd_written.proofs.Complete.{formula_again}
-use Rattle.dd_written.proofs.Sound.{formula_sound}
+use Rattle.dd_written.proofs.{Complete.formula_again, Sound.formula_sound}
 use Rattle.dd_written.proofs.laws.formula_is_read.Goals as goal
 
 pub returns : goal.returns

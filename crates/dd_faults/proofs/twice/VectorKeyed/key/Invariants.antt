@@ -1,5 +1,4 @@
-use Rattle.std.proofs.Common.{◌≡◌, take}
-use Rattle.std.specs.Prelude.{string_bytes}
+use Rattle.std.proofs.Common.{◌≡◌, take, string_bytes}
 use Rattle.std.specs.List.{flat_map}
 use Rattle.dd_faults.specs.Repeats.{entry_key}
 use Rattle.dd_faults.proofs.twice.VectorKeyed.key.Given as goal
