@@ -1,8 +1,12 @@
 -- The types of what is written, of its faults and of what is known, passed on from one place. Declares nothing.
-pub use Rattle.dd_commands.specs.Tree.{Kind, ReadFault, Word, Number, Mark, Lexeme, Name, Term, Comparand, Relation, Atom, Ball, Quantifier, Join, Formula, roll-Formula, Formula-F, fold-Formula, fold-roll-Formula, map-Formula, ind-Formula, Role, Lists, Question, Head, Entry, Vector, Edge, Case, Request, Command, Written, Syntax, SyntaxFault}
-pub use Rattle.dd_faults.specs.declared.fault.Limit.{Limit}
-pub use Rattle.dd_faults.specs.declared.fault.Fault.{Fault}
-pub use Rattle.dd_faults.specs.declared.fault.Refusal.{Refusal}
-pub use Rattle.dd_faults.specs.declared.context.Setting.{Setting}
-pub use Rattle.dd_faults.specs.declared.context.Known.{Known}
-pub use Rattle.dd_faults.specs.declared.context.Context.{Context}
+pub use Rattle.dd_topology.specs.declared.{builtin.Kind.Kind}
+pub use Rattle.dd_written.specs.declared.{lexeme.Word.Word, lexeme.Number.Number, lexeme.Lexeme.Lexeme, tree.Name.Name, tree.Term.Term}
+pub use Rattle.dd_written.specs.declared.{tree.Comparand.Comparand, tree.Relation.Relation, tree.Atom.Atom, tree.Ball.Ball}
+pub use Rattle.dd_written.specs.declared.{tree.Quantifier.Quantifier, tree.Join.Join, tree.Formula.Formula, tree.Formula.roll-Formula}
+pub use Rattle.dd_written.specs.declared.{tree.Formula.TheOpen.Formula-F, tree.Formula.TheFolds.fold-Formula}
+pub use Rattle.dd_written.specs.declared.{tree.Formula.TheFolds.fold-roll-Formula, tree.Formula.TheFolds.map-Formula}
+pub use Rattle.dd_commands.specs.declared.{table.Role.Role, table.Lists.Lists, command.Entry.Entry, command.Vector.Vector}
+pub use Rattle.dd_commands.specs.declared.{command.Edge.Edge, command.Case.Case, command.Request.Request, command.Command.Command}
+pub use Rattle.dd_commands.specs.declared.{script.Written.Written}
+pub use Rattle.dd_faults.specs.declared.{fault.Limit.Limit, fault.Fault.Fault, fault.Refusal.Refusal, context.Setting.Setting}
+pub use Rattle.dd_faults.specs.declared.{context.Known.Known, context.Context.Context}

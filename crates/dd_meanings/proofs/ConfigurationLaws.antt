@@ -4,7 +4,7 @@ use Rattle.std.specs.Option.{option_map_or}
 use Rattle.std.proofs.lemmas.{Grind.common_steps, List.length-map, List.Elements.All-from_get_or, Option.slice_get_within}
 use Rattle.dd_topology.specs.Sets.{allows}
 use Rattle.dd_topology.specs.lemmas.NamingLaws.{slice_get-number_of}
-use Rattle.dd_faults.specs.Tree.{Word, Name, Entry, Vector, Command, Context}
+use Rattle.dd_meanings.specs.Tree.{Word, Name, Entry, Vector, Command, Context}
 use Rattle.dd_written.specs.Values.{name_text}
 use Rattle.dd_pattern.specs.Tile.{IsPeriodic, IsTile}
 use Rattle.dd_faults.specs.{Names.place_of_name, Sound.IsSound}

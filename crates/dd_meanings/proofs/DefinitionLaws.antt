@@ -3,7 +3,7 @@ use Rattle.std.proofs.Common.{◌≡◌, ◌<◌, ◌≤◌, ℕ, List, [], leng
 use Rattle.std.specs.List.{All, flat_map}
 use Rattle.std.proofs.lemmas.{List.Elements.All-map, List.Elements.All-get_or, Option.unwrap_or-slice_get}
 use Rattle.dd_written.specs.Formulas.{tree_depth}
-use Rattle.dd_faults.specs.Tree.{Word, Name, Case, Command, Known, Context}
+use Rattle.dd_meanings.specs.Tree.{Word, Name, Case, Command, Known, Context}
 use Rattle.dd_faults.specs.{Names.missing, Names.number_in, Commands.case_faults, Commands.faults_of, Order.first_fault, Order.Refuses}
 use Rattle.dd_faults.specs.Sound.{IsSound}
 use Rattle.dd_formula.specs.Automata.{CommonNumbers, IsAutomaton, counted}

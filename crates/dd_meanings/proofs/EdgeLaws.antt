@@ -7,7 +7,7 @@ use Rattle.std.proofs.lemmas.List.Elements.{All-contains, All-contains_itself, A
 use Rattle.std.proofs.lemmas.{Map.Views.Contains-from_any, Slice.Eq.bytes_eq-Decides}
 use Rattle.std.proofs.lemmas.Option.{slice_get_within, slice_get-map, slice_get-get_or}
 use Rattle.dd_written.specs.Values.{name_text}
-use Rattle.dd_faults.specs.Tree.{Edge as Written, Command, Context}
+use Rattle.dd_meanings.specs.Tree.{Edge as Written, Command, Context}
 use Rattle.dd_topology.specs.{declared.edge.Edge.Edge, Topology.starts_alike, Naming.number_of, Grid.is_edge, Grid.IsFirstTwice}
 use Rattle.dd_lattice.specs.lemmas.ListLaws.{Contains-nil, Contains-cons_cases, Contains-map, Contains-from_map}
 use Rattle.dd_topology.specs.lemmas.ListLaws.{some_passes}

@@ -2,7 +2,7 @@
 use Rattle.std.proofs.Common.{◌≡◌, ℕ, ◌≤◌, ◌<◌, List, [], ◌∷◌, length, map, refl, ◌∙◌, subst, arith, min}
 use Rattle.std.specs.List.{flat_map}
 use Rattle.std.proofs.lemmas.{Grind.common_steps, List.length-map, List.Elements.All-map}
-use Rattle.dd_faults.specs.Tree.{Number, Name, Command, Context}
+use Rattle.dd_meanings.specs.Tree.{Number, Name, Command, Context}
 use Rattle.dd_written.specs.Values.{written_value, name_text}
 use Rattle.dd_topology.specs.{Naming.AreDistinct, Grid.Grid, Grid.IsGrid}
 use Rattle.dd_faults.specs.{Names.missing, Names.number_in, Commands.weight_faults, Commands.faults_of, Sound.IsGridOf, Sound.AreWeights}

@@ -2,7 +2,7 @@
 use Rattle.std.proofs.Common.{◌≡◌, ℕ, ◌+◌, ◌≤◌, ◌<◌, List, [], ◌∷◌, ◌++◌, map, length, slice_index_or, sym, ap, subst, ◌∙◌, arith}
 use Rattle.std.specs.List.{All}
 use Rattle.std.proofs.lemmas.{List.Elements.All-nil, List.Elements.All-cons, List.Elements.All-get_or, Simd.map-map}
-use Rattle.dd_faults.specs.Tree.{Word, Ball, Quantifier, Join, Formula as Written, Formula-F as Written-F, fold-roll-Formula, Context}
+use Rattle.dd_meanings.specs.Tree.{Word, Ball, Quantifier, Join, Formula as Written, Formula-F as Written-F, fold-roll-Formula, Context}
 use Rattle.dd_written.specs.declared.tree.Formula.TheVariants as v
 use Rattle.dd_written.specs.Formulas.{tree_depth, tree_depth_step, chain_depth}
 use Rattle.dd_expansion.specs.declared.formulas.Formula.{Formula, roll-Formula}

@@ -1,7 +1,7 @@
 -- Names by their numbers, and names that are given once.
 use Rattle.std.proofs.Common.{◌≡◌, ℕ, ◌<◌, ◌+◌, true, false, List, [], length, slice_index_or, Option, Some, None, Contains, refl, sym, ◌∙◌, arith, true≢false, bytes_eq, unwrap_or, is_some}
 use Rattle.std.proofs.lemmas.{Bool.Decides.nat_tests, Slice.Eq.bytes_eq-Decides, List.Sums.fails_before_first, Grind.common_steps}
-use Rattle.dd_faults.specs.Tree.{Word, Name, Context}
+use Rattle.dd_meanings.specs.Tree.{Word, Name, Context}
 use Rattle.dd_written.specs.Values.{word_text}
 use Rattle.dd_topology.specs.Naming.{number_of}
 use Rattle.dd_topology.specs.lemmas.NamingLaws.{slice_get-number_of}

@@ -3,7 +3,7 @@ use Rattle.std.proofs.Common.{◌≡◌, ◌≤◌, ℕ, ◌+◌, ◌-◌, Bool,
 use Rattle.std.specs.List.{list_all, flat_map}
 use Rattle.std.proofs.lemmas.{Bool.and_from, Bool.lt-ltb, Bool.cases_Bool, List.length-map, List.length-append, List.Folds.list_all-map}
 use Rattle.std.proofs.lemmas.List.Sums.{list_all-from_AllPass}
-use Rattle.dd_faults.specs.Tree.{Word, Name, Term as WrittenTerm, Comparand, Relation, Atom, Ball, Quantifier, Join, Formula as Written, Formula-F as Written-F, fold-roll-Formula as written_rolls, map-Formula as map_written, ind-Formula, Fault, Context}
+use Rattle.dd_meanings.specs.Tree.{Word, Name, Term as WrittenTerm, Comparand, Relation, Atom, Ball, Quantifier, Join, Formula as Written, Formula-F as Written-F, fold-roll-Formula as written_rolls, map-Formula as map_written, ind-Formula, Fault, Context}
 use Rattle.dd_written.specs.Formulas.{tree_depth as written_depth, tree_depth_step as written_step, signs_over, chain_depth}
 use Rattle.dd_expansion.specs.{declared.formulas.Term.Term, declared.formulas.BallOf.BallOf}
 use Rattle.dd_expansion.specs.declared.formulas.Formula.{Formula, roll-Formula}

@@ -7,7 +7,7 @@ use Rattle.dd_formula.specs.LocalRule.{LocalRule, local_rule, reads_at, expansio
 use Rattle.dd_formula.specs.Automata.{Counted, counted, is_few, is_short, is_shallow}
 use Rattle.dd_formula.specs.{ByCases.by_cases, declared.automaton.Automaton.Automaton}
 use Rattle.dd_formula.specs.declared.automaton.Automaton.TheVariants as automaton
-use Rattle.dd_faults.specs.Tree.{Word, Name, Formula, Vector, Case, Limit, Fault, Context}
+use Rattle.dd_meanings.specs.Tree.{Word, Name, Formula, Vector, Case, Limit, Fault, Context}
 use Rattle.dd_faults.specs.{Order.over, Names.number_in, Commands.dimension_of, Commands.period_at, Commands.shear_of}
 use Rattle.dd_meanings.specs.Formulas.{formula_of}
 

@@ -1,6 +1,6 @@
 -- Formulas with numbers in place of names.
 use Rattle.std.specs.Prelude.{ℕ, List, [], ◌∷◌, ◌++◌, map, unwrap_or, if◌then◌else◌}
-use Rattle.dd_faults.specs.Tree.{Word, Name, Term as WrittenTerm, Comparand, Relation, Atom, Ball, Quantifier, Join, Formula as Written, Formula-F as Written-F, fold-Formula, Context}
+use Rattle.dd_meanings.specs.Tree.{Word, Name, Term as WrittenTerm, Comparand, Relation, Atom, Ball, Quantifier, Join, Formula as Written, Formula-F as Written-F, fold-Formula, Context}
 use Rattle.dd_written.specs.Values.{written_value}
 use Rattle.dd_expansion.specs.{declared.formulas.Term.Term, declared.formulas.BallOf.BallOf}
 use Rattle.dd_expansion.specs.declared.formulas.Formula.{Formula, roll-Formula}

@@ -1,3 +1,5 @@
+-- the types of what is written, of its faults and of what is known
+pub mod Tree
 -- what each command means, and the limits of it
 pub mod Meanings
 -- the rules and automata of a script, made

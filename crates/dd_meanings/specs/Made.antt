@@ -1,7 +1,7 @@
 -- The rules and automata of a script.
 use Rattle.std.specs.Prelude.{◌≡◌, length}
 use Rattle.dd_formula.specs.{LocalRule.LocalRule, LocalRule.IsRule, Automata.CommonNumbers as Numbers}
-use Rattle.dd_faults.specs.Tree.{Setting, Known}
+use Rattle.dd_meanings.specs.Tree.{Setting, Known}
 
 -- the numbers that the rules, automata and configurations of a script have in common
 abbrev pub script_numbers : Known → Numbers

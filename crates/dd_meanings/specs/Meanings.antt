@@ -1,6 +1,6 @@
 -- What each command means, and the limits on its counts.
 use Rattle.std.specs.Prelude.{ℕ, List, [], length, map, true, false, if◌then◌else◌}
-use Rattle.dd_faults.specs.Tree.{Kind, Command, Fault, Context}
+use Rattle.dd_meanings.specs.Tree.{Kind, Command, Fault, Context}
 use Rattle.dd_topology.specs.Builtin.{grid_of}
 use Rattle.dd_values.specs.declared.limits.Limits.{Limits}
 use Rattle.dd_formula.specs.declared.automaton.Automaton.{Automaton}

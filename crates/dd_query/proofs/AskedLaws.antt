@@ -1,7 +1,7 @@
 -- What a question without a fault has, and what its query keeps.
 use Rattle.std.proofs.Common.{◌≡◌, ◌<◌, ℕ, false, List, [], Some, length, refl, sym, subst, slice_get}
 use Rattle.std.specs.List.{flat_map, list_any, zip}
-use Rattle.dd_faults.specs.Tree.{Role, Question, Vector, Request, Context}
+use Rattle.dd_query.specs.Tree.{Role, Question, Vector, Request, Context}
 use Rattle.dd_commands.specs.{Table.row, Commands.AreLists, Commands.IsRequest}
 use Rattle.dd_faults.specs.{Names.named, Sound.IsSound}
 use Rattle.dd_faults.specs.Commands.{dimension_of, is_far, word_faults, radius_faults, strip_faults, list_faults, request_faults}

@@ -4,7 +4,7 @@ use Rattle.std.specs.{List.All, List.list_any, List.flat_map, Option.option_map_
 use Rattle.std.proofs.lemmas.{Bool.or_parts, Bool.ltb-false, List.length-map, List.Folds.list_all-map, List.Folds.list_any_none}
 use Rattle.std.proofs.lemmas.List.Sums.{list_all-from_AllPass}
 use Rattle.dd_topology.specs.Grid.{is_offset}
-use Rattle.dd_faults.specs.Tree.{Number, Lists, Entry, Vector, Context}
+use Rattle.dd_query.specs.Tree.{Number, Lists, Entry, Vector, Context}
 use Rattle.dd_written.specs.Values.{written_value}
 use Rattle.dd_faults.specs.Commands.{dimension_of, is_far, radius_faults, is_no_strip, strip_faults, vector_faults, list_faults}
 use Rattle.dd_faults.specs.lemmas.Nothing.{parts, both_nil, within, all_where}

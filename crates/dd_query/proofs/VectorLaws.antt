@@ -4,7 +4,7 @@ use Rattle.std.specs.{List.All, List.list_any, List.flat_map, Option.option_map_
 use Rattle.std.proofs.lemmas.Bool.{or_parts, eqb-true}
 use Rattle.std.proofs.lemmas.List.{get_or-map, get_or-take, length-map, length-take-le}
 use Rattle.dd_lattice.specs.Place.{Place}
-use Rattle.dd_faults.specs.Tree.{Entry, Vector}
+use Rattle.dd_query.specs.Tree.{Entry, Vector}
 use Rattle.dd_faults.specs.Repeats.{entry_key, vector_key, twice_vector, twice_vectors}
 use Rattle.dd_faults.specs.Commands.{entry_value, signed_value, has_entries, is_far}
 use Rattle.dd_faults.specs.lemmas.Repeats.{once}

@@ -1,7 +1,7 @@
 -- The words of a question by their places.
 use Rattle.std.proofs.Common.{◌≡◌, ◌<◌, ℕ, zero, suc, List, [], ◌∷◌, Some, length, map, subst, arith, slice_index, slice_get}
 use Rattle.std.specs.List.{zip, flat_map}
-use Rattle.dd_faults.specs.Tree.{Word, Name, Role, Context}
+use Rattle.dd_query.specs.Tree.{Word, Name, Role, Context}
 use Rattle.dd_faults.specs.{Names.number_in, Names.named, Commands.word_faults}
 use Rattle.dd_query.specs.Queries.{number_of_word}
 use Rattle.dd_faults.specs.lemmas.Nothing.{both_nil, parts}

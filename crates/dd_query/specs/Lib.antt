@@ -1,3 +1,5 @@
+-- the types of what is written and of what is known
+pub mod Tree
 -- the positions that vectors stand for
 pub mod Vectors
 -- the queries that questions ask

@@ -2,7 +2,7 @@
 use Rattle.std.specs.Prelude.{ℕ, List, [], ◌∷◌, map, slice_get, slice_index}
 use Rattle.std.specs.{List.zip, Option.option_map_or}
 use Rattle.dd_lattice.specs.Place.{Place}
-use Rattle.dd_faults.specs.Tree.{Word, Name, Role, Question, Vector, Request, Context}
+use Rattle.dd_query.specs.Tree.{Word, Name, Role, Question, Vector, Request, Context}
 use Rattle.dd_written.specs.Values.{written_value}
 use Rattle.dd_commands.specs.Table.{row}
 use Rattle.dd_faults.specs.{Names.number_in, Names.named, Commands.period_at}

@@ -3,7 +3,7 @@ use Rattle.std.specs.Prelude.{ℕ, ◌≡◌, ◌≢◌, ◌<◌, ◌≤◌, tru
 use Rattle.std.specs.List.{list_all}
 use Rattle.dd_lattice.specs.Place.{Place}
 use Rattle.dd_topology.specs.Grid.{is_offset}
-use Rattle.dd_faults.specs.Tree.{Known}
+use Rattle.dd_query.specs.Tree.{Known}
 use Rattle.dd_query.specs.declared.queries.Query.{Query}
 
 -- the greatest period of a strip

@@ -1,6 +1,6 @@
 -- Bytes have a tree, or a first fault.
 use Rattle.std.proofs.Common.{◌≡◌, ◌⊎◌, ℕ, zero, suc, List, [], ◌∷◌, Option, Some, None, refl, sym, ◌∙◌, inl, inr}
-use Rattle.dd_faults.specs.Tree.{Lexeme, Written, Syntax}
+use Rattle.dd_script.specs.Tree.{Lexeme, Written, Syntax}
 use Rattle.dd_written.specs.Lexemes.{lexemes_of}
 use Rattle.dd_written.specs.reading.Laws.{FormulasAreRead}
 use Rattle.dd_written.specs.lemmas.Options.{nothing_some}

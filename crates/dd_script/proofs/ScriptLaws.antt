@@ -1,6 +1,6 @@
 -- Bytes spell one script, or are refused in one way, and never both.
 use Rattle.std.proofs.Common.{◌≡◌, ◌⊎◌, ℕ, List, Option, Some, None, refl, sym, ap, ◌∙◌, inl, inr}
-use Rattle.dd_faults.specs.Tree.{Syntax, Fault}
+use Rattle.dd_script.specs.Tree.{Syntax, Fault}
 use Rattle.dd_commands.specs.Scripts.{IsScript, IsSyntaxFault}
 use Rattle.dd_script.specs.Parts.{Parts}
 use Rattle.dd_script.specs.Walk.{Located, located, first_located_fault, script_of, Fault}

@@ -2,7 +2,7 @@
 use Rattle.std.proofs.Common.{◌≡◌, ℕ, ◌+◌, ◌<◌, ◌≤◌, true, false, List, [], ◌∷◌, ◌++◌, length, drop, get_or, Option, Some, None, Result, Ok, Err, refl, sym, ap, subst, ◌∙◌, arith, All, IfOk, MatchResult, nat_lt, if◌then◌else◌}
 use Rattle.std.specs.Option.{option_or, option_map}
 use Rattle.std.proofs.lemmas.{Bool.ltb-false, List.drop_more, List.Elements.All-get_or}
-use Rattle.dd_faults.specs.Tree.{Lexeme, Syntax, Limit, Refusal}
+use Rattle.dd_script.specs.Tree.{Lexeme, Syntax, Limit, Refusal}
 use Rattle.dd_written.specs.Lexemes.{lexemes_of}
 use Rattle.dd_commands.specs.Heads.{head_of, is_once}
 use Rattle.dd_commands.specs.Scripts.{parts, stage_after, AreCommands, IsScript, IsWritten}

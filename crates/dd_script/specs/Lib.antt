@@ -1,3 +1,5 @@
+-- the types of what is written, of its faults and of what is known
+pub mod Tree
 -- the parts of a script
 pub mod Parts
 -- what the queries ask, and which limit on its work that passes

@@ -3,7 +3,7 @@ use Rattle.std.specs.Prelude.{ℕ, ◌+◌, List, [], ◌∷◌, ◌++◌, lengt
 use Rattle.std.specs.{List.list_any, List.range_with_len, Option.option_or, Option.option_map}
 use Rattle.dd_topology.specs.{Builtin.square, Sets.all_symbols, Sets.restricted}
 pub use Rattle.dd_written.specs.Values.{word_text}
-use Rattle.dd_faults.specs.Tree.{Head, Limit, Fault, Context}
+use Rattle.dd_script.specs.Tree.{Head, Limit, Fault, Context}
 pub use Rattle.dd_commands.specs.{declared.script.Written.Written, Scripts.stage_of}
 use Rattle.dd_commands.specs.Heads.{stage}
 pub use Rattle.dd_faults.specs.{declared.fault.Limit.Limit, declared.fault.Fault.Fault, Order.first_fault, Commands.written_faults}

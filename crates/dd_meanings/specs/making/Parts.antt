@@ -1,6 +1,6 @@
 -- Why definitions are not made.
 use Rattle.dd_formula.specs.declared.fault.RuleFault.{RuleFault}
-use Rattle.dd_faults.specs.Tree.{Limit, Fault, Refusal}
+use Rattle.dd_meanings.specs.Tree.{Limit, Fault, Refusal}
 
 -- the refusal of a command for which no rule or automaton was made
 abbrev pub refusal_of : RuleFault → Refusal

@@ -6,7 +6,7 @@ use Rattle.std.proofs.lemmas.Bool.{eqb-true, ltb-false, lt-ltb, le-leb, or_parts
 use Rattle.std.proofs.lemmas.{Int.ints, Option.slice_get_within}
 use Rattle.dd_topology.specs.Grid.{edge_reach, is_offset}
 use Rattle.dd_written.specs.Values.{written_value}
-use Rattle.dd_faults.specs.Tree.{Entry, Vector}
+use Rattle.dd_query.specs.Tree.{Entry, Vector}
 use Rattle.dd_faults.specs.Commands.{entry_value, signed_value, has_entries, is_far}
 use Rattle.dd_query.specs.Vectors.{coordinate, place_of}
 

@@ -1,7 +1,7 @@
 -- Scripts as far as their commands have been gone through.
 use Rattle.std.specs.Prelude.{ℕ, ◌+◌, ◌≡◌, ◌≤◌, List, Bool, Option, None}
 use Rattle.dd_values.specs.Bounds.{most_commands}
-use Rattle.dd_faults.specs.Tree.{SyntaxFault}
+use Rattle.dd_script.specs.Tree.{SyntaxFault}
 use Rattle.dd_meanings.specs.Sound.{IsSoundMeaning}
 use Rattle.dd_script.specs.{declared.draft.Draft.Draft, declared.fault.ScriptFault.ScriptFault, declared.fault.ScriptKind.ScriptKind}
 use Rattle.dd_script.specs.{Parts.Parts, Parts.parts, Kept.IsScriptOf, drafting.Standing.IsReady}

@@ -1,5 +1,5 @@
 use Rattle.dd_written.specs.Values.{name_text}
-use Rattle.dd_faults.specs.Tree.{Fault}
+use Rattle.dd_meanings.specs.Tree.{Fault}
 use Rattle.dd_faults.specs.lemmas.Repeats.{once}
 use Rattle.dd_meanings.proofs.names.names_of.Goals as goal
 

@@ -1,0 +1,4 @@
+-- The types of what is written, of its faults and of what is known, passed on from one place. Declares nothing.
+pub use Rattle.dd_written.specs.declared.{lexeme.Lexeme.Lexeme}
+pub use Rattle.dd_commands.specs.declared.{head.Head.Head, script.Written.Written, script.Syntax.Syntax, fault.SyntaxFault.SyntaxFault}
+pub use Rattle.dd_faults.specs.declared.{fault.Limit.Limit, fault.Fault.Fault, fault.Refusal.Refusal, context.Context.Context}
