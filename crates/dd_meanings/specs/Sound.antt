@@ -5,7 +5,8 @@ use Rattle.dd_values.specs.Ranges.{AreLimits}
 use Rattle.dd_topology.specs.{Naming.AreDistinct, Sets.allows}
 use Rattle.dd_pattern.specs.Tile.{Tile, IsTile}
 use Rattle.dd_formula.specs.Automata.{IsAutomaton}
-use Rattle.dd_faults.specs.{Tree.Word, Tree.Setting, Tree.Context, Sound.IsGridOf, Sound.AreWeights}
+use Rattle.dd_faults.specs.Sound.{IsGridOf, AreWeights}
+use Rattle.dd_meanings.specs.Tree.{Word, Setting, Context}
 use Rattle.dd_written.specs.Values.{word_text}
 use Rattle.dd_meanings.specs.{Made.script_numbers, Made.IsRuleOf, declared.meaning.Meaning.Meaning}
 use Rattle.dd_query.specs.Sound.{IsQueryWithin}

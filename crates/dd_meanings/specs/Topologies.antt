@@ -2,7 +2,8 @@
 use Rattle.std.specs.Prelude.{ℕ, ◌==◌, List, [], ◌∷◌, ◌++◌, length, map, if◌then◌else◌, codes, bytes_eq}
 use Rattle.std.specs.List.{list_any}
 use Rattle.dd_topology.specs.{declared.edge.Edge.Edge, Grid.Grid, Grid.grid, Builtin.grid_of}
-use Rattle.dd_faults.specs.{Tree.Kind, Tree.Name, Tree.Edge as Written, Names.number_in}
+use Rattle.dd_faults.specs.Names.{number_in}
+use Rattle.dd_meanings.specs.Tree.{Kind, Name, Edge as Written}
 use Rattle.dd_written.specs.Values.{word_text}
 use Rattle.dd_query.specs.Vectors.{place_of}
 

@@ -5,7 +5,8 @@ use Rattle.std.proofs.lemmas.{List.Elements.All-nil, List.length-set, List.lengt
 use Rattle.std.proofs.lemmas.List.FromFn.{length-range_with_len, get_or-range_with_len}
 use Rattle.dd_values.specs.{declared.limits.Limits.Limits, Ranges.AreLimits}
 use Rattle.dd_topology.specs.{Grid.Grid, Builtin.grid_of, Sets.IsSets, Sets.symbol_row}
-use Rattle.dd_faults.specs.{Tree.Command, Tree.Fault, Tree.Setting, Sound.IsSetting, Sound.AreWeights}
+use Rattle.dd_faults.specs.Sound.{IsSetting, AreWeights}
+use Rattle.dd_script.specs.Tree.{Command, Fault, Setting}
 use Rattle.dd_commands.specs.Heads.{head_of, stage}
 use Rattle.dd_meanings.specs.{Meanings.meaning, Topologies.kind_names, Sound.IsSoundMeaning}
 use Rattle.dd_script.specs.{declared.draft.Draft.Draft, Parts.Parts, Parts.Known, drafting.Standing.IsFresh, drafting.Standing.IsReady}

@@ -1,4 +1,6 @@
 -- The types of what is written, of its faults and of what is known, passed on from one place. Declares nothing.
 pub use Rattle.dd_written.specs.declared.{lexeme.Lexeme.Lexeme}
-pub use Rattle.dd_commands.specs.declared.{head.Head.Head, script.Written.Written, script.Syntax.Syntax, fault.SyntaxFault.SyntaxFault}
-pub use Rattle.dd_faults.specs.declared.{fault.Limit.Limit, fault.Fault.Fault, fault.Refusal.Refusal, context.Context.Context}
+pub use Rattle.dd_commands.specs.declared.{head.Head.Head, command.Command.Command, script.Written.Written, script.Syntax.Syntax}
+pub use Rattle.dd_commands.specs.declared.{fault.SyntaxFault.SyntaxFault}
+pub use Rattle.dd_faults.specs.declared.{fault.Limit.Limit, fault.Fault.Fault, fault.Refusal.Refusal, context.Setting.Setting}
+pub use Rattle.dd_faults.specs.declared.{context.Context.Context}
