@@ -1,5 +1,6 @@
 //! Why a text is no script.
 ghost use Rattle.std.specs.Prelude.{◌≡◌};
+ghost use Rattle.dd_script.specs.declared.fault.ScriptKind.TheVariants as refused;
 ghost use Rattle.dd_script.specs.drafting.Drafts.{IsUnread};
 
 use dd_commands::SyntaxFault;
@@ -40,7 +41,7 @@ pub struct ScriptFault {
 }
 
 impl From<AllocError> for ScriptFault {
-    ghost from_gives = { λ _ fault. fault ≡ record { command = 0; kind = ScriptKind.Memory } };
+    ghost from_gives = { λ _ fault. fault ≡ record { command = 0; kind = refused.Memory } };
 
     fn from(_error: AllocError) -> ScriptFault {
         ScriptFault {

@@ -35,10 +35,10 @@ pub struct Script {
 }
 
 impl Model for Script {
-    ghost use Rattle.std.specs.{Coded.codes, Prelude.◌≡◌, Prelude.Contains};
+    ghost use Rattle.std.specs.Coded.{codes};
     ghost use Rattle.dd_expansion.specs.contracts.formulas.Formula as formula_type;
     ghost use Rattle.dd_formula.specs.contracts.automaton.Automaton as automaton_type;
-    ghost use Rattle.dd_script.specs.{Parts.Parts, Parts.parts, Kept.IsScriptOf, Asking.Asks, Asking.AreSound};
+    ghost use Rattle.dd_script.specs.{Parts.Parts, Parts.parts, Kept.IsScriptOf};
 
     ghost Value = { Parts };
 
@@ -51,7 +51,9 @@ impl Model for Script {
 
 /// The readers take no memory.
 impl Script {
+    ghost use Rattle.std.specs.Prelude.{◌≡◌};
     ghost use Rattle.dd_values.specs.Ranges.{AreLimits};
+    ghost use Rattle.dd_script.specs.Kept.{IsScriptOf};
 
     /// The dimension: 1, 2 or 3.
     pub fn dim(&self) -> u32
@@ -145,7 +147,9 @@ impl Script {
 
 /// What the queries ask. Nothing here takes memory.
 impl Script {
+    ghost use Rattle.std.specs.Prelude.{Contains};
     ghost use Rattle.dd_question.specs.Views.{asked_of};
+    ghost use Rattle.dd_script.specs.Asking.{Asks, AreSound};
 
     /// What a query of the script asks, of whichever kind it is: with the rules, automata and configurations themselves in place of
     /// their numbers, and with the script's weights where something is weighed.
