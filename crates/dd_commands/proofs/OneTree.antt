@@ -1,11 +1,8 @@
 -- Bytes are the text of one tree at most, or have one first fault, and never both.
 use Rattle.std.proofs.Common.{◌≡◌, ℕ, zero, suc, List, [], ◌∷◌, refl, sym, ap, subst, ◌∙◌}
-use Rattle.dd_commands.specs.Tree.{Lexeme, Written, Syntax}
-use Rattle.dd_written.specs.Lexemes.{lexemes_of}
-use Rattle.dd_written.specs.reading.Laws.{FormulasAreRead}
+use Rattle.dd_written.specs.{Lexemes.lexemes_of, reading.Laws.FormulasAreRead, lemmas.Options.some_is}
+use Rattle.dd_commands.specs.{Tree.Lexeme, Tree.Written, Tree.Syntax, lemmas.Whole.written_again}
 use Rattle.dd_commands.specs.Scripts.{parts, stage_after, MayStand, AreCommands, IsFirstBad, IsScript, IsSyntaxFault}
-use Rattle.dd_written.specs.lemmas.Options.{some_is}
-use Rattle.dd_commands.specs.lemmas.Whole.{written_again}
 
 abbrev syntax_of : List ℕ → List Written → Syntax
 syntax_of text cs = record { text = text; commands = cs }

@@ -1,12 +1,10 @@
 -- The parts of a script, cut one after the other, and what is known of those that were read.
-use Rattle.std.proofs.Common.{◌≡◌, ℕ, suc, ◌+◌, ◌<◌, ◌≤◌, List, [], ◌∷◌, ◌++◌, length, take, drop, Some, None, zero-add, refl, sym, ap, subst, ◌∙◌, append_assoc, arith, append-nil}
+use Rattle.std.proofs.Common.{◌≡◌, ℕ, suc, ◌+◌, ◌<◌, ◌≤◌, List, [], ◌∷◌, ◌++◌, length, take, drop, Some, zero-add, refl, ap, subst, append_assoc, arith, append-nil}
 use Rattle.std.specs.List.{prefix_len}
 use Rattle.dd_written.specs.reading.Laws.{FormulasAreRead}
-use Rattle.dd_written.specs.lemmas.Options.{nothing_some}
-use Rattle.dd_commands.specs.Tree.{Mark, Lexeme, Written}
+use Rattle.dd_commands.specs.{Tree.Mark, Tree.Lexeme, Tree.Written, reading.Parts.is_inside, reading.Parts.written_of}
+use Rattle.dd_commands.specs.lemmas.Whole.{written_sound}
 use Rattle.dd_commands.specs.Scripts.{parts, stage_after, AreCommands, IsFirstBad, AreWritten, IsBadCommand}
-use Rattle.dd_commands.specs.reading.Parts.{is_inside, written_of}
-use Rattle.dd_commands.specs.lemmas.Whole.{written_sound, written_again}
 
 -- what stands before the first mark, the parts behind it, and that these begin at a mark
 pub cut : (tokens : List Lexeme) → let n = prefix_len is_inside tokens in
@@ -30,11 +28,7 @@ pub record Sofar (bytes : List ℕ) (tokens rest : List Lexeme) (cs : List Writt
   pub bad : (place : ℕ) → IsFirstBad bytes from (parts rest).1 place → IsBadCommand bytes tokens (number + suc place)
 
 pub starts : (bytes : List ℕ) (tokens : List Lexeme) → (parts tokens).0 ≡ [] → Sofar bytes tokens tokens [] 0 0
-starts bytes tokens clean = record {
-  at_mark = clean;
-  written = λ ws are. (clean, are);
-  bad = λ place is. rw zero-add (clean, is);
-}
+starts bytes tokens clean = record { at_mark = clean; written = λ ws are. (clean, are); bad = λ place is. rw zero-add (clean, is) }
 
 module _ (law : FormulasAreRead) where
   pub goes_on : (bytes : List ℕ) (tokens rest part next : List Lexeme) (cs new : List Written) (number from after : ℕ) (c : Written) → Sofar bytes tokens rest cs number from → (parts rest).1 ≡ part ∷ (parts next).1 → (parts next).0 ≡ []
@@ -50,18 +44,9 @@ module _ (law : FormulasAreRead) where
             subst (IsBadCommand bytes tokens) count (s.bad (suc place) (rw cut (c, may, subst (λ (n : ℕ). IsFirstBad bytes n (parts next).1 place) behind b)));
       }
 
-  pub is_fault : (bytes : List ℕ) (tokens rest part next : List Lexeme) (cs : List Written) (number from : ℕ) → Sofar bytes tokens rest cs number from → (parts rest).1 ≡ part ∷ (parts next).1 → written_of bytes from part ≡ None
-      → IsBadCommand bytes tokens (number + 1)
-  is_fault bytes tokens rest part next cs number from s cut none = s.bad 0 (rw cut (λ w may. nothing_some w (sym none ∙ written_again law bytes from part w may)))
-
 pub all_read : (bytes : List ℕ) (tokens rest : List Lexeme) (cs : List Written) (number from : ℕ) → Sofar bytes tokens rest cs number from → length rest ≤ 0 → AreWritten bytes tokens cs
 all_read bytes tokens [] cs number from s none = subst (AreWritten bytes tokens) (append-nil cs) (s.written [] tt)
 all_read bytes tokens (t ∷ rest) cs number from s none = absurd (omega (arith, none))
-
-pub nothing_before : (tokens : List Lexeme) → prefix_len is_inside tokens ≤ 0 → (parts tokens).0 ≡ []
-nothing_before tokens le =
-    let none : prefix_len is_inside tokens ≡ 0 = omega (arith, le) in
-    (cut tokens).0 ∙ ap (λ n. take n tokens) none
 
 pub something_before : (tokens : List Lexeme) → 0 < prefix_len is_inside tokens → (parts tokens).0 ≡ [] → ⊥
 something_before [] lt none = omega (arith, lt)

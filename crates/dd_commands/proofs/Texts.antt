@@ -1,8 +1,8 @@
 -- Commands are what their tokens say, and a text of commands is ASCII.
-use Rattle.std.proofs.Common.{◌≡◌, ℕ, Bool, true, false, List, [], ◌∷◌, ◌++◌, map, length, refl, sym, ap, subst, ◌==◌, ◌&&◌, if◌then◌else◌, All, IsAscii}
+use Rattle.std.proofs.Common.{◌≡◌, ℕ, ◌<◌, Bool, true, false, List, [], ◌∷◌, ◌++◌, map, length, refl, sym, ap, subst, ◌==◌, ◌&&◌, if◌then◌else◌, All, IsAscii}
 use Rattle.std.specs.{List.list_all, Char.is_ascii}
-use Rattle.std.proofs.lemmas.{Bool.ltb-true, Bool.and_parts, Bool.and_from, List.Elements.All-nil, List.Elements.All-cons}
-use Rattle.std.proofs.lemmas.Str.Ascii.{IsAscii-nil, IsAscii-cons}
+use Rattle.std.proofs.lemmas.{Bool.ltb-true, Bool.and_parts, Bool.and_from, List.Elements.All-nil, List.Elements.All-cons, List.Elements.All-weaker, List.Sums.AllPass-from_list_all}
+use Rattle.std.proofs.lemmas.Str.Ascii.{IsAscii-from_all}
 use Rattle.dd_tokens.specs.Format.{tokens_of}
 use Rattle.dd_commands.specs.{Tree.Mark, Tree.Lexeme, Tree.Written, Commands.IsCommand}
 use Rattle.dd_written.specs.Lexemes.{lexeme_of, lexemes_of}
@@ -25,12 +25,9 @@ no_stray false [] before each = absurd cc
 no_stray false (Lexeme.Mark Mark.Percent ∷ tokens) before each = (let both = and_parts _ _ each in no_stray false tokens both.0 both.1)
 no_stray false (t ∷ tokens) before each = no_stray false tokens (and_parts (is_whole t) (list_all is_whole (parts (with_end false tokens)).0) before).1 each
 
-ascii : (bytes : List ℕ) → list_all is_ascii bytes ≡ true → IsAscii bytes
-ascii [] e = IsAscii-nil
-ascii (b ∷ bytes) e = (let both = and_parts (is_ascii b) (list_all is_ascii bytes) e in IsAscii-cons b bytes (ltb-true b 128 both.0) (ascii bytes both.1))
-
 pub ascii_text : (bytes : List ℕ) (ws : List Written) → AreWritten bytes (lexemes_of bytes) ws → IsAscii bytes
 ascii_text bytes ws is =
-    ascii bytes (and_parts ((tokens_of bytes).stop == length bytes) (list_all is_ascii bytes)
-    (no_stray ((tokens_of bytes).stop == length bytes && list_all is_ascii bytes) (map (lexeme_of bytes) (tokens_of bytes).list)
-    (ap (list_all is_whole) is.0) (all_written bytes 0 (parts (lexemes_of bytes)).1 ws is.1).1)).1
+    let whole = (tokens_of bytes).stop == length bytes in
+    let each = (all_written bytes 0 (parts (lexemes_of bytes)).1 ws is.1).1 in
+    let clean = and_parts whole (list_all is_ascii bytes) (no_stray (whole && list_all is_ascii bytes) (map (lexeme_of bytes) (tokens_of bytes).list) (ap (list_all is_whole) is.0) each) in
+    IsAscii-from_all bytes (All-weaker (λ b. is_ascii b ≡ true) (λ b. b < 128) (λ b. ltb-true b 128) bytes (AllPass-from_list_all is_ascii bytes clean.1))

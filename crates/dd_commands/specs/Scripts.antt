@@ -1,15 +1,22 @@
 -- Scripts: commands in order, or the first that is not well formed.
-use Rattle.std.specs.Prelude.{◌≡◌, ℕ, zero, suc, ◌≤◌, List, [], ◌∷◌, Bool, true, false, Result, Ok, Err}
+use Rattle.std.specs.Prelude.{◌≡◌, ℕ, zero, suc, ◌≤◌, List, [], ◌∷◌, Bool, true, false, if◌then◌else◌, Result, Ok, Err, bytes_eq, codes}
 use Rattle.std.specs.List.{list_all}
-use Rattle.dd_commands.specs.Tree.{Mark, Lexeme, Written, Syntax, SyntaxFault}
+use Rattle.dd_commands.specs.Tree.{Lexeme, Written, Syntax, SyntaxFault}
 use Rattle.dd_commands.specs.{Heads.head_of, Heads.stage, Heads.next_stage, Commands.IsCommand}
-use Rattle.dd_written.specs.Lexemes.{lexemes_of}
+use Rattle.dd_written.specs.Lexemes.{mark_text, lexemes_of}
+
+-- the mark before a command
+abbrev pub is_percent : Lexeme → Bool
+is_percent (Lexeme.Word w) = false
+is_percent (Lexeme.Number n) = false
+is_percent (Lexeme.Negative n) = false
+is_percent (Lexeme.Mark m) = bytes_eq (mark_text m) (codes "%")
+is_percent Lexeme.Stray = false
 
 -- what stands before the first command, and each command without its mark
 abbrev pub parts : List Lexeme → List Lexeme × List (List Lexeme)
 parts [] = ([], [])
-parts (Lexeme.Mark Mark.Percent ∷ tokens) = ([], (parts tokens).0 ∷ (parts tokens).1)
-parts (t ∷ tokens) = (t ∷ (parts tokens).0, (parts tokens).1)
+parts (t ∷ tokens) = if is_percent t then ([], (parts tokens).0 ∷ (parts tokens).1) else (t ∷ (parts tokens).0, (parts tokens).1)
 
 -- a token, and no byte that belongs to none
 abbrev pub is_whole : Lexeme → Bool

@@ -1,4 +1,5 @@
 pub mod Forms
 pub mod Items
+pub mod Words
 pub mod Commands
 pub mod Whole

@@ -1,11 +1,11 @@
 //! Commands, read from their first word to the end.
 ghost use Rattle.std.specs.Prelude.{◌≡◌};
 ghost use Rattle.dd_written.specs.reading.{Readers.Gives, Formulas.formula_at};
-ghost use Rattle.dd_commands.specs.reading.Commands.{case, topology, body, command_of};
+ghost use Rattle.dd_commands.specs.reading.Commands.{case_at, body, command_of};
 
 use crate::command::{Case, Command};
 use crate::head::Head;
-use crate::keywords::behind;
+use crate::keywords::wanted;
 use crate::reading::{FromTokens, Read, Source, each, some};
 use crate::requests::query;
 use crate::vectors::{plain, shear};
@@ -22,19 +22,19 @@ impl FromTokens for Formula {
 }
 
 impl FromTokens for Case {
-    ghost item = { λ bytes. (case bytes).item };
+    ghost item = { λ bytes. case_at bytes };
 
     fn read<'a>(from: Source, tokens: &'a [Lexeme]) -> Read<'a, Case> {
-        let rest = behind(from, b"when", tokens)?;
+        let (_, rest) = wanted(from, b"when", tokens)?;
         let (condition, rest) = Formula::read(from, rest)?;
-        let rest = behind(from, b"give", rest)?;
+        let (_, rest) = wanted(from, b"give", rest)?;
         let (symbol, rest) = read_name(rest)?;
         Ok((Case { condition, symbol }, rest))
     }
 }
 
 fn topology<'a>(from: Source, tokens: &'a [Lexeme]) -> Read<'a, Command>
-    ensures { Gives (λ x. (x.0, x.1.now)) result ((topology from.entry.bytes.now tokens.now).item tokens.now) }
+    ensures { Gives (λ x. (x.0, x.1.now)) result (body from.entry.bytes.now Head.Topology tokens.now) }
 {
     match tokens {
         [Lexeme::Word(_), ..] => {
@@ -49,7 +49,7 @@ fn topology<'a>(from: Source, tokens: &'a [Lexeme]) -> Read<'a, Command>
 }
 
 fn limits<'a>(from: Source, tokens: &'a [Lexeme]) -> Read<'a, Command>
-    ensures { Gives (λ x. (x.0, x.1.now)) result ((body from.entry.bytes.now Head.Limits tokens.now).item tokens.now) }
+    ensures { Gives (λ x. (x.0, x.1.now)) result (body from.entry.bytes.now Head.Limits tokens.now) }
 {
     let (radius, rest) = Number::read(from, tokens)?;
     let (period, rest) = Number::read(from, rest)?;
@@ -63,11 +63,11 @@ fn limits<'a>(from: Source, tokens: &'a [Lexeme]) -> Read<'a, Command>
 }
 
 fn automaton<'a>(from: Source, tokens: &'a [Lexeme]) -> Read<'a, Command>
-    ensures { Gives (λ x. (x.0, x.1.now)) result ((body from.entry.bytes.now Head.Automaton tokens.now).item tokens.now) }
+    ensures { Gives (λ x. (x.0, x.1.now)) result (body from.entry.bytes.now Head.Automaton tokens.now) }
 {
     let (name, rest) = Word::read(from, tokens)?;
     let (cases, rest) = each(from, rest)?;
-    let rest = behind(from, b"else", rest)?;
+    let (_, rest) = wanted(from, b"else", rest)?;
     let (default, rest) = read_name(rest)?;
     let automaton = Command::Automaton {
         name,
@@ -77,17 +77,8 @@ fn automaton<'a>(from: Source, tokens: &'a [Lexeme]) -> Read<'a, Command>
     Ok((automaton, rest))
 }
 
-fn composition<'a>(from: Source, tokens: &'a [Lexeme]) -> Read<'a, Command>
-    ensures { Gives (λ x. (x.0, x.1.now)) result ((body from.entry.bytes.now Head.Composition tokens.now).item tokens.now) }
-{
-    let (name, rest) = Word::read(from, tokens)?;
-    let (outer, rest) = Word::read(from, rest)?;
-    let (inner, rest) = Word::read(from, rest)?;
-    Ok((Command::Composition { name, outer, inner }, rest))
-}
-
 fn configuration<'a>(from: Source, tokens: &'a [Lexeme]) -> Read<'a, Command>
-    ensures { Gives (λ x. (x.0, x.1.now)) result ((body from.entry.bytes.now Head.Configuration tokens.now).item tokens.now) }
+    ensures { Gives (λ x. (x.0, x.1.now)) result (body from.entry.bytes.now Head.Configuration tokens.now) }
 {
     let (name, rest) = Word::read(from, tokens)?;
     let (periods, rest) = plain(from, rest)?;
@@ -104,7 +95,7 @@ fn configuration<'a>(from: Source, tokens: &'a [Lexeme]) -> Read<'a, Command>
 
 /// What stands behind the first word of a command.
 fn body<'a>(from: Source, head: Head, tokens: &'a [Lexeme]) -> Read<'a, Command>
-    ensures { Gives (λ x. (x.0, x.1.now)) result ((body from.entry.bytes.now head tokens.now).item tokens.now) }
+    ensures { Gives (λ x. (x.0, x.1.now)) result (body from.entry.bytes.now head tokens.now) }
 {
     match head {
         Head::Dimension => {
@@ -136,7 +127,12 @@ fn body<'a>(from: Source, head: Head, tokens: &'a [Lexeme]) -> Read<'a, Command>
             Ok((Command::Rule { name, formula }, rest))
         }
         Head::Automaton => automaton(from, tokens),
-        Head::Composition => composition(from, tokens),
+        Head::Composition => {
+            let (name, rest) = Word::read(from, tokens)?;
+            let (outer, rest) = Word::read(from, rest)?;
+            let (inner, rest) = Word::read(from, rest)?;
+            Ok((Command::Composition { name, outer, inner }, rest))
+        }
         Head::Configuration => configuration(from, tokens),
         Head::Question(question) => query(from, question, tokens),
     }

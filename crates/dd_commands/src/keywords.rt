@@ -7,7 +7,7 @@ ghost use Rattle.dd_commands.specs.reading.Commands.{one_of, keyword, heads, kin
 use crate::head::Head;
 use crate::reading::{FromTokens, Read, Source};
 use crate::table::Question;
-use dd_topology::Kind;
+use dd_topology::Kind::{self, Cube, Hex, King, Line, Square, Triangle};
 use dd_written::{Lexeme, ReadFault, Word, same_bytes, word_bytes};
 
 /// The row of a first word.
@@ -72,14 +72,12 @@ fn head(written: &[u8]) -> Option<Head>
 }
 
 impl FromTokens for Head {
-    ghost item = { λ bytes. (keyword head_text heads bytes).item };
+    ghost item = { λ bytes. keyword head_text heads bytes };
 
     fn read<'a>(from: Source, tokens: &'a [Lexeme]) -> Read<'a, Head> {
         let (word, rest) = Word::read(from, tokens)?;
-        match head(word_bytes(from.bytes, word)) {
-            Some(head) => Ok((head, rest)),
-            None => Err(ReadFault::Syntax),
-        }
+        let head = head(word_bytes(from.bytes, word)).ok_or(ReadFault::Syntax)?;
+        Ok((head, rest))
     }
 }
 
@@ -87,12 +85,12 @@ fn kind_text(kind: Kind) -> &'static [u8]
     ensures { result.now ≡ kind_text kind }
 {
     match kind {
-        Kind::Line => b"line",
-        Kind::Square => b"square",
-        Kind::King => b"king",
-        Kind::Triangle => b"triangle",
-        Kind::Hex => b"hex",
-        Kind::Cube => b"cube",
+        Line => b"line",
+        Square => b"square",
+        King => b"king",
+        Triangle => b"triangle",
+        Hex => b"hex",
+        Cube => b"cube",
     }
 }
 
@@ -107,30 +105,24 @@ fn kind(written: &[u8]) -> Option<Kind>
 }
 
 impl FromTokens for Kind {
-    ghost item = { λ bytes. (keyword kind_text kinds bytes).item };
+    ghost item = { λ bytes. keyword kind_text kinds bytes };
 
     fn read<'a>(from: Source, tokens: &'a [Lexeme]) -> Read<'a, Kind> {
         let (word, rest) = Word::read(from, tokens)?;
-        match kind(word_bytes(from.bytes, word)) {
-            Some(kind) => Ok((kind, rest)),
-            None => Err(ReadFault::Syntax),
-        }
+        let kind = kind(word_bytes(from.bytes, word)).ok_or(ReadFault::Syntax)?;
+        Ok((kind, rest))
     }
 }
 
-/// The tokens behind a word that is wanted.
-pub(crate) fn behind<'a>(
-    from: Source,
-    text: &[u8],
-    tokens: &'a [Lexeme],
-) -> Result<&'a [Lexeme], ReadFault>
-    ensures { Gives (λ x. (tt, x.now)) result ((wanted from.entry.bytes.now text.now).item tokens.now) }
+/// A word that is wanted.
+pub(crate) fn wanted<'a>(from: Source, text: &[u8], tokens: &'a [Lexeme]) -> Read<'a, Word>
+    ensures { Gives (λ x. (x.0, x.1.now)) result ((wanted from.entry.bytes.now text.now).item tokens.now) }
 {
     let (word, rest) = Word::read(from, tokens)?;
     if !same_bytes(word_bytes(from.bytes, word), text) {
         return Err(ReadFault::Syntax);
     }
-    Ok(rest)
+    Ok((word, rest))
 }
 
 const HEADS: [Head; 19] = [
@@ -155,11 +147,4 @@ const HEADS: [Head; 19] = [
     Head::Question(Question::Discharge),
 ];
 
-const KINDS: [Kind; 6] = [
-    Kind::Line,
-    Kind::Square,
-    Kind::King,
-    Kind::Triangle,
-    Kind::Hex,
-    Kind::Cube,
-];
+const KINDS: [Kind; 6] = [Line, Square, King, Triangle, Hex, Cube];

@@ -1,11 +1,12 @@
 //! Laws of scripts as they are written, as contracts of calls that do nothing.
+#![tactic(auto, using(crate::proofs::OneTree::one_tree, crate::proofs::OneTree::one_fault, crate::proofs::OneTree::tree_or_fault))]
+
 ghost use Rattle.std.specs.Prelude.{◌≡◌, ℕ, List};
 ghost use Rattle.dd_commands.specs.{declared.script.Syntax.Syntax, Scripts.IsScript, Scripts.IsSyntaxFault};
 
 use dd_written::formula_is_read;
 
 /// Does nothing; its contract says that bytes are the text of one tree at most.
-#[tactic(auto, using(crate::proofs::OneTree::one_tree))]
 pub fn one_tree()
     ensures { (bytes : List ℕ) (s t : Syntax) → IsScript bytes s → IsScript bytes t → s ≡ t }
 {
@@ -13,7 +14,6 @@ pub fn one_tree()
 }
 
 /// Does nothing; its contract says that bytes have one first fault at most.
-#[tactic(auto, using(crate::proofs::OneTree::one_fault))]
 pub fn one_fault()
     ensures { (bytes : List ℕ) (m n : ℕ) → IsSyntaxFault bytes m → IsSyntaxFault bytes n → m ≡ n }
 {
@@ -21,7 +21,6 @@ pub fn one_fault()
 }
 
 /// Does nothing; its contract says that bytes with a tree have no fault.
-#[tactic(auto, using(crate::proofs::OneTree::tree_or_fault))]
 pub fn tree_or_fault()
     ensures { (bytes : List ℕ) (s : Syntax) (n : ℕ) → IsScript bytes s → IsSyntaxFault bytes n → ⊥ }
 {

@@ -2,7 +2,7 @@
 ghost use Rattle.std.specs.Prelude.{◌≡◌};
 ghost use Rattle.dd_written.specs.reading.Readers.{Gives};
 ghost use Rattle.dd_commands.specs.declared.head.Head.TheVariants as head;
-ghost use Rattle.dd_commands.specs.reading.Commands.{listed, body};
+ghost use Rattle.dd_commands.specs.reading.Commands.{lists_at, body};
 
 use crate::command::{Command, Request, Vector};
 use crate::reading::{Read, Source, exactly, some};
@@ -13,7 +13,7 @@ use dd_written::{Lexeme, ReadFault};
 
 /// The vectors at the end of a question.
 fn lists<'a>(from: Source, lists: Lists, tokens: &'a [Lexeme]) -> Read<'a, Items<Vector>>
-    ensures { Gives (λ x. (x.0, x.1.now)) result ((listed lists).item tokens.now) }
+    ensures { Gives (λ x. (x.0, x.1.now)) result (lists_at lists tokens.now) }
 {
     match lists {
         Lists::None => Ok((Items::new(from.alloc), tokens)),
@@ -29,7 +29,7 @@ fn lists<'a>(from: Source, lists: Lists, tokens: &'a [Lexeme]) -> Read<'a, Items
 
 /// What stands behind the first word of a question.
 pub(crate) fn query<'a>(from: Source, question: Question, tokens: &'a [Lexeme]) -> Read<'a, Command>
-    ensures { Gives (λ x. (x.0, x.1.now)) result ((body from.entry.bytes.now (head.Question question) tokens.now).item tokens.now) }
+    ensures { Gives (λ x. (x.0, x.1.now)) result (body from.entry.bytes.now (head.Question question) tokens.now) }
 {
     let row = question.row();
     let (words, rest) = exactly(from, row.names.len(), tokens)?;

@@ -83,27 +83,20 @@ fn are_whole(part: &[Lexeme]) -> bool
 }
 
 /// A command that may stand at this place or a later one.
-fn command_from(
-    alloc: Global,
-    bytes: &[u8],
-    from: u32,
-    part: &[Lexeme],
-) -> Result<Written, ReadFault>
-    ensures { Gives (λ x. x) result (written_of bytes.now from part.now) }
+fn command_from(source: Source, from: u32, part: &[Lexeme]) -> Result<Written, ReadFault>
+    ensures { Gives (λ x. x) result (written_of source.entry.bytes.now from part.now) }
 {
-    if !are_whole(part) {
+    let command = command(source, part)?;
+    let fits = are_whole(part) && from <= command.get().head().row().stage;
+    if !fits {
         return Err(ReadFault::Syntax);
     }
-    let command = command(Source { alloc, bytes }, part)?;
-    if command.get().head().row().stage < from {
-        return Err(ReadFault::Syntax);
-    }
-    let tokens = Items::from_slice(alloc, part)?;
+    let tokens = Items::from_slice(source.alloc, part)?;
     let command = command.into_inner();
     Ok(Written { tokens, command })
 }
 
-#[tactic(auto, using(crate::proofs::Parts::starts, crate::proofs::Parts::nothing_before, crate::proofs::Parts::something_before))]
+#[tactic(auto, using(crate::proofs::Parts::starts, crate::proofs::Parts::cut, crate::proofs::Parts::something_before))]
 fn commands(alloc: Global, bytes: &[u8], tokens: &[Lexeme]) -> Result<Items<Written>, SyntaxFault>
     requires { length tokens.now ≤ most_script + 1 }
     ensures { Told bytes.now tokens.now result }
@@ -118,17 +111,15 @@ fn commands(alloc: Global, bytes: &[u8], tokens: &[Lexeme]) -> Result<Items<Writ
     let mut rest = tokens;
     while !rest.is_empty() {
         let (part, next) = next_part(rest);
-        match command_from(alloc, bytes, from, part) {
+        number += 1;
+        match command_from(Source { alloc, bytes }, from, part) {
             Ok(written) => {
                 from = written.command.head().next_stage();
                 commands.push(written)?;
             }
             Err(ReadFault::Memory) => return Err(SyntaxFault::Memory),
-            Err(ReadFault::Syntax) => return Err(SyntaxFault::At {
-                command: number + 1,
-            }),
+            Err(ReadFault::Syntax) => return Err(SyntaxFault::At { command: number }),
         }
-        number += 1;
         rest = next;
     }
     Ok(commands)

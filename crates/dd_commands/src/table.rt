@@ -3,6 +3,8 @@
 ghost use Rattle.std.specs.Prelude.{◌≡◌};
 ghost use Rattle.dd_commands.specs.Table.{row};
 
+use Role::{Automaton, Configuration, Rule};
+
 /// What a word of a question names.
 #[derive(Clone, Copy, Debug, PartialEq, Eq)]
 pub enum Role {
@@ -82,24 +84,14 @@ impl Question {
         ensures lists { result.lists ≡ (row self).lists }
     {
         match self {
-            Question::Member => entry(
-                b"member",
-                &[Role::Configuration, Role::Rule],
-                0,
-                Lists::None,
-            ),
-            Question::Contains => entry(b"contains", &[Role::Rule, Role::Rule], 0, Lists::None),
-            Question::Equal => entry(b"equal", &[Role::Rule, Role::Rule], 0, Lists::None),
-            Question::Empty => entry(b"empty", &[Role::Rule], 0, Lists::None),
-            Question::Agree => entry(
-                b"same",
-                &[Role::Automaton, Role::Automaton, Role::Rule],
-                0,
-                Lists::None,
-            ),
-            Question::Forbidden => entry(b"forbidden", &[Role::Rule], 0, Lists::None),
-            Question::Density => entry(b"density", &[Role::Rule], 0, Lists::Strip),
-            Question::Discharge => entry(b"discharge", &[Role::Rule], 2, Lists::Vectors),
+            Question::Member => entry(b"member", &[Configuration, Rule], 0, Lists::None),
+            Question::Contains => entry(b"contains", &[Rule, Rule], 0, Lists::None),
+            Question::Equal => entry(b"equal", &[Rule, Rule], 0, Lists::None),
+            Question::Empty => entry(b"empty", &[Rule], 0, Lists::None),
+            Question::Agree => entry(b"same", &[Automaton, Automaton, Rule], 0, Lists::None),
+            Question::Forbidden => entry(b"forbidden", &[Rule], 0, Lists::None),
+            Question::Density => entry(b"density", &[Rule], 0, Lists::Strip),
+            Question::Discharge => entry(b"discharge", &[Rule], 2, Lists::Vectors),
         }
     }
 }

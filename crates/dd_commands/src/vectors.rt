@@ -96,9 +96,8 @@ impl FromTokens for Edge {
 fn is_plain(vector: &Vector) -> bool
     ensures { result ≡ is_plain vector.now }
 {
-    vector
-        .entries
-        .as_slice()
+    let entries = vector.entries.as_slice();
+    entries
         .iter()
         .all(|entry| matches!(entry, Entry::Number(_)))
 }

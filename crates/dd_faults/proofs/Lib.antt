@@ -1,5 +1,3 @@
 pub mod Noting
-pub mod Layers
 pub mod Repeats
-pub mod Nodes
-pub mod Products
+pub mod Configurations

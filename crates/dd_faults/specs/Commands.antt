@@ -27,9 +27,6 @@ edge_faults x e =
 abbrev pub is_restricted : Context → Name → Bool
 is_restricted x n = option_map_or (λ a. list_any (λ b. b == a) x.known.restricted) (place_of_name x.text x.known.setting.nodes n) false
 
-abbrev pub restricted_again : Context → Name → List Fault
-restricted_again x n = when (is_restricted x n) (Fault.Twice n)
-
 abbrev pub weight_faults : Context → Number → List Fault
 weight_faults x n = over (nat_lt most_weight (written_value x.text n)) Limit.Weight
 
@@ -77,7 +74,7 @@ faults_of x (Command.Alphabet names) = twice_named x.text names ++ over (nat_lt 
 faults_of x (Command.Topology k) = unless (kind_fits x.known k)
 faults_of x (Command.Edges es) = flat_map (edge_faults x) es ++ (twice_labelled x.text es ++ over (nat_lt 64 (length es)) Limit.Edges)
 faults_of x (Command.Only node symbols) =
-    missing x.text x.known.setting.nodes node ++ (restricted_again x node ++ (flat_map (missing x.text x.known.setting.symbols) symbols ++ twice_named x.text symbols))
+    missing x.text x.known.setting.nodes node ++ (when (is_restricted x node) (Fault.Twice node) ++ (flat_map (missing x.text x.known.setting.symbols) symbols ++ twice_named x.text symbols))
 faults_of x (Command.Weights ns) = unless (length ns == length x.known.setting.symbols) ++ flat_map (weight_faults x) ns
 faults_of x (Command.Limits radius period pivots) = over (passes_limits (written_value x.text radius) (written_value x.text period) (written_value x.text pivots)) Limit.Limits
 faults_of x (Command.Rule called f) = named_again x.text x.known called ++ formula_faults x f []

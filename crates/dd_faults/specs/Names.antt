@@ -23,13 +23,9 @@ named k Role.Rule = k.rules
 named k Role.Automaton = k.automata
 named k Role.Configuration = k.configurations
 
--- two words with the same text
-abbrev pub same_text : List ℕ → Word → Word → Bool
-same_text bytes v w = bytes_eq (word_text bytes w) (word_text bytes v)
-
 -- The number of a variable: 0 for the origin `o`, and from 1 on for those that quantifiers bind, from the outermost on.
 abbrev pub variable_of : List ℕ → List Word → Word → Option ℕ
-variable_of bytes scope w = if bytes_eq (word_text bytes w) (codes "o") then Some 0 else option_map (λ k. k + 1) (position (same_text bytes w) scope)
+variable_of bytes scope w = if bytes_eq (word_text bytes w) (codes "o") then Some 0 else option_map (λ k. k + 1) (position (λ v. bytes_eq (word_text bytes v) (word_text bytes w)) scope)
 
 abbrev pub is_variable : List ℕ → List Word → Word → Bool
 is_variable bytes scope w = is_some (variable_of bytes scope w)

@@ -5,7 +5,7 @@ ghost use Rattle.dd_faults.specs.Formulas.{unknown_label, term_faults, names_sym
 
 use crate::context::Context;
 use crate::each::{Notes, note_each};
-use crate::fault::{Fault, Limit, note_if, note_over};
+use crate::fault::{Fault, Found, Limit, note_if, note_over};
 use crate::limits::{MOST_BALLS, MOST_MOVES, WIDEST_RADIUS};
 use crate::names::{is_variable, note_missing, note_variable};
 use dd_written::{Atom, Ball, Comparand, Name, Relation, Term, Word, name_text, number_value};
@@ -14,16 +14,15 @@ use dd_written::{Atom, Ball, Comparand, Name, Relation, Term, Word, name_text, n
 impl Notes<Word> for Context {
     ghost faults = { unknown_label };
 
-    fn note(&self, word: &Word, found: &mut Option<Fault>) {
+    fn note(&self, word: &Word, found: &mut Found) {
         let name = Name::Word(*word);
         let topology = &self.known.setting.topology;
-        let unknown = topology.label(name_text(&self.text, name)).is_none();
-        note_if(found, unknown, Fault::Unknown(name));
+        let label = topology.label(name_text(&self.text, name));
+        note_if(found, label.is_none(), Fault::Unknown(name));
     }
 }
 
-#[tactic(auto, using(crate::proofs::Noting::notes))]
-fn term(context: &Context, scope: &[Word], term: &Term, found: &mut Option<Fault>)
+fn term(context: &Context, scope: &[Word], term: &Term, found: &mut Found)
     ensures { found.new ≡ noted found.old (term_faults context.now scope.now term.now) }
 {
     note_variable(&context.text, scope, term.first, found);
@@ -38,26 +37,20 @@ pub fn names_symbol(context: &Context, scope: &[Word], term: &Term) -> bool
     term.moves.len() == 0 && !is_variable(&context.text, scope, term.first)
 }
 
-fn side(context: &Context, scope: &[Word], side: &Comparand, found: &mut Option<Fault>)
+fn side(context: &Context, scope: &[Word], side: &Comparand, found: &mut Found)
     ensures { found.new ≡ noted found.old (side_faults context.now scope.now side.now) }
 {
-    let symbols = &context.known.setting.symbols;
+    let (text, symbols) = (&context.text, &context.known.setting.symbols);
     match side {
-        Comparand::Number(number) => {
-            note_missing(&context.text, symbols, Name::Number(*number), found);
+        Comparand::Number(number) => note_missing(text, symbols, Name::Number(*number), found),
+        Comparand::Term(term) if names_symbol(context, scope, term) => {
+            note_missing(text, symbols, Name::Word(term.first), found);
         }
-        Comparand::Term(term) => {
-            if names_symbol(context, scope, term) {
-                note_missing(&context.text, symbols, Name::Word(term.first), found);
-            } else {
-                self::term(context, scope, term, found);
-            }
-        }
+        Comparand::Term(term) => self::term(context, scope, term, found),
     }
 }
 
-#[tactic(auto, using(crate::proofs::Noting::notes))]
-pub(crate) fn atom(context: &Context, scope: &[Word], atom: &Atom, found: &mut Option<Fault>)
+pub(crate) fn atom(context: &Context, scope: &[Word], atom: &Atom, found: &mut Found)
     ensures { found.new ≡ noted found.old (atom_faults context.now scope.now atom.now) }
 {
     term(context, scope, &atom.term, found);
@@ -70,37 +63,28 @@ pub(crate) fn atom(context: &Context, scope: &[Word], atom: &Atom, found: &mut O
     }
 }
 
-/// Balls, whose centres are variables of a scope.
+/// Where a part of a formula stands: behind which commands, and among which variables.
 #[derive(Clone, Copy)]
-struct Balls<'a> {
-    context: &'a Context,
-    scope: &'a [Word],
-}
+pub(crate) struct Scope<'a>(pub(crate) &'a Context, pub(crate) &'a [Word]);
 
-impl<'a> Notes<Ball> for Balls<'a> {
-    ghost faults = { λ balls. ball_faults balls.context.now balls.scope.now };
+/// Balls, whose centres are variables of a scope.
+impl<'a> Notes<Ball> for Scope<'a> {
+    ghost faults = { λ scope. ball_faults scope.0.now scope.1.now };
 
-    #[tactic(auto, using(crate::proofs::Noting::notes))]
-    fn note(&self, ball: &Ball, found: &mut Option<Fault>) {
-        note_variable(&self.context.text, self.scope, ball.centre, found);
-        let radius = number_value(&self.context.text, ball.radius);
-        note_over(found, radius > WIDEST_RADIUS, Limit::Radius);
+    fn note(&self, ball: &Ball, found: &mut Found) {
+        let Scope(context, words) = *self;
+        note_variable(&context.text, words, ball.centre, found);
+        let value = number_value(&context.text, ball.radius);
+        note_over(found, value > WIDEST_RADIUS, Limit::Radius);
     }
 }
 
 /// What stands before the body of a quantifier.
-#[tactic(auto, using(crate::proofs::Noting::notes))]
-pub(crate) fn quantifier(
-    context: &Context,
-    scope: &[Word],
-    variable: Word,
-    written: &[Ball],
-    found: &mut Option<Fault>,
-)
-    ensures { found.new ≡ noted found.old (quantifier_faults context.now scope.now variable written.now) }
+pub(crate) fn quantifier(scope: Scope, variable: Word, written: &[Ball], found: &mut Found)
+    ensures { found.new ≡ noted found.old (quantifier_faults scope.entry.0.now scope.entry.1.now variable written.now) }
 {
-    let bound = is_variable(&context.text, scope, variable);
+    let bound = is_variable(&scope.0.text, scope.1, variable);
     note_if(found, bound, Fault::Twice(Name::Word(variable)));
     note_over(found, written.len() > MOST_BALLS, Limit::Balls);
-    note_each(&Balls { context, scope }, written, found);
+    note_each(&scope, written, found);
 }

@@ -4,15 +4,12 @@ ghost use Rattle.dd_faults.specs.Order.{noted};
 ghost use Rattle.dd_faults.specs.Commands.{HasSets, is_allowed, symbol_faults, product, period_at, shear_of, shear_fits, box_fits, box_faults};
 
 use crate::context::Context;
-use crate::fault::{Fault, Limit, note_if, note_over};
-use crate::limits::MOST_IN_BOX;
+use crate::fault::{Done, Fault, Found, Limit, note_if, note_over};
+use crate::limits::{MOST_IN_BOX, TOO_MANY};
 use crate::numbers::{entry_value, has_entries, note_unless};
 use dd_commands::{Entry, Vector};
 use dd_written::{Name, Text, name_text};
 use std::alloc::AllocError;
-
-/// As many symbols as no script has are taken for want of memory.
-const TOO_MANY: usize = 4_294_967_295;
 
 /// Whether a name is that of a symbol that the node allows.
 fn is_allowed(context: &Context, node: u32, name: Name) -> bool
@@ -20,24 +17,19 @@ fn is_allowed(context: &Context, node: u32, name: Name) -> bool
     ensures { result ≡ is_allowed context.now node name }
 {
     let setting = &context.known.setting;
-    match setting.symbols.find(name_text(&context.text, name)) {
-        Some(symbol) => setting.sets.allows(node, symbol),
-        None => false,
-    }
+    let symbol = setting.symbols.find(name_text(&context.text, name));
+    symbol.is_some_and(|symbol| setting.sets.allows(node, symbol))
 }
 
 /// Notes the names of no symbol, and the symbols that their nodes do not allow. The nodes stand innermost.
-#[tactic(auto, using(crate::proofs::Nodes::nodes))]
-fn symbols(context: &Context, written: &[Name], found: &mut Option<Fault>)
+fn symbols(context: &Context, written: &[Name], found: &mut Found)
     requires { HasSets context.now.known }
     ensures { found.new ≡ noted found.old (symbol_faults context.now 0 written.now) }
 {
     let nodes = context.known.setting.nodes.count() as usize;
-    let mut place = 0;
-    for name in written {
+    for (place, name) in written.iter().enumerate() {
         let allowed = is_allowed(context, (place % nodes) as u32, *name);
         note_if(found, !allowed, Fault::Unknown(*name));
-        place += 1;
     }
 }
 
@@ -55,10 +47,8 @@ fn product(text: &Text, entries: &[Entry]) -> u32
 pub fn period_at(text: &Text, periods: &Vector, axis: usize) -> u32
     ensures { result ≡ min (period_at text.now periods.now axis) 4294967295 }
 {
-    match periods.entries.get(axis) {
-        Some(entry) => entry_value(text, *entry),
-        None => 1,
-    }
+    let entry = periods.entries.get(axis);
+    entry.map_or(1, |entry| entry_value(text, *entry))
 }
 
 /// The shear, and 0 where none is given; and the greatest number of 32 bits for all that are greater.
@@ -74,10 +64,8 @@ pub fn shear_of(text: &Text, shear: &Option<Vector>) -> u32
 fn shear_fits(dimension: u32, shear: &Option<Vector>) -> bool
     ensures { result ≡ shear_fits dimension shear.now }
 {
-    match shear {
-        Some(entries) => dimension >= 2 && has_entries(1, entries),
-        None => true,
-    }
+    let shear = shear.as_ref();
+    shear.is_none_or(|entries| dimension >= 2 && has_entries(1, entries))
 }
 
 /// Whether there are as many symbols as the product of the periods and the nodes, and a period for each axis. So few symbols
@@ -96,21 +84,20 @@ fn box_fits(context: &Context, periods: &Vector, shear: &Option<Vector>, count: 
 }
 
 /// Notes names that are not those of symbols which their nodes allow, periods that do not agree with so many symbols, and what is
-/// too large.
-#[tactic(auto, using(crate::proofs::Products::boxes))]
+/// too large. More symbols than any script has are taken for want of memory.
 pub(crate) fn configuration(
     context: &Context,
     periods: &Vector,
     shear: &Option<Vector>,
     written: &[Name],
-    found: &mut Option<Fault>,
-) -> Result<(), AllocError>
+    found: &mut Found,
+) -> Done
     requires sets { HasSets context.now.known }
     requires some { 1 ≤ length written.now }
     ensures { OnOk result (found.new ≡ noted found.old (symbol_faults context.now 0 written.now ++ box_faults context.now periods.now shear.now (length written.now))) }
 {
     let (text, count) = (&context.text, written.len());
-    if count >= TOO_MANY {
+    if count > TOO_MANY {
         return Err(AllocError);
     }
     symbols(context, written, found);

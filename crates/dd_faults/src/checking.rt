@@ -4,10 +4,11 @@ ghost use Rattle.dd_commands.specs.Scripts.{IsWritten};
 ghost use Rattle.dd_faults.specs.{Order.noted, Order.first_fault, Order.Accepts, Commands.faults_of, Commands.written_faults};
 ghost use Rattle.dd_faults.specs.{Sound.IsSound, walk.Shape.HasSymbols, walk.Shape.IsHeader};
 
+use crate::atoms::Scope;
 use crate::boxes::configuration;
 use crate::context::Context;
 use crate::each::note_each;
-use crate::fault::{Fault, Limit, Refusal, note_if, note_over};
+use crate::fault::{Done, Fault, Found, Limit, Refusal, note_if, note_over};
 use crate::formulas::{cases, formula};
 use crate::header::{is_restricted, kind_fits, passes_limits};
 use crate::limits::{MOST_AXES, MOST_EDGES, MOST_NODES, MOST_SYMBOLS};
@@ -18,26 +19,18 @@ use crate::twice::note_twice;
 use dd_commands::{Command, Written};
 use dd_values::MOST_COMMANDS;
 use dd_written::{Name, number_value};
-use std::alloc::{AllocError, Global};
+use std::alloc::Global;
 
 /// Notes the faults of a command of the header.
-#[tactic(auto, using(crate::proofs::Noting::notes))]
-fn note_header(
-    alloc: Global,
-    context: &Context,
-    command: &Command,
-    found: &mut Option<Fault>,
-) -> Result<(), AllocError>
+fn note_header(alloc: Global, context: &Context, command: &Command, found: &mut Found) -> Done
     requires { IsHeader command.now }
     ensures { OnOk result (found.new ≡ noted found.old (faults_of context.now command.now)) }
 {
-    let text = &context.text;
-    let known = &context.known;
+    let (text, known) = (&context.text, &context.known);
     let setting = &known.setting;
     match command {
         Command::Dimension { number } => {
-            let dimension = number_value(text, *number);
-            note_unless(found, dimension >= 1 && dimension <= MOST_AXES);
+            note_unless(found, matches!(number_value(text, *number), 1..=MOST_AXES));
         }
         Command::Nodes { names } => {
             note_twice(alloc, text, names.as_slice(), found)?;
@@ -48,7 +41,7 @@ fn note_header(
             note_twice(alloc, text, names.as_slice(), found)?;
             note_over(found, names.len() > MOST_SYMBOLS, Limit::Alphabet);
         }
-        Command::Topology { kind } => note_unless(found, kind_fits(known, *kind)),
+        Command::Topology { kind } => note_unless(found, kind_fits(alloc, known, *kind)?),
         Command::Edges { edges } => {
             note_each(context, edges.as_slice(), found);
             note_twice(alloc, text, edges.as_slice(), found)?;
@@ -78,23 +71,16 @@ fn note_header(
 }
 
 /// Notes the faults of a command, of whatever kind.
-#[tactic(auto, using(crate::proofs::Noting::notes))]
-fn note_command(
-    alloc: Global,
-    context: &Context,
-    command: &Command,
-    found: &mut Option<Fault>,
-) -> Result<(), AllocError>
+fn note_command(alloc: Global, context: &Context, command: &Command, found: &mut Found) -> Done
     requires sound { IsSound context.now.known }
     requires symbols { HasSymbols command.now }
     ensures { OnOk result (found.new ≡ noted found.old (faults_of context.now command.now)) }
 {
-    let text = &context.text;
-    let known = &context.known;
+    let (text, known) = (&context.text, &context.known);
     match command {
         Command::Rule { name, formula } => {
             note_defined(text, known, *name, found);
-            self::formula(alloc, context, &[], formula, found)?;
+            self::formula(alloc, Scope(context, &[]), formula, found)?;
         }
         Command::Automaton {
             name,
@@ -126,7 +112,6 @@ fn note_command(
 }
 
 /// Accepts what is written where nothing is wrong with it, and else refuses it for its first fault.
-#[tactic(auto, using(crate::proofs::Noting::notes))]
 pub fn check(alloc: Global, context: &Context, written: &Written) -> Result<(), Refusal>
     requires written { IsWritten context.now.text written.now }
     requires sound { IsSound context.now.known }
@@ -136,8 +121,5 @@ pub fn check(alloc: Global, context: &Context, written: &Written) -> Result<(), 
     note_over(&mut found, context.number > MOST_COMMANDS, Limit::Commands);
     note_each(&context.text, written.tokens.as_slice(), &mut found);
     note_command(alloc, context, &written.command, &mut found)?;
-    match found {
-        Some(fault) => Err(Refusal::At(fault)),
-        None => Ok(()),
-    }
+    found.map_or(Ok(()), |fault| Err(Refusal::At(fault)))
 }

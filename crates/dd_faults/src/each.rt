@@ -2,7 +2,7 @@
 ghost use Rattle.std.specs.{Prelude.◌≡◌, Prelude.List, List.flat_map};
 ghost use Rattle.dd_faults.specs.{declared.fault.Fault.Fault as AnyFault, Order.noted};
 
-use crate::fault::Fault;
+use crate::fault::Found;
 
 /// What an item is judged by.
 pub(crate) trait Notes<T> {
@@ -10,13 +10,12 @@ pub(crate) trait Notes<T> {
     ghost faults: { Self → T → List AnyFault };
 
     /// Notes the faults of an item.
-    fn note(&self, item: &T, found: &mut Option<Fault>)
+    fn note(&self, item: &T, found: &mut Found)
         ensures { found.new ≡ noted found.old (faults self.now item.now) };
 }
 
 /// Notes the faults of each item.
-#[tactic(auto, using(crate::proofs::Noting::loops))]
-pub(crate) fn note_each<T, N: Notes<T>>(notes: &N, items: &[T], found: &mut Option<Fault>)
+pub(crate) fn note_each<T, N: Notes<T>>(notes: &N, items: &[T], found: &mut Found)
     ensures { found.new ≡ noted found.old (flat_map (N.faults notes.now) items.now) }
 {
     for item in items {

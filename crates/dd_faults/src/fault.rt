@@ -67,6 +67,12 @@ pub enum Fault {
     Size(Limit),
 }
 
+/// The first fault of the least rank, of those that were noted.
+pub(crate) type Found = Option<Fault>;
+
+/// Whether there was memory enough.
+pub(crate) type Done = Result<(), AllocError>;
+
 /// Why a command was not accepted.
 #[derive(Clone, Copy, Debug, PartialEq, Eq, Error)]
 pub enum Refusal {
@@ -101,7 +107,7 @@ impl Fault {
 }
 
 /// Notes a fault, where there is one. What is kept is the first fault of the least rank.
-pub(crate) fn note_if(found: &mut Option<Fault>, holds: bool, fault: Fault)
+pub(crate) fn note_if(found: &mut Found, holds: bool, fault: Fault)
     ensures { found.new ≡ noted found.old (when holds fault) }
 {
     if holds && found.is_none_or(|first| fault.rank() < first.rank()) {
@@ -110,7 +116,7 @@ pub(crate) fn note_if(found: &mut Option<Fault>, holds: bool, fault: Fault)
 }
 
 /// Notes a limit, where it is passed.
-pub(crate) fn note_over(found: &mut Option<Fault>, passed: bool, limit: Limit)
+pub(crate) fn note_over(found: &mut Found, passed: bool, limit: Limit)
     ensures { found.new ≡ noted found.old (over passed limit) }
 {
     note_if(found, passed, Fault::Size(limit));

@@ -3,9 +3,9 @@ ghost use Rattle.std.specs.Prelude.{◌≡◌, [], ◌∷◌, ◌++◌, IfOk, On
 ghost use Rattle.std.specs.List.{flat_map};
 ghost use Rattle.dd_faults.specs.{Order.noted, Formulas.formula_faults, Commands.case_faults};
 
-use crate::atoms::{atom, quantifier};
+use crate::atoms::{Scope, atom, quantifier};
 use crate::context::Context;
-use crate::fault::Fault;
+use crate::fault::{Done, Found};
 use crate::names::note_missing;
 use dd_commands::Case;
 use dd_values::Items;
@@ -22,34 +22,26 @@ pub fn within(alloc: Global, scope: &[Word], variable: Word) -> Result<Items<Wor
 }
 
 /// Notes the faults of a formula in a scope.
-#[tactic(auto, using(crate::proofs::Layers::layers))]
-pub(crate) fn formula(
-    alloc: Global,
-    context: &Context,
-    scope: &[Word],
-    written: &Formula,
-    found: &mut Option<Fault>,
-) -> Result<(), AllocError>
-    ensures { OnOk result (found.new ≡ noted found.old (formula_faults context.now written.now scope.now)) }
+pub(crate) fn formula(alloc: Global, scope: Scope, written: &Formula, found: &mut Found) -> Done
+    ensures { OnOk result (found.new ≡ noted found.old (formula_faults scope.entry.0.now written.now scope.entry.1.now)) }
 {
+    let Scope(context, words) = scope;
     match written {
-        Formula::Atom(written) => atom(context, scope, written, found),
-        Formula::Not(inner) | Formula::Group(inner) => {
-            formula(alloc, context, scope, inner.get(), found)?
-        }
+        Formula::Atom(written) => atom(context, words, written, found),
+        Formula::Not(inner) | Formula::Group(inner) => formula(alloc, scope, inner.get(), found)?,
         Formula::Quantified {
             variable,
             balls,
             body,
             ..
         } => {
-            quantifier(context, scope, *variable, balls.as_slice(), found);
-            let inner = within(alloc, scope, *variable)?;
-            formula(alloc, context, inner.as_slice(), body.get(), found)?;
+            quantifier(scope, *variable, balls.as_slice(), found);
+            let inner = within(alloc, words, *variable)?;
+            formula(alloc, Scope(context, inner.as_slice()), body.get(), found)?;
         }
         Formula::Chain { parts, .. } => {
             for part in parts.as_slice() {
-                formula(alloc, context, scope, part, found)?;
+                formula(alloc, scope, part, found)?;
             }
         }
     }
@@ -57,18 +49,12 @@ pub(crate) fn formula(
 }
 
 /// Notes the faults of the cases of an automaton.
-#[tactic(auto, using(crate::proofs::Noting::loops))]
-pub(crate) fn cases(
-    alloc: Global,
-    context: &Context,
-    cases: &[Case],
-    found: &mut Option<Fault>,
-) -> Result<(), AllocError>
+pub(crate) fn cases(alloc: Global, context: &Context, cases: &[Case], found: &mut Found) -> Done
     ensures { OnOk result (found.new ≡ noted found.old (flat_map (case_faults context.now) cases.now)) }
 {
     let symbols = &context.known.setting.symbols;
     for case in cases {
-        formula(alloc, context, &[], &case.condition, found)?;
+        formula(alloc, Scope(context, &[]), &case.condition, found)?;
         note_missing(&context.text, symbols, case.symbol, found);
     }
     Ok(())

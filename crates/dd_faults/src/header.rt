@@ -1,47 +1,35 @@
 //! The faults of commands of the header.
-ghost use Rattle.std.specs.Prelude.{◌≡◌};
-ghost use Rattle.dd_topology.specs.Builtin.{grid_of};
+ghost use Rattle.std.specs.Prelude.{◌≡◌, IfOk};
 ghost use Rattle.dd_written.specs.Values.{written_value};
 ghost use Rattle.dd_faults.specs.Names.{missing};
 ghost use Rattle.dd_faults.specs.Commands.{kind_fits, edge_faults, is_restricted, passes_limits};
 
 use crate::context::{Context, Known};
 use crate::each::Notes;
-use crate::fault::{Fault, Limit, note_over};
+use crate::fault::{Found, Limit, note_over};
 use crate::limits::{GREATEST_PERIOD, GREATEST_RADIUS, MOST_PIVOTS};
 use crate::names::note_missing;
 use crate::numbers::{has_entries, is_far, note_unless};
 use dd_commands::Edge;
-use dd_topology::Kind;
+use dd_topology::{Kind, Topology};
 use dd_written::{Name, Number, Text, name_text, number_value};
-
-/// The dimension and the number of nodes of a kind of topology.
-fn kind_shape(kind: Kind) -> (u32, u32)
-    ensures { result ≡ ((grid_of kind).dimension, (grid_of kind).nodes) }
-{
-    match kind {
-        Kind::Line => (1, 1),
-        Kind::Square | Kind::King | Kind::Triangle => (2, 1),
-        Kind::Hex => (2, 2),
-        Kind::Cube => (3, 1),
-    }
-}
+use std::alloc::{AllocError, Global};
 
 /// Whether a kind of topology agrees with the dimension and with nodes that are given.
-pub(crate) fn kind_fits(known: &Known, kind: Kind) -> bool
-    ensures { result ≡ kind_fits known.now kind }
+pub(crate) fn kind_fits(alloc: Global, known: &Known, kind: Kind) -> Result<bool, AllocError>
+    ensures { IfOk result (λ fits. fits ≡ kind_fits known.now kind) }
 {
-    let (dimension, nodes) = kind_shape(kind);
+    let topology = Topology::builtin(alloc, kind)?;
     let setting = &known.setting;
-    dimension == setting.topology.dim()
-        && (!known.nodes_are_given || setting.nodes.count() == nodes)
+    let fits = topology.dim() == setting.topology.dim()
+        && (!known.nodes_are_given || setting.nodes.count() == topology.nodes());
+    Ok(fits)
 }
 
 impl Notes<Edge> for Context {
     ghost faults = { edge_faults };
 
-    #[tactic(auto, using(crate::proofs::Noting::notes))]
-    fn note(&self, edge: &Edge, found: &mut Option<Fault>) {
+    fn note(&self, edge: &Edge, found: &mut Found) {
         let setting = &self.known.setting;
         note_missing(&self.text, &setting.nodes, edge.from, found);
         note_missing(&self.text, &setting.nodes, edge.to, found);
@@ -54,7 +42,7 @@ impl Notes<Edge> for Context {
 impl Notes<Name> for Context {
     ghost faults = { λ x. missing x.text x.known.setting.symbols };
 
-    fn note(&self, name: &Name, found: &mut Option<Fault>) {
+    fn note(&self, name: &Name, found: &mut Found) {
         note_missing(&self.text, &self.known.setting.symbols, *name, found);
     }
 }
@@ -64,10 +52,8 @@ pub(crate) fn is_restricted(context: &Context, node: Name) -> bool
     ensures { result ≡ is_restricted context.now node }
 {
     let known = &context.known;
-    match known.setting.nodes.find(name_text(&context.text, node)) {
-        Some(number) => known.restricted.as_slice().contains(&number),
-        None => false,
-    }
+    let number = known.setting.nodes.find(name_text(&context.text, node));
+    number.is_some_and(|number| known.restricted.as_slice().contains(&number))
 }
 
 /// Whether the limits of questions are passed.

@@ -1,6 +1,6 @@
 //! What is wrong with a command that is well formed. All its faults are one list in the order of its text, and it is refused for
 //! the first of the least rank: unknown names come before what is given twice, then dimensions, then limits in their order.
-#![tactic(auto)]
+#![tactic(auto, using(crate::proofs::Noting::faults))]
 
 mod atoms;
 mod boxes;

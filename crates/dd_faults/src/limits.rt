@@ -36,3 +36,6 @@ pub(crate) const GREATEST_RADIUS: u32 = 8;
 pub(crate) const GREATEST_PERIOD: u32 = 8;
 
 pub(crate) const MOST_PIVOTS: u32 = 100_000;
+
+/// More names or symbols than any script has.
+pub(crate) const TOO_MANY: usize = 4_000_000;

@@ -5,7 +5,7 @@ ghost use Rattle.dd_faults.specs.Order.{noted};
 ghost use Rattle.dd_faults.specs.Names.{place_of_name, missing, number_in, is_variable, unknown_variable, named_again};
 
 use crate::context::Known;
-use crate::fault::{Fault, note_if};
+use crate::fault::{Fault, Found, note_if};
 use dd_topology::Names;
 use dd_written::{Name, Text, Word, name_text};
 
@@ -24,7 +24,7 @@ pub fn number_in(text: &Text, names: &Names, name: Name) -> u32
 }
 
 /// Notes a name that is none of the names.
-pub(crate) fn note_missing(text: &Text, names: &Names, name: Name, found: &mut Option<Fault>)
+pub(crate) fn note_missing(text: &Text, names: &Names, name: Name, found: &mut Found)
     ensures { found.new ≡ noted found.old (missing text.now names.now name) }
 {
     note_if(found, !is_named(text, names, name), Fault::Unknown(name));
@@ -48,7 +48,7 @@ pub(crate) fn is_variable(text: &Text, scope: &[Word], word: Word) -> bool
 }
 
 /// Notes a word that is no variable.
-pub(crate) fn note_variable(text: &Text, scope: &[Word], word: Word, found: &mut Option<Fault>)
+pub(crate) fn note_variable(text: &Text, scope: &[Word], word: Word, found: &mut Found)
     ensures { found.new ≡ noted found.old (unknown_variable text.now scope.now word) }
 {
     let known = is_variable(text, scope, word);
@@ -56,7 +56,7 @@ pub(crate) fn note_variable(text: &Text, scope: &[Word], word: Word, found: &mut
 }
 
 /// Notes a name that a rule, an automaton or a configuration has already.
-pub(crate) fn note_defined(text: &Text, known: &Known, word: Word, found: &mut Option<Fault>)
+pub(crate) fn note_defined(text: &Text, known: &Known, word: Word, found: &mut Found)
     ensures { found.new ≡ noted found.old (named_again text.now known.now word) }
 {
     let name = Name::Word(word);

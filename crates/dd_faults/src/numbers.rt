@@ -6,14 +6,14 @@ ghost use Rattle.dd_faults.specs.Commands.{unless, token_faults, entry_value, si
 
 use crate::context::Context;
 use crate::each::Notes;
-use crate::fault::{Fault, Limit, note_if, note_over};
+use crate::fault::{Fault, Found, Limit, note_if, note_over};
 use crate::limits::{FARTHEST, GREATEST_NUMBER, LONGEST_STRIP, MOST_LETTERS, WIDEST_RADIUS};
 use dd_commands::{Entry, Vector};
 use dd_values::MOST_WEIGHT;
 use dd_written::{Lexeme, Number, Text, number_value};
 
 /// Notes that numbers of entries do not agree.
-pub(crate) fn note_unless(found: &mut Option<Fault>, fits: bool)
+pub(crate) fn note_unless(found: &mut Found, fits: bool)
     ensures { found.new ≡ noted found.old (unless fits) }
 {
     note_if(found, !fits, Fault::Dimension);
@@ -23,7 +23,7 @@ pub(crate) fn note_unless(found: &mut Option<Fault>, fits: bool)
 impl Notes<Lexeme> for Text {
     ghost faults = { token_faults };
 
-    fn note(&self, token: &Lexeme, found: &mut Option<Fault>) {
+    fn note(&self, token: &Lexeme, found: &mut Found) {
         match *token {
             Lexeme::Word(word) => note_over(found, word.length > MOST_LETTERS, Limit::Word),
             Lexeme::Number(number) | Lexeme::Negative(number) => {
@@ -71,15 +71,13 @@ pub(crate) fn is_far(text: &Text, vector: &Vector) -> bool
 
 /// Numbers and vectors of questions: radii and margins, and periods of strips.
 #[derive(Clone, Copy)]
-pub(crate) struct Asked<'a> {
-    pub(crate) context: &'a Context,
-}
+pub(crate) struct Asked<'a>(pub(crate) &'a Context);
 
 impl<'a> Notes<Number> for Asked<'a> {
-    ghost faults = { λ asked. radius_faults asked.context.now };
+    ghost faults = { λ asked. radius_faults asked.0.now };
 
-    fn note(&self, radius: &Number, found: &mut Option<Fault>) {
-        let value = number_value(&self.context.text, *radius);
+    fn note(&self, radius: &Number, found: &mut Found) {
+        let value = number_value(&self.0.text, *radius);
         note_over(found, value > WIDEST_RADIUS, Limit::Radius);
     }
 }
@@ -88,7 +86,7 @@ impl<'a> Notes<Number> for Asked<'a> {
 impl Notes<Number> for Context {
     ghost faults = { weight_faults };
 
-    fn note(&self, weight: &Number, found: &mut Option<Fault>) {
+    fn note(&self, weight: &Number, found: &mut Found) {
         let value = number_value(&self.text, *weight);
         note_over(found, value > MOST_WEIGHT, Limit::Weight);
     }
@@ -104,15 +102,14 @@ fn is_no_strip(text: &Text, vector: &Vector) -> bool
 }
 
 impl<'a> Notes<Vector> for Asked<'a> {
-    ghost faults = { λ asked. strip_faults asked.context.now };
+    ghost faults = { λ asked. strip_faults asked.0.now };
 
-    #[tactic(auto, using(crate::proofs::Noting::notes))]
-    fn note(&self, periods: &Vector, found: &mut Option<Fault>) {
-        let dimension = self.context.known.setting.topology.dim() as usize;
+    fn note(&self, periods: &Vector, found: &mut Found) {
+        let Asked(context) = *self;
+        let dimension = context.known.setting.topology.dim() as usize;
         let fits = dimension > 0 && periods.entries.len() == dimension - 1;
         note_unless(found, fits);
-        let passed = is_no_strip(&self.context.text, periods);
-        note_over(found, passed, Limit::Periods);
+        note_over(found, is_no_strip(&context.text, periods), Limit::Periods);
     }
 }
 
@@ -120,8 +117,7 @@ impl<'a> Notes<Vector> for Asked<'a> {
 impl Notes<Vector> for Context {
     ghost faults = { vector_faults };
 
-    #[tactic(auto, using(crate::proofs::Noting::notes))]
-    fn note(&self, vector: &Vector, found: &mut Option<Fault>) {
+    fn note(&self, vector: &Vector, found: &mut Found) {
         let dimension = self.known.setting.topology.dim();
         note_unless(found, has_entries(dimension, vector));
         note_over(found, is_far(&self.text, vector), Limit::Vectors);

@@ -4,18 +4,17 @@ ghost use Rattle.dd_faults.specs.{Order.noted, Commands.word_faults, Commands.re
 
 use crate::context::Context;
 use crate::each::note_each;
-use crate::fault::{Fault, Limit, note_over};
+use crate::fault::{Done, Found, Limit, note_over};
 use crate::limits::MOST_VECTORS;
 use crate::names::note_missing;
 use crate::numbers::Asked;
 use crate::twice::note_twice;
 use dd_commands::{Lists, Request, Role};
 use dd_written::{Name, Word};
-use std::alloc::{AllocError, Global};
+use std::alloc::Global;
 
 /// Notes the words that name nothing of their roles.
-#[tactic(auto, using(crate::proofs::Noting::notes))]
-fn words(context: &Context, roles: &[Role], words: &[Word], found: &mut Option<Fault>)
+fn words(context: &Context, roles: &[Role], words: &[Word], found: &mut Found)
     ensures { found.new ≡ noted found.old (flat_map (word_faults context.now) (zip roles.now words.now)) }
 {
     if let [role, more_roles @ ..] = roles {
@@ -28,22 +27,16 @@ fn words(context: &Context, roles: &[Role], words: &[Word], found: &mut Option<F
 }
 
 /// Notes the faults of a question.
-#[tactic(auto, using(crate::proofs::Noting::notes))]
-pub(crate) fn request(
-    alloc: Global,
-    context: &Context,
-    request: &Request,
-    found: &mut Option<Fault>,
-) -> Result<(), AllocError>
-    ensures { OnOk result (found.new ≡ noted found.old (request_faults context.now request.now)) }
+pub(crate) fn request(alloc: Global, context: &Context, asked: &Request, found: &mut Found) -> Done
+    ensures { OnOk result (found.new ≡ noted found.old (request_faults context.now asked.now)) }
 {
-    let row = request.question.row();
-    let vectors = request.vectors.as_slice();
-    words(context, row.names, request.words.as_slice(), found);
-    note_each(&Asked { context }, request.numbers.as_slice(), found);
+    let row = asked.question.row();
+    let vectors = asked.vectors.as_slice();
+    words(context, row.names, asked.words.as_slice(), found);
+    note_each(&Asked(context), asked.numbers.as_slice(), found);
     match row.lists {
         Lists::None => {}
-        Lists::Strip => note_each(&Asked { context }, vectors, found),
+        Lists::Strip => note_each(&Asked(context), vectors, found),
         Lists::Vectors => {
             note_twice(alloc, &context.text, vectors, found)?;
             note_each(context, vectors, found);

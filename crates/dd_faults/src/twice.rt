@@ -4,16 +4,13 @@ ghost use Rattle.dd_written.specs.Values.{name_text};
 ghost use Rattle.dd_faults.specs.{declared.fault.Fault.Fault as AnyFault, declared.fault.Fault.TheVariants.Twice, Order.noted};
 ghost use Rattle.dd_faults.specs.Repeats.{first_repeat, edge_key, twice_label, entry_key, vector_key, twice_vector};
 
-use crate::fault::{Fault, note_if};
-use crate::limits::FARTHEST;
+use crate::fault::{Done, Fault, Found, note_if};
+use crate::limits::{FARTHEST, TOO_MANY};
 use crate::numbers::{entry_value, signed_value};
 use dd_commands::{Edge, Entry, Vector};
 use dd_topology::{NameFault, Names};
 use dd_written::{Name, Text, name_text};
 use std::alloc::{AllocError, Global};
-
-/// More names than any script has.
-const TOO_MANY: usize = 4_000_000;
 
 /// What may be given twice: two with the same key are the same.
 pub(crate) trait Keyed {
@@ -21,32 +18,25 @@ pub(crate) trait Keyed {
     /// The fault of the second.
     ghost repeated: { Self → AnyFault };
 
-    fn key(&self, alloc: Global, text: &Text) -> Result<String, AllocError>
-        ensures { IfOk result (λ bytes. string_bytes bytes ≡ key text.now self.now) };
-
-    fn repeated(&self) -> Fault
-        ensures { result ≡ repeated self.now };
+    /// The key, and the fault of a second with it.
+    fn key(&self, alloc: Global, text: &Text) -> Result<(String, Fault), AllocError>
+        ensures { IfOk result (λ keyed. (string_bytes keyed.0 ≡ key text.now self.now) × (keyed.1 ≡ repeated self.now)) };
 }
 
 /// Notes the first that is given twice. More items than any script has are taken for want of memory.
-#[tactic(auto, using(crate::proofs::Repeats::repeats))]
-pub(crate) fn note_twice<T: Keyed>(
-    alloc: Global,
-    text: &Text,
-    items: &[T],
-    found: &mut Option<Fault>,
-) -> Result<(), AllocError>
-    ensures { OnOk result (found.new ≡ noted found.old (first_repeat (T.key text.now) T.repeated [] items.now)) }
+pub(crate) fn note_twice<T: Keyed>(alloc: Global, text: &Text, all: &[T], found: &mut Found) -> Done
+    ensures { OnOk result (found.new ≡ noted found.old (first_repeat (T.key text.now) T.repeated [] all.now)) }
 {
-    if items.len() > TOO_MANY {
+    if all.len() > TOO_MANY {
         return Err(AllocError);
     }
     let mut seen = Names::new(alloc);
-    for item in items {
-        match seen.add(item.key(alloc, text)?) {
+    for item in all {
+        let (key, repeated) = item.key(alloc, text)?;
+        match seen.add(key) {
             Ok(_) => {}
             Err(NameFault::Twice(_)) => {
-                note_if(found, true, item.repeated());
+                note_if(found, true, repeated);
                 return Ok(());
             }
             Err(NameFault::Memory(_)) => return Err(AllocError),
@@ -60,12 +50,9 @@ impl Keyed for Name {
 
     ghost repeated = { Twice };
 
-    fn key(&self, alloc: Global, text: &Text) -> Result<String, AllocError> {
-        Ok(String::from_str(alloc, name_text(text, *self))?)
-    }
-
-    fn repeated(&self) -> Fault {
-        Fault::Twice(*self)
+    fn key(&self, alloc: Global, text: &Text) -> Result<(String, Fault), AllocError> {
+        let key = String::from_str(alloc, name_text(text, *self))?;
+        Ok((key, Fault::Twice(*self)))
     }
 }
 
@@ -75,15 +62,10 @@ impl Keyed for Edge {
     ghost repeated = { twice_label };
 
     /// The label and the first node, with a comma between them.
-    fn key(&self, alloc: Global, text: &Text) -> Result<String, AllocError> {
-        let mut key = String::from_str(alloc, name_text(text, Name::Word(self.label)))?;
-        key.push_str(",")?;
-        key.push_str(name_text(text, self.from))?;
-        Ok(key)
-    }
-
-    fn repeated(&self) -> Fault {
-        Fault::Twice(Name::Word(self.label))
+    fn key(&self, alloc: Global, text: &Text) -> Result<(String, Fault), AllocError> {
+        let label = Name::Word(self.label);
+        let key = format!(in alloc; "{},{}", name_text(text, label), name_text(text, self.from))?;
+        Ok((key, Fault::Twice(label)))
     }
 }
 
@@ -103,15 +85,11 @@ impl Keyed for Vector {
 
     ghost repeated = { twice_vector };
 
-    fn key(&self, alloc: Global, text: &Text) -> Result<String, AllocError> {
+    fn key(&self, alloc: Global, text: &Text) -> Result<(String, Fault), AllocError> {
         let mut key = String::new(alloc);
         for entry in self.entries.as_slice() {
             key.push_str(entry_key(alloc, text, *entry)?.as_str())?;
         }
-        Ok(key)
-    }
-
-    fn repeated(&self) -> Fault {
-        Fault::TwiceVector
+        Ok((key, Fault::TwiceVector))
     }
 }

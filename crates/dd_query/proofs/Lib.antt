@@ -1,4 +1,3 @@
-pub mod WordLaws
 pub mod VectorLaws
 pub mod ShapeLaws
 pub mod AskedLaws

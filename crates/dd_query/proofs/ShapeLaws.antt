@@ -1,5 +1,5 @@
 -- The numbers, the strips and the vectors of questions without a fault.
-use Rattle.std.proofs.Common.{◌≡◌, ◌≤◌, ◌+◌, ℕ, zero, suc, false, List, [], ◌∷◌, length, map, get_or, ◌∙◌, arith, slice_get}
+use Rattle.std.proofs.Common.{◌≡◌, ◌≤◌, ◌+◌, ℕ, zero, suc, false, List, [], ◌∷◌, length, map, get_or, ◌∙◌, arith, rules, slice_get}
 use Rattle.std.specs.{List.All, List.list_any, List.flat_map, Option.option_map_or}
 use Rattle.std.proofs.lemmas.{Bool.or_parts, Bool.ltb-false, List.length-map, List.Folds.list_all-map, List.Folds.list_any_none}
 use Rattle.std.proofs.lemmas.List.Sums.{list_all-from_AllPass}
@@ -27,9 +27,10 @@ period_within bytes [] j h = (omega arith, omega arith)
 period_within bytes (e ∷ es) zero h = grind (arith, parts)
 period_within bytes (e ∷ es) (suc j) h = period_within bytes es j (or_parts _ _ h).1
 
--- the one vector of a strip
-pub strip_is : (x : Context) (v : Vector) → flat_map (strip_faults x) (v ∷ []) ≡ [] → AreStripPeriods (dimension_of x.known) (strip_periods x.text (v ∷ []))
-strip_is x v none =
+-- the first vector gives the periods, where there is one
+pub strip_is : (x : Context) (vs : List Vector) → flat_map (strip_faults x) vs ≡ [] → AreStripPeriods (dimension_of x.known) (strip_periods x.text vs)
+strip_is x [] none = search rules
+strip_is x (v ∷ vs) none =
     let less : length v.entries + 1 ≡ dimension_of x.known = grind (arith, parts) in
     let short : list_any (is_no_strip x.text) v.entries ≡ false = grind (arith, parts) in
     record {

@@ -1,33 +1,28 @@
 -- Vectors of a discharge of which none is given twice have different positions.
-use Rattle.std.proofs.Common.{◌≡◌, ◌≢◌, ◌<◌, ◌≤◌, ℕ, zero, suc, Bool, true, false, List, [], ◌∷◌, ◌++◌, length, map, take, get_or, refl, ap, sym, ◌∙◌, arith, ℤ, pos, AllPairs, codes, nat_lt, slice_get}
-use Rattle.std.specs.{List.All, List.list_any, List.flat_map, Option.option_map_or, Fmt.signed_decimal}
+use Rattle.std.proofs.Common.{◌≡◌, ◌≢◌, ◌<◌, ◌≤◌, ℕ, zero, suc, true, false, List, [], ◌∷◌, ◌++◌, length, map, take, get_or, refl, ap, arith, ℤ, AllPairs, codes, nat_lt}
+use Rattle.std.specs.{List.All, List.flat_map, Fmt.signed_decimal}
 use Rattle.std.proofs.lemmas.Bool.{or_parts, eqb-true}
-use Rattle.std.proofs.lemmas.List.{get_or-map, get_or-take, length-map, length-take-le}
-use Rattle.dd_lattice.specs.Place.{Place}
+use Rattle.std.proofs.lemmas.List.{get_or-map, get_or-take, length-map, length-take-le, Elements.Contains-get_or}
+use Rattle.dd_lattice.specs.{Place.Place, lemmas.ListLaws.Contains-map}
 use Rattle.dd_query.specs.Tree.{Entry, Vector}
 use Rattle.dd_faults.specs.Repeats.{entry_key, vector_key, twice_vector, twice_vectors}
-use Rattle.dd_faults.specs.Commands.{entry_value, signed_value, has_entries, is_far}
+use Rattle.dd_faults.specs.Commands.{entry_value, has_entries, is_far}
 use Rattle.dd_faults.specs.lemmas.Repeats.{once}
 use Rattle.dd_query.specs.Vectors.{coordinate, place_of}
 
-abbrev number_at : List ℕ → List Entry → ℕ → ℤ
-number_at bytes es axis = option_map_or (signed_value bytes) (slice_get es axis) (pos 0)
-
-abbrev is_far_entry : List ℕ → Entry → Bool
-is_far_entry bytes e = nat_lt 4 (entry_value bytes e)
+abbrev vector : List Entry → Vector
+vector es = record { entries = es }
 
 -- the same numbers of at most 4 have one key
-same_key : (bytes : List ℕ) (es fs : List Entry) → length es ≡ length fs → ((axis : ℕ) → axis < length es → number_at bytes es axis ≡ number_at bytes fs axis) →
-    list_any (is_far_entry bytes) es ≡ false → list_any (is_far_entry bytes) fs ≡ false → flat_map (entry_key bytes) es ≡ flat_map (entry_key bytes) fs
+same_key : (bytes : List ℕ) (es fs : List Entry) → length es ≡ length fs → ((axis : ℕ) → axis < length es → coordinate bytes (vector es) axis ≡ coordinate bytes (vector fs) axis) →
+    is_far bytes (vector es) ≡ false → is_far bytes (vector fs) ≡ false → vector_key bytes (vector es) ≡ vector_key bytes (vector fs)
 same_key bytes [] [] long is near nearby = refl
-same_key bytes [] (f ∷ fs) long is near nearby = absurd (omega (arith, long))
-same_key bytes (e ∷ es) [] long is near nearby = absurd (omega (arith, long))
 same_key bytes (e ∷ es) (f ∷ fs) long is near nearby =
-    let one = or_parts (is_far_entry bytes e) (list_any (is_far_entry bytes) es) near in
-    let other = or_parts (is_far_entry bytes f) (list_any (is_far_entry bytes) fs) nearby in
-    let here : entry_key bytes e ≡ entry_key bytes f = rw (one.0, other.0) (ap (λ (n : ℤ). signed_decimal n ++ codes ",") (is 0 (omega arith))) in
+    let one = or_parts (nat_lt 4 (entry_value bytes e)) (is_far bytes (vector es)) near in
+    let other = or_parts (nat_lt 4 (entry_value bytes f)) (is_far bytes (vector fs)) nearby in
     let rest = same_key bytes es fs (omega (arith, long)) (λ axis below. is (suc axis) (omega (arith, below))) one.1 other.1 in
-    ap (λ (t : List ℕ). t ++ flat_map (entry_key bytes) es) here ∙ ap (λ (t : List ℕ). entry_key bytes f ++ t) rest
+    rw (one.0, other.0, rest) (ap (λ (n : ℤ). signed_decimal n ++ codes "," ++ flat_map (entry_key bytes) fs) (is 0 (omega arith)))
+same_key bytes es fs long is near nearby = absurd (omega (arith, long))
 
 same_at : (bytes : List ℕ) (u v : Vector) → place_of bytes u ≡ place_of bytes v → (axis : ℕ) → axis < 3 → coordinate bytes u axis ≡ coordinate bytes v axis
 same_at bytes u v is zero below = ap (λ (p : Place). p.x) is
@@ -41,19 +36,15 @@ IsGiven bytes d v = (has_entries d v ≡ true) × (is_far bytes v ≡ false)
 
 one_key : (bytes : List ℕ) (d : ℕ) (u v : Vector) → d ≤ 3 → IsGiven bytes d u → IsGiven bytes d v → place_of bytes u ≡ place_of bytes v → vector_key bytes u ≡ vector_key bytes v
 one_key bytes d u v small one other is =
-    let m : length u.entries ≡ d = eqb-true (length u.entries) d one.0 in
-    let n : length v.entries ≡ d = eqb-true (length v.entries) d other.0 in
-    same_key bytes u.entries v.entries (m ∙ sym n) (λ axis below. same_at bytes u v is axis (omega (arith, below, m, small))) one.1 other.1
+    same_key bytes u.entries v.entries (omega (arith, eqb-true, one.0, other.0)) (λ axis below. same_at bytes u v is axis (omega (arith, eqb-true, one.0))) one.1 other.1
 
 pub vectors_differ : (bytes : List ℕ) (d : ℕ) (vs : List Vector) → d ≤ 3 → All (IsGiven bytes d) vs → twice_vectors bytes vs ≡ [] → AllPairs (λ p q. p ≢ q) (map (place_of bytes) vs)
 vectors_differ bytes d vs small all none = λ i j place less below same.
-    let nothing : Vector = record { entries = [] } in
-    let many = length-map vs (place_of bytes) in
-    let late : j < length vs = omega (arith, many, below) in
+    let nothing = vector [] in
+    let late : j < length vs = omega (arith, length-map vs (place_of bytes), below) in
     let early : i < length vs = omega (arith, late, less) in
-    let places : place_of bytes (get_or vs i nothing) ≡ place_of bytes (get_or vs j nothing) =
-    sym (get_or-map (place_of bytes) vs i nothing place early) ∙ (same ∙ get_or-map (place_of bytes) vs j nothing place late) in
+    let places : place_of bytes (get_or vs i nothing) ≡ place_of bytes (get_or vs j nothing) = cc (get_or-map (place_of bytes) vs i nothing place early, get_or-map (place_of bytes) vs j nothing place late) in
     let key = one_key bytes d (get_or vs i nothing) (get_or vs j nothing) small (all i nothing early) (all j nothing late) places in
     let before : i < length (take j vs) = omega (arith, less, length-take-le j vs (omega (arith, late))) in
-    once (vector_key bytes) twice_vector vs j nothing none late
-    (i, omega (arith, before, length-map (take j vs) (vector_key bytes)), get_or-map (vector_key bytes) (take j vs) i nothing _ before ∙ (ap (vector_key bytes) (get_or-take j vs i nothing less) ∙ key))
+    let there = Contains-map (vector_key bytes) (take j vs) (get_or (take j vs) i nothing) (Contains-get_or (take j vs) i nothing before) in
+    once (vector_key bytes) twice_vector vs j nothing none late (rw (← key, ← get_or-take j vs i nothing less) there)

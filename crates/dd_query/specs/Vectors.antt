@@ -2,8 +2,7 @@
 use Rattle.std.specs.Prelude.{◌≡◌, ℕ, List, false, ℤ, pos}
 use Rattle.std.specs.{List.slice_get, Option.option_map_or}
 use Rattle.dd_lattice.specs.Place.{Place, place}
-use Rattle.dd_faults.specs.Commands.{signed_value, is_far}
-use Rattle.dd_query.specs.Tree.{Vector}
+use Rattle.dd_faults.specs.{Tree.Vector, Commands.signed_value, Commands.is_far}
 
 -- the number of the entry for an axis, and 0 where there is none
 abbrev pub coordinate : List ℕ → Vector → ℕ → ℤ

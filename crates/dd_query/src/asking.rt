@@ -20,13 +20,10 @@ fn word_at(context: &Context, request: &Request, place: usize) -> u32
     ensures { result ≡ word_at context.now request.now place }
 {
     let roles = request.question.row().names;
-    match (roles.get(place), request.words.get(place)) {
-        (Some(role), Some(word)) => {
-            let names = context.known.named(*role);
-            number_in(&context.text, names, Name::Word(*word))
-        }
-        _ => 0,
-    }
+    let (Some(role), Some(word)) = (roles.get(place), request.words.get(place)) else {
+        return 0;
+    };
+    number_in(&context.text, context.known.named(*role), Name::Word(*word))
 }
 
 /// The value of the number at a place, and the greatest number of 32 bits for all that are greater.
@@ -42,11 +39,9 @@ fn strip_of(context: &Context, vectors: &[Vector]) -> [u32; 2]
     requires { AreStripPeriods context.now.known.setting.topology.dimension (strip_periods context.now.text vectors.now) }
     ensures { result ≡ strip_periods context.now.text vectors.now }
 {
+    let text = &context.text;
     match vectors {
-        [periods, ..] => [
-            period_at(&context.text, periods, 0),
-            period_at(&context.text, periods, 1),
-        ],
+        [periods, ..] => [period_at(text, periods, 0), period_at(text, periods, 1)],
         _ => [1, 1],
     }
 }

@@ -1,6 +1,6 @@
 -- What is left to cut, before and after a piece.
-use Rattle.std.proofs.Common.{◌≡◌, ℕ, zero, suc, ◌+◌, ◌-◌, ◌<◌, ◌≤◌, List, [], ◌∷◌, ◌++◌, length, drop, refl, sym, ap, ◌∙◌, append_assoc, arith}
-use Rattle.dd_tokens.specs.{declared.piece.Piece.Piece, declared.piece.Piece.TheVariants.Gap, declared.piece.Piece.TheVariants.Cut}
+use Rattle.std.proofs.Common.{◌≡◌, ℕ, zero, suc, ◌+◌, ◌-◌, ◌<◌, ◌≤◌, List, [], ◌∷◌, ◌++◌, length, drop, sym, ap, ◌∙◌, append_assoc, arith}
+use Rattle.dd_tokens.specs.{declared.piece.Piece.Piece, declared.piece.Piece.TheVariants.Cut}
 use Rattle.dd_tokens.specs.{declared.token.TokenKind.TokenKind, declared.token.Token.Token}
 use Rattle.dd_tokens.specs.Format.{tokens_after, first, with_piece, piece_size, with_front, IsPieceWithin}
 
@@ -16,14 +16,7 @@ pub next : (piece : Piece) (place : ℕ) (bytes : List ℕ) → piece ≡ first 
 next piece place [] is some within = absurd (omega (arith, some, within))
 next piece place (b ∷ bytes) is some within =
     let n : piece_size piece ≡ suc (piece_size piece - 1) = omega (arith, some) in
-    let rest : tokens_after (piece_size piece - 1) (place + 1) bytes ≡ tokens_after 0 (place + 1 + (piece_size piece - 1)) (drop (piece_size piece - 1) bytes) = over (piece_size piece - 1) (place + 1) bytes (omega (arith, within, some)) in
-    let at : place + 1 + (piece_size piece - 1) ≡ place + piece_size piece = omega (arith, some) in
-    let left : drop (piece_size piece) (b ∷ bytes) ≡ drop (piece_size piece - 1) bytes = ap (λ (k : ℕ). drop k (b ∷ bytes)) n in
-    rw (← is, rest, at, left) refl
-
-pub passed : (n place : ℕ) (bytes rest : List ℕ) (list : List Token) → Gap n ≡ first bytes → IsPieceWithin (Gap n) (length bytes) → rest ≡ drop n bytes
-    → with_front list (tokens_after 0 (place + n) rest) ≡ with_front list (tokens_after 0 place bytes)
-passed n place bytes rest list is within left = rw left (ap (with_front list) (sym (next (Gap n) place bytes is within.0 within.1)))
+    rw (← is) (ap (with_piece piece place) (ap (λ (k : ℕ). tokens_after k place (b ∷ bytes)) (sym n) ∙ over (piece_size piece) place (b ∷ bytes) within))
 
 pub cut_off : (kind : TokenKind) (n place : ℕ) (bytes rest : List ℕ) (list new : List Token) → Cut kind n ≡ first bytes → IsPieceWithin (Cut kind n) (length bytes) → rest ≡ drop n bytes
     → new ≡ list ++ record { kind = kind; start = place; length = n } ∷ []

@@ -1,5 +1,5 @@
 -- The lexical format of a script: blanks and comments, and tokens, longest first, up to the first place where none begins.
-use Rattle.std.specs.Prelude.{ℕ, zero, suc, ◌+◌, ◌-◌, List, [], ◌∷◌, ◌++◌, ◌<◌, ◌≤◌, Bool, false, ◌&&◌, ◌||◌, not, ◌==◌, nat_le, if◌then◌else◌, drop}
+use Rattle.std.specs.Prelude.{ℕ, zero, suc, ◌+◌, ◌-◌, List, [], ◌∷◌, ◌++◌, ◌<◌, ◌≤◌, Bool, false, ◌&&◌, ◌||◌, not, ◌==◌, nat_le, if◌then◌else◌, drop, codes}
 use Rattle.std.specs.List.{prefix_len, list_any}
 use Rattle.dd_tokens.specs.declared.token.TokenKind.TheVariants.{Word, Number, Negative, Mark}
 use Rattle.dd_tokens.specs.{declared.token.Token.Token, declared.token.Tokens.Tokens, declared.piece.Piece.Piece}
@@ -17,9 +17,9 @@ is_letter b = nat_le 97 b && nat_le b 122
 abbrev pub is_digit : ℕ → Bool
 is_digit b = nat_le 48 b && nat_le b 57
 
--- the tokens of one byte that are no word and no number: A E % ( ) [ ] . = ! & | ~ @ :
+-- the tokens of one byte that are no word and no number
 abbrev pub is_sign : ℕ → Bool
-is_sign b = list_any (λ s. b == s) (65 ∷ 69 ∷ 37 ∷ 40 ∷ 41 ∷ 91 ∷ 93 ∷ 46 ∷ 61 ∷ 33 ∷ 38 ∷ 124 ∷ 126 ∷ 64 ∷ 58 ∷ [])
+is_sign b = list_any (λ s. s == b) (codes "AE%()[].=!&|~@:")
 
 -- a byte that a comment goes on with: no line feed, and not over 127
 abbrev pub is_comment : ℕ → Bool

@@ -34,10 +34,8 @@ pub fn tokens(alloc: Global, bytes: &[u8]) -> Result<Tokens, AllocError>
                 place += n;
             }
             Piece::Fault(n) => {
-                return Ok(Tokens {
-                    list,
-                    stop: place + n,
-                });
+                let stop = place + n;
+                return Ok(Tokens { list, stop });
             }
         }
     }

@@ -1,8 +1,8 @@
 //! What stands at the front of some bytes: a blank, a comment, a token, or a fault.
-ghost use Rattle.std.specs.Prelude.{◌≡◌, ◌≤◌, ◌<◌, ◌+◌, length, nat_le, ◌&&◌};
+ghost use Rattle.std.specs.Prelude.{◌≡◌, ◌≤◌, ◌<◌, ◌+◌, length};
 ghost use Rattle.std.specs.List.{prefix_len};
 ghost use Rattle.dd_values.specs.Bounds.{most_script};
-ghost use Rattle.dd_tokens.specs.Format.{is_blank, is_letter, is_digit, is_sign, is_comment, is_pair, is_both_ways, starts_positive, comment, number, front, first, IsPieceWithin};
+ghost use Rattle.dd_tokens.specs.Format.{is_letter, is_digit, is_comment, is_pair, starts_positive, comment, front, first, IsPieceWithin};
 
 use crate::token::TokenKind;
 
@@ -17,12 +17,6 @@ pub enum Piece {
     Fault(u32),
 }
 
-fn is_blank(byte: u8) -> bool
-    ensures { result ≡ is_blank byte }
-{
-    matches!(byte, b' ' | b'\t' | b'\n' | b'\r')
-}
-
 fn is_letter(byte: u8) -> bool
     ensures { result ≡ is_letter byte }
 {
@@ -33,28 +27,6 @@ fn is_digit(byte: u8) -> bool
     ensures { result ≡ is_digit byte }
 {
     byte >= b'0' && byte <= b'9'
-}
-
-fn is_sign(byte: u8) -> bool
-    ensures { result ≡ is_sign byte }
-{
-    matches!(
-        byte,
-        b'A' | b'E'
-            | b'%'
-            | b'('
-            | b')'
-            | b'['
-            | b']'
-            | b'.'
-            | b'='
-            | b'!'
-            | b'&'
-            | b'|'
-            | b'~'
-            | b'@'
-            | b':'
-    )
 }
 
 fn is_comment(byte: u8) -> bool
@@ -97,19 +69,6 @@ fn comment(bytes: &[u8]) -> Piece
     }
 }
 
-fn number(first: u8, bytes: &[u8]) -> Piece
-    requires { length bytes.now ≤ most_script }
-    ensures value { result ≡ number first bytes.now }
-    ensures within { IsPieceWithin result (1 + length bytes.now) }
-{
-    let n = digits(bytes);
-    if first == b'0' && n > 0 {
-        Piece::Fault(0)
-    } else {
-        Piece::Cut(TokenKind::Number, 1 + n as u32)
-    }
-}
-
 fn starts_positive(bytes: &[u8]) -> bool
     ensures { result ≡ starts_positive bytes.now }
 {
@@ -122,18 +81,12 @@ fn is_pair(first: u8, bytes: &[u8]) -> bool
     (first == b'-' && matches!(bytes, [b'>', ..])) || (first == b'!' && matches!(bytes, [b'=', ..]))
 }
 
-fn is_both_ways(first: u8, bytes: &[u8]) -> bool
-    ensures { result ≡ is_both_ways first bytes.now }
-{
-    first == b'<' && matches!(bytes, [b'-', b'>', ..])
-}
-
 fn front(first: u8, bytes: &[u8]) -> Piece
     requires { length bytes.now ≤ most_script }
     ensures value { result ≡ front first bytes.now }
     ensures within { IsPieceWithin result (1 + length bytes.now) }
 {
-    if is_blank(first) {
+    if matches!(first, b' ' | b'\t' | b'\n' | b'\r') {
         return Piece::Gap(1);
     }
     if first == b'-' && matches!(bytes, [b'-', ..]) {
@@ -143,15 +96,19 @@ fn front(first: u8, bytes: &[u8]) -> Piece
         return Piece::Cut(TokenKind::Word, 1 + letters(bytes) as u32);
     }
     if is_digit(first) {
-        return number(first, bytes);
+        let n = digits(bytes);
+        if first == b'0' && n > 0 {
+            return Piece::Fault(0);
+        }
+        return Piece::Cut(TokenKind::Number, 1 + n as u32);
     }
-    if is_both_ways(first, bytes) {
+    if first == b'<' && matches!(bytes, [b'-', b'>', ..]) {
         return Piece::Cut(TokenKind::Mark, 3);
     }
     if is_pair(first, bytes) {
         return Piece::Cut(TokenKind::Mark, 2);
     }
-    if is_sign(first) {
+    if b"AE%()[].=!&|~@:".contains(&first) {
         return Piece::Cut(TokenKind::Mark, 1);
     }
     if first == b'-' && starts_positive(bytes) {

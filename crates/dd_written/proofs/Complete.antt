@@ -1,13 +1,13 @@
 -- What is written of formulas is read, unless what follows would go on.
-use Rattle.std.proofs.Common.{◌≡◌, ℕ, zero, suc, ◌-◌, ◌+◌, ◌≤◌, ◌<◌, Bool, true, false, List, [], ◌∷◌, ◌++◌, map, length, drop, Option, Some, refl, sym, ap, subst, ◌∙◌, append_assoc, arith, nat_le, ◌&&◌}
+use Rattle.std.proofs.Common.{◌≡◌, ℕ, zero, suc, ◌-◌, ◌+◌, ◌≤◌, ◌<◌, Bool, true, false, List, [], ◌∷◌, ◌++◌, map, length, drop, Some, refl, ap, subst, ◌∙◌, append_assoc, arith, inl, inr, nat_le, ◌&&◌}
 use Rattle.std.specs.List.{flat_map, list_all, AllByRecursion}
-use Rattle.std.proofs.lemmas.Bool.{and_parts, ltb-true, le-leb, leb-true}
+use Rattle.std.proofs.lemmas.Bool.{and_parts, cases_eq, ltb-true, le-leb, leb-true}
 use Rattle.std.proofs.lemmas.{Bool.Decides.nat_tests, List.length-append}
 use Rattle.dd_written.specs.Tree.{Word, Mark, Lexeme, Name, Comparand, Relation, Atom, Ball, Quantifier, Join, Formula, roll-Formula, Formula-F, map-Formula, ind-Formula}
-use Rattle.dd_written.specs.Formulas.{text, stands, tree_depth, chain_depth, move_text, relation_text, atom_text, ball_text, capital, sign, join_rank, IsWrittenFormula}
-use Rattle.dd_written.specs.reading.Readers.{Reader, ◌>>=◌}
+use Rattle.dd_written.specs.Formulas.{text, text_step, stands, stands_step, tree_depth, tree_depth_step, chain_depth, separated_by, move_text, relation_text, atom_text, ball_text, capital, sign, join_rank, IsWrittenFormula}
+use Rattle.dd_written.specs.reading.Readers.{Reader}
 use Rattle.dd_written.specs.reading.Atoms.{moves_at, relation_at, leaf_at, balls_at, quantifier_end, quantifier_at}
-use Rattle.dd_written.specs.reading.Formulas.{begins, more_at, chain_at, join_at, level_at, quantified_at, group_end, nested_at, unary_at, formula_at, ends}
+use Rattle.dd_written.specs.reading.Formulas.{begins, more_at, chain_at, join_at, level_at, quantified_at, nested_at, unary_at, formula_at, ends}
 use Rattle.dd_written.proofs.{Layers.text_of, Layers.stands_of, Layers.depth_of, Sound.more_text, Sound.rank_join}
 use Rattle.dd_written.specs.lemmas.Rounds.{none_more}
 
@@ -41,14 +41,12 @@ moves_again [] place rest e = refl
 moves_again (label ∷ labels) place rest e = ap (λ (x : List Word × List Lexeme). (label ∷ x.0, x.1)) (moves_again labels place rest e)
 
 relation_again : (r : Relation) (rest : List Lexeme) → ends 0 rest ≡ true → (ends 0 (relation_text r ++ rest) ≡ true) × (relation_at (relation_text r ++ rest) ≡ Some (r, rest))
-relation_again (Relation.Equal (Comparand.Number n)) rest e = (refl, refl)
 relation_again (Relation.Equal (Comparand.Term t)) rest e = (refl, rw (moves_again t.moves 0 rest e) refl)
-relation_again (Relation.NotEqual (Comparand.Number n)) rest e = (refl, refl)
 relation_again (Relation.NotEqual (Comparand.Term t)) rest e = (refl, rw (moves_again t.moves 0 rest e) refl)
 relation_again (Relation.Adjacent t) rest e = (refl, rw (moves_again t.moves 0 rest e) refl)
 relation_again (Relation.Same t) rest e = (refl, rw (moves_again t.moves 0 rest e) refl)
 relation_again (Relation.AtNode (Name.Word w)) rest e = (refl, refl)
-relation_again (Relation.AtNode (Name.Number n)) rest e = (refl, refl)
+relation_again r rest e = (refl, refl)
 
 atom_again : (a : Atom) (rest : List Lexeme) → ends 0 rest ≡ true → leaf_at (atom_text a ++ rest) ≡ Some (roll-Formula (Formula-F.Atom a), rest)
 atom_again a rest e =
@@ -78,34 +76,32 @@ more_again : (j : Join) (part : Reader Formula) (place : ℕ) (fs : List Formula
 more_again j part place [] n rest each enough lt none e = none_more (begins j) (λ ts. part (drop 1 ts)) n rest none
 more_again j part place (f ∷ fs) zero rest each enough lt none e = absurd (omega (arith, enough))
 more_again j part place (f ∷ fs) (suc n) rest each enough lt none e =
-    let parted : (text f ++ more_text j fs) ++ rest ≡ text f ++ (more_text j fs ++ rest) = append_assoc (text f) (more_text j fs) rest in
-    let first : part (text f ++ (more_text j fs ++ rest)) ≡ Some (f, more_text j fs ++ rest) = each.0 (more_text j fs ++ rest) (ends_more j place fs rest lt e) in
-    rw ((sign_there j place ((text f ++ more_text j fs) ++ rest) lt).1, parted, first, more_again j part place fs n rest each.1 (omega (arith, enough)) lt none e) refl
+    rw ((sign_there j place ((text f ++ more_text j fs) ++ rest) lt).1, append_assoc (text f) (more_text j fs) rest, each.0 (more_text j fs ++ rest) (ends_more j place fs rest lt e), more_again j part place fs n rest each.1 (omega (arith, enough)) lt none e) refl
 
 length_more : (j : Join) (fs : List Formula) (rest : List Lexeme) → length fs ≤ length (more_text j fs ++ rest)
 length_more j [] rest = omega arith
-length_more j (f ∷ fs) rest =
-    let parted : length ((text f ++ more_text j fs) ++ rest) ≡ length (text f) + length (more_text j fs ++ rest) = ap length (append_assoc (text f) (more_text j fs) rest) ∙ length-append (text f) (more_text j fs ++ rest) in
-    omega (arith, parted, length_more j fs rest)
+length_more j (f ∷ fs) rest = omega (arith, length-append (text f ++ more_text j fs) rest, length-append (text f) (more_text j fs), length-append (more_text j fs) rest, length_more j fs rest)
 
 chain_again : (j : Join) (part : Reader Formula) (place : ℕ) (f g : Formula) (gs : List Formula) (rest : List Lexeme) → AllByRecursion (ReadBy part place) (f ∷ g ∷ gs) → place < join_rank j → begins j rest ≡ false → ends place rest ≡ true
-    → chain_at j part (text (roll-Formula (Formula-F.Chain j (f ∷ g ∷ gs))) ++ rest) ≡ Some (roll-Formula (Formula-F.Chain j (f ∷ g ∷ gs)), rest)
+    → chain_at j part ((text f ++ more_text j (g ∷ gs)) ++ rest) ≡ Some (roll-Formula (Formula-F.Chain j (f ∷ g ∷ gs)), rest)
 chain_again j part place f g gs rest each lt none e =
     let behind = more_text j (g ∷ gs) ++ rest in
-    let spelled : text (roll-Formula (Formula-F.Chain j (f ∷ g ∷ gs))) ++ rest ≡ text f ++ behind = rw (text_of (Formula-F.Chain j (f ∷ g ∷ gs))) (append_assoc (text f) (more_text j (g ∷ gs)) rest) in
-    let first : part (text f ++ behind) ≡ Some (f, behind) = each.0 behind (ends_more j place (g ∷ gs) rest lt e) in
     let others = more_again j part place (g ∷ gs) (length behind) rest each.1 (length_more j (g ∷ gs) rest) lt none e in
-    ap (chain_at j part) spelled ∙ rw (first, others, (sign_there j place ((text g ++ more_text j gs) ++ rest) lt).1) refl
+    rw (append_assoc (text f) (more_text j (g ∷ gs)) rest, each.0 behind (ends_more j place (g ∷ gs) rest lt e), others, (sign_there j place ((text g ++ more_text j gs) ++ rest) lt).1) refl
 
 -- ---- places
 
-level_to : (unary : Reader Formula) (tokens : List Lexeme) (f : Formula) (rest : List Lexeme) (more low place : ℕ) → low + more ≡ place → place ≤ 4 → ends place rest ≡ true → level_at unary low tokens ≡ Some (f, rest) → level_at unary place tokens ≡ Some (f, rest)
-level_to unary tokens f rest zero low place eq le e r =
-    let same : low ≡ place = omega (arith, eq) in
+-- what is read at a place is read at each looser one
+looser : (unary : Reader Formula) (tokens : List Lexeme) (f : Formula) (rest : List Lexeme) (low place : ℕ) → low ≤ place → place ≤ 4 → ends place rest ≡ true → level_at unary low tokens ≡ Some (f, rest) → level_at unary place tokens ≡ Some (f, rest)
+looser unary tokens f rest low zero under le e r =
+    let same : low ≡ 0 = omega (arith, under) in
     subst (λ (p : ℕ). level_at unary p tokens ≡ Some (f, rest)) same r
-level_to unary tokens f rest (suc more) low place eq le e r =
-    let none = ends_begins (join_at (suc low)) place rest (omega (arith, rank_join low (omega (arith, eq, le)), eq)) e in
-    level_to unary tokens f rest more (suc low) place (omega (arith, eq)) le e (rw (r, none) refl)
+looser unary tokens f rest low (suc place) under le e r = elim (cases_eq low (suc place)) [
+  | inl same ↦ subst (λ (p : ℕ). level_at unary p tokens ≡ Some (f, rest)) same r
+  | inr other ↦
+      let next = looser unary tokens f rest low place (omega (arith, under, other)) (omega (arith, le)) (ends_low place (suc place) rest (omega arith) e) r in
+      rw (next, ends_begins (join_at (suc place)) (suc place) rest (omega (arith, rank_join place (omega (arith, le)))) e) refl
+]
 
 -- ---- formulas
 
@@ -113,34 +109,25 @@ level_to unary tokens f rest (suc more) low place eq le e r =
 abbrev IsReadAgain : Formula → Type 0
 IsReadAgain f = (budget place : ℕ) (rest : List Lexeme) → place ≤ 4 → stands f place ≡ true → tree_depth f ≤ budget → ends place rest ≡ true → level_at (unary_at budget) place (text f ++ rest) ≡ Some (f, rest)
 
+-- the same, where what is known of the formula is said by its parts
+abbrev IsLayerRead : Formula-F Formula → Type 0
+IsLayerRead x = (budget place : ℕ) (rest : List Lexeme) → place ≤ 4 → stands_step (map-Formula Formula (ℕ → Bool) stands x) place ≡ true → tree_depth_step (map-Formula Formula ℕ tree_depth x) ≤ budget → ends place rest ≡ true
+    → level_at (unary_at budget) place (text_step (map-Formula Formula (List Lexeme) text x) ++ rest) ≡ Some (roll-Formula x, rest)
+
 abbrev Known : Type 0
 Known = (f : Formula) × IsReadAgain f
 
 abbrev formula_of : Known → Formula
 formula_of y = y.0
 
-abbrev layer : Formula-F Known → Formula-F Formula
-layer y = map-Formula Known Formula formula_of y
-
--- a formula that is read at place 0 is read at each place
-lifted : (budget place : ℕ) (f : Formula) (tokens rest : List Lexeme) → place ≤ 4 → ends place rest ≡ true → unary_at budget tokens ≡ Some (f, rest) → level_at (unary_at budget) place tokens ≡ Some (f, rest)
-lifted budget place f tokens rest le e r = level_to (unary_at budget) tokens f rest place 0 place (omega arith) le e r
-
-unary_atom : (budget : ℕ) (a : Atom) (rest : List Lexeme) → unary_at budget (atom_text a ++ rest) ≡ leaf_at (atom_text a ++ rest)
-unary_atom zero a rest = refl
-unary_atom (suc budget) a rest = refl
-
 nested_quantifier : (unary : Reader Formula) (q : Quantifier) (tokens : List Lexeme) → nested_at unary (Lexeme.Mark (capital q) ∷ tokens) ≡ quantified_at unary q tokens
 nested_quantifier unary Quantifier.All tokens = refl
 nested_quantifier unary Quantifier.Exists tokens = refl
 
 quantified_again : (budget : ℕ) (q : Quantifier) (variable : Word) (balls : List Ball) (f : Formula) (rest : List Lexeme) → nat_le 1 (length balls) ≡ true → unary_at budget (text f ++ rest) ≡ Some (f, rest)
-    → unary_at (suc budget) (text (roll-Formula (Formula-F.Quantified q variable balls f)) ++ rest) ≡ Some (roll-Formula (Formula-F.Quantified q variable balls f), rest)
+    → unary_at (suc budget) (Lexeme.Mark (capital q) ∷ Lexeme.Word variable ∷ Lexeme.Mark Mark.OpenList ∷ (flat_map ball_text balls ++ Lexeme.Mark Mark.CloseList ∷ (text f ++ rest))) ≡ Some (roll-Formula (Formula-F.Quantified q variable balls f), rest)
 quantified_again budget q variable [] f rest some inner = absurd (omega (arith, leb-true 1 0 some))
-quantified_again budget q variable (b ∷ balls) f rest some inner =
-    let spelled : text (roll-Formula (Formula-F.Quantified q variable (b ∷ balls) f)) ++ rest ≡ Lexeme.Mark (capital q) ∷ Lexeme.Word variable ∷ Lexeme.Mark Mark.OpenList ∷ (flat_map ball_text (b ∷ balls) ++ Lexeme.Mark Mark.CloseList ∷ (text f ++ rest)) =
-    simp (text_of, append_assoc) in
-    ap (unary_at (suc budget)) spelled ∙ nested_quantifier (unary_at budget) q _ ∙ rw (quantifier_again variable b balls (text f ++ rest), inner) refl
+quantified_again budget q variable (b ∷ balls) f rest some inner = nested_quantifier (unary_at budget) q _ ∙ rw (quantifier_again variable b balls (text f ++ rest), inner) refl
 
 -- the parts of a chain, each of which is read again
 parts_again : (budget place : ℕ) (j : Join) (n i : ℕ) (fs : List Known) → place ≤ 4 → list_all (λ (h : ℕ → Bool). h place) (map stands (map formula_of fs)) ≡ true → chain_depth j n i (map tree_depth (map formula_of fs)) ≤ budget
@@ -158,41 +145,36 @@ join_ranked Join.Iff = (refl, omega arith, omega arith)
 
 chained_again : (budget place : ℕ) (j : Join) (fs : List Known) (rest : List Lexeme) → place ≤ 4 → join_rank j ≤ place → nat_le 2 (length (map stands (map formula_of fs))) ≡ true
     → list_all (λ (h : ℕ → Bool). h (join_rank j - 1)) (map stands (map formula_of fs)) ≡ true → chain_depth j (length (map tree_depth (map formula_of fs))) 0 (map tree_depth (map formula_of fs)) ≤ budget → ends place rest ≡ true
-    → level_at (unary_at budget) place (text (roll-Formula (Formula-F.Chain j (map formula_of fs))) ++ rest) ≡ Some (roll-Formula (Formula-F.Chain j (map formula_of fs)), rest)
-chained_again budget place j [] rest le ranked two fit deep e = absurd (omega (arith, leb-true 2 0 two))
-chained_again budget place j (f ∷ []) rest le ranked two fit deep e = absurd (omega (arith, leb-true 2 1 two))
+    → level_at (unary_at budget) place (separated_by (sign j) (map text (map formula_of fs)) ++ rest) ≡ Some (roll-Formula (Formula-F.Chain j (map formula_of fs)), rest)
 chained_again budget place j (f ∷ g ∷ gs) rest le ranked two fit deep e =
     let low = join_rank j - 1 in
     let is = join_ranked j in
     let part = level_at (unary_at budget) low in
     let each = parts_again budget low j (length (map tree_depth (map formula_of (f ∷ g ∷ gs)))) 0 (f ∷ g ∷ gs) (omega (arith, is.2)) fit deep in
-    let whole = roll-Formula (Formula-F.Chain j (map formula_of (f ∷ g ∷ gs))) in
     let read = chain_again j part low f.0 g.0 (map formula_of gs) rest each (omega (arith, is.1)) (ends_begins j place rest ranked e) (ends_low low place rest (omega (arith, ranked)) e) in
-    level_to (unary_at budget) _ _ rest (place - join_rank j) (suc low) place (omega (arith, is.1, ranked)) le e (subst (λ (k : Join). chain_at k part (text whole ++ rest) ≡ Some (whole, rest)) (sym is.0) read)
+    looser (unary_at budget) _ _ rest (suc low) place (omega (arith, is.1, ranked)) le e (rw is.0 read)
+chained_again budget place j fs rest le ranked two fit deep e = absurd (omega (arith, leb-true 2 (length (map stands (map formula_of fs))) two))
 
-step_again : (y : Formula-F Known) → IsReadAgain (roll-Formula (layer y))
-step_again (Formula-F.Atom a) budget place rest le fit deep e = lifted budget place _ _ rest le e (rw (text_of (Formula-F.Atom a)) (unary_atom budget a rest ∙ atom_again a rest (ends_low 0 place rest (omega arith) e)))
+step_again : (y : Formula-F Known) → IsLayerRead (map-Formula Known Formula formula_of y)
+step_again (Formula-F.Atom a) zero place rest le fit deep e = looser (unary_at zero) _ _ rest 0 place (omega arith) le e (atom_again a rest (ends_low 0 place rest (omega arith) e))
+step_again (Formula-F.Atom a) (suc budget) place rest le fit deep e = looser (unary_at (suc budget)) _ _ rest 0 place (omega arith) le e (atom_again a rest (ends_low 0 place rest (omega arith) e))
 step_again (Formula-F.Chain j fs) budget place rest le fit deep e =
-    let x : Formula-F Formula = Formula-F.Chain j (map formula_of fs) in
-    let a = and_parts (nat_le (join_rank j) place && nat_le 2 (length (map stands (map formula_of fs)))) (list_all (λ (h : ℕ → Bool). h (join_rank j - 1)) (map stands (map formula_of fs))) (rw (stands_of x place) at fit) in
+    let a = and_parts (nat_le (join_rank j) place && nat_le 2 (length (map stands (map formula_of fs)))) (list_all (λ (h : ℕ → Bool). h (join_rank j - 1)) (map stands (map formula_of fs))) fit in
     let b = and_parts (nat_le (join_rank j) place) (nat_le 2 (length (map stands (map formula_of fs)))) a.0 in
-    chained_again budget place j fs rest le (leb-true (join_rank j) place b.0) b.1 a.1 (omega (arith, deep, depth_of x)) e
-step_again y zero place rest le fit deep e = absurd (omega (arith, deep, depth_of (layer y)))
-step_again (Formula-F.Not f) (suc budget) place rest le fit deep e =
-    let x : Formula-F Formula = Formula-F.Not f.0 in
-    lifted (suc budget) place _ _ rest le e (rw (text_of x, f.1 budget 0 rest (omega arith) (rw (stands_of x place) at fit) (omega (arith, deep, depth_of x)) (ends_low 0 place rest (omega arith) e)) refl)
+    chained_again budget place j fs rest le (leb-true (join_rank j) place b.0) b.1 a.1 deep e
+step_again y zero place rest le fit deep e = absurd (omega (arith, deep))
+step_again (Formula-F.Not f) (suc budget) place rest le fit deep e = looser (unary_at (suc budget)) _ _ rest 0 place (omega arith) le e (rw (f.1 budget 0 rest (omega arith) fit (omega (arith, deep)) (ends_low 0 place rest (omega arith) e)) refl)
 step_again (Formula-F.Quantified q variable balls f) (suc budget) place rest le fit deep e =
-    let x : Formula-F Formula = Formula-F.Quantified q variable balls f.0 in
-    let both = and_parts (nat_le 1 (length balls)) (stands f.0 0) (rw (stands_of x place) at fit) in
-    lifted (suc budget) place _ _ rest le e (quantified_again budget q variable balls f.0 rest both.0 (f.1 budget 0 rest (omega arith) both.1 (omega (arith, deep, depth_of x)) (ends_low 0 place rest (omega arith) e)))
+    let both = and_parts (nat_le 1 (length balls)) (stands f.0 0) fit in
+    let inner = f.1 budget 0 rest (omega arith) both.1 (omega (arith, deep)) (ends_low 0 place rest (omega arith) e) in
+    looser (unary_at (suc budget)) _ _ rest 0 place (omega arith) le e (rw (append_assoc (flat_map ball_text balls) (Lexeme.Mark Mark.CloseList ∷ text f.0) rest) (quantified_again budget q variable balls f.0 rest both.0 inner))
 step_again (Formula-F.Group f) (suc budget) place rest le fit deep e =
-    let x : Formula-F Formula = Formula-F.Group f.0 in
-    let inner = f.1 budget 4 (Lexeme.Mark Mark.Close ∷ rest) (omega arith) (rw (stands_of x place) at fit) (omega (arith, deep, depth_of x)) refl in
-    let spelled : text (roll-Formula x) ++ rest ≡ Lexeme.Mark Mark.Open ∷ (text f.0 ++ Lexeme.Mark Mark.Close ∷ rest) = simp (text_of, append_assoc) in
-    lifted (suc budget) place _ _ rest le e (ap (unary_at (suc budget)) spelled ∙ ap (λ (r : Option (Formula × List Lexeme)). r >>= λ f. group_end f.0 f.1) inner)
+    let inner = f.1 budget 4 (Lexeme.Mark Mark.Close ∷ rest) (omega arith) fit (omega (arith, deep)) refl in
+    looser (unary_at (suc budget)) _ _ rest 0 place (omega arith) le e (rw (append_assoc (text f.0) (Lexeme.Mark Mark.Close ∷ []) rest, inner) refl)
 
 read_again : (f : Formula) → IsReadAgain f
-read_again = ind-Formula IsReadAgain (λ x y is. subst (λ (z : Formula-F Formula). IsReadAgain (roll-Formula z)) is (step_again y))
+read_again = ind-Formula IsReadAgain (λ x y is budget place rest le fit deep e.
+    rw (text_of x) (subst IsLayerRead is (step_again y) budget place rest le (rw (stands_of x place) at fit) (omega (arith, deep, depth_of x)) e))
 
 -- what follows a formula cannot belong to it
 pub formula_again : (f : Formula) (rest : List Lexeme) → IsWrittenFormula f → ends 4 rest ≡ true → formula_at (text f ++ rest) ≡ Some (f, rest)

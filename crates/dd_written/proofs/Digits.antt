@@ -9,9 +9,9 @@ decimal_cut v w [] e = e
 decimal_cut v w (d ∷ digits) e = decimal_cut (v * 10 + (d - 48)) (w * 10 + (d - 48)) digits (omega (arith, e))
 
 -- one digit more, of those that are left
-pub decimal_more : (digits : List ℕ) (i old new total : ℕ) → i < length digits → new ≡ min (old * 10 + (get_or digits i 0 - 48)) 4294967295 → min (decimal old (drop i digits)) 4294967295 ≡ total
+pub decimal_more : (digits : List ℕ) (i old new total : ℕ) → i < length digits → min (decimal old (drop i digits)) 4294967295 ≡ total → new ≡ min (old * 10 + (get_or digits i 0 - 48)) 4294967295
     → (new ≤ 4294967295) × (min (decimal new (drop (i + 1) digits)) 4294967295 ≡ total)
-decimal_more digits i old new total lt made so_far = (
+decimal_more digits i old new total lt so_far made = (
   omega (arith, made),
   decimal_cut new (old * 10 + (get_or digits i 0 - 48)) (drop (i + 1) digits) (omega (arith, made)) ∙ (ap (λ (ds : List ℕ). min (decimal old ds) 4294967295) (sym (drop_more digits i 0 lt)) ∙ so_far),
 )

@@ -1,9 +1,9 @@
 -- What is read of formulas is written so.
-use Rattle.std.proofs.Common.{◌≡◌, ℕ, zero, suc, ◌-◌, ◌≤◌, ◌<◌, Bool, true, List, [], ◌∷◌, ◌++◌, map, length, drop, Some, IfSome, refl, sym, ap, subst, ◌∙◌, append_assoc, arith, le-leb, leb-true, inl, inr, nat_le, ◌&&◌}
+use Rattle.std.proofs.Common.{◌≡◌, ℕ, zero, suc, ◌-◌, ◌≤◌, ◌<◌, Bool, true, List, [], ◌∷◌, ◌++◌, map, length, drop, Some, IfSome, refl, sym, ap, subst, ◌∙◌, append_assoc, arith, le-leb, leb-true, inl, inr, nat_le}
 use Rattle.std.specs.List.{flat_map, list_all}
-use Rattle.std.proofs.lemmas.{Bool.and_parts, Bool.cases_Bool, List.length-map, Option.MatchOption-at_some}
-use Rattle.dd_written.specs.Tree.{Word, Mark, Lexeme, Ball, Quantifier, Join, Formula, roll-Formula, Formula-F, map-Formula, ind-Formula}
-use Rattle.dd_written.specs.Formulas.{text, stands, stands_step, move_text, term_text, atom_side_text, relation_text, ball_text, capital, sign, join_rank, tree_depth, IsWrittenFormula}
+use Rattle.std.proofs.lemmas.{Bool.cases_Bool, List.length-map, Option.MatchOption-at_some}
+use Rattle.dd_written.specs.Tree.{Word, Mark, Lexeme, Ball, Quantifier, Join, Formula, roll-Formula, Formula-F}
+use Rattle.dd_written.specs.Formulas.{text, stands, move_text, term_text, atom_side_text, relation_text, ball_text, capital, sign, join_rank, tree_depth, IsWrittenFormula}
 use Rattle.dd_written.specs.reading.Readers.{Reader, with_front}
 use Rattle.dd_written.specs.reading.Atoms.{moves_at, term_at, side_at, relation_at, leaf_at, balls_at, quantifier_end, quantifier_at}
 use Rattle.dd_written.specs.reading.Formulas.{begins, more_at, chain_at, join_at, level_at, quantified_at, group_end, nested_at, unary_at, formula_at}
@@ -39,16 +39,16 @@ relation_sound (Lexeme.Mark Mark.Colon ∷ Lexeme.Word w ∷ tokens) = refl
 relation_sound (Lexeme.Mark Mark.Colon ∷ Lexeme.Number n ∷ tokens) = refl
 relation_sound tokens = tt
 
--- the tokens are a formula that may stand at a place, and what is left
+-- the tokens are a formula that may stand at a place and at each looser one, and what is left
 abbrev Takes : List Lexeme → ℕ → Formula × List Lexeme → Type 0
-Takes tokens place x = (tokens ≡ text x.0 ++ x.1) × (stands x.0 place ≡ true)
+Takes tokens place x = (tokens ≡ text x.0 ++ x.1) × ((p : ℕ) → place ≤ p → stands x.0 p ≡ true)
 
 abbrev IsSound : Reader Formula → ℕ → Type 0
 IsSound reader place = (tokens : List Lexeme) → IfSome (reader tokens) (Takes tokens place)
 
-leaf_sound : (place : ℕ) → IsSound leaf_at place
-leaf_sound place tokens =
-    followed (term_at tokens) _ _ _ (term_sound tokens) (λ t e. followed (relation_at t.1) _ _ _ (relation_sound t.1) (λ r e'. (simp (text_of, append_assoc, e, e'), simp stands_of)))
+leaf_sound : IsSound leaf_at 0
+leaf_sound tokens =
+    followed (term_at tokens) _ _ _ (term_sound tokens) (λ t e. followed (relation_at t.1) _ _ _ (relation_sound t.1) (λ r e'. (simp (text_of, append_assoc, e, e'), λ p le. simp stands_of)))
 
 -- the balls are one or more
 abbrev Quantifies : List Lexeme → (Word × List Ball) × List Lexeme → Type 0
@@ -60,26 +60,9 @@ end_sound variable balls tokens = tt
 
 quantifier_sound : (tokens : List Lexeme) → IfSome (quantifier_at tokens) (Quantifies tokens)
 quantifier_sound (Lexeme.Word variable ∷ Lexeme.Mark Mark.OpenList ∷ tokens) =
-    let end = end_sound variable (balls_at tokens).0 (balls_at tokens).1 in
-    subst (λ (ts : List Lexeme). IfSome (quantifier_end variable (balls_at tokens).0 (balls_at tokens).1) (Quantifies (Lexeme.Word variable ∷ Lexeme.Mark Mark.OpenList ∷ ts))) (sym (balls_sound tokens)) end
+    subst (λ (ts : List Lexeme). IfSome (quantifier_end variable (balls_at tokens).0 (balls_at tokens).1) (Quantifies (Lexeme.Word variable ∷ Lexeme.Mark Mark.OpenList ∷ ts)))
+    (sym (balls_sound tokens)) (end_sound variable (balls_at tokens).0 (balls_at tokens).1)
 quantifier_sound tokens = tt
-
--- what may stand at a place may stand at the next
-abbrev AlsoNext : Formula → Type 0
-AlsoNext f = (place : ℕ) → stands f place ≡ true → stands f (suc place) ≡ true
-
-next_step : (x : Formula-F Formula) (place : ℕ) → stands_step (map-Formula Formula (ℕ → Bool) stands x) place ≡ true → stands_step (map-Formula Formula (ℕ → Bool) stands x) (suc place) ≡ true
-next_step (Formula-F.Atom a) place e = e
-next_step (Formula-F.Not f) place e = e
-next_step (Formula-F.Quantified q variable balls f) place e = e
-next_step (Formula-F.Group f) place e = e
-next_step (Formula-F.Chain j fs) place e =
-    let a = and_parts (nat_le (join_rank j) place && nat_le 2 (length (map stands fs))) (list_all (λ f. f (join_rank j - 1)) (map stands fs)) e in
-    let b = and_parts (nat_le (join_rank j) place) (nat_le 2 (length (map stands fs))) a.0 in
-    rw (le-leb (join_rank j) (suc place) (omega (arith, leb-true (join_rank j) place b.0)), b.1, a.1) refl
-
-stands_more : (f : Formula) → AlsoNext f
-stands_more = ind-Formula AlsoNext (λ x y is place e. rw (stands_of x (suc place)) (next_step x place (rw (stands_of x place) at e)))
 
 -- ---- chains
 
@@ -99,13 +82,13 @@ abbrev TakesMore : Join → ℕ → ℕ → List Lexeme → List Formula × List
 TakesMore j place n tokens x = (tokens ≡ more_text j x.0 ++ x.1) × (list_all (λ (h : ℕ → Bool). h place) (map stands x.0) ≡ true) × (begins j tokens ≡ true → 0 < n → 0 < length x.0)
 
 chain_stands : (j : Join) (place : ℕ) (f : Formula) (fs : List Formula) → join_rank j ≡ suc place → stands f place ≡ true → list_all (λ (h : ℕ → Bool). h place) (map stands fs) ≡ true → 0 < length fs
-    → stands (roll-Formula (Formula-F.Chain j (f ∷ fs))) (suc place) ≡ true
-chain_stands j place f fs ranked first others some =
+    → (p : ℕ) → suc place ≤ p → stands (roll-Formula (Formula-F.Chain j (f ∷ fs))) p ≡ true
+chain_stands j place f fs ranked first others some p le =
     let before : join_rank j - 1 ≡ place = omega (arith, ranked) in
     let two : nat_le 2 (length (map stands (f ∷ fs))) ≡ true = le-leb 2 (length (map stands (f ∷ fs))) (omega (arith, length-map fs stands, some)) in
-    let fits : nat_le (join_rank j) (suc place) ≡ true = le-leb (join_rank j) (suc place) (omega (arith, ranked)) in
+    let fits : nat_le (join_rank j) p ≡ true = le-leb (join_rank j) p (omega (arith, ranked, le)) in
     let all : list_all (λ (h : ℕ → Bool). h (join_rank j - 1)) (map stands (f ∷ fs)) ≡ true = subst (λ (p : ℕ). list_all (λ (h : ℕ → Bool). h p) (map stands (f ∷ fs)) ≡ true) (sym before) (rw (first, others) refl) in
-    rw (stands_of (Formula-F.Chain j (f ∷ fs)) (suc place), fits, two) all
+    rw (stands_of (Formula-F.Chain j (f ∷ fs)) p, fits, two) all
 
 module _ (j : Join) (part : Reader Formula) (place : ℕ) (ranked : join_rank j ≡ suc place) (sound : IsSound part place) where
   more_sound : (n : ℕ) (tokens : List Lexeme) → IfSome (more_at j part n tokens) (TakesMore j place n tokens)
@@ -113,7 +96,7 @@ module _ (j : Join) (part : Reader Formula) (place : ℕ) (ranked : join_rank j 
   more_sound (suc n) tokens = elim (cases_Bool (begins j tokens)) [
     | inl e ↦
         rw e (followed (part (drop 1 tokens)) _ _ _ (sound (drop 1 tokens)) (λ f t. followed (more_at j part n f.1) _ _ _ (more_sound n f.1) (λ m s.
-        (begins_sound j tokens e ∙ rw (t.0, s.0) (simp append_assoc), rw (t.1, s.1) refl, λ there some. omega arith))))
+        (begins_sound j tokens e ∙ rw (t.0, s.0) (simp append_assoc), rw (t.1 place (omega arith), s.1) refl, λ there some. omega arith))))
     | inr e ↦ rw e (refl, refl, λ there some. absurd cc)
   ]
 
@@ -122,8 +105,8 @@ module _ (j : Join) (part : Reader Formula) (place : ℕ) (ranked : join_rank j 
     | inl e ↦
         let more = more_at j part (length f.1) f.1 in
         rw e (followed (with_front (f.0 ∷ []) more) _ (λ m. Takes tokens (suc place) (roll-Formula (Formula-F.Chain j m.0), m.1)) _ (followed more _ _ _ (more_sound (length f.1) f.1) (λ m r.
-        (t.0 ∙ rw r.0 (simp (text_of, append_assoc)), chain_stands j place f.0 m.0 ranked t.1 r.1 (r.2 e (omega (arith, ap length (begins_sound j f.1 e))))))) (λ m r. r))
-    | inr e ↦ rw e (t.0, stands_more f.0 place t.1)
+        (t.0 ∙ rw r.0 (simp (text_of, append_assoc)), chain_stands j place f.0 m.0 ranked (t.1 place (omega arith)) r.1 (r.2 e (omega (arith, ap length (begins_sound j f.1 e))))))) (λ m r. r))
+    | inr e ↦ rw e (t.0, λ p le. t.1 p (omega (arith, le)))
   ])
 
 -- the places of the four signs
@@ -134,36 +117,33 @@ rank_join (suc (suc zero)) lt = refl
 rank_join (suc (suc (suc zero))) lt = refl
 rank_join (suc (suc (suc (suc n)))) lt = absurd (omega (arith, lt))
 
-group_end_sound : (place : ℕ) (f : Formula) (before tokens : List Lexeme) → Takes before 4 (f, tokens) → IfSome (group_end f tokens) (Takes (Lexeme.Mark Mark.Open ∷ before) place)
-group_end_sound place f before (Lexeme.Mark Mark.Close ∷ tokens) t = (simp (text_of, append_assoc, t.0), simp (stands_of, t.1))
-group_end_sound place f before tokens t = tt
+group_end_sound : (f : Formula) (before tokens : List Lexeme) → Takes before 4 (f, tokens) → IfSome (group_end f tokens) (Takes (Lexeme.Mark Mark.Open ∷ before) 0)
+group_end_sound f before (Lexeme.Mark Mark.Close ∷ tokens) t = (simp (text_of, append_assoc, t.0), λ p le. rw (stands_of (Formula-F.Group f) p) (t.1 4 (omega arith)))
+group_end_sound f before tokens t = tt
 
 module _ (unary : Reader Formula) (sound : IsSound unary 0) where
   level_sound : (place : ℕ) → place ≤ 4 → IsSound (level_at unary place) place
   level_sound zero le = sound
   level_sound (suc place) le = chain_sound (join_at (suc place)) (level_at unary place) place (rank_join place (omega (arith, le))) (level_sound place (omega (arith, le)))
 
-  quantified_sound : (q : Quantifier) (place : ℕ) (tokens : List Lexeme) → IfSome (quantified_at unary q tokens) (Takes (Lexeme.Mark (capital q) ∷ tokens) place)
-  quantified_sound q place tokens =
-      followed (quantifier_at tokens) _ _ _ (quantifier_sound tokens) (λ h e. followed (unary h.1) _ _ _ (sound h.1) (λ f t. (simp (text_of, append_assoc, e.0, t.0), simp (stands_of, e.1, t.1))))
+  quantified_sound : (q : Quantifier) (tokens : List Lexeme) → IfSome (quantified_at unary q tokens) (Takes (Lexeme.Mark (capital q) ∷ tokens) 0)
+  quantified_sound q tokens =
+      followed (quantifier_at tokens) _ _ _ (quantifier_sound tokens) (λ h e. followed (unary h.1) _ _ _ (sound h.1) (λ f t. (simp (text_of, append_assoc, e.0, t.0), λ p le. simp (stands_of, e.1, t.1 0 (omega arith)))))
 
-  nested_sound : (place : ℕ) → IsSound (nested_at unary) place
-  nested_sound place (Lexeme.Mark Mark.Not ∷ tokens) = followed (unary tokens) _ _ _ (sound tokens) (λ f t. (simp (text_of, t.0), simp (stands_of, t.1)))
-  nested_sound place (Lexeme.Mark Mark.All ∷ tokens) = quantified_sound Quantifier.All place tokens
-  nested_sound place (Lexeme.Mark Mark.Exists ∷ tokens) = quantified_sound Quantifier.Exists place tokens
-  nested_sound place (Lexeme.Mark Mark.Open ∷ tokens) = followed (level_at unary 4 tokens) _ _ _ (level_sound 4 (omega arith) tokens) (λ f t. group_end_sound place f.0 tokens f.1 t)
-  nested_sound place tokens = leaf_sound place tokens
+  nested_sound : IsSound (nested_at unary) 0
+  nested_sound (Lexeme.Mark Mark.Not ∷ tokens) = followed (unary tokens) _ _ _ (sound tokens) (λ f t. (simp (text_of, t.0), λ p le. rw (stands_of (Formula-F.Not f.0) p) (t.1 0 (omega arith))))
+  nested_sound (Lexeme.Mark Mark.All ∷ tokens) = quantified_sound Quantifier.All tokens
+  nested_sound (Lexeme.Mark Mark.Exists ∷ tokens) = quantified_sound Quantifier.Exists tokens
+  nested_sound (Lexeme.Mark Mark.Open ∷ tokens) = followed (level_at unary 4 tokens) _ _ _ (level_sound 4 (omega arith) tokens) (λ f t. group_end_sound f.0 tokens f.1 t)
+  nested_sound tokens = leaf_sound tokens
 
 unary_sound : (budget : ℕ) → IsSound (unary_at budget) 0
-unary_sound zero = leaf_sound 0
-unary_sound (suc budget) = nested_sound (unary_at budget) (unary_sound budget) 0
-
-abbrev IsFormula : List Lexeme → Formula × List Lexeme → Type 0
-IsFormula tokens x = (tokens ≡ text x.0 ++ x.1) × IsWrittenFormula x.0
+unary_sound zero = leaf_sound
+unary_sound (suc budget) = nested_sound (unary_at budget) (unary_sound budget)
 
 pub formula_sound : (tokens : List Lexeme) (x : Formula × List Lexeme) → formula_at tokens ≡ Some x → (tokens ≡ text x.0 ++ x.1) × IsWrittenFormula x.0
 formula_sound tokens x e =
-    MatchOption-at_some (Unit {0}) (IsFormula tokens) x e (followed (level_at (unary_at 64) 4 tokens) _ _ _ (level_sound (unary_at 64) (unary_sound 64) 4 (omega arith) tokens) (λ f t. elim (cases_Bool (nat_le (tree_depth f.0) 64)) [
-      | inl within ↦ rw within (t.0, record { grouped = t.1; shallow = leb-true (tree_depth f.0) 64 within })
+    MatchOption-at_some (Unit {0}) (λ (y : Formula × List Lexeme). (tokens ≡ text y.0 ++ y.1) × IsWrittenFormula y.0) x e (followed (level_at (unary_at 64) 4 tokens) _ _ _ (level_sound (unary_at 64) (unary_sound 64) 4 (omega arith) tokens) (λ f t. elim (cases_Bool (nat_le (tree_depth f.0) 64)) [
+      | inl within ↦ rw within (t.0, record { grouped = t.1 4 (omega arith); shallow = leb-true (tree_depth f.0) 64 within })
       | inr deep ↦ rw deep tt
     ]))

@@ -1,5 +1,5 @@
 //! How deep a formula is, as far as the limit asks.
-ghost use Rattle.std.specs.Prelude.{◌≡◌, ◌<◌, ◌≤◌, ◌+◌, length, map};
+ghost use Rattle.std.specs.Prelude.{◌≡◌, ◌<◌, ◌+◌, length, map};
 ghost use Rattle.dd_written.specs.Formulas.{tree_depth, signs_over, chain_depth, cut_depth};
 
 use crate::tree::{Formula, Join};
@@ -8,11 +8,9 @@ use crate::tree::{Formula, Join};
 pub(crate) const MOST_DEEP: u32 = 64;
 
 fn deeper(depth: u32, more: u32) -> u32
-    requires depth { depth ≤ 65 }
-    requires more { more ≤ 65 }
     ensures { result ≡ cut_depth (more + depth) }
 {
-    (more + depth).min(MOST_DEEP + 1)
+    more.saturating_add(depth).min(MOST_DEEP + 1)
 }
 
 /// How many signs of a chain of so many parts stand over one of them.
@@ -21,8 +19,7 @@ fn signs_over(join: Join, count: usize, place: usize) -> u32
     ensures { result ≡ cut_depth (signs_over join count place) }
 {
     let signs = match join {
-        Join::And => 1,
-        Join::Or => 1,
+        Join::And | Join::Or => 1,
         Join::Implies => (place + 1).min(count - 1),
         Join::Iff => (count - place).min(count - 1),
     };
@@ -31,32 +28,25 @@ fn signs_over(join: Join, count: usize, place: usize) -> u32
 
 /// The depth, and 65 for all that are deeper than 64.
 #[cycle(measure)]
-#[tactic(auto, using(crate::proofs::Depths::depths))]
 pub(crate) fn capped_depth(formula: &Formula) -> u32
-    ensures value { result ≡ cut_depth (tree_depth formula.now) }
-    ensures within { result ≤ 65 }
+    ensures { result ≡ cut_depth (tree_depth formula.now) }
 {
     match formula {
         Formula::Atom(_) => 0,
-        Formula::Not(inner) => deeper(capped_depth(inner.get()), 1),
+        Formula::Not(inner) | Formula::Group(inner) => deeper(capped_depth(inner.get()), 1),
         Formula::Quantified { body, .. } => deeper(capped_depth(body.get()), 1),
-        Formula::Group(inner) => deeper(capped_depth(inner.get()), 1),
         Formula::Chain { join, parts } => deepest(*join, parts.as_slice()),
     }
 }
 
 #[cycle(measure)]
-#[tactic(auto, using(crate::proofs::Depths::depths))]
 fn deepest(join: Join, parts: &[Formula]) -> u32
-    ensures value { result ≡ cut_depth (chain_depth join (length parts.now) 0 (map tree_depth parts.now)) }
-    ensures within { result ≤ 65 }
+    ensures { result ≡ cut_depth (chain_depth join (length parts.now) 0 (map tree_depth parts.now)) }
 {
     let mut deepest = 0;
     for place in 0..parts.len() {
-        let part = deeper(
-            capped_depth(&parts[place]),
-            signs_over(join, parts.len(), place),
-        );
+        let depth = capped_depth(&parts[place]);
+        let part = deeper(depth, signs_over(join, parts.len(), place));
         deepest = part.max(deepest);
     }
     deepest

@@ -2,7 +2,7 @@
 ghost use Rattle.std.specs.Prelude.{◌≡◌, length, Some};
 ghost use Rattle.dd_written.specs.reading.Readers.{Gives, with_front};
 ghost use Rattle.dd_written.specs.reading.Atoms.{name_at, moves_at, term_at, side_at, relation_at, leaf_at, balls_at, quantifier_at};
-ghost use Rattle.dd_written.specs.reading.Formulas.{begins, part_at, more_at, chain_at, chain_end, quantified_at, group_at, nested_at, unary_at, formula_at};
+ghost use Rattle.dd_written.specs.reading.Formulas.{begins, part_at, more_at, chain_at, quantified_at, group_at, nested_at, unary_at, formula_at};
 
 use crate::depth::{MOST_DEEP, capped_depth};
 use crate::fault::{Read, ReadFault};
@@ -37,17 +37,12 @@ fn moves(alloc: Global, tokens: &[Lexeme]) -> Read<'_, Items<Word>>
 fn term(alloc: Global, tokens: &[Lexeme]) -> Read<'_, Term>
     ensures { Gives (λ x. (x.0, x.1.now)) result (term_at tokens.now) }
 {
-    match tokens {
-        [Lexeme::Word(first), rest @ ..] => {
-            let (moves, rest) = moves(alloc, rest)?;
-            let term = Term {
-                first: *first,
-                moves,
-            };
-            Ok((term, rest))
-        }
-        _ => Err(ReadFault::Syntax),
-    }
+    let [Lexeme::Word(first), rest @ ..] = tokens else {
+        return Err(ReadFault::Syntax);
+    };
+    let (moves, rest) = moves(alloc, rest)?;
+    let first = *first;
+    Ok((Term { first, moves }, rest))
 }
 
 fn side(alloc: Global, tokens: &[Lexeme]) -> Read<'_, Comparand>
@@ -55,10 +50,7 @@ fn side(alloc: Global, tokens: &[Lexeme]) -> Read<'_, Comparand>
 {
     match tokens {
         [Lexeme::Number(number), rest @ ..] => Ok((Comparand::Number(*number), rest)),
-        _ => {
-            let (term, rest) = term(alloc, tokens)?;
-            Ok((Comparand::Term(term), rest))
-        }
+        _ => term(alloc, tokens).map(|(term, rest)| (Comparand::Term(term), rest)),
     }
 }
 
@@ -101,10 +93,8 @@ fn balls(alloc: Global, tokens: &[Lexeme]) -> Read<'_, Items<Ball>>
     let mut balls = Items::new(alloc);
     let mut rest = tokens;
     while let [Lexeme::Word(centre), Lexeme::Number(radius), after @ ..] = rest {
-        balls.push(Ball {
-            centre: *centre,
-            radius: *radius,
-        })?;
+        let (centre, radius) = (*centre, *radius);
+        balls.push(Ball { centre, radius })?;
         rest = after;
     }
     Ok((balls, rest))
@@ -163,30 +153,22 @@ fn nested(alloc: Global, budget: u32, tokens: &[Lexeme]) -> Read<'_, Formula>
             Ok((Formula::Not(Boxed::new(alloc, negated)?), rest))
         }
         [Lexeme::Mark(Mark::All), rest @ ..] => quantified(alloc, budget, Quantifier::All, rest),
-        [Lexeme::Mark(Mark::Exists), rest @ ..] => quantified(
-            alloc,
-            budget,
-            Quantifier::Exists,
-            rest,
-        ),
+        [Lexeme::Mark(Mark::Exists), rest @ ..] => {
+            quantified(alloc, budget, Quantifier::Exists, rest)
+        }
         [Lexeme::Mark(Mark::Open), rest @ ..] => group(alloc, budget, rest),
         _ => leaf(alloc, tokens),
     }
 }
 
 #[cycle(read)]
-fn quantified(
-    alloc: Global,
-    budget: u32,
-    quantifier: Quantifier,
-    tokens: &[Lexeme],
-) -> Read<'_, Formula>
-    ensures { Gives (λ x. (x.0, x.1.now)) result (quantified_at (unary_at budget) quantifier tokens.now) }
+fn quantified(alloc: Global, budget: u32, kind: Quantifier, tokens: &[Lexeme]) -> Read<'_, Formula>
+    ensures { Gives (λ x. (x.0, x.1.now)) result (quantified_at (unary_at budget) kind tokens.now) }
 {
-    let ((variable, balls), rest) = self::quantifier(alloc, tokens)?;
+    let ((variable, balls), rest) = quantifier(alloc, tokens)?;
     let (body, rest) = unary(alloc, budget, rest)?;
     let formula = Formula::Quantified {
-        quantifier,
+        quantifier: kind,
         variable,
         balls,
         body: Boxed::new(alloc, body)?,
@@ -199,12 +181,10 @@ fn group(alloc: Global, budget: u32, tokens: &[Lexeme]) -> Read<'_, Formula>
     ensures { Gives (λ x. (x.0, x.1.now)) result (group_at (unary_at budget) tokens.now) }
 {
     let (inner, rest) = chain(alloc, budget, Join::Iff, tokens)?;
-    match rest {
-        [Lexeme::Mark(Mark::Close), rest @ ..] => {
-            Ok((Formula::Group(Boxed::new(alloc, inner)?), rest))
-        }
-        _ => Err(ReadFault::Syntax),
-    }
+    let [Lexeme::Mark(Mark::Close), rest @ ..] = rest else {
+        return Err(ReadFault::Syntax);
+    };
+    Ok((Formula::Group(Boxed::new(alloc, inner)?), rest))
 }
 
 /// A part of a chain: the looser a sign binds, the looser are those that its parts may hold.
@@ -226,25 +206,12 @@ fn chain(alloc: Global, budget: u32, join: Join, tokens: &[Lexeme]) -> Read<'_, 
     ensures { Gives (λ x. (x.0, x.1.now)) result (chain_at join (part_at join (unary_at budget)) tokens.now) }
 {
     let (first, rest) = part(alloc, budget, join, tokens)?;
-    chain_end(alloc, budget, join, first, rest)
-}
-
-#[cycle(read)]
-fn chain_end(
-    alloc: Global,
-    budget: u32,
-    join: Join,
-    first: Formula,
-    tokens: &[Lexeme],
-) -> Read<'_, Formula>
-    ensures { Gives (λ x. (x.0, x.1.now)) result (chain_end join (part_at join (unary_at budget)) first tokens.now) }
-{
-    if !begins(join, tokens) {
-        return Ok((first, tokens));
+    if !begins(join, rest) {
+        return Ok((first, rest));
     }
     let mut front = Items::new(alloc);
     front.push(first)?;
-    let (parts, rest) = more_parts(alloc, budget, join, front, tokens)?;
+    let (parts, rest) = more_parts(alloc, budget, join, front, rest)?;
     Ok((Formula::Chain { join, parts }, rest))
 }
 

@@ -1,69 +1,49 @@
 //! From the bytes of a script to its tokens as the grammar sees them.
-ghost use Rattle.std.specs.Prelude.{◌≡◌, ◌≤◌, ◌+◌, length, map, bytes_eq, IfOk};
+ghost use Rattle.std.specs.Prelude.{◌≡◌, ◌≤◌, ◌+◌, length, map, IfOk};
 ghost use Rattle.std.specs.{Char.is_ascii, List.list_all};
 ghost use Rattle.dd_values.specs.Bounds.{most_script};
-ghost use Rattle.dd_written.specs.Lexemes.{mark_text, mark_at, lexeme_of, lexemes_of};
+ghost use Rattle.dd_written.specs.Lexemes.{sign_of, mark_at, lexeme_of, lexemes_of};
 
 use crate::lexeme::{Lexeme, Mark, Number, Word};
-use crate::words::{part, same_bytes};
+use crate::words::part;
 use dd_tokens::{Token, TokenKind, tokens};
 use dd_values::Items;
 use std::alloc::{AllocError, Global};
 
-impl Mark {
-    fn text(self) -> &'static [u8]
-        ensures { result.now ≡ mark_text self }
-    {
-        match self {
-            Mark::All => b"A",
-            Mark::Exists => b"E",
-            Mark::Percent => b"%",
-            Mark::Open => b"(",
-            Mark::Close => b")",
-            Mark::OpenList => b"[",
-            Mark::CloseList => b"]",
-            Mark::Dot => b".",
-            Mark::Equal => b"=",
-            Mark::NotEqual => b"!=",
-            Mark::Not => b"!",
-            Mark::And => b"&",
-            Mark::Or => b"|",
-            Mark::Tilde => b"~",
-            Mark::At => b"@",
-            Mark::Colon => b":",
-            Mark::Arrow => b"->",
-            Mark::BothWays => b"<->",
-        }
+/// The mark of one byte.
+fn sign(byte: u8) -> Option<Mark>
+    ensures { result ≡ sign_of byte }
+{
+    match byte {
+        b'A' => Some(Mark::All),
+        b'E' => Some(Mark::Exists),
+        b'%' => Some(Mark::Percent),
+        b'(' => Some(Mark::Open),
+        b')' => Some(Mark::Close),
+        b'[' => Some(Mark::OpenList),
+        b']' => Some(Mark::CloseList),
+        b'.' => Some(Mark::Dot),
+        b'=' => Some(Mark::Equal),
+        b'!' => Some(Mark::Not),
+        b'&' => Some(Mark::And),
+        b'|' => Some(Mark::Or),
+        b'~' => Some(Mark::Tilde),
+        b'@' => Some(Mark::At),
+        b':' => Some(Mark::Colon),
+        _ => None,
     }
 }
 
 fn mark(written: &[u8]) -> Option<Mark>
     ensures { result ≡ mark_at written.now }
 {
-    let marks = [
-        Mark::Dot,
-        Mark::Equal,
-        Mark::Open,
-        Mark::Close,
-        Mark::And,
-        Mark::Or,
-        Mark::Not,
-        Mark::NotEqual,
-        Mark::Arrow,
-        Mark::BothWays,
-        Mark::OpenList,
-        Mark::CloseList,
-        Mark::Percent,
-        Mark::All,
-        Mark::Exists,
-        Mark::Tilde,
-        Mark::At,
-        Mark::Colon,
-    ];
-    marks
-        .iter()
-        .copied()
-        .find(|mark| same_bytes(written, mark.text()))
+    match written {
+        [byte] => sign(*byte),
+        b"!=" => Some(Mark::NotEqual),
+        b"->" => Some(Mark::Arrow),
+        b"<->" => Some(Mark::BothWays),
+        _ => None,
+    }
 }
 
 fn lexeme(bytes: &[u8], token: Token) -> Lexeme
@@ -74,10 +54,7 @@ fn lexeme(bytes: &[u8], token: Token) -> Lexeme
         TokenKind::Word => Lexeme::Word(Word { start, length }),
         TokenKind::Number => Lexeme::Number(Number { start, length }),
         TokenKind::Negative => Lexeme::Negative(Number { start, length }),
-        TokenKind::Mark => match mark(part(bytes, start, length)) {
-            Some(mark) => Lexeme::Mark(mark),
-            None => Lexeme::Stray,
-        },
+        TokenKind::Mark => mark(part(bytes, start, length)).map_or(Lexeme::Stray, Lexeme::Mark),
     }
 }
 
@@ -105,9 +82,8 @@ pub fn lexemes(alloc: Global, bytes: &[u8]) -> Result<Items<Lexeme>, AllocError>
 {
     let cut = tokens(alloc, bytes)?;
     let mut lexemes = lexemes_in(alloc, bytes, cut.list.as_slice())?;
-    if cut.stop as usize == bytes.len() && is_ascii(bytes) {
-        return Ok(lexemes);
+    if cut.stop as usize != bytes.len() || !is_ascii(bytes) {
+        lexemes.push(Lexeme::Stray)?;
     }
-    lexemes.push(Lexeme::Stray)?;
     Ok(lexemes)
 }

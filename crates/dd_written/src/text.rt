@@ -1,7 +1,7 @@
 //! The text of a script, in which names and numbers stand.
-ghost use Rattle.std.specs.Prelude.{◌≡◌, ◌≤◌, take, drop, length, min, IfOk};
+ghost use Rattle.std.specs.Prelude.{◌≡◌, take, drop, min, IfOk};
 ghost use Rattle.std.specs.Str.{IsAscii};
-ghost use Rattle.dd_written.specs.Values.{name_text, decimal, unsigned, written_value};
+ghost use Rattle.dd_written.specs.Values.{name_text, decimal, written_value};
 
 use crate::lexeme::Number;
 use crate::tree::Name;
@@ -27,29 +27,8 @@ impl Model for Text {
     ghost invariant = { λ text. IsAscii text.bytes };
 }
 
-/// Bytes as a text.
-#[tactic(auto, using(crate::proofs::Ascii::ascii))]
-fn as_text(bytes: &[u8]) -> &str
-    requires { IsAscii bytes.now }
-    ensures { result.now ≡ bytes.now }
-{
-    match str::from_utf8(bytes) {
-        Ok(text) => text,
-        Err(_) => unreachable!(),
-    }
-}
-
-/// The digits of a number, without a hyphen before them.
-fn unsigned(written: &[u8]) -> &[u8]
-    ensures { result.now ≡ unsigned written.now }
-{
-    match written {
-        [b'-', digits @ ..] => digits,
-        _ => written,
-    }
-}
-
 /// The value of digits, and the greatest number of 32 bits for all that are greater.
+#[tactic(auto, using(crate::proofs::Digits::decimal_more))]
 fn decimal(digits: &[u8]) -> u32
     ensures { result ≡ min (decimal 0 digits.now) 4294967295 }
 {
@@ -73,11 +52,13 @@ impl Text {
     }
 
     /// So many bytes from a place on, as far as there are.
-    #[tactic(auto, using(crate::proofs::Ascii::ascii))]
     pub fn part(&self, start: u32, length: u32) -> &str
         ensures { result.now ≡ take length (drop start self.now) }
     {
-        as_text(part(self.bytes.as_slice(), start, length))
+        match str::from_utf8(part(self.bytes.as_slice(), start, length)) {
+            Ok(text) => text,
+            Err(_) => unreachable!(),
+        }
     }
 }
 
@@ -95,5 +76,8 @@ pub fn name_text(text: &Text, name: Name) -> &str
 pub fn number_value(text: &Text, number: Number) -> u32
     ensures { result ≡ min (written_value text.now number) 4294967295 }
 {
-    decimal(unsigned(part(text.bytes.as_slice(), number.start, number.length)))
+    match part(text.bytes.as_slice(), number.start, number.length) {
+        [b'-', digits @ ..] => decimal(digits),
+        digits => decimal(digits),
+    }
 }

@@ -1,11 +1,12 @@
 -- Reading commands.
-use Rattle.std.specs.Prelude.{◌≡◌, ℕ, List, [], ◌∷◌, ◌++◌, length, true, Option, Some, bytes_eq, codes, find}
-use Rattle.dd_commands.specs.Tree.{Kind, Lexeme, Formula, Lists, Question, Head, Vector, Case, Command}
-use Rattle.dd_written.specs.{Values.word_text, Formulas.text, Formulas.IsWrittenFormula}
-use Rattle.dd_written.specs.reading.Formulas.{formula_at, ends}
-use Rattle.dd_commands.specs.{Table.row, Heads.head_text, Heads.kind_text, Commands.IsBehind, Commands.IsCase}
-use Rattle.dd_commands.specs.reading.Forms.{◌>>=◌, Form, as_made, ◌▸◌, each, some, exactly, alone}
-use Rattle.dd_commands.specs.reading.Vectors.{word_at, word, number, name, vector, plain, shear, edge}
+use Rattle.std.specs.Prelude.{◌≡◌, ℕ, List, [], ◌∷◌, ◌++◌, length, map, true, Option, Some, None, bytes_eq, codes, find}
+use Rattle.std.specs.List.{flat_map}
+use Rattle.dd_commands.specs.Tree.{Word, Name, Kind, Lexeme, Formula, Lists, Question, Head, Vector, Case, Command}
+use Rattle.dd_written.specs.{Values.word_text, Formulas.name_lexeme, Formulas.text, Formulas.IsWrittenFormula}
+use Rattle.dd_written.specs.reading.{Atoms.name_at, Formulas.formula_at, Formulas.ends}
+use Rattle.dd_commands.specs.{Table.row, Heads.head_text, Heads.kind_text, Commands.vector_text, Commands.AreLists}
+use Rattle.dd_commands.specs.reading.Forms.{◌>>=◌, Reader, Form, made, both, ◌▸◌, such, each_at, some_at, some, exactly, alone}
+use Rattle.dd_commands.specs.reading.Vectors.{word_at, word, number_at, number, name, vector, plain, shear, edge}
 
 -- ---- words by their text
 
@@ -13,12 +14,8 @@ use Rattle.dd_commands.specs.reading.Vectors.{word_at, word, number, name, vecto
 abbrev pub one_of : {X : Type 0} → (X → List ℕ) → List X → List ℕ → Option X
 one_of text_of xs written = find (λ x. bytes_eq written (text_of x)) xs
 
-abbrev pub keyword : {X : Type 0} → (X → List ℕ) → List X → List ℕ → Form X
-keyword text_of xs bytes = record {
-  writes = λ x tokens rest. IsBehind bytes (text_of x) tokens rest;
-  ends = λ rest. Unit {0};
-  item = λ tokens. word_at tokens >>= λ w. one_of text_of xs (word_text bytes w.0) >>= λ x. Some (x, w.1);
-}
+abbrev pub keyword : {X : Type 0} → (X → List ℕ) → List X → List ℕ → Reader X
+keyword text_of xs bytes tokens = word_at tokens >>= λ w. one_of text_of xs (word_text bytes w.0) >>= λ x. Some (x, w.1)
 
 abbrev pub heads : List Head
 heads =
@@ -31,54 +28,56 @@ abbrev pub kinds : List Kind
 kinds = Kind.Line ∷ Kind.Square ∷ Kind.King ∷ Kind.Triangle ∷ Kind.Hex ∷ Kind.Cube ∷ []
 
 -- a word that is wanted
-abbrev pub wanted : List ℕ → List ℕ → Form (Unit {0})
-wanted bytes text_is = keyword {X = Unit {0}} (λ x. text_is) (tt ∷ []) bytes
+abbrev pub wanted : List ℕ → List ℕ → Form Word
+wanted bytes spelt = such (λ w. word_text bytes w ≡ spelt) (λ w. bytes_eq (word_text bytes w) spelt) word
 
 -- ---- formulas, cases and lists
 
 abbrev pub formula : Form Formula
-formula = record { writes = λ f tokens rest. (tokens ≡ text f ++ rest) × IsWrittenFormula f; ends = λ rest. ends 4 rest ≡ true; item = formula_at }
+formula = record { onto = λ f rest. text f ++ rest; is = IsWrittenFormula; ends = λ rest. ends 4 rest ≡ true; item = formula_at }
 
-abbrev pub case_parts : List ℕ → Form Case
-case_parts bytes =
-    as_made (λ x. record { condition = x.1.0; symbol = x.1.1.1 }) (wanted bytes (codes "when") ▸ formula ▸ wanted bytes (codes "give") ▸ name)
+abbrev pub case_parts : List ℕ → Form (Word × (Formula × (Word × Name)))
+case_parts bytes = wanted bytes (codes "when") ▸ formula ▸ wanted bytes (codes "give") ▸ name
 
-abbrev pub case : List ℕ → Form Case
-case bytes = record { writes = IsCase bytes; ends = λ rest. Unit {0}; item = (case_parts bytes).item }
+abbrev pub case_at : List ℕ → Reader Case
+case_at bytes = made (λ x. record { condition = x.1.0; symbol = x.1.1.1 }) (case_parts bytes).item
+
+abbrev pub automaton_at : List ℕ → Reader (Word × (List Case × (Word × Name)))
+automaton_at bytes = both word_at (both (each_at (case_at bytes)) (wanted bytes (codes "else") ▸ name).item)
+
+abbrev pub names : Form (List Name)
+names = some (map name_lexeme) name_at
 
 -- the vectors at the end of a question
+abbrev pub lists_at : Lists → Reader (List Vector)
+lists_at Lists.None tokens = Some ([], tokens)
+lists_at Lists.Strip tokens = made (λ v. v ∷ []) plain.item tokens
+lists_at Lists.Vectors tokens = some_at vector.item tokens
+
 abbrev pub listed : Lists → Form (List Vector)
-listed Lists.None = record { writes = λ vs tokens rest. (vs ≡ []) × (tokens ≡ rest); ends = λ rest. Unit {0}; item = λ tokens. Some ([], tokens) }
-listed Lists.Strip = as_made (λ v. v ∷ []) plain
-listed Lists.Vectors = some vector
+listed l = record { onto = λ vs rest. flat_map vector_text vs ++ rest; is = AreLists l; ends = λ rest. vector.item rest ≡ None; item = lists_at l }
 
 -- ---- what stands behind the first word
 
--- the name of a topology, or its edges
-abbrev pub topology : List ℕ → List Lexeme → Form Command
-topology bytes (Lexeme.Word w ∷ tokens) = as_made (λ k. Command.Topology k) (keyword kind_text kinds bytes)
-topology bytes tokens = as_made (λ es. Command.Edges es) (some edge)
-
--- what begins with these tokens
-abbrev pub body : List ℕ → Head → List Lexeme → Form Command
-body bytes Head.Dimension tokens = as_made (λ n. Command.Dimension n) number
-body bytes Head.Nodes tokens = as_made (λ ns. Command.Nodes ns) (some name)
-body bytes Head.Alphabet tokens = as_made (λ ns. Command.Alphabet ns) (some name)
-body bytes Head.Topology tokens = topology bytes tokens
-body bytes Head.Only tokens = as_made (λ x. Command.Only x.0 x.1) (name ▸ some name)
-body bytes Head.Weights tokens = as_made (λ ns. Command.Weights ns) (some number)
-body bytes Head.Limits tokens = as_made (λ x. Command.Limits x.0 x.1.0 x.1.1) (number ▸ number ▸ number)
-body bytes Head.Rule tokens = as_made (λ x. Command.Rule x.0 x.1) (word ▸ formula)
-body bytes Head.Automaton tokens =
-    as_made (λ x. Command.Automaton x.0 x.1.0 x.1.1.1) (word ▸ each (case bytes) ▸ wanted bytes (codes "else") ▸ name)
-body bytes Head.Composition tokens = as_made (λ x. Command.Composition x.0 x.1.0 x.1.1) (word ▸ word ▸ word)
-body bytes Head.Configuration tokens = as_made (λ x. Command.Configuration x.0 x.1.0 x.1.1.0 x.1.1.1) (word ▸ plain ▸ shear ▸ some name)
+abbrev pub body : List ℕ → Head → Reader Command
+body bytes Head.Dimension tokens = made (λ n. Command.Dimension n) number_at tokens
+body bytes Head.Nodes tokens = made (λ ns. Command.Nodes ns) names.item tokens
+body bytes Head.Alphabet tokens = made (λ ns. Command.Alphabet ns) names.item tokens
+body bytes Head.Topology (Lexeme.Word w ∷ tokens) = made (λ k. Command.Topology k) (keyword kind_text kinds bytes) (Lexeme.Word w ∷ tokens)
+body bytes Head.Topology tokens = made (λ es. Command.Edges es) (some_at edge.item) tokens
+body bytes Head.Only tokens = made (λ x. Command.Only x.0 x.1) (name ▸ names).item tokens
+body bytes Head.Weights tokens = made (λ ns. Command.Weights ns) (some_at number_at) tokens
+body bytes Head.Limits tokens = made (λ x. Command.Limits x.0 x.1.0 x.1.1) (number ▸ number ▸ number).item tokens
+body bytes Head.Rule tokens = made (λ x. Command.Rule x.0 x.1) (word ▸ formula).item tokens
+body bytes Head.Automaton tokens = made (λ x. Command.Automaton x.0 x.1.0 x.1.1.1) (automaton_at bytes) tokens
+body bytes Head.Composition tokens = made (λ x. Command.Composition x.0 x.1.0 x.1.1) (word ▸ word ▸ word).item tokens
+body bytes Head.Configuration tokens = made (λ x. Command.Configuration x.0 x.1.0 x.1.1.0 x.1.1.1) (word ▸ plain ▸ shear ▸ names).item tokens
 body bytes (Head.Question q) tokens =
-    as_made (λ x. Command.Query (record { question = q; words = x.0; numbers = x.1.0; vectors = x.1.1 }))
-    (exactly (length (row q).names) word ▸ exactly (row q).numbers number ▸ listed (row q).lists)
+    made (λ x. Command.Query (record { question = q; words = x.0; numbers = x.1.0; vectors = x.1.1 }))
+    (exactly (length (row q).names) (map Lexeme.Word) word_at ▸ exactly (row q).numbers (map Lexeme.Number) number_at ▸ listed (row q).lists).item tokens
 
 abbrev pub command_of : List ℕ → List Lexeme → Option Command
 command_of bytes tokens = do
-  h ← (keyword head_text heads bytes).item tokens
-  c ← (body bytes h.0 h.1).item h.1
+  h ← keyword head_text heads bytes tokens
+  c ← body bytes h.0 h.1
   alone c.0 c.1

@@ -1,11 +1,10 @@
 -- Reading names, numbers, vectors and edges.
 use denote.Enum.Bare.{sameb}
-use Rattle.std.specs.Prelude.{◌≡◌, List, ◌∷◌, ◌++◌, Bool, true, Option, Some, None, if◌then◌else◌}
-use Rattle.dd_written.specs.{contracts.lexeme.Mark.the_type, Formulas.name_lexeme}
+use Rattle.std.specs.Prelude.{◌≡◌, List, ◌∷◌, ◌++◌, map, Bool, true, Option, Some, None, if◌then◌else◌}
+use Rattle.dd_written.specs.{contracts.lexeme.Mark.the_type, Formulas.name_lexeme, reading.Atoms.name_at}
 use Rattle.dd_commands.specs.Tree.{Word, Number, Mark, Lexeme, Name, Entry, Vector, Edge}
-use Rattle.dd_written.specs.reading.Atoms.{name_at}
 use Rattle.dd_commands.specs.Commands.{entry_lexeme, vector_text, is_plain, second_vector_text, IsPlainShear, edge_text}
-use Rattle.dd_commands.specs.reading.Forms.{Reader, Form, by_text, single, as_made, ◌▸◌, such, each}
+use Rattle.dd_commands.specs.reading.Forms.{Reader, Form, by_text, single, made, ◌▸◌, such, each}
 
 abbrev pub word_at : Reader Word
 word_at (Lexeme.Word w ∷ tokens) = Some (w, tokens)
@@ -43,11 +42,10 @@ sign wanted = single (λ x. Lexeme.Mark wanted) (mark_at wanted)
 
 -- ---- vectors
 
-abbrev pub vector_parts : Form Vector
-vector_parts = as_made (λ x. record { entries = x.1.0 }) (sign Mark.OpenList ▸ each (single entry_lexeme entry_at) ▸ sign Mark.CloseList)
-
 abbrev pub vector : Form Vector
-vector = by_text vector_text vector_parts.item
+vector =
+    by_text vector_text
+    (made (λ x. record { entries = x.1.0 }) (sign Mark.OpenList ▸ each (map entry_lexeme) entry_at ▸ sign Mark.CloseList).item)
 
 -- without negative numbers
 abbrev pub plain : Form Vector
@@ -60,17 +58,15 @@ or_none None tokens = Some (None, tokens)
 -- a second vector, where one stands there
 abbrev pub shear : Form (Option Vector)
 shear = record {
-  writes = λ s tokens rest. IsPlainShear s × (tokens ≡ second_vector_text s ++ rest);
+  onto = λ s rest. second_vector_text s ++ rest;
+  is = IsPlainShear;
   ends = λ rest. plain.item rest ≡ None;
   item = λ tokens. or_none (plain.item tokens) tokens;
 }
 
 -- ---- edges
 
-abbrev pub edge_parts : Form Edge
-edge_parts =
-    as_made (λ x. record { label = x.1.0; from = x.1.1.0; offset = x.1.1.1.0; to = x.1.1.1.1.0 })
-    (sign Mark.Open ▸ word ▸ name ▸ vector ▸ name ▸ sign Mark.Close)
-
 abbrev pub edge : Form Edge
-edge = by_text edge_text edge_parts.item
+edge =
+    by_text edge_text
+    (made (λ x. record { label = x.1.0; from = x.1.1.0; offset = x.1.1.1.0; to = x.1.1.1.1.0 }) (sign Mark.Open ▸ word ▸ name ▸ vector ▸ name ▸ sign Mark.Close).item)

@@ -1,9 +1,9 @@
 -- Offsets that lead no further than 4 along an axis.
-use Rattle.std.proofs.Common.{◌≡◌, ◌≤◌, ℕ, zero, suc, true, false, List, [], ◌∷◌, Option, Some, None, length, refl, ap, subst, ◌∙◌, arith}
+use Rattle.std.proofs.Common.{◌≡◌, ◌≤◌, ℕ, true, false, List, Option, Some, None, length, refl, subst, arith}
 use Rattle.std.specs.Prelude.{nat_lt, nat_le, pos, unsigned_abs, slice_get}
 use Rattle.std.specs.{List.list_any, Option.option_map_or}
-use Rattle.std.proofs.lemmas.Bool.{eqb-true, ltb-false, lt-ltb, le-leb, or_parts, and_from}
-use Rattle.std.proofs.lemmas.{Int.ints, Option.slice_get_within}
+use Rattle.std.proofs.lemmas.Bool.{eqb-true, ltb-false, lt-ltb, le-leb, and_from}
+use Rattle.std.proofs.lemmas.{Int.ints, Option.slice_get_within, Map.Keys.any_passes_from_place}
 use Rattle.dd_topology.specs.Grid.{edge_reach, is_offset}
 use Rattle.dd_written.specs.Values.{written_value}
 use Rattle.dd_query.specs.Tree.{Entry, Vector}
@@ -15,9 +15,7 @@ close_entry bytes (Entry.Number n) h = ltb-false 4 (written_value bytes n) h
 close_entry bytes (Entry.Negative n) h = omega (arith, ints, ltb-false 4 (written_value bytes n) h)
 
 pub near_at : (bytes : List ℕ) (es : List Entry) (axis : ℕ) (e : Entry) → list_any (λ a. nat_lt 4 (entry_value bytes a)) es ≡ false → slice_get es axis ≡ Some e → nat_lt 4 (entry_value bytes e) ≡ false
-near_at bytes [] axis e h is = absurd cc
-near_at bytes (x ∷ es) zero e h is = (let same : e ≡ x = cc in ap (λ a. nat_lt 4 (entry_value bytes a)) same ∙ (or_parts _ _ h).0)
-near_at bytes (x ∷ es) (suc axis) e h is = near_at bytes es axis e (or_parts _ _ h).1 is
+near_at bytes es axis e h is = grind (arith, any_passes_from_place)
 
 on_axis : (bytes : List ℕ) (v : Vector) (axis : ℕ) → is_far bytes v ≡ false → nat_le (unsigned_abs (coordinate bytes v axis)) (edge_reach (length v.entries) axis) ≡ true
 on_axis bytes v axis close = le-leb _ _ (by (slice_get v.entries axis) refl)

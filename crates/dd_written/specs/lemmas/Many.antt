@@ -1,5 +1,5 @@
 -- One of a kind after the other: what is read of them, and that it is read again.
-use Rattle.std.proofs.Common.{◌≡◌, ℕ, zero, suc, ◌≤◌, ◌<◌, Bool, true, false, List, [], ◌∷◌, ◌++◌, length, Option, Some, refl, sym, ap, subst, ◌∙◌, append_assoc, arith, inl, inr}
+use Rattle.std.proofs.Common.{◌≡◌, ℕ, zero, suc, ◌≤◌, ◌<◌, Bool, true, false, List, [], ◌∷◌, ◌++◌, length, Some, refl, sym, ap, subst, ◌∙◌, append_assoc, arith, inl, inr}
 use Rattle.std.specs.List.{flat_map}
 use Rattle.dd_written.specs.Tree.{Lexeme}
 use Rattle.dd_written.specs.reading.Readers.{◌>>=◌, Reader, many, ReadsAll}
@@ -18,17 +18,14 @@ many_sound {X} reads begins item sound (suc n) tokens xs rest e =
       | inr ended ↦ subst (λ (x : List X × List Lexeme). ReadsAll reads x.0 tokens x.1) (some_is _ _ ended.1) refl
     ]
 
-abbrev nothing : {X : Type 0} → List Lexeme → Option (List X × List Lexeme)
-nothing tokens = Some ([], tokens)
-
 -- Each is read again where its beginning stands, and where fewer stand there than may be read, none begins behind them.
 pub many_again : {X : Type 0} (reads : X → List Lexeme → List Lexeme → Type 0) (begins : List Lexeme → Bool) (item : Reader X)
     → ((x : X) (tokens rest : List Lexeme) → reads x tokens rest → (begins tokens ≡ true) × (item tokens ≡ Some (x, rest)))
     → (n : ℕ) (xs : List X) (tokens rest : List Lexeme) → length xs ≤ n → (length xs < n → begins rest ≡ false) → ReadsAll reads xs tokens rest → many begins item n tokens ≡ Some (xs, rest)
-many_again {X} reads begins item again zero [] tokens rest le ended all = ap (nothing {X = X}) all
-many_again {X} reads begins item again zero (x ∷ xs) tokens rest le ended all = absurd (omega (arith, le))
-many_again {X} reads begins item again (suc n) [] tokens rest le ended all = subst (λ (ts : List Lexeme). many begins item (suc n) ts ≡ nothing {X = X} rest) (sym all) (rw (ended (omega arith)) refl)
-many_again {X} reads begins item again (suc n) (x ∷ xs) tokens rest le ended all =
+many_again reads begins item again zero [] tokens rest le ended all = rw all refl
+many_again reads begins item again zero (x ∷ xs) tokens rest le ended all = absurd (omega (arith, le))
+many_again reads begins item again (suc n) [] tokens rest le ended all = rw (all, ended (omega arith)) refl
+many_again reads begins item again (suc n) (x ∷ xs) tokens rest le ended all =
     let one = again x tokens all.0 all.1 in
     let others : many begins item n all.0 ≡ Some (xs, rest) = many_again reads begins item again n xs all.0 rest (omega (arith, le)) (λ lt. ended (omega (arith, lt))) all.2 in
     rw (one.0, one.1, others) refl

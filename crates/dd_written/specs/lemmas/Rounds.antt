@@ -13,8 +13,7 @@ pub goes_on : {X : Type 0} (begins : List Lexeme → Bool) (item : Reader X) (fr
     → with_front front (many begins item (count - i) tokens) ≡ total → with_front new (many begins item (count - (i + 1)) after) ≡ total
 goes_on {X} begins item front new count i tokens f after total lt sign is pushed so_far =
     let k : count - i ≡ suc (count - (i + 1)) = omega arith in
-    let one : with_front front (many begins item (count - i) tokens) ≡ with_front (front ++ f ∷ []) (many begins item (count - (i + 1)) after) = rw (k, sign, is) (regroup front f (many begins item (count - (i + 1)) after)) in
-    rw pushed (sym one ∙ so_far)
+    rw pushed (sym (regroup front f (many begins item (count - (i + 1)) after)) ∙ (rw (k, sign, is) at so_far))
 
 pub none_more : {X : Type 0} (begins : List Lexeme → Bool) (item : Reader X) (n : ℕ) (tokens : List Lexeme) → begins tokens ≡ false → many begins item n tokens ≡ Some ([], tokens)
 none_more begins item zero tokens e = refl

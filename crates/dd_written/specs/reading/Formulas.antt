@@ -17,14 +17,11 @@ begins j tokens = false
 abbrev pub more_at : Join → Reader Formula → ℕ → Reader (List Formula)
 more_at j part n tokens = many (begins j) (λ ts. part (drop 1 ts)) n tokens
 
-abbrev pub chain_end : Join → Reader Formula → Formula → Reader Formula
-chain_end j part f tokens =
-    if begins j tokens then (with_front (f ∷ []) (more_at j part (length tokens) tokens) >>= λ m. Some (roll-Formula (Formula-F.Chain j m.0), m.1)) else Some (f, tokens)
-
+-- one part, or a chain of two or more
 abbrev pub chain_at : Join → Reader Formula → Reader Formula
 chain_at j part tokens = do
   f ← part tokens
-  chain_end j part f.0 f.1
+  if begins j f.1 then (with_front (f.0 ∷ []) (more_at j part (length f.1) f.1) >>= λ m. Some (roll-Formula (Formula-F.Chain j m.0), m.1)) else Some f
 
 -- the sign of the loosest chains that may stand at a place
 abbrev pub join_at : ℕ → Join

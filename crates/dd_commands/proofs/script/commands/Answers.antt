@@ -1,13 +1,14 @@
-use Rattle.std.proofs.Common.{ap, ◌∙◌, arith}
+use Rattle.std.proofs.Common.{sym, ap, ◌∙◌, arith}
 use Rattle.std.proofs.lemmas.Grind.{common_steps}
-use Rattle.dd_commands.specs.Heads.{next_stage}
-use Rattle.dd_commands.proofs.Parts.{is_fault, goes_on, all_read}
+use Rattle.dd_written.specs.lemmas.Options.{nothing_some}
+use Rattle.dd_commands.specs.{Heads.next_stage, lemmas.Whole.written_again}
+use Rattle.dd_commands.proofs.Parts.{goes_on, all_read}
 use Rattle.dd_commands.proofs.script.commands.Goals as goal
 
 pub returns-in-Err-Syntax : goal.returns-in-Err-Syntax
 returns-in-Err-Syntax c =
     let none = rw c.in-Err-Syntax.field-0-is at c.in-Err-Syntax.ensures in
-    is_fault c.formula_is_read.ensures _ _ _ c.next_part.result.0.now c.next_part.result.1.now _ _ _ c.loop-rest.invariant.1 c.next_part.ensures.part none
+    c.loop-rest.invariant.1.bad 0 (rw c.next_part.ensures.part (λ w may. nothing_some w (sym none ∙ written_again c.formula_is_read.ensures _ _ _ w may)))
 
 pub loop-rest-preserved : goal.loop-rest-preserved
 loop-rest-preserved c = (

@@ -4,5 +4,5 @@ use Rattle.dd_faults.proofs.twice.note_twice.Given as goal
 
 abbrev pub invariant-loop-item : goal.invariant-loop-item
 invariant-loop-item g l =
-    (first_repeat (g.T.Keyed.key l.text) g.T.Keyed.repeated l.seen (drop l.item-index l.items) ≡ first_repeat (g.T.Keyed.key l.text) g.T.Keyed.repeated [] l.items)
+    (first_repeat (g.T.Keyed.key l.text) g.T.Keyed.repeated l.seen (drop l.item-index l.all) ≡ first_repeat (g.T.Keyed.key l.text) g.T.Keyed.repeated [] l.all)
     × (l.found ≡ l.fn.found) × (length l.seen ≡ l.item-index)

@@ -1,12 +1,8 @@
-use Rattle.std.proofs.Common.{refl}
 use Rattle.dd_query.proofs.AskedLaws.{close_kept, within_kept}
 use Rattle.dd_query.proofs.asking.ask.Goals as goal
 
 pub asked-requires-clause-within : goal.asked-requires-clause-within
-asked-requires-clause-within c =
-    let x = c.args.context.now in
-    let r = c.args.request.now in
-    within_kept x r c.requires.written c.requires.faultless r.question c.requires.sound refl
+asked-requires-clause-within c = within_kept c.args.context.now c.args.request.now c.args.request.now.question c.requires.sound c.requires.written c.requires.faultless
 
 pub asked-requires-clause-close : goal.asked-requires-clause-close
 asked-requires-clause-close c = close_kept c.args.context.now c.args.request.now c.requires.written c.requires.faultless

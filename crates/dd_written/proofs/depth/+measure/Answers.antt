@@ -1,8 +1,14 @@
-use Rattle.std.proofs.Common.{length}
-use Rattle.dd_written.proofs.Depths.{deepest_next}
+use Rattle.std.proofs.Common.{◌≡◌, ℕ, ◌+◌, ◌<◌, List, ◌∷◌, map, length, drop, slice_index_or, sym, ap, ◌∙◌, max, arith}
+use Rattle.std.proofs.lemmas.List.{drop_more}
+use Rattle.dd_written.specs.{Tree.Join, Tree.Formula, Formulas.tree_depth, Formulas.signs_over, Formulas.chain_depth}
 use Rattle.dd_written.proofs.depth.+measure.Goals as goal
+
+-- the part at a place, before those behind it
+chain_more : (j : Join) (n i : ℕ) (fs : List Formula) (f : Formula) → i < length fs → f ≡ slice_index_or fs i f
+    → chain_depth j n i (map tree_depth (drop i fs)) ≡ max (signs_over j n i + tree_depth f) (chain_depth j n (i + 1) (map tree_depth (drop (i + 1) fs)))
+chain_more j n i fs f lt is = ap (λ (gs : List Formula). chain_depth j n i (map tree_depth gs)) (drop_more fs i f lt ∙ ap (λ (g : Formula). g ∷ drop (i + 1) fs) (sym is))
 
 pub deepest-loop-place-preserved : goal.deepest-loop-place-preserved
 deepest-loop-place-preserved t c =
     let parts = c.args.parts.now in
-    deepest_next c.args.join parts (length parts) c.loop-place.place c.index-parts-place.result _ _ _ c.capped_depth.result c.signs_over.result _ c.loop-place-test.true c.index-parts-place.is c.capped_depth.ensures.value c.signs_over.ensures c.deeper-part.ensures c.max-deepest.ensures c.loop-place.invariant.0 c.loop-place.invariant.1
+    omega (arith, chain_more c.args.join (length parts) c.loop-place.place parts c.index-parts-place.result c.loop-place-test.true c.index-parts-place.is)

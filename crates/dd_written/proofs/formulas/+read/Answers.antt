@@ -1,18 +1,10 @@
-use Rattle.std.proofs.Common.{◌≡◌, ℕ, zero, suc, ◌-◌, true, List, drop, Some, refl, ap, sym, ◌∙◌, arith, rules}
-use Rattle.dd_written.specs.Tree.{Lexeme}
-use Rattle.dd_written.specs.reading.Formulas.{begins, part_at, nested_at, unary_at}
+use Rattle.std.proofs.Common.{◌≡◌, suc, ◌-◌, true, drop, Some, ap, sym, ◌∙◌, arith, rules}
+use Rattle.dd_written.specs.reading.Formulas.{begins, part_at, unary_at}
 use Rattle.dd_written.specs.lemmas.Rounds.{goes_on}
 use Rattle.dd_written.proofs.formulas.+read.Goals as goal
 
--- a budget that is not used up
-unary_next : (budget : ℕ) (tokens : List Lexeme) → (budget ≡ 0 → ⊥) → unary_at budget tokens ≡ nested_at (unary_at (budget - 1)) tokens
-unary_next zero tokens some = absurd (some refl)
-unary_next (suc n) tokens some =
-    let e : suc n - 1 ≡ n = omega arith in
-    rw e refl
-
 pub unary-returns : goal.unary-returns
-unary-returns t c = rw (unary_next c.args.budget c.args.tokens.now (λ e. omega (arith, e, c.if-budget-eq0.false))) c.nested.ensures
+unary-returns t c = let more : suc (c.args.budget - 1) ≡ c.args.budget = omega arith in rw (← more) c.nested.ensures
 
 pub more_parts-loop-preserved : goal.more_parts-loop-preserved
 more_parts-loop-preserved t c =

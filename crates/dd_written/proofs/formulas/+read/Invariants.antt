@@ -15,9 +15,6 @@ decreases-part l = 20 * l.budget + 4 * join_rank l.join - 3
 abbrev pub decreases-more_parts : goal.decreases-more_parts
 decreases-more_parts l = 20 * l.budget + 4 * join_rank l.join - 2
 
-abbrev pub decreases-chain_end : goal.decreases-chain_end
-decreases-chain_end l = 20 * l.budget + 4 * join_rank l.join - 1
-
 abbrev pub decreases-chain : goal.decreases-chain
 decreases-chain l = 20 * l.budget + 4 * join_rank l.join
 
