@@ -1,16 +1,13 @@
 -- Configurations without faults.
-use Rattle.std.proofs.Common.{◌≡◌, ◌<◌, ◌≤◌, ℕ, zero, suc, ◌+◌, ◌*◌, ◌%◌, true, false, List, [], ◌∷◌, length, map, Option, Some, None, refl, sym, ap, ◌∙◌, subst, arith, unwrap_or, slice_index}
-use Rattle.std.specs.Option.{option_map_or}
-use Rattle.std.proofs.lemmas.{Grind.common_steps, List.length-map, List.Elements.All-from_get_or, Option.slice_get_within}
+use Rattle.std.proofs.Common.{◌≡◌, ◌<◌, ◌≤◌, ℕ, zero, suc, ◌+◌, ◌*◌, ◌%◌, true, List, [], ◌∷◌, length, map, Option, Some, None, refl, ap, ◌∙◌, arith, slice_index}
+use Rattle.std.proofs.lemmas.{Grind.common_steps, List.Elements.All-from_get_or}
 use Rattle.dd_topology.specs.Sets.{allows}
-use Rattle.dd_topology.specs.lemmas.NamingLaws.{slice_get-number_of}
 use Rattle.dd_meanings.specs.Tree.{Word, Name, Entry, Vector, Command, Context}
-use Rattle.dd_written.specs.Values.{name_text}
-use Rattle.dd_pattern.specs.Tile.{IsPeriodic, IsTile}
-use Rattle.dd_faults.specs.{Names.place_of_name, Sound.IsSound}
-use Rattle.dd_faults.specs.Commands.{dimension_of, is_allowed, symbol_faults, product, period_at, shear_of, shear_fits, box_faults, faults_of, entry_value}
+use Rattle.dd_pattern.specs.{Tile.IsPeriodic, Tile.IsTile, lemmas.TileSizes.Sizes, lemmas.TileSizes.sizes_of}
+use Rattle.dd_faults.specs.{Sound.IsSound}
+use Rattle.dd_faults.specs.Commands.{dimension_of, is_allowed, symbol_faults, product, period_at, shear_of, shear_fits, box_faults, faults_of}
 use Rattle.dd_faults.specs.lemmas.Periods.{entry_at, no_entry}
-use Rattle.dd_meanings.specs.{Definitions.symbol_of, Definitions.tile_of, Definitions.tile_with, Sound.IsNew, Sound.IsConfigurationOf}
+use Rattle.dd_meanings.specs.{Definitions.symbol_of, Definitions.tile_of, Sound.IsNew, Sound.IsConfigurationOf}
 use Rattle.dd_meanings.proofs.{Nothing.parts, NameLaws.is_new}
 
 -- ---- symbols
@@ -20,27 +17,16 @@ record IsAllowedAt (x : Context) (a : ℕ) (t : ℕ) : Type 0 where
   below : t < length x.known.setting.symbols
   allowed : allows x.known.setting.sets a t ≡ true
 
-allowed_from : (x : Context) (a : ℕ) (n : Name) (o : Option ℕ) → place_of_name x.text x.known.setting.symbols n ≡ o → option_map_or (λ t. allows x.known.setting.sets a t) o false ≡ true →
-    IsAllowedAt x a (unwrap_or o 0)
-allowed_from x a n None is h = absurd cc
-allowed_from x a n (Some t) is h = record {
-  below = slice_get_within x.known.setting.symbols t (name_text x.text n) (slice_get-number_of x.known.setting.symbols (name_text x.text n) t is);
-  allowed = h;
-}
+allowed_from : (x : Context) (a : ℕ) (n : Name) → is_allowed x a n ≡ true → IsAllowedAt x a (symbol_of x n)
+allowed_from x a n h = record { below = grind (arith, parts); allowed = grind (arith, parts) }
 
 abbrev node_at : Context → ℕ → ℕ
 node_at x k = k % length x.known.setting.nodes
 
-symbols_are : (x : Context) (k : ℕ) (ns : List Name) → symbol_faults x k ns ≡ [] → (i : ℕ) → i < length (map (symbol_of x) ns) → IsAllowedAt x (node_at x (k + i)) (slice_index (map (symbol_of x) ns) i)
-symbols_are x k [] none i below = absurd (omega (arith, below))
-symbols_are x k (n ∷ ns) none zero below =
-    let same : k ≡ k + 0 = omega arith in
-    let here : is_allowed x (node_at x k) n ≡ true = grind (arith, parts) in
-    subst (λ j. IsAllowedAt x (node_at x j) (symbol_of x n)) same (allowed_from x (node_at x k) n (place_of_name x.text x.known.setting.symbols n) refl here)
-symbols_are x k (n ∷ ns) none (suc i) below =
-    let same : k + 1 + i ≡ k + suc i = omega arith in
-    let rest : symbol_faults x (k + 1) ns ≡ [] = grind (arith, parts) in
-    subst (λ j. IsAllowedAt x (node_at x j) (slice_index (map (symbol_of x) ns) i)) same (symbols_are x (k + 1) ns rest i (omega (arith, below)))
+symbols_are : (x : Context) (k j i : ℕ) (ns : List Name) → symbol_faults x k ns ≡ [] → j ≡ k + i → i < length (map (symbol_of x) ns) → IsAllowedAt x (node_at x j) (slice_index (map (symbol_of x) ns) i)
+symbols_are x k j i [] none is below = absurd (omega (arith, below))
+symbols_are x k j zero (n ∷ ns) none is below = let same : j ≡ k = omega (arith, is) in allowed_from x (node_at x j) n (grind (arith, parts))
+symbols_are x k j (suc i) (n ∷ ns) none is below = symbols_are x (k + 1) j i ns (grind (arith, parts)) (omega (arith, is)) (omega (arith, below))
 
 -- ---- periods
 
@@ -51,14 +37,10 @@ volume_is bytes (a ∷ b ∷ []) few = omega arith
 volume_is bytes (a ∷ b ∷ c ∷ []) few = omega arith
 volume_is bytes (a ∷ b ∷ c ∷ d ∷ es) few = absurd (omega (arith, few))
 
--- the factors of a product that is not 0 are not 0
-some_factor : (a b : ℕ) → 1 ≤ a * b → 1 ≤ b
-some_factor a b h = grind arith
-
 entry_some : (bytes : List ℕ) (es : List Entry) (axis : ℕ) → 1 ≤ product bytes es → 1 ≤ entry_at bytes es axis
 entry_some bytes [] axis h = omega arith
 entry_some bytes (e ∷ es) zero h = grind arith
-entry_some bytes (e ∷ es) (suc axis) h = entry_some bytes es axis (some_factor (entry_value bytes e) (product bytes es) h)
+entry_some bytes (e ∷ es) (suc axis) h = entry_some bytes es axis (grind arith)
 
 no_shear : (bytes : List ℕ) (d : ℕ) (shear : Option Vector) → shear_fits d shear ≡ true → d < 2 → shear_of bytes shear ≡ 0
 no_shear bytes d None fits low = refl
@@ -80,9 +62,6 @@ module _ (x : Context) (called : Word) (periods : Vector) (shear : Option Vector
   period_some : (axis : ℕ) → 1 ≤ period_at x.text periods axis
   period_some axis = let volume : 1 ≤ product x.text periods.entries = grind (arith, size, some) in entry_some x.text periods.entries axis volume
 
-  count : length (map (symbol_of x) ns) ≡ length ns
-  count = length-map ns (symbol_of x)
-
   is_tile : IsTile (tile_of x periods shear ns)
   is_tile = record {
     some_dimension = omega (arith, sound.setting.topology.grid.dimension.0);
@@ -97,14 +76,13 @@ module _ (x : Context) (called : Word) (periods : Vector) (shear : Option Vector
       shear_unused = no_shear x.text (dimension_of x.known) shear (grind (arith, parts, box));
     };
     nodes_some = omega (arith, sound.setting.topology.grid.nodes);
-    full =
-        count ∙ (sym size ∙ (ap (λ n. n * length x.known.setting.nodes) (volume_is x.text periods.entries (omega (arith, entries, sound.setting.topology.grid.dimension.1)))
-        ∙ ap (λ n. period_at x.text periods 2 * period_at x.text periods 1 * period_at x.text periods 0 * n) (sym sound.setting.topology.nodes)));
+    full = grind (arith, parts, size, volume_is x.text periods.entries (omega (arith, entries, sound.setting.topology.grid.dimension.1)), sound.setting.topology.nodes);
   }
 
-  pub is_periodic : (symbols : List ℕ) → symbols ≡ map (symbol_of x) ns → IsPeriodic (tile_with x periods shear symbols)
-  is_periodic symbols made =
-      subst (λ (ss : List ℕ). IsPeriodic (tile_with x periods shear ss)) (sym made) (record { tile = is_tile; small = grind (arith, parts, box, count) })
+  pub is_periodic : IsPeriodic (tile_of x periods shear ns) × Sizes (tile_of x periods shear ns)
+  is_periodic =
+      let kept : IsPeriodic (tile_of x periods shear ns) = record { tile = is_tile; small = grind (arith, parts, box) } in
+      (kept, sizes_of (tile_of x periods shear ns) kept)
 
   pub is_configuration : IsNew x called × IsConfigurationOf x.known.setting (tile_of x periods shear ns)
   is_configuration = (
@@ -113,10 +91,8 @@ module _ (x : Context) (called : Word) (periods : Vector) (shear : Option Vector
       tile = is_tile;
       dimension = refl;
       nodes = refl;
-      symbols = All-from_get_or (λ s. s < length x.known.setting.symbols) (map (symbol_of x) ns) 0 (λ i below. (symbols_are x 0 ns named i below).below);
+      symbols = All-from_get_or (λ s. s < length x.known.setting.symbols) (map (symbol_of x) ns) 0 (λ i below. (symbols_are x 0 i i ns named (omega arith) below).below);
       allowed = λ i below.
-          let same : i ≡ 0 + i = omega arith in
-          ap (λ n. allows x.known.setting.sets (i % n) (slice_index (map (symbol_of x) ns) i)) sound.setting.topology.nodes
-          ∙ (ap (λ j. allows x.known.setting.sets (node_at x j) (slice_index (map (symbol_of x) ns) i)) same ∙ (symbols_are x 0 ns named i below).allowed);
+          ap (λ n. allows x.known.setting.sets (i % n) (slice_index (map (symbol_of x) ns) i)) sound.setting.topology.nodes ∙ (symbols_are x 0 i i ns named (omega arith) below).allowed;
     },
   )

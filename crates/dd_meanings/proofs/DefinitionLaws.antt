@@ -1,27 +1,25 @@
 -- Automata without faults, by cases and by their names.
-use Rattle.std.proofs.Common.{◌≡◌, ◌<◌, ◌≤◌, ℕ, List, [], length, map, slice_index_or, ap, subst, arith}
+use Rattle.std.proofs.Common.{◌≡◌, ◌<◌, ◌≤◌, List, [], length, map, slice_index_or, refl, ap, subst, arith}
 use Rattle.std.specs.List.{All, flat_map}
 use Rattle.std.proofs.lemmas.{List.Elements.All-map, List.Elements.All-get_or, Option.unwrap_or-slice_get}
 use Rattle.dd_written.specs.Formulas.{tree_depth}
 use Rattle.dd_meanings.specs.Tree.{Word, Name, Case, Command, Known, Context}
 use Rattle.dd_faults.specs.{Names.missing, Names.number_in, Commands.case_faults, Commands.faults_of, Order.first_fault, Order.Refuses}
-use Rattle.dd_faults.specs.Sound.{IsSound}
-use Rattle.dd_formula.specs.Automata.{CommonNumbers, IsAutomaton, counted}
+use Rattle.dd_faults.specs.{Sound.IsSound, lemmas.Nothing.number_below}
+use Rattle.dd_formula.specs.Automata.{IsAutomaton, counted}
 use Rattle.dd_formula.specs.ByCases.{numbers_over, IsCaseOver, IsCasesRefusal}
 use Rattle.dd_formula.specs.Compositions.{AreAutomata, OverBoth, IsCompositionFault}
 use Rattle.dd_formula.specs.lemmas.CasesLaws.{passes_one}
 use Rattle.dd_formula.specs.{declared.fault.RuleFault.RuleFault, declared.automaton.Automaton.Automaton}
 use Rattle.dd_formula.specs.declared.automaton.Automaton.TheVariants as automaton
-use Rattle.dd_meanings.specs.{declared.meaning.Meaning.Meaning, Made.script_numbers, Sound.IsNew, making.Parts.refusal_of}
+use Rattle.dd_meanings.specs.{declared.meaning.Meaning.Meaning, Made.script_numbers, Sound.IsNew, Definitions.refusal_of}
 use Rattle.dd_meanings.specs.Definitions.{case_of, symbol_of, automaton_of, automaton_named, composition_of, automaton_faults}
-use Rattle.dd_meanings.proofs.{Nothing.parts, Nothing.none_at, NameLaws.number_below, NameLaws.is_new, WellFormed.is_formula}
+use Rattle.dd_meanings.proofs.{Nothing.parts, Nothing.none_at, NameLaws.is_new, WellFormed.is_formula}
 use Rattle.dd_meanings.proofs.SizeLaws.{fault_refuses, formed_passes}
 
 -- the rules of a script have its numbers
 same_numbers : (k : Known) → IsSound k → numbers_over k.setting.topology k.setting.sets ≡ script_numbers k
-same_numbers k sound =
-    let with_symbols : ℕ → CommonNumbers = λ n. record { dimension = k.setting.topology.dimension; nodes = k.setting.topology.nodes; symbols = n } in
-    ap with_symbols sound.setting.alphabet
+same_numbers k sound = rw sound.setting.alphabet refl
 
 -- an automaton that is made as it is meant
 abbrev pub IsDefined : Context → Word → Automaton → Automaton → Type 0
@@ -33,7 +31,7 @@ defined x called made whole new is formed = ((formed_passes (script_numbers x.kn
 
 -- ---- automata by cases
 
-symbol_below : (x : Context) (n : Name) → IsSound x.known → missing x.text x.known.setting.symbols n ≡ [] → symbol_of x n < x.known.setting.sets.symbols
+pub symbol_below : (x : Context) (n : Name) → IsSound x.known → missing x.text x.known.setting.symbols n ≡ [] → symbol_of x n < x.known.setting.sets.symbols
 symbol_below x n sound known = omega (arith, number_below x.text x.known.setting.symbols n known, sound.setting.alphabet)
 
 case_is : (x : Context) (c : Case) → IsSound x.known → case_faults x c ≡ [] → tree_depth c.condition ≤ 64 → IsCaseOver x.known.setting.topology x.known.setting.sets (case_of x c)
@@ -46,9 +44,6 @@ module _ (x : Context) (called : Word) (cs : List Case) (default : Name) (sound 
       let each : flat_map (case_faults x) cs ≡ [] = grind (arith, parts) in
       All-map (IsCaseOver x.known.setting.topology x.known.setting.sets) (case_of x) cs
       (λ i d below. case_is x (slice_index_or cs i d) sound (none_at (case_faults x) cs i d below each) (shallow i d below))
-
-  pub is_symbol : symbol_of x default < x.known.setting.sets.symbols
-  is_symbol = symbol_below x default sound (grind (arith, parts))
 
   pub cases_defined : (f : Automaton) → f ≡ automaton_of x cs default → IsAutomaton (numbers_over x.known.setting.topology x.known.setting.sets) (automaton_of x cs default) → IsDefined x called f (automaton_of x cs default)
   cases_defined f is formed =
@@ -74,9 +69,7 @@ module _ (x : Context) (automata : List Automaton) (called outer inner : Word) (
   are_automata = record { setting = script_numbers x.known; outer = is_formed outer (grind (arith, parts)); inner = is_formed inner (grind (arith, parts)) }
 
   pub composition_defined : (h : Automaton) → h ≡ whole → OverBoth (automaton_named x automata outer) (automaton_named x automata inner) (λ s. IsAutomaton s whole) → IsDefined x called h whole
-  unfolding are_automata
-  composition_defined h is each = defined x called h whole (is_new x called (grind (arith, parts))) is (each (script_numbers x.known) are_automata.outer are_automata.inner)
+  composition_defined h is each = defined x called h whole (is_new x called (grind (arith, parts))) is (each (script_numbers x.known) (is_formed outer (grind (arith, parts))) (is_formed inner (grind (arith, parts))))
 
   pub composition_refused : (e : RuleFault) → OverBoth (automaton_named x automata outer) (automaton_named x automata inner) (λ s. IsCompositionFault s.nodes (counted whole) e) → Refuses (refusal_of e) (first_fault (automaton_faults x whole))
-  unfolding are_automata
-  composition_refused e each = fault_refuses x.known.setting.topology.nodes (counted whole) e (each (script_numbers x.known) are_automata.outer are_automata.inner)
+  composition_refused e each = fault_refuses x.known.setting.topology.nodes (counted whole) e (each (script_numbers x.known) (is_formed outer (grind (arith, parts))) (is_formed inner (grind (arith, parts))))

@@ -1,41 +1,30 @@
 -- Edges with numbers in place of names: they are edges of a topology, and no label has two of them from one node.
-use Rattle.std.proofs.Common.{◌≡◌, ℕ, ◌<◌, Bool, true, false, List, [], ◌∷◌, ◌++◌, length, map, take, slice_index_or, Some, Contains, refl, sym, ap, ◌∙◌, subst, inl, inr, ◌⊎◌, arith, if◌then◌else◌, bytes_eq, is_some}
+use Rattle.std.proofs.Common.{◌≡◌, ℕ, ◌<◌, true, List, [], ◌∷◌, ◌++◌, length, map, take, slice_index_or, Some, Contains, sym, ap, ◌∙◌, subst, arith, if◌then◌else◌, bytes_eq, is_some}
+use Rattle.std.specs.Prelude.{◌||◌}
 use Rattle.std.specs.List.{All, list_any, list_all, flat_map}
 use Rattle.std.specs.Option.{option_map}
-use Rattle.std.proofs.lemmas.{Grind.common_steps, List.length-map, List.take-map, List.Folds.list_all-map, List.Sums.list_all-from_AllPass}
-use Rattle.std.proofs.lemmas.List.Elements.{All-contains, All-contains_itself, All-take, Contains-append_left, Contains-push, Contains-get_or}
-use Rattle.std.proofs.lemmas.{Map.Views.Contains-from_any, Slice.Eq.bytes_eq-Decides}
+use Rattle.std.proofs.lemmas.{Grind.common_steps, Bool.Decides.nat_tests, List.length-map, List.take-map, List.Folds.list_all-map, List.Sums.list_all-from_AllPass}
+use Rattle.std.proofs.lemmas.List.Elements.{All-contains, All-contains_itself, All-take, Contains-get_or}
+use Rattle.std.proofs.lemmas.{Slice.Eq.bytes_eq-Decides}
 use Rattle.std.proofs.lemmas.Option.{slice_get_within, slice_get-map, slice_get-get_or}
 use Rattle.dd_written.specs.Values.{name_text}
 use Rattle.dd_meanings.specs.Tree.{Edge as Written, Command, Context}
 use Rattle.dd_topology.specs.{declared.edge.Edge.Edge, Topology.starts_alike, Naming.number_of, Grid.is_edge, Grid.IsFirstTwice}
-use Rattle.dd_lattice.specs.lemmas.ListLaws.{Contains-nil, Contains-cons_cases, Contains-map, Contains-from_map}
+use Rattle.dd_lattice.specs.lemmas.ListLaws.{Contains-map, Contains-from_map}
 use Rattle.dd_topology.specs.lemmas.ListLaws.{some_passes}
 use Rattle.dd_faults.specs.Repeats.{edge_key, twice_label, twice_labelled}
 use Rattle.dd_faults.specs.Commands.{dimension_of, edge_faults, faults_of}
-use Rattle.dd_faults.specs.lemmas.Repeats.{once}
+use Rattle.dd_faults.specs.lemmas.Repeats.{among, once}
 use Rattle.dd_query.specs.lemmas.Offsets.{offset_is}
 use Rattle.dd_meanings.specs.Topologies.{first_seen_names, label_text, labels_of, edge_of}
 use Rattle.dd_meanings.proofs.{Nothing.parts, Nothing.none_at, NameLaws.is_found, NameLaws.same_name}
 
 -- ---- labels in the order in which they are first seen
 
-abbrev stepped : Bool → List (List ℕ) → List ℕ → List (List ℕ)
-stepped b seen n = if b then seen else seen ++ n ∷ []
-
--- the names that are seen after one more
-kept : (b : Bool) (seen : List (List ℕ)) (n m : List ℕ) → list_any (bytes_eq n) seen ≡ b → Contains seen m ⊎ (n ≡ m) → Contains (stepped b seen n) m
-kept true seen n m is (inl h) = h
-kept true seen n m is (inr same) = subst (Contains seen) same (Contains-from_any (λ x y. (bytes_eq-Decides x y).0) n seen is)
-kept false seen n m is (inl h) = Contains-append_left seen (n ∷ []) m h
-kept false seen n m is (inr same) = subst (Contains (seen ++ n ∷ [])) same (Contains-push seen n)
-
-seen_all : (seen ns : List (List ℕ)) (m : List ℕ) → Contains seen m ⊎ Contains ns m → Contains (first_seen_names seen ns) m
-seen_all seen [] m (inl h) = h
-seen_all seen [] m (inr h) = absurd (Contains-nil m h)
-seen_all seen (n ∷ ns) m (inl h) = seen_all (stepped (list_any (bytes_eq n) seen) seen n) ns m (inl (kept (list_any (bytes_eq n) seen) seen n m refl (inl h)))
-seen_all seen (n ∷ ns) m (inr h) =
-    seen_all (stepped (list_any (bytes_eq n) seen) seen n) ns m (elim (Contains-cons_cases n ns m h) [ inl same ↦ inl (kept (list_any (bytes_eq n) seen) seen n m refl (inr same)) | inr other ↦ inr other ])
+-- a name that is seen, or is one of those to come, is among them
+seen_all : (seen ns : List (List ℕ)) (m : List ℕ) → (list_any (bytes_eq m) seen || list_any (bytes_eq m) ns) ≡ true → list_any (bytes_eq m) (first_seen_names seen ns) ≡ true
+seen_all seen [] m h = grind (arith, common_steps)
+seen_all seen (n ∷ ns) m h = grind (arith, common_steps, nat_tests, bytes_eq-Decides, seen_all (if list_any (bytes_eq n) seen then seen else seen ++ n ∷ []) ns m)
 
 -- ---- the edges of a command without a fault
 
@@ -67,7 +56,8 @@ module _ (x : Context) (es : List Written) (h : faults_of x (Command.Edges es) �
   are_labelled i d lt =
       let e = slice_index_or es i d in
       let each : flat_map (edge_faults x) es ≡ [] = grind (arith, parts) in
-      (none_at (edge_faults x) es i d lt each, is_found labels _ (seen_all [] (map (label_text x.text) es) (label_text x.text e) (inr (Contains-map (label_text x.text) es e (Contains-get_or es i d lt)))))
+      let named = Contains-map (label_text x.text) es e (Contains-get_or es i d lt) in
+      (none_at (edge_faults x) es i d lt each, is_found labels (label_text x.text e) ∙ seen_all [] (map (label_text x.text) es) (label_text x.text e) (among (map (label_text x.text) es) (label_text x.text e) named))
 
   pub are_edges : list_all (is_edge (dimension_of x.known) (length x.known.setting.nodes) (length labels)) (map numbered es) ≡ true
   are_edges =

@@ -1,14 +1,14 @@
 -- What the commands of the header have where they have no fault.
-use Rattle.std.proofs.Common.{◌≡◌, ℕ, ◌≤◌, ◌<◌, List, [], ◌∷◌, length, map, refl, ◌∙◌, subst, arith, min}
+use Rattle.std.proofs.Common.{◌≡◌, ℕ, ◌≤◌, ◌<◌, List, [], ◌∷◌, length, map, refl, subst, arith, min}
 use Rattle.std.specs.List.{flat_map}
-use Rattle.std.proofs.lemmas.{Grind.common_steps, List.length-map, List.Elements.All-map}
+use Rattle.std.proofs.lemmas.{Grind.common_steps, List.Elements.All-map}
 use Rattle.dd_meanings.specs.Tree.{Number, Name, Command, Context}
 use Rattle.dd_written.specs.Values.{written_value, name_text}
 use Rattle.dd_topology.specs.{Naming.AreDistinct, Grid.Grid, Grid.IsGrid}
 use Rattle.dd_faults.specs.{Names.missing, Names.number_in, Commands.weight_faults, Commands.faults_of, Sound.IsGridOf, Sound.AreWeights}
 use Rattle.dd_meanings.specs.{Topologies.default_grid, Definitions.symbol_of, Sound.AreNames, Sound.IsSymbolRestriction}
-use Rattle.dd_faults.specs.lemmas.Nothing.{both_nil}
-use Rattle.dd_meanings.proofs.{Nothing.parts, Nothing.all_where, NameLaws.number_below}
+use Rattle.dd_faults.specs.lemmas.Nothing.{all_where, number_below}
+use Rattle.dd_meanings.proofs.Nothing.{parts}
 
 -- ---- the dimension
 
@@ -22,9 +22,7 @@ default_sound d n g sound is = record { grid = subst IsGrid is sound; nodes = gr
 -- ---- names
 
 pub names_are : (bytes : List ℕ) (most : ℕ) (written : List Name) (names : List (List ℕ)) → names ≡ map (name_text bytes) written → 1 ≤ length written → length written ≤ most → AreDistinct names → AreNames most (map (name_text bytes) written)
-names_are bytes most written names is some few distinct =
-    let many : length (map (name_text bytes) written) ≡ length written = length-map written (name_text bytes) in
-    record { some = omega (arith, many, some); few = omega (arith, many, few); distinct = subst AreDistinct is distinct }
+names_are bytes most written names is some few distinct = record { some = grind (arith, parts); few = grind (arith, parts); distinct = subst AreDistinct is distinct }
 
 -- ---- symbols of a node
 
@@ -34,10 +32,9 @@ restriction_is x node symbols some h =
     let known = missing x.text x.known.setting.symbols in
     let here : missing x.text x.known.setting.nodes node ≡ [] = grind (arith, parts) in
     let none : flat_map known symbols ≡ [] = grind (arith, parts) in
-    let many : length (map (symbol_of x) symbols) ≡ length symbols = length-map symbols (symbol_of x) in
     record {
       exists = number_below x.text x.known.setting.nodes node here;
-      some = omega (arith, many, some);
+      some = grind (arith, parts);
       below =
           All-map (λ s. s < length x.known.setting.symbols) (symbol_of x) symbols
           (all_where (λ n. symbol_of x n < length x.known.setting.symbols) known (number_below x.text x.known.setting.symbols) symbols none);
@@ -48,20 +45,10 @@ restriction_is x node symbols some h =
 -- no weight without a fault is cut
 pub uncut : (x : Context) (ns : List Number) → flat_map (weight_faults x) ns ≡ [] → map (λ n. min (written_value x.text n) 4294967295) ns ≡ map (written_value x.text) ns
 uncut x [] none = refl
-uncut x (n ∷ ns) none =
-    let both = both_nil (weight_faults x n) (flat_map (weight_faults x) ns) none in
-    let here : min (written_value x.text n) 4294967295 ≡ written_value x.text n = grind (arith, common_steps) in
-    rw (here, uncut x ns both.1) refl
+uncut x (n ∷ ns) none = grind (arith, parts, uncut x ns)
 
-module _ (x : Context) (ns : List Number) (h : faults_of x (Command.Weights ns) ≡ []) where
-  none : flat_map (weight_faults x) ns ≡ []
-  none = grind (arith, parts)
-
-  pub values_are : map (λ n. min (written_value x.text n) 4294967295) ns ≡ map (written_value x.text) ns
-  values_are = uncut x ns none
-
-  pub weights_are : AreWeights (length x.known.setting.symbols) (map (written_value x.text) ns)
-  weights_are =
-      let many : length ns ≡ length x.known.setting.symbols = grind (arith, parts) in
-      let light = all_where (λ n. written_value x.text n ≤ 1000) (weight_faults x) (λ n light. grind (arith, common_steps)) ns none in
-      record { each = length-map ns (written_value x.text) ∙ many; light = All-map (λ w. w ≤ 1000) (written_value x.text) ns light }
+pub weights_are : (x : Context) (ns : List Number) → faults_of x (Command.Weights ns) ≡ [] → AreWeights (length x.known.setting.symbols) (map (written_value x.text) ns)
+weights_are x ns h =
+    let none : flat_map (weight_faults x) ns ≡ [] = grind (arith, parts) in
+    let light = all_where (λ n. written_value x.text n ≤ 1000) (weight_faults x) (λ n light. grind (arith, common_steps)) ns none in
+    record { each = grind (arith, parts); light = All-map (λ w. w ≤ 1000) (written_value x.text) ns light }

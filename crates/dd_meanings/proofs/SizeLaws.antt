@@ -9,7 +9,7 @@ use Rattle.dd_formula.specs.Automata.{CommonNumbers, Counted, IsAutomaton, count
 use Rattle.dd_formula.specs.declared.fault.RuleFault.{RuleFault}
 use Rattle.dd_formula.specs.lemmas.{AutomatonLaws.within_is, CasesLaws.refused, CasesLaws.passes_one}
 use Rattle.dd_faults.specs.Order.{first_fault, Refuses}
-use Rattle.dd_meanings.specs.{Definitions.rule_counts, Definitions.count_faults, Definitions.rule_faults, making.Parts.refusal_of}
+use Rattle.dd_meanings.specs.{Definitions.rule_counts, Definitions.count_faults, Definitions.rule_faults, Definitions.refusal_of}
 
 -- why a composition is refused
 pub fault_refuses : (n : ℕ) (f : Counted) (e : RuleFault) → IsCompositionFault n f e → Refuses (refusal_of e) (first_fault (count_faults n f))

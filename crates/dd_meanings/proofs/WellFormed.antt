@@ -1,5 +1,5 @@
 -- A written formula without a fault means a formula whose numbers fit, and that is no deeper.
-use Rattle.std.proofs.Common.{◌≡◌, ◌≤◌, ℕ, ◌+◌, ◌-◌, Bool, true, false, cond, List, [], ◌∷◌, ◌++◌, length, map, refl, sym, ap, ◌∙◌, subst, inl, inr, arith, nat_lt, nat_le, max}
+use Rattle.std.proofs.Common.{◌≡◌, ◌≤◌, ℕ, ◌+◌, ◌-◌, Bool, true, List, [], ◌∷◌, ◌++◌, length, map, refl, sym, ap, ◌∙◌, subst, inl, inr, arith, nat_lt, max}
 use Rattle.std.specs.List.{list_all, flat_map}
 use Rattle.std.proofs.lemmas.{Bool.and_from, Bool.lt-ltb, Bool.cases_Bool, List.length-map, List.length-append, List.Folds.list_all-map}
 use Rattle.std.proofs.lemmas.List.Sums.{list_all-from_AllPass}
@@ -14,8 +14,8 @@ use Rattle.dd_faults.specs.{Names.missing, Names.number_in, Sound.IsSound}
 use Rattle.dd_faults.specs.Formulas.{unknown_label, term_faults, names_symbol, side_faults, relation_faults, atom_faults, ball_faults, quantifier_faults, faults_step, formula_faults}
 use Rattle.dd_meanings.specs.declared.atoms.Operand.{Operand}
 use Rattle.dd_meanings.specs.Formulas.{label_of, term_of, side_of, equal_of, not_equal_of, said_of, atom_of, ball_of, implied_of, iff_behind, joined_of, quantified_of, formula_step, formula_of}
-use Rattle.dd_faults.specs.lemmas.Nothing.{both_nil}
-use Rattle.dd_meanings.proofs.{Nothing.parts, Nothing.all_where, NameLaws.number_below, NameLaws.variable_below}
+use Rattle.dd_faults.specs.lemmas.Nothing.{both_nil, all_where, number_below}
+use Rattle.dd_meanings.proofs.{Nothing.parts, NameLaws.variable_below}
 
 all_without : {X Y F : Type 0} (p : Y → Bool) (h : X → Y) (g : X → List F) → ((x : X) → g x ≡ [] → p (h x) ≡ true) → (xs : List X) → flat_map g xs ≡ [] → list_all p (map h xs) ≡ true
 all_without p h g each xs none = list_all-map p h xs ∙ list_all-from_AllPass (λ x. p (h x)) xs (all_where (λ x. p (h x) ≡ true) g each xs none)
@@ -43,8 +43,7 @@ module _ (x : Context) (same : x.known.setting.topology.nodes ≡ length x.known
     term_is : (t : WrittenTerm) → term_faults x scope t ≡ [] → term_fits x.known.setting.topology (length scope + 1) (term_of x scope t) ≡ true
     term_is t none =
         let labels = x.known.setting.topology.labels in
-        let each : flat_map (unknown_label x) t.moves ≡ [] = grind (arith, parts) in
-        let moves = all_without (λ l. nat_lt l (length labels)) (label_of x) (unknown_label x) (λ w none. lt-ltb _ _ (number_below x.text labels (Name.Word w) none)) t.moves each in
+        let moves = all_without (λ l. nat_lt l (length labels)) (label_of x) (unknown_label x) (λ w none. lt-ltb _ _ (number_below x.text labels (Name.Word w) none)) t.moves (grind (arith, parts)) in
         let below = variable_below x.text scope t.first (grind (arith, parts)) in
         grind (arith, parts, length-map t.moves (label_of x))
 
@@ -76,8 +75,7 @@ module _ (x : Context) (same : x.known.setting.topology.nodes ≡ length x.known
     said_is t (Relation.Adjacent u) h none = rolled (Formula-F.Adjacent t (term_of x scope u)) (length scope + 1) 0 (and_from _ _ h (term_is u none)) (omega arith)
     said_is t (Relation.Same u) h none = rolled (Formula-F.Place t (term_of x scope u)) (length scope + 1) 0 (and_from _ _ h (term_is u none)) (omega arith)
     said_is t (Relation.AtNode n) h none =
-        let below = number_below x.text x.known.setting.nodes n none in
-        rolled (Formula-F.Node t (number_in x.text x.known.setting.nodes n)) (length scope + 1) 0 (and_from _ _ h (lt-ltb _ _ (omega (arith, below, same)))) (omega arith)
+        rolled (Formula-F.Node t (number_in x.text x.known.setting.nodes n)) (length scope + 1) 0 (and_from _ _ h (lt-ltb _ _ (omega (arith, number_below x.text x.known.setting.nodes n none, same)))) (omega arith)
 
     atom_is : (a : Atom) → atom_faults x scope a ≡ [] → FitsHere (atom_of x scope a)
     atom_is a none =
@@ -85,13 +83,11 @@ module _ (x : Context) (same : x.known.setting.topology.nodes ≡ length x.known
         said_is (term_of x scope a.term) a.relation (term_is a.term both.0) both.1
 
     ball_is : (b : Ball) → ball_faults x scope b ≡ [] → ball_fits (length scope + 1) (ball_of x scope b) ≡ true
-    ball_is b none =
-        let below = variable_below x.text scope b.centre (grind (arith, parts)) in grind (arith, parts)
+    ball_is b none = grind (arith, parts, variable_below x.text scope b.centre)
 
     balls_are : (w : Word) (bs : List Ball) → quantifier_faults x scope w bs ≡ [] → balls_fit (length scope + 1) (map (ball_of x scope) bs) ≡ true
     balls_are w bs none =
-        let each : flat_map (ball_faults x scope) bs ≡ [] = grind (arith, parts) in
-        let fit = all_without (ball_fits (length scope + 1)) (ball_of x scope) (ball_faults x scope) ball_is bs each in
+        let fit = all_without (ball_fits (length scope + 1)) (ball_of x scope) (ball_faults x scope) ball_is bs (grind (arith, parts)) in
         grind (arith, parts, length-map bs (ball_of x scope))
 
     quantified_is : (q : Quantifier) (bs : List BallOf) (f : Formula) (d : ℕ) → balls_fit (length scope + 1) bs ≡ true → Fine f (length scope + 1 + 1) d → Fine (quantified_of q bs f) (length scope + 1) (1 + d)
@@ -113,10 +109,6 @@ module _ (x : Context) (same : x.known.setting.topology.nodes ≡ length x.known
   abbrev depths : List Known → List ℕ
   depths fs = map written_depth (map (λ f. f.0) fs)
 
-  at_most_one_more : (b : Bool) (n : ℕ) → cond b (1 + n) n ≤ 1 + n
-  at_most_one_more true n = omega arith
-  at_most_one_more false n = omega arith
-
   module _ (scope : List Word) where
     abbrev meant : List Known → List Formula
     meant fs = map (λ (f : List Word → Formula). f scope) (map (formula_of x) (map (λ f. f.0) fs))
@@ -136,7 +128,7 @@ module _ (x : Context) (same : x.known.setting.topology.nodes ≡ length x.known
 
     list_no_deeper : (j : Join) (n : ℕ) (fs : List Known) → 1 + greatest (map depth (meant fs)) ≤ max 1 (chain_depth j n 0 (depths fs)) → ((n i : ℕ) → signs_over j n i ≡ 1) → list_depth (map depth (meant fs)) ≤ chain_depth j n 0 (depths fs)
     list_no_deeper j n [] le one = omega arith
-    list_no_deeper j n (f ∷ fs) le one = omega (arith, le, one n 0, at_most_one_more (nat_le 2 (length (map depth (meant (f ∷ fs))))) (greatest (map depth (meant (f ∷ fs)))))
+    list_no_deeper j n (f ∷ fs) le one = grind (arith, le, one n 0)
 
     -- the parts from part i of n on, under the i signs before them
     implied_is : (n i : ℕ) (f : Known) (fs : List Known) → n ≡ i + (1 + length fs) → faults (f ∷ fs) ≡ []

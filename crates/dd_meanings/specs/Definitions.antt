@@ -5,9 +5,9 @@ use Rattle.dd_pattern.specs.{Periods.periods_of as with_shear, Tile.Tile, Tile.t
 use Rattle.dd_expansion.specs.{Leaves.instances, declared.formulas.Formula.Formula as Meant}
 use Rattle.dd_formula.specs.LocalRule.{LocalRule, local_rule, reads_at, expansion_at}
 use Rattle.dd_formula.specs.Automata.{Counted, counted, is_few, is_short, is_shallow}
-use Rattle.dd_formula.specs.{ByCases.by_cases, declared.automaton.Automaton.Automaton}
+use Rattle.dd_formula.specs.{ByCases.by_cases, declared.automaton.Automaton.Automaton, declared.fault.RuleFault.RuleFault}
 use Rattle.dd_formula.specs.declared.automaton.Automaton.TheVariants as automaton
-use Rattle.dd_meanings.specs.Tree.{Word, Name, Formula, Vector, Case, Limit, Fault, Context}
+use Rattle.dd_meanings.specs.Tree.{Word, Name, Formula, Vector, Case, Limit, Fault, Refusal, Context}
 use Rattle.dd_faults.specs.{Order.over, Names.number_in, Commands.dimension_of, Commands.period_at, Commands.shear_of}
 use Rattle.dd_meanings.specs.Formulas.{formula_of}
 
@@ -26,12 +26,9 @@ case_of x c = (formula_of x c.condition [], symbol_of x c.symbol)
 abbrev pub automaton_of : Context → List Case → Name → Automaton
 automaton_of x cases symbol = by_cases x.known.setting.topology x.known.setting.sets (map (case_of x) cases) (symbol_of x symbol)
 
--- the automaton with a number; where there is none, one without cases
-abbrev pub automaton_at : List Automaton → ℕ → Automaton
-automaton_at automata n = unwrap_or (slice_get automata n) (automaton.Given (record { cases = []; otherwise = 0 }))
-
+-- the automaton with a name; where there is none, one without cases
 abbrev pub automaton_named : Context → List Automaton → Word → Automaton
-automaton_named x automata w = automaton_at automata (number_in x.text x.known.automata (Name.Word w))
+automaton_named x automata w = unwrap_or (slice_get automata (number_in x.text x.known.automata (Name.Word w))) (automaton.Given (record { cases = []; otherwise = 0 }))
 
 -- the second automaton, and then the first
 abbrev pub composition_of : Context → List Automaton → Word → Word → Automaton
@@ -42,12 +39,9 @@ abbrev pub configuration_periods : List ℕ → Vector → List ℕ
 configuration_periods bytes v = period_at bytes v 0 ∷ period_at bytes v 1 ∷ period_at bytes v 2 ∷ []
 
 -- the symbols stand in cell order; without a second list the shear is 0
-abbrev pub tile_with : Context → Vector → Option Vector → List ℕ → Tile
-tile_with x periods shear symbols =
-    tile (dimension_of x.known) (with_shear (configuration_periods x.text periods) (shear_of x.text shear)) x.known.setting.topology.nodes symbols
-
 abbrev pub tile_of : Context → Vector → Option Vector → List Name → Tile
-tile_of x periods shear symbols = tile_with x periods shear (map (symbol_of x) symbols)
+tile_of x periods shear symbols =
+    tile (dimension_of x.known) (with_shear (configuration_periods x.text periods) (shear_of x.text shear)) x.known.setting.topology.nodes (map (symbol_of x) symbols)
 
 -- ---- its counts
 
@@ -64,3 +58,10 @@ rule_faults r = count_faults r.nodes (rule_counts r)
 
 abbrev pub automaton_faults : Context → Automaton → List Fault
 automaton_faults x f = count_faults x.known.setting.topology.nodes (counted f)
+
+-- the refusal of a command for which no rule or automaton was made
+abbrev pub refusal_of : RuleFault → Refusal
+refusal_of RuleFault.Reach = Refusal.At (Fault.Size Limit.Reach)
+refusal_of RuleFault.Instances = Refusal.At (Fault.Size Limit.Instances)
+refusal_of RuleFault.Depth = Refusal.At (Fault.Size Limit.Depth)
+refusal_of RuleFault.Memory = Refusal.Memory

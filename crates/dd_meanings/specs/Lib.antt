@@ -12,5 +12,3 @@ pub mod Definitions
 pub mod Formulas
 -- topologies
 pub mod Topologies
--- why definitions are not made
-pub mod making

@@ -1,17 +1,13 @@
 -- What each command means, and the limits on its counts.
-use Rattle.std.specs.Prelude.{ℕ, List, [], length, map, true, false, if◌then◌else◌}
+use Rattle.std.specs.Prelude.{List, [], length, map, true, false, if◌then◌else◌}
 use Rattle.dd_meanings.specs.Tree.{Kind, Command, Fault, Context}
 use Rattle.dd_topology.specs.Builtin.{grid_of}
-use Rattle.dd_values.specs.declared.limits.Limits.{Limits}
 use Rattle.dd_formula.specs.declared.automaton.Automaton.{Automaton}
 use Rattle.dd_written.specs.Values.{name_text, written_value}
 use Rattle.dd_faults.specs.{Names.number_in, Commands.dimension_of}
 use Rattle.dd_query.specs.Queries.{query_of}
 use Rattle.dd_meanings.specs.{declared.meaning.Meaning.Meaning, Topologies.default_grid, Topologies.kind_names, Topologies.grid_by}
 use Rattle.dd_meanings.specs.Definitions.{symbol_of, rule_of, automaton_of, composition_of, tile_of, rule_faults, automaton_faults}
-
-abbrev pub limits : ℕ → ℕ → ℕ → Limits
-limits radius period pivots = record { radius = radius; period = period; pivots = pivots }
 
 -- a kind of topology, with nodes of its own where no command has named any
 abbrev pub kind_meaning : Context → Kind → Meaning
@@ -25,7 +21,7 @@ meaning x automata (Command.Topology k) = kind_meaning x k
 meaning x automata (Command.Edges es) = Meaning.Topology (grid_by x.text (dimension_of x.known) x.known.setting.nodes es)
 meaning x automata (Command.Only node symbols) = Meaning.Only (number_in x.text x.known.setting.nodes node) (map (symbol_of x) symbols)
 meaning x automata (Command.Weights ns) = Meaning.Weights (map (written_value x.text) ns)
-meaning x automata (Command.Limits radius period pivots) = Meaning.Limits (limits (written_value x.text radius) (written_value x.text period) (written_value x.text pivots))
+meaning x automata (Command.Limits radius period pivots) = Meaning.Limits (record { radius = written_value x.text radius; period = written_value x.text period; pivots = written_value x.text pivots })
 meaning x automata (Command.Rule name f) = Meaning.Rule name (rule_of x f)
 meaning x automata (Command.Automaton name cases symbol) = Meaning.Automaton name (automaton_of x cases symbol)
 meaning x automata (Command.Composition name outer inner) = Meaning.Automaton name (composition_of x automata outer inner)

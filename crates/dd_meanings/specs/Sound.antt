@@ -1,14 +1,14 @@
 -- What each meaning keeps.
-use Rattle.std.specs.Prelude.{ℕ, ◌≡◌, ◌<◌, ◌≤◌, ◌%◌, true, List, length, slice_index, Contains}
+use Rattle.std.specs.Prelude.{ℕ, ◌≡◌, ◌<◌, ◌≤◌, ◌%◌, true, List, length, slice_index, Contains, Result, OnOk}
 use Rattle.std.specs.List.{All}
 use Rattle.dd_values.specs.Ranges.{AreLimits}
 use Rattle.dd_topology.specs.{Naming.AreDistinct, Sets.allows}
 use Rattle.dd_pattern.specs.Tile.{Tile, IsTile}
-use Rattle.dd_formula.specs.Automata.{IsAutomaton}
-use Rattle.dd_faults.specs.Sound.{IsGridOf, AreWeights}
-use Rattle.dd_meanings.specs.Tree.{Word, Setting, Context}
+use Rattle.dd_formula.specs.{Automata.IsAutomaton, declared.automaton.Automaton.Automaton}
+use Rattle.dd_faults.specs.{Sound.IsGridOf, Sound.AreWeights, Order.Resolves}
 use Rattle.dd_written.specs.Values.{word_text}
-use Rattle.dd_meanings.specs.{Made.script_numbers, Made.IsRuleOf, declared.meaning.Meaning.Meaning}
+use Rattle.dd_meanings.specs.Tree.{Word, Command, Refusal, Setting, Context}
+use Rattle.dd_meanings.specs.{Made.script_numbers, Made.IsRuleOf, declared.meaning.Meaning.Meaning, Meanings.meaning, Meanings.counted_sizes}
 use Rattle.dd_query.specs.Sound.{IsQueryWithin}
 
 -- one name at least, so many at most, and none twice
@@ -49,3 +49,7 @@ IsSoundMeaning x (Meaning.Rule name r) = IsNew x name × IsRuleOf x.known.settin
 IsSoundMeaning x (Meaning.Automaton name f) = IsNew x name × IsAutomaton (script_numbers x.known) f
 IsSoundMeaning x (Meaning.Configuration name t) = IsNew x name × IsConfigurationOf x.known.setting t
 IsSoundMeaning x (Meaning.Query q) = IsQueryWithin x.known q
+
+-- what a command without faults means, which keeps what every meaning does; or it is refused for the first limit that its counts pass
+abbrev pub Means : Result Meaning Refusal → Context → List Automaton → Command → Type 0
+Means result x automata c = Resolves result (counted_sizes x automata c) (meaning x automata c) × OnOk result (IsSoundMeaning x (meaning x automata c))

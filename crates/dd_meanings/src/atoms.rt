@@ -1,38 +1,31 @@
 //! Terms, atoms and balls with numbers in place of names.
 ghost use Rattle.std.specs.Prelude.{◌≡◌, ◌≤◌, [], length, map, IfOk};
 ghost use Rattle.std.specs.List.{flat_map};
-ghost use Rattle.dd_faults.specs.{Names.number_in, Names.variable_of, Formulas.names_symbol, Formulas.ball_faults};
+ghost use Rattle.dd_faults.specs.{Names.number_in, Formulas.names_symbol, Formulas.ball_faults};
 ghost use Rattle.dd_meanings.specs.Formulas.{variable_number, label_of, term_of, side_of, equal_of, not_equal_of, atom_of, ball_of};
 
+use crate::meaning::Made;
 use dd_expansion::{BallOf, Formula, Term};
 use dd_faults::{Context, names_symbol, number_in, place_among};
 use dd_values::Items;
 use dd_written::{
     Atom, Ball, Comparand, Name, Relation, Term as Written, Text, Word, name_text, number_value,
 };
-use std::alloc::{AllocError, Global};
-
-/// The number of a variable, where the word is one.
-fn variable_of(text: &Text, scope: &[Word], word: Word) -> Option<u32>
-    requires { length scope.now ≤ 64 }
-    ensures { result ≡ variable_of text.now scope.now word }
-{
-    let wanted = text.part(word.start, word.length);
-    if wanted == "o" {
-        return Some(0);
-    }
-    match place_among(text, scope, wanted) {
-        Some(place) => Some(place as u32 + 1),
-        None => None,
-    }
-}
+use std::alloc::Global;
 
 /// The number of a variable, and 0 where the word is none.
 fn variable(text: &Text, scope: &[Word], word: Word) -> u32
     requires { length scope.now ≤ 64 }
     ensures { result ≡ variable_number text.now scope.now word }
 {
-    variable_of(text, scope, word).unwrap_or(0)
+    let wanted = text.part(word.start, word.length);
+    if wanted == "o" {
+        return 0;
+    }
+    match place_among(text, scope, wanted) {
+        Some(place) => place as u32 + 1,
+        None => 0,
+    }
 }
 
 fn label(context: &Context, word: Word) -> u32
@@ -42,7 +35,7 @@ fn label(context: &Context, word: Word) -> u32
     context.known.setting.topology.label(text).unwrap_or(0)
 }
 
-fn labels(alloc: Global, context: &Context, moves: &[Word]) -> Result<Items<u32>, AllocError>
+fn labels(alloc: Global, context: &Context, moves: &[Word]) -> Made<Items<u32>>
     ensures { IfOk result (λ labels. labels ≡ map (label_of context.now) moves.now) }
 {
     let labels: Vec<u32> = moves
@@ -52,12 +45,7 @@ fn labels(alloc: Global, context: &Context, moves: &[Word]) -> Result<Items<u32>
     Ok(Items::from_vec(labels))
 }
 
-fn term(
-    alloc: Global,
-    context: &Context,
-    scope: &[Word],
-    term: &Written,
-) -> Result<Term, AllocError>
+fn term(alloc: Global, context: &Context, scope: &[Word], term: &Written) -> Made<Term>
     requires { length scope.now ≤ 64 }
     ensures { IfOk result (λ t. t ≡ term_of context.now scope.now term.now) }
 {
@@ -79,12 +67,7 @@ pub(crate) enum Operand {
     Term(Term),
 }
 
-fn side(
-    alloc: Global,
-    context: &Context,
-    scope: &[Word],
-    side: &Comparand,
-) -> Result<Operand, AllocError>
+fn side(alloc: Global, context: &Context, scope: &[Word], side: &Comparand) -> Made<Operand>
     requires { length scope.now ≤ 64 }
     ensures { IfOk result (λ s. s ≡ side_of context.now scope.now side.now) }
 {
@@ -119,12 +102,7 @@ fn not_equal(term: Term, side: Operand) -> Formula
     }
 }
 
-pub(crate) fn atom(
-    alloc: Global,
-    context: &Context,
-    scope: &[Word],
-    atom: &Atom,
-) -> Result<Formula, AllocError>
+pub(crate) fn atom(alloc: Global, context: &Context, scope: &[Word], atom: &Atom) -> Made<Formula>
     requires { length scope.now ≤ 64 }
     ensures { IfOk result (λ f. f ≡ atom_of context.now scope.now atom.now) }
 {
@@ -147,30 +125,22 @@ pub(crate) fn atom(
     }
 }
 
-fn ball(context: &Context, scope: &[Word], ball: &Ball) -> BallOf
-    requires few { length scope.now ≤ 64 }
-    requires faultless { ball_faults context.now scope.now ball.now ≡ [] }
-    ensures { result ≡ ball_of context.now scope.now ball.now }
-{
-    BallOf {
-        variable: variable(&context.text, scope, ball.centre),
-        radius: number_value(&context.text, ball.radius),
-    }
-}
-
 pub(crate) fn balls(
     alloc: Global,
     context: &Context,
     scope: &[Word],
     balls: &[Ball],
-) -> Result<Items<BallOf>, AllocError>
+) -> Made<Items<BallOf>>
     requires few { length scope.now ≤ 64 }
     requires faultless { flat_map (ball_faults context.now scope.now) balls.now ≡ [] }
     ensures { IfOk result (λ made. made ≡ map (ball_of context.now scope.now) balls.now) }
 {
     let mut made = Items::new(alloc);
     for written in balls {
-        made.push(ball(context, scope, written))?;
+        made.push(BallOf {
+            variable: variable(&context.text, scope, written.centre),
+            radius: number_value(&context.text, written.radius),
+        })?;
     }
     Ok(made)
 }

@@ -1,19 +1,15 @@
 //! What the commands that define something mean.
-ghost use Rattle.std.specs.Prelude.{◌≡◌, ◌≤◌, [], length, map, IfOk, OnOk};
+ghost use Rattle.std.specs.Prelude.{◌≡◌, ◌≤◌, [], length, map, IfOk};
 ghost use Rattle.std.specs.List.{All, flat_map};
-ghost use Rattle.dd_pattern.specs.Tile.{IsPeriodic};
-ghost use Rattle.dd_pattern.specs.lemmas.TileSizes.{Sizes};
 ghost use Rattle.dd_formula.specs.Automata.{IsAutomaton};
 ghost use Rattle.dd_written.specs.Formulas.{tree_depth};
 ghost use Rattle.dd_commands.specs.declared.command.Command.TheVariants as command;
-ghost use Rattle.dd_faults.specs.{Order.Resolves, Names.missing, Commands.case_faults, Commands.faults_of, Sound.IsSound};
-ghost use Rattle.dd_meanings.specs.{Made.script_numbers, Meanings.meaning, Meanings.counted_sizes};
-ghost use Rattle.dd_meanings.specs.{Definitions.case_of, Definitions.automaton_named, Definitions.tile_with, making.Parts.refusal_of};
-ghost use Rattle.dd_meanings.specs.Sound.{IsSoundMeaning};
+ghost use Rattle.dd_faults.specs.{Names.missing, Commands.case_faults, Commands.faults_of, Sound.IsSound};
+ghost use Rattle.dd_meanings.specs.{Made.script_numbers, Definitions.case_of, Definitions.automaton_named, Definitions.refusal_of, Sound.Means};
 
 use crate::formulas::formula_in;
 use crate::header::symbols_of;
-use crate::meaning::{Meaning, Resolved};
+use crate::meaning::{Made, Meaning, Resolved};
 use dd_commands::{Case, Vector};
 use dd_expansion::Formula as Meant;
 use dd_faults::{Context, Fault, Limit, Refusal, number_in, period_at, shear_of};
@@ -21,7 +17,7 @@ use dd_formula::{Automaton, Rule, RuleFault};
 use dd_pattern::Periodic;
 use dd_values::Items;
 use dd_written::{Formula, Name, Word};
-use std::alloc::{AllocError, Global};
+use std::alloc::Global;
 
 /// The refusal of a command for which no rule or automaton was made.
 fn refusal_of(fault: RuleFault) -> Refusal
@@ -36,13 +32,11 @@ fn refusal_of(fault: RuleFault) -> Refusal
 }
 
 /// The rule of a formula over the script's topology and the symbols that its nodes allow.
-#[tactic(auto, using(crate::proofs::Nothing::parts))]
 pub(crate) fn rule(alloc: Global, context: &Context, name: Word, formula: &Formula) -> Resolved
     requires sound { IsSound context.now.known }
     requires shallow { tree_depth formula.now ≤ 64 }
     requires faultless { faults_of context.now (command.Rule name formula.now) ≡ [] }
-    ensures exact { Resolves result (counted_sizes context.now [] (command.Rule name formula.now)) (meaning context.now [] (command.Rule name formula.now)) }
-    ensures sound { OnOk result (IsSoundMeaning context.now (meaning context.now [] (command.Rule name formula.now))) }
+    ensures { Means result context.now [] (command.Rule name formula.now) }
 {
     let meant = formula_in(alloc, context, &[], formula)?;
     let setting = &context.known.setting;
@@ -53,11 +47,7 @@ pub(crate) fn rule(alloc: Global, context: &Context, name: Word, formula: &Formu
 }
 
 /// Cases without faults, with their formulas and symbols by numbers.
-fn cases_of(
-    alloc: Global,
-    context: &Context,
-    cases: &[Case],
-) -> Result<Items<(Meant, u32)>, AllocError>
+fn cases_of(alloc: Global, context: &Context, cases: &[Case]) -> Made<Items<(Meant, u32)>>
     requires shallow { All (λ c. tree_depth c.condition ≤ 64) cases.now }
     requires faultless { flat_map (case_faults context.now) cases.now ≡ [] }
     ensures { IfOk result (λ made. made ≡ map (case_of context.now) cases.now) }
@@ -82,8 +72,7 @@ pub(crate) fn automaton(
     requires sound { IsSound context.now.known }
     requires shallow { All (λ c. tree_depth c.condition ≤ 64) cases.now }
     requires faultless { faults_of context.now (command.Automaton name cases.now default) ≡ [] }
-    ensures exact { Resolves result (counted_sizes context.now [] (command.Automaton name cases.now default)) (meaning context.now [] (command.Automaton name cases.now default)) }
-    ensures sound { OnOk result (IsSoundMeaning context.now (meaning context.now [] (command.Automaton name cases.now default))) }
+    ensures { Means result context.now [] (command.Automaton name cases.now default) }
 {
     let meant = cases_of(alloc, context, cases)?;
     let setting = &context.known.setting;
@@ -96,13 +85,7 @@ pub(crate) fn automaton(
 }
 
 /// A copy of the automaton with this name.
-#[tactic(auto, using(crate::proofs::Nothing::parts))]
-fn named(
-    alloc: Global,
-    context: &Context,
-    automata: &[Automaton],
-    word: Word,
-) -> Result<Automaton, AllocError>
+fn named(alloc: Global, context: &Context, automata: &[Automaton], word: Word) -> Made<Automaton>
     requires named { length automata.now ≡ length context.now.known.automata }
     requires known { missing context.now.text context.now.known.automata (Name.Word word) ≡ [] }
     ensures { IfOk result (λ f. f ≡ automaton_named context.now automata.now word) }
@@ -123,43 +106,13 @@ pub(crate) fn composition(
     requires named { length automata.now ≡ length context.now.known.automata }
     requires formed { All (IsAutomaton (script_numbers context.now.known)) automata.now }
     requires faultless { faults_of context.now (command.Composition name outer inner) ≡ [] }
-    ensures exact { Resolves result (counted_sizes context.now automata.now (command.Composition name outer inner)) (meaning context.now automata.now (command.Composition name outer inner)) }
-    ensures sound { OnOk result (IsSoundMeaning context.now (meaning context.now automata.now (command.Composition name outer inner))) }
+    ensures { Means result context.now automata.now (command.Composition name outer inner) }
 {
     let outer = named(alloc, context, automata, outer)?;
     let inner = named(alloc, context, automata, inner)?;
     match Automaton::composed(alloc, outer, inner) {
         Ok(automaton) => Ok(Meaning::Automaton { name, automaton }),
         Err((fault, _, _)) => Err(refusal_of(fault)),
-    }
-}
-
-/// The configuration with these symbols in its fundamental box.
-fn periodic(
-    context: &Context,
-    periods: &Vector,
-    shear: &Option<Vector>,
-    symbols: Items<u32>,
-) -> Periodic
-    requires sizes { Sizes (tile_with context.now periods.now shear.now symbols) }
-    requires periodic { IsPeriodic (tile_with context.now periods.now shear.now symbols) }
-    ensures { result ≡ tile_with context.now periods.now shear.now symbols }
-{
-    let topology = &context.known.setting.topology;
-    let text = &context.text;
-    match Periodic::new(
-        topology.dim(),
-        [
-            period_at(text, periods, 0),
-            period_at(text, periods, 1),
-            period_at(text, periods, 2),
-        ],
-        shear_of(text, shear),
-        topology.nodes(),
-        symbols.into_vec(),
-    ) {
-        Ok(configuration) => configuration,
-        Err(_) => unreachable!(),
     }
 }
 
@@ -175,13 +128,26 @@ pub(crate) fn configuration(
     requires sound { IsSound context.now.known }
     requires some { 1 ≤ length symbols.now }
     requires faultless { faults_of context.now (command.Configuration name periods.now shear.now symbols.now) ≡ [] }
-    ensures exact { Resolves result [] (meaning context.now [] (command.Configuration name periods.now shear.now symbols.now)) }
-    ensures sound { OnOk result (IsSoundMeaning context.now (meaning context.now [] (command.Configuration name periods.now shear.now symbols.now))) }
+    ensures { Means result context.now [] (command.Configuration name periods.now shear.now symbols.now) }
 {
     let symbols = symbols_of(alloc, context, symbols)?;
-    let configuration = periodic(context, periods, shear, symbols);
-    Ok(Meaning::Configuration {
-        name,
-        configuration,
-    })
+    let topology = &context.known.setting.topology;
+    let text = &context.text;
+    match Periodic::new(
+        topology.dim(),
+        [
+            period_at(text, periods, 0),
+            period_at(text, periods, 1),
+            period_at(text, periods, 2),
+        ],
+        shear_of(text, shear),
+        topology.nodes(),
+        symbols.into_vec(),
+    ) {
+        Ok(configuration) => Ok(Meaning::Configuration {
+            name,
+            configuration,
+        }),
+        Err(_) => unreachable!(),
+    }
 }

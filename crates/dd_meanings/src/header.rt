@@ -1,24 +1,22 @@
 //! What the commands of the header mean.
-ghost use Rattle.std.specs.Prelude.{◌≡◌, ◌≤◌, [], length, map, IfOk, OnOk};
+ghost use Rattle.std.specs.Prelude.{◌≡◌, ◌≤◌, [], length, map, IfOk};
 ghost use Rattle.dd_commands.specs.declared.command.Command.TheVariants as command;
-ghost use Rattle.dd_faults.specs.{Order.Resolves, Sound.IsSound, Commands.faults_of};
-ghost use Rattle.dd_meanings.specs.{Definitions.symbol_of, Meanings.meaning, Sound.IsSoundMeaning};
+ghost use Rattle.dd_faults.specs.{Sound.IsSound, Commands.faults_of};
+ghost use Rattle.dd_meanings.specs.{Definitions.symbol_of, Sound.Means};
 
-use crate::meaning::{Meaning, Resolved};
+use crate::meaning::{Made, Meaning, Resolved};
 use crate::names::names_of;
-use crate::topologies::{default_topology, kind_names, topology_by};
-use dd_commands::Edge;
+use crate::topologies::{default_topology, kind_names};
 use dd_faults::{Context, number_in};
 use dd_topology::{Kind, Topology};
 use dd_values::{Items, Limits};
 use dd_written::{Name, Number, number_value};
-use std::alloc::{AllocError, Global};
+use std::alloc::Global;
 
 pub(crate) fn dimension(alloc: Global, context: &Context, number: Number) -> Resolved
     requires sound { IsSound context.now.known }
     requires faultless { faults_of context.now (command.Dimension number) ≡ [] }
-    ensures exact { Resolves result [] (meaning context.now [] (command.Dimension number)) }
-    ensures sound { OnOk result (IsSoundMeaning context.now (meaning context.now [] (command.Dimension number))) }
+    ensures { Means result context.now [] (command.Dimension number) }
 {
     let dimension = number_value(&context.text, number);
     let nodes = context.known.setting.nodes.count();
@@ -27,13 +25,11 @@ pub(crate) fn dimension(alloc: Global, context: &Context, number: Number) -> Res
     Ok(Meaning::Topology(topology))
 }
 
-#[tactic(auto, using(crate::proofs::Nothing::parts))]
 pub(crate) fn nodes(alloc: Global, context: &Context, names: &[Name]) -> Resolved
     requires sound { IsSound context.now.known }
     requires some { 1 ≤ length names.now }
     requires faultless { faults_of context.now (command.Nodes names.now) ≡ [] }
-    ensures exact { Resolves result [] (meaning context.now [] (command.Nodes names.now)) }
-    ensures sound { OnOk result (IsSoundMeaning context.now (meaning context.now [] (command.Nodes names.now))) }
+    ensures { Means result context.now [] (command.Nodes names.now) }
 {
     let nodes = names_of(alloc, &context.text, names)?;
     let dimension = context.known.setting.topology.dim();
@@ -46,12 +42,10 @@ pub(crate) fn nodes(alloc: Global, context: &Context, names: &[Name]) -> Resolve
     })
 }
 
-#[tactic(auto, using(crate::proofs::Nothing::parts))]
 pub(crate) fn alphabet(alloc: Global, context: &Context, names: &[Name]) -> Resolved
     requires some { 1 ≤ length names.now }
     requires faultless { faults_of context.now (command.Alphabet names.now) ≡ [] }
-    ensures exact { Resolves result [] (meaning context.now [] (command.Alphabet names.now)) }
-    ensures sound { OnOk result (IsSoundMeaning context.now (meaning context.now [] (command.Alphabet names.now))) }
+    ensures { Means result context.now [] (command.Alphabet names.now) }
 {
     let symbols = names_of(alloc, &context.text, names)?;
     let _count = symbols.count();
@@ -60,8 +54,7 @@ pub(crate) fn alphabet(alloc: Global, context: &Context, names: &[Name]) -> Reso
 
 pub(crate) fn kind(alloc: Global, context: &Context, kind: Kind) -> Resolved
     requires faultless { faults_of context.now (command.Topology kind) ≡ [] }
-    ensures exact { Resolves result [] (meaning context.now [] (command.Topology kind)) }
-    ensures sound { OnOk result (IsSoundMeaning context.now (meaning context.now [] (command.Topology kind))) }
+    ensures { Means result context.now [] (command.Topology kind) }
 {
     let topology = Topology::builtin(alloc, kind)?;
     let _dimension = topology.dim();
@@ -77,23 +70,8 @@ pub(crate) fn kind(alloc: Global, context: &Context, kind: Kind) -> Resolved
     })
 }
 
-pub(crate) fn edges(alloc: Global, context: &Context, edges: &[Edge]) -> Resolved
-    requires sound { IsSound context.now.known }
-    requires faultless { faults_of context.now (command.Edges edges.now) ≡ [] }
-    ensures exact { Resolves result [] (meaning context.now [] (command.Edges edges.now)) }
-    ensures sound { OnOk result (IsSoundMeaning context.now (meaning context.now [] (command.Edges edges.now))) }
-{
-    let topology = topology_by(alloc, context, edges)?;
-    let _dimension = topology.dim();
-    Ok(Meaning::Topology(topology))
-}
-
 /// The numbers of symbols.
-pub(crate) fn symbols_of(
-    alloc: Global,
-    context: &Context,
-    names: &[Name],
-) -> Result<Items<u32>, AllocError>
+pub(crate) fn symbols_of(alloc: Global, context: &Context, names: &[Name]) -> Made<Items<u32>>
     ensures { IfOk result (λ symbols. symbols ≡ map (symbol_of context.now) names.now) }
 {
     let text = &context.text;
@@ -108,8 +86,7 @@ pub(crate) fn symbols_of(
 pub(crate) fn only(alloc: Global, context: &Context, node: Name, symbols: &[Name]) -> Resolved
     requires some { 1 ≤ length symbols.now }
     requires faultless { faults_of context.now (command.Only node symbols.now) ≡ [] }
-    ensures exact { Resolves result [] (meaning context.now [] (command.Only node symbols.now)) }
-    ensures sound { OnOk result (IsSoundMeaning context.now (meaning context.now [] (command.Only node symbols.now))) }
+    ensures { Means result context.now [] (command.Only node symbols.now) }
 {
     let node = number_in(&context.text, &context.known.setting.nodes, node);
     let symbols = symbols_of(alloc, context, symbols)?;
@@ -118,8 +95,7 @@ pub(crate) fn only(alloc: Global, context: &Context, node: Name, symbols: &[Name
 
 pub(crate) fn weights(alloc: Global, context: &Context, weights: &[Number]) -> Resolved
     requires faultless { faults_of context.now (command.Weights weights.now) ≡ [] }
-    ensures exact { Resolves result [] (meaning context.now [] (command.Weights weights.now)) }
-    ensures sound { OnOk result (IsSoundMeaning context.now (meaning context.now [] (command.Weights weights.now))) }
+    ensures { Means result context.now [] (command.Weights weights.now) }
 {
     let text = &context.text;
     let values: Vec<u32> = weights
@@ -129,16 +105,14 @@ pub(crate) fn weights(alloc: Global, context: &Context, weights: &[Number]) -> R
     Ok(Meaning::Weights(Items::from_vec(values)))
 }
 
-#[tactic(auto, using(crate::proofs::Nothing::parts))]
-pub(crate) fn limits(context: &Context, radius: Number, period: Number, pivots: Number) -> Meaning
-    requires { faults_of context.now (command.Limits radius period pivots) ≡ [] }
-    ensures exact { result ≡ meaning context.now [] (command.Limits radius period pivots) }
-    ensures sound { IsSoundMeaning context.now (meaning context.now [] (command.Limits radius period pivots)) }
+pub(crate) fn limits(context: &Context, radius: Number, period: Number, pivots: Number) -> Resolved
+    requires faultless { faults_of context.now (command.Limits radius period pivots) ≡ [] }
+    ensures { Means result context.now [] (command.Limits radius period pivots) }
 {
     let text = &context.text;
-    Meaning::Limits(Limits {
+    Ok(Meaning::Limits(Limits {
         radius: number_value(text, radius),
         period: number_value(text, period),
         pivots: number_value(text, pivots),
-    })
+    }))
 }

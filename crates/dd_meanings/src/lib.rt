@@ -1,6 +1,6 @@
 //! What commands without faults mean: topologies, names, sets, weights and limits of the header; rules, automata and configurations;
 //! and queries. What is too large by its counts alone is refused here.
-#![tactic(auto)]
+#![tactic(auto, using(crate::proofs::Nothing::parts))]
 
 mod atoms;
 mod definitions;

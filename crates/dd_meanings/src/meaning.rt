@@ -6,6 +6,7 @@ use dd_query::Query;
 use dd_topology::{Names, Topology};
 use dd_values::{Items, Limits};
 use dd_written::Word;
+use std::alloc::AllocError;
 
 /// What a command means.
 #[derive(Drop)]
@@ -50,3 +51,6 @@ pub enum Meaning {
 
 /// What a command means, or why it is refused.
 pub(crate) type Resolved = Result<Meaning, Refusal>;
+
+/// A part of what a command means, or want of memory.
+pub(crate) type Made<T> = Result<T, AllocError>;

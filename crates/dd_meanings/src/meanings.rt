@@ -7,27 +7,14 @@ ghost use Rattle.dd_faults.specs.{Order.Resolves, Commands.request_faults, Comma
 ghost use Rattle.dd_meanings.specs.{Made.script_numbers, Meanings.meaning, Meanings.counted_sizes, Sound.IsSoundMeaning};
 
 use crate::meaning::{Meaning, Resolved};
-use crate::{definitions, header};
+use crate::{definitions, header, topologies};
 use dd_commands::{Command, Request, Written};
 use dd_faults::{Context, Refusal};
 use dd_formula::Automaton;
 use dd_query::ask;
 use std::alloc::Global;
 
-/// The query of a question.
-fn query(alloc: Global, context: &Context, request: &Request) -> Resolved
-    requires sound { IsSound context.now.known }
-    requires written { IsRequest request.now }
-    requires faultless { request_faults context.now request.now ≡ [] }
-    ensures exact { Resolves result [] (meaning context.now [] (Command.Query request.now)) }
-    ensures sound { OnOk result (IsSoundMeaning context.now (meaning context.now [] (Command.Query request.now))) }
-{
-    let query = ask(alloc, context, request)?;
-    Ok(Meaning::Query(query))
-}
-
 /// What a command without faults means; refused where a rule or an automaton has too many instances, reads too far or is too deep.
-#[tactic(auto, using(crate::proofs::Nothing::parts))]
 pub fn mean(
     alloc: Global,
     context: &Context,
@@ -47,7 +34,7 @@ pub fn mean(
         Command::Nodes { names } => header::nodes(alloc, context, names.as_slice()),
         Command::Alphabet { names } => header::alphabet(alloc, context, names.as_slice()),
         Command::Topology { kind } => header::kind(alloc, context, *kind),
-        Command::Edges { edges } => header::edges(alloc, context, edges.as_slice()),
+        Command::Edges { edges } => topologies::edges(alloc, context, edges.as_slice()),
         Command::Only { node, symbols } => {
             header::only(alloc, context, *node, symbols.as_slice())
         }
@@ -56,7 +43,7 @@ pub fn mean(
             radius,
             period,
             pivots,
-        } => Ok(header::limits(context, *radius, *period, *pivots)),
+        } => header::limits(context, *radius, *period, *pivots),
         Command::Rule { name, formula } => definitions::rule(alloc, context, *name, formula),
         Command::Automaton {
             name,
@@ -72,6 +59,6 @@ pub fn mean(
             shear,
             symbols,
         } => definitions::configuration(alloc, context, *name, periods, shear, symbols.as_slice()),
-        Command::Query(request) => query(alloc, context, request),
+        Command::Query(request) => Ok(Meaning::Query(ask(alloc, context, request)?)),
     }
 }

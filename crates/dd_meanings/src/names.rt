@@ -1,5 +1,6 @@
 //! Lists of names.
-ghost use Rattle.std.specs.Prelude.{◌≡◌, ◌≤◌, ◌<◌, ◌^◌, ◌-◌, [], ◌∷◌, ◌++◌, length, map, codes, Contains, IfOk, OnOk};
+ghost use Rattle.std.specs.Prelude.{◌≡◌, ◌≤◌, ◌<◌, ◌^◌, ◌-◌, [], ◌∷◌, ◌++◌, length, map, codes, Contains, IfOk, OnOk, if◌then◌else◌, bytes_eq};
+ghost use Rattle.std.specs.List.{list_any};
 ghost use Rattle.dd_written.specs.Values.{name_text};
 ghost use Rattle.dd_faults.specs.Repeats.{twice_named};
 
@@ -8,14 +9,23 @@ use dd_written::{Name, Text, name_text};
 use std::alloc::{AllocError, Global};
 
 /// Adds a name that is not there yet.
+#[tactic(auto, using(dd_faults::specs::lemmas::Repeats::not_among))]
 pub fn add_new(alloc: Global, names: &mut Names, text: &str) -> Result<(), AllocError>
     requires few { length names.old < 2 ^ 32 - 1 }
     requires new { ¬ Contains names.old text.now }
     ensures { OnOk result (names.new ≡ names.old ++ text.now ∷ []) }
 {
+    add_once(alloc, names, text)
+}
+
+/// Adds a name, unless it is there already.
+pub(crate) fn add_once(alloc: Global, names: &mut Names, text: &str) -> Result<(), AllocError>
+    requires { length names.old < 2 ^ 32 - 1 }
+    ensures { OnOk result (names.new ≡ (if list_any (bytes_eq text.now) names.old then names.old else names.old ++ text.now ∷ [])) }
+{
     match names.add(String::from_str(alloc, text)?) {
         Ok(_) => Ok(()),
-        Err(NameFault::Twice(_)) => unreachable!(),
+        Err(NameFault::Twice(_)) => Ok(()),
         Err(NameFault::Memory(_)) => Err(AllocError),
     }
 }
@@ -39,7 +49,6 @@ pub fn zero_and_one(alloc: Global) -> Result<Names, AllocError>
 }
 
 /// The texts of names of which none is given twice.
-#[tactic(auto, using(crate::proofs::Nothing::parts))]
 pub(crate) fn names_of(alloc: Global, text: &Text, written: &[Name]) -> Result<Names, AllocError>
     requires few { length written.now ≤ 16 }
     requires distinct { twice_named text.now written.now ≡ [] }

@@ -1,17 +1,19 @@
 //! The topologies of scripts: the grids of a dimension, the built-in ones, and those by edges.
-ghost use Rattle.std.specs.Prelude.{◌≡◌, ◌≤◌, ◌<◌, ◌^◌, ◌-◌, [], ◌∷◌, ◌++◌, length, map, IfOk, OnOk, if◌then◌else◌, bytes_eq};
-ghost use Rattle.std.specs.List.{list_any, flat_map};
+ghost use Rattle.std.specs.Prelude.{◌≡◌, ◌≤◌, [], length, map, IfOk};
+ghost use Rattle.std.specs.List.{flat_map};
 ghost use Rattle.dd_topology.specs.Grid.{grid};
 ghost use Rattle.dd_commands.specs.declared.command.Command.TheVariants as command;
-ghost use Rattle.dd_faults.specs.{Sound.IsSound, Commands.dimension_of, Commands.edge_faults, Commands.faults_of};
+ghost use Rattle.dd_faults.specs.{Sound.IsSound, Commands.edge_faults, Commands.faults_of};
 ghost use Rattle.dd_query.specs.Vectors.{IsClose};
-ghost use Rattle.dd_meanings.specs.Topologies.{plain_kind, default_grid, kind_names, labels_of, edge_of, grid_by};
+ghost use Rattle.dd_meanings.specs.Topologies.{plain_kind, default_grid, kind_names, labels_of, edge_of};
+ghost use Rattle.dd_meanings.specs.Sound.{Means};
 
-use crate::names::{zero, zero_and_one};
+use crate::meaning::{Made, Meaning, Resolved};
+use crate::names::{add_once, zero, zero_and_one};
 use dd_commands::Edge as Written;
-use dd_faults::{Context, number_in};
+use dd_faults::{Context, Refusal, number_in};
 use dd_query::position_of;
-use dd_topology::{Edge, Kind, NameFault, Names, Topology, TopologyFault};
+use dd_topology::{Edge, Kind, Names, Topology, TopologyFault};
 use dd_written::{Name, Text, name_text};
 use std::alloc::{AllocError, Global};
 
@@ -26,11 +28,7 @@ fn plain_kind(dimension: u32) -> Kind
 }
 
 /// The topology where none is given: with one node the grid of the dimension, and with more one without edges.
-pub(crate) fn default_topology(
-    alloc: Global,
-    dimension: u32,
-    nodes: u32,
-) -> Result<Topology, AllocError>
+pub(crate) fn default_topology(alloc: Global, dimension: u32, nodes: u32) -> Made<Topology>
     requires dimension { (1 ≤ dimension) × (dimension ≤ 3) }
     requires nodes { 1 ≤ nodes }
     ensures { IfOk result (λ topology. topology ≡ default_grid dimension nodes) }
@@ -46,7 +44,7 @@ pub(crate) fn default_topology(
 }
 
 /// The names of the nodes of a kind, where a script gives none.
-pub(crate) fn kind_names(alloc: Global, kind: Kind) -> Result<Names, AllocError>
+pub(crate) fn kind_names(alloc: Global, kind: Kind) -> Made<Names>
     ensures { IfOk result (λ names. names ≡ kind_names kind) }
 {
     match kind {
@@ -55,20 +53,8 @@ pub(crate) fn kind_names(alloc: Global, kind: Kind) -> Result<Names, AllocError>
     }
 }
 
-/// Adds a label that was not seen before.
-fn add_once(alloc: Global, labels: &mut Names, text: &str) -> Result<(), AllocError>
-    requires { length labels.old < 2 ^ 32 - 1 }
-    ensures { OnOk result (labels.new ≡ (if list_any (bytes_eq text.now) labels.old then labels.old else labels.old ++ text.now ∷ [])) }
-{
-    match labels.add(String::from_str(alloc, text)?) {
-        Ok(_) => Ok(()),
-        Err(NameFault::Twice(_)) => Ok(()),
-        Err(NameFault::Memory(_)) => Err(AllocError),
-    }
-}
-
 /// The labels of edges, each once, in the order in which they are first seen.
-fn labels_of(alloc: Global, text: &Text, edges: &[Written]) -> Result<Names, AllocError>
+fn labels_of(alloc: Global, text: &Text, edges: &[Written]) -> Made<Names>
     requires { length edges.now ≤ 64 }
     ensures { IfOk result (λ labels. labels ≡ labels_of text.now edges.now) }
 {
@@ -97,7 +83,7 @@ fn edges_of(
     context: &Context,
     labels: &Names,
     written: &[Written],
-) -> Result<Vec<Edge>, AllocError>
+) -> Made<Vec<Edge>>
     requires { flat_map (edge_faults context.now) written.now ≡ [] }
     ensures { IfOk result (λ edges. edges.items ≡ map (edge_of context.now.text labels.now context.now.known.setting.nodes) written.now) }
 {
@@ -111,23 +97,21 @@ fn edges_of(
 }
 
 /// The topology by edges. Its labels are numbered in the order in which they are first seen.
-#[tactic(auto, using(crate::proofs::Nothing::parts))]
-pub(crate) fn topology_by(
-    alloc: Global,
-    context: &Context,
-    written: &[Written],
-) -> Result<Topology, AllocError>
+pub(crate) fn edges(alloc: Global, context: &Context, edges: &[Written]) -> Resolved
     requires sound { IsSound context.now.known }
-    requires faultless { faults_of context.now (command.Edges written.now) ≡ [] }
-    ensures { IfOk result (λ topology. topology ≡ grid_by context.now.text (dimension_of context.now.known) context.now.known.setting.nodes written.now) }
+    requires faultless { faults_of context.now (command.Edges edges.now) ≡ [] }
+    ensures { Means result context.now [] (command.Edges edges.now) }
 {
     let setting = &context.known.setting;
-    let labels = labels_of(alloc, &context.text, written)?;
-    let edges = edges_of(alloc, context, &labels, written)?;
+    let labels = labels_of(alloc, &context.text, edges)?;
+    let edges = edges_of(alloc, context, &labels, edges)?;
     let dimension = setting.topology.dim();
     match Topology::from_edges(alloc, dimension, setting.nodes.count(), labels, edges) {
-        Ok(topology) => Ok(topology),
+        Ok(topology) => {
+            let _dimension = topology.dim();
+            Ok(Meaning::Topology(topology))
+        }
         Err(TopologyFault::Twice(_)) => unreachable!(),
-        Err(TopologyFault::Memory) => Err(AllocError),
+        Err(TopologyFault::Memory) => Err(Refusal::Memory),
     }
 }

@@ -1,5 +1,7 @@
+use Rattle.std.proofs.Common.{arith}
 use Rattle.dd_meanings.specs.Definitions.{automaton_of}
-use Rattle.dd_meanings.proofs.DefinitionLaws.{are_cases, is_symbol, cases_defined, cases_refused}
+use Rattle.dd_meanings.proofs.Nothing.{parts}
+use Rattle.dd_meanings.proofs.DefinitionLaws.{symbol_below, are_cases, cases_defined, cases_refused}
 use Rattle.dd_meanings.proofs.definitions.automaton.Goals as goal
 
 pub by_cases-requires-clause-cases : goal.by_cases-requires-clause-cases
@@ -8,15 +10,14 @@ by_cases-requires-clause-cases c =
 
 pub by_cases-requires-clause-otherwise : goal.by_cases-requires-clause-otherwise
 by_cases-requires-clause-otherwise c =
-    rw c.number_in-otherwise.ensures (is_symbol c.args.context.now c.args.name c.args.cases.now c.args.default c.requires.sound c.requires.shallow c.requires.faultless)
+    rw c.number_in-otherwise.ensures (symbol_below c.args.context.now c.args.default c.requires.sound (grind (arith, parts)))
 
 pub returns-in-Ok : goal.returns-in-Ok
 returns-in-Ok c =
     let ok = rw (c.as_slice-meant.ensures, c.in_ok-meant.ensures, c.number_in-otherwise.ensures) at c.in-Ok.ensures in
-    let is = cases_defined c.args.context.now c.args.name c.args.cases.now c.args.default c.requires.sound c.requires.shallow c.requires.faultless c.in-Ok.automaton ok.ok ok.formed in
-    record { exact = is.0; sound = is.1 }
+    cases_defined c.args.context.now c.args.name c.args.cases.now c.args.default c.requires.sound c.requires.shallow c.requires.faultless c.in-Ok.automaton ok.ok ok.formed
 
-pub returns-clause-exact : goal.returns-clause-exact
-returns-clause-exact c =
+pub returns : goal.returns
+returns c =
     let fault = rw (c.as_slice-meant.ensures, c.in_ok-meant.ensures, c.number_in-otherwise.ensures) at c.in-Err.ensures.fault in
-    rw c.refusal_of.ensures (cases_refused c.args.context.now (automaton_of c.args.context.now c.args.cases.now c.args.default) c.in-Err.fault fault)
+    (rw c.refusal_of.ensures (cases_refused c.args.context.now (automaton_of c.args.context.now c.args.cases.now c.args.default) c.in-Err.fault fault), tt)

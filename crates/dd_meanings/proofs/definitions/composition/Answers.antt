@@ -8,10 +8,9 @@ composed-requires c =
 pub returns-in-Ok : goal.returns-in-Ok
 returns-in-Ok c =
     let ok = rw (c.in_ok-outer.ensures, c.in_ok-inner.ensures) at c.in-Ok.ensures in
-    let is = composition_defined c.args.context.now c.args.automata.now c.args.name c.args.outer c.args.inner c.requires.named c.requires.formed c.requires.faultless c.in-Ok.automaton ok.ok ok.formed in
-    record { exact = is.0; sound = is.1 }
+    composition_defined c.args.context.now c.args.automata.now c.args.name c.args.outer c.args.inner c.requires.named c.requires.formed c.requires.faultless c.in-Ok.automaton ok.ok ok.formed
 
-pub returns-clause-exact : goal.returns-clause-exact
-returns-clause-exact c =
+pub returns : goal.returns
+returns c =
     let fault = rw (c.in_ok-outer.ensures, c.in_ok-inner.ensures) at c.in-Err.ensures.fault in
-    rw c.refusal_of.ensures (composition_refused c.args.context.now c.args.automata.now c.args.name c.args.outer c.args.inner c.requires.named c.requires.formed c.requires.faultless c.in-Err.fault fault)
+    (rw c.refusal_of.ensures (composition_refused c.args.context.now c.args.automata.now c.args.name c.args.outer c.args.inner c.requires.named c.requires.formed c.requires.faultless c.in-Err.fault fault), tt)

@@ -9,11 +9,10 @@ new-requires-clause-formula c = rw c.in_ok-meant.ensures (is_formula c.args.cont
 pub returns-in-Ok : goal.returns-in-Ok
 returns-in-Ok c =
     let x = c.args.context.now in
-    let ok = rw c.in_ok-meant.ensures at c.in-Ok.ensures in
-    record {
-      exact = (rule_passes (rule_of x c.args.formula.now) ok.rule, ap (Meaning.Rule c.args.name) ok.ok);
-      sound = (is_new x c.args.name (grind (arith, parts)), record { rule = ok.rule; dimension = refl; nodes = refl; symbols = c.requires.sound.setting.alphabet; edges = refl; allowed = refl });
-    }
+    let ok = rw c.in_ok-meant.ensures at c.in-Ok.ensures in (
+      (rule_passes (rule_of x c.args.formula.now) ok.rule, ap (Meaning.Rule c.args.name) ok.ok),
+      (is_new x c.args.name (grind (arith, parts)), record { rule = ok.rule; dimension = refl; nodes = refl; symbols = c.requires.sound.setting.alphabet; edges = refl; allowed = refl }),
+    )
 
-pub returns-in-Err-clause-exact : goal.returns-in-Err-clause-exact
-returns-in-Err-clause-exact c = rw c.refusal_of.ensures (rule_refuses (rule_of c.args.context.now c.args.formula.now) c.in-Err.fault (rw c.in_ok-meant.ensures at c.in-Err.ensures.err))
+pub returns-in-Err : goal.returns-in-Err
+returns-in-Err c = (rw c.refusal_of.ensures (rule_refuses (rule_of c.args.context.now c.args.formula.now) c.in-Err.fault (rw c.in_ok-meant.ensures at c.in-Err.ensures.err)), tt)

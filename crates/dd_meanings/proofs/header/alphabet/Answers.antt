@@ -2,6 +2,7 @@ use Rattle.std.proofs.Common.{arith}
 use Rattle.dd_meanings.proofs.{Nothing.parts, HeaderLaws.names_are}
 use Rattle.dd_meanings.proofs.header.alphabet.Goals as goal
 
-pub returns-clause-sound : goal.returns-clause-sound
-returns-clause-sound c =
-    names_are c.args.context.now.text 16 c.args.names.now c.in_ok-symbols.symbols c.in_ok-symbols.ensures c.requires.some (grind (arith, parts)) c.count-count.ensures.distinct
+pub returns : goal.returns
+returns c =
+    let few = names_are c.args.context.now.text 16 c.args.names.now c.in_ok-symbols.symbols c.in_ok-symbols.ensures c.requires.some (grind (arith, parts)) c.count-count.ensures.distinct in
+    (grind (arith, parts), few)

@@ -3,13 +3,9 @@ use Rattle.dd_written.specs.Values.{written_value}
 use Rattle.dd_meanings.proofs.HeaderLaws.{dimension_is, default_sound}
 use Rattle.dd_meanings.proofs.header.dimension.Goals as goal
 
-pub returns-clause-exact : goal.returns-clause-exact
-returns-clause-exact c =
-    let is = dimension_is c.args.context.now c.args.number c.number_value-dimension.result c.requires.faultless c.number_value-dimension.ensures in
-    rw (c.in_ok-topology.ensures, is, c.count-nodes.ensures.number) (refl, refl)
-
-pub returns-clause-sound : goal.returns-clause-sound
-returns-clause-sound c =
+pub returns : goal.returns
+returns c =
     let x = c.args.context.now in
     let is = dimension_is x c.args.number c.number_value-dimension.result c.requires.faultless c.number_value-dimension.ensures in
-    default_sound (written_value x.text c.args.number) (length x.known.setting.nodes) c.in_ok-topology.topology c.dim-dimension.ensures.grid (rw (is, c.count-nodes.ensures.number) at c.in_ok-topology.ensures)
+    let made = rw (is, c.count-nodes.ensures.number) at c.in_ok-topology.ensures in
+    (rw made (refl, refl), default_sound (written_value x.text c.args.number) (length x.known.setting.nodes) c.in_ok-topology.topology c.dim-dimension.ensures.grid made)

@@ -21,11 +21,11 @@ automaton-requires-clause-shallow c =
 pub configuration-requires-clause-some : goal.configuration-requires-clause-some
 configuration-requires-clause-some c = rw c.as_slice-in-Configuration.ensures (body c.args.context.now.text c.args.written.now _ c.in-Configuration.is c.requires.written).1.0
 
-pub query-requires-clause-written : goal.query-requires-clause-written
-query-requires-clause-written c = (body c.args.context.now.text c.args.written.now _ c.in-Query.is c.requires.written).1.0
+pub ask-requires-clause-written : goal.ask-requires-clause-written
+ask-requires-clause-written c = (body c.args.context.now.text c.args.written.now _ c.in-Query.is c.requires.written).1.0
 
 pub returns-in-Automaton : goal.returns-in-Automaton
-returns-in-Automaton c = rw (c.in-Automaton.is, ← c.as_slice-in-Automaton.ensures) c.automaton.ensures
+returns-in-Automaton c = rw (c.in-Automaton.is, ← c.as_slice-in-Automaton.ensures) (record { exact = c.automaton.ensures.0; sound = c.automaton.ensures.1 })
 
 pub returns-in-Composition : goal.returns-in-Composition
-returns-in-Composition c = rw c.in-Composition.is c.composition.ensures
+returns-in-Composition c = rw c.in-Composition.is (record { exact = c.composition.ensures.0; sound = c.composition.ensures.1 })
