@@ -1,16 +1,36 @@
 -- Scripts: commands in order, or the first that is not well formed.
-use Rattle.std.specs.Prelude.{◌≡◌, ℕ, zero, suc, ◌≤◌, List, [], ◌∷◌, Bool, true, false, if◌then◌else◌, Result, Ok, Err, bytes_eq, codes}
+use Rattle.std.specs.Prelude.{◌≡◌, ℕ, zero, suc, ◌≤◌, List, [], ◌∷◌, Bool, true, false, if◌then◌else◌, Result, Ok, Err}
 use Rattle.std.specs.List.{list_all}
-use Rattle.dd_commands.specs.Tree.{Lexeme, Written, Syntax, SyntaxFault}
+use Rattle.dd_commands.specs.Tree.{Mark, Lexeme, Written, Syntax, SyntaxFault}
 use Rattle.dd_commands.specs.{Heads.head_of, Heads.stage, Heads.next_stage, Commands.IsCommand}
-use Rattle.dd_written.specs.Lexemes.{mark_text, lexemes_of}
+use Rattle.dd_written.specs.Lexemes.{lexemes_of}
 
 -- the mark before a command
+abbrev pub is_percent_mark : Mark → Bool
+is_percent_mark Mark.Percent = true
+is_percent_mark Mark.All = false
+is_percent_mark Mark.Exists = false
+is_percent_mark Mark.Open = false
+is_percent_mark Mark.Close = false
+is_percent_mark Mark.OpenList = false
+is_percent_mark Mark.CloseList = false
+is_percent_mark Mark.Dot = false
+is_percent_mark Mark.Equal = false
+is_percent_mark Mark.NotEqual = false
+is_percent_mark Mark.Not = false
+is_percent_mark Mark.And = false
+is_percent_mark Mark.Or = false
+is_percent_mark Mark.Arrow = false
+is_percent_mark Mark.BothWays = false
+is_percent_mark Mark.Tilde = false
+is_percent_mark Mark.At = false
+is_percent_mark Mark.Colon = false
+
 abbrev pub is_percent : Lexeme → Bool
 is_percent (Lexeme.Word w) = false
 is_percent (Lexeme.Number n) = false
 is_percent (Lexeme.Negative n) = false
-is_percent (Lexeme.Mark m) = bytes_eq (mark_text m) (codes "%")
+is_percent (Lexeme.Mark m) = is_percent_mark m
 is_percent Lexeme.Stray = false
 
 -- what stands before the first command, and each command without its mark

@@ -1,8 +1,8 @@
 -- Where there is no fault, there is none in a part.
-use Rattle.std.proofs.Common.{◌≡◌, Bool, true, false, List, [], ◌∷◌, ◌++◌, None, Some, refl, arith}
+use Rattle.std.proofs.Common.{◌≡◌, ℕ, ◌<◌, Bool, true, false, List, [], ◌∷◌, ◌++◌, length, None, Some, refl, arith}
 use Rattle.std.specs.List.{All, flat_map}
 use Rattle.std.proofs.lemmas.{List.Elements.All-nil, List.Elements.All-cons, Grind.common_steps}
-use Rattle.dd_faults.specs.{Tree.Limit, Tree.Fault, Order.noted, Order.first_fault, Order.over}
+use Rattle.dd_faults.specs.{Tree.Name, Tree.Limit, Tree.Fault, Order.noted, Order.first_fault, Order.over, Names.missing, Names.number_in}
 use Rattle.dd_faults.specs.Commands.{unless}
 
 pub both_nil : {X : Type 0} (xs ys : List X) → xs ++ ys ≡ [] → (xs ≡ []) × (ys ≡ [])
@@ -24,6 +24,10 @@ within false l e = refl
 
 -- what `grind` needs to take a list without faults apart
 pub ruleset parts = (common_steps, both_nil, fits, within)
+
+-- a name that is not missing has a number below that of the names
+pub number_below : (bytes : List ℕ) (names : List (List ℕ)) (n : Name) → missing bytes names n ≡ [] → number_in bytes names n < length names
+number_below bytes names n none = grind (arith, parts)
 
 -- a fault that is noted stays, or a better one takes its place
 some_stays : (g : Fault) (fs : List Fault) → noted (Some g) fs ≡ None → ⊥
