@@ -4,6 +4,7 @@ use crate::scripts::script_of;
 use dd_clause::{Clause, Cnf};
 use dd_counts::question_clauses;
 use dd_problem::Goal;
+use dd_question::MOST_CLAUSES;
 use dd_script::Script;
 use std::alloc::{AllocError, Global};
 use std::test::Fail;
