@@ -17,8 +17,12 @@ default_grid d nodes = if nodes == 1 then grid_of (plain_kind d) else grid d nod
 
 -- the names of the nodes of a kind, where none are given
 abbrev pub kind_names : Kind → List (List ℕ)
+kind_names Kind.Line = codes "0" ∷ []
+kind_names Kind.Square = codes "0" ∷ []
+kind_names Kind.King = codes "0" ∷ []
+kind_names Kind.Triangle = codes "0" ∷ []
 kind_names Kind.Hex = codes "0" ∷ codes "1" ∷ []
-kind_names k = codes "0" ∷ []
+kind_names Kind.Cube = codes "0" ∷ []
 
 -- ---- edges
 

@@ -13,4 +13,4 @@ pub mod Asking
 -- which bytes spell a script, and how all others are refused
 pub mod Scripts
 -- scripts as far as their commands have been gone through
-pub mod drafting
+pub mod Drafts

@@ -2,5 +2,4 @@
 pub use Rattle.dd_written.specs.declared.{lexeme.Lexeme.Lexeme}
 pub use Rattle.dd_commands.specs.declared.{head.Head.Head, command.Command.Command, script.Written.Written, script.Syntax.Syntax}
 pub use Rattle.dd_commands.specs.declared.{fault.SyntaxFault.SyntaxFault}
-pub use Rattle.dd_faults.specs.declared.{fault.Limit.Limit, fault.Fault.Fault, fault.Refusal.Refusal, context.Setting.Setting}
-pub use Rattle.dd_faults.specs.declared.{context.Context.Context}
+pub use Rattle.dd_faults.specs.declared.{fault.Limit.Limit, fault.Fault.Fault, context.Context.Context}

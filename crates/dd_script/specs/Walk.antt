@@ -1,7 +1,7 @@
 -- The commands of a script one after the other: what each leaves, and the first fault.
 use Rattle.std.specs.Prelude.{ℕ, ◌+◌, List, [], ◌∷◌, ◌++◌, length, Bool, false, ◌==◌, Option, None, codes}
 use Rattle.std.specs.{List.list_any, List.range_with_len, Option.option_or, Option.option_map}
-use Rattle.dd_topology.specs.{Builtin.square, Sets.all_symbols, Sets.restricted}
+use Rattle.dd_topology.specs.{Builtin.square, Sets.SymbolSets, Sets.all_symbols, Sets.restricted}
 pub use Rattle.dd_written.specs.Values.{word_text}
 use Rattle.dd_script.specs.Tree.{Head, Limit, Fault, Context}
 pub use Rattle.dd_commands.specs.{declared.script.Written.Written, Scripts.stage_of}
@@ -32,13 +32,13 @@ start = record { known = known_start; rules = []; automata = []; configurations 
 
 -- ---- what a command leaves
 
+-- with other symbols that the nodes allow, where these nodes are restricted
+abbrev pub allowing : Known → SymbolSets → List ℕ → Known
+allowing k sets nodes = record k { setting = record (k.setting) { sets = sets }; restricted = nodes }
+
 -- each node allows each symbol, and none is restricted
 abbrev pub unrestricted : Known → Known
-unrestricted k =
-    record k {
-      setting = record (k.setting) { sets = all_symbols (length k.setting.nodes) (length k.setting.symbols) };
-      restricted = [];
-    }
+unrestricted k = allowing k (all_symbols (length k.setting.nodes) (length k.setting.symbols)) []
 
 -- The script with a command more, of this meaning. Where nodes or symbols change, each node allows each symbol anew; and
 -- where symbols change, the weight of each is its number.
@@ -49,12 +49,7 @@ with bytes s (Meaning.Nodes nodes given g) =
 with bytes s (Meaning.Symbols symbols) =
     record s { known = unrestricted (record (s.known) { setting = record (s.known.setting) { symbols = symbols }; weights = range_with_len 0 (length symbols) }) }
 with bytes s (Meaning.Only node symbols) =
-    record s {
-      known = record (s.known) {
-        setting = record (s.known.setting) { sets = restricted s.known.setting.sets node symbols };
-        restricted = s.known.restricted ++ node ∷ [];
-      };
-    }
+    record s { known = allowing (s.known) (restricted s.known.setting.sets node symbols) (s.known.restricted ++ node ∷ []) }
 with bytes s (Meaning.Weights weights) = record s { known = record (s.known) { weights = weights } }
 with bytes s (Meaning.Limits limits) = record s { known = record (s.known) { limits = limits } }
 with bytes s (Meaning.Rule name rule) = record s { known = record (s.known) { rules = s.known.rules ++ word_text bytes name ∷ [] }; rules = s.rules ++ rule ∷ [] }

@@ -1,20 +1,19 @@
 //! A script as far as its commands have been gone through.
-ghost use Rattle.std.specs.Prelude.{◌≡◌, ◌++◌, [], ◌∷◌, Contains, OnOk, OnErr, IfOk, IfErr, MatchResult};
+ghost use Rattle.std.specs.Prelude.{◌≡◌, ◌≤◌, ◌++◌, [], ◌∷◌, Contains, OnOk, IfOk, MatchResult};
+ghost use Rattle.dd_values.specs.Bounds.{most_commands};
 ghost use Rattle.dd_written.specs.Values.{word_text};
-ghost use Rattle.dd_commands.specs.Scripts.{IsWritten, stage_of};
+ghost use Rattle.dd_commands.specs.Scripts.{IsWritten};
 ghost use Rattle.dd_faults.specs.{Order.Accepts, Order.Refuses, Sound.IsSound};
-ghost use Rattle.dd_query.specs.Sound.{IsQueryWithin};
 ghost use Rattle.dd_meanings.specs.Sound.{IsSoundMeaning};
-ghost use Rattle.dd_script.specs.{Kept.IsScriptOf, Walk.start, Walk.asked_fault, drafting.Standing.IsReady};
-ghost use Rattle.dd_script.specs.drafting.Drafts.{parts_of, draft_of, with_meaning, fault_at, Means, Leaves};
+ghost use Rattle.dd_script.specs.{Kept.IsScriptOf, Walk.start, Walk.asked_fault};
+ghost use Rattle.dd_script.specs.Drafts.{parts_of, draft_of, with_meaning, fault_at, Means};
 
-use crate::known::{restrict, set_nodes, set_symbols, start};
+use crate::known::{allow_all, numbers_below, start};
 use crate::questions::{limit_of, question_of};
 use crate::script::{Contents, Made, Script};
 use dd_commands::Written;
 use dd_faults::{Context, Fault, Refusal, check};
 use dd_meanings::{Meaning, add_new, mean};
-use dd_query::Query;
 use dd_topology::Names;
 use dd_values::{Boxed, Items};
 use dd_written::{Name, Text, Word, name_text};
@@ -30,23 +29,14 @@ pub(crate) struct Draft {
     pub(crate) made: Made,
 }
 
-/// Adds an item and its name, which is not there yet. More names than any script has are taken for want of memory.
-fn add_named<T: Drop>(
-    alloc: Global,
-    text: &Text,
-    names: &mut Names,
-    items: &mut Items<T>,
-    name: Word,
-    item: T,
-) -> Result<(), AllocError>
+/// Adds a name that is not there yet. More names than any script has are taken for want of memory.
+fn add_name(alloc: Global, text: &Text, names: &mut Names, name: Word) -> Result<(), AllocError>
     requires { ¬ Contains names.old (word_text text.now name) }
-    ensures names { OnOk result (names.new ≡ names.old ++ word_text text.now name ∷ []) }
-    ensures items { OnOk result (items.new ≡ items.old ++ item ∷ []) }
+    ensures { OnOk result (names.new ≡ names.old ++ word_text text.now name ∷ []) }
 {
     if names.count() > TOO_MANY {
         return Err(AllocError);
     }
-    items.push(item)?;
     add_new(alloc, names, name_text(text, Name::Word(name)))
 }
 
@@ -73,14 +63,42 @@ impl Draft {
         })
     }
 
-    /// Adds what a command means.
-    fn add(&mut self, alloc: Global, meaning: Meaning) -> Result<(), AllocError>
+    /// Refuses a query that asks for too much work.
+    fn weigh(&self, alloc: Global, meaning: &Meaning) -> Result<(), Refusal>
+        requires script { IsScriptOf (parts_of self.now) }
+        requires sound { IsSoundMeaning self.now.context meaning.now }
+        ensures { Accepts result (asked_fault (parts_of self.now) meaning.now) }
+    {
+        let Meaning::Query(query) = meaning else {
+            return Ok(());
+        };
+        let known = &self.context.known;
+        match question_of(known, &self.made, query).excess(alloc, &known.limits)? {
+            Some(excess) => Err(Refusal::At(Fault::Size(limit_of(excess)))),
+            None => Ok(()),
+        }
+    }
+
+    /// What the next command means; or it is refused for its first fault.
+    pub(crate) fn meaning_of(&self, alloc: Global, written: &Written) -> Result<Meaning, Refusal>
+        requires written { IsWritten self.now.context.text written.now }
+        requires script { IsScriptOf (parts_of self.now) }
+        ensures { MatchResult result (Means self.now written.now) (λ refusal. Refuses refusal (fault_at self.now written.now)) }
+    {
+        check(alloc, &self.context, written)?;
+        let meaning = mean(alloc, &self.context, self.made.automata.as_slice(), written)?;
+        self.weigh(alloc, &meaning)?;
+        Ok(meaning)
+    }
+
+    /// Goes behind the next command, which means this.
+    pub(crate) fn add(&mut self, alloc: Global, meaning: Meaning) -> Result<(), AllocError>
+        requires counted { self.old.context.number ≤ most_commands }
         requires sound { IsSound self.old.context.known }
         requires meaning { IsSoundMeaning self.old.context meaning }
-        ensures added { OnOk result (self.new ≡ with_meaning self.old meaning) }
-        ensures text { self.new.context.text ≡ self.old.context.text }
-        ensures number { self.new.context.number ≡ self.old.context.number }
+        ensures { OnOk result (self.new ≡ with_meaning self.old meaning) }
     {
+        self.context.number += 1;
         let text = &self.context.text;
         let known = &mut self.context.known;
         let made = &mut self.made;
@@ -93,9 +111,22 @@ impl Draft {
                 nodes,
                 given,
                 topology,
-            } => set_nodes(alloc, known, nodes, given, topology),
-            Meaning::Symbols(symbols) => set_symbols(alloc, known, symbols),
-            Meaning::Only { node, symbols } => restrict(known, node, symbols),
+            } => {
+                known.setting.nodes = nodes;
+                known.setting.topology = topology;
+                known.nodes_are_given = given;
+                allow_all(alloc, known)
+            }
+            Meaning::Symbols(symbols) => {
+                known.weights = Items::from_vec(numbers_below(alloc, symbols.count())?);
+                known.setting.symbols = symbols;
+                allow_all(alloc, known)
+            }
+            Meaning::Only { node, symbols } => {
+                known.restricted.push(node)?;
+                known.setting.sets.restrict(node, symbols.as_slice());
+                Ok(())
+            }
             Meaning::Weights(weights) => {
                 known.weights = weights;
                 Ok(())
@@ -105,89 +136,22 @@ impl Draft {
                 Ok(())
             }
             Meaning::Rule { name, rule } => {
-                add_named(alloc, text, &mut known.rules, &mut made.rules, name, rule)
+                made.rules.push(rule)?;
+                add_name(alloc, text, &mut known.rules, name)
             }
             Meaning::Automaton { name, automaton } => {
-                add_named(
-                    alloc,
-                    text,
-                    &mut known.automata,
-                    &mut made.automata,
-                    name,
-                    automaton,
-                )
+                made.automata.push(automaton)?;
+                add_name(alloc, text, &mut known.automata, name)
             }
             Meaning::Configuration {
                 name,
                 configuration,
-            } => add_named(
-                alloc,
-                text,
-                &mut known.configurations,
-                &mut made.configurations,
-                name,
-                configuration,
-            ),
+            } => {
+                made.configurations.push(configuration)?;
+                add_name(alloc, text, &mut known.configurations, name)
+            }
             Meaning::Query(query) => made.queries.push(query),
         }
-    }
-
-    /// Refuses a query that asks for too much work.
-    fn check_query(&self, alloc: Global, query: &Query) -> Result<(), Refusal>
-        requires script { IsScriptOf (parts_of self.now) }
-        requires within { IsQueryWithin self.now.context.known query.now }
-        ensures { Accepts result (asked_fault (parts_of self.now) (Meaning.Query query.now)) }
-    {
-        let known = &self.context.known;
-        match question_of(known, &self.made, query).excess(alloc, &known.limits)? {
-            Some(excess) => Err(Refusal::At(Fault::Size(limit_of(excess)))),
-            None => Ok(()),
-        }
-    }
-
-    /// Gives a meaning back; or refuses a query that asks for too much work.
-    fn weigh(&self, alloc: Global, meaning: Meaning) -> Result<Meaning, Refusal>
-        requires script { IsScriptOf (parts_of self.now) }
-        requires sound { IsSoundMeaning self.now.context meaning }
-        ensures work { Accepts result (asked_fault (parts_of self.now) meaning) }
-        ensures same { IfOk result (λ given. given ≡ meaning) }
-    {
-        match meaning {
-            Meaning::Query(query) => {
-                self.check_query(alloc, &query)?;
-                Ok(Meaning::Query(query))
-            }
-            other => Ok(other),
-        }
-    }
-
-    /// What the next command means; or it is refused for its first fault.
-    fn meaning_of(&self, alloc: Global, written: &Written) -> Result<Meaning, Refusal>
-        requires written { IsWritten self.now.context.text written.now }
-        requires script { IsScriptOf (parts_of self.now) }
-        ensures { MatchResult result (Means self.now written.now) (λ refusal. Refuses refusal (fault_at self.now written.now)) }
-    {
-        check(alloc, &self.context, written)?;
-        let meaning = mean(alloc, &self.context, self.made.automata.as_slice(), written)?;
-        self.weigh(alloc, meaning)
-    }
-
-    /// Goes behind the next command; or refuses it for its first fault.
-    pub(crate) fn step(&mut self, alloc: Global, written: &Written) -> Result<(), Refusal>
-        requires written { IsWritten self.old.context.text written.now }
-        requires script { IsScriptOf (parts_of self.old) }
-        requires ready { IsReady (stage_of written.now) (parts_of self.old) }
-        ensures left { OnOk result (Leaves self.old written.now self.new) }
-        ensures refused { IfErr result (λ refusal. Refuses refusal (fault_at self.old written.now)) }
-        ensures text { self.new.context.text ≡ self.old.context.text }
-        ensures number { OnErr result (self.new.context.number ≡ self.old.context.number) }
-    {
-        let meaning = self.meaning_of(alloc, written)?;
-        self.add(alloc, meaning)?;
-        // Each node allows some symbols.
-        let _symbols = self.context.known.setting.sets.symbols();
-        self.context.number += 1;
-        Ok(())
     }
 
     /// The script behind the last command.

@@ -1,7 +1,7 @@
 //! Why a text is no script.
 ghost use Rattle.std.specs.Prelude.{◌≡◌};
 ghost use Rattle.dd_script.specs.declared.fault.ScriptKind.TheVariants as refused;
-ghost use Rattle.dd_script.specs.drafting.Drafts.{IsUnread};
+ghost use Rattle.dd_script.specs.Drafts.{IsUnread};
 
 use dd_commands::SyntaxFault;
 use dd_faults::Limit;

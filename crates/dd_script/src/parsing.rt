@@ -1,10 +1,9 @@
 //! Reading scripts: the commands of a text, one after the other.
-ghost use Rattle.std.specs.Prelude.{◌≡◌, ◌≤◌, length, All, IfOk, IfErr, OnOk};
+ghost use Rattle.std.specs.Prelude.{◌≡◌, ◌≤◌, length, All, IfOk, IfErr};
 ghost use Rattle.dd_values.specs.Bounds.{most_script};
 ghost use Rattle.dd_commands.specs.Scripts.{IsScript, IsWritten};
 ghost use Rattle.dd_script.specs.Scripts.{Spells, HasFault, kind_of, IsScriptRefusal};
-ghost use Rattle.dd_script.specs.{Kept.IsScriptOf, Walk.start, Walk.is_topology, Walk.has_topology};
-ghost use Rattle.dd_script.specs.drafting.Drafts.{parts_of, draft_of};
+ghost use Rattle.dd_script.specs.Walk.{is_topology, has_topology};
 
 use crate::draft::Draft;
 use crate::fault::{ScriptFault, ScriptKind};
@@ -47,19 +46,21 @@ fn told(alloc: Global, text: &Text, command: u32, fault: Fault) -> Result<Script
     Ok(ScriptFault { command, kind })
 }
 
-/// Goes behind the last of the commands of a text; or tells of the first command with a fault, and its first fault.
-fn walk(alloc: Global, draft: &mut Draft, commands: &[Written]) -> Result<(), ScriptFault>
-    requires begun { draft.old ≡ draft_of draft.old.context.text (has_topology commands.now) 1 start }
-    requires kept { IsScriptOf start }
-    requires written { IsScript draft.old.context.text (record { text = draft.old.context.text; commands = commands.now }) }
-    requires each { All (IsWritten draft.old.context.text) commands.now }
-    ensures spelled { OnOk result (Spells draft.old.context.text (parts_of draft.new)) }
-    ensures kept { OnOk result (IsScriptOf (parts_of draft.new)) }
-    ensures refused { IfErr result (IsScriptRefusal draft.old.context.text) }
+/// The script that the commands of a text spell; or the first command with a fault, and its first fault.
+fn script_of(alloc: Global, text: Text, commands: &[Written]) -> Result<Script, ScriptFault>
+    requires written { IsScript text (record { text = text; commands = commands.now }) }
+    requires each { All (IsWritten text) commands.now }
+    ensures spelled { IfOk result (Spells text) }
+    ensures refused { IfErr result (IsScriptRefusal text) }
 {
+    let mut draft = Draft::new(alloc, text, has_topology(commands))?;
     for written in commands {
-        match draft.step(alloc, written) {
-            Ok(()) => {}
+        match draft.meaning_of(alloc, written) {
+            Ok(meaning) => {
+                draft.add(alloc, meaning)?;
+                // Read for what its type keeps.
+                let _symbols = draft.context.known.setting.sets.symbols();
+            }
             Err(Refusal::Memory) => return Err(ScriptFault::from(AllocError)),
             Err(Refusal::At(fault)) => {
                 let context = &draft.context;
@@ -67,26 +68,7 @@ fn walk(alloc: Global, draft: &mut Draft, commands: &[Written]) -> Result<(), Sc
             }
         }
     }
-    Ok(())
-}
-
-/// The script of what is written; or the first command with a fault, and its first fault.
-fn script_of(alloc: Global, syntax: Syntax) -> Result<Script, ScriptFault>
-    requires written { IsScript syntax.text syntax }
-    requires each { All (IsWritten syntax.text) syntax.commands }
-    ensures spelled { IfOk result (Spells syntax.text) }
-    ensures refused { IfErr result (IsScriptRefusal syntax.text) }
-{
-    let Syntax { text, commands } = syntax;
-    let written = commands.as_slice();
-    let mut draft = Draft::new(alloc, text, has_topology(written))?;
-    match walk(alloc, &mut draft, written) {
-        Ok(()) => Ok(draft.into_script(alloc)?),
-        Err(fault) => {
-            drop(draft);
-            Err(fault)
-        }
-    }
+    Ok(draft.into_script(alloc)?)
 }
 
 /// The script that the bytes spell, or why they spell none.
@@ -100,5 +82,6 @@ pub fn parse(alloc: Global, bytes: &[u8]) -> Result<Script, ScriptFault>
     ensures spelled { IfOk result (Spells bytes.now) }
     ensures refused { IfErr result (IsScriptRefusal bytes.now) }
 {
-    script_of(alloc, read(alloc, bytes)?)
+    let Syntax { text, commands } = read(alloc, bytes)?;
+    script_of(alloc, text, commands.as_slice())
 }

@@ -1,8 +1,8 @@
 //! Formulas, read from left to right.
-ghost use Rattle.std.specs.Prelude.{◌≡◌, length, Some};
-ghost use Rattle.dd_written.specs.reading.Readers.{Gives, with_front};
+ghost use Rattle.std.specs.Prelude.{◌≡◌, Some};
+ghost use Rattle.dd_written.specs.reading.Readers.{Gives};
 ghost use Rattle.dd_written.specs.reading.Atoms.{name_at, moves_at, term_at, side_at, relation_at, leaf_at, balls_at, quantifier_at};
-ghost use Rattle.dd_written.specs.reading.Formulas.{begins, part_at, more_at, chain_at, quantified_at, group_at, nested_at, unary_at, formula_at};
+ghost use Rattle.dd_written.specs.reading.Formulas.{begins, part_at, chain_at, quantified_at, nested_at, unary_at, formula_at};
 
 use crate::depth::{MOST_DEEP, capped_depth};
 use crate::fault::{Read, ReadFault};
@@ -156,7 +156,13 @@ fn nested(alloc: Global, budget: u32, tokens: &[Lexeme]) -> Read<'_, Formula>
         [Lexeme::Mark(Mark::Exists), rest @ ..] => {
             quantified(alloc, budget, Quantifier::Exists, rest)
         }
-        [Lexeme::Mark(Mark::Open), rest @ ..] => group(alloc, budget, rest),
+        [Lexeme::Mark(Mark::Open), rest @ ..] => {
+            let (inner, rest) = chain(alloc, budget, Join::Iff, rest)?;
+            let [Lexeme::Mark(Mark::Close), rest @ ..] = rest else {
+                return Err(ReadFault::Syntax);
+            };
+            Ok((Formula::Group(Boxed::new(alloc, inner)?), rest))
+        }
         _ => leaf(alloc, tokens),
     }
 }
@@ -174,17 +180,6 @@ fn quantified(alloc: Global, budget: u32, kind: Quantifier, tokens: &[Lexeme]) -
         body: Boxed::new(alloc, body)?,
     };
     Ok((formula, rest))
-}
-
-#[cycle(read)]
-fn group(alloc: Global, budget: u32, tokens: &[Lexeme]) -> Read<'_, Formula>
-    ensures { Gives (λ x. (x.0, x.1.now)) result (group_at (unary_at budget) tokens.now) }
-{
-    let (inner, rest) = chain(alloc, budget, Join::Iff, tokens)?;
-    let [Lexeme::Mark(Mark::Close), rest @ ..] = rest else {
-        return Err(ReadFault::Syntax);
-    };
-    Ok((Formula::Group(Boxed::new(alloc, inner)?), rest))
 }
 
 /// A part of a chain: the looser a sign binds, the looser are those that its parts may hold.
@@ -205,36 +200,21 @@ fn part(alloc: Global, budget: u32, join: Join, tokens: &[Lexeme]) -> Read<'_, F
 fn chain(alloc: Global, budget: u32, join: Join, tokens: &[Lexeme]) -> Read<'_, Formula>
     ensures { Gives (λ x. (x.0, x.1.now)) result (chain_at join (part_at join (unary_at budget)) tokens.now) }
 {
-    let (first, rest) = part(alloc, budget, join, tokens)?;
+    let (first, mut rest) = part(alloc, budget, join, tokens)?;
     if !begins(join, rest) {
         return Ok((first, rest));
     }
-    let mut front = Items::new(alloc);
-    front.push(first)?;
-    let (parts, rest) = more_parts(alloc, budget, join, front, rest)?;
-    Ok((Formula::Chain { join, parts }, rest))
-}
-
-#[cycle(read)]
-fn more_parts(
-    alloc: Global,
-    budget: u32,
-    join: Join,
-    mut parts: Items<Formula>,
-    tokens: &[Lexeme],
-) -> Read<'_, Items<Formula>>
-    ensures { Gives (λ x. (x.0, x.1.now)) result (with_front parts (more_at join (part_at join (unary_at budget)) (length tokens.now) tokens.now)) }
-{
-    let mut rest = tokens;
-    for _ in 0..tokens.len() {
+    let mut parts = Items::new(alloc);
+    parts.push(first)?;
+    for _ in 0..rest.len() {
         if !begins(join, rest) {
-            return Ok((parts, rest));
+            break;
         }
         let (next, after) = part(alloc, budget, join, rest.split_at(1).1)?;
         parts.push(next)?;
         rest = after;
     }
-    Ok((parts, rest))
+    Ok((Formula::Chain { join, parts }, rest))
 }
 
 /// A formula of a depth of at most 64 at the front, as far as it goes, and the tokens behind it.

@@ -2,7 +2,7 @@
 use Rattle.std.proofs.Common.{◌≡◌, ℕ, ◌<◌, List, [], ◌∷◌, ◌++◌, map, length, Some, None, refl, sym, ap, subst, ◌∙◌, arith, codes, flat_map, append-nil, length-append}
 use Rattle.dd_commands.specs.Tree.{Word, Lexeme, Name, Head, Case, Command}
 use Rattle.dd_written.specs.{Formulas.text, Formulas.name_lexeme, lemmas.Many.few_items}
-use Rattle.dd_written.specs.reading.{Readers.ReadsAll, Laws.FormulasAreRead}
+use Rattle.dd_written.specs.reading.Laws.{FormulasAreRead}
 use Rattle.dd_commands.specs.{Heads.head_text, Heads.head_of, Heads.kind_text}
 use Rattle.dd_commands.specs.Commands.{vector_text, second_vector_text, edge_text, IsBehind, IsCase, AreCases, IsBody, IsCommand}
 use Rattle.dd_commands.specs.reading.{Forms.Form, Forms.made, Forms.both, Forms.◌▸◌, Forms.each_at, Vectors.word_at, Vectors.name, Vectors.plain}
@@ -40,19 +40,13 @@ module _ (law : FormulasAreRead) where
     case_shorter : (c : Case) (tokens rest : List Lexeme) → IsCase bytes c tokens rest → length rest < length tokens
     case_shorter c tokens rest is = omega (arith, ap length is.when.2, ap length is.give.2, length-append (text c.condition) is.middle)
 
-    cases_written : (tokens : List Lexeme) (cs : List Case) (rest : List Lexeme) → each_at (case_at bytes) tokens ≡ Some (cs, rest) → ReadsAll (IsCase bytes) cs tokens rest
-    cases_written tokens = most_written (IsCase bytes) (case_at bytes) case_written case_again (length tokens) tokens
-
-    cases_again : (cs : List Case) (tokens rest : List Lexeme) → ReadsAll (IsCase bytes) cs tokens rest → case_at bytes rest ≡ None → each_at (case_at bytes) tokens ≡ Some (cs, rest)
-    cases_again cs tokens rest are ended =
-        most_read (IsCase bytes) (case_at bytes) case_written case_again (length tokens) cs tokens rest (few_items (IsCase bytes) case_shorter cs tokens rest are) (λ lt. ended) are
-
     automaton_written : (tokens : List Lexeme) (x : Word × (List Case × (Word × Name))) → automaton_at bytes tokens ≡ Some (x, []) → (rest : List Lexeme) × (tokens ≡ Lexeme.Word x.0 ∷ rest) × AreCases bytes x.1.0 x.1.1.1 rest
     automaton_written tokens x e =
         let p = both_is word_at (both (each_at (case_at bytes)) (wanted bytes (codes "else") ▸ name).item) tokens x [] e in
         let q = both_is (each_at (case_at bytes)) (wanted bytes (codes "else") ▸ name).item p.0 x.1 [] p.2 in
         let last = (end_reads (codes "else")).written q.0 x.1.1 [] q.2 in
-        (p.0, word_written tokens x.0 p.0 p.1, record { last = q.0; before = cases_written p.0 x.1.0 q.0 q.1; otherwise = (x.1.1.0, last.0.0.0, last.1) })
+        let cases = most_written (IsCase bytes) (case_at bytes) case_written case_again (length p.0) p.0 x.1.0 q.0 q.1 in
+        (p.0, word_written tokens x.0 p.0 p.1, record { last = q.0; before = cases; otherwise = (x.1.1.0, last.0.0.0, last.1) })
 
     -- ---- bodies
 
@@ -101,7 +95,8 @@ module _ (law : FormulasAreRead) where
         let otherwise = is.2.otherwise in
         let ended : case_at bytes is.2.last ≡ None = rw (otherwise.2, otherwise.1) refl in
         let last = (end_reads (codes "else")).read (otherwise.0, symbol) [] ((otherwise.1, tt), tt) tt in
-        rw (is.1, cases_again cases is.0 is.2.last is.2.before ended, otherwise.2, last) refl
+        let few = few_items (IsCase bytes) case_shorter cases is.0 is.2.last is.2.before in
+        rw (is.1, most_read (IsCase bytes) (case_at bytes) case_written case_again (length is.0) cases is.0 is.2.last few (λ lt. ended) is.2.before, otherwise.2, last) refl
     body_again (Command.Configuration name periods shear ns) tokens is =
         let last = map name_lexeme ns in
         rw (is.3, plain_reads.read periods (second_vector_text shear ++ last) (is.1, tt) tt, shear_reads.read shear last is.2 (subst (λ (ts : List Lexeme). plain.item ts ≡ None) (append-nil last) (no_shear ns [] (is.0, tt))), names_last ns is.0) refl

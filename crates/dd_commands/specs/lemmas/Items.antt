@@ -40,22 +40,16 @@ entry_again (Entry.Negative n) rest = refl
 entry_reads : Reads (single entry_lexeme entry_at)
 entry_reads = record { written = λ tokens x rest e. (tt, entry_written tokens x rest e); read = λ x rest any end. entry_again x rest; last = tt }
 
-same_again : (m : Mark) → same_mark m m ≡ true
-unfolding same_mark
-same_again m = true_same the_type m m refl
-
-same_one : (m n : Mark) → same_mark m n ≡ true → m ≡ n
-unfolding same_mark
-same_one m n e = same_true the_type tt m n e
-
 sign_written : (m : Mark) (tokens : List Lexeme) (x : Unit {0}) (rest : List Lexeme) → mark_at m tokens ≡ Some (x, rest) → tokens ≡ Lexeme.Mark m ∷ rest
+unfolding same_mark
 sign_written m (Lexeme.Mark n ∷ tokens) x rest e =
     let same = cond_some (same_mark n m) (tt, tokens) (x, rest) e in
-    rw (same_one n m same.0) (ap (λ (y : Unit {0} × List Lexeme). Lexeme.Mark m ∷ y.1) same.1)
+    rw (same_true the_type tt n m same.0) (ap (λ (y : Unit {0} × List Lexeme). Lexeme.Mark m ∷ y.1) same.1)
 sign_written m tokens x rest e = absurd cc
 
 sign_reads : (m : Mark) → Reads (sign m)
-sign_reads m = record { written = λ tokens x rest e. (tt, sign_written m tokens x rest e); read = λ x rest any end. rw (same_again m) refl; last = tt }
+unfolding same_mark
+sign_reads m = record { written = λ tokens x rest e. (tt, sign_written m tokens x rest e); read = λ x rest any end. rw (true_same the_type m m refl) refl; last = tt }
 
 -- ---- vectors
 

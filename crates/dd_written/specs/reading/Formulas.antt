@@ -48,18 +48,15 @@ abbrev pub group_end : Formula → Reader Formula
 group_end f (Lexeme.Mark Mark.Close ∷ tokens) = Some (roll-Formula (Formula-F.Group f), tokens)
 group_end f tokens = None
 
-abbrev pub group_at : Reader Formula → Reader Formula
-group_at unary tokens = do
-  f ← level_at unary 4 tokens
-  group_end f.0 f.1
-
 abbrev pub nested_at : Reader Formula → Reader Formula
 nested_at unary (Lexeme.Mark Mark.Not ∷ tokens) = do
   f ← unary tokens
   Some (roll-Formula (Formula-F.Not f.0), f.1)
 nested_at unary (Lexeme.Mark Mark.All ∷ tokens) = quantified_at unary Quantifier.All tokens
 nested_at unary (Lexeme.Mark Mark.Exists ∷ tokens) = quantified_at unary Quantifier.Exists tokens
-nested_at unary (Lexeme.Mark Mark.Open ∷ tokens) = group_at unary tokens
+nested_at unary (Lexeme.Mark Mark.Open ∷ tokens) = do
+  f ← level_at unary 4 tokens
+  group_end f.0 f.1
 nested_at unary tokens = leaf_at tokens
 
 -- a formula of the tightest place, with at most so many of `!`, quantifiers and parentheses in one another

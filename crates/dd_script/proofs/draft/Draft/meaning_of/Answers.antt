@@ -1,6 +1,7 @@
+use Rattle.std.proofs.lemmas.Result.{err_from_is_err_and}
 use Rattle.dd_faults.specs.Commands.{written_faults}
 use Rattle.dd_faults.specs.lemmas.Nothing.{none_first}
-use Rattle.dd_script.proofs.Walking.{weighed}
+use Rattle.dd_script.proofs.Walking.{asked_is, means}
 use Rattle.dd_script.proofs.draft.Draft.meaning_of.Goals as goal
 
 pub mean-requires-clause-named : goal.mean-requires-clause-named
@@ -15,7 +16,13 @@ mean-requires-clause-faultless c = none_first (written_faults c.args.self.now.co
 pub weigh-requires-clause-sound : goal.weigh-requires-clause-sound
 weigh-requires-clause-sound c = rw c.in_ok-meaning.ensures.exact.1 c.in_ok-meaning.ensures.sound
 
+pub returns-in_err-weigh : goal.returns-in_err-weigh
+returns-in_err-weigh c =
+    let exact = rw c.as_slice.ensures at c.in_ok-meaning.ensures.exact in
+    let p = err_from_is_err_and c.from_residual-in_err-weigh.result c.from_residual-in_err-weigh.ensures.1 in
+    rw (p.1, p.2, asked_is c.args.self.now c.args.written.now c.in_ok-meaning.meaning c.in_ok-check.ensures exact.0 exact.1) c.in_err-weigh.ensures
+
 pub returns : goal.returns
 returns c =
-    let exact = c.in_ok-meaning.ensures.exact in
-    weighed _ _ _ c.as_slice.ensures _ c.in_ok-check.ensures exact (rw exact.1 c.in_ok-meaning.ensures.sound) _ c.weigh.ensures.work c.weigh.ensures.same
+    let exact = rw c.as_slice.ensures at c.in_ok-meaning.ensures.exact in
+    means _ _ _ c.in_ok-check.ensures exact.0 exact.1 (rw c.as_slice.ensures at c.in_ok-meaning.ensures.sound) c.in_ok-weigh.ensures

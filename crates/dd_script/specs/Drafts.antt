@@ -4,8 +4,8 @@ use Rattle.dd_values.specs.Bounds.{most_commands}
 use Rattle.dd_script.specs.Tree.{SyntaxFault}
 use Rattle.dd_meanings.specs.Sound.{IsSoundMeaning}
 use Rattle.dd_script.specs.{declared.draft.Draft.Draft, declared.fault.ScriptFault.ScriptFault, declared.fault.ScriptKind.ScriptKind}
-use Rattle.dd_script.specs.{Parts.Parts, Parts.parts, Kept.IsScriptOf, drafting.Standing.IsReady}
-use Rattle.dd_script.specs.Walk.{with, context, asked_fault, meaning_at, fault_of, next, Written, stage_of, Fault, Meaning}
+use Rattle.dd_script.specs.{Parts.Parts, Parts.parts}
+use Rattle.dd_script.specs.Walk.{with, context, asked_fault, meaning_at, fault_of, Written, Fault, Meaning}
 
 abbrev pub parts_of : Draft → Parts
 parts_of d = parts d.context.known d.made
@@ -18,9 +18,9 @@ draft_of text topology n s =
       made = record { rules = s.rules; automata = s.automata; configurations = s.configurations; queries = s.queries };
     }
 
--- with another meaning
+-- behind a command that means this
 abbrev pub with_meaning : Draft → Meaning → Draft
-with_meaning d m = draft_of d.context.text d.context.has_topology d.context.number (with d.context.text (parts_of d) m)
+with_meaning d m = draft_of d.context.text d.context.has_topology (d.context.number + 1) (with d.context.text (parts_of d) m)
 
 -- the first fault of the next command
 abbrev pub fault_at : Draft → Written → Option Fault
@@ -33,17 +33,6 @@ pub record Means (d : Draft) (w : Written) (m : Meaning) : Type 0 where
   pub sound : IsSoundMeaning d.context m
   pub light : asked_fault (parts_of d) m ≡ None
   pub counted : d.context.number ≤ most_commands
-
--- behind the next command
-abbrev pub behind : Draft → Written → Draft
-behind d w = draft_of d.context.text d.context.has_topology (d.context.number + 1) (next d.context.text d.context.has_topology d.context.number (parts_of d) w)
-
--- the command has no fault, and what is left behind it is a script again, in which the header has defined nothing
-pub record Leaves (d : Draft) (w : Written) (e : Draft) : Type 0 where
-  pub faultless : fault_at d w ≡ None
-  pub left : e ≡ behind d w
-  pub script : IsScriptOf (parts_of (behind d w))
-  pub fresh : IsReady (stage_of w) (parts_of (behind d w))
 
 -- the command that is not well formed; or memory was wanting
 abbrev pub IsUnread : SyntaxFault → ScriptFault → Type 0
