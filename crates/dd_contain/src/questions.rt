@@ -100,6 +100,7 @@ impl<'a> Questions for BoxQuestion<'a> {
         match outcome(self.alloc, &cnf, roster)? {
             Outcome::Found(found) => {
                 let periodic = read_torus(self.alloc, self.premise, periods, at.shear, &found)?;
+                // Read for what its type keeps.
                 let _symbols = periodic.symbols();
                 Ok(Some(periodic))
             }

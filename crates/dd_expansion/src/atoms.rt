@@ -1,6 +1,6 @@
 //! The expansions of atoms, each paid from a budget of nodes.
 ghost use Rattle.std.specs.Prelude.{◌≡◌, ◌+◌, ◌<◌, ◌==◌, IfOk, OnOk, IfErr};
-ghost use Rattle.dd_topology.specs.Balls.{is_adjacent, same_place};
+ghost use Rattle.dd_topology.specs.Balls.{is_adjacent};
 ghost use Rattle.dd_expansion.specs.Terms.{same_cell};
 ghost use Rattle.dd_expansion.specs.Leaves.{instances};
 ghost use Rattle.dd_expansion.specs.Expansion.{constant, leaf, negated, both_have, equal_at, at_cell, at_cells};
@@ -8,7 +8,7 @@ ghost use Rattle.dd_expansion.specs.expanding.Budget.{IsPaid};
 
 use crate::expanded::Expanded;
 use crate::fault::ExpansionFault;
-use dd_lattice::{Cell, Position};
+use dd_lattice::Cell;
 use dd_topology::Topology;
 use dd_values::{Boxed, Items};
 use std::alloc::{AllocError, Global};
@@ -56,12 +56,12 @@ pub(crate) fn negated(
 /// The symbol at a cell is this one.
 pub(crate) fn symbol_at(
     symbol: u32,
-    place: Option<Cell>,
+    cell: Option<Cell>,
     budget: &mut u32,
 ) -> Result<Expanded, ExpansionFault>
-    ensures { IsPaid budget.old budget.new (at_cell (leaf symbol) place) (instances (at_cell (leaf symbol) place)) result }
+    ensures { IsPaid budget.old budget.new (at_cell (leaf symbol) cell) (instances (at_cell (leaf symbol) cell)) result }
 {
-    match place {
+    match cell {
         Some(cell) => leaf(symbol, cell, budget),
         None => constant(false, budget),
     }
@@ -83,13 +83,13 @@ fn negated_leaf(
 pub(crate) fn no_symbol_at(
     alloc: Global,
     symbol: u32,
-    place: Option<Cell>,
+    cell: Option<Cell>,
     budget: &mut u32,
 ) -> Result<Expanded, ExpansionFault>
-    ensures { let e = at_cell (λ c. negated (leaf symbol c)) place in
+    ensures { let e = at_cell (λ c. negated (leaf symbol c)) cell in
         IsPaid budget.old budget.new e (instances e) result }
 {
-    match place {
+    match cell {
         Some(cell) => negated_leaf(alloc, symbol, cell, budget),
         None => constant(false, budget),
     }
@@ -147,12 +147,9 @@ pub(crate) fn same_at(
     ensures { let e = at_cells (equal_at symbols) first second in
         IsPaid budget.old budget.new e (instances e) result }
 {
-    match first {
-        Some(a) => match second {
-            Some(b) => equal_at(alloc, symbols, &a, &b, budget),
-            None => constant(false, budget),
-        },
-        None => constant(false, budget),
+    match (first, second) {
+        (Some(a), Some(b)) => equal_at(alloc, symbols, &a, &b, budget),
+        _ => constant(false, budget),
     }
 }
 
@@ -181,12 +178,9 @@ pub(crate) fn not_same_at(
     ensures { let e = at_cells (λ c d. negated (equal_at symbols c d)) first second in
         IsPaid budget.old budget.new e (instances e) result }
 {
-    match first {
-        Some(a) => match second {
-            Some(b) => unequal_at(alloc, symbols, &a, &b, budget),
-            None => constant(false, budget),
-        },
-        None => constant(false, budget),
+    match (first, second) {
+        (Some(a), Some(b)) => unequal_at(alloc, symbols, &a, &b, budget),
+        _ => constant(false, budget),
     }
 }
 
@@ -200,25 +194,16 @@ pub(crate) fn adjacent_at(
     ensures { let e = at_cells (λ c d. constant (is_adjacent topology.now.edges c d)) first second in
         IsPaid budget.old budget.new e (instances e) result }
 {
-    match first {
-        Some(a) => match second {
-            Some(b) => constant(topology.adjacent(&a, &b), budget),
-            None => constant(false, budget),
-        },
-        None => constant(false, budget),
+    match (first, second) {
+        (Some(a), Some(b)) => constant(topology.adjacent(&a, &b), budget),
+        _ => constant(false, budget),
     }
-}
-
-fn same_position(p: &Position, q: &Position) -> bool
-    ensures { result ≡ same_place p.now q.now }
-{
-    p.x == q.x && p.y == q.y && p.z == q.z
 }
 
 fn same_cell(a: &Cell, b: &Cell) -> bool
     ensures { result ≡ same_cell a.now b.now }
 {
-    same_position(&a.position, &b.position) && a.node == b.node
+    a == b
 }
 
 /// The two cells are the same cell.
@@ -230,25 +215,22 @@ pub(crate) fn place_at(
     ensures { let e = at_cells (λ c d. constant (same_cell c d)) first second in
         IsPaid budget.old budget.new e (instances e) result }
 {
-    match first {
-        Some(a) => match second {
-            Some(b) => constant(same_cell(&a, &b), budget),
-            None => constant(false, budget),
-        },
-        None => constant(false, budget),
+    match (first, second) {
+        (Some(a), Some(b)) => constant(same_cell(&a, &b), budget),
+        _ => constant(false, budget),
     }
 }
 
 /// The cell has this node.
 pub(crate) fn node_at(
     node: u32,
-    place: Option<Cell>,
+    cell: Option<Cell>,
     budget: &mut u32,
 ) -> Result<Expanded, ExpansionFault>
-    ensures { let e = at_cell (λ c. constant (c.node == node)) place in
+    ensures { let e = at_cell (λ c. constant (c.node == node)) cell in
         IsPaid budget.old budget.new e (instances e) result }
 {
-    match place {
+    match cell {
         Some(cell) => constant(cell.node == node, budget),
         None => constant(false, budget),
     }

@@ -8,7 +8,7 @@ use std::alloc::AllocError;
 use std::process::ExitCode;
 use std::{env, io};
 
-/// Ends a program whose words can't be had.
+/// Ends a program whose words the system doesn't give: the number behind those of `Status`.
 const NO_WORDS: u8 = 8;
 
 /// How many flips an engine walks for each list of clauses.

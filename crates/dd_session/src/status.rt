@@ -4,19 +4,19 @@
 #[derive(Clone, Copy, Debug, PartialEq, Eq)]
 pub enum Status {
     /// Every query has a definite answer.
-    Definite,
+    Definite = 0,
     /// Some answer is that it is not known within the stated limits.
-    SomeUnknown,
+    SomeUnknown = 1,
     /// The input was refused, and nothing was run.
-    Refused,
+    Refused = 2,
     /// The source failed.
-    ReadFault,
+    ReadFault = 3,
     /// The sink failed.
-    WriteFault,
+    WriteFault = 4,
     /// Memory was wanting.
-    Memory,
+    Memory = 5,
     /// The words ask for nothing that there is.
-    BadWords,
+    BadWords = 6,
     /// A checked answer is no certificate.
-    Rejected,
+    Rejected = 7,
 }

@@ -8,6 +8,7 @@ use crate::program::Program;
 pub fn one_stop(_program: &Program, _pivots: u32)
     ensures { HasOneStop _program.now _pivots }
 {
+    // Read for what its type keeps.
     let _columns = _program.columns();
 }
 
@@ -16,5 +17,6 @@ pub fn one_stop(_program: &Program, _pivots: u32)
 pub fn sound_pivots(_program: &Program)
     ensures { AreSoundDictionaries _program.now }
 {
+    // Read for what its type keeps.
     let _columns = _program.columns();
 }
