@@ -15,7 +15,7 @@ use Rattle.std.proofs.lemmas.List.Elements.{All-from_recursion, recursion_from_A
 use Rattle.dd_values.specs.Bounds.{most_variables}
 use Rattle.dd_output.specs.reading.Forms.{Form, nothing}
 use Rattle.dd_output.specs.reading.Lists.{variable_at, literal_entry, number_entry, positive_of, negative_of, entry_of, ended, items_of, literals, numbers_until}
-use Rattle.dd_output.proofs.Laws.{Reads, before_reads, map_reads, same_reads, choice_reads}
+use Rattle.dd_output.proofs.Readers.{Reads, before_reads, map_reads, same_reads, choice_reads}
 use Rattle.dd_output.proofs.Tokens.{word_reads, after_reads}
 use Rattle.dd_output.proofs.Numbers.{IsEnd, number_reads}
 use Rattle.dd_output.proofs.Entries.{entries_text, AllFrom, entry_fits, entry_text, entries_reads, shorter, unrolled_item}

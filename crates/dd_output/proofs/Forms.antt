@@ -11,7 +11,7 @@ use Rattle.std.proofs.lemmas.List.Concat.{flat_map-cons}
 use Rattle.std.proofs.lemmas.List.Elements.{All-from_recursion, recursion_from_All}
 use Rattle.dd_output.specs.reading.Stops.{Read, before, word_at, is_digit, number_at, then_at, map_at, many_at, copies, Entry, item, last}
 use Rattle.dd_output.specs.reading.Forms.{Form, nothing, word, number, both, after, mapped, either, counted_of, counted, last_of, item_of, fork_of, forked}
-use Rattle.dd_output.proofs.Laws.{Reads, before_reads, then_reads, map_reads, same_reads, many_reads, choice_reads}
+use Rattle.dd_output.proofs.Readers.{Reads, before_reads, then_reads, map_reads, same_reads, many_reads, choice_reads}
 use Rattle.dd_output.proofs.Tokens.{word_reads, after_reads}
 use Rattle.dd_output.proofs.Numbers.{IsEnd, number_reads}
 

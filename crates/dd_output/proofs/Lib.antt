@@ -1,4 +1,4 @@
-pub mod Laws
+pub mod Readers
 pub mod Tokens
 pub mod Numbers
 pub mod Entries

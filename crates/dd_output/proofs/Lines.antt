@@ -11,7 +11,7 @@ use Rattle.std.proofs.lemmas.List.Elements.{All-from_recursion, recursion_from_A
 use Rattle.dd_certificate.specs.Bounds.{most_number, IsWritableNumber, IsWritableSigned}
 use Rattle.dd_output.specs.reading.Stops.{Read, is_digit, number_at, map_at, Entry, item, last, entries_at}
 use Rattle.dd_output.specs.reading.Lists.{AtMost, is_last, end_at, other_at, zeros, line_entry_of, line_of, line_entry, numbers, signed_at, signed_entry, integers}
-use Rattle.dd_output.proofs.Laws.{Reads, map_reads, same_reads}
+use Rattle.dd_output.proofs.Readers.{Reads, map_reads, same_reads}
 use Rattle.dd_output.proofs.Numbers.{IsEnd, number_reads}
 use Rattle.dd_output.proofs.Signs.{signed_reads}
 use Rattle.dd_output.proofs.Entries.{entries_text, AllFrom, entry_fits, entry_text, entries_reads, shorter, unrolled_item}

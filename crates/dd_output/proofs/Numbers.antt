@@ -6,7 +6,7 @@ use Rattle.std.proofs.lemmas.Bool.{eqb-true, eq-eqb, ne_eqb, leb-true, le-leb, l
 use Rattle.std.proofs.lemmas.Fmt.{decimal_digit, decimal_step, decimal_by_steps}
 use Rattle.std.proofs.lemmas.List.{append-nil}
 use Rattle.dd_output.specs.reading.Stops.{Stop, stop, is_digit, goes_on, starts, digits_at, number_at}
-use Rattle.dd_output.proofs.Laws.{Halts, Reads}
+use Rattle.dd_output.proofs.Readers.{Halts, Reads}
 use Rattle.dd_output.proofs.Tokens.{chosen_ok, chosen_err}
 
 digit_bounds : (b : ℕ) → is_digit b ≡ true → (48 ≤ b) × (b ≤ 57)

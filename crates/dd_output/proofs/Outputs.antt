@@ -17,7 +17,7 @@ use Rattle.dd_output.specs.reading.Stops.{Read, before, word_at, number_at, byte
 use Rattle.dd_output.specs.reading.Lists.{items_of, ended}
 use Rattle.dd_output.specs.reading.Grammar.{answer_form}
 use Rattle.dd_output.specs.reading.Whole.{answer_entry_of, query_text, open_entry, answer_entry, answers_at, script_of, script_at, output_of, head_text, output_at}
-use Rattle.dd_output.proofs.Laws.{Reads, before_reads, then_reads, map_reads, same_reads, choice_reads}
+use Rattle.dd_output.proofs.Readers.{Reads, before_reads, then_reads, map_reads, same_reads, choice_reads}
 use Rattle.dd_output.proofs.Tokens.{word_reads, bytes_reads, after_reads}
 use Rattle.dd_output.proofs.Numbers.{number_reads}
 use Rattle.dd_output.proofs.Entries.{entries_text, AllFrom, entry_fits, entry_text, entries_reads, shorter, unrolled_item}

@@ -13,7 +13,7 @@ use Rattle.dd_certificate.specs.Bounds.{most_number, IsWritableNumber, HasShear}
 use Rattle.dd_output.specs.reading.Stops.{Read, number_at, Entry, item, last, entries_at, choice_at}
 use Rattle.dd_output.specs.reading.Forms.{Form, nothing, number, after}
 use Rattle.dd_output.specs.reading.Periods.{PeriodsEnd, ends, shears, period_of, period_at, shear_of, shear_at, period_entry, periods_of, periods}
-use Rattle.dd_output.proofs.Laws.{Reads, map_reads, same_reads, choice_reads}
+use Rattle.dd_output.proofs.Readers.{Reads, map_reads, same_reads, choice_reads}
 use Rattle.dd_output.proofs.Numbers.{number_reads}
 use Rattle.dd_output.proofs.Signs.{first_digit}
 use Rattle.dd_output.proofs.Entries.{entries_text, AllFrom, entry_fits, entry_text, entries_reads, shorter, unrolled_item}

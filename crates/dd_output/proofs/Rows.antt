@@ -16,7 +16,7 @@ use Rattle.dd_output.specs.reading.Forms.{word, number, both, after, mapped, eit
 use Rattle.dd_output.specs.reading.Lists.{zeros, numbers}
 use Rattle.dd_output.specs.reading.Periods.{periods}
 use Rattle.dd_output.specs.reading.Grammar as grammar
-use Rattle.dd_output.proofs.Laws.{Reads, then_reads}
+use Rattle.dd_output.proofs.Readers.{Reads, then_reads}
 use Rattle.dd_output.proofs.Numbers.{number_reads}
 use Rattle.dd_output.proofs.Signs.{first_digit}
 use Rattle.dd_output.proofs.Lines.{line_rest, LineFits, numbers_good}

@@ -6,7 +6,7 @@ use Rattle.std.proofs.lemmas.Bool.{ne_eqb}
 use Rattle.std.proofs.lemmas.Fmt.{decimal_digit, decimal_by_steps}
 use Rattle.dd_output.specs.reading.Stops.{is_digit, number_at, after_at, map_at}
 use Rattle.dd_output.specs.reading.Lists.{minus_of, plus_of, signed_at}
-use Rattle.dd_output.proofs.Laws.{Reads, map_reads, same_reads, choice_reads}
+use Rattle.dd_output.proofs.Readers.{Reads, map_reads, same_reads, choice_reads}
 use Rattle.dd_output.proofs.Tokens.{after_reads}
 use Rattle.dd_output.proofs.Numbers.{IsEnd, number_reads}
 use Rattle.dd_output.proofs.Forms.{InBounds, number_text}

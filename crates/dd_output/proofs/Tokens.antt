@@ -4,7 +4,7 @@ use Rattle.std.specs.Prelude.{◌==◌, nat_le, replicate}
 use Rattle.std.proofs.lemmas.Bool.{eqb-true, eq-eqb, leb-true, le-leb, leb-false}
 use Rattle.std.proofs.lemmas.List.{append-nil, take-append-drop, take_at, drop_at, length-append, length-replicate, length-take}
 use Rattle.dd_output.specs.reading.Stops.{Stop, stop, Read, before, word_at, bytes_at, after_at}
-use Rattle.dd_output.proofs.Laws.{Halts, Reads, ok_is, bind_ok, bind_err, before_ok, before_err}
+use Rattle.dd_output.proofs.Readers.{Halts, Reads, ok_is, bind_ok, bind_err, before_ok, before_err}
 
 pub chosen_ok : {A : Type 0} (b : Bool) (r : Result A Stop) (d : Stop) (y : A) → cond b r (Err d) ≡ Ok y → (b ≡ true) × (r ≡ Ok y)
 chosen_ok true r d y e = (refl, e)

@@ -12,7 +12,7 @@ use Rattle.dd_output.specs.Offsets.{IsOffset, ReadsOutput}
 use Rattle.dd_output.specs.declared.fault.CertificateFault.{CertificateFault}
 use Rattle.dd_output.specs.declared.fault.CertificateFault.TheVariants as faults
 use Rattle.dd_output.specs.reading.Whole.{output_at, all_at, missing_of, completion}
-use Rattle.dd_output.proofs.Laws.{bind_ok, bind_err, ok_is}
+use Rattle.dd_output.proofs.Readers.{bind_ok, bind_err, ok_is}
 use Rattle.dd_output.proofs.Outputs.{output_reads}
 
 ended_ok : {A : Type 0} (b : Bool) (x y : A) (s : Stop) → cond b (Ok x) (Err s) ≡ Ok y → (b ≡ true) × (x ≡ y)

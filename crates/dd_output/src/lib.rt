@@ -5,16 +5,16 @@
 mod bodies;
 mod derivations;
 mod fault;
+mod laws;
 mod lexing;
 mod lists;
 mod output;
-mod promises;
 mod reading;
 mod sides;
 mod writing;
 
 pub use fault::CertificateFault;
+pub use laws::{completes, one_offset, one_output, read_again};
 pub use output::Output;
-pub use promises::{completes, one_offset, one_output, read_again};
 pub use reading::{MOST_OUTPUT, read_output};
 pub use writing::{header, write_output};

@@ -1,5 +1,5 @@
 use Rattle.dd_output.proofs.Whole.{read_again}
-use Rattle.dd_output.proofs.promises.read_again.Goals as goal
+use Rattle.dd_output.proofs.laws.read_again.Goals as goal
 
 pub returns : goal.returns
 returns c = read_again
