@@ -9,21 +9,21 @@ use Rattle.dd_meancycle.specs.declared.edges.Edge.{Edge}
 use Rattle.dd_meancycle.specs.table.Levels.{at, lowered, lower_at, relaxed, level, row, least, IsAtMost, IsUpToIn, IsRowUpTo, IsEdgeOf}
 
 -- a walk of the row before, and an edge, arrive at v with the weight b
-pub record Arrives (edges : List Edge) (prev : List (Option ℕ)) (v b : ℕ) : Type 0 where
+pub record Arrives (edges : List Edge) (previous : List (Option ℕ)) (v b : ℕ) : Type 0 where
   pub edge : Edge
   pub is_in : Contains edges edge
   pub to : edge.to ≡ v
   pub before : ℕ
-  pub is_before : at prev edge.from ≡ Some before
+  pub is_before : at previous edge.from ≡ Some before
   pub sum : b ≡ before + edge.weight
 
 pub lower_length : (o : Option ℕ) (row : List (Option ℕ)) (e : Edge) → length (lower_at o row e) ≡ length row
 lower_length None row e = refl
 lower_length (Some a) row e = length-set row e.to _
 
-pub fold_length : (prev row : List (Option ℕ)) (edges : List Edge) → length (fold (relaxed prev) row edges) ≡ length row
-fold_length prev row [] = refl
-fold_length prev row (e ∷ edges) = fold_length prev (relaxed prev row e) edges ∙ lower_length (at prev e.from) row e
+pub fold_length : (previous row : List (Option ℕ)) (edges : List Edge) → length (fold (relaxed previous) row edges) ≡ length row
+fold_length previous row [] = refl
+fold_length previous row (e ∷ edges) = fold_length previous (relaxed previous row e) edges ∙ lower_length (at previous e.from) row e
 
 pub at_most_more : (o : Option ℕ) (x y : ℕ) → x ≤ y → IsAtMost o x → IsAtMost o y
 at_most_more None x y h a = a
@@ -59,39 +59,39 @@ lower_stays (Some a) row e v x lt h = elim (cases_eq v e.to) [
   | inr other ↦ subst (λ (o : Option ℕ). IsAtMost o x) (sym (at_set_other row e.to v _ other)) h
 ]
 
-pub fold_stays : (prev row : List (Option ℕ)) (edges : List Edge) (v x : ℕ) → All (IsEdgeOf (length row)) edges → IsAtMost (at row v) x → IsAtMost (at (fold (relaxed prev) row edges) v) x
-fold_stays prev row [] v x all h = h
-fold_stays prev row (e ∷ edges) v x all h =
-    let l = lower_length (at prev e.from) row e in
-    fold_stays prev (relaxed prev row e) edges v x
+pub fold_stays : (previous row : List (Option ℕ)) (edges : List Edge) (v x : ℕ) → All (IsEdgeOf (length row)) edges → IsAtMost (at row v) x → IsAtMost (at (fold (relaxed previous) row edges) v) x
+fold_stays previous row [] v x all h = h
+fold_stays previous row (e ∷ edges) v x all h =
+    let l = lower_length (at previous e.from) row e in
+    fold_stays previous (relaxed previous row e) edges v x
     (subst (λ (n : ℕ). All (IsEdgeOf n) edges) (sym l) (All-tail (IsEdgeOf (length row)) e edges all))
-    (lower_stays (at prev e.from) row e v x (All-head (IsEdgeOf (length row)) e edges all).1 h)
+    (lower_stays (at previous e.from) row e v x (All-head (IsEdgeOf (length row)) e edges all).1 h)
 
 lower_new : (o : Option ℕ) (row : List (Option ℕ)) (e : Edge) (a : ℕ) → e.to < length row → o ≡ Some a → IsAtMost (at (lower_at o row e) e.to) (a + e.weight)
 lower_new o row e a lt h =
     rw (h, at_set_same row e.to e.to (lowered (at row e.to) (a + e.weight)) lt refl) (lowered_new (at row e.to) (a + e.weight))
 
-fold_upper_at : (prev row : List (Option ℕ)) (edges : List Edge) (e : Edge) (a k : ℕ) → All (IsEdgeOf (length row)) edges → k < length edges → get_or edges k e ≡ e → at prev e.from ≡ Some a → IsAtMost (at (fold (relaxed prev) row edges) e.to) (a + e.weight)
-fold_upper_at prev row [] e a k all lt is before = absurd (omega arith)
-fold_upper_at prev row (x ∷ edges) e a zero all lt is before =
-    let l = lower_length (at prev x.from) row x in
-    let at_x : at prev x.from ≡ Some a → IsAtMost (at (fold (relaxed prev) row (x ∷ edges)) x.to) (a + x.weight) = λ h.
-    fold_stays prev (relaxed prev row x) edges x.to (a + x.weight)
+fold_upper_at : (previous row : List (Option ℕ)) (edges : List Edge) (e : Edge) (a k : ℕ) → All (IsEdgeOf (length row)) edges → k < length edges → get_or edges k e ≡ e → at previous e.from ≡ Some a → IsAtMost (at (fold (relaxed previous) row edges) e.to) (a + e.weight)
+fold_upper_at previous row [] e a k all lt is before = absurd (omega arith)
+fold_upper_at previous row (x ∷ edges) e a zero all lt is before =
+    let l = lower_length (at previous x.from) row x in
+    let at_x : at previous x.from ≡ Some a → IsAtMost (at (fold (relaxed previous) row (x ∷ edges)) x.to) (a + x.weight) = λ h.
+    fold_stays previous (relaxed previous row x) edges x.to (a + x.weight)
     (subst (λ (n : ℕ). All (IsEdgeOf n) edges) (sym l) (All-tail (IsEdgeOf (length row)) x edges all))
-    (lower_new (at prev x.from) row x a (All-head (IsEdgeOf (length row)) x edges all).1 h) in
-    subst (λ (y : Edge). at prev y.from ≡ Some a → IsAtMost (at (fold (relaxed prev) row (x ∷ edges)) y.to) (a + y.weight)) is at_x before
-fold_upper_at prev row (x ∷ edges) e a (suc k) all lt is before =
-    let l = lower_length (at prev x.from) row x in
-    fold_upper_at prev (relaxed prev row x) edges e a k
+    (lower_new (at previous x.from) row x a (All-head (IsEdgeOf (length row)) x edges all).1 h) in
+    subst (λ (y : Edge). at previous y.from ≡ Some a → IsAtMost (at (fold (relaxed previous) row (x ∷ edges)) y.to) (a + y.weight)) is at_x before
+fold_upper_at previous row (x ∷ edges) e a (suc k) all lt is before =
+    let l = lower_length (at previous x.from) row x in
+    fold_upper_at previous (relaxed previous row x) edges e a k
     (subst (λ (n : ℕ). All (IsEdgeOf n) edges) (sym l) (All-tail (IsEdgeOf (length row)) x edges all))
     (omega arith) is before
 
-pub fold_upper : (prev row : List (Option ℕ)) (edges : List Edge) (e : Edge) (a : ℕ) → All (IsEdgeOf (length row)) edges → Contains edges e → at prev e.from ≡ Some a → IsAtMost (at (fold (relaxed prev) row edges) e.to) (a + e.weight)
-fold_upper prev row edges e a all is_in before = fold_upper_at prev row edges e a is_in.0 all is_in.1 is_in.2 before
+pub fold_upper : (previous row : List (Option ℕ)) (edges : List Edge) (e : Edge) (a : ℕ) → All (IsEdgeOf (length row)) edges → Contains edges e → at previous e.from ≡ Some a → IsAtMost (at (fold (relaxed previous) row edges) e.to) (a + e.weight)
+fold_upper previous row edges e a all is_in before = fold_upper_at previous row edges e a is_in.0 all is_in.1 is_in.2 before
 
-lower_from : (prev row : List (Option ℕ)) (e : Edge) (v b : ℕ) (o : Option ℕ) → o ≡ at prev e.from → e.to < length row → at (lower_at o row e) v ≡ Some b → (at row v ≡ Some b) ⊎ ((e.to ≡ v) × ((a : ℕ) × (at prev e.from ≡ Some a) × (b ≡ a + e.weight)))
-lower_from prev row e v b None is lt h = inl h
-lower_from prev row e v b (Some a) is lt h = elim (cases_eq v e.to) [
+lower_from : (previous row : List (Option ℕ)) (e : Edge) (v b : ℕ) (o : Option ℕ) → o ≡ at previous e.from → e.to < length row → at (lower_at o row e) v ≡ Some b → (at row v ≡ Some b) ⊎ ((e.to ≡ v) × ((a : ℕ) × (at previous e.from ≡ Some a) × (b ≡ a + e.weight)))
+lower_from previous row e v b None is lt h = inl h
+lower_from previous row e v b (Some a) is lt h = elim (cases_eq v e.to) [
   | inr other ↦ inl (sym (at_set_other row e.to v _ other) ∙ h)
   | inl same ↦ elim (lowered_from (at row e.to) (a + e.weight) b (sym (at_set_same row e.to v _ lt same) ∙ h)) [
     | inl was ↦ inl (ap (at row) same ∙ was)
@@ -99,8 +99,8 @@ lower_from prev row e v b (Some a) is lt h = elim (cases_eq v e.to) [
   ]
 ]
 
-later : (edges : List Edge) (x : Edge) (prev : List (Option ℕ)) (v b : ℕ) → Arrives edges prev v b → Arrives (x ∷ edges) prev v b
-later edges x prev v b r = record {
+later : (edges : List Edge) (x : Edge) (previous : List (Option ℕ)) (v b : ℕ) → Arrives edges previous v b → Arrives (x ∷ edges) previous v b
+later edges x previous v b r = record {
   edge = r.edge;
   is_in = (suc r.is_in.0, omega (arith, r.is_in.1), r.is_in.2);
   to = r.to;
@@ -109,13 +109,13 @@ later edges x prev v b r = record {
   sum = r.sum;
 }
 
-pub fold_from : (prev row : List (Option ℕ)) (edges : List Edge) (v b : ℕ) → All (IsEdgeOf (length row)) edges → at (fold (relaxed prev) row edges) v ≡ Some b → (at row v ≡ Some b) ⊎ Arrives edges prev v b
-fold_from prev row [] v b all h = inl h
-fold_from prev row (x ∷ edges) v b all h =
-    let l = lower_length (at prev x.from) row x in
-    elim (fold_from prev (relaxed prev row x) edges v b (subst (λ (n : ℕ). All (IsEdgeOf n) edges) (sym l) (All-tail (IsEdgeOf (length row)) x edges all)) h) [
-      | inr r ↦ inr (later edges x prev v b r)
-      | inl was ↦ elim (lower_from prev row x v b (at prev x.from) refl (All-head (IsEdgeOf (length row)) x edges all).1 was) [
+pub fold_from : (previous row : List (Option ℕ)) (edges : List Edge) (v b : ℕ) → All (IsEdgeOf (length row)) edges → at (fold (relaxed previous) row edges) v ≡ Some b → (at row v ≡ Some b) ⊎ Arrives edges previous v b
+fold_from previous row [] v b all h = inl h
+fold_from previous row (x ∷ edges) v b all h =
+    let l = lower_length (at previous x.from) row x in
+    elim (fold_from previous (relaxed previous row x) edges v b (subst (λ (n : ℕ). All (IsEdgeOf n) edges) (sym l) (All-tail (IsEdgeOf (length row)) x edges all)) h) [
+      | inr r ↦ inr (later edges x previous v b r)
+      | inl was ↦ elim (lower_from previous row x v b (at previous x.from) refl (All-head (IsEdgeOf (length row)) x edges all).1 was) [
         | inl old ↦ inl old
         | inr new ↦ inr (record { edge = x; is_in = (zero, omega arith, refl); to = new.0; before = new.1.0; is_before = new.1.1; sum = new.1.2 })
       ]

@@ -41,15 +41,15 @@ fn cycle_weight(graph: &Graph, cycle: &[u32]) -> Option<u64>
         from = *state;
         weight += graph.slice_weight(from % graph.slices());
     }
-    if from == last { Some(weight) } else { None }
+    Some(weight)
 }
 
-/// Whether a potential rises by at most `l * weight - m`.
-fn is_rise(from: i64, to: i64, l: u64, weight: u32, m: u64) -> bool
-    ensures { IsTrue result ↔ ((to -ℤ from) ≤ℤ (pos (l * weight) -ℤ pos m)) }
+/// Whether a potential rises by at most `length * weight - mean_weight`.
+fn is_rise(from: i64, to: i64, length: u64, weight: u32, mean_weight: u64) -> bool
+    ensures { IsTrue result ↔ ((to -ℤ from) ≤ℤ (pos (length * weight) -ℤ pos mean_weight)) }
 {
-    let product = l as u128 * weight as u128;
-    let most = product as i128 - m as i128;
+    let product = length as u128 * weight as u128;
+    let most = product as i128 - mean_weight as i128;
     let rise = to as i128 - from as i128;
     if rise > most {
         return false;

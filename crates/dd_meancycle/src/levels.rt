@@ -1,4 +1,4 @@
-//! The least weights of walks by their length.
+//! The least weights of walks by their length: the table of Karp (1978), with walks from any state.
 ghost use Rattle.std.specs.Prelude.{◌≡◌, ℕ, ◌+◌, ◌<◌, ◌^◌, length, IfOk, slice_index_or, replicate, vec_len, Some, None, []};
 ghost use Rattle.std.specs.List.{fold, All};
 ghost use Rattle.dd_meancycle.specs.table.Levels.{level, relaxed, lowered, IsRowUpTo, IsEdgeOf, AreRows, level_weight_at};
@@ -31,14 +31,14 @@ fn lower(best: Option<u32>, here: u32) -> u32
 }
 
 /// Takes the edge into account.
-fn relax(prev: &[Option<u32>], row: &mut [Option<u32>], edge: &Edge)
-    requires from { edge.now.from < length prev.now }
+fn relax(previous: &[Option<u32>], row: &mut [Option<u32>], edge: &Edge)
+    requires from { edge.now.from < length previous.now }
     requires to { edge.now.to < length row.old }
-    requires small { IsRowUpTo (2 ^ 31) prev.now }
+    requires small { IsRowUpTo (2 ^ 31) previous.now }
     requires light { edge.now.weight < 2 ^ 31 }
-    ensures { row.new ≡ relaxed prev.now row.old edge.now }
+    ensures { row.new ≡ relaxed previous.now row.old edge.now }
 {
-    let Some(before) = prev[edge.from as usize] else {
+    let Some(before) = previous[edge.from as usize] else {
         return
     };
     let place = edge.to as usize;
@@ -47,14 +47,14 @@ fn relax(prev: &[Option<u32>], row: &mut [Option<u32>], edge: &Edge)
     row[place] = Some(lower(best, here));
 }
 
-fn relax_all(prev: &[Option<u32>], row: &mut [Option<u32>], edges: &[Edge])
-    requires edges { All (IsEdgeOf (length prev.now)) edges.now }
-    requires same { length row.old ≡ length prev.now }
-    requires small { IsRowUpTo (2 ^ 31) prev.now }
-    ensures { row.new ≡ fold (relaxed prev.now) row.old edges.now }
+fn relax_all(previous: &[Option<u32>], row: &mut [Option<u32>], edges: &[Edge])
+    requires edges { All (IsEdgeOf (length previous.now)) edges.now }
+    requires same { length row.old ≡ length previous.now }
+    requires small { IsRowUpTo (2 ^ 31) previous.now }
+    ensures { row.new ≡ fold (relaxed previous.now) row.old edges.now }
 {
     for edge in edges {
-        relax(prev, row, edge);
+        relax(previous, row, edge);
     }
 }
 
@@ -83,9 +83,9 @@ impl Level {
         requires small { IsRowUpTo (2 ^ 31) self.now }
         ensures { IfOk result (λ l. l ≡ level edges.now self.now) }
     {
-        let prev = self.as_slice();
-        let mut least = filled(alloc, prev.len(), None)?;
-        relax_all(prev, least.as_mut_slice(), edges);
+        let previous = self.as_slice();
+        let mut least = filled(alloc, previous.len(), None)?;
+        relax_all(previous, least.as_mut_slice(), edges);
         Ok(Level { least })
     }
 }
@@ -100,6 +100,7 @@ pub(crate) fn weight_at(levels: &[Level], k: usize, state: u32) -> Option<u32>
     level[state as usize]
 }
 
+/// The levels of the lengths from 0 to the number of states.
 pub(crate) fn levels(alloc: Global, states: u32, edges: &[Edge]) -> Result<Vec<Level>, AllocError>
     requires edges { All (IsEdgeOf states) edges.now }
     ensures rows { IfOk result (λ ls. AreRows edges.now states ls.items) }

@@ -1,4 +1,5 @@
-//! Means of rises in the table of least weights, potentials and ranks.
+//! Means of rises in the table of least weights, potentials and ranks. The least mean of a cycle is the least, over the states, of
+//! the greatest of these means (Karp 1978).
 ghost use Rattle.std.specs.Prelude.{◌≡◌, ℕ, ◌-◌, ◌*◌, ◌<◌, ◌≤◌, ◌^◌, length, IfOk, slice_index_or, MatchOption, ⊤, Option, None};
 ghost use Rattle.std.specs.Int.{IsGcd};
 ghost use Rattle.dd_meancycle.specs.table.Levels.{level_weight_at};
@@ -13,7 +14,8 @@ pub(crate) struct Ratio {
     pub length: u64,
 }
 
-/// The greatest of the means of the walks from a shorter one to the longest.
+/// The greatest, over the lengths `k` below `last` of walks to the state, of the rise of the least weight from `k` edges to `last`,
+/// divided by `last - k`. `None` where no walk of `last` edges leads to the state.
 fn steepest(levels: &[Level], last: usize, state: u32) -> Option<Ratio>
     requires last { 0 < last }
     requires few { last < 2 ^ 31 }

@@ -1,4 +1,4 @@
-//! The least mean by the table of least weights of walks by their length.
+//! The least mean by the table of least weights of walks by their length (Karp 1978).
 ghost use Rattle.std.specs.Prelude.{◌≡◌, ◌+◌, ◌<◌, ◌^◌, length, IfOk};
 ghost use Rattle.std.specs.List.{All};
 ghost use Rattle.dd_meancycle.specs.table.Levels.{IsEdgeOf, AreRows};

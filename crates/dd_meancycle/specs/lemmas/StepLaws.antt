@@ -1,5 +1,5 @@
 -- What a step of a transfer graph is, and what one step more adds to a path.
-use Rattle.std.proofs.Common.{◌≡◌, ℕ, ◌+◌, ◌*◌, ◌/◌, ◌%◌, ◌<◌, ◌≤◌, ◌^◌, Bool, true, false, cond, List, [], ◌∷◌, ◌++◌, Some, None, arith, refl, sym, ap, ◌∙◌}
+use Rattle.std.proofs.Common.{◌≡◌, ℕ, zero, suc, ◌+◌, ◌*◌, ◌/◌, ◌%◌, ◌<◌, ◌≤◌, ◌^◌, Bool, true, false, cond, List, [], ◌∷◌, ◌++◌, length, get_or, Some, None, arith, refl, sym, ap, ◌∙◌}
 use Rattle.std.specs.Prelude.{◌&&◌, nat_lt, slice_index_or}
 use Rattle.std.proofs.lemmas.Bool.Decides.{nat_tests}
 use Rattle.std.proofs.lemmas.Nat.{mod-mul-add, mod_below}
@@ -57,6 +57,13 @@ pub weight_small : (g : Transfer) (t : ℕ) → IsTransfer g → t < g.slices �
 weight_small g t well lt =
     let once : 1 * weight_at g t ≤ g.states * weight_at g t = mul-le-mul_right (weight_at g t) well.some_state in
     omega (arith, once, well.light t lt)
+
+-- a path ends in its last state
+pub path_end : (g : Transfer) (ss : List ℕ) (u v d k : ℕ) → k + 1 ≡ length ss → IsPath g u ss v → v ≡ get_or ss k d
+path_end g [] u v d k e path = absurd (omega arith)
+path_end g (s ∷ []) u v d zero e path = sym path.1
+path_end g (s ∷ t ∷ ss) u v d zero e path = absurd (omega arith)
+path_end g (s ∷ ss) u v d (suc k) e path = path_end g ss s v d k (omega arith) path.1
 
 -- one state more
 pub path_push : (g : Transfer) (ss : List ℕ) (u v s : ℕ) → IsPath g u ss v → next_of g v (s % g.slices) ≡ Some s → IsPath g u (ss ++ s ∷ []) s

@@ -16,10 +16,10 @@ lower_at (Some a) row e = slice_set row e.to (lowered (at row e.to) (a + e.weigh
 
 -- the row after the edge e, from the walks that are one edge shorter
 abbrev pub relaxed : List (Option ℕ) → List (Option ℕ) → Edge → List (Option ℕ)
-relaxed prev row e = lower_at (at prev e.from) row e
+relaxed previous row e = lower_at (at previous e.from) row e
 
 abbrev pub level : List Edge → List (Option ℕ) → List (Option ℕ)
-level edges prev = fold (relaxed prev) (replicate (length prev) None) edges
+level edges previous = fold (relaxed previous) (replicate (length previous) None) edges
 
 abbrev pub row : List Edge → ℕ → ℕ → List (Option ℕ)
 row edges n zero = replicate n (Some 0)

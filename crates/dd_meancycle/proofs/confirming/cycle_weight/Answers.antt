@@ -1,9 +1,9 @@
-use Rattle.std.proofs.Common.{◌≡◌, ◌≤◌, ◌<◌, ◌+◌, ◌*◌, ◌%◌, ◌^◌, ◌++◌, ◌∷◌, [], ℕ, List, length, take, get_or, Some, arith, refl, ap, sym, subst, ◌∙◌}
+use Rattle.std.proofs.Common.{◌≡◌, ◌<◌, ◌+◌, ◌-◌, ◌%◌, ◌++◌, ◌∷◌, [], ℕ, List, length, take, get_or, Some, arith, refl, ap, sym, subst, ◌∙◌}
 use Rattle.std.proofs.lemmas.Grind.{common_steps}
-use Rattle.std.proofs.lemmas.List.{take_more}
+use Rattle.std.proofs.lemmas.List.{take_more, take_all}
 use Rattle.dd_transfer.specs.Graphs.{next_of, weight_at}
 use Rattle.dd_meancycle.specs.Means.{IsPath, weight_of}
-use Rattle.dd_meancycle.specs.lemmas.StepLaws.{weight_small, step, path_push, weight_push}
+use Rattle.dd_meancycle.specs.lemmas.StepLaws.{weight_small, step, path_end, path_push, weight_push}
 use Rattle.dd_meancycle.proofs.confirming.cycle_weight.Goals as goal
 
 pub loop-state-preserved : goal.loop-state-preserved
@@ -24,3 +24,21 @@ loop-state-preserved c =
 
 pub overflow_add-weight : goal.overflow_add-weight
 overflow_add-weight c = grind (arith, common_steps)
+
+pub returns : goal.returns
+returns c =
+    let g = c.args.graph.now in
+    let cycle = c.args.cycle.now in
+    let last = c.in_ok-last.field-0.now in
+    let i = c.loop-state.state-index in
+    let whole : take i cycle ≡ cycle = take_all i cycle c.loop-state-test.false in
+    let k = length cycle - 1 in
+    let turns : 0 < length cycle = c.in_ok-last.ensures.item.3.0 in
+    let some : k + 1 ≡ length cycle = omega (arith, turns) in
+    let path : IsPath g last cycle c.loop-state.from = subst (λ (ss : List ℕ). IsPath g last ss c.loop-state.from) whole c.loop-state.invariant.path in
+    let ends : c.loop-state.from ≡ get_or cycle k 0 = path_end g cycle last c.loop-state.from 0 k some path in
+    let same : last ≡ get_or cycle k 0 = c.in_ok-last.ensures.item.4 (omega arith) 0 in
+    let closed : IsPath g last cycle last = subst (λ (v : ℕ). IsPath g last cycle v) (ends ∙ sym same) path in (
+      record { last = last; closed = closed; turns = turns },
+      c.loop-state.invariant.sum ∙ ap (weight_of g) whole,
+    )

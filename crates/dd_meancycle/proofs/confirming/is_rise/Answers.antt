@@ -9,10 +9,10 @@ bound l w a b = let c : l * w ≤ 18446744073709551615 * 4294967295 = mul-le-mul
 
 pub returns-then-rise-most : goal.returns-then-rise-most
 returns-then-rise-most c =
-    let b = bound c.args.l c.args.weight c.ranges.l.fits c.ranges.weight.fits in
+    let b = bound c.args.length c.args.weight c.ranges.length.fits c.ranges.weight.fits in
     (λ f. absurd (cc), λ h. absurd (omega (arith, ints, c.if-rise-most.true)))
 
 pub returns : goal.returns
 returns c =
-    let b = bound c.args.l c.args.weight c.ranges.l.fits c.ranges.weight.fits in
+    let b = bound c.args.length c.args.weight c.ranges.length.fits c.ranges.weight.fits in
     (λ _. omega (arith, ints, c.if-rise-most.false), λ _. refl)
