@@ -44,7 +44,7 @@ pub fn sum(a: i128, b: i128) -> Option<i128>
     }
 }
 
-/// The sum of two machine words, which is always bounded. None where a number is none.
+/// The sum of two machine words, which is always bounded. `None` where one of the two is no machine word.
 #[inline(always)]
 pub fn word_sum(a: i128, b: i128) -> Option<i128>
     ensures value { IfSome result (λ s. s ≡ a +ℤ b) }

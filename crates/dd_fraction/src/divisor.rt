@@ -5,7 +5,7 @@ ghost use lib.IntN.{pos};
 ghost use Rattle.dd_fraction.specs.Divisor.{greatest_common};
 
 /// The greatest number of 64 bits.
-const WORD: u128 = 18_446_744_073_709_551_615;
+const MOST_WORD: u128 = 18_446_744_073_709_551_615;
 
 /// The greatest number that divides both; of a number and 0, the number.
 #[inline(always)]
@@ -14,12 +14,12 @@ pub fn greatest_common_divisor(a: u128, b: u128) -> u128
 {
     let mut x = a;
     let mut y = b;
-    while y > WORD {
+    while y > MOST_WORD {
         let rest = x % y;
         x = y;
         y = rest;
     }
-    if x <= WORD {
+    if x <= MOST_WORD {
         return word_divisor(x as u64, y as u64) as u128;
     }
     if y == 0 {

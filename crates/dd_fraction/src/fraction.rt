@@ -14,7 +14,7 @@ use std::cmp::Ordering;
 use std::marker::Model;
 
 /// The greatest machine word with a sign.
-const WORD: u128 = 9_223_372_036_854_775_807;
+const MOST_SIGNED_WORD: u128 = 9_223_372_036_854_775_807;
 
 /// A fraction in lowest terms. Its denominator is from 1 to 2^127 - 1, and its numerator at most 2^127 - 1 in absolute
 /// value. No call takes memory.
@@ -113,7 +113,7 @@ impl Fraction {
     fn alike_sum(&self, other: &Fraction) -> Option<Fraction>
         ensures { IfSome result (λ s. Some s ≡ checked_sum self.now other.now) }
     {
-        if self.den != other.den || self.den > WORD {
+        if self.den != other.den || self.den > MOST_SIGNED_WORD {
             return None;
         }
         let num = word_sum(self.num, other.num)?;
