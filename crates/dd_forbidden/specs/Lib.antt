@@ -1,4 +1,4 @@
--- what the public call promises
+-- the fillings that break a rule
 pub mod Breaking
 -- what the search appends, by what stands so far
 pub mod listing

@@ -1,4 +1,4 @@
-//! That what a run writes a check accepts.
+//! A check accepts what a run writes.
 ghost use Rattle.std.specs.Prelude.{◌≡◌, ◌≤◌, ℕ, List, Bool, length};
 ghost use Rattle.dd_session.specs.declared.status.Status.{Status as AnyStatus};
 ghost use Rattle.dd_session.specs.Sides.{status_of};

@@ -1,4 +1,4 @@
-//! The top call.
+//! A session, by the words of the command line.
 ghost use Rattle.std.specs.Prelude.{◌≡◌, ◌≢◌, ◌⊎◌, ◌+◌, ◌≤◌, ◌↔◌, ℕ, List, Some, IsTrue, IfOk, map, codes, string_bytes, length};
 ghost use Rattle.dd_values.specs.Bounds.{most_script, most_commands};
 ghost use Rattle.dd_outside.specs.Bytes.{GivesAtMost};

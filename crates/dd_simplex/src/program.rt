@@ -44,6 +44,9 @@ impl Model for Program {
 
 impl Program {
     /// The program of at least one column whose one row is "column 0 at most `cap`", for a cap of at least 0.
+    ///
+    /// # Errors
+    /// `AllocError` where memory was wanting.
     pub fn new(alloc: Global, columns: u32, cap: i64) -> Result<Program, AllocError>
         requires columns { 0 < columns }
         requires cap { pos 0 ≤ℤ cap }
@@ -63,7 +66,10 @@ impl Program {
     }
 
     /// Adds the row "the sum of coefficient times column is at most `bound`", with one coefficient for each column and a
-    /// bound of at least 0. After want of memory the program is as it was.
+    /// bound of at least 0.
+    ///
+    /// # Errors
+    /// `AllocError` where memory was wanting. The program is then as it was.
     pub fn row(&mut self, coefficients: Vec<Fraction>, bound: Fraction) -> Result<(), AllocError>
         requires size { length coefficients.items ≡ self.old.columns }
         requires bound { IsNonneg bound }

@@ -10,8 +10,11 @@ use crate::start::first_tableau;
 use std::alloc::{AllocError, Global};
 
 /// Maximises column 0 by Bland's rule (1977) in at most `pivots` pivots. The columns are at least 0 and meet each row, and
-/// no others give more: the duals have the same value. Overflow exactly where a number of the run passes 2^127 - 1 in
-/// absolute value, and Pivots exactly where the run is not at its end after that many pivots.
+/// no others give more: the duals have the same value.
+///
+/// # Errors
+/// `Overflow` exactly where a number of the run passes 2^127 - 1 in absolute value, `Pivots` exactly where the run is not
+/// at its end after that many pivots; or `Memory`.
 pub fn maximise(alloc: Global, program: &Program, pivots: u32) -> Result<Solved, SimplexFault>
     ensures ends { IfOk result (λ solved. RunEnds program.now pivots solved.value solved.columns solved.duals) }
     ensures best { IfOk result (λ solved. IsBest program.now solved.value solved.columns solved.duals) }

@@ -24,8 +24,10 @@ impl Topology {
         some_edge_joins(self.edges(), a, b)
     }
 
-    /// The cells at a distance of at most `radius` from the centre, in cell order, each once. `Range` where a coordinate of
-    /// one of them would pass 2^20.
+    /// The cells at a distance of at most `radius` from the centre, in cell order, each once.
+    ///
+    /// # Errors
+    /// `Range` where a coordinate of one of them would pass 2^20; or `Memory`.
     pub fn ball(&self, alloc: Global, centre: &Cell, radius: u32) -> Result<Vec<Cell>, LatticeFault>
         ensures cells { IfOk result (λ v. IsCellListOf (IsInBall self.now.edges centre.now radius) v.items) }
         ensures list { IfOk result (λ v. v.items ≡ in_order (ball self.now.edges centre.now radius)) }

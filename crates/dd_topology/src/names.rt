@@ -45,7 +45,10 @@ impl Names {
         }
     }
 
-    /// Adds a name, and gives its number. A refused name comes back, and the names stay as they were.
+    /// Adds a name, and gives its number.
+    ///
+    /// # Errors
+    /// The name comes back, and the names stay as they were. `Twice` where the name was added before; else `Memory`.
     pub fn add(&mut self, name: String) -> Result<u32, NameFault>
         requires { length self.old < 2 ^ 32 - 1 }
         ensures number { IfOk result (λ number. number ≡ length self.old) }

@@ -72,7 +72,11 @@ fn moves_of(alloc: Global, edges: &[Edge]) -> Result<IndexSet<Move>, TopologyFau
 }
 
 impl Topology {
-    /// The topology with these labels and edges. `Twice` where a label has two edges from one node.
+    /// The topology with these labels and edges.
+    ///
+    /// # Errors
+    /// `Twice` where a label has two edges from one node, with the label of the first edge whose label and first node an
+    /// earlier one has; or `Memory`.
     pub fn from_edges(
         alloc: Global,
         dim: u32,

@@ -2,7 +2,7 @@
 pub mod Graphs
 -- windows of a strip, and which of them are edges
 pub mod Windows
--- what the public call promises
+-- the transfer graph of a rule over a strip
 pub mod Transfers
 -- what certifies the least density of a strip
 pub mod Certificates
