@@ -22,12 +22,10 @@ use std::alloc::{AllocError, Global};
 /// The greatest number of admissible fillings of the first cells.
 const MOST_FILLINGS: usize = 65_536;
 
-/// Writes the symbols and one more.
-fn write_longer(longer: &mut Vec<u32>, symbols: &[u32], symbol: u32) -> Result<(), AllocError>
-    ensures { OnOk result (longer.new.items ≡ symbols.now ++ symbol ∷ []) }
+/// Writes one symbol more.
+fn write_symbol(longer: &mut Vec<u32>, symbol: u32) -> Result<(), AllocError>
+    ensures { OnOk result (longer.new.items ≡ longer.old.items ++ symbol ∷ []) }
 {
-    longer.clear();
-    longer.extend_from_slice(symbols)?;
     longer.push(symbol)?;
     Ok(())
 }
@@ -48,9 +46,11 @@ fn extend(
     ensures few { OnOk result (length next.new ≤ most_fillings) }
     ensures err { IfErr result (λ fault. OnLarge fault (most_fillings < length (next.old ++ extended rule.now (are_all_true formulas.now) node symbols.now))) }
 {
+    longer.clear();
+    longer.extend_from_slice(symbols)?;
     for symbol in 0..rule.symbols() {
         if rule.allows(node, symbol) {
-            write_longer(longer, symbols, symbol)?;
+            write_symbol(longer, symbol)?;
             if all_true(formulas, longer.as_slice()) {
                 if next.len() == MOST_FILLINGS {
                     return Err(RowsFault::Large);
@@ -58,6 +58,7 @@ fn extend(
                 let filling = Items::from_slice(alloc, longer.as_slice())?;
                 next.push(filling)?;
             }
+            longer.pop();
         }
     }
     Ok(())

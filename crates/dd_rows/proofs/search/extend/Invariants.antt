@@ -5,4 +5,4 @@ use Rattle.dd_rows.specs.listing.Formulas.{are_all_true}
 use Rattle.dd_rows.proofs.search.extend.Given as goal
 
 abbrev pub invariant-loop-symbol : goal.invariant-loop-symbol
-invariant-loop-symbol l = (l.next ≡ l.initial.next ++ extended_below l.rule (are_all_true l.formulas) l.node l.symbols l.symbol) × (length l.next ≤ most_fillings)
+invariant-loop-symbol l = (l.longer.items ≡ l.symbols) × (l.next ≡ l.initial.next ++ extended_below l.rule (are_all_true l.formulas) l.node l.symbols l.symbol) × (length l.next ≤ most_fillings)
