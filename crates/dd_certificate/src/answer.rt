@@ -2,7 +2,7 @@
 use dd_derivation::Step;
 use dd_values::Items;
 
-/// Of which of two rules a configuration is one and the other is not.
+/// Which of two rules the configuration of a NO obeys, where it breaks the other.
 #[derive(Clone, Copy, Debug, PartialEq, Eq)]
 pub enum Side {
     /// The query asks one thing only.

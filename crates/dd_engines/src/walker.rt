@@ -1,5 +1,5 @@
-//! The engine that walks: it tries the assignments of one walk, and keeps nothing of it. The walk is that of local search
-//! (Selman, Levesque and Mitchell 1992), with no chance in it.
+//! The engine that walks: it tries the assignments of one walk, and keeps nothing of it. A step takes a clause that is not
+//! satisfied and makes one of its literals true (Papadimitriou 1991, Selman, Kautz and Cohen 1994), here with no chance in it.
 ghost use Rattle.std.specs.Prelude.{◌≡◌, ◌-◌, ◌^◌, ◌≤◌, true, IfOk, OnErr};
 ghost use Rattle.dd_engines.specs.Proposals.{IsRight, GivenAfter};
 ghost use Rattle.dd_engines.specs.Rounds.{RisesByOne};

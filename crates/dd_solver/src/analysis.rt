@@ -1,8 +1,8 @@
-// The clause that is learned from a conflict: that of the first unique implication point (Marques-Silva and Sakallah
-// 1999). The trail is walked down from the conflict. An entry whose variable is marked is resolved with the clause that
-// forced it, whose variables are marked in turn, or it is kept: its negation goes into the learned clause. Whatever is
-// kept, the resolved clauses' numbers are hints that show that the learned clause follows; so what is best to keep is
-// not said in any contract.
+//! The clause that is learned from a conflict: that of the first unique implication point (Marques-Silva and Sakallah
+//! 1999). The trail is walked down from the conflict. An entry whose variable is marked is resolved with the clause that
+//! forced it, whose variables are marked in turn, or it is kept: its negation goes into the learned clause. Whatever is
+//! kept, the resolved clauses' numbers are hints that show that the learned clause follows; so what is best to keep is
+//! not said in any contract.
 ghost use Rattle.std.specs.Prelude.{◌≡◌, ℕ, ◌<◌, ◌≤◌, true, [], length, IfOk, MatchOption, slice_index_or, ⊤};
 ghost use Rattle.dd_clause.specs.Clauses.{IsLiteralInRange, IsClauseInRange};
 ghost use Rattle.dd_derivation.specs.declared.propagation.Finding.TheVariants.{Falsified};

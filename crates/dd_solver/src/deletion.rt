@@ -1,6 +1,6 @@
-// Which learned clauses are deleted, and when. The literals of a learned clause got their values between so many decisions:
-// the fewer, the more it is worth (Audemard and Simon 2009). From time to time the worse half goes, but none that forced
-// a literal of the trail. What is chosen is looked at exactly, so no promise rests on what is kept here.
+//! Which learned clauses are deleted, and when. The literals of a learned clause got their values between so many decisions:
+//! the fewer, the more it is worth (Audemard and Simon 2009). From time to time the worse half goes, but none that forced
+//! a literal of the trail. What is chosen is looked at exactly, so no contract rests on what is kept here.
 ghost use Rattle.std.specs.Prelude.{◌≡◌, ℕ, List, ◌<◌, false, length, IfOk, Some, slice_index_or};
 ghost use Rattle.dd_clause.specs.declared.clause.Literal.{Literal};
 ghost use Rattle.dd_solver.specs.searching.Deleting.{AreChosen, MayDelete};

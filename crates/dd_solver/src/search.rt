@@ -1,6 +1,6 @@
-// The search (Marques-Silva and Sakallah 1999, Eén and Sörensson 2003): propagate; at a conflict learn a clause and go
-// back to where it forces a literal; else decide a variable. Each learned clause is a step of a refutation. It ends
-// since the trail, read as a number in base 3, rises at each propagation, decision and return.
+//! The search (Marques-Silva and Sakallah 1999, Eén and Sörensson 2003): propagate; at a conflict learn a clause and go
+//! back to where it forces a literal; else decide a variable. Each learned clause is a step of a refutation. It ends
+//! since the trail, read as a number in base 3, rises at each propagation, decision and return.
 ghost use Rattle.std.specs.Prelude.{◌≡◌, ℕ, ◌+◌, ◌<◌, ◌≤◌, ◌^◌, ◌++◌, ◌∷◌, [], true, false, List, length, All, IfOk, OnOk, OnErr, MatchOption, IsTrue, ◌↔◌};
 ghost use Rattle.dd_clause.specs.declared.clause.Literal.{Literal};
 ghost use Rattle.dd_clause.specs.Clauses.{IsClauseInRange, Satisfies};

@@ -1,6 +1,6 @@
-// A search learns clauses that its refutation does not need in the end. Trimming walks from the last step to the first
-// and marks those that a marked step hints at, as Goldberg and Novikov (2003) do. What is marked is kept, under new
-// numbers. Nothing is deleted any more, so that each kept hint names the clause that it named before.
+//! A search learns clauses that its refutation does not need in the end. Trimming walks from the last step to the first
+//! and marks those that a marked step hints at, as Goldberg and Novikov (2003) do. What is marked is kept, under new
+//! numbers. Nothing is deleted any more, so that each kept hint names the clause that it named before.
 ghost use Rattle.std.specs.Prelude.{◌≡◌, ℕ, suc, ◌+◌, ◌<◌, ◌≤◌, ◌^◌, ◌||◌, [], true, false, length, map, All, IfOk, MatchOption, slice_index_or};
 ghost use Rattle.dd_derivation.specs.Derivations.{refutes};
 ghost use Rattle.dd_solver.specs.Trimming.{is_hint, are_used};

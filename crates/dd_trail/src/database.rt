@@ -1,4 +1,4 @@
-// The clauses that a search may use, by number: those of the list, and after them those learned, but for the deleted ones.
+//! The clauses that a search may use, by number: those of the list, and after them those learned, but for the deleted ones.
 ghost use Rattle.std.specs.Prelude.{◌≡◌, ◌≤◌, ◌+◌, length};
 ghost use Rattle.std.specs.Option.{option_copied};
 ghost use Rattle.dd_derivation.specs.Derivations.{clause_of};

@@ -1,6 +1,7 @@
-// The order in which variables are decided (Moskewicz, Madigan, Zhao, Zhang and Malik 2001, Eén and Sörensson 2003): first
-// those that took part in the latest conflicts, each with the value that it had last. They stand in a binary heap. What
-// is taken from it is looked at exactly, so no promise rests on the order: a bad one costs time.
+//! The order in which variables are decided: first those that took part in the latest conflicts (Moskewicz, Madigan, Zhao,
+//! Zhang and Malik 2001, Eén and Sörensson 2003), each with the value that it had last (Pipatsrisawat and Darwiche 2007).
+//! They stand in a binary heap. What is taken from it is looked at exactly, so no contract rests on the order: a bad one
+//! costs time.
 ghost use Rattle.std.specs.Prelude.{◌≡◌, ◌<◌, ◌^◌, MatchOption, ⊤};
 ghost use Rattle.dd_trail.specs.Trails.{IsFree, IsFull};
 

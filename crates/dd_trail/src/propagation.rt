@@ -1,4 +1,4 @@
-// Unit propagation looks for a clause that is falsified, or whose one literal that is not false has to be true.
+//! Unit propagation looks for a clause that is falsified, or whose one literal that is not false has to be true.
 ghost use Rattle.std.specs.Prelude.{◌≡◌};
 ghost use Rattle.dd_derivation.specs.declared.propagation.Finding.TheVariants.{Open};
 ghost use Rattle.dd_derivation.specs.Derivations.{hint_finding, is_among};

@@ -1,5 +1,5 @@
-// The literals that are true, in the order in which they became so, and which literals are false. What a trail says
-// of a literal depends on its entries alone; one truth value for each literal makes each look cost the same.
+//! The literals that are true, in the order in which they became so, and which literals are false. What a trail says
+//! of a literal depends on its entries alone; one truth value for each literal makes each look cost the same.
 ghost use Rattle.std.specs.Prelude.{◌≡◌, ℕ, ◌+◌, ◌<◌, ◌≤◌, ◌^◌, ◌++◌, ◌∷◌, [], true, false, length, take, slice_set, ◌-◌, IfOk, OnOk, OnErr, MatchOption, IsTrue, ◌↔◌};
 ghost use Rattle.dd_clause.specs.Clauses.{IsLiteralInRange};
 ghost use Rattle.dd_values.specs.Variables.{true_variables};

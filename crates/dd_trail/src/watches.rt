@@ -1,8 +1,8 @@
-// Two watched literals (Moskewicz, Madigan, Zhao, Zhang and Malik 2001): a clause needs no look while the two literals
-// that it watches are not false. So only the clauses that watch a literal are looked at when it becomes false, and
-// nothing is undone on a return. What a clause is found to say is looked at exactly, so no promise rests on the watches:
-// one that is missed costs time. Nor does an invariant say that the places kept here are within their lists: the tests
-// below that look for this never fail.
+//! Two watched literals (Moskewicz, Madigan, Zhao, Zhang and Malik 2001): a clause needs no look while the two literals
+//! that it watches are not false. So only the clauses that watch a literal are looked at when it becomes false, and
+//! nothing is undone on a return. What a clause is found to say is looked at exactly, so no contract rests on the watches:
+//! one that is missed costs time. Nor does an invariant say that the places kept here are within their lists: the tests
+//! below that look for this never fail.
 ghost use Rattle.std.specs.Prelude.{◌≡◌, ◌<◌, ◌^◌, length, IfOk, MatchOption, ⊤};
 ghost use Rattle.dd_trail.specs.Trails.{falses, IsFull};
 ghost use Rattle.dd_trail.specs.Propagation.{Says, AreOpenBetween};
