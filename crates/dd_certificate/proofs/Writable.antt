@@ -13,7 +13,7 @@ use Rattle.dd_clause.specs.Clauses.{negation, IsLiteralInRange}
 use Rattle.dd_derivation.specs.declared.propagation.Finding.{Finding}
 use Rattle.dd_derivation.specs.declared.propagation.Finding.TheVariants.{Falsified, Forced, Open}
 use Rattle.dd_derivation.specs.declared.step.Step.{Step}
-use Rattle.dd_derivation.specs.Derivations.{is_among, finding, clause_of, without, hint_finding, follow, is_conflict, are_deletable, known_after, is_literal_in_range, has_variable, is_proper, is_right, refutes_from, refutes}
+use Rattle.dd_derivation.specs.Derivations.{is_empty, is_among, finding, clause_of, without, hint_finding, follow, is_conflict, are_deletable, known_after, is_literal_in_range, has_variable, is_proper, is_right, refutes_from, refutes}
 use Rattle.dd_certificate.specs.Bounds.{most_count, IsWritableHint, IsWritableStep, IsWritableRefutation}
 
 -- ---- numbers of clauses
@@ -38,7 +38,7 @@ hinted says None is_last next goes_on = absurd (false≢true goes_on)
 hinted says (Some c) is_last next goes_on = refl
 
 -- it is the last one, or the hints after it are followed
-followed : (says : Finding) (hints : List ℕ) (next : Literal → Bool) → follow says (list_all (λ _. false) hints) next ≡ true →
+followed : (says : Finding) (hints : List ℕ) (next : Literal → Bool) → follow says (is_empty hints) next ≡ true →
     (hints ≡ []) ⊎ ((l : Literal) × (next l ≡ true))
 followed Falsified [] next goes_on = inl refl
 followed Falsified (h ∷ hints) next goes_on = absurd (false≢true goes_on)
@@ -100,7 +100,7 @@ step_fits n known s small few right =
 one_more : (known : List (Option (List Literal))) (s : Step) → length (known_after known s.deletes ++ Some s.clause ∷ []) ≡ length known + 1
 one_more known s = length-append (known_after known s.deletes) (Some s.clause ∷ []) ∙ (let same = many_after known s.deletes in omega (arith, same))
 
-none_left : (steps : List Step) → list_all (λ _. false) steps ≡ true → steps ≡ []
+none_left : (steps : List Step) → is_empty steps ≡ true → steps ≡ []
 none_left [] none = refl
 none_left (s ∷ steps) none = absurd (false≢true none)
 

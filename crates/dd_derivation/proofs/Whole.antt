@@ -1,12 +1,11 @@
 -- The check of one step after others, and of all.
 use Rattle.std.proofs.Common.{◌≡◌, ℕ, suc, ◌+◌, ◌<◌, ◌≤◌, Bool, true, false, cond, ◌&&◌, ◌||◌, List, [], ◌∷◌, ◌++◌, map, Option, Some, None, refl, ap, sym, ◌∙◌, length, get_or, take, drop, eqb, arith, drop-cons, add-one}
-use Rattle.std.specs.List.{list_all}
 use Rattle.std.proofs.lemmas.Bool.{eq-eqb, ne_eqb}
 use Rattle.std.proofs.lemmas.List.{take_more, map-append, append_assoc, append-nil, drop_all, length-take}
 use Rattle.std.proofs.lemmas.Option.{slice_get_read}
 use Rattle.dd_clause.specs.declared.clause.Literal.{Literal}
 use Rattle.dd_derivation.specs.declared.step.Step.{Step}
-use Rattle.dd_derivation.specs.Derivations.{is_right, known_after, known_after_steps, refutes_from, clauses_before, is_step_right}
+use Rattle.dd_derivation.specs.Derivations.{is_empty, is_right, known_after, known_after_steps, refutes_from, clauses_before, is_step_right}
 use Rattle.dd_derivation.specs.checking.MarksOf.{known_of}
 use Rattle.dd_derivation.specs.lemmas.Numbers.{length-before}
 use Rattle.dd_derivation.specs.lemmas.Falses.{is_last-drop}
@@ -30,13 +29,13 @@ before_more clauses steps i d h =
     ∙ ap (λ (ys : List (List Literal)). clauses ++ ys) (map-append (λ x. x.clause) (take i steps) (get_or steps i d ∷ []))
     ∙ sym (append_assoc clauses (map (λ x. x.clause) (take i steps)) ((get_or steps i d).clause ∷ []))
 
-pub refutes_at : (n : ℕ) (known : List (Option (List Literal))) (steps : List Step) (i : ℕ) (d : Step) → i < length steps → refutes_from n known (drop i steps) ≡ (is_right n known (get_or steps i d) && ((eqb (i + 1) (length steps) && list_all (λ _. false) (get_or steps i d).clause) || refutes_from n (known_after known (get_or steps i d).deletes ++ Some (get_or steps i d).clause ∷ []) (drop (i + 1) steps)))
+pub refutes_at : (n : ℕ) (known : List (Option (List Literal))) (steps : List Step) (i : ℕ) (d : Step) → i < length steps → refutes_from n known (drop i steps) ≡ (is_right n known (get_or steps i d) && ((eqb (i + 1) (length steps) && is_empty (get_or steps i d).clause) || refutes_from n (known_after known (get_or steps i d).deletes ++ Some (get_or steps i d).clause ∷ []) (drop (i + 1) steps)))
 refutes_at n known steps i d h = rw (drop-cons steps i d h, add-one i, is_last-drop steps (suc i) (omega arith)) refl
 
 pub before_none : (clauses : List (List Literal)) → clauses_before clauses [] ≡ clauses
 before_none clauses = append-nil clauses
 
-empty_test : (xs : List Literal) → list_all (λ _. false) xs ≡ eqb (length xs) 0
+empty_test : (xs : List Literal) → is_empty xs ≡ eqb (length xs) 0
 empty_test [] = refl
 empty_test (x ∷ xs) = sym (ne_eqb (suc (length xs)) 0 (λ e. omega arith))
 

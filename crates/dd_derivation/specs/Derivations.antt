@@ -9,6 +9,10 @@ use Rattle.dd_derivation.specs.declared.propagation.Finding.{Finding}
 use Rattle.dd_derivation.specs.declared.propagation.Finding.TheVariants.{Falsified, Forced, Open}
 use Rattle.dd_derivation.specs.declared.step.Step.{Step}
 
+abbrev pub is_empty : {X : Type 0} → List X → Bool
+is_empty [] = true
+is_empty (x ∷ xs) = false
+
 abbrev pub same_literal : Literal → Literal → Bool
 same_literal a b = (a.variable == b.variable) && beq a.positive b.positive
 
@@ -49,7 +53,7 @@ follow Open is_last next = false
 abbrev pub is_conflict : List (Option (List Literal)) → List Literal → List ℕ → Bool
 is_conflict known falses [] = false
 is_conflict known falses (h ∷ hints) =
-    follow (hint_finding known (is_among falses) h) (list_all (λ _. false) hints)
+    follow (hint_finding known (is_among falses) h) (is_empty hints)
     (λ l. is_conflict known (negation l ∷ falses) hints)
 
 -- each number has a clause when it is deleted
@@ -82,7 +86,7 @@ abbrev pub refutes_from : ℕ → List (Option (List Literal)) → List Step →
 refutes_from n known [] = false
 refutes_from n known (s ∷ steps) =
     is_right n known s
-    && ((list_all (λ _. false) steps && list_all (λ _. false) s.clause)
+    && ((is_empty steps && is_empty s.clause)
     || refutes_from n (known_after known s.deletes ++ Some s.clause ∷ []) steps)
 
 -- the steps refute the clauses over the variables 1..n

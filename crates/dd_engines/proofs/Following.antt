@@ -15,7 +15,7 @@ use Rattle.dd_clause.specs.declared.clause.Literal.{Literal}
 use Rattle.dd_clause.specs.Clauses.{negation, IsLiteralInRange, IsClauseInRange, ClauseList}
 use Rattle.dd_derivation.specs.declared.propagation.Finding.TheVariants.{Falsified, Forced, Open}
 use Rattle.dd_derivation.specs.declared.step.Step.{Step}
-use Rattle.dd_derivation.specs.Derivations.{same_literal, is_among, is_literal_in_range, finding_of, finding, clause_of, is_conflict, is_proper, is_right}
+use Rattle.dd_derivation.specs.Derivations.{is_empty, same_literal, is_among, is_literal_in_range, finding_of, finding, clause_of, is_conflict, is_proper, is_right}
 use Rattle.dd_engines.specs.declared.analysis.Entry.{Entry}
 use Rattle.dd_engines.specs.SingleSteps.{IsSingleStep}
 use Rattle.dd_engines.specs.propagation.Following.{is_other, is_false_by, unknown_count, unknowns, alive, falses, IsForced, IsTrail, Conflicts, Follows, FollowsMore, IsSettled}
@@ -261,7 +261,7 @@ no_conflict cs g all (h ∷ hints) falses below = elim (known_clause (λ c. find
   ]
 ]
 
-empty_of : (c : List Literal) → list_all (λ _. false) c ≡ true → c ≡ []
+empty_of : (c : List Literal) → is_empty c ≡ true → c ≡ []
 empty_of [] all = refl
 empty_of (x ∷ c) all = absurd (false≢true all)
 
@@ -271,7 +271,7 @@ settled_has_no_step cnf values all step single =
     let whole = and_parts (is_right cnf.variables known step) _ single in
     let right = and_parts (is_proper cnf.variables step.clause) _ whole.0 in
     let conflict = (and_parts (is_conflict known step.clause step.hints) _ right.1).0 in
-    let empty : step.clause ≡ [] = elim (or_cases (list_all (λ _. false) step.clause) false whole.1) [
+    let empty : step.clause ≡ [] = elim (or_cases (is_empty step.clause) false whole.1) [
       | inl e ↦ empty_of step.clause e
       | inr f ↦ absurd (false≢true f)
     ] in

@@ -1,6 +1,5 @@
 -- The learned steps are a derivation, and a learned clause may be hinted at from then on.
-use Rattle.std.proofs.Common.{◌≡◌, ℕ, suc, ◌+◌, Bool, true, false, ◌&&◌, List, [], ◌∷◌, ◌++◌, Option, Some, None, refl, ◌∙◌, subst, length, get_or, take, inl, inr, arith}
-use Rattle.std.specs.List.{list_all}
+use Rattle.std.proofs.Common.{◌≡◌, ℕ, suc, ◌+◌, Bool, true, ◌&&◌, List, [], ◌∷◌, ◌++◌, Option, Some, None, refl, ◌∙◌, subst, length, get_or, take, inl, inr, arith}
 use Rattle.std.proofs.lemmas.Bool.{and_parts, and_from, or_right, leb-true}
 use Rattle.std.proofs.lemmas.List.{length-append}
 use Rattle.std.proofs.lemmas.List.Elements.{All-cons, All-nil}
@@ -8,7 +7,7 @@ use Rattle.dd_clause.specs.declared.clause.Literal.{Literal}
 use Rattle.dd_clause.specs.Clauses.{IsLiteralInRange, IsClauseInRange}
 use Rattle.dd_derivation.specs.declared.propagation.Finding.TheVariants.{Forced}
 use Rattle.dd_derivation.specs.declared.step.Step.{Step}
-use Rattle.dd_derivation.specs.Derivations.{is_among, finding, hint_finding, is_literal_in_range, is_proper, is_conflict, is_right, are_deletable, known_after, refutes_from}
+use Rattle.dd_derivation.specs.Derivations.{is_empty, is_among, finding, hint_finding, is_literal_in_range, is_proper, is_conflict, is_right, are_deletable, known_after, refutes_from}
 use Rattle.dd_trail.specs.declared.trail.Entry.{Entry}
 use Rattle.dd_trail.specs.Trails.{falses}
 use Rattle.dd_solver.specs.searching.Reasons.{AreInRange, Follows, IsTrail}
@@ -71,7 +70,7 @@ derived_more n before (x ∷ steps) s h r =
 -- a derivation whose last clause is empty refutes
 pub refutes_last : (n : ℕ) (before : Known) (steps : List Step) (s : Step) → is_derived n before steps ≡ true → is_right n (known_through before steps) s ≡ true → s.clause ≡ [] → refutes_from n before (steps ++ s ∷ []) ≡ true
 refutes_last n before [] s h r e =
-    let b : list_all (λ _. false) s.clause ≡ true = rw e refl in
+    let b : is_empty s.clause ≡ true = rw e refl in
     rw (r, b) refl
 refutes_last n before (x ∷ steps) s h r e =
     let q = and_parts (is_right n before x) (is_derived n (after_step before x) steps) h in

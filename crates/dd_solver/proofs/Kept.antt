@@ -1,21 +1,24 @@
 -- The marked steps of a refutation refute too. Each clause that a marked step hints at is marked or one of the list's,
 -- so it is known under its new number when the hint is followed; and what is known there is the same clause.
 use Rattle.std.proofs.Common.{◌≡◌, ℕ, suc, ◌<◌, ◌≤◌, Bool, true, false, cond, ◌&&◌, ◌||◌, List, [], ◌∷◌, ◌++◌, map, Option, Some, None, refl, ap, sym, ◌∙◌, subst, length, inl, inr, ◌⊎◌, arith}
-use Rattle.std.specs.List.{list_all, All}
+use Rattle.std.specs.List.{All}
 use Rattle.std.specs.Option.{option_map_or}
 use Rattle.std.proofs.lemmas.Bool.{and_parts, and_from, or_cases, or_left, or_right, false≢true, eqb-true, eq-eqb}
 use Rattle.std.proofs.lemmas.List.{length-append}
 use Rattle.std.proofs.lemmas.List.Elements.{All-nil, All-cons}
-use Rattle.std.proofs.lemmas.List.Folds.{list_all-map}
 use Rattle.dd_clause.specs.declared.clause.Literal.{Literal}
 use Rattle.dd_clause.specs.Clauses.{negation}
 use Rattle.dd_derivation.specs.declared.propagation.Finding.{Finding}
 use Rattle.dd_derivation.specs.declared.propagation.Finding.TheVariants.{Falsified, Forced, Open}
 use Rattle.dd_derivation.specs.declared.step.Step.{Step}
-use Rattle.dd_derivation.specs.Derivations.{is_among, finding, clause_of, follow, is_conflict, known_after, is_proper, is_right, refutes_from}
+use Rattle.dd_derivation.specs.Derivations.{is_empty, is_among, finding, clause_of, follow, is_conflict, known_after, is_proper, is_right, refutes_from}
 use Rattle.dd_solver.specs.Trimming.{is_hint, is_hinted, are_used}
 use Rattle.dd_solver.specs.searching.Marking.{kept_step, kept_steps}
 use Rattle.dd_solver.proofs.Numbers.{Known, known_push, known_left, known_last, known_within, known_before, length-after}
+
+is_empty-map : {X Y : Type 0} (f : X → Y) (xs : List X) → is_empty (map f xs) ≡ is_empty xs
+is_empty-map f [] = refl
+is_empty-map f (x ∷ xs) = refl
 
 -- the hints, under new numbers of the same clauses, end in the conflict that they ended in
 conflict_renamed : (old new : Known) (rename : ℕ → ℕ) (falses : List Literal) (hints : List ℕ) → ((h : ℕ) (x : List Literal) → is_hint h hints ≡ true → clause_of old h ≡ Some x → clause_of new (rename h) ≡ Some x) → is_conflict old falses hints ≡ true → is_conflict new falses (map rename hints) ≡ true
@@ -26,13 +29,13 @@ conflict_renamed old new rename falses (n ∷ hints) a h = go (λ l e. conflict_
     rest h x i e = a h x (or_right _ _ i) e
 
     next : ((l : Literal) → is_conflict old (negation l ∷ falses) hints ≡ true → is_conflict new (negation l ∷ falses) (map rename hints) ≡ true)
-        → (f : Finding) → follow f (list_all (λ _. false) hints) (λ l. is_conflict old (negation l ∷ falses) hints) ≡ true → follow f (list_all (λ _. false) (map rename hints)) (λ l. is_conflict new (negation l ∷ falses) (map rename hints)) ≡ true
-    next more Falsified e = list_all-map (λ _. false) rename hints ∙ e
+        → (f : Finding) → follow f (is_empty hints) (λ l. is_conflict old (negation l ∷ falses) hints) ≡ true → follow f (is_empty (map rename hints)) (λ l. is_conflict new (negation l ∷ falses) (map rename hints)) ≡ true
+    next more Falsified e = is_empty-map rename hints ∙ e
     next more (Forced l) e = more l e
     next more Open e = absurd (false≢true e)
 
     go : ((l : Literal) → is_conflict old (negation l ∷ falses) hints ≡ true → is_conflict new (negation l ∷ falses) (map rename hints) ≡ true)
-        → (o : Option (List Literal)) → clause_of old n ≡ o → follow (option_map_or (finding (is_among falses)) o Open) (list_all (λ _. false) hints) (λ l. is_conflict old (negation l ∷ falses) hints) ≡ true → is_conflict new falses (map rename (n ∷ hints)) ≡ true
+        → (o : Option (List Literal)) → clause_of old n ≡ o → follow (option_map_or (finding (is_among falses)) o Open) (is_empty hints) (λ l. is_conflict old (negation l ∷ falses) hints) ≡ true → is_conflict new falses (map rename (n ∷ hints)) ≡ true
     go more None e f = absurd (false≢true f)
     go more (Some x) e f =
         let s : clause_of new (rename n) ≡ Some x = a n x (or_left _ _ (eq-eqb n n refl)) e in
@@ -50,8 +53,8 @@ pub record IsPlanned (keep : ℕ → Bool) (rename : ℕ → ℕ) (next last : �
   pub same : keep next ≡ m
   pub number : m ≡ true → rename next ≡ suc last
   pub hints : m ≡ true → (h : ℕ) → h < next → is_hint h s.hints ≡ true → keep h ≡ true
-  pub end : list_all (λ _. false) steps ≡ true → m ≡ true
-  pub needed : m ≡ true → (list_all (λ _. false) steps ≡ true) ⊎ (hinted_by next marked steps ≡ true)
+  pub end : is_empty steps ≡ true → m ≡ true
+  pub needed : m ≡ true → (is_empty steps ≡ true) ⊎ (hinted_by next marked steps ≡ true)
 
 abbrev pub Plan : (keep : ℕ → Bool) (rename : ℕ → ℕ) → ℕ → ℕ → List Bool → List Step → Type 0
 Plan keep rename next last [] steps = Unit {0}
@@ -76,7 +79,7 @@ agree_left keep rename old new c ds f a h x k e = elim (known_push (known_after 
       absurd (false≢true (sym f ∙ sym (ap keep n) ∙ k)))
 ]
 
-none_kept : (rename : ℕ → ℕ) (marked : List Bool) (steps : List Step) → list_all (λ _. false) steps ≡ true → list_all (λ _. false) (kept_steps rename marked steps) ≡ true
+none_kept : (rename : ℕ → ℕ) (marked : List Bool) (steps : List Step) → is_empty steps ≡ true → is_empty (kept_steps rename marked steps) ≡ true
 none_kept rename [] steps h = refl
 none_kept rename (m ∷ marked) [] h = refl
 none_kept rename (m ∷ marked) (s ∷ steps) h = absurd (false≢true h)
@@ -99,7 +102,7 @@ refutes_kept n keep rename next last (m ∷ marked) [] old new l o w p a r = abs
 refutes_kept n keep rename next last (m ∷ marked) (s ∷ steps) old new l o w p a r =
     go (λ last' new' w' p' a' e. refutes_kept n keep rename (suc next) last' marked steps (after_step old s) new' (omega arith) long w' p' a' e) m refl
   where
-    right : (is_right n old s ≡ true) × (((list_all (λ _. false) steps && list_all (λ _. false) s.clause) || refutes_from n (after_step old s) steps) ≡ true)
+    right : (is_right n old s ≡ true) × (((is_empty steps && is_empty s.clause) || refutes_from n (after_step old s) steps) ≡ true)
     right = and_parts (is_right n old s) _ r
 
     long : suc next ≡ suc (length (after_step old s))
@@ -111,13 +114,13 @@ refutes_kept n keep rename next last (m ∷ marked) (s ∷ steps) old new l o w 
     go : ((last' : ℕ) (new' : Known) → last' ≡ length new' → Plan keep rename (suc next) last' marked steps → Agree keep rename (after_step old s) new' → refutes_from n (after_step old s) steps ≡ true → refutes_from n new' (kept_steps rename marked steps) ≡ true)
         → (m' : Bool) → m ≡ m' → refutes_from n new (kept_steps rename (m' ∷ marked) (s ∷ steps)) ≡ true
     go more true t = and_from _ _ (kept t) (elim (or_cases _ _ right.1) [
-      | inl b ↦ (let e = and_parts (list_all (λ _. false) steps) (list_all (λ _. false) s.clause) b in or_left _ _ (and_from _ _ (none_kept rename marked steps e.0) e.1))
+      | inl b ↦ (let e = and_parts (is_empty steps) (is_empty s.clause) b in or_left _ _ (and_from _ _ (none_kept rename marked steps e.0) e.1))
       | inr b ↦ or_right _ _ (more (suc last) (new ++ Some s.clause ∷ []) (omega (arith, length-append new (Some s.clause ∷ [])))
           (subst (λ (i : ℕ). Plan keep rename (suc next) i marked steps) (ap (λ (b : Bool). cond b (suc last) last) t) p.1)
           (agree_kept keep rename old new s.clause s.deletes (sym (ap rename o) ∙ p.0.number t ∙ ap suc w) a) b)
     ])
     go more false t = elim (or_cases _ _ right.1) [
-      | inl b ↦ absurd (false≢true (sym t ∙ p.0.end (and_parts (list_all (λ _. false) steps) (list_all (λ _. false) s.clause) b).0))
+      | inl b ↦ absurd (false≢true (sym t ∙ p.0.end (and_parts (is_empty steps) (is_empty s.clause) b).0))
       | inr b ↦ more last new w
           (subst (λ (i : ℕ). Plan keep rename (suc next) i marked steps) (ap (λ (b : Bool). cond b (suc last) last) t) p.1)
           (agree_left keep rename old new s.clause s.deletes (sym (ap keep o) ∙ p.0.same ∙ t) a) b
@@ -144,7 +147,7 @@ pub used_kept : (keep : ℕ → Bool) (rename : ℕ → ℕ) (next last : ℕ) (
 used_kept keep rename next last [] steps p = refl
 used_kept keep rename next last (m ∷ marked) [] p = refl
 used_kept keep rename next last (true ∷ marked) (s ∷ steps) p =
-    let first : (list_all (λ _. false) (kept_steps rename marked steps) || is_hinted (suc last) (kept_steps rename marked steps)) ≡ true =
+    let first : (is_empty (kept_steps rename marked steps) || is_hinted (suc last) (kept_steps rename marked steps)) ≡ true =
     elim (p.0.needed refl) [
       | inl e ↦ or_left _ _ (none_kept rename marked steps e)
       | inr e ↦ or_right _ _ (subst (λ (i : ℕ). is_hinted i (kept_steps rename marked steps) ≡ true) (p.0.number refl) (hinted_kept rename next marked steps e))

@@ -1,11 +1,10 @@
 -- What the walk marked, and the numbers that it gave, is all that the steps' refutation needs.
 use Rattle.std.proofs.Common.{◌≡◌, ℕ, zero, suc, ◌+◌, ◌-◌, ◌<◌, Bool, true, false, cond, ◌||◌, List, [], ◌∷◌, refl, ap, sym, ◌∙◌, subst, length, get_or, drop, leb, inl, inr, ◌⊎◌, arith}
-use Rattle.std.specs.List.{list_all}
 use Rattle.std.proofs.lemmas.Bool.{or_left, or_right, and_from, false≢true, le-leb, lt-leb, cases_lt}
 use Rattle.std.proofs.lemmas.List.{get_or-drop, length-drop}
 use Rattle.dd_clause.specs.declared.clause.Literal.{Literal}
 use Rattle.dd_derivation.specs.declared.step.Step.{Step}
-use Rattle.dd_derivation.specs.Derivations.{refutes}
+use Rattle.dd_derivation.specs.Derivations.{is_empty, refutes}
 use Rattle.dd_solver.specs.searching.Reasons.{all_known}
 use Rattle.dd_solver.specs.Trimming.{is_hint, are_used}
 use Rattle.dd_solver.specs.searching.Marking.{IsNeeded, IsMarking, numbers_from, renamed, kept_steps}
@@ -41,7 +40,7 @@ plan keep rename next last (m ∷ marked) (s ∷ steps) f = (here, plan keep ren
     first : next + 0 ≡ next
     first = omega arith
 
-    more : (x : List Step) → (list_all (λ _. false) x ≡ true) ⊎ (0 < length x)
+    more : (x : List Step) → (is_empty x ≡ true) ⊎ (0 < length x)
     more [] = inl refl
     more (y ∷ x) = inr (omega arith)
 
@@ -54,7 +53,7 @@ plan keep rename next last (m ∷ marked) (s ∷ steps) f = (here, plan keep ren
       needed = λ t. elim (more steps) [ inl a ↦ inl a | inr b ↦ inr (subst (λ (i : ℕ). hinted_by i marked steps ≡ true) first (f.needed 0 (omega arith) t)) ];
     }
       where
-        ends : (x : List Step) → list_all (λ _. false) x ≡ true → 1 ≡ suc (length x)
+        ends : (x : List Step) → is_empty x ≡ true → 1 ≡ suc (length x)
         ends [] e = refl
         ends (y ∷ x) e = absurd (false≢true e)
 

@@ -1,7 +1,8 @@
 -- What it is for each step of a refutation to be used.
-use Rattle.std.specs.Prelude.{ℕ, suc, ◌==◌, Bool, true, false, ◌&&◌, ◌||◌, List, [], ◌∷◌}
-use Rattle.std.specs.List.{list_any, list_all}
+use Rattle.std.specs.Prelude.{ℕ, suc, ◌==◌, Bool, true, ◌&&◌, ◌||◌, List, [], ◌∷◌}
+use Rattle.std.specs.List.{list_any}
 use Rattle.dd_derivation.specs.declared.step.Step.{Step}
+use Rattle.dd_derivation.specs.Derivations.{is_empty}
 
 -- the number is one of the hints
 abbrev pub is_hint : ℕ → List ℕ → Bool
@@ -14,4 +15,4 @@ is_hinted number steps = list_any (λ s. is_hint number s.hints) steps
 -- Each step but the last is used: a hint of a later one names it. The first of the steps has this number.
 abbrev pub are_used : ℕ → List Step → Bool
 are_used number [] = true
-are_used number (s ∷ later) = (list_all (λ _. false) later || is_hinted number later) && are_used (suc number) later
+are_used number (s ∷ later) = (is_empty later || is_hinted number later) && are_used (suc number) later

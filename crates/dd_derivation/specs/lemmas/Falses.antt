@@ -1,7 +1,6 @@
 -- The marks and the hinted clauses tell which literals are false.
 use Rattle.std.proofs.Common.{◌≡◌, ◌≢◌, ℕ, zero, suc, ◌+◌, ◌-◌, ◌<◌, ◌≤◌, Bool, true, false, not, ◌||◌, List, [], ◌∷◌, ◌++◌, Option, Some, None, unwrap_or, refl, ap, sym, ◌∙◌, subst, length, get_or, take, drop, arith, set, eqb, get_or-set_same, get_or-set_other, inl, inr, ◌⊎◌, drop-cons, add-one, take-append-drop}
 use Rattle.std.specs.Bool.{beq}
-use Rattle.std.specs.List.{list_all}
 use Rattle.std.specs.Option.{option_map_or}
 use Rattle.std.proofs.lemmas.List.{length-set, take_more, append_assoc, append-nil}
 use Rattle.std.proofs.lemmas.List.Elements.{All-set}
@@ -11,7 +10,7 @@ use Rattle.dd_clause.specs.Clauses.{negation, IsLiteralInRange}
 use Rattle.dd_derivation.specs.declared.propagation.Finding.{Finding}
 use Rattle.dd_derivation.specs.declared.propagation.Finding.TheVariants.{Forced, Open}
 use Rattle.dd_derivation.specs.declared.propagation.VariableMark.{VariableMark}
-use Rattle.dd_derivation.specs.Derivations.{same_literal, is_among, is_literal_in_range, finding, clause_of, hint_finding, follow, is_conflict}
+use Rattle.dd_derivation.specs.Derivations.{is_empty, same_literal, is_among, is_literal_in_range, finding, clause_of, hint_finding, follow, is_conflict}
 use Rattle.dd_derivation.specs.checking.MarksOf.{is_marked, with_mark, first_literal_of, literals_of, is_false_unmarked, is_false, FalsesAre, AreUpTo}
 use Rattle.dd_derivation.specs.lemmas.Soundness.{same_literal-eq, same_literal-refl, literal-eq, beq-eq}
 use Rattle.dd_derivation.specs.lemmas.Findings.{In, Forces, forces_from, hint_finding-congr}
@@ -216,7 +215,7 @@ hinted_here known hints i v clause m lt h c e =
 pub hinted_more : (known : List (Option (List Literal))) (hints : List ℕ) (i v : ℕ) → i < length hints → first_literal_of v (literals_of known (take i hints)) ≡ None → first_literal_of v (unwrap_or (clause_of known (get_or hints i 0)) []) ≡ None → first_literal_of v (literals_of known (take (i + 1) hints)) ≡ None
 hinted_more known hints i v lt h n = ap (first_literal_of v) (literals_of-more known hints i lt) ∙ first_literal_of-none v (literals_of known (take i hints)) (unwrap_or (clause_of known (get_or hints i 0)) []) h ∙ n
 
-pub is_last-drop : {A : Type 0} (hints : List A) (j : ℕ) → j ≤ length hints → list_all (λ _. false) (drop j hints) ≡ eqb j (length hints)
+pub is_last-drop : {A : Type 0} (hints : List A) (j : ℕ) → j ≤ length hints → is_empty (drop j hints) ≡ eqb j (length hints)
 is_last-drop [] zero h = refl
 is_last-drop [] (suc j) h = absurd (omega arith)
 is_last-drop (x ∷ hints) zero h = sym (ne_eqb 0 (suc (length hints)) (λ e. omega arith))

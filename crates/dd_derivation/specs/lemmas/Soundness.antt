@@ -11,7 +11,7 @@ use Rattle.dd_clause.specs.Clauses.{negation, is_true_under, is_clause_true, Sat
 use Rattle.dd_derivation.specs.declared.propagation.Finding.{Finding}
 use Rattle.dd_derivation.specs.declared.propagation.Finding.TheVariants.{Falsified, Forced, Open}
 use Rattle.dd_derivation.specs.declared.step.Step.{Step}
-use Rattle.dd_derivation.specs.Derivations.{same_literal, is_among, finding_of, finding, clause_of, hint_finding, follow, is_conflict, is_proper, is_right, known_after, refutes_from, refutes}
+use Rattle.dd_derivation.specs.Derivations.{is_empty, same_literal, is_among, finding_of, finding, clause_of, hint_finding, follow, is_conflict, is_proper, is_right, known_after, refutes_from, refutes}
 
 pub beq-eq : (a b : Bool) → beq a b ≡ true → a ≡ b
 beq-eq true true h = refl
@@ -160,7 +160,7 @@ all_false set (l ∷ clause) h x e =
       | inr a ↦ all_false set clause p.1 x a
     ]
 
-empty_false : (set : ℕ → Bool) (clause : List Literal) → list_all (λ _. false) clause ≡ true → is_clause_true set clause ≡ true → ⊥
+empty_false : (set : ℕ → Bool) (clause : List Literal) → is_empty clause ≡ true → is_clause_true set clause ≡ true → ⊥
 empty_false set [] h t = false≢true t
 empty_false set (l ∷ clause) h t = false≢true h
 
@@ -184,8 +184,8 @@ refutes_false set n known [] s h = false≢true h
 refutes_false set n known (step ∷ steps) s h =
     let p = and_parts (is_right n known step) _ h in
     let t = step_true set n known step s p.0 in
-    elim (or_cases (list_all (λ _. false) steps && list_all (λ _. false) step.clause) _ p.1) [
-      | inl e ↦ empty_false set step.clause (and_parts (list_all (λ _. false) steps) _ e).1 t
+    elim (or_cases (is_empty steps && is_empty step.clause) _ p.1) [
+      | inl e ↦ empty_false set step.clause (and_parts (is_empty steps) _ e).1 t
       | inr r ↦ refutes_false set n (known_after known step.deletes ++ Some step.clause ∷ []) steps (All-push (TrueIfKnown set) _ (Some step.clause) (after_true set known step.deletes s) (λ c e. let q : step.clause ≡ c = some_eq _ _ e in subst (λ (x : List Literal). is_clause_true set x ≡ true) q t)) r
     ]
 
