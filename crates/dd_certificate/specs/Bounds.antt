@@ -1,15 +1,12 @@
 -- The answers that an output can hold: each number within bounds, and each list with as many entries as its line allows.
 use Rattle.std.specs.Prelude.{ℕ, ℤ, ◌≡◌, ◌≤◌, ◌⊎◌, ◌^◌, ◌-◌, List, All, length, unsigned_abs}
 use Rattle.dd_values.specs.Bounds.{most_variables}
+pub use Rattle.dd_values.specs.Bounds.{most_number}
 use Rattle.dd_clause.specs.Clauses.{IsLiteralInRange}
 use Rattle.dd_derivation.specs.declared.step.Step.{Step}
 use Rattle.dd_certificate.specs.declared.answer.Listed.{Listed}
 use Rattle.dd_certificate.specs.declared.answer.Answer.{Answer}
 use Rattle.dd_certificate.specs.declared.answer.Answer.TheVariants as answer
-
--- the greatest number of most lines
-abbrev pub most_number : ℕ
-most_number = 2 ^ 40
 
 -- the greatest number of a clause, and of steps
 abbrev pub most_count : ℕ

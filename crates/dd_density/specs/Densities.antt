@@ -1,6 +1,7 @@
 -- What the least density of a strip is answered with.
-use Rattle.std.specs.Prelude.{ℕ, ◌≤◌, ◌^◌, ℤ, unsigned_abs, List, length}
+use Rattle.std.specs.Prelude.{ℕ, ◌≤◌, ℤ, unsigned_abs, List, length}
 use Rattle.std.specs.List.{All}
+use Rattle.dd_values.specs.Bounds.{most_number}
 use Rattle.dd_formula.specs.LocalRule.{LocalRule}
 use Rattle.dd_counts.specs.Rules.{states}
 use Rattle.dd_transfer.specs.declared.strip.Strip.{Strip}
@@ -14,14 +15,14 @@ abbrev pub IsCertifiedDensity : LocalRule → Strip → List ℕ → Density →
 IsCertifiedDensity r s weights (Least p q walk ps) = IsDensityCertificate r s weights p q walk ps
 IsCertifiedDensity r s weights (Empty ranks) = IsEmptyCertificate r s ranks
 
--- no number is greater than 2^40, and no walk has more states than the graph
+-- an output can hold each number, and no walk has more states than the graph
 pub record IsSmallLeast (r : LocalRule) (s : Strip) (p q : ℕ) (walk : List ℕ) (ps : List ℤ) : Type 0 where
-  pub numerator : p ≤ 2 ^ 40
-  pub denominator : q ≤ 2 ^ 40
+  pub numerator : p ≤ most_number
+  pub denominator : q ≤ most_number
   pub short : length walk ≤ states r (positions s)
-  pub walked : All (λ u. u ≤ 2 ^ 40) walk
-  pub potentials : All (λ x. unsigned_abs x ≤ 2 ^ 40) ps
+  pub walked : All (λ u. u ≤ most_number) walk
+  pub potentials : All (λ x. unsigned_abs x ≤ most_number) ps
 
 abbrev pub IsSmallDensity : LocalRule → Strip → Density → Type 0
 IsSmallDensity r s (Least p q walk ps) = IsSmallLeast r s p q walk ps
-IsSmallDensity r s (Empty ranks) = All (λ x. x ≤ 2 ^ 40) ranks
+IsSmallDensity r s (Empty ranks) = All (λ x. x ≤ most_number) ranks

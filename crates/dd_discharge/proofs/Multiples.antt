@@ -11,10 +11,11 @@ use Rattle.std.specs.List.{fold}
 use Rattle.std.proofs.lemmas.Nat.{mod_below}
 use Rattle.std.proofs.lemmas.Nat.Gcd.{IsGcd-from_zero, IsGcd-from_mod, dvd_trans, dvd_refl, le_of_dvd}
 use Rattle.std.proofs.Math.Nat.{div-mul_cancel, dvd-mul_left, div-one}
+use Rattle.dd_values.specs.Bounds.{most_number}
 use Rattle.dd_fraction.specs.Divisor.{common_within, greatest_common}
 use Rattle.dd_fraction.specs.Exact.{Exact, den_of, lowest, IsLowest}
 use Rattle.dd_fraction.specs.Checked.{IsFraction, does_pair_fit, fraction_of}
-use Rattle.dd_discharge.specs.Denominators.{least_common, joined_denominator, common_denominator, most_printed, printed}
+use Rattle.dd_discharge.specs.Denominators.{least_common, joined_denominator, common_denominator, printed}
 
 -- ---- Euclid's rule gives the greatest common divisor
 is_common : (n a b : ℕ) → b < n → IsGcd a b (common_within n a b)
@@ -89,11 +90,11 @@ pub ratio_is : (n d : ℕ) (r : Exact) → Some r ≡ fraction_of (pos n) (pos d
 ratio_is n d r e = some_is (does_pair_fit (pos n) (pos d)) (lowest (pos n) d) r e
 
 -- ---- what can be printed
-pub printed_none : (n : ℕ) → most_printed < n → None ≡ printed n
-printed_none n p = rw (lt-leb n most_printed p) refl
+pub printed_none : (n : ℕ) → most_number < n → None ≡ printed n
+printed_none n p = rw (lt-leb n most_number p) refl
 
-pub printed_some : (n : ℕ) → n ≤ most_printed → Some n ≡ printed n
-printed_some n p = rw (le-leb n most_printed p) refl
+pub printed_some : (n : ℕ) → n ≤ most_number → Some n ≡ printed n
+printed_some n p = rw (le-leb n most_number p) refl
 
 -- the product that is tested, and the least common multiple
 pub multiple_is : (n : ℕ) (a r : Exact) (x y s t : ℤ) (u v : ℕ) → IsFraction a → x ≡ pos n → y ≡ pos a.den → Some r ≡ fraction_of x y
@@ -104,19 +105,19 @@ multiple_is n a r x y s t u v f px py pr ps pu pt pv =
     let right : v ≡ a.den = pv ∙ ap unsigned_abs pt in
     rw (left, right) (ratio_num n a.den r f.above e)
 
-pub printed_is : (n m : ℕ) → Some m ≡ printed n → (m ≡ n) × (n ≤ most_printed)
-printed_is n m e = by (leb n most_printed) refl e
+pub printed_is : (n m : ℕ) → Some m ≡ printed n → (m ≡ n) × (n ≤ most_number)
+printed_is n m e = by (leb n most_number) refl e
   where
-    by : (t : Bool) → leb n most_printed ≡ t → Some m ≡ cond t (Some n) None → (m ≡ n) × (n ≤ most_printed)
-    by true l e = (cc, leb-true n most_printed l)
+    by : (t : Bool) → leb n most_number ≡ t → Some m ≡ cond t (Some n) None → (m ≡ n) × (n ≤ most_number)
+    by true l e = (cc, leb-true n most_number l)
     by false l e = absurd cc
 
-pub unprinted : (n : ℕ) → None ≡ printed n → most_printed < n
-unprinted n e = by (leb n most_printed) refl e
+pub unprinted : (n : ℕ) → None ≡ printed n → most_number < n
+unprinted n e = by (leb n most_number) refl e
   where
-    by : (t : Bool) → leb n most_printed ≡ t → None ≡ cond t (Some n) None → most_printed < n
+    by : (t : Bool) → leb n most_number ≡ t → None ≡ cond t (Some n) None → most_number < n
     by true l e = absurd cc
-    by false l e = leb-false n most_printed l
+    by false l e = leb-false n most_number l
 
 -- one fraction more
 pub joined_more : (n c i : ℕ) (xs : List Exact) (x : Exact) → i < length xs → x ≡ get_or xs i x → fold joined_denominator n xs ≡ fold joined_denominator c (drop i xs)
@@ -135,7 +136,7 @@ joined_past n c i xs x z p e h none =
     let past = unprinted (joined_denominator c x) none in
     printed_none (fold joined_denominator n xs) (omega (arith, more, grows, past))
 
-pub joined_whole : (n c : ℕ) (xs : List Exact) → c ≤ most_printed → fold joined_denominator n xs ≡ fold joined_denominator c (drop (length xs) xs) → Some c ≡ printed (fold joined_denominator n xs)
+pub joined_whole : (n c : ℕ) (xs : List Exact) → c ≤ most_number → fold joined_denominator n xs ≡ fold joined_denominator c (drop (length xs) xs) → Some c ≡ printed (fold joined_denominator n xs)
 joined_whole n c xs p h = let same : c ≡ fold joined_denominator n xs = sym (h ∙ ap (fold joined_denominator c) (drop-length xs)) in printed_some c p ∙ ap printed same
 
 -- a fraction in lowest terms is its own reduction

@@ -12,7 +12,7 @@ use Rattle.dd_simplex.specs.Runs.{Ends, Overflows, AtLimit, RunOverflows, RunPiv
 use Rattle.dd_simplex.specs.Laws.{DoesEnd}
 use Rattle.dd_discharge.specs.declared.bound.Bound.{Bound}
 use Rattle.dd_rows.specs.declared.rows.Rows.{Rows}
-use Rattle.dd_discharge.specs.Denominators.{common_denominator, numerator_over, most_printed, ArePrinted, HasUnprinted}
+use Rattle.dd_discharge.specs.Denominators.{common_denominator, numerator_over, ArePrinted, HasUnprinted}
 use Rattle.dd_rows.specs.Programs.{IsProgramOf, IsLargeProgram}
 use Rattle.dd_discharge.specs.Bounds as bounds
 use Rattle.dd_discharge.specs.Bounds.{EndsWith, EndsUnprinted, linear_program, IsBoundOf, StopsAtPivots}

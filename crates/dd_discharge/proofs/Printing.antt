@@ -14,6 +14,7 @@ use Rattle.std.proofs.lemmas.Grind.{common_steps}
 use Rattle.std.proofs.Math.ListN.{get_or-append}
 use Rattle.std.proofs.Math.Seq.{take-length}
 use Rattle.std.proofs.Math.Nat.{div-mul_cancel}
+use Rattle.dd_values.specs.Bounds.{most_number}
 use Rattle.dd_fraction.specs.Exact.{Exact, den_of}
 use Rattle.dd_fraction.specs.Order.{IsNonneg}
 use Rattle.dd_fraction.specs.Checked.{IsFraction}
@@ -21,7 +22,7 @@ use Rattle.dd_simplex.specs.Programs.{fraction_at, zero_of}
 use Rattle.dd_discharge.specs.declared.fault.DischargeFault.{DischargeFault}
 use Rattle.dd_discharge.specs.declared.fault.DischargeFault.TheVariants as fault
 use Rattle.dd_discharge.specs.Faults.{OnOverflow}
-use Rattle.dd_discharge.specs.Denominators.{joined_denominator, common_denominator, numerator_over, most_printed, printed, ArePrinted, HasUnprinted, IsPrintedAs}
+use Rattle.dd_discharge.specs.Denominators.{joined_denominator, common_denominator, numerator_over, printed, ArePrinted, HasUnprinted, IsPrintedAs}
 use Rattle.dd_discharge.proofs.Multiples.{printed_is, printed_none, unprinted, joined_above, joined_grows, each_divides}
 
 -- ---- the least common denominator of two lists
@@ -93,12 +94,12 @@ at_least : (p t m : ℕ) → 0 < t → p * t ≤ m → p ≤ m
 at_least p zero m z h = absurd (omega (arith, z))
 at_least p (suc t) m z h = omega (arith, h)
 
-pub small_numerator : (v : Exact) (xs ys : List Exact) (n m : ℕ) → Given v xs ys n → Some m ≡ printed (numerator_over n v) → unsigned_abs v.num ≤ most_printed
+pub small_numerator : (v : Exact) (xs ys : List Exact) (n m : ℕ) → Given v xs ys n → Some m ≡ printed (numerator_over n v) → unsigned_abs v.num ≤ most_number
 small_numerator v xs ys n m g e =
     let d = value_divides v xs ys n g in
-    at_least (unsigned_abs v.num) (n / den_of v) most_printed (part_above (n / den_of v) (den_of v) (div-mul_cancel (den_of v) d) (common_some (xs ++ ys) n g.common)) (printed_is (numerator_over n v) m e).1
+    at_least (unsigned_abs v.num) (n / den_of v) most_number (part_above (n / den_of v) (den_of v) (div-mul_cancel (den_of v) d) (common_some (xs ++ ys) n g.common)) (printed_is (numerator_over n v) m e).1
 
-pub small_denominator : (v : Exact) (xs ys : List Exact) (n : ℕ) → Given v xs ys n → v.den ≤ most_printed
+pub small_denominator : (v : Exact) (xs ys : List Exact) (n : ℕ) → Given v xs ys n → v.den ≤ most_number
 small_denominator v xs ys n g =
     let low = le_of_dvd (common_some (xs ++ ys) n g.common) (value_divides v xs ys n g) in
     let is = printed_is (common_denominator (xs ++ ys)) n g.common in
@@ -114,18 +115,18 @@ held_all v [] P p e h all = absurd (omega (arith, p))
 held_all v (x ∷ xs) P p e h all = one_all P x xs (subst P (sym e) h) all
 
 pub are_printed : (v : Exact) (xs ys : List Exact) (n m : ℕ) → Given v xs ys n → Some m ≡ printed (numerator_over n v)
-    → All (λ a. numerator_over n a ≤ most_printed) (drop 1 xs) → All (λ a. numerator_over n a ≤ most_printed) ys → ArePrinted (xs ++ ys)
+    → All (λ a. numerator_over n a ≤ most_number) (drop 1 xs) → All (λ a. numerator_over n a ≤ most_number) ys → ArePrinted (xs ++ ys)
 are_printed v xs ys n m g e a b =
     let is = printed_is (common_denominator (xs ++ ys)) n g.common in
-    let P : ℕ → Exact → Type 0 = λ c a. numerator_over c a ≤ most_printed in
+    let P : ℕ → Exact → Type 0 = λ c a. numerator_over c a ≤ most_number in
     record {
       denominator = is.1;
       numerators = subst (λ (c : ℕ). All (P c) (xs ++ ys)) is.0
           (All-append (P n) xs ys (held_all v xs (P n) g.some g.first (printed_is (numerator_over n v) m e).1 a) b);
     }
 
-pub unprinted_at : (xs : List Exact) (n : ℕ) → Some n ≡ printed (common_denominator xs) → Any (λ a. most_printed < numerator_over n a) xs → HasUnprinted xs
-unprinted_at xs n e h = inr (subst (λ (c : ℕ). Any (λ a. most_printed < numerator_over c a) xs) (printed_is (common_denominator xs) n e).0 h)
+pub unprinted_at : (xs : List Exact) (n : ℕ) → Some n ≡ printed (common_denominator xs) → Any (λ a. most_number < numerator_over n a) xs → HasUnprinted xs
+unprinted_at xs n e h = inr (subst (λ (c : ℕ). Any (λ a. most_number < numerator_over c a) xs) (printed_is (common_denominator xs) n e).0 h)
 
 -- all but the first
 abbrev nothing : (X : Type 0) → List X
@@ -149,8 +150,8 @@ over_from fault.Pivots A B g h = h
 over_from fault.Memory A B g h = h
 
 pub printed_as : (v : Exact) (xs ys : List Exact) (n m : ℕ) (p q : ℕ) (amounts duals : List ℕ) → Given v xs ys n → Some m ≡ printed (numerator_over n v) → p ≡ unsigned_abs v.num → q ≡ v.den
-    → amounts ≡ map (numerator_over n) (drop 1 xs) → All (λ a. numerator_over n a ≤ most_printed) (drop 1 xs)
-    → duals ≡ map (numerator_over n) ys → All (λ a. numerator_over n a ≤ most_printed) ys
+    → amounts ≡ map (numerator_over n) (drop 1 xs) → All (λ a. numerator_over n a ≤ most_number) (drop 1 xs)
+    → duals ≡ map (numerator_over n) ys → All (λ a. numerator_over n a ≤ most_number) ys
     → IsPrintedAs v xs ys (record { numerator = p; denominator = q; common = n; amounts = amounts; duals = duals })
 printed_as v xs ys n m p q amounts duals g e pe qe ae ap_all de dp_all = record {
   printed = are_printed v xs ys n m g e ap_all dp_all;

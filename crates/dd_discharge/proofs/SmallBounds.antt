@@ -4,15 +4,16 @@ use Rattle.std.specs.Int.RustNames.{unsigned_abs}
 use Rattle.std.specs.List.{All}
 use Rattle.std.proofs.lemmas.List.{length-map}
 use Rattle.std.proofs.lemmas.List.Elements.{All-map}
+use Rattle.dd_values.specs.Bounds.{most_number}
 use Rattle.dd_fraction.specs.Exact.{Exact}
-use Rattle.dd_discharge.specs.Denominators.{common_denominator, numerator_over, most_printed, printed}
+use Rattle.dd_discharge.specs.Denominators.{common_denominator, numerator_over, printed}
 use Rattle.dd_discharge.specs.Printed.{IsSmallBound}
 use Rattle.dd_discharge.proofs.Multiples.{printed_is}
 use Rattle.dd_discharge.proofs.Printing.{Given, common_some, small_numerator, small_denominator}
 
 pub small_bound : (v : Exact) (xs ys : List Exact) (n m : ℕ) (p q : ℕ) (amounts duals : List ℕ) → Given v xs ys n → Some m ≡ printed (numerator_over n v) → p ≡ unsigned_abs v.num → q ≡ v.den
-    → amounts ≡ map (numerator_over n) (drop 1 xs) → All (λ a. numerator_over n a ≤ most_printed) (drop 1 xs)
-    → duals ≡ map (numerator_over n) ys → All (λ a. numerator_over n a ≤ most_printed) ys → 0 < length ys
+    → amounts ≡ map (numerator_over n) (drop 1 xs) → All (λ a. numerator_over n a ≤ most_number) (drop 1 xs)
+    → duals ≡ map (numerator_over n) ys → All (λ a. numerator_over n a ≤ most_number) ys → 0 < length ys
     → IsSmallBound (record { numerator = p; denominator = q; common = n; amounts = amounts; duals = duals })
 small_bound v xs ys n m p q amounts duals g e pe qe ae amounts_printed de duals_printed some =
     let above = g.fraction.above in
@@ -25,7 +26,7 @@ small_bound v xs ys n m p q amounts duals g e pe qe ae amounts_printed de duals_
       numerator = omega (arith, pe, num);
       denominator = (omega (arith, qe, above), omega (arith, qe, den));
       common = (omega (arith, n_some), omega (arith, is.0, is.1));
-      amounts = subst (All (λ k. k ≤ most_printed)) (sym ae) (All-map (λ k. k ≤ most_printed) (numerator_over n) (drop 1 xs) amounts_printed);
-      duals = subst (All (λ k. k ≤ most_printed)) (sym de) (All-map (λ k. k ≤ most_printed) (numerator_over n) ys duals_printed);
+      amounts = subst (All (λ k. k ≤ most_number)) (sym ae) (All-map (λ k. k ≤ most_number) (numerator_over n) (drop 1 xs) amounts_printed);
+      duals = subst (All (λ k. k ≤ most_number)) (sym de) (All-map (λ k. k ≤ most_number) (numerator_over n) ys duals_printed);
       some_dual = omega (arith, many, some);
     }

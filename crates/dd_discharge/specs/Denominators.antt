@@ -1,6 +1,7 @@
 -- Fractions of at least 0 over their least common denominator, as a bound is printed.
-use Rattle.std.specs.Prelude.{ℕ, ◌*◌, ◌/◌, ◌<◌, ◌≤◌, ◌^◌, ◌≡◌, ◌⊎◌, pos, List, ◌++◌, map, drop, unsigned_abs, Option, Some, None, cond, nat_le}
+use Rattle.std.specs.Prelude.{ℕ, ◌*◌, ◌/◌, ◌<◌, ◌≤◌, ◌≡◌, ◌⊎◌, pos, List, ◌++◌, map, drop, unsigned_abs, Option, Some, None, cond, nat_le}
 use Rattle.std.specs.List.{fold, All, Any}
+use Rattle.dd_values.specs.Bounds.{most_number}
 use Rattle.dd_fraction.specs.Divisor.{greatest_common}
 use Rattle.dd_fraction.specs.Exact.{Exact, den_of}
 use Rattle.dd_discharge.specs.declared.bound.Bound.{Bound}
@@ -20,20 +21,17 @@ common_denominator xs = fold joined_denominator 1 xs
 abbrev pub numerator_over : ℕ → Exact → ℕ
 numerator_over n a = unsigned_abs a.num * (n / den_of a)
 
-abbrev pub most_printed : ℕ
-most_printed = 2 ^ 40
-
 -- a number, if it can be printed
 abbrev pub printed : ℕ → Option ℕ
-printed n = cond (nat_le n most_printed) (Some n) None
+printed n = cond (nat_le n most_number) (Some n) None
 
 -- the denominator and each numerator can be printed
 pub record ArePrinted (xs : List Exact) : Type 0 where
-  pub denominator : common_denominator xs ≤ most_printed
-  pub numerators : All (λ a. numerator_over (common_denominator xs) a ≤ most_printed) xs
+  pub denominator : common_denominator xs ≤ most_number
+  pub numerators : All (λ a. numerator_over (common_denominator xs) a ≤ most_number) xs
 
 abbrev pub HasUnprinted : List Exact → Type 0
-HasUnprinted xs = (most_printed < common_denominator xs) ⊎ Any (λ a. most_printed < numerator_over (common_denominator xs) a) xs
+HasUnprinted xs = (most_number < common_denominator xs) ⊎ Any (λ a. most_number < numerator_over (common_denominator xs) a) xs
 
 -- the value, the columns after the first as amounts, and the duals
 pub record IsPrintedAs (value : Exact) (columns duals : List Exact) (b : Bound) : Type 0 where

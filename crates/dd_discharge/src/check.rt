@@ -2,9 +2,9 @@
 //! at most 2,048 rows and 256 columns, no sum passes 2^92.
 ghost use Rattle.std.specs.Prelude.{◌≡◌, ℕ, ◌+◌, ◌*◌, ◌<◌, ◌≤◌, ◌^◌, pos, ◌-ℤ◌, ◌*ℤ◌, ◌≤ℤ◌, length, slice_index_or, unsigned_abs, true, false};
 ghost use Rattle.std.specs.List.{All};
+ghost use Rattle.dd_values.specs.Bounds.{most_number};
 ghost use Rattle.dd_fraction.specs.Exact.{IsLowest};
 ghost use Rattle.dd_discharge.specs.Amounts.{total_below, coefficient_in, column_value, MeetRows, column_sum, dual_worth, AreDualsOver, IsCertifiedBound, bound_claimed};
-ghost use Rattle.dd_discharge.specs.Denominators.{most_printed};
 ghost use Rattle.dd_discharge.specs.listing.Tables.{AreRowsOf};
 
 use crate::claimed::ClaimedBound;
@@ -128,8 +128,8 @@ fn is_in_lowest_terms(numerator: u64, denominator: u64) -> bool
 /// Whether the bound that is claimed is certified for the rows.
 pub(crate) fn is_certified(rows: &[Row], columns: usize, claimed: &ClaimedBound) -> bool
     requires rows { AreRowsOf columns rows.now }
-    requires numerator { claimed.now.numerator ≤ most_printed }
-    requires common { claimed.now.common ≤ most_printed }
+    requires numerator { claimed.now.numerator ≤ most_number }
+    requires common { claimed.now.common ≤ most_number }
     ensures yes { result ≡ true → IsCertifiedBound rows.now columns (bound_claimed claimed.now.numerator claimed.now.denominator claimed.now.common claimed.now.amounts.now claimed.now.duals.now) }
     ensures no { result ≡ false → IsCertifiedBound rows.now columns (bound_claimed claimed.now.numerator claimed.now.denominator claimed.now.common claimed.now.amounts.now claimed.now.duals.now) → ⊥ }
 {

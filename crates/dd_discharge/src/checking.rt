@@ -1,8 +1,8 @@
 //! Whether a claimed bound of a rule along some vectors is certified.
 ghost use Rattle.std.specs.Prelude.{◌≡◌, ◌≤◌, IfOk, true, false};
+ghost use Rattle.dd_values.specs.Bounds.{most_number, widest_radius};
 ghost use Rattle.dd_boxes.specs.Discharges.{AreVectors, AreWeightsFor};
 ghost use Rattle.dd_discharge.specs.Amounts.{bound_claimed};
-ghost use Rattle.dd_discharge.specs.Denominators.{most_printed};
 ghost use Rattle.dd_discharge.specs.Certificates.{IsBoundCertificate};
 
 use crate::check::is_certified;
@@ -25,11 +25,11 @@ pub fn check_bound(
     claimed: &ClaimedBound,
 ) -> Result<bool, AllocError>
     requires weights { AreWeightsFor rule.now weights.now }
-    requires radius { radius ≤ 3 }
-    requires margin { margin ≤ 3 }
+    requires radius { radius ≤ widest_radius }
+    requires margin { margin ≤ widest_radius }
     requires vectors { AreVectors rule.now.dimension vectors.now }
-    requires numerator { claimed.now.numerator ≤ most_printed }
-    requires common { claimed.now.common ≤ most_printed }
+    requires numerator { claimed.now.numerator ≤ most_number }
+    requires common { claimed.now.common ≤ most_number }
     ensures yes { IfOk result (λ accepted. accepted ≡ true → IsBoundCertificate rule.now weights.now radius margin vectors.now
         (bound_claimed claimed.now.numerator claimed.now.denominator claimed.now.common claimed.now.amounts.now claimed.now.duals.now)) }
     ensures no { IfOk result (λ accepted. accepted ≡ false → IsBoundCertificate rule.now weights.now radius margin vectors.now

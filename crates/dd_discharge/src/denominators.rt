@@ -1,27 +1,25 @@
 //! Fractions over their least common denominator, as a bound gives them.
 ghost use Rattle.std.specs.Prelude.{◌≡◌, ◌<◌, ◌≤◌, ◌++◌, length, map, IfOk, OnOk, IfErr};
 ghost use Rattle.std.specs.List.{fold, All, Any};
+ghost use Rattle.dd_values.specs.Bounds.{most_number};
 ghost use Rattle.dd_fraction.specs.Exact.{den_of};
 ghost use Rattle.dd_fraction.specs.Order.{IsNonneg};
 ghost use Rattle.dd_simplex.specs.Programs.{fraction_at};
-ghost use Rattle.dd_discharge.specs.Denominators.{least_common, joined_denominator, common_denominator, numerator_over, most_printed, printed, HasUnprinted, IsPrintedAs};
+ghost use Rattle.dd_discharge.specs.Denominators.{least_common, joined_denominator, common_denominator, numerator_over, printed, HasUnprinted, IsPrintedAs};
 ghost use Rattle.dd_discharge.specs.Printed.{IsSmallBound};
 ghost use Rattle.dd_discharge.specs.Faults.{OnOverflow};
 
 use crate::bound::Bound;
 use crate::fault::DischargeFault;
 use dd_fraction::Fraction;
-use dd_values::Items;
+use dd_values::{Items, MOST_NUMBER};
 use std::alloc::Global;
-
-/// The greatest number that an answer prints.
-const MOST_PRINTED: u64 = 1 << 40;
 
 /// The number, if it can be printed.
 fn printed(number: u128) -> Option<u64>
     ensures { result ≡ printed number }
 {
-    if number <= MOST_PRINTED as u128 {
+    if number <= MOST_NUMBER as u128 {
         Some(number as u64)
     } else {
         None
@@ -45,7 +43,7 @@ fn joined(common: u64, fraction: &Fraction) -> Option<u64>
 /// The least common multiple of a denominator and those of the fractions, if it can be printed.
 fn joined_all(common: u64, fractions: &[Fraction]) -> Option<u64>
     requires above { 0 < common }
-    requires below { common ≤ most_printed }
+    requires below { common ≤ most_number }
     ensures { result ≡ printed (fold joined_denominator common fractions.now) }
 {
     let mut common = common;
@@ -79,8 +77,8 @@ fn numerators(
     fractions: &[Fraction],
 ) -> Result<Items<u64>, DischargeFault>
     ensures value { IfOk result (λ numbers. numbers ≡ map (numerator_over common) fractions.now) }
-    ensures printed { OnOk result (All (λ a. numerator_over common a ≤ most_printed) fractions.now) }
-    ensures err { IfErr result (λ fault. OnOverflow fault (Any (λ a. most_printed < numerator_over common a) fractions.now)) }
+    ensures printed { OnOk result (All (λ a. numerator_over common a ≤ most_number) fractions.now) }
+    ensures err { IfErr result (λ fault. OnOverflow fault (Any (λ a. most_number < numerator_over common a) fractions.now)) }
 {
     let mut numbers = Items::new(alloc);
     for fraction in fractions {

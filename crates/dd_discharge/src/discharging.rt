@@ -1,5 +1,6 @@
 //! The best bound of a rule along some vectors.
 ghost use Rattle.std.specs.Prelude.{◌≤◌, IfOk, IfErr};
+ghost use Rattle.dd_values.specs.Bounds.{widest_radius};
 ghost use Rattle.dd_boxes.specs.Discharges.{AreVectors, AreWeightsFor};
 ghost use Rattle.dd_discharge.specs.Printed.{IsSmallBound};
 ghost use Rattle.dd_discharge.specs.Bounds.{IsBoundOf, IsDischargeFault};
@@ -31,8 +32,8 @@ pub fn discharge(
     pivots: u32,
 ) -> Result<Bound, DischargeFault>
     requires weights { AreWeightsFor rule.now weights.now }
-    requires radius { radius ≤ 3 }
-    requires margin { margin ≤ 3 }
+    requires radius { radius ≤ widest_radius }
+    requires margin { margin ≤ widest_radius }
     requires vectors { AreVectors rule.now.dimension vectors.now }
     ensures ok { IfOk result (IsBoundOf rule.now weights.now radius margin vectors.now pivots) }
     ensures certificate { IfOk result (IsBoundCertificate rule.now weights.now radius margin vectors.now) }

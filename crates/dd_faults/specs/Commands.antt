@@ -1,7 +1,7 @@
 -- The faults of commands, in the order of their text.
 use Rattle.std.specs.Prelude.{ℕ, ◌+◌, List, [], ◌++◌, length, Bool, false, not, ◌&&◌, ◌||◌, ◌==◌, nat_le, nat_lt}
 use Rattle.std.specs.{List.flat_map, List.list_any, List.zip, Option.option_map_or}
-use Rattle.dd_values.specs.Bounds.{most_weight, most_commands}
+use Rattle.dd_values.specs.Bounds.{most_weight, most_commands, widest_radius}
 use Rattle.dd_faults.specs.Tree.{Kind, Word, Number, Name, Role, Lists, Entry, Vector, Edge, Case, Request, Command, Written, Limit, Fault, Known, Context}
 use Rattle.dd_topology.specs.Builtin.{grid_of}
 use Rattle.dd_written.specs.Values.{written_value}
@@ -44,7 +44,7 @@ abbrev pub word_faults : Context → Role × Word → List Fault
 word_faults x w = missing x.text (named x.known w.0) (Name.Word w.1)
 
 abbrev pub radius_faults : Context → Number → List Fault
-radius_faults x n = over (nat_lt 3 (written_value x.text n)) Limit.Radius
+radius_faults x n = over (nat_lt widest_radius (written_value x.text n)) Limit.Radius
 
 -- a period that is not in 1..64
 abbrev pub is_no_strip : List ℕ → Entry → Bool

@@ -1,6 +1,7 @@
 -- The faults of formulas, in the order of the text.
 use Rattle.std.specs.Prelude.{ℕ, List, [], ◌∷◌, ◌++◌, length, Bool, not, ◌&&◌, ◌==◌, nat_lt, if◌then◌else◌}
 use Rattle.std.specs.List.{flat_map}
+use Rattle.dd_values.specs.Bounds.{widest_radius}
 use Rattle.dd_faults.specs.Tree.{Word, Name, Term, Comparand, Relation, Atom, Ball, Formula, Formula-F, fold-Formula, Limit, Fault, Context}
 use Rattle.dd_written.specs.Values.{written_value}
 use Rattle.dd_faults.specs.{Order.when, Order.over, Names.missing, Names.is_variable, Names.unknown_variable}
@@ -30,7 +31,7 @@ abbrev pub atom_faults : Context → List Word → Atom → List Fault
 atom_faults x scope a = term_faults x scope a.term ++ relation_faults x scope a.relation
 
 abbrev pub ball_faults : Context → List Word → Ball → List Fault
-ball_faults x scope b = unknown_variable x.text scope b.centre ++ over (nat_lt 3 (written_value x.text b.radius)) Limit.Radius
+ball_faults x scope b = unknown_variable x.text scope b.centre ++ over (nat_lt widest_radius (written_value x.text b.radius)) Limit.Radius
 
 -- a quantifier's variable is in scope in its body, and not in its balls
 abbrev pub quantifier_faults : Context → List Word → Word → List Ball → List Fault

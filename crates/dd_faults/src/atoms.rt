@@ -6,8 +6,9 @@ ghost use Rattle.dd_faults.specs.Formulas.{unknown_label, term_faults, names_sym
 use crate::context::Context;
 use crate::each::{Notes, note_each};
 use crate::fault::{Fault, Found, Limit, note_if, note_over};
-use crate::limits::{MOST_BALLS, MOST_MOVES, WIDEST_RADIUS};
+use crate::limits::{MOST_BALLS, MOST_MOVES};
 use crate::names::{is_variable, note_missing, note_variable};
+use dd_values::WIDEST_RADIUS;
 use dd_written::{Atom, Ball, Comparand, Name, Relation, Term, Word, name_text, number_value};
 
 /// Labels of moves.

@@ -24,9 +24,6 @@ pub(crate) const MOST_VECTORS: usize = 16;
 /// How far an edge or a vector leads along an axis at most.
 pub(crate) const FARTHEST: u32 = 4;
 
-/// The greatest radius of a ball, and the greatest radius and margin of a discharge.
-pub(crate) const WIDEST_RADIUS: u32 = 3;
-
 /// The greatest period of a strip.
 pub(crate) const LONGEST_STRIP: u32 = 64;
 

@@ -7,9 +7,9 @@ ghost use Rattle.dd_faults.specs.Commands.{unless, token_faults, entry_value, si
 use crate::context::Context;
 use crate::each::Notes;
 use crate::fault::{Fault, Found, Limit, note_if, note_over};
-use crate::limits::{FARTHEST, GREATEST_NUMBER, LONGEST_STRIP, MOST_LETTERS, WIDEST_RADIUS};
+use crate::limits::{FARTHEST, GREATEST_NUMBER, LONGEST_STRIP, MOST_LETTERS};
 use dd_commands::{Entry, Vector};
-use dd_values::MOST_WEIGHT;
+use dd_values::{MOST_WEIGHT, WIDEST_RADIUS};
 use dd_written::{Lexeme, Number, Text, number_value};
 
 /// Notes that numbers of entries do not agree.

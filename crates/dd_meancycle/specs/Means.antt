@@ -1,6 +1,7 @@
 -- Closed walks of a transfer graph, and what shows that none has a smaller mean.
-use Rattle.std.specs.Prelude.{◌≡◌, ℕ, ◌+◌, ◌*◌, ◌%◌, ◌<◌, ◌≤◌, ◌^◌, ℤ, pos, ◌-ℤ◌, ◌≤ℤ◌, unsigned_abs, List, [], ◌∷◌, length, slice_index, Some}
+use Rattle.std.specs.Prelude.{◌≡◌, ℕ, ◌+◌, ◌*◌, ◌%◌, ◌<◌, ◌≤◌, ℤ, pos, ◌-ℤ◌, ◌≤ℤ◌, unsigned_abs, List, [], ◌∷◌, length, slice_index, Some}
 use Rattle.std.specs.Int.{IsGcd}
+use Rattle.dd_values.specs.Bounds.{most_number}
 use Rattle.dd_transfer.specs.Graphs.{Transfer, next_of, weight_at}
 use Rattle.dd_transfer.specs.Certificates.{potential_of}
 use Rattle.dd_meancycle.specs.declared.least.Mean.{Mean}
@@ -39,7 +40,7 @@ pub record IsLeastMeanCycle (g : Transfer) (m l : ℕ) (cycle : List ℕ) (ps : 
   pub positive : 0 < l
   pub each : length ps ≡ g.states
   pub potentials : ArePotentials g m l ps
-  pub bounded : (v : ℕ) → v < g.states → unsigned_abs (potential_of ps v) ≤ 2 ^ 40
+  pub bounded : (v : ℕ) → v < g.states → unsigned_abs (potential_of ps v) ≤ most_number
   pub least : (states : List ℕ) → IsCycle g states → m * length states ≤ l * weight_of g states
 
 -- ranks, and no cycle

@@ -1,7 +1,8 @@
 //! The exact check of a cycle and potentials, which show a graph's least mean, or of ranks, which show that it has no cycle; or
 //! they are turned down.
-ghost use Rattle.std.specs.Prelude.{◌≡◌, ℕ, ◌*◌, ◌%◌, ◌<◌, ◌≤◌, ◌^◌, ◌↔◌, IsTrue, IfSome, length, slice_index, pos, ◌-ℤ◌, ◌≤ℤ◌, unsigned_abs, nat_le, Some};
+ghost use Rattle.std.specs.Prelude.{◌≡◌, ℕ, ◌*◌, ◌%◌, ◌<◌, ◌≤◌, ◌↔◌, IsTrue, IfSome, length, slice_index, pos, ◌-ℤ◌, ◌≤ℤ◌, unsigned_abs, nat_le, Some};
 ghost use Rattle.std.specs.List.{All, list_all};
+ghost use Rattle.dd_values.specs.Bounds.{most_number};
 ghost use Rattle.dd_transfer.specs.Graphs.{next_of, IsTransfer};
 ghost use Rattle.dd_meancycle.specs.Means.{IsCycle, IsLeastMeanCycle, IsAcyclic, weight_of};
 ghost use Rattle.dd_transfer.specs.Certificates.{potential_of};
@@ -11,9 +12,7 @@ ghost use Rattle.dd_meancycle.specs.table.Lists.{AreEdges, IsRisen, IsFallen};
 use crate::edges::Edge;
 use crate::rises::{Ratio, reduced};
 use dd_transfer::Graph;
-
-/// The greatest absolute value of a potential, 2^40.
-const MOST_POTENTIAL: u64 = 1_099_511_627_776;
+use dd_values::MOST_NUMBER;
 
 /// Whether an edge leads from a state to another, by the other's last slice.
 fn leads(graph: &Graph, from: u32, to: u32) -> bool
@@ -81,14 +80,14 @@ fn are_risen(edges: &[Edge], potentials: &[i64], mean: Ratio) -> bool
 }
 
 fn is_bounded(potential: &i64) -> bool
-    ensures { result ≡ nat_le (unsigned_abs potential.now) (2 ^ 40) }
+    ensures { result ≡ nat_le (unsigned_abs potential.now) most_number }
 {
-    potential.unsigned_abs() <= MOST_POTENTIAL
+    potential.unsigned_abs() <= MOST_NUMBER
 }
 
-/// Whether each potential is at most 2^40 in absolute value.
+/// Whether an output can hold each potential.
 fn are_bounded(potentials: &[i64]) -> bool
-    ensures { result ≡ list_all (λ p. nat_le (unsigned_abs p) (2 ^ 40)) potentials.now }
+    ensures { result ≡ list_all (λ p. nat_le (unsigned_abs p) most_number) potentials.now }
 {
     potentials.iter().all(|potential| is_bounded(potential))
 }

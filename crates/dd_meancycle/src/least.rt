@@ -1,6 +1,7 @@
 //! The least mean of the cycles of a transfer graph.
-ghost use Rattle.std.specs.Prelude.{◌≡◌, ℕ, ◌<◌, ◌≤◌, ◌^◌, IfOk, IfSome, length, map, pos, slice_index};
+ghost use Rattle.std.specs.Prelude.{◌≡◌, ℕ, ◌<◌, ◌≤◌, IfOk, IfSome, length, map, pos, slice_index};
 ghost use Rattle.std.specs.List.{All};
+ghost use Rattle.dd_values.specs.Bounds.{most_number};
 ghost use Rattle.dd_transfer.specs.Graphs.{IsTransfer};
 ghost use Rattle.dd_meancycle.specs.Means.{IsMeanOf};
 ghost use Rattle.dd_meancycle.specs.table.Lists.{AreEdges, IsInStates};
@@ -39,7 +40,7 @@ fn targets(alloc: Global, cycle: &[Edge]) -> Result<Vec<u32>, AllocError>
 }
 
 fn signed(alloc: Global, potentials: &[u64]) -> Result<Vec<i64>, AllocError>
-    requires { All (λ p. p ≤ 2 ^ 40) potentials.now }
+    requires { All (λ p. p ≤ most_number) potentials.now }
     ensures { IfOk result (λ v. v.items ≡ map pos potentials.now) }
 {
     let mut numbers = Vec::new(alloc);

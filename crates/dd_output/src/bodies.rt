@@ -8,11 +8,11 @@ ghost use Rattle.dd_output.specs.reading.Grammar as grammar;
 use crate::derivations::refutation_of;
 use crate::fault::ReadFault;
 use crate::lexing::{begins, number_at, word_at};
-use crate::lists::{MOST_NUMBER, integers_of, numbers_of};
+use crate::lists::{integers_of, numbers_of};
 use crate::sides::side_and_periods_of;
 use dd_certificate::{Answer, Listed, Reason};
 use dd_derivation::Step;
-use dd_values::Items;
+use dd_values::{Items, MOST_NUMBER};
 use std::alloc::Global;
 
 // ---- YES

@@ -23,14 +23,8 @@ ghost use Rattle.dd_output.specs.reading.Seen.{literal_seen, number_seen, line_s
 use crate::fault::ReadFault;
 use crate::lexing::{begins, number_at, word_at};
 use dd_clause::{Clause, Literal};
-use dd_values::Items;
+use dd_values::{Items, MOST_NUMBER, MOST_VARIABLES};
 use std::alloc::Global;
-
-/// The greatest variable of a literal.
-const MOST_VARIABLE: u64 = 16_777_216;
-
-/// The greatest number that an output holds outside its refutations.
-pub(crate) const MOST_NUMBER: u64 = 1_099_511_627_776;
 
 /// A literal, or nothing at the end of a list.
 fn literal_entry(bytes: &[u8]) -> Result<(Option<Literal>, &[u8]), ReadFault>
@@ -41,7 +35,7 @@ fn literal_entry(bytes: &[u8]) -> Result<(Option<Literal>, &[u8]), ReadFault>
         Ok((None, rest))
     } else if begins(bytes, b'-') {
         let rest = word_at(bytes, b"-")?;
-        let (variable, _, rest) = number_at(rest, 1, MOST_VARIABLE, b' ', b' ')?;
+        let (variable, _, rest) = number_at(rest, 1, MOST_VARIABLES, b' ', b' ')?;
         Ok((
             Some(Literal {
                 variable: variable as u32,
@@ -50,7 +44,7 @@ fn literal_entry(bytes: &[u8]) -> Result<(Option<Literal>, &[u8]), ReadFault>
             rest,
         ))
     } else {
-        let (variable, _, rest) = number_at(bytes, 1, MOST_VARIABLE, b' ', b' ')?;
+        let (variable, _, rest) = number_at(bytes, 1, MOST_VARIABLES, b' ', b' ')?;
         Ok((
             Some(Literal {
                 variable: variable as u32,

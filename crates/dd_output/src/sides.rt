@@ -7,9 +7,8 @@ ghost use Rattle.dd_output.specs.reading.Seen.{period_seen};
 
 use crate::fault::ReadFault;
 use crate::lexing::{begins, number_at, word_at};
-use crate::lists::MOST_NUMBER;
 use dd_certificate::Side;
-use dd_values::Items;
+use dd_values::{Items, MOST_NUMBER};
 use std::alloc::Global;
 
 /// What stands after a space of the periods' line.

@@ -1,6 +1,7 @@
 -- What each query of a script keeps.
 use Rattle.std.specs.Prelude.{ℕ, ◌≡◌, ◌≢◌, ◌<◌, ◌≤◌, true, List, length, slice_index, AllPairs}
 use Rattle.std.specs.List.{list_all}
+use Rattle.dd_values.specs.Bounds.{widest_radius}
 use Rattle.dd_lattice.specs.Place.{Place}
 use Rattle.dd_topology.specs.Grid.{is_offset}
 use Rattle.dd_query.specs.Tree.{Known}
@@ -10,10 +11,7 @@ use Rattle.dd_query.specs.declared.queries.Query.{Query}
 abbrev pub longest_period : ℕ
 longest_period = 64
 
--- the greatest radius and margin of a discharge, and how many vectors it has at most
-abbrev pub widest_radius : ℕ
-widest_radius = 3
-
+-- how many vectors a discharge has at most
 abbrev pub most_vectors : ℕ
 most_vectors = 16
 

@@ -1,5 +1,6 @@
 -- Which questions are well formed.
 use Rattle.std.specs.Prelude.{ℕ, ◌≤◌, List}
+use Rattle.dd_values.specs.Bounds.{widest_radius}
 use Rattle.dd_lattice.specs.Place.{Place}
 use Rattle.dd_pattern.specs.Tile.{IsTile}
 use Rattle.dd_formula.specs.LocalRule.{LocalRule, IsRule}
@@ -11,8 +12,8 @@ use Rattle.dd_question.specs.Questions.{Asked, membership, box, equality, listin
 
 -- the patterns and vectors are small, and each symbol has a weight
 pub record IsDischargeable (x : LocalRule) (reach growth : ℕ) (vs : List Place) (ws : List ℕ) : Type 0 where
-  pub radius : reach ≤ 3
-  pub margin : growth ≤ 3
+  pub radius : reach ≤ widest_radius
+  pub margin : growth ≤ widest_radius
   pub vectors : AreVectors x.dimension vs
   pub weights : AreWeightsFor x ws
 

@@ -1,6 +1,7 @@
 //! The domain of a discharge, grown by its margin.
 ghost use Rattle.std.specs.Prelude.{◌≡◌, ◌<◌, ◌≤◌, IfOk, IfErr, [], All};
 ghost use Rattle.std.specs.List.Sorted.{IsStrictlySortedBy};
+ghost use Rattle.dd_values.specs.Bounds.{widest_radius};
 ghost use Rattle.dd_lattice.specs.Order.{cell_cmp};
 ghost use Rattle.dd_lattice.specs.Boxes.{centred, positions_of};
 ghost use Rattle.dd_lattice.specs.Regions.{IsRegion, IsRegionOf, IsMoved};
@@ -20,7 +21,7 @@ use std::alloc::{AllocError, Global};
 fn box_region(alloc: Global, dim: u32, radius: u32) -> Result<Region, RowsFault>
     requires least { 1 ≤ dim }
     requires most { dim ≤ 3 }
-    requires radius { radius ≤ 3 }
+    requires radius { radius ≤ widest_radius }
     ensures list { IfOk result (λ region. region ≡ positions_of (centred dim radius)) }
     ensures members { IfOk result (IsRegionOf (IsInDomain dim radius [])) }
     ensures memory { IfErr result (λ fault. fault ≡ RowsFault.Memory) }
@@ -36,7 +37,7 @@ fn box_region(alloc: Global, dim: u32, radius: u32) -> Result<Region, RowsFault>
 fn domain(alloc: Global, dim: u32, radius: u32, vectors: &[Position]) -> Result<Region, RowsFault>
     requires least { 1 ≤ dim }
     requires most { dim ≤ 3 }
-    requires radius { radius ≤ 3 }
+    requires radius { radius ≤ widest_radius }
     requires vectors { All (IsVector dim) vectors.now }
     ensures members { IfOk result (IsRegionOf (IsInDomain dim radius vectors.now)) }
     ensures memory { IfErr result (λ fault. fault ≡ RowsFault.Memory) }
@@ -73,7 +74,7 @@ fn cells_on(alloc: Global, nodes: u32, positions: &[Position]) -> Result<Items<C
 
 /// The cells of the box of the radius, in cell order.
 pub(crate) fn box_cells(alloc: Global, rule: &Rule, radius: u32) -> Result<Items<Cell>, RowsFault>
-    requires { radius ≤ 3 }
+    requires { radius ≤ widest_radius }
     ensures cells { IfOk result (λ cells. cells ≡ box_cells rule.now radius) }
     ensures memory { IfErr result (λ fault. fault ≡ RowsFault.Memory) }
 {
@@ -92,8 +93,8 @@ pub fn ground(
     margin: u32,
     vectors: &[Position],
 ) -> Result<Items<Cell>, RowsFault>
-    requires radius { radius ≤ 3 }
-    requires margin { margin ≤ 3 }
+    requires radius { radius ≤ widest_radius }
+    requires margin { margin ≤ widest_radius }
     requires vectors { AreVectors rule.now.dimension vectors.now }
     ensures ground { IfOk result (IsGround rule.now radius margin vectors.now) }
     ensures order { IfOk result (IsStrictlySortedBy cell_cmp) }

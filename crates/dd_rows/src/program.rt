@@ -1,7 +1,7 @@
 //! The program of a rule along some vectors: its patterns, and the distinct rows that its fillings ask.
 ghost use Rattle.std.specs.Prelude.{◌≡◌, ◌≤◌, ◌<◌, ℕ, map, length, IfOk, IfErr, OnOk, All};
 ghost use Rattle.std.specs.List.{flat_map};
-ghost use Rattle.dd_values.specs.Bounds.{most_weight};
+ghost use Rattle.dd_values.specs.Bounds.{most_weight, widest_radius};
 ghost use Rattle.dd_expansion.specs.Limits.{greatest};
 ghost use Rattle.dd_boxes.specs.Discharges.{AreVectors, AreWeightsFor};
 ghost use Rattle.dd_rows.specs.Faults.{OnLarge};
@@ -232,8 +232,8 @@ pub fn program_of(
     vectors: &[Position],
 ) -> Result<Rows, RowsFault>
     requires weights { AreWeightsFor rule.now weights.now }
-    requires radius { radius ≤ 3 }
-    requires margin { margin ≤ 3 }
+    requires radius { radius ≤ widest_radius }
+    requires margin { margin ≤ widest_radius }
     requires vectors { AreVectors rule.now.dimension vectors.now }
     ensures ok { IfOk result (IsProgramOf rule.now weights.now radius margin vectors.now) }
     ensures err { IfErr result (IsRowsFault rule.now weights.now radius margin vectors.now) }

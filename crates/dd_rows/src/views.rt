@@ -2,6 +2,7 @@
 ghost use Rattle.std.specs.Prelude.{◌≡◌, ◌<◌, ◌≤◌, ◌*◌, pos, map, length, IfOk, IfErr};
 ghost use Rattle.std.specs.List.{All, range_with_len};
 ghost use Rattle.std.specs.List.Sorted.{IsStrictlySortedBy};
+ghost use Rattle.dd_values.specs.Bounds.{widest_radius};
 ghost use Rattle.dd_lattice.specs.Place.{place};
 ghost use Rattle.dd_lattice.specs.Order.{cell_cmp};
 ghost use Rattle.dd_boxes.specs.Cells.{box_cells};
@@ -99,7 +100,7 @@ impl Views {
         radius: u32,
         vectors: &[Position],
     ) -> Result<Views, RowsFault>
-        requires radius { radius ≤ 3 }
+        requires radius { radius ≤ widest_radius }
         requires ascending { IsStrictlySortedBy cell_cmp cells.now }
         requires near { AreInRange cells.now }
         ensures views { IfOk result (AreViews rule.now radius vectors.now cells.now) }

@@ -5,6 +5,10 @@ use Rattle.std.specs.Prelude.{ℕ, ◌^◌}
 abbrev pub most_variables : ℕ
 most_variables = 2 ^ 24
 
+-- the greatest number, in absolute value, that an output holds outside its refutations
+abbrev pub most_number : ℕ
+most_number = 2 ^ 40
+
 -- the greatest length of a script, in bytes
 abbrev pub most_script : ℕ
 most_script = 1048576
@@ -16,3 +20,7 @@ most_commands = 1000
 -- the greatest weight of a symbol
 abbrev pub most_weight : ℕ
 most_weight = 1000
+
+-- the greatest radius of a ball, and the greatest radius and margin of a discharge
+abbrev pub widest_radius : ℕ
+widest_radius = 3

@@ -1,5 +1,11 @@
 //! Limits that more than one crate keeps.
 
+/// The greatest number of variables of a list of clauses, and of signals of a circuit.
+pub const MOST_VARIABLES: u64 = 1 << 24;
+
+/// The greatest number, in absolute value, that an output holds outside its refutations.
+pub const MOST_NUMBER: u64 = 1 << 40;
+
 /// The greatest length of a script, in bytes.
 pub const MOST_SCRIPT: usize = 1_048_576;
 
@@ -8,3 +14,6 @@ pub const MOST_COMMANDS: u32 = 1000;
 
 /// The greatest weight of a symbol.
 pub const MOST_WEIGHT: u32 = 1000;
+
+/// The greatest radius of a ball, and the greatest radius and margin of a discharge.
+pub const WIDEST_RADIUS: u32 = 3;

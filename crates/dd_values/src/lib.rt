@@ -6,7 +6,9 @@ mod boxed;
 mod items;
 mod limits;
 
-pub use bounds::{MOST_COMMANDS, MOST_SCRIPT, MOST_WEIGHT};
+pub use bounds::{
+    MOST_COMMANDS, MOST_NUMBER, MOST_SCRIPT, MOST_VARIABLES, MOST_WEIGHT, WIDEST_RADIUS,
+};
 pub use boxed::Boxed;
 pub use items::Items;
 pub use limits::Limits;

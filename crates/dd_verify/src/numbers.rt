@@ -3,8 +3,7 @@ ghost use Rattle.std.specs.Prelude.{◌≡◌, ◌≤◌, ◌↔◌, nat_le, uns
 ghost use Rattle.std.specs.List.{list_all};
 ghost use Rattle.dd_certificate.specs.Bounds.{most_number, IsWritableNumber, IsWritableSigned, IsWritableDenominator, IsWritableList};
 
-/// The greatest number that an output holds outside its refutations.
-const MOST_NUMBER: u64 = 1 << 40;
+use dd_values::MOST_NUMBER;
 
 pub(crate) fn is_number(number: u64) -> bool
     ensures { IsTrue result ↔ IsWritableNumber number }

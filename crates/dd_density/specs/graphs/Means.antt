@@ -1,15 +1,16 @@
 -- The density of a least mean over the positions of a slice.
 use Rattle.std.specs.Prelude.{◌≡◌, ℕ, ◌*◌, ◌<◌, ◌≤◌, ◌^◌, List, ℤ}
 use Rattle.std.specs.List.{All}
+use Rattle.dd_values.specs.Bounds.{most_number}
 use Rattle.dd_transfer.specs.Certificates.{IsInLowestTerms}
 use Rattle.dd_meancycle.specs.declared.least.Mean.{Mean}
 use Rattle.dd_meancycle.specs.declared.least.Mean.TheVariants as mean
 use Rattle.dd_density.specs.declared.answer.Density.{Density}
 use Rattle.dd_density.specs.declared.answer.Density.TheVariants.{Least, Empty}
 
--- a mean of small numbers, also over so many positions
+-- a mean of numbers that an output holds, also over so many positions
 abbrev pub IsMeanOver : ℕ → Mean → Type 0
-IsMeanOver volume (mean.Least m l cycle ps) = (0 < l * volume) × (l * volume ≤ 2 ^ 40) × (m ≤ 2 ^ 40)
+IsMeanOver volume (mean.Least m l cycle ps) = (0 < l * volume) × (l * volume ≤ most_number) × (m ≤ most_number)
 IsMeanOver volume (mean.NoCycle ranks) = Unit {0}
 
 pub record IsDensityOf (volume m l : ℕ) (cycle : List ℕ) (ps : List ℤ) (p q : ℕ) (walk : List ℕ) (qs : List ℤ) : Type 0 where

@@ -1,7 +1,8 @@
 -- A cycle of least mean, or ranks.
-use Rattle.std.specs.Prelude.{◌≡◌, ℕ, ◌+◌, ◌*◌, ◌<◌, ◌≤◌, ◌^◌, List, length}
+use Rattle.std.specs.Prelude.{◌≡◌, ℕ, ◌+◌, ◌*◌, ◌<◌, ◌≤◌, List, length}
 use Rattle.std.specs.List.{Contains, All}
 use Rattle.std.specs.Int.{IsGcd}
+use Rattle.dd_values.specs.Bounds.{most_number}
 use Rattle.dd_meancycle.specs.declared.edges.Edge.{Edge}
 use Rattle.dd_meancycle.specs.declared.table.EdgeMean.{EdgeMean}
 use Rattle.dd_meancycle.specs.declared.table.EdgeMean.TheVariants.{Least, NoCycle}
@@ -29,5 +30,5 @@ IsMean edges n (NoCycle ranks) = (length ranks.items ≡ n) × AreEdgeRanks edge
 
 -- each potential fits a signed number
 abbrev pub IsSmallMean : EdgeMean → Type 0
-IsSmallMean (Least m l cycle potentials) = All (λ p. p ≤ 2 ^ 40) potentials.items
+IsSmallMean (Least m l cycle potentials) = All (λ p. p ≤ most_number) potentials.items
 IsSmallMean (NoCycle ranks) = Unit {0}

@@ -6,8 +6,9 @@ use Rattle.std.specs.Int.RustNames.{unsigned_abs}
 use Rattle.std.specs.List.{All, Any}
 use Rattle.std.proofs.lemmas.Int.{to_z-of_z}
 use Rattle.std.proofs.lemmas.Result.{err_from_is_err_and}
+use Rattle.dd_values.specs.Bounds.{most_number}
 use Rattle.dd_fraction.specs.Exact.{Exact}
-use Rattle.dd_discharge.specs.Denominators.{numerator_over, most_printed, printed, common_denominator, HasUnprinted}
+use Rattle.dd_discharge.specs.Denominators.{numerator_over, printed, common_denominator, HasUnprinted}
 use Rattle.dd_discharge.proofs.Printing.{Given, small_numerator, small_denominator, unprinted_at, any_back, any_later, tail_is, over_from, printed_as}
 use Rattle.dd_discharge.proofs.SmallBounds.{small_bound}
 use Rattle.dd_discharge.proofs.denominators.bound_of.Goals as goal
@@ -39,7 +40,7 @@ returns-in_err-amounts-clause-err c =
     let xs = c.args.columns.now in
     let ys = c.args.duals.now in
     let n = c.in-Some.common in
-    let P : Exact → Type 0 = λ a. most_printed < numerator_over n a in
+    let P : Exact → Type 0 = λ a. most_number < numerator_over n a in
     let p = err_from_is_err_and c.from_residual.result c.from_residual.ensures.1 in
     rw (p.1, p.2)
     (over_from c.in_err-amounts.field-0.0 _ (HasUnprinted (xs ++ ys))
@@ -51,7 +52,7 @@ returns-in_err-duals-clause-err c =
     let xs = c.args.columns.now in
     let ys = c.args.duals.now in
     let n = c.in-Some.common in
-    let P : Exact → Type 0 = λ a. most_printed < numerator_over n a in
+    let P : Exact → Type 0 = λ a. most_number < numerator_over n a in
     let p = err_from_is_err_and c.from_residual-in_err-duals.result c.from_residual-in_err-duals.ensures.1 in
     rw (p.1, p.2)
     (over_from c.in_err-duals.field-0.0 _ (HasUnprinted (xs ++ ys))
@@ -72,7 +73,7 @@ returns-clause-ok c =
     printed_as v xs ys n c.in-Some-numerator_over._held c.unsigned_abs.result c.unsigned_abs-2.result c.in_ok-amounts.amounts c.in_ok-duals.duals g
     (sym c.in-Some-numerator_over.is ∙ c.numerator_over.ensures) num_is den_is
     (c.in_ok-amounts.ensures.value ∙ ap (map (numerator_over n)) (tail_is xs))
-    (subst (All (λ a. numerator_over n a ≤ most_printed)) (tail_is xs) c.in_ok-amounts.ensures.printed)
+    (subst (All (λ a. numerator_over n a ≤ most_number)) (tail_is xs) c.in_ok-amounts.ensures.printed)
     c.in_ok-duals.ensures.value c.in_ok-duals.ensures.printed
 
 pub returns-clause-small : goal.returns-clause-small
@@ -89,7 +90,7 @@ returns-clause-small c =
     small_bound v xs ys n c.in-Some-numerator_over._held c.unsigned_abs.result c.unsigned_abs-2.result c.in_ok-amounts.amounts c.in_ok-duals.duals g
     (sym c.in-Some-numerator_over.is ∙ c.numerator_over.ensures) num_is den_is
     (c.in_ok-amounts.ensures.value ∙ ap (map (numerator_over n)) (tail_is xs))
-    (subst (All (λ a. numerator_over n a ≤ most_printed)) (tail_is xs) c.in_ok-amounts.ensures.printed)
+    (subst (All (λ a. numerator_over n a ≤ most_number)) (tail_is xs) c.in_ok-amounts.ensures.printed)
     c.in_ok-duals.ensures.value c.in_ok-duals.ensures.printed c.requires.some_dual
 
 pub returns-in_default-numerator_over-clause-err : goal.returns-in_default-numerator_over-clause-err

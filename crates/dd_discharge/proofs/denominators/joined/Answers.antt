@@ -2,7 +2,7 @@ use Rattle.std.proofs.Common.{◌≡◌, ◌<◌, ◌*◌, ◌^◌, sym, ap, ◌
 use Rattle.std.specs.Int.{w128}
 use mir.Val.{SFits}
 use Rattle.std.proofs.lemmas.Int.{to_z-of_z, to_z_pos}
-use Rattle.dd_discharge.specs.Denominators.{joined_denominator, most_printed, printed}
+use Rattle.dd_discharge.specs.Denominators.{joined_denominator, printed}
 use Rattle.dd_discharge.proofs.Multiples.{multiple_is, printed_none}
 use Rattle.dd_discharge.proofs.denominators.joined.Goals as goal
 

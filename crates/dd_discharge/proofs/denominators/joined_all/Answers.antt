@@ -1,7 +1,8 @@
 use Rattle.std.proofs.Common.{◌≡◌, ◌<◌, ◌≤◌, ◌+◌, ap, subst, sym, ◌∙◌, length, drop, refl, ℕ, arith}
 use Rattle.std.specs.List.{fold}
+use Rattle.dd_values.specs.Bounds.{most_number}
 use Rattle.dd_fraction.specs.Exact.{Exact, den_of}
-use Rattle.dd_discharge.specs.Denominators.{joined_denominator, most_printed, printed}
+use Rattle.dd_discharge.specs.Denominators.{joined_denominator, printed}
 use Rattle.dd_discharge.proofs.Multiples.{printed_is, joined_more, joined_past, joined_whole, least_common_above, den_above}
 use Rattle.dd_discharge.proofs.denominators.joined_all.Goals as goal
 
@@ -19,7 +20,7 @@ loop-fraction-preserved c =
     let more = joined_more c.args.common c.loop-fraction.common c.loop-fraction.fraction-index c.args.fractions.now x c.loop-fraction-test.true c.fraction-item.is i.same in
     record {
       above = subst (λ (n : ℕ). 0 < n) (sym is.0) (least_common_above c.loop-fraction.common (den_of x) i.above (den_above x));
-      below = subst (λ (n : ℕ). n ≤ most_printed) (sym is.0) is.1;
+      below = subst (λ (n : ℕ). n ≤ most_number) (sym is.0) is.1;
       same = more ∙ ap (λ (n : ℕ). fold joined_denominator n (drop (c.loop-fraction.fraction-index + 1) c.args.fractions.now)) (sym is.0);
     }
 
