@@ -1,6 +1,7 @@
 -- The numbers in a formula, and how deep it is.
 use Rattle.std.specs.Prelude.{ℕ, ◌+◌, ◌≤◌, ◌≡◌, ◌&&◌, Bool, true, List, [], ◌∷◌, cond, max, length, nat_lt, nat_le}
 use Rattle.std.specs.List.{list_all}
+use Rattle.dd_values.specs.Bounds.{widest_radius}
 use Rattle.dd_topology.specs.Grid.{Grid}
 use Rattle.dd_expansion.specs.declared.formulas.Term.{Term}
 use Rattle.dd_expansion.specs.declared.formulas.BallOf.{BallOf}
@@ -8,15 +9,12 @@ use Rattle.dd_expansion.specs.declared.formulas.Formula.{Formula}
 use Rattle.dd_expansion.specs.declared.formulas.Formula.TheFolds.{fold-Formula}
 use Rattle.dd_expansion.specs.declared.formulas.Formula.TheOpen.{Formula-F}
 
--- how many moves a term has at most, how many balls a quantifier and of which radius, and how deep a formula is
+-- how many moves a term has at most, how many balls a quantifier, and how deep a formula is
 abbrev pub most_moves : ℕ
 most_moves = 16
 
 abbrev pub most_balls : ℕ
 most_balls = 4
-
-abbrev pub most_ball_radius : ℕ
-most_ball_radius = 3
 
 abbrev pub most_nested : ℕ
 most_nested = 64
@@ -27,7 +25,7 @@ term_fits g scope t = nat_lt t.variable scope && nat_le (length t.moves) most_mo
 
 -- balls round variables in scope
 abbrev pub ball_fits : ℕ → BallOf → Bool
-ball_fits scope b = nat_lt b.variable scope && nat_le b.radius most_ball_radius
+ball_fits scope b = nat_lt b.variable scope && nat_le b.radius widest_radius
 
 abbrev pub balls_fit : ℕ → List BallOf → Bool
 balls_fit scope bs = nat_le (length bs) most_balls && list_all (ball_fits scope) bs
