@@ -1,9 +1,11 @@
 //! Reading scripts: the commands of a text, one after the other.
-ghost use Rattle.std.specs.Prelude.{◌≡◌, ◌≤◌, length, All, IfOk, IfErr};
+ghost use Rattle.std.specs.Prelude.{◌≡◌, ◌≤◌, length, All, OnOk, IfOk, IfErr};
 ghost use Rattle.dd_values.specs.Bounds.{most_script};
 ghost use Rattle.dd_commands.specs.Scripts.{IsScript, IsWritten};
 ghost use Rattle.dd_script.specs.Scripts.{Spells, HasFault, kind_of, IsScriptRefusal};
-ghost use Rattle.dd_script.specs.Walk.{is_topology, has_topology};
+ghost use Rattle.dd_script.specs.Walk.{start, is_topology, has_topology};
+ghost use Rattle.dd_script.specs.Kept.{IsScriptOf};
+ghost use Rattle.dd_script.specs.Drafts.{parts_of, draft_of};
 
 use crate::draft::Draft;
 use crate::fault::{ScriptFault, ScriptKind};
@@ -46,14 +48,16 @@ fn told(alloc: Global, text: &Text, command: u32, fault: Fault) -> Result<Script
     Ok(ScriptFault { command, kind })
 }
 
-/// The script that the commands of a text spell; or the first command with a fault, and its first fault.
-fn script_of(alloc: Global, text: Text, commands: &[Written]) -> Result<Script, ScriptFault>
-    requires written { IsScript text (record { text = text; commands = commands.now }) }
-    requires each { All (IsWritten text) commands.now }
-    ensures spelled { IfOk result (Spells text) }
-    ensures refused { IfErr result (IsScriptRefusal text) }
+/// Goes behind the last of the commands of a text; or tells of the first command with a fault, and its first fault.
+fn walk(alloc: Global, draft: &mut Draft, commands: &[Written]) -> Result<(), ScriptFault>
+    requires begun { draft.old ≡ draft_of draft.old.context.text (has_topology commands.now) 1 start }
+    requires kept { IsScriptOf start }
+    requires written { IsScript draft.old.context.text (record { text = draft.old.context.text; commands = commands.now }) }
+    requires each { All (IsWritten draft.old.context.text) commands.now }
+    ensures spelled { OnOk result (Spells draft.old.context.text (parts_of draft.new)) }
+    ensures kept { OnOk result (IsScriptOf (parts_of draft.new)) }
+    ensures refused { IfErr result (IsScriptRefusal draft.old.context.text) }
 {
-    let mut draft = Draft::new(alloc, text, has_topology(commands))?;
     for written in commands {
         match draft.meaning_of(alloc, written) {
             Ok(meaning) => {
@@ -68,7 +72,25 @@ fn script_of(alloc: Global, text: Text, commands: &[Written]) -> Result<Script, 
             }
         }
     }
-    Ok(draft.into_script(alloc)?)
+    Ok(())
+}
+
+/// The script that the commands of a text spell; or the first command with a fault, and its first fault.
+fn script_of(alloc: Global, text: Text, commands: &[Written]) -> Result<Script, ScriptFault>
+    requires written { IsScript text (record { text = text; commands = commands.now }) }
+    requires each { All (IsWritten text) commands.now }
+    ensures spelled { IfOk result (Spells text) }
+    ensures refused { IfErr result (IsScriptRefusal text) }
+{
+    let mut draft = Draft::new(alloc, text, has_topology(commands))?;
+    match walk(alloc, &mut draft, commands) {
+        Ok(()) => Ok(draft.into_script(alloc)?),
+        Err(fault) => {
+            // Said, since a proof that it goes by itself is much longer.
+            drop(draft);
+            Err(fault)
+        }
+    }
 }
 
 /// The script that the bytes spell, or why they spell none.

@@ -1,32 +1,13 @@
-use Rattle.std.proofs.lemmas.Result.{err_from_is_err_and}
-use Rattle.std.proofs.Common.{refl}
-use Rattle.dd_script.proofs.Walking.{begins, written_here, goes_on, stops, spelled}
 use Rattle.dd_script.proofs.parsing.script_of.Goals as goal
 
-pub loop-written-init : goal.loop-written-init
-loop-written-init c = begins _ _ _ c.requires.written (rw c.has_topology.ensures at c.in_ok-draft.ensures.begun) c.in_ok-draft.ensures.kept
+pub walk-requires-clause-begun : goal.walk-requires-clause-begun
+walk-requires-clause-begun c = rw (c.in_ok-draft.ensures.begun, c.has_topology.ensures)
 
-pub meaning_of-requires-clause-written : goal.meaning_of-requires-clause-written
-meaning_of-requires-clause-written c = written_here _ _ _ _ _ c.loop-written-test.true c.written-item.is c.loop-written.invariant c.requires.each
+pub walk-requires-clause-written : goal.walk-requires-clause-written
+walk-requires-clause-written c = rw c.in_ok-draft.ensures.begun c.requires.written
 
-pub loop-written-preserved : goal.loop-written-preserved
-loop-written-preserved c =
-    goes_on _ _ _ _ _ c.loop-written-test.true c.written-item.is c.loop-written.invariant _ c.in-Ok.ensures _ c.in_ok-add-in-Ok.ensures c.symbols-symbols.ensures.kept
+pub walk-requires-clause-each : goal.walk-requires-clause-each
+walk-requires-clause-each c = rw c.in_ok-draft.ensures.begun c.requires.each
 
-pub told-requires : goal.told-requires
-told-requires c =
-    rw c.in-Err-At.field-0-is
-    (stops _ _ _ _ _ c.loop-written-test.true c.written-item.is c.loop-written.invariant c.requires.written _ (rw c.in-Err-At.field-0-is at c.in-Err-At.ensures))
-
-pub returns-in_err-add-in-Ok-clause-refused : goal.returns-in_err-add-in-Ok-clause-refused
-returns-in_err-add-in-Ok-clause-refused c =
-    let p = err_from_is_err_and c.from_residual-in_err-add-in-Ok.result c.from_residual-in_err-add-in-Ok.ensures.1 in
-    rw (p.1, p.2) refl
-
-pub returns-in_err-told-in-Err-At-clause-refused : goal.returns-in_err-told-in-Err-At-clause-refused
-returns-in_err-told-in-Err-At-clause-refused c =
-    let p = err_from_is_err_and c.from_residual-in_err-told-in-Err-At.result c.from_residual-in_err-told-in-Err-At.ensures.1 in
-    rw (p.1, p.2) refl
-
-pub returns-clause-spelled : goal.returns-clause-spelled
-returns-clause-spelled c = rw c.in_ok-into_script.ensures (spelled _ _ _ _ c.requires.written c.loop-written.invariant c.loop-written-test.false)
+pub returns-in_ok-into_script-in-Ok-clause-spelled : goal.returns-in_ok-into_script-in-Ok-clause-spelled
+returns-in_ok-into_script-in-Ok-clause-spelled c = rw c.in_ok-into_script-in-Ok.ensures (rw c.in_ok-draft.ensures.begun at c.in-Ok.ensures.spelled)

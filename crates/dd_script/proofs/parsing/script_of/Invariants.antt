@@ -1,5 +1,0 @@
-use Rattle.dd_script.proofs.Walking.{Sofar}
-use Rattle.dd_script.proofs.parsing.script_of.Given as goal
-
-abbrev pub invariant-loop-written : goal.invariant-loop-written
-invariant-loop-written l = Sofar l.fn.text l.commands l.written-index l.draft
