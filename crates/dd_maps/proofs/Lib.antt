@@ -1,0 +1,4 @@
+pub mod Depths
+pub mod Steps
+pub mod Formed
+pub mod Faults
