@@ -12,7 +12,7 @@ loop-symbol-preserved c =
     let test = allows c.args.sets.now c.args.node in
     let n = c.loop-symbol.symbol in
     elim c.if-allows.branch [
-      | then-allows+in_ok-push-2 w ↦ passed front symbol_is test n _ c.loop-symbol.invariant _ w.symbol_is.result (sym c.allows.ensures ∙ w.if-allows.true) w.symbol_is.ensures
+      | then-allows+in_ok-push-2 w ↦ passed front symbol_is test n _ c.loop-symbol.invariant _ _ (sym c.allows.ensures ∙ w.if-allows.true) w.symbol_is.ensures
           (w.parts-is ∙ w.in_ok-push-2.ensures.ok)
       | else-allows w ↦ failed front symbol_is test n _ c.loop-symbol.invariant _ (sym c.allows.ensures ∙ w.if-allows.false) w.parts-is
     ]

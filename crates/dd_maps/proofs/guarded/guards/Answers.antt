@@ -10,10 +10,10 @@ loop-node-preserved c =
     let s = c.args.sets.now in
     let n = c.loop-node.node in
     elim c.if-not-allows_all.branch [
-      | then-not-allows_all+in_ok-guard+in_ok-push w ↦ passed [] (guard s) (λ a. not (allows_all s a)) n _ c.loop-node.invariant _ w.in_ok-guard.guard
-          (ap not (sym c.allows_all.ensures ∙ w.if-not-allows_all.true)) w.in_ok-guard.ensures (w.guards-is ∙ w.in_ok-push.ensures.items)
+      | then-not-allows_all+in_ok-guard+in_ok-push w ↦ passed [] (guard s) (λ a. not (allows_all s a)) n _ c.loop-node.invariant _ _
+          (ap not (sym c.allows_all.ensures ∙ w.if-not-allows_all.true)) w.in_ok-guard.ensures (ap (λ v. v.items) w.guards-is ∙ w.in_ok-push.ensures.items)
       | else-not-allows_all w ↦ failed [] (guard s) (λ a. not (allows_all s a)) n _ c.loop-node.invariant _
-          (ap not (sym c.allows_all.ensures ∙ w.if-not-allows_all.false)) w.guards-is
+          (ap not (sym c.allows_all.ensures ∙ w.if-not-allows_all.false)) (ap (λ v. v.items) w.guards-is)
     ]
 
 pub returns : goal.returns
