@@ -14,7 +14,7 @@ use Rattle.dd_expansion.specs.Limits.{formula_fits, formula_fits_step, depth, de
 use Rattle.dd_expansion.specs.lemmas.Layers.{fits_and, fits_or, depth_and, depth_or}
 use Rattle.dd_expansion.specs.lemmas.ListTests.{list_all-weaker}
 use Rattle.dd_maps.specs.Guarded.{here, symbol_is, allowed_symbols, guard, allows_all, guarded_nodes, with_guards, guarded}
-use Rattle.dd_maps.specs.lemmas.GuardLaws.{all_kept}
+use Rattle.dd_maps.specs.lemmas.KeptTests.{all_kept}
 
 -- a test of the first numbers, and of those of them that are kept
 range_from : (p : ℕ → Bool) (k n : ℕ) → ((a : ℕ) → a < k + n → p a ≡ true) → list_all p (range_with_len k n) ≡ true

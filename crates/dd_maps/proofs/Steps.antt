@@ -3,19 +3,11 @@ use Rattle.std.proofs.Common.{◌≡◌, ℕ, ◌+◌, Bool, true, false, List, 
 use Rattle.std.specs.Prelude.{cond}
 use Rattle.std.specs.List.{filter, range_with_len}
 use Rattle.std.proofs.lemmas.List.{map-append, append-nil, append_assoc}
+use Rattle.std.proofs.lemmas.List.Elements.{filter-append}
 use Rattle.dd_formula.specs.lemmas.Ranges.{range_push}
 
-filter_push : (q : ℕ → Bool) (xs : List ℕ) (x : ℕ) → filter q (xs ++ x ∷ []) ≡ filter q xs ++ cond (q x) (x ∷ []) []
-filter_push q [] x = refl
-filter_push q (y ∷ xs) x = by (q y) refl (filter_push q xs x)
-  where
-    by : (b : Bool) → q y ≡ b → filter q (xs ++ x ∷ []) ≡ filter q xs ++ cond (q x) (x ∷ []) [] →
-        filter q ((y ∷ xs) ++ x ∷ []) ≡ filter q (y ∷ xs) ++ cond (q x) (x ∷ []) []
-    by true h rest = rw h (ap (λ zs. y ∷ zs) rest)
-    by false h rest = rw h rest
-
 kept_with : (q : ℕ → Bool) (n : ℕ) (b : Bool) → q n ≡ b → filter q (range_with_len 0 (n + 1)) ≡ filter q (range_with_len 0 n) ++ cond b (n ∷ []) []
-kept_with q n b h = ap (filter q) (range_push n) ∙ (filter_push q (range_with_len 0 n) n ∙ ap (λ a. filter q (range_with_len 0 n) ++ cond a (n ∷ []) []) h)
+kept_with q n b h = ap (filter q) (range_push n) ∙ (filter-append q (range_with_len 0 n) (n ∷ []) ∙ rw h refl)
 
 -- behind the items of a front
 module _ {X : Type 0} (front : List X) (g : ℕ → X) (q : ℕ → Bool) (n : ℕ) (old : List X) (so_far : old ≡ front ++ map g (filter q (range_with_len 0 n))) where

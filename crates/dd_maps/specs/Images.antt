@@ -1,5 +1,5 @@
 -- What is asked of an automaton's image, and of one automaton after another.
-use Rattle.std.specs.Prelude.{ℕ, ◌<◌, ◌≡◌, ◌⊎◌, false, Some}
+use Rattle.std.specs.Prelude.{ℕ, ◌<◌, ◌≡◌, ◌⊎◌, true, false, Some}
 use Rattle.dd_lattice.specs.Place.{Place}
 use Rattle.dd_lattice.specs.Cells.{cell}
 use Rattle.dd_lattice.specs.declared.position.Cell.{Cell}
@@ -16,13 +16,20 @@ image f look c = Some (value f look c)
 abbrev pub DifferAt : Automaton → Automaton → Look → Cell → Type 0
 DifferAt f g look c = value f look c ≡ value g look c → ⊥
 
--- in the image the cell has a symbol that its node doesn't allow, or the rule is false there
+-- in the image the cell has a symbol that its node allows, and the rule is true there
+abbrev pub KeepsAt : Automaton → LocalRule → Look → Cell → Type 0
+KeepsAt f y look c = (rule_allows y c.node (value f look c) ≡ true) × (is_true y c (image f look) ≡ true)
+
+-- it has one that its node doesn't allow, or the rule is false there
 abbrev pub BreaksAt : Automaton → LocalRule → Look → Cell → Type 0
 BreaksAt f y look c = (rule_allows y c.node (value f look c) ≡ false) ⊎ (is_true y c (image f look) ≡ false)
 
--- the first automaton's image of the second's image doesn't give the cell's symbol back
+-- the first automaton's image of the second's image has the cell's symbol
+abbrev pub GivesBackAt : Automaton → Automaton → Look → Cell → Type 0
+GivesBackAt f g look c = image f (image g look) c ≡ look c
+
 abbrev pub ChangesAt : Automaton → Automaton → Look → Cell → Type 0
-ChangesAt f g look c = image f (image g look) c ≡ look c → ⊥
+ChangesAt f g look c = GivesBackAt f g look c → ⊥
 
 -- one of the first k symbols is given to the cell
 abbrev pub HasSymbolAt : ℕ → Look → Cell → Type 0

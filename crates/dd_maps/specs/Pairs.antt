@@ -16,15 +16,15 @@ pub record IsRuleOver (g : Grid) (s : SymbolSets) (y : LocalRule) : Type 0 where
   pub formula : IsFormula g s.symbols y.formula
 
 -- the guarded formula of the rule, and its depth
-abbrev pub guarded_of : Grid → SymbolSets → LocalRule → Formula
-guarded_of g s y = guarded s g.nodes y.formula
+abbrev pub guarded_of : SymbolSets → LocalRule → Formula
+guarded_of s y = guarded s y.nodes y.formula
 
-abbrev pub guarded_depth : Grid → SymbolSets → LocalRule → ℕ
-guarded_depth g s y = depth (guarded_of g s y)
+abbrev pub guarded_depth : SymbolSets → LocalRule → ℕ
+guarded_depth s y = depth (guarded_of s y)
 
 -- gives 0 where the rule is true and the symbol is allowed, else 1
 abbrev pub marked : Grid → SymbolSets → LocalRule → Automaton
-marked g s y = by_cases g s ((guarded_of g s y, 0) ∷ []) 1
+marked g s y = by_cases g s ((guarded_of s y, 0) ∷ []) 1
 
 -- gives 0 everywhere
 abbrev pub always_zero : Grid → SymbolSets → Automaton

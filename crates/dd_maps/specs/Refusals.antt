@@ -12,26 +12,26 @@ use Rattle.dd_formula.specs.declared.fault.RuleFault.TheVariants.{Reach, Instanc
 use Rattle.dd_maps.specs.Pairs.{guarded_depth, marked}
 
 -- the guarded formula is within the limit, which is tested first, or past it
-abbrev pub PassesGuard : Grid → SymbolSets → LocalRule → Type 0
-PassesGuard g s y = guarded_depth g s y ≤ most_nested
+abbrev pub PassesGuard : SymbolSets → LocalRule → Type 0
+PassesGuard s y = guarded_depth s y ≤ most_nested
 
-abbrev pub IsGuardDeep : Grid → SymbolSets → LocalRule → Type 0
-IsGuardDeep g s y = most_nested < guarded_depth g s y
+abbrev pub IsGuardDeep : SymbolSets → LocalRule → Type 0
+IsGuardDeep s y = most_nested < guarded_depth s y
 
 -- the guarded formula is too deep; else the automaton has too many instances at some node. It reads what the rule reads and
 -- the cell itself, which is never too far away
 abbrev pub IsMarkedFault : Grid → SymbolSets → LocalRule → RuleFault → Type 0
-IsMarkedFault g s y Depth = IsGuardDeep g s y
-IsMarkedFault g s y Instances = PassesGuard g s y × (is_few g.nodes (counted (marked g s y)) ≡ false)
+IsMarkedFault g s y Depth = IsGuardDeep s y
+IsMarkedFault g s y Instances = PassesGuard s y × (is_few g.nodes (counted (marked g s y)) ≡ false)
 IsMarkedFault g s y Reach = ⊥
 IsMarkedFault g s y Memory = Unit {0}
 
 -- the guarded formula is too deep; else the fault of the composition with the automaton whose image is asked about
 abbrev pub IsPastGuard : Grid → SymbolSets → LocalRule → Automaton → RuleFault → Type 0
-IsPastGuard g s y f e = PassesGuard g s y × IsCompositionFault g.nodes (composition (marked g s y) f) e
+IsPastGuard g s y f e = PassesGuard s y × IsCompositionFault g.nodes (composition (marked g s y) f) e
 
 abbrev pub IsImageFault : Grid → SymbolSets → LocalRule → Automaton → RuleFault → Type 0
-IsImageFault g s y f Depth = IsGuardDeep g s y ⊎ IsPastGuard g s y f Depth
+IsImageFault g s y f Depth = IsGuardDeep s y ⊎ IsPastGuard g s y f Depth
 IsImageFault g s y f Instances = IsPastGuard g s y f Instances
 IsImageFault g s y f Reach = IsPastGuard g s y f Reach
 IsImageFault g s y f Memory = Unit {0}

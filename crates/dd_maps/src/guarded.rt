@@ -1,8 +1,10 @@
 //! The guarded formula: a formula is true, and the symbol at its cell is one that the node allows.
 ghost use Rattle.std.specs.Prelude.{◌≡◌, ◌<◌, ◌≤◌, length, map, IfOk};
-ghost use Rattle.dd_maps.specs.Guarded.{here, symbol_is, guard, allows_all, guarded_nodes, guarded};
+ghost use Rattle.dd_formula.specs.LocalRule.{IsRule};
+ghost use Rattle.dd_maps.specs.Guarded.{here, symbol_is, guard, allows_all, guarded_nodes};
+ghost use Rattle.dd_maps.specs.Pairs.{guarded_of};
 
-use dd_formula::{Formula, Term};
+use dd_formula::{Formula, Rule, Term};
 use dd_topology::Sets;
 use dd_values::{Boxed, Items};
 use std::alloc::{AllocError, Global};
@@ -76,18 +78,14 @@ fn guards(alloc: Global, sets: &Sets, nodes: u32) -> Result<Vec<Formula>, AllocE
     Ok(guards)
 }
 
-/// The formula that says that this one is true and the symbol is allowed. Where the nodes allow all symbols, it is this one.
-pub(crate) fn guarded(
-    alloc: Global,
-    sets: &Sets,
-    nodes: u32,
-    formula: &Formula,
-) -> Result<Formula, AllocError>
-    requires { nodes ≤ length sets.now.allowed }
-    ensures { IfOk result (λ f. f ≡ guarded sets.now nodes formula.now) }
+/// The formula that says that the rule is true and the symbol is allowed. Where the nodes allow all symbols, it is the rule's.
+pub(crate) fn guarded(alloc: Global, sets: &Sets, rule: &Rule) -> Result<Formula, AllocError>
+    requires { rule.now.nodes ≤ length sets.now.allowed }
+    ensures value { IfOk result (λ f. f ≡ guarded_of sets.now rule.now) }
+    ensures kept { IsRule rule.now }
 {
-    let mut parts = guards(alloc, sets, nodes)?;
-    let formula = formula.copy(alloc)?;
+    let mut parts = guards(alloc, sets, rule.nodes())?;
+    let formula = rule.formula().copy(alloc)?;
     if parts.is_empty() {
         return Ok(formula);
     }

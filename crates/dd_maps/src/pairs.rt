@@ -39,10 +39,10 @@ pub fn marked(
     requires rule { IsRuleOver topology.now sets.now rule.now }
     ensures ok { IfOk result (λ f. f ≡ marked topology.now sets.now rule.now) }
     ensures formed { OnOk result (IsAutomaton (numbers_over topology.now sets.now) (marked topology.now sets.now rule.now)) }
-    ensures shallow { OnOk result (PassesGuard topology.now sets.now rule.now) }
+    ensures shallow { OnOk result (PassesGuard sets.now rule.now) }
     ensures fault { IfErr result (IsMarkedFault topology.now sets.now rule.now) }
 {
-    let formula = guarded(alloc, sets, rule.nodes(), rule.formula())?;
+    let formula = guarded(alloc, sets, rule)?;
     if depth(&formula) > MOST_NESTED {
         return Err(RuleFault::Depth);
     }
@@ -126,7 +126,7 @@ pub fn image_pair(
         DifferAt pair.0 pair.1 look c ↔ BreaksAt map.now target.now look c) }
     ensures positions { IfOk result (λ pair. (look : Look) (v : Place) →
         Differ topology.now.nodes pair.0 pair.1 look v ↔ ImageBreaks map.now target.now look v) }
-    ensures shallow { OnOk result (PassesGuard topology.now sets.now target.now) }
+    ensures shallow { OnOk result (PassesGuard sets.now target.now) }
     ensures fault { IfErr result (IsImageFault topology.now sets.now target.now map.now) }
 {
     let marked = marked(alloc, topology, sets, target)?;

@@ -1,10 +1,8 @@
 -- What the guarded formula says.
-use Rattle.std.proofs.Common.{◌≡◌, ◌<◌, ℕ, Bool, true, false, List, [], ◌∷◌, map, length, get_or, Some, refl, ap, sym, ◌∙◌, arith, eq-eqb, inl, inr}
+use Rattle.std.proofs.Common.{◌≡◌, ◌<◌, ℕ, Bool, true, false, List, [], ◌∷◌, map, Some, refl, ap, sym, ◌∙◌, arith}
 use Rattle.std.specs.Prelude.{◌==◌, ◌&&◌, ◌||◌, not}
-use Rattle.std.specs.List.{list_all, list_any, filter, range_with_len}
-use Rattle.std.proofs.lemmas.Bool.{cases_Bool, eqb-true}
-use Rattle.std.proofs.lemmas.List.Folds.{list_all-map, list_any_at}
-use Rattle.std.proofs.lemmas.List.FromFn.{length-range_with_len, get_or-range_with_len}
+use Rattle.std.specs.List.{list_all, list_any, range_with_len}
+use Rattle.std.proofs.lemmas.List.Folds.{list_all-map}
 use Rattle.dd_lattice.specs.declared.position.Cell.{Cell}
 use Rattle.dd_pattern.specs.Reading.{Look}
 use Rattle.dd_topology.specs.declared.edge.Edge.{Edge}
@@ -14,12 +12,12 @@ use Rattle.dd_expansion.specs.declared.formulas.Formula.TheVariants as v
 use Rattle.dd_expansion.specs.declared.formulas.Formula.TheFolds.{fold-roll-Formula}
 use Rattle.dd_expansion.specs.declared.formulas.Formula.TheOpen.{Formula-F}
 use Rattle.dd_expansion.specs.Truth.{Truth, truth, truth_step, is_symbol}
-use Rattle.dd_expansion.specs.lemmas.ListTests.{list_all-alike, list_any-alike, list_any-map, all_pass, none_passes, and_true}
-use Rattle.dd_formula.specs.lemmas.CompositionLaws.{range_fails}
+use Rattle.dd_expansion.specs.lemmas.ListTests.{list_all-alike, list_any-alike, list_any-map, and_true}
 use Rattle.dd_formula.specs.lemmas.AutomatonLaws.{range_at}
 use Rattle.dd_maps.specs.Guarded.{here, symbol_is, allowed_symbols, guard, allows_all, guarded_nodes, with_guards, guarded}
+use Rattle.dd_maps.specs.lemmas.KeptTests.{all_kept, any_kept, all_but_one, some_one}
 
--- the truth of the forms that stand in it
+-- the truth of its parts
 
 truth_and : (es : List Edge) (fs : List Formula) (env : List Cell) (look : Look) → truth es (v.And fs) env look ≡ list_all (λ f. truth es f env look) fs
 truth_and es fs env look =
@@ -43,60 +41,8 @@ pub truth_symbol : (es : List Edge) (t : ℕ) (c : Cell) (look : Look) → truth
 truth_symbol es t c look =
     ap (λ f. truth es f (c ∷ []) look) (sym (v.rolls-Symbol here t)) ∙ ap (λ h. h (c ∷ []) look) (fold-roll-Formula Truth (truth_step es) (Formula-F.Symbol here t))
 
--- tests of filtered lists
-module _ {X : Type 0} (p q : X → Bool) where
-  all_more : (x : X) (xs : List X) → list_all p (filter q xs) ≡ list_all (λ y. not (q y) || p y) xs → (b : Bool) → q x ≡ b →
-      list_all p (filter q (x ∷ xs)) ≡ list_all (λ y. not (q y) || p y) (x ∷ xs)
-  all_more x xs rest true h = rw h (ap (λ b. p x && b) rest)
-  all_more x xs rest false h = rw h rest
-
-  pub all_kept : (xs : List X) → list_all p (filter q xs) ≡ list_all (λ x. not (q x) || p x) xs
-  all_kept [] = refl
-  all_kept (x ∷ xs) = all_more x xs (all_kept xs) (q x) refl
-
-  any_more : (x : X) (xs : List X) → list_any p (filter q xs) ≡ list_any (λ y. q y && p y) xs → (b : Bool) → q x ≡ b →
-      list_any p (filter q (x ∷ xs)) ≡ list_any (λ y. q y && p y) (x ∷ xs)
-  any_more x xs rest true h = rw h (ap (λ b. p x || b) rest)
-  any_more x xs rest false h = rw h rest
-
-  any_kept : (xs : List X) → list_any p (filter q xs) ≡ list_any (λ x. q x && p x) xs
-  any_kept [] = refl
-  any_kept (x ∷ xs) = any_more x xs (any_kept xs) (q x) refl
-
--- a test of all numbers that asks something of one alone
-ask_one : (q : ℕ → Bool) (b a : ℕ) → q b ≡ true → (not (b == a) || q a) ≡ true
-ask_one q b a h = elim (cases_Bool (b == a)) [
-  | inl same ↦ rw (same, ← eqb-true b a same) h
-  | inr other ↦ rw other refl
-]
-
-all_but_one : (q : ℕ → Bool) (b n : ℕ) → b < n → list_all (λ a. not (b == a) || q a) (range_with_len 0 n) ≡ q b
-all_but_one q b n below = by (q b) refl
-  where
-    by : (x : Bool) → q b ≡ x → list_all (λ a. not (b == a) || q a) (range_with_len 0 n) ≡ q b
-    by true h = all_pass (λ a. not (b == a) || q a) (λ a. ask_one q b a h) (range_with_len 0 n) ∙ sym h
-    by false h = range_fails (λ a. not (b == a) || q a) n b below (rw (eq-eqb b b refl) h) ∙ sym h
-
-ask_none : (q : ℕ → Bool) (t a : ℕ) → q t ≡ false → (q a && (t == a)) ≡ false
-ask_none q t a h = elim (cases_Bool (t == a)) [
-  | inl same ↦ rw (← eqb-true t a same, h) refl
-  | inr other ↦ rw other (and_false (q a))
-]
-  where
-    and_false : (b : Bool) → (b && false) ≡ false
-    and_false true = refl
-    and_false false = refl
-
-some_one : (q : ℕ → Bool) (t m : ℕ) → t < m → list_any (λ a. q a && (t == a)) (range_with_len 0 m) ≡ q t
-some_one q t m below = by (q t) refl
-  where
-    by : (x : Bool) → q t ≡ x → list_any (λ a. q a && (t == a)) (range_with_len 0 m) ≡ q t
-    by true h =
-        let at : get_or (range_with_len 0 m) t 0 ≡ t = get_or-range_with_len 0 m t 0 below ∙ (omega arith) in
-        let within : t < length (range_with_len 0 m) = omega (arith, length-range_with_len 0 m) in
-        list_any_at (λ a. q a && (t == a)) (range_with_len 0 m) t 0 within (rw (at, h) (eq-eqb t t refl)) ∙ sym h
-    by false h = none_passes (λ a. q a && (t == a)) (λ a. ask_none q t a h) (range_with_len 0 m) ∙ sym h
-
+-- At a cell with the symbol t the guard of another node is true, and the cell's own guard is true exactly where its node allows
+-- t: among the listed symbols is then the one that is t. A node without a guard allows all symbols, so t too.
 module _ (es : List Edge) (s : SymbolSets) (c : Cell) (t : ℕ) (look : Look) (gives : look c ≡ Some t) (below : t < s.symbols) where
   symbols_say : (a : ℕ) → list_any (λ f. truth es f (c ∷ []) look) (map symbol_is (allowed_symbols s a)) ≡ allows s a t
   symbols_say a =

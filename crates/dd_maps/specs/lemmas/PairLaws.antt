@@ -1,6 +1,6 @@
 -- Where the automata of a pair differ.
 use Rattle.std.proofs.Common.{◌≡◌, ◌<◌, ℕ, zero, suc, ◌-◌, Bool, true, false, List, [], ◌∷◌, map, length, get_or, Option, Some, None, refl, ap, sym, ◌∙◌, subst, arith, eq-eqb, inl, inr}
-use Rattle.std.specs.Prelude.{◌==◌, ◌&&◌, ◌↔◌, ◌⊎◌, cond, is_some, IfSome}
+use Rattle.std.specs.Prelude.{◌==◌, ◌&&◌, ◌↔◌, ◌⊎◌, cond}
 use Rattle.std.specs.List.{list_any, range_with_len}
 use Rattle.std.proofs.lemmas.Bool.{eqb-true}
 use Rattle.std.proofs.lemmas.List.Folds.{list_any_at}
@@ -8,7 +8,7 @@ use Rattle.std.proofs.lemmas.List.FromFn.{length-range_with_len, get_or-range_wi
 use Rattle.dd_lattice.specs.Place.{Place}
 use Rattle.dd_lattice.specs.Cells.{cell}
 use Rattle.dd_lattice.specs.declared.position.Cell.{Cell}
-use Rattle.dd_pattern.specs.Reading.{Look, HasSymbolsBelow}
+use Rattle.dd_pattern.specs.Reading.{Look}
 use Rattle.dd_topology.specs.Grid.{Grid}
 use Rattle.dd_topology.specs.Sets.{SymbolSets}
 use Rattle.dd_expansion.specs.Truth.{truth}
@@ -31,7 +31,7 @@ same_nodes n P Q v each = (λ h. (h.0, h.1, (each h.0 h.1).0 h.2), λ h. (h.0, h
 pub value_always_zero : (g : Grid) (s : SymbolSets) (look : Look) (c : Cell) → value (always_zero g s) look c ≡ 0
 value_always_zero g s look c = value_given _ look c
 
-value_marked : (g : Grid) (s : SymbolSets) (y : LocalRule) (look : Look) (c : Cell) → value (marked g s y) look c ≡ cond (truth g.edges (guarded_of g s y) (c ∷ []) look) 0 1
+value_marked : (g : Grid) (s : SymbolSets) (y : LocalRule) (look : Look) (c : Cell) → value (marked g s y) look c ≡ cond (truth g.edges (guarded_of s y) (c ∷ []) look) 0 1
 value_marked g s y look c = value_given _ look c
 
 -- a number that is 0 exactly where two facts hold differs from 0 where one of them fails
@@ -45,11 +45,12 @@ differs_where false b x z h h' = (λ other. inr refl, λ e same. absurd (let bot
 module _ (g : Grid) (s : SymbolSets) (y : LocalRule) (over : IsRuleOver g s y) (f : Automaton) (fits : automaton_fits (numbers_over g s) f ≡ true) (look : Look) where
   pub value_image : (c : Cell) → c.node < g.nodes →
       value (Composed (marked g s y) f) look c ≡ cond (is_true y c (image f look) && rule_allows y c.node (value f look c)) 0 1
-  value_image c below =
+  value_image c here =
+      let below : c.node < y.nodes = subst (λ n. c.node < n) (sym (ap (λ r. r.nodes) over.same)) here in
       value_composed (marked g s y) f look c
       ∙ (value_marked g s y (image f look) c
       ∙ ap (λ b. cond b 0 1)
-      (guarded_says g.edges s c (value f look c) (image f look) refl (value_below (numbers_over g s) f fits look c) g.nodes below y.formula
+      (guarded_says g.edges s c (value f look c) (image f look) refl (value_below (numbers_over g s) f fits look c) y.nodes below y.formula
       ∙ ap (λ r. is_true r c (image f look) && rule_allows r c.node (value f look c)) (sym over.same)))
 
   pub image_differs_at : (c : Cell) → c.node < g.nodes → DifferAt (Composed (marked g s y) f) (always_zero g s) look c ↔ BreaksAt f y look c
@@ -97,11 +98,3 @@ module _ (g : Grid) (s : SymbolSets) (f h : Automaton) (look : Look) where
   pub identity_differs : (v : Place) → HasSymbols g.nodes s.symbols look v → Differ g.nodes (Composed f h) (identity g s) look v ↔ Changes g.nodes f h look v
   identity_differs v has =
       same_nodes g.nodes (DifferAt (Composed f h) (identity g s) look) (ChangesAt f h look) v (λ a below. identity_differs_at (cell v a) (has a below))
-
--- a symbol that is given by a look of symbols below k
-pub symbol_at : (k : ℕ) (look : Look) (c : Cell) → HasSymbolsBelow k look → is_some (look c) ≡ true → HasSymbolAt k look c
-symbol_at k look c below some = by (look c) some (below c)
-  where
-    by : (o : Option ℕ) → is_some o ≡ true → IfSome o (λ t. t < k) → (t : ℕ) × (t < k) × (o ≡ Some t)
-    by None given low = absurd (cc)
-    by (Some t) given low = (t, low, refl)

@@ -3,7 +3,10 @@ use Rattle.std.specs.List.{All, range_with_len}
 use Rattle.dd_formula.specs.Automata.{counted}
 use Rattle.dd_formula.specs.ByCases.{IsCaseOver}
 use Rattle.dd_maps.specs.Pairs.{own_symbol, identity}
-use Rattle.dd_maps.proofs.Faults.{err_says, only_memory, identity_few, identity_short, own_cases}
+use Rattle.dd_maps.proofs.Cases.{own_cases}
+use Rattle.dd_maps.proofs.Faults.{err_says, only_memory}
+use Rattle.dd_maps.proofs.Near.{identity_short}
+use Rattle.dd_maps.proofs.Sizes.{identity_few}
 use Rattle.dd_maps.proofs.pairs.identity.Goals as goal
 
 pub by_cases-requires-clause-cases : goal.by_cases-requires-clause-cases

@@ -7,7 +7,7 @@ use Rattle.dd_formula.specs.declared.automaton.Automaton.TheVariants.{Composed}
 use Rattle.dd_maps.specs.Pairs.{identity}
 use Rattle.dd_maps.specs.Images.{DifferAt, ChangesAt, Differ, Changes}
 use Rattle.dd_maps.specs.lemmas.PairLaws.{identity_differs_at, identity_differs}
-use Rattle.dd_maps.proofs.Faults.{of_pair}
+use Rattle.dd_maps.proofs.Cases.{of_pair}
 use Rattle.dd_maps.proofs.pairs.identity_pair.Goals as goal
 
 pub returns-in_err-composed-clause-fault : goal.returns-in_err-composed-clause-fault

@@ -7,7 +7,8 @@ use Rattle.dd_formula.specs.declared.automaton.Automaton.TheVariants.{Composed}
 use Rattle.dd_maps.specs.Pairs.{marked, always_zero}
 use Rattle.dd_maps.specs.Images.{DifferAt, BreaksAt, Differ, ImageBreaks}
 use Rattle.dd_maps.specs.lemmas.PairLaws.{image_differs_at, image_differs}
-use Rattle.dd_maps.proofs.Faults.{marked_to_image, composed_to_image, of_pair}
+use Rattle.dd_maps.proofs.Cases.{of_pair}
+use Rattle.dd_maps.proofs.Faults.{marked_to_image, composed_to_image}
 use Rattle.dd_maps.proofs.pairs.image_pair.Goals as goal
 
 pub returns-in_err-marked-clause-fault : goal.returns-in_err-marked-clause-fault
