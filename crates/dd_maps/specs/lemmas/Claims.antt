@@ -10,11 +10,11 @@ use Rattle.dd_topology.specs.Grid.{Grid}
 use Rattle.dd_topology.specs.Sets.{SymbolSets}
 use Rattle.dd_expansion.specs.declared.formulas.Formula.{Formula}
 use Rattle.dd_expansion.specs.Limits.{IsFormula}
-use Rattle.dd_formula.specs.LocalRule.{LocalRule, local_rule, is_true, rule_allows}
+use Rattle.dd_formula.specs.LocalRule.{LocalRule, local_rule}
 use Rattle.dd_formula.specs.Automata.{value}
 use Rattle.dd_formula.specs.declared.automaton.Automaton.{Automaton}
 use Rattle.dd_maps.specs.Pairs.{IsRuleOver}
-use Rattle.dd_maps.specs.Images.{image, KeepsAt, BreaksAt, GivesBackAt, HasSymbolAt, AtEachNode, ImageBreaks, Changes, HasSymbols}
+use Rattle.dd_maps.specs.Images.{image, KeepsAt, GivesBackAt, HasSymbolAt, AtEachNode, ImageBreaks, Changes, HasSymbols}
 
 -- a rule that was made of a formula
 pub rule_over : (g : Grid) (s : SymbolSets) (f : Formula) (y : LocalRule) → IsFormula g s.symbols f → y ≡ local_rule g s f → IsRuleOver g s y

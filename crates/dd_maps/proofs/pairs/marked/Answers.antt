@@ -1,4 +1,4 @@
-use Rattle.std.proofs.Common.{◌≡◌, ◌≤◌, ap, sym, subst, arith}
+use Rattle.std.proofs.Common.{◌≡◌, ap, sym, subst, arith}
 use Rattle.std.specs.Prelude.{true}
 use Rattle.dd_expansion.specs.Limits.{depth, formula_fits}
 use Rattle.dd_formula.specs.ByCases.{IsCaseOver}
