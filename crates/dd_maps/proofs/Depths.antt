@@ -9,12 +9,14 @@ use Rattle.dd_expansion.specs.declared.formulas.Formula.TheVariants as v
 use Rattle.dd_expansion.specs.Limits.{depth, greatest}
 use Rattle.dd_expansion.specs.lemmas.Layers.{depth_and, depth_or}
 
+-- a disjunction is as deep as the conjunction of the same parts
 pub depth_alike : (fs : List Formula) → depth (v.Or fs) ≡ depth (v.And fs)
 depth_alike fs = depth_or fs ∙ sym (depth_and fs)
 
 pub ruleset depth_layers = (depth_and, depth_alike)
 
-pub greatest_at : (fs : List Formula) (i : ℕ) (f : Formula) → i < length fs → f ≡ get_or fs i f → depth f ≤ greatest (map depth fs)
+-- the deepest part, one part after the other
+greatest_at : (fs : List Formula) (i : ℕ) (f : Formula) → i < length fs → f ≡ get_or fs i f → depth f ≤ greatest (map depth fs)
 greatest_at [] i f below is = absurd (omega arith)
 greatest_at (x ∷ fs) zero f below is = let same = ap depth is in omega (arith, same)
 greatest_at (x ∷ fs) (suc i) f below is = omega (arith, greatest_at fs i f (omega arith) is)
@@ -33,12 +35,14 @@ list_at_least : (b : Bool) (n : ℕ) → n ≤ cond b (1 + n) n
 list_at_least true n = omega arith
 list_at_least false n = omega arith
 
+-- a part is no deeper than its list
 pub part_shallow : (fs : List Formula) (i : ℕ) (f : Formula) → i < length fs → f ≡ get_or fs i f → depth f ≤ depth (v.And fs)
 part_shallow fs i f below is =
     let whole = depth_and fs in
     let least = list_at_least (nat_le 2 (length (map depth fs))) (greatest (map depth fs)) in
     omega (arith, whole, least, greatest_at fs i f below is)
 
+-- the whole list, where there are two parts or more, and where there are fewer
 pub many_parts : (fs : List Formula) (i n : ℕ) → length fs ≤ i → n ≡ greatest (map depth (take i fs)) → 2 ≤ length fs → n + 1 ≡ depth (v.And fs)
 many_parts fs i n whole is many =
     let all : n ≡ greatest (map depth fs) = is ∙ ap (λ xs. greatest (map depth xs)) (take_all i fs whole) in

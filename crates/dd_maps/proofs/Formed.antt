@@ -16,7 +16,7 @@ use Rattle.dd_expansion.specs.lemmas.ListTests.{list_all-weaker}
 use Rattle.dd_maps.specs.Guarded.{here, symbol_is, allowed_symbols, guard, allows_all, guarded_nodes, with_guards, guarded}
 use Rattle.dd_maps.specs.lemmas.KeptTests.{all_kept}
 
--- a test of the first numbers, and of those of them that are kept
+-- what passes a test at each of the first numbers passes at all of them, and at those that are kept
 range_from : (p : ℕ → Bool) (k n : ℕ) → ((a : ℕ) → a < k + n → p a ≡ true) → list_all p (range_with_len k n) ≡ true
 range_from p k zero each = refl
 range_from p k (suc n) each = and_from (p k) _ (each k (omega arith)) (range_from p (k + 1) n (λ a below. each a (omega arith)))
@@ -33,6 +33,7 @@ kept_all p q n each =
     all_kept p q (range_with_len 0 n)
     ∙ list_all-weaker p (λ a. not (q a) || p a) (λ a h. ap (λ b. not (q a) || b) h ∙ or_true (not (q a))) (range_with_len 0 n) (range_all p n each)
 
+-- its numbers
 module _ (g : Grid) (s : SymbolSets) where
   pub fits_symbol : (t : ℕ) → formula_fits g s.symbols (symbol_is t) 1 ≡ nat_lt t s.symbols
   fits_symbol t =
@@ -67,7 +68,7 @@ module _ (g : Grid) (s : SymbolSets) where
       (list_all-map (λ h. formula_fits g s.symbols h 1) (guard s) (guarded_nodes s g.nodes)
       ∙ kept_all (λ a. formula_fits g s.symbols (guard s a) 1) (λ a. not (allows_all s a)) g.nodes guard_fits)
 
--- how deep it is at most
+-- how deep it is at most: its guards are at most 2 deep
 pub depth_symbol : (t : ℕ) → depth (symbol_is t) ≡ 0
 depth_symbol t = ap depth (sym (v.rolls-Symbol here t)) ∙ fold-roll-Formula ℕ depth_step (Formula-F.Symbol here t)
 

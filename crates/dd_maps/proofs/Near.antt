@@ -65,6 +65,7 @@ module _ (es : List Edge) (c : Cell) (close : is_near c ≡ true) where
       near_with f (map (guard s) (guarded_nodes s n)) one
       (list_all-map near (guard s) (guarded_nodes s n) ∙ all_pass (λ a. near (guard s a)) (near_guard s) (guarded_nodes s n))
 
+-- so at the origin
 near_origin : (a : ℕ) → is_near (origin_at a) ≡ true
 near_origin a = refl
 
@@ -84,6 +85,7 @@ module _ (g : Grid) (s : SymbolSets) where
   pub zero_short : (n : ℕ) → is_short n (counted (always_zero g s)) ≡ true
   zero_short n = ap (is_short n) (counted_given _) ∙ all_pass _ (λ a. refl) (range_with_len 0 n)
 
+  -- a case of the identity reads the cell itself
   own_short : (ts : List ℕ) (a : ℕ) → list_all is_near (cases_reads (map (case_over g s) (map own_symbol ts)) a) ≡ true
   own_short [] a = refl
   own_short (t ∷ ts) a =

@@ -41,6 +41,7 @@ module _ (g : Grid) (s : SymbolSets) where
   pub zero_few : (n : ℕ) → is_few n (counted (always_zero g s)) ≡ true
   zero_few n = ap (is_few n) (counted_given _) ∙ all_pass _ (λ a. refl) (range_with_len 0 n)
 
+  -- each case of the identity has one leaf
   symbol_expansion : (t a : ℕ) → expansion_at (local_rule g s (symbol_is t)) a ≡ leaf t (origin_at a)
   symbol_expansion t a =
       ap (λ f. expansion g.edges s.symbols f (origin_at a ∷ [])) (sym (v.rolls-Symbol here t))
