@@ -10,7 +10,7 @@ use Rattle.dd_expansion.specs.declared.formulas.Formula.{Formula}
 use Rattle.dd_expansion.specs.declared.formulas.Formula.TheVariants as v
 use Rattle.dd_expansion.specs.declared.formulas.Formula.TheFolds.{fold-roll-Formula}
 use Rattle.dd_expansion.specs.declared.formulas.Formula.TheOpen.{Formula-F}
-use Rattle.dd_expansion.specs.Limits.{formula_fits, formula_fits_step, depth, depth_step, greatest}
+use Rattle.dd_expansion.specs.Limits.{formula_fits, formula_fits_step, depth, depth_step, greatest, most_nested}
 use Rattle.dd_expansion.specs.lemmas.Layers.{fits_and, fits_or, depth_and, depth_or}
 use Rattle.dd_expansion.specs.lemmas.ListTests.{list_all-weaker}
 use Rattle.dd_maps.specs.Guarded.{here, symbol_is, allowed_symbols, guard, allows_all, guarded_nodes, with_guards, guarded}
@@ -104,7 +104,7 @@ with_shallow f (h ∷ gs) =
     let most = list_at_most (nat_le 2 (length (map depth parts))) (greatest (map depth parts)) in
     omega (arith, depth_and parts, most)
 
-pub guarded_shallow : (s : SymbolSets) (n : ℕ) (f : Formula) → depth f ≤ 64 → depth (guarded s n f) ≤ 65
+pub guarded_shallow : (s : SymbolSets) (n : ℕ) (f : Formula) → depth f ≤ most_nested → depth (guarded s n f) ≤ most_nested + 1
 guarded_shallow s n f h =
     let gs = map (guard s) (guarded_nodes s n) in
     omega (arith, with_shallow f gs, guards_shallow s (guarded_nodes s n))
