@@ -1,0 +1,33 @@
+-- The cases of the automata, and a fact of two automata.
+use Rattle.std.proofs.Common.{◌≡◌, ◌<◌, ℕ, zero, suc, ◌+◌, ◌-◌, [], ◌∷◌, map, refl, sym, ◌∙◌, subst, arith}
+use Rattle.std.specs.Prelude.{slice_index_or}
+use Rattle.std.specs.List.{range_with_len, All}
+use Rattle.std.proofs.lemmas.Bool.{lt-ltb}
+use Rattle.std.proofs.lemmas.List.FromFn.{length-map-range_with_len, get_or-map-range_with_len}
+use Rattle.dd_topology.specs.Grid.{Grid}
+use Rattle.dd_topology.specs.Sets.{SymbolSets}
+use Rattle.dd_formula.specs.ByCases.{IsCaseOver}
+use Rattle.dd_formula.specs.declared.automaton.Automaton.{Automaton}
+use Rattle.dd_maps.specs.Pairs.{own_symbol}
+use Rattle.dd_maps.proofs.Formed.{fits_symbol, depth_symbol}
+
+-- what holds of one item holds of each item of its list
+pub single : {X : Type 0} (P : X → Type 0) (x : X) → P x → (k : ℕ) (d : X) → k < 1 → P (slice_index_or (x ∷ []) k d)
+single P x h zero d below = h
+single P x h (suc k) d below = absurd (omega arith)
+
+-- the cases of the identity
+own_case : (g : Grid) (s : SymbolSets) (t : ℕ) → t < s.symbols → IsCaseOver g s (own_symbol t)
+own_case g s t below = record {
+  formula = record { numbers = fits_symbol g s t ∙ lt-ltb t s.symbols below; depth = omega (arith, depth_symbol t) };
+  symbol = below;
+}
+
+pub own_cases : (g : Grid) (s : SymbolSets) → All (IsCaseOver g s) (map own_symbol (range_with_len 1 (s.symbols - 1)))
+own_cases g s k d below =
+    let short : k < s.symbols - 1 = omega (arith, below, length-map-range_with_len own_symbol 1 (s.symbols - 1)) in
+    subst (IsCaseOver g s) (sym (get_or-map-range_with_len own_symbol 1 (s.symbols - 1) k (1 + k) d short refl)) (own_case g s (1 + k) (omega arith))
+
+-- a fact of two automata, from those that they are
+pub of_pair : (P : Automaton → Automaton → Type 0) (f h f' h' : Automaton) → f ≡ f' → h ≡ h' → P f' h' → P f h
+of_pair P f h f' h' one other all = subst (λ k. P k h) (sym one) (subst (P f') (sym other) all)

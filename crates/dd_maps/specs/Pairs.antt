@@ -1,0 +1,39 @@
+-- The automata by which images and conjugacies are asked for.
+use Rattle.std.specs.Prelude.{ℕ, ◌-◌, ◌≡◌, [], ◌∷◌, map}
+use Rattle.std.specs.List.{range_with_len}
+use Rattle.dd_topology.specs.Grid.{Grid}
+use Rattle.dd_topology.specs.Sets.{SymbolSets}
+use Rattle.dd_expansion.specs.declared.formulas.Formula.{Formula}
+use Rattle.dd_expansion.specs.Limits.{IsFormula, depth}
+use Rattle.dd_formula.specs.LocalRule.{LocalRule, local_rule}
+use Rattle.dd_formula.specs.ByCases.{by_cases}
+use Rattle.dd_formula.specs.declared.automaton.Automaton.{Automaton}
+use Rattle.dd_maps.specs.Guarded.{symbol_is, guarded}
+
+-- the rule was made of a formula over this topology and these sets
+pub record IsRuleOver (g : Grid) (s : SymbolSets) (y : LocalRule) : Type 0 where
+  pub same : y ≡ local_rule g s y.formula
+  pub formula : IsFormula g s.symbols y.formula
+
+-- the guarded formula of the rule, and its depth
+abbrev pub guarded_of : SymbolSets → LocalRule → Formula
+guarded_of s y = guarded s y.nodes y.formula
+
+abbrev pub guarded_depth : SymbolSets → LocalRule → ℕ
+guarded_depth s y = depth (guarded_of s y)
+
+-- gives 0 where the rule is true and the symbol is allowed, else 1
+abbrev pub marked : Grid → SymbolSets → LocalRule → Automaton
+marked g s y = by_cases g s ((guarded_of s y, 0) ∷ []) 1
+
+-- gives 0 everywhere
+abbrev pub always_zero : Grid → SymbolSets → Automaton
+always_zero g s = by_cases g s [] 0
+
+-- where the symbol is t, t
+abbrev pub own_symbol : ℕ → Formula × ℕ
+own_symbol t = (symbol_is t, t)
+
+-- gives each cell its symbol: a case for each symbol from 1 on, else 0
+abbrev pub identity : Grid → SymbolSets → Automaton
+identity g s = by_cases g s (map own_symbol (range_with_len 1 (s.symbols - 1))) 0

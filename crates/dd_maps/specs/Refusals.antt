@@ -1,0 +1,37 @@
+-- Why no automaton that marks a rule, and no pair, is made.
+use Rattle.std.specs.Prelude.{◌<◌, ◌≤◌, ◌≡◌, ◌⊎◌, false}
+use Rattle.dd_topology.specs.Grid.{Grid}
+use Rattle.dd_topology.specs.Sets.{SymbolSets}
+use Rattle.dd_expansion.specs.Limits.{most_nested}
+use Rattle.dd_formula.specs.LocalRule.{LocalRule}
+use Rattle.dd_formula.specs.Automata.{counted, is_few}
+use Rattle.dd_formula.specs.Compositions.{composition, IsCompositionFault}
+use Rattle.dd_formula.specs.declared.automaton.Automaton.{Automaton}
+use Rattle.dd_formula.specs.declared.fault.RuleFault.{RuleFault}
+use Rattle.dd_formula.specs.declared.fault.RuleFault.TheVariants.{Reach, Instances, Depth, Memory}
+use Rattle.dd_maps.specs.Pairs.{guarded_depth, marked}
+
+-- the guarded formula is within the limit, which is tested first, or past it
+abbrev pub PassesGuard : SymbolSets → LocalRule → Type 0
+PassesGuard s y = guarded_depth s y ≤ most_nested
+
+abbrev pub IsGuardDeep : SymbolSets → LocalRule → Type 0
+IsGuardDeep s y = most_nested < guarded_depth s y
+
+-- the guarded formula is too deep; else the automaton has too many instances at some node. It reads what the rule reads and
+-- the cell itself, which is never too far away
+abbrev pub IsMarkedFault : Grid → SymbolSets → LocalRule → RuleFault → Type 0
+IsMarkedFault g s y Depth = IsGuardDeep s y
+IsMarkedFault g s y Instances = PassesGuard s y × (is_few g.nodes (counted (marked g s y)) ≡ false)
+IsMarkedFault g s y Reach = ⊥
+IsMarkedFault g s y Memory = Unit {0}
+
+-- the guarded formula is too deep; else the fault of the composition with the automaton whose image is asked about
+abbrev pub IsPastGuard : Grid → SymbolSets → LocalRule → Automaton → RuleFault → Type 0
+IsPastGuard g s y f e = PassesGuard s y × IsCompositionFault g.nodes (composition (marked g s y) f) e
+
+abbrev pub IsImageFault : Grid → SymbolSets → LocalRule → Automaton → RuleFault → Type 0
+IsImageFault g s y f Depth = IsGuardDeep s y ⊎ IsPastGuard g s y f Depth
+IsImageFault g s y f Instances = IsPastGuard g s y f Instances
+IsImageFault g s y f Reach = IsPastGuard g s y f Reach
+IsImageFault g s y f Memory = Unit {0}

@@ -1,0 +1,4 @@
+pub mod KeptTests
+pub mod GuardLaws
+pub mod PairLaws
+pub mod Claims

@@ -1,0 +1,49 @@
+-- What is known of a rule and of a look from how they were made, and of an image from what it doesn't do.
+use Rattle.std.proofs.Common.{◌≡◌, ◌<◌, ℕ, Bool, true, false, Option, Some, None, refl, ap, sym, ◌∙◌, subst, eq-eqb, inl, inr}
+use Rattle.std.specs.Prelude.{◌==◌, ◌⊎◌, is_some, IfSome}
+use Rattle.std.proofs.lemmas.Bool.{cases_Bool, eqb-true}
+use Rattle.dd_lattice.specs.Place.{Place}
+use Rattle.dd_lattice.specs.Cells.{cell}
+use Rattle.dd_lattice.specs.declared.position.Cell.{Cell}
+use Rattle.dd_pattern.specs.Reading.{Look, HasSymbolsBelow}
+use Rattle.dd_topology.specs.Grid.{Grid}
+use Rattle.dd_topology.specs.Sets.{SymbolSets}
+use Rattle.dd_expansion.specs.declared.formulas.Formula.{Formula}
+use Rattle.dd_expansion.specs.Limits.{IsFormula}
+use Rattle.dd_formula.specs.LocalRule.{LocalRule, local_rule}
+use Rattle.dd_formula.specs.Automata.{value}
+use Rattle.dd_formula.specs.declared.automaton.Automaton.{Automaton}
+use Rattle.dd_maps.specs.Pairs.{IsRuleOver}
+use Rattle.dd_maps.specs.Images.{image, KeepsAt, GivesBackAt, HasSymbolAt, AtEachNode, ImageBreaks, Changes, HasSymbols}
+
+-- a rule that was made of a formula
+pub rule_over : (g : Grid) (s : SymbolSets) (f : Formula) (y : LocalRule) → IsFormula g s.symbols f → y ≡ local_rule g s f → IsRuleOver g s y
+rule_over g s f y formula made = subst (IsRuleOver g s) (sym made) (record { same = refl; formula = formula })
+
+-- a look of symbols below k
+pub symbol_at : (k : ℕ) (look : Look) (c : Cell) → HasSymbolsBelow k look → is_some (look c) ≡ true → HasSymbolAt k look c
+symbol_at k look c below some = by (look c) some (below c)
+  where
+    by : (o : Option ℕ) → is_some o ≡ true → IfSome o (λ t. t < k) → (t : ℕ) × (t < k) × (o ≡ Some t)
+    by None given low = absurd (cc)
+    by (Some t) given low = (t, low, refl)
+
+-- an image that doesn't break the rule
+both_hold : (a b : Bool) → ((a ≡ false) ⊎ (b ≡ false) → ⊥) → (a ≡ true) × (b ≡ true)
+both_hold true true h = (refl, refl)
+both_hold true false h = absurd (h (inr refl))
+both_hold false b h = absurd (h (inl refl))
+
+pub image_keeps : (f : Automaton) (y : LocalRule) (look : Look) (v : Place) → (ImageBreaks f y look v → ⊥) → AtEachNode y.nodes (KeepsAt f y look) v
+image_keeps f y look v unbroken a below = both_hold _ _ (λ broken. unbroken (a, below, broken))
+
+-- an automaton after another one that changes nothing
+same_symbol : (x : ℕ) (o : Option ℕ) (t : ℕ) → o ≡ Some t → ((Some x ≡ o → ⊥) → ⊥) → Some x ≡ o
+same_symbol x o t is h = elim (cases_Bool (x == t)) [
+  | inl same ↦ ap Some (eqb-true x t same) ∙ sym is
+  | inr other ↦ absurd (h (λ equal. let both : Some x ≡ Some t = equal ∙ is in let one : x ≡ t = cc in absurd (let none : true ≡ false = sym (eq-eqb x t one) ∙ other in cc)))
+]
+
+pub gives_back : (n k : ℕ) (f g : Automaton) (look : Look) (v : Place) → HasSymbols n k look v → (Changes n f g look v → ⊥) → AtEachNode n (GivesBackAt f g look) v
+gives_back n k f g look v has unchanged a below =
+    same_symbol (value f (image g look) (cell v a)) (look (cell v a)) (has a below).0 (has a below).2 (λ changed. unchanged (a, below, changed))

@@ -1,0 +1,94 @@
+//! The guarded formula: a formula is true, and the symbol at its cell is one that the node allows.
+ghost use Rattle.std.specs.Prelude.{◌≡◌, ◌<◌, ◌≤◌, length, map, IfOk};
+ghost use Rattle.dd_formula.specs.LocalRule.{IsRule};
+ghost use Rattle.dd_maps.specs.Guarded.{here, symbol_is, guard, allows_all, guarded_nodes};
+ghost use Rattle.dd_maps.specs.Pairs.{guarded_of};
+
+use dd_formula::{Formula, Rule, Term};
+use dd_topology::Sets;
+use dd_values::{Boxed, Items};
+use std::alloc::{AllocError, Global};
+
+/// The cell at which a formula stands.
+fn here(alloc: Global) -> Term
+    ensures { result ≡ here }
+{
+    Term {
+        variable: 0,
+        moves: Items::new(alloc),
+    }
+}
+
+/// The symbol there is this one. It takes no memory.
+pub(crate) fn symbol_is(alloc: Global, symbol: u32) -> Formula
+    ensures { result ≡ symbol_is symbol }
+{
+    let term = here(alloc);
+    Formula::Symbol { term, symbol }
+}
+
+/// The cell there doesn't have this node.
+fn other_node(alloc: Global, node: u32) -> Result<Formula, AllocError>
+    ensures { IfOk result (λ f. f ≡ Formula.Not (Formula.Node here node)) }
+{
+    let term = here(alloc);
+    let inner = Boxed::new(alloc, Formula::Node { term, node })?;
+    Ok(Formula::Not(inner))
+}
+
+/// Whether the node allows every symbol.
+fn allows_all(sets: &Sets, node: u32) -> bool
+    requires { node < length sets.now.allowed }
+    ensures { result ≡ allows_all sets.now node }
+{
+    for symbol in 0..sets.symbols() {
+        if !sets.allows(node, symbol) {
+            return false;
+        }
+    }
+    true
+}
+
+/// The cell doesn't have this node, or its symbol is one that the node allows.
+fn guard(alloc: Global, sets: &Sets, node: u32) -> Result<Formula, AllocError>
+    requires { node < length sets.now.allowed }
+    ensures { IfOk result (λ f. f ≡ guard sets.now node) }
+{
+    let mut parts = Items::new(alloc);
+    parts.push(other_node(alloc, node)?)?;
+    for symbol in 0..sets.symbols() {
+        if sets.allows(node, symbol) {
+            parts.push(symbol_is(alloc, symbol))?;
+        }
+    }
+    Ok(Formula::Or(parts))
+}
+
+/// A guard for each of the first nodes that doesn't allow some symbol.
+fn guards(alloc: Global, sets: &Sets, nodes: u32) -> Result<Vec<Formula>, AllocError>
+    requires { nodes ≤ length sets.now.allowed }
+    ensures { IfOk result (λ guards. guards.items ≡ map (guard sets.now) (guarded_nodes sets.now nodes)) }
+{
+    let mut guards = Vec::new(alloc);
+    for node in 0..nodes {
+        if !allows_all(sets, node) {
+            guards.push(guard(alloc, sets, node)?)?;
+        }
+    }
+    Ok(guards)
+}
+
+/// The formula that says that the rule is true and the symbol is allowed. Where the nodes allow all symbols, it is the rule's.
+pub(crate) fn guarded(alloc: Global, sets: &Sets, rule: &Rule) -> Result<Formula, AllocError>
+    requires { rule.now.nodes ≤ length sets.now.allowed }
+    ensures value { IfOk result (λ f. f ≡ guarded_of sets.now rule.now) }
+    ensures kept { IsRule rule.now }
+{
+    let mut parts = guards(alloc, sets, rule.nodes())?;
+    let formula = rule.formula().copy(alloc)?;
+    if parts.is_empty() {
+        return Ok(formula);
+    }
+    parts.insert(0, formula)?;
+    Ok(Formula::And(Items::from_vec(parts)))
+}

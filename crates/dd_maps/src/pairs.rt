@@ -1,0 +1,167 @@
+//! The pairs of automata by which images and conjugacies are asked for.
+ghost use Rattle.std.specs.Prelude.{◌≡◌, ◌-◌, ◌<◌, ◌≤◌, ◌↔◌, length, map, IfOk, IfErr, OnOk};
+ghost use Rattle.std.specs.List.{range_with_len};
+ghost use Rattle.dd_lattice.specs.Place.{Place};
+ghost use Rattle.dd_lattice.specs.declared.position.Cell.{Cell};
+ghost use Rattle.dd_pattern.specs.Reading.{Look};
+ghost use Rattle.dd_formula.specs.Automata.{IsAutomaton};
+ghost use Rattle.dd_formula.specs.ByCases.{numbers_over};
+ghost use Rattle.dd_formula.specs.Compositions.{AreAutomata, OverBoth, IsCompositionFault, composition};
+ghost use Rattle.dd_maps.specs.Pairs.{IsRuleOver, own_symbol, marked, always_zero, identity};
+ghost use Rattle.dd_maps.specs.Images.{DifferAt, BreaksAt, ChangesAt, HasSymbolAt, Differ, ImageBreaks, Changes, HasSymbols};
+ghost use Rattle.dd_maps.specs.Refusals.{PassesGuard, IsMarkedFault, IsImageFault};
+
+use crate::depth::depth;
+use crate::guarded::{guarded, symbol_is};
+use dd_formula::{Automaton, Formula, Rule, RuleFault};
+use dd_topology::{Sets, Topology};
+use std::alloc::{AllocError, Global};
+
+/// How deep a formula is at most.
+const MOST_NESTED: u32 = 64;
+
+/// The automaton that gives 0 where the rule is true and the symbol is allowed, else 1. It has one case, the guarded formula:
+/// the rule's formula, and for each node that doesn't allow some symbol a part that says that the cell doesn't have this node or
+/// has one of the symbols that the node allows. Where every node allows all symbols, this is the rule's formula itself.
+///
+/// # Errors
+/// `Depth` where the guarded formula is more than 64 deep; else `Instances` where the automaton has more than 20,000 instances
+/// at some node; or `Memory`.
+pub fn marked(
+    alloc: Global,
+    topology: &Topology,
+    sets: &Sets,
+    rule: &Rule,
+) -> Result<Automaton, RuleFault>
+    requires nodes { topology.now.nodes ≤ 4 }
+    requires sets { length sets.now.allowed ≡ topology.now.nodes }
+    requires symbols { (2 ≤ sets.now.symbols) × (sets.now.symbols ≤ 16) }
+    requires rule { IsRuleOver topology.now sets.now rule.now }
+    ensures ok { IfOk result (λ f. f ≡ marked topology.now sets.now rule.now) }
+    ensures formed { OnOk result (IsAutomaton (numbers_over topology.now sets.now) (marked topology.now sets.now rule.now)) }
+    ensures shallow { OnOk result (PassesGuard sets.now rule.now) }
+    ensures fault { IfErr result (IsMarkedFault topology.now sets.now rule.now) }
+{
+    let formula = guarded(alloc, sets, rule)?;
+    if depth(&formula) > MOST_NESTED {
+        return Err(RuleFault::Depth);
+    }
+    let cases = [(formula, 0)];
+    Automaton::by_cases(alloc, topology, sets, &cases, 1)
+}
+
+/// The automaton that gives 0 everywhere.
+fn always_zero(alloc: Global, topology: &Topology, sets: &Sets) -> Result<Automaton, RuleFault>
+    requires nodes { topology.now.nodes ≤ 4 }
+    requires sets { length sets.now.allowed ≡ topology.now.nodes }
+    requires symbols { (2 ≤ sets.now.symbols) × (sets.now.symbols ≤ 16) }
+    ensures ok { IfOk result (λ f. f ≡ always_zero topology.now sets.now) }
+    ensures formed { OnOk result (IsAutomaton (numbers_over topology.now sets.now) (always_zero topology.now sets.now)) }
+    ensures fault { IfErr result (λ e. e ≡ RuleFault.Memory) }
+{
+    Automaton::by_cases(alloc, topology, sets, &[], 0)
+}
+
+/// For each symbol from 1 on the formula that says that it is the cell's, with the symbol.
+fn own_symbols(alloc: Global, symbols: u32) -> Result<Vec<(Formula, u32)>, AllocError>
+    requires { 1 ≤ symbols }
+    ensures { IfOk result (λ cases. cases.items ≡ map own_symbol (range_with_len 1 (symbols - 1))) }
+{
+    let mut cases = Vec::new(alloc);
+    for symbol in 1..symbols {
+        cases.push((symbol_is(alloc, symbol), symbol))?;
+    }
+    Ok(cases)
+}
+
+/// The automaton that gives each cell its symbol.
+fn identity(alloc: Global, topology: &Topology, sets: &Sets) -> Result<Automaton, RuleFault>
+    requires nodes { topology.now.nodes ≤ 4 }
+    requires sets { length sets.now.allowed ≡ topology.now.nodes }
+    requires symbols { (2 ≤ sets.now.symbols) × (sets.now.symbols ≤ 16) }
+    ensures ok { IfOk result (λ f. f ≡ identity topology.now sets.now) }
+    ensures formed { OnOk result (IsAutomaton (numbers_over topology.now sets.now) (identity topology.now sets.now)) }
+    ensures fault { IfErr result (λ e. e ≡ RuleFault.Memory) }
+{
+    let cases = own_symbols(alloc, sets.symbols())?;
+    Automaton::by_cases(alloc, topology, sets, cases.as_slice(), 0)
+}
+
+/// The composition of an automaton and a copy of another one.
+fn composed_with(alloc: Global, outer: Automaton, inner: &Automaton) -> Result<Automaton, RuleFault>
+    requires { AreAutomata outer inner.now }
+    ensures ok { IfOk result (λ h. h ≡ Automaton.Composed outer inner.now) }
+    ensures formed { OnOk result (OverBoth outer inner.now (λ s. IsAutomaton s (Automaton.Composed outer inner.now))) }
+    ensures fault { IfErr result (λ e. OverBoth outer inner.now (λ s. IsCompositionFault s.nodes (composition outer inner.now) e)) }
+{
+    let inner = inner.copy(alloc)?;
+    match Automaton::composed(alloc, outer, inner) {
+        Ok(automaton) => Ok(automaton),
+        Err((fault, _, _)) => Err(fault),
+    }
+}
+
+/// Two automata that give a cell different symbols exactly where under `map` its image has a symbol that the node doesn't allow
+/// or breaks the target: the composition that takes `map` first and then what `marked` makes of the target, and the automaton
+/// that gives 0 everywhere. So they differ at some node of a position exactly where the image breaks the target there.
+///
+/// # Errors
+/// `Depth` where the target's guarded formula is more than 64 deep; else `Instances`, `Reach` and `Depth` at the limits of the
+/// composition, in this order; or `Memory`.
+pub fn image_pair(
+    alloc: Global,
+    topology: &Topology,
+    sets: &Sets,
+    map: &Automaton,
+    target: &Rule,
+) -> Result<(Automaton, Automaton), RuleFault>
+    requires nodes { topology.now.nodes ≤ 4 }
+    requires sets { length sets.now.allowed ≡ topology.now.nodes }
+    requires symbols { (2 ≤ sets.now.symbols) × (sets.now.symbols ≤ 16) }
+    requires map { IsAutomaton (numbers_over topology.now sets.now) map.now }
+    requires target { IsRuleOver topology.now sets.now target.now }
+    ensures ok { IfOk result (λ pair. pair ≡ (Automaton.Composed (marked topology.now sets.now target.now) map.now, always_zero topology.now sets.now)) }
+    ensures formed { IfOk result (λ pair. IsAutomaton (numbers_over topology.now sets.now) pair.0 × IsAutomaton (numbers_over topology.now sets.now) pair.1) }
+    ensures cells { IfOk result (λ pair. (look : Look) (c : Cell) → c.node < topology.now.nodes →
+        DifferAt pair.0 pair.1 look c ↔ BreaksAt map.now target.now look c) }
+    ensures positions { IfOk result (λ pair. (look : Look) (v : Place) →
+        Differ topology.now.nodes pair.0 pair.1 look v ↔ ImageBreaks map.now target.now look v) }
+    ensures shallow { OnOk result (PassesGuard sets.now target.now) }
+    ensures fault { IfErr result (IsImageFault topology.now sets.now target.now map.now) }
+{
+    let marked = marked(alloc, topology, sets, target)?;
+    let composed = composed_with(alloc, marked, map)?;
+    let zero = always_zero(alloc, topology, sets)?;
+    Ok((composed, zero))
+}
+
+/// Two automata that give a cell with a symbol different symbols exactly where `outer` on the values of `inner` doesn't give its
+/// symbol back: the composition that takes `inner` first, and the identity.
+///
+/// # Errors
+/// `Instances`, `Reach` and `Depth` at the limits of the composition, in this order; or `Memory`.
+pub fn identity_pair(
+    alloc: Global,
+    topology: &Topology,
+    sets: &Sets,
+    outer: &Automaton,
+    inner: &Automaton,
+) -> Result<(Automaton, Automaton), RuleFault>
+    requires nodes { topology.now.nodes ≤ 4 }
+    requires sets { length sets.now.allowed ≡ topology.now.nodes }
+    requires symbols { (2 ≤ sets.now.symbols) × (sets.now.symbols ≤ 16) }
+    requires outer { IsAutomaton (numbers_over topology.now sets.now) outer.now }
+    requires inner { IsAutomaton (numbers_over topology.now sets.now) inner.now }
+    ensures ok { IfOk result (λ pair. pair ≡ (Automaton.Composed outer.now inner.now, identity topology.now sets.now)) }
+    ensures formed { IfOk result (λ pair. IsAutomaton (numbers_over topology.now sets.now) pair.0 × IsAutomaton (numbers_over topology.now sets.now) pair.1) }
+    ensures cells { IfOk result (λ pair. (look : Look) (c : Cell) → HasSymbolAt sets.now.symbols look c →
+        DifferAt pair.0 pair.1 look c ↔ ChangesAt outer.now inner.now look c) }
+    ensures positions { IfOk result (λ pair. (look : Look) (v : Place) → HasSymbols topology.now.nodes sets.now.symbols look v →
+        Differ topology.now.nodes pair.0 pair.1 look v ↔ Changes topology.now.nodes outer.now inner.now look v) }
+    ensures fault { IfErr result (IsCompositionFault topology.now.nodes (composition outer.now inner.now)) }
+{
+    let first = outer.copy(alloc)?;
+    let composed = composed_with(alloc, first, inner)?;
+    let identity = identity(alloc, topology, sets)?;
+    Ok((composed, identity))
+}
