@@ -26,12 +26,13 @@ IsMarkedFault g s y Instances = PassesGuard s y × (is_few g.nodes (counted (mar
 IsMarkedFault g s y Reach = ⊥
 IsMarkedFault g s y Memory = Unit {0}
 
--- the guarded formula is too deep; else the fault of the composition with the automaton whose image is asked about
-abbrev pub IsPastGuard : Grid → SymbolSets → LocalRule → Automaton → RuleFault → Type 0
-IsPastGuard g s y f e = PassesGuard s y × IsCompositionFault g.nodes (composition (marked g s y) f) e
+-- the guarded formula is within the limit, and the composition with the automaton whose image is asked about has the fault
+abbrev pub IsLaterFault : Grid → SymbolSets → LocalRule → Automaton → RuleFault → Type 0
+IsLaterFault g s y f e = PassesGuard s y × IsCompositionFault g.nodes (composition (marked g s y) f) e
 
+-- the guarded formula is too deep; else the composition's fault
 abbrev pub IsImageFault : Grid → SymbolSets → LocalRule → Automaton → RuleFault → Type 0
-IsImageFault g s y f Depth = IsGuardDeep s y ⊎ IsPastGuard g s y f Depth
-IsImageFault g s y f Instances = IsPastGuard g s y f Instances
-IsImageFault g s y f Reach = IsPastGuard g s y f Reach
+IsImageFault g s y f Depth = IsGuardDeep s y ⊎ IsLaterFault g s y f Depth
+IsImageFault g s y f Instances = IsLaterFault g s y f Instances
+IsImageFault g s y f Reach = IsLaterFault g s y f Reach
 IsImageFault g s y f Memory = Unit {0}
