@@ -14,7 +14,10 @@ mod walk;
 mod walker;
 
 pub use engine::{Engine, Proposal};
-pub use laws::{first_asked_earlier, kept_is_reflexive, kept_is_transitive, rounds_keep};
+pub use laws::{
+    first_asked_earlier, first_asked_keeps, first_is_not_skipped, kept_is_reflexive, kept_is_transitive,
+    rounds_keep,
+};
 pub use propagator::Propagator;
 pub use roster::Roster;
 pub use tally::Tally;
