@@ -1,9 +1,8 @@
 -- How many values differ from those of a landmark, and when the walk is back there.
-use Rattle.std.proofs.Common.{◌≡◌, ℕ, zero, suc, ◌+◌, ◌-◌, ◌%◌, ◌<◌, ◌≤◌, Bool, true, false, not, cond, List, [], ◌∷◌, Option, Some, None, refl, sym, ◌∙◌, ap, subst, inl, inr, length, get_or, take, arith}
+use Rattle.std.proofs.Common.{◌≡◌, ℕ, zero, suc, ◌+◌, ◌-◌, ◌%◌, ◌<◌, ◌≤◌, Bool, true, false, not, List, [], ◌∷◌, Option, Some, None, refl, sym, ◌∙◌, ap, subst, inl, inr, length, get_or, take, arith}
 use Rattle.std.proofs.Math.ListN.{set}
 use Rattle.std.specs.Bool.{beq}
-use Rattle.std.specs.List.{All}
-use Rattle.std.specs.Option.{IfSome, IsSomeAnd}
+use Rattle.std.specs.Option.{IfSome}
 use Rattle.std.proofs.Math.Nat.{mod-add-mod}
 use Rattle.std.proofs.lemmas.Nat.Gcd.{dvd_of_mod-eq-zero, mod-eq-zero_of_dvd, dvd_trans}
 use Rattle.std.proofs.lemmas.List.Elements.{All-weaker, All-more, All-nil}

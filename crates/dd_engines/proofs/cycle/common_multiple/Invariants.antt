@@ -1,4 +1,4 @@
-use Rattle.std.proofs.Common.{◌≡◌, ◌<◌, ◌≤◌, ◌%◌, ◌+◌, ◌-◌}
+use Rattle.std.proofs.Common.{◌≡◌, ◌<◌, ◌%◌, ◌+◌, ◌-◌}
 use Rattle.dd_engines.proofs.cycle.common_multiple.Given as goal
 
 abbrev pub invariant-loop-multiple : goal.invariant-loop-multiple

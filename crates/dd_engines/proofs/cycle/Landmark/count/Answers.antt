@@ -1,10 +1,8 @@
-use Rattle.std.proofs.Common.{◌≡◌, ◌+◌, ◌-◌, ◌<◌, ◌≤◌, Bool, true, false, not, ℕ, List, refl, ap, sym, subst, ◌∙◌, length, get_or, arith}
-use Rattle.std.proofs.Math.ListN.{set}
+use Rattle.std.proofs.Common.{◌≡◌, ◌+◌, Bool, true, false, not, ℕ, ap, sym, ◌∙◌, get_or, arith}
 use Rattle.std.specs.Bool.{beq}
 use Rattle.std.proofs.lemmas.Grind.{common_steps}
 use Rattle.std.proofs.lemmas.List.{length-set}
 use Rattle.std.proofs.lemmas.List.Elements.{at_read}
-use Rattle.dd_engines.specs.walking.Cycles.{differences}
 use Rattle.dd_engines.proofs.Cycling.{changed_same, changed_other, differences_few}
 use Rattle.dd_engines.proofs.cycle.Landmark.count.Goals as goal
 
