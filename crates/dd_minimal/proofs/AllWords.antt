@@ -131,7 +131,7 @@ broken_so true false h = (refl, refl)
 broken_so false t h = absurd (false≢true h)
 
 so_broken : (b t : Bool) → b ≡ true → t ≡ false → does_break (cond b (of_truth t) Barred) ≡ true
-so_broken b t is no = rw (is, no) refl
+so_broken b t is broken = rw (is, broken) refl
 
 pub breaking_fillings : (r : LocalRule) → IsRule r → (a : ℕ) → BreakingFillings r a (breaking_from r a 0)
 breaking_fillings r ok a =

@@ -1,6 +1,7 @@
 pub mod Lists
 pub mod AllWords
 pub mod ThinLaws
+pub mod Ranges
 pub mod NumberLaws
 pub mod WalkLaws
 pub mod MarkLaws

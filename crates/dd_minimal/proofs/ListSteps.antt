@@ -10,7 +10,7 @@ use Rattle.dd_minimal.specs.declared.outcome.Outcome.TheVariants.{Barred}
 use Rattle.dd_minimal.specs.Patterns.{agrees, is_covered, pattern_of, IsPartialOf}
 use Rattle.dd_minimal.specs.declared.partial.Partial.{Partial}
 use Rattle.dd_minimal.specs.Minimal.{words, all_break, thinned, listed, IsMinimalList}
-use Rattle.dd_minimal.specs.finding.Numbers.{IsWord, number, strides, digits, open_strides, least_number, reach, KeepsBelow}
+use Rattle.dd_minimal.specs.finding.Numbers.{IsWord, number, strides_of, digits, open_strides, least_number, reach, KeepsBelow}
 use Rattle.dd_minimal.specs.finding.Outcomes.{outcome, outcomes, does_break}
 use Rattle.dd_minimal.specs.finding.Walks.{marked, is_enough}
 use Rattle.dd_minimal.specs.finding.States.{IsThinned, breaking_from, AreMarks, IsListedTo}
@@ -43,7 +43,7 @@ listed_now thin found ss rest b breaks is =
 
 module _ (r : LocalRule) (a at : ℕ) (some : 0 < r.symbols) (within : at < r.symbols ^ length (cells_at r a)) where
   abbrev here : List ℕ
-  here = digits r.symbols (strides r.symbols (length (cells_at r a))) at
+  here = digits r.symbols (strides_of r.symbols (length (cells_at r a))) at
 
   pub here_word : IsWord r.symbols (length (cells_at r a)) here
   here_word = digits_word r.symbols (length (cells_at r a)) at some
@@ -75,8 +75,8 @@ module _ (r : LocalRule) (a at : ℕ) (some : 0 < r.symbols) (within : at < r.sy
   }
 
   pub over_unbroken : (found : Patterns) (marks : List Bool) → does_break (get_or (outcomes r a) at Barred) ≡ false → IsListedTo r a at found marks → IsListedTo r a (at + 1) found marks
-  over_unbroken found marks no =
-      over found marks (ap (listed thin found) rest_from ∙ not_breaking thin found here (breaking_from r a (at + 1)) (does_break (outcome r a here)) (ap does_break (sym here_outcome) ∙ no))
+  over_unbroken found marks unbroken =
+      over found marks (ap (listed thin found) rest_from ∙ not_breaking thin found here (breaking_from r a (at + 1)) (does_break (outcome r a here)) (ap does_break (sym here_outcome) ∙ unbroken))
 
   pub over_marked : (found : Patterns) (marks : List Bool) → get_or marks at false ≡ true → IsListedTo r a at found marks → IsListedTo r a (at + 1) found marks
   over_marked found marks is so =

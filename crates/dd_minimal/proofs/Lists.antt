@@ -1,5 +1,5 @@
 -- Members of lists, and lists that ascend strictly.
-use Rattle.std.proofs.Common.{◌≡◌, ◌<◌, ◌≤◌, ◌+◌, ◌&&◌, ◌||◌, ℕ, zero, suc, Bool, true, false, cond, List, [], ◌∷◌, ◌++◌, length, map, get_or, refl, sym, ◌∙◌, ap, inl, inr, ◌⊎◌, arith}
+use Rattle.std.proofs.Common.{◌≡◌, ◌<◌, ◌≤◌, ◌+◌, ◌&&◌, ◌||◌, ℕ, zero, suc, Bool, true, false, cond, List, [], ◌∷◌, ◌++◌, length, map, get_or, refl, sym, ◌∙◌, ap, subst, inl, inr, ◌⊎◌, arith}
 use Rattle.std.specs.List.{All, Contains, filter, flat_map, range_with_len, list_all, list_any}
 use Rattle.std.specs.List.Sorted.{IsStrictlySortedBy}
 use Rattle.std.specs.declared.cmp.Ordering.{Ordering}
@@ -31,7 +31,7 @@ contains_nil q c = absurd (let below = c.1 in omega arith)
 pub in_map : {X Y : Type 0} (f : X → Y) (xs : List X) (x : X) → Contains xs x → Contains (map f xs) (f x)
 in_map f [] x c = absurd (contains_nil x c)
 in_map f (y ∷ xs) x c = elim (cons_cases y xs x c) [
-  | inl same ↦ rw same (contains_first (f x) (map f xs))
+  | inl same ↦ subst (λ z. Contains (f y ∷ map f xs) (f z)) same (contains_first (f y) (map f xs))
   | inr there ↦ contains_later (f y) (map f xs) (f x) (in_map f xs x there)
 ]
 
@@ -87,7 +87,7 @@ range_within k (suc n) s c = elim (cons_cases k (range_with_len (k + 1) n) s c) 
 -- of a filtered list
 
 filter_at : {X : Type 0} (p : X → Bool) (y x : X) (xs : List X) (b : Bool) → p y ≡ b → p x ≡ true → (y ≡ x) ⊎ Contains (filter p xs) x → Contains (cond b (y ∷ filter p xs) (filter p xs)) x
-filter_at p y x xs true is passes (inl same) = rw same (contains_first x (filter p xs))
+filter_at p y x xs true is passes (inl same) = subst (Contains (y ∷ filter p xs)) same (contains_first y (filter p xs))
 filter_at p y x xs false is passes (inl same) = absurd (false≢true (sym is ∙ (ap p same ∙ passes)))
 filter_at p y x xs true is passes (inr there) = contains_later y (filter p xs) x there
 filter_at p y x xs false is passes (inr there) = there

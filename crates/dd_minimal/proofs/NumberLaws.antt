@@ -9,7 +9,7 @@ use Rattle.std.proofs.lemmas.List.{length-append, get_or_append_left, get_or-app
 use Rattle.std.proofs.lemmas.List.Elements.{All-nil, All-cons}
 use lib.Arith.{mod-mul}
 use Rattle.dd_minimal.specs.Minimal.{words}
-use Rattle.dd_minimal.specs.finding.Numbers.{IsWord, number, strides, digits}
+use Rattle.dd_minimal.specs.finding.Numbers.{IsWord, number, strides_of, digits}
 use Rattle.dd_minimal.proofs.AllWords.{word_rest, word_first, word_cons}
 
 pub map_length : {X Y : Type 0} (f : X → Y) (xs : List X) → length (map f xs) ≡ length xs
@@ -99,7 +99,7 @@ power_some m (suc n) some =
     let row = mul-add-lt 0 (m ^ n) 0 m some (power_some m n some) in
     omega (arith, power, row)
 
-pub strides_length : (m n : ℕ) → length (strides m n) ≡ n
+pub strides_length : (m n : ℕ) → length (strides_of m n) ≡ n
 strides_length m zero = refl
 strides_length m (suc n) = ap suc (strides_length m n)
 
@@ -107,22 +107,22 @@ digits_below : (m at : ℕ) (ds : List ℕ) → 0 < m → All (λ s. s < m) (dig
 digits_below m at [] some = All-nil (λ s. s < m)
 digits_below m at (d ∷ ds) some = All-cons (λ s. s < m) (at / d % m) (digits m ds at) (mod_below (at / d) m some) (digits_below m at ds some)
 
-pub digits_word : (m n at : ℕ) → 0 < m → IsWord m n (digits m (strides m n) at)
-digits_word m n at some = record { as_many = map_length (λ d. at / d % m) (strides m n) ∙ strides_length m n; below = digits_below m at (strides m n) some }
+pub digits_word : (m n at : ℕ) → 0 < m → IsWord m n (digits m (strides_of m n) at)
+digits_word m n at some = record { as_many = map_length (λ d. at / d % m) (strides_of m n) ∙ strides_length m n; below = digits_below m at (strides_of m n) some }
 
-digits_number : (m n at : ℕ) → 0 < m → number m (digits m (strides m n) at) ≡ at % m ^ n
+digits_number : (m n at : ℕ) → 0 < m → number m (digits m (strides_of m n) at) ≡ at % m ^ n
 digits_number m zero at some = let one = pow-zero m in let below = mod_below at (m ^ 0) (power_some m 0 some) in omega (arith, one, below)
 digits_number m (suc n) at some =
-    number_cons m n (at / m ^ n % m) (digits m (strides m n) at) (digits_word m n at some).as_many
+    number_cons m n (at / m ^ n % m) (digits m (strides_of m n) at) (digits_word m n at some).as_many
     ∙ (ap (λ k. at / m ^ n % m * m ^ n + k) (digits_number m n at some)
     ∙ (sym (mod-mul at some (power_some m n some)) ∙ ap (λ k. at % k) (sym (pow-succ' m n))))
 
-pub number_of_digits : (m n at : ℕ) → 0 < m → at < m ^ n → number m (digits m (strides m n) at) ≡ at
+pub number_of_digits : (m n at : ℕ) → 0 < m → at < m ^ n → number m (digits m (strides_of m n) at) ≡ at
 number_of_digits m n at some below = digits_number m n at some ∙ mod-eq_of_lt below
 
-pub word_next : (m n at : ℕ) → 0 < m → at < m ^ n → drop at (words m n) ≡ digits m (strides m n) at ∷ drop (suc at) (words m n)
+pub word_next : (m n at : ℕ) → 0 < m → at < m ^ n → drop at (words m n) ≡ digits m (strides_of m n) at ∷ drop (suc at) (words m n)
 word_next m n at some below =
-    let ss = digits m (strides m n) at in
+    let ss = digits m (strides_of m n) at in
     let many = words_length m n in
     drop-cons (words m n) at [] (omega (arith, many, below))
     ∙ ap (λ qs. qs ∷ drop (suc at) (words m n)) (ap (λ i. get_or (words m n) i []) (sym (number_of_digits m n at some below)) ∙ words_at m n ss [] (digits_word m n at some))

@@ -11,7 +11,7 @@ use Rattle.dd_minimal.specs.declared.outcome.Outcome.{Outcome}
 use Rattle.dd_minimal.specs.declared.outcome.Outcome.TheVariants.{Barred, Breaks, Holds}
 use Rattle.dd_minimal.specs.Patterns.{whole}
 use Rattle.dd_minimal.specs.Minimal.{thinned}
-use Rattle.dd_minimal.specs.finding.Numbers.{IsWord, number, strides, digits, open_strides, least_number, reach, KeepsBelow}
+use Rattle.dd_minimal.specs.finding.Numbers.{IsWord, number, strides_of, digits, open_strides, least_number, reach, KeepsBelow}
 use Rattle.dd_minimal.specs.finding.Outcomes.{does_break, does_hold}
 use Rattle.dd_minimal.specs.finding.Walks.{none_holds, is_enough}
 use Rattle.dd_minimal.specs.finding.States.{IsThinnedTo, IsThinned}
@@ -36,7 +36,7 @@ not_held Holds h = absurd (false≢true h)
 
 pub start : (m : ℕ) (table : List Outcome) (ss : List ℕ) (at : ℕ) → number m ss ≡ at → does_break (get_or table at Barred) ≡ true → IsThinnedTo m table ss 0 [] [] at
 start m table ss at is breaks = record {
-  length = refl;
+  as_many = refl;
   below = All-nil (λ p. IfSome p (λ s. s < m));
   left = refl;
   strides = sym (open_whole m ss);
@@ -138,7 +138,7 @@ step m table ss rest k s p ds from stride some below count so here later small i
     let more : ds ++ stride ∷ [] ≡ open_strides m without = ap (λ d. ds ++ d ∷ []) is ∙ (ap (λ es. es ++ m ^ length rest ∷ []) opened ∙ sym (open_more m p s rest)) in
     let behind : All (λ t. t < m) rest = subst (All (λ t. t < m)) later (All-drop (λ t. t < m) (k + 1) ss below) in
     let keeps : KeepsBelow m without = All-append K p (None ∷ whole rest) so.below (All-cons K None (whole rest) tt (whole_below m rest behind)) in
-    let long : length without ≡ length ss = length-append p (None ∷ whole rest) ∙ (let a = so.length in let b = whole_length rest in omega (arith, a, b, count)) in
+    let long : length without ≡ length ss = length-append p (None ∷ whole rest) ∙ (let a = so.as_many in let b = whole_length rest in omega (arith, a, b, count)) in
     let test : none_holds m (ds ++ stride ∷ []) table (from - s * stride) ≡ e without = ap (λ es. none_holds m es table (from - s * stride)) more ∙ ap (none_holds m (open_strides m without) table) start_ in
     record {
       fits = omega (arith, less);
@@ -147,7 +147,7 @@ step m table ss rest k s p ds from stride some below count so here later small i
       kept = ap (λ es. none_holds m es table ((from - s * stride) + s * stride)) so.strides
           ∙ (ap (none_holds m (open_strides m (p ++ whole (drop k ss))) table) ((let back : (from - s * stride) + s * stride ≡ from = omega (arith, less) in back) ∙ so.least) ∙ so.enough);
       leave = λ passes. record {
-        length = pushed p k None so.length;
+        as_many = pushed p k None so.as_many;
         below = All-push K p None so.below tt;
         left = subst (λ qs. (p ++ None ∷ []) ++ thinned (λ q. e ((p ++ None ∷ []) ++ q)) qs ≡ thinned e ss) (sym later)
             (settled e p s rest None (thinned e ss) (ap (λ b. cond b None (Some s)) (sym test ∙ passes)) (subst (λ qs. p ++ thinned (λ q. e (p ++ q)) qs ≡ thinned e ss) here so.left));
@@ -156,7 +156,7 @@ step m table ss rest k s p ds from stride some below count so here later small i
         enough = ap (λ qs. e ((p ++ None ∷ []) ++ whole qs)) later ∙ (ap e (append_assoc p (None ∷ []) (whole rest)) ∙ (sym test ∙ passes));
       };
       keep = λ fails. record {
-        length = pushed p k (Some s) so.length;
+        as_many = pushed p k (Some s) so.as_many;
         below = All-push K p (Some s) so.below small;
         left = subst (λ qs. (p ++ Some s ∷ []) ++ thinned (λ q. e ((p ++ Some s ∷ []) ++ q)) qs ≡ thinned e ss) (sym later)
             (settled e p s rest (Some s) (thinned e ss) (ap (λ b. cond b None (Some s)) (sym test ∙ fails)) (subst (λ qs. p ++ thinned (λ q. e (p ++ q)) qs ≡ thinned e ss) here so.left));
@@ -168,22 +168,22 @@ step m table ss rest k s p ds from stride some below count so here later small i
 
 -- ---- in the filling with a number
 
-stride_at : (m n k : ℕ) → k < n → get_or (strides m n) k 0 ≡ m ^ (n - suc k)
+stride_at : (m n k : ℕ) → k < n → get_or (strides_of m n) k 0 ≡ m ^ (n - suc k)
 stride_at m zero k within = absurd (omega (arith, within))
 stride_at m (suc n) zero within = ap (λ i. m ^ i) (let one : n ≡ suc n - 1 = omega arith in one)
 stride_at m (suc n) (suc k) within = stride_at m n k (omega (arith, within)) ∙ ap (λ i. m ^ i) (let one : n - suc k ≡ suc n - suc (suc k) = omega arith in one)
 
-pub stride_some : (m n k d : ℕ) → 0 < m → k < n → d ≡ get_or (strides m n) k 0 → 0 < d
+pub stride_some : (m n k d : ℕ) → 0 < m → k < n → d ≡ get_or (strides_of m n) k 0 → 0 < d
 stride_some m n k d some within is = subst (λ x. 0 < x) (sym (is ∙ stride_at m n k within)) (power_some m (n - suc k) some)
 
-pub step_at : (m : ℕ) (table : List Outcome) (n at k stride symbol : ℕ) (p : List (Option ℕ)) (ds : List ℕ) (from : ℕ) → 0 < m → k < n → stride ≡ get_or (strides m n) k 0 → symbol ≡ at / stride % m →
-    IsThinnedTo m table (digits m (strides m n) at) k p ds from → IsStep m table (digits m (strides m n) at) k p ds from stride symbol
+pub step_at : (m : ℕ) (table : List Outcome) (n at k stride symbol : ℕ) (p : List (Option ℕ)) (ds : List ℕ) (from : ℕ) → 0 < m → k < n → stride ≡ get_or (strides_of m n) k 0 → symbol ≡ at / stride % m →
+    IsThinnedTo m table (digits m (strides_of m n) at) k p ds from → IsStep m table (digits m (strides_of m n) at) k p ds from stride symbol
 step_at m table n at k stride symbol p ds from some within is digit so =
-    let ss = digits m (strides m n) at in
+    let ss = digits m (strides_of m n) at in
     let w = digits_word m n at some in
     let many = w.as_many in
     let rest = drop (suc k) ss in
-    let item : get_or ss k 0 ≡ symbol = get_or-map (λ d. at / d % m) (strides m n) k 0 0 (let count = strides_length m n in omega (arith, count, within)) ∙ (ap (λ d. at / d % m) (sym is) ∙ sym digit) in
+    let item : get_or ss k 0 ≡ symbol = get_or-map (λ d. at / d % m) (strides_of m n) k 0 0 (let count = strides_length m n in omega (arith, count, within)) ∙ (ap (λ d. at / d % m) (sym is) ∙ sym digit) in
     let here : drop k ss ≡ symbol ∷ rest = drop-cons ss k 0 (omega (arith, many, within)) ∙ ap (λ x. x ∷ rest) item in
     let dropped : length rest ≡ n - suc k = length-drop (suc k) ss ∙ ap (λ i. i - suc k) many in
     step m table ss rest k symbol p ds from stride some w.below (omega (arith, many, dropped, within)) so here (ap (λ i. drop i ss) (let next : k + 1 ≡ suc k = omega arith in next))
@@ -200,7 +200,7 @@ end m table ss k p ds from is so =
     let no_more : p ++ whole (drop k ss) ≡ p = ap (λ qs. p ++ whole qs) none ∙ append-nil p in
     record {
       pattern = sym (append-nil p) ∙ (ap (λ qs. p ++ thinned (λ q. is_enough m table (p ++ q)) qs) (sym none) ∙ so.left);
-      as_many = so.length ∙ is;
+      as_many = so.as_many ∙ is;
       below = so.below;
       strides = so.strides ∙ ap (open_strides m) no_more;
       least = so.least ∙ ap (least_number m) no_more;

@@ -1,5 +1,5 @@
 -- The list of the minimal patterns of a rule at a node.
-use Rattle.std.specs.Prelude.{ℕ, zero, suc, ◌≡◌, ◌<◌, ◌++◌, ◌&&◌, not, cond, Bool, Option, Some, None, List, [], ◌∷◌, length, map}
+use Rattle.std.specs.Prelude.{ℕ, zero, suc, ◌≡◌, ◌<◌, ◌++◌, ◌&&◌, not, cond, Bool, false, Option, Some, None, List, [], ◌∷◌, length, map}
 use Rattle.std.specs.List.{All, flat_map, range_with_len, list_all}
 use Rattle.dd_formula.specs.LocalRule.{LocalRule, cells_at}
 use Rattle.dd_forbidden.specs.Breaking.{are_allowed, is_true_at_origin, is_large, BreakingFillings}

@@ -4,7 +4,7 @@ ghost use Rattle.std.specs.List.{All};
 ghost use Rattle.dd_formula.specs.LocalRule.{cells_at};
 ghost use Rattle.dd_minimal.specs.Minimal.{thinned, listed};
 ghost use Rattle.dd_minimal.specs.Patterns.{pattern_of, IsPartialOf};
-ghost use Rattle.dd_minimal.specs.finding.Numbers.{strides};
+ghost use Rattle.dd_minimal.specs.finding.Numbers.{strides_of};
 ghost use Rattle.dd_minimal.specs.finding.Outcomes.{outcomes};
 ghost use Rattle.dd_minimal.specs.finding.States.{breaking_from};
 ghost use Rattle.dd_minimal.specs.finding.Walks.{is_enough};
@@ -21,7 +21,7 @@ use std::alloc::{AllocError, Global};
 pub(crate) fn strides_of(alloc: Global, rule: &Rule, node: u32, fillings: usize) -> Result<Items<usize>, AllocError>
     requires node { node < rule.now.nodes }
     requires fillings { fillings ≡ rule.now.symbols ^ length (cells_at rule.now node) }
-    ensures { IfOk result (λ list. list ≡ strides rule.now.symbols (length (cells_at rule.now node))) }
+    ensures { IfOk result (λ list. list ≡ strides_of rule.now.symbols (length (cells_at rule.now node))) }
 {
     let mut list = Items::new(alloc);
     let mut stride = fillings;
@@ -41,7 +41,7 @@ pub(crate) fn list(
     table: &[Outcome],
 ) -> Result<Vec<Partial>, AllocError>
     requires node { node < rule.now.nodes }
-    requires strides { strides.now ≡ strides rule.now.symbols (length (cells_at rule.now node)) }
+    requires strides { strides.now ≡ strides_of rule.now.symbols (length (cells_at rule.now node)) }
     requires table { table.now ≡ outcomes rule.now node }
     ensures patterns { IfOk result (λ found. map pattern_of found.items ≡
         listed (thinned (is_enough rule.now.symbols table.now)) [] (breaking_from rule.now node 0)) }

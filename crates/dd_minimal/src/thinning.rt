@@ -1,6 +1,6 @@
 //! Which cells of a filling are left out.
 ghost use Rattle.std.specs.Prelude.{◌≡◌, ◌<◌, ◌^◌, ◌/◌, ◌%◌, true, length, IfOk, slice_index_or};
-ghost use Rattle.dd_minimal.specs.finding.Numbers.{digits, strides};
+ghost use Rattle.dd_minimal.specs.finding.Numbers.{digits, strides_of};
 ghost use Rattle.dd_minimal.specs.finding.Outcomes.{does_break};
 ghost use Rattle.dd_minimal.specs.finding.States.{IsThinned};
 ghost use Rattle.dd_minimal.specs.declared.outcome.Outcome.TheVariants.{Barred};
@@ -27,7 +27,7 @@ pub(crate) fn thin(
     left_out: &mut Vec<usize>,
 ) -> Result<Thinned, AllocError>
     requires symbols { 0 < symbols }
-    requires strides { strides.now ≡ strides symbols (length strides.now) }
+    requires strides { strides.now ≡ strides_of symbols (length strides.now) }
     requires table { length table.now ≡ symbols ^ length strides.now }
     requires at { at < length table.now }
     requires breaks { does_break (slice_index_or table.now at Barred) ≡ true }

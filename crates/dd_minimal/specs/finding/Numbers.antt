@@ -14,9 +14,9 @@ number m [] = 0
 number m (s ∷ ss) = s * m ^ length ss + number m ss
 
 -- by how much the number rises with the symbol of each of n cells
-abbrev pub strides : ℕ → ℕ → List ℕ
-strides m zero = []
-strides m (suc n) = m ^ n ∷ strides m n
+abbrev pub strides_of : ℕ → ℕ → List ℕ
+strides_of m zero = []
+strides_of m (suc n) = m ^ n ∷ strides_of m n
 
 -- the symbols of the word with a number
 abbrev pub digits : ℕ → List ℕ → ℕ → List ℕ

@@ -12,7 +12,7 @@ use Rattle.dd_minimal.specs.finding.Walks.{is_enough}
 
 -- the first cells are gone through and the rest is whole: the strides and the number of the pattern so far
 pub record IsThinnedTo (m : ℕ) (table : List Outcome) (ss : List ℕ) (k : ℕ) (p : List (Option ℕ)) (ds : List ℕ) (from : ℕ) : Type 0 where
-  pub length : length p ≡ k
+  pub as_many : length p ≡ k
   pub below : KeepsBelow m p
   pub left : p ++ thinned (λ q. is_enough m table (p ++ q)) (drop k ss) ≡ thinned (is_enough m table) ss
   pub strides : ds ≡ open_strides m (p ++ whole (drop k ss))
@@ -36,9 +36,9 @@ abbrev pub AreMarks : ℕ → ℕ → List Bool → List (List (Option ℕ)) →
 AreMarks m n marks ps = (ss : List ℕ) → IsWord m n ss → slice_index_or marks (number m ss) false ≡ is_covered ps ss
 
 -- the fillings of the first numbers are gone through: those found, with what the rest comes to behind them, are the whole list
-pub record IsListedTo (r : LocalRule) (a : ℕ) (k : ℕ) (found : List (List (Option ℕ))) (marks : List Bool) : Type 0 where
+pub record IsListedTo (r : LocalRule) (a : ℕ) (k : ℕ) (found : List (List (Option ℕ))) (ms : List Bool) : Type 0 where
   pub whole : found ++ listed (thinned (is_enough r.symbols (outcomes r a))) found (breaking_from r a k) ≡
       listed (thinned (is_enough r.symbols (outcomes r a))) [] (breaking_from r a 0)
-  pub marks : AreMarks r.symbols (length (cells_at r a)) marks found
-  pub as_many : length marks ≡ r.symbols ^ length (cells_at r a)
+  pub marks : AreMarks r.symbols (length (cells_at r a)) ms found
+  pub as_many : length ms ≡ r.symbols ^ length (cells_at r a)
   pub fitting : All (λ p. length p ≡ length (cells_at r a)) found
