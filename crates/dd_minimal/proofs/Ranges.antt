@@ -30,9 +30,12 @@ not_all f n s false is below fails = is
 pub one_false : (f : ℕ → Bool) (n s : ℕ) → s < n → f s ≡ false → list_all f (range_with_len 0 n) ≡ false
 one_false f n s = not_all f n s (list_all f (range_with_len 0 n)) refl
 
-pub fold_more : {X : Type 0} (f : X → ℕ → X) (x : X) (a n k : ℕ) → a + n ≡ k → fold f x (range_with_len a (n + 1)) ≡ f (fold f x (range_with_len a n)) k
-fold_more f x a zero k is = ap (f x) (omega (arith, is))
-fold_more f x a (suc n) k is = fold_more f (f x a) (a + 1) n k (omega (arith, is))
+fold_next : {X : Type 0} (f : X → ℕ → X) (x : X) (a n k : ℕ) → a + n ≡ k → fold f x (range_with_len a (suc n)) ≡ f (fold f x (range_with_len a n)) k
+fold_next f x a zero k is = ap (f x) (omega (arith, is))
+fold_next f x a (suc n) k is = fold_next f (f x a) (a + 1) n k (omega (arith, is))
+
+pub fold_more : {X : Type 0} (f : X → ℕ → X) (x : X) (n : ℕ) → fold f x (range_with_len 0 (n + 1)) ≡ f (fold f x (range_with_len 0 n)) n
+fold_more f x n = ap (λ i. fold f x (range_with_len 0 i)) (let next : n + 1 ≡ suc n = omega arith in next) ∙ fold_next f x 0 n n (omega arith)
 
 -- ---- reaches
 
