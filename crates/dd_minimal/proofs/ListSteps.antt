@@ -17,7 +17,7 @@ use Rattle.dd_minimal.specs.finding.States.{IsThinned, breaking_from, AreMarks, 
 use Rattle.dd_minimal.proofs.Lists.{contains_first, contains_later, of_filter}
 use Rattle.dd_minimal.proofs.AllWords.{words_are, breaking_fillings}
 use Rattle.dd_minimal.proofs.ThinLaws.{thinned_alike}
-use Rattle.dd_minimal.proofs.NumberLaws.{map_length, words_length, table_at, digits_word, number_of_digits, word_next}
+use Rattle.dd_minimal.proofs.NumberLaws.{map_length, words_length, strides_length, table_at, digits_word, number_of_digits, word_next}
 use Rattle.dd_minimal.proofs.WalkLaws.{enough_is, reach_below}
 use Rattle.dd_minimal.proofs.MarkLaws.{marks_more, marked_length}
 
@@ -108,6 +108,27 @@ module _ (r : LocalRule) (a at : ℕ) (some : 0 < r.symbols) (within : at < r.sy
         fitting = All-push (λ q. length q ≡ n) found p so.fitting long;
       }
 
+-- ---- the parts of the code
+
+pub outcomes_length : (r : LocalRule) (a : ℕ) → length (outcomes r a) ≡ r.symbols ^ length (cells_at r a)
+outcomes_length r a = map_length (outcome r a) (words r.symbols (length (cells_at r a))) ∙ words_length r.symbols (length (cells_at r a))
+
+pub thinned_here : (r : LocalRule) (a at m : ℕ) (all : List ℕ) (table : List Outcome) (p : List (Option ℕ)) (ds : List ℕ) (from : ℕ) → m ≡ r.symbols → all ≡ strides_of r.symbols (length (cells_at r a)) → table ≡ outcomes r a →
+    IsThinned m table (digits m all at) p ds from → IsThinned r.symbols (outcomes r a) (digits r.symbols (strides_of r.symbols (length (cells_at r a))) at) p ds from
+thinned_here r a at m all table p ds from many is filled t =
+    subst (λ k. IsThinned k (outcomes r a) (digits k (strides_of r.symbols (length (cells_at r a))) at) p ds from) many
+    (subst (λ es. IsThinned m (outcomes r a) (digits m es at) p ds from) is (subst (λ os. IsThinned m os (digits m all at) p ds from) filled t))
+
+pub own_strides : (r : LocalRule) (a m : ℕ) (all : List ℕ) → m ≡ r.symbols → all ≡ strides_of r.symbols (length (cells_at r a)) → all ≡ strides_of m (length all)
+own_strides r a m all many is =
+    let long : length all ≡ length (cells_at r a) = ap length is ∙ strides_length r.symbols (length (cells_at r a)) in
+    is ∙ (ap (strides_of r.symbols) (sym long) ∙ ap (λ k. strides_of k (length all)) (sym many))
+
+pub own_length : (r : LocalRule) (a m : ℕ) (all : List ℕ) (table : List Outcome) → m ≡ r.symbols → all ≡ strides_of r.symbols (length (cells_at r a)) → table ≡ outcomes r a → length table ≡ m ^ length all
+own_length r a m all table many is filled =
+    let long : length all ≡ length (cells_at r a) = ap length is ∙ strides_length r.symbols (length (cells_at r a)) in
+    ap length filled ∙ (outcomes_length r a ∙ (ap (λ k. r.symbols ^ k) (sym long) ∙ ap (λ k. k ^ length all) (sym many)))
+
 -- ---- the start and the end
 
 no_marks : (n i : ℕ) → get_or (replicate n false) i false ≡ false
@@ -134,9 +155,6 @@ end r a at found marks is so =
     let ws = words r.symbols (length (cells_at r a)) in
     let none : drop at ws ≡ [] = ap (λ k. drop k ws) (is ∙ sym (words_length r.symbols (length (cells_at r a)))) ∙ drop_all ws in
     sym (append-nil found) ∙ (ap (λ lists. found ++ listed thin found (filter (λ ss. does_break (outcome r a ss)) lists)) (sym none) ∙ so.whole)
-
-pub outcomes_length : (r : LocalRule) (a : ℕ) → length (outcomes r a) ≡ r.symbols ^ length (cells_at r a)
-outcomes_length r a = map_length (outcome r a) (words r.symbols (length (cells_at r a))) ∙ words_length r.symbols (length (cells_at r a))
 
 -- ---- the list of the rule
 

@@ -1,11 +1,11 @@
 -- Words by their numbers.
-use Rattle.std.proofs.Common.{◌≡◌, ◌<◌, ◌≤◌, ◌+◌, ◌*◌, ◌/◌, ◌%◌, ◌^◌, ℕ, zero, suc, Option, Some, None, List, [], ◌∷◌, ◌++◌, length, map, drop, get_or, refl, sym, ◌∙◌, ap, subst, arith}
+use Rattle.std.proofs.Common.{◌≡◌, ◌<◌, ◌≤◌, ◌+◌, ◌-◌, ◌*◌, ◌/◌, ◌%◌, ◌^◌, ℕ, zero, suc, Option, Some, None, List, [], ◌∷◌, ◌++◌, length, map, drop, get_or, refl, sym, ◌∙◌, ap, subst, arith}
 use Rattle.std.specs.Prelude.{IfSome}
 use Rattle.std.specs.List.{All, flat_map, range_with_len}
 use Rattle.std.proofs.Math.Nat.{pow-zero, pow-succ', mod-eq_of_lt}
 use Rattle.std.proofs.Math.Seq.{drop-cons}
-use Rattle.std.proofs.lemmas.Nat.{mul-add-lt, same_from_place, mod_below}
-use Rattle.std.proofs.lemmas.List.{length-append, get_or_append_left, get_or-append-add, get_or-map}
+use Rattle.std.proofs.lemmas.Nat.{div-mul-add, mul-add-lt, same_from_place, mod_below}
+use Rattle.std.proofs.lemmas.List.{append_assoc, append-nil, length-append, get_or_append_left, get_or-append-add, get_or-map}
 use Rattle.std.proofs.lemmas.List.Elements.{All-nil, All-cons}
 use lib.Arith.{mod-mul}
 use Rattle.dd_minimal.specs.Minimal.{words}
@@ -119,6 +119,27 @@ digits_number m (suc n) at some =
 
 pub number_of_digits : (m n at : ℕ) → 0 < m → at < m ^ n → number m (digits m (strides_of m n) at) ≡ at
 number_of_digits m n at some below = digits_number m n at some ∙ mod-eq_of_lt below
+
+-- the strides are the powers that are left when the number of all words is divided again and again
+pub record AreStrides (m n i : ℕ) (now : List ℕ) (stride : ℕ) : Type 0 where
+  pub list : now ++ strides_of m (n - i) ≡ strides_of m n
+  pub power : stride ≡ m ^ (n - i)
+
+pub strides_more : (m n i stride next : ℕ) (now new : List ℕ) → 0 < m → i < n → AreStrides m n i now stride → next ≡ stride / m → new ≡ now ++ next ∷ [] → AreStrides m n (i + 1) new next
+strides_more m n i stride next now new some within are is pushed =
+    let k = n - (i + 1) in
+    let left : n - i ≡ suc k = omega (arith, within) in
+    let split : stride ≡ m ^ k * m + 0 = are.power ∙ (ap (λ j. m ^ j) left ∙ (let power = pow-succ' m k in omega (arith, power))) in
+    let here : next ≡ m ^ k = is ∙ (ap (λ x. x / m) split ∙ div-mul-add (m ^ k) m 0 some) in
+    record {
+      list = ap (λ ds. ds ++ strides_of m k) pushed ∙ (append_assoc now (next ∷ []) (strides_of m k)
+          ∙ (ap (λ x. now ++ x ∷ strides_of m k) here ∙ (ap (λ j. now ++ strides_of m j) (sym left) ∙ are.list)));
+      power = here;
+    }
+
+pub strides_end : (m n i stride : ℕ) (now : List ℕ) → i ≡ n → AreStrides m n i now stride → now ≡ strides_of m n
+strides_end m n i stride now is are =
+    sym (append-nil now) ∙ (ap (λ j. now ++ strides_of m j) (let none : 0 ≡ n - i = omega (arith, is) in none) ∙ are.list)
 
 pub word_next : (m n at : ℕ) → 0 < m → at < m ^ n → drop at (words m n) ≡ digits m (strides_of m n) at ∷ drop (suc at) (words m n)
 word_next m n at some below =

@@ -190,6 +190,20 @@ step_at m table n at k stride symbol p ds from some within is digit so =
     (All-head (λ t. t < m) symbol rest (subst (All (λ t. t < m)) here (All-drop (λ t. t < m) k ss w.below)))
     (is ∙ (stride_at m n k within ∙ ap (λ i. m ^ i) (sym dropped)))
 
+-- with the strides as a list of so many
+pub step_in : (m : ℕ) (table : List Outcome) (all : List ℕ) (at k symbol : ℕ) (p : List (Option ℕ)) (ds : List ℕ) (from : ℕ) → 0 < m → all ≡ strides_of m (length all) → k < length all → symbol ≡ at / get_or all k 0 % m →
+    IsThinnedTo m table (digits m all at) k p ds from → IsStep m table (digits m all at) k p ds from (get_or all k 0) symbol
+step_in m table all at k symbol p ds from some is within digit so =
+    subst (λ es. IsStep m table (digits m es at) k p ds from (get_or all k 0) symbol) (sym is)
+    (step_at m table (length all) at k (get_or all k 0) symbol p ds from some within (ap (λ es. get_or es k 0) is) digit (subst (λ es. IsThinnedTo m table (digits m es at) k p ds from) is so))
+
+pub start_in : (m : ℕ) (table : List Outcome) (all : List ℕ) (at : ℕ) → 0 < m → all ≡ strides_of m (length all) → at < m ^ length all → does_break (get_or table at Barred) ≡ true → IsThinnedTo m table (digits m all at) 0 [] [] at
+start_in m table all at some is within breaks =
+    start m table (digits m all at) at (ap (λ es. number m (digits m es at)) is ∙ number_of_digits m (length all) at some within) breaks
+
+pub stride_in : (m k : ℕ) (all : List ℕ) → 0 < m → all ≡ strides_of m (length all) → k < length all → 0 < get_or all k 0
+stride_in m k all some is within = stride_some m (length all) k (get_or all k 0) some within (ap (λ es. get_or es k 0) is)
+
 drop_all : (xs : List ℕ) → drop (length xs) xs ≡ []
 drop_all [] = refl
 drop_all (x ∷ xs) = drop_all xs

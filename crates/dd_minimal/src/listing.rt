@@ -1,13 +1,11 @@
 //! The list: the fillings that break the rule, in lexicographic order, without those that agree with a pattern listed before.
-ghost use Rattle.std.specs.Prelude.{◌≡◌, ◌<◌, ◌^◌, [], length, map, IfOk};
+ghost use Rattle.std.specs.Prelude.{◌≡◌, ◌<◌, ◌^◌, length, map, IfOk};
 ghost use Rattle.std.specs.List.{All};
 ghost use Rattle.dd_formula.specs.LocalRule.{cells_at};
-ghost use Rattle.dd_minimal.specs.Minimal.{thinned, listed};
+ghost use Rattle.dd_minimal.specs.Minimal.{IsMinimalList};
 ghost use Rattle.dd_minimal.specs.Patterns.{pattern_of, IsPartialOf};
 ghost use Rattle.dd_minimal.specs.finding.Numbers.{strides_of};
 ghost use Rattle.dd_minimal.specs.finding.Outcomes.{outcomes};
-ghost use Rattle.dd_minimal.specs.finding.States.{breaking_from};
-ghost use Rattle.dd_minimal.specs.finding.Walks.{is_enough};
 
 use crate::outcome::Outcome;
 use crate::partial::Partial;
@@ -43,8 +41,7 @@ pub(crate) fn list(
     requires node { node < rule.now.nodes }
     requires strides { strides.now ≡ strides_of rule.now.symbols (length (cells_at rule.now node)) }
     requires table { table.now ≡ outcomes rule.now node }
-    ensures patterns { IfOk result (λ found. map pattern_of found.items ≡
-        listed (thinned (is_enough rule.now.symbols table.now)) [] (breaking_from rule.now node 0)) }
+    ensures patterns { IfOk result (λ found. IsMinimalList rule.now node (map pattern_of found.items)) }
     ensures nodes { IfOk result (λ found. All (λ p. p.node ≡ node) found.items) }
     ensures fitting { IfOk result (λ found. All (IsPartialOf rule.now) found.items) }
 {
