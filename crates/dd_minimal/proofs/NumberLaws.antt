@@ -125,6 +125,11 @@ pub record AreStrides (m n i : ℕ) (now : List ℕ) (stride : ℕ) : Type 0 whe
   pub list : now ++ strides_of m (n - i) ≡ strides_of m n
   pub power : stride ≡ m ^ (n - i)
 
+pub strides_start : (m n stride : ℕ) (now : List ℕ) → now ≡ [] → stride ≡ m ^ n → AreStrides m n 0 now stride
+strides_start m n stride now none is =
+    let all : n ≡ n - 0 = omega arith in
+    record { list = ap (λ ds. ds ++ strides_of m (n - 0)) none ∙ ap (strides_of m) (sym all); power = is ∙ ap (λ k. m ^ k) all }
+
 pub strides_more : (m n i stride next : ℕ) (now new : List ℕ) → 0 < m → i < n → AreStrides m n i now stride → next ≡ stride / m → new ≡ now ++ next ∷ [] → AreStrides m n (i + 1) new next
 strides_more m n i stride next now new some within are is pushed =
     let k = n - (i + 1) in

@@ -61,20 +61,24 @@ loop-stride-preserved c =
     ap (λ es. none_holds m (es ++ stride ∷ []) table without) (sym c.as_slice.ensures.value) ∙ sym c.can_spare.ensures in
     elim c.if-can_spare.branch [
       | then-can_spare+in_ok-push+in_ok-push-2 w ↦
-          let put : c.if-can_spare.pattern ≡ p ++ None ∷ [] = ? in
-          let left : c.if-can_spare.left_out.items ≡ ds ++ stride ∷ [] = ? in
-          let moved : c.if-can_spare.from ≡ without = ? in
+          let put : c.if-can_spare.pattern ≡ p ++ None ∷ [] = w.pattern-is ∙ w.in_ok-push-2.ensures.ok in
+          let left : c.if-can_spare.left_out.items ≡ ds ++ stride ∷ [] = ap (λ v. v.items) w.left_out-is ∙ w.in_ok-push.ensures.items in
+          let moved : c.if-can_spare.from ≡ without = w.from-is in
           subst (λ q. IsThinnedTo m table ss (k + 1) q c.if-can_spare.left_out.items c.if-can_spare.from) (sym put)
           (subst (λ es. IsThinnedTo m table ss (k + 1) (p ++ None ∷ []) es c.if-can_spare.from) (sym left)
           (subst (λ x. IsThinnedTo m table ss (k + 1) (p ++ None ∷ []) (ds ++ stride ∷ []) x) (sym moved) (step.leave (test ∙ w.if-can_spare.true))))
       | else-can_spare+in_ok-push-3 w ↦
-          let put : c.if-can_spare.pattern ≡ p ++ Some symbol ∷ [] = ? in
-          let left : c.if-can_spare.left_out.items ≡ ds = ? in
-          let moved : c.if-can_spare.from ≡ c.loop-stride.from = ? in
+          let put : c.if-can_spare.pattern ≡ p ++ Some symbol ∷ [] = w.pattern-is ∙ w.in_ok-push-3.ensures.ok in
+          let left : c.if-can_spare.left_out.items ≡ ds = ap (λ v. v.items) w.left_out-is in
+          let moved : c.if-can_spare.from ≡ c.loop-stride.from = w.from-is in
           subst (λ q. IsThinnedTo m table ss (k + 1) q c.if-can_spare.left_out.items c.if-can_spare.from) (sym put)
           (subst (λ es. IsThinnedTo m table ss (k + 1) (p ++ Some symbol ∷ []) es c.if-can_spare.from) (sym left)
           (subst (λ x. IsThinnedTo m table ss (k + 1) (p ++ Some symbol ∷ []) ds x) (sym moved) (step.keep (test ∙ w.if-can_spare.false))))
     ]
 
 pub returns : goal.returns
-returns c = ?
+returns c =
+    let m = c.args.symbols in
+    let all : c.loop-stride.stride-index ≡ length c.args.strides.now = (let past = c.loop-stride-test.false in let most = c.loop-stride.auto.stride-index-end in omega (arith, past, most)) in
+    end m c.args.table.now (digits m c.args.strides.now c.args.at) c.loop-stride.stride-index c.loop-stride.pattern c.loop-stride.left_out.items c.loop-stride.from
+    (all ∙ sym (map_length _ c.args.strides.now)) c.loop-stride.invariant
