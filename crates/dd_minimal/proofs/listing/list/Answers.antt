@@ -1,6 +1,6 @@
 use Rattle.std.proofs.Common.{◌≡◌, ◌<◌, ◌≤◌, ◌+◌, ◌^◌, ◌++◌, ◌∷◌, [], ℕ, Bool, true, false, List, Option, map, length, slice_index_or, refl, ap, sym, subst, ◌∙◌, arith}
 use Rattle.std.specs.List.{All}
-use Rattle.std.proofs.lemmas.List.{map-append}
+use Rattle.std.proofs.lemmas.List.{map-append, get_or_default, with_items_is}
 use Rattle.std.proofs.lemmas.List.Elements.{All-nil, All-push}
 use Rattle.dd_formula.specs.LocalRule.{cells_at}
 use Rattle.dd_minimal.specs.Patterns.{pattern_of, IsPartialOf}
@@ -10,6 +10,7 @@ use Rattle.dd_minimal.specs.finding.Outcomes.{outcomes, does_break}
 use Rattle.dd_minimal.specs.declared.outcome.Outcome.TheVariants.{Barred}
 use Rattle.dd_minimal.specs.finding.States.{IsListedTo}
 use Rattle.dd_minimal.specs.finding.Walks.{marked}
+use Rattle.dd_minimal.proofs.MarkLaws.{marked_length}
 use Rattle.dd_minimal.proofs.ListSteps.{start, end, over_unbroken, over_marked, markable, put, thinned_here, own_strides, own_length, outcomes_length, minimal_list, all_fit}
 use Rattle.dd_minimal.proofs.listing.list.Goals.{then-does_break+then-not-index+in_ok-pattern+in_ok-push, else-does_break, else-does_break-via-then-does_break+else-not-index, else-does_break-via-else-does_break}
 use Rattle.dd_minimal.proofs.listing.list.Goals as goal
@@ -65,9 +66,11 @@ loop-at-preserved c =
           let one : Partial = record { node = a; symbols = p } in
           let pushed : c.if-does_break.found.items ≡ found ++ one ∷ [] = ap (λ v. v.items) w.found-is ∙ w.in_ok-push.ensures.items in
           let patterns : map pattern_of c.if-does_break.found.items ≡ map pattern_of found ++ p ∷ [] = ap (map pattern_of) pushed ∙ map-append pattern_of found (one ∷ []) in
+          let long : length w.mark.new.marks ≡ c.loop-at.marks.len =
+          ap length w.mark.ensures ∙ (marked_length c.symbols-symbols.result w.as_slice.result.now w.deref_mut.result.now from ∙ w.deref_mut.ensures.len) in
           let made : c.if-does_break.marks.items ≡ marked r.symbols ds marks from =
-          ap (λ v. v.items) w.marks-is ∙ (w.mark.ensures ∙ (ap (λ k. marked k w.as_slice.result.now w.deref_mut.result.now from) c.symbols-symbols.ensures.value
-          ∙ (ap (λ es. marked r.symbols es w.deref_mut.result.now from) w.as_slice.ensures.value ∙ ap (λ ms. marked r.symbols ds ms from) w.deref_mut.ensures.value))) in
+          ap (λ v. v.items) w.marks-is ∙ (with_items_is c.loop-at.marks w.mark.new.marks long ∙ (w.mark.ensures ∙ (ap (λ k. marked k w.as_slice.result.now w.deref_mut.result.now from) c.symbols-symbols.ensures.value
+          ∙ (ap (λ es. marked r.symbols es w.deref_mut.result.now from) w.as_slice.ensures.value ∙ ap (λ ms. marked r.symbols ds ms from) w.deref_mut.ensures.value)))) in
           let free : slice_index_or marks at false ≡ false = ap (slice_index_or marks at) (sym w.if-not-index.true) ∙ (sym w.index.ensures ∙ w.if-not-index.true) in
           let thinned_ = thinned_here r a at c.symbols-symbols.result c.args.strides.now c.args.table.now p ds from c.symbols-symbols.ensures.value c.requires.strides c.requires.table w.in_ok-pattern.ensures in (
             subst (λ ps. IsListedTo r a (at + 1) ps c.if-does_break.marks.items) (sym patterns)
@@ -77,10 +80,11 @@ loop-at-preserved c =
       | else-does_break w ↦
           let kept : c.if-does_break.found.items ≡ found = ap (λ v. v.items) w.found-is in
           let same : c.if-does_break.marks.items ≡ marks = ap (λ v. v.items) w.marks-is in
+          let there : at < length marks = (let many = c.loop-at.invariant.0.as_many in omega (arith, within, many)) in
           let over : IsListedTo r a (at + 1) (map pattern_of found) marks =
           elim w.else-does_break.branch [
             | else-does_break-via-then-does_break+else-not-index v ↦
-                over_marked r a at some within (map pattern_of found) marks (ap (slice_index_or marks at) (sym v.if-not-index.false) ∙ (sym v.index.ensures ∙ v.if-not-index.false)) c.loop-at.invariant.0
+                over_marked r a at some within (map pattern_of found) marks (get_or_default marks at false true there ∙ (ap (slice_index_or marks at) (sym v.if-not-index.false) ∙ (sym v.index.ensures ∙ v.if-not-index.false))) c.loop-at.invariant.0
             | else-does_break-via-else-does_break v ↦ over_unbroken r a at some within (map pattern_of found) marks (broken ∙ v.if-does_break.false) c.loop-at.invariant.0
           ] in (
             subst (λ ps. IsListedTo r a (at + 1) (map pattern_of ps) c.if-does_break.marks.items) (sym kept) (subst (IsListedTo r a (at + 1) (map pattern_of found)) (sym same) over),
