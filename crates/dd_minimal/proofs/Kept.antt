@@ -1,13 +1,12 @@
 -- What the formula over numbers says, and the nodes of the cells that are read.
-use Rattle.std.proofs.Common.{◌≡◌, ◌<◌, ◌+◌, ℕ, zero, suc, true, List, [], ◌∷◌, ◌++◌, length, map, slice_get, refl, sym, ◌∙◌, ap, arith, Some, None, ℤ, pos, ◌+ℤ◌}
-use Rattle.std.specs.Prelude.{Option, IfSome, MatchOption, All}
-use Rattle.std.specs.List.{flat_map, range_with_len, position_or_len, fold, list_all}
+use Rattle.std.proofs.Common.{◌≡◌, ◌<◌, ℕ, zero, suc, true, List, [], ◌∷◌, slice_get, sym, ◌∙◌, ap, arith, ℤ, pos, ◌+ℤ◌}
+use Rattle.std.specs.Prelude.{IfSome, All}
+use Rattle.std.specs.List.{position_or_len, fold, list_all}
 use Rattle.std.specs.BTreeSet.{insert_key}
 use Rattle.std.specs.Ordering.{is_eq}
 use mathlib.Core.Path.{fun_ext}
 use Rattle.std.proofs.lemmas.Int.{ints}
 use Rattle.std.proofs.lemmas.Bool.{and_parts, ltb-true}
-use Rattle.std.proofs.lemmas.List.{append_assoc, append-nil, map-append, length-append}
 use Rattle.std.proofs.lemmas.List.Elements.{All-nil}
 use Rattle.std.proofs.lemmas.Map.Views.{All-insert_key}
 use Rattle.dd_lattice.specs.Place.{Place, place, moved}
@@ -15,7 +14,7 @@ use Rattle.dd_lattice.specs.Cells.{cell, shifted}
 use Rattle.dd_lattice.specs.Order.{cell_cmp}
 use Rattle.dd_lattice.specs.declared.position.Cell.{Cell}
 use Rattle.dd_pattern.specs.Reading.{Look, HasSymbolsBelow}
-use Rattle.dd_pattern.specs.Filling.{Filled, filled, filling_look}
+use Rattle.dd_pattern.specs.Filling.{filled, filling_look}
 use Rattle.dd_expansion.specs.declared.expanded.Expanded.{Expanded}
 use Rattle.dd_expansion.specs.Leaves.{holds}
 use Rattle.dd_expansion.specs.Placed.{is_flat}

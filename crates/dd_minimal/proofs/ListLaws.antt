@@ -1,7 +1,7 @@
 -- What a minimal list says.
-use Rattle.std.proofs.Common.{◌≡◌, ◌&&◌, ◌||◌, ℕ, zero, suc, Bool, true, false, not, cond, Option, Some, None, List, [], ◌∷◌, ◌++◌, length, map, slice_get, refl, sym, ◌∙◌, ap, subst, inl, inr, ◌⊎◌, arith}
+use Rattle.std.proofs.Common.{◌≡◌, ◌&&◌, ◌||◌, ℕ, Bool, true, false, not, cond, Option, List, [], ◌∷◌, ◌++◌, length, refl, sym, ◌∙◌, ap, subst, inl, inr, ◌⊎◌}
 use Rattle.std.specs.Prelude.{◌↔◌}
-use Rattle.std.specs.List.{All, Contains, list_all, list_any}
+use Rattle.std.specs.List.{All, Contains}
 use Rattle.std.proofs.lemmas.Bool.{false≢true}
 use Rattle.std.proofs.lemmas.List.{append_assoc}
 use Rattle.std.proofs.lemmas.List.Folds.{list_any-append}
@@ -10,10 +10,10 @@ use Rattle.dd_formula.specs.LocalRule.{LocalRule, cells_at, IsRule}
 use Rattle.dd_forbidden.specs.Breaking.{are_allowed, is_true_at_origin, IsBreaking, BreakingFillings}
 use Rattle.dd_minimal.specs.Patterns.{agrees, is_covered, whole, left_out}
 use Rattle.dd_minimal.specs.Minimal.{words, is_spared, all_break, thinned, listed, IsMinimalList}
-use Rattle.dd_minimal.specs.Claims.{IsSpared, NeedsEach, IsNew, AreNew}
+use Rattle.dd_minimal.specs.Claims.{IsSpared, NeedsEach, AreNew}
 use Rattle.dd_minimal.proofs.Lists.{contains_first, contains_later, contains_nil, cons_cases, passes, fails, has}
 use Rattle.dd_minimal.proofs.AllWords.{words_have, allowed_word}
-use Rattle.dd_minimal.proofs.ThinLaws.{Weaker, Rises, thinned_agrees, thinned_enough, thinned_needs, whole_only}
+use Rattle.dd_minimal.proofs.ThinLaws.{Rises, thinned_agrees, thinned_enough, thinned_needs, whole_only}
 
 abbrev Patterns : Type 0
 Patterns = List (List (Option ℕ))
@@ -104,7 +104,7 @@ covers_at : (thin : List ℕ → List (Option ℕ)) → ((ss : List ℕ) → agr
 covers_at thin fits before ss qs more true is over next (inl same) = in_first qs before (listed thin before more) (ap (λ xs. is_covered before xs) (sym same) ∙ is)
 covers_at thin fits before ss qs more false is over next (inl same) =
     covered_next thin before ss qs more (in_first qs (before ++ thin ss ∷ []) (listed thin (before ++ thin ss ∷ []) more)
-        (in_last qs before (thin ss) (ap (agrees (thin ss)) (sym same) ∙ fits ss)))
+    (in_last qs before (thin ss) (ap (agrees (thin ss)) (sym same) ∙ fits ss)))
 covers_at thin fits before ss qs more b is over next (inr there) = covered_at thin before ss qs more b (over there) (next there)
 
 listed_covers : (thin : List ℕ → List (Option ℕ)) → ((ss : List ℕ) → agrees (thin ss) ss ≡ true) → (before : Patterns) (xs : List (List ℕ)) (qs : List ℕ) → Contains xs qs → is_covered (before ++ listed thin before xs) qs ≡ true
@@ -144,8 +144,8 @@ pub exact : (r : LocalRule) (a : ℕ) (ps : Patterns) (ss : List ℕ) → IsRule
 exact r a ps ss ok m al = (
   λ broken. ap (λ qs. is_covered qs ss) m.list ∙ listed_covers (thinned (all_break r a)) (thinned_agrees (all_break r a)) [] m.breaking ss (m.fillings.each ss (record { allowed = al; broken = broken })),
   λ found.
-    let one = has (λ p. agrees p ss) ps found in
-    breaking_all r ok a one.at ss (All-contains (λ p. all_break r a p ≡ true) ps one.at (all_break_listed r a ps m) one.listed) al one.is,
+      let one = has (λ p. agrees p ss) ps found in
+      breaking_all r ok a one.at ss (All-contains (λ p. all_break r a p ≡ true) ps one.at (all_break_listed r a ps m) one.listed) al one.is,
 )
 
 pub needs_each : (r : LocalRule) (a : ℕ) (ps : Patterns) → IsRule r → IsMinimalList r a ps → All (NeedsEach r a) ps

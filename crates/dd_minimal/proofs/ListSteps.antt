@@ -1,16 +1,15 @@
 -- One filling more is gone through, and what the list comes to at the end.
-use Rattle.std.proofs.Common.{◌≡◌, ◌<◌, ◌≤◌, ◌+◌, ◌^◌, ◌&&◌, ℕ, zero, suc, Bool, true, false, cond, Option, List, [], ◌∷◌, ◌++◌, length, map, drop, get_or, replicate, refl, sym, ◌∙◌, ap, subst, arith}
+use Rattle.std.proofs.Common.{◌≡◌, ◌<◌, ◌+◌, ◌^◌, ℕ, zero, suc, Bool, true, false, cond, Option, List, [], ◌∷◌, ◌++◌, length, map, drop, get_or, replicate, refl, sym, ◌∙◌, ap, subst, arith}
 use Rattle.std.specs.List.{All, Contains, filter}
-use Rattle.std.proofs.lemmas.Bool.{false≢true}
 use Rattle.std.proofs.lemmas.List.{append_assoc, append-nil, length-replicate}
 use Rattle.std.proofs.lemmas.List.Elements.{All-nil, All-cons, All-head, All-tail, All-push}
 use Rattle.dd_formula.specs.LocalRule.{LocalRule, IsRule, cells_at}
 use Rattle.dd_minimal.specs.declared.outcome.Outcome.{Outcome}
 use Rattle.dd_minimal.specs.declared.outcome.Outcome.TheVariants.{Barred}
-use Rattle.dd_minimal.specs.Patterns.{agrees, is_covered, pattern_of, IsPartialOf}
+use Rattle.dd_minimal.specs.Patterns.{is_covered, pattern_of, IsPartialOf}
 use Rattle.dd_minimal.specs.declared.partial.Partial.{Partial}
 use Rattle.dd_minimal.specs.Minimal.{words, all_break, thinned, listed, IsMinimalList}
-use Rattle.dd_minimal.specs.finding.Numbers.{IsWord, number, strides_of, digits, open_strides, least_number, reach, KeepsBelow}
+use Rattle.dd_minimal.specs.finding.Numbers.{IsWord, number, strides_of, digits, open_strides, least_number, reach}
 use Rattle.dd_minimal.specs.finding.Outcomes.{outcome, outcomes, does_break}
 use Rattle.dd_minimal.specs.finding.Walks.{marked, is_enough}
 use Rattle.dd_minimal.specs.finding.States.{IsThinned, breaking_from, AreMarks, IsListedTo}

@@ -1,7 +1,7 @@
 -- What is marked: the fillings that agree with the pattern, and no others.
-use Rattle.std.proofs.Common.{◌≡◌, ◌<◌, ◌≤◌, ◌+◌, ◌*◌, ◌^◌, ◌&&◌, ◌||◌, ℕ, zero, suc, Bool, true, false, cond, Option, Some, None, List, [], ◌∷◌, ◌++◌, length, set, get_or, nat_eq, refl, sym, ◌∙◌, ap, subst, inl, inr, ◌⊎◌, arith}
+use Rattle.std.proofs.Common.{◌≡◌, ◌<◌, ◌≤◌, ◌+◌, ◌*◌, ◌^◌, ◌||◌, ℕ, zero, suc, Bool, true, false, Option, Some, None, List, [], ◌∷◌, ◌++◌, length, set, get_or, nat_eq, refl, sym, ◌∙◌, ap, subst, inl, inr, ◌⊎◌, arith}
 use Rattle.std.specs.Prelude.{IfSome}
-use Rattle.std.specs.List.{All, Contains, range_with_len, fold, list_any}
+use Rattle.std.specs.List.{Contains, range_with_len, fold}
 use Rattle.std.proofs.Math.Nat.{pow-zero, pow-succ'}
 use Rattle.std.proofs.lemmas.Bool.{and_parts, and_from, cases_eq, false≢true, eq-eqb, eqb-true}
 use Rattle.std.proofs.lemmas.Nat.{row_fits}
@@ -14,7 +14,7 @@ use Rattle.dd_minimal.specs.finding.Walks.{marked}
 use Rattle.dd_minimal.specs.finding.States.{AreMarks}
 use Rattle.dd_minimal.proofs.Lists.{contains_first, contains_later, contains_nil, cons_cases, range_has, range_within}
 use Rattle.dd_minimal.proofs.AllWords.{word_rest, word_first, word_cons}
-use Rattle.dd_minimal.proofs.NumberLaws.{number_cons, number_below, number_only}
+use Rattle.dd_minimal.proofs.NumberLaws.{number_cons, number_only}
 use Rattle.dd_minimal.proofs.WalkLaws.{turned, joined}
 
 -- ---- folds

@@ -1,16 +1,15 @@
 -- Words by their numbers.
-use Rattle.std.proofs.Common.{◌≡◌, ◌<◌, ◌≤◌, ◌+◌, ◌-◌, ◌*◌, ◌/◌, ◌%◌, ◌^◌, ℕ, zero, suc, Option, Some, None, List, [], ◌∷◌, ◌++◌, length, map, drop, get_or, refl, sym, ◌∙◌, ap, subst, arith}
-use Rattle.std.specs.Prelude.{IfSome}
+use Rattle.std.proofs.Common.{◌≡◌, ◌<◌, ◌+◌, ◌-◌, ◌*◌, ◌/◌, ◌%◌, ◌^◌, ℕ, zero, suc, List, [], ◌∷◌, ◌++◌, length, map, drop, get_or, refl, sym, ◌∙◌, ap, arith}
 use Rattle.std.specs.List.{All, flat_map, range_with_len}
 use Rattle.std.proofs.Math.Nat.{pow-zero, pow-succ', mod-eq_of_lt}
 use Rattle.std.proofs.Math.Seq.{drop-cons}
-use Rattle.std.proofs.lemmas.Nat.{div-mul-add, mul-add-lt, same_from_place, mod_below}
+use Rattle.std.proofs.lemmas.Nat.{div-mul-add, mul-add-lt, mod_below}
 use Rattle.std.proofs.lemmas.List.{append_assoc, append-nil, length-append, get_or_append_left, get_or-append-add, get_or-map}
 use Rattle.std.proofs.lemmas.List.Elements.{All-nil, All-cons}
 use lib.Arith.{mod-mul}
 use Rattle.dd_minimal.specs.Minimal.{words}
 use Rattle.dd_minimal.specs.finding.Numbers.{IsWord, number, strides_of, digits}
-use Rattle.dd_minimal.proofs.AllWords.{word_rest, word_first, word_cons}
+use Rattle.dd_minimal.proofs.AllWords.{word_rest, word_first}
 
 pub map_length : {X Y : Type 0} (f : X → Y) (xs : List X) → length (map f xs) ≡ length xs
 map_length f [] = refl

@@ -11,7 +11,7 @@ use Rattle.dd_minimal.specs.declared.outcome.Outcome.{Outcome}
 use Rattle.dd_minimal.specs.declared.outcome.Outcome.TheVariants.{Barred, Breaks, Holds}
 use Rattle.dd_minimal.specs.Patterns.{whole}
 use Rattle.dd_minimal.specs.Minimal.{thinned}
-use Rattle.dd_minimal.specs.finding.Numbers.{IsWord, number, strides_of, digits, open_strides, least_number, reach, KeepsBelow}
+use Rattle.dd_minimal.specs.finding.Numbers.{number, strides_of, digits, open_strides, least_number, reach, KeepsBelow}
 use Rattle.dd_minimal.specs.finding.Outcomes.{does_break, does_hold}
 use Rattle.dd_minimal.specs.finding.Walks.{none_holds, is_enough}
 use Rattle.dd_minimal.specs.finding.States.{IsThinnedTo, IsThinned}

@@ -1,7 +1,7 @@
 -- What a walk along the strides of the cells that a pattern leaves out says of the fillings that agree with it.
-use Rattle.std.proofs.Common.{◌≡◌, ◌<◌, ◌≤◌, ◌+◌, ◌-◌, ◌*◌, ◌^◌, ◌&&◌, ℕ, zero, suc, Bool, true, false, not, cond, Option, Some, None, List, [], ◌∷◌, ◌++◌, length, map, get_or, nat_eq, refl, sym, ◌∙◌, ap, subst, arith}
+use Rattle.std.proofs.Common.{◌≡◌, ◌<◌, ◌+◌, ◌-◌, ◌*◌, ◌^◌, ℕ, suc, Bool, true, false, not, cond, Option, Some, None, List, [], ◌∷◌, length, get_or, nat_eq, refl, sym, ◌∙◌, ap, subst, arith}
 use Rattle.std.specs.Prelude.{IfSome}
-use Rattle.std.specs.List.{All, range_with_len, list_all}
+use Rattle.std.specs.List.{range_with_len}
 use Rattle.std.proofs.Math.Nat.{pow-zero, pow-succ'}
 use Rattle.std.proofs.lemmas.Bool.{and_parts, and_from, false≢true, eq-eqb, eqb-true}
 use Rattle.std.proofs.lemmas.Nat.{mul-add-lt}
@@ -10,8 +10,8 @@ use Rattle.dd_formula.specs.LocalRule.{LocalRule, IsRule, cells_at}
 use Rattle.dd_forbidden.specs.Breaking.{are_allowed, is_true_at_origin}
 use Rattle.dd_minimal.specs.declared.outcome.Outcome.{Outcome}
 use Rattle.dd_minimal.specs.declared.outcome.Outcome.TheVariants.{Barred}
-use Rattle.dd_minimal.specs.Patterns.{is_kept, agrees, is_covered}
-use Rattle.dd_minimal.specs.Minimal.{words, all_break}
+use Rattle.dd_minimal.specs.Patterns.{agrees}
+use Rattle.dd_minimal.specs.Minimal.{all_break}
 use Rattle.dd_minimal.specs.finding.Numbers.{IsWord, number, open_strides, least_number, reach, KeepsBelow}
 use Rattle.dd_minimal.specs.finding.Outcomes.{outcome, outcomes, of_truth, does_hold}
 use Rattle.dd_minimal.specs.finding.Walks.{none_holds, is_enough}
@@ -77,8 +77,12 @@ pub record IsHeld (m : ℕ) (f : List ℕ → Outcome) (p : List (Option ℕ)) :
 pub some_holds : (table : List Outcome) (m : ℕ) (p : List (Option ℕ)) (b : ℕ) (f : List ℕ → Outcome) → KeepsBelow m p → IsAt table b m (length p) f →
     none_holds m (open_strides m p) table (b + least_number m p) ≡ false → IsHeld m f p
 some_holds table m [] b f keeps at h =
-    record { filling = []; word = record { as_many = refl; below = All-nil (λ s. s < m) }; agreeing = refl;
-      holds = ap does_hold (sym (at_none table b m f at)) ∙ held (does_hold (get_or table (b + 0) Barred)) h }
+    record {
+      filling = [];
+      word = record { as_many = refl; below = All-nil (λ s. s < m) };
+      agreeing = refl;
+      holds = ap does_hold (sym (at_none table b m f at)) ∙ held (does_hold (get_or table (b + 0) Barred)) h;
+    }
 some_holds table m (None ∷ ps) b f keeps at h =
     let n = length ps in
     let w = fails (λ t. none_holds m (open_strides m ps) table (b + least_number m ps + t * m ^ n)) (range_with_len 0 m) h in
@@ -92,8 +96,12 @@ some_holds table m (Some t ∷ ps) b f keeps at h =
     let small = All-head (λ p. IfSome p (λ s. s < m)) (Some t) ps keeps in
     let rest = some_holds table m ps (b + t * m ^ n) (λ qs. f (t ∷ qs)) (All-tail (λ p. IfSome p (λ s. s < m)) (Some t) ps keeps)
     (at_behind table b m n f t small at) (ap (none_holds m (open_strides m ps) table) (sym (joined b (t * m ^ n) (least_number m ps))) ∙ h) in
-    record { filling = t ∷ rest.filling; word = word_cons m n t rest.filling small rest.word;
-      agreeing = and_from (nat_eq t t) (agrees ps rest.filling) (eq-eqb t t refl) rest.agreeing; holds = rest.holds }
+    record {
+      filling = t ∷ rest.filling;
+      word = word_cons m n t rest.filling small rest.word;
+      agreeing = and_from (nat_eq t t) (agrees ps rest.filling) (eq-eqb t t refl) rest.agreeing;
+      holds = rest.holds;
+    }
 
 -- ---- what the table of a rule says of a pattern is what the rule says
 

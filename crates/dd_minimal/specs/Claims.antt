@@ -1,5 +1,5 @@
 -- What the patterns of a minimal list say, each for itself.
-use Rattle.std.specs.Prelude.{ℕ, ◌≡◌, ◌++◌, Bool, true, false, Option, Some, List, [], ◌∷◌, slice_get}
+use Rattle.std.specs.Prelude.{ℕ, ◌≡◌, ◌++◌, true, false, Option, Some, List, [], ◌∷◌, slice_get}
 use Rattle.dd_formula.specs.LocalRule.{LocalRule, cells_at}
 use Rattle.dd_forbidden.specs.Breaking.{are_allowed, is_true_at_origin, IsBreaking}
 use Rattle.dd_minimal.specs.Patterns.{agrees, is_covered, left_out}

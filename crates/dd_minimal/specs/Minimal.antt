@@ -1,5 +1,5 @@
 -- The list of the minimal patterns of a rule at a node.
-use Rattle.std.specs.Prelude.{ℕ, zero, suc, ◌≡◌, ◌<◌, ◌++◌, ◌&&◌, not, cond, Bool, false, Option, Some, None, List, [], ◌∷◌, length, map}
+use Rattle.std.specs.Prelude.{ℕ, zero, suc, ◌≡◌, ◌++◌, ◌&&◌, not, cond, Bool, false, Option, Some, None, List, [], ◌∷◌, length, map}
 use Rattle.std.specs.List.{All, flat_map, range_with_len, list_all}
 use Rattle.dd_formula.specs.LocalRule.{LocalRule, cells_at}
 use Rattle.dd_forbidden.specs.Breaking.{are_allowed, is_true_at_origin, is_large, BreakingFillings}
@@ -33,8 +33,8 @@ abbrev pub listed : (List ℕ → List (Option ℕ)) → List (List (Option ℕ)
 listed thin before [] = []
 listed thin before (ss ∷ more) =
     cond (is_covered before ss)
-        (listed thin before more)
-        (thin ss ∷ listed thin (before ++ thin ss ∷ []) more)
+    (listed thin before more)
+    (thin ss ∷ listed thin (before ++ thin ss ∷ []) more)
 
 -- the breaking fillings are gone through in lexicographic order, and a cell is left out where what still agrees breaks the rule
 pub record IsMinimalList (r : LocalRule) (a : ℕ) (ps : List (List (Option ℕ))) : Type 0 where

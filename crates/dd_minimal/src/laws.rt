@@ -12,21 +12,18 @@ ghost use Rattle.dd_minimal.specs.Claims.{NeedsEach, AreNew};
 pub fn exact()
     ensures { (r : LocalRule) (a : ℕ) (ps : List (List (Option ℕ))) (ss : List ℕ) → IsRule r → IsMinimalList r a ps →
         are_allowed r (cells_at r a) ss ≡ true → (is_true_at_origin r a ss ≡ false) ↔ (is_covered ps ss ≡ true) }
-{
-}
+{}
 
 /// Does nothing; its contract says that no cell that a listed pattern keeps can be left out: the rule is true for some filling
 /// that agrees with the pattern but at that cell.
 pub fn needs_each()
     ensures { (r : LocalRule) (a : ℕ) (ps : List (List (Option ℕ))) → IsRule r → IsMinimalList r a ps → All (NeedsEach r a) ps }
-{
-}
+{}
 
 /// Does nothing; its contract says that each listed pattern has a breaking filling that agrees with none listed before it.
 pub fn all_new()
     ensures { (r : LocalRule) (a : ℕ) (ps : List (List (Option ℕ))) → IsMinimalList r a ps → AreNew r a [] ps }
-{
-}
+{}
 
 /// Does nothing; its contract says that there is one minimal list.
 pub fn one_list()

@@ -16,7 +16,12 @@ use dd_values::Items;
 use std::alloc::{AllocError, Global};
 
 /// By how much the number of a filling rises with the symbol of each cell.
-pub(crate) fn strides_of(alloc: Global, rule: &Rule, node: u32, fillings: usize) -> Result<Items<usize>, AllocError>
+pub(crate) fn strides_of(
+    alloc: Global,
+    rule: &Rule,
+    node: u32,
+    fillings: usize,
+) -> Result<Items<usize>, AllocError>
     requires node { node < rule.now.nodes }
     requires fillings { fillings ≡ rule.now.symbols ^ length (cells_at rule.now node) }
     ensures { IfOk result (λ list. list ≡ strides_of rule.now.symbols (length (cells_at rule.now node))) }
@@ -51,9 +56,19 @@ pub(crate) fn list(
     let mut marks = vec![in alloc; false; table.len()]?;
     for at in 0..table.len() {
         if table[at].does_break() && !marks[at] {
-            let Thinned { pattern, from } = thin(alloc, symbols, strides, table, at, &mut left_out)?;
+            let Thinned { pattern, from } = thin(
+                alloc,
+                symbols,
+                strides,
+                table,
+                at,
+                &mut left_out,
+            )?;
             mark(symbols, left_out.as_slice(), &mut marks, from);
-            found.push(Partial { node, symbols: pattern })?;
+            found.push(Partial {
+                node,
+                symbols: pattern,
+            })?;
         }
     }
     Ok(found)

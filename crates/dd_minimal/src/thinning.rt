@@ -39,7 +39,14 @@ pub(crate) fn thin(
     for stride in strides {
         let symbol = digit(at, *stride, symbols);
         let without = from - symbol as usize * *stride;
-        if can_spare(symbols, symbol, *stride, left_out.as_slice(), table, without) {
+        if can_spare(
+            symbols,
+            symbol,
+            *stride,
+            left_out.as_slice(),
+            table,
+            without,
+        ) {
             left_out.push(*stride)?;
             from = without;
             pattern.push(None)?;

@@ -1,10 +1,9 @@
 -- How far the cells of a filling, and the fillings, have been gone through.
-use Rattle.std.specs.Prelude.{ℕ, ◌≡◌, ◌<◌, ◌+◌, ◌++◌, ◌^◌, Bool, true, false, Option, List, [], length, map, drop, slice_index_or}
+use Rattle.std.specs.Prelude.{ℕ, ◌≡◌, ◌++◌, ◌^◌, Bool, true, false, Option, List, [], length, drop, slice_index_or}
 use Rattle.std.specs.List.{All, filter}
 use Rattle.dd_formula.specs.LocalRule.{LocalRule, cells_at}
 use Rattle.dd_minimal.specs.declared.outcome.Outcome.{Outcome}
-use Rattle.dd_minimal.specs.declared.partial.Partial.{Partial}
-use Rattle.dd_minimal.specs.Patterns.{is_covered, whole, pattern_of}
+use Rattle.dd_minimal.specs.Patterns.{is_covered, whole}
 use Rattle.dd_minimal.specs.Minimal.{words, thinned, listed}
 use Rattle.dd_minimal.specs.finding.Numbers.{IsWord, number, open_strides, least_number, KeepsBelow}
 use Rattle.dd_minimal.specs.finding.Outcomes.{outcome, outcomes, does_break}

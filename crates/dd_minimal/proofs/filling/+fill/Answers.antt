@@ -1,4 +1,4 @@
-use Rattle.std.proofs.Common.{◌≡◌, ◌<◌, ◌+◌, ◌++◌, ◌∷◌, [], ℕ, List, true, false, cond, map, length, OnOk, refl, ap, sym, subst, ◌∙◌, arith}
+use Rattle.std.proofs.Common.{◌≡◌, ◌<◌, ◌++◌, ◌∷◌, [], ℕ, List, true, false, map, length, OnOk, refl, ap, sym, subst, ◌∙◌, arith}
 use Rattle.std.specs.List.{flat_map, range_with_len}
 use Rattle.std.proofs.lemmas.List.Elements.{All-push}
 use Rattle.dd_formula.specs.LocalRule.{rule_allows}
@@ -6,7 +6,7 @@ use Rattle.dd_forbidden.specs.listing.Extensions.{AreSymbols, AreOf}
 use Rattle.dd_minimal.specs.declared.outcome.Outcome.{Outcome}
 use Rattle.dd_minimal.specs.declared.outcome.Outcome.TheVariants.{Barred}
 use Rattle.dd_minimal.specs.Minimal.{words}
-use Rattle.dd_minimal.specs.finding.Outcomes.{outcome_behind, known_outcome, of_truth}
+use Rattle.dd_minimal.specs.finding.Outcomes.{outcome_behind, known_outcome}
 use Rattle.dd_minimal.proofs.FillSteps.{leaf, all_settled, one_more, all_parts, part, part_allowed, part_barred, taken_off}
 use Rattle.dd_minimal.proofs.Kept.{rest_of}
 use Rattle.dd_minimal.proofs.filling.+fill.Goals.{then-allows+in_ok-push+in_ok-fill, else-allows+in_ok-fill_known}

@@ -1,4 +1,4 @@
-use Rattle.std.proofs.Common.{◌≡◌, ◌++◌, ◌∷◌, [], map, length}
+use Rattle.std.proofs.Common.{◌≡◌, ◌++◌, ◌∷◌, map, length}
 use Rattle.std.specs.List.{flat_map, range_with_len}
 use Rattle.dd_minimal.specs.Minimal.{words}
 use Rattle.dd_minimal.specs.finding.Outcomes.{outcome_behind}

@@ -1,9 +1,9 @@
-use Rattle.std.proofs.Common.{◌≡◌, ◌<◌, ◌≤◌, ◌+◌, ◌^◌, ◌++◌, ◌∷◌, [], ℕ, Bool, true, false, List, Option, map, length, slice_index_or, refl, ap, sym, subst, ◌∙◌, arith}
+use Rattle.std.proofs.Common.{◌≡◌, ◌<◌, ◌+◌, ◌^◌, ◌++◌, ◌∷◌, [], true, false, List, map, length, slice_index_or, refl, ap, sym, subst, ◌∙◌, arith}
 use Rattle.std.specs.List.{All}
 use Rattle.std.proofs.lemmas.List.{map-append, get_or_default, with_items_is}
 use Rattle.std.proofs.lemmas.List.Elements.{All-nil, All-push}
 use Rattle.dd_formula.specs.LocalRule.{cells_at}
-use Rattle.dd_minimal.specs.Patterns.{pattern_of, IsPartialOf}
+use Rattle.dd_minimal.specs.Patterns.{pattern_of}
 use Rattle.dd_minimal.specs.declared.partial.Partial.{Partial}
 use Rattle.dd_minimal.specs.finding.Numbers.{reach}
 use Rattle.dd_minimal.specs.finding.Outcomes.{outcomes, does_break}

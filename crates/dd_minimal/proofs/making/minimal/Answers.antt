@@ -1,4 +1,4 @@
-use Rattle.std.proofs.Common.{◌≡◌, length, ap, sym, ◌∙◌}
+use Rattle.std.proofs.Common.{length, ap, sym, ◌∙◌}
 use Rattle.dd_minimal.proofs.ListSteps.{outcomes_length}
 use Rattle.dd_minimal.proofs.making.minimal.Goals as goal
 

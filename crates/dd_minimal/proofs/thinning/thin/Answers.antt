@@ -1,9 +1,9 @@
-use Rattle.std.proofs.Common.{◌≡◌, ◌<◌, ◌≤◌, ◌+◌, ◌-◌, ◌*◌, ◌^◌, ◌++◌, ◌∷◌, [], ℕ, true, false, Some, None, Option, List, length, slice_index_or, refl, ap, sym, subst, ◌∙◌, arith}
+use Rattle.std.proofs.Common.{◌≡◌, ◌<◌, ◌+◌, ◌-◌, ◌*◌, ◌^◌, ◌++◌, ◌∷◌, [], Some, None, length, slice_index_or, ap, sym, subst, ◌∙◌, arith}
 use Rattle.dd_minimal.specs.finding.Numbers.{digits, reach}
 use Rattle.dd_minimal.specs.finding.States.{IsThinnedTo}
 use Rattle.dd_minimal.specs.finding.Walks.{none_holds}
 use Rattle.dd_minimal.proofs.NumberLaws.{map_length}
-use Rattle.dd_minimal.proofs.ThinSteps.{IsStep, start_in, step_in, stride_in, end}
+use Rattle.dd_minimal.proofs.ThinSteps.{start_in, step_in, stride_in, end}
 use Rattle.dd_minimal.proofs.thinning.thin.Goals.{then-can_spare+in_ok-push+in_ok-push-2, else-can_spare+in_ok-push-3}
 use Rattle.dd_minimal.proofs.thinning.thin.Goals as goal
 

@@ -1,4 +1,4 @@
-use Rattle.std.proofs.Common.{◌≡◌, ◌+◌, ◌*◌, ℕ, Bool, List, ap, sym, ◌∙◌}
+use Rattle.std.proofs.Common.{◌+◌, ◌*◌, ℕ, Bool, List, ap, sym, ◌∙◌}
 use Rattle.dd_minimal.specs.finding.Walks.{marked}
 use Rattle.dd_minimal.proofs.Ranges.{fold_more}
 use Rattle.dd_minimal.proofs.walking.+mark.Goals as goal

@@ -1,4 +1,4 @@
-use Rattle.std.proofs.Common.{◌≡◌, ◌+◌, ◌*◌, ℕ, Bool, false, true, ap, sym, ◌∙◌}
+use Rattle.std.proofs.Common.{◌+◌, ◌*◌, ℕ, Bool, ap, sym, ◌∙◌}
 use Rattle.dd_minimal.specs.finding.Walks.{none_holds}
 use Rattle.dd_minimal.proofs.Ranges.{one_more_true, one_false}
 use Rattle.dd_minimal.proofs.walking.+none_holds.Goals as goal
