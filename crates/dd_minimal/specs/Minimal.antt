@@ -19,8 +19,8 @@ is_spared r a ss = are_allowed r (cells_at r a) ss && is_true_at_origin r a ss
 abbrev pub all_break : LocalRule → ℕ → List (Option ℕ) → Bool
 all_break r a p = list_all (λ ss. not (agrees p ss && is_spared r a ss)) (words r.symbols (length (cells_at r a)))
 
--- The cells of a filling are gone through in order, and each is left out where the pattern that leaves it out and keeps all
--- behind it is enough. Behind what is settled of a cell, a pattern of the other cells is asked for with that in front.
+-- The cells of a filling are gone through in order, and each is left out where the pattern without it, with all cells behind it
+-- kept, is enough. A pattern of the cells behind is enough where it is so with what is settled of this cell in front.
 abbrev pub thinned : (List (Option ℕ) → Bool) → List ℕ → List (Option ℕ)
 thinned enough [] = []
 thinned enough (s ∷ ss) =

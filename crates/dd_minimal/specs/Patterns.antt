@@ -1,13 +1,9 @@
--- Patterns: a symbol for each of some cells, or none where the cell is left out.
+-- Patterns: a symbol for each of some cells, in their order, or none where the cell is left out.
 use Rattle.std.specs.Prelude.{ℕ, zero, suc, ◌≡◌, ◌<◌, ◌&&◌, Bool, true, false, Option, Some, None, List, [], ◌∷◌, length, map, nat_eq}
 use Rattle.std.specs.List.{list_any}
 use Rattle.dd_pattern.specs.Filling.{Filled}
 use Rattle.dd_formula.specs.LocalRule.{LocalRule, cells_at}
 use Rattle.dd_minimal.specs.declared.partial.Partial.{Partial}
-
--- in the order of the cells
-abbrev pub Pattern : Type 0
-Pattern = List (Option ℕ)
 
 -- the symbol is the one that is kept, if one is
 abbrev pub is_kept : Option ℕ → ℕ → Bool
