@@ -1,0 +1,12 @@
+pub mod Lists
+pub mod AllWords
+pub mod ThinLaws
+pub mod Ranges
+pub mod NumberLaws
+pub mod WalkLaws
+pub mod MarkLaws
+pub mod FillSteps
+pub mod Kept
+pub mod ThinSteps
+pub mod ListSteps
+pub mod ListLaws

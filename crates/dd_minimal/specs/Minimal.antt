@@ -1,0 +1,51 @@
+-- The list of the minimal patterns of a rule at a node.
+use Rattle.std.specs.Prelude.{ℕ, zero, suc, ◌≡◌, ◌++◌, ◌&&◌, not, cond, Bool, false, Option, Some, None, List, [], ◌∷◌, length, map}
+use Rattle.std.specs.List.{All, flat_map, range_with_len, list_all}
+use Rattle.dd_formula.specs.LocalRule.{LocalRule, cells_at}
+use Rattle.dd_forbidden.specs.Breaking.{are_allowed, is_true_at_origin, is_large, BreakingFillings}
+use Rattle.dd_minimal.specs.declared.partial.Partial.{Partial}
+use Rattle.dd_minimal.specs.Patterns.{agrees, is_covered, whole, pattern_of, IsPartialOf}
+
+-- all lists of n of the first m symbols, in lexicographic order
+abbrev pub words : ℕ → ℕ → List (List ℕ)
+words m zero = [] ∷ []
+words m (suc n) = flat_map (λ s. map (λ ss. s ∷ ss) (words m n)) (range_with_len 0 m)
+
+-- the nodes of the cells that are read allow their symbols, and the rule is true under them
+abbrev pub is_spared : LocalRule → ℕ → List ℕ → Bool
+is_spared r a ss = are_allowed r (cells_at r a) ss && is_true_at_origin r a ss
+
+-- each filling of the reads with allowed symbols that agrees with the pattern breaks the rule
+abbrev pub all_break : LocalRule → ℕ → List (Option ℕ) → Bool
+all_break r a p = list_all (λ ss. not (agrees p ss && is_spared r a ss)) (words r.symbols (length (cells_at r a)))
+
+-- The cells of a filling are gone through in order, and each is left out where the pattern without it, with all cells behind it
+-- kept, is enough. A pattern of the cells behind is enough where it is so with what is settled of this cell in front.
+abbrev pub thinned : (List (Option ℕ) → Bool) → List ℕ → List (Option ℕ)
+thinned enough [] = []
+thinned enough (s ∷ ss) =
+    let first = cond (enough (None ∷ whole ss)) None (Some s) in
+    first ∷ thinned (λ p. enough (first ∷ p)) ss
+
+-- Fillings are gone through in order. One that agrees with a pattern listed before is passed over, and each other is thinned and
+-- listed.
+abbrev pub listed : (List ℕ → List (Option ℕ)) → List (List (Option ℕ)) → List (List ℕ) → List (List (Option ℕ))
+listed thin before [] = []
+listed thin before (ss ∷ more) =
+    cond (is_covered before ss)
+    (listed thin before more)
+    (thin ss ∷ listed thin (before ++ thin ss ∷ []) more)
+
+-- the breaking fillings are gone through in lexicographic order, and a cell is left out where what still agrees breaks the rule
+pub record IsMinimalList (r : LocalRule) (a : ℕ) (ps : List (List (Option ℕ))) : Type 0 where
+  pub breaking : List (List ℕ)
+  pub fillings : BreakingFillings r a breaking
+  pub list : ps ≡ listed (thinned (all_break r a)) [] breaking
+
+-- as patterns of the node
+pub record AreMinimal (r : LocalRule) (a : ℕ) (ps : List Partial) : Type 0 where
+  pub nodes : All (λ p. p.node ≡ a) ps
+  pub fitting : All (IsPartialOf r) ps
+  pub list : IsMinimalList r a (map pattern_of ps)
+  -- there are few enough fillings
+  pub few : is_large r a ≡ false

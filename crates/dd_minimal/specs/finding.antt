@@ -1,0 +1,4 @@
+pub mod Numbers
+pub mod Outcomes
+pub mod Walks
+pub mod States

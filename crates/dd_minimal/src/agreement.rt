@@ -1,0 +1,38 @@
+//! Whether a filling agrees with a pattern.
+ghost use Rattle.std.specs.Prelude.{◌≡◌};
+ghost use Rattle.dd_minimal.specs.Patterns.{agrees, is_kept, FillsReads, IsPartialOf};
+
+use crate::partial::Partial;
+use dd_formula::Rule;
+use dd_pattern::Filling;
+
+/// Whether the filling, of the cells that the rule reads at the pattern's node, has each symbol that the pattern keeps. It takes
+/// no memory.
+pub fn forces(_rule: &Rule, partial: &Partial, filling: &Filling) -> bool
+    requires partial { IsPartialOf _rule.now partial.now }
+    requires filling { FillsReads _rule.now partial.now filling.now }
+    ensures { result ≡ agrees partial.now.symbols filling.now.symbols }
+{
+    agrees(partial.symbols.as_slice(), filling.symbols())
+}
+
+fn agrees(pattern: &[Option<u32>], symbols: &[u32]) -> bool
+    ensures { result ≡ agrees pattern.now symbols.now }
+{
+    let Some((first, later)) = pattern.split_first() else {
+        return symbols.is_empty();
+    };
+    let Some((symbol, rest)) = symbols.split_first() else {
+        return false;
+    };
+    is_kept(*first, *symbol) && agrees(later, rest)
+}
+
+fn is_kept(kept: Option<u32>, symbol: u32) -> bool
+    ensures { result ≡ is_kept kept symbol }
+{
+    match kept {
+        Some(kept) => kept == symbol,
+        None => true,
+    }
+}

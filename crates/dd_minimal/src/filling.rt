@@ -1,0 +1,87 @@
+//! The table of what each filling does, in lexicographic order over the whole alphabet. A branch ends where the symbols so far
+//! settle the rule's truth, and where a node doesn't allow its symbol.
+ghost use Rattle.std.specs.Prelude.{◌≡◌, ◌<◌, ◌++◌, length, map, IfOk, OnOk};
+ghost use Rattle.dd_formula.specs.LocalRule.{cells_at};
+ghost use Rattle.dd_forbidden.specs.listing.Extensions.{AreOf, AreSymbols};
+ghost use Rattle.dd_forbidden.specs.listing.Saying.{SaysKept};
+ghost use Rattle.dd_minimal.specs.Minimal.{words};
+ghost use Rattle.dd_minimal.specs.finding.Outcomes.{known_outcome, outcome_behind, outcomes};
+
+use crate::outcome::Outcome;
+use dd_formula::Rule;
+use dd_lattice::Cell;
+use dd_numbered::{Numbered, Ranks};
+use dd_values::Items;
+use std::alloc::{AllocError, Global};
+
+/// What each filling of the cells that the rule reads at the node does.
+pub(crate) fn outcomes(alloc: Global, rule: &Rule, node: u32) -> Result<Items<Outcome>, AllocError>
+    requires { node < rule.now.nodes }
+    ensures { IfOk result (λ table. table ≡ outcomes rule.now node) }
+{
+    let expansion = rule.expansion(node);
+    let cells = rule.reads(node);
+    let ranks = Ranks::new(cells);
+    let formula = Numbered::new(alloc, expansion, &ranks)?;
+    let mut symbols = Items::new(alloc);
+    let mut table = Items::new(alloc);
+    fill(rule, node, &formula, cells, &mut symbols, &mut table)?;
+    Ok(table)
+}
+
+/// Appends the outcomes of the fillings that begin with these symbols, where the rest of the cells has none yet.
+fn fill(
+    rule: &Rule,
+    node: u32,
+    formula: &Numbered,
+    rest: &[Cell],
+    symbols: &mut Items<u32>,
+    table: &mut Items<Outcome>,
+) -> Result<(), AllocError>
+    requires formula { SaysKept rule.now node formula.now }
+    requires rest { AreOf rule.now rest.now }
+    requires symbols { AreSymbols rule.now symbols.old }
+    ensures table { OnOk result (table.new ≡ table.old ++ map (outcome_behind rule.now node rest.now symbols.old) (words rule.now.symbols (length rest.now))) }
+    ensures symbols { OnOk result (symbols.new ≡ symbols.old) }
+{
+    let Some((cell, later)) = rest.split_first() else {
+        return table.push(Outcome::of_truth(formula.truth(symbols.as_slice())));
+    };
+    if let Some(truth) = formula.settled(symbols.as_slice()) {
+        return fill_known(rule, rest, Outcome::of_truth(truth), table);
+    }
+    for symbol in 0..rule.symbols() {
+        if rule.allows(cell.node, symbol) {
+            symbols.push(symbol)?;
+            fill(rule, node, formula, later, symbols, table)?;
+            symbols.pop();
+        } else {
+            fill_known(rule, later, Outcome::Barred, table)?;
+        }
+    }
+    Ok(())
+}
+
+/// Appends an outcome for all fillings of the rest of the cells, but for those that are barred.
+fn fill_known(
+    rule: &Rule,
+    rest: &[Cell],
+    outcome: Outcome,
+    table: &mut Items<Outcome>,
+) -> Result<(), AllocError>
+    requires { AreOf rule.now rest.now }
+    ensures { OnOk result (table.new ≡ table.old ++ map (known_outcome rule.now rest.now outcome) (words rule.now.symbols (length rest.now))) }
+{
+    let Some((cell, later)) = rest.split_first() else {
+        return table.push(outcome);
+    };
+    for symbol in 0..rule.symbols() {
+        let outcome = if rule.allows(cell.node, symbol) {
+            outcome
+        } else {
+            Outcome::Barred
+        };
+        fill_known(rule, later, outcome, table)?;
+    }
+    Ok(())
+}

@@ -1,0 +1,33 @@
+//! Laws of the minimal list, as contracts of calls that do nothing.
+ghost use Rattle.std.specs.Prelude.{◌≡◌, ◌↔◌, ℕ, List, Option, true, false, []};
+ghost use Rattle.std.specs.List.{All};
+ghost use Rattle.dd_formula.specs.LocalRule.{LocalRule, IsRule, cells_at};
+ghost use Rattle.dd_forbidden.specs.Breaking.{are_allowed, is_true_at_origin};
+ghost use Rattle.dd_minimal.specs.Patterns.{is_covered};
+ghost use Rattle.dd_minimal.specs.Minimal.{IsMinimalList};
+ghost use Rattle.dd_minimal.specs.Claims.{NeedsEach, AreNew};
+
+/// Does nothing; its contract says that the rule is false under a filling of the reads with allowed symbols exactly where this
+/// agrees with a listed pattern.
+pub fn exact()
+    ensures { (r : LocalRule) (a : ℕ) (ps : List (List (Option ℕ))) (ss : List ℕ) → IsRule r → IsMinimalList r a ps →
+        are_allowed r (cells_at r a) ss ≡ true → (is_true_at_origin r a ss ≡ false) ↔ (is_covered ps ss ≡ true) }
+{}
+
+/// Does nothing; its contract says that no cell that a listed pattern keeps can be left out: the rule is true for some filling
+/// that agrees with the pattern but at that cell.
+pub fn needs_each()
+    ensures { (r : LocalRule) (a : ℕ) (ps : List (List (Option ℕ))) → IsRule r → IsMinimalList r a ps → All (NeedsEach r a) ps }
+{}
+
+/// Does nothing; its contract says that each listed pattern has a breaking filling that agrees with none listed before it.
+pub fn all_new()
+    ensures { (r : LocalRule) (a : ℕ) (ps : List (List (Option ℕ))) → IsMinimalList r a ps → AreNew r a [] ps }
+{}
+
+/// Does nothing; its contract says that there is one minimal list.
+pub fn one_list()
+    ensures { (r : LocalRule) (a : ℕ) (ps qs : List (List (Option ℕ))) → IsMinimalList r a ps → IsMinimalList r a qs → ps ≡ qs }
+{
+    dd_forbidden::one_list();
+}

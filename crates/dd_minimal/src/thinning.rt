@@ -1,0 +1,67 @@
+//! Which cells of a filling are left out.
+ghost use Rattle.std.specs.Prelude.{◌≡◌, ◌<◌, ◌^◌, ◌/◌, ◌%◌, true, length, IfOk, slice_index_or};
+ghost use Rattle.dd_minimal.specs.finding.Numbers.{digits, strides_of};
+ghost use Rattle.dd_minimal.specs.finding.Outcomes.{does_break};
+ghost use Rattle.dd_minimal.specs.finding.States.{IsThinned};
+ghost use Rattle.dd_minimal.specs.declared.outcome.Outcome.TheVariants.{Barred};
+
+use crate::outcome::Outcome;
+use crate::walking::can_spare;
+use dd_values::Items;
+use std::alloc::{AllocError, Global};
+
+/// A pattern, and the number of the filling that agrees with it and has 0 in the cells that are left out.
+pub(crate) struct Thinned {
+    pub pattern: Items<Option<u32>>,
+    pub from: usize,
+}
+
+/// The breaking filling with the number `at`, of which each cell is left out, in cell order, that can be. The strides of these
+/// cells are put into `left_out`.
+pub(crate) fn thin(
+    alloc: Global,
+    symbols: u32,
+    strides: &[usize],
+    table: &[Outcome],
+    at: usize,
+    left_out: &mut Vec<usize>,
+) -> Result<Thinned, AllocError>
+    requires symbols { 0 < symbols }
+    requires strides { strides.now ≡ strides_of symbols (length strides.now) }
+    requires table { length table.now ≡ symbols ^ length strides.now }
+    requires at { at < length table.now }
+    requires breaks { does_break (slice_index_or table.now at Barred) ≡ true }
+    ensures { IfOk result (λ t. IsThinned symbols table.now (digits symbols strides.now at) t.pattern left_out.new.items t.from) }
+{
+    left_out.clear();
+    let mut pattern = Items::new(alloc);
+    let mut from = at;
+    for stride in strides {
+        let symbol = digit(at, *stride, symbols);
+        let without = from - symbol as usize * *stride;
+        if can_spare(
+            symbols,
+            symbol,
+            *stride,
+            left_out.as_slice(),
+            table,
+            without,
+        ) {
+            left_out.push(*stride)?;
+            from = without;
+            pattern.push(None)?;
+        } else {
+            pattern.push(Some(symbol))?;
+        }
+    }
+    Ok(Thinned { pattern, from })
+}
+
+/// The symbol of the cell with the stride in the filling with the number `at`.
+fn digit(at: usize, stride: usize, symbols: u32) -> u32
+    requires stride { 0 < stride }
+    requires symbols { 0 < symbols }
+    ensures { result ≡ at / stride % symbols }
+{
+    (at / stride % symbols as usize) as u32
+}

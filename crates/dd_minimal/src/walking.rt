@@ -1,0 +1,60 @@
+//! Walks over the fillings that agree with a pattern: from the number of the one that has 0 in all cells that are left out, by
+//! the strides of these cells.
+ghost use Rattle.std.specs.Prelude.{◌≡◌, ◌<◌, ◌≤◌, ◌+◌, ◌*◌, ◌-◌, ◌++◌, ◌∷◌, [], true, length};
+ghost use Rattle.dd_minimal.specs.finding.Numbers.{reach};
+ghost use Rattle.dd_minimal.specs.finding.Walks.{marked, none_holds};
+
+use crate::outcome::Outcome;
+
+/// Whether the rule is true under none of the fillings. It stops at the first under which it is.
+pub(crate) fn none_holds(symbols: u32, strides: &[usize], table: &[Outcome], from: usize) -> bool
+    requires { from + reach symbols strides.now < length table.now }
+    ensures { result ≡ none_holds symbols strides.now table.now from }
+{
+    let Some((stride, later)) = strides.split_first() else {
+        return !table[from].does_hold();
+    };
+    for symbol in 0..symbols {
+        if !none_holds(symbols, later, table, from + symbol as usize * *stride) {
+            return false;
+        }
+    }
+    true
+}
+
+/// Whether the rule is true under none of the fillings where one cell more, which has the symbol `kept`, is left out too. Those
+/// that have that symbol are known to break the rule.
+pub(crate) fn can_spare(
+    symbols: u32,
+    kept: u32,
+    stride: usize,
+    strides: &[usize],
+    table: &[Outcome],
+    from: usize,
+) -> bool
+    requires reach { from + reach symbols (strides.now ++ stride ∷ []) < length table.now }
+    requires kept { none_holds symbols strides.now table.now (from + kept * stride) ≡ true }
+    ensures { result ≡ none_holds symbols (strides.now ++ stride ∷ []) table.now from }
+{
+    for symbol in 0..symbols {
+        let there = from + symbol as usize * stride;
+        if symbol != kept && !none_holds(symbols, strides, table, there) {
+            return false;
+        }
+    }
+    true
+}
+
+/// Marks all of the fillings.
+pub(crate) fn mark(symbols: u32, strides: &[usize], marks: &mut [bool], from: usize)
+    requires { from + reach symbols strides.now < length marks.old }
+    ensures { marks.new ≡ marked symbols strides.now marks.old from }
+{
+    let Some((stride, later)) = strides.split_first() else {
+        marks[from] = true;
+        return;
+    };
+    for symbol in 0..symbols {
+        mark(symbols, later, marks, from + symbol as usize * *stride);
+    }
+}
