@@ -57,14 +57,14 @@ pub ruleset fits_layers = (fits_not, fits_and, fits_or, fits_implies, fits_iff, 
 -- ---- lists of formulas
 
 greatest_le : (fs : List Formula) (n : ℕ) → nat_le (greatest (map depth fs)) n ≡ list_all (λ f. nat_le (depth f) n) fs
-greatest_le [] n = refl
+greatest_le [] n = le-leb 0 n (omega arith)
 greatest_le (f ∷ fs) n = most (depth f) (greatest (map depth fs)) n ∙ ap (λ b. nat_le (depth f) n && b) (greatest_le fs n) where
   most : (a b k : ℕ) → nat_le (max a b) k ≡ (nat_le a k && nat_le b k)
   most a b k = grind (arith, nat_tests)
 
 -- a list of less than two parts
 pub shallow_few : (fs : List Formula) (n : ℕ) → length fs < 2 → nat_le (list_depth (map depth fs)) n ≡ list_all (λ f. nat_le (depth f) n) fs
-shallow_few fs n few = rw (length-map fs depth, lt-leb (length fs) 2 few) (greatest_le fs n)
+shallow_few fs n few = rw (length-map fs depth, lt-leb 2 (length fs) few) (greatest_le fs n)
 
 -- a list of two or more
 pub shallow_many : (fs : List Formula) (n k : ℕ) → 2 ≤ length fs → n ≡ k + 1 → nat_le (list_depth (map depth fs)) n ≡ list_all (λ f. nat_le (depth f) k) fs

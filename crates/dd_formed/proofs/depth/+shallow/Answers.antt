@@ -1,7 +1,7 @@
-use Rattle.std.proofs.Common.{sym, ◌∙◌, arith}
+use Rattle.std.proofs.Common.{◌-◌, sym, ◌∙◌, arith}
 use Rattle.std.specs.Prelude.{nat_le}
 use Rattle.dd_expansion.specs.Limits.{depth}
-use Rattle.dd_formed.proofs.Layers.{some_fails, one_more, all_pass}
+use Rattle.dd_formed.proofs.Layers.{shallow_many, some_fails, one_more, all_pass}
 use Rattle.dd_formed.proofs.depth.+shallow.Goals as goal
 
 pub are_shallow-returns-then-not-is_shallow : goal.are_shallow-returns-then-not-is_shallow
@@ -14,3 +14,7 @@ are_shallow-loop-part-preserved t c =
 
 pub are_shallow-returns : goal.are_shallow-returns
 are_shallow-returns t c = sym (all_pass (λ f. nat_le (depth f) c.args.most) c.args.parts.now c.loop-part.part-index (omega (arith, c.loop-part-test.false)) c.loop-part.invariant)
+
+pub is_list_shallow-returns : goal.is_list_shallow-returns
+is_list_shallow-returns t c =
+    c.are_shallow-2.ensures ∙ sym (shallow_many c.args.parts.now c.args.most (c.args.most - 1) (grind (arith, c.if-parts-lt2.false)) (grind (arith, c.if-most-eq0.false)))
