@@ -2,6 +2,7 @@
 ghost use Rattle.std.specs.Prelude.{◌≡◌, ◌≤◌, ◌<◌, ◌↔◌, IsTrue, IfOk, IfErr, OnOk, All};
 ghost use Rattle.std.specs.List.{IsDistinct};
 ghost use Rattle.std.specs.Ordering.{is_eq};
+ghost use Rattle.dd_values.specs.Bounds.{most_weight};
 ghost use Rattle.dd_lattice.specs.Order.{place_cmp};
 ghost use Rattle.dd_formula.specs.LocalRule.{IsRule};
 ghost use Rattle.dd_formula.specs.Living.{Fits};
@@ -29,17 +30,19 @@ const WIDEST_RADIUS: u32 = 3;
 const MOST_VECTORS: usize = 16;
 const FARTHEST: u32 = 4;
 
+fn are_below(symbols: &[u32], limit: u32) -> bool
+    ensures { IsTrue result ↔ All (λ s. s < limit) symbols.now }
+{
+    symbols.iter().all(|&symbol| symbol < limit)
+}
+
 /// Whether the configuration has the rule's dimension, nodes and symbols.
 fn fits(rule: &Rule, configuration: &Periodic) -> bool
     ensures { IsTrue result ↔ Fits rule.now configuration.now }
 {
-    let symbols = rule.symbols();
     configuration.dim() == rule.dim()
         && configuration.nodes() == rule.nodes()
-        && configuration
-            .symbols()
-            .iter()
-            .all(|&symbol| symbol < symbols)
+        && are_below(configuration.symbols(), rule.symbols())
 }
 
 /// Whether each symbol of the fundamental box is one that its node allows.
@@ -153,13 +156,18 @@ fn is_strip(rule: &Rule, periods: [u32; 2]) -> bool
         && (3 <= dimension || z == 1)
 }
 
+fn are_light(weights: &[u32]) -> bool
+    ensures { IsTrue result ↔ All (λ w. w ≤ most_weight) weights.now }
+{
+    weights.iter().all(|&weight| weight <= MOST_WEIGHT)
+}
+
 /// Whether there is one weight of at most 1,000 for each symbol.
 fn has_weights(rule: &Rule, weights: &[u32]) -> bool
     ensures of_strip { IsTrue result ↔ HasWeights rule.now weights.now }
     ensures of_discharge { IsTrue result ↔ AreWeightsFor rule.now weights.now }
 {
-    weights.len() == rule.symbols() as usize
-        && weights.iter().all(|&weight| weight <= MOST_WEIGHT)
+    weights.len() == rule.symbols() as usize && are_light(weights)
 }
 
 #[tactic(auto, using(crate::specs::Questions::strip_fault, crate::specs::Questions::weights_fault))]
