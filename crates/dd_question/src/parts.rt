@@ -1,9 +1,10 @@
 //! Whether the parts of a question go together.
 ghost use Rattle.std.specs.Prelude.{◌≡◌, ◌≤◌, ◌<◌, ◌↔◌, IsTrue, IfOk, IfErr, OnOk, All};
-ghost use Rattle.std.specs.List.{IsDistinct};
+ghost use Rattle.std.specs.List.{IsDistinct, list_any};
 ghost use Rattle.std.specs.Ordering.{is_eq};
 ghost use Rattle.dd_values.specs.Bounds.{most_weight};
 ghost use Rattle.dd_lattice.specs.Order.{place_cmp};
+ghost use Rattle.dd_expansion.specs.Placed.{is_flat};
 ghost use Rattle.dd_formula.specs.LocalRule.{IsRule};
 ghost use Rattle.dd_formula.specs.Living.{Fits};
 ghost use Rattle.dd_formula.specs.Allowed.{HasAllowed};
@@ -11,6 +12,7 @@ ghost use Rattle.dd_strip.specs.Strips.{IsStrip, HasWeights};
 ghost use Rattle.dd_boxes.specs.Goals.{AreAlike, AreOver, IsGoalFor, KeepsRule};
 ghost use Rattle.dd_boxes.specs.Discharges.{IsVector, AreVectors, AreWeightsFor};
 ghost use Rattle.dd_boxes.specs.Views.{goal_of, numbers_of};
+ghost use Rattle.dd_question.specs.measuring.Near.{IsNear};
 ghost use Rattle.dd_question.specs.Questions as asked;
 ghost use Rattle.dd_question.specs.Questions.{IsFormed, IsPartFault};
 
@@ -83,7 +85,9 @@ fn are_alike(left: &Rule, right: &Rule) -> bool
     ensures left { IsRule left.now }
     ensures right { IsRule right.now }
 {
-    right.dim() == left.dim() && right.nodes() == left.nodes() && right.symbols() == left.symbols()
+    let nodes = left.nodes();
+    let others = right.nodes();
+    others == nodes && right.dim() == left.dim() && right.symbols() == left.symbols()
 }
 
 /// Whether both automata are well formed over the numbers of the rule.
@@ -190,22 +194,40 @@ pub(crate) fn check_density(
     Ok(())
 }
 
-fn is_vector(dimension: u32, vector: &Position) -> bool
-    ensures { IsTrue result ↔ IsVector dimension vector.now }
+/// Whether the coordinates past the dimension are 0.
+fn is_flat(dimension: u32, vector: &Position) -> bool
+    ensures { result ≡ is_flat dimension vector.now }
+{
+    (1 < dimension || vector.y == 0) && (2 < dimension || vector.z == 0)
+}
+
+fn is_near(vector: &Position) -> bool
+    ensures { IsTrue result ↔ IsNear vector.now }
 {
     vector.x.unsigned_abs() <= FARTHEST
         && vector.y.unsigned_abs() <= FARTHEST
         && vector.z.unsigned_abs() <= FARTHEST
-        && (2 <= dimension || vector.y == 0)
-        && (3 <= dimension || vector.z == 0)
 }
 
+fn is_vector(dimension: u32, vector: &Position) -> bool
+    ensures { IsTrue result ↔ IsVector dimension vector.now }
+{
+    is_near(vector) && is_flat(dimension, vector)
+}
+
+fn is_among(vector: &Position, others: &[Position]) -> bool
+    ensures { result ≡ list_any (λ q. is_eq (place_cmp vector.now q)) others.now }
+{
+    others.iter().any(|other| vector.cmp(other).is_eq())
+}
+
+#[tactic(auto, using(crate::proofs::PartLaws::distinct_none, crate::proofs::PartLaws::distinct_more, crate::proofs::PartLaws::distinct_first, crate::proofs::PartLaws::distinct_rest))]
 fn are_distinct(vectors: &[Position]) -> bool
     ensures { IsTrue result ↔ IsDistinct (λ p q. is_eq (place_cmp p q)) vectors.now }
 {
     match vectors {
         [] => true,
-        [first, rest @ ..] => !rest.contains(first) && are_distinct(rest),
+        [first, rest @ ..] => !is_among(first, rest) && are_distinct(rest),
     }
 }
 
