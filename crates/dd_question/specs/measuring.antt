@@ -1,2 +1,2 @@
 pub mod Measured
-pub mod Near
+pub mod Vectors

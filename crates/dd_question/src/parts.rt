@@ -1,9 +1,6 @@
 //! Whether the parts of a question go together.
 ghost use Rattle.std.specs.Prelude.{◌≡◌, ◌≤◌, ◌<◌, ◌↔◌, IsTrue, IfOk, IfErr, OnOk, All};
-ghost use Rattle.std.specs.List.{IsDistinct, list_any};
-ghost use Rattle.std.specs.Ordering.{is_eq};
 ghost use Rattle.dd_values.specs.Bounds.{most_weight};
-ghost use Rattle.dd_lattice.specs.Order.{place_cmp};
 ghost use Rattle.dd_expansion.specs.Placed.{is_flat};
 ghost use Rattle.dd_formula.specs.LocalRule.{IsRule};
 ghost use Rattle.dd_formula.specs.Living.{Fits};
@@ -12,7 +9,7 @@ ghost use Rattle.dd_strip.specs.Strips.{IsStrip, HasWeights};
 ghost use Rattle.dd_boxes.specs.Goals.{AreAlike, AreOver, IsGoalFor, KeepsRule};
 ghost use Rattle.dd_boxes.specs.Discharges.{IsVector, AreVectors, AreWeightsFor};
 ghost use Rattle.dd_boxes.specs.Views.{goal_of, numbers_of};
-ghost use Rattle.dd_question.specs.measuring.Near.{IsNear};
+ghost use Rattle.dd_question.specs.measuring.Vectors.{IsNear, is_among, are_apart};
 ghost use Rattle.dd_question.specs.Questions as asked;
 ghost use Rattle.dd_question.specs.Questions.{IsFormed, IsPartFault};
 
@@ -216,18 +213,18 @@ fn is_vector(dimension: u32, vector: &Position) -> bool
 }
 
 fn is_among(vector: &Position, others: &[Position]) -> bool
-    ensures { result ≡ list_any (λ q. is_eq (place_cmp vector.now q)) others.now }
+    ensures { result ≡ is_among vector.now others.now }
 {
     others.iter().any(|other| vector.cmp(other).is_eq())
 }
 
-#[tactic(auto, using(crate::proofs::PartLaws::distinct_none, crate::proofs::PartLaws::distinct_more, crate::proofs::PartLaws::distinct_first, crate::proofs::PartLaws::distinct_rest))]
-fn are_distinct(vectors: &[Position]) -> bool
-    ensures { IsTrue result ↔ IsDistinct (λ p q. is_eq (place_cmp p q)) vectors.now }
+/// Whether no vector is one of those behind it.
+fn are_apart(vectors: &[Position]) -> bool
+    ensures { result ≡ are_apart vectors.now }
 {
     match vectors {
         [] => true,
-        [first, rest @ ..] => !is_among(first, rest) && are_distinct(rest),
+        [first, rest @ ..] => !is_among(first, rest) && are_apart(rest),
     }
 }
 
@@ -243,12 +240,13 @@ fn are_short(dimension: u32, vectors: &[Position]) -> bool
 }
 
 /// Whether amounts may be given along these vectors.
+#[tactic(auto, using(crate::proofs::PartLaws::apart_distinct))]
 fn are_vectors(dimension: u32, vectors: &[Position]) -> bool
     ensures { IsTrue result ↔ AreVectors dimension vectors.now }
 {
     1 <= vectors.len()
         && vectors.len() <= MOST_VECTORS
-        && are_distinct(vectors)
+        && are_apart(vectors)
         && are_short(dimension, vectors)
 }
 
