@@ -10,8 +10,11 @@ use dd_topology::Topology;
 /// The greatest number of moves of a term, and of balls of a quantifier, the greatest radius of a ball, and how deep a formula is at
 /// most.
 const MOST_MOVES: usize = 16;
+
 const MOST_BALLS: usize = 4;
+
 const WIDEST_RADIUS: u32 = 3;
+
 const MOST_NESTED: u32 = 64;
 
 /// What formulas may name: the labels and nodes of a topology, and symbols.

@@ -24,9 +24,13 @@ use std::alloc::{AllocError, Global};
 /// The greatest period of a strip, the greatest weight, the greatest radius and margin of a discharge, and the greatest number of its
 /// vectors and their greatest coordinate.
 const LONGEST: u32 = 64;
+
 const MOST_WEIGHT: u32 = 1000;
+
 const WIDEST_RADIUS: u32 = 3;
+
 const MOST_VECTORS: usize = 16;
+
 const FARTHEST: u32 = 4;
 
 fn are_below(symbols: &[u32], limit: u32) -> bool
