@@ -6,8 +6,7 @@ use Rattle.dd_values.specs.declared.limits.Limits.{Limits}
 use Rattle.dd_boxes.specs.{Goals.differ, Views.numbers_of}
 use Rattle.dd_question.specs.{Questions.Asked, Questions.box, Formed.IsFormed, Excesses.excess_of, Sound.IsSoundAsked}
 use Rattle.dd_script.specs.{Parts.Parts, Parts.LocalRule, Parts.Automaton, Parts.Query, Questions.asked, Questions.of_three, Asking.AreOf, Asking.AreSound}
-use Rattle.dd_script.specs.Kept.{IsQueryOf, AreNamed, IsScriptOf, IsAutomaton, IsQueryWithin, IsRuleOf, script_numbers}
-use Rattle.dd_script.proofs.Vectors.{vectors_of}
+use Rattle.dd_script.specs.Kept.{IsQueryOf, AreNamed, IsScriptOf, IsAutomatonOf, IsQueryWithin, IsRuleOf}
 
 -- an item of a list of such items
 item_at : {X : Type 0} {P : X → Type 0} {names : List (List ℕ)} {xs : List X} → AreNamed P names xs → (n : ℕ) → IfSome (slice_get xs n) P
@@ -18,7 +17,7 @@ module _ (s : Parts) (ok : IsScriptOf s) where
   abbrev FitsIn : Asked → Type 0
   FitsIn a = IsFormed a × AreOf s.known a
 
-  agreement_fits : (o : Option LocalRule) (p q : Option Automaton) → IfSome o (IsRuleOf s.known.setting) → IfSome p (IsAutomaton (script_numbers s.known)) → IfSome q (IsAutomaton (script_numbers s.known))
+  agreement_fits : (o : Option LocalRule) (p q : Option Automaton) → IfSome o (IsRuleOf s.known.setting) → IfSome p (IsAutomatonOf s.known.setting) → IfSome q (IsAutomatonOf s.known.setting)
       → IfSome (of_three (λ x f g. box x (differ (numbers_of x) f g)) o p q) FitsIn
   agreement_fits None p q of one other = tt
   agreement_fits (Some x) None q of one other = tt
@@ -26,7 +25,7 @@ module _ (s : Parts) (ok : IsScriptOf s) where
   agreement_fits (Some x) (Some f) (Some g) of one other = grind arith
 
   asked_fits : (q : Query) → IsQueryWithin s.known q → IfSome (asked s q) FitsIn
-  asked_fits (Query.Discharge rule radius margin vectors) within = grind (arith, item_at ok.rules rule, vectors_of _ vectors within.3)
+  asked_fits (Query.Discharge rule radius margin vectors) within = grind (arith, item_at ok.rules rule, within.3)
   asked_fits (Query.Agree left right rule) within = agreement_fits _ _ _ (item_at ok.rules rule) (item_at ok.automata left) (item_at ok.automata right)
   asked_fits q within = grind (arith, item_at ok.rules, item_at ok.automata, item_at ok.configurations)
 
