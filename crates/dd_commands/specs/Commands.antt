@@ -54,19 +54,19 @@ pub record AreCases (bytes : List ℕ) (cases : List Case) (default : Name) (tok
   pub before : ReadsAll (IsCase bytes) cases tokens last
   pub otherwise : IsBehind bytes (codes "else") last (name_lexeme default ∷ [])
 
--- ---- questions
+-- ---- queries
 
--- the vectors at the end of a question
+-- the vectors at the end of a query
 abbrev pub AreLists : Lists → List Vector → Type 0
 AreLists Lists.None vs = vs ≡ []
 AreLists Lists.Strip vs = (v : Vector) × (vs ≡ v ∷ []) × (is_plain v ≡ true)
 AreLists Lists.Vectors vs = 1 ≤ length vs
 
--- a question has what its row says
+-- a query has what the row of its kind says
 pub record IsRequest (r : Request) : Type 0 where
-  pub words : length r.words ≡ length (row r.question).names
-  pub numbers : length r.numbers ≡ (row r.question).numbers
-  pub vectors : AreLists (row r.question).lists r.vectors
+  pub words : length r.words ≡ length (row r.kind).names
+  pub numbers : length r.numbers ≡ (row r.kind).numbers
+  pub vectors : AreLists (row r.kind).lists r.vectors
 
 abbrev pub request_text : Request → List Lexeme
 request_text r = map Lexeme.Word r.words ++ (map Lexeme.Number r.numbers ++ flat_map vector_text r.vectors)

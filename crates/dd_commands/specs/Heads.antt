@@ -1,6 +1,6 @@
 -- The first words of commands, the order of commands, and the names of topologies.
 use Rattle.std.specs.Prelude.{ℕ, ◌+◌, List, Bool, true, false, if◌then◌else◌, codes}
-use Rattle.dd_commands.specs.{Tree.Kind, Tree.Head, Tree.Command, Table.row}
+use Rattle.dd_commands.specs.{Tree.Kind, Tree.Head, Tree.Command, Table.kind_word}
 
 -- The first word; the place in the order of commands, where each stands behind all of a lower place; and whether it is given once.
 pub record HeadRow : Type 0 where
@@ -24,7 +24,7 @@ head_row Head.Rule = entry (codes "rule") 7 false
 head_row Head.Automaton = entry (codes "auto") 7 false
 head_row Head.Composition = entry (codes "compose") 7 false
 head_row Head.Configuration = entry (codes "conf") 7 false
-head_row (Head.Question q) = entry (row q).word 7 false
+head_row (Head.Query k) = entry (kind_word k) 7 false
 
 abbrev pub head_text : Head → List ℕ
 head_text h = (head_row h).word
@@ -52,7 +52,7 @@ head_of (Command.Rule name f) = Head.Rule
 head_of (Command.Automaton name cases symbol) = Head.Automaton
 head_of (Command.Composition name outer inner) = Head.Composition
 head_of (Command.Configuration name periods shear symbols) = Head.Configuration
-head_of (Command.Query r) = Head.Question r.question
+head_of (Command.Query r) = Head.Query r.kind
 
 abbrev pub kind_text : Kind → List ℕ
 kind_text Kind.Line = codes "line"

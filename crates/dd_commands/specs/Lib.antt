@@ -1,6 +1,6 @@
 -- the types of what is written
 pub mod Tree
--- the table of questions
+-- the table of queries
 pub mod Table
 -- the first words of commands, and their order
 pub mod Heads

@@ -134,7 +134,7 @@ fn body<'a>(from: Source, head: Head, tokens: &'a [Lexeme]) -> Read<'a, Command>
             Ok((Command::Composition { name, outer, inner }, rest))
         }
         Head::Configuration => configuration(from, tokens),
-        Head::Question(question) => query(from, question, tokens),
+        Head::Query(kind) => query(from, kind, tokens),
     }
 }
 

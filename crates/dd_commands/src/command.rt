@@ -1,5 +1,5 @@
 //! Commands as they are written.
-use crate::table::Question;
+use crate::table::QueryKind;
 use dd_topology::Kind;
 use dd_values::Items;
 use dd_written::{Formula, Name, Number, Word};
@@ -35,10 +35,10 @@ pub struct Case {
     pub symbol: Name,
 }
 
-/// A question with what stands behind its first word: as many words, numbers and vectors as its row says.
+/// A query as it is written: its kind, and behind its first word as many words, numbers and vectors as the row of the kind says.
 #[derive(Debug, Drop)]
 pub struct Request {
-    pub question: Question,
+    pub kind: QueryKind,
     pub words: Items<Word>,
     pub numbers: Items<Number>,
     pub vectors: Items<Vector>,
@@ -106,6 +106,6 @@ pub enum Command {
         shear: Option<Vector>,
         symbols: Items<Name>,
     },
-    /// A question about what was defined.
+    /// A query about what was defined.
     Query(Request),
 }

@@ -1,5 +1,5 @@
 //! What the first word of a command says.
-use crate::table::Question;
+use crate::table::QueryKind;
 
 /// What the first word of a command says.
 #[derive(Clone, Copy, Debug, PartialEq, Eq)]
@@ -26,6 +26,6 @@ pub enum Head {
     Composition,
     /// `conf`
     Configuration,
-    /// The first word of a question, by its row.
-    Question(Question),
+    /// The first word of a query, by its row.
+    Query(QueryKind),
 }

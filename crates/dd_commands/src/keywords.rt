@@ -2,11 +2,12 @@
 ghost use Rattle.std.specs.Prelude.{◌≡◌, ◌≤◌};
 ghost use Rattle.dd_written.specs.reading.Readers.{Gives};
 ghost use Rattle.dd_commands.specs.Heads.{head_row, head_text, next_stage, kind_text};
-ghost use Rattle.dd_commands.specs.reading.Commands.{one_of, keyword, heads, kinds, wanted};
+ghost use Rattle.dd_commands.specs.Table.{kind_word, query_kinds};
+ghost use Rattle.dd_commands.specs.reading.Commands.{one_of, keyword, heads, other_heads, kinds, wanted};
 
 use crate::head::Head;
 use crate::reading::{FromTokens, Read, Source};
-use crate::table::Question;
+use crate::table::QueryKind;
 use dd_topology::Kind::{self, Cube, Hex, King, Line, Square, Triangle};
 use dd_written::{Lexeme, ReadFault, Word, same_bytes, word_bytes};
 
@@ -48,7 +49,7 @@ impl Head {
             Head::Automaton => row(b"auto", 7, false),
             Head::Composition => row(b"compose", 7, false),
             Head::Configuration => row(b"conf", 7, false),
-            Head::Question(question) => row(question.row().word, 7, false),
+            Head::Query(kind) => row(kind.row().word, 7, false),
         }
     }
 
@@ -61,14 +62,36 @@ impl Head {
     }
 }
 
-/// The first word of a command that these bytes are.
-fn head(written: &[u8]) -> Option<Head>
-    ensures { result ≡ one_of head_text heads written.now }
+/// The first word of a query that these bytes are.
+fn query_kind(written: &[u8]) -> Option<QueryKind>
+    ensures { result ≡ one_of kind_word query_kinds written.now }
 {
-    HEADS
+    QueryKind::ALL
+        .iter()
+        .copied()
+        .find(|kind| same_bytes(written, kind.row().word))
+}
+
+/// The first word of another command that these bytes are.
+fn other_head(written: &[u8]) -> Option<Head>
+    ensures { result ≡ one_of head_text other_heads written.now }
+{
+    OTHER_HEADS
         .iter()
         .copied()
         .find(|head| same_bytes(written, head.row().word))
+}
+
+/// The first word of a command that these bytes are.
+#[tactic(auto, using(crate::specs::lemmas::Words::either_head))]
+fn head(written: &[u8]) -> Option<Head>
+    ensures { result ≡ one_of head_text heads written.now }
+{
+    if let Some(head) = other_head(written) {
+        return Some(head);
+    }
+    let kind = query_kind(written)?;
+    Some(Head::Query(kind))
 }
 
 impl FromTokens for Head {
@@ -125,7 +148,7 @@ pub(crate) fn wanted<'a>(from: Source, text: &[u8], tokens: &'a [Lexeme]) -> Rea
     Ok((word, rest))
 }
 
-const HEADS: [Head; 19] = [
+const OTHER_HEADS: [Head; 11] = [
     Head::Dimension,
     Head::Nodes,
     Head::Alphabet,
@@ -137,14 +160,6 @@ const HEADS: [Head; 19] = [
     Head::Automaton,
     Head::Composition,
     Head::Configuration,
-    Head::Question(Question::Member),
-    Head::Question(Question::Contains),
-    Head::Question(Question::Equal),
-    Head::Question(Question::Empty),
-    Head::Question(Question::Agree),
-    Head::Question(Question::Forbidden),
-    Head::Question(Question::Density),
-    Head::Question(Question::Discharge),
 ];
 
 const KINDS: [Kind; 6] = [Line, Square, King, Triangle, Hex, Cube];

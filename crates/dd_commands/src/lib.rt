@@ -1,4 +1,4 @@
-//! Commands and scripts as they are written. Questions go by a table, which says of each what its words name, how many numbers
+//! Commands and scripts as they are written. Queries go by a table, which says of each what its words name, how many numbers
 //! follow them, and which vectors.
 #![tactic(auto)]
 
@@ -18,4 +18,4 @@ pub use command::{Case, Command, Edge, Entry, Request, Vector};
 pub use fault::SyntaxFault;
 pub use laws::{one_fault, one_tree, tree_or_fault};
 pub use script::{Syntax, Written, read};
-pub use table::{Lists, Question, QuestionRow, Role};
+pub use table::{Lists, QueryKind, QueryRow, Role};

@@ -1,4 +1,4 @@
-//! Questions, read by their rows.
+//! Queries, read by their rows.
 ghost use Rattle.std.specs.Prelude.{◌≡◌};
 ghost use Rattle.dd_written.specs.reading.Readers.{Gives};
 ghost use Rattle.dd_commands.specs.declared.head.Head.TheVariants as head;
@@ -6,12 +6,12 @@ ghost use Rattle.dd_commands.specs.reading.Commands.{lists_at, body};
 
 use crate::command::{Command, Request, Vector};
 use crate::reading::{Read, Source, exactly, some};
-use crate::table::{Lists, Question};
+use crate::table::{Lists, QueryKind};
 use crate::vectors::plain;
 use dd_values::Items;
 use dd_written::{Lexeme, ReadFault};
 
-/// The vectors at the end of a question.
+/// The vectors at the end of a query.
 fn lists<'a>(from: Source, lists: Lists, tokens: &'a [Lexeme]) -> Read<'a, Items<Vector>>
     ensures { Gives (λ x. (x.0, x.1.now)) result (lists_at lists tokens.now) }
 {
@@ -27,16 +27,16 @@ fn lists<'a>(from: Source, lists: Lists, tokens: &'a [Lexeme]) -> Read<'a, Items
     }
 }
 
-/// What stands behind the first word of a question.
-pub(crate) fn query<'a>(from: Source, question: Question, tokens: &'a [Lexeme]) -> Read<'a, Command>
-    ensures { Gives (λ x. (x.0, x.1.now)) result (body from.entry.bytes.now (head.Question question) tokens.now) }
+/// What stands behind the first word of a query.
+pub(crate) fn query<'a>(from: Source, kind: QueryKind, tokens: &'a [Lexeme]) -> Read<'a, Command>
+    ensures { Gives (λ x. (x.0, x.1.now)) result (body from.entry.bytes.now (head.Query kind) tokens.now) }
 {
-    let row = question.row();
+    let row = kind.row();
     let (words, rest) = exactly(from, row.names.len(), tokens)?;
     let (numbers, rest) = exactly(from, row.numbers, rest)?;
     let (vectors, rest) = lists(from, row.lists, rest)?;
     let request = Request {
-        question,
+        kind,
         words,
         numbers,
         vectors,

@@ -70,7 +70,7 @@ impl Command {
             Command::Automaton { .. } => Head::Automaton,
             Command::Composition { .. } => Head::Composition,
             Command::Configuration { .. } => Head::Configuration,
-            Command::Query(request) => Head::Question(request.question),
+            Command::Query(request) => Head::Query(request.kind),
         }
     }
 }

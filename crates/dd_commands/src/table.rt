@@ -1,11 +1,11 @@
-//! The table of questions: of each its first word, what its further words name, how many numbers follow them, and which vectors
-//! follow these. A question is read, checked and resolved by its row alone.
+//! The table of queries: of each kind its first word, what its further words name, how many numbers follow them, and which vectors
+//! follow these. A query is read, checked and resolved by its row alone.
 ghost use Rattle.std.specs.Prelude.{◌≡◌};
 ghost use Rattle.dd_commands.specs.Table.{row};
 
 use Role::{Automaton, Configuration, Rule};
 
-/// What a word of a question names.
+/// What a word of a query names.
 #[derive(Clone, Copy, Debug, PartialEq, Eq)]
 pub enum Role {
     /// A rule.
@@ -16,7 +16,7 @@ pub enum Role {
     Configuration,
 }
 
-/// The vectors at the end of a question.
+/// The vectors at the end of a query.
 #[derive(Clone, Copy, Debug, PartialEq, Eq)]
 pub enum Lists {
     /// No vector.
@@ -27,9 +27,9 @@ pub enum Lists {
     Vectors,
 }
 
-/// The questions.
+/// The kinds of queries.
 #[derive(Clone, Copy, Debug, PartialEq, Eq)]
-pub enum Question {
+pub enum QueryKind {
     /// `member c X`: does the configuration obey the rule?
     Member,
     /// `contains Y X`: does each configuration that obeys X obey Y?
@@ -48,9 +48,9 @@ pub enum Question {
     Discharge,
 }
 
-/// The row of a question.
+/// The row of a kind of query.
 #[derive(Clone, Copy)]
-pub struct QuestionRow {
+pub struct QueryRow {
     /// The first word.
     pub word: &'static [u8],
     /// What the further words name.
@@ -61,13 +61,13 @@ pub struct QuestionRow {
     pub lists: Lists,
 }
 
-fn entry(word: &'static [u8], names: &'static [Role], numbers: usize, lists: Lists) -> QuestionRow
+fn entry(word: &'static [u8], names: &'static [Role], numbers: usize, lists: Lists) -> QueryRow
     ensures word { result.word.now ≡ word.now }
     ensures names { result.names.now ≡ names.now }
     ensures numbers { result.numbers ≡ numbers }
     ensures lists { result.lists ≡ lists }
 {
-    QuestionRow {
+    QueryRow {
         word,
         names,
         numbers,
@@ -75,23 +75,35 @@ fn entry(word: &'static [u8], names: &'static [Role], numbers: usize, lists: Lis
     }
 }
 
-impl Question {
-    /// The row of a question.
-    pub fn row(self) -> QuestionRow
+impl QueryKind {
+    /// All kinds, in the order of the table.
+    pub(crate) const ALL: [QueryKind; 8] = [
+        QueryKind::Member,
+        QueryKind::Contains,
+        QueryKind::Equal,
+        QueryKind::Empty,
+        QueryKind::Agree,
+        QueryKind::Forbidden,
+        QueryKind::Density,
+        QueryKind::Discharge,
+    ];
+
+    /// The row of a kind.
+    pub fn row(self) -> QueryRow
         ensures word { result.word.now ≡ (row self).word }
         ensures names { result.names.now ≡ (row self).names }
         ensures numbers { result.numbers ≡ (row self).numbers }
         ensures lists { result.lists ≡ (row self).lists }
     {
         match self {
-            Question::Member => entry(b"member", &[Configuration, Rule], 0, Lists::None),
-            Question::Contains => entry(b"contains", &[Rule, Rule], 0, Lists::None),
-            Question::Equal => entry(b"equal", &[Rule, Rule], 0, Lists::None),
-            Question::Empty => entry(b"empty", &[Rule], 0, Lists::None),
-            Question::Agree => entry(b"same", &[Automaton, Automaton, Rule], 0, Lists::None),
-            Question::Forbidden => entry(b"forbidden", &[Rule], 0, Lists::None),
-            Question::Density => entry(b"density", &[Rule], 0, Lists::Strip),
-            Question::Discharge => entry(b"discharge", &[Rule], 2, Lists::Vectors),
+            QueryKind::Member => entry(b"member", &[Configuration, Rule], 0, Lists::None),
+            QueryKind::Contains => entry(b"contains", &[Rule, Rule], 0, Lists::None),
+            QueryKind::Equal => entry(b"equal", &[Rule, Rule], 0, Lists::None),
+            QueryKind::Empty => entry(b"empty", &[Rule], 0, Lists::None),
+            QueryKind::Agree => entry(b"same", &[Automaton, Automaton, Rule], 0, Lists::None),
+            QueryKind::Forbidden => entry(b"forbidden", &[Rule], 0, Lists::None),
+            QueryKind::Density => entry(b"density", &[Rule], 0, Lists::Strip),
+            QueryKind::Discharge => entry(b"discharge", &[Rule], 2, Lists::Vectors),
         }
     }
 }

@@ -2,8 +2,9 @@
 use Rattle.std.specs.Prelude.{◌≡◌, ℕ, ◌≤◌, ◌+◌, ◌*◌, ◌%◌, List, [], ◌∷◌, ◌++◌, length, Bool, true, false, not, ◌&&◌, ◌||◌, ◌==◌, nat_le, nat_lt, Option, Some, None, slice_get, if◌then◌else◌}
 use Rattle.std.specs.Option.{option_map_or}
 use Rattle.dd_topology.specs.Sets.{allows}
+use Rattle.dd_known.specs.{Known.dimension_of, Limits.most_in_box}
 use Rattle.dd_faults.specs.Tree.{Name, Entry, Vector, Limit, Fault, Known, Context}
-use Rattle.dd_faults.specs.{Order.when, Order.over, Names.place_of_name, Numbers.dimension_of, Numbers.entry_value, Numbers.has_entries}
+use Rattle.dd_faults.specs.{Order.when, Order.over, Names.place_of_name, Numbers.entry_value, Numbers.has_entries}
 
 -- there is a node, and each node has its symbols
 abbrev pub HasSets : Known → Type 0
@@ -43,5 +44,5 @@ box_fits x periods shear count =
 -- where the numbers of entries fit, no period is 0, since there is a symbol
 abbrev pub box_faults : Context → Vector → Option Vector → ℕ → List Fault
 box_faults x periods shear count =
-    if box_fits x periods shear count then over (nat_lt 65536 count || nat_le (period_at x.text periods 0) (shear_of x.text shear)) Limit.Periods
+    if box_fits x periods shear count then over (nat_lt most_in_box count || nat_le (period_at x.text periods 0) (shear_of x.text shear)) Limit.Periods
     else Fault.Dimension ∷ []

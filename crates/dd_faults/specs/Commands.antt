@@ -6,10 +6,12 @@ use Rattle.dd_faults.specs.Tree.{Kind, Word, Number, Name, Role, Lists, Entry, V
 use Rattle.dd_topology.specs.Builtin.{grid_of}
 use Rattle.dd_written.specs.Values.{written_value}
 use Rattle.dd_commands.specs.Table.{row}
+use Rattle.dd_known.specs.Known.{dimension_of, named}
+use Rattle.dd_known.specs.Limits.{most_axes, most_nodes, most_symbols, most_edges, most_vectors, longest_strip, greatest_radius, greatest_period, most_pivots}
 use Rattle.dd_faults.specs.{Order.when, Order.over, Formulas.formula_faults}
-pub use Rattle.dd_faults.specs.Numbers.{unless, dimension_of, token_faults, entry_number, entry_value, signed_value, has_entries, is_far}
+pub use Rattle.dd_faults.specs.Numbers.{unless, token_faults, entry_number, entry_value, signed_value, has_entries, is_far}
 pub use Rattle.dd_faults.specs.Boxes.{HasSets, is_allowed, symbol_faults, product, period_at, shear_of, shear_fits, box_fits, box_faults}
-use Rattle.dd_faults.specs.Names.{place_of_name, missing, named, named_again}
+use Rattle.dd_faults.specs.Names.{place_of_name, missing, named_again}
 use Rattle.dd_faults.specs.Repeats.{twice_named, twice_labelled, twice_vectors}
 
 -- ---- the header
@@ -31,14 +33,14 @@ abbrev pub weight_faults : Context → Number → List Fault
 weight_faults x n = over (nat_lt most_weight (written_value x.text n)) Limit.Weight
 
 abbrev pub passes_limits : ℕ → ℕ → ℕ → Bool
-passes_limits radius period pivots = nat_lt 8 radius || nat_lt period 1 || nat_lt 8 period || nat_lt 100000 pivots
+passes_limits radius period pivots = nat_lt greatest_radius radius || nat_lt period 1 || nat_lt greatest_period period || nat_lt most_pivots pivots
 
 -- ---- definitions
 
 abbrev pub case_faults : Context → Case → List Fault
 case_faults x c = formula_faults x c.condition [] ++ missing x.text x.known.setting.symbols c.symbol
 
--- ---- questions
+-- ---- queries
 
 abbrev pub word_faults : Context → Role × Word → List Fault
 word_faults x w = missing x.text (named x.known w.0) (Name.Word w.1)
@@ -46,9 +48,9 @@ word_faults x w = missing x.text (named x.known w.0) (Name.Word w.1)
 abbrev pub radius_faults : Context → Number → List Fault
 radius_faults x n = over (nat_lt widest_radius (written_value x.text n)) Limit.Radius
 
--- a period that is not in 1..64
+-- a period that no strip has
 abbrev pub is_no_strip : List ℕ → Entry → Bool
-is_no_strip bytes e = nat_lt (entry_value bytes e) 1 || nat_lt 64 (entry_value bytes e)
+is_no_strip bytes e = nat_lt (entry_value bytes e) 1 || nat_lt longest_strip (entry_value bytes e)
 
 abbrev pub strip_faults : Context → Vector → List Fault
 strip_faults x v = unless (length v.entries + 1 == dimension_of x.known) ++ over (list_any (is_no_strip x.text) v.entries) Limit.Periods
@@ -59,20 +61,20 @@ vector_faults x v = unless (has_entries (dimension_of x.known) v) ++ over (is_fa
 abbrev pub list_faults : Context → Lists → List Vector → List Fault
 list_faults x Lists.None vs = []
 list_faults x Lists.Strip vs = flat_map (strip_faults x) vs
-list_faults x Lists.Vectors vs = twice_vectors x.text vs ++ (flat_map (vector_faults x) vs ++ over (nat_lt 16 (length vs)) Limit.Vectors)
+list_faults x Lists.Vectors vs = twice_vectors x.text vs ++ (flat_map (vector_faults x) vs ++ over (nat_lt most_vectors (length vs)) Limit.Vectors)
 
 abbrev pub request_faults : Context → Request → List Fault
 request_faults x r =
-    flat_map (word_faults x) (zip (row r.question).names r.words) ++ (flat_map (radius_faults x) r.numbers ++ list_faults x (row r.question).lists r.vectors)
+    flat_map (word_faults x) (zip (row r.kind).names r.words) ++ (flat_map (radius_faults x) r.numbers ++ list_faults x (row r.kind).lists r.vectors)
 
 -- ---- commands
 
 abbrev pub faults_of : Context → Command → List Fault
-faults_of x (Command.Dimension n) = unless (nat_le 1 (written_value x.text n) && nat_le (written_value x.text n) 3)
-faults_of x (Command.Nodes names) = twice_named x.text names ++ (unless (x.has_topology || nat_le (length names) 1) ++ over (nat_lt 4 (length names)) Limit.Nodes)
-faults_of x (Command.Alphabet names) = twice_named x.text names ++ over (nat_lt 16 (length names)) Limit.Alphabet
+faults_of x (Command.Dimension n) = unless (nat_le 1 (written_value x.text n) && nat_le (written_value x.text n) most_axes)
+faults_of x (Command.Nodes names) = twice_named x.text names ++ (unless (x.has_topology || nat_le (length names) 1) ++ over (nat_lt most_nodes (length names)) Limit.Nodes)
+faults_of x (Command.Alphabet names) = twice_named x.text names ++ over (nat_lt most_symbols (length names)) Limit.Alphabet
 faults_of x (Command.Topology k) = unless (kind_fits x.known k)
-faults_of x (Command.Edges es) = flat_map (edge_faults x) es ++ (twice_labelled x.text es ++ over (nat_lt 64 (length es)) Limit.Edges)
+faults_of x (Command.Edges es) = flat_map (edge_faults x) es ++ (twice_labelled x.text es ++ over (nat_lt most_edges (length es)) Limit.Edges)
 faults_of x (Command.Only node symbols) =
     missing x.text x.known.setting.nodes node ++ (when (is_restricted x node) (Fault.Twice node) ++ (flat_map (missing x.text x.known.setting.symbols) symbols ++ twice_named x.text symbols))
 faults_of x (Command.Weights ns) = unless (length ns == length x.known.setting.symbols) ++ flat_map (weight_faults x) ns

@@ -2,6 +2,7 @@
 use Rattle.std.specs.Prelude.{ℕ, List, [], ◌∷◌, ◌++◌, length, Bool, not, ◌&&◌, ◌==◌, nat_lt, if◌then◌else◌}
 use Rattle.std.specs.List.{flat_map}
 use Rattle.dd_values.specs.Bounds.{widest_radius}
+use Rattle.dd_known.specs.Limits.{most_moves, most_balls}
 use Rattle.dd_faults.specs.Tree.{Word, Name, Term, Comparand, Relation, Atom, Ball, Formula, Formula-F, fold-Formula, Limit, Fault, Context}
 use Rattle.dd_written.specs.Values.{written_value}
 use Rattle.dd_faults.specs.{Order.when, Order.over, Names.missing, Names.is_variable, Names.unknown_variable}
@@ -10,7 +11,7 @@ abbrev pub unknown_label : Context → Word → List Fault
 unknown_label x w = missing x.text x.known.setting.topology.labels (Name.Word w)
 
 abbrev pub term_faults : Context → List Word → Term → List Fault
-term_faults x scope t = unknown_variable x.text scope t.first ++ (flat_map (unknown_label x) t.moves ++ over (nat_lt 16 (length t.moves)) Limit.Moves)
+term_faults x scope t = unknown_variable x.text scope t.first ++ (flat_map (unknown_label x) t.moves ++ over (nat_lt most_moves (length t.moves)) Limit.Moves)
 
 -- a single word that is no variable names a symbol
 abbrev pub names_symbol : List ℕ → List Word → Term → Bool
@@ -36,7 +37,7 @@ ball_faults x scope b = unknown_variable x.text scope b.centre ++ over (nat_lt w
 -- a quantifier's variable is in scope in its body, and not in its balls
 abbrev pub quantifier_faults : Context → List Word → Word → List Ball → List Fault
 quantifier_faults x scope w balls =
-    when (is_variable x.text scope w) (Fault.Twice (Name.Word w)) ++ (over (nat_lt 4 (length balls)) Limit.Balls ++ flat_map (ball_faults x scope) balls)
+    when (is_variable x.text scope w) (Fault.Twice (Name.Word w)) ++ (over (nat_lt most_balls (length balls)) Limit.Balls ++ flat_map (ball_faults x scope) balls)
 
 abbrev pub faults_step : Context → Formula-F (List Word → List Fault) → List Word → List Fault
 faults_step x (Formula-F.Atom a) scope = atom_faults x scope a

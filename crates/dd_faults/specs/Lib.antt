@@ -14,8 +14,6 @@ pub mod Numbers
 pub mod Boxes
 -- the faults of commands
 pub mod Commands
--- what every script keeps
-pub mod Sound
 -- what the walk over a command needs of its shape
 pub mod walk
 -- lemmas on what stands above, with their proofs, for whoever cites them

@@ -1,7 +1,7 @@
 -- Names and variables by their texts.
 use Rattle.std.specs.Prelude.{ℕ, ◌+◌, List, Bool, not, ◌||◌, Option, Some, is_some, unwrap_or, option_map, if◌then◌else◌, codes, bytes_eq, position}
 use Rattle.dd_topology.specs.Naming.{number_of}
-use Rattle.dd_faults.specs.Tree.{Word, Name, Role, Fault, Known}
+use Rattle.dd_faults.specs.Tree.{Word, Name, Fault, Known}
 use Rattle.dd_written.specs.Values.{word_text, name_text}
 use Rattle.dd_faults.specs.Order.{when}
 
@@ -16,12 +16,6 @@ missing bytes names n = when (not (is_some (place_of_name bytes names n))) (Faul
 -- the number of a name that is one of the names
 abbrev pub number_in : List ℕ → List (List ℕ) → Name → ℕ
 number_in bytes names n = unwrap_or (place_of_name bytes names n) 0
-
--- the names that words of a role may stand for
-abbrev pub named : Known → Role → List (List ℕ)
-named k Role.Rule = k.rules
-named k Role.Automaton = k.automata
-named k Role.Configuration = k.configurations
 
 -- The number of a variable: 0 for the origin `o`, and from 1 on for those that quantifiers bind, from the outermost on.
 abbrev pub variable_of : List ℕ → List Word → Word → Option ℕ

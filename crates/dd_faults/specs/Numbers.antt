@@ -1,22 +1,20 @@
 -- The faults of tokens, and what is asked of numbers and vectors.
 use Rattle.std.specs.Prelude.{ℕ, List, [], length, Bool, not, ◌==◌, nat_lt, ℤ, pos, ◌-ℤ◌}
 use Rattle.std.specs.List.{list_any}
-use Rattle.dd_faults.specs.Tree.{Number, Lexeme, Entry, Vector, Limit, Fault, Known}
+use Rattle.dd_known.specs.Limits.{most_letters, greatest_number, farthest}
+use Rattle.dd_faults.specs.Tree.{Number, Lexeme, Entry, Vector, Limit, Fault}
 use Rattle.dd_written.specs.Values.{written_value}
 use Rattle.dd_faults.specs.Order.{when, over}
 
 abbrev pub unless : Bool → List Fault
 unless fits = when (not fits) Fault.Dimension
 
-abbrev pub dimension_of : Known → ℕ
-dimension_of k = k.setting.topology.dimension
-
 -- ---- tokens
 
 abbrev pub token_faults : List ℕ → Lexeme → List Fault
-token_faults bytes (Lexeme.Word w) = over (nat_lt 32 w.length) Limit.Word
-token_faults bytes (Lexeme.Number n) = over (nat_lt 1000000 (written_value bytes n)) Limit.Number
-token_faults bytes (Lexeme.Negative n) = over (nat_lt 1000000 (written_value bytes n)) Limit.Number
+token_faults bytes (Lexeme.Word w) = over (nat_lt most_letters w.length) Limit.Word
+token_faults bytes (Lexeme.Number n) = over (nat_lt greatest_number (written_value bytes n)) Limit.Number
+token_faults bytes (Lexeme.Negative n) = over (nat_lt greatest_number (written_value bytes n)) Limit.Number
 token_faults bytes (Lexeme.Mark m) = []
 token_faults bytes Lexeme.Stray = []
 
@@ -38,6 +36,6 @@ signed_value bytes (Entry.Negative n) = pos 0 -ℤ pos (written_value bytes n)
 abbrev pub has_entries : ℕ → Vector → Bool
 has_entries d v = length v.entries == d
 
--- an entry of more than 4 in absolute value
+-- an entry that is too far, in absolute value
 abbrev pub is_far : List ℕ → Vector → Bool
-is_far bytes v = list_any (λ e. nat_lt 4 (entry_value bytes e)) v.entries
+is_far bytes v = list_any (λ e. nat_lt farthest (entry_value bytes e)) v.entries

@@ -1,6 +1,7 @@
 -- What is given twice: the first that is the same as one before it.
 use Rattle.std.specs.Prelude.{ℕ, List, [], ◌∷◌, ◌++◌, if◌then◌else◌, nat_lt, bytes_eq, codes}
 use Rattle.std.specs.{List.list_any, List.flat_map, Fmt.signed_decimal}
+use Rattle.dd_known.specs.Limits.{farthest}
 use Rattle.dd_faults.specs.Tree.{Name, Entry, Vector, Edge, Fault}
 use Rattle.dd_written.specs.Values.{word_text, number_text, name_text}
 use Rattle.dd_faults.specs.Numbers.{entry_number, entry_value, signed_value}
@@ -26,7 +27,7 @@ twice_labelled bytes es = first_repeat (edge_key bytes) twice_label [] es
 -- An entry of at most 4 in absolute value goes by its number, and any other as it is written. So two vectors without far entries are
 -- the same exactly where they have the same numbers.
 abbrev pub entry_key : List ℕ → Entry → List ℕ
-entry_key bytes e = (if nat_lt 4 (entry_value bytes e) then number_text bytes (entry_number e) else signed_decimal (signed_value bytes e)) ++ codes ","
+entry_key bytes e = (if nat_lt farthest (entry_value bytes e) then number_text bytes (entry_number e) else signed_decimal (signed_value bytes e)) ++ codes ","
 
 abbrev pub vector_key : List ℕ → Vector → List ℕ
 vector_key bytes v = flat_map (entry_key bytes) v.entries

@@ -1,4 +1,4 @@
--- The types of what is written, of its faults and of what is known, passed on from one place. Declares nothing.
+-- The types of what is written, of what is known and of faults, passed on from one place. Declares nothing.
 pub use Rattle.dd_topology.specs.declared.{builtin.Kind.Kind}
 pub use Rattle.dd_written.specs.declared.{lexeme.Word.Word, lexeme.Number.Number, lexeme.Lexeme.Lexeme, tree.Name.Name, tree.Term.Term}
 pub use Rattle.dd_written.specs.declared.{tree.Comparand.Comparand, tree.Relation.Relation, tree.Atom.Atom, tree.Ball.Ball}
@@ -8,5 +8,5 @@ pub use Rattle.dd_written.specs.declared.{tree.Formula.TheFolds.fold-roll-Formul
 pub use Rattle.dd_commands.specs.declared.{table.Role.Role, table.Lists.Lists, command.Entry.Entry, command.Vector.Vector}
 pub use Rattle.dd_commands.specs.declared.{command.Edge.Edge, command.Case.Case, command.Request.Request, command.Command.Command}
 pub use Rattle.dd_commands.specs.declared.{script.Written.Written}
-pub use Rattle.dd_faults.specs.declared.{fault.Limit.Limit, fault.Fault.Fault, fault.Refusal.Refusal, context.Setting.Setting}
-pub use Rattle.dd_faults.specs.declared.{context.Known.Known, context.Context.Context}
+pub use Rattle.dd_known.specs.declared.{known.Setting.Setting, known.Known.Known, known.Context.Context}
+pub use Rattle.dd_faults.specs.declared.{fault.Limit.Limit, fault.Fault.Fault, fault.Refusal.Refusal}

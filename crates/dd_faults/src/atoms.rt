@@ -3,11 +3,10 @@ ghost use Rattle.std.specs.Prelude.{◌≡◌};
 ghost use Rattle.dd_faults.specs.Order.{noted};
 ghost use Rattle.dd_faults.specs.Formulas.{unknown_label, term_faults, names_symbol, side_faults, atom_faults, ball_faults, quantifier_faults};
 
-use crate::context::Context;
 use crate::each::{Notes, note_each};
 use crate::fault::{Fault, Found, Limit, note_if, note_over};
-use crate::limits::{MOST_BALLS, MOST_MOVES};
 use crate::names::{is_variable, note_missing, note_variable};
+use dd_known::{Context, MOST_BALLS, MOST_MOVES};
 use dd_values::WIDEST_RADIUS;
 use dd_written::{Atom, Ball, Comparand, Name, Relation, Term, Word, name_text, number_value};
 

@@ -3,11 +3,10 @@ ghost use Rattle.std.specs.Prelude.{◌≡◌, ◌≤◌, ◌<◌, ◌++◌, ◌
 ghost use Rattle.dd_faults.specs.Order.{noted};
 ghost use Rattle.dd_faults.specs.Commands.{HasSets, is_allowed, symbol_faults, product, period_at, shear_of, shear_fits, box_fits, box_faults};
 
-use crate::context::Context;
 use crate::fault::{Done, Fault, Found, Limit, note_if, note_over};
-use crate::limits::{MOST_IN_BOX, TOO_MANY};
 use crate::numbers::{entry_value, has_entries, note_unless};
 use dd_commands::{Entry, Vector};
+use dd_known::{Context, MOST_IN_BOX, TOO_MANY};
 use dd_written::{Name, Text, name_text};
 use std::alloc::AllocError;
 

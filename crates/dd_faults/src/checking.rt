@@ -2,21 +2,21 @@
 ghost use Rattle.std.specs.Prelude.{◌≡◌, OnOk};
 ghost use Rattle.dd_commands.specs.Scripts.{IsWritten};
 ghost use Rattle.dd_faults.specs.{Order.noted, Order.first_fault, Order.Accepts, Commands.faults_of, Commands.written_faults};
-ghost use Rattle.dd_faults.specs.{Sound.IsSound, walk.Shape.HasSymbols, walk.Shape.IsHeader};
+ghost use Rattle.dd_known.specs.Sound.{IsSound};
+ghost use Rattle.dd_faults.specs.walk.Shape.{HasSymbols, IsHeader};
 
 use crate::atoms::Scope;
 use crate::boxes::configuration;
-use crate::context::Context;
 use crate::each::note_each;
 use crate::fault::{Done, Fault, Found, Limit, Refusal, note_if, note_over};
 use crate::formulas::{cases, formula};
 use crate::header::{is_restricted, kind_fits, passes_limits};
-use crate::limits::{MOST_AXES, MOST_EDGES, MOST_NODES, MOST_SYMBOLS};
 use crate::names::{note_defined, note_missing};
 use crate::numbers::note_unless;
 use crate::requests::request;
 use crate::twice::note_twice;
 use dd_commands::{Command, Written};
+use dd_known::{Context, MOST_AXES, MOST_EDGES, MOST_NODES, MOST_SYMBOLS};
 use dd_values::MOST_COMMANDS;
 use dd_written::{Name, number_value};
 use std::alloc::Global;

@@ -4,10 +4,10 @@ ghost use Rattle.std.specs.List.{flat_map};
 ghost use Rattle.dd_faults.specs.{Order.noted, Formulas.formula_faults, Commands.case_faults};
 
 use crate::atoms::{Scope, atom, quantifier};
-use crate::context::Context;
 use crate::fault::{Done, Found};
 use crate::names::note_missing;
 use dd_commands::Case;
+use dd_known::Context;
 use dd_values::Items;
 use dd_written::{Formula, Word};
 use std::alloc::{AllocError, Global};

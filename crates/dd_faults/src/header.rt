@@ -4,13 +4,12 @@ ghost use Rattle.dd_written.specs.Values.{written_value};
 ghost use Rattle.dd_faults.specs.Names.{missing};
 ghost use Rattle.dd_faults.specs.Commands.{kind_fits, edge_faults, is_restricted, passes_limits};
 
-use crate::context::{Context, Known};
 use crate::each::Notes;
 use crate::fault::{Found, Limit, note_over};
-use crate::limits::{GREATEST_PERIOD, GREATEST_RADIUS, MOST_PIVOTS};
 use crate::names::note_missing;
 use crate::numbers::{has_entries, is_far, note_unless};
 use dd_commands::Edge;
+use dd_known::{Context, Known, GREATEST_PERIOD, GREATEST_RADIUS, MOST_PIVOTS};
 use dd_topology::{Kind, Topology};
 use dd_written::{Name, Number, Text, name_text, number_value};
 use std::alloc::{AllocError, Global};

@@ -4,8 +4,8 @@ ghost use Rattle.dd_written.specs.Values.{word_text};
 ghost use Rattle.dd_faults.specs.Order.{noted};
 ghost use Rattle.dd_faults.specs.Names.{place_of_name, missing, number_in, is_variable, unknown_variable, named_again};
 
-use crate::context::Known;
 use crate::fault::{Fault, Found, note_if};
+use dd_known::Known;
 use dd_topology::Names;
 use dd_written::{Name, Text, Word, name_text};
 

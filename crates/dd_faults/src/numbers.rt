@@ -1,14 +1,14 @@
 //! The faults of tokens, and what vectors and numbers have.
 ghost use Rattle.std.specs.Prelude.{◌≡◌, ◌≤◌, false, min, nat_lt, unsigned_abs};
 ghost use Rattle.std.specs.List.{list_any};
+ghost use Rattle.dd_known.specs.Limits.{farthest};
 ghost use Rattle.dd_faults.specs.Order.{noted};
 ghost use Rattle.dd_faults.specs.Commands.{unless, token_faults, entry_value, signed_value, has_entries, is_far, is_no_strip, radius_faults, strip_faults, vector_faults, weight_faults};
 
-use crate::context::Context;
 use crate::each::Notes;
 use crate::fault::{Fault, Found, Limit, note_if, note_over};
-use crate::limits::{FARTHEST, GREATEST_NUMBER, LONGEST_STRIP, MOST_LETTERS};
 use dd_commands::{Entry, Vector};
+use dd_known::{Context, FARTHEST, GREATEST_NUMBER, LONGEST_STRIP, MOST_LETTERS};
 use dd_values::{MOST_WEIGHT, WIDEST_RADIUS};
 use dd_written::{Lexeme, Number, Text, number_value};
 
@@ -45,9 +45,9 @@ pub(crate) fn entry_value(text: &Text, entry: Entry) -> u32
 
 /// The number of an entry of at most 4 in absolute value.
 pub fn signed_value(text: &Text, entry: Entry) -> i32
-    requires { nat_lt 4 (entry_value text.now entry) ≡ false }
+    requires { nat_lt farthest (entry_value text.now entry) ≡ false }
     ensures value { result ≡ signed_value text.now entry }
-    ensures near { unsigned_abs result ≤ 4 }
+    ensures near { unsigned_abs result ≤ farthest }
 {
     match entry {
         Entry::Number(number) => number_value(text, number) as i32,

@@ -1,15 +1,14 @@
-//! The faults of questions, by their rows.
+//! The faults of queries, by their rows.
 ghost use Rattle.std.specs.{Prelude.◌≡◌, Prelude.OnOk, List.flat_map, List.zip};
 ghost use Rattle.dd_faults.specs.{Order.noted, Commands.word_faults, Commands.request_faults};
 
-use crate::context::Context;
 use crate::each::note_each;
 use crate::fault::{Done, Found, Limit, note_over};
-use crate::limits::MOST_VECTORS;
 use crate::names::note_missing;
 use crate::numbers::Asked;
 use crate::twice::note_twice;
 use dd_commands::{Lists, Request, Role};
+use dd_known::{Context, MOST_VECTORS};
 use dd_written::{Name, Word};
 use std::alloc::Global;
 
@@ -26,11 +25,11 @@ fn words(context: &Context, roles: &[Role], words: &[Word], found: &mut Found)
     }
 }
 
-/// Notes the faults of a question.
+/// Notes the faults of a query.
 pub(crate) fn request(alloc: Global, context: &Context, asked: &Request, found: &mut Found) -> Done
     ensures { OnOk result (found.new ≡ noted found.old (request_faults context.now asked.now)) }
 {
-    let row = asked.question.row();
+    let row = asked.kind.row();
     let vectors = asked.vectors.as_slice();
     words(context, row.names, asked.words.as_slice(), found);
     note_each(&Asked(context), asked.numbers.as_slice(), found);

@@ -5,9 +5,9 @@ ghost use Rattle.dd_faults.specs.{declared.fault.Fault.Fault as AnyFault, declar
 ghost use Rattle.dd_faults.specs.Repeats.{first_repeat, edge_key, twice_label, entry_key, vector_key, twice_vector};
 
 use crate::fault::{Done, Fault, Found, note_if};
-use crate::limits::{FARTHEST, TOO_MANY};
 use crate::numbers::{entry_value, signed_value};
 use dd_commands::{Edge, Entry, Vector};
+use dd_known::{FARTHEST, TOO_MANY};
 use dd_topology::{NameFault, Names};
 use dd_written::{Name, Text, name_text};
 use std::alloc::{AllocError, Global};

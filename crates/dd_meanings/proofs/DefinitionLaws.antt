@@ -5,29 +5,30 @@ use Rattle.std.proofs.lemmas.{List.Elements.All-map, List.Elements.All-get_or, O
 use Rattle.dd_written.specs.Formulas.{tree_depth}
 use Rattle.dd_meanings.specs.Tree.{Word, Name, Case, Command, Known, Context}
 use Rattle.dd_faults.specs.{Names.missing, Names.number_in, Commands.case_faults, Commands.faults_of, Order.first_fault, Order.Refuses}
-use Rattle.dd_faults.specs.{Sound.IsSound, lemmas.Nothing.number_below}
+use Rattle.dd_known.specs.Sound.{IsSound}
+use Rattle.dd_faults.specs.lemmas.Nothing.{number_below}
 use Rattle.dd_formula.specs.Automata.{IsAutomaton, counted}
 use Rattle.dd_formula.specs.ByCases.{numbers_over, IsCaseOver, IsCasesRefusal}
 use Rattle.dd_formula.specs.Compositions.{AreAutomata, OverBoth, IsCompositionFault}
 use Rattle.dd_formula.specs.lemmas.CasesLaws.{passes_one}
 use Rattle.dd_formula.specs.{declared.fault.RuleFault.RuleFault, declared.automaton.Automaton.Automaton}
 use Rattle.dd_formula.specs.declared.automaton.Automaton.TheVariants as automaton
-use Rattle.dd_meanings.specs.{declared.meaning.Meaning.Meaning, Made.script_numbers, Sound.IsNew, Definitions.refusal_of}
+use Rattle.dd_meanings.specs.{declared.meaning.Meaning.Meaning, Made.script_numbers, Made.IsAutomatonOf, Sound.IsNew, Definitions.refusal_of}
 use Rattle.dd_meanings.specs.Definitions.{case_of, symbol_of, automaton_of, automaton_named, composition_of, automaton_faults}
 use Rattle.dd_meanings.proofs.{Nothing.parts, Nothing.none_at, NameLaws.is_new, WellFormed.is_formula}
-use Rattle.dd_meanings.proofs.SizeLaws.{fault_refuses, formed_passes}
+use Rattle.dd_meanings.proofs.{SizeLaws.fault_refuses, SizeLaws.formed_passes, MadeLaws.cases_made, MadeLaws.composition_made}
 
 -- the rules of a script have its numbers
-same_numbers : (k : Known) → IsSound k → numbers_over k.setting.topology k.setting.sets ≡ script_numbers k
+same_numbers : (k : Known) → IsSound k → numbers_over k.setting.topology k.setting.sets ≡ script_numbers k.setting
 same_numbers k sound = rw sound.setting.alphabet refl
 
 -- an automaton that is made as it is meant
 abbrev pub IsDefined : Context → Word → Automaton → Automaton → Type 0
 IsDefined x called made whole =
-    ((automaton_faults x whole ≡ []) × (Meaning.Automaton called made ≡ Meaning.Automaton called whole)) × (IsNew x called × IsAutomaton (script_numbers x.known) whole)
+    ((automaton_faults x whole ≡ []) × (Meaning.Automaton called made ≡ Meaning.Automaton called whole)) × (IsNew x called × IsAutomatonOf x.known.setting whole)
 
-defined : (x : Context) (called : Word) (made whole : Automaton) → IsNew x called → made ≡ whole → IsAutomaton (script_numbers x.known) whole → IsDefined x called made whole
-defined x called made whole new is formed = ((formed_passes (script_numbers x.known) whole formed, ap (Meaning.Automaton called) is), (new, formed))
+defined : (x : Context) (called : Word) (made whole : Automaton) → IsNew x called → made ≡ whole → IsAutomatonOf x.known.setting whole → IsDefined x called made whole
+defined x called made whole new is formed = ((formed_passes (script_numbers x.known.setting) whole formed.automaton, ap (Meaning.Automaton called) is), (new, formed))
 
 -- ---- automata by cases
 
@@ -47,29 +48,42 @@ module _ (x : Context) (called : Word) (cs : List Case) (default : Name) (sound 
 
   pub cases_defined : (f : Automaton) → f ≡ automaton_of x cs default → IsAutomaton (numbers_over x.known.setting.topology x.known.setting.sets) (automaton_of x cs default) → IsDefined x called f (automaton_of x cs default)
   cases_defined f is formed =
-      defined x called f (automaton_of x cs default) (is_new x called (grind (arith, parts))) is (subst (λ s. IsAutomaton s (automaton_of x cs default)) (same_numbers x.known sound) formed)
+      defined x called f (automaton_of x cs default) (is_new x called (grind (arith, parts))) is
+      (record {
+        automaton = subst (λ s. IsAutomaton s (automaton_of x cs default)) (same_numbers x.known sound) formed;
+        rules = cases_made x.known.setting (map (case_of x) cs) (symbol_of x default);
+      })
 
 pub cases_refused : (x : Context) (whole : Automaton) (e : RuleFault) → IsCasesRefusal x.known.setting.topology.nodes (counted whole) e → Refuses (refusal_of e) (first_fault (automaton_faults x whole))
 cases_refused x whole e h = fault_refuses x.known.setting.topology.nodes (counted whole) e (passes_one x.known.setting.topology.nodes (counted whole) e h)
 
 -- ---- automata by their names
 
-module _ (x : Context) (automata : List Automaton) (called outer inner : Word) (named : length automata ≡ length x.known.automata) (formed : All (IsAutomaton (script_numbers x.known)) automata)
+module _ (x : Context) (automata : List Automaton) (called outer inner : Word) (named : length automata ≡ length x.known.automata) (formed : All (IsAutomatonOf x.known.setting) automata)
     (none : faults_of x (Command.Composition called outer inner) ≡ []) where
   abbrev whole : Automaton
   whole = composition_of x automata outer inner
 
-  is_formed : (w : Word) → missing x.text x.known.automata (Name.Word w) ≡ [] → IsAutomaton (script_numbers x.known) (automaton_named x automata w)
+  is_formed : (w : Word) → missing x.text x.known.automata (Name.Word w) ≡ [] → IsAutomatonOf x.known.setting (automaton_named x automata w)
   is_formed w known =
       let i = number_in x.text x.known.automata (Name.Word w) in
       let other : Automaton = automaton.Given (record { cases = []; otherwise = 0 }) in
-      rw (unwrap_or-slice_get automata i other) (All-get_or (IsAutomaton (script_numbers x.known)) automata i other (omega (arith, number_below x.text x.known.automata (Name.Word w) known, named)) formed)
+      rw (unwrap_or-slice_get automata i other) (All-get_or (IsAutomatonOf x.known.setting) automata i other (omega (arith, number_below x.text x.known.automata (Name.Word w) known, named)) formed)
+
+  outer_is : IsAutomatonOf x.known.setting (automaton_named x automata outer)
+  outer_is = is_formed outer (grind (arith, parts))
+
+  inner_is : IsAutomatonOf x.known.setting (automaton_named x automata inner)
+  inner_is = is_formed inner (grind (arith, parts))
 
   pub are_automata : AreAutomata (automaton_named x automata outer) (automaton_named x automata inner)
-  are_automata = record { setting = script_numbers x.known; outer = is_formed outer (grind (arith, parts)); inner = is_formed inner (grind (arith, parts)) }
+  are_automata = record { setting = script_numbers x.known.setting; outer = outer_is.automaton; inner = inner_is.automaton }
 
   pub composition_defined : (h : Automaton) → h ≡ whole → OverBoth (automaton_named x automata outer) (automaton_named x automata inner) (λ s. IsAutomaton s whole) → IsDefined x called h whole
-  composition_defined h is each = defined x called h whole (is_new x called (grind (arith, parts))) is (each (script_numbers x.known) (is_formed outer (grind (arith, parts))) (is_formed inner (grind (arith, parts))))
+  composition_defined h is each = defined x called h whole (is_new x called (grind (arith, parts))) is (record {
+    automaton = each (script_numbers x.known.setting) outer_is.automaton inner_is.automaton;
+    rules = composition_made x.known.setting _ _ outer_is.rules inner_is.rules;
+  })
 
   pub composition_refused : (e : RuleFault) → OverBoth (automaton_named x automata outer) (automaton_named x automata inner) (λ s. IsCompositionFault s.nodes (counted whole) e) → Refuses (refusal_of e) (first_fault (automaton_faults x whole))
-  composition_refused e each = fault_refuses x.known.setting.topology.nodes (counted whole) e (each (script_numbers x.known) (is_formed outer (grind (arith, parts))) (is_formed inner (grind (arith, parts))))
+  composition_refused e each = fault_refuses x.known.setting.topology.nodes (counted whole) e (each (script_numbers x.known.setting) outer_is.automaton inner_is.automaton)

@@ -13,7 +13,8 @@ use Rattle.dd_topology.specs.{declared.edge.Edge.Edge, Topology.starts_alike, Na
 use Rattle.dd_lattice.specs.lemmas.ListLaws.{Contains-map, Contains-from_map}
 use Rattle.dd_topology.specs.lemmas.ListLaws.{some_passes}
 use Rattle.dd_faults.specs.Repeats.{edge_key, twice_label, twice_labelled}
-use Rattle.dd_faults.specs.Commands.{dimension_of, edge_faults, faults_of}
+use Rattle.dd_known.specs.Known.{dimension_of}
+use Rattle.dd_faults.specs.Commands.{edge_faults, faults_of}
 use Rattle.dd_faults.specs.lemmas.Repeats.{among, once}
 use Rattle.dd_query.specs.lemmas.Offsets.{offset_is}
 use Rattle.dd_meanings.specs.Topologies.{first_seen_names, label_text, labels_of, edge_of}

@@ -5,7 +5,8 @@ use Rattle.std.proofs.lemmas.{Grind.common_steps, List.Elements.All-map}
 use Rattle.dd_meanings.specs.Tree.{Number, Name, Command, Context}
 use Rattle.dd_written.specs.Values.{written_value, name_text}
 use Rattle.dd_topology.specs.{Naming.AreDistinct, Grid.Grid, Grid.IsGrid}
-use Rattle.dd_faults.specs.{Names.missing, Names.number_in, Commands.weight_faults, Commands.faults_of, Sound.IsGridOf, Sound.AreWeights}
+use Rattle.dd_known.specs.{Sound.IsGridOf, Sound.AreWeights}
+use Rattle.dd_faults.specs.{Names.missing, Names.number_in, Commands.weight_faults, Commands.faults_of}
 use Rattle.dd_meanings.specs.{Topologies.default_grid, Definitions.symbol_of, Sound.AreNames, Sound.IsSymbolRestriction}
 use Rattle.dd_faults.specs.lemmas.Nothing.{all_where, number_below}
 use Rattle.dd_meanings.proofs.Nothing.{parts}

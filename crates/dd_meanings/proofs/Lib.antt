@@ -7,5 +7,6 @@ pub mod HeaderLaws
 pub mod WrittenLaws
 pub mod WellFormed
 pub mod SizeLaws
+pub mod MadeLaws
 pub mod DefinitionLaws
 pub mod ConfigurationLaws

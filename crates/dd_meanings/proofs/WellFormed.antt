@@ -10,7 +10,8 @@ use Rattle.dd_expansion.specs.declared.formulas.Formula.{Formula, roll-Formula}
 use Rattle.dd_expansion.specs.declared.formulas.Formula.TheFolds.{fold-roll-Formula, map-Formula}
 use Rattle.dd_expansion.specs.declared.formulas.Formula.TheOpen.{Formula-F}
 use Rattle.dd_expansion.specs.Limits.{term_fits, ball_fits, balls_fit, formula_fits, formula_fits_step, greatest, list_depth, depth, depth_step, IsFormula}
-use Rattle.dd_faults.specs.{Names.missing, Names.number_in, Sound.IsSound}
+use Rattle.dd_known.specs.Sound.{IsSound}
+use Rattle.dd_faults.specs.{Names.missing, Names.number_in}
 use Rattle.dd_faults.specs.Formulas.{unknown_label, term_faults, names_symbol, side_faults, relation_faults, atom_faults, ball_faults, quantifier_faults, faults_step, formula_faults}
 use Rattle.dd_meanings.specs.declared.atoms.Operand.{Operand}
 use Rattle.dd_meanings.specs.Formulas.{label_of, term_of, side_of, equal_of, not_equal_of, said_of, atom_of, ball_of, implied_of, iff_behind, joined_of, quantified_of, formula_step, formula_of}

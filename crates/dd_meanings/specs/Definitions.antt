@@ -8,7 +8,8 @@ use Rattle.dd_formula.specs.Automata.{Counted, counted, is_few, is_short, is_sha
 use Rattle.dd_formula.specs.{ByCases.by_cases, declared.automaton.Automaton.Automaton, declared.fault.RuleFault.RuleFault}
 use Rattle.dd_formula.specs.declared.automaton.Automaton.TheVariants as automaton
 use Rattle.dd_meanings.specs.Tree.{Word, Name, Formula, Vector, Case, Limit, Fault, Refusal, Context}
-use Rattle.dd_faults.specs.{Order.over, Names.number_in, Commands.dimension_of, Commands.period_at, Commands.shear_of}
+use Rattle.dd_known.specs.Known.{dimension_of}
+use Rattle.dd_faults.specs.{Order.over, Names.number_in, Commands.period_at, Commands.shear_of}
 use Rattle.dd_meanings.specs.Formulas.{formula_of}
 
 -- ---- what is defined

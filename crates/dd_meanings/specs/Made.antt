@@ -1,11 +1,16 @@
 -- The rules and automata of a script.
-use Rattle.std.specs.Prelude.{◌≡◌, length}
-use Rattle.dd_formula.specs.{LocalRule.LocalRule, LocalRule.IsRule, Automata.CommonNumbers as Numbers}
-use Rattle.dd_meanings.specs.Tree.{Setting, Known}
+use Rattle.std.specs.Prelude.{◌≡◌, List, ◌++◌, length, map}
+use Rattle.std.specs.List.{All}
+use Rattle.dd_formula.specs.LocalRule.{LocalRule, local_rule, IsRule}
+use Rattle.dd_formula.specs.Automata.{CommonNumbers as Numbers, IsAutomaton}
+use Rattle.dd_formula.specs.declared.automaton.Automaton.{Automaton}
+use Rattle.dd_formula.specs.declared.automaton.Automaton.TheFolds.{fold-Automaton}
+use Rattle.dd_formula.specs.declared.automaton.Automaton.TheOpen.{Automaton-F}
+use Rattle.dd_meanings.specs.Tree.{Setting}
 
 -- the numbers that the rules, automata and configurations of a script have in common
-abbrev pub script_numbers : Known → Numbers
-script_numbers k = record { dimension = k.setting.topology.dimension; nodes = k.setting.topology.nodes; symbols = length k.setting.symbols }
+abbrev pub script_numbers : Setting → Numbers
+script_numbers s = record { dimension = s.topology.dimension; nodes = s.topology.nodes; symbols = length s.symbols }
 
 -- a rule over the script's topology and alphabet, whose nodes allow the symbols that the script's nodes do
 pub record IsRuleOf (s : Setting) (r : LocalRule) : Type 0 where
@@ -15,3 +20,20 @@ pub record IsRuleOf (s : Setting) (r : LocalRule) : Type 0 where
   pub symbols : r.symbols ≡ length s.symbols
   pub edges : r.edges ≡ s.topology.edges
   pub allowed : r.allowed ≡ s.sets.allowed
+
+-- the rules in an automaton: those of its cases, and of both parts of a composition
+abbrev pub rules_step : Automaton-F (List LocalRule) → List LocalRule
+rules_step (Automaton-F.Given c) = map (λ case. case.0) c.cases
+rules_step (Automaton-F.Composed f g) = f ++ g
+
+abbrev pub rules_in : Automaton → List LocalRule
+rules_in = fold-Automaton (List LocalRule) rules_step
+
+-- the rule that its formula has over the script's topology and the symbols that its nodes allow
+abbrev pub IsMadeOver : Setting → LocalRule → Type 0
+IsMadeOver s r = r ≡ local_rule s.topology s.sets r.formula
+
+-- a well-formed automaton with the script's numbers, and each rule in it was made with the script's topology and alphabets
+pub record IsAutomatonOf (s : Setting) (f : Automaton) : Type 0 where
+  pub automaton : IsAutomaton (script_numbers s) f
+  pub rules : All (IsMadeOver s) (rules_in f)

@@ -4,7 +4,8 @@ use Rattle.dd_meanings.specs.Tree.{Kind, Command, Fault, Context}
 use Rattle.dd_topology.specs.Builtin.{grid_of}
 use Rattle.dd_formula.specs.declared.automaton.Automaton.{Automaton}
 use Rattle.dd_written.specs.Values.{name_text, written_value}
-use Rattle.dd_faults.specs.{Names.number_in, Commands.dimension_of}
+use Rattle.dd_known.specs.Known.{dimension_of}
+use Rattle.dd_faults.specs.Names.{number_in}
 use Rattle.dd_query.specs.Queries.{query_of}
 use Rattle.dd_meanings.specs.{declared.meaning.Meaning.Meaning, Topologies.default_grid, Topologies.kind_names, Topologies.grid_by}
 use Rattle.dd_meanings.specs.Definitions.{symbol_of, rule_of, automaton_of, composition_of, tile_of, rule_faults, automaton_faults}

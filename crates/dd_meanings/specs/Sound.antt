@@ -4,12 +4,13 @@ use Rattle.std.specs.List.{All}
 use Rattle.dd_values.specs.Ranges.{AreLimits}
 use Rattle.dd_topology.specs.{Naming.AreDistinct, Sets.allows}
 use Rattle.dd_pattern.specs.Tile.{Tile, IsTile}
-use Rattle.dd_formula.specs.{Automata.IsAutomaton, declared.automaton.Automaton.Automaton}
-use Rattle.dd_faults.specs.{Sound.IsGridOf, Sound.AreWeights, Order.Resolves}
+use Rattle.dd_formula.specs.declared.automaton.Automaton.{Automaton}
+use Rattle.dd_known.specs.{Sound.IsGridOf, Sound.AreWeights, Limits.most_nodes, Limits.most_symbols}
+use Rattle.dd_faults.specs.Order.{Resolves}
 use Rattle.dd_written.specs.Values.{word_text}
 use Rattle.dd_meanings.specs.Tree.{Word, Command, Refusal, Setting, Context}
-use Rattle.dd_meanings.specs.{Made.script_numbers, Made.IsRuleOf, declared.meaning.Meaning.Meaning, Meanings.meaning, Meanings.counted_sizes}
-use Rattle.dd_query.specs.Sound.{IsQueryWithin}
+use Rattle.dd_meanings.specs.{Made.IsRuleOf, Made.IsAutomatonOf, declared.meaning.Meaning.Meaning, Meanings.meaning, Meanings.counted_sizes}
+use Rattle.dd_query.specs.Queries.{IsQueryWithin}
 
 -- one name at least, so many at most, and none twice
 pub record AreNames (most : ℕ) (names : List (List ℕ)) : Type 0 where
@@ -40,13 +41,13 @@ pub record IsConfigurationOf (s : Setting) (t : Tile) : Type 0 where
 
 abbrev pub IsSoundMeaning : Context → Meaning → Type 0
 IsSoundMeaning x (Meaning.Topology g) = IsGridOf (length x.known.setting.nodes) g
-IsSoundMeaning x (Meaning.Nodes names given g) = AreNames 4 names × IsGridOf (length names) g
-IsSoundMeaning x (Meaning.Symbols names) = AreNames 16 names
+IsSoundMeaning x (Meaning.Nodes names given g) = AreNames most_nodes names × IsGridOf (length names) g
+IsSoundMeaning x (Meaning.Symbols names) = AreNames most_symbols names
 IsSoundMeaning x (Meaning.Only node symbols) = IsSymbolRestriction x.known.setting node symbols
 IsSoundMeaning x (Meaning.Weights ws) = AreWeights (length x.known.setting.symbols) ws
 IsSoundMeaning x (Meaning.Limits l) = AreLimits l
 IsSoundMeaning x (Meaning.Rule name r) = IsNew x name × IsRuleOf x.known.setting r
-IsSoundMeaning x (Meaning.Automaton name f) = IsNew x name × IsAutomaton (script_numbers x.known) f
+IsSoundMeaning x (Meaning.Automaton name f) = IsNew x name × IsAutomatonOf x.known.setting f
 IsSoundMeaning x (Meaning.Configuration name t) = IsNew x name × IsConfigurationOf x.known.setting t
 IsSoundMeaning x (Meaning.Query q) = IsQueryWithin x.known q
 

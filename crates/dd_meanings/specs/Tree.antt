@@ -7,5 +7,5 @@ pub use Rattle.dd_written.specs.declared.{tree.Formula.TheFolds.fold-Formula, tr
 pub use Rattle.dd_written.specs.declared.{tree.Formula.TheFolds.map-Formula, tree.Formula.TheFolds.ind-Formula}
 pub use Rattle.dd_commands.specs.declared.{command.Entry.Entry, command.Vector.Vector, command.Edge.Edge, command.Case.Case}
 pub use Rattle.dd_commands.specs.declared.{command.Command.Command, script.Written.Written}
-pub use Rattle.dd_faults.specs.declared.{fault.Limit.Limit, fault.Fault.Fault, fault.Refusal.Refusal, context.Setting.Setting}
-pub use Rattle.dd_faults.specs.declared.{context.Known.Known, context.Context.Context}
+pub use Rattle.dd_known.specs.declared.{known.Setting.Setting, known.Known.Known, known.Context.Context}
+pub use Rattle.dd_faults.specs.declared.{fault.Limit.Limit, fault.Fault.Fault, fault.Refusal.Refusal}

@@ -6,7 +6,8 @@ ghost use Rattle.dd_meanings.specs.Formulas.{variable_number, label_of, term_of,
 
 use crate::meaning::Made;
 use dd_expansion::{BallOf, Formula, Term};
-use dd_faults::{Context, names_symbol, number_in, place_among};
+use dd_faults::{names_symbol, number_in, place_among};
+use dd_known::Context;
 use dd_values::Items;
 use dd_written::{
     Atom, Ball, Comparand, Name, Relation, Term as Written, Text, Word, name_text, number_value,

@@ -1,19 +1,20 @@
 //! What the commands that define something mean.
 ghost use Rattle.std.specs.Prelude.{◌≡◌, ◌≤◌, [], length, map, IfOk};
 ghost use Rattle.std.specs.List.{All, flat_map};
-ghost use Rattle.dd_formula.specs.Automata.{IsAutomaton};
 ghost use Rattle.dd_written.specs.Formulas.{tree_depth};
 ghost use Rattle.dd_commands.specs.declared.command.Command.TheVariants as command;
-ghost use Rattle.dd_faults.specs.{Names.missing, Commands.case_faults, Commands.faults_of, Sound.IsSound};
-ghost use Rattle.dd_meanings.specs.{Made.script_numbers, Definitions.case_of, Definitions.automaton_named, Definitions.refusal_of, Sound.Means};
+ghost use Rattle.dd_known.specs.Sound.{IsSound};
+ghost use Rattle.dd_faults.specs.{Names.missing, Commands.case_faults, Commands.faults_of};
+ghost use Rattle.dd_meanings.specs.{Made.IsAutomatonOf, Definitions.case_of, Definitions.automaton_named, Definitions.refusal_of, Sound.Means};
 
 use crate::formulas::formula_in;
 use crate::header::symbols_of;
 use crate::meaning::{Made, Meaning, Resolved};
 use dd_commands::{Case, Vector};
 use dd_expansion::Formula as Meant;
-use dd_faults::{Context, Fault, Limit, Refusal, number_in, period_at, shear_of};
+use dd_faults::{Fault, Limit, Refusal, number_in, period_at, shear_of};
 use dd_formula::{Automaton, Rule, RuleFault};
+use dd_known::Context;
 use dd_pattern::Periodic;
 use dd_values::Items;
 use dd_written::{Formula, Name, Word};
@@ -104,7 +105,7 @@ pub(crate) fn composition(
     inner: Word,
 ) -> Resolved
     requires named { length automata.now ≡ length context.now.known.automata }
-    requires formed { All (IsAutomaton (script_numbers context.now.known)) automata.now }
+    requires formed { All (IsAutomatonOf context.now.known.setting) automata.now }
     requires faultless { faults_of context.now (command.Composition name outer inner) ≡ [] }
     ensures { Means result context.now automata.now (command.Composition name outer inner) }
 {

@@ -7,7 +7,8 @@ ghost use Rattle.dd_meanings.specs.Formulas.{formula_of, implied_of, iff_of, joi
 use crate::atoms::{self, atom};
 use crate::meaning::Made;
 use dd_expansion::{BallOf, Formula};
-use dd_faults::{Context, within};
+use dd_faults::within;
+use dd_known::Context;
 use dd_values::{Boxed, Items};
 use dd_written::{Formula as Written, Join, Quantifier, Word};
 use std::alloc::Global;

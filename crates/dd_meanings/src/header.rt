@@ -1,13 +1,15 @@
 //! What the commands of the header mean.
 ghost use Rattle.std.specs.Prelude.{◌≡◌, ◌≤◌, [], length, map, IfOk};
 ghost use Rattle.dd_commands.specs.declared.command.Command.TheVariants as command;
-ghost use Rattle.dd_faults.specs.{Sound.IsSound, Commands.faults_of};
+ghost use Rattle.dd_known.specs.Sound.{IsSound};
+ghost use Rattle.dd_faults.specs.Commands.{faults_of};
 ghost use Rattle.dd_meanings.specs.{Definitions.symbol_of, Sound.Means};
 
 use crate::meaning::{Made, Meaning, Resolved};
 use crate::names::names_of;
 use crate::topologies::{default_topology, kind_names};
-use dd_faults::{Context, number_in};
+use dd_faults::number_in;
+use dd_known::Context;
 use dd_topology::{Kind, Topology};
 use dd_values::{Items, Limits};
 use dd_written::{Name, Number, number_value};

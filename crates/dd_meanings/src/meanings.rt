@@ -1,16 +1,17 @@
 //! What each command means.
 ghost use Rattle.std.specs.Prelude.{◌≡◌, [], length, OnOk};
 ghost use Rattle.std.specs.List.{All};
-ghost use Rattle.dd_formula.specs.Automata.{IsAutomaton};
 ghost use Rattle.dd_commands.specs.{Commands.IsRequest, Scripts.IsWritten};
-ghost use Rattle.dd_faults.specs.{Order.Resolves, Commands.request_faults, Commands.written_faults, Sound.IsSound};
-ghost use Rattle.dd_meanings.specs.{Made.script_numbers, Meanings.meaning, Meanings.counted_sizes, Sound.IsSoundMeaning};
+ghost use Rattle.dd_known.specs.Sound.{IsSound};
+ghost use Rattle.dd_faults.specs.{Order.Resolves, Commands.request_faults, Commands.written_faults};
+ghost use Rattle.dd_meanings.specs.{Made.IsAutomatonOf, Meanings.meaning, Meanings.counted_sizes, Sound.IsSoundMeaning};
 
 use crate::meaning::{Meaning, Resolved};
 use crate::{definitions, header, topologies};
 use dd_commands::{Command, Request, Written};
-use dd_faults::{Context, Refusal};
+use dd_faults::Refusal;
 use dd_formula::Automaton;
+use dd_known::Context;
 use dd_query::ask;
 use std::alloc::Global;
 
@@ -23,7 +24,7 @@ pub fn mean(
 ) -> Result<Meaning, Refusal>
     requires sound { IsSound context.now.known }
     requires named { length automata.now ≡ length context.now.known.automata }
-    requires formed { All (IsAutomaton (script_numbers context.now.known)) automata.now }
+    requires formed { All (IsAutomatonOf context.now.known.setting) automata.now }
     requires written { IsWritten context.now.text written.now }
     requires faultless { written_faults context.now written.now ≡ [] }
     ensures exact { Resolves result (counted_sizes context.now automata.now written.now.command) (meaning context.now automata.now written.now.command) }

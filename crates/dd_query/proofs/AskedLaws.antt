@@ -1,12 +1,12 @@
--- What a question without a fault has, and what its query keeps.
+-- What a query without a fault has, and what it keeps.
 use Rattle.std.proofs.Common.{◌≡◌, ◌<◌, ℕ, suc, false, List, [], ◌∷◌, length, map, subst, slice_index, arith}
 use Rattle.std.specs.List.{flat_map, list_any, zip}
-use Rattle.dd_query.specs.Tree.{Word, Role, Question, Request, Context}
+use Rattle.dd_query.specs.Tree.{Word, Role, Lists, QueryKind, Request, Context}
 use Rattle.dd_commands.specs.{Table.row, Commands.IsRequest}
-use Rattle.dd_faults.specs.{Names.named, Sound.IsSound}
+use Rattle.dd_known.specs.{Known.named, Sound.IsSound}
 use Rattle.dd_faults.specs.Commands.{is_far, word_faults, radius_faults, list_faults, request_faults}
 use Rattle.dd_faults.specs.lemmas.Nothing.{both_nil, parts}
-use Rattle.dd_query.specs.{Queries.number_of_word, Queries.word_at, Queries.query_of, Sound.IsQueryWithin}
+use Rattle.dd_query.specs.{Parts.number_of_word, Parts.word_at, Queries.query_of, Queries.IsQueryWithin}
 use Rattle.dd_query.proofs.ShapeLaws.{value_small, strip_is, all_close, vectors_are}
 
 -- each number is that of something with the role at its place
@@ -20,24 +20,24 @@ words_there x (r ∷ rs) [] long none = absurd (omega (arith, long))
 words_there x (r ∷ rs) (w ∷ ws) long none = (grind (arith, parts), words_there x rs ws (omega (arith, long)) (both_nil _ _ none).1)
 
 module _ (x : Context) (r : Request) where
-  -- the words, numbers and vectors of the request under a question
-  abbrev asks : Question → Request
-  asks q = record r { question = q }
+  -- the words, numbers and vectors of the request under a kind
+  abbrev asks : QueryKind → Request
+  asks k = record r { kind = k }
 
-  module _ (q : Question) (is : IsRequest (asks q)) (none : request_faults x (asks q) ≡ []) where
-    words : AreThere x (row q).names (word_at x (asks q))
-    words = words_there x (row q).names r.words is.words (both_nil _ _ none).0
+  module _ (k : QueryKind) (is : IsRequest (asks k)) (none : request_faults x (asks k) ≡ []) where
+    words : AreThere x (row k).names (word_at x (asks k))
+    words = words_there x (row k).names r.words is.words (both_nil _ _ none).0
 
-    rest : (flat_map (radius_faults x) r.numbers ≡ []) × (list_faults x (row q).lists r.vectors ≡ [])
+    rest : (flat_map (radius_faults x) r.numbers ≡ []) × (list_faults x (row k).lists r.vectors ≡ [])
     rest = both_nil _ _ (both_nil _ _ none).1
 
-  pub close_kept : IsRequest r → request_faults x r ≡ [] → r.question ≡ Question.Discharge → list_any (is_far x.text) r.vectors ≡ false
-  close_kept is none at = all_close x r.vectors (subst (λ (q : Question). list_faults x (row q).lists r.vectors ≡ []) at (rest r.question is none).1)
+  pub close_kept : IsRequest r → request_faults x r ≡ [] → (row r.kind).lists ≡ Lists.Vectors → list_any (is_far x.text) r.vectors ≡ false
+  close_kept is none at = all_close x r.vectors (subst (λ (l : Lists). list_faults x l r.vectors ≡ []) at (rest r.kind is none).1)
 
-  pub within_kept : (q : Question) → IsSound x.known → IsRequest (asks q) → request_faults x (asks q) ≡ [] → IsQueryWithin x.known (query_of x (asks q))
-  within_kept Question.Density sound is none = ((words Question.Density is none).0, strip_is x r.vectors (rest Question.Density is none).1)
-  within_kept Question.Discharge sound is none =
-      let small = (rest Question.Discharge is none).0 in
-      let lists = (rest Question.Discharge is none).1 in
-      ((words Question.Discharge is none).0, value_small x r.numbers 0 small, value_small x r.numbers 1 small, vectors_are x r.vectors lists sound.setting.topology.grid.dimension.1 is.vectors)
-  within_kept q sound is none = assumption (words q is none)
+  pub within_kept : (k : QueryKind) → IsSound x.known → IsRequest (asks k) → request_faults x (asks k) ≡ [] → IsQueryWithin x.known (query_of x (asks k))
+  within_kept QueryKind.Density sound is none = ((words QueryKind.Density is none).0, strip_is x r.vectors (rest QueryKind.Density is none).1)
+  within_kept QueryKind.Discharge sound is none =
+      let small = (rest QueryKind.Discharge is none).0 in
+      let lists = (rest QueryKind.Discharge is none).1 in
+      ((words QueryKind.Discharge is none).0, value_small x r.numbers 0 small, value_small x r.numbers 1 small, vectors_are x r.vectors lists sound.setting.topology.grid.dimension.1 is.vectors)
+  within_kept k sound is none = assumption (words k is none)

@@ -1,3 +1,4 @@
+pub mod PlaceLaws
 pub mod VectorLaws
 pub mod ShapeLaws
 pub mod AskedLaws

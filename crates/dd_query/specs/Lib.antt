@@ -2,9 +2,9 @@
 pub mod Tree
 -- the positions that vectors stand for
 pub mod Vectors
--- the queries that questions ask
+-- the words, numbers and vectors of a query
+pub mod Parts
+-- the queries that are written, and what each keeps
 pub mod Queries
--- what each query of a script keeps
-pub mod Sound
 -- lemmas on what stands above, with their proofs, for whoever cites them
 pub mod lemmas

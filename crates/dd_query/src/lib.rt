@@ -1,10 +1,9 @@
 //! The queries of scripts.
 #![tactic(auto)]
 
-mod asking;
+mod parts;
 mod queries;
 mod vectors;
 
-pub use asking::ask;
-pub use queries::Query;
+pub use queries::{Query, ask};
 pub use vectors::position_of;

@@ -1,6 +1,18 @@
-//! The queries of a script.
+//! The queries of a script, each with the way from what is written to it.
+ghost use Rattle.std.specs.Prelude.{◌≡◌, [], false, IfOk, OnOk};
+ghost use Rattle.std.specs.List.{list_any};
+ghost use Rattle.dd_commands.specs.{Table.row, Commands.IsRequest};
+ghost use Rattle.dd_commands.specs.declared.table.Lists.TheVariants as lists;
+ghost use Rattle.dd_known.specs.Sound.{IsSound};
+ghost use Rattle.dd_faults.specs.Commands.{is_far, request_faults};
+ghost use Rattle.dd_query.specs.Queries.{query_of, IsQueryWithin};
+
+use crate::parts::{positions, strip_of, value_at, word_at};
+use dd_commands::{QueryKind, Request};
+use dd_known::Context;
 use dd_lattice::Position;
 use dd_values::Items;
+use std::alloc::{AllocError, Global};
 
 /// A query of a script. Rules, automata and configurations are named by their numbers among their kind, in the order of their
 /// definitions, from 0.
@@ -48,4 +60,57 @@ pub enum Query {
         margin: u32,
         vectors: Items<Position>,
     },
+}
+
+/// The query that is written, of whichever kind it is.
+fn asked(alloc: Global, context: &Context, request: &Request) -> Result<Query, AllocError>
+    requires within { IsQueryWithin context.now.known (query_of context.now request.now) }
+    requires close { (row request.now.kind).lists ≡ lists.Vectors → list_any (is_far context.now.text) request.now.vectors ≡ false }
+    ensures exact { IfOk result (λ q. q ≡ query_of context.now request.now) }
+    ensures within { OnOk result (IsQueryWithin context.now.known (query_of context.now request.now)) }
+{
+    let first = word_at(context, request, 0);
+    let second = word_at(context, request, 1);
+    Ok(match request.kind {
+        QueryKind::Member => Query::Member {
+            configuration: first,
+            rule: second,
+        },
+        QueryKind::Contains => Query::Contains {
+            outer: first,
+            inner: second,
+        },
+        QueryKind::Equal => Query::Equal {
+            left: first,
+            right: second,
+        },
+        QueryKind::Empty => Query::Empty { rule: first },
+        QueryKind::Agree => Query::Agree {
+            left: first,
+            right: second,
+            rule: word_at(context, request, 2),
+        },
+        QueryKind::Forbidden => Query::Forbidden { rule: first },
+        QueryKind::Density => Query::Density {
+            rule: first,
+            strip: strip_of(context, request.vectors.as_slice()),
+        },
+        QueryKind::Discharge => Query::Discharge {
+            rule: first,
+            radius: value_at(context, request, 0),
+            margin: value_at(context, request, 1),
+            vectors: positions(alloc, &context.text, request.vectors.as_slice())?,
+        },
+    })
+}
+
+/// The query that is written, where it has no fault.
+pub fn ask(alloc: Global, context: &Context, request: &Request) -> Result<Query, AllocError>
+    requires sound { IsSound context.now.known }
+    requires written { IsRequest request.now }
+    requires faultless { request_faults context.now request.now ≡ [] }
+    ensures exact { IfOk result (λ q. q ≡ query_of context.now request.now) }
+    ensures within { OnOk result (IsQueryWithin context.now.known (query_of context.now request.now)) }
+{
+    asked(alloc, context, request)
 }

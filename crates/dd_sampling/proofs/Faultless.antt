@@ -15,7 +15,7 @@ use Rattle.dd_written.specs.declared.tree.Formula.TheOpen.{Formula-F}
 use Rattle.dd_expansion.specs.declared.formulas.Formula.{Formula as Meant}
 use Rattle.dd_faults.specs.declared.fault.Fault.{Fault}
 use Rattle.dd_faults.specs.declared.fault.Limit.TheVariants as limit
-use Rattle.dd_faults.specs.declared.context.Context.{Context}
+use Rattle.dd_known.specs.declared.known.Context.{Context}
 use Rattle.dd_faults.specs.Order.{over}
 use Rattle.dd_faults.specs.Names.{named_again}
 use Rattle.dd_faults.specs.Numbers.{token_faults}

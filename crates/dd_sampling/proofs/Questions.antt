@@ -22,7 +22,7 @@ use Rattle.dd_commands.specs.Commands.{request_text}
 use Rattle.dd_faults.specs.declared.fault.Fault.{Fault}
 use Rattle.dd_faults.specs.declared.fault.Fault.TheVariants as fault
 use Rattle.dd_faults.specs.declared.fault.Limit.TheVariants as limit
-use Rattle.dd_faults.specs.declared.context.Context.{Context}
+use Rattle.dd_known.specs.declared.known.Context.{Context}
 use Rattle.dd_faults.specs.Order.{when, over}
 use Rattle.dd_faults.specs.Names.{missing}
 use Rattle.dd_faults.specs.Numbers.{token_faults, entry_value, is_far}

@@ -16,8 +16,8 @@ use Rattle.dd_boxes.specs.Goals.{breaks}
 use Rattle.dd_boxes.specs.Counts.{most_clauses}
 use Rattle.dd_faults.specs.declared.fault.Fault.{Fault}
 use Rattle.dd_faults.specs.declared.fault.Limit.TheVariants as limit
-use Rattle.dd_faults.specs.declared.context.Known.{Known}
-use Rattle.dd_faults.specs.declared.context.Setting.{Setting}
+use Rattle.dd_known.specs.declared.known.Known.{Known}
+use Rattle.dd_known.specs.declared.known.Setting.{Setting}
 use Rattle.dd_faults.specs.Order.{over}
 use Rattle.dd_question.specs.Excesses.{is_long, has_many_states}
 use Rattle.dd_meanings.specs.Definitions.{rule_faults}

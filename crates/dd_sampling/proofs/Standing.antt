@@ -90,7 +90,7 @@ conf_stands bytes digits ns conf some =
       ordered = omega arith;
     }
 
-question_stands : (bytes : List ℕ) (p : ℕ) (ys : List ℕ) → Stands bytes p ys → (a : Word × Request) → word_text ys a.0 ≡ (table_row a.1.question).word
+question_stands : (bytes : List ℕ) (p : ℕ) (ys : List ℕ) → Stands bytes p ys → (a : Word × Request) → word_text ys a.0 ≡ (table_row a.1.kind).word
     → IsRequest (up_request p a.1) → list_all is_whole (lexeme.Word (up_word p a.0) ∷ request_text (up_request p a.1)) ≡ true
     → MayStand bytes 7 (lexeme.Word (up_word p a.0) ∷ request_text (up_request p a.1)) (question_written p a)
 question_stands bytes p ys stands a word good all =

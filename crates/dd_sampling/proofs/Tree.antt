@@ -15,8 +15,8 @@ use Rattle.dd_written.specs.declared.tree.Quantifier.TheVariants as quantifier
 use Rattle.dd_written.specs.declared.tree.Join.TheVariants as join
 use Rattle.dd_written.specs.declared.tree.Formula.{Formula, roll-Formula}
 use Rattle.dd_written.specs.declared.tree.Formula.TheOpen.{Formula-F}
-use Rattle.dd_commands.specs.declared.table.Question.{Question}
-use Rattle.dd_commands.specs.declared.table.Question.TheVariants as question
+use Rattle.dd_commands.specs.declared.table.QueryKind.{QueryKind}
+use Rattle.dd_commands.specs.declared.table.QueryKind.TheVariants as kind
 use Rattle.dd_commands.specs.declared.command.Entry.{Entry}
 use Rattle.dd_commands.specs.declared.command.Entry.TheVariants as entry
 use Rattle.dd_commands.specs.declared.command.Vector.{Vector}
@@ -114,8 +114,8 @@ dom_text =
 
 -- ---- questions, by their places behind the symbols
 
-abbrev pub asking : ℕ → ℕ → Question → List Word → List Number → List Vector → Word × Request
-asking s l q ws ns vs = (word_at s l, record { question = q; words = ws; numbers = ns; vectors = vs })
+abbrev pub asking : ℕ → ℕ → QueryKind → List Word → List Number → List Vector → Word × Request
+asking s l q ws ns vs = (word_at s l, record { kind = q; words = ws; numbers = ns; vectors = vs })
 
 abbrev pub plus : ℕ → Entry
 plus s = entry.Number (number_at s 1)
@@ -127,26 +127,26 @@ abbrev pub vector : List Entry → Vector
 vector es = record { entries = es }
 
 abbrev pub member_hard : Word × Request
-member_hard = asking 2 6 question.Member (word_at 9 1 ∷ word_at 11 4 ∷ []) [] []
+member_hard = asking 2 6 kind.Member (word_at 9 1 ∷ word_at 11 4 ∷ []) [] []
 
 abbrev pub row_hard : Word × Request
-row_hard = asking 17 8 question.Contains (word_at 26 3 ∷ word_at 30 4 ∷ []) [] []
+row_hard = asking 17 8 kind.Contains (word_at 26 3 ∷ word_at 30 4 ∷ []) [] []
 
 abbrev pub hard_row : Word × Request
-hard_row = asking 36 8 question.Contains (word_at 45 4 ∷ word_at 50 3 ∷ []) [] []
+hard_row = asking 36 8 kind.Contains (word_at 45 4 ∷ word_at 50 3 ∷ []) [] []
 
 abbrev pub hard_equals_row : Word × Request
-hard_equals_row = asking 55 5 question.Equal (word_at 61 4 ∷ word_at 66 3 ∷ []) [] []
+hard_equals_row = asking 55 5 kind.Equal (word_at 61 4 ∷ word_at 66 3 ∷ []) [] []
 
 abbrev pub zero_dies : Word × Request
-zero_dies = asking 71 8 question.Contains (word_at 80 4 ∷ word_at 85 4 ∷ []) [] []
+zero_dies = asking 71 8 kind.Contains (word_at 80 4 ∷ word_at 85 4 ∷ []) [] []
 
 abbrev pub density_dom : Word × Request
-density_dom = asking 91 7 question.Density (word_at 99 3 ∷ []) [] (vector (plus 104 ∷ []) ∷ [])
+density_dom = asking 91 7 kind.Density (word_at 99 3 ∷ []) [] (vector (plus 104 ∷ []) ∷ [])
 
 abbrev pub discharge_dom : Word × Request
 discharge_dom =
-    asking 108 9 question.Discharge (word_at 118 3 ∷ []) (number_at 122 1 ∷ number_at 124 1 ∷ [])
+    asking 108 9 kind.Discharge (word_at 118 3 ∷ []) (number_at 122 1 ∷ number_at 124 1 ∷ [])
     (vector (plus 127 ∷ plus 129 ∷ []) ∷ vector (minus 133 ∷ plus 136 ∷ []) ∷ vector (plus 140 ∷ plus 142 ∷ []) ∷ vector (plus 146 ∷ minus 148 ∷ []) ∷ [])
 
 abbrev pub questions : List (Word × Request)
@@ -162,7 +162,7 @@ abbrev pub up_vector : ℕ → Vector → Vector
 up_vector p v = record { entries = map (up_entry p) v.entries }
 
 abbrev pub up_request : ℕ → Request → Request
-up_request p r = record { question = r.question; words = map (up_word p) r.words; numbers = map (up_number p) r.numbers; vectors = map (up_vector p) r.vectors }
+up_request p r = record { kind = r.kind; words = map (up_word p) r.words; numbers = map (up_number p) r.numbers; vectors = map (up_vector p) r.vectors }
 
 -- ---- commands with their tokens
 

@@ -10,8 +10,7 @@ use Rattle.dd_formula.specs.{Living.Fits, Allowed.HasAllowed}
 use Rattle.dd_question.specs.{Questions.Asked, Questions.membership, Questions.box, Questions.IsFormed, Questions.excess_of, Questions.IsSoundAsked}
 use Rattle.dd_question.specs.lemmas.AllowedLaws.{allowed_from_box}
 use Rattle.dd_script.specs.{Parts.Parts, Parts.Known, Parts.LocalRule, Parts.Automaton, Parts.Query, Questions.asked, Questions.of_both, Questions.of_three, Asking.AreOf, Asking.AreSound}
-use Rattle.dd_script.specs.Kept.{IsQueryOf, AreNamed, IsScriptOf, IsAutomaton, IsQueryWithin, IsRuleOf, IsConfigurationOf, script_numbers}
-use Rattle.dd_script.proofs.Vectors.{vectors_of}
+use Rattle.dd_script.specs.Kept.{IsQueryOf, AreNamed, IsScriptOf, IsAutomatonOf, IsQueryWithin, IsRuleOf, IsConfigurationOf}
 
 -- an item of a list of such items
 item_at : {X : Type 0} {P : X → Type 0} {names : List (List ℕ)} {xs : List X} → AreNamed P names xs → (n : ℕ) → IfSome (slice_get xs n) P
@@ -36,7 +35,7 @@ module _ (s : Parts) (ok : IsScriptOf s) where
   abbrev FitsIn : Asked → Type 0
   FitsIn a = IsFormed a × AreOf s.known a
 
-  agreement_fits : (o : Option LocalRule) (p q : Option Automaton) → IfSome o (IsRuleOf s.known.setting) → IfSome p (IsAutomaton (script_numbers s.known)) → IfSome q (IsAutomaton (script_numbers s.known))
+  agreement_fits : (o : Option LocalRule) (p q : Option Automaton) → IfSome o (IsRuleOf s.known.setting) → IfSome p (IsAutomatonOf s.known.setting) → IfSome q (IsAutomatonOf s.known.setting)
       → IfSome (of_three (λ x f g. box x (differ (numbers_of x) f g)) o p q) FitsIn
   agreement_fits None p q of one other = tt
   agreement_fits (Some x) None q of one other = tt
@@ -49,7 +48,7 @@ module _ (s : Parts) (ok : IsScriptOf s) where
   membership_fits (Some x) (Some t) of kept = ((of.rule, kept.tile, member_fits s.known x t of kept, member_allowed s.known x t of kept), of)
 
   asked_fits : (q : Query) → IsQueryWithin s.known q → IfSome (asked s q) FitsIn
-  asked_fits (Query.Discharge rule radius margin vectors) within = grind (arith, item_at ok.rules rule, vectors_of _ vectors within.3)
+  asked_fits (Query.Discharge rule radius margin vectors) within = grind (arith, item_at ok.rules rule, within.3)
   asked_fits (Query.Agree left right rule) within = agreement_fits _ _ _ (item_at ok.rules rule) (item_at ok.automata left) (item_at ok.automata right)
   asked_fits (Query.Member configuration rule) within = membership_fits _ _ (item_at ok.rules rule) (item_at ok.configurations configuration)
   asked_fits q within = grind (arith, item_at ok.rules, item_at ok.automata, item_at ok.configurations)

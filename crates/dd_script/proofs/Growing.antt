@@ -4,7 +4,7 @@ use Rattle.std.specs.{List.All, List.slice_get}
 use Rattle.std.proofs.lemmas.{Grind.common_steps, List.Elements.All-push, List.Elements.All-weaker, Option.gets}
 use Rattle.dd_script.specs.Parts.{Parts, LocalRule, Automaton, Tile, Query}
 use Rattle.dd_script.specs.Questions.{asked}
-use Rattle.dd_script.specs.Kept.{IsQueryOf, AreNamed, IsScriptOf, IsAutomaton, IsQueryWithin, IsRuleOf, script_numbers, IsConfigurationOf}
+use Rattle.dd_script.specs.Kept.{IsQueryOf, AreNamed, IsScriptOf, IsAutomatonOf, IsQueryWithin, IsRuleOf, IsConfigurationOf}
 
 -- items with their names, which begin with the old ones
 pub record Grown {X : Type 0} (P : X → Type 0) (old : List X) (names : List (List ℕ)) (xs : List X) : Type 0 where
@@ -19,7 +19,7 @@ pub one_more : {X : Type 0} {P : X → Type 0} {names : List (List ℕ)} {xs : L
 one_more {P = P} {xs = xs} name x are is = grind (arith, common_steps, gets, All-push P xs x are.each is)
 
 module _ (s : Parts) (is : IsScriptOf s) {R A C : List (List ℕ)} {rs : List LocalRule} {fs : List Automaton} {ts : List Tile} (rules : Grown (IsRuleOf s.known.setting) s.rules R rs)
-    (automata : Grown (IsAutomaton (script_numbers s.known)) s.automata A fs) (configurations : Grown (IsConfigurationOf s.known.setting) s.configurations C ts) (qs : List Query) where
+    (automata : Grown (IsAutomatonOf s.known.setting) s.automata A fs) (configurations : Grown (IsConfigurationOf s.known.setting) s.configurations C ts) (qs : List Query) where
   abbrev pub grown : Parts
   grown = record { known = record (s.known) { rules = R; automata = A; configurations = C }; rules = rs; automata = fs; configurations = ts; queries = qs }
 

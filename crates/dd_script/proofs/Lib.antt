@@ -2,5 +2,4 @@ pub mod Growing
 pub mod Kept
 pub mod Walking
 pub mod ScriptLaws
-pub mod Vectors
 pub mod Asking

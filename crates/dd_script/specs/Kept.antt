@@ -1,10 +1,9 @@
 -- What every script keeps.
 use Rattle.std.specs.Prelude.{◌≡◌, None, ℕ, List, length}
 use Rattle.std.specs.List.{All}
-pub use Rattle.dd_formula.specs.Automata.{IsAutomaton}
-use Rattle.dd_faults.specs.Sound.{IsSound}
-pub use Rattle.dd_query.specs.Sound.{IsQueryWithin}
-pub use Rattle.dd_meanings.specs.{Made.script_numbers, Made.IsRuleOf, Sound.IsConfigurationOf}
+use Rattle.dd_known.specs.Sound.{IsSound}
+pub use Rattle.dd_query.specs.Queries.{IsQueryWithin}
+pub use Rattle.dd_meanings.specs.{Made.IsRuleOf, Made.IsAutomatonOf, Sound.IsConfigurationOf}
 use Rattle.dd_script.specs.Parts.{Parts, Query}
 pub use Rattle.dd_script.specs.Questions.{query_excess}
 
@@ -21,8 +20,8 @@ pub record AreNamed {X : Type 0} (P : X → Type 0) (names : List (List ℕ)) (x
 pub record IsScriptOf (s : Parts) : Type 0 where
   -- the numbers of nodes and symbols, the weights and the limits are in range and agree
   pub known : IsSound s.known
-  -- rules, automata and configurations have the script's topology, nodes and symbols
+  -- rules, automata with the rules in them, and configurations have the script's topology, nodes and symbols
   pub rules : AreNamed (IsRuleOf s.known.setting) s.known.rules s.rules
-  pub automata : AreNamed (IsAutomaton (script_numbers s.known)) s.known.automata s.automata
+  pub automata : AreNamed (IsAutomatonOf s.known.setting) s.known.automata s.automata
   pub configurations : AreNamed (IsConfigurationOf s.known.setting) s.known.configurations s.configurations
   pub queries : All (IsQueryOf s) s.queries

@@ -2,7 +2,7 @@
 use Rattle.std.specs.Prelude.{List}
 pub use Rattle.dd_formula.specs.{LocalRule.LocalRule, declared.automaton.Automaton.Automaton}
 pub use Rattle.dd_pattern.specs.Tile.{Tile}
-pub use Rattle.dd_faults.specs.declared.context.Known.{Known}
+pub use Rattle.dd_known.specs.declared.known.Known.{Known}
 pub use Rattle.dd_query.specs.declared.queries.Query.{Query}
 use Rattle.dd_script.specs.declared.script.Made.{Made}
 

@@ -3,7 +3,8 @@ ghost use Rattle.std.specs.Prelude.{◌≡◌, ◌≤◌, ◌++◌, [], ◌∷�
 ghost use Rattle.dd_values.specs.Bounds.{most_commands};
 ghost use Rattle.dd_written.specs.Values.{word_text};
 ghost use Rattle.dd_commands.specs.Scripts.{IsWritten};
-ghost use Rattle.dd_faults.specs.{Order.Accepts, Order.Refuses, Sound.IsSound};
+ghost use Rattle.dd_known.specs.Sound.{IsSound};
+ghost use Rattle.dd_faults.specs.Order.{Accepts, Refuses};
 ghost use Rattle.dd_meanings.specs.Sound.{IsSoundMeaning};
 ghost use Rattle.dd_script.specs.{Kept.IsScriptOf, Walk.start, Walk.asked_fault};
 ghost use Rattle.dd_script.specs.Drafts.{parts_of, draft_of, with_meaning, fault_at, Means};
@@ -12,15 +13,13 @@ use crate::known::{allow_all, numbers_below, start};
 use crate::questions::{limit_of, question_of};
 use crate::script::{Contents, Made, Script};
 use dd_commands::Written;
-use dd_faults::{Context, Fault, Refusal, check};
+use dd_faults::{Fault, Refusal, check};
+use dd_known::{Context, TOO_MANY};
 use dd_meanings::{Meaning, add_new, mean};
 use dd_topology::Names;
 use dd_values::{Boxed, Items};
 use dd_written::{Name, Text, Word, name_text};
 use std::alloc::{AllocError, Global};
-
-/// More names than any script has.
-const TOO_MANY: u32 = 4_000_000;
 
 /// A script as far as its commands have been gone through, and where the next command stands.
 #[derive(Drop)]
@@ -34,7 +33,7 @@ fn add_name(alloc: Global, text: &Text, names: &mut Names, name: Word) -> Result
     requires { ¬ Contains names.old (word_text text.now name) }
     ensures { OnOk result (names.new ≡ names.old ++ word_text text.now name ∷ []) }
 {
-    if names.count() > TOO_MANY {
+    if names.count() as usize > TOO_MANY {
         return Err(AllocError);
     }
     add_new(alloc, names, name_text(text, Name::Word(name)))

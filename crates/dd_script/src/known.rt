@@ -1,10 +1,10 @@
 //! What is known where a script has said nothing.
 ghost use Rattle.std.specs.Prelude.{◌≡◌, ◌≤◌, length, IfOk, OnOk};
 ghost use Rattle.std.specs.List.{range_with_len};
-ghost use Rattle.dd_faults.specs.Sound.{IsSound};
+ghost use Rattle.dd_known.specs.Sound.{IsSound};
 ghost use Rattle.dd_script.specs.Walk.{known_start, unrestricted};
 
-use dd_faults::{Known, Setting};
+use dd_known::{Known, Setting};
 use dd_meanings::{zero, zero_and_one};
 use dd_topology::{Kind, Names, Sets, Topology};
 use dd_values::{Items, Limits};

@@ -1,12 +1,13 @@
 //! What queries ask, and which limit that passes.
 ghost use Rattle.std.specs.Prelude.{◌≡◌, Some, length};
-ghost use Rattle.dd_query.specs.Sound.{IsQueryWithin};
+ghost use Rattle.dd_query.specs.Queries.{IsQueryWithin};
 ghost use Rattle.dd_question.specs.Questions.{asked_of};
 ghost use Rattle.dd_script.specs.{Parts.parts, Questions.asked, Walk.limit_of};
 
 use crate::script::Made;
 use dd_boxes::Goal;
-use dd_faults::{Known, Limit};
+use dd_faults::Limit;
+use dd_known::Known;
 use dd_query::Query;
 use dd_question::{Excess, Question};
 

@@ -1,7 +1,7 @@
 //! Scripts.
 use crate::questions::question_of;
-use dd_faults::Known;
 use dd_formula::{Automaton, Rule};
+use dd_known::Known;
 use dd_pattern::Periodic;
 use dd_query::Query;
 use dd_question::{CheckedQuestion, sound_questions};
@@ -52,8 +52,9 @@ impl Model for Script {
 /// The readers take no memory.
 impl Script {
     ghost use Rattle.std.specs.Prelude.{◌≡◌};
+    ghost use Rattle.std.specs.List.{All};
     ghost use Rattle.dd_values.specs.Ranges.{AreLimits};
-    ghost use Rattle.dd_script.specs.Kept.{IsScriptOf};
+    ghost use Rattle.dd_script.specs.Kept.{IsScriptOf, IsAutomatonOf};
 
     /// The dimension: 1, 2 or 3.
     pub fn dim(&self) -> u32
@@ -120,10 +121,12 @@ impl Script {
         self.contents.get().made.rules.as_slice()
     }
 
-    /// The automata, compositions among them, in the order of their definitions.
+    /// The automata, compositions among them, in the order of their definitions. The rules in them have the script's topology and
+    /// the symbols that its nodes allow.
     pub fn automata(&self) -> &[Automaton]
         ensures value { result.now ≡ self.now.automata }
         ensures kept { IsScriptOf self.now }
+        ensures each { All (IsAutomatonOf self.now.known.setting) result.now }
     {
         self.contents.get().made.automata.as_slice()
     }

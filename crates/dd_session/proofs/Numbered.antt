@@ -9,7 +9,7 @@ use Rattle.dd_commands.specs.declared.script.Written.{Written}
 use Rattle.dd_faults.specs.declared.fault.Limit.TheVariants as limit
 use Rattle.dd_faults.specs.declared.fault.Fault.{Fault}
 use Rattle.dd_faults.specs.declared.fault.Fault.TheVariants as fault
-use Rattle.dd_faults.specs.declared.context.Context.{Context}
+use Rattle.dd_known.specs.declared.known.Context.{Context}
 use Rattle.dd_faults.specs.Order.{fault_rank, over, better, noted, first_fault}
 use Rattle.dd_faults.specs.Commands.{token_faults, faults_of, written_faults}
 use Rattle.dd_meanings.specs.declared.meaning.Meaning.{Meaning}

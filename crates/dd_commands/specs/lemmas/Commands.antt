@@ -79,8 +79,8 @@ module _ (law : FormulasAreRead) where
     body_sound Head.Configuration tokens c e =
         spelled _ _ tokens c (then_reads word_reads (λ y rest is. tt) (then_reads plain_reads (λ y rest is. tt) (then_reads shear_reads no_shear names_read))) e
         (λ x is at. (refl, (is.1.1.1.0, is.1.0.0, is.1.1.0, rw append-nil at at)))
-    body_sound (Head.Question q) tokens c e =
-        spelled _ _ tokens c (request_reads q) e (λ x is at. (refl, (record { words = is.0; numbers = is.1.0; vectors = is.1.1 }, rw append-nil at at)))
+    body_sound (Head.Query k) tokens c e =
+        spelled _ _ tokens c (request_reads k) e (λ x is at. (refl, (record { words = is.0; numbers = is.1.0; vectors = is.1.1 }, rw append-nil at at)))
 
     body_again : (c : Command) (tokens : List Lexeme) → IsBody bytes c tokens → body bytes (head_of c) tokens ≡ Some (c, [])
     body_again (Command.Nodes ns) tokens is = rw (is.1, names_last ns is.0) refl
@@ -102,7 +102,7 @@ module _ (law : FormulasAreRead) where
         rw (is.3, plain_reads.read periods (second_vector_text shear ++ last) (is.1, tt) tt, shear_reads.read shear last is.2 (subst (λ (ts : List Lexeme). plain.item ts ≡ None) (append-nil last) (no_shear ns [] (is.0, tt))), names_last ns is.0) refl
     body_again (Command.Query r) tokens is =
         let at = is.1 ∙ ap (λ (ts : List Lexeme). map Lexeme.Word r.words ++ (map Lexeme.Number r.numbers ++ ts)) (sym (append-nil (flat_map vector_text r.vectors))) in
-        rw (read_last (request_reads r.question) (r.words, (r.numbers, r.vectors)) tokens (is.0.words, (is.0.numbers, is.0.vectors)) at) refl
+        rw (read_last (request_reads r.kind) (r.words, (r.numbers, r.vectors)) tokens (is.0.words, (is.0.numbers, is.0.vectors)) at) refl
     body_again c tokens is = rw is refl
 
     pub command_sound : (tokens : List Lexeme) (c : Command) → command_of bytes tokens ≡ Some c → IsCommand bytes c tokens

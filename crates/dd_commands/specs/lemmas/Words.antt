@@ -1,12 +1,13 @@
 -- Words by their text, and lists of names, numbers, edges and vectors, are read as they are written.
 use Rattle.std.proofs.Common.{◌≡◌, ℕ, ◌≤◌, List, [], ◌∷◌, ◌++◌, map, length, Some, None, refl, sym, ap, subst, ◌∙◌, arith, bytes_eq, inl, inr, flat_map, append-nil, append_assoc}
-use Rattle.std.proofs.lemmas.{List.Concat.flat_map_single, Option.some_pair_parts, Slice.Eq.bytes_eq-Decides}
-use Rattle.dd_commands.specs.Tree.{Kind, Lexeme, Name, Lists, Question, Head, Vector}
+use Rattle.std.specs.Option.{option_or, option_map}
+use Rattle.std.proofs.lemmas.{Grind.common_steps, List.Concat.flat_map_single, Option.some_pair_parts, Slice.Eq.bytes_eq-Decides}
+use Rattle.dd_commands.specs.Tree.{Kind, Lexeme, Name, Lists, QueryKind, Head, Vector}
 use Rattle.dd_written.specs.{Values.word_text, Formulas.name_lexeme, reading.Atoms.name_at}
-use Rattle.dd_commands.specs.{Table.row, Heads.head_text, Heads.kind_text, Commands.vector_text, Commands.edge_text, Commands.IsBehind, Commands.AreLists}
+use Rattle.dd_commands.specs.{Table.row, Table.kind_word, Table.query_kinds, Heads.head_text, Heads.kind_text, Commands.vector_text, Commands.edge_text, Commands.IsBehind, Commands.AreLists}
 use Rattle.dd_commands.specs.reading.Forms.{Reader, single, ◌▸◌, some, exactly}
 use Rattle.dd_commands.specs.reading.Vectors.{word_at, number_at, vector, plain, edge}
-use Rattle.dd_commands.specs.reading.Commands.{one_of, keyword, heads, kinds, wanted, names, lists_at, listed}
+use Rattle.dd_commands.specs.reading.Commands.{one_of, keyword, heads, other_heads, kinds, wanted, names, lists_at, listed}
 use Rattle.dd_commands.specs.lemmas.Forms.{bind_some, some_is, chosen, Reads, read_last, made_is, then_reads, such_reads, exactly_reads, some_reads}
 use Rattle.dd_commands.specs.lemmas.Items.{word_written, word_reads, number_reads, name_reads, vector_reads, plain_reads, edge_reads}
 
@@ -31,9 +32,18 @@ pub wanted_reads : (bytes spelt : List ℕ) → Reads (wanted bytes spelt)
 wanted_reads bytes spelt =
     such_reads (λ w. word_text bytes w ≡ spelt) (λ w. bytes_eq (word_text bytes w) spelt) (λ w. (bytes_eq-Decides (word_text bytes w) spelt).0) (λ w. (bytes_eq-Decides (word_text bytes w) spelt).1) word_reads
 
+-- a first word is that of a query, or of another command
+either_of : (written : List ℕ) (hs : List Head) (ks : List QueryKind) → one_of head_text (hs ++ map Head.Query ks) written ≡ option_or (one_of head_text hs written) (option_map Head.Query (one_of kind_word ks written))
+either_of written [] [] = refl
+either_of written [] (k ∷ ks) = grind (arith, common_steps, either_of written [] ks)
+either_of written (h ∷ hs) ks = grind (arith, common_steps, either_of written hs ks)
+
+pub either_head : (written : List ℕ) → one_of head_text heads written ≡ option_or (one_of head_text other_heads written) (option_map Head.Query (one_of kind_word query_kinds written))
+either_head written = either_of written other_heads query_kinds
+
 -- no command begins with the word of another
 pub head_first : (h : Head) → one_of head_text heads (head_text h) ≡ Some h
-head_first (Head.Question Question.Member) = refl
+head_first (Head.Query QueryKind.Member) = refl
 head_first h = refl
 
 pub kind_first : (k : Kind) → one_of kind_text kinds (kind_text k) ≡ Some k
@@ -89,8 +99,8 @@ listed_again Lists.Strip vs rest are end =
     subst (λ (ts : List Lexeme). lists_at Lists.Strip ts ≡ Some (vs, rest)) (one_text are.0 vs rest are.1) (rw (plain_reads.read are.0 rest (are.2, tt) tt, are.1) refl)
 listed_again Lists.Vectors vs rest are end = vectors_read.read vs rest (are, tt) end
 
-pub request_reads : (q : Question) → Reads (exactly (length (row q).names) (map Lexeme.Word) word_at ▸ exactly (row q).numbers (map Lexeme.Number) number_at ▸ listed (row q).lists)
-request_reads q =
-    then_reads (exactly_singles Lexeme.Word word_at word_reads (length (row q).names)) (λ y rest is. tt)
-    (then_reads (exactly_singles Lexeme.Number number_at number_reads (row q).numbers) (λ y rest is. tt)
-    (record { written = listed_written (row q).lists; read = listed_again (row q).lists; last = refl }))
+pub request_reads : (k : QueryKind) → Reads (exactly (length (row k).names) (map Lexeme.Word) word_at ▸ exactly (row k).numbers (map Lexeme.Number) number_at ▸ listed (row k).lists)
+request_reads k =
+    then_reads (exactly_singles Lexeme.Word word_at word_reads (length (row k).names)) (λ y rest is. tt)
+    (then_reads (exactly_singles Lexeme.Number number_at number_reads (row k).numbers) (λ y rest is. tt)
+    (record { written = listed_written (row k).lists; read = listed_again (row k).lists; last = refl }))

@@ -1,10 +1,10 @@
 -- Reading commands.
 use Rattle.std.specs.Prelude.{◌≡◌, ℕ, List, [], ◌∷◌, ◌++◌, length, map, true, Option, Some, None, bytes_eq, codes, find}
 use Rattle.std.specs.List.{flat_map}
-use Rattle.dd_commands.specs.Tree.{Word, Name, Kind, Lexeme, Formula, Lists, Question, Head, Vector, Case, Command}
+use Rattle.dd_commands.specs.Tree.{Word, Name, Kind, Lexeme, Formula, Lists, Head, Vector, Case, Command}
 use Rattle.dd_written.specs.{Values.word_text, Formulas.name_lexeme, Formulas.text, Formulas.IsWrittenFormula}
 use Rattle.dd_written.specs.reading.{Atoms.name_at, Formulas.formula_at, Formulas.ends}
-use Rattle.dd_commands.specs.{Table.row, Heads.head_text, Heads.kind_text, Commands.vector_text, Commands.AreLists}
+use Rattle.dd_commands.specs.{Table.row, Table.query_kinds, Heads.head_text, Heads.kind_text, Commands.vector_text, Commands.AreLists}
 use Rattle.dd_commands.specs.reading.Forms.{◌>>=◌, Reader, Form, made, both, ◌▸◌, such, each_at, some_at, some, exactly, alone}
 use Rattle.dd_commands.specs.reading.Vectors.{word_at, word, number_at, number, name, vector, plain, shear, edge}
 
@@ -17,12 +17,14 @@ one_of text_of xs written = find (λ x. bytes_eq written (text_of x)) xs
 abbrev pub keyword : {X : Type 0} → (X → List ℕ) → List X → List ℕ → Reader X
 keyword text_of xs bytes tokens = word_at tokens >>= λ w. one_of text_of xs (word_text bytes w.0) >>= λ x. Some (x, w.1)
 
-abbrev pub heads : List Head
-heads =
+-- the first words of all commands but queries
+abbrev pub other_heads : List Head
+other_heads =
     Head.Dimension ∷ Head.Nodes ∷ Head.Alphabet ∷ Head.Topology ∷ Head.Only ∷ Head.Weights ∷ Head.Limits ∷ Head.Rule ∷ Head.Automaton
-    ∷ Head.Composition ∷ Head.Configuration ∷ Head.Question Question.Member ∷ Head.Question Question.Contains ∷ Head.Question Question.Equal
-    ∷ Head.Question Question.Empty ∷ Head.Question Question.Agree ∷ Head.Question Question.Forbidden ∷ Head.Question Question.Density
-    ∷ Head.Question Question.Discharge ∷ []
+    ∷ Head.Composition ∷ Head.Configuration ∷ []
+
+abbrev pub heads : List Head
+heads = other_heads ++ map Head.Query query_kinds
 
 abbrev pub kinds : List Kind
 kinds = Kind.Line ∷ Kind.Square ∷ Kind.King ∷ Kind.Triangle ∷ Kind.Hex ∷ Kind.Cube ∷ []
@@ -48,7 +50,7 @@ automaton_at bytes = both word_at (both (each_at (case_at bytes)) (wanted bytes 
 abbrev pub names : Form (List Name)
 names = some (map name_lexeme) name_at
 
--- the vectors at the end of a question
+-- the vectors at the end of a query
 abbrev pub lists_at : Lists → Reader (List Vector)
 lists_at Lists.None tokens = Some ([], tokens)
 lists_at Lists.Strip tokens = made (λ v. v ∷ []) plain.item tokens
@@ -72,9 +74,9 @@ body bytes Head.Rule tokens = made (λ x. Command.Rule x.0 x.1) (word ▸ formul
 body bytes Head.Automaton tokens = made (λ x. Command.Automaton x.0 x.1.0 x.1.1.1) (automaton_at bytes) tokens
 body bytes Head.Composition tokens = made (λ x. Command.Composition x.0 x.1.0 x.1.1) (word ▸ word ▸ word).item tokens
 body bytes Head.Configuration tokens = made (λ x. Command.Configuration x.0 x.1.0 x.1.1.0 x.1.1.1) (word ▸ plain ▸ shear ▸ names).item tokens
-body bytes (Head.Question q) tokens =
-    made (λ x. Command.Query (record { question = q; words = x.0; numbers = x.1.0; vectors = x.1.1 }))
-    (exactly (length (row q).names) (map Lexeme.Word) word_at ▸ exactly (row q).numbers (map Lexeme.Number) number_at ▸ listed (row q).lists).item tokens
+body bytes (Head.Query k) tokens =
+    made (λ x. Command.Query (record { kind = k; words = x.0; numbers = x.1.0; vectors = x.1.1 }))
+    (exactly (length (row k).names) (map Lexeme.Word) word_at ▸ exactly (row k).numbers (map Lexeme.Number) number_at ▸ listed (row k).lists).item tokens
 
 abbrev pub command_of : List ℕ → List Lexeme → Option Command
 command_of bytes tokens = do

@@ -1,4 +1,4 @@
-//! What is known where a command stands.
+//! What a script has said so far, and where a command stands.
 use dd_commands::Role;
 use dd_topology::{Names, Sets, Topology};
 use dd_values::{Items, Limits};
@@ -44,7 +44,7 @@ pub struct Context {
 
 impl Known {
     ghost use Rattle.std.specs.Prelude.{◌≡◌};
-    ghost use Rattle.dd_faults.specs.Names.{named};
+    ghost use Rattle.dd_known.specs.Known.{named};
 
     /// The names that words of a role may stand for.
     pub fn named(&self, role: Role) -> &Names

@@ -3,7 +3,7 @@ use Rattle.std.specs.Prelude.{ℕ, ◌≡◌, ◌≤◌, List, length}
 use Rattle.std.specs.List.{All}
 use Rattle.dd_values.specs.{Bounds.most_weight, Ranges.AreLimits}
 use Rattle.dd_topology.specs.{Grid.Grid, Grid.IsGrid, Sets.IsSets}
-use Rattle.dd_faults.specs.Tree.{Setting, Known}
+use Rattle.dd_known.specs.{Tree.Setting, Tree.Known, Limits.most_nodes, Limits.most_symbols}
 
 -- a topology of so many nodes
 pub record IsGridOf (n : ℕ) (g : Grid) : Type 0 where
@@ -13,8 +13,8 @@ pub record IsGridOf (n : ℕ) (g : Grid) : Type 0 where
 -- what formulas may speak of goes together
 pub record IsSetting (s : Setting) : Type 0 where
   pub topology : IsGridOf (length s.nodes) s.topology
-  pub nodes : (1 ≤ length s.nodes) × (length s.nodes ≤ 4)
-  pub symbols : (1 ≤ length s.symbols) × (length s.symbols ≤ 16)
+  pub nodes : (1 ≤ length s.nodes) × (length s.nodes ≤ most_nodes)
+  pub symbols : (1 ≤ length s.symbols) × (length s.symbols ≤ most_symbols)
   -- each node allows some of the symbols
   pub sets : IsSets (length s.nodes) s.sets
   pub alphabet : s.sets.symbols ≡ length s.symbols

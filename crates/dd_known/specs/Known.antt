@@ -1,0 +1,12 @@
+-- The names and numbers of what is known.
+use Rattle.std.specs.Prelude.{ℕ, List}
+use Rattle.dd_known.specs.Tree.{Role, Known}
+
+abbrev pub dimension_of : Known → ℕ
+dimension_of k = k.setting.topology.dimension
+
+-- the names that words of a role may stand for
+abbrev pub named : Known → Role → List (List ℕ)
+named k Role.Rule = k.rules
+named k Role.Automaton = k.automata
+named k Role.Configuration = k.configurations

@@ -1,0 +1,62 @@
+//! The words, numbers and vectors of a query, with numbers in place of names.
+ghost use Rattle.std.specs.Prelude.{◌≡◌, false, map, min, IfOk};
+ghost use Rattle.std.specs.List.{list_any};
+ghost use Rattle.dd_faults.specs.Commands.{is_far};
+ghost use Rattle.dd_query.specs.Vectors.{place_of};
+ghost use Rattle.dd_query.specs.Parts.{word_at, value_at, strip_periods, AreStripPeriods};
+
+use crate::vectors::position_of;
+use dd_commands::{Request, Vector};
+use dd_faults::{number_in, period_at};
+use dd_known::Context;
+use dd_lattice::Position;
+use dd_values::Items;
+use dd_written::{Name, Text, number_value};
+use std::alloc::{AllocError, Global};
+
+/// The number of what the word at a place names.
+pub(crate) fn word_at(context: &Context, request: &Request, place: usize) -> u32
+    ensures { result ≡ word_at context.now request.now place }
+{
+    let roles = request.kind.row().names;
+    let (Some(role), Some(word)) = (roles.get(place), request.words.get(place)) else {
+        return 0;
+    };
+    number_in(&context.text, context.known.named(*role), Name::Word(*word))
+}
+
+/// The value of the number at a place, and the greatest number of 32 bits for all that are greater.
+pub(crate) fn value_at(context: &Context, request: &Request, place: usize) -> u32
+    ensures { result ≡ min (value_at context.now request.now place) 4294967295 }
+{
+    let number = request.numbers.get(place);
+    number.map_or(0, |number| number_value(&context.text, *number))
+}
+
+/// The periods of a strip along the second and the third axis.
+pub(crate) fn strip_of(context: &Context, vectors: &[Vector]) -> [u32; 2]
+    requires { AreStripPeriods context.now.known.setting.topology.dimension (strip_periods context.now.text vectors.now) }
+    ensures { result ≡ strip_periods context.now.text vectors.now }
+{
+    let text = &context.text;
+    match vectors {
+        [periods, ..] => [period_at(text, periods, 0), period_at(text, periods, 1)],
+        _ => [1, 1],
+    }
+}
+
+/// The positions of vectors without far entries.
+pub(crate) fn positions(
+    alloc: Global,
+    text: &Text,
+    vectors: &[Vector],
+) -> Result<Items<Position>, AllocError>
+    requires { list_any (is_far text.now) vectors.now ≡ false }
+    ensures { IfOk result (λ places. places ≡ map (place_of text.now) vectors.now) }
+{
+    let mut places = Items::new(alloc);
+    for vector in vectors {
+        places.push(position_of(text, vector))?;
+    }
+    Ok(places)
+}
