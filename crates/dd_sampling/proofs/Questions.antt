@@ -33,8 +33,8 @@ use Rattle.dd_query.specs.Queries.{query_of}
 use Rattle.dd_boxes.specs.Goals.{breaks}
 use Rattle.dd_question.specs.declared.excess.Excess.{Excess}
 use Rattle.dd_question.specs.declared.excess.Excess.TheVariants as excess
-use Rattle.dd_question.specs.Questions.{membership, box, equality, density, discharge}
-use Rattle.dd_question.specs.Excesses.{is_long, passed, excess_of}
+use Rattle.dd_question.specs.Questions.{membership, box, equality, density, discharge, passed, excess_of}
+use Rattle.dd_question.specs.Boxes.{is_long}
 use Rattle.dd_script.specs.Parts.{Parts}
 use Rattle.dd_script.specs.Questions.{of_both, query_excess}
 use Rattle.dd_sampling.proofs.Lexing.{Stands, number_at, up_word, up_number, up_lexeme, word_up, number_up}

@@ -19,7 +19,8 @@ use Rattle.dd_faults.specs.declared.fault.Limit.TheVariants as limit
 use Rattle.dd_known.specs.declared.known.Known.{Known}
 use Rattle.dd_known.specs.declared.known.Setting.{Setting}
 use Rattle.dd_faults.specs.Order.{over}
-use Rattle.dd_question.specs.Excesses.{is_long, has_many_states}
+use Rattle.dd_question.specs.Boxes.{is_long}
+use Rattle.dd_question.specs.Densities.{has_many_states}
 use Rattle.dd_meanings.specs.Definitions.{rule_faults}
 use Rattle.dd_topology.specs.Builtin.{square}
 use Rattle.dd_topology.specs.Sets.{all_symbols}
