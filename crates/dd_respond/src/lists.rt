@@ -10,6 +10,7 @@ use dd_formula::Rule;
 use std::alloc::{AllocError, Global};
 
 /// The list of the patterns that a rule forbids.
+#[tactic(auto, using(dd_evidence::specs::Answers::all_forbidden))]
 pub(crate) fn listed(alloc: Global, rule: &Rule) -> Result<Answer, AllocError>
     requires { HasFewPatterns rule.now }
     ensures right { IfOk result (IsListCertificate rule.now) }

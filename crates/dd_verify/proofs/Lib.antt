@@ -12,3 +12,4 @@ pub mod SmallNumbers
 pub mod WholeSides
 pub mod Weighing
 pub mod Certifying
+pub mod BoxForms

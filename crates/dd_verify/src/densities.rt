@@ -81,6 +81,7 @@ fn is_empty(
 }
 
 /// Whether an answer is a certificate of the least density of a strip, one that an output can hold.
+#[tactic(auto, using(crate::specs::Bounds::strip_least, crate::specs::Bounds::strip_empty, crate::proofs::Weighing::least_of))]
 pub(crate) fn check_strip(
     alloc: Global,
     rule: &Rule,
