@@ -11,8 +11,7 @@ use Rattle.dd_script.specs.Parts.{Parts}
 use Rattle.dd_script.specs.Questions.{query_at}
 use Rattle.dd_script.specs.Asking.{Asks}
 use Rattle.dd_values.specs.declared.limits.Limits.{Limits}
-use Rattle.dd_verify.specs.Certificates.{IsCertificateOf}
-use Rattle.dd_verify.specs.Claims.{ClaimOf}
+use Rattle.dd_verify.specs.Certificates.{IsCertificateOf, ClaimOf}
 use Rattle.dd_checker.specs.Certificates.{IsCertificateFor, IsCertificate}
 use Rattle.dd_checker.specs.Claims.{ClaimFor, Claim}
 use Rattle.dd_checker.proofs.Verdicts.{claim_at}

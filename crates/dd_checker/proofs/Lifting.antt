@@ -17,15 +17,16 @@ use Rattle.dd_boxes.specs.Boxes.{HoldsNowhere}
 use Rattle.dd_meanings.specs.Made.{IsRuleOf}
 use Rattle.dd_query.specs.declared.queries.Query.{Query}
 use Rattle.dd_script.specs.Parts.{Parts}
+use Rattle.dd_derivation.specs.declared.step.Step.{Step}
 use Rattle.dd_certificate.specs.declared.answer.Answer.{Answer}
-use Rattle.dd_question.specs.Questions.{Asked, membership, box, equality, listing, density, discharge}
+use Rattle.dd_certificate.specs.declared.answer.Answer.TheVariants as answer
+use Rattle.dd_question.specs.Questions.{Asked, box, equality}
 use Rattle.dd_script.specs.Questions.{asked, query_at}
 use Rattle.dd_script.specs.Asking.{AreOf, AreSound}
-use Rattle.dd_verify.specs.Holding.{MemberClaim, says_inside, says_outside, BoxClaim, says_nowhere, says_witness, says_nothing, EqualClaim, says_equal, says_left, says_right, says_none, ListClaim, says_list}
-use Rattle.dd_verify.specs.Bounds.{StripClaim, claims_least, claims_empty, DischargeClaim, claims_bound, no_claim}
-use Rattle.dd_verify.specs.Claims.{ClaimOf}
+use Rattle.dd_verify.specs.Holding.{says_nowhere, says_equal}
+use Rattle.dd_verify.specs.Certificates.{ClaimOf}
 use Rattle.dd_checker.specs.Claims.{ClaimFor, Claim}
-use Rattle.dd_checker.specs.Lifted.{is_yes, whole_look, IsWhole, IsNotAt, IsAskedNotAt, IsNowhereAt}
+use Rattle.dd_checker.specs.Lifted.{is_yes, whole_look, IsWhole, IsNotAt, IsAskedNotAt, of_box, of_equality, IsNowhereAt}
 
 -- what follows from what an item is and has
 some_then : {X : Type 0} (o : Option X) (P Q : X → Type 0) → ((x : X) → o ≡ Some x → P x → Q x) → IsSomeAnd o P → IsSomeAnd o Q
@@ -35,6 +36,16 @@ some_then None P Q h p = p
 -- an item stands in its list
 stands_at : (xs : List Query) (n : ℕ) (x : Query) → slice_get xs n ≡ Some x → Contains xs x
 stands_at xs n x is = (n, slice_get_within xs n x is, get_or_from_slice_get xs n x x is)
+
+-- a YES to one question, or to both of an equality
+data SaysYes : Answer → Type 0 where
+  one : {n : ℕ} {steps : List Step} → SaysYes (answer.Yes n steps)
+  both : {n m : ℕ} {steps others : List Step} → SaysYes (answer.YesBoth n m steps others)
+
+says_yes : (a : Answer) → is_yes a ≡ true → SaysYes a
+says_yes (answer.Yes n steps) told = one
+says_yes (answer.YesBoth n m steps others) told = both
+says_yes _ told = absurd (false≢true told)
 
 module _ (s : Parts) (nodes : ℕ) (symbol_of : Cell → ℕ) (whole : IsWhole s nodes symbol_of) where
   abbrev look : Look
@@ -65,21 +76,10 @@ module _ (s : Parts) (nodes : ℕ) (symbol_of : Cell → ℕ) (whole : IsWhole s
         let level : is_flat x.dimension v ≡ true = subst (λ d. is_flat d v ≡ true) (sym of.dimension) flat in
         nowhere.configurations look (look_whole x of) obeys v level there
 
-    asked_not_at : (a : Answer) → is_yes a ≡ true → (k : Asked) → AreOf s.known k → ClaimOf k a → IsAskedNotAt k look v
-    asked_not_at a told (membership x t) ok (says_inside claim) = absurd (false≢true told)
-    asked_not_at a told (membership x t) ok (says_outside claim) = absurd (false≢true told)
-    asked_not_at a told (box x g) ok (says_nowhere {n = n} claim) = not_at x g n ok claim
-    asked_not_at a told (box x g) ok (says_witness claim) = absurd (false≢true told)
-    asked_not_at a told (box x g) ok says_nothing = absurd (false≢true told)
-    asked_not_at a told (equality x y) ok (says_equal {n = n} {m = m} one other) = (not_at x (breaks y) n ok.0 one, not_at y (breaks x) m ok.1 other)
-    asked_not_at a told (equality x y) ok (says_left claim) = absurd (false≢true told)
-    asked_not_at a told (equality x y) ok (says_right claim) = absurd (false≢true told)
-    asked_not_at a told (equality x y) ok says_none = absurd (false≢true told)
-    asked_not_at a told (listing x) ok (says_list claim) = absurd (false≢true told)
-    asked_not_at a told (density x strip ws) ok (claims_least claim) = absurd (false≢true told)
-    asked_not_at a told (density x strip ws) ok (claims_empty claim) = absurd (false≢true told)
-    asked_not_at a told (discharge x radius margin vs ws) ok (claims_bound claim) = absurd (false≢true told)
-    asked_not_at a told (discharge x radius margin vs ws) ok no_claim = absurd (false≢true told)
+    asked_not_at : (a : Answer) → SaysYes a → (k : Asked) → AreOf s.known k → ClaimOf k a → IsAskedNotAt k look v
+    asked_not_at a one (box x g) ok (says_nowhere {n = n} claim) = of_box (not_at x g n ok claim)
+    asked_not_at a both (equality x y) ok (says_equal {n = n} {m = m} left right) = of_equality (not_at x (breaks y) n ok.0 left) (not_at y (breaks x) m ok.1 right)
+    asked_not_at _ _ _ ok claim = elim claim [ ]
 
     -- where a YES claims what is true, the goal does not hold at v
     pub lifted_law : AreSound s → (number : ℕ) (a : Answer) → is_yes a ≡ true → Claim s number a → IsNowhereAt s number look v
@@ -87,5 +87,5 @@ module _ (s : Parts) (nodes : ℕ) (symbol_of : Cell → ℕ) (whole : IsWhole s
         some_then (query_at s number) (λ q. ClaimFor s q a) (λ q. IsSomeAnd (asked s q) (λ k. IsAskedNotAt k look v))
         (λ q is claim.
         some_then (asked s q) (λ k. ClaimOf k a) (λ k. IsAskedNotAt k look v)
-        (λ k asks holds. asked_not_at a told k (sound q k (stands_at s.queries (number - 1) q is) asks).of holds) claim)
+        (λ k asks holds. asked_not_at a (says_yes a told) k (sound q k (stands_at s.queries (number - 1) q is) asks).of holds) claim)
         h

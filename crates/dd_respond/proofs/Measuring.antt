@@ -27,7 +27,7 @@ use Rattle.dd_certificate.specs.declared.answer.Answer.{Answer}
 use Rattle.dd_certificate.specs.declared.answer.Answer.TheVariants as answer
 use Rattle.dd_certificate.specs.Bounds.{IsWritable}
 use Rattle.dd_certificate.specs.Text.{answer_line}
-use Rattle.dd_respond.specs.Bounds.{written_density, written_bound, IsRightDensity, right_least, right_empty, IsReasonOf, IsRightDischarge, right_bound, is_large, overflows, used_up}
+use Rattle.dd_respond.specs.Bounds.{written_density, written_bound, IsRightDensity, right_least, right_empty, IsReasonOf, for_large, for_overflow, for_pivots, IsRightDischarge, right_bound, is_large, overflows, used_up}
 use Rattle.dd_respond.specs.Right.{is_unknown}
 use Rattle.dd_respond.specs.Laws.{SayTheSame}
 
@@ -98,10 +98,9 @@ bound_fits b small = (small.numerator, small.denominator, small.common, small.am
 module _ (x : LocalRule) (radius margin : ℕ) (vs : List Place) (ws : List ℕ) (pivots : ℕ) where
   pub reason_right : (f : DischargeFault) (r : Reason) → IsDischargeFault x ws radius margin vs pivots f → IsReasonOf f r →
       IsRightDischarge x radius margin vs ws pivots (answer.Unknown r)
-  reason_right f reason.Limits h is = absurd is
-  reason_right f reason.Large h is = is_large (subst (IsDischargeFault x ws radius margin vs pivots) is h)
-  reason_right f reason.Overflow h is = overflows (subst (IsDischargeFault x ws radius margin vs pivots) is h)
-  reason_right f reason.Pivots h is = used_up (subst (IsDischargeFault x ws radius margin vs pivots) is h)
+  reason_right f r h for_large = is_large h
+  reason_right f r h for_overflow = overflows h
+  reason_right f r h for_pivots = used_up h
 
   module _ (one : HasOneOutcome x ws radius margin vs pivots) where
     -- there is one right answer only

@@ -37,12 +37,11 @@ pub data IsRightDensity (x : LocalRule) (strip ws : List ℕ) : Answer → Type 
 abbrev pub written_bound : Bound → Answer
 written_bound b = answer.Bound b.numerator b.denominator b.common b.amounts b.duals
 
--- why there is no bound
-abbrev pub IsReasonOf : DischargeFault → Reason → Type 0
-IsReasonOf f reason.Limits = ⊥
-IsReasonOf f reason.Large = f ≡ fault.Large
-IsReasonOf f reason.Overflow = f ≡ fault.Overflow
-IsReasonOf f reason.Pivots = f ≡ fault.Pivots
+-- why there is no bound, as it is answered
+pub data IsReasonOf : DischargeFault → Reason → Type 0 where
+  for_large : IsReasonOf fault.Large reason.Large
+  for_overflow : IsReasonOf fault.Overflow reason.Overflow
+  for_pivots : IsReasonOf fault.Pivots reason.Pivots
 
 -- the bound with which the run of the program ends, with what shows that it is the best; or the reason why there is none
 pub data IsRightDischarge (x : LocalRule) (radius margin : ℕ) (vs : List Place) (ws : List ℕ) (pivots : ℕ) : Answer → Type 0 where

@@ -1,5 +1,6 @@
 -- Which answers are right.
-use Rattle.std.specs.Prelude.{◌≡◌, Bool, true, false}
+use Rattle.std.specs.Prelude.{◌≡◌, Bool, nat_eq, codes}
+use Rattle.std.specs.List.{starts_with}
 use Rattle.dd_pattern.specs.Tile.{Tile}
 use Rattle.dd_formula.specs.LocalRule.{LocalRule}
 use Rattle.dd_values.specs.declared.limits.Limits.{Limits}
@@ -9,6 +10,7 @@ use Rattle.dd_certificate.specs.declared.answer.Answer.TheVariants as answer
 use Rattle.dd_certificate.specs.declared.answer.Side.{Side}
 use Rattle.dd_certificate.specs.declared.answer.Side.TheVariants as side
 use Rattle.dd_certificate.specs.declared.answer.Reason.TheVariants as reason
+use Rattle.dd_certificate.specs.Text.{verdict_text}
 use Rattle.dd_contain.specs.declared.decision.Decision.{Decision}
 use Rattle.dd_contain.specs.declared.decision.Decision.TheVariants as decision
 use Rattle.dd_contain.specs.declared.equal.Equality.{Equality}
@@ -68,15 +70,6 @@ IsRightTo l (listing x) a = IsListCertificate x a
 IsRightTo l (density x strip ws) a = IsRightDensity x strip ws a
 IsRightTo l (discharge x radius margin vs ws) a = IsRightDischarge x radius margin vs ws l.pivots a
 
--- no definite answer: a stated limit was met
+-- no definite answer: the first line says that a stated limit was met
 abbrev pub is_unknown : Answer → Bool
-is_unknown answer.Inside = false
-is_unknown (answer.Outside place) = false
-is_unknown (answer.Yes radius steps) = false
-is_unknown (answer.YesBoth left right left_steps right_steps) = false
-is_unknown (answer.No s periods shear symbols) = false
-is_unknown (answer.Unknown r) = true
-is_unknown (answer.List patterns) = false
-is_unknown (answer.Density numerator denominator cycle potentials) = false
-is_unknown (answer.Empty ranks) = false
-is_unknown (answer.Bound numerator denominator common amounts duals) = false
+is_unknown a = starts_with nat_eq (verdict_text a) (codes "UNKNOWN ")

@@ -52,28 +52,37 @@ bound_of (best h) = h
 
 -- ---- what certificates claim
 
--- the laws of strips and of bounds
-pub record BoundLaws : Type 0 where
-  pub least : (r : LocalRule) (periods ws : List ℕ) (p q : ℕ) (walk : List ℕ) (ps : List ℤ) → IsRule r → IsStrip r periods →
-      (c : IsDensityCertificate r (strip_for r periods) ws p q walk ps) → StripLeast r (strip_for r periods) ws p q c.l c.m (spread_of ps)
-  pub empty : (r : LocalRule) (periods ranks : List ℕ) → IsRule r → IsStrip r periods → IsEmptyCertificate r (strip_for r periods) ranks →
-      StripEmpty r (strip_for r periods) (greatest ranks + window r)
-  pub best : (x : LocalRule) (ws : List ℕ) (radius margin : ℕ) (vs : List Place) (b : Bound) → IsBoundCertificate x ws radius margin vs b →
-      BestOf x ws radius margin vs b.numerator b.denominator
-  pub holds : (x : LocalRule) (ws : List ℕ) (radius margin : ℕ) (vs : List Place) (b : Bound) → IsRule x → AreVectors x.dimension vs →
-      IsBoundCertificate x ws radius margin vs b → HoldsOnSides x ws radius margin vs b
+-- the laws of strips
+abbrev AreLeast : Type 0
+AreLeast = (r : LocalRule) (periods ws : List ℕ) (p q : ℕ) (walk : List ℕ) (ps : List ℤ) → IsRule r → IsStrip r periods →
+    (c : IsDensityCertificate r (strip_for r periods) ws p q walk ps) → StripLeast r (strip_for r periods) ws p q c.l c.m (spread_of ps)
 
-pub strip_claims : BoundLaws → (x : LocalRule) (strip ws : List ℕ) → IsRule x → IsStrip x strip → (a : Answer) → IsStripCertificate x strip ws a → StripClaim x strip ws a
-strip_claims laws x strip ws rule narrow a (strip_least {p = p} {q = q} {cycle = cycle} {potentials = potentials} h) =
-    claims_least (record { m = h.m; l = h.l; mean = h.mean; least = laws.least x strip ws p q cycle potentials rule narrow h })
-strip_claims laws x strip ws rule narrow a (strip_empty {ranks = ranks} h) = claims_empty (laws.empty x strip ranks rule narrow h)
+abbrev AreEmpty : Type 0
+AreEmpty = (r : LocalRule) (periods ranks : List ℕ) → IsRule r → IsStrip r periods → IsEmptyCertificate r (strip_for r periods) ranks →
+    StripEmpty r (strip_for r periods) (greatest ranks + window r)
 
-pub discharge_claims : BoundLaws → (x : LocalRule) (radius margin : ℕ) (vs : List Place) (ws : List ℕ) → IsRule x → AreVectors x.dimension vs → (a : Answer) →
-    IsDischargeCertificate x radius margin vs ws a → DischargeClaim x radius margin vs ws a
-discharge_claims laws x radius margin vs ws rule vectors a (best {p = p} {q = q} {n = n} {amounts = amounts} {duals = duals} h) =
-    let b = bound_claimed p q n amounts duals in
-    let sides = laws.holds x ws radius margin vs b rule vectors h in
-    claims_bound (record { best = laws.best x ws radius margin vs b h; sides = sides; configurations = configurations_hold x ws radius margin vs b rule sides })
-discharge_claims laws x radius margin vs ws rule vectors a too_large = no_claim
-discharge_claims laws x radius margin vs ws rule vectors a overflow = no_claim
-discharge_claims laws x radius margin vs ws rule vectors a no_pivots = no_claim
+module _ (least : AreLeast) (empty : AreEmpty) (x : LocalRule) (strip ws : List ℕ) (rule : IsRule x) (narrow : IsStrip x strip) where
+  pub strip_claims : (a : Answer) → IsStripCertificate x strip ws a → StripClaim x strip ws a
+  strip_claims a (strip_least {p = p} {q = q} {cycle = cycle} {potentials = potentials} h) =
+      claims_least (record { m = h.m; l = h.l; mean = h.mean; least = least x strip ws p q cycle potentials rule narrow h })
+  strip_claims a (strip_empty {ranks = ranks} h) = claims_empty (empty x strip ranks rule narrow h)
+
+-- the laws of bounds
+abbrev AreBest : Type 0
+AreBest = (x : LocalRule) (ws : List ℕ) (radius margin : ℕ) (vs : List Place) (b : Bound) → IsBoundCertificate x ws radius margin vs b →
+    BestOf x ws radius margin vs b.numerator b.denominator
+
+abbrev AreHeld : Type 0
+AreHeld = (x : LocalRule) (ws : List ℕ) (radius margin : ℕ) (vs : List Place) (b : Bound) → IsRule x → AreVectors x.dimension vs →
+    IsBoundCertificate x ws radius margin vs b → HoldsOnSides x ws radius margin vs b
+
+module _ (best_bound : AreBest) (bound_holds : AreHeld) (x : LocalRule) (radius margin : ℕ) (vs : List Place) (ws : List ℕ) (rule : IsRule x)
+    (vectors : AreVectors x.dimension vs) where
+  pub discharge_claims : (a : Answer) → IsDischargeCertificate x radius margin vs ws a → DischargeClaim x radius margin vs ws a
+  discharge_claims a (best {p = p} {q = q} {n = n} {amounts = amounts} {duals = duals} h) =
+      let b = bound_claimed p q n amounts duals in
+      let sides = bound_holds x ws radius margin vs b rule vectors h in
+      claims_bound (record { best = best_bound x ws radius margin vs b h; sides = sides; configurations = configurations_hold x ws radius margin vs b rule sides })
+  discharge_claims a too_large = no_claim
+  discharge_claims a overflow = no_claim
+  discharge_claims a no_pivots = no_claim

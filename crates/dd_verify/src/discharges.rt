@@ -1,5 +1,5 @@
 //! Answers to questions about discharging.
-ghost use Rattle.std.specs.Prelude.{◌≢◌, ◌↔◌, IsTrue, IfOk};
+ghost use Rattle.std.specs.Prelude.{◌≡◌, ◌↔◌, ◌⊎◌, IsTrue, IfOk};
 ghost use Rattle.dd_certificate.specs.declared.answer.Answer.TheVariants as answer;
 ghost use Rattle.dd_certificate.specs.Bounds.{IsWritable};
 ghost use Rattle.dd_discharge.specs.Amounts.{bound_claimed};
@@ -53,7 +53,7 @@ fn is_bound(
 }
 
 fn is_of_discharge(reason: Reason) -> bool
-    ensures { IsTrue result ↔ (reason ≢ Reason.Limits) }
+    ensures { IsTrue result ↔ ((reason ≡ Reason.Large) ⊎ ((reason ≡ Reason.Overflow) ⊎ (reason ≡ Reason.Pivots))) }
 {
     matches!(reason, Reason::Large | Reason::Overflow | Reason::Pivots)
 }

@@ -7,8 +7,7 @@ ghost use Rattle.dd_problem.specs.pushing.Told.{IsToldGoal};
 ghost use Rattle.dd_question.specs.Sound.{IsSoundAsked};
 ghost use Rattle.dd_question.specs.Views.{asked_of};
 ghost use Rattle.dd_values.specs.declared.limits.Limits.{Limits as AnyLimits};
-ghost use Rattle.dd_verify.specs.Certificates.{IsCertificateOf};
-ghost use Rattle.dd_verify.specs.Claims.{ClaimOf};
+ghost use Rattle.dd_verify.specs.Certificates.{IsCertificateOf, ClaimOf};
 
 use dd_boxes::Goal;
 use dd_compile::says_its_value;
@@ -35,20 +34,25 @@ fn tell_goal(goal: &Goal)
     }
 }
 
-/// Only looks at the question's automata; its contract says that what a certificate of the question claims is true, where the
-/// question is sound: of a bound also that boxes of every side length, wherever they lie, weigh at least what it says, up to what
-/// may come in from outside them.
+/// Only looks at what is asked; its contract says that what a certificate of the question claims is true, where the question is
+/// sound: of a bound also that boxes of every side length, wherever they lie, weigh at least what it says, up to what may come in
+/// from outside them.
 pub fn claims_hold(question: &Question)
     ensures { (limits : AnyLimits) (answer : AnyAnswer) → IsSoundAsked limits (asked_of question.now) → IsCertificateOf limits (asked_of question.now) answer →
         ClaimOf (asked_of question.now) answer }
 {
-    listed_break();
-    strip_least();
-    strip_empty();
-    best_bound();
-    bound_holds();
+    // Laws of what is asked.
     match question {
+        Question::Membership { .. } | Question::Equality { .. } => {}
         Question::Box { goal, .. } => tell_goal(goal),
-        _ => {}
+        Question::Listing { .. } => listed_break(),
+        Question::Density { .. } => {
+            strip_least();
+            strip_empty();
+        }
+        Question::Discharge { .. } => {
+            best_bound();
+            bound_holds();
+        }
     }
 }
