@@ -20,7 +20,8 @@ use Rattle.dd_contain.specs.declared.decision.Decision.TheVariants as decision
 use Rattle.dd_contain.specs.Decided.{IsLeast}
 use Rattle.dd_contain.specs.Questions.{Displays, IsDecided}
 use Rattle.dd_contain.specs.Equal.{joined, UnlessNo}
-use Rattle.dd_question.specs.Questions.{Asked, membership, box, equality, listing, density, discharge}
+use Rattle.dd_question.specs.Questions.{Asked}
+use Rattle.dd_question.specs.Questions as asked
 use Rattle.dd_evidence.specs.Tiles.{given_periods, written_periods, IsWrittenBack}
 use Rattle.dd_respond.specs.Right.{IsRightTo, IsRightBox, IsRightEqual, written_decision, written_equality}
 use Rattle.dd_respond.specs.Bounds.{IsRightDensity, right_least, right_empty, IsRightDischarge, right_bound, is_large, overflows, used_up}
@@ -89,9 +90,9 @@ module _ (back : AreWrittenBack) (l : Limits) where
       subst (IsEqualCertificate l x y) (sym (right.written ∙ ap written_equality both.join)) (joined_is x y both.left both.right both.left_decided both.right_decided)
 
   pub right_is_certificate : (k : Asked) (a : Answer) → IsRightTo l k a → IsCertificateOf l k a
-  right_is_certificate (membership x t) a right = right
-  right_is_certificate (box x g) a right = box_is x g a right
-  right_is_certificate (equality x y) a right = equal_is x y a right
-  right_is_certificate (listing x) a right = right
-  right_is_certificate (density x strip ws) a right = density_is x strip ws a right
-  right_is_certificate (discharge x radius margin vs ws) a right = discharge_is x radius margin vs ws l.pivots a right
+  right_is_certificate (asked.membership x t) a right = right
+  right_is_certificate (asked.box x g) a right = box_is x g a right
+  right_is_certificate (asked.equality x y) a right = equal_is x y a right
+  right_is_certificate (asked.listing x) a right = right
+  right_is_certificate (asked.density x strip ws) a right = density_is x strip ws a right
+  right_is_certificate (asked.discharge x radius margin vs ws) a right = discharge_is x radius margin vs ws l.pivots a right

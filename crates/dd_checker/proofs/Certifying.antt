@@ -4,8 +4,7 @@ use Rattle.std.specs.Prelude.{Option, IsSomeAnd, slice_get}
 use Rattle.std.proofs.lemmas.Bool.{cases_lt}
 use Rattle.std.proofs.lemmas.Option.{slice_get_within}
 use Rattle.dd_certificate.specs.declared.answer.Answer.{Answer}
-use Rattle.dd_question.specs.Questions.{Asked}
-use Rattle.dd_question.specs.Sound.{IsSoundAsked}
+use Rattle.dd_question.specs.Questions.{Asked, IsSoundAsked}
 use Rattle.dd_query.specs.declared.queries.Query.{Query}
 use Rattle.dd_script.specs.Parts.{Parts}
 use Rattle.dd_script.specs.Questions.{query_at}

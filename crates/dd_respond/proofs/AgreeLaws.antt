@@ -31,8 +31,8 @@ use Rattle.dd_contain.specs.declared.equal.Equality.{Equality}
 use Rattle.dd_contain.specs.Decided.{IsLeast, IsFirst, IsDecidedBy}
 use Rattle.dd_contain.specs.Questions.{ShowsAt, Displays, IsDecided}
 use Rattle.dd_contain.specs.Equal.{joined, UnlessNo, IsEqualDecided}
-use Rattle.dd_question.specs.Questions.{Asked, membership, box, equality, listing, density, discharge}
-use Rattle.dd_question.specs.Sound.{IsSoundAsked}
+use Rattle.dd_question.specs.Questions.{Asked, IsSoundAsked}
+use Rattle.dd_question.specs.Questions as asked
 use Rattle.dd_evidence.specs.Cells.{written_cell}
 use Rattle.dd_evidence.specs.Lists.{IsForbiddenList}
 use Rattle.dd_evidence.specs.Answers.{IsMemberCertificate, member_inside, member_outside, IsListCertificate, all_forbidden}
@@ -261,10 +261,10 @@ HaveOneOutcome = (x : LocalRule) (ws : List ℕ) (radius margin : ℕ) (vs : Lis
 
 module _ (one : AreOneList) (density_one : IsOneDensity) (outcome_one : HaveOneOutcome) (l : Limits) where
   pub right_agree : (k : Asked) (a b : Answer) → IsSoundAsked l k → IsRightTo l k a → IsRightTo l k b → SayTheSame a b
-  right_agree (membership x t) a b ok h k = member_agree x t ok.1 ok.2 a b h k
-  right_agree (box x g) a b ok h k = box_agree l x g a b h k
-  right_agree (equality x y) a b ok h k = equal_agree l x y a b h k
-  right_agree (listing x) a b ok h k = list_agree one x a b h k
-  right_agree (density x strip ws) a b ok h k = density_agree density_one x strip ws a b h k
-  right_agree (discharge x radius margin vs ws) a b ok h k =
+  right_agree (asked.membership x t) a b ok h k = member_agree x t ok.1 ok.2 a b h k
+  right_agree (asked.box x g) a b ok h k = box_agree l x g a b h k
+  right_agree (asked.equality x y) a b ok h k = equal_agree l x y a b h k
+  right_agree (asked.listing x) a b ok h k = list_agree one x a b h k
+  right_agree (asked.density x strip ws) a b ok h k = density_agree density_one x strip ws a b h k
+  right_agree (asked.discharge x radius margin vs ws) a b ok h k =
       discharge_agree x radius margin vs ws l.pivots (outcome_one x ws radius margin vs l.pivots) a b h k

@@ -6,9 +6,8 @@ use Rattle.dd_lattice.specs.Place.{Place}
 use Rattle.dd_expansion.specs.Limits.{greatest}
 use Rattle.dd_formula.specs.LocalRule.{LocalRule, IsRule}
 use Rattle.dd_counts.specs.Rules.{window, slices, states}
-use Rattle.dd_transfer.specs.declared.strip.Strip.{Strip}
-use Rattle.dd_transfer.specs.Windows.{positions}
-use Rattle.dd_transfer.specs.Transfers.{IsStrip, strip_for}
+use Rattle.dd_strip.specs.declared.strip.Strip.{Strip}
+use Rattle.dd_strip.specs.Strips.{positions, IsStrip, strip_for}
 use Rattle.dd_transfer.specs.Certificates.{IsDensityCertificate, IsEmptyCertificate}
 use Rattle.dd_strips.specs.Strips.{IsLeastDensity}
 use Rattle.dd_strips.specs.Claims.{StripLeast, StripEmpty, spread_of}
@@ -20,7 +19,7 @@ use Rattle.dd_discharge.specs.declared.fault.DischargeFault.{DischargeFault}
 use Rattle.dd_discharge.specs.Printed.{IsSmallBound}
 use Rattle.dd_discharge.specs.Bounds.{IsDischargeFault}
 use Rattle.dd_discharge.specs.Outcomes.{HasOneOutcome}
-use Rattle.dd_question.specs.Sound.{IsNarrow}
+use Rattle.dd_question.specs.Densities.{IsNarrow}
 use Rattle.dd_certificate.specs.declared.answer.Reason.{Reason}
 use Rattle.dd_certificate.specs.declared.answer.Reason.TheVariants as reason
 use Rattle.dd_certificate.specs.declared.answer.Answer.{Answer}

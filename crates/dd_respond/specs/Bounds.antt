@@ -2,7 +2,7 @@
 use Rattle.std.specs.Prelude.{ℕ, ◌≡◌, ℤ, List}
 use Rattle.dd_lattice.specs.Place.{Place}
 use Rattle.dd_formula.specs.LocalRule.{LocalRule}
-use Rattle.dd_transfer.specs.Transfers.{strip_for}
+use Rattle.dd_strip.specs.Strips.{strip_for}
 use Rattle.dd_transfer.specs.Certificates.{IsDensityCertificate, IsEmptyCertificate}
 use Rattle.dd_strips.specs.Strips.{IsLeastDensity, LivesNowhere}
 use Rattle.dd_density.specs.declared.answer.Density.{Density}

@@ -19,7 +19,8 @@ use Rattle.dd_contain.specs.declared.equal.Half.{Half}
 use Rattle.dd_contain.specs.declared.equal.Half.TheVariants as half
 use Rattle.dd_contain.specs.Questions.{IsDecided}
 use Rattle.dd_contain.specs.Equal.{IsEqualDecided}
-use Rattle.dd_question.specs.Questions.{Asked, membership, box, equality, listing, density, discharge}
+use Rattle.dd_question.specs.Questions.{Asked}
+use Rattle.dd_question.specs.Questions as asked
 use Rattle.dd_evidence.specs.Tiles.{written_periods}
 use Rattle.dd_evidence.specs.Answers.{IsMemberCertificate, IsListCertificate}
 use Rattle.dd_respond.specs.Bounds.{IsRightDensity, IsRightDischarge}
@@ -63,12 +64,12 @@ pub record IsRightEqual (l : Limits) (x y : LocalRule) (a : Answer) : Type 0 whe
 
 -- within these limits; the questions that have one answer only are answered by it
 abbrev pub IsRightTo : Limits → Asked → Answer → Type 0
-IsRightTo l (membership x t) a = IsMemberCertificate x t a
-IsRightTo l (box x g) a = IsRightBox l x g a
-IsRightTo l (equality x y) a = IsRightEqual l x y a
-IsRightTo l (listing x) a = IsListCertificate x a
-IsRightTo l (density x strip ws) a = IsRightDensity x strip ws a
-IsRightTo l (discharge x radius margin vs ws) a = IsRightDischarge x radius margin vs ws l.pivots a
+IsRightTo l (asked.membership x t) a = IsMemberCertificate x t a
+IsRightTo l (asked.box x g) a = IsRightBox l x g a
+IsRightTo l (asked.equality x y) a = IsRightEqual l x y a
+IsRightTo l (asked.listing x) a = IsListCertificate x a
+IsRightTo l (asked.density x strip ws) a = IsRightDensity x strip ws a
+IsRightTo l (asked.discharge x radius margin vs ws) a = IsRightDischarge x radius margin vs ws l.pivots a
 
 -- no definite answer: the first line says that a stated limit was met
 abbrev pub is_unknown : Answer → Bool

@@ -2,7 +2,7 @@
 ghost use Rattle.std.specs.Prelude.{◌≡◌, IfOk};
 ghost use Rattle.dd_certificate.specs.Bounds.{IsWritable};
 ghost use Rattle.dd_discharge.specs.Printed.{IsSmallBound};
-ghost use Rattle.dd_question.specs.Formed.{IsDischargeable};
+ghost use Rattle.dd_question.specs.Discharges.{IsDischargeable};
 ghost use Rattle.dd_respond.specs.Bounds.{written_bound, IsReasonOf, IsRightDischarge};
 
 use dd_certificate::{Answer, Reason};

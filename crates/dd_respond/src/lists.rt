@@ -1,7 +1,7 @@
 //! Answers to questions about forbidden patterns.
 ghost use Rattle.std.specs.Prelude.{IfOk};
 ghost use Rattle.dd_certificate.specs.Bounds.{IsWritable};
-ghost use Rattle.dd_question.specs.Sound.{HasFewPatterns};
+ghost use Rattle.dd_question.specs.Lists.{HasFewPatterns};
 ghost use Rattle.dd_evidence.specs.Answers.{IsListCertificate};
 
 use dd_certificate::Answer;

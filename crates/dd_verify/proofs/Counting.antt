@@ -11,7 +11,7 @@ use Rattle.dd_boxes.specs.lemmas.SizeLaws.{fewer, box_up}
 use Rattle.dd_boxes.specs.lemmas.ReachLaws.{one_least}
 use Rattle.dd_derivation.specs.declared.step.Step.{Step}
 use Rattle.dd_verify.specs.Evidence.{IsYes}
-use Rattle.dd_question.specs.Sound.{IsAskable}
+use Rattle.dd_question.specs.Boxes.{IsAskable}
 
 pub box_few : (l : Limits) (x : LocalRule) (g : GoalOf) (least n : ℕ) → IsRule x → IsAskable l x g → IsLeastRadius g least → n ≤ max l.radius least →
     question_clauses x g (volume (centred x.dimension n)) ≤ most_clauses

@@ -7,7 +7,7 @@ use Rattle.dd_lattice.specs.Place.{Place}
 use Rattle.dd_expansion.specs.Limits.{greatest}
 use Rattle.dd_formula.specs.LocalRule.{LocalRule, IsRule}
 use Rattle.dd_counts.specs.Rules.{window}
-use Rattle.dd_transfer.specs.Transfers.{IsStrip, strip_for}
+use Rattle.dd_strip.specs.Strips.{IsStrip, strip_for}
 use Rattle.dd_transfer.specs.Certificates.{IsDensityCertificate, IsEmptyCertificate}
 use Rattle.dd_strips.specs.Claims.{StripLeast, StripEmpty, spread_of}
 use Rattle.dd_discharge.specs.declared.bound.Bound.{Bound}

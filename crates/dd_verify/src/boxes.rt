@@ -5,7 +5,7 @@ ghost use Rattle.dd_boxes.specs.Views.{goal_of};
 ghost use Rattle.dd_certificate.specs.declared.answer.Answer.TheVariants as answer;
 ghost use Rattle.dd_certificate.specs.Bounds.{IsWritable};
 ghost use Rattle.dd_verify.specs.Evidence.{IsBoxCertificate, IsEqualCertificate};
-ghost use Rattle.dd_question.specs.Sound.{IsAskable};
+ghost use Rattle.dd_question.specs.Boxes.{IsAskable};
 ghost use Rattle.dd_values.specs.Ranges.{AreLimits};
 
 use crate::refutations::check_yes;

@@ -4,7 +4,7 @@ ghost use Rattle.dd_certificate.specs.declared.answer.Answer.TheVariants as answ
 ghost use Rattle.dd_certificate.specs.Bounds.{IsWritable};
 ghost use Rattle.dd_discharge.specs.Amounts.{bound_claimed};
 ghost use Rattle.dd_discharge.specs.Certificates.{IsBoundCertificate};
-ghost use Rattle.dd_question.specs.Formed.{IsDischargeable};
+ghost use Rattle.dd_question.specs.Discharges.{IsDischargeable};
 ghost use Rattle.dd_verify.specs.Bounds.{IsDischargeCertificate};
 
 use crate::numbers::{are_denominators, are_numbers, is_list, is_number};

@@ -1,7 +1,6 @@
 use Rattle.std.proofs.Common.{sym, subst}
 use Rattle.std.proofs.lemmas.Result.{IfOk-weaker, on_ok_weaker}
-use Rattle.dd_question.specs.Sound.{IsSoundAsked}
-use Rattle.dd_question.specs.Views.{asked_of}
+use Rattle.dd_question.specs.Questions.{asked_of, IsSoundAsked}
 use Rattle.dd_respond.specs.Right.{IsRightTo}
 use Rattle.dd_answer.specs.Right.{Right}
 use Rattle.dd_answer.proofs.QueryLaws.{right_for, engages_for}

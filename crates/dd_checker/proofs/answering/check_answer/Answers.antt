@@ -1,6 +1,5 @@
 use Rattle.std.proofs.Common.{◌≡◌, ◌-◌, Some, length, ap, sym, subst, arith}
-use Rattle.dd_question.specs.Sound.{IsSoundAsked}
-use Rattle.dd_question.specs.Views.{asked_of}
+use Rattle.dd_question.specs.Questions.{asked_of, IsSoundAsked}
 use Rattle.dd_script.specs.Questions.{query_at}
 use Rattle.dd_checker.proofs.Verdicts.{certificate_for, index_within, item_stands, item_is, claim_at, accepted, accepts, rejects}
 use Rattle.dd_checker.proofs.answering.check_answer.Goals as goal

@@ -1,4 +1,4 @@
-use Rattle.dd_question.specs.Views.{asked_of}
+use Rattle.dd_question.specs.Questions.{asked_of}
 use Rattle.dd_checker.proofs.Certifying.{query_claims}
 use Rattle.dd_checker.proofs.laws.query_certified.Goals as goal
 
