@@ -39,7 +39,7 @@ pub returns-in-Density-clause-right : goal.returns-in-Density-clause-right
 returns-in-Density-clause-right g c = rw (← c.question.ensures.value, c.in-Density.is) c.least.ensures.right
 
 pub returns-in-Discharge-clause-right : goal.returns-in-Discharge-clause-right
-returns-in-Discharge-clause-right g c = rw (← c.question.ensures.value, c.in-Discharge.is) c.discharged.ensures.right
+returns-in-Discharge-clause-right g c = rw (← c.limits-limits.ensures.value, ← c.question.ensures.value, c.in-Discharge.is) c.discharged.ensures.right
 
 pub returns-in-Membership-clause-asked : goal.returns-in-Membership-clause-asked
 returns-in-Membership-clause-asked g c = rw (← c.question.ensures.value, c.in-Membership.is) (any_ok c.member.result _ (asks_nobody _))
