@@ -5,8 +5,8 @@ use Rattle.std.specs.List.{All}
 use Rattle.std.proofs.lemmas.List.{get_or_default}
 use Rattle.std.proofs.Math.Nat.{mul-le-mul}
 use Rattle.dd_formula.specs.LocalRule.{LocalRule}
-use Rattle.dd_transfer.specs.declared.strip.Strip.{Strip}
-use Rattle.dd_transfer.specs.Windows.{positions}
+use Rattle.dd_strip.specs.declared.strip.Strip.{Strip}
+use Rattle.dd_strip.specs.Strips.{positions}
 use Rattle.dd_transfer.specs.Graphs.{Transfer, IsTransfer}
 use Rattle.dd_transfer.specs.Transfers.{IsGraphOf}
 use Rattle.dd_transfer.specs.Certificates.{IsInLowestTerms, potential_of}

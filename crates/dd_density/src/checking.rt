@@ -1,6 +1,6 @@
 //! The checks of what certifies the least density of a strip.
 ghost use Rattle.std.specs.Prelude.{◌↔◌, IsTrue, IfOk};
-ghost use Rattle.dd_transfer.specs.Transfers.{IsStrip, HasWeights, IsFew, strip_for};
+ghost use Rattle.dd_strip.specs.Strips.{IsStrip, HasWeights, IsFew, strip_for};
 ghost use Rattle.dd_transfer.specs.Certificates.{IsDensityCertificate, IsEmptyCertificate};
 
 use crate::claims::{are_ranks, is_shown};

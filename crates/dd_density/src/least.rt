@@ -1,7 +1,7 @@
 //! The least density of the configurations of a strip.
 ghost use Rattle.std.specs.Prelude.{◌≡◌, ◌<◌, ◌≤◌, ◌^◌, IfOk};
 ghost use Rattle.std.specs.List.{All};
-ghost use Rattle.dd_transfer.specs.Transfers.{IsStrip, HasWeights, IsFew, strip_for};
+ghost use Rattle.dd_strip.specs.Strips.{IsStrip, HasWeights, IsFew, strip_for};
 ghost use Rattle.dd_density.specs.Densities.{IsCertifiedDensity, IsSmallDensity};
 ghost use Rattle.dd_density.specs.graphs.Means.{IsOfMean, IsMeanOver};
 

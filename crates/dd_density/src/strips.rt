@@ -1,6 +1,7 @@
 //! The transfer graph of a strip that isn't too large.
 ghost use Rattle.std.specs.Prelude.{◌≡◌, IfOk, replicate};
-ghost use Rattle.dd_transfer.specs.Transfers.{IsStrip, HasWeights, IsGraphOf, IsFew, strip_for};
+ghost use Rattle.dd_strip.specs.Strips.{IsStrip, HasWeights, IsFew, strip_for};
+ghost use Rattle.dd_transfer.specs.Transfers.{IsGraphOf};
 
 use dd_formula::Rule;
 use dd_transfer::{Graph, TransferFault, graph};

@@ -8,7 +8,7 @@ use Rattle.dd_formula.specs.Counts.{cut, largest_clauses}
 use Rattle.dd_boxes.specs.Goals.{GoalOf}
 use Rattle.dd_boxes.specs.Counts.{goal_clauses, most_clauses}
 use Rattle.dd_boxes.specs.Boxes.{goal_reach}
-use Rattle.dd_question.specs.Excesses.{clauses_of, is_long}
+use Rattle.dd_question.specs.Boxes.{clauses_of, is_long}
 
 passes_alike : (l n : ℕ) → nat_lt l (cut l n) ≡ nat_lt l n
 passes_alike l n = grind (arith, nat_tests)

@@ -6,16 +6,16 @@ use Rattle.dd_values.specs.declared.limits.Limits.{Limits}
 use Rattle.dd_formula.specs.LocalRule.{LocalRule, IsRule}
 use Rattle.dd_formula.specs.Counts.{largest_clauses}
 use Rattle.dd_counts.specs.Rules.{pattern_count, states, longer_states, most_patterns, most_states, most_longer_states}
-use Rattle.dd_transfer.specs.Transfers.{IsFew, strip_for}
+use Rattle.dd_strip.specs.Strips.{IsFew, strip_for}
 use Rattle.dd_boxes.specs.Goals.{GoalOf, breaks, AreAlike, IsGoalFor, KeepsRule}
 use Rattle.dd_boxes.specs.Counts.{goal_clauses, most_clauses}
 use Rattle.dd_boxes.specs.lemmas.ReachLaws.{least_is_goal_reach}
 use Rattle.dd_question.specs.declared.excess.Excess.{Excess}
 use Rattle.dd_question.specs.declared.excess.Excess.TheVariants as excess
-use Rattle.dd_question.specs.Questions.{Asked, membership, box, equality, listing, density, discharge}
-use Rattle.dd_question.specs.Formed.{IsFormed}
-use Rattle.dd_question.specs.Excesses.{clauses_of, is_long, has_many_patterns, has_many_states, strip_volume, passed, excess_of}
-use Rattle.dd_question.specs.Sound.{IsAskable, HasFewPatterns, IsSoundAsked}
+use Rattle.dd_question.specs.Questions.{Asked, membership, box, equality, listing, density, discharge, IsFormed, passed, excess_of, IsSoundAsked}
+use Rattle.dd_question.specs.Boxes.{clauses_of, is_long, IsAskable}
+use Rattle.dd_question.specs.Lists.{has_many_patterns, HasFewPatterns}
+use Rattle.dd_question.specs.Densities.{has_many_states, strip_volume}
 use Rattle.dd_question.proofs.LimitLaws.{some_at}
 
 within : (b : Bool) (e : Excess) → passed b e ≡ None → b ≡ false

@@ -1,12 +1,11 @@
--- what is asked of rules
+-- what is asked of rules, when it goes together, which limit it passes, and when it is sound
 pub mod Questions
--- the question that a value of the program stands for
-pub mod Views
--- which questions are well formed
-pub mod Formed
--- which limit on its work a question passes
-pub mod Excesses
--- what is known of a question that is well formed and passes no limit
-pub mod Sound
+-- questions with the limits within which they are asked, and how they are checked
+pub mod Checked
+-- what the four kinds of questions may have: box questions, lists of patterns, densities and discharges
+pub mod Boxes
+pub mod Lists
+pub mod Densities
+pub mod Discharges
 -- goals as they are measured
 pub mod measuring

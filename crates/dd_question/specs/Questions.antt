@@ -1,9 +1,24 @@
--- What is asked of rules.
-use Rattle.std.specs.Prelude.{ℕ, List}
+-- What is asked of rules: when it goes together, which limit on its work it passes, and when it is sound.
+use Rattle.std.specs.Prelude.{ℕ, List, Bool, true, false, ◌||◌, Option, Some, None, if◌then◌else◌}
+use Rattle.dd_values.specs.declared.limits.Limits.{Limits}
 use Rattle.dd_lattice.specs.Place.{Place}
-use Rattle.dd_pattern.specs.Tile.{Tile}
-use Rattle.dd_formula.specs.LocalRule.{LocalRule}
-use Rattle.dd_boxes.specs.Goals.{GoalOf}
+use Rattle.dd_pattern.specs.Tile.{Tile, IsTile}
+use Rattle.dd_formula.specs.LocalRule.{LocalRule, IsRule}
+use Rattle.dd_formula.specs.Living.{Fits}
+use Rattle.dd_formula.specs.Allowed.{HasAllowed}
+use Rattle.dd_strip.specs.Strips.{IsStrip, HasWeights}
+use Rattle.dd_boxes.specs.Goals.{GoalOf, breaks, AreAlike, IsGoalFor, KeepsRule}
+use Rattle.dd_boxes.specs.Views.{goal_of}
+use Rattle.dd_question.specs.declared.excess.Excess.{Excess}
+use Rattle.dd_question.specs.declared.excess.Excess.TheVariants as excess
+use Rattle.dd_question.specs.declared.fault.QuestionFault.{QuestionFault}
+use Rattle.dd_question.specs.declared.fault.QuestionFault.TheVariants as fault
+use Rattle.dd_question.specs.declared.question.Question.{Question}
+use Rattle.dd_question.specs.declared.question.Question.TheVariants as question
+use Rattle.dd_question.specs.Boxes.{is_long, IsAskable}
+use Rattle.dd_question.specs.Lists.{has_many_patterns, HasFewPatterns}
+use Rattle.dd_question.specs.Densities.{has_many_states, strip_volume, IsNarrow}
+use Rattle.dd_question.specs.Discharges.{IsDischargeable, IsDischargeFault}
 
 pub data Asked : Type 0 where
   -- does the configuration live in the rule's subshift?
@@ -19,3 +34,64 @@ pub data Asked : Type 0 where
   -- with these weights, what can each position hold at least, once each has given along these vectors amounts that the pattern
   -- of this radius around it determines, on a domain grown by this margin?
   discharge : LocalRule → ℕ → ℕ → List Place → List ℕ → Asked
+
+-- what a value of the program asks
+abbrev pub asked_of : Question → Asked
+asked_of (question.Membership rule configuration) = membership rule.now configuration.now
+asked_of (question.Box premise goal) = box premise.now (goal_of premise.now goal)
+asked_of (question.Equality left right) = equality left.now right.now
+asked_of (question.Listing rule) = listing rule.now
+asked_of (question.Density rule strip weights) = density rule.now strip weights.now
+asked_of (question.Discharge rule radius margin vectors weights) = discharge rule.now radius margin vectors.now weights.now
+
+-- whether it is decided by boxes and periods, which engines search
+abbrev pub is_box_question : Asked → Bool
+is_box_question (membership x t) = false
+is_box_question (box x g) = true
+is_box_question (equality x y) = true
+is_box_question (listing x) = false
+is_box_question (density x strip ws) = false
+is_box_question (discharge x radius margin vs ws) = false
+
+-- what it speaks of is of one dimension, of the same nodes and the same alphabet, and each symbol of a configuration is one that
+-- its node allows
+abbrev pub IsFormed : Asked → Type 0
+IsFormed (membership x t) = IsRule x × IsTile t × Fits x t × HasAllowed x t
+IsFormed (box x g) = IsRule x × IsGoalFor x g × KeepsRule g
+IsFormed (equality x y) = IsRule x × IsRule y × AreAlike x y
+IsFormed (listing x) = IsRule x
+IsFormed (density x strip ws) = IsRule x × IsStrip x strip × HasWeights x ws
+IsFormed (discharge x radius margin vs ws) = IsRule x × IsDischargeable x radius margin vs ws
+
+-- the first of its parts, in this order, that doesn't go with those before it; memory may be wanting at any
+pub data IsPartFault : Asked → QuestionFault → Type 0 where
+  configuration : {x : LocalRule} {t : Tile} → ¬ Fits x t → IsPartFault (membership x t) fault.Configuration
+  symbols : {x : LocalRule} {t : Tile} → Fits x t → ¬ HasAllowed x t → IsPartFault (membership x t) fault.Symbols
+  goal : {x : LocalRule} {g : GoalOf} → ¬ IsGoalFor x g → IsPartFault (box x g) fault.Goal
+  rules : {x y : LocalRule} → ¬ AreAlike x y → IsPartFault (equality x y) fault.Rules
+  strip : {x : LocalRule} {strip ws : List ℕ} → ¬ IsStrip x strip → IsPartFault (density x strip ws) fault.Strip
+  strip_weights : {x : LocalRule} {strip ws : List ℕ} → IsStrip x strip → ¬ HasWeights x ws → IsPartFault (density x strip ws) fault.Weights
+  discharge_part : {x : LocalRule} {radius margin : ℕ} {vs : List Place} {ws : List ℕ} {f : QuestionFault} → IsDischargeFault x radius margin vs ws f →
+      IsPartFault (discharge x radius margin vs ws) f
+  memory : {a : Asked} → IsPartFault a fault.Memory
+
+abbrev pub passed : Bool → Excess → Option Excess
+passed b e = if b then Some e else None
+
+-- the limit on its work that it passes, if any
+abbrev pub excess_of : Limits → Asked → Option Excess
+excess_of l (membership x t) = None
+excess_of l (box x g) = passed (is_long l x g) excess.Clauses
+excess_of l (equality x y) = passed (is_long l x (breaks y) || is_long l y (breaks x)) excess.Clauses
+excess_of l (listing x) = passed (has_many_patterns x) excess.Patterns
+excess_of l (density x strip ws) = passed (has_many_states x (strip_volume strip)) excess.States
+excess_of l (discharge x radius margin vs ws) = None
+
+-- it goes together and passes no limit
+abbrev pub IsSoundAsked : Limits → Asked → Type 0
+IsSoundAsked l (membership x t) = IsRule x × IsTile t × Fits x t × HasAllowed x t
+IsSoundAsked l (box x g) = IsRule x × IsAskable l x g
+IsSoundAsked l (equality x y) = IsRule x × IsRule y × IsAskable l x (breaks y) × IsAskable l y (breaks x)
+IsSoundAsked l (listing x) = IsRule x × HasFewPatterns x
+IsSoundAsked l (density x strip ws) = IsRule x × IsNarrow x strip ws
+IsSoundAsked l (discharge x radius margin vs ws) = IsRule x × IsDischargeable x radius margin vs ws

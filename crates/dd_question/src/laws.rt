@@ -1,10 +1,7 @@
 //! What is known of questions that pass no limit.
 ghost use Rattle.std.specs.Prelude.{◌≡◌, None};
 ghost use Rattle.dd_values.specs.declared.limits.Limits.{Limits};
-ghost use Rattle.dd_question.specs.Questions.{Asked};
-ghost use Rattle.dd_question.specs.Formed.{IsFormed};
-ghost use Rattle.dd_question.specs.Excesses.{excess_of};
-ghost use Rattle.dd_question.specs.Sound.{IsSoundAsked};
+ghost use Rattle.dd_question.specs.Questions.{Asked, IsFormed, excess_of, IsSoundAsked};
 
 /// Does nothing; its contract says that a question that is well formed and passes no limit is sound.
 pub fn sound_questions()

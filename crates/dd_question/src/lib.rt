@@ -3,12 +3,16 @@
 #![tactic(auto)]
 
 mod aims;
+mod checked;
 mod excess;
+mod fault;
 mod laws;
 mod limits;
 mod question;
 
 pub use aims::MOST_CLAUSES;
+pub use checked::CheckedQuestion;
 pub use excess::Excess;
+pub use fault::QuestionFault;
 pub use laws::sound_questions;
 pub use question::Question;

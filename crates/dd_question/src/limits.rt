@@ -3,9 +3,10 @@ ghost use Rattle.std.specs.Prelude.{◌≡◌, ◌≤◌, IfOk, slice_index};
 ghost use Rattle.dd_boxes.specs.Goals.{IsGoalFor};
 ghost use Rattle.dd_boxes.specs.Views.{goal_of};
 ghost use Rattle.dd_values.specs.Ranges.{AreLimits};
-ghost use Rattle.dd_question.specs.Views.{asked_of};
-ghost use Rattle.dd_question.specs.Formed.{IsFormed};
-ghost use Rattle.dd_question.specs.Excesses.{is_long, has_many_patterns, has_many_states, strip_volume, excess_of};
+ghost use Rattle.dd_question.specs.Questions.{asked_of, IsFormed, excess_of};
+ghost use Rattle.dd_question.specs.Boxes.{is_long};
+ghost use Rattle.dd_question.specs.Lists.{has_many_patterns};
+ghost use Rattle.dd_question.specs.Densities.{has_many_states, strip_volume};
 
 use crate::aims::{MOST_CLAUSES, aim_of};
 use crate::excess::Excess;

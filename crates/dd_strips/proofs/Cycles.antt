@@ -15,8 +15,9 @@ use Rattle.dd_pattern.specs.Tile.{Tile, IsTile, tile, tile_index, tile_look}
 use Rattle.dd_pattern.specs.Weight.{total_weight}
 use Rattle.dd_formula.specs.LocalRule.{LocalRule, IsRule, rule_allows}
 use Rattle.dd_counts.specs.Rules.{slices, window}
-use Rattle.dd_transfer.specs.declared.strip.Strip.{Strip}
-use Rattle.dd_transfer.specs.Windows.{IsFor, IsWindow, cells, positions, digits, stand}
+use Rattle.dd_strip.specs.declared.strip.Strip.{Strip}
+use Rattle.dd_strip.specs.Strips.{IsFor, cells, positions}
+use Rattle.dd_transfer.specs.Windows.{IsWindow, digits, stand}
 use Rattle.dd_transfer.specs.Transfers.{slice_weight}
 use Rattle.dd_transfer.specs.Certificates.{IsClosedWalk, last_slice, walk_weight}
 use Rattle.dd_transfer.specs.Slices.{IsKeptFrom, cell_from, symbols_from, number_with_digits, slices_from, window_from}

@@ -9,9 +9,8 @@ use Rattle.dd_pattern.specs.Tile.{Tile, tile_look}
 use Rattle.dd_formula.specs.LocalRule.{LocalRule, IsRule}
 use Rattle.dd_counts.specs.Rules.{window}
 use Rattle.dd_expansion.specs.Limits.{greatest}
-use Rattle.dd_transfer.specs.declared.strip.Strip.{Strip}
-use Rattle.dd_transfer.specs.Windows.{IsFor, positions}
-use Rattle.dd_transfer.specs.Transfers.{IsStrip, strip_for}
+use Rattle.dd_strip.specs.declared.strip.Strip.{Strip}
+use Rattle.dd_strip.specs.Strips.{IsFor, positions, IsStrip, strip_for}
 use Rattle.dd_transfer.specs.Certificates.{AreStripPotentials, IsDensityCertificate, IsEmptyCertificate, potential_of, walk_weight}
 use Rattle.dd_transfer.specs.Slices.{RepeatsAcross, state_from, number_with_digits}
 use Rattle.dd_transfer.specs.Laws.{AreDigits, AreEdgesOf}

@@ -9,7 +9,7 @@ use Rattle.dd_topology.specs.Sets.{IsRow, row_allows}
 use Rattle.dd_pattern.specs.Reading.{Look}
 use Rattle.dd_formula.specs.LocalRule.{LocalRule, IsRule, rule_allows}
 use Rattle.dd_counts.specs.Rules.{window}
-use Rattle.dd_transfer.specs.declared.strip.Strip.{Strip}
+use Rattle.dd_strip.specs.declared.strip.Strip.{Strip}
 use Rattle.dd_transfer.specs.Slices.{HasSlices}
 use Rattle.dd_transfer.specs.Laws.{AreEdgesOf}
 use Rattle.dd_strips.specs.Strips.{IsAdmissibleStrip, is_slice_cell}

@@ -8,7 +8,7 @@ use Rattle.std.proofs.lemmas.Nat.Gcd.{IsGcd-from_zero, IsGcd-from_mod, same_from
 use Rattle.dd_pattern.specs.declared.periods.Periods.{Periods}
 use Rattle.dd_pattern.specs.Periods.{ArePeriodsIn, periods_volume}
 use Rattle.dd_formula.specs.LocalRule.{LocalRule}
-use Rattle.dd_transfer.specs.declared.strip.Strip.{Strip}
+use Rattle.dd_strip.specs.declared.strip.Strip.{Strip}
 use Rattle.dd_strips.specs.Strips.{IsLeastDensity, tile_weight}
 
 -- a greatest common divisor, and that of k times the numbers

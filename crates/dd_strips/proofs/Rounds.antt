@@ -8,8 +8,9 @@ use Rattle.std.proofs.lemmas.Nat.{mod-mul-add}
 use Rattle.dd_pattern.specs.Periods.{residue}
 use Rattle.dd_formula.specs.LocalRule.{LocalRule}
 use Rattle.dd_counts.specs.Rules.{slices, states, window}
-use Rattle.dd_transfer.specs.declared.strip.Strip.{Strip}
-use Rattle.dd_transfer.specs.Windows.{IsWindow, positions}
+use Rattle.dd_strip.specs.declared.strip.Strip.{Strip}
+use Rattle.dd_strip.specs.Strips.{positions}
+use Rattle.dd_transfer.specs.Windows.{IsWindow}
 use Rattle.dd_transfer.specs.Transfers.{IsEdge}
 use Rattle.dd_transfer.specs.Certificates.{IsWalk, IsClosedWalk, last_slice}
 use Rattle.dd_strips.proofs.Residues.{residue_below, residue_next}

@@ -13,8 +13,9 @@ use Rattle.dd_lattice.specs.declared.position.Cell.{Cell}
 use Rattle.dd_pattern.specs.Periods.{residue, quotient}
 use Rattle.dd_pattern.specs.Tile.{Tile, IsTile, tile_index, tile_look}
 use Rattle.dd_formula.specs.LocalRule.{LocalRule}
-use Rattle.dd_transfer.specs.declared.strip.Strip.{Strip}
-use Rattle.dd_transfer.specs.Windows.{IsFor, cells, positions, cell_at}
+use Rattle.dd_strip.specs.declared.strip.Strip.{Strip}
+use Rattle.dd_strip.specs.Strips.{IsFor, cells, positions}
+use Rattle.dd_transfer.specs.Windows.{cell_at}
 use Rattle.dd_transfer.specs.Slices.{RepeatsAcross, HasSlices, across, cell_from, symbols_from}
 use Rattle.dd_transfer.specs.Laws.{AreEdgesOf}
 use Rattle.dd_strips.specs.Strips.{slices_weight, tile_weight}

@@ -11,8 +11,8 @@ use Rattle.dd_pattern.specs.Weight.{total_weight}
 use Rattle.dd_formula.specs.LocalRule.{LocalRule}
 use Rattle.dd_counts.specs.Rules.{states, window}
 use Rattle.dd_expansion.specs.Limits.{greatest}
-use Rattle.dd_transfer.specs.declared.strip.Strip.{Strip}
-use Rattle.dd_transfer.specs.Windows.{cells, positions}
+use Rattle.dd_strip.specs.declared.strip.Strip.{Strip}
+use Rattle.dd_strip.specs.Strips.{cells, positions}
 use Rattle.dd_transfer.specs.Transfers.{IsEdge, slice_weight}
 use Rattle.dd_transfer.specs.Certificates.{AreStripPotentials, IsEmptyCertificate, potential_of}
 use Rattle.dd_transfer.specs.Slices.{HasSlices, IsKeptFrom, cell_from, symbols_from, slices_from, state_from}

@@ -10,7 +10,7 @@ use Rattle.dd_expansion.specs.declared.formulas.Formula.TheFolds.{fold-roll-Form
 use Rattle.dd_expansion.specs.declared.formulas.Formula.TheOpen.{Formula-F}
 use Rattle.dd_expansion.specs.Truth.{Truth, truth_step}
 use Rattle.dd_formula.specs.LocalRule.{LocalRule, is_true}
-use Rattle.dd_transfer.specs.Windows.{strip_of}
+use Rattle.dd_strip.specs.Strips.{strip_of}
 use Rattle.dd_strips.specs.Strips.{LivesNowhere, is_slice_cell, slices_weight, tile_weight}
 use Rattle.dd_strips.specs.Claims.{spread_of}
 

@@ -5,7 +5,7 @@ use Rattle.std.specs.List.{fold}
 use Rattle.dd_pattern.specs.Reading.{Look}
 use Rattle.dd_formula.specs.LocalRule.{LocalRule}
 use Rattle.dd_counts.specs.Rules.{window}
-use Rattle.dd_transfer.specs.declared.strip.Strip.{Strip}
+use Rattle.dd_strip.specs.declared.strip.Strip.{Strip}
 use Rattle.dd_strips.specs.Strips.{IsAdmissibleStrip, slices_weight, IsLeastDensity, LivesNowhere}
 
 -- l times the weight of the last j slices of an admissible filling is at least m times j, but for the spread

@@ -9,7 +9,7 @@ use Rattle.dd_formula.specs.LocalRule.{LocalRule}
 use Rattle.dd_formula.specs.Allowed.{AreAllowed, HasAllowed}
 use Rattle.dd_formula.specs.Living.{Fits, Lives}
 use Rattle.dd_boxes.specs.Fillings.{Admissible}
-use Rattle.dd_transfer.specs.declared.strip.Strip.{Strip}
+use Rattle.dd_strip.specs.declared.strip.Strip.{Strip}
 use Rattle.dd_transfer.specs.Slices.{RepeatsAcross, symbols_from}
 
 -- the cells of k slices from x on, with each node

@@ -4,9 +4,9 @@ ghost use Rattle.std.specs.Int.{IsGcd};
 ghost use Rattle.dd_expansion.specs.Limits.{greatest};
 ghost use Rattle.dd_formula.specs.LocalRule.{LocalRule, IsRule};
 ghost use Rattle.dd_counts.specs.Rules.{window};
-ghost use Rattle.dd_transfer.specs.Transfers.{IsStrip, strip_for};
+ghost use Rattle.dd_strip.specs.Strips.{IsStrip, strip_for};
 ghost use Rattle.dd_transfer.specs.Certificates.{IsDensityCertificate, IsEmptyCertificate};
-ghost use Rattle.dd_transfer.specs.declared.strip.Strip.{Strip};
+ghost use Rattle.dd_strip.specs.declared.strip.Strip.{Strip};
 ghost use Rattle.dd_strips.specs.Strips.{IsLeastDensity};
 ghost use Rattle.dd_strips.specs.Claims.{StripLeast, StripEmpty, spread_of};
 

@@ -8,8 +8,9 @@ use Rattle.dd_lattice.specs.declared.position.Cell.{Cell}
 use Rattle.dd_pattern.specs.Periods.{residue}
 use Rattle.dd_formula.specs.LocalRule.{LocalRule, rule_allows}
 use Rattle.dd_formula.specs.Allowed.{AreAllowed}
-use Rattle.dd_transfer.specs.declared.strip.Strip.{Strip}
-use Rattle.dd_transfer.specs.Windows.{IsSized, IsFor, IsFullWindow, Shown, cells, positions, slice_index_of, window_index, shown_look, cell_at}
+use Rattle.dd_strip.specs.declared.strip.Strip.{Strip}
+use Rattle.dd_strip.specs.Strips.{IsSized, IsFor, cells, positions}
+use Rattle.dd_transfer.specs.Windows.{IsFullWindow, Shown, slice_index_of, window_index, shown_look, cell_at}
 use Rattle.dd_transfer.specs.placing.Formulas.{AllowsAll}
 use Rattle.dd_transfer.proofs.Stands.{le_from}
 use Rattle.dd_transfer.proofs.Places.{parts_of, index_of_cell}

@@ -17,8 +17,9 @@ use Rattle.dd_formula.specs.LocalRule.{LocalRule, IsRule, is_of, is_true, reads_
 use Rattle.dd_formula.specs.Reach.{all_cells}
 use Rattle.dd_formula.specs.lemmas.RuleLaws.{truth_by_given}
 use Rattle.dd_counts.specs.Rules.{least_x, greatest_x, window}
-use Rattle.dd_transfer.specs.declared.strip.Strip.{Strip}
-use Rattle.dd_transfer.specs.Windows.{IsFor, cells, cell_at, slice_index_of, window_index, window_look, stand}
+use Rattle.dd_strip.specs.declared.strip.Strip.{Strip}
+use Rattle.dd_strip.specs.Strips.{IsFor, cells}
+use Rattle.dd_transfer.specs.Windows.{cell_at, slice_index_of, window_index, window_look, stand}
 use Rattle.dd_transfer.specs.Slices.{RepeatsAcross, IsInSlices, HasSlices, across, cell_from, symbols_from}
 use Rattle.dd_transfer.proofs.Stands.{between, le_from, le_to, reads_between, within_window}
 use Rattle.dd_transfer.proofs.Places.{slice_below, cell_at_index}

@@ -12,8 +12,9 @@ use Rattle.dd_pattern.specs.Periods.{residue}
 use Rattle.dd_pattern.specs.lemmas.Residues.{residue_below, residue_small, residue_added, meets}
 use Rattle.dd_expansion.specs.Placed.{is_flat}
 use Rattle.dd_formula.specs.LocalRule.{LocalRule}
-use Rattle.dd_transfer.specs.declared.strip.Strip.{Strip}
-use Rattle.dd_transfer.specs.Windows.{IsSized, IsFor, cells, positions, slice_index_of, cell_at}
+use Rattle.dd_strip.specs.declared.strip.Strip.{Strip}
+use Rattle.dd_strip.specs.Strips.{IsSized, IsFor, cells, positions}
+use Rattle.dd_transfer.specs.Windows.{slice_index_of, cell_at}
 
 pub slice_below : (s : Strip) (c : Cell) → IsSized s → c.node < s.nodes → slice_index_of s c < cells s
 slice_below s c sized h =

@@ -16,8 +16,9 @@ use Rattle.dd_numbered.specs.declared.numbered.Numbered.TheOpen.{Numbered-F}
 use Rattle.dd_numbered.specs.Numbered.{holds_in}
 use Rattle.dd_numbered.specs.Numbering.{read_by, symbol_with}
 use Rattle.dd_formula.specs.LocalRule.{LocalRule, is_true}
-use Rattle.dd_transfer.specs.declared.strip.Strip.{Strip}
-use Rattle.dd_transfer.specs.Windows.{Shown, IsFullWindow, IsTrueAlong, cells, cell_at, shown_look, stand, window_index, window_look}
+use Rattle.dd_strip.specs.declared.strip.Strip.{Strip}
+use Rattle.dd_strip.specs.Strips.{cells}
+use Rattle.dd_transfer.specs.Windows.{Shown, IsFullWindow, IsTrueAlong, cell_at, shown_look, stand, window_index, window_look}
 use Rattle.dd_transfer.specs.placing.Formulas.{Standpoint, standpoint, window_numbers, numbers_near, SaysAt, ArePlaces}
 use Rattle.dd_transfer.proofs.Truths.{window_below, along_from_slice, slice_from_along}
 

@@ -10,10 +10,11 @@ use Rattle.std.proofs.Math.Nat.{pow-suc, mul-div_cancel_left, mul-mod_left, one-
 use Rattle.dd_pattern.specs.Weight.{AreWeights, total_weight}
 use Rattle.dd_formula.specs.LocalRule.{LocalRule, IsRule}
 use Rattle.dd_counts.specs.Rules.{slices, states, longer_states, window}
-use Rattle.dd_transfer.specs.declared.strip.Strip.{Strip}
+use Rattle.dd_strip.specs.declared.strip.Strip.{Strip}
 use Rattle.dd_transfer.specs.Graphs.{Transfer, IsTransfer, transfer, target, next_of, window_of, weight_at}
-use Rattle.dd_transfer.specs.Windows.{IsSized, IsFor, AreWindows, IsWindow, cells, positions, digits}
-use Rattle.dd_transfer.specs.Transfers.{HasWeights, IsGraphOf, IsEdge, slice_weight}
+use Rattle.dd_strip.specs.Strips.{IsSized, IsFor, cells, positions, HasWeights}
+use Rattle.dd_transfer.specs.Windows.{AreWindows, IsWindow, digits}
+use Rattle.dd_transfer.specs.Transfers.{IsGraphOf, IsEdge, slice_weight}
 use Rattle.dd_transfer.proofs.Digits.{digits_length, digits_below}
 
 -- of the numbers of slices and of slices of a state

@@ -10,8 +10,9 @@ use Rattle.dd_pattern.specs.Reading.{Look}
 use Rattle.dd_pattern.specs.Weight.{total_weight}
 use Rattle.dd_formula.specs.LocalRule.{LocalRule}
 use Rattle.dd_counts.specs.Rules.{slices}
-use Rattle.dd_transfer.specs.declared.strip.Strip.{Strip}
-use Rattle.dd_transfer.specs.Windows.{IsSized, IsFor, cells, positions, cell_at, digits}
+use Rattle.dd_strip.specs.declared.strip.Strip.{Strip}
+use Rattle.dd_strip.specs.Strips.{IsSized, IsFor, cells, positions}
+use Rattle.dd_transfer.specs.Windows.{cell_at, digits}
 use Rattle.dd_transfer.specs.Transfers.{slice_weight}
 use Rattle.dd_transfer.specs.Slices.{IsInSlices, HasSlices, cell_from, symbols_from, number_with_digits, slices_from}
 use Rattle.dd_transfer.proofs.Alphabets.{some_cells}

@@ -11,8 +11,9 @@ use Rattle.dd_pattern.specs.Periods.{residue}
 use Rattle.dd_expansion.specs.Terms.{origin_at}
 use Rattle.dd_formula.specs.LocalRule.{LocalRule, is_true}
 use Rattle.dd_formula.specs.lemmas.RuleLaws.{truth_moved_back}
-use Rattle.dd_transfer.specs.declared.strip.Strip.{Strip}
-use Rattle.dd_transfer.specs.Windows.{IsSized, IsFor, IsFullWindow, Shown, cells, slice_index_of, window_index, shown_look, cell_at, IsTrueAlong}
+use Rattle.dd_strip.specs.declared.strip.Strip.{Strip}
+use Rattle.dd_strip.specs.Strips.{IsSized, IsFor, cells}
+use Rattle.dd_transfer.specs.Windows.{IsFullWindow, Shown, slice_index_of, window_index, shown_look, cell_at, IsTrueAlong}
 use Rattle.dd_transfer.proofs.Places.{parts_of, slice_below, cell_at_index, residue_moved, flat_at}
 
 below_at : (n : ℕ) (xs : List ℕ) → All (λ s. s < n) xs → (i : ℕ) → IfSome (slice_get xs i) (λ s. s < n)

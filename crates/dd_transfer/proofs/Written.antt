@@ -5,8 +5,9 @@ use Rattle.std.specs.List.{All}
 use Rattle.std.proofs.lemmas.Bool.{cases_lt}
 use Rattle.std.proofs.lemmas.List.{get_or_append_left, get_or_push, length-append}
 use Rattle.dd_formula.specs.LocalRule.{LocalRule, IsRule}
-use Rattle.dd_transfer.specs.declared.strip.Strip.{Strip}
-use Rattle.dd_transfer.specs.Windows.{Shown, shown, shown_look, IsFor, IsFullWindow, IsKept, IsWindow, AreWindows, window_cells, digits}
+use Rattle.dd_strip.specs.declared.strip.Strip.{Strip}
+use Rattle.dd_strip.specs.Strips.{IsFor}
+use Rattle.dd_transfer.specs.Windows.{Shown, shown, shown_look, IsFullWindow, IsKept, IsWindow, AreWindows, window_cells, digits}
 use Rattle.dd_transfer.proofs.Digits.{digits_length, digits_below}
 
 -- the window of a number, written into one of the strip

@@ -7,8 +7,9 @@ use Rattle.dd_pattern.specs.Reading.{Look}
 use Rattle.dd_pattern.specs.Weight.{total_weight}
 use Rattle.dd_formula.specs.LocalRule.{LocalRule, reads_at}
 use Rattle.dd_counts.specs.Rules.{slices, window}
-use Rattle.dd_transfer.specs.declared.strip.Strip.{Strip}
-use Rattle.dd_transfer.specs.Windows.{positions, digits, stand, IsWindow}
+use Rattle.dd_strip.specs.declared.strip.Strip.{Strip}
+use Rattle.dd_strip.specs.Strips.{positions}
+use Rattle.dd_transfer.specs.Windows.{digits, stand, IsWindow}
 use Rattle.dd_transfer.specs.Transfers.{IsEdge, slice_weight}
 use Rattle.dd_transfer.specs.Slices.{HasSlices, IsKeptFrom, symbols_from, number_with_digits, slices_from, state_from, window_from}
 

@@ -9,8 +9,9 @@ use Rattle.dd_pattern.specs.Periods.{residue}
 use Rattle.dd_pattern.specs.Reading.{Look}
 use Rattle.dd_formula.specs.LocalRule.{LocalRule, rule_allows}
 use Rattle.dd_counts.specs.Rules.{window}
-use Rattle.dd_transfer.specs.declared.strip.Strip.{Strip}
-use Rattle.dd_transfer.specs.Windows.{cells, cell_at, stand, IsTrueAlong}
+use Rattle.dd_strip.specs.declared.strip.Strip.{Strip}
+use Rattle.dd_strip.specs.Strips.{cells}
+use Rattle.dd_transfer.specs.Windows.{cell_at, stand, IsTrueAlong}
 
 -- where a position is read: modulo the strip's periods
 abbrev pub across : Strip → Place → Place

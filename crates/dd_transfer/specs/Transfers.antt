@@ -1,40 +1,14 @@
 -- The transfer graph of a rule over a strip.
-use Rattle.std.specs.Prelude.{◌≡◌, ◌↔◌, ◌⊎◌, ℕ, ◌+◌, ◌*◌, ◌%◌, ◌<◌, ◌≤◌, List, length, slice_index, Some}
-use Rattle.std.specs.List.{All}
-use Rattle.dd_values.specs.Bounds.{most_weight}
+use Rattle.std.specs.Prelude.{◌≡◌, ◌↔◌, ℕ, ◌+◌, ◌*◌, ◌%◌, ◌<◌, ◌≤◌, List, Some}
 use Rattle.dd_pattern.specs.Weight.{total_weight}
 use Rattle.dd_formula.specs.LocalRule.{LocalRule}
-use Rattle.dd_counts.specs.Rules.{slices, states, longer_states, most_states, most_longer_states}
+use Rattle.dd_counts.specs.Rules.{slices, states, longer_states}
 use Rattle.dd_transfer.specs.declared.fault.TransferFault.{TransferFault}
 use Rattle.dd_transfer.specs.declared.fault.TransferFault.TheVariants.{Size, Memory}
-use Rattle.dd_transfer.specs.declared.strip.Strip.{Strip}
+use Rattle.dd_strip.specs.declared.strip.Strip.{Strip}
 use Rattle.dd_transfer.specs.Graphs.{Transfer, IsTransfer, next_of, weight_at}
-use Rattle.dd_transfer.specs.Windows.{strip_of, positions, cells, digits, IsWindow}
-
--- the strip's periods are 1 to 64, and 1 past the rule's dimension
-pub record IsStrip (r : LocalRule) (periods : List ℕ) : Type 0 where
-  pub y_some : 0 < slice_index periods 0
-  pub z_some : 0 < slice_index periods 1
-  pub y_most : slice_index periods 0 ≤ 64
-  pub z_most : slice_index periods 1 ≤ 64
-  pub y_unused : r.dimension < 2 → slice_index periods 0 ≡ 1
-  pub z_unused : r.dimension < 3 → slice_index periods 1 ≡ 1
-
--- one weight for each symbol, each at most 1000
-pub record HasWeights (r : LocalRule) (weights : List ℕ) : Type 0 where
-  pub each : length weights ≡ r.symbols
-  pub small : All (λ w. w ≤ most_weight) weights
-
-abbrev pub strip_for : LocalRule → List ℕ → Strip
-strip_for r periods = strip_of (slice_index periods 0) (slice_index periods 1) r.nodes
-
--- more than 4,096 states, or more than 131,072 windows
-abbrev pub IsTooLarge : LocalRule → Strip → Type 0
-IsTooLarge r s = (most_states < states r (positions s)) ⊎ (most_longer_states < longer_states r (positions s))
-
--- neither
-abbrev pub IsFew : LocalRule → Strip → Type 0
-IsFew r s = (states r (positions s) ≤ most_states) × (longer_states r (positions s) ≤ most_longer_states)
+use Rattle.dd_strip.specs.Strips.{positions, cells, IsTooLarge, IsFew}
+use Rattle.dd_transfer.specs.Windows.{digits, IsWindow}
 
 -- from the state u by the slice t to the state v: the window of u and t is one of the rule, and v is this window without
 -- its first slice

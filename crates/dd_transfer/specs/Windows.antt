@@ -11,38 +11,13 @@ use Rattle.dd_formula.specs.LocalRule.{LocalRule, is_true}
 use Rattle.dd_formula.specs.Allowed.{AreAllowed}
 use Rattle.dd_formula.specs.Reach.{all_cells}
 use Rattle.dd_counts.specs.Rules.{least_x, window}
-use Rattle.dd_transfer.specs.declared.strip.Strip.{Strip}
+use Rattle.dd_strip.specs.declared.strip.Strip.{Strip}
+use Rattle.dd_strip.specs.Strips.{IsFor, cells}
 
 -- a number's digits in a base, so many of them, the most significant first
 abbrev pub digits : ℕ → ℕ → ℕ → List ℕ
 digits base zero number = []
 digits base (suc count) number = digits base count (number / base) ++ number % base ∷ []
-
-abbrev pub strip_of : ℕ → ℕ → ℕ → Strip
-strip_of y z nodes = record { y = y; z = z; nodes = nodes }
-
--- a strip of a rule: periods of 1 to 64, and 1 to 4 nodes
-pub record IsSized (s : Strip) : Type 0 where
-  pub y_some : 0 < s.y
-  pub z_some : 0 < s.z
-  pub nodes_some : 0 < s.nodes
-  pub y_most : s.y ≤ 64
-  pub z_most : s.z ≤ 64
-  pub nodes_most : s.nodes ≤ 4
-
--- it has the rule's nodes, and is as wide as one position along each axis past the dimension
-pub record IsFor (r : LocalRule) (s : Strip) : Type 0 where
-  pub sized : IsSized s
-  pub nodes : s.nodes ≡ r.nodes
-  pub y_unused : r.dimension < 2 → s.y ≡ 1
-  pub z_unused : r.dimension < 3 → s.z ≡ 1
-
--- the positions of a slice, and its cells
-abbrev pub positions : Strip → ℕ
-positions s = s.y * s.z
-
-abbrev pub cells : Strip → ℕ
-cells s = s.nodes * positions s
 
 -- a cell's place in its slice: in cell order
 abbrev pub slice_index_of : Strip → Cell → ℕ

@@ -3,19 +3,20 @@ ghost use Rattle.std.specs.Prelude.{◌≡◌, ◌<◌, ◌≤◌, ℕ, IfOk, If
 ghost use Rattle.dd_counts.specs.Rules.{slices, states, longer_states, most_states, most_longer_states};
 ghost use Rattle.dd_pattern.specs.Weight.{AreWeights, total_weight};
 ghost use Rattle.dd_formula.specs.LocalRule.{IsRule};
-ghost use Rattle.dd_transfer.specs.Windows.{IsFor, AreWindows, cells, digits, positions, shown, window_cells};
-ghost use Rattle.dd_transfer.specs.Transfers.{IsStrip, HasWeights, IsGraphOf, IsTransferFault, strip_for, slice_weight};
+ghost use Rattle.dd_strip.specs.Strips.{IsFor, cells, positions, IsStrip, HasWeights, strip_for};
+ghost use Rattle.dd_transfer.specs.Windows.{AreWindows, digits, shown, window_cells};
+ghost use Rattle.dd_transfer.specs.Transfers.{IsGraphOf, IsTransferFault, slice_weight};
 
 use crate::deciding::{allows_all, is_kept};
 use crate::fault::TransferFault;
 use crate::graphs::Graph;
 use crate::placing::formulas;
 use crate::standing::stand;
-use crate::strip::Strip;
 use crate::windows::{Window, write_digits};
 use dd_counts::{MOST_LONGER_STATES, MOST_STATES, longer_states, states, window};
 use dd_formula::Rule;
 use dd_pattern::weight_of;
+use dd_strip::Strip;
 use std::alloc::{AllocError, Global};
 
 /// The transfer graph of a rule over a strip with these periods in the second and the third axis, where each symbol weighs

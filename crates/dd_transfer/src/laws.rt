@@ -2,8 +2,8 @@
 ghost use Rattle.std.specs.Prelude.{ℕ};
 ghost use Rattle.dd_pattern.specs.Reading.{Look};
 ghost use Rattle.dd_formula.specs.LocalRule.{LocalRule, IsRule};
-ghost use Rattle.dd_transfer.specs.declared.strip.Strip.{Strip};
-ghost use Rattle.dd_transfer.specs.Windows.{IsFor};
+ghost use Rattle.dd_strip.specs.declared.strip.Strip.{Strip};
+ghost use Rattle.dd_strip.specs.Strips.{IsFor};
 ghost use Rattle.dd_transfer.specs.Slices.{RepeatsAcross};
 ghost use Rattle.dd_transfer.specs.Laws.{AreDigits, AreEdgesOf};
 

@@ -2,17 +2,16 @@
 #![tactic(auto)]
 
 mod building;
+mod cells;
 mod deciding;
 mod fault;
 mod graphs;
 mod laws;
 mod placing;
 mod standing;
-mod strip;
 mod windows;
 
 pub use building::graph;
 pub use fault::TransferFault;
 pub use graphs::Graph;
 pub use laws::slices_are_walks;
-pub use strip::Strip;

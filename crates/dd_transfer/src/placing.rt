@@ -1,14 +1,16 @@
 //! The rule at the places of a window where it stands, as formulas over the window's symbols.
 ghost use Rattle.std.specs.Prelude.{◌≡◌, ◌<◌, IfOk, pos, ◌≤ℤ◌};
-ghost use Rattle.dd_transfer.specs.Windows.{IsSized, IsFor, stand};
+ghost use Rattle.dd_strip.specs.Strips.{IsSized, IsFor};
+ghost use Rattle.dd_transfer.specs.Windows.{stand};
 ghost use Rattle.dd_lattice.specs.Place.{moved};
 ghost use Rattle.dd_lattice.specs.Cells.{cell};
 ghost use Rattle.dd_transfer.specs.placing.Formulas.{standpoint, window_numbers, ArePlaces, SaysAt};
 
-use crate::strip::Strip;
+use crate::cells::{cell_at, number};
 use dd_formula::Rule;
 use dd_lattice::{Cell, Position};
 use dd_numbered::{Numbered, Numbers};
+use dd_strip::Strip;
 use dd_values::Items;
 use std::alloc::{AllocError, Global};
 use std::marker::Model;
@@ -21,7 +23,7 @@ struct Near {
 }
 
 impl Model for Near {
-    ghost use Rattle.dd_transfer.specs.Windows.{IsSized};
+    ghost use Rattle.dd_strip.specs.Strips.{IsSized};
     ghost use Rattle.dd_transfer.specs.placing.Formulas.{Standpoint, standpoint};
 
     ghost Value = { Standpoint };
@@ -48,7 +50,7 @@ fn number_at(strip: Strip, position: &Position, by: &Position, node: u32) -> Opt
     let x = position.x + by.x;
     let y = position.y + by.y;
     let z = position.z + by.z;
-    strip.number(x, y, z, node)
+    number(&strip, x, y, z, node)
 }
 
 impl Numbers for Near {
@@ -86,7 +88,7 @@ pub(crate) fn formulas(
 {
     let mut formulas = Items::new(alloc);
     for number in 0..strip.cells() {
-        let cell = strip.cell_at(x, number);
+        let cell = cell_at(&strip, x, number);
         let formula = formula_at(alloc, rule, strip, &cell)?;
         formulas.push(formula)?;
     }

@@ -1,8 +1,9 @@
 //! Windows: the symbols of some slices of a strip, which are read modulo the strip's periods.
 ghost use Rattle.std.specs.Prelude.{◌≡◌, ℕ, ◌<◌, ◌+◌, length};
-ghost use Rattle.dd_transfer.specs.Windows.{shown, IsSized, digits};
+ghost use Rattle.dd_strip.specs.Strips.{IsSized};
+ghost use Rattle.dd_transfer.specs.Windows.{shown, digits};
 
-use crate::strip::Strip;
+use dd_strip::Strip;
 use std::marker::Model;
 
 /// The symbols of the cells of slices at x = 0, 1 and so on: slice by slice, and in a slice in cell order.
@@ -13,7 +14,8 @@ pub(crate) struct Window {
 }
 
 impl Model for Window {
-    ghost use Rattle.dd_transfer.specs.Windows.{Shown, shown, IsSized};
+    ghost use Rattle.dd_strip.specs.Strips.{IsSized};
+    ghost use Rattle.dd_transfer.specs.Windows.{Shown, shown};
 
     ghost Value = { Shown };
 

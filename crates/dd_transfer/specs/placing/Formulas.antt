@@ -8,8 +8,9 @@ use Rattle.dd_numbered.specs.declared.numbered.Numbered.{Numbered}
 use Rattle.dd_numbered.specs.Numbered.{holds_in}
 use Rattle.dd_numbered.specs.Numbering.{Numbering}
 use Rattle.dd_formula.specs.LocalRule.{LocalRule, is_true, rule_allows}
-use Rattle.dd_transfer.specs.declared.strip.Strip.{Strip}
-use Rattle.dd_transfer.specs.Windows.{cells, cell_at, stand, window_index, window_look}
+use Rattle.dd_strip.specs.declared.strip.Strip.{Strip}
+use Rattle.dd_strip.specs.Strips.{cells}
+use Rattle.dd_transfer.specs.Windows.{cell_at, stand, window_index, window_look}
 
 -- the place of a cell among a window's symbols
 abbrev pub window_numbers : Strip → Numbering

@@ -1,4 +1,4 @@
-use Rattle.dd_transfer.specs.Transfers.{strip_for}
+use Rattle.dd_strip.specs.Strips.{strip_for}
 use Rattle.dd_density.proofs.Walks.{certificate_of, shown_of}
 use Rattle.dd_density.proofs.checking.check_density.Goals as goal
 

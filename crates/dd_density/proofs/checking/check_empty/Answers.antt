@@ -1,4 +1,4 @@
-use Rattle.dd_transfer.specs.Transfers.{strip_for}
+use Rattle.dd_strip.specs.Strips.{strip_for}
 use Rattle.dd_density.proofs.Walks.{empty_of, fallen_of}
 use Rattle.dd_density.proofs.checking.check_empty.Goals as goal
 

@@ -1,5 +1,5 @@
 use Rattle.std.proofs.lemmas.Result.{IfOk-weaker}
-use Rattle.dd_transfer.specs.Transfers.{strip_for}
+use Rattle.dd_strip.specs.Strips.{strip_for}
 use Rattle.dd_density.proofs.Answers.{mean_over, is_certified, is_small, volume_some, volume_few}
 use Rattle.dd_density.proofs.least.least_density.Goals as goal
 

@@ -1,4 +1,4 @@
-use Rattle.dd_transfer.specs.Transfers.{strip_for}
+use Rattle.dd_strip.specs.Strips.{strip_for}
 use Rattle.dd_strips.proofs.Densities.{strip_fits, strip_empty_law}
 use Rattle.dd_strips.proofs.laws.strip_empty.Goals as goal
 

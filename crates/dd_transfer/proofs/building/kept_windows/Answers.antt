@@ -1,6 +1,6 @@
 use Rattle.std.proofs.Common.{◌+◌, Bool, List, ap, sym, subst, arith}
 use Rattle.std.proofs.lemmas.Grind.{common_steps}
-use Rattle.dd_transfer.specs.declared.strip.Strip.{Strip}
+use Rattle.dd_strip.specs.declared.strip.Strip.{Strip}
 use Rattle.dd_transfer.specs.Windows.{Shown, AreWindows}
 use Rattle.dd_transfer.specs.placing.Formulas.{ArePlaces}
 use Rattle.dd_transfer.proofs.Written.{advanced, full, kept_more}

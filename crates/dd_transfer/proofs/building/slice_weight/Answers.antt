@@ -1,7 +1,8 @@
 use Rattle.std.proofs.Common.{◌≡◌, ◌<◌, ◌≤◌, ℕ, List, length, arith, rules, ap, sym, ◌∙◌, subst}
 use Rattle.std.specs.List.{All}
 use Rattle.dd_pattern.specs.Weight.{AreWeights, total_weight}
-use Rattle.dd_transfer.specs.Windows.{digits, cells}
+use Rattle.dd_strip.specs.Strips.{cells}
+use Rattle.dd_transfer.specs.Windows.{digits}
 use Rattle.dd_transfer.proofs.Digits.{digits_length, digits_below}
 use Rattle.dd_transfer.proofs.Sizes.{cells_few}
 use Rattle.dd_transfer.proofs.building.slice_weight.Goals as goal

@@ -1,5 +1,5 @@
 use Rattle.std.proofs.Common.{◌≡◌, ℕ, ◌<◌, length, get_or}
-use Rattle.dd_transfer.specs.Windows.{cells}
+use Rattle.dd_strip.specs.Strips.{cells}
 use Rattle.dd_transfer.specs.Transfers.{slice_weight}
 use Rattle.dd_transfer.proofs.building.slice_weights.Given as goal
 

@@ -1,0 +1,21 @@
+-- Box questions: how many clauses they take, and when they may be asked.
+use Rattle.std.specs.Prelude.{ℕ, ◌≤◌, Bool, max, nat_lt}
+use Rattle.dd_values.specs.declared.limits.Limits.{Limits}
+use Rattle.dd_formula.specs.LocalRule.{LocalRule}
+use Rattle.dd_formula.specs.Counts.{largest_clauses}
+use Rattle.dd_boxes.specs.Goals.{GoalOf, IsGoalFor, KeepsRule}
+use Rattle.dd_boxes.specs.Boxes.{goal_reach, IsLeastRadius}
+use Rattle.dd_boxes.specs.Counts.{goal_clauses, most_clauses}
+
+-- the clauses of a box question, in the largest box or torus that may be tried
+abbrev pub clauses_of : Limits → LocalRule → GoalOf → ℕ
+clauses_of l x g = largest_clauses x (goal_clauses g) (max l.radius (goal_reach g)) l.period
+
+abbrev pub is_long : Limits → LocalRule → GoalOf → Bool
+is_long l x g = nat_lt most_clauses (clauses_of l x g)
+
+-- a goal for the premise, on whose largest box and torus the question takes at most 2,000,000 clauses
+pub record IsAskable (l : Limits) (x : LocalRule) (g : GoalOf) : Type 0 where
+  pub goal : IsGoalFor x g
+  pub rule : KeepsRule g
+  pub small : (least : ℕ) → IsLeastRadius g least → largest_clauses x (goal_clauses g) (max l.radius least) l.period ≤ most_clauses

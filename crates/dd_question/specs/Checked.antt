@@ -1,0 +1,26 @@
+-- Questions with the limits within which they are asked, and how they are checked.
+use Rattle.std.specs.Prelude.{◌≡◌, Some}
+use Rattle.dd_values.specs.Ranges.{AreLimits}
+use Rattle.dd_values.specs.declared.limits.Limits.{Limits}
+use Rattle.dd_question.specs.declared.excess.Excess.{Excess}
+use Rattle.dd_question.specs.declared.fault.QuestionFault.{QuestionFault}
+use Rattle.dd_question.specs.declared.fault.QuestionFault.TheVariants as fault
+use Rattle.dd_question.specs.Questions.{Asked, IsFormed, IsPartFault, excess_of, IsSoundAsked}
+
+pub record AskedWithin : Type 0 where
+  pub question : Asked
+  pub limits : Limits
+
+abbrev pub asked_within : Limits → Asked → AskedWithin
+asked_within l a = record { question = a; limits = l }
+
+-- what each checked question keeps: the limits are in range, and the question goes together and passes none
+pub record IsChecked (q : AskedWithin) : Type 0 where
+  pub limits : AreLimits q.limits
+  pub sound : IsSoundAsked q.limits q.question
+
+-- why a question isn't checked: the limits are out of range; else some part of it doesn't go with the others; else it passes a limit
+pub data IsFaultWithin (l : Limits) (a : Asked) : QuestionFault → Type 0 where
+  limits : ¬ AreLimits l → IsFaultWithin l a fault.Limits
+  part : {f : QuestionFault} → AreLimits l → IsPartFault a f → IsFaultWithin l a f
+  excess : {e : Excess} → AreLimits l → IsFormed a → excess_of l a ≡ Some e → IsFaultWithin l a (fault.Excess e)

@@ -1,0 +1,23 @@
+-- Discharges: which radii, margins, vectors and weights they may have.
+use Rattle.std.specs.Prelude.{ℕ, ◌≤◌, List}
+use Rattle.dd_values.specs.Bounds.{widest_radius}
+use Rattle.dd_lattice.specs.Place.{Place}
+use Rattle.dd_formula.specs.LocalRule.{LocalRule}
+use Rattle.dd_boxes.specs.Discharges.{AreVectors, AreWeightsFor}
+use Rattle.dd_question.specs.declared.fault.QuestionFault.{QuestionFault}
+use Rattle.dd_question.specs.declared.fault.QuestionFault.TheVariants as fault
+
+-- the patterns and vectors are small, and each symbol has a weight
+pub record IsDischargeable (x : LocalRule) (reach growth : ℕ) (vs : List Place) (ws : List ℕ) : Type 0 where
+  pub radius : reach ≤ widest_radius
+  pub margin : growth ≤ widest_radius
+  pub vectors : AreVectors x.dimension vs
+  pub weights : AreWeightsFor x ws
+
+-- the first of these, in this order, that doesn't hold
+pub data IsDischargeFault (x : LocalRule) (reach growth : ℕ) (vs : List Place) (ws : List ℕ) : QuestionFault → Type 0 where
+  radius : ¬ (reach ≤ widest_radius) → IsDischargeFault x reach growth vs ws fault.Radius
+  margin : reach ≤ widest_radius → ¬ (growth ≤ widest_radius) → IsDischargeFault x reach growth vs ws fault.Margin
+  vectors : reach ≤ widest_radius → growth ≤ widest_radius → ¬ AreVectors x.dimension vs → IsDischargeFault x reach growth vs ws fault.Vectors
+  weights : reach ≤ widest_radius → growth ≤ widest_radius → AreVectors x.dimension vs → ¬ AreWeightsFor x ws →
+      IsDischargeFault x reach growth vs ws fault.Weights

@@ -1,0 +1,60 @@
+//! Questions that go together and pass no limit.
+use crate::question::Question;
+use dd_values::Limits;
+use std::marker::Model;
+
+/// A question that goes together and passes no limit, and the limits within which it is asked.
+#[derive(Drop)]
+pub struct CheckedQuestion<'a> {
+    question: Question<'a>,
+    limits: Limits,
+}
+
+impl<'a> Model for CheckedQuestion<'a> {
+    ghost use Rattle.std.specs.Coded.{codes};
+    ghost use Rattle.dd_expansion.specs.contracts.formulas.Formula as formula_type;
+    ghost use Rattle.dd_formula.specs.contracts.automaton.Automaton as automaton_type;
+    ghost use Rattle.dd_question.specs.Questions.{asked_of};
+    ghost use Rattle.dd_question.specs.Checked.{AskedWithin, asked_within, IsChecked};
+
+    ghost Value = { AskedWithin };
+
+    ghost coded = { Prim.hlevel (codes, formula_type.the_row.coded, automaton_type.the_row.coded) };
+
+    ghost view = { λ c. asked_within c.limits (asked_of c.question) };
+
+    ghost invariant = { λ c. IsChecked (asked_within c.limits (asked_of c.question)) };
+}
+
+/// Nothing here takes memory.
+impl<'a> CheckedQuestion<'a> {
+    ghost use Rattle.std.specs.Prelude.{◌≡◌};
+    ghost use Rattle.dd_values.specs.Ranges.{AreLimits};
+    ghost use Rattle.dd_question.specs.Questions.{asked_of, IsSoundAsked};
+    ghost use Rattle.dd_question.specs.Checked.{asked_within, IsChecked};
+
+    /// A question that is known to go together and to pass none of these limits.
+    pub fn known(question: Question<'a>, limits: Limits) -> CheckedQuestion<'a>
+        requires limits { AreLimits limits }
+        requires sound { IsSoundAsked limits (asked_of question) }
+        ensures { result ≡ asked_within limits (asked_of question.entry) }
+    {
+        CheckedQuestion { question, limits }
+    }
+
+    /// What is asked.
+    pub fn question(&self) -> Question<'a>
+        ensures value { asked_of result ≡ self.now.question }
+        ensures kept { IsChecked self.now }
+    {
+        self.question
+    }
+
+    /// How far it is searched.
+    pub fn limits(&self) -> &Limits
+        ensures value { result.now ≡ self.now.limits }
+        ensures kept { IsChecked self.now }
+    {
+        &self.limits
+    }
+}

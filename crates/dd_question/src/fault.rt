@@ -1,0 +1,58 @@
+//! What can be wrong with a question.
+ghost use Rattle.std.specs.Prelude.{◌≡◌};
+
+use crate::excess::Excess;
+use std::alloc::AllocError;
+use thiserror::Error;
+
+/// Why a question is not checked.
+#[derive(Debug, Drop, Error)]
+pub enum QuestionFault {
+    /// The radius is over 8, the period isn't 1 to 8, or the pivots are over 100,000.
+    #[error("the limits are out of range")]
+    Limits,
+    /// The configuration has another dimension or other nodes than the rule, or a symbol that isn't of its alphabet.
+    #[error("the configuration doesn't fit the rule")]
+    Configuration,
+    /// The configuration has a symbol that its node doesn't allow.
+    #[error("the configuration has a symbol that its node doesn't allow")]
+    Symbols,
+    /// The goal's rule has another dimension, other nodes or another alphabet than the premise, or one of its automata isn't well
+    /// formed over those of the premise.
+    #[error("the goal doesn't fit the premise")]
+    Goal,
+    /// The two rules have not the same dimension, nodes and alphabet.
+    #[error("the rules have not the same dimension, nodes and alphabet")]
+    Rules,
+    /// A period of the strip isn't 1 to 64, or not 1 past the rule's dimension.
+    #[error("a period of the strip is out of range")]
+    Strip,
+    /// There isn't one weight of at most 1,000 for each symbol.
+    #[error("there isn't one weight of at most 1000 for each symbol")]
+    Weights,
+    /// The radius of the patterns is over 3.
+    #[error("the radius is over 3")]
+    Radius,
+    /// The margin is over 3.
+    #[error("the margin is over 3")]
+    Margin,
+    /// There aren't 1 to 16 different vectors, each at most 4 along each axis and 0 past the rule's dimension.
+    #[error("there aren't 1 to 16 different vectors of at most 4 along each axis")]
+    Vectors,
+    /// The question passes a limit on its work.
+    #[error("the question passes a limit on its work")]
+    Excess(Excess),
+    /// Memory was wanting.
+    #[error("out of memory")]
+    Memory,
+}
+
+impl From<AllocError> for QuestionFault {
+    ghost use Rattle.dd_question.specs.declared.fault.QuestionFault.TheVariants.{Memory};
+
+    ghost from_gives = { λ _ fault. fault ≡ Memory };
+
+    fn from(_error: AllocError) -> QuestionFault {
+        QuestionFault::Memory
+    }
+}

@@ -1,0 +1,2 @@
+-- strips, and which of them a rule may have
+pub mod Strips
