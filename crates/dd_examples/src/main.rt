@@ -3,6 +3,7 @@
 //! line of each answer; and with `squares` it says whether the chessboard is a configuration of hard squares.
 #![tactic(auto)]
 
+mod asking;
 mod checking;
 mod deciding;
 mod guessing;

@@ -26,7 +26,7 @@ fn symbol_after(alloc: Global, moves: &[u32], symbol: u32) -> Result<Formula, Al
 }
 
 /// `o=1 -> (o.rt=0 & o.up=0)`
-fn hard_formula(alloc: Global) -> Result<Formula, AllocError>
+pub(crate) fn hard_formula(alloc: Global) -> Result<Formula, AllocError>
     ensures { IfOk result (λ formula. formula ≡ hard_formula) }
 {
     let mut zeros = Items::new(alloc);
@@ -49,7 +49,7 @@ pub fn hard_squares(alloc: Global) -> Result<Rule, RuleFault>
 
 /// The chessboard: the periods 2 and 2, with the rows 1 0 and 0 1.
 #[tactic(auto, using(crate::proofs::Board::is_board))]
-fn chessboard(alloc: Global) -> Result<Periodic, AllocError>
+pub(crate) fn chessboard(alloc: Global) -> Result<Periodic, AllocError>
     ensures { IfOk result (λ board. board ≡ chessboard) }
 {
     let symbols: Vec<u32> = Vec::from_slice(alloc, &[1, 0, 0, 1])?;

@@ -1,9 +1,11 @@
 //! What the program does, by its word.
 
+use crate::asking::chessboard_answer;
 use crate::checking::{Unchecked, checked};
 use crate::deciding::answered;
 use crate::rewriting::rewritten;
 use crate::squares::chessboard_membership;
+use dd_certificate::Answer;
 use dd_formula::Membership;
 use dd_output::{CertificateFault, MOST_OUTPUT};
 use dd_outside::{ReadAllFault, Source, read_all};
@@ -120,10 +122,10 @@ fn checked_text<S: Source>(alloc: Global, source: &mut S) -> Result<Vec<u8>, Fau
 }
 
 fn squares_text(alloc: Global) -> Result<Vec<u8>, Fault> {
-    match chessboard_membership(alloc) {
-        Ok(Membership::Inside) => line(alloc, b"inside\n"),
-        Ok(Membership::Outside(_)) => line(alloc, b"outside\n"),
-        Err(_) => Err(Fault::Memory),
+    match (chessboard_membership(alloc), chessboard_answer(alloc)) {
+        (Ok(Membership::Inside), Ok(Answer::Inside)) => line(alloc, b"inside\n"),
+        (Ok(_), Ok(_)) => line(alloc, b"outside\n"),
+        _ => Err(Fault::Memory),
     }
 }
 

@@ -1,9 +1,12 @@
 -- One node that allows the symbols of both functions; and the configurations of a script.
 use Rattle.std.proofs.Common.{◌≡◌, ℕ, zero, suc, ◌<◌, ◌+◌, ◌-◌, ◌*◌, ◌%◌, pos, Bool, true, false, length, refl, sym, subst, arith, inl, inr, Contains}
-use Rattle.std.specs.Prelude.{◌⊎◌, ◌≤ℤ◌, cond}
+use Rattle.std.specs.Prelude.{◌⊎◌, ◌≤ℤ◌, ◌||◌, ℤ, cond, nat_lt}
+use Rattle.std.proofs.lemmas.Bool.{and_from}
 use Rattle.std.proofs.lemmas.Int.{ints}
 use Rattle.std.proofs.lemmas.Nat.{mod_below, mod-mul-add, mul-add-lt}
 use Rattle.std.proofs.lemmas.List.Elements.{All-contains}
+use Rattle.dd_lattice.specs.Place.{Place, place}
+use Rattle.dd_lattice.specs.Cells.{cell}
 use Rattle.dd_lattice.specs.declared.position.Cell.{Cell}
 use Rattle.dd_topology.specs.Sets.{allows}
 use Rattle.dd_pattern.specs.Periods.{residue, unsheared}
@@ -11,8 +14,11 @@ use Rattle.dd_pattern.specs.Tile.{Tile, IsTile, IsReadModulo, tile_index}
 use Rattle.dd_meanings.specs.Sound.{IsConfigurationOf}
 use Rattle.dd_script.specs.Parts.{Parts}
 use Rattle.dd_script.specs.Kept.{IsScriptOf}
-use Rattle.dd_checker.specs.Lifted.{IsWhole}
-use Rattle.dd_infinite.specs.Functions.{spike, checkerboard, tiled, IsForBoth}
+use Rattle.dd_expansion.specs.Placed.{is_flat}
+use Rattle.dd_certificate.specs.declared.answer.Answer.{Answer}
+use Rattle.dd_checker.specs.Certificates.{HasQuery, IsCertificate}
+use Rattle.dd_checker.specs.Lifted.{is_yes, IsWhole}
+use Rattle.dd_infinite.specs.Functions.{spike, checkerboard, tiled, IsForBoth, IsExclusion}
 
 abbrev Either : ℕ → Type 0
 Either n = (n ≡ 0) ⊎ (n ≡ 1)
@@ -45,6 +51,27 @@ module _ (s : Parts) (one : s.known.setting.topology.nodes ≡ 1)
 
   pub for_both : IsForBoth s
   for_both = record { spike = whole spike (λ c. either _); checkerboard = whole checkerboard (λ c. odd_or_even _) }
+
+-- the spike has 1 at the origin and 0 beside it
+or_true : (b : Bool) → (b || true) ≡ true
+or_true true = refl
+or_true false = refl
+
+on_axis : (d : ℕ) (x : ℤ) → is_flat d (place x (pos 0) (pos 0)) ≡ true
+on_axis d x = and_from _ _ (or_true (nat_lt 1 d)) (or_true (nat_lt 2 d))
+
+pub one_node : (s : Parts) → IsForBoth s → s.known.setting.topology.nodes ≡ 1
+one_node s h = sym h.spike.same_nodes
+
+pub both_allowed : (s : Parts) → IsForBoth s → (allows s.known.setting.sets 0 0 ≡ true) × (allows s.known.setting.sets 0 1 ≡ true)
+both_allowed s h = (
+  h.spike.allowed (cell (place (pos 1) (pos 0) (pos 0)) 0) (on_axis _ (pos 1)) (omega arith),
+  h.spike.allowed (cell (place (pos 0) (pos 0) (pos 0)) 0) (on_axis _ (pos 0)) (omega arith),
+)
+
+pub exclusion : (s : Parts) (number : ℕ) (a : Answer) (v : Place) → HasQuery s number → is_flat s.known.setting.topology.dimension v ≡ true → is_yes a ≡ true →
+    IsCertificate s number a → IsExclusion s number a v
+exclusion s number a v query position yes certificate = record { query = query; position = position; yes = yes; certificate = certificate }
 
 pub has_rows : (s : Parts) → IsScriptOf s → s.known.setting.topology.nodes ≡ 1 → 0 < length s.known.setting.sets.allowed
 has_rows s ok one = let n = ok.known.setting.sets.nodes in let m = ok.known.setting.topology.nodes in omega (arith, n, m, one)

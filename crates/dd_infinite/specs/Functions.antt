@@ -1,11 +1,14 @@
--- Configurations as functions on all cells of Z^d, and the scripts that they are for.
-use Rattle.std.specs.Prelude.{ℕ, ◌+◌, ◌%◌, pos, cond, unsigned_abs, slice_index}
-use Rattle.dd_lattice.specs.Place.{place}
+-- Configurations as functions on all cells of Z^d, the scripts that they are for, and what excludes a goal from them.
+use Rattle.std.specs.Prelude.{ℕ, ◌≡◌, ◌+◌, ◌%◌, true, pos, cond, unsigned_abs, slice_index}
+use Rattle.dd_lattice.specs.Place.{Place, place}
 use Rattle.dd_lattice.specs.declared.position.Cell.{Cell}
 use Rattle.dd_topology.specs.Balls.{same_place}
 use Rattle.dd_pattern.specs.Tile.{Tile, tile_index}
+use Rattle.dd_expansion.specs.Placed.{is_flat}
+use Rattle.dd_certificate.specs.declared.answer.Answer.{Answer}
 use Rattle.dd_script.specs.Parts.{Parts}
-use Rattle.dd_checker.specs.Lifted.{IsWhole}
+use Rattle.dd_checker.specs.Certificates.{HasQuery, IsCertificate}
+use Rattle.dd_checker.specs.Lifted.{is_yes, IsWhole}
 
 -- 1 at the origin alone
 abbrev pub spike : Cell → ℕ
@@ -23,3 +26,10 @@ tiled t c = slice_index t.symbols (tile_index t c)
 pub record IsForBoth (s : Parts) : Type 0 where
   pub spike : IsWhole s 1 spike
   pub checkerboard : IsWhole s 1 checkerboard
+
+-- the answer is a YES to the query with this number, and a certificate of it; and the position is one of Z^d
+pub record IsExclusion (s : Parts) (number : ℕ) (a : Answer) (v : Place) : Type 0 where
+  pub query : HasQuery s number
+  pub position : is_flat s.known.setting.topology.dimension v ≡ true
+  pub yes : is_yes a ≡ true
+  pub certificate : IsCertificate s number a

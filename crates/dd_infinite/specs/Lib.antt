@@ -1,2 +1,2 @@
--- the configurations, and the scripts that allow their symbols
+-- the configurations, the scripts that allow their symbols, and what excludes a goal from them
 pub mod Functions

@@ -1,8 +1,9 @@
 //! From a check to all configurations.
-ghost use Rattle.std.specs.Prelude.{◌≡◌, true, IfOk};
+ghost use Rattle.std.specs.Prelude.{◌≡◌, ◌↔◌, true, IsTrue, IfOk};
 ghost use Rattle.dd_expansion.specs.Placed.{is_flat};
 ghost use Rattle.dd_checker.specs.Certificates.{HasQuery};
 ghost use Rattle.dd_checker.specs.Lifted.{is_yes, whole_look, IsWhole, IsNowhereAt};
+ghost use Rattle.dd_infinite.specs.Functions.{IsExclusion};
 
 use dd_certificate::Answer;
 use dd_checker::{Verdict, check_answer, lifted};
@@ -12,7 +13,7 @@ use dd_script::Script;
 use std::alloc::{AllocError, Global};
 
 fn has_query(script: &Script, query: u32) -> bool
-    ensures { result ≡ true → HasQuery script.now query }
+    ensures { IsTrue result ↔ HasQuery script.now query }
 {
     1 <= query && query as usize <= script.queries().len()
 }
@@ -30,8 +31,10 @@ fn is_yes(answer: &Answer) -> bool
     matches!(answer, Answer::Yes { .. } | Answer::YesBoth { .. })
 }
 
-/// Whether the answer is a YES to the query with this number, from 1, and a check accepts it. Then it excludes the goal from this
-/// configuration too: where that obeys the premise at all places, the goal does not hold at `place`.
+/// Whether the answer is a YES to the query with this number, from 1, a check accepts it, and `place` is a position of the script's
+/// dimension. Then it excludes the goal from this configuration too: where that obeys the premise at all places, the goal does not hold
+/// at `place`.
+#[tactic(auto, using(crate::proofs::Whole::exclusion))]
 pub fn excludes<C: Configuration>(
     alloc: Global,
     script: &Script,
@@ -41,7 +44,8 @@ pub fn excludes<C: Configuration>(
     place: &Position,
 ) -> Result<bool, AllocError>
     requires { IsWhole script.now (C.nodes configuration.now) (C.symbol_of configuration.now) }
-    ensures { IfOk result (λ excluded. excluded ≡ true → IsNowhereAt script.now query
+    ensures exact { IfOk result (λ excluded. IsTrue excluded ↔ IsExclusion script.now query answer.now place.now) }
+    ensures nowhere { IfOk result (λ excluded. excluded ≡ true → IsNowhereAt script.now query
         (whole_look script.now.known.setting.topology.dimension (C.nodes configuration.now) (C.symbol_of configuration.now)) place.now) }
 {
     if !has_query(script, query) {

@@ -1,5 +1,6 @@
 //! Configurations that are functions on all cells, and those of a script.
-ghost use Rattle.std.specs.Prelude.{◌≡◌, true, IfSome};
+ghost use Rattle.std.specs.Prelude.{◌≡◌, ◌↔◌, IsTrue, IfSome, slice_get};
+ghost use Rattle.std.specs.Option.{option_copied};
 ghost use Rattle.dd_checker.specs.Lifted.{IsWhole};
 ghost use Rattle.dd_infinite.specs.Functions.{IsForBoth, tiled};
 
@@ -47,9 +48,9 @@ impl Configuration for Checkerboard {
 
 /// Whether positions have one node, which allows the symbols 0 and 1: whether these configurations have a symbol that the
 /// script allows at each cell.
-#[tactic(auto, using(crate::proofs::Whole::for_both, crate::proofs::Whole::has_rows))]
+#[tactic(auto, using(crate::proofs::Whole::for_both, crate::proofs::Whole::has_rows, crate::proofs::Whole::one_node, crate::proofs::Whole::both_allowed))]
 pub fn allows_both(script: &Script) -> bool
-    ensures { result ≡ true → IsForBoth script.now }
+    ensures { IsTrue result ↔ IsForBoth script.now }
 {
     if script.topology().nodes() != 1 {
         return false;
@@ -61,9 +62,10 @@ pub fn allows_both(script: &Script) -> bool
     sets.allows(0, 1)
 }
 
-/// The script's configuration with this number, from 0. Each cell has a symbol that the script allows at its node.
+/// The script's configuration with this number, from 0, where there is one. Each cell has a symbol that the script allows at its node.
 pub fn configuration(script: &Script, number: usize) -> Option<&Periodic>
-    ensures { IfSome result (λ p. IsWhole script.now p.now.nodes (tiled p.now)) }
+    ensures value { option_copied result ≡ slice_get script.now.configurations number }
+    ensures whole { IfSome result (λ p. IsWhole script.now p.now.nodes (tiled p.now)) }
 {
     let configurations = script.configurations();
     if number < configurations.len() {

@@ -1,3 +1,4 @@
 pub mod CutLaws
 pub mod LimitLaws
+pub mod PartLaws
 pub mod SoundLaws

@@ -21,6 +21,6 @@ pub record IsChecked (q : AskedWithin) : Type 0 where
 
 -- why a question isn't checked: the limits are out of range; else some part of it doesn't go with the others; else it passes a limit
 pub data IsFaultWithin (l : Limits) (a : Asked) : QuestionFault → Type 0 where
-  limits : ¬ AreLimits l → IsFaultWithin l a fault.Limits
-  part : {f : QuestionFault} → AreLimits l → IsPartFault a f → IsFaultWithin l a f
-  excess : {e : Excess} → AreLimits l → IsFormed a → excess_of l a ≡ Some e → IsFaultWithin l a (fault.Excess e)
+  limits_fault : ¬ AreLimits l → IsFaultWithin l a fault.Limits
+  part_fault : {f : QuestionFault} → AreLimits l → IsPartFault a f → IsFaultWithin l a f
+  excess_fault : {e : Excess} → AreLimits l → IsFormed a → excess_of l a ≡ Some e → IsFaultWithin l a (fault.Excess e)

@@ -16,8 +16,8 @@ pub record IsDischargeable (x : LocalRule) (reach growth : ℕ) (vs : List Place
 
 -- the first of these, in this order, that doesn't hold
 pub data IsDischargeFault (x : LocalRule) (reach growth : ℕ) (vs : List Place) (ws : List ℕ) : QuestionFault → Type 0 where
-  radius : ¬ (reach ≤ widest_radius) → IsDischargeFault x reach growth vs ws fault.Radius
-  margin : reach ≤ widest_radius → ¬ (growth ≤ widest_radius) → IsDischargeFault x reach growth vs ws fault.Margin
-  vectors : reach ≤ widest_radius → growth ≤ widest_radius → ¬ AreVectors x.dimension vs → IsDischargeFault x reach growth vs ws fault.Vectors
-  weights : reach ≤ widest_radius → growth ≤ widest_radius → AreVectors x.dimension vs → ¬ AreWeightsFor x ws →
+  radius_fault : ¬ (reach ≤ widest_radius) → IsDischargeFault x reach growth vs ws fault.Radius
+  margin_fault : reach ≤ widest_radius → ¬ (growth ≤ widest_radius) → IsDischargeFault x reach growth vs ws fault.Margin
+  vectors_fault : reach ≤ widest_radius → growth ≤ widest_radius → ¬ AreVectors x.dimension vs → IsDischargeFault x reach growth vs ws fault.Vectors
+  amounts_fault : reach ≤ widest_radius → growth ≤ widest_radius → AreVectors x.dimension vs → ¬ AreWeightsFor x ws →
       IsDischargeFault x reach growth vs ws fault.Weights

@@ -7,5 +7,7 @@ pub mod Boxes
 pub mod Lists
 pub mod Densities
 pub mod Discharges
+-- lemmas on allowed symbols, with their proofs, for whoever cites them
+pub mod lemmas
 -- goals as they are measured
 pub mod measuring

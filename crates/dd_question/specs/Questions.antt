@@ -65,15 +65,15 @@ IsFormed (discharge x radius margin vs ws) = IsRule x × IsDischargeable x radiu
 
 -- the first of its parts, in this order, that doesn't go with those before it; memory may be wanting at any
 pub data IsPartFault : Asked → QuestionFault → Type 0 where
-  configuration : {x : LocalRule} {t : Tile} → ¬ Fits x t → IsPartFault (membership x t) fault.Configuration
-  symbols : {x : LocalRule} {t : Tile} → Fits x t → ¬ HasAllowed x t → IsPartFault (membership x t) fault.Symbols
-  goal : {x : LocalRule} {g : GoalOf} → ¬ IsGoalFor x g → IsPartFault (box x g) fault.Goal
-  rules : {x y : LocalRule} → ¬ AreAlike x y → IsPartFault (equality x y) fault.Rules
-  strip : {x : LocalRule} {strip ws : List ℕ} → ¬ IsStrip x strip → IsPartFault (density x strip ws) fault.Strip
-  strip_weights : {x : LocalRule} {strip ws : List ℕ} → IsStrip x strip → ¬ HasWeights x ws → IsPartFault (density x strip ws) fault.Weights
-  discharge_part : {x : LocalRule} {radius margin : ℕ} {vs : List Place} {ws : List ℕ} {f : QuestionFault} → IsDischargeFault x radius margin vs ws f →
+  configuration_fault : {x : LocalRule} {t : Tile} → ¬ Fits x t → IsPartFault (membership x t) fault.Configuration
+  symbols_fault : {x : LocalRule} {t : Tile} → Fits x t → ¬ HasAllowed x t → IsPartFault (membership x t) fault.Symbols
+  goal_fault : {x : LocalRule} {g : GoalOf} → ¬ IsGoalFor x g → IsPartFault (box x g) fault.Goal
+  rules_fault : {x y : LocalRule} → ¬ AreAlike x y → IsPartFault (equality x y) fault.Rules
+  strip_fault : {x : LocalRule} {periods ws : List ℕ} → ¬ IsStrip x periods → IsPartFault (density x periods ws) fault.Strip
+  weights_fault : {x : LocalRule} {periods ws : List ℕ} → IsStrip x periods → ¬ HasWeights x ws → IsPartFault (density x periods ws) fault.Weights
+  discharge_fault : {x : LocalRule} {radius margin : ℕ} {vs : List Place} {ws : List ℕ} {f : QuestionFault} → IsDischargeFault x radius margin vs ws f →
       IsPartFault (discharge x radius margin vs ws) f
-  memory : {a : Asked} → IsPartFault a fault.Memory
+  memory_fault : {a : Asked} → IsPartFault a fault.Memory
 
 abbrev pub passed : Bool → Excess → Option Excess
 passed b e = if b then Some e else None

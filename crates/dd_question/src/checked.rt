@@ -45,6 +45,7 @@ impl<'a> CheckedQuestion<'a> {
     /// What is asked.
     pub fn question(&self) -> Question<'a>
         ensures value { asked_of result ≡ self.now.question }
+        ensures sound { IsSoundAsked self.now.limits (asked_of result) }
         ensures kept { IsChecked self.now }
     {
         self.question

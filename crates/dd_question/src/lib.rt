@@ -4,10 +4,12 @@
 
 mod aims;
 mod checked;
+mod checking;
 mod excess;
 mod fault;
 mod laws;
 mod limits;
+mod parts;
 mod question;
 
 pub use aims::MOST_CLAUSES;
@@ -15,4 +17,5 @@ pub use checked::CheckedQuestion;
 pub use excess::Excess;
 pub use fault::QuestionFault;
 pub use laws::sound_questions;
+pub use parts::has_allowed;
 pub use question::Question;

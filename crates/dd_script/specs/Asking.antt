@@ -1,17 +1,17 @@
 -- What is known of each question that a script asks.
 use Rattle.std.specs.{Prelude.◌≡◌, Prelude.Some, List.Contains}
-use Rattle.dd_question.specs.Questions.{Asked, membership, box, equality, listing, density, discharge}
-use Rattle.dd_question.specs.Sound.{IsSoundAsked}
+use Rattle.dd_question.specs.Questions as question
+use Rattle.dd_question.specs.Questions.{Asked, IsSoundAsked}
 use Rattle.dd_script.specs.{Kept.IsRuleOf, Parts.Parts, Parts.Known, Parts.Query, Questions.asked}
 
 -- the rules that a question is about are the script's
 abbrev pub AreOf : Known → Asked → Type 0
-AreOf k (membership x t) = IsRuleOf k.setting x
-AreOf k (box x g) = IsRuleOf k.setting x
-AreOf k (equality x y) = IsRuleOf k.setting x × IsRuleOf k.setting y
-AreOf k (listing x) = IsRuleOf k.setting x
-AreOf k (density x strip ws) = IsRuleOf k.setting x
-AreOf k (discharge x radius margin vs ws) = IsRuleOf k.setting x
+AreOf k (question.membership x t) = IsRuleOf k.setting x
+AreOf k (question.box x g) = IsRuleOf k.setting x
+AreOf k (question.equality x y) = IsRuleOf k.setting x × IsRuleOf k.setting y
+AreOf k (question.listing x) = IsRuleOf k.setting x
+AreOf k (question.density x strip ws) = IsRuleOf k.setting x
+AreOf k (question.discharge x radius margin vs ws) = IsRuleOf k.setting x
 
 -- the question goes together, passes no limit, and is about the script's rules
 pub record IsSoundIn (k : Known) (a : Asked) : Type 0 where

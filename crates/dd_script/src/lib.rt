@@ -12,7 +12,7 @@ mod script;
 pub use dd_boxes::Goal;
 pub use dd_faults::Limit;
 pub use dd_query::Query;
-pub use dd_question::Question;
+pub use dd_question::{CheckedQuestion, Question};
 pub use dd_values::Limits;
 pub use fault::{ScriptFault, ScriptKind};
 pub use laws::{one_refusal, one_script, spelled_or_refused};

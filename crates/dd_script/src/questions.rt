@@ -1,7 +1,7 @@
 //! What queries ask, and which limit that passes.
 ghost use Rattle.std.specs.Prelude.{◌≡◌, Some, length};
 ghost use Rattle.dd_query.specs.Sound.{IsQueryWithin};
-ghost use Rattle.dd_question.specs.Views.{asked_of};
+ghost use Rattle.dd_question.specs.Questions.{asked_of};
 ghost use Rattle.dd_script.specs.{Parts.parts, Questions.asked, Walk.limit_of};
 
 use crate::script::Made;

@@ -4,7 +4,7 @@ use dd_faults::Known;
 use dd_formula::{Automaton, Rule};
 use dd_pattern::Periodic;
 use dd_query::Query;
-use dd_question::{Question, sound_questions};
+use dd_question::{CheckedQuestion, sound_questions};
 use dd_topology::{Names, Sets, Topology};
 use dd_values::{Boxed, Items, Limits};
 use std::marker::Model;
@@ -147,19 +147,20 @@ impl Script {
 
 /// What the queries ask. Nothing here takes memory.
 impl Script {
-    ghost use Rattle.std.specs.Prelude.{Contains};
-    ghost use Rattle.dd_question.specs.Views.{asked_of};
+    ghost use Rattle.std.specs.Prelude.{◌≡◌, Contains};
     ghost use Rattle.dd_script.specs.Asking.{Asks, AreSound};
 
     /// What a query of the script asks, of whichever kind it is: with the rules, automata and configurations themselves in place of
-    /// their numbers, and with the script's weights where something is weighed.
-    pub fn question<'a>(&'a self, query: &'a Query) -> Question<'a>
+    /// their numbers, with the script's weights where something is weighed, and with the script's limits.
+    pub fn question<'a>(&'a self, query: &'a Query) -> CheckedQuestion<'a>
         requires { Contains self.now.queries query.now }
-        ensures { Asks self.now query.now (asked_of result) }
+        ensures asks { Asks self.now query.now result.question }
+        ensures limits { result.limits ≡ self.now.known.limits }
     {
         self.sound_questions();
         let contents = self.contents.get();
-        question_of(&contents.known, &contents.made, query)
+        let question = question_of(&contents.known, &contents.made, query);
+        CheckedQuestion::known(question, *self.limits())
     }
 
     /// Does nothing; its contract says that what the queries ask is sound.

@@ -60,7 +60,7 @@ fn first_of(
 /// The same of the first goal that the script asks for.
 fn first_value(alloc: Global, script: &Script, filling: &Filling) -> Result<Option<u32>, Fail> {
     for query in script.queries() {
-        if let Question::Box { premise, goal } = script.question(query) {
+        if let Question::Box { premise, goal } = script.question(query).question() {
             return first_of(alloc, premise, &goal, filling);
         }
     }

@@ -212,7 +212,7 @@ fn compared_query(
     radius: u32,
 ) -> Result<([u32; 8], [u32; 8]), Fail> {
     for query in script.queries() {
-        if let Question::Box { premise, goal } = script.question(query) {
+        if let Question::Box { premise, goal } = script.question(query).question() {
             return compared(alloc, premise, &goal, radius);
         }
     }

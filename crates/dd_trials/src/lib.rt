@@ -10,6 +10,8 @@ mod clauses;
 #[cfg(test)]
 mod fillings;
 #[cfg(test)]
+mod hexagons;
+#[cfg(test)]
 mod inputs;
 #[cfg(test)]
 mod questions;

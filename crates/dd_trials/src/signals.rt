@@ -5,7 +5,7 @@ ghost use Rattle.dd_lattice.specs.Order.{cell_cmp};
 
 use crate::fillings::{at_origin, filling, truth};
 use crate::scripts::script_of;
-use dd_circuit::{Circuit, Signal};
+use dd_circuit::{Circuit, Gate, Signal};
 use dd_compile::{Inputs, compile_rule, compile_template, place_template, reads_are_wired};
 use dd_counts::patterns;
 use dd_formula::Rule;
@@ -233,4 +233,49 @@ const FORMULAS: Times = &[
 #[test]
 fn formulas_over_three_symbols(rt: HostRuntime) -> Result<(), Fail> {
     assert_times(&rt, rt.alloc(), THREE_SYMBOLS, FORMULAS)
+}
+
+/// Asserts that the circuit is one gate over the inputs 1 and 2, and its values where the first one alone is true.
+fn assert_one_gate(
+    rt: &impl Abort,
+    alloc: Global,
+    circuit: &Circuit,
+    signal: Signal,
+) -> Result<(), Fail> {
+    let inputs = signals_from(alloc, 1, 2)?;
+    match circuit.gates() {
+        [Gate::And(members)] => {
+            assert_eq!(rt; members.as_slice(), inputs.as_slice());
+        }
+        _ => return Err("one gate".into()),
+    }
+    let third = Signal {
+        variable: 3,
+        positive: true,
+    };
+    assert_eq!(rt; signal, third);
+    if circuit.inputs() != 2 {
+        return Err("two inputs".into());
+    }
+    let values = circuit.value(alloc, &[true, false])?;
+    assert_eq!(rt; values.as_slice(), [true, false, false].as_slice());
+    Ok(())
+}
+
+/// The gates of the rule at the first node of the origin, and their signal.
+fn first_gates(alloc: Global, rule: &Rule) -> Result<(Circuit, Signal), Fail> {
+    if rule.nodes() == 0 {
+        return Err("a node".into());
+    }
+    let cells = in_order(alloc, rule.reads(0))?;
+    compiled(alloc, rule, 0, &cells)
+}
+
+// The symbols 0 and 1 of the origin are the inputs 1 and 2, so the conjunction of both is the gate 3.
+#[test]
+fn one_gate_over_two_inputs(rt: HostRuntime) -> Result<(), Fail> {
+    let script = script_of(rt.alloc(), &["%dim 1 %rule none o=0 & o=1"])?;
+    let rule = script.rules().first().ok_or("a rule")?;
+    let (circuit, signal) = first_gates(rt.alloc(), rule)?;
+    assert_one_gate(&rt, rt.alloc(), &circuit, signal)
 }

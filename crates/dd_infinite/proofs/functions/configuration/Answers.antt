@@ -5,8 +5,8 @@ use Rattle.dd_infinite.proofs.Whole.{whole_of}
 use Rattle.dd_infinite.proofs.functions.configuration.Goals as goal
 
 -- it is one of the script's
-pub returns-then-number-configurations : goal.returns-then-number-configurations
-returns-then-number-configurations c =
+pub returns-then-number-configurations-clause-whole : goal.returns-then-number-configurations-clause-whole
+returns-then-number-configurations-clause-whole c =
     let all = c.args.script.now.configurations in
     let told = c.configurations-configurations.ensures in
     let i = c.args.number in

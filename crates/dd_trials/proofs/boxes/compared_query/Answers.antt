@@ -14,4 +14,4 @@ question-requires c =
     (Contains-get_or queries i q (omega (arith, c.loop-query-test.true, ap length same)))
 
 pub compared-requires : goal.compared-requires
-compared-requires c = c.in-Box.ensures.sound.sound.1.goal
+compared-requires c = c.in-Box.ensures.sound.1.goal

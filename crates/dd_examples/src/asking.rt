@@ -1,0 +1,98 @@
+//! A rule and a question that are made without a script: each condition that they must meet is tested by the call that is there for it.
+ghost use Rattle.std.specs.Prelude.{◌≡◌, length, IfOk};
+ghost use Rattle.dd_topology.specs.Sets.{all_symbols};
+ghost use Rattle.dd_formula.specs.LocalRule.{local_rule};
+ghost use Rattle.dd_question.specs.Questions.{asked_of};
+ghost use Rattle.dd_respond.specs.Right.{IsRightTo};
+
+use crate::squares::{chessboard, hard_formula};
+use dd_certificate::Answer;
+use dd_engines::Roster;
+use dd_formed::is_formula;
+use dd_formula::{Formula, Rule, RuleFault};
+use dd_question::{Question, QuestionFault};
+use dd_respond::respond;
+use dd_topology::{Kind, Sets, Topology};
+use dd_values::Limits;
+use std::alloc::{AllocError, Global};
+
+/// Why nothing was asked.
+#[derive(Debug, Drop)]
+pub enum Unasked {
+    /// There are more than 4 nodes, no symbol, or more than 16.
+    Numbers,
+    /// The formula names what there isn't, or is too deep.
+    Formula,
+    /// The rule is too large.
+    Rule(RuleFault),
+    /// The question doesn't go together, or passes a limit.
+    Question(QuestionFault),
+    /// Memory was wanting.
+    Memory,
+}
+
+impl From<AllocError> for Unasked {
+    fn from(_error: AllocError) -> Unasked {
+        Unasked::Memory
+    }
+}
+
+impl From<RuleFault> for Unasked {
+    fn from(fault: RuleFault) -> Unasked {
+        Unasked::Rule(fault)
+    }
+}
+
+impl From<QuestionFault> for Unasked {
+    fn from(fault: QuestionFault) -> Unasked {
+        Unasked::Question(fault)
+    }
+}
+
+/// The rule of a formula over a topology, which has so many labels, and so many symbols, all of which its nodes allow.
+fn rule_of(
+    alloc: Global,
+    topology: &Topology,
+    labels: u32,
+    symbols: u32,
+    formula: Formula,
+) -> Result<Rule, Unasked>
+    requires { length topology.now.labels ≡ labels }
+    ensures { IfOk result (λ rule. rule ≡ local_rule topology.now (all_symbols topology.now.nodes symbols) formula) }
+{
+    let nodes = topology.nodes();
+    if nodes > 4 || symbols == 0 || symbols > 16 {
+        return Err(Unasked::Numbers);
+    }
+    if !is_formula(topology, labels, symbols, &formula) {
+        return Err(Unasked::Formula);
+    }
+    let sets = Sets::new(alloc, nodes, symbols)?;
+    Ok(Rule::new(alloc, topology, &sets, formula)?)
+}
+
+/// The right answer to a question that goes together and passes none of these limits. No engine is asked before the search.
+fn answer_to(alloc: Global, question: Question, limits: &Limits) -> Result<Answer, Unasked>
+    ensures { IfOk result (λ answer. IsRightTo limits.now (asked_of question.entry) answer) }
+{
+    let checked = question.check(alloc, limits)?;
+    let mut roster: Roster = Roster::new(Vec::new(alloc));
+    Ok(respond(alloc, &checked, &mut roster)?)
+}
+
+/// The answer to whether the chessboard is a configuration of hard squares.
+pub fn chessboard_answer(alloc: Global) -> Result<Answer, Unasked> {
+    let topology = Topology::builtin(alloc, Kind::Square)?;
+    let rule = rule_of(alloc, &topology, 4, 2, hard_formula(alloc)?)?;
+    let configuration = chessboard(alloc)?;
+    let question = Question::Membership {
+        rule: &rule,
+        configuration: &configuration,
+    };
+    let limits = Limits {
+        radius: 2,
+        period: 2,
+        pivots: 100,
+    };
+    answer_to(alloc, question, &limits)
+}

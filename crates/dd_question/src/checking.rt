@@ -1,0 +1,87 @@
+//! Questions are checked: the limits, whether the parts go together, and the limit on its work that a question passes.
+ghost use Rattle.std.specs.Prelude.{◌≡◌, ◌↔◌, IsTrue, IfOk, IfErr, OnOk};
+ghost use Rattle.dd_values.specs.Ranges.{AreLimits};
+ghost use Rattle.dd_question.specs.Questions.{asked_of, IsFormed, IsPartFault};
+ghost use Rattle.dd_question.specs.Checked.{asked_within, IsFaultWithin};
+
+use crate::checked::CheckedQuestion;
+use crate::fault::QuestionFault;
+use crate::laws::sound_questions;
+use crate::parts::{check_box, check_density, check_discharge, check_equality, check_member};
+use crate::question::Question;
+use dd_values::Limits;
+use std::alloc::Global;
+
+/// The greatest radius of a box, the greatest period of a torus, and the greatest number of pivots.
+const MOST_RADIUS: u32 = 8;
+const MOST_PERIOD: u32 = 8;
+const MOST_PIVOTS: u32 = 100_000;
+
+fn are_limits(limits: &Limits) -> bool
+    ensures { IsTrue result ↔ AreLimits limits.now }
+{
+    limits.radius <= MOST_RADIUS
+        && 1 <= limits.period
+        && limits.period <= MOST_PERIOD
+        && limits.pivots <= MOST_PIVOTS
+}
+
+impl<'a> Question<'a> {
+    /// Whether its parts go together.
+    fn check_parts(&self, alloc: Global) -> Result<(), QuestionFault>
+        ensures ok { OnOk result (IsFormed (asked_of self.now)) }
+        ensures fault { IfErr result (IsPartFault (asked_of self.now)) }
+    {
+        match *self {
+            Question::Membership {
+                rule,
+                configuration,
+            } => check_member(rule, configuration),
+            Question::Box { premise, goal } => check_box(alloc, premise, &goal),
+            Question::Equality { left, right } => check_equality(left, right),
+            Question::Listing { rule } => {
+                // Read for what its type keeps.
+                let _nodes = rule.nodes();
+                Ok(())
+            }
+            Question::Density {
+                rule,
+                strip,
+                weights,
+            } => check_density(rule, strip, weights),
+            Question::Discharge {
+                rule,
+                radius,
+                margin,
+                vectors,
+                weights,
+            } => check_discharge(rule, radius, margin, vectors, weights),
+        }
+    }
+
+    /// The question, checked within these limits.
+    ///
+    /// # Errors
+    /// `Limits` where the limits are out of range; else the first of its parts that doesn't go with those before it; else `Excess`
+    /// where it passes a limit on its work; or `Memory`.
+    #[tactic(auto, using(crate::specs::Checked::limits_fault, crate::specs::Checked::part_fault, crate::specs::Checked::excess_fault, crate::specs::Questions::memory_fault))]
+    pub fn check(
+        self,
+        alloc: Global,
+        limits: &Limits,
+    ) -> Result<CheckedQuestion<'a>, QuestionFault>
+        ensures ok { IfOk result (λ question. question ≡ asked_within limits.now (asked_of self.entry)) }
+        ensures fault { IfErr result (IsFaultWithin limits.now (asked_of self.entry)) }
+    {
+        if !are_limits(limits) {
+            return Err(QuestionFault::Limits);
+        }
+        self.check_parts(alloc)?;
+        if let Some(excess) = self.excess(alloc, limits)? {
+            return Err(QuestionFault::Excess(excess));
+        }
+        // Law: a question that goes together and passes no limit is sound.
+        sound_questions();
+        Ok(CheckedQuestion::known(self, *limits))
+    }
+}

@@ -1,0 +1,251 @@
+//! Whether the parts of a question go together.
+ghost use Rattle.std.specs.Prelude.{◌≡◌, ◌≤◌, ◌<◌, ◌↔◌, IsTrue, IfOk, IfErr, OnOk, All};
+ghost use Rattle.std.specs.List.{IsDistinct};
+ghost use Rattle.std.specs.Ordering.{is_eq};
+ghost use Rattle.dd_lattice.specs.Order.{place_cmp};
+ghost use Rattle.dd_formula.specs.LocalRule.{IsRule};
+ghost use Rattle.dd_formula.specs.Living.{Fits};
+ghost use Rattle.dd_formula.specs.Allowed.{HasAllowed};
+ghost use Rattle.dd_strip.specs.Strips.{IsStrip, HasWeights};
+ghost use Rattle.dd_boxes.specs.Goals.{AreAlike, AreOver, IsGoalFor, KeepsRule};
+ghost use Rattle.dd_boxes.specs.Discharges.{IsVector, AreVectors, AreWeightsFor};
+ghost use Rattle.dd_boxes.specs.Views.{goal_of, numbers_of};
+ghost use Rattle.dd_question.specs.Questions as asked;
+ghost use Rattle.dd_question.specs.Questions.{IsFormed, IsPartFault};
+
+use crate::fault::QuestionFault;
+use dd_boxes::Goal;
+use dd_formed::{CommonNumbers, is_automaton};
+use dd_formula::{Automaton, Rule};
+use dd_lattice::Position;
+use dd_pattern::Periodic;
+use std::alloc::{AllocError, Global};
+
+/// The greatest period of a strip, the greatest weight, the greatest radius and margin of a discharge, and the greatest number of its
+/// vectors and their greatest coordinate.
+const LONGEST: u32 = 64;
+const MOST_WEIGHT: u32 = 1000;
+const WIDEST_RADIUS: u32 = 3;
+const MOST_VECTORS: usize = 16;
+const FARTHEST: u32 = 4;
+
+/// Whether the configuration has the rule's dimension, nodes and symbols.
+fn fits(rule: &Rule, configuration: &Periodic) -> bool
+    ensures { IsTrue result ↔ Fits rule.now configuration.now }
+{
+    let symbols = rule.symbols();
+    configuration.dim() == rule.dim()
+        && configuration.nodes() == rule.nodes()
+        && configuration
+            .symbols()
+            .iter()
+            .all(|&symbol| symbol < symbols)
+}
+
+/// Whether each symbol of the fundamental box is one that its node allows.
+pub fn has_allowed(rule: &Rule, configuration: &Periodic) -> bool
+    requires { Fits rule.now configuration.now }
+    ensures { IsTrue result ↔ HasAllowed rule.now configuration.now }
+{
+    let symbols = configuration.symbols();
+    for number in 0..symbols.len() {
+        let cell = configuration.cell_at(number);
+        if !rule.allows(cell.node, symbols[number]) {
+            return false;
+        }
+    }
+    true
+}
+
+#[tactic(auto, using(crate::specs::Questions::configuration_fault, crate::specs::Questions::symbols_fault))]
+pub(crate) fn check_member(rule: &Rule, configuration: &Periodic) -> Result<(), QuestionFault>
+    ensures ok { OnOk result (IsFormed (asked.membership rule.now configuration.now)) }
+    ensures fault { IfErr result (IsPartFault (asked.membership rule.now configuration.now)) }
+{
+    // Read for what their types keep.
+    let _nodes = rule.nodes();
+    let _symbols = configuration.symbols();
+    if !fits(rule, configuration) {
+        return Err(QuestionFault::Configuration);
+    }
+    if !has_allowed(rule, configuration) {
+        return Err(QuestionFault::Symbols);
+    }
+    Ok(())
+}
+
+/// Whether the rules have the same dimension, nodes and alphabet.
+fn are_alike(left: &Rule, right: &Rule) -> bool
+    ensures alike { IsTrue result ↔ AreAlike left.now right.now }
+    ensures left { IsRule left.now }
+    ensures right { IsRule right.now }
+{
+    right.dim() == left.dim() && right.nodes() == left.nodes() && right.symbols() == left.symbols()
+}
+
+/// Whether both automata are well formed over the numbers of the rule.
+fn are_over(
+    alloc: Global,
+    rule: &Rule,
+    left: &Automaton,
+    right: &Automaton,
+) -> Result<bool, AllocError>
+    ensures { IfOk result (λ are_over. IsTrue are_over ↔ AreOver rule.now (numbers_of rule.now) left.now right.now) }
+{
+    let numbers = CommonNumbers {
+        dimension: rule.dim(),
+        nodes: rule.nodes(),
+        symbols: rule.symbols(),
+    };
+    if !is_automaton(alloc, left, numbers)? {
+        return Ok(false);
+    }
+    is_automaton(alloc, right, numbers)
+}
+
+/// Whether the goal may be looked for where the premise holds.
+fn is_goal_for(alloc: Global, premise: &Rule, goal: &Goal) -> Result<bool, AllocError>
+    ensures value { IfOk result (λ is_goal. IsTrue is_goal ↔ IsGoalFor premise.now (goal_of premise.now goal.now)) }
+    ensures rule { OnOk result (KeepsRule (goal_of premise.now goal.now)) }
+{
+    match goal {
+        Goal::Breaks(rule) => Ok(are_alike(premise, rule)),
+        Goal::Differ(left, right) => are_over(alloc, premise, left, right),
+        Goal::Always => Ok(true),
+    }
+}
+
+#[tactic(auto, using(crate::specs::Questions::goal_fault, crate::specs::Questions::memory_fault))]
+pub(crate) fn check_box(alloc: Global, premise: &Rule, goal: &Goal) -> Result<(), QuestionFault>
+    ensures ok { OnOk result (IsFormed (asked.box premise.now (goal_of premise.now goal.now))) }
+    ensures fault { IfErr result (IsPartFault (asked.box premise.now (goal_of premise.now goal.now))) }
+{
+    // Read for what its type keeps.
+    let _nodes = premise.nodes();
+    if !is_goal_for(alloc, premise, goal)? {
+        return Err(QuestionFault::Goal);
+    }
+    Ok(())
+}
+
+#[tactic(auto, using(crate::specs::Questions::rules_fault))]
+pub(crate) fn check_equality(left: &Rule, right: &Rule) -> Result<(), QuestionFault>
+    ensures ok { OnOk result (IsFormed (asked.equality left.now right.now)) }
+    ensures fault { IfErr result (IsPartFault (asked.equality left.now right.now)) }
+{
+    if !are_alike(left, right) {
+        return Err(QuestionFault::Rules);
+    }
+    Ok(())
+}
+
+/// Whether the rule may have a strip with these periods.
+fn is_strip(rule: &Rule, periods: [u32; 2]) -> bool
+    ensures { IsTrue result ↔ IsStrip rule.now periods }
+{
+    let [y, z] = periods;
+    let dimension = rule.dim();
+    1 <= y
+        && y <= LONGEST
+        && 1 <= z
+        && z <= LONGEST
+        && (2 <= dimension || y == 1)
+        && (3 <= dimension || z == 1)
+}
+
+/// Whether there is one weight of at most 1,000 for each symbol.
+fn has_weights(rule: &Rule, weights: &[u32]) -> bool
+    ensures of_strip { IsTrue result ↔ HasWeights rule.now weights.now }
+    ensures of_discharge { IsTrue result ↔ AreWeightsFor rule.now weights.now }
+{
+    weights.len() == rule.symbols() as usize
+        && weights.iter().all(|&weight| weight <= MOST_WEIGHT)
+}
+
+#[tactic(auto, using(crate::specs::Questions::strip_fault, crate::specs::Questions::weights_fault))]
+pub(crate) fn check_density(
+    rule: &Rule,
+    strip: [u32; 2],
+    weights: &[u32],
+) -> Result<(), QuestionFault>
+    ensures ok { OnOk result (IsFormed (asked.density rule.now strip weights.now)) }
+    ensures fault { IfErr result (IsPartFault (asked.density rule.now strip weights.now)) }
+{
+    // Read for what its type keeps.
+    let _nodes = rule.nodes();
+    if !is_strip(rule, strip) {
+        return Err(QuestionFault::Strip);
+    }
+    if !has_weights(rule, weights) {
+        return Err(QuestionFault::Weights);
+    }
+    Ok(())
+}
+
+fn is_vector(dimension: u32, vector: &Position) -> bool
+    ensures { IsTrue result ↔ IsVector dimension vector.now }
+{
+    vector.x.unsigned_abs() <= FARTHEST
+        && vector.y.unsigned_abs() <= FARTHEST
+        && vector.z.unsigned_abs() <= FARTHEST
+        && (2 <= dimension || vector.y == 0)
+        && (3 <= dimension || vector.z == 0)
+}
+
+fn are_distinct(vectors: &[Position]) -> bool
+    ensures { IsTrue result ↔ IsDistinct (λ p q. is_eq (place_cmp p q)) vectors.now }
+{
+    match vectors {
+        [] => true,
+        [first, rest @ ..] => !rest.contains(first) && are_distinct(rest),
+    }
+}
+
+fn are_short(dimension: u32, vectors: &[Position]) -> bool
+    ensures { IsTrue result ↔ All (IsVector dimension) vectors.now }
+{
+    for vector in vectors {
+        if !is_vector(dimension, vector) {
+            return false;
+        }
+    }
+    true
+}
+
+/// Whether amounts may be given along these vectors.
+fn are_vectors(dimension: u32, vectors: &[Position]) -> bool
+    ensures { IsTrue result ↔ AreVectors dimension vectors.now }
+{
+    1 <= vectors.len()
+        && vectors.len() <= MOST_VECTORS
+        && are_distinct(vectors)
+        && are_short(dimension, vectors)
+}
+
+#[tactic(auto, using(crate::specs::Questions::discharge_fault, crate::specs::Discharges::radius_fault, crate::specs::Discharges::margin_fault, crate::specs::Discharges::vectors_fault, crate::specs::Discharges::amounts_fault))]
+pub(crate) fn check_discharge(
+    rule: &Rule,
+    radius: u32,
+    margin: u32,
+    vectors: &[Position],
+    weights: &[u32],
+) -> Result<(), QuestionFault>
+    ensures ok { OnOk result (IsFormed (asked.discharge rule.now radius margin vectors.now weights.now)) }
+    ensures fault { IfErr result (IsPartFault (asked.discharge rule.now radius margin vectors.now weights.now)) }
+{
+    // Read for what its type keeps.
+    let _nodes = rule.nodes();
+    if radius > WIDEST_RADIUS {
+        return Err(QuestionFault::Radius);
+    }
+    if margin > WIDEST_RADIUS {
+        return Err(QuestionFault::Margin);
+    }
+    if !are_vectors(rule.dim(), vectors) {
+        return Err(QuestionFault::Vectors);
+    }
+    if !has_weights(rule, weights) {
+        return Err(QuestionFault::Weights);
+    }
+    Ok(())
+}
