@@ -21,7 +21,7 @@ use Rattle.dd_derivation.specs.declared.step.Step.{Step}
 use Rattle.dd_certificate.specs.declared.answer.Answer.{Answer}
 use Rattle.dd_certificate.specs.declared.answer.Answer.TheVariants as answer
 use Rattle.dd_question.specs.Questions.{Asked}
-use Rattle.dd_question.specs.Questions as asked
+use Rattle.dd_question.specs.Questions as question
 use Rattle.dd_script.specs.Questions.{asked, query_at}
 use Rattle.dd_script.specs.Asking.{AreOf, AreSound}
 use Rattle.dd_verify.specs.Holding.{says_nowhere, says_equal}
@@ -78,8 +78,8 @@ module _ (s : Parts) (nodes : ℕ) (symbol_of : Cell → ℕ) (whole : IsWhole s
         nowhere.configurations look (look_whole x of) obeys v level there
 
     asked_not_at : (a : Answer) → SaysYes a → (k : Asked) → AreOf s.known k → ClaimOf k a → IsAskedNotAt k look v
-    asked_not_at a one (asked.box x g) ok (says_nowhere {n = n} claim) = of_box (not_at x g n ok claim)
-    asked_not_at a both (asked.equality x y) ok (says_equal {n = n} {m = m} left right) = of_equality (not_at x (breaks y) n ok.0 left) (not_at y (breaks x) m ok.1 right)
+    asked_not_at a one (question.box x g) ok (says_nowhere {n = n} claim) = of_box (not_at x g n ok claim)
+    asked_not_at a both (question.equality x y) ok (says_equal {n = n} {m = m} left right) = of_equality (not_at x (breaks y) n ok.0 left) (not_at y (breaks x) m ok.1 right)
     asked_not_at _ _ _ ok claim = elim claim [ ]
 
     -- where a YES claims what is true, the goal does not hold at v

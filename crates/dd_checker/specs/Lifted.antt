@@ -13,7 +13,7 @@ use Rattle.dd_certificate.specs.declared.answer.Answer.{Answer}
 use Rattle.dd_certificate.specs.Text.{verdict_text}
 use Rattle.dd_script.specs.Parts.{Parts}
 use Rattle.dd_question.specs.Questions.{Asked}
-use Rattle.dd_question.specs.Questions as asked
+use Rattle.dd_question.specs.Questions as question
 use Rattle.dd_script.specs.Questions.{asked, query_at}
 
 -- the answer's first line says YES
@@ -36,8 +36,8 @@ IsNotAt x g look v = Obeys x look → HasGoal g look v → ⊥
 
 -- of the goal that a box question asks for, or of both that an equality does; no YES answers another question
 pub data IsAskedNotAt : Asked → Look → Place → Type 0 where
-  of_box : {x : LocalRule} {g : GoalOf} {look : Look} {v : Place} → IsNotAt x g look v → IsAskedNotAt (asked.box x g) look v
-  of_equality : {x y : LocalRule} {look : Look} {v : Place} → IsNotAt x (breaks y) look v → IsNotAt y (breaks x) look v → IsAskedNotAt (asked.equality x y) look v
+  of_box : {x : LocalRule} {g : GoalOf} {look : Look} {v : Place} → IsNotAt x g look v → IsAskedNotAt (question.box x g) look v
+  of_equality : {x y : LocalRule} {look : Look} {v : Place} → IsNotAt x (breaks y) look v → IsNotAt y (breaks x) look v → IsAskedNotAt (question.equality x y) look v
 
 -- the same of the goals that the query with a number, from 1, asks for
 abbrev pub IsNowhereAt : Parts → ℕ → Look → Place → Type 0
