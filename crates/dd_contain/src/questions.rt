@@ -116,8 +116,9 @@ impl<'a> Questions for BoxQuestion<'a> {
 ///
 /// Each list of clauses is put to the roster first, without a copy, and to the search where no engine proposes what is right. So
 /// the engines change how long the decision takes, and which steps or which configuration of those periods shows it, and nothing
-/// else of it. The roster is kept: each sound engine is still there, in order. Where all goes well, the first engine that is left
-/// was asked.
+/// else of a decision that is made; one that wants memory may keep it from being made. The roster is kept: each sound engine is
+/// still there, in order. Where all goes well, the first engine that is left was asked, and only engines that aren't sound were let
+/// go before it.
 pub fn decide<E: Engine>(
     alloc: Global,
     premise: &Rule,

@@ -1,6 +1,6 @@
 -- Unit propagation: what one more clause makes true follows, and where every clause is settled no hints end in a
 -- conflict.
-use Rattle.std.proofs.Common.{◌≡◌, ℕ, zero, suc, ◌+◌, ◌-◌, ◌<◌, ◌≤◌, Bool, true, false, cond, not, ◌&&◌, ◌||◌, eqb, List, [], ◌∷◌, ◌++◌, Option, Some, None, refl, ap, sym, ◌∙◌, subst, inl, inr, ◌⊎◌, get_or, length, arith, take}
+use Rattle.std.proofs.Common.{◌≡◌, ℕ, zero, suc, ◌-◌, ◌<◌, ◌≤◌, Bool, true, false, cond, not, ◌&&◌, ◌||◌, eqb, List, [], ◌∷◌, ◌++◌, Option, Some, None, refl, ap, sym, ◌∙◌, subst, inl, inr, ◌⊎◌, get_or, length, arith}
 use Rattle.std.proofs.Math.ListN.{set, replicate}
 use Rattle.std.specs.Bool.{beq}
 use Rattle.std.specs.List.{list_all, filter, All}
@@ -12,7 +12,7 @@ use Rattle.std.proofs.lemmas.Grind.{get_or-set_at}
 use Rattle.std.proofs.lemmas.List.Sums.{sum_by-set}
 use Rattle.std.proofs.lemmas.List.Elements.{All-head, All-tail, All-same, All-filter, filter_passes, filter_agree}
 use Rattle.dd_clause.specs.declared.clause.Literal.{Literal}
-use Rattle.dd_clause.specs.Clauses.{negation, IsLiteralInRange, IsClauseInRange, ClauseList}
+use Rattle.dd_clause.specs.Clauses.{negation, IsLiteralInRange, ClauseList}
 use Rattle.dd_derivation.specs.declared.propagation.Finding.TheVariants.{Falsified, Forced, Open}
 use Rattle.dd_derivation.specs.declared.step.Step.{Step}
 use Rattle.dd_derivation.specs.Derivations.{is_empty, same_literal, is_among, is_literal_in_range, finding_of, finding, clause_of, is_conflict, is_proper, is_right}

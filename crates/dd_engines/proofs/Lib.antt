@@ -9,3 +9,5 @@ pub mod Flipping
 pub mod Finding
 pub mod Places
 pub mod Walking
+pub mod Repeating
+pub mod Cycling

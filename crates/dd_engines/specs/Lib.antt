@@ -10,6 +10,8 @@ pub mod Rosters
 pub mod SingleSteps
 -- a walk through assignments
 pub mod Walks
+-- when a walk repeats itself
+pub mod Repeats
 -- how many flips a walker makes
 pub mod Walkers
 -- what the asking of one engine shows

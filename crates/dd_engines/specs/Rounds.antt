@@ -1,5 +1,5 @@
 -- What asking does to a list of engines.
-use Rattle.std.specs.Prelude.{◌≡◌, ◌≢◌, ◌⊎◌, ℕ, ◌+◌, ◌-◌, ◌^◌, ◌≤◌, List, [], ◌∷◌, Bool, false}
+use Rattle.std.specs.Prelude.{◌≡◌, ◌≢◌, ◌⊎◌, ℕ, ◌+◌, ◌-◌, ◌^◌, ◌≤◌, List, [], ◌∷◌, Bool, true, false, IsSomeAnd, slice_get}
 use Rattle.dd_values.specs.Counts.{Rose}
 
 -- An engine as contracts see it: how often it was asked, how often it proposed something, and whether its proposals are
@@ -52,8 +52,17 @@ pub record AskedSince (old new : Seen) : Type 0 where
   pub later : Later old new
   pub asked : Rose old.asked new.asked
 
--- If an engine is left, the first one was asked since.
+-- The engines at a later time, as `Kept` says, and the first one that is left, if one is left, was asked since: only engines
+-- that aren't sound were let go before it.
 pub data FirstAsked : List Seen → List Seen → Type 0 where
-  nobody : (before : List Seen) → FirstAsked before []
-  first : (old new : Seen) (before after : List Seen) → AskedSince old new → FirstAsked (old ∷ before) (new ∷ after)
-  later : (old : Seen) (before after : List Seen) → FirstAsked before after → FirstAsked (old ∷ before) after
+  nobody : FirstAsked [] []
+  first : {old new : Seen} {before after : List Seen} → AskedSince old new → Kept before after → FirstAsked (old ∷ before) (new ∷ after)
+  went : {old : Seen} {before after : List Seen} → old.sound ≡ false → FirstAsked before after → FirstAsked (old ∷ before) after
+
+-- the first of the engines is the same engine, asked since
+abbrev pub IsHeadAsked : Seen → List Seen → Type 0
+IsHeadAsked old after = IsSomeAnd (slice_get after 0) (AskedSince old)
+
+-- two sound engines, of which the first was asked and the second was not
+abbrev pub one_was_asked : List Seen
+one_was_asked = record { asked = 5; given = 0; sound = true } ∷ record { asked = 0; given = 0; sound = true } ∷ []

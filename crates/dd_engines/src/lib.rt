@@ -2,6 +2,7 @@
 #![tactic(auto)]
 
 mod analysis;
+mod cycle;
 mod engine;
 mod laws;
 mod occurrences;
@@ -14,7 +15,10 @@ mod walk;
 mod walker;
 
 pub use engine::{Engine, Proposal};
-pub use laws::{first_asked_earlier, kept_is_reflexive, kept_is_transitive, rounds_keep};
+pub use laws::{
+    first_asked_earlier, first_asked_keeps, first_is_not_skipped, kept_is_reflexive,
+    kept_is_transitive, rounds_keep, walk_repeats,
+};
 pub use propagator::Propagator;
 pub use roster::Roster;
 pub use tally::Tally;

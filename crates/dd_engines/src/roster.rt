@@ -69,7 +69,8 @@ impl<E: Engine> Roster<E> {
     }
 
     /// Asks the engines from the first on, each at most once, until a proposal is right, and gives that one. An engine
-    /// whose proposal is not right is dropped; the others stay in order, also after want of memory.
+    /// whose proposal is not right is dropped; the others stay in order, also after want of memory. Where memory is not wanting,
+    /// the first engine that is left was asked, and only engines that aren't sound were dropped before it.
     pub fn ask(&mut self, alloc: Global, cnf: &Cnf) -> Result<Option<Outcome>, AllocError>
         ensures right { IfOk result (λ answer. IfSome answer (IsRightOutcome cnf.now)) }
         ensures round { Round (roster_seen E.asked E.given E.sound self.old) (roster_seen E.asked E.given E.sound self.new) (round_end result) }

@@ -1,12 +1,15 @@
 //! A walk through assignments, from all variables false on: each flip makes a literal of the first clause without a true
-//! literal true. Numbers of true literals, and lists of where each literal stands, let a flip cost what it touches.
+//! literal true. Numbers of true literals, and lists of where each literal stands, let a flip cost what it touches. Where the
+//! walk goes round, it ends: no new assignment would come.
 ghost use Rattle.std.specs.Prelude.{◌≡◌, ◌+◌, false, length, replicate, IfOk, MatchOption};
 ghost use Rattle.dd_clause.specs.Clauses.{IsLiteralInRange, is_true_under};
 ghost use Rattle.dd_values.specs.Variables.{true_variables};
 ghost use Rattle.dd_engines.specs.Walks.{made_true, IsFirstOnWalk, NoneBefore};
 ghost use Rattle.dd_engines.specs.walking.Truths.{NoneIsNone, IsFirstNone};
 ghost use Rattle.dd_engines.specs.walking.Walking.{Walks};
+ghost use Rattle.dd_engines.specs.walking.Cycles.{IsCounted};
 
+use crate::cycle::{Landmark, turn_of};
 use crate::occurrences::Occurrences;
 use crate::truths::Truths;
 use dd_clause::{Assignment, Clause, Cnf, Literal};
@@ -18,20 +21,26 @@ struct Walk {
     values: Vec<bool>,
     truths: Truths,
     occurrences: Occurrences,
+    landmark: Landmark,
 }
 
 impl Walk {
     fn new(alloc: Global, cnf: &Cnf) -> Result<Walk, AllocError>
         ensures start { IfOk result (λ walk. walk.values.items ≡ replicate cnf.now.variables false) }
+        ensures landmark { IfOk result (λ walk. walk.landmark.values.items ≡ replicate cnf.now.variables false) }
+        ensures flips { IfOk result (λ walk. walk.landmark.flips ≡ 0) }
+        ensures counted { IfOk result (λ walk. IsCounted walk.landmark walk.values.items) }
         ensures walks { IfOk result (λ walk. Walks cnf.now.clauses walk.values.items walk.truths.counts.items walk.truths.marks.items walk.truths.first_block walk.occurrences.lists.items) }
     {
-        let values = vec![in alloc; false; cnf.variables() as usize]?;
+        let variables = cnf.variables() as usize;
+        let values = vec![in alloc; false; variables]?;
         let truths = Truths::new(alloc, cnf.clauses(), values.as_slice())?;
         let occurrences = Occurrences::new(alloc, cnf)?;
         Ok(Walk {
             values,
             truths,
             occurrences,
+            landmark: Landmark::new(alloc, variables)?,
         })
     }
 
@@ -49,6 +58,7 @@ impl Walk {
         requires { Walks clauses.now self.old.values.items self.old.truths.counts.items self.old.truths.marks.items self.old.truths.first_block self.old.occurrences.lists.items }
         ensures first { MatchOption result (NoneIsNone self.new.truths.counts.items) (IsFirstNone self.new.truths.counts.items) }
         ensures values { self.new.values.items ≡ self.old.values.items }
+        ensures landmark { self.new.landmark ≡ self.old.landmark }
         ensures walks { Walks clauses.now self.new.values.items self.new.truths.counts.items self.new.truths.marks.items self.new.truths.first_block self.new.occurrences.lists.items }
     {
         self.truths.first()
@@ -59,10 +69,16 @@ impl Walk {
         requires range { IsLiteralInRange (length self.old.values.items) literal }
         requires other { is_true_under (true_variables self.old.values.items) literal ≡ false }
         requires walks { Walks clauses.now self.old.values.items self.old.truths.counts.items self.old.truths.marks.items self.old.truths.first_block self.old.occurrences.lists.items }
+        requires counted { IsCounted self.old.landmark self.old.values.items }
+        ensures counted { IsCounted self.new.landmark self.new.values.items }
+        ensures landmark { self.new.landmark.values.items ≡ self.old.landmark.values.items }
+        ensures flips { self.new.landmark.flips ≡ self.old.landmark.flips }
         ensures values { self.new.values.items ≡ made_true self.old.values.items literal }
         ensures walks { Walks clauses.now self.new.values.items self.new.truths.counts.items self.new.truths.marks.items self.new.truths.first_block self.new.occurrences.lists.items }
     {
-        self.values[literal.variable as usize - 1] = literal.positive;
+        let place = literal.variable as usize - 1;
+        self.landmark.count(self.values.as_slice(), place);
+        self.values[place] = literal.positive;
         self.truths.raise(self.occurrences.of(literal));
         self.truths.lower(self.occurrences.of(literal.negation()));
     }
@@ -73,6 +89,7 @@ pub fn first_found(alloc: Global, cnf: &Cnf, flips: u32) -> Result<Option<Assign
     ensures { IfOk result (λ found. MatchOption found (NoneBefore cnf.now (flips + 1)) (IsFirstOnWalk cnf.now flips)) }
 {
     let clauses = cnf.clauses();
+    let turn = turn_of(clauses, flips);
     let mut walk = Walk::new(alloc, cnf)?;
     for k in 0..flips {
         let Some(number) = walk.first(clauses) else {
@@ -82,6 +99,10 @@ pub fn first_found(alloc: Global, cnf: &Cnf, flips: u32) -> Result<Option<Assign
         if literals.is_empty() {
             return Ok(None);
         }
+        if walk.landmark.is_back(k, turn) {
+            return Ok(None);
+        }
+        walk.landmark.renew(k, walk.values.as_slice());
         walk.flip(clauses, literals[k as usize % literals.len()]);
     }
     match walk.first(clauses) {

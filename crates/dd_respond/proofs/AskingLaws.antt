@@ -1,6 +1,7 @@
 -- What holds whatever comes of an answer, and which questions ask nobody.
-use Rattle.std.proofs.Common.{List, refl, Result, Ok, Err}
-use Rattle.std.specs.Prelude.{OnOk}
+use Rattle.std.proofs.Common.{List, true, false, refl, Result, Ok, Err}
+use Rattle.std.specs.Prelude.{IsTrue, OnOk}
+use Rattle.std.proofs.lemmas.Bool.{false≢true}
 use Rattle.dd_engines.specs.Rounds.{Seen, FirstAsked}
 use Rattle.dd_respond.specs.Asking.{Engages}
 
@@ -9,8 +10,8 @@ pub any_ok : {T E : Type 0} (answer : Result T E) (P : Type 0) → P → OnOk an
 any_ok (Ok x) P p = p
 any_ok (Err e) P p = tt
 
-pub asks_boxes : (before after : List Seen) → FirstAsked before after → Engages (Unit {0}) before after
-asks_boxes before after done = record { first = λ _. done; nobody = λ never. absurd (never tt) }
+pub asks_boxes : (before after : List Seen) → FirstAsked before after → Engages (IsTrue true) before after
+asks_boxes before after done = record { first = λ _. done; nobody = λ never. absurd (never refl) }
 
-pub asks_nobody : (all : List Seen) → Engages ⊥ all all
-asks_nobody all = record { first = λ asks. absurd asks; nobody = λ _. refl }
+pub asks_nobody : (all : List Seen) → Engages (IsTrue false) all all
+asks_nobody all = record { first = λ asks. absurd (false≢true asks); nobody = λ _. refl }

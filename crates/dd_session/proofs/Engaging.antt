@@ -1,7 +1,8 @@
 -- How queries ask engines, one after the other, and when nobody was asked.
 use Rattle.std.proofs.Common.{◌≡◌, ◌⊎◌, ℕ, ◌+◌, ◌<◌, ◌≤◌, List, [], ◌∷◌, ◌++◌, length, take, get_or, Bool, true, false, Some, None, refl, sym, ◌∙◌, subst, inl, inr, Result, Ok, Err}
 use Rattle.std.proofs.KnownBytes.{Appends-trans}
-use Rattle.std.specs.Prelude.{IsSomeAnd, IfOk, OnErr}
+use Rattle.std.proofs.lemmas.Bool.{false≢true}
+use Rattle.std.specs.Prelude.{IsSomeAnd, IsTrue, IfOk, OnErr}
 use Rattle.std.specs.declared.option.Option.{Option}
 use Rattle.std.specs.Io.KnownBytes.{Appends}
 use Rattle.dd_values.specs.Bounds.{most_script}
@@ -11,7 +12,7 @@ use Rattle.dd_certificate.specs.Text.{answer_text}
 use Rattle.dd_sample.specs.Sample.{sample_text}
 use Rattle.dd_query.specs.declared.queries.Query.{Query}
 use Rattle.dd_script.specs.Parts.{Parts}
-use Rattle.dd_question.specs.Questions.{Asked, membership, box, equality, listing, density, discharge}
+use Rattle.dd_question.specs.Questions.{Asked, is_box_question}
 use Rattle.dd_script.specs.Questions.{asked}
 use Rattle.dd_script.specs.Scripts.{Spells}
 use Rattle.dd_answer.specs.Asking.{AsksBoxes, AsksSomeBoxes}
@@ -31,17 +32,13 @@ use Rattle.dd_session.proofs.Streamed.{one_more}
 
 asks_or_not : (s : Parts) (q : Query) → AsksBoxes s q ⊎ (AsksBoxes s q → ⊥)
 asks_or_not s q = cases (asked s q) where
-  by_question : (k : Asked) → IsBoxQuestion k ⊎ (IsBoxQuestion k → ⊥)
-  by_question (membership x t) = inr (λ none. none)
-  by_question (box x g) = inl tt
-  by_question (equality x y) = inl tt
-  by_question (listing x) = inr (λ none. none)
-  by_question (density x strip ws) = inr (λ none. none)
-  by_question (discharge x radius margin vs ws) = inr (λ none. none)
+  by_truth : (b : Bool) → IsTrue b ⊎ (IsTrue b → ⊥)
+  by_truth true = inl refl
+  by_truth false = inr false≢true
 
   cases : (o : Option Asked) → IsSomeAnd o IsBoxQuestion ⊎ (IsSomeAnd o IsBoxQuestion → ⊥)
   cases None = inr (λ none. none)
-  cases (Some k) = by_question k
+  cases (Some k) = by_truth (is_box_question k)
 
 some_append : (s : Parts) (xs ys : List Query) → AsksSomeBoxes s (xs ++ ys) → AsksSomeBoxes s xs ⊎ AsksSomeBoxes s ys
 some_append s [] ys asks = inr asks

@@ -256,10 +256,11 @@ fn run_sample<K: Sink, E: Engine>(
 /// to be written may have been. At most 1,048,577 bytes are taken from the source.
 ///
 /// With `run` and `sample`, the engines of the roster are asked before each search of a box question. What is written is right
-/// whatever they propose, and so each answer's first line, and the status, are the same over every roster. The roster is kept: each
-/// sound engine is still there, in order, on every return. With `run`, no engine is asked before the lines before the first answer
-/// are written whole, nor for an input that is refused; with other words than these two none is. Where the run came to its end and
-/// some query asks a box question, the first engine that is left was asked.
+/// whatever they propose. So on every return that is `Definite` or `SomeUnknown` each answer's first line, and the status, are the
+/// same over every roster; on others they need not be, since an engine may want memory. The roster is kept: each sound engine is
+/// still there, in order, on every return. With `run`, no engine is asked before the lines before the first answer are written whole,
+/// nor for an input that is refused; with other words than these two none is. Where the run came to its end and some query asks a
+/// box question, the first engine that is left was asked, and only engines that aren't sound were let go before it.
 pub fn run_diddy<S: Source, K: Sink>(
     alloc: Global,
     words: &[String],

@@ -1,0 +1,101 @@
+//! Whether a walk goes round: it stands at values where it stood before, and its flips pick the same literals again. One
+//! earlier assignment is kept, a new one each time that the number of flips has doubled (Brent 1980), and beside it in how
+//! many variables the present one differs.
+ghost use Rattle.std.specs.Prelude.{◌≡◌, ◌*◌, ◌<◌, ◌%◌, true, false, not, length, replicate, slice_set, slice_index_or, IfOk, IfSome};
+ghost use Rattle.dd_engines.specs.walking.Cycles.{IsTurn, IsCounted, IsBack, IsSameOrNew};
+
+use dd_clause::Clause;
+use std::alloc::{AllocError, Global};
+
+/// An assignment that the walk came by after so many flips, and in how many variables the present one differs from it.
+#[derive(Drop)]
+pub struct Landmark {
+    values: Vec<bool>,
+    flips: u32,
+    differing: usize,
+}
+
+impl Landmark {
+    /// Where the walk starts, with all variables false.
+    pub fn new(alloc: Global, variables: usize) -> Result<Landmark, AllocError>
+        ensures values { IfOk result (λ landmark. landmark.values.items ≡ replicate variables false) }
+        ensures flips { IfOk result (λ landmark. landmark.flips ≡ 0) }
+        ensures counted { IfOk result (λ landmark. IsCounted landmark (replicate variables false)) }
+    {
+        Ok(Landmark {
+            values: vec![in alloc; false; variables]?,
+            flips: 0,
+            differing: 0,
+        })
+    }
+
+    /// Counts that the value at a place is about to change.
+    pub fn count(&mut self, values: &[bool], place: usize)
+        requires within { place < length values.now }
+        requires counted { IsCounted self.old values.now }
+        ensures counted { IsCounted self.new (slice_set values.now place (not (slice_index_or values.now place false))) }
+        ensures values { self.new.values.items ≡ self.old.values.items }
+        ensures flips { self.new.flips ≡ self.old.flips }
+    {
+        if self.values[place] == values[place] {
+            self.differing += 1;
+        } else {
+            self.differing -= 1;
+        }
+    }
+
+    /// Whether the walk is back in the state that it had here. Each clause is gone through in `turn` flips, if that is known.
+    pub fn is_back(&self, k: u32, turn: Option<u32>) -> bool
+        requires { IfSome turn (λ t. 0 < t) }
+        ensures { result ≡ true → IsBack self.now turn k }
+    {
+        match turn {
+            Some(turn) => self.differing == 0 && self.flips < k && (k - self.flips) % turn == 0,
+            None => false,
+        }
+    }
+
+    /// Keeps the present assignment in place of the old one, if the number of flips has doubled.
+    pub fn renew(&mut self, k: u32, values: &[bool])
+        requires { IsCounted self.old values.now }
+        ensures counted { IsCounted self.new values.now }
+        ensures kept { IsSameOrNew self.old self.new values.now k }
+    {
+        if k / 2 >= self.flips {
+            self.values.copy_from_slice(values);
+            self.flips = k;
+            self.differing = 0;
+        }
+    }
+}
+
+/// The first multiple of a number, up to `most`, that is one of another number too, if that isn't 0.
+fn common_multiple(first: u32, other: u32, most: u32) -> Option<u32>
+    requires { 0 < first }
+    ensures { IfSome result (λ found. (0 < found) × (found % first ≡ 0) × (0 < other → found % other ≡ 0)) }
+{
+    if other == 0 {
+        return Some(first);
+    }
+    let mut multiple = first;
+    while multiple <= most {
+        if multiple % other == 0 {
+            return Some(multiple);
+        }
+        multiple = multiple.checked_add(first)?;
+    }
+    None
+}
+
+/// In how many flips, at most `most`, each clause is gone through, so that the flips pick the same literals again: a multiple
+/// of all lengths.
+pub fn turn_of(clauses: &[Clause], most: u32) -> Option<u32>
+    ensures { IfSome result (IsTurn clauses.now) }
+{
+    let mut turn = 1;
+    for clause in clauses {
+        let length = u32::try_from(clause.literals().len()).ok()?;
+        turn = common_multiple(turn, length, most)?;
+    }
+    Some(turn)
+}
