@@ -39,8 +39,9 @@ pub fn claims_hold(question: &CheckedQuestion)
 {
     // Laws of what is asked.
     match question.question() {
-        Question::Membership { .. } | Question::Equality { .. } => {}
+        Question::Membership { .. } => {}
         Question::Box { goal, .. } => tell_goal(&goal),
+        Question::Equality { .. } => {}
         Question::Listing { .. } => listed_break(),
         Question::Density { .. } => {
             strip_least();
