@@ -26,6 +26,7 @@ fn written_bound(bound: Bound) -> Answer
 }
 
 /// Why there is no bound, unless memory is wanting.
+#[tactic(auto, using(crate::specs::Bounds::for_large, crate::specs::Bounds::for_overflow, crate::specs::Bounds::for_pivots))]
 fn reason_of(fault: DischargeFault) -> Result<Reason, AllocError>
     ensures reason { IfOk result (IsReasonOf fault) }
 {
