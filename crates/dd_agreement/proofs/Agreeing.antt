@@ -1,6 +1,6 @@
 -- A right answer is a certificate: what is decided of a box has the radius and the refutation of a YES, and the
 -- configuration of a NO is given back by what is written of it.
-use Rattle.std.proofs.Common.{◌≡◌, ℕ, List, max, refl, ap, sym, subst, ◌∙◌}
+use Rattle.std.proofs.Common.{◌≡◌, ℕ, List, max, ap, sym, subst, ◌∙◌}
 use Rattle.dd_derivation.specs.Derivations.{IsRefuting}
 use Rattle.dd_problem.specs.Problems.{box_problem}
 use Rattle.dd_lattice.specs.Place.{Place}

@@ -1,5 +1,5 @@
 -- Right answers about least densities and discharging: they are so, an output can hold them, and they have one line.
-use Rattle.std.proofs.Common.{◌≡◌, ℕ, ◌+◌, ◌*◌, ◌≤◌, List, refl, ap, subst, arith, ℤ, inl, inr}
+use Rattle.std.proofs.Common.{◌≡◌, ℕ, ◌+◌, ◌*◌, ◌≤◌, List, refl, ap, arith, ℤ, inl, inr}
 use Rattle.std.specs.Int.{IsGcd}
 use Rattle.std.proofs.Math.Nat.{one-le-pow}
 use Rattle.dd_lattice.specs.Place.{Place}
@@ -21,7 +21,6 @@ use Rattle.dd_discharge.specs.Bounds.{IsDischargeFault}
 use Rattle.dd_discharge.specs.Outcomes.{HasOneOutcome}
 use Rattle.dd_question.specs.Densities.{IsNarrow}
 use Rattle.dd_certificate.specs.declared.answer.Reason.{Reason}
-use Rattle.dd_certificate.specs.declared.answer.Reason.TheVariants as reason
 use Rattle.dd_certificate.specs.declared.answer.Answer.{Answer}
 use Rattle.dd_certificate.specs.declared.answer.Answer.TheVariants as answer
 use Rattle.dd_certificate.specs.Bounds.{IsWritable}

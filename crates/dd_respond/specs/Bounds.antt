@@ -1,5 +1,5 @@
 -- Which answers about least densities and discharging are right.
-use Rattle.std.specs.Prelude.{ℕ, ◌≡◌, ℤ, List}
+use Rattle.std.specs.Prelude.{ℕ, ℤ, List}
 use Rattle.dd_lattice.specs.Place.{Place}
 use Rattle.dd_formula.specs.LocalRule.{LocalRule}
 use Rattle.dd_strip.specs.Strips.{strip_for}

@@ -51,14 +51,6 @@ pub fn respond<E: Engine>(
             margin,
             vectors,
             weights,
-        } => discharged(
-            alloc,
-            rule,
-            radius,
-            margin,
-            vectors,
-            weights,
-            limits.pivots,
-        ),
+        } => discharged(alloc, rule, radius, margin, vectors, weights, limits.pivots),
     }
 }

@@ -12,7 +12,6 @@ use Rattle.dd_problem.specs.Problems.{box_problem}
 use Rattle.dd_problem.specs.pushing.Told.{IsToldGoal}
 use Rattle.dd_problem.specs.lemmas.BoxShows.{box_shows, shown_decides}
 use Rattle.dd_certificate.specs.declared.answer.Answer.{Answer}
-use Rattle.dd_certificate.specs.declared.answer.Answer.TheVariants as answer
 use Rattle.dd_evidence.specs.Answers.{IsMemberCertificate, member_inside, member_outside}
 use Rattle.dd_verify.specs.Evidence.{IsBoxCertificate, box_yes, box_no, box_unknown, IsEqualCertificate, equal_yes, left_no, right_no, equal_unknown, IsYes}
 use Rattle.dd_verify.specs.Holding.{MemberClaim, says_inside, says_outside, BoxClaim, says_nowhere, says_witness, says_nothing, EqualClaim, says_equal, says_left, says_right, says_none}

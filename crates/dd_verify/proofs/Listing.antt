@@ -24,7 +24,6 @@ use Rattle.dd_boxes.specs.Boxes.{origin}
 use Rattle.dd_boxes.specs.lemmas.RuleLaws.{keeps_at, shifted_by_origin}
 use Rattle.dd_certificate.specs.declared.answer.Listed.{Listed}
 use Rattle.dd_certificate.specs.declared.answer.Answer.{Answer}
-use Rattle.dd_certificate.specs.declared.answer.Answer.TheVariants as answer
 use Rattle.dd_evidence.specs.Lists.{listed, IsForbiddenList}
 use Rattle.dd_evidence.specs.Answers.{IsListCertificate, all_forbidden}
 use Rattle.dd_verify.specs.Holding.{AreReadAt, TellsBreaking, ListClaim, says_list}

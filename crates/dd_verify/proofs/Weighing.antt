@@ -1,5 +1,5 @@
 -- From the checks of densities and bounds to what is a certificate and can be written, and what it claims.
-use Rattle.std.proofs.Common.{◌≡◌, ℕ, ◌+◌, Bool, true, false, List, refl, sym, subst, ◌∙◌, ℤ}
+use Rattle.std.proofs.Common.{◌≡◌, ℕ, ◌+◌, Bool, true, false, List, refl, sym, ◌∙◌, ℤ}
 use Rattle.std.specs.Prelude.{◌↔◌, Result, IfOk}
 use Rattle.std.proofs.lemmas.Bool.{false≢true}
 use Rattle.std.proofs.lemmas.Result.{IfOk-weaker}
@@ -17,7 +17,6 @@ use Rattle.dd_discharge.specs.Certificates.{IsBoundCertificate, BestOf}
 use Rattle.dd_sides.specs.Lifted.{HoldsOnSides}
 use Rattle.dd_certificate.specs.declared.answer.Answer.{Answer}
 use Rattle.dd_certificate.specs.declared.answer.Answer.TheVariants as answer
-use Rattle.dd_certificate.specs.Bounds.{IsWritable}
 use Rattle.dd_verify.proofs.Deciding.{if_both}
 use Rattle.dd_verify.proofs.WholeSides.{configurations_hold}
 use Rattle.dd_verify.specs.Bounds.{IsStripCertificate, strip_least, strip_empty, StripClaim, claims_least, claims_empty, IsDischargeCertificate, best, too_large, overflow, no_pivots, DischargeClaim, claims_bound, no_claim}
