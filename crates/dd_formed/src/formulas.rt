@@ -10,8 +10,11 @@ use dd_topology::Topology;
 /// The greatest number of moves of a term, and of balls of a quantifier, the greatest radius of a ball, and how deep a formula is at
 /// most.
 const MOST_MOVES: usize = 16;
+
 const MOST_BALLS: usize = 4;
+
 const WIDEST_RADIUS: u32 = 3;
+
 const MOST_NESTED: u32 = 64;
 
 /// What formulas may name: the labels and nodes of a topology, and symbols.
@@ -62,12 +65,11 @@ impl Language<'_> {
         self.term_fits(scope, left) && self.term_fits(scope, right)
     }
 
-    /// Whether the formula fits where so many variables are in scope.
+    /// Whether the formula fits where so many variables are in scope. It is refused where there would be 2^32 of them.
     #[cycle(fits)]
     #[tactic(auto, using(crate::proofs::Layers::fits_layers, crate::proofs::Layers::depth_layers, crate::proofs::Layers::parts_within))]
     fn fits(&self, scope: u32, formula: &Formula) -> bool
-        requires { scope + depth formula.now < 2 ^ 32 }
-        ensures { result ≡ formula_fits self.now.topology.now self.now.symbols formula.now scope }
+        ensures { scope + depth formula.now < 2 ^ 32 → result ≡ formula_fits self.now.topology.now self.now.symbols formula.now scope }
     {
         match formula {
             Formula::Symbol { term, symbol } | Formula::NotSymbol { term, symbol } => {
@@ -81,20 +83,33 @@ impl Language<'_> {
                 self.term_fits(scope, term) && *node < self.topology.nodes()
             }
             Formula::Not(part) => self.fits(scope, part.get()),
-            Formula::And(parts) | Formula::Or(parts) => self.all_fit(scope, parts.as_slice()),
+            Formula::And(parts) => self.all_fit(scope, parts.as_slice()),
+            Formula::Or(parts) => self.all_fit(scope, parts.as_slice()),
             Formula::Implies(left, right) | Formula::Iff(left, right) => {
                 self.fits(scope, left.get()) && self.fits(scope, right.get())
             }
             Formula::ForAll { balls, body } | Formula::Exists { balls, body } => {
-                balls_fit(scope, balls.as_slice()) && self.fits(scope + 1, body.get())
+                self.body_fits(scope, balls.as_slice(), body.get())
             }
         }
     }
 
+    /// The body has one variable more in scope.
+    #[cycle(fits)]
+    fn body_fits(&self, scope: u32, balls: &[BallOf], body: &Formula) -> bool
+        ensures { scope + 1 + depth body.now < 2 ^ 32 →
+            result ≡ (balls_fit scope balls.now && formula_fits self.now.topology.now self.now.symbols body.now (scope + 1)) }
+    {
+        if scope == u32::MAX {
+            return false;
+        }
+        balls_fit(scope, balls) && self.fits(scope + 1, body)
+    }
+
     #[cycle(fits)]
     fn all_fit(&self, scope: u32, parts: &[Formula]) -> bool
-        requires { All (λ f. scope + depth f < 2 ^ 32) parts.now }
-        ensures { result ≡ list_all (λ f. formula_fits self.now.topology.now self.now.symbols f scope) parts.now }
+        ensures { All (λ f. scope + depth f < 2 ^ 32) parts.now →
+            result ≡ list_all (λ f. formula_fits self.now.topology.now self.now.symbols f scope) parts.now }
     {
         for part in parts {
             if !self.fits(scope, part) {

@@ -1,7 +1,40 @@
--- Tests that fail where a fact doesn't hold.
-use Rattle.std.proofs.Common.{◌≡◌, true, false}
-use Rattle.std.specs.Prelude.{◌↔◌}
-use Rattle.std.proofs.lemmas.Bool.{false≢true}
+-- Tests that fail where a fact doesn't hold, and lists of different vectors.
+use Rattle.std.proofs.Common.{◌≡◌, Bool, true, false, List, [], ◌∷◌, refl}
+use Rattle.std.specs.Prelude.{◌↔◌, not}
+use Rattle.std.specs.List.{AllByRecursion, IsDistinct}
+use Rattle.std.specs.Ordering.{is_eq}
+use Rattle.std.proofs.lemmas.Bool.{and_parts, or_parts, false≢true}
+use Rattle.dd_lattice.specs.Place.{Place}
+use Rattle.dd_lattice.specs.Order.{place_cmp}
+use Rattle.dd_question.specs.measuring.Vectors.{is_among, are_apart}
 
 pub nothing_holds : (A : Type 0) → ¬ A → (false ≡ true) ↔ A
 nothing_holds A none = (λ h. absurd (false≢true h), λ a. absurd (none a))
+
+abbrev same : Place → Place → Bool
+same p q = is_eq (place_cmp p q)
+
+each_other : (p : Place) (vs : List Place) → is_among p vs ≡ false → AllByRecursion (λ q. same p q ≡ false) vs
+each_other p [] h = tt
+each_other p (q ∷ qs) h = let both = or_parts (same p q) (is_among p qs) h in (both.0, each_other p qs both.1)
+
+none_among : (p : Place) (vs : List Place) → AllByRecursion (λ q. same p q ≡ false) vs → is_among p vs ≡ false
+none_among p [] h = refl
+none_among p (q ∷ qs) h = rw (h.0) (none_among p qs h.1)
+
+not_false : (b : Bool) → not b ≡ true → b ≡ false
+not_false true h = absurd (false≢true h)
+not_false false h = refl
+
+distinct_from : (vs : List Place) → are_apart vs ≡ true → IsDistinct same vs
+unfolding IsDistinct
+distinct_from [] h = tt
+distinct_from (v ∷ vs) h = let both = and_parts (not (is_among v vs)) (are_apart vs) h in (each_other v vs (not_false (is_among v vs) both.0), distinct_from vs both.1)
+
+apart_from : (vs : List Place) → IsDistinct same vs → are_apart vs ≡ true
+unfolding IsDistinct
+apart_from [] h = refl
+apart_from (v ∷ vs) h = rw (none_among v vs h.0) (apart_from vs h.1)
+
+pub apart_distinct : (vs : List Place) → (are_apart vs ≡ true) ↔ IsDistinct (λ p q. is_eq (place_cmp p q)) vs
+apart_distinct vs = (distinct_from vs, apart_from vs)

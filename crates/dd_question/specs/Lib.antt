@@ -9,5 +9,5 @@ pub mod Densities
 pub mod Discharges
 -- lemmas on allowed symbols, with their proofs, for whoever cites them
 pub mod lemmas
--- goals as they are measured
+-- goals as they are measured, and what is tested of vectors
 pub mod measuring

@@ -14,7 +14,9 @@ use std::alloc::Global;
 
 /// The greatest radius of a box, the greatest period of a torus, and the greatest number of pivots.
 const MOST_RADIUS: u32 = 8;
+
 const MOST_PERIOD: u32 = 8;
+
 const MOST_PIVOTS: u32 = 100_000;
 
 fn are_limits(limits: &Limits) -> bool
@@ -65,11 +67,7 @@ impl<'a> Question<'a> {
     /// `Limits` where the limits are out of range; else the first of its parts that doesn't go with those before it; else `Excess`
     /// where it passes a limit on its work; or `Memory`.
     #[tactic(auto, using(crate::specs::Checked::limits_fault, crate::specs::Checked::part_fault, crate::specs::Checked::excess_fault, crate::specs::Questions::memory_fault))]
-    pub fn check(
-        self,
-        alloc: Global,
-        limits: &Limits,
-    ) -> Result<CheckedQuestion<'a>, QuestionFault>
+    pub fn check(self, alloc: Global, limits: &Limits) -> Result<CheckedQuestion<'a>, QuestionFault>
         ensures ok { IfOk result (λ question. question ≡ asked_within limits.now (asked_of self.entry)) }
         ensures fault { IfErr result (IsFaultWithin limits.now (asked_of self.entry)) }
     {

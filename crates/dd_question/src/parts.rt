@@ -1,8 +1,7 @@
 //! Whether the parts of a question go together.
 ghost use Rattle.std.specs.Prelude.{◌≡◌, ◌≤◌, ◌<◌, ◌↔◌, IsTrue, IfOk, IfErr, OnOk, All};
-ghost use Rattle.std.specs.List.{IsDistinct};
-ghost use Rattle.std.specs.Ordering.{is_eq};
-ghost use Rattle.dd_lattice.specs.Order.{place_cmp};
+ghost use Rattle.dd_values.specs.Bounds.{most_weight};
+ghost use Rattle.dd_expansion.specs.Placed.{is_flat};
 ghost use Rattle.dd_formula.specs.LocalRule.{IsRule};
 ghost use Rattle.dd_formula.specs.Living.{Fits};
 ghost use Rattle.dd_formula.specs.Allowed.{HasAllowed};
@@ -10,6 +9,7 @@ ghost use Rattle.dd_strip.specs.Strips.{IsStrip, HasWeights};
 ghost use Rattle.dd_boxes.specs.Goals.{AreAlike, AreOver, IsGoalFor, KeepsRule};
 ghost use Rattle.dd_boxes.specs.Discharges.{IsVector, AreVectors, AreWeightsFor};
 ghost use Rattle.dd_boxes.specs.Views.{goal_of, numbers_of};
+ghost use Rattle.dd_question.specs.measuring.Vectors.{IsNear, is_among, are_apart};
 ghost use Rattle.dd_question.specs.Questions as asked;
 ghost use Rattle.dd_question.specs.Questions.{IsFormed, IsPartFault};
 
@@ -24,22 +24,28 @@ use std::alloc::{AllocError, Global};
 /// The greatest period of a strip, the greatest weight, the greatest radius and margin of a discharge, and the greatest number of its
 /// vectors and their greatest coordinate.
 const LONGEST: u32 = 64;
+
 const MOST_WEIGHT: u32 = 1000;
+
 const WIDEST_RADIUS: u32 = 3;
+
 const MOST_VECTORS: usize = 16;
+
 const FARTHEST: u32 = 4;
+
+fn are_below(symbols: &[u32], limit: u32) -> bool
+    ensures { IsTrue result ↔ All (λ s. s < limit) symbols.now }
+{
+    symbols.iter().all(|&symbol| symbol < limit)
+}
 
 /// Whether the configuration has the rule's dimension, nodes and symbols.
 fn fits(rule: &Rule, configuration: &Periodic) -> bool
     ensures { IsTrue result ↔ Fits rule.now configuration.now }
 {
-    let symbols = rule.symbols();
     configuration.dim() == rule.dim()
         && configuration.nodes() == rule.nodes()
-        && configuration
-            .symbols()
-            .iter()
-            .all(|&symbol| symbol < symbols)
+        && are_below(configuration.symbols(), rule.symbols())
 }
 
 /// Whether each symbol of the fundamental box is one that its node allows.
@@ -80,7 +86,9 @@ fn are_alike(left: &Rule, right: &Rule) -> bool
     ensures left { IsRule left.now }
     ensures right { IsRule right.now }
 {
-    right.dim() == left.dim() && right.nodes() == left.nodes() && right.symbols() == left.symbols()
+    let nodes = left.nodes();
+    let others = right.nodes();
+    others == nodes && right.dim() == left.dim() && right.symbols() == left.symbols()
 }
 
 /// Whether both automata are well formed over the numbers of the rule.
@@ -153,13 +161,18 @@ fn is_strip(rule: &Rule, periods: [u32; 2]) -> bool
         && (3 <= dimension || z == 1)
 }
 
+fn are_light(weights: &[u32]) -> bool
+    ensures { IsTrue result ↔ All (λ w. w ≤ most_weight) weights.now }
+{
+    weights.iter().all(|&weight| weight <= MOST_WEIGHT)
+}
+
 /// Whether there is one weight of at most 1,000 for each symbol.
 fn has_weights(rule: &Rule, weights: &[u32]) -> bool
     ensures of_strip { IsTrue result ↔ HasWeights rule.now weights.now }
     ensures of_discharge { IsTrue result ↔ AreWeightsFor rule.now weights.now }
 {
-    weights.len() == rule.symbols() as usize
-        && weights.iter().all(|&weight| weight <= MOST_WEIGHT)
+    weights.len() == rule.symbols() as usize && are_light(weights)
 }
 
 #[tactic(auto, using(crate::specs::Questions::strip_fault, crate::specs::Questions::weights_fault))]
@@ -182,22 +195,40 @@ pub(crate) fn check_density(
     Ok(())
 }
 
-fn is_vector(dimension: u32, vector: &Position) -> bool
-    ensures { IsTrue result ↔ IsVector dimension vector.now }
+/// Whether the coordinates past the dimension are 0.
+fn is_flat(dimension: u32, vector: &Position) -> bool
+    ensures { result ≡ is_flat dimension vector.now }
+{
+    (1 < dimension || vector.y == 0) && (2 < dimension || vector.z == 0)
+}
+
+fn is_near(vector: &Position) -> bool
+    ensures { IsTrue result ↔ IsNear vector.now }
 {
     vector.x.unsigned_abs() <= FARTHEST
         && vector.y.unsigned_abs() <= FARTHEST
         && vector.z.unsigned_abs() <= FARTHEST
-        && (2 <= dimension || vector.y == 0)
-        && (3 <= dimension || vector.z == 0)
 }
 
-fn are_distinct(vectors: &[Position]) -> bool
-    ensures { IsTrue result ↔ IsDistinct (λ p q. is_eq (place_cmp p q)) vectors.now }
+fn is_vector(dimension: u32, vector: &Position) -> bool
+    ensures { IsTrue result ↔ IsVector dimension vector.now }
+{
+    is_near(vector) && is_flat(dimension, vector)
+}
+
+fn is_among(vector: &Position, others: &[Position]) -> bool
+    ensures { result ≡ is_among vector.now others.now }
+{
+    others.iter().any(|other| vector.cmp(other).is_eq())
+}
+
+/// Whether no vector is one of those behind it.
+fn are_apart(vectors: &[Position]) -> bool
+    ensures { result ≡ are_apart vectors.now }
 {
     match vectors {
         [] => true,
-        [first, rest @ ..] => !rest.contains(first) && are_distinct(rest),
+        [first, rest @ ..] => !is_among(first, rest) && are_apart(rest),
     }
 }
 
@@ -213,12 +244,13 @@ fn are_short(dimension: u32, vectors: &[Position]) -> bool
 }
 
 /// Whether amounts may be given along these vectors.
+#[tactic(auto, using(crate::proofs::PartLaws::apart_distinct))]
 fn are_vectors(dimension: u32, vectors: &[Position]) -> bool
     ensures { IsTrue result ↔ AreVectors dimension vectors.now }
 {
     1 <= vectors.len()
         && vectors.len() <= MOST_VECTORS
-        && are_distinct(vectors)
+        && are_apart(vectors)
         && are_short(dimension, vectors)
 }
 
