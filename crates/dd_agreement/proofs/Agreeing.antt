@@ -1,6 +1,6 @@
 -- A right answer is a certificate: what is decided of a box has the radius and the refutation of a YES, and the
 -- configuration of a NO is given back by what is written of it.
-use Rattle.std.proofs.Common.{◌≡◌, ℕ, List, max, refl, ap, sym, subst, ◌∙◌}
+use Rattle.std.proofs.Common.{◌≡◌, ℕ, List, max, ap, sym, subst, ◌∙◌}
 use Rattle.dd_derivation.specs.Derivations.{IsRefuting}
 use Rattle.dd_problem.specs.Problems.{box_problem}
 use Rattle.dd_lattice.specs.Place.{Place}
@@ -15,52 +15,30 @@ use Rattle.dd_boxes.specs.Goals.{GoalOf, breaks}
 use Rattle.dd_boxes.specs.Boxes.{Suffices, IsLeastRadius}
 use Rattle.dd_boxes.specs.Witnesses.{IsWitness}
 use Rattle.dd_certificate.specs.declared.answer.Answer.{Answer}
-use Rattle.dd_certificate.specs.declared.answer.Answer.TheVariants as answer
-use Rattle.dd_certificate.specs.declared.answer.Reason.{Reason}
-use Rattle.dd_certificate.specs.declared.answer.Reason.TheVariants as reason
 use Rattle.dd_contain.specs.declared.decision.Decision.{Decision}
 use Rattle.dd_contain.specs.declared.decision.Decision.TheVariants as decision
 use Rattle.dd_contain.specs.Decided.{IsLeast}
 use Rattle.dd_contain.specs.Questions.{Displays, IsDecided}
 use Rattle.dd_contain.specs.Equal.{joined, UnlessNo}
-use Rattle.dd_question.specs.Questions.{Asked, membership, box, equality, listing, density, discharge}
+use Rattle.dd_question.specs.Questions.{Asked}
+use Rattle.dd_question.specs.Questions as asked
 use Rattle.dd_evidence.specs.Tiles.{given_periods, written_periods, IsWrittenBack}
 use Rattle.dd_respond.specs.Right.{IsRightTo, IsRightBox, IsRightEqual, written_decision, written_equality}
-use Rattle.dd_respond.specs.Bounds.{IsRightDensity, IsRightReason, IsRightDischarge}
-use Rattle.dd_verify.specs.Bounds.{IsStripCertificate, IsDischargeReason, IsDischargeCertificate}
-use Rattle.dd_verify.specs.Evidence.{IsYes, IsNo, IsBoxCertificate, IsEqualCertificate}
+use Rattle.dd_respond.specs.Bounds.{IsRightDensity, right_least, right_empty, IsRightDischarge, right_bound, is_large, overflows, used_up}
+use Rattle.dd_verify.specs.Bounds.{IsStripCertificate, strip_least, strip_empty, IsDischargeCertificate, best, too_large, overflow, no_pivots}
+use Rattle.dd_verify.specs.Evidence.{IsYes, IsNo, IsBoxCertificate, box_yes, box_no, box_unknown, IsEqualCertificate, equal_yes, left_no, right_no, equal_unknown}
 use Rattle.dd_verify.specs.Certificates.{IsCertificateOf}
 
 density_is : (x : LocalRule) (strip ws : List ℕ) (a : Answer) → IsRightDensity x strip ws a → IsStripCertificate x strip ws a
-density_is x strip ws answer.Inside h = h
-density_is x strip ws (answer.Outside place) h = h
-density_is x strip ws (answer.Yes radius steps) h = h
-density_is x strip ws (answer.YesBoth left right left_steps right_steps) h = h
-density_is x strip ws (answer.No s periods shear symbols) h = h
-density_is x strip ws (answer.Unknown r) h = h
-density_is x strip ws (answer.List patterns) h = h
-density_is x strip ws (answer.Density numerator denominator cycle potentials) h = h.certificate
-density_is x strip ws (answer.Empty ranks) h = h.certificate
-density_is x strip ws (answer.Bound numerator denominator common amounts duals) h = h
+density_is x strip ws a (right_least h c) = strip_least c
+density_is x strip ws a (right_empty h c) = strip_empty c
 
-module _ (x : LocalRule) (radius margin : ℕ) (vs : List Place) (ws : List ℕ) (pivots : ℕ) where
-  reason_is : (r : Reason) → IsRightReason x radius margin vs ws pivots r → IsDischargeReason r
-  reason_is reason.Limits h = h
-  reason_is reason.Large h = tt
-  reason_is reason.Overflow h = tt
-  reason_is reason.Pivots h = tt
-
-  discharge_is : (a : Answer) → IsRightDischarge x radius margin vs ws pivots a → IsDischargeCertificate x radius margin vs ws a
-  discharge_is answer.Inside h = h
-  discharge_is (answer.Outside place) h = h
-  discharge_is (answer.Yes n steps) h = h
-  discharge_is (answer.YesBoth left right left_steps right_steps) h = h
-  discharge_is (answer.No s periods shear symbols) h = h
-  discharge_is (answer.Unknown r) h = reason_is r h
-  discharge_is (answer.List patterns) h = h
-  discharge_is (answer.Density numerator denominator cycle potentials) h = h
-  discharge_is (answer.Empty ranks) h = h
-  discharge_is (answer.Bound numerator denominator common amounts duals) h = h.certificate
+discharge_is : (x : LocalRule) (radius margin : ℕ) (vs : List Place) (ws : List ℕ) (pivots : ℕ) (a : Answer) → IsRightDischarge x radius margin vs ws pivots a →
+    IsDischargeCertificate x radius margin vs ws a
+discharge_is x radius margin vs ws pivots a (right_bound h c) = best c
+discharge_is x radius margin vs ws pivots a (is_large h) = too_large
+discharge_is x radius margin vs ws pivots a (overflows h) = overflow
+discharge_is x radius margin vs ws pivots a (used_up h) = no_pivots
 
 abbrev AreWrittenBack : Type 0
 AreWrittenBack = (x : LocalRule) (t : Tile) → IsTile t → Fits x t → IsWrittenBack x t
@@ -89,19 +67,19 @@ module _ (back : AreWrittenBack) (l : Limits) where
   decided_yes x g n steps h = yes_of x g h.0 n steps h.1 h.2.0 h.2.1
 
   decided_is : (x : LocalRule) (g : GoalOf) (d : Decision) → IsDecided x g l.radius l.period d → IsBoxCertificate l x g (written_decision d)
-  decided_is x g (decision.Yes n steps) h = decided_yes x g n steps h
-  decided_is x g (decision.No t) h = (refl, decided_no x g t h)
-  decided_is x g decision.Unknown h = refl
+  decided_is x g (decision.Yes n steps) h = box_yes (decided_yes x g n steps h)
+  decided_is x g (decision.No t) h = box_no (decided_no x g t h)
+  decided_is x g decision.Unknown h = box_unknown
 
   joined_is : (x y : LocalRule) (left right : Decision) → IsDecided x (breaks y) l.radius l.period left →
       UnlessNo left (IsDecided y (breaks x) l.radius l.period right) → IsEqualCertificate l x y (written_equality (joined left right))
-  joined_is x y (decision.No t) right h k = decided_no x (breaks y) t h
-  joined_is x y (decision.Yes n steps) (decision.No t) h k = decided_no y (breaks x) t k
-  joined_is x y decision.Unknown (decision.No t) h k = decided_no y (breaks x) t k
-  joined_is x y (decision.Yes n steps) (decision.Yes m others) h k = (decided_yes x (breaks y) n steps h, decided_yes y (breaks x) m others k)
-  joined_is x y (decision.Yes n steps) decision.Unknown h k = refl
-  joined_is x y decision.Unknown (decision.Yes m others) h k = refl
-  joined_is x y decision.Unknown decision.Unknown h k = refl
+  joined_is x y (decision.No t) right h k = left_no (decided_no x (breaks y) t h)
+  joined_is x y (decision.Yes n steps) (decision.No t) h k = right_no (decided_no y (breaks x) t k)
+  joined_is x y decision.Unknown (decision.No t) h k = right_no (decided_no y (breaks x) t k)
+  joined_is x y (decision.Yes n steps) (decision.Yes m others) h k = equal_yes (decided_yes x (breaks y) n steps h) (decided_yes y (breaks x) m others k)
+  joined_is x y (decision.Yes n steps) decision.Unknown h k = equal_unknown
+  joined_is x y decision.Unknown (decision.Yes m others) h k = equal_unknown
+  joined_is x y decision.Unknown decision.Unknown h k = equal_unknown
 
   box_is : (x : LocalRule) (g : GoalOf) (a : Answer) → IsRightBox l x g a → IsBoxCertificate l x g a
   box_is x g a right = subst (IsBoxCertificate l x g) (sym right.written) (decided_is x g right.decision right.decided)
@@ -112,9 +90,9 @@ module _ (back : AreWrittenBack) (l : Limits) where
       subst (IsEqualCertificate l x y) (sym (right.written ∙ ap written_equality both.join)) (joined_is x y both.left both.right both.left_decided both.right_decided)
 
   pub right_is_certificate : (k : Asked) (a : Answer) → IsRightTo l k a → IsCertificateOf l k a
-  right_is_certificate (membership x t) a right = right
-  right_is_certificate (box x g) a right = box_is x g a right
-  right_is_certificate (equality x y) a right = equal_is x y a right
-  right_is_certificate (listing x) a right = right
-  right_is_certificate (density x strip ws) a right = density_is x strip ws a right
-  right_is_certificate (discharge x radius margin vs ws) a right = discharge_is x radius margin vs ws l.pivots a right
+  right_is_certificate (asked.membership x t) a right = right
+  right_is_certificate (asked.box x g) a right = box_is x g a right
+  right_is_certificate (asked.equality x y) a right = equal_is x y a right
+  right_is_certificate (asked.listing x) a right = right
+  right_is_certificate (asked.density x strip ws) a right = density_is x strip ws a right
+  right_is_certificate (asked.discharge x radius margin vs ws) a right = discharge_is x radius margin vs ws l.pivots a right

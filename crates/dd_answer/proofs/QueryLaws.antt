@@ -5,8 +5,7 @@ use Rattle.std.specs.List.{Contains}
 use Rattle.dd_certificate.specs.declared.answer.Answer.{Answer}
 use Rattle.dd_engines.specs.Rounds.{Seen}
 use Rattle.dd_query.specs.declared.queries.Query.{Query}
-use Rattle.dd_question.specs.Questions.{Asked}
-use Rattle.dd_question.specs.Sound.{IsSoundAsked}
+use Rattle.dd_question.specs.Questions.{Asked, IsSoundAsked}
 use Rattle.dd_respond.specs.Asking.{IsBoxQuestion, Engages}
 use Rattle.dd_respond.specs.Laws.{SayTheSame}
 use Rattle.dd_respond.specs.Right.{IsRightTo}

@@ -29,7 +29,6 @@ pub fn answer<E: Engine>(
     ensures kept { Kept (roster_seen E.asked E.given E.sound roster.old) (roster_seen E.asked E.given E.sound roster.new) }
     ensures asked { OnOk result (Engages (AsksBoxes script.now query.now) (roster_seen E.asked E.given E.sound roster.old) (roster_seen E.asked E.given E.sound roster.new)) }
 {
-    let limits = script.limits();
     let question = script.question(query);
-    respond(alloc, &question, limits, roster)
+    respond(alloc, &question, roster)
 }

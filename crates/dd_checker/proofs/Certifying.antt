@@ -5,14 +5,11 @@ use Rattle.std.proofs.lemmas.Bool.{cases_lt}
 use Rattle.std.proofs.lemmas.Option.{slice_get_within}
 use Rattle.dd_certificate.specs.declared.answer.Answer.{Answer}
 use Rattle.dd_question.specs.Questions.{Asked}
-use Rattle.dd_question.specs.Sound.{IsSoundAsked}
 use Rattle.dd_query.specs.declared.queries.Query.{Query}
 use Rattle.dd_script.specs.Parts.{Parts}
-use Rattle.dd_script.specs.Questions.{query_at}
-use Rattle.dd_script.specs.Asking.{Asks}
+use Rattle.dd_script.specs.Questions.{asked, query_at}
 use Rattle.dd_values.specs.declared.limits.Limits.{Limits}
-use Rattle.dd_verify.specs.Certificates.{IsCertificateOf}
-use Rattle.dd_verify.specs.Claims.{ClaimOf}
+use Rattle.dd_verify.specs.Certificates.{IsCertificateOf, ClaimOf}
 use Rattle.dd_checker.specs.Certificates.{IsCertificateFor, IsCertificate}
 use Rattle.dd_checker.specs.Claims.{ClaimFor, Claim}
 use Rattle.dd_checker.proofs.Verdicts.{claim_at}
@@ -21,11 +18,11 @@ use Rattle.dd_checker.proofs.Verdicts.{claim_at}
 abbrev pub IsTruthful : Parts → Query → Type 0
 IsTruthful s q = (a : Answer) → IsCertificateFor s q a → ClaimFor s q a
 
-pub query_claims : (s : Parts) (q : Query) (k : Asked) → Asks s q k →
-    ((l : Limits) (a : Answer) → IsSoundAsked l k → IsCertificateOf l k a → ClaimOf k a) → IsTruthful s q
-query_claims s q k asks told a h =
-    let certificate = subst (λ (o : Option Asked). IsSomeAnd o (λ j. IsCertificateOf s.known.limits j a)) asks.is h.1 in
-    subst (λ (o : Option Asked). IsSomeAnd o (λ j. ClaimOf j a)) (sym asks.is) (told s.known.limits a asks.sound.sound certificate)
+pub query_claims : (s : Parts) (q : Query) (k : Asked) (l : Limits) → asked s q ≡ Some k → l ≡ s.known.limits →
+    ((a : Answer) → IsCertificateOf l k a → ClaimOf k a) → IsTruthful s q
+query_claims s q k l asks limits told a h =
+    let certificate = subst (λ (o : Option Asked). IsSomeAnd o (λ j. IsCertificateOf s.known.limits j a)) asks h.1 in
+    subst (λ (o : Option Asked). IsSomeAnd o (λ j. ClaimOf j a)) (sym asks) (told a (subst (λ (m : Limits). IsCertificateOf m k a) (sym limits) certificate))
 
 -- of the first n queries
 abbrev pub AreTruthful : Parts → ℕ → Type 0

@@ -8,7 +8,6 @@ use Rattle.dd_lattice.specs.declared.position.Cell.{Cell}
 use Rattle.dd_lattice.specs.Place.{Place}
 use Rattle.dd_topology.specs.Sets.{row_allows}
 use Rattle.dd_pattern.specs.Reading.{Look}
-use Rattle.dd_derivation.specs.declared.step.Step.{Step}
 use Rattle.dd_expansion.specs.Placed.{is_flat}
 use Rattle.dd_formula.specs.LocalRule.{LocalRule, rule_allows}
 use Rattle.dd_formula.specs.Allowed.{AreAllowed}
@@ -18,16 +17,17 @@ use Rattle.dd_boxes.specs.Boxes.{HoldsNowhere}
 use Rattle.dd_meanings.specs.Made.{IsRuleOf}
 use Rattle.dd_query.specs.declared.queries.Query.{Query}
 use Rattle.dd_script.specs.Parts.{Parts}
+use Rattle.dd_derivation.specs.declared.step.Step.{Step}
 use Rattle.dd_certificate.specs.declared.answer.Answer.{Answer}
 use Rattle.dd_certificate.specs.declared.answer.Answer.TheVariants as answer
-use Rattle.dd_question.specs.Questions.{Asked, membership, box, equality, listing, density, discharge}
+use Rattle.dd_question.specs.Questions.{Asked}
+use Rattle.dd_question.specs.Questions as question
 use Rattle.dd_script.specs.Questions.{asked, query_at}
 use Rattle.dd_script.specs.Asking.{AreOf, AreSound}
-use Rattle.dd_verify.specs.Holding.{MemberClaim, BoxClaim, EqualClaim, ListClaim}
-use Rattle.dd_verify.specs.Bounds.{StripClaim, DischargeClaim}
-use Rattle.dd_verify.specs.Claims.{ClaimOf}
+use Rattle.dd_verify.specs.Holding.{says_nowhere, says_equal}
+use Rattle.dd_verify.specs.Certificates.{ClaimOf}
 use Rattle.dd_checker.specs.Claims.{ClaimFor, Claim}
-use Rattle.dd_checker.specs.Lifted.{is_yes, whole_look, IsWhole, IsNotAt, IsAskedNotAt, IsNowhereAt}
+use Rattle.dd_checker.specs.Lifted.{is_yes, whole_look, IsWhole, IsNotAt, IsAskedNotAt, of_box, of_equality, IsNowhereAt}
 
 -- what follows from what an item is and has
 some_then : {X : Type 0} (o : Option X) (P Q : X → Type 0) → ((x : X) → o ≡ Some x → P x → Q x) → IsSomeAnd o P → IsSomeAnd o Q
@@ -38,19 +38,15 @@ some_then None P Q h p = p
 stands_at : (xs : List Query) (n : ℕ) (x : Query) → slice_get xs n ≡ Some x → Contains xs x
 stands_at xs n x is = (n, slice_get_within xs n x is, get_or_from_slice_get xs n x x is)
 
--- an answer that is YES is one of two
-yes_cases : (P : Answer → Type 0) → ((n : ℕ) (steps : List Step) → P (answer.Yes n steps)) →
-    ((n m : ℕ) (steps others : List Step) → P (answer.YesBoth n m steps others)) → (a : Answer) → is_yes a ≡ true → P a
-yes_cases P one both answer.Inside h = absurd (false≢true h)
-yes_cases P one both (answer.Outside place) h = absurd (false≢true h)
-yes_cases P one both (answer.Yes radius steps) h = one radius steps
-yes_cases P one both (answer.YesBoth left right left_steps right_steps) h = both left right left_steps right_steps
-yes_cases P one both (answer.No s periods shear symbols) h = absurd (false≢true h)
-yes_cases P one both (answer.Unknown r) h = absurd (false≢true h)
-yes_cases P one both (answer.List patterns) h = absurd (false≢true h)
-yes_cases P one both (answer.Density numerator denominator cycle potentials) h = absurd (false≢true h)
-yes_cases P one both (answer.Empty ranks) h = absurd (false≢true h)
-yes_cases P one both (answer.Bound numerator denominator common amounts duals) h = absurd (false≢true h)
+-- a YES to one question, or to both of an equality
+data SaysYes : Answer → Type 0 where
+  one : {n : ℕ} {steps : List Step} → SaysYes (answer.Yes n steps)
+  both : {n m : ℕ} {steps others : List Step} → SaysYes (answer.YesBoth n m steps others)
+
+says_yes : (a : Answer) → is_yes a ≡ true → SaysYes a
+says_yes (answer.Yes n steps) told = one
+says_yes (answer.YesBoth n m steps others) told = both
+says_yes _ told = absurd (false≢true told)
 
 module _ (s : Parts) (nodes : ℕ) (symbol_of : Cell → ℕ) (whole : IsWhole s nodes symbol_of) where
   abbrev look : Look
@@ -81,22 +77,10 @@ module _ (s : Parts) (nodes : ℕ) (symbol_of : Cell → ℕ) (whole : IsWhole s
         let level : is_flat x.dimension v ≡ true = subst (λ d. is_flat d v ≡ true) (sym of.dimension) flat in
         nowhere.configurations look (look_whole x of) obeys v level there
 
-    asked_not_at : (a : Answer) → is_yes a ≡ true → (k : Asked) → AreOf s.known k → ClaimOf k a → IsAskedNotAt k look v
-    asked_not_at a told (membership x t) ok =
-        yes_cases (λ b. MemberClaim x t b → ⊥) (λ n steps claim. claim) (λ n m steps others claim. claim) a told
-    asked_not_at a told (box x g) ok =
-        yes_cases (λ b. BoxClaim x g b → IsNotAt x g look v) (λ n steps claim. not_at x g n ok claim) (λ n m steps others claim. absurd claim) a told
-    asked_not_at a told (equality x y) ok =
-        yes_cases (λ b. EqualClaim x y b → IsNotAt x (breaks y) look v × IsNotAt y (breaks x) look v)
-        (λ n steps claim. absurd claim)
-        (λ n m steps others claim. (not_at x (breaks y) n ok.0 claim.0, not_at y (breaks x) m ok.1 claim.1))
-        a told
-    asked_not_at a told (listing x) ok =
-        yes_cases (λ b. ListClaim x b → ⊥) (λ n steps claim. claim) (λ n m steps others claim. claim) a told
-    asked_not_at a told (density x strip ws) ok =
-        yes_cases (λ b. StripClaim x strip ws b → ⊥) (λ n steps claim. claim) (λ n m steps others claim. claim) a told
-    asked_not_at a told (discharge x radius margin vs ws) ok =
-        yes_cases (λ b. DischargeClaim x radius margin vs ws b → ⊥) (λ n steps claim. claim) (λ n m steps others claim. claim) a told
+    asked_not_at : (a : Answer) → SaysYes a → (k : Asked) → AreOf s.known k → ClaimOf k a → IsAskedNotAt k look v
+    asked_not_at a one (question.box x g) ok (says_nowhere {n = n} claim) = of_box (not_at x g n ok claim)
+    asked_not_at a both (question.equality x y) ok (says_equal {n = n} {m = m} left right) = of_equality (not_at x (breaks y) n ok.0 left) (not_at y (breaks x) m ok.1 right)
+    asked_not_at _ _ _ ok claim = elim claim [ ]
 
     -- where a YES claims what is true, the goal does not hold at v
     pub lifted_law : AreSound s → (number : ℕ) (a : Answer) → is_yes a ≡ true → Claim s number a → IsNowhereAt s number look v
@@ -104,5 +88,5 @@ module _ (s : Parts) (nodes : ℕ) (symbol_of : Cell → ℕ) (whole : IsWhole s
         some_then (query_at s number) (λ q. ClaimFor s q a) (λ q. IsSomeAnd (asked s q) (λ k. IsAskedNotAt k look v))
         (λ q is claim.
         some_then (asked s q) (λ k. ClaimOf k a) (λ k. IsAskedNotAt k look v)
-        (λ k asks holds. asked_not_at a told k (sound q k (stands_at s.queries (number - 1) q is) asks).of holds) claim)
+        (λ k asks holds. asked_not_at a (says_yes a told) k (sound q k (stands_at s.queries (number - 1) q is) asks).of holds) claim)
         h

@@ -4,7 +4,7 @@ use Rattle.dd_certificate.specs.declared.answer.Answer.{Answer}
 use Rattle.dd_query.specs.declared.queries.Query.{Query}
 use Rattle.dd_script.specs.Parts.{Parts}
 use Rattle.dd_script.specs.Questions.{asked, query_at}
-use Rattle.dd_verify.specs.Claims.{ClaimOf}
+use Rattle.dd_verify.specs.Certificates.{ClaimOf}
 
 -- to a query of the script
 abbrev pub ClaimFor : Parts → Query → Answer → Type 0

@@ -1,5 +1,6 @@
 -- What a YES says of configurations that no data holds.
-use Rattle.std.specs.Prelude.{ℕ, ◌≡◌, ◌<◌, Bool, true, false, cond, Some, None, IsSomeAnd}
+use Rattle.std.specs.Prelude.{ℕ, ◌≡◌, ◌<◌, Bool, true, cond, nat_eq, codes, Some, None, IsSomeAnd}
+use Rattle.std.specs.List.{starts_with}
 use Rattle.dd_lattice.specs.Place.{Place}
 use Rattle.dd_lattice.specs.declared.position.Cell.{Cell}
 use Rattle.dd_topology.specs.Sets.{allows}
@@ -9,23 +10,15 @@ use Rattle.dd_formula.specs.LocalRule.{LocalRule}
 use Rattle.dd_formula.specs.Living.{Obeys}
 use Rattle.dd_boxes.specs.Goals.{GoalOf, breaks, HasGoal}
 use Rattle.dd_certificate.specs.declared.answer.Answer.{Answer}
-use Rattle.dd_certificate.specs.declared.answer.Answer.TheVariants as answer
+use Rattle.dd_certificate.specs.Text.{verdict_text}
 use Rattle.dd_script.specs.Parts.{Parts}
-use Rattle.dd_question.specs.Questions.{Asked, membership, box, equality, listing, density, discharge}
+use Rattle.dd_question.specs.Questions.{Asked}
+use Rattle.dd_question.specs.Questions as question
 use Rattle.dd_script.specs.Questions.{asked, query_at}
 
--- of one question, or of both of an equality
+-- the answer's first line says YES
 abbrev pub is_yes : Answer → Bool
-is_yes answer.Inside = false
-is_yes (answer.Outside place) = false
-is_yes (answer.Yes radius steps) = true
-is_yes (answer.YesBoth left right left_steps right_steps) = true
-is_yes (answer.No s periods shear symbols) = false
-is_yes (answer.Unknown r) = false
-is_yes (answer.List patterns) = false
-is_yes (answer.Density numerator denominator cycle potentials) = false
-is_yes (answer.Empty ranks) = false
-is_yes (answer.Bound numerator denominator common amounts duals) = false
+is_yes a = starts_with nat_eq (verdict_text a) (codes "YES ")
 
 -- the symbols of all cells of Z^d with one of the nodes
 abbrev pub whole_look : ℕ → ℕ → (Cell → ℕ) → Look
@@ -41,14 +34,10 @@ pub record IsWhole (s : Parts) (nodes : ℕ) (symbol_of : Cell → ℕ) : Type 0
 abbrev pub IsNotAt : LocalRule → GoalOf → Look → Place → Type 0
 IsNotAt x g look v = Obeys x look → HasGoal g look v → ⊥
 
--- of each goal that is asked for; no YES answers a question without one
-abbrev pub IsAskedNotAt : Asked → Look → Place → Type 0
-IsAskedNotAt (membership x t) look v = ⊥
-IsAskedNotAt (box x g) look v = IsNotAt x g look v
-IsAskedNotAt (equality x y) look v = IsNotAt x (breaks y) look v × IsNotAt y (breaks x) look v
-IsAskedNotAt (listing x) look v = ⊥
-IsAskedNotAt (density x strip ws) look v = ⊥
-IsAskedNotAt (discharge x radius margin vs ws) look v = ⊥
+-- of the goal that a box question asks for, or of both that an equality does; no YES answers another question
+pub data IsAskedNotAt : Asked → Look → Place → Type 0 where
+  of_box : {x : LocalRule} {g : GoalOf} {look : Look} {v : Place} → IsNotAt x g look v → IsAskedNotAt (question.box x g) look v
+  of_equality : {x y : LocalRule} {look : Look} {v : Place} → IsNotAt x (breaks y) look v → IsNotAt y (breaks x) look v → IsAskedNotAt (question.equality x y) look v
 
 -- the same of the goals that the query with a number, from 1, asks for
 abbrev pub IsNowhereAt : Parts → ℕ → Look → Place → Type 0

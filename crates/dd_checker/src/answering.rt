@@ -26,9 +26,8 @@ pub fn check_answer(
     let number = query as usize - 1;
     let asked = &queries[number];
     query_certified(script, asked);
-    let limits = script.limits();
     let question = script.question(asked);
-    let accepted = check_question(alloc, &question, limits, answer)?;
+    let accepted = check_question(alloc, &question, answer)?;
     if accepted {
         Ok(Verdict::Accepted)
     } else {

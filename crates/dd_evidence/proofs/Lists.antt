@@ -10,7 +10,7 @@ use Rattle.dd_forbidden.specs.Breaking.{IsBreaking, BreakingFillings}
 use Rattle.dd_certificate.specs.declared.answer.Listed.{Listed}
 use Rattle.dd_certificate.specs.declared.answer.Answer.TheVariants as answer
 use Rattle.dd_certificate.specs.Bounds.{IsWritable, IsWritableNumber, IsWritablePattern}
-use Rattle.dd_question.specs.Sound.{HasFewPatterns}
+use Rattle.dd_question.specs.Lists.{HasFewPatterns}
 use Rattle.dd_evidence.specs.Lists.{listed, IsListTo, IsForbiddenList}
 
 -- ---- one list

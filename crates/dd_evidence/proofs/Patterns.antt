@@ -1,6 +1,5 @@
 -- The list as it is made, node by node.
-use Rattle.std.proofs.Common.{◌≡◌, ℕ, suc, ◌+◌, ◌<◌, List, [], ◌∷◌, ◌++◌, map, take, length, get_or, refl, ap, sym, subst, ◌∙◌, add-one, append_assoc}
-use Rattle.std.proofs.lemmas.List.{take_more, map-append}
+use Rattle.std.proofs.Common.{◌≡◌, ℕ, suc, ◌+◌, List, ◌++◌, map, refl, ap, sym, subst, ◌∙◌, add-one}
 use Rattle.std.proofs.lemmas.Simd.{map-map}
 use Rattle.dd_pattern.specs.Filling.{Filled, filled}
 use Rattle.dd_formula.specs.LocalRule.{LocalRule, cells_at}

@@ -7,7 +7,7 @@ ghost use Rattle.dd_certificate.specs.declared.answer.Listed.{Listed as AnyListe
 ghost use Rattle.dd_certificate.specs.declared.answer.Answer.TheVariants as answer;
 ghost use Rattle.dd_certificate.specs.Bounds.{IsWritable};
 ghost use Rattle.dd_forbidden.specs.Breaking.{IsBreaking};
-ghost use Rattle.dd_question.specs.Sound.{HasFewPatterns};
+ghost use Rattle.dd_question.specs.Lists.{HasFewPatterns};
 ghost use Rattle.dd_evidence.specs.Cells.{IsOutside};
 ghost use Rattle.dd_evidence.specs.Tiles.{IsWrittenBack};
 ghost use Rattle.dd_evidence.specs.Lists.{listed, IsForbiddenList};

@@ -1,6 +1,6 @@
 //! The patterns that a rule forbids.
 ghost use Rattle.std.specs.Prelude.{◌≡◌, ◌<◌, IfOk, OnOk};
-ghost use Rattle.dd_question.specs.Sound.{HasFewPatterns};
+ghost use Rattle.dd_question.specs.Lists.{HasFewPatterns};
 ghost use Rattle.dd_forbidden.specs.Breaking.{AreBreakingFillings};
 ghost use Rattle.dd_evidence.specs.Lists.{listed, IsListedAfter, IsForbiddenList};
 

@@ -31,11 +31,11 @@ use Rattle.dd_contain.specs.declared.equal.Equality.{Equality}
 use Rattle.dd_contain.specs.Decided.{IsLeast, IsFirst, IsDecidedBy}
 use Rattle.dd_contain.specs.Questions.{ShowsAt, Displays, IsDecided}
 use Rattle.dd_contain.specs.Equal.{joined, UnlessNo, IsEqualDecided}
-use Rattle.dd_question.specs.Questions.{Asked, membership, box, equality, listing, density, discharge}
-use Rattle.dd_question.specs.Sound.{IsSoundAsked}
+use Rattle.dd_question.specs.Questions.{Asked, IsSoundAsked}
+use Rattle.dd_question.specs.Questions as asked
 use Rattle.dd_evidence.specs.Cells.{written_cell}
 use Rattle.dd_evidence.specs.Lists.{IsForbiddenList}
-use Rattle.dd_evidence.specs.Answers.{IsMemberCertificate, IsListCertificate}
+use Rattle.dd_evidence.specs.Answers.{IsMemberCertificate, member_inside, member_outside, IsListCertificate, all_forbidden}
 use Rattle.dd_respond.specs.Right.{IsRightTo, IsRightBox, IsRightEqual, written_decision, written_equality, is_unknown}
 use Rattle.dd_respond.specs.Laws.{SayTheSame}
 use Rattle.dd_respond.proofs.Measuring.{IsOneDensity, density_agree, discharge_agree}
@@ -238,15 +238,12 @@ equal_agree l x y a b h k =
 
 module _ (x : LocalRule) (t : Tile) (tile : IsTile t) (fits : Fits x t) where
   member_agree : (a b : Answer) → IsMemberCertificate x t a → IsMemberCertificate x t b → SayTheSame a b
-  member_agree answer.Inside answer.Inside h k = record { line = λ number. refl; unknown = refl }
-  member_agree answer.Inside (answer.Outside there) h k = absurd (not_both x t tile fits k.0 k.1 h)
-  member_agree (answer.Outside here) answer.Inside h k = absurd (not_both x t tile fits h.0 h.1 k)
-  member_agree (answer.Outside here) (answer.Outside there) h k =
+  member_agree a b (member_inside h) (member_inside k) = record { line = λ number. refl; unknown = refl }
+  member_agree a b (member_inside h) (member_outside k) = absurd (not_both x t tile fits k.0 k.1 h)
+  member_agree a b (member_outside h) (member_inside k) = absurd (not_both x t tile fits h.0 h.1 k)
+  member_agree a b (member_outside {place = here} h) (member_outside {place = there} k) =
       let same : here ≡ there = h.2 ∙ (ap (written_cell x.dimension) (first_cell x t h.0 k.0 h.1 k.1) ∙ sym k.2) in
       record { line = λ number. ap (λ p. answer_line number (answer.Outside p)) same; unknown = refl }
-  member_agree answer.Inside b h k = absurd k
-  member_agree (answer.Outside here) b h k = absurd k
-  member_agree a b h k = absurd h
 
 -- ---- forbidden patterns
 
@@ -254,10 +251,8 @@ abbrev pub AreOneList : Type 0
 AreOneList = (x : LocalRule) (some others : List Listed) → IsForbiddenList x some → IsForbiddenList x others → some ≡ others
 
 list_agree : AreOneList → (x : LocalRule) (a b : Answer) → IsListCertificate x a → IsListCertificate x b → SayTheSame a b
-list_agree one x (answer.List some) (answer.List others) h k =
+list_agree one x a b (all_forbidden {patterns = some} h) (all_forbidden {patterns = others} k) =
     record { line = λ number. ap (λ ps. answer_line number (answer.List ps)) (one x some others h k); unknown = refl }
-list_agree one x (answer.List some) b h k = absurd k
-list_agree one x a b h k = absurd h
 
 -- ---- all questions
 
@@ -266,10 +261,10 @@ HaveOneOutcome = (x : LocalRule) (ws : List ℕ) (radius margin : ℕ) (vs : Lis
 
 module _ (one : AreOneList) (density_one : IsOneDensity) (outcome_one : HaveOneOutcome) (l : Limits) where
   pub right_agree : (k : Asked) (a b : Answer) → IsSoundAsked l k → IsRightTo l k a → IsRightTo l k b → SayTheSame a b
-  right_agree (membership x t) a b ok h k = member_agree x t ok.1 ok.2 a b h k
-  right_agree (box x g) a b ok h k = box_agree l x g a b h k
-  right_agree (equality x y) a b ok h k = equal_agree l x y a b h k
-  right_agree (listing x) a b ok h k = list_agree one x a b h k
-  right_agree (density x strip ws) a b ok h k = density_agree density_one x strip ws a b h k
-  right_agree (discharge x radius margin vs ws) a b ok h k =
+  right_agree (asked.membership x t) a b ok h k = member_agree x t ok.1 ok.2 a b h k
+  right_agree (asked.box x g) a b ok h k = box_agree l x g a b h k
+  right_agree (asked.equality x y) a b ok h k = equal_agree l x y a b h k
+  right_agree (asked.listing x) a b ok h k = list_agree one x a b h k
+  right_agree (asked.density x strip ws) a b ok h k = density_agree density_one x strip ws a b h k
+  right_agree (asked.discharge x radius margin vs ws) a b ok h k =
       discharge_agree x radius margin vs ws l.pivots (outcome_one x ws radius margin vs l.pivots) a b h k

@@ -1,8 +1,8 @@
 -- Which answers about least densities and discharging are right.
-use Rattle.std.specs.Prelude.{ℕ, ◌≡◌, ℤ, List}
+use Rattle.std.specs.Prelude.{ℕ, ℤ, List}
 use Rattle.dd_lattice.specs.Place.{Place}
 use Rattle.dd_formula.specs.LocalRule.{LocalRule}
-use Rattle.dd_transfer.specs.Transfers.{strip_for}
+use Rattle.dd_strip.specs.Strips.{strip_for}
 use Rattle.dd_transfer.specs.Certificates.{IsDensityCertificate, IsEmptyCertificate}
 use Rattle.dd_strips.specs.Strips.{IsLeastDensity, LivesNowhere}
 use Rattle.dd_density.specs.declared.answer.Density.{Density}
@@ -25,28 +25,11 @@ abbrev pub written_density : Density → Answer
 written_density (density.Least p q walk potentials) = answer.Density p q walk potentials
 written_density (density.Empty ranks) = answer.Empty ranks
 
--- p / q is the least density, and the cycle and the potentials show it
-pub record IsRightLeast (x : LocalRule) (strip ws : List ℕ) (p q : ℕ) (cycle : List ℕ) (potentials : List ℤ) : Type 0 where
-  pub least : IsLeastDensity x (strip_for x strip) ws p q
-  pub certificate : IsDensityCertificate x (strip_for x strip) ws p q cycle potentials
-
--- no configuration lives on the strip, and the ranks show it
-pub record IsRightEmpty (x : LocalRule) (strip ranks : List ℕ) : Type 0 where
-  pub nowhere : LivesNowhere x (strip_for x strip)
-  pub certificate : IsEmptyCertificate x (strip_for x strip) ranks
-
--- the answer is always definite
-abbrev pub IsRightDensity : LocalRule → List ℕ → List ℕ → Answer → Type 0
-IsRightDensity x strip ws answer.Inside = ⊥
-IsRightDensity x strip ws (answer.Outside place) = ⊥
-IsRightDensity x strip ws (answer.Yes radius steps) = ⊥
-IsRightDensity x strip ws (answer.YesBoth left right left_steps right_steps) = ⊥
-IsRightDensity x strip ws (answer.No s periods shear symbols) = ⊥
-IsRightDensity x strip ws (answer.Unknown r) = ⊥
-IsRightDensity x strip ws (answer.List patterns) = ⊥
-IsRightDensity x strip ws (answer.Density numerator denominator cycle potentials) = IsRightLeast x strip ws numerator denominator cycle potentials
-IsRightDensity x strip ws (answer.Empty ranks) = IsRightEmpty x strip ranks
-IsRightDensity x strip ws (answer.Bound numerator denominator common amounts duals) = ⊥
+-- the least density, or that no configuration lives on the strip, with what shows it; the answer is always definite
+pub data IsRightDensity (x : LocalRule) (strip ws : List ℕ) : Answer → Type 0 where
+  right_least : {p q : ℕ} {cycle : List ℕ} {potentials : List ℤ} → IsLeastDensity x (strip_for x strip) ws p q →
+      IsDensityCertificate x (strip_for x strip) ws p q cycle potentials → IsRightDensity x strip ws (answer.Density p q cycle potentials)
+  right_empty : {ranks : List ℕ} → LivesNowhere x (strip_for x strip) → IsEmptyCertificate x (strip_for x strip) ranks → IsRightDensity x strip ws (answer.Empty ranks)
 
 -- ---- discharging
 
@@ -54,35 +37,16 @@ IsRightDensity x strip ws (answer.Bound numerator denominator common amounts dua
 abbrev pub written_bound : Bound → Answer
 written_bound b = answer.Bound b.numerator b.denominator b.common b.amounts b.duals
 
--- why there is no bound
-abbrev pub IsReasonOf : DischargeFault → Reason → Type 0
-IsReasonOf f reason.Limits = ⊥
-IsReasonOf f reason.Large = f ≡ fault.Large
-IsReasonOf f reason.Overflow = f ≡ fault.Overflow
-IsReasonOf f reason.Pivots = f ≡ fault.Pivots
+-- why there is no bound, as it is answered
+pub data IsReasonOf : DischargeFault → Reason → Type 0 where
+  for_large : IsReasonOf fault.Large reason.Large
+  for_overflow : IsReasonOf fault.Overflow reason.Overflow
+  for_pivots : IsReasonOf fault.Pivots reason.Pivots
 
--- the reason is the right one
-abbrev pub IsRightReason : LocalRule → ℕ → ℕ → List Place → List ℕ → ℕ → Reason → Type 0
-IsRightReason x radius margin vs ws pivots reason.Limits = ⊥
-IsRightReason x radius margin vs ws pivots reason.Large = IsDischargeFault x ws radius margin vs pivots fault.Large
-IsRightReason x radius margin vs ws pivots reason.Overflow = IsDischargeFault x ws radius margin vs pivots fault.Overflow
-IsRightReason x radius margin vs ws pivots reason.Pivots = IsDischargeFault x ws radius margin vs pivots fault.Pivots
-
--- the bound with which the run of the program ends, and its amounts and duals show that it is the best
-pub record IsRightBound (x : LocalRule) (radius margin : ℕ) (vs : List Place) (ws : List ℕ) (pivots : ℕ) (b : Bound) : Type 0 where
-  pub ends : IsBoundOf x ws radius margin vs pivots b
-  pub certificate : IsBoundCertificate x ws radius margin vs b
-
--- the bound, or the reason why there is none
-abbrev pub IsRightDischarge : LocalRule → ℕ → ℕ → List Place → List ℕ → ℕ → Answer → Type 0
-IsRightDischarge x radius margin vs ws pivots answer.Inside = ⊥
-IsRightDischarge x radius margin vs ws pivots (answer.Outside place) = ⊥
-IsRightDischarge x radius margin vs ws pivots (answer.Yes n steps) = ⊥
-IsRightDischarge x radius margin vs ws pivots (answer.YesBoth left right left_steps right_steps) = ⊥
-IsRightDischarge x radius margin vs ws pivots (answer.No s periods shear symbols) = ⊥
-IsRightDischarge x radius margin vs ws pivots (answer.Unknown r) = IsRightReason x radius margin vs ws pivots r
-IsRightDischarge x radius margin vs ws pivots (answer.List patterns) = ⊥
-IsRightDischarge x radius margin vs ws pivots (answer.Density numerator denominator cycle potentials) = ⊥
-IsRightDischarge x radius margin vs ws pivots (answer.Empty ranks) = ⊥
-IsRightDischarge x radius margin vs ws pivots (answer.Bound numerator denominator common amounts duals) =
-    IsRightBound x radius margin vs ws pivots (bound_claimed numerator denominator common amounts duals)
+-- the bound with which the run of the program ends, with what shows that it is the best; or the reason why there is none
+pub data IsRightDischarge (x : LocalRule) (radius margin : ℕ) (vs : List Place) (ws : List ℕ) (pivots : ℕ) : Answer → Type 0 where
+  right_bound : {p q n : ℕ} {amounts duals : List ℕ} → IsBoundOf x ws radius margin vs pivots (bound_claimed p q n amounts duals) →
+      IsBoundCertificate x ws radius margin vs (bound_claimed p q n amounts duals) → IsRightDischarge x radius margin vs ws pivots (answer.Bound p q n amounts duals)
+  is_large : IsDischargeFault x ws radius margin vs pivots fault.Large → IsRightDischarge x radius margin vs ws pivots (answer.Unknown reason.Large)
+  overflows : IsDischargeFault x ws radius margin vs pivots fault.Overflow → IsRightDischarge x radius margin vs ws pivots (answer.Unknown reason.Overflow)
+  used_up : IsDischargeFault x ws radius margin vs pivots fault.Pivots → IsRightDischarge x radius margin vs ws pivots (answer.Unknown reason.Pivots)

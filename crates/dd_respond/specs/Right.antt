@@ -1,5 +1,6 @@
 -- Which answers are right.
-use Rattle.std.specs.Prelude.{◌≡◌, Bool, true, false}
+use Rattle.std.specs.Prelude.{◌≡◌, Bool, nat_eq, codes}
+use Rattle.std.specs.List.{starts_with}
 use Rattle.dd_pattern.specs.Tile.{Tile}
 use Rattle.dd_formula.specs.LocalRule.{LocalRule}
 use Rattle.dd_values.specs.declared.limits.Limits.{Limits}
@@ -9,6 +10,7 @@ use Rattle.dd_certificate.specs.declared.answer.Answer.TheVariants as answer
 use Rattle.dd_certificate.specs.declared.answer.Side.{Side}
 use Rattle.dd_certificate.specs.declared.answer.Side.TheVariants as side
 use Rattle.dd_certificate.specs.declared.answer.Reason.TheVariants as reason
+use Rattle.dd_certificate.specs.Text.{verdict_text}
 use Rattle.dd_contain.specs.declared.decision.Decision.{Decision}
 use Rattle.dd_contain.specs.declared.decision.Decision.TheVariants as decision
 use Rattle.dd_contain.specs.declared.equal.Equality.{Equality}
@@ -17,7 +19,8 @@ use Rattle.dd_contain.specs.declared.equal.Half.{Half}
 use Rattle.dd_contain.specs.declared.equal.Half.TheVariants as half
 use Rattle.dd_contain.specs.Questions.{IsDecided}
 use Rattle.dd_contain.specs.Equal.{IsEqualDecided}
-use Rattle.dd_question.specs.Questions.{Asked, membership, box, equality, listing, density, discharge}
+use Rattle.dd_question.specs.Questions.{Asked}
+use Rattle.dd_question.specs.Questions as asked
 use Rattle.dd_evidence.specs.Tiles.{written_periods}
 use Rattle.dd_evidence.specs.Answers.{IsMemberCertificate, IsListCertificate}
 use Rattle.dd_respond.specs.Bounds.{IsRightDensity, IsRightDischarge}
@@ -61,22 +64,13 @@ pub record IsRightEqual (l : Limits) (x y : LocalRule) (a : Answer) : Type 0 whe
 
 -- within these limits; the questions that have one answer only are answered by it
 abbrev pub IsRightTo : Limits → Asked → Answer → Type 0
-IsRightTo l (membership x t) a = IsMemberCertificate x t a
-IsRightTo l (box x g) a = IsRightBox l x g a
-IsRightTo l (equality x y) a = IsRightEqual l x y a
-IsRightTo l (listing x) a = IsListCertificate x a
-IsRightTo l (density x strip ws) a = IsRightDensity x strip ws a
-IsRightTo l (discharge x radius margin vs ws) a = IsRightDischarge x radius margin vs ws l.pivots a
+IsRightTo l (asked.membership x t) a = IsMemberCertificate x t a
+IsRightTo l (asked.box x g) a = IsRightBox l x g a
+IsRightTo l (asked.equality x y) a = IsRightEqual l x y a
+IsRightTo l (asked.listing x) a = IsListCertificate x a
+IsRightTo l (asked.density x strip ws) a = IsRightDensity x strip ws a
+IsRightTo l (asked.discharge x radius margin vs ws) a = IsRightDischarge x radius margin vs ws l.pivots a
 
--- no definite answer: a stated limit was met
+-- no definite answer: the first line says that a stated limit was met
 abbrev pub is_unknown : Answer → Bool
-is_unknown answer.Inside = false
-is_unknown (answer.Outside place) = false
-is_unknown (answer.Yes radius steps) = false
-is_unknown (answer.YesBoth left right left_steps right_steps) = false
-is_unknown (answer.No s periods shear symbols) = false
-is_unknown (answer.Unknown r) = true
-is_unknown (answer.List patterns) = false
-is_unknown (answer.Density numerator denominator cycle potentials) = false
-is_unknown (answer.Empty ranks) = false
-is_unknown (answer.Bound numerator denominator common amounts duals) = false
+is_unknown a = starts_with nat_eq (verdict_text a) (codes "UNKNOWN ")

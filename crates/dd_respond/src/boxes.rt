@@ -6,7 +6,7 @@ ghost use Rattle.dd_certificate.specs.Bounds.{IsWritable, IsWritableNumber};
 ghost use Rattle.dd_engines.specs.Rosters.{roster_seen};
 ghost use Rattle.dd_engines.specs.Rounds.{Kept, FirstAsked};
 ghost use Rattle.dd_values.specs.Ranges.{AreLimits};
-ghost use Rattle.dd_question.specs.Sound.{IsAskable};
+ghost use Rattle.dd_question.specs.Boxes.{IsAskable};
 ghost use Rattle.dd_respond.specs.Writable.{IsWritableDecision, IsWritableEquality};
 ghost use Rattle.dd_respond.specs.Right.{side_of, written_no, written_decision, written_equality, IsRightBox, IsRightEqual};
 

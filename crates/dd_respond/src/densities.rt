@@ -1,7 +1,7 @@
 //! Answers to questions about the least density of a strip.
 ghost use Rattle.std.specs.Prelude.{◌≡◌, IfOk};
 ghost use Rattle.dd_certificate.specs.Bounds.{IsWritable};
-ghost use Rattle.dd_question.specs.Sound.{IsNarrow};
+ghost use Rattle.dd_question.specs.Densities.{IsNarrow};
 ghost use Rattle.dd_respond.specs.Bounds.{written_density, IsRightDensity};
 
 use dd_certificate::Answer;

@@ -2,7 +2,7 @@
 ghost use Rattle.std.specs.Prelude.{◌≡◌, IfOk};
 ghost use Rattle.dd_certificate.specs.Bounds.{IsWritable};
 ghost use Rattle.dd_discharge.specs.Printed.{IsSmallBound};
-ghost use Rattle.dd_question.specs.Formed.{IsDischargeable};
+ghost use Rattle.dd_question.specs.Discharges.{IsDischargeable};
 ghost use Rattle.dd_respond.specs.Bounds.{written_bound, IsReasonOf, IsRightDischarge};
 
 use dd_certificate::{Answer, Reason};
@@ -26,6 +26,7 @@ fn written_bound(bound: Bound) -> Answer
 }
 
 /// Why there is no bound, unless memory is wanting.
+#[tactic(auto, using(crate::specs::Bounds::for_large, crate::specs::Bounds::for_overflow, crate::specs::Bounds::for_pivots))]
 fn reason_of(fault: DischargeFault) -> Result<Reason, AllocError>
     ensures reason { IfOk result (IsReasonOf fault) }
 {

@@ -1,7 +1,6 @@
 //! What all right answers to a question have in common.
 ghost use Rattle.dd_certificate.specs.declared.answer.Answer.{Answer as AnyAnswer};
-ghost use Rattle.dd_question.specs.Questions.{Asked};
-ghost use Rattle.dd_question.specs.Sound.{IsSoundAsked};
+ghost use Rattle.dd_question.specs.Questions.{Asked, IsSoundAsked};
 ghost use Rattle.dd_respond.specs.Laws.{SayTheSame};
 ghost use Rattle.dd_respond.specs.Right.{IsRightTo};
 ghost use Rattle.dd_values.specs.declared.limits.Limits.{Limits as AnyLimits};

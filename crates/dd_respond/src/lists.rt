@@ -1,7 +1,7 @@
 //! Answers to questions about forbidden patterns.
 ghost use Rattle.std.specs.Prelude.{IfOk};
 ghost use Rattle.dd_certificate.specs.Bounds.{IsWritable};
-ghost use Rattle.dd_question.specs.Sound.{HasFewPatterns};
+ghost use Rattle.dd_question.specs.Lists.{HasFewPatterns};
 ghost use Rattle.dd_evidence.specs.Answers.{IsListCertificate};
 
 use dd_certificate::Answer;
@@ -10,6 +10,7 @@ use dd_formula::Rule;
 use std::alloc::{AllocError, Global};
 
 /// The list of the patterns that a rule forbids.
+#[tactic(auto, using(dd_evidence::specs::Answers::all_forbidden))]
 pub(crate) fn listed(alloc: Global, rule: &Rule) -> Result<Answer, AllocError>
     requires { HasFewPatterns rule.now }
     ensures right { IfOk result (IsListCertificate rule.now) }

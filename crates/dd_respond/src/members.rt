@@ -30,6 +30,7 @@ fn written_cell(alloc: Global, dim: u32, cell: &Cell) -> Result<Items<i64>, Allo
 }
 
 /// Whether a configuration lives in a rule's subshift; otherwise the first cell at which the rule is false.
+#[tactic(auto, using(dd_evidence::specs::Answers::member_inside, dd_evidence::specs::Answers::member_outside))]
 pub(crate) fn member(alloc: Global, rule: &Rule, periodic: &Periodic) -> Result<Answer, AllocError>
     requires { Fits rule.now periodic.now }
     ensures right { IfOk result (IsMemberCertificate rule.now periodic.now) }

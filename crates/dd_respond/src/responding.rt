@@ -1,11 +1,8 @@
 //! Questions answered one by one.
 ghost use Rattle.std.specs.Prelude.{IfOk, OnOk};
-ghost use Rattle.dd_values.specs.Ranges.{AreLimits};
 ghost use Rattle.dd_certificate.specs.Bounds.{IsWritable};
 ghost use Rattle.dd_engines.specs.Rosters.{roster_seen};
 ghost use Rattle.dd_engines.specs.Rounds.{Kept};
-ghost use Rattle.dd_question.specs.Sound.{IsSoundAsked};
-ghost use Rattle.dd_question.specs.Views.{asked_of};
 ghost use Rattle.dd_respond.specs.Asking.{IsBoxQuestion, Engages};
 ghost use Rattle.dd_respond.specs.Right.{IsRightTo};
 
@@ -16,55 +13,44 @@ use crate::lists::listed;
 use crate::members::member;
 use dd_certificate::Answer;
 use dd_engines::{Engine, Roster, kept_is_reflexive};
-use dd_question::Question;
-use dd_values::Limits;
+use dd_question::{CheckedQuestion, Question};
 use std::alloc::{AllocError, Global};
 
-/// The right answer to a question within these limits, with each number and each list within the bounds of an output.
+/// The right answer to a question within its limits, with each number and each list within the bounds of an output.
 ///
 /// A box question is put to the roster as `decide` does. For any other question no engine is asked. The roster is kept.
 pub fn respond<E: Engine>(
     alloc: Global,
-    question: &Question,
-    limits: &Limits,
+    question: &CheckedQuestion,
     roster: &mut Roster<E>,
 ) -> Result<Answer, AllocError>
-    requires limits { AreLimits limits.now }
-    requires sound { IsSoundAsked limits.now (asked_of question.now) }
-    ensures right { IfOk result (IsRightTo limits.now (asked_of question.now)) }
+    ensures right { IfOk result (IsRightTo question.now.limits question.now.question) }
     ensures writable { IfOk result IsWritable }
     ensures kept { Kept (roster_seen E.asked E.given E.sound roster.old) (roster_seen E.asked E.given E.sound roster.new) }
-    ensures asked { OnOk result (Engages (IsBoxQuestion (asked_of question.now)) (roster_seen E.asked E.given E.sound roster.old) (roster_seen E.asked E.given E.sound roster.new)) }
+    ensures asked { OnOk result (Engages (IsBoxQuestion question.now.question) (roster_seen E.asked E.given E.sound roster.old) (roster_seen E.asked E.given E.sound roster.new)) }
 {
     // Law of a roster that is not asked.
     kept_is_reflexive();
-    match question {
+    let limits = question.limits();
+    match question.question() {
         Question::Membership {
             rule,
             configuration,
         } => member(alloc, rule, configuration),
-        Question::Box { premise, goal } => decided(alloc, premise, goal, limits, roster),
+        Question::Box { premise, goal } => decided(alloc, premise, &goal, limits, roster),
         Question::Equality { left, right } => compared(alloc, left, right, limits, roster),
         Question::Listing { rule } => listed(alloc, rule),
         Question::Density {
             rule,
             strip,
             weights,
-        } => least(alloc, rule, *strip, weights),
+        } => least(alloc, rule, strip, weights),
         Question::Discharge {
             rule,
             radius,
             margin,
             vectors,
             weights,
-        } => discharged(
-            alloc,
-            rule,
-            *radius,
-            *margin,
-            vectors,
-            weights,
-            limits.pivots,
-        ),
+        } => discharged(alloc, rule, radius, margin, vectors, weights, limits.pivots),
     }
 }

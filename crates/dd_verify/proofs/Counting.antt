@@ -1,5 +1,5 @@
 -- Every radius up to the largest that is asked for has few clauses.
-use Rattle.std.proofs.Common.{◌≡◌, ℕ, ◌<◌, ◌≤◌, List, arith}
+use Rattle.std.proofs.Common.{ℕ, ◌<◌, ◌≤◌, List, arith}
 use Rattle.std.specs.Prelude.{max}
 use Rattle.dd_lattice.specs.Boxes.{centred, volume}
 use Rattle.dd_formula.specs.LocalRule.{LocalRule, IsRule}
@@ -11,7 +11,7 @@ use Rattle.dd_boxes.specs.lemmas.SizeLaws.{fewer, box_up}
 use Rattle.dd_boxes.specs.lemmas.ReachLaws.{one_least}
 use Rattle.dd_derivation.specs.declared.step.Step.{Step}
 use Rattle.dd_verify.specs.Evidence.{IsYes}
-use Rattle.dd_question.specs.Sound.{IsAskable}
+use Rattle.dd_question.specs.Boxes.{IsAskable}
 
 pub box_few : (l : Limits) (x : LocalRule) (g : GoalOf) (least n : ℕ) → IsRule x → IsAskable l x g → IsLeastRadius g least → n ≤ max l.radius least →
     question_clauses x g (volume (centred x.dimension n)) ≤ most_clauses

@@ -11,4 +11,4 @@ pub mod Listing
 pub mod SmallNumbers
 pub mod WholeSides
 pub mod Weighing
-pub mod Certifying
+pub mod BoxForms

@@ -24,10 +24,9 @@ use Rattle.dd_boxes.specs.Boxes.{origin}
 use Rattle.dd_boxes.specs.lemmas.RuleLaws.{keeps_at, shifted_by_origin}
 use Rattle.dd_certificate.specs.declared.answer.Listed.{Listed}
 use Rattle.dd_certificate.specs.declared.answer.Answer.{Answer}
-use Rattle.dd_certificate.specs.declared.answer.Answer.TheVariants as answer
 use Rattle.dd_evidence.specs.Lists.{listed, IsForbiddenList}
-use Rattle.dd_evidence.specs.Answers.{IsListCertificate}
-use Rattle.dd_verify.specs.Holding.{AreReadAt, TellsBreaking, ListClaim}
+use Rattle.dd_evidence.specs.Answers.{IsListCertificate, all_forbidden}
+use Rattle.dd_verify.specs.Holding.{AreReadAt, TellsBreaking, ListClaim, says_list}
 
 abbrev pub ListedBreak : Type 0
 ListedBreak = (x : LocalRule) (patterns : List Listed) (a : ℕ) (ss : List ℕ) → IsForbiddenList x patterns → a < x.nodes →
@@ -134,13 +133,4 @@ tells_breaking listed_break x patterns is look v a ss below read allowed =
     (λ h. told.1 (record { allowed = allowed; broken = sym same ∙ h }), λ there. same ∙ (told.0 there).broken)
 
 pub list_claims : ListedBreak → (x : LocalRule) (a : Answer) → IsListCertificate x a → ListClaim x a
-list_claims broken x answer.Inside h = h
-list_claims broken x (answer.Outside place) h = h
-list_claims broken x (answer.Yes radius steps) h = h
-list_claims broken x (answer.YesBoth left right left_steps right_steps) h = h
-list_claims broken x (answer.No s periods shear symbols) h = h
-list_claims broken x (answer.Unknown r) h = absurd h
-list_claims broken x (answer.List patterns) h = tells_breaking broken x patterns h
-list_claims broken x (answer.Density numerator denominator cycle potentials) h = h
-list_claims broken x (answer.Empty ranks) h = h
-list_claims broken x (answer.Bound numerator denominator common amounts duals) h = h
+list_claims broken x a (all_forbidden {patterns = patterns} h) = says_list (tells_breaking broken x patterns h)

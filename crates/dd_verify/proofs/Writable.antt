@@ -18,7 +18,7 @@ use Rattle.dd_certificate.specs.declared.answer.Answer.TheVariants as answer
 use Rattle.dd_certificate.specs.Bounds.{IsWritable, IsWritableNumber, HasShear}
 use Rattle.dd_evidence.specs.Cells.{IsOutside}
 use Rattle.dd_evidence.specs.Tiles.{given_periods}
-use Rattle.dd_evidence.specs.Answers.{IsMemberCertificate}
+use Rattle.dd_evidence.specs.Answers.{IsMemberCertificate, member_inside, member_outside}
 use Rattle.dd_verify.specs.Evidence.{IsYes, IsNo}
 use Rattle.dd_values.specs.Ranges.{AreLimits}
 
@@ -27,16 +27,8 @@ use Rattle.dd_values.specs.Ranges.{AreLimits}
 module _ (fit : (x : LocalRule) (t : Tile) (place : List ℤ) → IsRule x → IsPeriodic t → Fits x t → IsOutside x t place → IsWritable (answer.Outside place))
     (x : LocalRule) (t : Tile) (rule : IsRule x) (periodic : IsPeriodic t) (fits : Fits x t) where
   pub member_writable : (a : Answer) → IsMemberCertificate x t a → IsWritable a
-  member_writable answer.Inside h = tt
-  member_writable (answer.Outside place) h = fit x t place rule periodic fits h
-  member_writable (answer.Yes radius steps) h = absurd h
-  member_writable (answer.YesBoth left right left_steps right_steps) h = absurd h
-  member_writable (answer.No s periods shear symbols) h = absurd h
-  member_writable (answer.Unknown r) h = absurd h
-  member_writable (answer.List patterns) h = absurd h
-  member_writable (answer.Density numerator denominator cycle potentials) h = absurd h
-  member_writable (answer.Empty ranks) h = absurd h
-  member_writable (answer.Bound numerator denominator common amounts duals) h = absurd h
+  member_writable a (member_inside h) = tt
+  member_writable a (member_outside {place = place} h) = fit x t place rule periodic fits h
 
 -- ---- radii: the least radius of a goal is small
 

@@ -8,7 +8,7 @@ use Rattle.dd_formula.specs.LocalRule.{LocalRule}
 use Rattle.dd_formula.specs.Living.{Obeys}
 use Rattle.dd_boxes.specs.Fillings.{IsConfiguration}
 use Rattle.dd_counts.specs.Rules.{window}
-use Rattle.dd_transfer.specs.Transfers.{strip_for}
+use Rattle.dd_strip.specs.Strips.{strip_for}
 use Rattle.dd_transfer.specs.Certificates.{IsInLowestTerms, walk_weight, IsDensityCertificate, IsEmptyCertificate}
 use Rattle.dd_strips.specs.Claims.{StripLeast, StripEmpty, spread_of}
 use Rattle.dd_discharge.specs.declared.bound.Bound.{Bound}
@@ -26,18 +26,10 @@ use Rattle.dd_certificate.specs.declared.answer.Answer.TheVariants as answer
 -- that show that there is none
 
 -- a certificate of the least density, or of there being none
-abbrev pub IsStripCertificate : LocalRule → List ℕ → List ℕ → Answer → Type 0
-IsStripCertificate x strip ws answer.Inside = ⊥
-IsStripCertificate x strip ws (answer.Outside place) = ⊥
-IsStripCertificate x strip ws (answer.Yes radius steps) = ⊥
-IsStripCertificate x strip ws (answer.YesBoth left right left_steps right_steps) = ⊥
-IsStripCertificate x strip ws (answer.No s periods shear symbols) = ⊥
-IsStripCertificate x strip ws (answer.Unknown r) = ⊥
-IsStripCertificate x strip ws (answer.List patterns) = ⊥
-IsStripCertificate x strip ws (answer.Density numerator denominator cycle potentials) =
-    IsDensityCertificate x (strip_for x strip) ws numerator denominator cycle potentials
-IsStripCertificate x strip ws (answer.Empty ranks) = IsEmptyCertificate x (strip_for x strip) ranks
-IsStripCertificate x strip ws (answer.Bound numerator denominator common amounts duals) = ⊥
+pub data IsStripCertificate (x : LocalRule) (strip ws : List ℕ) : Answer → Type 0 where
+  strip_least : {p q : ℕ} {cycle : List ℕ} {potentials : List ℤ} → IsDensityCertificate x (strip_for x strip) ws p q cycle potentials →
+      IsStripCertificate x strip ws (answer.Density p q cycle potentials)
+  strip_empty : {ranks : List ℕ} → IsEmptyCertificate x (strip_for x strip) ranks → IsStripCertificate x strip ws (answer.Empty ranks)
 
 -- p / q is the least density of all configurations on the strip; and with m / l the cycle's mean, no strip of whatever length is
 -- lighter than its slices times this, but for the spread of the potentials
@@ -48,40 +40,19 @@ pub record IsLeastOnStrip (x : LocalRule) (strip ws : List ℕ) (p q : ℕ) (cyc
   pub least : StripLeast x (strip_for x strip) ws p q l m (spread_of potentials)
 
 -- what such an answer claims
-abbrev pub StripClaim : LocalRule → List ℕ → List ℕ → Answer → Type 0
-StripClaim x strip ws answer.Inside = ⊥
-StripClaim x strip ws (answer.Outside place) = ⊥
-StripClaim x strip ws (answer.Yes radius steps) = ⊥
-StripClaim x strip ws (answer.YesBoth left right left_steps right_steps) = ⊥
-StripClaim x strip ws (answer.No s periods shear symbols) = ⊥
-StripClaim x strip ws (answer.Unknown r) = Unit {0}
-StripClaim x strip ws (answer.List patterns) = ⊥
-StripClaim x strip ws (answer.Density numerator denominator cycle potentials) = IsLeastOnStrip x strip ws numerator denominator cycle potentials
-StripClaim x strip ws (answer.Empty ranks) = StripEmpty x (strip_for x strip) (greatest ranks + window x)
-StripClaim x strip ws (answer.Bound numerator denominator common amounts duals) = ⊥
+pub data StripClaim (x : LocalRule) (strip ws : List ℕ) : Answer → Type 0 where
+  claims_least : {p q : ℕ} {cycle : List ℕ} {potentials : List ℤ} → IsLeastOnStrip x strip ws p q cycle potentials → StripClaim x strip ws (answer.Density p q cycle potentials)
+  claims_empty : {ranks : List ℕ} → StripEmpty x (strip_for x strip) (greatest ranks + window x) → StripClaim x strip ws (answer.Empty ranks)
 
 -- ---- discharging: amounts that hold the bound, with duals that show that no amounts hold more
 
--- why a discharge may have no bound
-abbrev pub IsDischargeReason : Reason → Type 0
-IsDischargeReason reason.Limits = ⊥
-IsDischargeReason reason.Large = Unit {0}
-IsDischargeReason reason.Overflow = Unit {0}
-IsDischargeReason reason.Pivots = Unit {0}
-
 -- a certificate of the bound, or a reason why there may be none
-abbrev pub IsDischargeCertificate : LocalRule → ℕ → ℕ → List Place → List ℕ → Answer → Type 0
-IsDischargeCertificate x radius margin vs ws answer.Inside = ⊥
-IsDischargeCertificate x radius margin vs ws (answer.Outside place) = ⊥
-IsDischargeCertificate x radius margin vs ws (answer.Yes n steps) = ⊥
-IsDischargeCertificate x radius margin vs ws (answer.YesBoth left right left_steps right_steps) = ⊥
-IsDischargeCertificate x radius margin vs ws (answer.No s periods shear symbols) = ⊥
-IsDischargeCertificate x radius margin vs ws (answer.Unknown r) = IsDischargeReason r
-IsDischargeCertificate x radius margin vs ws (answer.List patterns) = ⊥
-IsDischargeCertificate x radius margin vs ws (answer.Density numerator denominator cycle potentials) = ⊥
-IsDischargeCertificate x radius margin vs ws (answer.Empty ranks) = ⊥
-IsDischargeCertificate x radius margin vs ws (answer.Bound numerator denominator common amounts duals) =
-    IsBoundCertificate x ws radius margin vs (bound_claimed numerator denominator common amounts duals)
+pub data IsDischargeCertificate (x : LocalRule) (radius margin : ℕ) (vs : List Place) (ws : List ℕ) : Answer → Type 0 where
+  best : {p q n : ℕ} {amounts duals : List ℕ} → IsBoundCertificate x ws radius margin vs (bound_claimed p q n amounts duals) →
+      IsDischargeCertificate x radius margin vs ws (answer.Bound p q n amounts duals)
+  too_large : IsDischargeCertificate x radius margin vs ws (answer.Unknown reason.Large)
+  overflow : IsDischargeCertificate x radius margin vs ws (answer.Unknown reason.Overflow)
+  no_pivots : IsDischargeCertificate x radius margin vs ws (answer.Unknown reason.Pivots)
 
 -- What a bound p / q says. Of the program: no amounts that meet its rows hold more. Of the lattice: wherever in Z^d Side(n) lies, for
 -- each n, each admissible filling of the positions within reach of it weighs on it at least p / q for each of its n^d positions, but
@@ -93,15 +64,7 @@ pub record IsBestBound (x : LocalRule) (ws : List ℕ) (radius margin : ℕ) (vs
       → held_over b * n ^ x.dimension ≤ b.common * side_weight x ws look n u + boundary x.dimension n (length sides.program.patterns) vs b.amounts
 
 -- what such an answer claims
-abbrev pub DischargeClaim : LocalRule → ℕ → ℕ → List Place → List ℕ → Answer → Type 0
-DischargeClaim x radius margin vs ws answer.Inside = ⊥
-DischargeClaim x radius margin vs ws (answer.Outside place) = ⊥
-DischargeClaim x radius margin vs ws (answer.Yes n steps) = ⊥
-DischargeClaim x radius margin vs ws (answer.YesBoth left right left_steps right_steps) = ⊥
-DischargeClaim x radius margin vs ws (answer.No s periods shear symbols) = ⊥
-DischargeClaim x radius margin vs ws (answer.Unknown r) = Unit {0}
-DischargeClaim x radius margin vs ws (answer.List patterns) = ⊥
-DischargeClaim x radius margin vs ws (answer.Density numerator denominator cycle potentials) = ⊥
-DischargeClaim x radius margin vs ws (answer.Empty ranks) = ⊥
-DischargeClaim x radius margin vs ws (answer.Bound numerator denominator common amounts duals) =
-    IsBestBound x ws radius margin vs (bound_claimed numerator denominator common amounts duals)
+pub data DischargeClaim (x : LocalRule) (radius margin : ℕ) (vs : List Place) (ws : List ℕ) : Answer → Type 0 where
+  claims_bound : {p q n : ℕ} {amounts duals : List ℕ} → IsBestBound x ws radius margin vs (bound_claimed p q n amounts duals) →
+      DischargeClaim x radius margin vs ws (answer.Bound p q n amounts duals)
+  no_claim : {r : Reason} → DischargeClaim x radius margin vs ws (answer.Unknown r)

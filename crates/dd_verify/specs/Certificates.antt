@@ -1,16 +1,27 @@
--- Which answers to questions are certificates.
+-- Which answers to questions are certificates, and what they claim.
 use Rattle.dd_values.specs.declared.limits.Limits.{Limits}
 use Rattle.dd_certificate.specs.declared.answer.Answer.{Answer}
-use Rattle.dd_question.specs.Questions.{Asked, membership, box, equality, listing, density, discharge}
+use Rattle.dd_question.specs.Questions.{Asked}
+use Rattle.dd_question.specs.Questions as asked
 use Rattle.dd_evidence.specs.Answers.{IsMemberCertificate, IsListCertificate}
 use Rattle.dd_verify.specs.Evidence.{IsBoxCertificate, IsEqualCertificate}
-use Rattle.dd_verify.specs.Bounds.{IsStripCertificate, IsDischargeCertificate}
+use Rattle.dd_verify.specs.Holding.{MemberClaim, BoxClaim, EqualClaim, ListClaim}
+use Rattle.dd_verify.specs.Bounds.{IsStripCertificate, StripClaim, IsDischargeCertificate, DischargeClaim}
 
--- of what is asked, within these limits
+-- a certificate of what is asked, within these limits
 abbrev pub IsCertificateOf : Limits → Asked → Answer → Type 0
-IsCertificateOf l (membership x t) a = IsMemberCertificate x t a
-IsCertificateOf l (box x g) a = IsBoxCertificate l x g a
-IsCertificateOf l (equality x y) a = IsEqualCertificate l x y a
-IsCertificateOf l (listing x) a = IsListCertificate x a
-IsCertificateOf l (density x strip ws) a = IsStripCertificate x strip ws a
-IsCertificateOf l (discharge x radius margin vs ws) a = IsDischargeCertificate x radius margin vs ws a
+IsCertificateOf l (asked.membership x t) a = IsMemberCertificate x t a
+IsCertificateOf l (asked.box x g) a = IsBoxCertificate l x g a
+IsCertificateOf l (asked.equality x y) a = IsEqualCertificate l x y a
+IsCertificateOf l (asked.listing x) a = IsListCertificate x a
+IsCertificateOf l (asked.density x strip ws) a = IsStripCertificate x strip ws a
+IsCertificateOf l (asked.discharge x radius margin vs ws) a = IsDischargeCertificate x radius margin vs ws a
+
+-- what an answer to it claims
+abbrev pub ClaimOf : Asked → Answer → Type 0
+ClaimOf (asked.membership x t) a = MemberClaim x t a
+ClaimOf (asked.box x g) a = BoxClaim x g a
+ClaimOf (asked.equality x y) a = EqualClaim x y a
+ClaimOf (asked.listing x) a = ListClaim x a
+ClaimOf (asked.density x strip ws) a = StripClaim x strip ws a
+ClaimOf (asked.discharge x radius margin vs ws) a = DischargeClaim x radius margin vs ws a

@@ -10,7 +10,6 @@ use Rattle.dd_boxes.specs.Boxes.{IsLeastRadius}
 use Rattle.dd_boxes.specs.Witnesses.{IsWitness}
 use Rattle.dd_problem.specs.Problems.{box_problem}
 use Rattle.dd_evidence.specs.Tiles.{given_periods, given_tile}
-use Rattle.dd_certificate.specs.declared.answer.Side.{Side}
 use Rattle.dd_certificate.specs.declared.answer.Side.TheVariants as side
 use Rattle.dd_certificate.specs.declared.answer.Reason.TheVariants as reason
 use Rattle.dd_certificate.specs.declared.answer.Answer.{Answer}
@@ -32,34 +31,16 @@ pub record IsNo (l : Limits) (x : LocalRule) (g : GoalOf) (along : List ℕ) (sh
   pub periods : AreWithin x.dimension l.period (given_periods along shear)
   pub witness : IsWitness x g (given_tile x along shear symbols)
 
-abbrev pub IsBoxCertificate : Limits → LocalRule → GoalOf → Answer → Type 0
-IsBoxCertificate l x g answer.Inside = ⊥
-IsBoxCertificate l x g (answer.Outside place) = ⊥
-IsBoxCertificate l x g (answer.Yes radius steps) = IsYes l x g radius steps
-IsBoxCertificate l x g (answer.YesBoth left right left_steps right_steps) = ⊥
-IsBoxCertificate l x g (answer.No s periods shear symbols) = (s ≡ side.Whole) × IsNo l x g periods shear symbols
-IsBoxCertificate l x g (answer.Unknown r) = r ≡ reason.Limits
-IsBoxCertificate l x g (answer.List patterns) = ⊥
-IsBoxCertificate l x g (answer.Density numerator denominator cycle potentials) = ⊥
-IsBoxCertificate l x g (answer.Empty ranks) = ⊥
-IsBoxCertificate l x g (answer.Bound numerator denominator common amounts duals) = ⊥
+-- a YES with its steps, a NO with its configuration, or that the limits were met
+pub data IsBoxCertificate (l : Limits) (x : LocalRule) (g : GoalOf) : Answer → Type 0 where
+  box_yes : {n : ℕ} {steps : List Step} → IsYes l x g n steps → IsBoxCertificate l x g (answer.Yes n steps)
+  box_no : {along : List ℕ} {shear : ℕ} {symbols : List ℕ} → IsNo l x g along shear symbols → IsBoxCertificate l x g (answer.No side.Whole along shear symbols)
+  box_unknown : IsBoxCertificate l x g (answer.Unknown reason.Limits)
 
 -- ---- equality: the left question asks for a configuration of x that breaks y, the right one for one of y that breaks x
 
-abbrev pub IsNoOfSide : Limits → LocalRule → LocalRule → Side → List ℕ → ℕ → List ℕ → Type 0
-IsNoOfSide l x y side.Whole periods shear symbols = ⊥
-IsNoOfSide l x y side.Left periods shear symbols = IsNo l x (breaks y) periods shear symbols
-IsNoOfSide l x y side.Right periods shear symbols = IsNo l y (breaks x) periods shear symbols
-
-abbrev pub IsEqualCertificate : Limits → LocalRule → LocalRule → Answer → Type 0
-IsEqualCertificate l x y answer.Inside = ⊥
-IsEqualCertificate l x y (answer.Outside place) = ⊥
-IsEqualCertificate l x y (answer.Yes radius steps) = ⊥
-IsEqualCertificate l x y (answer.YesBoth left right left_steps right_steps) =
-    IsYes l x (breaks y) left left_steps × IsYes l y (breaks x) right right_steps
-IsEqualCertificate l x y (answer.No s periods shear symbols) = IsNoOfSide l x y s periods shear symbols
-IsEqualCertificate l x y (answer.Unknown r) = r ≡ reason.Limits
-IsEqualCertificate l x y (answer.List patterns) = ⊥
-IsEqualCertificate l x y (answer.Density numerator denominator cycle potentials) = ⊥
-IsEqualCertificate l x y (answer.Empty ranks) = ⊥
-IsEqualCertificate l x y (answer.Bound numerator denominator common amounts duals) = ⊥
+pub data IsEqualCertificate (l : Limits) (x y : LocalRule) : Answer → Type 0 where
+  equal_yes : {n m : ℕ} {steps others : List Step} → IsYes l x (breaks y) n steps → IsYes l y (breaks x) m others → IsEqualCertificate l x y (answer.YesBoth n m steps others)
+  left_no : {along : List ℕ} {shear : ℕ} {symbols : List ℕ} → IsNo l x (breaks y) along shear symbols → IsEqualCertificate l x y (answer.No side.Left along shear symbols)
+  right_no : {along : List ℕ} {shear : ℕ} {symbols : List ℕ} → IsNo l y (breaks x) along shear symbols → IsEqualCertificate l x y (answer.No side.Right along shear symbols)
+  equal_unknown : IsEqualCertificate l x y (answer.Unknown reason.Limits)

@@ -11,7 +11,8 @@ use Rattle.dd_forbidden.specs.Breaking.{are_allowed}
 use Rattle.dd_boxes.specs.Goals.{GoalOf, breaks}
 use Rattle.dd_boxes.specs.Boxes.{HoldsNowhere}
 use Rattle.dd_boxes.specs.Witnesses.{IsWitness}
-use Rattle.dd_certificate.specs.declared.answer.Side.{Side}
+use Rattle.dd_derivation.specs.declared.step.Step.{Step}
+use Rattle.dd_certificate.specs.declared.answer.Reason.{Reason}
 use Rattle.dd_certificate.specs.declared.answer.Side.TheVariants as side
 use Rattle.dd_certificate.specs.declared.answer.Listed.{Listed}
 use Rattle.dd_certificate.specs.declared.answer.Answer.{Answer}
@@ -26,51 +27,25 @@ use Rattle.dd_evidence.specs.Lists.{listed}
 abbrev pub IsFalseAt : LocalRule → Tile → List ℤ → Type 0
 IsFalseAt x t place = (c : Cell) × (place ≡ written_cell x.dimension c) × (is_true x c (tile_look t) ≡ false)
 
-abbrev pub MemberClaim : LocalRule → Tile → Answer → Type 0
-MemberClaim x t answer.Inside = Lives x t
-MemberClaim x t (answer.Outside place) = IsFalseAt x t place
-MemberClaim x t (answer.Yes radius steps) = ⊥
-MemberClaim x t (answer.YesBoth left right left_steps right_steps) = ⊥
-MemberClaim x t (answer.No s periods shear symbols) = ⊥
-MemberClaim x t (answer.Unknown r) = Unit {0}
-MemberClaim x t (answer.List patterns) = ⊥
-MemberClaim x t (answer.Density numerator denominator cycle potentials) = ⊥
-MemberClaim x t (answer.Empty ranks) = ⊥
-MemberClaim x t (answer.Bound numerator denominator common amounts duals) = ⊥
+pub data MemberClaim (x : LocalRule) (t : Tile) : Answer → Type 0 where
+  says_inside : Lives x t → MemberClaim x t answer.Inside
+  says_outside : {place : List ℤ} → IsFalseAt x t place → MemberClaim x t (answer.Outside place)
 
 -- ---- box questions: YES, that the goal holds nowhere; NO, that the configuration lives in the premise's subshift and has the
 -- goal at the origin; UNKNOWN, nothing
 
-abbrev pub BoxClaim : LocalRule → GoalOf → Answer → Type 0
-BoxClaim x g answer.Inside = ⊥
-BoxClaim x g (answer.Outside place) = ⊥
-BoxClaim x g (answer.Yes radius steps) = HoldsNowhere x g radius
-BoxClaim x g (answer.YesBoth left right left_steps right_steps) = ⊥
-BoxClaim x g (answer.No s periods shear symbols) = IsWitness x g (given_tile x periods shear symbols)
-BoxClaim x g (answer.Unknown r) = Unit {0}
-BoxClaim x g (answer.List patterns) = ⊥
-BoxClaim x g (answer.Density numerator denominator cycle potentials) = ⊥
-BoxClaim x g (answer.Empty ranks) = ⊥
-BoxClaim x g (answer.Bound numerator denominator common amounts duals) = ⊥
+pub data BoxClaim (x : LocalRule) (g : GoalOf) : Answer → Type 0 where
+  says_nowhere : {n : ℕ} {steps : List Step} → HoldsNowhere x g n → BoxClaim x g (answer.Yes n steps)
+  says_witness : {along : List ℕ} {shear : ℕ} {symbols : List ℕ} → IsWitness x g (given_tile x along shear symbols) → BoxClaim x g (answer.No side.Whole along shear symbols)
+  says_nothing : {r : Reason} → BoxClaim x g (answer.Unknown r)
 
 -- ---- equality: no configuration of x breaks y, and none of y breaks x; or one of the side's rule breaks the other
 
-abbrev pub SideClaim : LocalRule → LocalRule → Side → List ℕ → ℕ → List ℕ → Type 0
-SideClaim x y side.Whole periods shear symbols = ⊥
-SideClaim x y side.Left periods shear symbols = IsWitness x (breaks y) (given_tile x periods shear symbols)
-SideClaim x y side.Right periods shear symbols = IsWitness y (breaks x) (given_tile y periods shear symbols)
-
-abbrev pub EqualClaim : LocalRule → LocalRule → Answer → Type 0
-EqualClaim x y answer.Inside = ⊥
-EqualClaim x y (answer.Outside place) = ⊥
-EqualClaim x y (answer.Yes radius steps) = ⊥
-EqualClaim x y (answer.YesBoth left right left_steps right_steps) = HoldsNowhere x (breaks y) left × HoldsNowhere y (breaks x) right
-EqualClaim x y (answer.No s periods shear symbols) = SideClaim x y s periods shear symbols
-EqualClaim x y (answer.Unknown r) = Unit {0}
-EqualClaim x y (answer.List patterns) = ⊥
-EqualClaim x y (answer.Density numerator denominator cycle potentials) = ⊥
-EqualClaim x y (answer.Empty ranks) = ⊥
-EqualClaim x y (answer.Bound numerator denominator common amounts duals) = ⊥
+pub data EqualClaim (x y : LocalRule) : Answer → Type 0 where
+  says_equal : {n m : ℕ} {steps others : List Step} → HoldsNowhere x (breaks y) n → HoldsNowhere y (breaks x) m → EqualClaim x y (answer.YesBoth n m steps others)
+  says_left : {along : List ℕ} {shear : ℕ} {symbols : List ℕ} → IsWitness x (breaks y) (given_tile x along shear symbols) → EqualClaim x y (answer.No side.Left along shear symbols)
+  says_right : {along : List ℕ} {shear : ℕ} {symbols : List ℕ} → IsWitness y (breaks x) (given_tile y along shear symbols) → EqualClaim x y (answer.No side.Right along shear symbols)
+  says_none : {r : Reason} → EqualClaim x y (answer.Unknown r)
 
 -- ---- forbidden patterns
 
@@ -83,14 +58,5 @@ abbrev pub TellsBreaking : LocalRule → List Listed → Type 0
 TellsBreaking x patterns = (look : Look) (v : Place) (a : ℕ) (ss : List ℕ) → a < x.nodes → AreReadAt x look v a ss →
     are_allowed x (cells_at x a) ss ≡ true → (is_true x (cell v a) look ≡ false) ↔ Contains patterns (listed a ss)
 
-abbrev pub ListClaim : LocalRule → Answer → Type 0
-ListClaim x answer.Inside = ⊥
-ListClaim x (answer.Outside place) = ⊥
-ListClaim x (answer.Yes radius steps) = ⊥
-ListClaim x (answer.YesBoth left right left_steps right_steps) = ⊥
-ListClaim x (answer.No s periods shear symbols) = ⊥
-ListClaim x (answer.Unknown r) = Unit {0}
-ListClaim x (answer.List patterns) = TellsBreaking x patterns
-ListClaim x (answer.Density numerator denominator cycle potentials) = ⊥
-ListClaim x (answer.Empty ranks) = ⊥
-ListClaim x (answer.Bound numerator denominator common amounts duals) = ⊥
+pub data ListClaim (x : LocalRule) : Answer → Type 0 where
+  says_list : {patterns : List Listed} → TellsBreaking x patterns → ListClaim x (answer.List patterns)

@@ -1,7 +1,5 @@
--- which answers to questions are certificates
+-- which answers to questions are certificates, and what they claim
 pub mod Certificates
--- what the answers to questions claim
-pub mod Claims
 -- which answers to a box question are certificates
 pub mod Evidence
 -- what the answers to a question claim, kind by kind

@@ -1,9 +1,6 @@
 //! Answers to questions.
 ghost use Rattle.std.specs.Prelude.{◌↔◌, IsTrue, IfOk};
-ghost use Rattle.dd_values.specs.Ranges.{AreLimits};
 ghost use Rattle.dd_certificate.specs.Bounds.{IsWritable};
-ghost use Rattle.dd_question.specs.Sound.{IsSoundAsked};
-ghost use Rattle.dd_question.specs.Views.{asked_of};
 ghost use Rattle.dd_verify.specs.Certificates.{IsCertificateOf};
 
 use crate::boxes::{check_box, check_equal};
@@ -12,40 +9,37 @@ use crate::discharges::check_discharge;
 use crate::lists::check_list;
 use crate::places::check_member;
 use dd_certificate::Answer;
-use dd_question::Question;
-use dd_values::Limits;
+use dd_question::{CheckedQuestion, Question};
 use std::alloc::{AllocError, Global};
 
-/// Whether an answer is a certificate of what is asked within these limits, one that an output can hold.
+/// Whether an answer is a certificate of what is asked within the question's limits, one that an output can hold.
 pub fn check_question(
     alloc: Global,
-    question: &Question,
-    limits: &Limits,
+    question: &CheckedQuestion,
     answer: &Answer,
 ) -> Result<bool, AllocError>
-    requires limits { AreLimits limits.now }
-    requires sound { IsSoundAsked limits.now (asked_of question.now) }
-    ensures { IfOk result (λ accepted. IsTrue accepted ↔ (IsWritable answer.now × IsCertificateOf limits.now (asked_of question.now) answer.now)) }
+    ensures { IfOk result (λ accepted. IsTrue accepted ↔ (IsWritable answer.now × IsCertificateOf question.now.limits question.now.question answer.now)) }
 {
-    match question {
+    let limits = question.limits();
+    match question.question() {
         Question::Membership {
             rule,
             configuration,
         } => Ok(check_member(rule, configuration, answer)),
-        Question::Box { premise, goal } => check_box(alloc, premise, goal, limits, answer),
+        Question::Box { premise, goal } => check_box(alloc, premise, &goal, limits, answer),
         Question::Equality { left, right } => check_equal(alloc, left, right, limits, answer),
         Question::Listing { rule } => check_list(alloc, rule, answer),
         Question::Density {
             rule,
             strip,
             weights,
-        } => check_strip(alloc, rule, *strip, weights, answer),
+        } => check_strip(alloc, rule, strip, weights, answer),
         Question::Discharge {
             rule,
             radius,
             margin,
             vectors,
             weights,
-        } => check_discharge(alloc, rule, *radius, *margin, vectors, weights, answer),
+        } => check_discharge(alloc, rule, radius, margin, vectors, weights, answer),
     }
 }

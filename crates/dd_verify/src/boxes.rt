@@ -4,8 +4,8 @@ ghost use Rattle.dd_boxes.specs.Goals.{breaks};
 ghost use Rattle.dd_boxes.specs.Views.{goal_of};
 ghost use Rattle.dd_certificate.specs.declared.answer.Answer.TheVariants as answer;
 ghost use Rattle.dd_certificate.specs.Bounds.{IsWritable};
-ghost use Rattle.dd_verify.specs.Evidence.{IsNoOfSide, IsBoxCertificate, IsEqualCertificate};
-ghost use Rattle.dd_question.specs.Sound.{IsAskable};
+ghost use Rattle.dd_verify.specs.Evidence.{IsBoxCertificate, IsEqualCertificate};
+ghost use Rattle.dd_question.specs.Boxes.{IsAskable};
 ghost use Rattle.dd_values.specs.Ranges.{AreLimits};
 
 use crate::refutations::check_yes;
@@ -30,6 +30,7 @@ fn is_whole(side: Side) -> bool
 }
 
 /// Whether an answer is a certificate of a box question, one that an output can hold.
+#[tactic(auto, using(crate::specs::Evidence::box_unknown))]
 pub(crate) fn check_box(
     alloc: Global,
     premise: &Rule,
@@ -85,8 +86,12 @@ fn check_side(
     requires limits { AreLimits limits.now }
     requires left { IsAskable limits.now left.now (breaks right.now) }
     requires right { IsAskable limits.now right.now (breaks left.now) }
-    ensures { IfOk result (λ accepted. IsTrue accepted ↔ IsNoOfSide limits.now left.now right.now side periods.now shear symbols.now) }
+    ensures { IfOk result (λ accepted. IsTrue accepted ↔
+        (IsWritable (answer.No side periods.now shear symbols.now) × IsEqualCertificate limits.now left.now right.now (answer.No side periods.now shear symbols.now))) }
 {
+    // Read for what their types keep.
+    let _left = left.symbols();
+    let _right = right.symbols();
     match side {
         Side::Whole => Ok(false),
         Side::Left => {
@@ -101,6 +106,7 @@ fn check_side(
 }
 
 /// Whether both radii are such as were asked for, and the steps refute the clauses of their boxes.
+#[tactic(auto, using(crate::specs::Evidence::equal_yes, crate::proofs::BoxForms::both_fit, crate::proofs::BoxForms::both_of))]
 fn check_both(
     alloc: Global,
     left: &Rule,
@@ -129,6 +135,7 @@ fn check_both(
 }
 
 /// Whether an answer is a certificate of whether two rules allow the same configurations, one that an output can hold.
+#[tactic(auto, using(crate::specs::Evidence::equal_unknown))]
 pub(crate) fn check_equal(
     alloc: Global,
     left: &Rule,

@@ -1,10 +1,10 @@
 //! Answers to questions about the least density of a strip.
 ghost use Rattle.std.specs.Prelude.{◌↔◌, IsTrue, IfOk};
-ghost use Rattle.dd_transfer.specs.Transfers.{strip_for};
+ghost use Rattle.dd_strip.specs.Strips.{strip_for};
 ghost use Rattle.dd_transfer.specs.Certificates.{IsDensityCertificate, IsEmptyCertificate};
 ghost use Rattle.dd_certificate.specs.declared.answer.Answer.TheVariants as answer;
 ghost use Rattle.dd_certificate.specs.Bounds.{IsWritable};
-ghost use Rattle.dd_question.specs.Sound.{IsNarrow};
+ghost use Rattle.dd_question.specs.Densities.{IsNarrow};
 ghost use Rattle.dd_verify.specs.Bounds.{IsStripCertificate};
 
 use crate::numbers::{has_writable_length, is_denominator, is_list, is_number, is_signed_list};
@@ -81,6 +81,7 @@ fn is_empty(
 }
 
 /// Whether an answer is a certificate of the least density of a strip, one that an output can hold.
+#[tactic(auto, using(crate::specs::Bounds::strip_least, crate::specs::Bounds::strip_empty, crate::proofs::Weighing::least_of))]
 pub(crate) fn check_strip(
     alloc: Global,
     rule: &Rule,

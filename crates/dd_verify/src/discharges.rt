@@ -1,11 +1,11 @@
 //! Answers to questions about discharging.
-ghost use Rattle.std.specs.Prelude.{◌↔◌, IsTrue, IfOk};
+ghost use Rattle.std.specs.Prelude.{◌≡◌, ◌↔◌, ◌⊎◌, IsTrue, IfOk};
 ghost use Rattle.dd_certificate.specs.declared.answer.Answer.TheVariants as answer;
 ghost use Rattle.dd_certificate.specs.Bounds.{IsWritable};
 ghost use Rattle.dd_discharge.specs.Amounts.{bound_claimed};
 ghost use Rattle.dd_discharge.specs.Certificates.{IsBoundCertificate};
-ghost use Rattle.dd_question.specs.Formed.{IsDischargeable};
-ghost use Rattle.dd_verify.specs.Bounds.{IsDischargeReason, IsDischargeCertificate};
+ghost use Rattle.dd_question.specs.Discharges.{IsDischargeable};
+ghost use Rattle.dd_verify.specs.Bounds.{IsDischargeCertificate};
 
 use crate::numbers::{are_denominators, are_numbers, is_list, is_number};
 use dd_certificate::{Answer, Reason};
@@ -53,12 +53,13 @@ fn is_bound(
 }
 
 fn is_of_discharge(reason: Reason) -> bool
-    ensures { IsTrue result ↔ IsDischargeReason reason }
+    ensures { IsTrue result ↔ ((reason ≡ Reason.Large) ⊎ ((reason ≡ Reason.Overflow) ⊎ (reason ≡ Reason.Pivots))) }
 {
     matches!(reason, Reason::Large | Reason::Overflow | Reason::Pivots)
 }
 
 /// Whether an answer is a certificate of what discharging gives, one that an output can hold.
+#[tactic(auto, using(crate::specs::Bounds::best, crate::specs::Bounds::overflow, crate::specs::Bounds::too_large, crate::specs::Bounds::no_pivots, crate::proofs::Weighing::bound_of))]
 pub(crate) fn check_discharge(
     alloc: Global,
     rule: &Rule,

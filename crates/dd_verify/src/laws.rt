@@ -4,17 +4,13 @@ ghost use Rattle.dd_boxes.specs.Views.{goal_of};
 ghost use Rattle.dd_certificate.specs.declared.answer.Answer.{Answer as AnyAnswer};
 ghost use Rattle.dd_formula.specs.LocalRule.{LocalRule};
 ghost use Rattle.dd_problem.specs.pushing.Told.{IsToldGoal};
-ghost use Rattle.dd_question.specs.Sound.{IsSoundAsked};
-ghost use Rattle.dd_question.specs.Views.{asked_of};
-ghost use Rattle.dd_values.specs.declared.limits.Limits.{Limits as AnyLimits};
-ghost use Rattle.dd_verify.specs.Certificates.{IsCertificateOf};
-ghost use Rattle.dd_verify.specs.Claims.{ClaimOf};
+ghost use Rattle.dd_verify.specs.Certificates.{IsCertificateOf, ClaimOf};
 
 use dd_boxes::Goal;
 use dd_compile::says_its_value;
 use dd_discharge::best_bound;
 use dd_evidence::listed_break;
-use dd_question::Question;
+use dd_question::{CheckedQuestion, Question};
 use dd_sides::bound_holds;
 use dd_strips::{strip_empty, strip_least};
 
@@ -35,20 +31,25 @@ fn tell_goal(goal: &Goal)
     }
 }
 
-/// Only looks at the question's automata; its contract says that what a certificate of the question claims is true, where the
-/// question is sound: of a bound also that boxes of every side length, wherever they lie, weigh at least what it says, up to what
-/// may come in from outside them.
-pub fn claims_hold(question: &Question)
-    ensures { (limits : AnyLimits) (answer : AnyAnswer) → IsSoundAsked limits (asked_of question.now) → IsCertificateOf limits (asked_of question.now) answer →
-        ClaimOf (asked_of question.now) answer }
+/// Only looks at what is asked; its contract says that what a certificate of the question claims is true:
+/// of a bound also that boxes of every side length, wherever they lie, weigh at least what it says, up to what may come in
+/// from outside them.
+pub fn claims_hold(question: &CheckedQuestion)
+    ensures { (answer : AnyAnswer) → IsCertificateOf question.now.limits question.now.question answer → ClaimOf question.now.question answer }
 {
-    listed_break();
-    strip_least();
-    strip_empty();
-    best_bound();
-    bound_holds();
-    match question {
-        Question::Box { goal, .. } => tell_goal(goal),
-        _ => {}
+    // Laws of what is asked.
+    match question.question() {
+        Question::Membership { .. } => {}
+        Question::Box { goal, .. } => tell_goal(&goal),
+        Question::Equality { .. } => {}
+        Question::Listing { .. } => listed_break(),
+        Question::Density { .. } => {
+            strip_least();
+            strip_empty();
+        }
+        Question::Discharge { .. } => {
+            best_bound();
+            bound_holds();
+        }
     }
 }

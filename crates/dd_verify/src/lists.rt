@@ -1,7 +1,7 @@
 //! Answers to questions about forbidden patterns.
 ghost use Rattle.std.specs.Prelude.{◌≡◌, ◌↔◌, IsTrue, IfOk};
 ghost use Rattle.dd_certificate.specs.Bounds.{IsWritable};
-ghost use Rattle.dd_question.specs.Sound.{HasFewPatterns};
+ghost use Rattle.dd_question.specs.Lists.{HasFewPatterns};
 ghost use Rattle.dd_evidence.specs.Lists.{IsForbiddenList};
 ghost use Rattle.dd_evidence.specs.Answers.{IsListCertificate};
 
@@ -41,6 +41,7 @@ fn is_list(alloc: Global, rule: &Rule, patterns: &[Listed]) -> Result<bool, Allo
 }
 
 /// Whether an answer is the list of the patterns that a rule forbids, one that an output can hold.
+#[tactic(auto, using(dd_evidence::specs::Answers::all_forbidden))]
 pub(crate) fn check_list(alloc: Global, rule: &Rule, answer: &Answer) -> Result<bool, AllocError>
     requires { HasFewPatterns rule.now }
     ensures { IfOk result (λ accepted. IsTrue accepted ↔ (IsWritable answer.now × IsListCertificate rule.now answer.now)) }

@@ -60,6 +60,7 @@ fn is_outside(rule: &Rule, periodic: &Periodic, place: &[i64]) -> bool
 }
 
 /// Whether an answer is a certificate of whether a configuration lives in a rule's subshift.
+#[tactic(auto, using(dd_evidence::specs::Answers::member_outside))]
 fn is_member_certificate(rule: &Rule, periodic: &Periodic, answer: &Answer) -> bool
     requires { Fits rule.now periodic.now }
     ensures { IsTrue result ↔ IsMemberCertificate rule.now periodic.now answer.now }

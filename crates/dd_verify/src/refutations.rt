@@ -9,7 +9,7 @@ ghost use Rattle.dd_derivation.specs.Derivations.{IsRefuting};
 ghost use Rattle.dd_problem.specs.Problems.{box_problem};
 ghost use Rattle.dd_certificate.specs.Bounds.{IsWritableRefutation};
 ghost use Rattle.dd_verify.specs.Evidence.{IsYes};
-ghost use Rattle.dd_question.specs.Sound.{IsAskable};
+ghost use Rattle.dd_question.specs.Boxes.{IsAskable};
 
 use dd_boxes::{Goal, least_radius};
 use dd_certificate::refutations_fit;

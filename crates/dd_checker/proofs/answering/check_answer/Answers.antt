@@ -1,6 +1,4 @@
-use Rattle.std.proofs.Common.{◌≡◌, ◌-◌, Some, length, ap, sym, subst, arith}
-use Rattle.dd_question.specs.Sound.{IsSoundAsked}
-use Rattle.dd_question.specs.Views.{asked_of}
+use Rattle.std.proofs.Common.{◌≡◌, ◌-◌, Some, length, ap, arith}
 use Rattle.dd_script.specs.Questions.{query_at}
 use Rattle.dd_checker.proofs.Verdicts.{certificate_for, index_within, item_stands, item_is, claim_at, accepted, accepts, rejects}
 use Rattle.dd_checker.proofs.answering.check_answer.Goals as goal
@@ -20,13 +18,6 @@ question-question-requires c =
     item_stands c.queries-queries.result.now c.args.script.now.queries (c.args.query - 1) c.index-queries-number.result c.queries-queries.ensures.value
     c.index-queries-number.is (index_within c.args.script.now c.args.query c.requires)
 
-pub check_question-requires-clause-limits : goal.check_question-requires-clause-limits
-check_question-requires-clause-limits c = c.limits-limits.ensures.within
-
-pub check_question-requires-clause-sound : goal.check_question-requires-clause-sound
-check_question-requires-clause-sound c =
-    subst (λ l. IsSoundAsked l (asked_of c.question-question.result)) (sym c.limits-limits.ensures.value) c.question-question.ensures.sound.sound
-
 pub returns-then-accepted : goal.returns-then-accepted
 returns-then-accepted c =
     let s = c.args.script.now in
@@ -35,8 +26,9 @@ returns-then-accepted c =
     let q = c.index-queries-number.result in
     let is : query_at s n ≡ Some q =
     item_is c.queries-queries.result.now s.queries (n - 1) q c.queries-queries.ensures.value c.index-queries-number.is (index_within s n c.requires) in
-    let told = certificate_for s q (asked_of c.question-question.result) a c.limits-limits.result.now c.question-question.ensures.is c.limits-limits.ensures.value
-    c.in_ok-accepted.accepted c.in_ok-accepted.ensures in
+    let k = c.question-question.result in
+    let told = certificate_for s q k.question a k.limits c.question-question.ensures.asks.is c.question-question.ensures.limits c.in_ok-accepted.accepted
+    c.in_ok-accepted.ensures in
     record {
       exact = accepts s n q is a c.in_ok-accepted.accepted told c.if-accepted.true;
       claim = λ _. claim_at s n q is a (c.query_certified.ensures a) (accepted s n q is a c.in_ok-accepted.accepted told c.if-accepted.true);
@@ -50,8 +42,9 @@ returns-else-accepted c =
     let q = c.index-queries-number.result in
     let is : query_at s n ≡ Some q =
     item_is c.queries-queries.result.now s.queries (n - 1) q c.queries-queries.ensures.value c.index-queries-number.is (index_within s n c.requires) in
-    let told = certificate_for s q (asked_of c.question-question.result) a c.limits-limits.result.now c.question-question.ensures.is c.limits-limits.ensures.value
-    c.in_ok-accepted.accepted c.in_ok-accepted.ensures in
+    let k = c.question-question.result in
+    let told = certificate_for s q k.question a k.limits c.question-question.ensures.asks.is c.question-question.ensures.limits c.in_ok-accepted.accepted
+    c.in_ok-accepted.ensures in
     record {
       exact = rejects s n q is a c.in_ok-accepted.accepted told c.if-accepted.false;
       claim = λ e. absurd (cc e);

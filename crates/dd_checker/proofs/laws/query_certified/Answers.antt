@@ -1,6 +1,7 @@
-use Rattle.dd_question.specs.Views.{asked_of}
 use Rattle.dd_checker.proofs.Certifying.{query_claims}
 use Rattle.dd_checker.proofs.laws.query_certified.Goals as goal
 
 pub returns : goal.returns
-returns c = query_claims c.args.script.now c.args.query.now (asked_of c.question-question.result) c.question-question.ensures c.claims_hold.ensures
+returns c =
+    let k = c.question-question.result in
+    query_claims c.args.script.now c.args.query.now k.question k.limits c.question-question.ensures.asks.is c.question-question.ensures.limits c.claims_hold.ensures

@@ -1,12 +1,12 @@
 use Rattle.std.proofs.Common.{sym, subst}
-use Rattle.dd_respond.specs.Bounds.{IsRightDischarge}
+use Rattle.dd_respond.specs.Bounds.{IsRightDischarge, right_bound}
 use Rattle.dd_respond.proofs.Measuring.{reason_right}
 use Rattle.dd_respond.proofs.discharges.discharged.Goals as goal
 
 pub returns-in-Ok-clause-right : goal.returns-in-Ok-clause-right
 returns-in-Ok-clause-right c =
     subst (IsRightDischarge c.args.rule.now c.args.radius c.args.margin c.args.vectors.now c.args.weights.now c.args.pivots) (sym c.written_bound.ensures.same)
-    (record { ends = c.in-Ok.ensures.ok; certificate = c.in-Ok.ensures.certificate })
+    (right_bound c.in-Ok.ensures.ok c.in-Ok.ensures.certificate)
 
 pub returns-in_ok-reason-in-Err-clause-right : goal.returns-in_ok-reason-in-Err-clause-right
 returns-in_ok-reason-in-Err-clause-right c =

@@ -1,20 +1,30 @@
-use Rattle.dd_boxes.specs.Views.{goal_of}
-use Rattle.dd_question.specs.Questions.{box}
-use Rattle.dd_question.specs.Views.{asked_of}
-use Rattle.dd_verify.proofs.Certifying.{asked_claims, told_others}
+use Rattle.dd_verify.proofs.Claiming.{member_claims, box_claims, equal_claims}
+use Rattle.dd_verify.proofs.Listing.{list_claims}
+use Rattle.dd_verify.proofs.Weighing.{strip_claims, discharge_claims}
 use Rattle.dd_verify.proofs.laws.claims_hold.Goals as goal
 
-pub returns-in-Box : goal.returns-in-Box
-returns-in-Box c l a =
-    let x = c.in-Box.premise.now in
-    rw c.in-Box.is
-    (λ sound h.
-    asked_claims c.listed_break.ensures
-    (record { least = c.strip_least.ensures; empty = c.strip_empty.ensures; best = c.best_bound.ensures; holds = c.bound_holds.ensures }) l a
-    (box x (goal_of x c.in-Box.goal)) sound (c.tell_goal.ensures x sound.1.goal sound.1.rule) h)
+pub returns-in-Membership : goal.returns-in-Membership
+returns-in-Membership c a = rw (← c.question.ensures.value, c.in-Membership.is) (member_claims _ _ a)
 
-pub returns-in_default : goal.returns-in_default
-returns-in_default c l a sound h =
-    asked_claims c.listed_break.ensures
-    (record { least = c.strip_least.ensures; empty = c.strip_empty.ensures; best = c.best_bound.ensures; holds = c.bound_holds.ensures }) l a
-    (asked_of c.args.question.now) sound (told_others c.args.question.now c.in_default.not-Box) h
+pub returns-in-Box : goal.returns-in-Box
+returns-in-Box c a =
+    let sound = rw (← c.question.ensures.value, c.in-Box.is) at c.question.ensures.kept.sound in
+    rw (← c.question.ensures.value, c.in-Box.is) (box_claims _ _ _ a sound.0 sound.1.goal (c.tell_goal.ensures _ sound.1.goal sound.1.rule))
+
+pub returns-in-Equality : goal.returns-in-Equality
+returns-in-Equality c a =
+    let sound = rw (← c.question.ensures.value, c.in-Equality.is) at c.question.ensures.kept.sound in
+    rw (← c.question.ensures.value, c.in-Equality.is) (equal_claims _ _ _ sound.0 sound.1 sound.2.goal sound.3.goal a)
+
+pub returns-in-Listing : goal.returns-in-Listing
+returns-in-Listing c a = rw (← c.question.ensures.value, c.in-Listing.is) (list_claims c.listed_break.ensures _ a)
+
+pub returns-in-Density : goal.returns-in-Density
+returns-in-Density c a =
+    let sound = rw (← c.question.ensures.value, c.in-Density.is) at c.question.ensures.kept.sound in
+    rw (← c.question.ensures.value, c.in-Density.is) (strip_claims c.strip_least.ensures c.strip_empty.ensures _ _ _ sound.0 sound.1.strip a)
+
+pub returns-in-Discharge : goal.returns-in-Discharge
+returns-in-Discharge c a =
+    let sound = rw (← c.question.ensures.value, c.in-Discharge.is) at c.question.ensures.kept.sound in
+    rw (← c.question.ensures.value, c.in-Discharge.is) (discharge_claims c.best_bound.ensures c.bound_holds.ensures _ _ _ _ _ sound.0 sound.1.vectors a)
