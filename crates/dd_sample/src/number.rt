@@ -9,9 +9,8 @@ const LARGEST: u32 = 16_384;
 fn is_led(word: &str) -> bool
     ensures { IsTrue result ↔ (slice_index word.now 0 ≡ 43) ⊎ (slice_index word.now 0 ≡ 48) }
 {
-    let first = word.as_bytes()[0];
     match word.as_bytes() {
-        [_, ..] => first == b'+' || first == b'0',
+        [first, ..] => *first == b'+' || *first == b'0',
         [] => false,
     }
 }
