@@ -1,7 +1,7 @@
 # Completion for bash: source this file. Of diddy's words, and of what tools/sweep takes.
 _diddy() {
     if [ "$COMP_CWORD" -eq 1 ]; then
-        mapfile -t COMPREPLY < <(compgen -W "run check sample" -- "${COMP_WORDS[1]}")
+        mapfile -t COMPREPLY < <(compgen -W "run check sample --version" -- "${COMP_WORDS[1]}")
     elif [[ ${COMP_WORDS[COMP_CWORD - 1]} == "<" ]]; then
         mapfile -t COMPREPLY < <(compgen -f -- "${COMP_WORDS[COMP_CWORD]}")
     fi
