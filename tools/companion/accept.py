@@ -8,6 +8,7 @@ from .meaning import Meaning
 from .queries import QUERIES
 from .reader import Reader
 from .script import Script
+from .tokens import tokens_of
 
 MOST_BYTES = 1048576
 
@@ -20,7 +21,7 @@ MEANINGS: Dict[type, Type[Meaning]] = {
 
 def commands_of(text: bytes) -> List[Command]:
     """The commands of a script, or the first Fault of its syntax."""
-    return Reader(text, {word: list(query.arguments) for word, query in QUERIES.items()}).commands()
+    return Reader(tokens_of(text), {word: list(query.arguments) for word, query in QUERIES.items()}).commands()
 
 
 def accept(text: bytes) -> Script:

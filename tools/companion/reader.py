@@ -1,5 +1,5 @@
 """Reads the commands of a script. Only what is written is looked at here; meaning.py looks names up."""
-from typing import Callable, Dict, List, Union
+from typing import Callable, Dict, List, Type, Union
 
 from . import tokens
 from .commands import (Alphabet, Ask, AutoText, Body, Command, ComposeText, ConfText, Dim, EdgeText, Limits, Nodes, Only, RuleText,
@@ -62,8 +62,9 @@ def _limits(cursor: Cursor) -> Body:
     return Limits([cursor.natural(what) for what in ("the greatest radius", "the greatest period", "the greatest number of pivots")])
 
 
-def _rule(cursor: Cursor) -> Body:
-    return RuleText(cursor.word("the rule's name"), FormulaReader(cursor).formula())
+def rule_text(cursor: Cursor, formulas: FormulaReader) -> Body:
+    """What follows `%rule`."""
+    return RuleText(cursor.word("the rule's name"), formulas.formula())
 
 
 def _conf(cursor: Cursor) -> Body:
@@ -73,11 +74,12 @@ def _conf(cursor: Cursor) -> Body:
     return ConfText(name, periods, shear, cursor.names("a symbol"))
 
 
-def _auto(cursor: Cursor) -> Body:
+def auto_text(cursor: Cursor, formulas: FormulaReader) -> Body:
+    """What follows `%auto`."""
     name = cursor.word("the automaton's name")
     cases = []
     while cursor.takes_word("when"):
-        formula = FormulaReader(cursor).formula()
+        formula = formulas.formula()
         if not cursor.takes_word("give"):
             raise cursor.fault("`give` behind a case's formula")
         cases.append((formula, cursor.name("the symbol that the case gives")))
@@ -93,8 +95,12 @@ def _compose(cursor: Cursor) -> Body:
 
 COMMANDS: Dict[str, Callable[[Cursor], Body]] = {
     "dim": _dim, "nodes": _nodes, "alphabet": _alphabet, "topology": _topology, "only": _only, "weights": _weights,
-    "limits": _limits, "rule": _rule, "conf": _conf, "auto": _auto, "compose": _compose,
+    "limits": _limits, "conf": _conf, "compose": _compose,
 }
+"""The commands without formulas."""
+
+WITH_FORMULAS: Dict[str, Callable[[Cursor, FormulaReader], Body]] = {"rule": rule_text, "auto": auto_text}
+"""The commands with formulas."""
 
 
 def _ask(cursor: Cursor, arguments: List[str]) -> Ask:
@@ -122,8 +128,11 @@ NAMED = {"rule": "a rule", "conf": "a configuration", "auto": "an automaton"}
 class Reader:
     """Reads a script's commands one after the other. `queries` has the kinds of the arguments of each query."""
 
-    def __init__(self, script: bytes, queries: Dict[str, List[str]]) -> None:
-        self.cursor = Cursor(tokens.tokens_of(script))
+    with_formulas = WITH_FORMULAS
+    formula_reader: Type[FormulaReader] = FormulaReader
+
+    def __init__(self, given: List[Token], queries: Dict[str, List[str]]) -> None:
+        self.cursor = Cursor(given)
         self.queries = queries
         self.seen: List[str] = []
         self.number = 0
@@ -146,15 +155,22 @@ class Reader:
         begin = self.cursor.at
         self.cursor.take()
         keyword = self.cursor.next()
-        if keyword.kind != tokens.WORD or not (keyword.text in COMMANDS or keyword.text in self.queries):
+        if keyword.kind != tokens.WORD or not any(keyword.text in known for known in (COMMANDS, self.with_formulas, self.queries)):
             raise self.cursor.fault("the word of a command behind `%`")
         self._in_order(keyword)
         self.cursor.take()
-        read = COMMANDS.get(keyword.text)
-        body = read(self.cursor) if read else _ask(self.cursor, self.queries[keyword.text])
+        body = self._body(keyword.text)
         if not self.cursor.ends_command():
             raise self.cursor.fault("the next command, which begins with `%`")
         return Command(self.number, keyword, self.cursor.tokens[begin:self.cursor.at], body)
+
+    def _body(self, word: str) -> Body:
+        """What follows the word of a command."""
+        if word in COMMANDS:
+            return COMMANDS[word](self.cursor)
+        if word in self.with_formulas:
+            return self.with_formulas[word](self.cursor, self.formula_reader(self.cursor))
+        return _ask(self.cursor, self.queries[word])
 
     def _in_order(self, keyword: Token) -> None:
         """Looks whether a command may stand behind those before it."""

@@ -9,7 +9,7 @@ TOKEN = re.compile(rb"(?P<word>[a-z]+)|(?P<number>(?:0|-?[1-9][0-9]*)(?![0-9]))|
 
 
 class Token(NamedTuple):
-    """A token, its text and the offset at which it begins. The last token of a script is an END."""
+    """A token, its text and the offset at which it begins. A whole script ends with an END, which stands just behind the last token."""
 
     kind: str
     text: str
@@ -41,17 +41,17 @@ class Token(NamedTuple):
 def tokens_of(script: bytes, signs: "re.Pattern[bytes]" = TOKEN) -> List[Token]:
     """The tokens up to the first byte that begins none, which is a BAD token, or to the end."""
     tokens: List[Token] = []
-    at = 0
+    at = end = 0
     while True:
         blanks = BLANKS.match(script, at)
         if blanks:
             at = blanks.end()
         if at == len(script):
-            tokens.append(Token(END, "", at))
+            tokens.append(Token(END, "", end))
             return tokens
         found = signs.match(script, at)
         if not found:
             tokens.append(Token(BAD, script[at:at + 1].decode("latin-1"), at))
             return tokens
         tokens.append(Token(str(found.lastgroup), found.group().decode("ascii"), at))
-        at = found.end()
+        at = end = found.end()
