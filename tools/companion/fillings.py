@@ -1,19 +1,24 @@
 """Fillings of regions, in lexicographic order, and those that a rule breaks or leaves."""
-import itertools
 from typing import Iterator, List, Optional, Sequence, Tuple
 
 from .lattice import Cell, Offset, cells_of
 from .script import Rule, Script
+from .tables import any_of, digit_tables, digits, set_bits, table
 
 Filling = Tuple[int, ...]
 
 
 def breaking(script: Script, rule: Rule, node: int) -> Iterator[Filling]:
     """The fillings of what a rule reads at a node for which it is false, in lexicographic order."""
-    allowed = [script.allowed[cell[3]] for cell in rule.reads[node]]
-    for symbols in itertools.product(*allowed):
-        if not rule.holds(node, symbols):
-            yield symbols
+    reads, symbols = rule.reads[node], len(script.symbols)
+    tables = digit_tables(symbols, len(reads))
+    place = {cell: number for number, cell in enumerate(reads)}
+    full = (1 << symbols ** len(reads)) - 1
+    found = full ^ table(rule.expansions[node], lambda cell, symbol: tables[place[cell]][symbol], full)
+    for cell, values in zip(reads, tables):
+        found &= any_of([values[symbol] for symbol in script.allowed[cell[3]]])
+    for number in set_bits(found, symbols ** len(reads)):
+        yield tuple(digits(number, symbols, len(reads)))
 
 
 class Region:

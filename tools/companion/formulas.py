@@ -267,25 +267,3 @@ def truth(expanded: Expanded, symbol_at: Callable[[Cell], int]) -> bool:
     if isinstance(expanded, AllOf):
         return all(truth(part, symbol_at) for part in expanded.parts)
     return any(truth(part, symbol_at) for part in expanded.parts)
-
-
-def table(expanded: Expanded, leaf: Callable[[Cell, int], int], full: int) -> int:
-    """The truth of an expansion in many cases at once: bit i of a number stands for the i-th case, and `full` has all bits.
-
-    The call `leaf` gives the cases in which a cell has a symbol.
-    """
-    if isinstance(expanded, Leaf):
-        return leaf(expanded.cell, expanded.symbol)
-    if isinstance(expanded, Opposite):
-        return full ^ table(expanded.part, leaf, full)
-    if isinstance(expanded, Exactly):
-        return full ^ table(expanded.left, leaf, full) ^ table(expanded.right, leaf, full)
-    if isinstance(expanded, AllOf):
-        cases = full
-        for part in expanded.parts:
-            cases &= table(part, leaf, full)
-        return cases
-    cases = 0
-    for part in expanded.parts:
-        cases |= table(part, leaf, full)
-    return cases

@@ -6,33 +6,12 @@ import itertools
 from fractions import Fraction
 from typing import Dict, Iterator, List, Optional, Sequence, Tuple
 
-from .formulas import table
 from .lattice import Cell, moved
 from .script import Configuration, Rule, Script
+from .tables import any_of, digit_tables, digits, set_bits, table
 
 MOST_STATES = 4096
 MOST_WINDOWS = 131072
-
-
-def _digit_tables(base: int, digits: int) -> List[List[int]]:
-    """For each digit of the numbers with so many digits and each value: a bit for each number whose digit has the value.
-
-    The first digit is the most significant one.
-    """
-    tables = []
-    for place in range(digits):
-        block = base ** (digits - 1 - place)
-        ones, total = (1 << block) - 1, base ** digits
-        tables.append([_repeated(ones << (value * block), base * block, total) for value in range(base)])
-    return tables
-
-
-def _repeated(pattern: int, period: int, total: int) -> int:
-    """A pattern of bits, again after each period, up to a total."""
-    while period < total:
-        pattern |= pattern << period
-        period *= 2
-    return pattern & ((1 << total) - 1)
 
 
 class Strip:
@@ -71,7 +50,7 @@ class Strip:
         """A bit for each window that is an edge."""
         cells, total = len(self.slice), self.window_count()
         full = (1 << total) - 1
-        tables = _digit_tables(self.symbols, cells * (self.width + 1))
+        tables = digit_tables(self.symbols, cells * (self.width + 1))
         place_of = {cell: place for place, cell in enumerate(self.slice)}
 
         def leaf(cell: Cell, symbol: int) -> int:
@@ -84,7 +63,7 @@ class Strip:
         for digit, values in enumerate(tables):
             allowed = self.script.allowed[self.slice[digit % cells][2]]
             if len(allowed) < self.symbols:
-                found &= _any_of([values[symbol] for symbol in allowed])
+                found &= any_of([values[symbol] for symbol in allowed])
         for z, y, node in self.slice:
             by = (z, y, -self.lowest)
             found &= table(self.rule.expansions[node], lambda cell, symbol: leaf(moved(cell, by), symbol), full)
@@ -93,39 +72,16 @@ class Strip:
     def edges(self) -> Iterator[Tuple[int, int, int]]:
         """The edges: the state from which each leads, the state to which it leads, and the slice."""
         slices, states = self.slice_count(), self.state_count()
-        for window in _set_bits(self._edge_bits(), self.window_count()):
+        for window in set_bits(self._edge_bits(), self.window_count()):
             yield window // slices, window % states, window % slices
 
     def configuration(self, cycle: Sequence[int]) -> Configuration:
         """The configuration of a closed walk: at each x the last slice of the state there."""
         slices, nodes = self.slice_count(), len(self.script.nodes)
-        columns = [_digits(state % slices, self.symbols, len(self.slice)) for state in cycle]
+        columns = [digits(state % slices, self.symbols, len(self.slice)) for state in cycle]
         rows = len(self.slice) // nodes
         symbols = [column[row * nodes + node] for row in range(rows) for column in columns for node in range(nodes)]
         return Configuration("cycle", [len(cycle), *self.across], 0, symbols, nodes)
-
-
-def _any_of(tables: List[int]) -> int:
-    found = 0
-    for bits in tables:
-        found |= bits
-    return found
-
-
-def _set_bits(bits: int, total: int) -> Iterator[int]:
-    """The places of the bits that are set, in order."""
-    for place, digit in enumerate(reversed(format(bits, f"0{total}b"))):
-        if digit == "1":
-            yield place
-
-
-def _digits(number: int, base: int, count: int) -> List[int]:
-    """The digits of a number, the most significant one first."""
-    found = []
-    for _ in range(count):
-        number, digit = divmod(number, base)
-        found.append(digit)
-    return found[::-1]
 
 
 def cycle_fault(strip: Strip, edges: Dict[Tuple[int, int], int], density: Fraction, cycle: Sequence[int]) -> "Tuple[Optional[str], Fraction]":
