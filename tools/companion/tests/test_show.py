@@ -1,10 +1,11 @@
 """Pictures and tables."""
 import io
+import re
 import unittest
 
 from ..explain import explain
 from ..show import show
-from .common import stored
+from .common import DOCS, stored
 
 
 class Pictures(unittest.TestCase):
@@ -42,3 +43,20 @@ class Explanations(unittest.TestCase):
         self.assertEqual(explain(b"%dim 1\n%rule a o=2\n", out), 2)
         self.assertIn("line 2, column 11", out.getvalue())
         self.assertTrue(out.getvalue().endswith("    %rule a o=2\n              ^\n"))
+
+
+class Page(unittest.TestCase):
+    """What docs/companion.md shows."""
+
+    def test_page(self) -> None:
+        """Each explanation is that of the script before it, and the picture that of the example."""
+        page = (DOCS / "companion.md").read_text(encoding="utf-8")
+        pairs = re.findall(r"^```(?:script|diddy)\n(.*?)^```\n\n```explained\n(.*?)^```", page, re.M | re.S)
+        self.assertEqual(len(pairs), 2)
+        for script, wanted in pairs:
+            out = io.StringIO()
+            explain(script.encode("ascii"), out)
+            self.assertEqual(out.getvalue(), wanted)
+        out = io.StringIO()
+        show(stored("sheared-codes")[0], out, out)
+        self.assertIn(f"```shown\n{out.getvalue()}```\n", page)
