@@ -128,7 +128,8 @@ class Question:
             return 1 + (place * nodes + cell[3]) * symbols
 
         clauses = Clauses(len(positions) * nodes * symbols)
-        self._inputs(clauses, len(positions))
+        for number in range(len(positions) * nodes):
+            clauses.symbols_of(number, symbols, script.allowed[number % nodes])
         templates = [Template(expanded, first_input) for expanded in self.premise.expansions]
         origin = first_input((0, 0, 0, 0))
         for cell, _ in script.places(self.premise, positions):
@@ -140,20 +141,6 @@ class Question:
         """By how much the number of a position in the box grows along z and along y."""
         side = 2 * radius + 1
         return side * side, side
-
-    def _inputs(self, clauses: Clauses, positions: int) -> None:
-        """The clauses that each cell has exactly one symbol, one that its node allows."""
-        script, symbols = self.script, len(self.script.symbols)
-        for cell in range(positions * len(script.nodes)):
-            inputs = [2 * (1 + cell * symbols + symbol) for symbol in range(symbols)]
-            clauses.add(inputs)
-            for symbol, one in enumerate(inputs):
-                for other in inputs[symbol + 1:]:
-                    clauses.add((one ^ 1, other ^ 1))
-            allowed = script.allowed[cell % len(script.nodes)]
-            for symbol, one in enumerate(inputs):
-                if symbol not in allowed:
-                    clauses.add((one ^ 1,))
 
 
 def why_not(question: Question, configuration: Configuration) -> Optional[str]:

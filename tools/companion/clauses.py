@@ -42,6 +42,18 @@ class Clauses:
         self.variables += 1
         return 2 * self.variables
 
+    def symbols_of(self, number: int, symbols: int, allowed: Sequence[int]) -> None:
+        """Adds the clauses that the cell with a number has exactly one symbol, one that is allowed. Its variables begin at
+        1 + number · symbols."""
+        inputs = [2 * (1 + number * symbols + symbol) for symbol in range(symbols)]
+        self.add(inputs)
+        for symbol, one in enumerate(inputs):
+            for other in inputs[symbol + 1:]:
+                self.add((one ^ 1, other ^ 1))
+        for symbol, one in enumerate(inputs):
+            if symbol not in allowed:
+                self.add((one ^ 1,))
+
     def all_of(self, parts: Sequence[Literal]) -> Literal:
         """A new gate that is true exactly where all parts are."""
         gate = self.new()
@@ -110,18 +122,19 @@ class Template:
     """The clauses of a rule's gates at one node, written once. They differ from place to place by two amounts: that of the inputs'
     variables and that of the gates' variables."""
 
+    MIDDLE = 1 << 26
+    """The inputs at the origin are written round this variable, since some of them may lie below 0; gates come after twice this one."""
+
     def __init__(self, expanded: Expanded, first_input: Callable[[Cell], int]) -> None:
         """`first_input` gives the variable of a cell with the symbol 0 where the rule stands at the origin; it may be negative."""
-        self.shift = 4 * 20000 * 64
-        written = Clauses(2 * self.shift)
-        signal = written.formula(expanded, lambda cell, symbol: 2 * (self.shift + first_input(cell) + symbol))
+        written = Clauses(2 * self.MIDDLE)
+        signal = written.formula(expanded, lambda cell, symbol: 2 * (self.MIDDLE + first_input(cell) + symbol))
         written.add((signal,))
-        self.gates = written.variables - 2 * self.shift
-        border = 4 * self.shift
+        self.gates = written.variables - 2 * self.MIDDLE
         self.codes: List[Tuple[int, int]] = []
         for literal in written.literals:
-            gate = literal > border + 1
-            self.codes.append((1, literal - border) if gate else (0, literal - 2 * self.shift))
+            is_gate = literal >> 1 > 2 * self.MIDDLE
+            self.codes.append((1, literal - 4 * self.MIDDLE) if is_gate else (0, literal - 2 * self.MIDDLE))
         self.starts = written.starts[1:]
 
     def write(self, clauses: Clauses, inputs: int) -> None:

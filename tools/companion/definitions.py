@@ -109,7 +109,7 @@ def rule_of(script: Script, name: str, formula: Formula) -> Rule:
     """The rule of a formula; TooLarge where its expansion at some node passes the limit."""
     script.end_header()
     expansion = Expansion(script.topology, script.symbols, script.nodes, MOST_PARTS)
-    return Rule(name, [expansion.at(formula, (0, 0, 0, node)) for node in range(len(script.nodes))])
+    return Rule(name, formula, [expansion.at(formula, (0, 0, 0, node)) for node in range(len(script.nodes))])
 
 
 def too_many_parts(token: Token) -> Fault:

@@ -2,7 +2,7 @@
 import itertools
 from typing import Callable, Dict, Iterator, List, NamedTuple, Optional, Sequence, Tuple, Union
 
-from .formulas import Expanded, cells_read, gate_clauses, size, truth
+from .formulas import Expanded, Formula, cells_read, gate_clauses, size, truth
 from .lattice import BUILT_IN, DEFAULT, Cell, Offset, Topology, distance, moved
 
 Node = int
@@ -10,10 +10,11 @@ Symbol = int
 
 
 class Rule:
-    """A rule: what its formula comes to at each node of the origin, and which cells it reads there, in cell order."""
+    """A rule: its formula, what that comes to at each node of the origin, and which cells it reads there, in cell order."""
 
-    def __init__(self, name: str, expansions: List[Expanded]) -> None:
+    def __init__(self, name: str, formula: Formula, expansions: List[Expanded]) -> None:
         self.name = name
+        self.formula = formula
         self.expansions = expansions
         self.reads: List[List[Cell]] = [sorted(cells_read(expanded)) for expanded in expansions]
         self._known: List[Dict[Tuple[Symbol, ...], bool]] = [{} for _ in expansions]
