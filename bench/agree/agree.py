@@ -17,7 +17,7 @@ TOP = pathlib.Path(__file__).resolve().parent.parent.parent
 sys.path.insert(0, str(TOP / "tools"))
 
 from altered import altered  # noqa: E402
-from companion.accept import MOST_BYTES, accept  # noqa: E402
+from companion.accept import accept  # noqa: E402
 from companion.faults import Fault  # noqa: E402
 from companion.outputs import read_output  # noqa: E402
 from companion.recheck import recheck  # noqa: E402

@@ -6,9 +6,9 @@ A literal is 2·v for the variable v and 2·v + 1 for its opposite, so that `lit
 from array import array
 from typing import Callable, Dict, Iterable, List, Sequence, Tuple
 
-from .formulas import AllOf, Exactly, Expanded, Leaf, Opposite, SomeOf
+from .formulas import AllOf, Exactly, Expanded, Leaf, Opposite
 from .lattice import Cell, moved
-from .script import Automaton, Cases, Rule
+from .script import Automaton, Cases
 
 Literal = int
 Value = List[Literal]

@@ -1,10 +1,9 @@
 """What the commands mean that name something: rules, configurations, automata and compositions; and their faults."""
-from typing import FrozenSet, Iterator, List, Sequence, Tuple, Union
+from typing import FrozenSet, Iterator, Sequence, Tuple, Union
 
 from .faults import Fault
 from .formulas import (Adjacent, And, Expansion, Formula, Iff, Implies, IsSymbol, Not, OnNode, Or, Quantified, SameCell, SameSymbol, Term,
                        TooLarge)
-from .lattice import distance
 from .meaning import Meaning, over, shape, twice, unknown
 from .script import Automaton, Cases, Composition, Configuration, Rule, Script, automaton_reach
 from .tokens import Token

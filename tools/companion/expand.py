@@ -1,11 +1,10 @@
 """`tools/expand < longer`: writes a script of the longer language as a plain script. It is not proved; what it writes is what counts."""
 import sys
-from typing import BinaryIO, Dict, List, TextIO, Tuple
+from typing import BinaryIO, Dict, List, TextIO
 
 from .accept import MEANINGS, MOST_BYTES, accept
 from .commands import AutoText, Command, ComposeText, RuleText
 from .faults import Fault
-from .formula_reader import MOST_DEPTH
 from .longer import LetText, long_commands
 from .printing import written
 from .queries import QUERIES

@@ -1,7 +1,7 @@
 """Writes formulas of the longer language in the plain one."""
 import itertools
 import string
-from typing import Dict, FrozenSet, Iterator, List, NamedTuple, Optional, Sequence, Tuple, Union
+from typing import Dict, FrozenSet, List, NamedTuple, Optional, Sequence, Tuple, Union
 
 from .commands import AutoText, ComposeText, RuleText
 from .faults import Fault
@@ -10,7 +10,7 @@ from .lattice import Cell, Topology
 from .longer import Call, Count, LetText, Loop, Value
 from .printing import FALSE, TRUE, is_constant, is_true, joined, opposite
 from .script import Script
-from .thresholds import COMPARISONS, at_least
+from .thresholds import COMPARISONS
 from .tokens import NUMBER, WORD, Token
 
 MOST_WRITTEN = 200000

@@ -7,7 +7,7 @@ from ..faults import Fault
 from ..refutations import Refutation, Step
 from ..script import Configuration
 from ..searching import TooLong, torus_count, verdict
-from .base import WRONG_ANSWER, Picture, Query, rejects_unknown, share
+from .base import Picture, Query, rejects_unknown, share
 
 SIDES = ("left", "right")
 
