@@ -12,7 +12,7 @@ from typing import Dict, List, NamedTuple, Optional, Tuple, Union
 from . import tokens
 from .commands import Body, Command
 from .cursor import Cursor
-from .formula_reader import FormulaReader, Scope
+from .formula_reader import FormulaReader, Read, Scope
 from .formulas import Formula, Term
 from .reader import WITH_FORMULAS, Reader
 from .tokens import Token
@@ -71,7 +71,7 @@ class LetText(NamedTuple):
 class LongReader(FormulaReader):
     """Reads formulas of the longer language."""
 
-    def tight(self, scope: Scope) -> Formula:
+    def tight(self, scope: Scope) -> Read:
         token = self.cursor.next()
         if token.is_sign("#"):
             return self.count(scope)
@@ -96,7 +96,7 @@ class LongReader(FormulaReader):
             raise self.cursor.fault("one cell in the brackets behind an automaton's name")
         return Value(name, cells[0], self.cursor.name("a symbol"), sign.text == "=")
 
-    def count(self, scope: Scope) -> Formula:
+    def count(self, scope: Scope) -> Read:
         """`#p[o1] f >= 2` or `#p~o f >= 2`."""
         sign = self.cursor.take()
         variable = self.cursor.word("the variable of the cells that are counted")
@@ -108,13 +108,14 @@ class LongReader(FormulaReader):
             balls.append(self.ball())
             while not self.cursor.takes_sign("]"):
                 balls.append(self.ball())
-        body = self.deeper(sign, lambda: self.tight(scope | {variable.text}))
+        body, height = self.inside(lambda: self.tight(scope | {variable.text}))
         for comparison in (">=", "<=", "="):
             if self.cursor.takes_sign(comparison):
-                return Count(sign, variable, balls, beside, body, comparison, self.cursor.natural("a number of cells"))
+                number = self.cursor.natural("a number of cells")
+                return Count(sign, variable, balls, beside, body, comparison, number), self.above(height)
         raise self.cursor.fault("`>=`, `<=` or `=` behind what is counted")
 
-    def loop(self, scope: Scope) -> Formula:
+    def loop(self, scope: Scope) -> Read:
         """`As{red green} f`, or with E."""
         kind = self.cursor.take()
         variable = self.cursor.word("the symbols' variable")
@@ -123,8 +124,8 @@ class LongReader(FormulaReader):
         if not self.cursor.takes_sign("*"):
             symbols = self.cursor.names("a symbol")
         self.cursor.sign("}", "behind the symbols")
-        body = self.deeper(kind, lambda: self.tight(scope))
-        return Loop(kind.text == "A", variable, symbols, body)
+        body, height = self.inside(lambda: self.tight(scope))
+        return Loop(kind.text == "A", variable, symbols, body), self.above(height)
 
 
 def let_text(cursor: Cursor, formulas: FormulaReader) -> Body:

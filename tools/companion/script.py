@@ -54,7 +54,7 @@ class Cases:
         self.otherwise = otherwise
         self.depth = 0
         self.reads = [sorted({cell for rule, _ in cases for cell in rule.reads[node]}) for node in range(nodes)]
-        self.sizes = [sum(rule.sizes()[node] for rule, _ in cases) for node in range(nodes)]
+        self.sizes = [1 + sum(1 + rule.sizes()[node] for rule, _ in cases) for node in range(nodes)]
 
     def value(self, cell: Cell, symbol_at: Callable[[Cell], Symbol]) -> Symbol:
         """The symbol that the automaton gives to a cell."""
@@ -78,7 +78,8 @@ class Composition:
         self.outer = outer
         self.inner = inner
         self.depth = 1 + max(outer.depth, inner.depth)
-        self.sizes = [own + sum(inner.sizes[read[3]] for read in reads) for own, reads in zip(outer.sizes, outer.reads)]
+        self.sizes = [outer.sizes[node] + inner.sizes[node] + sum(inner.sizes[read[3]] for read in reads)
+                      for node, reads in enumerate(outer.reads)]
         self._reads: Optional[List[List[Cell]]] = None
 
     @property
