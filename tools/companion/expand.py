@@ -56,7 +56,7 @@ class Expanding:
         lines = []
         for command in self.commands:
             if isinstance(command.body, LetText):
-                self._formula(command, command.body)
+                self._formula(command.body)
                 continue
             self.sources.append(command)
             lines.append(self._command(command))
@@ -65,26 +65,22 @@ class Expanding:
     def _command(self, command: Command) -> str:
         body = command.body
         if isinstance(body, RuleText):
-            return f"%rule {body.name.text} {self._formula(command, body)}"
+            return f"%rule {body.name.text} {self._formula(body)}"
         if isinstance(body, AutoText):
-            return self._automaton(command, body)
+            return self._automaton(body)
         begin, end = command.tokens[0].at, command.tokens[-1].at + len(command.tokens[-1].text)
         return self.text[begin:end].decode("ascii")
 
-    def _formula(self, command: Command, body: "LetText | RuleText") -> str:
+    def _formula(self, body: "LetText | RuleText") -> str:
         scope = ORIGIN
         if isinstance(body, LetText):
             scope = ORIGIN._replace(cells={variable.text: ORIGIN.cells["o"] for variable in body.variables})
-        self.unfolding.open = [body.name.text]
-        self.unfolding.count = 0
-        return written(self.unfolding.of(body.formula, scope))
+        return written(self.unfolding.rule(body.name, body.formula, scope))
 
-    def _automaton(self, command: Command, body: AutoText) -> str:
+    def _automaton(self, body: AutoText) -> str:
         words = [f"%auto {body.name.text}"]
-        self.unfolding.open = [body.name.text]
-        self.unfolding.count = 0
         for formula, symbol in body.cases:
-            words.append(f"when {written(self.unfolding.of(formula, ORIGIN))} give {symbol.text}")
+            words.append(f"when {written(self.unfolding.rule(body.name, formula))} give {symbol.text}")
         return " ".join([*words, f"else {body.otherwise.text}"])
 
 

@@ -4,11 +4,12 @@ import string
 from typing import Dict, FrozenSet, List, NamedTuple, Optional, Sequence, Tuple, Union
 
 from .commands import AutoText, ComposeText, RuleText
+from .definitions import MOST_PARTS
 from .faults import Fault
-from .formulas import Adjacent, And, Formula, Iff, Implies, IsSymbol, Not, OnNode, Or, Quantified, SameCell, SameSymbol, Term
+from .formulas import Adjacent, And, Formula, Iff, Implies, IsSymbol, Not, OnNode, Or, Quantified, SameCell, SameSymbol, Term, TooLarge
 from .lattice import Cell, Topology
 from .longer import Call, Count, LetText, Loop, Value
-from .printing import FALSE, TRUE, is_constant, is_true, joined, opposite
+from .printing import FALSE, TRUE, is_constant, is_true, joined, opposite, weight
 from .script import Script
 from .thresholds import COMPARISONS
 from .tokens import NUMBER, WORD, Token
@@ -67,13 +68,29 @@ class Unfolding:
         self.script = script
         self.definitions = definitions
         self.open: List[str] = []
-        self.count = 0
+        self.written = 0
+
+    def rule(self, name: Token, formula: Formula, scope: Scope = ORIGIN) -> Formula:
+        """A formula of a command in the plain language, or the fault that it grows too large."""
+        self.open = [name.text]
+        self.written = 0
+        try:
+            found = self.of(formula, scope)
+            if weight(found) <= MOST_PARTS:
+                return found
+        except TooLarge:
+            pass
+        raise Fault("size", "instances", name.at, f"written out, this has more than {MOST_PARTS:,} parts", name.text)
+
+    def _step(self) -> None:
+        """Counts a formula that is looked at."""
+        self.written += 1
+        if self.written > MOST_WRITTEN:
+            raise TooLarge
 
     def of(self, formula: Formula, scope: Scope) -> Formula:
         """The formula in the plain language."""
-        self.count += 1
-        if self.count > MOST_WRITTEN:
-            raise Fault("size", "instances", 0, "what is written out grows too large")
+        self._step()
         if isinstance(formula, (And, Or)):
             return joined([self.of(part, scope) for part in formula.parts], isinstance(formula, And))
         if isinstance(formula, Not):
@@ -183,6 +200,7 @@ class Unfolding:
 
     def _inside(self, formula: Formula, inner: Token, taken: FrozenSet[str]) -> Formula:
         """A plain formula with an automaton's values for the symbols of its cells."""
+        self._step()
         if isinstance(formula, (And, Or)):
             return joined([self._inside(part, inner, taken) for part in formula.parts], isinstance(formula, And))
         if isinstance(formula, Not):

@@ -106,3 +106,15 @@ class Scripts(unittest.TestCase):
             self.assertEqual(raised.exception.kind, kind, script)
             if column:
                 self.assertEqual(place(script, raised.exception.at), (row, column), script)
+
+
+class Growth(unittest.TestCase):
+    """What grows too large is refused in good time."""
+
+    def test_large(self) -> None:
+        """Half of a ball of 63 cells, and a tower of compositions."""
+        tower = b"%auto f when o.rt!=o.lt give 1 else 0 %compose c f f %compose d c c %compose e d d\n%rule x e(o)=1\n"
+        for script, row in ((b"%dim 3\n%rule x #p[o3] p=1 >= 32\n", 2), (tower, 2)):
+            with self.assertRaises(Fault) as raised:
+                expanded(script)
+            self.assertEqual((raised.exception.kind, place(script, raised.exception.at)[0]), ("size", row), script)
