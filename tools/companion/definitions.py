@@ -1,5 +1,5 @@
 """What the commands mean that name something: rules, configurations, automata and compositions; and their faults."""
-from typing import FrozenSet, Iterator, Sequence, Tuple, Union
+from typing import FrozenSet, Iterator, Sequence, Tuple
 
 from .faults import Fault
 from .formulas import (Adjacent, And, Expansion, Formula, Iff, Implies, IsSymbol, Not, OnNode, Or, Quantified, SameCell, SameSymbol, Term,
@@ -11,8 +11,6 @@ from .tokens import Token
 MOST_MOVES, MOST_BALL, MOST_BALLS = 16, 3, 4
 MOST_PARTS, MOST_REACH, MOST_COMPOSED = 20000, 16, 64
 MOST_CELLS = 65536
-
-Part = Union[Term, Tuple[Token, str], Quantified]
 
 
 def subformulas(formula: Formula) -> Iterator[Formula]:
@@ -190,7 +188,8 @@ class ConfMeaning(Meaning):
 def automaton_sizes(token: Token, automaton: Automaton) -> Iterator[Fault]:
     """The limits that an automaton passes."""
     if max(automaton.sizes) > MOST_PARTS:
-        yield over("instances", token, f"at some node the automaton comes to {max(automaton.sizes):,} parts, and {MOST_PARTS:,} are the most")
+        comes = f"at some node the automaton comes to {max(automaton.sizes):,} parts"
+        yield over("instances", token, f"{comes}, and {MOST_PARTS:,} are the most")
     if automaton_reach(automaton) > MOST_REACH:
         yield too_far(token, automaton_reach(automaton))
     if automaton.depth > MOST_COMPOSED:

@@ -5,6 +5,7 @@ from typing import BinaryIO, Dict, List, TextIO
 from .accept import MEANINGS, MOST_BYTES, accept
 from .commands import AutoText, Command, ComposeText, RuleText
 from .faults import Fault
+from .header import repeated
 from .longer import LetText, long_commands
 from .printing import written
 from .queries import QUERIES
@@ -39,6 +40,9 @@ def definitions_of(commands: List[Command]) -> Dict[str, Definition]:
             if body.name.text in found:
                 raise Fault("twice", body.name.text, body.name.at, f"{body.name.text} is named before", body.name.text)
             found[body.name.text] = body
+        if isinstance(body, LetText):
+            for fault in repeated(body.variables, "the variable"):
+                raise fault
     return found
 
 

@@ -15,7 +15,8 @@ ACCEPTED, REFUSED = 0, 2
 
 def header_lines(script: Script) -> List[str]:
     """What the header says, with what holds where it says nothing."""
-    nodes = [f"{name}: {' '.join(script.symbol_names()[symbol] for symbol in allowed)}" for name, allowed in zip(script.nodes, script.allowed)]
+    names = script.symbol_names()
+    nodes = [f"{name}: {' '.join(names[symbol] for symbol in allowed)}" for name, allowed in zip(script.nodes, script.allowed)]
     return [f"dimension {script.dim}; {len(script.topology.edges)} edges with the labels {' '.join(sorted(script.topology.labels))}",
             f"nodes and the symbols that they allow: {'; '.join(nodes)}",
             f"weights: {' '.join(map(str, script.weights))}",

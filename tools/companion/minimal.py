@@ -50,7 +50,10 @@ class Patterns:
 
 
 def minimal(script: Script, rule: Rule, node: int) -> List[Partial]:
-    """The minimal patterns that a rule forbids at a node: of each breaking filling, in lexicographic order, that agrees with none before."""
+    """The minimal patterns that a rule forbids at a node.
+
+    Each comes of a breaking filling, in lexicographic order, that agrees with no pattern before.
+    """
     patterns = Patterns(script, rule, node)
     found: List[Partial] = []
     for filling in patterns.breaking:

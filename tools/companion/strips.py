@@ -84,7 +84,8 @@ class Strip:
         return Configuration("cycle", [len(cycle), *self.across], 0, symbols, nodes)
 
 
-def cycle_fault(strip: Strip, edges: Dict[Tuple[int, int], int], density: Fraction, cycle: Sequence[int]) -> "Tuple[Optional[str], Fraction]":
+def cycle_fault(strip: Strip, edges: Dict[Tuple[int, int], int], density: Fraction,
+                cycle: Sequence[int]) -> Tuple[Optional[str], Fraction]:
     """Why a list of states is no closed walk of this density, or None; and its weight over its length."""
     total = 0
     for place, state in enumerate(cycle):

@@ -78,7 +78,7 @@ class Unfolding:
             found = self.of(formula, scope)
             if weight(found) <= MOST_PARTS:
                 return found
-        except TooLarge:
+        except (TooLarge, RecursionError):
             pass
         raise Fault("size", "instances", name.at, f"written out, this has more than {MOST_PARTS:,} parts", name.text)
 
@@ -266,7 +266,8 @@ class Unfolding:
             return TRUE
         balls = [(formula.beside.variable, number(1))] if formula.beside is not None and not formula.beside.moves else formula.balls
         if formula.beside is not None and formula.beside.moves:
-            raise Fault("syntax", "", formula.sign.at, "neighbours behind moves can't be counted here: some of them are reached by no moves")
+            rule = "neighbours behind moves can't be counted here: some of them are reached by no moves"
+            raise Fault("syntax", "", formula.sign.at, rule)
         for variable, _ in balls:
             cell = scope.term(Term(variable, ()))
             if cell.moves:

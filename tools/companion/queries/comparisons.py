@@ -139,7 +139,8 @@ class Contains(BoxQuery):
 
     def yes_claims(self, answer: Yes) -> List[str]:
         y, x = self.argument(0).name, self.argument(1).name
-        return [f"each configuration of {x} obeys {y}, as no admissible filling of the box of radius {answer.radii[0]} breaks it in the middle"]
+        none = f"no admissible filling of the box of radius {answer.radii[0]} breaks it in the middle"
+        return [f"each configuration of {x} obeys {y}, as {none}"]
 
     def no_claim(self, answer: No) -> str:
         return f"obeys {self.argument(1).name} and breaks {self.argument(0).name} at the origin"

@@ -3,7 +3,7 @@ from typing import List, Optional
 
 from ..answers import Answer, In, Out
 from ..boxes import shown_cell
-from ..lattice import Cell, entries
+from ..lattice import Cell, entries, offset
 from .base import WRONG_ANSWER, Picture, Query
 
 
@@ -33,13 +33,17 @@ class Member(Query):
         if isinstance(answer, In):
             return f"{name} obeys the rule {rule} at every cell of Z^{self.script.dim}"
         cell = self.first_false()
-        return f"the rule {rule} is false in {name} at {shown_cell(self.script, cell or (0, 0, 0, 0))}, and at no cell of its box before that"
+        where = shown_cell(self.script, cell or (0, 0, 0, 0))
+        return f"the rule {rule} is false in {name} at {where}, and at no cell of its box before that"
 
     def costs(self) -> List[str]:
         return [f"{len(self.argument(0).symbols):,} cells are looked at"]
 
     def picture(self, answer: Answer) -> Optional[Picture]:
-        return (self.argument(0), self.first_false()) if isinstance(answer, Out) else None
+        if not isinstance(answer, Out) or len(answer.numbers) != self.script.dim + 1:
+            return None
+        *coordinates, node = answer.numbers
+        return self.argument(0), (*offset(coordinates), node)
 
     def found(self) -> Optional[str]:
         cell = self.first_false()
