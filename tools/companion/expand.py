@@ -97,7 +97,9 @@ def expanded(text: bytes) -> str:
     except Fault as fault:
         source = expanding.sources[max(fault.command, 1) - 1]
         rule = f"written out, this command is refused ({fault.line().split(' ', 2)[2]}): {fault.rule}"
-        raise Fault(fault.kind, fault.name, source.tokens[0].at, rule, source.keyword.text) from fault
+        named = [token for token in source.tokens if fault.kind != "size" and token.text == fault.name]
+        at = (named or source.tokens)[0].at
+        raise Fault(fault.kind, fault.name, at, rule, source.keyword.text) from fault
     return plain
 
 

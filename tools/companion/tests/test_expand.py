@@ -98,7 +98,7 @@ class Scripts(unittest.TestCase):
     def test_faults(self) -> None:
         """Messages with a line and a column."""
         for script, kind, row, column in (
-                (b"%let a(p p) p=1\n", "twice", 1, 10),
+                (b"%let a(p p) p=1\n", "twice", 1, 10), (b"%rule x #p[o1] p=2 >= 2\n", "unknown", 1, 18),
                 (b"%let a(p) p=1\n%let a(p) p=0\n", "twice", 2, 6), (b"%let a(p) b(p)\n%let b(p) a(p)\n", "syntax", 2, 11),
                 (b"%let a(p) p=1\n%rule x a(o o)\n", "dimension", 2, 9), (b"%rule x\n  a(o)\n", "unknown", 2, 3),
                 (b"\n%rule x #p[o3] (Aq[p3] Ar[q3] r=q) >= 1\n", "size", 2, 1), (b"%rule x #p[o1] p=1\n", "syntax", 2, 0)):
