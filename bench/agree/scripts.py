@@ -146,29 +146,29 @@ class Scripts:
 
 
 def _deep(more: int) -> str:
-    return "%rule x " + "!" * (63 + more) + "o=0 %member x x\n"
+    return "%rule x " + "!" * (64 + more) + "o=0\n"
 
 
 def _brackets(more: int) -> str:
-    return "%rule x " + "(" * (63 + more) + "o=0" + ")" * (63 + more) + "\n"
+    return "%rule x " + "(" * (64 + more) + "o=0" + ")" * (64 + more) + "\n"
 
 
 def _arrows(more: int) -> str:
-    return "%rule x " + "o=0 -> " * (63 + more) + "o=1\n"
+    return "%rule x " + "o=0 -> " * (64 + more) + "o=1\n"
 
 
 def _equivalences(more: int) -> str:
-    return "%rule x " + "o=0 <-> " * (63 + more) + "o=1\n"
+    return "%rule x " + "o=0 <-> " * (64 + more) + "o=1\n"
 
 
 def _alternating(more: int) -> str:
-    return "%rule x " + "(o=0 & !" * (30 + more) + "o=1" + ")" * (30 + more) + "\n"
+    return "%rule x " + "(o=0 & " * (32 + more) + "o=1" + ")" * (32 + more) + "\n"
 
 
 def _nested(more: int) -> str:
-    lines = ["%dim 1 %auto f when o=1 give 1 else 0 %compose c f f"]
+    lines = ["%dim 1 %auto f else 0 %compose c f f"]
     names = ["c", *["c" + chr(97 + i // 26) + chr(97 + i % 26) for i in range(64)]]
-    lines += [f"%compose {name} f {before}" for before, name in zip(names, names[1:63 + more + 1])]
+    lines += [f"%compose {name} f {before}" for before, name in zip(names, names[1:64 + more])]
     return " ".join(lines) + "\n"
 
 
@@ -190,13 +190,14 @@ BORDERS: List[Callable[[int], str]] = [
     lambda more: "%dim 1 %topology (x 0 [4] 0) (y 0 [1] 0) %rule x o.x.x.x.x" + ".y" * more + "=1\n",
     lambda more: "%conf c [2 1] [" + str(1 + more) + "] 0 1\n",
     lambda more: "%dim 1 %rule x " + " & ".join(f"o{'.rt' * i}=1" for i in range(15 + 1 + more)) + " %forbidden x\n",
-    lambda more: f"%rule x o=0 %density x [{12 // 2 + more}]\n",
+    lambda more: f"%rule x o=0 %density x [{8 + more}]\n",
     lambda more: f"%dim 1 %rule x o=0 | o{'.rt' * (12 + more)}=1 %density x []\n",
     lambda more: f"%rule x o=0 %density x [{64 + more}]\n",
     lambda more: "%dim 1 %rule x o=0 %discharge x 0 0 " + " ".join(f"[{i}]" for i in range(-4, 5)) + "\n",
     lambda more: f"%dim 1 %rule x o=0 %discharge x {3 + more} 0 [1]\n", lambda more: f"%dim 1 %rule x o=0 %discharge x 0 {3 + more} [1]\n",
     lambda more: "%rule x o=0 " + "%empty x " * (999 + more) + "\n",
-    lambda more: "%dim 1 %rule x Ap[o3] Aq[p3] Ar[q" + str(2 + more) + "] r=q\n",
+    lambda more: "%rule x " + "o=0 & " * (19998 + more) + "o=0\n",
+    lambda more: "%dim 1 %auto f when " + "o=0 & " * (19996 + more) + "o=0 give 1 else 0\n",
     lambda more: "%rule x o=0 %discharge x 0 0 " + " ".join(f"[{i % 5} {i // 5}]" for i in range(16 + more)) + "\n",
 ]
 """Scripts at the limits, as they are with the number 0 and one past with 1."""
