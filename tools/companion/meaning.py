@@ -1,0 +1,97 @@
+"""What the commands of a script mean, and the faults of their meaning.
+
+Each command is gone through by a class of this module, or by its kind of query: first the names, then the shapes, then the sizes; and
+where there is no fault, what it says is put into the script.
+"""
+from typing import Any, Iterator, Optional, Sequence
+
+from .commands import Command
+from .faults import Fault, first
+from .script import Script
+from .tokens import NUMBER, WORD, Token
+
+MOST_COMMANDS = 1000
+MOST_LETTERS = 32
+MOST_NUMBER = 1000000
+
+
+def unknown(token: Token, rule: str) -> Fault:
+    """The fault of a name that stands for nothing."""
+    return Fault("unknown", token.text, token.at, rule, token.text)
+
+
+def twice(token: Token, rule: str, name: Optional[str] = None) -> Fault:
+    """The fault of a name that is taken."""
+    return Fault("twice", token.text if name is None else name, token.at, rule, token.text)
+
+
+def shape(token: Token, rule: str) -> Fault:
+    """The fault of numbers that don't fit the dimension."""
+    return Fault("dimension", "", token.at, rule, token.text)
+
+
+def over(limit: str, token: Token, rule: str) -> Fault:
+    """The fault of a limit that is passed."""
+    return Fault("size", limit, token.at, rule, token.text)
+
+
+class Meaning:
+    """A command's meaning for a script. The iterators give faults; those of sizes in the order of the limits."""
+
+    def __init__(self, script: Script, command: Command, commands: Sequence[Command]) -> None:
+        self.script = script
+        self.command = command
+        self.commands = commands
+        self.keyword = command.keyword
+        self.body: Any = command.body
+
+    def before(self) -> Sequence[Command]:
+        """The commands before this one."""
+        return self.commands[:self.command.number - 1]
+
+    def behind(self) -> Sequence[Command]:
+        """The commands behind this one."""
+        return self.commands[self.command.number:]
+
+    def names(self) -> Iterator[Fault]:
+        """Names that stand for nothing, and names that are taken."""
+        return iter(())
+
+    def shapes(self) -> Iterator[Fault]:
+        """Numbers that don't fit the dimension."""
+        return iter(())
+
+    def sizes(self) -> Iterator[Fault]:
+        """Limits that are passed, but those that each token has."""
+        return iter(())
+
+    def apply(self) -> None:
+        """Puts what the command says into the script."""
+
+    def fault(self) -> Optional[Fault]:
+        """The fault that counts."""
+        found = first(list(self.names())) or first(list(self.shapes())) or next(self._token_sizes(), None) or next(self.sizes(), None)
+        if found:
+            found.command = self.command.number
+        return found
+
+    def _token_sizes(self) -> Iterator[Fault]:
+        if self.command.number > MOST_COMMANDS:
+            yield over("commands", self.keyword, f"a script has at most {MOST_COMMANDS} commands")
+        for token in self.command.tokens:
+            if token.kind == WORD and len(token.text) > MOST_LETTERS:
+                yield over("word", token, f"a word has at most {MOST_LETTERS} letters, this one has {len(token.text)}")
+        for token in self.command.tokens:
+            if token.kind == NUMBER and abs(token.value()) > MOST_NUMBER:
+                yield over("number", token, f"a number is at most {MOST_NUMBER:,} in absolute value")
+
+    def taken(self, name: Token) -> Iterator[Fault]:
+        """The fault of a name that a rule, an automaton or a configuration has."""
+        if name.text in self.script.named:
+            yield twice(name, f"{name.text} is named before; rules, automata and configurations share their names")
+
+    def known_symbols(self, tokens: Sequence[Token]) -> Iterator[Fault]:
+        """The faults of symbols that the alphabet doesn't have."""
+        for token in tokens:
+            if token.text not in self.script.symbols:
+                yield unknown(token, f"no symbol has this name; the alphabet is {' '.join(self.script.symbols)}")

@@ -1,0 +1,57 @@
+"""Scripts that are refused: the line, the place and the rule."""
+import re
+import unittest
+
+from .common import DOCS, refusal
+
+PLACES = {
+    "x": "x", "%rule a o=1 &": "", "%rule a o=01": "01", "%rule a o=0 %dim 1": "dim", "%conf c [-1 1] 0": "-1", "%rule a o=2": "2",
+    "%rule a o.left=0": "left", "%rule a p=0": "p=", "%rule a o=0 %member c a": "c a", "%only 0 1 %conf c [1 1] 0": "0",
+    "%alphabet a b a": "a", "%rule a o=0 %conf a [1 1] 0": "a [", "%rule a Ao[o1] o=0": "o[",
+    "%rule a o=0 %discharge a 0 0 [1 0] [1 0]": "[1 0]", "%dim 4": "4", "%dim 1 %topology square": "square", "%nodes a b": "b",
+    "%weights 1": "1", "%conf c [2 2] 0 1": "[2", "%dim 1 %conf c [2] [1] 0 1": "[1]", "%rule a o=0 %density a [2 2]": "[2",
+    "%weights 0 1000001": "1000001", "%weights 0 1001": "1001", "%limits 9 4 10000": "9", "%rule a Ep[o4] p=1": "4]",
+    "%conf c [2 1] [2] 0 1": "2] 0", "%rule a o=0 %discharge a 0 0 [5 0]": "5", "%rule a Ep[o1] p=1 %density a [6]": "density",
+}
+"""Where scripts of docs/refusals.md are at fault: the last place at which this text stands."""
+
+
+class Refusals(unittest.TestCase):
+    """The scripts of docs/refusals.md, and more."""
+
+    def test_page(self) -> None:
+        """Each script of the page is refused as the page says, and each at the right place."""
+        page = (DOCS / "refusals.md").read_text(encoding="utf-8")
+        lines = [line for block in re.findall(r"^```refused\n(.*?)^```", page, re.M | re.S) for line in block.splitlines()]
+        self.assertGreater(len(lines), 30)
+        for line in lines:
+            script, _, wanted = line.rpartition("-- ")
+            found = refusal(line + "\n")
+            self.assertEqual(found[0], wanted, line)
+            script = script.strip()
+            if script in PLACES:
+                self.assertEqual(found[2], script.rfind(PLACES[script]) + 1 if PLACES[script] else len(script) + 1, line)
+
+    def test_header_order(self) -> None:
+        """A command of the header that comes too late is named as such."""
+        line, row, column, rule = refusal("%rule a o=0\n%dim 1\n")
+        self.assertEqual((line, row, column), ("refused 2 syntax", 2, 2))
+        self.assertIn("has to come before %rule", rule)
+        self.assertIn("given twice", refusal("%dim 1 %dim 1")[3])
+
+    def test_wrong_kind(self) -> None:
+        """A rule's name where a configuration's is wanted is named as such."""
+        line, _, column, rule = refusal("%rule a o=0\n%member a a\n")
+        self.assertEqual((line, column), ("refused 2 unknown a", 9))
+        self.assertIn("a configuration is wanted here, and a is a rule", rule)
+
+    def test_kinds_in_order(self) -> None:
+        """In a command the first kind counts, and within sizes the first limit."""
+        self.assertEqual(refusal("%rule a o=0 %rule a b=1")[0], "refused 2 unknown b")
+        self.assertEqual(refusal("%rule a Ep[o4] p.up.up.up.up.up.up.up.up.up.up.up.up.up.up.up.up.up=1")[0], "refused 1 size moves")
+
+    def test_bytes(self) -> None:
+        """Bytes that begin no token."""
+        self.assertEqual(refusal("%rule a o=0 -- \xe9")[:3], ("refused 1 syntax", 1, 16))
+        self.assertEqual(refusal("%rule a o=0 <--> o=1")[:3], ("refused 1 syntax", 1, 13))
+        self.assertEqual(refusal("-- % \n%rule a o=0")[0], "accepted")
