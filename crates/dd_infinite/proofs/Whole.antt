@@ -65,13 +65,13 @@ one_node s h = sym h.spike.same_nodes
 
 pub both_allowed : (s : Parts) → IsForBoth s → (allows s.known.setting.sets 0 0 ≡ true) × (allows s.known.setting.sets 0 1 ≡ true)
 both_allowed s h = (
-  h.spike.allowed (cell (place (pos 1) (pos 0) (pos 0)) 0) (on_axis _ (pos 1)) (omega arith),
-  h.spike.allowed (cell (place (pos 0) (pos 0) (pos 0)) 0) (on_axis _ (pos 0)) (omega arith),
+  h.spike.allowed (cell (place (pos 1) (pos 0) (pos 0)) 0) (on_axis s.known.setting.topology.dimension (pos 1)) (omega arith),
+  h.spike.allowed (cell (place (pos 0) (pos 0) (pos 0)) 0) (on_axis s.known.setting.topology.dimension (pos 0)) (omega arith),
 )
 
 pub exclusion : (s : Parts) (number : ℕ) (a : Answer) (v : Place) → HasQuery s number → is_flat s.known.setting.topology.dimension v ≡ true → is_yes a ≡ true →
     IsCertificate s number a → IsExclusion s number a v
-exclusion s number a v query position yes certificate = record { query = query; position = position; yes = yes; certificate = certificate }
+exclusion s number a v query position is certificate = record { query = query; position = position; yes = is; certificate = certificate }
 
 pub has_rows : (s : Parts) → IsScriptOf s → s.known.setting.topology.nodes ≡ 1 → 0 < length s.known.setting.sets.allowed
 has_rows s ok one = let n = ok.known.setting.sets.nodes in let m = ok.known.setting.topology.nodes in omega (arith, n, m, one)
