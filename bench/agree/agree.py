@@ -4,10 +4,12 @@
 It makes N random scripts from the seed, whole, mutated and at the limits. Of each it compares the line of a refusal, the answer lines
 with those of plain searches, and what the two checks say of the output, as it is and altered.
 """
+import contextlib
 import io
 import os
 import pathlib
 import random
+import signal
 import subprocess
 import sys
 from typing import Dict, Tuple
@@ -71,7 +73,8 @@ class Agreement:
         for query, answer in zip(script.queries, read_output(output).answers):
             self.counts["queries"] += 1
             found = query.found()
-            if found is None:
+            # the plain simplex run has no limits on pivots and numbers, so it can't say where these are passed
+            if found is None or answer.line() in ("UNKNOWN pivots", "UNKNOWN overflow"):
                 self.counts["left open"] += 1
             elif found != answer.line():
                 self.differs(query.text(), text, answer.line(), found)
@@ -98,8 +101,11 @@ def main() -> int:
     count, seed = int(sys.argv[1]), int(sys.argv[2])
     program = sys.argv[3] if len(sys.argv) > 3 else os.environ.get("DIDDY", str(TOP / "diddy"))
     agreement = Agreement(program, seed)
-    for _ in range(count):
-        agreement.trial()
+    # a run that is stopped says what it has counted
+    signal.signal(signal.SIGTERM, signal.default_int_handler)
+    with contextlib.suppress(KeyboardInterrupt):
+        for _ in range(count):
+            agreement.trial()
     said = ", ".join(f"{number:,} {name}" for name, number in agreement.counts.items())
     print(f"agree: {said}; {agreement.faults} differences")
     return 1 if agreement.faults else 0
