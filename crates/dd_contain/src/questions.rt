@@ -55,6 +55,18 @@ fn outcome<E: Engine>(
     }
 }
 
+/// A torus of so many positions is searched in the focused style.
+const LARGE_TORUS: u32 = 25;
+
+/// The style of search for these periods. On a small torus a contradiction lies among few cells, as on a box.
+fn style_of(at: &Periods) -> Style {
+    if at.x.saturating_mul(at.y).saturating_mul(at.z) >= LARGE_TORUS {
+        Style::Focused
+    } else {
+        Style::Broad
+    }
+}
+
 /// Can a configuration that obeys the premise have the goal?
 #[derive(Clone, Copy)]
 struct BoxQuestion<'a> {
@@ -99,7 +111,7 @@ impl<'a> Questions for BoxQuestion<'a> {
         kept_is_reflexive();
         let periods = [at.x, at.y, at.z];
         let cnf = torus_clauses(self.alloc, self.premise, self.goal, periods, at.shear)?;
-        match outcome(self.alloc, &cnf, Style::Focused, roster)? {
+        match outcome(self.alloc, &cnf, style_of(at), roster)? {
             Outcome::Found(found) => {
                 let periodic = read_torus(self.alloc, self.premise, periods, at.shear, &found)?;
                 // Read for what its type keeps.

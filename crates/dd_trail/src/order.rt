@@ -32,8 +32,8 @@ pub enum Style {
     /// Czarnecki 2016). It is the better one where a contradiction lies deep among many variables: boxes, pigeonholes.
     Broad,
     /// The latest conflicts count most: what one adds grows by 1/16, and a variable becomes more active once for all clauses
-    /// of the conflict, as in MiniSat (Eén and Sörensson 2003). It is the better one on tori, where each cell is as good as
-    /// any other: the search stays among the cells where it is.
+    /// of the conflict, as in MiniSat (Eén and Sörensson 2003). It is the better one on large tori, where each cell is as good
+    /// as any other: the search stays among the cells where it is.
     Focused,
 }
 
