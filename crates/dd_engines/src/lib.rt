@@ -2,6 +2,7 @@
 #![tactic(auto)]
 
 mod analysis;
+mod chains;
 mod cycle;
 mod engine;
 mod laws;

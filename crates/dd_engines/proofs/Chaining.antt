@@ -1,0 +1,98 @@
+-- Chains of links: one more link changes no chain that was there.
+use Rattle.std.proofs.Common.{◌≡◌, ◌≢◌, ◌⊎◌, ℕ, zero, suc, ◌+◌, ◌<◌, ◌≤◌, get_or, List, [], ◌∷◌, ◌++◌, Option, Some, None, refl, sym, ◌∙◌, ap, subst, inl, inr, length, arith, add-one}
+use Rattle.std.proofs.Math.ListN.{set}
+use Rattle.std.specs.List.{slice_get, All}
+use Rattle.std.specs.Option.{option_map_or}
+use Rattle.std.proofs.lemmas.List.{get_or-set_same, get_or-set_other, length-append}
+use Rattle.std.proofs.lemmas.List.Elements.{All-set, All-weaker}
+use Rattle.dd_engines.specs.declared.chains.Link.{Link}
+use Rattle.dd_engines.specs.walking.Chains.{along, chain_of, AreLinked}
+
+get_front : (xs : List Link) (e : Link) (k : ℕ) → k < length xs → slice_get (xs ++ e ∷ []) k ≡ slice_get xs k
+get_front [] e k lt = absurd (omega (arith, lt))
+get_front (x ∷ xs) e zero lt = refl
+get_front (x ∷ xs) e (suc k) lt = get_front xs e k (omega (arith, lt))
+
+get_last : (xs : List Link) (e : Link) → slice_get (xs ++ e ∷ []) (length xs) ≡ Some e
+get_last [] e = refl
+get_last (x ∷ xs) e = get_last xs e
+
+get_any : (xs : List Link) (e link : Link) (k : ℕ) → slice_get (xs ++ e ∷ []) k ≡ Some link → (slice_get xs k ≡ Some link) ⊎ ((k ≡ length xs) × (link ≡ e))
+get_any [] e link zero is = inr (refl, cc is)
+get_any [] e link (suc k) is = absurd (cc is)
+get_any (x ∷ xs) e link zero is = inl is
+get_any (x ∷ xs) e link (suc k) is = elim (get_any xs e link k is) [
+  | inl before ↦ inl before
+  | inr last ↦ inr (omega (arith, last.0), last.1)
+]
+
+pub linked_push : (links : List Link) (e : Link) → AreLinked links → e.next ≤ length links → AreLinked (links ++ e ∷ [])
+linked_push links e linked back k link is = elim (get_any links e link k is) [
+  | inl before ↦ linked k link before
+  | inr last ↦ rw (last.1, last.0) back
+]
+
+along_enough : (links : List Link) → AreLinked links → (f g at : ℕ) → at ≤ f → at ≤ g → along f links at ≡ along g links at
+along_enough links linked zero zero at a b = refl
+along_enough links linked zero (suc g) zero a b = refl
+along_enough links linked zero (suc g) (suc at) a b = absurd (omega (arith, a))
+along_enough links linked (suc f) zero zero a b = refl
+along_enough links linked (suc f) zero (suc at) a b = absurd (omega (arith, b))
+along_enough links linked (suc f) (suc g) zero a b = refl
+along_enough links linked (suc f) (suc g) (suc at) a b = go (slice_get links at) (linked at) (λ n less. along_enough links linked f g n (omega (arith, a, less)) (omega (arith, b, less)))
+  where
+    go : (o : Option Link) → ((link : Link) → o ≡ Some link → link.next ≤ at) → ((n : ℕ) → n ≤ at → along f links n ≡ along g links n)
+        → option_map_or (λ link. link.number ∷ along f links link.next) o [] ≡ option_map_or (λ link. link.number ∷ along g links link.next) o []
+    go None back rest = refl
+    go (Some link) back rest = ap (λ (ks : List ℕ). link.number ∷ ks) (rest link.next (back link refl))
+
+along_push : (links : List Link) (e : Link) → AreLinked links → (f at : ℕ) → at ≤ length links → along f (links ++ e ∷ []) at ≡ along f links at
+along_push links e linked zero at few = refl
+along_push links e linked (suc f) zero few = refl
+along_push links e linked (suc f) (suc at) few =
+    ap (λ (o : Option Link). option_map_or (λ link. link.number ∷ along f (links ++ e ∷ []) link.next) o []) (get_front links e at (omega (arith, few)))
+    ∙ go (slice_get links at) (linked at) (λ n less. along_push links e linked f n (omega (arith, few, less)))
+  where
+    go : (o : Option Link) → ((link : Link) → o ≡ Some link → link.next ≤ at) → ((n : ℕ) → n ≤ at → along f (links ++ e ∷ []) n ≡ along f links n)
+        → option_map_or (λ link. link.number ∷ along f (links ++ e ∷ []) link.next) o [] ≡ option_map_or (λ link. link.number ∷ along f links link.next) o []
+    go None back rest = refl
+    go (Some link) back rest = ap (λ (ks : List ℕ). link.number ∷ ks) (rest link.next (back link refl))
+
+-- chains that were there stay
+pub chain_stays : (links : List Link) (e : Link) (at : ℕ) → AreLinked links → at ≤ length links → chain_of (links ++ e ∷ []) at ≡ chain_of links at
+chain_stays links e at linked few = along_push links e linked at at few
+
+-- a new link stands before the chain that it leads to
+pub chain_push : (links : List Link) (e : Link) → AreLinked links → e.next ≤ length links → chain_of (links ++ e ∷ []) (length links + 1) ≡ e.number ∷ chain_of links e.next
+chain_push links e linked back =
+    ap (chain_of (links ++ e ∷ [])) (add-one (length links))
+    ∙ ap (λ (o : Option Link). option_map_or (λ link. link.number ∷ along (length links) (links ++ e ∷ []) link.next) o []) (get_last links e)
+    ∙ ap (λ (ks : List ℕ). e.number ∷ ks) (along_push links e linked (length links) e.next back ∙ along_enough links linked (length links) e.next e.next back (omega arith))
+
+-- the chain of a link that was read
+pub chain_next : (links : List Link) (at : ℕ) (link : Link) → AreLinked links → slice_get links at ≡ Some link → chain_of links (at + 1) ≡ link.number ∷ chain_of links link.next
+chain_next links at link linked is =
+    ap (chain_of links) (add-one at)
+    ∙ ap (λ (o : Option Link). option_map_or (λ l. l.number ∷ along at links l.next) o []) is
+    ∙ ap (λ (ks : List ℕ). link.number ∷ ks) (along_enough links linked at link.next link.next (linked at link is) (omega arith))
+
+-- ---- one literal more
+
+module _ (firsts : List ℕ) (links : List Link) (number p : ℕ) (linked : AreLinked links) (firsts_in : All (λ at. at ≤ length links) firsts) (within : p < length firsts) where
+  abbrev one : Link
+  one = record { number = number; next = get_or firsts p 0 }
+
+  pub one_added : chain_of (links ++ one ∷ []) (get_or (set firsts p (length links + 1)) p 0) ≡ number ∷ chain_of links (get_or firsts p 0)
+  one_added = ap (chain_of (links ++ one ∷ [])) (get_or-set_same firsts p (length links + 1) 0 within) ∙ chain_push links one linked (firsts_in p 0 within)
+
+  pub others_stay : (q : ℕ) → q < length firsts → q ≢ p → chain_of (links ++ one ∷ []) (get_or (set firsts p (length links + 1)) q 0) ≡ chain_of links (get_or firsts q 0)
+  others_stay q lt other = ap (chain_of (links ++ one ∷ [])) (get_or-set_other firsts p q (length links + 1) 0 other) ∙ chain_stays links one (get_or firsts q 0) linked (firsts_in q 0 lt)
+
+  pub linked_still : AreLinked (links ++ one ∷ [])
+  linked_still = linked_push links one linked (firsts_in p 0 within)
+
+  pub firsts_still : All (λ at. at ≤ length (links ++ one ∷ [])) (set firsts p (length links + 1))
+  firsts_still =
+      let long : length (links ++ one ∷ []) ≡ length links + 1 = length-append links (one ∷ []) in
+      All-set (λ at. at ≤ length (links ++ one ∷ [])) firsts p (length links + 1) (omega (arith, long))
+      (All-weaker (λ at. at ≤ length links) (λ at. at ≤ length (links ++ one ∷ [])) (λ at h. omega (arith, h, long)) firsts firsts_in)
