@@ -1,12 +1,22 @@
 -- Chains of links: one more link changes no chain that was there.
-use Rattle.std.proofs.Common.{◌≡◌, ◌≢◌, ◌⊎◌, ℕ, zero, suc, ◌+◌, ◌<◌, ◌≤◌, get_or, List, [], ◌∷◌, ◌++◌, Option, Some, None, refl, sym, ◌∙◌, ap, subst, inl, inr, length, arith, add-one}
+use Rattle.std.proofs.Common.{◌≡◌, ◌≢◌, ◌⊎◌, ℕ, zero, suc, ◌+◌, ◌<◌, ◌≤◌, Bool, true, false, get_or, take, drop, List, [], ◌∷◌, ◌++◌, Option, Some, None, refl, sym, ◌∙◌, ap, subst, inl, inr, length, arith, add-one}
 use Rattle.std.proofs.Math.ListN.{set}
 use Rattle.std.specs.List.{slice_get, All}
 use Rattle.std.specs.Option.{option_map_or}
 use Rattle.std.proofs.lemmas.List.{get_or-set_same, get_or-set_other, length-append}
 use Rattle.std.proofs.lemmas.List.Elements.{All-set, All-weaker}
+use Rattle.std.proofs.Math.ListN.{replicate}
+use Rattle.std.proofs.lemmas.Bool.{cases_Bool, false≢true}
+use Rattle.std.proofs.lemmas.Grind.{common_steps}
+use Rattle.std.proofs.lemmas.List.{drop_more}
+use Rattle.std.proofs.lemmas.List.Sums.{count_by_more_yes, count_by_more_no}
+use Rattle.dd_clause.specs.declared.clause.Literal.{Literal}
+use Rattle.dd_derivation.specs.Derivations.{same_literal}
+use Rattle.dd_derivation.specs.lemmas.Soundness.{same_literal-eq}
 use Rattle.dd_engines.specs.declared.chains.Link.{Link}
-use Rattle.dd_engines.specs.walking.Chains.{along, chain_of, AreLinked}
+use Rattle.dd_engines.specs.declared.chains.Chains.{Chains}
+use Rattle.dd_engines.specs.walking.Truths.{times_in, place_of, standing}
+use Rattle.dd_engines.specs.walking.Chains.{along, chain_of, AreLinked, HasChain, numbers_of, AreChained}
 
 get_front : (xs : List Link) (e : Link) (k : ℕ) → k < length xs → slice_get (xs ++ e ∷ []) k ≡ slice_get xs k
 get_front [] e k lt = absurd (omega (arith, lt))
@@ -96,3 +106,28 @@ module _ (firsts : List ℕ) (links : List Link) (number p : ℕ) (linked : AreL
       let long : length (links ++ one ∷ []) ≡ length links + 1 = length-append links (one ∷ []) in
       All-set (λ at. at ≤ length (links ++ one ∷ [])) firsts p (length links + 1) (omega (arith, long))
       (All-weaker (λ at. at ≤ length links) (λ at. at ≤ length (links ++ one ∷ [])) (λ at h. omega (arith, h, long)) firsts firsts_in)
+
+-- ---- the literals of a clause, one after the other
+
+place_differs : (m x : Literal) → 1 ≤ m.variable → 1 ≤ x.variable → same_literal m x ≡ false → place_of m ≢ place_of x
+place_differs m x a b other same = absurd (false≢true (sym other ∙ grind (arith, common_steps)))
+
+pub added_more : (m x d : Literal) (xs : List Literal) (i number : ℕ) (first before after : List ℕ) → i < length xs → x ≡ get_or xs i d → 1 ≤ m.variable → 1 ≤ x.variable
+    → before ≡ replicate (times_in m (take i xs)) number ++ first → (m ≡ x → after ≡ number ∷ before) → (place_of m ≢ place_of x → after ≡ before)
+    → after ≡ replicate (times_in m (take (i + 1) xs)) number ++ first
+added_more m x d xs i number first before after lt is a b so_far here other = elim (cases_Bool (same_literal m x)) [
+  | inl t ↦
+      let times : times_in m (take (i + 1) xs) ≡ times_in m (take i xs) + 1 = count_by_more_yes (same_literal m) xs i d lt (ap (same_literal m) (sym is) ∙ t) in
+      here (same_literal-eq m x t) ∙ ap (λ (ks : List ℕ). number ∷ ks) so_far
+      ∙ ap (λ (n : ℕ). replicate n number ++ first) (sym (add-one (times_in m (take i xs)))) ∙ ap (λ (n : ℕ). replicate n number ++ first) (sym times)
+  | inr f ↦
+      let times : times_in m (take (i + 1) xs) ≡ times_in m (take i xs) = count_by_more_no (same_literal m) xs i d lt (ap (same_literal m) (sym is) ∙ f) in
+      other (place_differs m x a b f) ∙ so_far ∙ ap (λ (n : ℕ). replicate n number ++ first) (sym times)
+]
+
+-- the clause of a number is put before those behind it
+pub chained_more : (old new : Chains) (clauses : List (List Literal)) (i : ℕ) (clause : List Literal) → i < length clauses → clause ≡ get_or clauses i clause → length new.firsts.items ≡ length old.firsts.items
+    → AreChained old (i + 1) (drop (i + 1) clauses) → ((l : Literal) → HasChain old l → numbers_of new l ≡ replicate (times_in l clause) i ++ numbers_of old l) → AreChained new i (drop i clauses)
+chained_more old new clauses i clause lt is long chained added l has =
+    let had : HasChain old l = (has.0, omega (arith, has.1, long)) in
+    added l had ∙ ap (λ (ks : List ℕ). replicate (times_in l clause) i ++ ks) (chained l had) ∙ ap (standing l i) (ap (λ (c : List Literal). c ∷ drop (i + 1) clauses) is ∙ sym (drop_more clauses i clause lt))
