@@ -12,6 +12,8 @@ mod fillings;
 #[cfg(test)]
 mod inputs;
 #[cfg(test)]
+mod minimal;
+#[cfg(test)]
 mod questions;
 #[cfg(test)]
 mod scripts;
