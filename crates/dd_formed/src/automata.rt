@@ -1,0 +1,146 @@
+//! Whether automata are well formed. An automaton is well formed where it can be made once more: each part of it is made, from the
+//! rules upwards, and what makes a part tests it.
+ghost use Rattle.std.specs.Prelude.{◌≡◌, ◌≢◌, ◌↔◌, ◌&&◌, IsTrue, IfOk, None, nat_lt};
+ghost use Rattle.std.specs.List.{list_all};
+ghost use Rattle.dd_formula.specs.Automata.{IsAutomaton, cases_fit, rule_has};
+ghost use Rattle.dd_formed.specs.Formed.{numbers_of, IsOnceMore};
+
+use dd_formula::{Automaton, Cases, Rule, RuleFault};
+use dd_values::Items;
+use std::alloc::{AllocError, Global};
+
+/// The numbers that the rules of an automaton have in common.
+#[derive(Clone, Copy)]
+pub struct CommonNumbers {
+    pub dimension: u32,
+    pub nodes: u32,
+    pub symbols: u32,
+}
+
+fn has_numbers(rule: &Rule, numbers: CommonNumbers) -> bool
+    ensures { result ≡ rule_has (numbers_of numbers) rule.now }
+{
+    rule.dim() == numbers.dimension
+        && rule.nodes() == numbers.nodes
+        && rule.symbols() == numbers.symbols
+}
+
+fn case_fits(case: &(Rule, u32), numbers: CommonNumbers) -> bool
+    ensures { result ≡ (rule_has (numbers_of numbers) case.now.0 && nat_lt case.now.1 numbers.symbols) }
+{
+    has_numbers(&case.0, numbers) && case.1 < numbers.symbols
+}
+
+fn all_cases_fit(cases: &[(Rule, u32)], numbers: CommonNumbers) -> bool
+    ensures { result ≡ list_all (λ case. rule_has (numbers_of numbers) case.0 && nat_lt case.1 numbers.symbols) cases.now }
+{
+    cases.iter().all(|case| case_fits(case, numbers))
+}
+
+/// Whether each rule has the numbers, and each symbol is one of the alphabet.
+fn cases_fit(cases: &Cases, numbers: CommonNumbers) -> bool
+    ensures { result ≡ cases_fit (numbers_of numbers) cases.now.cases cases.now.otherwise }
+{
+    all_cases_fit(cases.cases.as_slice(), numbers) && cases.otherwise < numbers.symbols
+}
+
+fn copy_of(alloc: Global, cases: &Cases) -> Result<Cases, AllocError>
+    ensures { IfOk result (λ copy. copy ≡ cases.now) }
+{
+    let mut copies = Items::new(alloc);
+    for (rule, symbol) in cases.cases.as_slice() {
+        copies.push((rule.copy(alloc)?, *symbol))?;
+    }
+    Ok(Cases {
+        cases: copies,
+        otherwise: cases.otherwise,
+    })
+}
+
+/// The automaton by these cases, where it is well formed.
+#[tactic(auto, using(crate::proofs::Making::no_nodes, crate::proofs::Making::unfit_given, crate::proofs::Making::many_given))]
+fn given(
+    alloc: Global,
+    cases: &Cases,
+    numbers: CommonNumbers,
+) -> Result<Option<Automaton>, AllocError>
+    ensures { IfOk result (IsOnceMore (numbers_of numbers) (Automaton.Given cases.now)) }
+{
+    if numbers.nodes == 0 {
+        return Ok(None);
+    }
+    if !cases_fit(cases, numbers) {
+        return Ok(None);
+    }
+    match Automaton::given(copy_of(alloc, cases)?, numbers.nodes) {
+        Ok(automaton) => Ok(Some(automaton)),
+        Err(_) => Ok(None),
+    }
+}
+
+/// What a fault says of the automaton: it isn't well formed, unless memory was wanting.
+fn refused(fault: RuleFault) -> Result<Option<Automaton>, AllocError>
+    ensures { IfOk result (λ none. (none ≡ None) × (fault ≢ RuleFault.Memory)) }
+{
+    match fault {
+        RuleFault::Instances | RuleFault::Reach | RuleFault::Depth => Ok(None),
+        RuleFault::Memory => Err(AllocError),
+    }
+}
+
+/// The composition, where it is well formed.
+fn composed(
+    alloc: Global,
+    outer: Automaton,
+    inner: Automaton,
+    numbers: CommonNumbers,
+) -> Result<Option<Automaton>, AllocError>
+    requires outer { IsAutomaton (numbers_of numbers) outer }
+    requires inner { IsAutomaton (numbers_of numbers) inner }
+    ensures { IfOk result (IsOnceMore (numbers_of numbers) (Automaton.Composed outer inner)) }
+{
+    match Automaton::composed(alloc, outer, inner) {
+        Ok(automaton) => Ok(Some(automaton)),
+        Err((fault, _, _)) => refused(fault),
+    }
+}
+
+/// The automaton once more, where it is well formed.
+#[tactic(auto, using(crate::proofs::Making::no_outer, crate::proofs::Making::no_inner))]
+fn once_more(
+    alloc: Global,
+    automaton: &Automaton,
+    numbers: CommonNumbers,
+) -> Result<Option<Automaton>, AllocError>
+    ensures { IfOk result (IsOnceMore (numbers_of numbers) automaton.now) }
+{
+    match automaton {
+        Automaton::Given(cases) => given(alloc, cases, numbers),
+        Automaton::Composed(outer, inner) => {
+            let Some(first) = once_more(alloc, outer.get(), numbers)? else {
+                return Ok(None);
+            };
+            match once_more(alloc, inner.get(), numbers)? {
+                Some(second) => composed(alloc, first, second, numbers),
+                None => Ok(None),
+            }
+        }
+    }
+}
+
+/// Whether an automaton is well formed over these numbers: there is a node, each of its rules has the numbers, each symbol that it gives
+/// is one of the alphabet, and each part of it has at most 20,000 instances at each node, reads nothing more than 16 away along an axis,
+/// and nests compositions at most 64 deep.
+///
+/// # Errors
+/// `AllocError` where memory was wanting.
+#[tactic(auto, using(crate::proofs::Making::tells))]
+pub fn is_automaton(
+    alloc: Global,
+    automaton: &Automaton,
+    numbers: CommonNumbers,
+) -> Result<bool, AllocError>
+    ensures { IfOk result (λ is_formed. IsTrue is_formed ↔ IsAutomaton (numbers_of numbers) automaton.now) }
+{
+    Ok(once_more(alloc, automaton, numbers)?.is_some())
+}

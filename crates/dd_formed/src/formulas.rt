@@ -1,0 +1,137 @@
+//! Whether the numbers in formulas are those of what there is.
+ghost use Rattle.std.specs.Prelude.{◌≡◌, ◌+◌, ◌<◌, ◌^◌, ◌↔◌, ◌&&◌, IsTrue, All, length, nat_lt};
+ghost use Rattle.std.specs.List.{list_all};
+ghost use Rattle.dd_expansion.specs.Limits.{term_fits, ball_fits, balls_fit, formula_fits, depth, IsFormula};
+
+use crate::depth::is_shallow;
+use dd_expansion::{BallOf, Formula, Term};
+use dd_topology::Topology;
+
+/// The greatest number of moves of a term, and of balls of a quantifier, the greatest radius of a ball, and how deep a formula is at
+/// most.
+const MOST_MOVES: usize = 16;
+
+const MOST_BALLS: usize = 4;
+
+const WIDEST_RADIUS: u32 = 3;
+
+const MOST_NESTED: u32 = 64;
+
+/// What formulas may name: the labels and nodes of a topology, and symbols.
+#[derive(Drop)]
+struct Language<'a> {
+    topology: &'a Topology,
+    labels: u32,
+    symbols: u32,
+    ghost labelled: { length topology.now.labels ≡ labels },
+}
+
+fn are_below(numbers: &[u32], limit: u32) -> bool
+    ensures { result ≡ list_all (λ n. nat_lt n limit) numbers.now }
+{
+    numbers.iter().all(|&number| number < limit)
+}
+
+fn ball_fits(scope: u32, ball: &BallOf) -> bool
+    ensures { result ≡ ball_fits scope ball.now }
+{
+    ball.variable < scope && ball.radius <= WIDEST_RADIUS
+}
+
+fn all_balls_fit(scope: u32, balls: &[BallOf]) -> bool
+    ensures { result ≡ list_all (ball_fits scope) balls.now }
+{
+    balls.iter().all(|ball| ball_fits(scope, ball))
+}
+
+fn balls_fit(scope: u32, balls: &[BallOf]) -> bool
+    ensures { result ≡ balls_fit scope balls.now }
+{
+    balls.len() <= MOST_BALLS && all_balls_fit(scope, balls)
+}
+
+impl Language<'_> {
+    fn term_fits(&self, scope: u32, term: &Term) -> bool
+        ensures { result ≡ term_fits self.now.topology.now scope term.now }
+    {
+        term.variable < scope
+            && term.moves.len() <= MOST_MOVES
+            && are_below(term.moves.as_slice(), self.labels)
+    }
+
+    fn terms_fit(&self, scope: u32, left: &Term, right: &Term) -> bool
+        ensures { result ≡ (term_fits self.now.topology.now scope left.now && term_fits self.now.topology.now scope right.now) }
+    {
+        self.term_fits(scope, left) && self.term_fits(scope, right)
+    }
+
+    /// Whether the formula fits where so many variables are in scope. It is refused where there would be 2^32 of them.
+    #[cycle(fits)]
+    #[tactic(auto, using(crate::proofs::Layers::fits_layers, crate::proofs::Layers::depth_layers, crate::proofs::Layers::parts_within))]
+    fn fits(&self, scope: u32, formula: &Formula) -> bool
+        ensures { scope + depth formula.now < 2 ^ 32 → result ≡ formula_fits self.now.topology.now self.now.symbols formula.now scope }
+    {
+        match formula {
+            Formula::Symbol { term, symbol } | Formula::NotSymbol { term, symbol } => {
+                self.term_fits(scope, term) && *symbol < self.symbols
+            }
+            Formula::Same { left, right }
+            | Formula::NotSame { left, right }
+            | Formula::Adjacent { left, right }
+            | Formula::Place { left, right } => self.terms_fit(scope, left, right),
+            Formula::Node { term, node } => {
+                self.term_fits(scope, term) && *node < self.topology.nodes()
+            }
+            Formula::Not(part) => self.fits(scope, part.get()),
+            Formula::And(parts) => self.all_fit(scope, parts.as_slice()),
+            Formula::Or(parts) => self.all_fit(scope, parts.as_slice()),
+            Formula::Implies(left, right) | Formula::Iff(left, right) => {
+                self.fits(scope, left.get()) && self.fits(scope, right.get())
+            }
+            Formula::ForAll { balls, body } | Formula::Exists { balls, body } => {
+                self.body_fits(scope, balls.as_slice(), body.get())
+            }
+        }
+    }
+
+    /// The body has one variable more in scope.
+    #[cycle(fits)]
+    fn body_fits(&self, scope: u32, balls: &[BallOf], body: &Formula) -> bool
+        ensures { scope + 1 + depth body.now < 2 ^ 32 →
+            result ≡ (balls_fit scope balls.now && formula_fits self.now.topology.now self.now.symbols body.now (scope + 1)) }
+    {
+        if scope == u32::MAX {
+            return false;
+        }
+        balls_fit(scope, balls) && self.fits(scope + 1, body)
+    }
+
+    #[cycle(fits)]
+    fn all_fit(&self, scope: u32, parts: &[Formula]) -> bool
+        ensures { All (λ f. scope + depth f < 2 ^ 32) parts.now →
+            result ≡ list_all (λ f. formula_fits self.now.topology.now self.now.symbols f scope) parts.now }
+    {
+        for part in parts {
+            if !self.fits(scope, part) {
+                return false;
+            }
+        }
+        true
+    }
+}
+
+/// Whether a formula may be made a rule over a topology, which has so many labels, and so many symbols: it has one free variable, and
+/// each variable, label, node and symbol is one that there is; its terms have at most 16 moves, its quantifiers at most 4 balls of a
+/// radius of at most 3; and it is at most 64 deep, where a list of two parts or more, an implication, an equivalence, a negation and a
+/// quantifier are one deeper than their deepest part. It takes no memory.
+pub fn is_formula(topology: &Topology, labels: u32, symbols: u32, formula: &Formula) -> bool
+    requires { length topology.now.labels ≡ labels }
+    ensures { IsTrue result ↔ IsFormula topology.now symbols formula.now }
+{
+    let language = Language {
+        topology,
+        labels,
+        symbols,
+    };
+    is_shallow(formula, MOST_NESTED) && language.fits(1, formula)
+}
