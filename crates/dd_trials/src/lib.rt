@@ -10,6 +10,8 @@ mod clauses;
 #[cfg(test)]
 mod fillings;
 #[cfg(test)]
+mod images;
+#[cfg(test)]
 mod inputs;
 #[cfg(test)]
 mod minimal;
