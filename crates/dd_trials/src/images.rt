@@ -256,8 +256,20 @@ const COMPOSED: &[(&str, &str, &str, &[u32], &[u32])] = &[
         &[0, 1, 1, 0, 0, 0],
         &[1, 0, 0, 0, 0, 1],
     ),
-    (LINE, "%auto f else 0 ", "%auto g when o=0 give 1 else 0", &[0, 1, 1, 0, 0, 0], &[0; 6]),
-    (LINE, "%auto f when o=0 give 1 else 0 ", "%auto g else 0", &[0, 1, 1, 0, 0, 0], &[1; 6]),
+    (
+        LINE,
+        "%auto f else 0 ",
+        "%auto g when o=0 give 1 else 0",
+        &[0, 1, 1, 0, 0, 0],
+        &[0; 6],
+    ),
+    (
+        LINE,
+        "%auto f when o=0 give 1 else 0 ",
+        "%auto g else 0",
+        &[0, 1, 1, 0, 0, 0],
+        &[1; 6],
+    ),
     (
         THREE,
         "%auto f when o=1 give 2 when o=2 give 1 else 0 ",
