@@ -7,4 +7,5 @@ pub mod Shown
 pub mod UnitLaws
 pub mod Left
 pub mod Counted
+pub mod CountedClauses
 pub mod Light

@@ -12,16 +12,11 @@ use Rattle.dd_clause.specs.Clauses.{ClauseList}
 use Rattle.dd_circuit.specs.declared.gates.Signal.{Signal}
 use Rattle.dd_circuit.specs.declared.gates.Gate.{Gate}
 use Rattle.dd_circuit.specs.Circuits.{IsSignal}
-use Rattle.dd_cnf.specs.Encoding.{gate_clauses, gates_clauses}
+use Rattle.dd_cnf.specs.Encoding.{gates_clauses}
+use Rattle.dd_problem.specs.lemmas.Growing.{gates_clauses-append}
 use Rattle.dd_problem.specs.lemmas.RangesLeft.{range_to, range_step, range_ends}
 use Rattle.dd_compile.specs.Compiling.{AllMade}
 use Rattle.dd_counter.specs.Counter.{Making, making, joined, member_by, member, row, rows, grown}
-
-gates_clauses-append : (n : ℕ) (gs hs : List Gate) → gates_clauses n (gs ++ hs) ≡ gates_clauses n gs ++ gates_clauses (n + length gs) hs
-gates_clauses-append n [] hs = let e : n + 0 ≡ n = omega arith in rw e refl
-gates_clauses-append n (g ∷ gs) hs =
-    let e : n + suc (length gs) ≡ suc n + length gs = omega arith in
-    rw (e, gates_clauses-append (suc n) gs hs) (sym (append_assoc (gate_clauses (suc n) g) (gates_clauses (suc n) gs) (gates_clauses (suc n + length gs) hs)))
 
 same_list : (cnf : ClauseList) (variables : ℕ) (clauses : List (List Literal)) → cnf.variables ≡ variables → cnf.clauses ≡ clauses → cnf ≡ record { variables = variables; clauses = clauses }
 same_list cnf variables clauses wide all = rw (← wide, ← all) refl

@@ -1,5 +1,7 @@
+use Rattle.std.proofs.Common.{sym}
 use Rattle.dd_pattern.specs.Periods.{periods_of}
-use Rattle.dd_counter.proofs.Light.{room_at, weights_known, least_shown}
+use Rattle.dd_counter.specs.lemmas.Light.{least_shown}
+use Rattle.dd_counter.proofs.Light.{room_at, weights_known}
 use Rattle.dd_counter.proofs.least.least_weight.Goals as goal
 
 pub search_below-requires-in-loop-weight-clause-count : goal.search_below-requires-in-loop-weight-clause-count
@@ -16,4 +18,4 @@ pub returns-in-Nothing-2 : goal.returns-in-Nothing-2
 returns-in-Nothing-2 c =
     let none = rw c.in-Nothing-2.is at c.in_ok-periodic-2.ensures in
     least_shown c.args.rule.now (periods_of c.args.periods 0) c.args.weights.now c.loop-weight.weight c.loop-weight.found c.in-Nothing-2.steps c.loop-weight.invariant.lives
-    c.loop-weight.invariant.weighs none.0 none.1
+    (sym c.loop-weight.invariant.weighs) none.0 none.1
