@@ -1,7 +1,7 @@
 -- The inputs of the cells that are read from a fundamental box are those of the torus.
-use Rattle.std.proofs.Common.{◌≡◌, ℕ, ◌<◌, ◌≤◌, ◌*◌, Bool, true, List, map, length, refl, ap, sym, subst, ◌∙◌, arith, Some, None, ℤ, pos, ◌-ℤ◌, ◌+ℤ◌, if◌then◌else◌, option_map}
-use Rattle.std.specs.Prelude.{cond, ◌&&◌, nat_lt, nat_le, slice_get, unsigned_abs, ◌*ℤ◌}
-use Rattle.std.specs.List.{All, Contains, list_all, range_with_len}
+use Rattle.std.proofs.Common.{◌≡◌, ℕ, ◌<◌, ◌≤◌, ◌*◌, Bool, true, List, map, length, refl, ap, sym, subst, ◌∙◌, arith, Some, None, ℤ, ◌+ℤ◌, if◌then◌else◌, option_map}
+use Rattle.std.specs.Prelude.{cond, nat_lt, slice_get, unsigned_abs}
+use Rattle.std.specs.List.{Contains, list_all, range_with_len}
 use Rattle.std.proofs.lemmas.Int.{ints}
 use Rattle.std.proofs.lemmas.Bool.{and_parts, ltb-true, lt-ltb, leb-true}
 use Rattle.std.proofs.lemmas.List.{length-map}
@@ -14,10 +14,7 @@ use Rattle.dd_lattice.specs.declared.position.Cell.{Cell}
 use Rattle.dd_lattice.specs.lemmas.RangeLaws.{test_from_in_range}
 use Rattle.dd_topology.specs.Topology.{extent}
 use Rattle.dd_pattern.specs.declared.periods.Periods.{Periods}
-use Rattle.dd_pattern.specs.Periods.{residue, unsheared, base_of}
 use Rattle.dd_pattern.specs.Tile.{Tile, IsPeriodic, tile_index}
-use Rattle.dd_pattern.specs.lemmas.Residues.{residue_small, quotient_small}
-use Rattle.dd_pattern.specs.lemmas.TileLaws.{place_same}
 use Rattle.dd_pattern.specs.lemmas.TileSizes.{index_below}
 use Rattle.dd_expansion.specs.Placed.{is_flat}
 use Rattle.dd_circuit.specs.Circuits.{signal_of}

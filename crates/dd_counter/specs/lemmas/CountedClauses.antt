@@ -10,7 +10,7 @@ use Rattle.dd_circuit.specs.declared.gates.Gate.{Gate}
 use Rattle.dd_circuit.specs.declared.gates.Gate.TheVariants.{Or}
 use Rattle.dd_cnf.specs.Encoding.{gates_clauses, literal, literal_of, opposing}
 use Rattle.dd_problem.specs.lemmas.Growing.{gates_clauses-append}
-use Rattle.dd_counter.specs.Counter.{Making, joined, member_by, of_symbol, members, count, row, rows, refusal_of, last_refused, weighed}
+use Rattle.dd_counter.specs.Counter.{Making, joined, member_by, of_symbol, members, count, row, rows, refusal_of, weighed}
 
 -- of gates after others
 after : (n : ℕ) (gs hs : List Gate) (a b : ℕ) → length (gates_clauses n gs) ≤ a → length (gates_clauses (n + length gs) hs) ≤ b → length (gates_clauses n (gs ++ hs)) ≤ a + b

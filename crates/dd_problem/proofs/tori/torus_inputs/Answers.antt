@@ -1,10 +1,9 @@
-use Rattle.std.proofs.Common.{◌≡◌, ◌∙◌, subst}
+use Rattle.std.proofs.Common.{◌≡◌, subst}
 use Rattle.std.specs.Prelude.{IfOk}
 use Rattle.dd_compile.specs.Wiring.{Wiring}
 use Rattle.dd_boxes.specs.Views.{goal_of}
-use Rattle.dd_problem.proofs.TorusCalls.{near_are, near_in_order, near_nodes_there, numbers_few, wires_are}
+use Rattle.dd_problem.proofs.TorusCalls.{near_are, near_in_order, near_nodes_there, nodes_there, numbers_few, wires_are}
 use Rattle.dd_problem.proofs.Templating.{torus_near}
-use Rattle.dd_problem.proofs.TorusCalls.{nodes_there}
 use Rattle.dd_problem.proofs.tori.torus_inputs.Goals as goal
 
 pub near_cells-requires-clause-nodes : goal.near_cells-requires-clause-nodes
