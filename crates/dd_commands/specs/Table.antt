@@ -19,14 +19,15 @@ row QueryKind.Equal = entry (codes "equal") (Role.Rule ∷ Role.Rule ∷ []) 0 L
 row QueryKind.Empty = entry (codes "empty") (Role.Rule ∷ []) 0 Lists.None
 row QueryKind.Agree = entry (codes "same") (Role.Automaton ∷ Role.Automaton ∷ Role.Rule ∷ []) 0 Lists.None
 row QueryKind.Forbidden = entry (codes "forbidden") (Role.Rule ∷ []) 0 Lists.None
+row QueryKind.Minimal = entry (codes "minimal") (Role.Rule ∷ []) 0 Lists.None
 row QueryKind.Density = entry (codes "density") (Role.Rule ∷ []) 0 Lists.Strip
 row QueryKind.Discharge = entry (codes "discharge") (Role.Rule ∷ []) 2 Lists.Vectors
 
 -- all kinds of queries
 abbrev pub query_kinds : List QueryKind
 query_kinds =
-    QueryKind.Member ∷ QueryKind.Contains ∷ QueryKind.Equal ∷ QueryKind.Empty ∷ QueryKind.Agree ∷ QueryKind.Forbidden ∷ QueryKind.Density
-    ∷ QueryKind.Discharge ∷ []
+    QueryKind.Member ∷ QueryKind.Contains ∷ QueryKind.Equal ∷ QueryKind.Empty ∷ QueryKind.Agree ∷ QueryKind.Forbidden ∷ QueryKind.Minimal
+    ∷ QueryKind.Density ∷ QueryKind.Discharge ∷ []
 
 -- the first word of a kind
 abbrev pub kind_word : QueryKind → List ℕ

@@ -42,6 +42,8 @@ pub enum QueryKind {
     Agree,
     /// `forbidden X`: which patterns does the rule forbid?
     Forbidden,
+    /// `minimal X`: the smallest patterns that the rule forbids.
+    Minimal,
     /// `density X [5]`: the least density of the configurations of a strip with these periods.
     Density,
     /// `discharge X r m [1 0] ..`: the best bound by discharging, with a radius, a margin and vectors.
@@ -77,13 +79,14 @@ fn entry(word: &'static [u8], names: &'static [Role], numbers: usize, lists: Lis
 
 impl QueryKind {
     /// All kinds, in the order of the table.
-    pub(crate) const ALL: [QueryKind; 8] = [
+    pub(crate) const ALL: [QueryKind; 9] = [
         QueryKind::Member,
         QueryKind::Contains,
         QueryKind::Equal,
         QueryKind::Empty,
         QueryKind::Agree,
         QueryKind::Forbidden,
+        QueryKind::Minimal,
         QueryKind::Density,
         QueryKind::Discharge,
     ];
@@ -102,6 +105,7 @@ impl QueryKind {
             QueryKind::Empty => entry(b"empty", &[Rule], 0, Lists::None),
             QueryKind::Agree => entry(b"same", &[Automaton, Automaton, Rule], 0, Lists::None),
             QueryKind::Forbidden => entry(b"forbidden", &[Rule], 0, Lists::None),
+            QueryKind::Minimal => entry(b"minimal", &[Rule], 0, Lists::None),
             QueryKind::Density => entry(b"density", &[Rule], 0, Lists::Strip),
             QueryKind::Discharge => entry(b"discharge", &[Rule], 2, Lists::Vectors),
         }

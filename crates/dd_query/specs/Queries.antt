@@ -14,6 +14,7 @@ query_asked QueryKind.Equal x r = Query.Equal (word_at x r 0) (word_at x r 1)
 query_asked QueryKind.Empty x r = Query.Empty (word_at x r 0)
 query_asked QueryKind.Agree x r = Query.Agree (word_at x r 0) (word_at x r 1) (word_at x r 2)
 query_asked QueryKind.Forbidden x r = Query.Forbidden (word_at x r 0)
+query_asked QueryKind.Minimal x r = Query.Minimal (word_at x r 0)
 query_asked QueryKind.Density x r = Query.Density (word_at x r 0) (strip_periods x.text r.vectors)
 query_asked QueryKind.Discharge x r = Query.Discharge (word_at x r 0) (value_at x r 0) (value_at x r 1) (map (place_of x.text) r.vectors)
 
@@ -28,6 +29,7 @@ IsQueryWithin k (Query.Equal left right) = (left < length k.rules) × (right < l
 IsQueryWithin k (Query.Empty rule) = rule < length k.rules
 IsQueryWithin k (Query.Agree left right rule) = (left < length k.automata) × (right < length k.automata) × (rule < length k.rules)
 IsQueryWithin k (Query.Forbidden rule) = rule < length k.rules
+IsQueryWithin k (Query.Minimal rule) = rule < length k.rules
 IsQueryWithin k (Query.Density rule strip) = (rule < length k.rules) × AreStripPeriods k.setting.topology.dimension strip
 IsQueryWithin k (Query.Discharge rule radius margin vectors) =
     (rule < length k.rules) × (radius ≤ widest_radius) × (margin ≤ widest_radius) × AreVectors k.setting.topology.dimension vectors

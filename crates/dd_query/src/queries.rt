@@ -47,6 +47,10 @@ pub enum Query {
     Forbidden {
         rule: u32,
     },
+    /// The smallest patterns that the rule forbids.
+    Minimal {
+        rule: u32,
+    },
     /// The least density over a strip, given by its periods along the second and the third axis, 1 where there is no such
     /// axis.
     Density {
@@ -91,6 +95,7 @@ fn asked(alloc: Global, context: &Context, request: &Request) -> Result<Query, A
             rule: word_at(context, request, 2),
         },
         QueryKind::Forbidden => Query::Forbidden { rule: first },
+        QueryKind::Minimal => Query::Minimal { rule: first },
         QueryKind::Density => Query::Density {
             rule: first,
             strip: strip_of(context, request.vectors.as_slice()),
