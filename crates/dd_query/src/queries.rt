@@ -43,6 +43,12 @@ pub enum Query {
         right: u32,
         rule: u32,
     },
+    /// Whether the automaton maps the subshift of `from` into that of `to`.
+    Maps {
+        map: u32,
+        from: u32,
+        to: u32,
+    },
     /// The patterns that the rule forbids.
     Forbidden {
         rule: u32,
@@ -93,6 +99,11 @@ fn asked(alloc: Global, context: &Context, request: &Request) -> Result<Query, A
             left: first,
             right: second,
             rule: word_at(context, request, 2),
+        },
+        QueryKind::Maps => Query::Maps {
+            map: first,
+            from: second,
+            to: word_at(context, request, 2),
         },
         QueryKind::Forbidden => Query::Forbidden { rule: first },
         QueryKind::Minimal => Query::Minimal { rule: first },
