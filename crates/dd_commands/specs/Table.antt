@@ -21,6 +21,7 @@ row QueryKind.Equal = entry (codes "equal") (Role.Rule ∷ Role.Rule ∷ []) 0 L
 row QueryKind.Empty = entry (codes "empty") (Role.Rule ∷ []) 0 Lists.None 1
 row QueryKind.Agree = entry (codes "same") (Role.Automaton ∷ Role.Automaton ∷ Role.Rule ∷ []) 0 Lists.None 1
 row QueryKind.Maps = entry (codes "maps") (Role.Automaton ∷ Role.Rule ∷ Role.Rule ∷ []) 0 Lists.None 2
+row QueryKind.Conjugate = entry (codes "conjugate") (Role.Automaton ∷ Role.Automaton ∷ Role.Rule ∷ Role.Rule ∷ []) 0 Lists.None 2
 row QueryKind.Forbidden = entry (codes "forbidden") (Role.Rule ∷ []) 0 Lists.None 1
 row QueryKind.Minimal = entry (codes "minimal") (Role.Rule ∷ []) 0 Lists.None 1
 row QueryKind.Density = entry (codes "density") (Role.Rule ∷ []) 0 Lists.Strip 1
@@ -29,7 +30,7 @@ row QueryKind.Discharge = entry (codes "discharge") (Role.Rule ∷ []) 2 Lists.V
 -- all kinds of queries
 abbrev pub query_kinds : List QueryKind
 query_kinds =
-    QueryKind.Member ∷ QueryKind.Contains ∷ QueryKind.Equal ∷ QueryKind.Empty ∷ QueryKind.Agree ∷ QueryKind.Maps ∷ QueryKind.Forbidden ∷ QueryKind.Minimal
+    QueryKind.Member ∷ QueryKind.Contains ∷ QueryKind.Equal ∷ QueryKind.Empty ∷ QueryKind.Agree ∷ QueryKind.Maps ∷ QueryKind.Conjugate ∷ QueryKind.Forbidden ∷ QueryKind.Minimal
     ∷ QueryKind.Density ∷ QueryKind.Discharge ∷ []
 
 -- the first word of a kind

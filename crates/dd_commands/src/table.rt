@@ -42,6 +42,8 @@ pub enum QueryKind {
     Agree,
     /// `maps f X Y`: does the automaton map each configuration that obeys X to one that obeys Y?
     Maps,
+    /// `conjugate f g X Y`: are the automata inverse maps between the configurations that obey X and those that obey Y?
+    Conjugate,
     /// `forbidden X`: which patterns does the rule forbid?
     Forbidden,
     /// `minimal X`: the smallest patterns that the rule forbids.
@@ -91,13 +93,14 @@ fn entry(
 
 impl QueryKind {
     /// All kinds, in the order of the table.
-    pub(crate) const ALL: [QueryKind; 10] = [
+    pub(crate) const ALL: [QueryKind; 11] = [
         QueryKind::Member,
         QueryKind::Contains,
         QueryKind::Equal,
         QueryKind::Empty,
         QueryKind::Agree,
         QueryKind::Maps,
+        QueryKind::Conjugate,
         QueryKind::Forbidden,
         QueryKind::Minimal,
         QueryKind::Density,
@@ -119,6 +122,9 @@ impl QueryKind {
             QueryKind::Empty => entry(b"empty", &[Rule], 0, Lists::None, 1),
             QueryKind::Agree => entry(b"same", &[Automaton, Automaton, Rule], 0, Lists::None, 1),
             QueryKind::Maps => entry(b"maps", &[Automaton, Rule, Rule], 0, Lists::None, 2),
+            QueryKind::Conjugate => {
+                entry(b"conjugate", &[Automaton, Automaton, Rule, Rule], 0, Lists::None, 2)
+            }
             QueryKind::Forbidden => entry(b"forbidden", &[Rule], 0, Lists::None, 1),
             QueryKind::Minimal => entry(b"minimal", &[Rule], 0, Lists::None, 1),
             QueryKind::Density => entry(b"density", &[Rule], 0, Lists::Strip, 1),

@@ -14,6 +14,7 @@ query_asked QueryKind.Equal x r = Query.Equal (word_at x r 0) (word_at x r 1)
 query_asked QueryKind.Empty x r = Query.Empty (word_at x r 0)
 query_asked QueryKind.Agree x r = Query.Agree (word_at x r 0) (word_at x r 1) (word_at x r 2)
 query_asked QueryKind.Maps x r = Query.Maps (word_at x r 0) (word_at x r 1) (word_at x r 2)
+query_asked QueryKind.Conjugate x r = Query.Conjugate (word_at x r 0) (word_at x r 1) (word_at x r 2) (word_at x r 3)
 query_asked QueryKind.Forbidden x r = Query.Forbidden (word_at x r 0)
 query_asked QueryKind.Minimal x r = Query.Minimal (word_at x r 0)
 query_asked QueryKind.Density x r = Query.Density (word_at x r 0) (strip_periods x.text r.vectors)
@@ -31,6 +32,8 @@ IsQueryWithin k (Query.Equal left right) = (left < length k.rules) × (right < l
 IsQueryWithin k (Query.Empty rule) = rule < length k.rules
 IsQueryWithin k (Query.Agree left right rule) = (left < length k.automata) × (right < length k.automata) × (rule < length k.rules)
 IsQueryWithin k (Query.Maps map from to) = (map < length k.automata) × (from < length k.rules) × (to < length k.rules) × (2 ≤ length k.setting.symbols)
+IsQueryWithin k (Query.Conjugate there back from to) =
+    (there < length k.automata) × (back < length k.automata) × (from < length k.rules) × (to < length k.rules) × (2 ≤ length k.setting.symbols)
 IsQueryWithin k (Query.Forbidden rule) = rule < length k.rules
 IsQueryWithin k (Query.Minimal rule) = rule < length k.rules
 IsQueryWithin k (Query.Density rule strip) = (rule < length k.rules) × AreStripPeriods k.setting.topology.dimension strip

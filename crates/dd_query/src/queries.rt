@@ -49,6 +49,13 @@ pub enum Query {
         from: u32,
         to: u32,
     },
+    /// Whether `there` maps the subshift of `from` onto that of `to`, and `back` is its inverse.
+    Conjugate {
+        there: u32,
+        back: u32,
+        from: u32,
+        to: u32,
+    },
     /// The patterns that the rule forbids.
     Forbidden {
         rule: u32,
@@ -104,6 +111,12 @@ fn asked(alloc: Global, context: &Context, request: &Request) -> Result<Query, A
             map: first,
             from: second,
             to: word_at(context, request, 2),
+        },
+        QueryKind::Conjugate => Query::Conjugate {
+            there: first,
+            back: second,
+            from: word_at(context, request, 2),
+            to: word_at(context, request, 3),
         },
         QueryKind::Forbidden => Query::Forbidden { rule: first },
         QueryKind::Minimal => Query::Minimal { rule: first },
