@@ -1,4 +1,3 @@
-pub mod Growing
 pub mod MadeGates
 pub mod PlacesLeft
 pub mod NodesLeft
@@ -9,11 +8,12 @@ pub mod TorusShows
 pub mod Whole
 pub mod Inputting
 pub mod Matching
-pub mod Counting
 pub mod BoxInputs
 pub mod BoxCalls
 pub mod TorusReach
+pub mod NearCells
 pub mod TorusInputs
+pub mod NearCalls
 pub mod TorusCalls
 pub mod SymbolsRead
 pub mod Templating

@@ -15,11 +15,12 @@ use Rattle.dd_formula.specs.LocalRule.{LocalRule, rule_allows, IsRule, is_true, 
 use Rattle.dd_formula.specs.Living.{Fits, Lives}
 use Rattle.dd_cnf.specs.lemmas.ModelLaws.{Satisfies-is_satisfied, is_satisfied-Satisfies}
 use Rattle.dd_boxes.specs.Goals.{GoalOf, breaks, differ, always}
-use Rattle.dd_boxes.specs.Witnesses.{ArePeriods, HasPeriods, IsWitness}
+use Rattle.dd_boxes.specs.Witnesses.{HasPeriods, IsWitness}
 use Rattle.dd_boxes.specs.lemmas.RuleLaws.{keeps_at, list_all_weaker}
+use Rattle.dd_problem.specs.TorusPeriods.{AreTorusPeriods}
 use Rattle.dd_problem.specs.pushing.Told.{IsToldGoal}
 use Rattle.dd_problem.specs.Layouts.{torus, torus_cells, fits_in}
-use Rattle.dd_problem.specs.pushing.Grown.{torus_layout}
+use Rattle.dd_problem.specs.pushing.Near.{torus_layout}
 use Rattle.dd_problem.specs.Problems.{problem_clauses}
 use Rattle.dd_problem.specs.Shows.{ShowsTorus}
 use Rattle.dd_problem.specs.lemmas.ValueWires.{GoalWired}
@@ -34,7 +35,7 @@ use Rattle.dd_problem.proofs.TorusLayout.{torus_of, torus_size, length-torus_cel
 node_of : (r : LocalRule) (c : Cell) → is_of r c ≡ true → nat_lt c.node r.nodes ≡ true
 node_of r c h = (and_parts (is_flat r.dimension c.position) (nat_lt c.node r.nodes) h).1
 
-reads_nodes : (r : LocalRule) (a : ℕ) → IsRule r → a < r.nodes → list_all (λ c. nat_lt c.node r.nodes) (reads_at r a) ≡ true
+pub reads_nodes : (r : LocalRule) (a : ℕ) → IsRule r → a < r.nodes → list_all (λ c. nat_lt c.node r.nodes) (reads_at r a) ≡ true
 reads_nodes r a ok node = list_all_weaker (is_of r) (λ c. nat_lt c.node r.nodes) (node_of r) (reads_at r a) (ok.placed a node)
 
 pub goal_reads_torus : (x : LocalRule) (g : GoalOf) (periods : Periods) → IsToldGoal x g → HasReads (torus_layout x g periods) g
@@ -42,7 +43,7 @@ goal_reads_torus x (breaks y) periods ok = λ a node. ap (λ n. list_all (λ c. 
 goal_reads_torus x (differ s f g) periods ok = tt
 goal_reads_torus x always periods ok = tt
 
-module _ (x : LocalRule) (g : GoalOf) (periods : Periods) (rule : IsRule x) (goal : IsToldGoal x g) (ok : ArePeriods x.dimension periods) (values : GoalWired (torus_layout x g periods) x.symbols g) where
+module _ (x : LocalRule) (g : GoalOf) (periods : Periods) (rule : IsRule x) (goal : IsToldGoal x g) (ok : AreTorusPeriods x periods) (values : GoalWired (torus_layout x g periods) x.symbols g) where
   torus_is_wired : IsWired (torus_layout x g periods) x g
   torus_is_wired =
       wired_layout (torus_layout x g periods) x g rule goal (torus_is_layout x periods rule ok g) (λ k d is. (torus_cell_at x periods rule ok k d is).node)

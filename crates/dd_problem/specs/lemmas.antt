@@ -2,6 +2,9 @@ pub mod OneHot
 pub mod Filtered
 pub mod RangesLeft
 pub mod Parts
+pub mod Growing
+pub mod Counting
+pub mod TorusSizes
 pub mod DifferLaws
 pub mod ValueWires
 pub mod Parted

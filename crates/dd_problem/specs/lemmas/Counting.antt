@@ -29,7 +29,7 @@ use Rattle.dd_problem.specs.Layouts.{Layout, nth_cell, cells_in, fits_in}
 use Rattle.dd_problem.specs.Clauses.{part_gates}
 use Rattle.dd_problem.specs.Problems.{wire, place_maker, premise_part, goal_part, input_count, problem}
 use Rattle.dd_problem.specs.Differing.{apart, differ_made}
-use Rattle.dd_problem.proofs.Growing.{part_gates-append}
+use Rattle.dd_problem.specs.lemmas.Growing.{part_gates-append}
 use Rattle.dd_problem.specs.lemmas.CellOrder.{range_append, cells_by_number, length-cells_in}
 
 -- the gates of a rule at several cells, and at several nodes of one position
