@@ -4,6 +4,8 @@ pub mod Counter
 pub mod Weights
 -- the least weight, and that none lives
 pub mod Least
+-- what refuted clauses say of all configurations
+pub mod Laws
 -- what the search for a lighter configuration answers
 pub mod searching
 -- lemmas on what stands above, with their proofs, for whoever cites them

@@ -4,8 +4,10 @@ pub mod Saying
 pub mod Fitting
 pub mod Extending
 pub mod Shown
+pub mod WeightShows
 pub mod UnitLaws
 pub mod Left
 pub mod Counted
 pub mod CountedClauses
+pub mod Rooms
 pub mod Light

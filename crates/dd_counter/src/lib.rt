@@ -2,8 +2,10 @@
 #![tactic(auto)]
 
 mod counter;
+mod laws;
 mod least;
 mod weights;
 
+pub use laws::least_law;
 pub use least::{LeastWeight, least_weight};
 pub use weights::weight_clauses;

@@ -31,8 +31,6 @@ pub fn weight_clauses(
     ensures shows { IfOk result (λ cnf. ShowsWeights cnf.clauses rule.now (periods_of periods 0) weights.now below) }
 {
     let mut cnf = torus_clauses(alloc, rule, &Goal::Always, periods, 0)?;
-    // Made for its fact: the clauses are over the list's variables.
-    let _given = cnf.clauses().len();
     let [x, y, z] = periods;
     let nodes = rule.nodes();
     let cells = z * y * x * nodes;

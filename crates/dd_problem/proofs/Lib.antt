@@ -3,8 +3,6 @@ pub mod PlacesLeft
 pub mod NodesLeft
 pub mod Parting
 pub mod DifferSteps
-pub mod TorusLayout
-pub mod TorusShows
 pub mod Whole
 pub mod Inputting
 pub mod Matching

@@ -28,7 +28,7 @@ use Rattle.dd_problem.specs.pushing.Near.{read_cells, near_cells}
 use Rattle.dd_problem.specs.lemmas.BoxLayout.{box_cell_there}
 use Rattle.dd_problem.specs.lemmas.ValueWires.{all_members, passes_member}
 use Rattle.dd_problem.proofs.BoxInputs.{member_is_box_cell}
-use Rattle.dd_problem.proofs.TorusShows.{reads_nodes}
+use Rattle.dd_problem.specs.lemmas.TorusShows.{reads_nodes}
 
 -- one of the cells, as a test
 abbrev pub is_one_of : List Cell → Cell → Bool

@@ -18,7 +18,7 @@ use Rattle.dd_formula.specs.Living.{Fits}
 use Rattle.dd_boxes.specs.Witnesses.{HasPeriods}
 use Rattle.dd_problem.specs.TorusPeriods.{AreTorusPeriods}
 use Rattle.dd_problem.specs.lemmas.Filtered.{some_same}
-use Rattle.dd_problem.proofs.TorusLayout.{torus_of, torus_is_periodic}
+use Rattle.dd_problem.specs.lemmas.TorusLayout.{torus_of, torus_is_periodic}
 use Rattle.dd_problem.proofs.TorusCalls.{tile_ok}
 use Rattle.dd_problem.specs.Clauses.{input}
 use Rattle.dd_problem.specs.Symbols.{IsSymbolRead, HasOneEach, AreRead, AreAllRead}

@@ -31,8 +31,8 @@ use Rattle.dd_problem.specs.lemmas.RangesLeft.{row_within}
 use Rattle.dd_problem.specs.lemmas.CellOrder.{cells_nodes}
 use Rattle.dd_problem.specs.lemmas.Counting.{variables_below}
 use Rattle.dd_problem.specs.lemmas.NumberedWires.{are_inputs}
-use Rattle.dd_problem.proofs.TorusLayout.{torus_size, span_is, product_turned, length-torus_cells}
-use Rattle.dd_problem.proofs.TorusShows.{torus_shows}
+use Rattle.dd_problem.specs.lemmas.TorusLayout.{torus_size, span_is, product_turned, length-torus_cells}
+use Rattle.dd_problem.specs.lemmas.TorusShows.{torus_shows}
 use Rattle.dd_problem.proofs.NearCells.{near_ascends, near_nodes as near_nodes_of}
 use Rattle.dd_problem.proofs.TorusInputs.{numbers_tile, number_is, torus_values, torus_is_problem, torus_goal_wired}
 

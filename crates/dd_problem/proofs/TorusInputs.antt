@@ -42,8 +42,8 @@ use Rattle.dd_problem.proofs.Matching.{Gives, Matches, GoalMatches, goal_is_wire
 use Rattle.dd_problem.proofs.BoxInputs.{box_in_range}
 use Rattle.dd_problem.proofs.NearCells.{is_one_of, contained_one_of, all_are_some, near_ascends, near_has_read, near_has_box}
 use Rattle.dd_problem.proofs.Templating.{torus_near}
-use Rattle.dd_problem.proofs.TorusLayout.{torus_size, torus_is_periodic, torus_is_layout, torus_cell_at}
-use Rattle.dd_problem.proofs.TorusShows.{goal_reads_torus}
+use Rattle.dd_problem.specs.lemmas.TorusLayout.{torus_size, torus_is_periodic, torus_is_layout, torus_cell_at}
+use Rattle.dd_problem.specs.lemmas.TorusShows.{goal_reads_torus}
 use Rattle.dd_problem.proofs.TorusReach.{told_near, told_reaches}
 
 -- what lies near a place in range is in range

@@ -3,6 +3,8 @@ pub mod Filtered
 pub mod RangesLeft
 pub mod Parts
 pub mod Growing
+pub mod GateCounts
+pub mod CellTotals
 pub mod Counting
 pub mod TorusSizes
 pub mod DifferLaws
@@ -10,9 +12,12 @@ pub mod ValueWires
 pub mod Parted
 pub mod Reading
 pub mod Writing
+pub mod OwnVariables
 pub mod Wiring
 pub mod BoxLayout
 pub mod BoxValues
 pub mod BoxShows
 pub mod CellOrder
+pub mod TorusLayout
+pub mod TorusShows
 pub mod NumberedWires

@@ -1,5 +1,5 @@
 -- What refuted clauses say of the weights of the configurations that live.
-use Rattle.std.proofs.Common.{◌≡◌, ℕ, zero, suc, ◌<◌, ◌≤◌, List, arith, inl, inr}
+use Rattle.std.proofs.Common.{◌≡◌, ℕ, zero, suc, ◌<◌, ◌≤◌, List, length, arith, inl, inr}
 use Rattle.std.proofs.lemmas.Bool.{cases_lt}
 use Rattle.dd_derivation.specs.declared.step.Step.{Step}
 use Rattle.dd_derivation.specs.Derivations.{IsRefuting}
@@ -7,9 +7,11 @@ use Rattle.dd_derivation.specs.lemmas.Soundness.{refutes_sound}
 use Rattle.dd_pattern.specs.declared.periods.Periods.{Periods}
 use Rattle.dd_pattern.specs.Tile.{Tile}
 use Rattle.dd_pattern.specs.Weight.{total_weight}
-use Rattle.dd_formula.specs.LocalRule.{LocalRule}
+use Rattle.dd_formula.specs.LocalRule.{LocalRule, IsRule}
+use Rattle.dd_problem.specs.TorusPeriods.{AreTorusPeriods}
 use Rattle.dd_counter.specs.Weights.{weight_problem, IsLight, IsLightWitness, ShowsWeights}
 use Rattle.dd_counter.specs.Least.{IsLiving, LeastOn, NoneOn, IsLeastShown}
+use Rattle.dd_counter.specs.lemmas.WeightShows.{weight_shows}
 
 light_below : (below : ℕ) (ws : List ℕ) (t : Tile) → total_weight ws t.symbols < below → IsLight below ws t
 light_below zero ws t h = tt
@@ -54,3 +56,21 @@ least_shown x p ws w t steps lives weighs none refuting = record {
   weighs = weighs;
   refutes = λ _. refuting;
 }
+
+-- the same of every rule, whatever was called
+module _ (x : LocalRule) (p : Periods) (ws : List ℕ) (rule : IsRule x) (ok : AreTorusPeriods x p) (same : length ws ≡ x.symbols) where
+  pub least_claimed : (w : ℕ) (t : Tile) (steps : List Step) → IsLiving x p t → total_weight ws t.symbols ≡ w → (0 < w → IsRefuting (weight_problem x p ws w) steps) → LeastOn x p ws w
+  least_claimed w t steps lives weighs refuting = least_refuted x p ws w t steps lives weighs (λ _. weight_shows x p ws w rule ok same) refuting
+
+  pub none_claimed : (steps : List Step) → IsRefuting (weight_problem x p ws 0) steps → NoneOn x p
+  none_claimed steps refuting = none_lives x p ws steps (weight_shows x p ws 0 rule ok same) refuting
+
+-- the least weight is one, and there is none where none lives
+pub least_unique : (x : LocalRule) (p : Periods) (ws : List ℕ) (v w : ℕ) → LeastOn x p ws v → LeastOn x p ws w → v ≡ w
+least_unique x p ws v w one two =
+    let here = two.least one.some.0 one.some.1 in
+    let there = one.least two.some.0 two.some.1 in
+    omega (arith, here, there, one.some.2, two.some.2)
+
+pub none_or_least : (x : LocalRule) (p : Periods) (ws : List ℕ) (w : ℕ) → NoneOn x p → LeastOn x p ws w → ⊥
+none_or_least x p ws w none least = none least.some.0 least.some.1

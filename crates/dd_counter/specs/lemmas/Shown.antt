@@ -5,9 +5,8 @@ use Rattle.std.specs.List.{All}
 use Rattle.std.proofs.lemmas.Bool.{and_parts, and_from, ltb-false, le-ltb}
 use Rattle.std.proofs.lemmas.List.Folds.{list_all-append}
 use Rattle.std.proofs.lemmas.List.Elements.{All-nil}
-use Rattle.std.proofs.lemmas.Nat.{mul-add-lt}
 use Rattle.dd_clause.specs.declared.clause.Literal.{Literal}
-use Rattle.dd_clause.specs.Clauses.{ClauseList, IsClauseInRange, is_clause_true, Satisfies}
+use Rattle.dd_clause.specs.Clauses.{ClauseList, is_clause_true, Satisfies}
 use Rattle.dd_circuit.specs.declared.gates.Signal.{Signal}
 use Rattle.dd_circuit.specs.Circuits.{agrees}
 use Rattle.dd_circuit.specs.lemmas.ValueLaws.{Alike}
@@ -22,14 +21,14 @@ use Rattle.dd_pattern.specs.Weight.{total_weight}
 use Rattle.dd_formula.specs.LocalRule.{LocalRule}
 use Rattle.dd_boxes.specs.Goals.{always}
 use Rattle.dd_boxes.specs.Witnesses.{IsWitness, HasPeriods}
-use Rattle.dd_problem.specs.Clauses.{input}
 use Rattle.dd_problem.specs.Symbols.{AreRead}
 use Rattle.dd_problem.specs.Shows.{ShowsTorus}
+use Rattle.dd_problem.specs.lemmas.OwnVariables.{read_alike}
 use Rattle.dd_counter.specs.Counter.{rows, refusal_of, weighed}
 use Rattle.dd_counter.specs.Weights.{IsLight, IsLightWitness, ShowsWeights}
 use Rattle.dd_counter.specs.lemmas.Saying.{Weighs, SaysWeight, said_at, value_of, all_say}
 use Rattle.dd_counter.specs.lemmas.Fitting.{rows_fit}
-use Rattle.dd_counter.specs.lemmas.Extending.{extension, extension_alike, extension_agrees, Satisfies-alike}
+use Rattle.dd_counter.specs.lemmas.Extending.{extension, extension_alike, extension_agrees}
 
 -- the three parts of the clauses
 parts : (set : ℕ → Bool) (base gates last : List (List Literal)) → is_satisfied set ((base ++ gates) ++ last) ≡ ((is_satisfied set base && is_satisfied set gates) && is_satisfied set last)
@@ -69,15 +68,10 @@ silent_at set (suc b) ws signals t none say light =
     let below = suc b in
     sym (said_at set signals (below - 1)) ∙ (say (below - 1) (omega arith) ∙ le-ltb (below - 1) (total_weight ws t.symbols) (light_at below ws t light (omega arith)))
 
-read_alike : (set other : ℕ → Bool) (n m c : ℕ) (ss : List ℕ) → Alike n other set → length ss ≡ c → c * m ≤ n → AreRead set m ss → AreRead other m ss
-read_alike set other n m c ss same full few read k s h l =
-    let below = mul-add-lt k m s c (omega arith) l in
-    same (input m k s) (omega arith) (omega (arith, below)) ∙ read k s h l
-
--- what the clauses stand on: those of the torus, over the inputs of c cells
+-- what the clauses stand on: those of the torus, over the inputs of c cells, which see no variables but their own
 pub record Stand (base : ClauseList) (x : LocalRule) (periods : Periods) (ws : List ℕ) (c : ℕ) : Type 0 where
   pub shows : ShowsTorus base.clauses x always periods
-  pub in_range : All (IsClauseInRange base.variables) base.clauses
+  pub own : (set other : ℕ → Bool) → Alike base.variables other set → Satisfies set base.clauses → Satisfies other base.clauses
   pub cells : c ≡ periods_volume periods * x.nodes
   pub weights : length ws ≡ x.symbols
   pub inputs : c * length ws ≤ base.variables
@@ -133,7 +127,7 @@ module _ (base : ClauseList) (x : LocalRule) (periods : Periods) (ws : List ℕ)
       let read : AreRead set x.symbols t.symbols =
       read_alike found.0 set n x.symbols c t.symbols alike (all_cells t is.along is.witness) (subst (λ m. c * m ≤ n) ok.weights ok.inputs) found.2 in
       let say = says set t is.along is.witness read agree in
-      let lower = Satisfies-alike n found.0 set base.clauses alike ok.in_range found.1 in
+      let lower = ok.own found.0 set alike found.1 in
       let silent : value_of set last ≡ false =
       silent_at set below ws all.signals t (λ none. subst (λ b. (rows ws b c 0 [] n).signals ≡ []) (sym none) (nothing_made ws c 0 n)) say is.light in (
         set,

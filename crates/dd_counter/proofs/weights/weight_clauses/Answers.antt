@@ -1,18 +1,17 @@
-use Rattle.std.proofs.Common.{arith, ap, refl, ◌∙◌, ◌++◌, ◌*◌}
+use Rattle.std.proofs.Common.{arith, ap, ◌∙◌, ◌++◌, ◌*◌}
 use Rattle.std.specs.Prelude.{◌^◌}
 use Rattle.dd_boxes.specs.Goals.{always}
 use Rattle.dd_pattern.specs.Periods.{periods_of, periods_volume}
 use Rattle.dd_problem.specs.Problems.{torus_problem}
 use Rattle.dd_problem.specs.lemmas.TorusSizes.{torus_sizes}
 use Rattle.dd_counter.specs.Counter.{last_refused}
-use Rattle.dd_counter.proofs.Whole.{inputs_there, few_there, enough, exactly, showing}
+use Rattle.dd_counter.proofs.Whole.{inputs_there, few_there, enough, exactly, shown}
 use Rattle.dd_counter.proofs.weights.weight_clauses.Goals as goal
 
 pub push_rows-requires-clause-inputs : goal.push_rows-requires-clause-inputs
 push_rows-requires-clause-inputs c =
-    let p = periods_of c.args.periods 0 in
-    inputs_there c.args.rule.now.dimension c.args.rule.now p c.args.weights.now c.in_ok-cnf.cnf (periods_volume p * c.nodes-nodes.result) c.nodes-nodes.result c.requires.periods.periods c.requires.weights
-    c.in_ok-cnf.ensures.exact c.nodes-nodes.ensures.value refl
+    inputs_there c.args.rule.now (periods_of c.args.periods 0) c.args.weights.now c.in_ok-cnf.cnf c.nodes-nodes.result c.nodes-nodes.ensures.kept c.requires.periods c.requires.weights
+    c.in_ok-cnf.ensures.exact c.nodes-nodes.ensures.value
 
 pub push_rows-requires-clause-few : goal.push_rows-requires-clause-few
 push_rows-requires-clause-few c =
@@ -34,8 +33,7 @@ pub returns-clause-shows : goal.returns-clause-shows
 returns-clause-shows c =
     let x = c.args.rule.now in
     let p = periods_of c.args.periods 0 in
-    showing x.dimension x p c.args.weights.now c.args.below c.in_ok-cnf.cnf c.push_refusal.new.cnf c.requires.periods.periods c.requires.weights c.in_ok-cnf.ensures.exact c.in_ok-cnf.ensures.shows
-    c.clauses-given.ensures.in_range
+    shown x p c.args.weights.now c.args.below c.push_refusal.new.cnf c.nodes-nodes.ensures.kept c.requires.periods c.requires.weights
     (exactly (torus_problem x always p) c.in_ok-cnf.cnf c.push_rows.new.cnf c.push_refusal.new.cnf c.args.weights.now c.args.below (periods_volume p * c.nodes-nodes.result) (periods_volume p * x.nodes)
     c.in_ok-last.last.items c.in_ok-cnf.ensures.exact (ap (λ n. periods_volume p * n) c.nodes-nodes.ensures.value) c.in_ok-last.ensures.clauses c.in_ok-last.ensures.signals
     c.in_ok-push_refusal.ensures.variables
