@@ -1,5 +1,5 @@
 -- What the search for a lighter configuration asks for and gives.
-use Rattle.std.proofs.Common.{◌≡◌, ℕ, ◌*◌, ◌<◌, ◌≤◌, Bool, List, length, get_or, ap, sym, subst, ◌∙◌, arith}
+use Rattle.std.proofs.Common.{◌≡◌, ℕ, ◌*◌, ◌<◌, Bool, List, length, get_or, sym, subst, ◌∙◌, arith}
 use Rattle.std.proofs.lemmas.Option.{slice_get-get_or}
 use Rattle.dd_clause.specs.declared.clause.Literal.{Literal}
 use Rattle.dd_clause.specs.Clauses.{Satisfies}
@@ -8,8 +8,7 @@ use Rattle.dd_pattern.specs.Periods.{periods_volume}
 use Rattle.dd_pattern.specs.Tile.{Tile, IsTile}
 use Rattle.dd_formula.specs.LocalRule.{LocalRule}
 use Rattle.dd_formula.specs.Living.{Fits}
-use Rattle.dd_boxes.specs.Goals.{always}
-use Rattle.dd_boxes.specs.Witnesses.{HasPeriods, IsWitness}
+use Rattle.dd_boxes.specs.Witnesses.{HasPeriods}
 use Rattle.dd_problem.specs.Symbols.{AreRead, HasOneEach}
 use Rattle.dd_counter.specs.Weights.{IsLightWitness, ShowsWeights}
 use Rattle.dd_counter.specs.lemmas.Rooms.{size_is}

@@ -113,5 +113,5 @@ pub near_all : (x : LocalRule) (g : GoalOf) (now found cells : List Cell) (i : �
 near_all x g now found cells i past so_far read =
     ap in_order (read ∙ (so_far ∙ ap (λ cs. box_cells x (goal_reach g) ++ flat_map (read_cells x) cs) (take_all i cells past)))
 
-pub item_of : {P : Cell → Type 0} (cells : List Cell) (i : ℕ) (d : Cell) → All P cells → i < length cells → d ≡ get_or cells i d → P d
-item_of {P} cells i d all below is = subst P (sym is) (all i d below)
+pub item_of : (P : Cell → Type 0) (cells : List Cell) (i : ℕ) (d : Cell) → All P cells → i < length cells → d ≡ get_or cells i d → P d
+item_of P cells i d all below is = subst P (sym is) (all i d below)

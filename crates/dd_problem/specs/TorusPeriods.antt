@@ -1,5 +1,5 @@
 -- The periods that a torus may have.
-use Rattle.std.specs.Prelude.{ℕ, ◌≤◌, ◌*◌}
+use Rattle.std.specs.Prelude.{◌≤◌, ◌*◌}
 use Rattle.dd_pattern.specs.declared.periods.Periods.{Periods}
 use Rattle.dd_pattern.specs.Periods.{ArePeriodsIn, periods_volume}
 use Rattle.dd_pattern.specs.Tile.{most_symbols}

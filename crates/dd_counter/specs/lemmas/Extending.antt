@@ -1,5 +1,5 @@
 -- Assignments that are extended by the values of gates.
-use Rattle.std.proofs.Common.{◌≡◌, ℕ, Bool, true, false, List, map, get_or, ◌∙◌, arith}
+use Rattle.std.proofs.Common.{◌≡◌, ℕ, Bool, true, false, List, map, ◌∙◌, arith}
 use Rattle.std.specs.Prelude.{◌-◌}
 use Rattle.std.specs.List.{range_with_len}
 use Rattle.std.proofs.lemmas.List.FromFn.{get_or-map-range_with_len, length-map-range_with_len}

@@ -5,7 +5,6 @@ use Rattle.std.specs.List.{filter}
 use Rattle.std.proofs.Math.Nat.{mul-add, mul_assoc}
 use Rattle.std.proofs.lemmas.Nat.{mul-le, mod_below, div-add-mod'}
 use Rattle.dd_lattice.specs.Boxes.{Bounds, volume}
-use Rattle.dd_lattice.specs.Cells.{cell}
 use Rattle.dd_expansion.specs.Leaves.{total}
 use Rattle.dd_formula.specs.LocalRule.{LocalRule}
 use Rattle.dd_boxes.specs.Goals.{GoalOf}

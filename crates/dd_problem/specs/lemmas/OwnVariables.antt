@@ -21,8 +21,11 @@ use Rattle.dd_problem.specs.lemmas.Writing.{problem_gates, gates_fit, satisfied_
 pub agrees_alike : (set other : ℕ → Bool) (gs : List Gate) (n : ℕ) → Alike (n + length gs) other set → AreGates n gs → agrees other n gs ≡ agrees set n gs
 agrees_alike set other [] n same ok = refl
 agrees_alike set other (g ∷ gs) n same ok =
-    rw (same (suc n) (omega arith) (omega arith), gate_value-alike n other set (λ k p q. same k p (omega arith)) g ok.0,
-      agrees_alike set other gs (suc n) (λ k p q. same k p (omega arith)) ok.1) refl
+    rw (
+      same (suc n) (omega arith) (omega arith),
+      gate_value-alike n other set (λ k p q. same k p (omega arith)) g ok.0,
+      agrees_alike set other gs (suc n) (λ k p q. same k p (omega arith)) ok.1,
+    ) refl
 
 pub read_alike : (set other : ℕ → Bool) (n m c : ℕ) (ss : List ℕ) → Alike n other set → length ss ≡ c → c * m ≤ n → AreRead set m ss → AreRead other m ss
 read_alike set other n m c ss same full few read k s h l =

@@ -10,17 +10,17 @@ use Rattle.dd_problem.proofs.tori.near_cells.Goals as goal
 
 pub reads-requires : goal.reads-requires
 reads-requires c =
-    item_of {P = λ (d : Cell). d.node < c.args.premise.now.nodes} c.args.cells.now c.loop-cell.cell-index c.cell-item.result c.requires.nodes c.loop-cell-test.true c.cell-item.is
+    item_of (λ (d : Cell). d.node < c.args.premise.now.nodes) c.args.cells.now c.loop-cell.cell-index c.cell-item.result c.requires.nodes c.loop-cell-test.true c.cell-item.is
 
 pub push_shifted-requires-clause-near : goal.push_shifted-requires-clause-near
 push_shifted-requires-clause-near c =
     reads_near c.args.premise.now c.cell-item.result.node c.reads.result.now c.reads.ensures.kept
-    (item_of {P = λ (d : Cell). d.node < c.args.premise.now.nodes} c.args.cells.now c.loop-cell.cell-index c.cell-item.result c.requires.nodes c.loop-cell-test.true c.cell-item.is)
+    (item_of (λ (d : Cell). d.node < c.args.premise.now.nodes) c.args.cells.now c.loop-cell.cell-index c.cell-item.result c.requires.nodes c.loop-cell-test.true c.cell-item.is)
     c.reads.ensures.value
 
 pub push_shifted-requires-clause-by : goal.push_shifted-requires-clause-by
 push_shifted-requires-clause-by c =
-    item_of {P = λ (d : Cell). extent d.position ≤ 1048560} c.args.cells.now c.loop-cell.cell-index c.cell-item.result c.requires.near c.loop-cell-test.true c.cell-item.is
+    item_of (λ (d : Cell). extent d.position ≤ 1048560) c.args.cells.now c.loop-cell.cell-index c.cell-item.result c.requires.near c.loop-cell-test.true c.cell-item.is
 
 pub loop-cell-preserved : goal.loop-cell-preserved
 loop-cell-preserved c =
