@@ -1,5 +1,5 @@
 -- What the answers to a question claim.
-use Rattle.std.specs.Prelude.{ℕ, ◌≡◌, ◌<◌, ◌↔◌, true, false, ℤ, List, Some, map, Contains}
+use Rattle.std.specs.Prelude.{ℕ, ◌≡◌, ◌<◌, ◌↔◌, true, false, ℤ, Option, Some, List, [], map, filter, nat_eq, All, Contains}
 use Rattle.dd_lattice.specs.Place.{Place}
 use Rattle.dd_lattice.specs.Cells.{cell, shifted}
 use Rattle.dd_lattice.specs.declared.position.Cell.{Cell}
@@ -8,6 +8,8 @@ use Rattle.dd_pattern.specs.Tile.{Tile, tile_look}
 use Rattle.dd_formula.specs.LocalRule.{LocalRule, is_true, cells_at}
 use Rattle.dd_formula.specs.Living.{Lives}
 use Rattle.dd_forbidden.specs.Breaking.{are_allowed}
+use Rattle.dd_minimal.specs.Patterns.{is_covered}
+use Rattle.dd_minimal.specs.Claims.{NeedsEach, AreNew}
 use Rattle.dd_boxes.specs.Goals.{GoalOf, breaks}
 use Rattle.dd_boxes.specs.Boxes.{HoldsNowhere}
 use Rattle.dd_boxes.specs.Witnesses.{IsWitness}
@@ -15,6 +17,7 @@ use Rattle.dd_derivation.specs.declared.step.Step.{Step}
 use Rattle.dd_certificate.specs.declared.answer.Reason.{Reason}
 use Rattle.dd_certificate.specs.declared.answer.Side.TheVariants as side
 use Rattle.dd_certificate.specs.declared.answer.Listed.{Listed}
+use Rattle.dd_certificate.specs.declared.answer.Starred.{Starred}
 use Rattle.dd_certificate.specs.declared.answer.Answer.{Answer}
 use Rattle.dd_certificate.specs.declared.answer.Answer.TheVariants as answer
 use Rattle.dd_evidence.specs.Cells.{written_cell}
@@ -60,3 +63,27 @@ TellsBreaking x patterns = (look : Look) (v : Place) (a : ℕ) (ss : List ℕ) �
 
 pub data ListClaim (x : LocalRule) : Answer → Type 0 where
   says_list : {patterns : List Listed} → TellsBreaking x patterns → ListClaim x (answer.List patterns)
+
+-- ---- minimal forbidden patterns
+
+-- those that are listed for a node, in their order
+abbrev pub patterns_at : ℕ → List Starred → List (List (Option ℕ))
+patterns_at a patterns = map (λ (p : Starred). p.symbols) (filter (λ (p : Starred). nat_eq p.node a) patterns)
+
+-- wherever the cells that are read have symbols that their nodes allow, the rule is false exactly where these agree with a pattern
+abbrev pub TellsCovered : LocalRule → ℕ → List (List (Option ℕ)) → Type 0
+TellsCovered x a ps = (look : Look) (v : Place) (ss : List ℕ) → AreReadAt x look v a ss → are_allowed x (cells_at x a) ss ≡ true →
+    (is_true x (cell v a) look ≡ false) ↔ (is_covered ps ss ≡ true)
+
+-- what the patterns of a node say
+pub record SayMinimal (x : LocalRule) (a : ℕ) (ps : List (List (Option ℕ))) : Type 0 where
+  pub tells : TellsCovered x a ps
+  -- without any of the cells that a pattern keeps it would forbid what the rule allows
+  pub needed : All (NeedsEach x a) ps
+  -- each pattern has a breaking filling that agrees with none listed before it
+  pub new : AreNew x a [] ps
+
+-- each pattern is one of some node
+pub data MinimalClaim (x : LocalRule) : Answer → Type 0 where
+  says_minimal : {patterns : List Starred} → All (λ p. p.node < x.nodes) patterns → ((a : ℕ) → a < x.nodes → SayMinimal x a (patterns_at a patterns)) →
+      MinimalClaim x (answer.Minimal patterns)
