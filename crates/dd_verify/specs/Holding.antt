@@ -1,5 +1,5 @@
 -- What the answers to a question claim.
-use Rattle.std.specs.Prelude.{ℕ, ◌≡◌, ◌<◌, ◌↔◌, true, false, ℤ, Option, Some, List, [], map, filter, nat_eq, All, Contains}
+use Rattle.std.specs.Prelude.{ℕ, ◌≡◌, ◌<◌, ◌↔◌, true, false, ℤ, Option, Some, List, [], ◌∷◌, map, filter, nat_eq, All, Contains}
 use Rattle.dd_lattice.specs.Place.{Place}
 use Rattle.dd_lattice.specs.Cells.{cell, shifted}
 use Rattle.dd_lattice.specs.declared.position.Cell.{Cell}
@@ -13,6 +13,7 @@ use Rattle.dd_minimal.specs.Claims.{NeedsEach, AreNew}
 use Rattle.dd_boxes.specs.Goals.{GoalOf, breaks}
 use Rattle.dd_boxes.specs.Boxes.{HoldsNowhere}
 use Rattle.dd_boxes.specs.Witnesses.{IsWitness}
+use Rattle.dd_question.specs.Conjugacies.{ConjugacyOf, IsPart}
 use Rattle.dd_derivation.specs.declared.step.Step.{Step}
 use Rattle.dd_certificate.specs.declared.answer.Reason.{Reason}
 use Rattle.dd_certificate.specs.declared.answer.Side.TheVariants as side
@@ -49,6 +50,16 @@ pub data EqualClaim (x y : LocalRule) : Answer → Type 0 where
   says_left : {along : List ℕ} {shear : ℕ} {symbols : List ℕ} → IsWitness x (breaks y) (given_tile x along shear symbols) → EqualClaim x y (answer.No side.Left along shear symbols)
   says_right : {along : List ℕ} {shear : ℕ} {symbols : List ℕ} → IsWitness y (breaks x) (given_tile y along shear symbols) → EqualClaim x y (answer.No side.Right along shear symbols)
   says_none : {r : Reason} → EqualClaim x y (answer.Unknown r)
+
+-- ---- conjugacies: the goal of each of the four questions holds nowhere; or a configuration of a question's premise has its goal at
+-- the origin
+
+pub data ConjugacyClaim (c : ConjugacyOf) : Answer → Type 0 where
+  says_conjugate : {n1 n2 n3 n4 : ℕ} {s1 s2 s3 s4 : List Step} → HoldsNowhere c.from c.image n1 → HoldsNowhere c.to c.image_back n2 → HoldsNowhere c.from c.round n3 →
+      HoldsNowhere c.to c.round_back n4 → ConjugacyClaim c (answer.Conjugate (n1 ∷ n2 ∷ n3 ∷ n4 ∷ []) (s1 ∷ s2 ∷ s3 ∷ s4 ∷ []))
+  says_broken : {k : ℕ} {x : LocalRule} {g : GoalOf} {along : List ℕ} {shear : ℕ} {symbols : List ℕ} → IsPart c k x g → IsWitness x g (given_tile x along shear symbols) →
+      ConjugacyClaim c (answer.Broken k along shear symbols)
+  says_no_more : {r : Reason} → ConjugacyClaim c (answer.Unknown r)
 
 -- ---- forbidden patterns
 
