@@ -1,5 +1,5 @@
 -- What the answers to a question claim.
-use Rattle.std.specs.Prelude.{ℕ, ◌≡◌, ◌<◌, ◌↔◌, true, false, ℤ, Option, Some, List, [], ◌∷◌, map, filter, nat_eq, All, Contains}
+use Rattle.std.specs.Prelude.{ℕ, ◌≡◌, ◌<◌, ◌↔◌, true, false, ℤ, Option, Some, List, [], ◌∷◌, map, All, Contains}
 use Rattle.dd_lattice.specs.Place.{Place}
 use Rattle.dd_lattice.specs.Cells.{cell, shifted}
 use Rattle.dd_lattice.specs.declared.position.Cell.{Cell}
@@ -23,7 +23,7 @@ use Rattle.dd_certificate.specs.declared.answer.Answer.{Answer}
 use Rattle.dd_certificate.specs.declared.answer.Answer.TheVariants as answer
 use Rattle.dd_evidence.specs.Cells.{written_cell}
 use Rattle.dd_evidence.specs.Tiles.{given_tile}
-use Rattle.dd_evidence.specs.Lists.{listed}
+use Rattle.dd_evidence.specs.Lists.{listed, patterns_at}
 
 -- ---- membership
 
@@ -76,10 +76,6 @@ pub data ListClaim (x : LocalRule) : Answer → Type 0 where
   says_list : {patterns : List Listed} → TellsBreaking x patterns → ListClaim x (answer.List patterns)
 
 -- ---- minimal forbidden patterns
-
--- those that are listed for a node, in their order
-abbrev pub patterns_at : ℕ → List Starred → List (List (Option ℕ))
-patterns_at a patterns = map (λ (p : Starred). p.symbols) (filter (λ (p : Starred). nat_eq p.node a) patterns)
 
 -- wherever the cells that are read have symbols that their nodes allow, the rule is false exactly where these agree with a pattern
 abbrev pub TellsCovered : LocalRule → ℕ → List (List (Option ℕ)) → Type 0

@@ -9,7 +9,7 @@ ghost use Rattle.dd_verify.specs.Certificates.{IsCertificateOf, ClaimOf};
 use dd_boxes::Goal;
 use dd_compile::says_its_value;
 use dd_discharge::best_bound;
-use dd_evidence::listed_break;
+use dd_evidence::{listed_break, starred_are_minimal};
 use dd_minimal::{all_new, exact, needs_each};
 use dd_question::{CheckedQuestion, Question};
 use dd_sides::bound_holds;
@@ -45,6 +45,7 @@ pub fn claims_hold(question: &CheckedQuestion)
         Question::Equality { .. } => {}
         Question::Listing { .. } => listed_break(),
         Question::Smallest { .. } => {
+            starred_are_minimal();
             exact();
             needs_each();
             all_new();

@@ -6,7 +6,7 @@ ghost use Rattle.dd_evidence.specs.Lists.{IsStarredList};
 ghost use Rattle.dd_evidence.specs.Answers.{IsMinimalCertificate};
 
 use dd_certificate::{Answer, Starred};
-use dd_evidence::{minimal_patterns, one_starred_list, starred_lists_fit};
+use dd_evidence::{minimal_patterns, one_starred, starred_fit};
 use dd_formula::Rule;
 use std::alloc::{AllocError, Global};
 
@@ -35,7 +35,7 @@ fn is_minimal(alloc: Global, rule: &Rule, patterns: &[Starred]) -> Result<bool, 
     requires { HasFewPatterns rule.now }
     ensures { IfOk result (λ same. IsTrue same ↔ IsStarredList rule.now patterns.now) }
 {
-    one_starred_list();
+    one_starred();
     let list = minimal_patterns(alloc, rule)?;
     Ok(are_same(list.as_slice(), patterns))
 }
@@ -50,7 +50,7 @@ pub(crate) fn check_minimal(
     requires { HasFewPatterns rule.now }
     ensures { IfOk result (λ accepted. IsTrue accepted ↔ (IsWritable answer.now × IsMinimalCertificate rule.now answer.now)) }
 {
-    starred_lists_fit();
+    starred_fit();
     // Read for what its type keeps.
     let _nodes = rule.nodes();
     match answer {

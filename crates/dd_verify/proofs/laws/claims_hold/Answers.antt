@@ -26,7 +26,8 @@ returns-in-Listing c a = rw (← c.question.ensures.value, c.in-Listing.is) (lis
 pub returns-in-Smallest : goal.returns-in-Smallest
 returns-in-Smallest c a =
     let sound = rw (← c.question.ensures.value, c.in-Smallest.is) at c.question.ensures.kept.sound in
-    rw (← c.question.ensures.value, c.in-Smallest.is) (minimal_claims c.exact.ensures c.needs_each.ensures c.all_new.ensures _ sound.0 a)
+    rw (← c.question.ensures.value, c.in-Smallest.is)
+    (minimal_claims c.exact.ensures c.needs_each.ensures c.all_new.ensures _ sound.0 c.starred_are_minimal.ensures.nodes c.starred_are_minimal.ensures.minimal a)
 
 pub returns-in-Conjugacy : goal.returns-in-Conjugacy
 returns-in-Conjugacy c a =

@@ -8,5 +8,5 @@ returns c =
     let patterns = c.args.patterns.now in
     let taken : IsStarredList x c.as_slice.result.now = subst (IsStarredList x) (sym c.as_slice.ensures) c.in_ok-list.ensures in (
       λ h. subst (IsStarredList x) (c.are_same.ensures.0 h) taken,
-      λ is. c.are_same.ensures.1 (c.one_starred_list.ensures x c.as_slice.result.now patterns taken is),
+      λ is. c.are_same.ensures.1 (c.one_starred.ensures x c.as_slice.result.now patterns taken is),
     )
