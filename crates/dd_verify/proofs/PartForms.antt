@@ -1,5 +1,5 @@
 -- Certificates of conjugacies: the four questions, and that an output can hold what answers them.
-use Rattle.std.proofs.Common.{◌≡◌, ℕ, zero, suc, ◌-◌, ◌≤◌, ◌<◌, Bool, true, false, List, [], ◌∷◌, length, slice_get, Some, None, refl, ap, sym, subst, ◌∙◌, arith}
+use Rattle.std.proofs.Common.{◌≡◌, ◌≢◌, ℕ, zero, suc, ◌-◌, ◌≤◌, ◌<◌, Bool, true, false, List, [], ◌∷◌, length, slice_get, Some, None, refl, ap, sym, subst, ◌∙◌, arith}
 use Rattle.std.specs.Prelude.{◌↔◌, slice_index_or}
 use Rattle.std.specs.List.{All}
 use Rattle.std.proofs.lemmas.Bool.{false≢true}
@@ -10,6 +10,8 @@ use Rattle.dd_values.specs.declared.limits.Limits.{Limits}
 use Rattle.dd_values.specs.Ranges.{AreLimits}
 use Rattle.dd_boxes.specs.Goals.{GoalOf}
 use Rattle.dd_problem.specs.pushing.Told.{IsToldGoal}
+use Rattle.dd_certificate.specs.declared.answer.Reason.{Reason}
+use Rattle.dd_certificate.specs.declared.answer.Reason.TheVariants as reason
 use Rattle.dd_certificate.specs.declared.answer.Answer.{Answer}
 use Rattle.dd_certificate.specs.declared.answer.Answer.TheVariants as answer
 use Rattle.dd_certificate.specs.declared.answer.Side.TheVariants as side
@@ -18,10 +20,17 @@ use Rattle.dd_question.specs.Boxes.{IsSoundBox}
 use Rattle.dd_question.specs.Conjugacies.{ConjugacyOf, parts, IsPart, EachPart}
 use Rattle.dd_verify.specs.Evidence.{IsYes, IsNo, IsConjugacyCertificate, conjugate, broken, conjugacy_unknown}
 use Rattle.dd_verify.specs.Holding.{ConjugacyClaim, says_conjugate, says_broken, says_no_more}
+use Rattle.dd_verify.proofs.Deciding.{nothing_holds}
 use Rattle.dd_verify.proofs.Writable.{radius_writable, no_writable}
 use Rattle.dd_verify.proofs.Claiming.{yes_claims}
 
 -- ---- the questions by their numbers
+
+no_more : (c : ConjugacyOf) (k : ℕ) (x : LocalRule) (g : GoalOf) → slice_get (parts c) (suc (suc (suc (suc (suc k)))) - 1) ≡ Some (x, g) → ⊥
+no_more c k x g is =
+    let at : suc (suc (suc (suc (suc k)))) - 1 ≡ suc (suc (suc (suc k))) = omega arith in
+    let none : slice_get (parts c) (suc (suc (suc (suc k)))) ≡ None = refl in
+    cc (sym none ∙ (sym (ap (slice_get (parts c)) at) ∙ is))
 
 -- what holds of each question holds of the one with this number
 pub of_part : (P : LocalRule → GoalOf → Type 0) (c : ConjugacyOf) (k : ℕ) (x : LocalRule) (g : GoalOf) → EachPart P c → IsPart c k x g → P x g
@@ -31,7 +40,7 @@ of_part P c (suc (suc zero)) x g each is = let same : (c.to, c.image_back) ≡ (
 of_part P c (suc (suc (suc zero))) x g each is = let same : (c.from, c.round) ≡ (x, g) = cc is.1 in subst (λ (p : LocalRule × GoalOf). P p.0 p.1) same each.round
 of_part P c (suc (suc (suc (suc zero)))) x g each is =
     let same : (c.to, c.round_back) ≡ (x, g) = cc is.1 in subst (λ (p : LocalRule × GoalOf). P p.0 p.1) same each.round_back
-of_part P c (suc (suc (suc (suc (suc k))))) x g each is = absurd (cc is.1)
+of_part P c (suc (suc (suc (suc (suc k))))) x g each is = absurd (no_more c k x g is.1)
 
 -- there are four
 pub part_few : (c : ConjugacyOf) (k : ℕ) (x : LocalRule) (g : GoalOf) → IsPart c k x g → k ≤ 4
@@ -40,11 +49,11 @@ part_few c (suc zero) x g is = omega arith
 part_few c (suc (suc zero)) x g is = omega arith
 part_few c (suc (suc (suc zero))) x g is = omega arith
 part_few c (suc (suc (suc (suc zero)))) x g is = omega arith
-part_few c (suc (suc (suc (suc (suc k))))) x g is = absurd (cc is.1)
+part_few c (suc (suc (suc (suc (suc k))))) x g is = absurd (no_more c k x g is.1)
 
 -- ---- a NO of one of them
 
-pub BrokenAt : Limits → ConjugacyOf → ℕ → List ℕ → ℕ → List ℕ → Type 0
+abbrev pub BrokenAt : Limits → ConjugacyOf → ℕ → List ℕ → ℕ → List ℕ → Type 0
 BrokenAt l c k along shear symbols = (x : LocalRule) × (g : GoalOf) × IsPart c k x g × IsNo l x g along shear symbols
 
 pub broken_of : {l : Limits} {c : ConjugacyOf} {k : ℕ} {along : List ℕ} {shear : ℕ} {symbols : List ℕ} → IsConjugacyCertificate l c (answer.Broken k along shear symbols) →
@@ -117,6 +126,39 @@ module _ (l : Limits) (c : ConjugacyOf) (limits : AreLimits l) (sound : EachPart
     told.steps_four,
     subst (All IsWritableRefutation) (sym (four steps [] told.steps_four)) (all_four IsWritableRefutation _ _ _ _ one two three last),
   )
+
+  -- what the tests of the four say
+  pub each_decides : length radii ≡ 4 → length steps ≡ 4 → IsYesAt l radii steps 0 c.from c.image → IsFitAt steps 0 → IsYesAt l radii steps 1 c.to c.image_back → IsFitAt steps 1 →
+      IsYesAt l radii steps 2 c.from c.round → IsFitAt steps 2 → (b : Bool) → (b ≡ true) ↔ IsYesAt l radii steps 3 c.to c.round_back → (b ≡ true → IsFitAt steps 3) →
+      (b ≡ true) ↔ (IsWritable (answer.Conjugate radii steps) × IsConjugacyCertificate l c (answer.Conjugate radii steps))
+  each_decides many as_many one fit_one two fit_two three fit_three b last fit_last = (
+    λ h. (let told : AreYes l c radii steps = record { radii_four = many; steps_four = as_many; image = one; image_back = two; round = three; round_back = last.0 h } in
+        (conjugate_fits told fit_one fit_two fit_three (fit_last h), conjugate_at told)),
+    λ both. last.1 (each_of both.1).round_back,
+  )
+
+-- where a test of what each certificate has fails, there is none
+pub lacking : (b : Bool) (P W C : Type 0) → (b ≡ true) ↔ P → b ≡ false → (C → P) → (false ≡ true) ↔ (W × C)
+lacking b P W C told fails taken = nothing_holds (W × C) (λ both. false≢true (sym fails ∙ told.1 (taken both.1)))
+
+-- that it is not known, for the one reason that there can be
+reason_of : {l : Limits} {c : ConjugacyOf} {r : Reason} → IsConjugacyCertificate l c (answer.Unknown r) → r ≡ reason.Limits
+reason_of conjugacy_unknown = refl
+
+pub unknown_decides : (l : Limits) (c : ConjugacyOf) (r : Reason) (b : Bool) → (b ≡ true) ↔ (r ≡ reason.Limits) →
+    (b ≡ true) ↔ (IsWritable (answer.Unknown r) × IsConjugacyCertificate l c (answer.Unknown r))
+unknown_decides l c r b told = (
+  λ h. (tt, subst (λ (q : Reason). IsConjugacyCertificate l c (answer.Unknown q)) (sym (told.0 h)) conjugacy_unknown),
+  λ both. told.1 (reason_of both.1),
+)
+
+-- an answer of another form
+pub no_conjugacy : (l : Limits) (c : ConjugacyOf) (a : Answer) → ((radii : List ℕ) (steps : List (List Step)) → a ≢ answer.Conjugate radii steps) →
+    ((k : ℕ) (along : List ℕ) (shear : ℕ) (symbols : List ℕ) → a ≢ answer.Broken k along shear symbols) → ((r : Reason) → a ≢ answer.Unknown r) →
+    IsConjugacyCertificate l c a → ⊥
+no_conjugacy l c a yes_form no_form open_form (conjugate one two three last) = yes_form _ _ refl
+no_conjugacy l c a yes_form no_form open_form (broken is told) = no_form _ _ _ _ refl
+no_conjugacy l c a yes_form no_form open_form conjugacy_unknown = open_form _ refl
 
 -- ---- what they claim
 

@@ -38,7 +38,7 @@ returns-in-Conjugacy c a =
       round = c.tell_goal-in-Conjugacy-3.ensures _ sound.round.1.goal sound.round.1.rule;
       round_back = c.tell_goal-in-Conjugacy-4.ensures _ sound.round_back.1.goal sound.round_back.1.rule;
     } in
-    rw (← c.question.ensures.value, c.in-Conjugacy.is) (conjugacy_claims _ _ _ sound gates a)
+    rw (← c.question.ensures.value, c.in-Conjugacy.is) (conjugacy_claims _ _ _ sound gates)
 
 pub returns-in-Density : goal.returns-in-Density
 returns-in-Density c a =
