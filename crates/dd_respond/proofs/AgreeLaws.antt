@@ -22,6 +22,7 @@ use Rattle.dd_values.specs.declared.limits.Limits.{Limits}
 use Rattle.dd_boxes.specs.Goals.{GoalOf, breaks}
 use Rattle.dd_boxes.specs.Boxes.{Suffices}
 use Rattle.dd_certificate.specs.declared.answer.Listed.{Listed}
+use Rattle.dd_certificate.specs.declared.answer.Starred.{Starred}
 use Rattle.dd_certificate.specs.declared.answer.Answer.{Answer}
 use Rattle.dd_certificate.specs.declared.answer.Answer.TheVariants as answer
 use Rattle.dd_certificate.specs.Text.{answer_line}
@@ -35,7 +36,8 @@ use Rattle.dd_question.specs.Questions.{Asked, IsSoundAsked}
 use Rattle.dd_question.specs.Questions as asked
 use Rattle.dd_evidence.specs.Cells.{written_cell}
 use Rattle.dd_evidence.specs.Lists.{IsForbiddenList}
-use Rattle.dd_evidence.specs.Answers.{IsMemberCertificate, member_inside, member_outside, IsListCertificate, all_forbidden}
+use Rattle.dd_evidence.specs.Minimal.{IsStarredList}
+use Rattle.dd_evidence.specs.Answers.{IsMemberCertificate, member_inside, member_outside, IsListCertificate, all_forbidden, IsMinimalCertificate, all_minimal}
 use Rattle.dd_respond.specs.Right.{IsRightTo, IsRightBox, IsRightEqual, written_decision, written_equality, is_unknown}
 use Rattle.dd_respond.specs.Laws.{SayTheSame}
 use Rattle.dd_respond.proofs.Measuring.{IsOneDensity, density_agree, discharge_agree}
@@ -254,12 +256,21 @@ list_agree : AreOneList → (x : LocalRule) (a b : Answer) → IsListCertificate
 list_agree one x a b (all_forbidden {patterns = some} h) (all_forbidden {patterns = others} k) =
     record { line = λ number. ap (λ ps. answer_line number (answer.List ps)) (one x some others h k); unknown = refl }
 
+-- ---- minimal forbidden patterns
+
+abbrev pub AreOneStarred : Type 0
+AreOneStarred = (x : LocalRule) (some others : List Starred) → IsStarredList x some → IsStarredList x others → some ≡ others
+
+minimal_agree : AreOneStarred → (x : LocalRule) (a b : Answer) → IsMinimalCertificate x a → IsMinimalCertificate x b → SayTheSame a b
+minimal_agree one x a b (all_minimal {patterns = some} h) (all_minimal {patterns = others} k) =
+    record { line = λ number. ap (λ ps. answer_line number (answer.Minimal ps)) (one x some others h k); unknown = refl }
+
 -- ---- all questions
 
 abbrev pub HaveOneOutcome : Type 0
 HaveOneOutcome = (x : LocalRule) (ws : List ℕ) (radius margin : ℕ) (vs : List Place) (pivots : ℕ) → HasOneOutcome x ws radius margin vs pivots
 
-module _ (one : AreOneList) (density_one : IsOneDensity) (outcome_one : HaveOneOutcome) (l : Limits) where
+module _ (one : AreOneList) (density_one : IsOneDensity) (outcome_one : HaveOneOutcome) (starred_one : AreOneStarred) (l : Limits) where
   pub right_agree : (k : Asked) (a b : Answer) → IsSoundAsked l k → IsRightTo l k a → IsRightTo l k b → SayTheSame a b
   right_agree (asked.membership x t) a b ok h k = member_agree x t ok.1 ok.2 a b h k
   right_agree (asked.box x g) a b ok h k = box_agree l x g a b h k
@@ -268,3 +279,4 @@ module _ (one : AreOneList) (density_one : IsOneDensity) (outcome_one : HaveOneO
   right_agree (asked.density x strip ws) a b ok h k = density_agree density_one x strip ws a b h k
   right_agree (asked.discharge x radius margin vs ws) a b ok h k =
       discharge_agree x radius margin vs ws l.pivots (outcome_one x ws radius margin vs l.pivots) a b h k
+  right_agree (asked.smallest x) a b ok h k = minimal_agree starred_one x a b h k

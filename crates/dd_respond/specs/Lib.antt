@@ -2,6 +2,8 @@
 pub mod Right
 -- which answers about least densities and discharging are right
 pub mod Bounds
+-- which answers about conjugacies are right
+pub mod Conjugacies
 -- what all right answers to a question have in common
 pub mod Laws
 -- which decisions an output can hold

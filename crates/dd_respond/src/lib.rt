@@ -7,6 +7,7 @@ mod discharges;
 mod laws;
 mod lists;
 mod members;
+mod minimal;
 mod responding;
 
 pub use laws::one_response;

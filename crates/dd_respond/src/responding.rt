@@ -11,6 +11,7 @@ use crate::densities::least;
 use crate::discharges::discharged;
 use crate::lists::listed;
 use crate::members::member;
+use crate::minimal::smallest;
 use dd_certificate::Answer;
 use dd_engines::{Engine, Roster, kept_is_reflexive};
 use dd_question::{CheckedQuestion, Question};
@@ -52,5 +53,6 @@ pub fn respond<E: Engine>(
             vectors,
             weights,
         } => discharged(alloc, rule, radius, margin, vectors, weights, limits.pivots),
+        Question::Smallest { rule } => smallest(alloc, rule),
     }
 }
