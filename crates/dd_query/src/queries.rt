@@ -1,5 +1,5 @@
 //! The queries of a script, each with the way from what is written to it.
-ghost use Rattle.std.specs.Prelude.{◌≡◌, [], false, IfOk, OnOk};
+ghost use Rattle.std.specs.Prelude.{◌≡◌, ◌≤◌, [], false, length, IfOk, OnOk};
 ghost use Rattle.std.specs.List.{list_any};
 ghost use Rattle.dd_commands.specs.{Table.row, Commands.IsRequest};
 ghost use Rattle.dd_commands.specs.declared.table.Lists.TheVariants as lists;
@@ -7,7 +7,7 @@ ghost use Rattle.dd_known.specs.Sound.{IsSound};
 ghost use Rattle.dd_faults.specs.Commands.{is_far, request_faults};
 ghost use Rattle.dd_query.specs.Queries.{query_of, IsQueryWithin};
 
-use crate::parts::{positions, strip_of, value_at, word_at};
+use crate::parts::{positions, strip_of, torus_of, value_at, word_at};
 use dd_commands::{QueryKind, Request};
 use dd_known::Context;
 use dd_lattice::Position;
@@ -70,6 +70,11 @@ pub enum Query {
         rule: u32,
         strip: [u32; 2],
     },
+    /// The least weight of a fundamental box over the configurations with these periods, 1 where there is no such axis.
+    Least {
+        rule: u32,
+        periods: [u32; 3],
+    },
     /// The best discharging bound of a radius and a margin along these vectors.
     Discharge {
         rule: u32,
@@ -82,6 +87,7 @@ pub enum Query {
 /// The query that is written, of whichever kind it is.
 fn asked(alloc: Global, context: &Context, request: &Request) -> Result<Query, AllocError>
     requires within { IsQueryWithin context.now.known (query_of context.now request.now) }
+    requires nodes { 1 ≤ length context.now.known.setting.nodes }
     requires close { (row request.now.kind).lists ≡ lists.Vectors → list_any (is_far context.now.text) request.now.vectors ≡ false }
     ensures exact { IfOk result (λ q. q ≡ query_of context.now request.now) }
     ensures within { OnOk result (IsQueryWithin context.now.known (query_of context.now request.now)) }
@@ -123,6 +129,10 @@ fn asked(alloc: Global, context: &Context, request: &Request) -> Result<Query, A
         QueryKind::Density => Query::Density {
             rule: first,
             strip: strip_of(context, request.vectors.as_slice()),
+        },
+        QueryKind::Least => Query::Least {
+            rule: first,
+            periods: torus_of(context, request.vectors.as_slice()),
         },
         QueryKind::Discharge => Query::Discharge {
             rule: first,
