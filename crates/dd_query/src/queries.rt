@@ -3,9 +3,10 @@ ghost use Rattle.std.specs.Prelude.{◌≡◌, ◌≤◌, [], false, length, IfO
 ghost use Rattle.std.specs.List.{list_any};
 ghost use Rattle.dd_commands.specs.{Table.row, Commands.IsRequest};
 ghost use Rattle.dd_commands.specs.declared.table.Lists.TheVariants as lists;
+ghost use Rattle.dd_commands.specs.declared.table.QueryKind.TheVariants as kinds;
 ghost use Rattle.dd_known.specs.Sound.{IsSound};
 ghost use Rattle.dd_faults.specs.Commands.{is_far, request_faults};
-ghost use Rattle.dd_query.specs.Queries.{query_of, IsQueryWithin};
+ghost use Rattle.dd_query.specs.Queries.{query_asked, query_of, IsQueryWithin};
 
 use crate::parts::{positions, strip_of, torus_of, value_at, word_at};
 use dd_commands::{QueryKind, Request};
@@ -84,6 +85,37 @@ pub enum Query {
     },
 }
 
+fn agree(context: &Context, request: &Request) -> Query
+    ensures { result ≡ query_asked kinds.Agree context.now request.now }
+{
+    Query::Agree {
+        left: word_at(context, request, 0),
+        right: word_at(context, request, 1),
+        rule: word_at(context, request, 2),
+    }
+}
+
+fn maps(context: &Context, request: &Request) -> Query
+    ensures { result ≡ query_asked kinds.Maps context.now request.now }
+{
+    Query::Maps {
+        map: word_at(context, request, 0),
+        from: word_at(context, request, 1),
+        to: word_at(context, request, 2),
+    }
+}
+
+fn conjugate(context: &Context, request: &Request) -> Query
+    ensures { result ≡ query_asked kinds.Conjugate context.now request.now }
+{
+    Query::Conjugate {
+        there: word_at(context, request, 0),
+        back: word_at(context, request, 1),
+        from: word_at(context, request, 2),
+        to: word_at(context, request, 3),
+    }
+}
+
 /// The query that is written, of whichever kind it is.
 fn asked(alloc: Global, context: &Context, request: &Request) -> Result<Query, AllocError>
     requires within { IsQueryWithin context.now.known (query_of context.now request.now) }
@@ -108,22 +140,9 @@ fn asked(alloc: Global, context: &Context, request: &Request) -> Result<Query, A
             right: second,
         },
         QueryKind::Empty => Query::Empty { rule: first },
-        QueryKind::Agree => Query::Agree {
-            left: first,
-            right: second,
-            rule: word_at(context, request, 2),
-        },
-        QueryKind::Maps => Query::Maps {
-            map: first,
-            from: second,
-            to: word_at(context, request, 2),
-        },
-        QueryKind::Conjugate => Query::Conjugate {
-            there: first,
-            back: second,
-            from: word_at(context, request, 2),
-            to: word_at(context, request, 3),
-        },
+        QueryKind::Agree => agree(context, request),
+        QueryKind::Maps => maps(context, request),
+        QueryKind::Conjugate => conjugate(context, request),
         QueryKind::Forbidden => Query::Forbidden { rule: first },
         QueryKind::Minimal => Query::Minimal { rule: first },
         QueryKind::Density => Query::Density {
