@@ -106,12 +106,12 @@ each_of (conjugate one two three last) = record { radii_four = refl; steps_four 
 pub conjugate_at : {l : Limits} {c : ConjugacyOf} {radii : List ℕ} {steps : List (List Step)} → AreYes l c radii steps → IsConjugacyCertificate l c (answer.Conjugate radii steps)
 conjugate_at {l = l} {c = c} {radii = radii} {steps = steps} told =
     let one : IsConjugacyCertificate l c (answer.Conjugate
-        (slice_index_or radii 0 0 ∷ slice_index_or radii 1 0 ∷ slice_index_or radii 2 0 ∷ slice_index_or radii 3 0 ∷ [])
-        (slice_index_or steps 0 [] ∷ slice_index_or steps 1 [] ∷ slice_index_or steps 2 [] ∷ slice_index_or steps 3 [] ∷ [])) =
-        conjugate told.image told.image_back told.round told.round_back in
+    (slice_index_or radii 0 0 ∷ slice_index_or radii 1 0 ∷ slice_index_or radii 2 0 ∷ slice_index_or radii 3 0 ∷ [])
+    (slice_index_or steps 0 [] ∷ slice_index_or steps 1 [] ∷ slice_index_or steps 2 [] ∷ slice_index_or steps 3 [] ∷ [])) =
+    conjugate told.image told.image_back told.round told.round_back in
     subst (λ ns. IsConjugacyCertificate l c (answer.Conjugate ns steps)) (sym (four radii 0 told.radii_four))
     (subst (λ ss. IsConjugacyCertificate l c (answer.Conjugate
-        (slice_index_or radii 0 0 ∷ slice_index_or radii 1 0 ∷ slice_index_or radii 2 0 ∷ slice_index_or radii 3 0 ∷ []) ss)) (sym (four steps [] told.steps_four)) one)
+    (slice_index_or radii 0 0 ∷ slice_index_or radii 1 0 ∷ slice_index_or radii 2 0 ∷ slice_index_or radii 3 0 ∷ []) ss)) (sym (four steps [] told.steps_four)) one)
 
 module _ (l : Limits) (c : ConjugacyOf) (limits : AreLimits l) (sound : EachPart (IsSoundBox l) c) (radii : List ℕ) (steps : List (List Step)) where
   radius_fits : (k : ℕ) (x : LocalRule) (g : GoalOf) → IsSoundBox l x g → IsYesAt l radii steps k x g → IsWritableNumber (slice_index_or radii k 0)
