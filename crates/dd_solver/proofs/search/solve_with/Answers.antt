@@ -2,7 +2,7 @@ use Rattle.std.proofs.Common.{rules}
 use Rattle.std.specs.Prelude.{◌↔◌}
 use Rattle.dd_solver.specs.Answers.{IsSatisfiable, IsFound, IsRefuted, IsAnswer}
 use Rattle.dd_solver.proofs.Right.{found_right, refuted_right, if_ok}
-use Rattle.dd_solver.proofs.search.solve.Goals as goal
+use Rattle.dd_solver.proofs.search.solve_with.Goals as goal
 
 pub returns-clause-found : goal.returns-clause-found
 returns-clause-found c =
