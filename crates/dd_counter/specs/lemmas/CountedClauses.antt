@@ -23,7 +23,9 @@ joined_clauses : (make : ℕ → Making) (m c a n : ℕ) → ((s k : ℕ) → le
 joined_clauses make m zero a n each = omega arith
 joined_clauses make m (suc c) a n each =
     let first = (make a n).gates in
-    after n first (joined (map make (range_with_len (a + 1) c)) (n + length first)).gates m (c * m) (each a n) (joined_clauses make m c (a + 1) (n + length first) each)
+    let all : length (gates_clauses n (joined (map make (range_with_len a (suc c))) n).gates) ≤ m + c * m =
+    after n first (joined (map make (range_with_len (a + 1) c)) (n + length first)).gates m (c * m) (each a n) (joined_clauses make m c (a + 1) (n + length first) each) in
+    omega (arith, all)
 
 joined_signals : (make : ℕ → Making) (c a n : ℕ) → ((s k : ℕ) → length (make s k).signals ≤ 1) → length (joined (map make (range_with_len a c)) n).signals ≤ c
 joined_signals make zero a n each = omega arith
@@ -69,7 +71,9 @@ rows_clauses ws below (suc c) k before n =
     let first = row ws below k before n in
     let one = joined_clauses (count ws k before) (suc (4 * length ws)) below 0 n (λ t m. count_clauses ws k before t m) in
     let more = rows_clauses ws below c (k + 1) first.signals (n + length first.gates) in
-    after n first.gates (rows ws below c (k + 1) first.signals (n + length first.gates)).gates (below * suc (4 * length ws)) (c * (below * suc (4 * length ws))) one more
+    let all : length (gates_clauses n (rows ws below (suc c) k before n).gates) ≤ below * suc (4 * length ws) + c * (below * suc (4 * length ws)) =
+    after n first.gates (rows ws below c (k + 1) first.signals (n + length first.gates)).gates (below * suc (4 * length ws)) (c * (below * suc (4 * length ws))) one more in
+    omega (arith, all)
 
 refusal_length : (r : Option Signal) → length (refusal_of r) ≤ 1
 refusal_length None = omega arith
