@@ -246,24 +246,24 @@ module _ (l : Limits) (c : ConjugacyOf) where
   -- a question comes to one kind of decision, one radius and the same periods
   comes_alike : (k : ℕ) (d e : Decision) → ComesTo l c k d → ComesTo l c k e → bare d ≡ bare e
   comes_alike k d e h m =
-      let same : (m.premise, m.goal) ≡ (h.premise, h.goal) = cc (h.is_part.1, m.is_part.1) in
+      let same : ◌≡◌ {A = LocalRule × GoalOf} (m.premise, m.goal) (h.premise, h.goal) = cc (h.is_part.1, m.is_part.1) in
       decided_alike h.premise h.goal l.radius l.period d e h.decided
       (subst (λ (q : LocalRule × GoalOf). IsDecided q.0 q.1 l.radius l.period e) same m.decided)
 
   pub yes_not_no : (k n : ℕ) (s : List Step) → ComesTo l c k (decision.Yes n s) → IsNoAt l c k → ⊥
-  yes_not_no k n s yes no = let same : decision.Yes n [] ≡ decision.No (bare_tile no.0) = comes_alike k _ _ yes no.1 in absurd (cc same)
+  yes_not_no k n s is other = let same : decision.Yes n [] ≡ decision.No (bare_tile other.0) = comes_alike k _ _ is other.1 in absurd (cc same)
 
   pub unknown_not_no : (k : ℕ) → ComesTo l c k decision.Unknown → IsNoAt l c k → ⊥
-  unknown_not_no k unknown no = let same : decision.Unknown ≡ decision.No (bare_tile no.0) = comes_alike k _ _ unknown no.1 in absurd (cc same)
+  unknown_not_no k is other = let same : decision.Unknown ≡ decision.No (bare_tile other.0) = comes_alike k _ _ is other.1 in absurd (cc same)
 
   yes_not_unknown : (k n : ℕ) (s : List Step) → ComesTo l c k (decision.Yes n s) → ComesTo l c k decision.Unknown → ⊥
-  yes_not_unknown k n s yes unknown = let same : decision.Yes n [] ≡ decision.Unknown = comes_alike k _ _ yes unknown in absurd (cc same)
+  yes_not_unknown k n s is other = let same : decision.Yes n [] ≡ decision.Unknown = comes_alike k _ _ is other in absurd (cc same)
 
   one_radius : (k n m : ℕ) (s t : List Step) → ComesTo l c k (decision.Yes n s) → ComesTo l c k (decision.Yes m t) → n ≡ m
   one_radius k n m s t h i = let same : decision.Yes n [] ≡ decision.Yes m [] = comes_alike k _ _ h i in cc same
 
   -- NO of a question, as it is answered
-  broken_by : ℕ → Decision → Answer
+  abbrev broken_by : ℕ → Decision → Answer
   broken_by k (decision.Yes n s) = answer.Unknown reason.Limits
   broken_by k (decision.No t) = written_broken k t
   broken_by k decision.Unknown = answer.Unknown reason.Limits
@@ -285,11 +285,11 @@ module _ (l : Limits) (c : ConjugacyOf) where
         (yes_not_unknown 1 n1 s1 one) (yes_not_unknown 2 n2 s2 two) (yes_not_unknown 3 n3 s3 three) (yes_not_unknown 4 n4 s4 four) unknown
 
   conjugacy_agree : (a b : Answer) → IsRightConjugacy l c a → IsRightConjugacy l c b → SayTheSame a b
-  conjugacy_agree a b (first_no {k = k} {t = t} h no) (first_no {k = j} {t = u} i other) =
-      broken_agree k j t u (least_one (IsNoAt l c) 1 4 k j h i) no other
-  conjugacy_agree a b (first_no {k = k} h no) (all_yes one two three four) = absurd (none_of_four one two three four k h.low h.high h.holds)
-  conjugacy_agree a b (first_no {k = k} h no) (some_open none unknown) = absurd (none k h.low h.high h.holds)
-  conjugacy_agree a b (all_yes one two three four) (first_no {k = k} h no) = absurd (none_of_four one two three four k h.low h.high h.holds)
+  conjugacy_agree a b (first_no {k = k} {t = t} h d) (first_no {k = j} {t = u} i e) =
+      broken_agree k j t u (least_one (IsNoAt l c) 1 4 k j h i) d e
+  conjugacy_agree a b (first_no {k = k} h d) (all_yes one two three four) = absurd (none_of_four one two three four k h.low h.high h.holds)
+  conjugacy_agree a b (first_no {k = k} h d) (some_open none unknown) = absurd (none k h.low h.high h.holds)
+  conjugacy_agree a b (all_yes one two three four) (first_no {k = k} h d) = absurd (none_of_four one two three four k h.low h.high h.holds)
   conjugacy_agree a b (all_yes {s1 = s1} {s2 = s2} {s3 = s3} {s4 = s4} one two three four) (all_yes one' two' three' four') =
       let e1 = one_radius 1 _ _ _ _ one one' in
       let e2 = one_radius 2 _ _ _ _ two two' in
@@ -300,7 +300,7 @@ module _ (l : Limits) (c : ConjugacyOf) where
         unknown = refl;
       }
   conjugacy_agree a b (all_yes one two three four) (some_open {k = k} none unknown) = absurd (none_open one two three four k unknown)
-  conjugacy_agree a b (some_open none unknown) (first_no {k = k} h no) = absurd (none k h.low h.high h.holds)
+  conjugacy_agree a b (some_open none unknown) (first_no {k = k} h d) = absurd (none k h.low h.high h.holds)
   conjugacy_agree a b (some_open {k = k} none unknown) (all_yes one two three four) = absurd (none_open one two three four k unknown)
   conjugacy_agree a b (some_open none unknown) (some_open others unsure) = record { line = λ number. refl; unknown = refl }
 

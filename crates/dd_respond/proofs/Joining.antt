@@ -21,15 +21,15 @@ all_more P xs x all one = All-append P xs (x ∷ []) all (All-cons P x [] one (A
 
 -- below the next number
 none_more : (P : ℕ → Type 0) (number : ℕ) → ((k : ℕ) → 1 ≤ k → k < number → P k → ⊥) → (P number → ⊥) → (k : ℕ) → 1 ≤ k → k < number + 1 → P k → ⊥
-none_more P number none not k low below holds = elim (cases_lt k number) [
+none_more P number none never k low below holds = elim (cases_lt k number) [
   | inl before ↦ none k low before holds
-  | inr after ↦ let same : k ≡ number = omega (arith, after, below) in not (subst P same holds)
+  | inr after ↦ let same : k ≡ number = omega (arith, after, below) in never (subst P same holds)
 ]
 
 module _ (l : Limits) (c : ConjugacyOf) where
   pub nothing_found : (f : Findings) → f.radii ≡ [] → f.steps ≡ [] → f.is_open ≡ false → AreFound l c 1 f
   nothing_found f radii steps shut = record {
-    none = λ k low below no. absurd (omega (arith, low, below));
+    none = λ k low below other. absurd (omega (arith, low, below));
     yes = λ _. rw (radii, steps) none_yet;
     unknown = λ is. absurd (false≢true (sym shut ∙ is));
     radii = rw radii (All-nil IsWritableNumber);
@@ -38,10 +38,10 @@ module _ (l : Limits) (c : ConjugacyOf) where
 
   pub yes_found : (number n : ℕ) (s : List Step) (f g : Findings) → AreFound l c number f → ComesTo l c number (decision.Yes n s) → IsWritableNumber n →
       IsWritableRefutation s → g.radii ≡ f.radii ++ n ∷ [] → g.steps ≡ f.steps ++ s ∷ [] → g.is_open ≡ f.is_open → AreFound l c (number + 1) g
-  yes_found number n s f g found yes small fit radii steps same = record {
-    none = none_more (IsNoAt l c) number found.none (yes_not_no l c number n s yes);
-    yes = λ shut. rw (radii, steps, add-one number) (one_more (found.yes (sym same ∙ shut)) yes);
-    unknown = λ is. found.unknown (sym same ∙ is);
+  yes_found number n s f g found is small fit radii steps same = record {
+    none = none_more (IsNoAt l c) number found.none (yes_not_no l c number n s is);
+    yes = λ shut. rw (radii, steps, add-one number) (one_more (found.yes (sym same ∙ shut)) is);
+    unknown = λ b. found.unknown (sym same ∙ b);
     radii = rw radii (all_more IsWritableNumber f.radii n found.radii small);
     steps = rw steps (all_more IsWritableRefutation f.steps s found.steps fit);
   }
@@ -58,27 +58,27 @@ module _ (l : Limits) (c : ConjugacyOf) where
 
   pub no_failed : (number : ℕ) (f : Findings) (t : Tile) → 1 ≤ number → number ≤ 4 → AreFound l c number f → ComesTo l c number (decision.No t) →
       IsFailed l c (record { number = number; periodic = t })
-  no_failed number f t low high found no = record { first = record { low = low; high = high; holds = (t, no); first = found.none }; no = no }
+  no_failed number f t low high found is = record { first = record { low = low; high = high; holds = (t, is); first = found.none }; no = is }
 
   -- ---- the answer
 
   yes_right : (f : Findings) (ns : List ℕ) (ss : List (List Step)) → AreYes l c 5 ns ss → f.radii ≡ ns → f.steps ≡ ss → f.is_open ≡ false →
       IsRightConjugacy l c (written_findings f)
   yes_right f _ _ (one_more (one_more (one_more (one_more none_yet one) two) three) four) radii steps shut = rw (shut, radii, steps) (all_yes one two three four)
-  yes_right f _ _ (one_more (one_more (one_more (one_more (one_more none _) _) _) _) _) radii steps shut = elim none [ ]
+  yes_right f _ _ (one_more (one_more (one_more (one_more (one_more early _) _) _) _) _) radii steps shut = elim early [ ]
 
   found_by : (b : Bool) (f : Findings) → f.is_open ≡ b → AreFound l c 5 f → IsRightConjugacy l c (written_findings f)
   found_by false f shut found = yes_right f f.radii f.steps (found.yes shut) refl refl shut
   found_by true f is found =
       let one = found.unknown is in
-      rw is (some_open (λ k low high no. found.none k low (omega (arith, high)) no) one.1)
+      rw is (some_open (λ k low high other. found.none k low (omega (arith, high)) other) one.1)
 
   pub found_right : (f : Findings) → AreFound l c 5 f → IsRightConjugacy l c (written_findings f)
   found_right f found = found_by f.is_open f refl found
 
   yes_fits : (ns : List ℕ) (ss : List (List Step)) → AreYes l c 5 ns ss → (length ns ≡ 4) × (length ss ≡ 4)
   yes_fits _ _ (one_more (one_more (one_more (one_more none_yet one) two) three) four) = (refl, refl)
-  yes_fits _ _ (one_more (one_more (one_more (one_more (one_more none _) _) _) _) _) = elim none [ ]
+  yes_fits _ _ (one_more (one_more (one_more (one_more (one_more early _) _) _) _) _) = elim early [ ]
 
   fits_by : (b : Bool) (f : Findings) → f.is_open ≡ b → AreFound l c 5 f → IsWritable (written_findings f)
   fits_by false f shut found =

@@ -1,5 +1,5 @@
 -- The four questions of a conjugacy.
-use Rattle.std.proofs.Common.{◌≡◌, ℕ, zero, suc, ◌-◌, ◌≤◌, ◌<◌, Some, refl, subst, arith}
+use Rattle.std.proofs.Common.{◌≡◌, ℕ, zero, suc, ◌-◌, ◌≤◌, ◌<◌, Option, Some, refl, subst, arith}
 use Rattle.std.proofs.lemmas.Option.{slice_get_within}
 use Rattle.dd_formula.specs.LocalRule.{LocalRule}
 use Rattle.dd_boxes.specs.Goals.{GoalOf}
@@ -29,5 +29,5 @@ each_part S c each k x g part =
     at_each (λ j. IsPart c j x g → S x g) k part.0 (part_within c k x g part) (λ p. told c.from c.image each.image p.1) (λ p. told c.to c.image_back each.image_back p.1)
     (λ p. told c.from c.round each.round p.1) (λ p. told c.to c.round_back each.round_back p.1) part
   where
-    told : (y : LocalRule) (h : GoalOf) → S y h → Some (y, h) ≡ Some (x, g) → S x g
-    told y h said is = let same : (y, h) ≡ (x, g) = cc is in subst (λ (q : LocalRule × GoalOf). S q.0 q.1) same said
+    told : (y : LocalRule) (h : GoalOf) → S y h → ◌≡◌ {A = Option (LocalRule × GoalOf)} (Some (y, h)) (Some (x, g)) → S x g
+    told y h said is = let same : ◌≡◌ {A = LocalRule × GoalOf} (y, h) (x, g) = cc is in subst (λ (q : LocalRule × GoalOf). S q.0 q.1) same said

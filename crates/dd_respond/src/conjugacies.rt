@@ -1,6 +1,6 @@
 //! Answers to questions of conjugacy.
 ghost use Rattle.std.specs.Prelude.{◌≡◌, ◌≤◌, ◌∷◌, ◌++◌, [], false, IfOk, OnOk, MatchOption};
-ghost use Rattle.dd_certificate.specs.Bounds.{IsWritable, IsWritablePart};
+ghost use Rattle.dd_certificate.specs.Bounds.{IsWritable, IsWritableNumber, IsWritablePart};
 ghost use Rattle.dd_engines.specs.Rosters.{roster_seen};
 ghost use Rattle.dd_engines.specs.Rounds.{Kept, FirstAsked};
 ghost use Rattle.dd_values.specs.Ranges.{AreLimits};
@@ -54,6 +54,7 @@ impl Findings {
         ensures radii { OnOk result (self.new.radii ≡ self.old.radii ++ radius ∷ []) }
         ensures steps { OnOk result (self.new.steps ≡ self.old.steps ++ steps ∷ []) }
         ensures open { self.new.is_open ≡ self.old.is_open }
+        ensures small { IsWritableNumber radius }
     {
         self.radii.push(u64::from(radius))?;
         self.steps.push(steps)

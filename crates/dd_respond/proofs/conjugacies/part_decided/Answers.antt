@@ -9,7 +9,7 @@ use Rattle.dd_respond.proofs.conjugacies.part_decided.Goals as goal
 pub unreachable-requires : goal.unreachable-requires
 unreachable-requires g c =
     let some = some_part (conjugacy_of c.args.conjugacy.now) c.args.number c.requires.number.0 c.requires.number.1 in
-    c.part.ensures.none c.in-None.is some.0 some.1.0 some.1.1
+    c.part.ensures.none c.in-None.is some.0 some.1 some.2
 
 pub returns-clause-comes : goal.returns-clause-comes
 returns-clause-comes g c =
