@@ -1,5 +1,4 @@
 use Rattle.std.proofs.Common.{rules, ◌≡◌, arith, ◌+◌, subst, sym, refl}
-use Rattle.dd_contain.specs.declared.decision.Decision.TheVariants as decision
 use Rattle.dd_question.specs.Conjugacies.{conjugacy_of}
 use Rattle.dd_respond.specs.Writable.{IsWritableDecision}
 use Rattle.dd_respond.specs.Conjugacies.{ComesTo}
