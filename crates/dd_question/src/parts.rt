@@ -178,7 +178,7 @@ fn are_light(weights: &[u32]) -> bool
 }
 
 /// Whether there is one weight of at most 1,000 for each symbol.
-fn has_weights(rule: &Rule, weights: &[u32]) -> bool
+pub(crate) fn has_weights(rule: &Rule, weights: &[u32]) -> bool
     ensures of_strip { IsTrue result ↔ HasWeights rule.now weights.now }
     ensures of_discharge { IsTrue result ↔ AreWeightsFor rule.now weights.now }
 {
