@@ -95,6 +95,8 @@ impl<'a> Questions for BoxQuestion<'a> {
     ) -> Result<Option<Periodic>, AllocError> {
         // Law of a roster that is not asked.
         kept_is_reflexive();
+        // Made for its fact: what a rule keeps.
+        let _nodes = self.premise.nodes();
         let periods = [at.x, at.y, at.z];
         let cnf = torus_clauses(self.alloc, self.premise, self.goal, periods, at.shear)?;
         match outcome(self.alloc, &cnf, roster)? {

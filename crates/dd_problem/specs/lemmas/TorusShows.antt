@@ -1,5 +1,5 @@
 -- The clauses of a torus say what the question asks of the configurations of its periods.
-use Rattle.std.proofs.Common.{◌≡◌, ℕ, ◌<◌, true, List, length, get_or, refl, ap, sym, subst, ◌∙◌, arith, Some}
+use Rattle.std.proofs.Common.{◌≡◌, ℕ, ◌<◌, Bool, true, List, length, get_or, refl, ap, sym, subst, ◌∙◌, arith, Some}
 use Rattle.std.specs.Prelude.{is_some, IfSome, nat_lt, slice_get}
 use Rattle.std.specs.List.{list_all}
 use Rattle.std.proofs.lemmas.Bool.{and_parts, ltb-true, lt-ltb}
@@ -13,28 +13,32 @@ use Rattle.dd_pattern.specs.lemmas.TileSizes.{index_below}
 use Rattle.dd_expansion.specs.Placed.{is_flat}
 use Rattle.dd_formula.specs.LocalRule.{LocalRule, rule_allows, IsRule, is_true, reads_at, is_of}
 use Rattle.dd_formula.specs.Living.{Fits, Lives}
+use Rattle.dd_clause.specs.Clauses.{Satisfies}
+use Rattle.dd_circuit.specs.lemmas.ValueLaws.{Alike}
 use Rattle.dd_cnf.specs.lemmas.ModelLaws.{Satisfies-is_satisfied, is_satisfied-Satisfies}
 use Rattle.dd_boxes.specs.Goals.{GoalOf, breaks, differ, always}
-use Rattle.dd_boxes.specs.Witnesses.{ArePeriods, HasPeriods, IsWitness}
+use Rattle.dd_boxes.specs.Witnesses.{HasPeriods, IsWitness}
 use Rattle.dd_boxes.specs.lemmas.RuleLaws.{keeps_at, list_all_weaker}
+use Rattle.dd_problem.specs.TorusPeriods.{AreTorusPeriods}
 use Rattle.dd_problem.specs.pushing.Told.{IsToldGoal}
 use Rattle.dd_problem.specs.Layouts.{torus, torus_cells, fits_in}
-use Rattle.dd_problem.specs.pushing.Grown.{torus_layout}
-use Rattle.dd_problem.specs.Problems.{problem_clauses}
+use Rattle.dd_problem.specs.pushing.Near.{torus_layout}
+use Rattle.dd_problem.specs.Problems.{problem_clauses, torus_problem}
 use Rattle.dd_problem.specs.Shows.{ShowsTorus}
 use Rattle.dd_problem.specs.lemmas.ValueWires.{GoalWired}
 use Rattle.dd_problem.specs.lemmas.Parted.{premise_holds}
 use Rattle.dd_problem.specs.lemmas.Reading.{Stands, IsWired, look_allowed, read_symbols, problem_read}
 use Rattle.dd_problem.specs.lemmas.Writing.{assignment, problem_written}
+use Rattle.dd_problem.specs.lemmas.OwnVariables.{satisfied_alike}
 use Rattle.dd_problem.specs.lemmas.Filtered.{filter_all, filter_at}
 use Rattle.dd_problem.specs.lemmas.Wiring.{goal_from_test, test_from_goal, HasReads, wired_layout}
-use Rattle.dd_problem.proofs.TorusLayout.{torus_of, torus_size, length-torus_cells, torus_is_tile, torus_is_layout, torus_cell_there, torus_cell_at, torus_index_at, flat_place, look_periodic}
+use Rattle.dd_problem.specs.lemmas.TorusLayout.{torus_of, torus_size, length-torus_cells, torus_is_tile, torus_is_layout, torus_cell_there, torus_cell_at, torus_index_at, flat_place, look_periodic}
 
 -- a rule reads cells with nodes that there are
 node_of : (r : LocalRule) (c : Cell) → is_of r c ≡ true → nat_lt c.node r.nodes ≡ true
 node_of r c h = (and_parts (is_flat r.dimension c.position) (nat_lt c.node r.nodes) h).1
 
-reads_nodes : (r : LocalRule) (a : ℕ) → IsRule r → a < r.nodes → list_all (λ c. nat_lt c.node r.nodes) (reads_at r a) ≡ true
+pub reads_nodes : (r : LocalRule) (a : ℕ) → IsRule r → a < r.nodes → list_all (λ c. nat_lt c.node r.nodes) (reads_at r a) ≡ true
 reads_nodes r a ok node = list_all_weaker (is_of r) (λ c. nat_lt c.node r.nodes) (node_of r) (reads_at r a) (ok.placed a node)
 
 pub goal_reads_torus : (x : LocalRule) (g : GoalOf) (periods : Periods) → IsToldGoal x g → HasReads (torus_layout x g periods) g
@@ -42,7 +46,7 @@ goal_reads_torus x (breaks y) periods ok = λ a node. ap (λ n. list_all (λ c. 
 goal_reads_torus x (differ s f g) periods ok = tt
 goal_reads_torus x always periods ok = tt
 
-module _ (x : LocalRule) (g : GoalOf) (periods : Periods) (rule : IsRule x) (goal : IsToldGoal x g) (ok : ArePeriods x.dimension periods) (values : GoalWired (torus_layout x g periods) x.symbols g) where
+module _ (x : LocalRule) (g : GoalOf) (periods : Periods) (rule : IsRule x) (goal : IsToldGoal x g) (ok : AreTorusPeriods x periods) (values : GoalWired (torus_layout x g periods) x.symbols g) where
   torus_is_wired : IsWired (torus_layout x g periods) x g
   torus_is_wired =
       wired_layout (torus_layout x g periods) x g rule goal (torus_is_layout x periods rule ok g) (λ k d is. (torus_cell_at x periods rule ok k d is).node)
@@ -116,3 +120,10 @@ module _ (x : LocalRule) (g : GoalOf) (periods : Periods) (rule : IsRule x) (goa
             let done = problem_written l x g torus_is_wired t.symbols stands in
             (assignment l x g t.symbols, Satisfies-is_satisfied (assignment l x g t.symbols) (problem_clauses l x g) done.0, done.1));
       }
+
+  -- the clauses see no variables but their own
+  pub torus_alike : (set other : ℕ → Bool) → Alike (torus_problem x g periods).variables other set → Satisfies set (torus_problem x g periods).clauses →
+      Satisfies other (torus_problem x g periods).clauses
+  torus_alike set other same ok =
+      let l = torus_layout x g periods in
+      Satisfies-is_satisfied other (problem_clauses l x g) (satisfied_alike set other l x g torus_is_wired same (is_satisfied-Satisfies set (problem_clauses l x g) ok))

@@ -4,7 +4,6 @@ use Rattle.std.specs.Prelude.{◌||◌, nat_lt, slice_get}
 use Rattle.std.specs.Ordering.{int_eq}
 use Rattle.std.proofs.lemmas.Int.{ints}
 use Rattle.std.specs.List.{range_with_len}
-use Rattle.std.proofs.lemmas.Nat.{mul-le}
 use Rattle.std.proofs.lemmas.Bool.{and_from, ltb-true, ltb-false}
 use Rattle.std.proofs.lemmas.Bool.Decides.{Decides-int_eq}
 use Rattle.std.proofs.lemmas.Option.{slice_get_within}
@@ -23,10 +22,10 @@ use Rattle.dd_pattern.specs.lemmas.BoxLaws.{cell_at_index, in_box, index_of_cell
 use Rattle.dd_expansion.specs.Placed.{is_flat}
 use Rattle.dd_formula.specs.LocalRule.{LocalRule, IsRule}
 use Rattle.dd_boxes.specs.Goals.{GoalOf}
-use Rattle.dd_boxes.specs.Witnesses.{ArePeriods}
+use Rattle.dd_problem.specs.TorusPeriods.{AreTorusPeriods}
 use Rattle.dd_problem.specs.Layouts.{nth_cell, torus, torus_cells}
 use Rattle.dd_problem.specs.lemmas.CellOrder.{cells_by_number}
-use Rattle.dd_problem.specs.pushing.Grown.{torus_layout}
+use Rattle.dd_problem.specs.pushing.Near.{torus_layout}
 use Rattle.dd_problem.specs.lemmas.Reading.{IsLayout}
 use Rattle.dd_problem.specs.lemmas.Filtered.{some_same, slice_of_range}
 
@@ -37,24 +36,17 @@ torus_of x periods symbols = tile x.dimension periods x.nodes symbols
 abbrev pub torus_size : LocalRule → Periods → ℕ
 torus_size x periods = periods_volume periods * x.nodes
 
-pub product_small : (a b c n : ℕ) → a ≤ 8 → b ≤ 8 → c ≤ 8 → n ≤ 4 → a * b * c * n ≤ 65536
-product_small a b c n ha hb hc hn =
-    let first : a * b ≤ 64 = mul-le a b 8 8 ha hb in
-    let second : a * b * c ≤ 512 = mul-le (a * b) c 64 8 first hc in
-    let third : a * b * c * n ≤ 2048 = mul-le (a * b * c) n 512 4 second hn in
-    omega arith
-
-pub torus_is_tile : (x : LocalRule) (periods : Periods) (symbols : List ℕ) → IsRule x → ArePeriods x.dimension periods → length symbols ≡ torus_size x periods →
+pub torus_is_tile : (x : LocalRule) (periods : Periods) (symbols : List ℕ) → IsRule x → AreTorusPeriods x periods → length symbols ≡ torus_size x periods →
     IsTile (torus_of x periods symbols)
 torus_is_tile x periods symbols rule ok full =
     record { some_dimension = rule.dimension.0; most_dimension = rule.dimension.1; periods = ok.periods; nodes_some = rule.nodes.0; full = full }
 
--- and a small one
-pub torus_is_periodic : (x : LocalRule) (periods : Periods) (symbols : List ℕ) → IsRule x → ArePeriods x.dimension periods → length symbols ≡ torus_size x periods →
+-- one that lists few symbols
+pub torus_is_periodic : (x : LocalRule) (periods : Periods) (symbols : List ℕ) → IsRule x → AreTorusPeriods x periods → length symbols ≡ torus_size x periods →
     IsPeriodic (torus_of x periods symbols)
 torus_is_periodic x periods symbols rule ok full = record {
   tile = torus_is_tile x periods symbols rule ok full;
-  small = rw full (product_small periods.z periods.y periods.x x.nodes ok.z_most ok.y_most ok.x_most rule.nodes.1);
+  small = rw full ok.few;
 }
 
 -- the cells of the fundamental box are those whose symbols stand in the list of a configuration
@@ -94,7 +86,7 @@ zeros x periods = map (λ _. 0) (range_with_len 0 (torus_size x periods))
 length-zeros : (x : LocalRule) (periods : Periods) → length (zeros x periods) ≡ torus_size x periods
 length-zeros x periods = length-map-range_with_len (λ _. 0) 0 (torus_size x periods)
 
-module _ (x : LocalRule) (periods : Periods) (rule : IsRule x) (ok : ArePeriods x.dimension periods) where
+module _ (x : LocalRule) (periods : Periods) (rule : IsRule x) (ok : AreTorusPeriods x periods) where
   blank : IsTile (torus_of x periods (zeros x periods))
   blank = torus_is_tile x periods (zeros x periods) rule ok (length-zeros x periods)
 
