@@ -1,15 +1,9 @@
 use Rattle.dd_verify.proofs.Deciding.{if_both, nothing_holds}
-use Rattle.dd_verify.proofs.TorusForms.{torus_of, room_none, none_decides, no_torus}
+use Rattle.dd_verify.proofs.TorusForms.{none_decides, no_torus}
 use Rattle.dd_verify.proofs.tori.check_torus.Goals as goal
 
 pub returns-in-Least : goal.returns-in-Least
 returns-in-Least c = rw (c.in-Least.is, ← c.as_slice.ensures, ← c.as_slice-in-Least.ensures) c.is_least.ensures
-
-pub refutes_below-requires-in-Nothing-clause-periods : goal.refutes_below-requires-in-Nothing-clause-periods
-refutes_below-requires-in-Nothing-clause-periods c = torus_of c.args.rule.now c.args.periods c.requires.torus
-
-pub refutes_below-requires-in-Nothing-clause-count : goal.refutes_below-requires-in-Nothing-clause-count
-refutes_below-requires-in-Nothing-clause-count c = room_none c.args.rule.now c.args.periods c.args.weights.now c.requires
 
 pub returns-in-Nothing : goal.returns-in-Nothing
 returns-in-Nothing c =
