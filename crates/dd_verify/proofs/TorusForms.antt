@@ -1,9 +1,8 @@
 -- Answers to how little a fundamental box can weigh: their configurations, the room that their clauses have, that an output can
 -- hold them, and what they claim.
-use Rattle.std.proofs.Common.{◌≡◌, ◌≢◌, ℕ, suc, ◌+◌, ◌*◌, ◌<◌, ◌≤◌, Bool, true, false, List, [], ◌∷◌, length, inl, inr, refl, ap, sym, subst, ◌∙◌, arith}
-use Rattle.std.specs.Prelude.{◌↔◌, Result, IfOk, max}
+use Rattle.std.proofs.Common.{◌≡◌, ◌≢◌, ℕ, suc, ◌*◌, ◌<◌, ◌≤◌, Bool, true, List, [], ◌∷◌, length, inl, inr, refl, ap, sym, subst, ◌∙◌, arith}
+use Rattle.std.specs.Prelude.{◌↔◌, max}
 use Rattle.std.specs.List.{All}
-use Rattle.std.proofs.lemmas.Bool.{false≢true}
 use Rattle.std.proofs.lemmas.Nat.{mul-le}
 use Rattle.dd_values.specs.Bounds.{most_weight}
 use Rattle.dd_pattern.specs.declared.periods.Periods.{Periods}
@@ -17,7 +16,7 @@ use Rattle.dd_strip.specs.Strips.{HasWeights}
 use Rattle.dd_derivation.specs.declared.step.Step.{Step}
 use Rattle.dd_derivation.specs.Derivations.{IsRefuting}
 use Rattle.dd_boxes.specs.Goals.{always}
-use Rattle.dd_boxes.specs.Counts.{question_clauses, most_clauses}
+use Rattle.dd_boxes.specs.Counts.{most_clauses}
 use Rattle.dd_boxes.specs.Witnesses.{IsWitness}
 use Rattle.dd_problem.specs.TorusPeriods.{AreTorusPeriods}
 use Rattle.dd_counter.specs.Weights.{weight_problem, weight_count}
