@@ -22,7 +22,7 @@ const LOST_BITS: u32 = 32;
 const BROAD_PART: u64 = 64;
 
 /// The same where it is focused.
-const FOCUSED_PART: u64 = 16;
+const FOCUSED_PART: u64 = 20;
 
 /// How much the order goes by the latest conflicts.
 #[derive(Clone, Copy, Debug)]
@@ -31,7 +31,7 @@ pub enum Style {
     /// made more active a second time, and then those of the clauses that forced its literals (Liang, Ganesh, Poupart and
     /// Czarnecki 2016). It is the better one where a contradiction lies deep among many variables: boxes, pigeonholes.
     Broad,
-    /// The latest conflicts count most: what one adds grows by 1/16, and a variable becomes more active once for all clauses
+    /// The latest conflicts count most: what one adds grows by 1/20, and a variable becomes more active once for all clauses
     /// of the conflict, as in MiniSat (Eén and Sörensson 2003). It is the better one on large tori, where each cell is as good
     /// as any other: the search stays among the cells where it is.
     Focused,
