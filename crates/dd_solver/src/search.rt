@@ -90,7 +90,7 @@ impl<'a> Search<'a> {
             trail: Trail::new(alloc, variables)?,
             watches,
             order,
-            deletion: Deletion::new(alloc, variables)?,
+            deletion: Deletion::new(alloc, variables, style)?,
             marked: vec![in alloc; false; variables]?,
         })
     }
