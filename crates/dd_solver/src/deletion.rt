@@ -6,20 +6,14 @@ ghost use Rattle.dd_clause.specs.declared.clause.Literal.{Literal};
 ghost use Rattle.dd_solver.specs.searching.Deleting.{AreChosen, MayDelete};
 
 use dd_clause::Literal;
-use dd_trail::{Database, Entry, Style, Trail};
+use dd_trail::{Database, Entry, Trail};
 use std::alloc::{AllocError, Global};
 
 /// After how many learned clauses some are deleted first.
 const FIRST_REVIEW: usize = 4000;
 
-/// The same in the focused style.
-const FOCUSED_REVIEW: usize = 2000;
-
 /// What the number of clauses from one review to the next begins with.
 const FIRST_GAP: usize = 2000;
-
-/// The same in the focused style.
-const FOCUSED_GAP: usize = 300;
 
 /// What that number grows by at each review.
 const GAP_GROWTH: usize = 300;
@@ -87,17 +81,13 @@ fn take_chosen(
 
 impl Deletion {
     /// Nothing is learned yet.
-    pub fn new(alloc: Global, variables: usize, style: Style) -> Result<Deletion, AllocError> {
-        let (next, gap) = match style {
-            Style::Broad => (FIRST_REVIEW, FIRST_GAP),
-            Style::Focused => (FOCUSED_REVIEW, FOCUSED_GAP),
-        };
+    pub fn new(alloc: Global, variables: usize) -> Result<Deletion, AllocError> {
         Ok(Deletion {
             levels: Vec::new(alloc),
             counted: vec![in alloc; 0; variables.saturating_add(1)]?,
             counts: 0,
-            next,
-            gap,
+            next: FIRST_REVIEW,
+            gap: FIRST_GAP,
         })
     }
 

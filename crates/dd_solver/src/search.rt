@@ -90,7 +90,7 @@ impl<'a> Search<'a> {
             trail: Trail::new(alloc, variables)?,
             watches,
             order,
-            deletion: Deletion::new(alloc, variables, style)?,
+            deletion: Deletion::new(alloc, variables)?,
             marked: vec![in alloc; false; variables]?,
         })
     }
