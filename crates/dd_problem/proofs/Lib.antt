@@ -10,6 +10,7 @@ pub mod BoxInputs
 pub mod BoxCalls
 pub mod TorusReach
 pub mod NearCells
+pub mod OnceEach
 pub mod TorusInputs
 pub mod NearCalls
 pub mod TorusCalls

@@ -108,10 +108,10 @@ near_more x box now new reads cells i d below is read so_far pushed =
     ∙ (append_assoc box some (map (shifted d.position) reads)
     ∙ ap (λ cs. box ++ cs) (ap (λ cs. some ++ map (shifted d.position) cs) read ∙ sym (flat_more (read_cells x) cells i d below is))))
 
-pub near_all : (x : LocalRule) (g : GoalOf) (now found cells : List Cell) (i : ℕ) → length cells ≤ i → now ≡ box_cells x (goal_reach g) ++ flat_map (read_cells x) (take i cells) → found ≡ now →
-    in_order found ≡ near_cells x g cells
-near_all x g now found cells i past so_far read =
-    ap in_order (read ∙ (so_far ∙ ap (λ cs. box_cells x (goal_reach g) ++ flat_map (read_cells x) cs) (take_all i cells past)))
+pub near_all : (x : LocalRule) (g : GoalOf) (now cells : List Cell) (i : ℕ) → length cells ≤ i → now ≡ box_cells x (goal_reach g) ++ flat_map (read_cells x) (take i cells) →
+    in_order now ≡ near_cells x g cells
+near_all x g now cells i past so_far =
+    ap in_order (so_far ∙ ap (λ cs. box_cells x (goal_reach g) ++ flat_map (read_cells x) cs) (take_all i cells past))
 
 pub item_of : (P : Cell → Type 0) (cells : List Cell) (i : ℕ) (d : Cell) → All P cells → i < length cells → d ≡ get_or cells i d → P d
 item_of P cells i d all below is = subst P (sym is) (all i d below)

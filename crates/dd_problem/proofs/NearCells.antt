@@ -41,7 +41,7 @@ one_of_contained (e ∷ cs) c there = elim (Contains-cons_cases e cs c there) [
   | inr later ↦ or_right (is_eq (cell_cmp c e)) (is_one_of cs c) (one_of_contained cs c later)
 ]
 
-equal_from : (r : Ordering) → is_eq r ≡ true → r ≡ Equal
+pub equal_from : (r : Ordering) → is_eq r ≡ true → r ≡ Equal
 equal_from Less h = absurd (cc)
 equal_from Equal h = refl
 equal_from Greater h = absurd (cc)

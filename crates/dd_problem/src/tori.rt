@@ -4,6 +4,7 @@ ghost use Rattle.std.specs.List.{list_all, range_with_len};
 ghost use Rattle.std.specs.List.Sorted.{IsStrictlySortedBy};
 ghost use Rattle.dd_values.specs.Bounds.{most_variables};
 ghost use Rattle.dd_lattice.specs.Cells.{shifted};
+ghost use Rattle.dd_lattice.specs.InOrder.{in_order};
 ghost use Rattle.dd_lattice.specs.Order.{cell_cmp};
 ghost use Rattle.dd_lattice.specs.Place.{most_coordinate};
 ghost use Rattle.dd_topology.specs.Topology.{extent};
@@ -29,7 +30,7 @@ use dd_boxes::{Goal, least_radius};
 use dd_clause::Cnf;
 use dd_compile::Inputs;
 use dd_formula::Rule;
-use dd_lattice::{Box3, Cell, Position, centred_box, in_order, shift};
+use dd_lattice::{Box3, Cell, Position, centred_box, shift};
 use dd_pattern::{Configuration, Periodic, Periods};
 use std::alloc::{AllocError, Global};
 
@@ -85,6 +86,16 @@ fn push_shifted(found: &mut Vec<Cell>, by: &Position, cells: &[Cell]) -> Result<
     Ok(())
 }
 
+/// The cells in cell order, each once. Many are listed more than once, so they are sorted in their place.
+fn once_each(cells: Vec<Cell>) -> Vec<Cell>
+    ensures { result.items ≡ in_order cells.items }
+{
+    let mut found = cells;
+    found.sort_unstable();
+    found.dedup();
+    found
+}
+
 /// The cells that the premise reads at the cells, and those of the least box that holds what the goal reads at the origin.
 fn near_cells(
     alloc: Global,
@@ -101,7 +112,7 @@ fn near_cells(
     for cell in cells {
         push_shifted(&mut found, &cell.position, premise.reads(cell.node))?;
     }
-    in_order(alloc, &found)
+    Ok(once_each(found))
 }
 
 /// Inputs for the cells, each with those of the number that stands there.

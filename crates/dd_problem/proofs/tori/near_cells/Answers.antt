@@ -1,5 +1,4 @@
-use Rattle.std.proofs.Common.{◌≡◌, ◌<◌, ◌≤◌, List, subst}
-use Rattle.std.specs.Prelude.{IfOk}
+use Rattle.std.proofs.Common.{◌<◌, ◌≤◌, ◌∙◌}
 use Rattle.dd_lattice.specs.declared.position.Cell.{Cell}
 use Rattle.dd_topology.specs.Topology.{extent}
 use Rattle.dd_boxes.specs.Boxes.{goal_reach}
@@ -29,7 +28,5 @@ loop-cell-preserved c =
 
 pub returns : goal.returns
 returns c =
-    let same =
-    near_all c.args.premise.now (goal_of c.args.premise.now c.args.goal.now) c.loop-cell.found.items c.deref.result.now c.args.cells.now c.loop-cell.cell-index c.loop-cell-test.false
-    c.loop-cell.invariant c.deref.ensures.value in
-    subst (λ (cs : List Cell). IfOk c.in_order.result (λ v. v.items ≡ cs)) same c.in_order.ensures.list
+    c.once_each.ensures
+    ∙ near_all c.args.premise.now (goal_of c.args.premise.now c.args.goal.now) c.loop-cell.found.items c.args.cells.now c.loop-cell.cell-index c.loop-cell-test.false c.loop-cell.invariant
