@@ -1,12 +1,21 @@
--- The patterns of a node, as they are appended.
-use Rattle.std.proofs.Common.{◌≡◌, ℕ, List, ◌++◌, map, refl, ap, ◌∙◌}
+-- The patterns of a node, as they are made and appended.
+use Rattle.std.proofs.Common.{◌≡◌, ℕ, ◌^◌, ◌≤◌, ◌<◌, true, List, ◌++◌, map, length, refl, ap, ◌∙◌, arith}
+use Rattle.std.proofs.lemmas.Bool.{ltb-true}
 use Rattle.std.proofs.lemmas.Simd.{map-map}
 use Rattle.dd_pattern.specs.Filling.{Filled, filled}
 use Rattle.dd_formula.specs.LocalRule.{LocalRule, cells_at}
-use Rattle.dd_forbidden.specs.Breaking.{BreakingFillings, AreBreakingFillings}
+use Rattle.dd_forbidden.specs.Breaking.{BreakingFillings, AreBreakingFillings, is_large}
 use Rattle.dd_certificate.specs.declared.answer.Listed.{Listed}
+use Rattle.dd_question.specs.Lists.{HasFewPatterns}
 use Rattle.dd_evidence.specs.NodeLists.{IsListedAfter}
 use Rattle.dd_evidence.specs.Lists.{listed}
+
+-- where the cells that are read have few fillings, they are listed
+pub never_large : (r : LocalRule) (a : ℕ) → HasFewPatterns r → a < r.nodes → is_large r a ≡ true → ⊥
+never_large r a few below large =
+    let many : 65536 < r.symbols ^ length (cells_at r a) = ltb-true 65536 (r.symbols ^ length (cells_at r a)) large in
+    let most : r.symbols ^ length (cells_at r a) ≤ 65536 = few a below in
+    omega (arith, many, most)
 
 -- the pattern of a filling
 abbrev pub pattern_of : ℕ → Filled → Listed

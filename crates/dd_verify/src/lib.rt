@@ -4,10 +4,12 @@
 mod answering;
 mod boxes;
 mod configurations;
+mod conjugacies;
 mod densities;
 mod discharges;
 mod laws;
 mod lists;
+mod minimals;
 mod numbers;
 mod places;
 mod refutations;
