@@ -12,8 +12,9 @@ use Rattle.dd_boxes.specs.Counts.{goal_clauses, most_clauses}
 use Rattle.dd_boxes.specs.lemmas.ReachLaws.{least_is_goal_reach}
 use Rattle.dd_question.specs.declared.excess.Excess.{Excess}
 use Rattle.dd_question.specs.declared.excess.Excess.TheVariants as excess
-use Rattle.dd_question.specs.Questions.{Asked, membership, box, equality, listing, density, discharge, IsFormed, passed, excess_of, IsSoundAsked}
-use Rattle.dd_question.specs.Boxes.{clauses_of, is_long, IsAskable}
+use Rattle.dd_question.specs.Questions.{Asked, membership, box, equality, listing, smallest, conjugacy, density, discharge, IsFormed, passed, excess_of, IsSoundAsked}
+use Rattle.dd_question.specs.Boxes.{clauses_of, is_long, IsAskable, IsFormedBox, IsSoundBox}
+use Rattle.dd_question.specs.Conjugacies.{ConjugacyOf, EachPart, is_some_long}
 use Rattle.dd_question.specs.Lists.{has_many_patterns, HasFewPatterns}
 use Rattle.dd_question.specs.Densities.{has_many_states, strip_volume}
 use Rattle.dd_question.proofs.LimitLaws.{some_at}
@@ -32,6 +33,22 @@ askable l x g ok goal kept few = record {
       subst (λ n. n ≤ most_clauses) (sym same) le);
 }
 
+sound_box : (l : Limits) (x : LocalRule) (g : GoalOf) → IsFormedBox x g → is_long l x g ≡ false → IsSoundBox l x g
+sound_box l x g formed few = (formed.0, askable l x g formed.0 formed.1 formed.2 few)
+
+sound_parts : (l : Limits) (c : ConjugacyOf) → EachPart IsFormedBox c → is_some_long l c ≡ false → EachPart (IsSoundBox l) c
+sound_parts l c formed few =
+    let one = or_parts _ _ few in
+    let two = or_parts _ _ one.1 in
+    let three = or_parts _ _ two.1 in
+    let four = or_parts _ _ three.1 in
+    record {
+      image = sound_box l c.from c.image formed.image one.0;
+      image_back = sound_box l c.to c.image_back formed.image_back two.0;
+      round = sound_box l c.from c.round formed.round three.0;
+      round_back = sound_box l c.to c.round_back formed.round_back four.0;
+    }
+
 turned_round : (x y : LocalRule) → AreAlike x y → AreAlike y x
 turned_round x y same = record { dimension = sym same.dimension; nodes = sym same.nodes; symbols = sym same.symbols }
 
@@ -49,7 +66,7 @@ few_states x strip few =
 
 pub sound : (l : Limits) (a : Asked) → IsFormed a → excess_of l a ≡ None → IsSoundAsked l a
 sound l (membership x t) formed none = formed
-sound l (box x g) formed none = (formed.0, askable l x g formed.0 formed.1 formed.2 (within (is_long l x g) excess.Clauses none))
+sound l (box x g) formed none = sound_box l x g formed (within (is_long l x g) excess.Clauses none)
 sound l (equality x y) formed none =
     let both = or_parts (is_long l x (breaks y)) (is_long l y (breaks x)) (within (is_long l x (breaks y) || is_long l y (breaks x)) excess.Clauses none) in (
       formed.0,
@@ -58,6 +75,8 @@ sound l (equality x y) formed none =
       askable l y (breaks x) formed.1 (turned_round x y formed.2) formed.0 both.1,
     )
 sound l (listing x) formed none = (formed, few_patterns x (within (has_many_patterns x) excess.Patterns none))
+sound l (smallest x) formed none = (formed, few_patterns x (within (has_many_patterns x) excess.Patterns none))
+sound l (conjugacy c) formed none = sound_parts l c formed (within (is_some_long l c) excess.Clauses none)
 sound l (density x strip ws) formed none = (
   formed.0,
   record { strip = formed.1; weights = formed.2; few = few_states x strip (within (has_many_states x (strip_volume strip)) excess.States none) },

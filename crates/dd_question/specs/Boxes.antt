@@ -1,7 +1,7 @@
 -- Box questions: how many clauses they take, and when they may be asked.
 use Rattle.std.specs.Prelude.{ℕ, ◌≤◌, Bool, max, nat_lt}
 use Rattle.dd_values.specs.declared.limits.Limits.{Limits}
-use Rattle.dd_formula.specs.LocalRule.{LocalRule}
+use Rattle.dd_formula.specs.LocalRule.{LocalRule, IsRule}
 use Rattle.dd_formula.specs.Counts.{largest_clauses}
 use Rattle.dd_boxes.specs.Goals.{GoalOf, IsGoalFor, KeepsRule}
 use Rattle.dd_boxes.specs.Boxes.{goal_reach, IsLeastRadius}
@@ -14,8 +14,15 @@ clauses_of l x g = largest_clauses x (goal_clauses g) (max l.radius (goal_reach 
 abbrev pub is_long : Limits → LocalRule → GoalOf → Bool
 is_long l x g = nat_lt most_clauses (clauses_of l x g)
 
+-- the premise is a rule, and the goal is one for it
+abbrev pub IsFormedBox : LocalRule → GoalOf → Type 0
+IsFormedBox x g = IsRule x × IsGoalFor x g × KeepsRule g
+
 -- a goal for the premise, on whose largest box and torus the question takes at most 2,000,000 clauses
 pub record IsAskable (l : Limits) (x : LocalRule) (g : GoalOf) : Type 0 where
   pub goal : IsGoalFor x g
   pub rule : KeepsRule g
   pub small : (least : ℕ) → IsLeastRadius g least → largest_clauses x (goal_clauses g) (max l.radius least) l.period ≤ most_clauses
+
+abbrev pub IsSoundBox : Limits → LocalRule → GoalOf → Type 0
+IsSoundBox l x g = IsRule x × IsAskable l x g

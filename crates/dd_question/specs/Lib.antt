@@ -2,8 +2,9 @@
 pub mod Questions
 -- questions with the limits within which they are asked, and how they are checked
 pub mod Checked
--- what the four kinds of questions may have: box questions, lists of patterns, densities and discharges
+-- what the kinds of questions may have: box questions, the four of a conjugacy, lists of patterns, densities and discharges
 pub mod Boxes
+pub mod Conjugacies
 pub mod Lists
 pub mod Densities
 pub mod Discharges

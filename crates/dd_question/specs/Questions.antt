@@ -7,7 +7,7 @@ use Rattle.dd_formula.specs.LocalRule.{LocalRule, IsRule}
 use Rattle.dd_formula.specs.Living.{Fits}
 use Rattle.dd_formula.specs.Allowed.{HasAllowed}
 use Rattle.dd_strip.specs.Strips.{IsStrip, HasWeights}
-use Rattle.dd_boxes.specs.Goals.{GoalOf, breaks, AreAlike, IsGoalFor, KeepsRule}
+use Rattle.dd_boxes.specs.Goals.{GoalOf, breaks, AreAlike, IsGoalFor}
 use Rattle.dd_boxes.specs.Views.{goal_of}
 use Rattle.dd_question.specs.declared.excess.Excess.{Excess}
 use Rattle.dd_question.specs.declared.excess.Excess.TheVariants as excess
@@ -15,7 +15,8 @@ use Rattle.dd_question.specs.declared.fault.QuestionFault.{QuestionFault}
 use Rattle.dd_question.specs.declared.fault.QuestionFault.TheVariants as fault
 use Rattle.dd_question.specs.declared.question.Question.{Question}
 use Rattle.dd_question.specs.declared.question.Question.TheVariants as question
-use Rattle.dd_question.specs.Boxes.{is_long, IsAskable}
+use Rattle.dd_question.specs.Boxes.{is_long, IsFormedBox, IsAskable, IsSoundBox}
+use Rattle.dd_question.specs.Conjugacies.{ConjugacyOf, is_some_long, IsPart, EachPart, conjugacy_of}
 use Rattle.dd_question.specs.Lists.{has_many_patterns, HasFewPatterns}
 use Rattle.dd_question.specs.Densities.{has_many_states, strip_volume, IsNarrow}
 use Rattle.dd_question.specs.Discharges.{IsDischargeable, IsDischargeFault}
@@ -29,6 +30,10 @@ pub data Asked : Type 0 where
   equality : LocalRule → LocalRule → Asked
   -- which symbols of the cells that the rule reads at a node break it there?
   listing : LocalRule → Asked
+  -- which symbols of some of these cells break it there, where none of them can be left out?
+  smallest : LocalRule → Asked
+  -- are two maps between the subshifts of two rules inverse to each other?
+  conjugacy : ConjugacyOf → Asked
   -- with these weights, what do the configurations with these periods in the axes after the first weigh at least a position?
   density : LocalRule → List ℕ → List ℕ → Asked
   -- with these weights, what can each position hold at least, once each has given along these vectors amounts that the pattern
@@ -41,6 +46,8 @@ asked_of (question.Membership rule configuration) = membership rule.now configur
 asked_of (question.Box premise goal) = box premise.now (goal_of premise.now goal)
 asked_of (question.Equality left right) = equality left.now right.now
 asked_of (question.Listing rule) = listing rule.now
+asked_of (question.Smallest rule) = smallest rule.now
+asked_of (question.Conjugacy c) = conjugacy (conjugacy_of c)
 asked_of (question.Density rule strip weights) = density rule.now strip weights.now
 asked_of (question.Discharge rule radius margin vectors weights) = discharge rule.now radius margin vectors.now weights.now
 
@@ -50,6 +57,8 @@ is_box_question (membership x t) = false
 is_box_question (box x g) = true
 is_box_question (equality x y) = true
 is_box_question (listing x) = false
+is_box_question (smallest x) = false
+is_box_question (conjugacy c) = true
 is_box_question (density x strip ws) = false
 is_box_question (discharge x radius margin vs ws) = false
 
@@ -57,9 +66,11 @@ is_box_question (discharge x radius margin vs ws) = false
 -- its node allows
 abbrev pub IsFormed : Asked → Type 0
 IsFormed (membership x t) = IsRule x × IsTile t × Fits x t × HasAllowed x t
-IsFormed (box x g) = IsRule x × IsGoalFor x g × KeepsRule g
+IsFormed (box x g) = IsFormedBox x g
 IsFormed (equality x y) = IsRule x × IsRule y × AreAlike x y
 IsFormed (listing x) = IsRule x
+IsFormed (smallest x) = IsRule x
+IsFormed (conjugacy c) = EachPart IsFormedBox c
 IsFormed (density x strip ws) = IsRule x × IsStrip x strip × HasWeights x ws
 IsFormed (discharge x radius margin vs ws) = IsRule x × IsDischargeable x radius margin vs ws
 
@@ -69,6 +80,8 @@ pub data IsPartFault : Asked → QuestionFault → Type 0 where
   symbols_fault : {x : LocalRule} {t : Tile} → Fits x t → ¬ HasAllowed x t → IsPartFault (membership x t) fault.Symbols
   goal_fault : {x : LocalRule} {g : GoalOf} → ¬ IsGoalFor x g → IsPartFault (box x g) fault.Goal
   rules_fault : {x y : LocalRule} → ¬ AreAlike x y → IsPartFault (equality x y) fault.Rules
+  conjugacy_fault : {c : ConjugacyOf} {k : ℕ} {x : LocalRule} {g : GoalOf} {f : QuestionFault} → IsPart c k x g → IsPartFault (box x g) f →
+      IsPartFault (conjugacy c) f
   strip_fault : {x : LocalRule} {periods ws : List ℕ} → ¬ IsStrip x periods → IsPartFault (density x periods ws) fault.Strip
   weights_fault : {x : LocalRule} {periods ws : List ℕ} → IsStrip x periods → ¬ HasWeights x ws → IsPartFault (density x periods ws) fault.Weights
   discharge_fault : {x : LocalRule} {radius margin : ℕ} {vs : List Place} {ws : List ℕ} {f : QuestionFault} → IsDischargeFault x radius margin vs ws f →
@@ -84,14 +97,18 @@ excess_of l (membership x t) = None
 excess_of l (box x g) = passed (is_long l x g) excess.Clauses
 excess_of l (equality x y) = passed (is_long l x (breaks y) || is_long l y (breaks x)) excess.Clauses
 excess_of l (listing x) = passed (has_many_patterns x) excess.Patterns
+excess_of l (smallest x) = passed (has_many_patterns x) excess.Patterns
+excess_of l (conjugacy c) = passed (is_some_long l c) excess.Clauses
 excess_of l (density x strip ws) = passed (has_many_states x (strip_volume strip)) excess.States
 excess_of l (discharge x radius margin vs ws) = None
 
 -- it goes together and passes no limit
 abbrev pub IsSoundAsked : Limits → Asked → Type 0
 IsSoundAsked l (membership x t) = IsRule x × IsTile t × Fits x t × HasAllowed x t
-IsSoundAsked l (box x g) = IsRule x × IsAskable l x g
+IsSoundAsked l (box x g) = IsSoundBox l x g
 IsSoundAsked l (equality x y) = IsRule x × IsRule y × IsAskable l x (breaks y) × IsAskable l y (breaks x)
 IsSoundAsked l (listing x) = IsRule x × HasFewPatterns x
+IsSoundAsked l (smallest x) = IsRule x × HasFewPatterns x
+IsSoundAsked l (conjugacy c) = EachPart (IsSoundBox l) c
 IsSoundAsked l (density x strip ws) = IsRule x × IsNarrow x strip ws
 IsSoundAsked l (discharge x radius margin vs ws) = IsRule x × IsDischargeable x radius margin vs ws

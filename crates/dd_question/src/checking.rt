@@ -7,7 +7,9 @@ ghost use Rattle.dd_question.specs.Checked.{asked_within, IsFaultWithin};
 use crate::checked::CheckedQuestion;
 use crate::fault::QuestionFault;
 use crate::laws::sound_questions;
-use crate::parts::{check_box, check_density, check_discharge, check_equality, check_member};
+use crate::parts::{
+    check_box, check_conjugacy, check_density, check_discharge, check_equality, check_member,
+};
 use crate::question::Question;
 use dd_values::Limits;
 use std::alloc::Global;
@@ -41,7 +43,8 @@ impl<'a> Question<'a> {
             } => check_member(rule, configuration),
             Question::Box { premise, goal } => check_box(alloc, premise, &goal),
             Question::Equality { left, right } => check_equality(left, right),
-            Question::Listing { rule } => {
+            Question::Conjugacy { conjugacy } => check_conjugacy(alloc, &conjugacy),
+            Question::Listing { rule } | Question::Smallest { rule } => {
                 // Read for what its type keeps.
                 let _nodes = rule.nodes();
                 Ok(())

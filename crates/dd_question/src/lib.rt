@@ -1,10 +1,12 @@
 //! Questions about rules: whether a configuration lives in a subshift, whether a subshift holds a goal, whether two are equal, which
-//! patterns are forbidden, how light a strip can be and what a discharge can show; and which of them ask for too much work.
+//! patterns are forbidden, and which without a cell too many, whether two maps are inverse to each other, how light a strip can be
+//! and what a discharge can show; and which of them ask for too much work.
 #![tactic(auto)]
 
 mod aims;
 mod checked;
 mod checking;
+mod conjugacy;
 mod excess;
 mod fault;
 mod laws;
@@ -14,6 +16,7 @@ mod question;
 
 pub use aims::MOST_CLAUSES;
 pub use checked::CheckedQuestion;
+pub use conjugacy::Conjugacy;
 pub use excess::Excess;
 pub use fault::QuestionFault;
 pub use laws::sound_questions;

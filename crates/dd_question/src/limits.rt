@@ -4,11 +4,13 @@ ghost use Rattle.dd_boxes.specs.Goals.{IsGoalFor};
 ghost use Rattle.dd_boxes.specs.Views.{goal_of};
 ghost use Rattle.dd_values.specs.Ranges.{AreLimits};
 ghost use Rattle.dd_question.specs.Questions.{asked_of, IsFormed, excess_of};
-ghost use Rattle.dd_question.specs.Boxes.{is_long};
+ghost use Rattle.dd_question.specs.Boxes.{is_long, IsFormedBox};
+ghost use Rattle.dd_question.specs.Conjugacies.{EachPart, conjugacy_of, is_some_long};
 ghost use Rattle.dd_question.specs.Lists.{has_many_patterns};
 ghost use Rattle.dd_question.specs.Densities.{has_many_states, strip_volume};
 
 use crate::aims::{MOST_CLAUSES, aim_of};
+use crate::conjugacy::Conjugacy;
 use crate::excess::Excess;
 use crate::question::Question;
 use dd_boxes::Goal;
@@ -30,6 +32,19 @@ fn is_long(alloc: Global, limits: &Limits, premise: &Rule, goal: &Goal) -> Resul
     let radius = limits.radius.max(aim.radius);
     let clauses = question_clauses(premise, aim.clauses, radius, limits.period, MOST_CLAUSES);
     Ok(clauses > MOST_CLAUSES)
+}
+
+/// Whether one of the four questions has.
+fn is_some_long(alloc: Global, limits: &Limits, c: &Conjugacy) -> Result<bool, AllocError>
+    requires limits { AreLimits limits.now }
+    requires formed { EachPart IsFormedBox (conjugacy_of c.now) }
+    ensures { IfOk result (λ long. long ≡ is_some_long limits.now (conjugacy_of c.now)) }
+{
+    let image = is_long(alloc, limits, c.from, &c.image)?;
+    let image_back = is_long(alloc, limits, c.to, &c.image_back)?;
+    let round = is_long(alloc, limits, c.from, &c.round)?;
+    let round_back = is_long(alloc, limits, c.to, &c.round_back)?;
+    Ok(image || image_back || round || round_back)
 }
 
 fn has_many_patterns(rule: &Rule) -> bool
@@ -78,7 +93,12 @@ impl Question<'_> {
                 let right_in_left = is_long(alloc, limits, right, &Goal::Breaks(left))?;
                 Ok((left_in_right || right_in_left).then_some(Excess::Clauses))
             }
-            Question::Listing { rule } => Ok(has_many_patterns(rule).then_some(Excess::Patterns)),
+            Question::Listing { rule } | Question::Smallest { rule } => {
+                Ok(has_many_patterns(rule).then_some(Excess::Patterns))
+            }
+            Question::Conjugacy { conjugacy } => {
+                Ok(is_some_long(alloc, limits, &conjugacy)?.then_some(Excess::Clauses))
+            }
             Question::Density { rule, strip, .. } => {
                 Ok(has_many_states(rule, strip_volume(strip)).then_some(Excess::States))
             }

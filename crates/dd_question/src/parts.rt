@@ -10,9 +10,11 @@ ghost use Rattle.dd_boxes.specs.Goals.{AreAlike, AreOver, IsGoalFor, KeepsRule};
 ghost use Rattle.dd_boxes.specs.Discharges.{IsVector, AreVectors, AreWeightsFor};
 ghost use Rattle.dd_boxes.specs.Views.{goal_of, numbers_of};
 ghost use Rattle.dd_question.specs.measuring.Vectors.{IsNear, is_among, are_apart};
+ghost use Rattle.dd_question.specs.Conjugacies.{conjugacy_of};
 ghost use Rattle.dd_question.specs.Questions as asked;
 ghost use Rattle.dd_question.specs.Questions.{IsFormed, IsPartFault};
 
+use crate::conjugacy::Conjugacy;
 use crate::fault::QuestionFault;
 use dd_boxes::Goal;
 use dd_formed::{CommonNumbers, is_automaton};
@@ -134,6 +136,18 @@ pub(crate) fn check_box(alloc: Global, premise: &Rule, goal: &Goal) -> Result<()
         return Err(QuestionFault::Goal);
     }
     Ok(())
+}
+
+/// Whether each of the four questions may be asked.
+#[tactic(auto, using(crate::specs::Questions::conjugacy_fault))]
+pub(crate) fn check_conjugacy(alloc: Global, c: &Conjugacy) -> Result<(), QuestionFault>
+    ensures ok { OnOk result (IsFormed (asked.conjugacy (conjugacy_of c.now))) }
+    ensures fault { IfErr result (IsPartFault (asked.conjugacy (conjugacy_of c.now))) }
+{
+    check_box(alloc, c.from, &c.image)?;
+    check_box(alloc, c.to, &c.image_back)?;
+    check_box(alloc, c.from, &c.round)?;
+    check_box(alloc, c.to, &c.round_back)
 }
 
 #[tactic(auto, using(crate::specs::Questions::rules_fault))]

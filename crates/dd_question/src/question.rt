@@ -1,4 +1,5 @@
 //! What is asked of rules.
+use crate::conjugacy::Conjugacy;
 use dd_boxes::Goal;
 use dd_formula::Rule;
 use dd_lattice::Position;
@@ -25,6 +26,14 @@ pub enum Question<'a> {
     /// Which symbols of the cells that the rule reads at a node break it there?
     Listing {
         rule: &'a Rule,
+    },
+    /// Which symbols of some of these cells break it there, where none of them can be left out?
+    Smallest {
+        rule: &'a Rule,
+    },
+    /// Are two maps between the subshifts of two rules inverse to each other?
+    Conjugacy {
+        conjugacy: Conjugacy<'a>,
     },
     /// What do the configurations with these periods in the axes after the first weigh at least a position?
     Density {

@@ -1,0 +1,52 @@
+-- Conjugacies: whether two automata are inverse maps between two subshifts, as four box questions.
+use Rattle.std.specs.Prelude.{ℕ, ◌≡◌, ◌≤◌, ◌-◌, Some, Bool, List, [], ◌∷◌, slice_get}
+use Rattle.std.specs.List.{list_any}
+use Rattle.dd_values.specs.declared.limits.Limits.{Limits}
+use Rattle.dd_formula.specs.LocalRule.{LocalRule}
+use Rattle.dd_boxes.specs.Goals.{GoalOf}
+use Rattle.dd_boxes.specs.Views.{goal_of}
+use Rattle.dd_question.specs.Boxes.{is_long}
+use Rattle.dd_question.specs.declared.conjugacy.Conjugacy.{Conjugacy}
+
+-- two subshifts, and what there must not be in them
+pub record ConjugacyOf : Type 0 where
+  pub from : LocalRule
+  pub to : LocalRule
+  -- in the first the map doesn't lead into the second
+  pub image : GoalOf
+  -- in the second the map back doesn't lead into the first
+  pub image_back : GoalOf
+  -- in the first the map and then the map back don't give back what was there
+  pub round : GoalOf
+  -- in the second the map back and then the map don't
+  pub round_back : GoalOf
+
+-- the four box questions in order, each by its premise and its goal
+abbrev pub parts : ConjugacyOf → List (LocalRule × GoalOf)
+parts c = (c.from, c.image) ∷ (c.to, c.image_back) ∷ (c.from, c.round) ∷ (c.to, c.round_back) ∷ []
+
+-- the question with this number, from 1 on, has this premise and this goal
+abbrev pub IsPart : ConjugacyOf → ℕ → LocalRule → GoalOf → Type 0
+IsPart c k x g = (1 ≤ k) × (slice_get (parts c) (k - 1) ≡ Some (x, g))
+
+-- what is said of box questions holds of all four
+pub record EachPart (IsSaid : LocalRule → GoalOf → Type 0) (c : ConjugacyOf) : Type 0 where
+  pub image : IsSaid c.from c.image
+  pub image_back : IsSaid c.to c.image_back
+  pub round : IsSaid c.from c.round
+  pub round_back : IsSaid c.to c.round_back
+
+-- one of them takes too many clauses
+abbrev pub is_some_long : Limits → ConjugacyOf → Bool
+is_some_long l c = list_any (λ (p : LocalRule × GoalOf). is_long l p.0 p.1) (parts c)
+
+-- what a value of the program asks
+abbrev pub conjugacy_of : Conjugacy → ConjugacyOf
+conjugacy_of c = record {
+  from = c.from.now;
+  to = c.to.now;
+  image = goal_of c.from.now c.image;
+  image_back = goal_of c.to.now c.image_back;
+  round = goal_of c.from.now c.round;
+  round_back = goal_of c.to.now c.round_back;
+}
