@@ -1,2 +1,3 @@
 mod Digits
+mod Growing
 pub mod Writable

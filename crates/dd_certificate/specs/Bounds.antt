@@ -1,10 +1,11 @@
 -- The answers that an output can hold: each number within bounds, and each list with as many entries as its line allows.
-use Rattle.std.specs.Prelude.{ℕ, ℤ, ◌≡◌, ◌≤◌, ◌⊎◌, ◌^◌, ◌-◌, List, All, length, unsigned_abs}
+use Rattle.std.specs.Prelude.{ℕ, ℤ, ◌≡◌, ◌≤◌, ◌⊎◌, ◌^◌, ◌-◌, List, [], All, Option, Some, None, length, unsigned_abs}
 use Rattle.dd_values.specs.Bounds.{most_variables}
 pub use Rattle.dd_values.specs.Bounds.{most_number}
 use Rattle.dd_clause.specs.Clauses.{IsLiteralInRange}
 use Rattle.dd_derivation.specs.declared.step.Step.{Step}
 use Rattle.dd_certificate.specs.declared.answer.Listed.{Listed}
+use Rattle.dd_certificate.specs.declared.answer.Starred.{Starred}
 use Rattle.dd_certificate.specs.declared.answer.Answer.{Answer}
 use Rattle.dd_certificate.specs.declared.answer.Answer.TheVariants as answer
 
@@ -35,6 +36,13 @@ IsWritableRefutation steps = (1 ≤ length steps) × (length steps ≤ most_coun
 abbrev pub IsWritablePattern : Listed → Type 0
 IsWritablePattern p = IsWritableNumber p.node × All IsWritableNumber p.symbols
 
+abbrev pub IsWritableKept : Option ℕ → Type 0
+IsWritableKept None = Unit {0}
+IsWritableKept (Some n) = IsWritableNumber n
+
+abbrev pub IsWritableStarred : Starred → Type 0
+IsWritableStarred p = IsWritableNumber p.node × All IsWritableKept p.symbols
+
 -- a list that has to have an entry
 abbrev pub IsWritableList : List ℕ → Type 0
 IsWritableList ns = (1 ≤ length ns) × All IsWritableNumber ns
@@ -43,14 +51,25 @@ IsWritableList ns = (1 ≤ length ns) × All IsWritableNumber ns
 abbrev pub HasShear : List ℕ → ℕ → Type 0
 HasShear periods shear = (shear ≡ 0) ⊎ (2 ≤ length periods)
 
+abbrev pub IsWritableConfiguration : List ℕ → ℕ → List ℕ → Type 0
+IsWritableConfiguration periods shear symbols =
+    (length periods ≤ 3) × IsWritableList periods × IsWritableNumber shear × HasShear periods shear × IsWritableList symbols
+
+-- the number of one of the four questions
+abbrev pub IsWritablePart : ℕ → Type 0
+IsWritablePart part = (1 ≤ part) × (part ≤ 4)
+
+-- there is nothing to refute below 0
+abbrev pub IsWritableBelow : ℕ → List Step → Type 0
+IsWritableBelow weight steps = ((weight ≡ 0) × (steps ≡ [])) ⊎ ((1 ≤ weight) × IsWritableRefutation steps)
+
 abbrev pub IsWritable : Answer → Type 0
 IsWritable answer.Inside = Unit {0}
 IsWritable (answer.Outside place) = (2 ≤ length place) × (length place ≤ 4) × All IsWritableSigned place
 IsWritable (answer.Yes radius steps) = IsWritableNumber radius × IsWritableRefutation steps
 IsWritable (answer.YesBoth left right left_steps right_steps) =
     IsWritableNumber left × IsWritableNumber right × IsWritableRefutation left_steps × IsWritableRefutation right_steps
-IsWritable (answer.No side periods shear symbols) =
-    (length periods ≤ 3) × IsWritableList periods × IsWritableNumber shear × HasShear periods shear × IsWritableList symbols
+IsWritable (answer.No side periods shear symbols) = IsWritableConfiguration periods shear symbols
 IsWritable (answer.Unknown reason) = Unit {0}
 IsWritable (answer.List patterns) = (length patterns ≤ most_number) × All IsWritablePattern patterns
 IsWritable (answer.Density numerator denominator cycle potentials) =
@@ -61,3 +80,9 @@ IsWritable (answer.Empty ranks) = IsWritableList ranks
 IsWritable (answer.Bound numerator denominator common amounts duals) =
     IsWritableNumber numerator × IsWritableDenominator denominator × IsWritableDenominator common
     × All IsWritableNumber amounts × IsWritableList duals
+IsWritable (answer.Minimal patterns) = (length patterns ≤ most_number) × All IsWritableStarred patterns
+IsWritable (answer.Conjugate radii steps) =
+    (length radii ≡ 4) × All IsWritableNumber radii × (length steps ≡ 4) × All IsWritableRefutation steps
+IsWritable (answer.Broken part periods shear symbols) = IsWritablePart part × IsWritableConfiguration periods shear symbols
+IsWritable (answer.Least weight symbols steps) = IsWritableNumber weight × IsWritableList symbols × IsWritableBelow weight steps
+IsWritable (answer.Nothing steps) = IsWritableRefutation steps

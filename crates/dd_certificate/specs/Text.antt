@@ -1,5 +1,5 @@
 -- The text of an answer: lines of words with one space between two of them, each line ended by a line feed.
-use Rattle.std.specs.Prelude.{ℕ, ℤ, List, [], ◌∷◌, ◌++◌, length, codes, ◌==◌, if◌then◌else◌}
+use Rattle.std.specs.Prelude.{ℕ, ℤ, List, [], ◌∷◌, ◌++◌, length, codes, ◌==◌, if◌then◌else◌, Option, Some, None}
 use Rattle.std.specs.List.{flat_map}
 use Rattle.std.specs.Fmt.{decimal, signed_decimal}
 use Rattle.dd_clause.specs.declared.clause.Literal.{Literal}
@@ -9,6 +9,7 @@ use Rattle.dd_certificate.specs.declared.answer.Side.TheVariants as side
 use Rattle.dd_certificate.specs.declared.answer.Reason.{Reason}
 use Rattle.dd_certificate.specs.declared.answer.Reason.TheVariants as reason
 use Rattle.dd_certificate.specs.declared.answer.Listed.{Listed}
+use Rattle.dd_certificate.specs.declared.answer.Starred.{Starred}
 use Rattle.dd_certificate.specs.declared.answer.Answer.{Answer}
 use Rattle.dd_certificate.specs.declared.answer.Answer.TheVariants as answer
 
@@ -86,12 +87,35 @@ shear_text shear = if shear == 0 then [] else (codes " shear " ++ decimal shear)
 abbrev pub pattern_text : Listed → List ℕ
 pattern_text p = codes "pattern " ++ (decimal p.node ++ numbers_to_end p.symbols)
 
+-- a star where a cell is left out
+abbrev pub kept_text : Option ℕ → List ℕ
+kept_text None = codes "*"
+kept_text (Some n) = decimal n
+
+abbrev pub kept_after_space : Option ℕ → List ℕ
+kept_after_space s = codes " " ++ kept_text s
+
+-- symbols and stars that a line ends with
+abbrev pub kept_to_end : List (Option ℕ) → List ℕ
+kept_to_end symbols = flat_map kept_after_space symbols ++ line_feed
+
+abbrev pub starred_text : Starred → List ℕ
+starred_text p = codes "pattern " ++ (decimal p.node ++ kept_to_end p.symbols)
+
 abbrev pub yes_both_text : ℕ → ℕ → List ℕ
 yes_both_text left right = codes "YES " ++ (decimal left ++ (codes " " ++ (decimal right ++ line_feed)))
 
+-- periods and a shear that a line ends with
+abbrev pub periods_to_end : List ℕ → ℕ → List ℕ
+periods_to_end periods shear = spaced_out periods ++ (shear_text shear ++ line_feed)
+
 -- the side, the periods and the shear
 abbrev pub no_text : Side → List ℕ → ℕ → List ℕ
-no_text side periods shear = codes "NO" ++ (side_text side ++ (spaced_out periods ++ (shear_text shear ++ line_feed)))
+no_text side periods shear = codes "NO" ++ (side_text side ++ periods_to_end periods shear)
+
+-- the number of the question, the periods and the shear
+abbrev pub broken_text : ℕ → List ℕ → ℕ → List ℕ
+broken_text part periods shear = codes "BROKEN " ++ (decimal part ++ periods_to_end periods shear)
 
 -- a line's first word, and one number
 abbrev pub number_line : List ℕ → ℕ → List ℕ
@@ -113,6 +137,11 @@ verdict_text (answer.List patterns) = number_line (codes "LIST ") (length patter
 verdict_text (answer.Density numerator denominator cycle potentials) = codes "DENSITY " ++ fraction_to_end numerator denominator
 verdict_text (answer.Empty ranks) = codes "EMPTY\n"
 verdict_text (answer.Bound numerator denominator common amounts duals) = codes "BOUND " ++ fraction_to_end numerator denominator
+verdict_text (answer.Minimal patterns) = number_line (codes "MINIMAL ") (length patterns)
+verdict_text (answer.Conjugate radii steps) = numbers_line (codes "CONJUGATE") radii
+verdict_text (answer.Broken part periods shear symbols) = broken_text part periods shear
+verdict_text (answer.Least weight symbols steps) = number_line (codes "LEAST ") weight
+verdict_text (answer.Nothing steps) = codes "NONE\n"
 
 -- the number of states, the states, and the potentials
 abbrev pub density_lines : List ℕ → List ℤ → List ℕ
@@ -124,6 +153,10 @@ amounts_and_duals_text amounts duals = numbers_line (codes "amounts") amounts ++
 
 abbrev pub bound_lines : ℕ → List ℕ → List ℕ → List ℕ
 bound_lines common amounts duals = number_line (codes "denominator ") common ++ amounts_and_duals_text amounts duals
+
+-- nothing weighs less than 0
+abbrev pub least_lines : ℕ → List ℕ → List Step → List ℕ
+least_lines weight symbols steps = numbers_line (codes "conf") symbols ++ (if weight == 0 then [] else refutation_text steps)
 
 -- the lines that follow the first
 abbrev pub further_lines : Answer → List ℕ
@@ -137,6 +170,11 @@ further_lines (answer.List patterns) = flat_map pattern_text patterns
 further_lines (answer.Density numerator denominator cycle potentials) = density_lines cycle potentials
 further_lines (answer.Empty ranks) = numbers_line (codes "ranks") ranks
 further_lines (answer.Bound numerator denominator common amounts duals) = bound_lines common amounts duals
+further_lines (answer.Minimal patterns) = flat_map starred_text patterns
+further_lines (answer.Conjugate radii steps) = flat_map refutation_text steps
+further_lines (answer.Broken part periods shear symbols) = numbers_line (codes "conf") symbols
+further_lines (answer.Least weight symbols steps) = least_lines weight symbols steps
+further_lines (answer.Nothing steps) = refutation_text steps
 
 -- the first line of the answer to the query with this number
 abbrev pub answer_line : ℕ → Answer → List ℕ

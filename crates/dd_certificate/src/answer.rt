@@ -35,6 +35,16 @@ pub struct Listed {
     pub symbols: Items<u64>,
 }
 
+/// A pattern that a rule forbids at a node, from which cells may be left out.
+#[derive(Debug, Drop)]
+pub struct Starred {
+    /// The node's number, from 0.
+    pub node: u64,
+    /// The numbers of the symbols, from 0, in the order of the cells that the rule reads at the node, and `None` for a cell that
+    /// is left out.
+    pub symbols: Items<Option<u64>>,
+}
+
 /// The answer to a query. Nodes and symbols are given by their numbers, from 0.
 #[derive(Debug, Drop)]
 pub enum Answer {
@@ -93,5 +103,32 @@ pub enum Answer {
         common: u64,
         amounts: Items<u64>,
         duals: Items<u64>,
+    },
+    /// The patterns that are asked for, each with no cell that can be left out.
+    Minimal {
+        patterns: Items<Starred>,
+    },
+    /// The four questions hold, each by what refutes the contrary on the box of its radius.
+    Conjugate {
+        radii: Items<u64>,
+        steps: Items<Items<Step>>,
+    },
+    /// One of the four questions, by its number from 1, does not hold: a configuration with these periods and this shear, as
+    /// in a NO.
+    Broken {
+        part: u64,
+        periods: Items<u64>,
+        shear: u64,
+        symbols: Items<u64>,
+    },
+    /// The least weight, a configuration that has it, and what refutes each smaller one. There are no steps where it is 0.
+    Least {
+        weight: u64,
+        symbols: Items<u64>,
+        steps: Items<Step>,
+    },
+    /// No configuration with the periods lives in the subshift, by what refutes that one does.
+    Nothing {
+        steps: Items<Step>,
     },
 }

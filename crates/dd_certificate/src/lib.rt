@@ -7,7 +7,7 @@ mod laws;
 mod refutation;
 mod writing;
 
-pub use answer::{Answer, Listed, Reason, Side};
+pub use answer::{Answer, Listed, Reason, Side, Starred};
 pub use decimal::push_decimal;
 pub use laws::refutations_fit;
 pub use writing::{answer_line, write_answer};

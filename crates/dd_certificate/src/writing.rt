@@ -6,29 +6,36 @@ ghost use Rattle.dd_certificate.specs.Text.{
   answer_line,
   answer_text,
   bound_lines,
+  broken_text,
   density_lines,
   fraction_to_end,
   further_lines,
+  kept_text,
+  kept_to_end,
+  least_lines,
   line_feed,
   no_text,
   number_line,
   numbers_line,
   numbers_to_end,
   pattern_text,
+  periods_to_end,
   reason_text,
   refutation_text,
   shear_text,
   side_text,
   signed_to_end,
   spaced_out,
+  starred_text,
   verdict_text,
   yes_both_text,
 };
 
-use crate::answer::{Answer, Listed, Reason, Side};
+use crate::answer::{Answer, Listed, Reason, Side, Starred};
 use crate::decimal::{push_decimal, push_signed};
 use crate::refutation::push_refutation;
 use dd_derivation::Step;
+use dd_values::Items;
 use std::alloc::{AllocError, Global};
 
 /// Puts numbers at the end of a text, each after a space.
@@ -136,15 +143,30 @@ fn push_shear(text: &mut Vec<u8>, shear: u64) -> Result<(), AllocError>
     Ok(())
 }
 
+/// Ends a line by the periods and the shear of a configuration.
+fn push_periods_to_end(text: &mut Vec<u8>, periods: &[u64], shear: u64) -> Result<(), AllocError>
+    ensures { OnOk result (text.new.items ≡ text.old.items ++ periods_to_end periods.now shear) }
+{
+    push_numbers(text, periods)?;
+    push_shear(text, shear)?;
+    text.push(b'\n')?;
+    Ok(())
+}
+
 fn push_no(text: &mut Vec<u8>, side: Side, periods: &[u64], shear: u64) -> Result<(), AllocError>
     ensures { OnOk result (text.new.items ≡ text.old.items ++ no_text side periods.now shear) }
 {
     text.extend_from_slice(b"NO")?;
     text.extend_from_slice(side_word(side))?;
-    push_numbers(text, periods)?;
-    push_shear(text, shear)?;
-    text.push(b'\n')?;
-    Ok(())
+    push_periods_to_end(text, periods, shear)
+}
+
+fn push_broken(text: &mut Vec<u8>, part: u64, periods: &[u64], shear: u64) -> Result<(), AllocError>
+    ensures { OnOk result (text.new.items ≡ text.old.items ++ broken_text part periods.now shear) }
+{
+    text.extend_from_slice(b"BROKEN ")?;
+    push_decimal(text, part)?;
+    push_periods_to_end(text, periods, shear)
 }
 
 fn push_unknown(text: &mut Vec<u8>, reason: Reason) -> Result<(), AllocError>
@@ -204,6 +226,18 @@ fn push_verdict(text: &mut Vec<u8>, answer: &Answer) -> Result<(), AllocError>
             denominator,
             ..
         } => push_fraction_line(text, b"BOUND ", *numerator, *denominator),
+        Answer::Minimal { patterns } => {
+            push_number_line(text, b"MINIMAL ", patterns.len() as u64)
+        }
+        Answer::Conjugate { radii, .. } => push_numbers_line(text, b"CONJUGATE", radii.as_slice()),
+        Answer::Broken {
+            part,
+            periods,
+            shear,
+            ..
+        } => push_broken(text, *part, periods.as_slice(), *shear),
+        Answer::Least { weight, .. } => push_number_line(text, b"LEAST ", *weight),
+        Answer::Nothing { .. } => text.extend_from_slice(b"NONE\n"),
     }
 }
 
@@ -227,6 +261,69 @@ fn push_patterns(text: &mut Vec<u8>, patterns: &[Listed]) -> Result<(), AllocErr
 {
     for pattern in patterns {
         push_pattern(text, pattern)?;
+    }
+    Ok(())
+}
+
+fn push_kept(text: &mut Vec<u8>, symbol: Option<u64>) -> Result<(), AllocError>
+    ensures { OnOk result (text.new.items ≡ text.old.items ++ kept_text symbol) }
+{
+    match symbol {
+        None => text.extend_from_slice(b"*"),
+        Some(number) => push_decimal(text, number),
+    }
+}
+
+/// Ends a line by these symbols, each after a space, with a star for a cell that is left out.
+fn push_kept_to_end(text: &mut Vec<u8>, symbols: &[Option<u64>]) -> Result<(), AllocError>
+    ensures { OnOk result (text.new.items ≡ text.old.items ++ kept_to_end symbols.now) }
+{
+    for symbol in symbols {
+        text.push(b' ')?;
+        push_kept(text, *symbol)?;
+    }
+    text.push(b'\n')?;
+    Ok(())
+}
+
+fn push_starred(text: &mut Vec<u8>, pattern: &Starred) -> Result<(), AllocError>
+    ensures { OnOk result (text.new.items ≡ text.old.items ++ starred_text pattern.now) }
+{
+    text.extend_from_slice(b"pattern ")?;
+    push_decimal(text, pattern.node)?;
+    push_kept_to_end(text, pattern.symbols.as_slice())
+}
+
+fn push_starred_patterns(text: &mut Vec<u8>, patterns: &[Starred]) -> Result<(), AllocError>
+    ensures { OnOk result (text.new.items ≡ text.old.items ++ flat_map starred_text patterns.now) }
+{
+    for pattern in patterns {
+        push_starred(text, pattern)?;
+    }
+    Ok(())
+}
+
+fn push_each_refutation(text: &mut Vec<u8>, lists: &[Items<Step>]) -> Result<(), AllocError>
+    ensures { OnOk result (text.new.items ≡ text.old.items ++ flat_map refutation_text lists.now) }
+{
+    for steps in lists {
+        push_refutation(text, steps.as_slice())?;
+    }
+    Ok(())
+}
+
+/// A weight of 0 has no refutation.
+fn push_least_lines(
+    text: &mut Vec<u8>,
+    weight: u64,
+    symbols: &[u64],
+    steps: &[Step],
+) -> Result<(), AllocError>
+    ensures { OnOk result (text.new.items ≡ text.old.items ++ least_lines weight symbols.now steps.now) }
+{
+    push_numbers_line(text, b"conf", symbols)?;
+    if weight != 0 {
+        push_refutation(text, steps)?;
     }
     Ok(())
 }
@@ -294,6 +391,15 @@ fn push_further_lines(text: &mut Vec<u8>, answer: &Answer) -> Result<(), AllocEr
             duals,
             ..
         } => push_bound_lines(text, *common, amounts.as_slice(), duals.as_slice()),
+        Answer::Minimal { patterns } => push_starred_patterns(text, patterns.as_slice()),
+        Answer::Conjugate { steps, .. } => push_each_refutation(text, steps.as_slice()),
+        Answer::Broken { symbols, .. } => push_numbers_line(text, b"conf", symbols.as_slice()),
+        Answer::Least {
+            weight,
+            symbols,
+            steps,
+        } => push_least_lines(text, *weight, symbols.as_slice(), steps.as_slice()),
+        Answer::Nothing { steps } => push_refutation(text, steps.as_slice()),
     }
 }
 
