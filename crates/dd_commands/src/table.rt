@@ -122,9 +122,13 @@ impl QueryKind {
             QueryKind::Empty => entry(b"empty", &[Rule], 0, Lists::None, 1),
             QueryKind::Agree => entry(b"same", &[Automaton, Automaton, Rule], 0, Lists::None, 1),
             QueryKind::Maps => entry(b"maps", &[Automaton, Rule, Rule], 0, Lists::None, 2),
-            QueryKind::Conjugate => {
-                entry(b"conjugate", &[Automaton, Automaton, Rule, Rule], 0, Lists::None, 2)
-            }
+            QueryKind::Conjugate => entry(
+                b"conjugate",
+                &[Automaton, Automaton, Rule, Rule],
+                0,
+                Lists::None,
+                2,
+            ),
             QueryKind::Forbidden => entry(b"forbidden", &[Rule], 0, Lists::None, 1),
             QueryKind::Minimal => entry(b"minimal", &[Rule], 0, Lists::None, 1),
             QueryKind::Density => entry(b"density", &[Rule], 0, Lists::Strip, 1),

@@ -1,10 +1,10 @@
 -- What a query without a fault has, and what it keeps.
-use Rattle.std.proofs.Common.{◌≡◌, ◌<◌, ◌≤◌, ℕ, leb-true, suc, false, List, [], ◌∷◌, length, map, subst, slice_index, arith}
+use Rattle.std.proofs.Common.{◌≡◌, ◌<◌, ◌≤◌, ℕ, suc, false, List, [], ◌∷◌, length, map, subst, slice_index, arith, leb-true}
 use Rattle.std.specs.List.{flat_map, list_any, zip}
 use Rattle.dd_query.specs.Tree.{Word, Role, Lists, QueryKind, Request, Context}
 use Rattle.dd_commands.specs.{Table.row, Commands.IsRequest}
 use Rattle.dd_known.specs.{Known.named, Sound.IsSound}
-use Rattle.dd_faults.specs.Commands.{is_far, word_faults, radius_faults, list_faults, request_faults}
+use Rattle.dd_faults.specs.Commands.{is_far, unless, word_faults, radius_faults, list_faults, has_symbols, request_faults}
 use Rattle.dd_faults.specs.lemmas.Nothing.{both_nil, fits, parts}
 use Rattle.dd_query.specs.{Parts.number_of_word, Parts.word_at, Queries.query_of, Queries.IsQueryWithin}
 use Rattle.dd_query.proofs.ShapeLaws.{value_small, strip_is, all_close, vectors_are}
@@ -31,11 +31,14 @@ module _ (x : Context) (r : Request) where
     radii : flat_map (radius_faults x) r.numbers ≡ []
     radii = (both_nil _ _ (both_nil _ _ none).1).0
 
+    behind : (list_faults x (row k).lists r.vectors ≡ []) × (unless (has_symbols x (row k).symbols) ≡ [])
+    behind = both_nil _ _ (both_nil _ _ (both_nil _ _ none).1).1
+
     lists : list_faults x (row k).lists r.vectors ≡ []
-    lists = (both_nil _ _ (both_nil _ _ (both_nil _ _ none).1).1).0
+    lists = behind.0
 
     enough : (row k).symbols ≤ length x.known.setting.symbols
-    enough = leb-true _ _ (fits _ (both_nil _ _ (both_nil _ _ (both_nil _ _ none).1).1).1)
+    enough = leb-true _ _ (fits _ behind.1)
 
   pub close_kept : IsRequest r → request_faults x r ≡ [] → (row r.kind).lists ≡ Lists.Vectors → list_any (is_far x.text) r.vectors ≡ false
   close_kept is none at = all_close x r.vectors (subst (λ (l : Lists). list_faults x l r.vectors ≡ []) at (lists r.kind is none))
