@@ -6,5 +6,5 @@ mod pair;
 mod pairs;
 mod parts;
 
-pub use pair::{Pair, limit_of};
+pub use pair::{Pair, conjugacy, limit_of};
 pub use pairs::{kept_for, pairs_of};

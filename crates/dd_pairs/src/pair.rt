@@ -1,11 +1,11 @@
 //! Pairs, and the questions about them.
-ghost use Rattle.std.specs.Prelude.{◌≡◌};
-ghost use Rattle.dd_pairs.specs.Faults.{limit_of};
+ghost use Rattle.std.specs.Prelude.{◌≡◌, length};
+ghost use Rattle.dd_pairs.specs.{Goals.IsConjugacyBy, Faults.limit_of};
 
 use dd_boxes::Goal;
 use dd_faults::Limit;
-use dd_formula::Automaton;
-use dd_question::Excess;
+use dd_formula::{Automaton, Rule};
+use dd_question::{Conjugacy, Excess};
 
 /// Two automata. It is asked whether they differ somewhere.
 #[derive(Debug, Drop)]
@@ -23,6 +23,25 @@ impl Pair {
         ensures { IsDifferenceOf self.now result }
     {
         Goal::Differ(&self.left, &self.right)
+    }
+}
+
+/// The conjugacy between two rules that is asked about by its four pairs, in the order of its questions.
+pub fn conjugacy<'a>(from: &'a Rule, to: &'a Rule, pairs: &'a [Pair]) -> Conjugacy<'a>
+    requires { length pairs.now ≡ 4 }
+    ensures { IsConjugacyBy from.now to.now pairs.now result }
+{
+    let image = pairs[0].difference();
+    let image_back = pairs[1].difference();
+    let round = pairs[2].difference();
+    let round_back = pairs[3].difference();
+    Conjugacy {
+        from,
+        to,
+        image,
+        image_back,
+        round,
+        round_back,
     }
 }
 

@@ -53,10 +53,9 @@ fn tested(alloc: Global, known: &Known, part: Part) -> Result<Pair, Refusal>
     ensures { Makes known.now.setting (part_of part) (part_faults known.now (part_of part)) result }
 {
     let pair = pair(alloc, &known.setting, part)?;
-    let question = Question::Box {
-        premise: part.premise(),
-        goal: pair.difference(),
-    };
+    let premise = part.premise();
+    let goal = pair.difference();
+    let question = Question::Box { premise, goal };
     match question.excess(alloc, &known.limits)? {
         Some(excess) => Err(Refusal::At(Fault::Size(limit_of(excess)))),
         None => Ok(pair),

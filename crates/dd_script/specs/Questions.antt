@@ -4,7 +4,7 @@ use Rattle.std.specs.{List.slice_get, Option.option_and_then}
 use Rattle.dd_boxes.specs.{Goals.breaks, Goals.differ, Goals.always, Views.numbers_of}
 use Rattle.dd_question.specs.Questions as question
 use Rattle.dd_question.specs.{Questions.Asked, Questions.excess_of, declared.excess.Excess.Excess}
-use Rattle.dd_pairs.specs.Parts.{PartOf, image, change, goal_of}
+use Rattle.dd_pairs.specs.{Parts.PartOf, Parts.image, Parts.change, Parts.pair_of, Parts.goal_of, Goals.conjugacy_by}
 pub use Rattle.dd_pairs.specs.Queries.{of_both, of_three, of_four}
 use Rattle.dd_pairs.specs.Queries.{parts_asked, pairs_of}
 use Rattle.dd_script.specs.Parts.{Parts, LocalRule, Automaton, Query, Pair, Setting}
@@ -16,14 +16,7 @@ map_question s x y f = question.box x (goal_of s (image x f y))
 -- whether two automata are maps from the first rule to the second and back, each the inverse of the other
 abbrev pub conjugacy_question : Setting → LocalRule → LocalRule → Automaton → Automaton → Asked
 conjugacy_question s x y f g =
-    question.conjugacy (record {
-      from = x;
-      to = y;
-      image = goal_of s (image x f y);
-      image_back = goal_of s (image y g x);
-      round = goal_of s (change x g f);
-      round_back = goal_of s (change y f g);
-    })
+    question.conjugacy (conjugacy_by x y (pair_of s (image x f y)) (pair_of s (image y g x)) (pair_of s (change x g f)) (pair_of s (change y f g)))
 
 -- what the query asks, where its rules, its automata and its configuration are there
 abbrev pub asked : Parts → Query → Option Asked

@@ -7,9 +7,9 @@ ghost use Rattle.dd_script.specs.{Parts.parts, Questions.asked, Questions.pairs_
 use crate::script::Made;
 use dd_boxes::Goal;
 use dd_known::Known;
-use dd_pairs::Pair;
+use dd_pairs::{Pair, conjugacy};
 use dd_query::Query;
-use dd_question::{Conjugacy, Question};
+use dd_question::Question;
 
 /// What a query asks: with the rules, automata, pairs and configurations themselves in place of their numbers, and with the weights
 /// where something is weighed.
@@ -53,20 +53,15 @@ pub(crate) fn question_of<'a>(
             premise: &rules[*rule as usize],
             goal: Goal::Differ(&automata[*left as usize], &automata[*right as usize]),
         },
-        Query::Maps { from, .. } => Question::Box {
-            premise: &rules[*from as usize],
-            goal: pairs[0].difference(),
-        },
-        Query::Conjugate { from, to, .. } => Question::Conjugacy {
-            conjugacy: Conjugacy {
-                from: &rules[*from as usize],
-                to: &rules[*to as usize],
-                image: pairs[0].difference(),
-                image_back: pairs[1].difference(),
-                round: pairs[2].difference(),
-                round_back: pairs[3].difference(),
-            },
-        },
+        Query::Maps { from, .. } => {
+            let goal = pairs[0].difference();
+            let premise = &rules[*from as usize];
+            Question::Box { premise, goal }
+        }
+        Query::Conjugate { from, to, .. } => {
+            let conjugacy = conjugacy(&rules[*from as usize], &rules[*to as usize], pairs);
+            Question::Conjugacy { conjugacy }
+        }
         Query::Forbidden { rule } => Question::Listing {
             rule: &rules[*rule as usize],
         },
