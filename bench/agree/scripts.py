@@ -107,7 +107,7 @@ class Scripts:
         chance = self.chance
         rules = chance.choices("xyz", k=2)
         kind = chance.choice(["member", "contains", "contains", "equal", "empty", "same", "forbidden", "minimal", "maps", "conjugate", "density",
-                              "discharge"])
+                              "least", "discharge"])
         if kind in ("contains", "equal"):
             return f"%{kind} {rules[0]} {rules[1]}"
         if kind in ("maps", "conjugate"):
@@ -115,6 +115,8 @@ class Scripts:
             return f"%{kind} {' '.join([*automata, *rules])}"
         if kind == "density":
             return f"%density {rules[0]} [{' '.join(str(chance.randint(1, 2)) for _ in range(dim - 1))}]"
+        if kind == "least":
+            return f"%least {rules[0]} [{' '.join(str(chance.randint(1, 2 if dim == 3 else 3)) for _ in range(dim))}]"
         if kind == "discharge":
             vectors = {tuple(chance.randint(-1, 1) for _ in range(dim)) for _ in range(chance.randint(1, 3))}
             text = " ".join(f"[{' '.join(map(str, vector))}]" for vector in sorted(vectors))
@@ -202,6 +204,8 @@ BORDERS: List[Callable[[int], str]] = [
     lambda more: f"%dim 1 %auto f when o{'.rt' * 9}=0 give 0 else 1 %auto g when o{'.rt' * (7 + more)}=0 give 0 else 1 %rule x o=0 | o=1 "
     "%conjugate f g x x\n",
     lambda more: f"%dim 1 %rule x {'o=0 & ' * (19994 + more)}o=0 %auto f else 0 %maps f x x\n",
+    lambda more: f"%weights 0 0 %rule x o@o %least x [256 {256 + more}]\n", lambda more: f"%rule x o@o %least x [1 {1 - more}]\n",
+    lambda more: f"%dim 1 %rule x o@o %least x [{471 + more}]\n",
     lambda more: f"%rule x o=0 %density x [{8 + more}]\n",
     lambda more: f"%dim 1 %rule x o=0 | o{'.rt' * (12 + more)}=1 %density x []\n",
     lambda more: f"%rule x o=0 %density x [{64 + more}]\n",

@@ -18,7 +18,9 @@ PLACES = {
     "%rule a Ap[o3] Aq[p3] Ar[q3] r=q": "a Ap", "%dim 1 %topology (x 0 [4] 0) %rule a o.x.x.x.x.x=1": "a o",
     "%rule a Ep[o3] p=1 %forbidden a": "forbidden", "%rule a Ep[o3] p=1 %minimal a": "minimal",
     f"%dim 1 %rule a o{'.rt' * 9}=0 %auto f when o{'.rt' * 8}=0 give 0 else 1 %maps f a a": "maps",
-    "%dim 3 %limits 8 8 10 %rule a Ep[o3] Aq[p1] q=1 %empty a": "empty",
+    "%dim 3 %limits 8 8 10 %rule a Ep[o3] Aq[p1] q=1 %empty a": "empty", "%rule a o=0 %least a [-1 1]": "-1",
+    "%rule a o=0 %least a [2]": "[2", "%rule a o=0 %least a [0 3]": "[0", "%rule a o=0 %least a [300 300]": "[300 ",
+    "%rule a o=1 %least a [40 40]": "least",
 }
 """Where the scripts of docs/refusals.md are at fault: the last place at which this text stands."""
 
