@@ -2,7 +2,8 @@
 """Times the search beside MiniSat: compare.py PROGRAM FOLDER [GROUP..]. For each list of the folder a line with the seconds of processor
 time, user and system, of both whole programs, the least of some turns in which they alternate: five, two where one takes 0.4 seconds, one
 where one takes 4. A run over 120 seconds of processor time, as the system's limit counts them, is stopped, and counts with what it took
-until then. Then the geometric mean of the quotients of each group, and that of these means."""
+until then. Then the geometric mean of the quotients of each group, and that of these means. Tori are searched in the style that diddy has
+for them."""
 import math
 import os
 import pathlib
@@ -30,8 +31,9 @@ def seconds(words, given, taken):
 def compared(program, file, room):
     """The least times of both, what the program found, its steps and the bytes of the refutation, and MiniSat's conflicts."""
     own, other, turn = math.inf, math.inf, 0
+    style = ["focused"] if re.search(r"\d+x\d+$", file.stem) else []
     while turn < 5 and not (turn >= 2 and max(own, other) >= 0.4) and not (turn and max(own, other) >= 4):
-        time, written = seconds([program], file, room / "own")
+        time, written = seconds([program, *style], file, room / "own")
         own = min(own, time)
         time, log = seconds(["minisat", "-verb=1", str(file)], os.devnull, room / "other")
         other, turn = min(other, time), turn + 1
