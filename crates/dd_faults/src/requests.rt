@@ -2,10 +2,11 @@
 ghost use Rattle.std.specs.{Prelude.◌≡◌, Prelude.OnOk, List.flat_map, List.zip};
 ghost use Rattle.dd_faults.specs.{Order.noted, Commands.word_faults, Commands.request_faults};
 
+use crate::boxes::Torus;
 use crate::each::note_each;
 use crate::fault::{Done, Found, Limit, note_over};
 use crate::names::note_missing;
-use crate::numbers::Asked;
+use crate::numbers::{Asked, note_unless};
 use crate::twice::note_twice;
 use dd_commands::{Lists, Request, Role};
 use dd_known::{Context, MOST_VECTORS};
@@ -36,11 +37,14 @@ pub(crate) fn request(alloc: Global, context: &Context, asked: &Request, found: 
     match row.lists {
         Lists::None => {}
         Lists::Strip => note_each(&Asked(context), vectors, found),
+        Lists::Torus => note_each(&Torus(context), vectors, found),
         Lists::Vectors => {
             note_twice(alloc, &context.text, vectors, found)?;
             note_each(context, vectors, found);
             note_over(found, vectors.len() > MOST_VECTORS, Limit::Vectors);
         }
     }
+    let symbols = context.known.setting.symbols.count();
+    note_unless(found, symbols >= row.symbols);
     Ok(())
 }
