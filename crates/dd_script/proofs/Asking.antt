@@ -1,13 +1,14 @@
 -- What the queries of a script ask: it goes together, as its rules, automata and configurations are the script's.
-use Rattle.std.proofs.Common.{◌≡◌, ◌<◌, ◌%◌, ℕ, List, [], get_or, ap, sym, subst, ◌∙◌, Some, None, Option, IfSome, arith}
-use Rattle.std.specs.{List.All, Prelude.unwrap_or, Option.option_and_then}
+use Rattle.std.proofs.Common.{◌≡◌, ◌≤◌, ◌<◌, ◌*◌, ◌%◌, ℕ, length, List, [], get_or, ap, sym, subst, ◌∙◌, Some, None, Option, IfSome, arith}
+use Rattle.std.specs.{List.All, Prelude.unwrap_or, Option.option_map, Option.option_and_then}
 use Rattle.std.proofs.lemmas.{List.Elements.All-contains}
 use Rattle.dd_values.specs.declared.limits.Limits.{Limits}
 use Rattle.dd_boxes.specs.{Goals.differ, Views.numbers_of}
 use Rattle.dd_topology.specs.Sets.{row_allows}
-use Rattle.dd_pattern.specs.Tile.{Tile}
+use Rattle.dd_pattern.specs.{Periods.periods_of, Periods.periods_volume, Periods.ArePeriodsIn, Tile.Tile, Tile.most_symbols}
+use Rattle.dd_query.specs.Parts.{AreTorusPeriods}
 use Rattle.dd_formula.specs.{Living.Fits, Allowed.HasAllowed}
-use Rattle.dd_question.specs.{Questions.Asked, Questions.membership, Questions.box, Questions.IsFormed, Questions.excess_of, Questions.IsSoundAsked}
+use Rattle.dd_question.specs.{Questions.Asked, Questions.membership, Questions.box, Questions.least, Questions.IsFormed, Questions.excess_of, Questions.IsSoundAsked}
 use Rattle.dd_question.specs.lemmas.AllowedLaws.{allowed_from_box}
 use Rattle.dd_pairs.specs.lemmas.{PartLaws.part_fits, QueryLaws.item_at}
 use Rattle.dd_script.specs.{Parts.Parts, Parts.Known, Parts.LocalRule, Parts.Automaton, Parts.Query, Questions.asked, Questions.map_question, Questions.conjugacy_question, Questions.parts_for, Asking.AreOf, Asking.AreSound}
@@ -45,6 +46,16 @@ module _ (s : Parts) (ok : IsScriptOf s) where
   membership_fits (Some x) None of kept = tt
   membership_fits (Some x) (Some t) of kept = ((of.rule, kept.tile, member_fits s.known x t of kept, member_allowed s.known x t of kept), of)
 
+  torus_fits : (o : Option LocalRule) (along : List ℕ) → IfSome o (IsRuleOf s.known.setting) → AreTorusPeriods s.known.setting.topology.dimension (length s.known.setting.nodes) along
+      → IfSome (option_map (λ x. least x along s.known.weights) o) FitsIn
+  torus_fits None along of torus = tt
+  torus_fits (Some x) along of torus =
+      let nodes : x.nodes ≡ length s.known.setting.nodes = of.nodes ∙ ok.known.setting.topology.nodes in
+      let periods = subst (λ d. ArePeriodsIn d (periods_of along 0)) (sym of.dimension) torus.periods in
+      let few = subst (λ n. periods_volume (periods_of along 0) * n ≤ most_symbols) (sym nodes) torus.few in
+      let weights = ok.known.weights in
+      ((of.rule, record { periods = periods; few = few }, record { each = weights.each ∙ sym of.symbols; small = weights.light }), of)
+
   -- the pair of each of these parts is well formed
   abbrev ArePaired : List PartOf → Type 0
   ArePaired ps = All (λ p. IsPair s.known.setting (pair_of s.known.setting p)) ps
@@ -79,6 +90,7 @@ module _ (s : Parts) (ok : IsScriptOf s) where
   asked_fits (Query.Member configuration rule) within pairs = membership_fits _ _ (item_at ok.rules rule) (item_at ok.configurations configuration)
   asked_fits (Query.Maps map from to) within pairs = map_fits _ _ _ (item_at ok.rules from) (item_at ok.rules to) (item_at ok.automata map) pairs
   asked_fits (Query.Conjugate there back from to) within pairs = conjugate_fits _ _ _ _ (item_at ok.rules from) (item_at ok.rules to) (item_at ok.automata there) (item_at ok.automata back) pairs
+  asked_fits (Query.Least rule along) within pairs = torus_fits _ along (item_at ok.rules rule) within.1
   asked_fits q within pairs = grind (arith, item_at ok.rules, item_at ok.automata, item_at ok.configurations)
 
   pub question_fits : (q : Query) (a : Asked) → IsQueryWithin s.known q → ArePaired (parts_for s q) → asked s q ≡ Some a → FitsIn a
