@@ -14,3 +14,4 @@ pub mod WholeSides
 pub mod Weighing
 pub mod BoxForms
 pub mod PartForms
+pub mod TorusForms

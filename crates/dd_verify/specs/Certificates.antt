@@ -6,6 +6,7 @@ use Rattle.dd_question.specs.Questions as asked
 use Rattle.dd_evidence.specs.Answers.{IsMemberCertificate, IsListCertificate, IsMinimalCertificate}
 use Rattle.dd_verify.specs.Evidence.{IsBoxCertificate, IsEqualCertificate, IsConjugacyCertificate}
 use Rattle.dd_verify.specs.Holding.{MemberClaim, BoxClaim, EqualClaim, ConjugacyClaim, ListClaim, MinimalClaim}
+use Rattle.dd_verify.specs.Tori.{IsTorusCertificate, TorusClaim}
 use Rattle.dd_verify.specs.Bounds.{IsStripCertificate, StripClaim, IsDischargeCertificate, DischargeClaim}
 
 -- a certificate of what is asked, within these limits
@@ -17,6 +18,7 @@ IsCertificateOf l (asked.listing x) a = IsListCertificate x a
 IsCertificateOf l (asked.smallest x) a = IsMinimalCertificate x a
 IsCertificateOf l (asked.conjugacy c) a = IsConjugacyCertificate l c a
 IsCertificateOf l (asked.density x strip ws) a = IsStripCertificate x strip ws a
+IsCertificateOf l (asked.least x along ws) a = IsTorusCertificate x along ws a
 IsCertificateOf l (asked.discharge x radius margin vs ws) a = IsDischargeCertificate x radius margin vs ws a
 
 -- what an answer to it claims
@@ -28,4 +30,5 @@ ClaimOf (asked.listing x) a = ListClaim x a
 ClaimOf (asked.smallest x) a = MinimalClaim x a
 ClaimOf (asked.conjugacy c) a = ConjugacyClaim c a
 ClaimOf (asked.density x strip ws) a = StripClaim x strip ws a
+ClaimOf (asked.least x along ws) a = TorusClaim x along ws a
 ClaimOf (asked.discharge x radius margin vs ws) a = DischargeClaim x radius margin vs ws a

@@ -6,5 +6,7 @@ pub mod Evidence
 pub mod Holding
 -- which answers about least densities and discharging are certificates, and what they claim
 pub mod Bounds
+-- which answers about least weights on tori are certificates, and what they claim
+pub mod Tori
 -- the numbers of configurations
 pub mod Given

@@ -10,6 +10,7 @@ use crate::discharges::check_discharge;
 use crate::lists::check_list;
 use crate::minimals::check_minimal;
 use crate::places::check_member;
+use crate::tori::check_torus;
 use dd_certificate::Answer;
 use dd_question::{CheckedQuestion, Question};
 use std::alloc::{AllocError, Global};
@@ -38,6 +39,11 @@ pub fn check_question(
             strip,
             weights,
         } => check_strip(alloc, rule, strip, weights, answer),
+        Question::Least {
+            rule,
+            periods,
+            weights,
+        } => check_torus(alloc, rule, periods, weights, answer),
         Question::Discharge {
             rule,
             radius,

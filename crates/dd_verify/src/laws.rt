@@ -8,6 +8,7 @@ ghost use Rattle.dd_verify.specs.Certificates.{IsCertificateOf, ClaimOf};
 
 use dd_boxes::Goal;
 use dd_compile::says_its_value;
+use dd_counter::least_law;
 use dd_discharge::best_bound;
 use dd_evidence::{listed_break, starred_are_minimal};
 use dd_minimal::{all_new, exact, needs_each};
@@ -60,6 +61,7 @@ pub fn claims_hold(question: &CheckedQuestion)
             strip_least();
             strip_empty();
         }
+        Question::Least { rule, .. } => least_law(rule),
         Question::Discharge { .. } => {
             best_bound();
             bound_holds();

@@ -13,6 +13,7 @@ mod minimals;
 mod numbers;
 mod places;
 mod refutations;
+mod tori;
 mod witnesses;
 
 pub use answering::check_question;

@@ -4,6 +4,7 @@ use Rattle.dd_verify.proofs.Claiming.{member_claims, box_claims, equal_claims}
 use Rattle.dd_verify.proofs.Listing.{list_claims}
 use Rattle.dd_verify.proofs.Starring.{minimal_claims}
 use Rattle.dd_verify.proofs.PartForms.{conjugacy_claims}
+use Rattle.dd_verify.proofs.TorusForms.{torus_claims}
 use Rattle.dd_verify.proofs.Weighing.{strip_claims, discharge_claims}
 use Rattle.dd_verify.proofs.laws.claims_hold.Goals as goal
 
@@ -44,6 +45,11 @@ pub returns-in-Density : goal.returns-in-Density
 returns-in-Density c a =
     let sound = rw (← c.question.ensures.value, c.in-Density.is) at c.question.ensures.kept.sound in
     rw (← c.question.ensures.value, c.in-Density.is) (strip_claims c.strip_least.ensures c.strip_empty.ensures _ _ _ sound.0 sound.1.strip a)
+
+pub returns-in-Least : goal.returns-in-Least
+returns-in-Least c a =
+    let sound = rw (← c.question.ensures.value, c.in-Least.is) at c.question.ensures.kept.sound in
+    rw (← c.question.ensures.value, c.in-Least.is) (torus_claims _ _ _ c.least_law.ensures sound.1 a)
 
 pub returns-in-Discharge : goal.returns-in-Discharge
 returns-in-Discharge c a =
