@@ -1,0 +1,4 @@
+pub mod Pairing
+pub mod Testing
+pub mod Making
+pub mod Keeping

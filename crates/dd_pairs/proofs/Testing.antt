@@ -1,0 +1,35 @@
+-- The question about a pair: it goes together, and passes the limit on clauses or doesn't.
+use Rattle.std.proofs.Common.{◌≡◌, Bool, true, false, [], Some, None, refl, ap, ◌∙◌, arith}
+use Rattle.dd_known.specs.Sound.{IsSetting}
+use Rattle.dd_known.specs.declared.known.Setting.{Setting}
+use Rattle.dd_known.specs.declared.known.Known.{Known}
+use Rattle.dd_formula.specs.LocalRule.{LocalRule}
+use Rattle.dd_faults.specs.{declared.fault.Limit.Limit, declared.fault.Fault.Fault, declared.fault.Refusal.Refusal, Order.Refuses}
+use Rattle.dd_question.specs.{declared.excess.Excess.Excess, Questions.Asked, Questions.box, Questions.IsFormed, Questions.passed, Questions.excess_of}
+use Rattle.dd_pairs.specs.declared.pair.Pair.{Pair}
+use Rattle.dd_pairs.specs.Parts.{PartOf, premise, goal_of, pair_of, IsPartOf, IsPair, difference}
+use Rattle.dd_pairs.specs.{Faults.limit_of, Faults.pair_faults, Faults.part_faults, Faults.earliest}
+use Rattle.dd_pairs.specs.lemmas.PartLaws.{part_fits}
+
+-- what is asked about the pair is the part's question
+module _ (s : Setting) (p : PartOf) (pair : Pair) (x : LocalRule) (a : Asked) (made : pair ≡ pair_of s p) (is : x ≡ premise p) (asks : a ≡ box x (difference x pair)) where
+  pub question_is : a ≡ box (premise p) (goal_of s p)
+  question_is = asks ∙ (ap (λ q. box x (difference x q)) made ∙ ap (λ y. box y (difference y (pair_of s p))) is)
+
+  pub question_formed : IsSetting s → IsPartOf s p → IsPair s (pair_of s p) → IsFormed a
+  question_formed sound of formed = rw question_is (part_fits s sound p of formed)
+
+long_passes : (b : Bool) (e : Excess) → passed b Excess.Clauses ≡ Some e → (b ≡ true) × (limit_of e ≡ Limit.Clauses)
+long_passes true e is = (refl, grind arith)
+long_passes false e is = absurd cc
+
+short_passes : (b : Bool) → passed b Excess.Clauses ≡ None → b ≡ false
+short_passes true is = absurd cc
+short_passes false is = refl
+
+module _ (k : Known) (p : PartOf) (clean : pair_faults k.setting p ≡ []) where
+  pub light : excess_of k.limits (box (premise p) (goal_of k.setting p)) ≡ None → part_faults k p ≡ []
+  light none = rw (clean, short_passes _ none) refl
+
+  pub heavy : (e : Excess) → excess_of k.limits (box (premise p) (goal_of k.setting p)) ≡ Some e → Refuses (Refusal.At (Fault.Size (limit_of e))) (earliest (part_faults k p))
+  heavy e some = let long = long_passes _ e some in rw (clean, long.0, long.1) refl
