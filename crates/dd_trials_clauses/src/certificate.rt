@@ -1,6 +1,6 @@
 // An answer of each kind, written. Outputs read back, and texts that are none with the number of their bytes that begin one, counted
 // by hand.
-use crate::samples::{SAMPLES, answer_of};
+use crate::samples::{SAMPLES, Sample, answer_of};
 use dd_certificate::{Answer, answer_line, write_answer};
 use dd_output::{CertificateFault, read_output, write_output};
 use std::alloc::{AllocError, Global};
@@ -23,12 +23,23 @@ fn assert_written(
     Ok(())
 }
 
+/// Asserts how the answer of a sample is written.
+fn assert_sample(
+    rt: &impl Abort,
+    alloc: Global,
+    sample: &Sample,
+    first: &str,
+    further: &str,
+) -> Result<(), AllocError> {
+    let answer = answer_of(alloc, sample)?;
+    assert_written(rt, alloc, &answer, first, further)
+}
+
 #[test]
 fn writes_each_kind(rt: HostRuntime) -> Result<(), Fail> {
     let alloc = rt.alloc();
     for (sample, first, further) in SAMPLES {
-        let answer = answer_of(alloc, sample)?;
-        assert_written(&rt, alloc, &answer, first, further)?;
+        assert_sample(&rt, alloc, sample, first, further)?;
     }
     Ok(())
 }
@@ -53,18 +64,31 @@ fn output_of(alloc: Global, answer: &Answer) -> Result<Vec<u8>, AllocError> {
     Ok(text)
 }
 
+/// The same with the answer of a sample.
+fn output_with(alloc: Global, sample: &Sample) -> Result<Vec<u8>, AllocError> {
+    let answer = answer_of(alloc, sample)?;
+    output_of(alloc, &answer)
+}
+
+/// Asserts that what is read of an output is written as that output.
+fn assert_read(rt: &impl Abort, alloc: Global, text: &[u8]) -> Result<(), AllocError> {
+    match read_output(alloc, text) {
+        Ok(output) => {
+            assert_eq!(rt; output.script.as_slice(), b"%dim ".as_slice());
+            let written = write_output(alloc, &output)?;
+            assert_eq!(rt; written.as_slice(), text);
+        }
+        Err(_) => assert!(rt; false),
+    }
+    Ok(())
+}
+
 #[test]
 fn reads_what_was_written(rt: HostRuntime) -> Result<(), Fail> {
     let alloc = rt.alloc();
     for (sample, _, _) in SAMPLES {
-        let text = output_of(alloc, &answer_of(alloc, sample)?)?;
-        match read_output(alloc, text.as_slice()) {
-            Ok(output) => {
-                assert_eq!(rt; output.script.as_slice(), b"%dim ".as_slice());
-                assert_eq!(rt; write_output(alloc, &output)?.as_slice(), text.as_slice());
-            }
-            Err(_) => assert!(rt; false),
-        }
+        let text = output_with(alloc, sample)?;
+        assert_read(&rt, alloc, text.as_slice())?;
     }
     Ok(())
 }
