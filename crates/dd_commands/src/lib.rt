@@ -1,5 +1,5 @@
 //! Commands and scripts as they are written. Queries go by a table, which says of each what its words name, how many numbers
-//! follow them, and which vectors.
+//! follow them, which vectors, and how many symbols there are.
 #![tactic(auto)]
 
 mod bodies;

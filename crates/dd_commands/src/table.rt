@@ -1,5 +1,5 @@
-//! The table of queries: of each kind its first word, what its further words name, how many numbers follow them, and which vectors
-//! follow these. A query is read, checked and resolved by its row alone.
+//! The table of queries: of each kind its first word, what its further words name, how many numbers follow them, which vectors
+//! follow these, and how many symbols there are at least. A query is read, checked and resolved by its row alone.
 ghost use Rattle.std.specs.Prelude.{◌≡◌};
 ghost use Rattle.dd_commands.specs.Table.{row};
 
@@ -40,8 +40,14 @@ pub enum QueryKind {
     Empty,
     /// `same f g X`: do the automata agree on each configuration that obeys X?
     Agree,
+    /// `maps f X Y`: does the automaton map each configuration that obeys X to one that obeys Y?
+    Maps,
+    /// `conjugate f g X Y`: are the automata inverse maps between the configurations that obey X and those that obey Y?
+    Conjugate,
     /// `forbidden X`: which patterns does the rule forbid?
     Forbidden,
+    /// `minimal X`: the smallest patterns that the rule forbids.
+    Minimal,
     /// `density X [5]`: the least density of the configurations of a strip with these periods.
     Density,
     /// `discharge X r m [1 0] ..`: the best bound by discharging, with a radius, a margin and vectors.
@@ -59,31 +65,44 @@ pub struct QueryRow {
     pub numbers: usize,
     /// Which vectors follow these.
     pub lists: Lists,
+    /// How many symbols the alphabet has at least.
+    pub symbols: u32,
 }
 
-fn entry(word: &'static [u8], names: &'static [Role], numbers: usize, lists: Lists) -> QueryRow
+fn entry(
+    word: &'static [u8],
+    names: &'static [Role],
+    numbers: usize,
+    lists: Lists,
+    symbols: u32,
+) -> QueryRow
     ensures word { result.word.now ≡ word.now }
     ensures names { result.names.now ≡ names.now }
     ensures numbers { result.numbers ≡ numbers }
     ensures lists { result.lists ≡ lists }
+    ensures symbols { result.symbols ≡ symbols }
 {
     QueryRow {
         word,
         names,
         numbers,
         lists,
+        symbols,
     }
 }
 
 impl QueryKind {
     /// All kinds, in the order of the table.
-    pub(crate) const ALL: [QueryKind; 8] = [
+    pub(crate) const ALL: [QueryKind; 11] = [
         QueryKind::Member,
         QueryKind::Contains,
         QueryKind::Equal,
         QueryKind::Empty,
         QueryKind::Agree,
+        QueryKind::Maps,
+        QueryKind::Conjugate,
         QueryKind::Forbidden,
+        QueryKind::Minimal,
         QueryKind::Density,
         QueryKind::Discharge,
     ];
@@ -94,16 +113,26 @@ impl QueryKind {
         ensures names { result.names.now ≡ (row self).names }
         ensures numbers { result.numbers ≡ (row self).numbers }
         ensures lists { result.lists ≡ (row self).lists }
+        ensures symbols { result.symbols ≡ (row self).symbols }
     {
         match self {
-            QueryKind::Member => entry(b"member", &[Configuration, Rule], 0, Lists::None),
-            QueryKind::Contains => entry(b"contains", &[Rule, Rule], 0, Lists::None),
-            QueryKind::Equal => entry(b"equal", &[Rule, Rule], 0, Lists::None),
-            QueryKind::Empty => entry(b"empty", &[Rule], 0, Lists::None),
-            QueryKind::Agree => entry(b"same", &[Automaton, Automaton, Rule], 0, Lists::None),
-            QueryKind::Forbidden => entry(b"forbidden", &[Rule], 0, Lists::None),
-            QueryKind::Density => entry(b"density", &[Rule], 0, Lists::Strip),
-            QueryKind::Discharge => entry(b"discharge", &[Rule], 2, Lists::Vectors),
+            QueryKind::Member => entry(b"member", &[Configuration, Rule], 0, Lists::None, 1),
+            QueryKind::Contains => entry(b"contains", &[Rule, Rule], 0, Lists::None, 1),
+            QueryKind::Equal => entry(b"equal", &[Rule, Rule], 0, Lists::None, 1),
+            QueryKind::Empty => entry(b"empty", &[Rule], 0, Lists::None, 1),
+            QueryKind::Agree => entry(b"same", &[Automaton, Automaton, Rule], 0, Lists::None, 1),
+            QueryKind::Maps => entry(b"maps", &[Automaton, Rule, Rule], 0, Lists::None, 2),
+            QueryKind::Conjugate => entry(
+                b"conjugate",
+                &[Automaton, Automaton, Rule, Rule],
+                0,
+                Lists::None,
+                2,
+            ),
+            QueryKind::Forbidden => entry(b"forbidden", &[Rule], 0, Lists::None, 1),
+            QueryKind::Minimal => entry(b"minimal", &[Rule], 0, Lists::None, 1),
+            QueryKind::Density => entry(b"density", &[Rule], 0, Lists::Strip, 1),
+            QueryKind::Discharge => entry(b"discharge", &[Rule], 2, Lists::Vectors, 1),
         }
     }
 }

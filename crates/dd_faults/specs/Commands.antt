@@ -63,9 +63,14 @@ list_faults x Lists.None vs = []
 list_faults x Lists.Strip vs = flat_map (strip_faults x) vs
 list_faults x Lists.Vectors vs = twice_vectors x.text vs ++ (flat_map (vector_faults x) vs ++ over (nat_lt most_vectors (length vs)) Limit.Vectors)
 
+-- the alphabet has as many symbols as the query wants
+abbrev pub has_symbols : Context → ℕ → Bool
+has_symbols x fewest = nat_le fewest (length x.known.setting.symbols)
+
 abbrev pub request_faults : Context → Request → List Fault
 request_faults x r =
-    flat_map (word_faults x) (zip (row r.kind).names r.words) ++ (flat_map (radius_faults x) r.numbers ++ list_faults x (row r.kind).lists r.vectors)
+    flat_map (word_faults x) (zip (row r.kind).names r.words)
+    ++ (flat_map (radius_faults x) r.numbers ++ (list_faults x (row r.kind).lists r.vectors ++ unless (has_symbols x (row r.kind).symbols)))
 
 -- ---- commands
 

@@ -61,7 +61,7 @@ pub enum Fault {
     Twice(Name),
     /// A vector is given twice.
     TwiceVector,
-    /// Numbers of entries do not agree.
+    /// Numbers of entries do not agree, or there are fewer symbols than a query wants.
     Dimension,
     /// A limit is passed.
     Size(Limit),

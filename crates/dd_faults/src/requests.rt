@@ -5,7 +5,7 @@ ghost use Rattle.dd_faults.specs.{Order.noted, Commands.word_faults, Commands.re
 use crate::each::note_each;
 use crate::fault::{Done, Found, Limit, note_over};
 use crate::names::note_missing;
-use crate::numbers::Asked;
+use crate::numbers::{Asked, note_unless};
 use crate::twice::note_twice;
 use dd_commands::{Lists, Request, Role};
 use dd_known::{Context, MOST_VECTORS};
@@ -42,5 +42,7 @@ pub(crate) fn request(alloc: Global, context: &Context, asked: &Request, found: 
             note_over(found, vectors.len() > MOST_VECTORS, Limit::Vectors);
         }
     }
+    let symbols = context.known.setting.symbols.count();
+    note_unless(found, symbols >= row.symbols);
     Ok(())
 }

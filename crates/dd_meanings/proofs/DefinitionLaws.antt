@@ -51,7 +51,7 @@ module _ (x : Context) (called : Word) (cs : List Case) (default : Name) (sound 
       defined x called f (automaton_of x cs default) (is_new x called (grind (arith, parts))) is
       (record {
         automaton = subst (λ s. IsAutomaton s (automaton_of x cs default)) (same_numbers x.known sound) formed;
-        rules = cases_made x.known.setting (map (case_of x) cs) (symbol_of x default);
+        rules = cases_made x.known.setting (map (case_of x) cs) (symbol_of x default) are_cases;
       })
 
 pub cases_refused : (x : Context) (whole : Automaton) (e : RuleFault) → IsCasesRefusal x.known.setting.topology.nodes (counted whole) e → Refuses (refusal_of e) (first_fault (automaton_faults x whole))

@@ -1,6 +1,7 @@
 -- The rules and automata of a script.
-use Rattle.std.specs.Prelude.{◌≡◌, List, ◌++◌, length, map}
+use Rattle.std.specs.Prelude.{ℕ, ◌≡◌, List, ◌++◌, length, map}
 use Rattle.std.specs.List.{All}
+use Rattle.dd_expansion.specs.Limits.{IsFormula}
 use Rattle.dd_formula.specs.LocalRule.{LocalRule, local_rule, IsRule}
 use Rattle.dd_formula.specs.Automata.{CommonNumbers as Numbers, IsAutomaton}
 use Rattle.dd_formula.specs.declared.automaton.Automaton.{Automaton}
@@ -12,7 +13,7 @@ use Rattle.dd_meanings.specs.Tree.{Setting}
 abbrev pub script_numbers : Setting → Numbers
 script_numbers s = record { dimension = s.topology.dimension; nodes = s.topology.nodes; symbols = length s.symbols }
 
--- a rule over the script's topology and alphabet, whose nodes allow the symbols that the script's nodes do
+-- a rule over the script's topology and alphabet, whose nodes allow the symbols that the script's nodes do, made of a formula over them
 pub record IsRuleOf (s : Setting) (r : LocalRule) : Type 0 where
   pub rule : IsRule r
   pub dimension : r.dimension ≡ s.topology.dimension
@@ -20,6 +21,7 @@ pub record IsRuleOf (s : Setting) (r : LocalRule) : Type 0 where
   pub symbols : r.symbols ≡ length s.symbols
   pub edges : r.edges ≡ s.topology.edges
   pub allowed : r.allowed ≡ s.sets.allowed
+  pub formula : IsFormula s.topology s.sets.symbols r.formula
 
 -- the rules in an automaton: those of its cases, and of both parts of a composition
 abbrev pub rules_step : Automaton-F (List LocalRule) → List LocalRule
@@ -30,10 +32,16 @@ abbrev pub rules_in : Automaton → List LocalRule
 rules_in = fold-Automaton (List LocalRule) rules_step
 
 -- the rule that its formula has over the script's topology and the symbols that its nodes allow
-abbrev pub IsMadeOver : Setting → LocalRule → Type 0
-IsMadeOver s r = r ≡ local_rule s.topology s.sets r.formula
+pub record IsMadeOver (s : Setting) (r : LocalRule) : Type 0 where
+  pub same : r ≡ local_rule s.topology s.sets r.formula
+  pub formula : IsFormula s.topology s.sets.symbols r.formula
 
 -- a well-formed automaton with the script's numbers, and each rule in it was made with the script's topology and alphabets
 pub record IsAutomatonOf (s : Setting) (f : Automaton) : Type 0 where
   pub automaton : IsAutomaton (script_numbers s) f
   pub rules : All (IsMadeOver s) (rules_in f)
+
+-- there is one for each name, and each is so
+pub record AreNamed {X : Type 0} (P : X → Type 0) (names : List (List ℕ)) (xs : List X) : Type 0 where
+  pub named : length xs ≡ length names
+  pub each : All P xs

@@ -21,7 +21,7 @@ use dd_written::{Formula, Name, Word};
 use std::alloc::Global;
 
 /// The refusal of a command for which no rule or automaton was made.
-fn refusal_of(fault: RuleFault) -> Refusal
+pub fn refusal_of(fault: RuleFault) -> Refusal
     ensures { result ≡ refusal_of fault }
 {
     match fault {

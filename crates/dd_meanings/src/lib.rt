@@ -11,6 +11,7 @@ mod meanings;
 mod names;
 mod topologies;
 
+pub use definitions::refusal_of;
 pub use meaning::Meaning;
 pub use meanings::mean;
 pub use names::{add_new, zero, zero_and_one};

@@ -1,11 +1,11 @@
 -- What a query without a fault has, and what it keeps.
-use Rattle.std.proofs.Common.{◌≡◌, ◌<◌, ℕ, suc, false, List, [], ◌∷◌, length, map, subst, slice_index, arith}
+use Rattle.std.proofs.Common.{◌≡◌, ◌<◌, ◌≤◌, ℕ, suc, false, List, [], ◌∷◌, length, map, subst, slice_index, arith, leb-true}
 use Rattle.std.specs.List.{flat_map, list_any, zip}
 use Rattle.dd_query.specs.Tree.{Word, Role, Lists, QueryKind, Request, Context}
 use Rattle.dd_commands.specs.{Table.row, Commands.IsRequest}
 use Rattle.dd_known.specs.{Known.named, Sound.IsSound}
-use Rattle.dd_faults.specs.Commands.{is_far, word_faults, radius_faults, list_faults, request_faults}
-use Rattle.dd_faults.specs.lemmas.Nothing.{both_nil, parts}
+use Rattle.dd_faults.specs.Commands.{is_far, unless, word_faults, radius_faults, list_faults, has_symbols, request_faults}
+use Rattle.dd_faults.specs.lemmas.Nothing.{both_nil, fits, parts}
 use Rattle.dd_query.specs.{Parts.number_of_word, Parts.word_at, Queries.query_of, Queries.IsQueryWithin}
 use Rattle.dd_query.proofs.ShapeLaws.{value_small, strip_is, all_close, vectors_are}
 
@@ -28,16 +28,24 @@ module _ (x : Context) (r : Request) where
     words : AreThere x (row k).names (word_at x (asks k))
     words = words_there x (row k).names r.words is.words (both_nil _ _ none).0
 
-    rest : (flat_map (radius_faults x) r.numbers ≡ []) × (list_faults x (row k).lists r.vectors ≡ [])
-    rest = both_nil _ _ (both_nil _ _ none).1
+    radii : flat_map (radius_faults x) r.numbers ≡ []
+    radii = (both_nil _ _ (both_nil _ _ none).1).0
+
+    behind : (list_faults x (row k).lists r.vectors ≡ []) × (unless (has_symbols x (row k).symbols) ≡ [])
+    behind = both_nil _ _ (both_nil _ _ (both_nil _ _ none).1).1
+
+    lists : list_faults x (row k).lists r.vectors ≡ []
+    lists = behind.0
+
+    enough : (row k).symbols ≤ length x.known.setting.symbols
+    enough = leb-true _ _ (fits _ behind.1)
 
   pub close_kept : IsRequest r → request_faults x r ≡ [] → (row r.kind).lists ≡ Lists.Vectors → list_any (is_far x.text) r.vectors ≡ false
-  close_kept is none at = all_close x r.vectors (subst (λ (l : Lists). list_faults x l r.vectors ≡ []) at (rest r.kind is none).1)
+  close_kept is none at = all_close x r.vectors (subst (λ (l : Lists). list_faults x l r.vectors ≡ []) at (lists r.kind is none))
 
   pub within_kept : (k : QueryKind) → IsSound x.known → IsRequest (asks k) → request_faults x (asks k) ≡ [] → IsQueryWithin x.known (query_of x (asks k))
-  within_kept QueryKind.Density sound is none = ((words QueryKind.Density is none).0, strip_is x r.vectors (rest QueryKind.Density is none).1)
+  within_kept QueryKind.Density sound is none = ((words QueryKind.Density is none).0, strip_is x r.vectors (lists QueryKind.Density is none))
   within_kept QueryKind.Discharge sound is none =
-      let small = (rest QueryKind.Discharge is none).0 in
-      let lists = (rest QueryKind.Discharge is none).1 in
-      ((words QueryKind.Discharge is none).0, value_small x r.numbers 0 small, value_small x r.numbers 1 small, vectors_are x r.vectors lists sound.setting.topology.grid.dimension.1 is.vectors)
-  within_kept k sound is none = assumption (words k is none)
+      let small = radii QueryKind.Discharge is none in
+      ((words QueryKind.Discharge is none).0, value_small x r.numbers 0 small, value_small x r.numbers 1 small, vectors_are x r.vectors (lists QueryKind.Discharge is none) sound.setting.topology.grid.dimension.1 is.vectors)
+  within_kept k sound is none = assumption (words k is none, enough k is none)

@@ -13,21 +13,29 @@ query_asked QueryKind.Contains x r = Query.Contains (word_at x r 0) (word_at x r
 query_asked QueryKind.Equal x r = Query.Equal (word_at x r 0) (word_at x r 1)
 query_asked QueryKind.Empty x r = Query.Empty (word_at x r 0)
 query_asked QueryKind.Agree x r = Query.Agree (word_at x r 0) (word_at x r 1) (word_at x r 2)
+query_asked QueryKind.Maps x r = Query.Maps (word_at x r 0) (word_at x r 1) (word_at x r 2)
+query_asked QueryKind.Conjugate x r = Query.Conjugate (word_at x r 0) (word_at x r 1) (word_at x r 2) (word_at x r 3)
 query_asked QueryKind.Forbidden x r = Query.Forbidden (word_at x r 0)
+query_asked QueryKind.Minimal x r = Query.Minimal (word_at x r 0)
 query_asked QueryKind.Density x r = Query.Density (word_at x r 0) (strip_periods x.text r.vectors)
 query_asked QueryKind.Discharge x r = Query.Discharge (word_at x r 0) (value_at x r 0) (value_at x r 1) (map (place_of x.text) r.vectors)
 
 abbrev pub query_of : Context → Request → Query
 query_of x r = query_asked r.kind x r
 
--- its numbers are those of rules, automata and configurations, and its periods, radii and vectors are within their bounds
+-- Its numbers are those of rules, automata and configurations, its periods, radii and vectors are within their bounds, and there are
+-- two symbols or more where it asks about maps.
 abbrev pub IsQueryWithin : Known → Query → Type 0
 IsQueryWithin k (Query.Member configuration rule) = (configuration < length k.configurations) × (rule < length k.rules)
 IsQueryWithin k (Query.Contains outer inner) = (outer < length k.rules) × (inner < length k.rules)
 IsQueryWithin k (Query.Equal left right) = (left < length k.rules) × (right < length k.rules)
 IsQueryWithin k (Query.Empty rule) = rule < length k.rules
 IsQueryWithin k (Query.Agree left right rule) = (left < length k.automata) × (right < length k.automata) × (rule < length k.rules)
+IsQueryWithin k (Query.Maps map from to) = (map < length k.automata) × (from < length k.rules) × (to < length k.rules) × (2 ≤ length k.setting.symbols)
+IsQueryWithin k (Query.Conjugate there back from to) =
+    (there < length k.automata) × (back < length k.automata) × (from < length k.rules) × (to < length k.rules) × (2 ≤ length k.setting.symbols)
 IsQueryWithin k (Query.Forbidden rule) = rule < length k.rules
+IsQueryWithin k (Query.Minimal rule) = rule < length k.rules
 IsQueryWithin k (Query.Density rule strip) = (rule < length k.rules) × AreStripPeriods k.setting.topology.dimension strip
 IsQueryWithin k (Query.Discharge rule radius margin vectors) =
     (rule < length k.rules) × (radius ≤ widest_radius) × (margin ≤ widest_radius) × AreVectors k.setting.topology.dimension vectors

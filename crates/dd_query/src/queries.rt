@@ -43,8 +43,25 @@ pub enum Query {
         right: u32,
         rule: u32,
     },
+    /// Whether the automaton maps the subshift of `from` into that of `to`.
+    Maps {
+        map: u32,
+        from: u32,
+        to: u32,
+    },
+    /// Whether `there` maps the subshift of `from` onto that of `to`, and `back` is its inverse.
+    Conjugate {
+        there: u32,
+        back: u32,
+        from: u32,
+        to: u32,
+    },
     /// The patterns that the rule forbids.
     Forbidden {
+        rule: u32,
+    },
+    /// The smallest patterns that the rule forbids.
+    Minimal {
         rule: u32,
     },
     /// The least density over a strip, given by its periods along the second and the third axis, 1 where there is no such
@@ -90,7 +107,19 @@ fn asked(alloc: Global, context: &Context, request: &Request) -> Result<Query, A
             right: second,
             rule: word_at(context, request, 2),
         },
+        QueryKind::Maps => Query::Maps {
+            map: first,
+            from: second,
+            to: word_at(context, request, 2),
+        },
+        QueryKind::Conjugate => Query::Conjugate {
+            there: first,
+            back: second,
+            from: word_at(context, request, 2),
+            to: word_at(context, request, 3),
+        },
         QueryKind::Forbidden => Query::Forbidden { rule: first },
+        QueryKind::Minimal => Query::Minimal { rule: first },
         QueryKind::Density => Query::Density {
             rule: first,
             strip: strip_of(context, request.vectors.as_slice()),

@@ -1,7 +1,7 @@
 -- What the queries of a script ask: it goes together, as its rules, automata and configurations are the script's.
-use Rattle.std.proofs.Common.{◌≡◌, ◌<◌, ◌%◌, ℕ, List, get_or, ap, sym, subst, ◌∙◌, Some, None, Option, IfSome, arith}
-use Rattle.std.specs.{List.All, List.slice_get, Option.option_and_then}
-use Rattle.std.proofs.lemmas.{Grind.common_steps, List.Elements.All-contains, Option.gets}
+use Rattle.std.proofs.Common.{◌≡◌, ◌<◌, ◌%◌, ℕ, List, [], get_or, ap, sym, subst, ◌∙◌, Some, None, Option, IfSome, arith}
+use Rattle.std.specs.{List.All, Prelude.unwrap_or, Option.option_and_then}
+use Rattle.std.proofs.lemmas.{List.Elements.All-contains, List.Elements.All-head, List.Elements.All-tail}
 use Rattle.dd_values.specs.declared.limits.Limits.{Limits}
 use Rattle.dd_boxes.specs.{Goals.differ, Views.numbers_of}
 use Rattle.dd_topology.specs.Sets.{row_allows}
@@ -9,12 +9,10 @@ use Rattle.dd_pattern.specs.Tile.{Tile}
 use Rattle.dd_formula.specs.{Living.Fits, Allowed.HasAllowed}
 use Rattle.dd_question.specs.{Questions.Asked, Questions.membership, Questions.box, Questions.IsFormed, Questions.excess_of, Questions.IsSoundAsked}
 use Rattle.dd_question.specs.lemmas.AllowedLaws.{allowed_from_box}
-use Rattle.dd_script.specs.{Parts.Parts, Parts.Known, Parts.LocalRule, Parts.Automaton, Parts.Query, Questions.asked, Questions.of_both, Questions.of_three, Asking.AreOf, Asking.AreSound}
-use Rattle.dd_script.specs.Kept.{IsQueryOf, AreNamed, IsScriptOf, IsAutomatonOf, IsQueryWithin, IsRuleOf, IsConfigurationOf}
-
--- an item of a list of such items
-item_at : {X : Type 0} {P : X → Type 0} {names : List (List ℕ)} {xs : List X} → AreNamed P names xs → (n : ℕ) → IfSome (slice_get xs n) P
-item_at are n = grind (arith, common_steps, gets, are.each n)
+use Rattle.dd_pairs.specs.lemmas.{PartLaws.part_fits, QueryLaws.item_at}
+use Rattle.dd_script.specs.{Parts.Parts, Parts.Known, Parts.LocalRule, Parts.Automaton, Parts.Query, Questions.asked, Questions.map_question, Questions.conjugacy_question, Questions.parts_for, Asking.AreOf, Asking.AreSound}
+use Rattle.dd_pairs.specs.{Parts.PartOf, Parts.image, Parts.change, Parts.pair_of, Parts.IsPair, Queries.of_both, Queries.of_three, Queries.of_four, Queries.map_parts, Queries.conjugate_parts}
+use Rattle.dd_script.specs.Kept.{IsQueryOf, IsScriptOf, IsAutomatonOf, IsQueryWithin, IsRuleOf, IsConfigurationOf}
 
 -- a rule and a configuration of one script
 module _ (k : Known) (x : LocalRule) (t : Tile) (rule : IsRuleOf k.setting x) (kept : IsConfigurationOf k.setting t) where
@@ -47,18 +45,51 @@ module _ (s : Parts) (ok : IsScriptOf s) where
   membership_fits (Some x) None of kept = tt
   membership_fits (Some x) (Some t) of kept = ((of.rule, kept.tile, member_fits s.known x t of kept, member_allowed s.known x t of kept), of)
 
-  asked_fits : (q : Query) → IsQueryWithin s.known q → IfSome (asked s q) FitsIn
-  asked_fits (Query.Discharge rule radius margin vectors) within = grind (arith, item_at ok.rules rule, within.3)
-  asked_fits (Query.Agree left right rule) within = agreement_fits _ _ _ (item_at ok.rules rule) (item_at ok.automata left) (item_at ok.automata right)
-  asked_fits (Query.Member configuration rule) within = membership_fits _ _ (item_at ok.rules rule) (item_at ok.configurations configuration)
-  asked_fits q within = grind (arith, item_at ok.rules, item_at ok.automata, item_at ok.configurations)
+  -- the pair of each of these parts is well formed
+  abbrev ArePaired : List PartOf → Type 0
+  ArePaired ps = All (λ p. IsPair s.known.setting (pair_of s.known.setting p)) ps
 
-  pub question_fits : (q : Query) (a : Asked) → IsQueryWithin s.known q → asked s q ≡ Some a → FitsIn a
-  question_fits q a within is = subst (λ (o : Option Asked). IfSome o FitsIn) is (asked_fits q within)
+  map_fits : (o p : Option LocalRule) (q : Option Automaton) → IfSome o (IsRuleOf s.known.setting) → IfSome p (IsRuleOf s.known.setting) → IfSome q (IsAutomatonOf s.known.setting)
+      → ArePaired (unwrap_or (of_three map_parts o p q) []) → IfSome (of_three (map_question s.known.setting) o p q) FitsIn
+  map_fits None p q of to map pairs = tt
+  map_fits (Some x) None q of to map pairs = tt
+  map_fits (Some x) (Some y) None of to map pairs = tt
+  map_fits (Some x) (Some y) (Some f) of to map pairs = (part_fits s.known.setting ok.known.setting (image x f y) (of, map, to) (All-head _ _ _ pairs), of)
+
+  conjugate_fits : (o p : Option LocalRule) (q r : Option Automaton) → IfSome o (IsRuleOf s.known.setting) → IfSome p (IsRuleOf s.known.setting) → IfSome q (IsAutomatonOf s.known.setting) → IfSome r (IsAutomatonOf s.known.setting)
+      → ArePaired (unwrap_or (of_four conjugate_parts o p q r) []) → IfSome (of_four (conjugacy_question s.known.setting) o p q r) FitsIn
+  conjugate_fits None p q r of to there back pairs = tt
+  conjugate_fits (Some x) None q r of to there back pairs = tt
+  conjugate_fits (Some x) (Some y) None r of to there back pairs = tt
+  conjugate_fits (Some x) (Some y) (Some f) None of to there back pairs = tt
+  conjugate_fits (Some x) (Some y) (Some f) (Some g) of to there back pairs =
+      let fits = part_fits s.known.setting ok.known.setting in
+      let second = All-tail _ _ _ pairs in
+      let third = All-tail _ _ _ second in
+      let fourth = All-tail _ _ _ third in (
+        record {
+          image = fits (image x f y) (of, there, to) (All-head _ _ _ pairs);
+          image_back = fits (image y g x) (to, back, of) (All-head _ _ _ second);
+          round = fits (change x g f) (of, back, there) (All-head _ _ _ third);
+          round_back = fits (change y f g) (to, there, back) (All-head _ _ _ fourth);
+        },
+        (of, to),
+      )
+
+  asked_fits : (q : Query) → IsQueryWithin s.known q → ArePaired (parts_for s q) → IfSome (asked s q) FitsIn
+  asked_fits (Query.Discharge rule radius margin vectors) within pairs = grind (arith, item_at ok.rules rule, within.3)
+  asked_fits (Query.Agree left right rule) within pairs = agreement_fits _ _ _ (item_at ok.rules rule) (item_at ok.automata left) (item_at ok.automata right)
+  asked_fits (Query.Member configuration rule) within pairs = membership_fits _ _ (item_at ok.rules rule) (item_at ok.configurations configuration)
+  asked_fits (Query.Maps map from to) within pairs = map_fits _ _ _ (item_at ok.rules from) (item_at ok.rules to) (item_at ok.automata map) pairs
+  asked_fits (Query.Conjugate there back from to) within pairs = conjugate_fits _ _ _ _ (item_at ok.rules from) (item_at ok.rules to) (item_at ok.automata there) (item_at ok.automata back) pairs
+  asked_fits q within pairs = grind (arith, item_at ok.rules, item_at ok.automata, item_at ok.configurations)
+
+  pub question_fits : (q : Query) (a : Asked) → IsQueryWithin s.known q → ArePaired (parts_for s q) → asked s q ≡ Some a → FitsIn a
+  question_fits q a within pairs is = subst (λ (o : Option Asked). IfSome o FitsIn) is (asked_fits q within pairs)
 
   -- what passes no limit is sound
   pub questions_sound : ((l : Limits) (a : Asked) → IsFormed a → excess_of l a ≡ None → IsSoundAsked l a) → AreSound s
   questions_sound law q a there is =
       let of = All-contains (IsQueryOf s) s.queries q ok.queries there in
-      let fits = question_fits q a of.within is in
+      let fits = question_fits q a of.within of.pairs.formed is in
       record { sound = law s.known.limits a fits.0 (sym (ap (option_and_then (excess_of s.known.limits)) is) ∙ of.light); of = fits.1 }

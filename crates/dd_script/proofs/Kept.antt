@@ -1,15 +1,16 @@
 -- What every script keeps, behind each command.
 use Rattle.std.proofs.Common.{◌≡◌, ℕ, ◌≤◌, [], length, Option, None, arith}
-use Rattle.std.specs.{List.All, List.range_with_len, Option.option_map}
+use Rattle.std.specs.{List.All, List.range_with_len, Option.option_or, Option.option_map}
 use Rattle.std.proofs.lemmas.{Grind.common_steps, List.Elements.All-push}
 use Rattle.std.proofs.lemmas.List.FromFn.{length-range_with_len, get_or-range_with_len}
 use Rattle.dd_topology.specs.Sets.{IsSets}
 use Rattle.dd_script.specs.Tree.{Command}
 use Rattle.dd_commands.specs.Heads.{head_of, stage, next_stage}
 use Rattle.dd_meanings.specs.{Meanings.meaning, Sound.IsSoundMeaning}
+use Rattle.dd_pairs.specs.Made.{ArePairs}
 use Rattle.dd_script.specs.{declared.draft.Draft.Draft, Drafts.parts_of, Parts.Parts, Parts.Known}
 use Rattle.dd_script.specs.Kept.{IsQueryOf, IsScriptOf}
-use Rattle.dd_script.specs.Walk.{with, asked_fault, word_text}
+use Rattle.dd_script.specs.Walk.{with, asked_fault, parts_in, pairs_in, word_text}
 use Rattle.dd_script.proofs.Growing.{stay, one_more, more}
 
 -- nothing is defined and nothing is asked
@@ -24,8 +25,9 @@ IsReady place s = place ≤ 6 → IsFresh s
 light_range : (n : ℕ) → n ≤ 1001 → All (λ w. w ≤ 1000) (range_with_len 0 n)
 light_range n le = λ i d lt. omega (arith, le, length-range_with_len 0 n, get_or-range_with_len 0 n i d)
 
-unmapped : {X Y : Type 0} (f : X → Y) (o : Option X) → option_map f o ≡ None → o ≡ None
-unmapped f o e = grind arith
+-- where neither of two is there, the second isn't
+second_none : {X Y : Type 0} (o : Option Y) (f : X → Y) (p : Option X) → option_or o (option_map f p) ≡ None → p ≡ None
+second_none o f p e = grind arith
 
 abbrev pub HasSets : Known → Type 0
 HasSets k = IsSets (length k.setting.sets.allowed) k.setting.sets
@@ -42,15 +44,16 @@ module _ (d : Draft) (is : IsScriptOf (parts_of d)) where
 
   -- past the header, more is defined or asked; in the header, where nothing is defined, all that is known may change, but the names
   pub kept_behind : (c : Command) → IsReady (stage (head_of c)) s → IsSoundMeaning d.context (meaning d.context d.made.automata c) → asked_fault s (meaning d.context d.made.automata c) ≡ None
-      → HasSets (behind c).known → IsScriptOf (behind c)
-  kept_behind (Command.Rule name f) ready sound light has =
-      more s is (one_more (word_text d.context.text name) _ is.rules sound.1) (stay is.automata) (stay is.configurations) s.queries is.queries
-  kept_behind (Command.Automaton name cases symbol) ready sound light has =
-      more s is (stay is.rules) (one_more (word_text d.context.text name) _ is.automata sound.1) (stay is.configurations) s.queries is.queries
-  kept_behind (Command.Composition name outer inner) ready sound light has =
-      more s is (stay is.rules) (one_more (word_text d.context.text name) _ is.automata sound.1) (stay is.configurations) s.queries is.queries
-  kept_behind (Command.Configuration name periods shear symbols) ready sound light has =
-      more s is (stay is.rules) (stay is.automata) (one_more (word_text d.context.text name) _ is.configurations sound.1) s.queries is.queries
-  kept_behind (Command.Query r) ready sound light has =
-      more s is (stay is.rules) (stay is.automata) (stay is.configurations) _ (All-push (IsQueryOf s) s.queries _ is.queries (grind (arith, unmapped)))
-  kept_behind c ready sound light has = grind (arith, common_steps, light_range, length-range_with_len)
+      → ArePairs d.context.known (parts_in s (meaning d.context d.made.automata c)) (pairs_in s (meaning d.context d.made.automata c)) → HasSets (behind c).known → IsScriptOf (behind c)
+  kept_behind (Command.Rule name f) ready sound light pairs has =
+      more s is (one_more (word_text d.context.text name) _ is.rules sound.1) (stay is.automata) (stay is.configurations) s.queries s.pairs is.queries is.pairs
+  kept_behind (Command.Automaton name cases symbol) ready sound light pairs has =
+      more s is (stay is.rules) (one_more (word_text d.context.text name) _ is.automata sound.1) (stay is.configurations) s.queries s.pairs is.queries is.pairs
+  kept_behind (Command.Composition name outer inner) ready sound light pairs has =
+      more s is (stay is.rules) (one_more (word_text d.context.text name) _ is.automata sound.1) (stay is.configurations) s.queries s.pairs is.queries is.pairs
+  kept_behind (Command.Configuration name periods shear symbols) ready sound light pairs has =
+      more s is (stay is.rules) (stay is.automata) (one_more (word_text d.context.text name) _ is.configurations sound.1) s.queries s.pairs is.queries is.pairs
+  kept_behind (Command.Query r) ready sound light pairs has =
+      more s is (stay is.rules) (stay is.automata) (stay is.configurations) _ _
+      (All-push (IsQueryOf s) s.queries _ is.queries (record { within = sound; pairs = pairs; light = second_none _ _ _ light })) (grind (arith, common_steps, is.pairs))
+  kept_behind c ready sound light pairs has = grind (arith, common_steps, light_range, length-range_with_len)

@@ -7,8 +7,9 @@ use Rattle.dd_written.specs.Lexemes.{lexemes_of}
 use Rattle.dd_commands.specs.Scripts.{parts, stage_after, AreCommands, IsScript, IsWritten}
 use Rattle.dd_faults.specs.lemmas.Nothing.{none_first, parts as no_faults}
 use Rattle.dd_meanings.specs.Sound.{IsSoundMeaning}
+use Rattle.dd_pairs.specs.Made.{ArePairs}
 use Rattle.dd_script.specs.{declared.draft.Draft.Draft, Parts.Parts, Kept.IsScriptOf}
-use Rattle.dd_script.specs.Walk.{start, asked_fault, Located, located, first_from, after_all, has_topology, first_located_fault, script_of, Written, stage_of, Fault, first_fault, written_faults, Meaning, meaning_of, counted_sizes}
+use Rattle.dd_script.specs.Walk.{start, asked_fault, parts_in, pairs_in, Located, located, first_from, after_all, has_topology, first_located_fault, script_of, Written, stage_of, Fault, first_fault, written_faults, Meaning, meaning_of, counted_sizes}
 use Rattle.dd_script.specs.Scripts.{Spells, kind_of, HasFault}
 use Rattle.dd_script.specs.Drafts.{parts_of, draft_of, with_meaning, fault_at, Means}
 use Rattle.dd_script.proofs.Kept.{IsReady, HasSets, ready_behind, kept_behind}
@@ -23,12 +24,13 @@ module _ (d : Draft) (w : Written) (m : Meaning) (none : first_fault (written_fa
   pub asked_is : fault_at d w ≡ asked_fault (parts_of d) m
   asked_is = rw (none, few, is)
 
-  pub means : IsSoundMeaning d.context (meant d w) → asked_fault (parts_of d) m ≡ None → Means d w m
-  means sound light = record {
+  pub means : IsSoundMeaning d.context (meant d w) → asked_fault (parts_of d) m ≡ None → ArePairs d.context.known (parts_in (parts_of d) m) (pairs_in (parts_of d) m) → Means d w m
+  means sound light pairs = record {
     faultless = asked_is ∙ light;
     is = is;
     sound = rw is sound;
     light = light;
+    pairs = pairs;
     counted = grind (arith, no_faults, none_first (written_faults d.context w) none);
   }
 
@@ -90,7 +92,7 @@ module _ (text : List ℕ) (ws : List Written) (i : ℕ) (d : Draft) (w : Writte
         left = here.1;
         are = here.2;
         fresh = ready_behind d sofar.script w.command ready;
-        script = kept_behind d sofar.script w.command ready (rw means.is at means.sound) (rw means.is at means.light) (rw all at has);
+        script = kept_behind d sofar.script w.command ready (rw means.is at means.sound) (rw means.is at means.light) (rw means.is at means.pairs) (rw all at has);
         same_text = sofar.same_text;
         leads = leads_with None means.faultless;
       })

@@ -9,7 +9,9 @@ abbrev pub AreOf : Known → Asked → Type 0
 AreOf k (question.membership x t) = IsRuleOf k.setting x
 AreOf k (question.box x g) = IsRuleOf k.setting x
 AreOf k (question.equality x y) = IsRuleOf k.setting x × IsRuleOf k.setting y
+AreOf k (question.conjugacy c) = IsRuleOf k.setting c.from × IsRuleOf k.setting c.to
 AreOf k (question.listing x) = IsRuleOf k.setting x
+AreOf k (question.smallest x) = IsRuleOf k.setting x
 AreOf k (question.density x strip ws) = IsRuleOf k.setting x
 AreOf k (question.discharge x radius margin vs ws) = IsRuleOf k.setting x
 

@@ -1,21 +1,18 @@
 -- What every script keeps.
-use Rattle.std.specs.Prelude.{◌≡◌, None, ℕ, List, length}
+use Rattle.std.specs.Prelude.{◌≡◌, None, map}
 use Rattle.std.specs.List.{All}
 use Rattle.dd_known.specs.Sound.{IsSound}
 pub use Rattle.dd_query.specs.Queries.{IsQueryWithin}
-pub use Rattle.dd_meanings.specs.{Made.IsRuleOf, Made.IsAutomatonOf, Sound.IsConfigurationOf}
+pub use Rattle.dd_meanings.specs.{Made.IsRuleOf, Made.IsAutomatonOf, Made.AreNamed, Sound.IsConfigurationOf}
+use Rattle.dd_pairs.specs.Made.{ArePairs}
 use Rattle.dd_script.specs.Parts.{Parts, Query}
-pub use Rattle.dd_script.specs.Questions.{query_excess}
+pub use Rattle.dd_script.specs.Questions.{query_excess, parts_for, pairs_for}
 
--- it names what there is, its numbers and vectors are within their bounds, and what it asks passes no limit
+-- it names what there is, its numbers and vectors are within their bounds, and neither its pairs nor what it asks pass a limit
 pub record IsQueryOf (s : Parts) (q : Query) : Type 0 where
   pub within : IsQueryWithin s.known q
+  pub pairs : ArePairs s.known (parts_for s q) (pairs_for s q)
   pub light : query_excess s q ≡ None
-
--- there is one for each name, and each is so
-pub record AreNamed {X : Type 0} (P : X → Type 0) (names : List (List ℕ)) (xs : List X) : Type 0 where
-  pub named : length xs ≡ length names
-  pub each : All P xs
 
 pub record IsScriptOf (s : Parts) : Type 0 where
   -- the numbers of nodes and symbols, the weights and the limits are in range and agree
@@ -25,3 +22,4 @@ pub record IsScriptOf (s : Parts) : Type 0 where
   pub automata : AreNamed (IsAutomatonOf s.known.setting) s.known.automata s.automata
   pub configurations : AreNamed (IsConfigurationOf s.known.setting) s.known.configurations s.configurations
   pub queries : All (IsQueryOf s) s.queries
+  pub pairs : s.pairs ≡ map (pairs_for s) s.queries

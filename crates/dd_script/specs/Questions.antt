@@ -1,20 +1,22 @@
 -- What the queries of a script ask.
-use Rattle.std.specs.Prelude.{ℕ, ◌-◌, Option, Some, None, option_map}
+use Rattle.std.specs.Prelude.{ℕ, ◌-◌, List, Option, option_map}
 use Rattle.std.specs.{List.slice_get, Option.option_and_then}
 use Rattle.dd_boxes.specs.{Goals.breaks, Goals.differ, Goals.always, Views.numbers_of}
 use Rattle.dd_question.specs.Questions as question
 use Rattle.dd_question.specs.{Questions.Asked, Questions.excess_of, declared.excess.Excess.Excess}
-use Rattle.dd_script.specs.Parts.{Parts, Query}
+use Rattle.dd_pairs.specs.{Parts.PartOf, Parts.image, Parts.change, Parts.pair_of, Parts.goal_of, Goals.conjugacy_by}
+pub use Rattle.dd_pairs.specs.Queries.{of_both, of_three, of_four}
+use Rattle.dd_pairs.specs.Queries.{parts_asked, pairs_of}
+use Rattle.dd_script.specs.Parts.{Parts, LocalRule, Automaton, Query, Pair, Setting}
 
--- something of two items, where both are there
-abbrev pub of_both : {X Y Z : Type 0} → (X → Y → Z) → Option X → Option Y → Option Z
-of_both f (Some x) y = option_map (f x) y
-of_both f None y = None
+-- whether the automaton maps configurations of the first rule to such of the second
+abbrev pub map_question : Setting → LocalRule → LocalRule → Automaton → Asked
+map_question s x y f = question.box x (goal_of s (image x f y))
 
--- something of three
-abbrev pub of_three : {X Y Z W : Type 0} → (X → Y → Z → W) → Option X → Option Y → Option Z → Option W
-of_three f (Some x) y z = of_both (f x) y z
-of_three f None y z = None
+-- whether two automata are maps from the first rule to the second and back, each the inverse of the other
+abbrev pub conjugacy_question : Setting → LocalRule → LocalRule → Automaton → Automaton → Asked
+conjugacy_question s x y f g =
+    question.conjugacy (conjugacy_by x y (pair_of s (image x f y)) (pair_of s (image y g x)) (pair_of s (change x g f)) (pair_of s (change y f g)))
 
 -- what the query asks, where its rules, its automata and its configuration are there
 abbrev pub asked : Parts → Query → Option Asked
@@ -24,13 +26,24 @@ asked s (Query.Equal left right) = of_both question.equality (slice_get s.rules 
 asked s (Query.Empty rule) = option_map (λ x. question.box x always) (slice_get s.rules rule)
 asked s (Query.Agree left right rule) =
     of_three (λ x f g. question.box x (differ (numbers_of x) f g)) (slice_get s.rules rule) (slice_get s.automata left) (slice_get s.automata right)
+asked s (Query.Maps map from to) = of_three (map_question s.known.setting) (slice_get s.rules from) (slice_get s.rules to) (slice_get s.automata map)
+asked s (Query.Conjugate there back from to) =
+    of_four (conjugacy_question s.known.setting) (slice_get s.rules from) (slice_get s.rules to) (slice_get s.automata there) (slice_get s.automata back)
 asked s (Query.Forbidden rule) = option_map question.listing (slice_get s.rules rule)
+asked s (Query.Minimal rule) = option_map question.smallest (slice_get s.rules rule)
 asked s (Query.Density rule strip) = option_map (λ x. question.density x strip s.known.weights) (slice_get s.rules rule)
 asked s (Query.Discharge rule radius margin vectors) = option_map (λ x. question.discharge x radius margin vectors s.known.weights) (slice_get s.rules rule)
 
 -- the limit on its work that the question passes, searched as far as the script says
 abbrev pub query_excess : Parts → Query → Option Excess
 query_excess s q = option_and_then (excess_of s.known.limits) (asked s q)
+
+-- what it puts together of rules and automata, and the pairs that it asks about
+abbrev pub parts_for : Parts → Query → List PartOf
+parts_for s q = parts_asked s.rules s.automata q
+
+abbrev pub pairs_for : Parts → Query → List Pair
+pairs_for s q = pairs_of s.known.setting s.rules s.automata q
 
 -- the query with a number, from 1
 abbrev pub query_at : Parts → ℕ → Option Query

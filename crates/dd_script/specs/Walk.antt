@@ -1,15 +1,15 @@
 -- The commands of a script one after the other: what each leaves, and the first fault.
-use Rattle.std.specs.Prelude.{ℕ, ◌+◌, List, [], ◌∷◌, ◌++◌, length, Bool, false, ◌==◌, Option, None, codes}
-use Rattle.std.specs.{List.list_any, List.range_with_len, Option.option_or, Option.option_map}
+use Rattle.std.specs.Prelude.{ℕ, ◌+◌, List, [], ◌∷◌, ◌++◌, length, Bool, false, ◌==◌, Option, Some, None, unwrap_or, codes}
+use Rattle.std.specs.{List.list_any, List.range_with_len, Option.option_or, Option.option_map, Option.option_and_then}
 use Rattle.dd_topology.specs.{Builtin.square, Sets.SymbolSets, Sets.all_symbols, Sets.restricted}
 pub use Rattle.dd_written.specs.Values.{word_text}
-use Rattle.dd_script.specs.Tree.{Head, Limit, Fault, Context}
+use Rattle.dd_script.specs.Tree.{Head, Fault, Context}
 pub use Rattle.dd_commands.specs.{declared.script.Written.Written, Scripts.stage_of}
 use Rattle.dd_commands.specs.Heads.{stage}
 pub use Rattle.dd_faults.specs.{declared.fault.Limit.Limit, declared.fault.Fault.Fault, Order.first_fault, Commands.written_faults}
 pub use Rattle.dd_meanings.specs.{declared.meaning.Meaning.Meaning, Meanings.meaning as meaning_of, Meanings.counted_sizes}
-use Rattle.dd_question.specs.declared.excess.Excess.{Excess}
-use Rattle.dd_script.specs.{Questions.query_excess, Parts.Parts, Parts.Known}
+use Rattle.dd_pairs.specs.{Parts.PartOf, Faults.parts_faults, Faults.earliest, Faults.limit_of}
+use Rattle.dd_script.specs.{Questions.query_excess, Questions.parts_for, Questions.pairs_for, Parts.Parts, Parts.Known, Parts.Query, Parts.Pair}
 
 -- ---- where a script has said nothing
 
@@ -28,7 +28,7 @@ known_start =
     }
 
 abbrev pub start : Parts
-start = record { known = known_start; rules = []; automata = []; configurations = []; queries = [] }
+start = record { known = known_start; rules = []; automata = []; configurations = []; queries = []; pairs = [] }
 
 -- ---- what a command leaves
 
@@ -57,7 +57,7 @@ with bytes s (Meaning.Automaton name automaton) =
     record s { known = record (s.known) { automata = s.known.automata ++ word_text bytes name ∷ [] }; automata = s.automata ++ automaton ∷ [] }
 with bytes s (Meaning.Configuration name configuration) =
     record s { known = record (s.known) { configurations = s.known.configurations ++ word_text bytes name ∷ [] }; configurations = s.configurations ++ configuration ∷ [] }
-with bytes s (Meaning.Query query) = record s { queries = s.queries ++ query ∷ [] }
+with bytes s (Meaning.Query query) = record s { queries = s.queries ++ query ∷ []; pairs = s.pairs ++ pairs_for s query ∷ [] }
 
 -- ---- one command after the other
 
@@ -65,24 +65,32 @@ with bytes s (Meaning.Query query) = record s { queries = s.queries ++ query ∷
 abbrev pub context : List ℕ → Bool → ℕ → Parts → Context
 context bytes topology n s = record { text = bytes; has_topology = topology; number = n; known = s.known }
 
--- an excess, among the limits of scripts
-abbrev pub limit_of : Excess → Limit
-limit_of Excess.Clauses = Limit.Clauses
-limit_of Excess.Patterns = Limit.Patterns
-limit_of Excess.States = Limit.States
+-- the query, where it is one
+abbrev pub query_in : Meaning → Option Query
+query_in (Meaning.Topology g) = None
+query_in (Meaning.Nodes nodes given g) = None
+query_in (Meaning.Symbols symbols) = None
+query_in (Meaning.Only node symbols) = None
+query_in (Meaning.Weights weights) = None
+query_in (Meaning.Limits limits) = None
+query_in (Meaning.Rule name rule) = None
+query_in (Meaning.Automaton name automaton) = None
+query_in (Meaning.Configuration name configuration) = None
+query_in (Meaning.Query query) = Some query
 
--- the limit that what is asked passes, where something is asked
+-- the first limit that a query's pairs, or the questions about them, pass; or else the limit that what is asked passes
+abbrev pub query_fault : Parts → Query → Option Fault
+query_fault s q = option_or (earliest (parts_faults s.known (parts_for s q))) (option_map (λ e. Fault.Size (limit_of e)) (query_excess s q))
+
 abbrev pub asked_fault : Parts → Meaning → Option Fault
-asked_fault s (Meaning.Topology g) = None
-asked_fault s (Meaning.Nodes nodes given g) = None
-asked_fault s (Meaning.Symbols symbols) = None
-asked_fault s (Meaning.Only node symbols) = None
-asked_fault s (Meaning.Weights weights) = None
-asked_fault s (Meaning.Limits limits) = None
-asked_fault s (Meaning.Rule name rule) = None
-asked_fault s (Meaning.Automaton name automaton) = None
-asked_fault s (Meaning.Configuration name configuration) = None
-asked_fault s (Meaning.Query query) = option_map (λ e. Fault.Size (limit_of e)) (query_excess s query)
+asked_fault s m = option_and_then (query_fault s) (query_in m)
+
+-- the parts that it puts together, and the pairs that it asks about
+abbrev pub parts_in : Parts → Meaning → List PartOf
+parts_in s m = unwrap_or (option_map (parts_for s) (query_in m)) []
+
+abbrev pub pairs_in : Parts → Meaning → List Pair
+pairs_in s m = unwrap_or (option_map (pairs_for s) (query_in m)) []
 
 abbrev pub meaning_at : List ℕ → Bool → ℕ → Parts → Written → Meaning
 meaning_at bytes topology n s w = meaning_of (context bytes topology n s) s.automata w.command

@@ -6,16 +6,18 @@ ghost use Rattle.dd_commands.specs.Scripts.{IsWritten};
 ghost use Rattle.dd_known.specs.Sound.{IsSound};
 ghost use Rattle.dd_faults.specs.Order.{Accepts, Refuses};
 ghost use Rattle.dd_meanings.specs.Sound.{IsSoundMeaning};
-ghost use Rattle.dd_script.specs.{Kept.IsScriptOf, Walk.start, Walk.asked_fault};
+ghost use Rattle.dd_pairs.specs.Made.{ArePairs};
+ghost use Rattle.dd_script.specs.{Kept.IsScriptOf, Walk.start, Walk.asked_fault, Walk.parts_in, Walk.pairs_in};
 ghost use Rattle.dd_script.specs.Drafts.{parts_of, draft_of, with_meaning, fault_at, Means};
 
 use crate::known::{allow_all, numbers_below, start};
-use crate::questions::{limit_of, question_of};
+use crate::questions::question_of;
 use crate::script::{Contents, Made, Script};
 use dd_commands::Written;
 use dd_faults::{Fault, Refusal, check};
 use dd_known::{Context, TOO_MANY};
 use dd_meanings::{Meaning, add_new, mean};
+use dd_pairs::{Pair, limit_of, pairs_of};
 use dd_topology::Names;
 use dd_values::{Boxed, Items};
 use dd_written::{Name, Text, Word, name_text};
@@ -58,43 +60,58 @@ impl Draft {
                 automata: Items::new(alloc),
                 configurations: Items::new(alloc),
                 queries: Items::new(alloc),
+                pairs: Items::new(alloc),
             },
         })
     }
 
-    /// Refuses a query that asks for too much work.
-    fn weigh(&self, alloc: Global, meaning: &Meaning) -> Result<(), Refusal>
+    /// The pairs that a query asks about; or it is refused for them, or since it asks for too much work.
+    fn weigh(&self, alloc: Global, meaning: &Meaning) -> Result<Items<Pair>, Refusal>
         requires script { IsScriptOf (parts_of self.now) }
         requires sound { IsSoundMeaning self.now.context meaning.now }
-        ensures { Accepts result (asked_fault (parts_of self.now) meaning.now) }
+        ensures accepts { Accepts result (asked_fault (parts_of self.now) meaning.now) }
+        ensures pairs { IfOk result (ArePairs self.now.context.known (parts_in (parts_of self.now) meaning.now)) }
     {
         let Meaning::Query(query) = meaning else {
-            return Ok(());
+            return Ok(Items::new(alloc));
         };
         let known = &self.context.known;
-        match question_of(known, &self.made, query).excess(alloc, &known.limits)? {
+        let made = &self.made;
+        let pairs = pairs_of(alloc, known, made.rules.as_slice(), made.automata.as_slice(), query)?;
+        let question = question_of(known, made, query, pairs.as_slice());
+        match question.excess(alloc, &known.limits)? {
             Some(excess) => Err(Refusal::At(Fault::Size(limit_of(excess)))),
-            None => Ok(()),
+            None => Ok(pairs),
         }
     }
 
-    /// What the next command means; or it is refused for its first fault.
-    pub(crate) fn meaning_of(&self, alloc: Global, written: &Written) -> Result<Meaning, Refusal>
+    /// What the next command means, with the pairs that it asks about; or it is refused for its first fault.
+    pub(crate) fn meaning_of(
+        &self,
+        alloc: Global,
+        written: &Written,
+    ) -> Result<(Meaning, Items<Pair>), Refusal>
         requires written { IsWritten self.now.context.text written.now }
         requires script { IsScriptOf (parts_of self.now) }
-        ensures { MatchResult result (Means self.now written.now) (λ refusal. Refuses refusal (fault_at self.now written.now)) }
+        ensures { MatchResult result (λ meant. Means self.now written.now meant.0 × (meant.1 ≡ pairs_in (parts_of self.now) meant.0)) (λ refusal. Refuses refusal (fault_at self.now written.now)) }
     {
         check(alloc, &self.context, written)?;
         let meaning = mean(alloc, &self.context, self.made.automata.as_slice(), written)?;
-        self.weigh(alloc, &meaning)?;
-        Ok(meaning)
+        let pairs = self.weigh(alloc, &meaning)?;
+        Ok((meaning, pairs))
     }
 
-    /// Goes behind the next command, which means this.
-    pub(crate) fn add(&mut self, alloc: Global, meaning: Meaning) -> Result<(), AllocError>
+    /// Goes behind the next command, which means this and asks about these pairs.
+    pub(crate) fn add(
+        &mut self,
+        alloc: Global,
+        meaning: Meaning,
+        pairs: Items<Pair>,
+    ) -> Result<(), AllocError>
         requires counted { self.old.context.number ≤ most_commands }
         requires sound { IsSound self.old.context.known }
         requires meaning { IsSoundMeaning self.old.context meaning }
+        requires pairs { pairs ≡ pairs_in (parts_of self.old) meaning }
         ensures { OnOk result (self.new ≡ with_meaning self.old meaning) }
     {
         self.context.number += 1;
@@ -149,7 +166,10 @@ impl Draft {
                 made.configurations.push(configuration)?;
                 add_name(alloc, text, &mut known.configurations, name)
             }
-            Meaning::Query(query) => made.queries.push(query),
+            Meaning::Query(query) => {
+                made.pairs.push(pairs)?;
+                made.queries.push(query)
+            }
         }
     }
 

@@ -60,8 +60,8 @@ fn walk(alloc: Global, draft: &mut Draft, commands: &[Written]) -> Result<(), Sc
 {
     for written in commands {
         match draft.meaning_of(alloc, written) {
-            Ok(meaning) => {
-                draft.add(alloc, meaning)?;
+            Ok((meaning, pairs)) => {
+                draft.add(alloc, meaning, pairs)?;
                 // Read for what its type keeps.
                 let _symbols = draft.context.known.setting.sets.symbols();
             }

@@ -1,23 +1,29 @@
-//! What queries ask, and which limit that passes.
+//! What queries ask.
 ghost use Rattle.std.specs.Prelude.{◌≡◌, Some, length};
 ghost use Rattle.dd_query.specs.Queries.{IsQueryWithin};
 ghost use Rattle.dd_question.specs.Questions.{asked_of};
-ghost use Rattle.dd_script.specs.{Parts.parts, Questions.asked, Walk.limit_of};
+ghost use Rattle.dd_script.specs.{Parts.parts, Questions.asked, Questions.pairs_for};
 
 use crate::script::Made;
 use dd_boxes::Goal;
-use dd_faults::Limit;
 use dd_known::Known;
+use dd_pairs::{Pair, conjugacy};
 use dd_query::Query;
-use dd_question::{Excess, Question};
+use dd_question::Question;
 
-/// What a query asks: with the rules, automata and configurations themselves in place of their numbers, and with the weights where
-/// something is weighed.
-pub(crate) fn question_of<'a>(known: &'a Known, made: &'a Made, query: &'a Query) -> Question<'a>
+/// What a query asks: with the rules, automata, pairs and configurations themselves in place of their numbers, and with the weights
+/// where something is weighed.
+pub(crate) fn question_of<'a>(
+    known: &'a Known,
+    made: &'a Made,
+    query: &'a Query,
+    pairs: &'a [Pair],
+) -> Question<'a>
     requires rules { length made.now.rules ≡ length known.now.rules }
     requires automata { length made.now.automata ≡ length known.now.automata }
     requires configurations { length made.now.configurations ≡ length known.now.configurations }
     requires within { IsQueryWithin known.now query.now }
+    requires pairs { pairs.now ≡ pairs_for (parts known.now made.now) query.now }
     ensures { asked (parts known.now made.now) query.now ≡ Some (asked_of result) }
 {
     let rules = made.rules.as_slice();
@@ -47,7 +53,19 @@ pub(crate) fn question_of<'a>(known: &'a Known, made: &'a Made, query: &'a Query
             premise: &rules[*rule as usize],
             goal: Goal::Differ(&automata[*left as usize], &automata[*right as usize]),
         },
+        Query::Maps { from, .. } => {
+            let goal = pairs[0].difference();
+            let premise = &rules[*from as usize];
+            Question::Box { premise, goal }
+        }
+        Query::Conjugate { from, to, .. } => {
+            let conjugacy = conjugacy(&rules[*from as usize], &rules[*to as usize], pairs);
+            Question::Conjugacy { conjugacy }
+        }
         Query::Forbidden { rule } => Question::Listing {
+            rule: &rules[*rule as usize],
+        },
+        Query::Minimal { rule } => Question::Smallest {
             rule: &rules[*rule as usize],
         },
         Query::Density { rule, strip } => Question::Density {
@@ -67,16 +85,5 @@ pub(crate) fn question_of<'a>(known: &'a Known, made: &'a Made, query: &'a Query
             vectors: vectors.as_slice(),
             weights: known.weights.as_slice(),
         },
-    }
-}
-
-/// The limit of scripts that a question passes.
-pub(crate) fn limit_of(excess: Excess) -> Limit
-    ensures { result ≡ limit_of excess }
-{
-    match excess {
-        Excess::Clauses => Limit::Clauses,
-        Excess::Patterns => Limit::Patterns,
-        Excess::States => Limit::States,
     }
 }

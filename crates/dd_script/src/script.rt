@@ -2,6 +2,7 @@
 use crate::questions::question_of;
 use dd_formula::{Automaton, Rule};
 use dd_known::Known;
+use dd_pairs::{Pair, kept_for};
 use dd_pattern::Periodic;
 use dd_query::Query;
 use dd_question::{CheckedQuestion, sound_questions};
@@ -16,6 +17,8 @@ pub(crate) struct Made {
     pub(crate) automata: Items<Automaton>,
     pub(crate) configurations: Items<Periodic>,
     pub(crate) queries: Items<Query>,
+    /// For each query the pairs that it asks about.
+    pub(crate) pairs: Items<Items<Pair>>,
 }
 
 /// What a script holds.
@@ -162,7 +165,9 @@ impl Script {
     {
         self.sound_questions();
         let contents = self.contents.get();
-        let question = question_of(&contents.known, &contents.made, query);
+        let made = &contents.made;
+        let pairs = kept_for(made.queries.as_slice(), made.pairs.as_slice(), query);
+        let question = question_of(&contents.known, made, query, pairs);
         CheckedQuestion::known(question, *self.limits())
     }
 

@@ -1,5 +1,5 @@
 -- Certificates of conjugacies: the four questions, and that an output can hold what answers them.
-use Rattle.std.proofs.Common.{◌≡◌, ◌≢◌, ℕ, zero, suc, ◌-◌, ◌≤◌, ◌<◌, Bool, true, false, List, [], ◌∷◌, length, slice_get, Some, None, refl, ap, sym, subst, ◌∙◌, arith}
+use Rattle.std.proofs.Common.{◌≡◌, ◌≢◌, ℕ, zero, suc, ◌-◌, ◌≤◌, Bool, true, false, List, [], ◌∷◌, length, slice_get, Some, None, refl, ap, sym, subst, ◌∙◌, arith}
 use Rattle.std.specs.Prelude.{◌↔◌, slice_index_or}
 use Rattle.std.specs.List.{All}
 use Rattle.std.proofs.lemmas.Bool.{false≢true}
@@ -73,7 +73,10 @@ module _ (l : Limits) (c : ConjugacyOf) (limits : AreLimits l) (sound : EachPart
 
 -- ---- a YES of each
 
-four : {A : Type 0} (xs : List A) (d : A) → length xs ≡ 4 → xs ≡ slice_index_or xs 0 d ∷ slice_index_or xs 1 d ∷ slice_index_or xs 2 d ∷ slice_index_or xs 3 d ∷ []
+abbrev four_of : {A : Type 0} → List A → A → List A
+four_of xs d = slice_index_or xs 0 d ∷ slice_index_or xs 1 d ∷ slice_index_or xs 2 d ∷ slice_index_or xs 3 d ∷ []
+
+four : {A : Type 0} (xs : List A) (d : A) → length xs ≡ 4 → xs ≡ four_of xs d
 four [] d h = absurd (omega (arith, h))
 four (a ∷ []) d h = absurd (omega (arith, h))
 four (a ∷ b ∷ []) d h = absurd (omega (arith, h))
@@ -103,15 +106,11 @@ pub record AreYes (l : Limits) (c : ConjugacyOf) (radii : List ℕ) (steps : Lis
 pub each_of : {l : Limits} {c : ConjugacyOf} {radii : List ℕ} {steps : List (List Step)} → IsConjugacyCertificate l c (answer.Conjugate radii steps) → AreYes l c radii steps
 each_of (conjugate one two three last) = record { radii_four = refl; steps_four = refl; image = one; image_back = two; round = three; round_back = last }
 
-pub conjugate_at : {l : Limits} {c : ConjugacyOf} {radii : List ℕ} {steps : List (List Step)} → AreYes l c radii steps → IsConjugacyCertificate l c (answer.Conjugate radii steps)
-conjugate_at {l = l} {c = c} {radii = radii} {steps = steps} told =
-    let one : IsConjugacyCertificate l c (answer.Conjugate
-        (slice_index_or radii 0 0 ∷ slice_index_or radii 1 0 ∷ slice_index_or radii 2 0 ∷ slice_index_or radii 3 0 ∷ [])
-        (slice_index_or steps 0 [] ∷ slice_index_or steps 1 [] ∷ slice_index_or steps 2 [] ∷ slice_index_or steps 3 [] ∷ [])) =
-        conjugate told.image told.image_back told.round told.round_back in
-    subst (λ ns. IsConjugacyCertificate l c (answer.Conjugate ns steps)) (sym (four radii 0 told.radii_four))
-    (subst (λ ss. IsConjugacyCertificate l c (answer.Conjugate
-        (slice_index_or radii 0 0 ∷ slice_index_or radii 1 0 ∷ slice_index_or radii 2 0 ∷ slice_index_or radii 3 0 ∷ []) ss)) (sym (four steps [] told.steps_four)) one)
+pub conjugate_of : {l : Limits} {c : ConjugacyOf} {radii : List ℕ} {steps : List (List Step)} → AreYes l c radii steps → IsConjugacyCertificate l c (answer.Conjugate radii steps)
+conjugate_of {l = l} {c = c} {radii = radii} {steps = steps} told =
+    let one : IsConjugacyCertificate l c (answer.Conjugate (four_of radii 0) (four_of steps [])) = conjugate told.image told.image_back told.round told.round_back in
+    subst (λ (ns : List ℕ). IsConjugacyCertificate l c (answer.Conjugate ns steps)) (sym (four radii 0 told.radii_four))
+    (subst (λ (ss : List (List Step)). IsConjugacyCertificate l c (answer.Conjugate (four_of radii 0) ss)) (sym (four steps [] told.steps_four)) one)
 
 module _ (l : Limits) (c : ConjugacyOf) (limits : AreLimits l) (sound : EachPart (IsSoundBox l) c) (radii : List ℕ) (steps : List (List Step)) where
   radius_fits : (k : ℕ) (x : LocalRule) (g : GoalOf) → IsSoundBox l x g → IsYesAt l radii steps k x g → IsWritableNumber (slice_index_or radii k 0)
@@ -133,7 +132,7 @@ module _ (l : Limits) (c : ConjugacyOf) (limits : AreLimits l) (sound : EachPart
       (b ≡ true) ↔ (IsWritable (answer.Conjugate radii steps) × IsConjugacyCertificate l c (answer.Conjugate radii steps))
   each_decides many as_many one fit_one two fit_two three fit_three b last fit_last = (
     λ h. (let told : AreYes l c radii steps = record { radii_four = many; steps_four = as_many; image = one; image_back = two; round = three; round_back = last.0 h } in
-        (conjugate_fits told fit_one fit_two fit_three (fit_last h), conjugate_at told)),
+        (conjugate_fits told fit_one fit_two fit_three (fit_last h), conjugate_of told)),
     λ both. last.1 (each_of both.1).round_back,
   )
 

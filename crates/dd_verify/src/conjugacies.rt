@@ -1,5 +1,5 @@
 //! Answers to whether two maps are inverse to each other: four box questions.
-ghost use Rattle.std.specs.Prelude.{ℕ, List, [], ◌≡◌, ◌<◌, ◌↔◌, length, slice_index_or, IsTrue, IfOk};
+ghost use Rattle.std.specs.Prelude.{[], ◌<◌, ◌↔◌, length, slice_index_or, IsTrue, IfOk};
 ghost use Rattle.dd_boxes.specs.Views.{goal_of};
 ghost use Rattle.dd_certificate.specs.declared.answer.Answer.TheVariants as answer;
 ghost use Rattle.dd_certificate.specs.Bounds.{IsWritable, IsWritableRefutation};

@@ -42,11 +42,7 @@ fn is_minimal(alloc: Global, rule: &Rule, patterns: &[Starred]) -> Result<bool, 
 
 /// Whether an answer is the list of the minimal patterns that a rule forbids, one that an output can hold.
 #[tactic(auto, using(dd_evidence::specs::Answers::all_minimal))]
-pub(crate) fn check_minimal(
-    alloc: Global,
-    rule: &Rule,
-    answer: &Answer,
-) -> Result<bool, AllocError>
+pub(crate) fn check_minimal(alloc: Global, rule: &Rule, answer: &Answer) -> Result<bool, AllocError>
     requires { HasFewPatterns rule.now }
     ensures { IfOk result (λ accepted. IsTrue accepted ↔ (IsWritable answer.now × IsMinimalCertificate rule.now answer.now)) }
 {

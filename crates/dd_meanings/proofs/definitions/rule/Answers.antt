@@ -9,9 +9,10 @@ new-requires-clause-formula c = rw c.in_ok-meant.ensures (is_formula c.args.cont
 pub returns-in-Ok : goal.returns-in-Ok
 returns-in-Ok c =
     let x = c.args.context.now in
-    let ok = rw c.in_ok-meant.ensures at c.in-Ok.ensures in (
+    let ok = rw c.in_ok-meant.ensures at c.in-Ok.ensures in
+    let formula = is_formula x c.args.formula.now c.requires.sound (grind (arith, parts)) c.requires.shallow in (
       (rule_passes (rule_of x c.args.formula.now) ok.rule, ap (Meaning.Rule c.args.name) ok.ok),
-      (is_new x c.args.name (grind (arith, parts)), record { rule = ok.rule; dimension = refl; nodes = refl; symbols = c.requires.sound.setting.alphabet; edges = refl; allowed = refl }),
+      (is_new x c.args.name (grind (arith, parts)), record { rule = ok.rule; dimension = refl; nodes = refl; symbols = c.requires.sound.setting.alphabet; edges = refl; allowed = refl; formula = formula }),
     )
 
 pub returns-in-Err : goal.returns-in-Err

@@ -11,7 +11,7 @@ meaning_of-requires-clause-written c = written_here _ _ _ _ _ c.loop-written-tes
 
 pub loop-written-preserved : goal.loop-written-preserved
 loop-written-preserved c =
-    goes_on _ _ _ _ _ c.loop-written-test.true c.written-item.is c.loop-written.invariant _ c.in-Ok.ensures _ c.in_ok-add-in-Ok.ensures c.symbols-symbols.ensures.kept
+    goes_on _ _ _ _ _ c.loop-written-test.true c.written-item.is c.loop-written.invariant _ c.in-Ok.ensures.0 _ c.in_ok-add-in-Ok.ensures c.symbols-symbols.ensures.kept
 
 pub told-requires : goal.told-requires
 told-requires c =

@@ -16,13 +16,14 @@ mean-requires-clause-faultless c = none_first (written_faults c.args.self.now.co
 pub weigh-requires-clause-sound : goal.weigh-requires-clause-sound
 weigh-requires-clause-sound c = rw c.in_ok-meaning.ensures.exact.1 c.in_ok-meaning.ensures.sound
 
-pub returns-in_err-weigh : goal.returns-in_err-weigh
-returns-in_err-weigh c =
+pub returns-in_err-pairs : goal.returns-in_err-pairs
+returns-in_err-pairs c =
     let exact = rw c.as_slice.ensures at c.in_ok-meaning.ensures.exact in
-    let p = err_from_is_err_and c.from_residual-in_err-weigh.result c.from_residual-in_err-weigh.ensures.1 in
-    rw (p.1, p.2, asked_is c.args.self.now c.args.written.now c.in_ok-meaning.meaning c.in_ok-check.ensures exact.0 exact.1) c.in_err-weigh.ensures
+    let p = err_from_is_err_and c.from_residual-in_err-pairs.result c.from_residual-in_err-pairs.ensures.1 in
+    rw (p.1, p.2, asked_is c.args.self.now c.args.written.now c.in_ok-meaning.meaning c.in_ok-check.ensures exact.0 exact.1) c.in_err-pairs.ensures.accepts
 
 pub returns : goal.returns
 returns c =
     let exact = rw c.as_slice.ensures at c.in_ok-meaning.ensures.exact in
-    means _ _ _ c.in_ok-check.ensures exact.0 exact.1 (rw c.as_slice.ensures at c.in_ok-meaning.ensures.sound) c.in_ok-weigh.ensures
+    let pairs = c.in_ok-pairs.ensures.pairs in
+    (means _ _ _ c.in_ok-check.ensures exact.0 exact.1 (rw c.as_slice.ensures at c.in_ok-meaning.ensures.sound) c.in_ok-pairs.ensures.accepts (rw pairs.are at pairs), pairs.are)

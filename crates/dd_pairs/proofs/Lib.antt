@@ -1,0 +1,4 @@
+pub mod Refusing
+pub mod Testing
+pub mod Making
+pub mod Keeping

@@ -1,0 +1,54 @@
+-- Parts of a script's rules and automata: what dd_maps asks of these holds, and the goal of each is one for its premise.
+use Rattle.std.proofs.Common.{◌≡◌, ℕ, List, Bool, refl, sym, ap, subst, ◌∙◌}
+use Rattle.dd_topology.specs.declared.edge.Edge.{Edge}
+use Rattle.dd_boxes.specs.{Goals.IsGoalFor, Views.numbers_of}
+use Rattle.dd_known.specs.Sound.{IsSetting}
+use Rattle.dd_known.specs.declared.known.Setting.{Setting}
+use Rattle.dd_formula.specs.LocalRule.{LocalRule, IsRule}
+use Rattle.dd_formula.specs.Automata.{CommonNumbers, IsAutomaton}
+use Rattle.dd_formula.specs.ByCases.{numbers_over}
+use Rattle.dd_formula.specs.declared.automaton.Automaton.{Automaton}
+use Rattle.dd_maps.specs.Pairs.{IsRuleOver}
+use Rattle.dd_meanings.specs.Made.{IsRuleOf, IsAutomatonOf}
+use Rattle.dd_question.specs.Questions.{box, IsFormed}
+use Rattle.dd_pairs.specs.declared.pair.Pair.{Pair}
+use Rattle.dd_pairs.specs.Parts.{PartOf, image, change, premise, pair_of, goal_of, IsPartOf, IsPair, difference}
+
+-- a rule with these parts
+with_parts : (r : LocalRule) (d n k : ℕ) (allowed : List (List Bool)) (es : List Edge) → r.dimension ≡ d → r.nodes ≡ n → r.symbols ≡ k → r.allowed ≡ allowed → r.edges ≡ es
+    → r ≡ record { dimension = d; nodes = n; symbols = k; allowed = allowed; edges = es; formula = r.formula }
+with_parts r d n k allowed es hd hn hk ha he = rw (← hd, ← hn, ← hk, ← ha, ← he) refl
+
+module _ (s : Setting) (sound : IsSetting s) where
+  pub rule_over : (r : LocalRule) → IsRuleOf s r → IsRuleOver s.topology s.sets r
+  rule_over r of = record {
+    same = with_parts r _ _ _ _ _ of.dimension of.nodes (of.symbols ∙ sym sound.alphabet) of.allowed of.edges;
+    formula = of.formula;
+  }
+
+  pub automaton_over : (f : Automaton) → IsAutomatonOf s f → IsAutomaton (numbers_over s.topology s.sets) f
+  automaton_over f of =
+      subst (λ (n : ℕ). IsAutomaton (record { dimension = s.topology.dimension; nodes = s.topology.nodes; symbols = n }) f) (sym sound.alphabet) of.automaton
+
+  same_numbers : (r : LocalRule) → IsRuleOf s r → numbers_over s.topology s.sets ≡ numbers_of r
+  same_numbers r of = rw (of.dimension, of.nodes, of.symbols, sound.alphabet) refl
+
+  pub is_rule : (p : PartOf) → IsPartOf s p → IsRuleOf s (premise p)
+  is_rule (image x f y) of = of.0
+  is_rule (change x f g) of = of.0
+
+  -- two automata over the script's numbers are a goal for the premise
+  pub is_goal : (p : PartOf) (q : Pair) → IsPartOf s p → IsPair s q → IsGoalFor (premise p) (difference (premise p) q)
+  is_goal p q of pair =
+      let same = same_numbers (premise p) (is_rule p of) in
+      record {
+        dimension = refl;
+        nodes = refl;
+        symbols = refl;
+        left = subst (λ n. IsAutomaton n q.left) same pair.left;
+        right = subst (λ n. IsAutomaton n q.right) same pair.right;
+      }
+
+  -- its question goes together
+  pub part_fits : (p : PartOf) → IsPartOf s p → IsPair s (pair_of s p) → IsFormed (box (premise p) (goal_of s p))
+  part_fits p of pair = ((is_rule p of).rule, is_goal p (pair_of s p) of pair, tt)

@@ -1,0 +1,57 @@
+//! Pairs, and the questions about them.
+ghost use Rattle.std.specs.Prelude.{◌≡◌, length};
+ghost use Rattle.dd_pairs.specs.{Goals.IsConjugacyBy, Faults.limit_of};
+
+use dd_boxes::Goal;
+use dd_faults::Limit;
+use dd_formula::{Automaton, Rule};
+use dd_question::{Conjugacy, Excess};
+
+/// Two automata. It is asked whether they differ somewhere.
+#[derive(Debug, Drop)]
+pub struct Pair {
+    pub left: Automaton,
+    pub right: Automaton,
+}
+
+impl Pair {
+    ghost use Rattle.std.specs.Prelude.{◌≡◌};
+    ghost use Rattle.dd_pairs.specs.Goals.{IsDifferenceOf};
+
+    /// The goal that the two give a cell different symbols.
+    pub fn difference(&self) -> Goal<'_>
+        ensures { IsDifferenceOf self.now result }
+    {
+        Goal::Differ(&self.left, &self.right)
+    }
+}
+
+/// The conjugacy between two rules that is asked about by its four pairs, in the order of its questions.
+pub fn conjugacy<'a>(from: &'a Rule, to: &'a Rule, pairs: &'a [Pair]) -> Conjugacy<'a>
+    requires { length pairs.now ≡ 4 }
+    ensures { IsConjugacyBy from.now to.now pairs.now result }
+{
+    let image = pairs[0].difference();
+    let image_back = pairs[1].difference();
+    let round = pairs[2].difference();
+    let round_back = pairs[3].difference();
+    Conjugacy {
+        from,
+        to,
+        image,
+        image_back,
+        round,
+        round_back,
+    }
+}
+
+/// The limit of scripts that a question passes.
+pub fn limit_of(excess: Excess) -> Limit
+    ensures { result ≡ limit_of excess }
+{
+    match excess {
+        Excess::Clauses => Limit::Clauses,
+        Excess::Patterns => Limit::Patterns,
+        Excess::States => Limit::States,
+    }
+}
