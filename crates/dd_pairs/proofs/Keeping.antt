@@ -1,6 +1,5 @@
 -- The pairs that are kept for a query.
-use Rattle.std.proofs.Common.{◌≡◌, ◌<◌, ◌≤◌, ℕ, ◌+◌, List, [], ◌∷◌, length, map, get_or, refl, sym, ap, ◌∙◌, arith}
-use Rattle.std.specs.List.{Contains}
+use Rattle.std.proofs.Common.{◌≡◌, ◌<◌, ◌≤◌, ℕ, ◌+◌, List, [], length, map, get_or, sym, ap, arith}
 use Rattle.std.proofs.lemmas.{Grind.common_steps}
 use Rattle.dd_formula.specs.LocalRule.{LocalRule}
 use Rattle.dd_formula.specs.declared.automaton.Automaton.{Automaton}

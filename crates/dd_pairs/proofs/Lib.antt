@@ -1,4 +1,4 @@
-pub mod Refusing
+pub mod Pairing
 pub mod Testing
 pub mod Making
 pub mod Keeping

@@ -1,7 +1,6 @@
 -- The pairs of parts, one after the other, and the first fault.
-use Rattle.std.proofs.Common.{◌≡◌, ◌<◌, ◌≤◌, ℕ, ◌+◌, List, [], ◌∷◌, ◌++◌, length, map, take, drop, get_or, Option, Some, None, refl, sym, ap, subst, ◌∙◌, arith}
-use Rattle.std.specs.List.{All, flat_map}
-use Rattle.std.proofs.lemmas.{Grind.common_steps, List.Elements.All-nil, List.Elements.All-push, List.drop_more, List.take_more, List.Concat.flat_map-append}
+use Rattle.std.proofs.Common.{◌≡◌, ◌<◌, ℕ, ◌+◌, List, [], ◌∷◌, ◌++◌, length, map, take, drop, get_or, Some, refl, sym, ap, subst, ◌∙◌, arith}
+use Rattle.std.proofs.lemmas.{Grind.common_steps, List.Elements.All-nil, List.Elements.All-push, List.drop_more, List.take-append-drop, List.map-append, Grind.flat_map-append}
 use Rattle.dd_known.specs.declared.known.Known.{Known}
 use Rattle.dd_faults.specs.{declared.fault.Fault.Fault, declared.fault.Refusal.Refusal, Order.Refuses}
 use Rattle.dd_pairs.specs.declared.pair.Pair.{Pair}
@@ -39,8 +38,11 @@ module _ (k : Known) where
     taken : map part_of (take (i + 1) parts) ≡ map part_of (take i parts) ++ part_of part ∷ []
     taken = grind (arith, common_steps)
 
+    split : parts ≡ take i parts ++ part ∷ drop (i + 1) parts
+    split = sym (take-append-drop i parts) ∙ ap (λ rest. take i parts ++ rest) (rw is (drop_more parts i part below))
+
     whole : map part_of parts ≡ map part_of (take i parts) ++ part_of part ∷ map part_of (drop (i + 1) parts)
-    whole = grind (arith, common_steps)
+    whole = ap (map part_of) split ∙ map-append part_of (take i parts) (part ∷ drop (i + 1) parts)
 
     pub goes_on : (old new : List Pair) (pair : Pair) → ArePairs k (map part_of (take i parts)) old → IsMade k.setting (part_of part) (part_faults k (part_of part)) pair → new ≡ old ++ pair ∷ []
         → ArePairs k (map part_of (take (i + 1) parts)) new

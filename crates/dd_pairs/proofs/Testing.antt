@@ -1,25 +1,23 @@
 -- The question about a pair: it goes together, and passes the limit on clauses or doesn't.
-use Rattle.std.proofs.Common.{◌≡◌, Bool, true, false, List, [], Option, Some, None, refl, sym, ap, subst, ◌∙◌, arith}
-use Rattle.std.proofs.lemmas.{Grind.common_steps}
-use Rattle.dd_boxes.specs.{Goals.GoalOf, declared.goals.Goal.Goal, Views.goal_of as goal_said}
+use Rattle.std.proofs.Common.{◌≡◌, Bool, true, false, [], Some, None, refl, ap, ◌∙◌, arith}
 use Rattle.dd_known.specs.Sound.{IsSetting}
 use Rattle.dd_known.specs.declared.known.Setting.{Setting}
 use Rattle.dd_known.specs.declared.known.Known.{Known}
 use Rattle.dd_formula.specs.LocalRule.{LocalRule}
 use Rattle.dd_faults.specs.{declared.fault.Limit.Limit, declared.fault.Fault.Fault, declared.fault.Refusal.Refusal, Order.Refuses}
-use Rattle.dd_question.specs.{declared.excess.Excess.Excess, Questions.box, Questions.IsFormed, Questions.passed, Questions.excess_of}
+use Rattle.dd_question.specs.{declared.excess.Excess.Excess, Questions.Asked, Questions.box, Questions.IsFormed, Questions.passed, Questions.excess_of}
 use Rattle.dd_pairs.specs.declared.pair.Pair.{Pair}
 use Rattle.dd_pairs.specs.Parts.{PartOf, premise, goal_of, pair_of, IsPartOf, IsPair, difference}
-use Rattle.dd_pairs.specs.{Goals.IsDifferenceOf, Faults.limit_of, Faults.pair_faults, Faults.part_faults, Faults.earliest}
+use Rattle.dd_pairs.specs.{Faults.limit_of, Faults.pair_faults, Faults.part_faults, Faults.earliest}
 use Rattle.dd_pairs.specs.lemmas.PartLaws.{part_fits}
 
--- the goal that is asked about is the part's
-module _ (s : Setting) (p : PartOf) (pair : Pair) (x : LocalRule) (g : Goal) (made : pair ≡ pair_of s p) (is : x ≡ premise p) (differ : IsDifferenceOf pair g) where
-  pub goal_is : goal_said x g ≡ goal_of s p
-  goal_is = differ x ∙ (ap (difference x) made ∙ ap (λ y. difference y (pair_of s p)) is)
+-- what is asked about the pair is the part's question
+module _ (s : Setting) (p : PartOf) (pair : Pair) (x : LocalRule) (a : Asked) (made : pair ≡ pair_of s p) (is : x ≡ premise p) (asks : a ≡ box x (difference x pair)) where
+  pub question_is : a ≡ box (premise p) (goal_of s p)
+  question_is = asks ∙ (ap (λ q. box x (difference x q)) made ∙ ap (λ y. box y (difference y (pair_of s p))) is)
 
-  pub question_formed : IsSetting s → IsPartOf s p → IsPair s (pair_of s p) → IsFormed (box x (goal_said x g))
-  question_formed sound of formed = rw (goal_is, is) (part_fits s sound p of formed)
+  pub question_formed : IsSetting s → IsPartOf s p → IsPair s (pair_of s p) → IsFormed a
+  question_formed sound of formed = rw question_is (part_fits s sound p of formed)
 
 long_passes : (b : Bool) (e : Excess) → passed b Excess.Clauses ≡ Some e → (b ≡ true) × (limit_of e ≡ Limit.Clauses)
 long_passes true e is = (refl, grind arith)

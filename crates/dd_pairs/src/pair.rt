@@ -5,7 +5,7 @@ ghost use Rattle.dd_pairs.specs.{Goals.IsConjugacyBy, Faults.limit_of};
 use dd_boxes::Goal;
 use dd_faults::Limit;
 use dd_formula::{Automaton, Rule};
-use dd_question::{Conjugacy, Excess};
+use dd_question::{Conjugacy, Excess, Question};
 
 /// Two automata. It is asked whether they differ somewhere.
 #[derive(Debug, Drop)]
@@ -16,13 +16,22 @@ pub struct Pair {
 
 impl Pair {
     ghost use Rattle.std.specs.Prelude.{◌≡◌};
-    ghost use Rattle.dd_pairs.specs.Goals.{IsDifferenceOf};
+    ghost use Rattle.dd_question.specs.Questions.{asked_of, box};
+    ghost use Rattle.dd_pairs.specs.{Parts.difference, Goals.IsDifferenceOf};
 
     /// The goal that the two give a cell different symbols.
-    pub fn difference(&self) -> Goal<'_>
+    fn difference(&self) -> Goal<'_>
         ensures { IsDifferenceOf self.now result }
     {
         Goal::Differ(&self.left, &self.right)
+    }
+
+    /// The question whether the two can differ where a rule is obeyed.
+    pub fn question<'a>(&'a self, premise: &'a Rule) -> Question<'a>
+        ensures { asked_of result ≡ box premise.now (difference premise.now self.now) }
+    {
+        let goal = self.difference();
+        Question::Box { premise, goal }
     }
 }
 

@@ -18,7 +18,6 @@ use dd_known::{Known, Setting};
 use dd_maps::{identity_pair, image_pair};
 use dd_meanings::refusal_of;
 use dd_query::Query;
-use dd_question::Question;
 use dd_values::Items;
 use std::alloc::Global;
 
@@ -27,7 +26,7 @@ fn pair(alloc: Global, setting: &Setting, part: Part) -> Result<Pair, Refusal>
     requires sound { IsSetting setting.now }
     requires two { 2 ≤ length setting.now.symbols }
     requires part { IsPartOf setting.now (part_of part) }
-    ensures { Makes setting.now (part_of part) (pair_faults setting.now (part_of part)) result }
+    ensures { Makes setting.now (part_of part.entry) (pair_faults setting.now (part_of part.entry)) result }
 {
     let topology = &setting.topology;
     let sets = &setting.sets;
@@ -50,12 +49,10 @@ fn tested(alloc: Global, known: &Known, part: Part) -> Result<Pair, Refusal>
     requires sound { IsSound known.now }
     requires two { 2 ≤ length known.now.setting.symbols }
     requires part { IsPartOf known.now.setting (part_of part) }
-    ensures { Makes known.now.setting (part_of part) (part_faults known.now (part_of part)) result }
+    ensures { Makes known.now.setting (part_of part.entry) (part_faults known.now (part_of part.entry)) result }
 {
     let pair = pair(alloc, &known.setting, part)?;
-    let premise = part.premise();
-    let goal = pair.difference();
-    let question = Question::Box { premise, goal };
+    let question = pair.question(part.premise());
     match question.excess(alloc, &known.limits)? {
         Some(excess) => Err(Refusal::At(Fault::Size(limit_of(excess)))),
         None => Ok(pair),
@@ -155,9 +152,7 @@ fn is_same(left: &Query, right: &Query) -> bool
                 from: other_from,
                 to: other_to,
             },
-        ) => {
-            there == other_there && back == other_back && from == other_from && to == other_to
-        }
+        ) => { there == other_there && back == other_back && from == other_from && to == other_to }
         _ => false,
     }
 }

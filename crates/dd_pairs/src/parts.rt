@@ -32,11 +32,7 @@ impl<'a> Part<'a> {
         }
     }
 
-    pub(crate) fn change(
-        premise: &'a Rule,
-        outer: &'a Automaton,
-        inner: &'a Automaton,
-    ) -> Part<'a>
+    pub(crate) fn change(premise: &'a Rule, outer: &'a Automaton, inner: &'a Automaton) -> Part<'a>
         ensures { part_of result ≡ change premise.now outer.now inner.now }
     {
         Part::Change {
@@ -47,7 +43,7 @@ impl<'a> Part<'a> {
     }
 
     pub(crate) fn premise(self) -> &'a Rule
-        ensures { result.now ≡ premise (part_of self) }
+        ensures { result.now ≡ premise (part_of self.entry) }
     {
         match self {
             Part::Image { premise, .. } | Part::Change { premise, .. } => premise,

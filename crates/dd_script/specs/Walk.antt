@@ -8,7 +8,8 @@ pub use Rattle.dd_commands.specs.{declared.script.Written.Written, Scripts.stage
 use Rattle.dd_commands.specs.Heads.{stage}
 pub use Rattle.dd_faults.specs.{declared.fault.Limit.Limit, declared.fault.Fault.Fault, Order.first_fault, Commands.written_faults}
 pub use Rattle.dd_meanings.specs.{declared.meaning.Meaning.Meaning, Meanings.meaning as meaning_of, Meanings.counted_sizes}
-use Rattle.dd_pairs.specs.{Parts.PartOf, Faults.parts_faults, Faults.earliest, Faults.limit_of}
+pub use Rattle.dd_pairs.specs.Faults.{limit_of}
+use Rattle.dd_pairs.specs.{Parts.PartOf, Faults.parts_faults, Faults.earliest}
 use Rattle.dd_script.specs.{Questions.query_excess, Questions.parts_for, Questions.pairs_for, Parts.Parts, Parts.Known, Parts.Query, Parts.Pair}
 
 -- ---- where a script has said nothing

@@ -77,7 +77,13 @@ impl Draft {
         };
         let known = &self.context.known;
         let made = &self.made;
-        let pairs = pairs_of(alloc, known, made.rules.as_slice(), made.automata.as_slice(), query)?;
+        let pairs = pairs_of(
+            alloc,
+            known,
+            made.rules.as_slice(),
+            made.automata.as_slice(),
+            query,
+        )?;
         let question = question_of(known, made, query, pairs.as_slice());
         match question.excess(alloc, &known.limits)? {
             Some(excess) => Err(Refusal::At(Fault::Size(limit_of(excess)))),

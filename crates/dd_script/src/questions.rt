@@ -53,11 +53,7 @@ pub(crate) fn question_of<'a>(
             premise: &rules[*rule as usize],
             goal: Goal::Differ(&automata[*left as usize], &automata[*right as usize]),
         },
-        Query::Maps { from, .. } => {
-            let goal = pairs[0].difference();
-            let premise = &rules[*from as usize];
-            Question::Box { premise, goal }
-        }
+        Query::Maps { from, .. } => pairs[0].question(&rules[*from as usize]),
         Query::Conjugate { from, to, .. } => {
             let conjugacy = conjugacy(&rules[*from as usize], &rules[*to as usize], pairs);
             Question::Conjugacy { conjugacy }

@@ -1,11 +1,11 @@
 -- Parts of a script's rules and automata: what dd_maps asks of these holds, and the goal of each is one for its premise.
-use Rattle.std.proofs.Common.{◌≡◌, ℕ, List, Bool, refl, sym, ap, subst, ◌∙◌}
+use Rattle.std.proofs.Common.{◌≡◌, ℕ, List, Bool, refl, sym, subst, ◌∙◌}
 use Rattle.dd_topology.specs.declared.edge.Edge.{Edge}
 use Rattle.dd_boxes.specs.{Goals.IsGoalFor, Views.numbers_of}
 use Rattle.dd_known.specs.Sound.{IsSetting}
 use Rattle.dd_known.specs.declared.known.Setting.{Setting}
-use Rattle.dd_formula.specs.LocalRule.{LocalRule, IsRule}
-use Rattle.dd_formula.specs.Automata.{CommonNumbers, IsAutomaton}
+use Rattle.dd_formula.specs.LocalRule.{LocalRule}
+use Rattle.dd_formula.specs.Automata.{IsAutomaton}
 use Rattle.dd_formula.specs.ByCases.{numbers_over}
 use Rattle.dd_formula.specs.declared.automaton.Automaton.{Automaton}
 use Rattle.dd_maps.specs.Pairs.{IsRuleOver}

@@ -1,5 +1,5 @@
 -- The parts of a script's queries are of the script's rules and automata.
-use Rattle.std.proofs.Common.{◌≡◌, ◌<◌, ℕ, List, [], ◌∷◌, length, map, Option, Some, None, IfSome, refl, arith}
+use Rattle.std.proofs.Common.{ℕ, List, [], ◌∷◌, map, Option, Some, None, IfSome, arith}
 use Rattle.std.specs.{List.All, List.slice_get, Prelude.unwrap_or}
 use Rattle.std.proofs.lemmas.{Grind.common_steps, Option.gets, List.Elements.All-nil, List.Elements.All-cons}
 use Rattle.dd_known.specs.declared.known.Setting.{Setting}
@@ -7,9 +7,8 @@ use Rattle.dd_known.specs.declared.known.Known.{Known}
 use Rattle.dd_formula.specs.LocalRule.{LocalRule}
 use Rattle.dd_formula.specs.declared.automaton.Automaton.{Automaton}
 use Rattle.dd_meanings.specs.Made.{AreNamed, IsRuleOf, IsAutomatonOf}
-use Rattle.dd_query.specs.Queries.{IsQueryWithin}
 use Rattle.dd_query.specs.declared.queries.Query.{Query}
-use Rattle.dd_pairs.specs.Parts.{PartOf, image, change, IsPartOf}
+use Rattle.dd_pairs.specs.Parts.{image, change, IsPartOf}
 use Rattle.dd_pairs.specs.Queries.{of_three, of_four, map_parts, conjugate_parts, parts_asked}
 
 -- an item of a list of such items
@@ -21,7 +20,7 @@ module _ (s : Setting) where
   map_is None p q of to map = All-nil (IsPartOf s)
   map_is (Some x) None q of to map = All-nil (IsPartOf s)
   map_is (Some x) (Some y) None of to map = All-nil (IsPartOf s)
-  map_is (Some x) (Some y) (Some f) of to map = All-cons (IsPartOf s) _ [] (of, map, to) (All-nil (IsPartOf s))
+  map_is (Some x) (Some y) (Some f) of to map = All-cons (IsPartOf s) (image x f y) [] (of, map, to) (All-nil (IsPartOf s))
 
   conjugate_is : (o p : Option LocalRule) (q r : Option Automaton) → IfSome o (IsRuleOf s) → IfSome p (IsRuleOf s) → IfSome q (IsAutomatonOf s) → IfSome r (IsAutomatonOf s)
       → All (IsPartOf s) (unwrap_or (of_four conjugate_parts o p q r) [])
@@ -30,10 +29,10 @@ module _ (s : Setting) where
   conjugate_is (Some x) (Some y) None r of to there back = All-nil (IsPartOf s)
   conjugate_is (Some x) (Some y) (Some f) None of to there back = All-nil (IsPartOf s)
   conjugate_is (Some x) (Some y) (Some f) (Some g) of to there back =
-      All-cons (IsPartOf s) _ _ (of, there, to)
-      (All-cons (IsPartOf s) _ _ (to, back, of)
-      (All-cons (IsPartOf s) _ _ (of, back, there)
-      (All-cons (IsPartOf s) _ [] (to, there, back) (All-nil (IsPartOf s)))))
+      All-cons (IsPartOf s) (image x f y) (image y g x ∷ change x g f ∷ change y f g ∷ []) (of, there, to)
+      (All-cons (IsPartOf s) (image y g x) (change x g f ∷ change y f g ∷ []) (to, back, of)
+      (All-cons (IsPartOf s) (change x g f) (change y f g ∷ []) (of, back, there)
+      (All-cons (IsPartOf s) (change y f g) [] (to, there, back) (All-nil (IsPartOf s)))))
 
 pub parts_are : (k : Known) (rs : List LocalRule) (fs : List Automaton) → AreNamed (IsRuleOf k.setting) k.rules rs → AreNamed (IsAutomatonOf k.setting) k.automata fs → (q : Query) → All (IsPartOf k.setting) (parts_asked rs fs q)
 parts_are k rs fs rules automata (Query.Maps f x y) = map_is k.setting _ _ _ (item_at rules x) (item_at rules y) (item_at automata f)

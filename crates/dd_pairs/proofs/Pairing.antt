@@ -1,0 +1,43 @@
+-- The pairs that are made of parts are theirs, within their limits.
+use Rattle.std.proofs.Common.{◌≡◌, [], refl, ap, subst, arith}
+use Rattle.std.proofs.lemmas.{Bool.le-ltb, Grind.common_steps}
+use Rattle.dd_known.specs.declared.known.Setting.{Setting}
+use Rattle.dd_formula.specs.LocalRule.{LocalRule}
+use Rattle.dd_formula.specs.Automata.{CommonNumbers, IsAutomaton, counted}
+use Rattle.dd_formula.specs.ByCases.{numbers_over}
+use Rattle.dd_formula.specs.declared.automaton.Automaton.{Automaton}
+use Rattle.dd_formula.specs.declared.automaton.Automaton.TheVariants.{Composed}
+use Rattle.dd_formula.specs.lemmas.AutomatonLaws.{within_is}
+use Rattle.dd_maps.specs.Pairs.{marked, always_zero, identity}
+use Rattle.dd_maps.specs.Refusals.{PassesGuard}
+use Rattle.dd_meanings.specs.Definitions.{count_faults}
+use Rattle.dd_pairs.specs.Parts.{PartOf, image, change, pair_of}
+use Rattle.dd_pairs.specs.Faults.{guard_faults, pair_faults}
+use Rattle.dd_pairs.specs.Made.{IsMade}
+
+counts_pass : (n : CommonNumbers) (f : Automaton) → IsAutomaton n f → count_faults n.nodes (counted f) ≡ []
+counts_pass n f h = let passes = within_is n.nodes f h.within in grind (arith, common_steps)
+
+abbrev AreSame : (left right first second : Automaton) → Type 0
+AreSame left right first second = ◌≡◌ {A = Automaton × Automaton} (left, right) (first, second)
+
+module _ (s : Setting) (left right : Automaton) where
+  abbrev numbers : CommonNumbers
+  numbers = numbers_over s.topology s.sets
+
+  made : (p : PartOf) → guard_faults s p ≡ [] → AreSame left right (pair_of s p).left (pair_of s p).right → IsAutomaton numbers left × IsAutomaton numbers right → IsMade s p (pair_faults s p) (record { left = left; right = right })
+  made p guarded is formed =
+      let whole : IsAutomaton numbers (pair_of s p).left = subst (IsAutomaton numbers) (ap (λ (q : Automaton × Automaton). q.0) is) formed.0 in
+      record {
+        is = ap (λ (q : Automaton × Automaton). record { left = q.0; right = q.1 }) is;
+        formed = record { left = whole; right = subst (IsAutomaton numbers) (ap (λ (q : Automaton × Automaton). q.1) is) formed.1 };
+        faultless = rw guarded (counts_pass numbers (pair_of s p).left whole);
+      }
+
+  pub image_made : (x : LocalRule) (f : Automaton) (y : LocalRule) → AreSame left right (Composed (marked s.topology s.sets y) f) (always_zero s.topology s.sets) → IsAutomaton numbers left × IsAutomaton numbers right → PassesGuard s.sets y
+      → IsMade s (image x f y) (pair_faults s (image x f y)) (record { left = left; right = right })
+  image_made x f y is formed guard = made (image x f y) (rw (le-ltb _ _ guard) refl) is formed
+
+  pub change_made : (x : LocalRule) (f g : Automaton) → AreSame left right (Composed f g) (identity s.topology s.sets) → IsAutomaton numbers left × IsAutomaton numbers right
+      → IsMade s (change x f g) (pair_faults s (change x f g)) (record { left = left; right = right })
+  change_made x f g is formed = made (change x f g) refl is formed
