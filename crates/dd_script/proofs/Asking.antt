@@ -1,7 +1,7 @@
 -- What the queries of a script ask: it goes together, as its rules, automata and configurations are the script's.
 use Rattle.std.proofs.Common.{◌≡◌, ◌<◌, ◌%◌, ℕ, List, [], get_or, ap, sym, subst, ◌∙◌, Some, None, Option, IfSome, arith}
 use Rattle.std.specs.{List.All, Prelude.unwrap_or, Option.option_and_then}
-use Rattle.std.proofs.lemmas.{List.Elements.All-contains, List.Elements.All-head, List.Elements.All-tail}
+use Rattle.std.proofs.lemmas.{List.Elements.All-contains}
 use Rattle.dd_values.specs.declared.limits.Limits.{Limits}
 use Rattle.dd_boxes.specs.{Goals.differ, Views.numbers_of}
 use Rattle.dd_topology.specs.Sets.{row_allows}
@@ -54,7 +54,7 @@ module _ (s : Parts) (ok : IsScriptOf s) where
   map_fits None p q of to map pairs = tt
   map_fits (Some x) None q of to map pairs = tt
   map_fits (Some x) (Some y) None of to map pairs = tt
-  map_fits (Some x) (Some y) (Some f) of to map pairs = (part_fits s.known.setting ok.known.setting (image x f y) (of, map, to) (All-head _ _ _ pairs), of)
+  map_fits (Some x) (Some y) (Some f) of to map pairs = (part_fits s.known.setting ok.known.setting (image x f y) (of, map, to) (pairs 0 (image x f y) (omega arith)), of)
 
   conjugate_fits : (o p : Option LocalRule) (q r : Option Automaton) → IfSome o (IsRuleOf s.known.setting) → IfSome p (IsRuleOf s.known.setting) → IfSome q (IsAutomatonOf s.known.setting) → IfSome r (IsAutomatonOf s.known.setting)
       → ArePaired (unwrap_or (of_four conjugate_parts o p q r) []) → IfSome (of_four (conjugacy_question s.known.setting) o p q r) FitsIn
@@ -63,15 +63,12 @@ module _ (s : Parts) (ok : IsScriptOf s) where
   conjugate_fits (Some x) (Some y) None r of to there back pairs = tt
   conjugate_fits (Some x) (Some y) (Some f) None of to there back pairs = tt
   conjugate_fits (Some x) (Some y) (Some f) (Some g) of to there back pairs =
-      let fits = part_fits s.known.setting ok.known.setting in
-      let second = All-tail _ _ _ pairs in
-      let third = All-tail _ _ _ second in
-      let fourth = All-tail _ _ _ third in (
+      let fits = part_fits s.known.setting ok.known.setting in (
         record {
-          image = fits (image x f y) (of, there, to) (All-head _ _ _ pairs);
-          image_back = fits (image y g x) (to, back, of) (All-head _ _ _ second);
-          round = fits (change x g f) (of, back, there) (All-head _ _ _ third);
-          round_back = fits (change y f g) (to, there, back) (All-head _ _ _ fourth);
+          image = fits (image x f y) (of, there, to) (pairs 0 (image x f y) (omega arith));
+          image_back = fits (image y g x) (to, back, of) (pairs 1 (image y g x) (omega arith));
+          round = fits (change x g f) (of, back, there) (pairs 2 (change x g f) (omega arith));
+          round_back = fits (change y f g) (to, there, back) (pairs 3 (change y f g) (omega arith));
         },
         (of, to),
       )

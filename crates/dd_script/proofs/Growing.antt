@@ -37,14 +37,15 @@ module _ (s : Parts) (is : IsScriptOf s) {R A C : List (List ℕ)} {rs : List Lo
   query_kept : (q : Query) → IsQueryOf s q → IsQueryOf grown q
   query_kept q of =
       let same = same_query q of.within in
+      let kept : ArePairs s.known (parts_for grown q) (pairs_for grown q) = subst (λ parts. ArePairs s.known parts (map (pair_of s.known.setting) parts)) (sym same.2) of.pairs in
       record {
         within = same.0;
-        pairs = subst (λ parts. ArePairs s.known parts (map (pair_of s.known.setting) parts)) (sym same.2) of.pairs;
+        pairs = record { are = kept.are; formed = kept.formed; faultless = kept.faultless };
         light = ap (option_and_then (excess_of s.known.limits)) same.1 ∙ of.light;
       }
 
   same_pairs : (old : List Query) → All (IsQueryOf s) old → map (pairs_for grown) old ≡ map (pairs_for s) old
-  same_pairs old of = map_alike (pairs_for grown) (pairs_for s) (λ q is. ap (map (pair_of s.known.setting)) (same_query q is.within).2) old of
+  same_pairs old of = map_alike {P = IsQueryOf s} (pairs_for grown) (pairs_for s) (λ q is. ap (map (pair_of s.known.setting)) (same_query q is.within).2) old of
 
   -- with more definitions, and with queries that could be asked before
   pub more : All (IsQueryOf s) qs → ps ≡ map (pairs_for s) qs → IsScriptOf grown

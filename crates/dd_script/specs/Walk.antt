@@ -1,5 +1,5 @@
 -- The commands of a script one after the other: what each leaves, and the first fault.
-use Rattle.std.specs.Prelude.{ℕ, ◌+◌, List, [], ◌∷◌, ◌++◌, length, Bool, false, ◌==◌, Option, Some, None, unwrap_or, codes}
+use Rattle.std.specs.Prelude.{ℕ, ◌+◌, List, [], ◌∷◌, ◌++◌, length, map, Bool, false, ◌==◌, Option, Some, None, unwrap_or, codes}
 use Rattle.std.specs.{List.list_any, List.range_with_len, Option.option_or, Option.option_map, Option.option_and_then}
 use Rattle.dd_topology.specs.{Builtin.square, Sets.SymbolSets, Sets.all_symbols, Sets.restricted}
 pub use Rattle.dd_written.specs.Values.{word_text}
@@ -9,7 +9,7 @@ use Rattle.dd_commands.specs.Heads.{stage}
 pub use Rattle.dd_faults.specs.{declared.fault.Limit.Limit, declared.fault.Fault.Fault, Order.first_fault, Commands.written_faults}
 pub use Rattle.dd_meanings.specs.{declared.meaning.Meaning.Meaning, Meanings.meaning as meaning_of, Meanings.counted_sizes}
 pub use Rattle.dd_pairs.specs.Faults.{limit_of}
-use Rattle.dd_pairs.specs.{Parts.PartOf, Faults.parts_faults, Faults.earliest}
+use Rattle.dd_pairs.specs.{Parts.PartOf, Parts.pair_of, Faults.parts_faults, Faults.earliest}
 use Rattle.dd_script.specs.{Questions.query_excess, Questions.parts_for, Questions.pairs_for, Parts.Parts, Parts.Known, Parts.Query, Parts.Pair}
 
 -- ---- where a script has said nothing
@@ -91,7 +91,7 @@ abbrev pub parts_in : Parts → Meaning → List PartOf
 parts_in s m = unwrap_or (option_map (parts_for s) (query_in m)) []
 
 abbrev pub pairs_in : Parts → Meaning → List Pair
-pairs_in s m = unwrap_or (option_map (pairs_for s) (query_in m)) []
+pairs_in s m = map (pair_of s.known.setting) (parts_in s m)
 
 abbrev pub meaning_at : List ℕ → Bool → ℕ → Parts → Written → Meaning
 meaning_at bytes topology n s w = meaning_of (context bytes topology n s) s.automata w.command

@@ -1,8 +1,18 @@
-use Rattle.std.proofs.Common.{◌≡◌, Some, ap, sym, subst, ◌∙◌}
+use Rattle.std.proofs.Common.{◌≡◌, Some, refl, ap, sym, subst, ◌∙◌}
+use Rattle.std.specs.List.{Contains}
 use Rattle.dd_question.specs.Questions.{Asked, asked_of, IsSoundAsked}
 use Rattle.dd_script.specs.Asking.{Asks}
 use Rattle.dd_script.specs.Questions.{asked}
+use Rattle.dd_script.specs.{Parts.Parts, Parts.parts, Kept.IsScriptOf}
 use Rattle.dd_script.proofs.script.Script.question.Goals as goal
+
+pub question_of-question-requires-clause-pairs : goal.question_of-question-requires-clause-pairs
+question_of-question-requires-clause-pairs c =
+    let s : Parts = parts c.get-contents.result.now.known c.get-contents.result.now.made in
+    let same : c.args.self.now ≡ s = rw (← c.self.view_is, ← c.get-contents.ensures) refl in
+    let kept : IsScriptOf s = rw c.get-contents.ensures c.self.invariant in
+    let there : Contains s.queries c.args.query.now = subst (λ (t : Parts). Contains t.queries c.args.query.now) same c.requires in
+    c.kept_for-pairs.ensures s.known.setting s.rules s.automata (rw (c.as_slice.ensures, c.as_slice-2.ensures) kept.pairs) (rw c.as_slice.ensures there)
 
 pub known-requires-clause-sound : goal.known-requires-clause-sound
 known-requires-clause-sound c =
