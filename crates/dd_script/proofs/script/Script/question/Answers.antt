@@ -1,7 +1,6 @@
-use Rattle.std.proofs.Common.{◌≡◌, Some, refl, ap, sym, subst, ◌∙◌}
+use Rattle.std.proofs.Common.{◌≡◌, Some, refl, subst}
 use Rattle.std.specs.List.{Contains}
-use Rattle.dd_question.specs.Questions.{Asked, asked_of, IsSoundAsked}
-use Rattle.dd_script.specs.Asking.{Asks}
+use Rattle.dd_question.specs.Questions.{asked_of}
 use Rattle.dd_script.specs.Questions.{asked}
 use Rattle.dd_script.specs.{Parts.Parts, Parts.parts, Kept.IsScriptOf}
 use Rattle.dd_script.proofs.script.Script.question.Goals as goal
