@@ -54,8 +54,8 @@ found h P (Some x) None q r k = absurd k
 found h P None p q r k = absurd k
 
 -- what is said of an item where there is one
-of_item : {X : Type 0} {P : X → Type 0} (o : Option X) (x : X) → IfSome o P → o ≡ Some x → P x
-of_item {P = P} o x told is = subst (λ p. IfSome p P) is told
+of_item : {X : Type 0} (P : X → Type 0) (o : Option X) (x : X) → IfSome o P → o ≡ Some x → P x
+of_item P o x told is = subst (λ p. IfSome p P) is told
 
 module _ (s : Parts) (kept : IsScriptOf s) (nodes : ℕ) (symbol_of : Cell → ℕ) (whole : IsWhole s nodes symbol_of) (v : Place)
     (flat : is_flat s.known.setting.topology.dimension v ≡ true) where
@@ -104,10 +104,10 @@ module _ (s : Parts) (kept : IsScriptOf s) (nodes : ℕ) (symbol_of : Cell → �
   for_query a told (Query.Conjugate there back from to) is claim =
       let k = found (conjugacy_question s.known.setting) (λ j. ClaimOf j a) (slice_get s.rules from) (slice_get s.rules to) (slice_get s.automata there)
       (slice_get s.automata back) claim in
-      let ofx = of_item (slice_get s.rules from) k.x (item_at kept.rules from) k.from in
-      let ofy = of_item (slice_get s.rules to) k.y (item_at kept.rules to) k.to in
-      let off = of_item (slice_get s.automata there) k.f (item_at kept.automata there) k.there in
-      let ofg = of_item (slice_get s.automata back) k.g (item_at kept.automata back) k.back in
+      let ofx = of_item (IsRuleOf s.known.setting) (slice_get s.rules from) k.x (item_at kept.rules from) k.from in
+      let ofy = of_item (IsRuleOf s.known.setting) (slice_get s.rules to) k.y (item_at kept.rules to) k.to in
+      let off = of_item (IsAutomatonOf s.known.setting) (slice_get s.automata there) k.f (item_at kept.automata there) k.there in
+      let ofg = of_item (IsAutomatonOf s.known.setting) (slice_get s.automata back) k.g (item_at kept.automata back) k.back in
       are_inverse k.from k.to k.there k.back (inverse k.x k.y k.f k.g ofx ofy off ofg a told k.says)
   for_query a told _ is claim = absurd (false≢true is)
 
