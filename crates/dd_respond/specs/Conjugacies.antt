@@ -26,11 +26,15 @@ pub record ComesTo (l : Limits) (c : ConjugacyOf) (k : ℕ) (d : Decision) : Typ
 abbrev pub IsNoAt : Limits → ConjugacyOf → ℕ → Type 0
 IsNoAt l c k = (t : Tile) × ComesTo l c k (decision.No t)
 
+-- NO of the question with this number, as it is answered
+abbrev pub written_broken : ℕ → Tile → Answer
+written_broken k t = answer.Broken k (written_periods t) t.periods.shear t.symbols
+
 -- BROKEN by the first of the four questions that comes to NO; else CONJUGATE, where all come to YES; else UNKNOWN, since one comes to
 -- neither. Of the questions after one that comes to NO nothing is said.
 pub data IsRightConjugacy (l : Limits) (c : ConjugacyOf) : Answer → Type 0 where
   first_no : {k : ℕ} {t : Tile} → IsLeast (IsNoAt l c) 1 4 k → ComesTo l c k (decision.No t) →
-      IsRightConjugacy l c (answer.Broken k (written_periods t) t.periods.shear t.symbols)
+      IsRightConjugacy l c (written_broken k t)
   all_yes : {n1 n2 n3 n4 : ℕ} {s1 s2 s3 s4 : List Step} → ComesTo l c 1 (decision.Yes n1 s1) → ComesTo l c 2 (decision.Yes n2 s2) →
       ComesTo l c 3 (decision.Yes n3 s3) → ComesTo l c 4 (decision.Yes n4 s4) →
       IsRightConjugacy l c (answer.Conjugate (n1 ∷ n2 ∷ n3 ∷ n4 ∷ []) (s1 ∷ s2 ∷ s3 ∷ s4 ∷ []))

@@ -4,6 +4,8 @@ pub mod Right
 pub mod Bounds
 -- which answers about conjugacies are right
 pub mod Conjugacies
+-- what the questions of a conjugacy come to, one after the other
+pub mod joining
 -- what all right answers to a question have in common
 pub mod Laws
 -- which decisions an output can hold

@@ -2,6 +2,7 @@
 #![tactic(auto)]
 
 mod boxes;
+mod conjugacies;
 mod densities;
 mod discharges;
 mod laws;

@@ -7,6 +7,7 @@ ghost use Rattle.dd_respond.specs.Asking.{IsBoxQuestion, Engages};
 ghost use Rattle.dd_respond.specs.Right.{IsRightTo};
 
 use crate::boxes::{compared, decided};
+use crate::conjugacies::conjugate;
 use crate::densities::least;
 use crate::discharges::discharged;
 use crate::lists::listed;
@@ -54,5 +55,6 @@ pub fn respond<E: Engine>(
             weights,
         } => discharged(alloc, rule, radius, margin, vectors, weights, limits.pivots),
         Question::Smallest { rule } => smallest(alloc, rule),
+        Question::Conjugacy { conjugacy } => conjugate(alloc, &conjugacy, limits, roster),
     }
 }

@@ -135,7 +135,7 @@ question_more : (bytes : List ℕ) (n p : ℕ) (tiles : List Tile) (qs : Asking)
 question_more bytes n p tiles qs a ws none rest =
     let before = state names_5 rules_5 (codes "c" ∷ []) tiles qs in
     let query = query_of (asked_in bytes n) (up_request p a.1) in
-    let behind = (qs.0 ++ query ∷ [], qs.1 ++ pairs_for before query ∷ []) in
+    let behind : Asking = (qs.0 ++ query ∷ [], qs.1 ++ pairs_for before query ∷ []) in
     one_more bytes n before (state names_5 rules_5 (codes "c" ∷ []) tiles behind) (question_written p a) ws none refl (rest behind)
 
 abbrev NoneFrom : List ℕ → ℕ → List Tile → List Written → Type 0
