@@ -1,6 +1,6 @@
 -- What a CONJUGATE that is a certificate says of configurations that no data holds.
-use Rattle.std.proofs.Common.{◌≡◌, ℕ, ◌<◌, true, false, refl, sym, ap, subst, ◌∙◌, arith, Some, None}
-use Rattle.std.specs.Prelude.{Option, IsSomeAnd, IfSome, slice_get, is_some}
+use Rattle.std.proofs.Common.{◌≡◌, ℕ, ◌<◌, true, refl, sym, subst, ◌∙◌, Some, None}
+use Rattle.std.specs.Prelude.{Option, IsSomeAnd, IfSome, slice_get}
 use Rattle.std.proofs.lemmas.Bool.{false≢true}
 use Rattle.dd_lattice.specs.declared.position.Cell.{Cell}
 use Rattle.dd_lattice.specs.Cells.{cell}
@@ -11,7 +11,7 @@ use Rattle.dd_formula.specs.LocalRule.{LocalRule}
 use Rattle.dd_formula.specs.Living.{Obeys}
 use Rattle.dd_formula.specs.declared.automaton.Automaton.{Automaton}
 use Rattle.dd_formula.specs.lemmas.AllowedLaws.{look_below}
-use Rattle.dd_maps.specs.Images.{Differ, ImageBreaks, Changes, HasSymbols, AtEachNode, GivesBackAt}
+use Rattle.dd_maps.specs.Images.{Differ, HasSymbols, AtEachNode, GivesBackAt}
 use Rattle.dd_maps.specs.lemmas.PairLaws.{image_differs, identity_differs}
 use Rattle.dd_maps.specs.lemmas.Claims.{symbol_at, image_keeps, gives_back}
 use Rattle.dd_boxes.specs.Boxes.{HoldsNowhere}
@@ -21,12 +21,11 @@ use Rattle.dd_pairs.specs.Queries.{of_four}
 use Rattle.dd_pairs.specs.lemmas.PartLaws.{rule_over, automaton_over}
 use Rattle.dd_pairs.specs.lemmas.QueryLaws.{item_at}
 use Rattle.dd_certificate.specs.declared.answer.Answer.{Answer}
-use Rattle.dd_question.specs.Questions.{Asked}
 use Rattle.dd_query.specs.declared.queries.Query.{Query}
 use Rattle.dd_script.specs.Parts.{Parts}
 use Rattle.dd_script.specs.Kept.{IsScriptOf}
-use Rattle.dd_script.specs.Questions.{asked, query_at, conjugacy_question}
-use Rattle.dd_verify.specs.Holding.{ConjugacyClaim, says_conjugate, says_broken, says_no_more}
+use Rattle.dd_script.specs.Questions.{query_at, conjugacy_question}
+use Rattle.dd_verify.specs.Holding.{says_conjugate, says_broken, says_no_more}
 use Rattle.dd_verify.specs.Certificates.{ClaimOf}
 use Rattle.dd_checker.specs.Claims.{ClaimFor, Claim}
 use Rattle.dd_checker.specs.Lifted.{whole_look, IsWhole}
