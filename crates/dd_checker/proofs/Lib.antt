@@ -1,3 +1,4 @@
 pub mod Verdicts
 pub mod Certifying
 pub mod Lifting
+pub mod Inverting

@@ -52,7 +52,7 @@ module _ (s : Parts) (nodes : ℕ) (symbol_of : Cell → ℕ) (whole : IsWhole s
   abbrev look : Look
   look = whole_look s.known.setting.topology.dimension nodes symbol_of
 
-  look_allowed : (x : LocalRule) → IsRuleOf s.known.setting x → AreAllowed x look
+  pub look_allowed : (x : LocalRule) → IsRuleOf s.known.setting x → AreAllowed x look
   look_allowed x of c = cases (is_flat s.known.setting.topology.dimension c.position) (nat_lt c.node nodes) refl refl where
     cases : (flat low : Bool) → is_flat s.known.setting.topology.dimension c.position ≡ flat → nat_lt c.node nodes ≡ low →
         IfSome (cond (flat && low) (Some (symbol_of c)) None) (λ t. rule_allows x c.node t ≡ true)
@@ -61,7 +61,7 @@ module _ (s : Parts) (nodes : ℕ) (symbol_of : Cell → ℕ) (whole : IsWhole s
     cases true false flat low = tt
     cases false low flat is = tt
 
-  look_whole : (x : LocalRule) → IsRuleOf s.known.setting x → IsConfiguration x look
+  pub look_whole : (x : LocalRule) → IsRuleOf s.known.setting x → IsConfiguration x look
   look_whole x of = record {
     everywhere = λ c flat node.
         (let there : is_flat s.known.setting.topology.dimension c.position ≡ true = subst (λ d. is_flat d c.position ≡ true) of.dimension flat in
@@ -72,7 +72,7 @@ module _ (s : Parts) (nodes : ℕ) (symbol_of : Cell → ℕ) (whole : IsWhole s
   }
 
   module _ (v : Place) (flat : is_flat s.known.setting.topology.dimension v ≡ true) where
-    not_at : (x : LocalRule) (g : GoalOf) (n : ℕ) → IsRuleOf s.known.setting x → HoldsNowhere x g n → IsNotAt x g look v
+    pub not_at : (x : LocalRule) (g : GoalOf) (n : ℕ) → IsRuleOf s.known.setting x → HoldsNowhere x g n → IsNotAt x g look v
     not_at x g n of nowhere obeys there =
         let level : is_flat x.dimension v ≡ true = subst (λ d. is_flat d v ≡ true) (sym of.dimension) flat in
         nowhere.configurations look (look_whole x of) obeys v level there

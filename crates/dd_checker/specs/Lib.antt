@@ -4,3 +4,5 @@ pub mod Certificates
 pub mod Claims
 -- what a YES says of any configuration
 pub mod Lifted
+-- what a CONJUGATE says of any configuration
+pub mod Inverses

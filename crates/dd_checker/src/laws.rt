@@ -5,6 +5,7 @@ ghost use Rattle.dd_certificate.specs.declared.answer.Answer.{Answer as AnyAnswe
 ghost use Rattle.dd_checker.specs.Certificates.{IsCertificateFor, IsCertificate};
 ghost use Rattle.dd_checker.specs.Claims.{ClaimFor, Claim};
 ghost use Rattle.dd_checker.specs.Lifted.{is_yes, whole_look, IsWhole, IsNowhereAt};
+ghost use Rattle.dd_checker.specs.Inverses.{is_conjugate, IsConjugacyAt, AreInverseIn};
 
 use dd_certificate::Answer;
 use dd_lattice::Position;
@@ -52,4 +53,28 @@ pub fn lifted<C: Configuration>(
 {
     script.sound_questions();
     certified(script);
+}
+
+/// Only looks at what the script's queries ask; its contract draws the conclusion of a CONJUGATE that is a certificate of a conjugacy
+/// for any configuration, also for one that no data holds. Where it obeys the first rule at every place of Z^d, its image under the first
+/// automaton has allowed symbols and obeys the second rule at `place`, and the second automaton's value on that image is the
+/// configuration's symbol, at every node. The same holds with the rules and the automata exchanged. It takes no memory.
+pub fn conjugate_at<C: Configuration>(
+    script: &Script,
+    _query: u32,
+    _answer: &Answer,
+    _configuration: &C,
+    _place: &Position,
+)
+    requires conjugacy { IsConjugacyAt script.now _query }
+    requires certificate { IsCertificate script.now _query _answer.now }
+    requires conjugate { is_conjugate _answer.now ≡ true }
+    requires whole { IsWhole script.now (C.nodes _configuration.now) (C.symbol_of _configuration.now) }
+    requires flat { is_flat script.now.known.setting.topology.dimension _place.now ≡ true }
+    ensures { AreInverseIn script.now _query
+        (whole_look script.now.known.setting.topology.dimension (C.nodes _configuration.now) (C.symbol_of _configuration.now)) _place.now }
+{
+    certified(script);
+    // Read for what a script keeps.
+    let _dimension = script.dim();
 }

@@ -9,5 +9,5 @@ mod verdict;
 pub use answering::check_answer;
 pub use dd_certificate::Answer;
 pub use dd_verify::check_periodic;
-pub use laws::{certified, lifted};
+pub use laws::{certified, conjugate_at, lifted};
 pub use verdict::Verdict;

@@ -18,7 +18,8 @@ use Rattle.dd_expansion.specs.Placed.{is_flat}
 use Rattle.dd_certificate.specs.declared.answer.Answer.{Answer}
 use Rattle.dd_checker.specs.Certificates.{HasQuery, IsCertificate}
 use Rattle.dd_checker.specs.Lifted.{is_yes, IsWhole}
-use Rattle.dd_infinite.specs.Functions.{spike, checkerboard, tiled, IsForBoth, IsExclusion}
+use Rattle.dd_checker.specs.Inverses.{is_conjugate, IsConjugacyAt}
+use Rattle.dd_infinite.specs.Functions.{spike, checkerboard, tiled, IsForBoth, IsExclusion, IsInversion}
 
 abbrev Either : ℕ → Type 0
 Either n = (n ≡ 0) ⊎ (n ≡ 1)
@@ -72,6 +73,11 @@ both_allowed s h = (
 pub exclusion : (s : Parts) (number : ℕ) (a : Answer) (v : Place) → HasQuery s number → is_flat s.known.setting.topology.dimension v ≡ true → is_yes a ≡ true →
     IsCertificate s number a → IsExclusion s number a v
 exclusion s number a v query position is certificate = record { query = query; position = position; yes = is; certificate = certificate }
+
+pub inversion : (s : Parts) (number : ℕ) (a : Answer) (v : Place) → HasQuery s number → IsConjugacyAt s number →
+    is_flat s.known.setting.topology.dimension v ≡ true → is_conjugate a ≡ true → IsCertificate s number a → IsInversion s number a v
+inversion s number a v query asks position is certificate =
+    record { query = query; conjugacy = asks; position = position; conjugate = is; certificate = certificate }
 
 pub has_rows : (s : Parts) → IsScriptOf s → s.known.setting.topology.nodes ≡ 1 → 0 < length s.known.setting.sets.allowed
 has_rows s ok one = let n = ok.known.setting.sets.nodes in let m = ok.known.setting.topology.nodes in omega (arith, n, m, one)

@@ -1,4 +1,4 @@
--- Configurations as functions on all cells of Z^d, the scripts that they are for, and what excludes a goal from them.
+-- Configurations as functions on all cells of Z^d, the scripts that they are for, and what excludes a goal from them or maps them back.
 use Rattle.std.specs.Prelude.{ℕ, ◌≡◌, ◌+◌, ◌%◌, true, pos, cond, unsigned_abs, slice_index}
 use Rattle.dd_lattice.specs.Place.{Place, place}
 use Rattle.dd_lattice.specs.declared.position.Cell.{Cell}
@@ -9,6 +9,7 @@ use Rattle.dd_certificate.specs.declared.answer.Answer.{Answer}
 use Rattle.dd_script.specs.Parts.{Parts}
 use Rattle.dd_checker.specs.Certificates.{HasQuery, IsCertificate}
 use Rattle.dd_checker.specs.Lifted.{is_yes, IsWhole}
+use Rattle.dd_checker.specs.Inverses.{is_conjugate, IsConjugacyAt}
 
 -- 1 at the origin alone
 abbrev pub spike : Cell → ℕ
@@ -32,4 +33,12 @@ pub record IsExclusion (s : Parts) (number : ℕ) (a : Answer) (v : Place) : Typ
   pub query : HasQuery s number
   pub position : is_flat s.known.setting.topology.dimension v ≡ true
   pub yes : is_yes a ≡ true
+  pub certificate : IsCertificate s number a
+
+-- the answer is a CONJUGATE to the query with this number, which asks for a conjugacy, and a certificate of it; and the position is one of Z^d
+pub record IsInversion (s : Parts) (number : ℕ) (a : Answer) (v : Place) : Type 0 where
+  pub query : HasQuery s number
+  pub conjugacy : IsConjugacyAt s number
+  pub position : is_flat s.known.setting.topology.dimension v ≡ true
+  pub conjugate : is_conjugate a ≡ true
   pub certificate : IsCertificate s number a

@@ -12,13 +12,13 @@ use dd_pattern::Configuration;
 use dd_script::Script;
 use std::alloc::{AllocError, Global};
 
-fn has_query(script: &Script, query: u32) -> bool
+pub(crate) fn has_query(script: &Script, query: u32) -> bool
     ensures { IsTrue result ↔ HasQuery script.now query }
 {
     1 <= query && query as usize <= script.queries().len()
 }
 
-fn is_flat(script: &Script, place: &Position) -> bool
+pub(crate) fn is_flat(script: &Script, place: &Position) -> bool
     ensures { result ≡ is_flat script.now.known.setting.topology.dimension place.now }
 {
     let dimension = script.dim();

@@ -1,0 +1,75 @@
+//! From a check of a conjugacy to all configurations.
+ghost use Rattle.std.specs.Prelude.{◌≡◌, ◌↔◌, true, IsTrue, IfOk};
+ghost use Rattle.dd_checker.specs.Lifted.{whole_look, IsWhole};
+ghost use Rattle.dd_checker.specs.Inverses.{is_conjugate, is_conjugacy, IsConjugacyAt, AreInverseIn};
+ghost use Rattle.dd_infinite.specs.Functions.{IsInversion};
+
+use crate::excluding::{has_query, is_flat};
+use dd_certificate::Answer;
+use dd_checker::{Verdict, check_answer, conjugate_at};
+use dd_lattice::Position;
+use dd_pattern::Configuration;
+use dd_script::{Query, Script};
+use std::alloc::{AllocError, Global};
+
+fn is_conjugacy(query: &Query) -> bool
+    ensures { result ≡ is_conjugacy query.now }
+{
+    matches!(query, Query::Conjugate { .. })
+}
+
+/// Whether the query with this number, from 1, is a conjugacy.
+fn asks_conjugacy(script: &Script, query: u32) -> bool
+    ensures { IsTrue result ↔ IsConjugacyAt script.now query }
+{
+    let number = (query as usize).saturating_sub(1);
+    match script.queries().get(number) {
+        Some(asked) => is_conjugacy(asked),
+        None => false,
+    }
+}
+
+fn is_conjugate(answer: &Answer) -> bool
+    ensures { result ≡ is_conjugate answer.now }
+{
+    matches!(answer, Answer::Conjugate { .. })
+}
+
+/// Whether the query with this number, from 1, is a conjugacy, the answer a CONJUGATE that a check accepts, and `place` a position of
+/// the script's dimension. Then the two automata are inverse maps for this configuration too: where it obeys the first rule at all
+/// places, its image under the first automaton has allowed symbols and obeys the second rule at `place`, and the second automaton's
+/// values on that image are the configuration's symbols there. The same holds with the rules and the automata exchanged.
+#[tactic(auto, using(crate::proofs::Whole::inversion))]
+pub fn maps_back<C: Configuration>(
+    alloc: Global,
+    script: &Script,
+    query: u32,
+    answer: &Answer,
+    configuration: &C,
+    place: &Position,
+) -> Result<bool, AllocError>
+    requires { IsWhole script.now (C.nodes configuration.now) (C.symbol_of configuration.now) }
+    ensures exact { IfOk result (λ mapped. IsTrue mapped ↔ IsInversion script.now query answer.now place.now) }
+    ensures inverse { IfOk result (λ mapped. mapped ≡ true → AreInverseIn script.now query
+        (whole_look script.now.known.setting.topology.dimension (C.nodes configuration.now) (C.symbol_of configuration.now)) place.now) }
+{
+    if !has_query(script, query) {
+        return Ok(false);
+    }
+    if !asks_conjugacy(script, query) {
+        return Ok(false);
+    }
+    if !is_flat(script, place) {
+        return Ok(false);
+    }
+    if !is_conjugate(answer) {
+        return Ok(false);
+    }
+    match check_answer(alloc, script, query, answer)? {
+        Verdict::Accepted => {
+            conjugate_at(script, query, answer, configuration, place);
+            Ok(true)
+        }
+        Verdict::Rejected => Ok(false),
+    }
+}
