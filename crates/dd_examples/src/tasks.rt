@@ -129,7 +129,10 @@ fn checked_text<S: Source>(alloc: Global, source: &mut S) -> Result<Vec<u8>, Fau
 }
 
 fn squares_text(alloc: Global) -> Result<Vec<u8>, Fault> {
-    match (chessboard_membership(alloc), chessboard_answer(alloc, &LIMITS)) {
+    match (
+        chessboard_membership(alloc),
+        chessboard_answer(alloc, &LIMITS),
+    ) {
         (Ok(Membership::Inside), Ok(Answer::Inside)) => line(alloc, b"inside\n"),
         (Ok(_), Ok(_)) => line(alloc, b"outside\n"),
         _ => Err(Fault::Memory),
