@@ -19,6 +19,8 @@ mod forbidden;
 #[cfg(test)]
 mod formulas;
 #[cfg(test)]
+mod least;
+#[cfg(test)]
 mod members;
 #[cfg(test)]
 mod minimal;
