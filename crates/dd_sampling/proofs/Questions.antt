@@ -1,5 +1,5 @@
 -- The questions of a sample are without a fault.
-use Rattle.std.proofs.Common.{◌≡◌, ℕ, List, [], ◌∷◌, ◌++◌, map, Bool, true, false, Option, Some, None, codes, refl, sym, ap, ◌∙◌}
+use Rattle.std.proofs.Common.{◌≡◌, ℕ, List, [], ◌∷◌, ◌++◌, map, Bool, true, false, Option, Some, None, codes, refl, ap, ◌∙◌}
 use Rattle.std.specs.Fmt.{signed_decimal, digits}
 use Rattle.std.specs.Prelude.{pos, ◌-ℤ◌, nat_lt, not, ◌||◌, is_some, unwrap_or, if◌then◌else◌, bytes_eq}
 use Rattle.std.specs.List.{flat_map, list_any, slice_get}
@@ -151,7 +151,7 @@ density_faultless bytes p stands =
     let five : written_value bytes (up_number p (number_at 104 1)) ≡ 5 = value_up bytes p tail_text stands (number_at 104 1) in
     let known : missing bytes names_5 (name.Word (up_word p (word_at 99 3))) ≡ [] =
     named bytes names_5 (up_word p (word_at 99 3)) (codes "dom") (word_up bytes p tail_text stands (word_at 99 3)) refl in
-    ap (λ (v : ℕ). over (nat_lt 1000000 v) limit.Number ++ [] ++ ((missing bytes names_5 (name.Word (up_word p (word_at 99 3))) ++ []) ++ ((strip_by v) ++ []))) five
+    ap (λ (v : ℕ). over (nat_lt 1000000 v) limit.Number ++ [] ++ ((missing bytes names_5 (name.Word (up_word p (word_at 99 3))) ++ []) ++ ((strip_by v ++ []) ++ []))) five
     ∙ ap (λ (fs : List Fault). (fs ++ []) ++ []) known
 
 -- the tokens, the word, the numbers and the vectors of the last question
@@ -181,7 +181,7 @@ discharge_faultless bytes p stands =
     none_and _ _ tokens
     (none_and _ _ (none_and _ _ known refl)
     (none_and _ _ (none_and _ _ radius (none_and _ _ margin refl))
-    (none_and _ _ once (none_and _ _ vectors refl))))
+    (none_and _ _ (none_and _ _ once (none_and _ _ vectors refl)) refl)))
 
 -- ---- what each asks passes no limit
 
