@@ -29,7 +29,7 @@ use Rattle.dd_verify.specs.Holding.{says_conjugate, says_broken, says_no_more}
 use Rattle.dd_verify.specs.Certificates.{ClaimOf}
 use Rattle.dd_checker.specs.Claims.{ClaimFor, Claim}
 use Rattle.dd_checker.specs.Lifted.{whole_look, IsWhole}
-use Rattle.dd_checker.specs.Inverses.{is_conjugate, is_conjugacy, IsConjugacyAt, IsCarriedAt, AreInverseAt, AreInverseFor, are_inverse, AreInverseIn}
+use Rattle.dd_checker.specs.Inverses.{is_conjugate, IsConjugacy, a_conjugacy, IsConjugacyAt, IsCarriedAt, AreInverseAt, AreInverseFor, are_inverse, AreInverseIn}
 use Rattle.dd_checker.proofs.Lifting.{look_allowed, look_whole, not_at}
 
 -- four items are there, and this is of what is asked of them
@@ -99,8 +99,8 @@ module _ (s : Parts) (kept : IsScriptOf s) (nodes : ℕ) (symbol_of : Cell → �
   inverse x y f g ofx ofy off ofg _ told (says_broken part witness) = absurd (false≢true told)
   inverse x y f g ofx ofy off ofg _ told says_no_more = absurd (false≢true told)
 
-  for_query : (a : Answer) → is_conjugate a ≡ true → (q : Query) → is_conjugacy q ≡ true → ClaimFor s q a → AreInverseFor s look v q
-  for_query a told (Query.Conjugate there back from to) is claim =
+  for_query : (a : Answer) → is_conjugate a ≡ true → (q : Query) → IsConjugacy q → ClaimFor s q a → AreInverseFor s look v q
+  for_query a told _ (a_conjugacy {there = there} {back = back} {from = from} {to = to}) claim =
       let k = found (conjugacy_question s.known.setting) (λ j. ClaimOf j a) (slice_get s.rules from) (slice_get s.rules to) (slice_get s.automata there)
       (slice_get s.automata back) claim in
       let ofx = of_item (IsRuleOf s.known.setting) (slice_get s.rules from) k.x (item_at kept.rules from) k.from in
@@ -108,12 +108,11 @@ module _ (s : Parts) (kept : IsScriptOf s) (nodes : ℕ) (symbol_of : Cell → �
       let off = of_item (IsAutomatonOf s.known.setting) (slice_get s.automata there) k.f (item_at kept.automata there) k.there in
       let ofg = of_item (IsAutomatonOf s.known.setting) (slice_get s.automata back) k.g (item_at kept.automata back) k.back in
       are_inverse k.from k.to k.there k.back (inverse k.x k.y k.f k.g ofx ofy off ofg a told k.says)
-  for_query a told _ is claim = absurd (false≢true is)
 
   -- where a CONJUGATE claims what is true, the two automata are inverse maps at v
   pub inverse_law : (number : ℕ) (a : Answer) → is_conjugate a ≡ true → IsConjugacyAt s number → Claim s number a → AreInverseIn s number look v
   inverse_law number a told asks claim = at (query_at s number) asks claim
     where
-      at : (o : Option Query) → IsSomeAnd o (λ q. is_conjugacy q ≡ true) → IsSomeAnd o (λ q. ClaimFor s q a) → IsSomeAnd o (AreInverseFor s look v)
+      at : (o : Option Query) → IsSomeAnd o IsConjugacy → IsSomeAnd o (λ q. ClaimFor s q a) → IsSomeAnd o (AreInverseFor s look v)
       at (Some q) is claim = for_query a told q is claim
       at None is claim = absurd is

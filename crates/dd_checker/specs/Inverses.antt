@@ -1,5 +1,5 @@
 -- What a CONJUGATE says of configurations that no data holds.
-use Rattle.std.specs.Prelude.{ℕ, ◌≡◌, Bool, true, false, nat_eq, codes, Some, IsSomeAnd, slice_get}
+use Rattle.std.specs.Prelude.{ℕ, ◌≡◌, Bool, nat_eq, codes, Some, IsSomeAnd, slice_get}
 use Rattle.std.specs.List.{starts_with}
 use Rattle.dd_lattice.specs.Place.{Place}
 use Rattle.dd_pattern.specs.Reading.{Look}
@@ -18,13 +18,12 @@ abbrev pub is_conjugate : Answer → Bool
 is_conjugate a = starts_with nat_eq (verdict_text a) (codes "CONJUGATE")
 
 -- the query asks whether two automata are inverse maps between the configurations of two rules
-abbrev pub is_conjugacy : Query → Bool
-is_conjugacy (Query.Conjugate there back from to) = true
-is_conjugacy q = false
+pub data IsConjugacy : Query → Type 0 where
+  a_conjugacy : {there back from to : ℕ} → IsConjugacy (Query.Conjugate there back from to)
 
 -- so does the query with a number, from 1
 abbrev pub IsConjugacyAt : Parts → ℕ → Type 0
-IsConjugacyAt s number = IsSomeAnd (query_at s number) (λ q. is_conjugacy q ≡ true)
+IsConjugacyAt s number = IsSomeAnd (query_at s number) IsConjugacy
 
 -- at each node of v the configuration's image under f has an allowed symbol and obeys y, and g's value on that image is the
 -- configuration's symbol

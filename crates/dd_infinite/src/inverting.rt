@@ -1,7 +1,7 @@
 //! From a check of a conjugacy to all configurations.
 ghost use Rattle.std.specs.Prelude.{◌≡◌, ◌↔◌, true, IsTrue, IfOk};
 ghost use Rattle.dd_checker.specs.Lifted.{whole_look, IsWhole};
-ghost use Rattle.dd_checker.specs.Inverses.{is_conjugate, is_conjugacy, IsConjugacyAt, AreInverseIn};
+ghost use Rattle.dd_checker.specs.Inverses.{is_conjugate, IsConjugacy, IsConjugacyAt, AreInverseIn};
 ghost use Rattle.dd_infinite.specs.Functions.{IsInversion};
 
 use crate::excluding::{has_query, is_flat};
@@ -12,8 +12,9 @@ use dd_pattern::Configuration;
 use dd_script::{Query, Script};
 use std::alloc::{AllocError, Global};
 
+#[tactic(auto, using(dd_checker::specs::Inverses::a_conjugacy))]
 fn is_conjugacy(query: &Query) -> bool
-    ensures { result ≡ is_conjugacy query.now }
+    ensures { IsTrue result ↔ IsConjugacy query.now }
 {
     matches!(query, Query::Conjugate { .. })
 }
