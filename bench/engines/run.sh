@@ -1,8 +1,8 @@
 #!/bin/sh
 # Times what the program's engines propose of a small list and of lists of a million literals. The program over the library is
 # proved and built in a temporary folder, with copies of the crates that it stands on. Each line is a clause list's name, an
-# engine, for the walk its flips, what it proposes, for a refutation the number of its hints, and the time in microseconds, the
-# least of five runs.
+# engine, for the walk its flips, whether it is asked for the first time or again, what it proposes, the number of a refutation's hints,
+# and the time in microseconds, the least of five runs.
 set -eu
 
 here=$(cd "$(dirname "$0")" && pwd)

@@ -1,6 +1,6 @@
 #!/usr/bin/env python3
 """Writes the clause lists of this benchmark to a folder, GROUP-NAME.cnf in the format of DIMACS: boxes and tori of colourings in which
-cells within a distance differ, by the clauses that diddy makes (`../check/clauses.py`); pigeonholes; random clauses of three literals near
+cells within a distance differ, by the clauses that diddy makes (`../check/clauses.py`); all tori of one question, with their shears; pigeonholes; random clauses of three literals near
 the threshold; and perfect codes and the aperiodic tiles of `examples/`, on their boxes and tori."""
 import itertools
 import pathlib
@@ -44,12 +44,13 @@ def box(name, script, premise, radius, goal=None):
     write(name, clauses.n, clauses.list)
 
 
-def torus(name, script, premise, periods):
-    """A rule on a torus."""
+def torus(name, script, premise, periods, shear=0):
+    """A rule on a torus, where a step by the second period moves a row by the shear."""
     periods = (*periods, 1)[:3]
     cells, clauses = cells_of(script, [range(period) for period in periods]), Clauses()
     clauses.cells(cells, len(script.symbols))
-    around = lambda c: (tuple(v % period for v, period in zip(c[0], periods)), c[1])
+    moved = lambda p: (p[0] - p[1] // periods[1] * shear, *p[1:])
+    around = lambda c: (tuple(v % period for v, period in zip(moved(c[0]), periods)), c[1])
     for position, node in cells:
         clauses.list.append([clauses.gate(premise.tree[node], lambda c: around(add(position, c)))])
     write(name, clauses.n, clauses.list)
@@ -73,6 +74,15 @@ def colourings():
         script = apart(topology, distance, colours)
         for size in sizes:
             torus(f"tori-{topology}-{distance}-{colours}-{size[0]}x{size[1]}", script, script.rules["x"], size)
+
+
+def questions():
+    """All tori of a question that has no configuration: periods up to six, with each shear."""
+    script = apart("triangle", 2, 7)
+    for first, second in itertools.product(range(1, 7), repeat=2):
+        for shear in range(first):
+            name = f"questions-triangle-2-7-{first}x{second}-shear-{shear}"
+            torus(name, script, script.rules["x"], (first, second), shear)
 
 
 def pigeons(holes):
@@ -121,6 +131,7 @@ def examples():
 
 FOLDER.mkdir(parents=True, exist_ok=True)
 colourings()
+questions()
 for holes in (7, 8, 9, 10):
     pigeons(holes)
 for variables in (100, 120, 150, 180, 200):

@@ -1,6 +1,6 @@
 -- A right answer is a certificate: what is decided of a box has the radius and the refutation of a YES, and the
 -- configuration of a NO is given back by what is written of it.
-use Rattle.std.proofs.Common.{◌≡◌, ℕ, List, max, ap, sym, subst, ◌∙◌}
+use Rattle.std.proofs.Common.{◌≡◌, ℕ, List, max, refl, ap, sym, subst, ◌∙◌, arith}
 use Rattle.dd_derivation.specs.Derivations.{IsRefuting}
 use Rattle.dd_problem.specs.Problems.{box_problem}
 use Rattle.dd_lattice.specs.Place.{Place}
@@ -22,11 +22,13 @@ use Rattle.dd_contain.specs.Questions.{Displays, IsDecided}
 use Rattle.dd_contain.specs.Equal.{joined, UnlessNo}
 use Rattle.dd_question.specs.Questions.{Asked}
 use Rattle.dd_question.specs.Questions as asked
+use Rattle.dd_question.specs.Conjugacies.{ConjugacyOf, IsPart}
 use Rattle.dd_evidence.specs.Tiles.{given_periods, written_periods, IsWrittenBack}
 use Rattle.dd_respond.specs.Right.{IsRightTo, IsRightBox, IsRightEqual, written_decision, written_equality}
+use Rattle.dd_respond.specs.Conjugacies.{ComesTo, IsRightConjugacy, first_no, all_yes, some_open}
 use Rattle.dd_respond.specs.Bounds.{IsRightDensity, right_least, right_empty, IsRightDischarge, right_bound, is_large, overflows, used_up}
 use Rattle.dd_verify.specs.Bounds.{IsStripCertificate, strip_least, strip_empty, IsDischargeCertificate, best, too_large, overflow, no_pivots}
-use Rattle.dd_verify.specs.Evidence.{IsYes, IsNo, IsBoxCertificate, box_yes, box_no, box_unknown, IsEqualCertificate, equal_yes, left_no, right_no, equal_unknown}
+use Rattle.dd_verify.specs.Evidence.{IsYes, IsNo, IsBoxCertificate, box_yes, box_no, box_unknown, IsEqualCertificate, equal_yes, left_no, right_no, equal_unknown, IsConjugacyCertificate, conjugate, broken, conjugacy_unknown}
 use Rattle.dd_verify.specs.Certificates.{IsCertificateOf}
 
 density_is : (x : LocalRule) (strip ws : List ℕ) (a : Answer) → IsRightDensity x strip ws a → IsStripCertificate x strip ws a
@@ -89,10 +91,29 @@ module _ (back : AreWrittenBack) (l : Limits) where
       let both = right.decided in
       subst (IsEqualCertificate l x y) (sym (right.written ∙ ap written_equality both.join)) (joined_is x y both.left both.right both.left_decided both.right_decided)
 
+  -- a decided answer to one of the four questions of a conjugacy
+  yes_at : (c : ConjugacyOf) (k n : ℕ) (x : LocalRule) (g : GoalOf) (steps : List Step) → IsPart c k x g → ComesTo l c k (decision.Yes n steps) →
+      IsYes l x g n steps
+  yes_at c k n x g steps part comes =
+      let same : (x, g) ≡ (comes.premise, comes.goal) = cc (sym part.1 ∙ comes.is_part.1) in
+      subst (λ (p : LocalRule × GoalOf). IsYes l p.0 p.1 n steps) (sym same) (decided_yes comes.premise comes.goal n steps comes.decided)
+
+  conjugacy_is : (c : ConjugacyOf) (a : Answer) → IsRightConjugacy l c a → IsConjugacyCertificate l c a
+  conjugacy_is c a (first_no {t = t} least comes) = broken comes.is_part (decided_no comes.premise comes.goal t comes.decided)
+  conjugacy_is c a (all_yes {n1 = n1} {n2 = n2} {n3 = n3} {n4 = n4} {s1 = s1} {s2 = s2} {s3 = s3} {s4 = s4} one two three four) =
+      conjugate
+      (yes_at c 1 n1 c.from c.image s1 (omega arith, refl) one)
+      (yes_at c 2 n2 c.to c.image_back s2 (omega arith, refl) two)
+      (yes_at c 3 n3 c.from c.round s3 (omega arith, refl) three)
+      (yes_at c 4 n4 c.to c.round_back s4 (omega arith, refl) four)
+  conjugacy_is c a (some_open none comes) = conjugacy_unknown
+
   pub right_is_certificate : (k : Asked) (a : Answer) → IsRightTo l k a → IsCertificateOf l k a
   right_is_certificate (asked.membership x t) a right = right
   right_is_certificate (asked.box x g) a right = box_is x g a right
   right_is_certificate (asked.equality x y) a right = equal_is x y a right
   right_is_certificate (asked.listing x) a right = right
+  right_is_certificate (asked.smallest x) a right = right
+  right_is_certificate (asked.conjugacy c) a right = conjugacy_is c a right
   right_is_certificate (asked.density x strip ws) a right = density_is x strip ws a right
   right_is_certificate (asked.discharge x radius margin vs ws) a right = discharge_is x radius margin vs ws l.pivots a right

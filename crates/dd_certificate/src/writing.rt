@@ -1,5 +1,5 @@
 //! The text of an answer, written from the front into one growing text.
-ghost use Rattle.std.specs.Prelude.{◌≡◌, ◌++◌, codes, OnOk, IfOk};
+ghost use Rattle.std.specs.Prelude.{◌≡◌, ◌++◌, codes, length, OnOk, IfOk};
 ghost use Rattle.std.specs.List.{flat_map};
 ghost use Rattle.dd_certificate.specs.Text.{
   amounts_and_duals_text,
@@ -198,6 +198,13 @@ fn push_numbers_line(text: &mut Vec<u8>, word: &[u8], numbers: &[u64]) -> Result
     push_numbers_to_end(text, numbers)
 }
 
+/// Says how many patterns follow.
+fn push_minimal(text: &mut Vec<u8>, patterns: &[Starred]) -> Result<(), AllocError>
+    ensures { OnOk result (text.new.items ≡ text.old.items ++ number_line (codes "MINIMAL ") (length patterns.now)) }
+{
+    push_number_line(text, b"MINIMAL ", patterns.len() as u64)
+}
+
 /// Puts the first line, from the answer on, at the end of a text.
 fn push_verdict(text: &mut Vec<u8>, answer: &Answer) -> Result<(), AllocError>
     ensures { OnOk result (text.new.items ≡ text.old.items ++ verdict_text answer.now) }
@@ -226,9 +233,7 @@ fn push_verdict(text: &mut Vec<u8>, answer: &Answer) -> Result<(), AllocError>
             denominator,
             ..
         } => push_fraction_line(text, b"BOUND ", *numerator, *denominator),
-        Answer::Minimal { patterns } => {
-            push_number_line(text, b"MINIMAL ", patterns.len() as u64)
-        }
+        Answer::Minimal { patterns } => push_minimal(text, patterns.as_slice()),
         Answer::Conjugate { radii, .. } => push_numbers_line(text, b"CONJUGATE", radii.as_slice()),
         Answer::Broken {
             part,

@@ -56,10 +56,15 @@ pub record AreCases (bytes : List ℕ) (cases : List Case) (default : Name) (tok
 
 -- ---- queries
 
+-- one vector without negative numbers
+abbrev pub IsOnePlain : List Vector → Type 0
+IsOnePlain vs = (v : Vector) × (vs ≡ v ∷ []) × (is_plain v ≡ true)
+
 -- the vectors at the end of a query
 abbrev pub AreLists : Lists → List Vector → Type 0
 AreLists Lists.None vs = vs ≡ []
-AreLists Lists.Strip vs = (v : Vector) × (vs ≡ v ∷ []) × (is_plain v ≡ true)
+AreLists Lists.Strip vs = IsOnePlain vs
+AreLists Lists.Torus vs = IsOnePlain vs
 AreLists Lists.Vectors vs = 1 ≤ length vs
 
 -- a query has what the row of its kind says

@@ -25,13 +25,14 @@ row QueryKind.Conjugate = entry (codes "conjugate") (Role.Automaton ∷ Role.Aut
 row QueryKind.Forbidden = entry (codes "forbidden") (Role.Rule ∷ []) 0 Lists.None 1
 row QueryKind.Minimal = entry (codes "minimal") (Role.Rule ∷ []) 0 Lists.None 1
 row QueryKind.Density = entry (codes "density") (Role.Rule ∷ []) 0 Lists.Strip 1
+row QueryKind.Least = entry (codes "least") (Role.Rule ∷ []) 0 Lists.Torus 1
 row QueryKind.Discharge = entry (codes "discharge") (Role.Rule ∷ []) 2 Lists.Vectors 1
 
 -- all kinds of queries
 abbrev pub query_kinds : List QueryKind
 query_kinds =
     QueryKind.Member ∷ QueryKind.Contains ∷ QueryKind.Equal ∷ QueryKind.Empty ∷ QueryKind.Agree ∷ QueryKind.Maps ∷ QueryKind.Conjugate ∷ QueryKind.Forbidden ∷ QueryKind.Minimal
-    ∷ QueryKind.Density ∷ QueryKind.Discharge ∷ []
+    ∷ QueryKind.Density ∷ QueryKind.Least ∷ QueryKind.Discharge ∷ []
 
 -- the first word of a kind
 abbrev pub kind_word : QueryKind → List ℕ

@@ -17,7 +17,7 @@ fn lists<'a>(from: Source, lists: Lists, tokens: &'a [Lexeme]) -> Read<'a, Items
 {
     match lists {
         Lists::None => Ok((Items::new(from.alloc), tokens)),
-        Lists::Strip => {
+        Lists::Strip | Lists::Torus => {
             let (periods, rest) = plain(from, tokens)?;
             let mut one = Items::new(from.alloc);
             one.push(periods)?;

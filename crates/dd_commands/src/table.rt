@@ -23,6 +23,8 @@ pub enum Lists {
     None,
     /// The periods of a strip: one vector without negative numbers.
     Strip,
+    /// The periods of a torus: one vector without negative numbers.
+    Torus,
     /// One vector or more.
     Vectors,
 }
@@ -50,6 +52,8 @@ pub enum QueryKind {
     Minimal,
     /// `density X [5]`: the least density of the configurations of a strip with these periods.
     Density,
+    /// `least X [3 3]`: the least weight of the configurations with these periods.
+    Least,
     /// `discharge X r m [1 0] ..`: the best bound by discharging, with a radius, a margin and vectors.
     Discharge,
 }
@@ -93,7 +97,7 @@ fn entry(
 
 impl QueryKind {
     /// All kinds, in the order of the table.
-    pub(crate) const ALL: [QueryKind; 11] = [
+    pub(crate) const ALL: [QueryKind; 12] = [
         QueryKind::Member,
         QueryKind::Contains,
         QueryKind::Equal,
@@ -104,6 +108,7 @@ impl QueryKind {
         QueryKind::Forbidden,
         QueryKind::Minimal,
         QueryKind::Density,
+        QueryKind::Least,
         QueryKind::Discharge,
     ];
 
@@ -132,6 +137,7 @@ impl QueryKind {
             QueryKind::Forbidden => entry(b"forbidden", &[Rule], 0, Lists::None, 1),
             QueryKind::Minimal => entry(b"minimal", &[Rule], 0, Lists::None, 1),
             QueryKind::Density => entry(b"density", &[Rule], 0, Lists::Strip, 1),
+            QueryKind::Least => entry(b"least", &[Rule], 0, Lists::Torus, 1),
             QueryKind::Discharge => entry(b"discharge", &[Rule], 2, Lists::Vectors, 1),
         }
     }

@@ -1,5 +1,5 @@
 -- Box questions: which radii suffice, and which periods show the goal.
-use Rattle.std.specs.Prelude.{ℕ, ◌≡◌, ◌≤◌, ◌+◌, ◌-◌, ◌^◌, true, max, length, List}
+use Rattle.std.specs.Prelude.{ℕ, ◌≤◌, ◌+◌, ◌-◌, ◌^◌, max, length, List}
 use Rattle.dd_values.specs.Bounds.{most_variables}
 use Rattle.dd_clause.specs.Clauses.{ClauseList}
 use Rattle.dd_derivation.specs.declared.step.Step.{Step}

@@ -1,4 +1,4 @@
-//! The decision of box questions.
+//! The decision of every box question, and of the two of an equality.
 #![tactic(auto)]
 
 mod decision;

@@ -18,7 +18,7 @@ use dd_engines::{Engine, Roster, kept_is_reflexive};
 use dd_formula::Rule;
 use dd_pattern::{Periodic, Periods};
 use dd_problem::{box_clauses, read_torus, torus_clauses};
-use dd_solver::{solve, trimmed};
+use dd_solver::{Style, solve_with, trimmed};
 use dd_values::{Items, Limits};
 use std::alloc::{AllocError, Global};
 
@@ -35,10 +35,12 @@ fn evidence(alloc: Global, cnf: &Cnf, steps: Items<Step>) -> Result<Items<Step>,
     Ok(used)
 }
 
-/// What there is to say of the clauses: what an engine of the roster proposes, where that is right, otherwise what the search finds.
+/// What there is to say of the clauses: what an engine of the roster proposes, where that is right, otherwise what the search
+/// finds in this style.
 fn outcome<E: Engine>(
     alloc: Global,
     cnf: &Cnf,
+    style: Style,
     roster: &mut Roster<E>,
 ) -> Result<Outcome, AllocError>
     ensures answer { IfOk result (IsAnswer cnf.now.variables cnf.now.clauses) }
@@ -49,7 +51,19 @@ fn outcome<E: Engine>(
 {
     match roster.ask(alloc, cnf)? {
         Some(proposed) => Ok(proposed),
-        None => solve(alloc, cnf),
+        None => solve_with(alloc, cnf, style),
+    }
+}
+
+/// A torus of so many positions is searched in the focused style.
+const LARGE_TORUS: u32 = 25;
+
+/// The style of search for these periods. On a small torus a contradiction lies among few cells, as on a box.
+fn style_of(at: &Periods) -> Style {
+    if at.x.saturating_mul(at.y).saturating_mul(at.z) >= LARGE_TORUS {
+        Style::Focused
+    } else {
+        Style::Broad
     }
 }
 
@@ -82,7 +96,7 @@ impl<'a> Questions for BoxQuestion<'a> {
         // Law of a roster that is not asked.
         kept_is_reflexive();
         let cnf = box_clauses(self.alloc, self.premise, self.goal, radius)?;
-        match outcome(self.alloc, &cnf, roster)? {
+        match outcome(self.alloc, &cnf, Style::Broad, roster)? {
             Outcome::Refuted(steps) => Ok(Some(evidence(self.alloc, &cnf, steps)?)),
             Outcome::Found(_) => Ok(None),
         }
@@ -95,9 +109,11 @@ impl<'a> Questions for BoxQuestion<'a> {
     ) -> Result<Option<Periodic>, AllocError> {
         // Law of a roster that is not asked.
         kept_is_reflexive();
+        // Made for its fact: what a rule keeps.
+        let _nodes = self.premise.nodes();
         let periods = [at.x, at.y, at.z];
         let cnf = torus_clauses(self.alloc, self.premise, self.goal, periods, at.shear)?;
-        match outcome(self.alloc, &cnf, roster)? {
+        match outcome(self.alloc, &cnf, style_of(at), roster)? {
             Outcome::Found(found) => {
                 let periodic = read_torus(self.alloc, self.premise, periods, at.shear, &found)?;
                 // Read for what its type keeps.

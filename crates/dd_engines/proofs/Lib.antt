@@ -8,6 +8,7 @@ pub mod Counting
 pub mod Flipping
 pub mod Finding
 pub mod Places
+pub mod Chaining
 pub mod Walking
 pub mod Repeating
 pub mod Cycling

@@ -11,8 +11,10 @@ use Rattle.dd_clause.specs.declared.clause.Literal.{Literal}
 use Rattle.dd_clause.specs.Clauses.{ClauseList, negation, IsLiteralInRange, IsClauseInRange, is_true_under, Satisfies}
 use Rattle.dd_values.specs.Variables.{true_variables}
 use Rattle.dd_engines.specs.Walks.{made_true, first_unsatisfied, values_after, NoneBefore, IsFirstOnWalk}
-use Rattle.dd_engines.specs.walking.Truths.{true_count, standing, more, less, changed, HasPlace, list_of, IsListed, NoneIsNone, IsFirstNone}
+use Rattle.dd_engines.specs.walking.Truths.{true_count, standing, more, less, changed, IsListed, NoneIsNone, IsFirstNone}
 use Rattle.dd_engines.specs.walking.Walking.{Walks}
+use Rattle.dd_engines.specs.declared.chains.Chains.{Chains}
+use Rattle.dd_engines.specs.walking.Chains.{HasChain, numbers_of, IsListingOf}
 use Rattle.dd_engines.proofs.Places.{standing_within}
 use Rattle.dd_engines.proofs.Flipping.{flipped_counts}
 use Rattle.dd_engines.proofs.Finding.{counts_of, first_by_counts, none_by_counts, not_satisfied}
@@ -21,15 +23,19 @@ one_at_most : (b : Bool) → cond b 1 0 ≤ 1
 one_at_most true = omega arith
 one_at_most false = omega arith
 
-has_place : (n : ℕ) (lists : List (List ℕ)) (l : Literal) → length lists ≡ 2 * n → IsLiteralInRange n l → HasPlace lists l
-has_place n lists l long range = (range.0, omega (arith, long, range.0, range.1, one_at_most l.positive))
+has_chain : (n : ℕ) (chains : Chains) (l : Literal) → length chains.firsts.items ≡ 2 * n → IsLiteralInRange n l → HasChain chains l
+has_chain n chains l long range = (range.0, omega (arith, long, range.0, range.1, one_at_most l.positive))
+
+-- a literal in range has a chain
+pub chain_there : (n : ℕ) (clauses : List (List Literal)) (chains : Chains) (l : Literal) → IsListingOf chains n clauses → IsLiteralInRange n l → HasChain chains l
+chain_there n clauses chains l listing range = has_chain n chains l listing.long range
 
 -- the clauses where a literal stands have counts
-pub within_counts : (clauses : List (List Literal)) (values : List Bool) (counts : List ℕ) (marks : List Bool) (start : ℕ) (lists : List (List ℕ)) (l : Literal) → Walks clauses values counts marks start lists → IsLiteralInRange (length values) l → All (λ k. k < length counts) (list_of lists l)
-within_counts clauses values counts marks start lists l walks range =
+pub within_counts : (clauses : List (List Literal)) (values : List Bool) (counts : List ℕ) (marks : List Bool) (start : ℕ) (chains : Chains) (l : Literal) → Walks clauses values counts marks start → IsListingOf chains (length values) clauses → IsLiteralInRange (length values) l → All (λ k. k < length counts) (numbers_of chains l)
+within_counts clauses values counts marks start chains l walks listing range =
     let long : length counts ≡ length clauses = ap length walks.counted ∙ length-map clauses (true_count values) in
     let within = standing_within l clauses 0 in
-    All-same (λ k. k < length counts) (list_of lists l) (standing l 0 clauses) (walks.stands l (has_place (length values) lists l walks.places range))
+    All-same (λ k. k < length counts) (numbers_of chains l) (standing l 0 clauses) (listing.chained l (chain_there (length values) clauses chains l listing range))
     (All-weaker (λ k. k < 0 + length clauses) (λ k. k < length counts) (λ k h. omega (arith, h, long)) (standing l 0 clauses) within)
 
 pub length-changed : (f : ℕ → ℕ) (ks counts : List ℕ) → length (changed f ks counts) ≡ length counts
@@ -37,31 +43,27 @@ length-changed f [] counts = refl
 length-changed f (k ∷ ks) counts = length-changed f ks (set counts k (f (get_or counts k 0))) ∙ length-set counts k (f (get_or counts k 0))
 
 -- after a flip the walk stands at the new values
-pub flip_walks : (clauses : List (List Literal)) (values : List Bool) (counts new_counts : List ℕ) (marks new_marks : List Bool) (start new_start : ℕ) (lists : List (List ℕ)) (l : Literal) → Walks clauses values counts marks start lists → IsLiteralInRange (length values) l → is_true_under (true_variables values) l ≡ false
-    → new_counts ≡ changed less (list_of lists (negation l)) (changed more (list_of lists l) counts) → IsListed new_counts new_marks new_start → Walks clauses (made_true values l) new_counts new_marks new_start lists
-flip_walks clauses values counts new_counts marks new_marks start new_start lists l walks range is_false made are_listed =
+pub flip_walks : (clauses : List (List Literal)) (values : List Bool) (counts new_counts : List ℕ) (marks new_marks : List Bool) (start new_start : ℕ) (chains : Chains) (l : Literal) → Walks clauses values counts marks start → IsListingOf chains (length values) clauses → IsLiteralInRange (length values) l → is_true_under (true_variables values) l ≡ false
+    → new_counts ≡ changed less (numbers_of chains (negation l)) (changed more (numbers_of chains l) counts) → IsListed new_counts new_marks new_start → Walks clauses (made_true values l) new_counts new_marks new_start
+flip_walks clauses values counts new_counts marks new_marks start new_start chains l walks listing range is_false made are_listed =
     let long : length (made_true values l) ≡ length values = length-set values (l.variable - 1) l.positive in
-    let at : list_of lists l ≡ standing l 0 clauses = walks.stands l (has_place (length values) lists l walks.places range) in
-    let other : list_of lists (negation l) ≡ standing (negation l) 0 clauses = walks.stands (negation l) (has_place (length values) lists (negation l) walks.places range) in
+    let at : numbers_of chains l ≡ standing l 0 clauses = listing.chained l (chain_there (length values) clauses chains l listing range) in
+    let other : numbers_of chains (negation l) ≡ standing (negation l) 0 clauses = listing.chained (negation l) (chain_there (length values) clauses chains (negation l) listing range) in
     record {
       range = subst (λ (n : ℕ). All (IsClauseInRange n) clauses) (sym long) walks.range;
       short = walks.short;
       counted = made ∙ rw (at, other, walks.counted) (flipped_counts values l clauses range is_false (record { range = walks.range; short = walks.short }));
       are_listed = are_listed;
-      places = walks.places ∙ ap (λ (n : ℕ). 2 * n) (sym long);
-      stands = walks.stands;
     }
 
 -- the same numbers, with other marks
-pub looked_walks : (clauses : List (List Literal)) (values : List Bool) (counts new_counts : List ℕ) (marks new_marks : List Bool) (start new_start : ℕ) (lists : List (List ℕ)) → Walks clauses values counts marks start lists
-    → new_counts ≡ counts → IsListed new_counts new_marks new_start → Walks clauses values new_counts new_marks new_start lists
-looked_walks clauses values counts new_counts marks new_marks start new_start lists walks same are_listed = record {
+pub looked_walks : (clauses : List (List Literal)) (values : List Bool) (counts new_counts : List ℕ) (marks new_marks : List Bool) (start new_start : ℕ) → Walks clauses values counts marks start
+    → new_counts ≡ counts → IsListed new_counts new_marks new_start → Walks clauses values new_counts new_marks new_start
+looked_walks clauses values counts new_counts marks new_marks start new_start walks same are_listed = record {
   range = walks.range;
   short = walks.short;
   counted = same ∙ walks.counted;
   are_listed = are_listed;
-  places = walks.places;
-  stands = walks.stands;
 }
 
 one_of : (b : Bool) → b ≡ true → 1 ≤ cond b 1 0
@@ -92,9 +94,9 @@ pub record FoundClause (clauses : List (List Literal)) (values : List Bool) (cla
   pub range : IsClauseInRange (length values) clause
   pub are_false : (k : ℕ) (d : Literal) → k < length clause → is_true_under (true_variables values) (get_or clause k d) ≡ false
 
-pub found_clause : (clauses : List (List Literal)) (values : List Bool) (counts : List ℕ) (marks : List Bool) (start : ℕ) (lists : List (List ℕ)) (place : ℕ) (clause : List Literal) → Walks clauses values counts marks start lists → IsFirstNone counts place → clause ≡ get_or clauses place clause
+pub found_clause : (clauses : List (List Literal)) (values : List Bool) (counts : List ℕ) (marks : List Bool) (start : ℕ) (place : ℕ) (clause : List Literal) → Walks clauses values counts marks start → IsFirstNone counts place → clause ≡ get_or clauses place clause
     → FoundClause clauses values clause
-found_clause clauses values counts marks start lists place clause walks none at =
+found_clause clauses values counts marks start place clause walks none at =
     let within : place < length clauses = omega (arith, none.within, ap length walks.counted, length-map clauses (true_count values)) in
     let zero : get_or (counts_of values clauses) place 0 ≡ 0 = subst (λ (cs : List ℕ). get_or cs place 0 ≡ 0) walks.counted none.none in
     let before = subst (λ (cs : List ℕ). IsFirstNone cs place) walks.counted none in
@@ -105,8 +107,8 @@ found_clause clauses values counts marks start lists place clause walks none at 
       are_false = none_true_in (is_true_under (true_variables values)) clause (ap (true_count values) here ∙ sym (get_or-map (true_count values) clauses place within) ∙ zero);
     }
 
-place_within : (clauses : List (List Literal)) (values : List Bool) (counts : List ℕ) (marks : List Bool) (start : ℕ) (lists : List (List ℕ)) (place : ℕ) → Walks clauses values counts marks start lists → IsFirstNone counts place → place < length clauses
-place_within clauses values counts marks start lists place walks none = omega (arith, none.within, ap length walks.counted, length-map clauses (true_count values))
+place_within : (clauses : List (List Literal)) (values : List Bool) (counts : List ℕ) (marks : List Bool) (start : ℕ) (place : ℕ) → Walks clauses values counts marks start → IsFirstNone counts place → place < length clauses
+place_within clauses values counts marks start place walks none = omega (arith, none.within, ap length walks.counted, length-map clauses (true_count values))
 
 pub at_place : (read clauses : List (List Literal)) (place : ℕ) (clause item : List Literal) → clause ≡ item → item ≡ get_or read place item → read ≡ clauses → clause ≡ get_or clauses place clause
 at_place read clauses place clause item same is equal = same ∙ is ∙ ap (λ (d : List Literal). get_or read place d) (sym same) ∙ ap (λ (cs : List (List Literal)). get_or cs place clause) equal
@@ -137,8 +139,8 @@ none_more cnf values k c reached first before j other lt at satisfying = elim (c
 pub reached_more : (cnf : ClauseList) (values : List Bool) (k : ℕ) (c : List Literal) (m : Literal) → values_after cnf k ≡ Some values → first_unsatisfied values cnf.clauses ≡ Some c → slice_get c (k % length c) ≡ Some m → values_after cnf (k + 1) ≡ Some (made_true values m)
 reached_more cnf values k c m reached first at = rw (add-one k) (rw (reached, first, at) refl)
 
-pub first_at : (cnf : ClauseList) (values : List Bool) (counts : List ℕ) (marks : List Bool) (start : ℕ) (lists : List (List ℕ)) (k flips : ℕ) → Walks cnf.clauses values counts marks start lists → length values ≡ cnf.variables → NoneIsNone counts → k ≤ flips → values_after cnf k ≡ Some values → NoneBefore cnf k → IsFirstOnWalk cnf flips values
-first_at cnf values counts marks start lists k flips walks long none few reached before = record {
+pub first_at : (cnf : ClauseList) (values : List Bool) (counts : List ℕ) (marks : List Bool) (start : ℕ) (k flips : ℕ) → Walks cnf.clauses values counts marks start → length values ≡ cnf.variables → NoneIsNone counts → k ≤ flips → values_after cnf k ≡ Some values → NoneBefore cnf k → IsFirstOnWalk cnf flips values
+first_at cnf values counts marks start k flips walks long none few reached before = record {
   count = k;
   few = few;
   reached = reached;
@@ -147,9 +149,9 @@ first_at cnf values counts marks start lists k flips walks long none few reached
 }
 
 -- where some clause has no true literal at the end of the walk, nothing was found
-pub none_at_end : (cnf : ClauseList) (values : List Bool) (counts : List ℕ) (marks : List Bool) (start : ℕ) (lists : List (List ℕ)) (k place : ℕ) → Walks cnf.clauses values counts marks start lists → IsFirstNone counts place → values_after cnf k ≡ Some values → NoneBefore cnf k → NoneBefore cnf (k + 1)
-none_at_end cnf values counts marks start lists k place walks none reached before =
+pub none_at_end : (cnf : ClauseList) (values : List Bool) (counts : List ℕ) (marks : List Bool) (start : ℕ) (k place : ℕ) → Walks cnf.clauses values counts marks start → IsFirstNone counts place → values_after cnf k ≡ Some values → NoneBefore cnf k → NoneBefore cnf (k + 1)
+none_at_end cnf values counts marks start k place walks none reached before =
     let clause = get_or cnf.clauses place [] in
-    let within = place_within cnf.clauses values counts marks start lists place walks none in
-    let found = found_clause cnf.clauses values counts marks start lists place clause walks none (self_default cnf.clauses place within) in
+    let within = place_within cnf.clauses values counts marks start place walks none in
+    let found = found_clause cnf.clauses values counts marks start place clause walks none (self_default cnf.clauses place within) in
     none_more cnf values k clause reached found.first before

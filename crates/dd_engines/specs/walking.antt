@@ -1,3 +1,4 @@
 pub mod Truths
 pub mod Walking
 pub mod Cycles
+pub mod Chains

@@ -2,10 +2,10 @@
 #![tactic(auto)]
 
 mod analysis;
+mod chains;
 mod cycle;
 mod engine;
 mod laws;
-mod occurrences;
 mod propagation;
 mod propagator;
 mod roster;

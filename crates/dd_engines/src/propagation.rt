@@ -8,7 +8,7 @@ ghost use Rattle.dd_engines.specs.SingleSteps.{IsSingleStep};
 ghost use Rattle.dd_engines.specs.propagation.Following.{is_false_by, Follows, Looked, Went, Passed};
 
 use crate::analysis::{Entry, needed_hints};
-use crate::occurrences::Occurrences;
+use crate::chains::Chains;
 use dd_clause::{Clause, Cnf, Literal};
 use dd_derivation::{FalseLiterals, Finding, Step, find};
 use dd_values::Items;
@@ -80,40 +80,27 @@ enum Progress {
     Settled,
 }
 
-/// How many literals of each clause are not known to be false, and the clauses that wait with one.
+/// How many literals of each clause are not known to be false, each counted once, and the clauses that wait with one.
 #[derive(Drop)]
-struct Counts {
-    occurrences: Occurrences,
+struct Counts<'a> {
+    chains: &'a Chains,
     left: Vec<usize>,
     waiting: Vec<usize>,
 }
 
-/// Counts one literal more of each of these clauses. A clause that stands there several times, in a row, has it once.
-fn count_once(left: &mut [usize], numbers: &[usize]) {
-    let mut last = None;
-    for number in numbers {
-        if last == Some(*number) {
-            continue;
-        }
-        last = Some(*number);
-        // Each number is that of a clause, so it has a count.
-        if let Some(count) = left.get_mut(*number) {
-            *count = count.saturating_add(1);
-        }
-    }
-}
-
-impl Counts {
-    fn new(alloc: Global, cnf: &Cnf) -> Result<Counts, AllocError> {
-        let occurrences = Occurrences::new(alloc, cnf)?;
+impl<'a> Counts<'a> {
+    fn new(alloc: Global, cnf: &Cnf, chains: &'a Chains) -> Result<Counts<'a>, AllocError> {
         let mut left = vec![in alloc; 0usize; cnf.clauses().len()]?;
-        for variable in 1..=cnf.variables() {
-            for positive in [false, true] {
-                count_once(&mut left, occurrences.of(Literal { variable, positive }));
+        for link in chains.links.as_slice() {
+            // Each number is that of a clause, so it has a count.
+            if !chains.is_repeated(*link)
+                && let Some(count) = left.get_mut(link.number)
+            {
+                *count = count.saturating_add(1);
             }
         }
         Ok(Counts {
-            occurrences,
+            chains,
             left,
             waiting: Vec::new(alloc),
         })
@@ -121,19 +108,22 @@ impl Counts {
 
     /// Counts a literal that is false now, once for each clause that has it.
     fn falsify(&mut self, literal: Literal) -> Result<(), AllocError> {
-        let mut last = None;
-        for number in self.occurrences.of(literal) {
-            if last == Some(*number) {
+        let mut at = self.chains.first(literal);
+        for _ in 0..self.chains.links.len() {
+            let Some(link) = self.chains.link(at) else {
+                break;
+            };
+            at = link.next;
+            if self.chains.is_repeated(link) {
                 continue;
             }
-            last = Some(*number);
             // Each number is that of a clause, so it has a count.
-            let Some(count) = self.left.get_mut(*number) else {
+            let Some(count) = self.left.get_mut(link.number) else {
                 continue;
             };
             *count = count.saturating_sub(1);
             if *count == 1 {
-                self.waiting.push(*number)?;
+                self.waiting.push(link.number)?;
             }
         }
         Ok(())
@@ -205,12 +195,12 @@ fn step_of(alloc: Global, hints: Vec<u64>) -> Result<Step, AllocError>
     })
 }
 
-/// A single step that refutes the clauses, exactly where there is one.
-pub fn single_step(alloc: Global, cnf: &Cnf) -> Result<Option<Step>, AllocError>
+/// A single step that refutes the clauses, whose chains these are, exactly where there is one.
+pub fn single_step(alloc: Global, cnf: &Cnf, chains: &Chains) -> Result<Option<Step>, AllocError>
     ensures { IfOk result (λ found. MatchOption found ((step : _) → IsSingleStep cnf.now step → ⊥) (IsSingleStep cnf.now)) }
 {
     let mut trail = Trail::new(alloc, cnf.variables() as usize)?;
-    let mut counts = Counts::new(alloc, cnf)?;
+    let mut counts = Counts::new(alloc, cnf, chains)?;
     let clauses = cnf.clauses();
     'passes: loop {
         match pass(&mut counts, &mut trail, clauses)? {

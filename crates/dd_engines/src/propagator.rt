@@ -5,6 +5,7 @@ ghost use Rattle.dd_engines.specs.Proposals.{IsRight, GivenAfter};
 ghost use Rattle.dd_engines.specs.Rounds.{RisesByOne};
 ghost use Rattle.dd_engines.specs.SingleSteps.{ProposesSingleStep};
 
+use crate::chains::{Chains, listed};
 use crate::engine::{Engine, Proposal};
 use crate::propagation::single_step;
 use crate::tally::Tally;
@@ -17,6 +18,7 @@ use std::alloc::{AllocError, Global};
 #[derive(Drop)]
 pub struct Propagator {
     tally: Tally,
+    room: Option<Chains>,
 }
 
 impl Propagator {
@@ -28,6 +30,7 @@ impl Propagator {
     {
         Propagator {
             tally: Tally::new(),
+            room: None,
         }
     }
 }
@@ -49,7 +52,10 @@ impl Engine for Propagator {
         ensures exact { IfOk result (ProposesSingleStep cnf.now) }
     {
         self.tally.ask();
-        match single_step(alloc, cnf)? {
+        let chains = listed(alloc, &mut self.room, cnf)?;
+        let found = single_step(alloc, cnf, &chains);
+        self.room = Some(chains);
+        match found? {
             Some(step) => {
                 let mut steps = Items::new(alloc);
                 steps.push(step)?;

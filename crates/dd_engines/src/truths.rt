@@ -4,7 +4,9 @@
 ghost use Rattle.std.specs.Prelude.{◌≡◌, ◌^◌, ◌*◌, ◌<◌, ◌+◌, ◌≤◌, length, map, slice_set, slice_index_or, All, IfOk, MatchOption};
 ghost use Rattle.dd_clause.specs.Clauses.{IsClauseInRange};
 ghost use Rattle.dd_engines.specs.walking.Truths.{IsListed, NoneWithin, IsFirstIn, NoneIsNone, IsFirstNone, changed, more, less, true_count};
+ghost use Rattle.dd_engines.specs.walking.Chains.{IsLinked, HasChain, numbers_of};
 
+use crate::chains::Chains;
 use dd_clause::{Clause, Literal};
 use std::alloc::{AllocError, Global};
 
@@ -82,27 +84,37 @@ impl Truths {
         None
     }
 
-    /// One more literal of each of these clauses is true.
-    pub fn raise(&mut self, numbers: &[usize])
-        requires within { All (λ k. k < length self.old.counts.items) numbers.now }
+    /// A literal becomes true: one more of each clause that has it.
+    pub fn raise(&mut self, chains: &Chains, literal: Literal)
+        requires linked { IsLinked chains.now }
+        requires chain { HasChain chains.now literal }
+        requires within { All (λ k. k < length self.old.counts.items) (numbers_of chains.now literal) }
         requires listed { IsListed self.old.counts.items self.old.marks.items self.old.first_block }
-        ensures counts { self.new.counts.items ≡ changed more numbers.now self.old.counts.items }
+        ensures counts { self.new.counts.items ≡ changed more (numbers_of chains.now literal) self.old.counts.items }
         ensures listed { IsListed self.new.counts.items self.new.marks.items self.new.first_block }
     {
-        for number in numbers {
-            self.raise_one(*number);
+        let mut at = chains.first(literal);
+        while at > 0 {
+            let link = chains.links[at - 1];
+            self.raise_one(link.number);
+            at = link.next;
         }
     }
 
-    /// One literal less of each of these clauses is true.
-    pub fn lower(&mut self, numbers: &[usize])
-        requires within { All (λ k. k < length self.old.counts.items) numbers.now }
+    /// A literal becomes false: one less of each clause that has it.
+    pub fn lower(&mut self, chains: &Chains, literal: Literal)
+        requires linked { IsLinked chains.now }
+        requires chain { HasChain chains.now literal }
+        requires within { All (λ k. k < length self.old.counts.items) (numbers_of chains.now literal) }
         requires listed { IsListed self.old.counts.items self.old.marks.items self.old.first_block }
-        ensures counts { self.new.counts.items ≡ changed less numbers.now self.old.counts.items }
+        ensures counts { self.new.counts.items ≡ changed less (numbers_of chains.now literal) self.old.counts.items }
         ensures listed { IsListed self.new.counts.items self.new.marks.items self.new.first_block }
     {
-        for number in numbers {
-            self.lower_one(*number);
+        let mut at = chains.first(literal);
+        while at > 0 {
+            let link = chains.links[at - 1];
+            self.lower_one(link.number);
+            at = link.next;
         }
     }
 }

@@ -1,5 +1,5 @@
 //! A walk through assignments, from all variables false on: each flip makes a literal of the first clause without a true
-//! literal true. Numbers of true literals, and lists of where each literal stands, let a flip cost what it touches. Where the
+//! literal true. Numbers of true literals, and chains of where each literal stands, let a flip cost what it touches. Where the
 //! walk goes round, it ends: no new assignment would come.
 ghost use Rattle.std.specs.Prelude.{◌≡◌, ◌+◌, false, length, replicate, IfOk, MatchOption};
 ghost use Rattle.dd_clause.specs.Clauses.{IsLiteralInRange, is_true_under};
@@ -7,10 +7,11 @@ ghost use Rattle.dd_values.specs.Variables.{true_variables};
 ghost use Rattle.dd_engines.specs.Walks.{made_true, IsFirstOnWalk, NoneBefore};
 ghost use Rattle.dd_engines.specs.walking.Truths.{NoneIsNone, IsFirstNone};
 ghost use Rattle.dd_engines.specs.walking.Walking.{Walks};
+ghost use Rattle.dd_engines.specs.walking.Chains.{IsListingOf};
 ghost use Rattle.dd_engines.specs.walking.Cycles.{IsCounted};
 
+use crate::chains::Chains;
 use crate::cycle::{Landmark, turn_of};
-use crate::occurrences::Occurrences;
 use crate::truths::Truths;
 use dd_clause::{Assignment, Clause, Cnf, Literal};
 use std::alloc::{AllocError, Global};
@@ -20,7 +21,6 @@ use std::alloc::{AllocError, Global};
 struct Walk {
     values: Vec<bool>,
     truths: Truths,
-    occurrences: Occurrences,
     landmark: Landmark,
 }
 
@@ -30,16 +30,14 @@ impl Walk {
         ensures landmark { IfOk result (λ walk. walk.landmark.values.items ≡ replicate cnf.now.variables false) }
         ensures flips { IfOk result (λ walk. walk.landmark.flips ≡ 0) }
         ensures counted { IfOk result (λ walk. IsCounted walk.landmark walk.values.items) }
-        ensures walks { IfOk result (λ walk. Walks cnf.now.clauses walk.values.items walk.truths.counts.items walk.truths.marks.items walk.truths.first_block walk.occurrences.lists.items) }
+        ensures walks { IfOk result (λ walk. Walks cnf.now.clauses walk.values.items walk.truths.counts.items walk.truths.marks.items walk.truths.first_block) }
     {
         let variables = cnf.variables() as usize;
         let values = vec![in alloc; false; variables]?;
         let truths = Truths::new(alloc, cnf.clauses(), values.as_slice())?;
-        let occurrences = Occurrences::new(alloc, cnf)?;
         Ok(Walk {
             values,
             truths,
-            occurrences,
             landmark: Landmark::new(alloc, variables)?,
         })
     }
@@ -55,37 +53,44 @@ impl Walk {
     /// The first clause without a true literal.
     #[tactic(auto, using(crate::proofs::Walking::looked_walks))]
     fn first(&mut self, clauses: &[Clause]) -> Option<usize>
-        requires { Walks clauses.now self.old.values.items self.old.truths.counts.items self.old.truths.marks.items self.old.truths.first_block self.old.occurrences.lists.items }
+        requires { Walks clauses.now self.old.values.items self.old.truths.counts.items self.old.truths.marks.items self.old.truths.first_block }
         ensures first { MatchOption result (NoneIsNone self.new.truths.counts.items) (IsFirstNone self.new.truths.counts.items) }
         ensures values { self.new.values.items ≡ self.old.values.items }
         ensures landmark { self.new.landmark ≡ self.old.landmark }
-        ensures walks { Walks clauses.now self.new.values.items self.new.truths.counts.items self.new.truths.marks.items self.new.truths.first_block self.new.occurrences.lists.items }
+        ensures walks { Walks clauses.now self.new.values.items self.new.truths.counts.items self.new.truths.marks.items self.new.truths.first_block }
     {
         self.truths.first()
     }
 
     /// Makes a literal true that is false.
-    fn flip(&mut self, clauses: &[Clause], literal: Literal)
+    fn flip(&mut self, clauses: &[Clause], chains: &Chains, literal: Literal)
+        requires listing { IsListingOf chains.now (length self.old.values.items) clauses.now }
         requires range { IsLiteralInRange (length self.old.values.items) literal }
         requires other { is_true_under (true_variables self.old.values.items) literal ≡ false }
-        requires walks { Walks clauses.now self.old.values.items self.old.truths.counts.items self.old.truths.marks.items self.old.truths.first_block self.old.occurrences.lists.items }
+        requires walks { Walks clauses.now self.old.values.items self.old.truths.counts.items self.old.truths.marks.items self.old.truths.first_block }
         requires counted { IsCounted self.old.landmark self.old.values.items }
         ensures counted { IsCounted self.new.landmark self.new.values.items }
         ensures landmark { self.new.landmark.values.items ≡ self.old.landmark.values.items }
         ensures flips { self.new.landmark.flips ≡ self.old.landmark.flips }
         ensures values { self.new.values.items ≡ made_true self.old.values.items literal }
-        ensures walks { Walks clauses.now self.new.values.items self.new.truths.counts.items self.new.truths.marks.items self.new.truths.first_block self.new.occurrences.lists.items }
+        ensures walks { Walks clauses.now self.new.values.items self.new.truths.counts.items self.new.truths.marks.items self.new.truths.first_block }
     {
         let place = literal.variable as usize - 1;
         self.landmark.count(self.values.as_slice(), place);
         self.values[place] = literal.positive;
-        self.truths.raise(self.occurrences.of(literal));
-        self.truths.lower(self.occurrences.of(literal.negation()));
+        self.truths.raise(chains, literal);
+        self.truths.lower(chains, literal.negation());
     }
 }
 
-/// The first assignment, after at most so many flips, that satisfies the clauses.
-pub fn first_found(alloc: Global, cnf: &Cnf, flips: u32) -> Result<Option<Assignment>, AllocError>
+/// The first assignment, after at most so many flips, that satisfies the clauses, whose chains these are.
+pub fn first_found(
+    alloc: Global,
+    cnf: &Cnf,
+    chains: &Chains,
+    flips: u32,
+) -> Result<Option<Assignment>, AllocError>
+    requires listing { IsListingOf chains.now cnf.now.variables cnf.now.clauses }
     ensures { IfOk result (λ found. MatchOption found (NoneBefore cnf.now (flips + 1)) (IsFirstOnWalk cnf.now flips)) }
 {
     let clauses = cnf.clauses();
@@ -103,7 +108,7 @@ pub fn first_found(alloc: Global, cnf: &Cnf, flips: u32) -> Result<Option<Assign
             return Ok(None);
         }
         walk.landmark.renew(k, walk.values.as_slice());
-        walk.flip(clauses, literals[k as usize % literals.len()]);
+        walk.flip(clauses, chains, literals[k as usize % literals.len()]);
     }
     match walk.first(clauses) {
         Some(_) => Ok(None),

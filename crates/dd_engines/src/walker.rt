@@ -1,4 +1,4 @@
-//! The engine that walks: it tries the assignments of one walk, and keeps nothing of it. A step takes a clause that is not
+//! The engine that walks: it tries the assignments of one walk, and keeps nothing of it but the room. A step takes a clause that is not
 //! satisfied and makes one of its literals true (Papadimitriou 1991, Selman, Kautz and Cohen 1994), here with no chance in it.
 ghost use Rattle.std.specs.Prelude.{◌≡◌, ◌-◌, ◌^◌, ◌≤◌, true, IfOk, OnErr};
 ghost use Rattle.dd_engines.specs.Proposals.{IsRight, GivenAfter};
@@ -6,6 +6,7 @@ ghost use Rattle.dd_engines.specs.Rounds.{RisesByOne};
 ghost use Rattle.dd_engines.specs.Walkers.{flips_of};
 ghost use Rattle.dd_engines.specs.Walks.{ProposesFirst};
 
+use crate::chains::{Chains, listed};
 use crate::engine::{Engine, Proposal};
 use crate::tally::Tally;
 use crate::walk::first_found;
@@ -19,6 +20,7 @@ use std::alloc::{AllocError, Global};
 pub struct Walker {
     flips: u32,
     tally: Tally,
+    room: Option<Chains>,
 }
 
 impl Walker {
@@ -32,6 +34,7 @@ impl Walker {
         Walker {
             flips,
             tally: Tally::new(),
+            room: None,
         }
     }
 }
@@ -54,7 +57,10 @@ impl Engine for Walker {
         ensures flips { flips_of self.new ≡ flips_of self.old }
     {
         self.tally.ask();
-        match first_found(alloc, cnf, self.flips)? {
+        let chains = listed(alloc, &mut self.room, cnf)?;
+        let found = first_found(alloc, cnf, &chains, self.flips);
+        self.room = Some(chains);
+        match found? {
             Some(assignment) => {
                 self.tally.give();
                 Ok(Proposal::Found(assignment))

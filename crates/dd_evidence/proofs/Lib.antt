@@ -1,4 +1,6 @@
 pub mod Tiles
 pub mod Places
+pub mod NodeLists
 pub mod Lists
+pub mod Starred
 pub mod Patterns

@@ -1,11 +1,21 @@
--- The list as it is made, node by node.
-use Rattle.std.proofs.Common.{◌≡◌, ℕ, suc, ◌+◌, List, ◌++◌, map, refl, ap, sym, subst, ◌∙◌, add-one}
+-- The patterns of a node, as they are made and appended.
+use Rattle.std.proofs.Common.{◌≡◌, ℕ, ◌^◌, ◌≤◌, ◌<◌, true, List, ◌++◌, map, length, refl, ap, ◌∙◌, arith}
+use Rattle.std.proofs.lemmas.Bool.{ltb-true}
 use Rattle.std.proofs.lemmas.Simd.{map-map}
 use Rattle.dd_pattern.specs.Filling.{Filled, filled}
 use Rattle.dd_formula.specs.LocalRule.{LocalRule, cells_at}
-use Rattle.dd_forbidden.specs.Breaking.{AreBreakingFillings}
+use Rattle.dd_forbidden.specs.Breaking.{BreakingFillings, AreBreakingFillings, is_large}
 use Rattle.dd_certificate.specs.declared.answer.Listed.{Listed}
-use Rattle.dd_evidence.specs.Lists.{listed, IsListedAfter, IsListTo}
+use Rattle.dd_question.specs.Lists.{HasFewPatterns}
+use Rattle.dd_evidence.specs.NodeLists.{IsListedAfter}
+use Rattle.dd_evidence.specs.Lists.{listed}
+
+-- where the cells that are read have few fillings, they are listed
+pub never_large : (r : LocalRule) (a : ℕ) → HasFewPatterns r → a < r.nodes → is_large r a ≡ true → ⊥
+never_large r a few below large =
+    let many : 65536 < r.symbols ^ length (cells_at r a) = ltb-true 65536 (r.symbols ^ length (cells_at r a)) large in
+    let most : r.symbols ^ length (cells_at r a) ≤ 65536 = few a below in
+    omega (arith, many, most)
 
 -- the pattern of a filling
 abbrev pub pattern_of : ℕ → Filled → Listed
@@ -13,24 +23,13 @@ pattern_of a f = listed a f.symbols
 
 -- all fillings of a node
 pub node_done : (x : LocalRule) (a : ℕ) (found all : List Filled) (start new : List Listed) → AreBreakingFillings x a found → all ≡ found →
-    new ≡ start ++ map (pattern_of a) all → IsListedAfter x a (λ before. before ≡ start) new
+    new ≡ start ++ map (pattern_of a) all → IsListedAfter (BreakingFillings x) listed a (λ before. before ≡ start) new
 node_done x a found all start new are same is = record {
   before = start;
   is_before = refl;
   here = are.symbols;
-  breaking = are.breaking;
+  is_here = are.breaking;
   whole =
       is ∙ ap (λ (ps : List Listed). start ++ ps)
       (ap (map (pattern_of a)) (same ∙ are.fillings) ∙ map-map (pattern_of a) (filled (cells_at x a)) are.symbols);
 }
-
-pub next_node : (x : LocalRule) (n : ℕ) (old new : List Listed) → IsListTo x n old → IsListedAfter x n (λ before. before ≡ old) new → IsListTo x (n + 1) new
-next_node x n old new so_far more =
-    let next : IsListTo x (suc n) new = record {
-      before = more.before;
-      is_before = subst (IsListTo x n) (sym more.is_before) so_far;
-      here = more.here;
-      breaking = more.breaking;
-      whole = more.whole;
-    } in
-    subst (λ (m : ℕ). IsListTo x m new) (sym (add-one n)) next

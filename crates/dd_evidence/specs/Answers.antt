@@ -1,13 +1,15 @@
--- The answers to questions that have one only: whether a configuration lives in a subshift, and which patterns a rule forbids.
+-- The answers to questions that have one only: whether a configuration lives in a subshift, and which patterns a rule forbids, and
+-- which of them without a cell too many.
 use Rattle.std.specs.Prelude.{ℤ, List}
 use Rattle.dd_pattern.specs.Tile.{Tile}
 use Rattle.dd_formula.specs.LocalRule.{LocalRule}
 use Rattle.dd_formula.specs.Living.{Lives}
 use Rattle.dd_certificate.specs.declared.answer.Listed.{Listed}
+use Rattle.dd_certificate.specs.declared.answer.Starred.{Starred}
 use Rattle.dd_certificate.specs.declared.answer.Answer.{Answer}
 use Rattle.dd_certificate.specs.declared.answer.Answer.TheVariants as answer
 use Rattle.dd_evidence.specs.Cells.{IsOutside}
-use Rattle.dd_evidence.specs.Lists.{IsForbiddenList}
+use Rattle.dd_evidence.specs.Lists.{IsForbiddenList, IsStarredList}
 
 -- that the configuration lives in the rule's subshift, or the first cell at which the rule is false
 pub data IsMemberCertificate (x : LocalRule) (t : Tile) : Answer → Type 0 where
@@ -17,3 +19,7 @@ pub data IsMemberCertificate (x : LocalRule) (t : Tile) : Answer → Type 0 wher
 -- the list of the patterns that the rule forbids
 pub data IsListCertificate (x : LocalRule) : Answer → Type 0 where
   all_forbidden : {patterns : List Listed} → IsForbiddenList x patterns → IsListCertificate x (answer.List patterns)
+
+-- the list of the minimal patterns
+pub data IsMinimalCertificate (x : LocalRule) : Answer → Type 0 where
+  all_minimal : {patterns : List Starred} → IsStarredList x patterns → IsMinimalCertificate x (answer.Minimal patterns)

@@ -4,5 +4,7 @@ pub mod Answers
 pub mod Cells
 -- periodic configurations, as answers give them
 pub mod Tiles
--- the patterns that a rule forbids, as an answer lists them
+-- lists that are made node by node
+pub mod NodeLists
+-- the patterns that a rule forbids, as answers list them
 pub mod Lists

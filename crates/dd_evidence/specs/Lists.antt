@@ -1,26 +1,29 @@
--- The patterns that a rule forbids, as an answer lists them.
-use Rattle.std.specs.Prelude.{ℕ, zero, suc, ◌≡◌, List, [], ◌++◌, map}
+-- The patterns that a rule forbids, as answers list them.
+use Rattle.std.specs.Prelude.{ℕ, Option, List, map, nat_eq}
+use Rattle.std.specs.List.{filter}
 use Rattle.dd_formula.specs.LocalRule.{LocalRule}
 use Rattle.dd_forbidden.specs.Breaking.{BreakingFillings}
+use Rattle.dd_minimal.specs.Minimal.{IsMinimalList}
 use Rattle.dd_certificate.specs.declared.answer.Listed.{Listed}
+use Rattle.dd_certificate.specs.declared.answer.Starred.{Starred}
+use Rattle.dd_evidence.specs.NodeLists.{IsListTo}
 
 -- a pattern: the node, and the symbols of the cells that the rule reads there, in cell order
 abbrev pub listed : ℕ → List ℕ → Listed
 listed a ss = record { node = a; symbols = ss }
 
--- after those of the nodes before n come all breaking fillings at n, in lexicographic order
-pub record IsListedAfter (x : LocalRule) (n : ℕ) (IsBefore : List Listed → Type 0) (patterns : List Listed) : Type 0 where
-  pub before : List Listed
-  pub is_before : IsBefore before
-  pub here : List (List ℕ)
-  pub breaking : BreakingFillings x n here
-  pub whole : patterns ≡ before ++ map (listed n) here
+-- one that leaves cells out
+abbrev pub starred : ℕ → List (Option ℕ) → Starred
+starred a p = record { node = a; symbols = p }
 
--- those of the first nodes, node by node
-abbrev pub IsListTo : LocalRule → ℕ → List Listed → Type 0
-IsListTo x zero patterns = patterns ≡ []
-IsListTo x (suc n) patterns = IsListedAfter x n (IsListTo x n) patterns
-
--- those of all nodes
+-- node by node all breaking fillings, in lexicographic order
 abbrev pub IsForbiddenList : LocalRule → List Listed → Type 0
-IsForbiddenList x patterns = IsListTo x x.nodes patterns
+IsForbiddenList x patterns = IsListTo (BreakingFillings x) listed x.nodes patterns
+
+-- node by node the minimal patterns, in the order in which they are found
+abbrev pub IsStarredList : LocalRule → List Starred → Type 0
+IsStarredList x patterns = IsListTo (IsMinimalList x) starred x.nodes patterns
+
+-- those of one node
+abbrev pub patterns_at : ℕ → List Starred → List (List (Option ℕ))
+patterns_at a patterns = map (λ (p : Starred). p.symbols) (filter (λ (p : Starred). nat_eq p.node a) patterns)

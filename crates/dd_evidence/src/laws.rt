@@ -1,16 +1,18 @@
 //! Laws of what answers write, as contracts of calls that do nothing.
-ghost use Rattle.std.specs.Prelude.{◌≡◌, ◌<◌, ◌↔◌, ℕ, ℤ, List, Contains};
+ghost use Rattle.std.specs.Prelude.{◌≡◌, ◌<◌, ◌↔◌, ℕ, ℤ, List, Contains, All};
 ghost use Rattle.dd_pattern.specs.Tile.{Tile, IsTile, IsPeriodic};
 ghost use Rattle.dd_formula.specs.LocalRule.{LocalRule, IsRule};
 ghost use Rattle.dd_formula.specs.Living.{Fits};
 ghost use Rattle.dd_certificate.specs.declared.answer.Listed.{Listed as AnyListed};
+ghost use Rattle.dd_certificate.specs.declared.answer.Starred.{Starred as AnyStarred};
 ghost use Rattle.dd_certificate.specs.declared.answer.Answer.TheVariants as answer;
 ghost use Rattle.dd_certificate.specs.Bounds.{IsWritable};
 ghost use Rattle.dd_forbidden.specs.Breaking.{IsBreaking};
+ghost use Rattle.dd_minimal.specs.Minimal.{IsMinimalList};
 ghost use Rattle.dd_question.specs.Lists.{HasFewPatterns};
 ghost use Rattle.dd_evidence.specs.Cells.{IsOutside};
 ghost use Rattle.dd_evidence.specs.Tiles.{IsWrittenBack};
-ghost use Rattle.dd_evidence.specs.Lists.{listed, IsForbiddenList};
+ghost use Rattle.dd_evidence.specs.Lists.{listed, IsForbiddenList, IsStarredList, patterns_at};
 
 /// Does nothing; its contract says that the numbers that write a configuration in an answer give it back.
 pub fn written_back()
@@ -39,6 +41,29 @@ pub fn listed_break()
 /// few fillings.
 pub fn lists_fit()
     ensures { (x : LocalRule) (patterns : List AnyListed) → IsRule x → HasFewPatterns x → IsForbiddenList x patterns → IsWritable (answer.List patterns) }
+{
+    dd_forbidden::short_list();
+    dd_forbidden::known_symbols();
+}
+
+/// Does nothing; its contract says that the minimal patterns of a rule are listed in one way.
+pub fn one_starred()
+    ensures { (x : LocalRule) (some others : List AnyStarred) → IsStarredList x some → IsStarredList x others → some ≡ others }
+{
+    dd_minimal::one_list();
+}
+
+/// Does nothing; its contract says that each listed pattern is one of a node of the rule, and that those of a node are its minimal
+/// list, so that what holds of that list holds of them.
+pub fn starred_are_minimal()
+    ensures nodes { (x : LocalRule) (patterns : List AnyStarred) → IsStarredList x patterns → All (λ p. p.node < x.nodes) patterns }
+    ensures minimal { (x : LocalRule) (patterns : List AnyStarred) (a : ℕ) → IsStarredList x patterns → a < x.nodes → IsMinimalList x a (patterns_at a patterns) }
+{}
+
+/// Does nothing; its contract says that an output can hold the list of the minimal patterns, where at each node the cells that the
+/// rule reads have few fillings.
+pub fn starred_fit()
+    ensures { (x : LocalRule) (patterns : List AnyStarred) → IsRule x → HasFewPatterns x → IsStarredList x patterns → IsWritable (answer.Minimal patterns) }
 {
     dd_forbidden::short_list();
     dd_forbidden::known_symbols();

@@ -1,8 +1,14 @@
-//! What answers write of parts of questions: cells, configurations, and the patterns that rules forbid.
+//! What answers write of parts of questions: cells, configurations, and the patterns that rules forbid, whole and without a cell
+//! too many.
 #![tactic(auto)]
 
 mod laws;
 mod listing;
+mod starring;
 
-pub use laws::{listed_break, lists_fit, one_list, places_fit, written_back};
+pub use laws::{
+    listed_break, lists_fit, one_list, one_starred, places_fit, starred_are_minimal, starred_fit,
+    written_back,
+};
 pub use listing::forbidden_patterns;
+pub use starring::minimal_patterns;

@@ -1,8 +1,9 @@
 //! The patterns that a rule forbids.
 ghost use Rattle.std.specs.Prelude.{◌≡◌, ◌<◌, IfOk, OnOk};
 ghost use Rattle.dd_question.specs.Lists.{HasFewPatterns};
-ghost use Rattle.dd_forbidden.specs.Breaking.{AreBreakingFillings};
-ghost use Rattle.dd_evidence.specs.Lists.{listed, IsListedAfter, IsForbiddenList};
+ghost use Rattle.dd_forbidden.specs.Breaking.{AreBreakingFillings, BreakingFillings};
+ghost use Rattle.dd_evidence.specs.NodeLists.{IsListedAfter};
+ghost use Rattle.dd_evidence.specs.Lists.{listed, IsForbiddenList};
 
 use dd_certificate::Listed;
 use dd_forbidden::{ForbiddenFault, forbidden};
@@ -47,7 +48,7 @@ fn push_node(
 ) -> Result<(), AllocError>
     requires node { node < rule.now.nodes }
     requires few { HasFewPatterns rule.now }
-    ensures { OnOk result (IsListedAfter rule.now node (λ before. before ≡ patterns.old) patterns.new) }
+    ensures { OnOk result (IsListedAfter (BreakingFillings rule.now) listed node (λ before. before ≡ patterns.old) patterns.new) }
 {
     let found = breaking(alloc, rule, node)?;
     for filling in &found {

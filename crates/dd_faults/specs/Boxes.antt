@@ -23,6 +23,10 @@ abbrev pub product : List ℕ → List Entry → ℕ
 product bytes [] = 1
 product bytes (e ∷ es) = entry_value bytes e * product bytes es
 
+-- the cells of a fundamental box, with these periods
+abbrev pub cells_of : Context → Vector → ℕ
+cells_of x v = product x.text v.entries * length x.known.setting.nodes
+
 -- the value of the entry for an axis, and 1 where there is none
 abbrev pub period_at : List ℕ → Vector → ℕ → ℕ
 period_at bytes v axis = option_map_or (entry_value bytes) (slice_get v.entries axis) 1
@@ -39,7 +43,7 @@ shear_fits d (Some v) = nat_le 2 d && has_entries 1 v
 
 abbrev pub box_fits : Context → Vector → Option Vector → ℕ → Bool
 box_fits x periods shear count =
-    has_entries (dimension_of x.known) periods && shear_fits (dimension_of x.known) shear && product x.text periods.entries * length x.known.setting.nodes == count
+    has_entries (dimension_of x.known) periods && shear_fits (dimension_of x.known) shear && cells_of x periods == count
 
 -- where the numbers of entries fit, no period is 0, since there is a symbol
 abbrev pub box_faults : Context → Vector → Option Vector → ℕ → List Fault

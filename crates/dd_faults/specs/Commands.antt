@@ -7,10 +7,10 @@ use Rattle.dd_topology.specs.Builtin.{grid_of}
 use Rattle.dd_written.specs.Values.{written_value}
 use Rattle.dd_commands.specs.Table.{row}
 use Rattle.dd_known.specs.Known.{dimension_of, named}
-use Rattle.dd_known.specs.Limits.{most_axes, most_nodes, most_symbols, most_edges, most_vectors, longest_strip, greatest_radius, greatest_period, most_pivots}
+use Rattle.dd_known.specs.Limits.{most_axes, most_nodes, most_symbols, most_edges, most_in_box, most_vectors, longest_strip, greatest_radius, greatest_period, most_pivots}
 use Rattle.dd_faults.specs.{Order.when, Order.over, Formulas.formula_faults}
 pub use Rattle.dd_faults.specs.Numbers.{unless, token_faults, entry_number, entry_value, signed_value, has_entries, is_far}
-pub use Rattle.dd_faults.specs.Boxes.{HasSets, is_allowed, symbol_faults, product, period_at, shear_of, shear_fits, box_fits, box_faults}
+pub use Rattle.dd_faults.specs.Boxes.{HasSets, is_allowed, symbol_faults, product, cells_of, period_at, shear_of, shear_fits, box_fits, box_faults}
 use Rattle.dd_faults.specs.Names.{place_of_name, missing, named_again}
 use Rattle.dd_faults.specs.Repeats.{twice_named, twice_labelled, twice_vectors}
 
@@ -55,12 +55,19 @@ is_no_strip bytes e = nat_lt (entry_value bytes e) 1 || nat_lt longest_strip (en
 abbrev pub strip_faults : Context → Vector → List Fault
 strip_faults x v = unless (length v.entries + 1 == dimension_of x.known) ++ over (list_any (is_no_strip x.text) v.entries) Limit.Periods
 
+abbrev pub is_zero : List ℕ → Entry → Bool
+is_zero bytes e = nat_lt (entry_value bytes e) 1
+
+abbrev pub torus_faults : Context → Vector → List Fault
+torus_faults x v = unless (has_entries (dimension_of x.known) v) ++ over (list_any (is_zero x.text) v.entries || nat_lt most_in_box (cells_of x v)) Limit.Periods
+
 abbrev pub vector_faults : Context → Vector → List Fault
 vector_faults x v = unless (has_entries (dimension_of x.known) v) ++ over (is_far x.text v) Limit.Vectors
 
 abbrev pub list_faults : Context → Lists → List Vector → List Fault
 list_faults x Lists.None vs = []
 list_faults x Lists.Strip vs = flat_map (strip_faults x) vs
+list_faults x Lists.Torus vs = flat_map (torus_faults x) vs
 list_faults x Lists.Vectors vs = twice_vectors x.text vs ++ (flat_map (vector_faults x) vs ++ over (nat_lt most_vectors (length vs)) Limit.Vectors)
 
 -- the alphabet has as many symbols as the query wants

@@ -1,8 +1,10 @@
-//! The faults of the symbols, periods and shears of configurations.
+//! The faults of the symbols, periods and shears of configurations, and of the periods of tori.
+ghost use Rattle.std.specs.List.{list_any};
 ghost use Rattle.std.specs.Prelude.{◌≡◌, ◌≤◌, ◌<◌, ◌++◌, ◌||◌, length, nat_lt, nat_le, min, OnOk};
 ghost use Rattle.dd_faults.specs.Order.{noted};
-ghost use Rattle.dd_faults.specs.Commands.{HasSets, is_allowed, symbol_faults, product, period_at, shear_of, shear_fits, box_fits, box_faults};
+ghost use Rattle.dd_faults.specs.Commands.{HasSets, is_allowed, symbol_faults, product, cells_of, is_zero, torus_faults, period_at, shear_of, shear_fits, box_fits, box_faults};
 
+use crate::each::Notes;
 use crate::fault::{Done, Fault, Found, Limit, note_if, note_over};
 use crate::numbers::{entry_value, has_entries, note_unless};
 use dd_commands::{Entry, Vector};
@@ -42,6 +44,39 @@ fn product(text: &Text, entries: &[Entry]) -> u32
     }
 }
 
+/// The number of cells of a fundamental box with these periods, and the greatest number of 32 bits for all that are greater.
+fn cells_of(context: &Context, periods: &Vector) -> u32
+    ensures { result ≡ min (cells_of context.now periods.now) 4294967295 }
+{
+    let volume = product(&context.text, periods.entries.as_slice());
+    volume.saturating_mul(context.known.setting.nodes.count())
+}
+
+/// Whether an entry is 0.
+fn has_zero(text: &Text, periods: &Vector) -> bool
+    ensures { result ≡ list_any (is_zero text.now) periods.now.entries }
+{
+    let mut entries = periods.entries.as_slice().iter();
+    entries.any(|entry| entry_value(text, *entry) < 1)
+}
+
+/// The periods of a torus.
+#[derive(Clone, Copy)]
+pub(crate) struct Torus<'a>(pub(crate) &'a Context);
+
+impl<'a> Notes<Vector> for Torus<'a> {
+    ghost faults = { λ torus. torus_faults torus.0.now };
+
+    fn note(&self, periods: &Vector, found: &mut Found) {
+        let Torus(context) = *self;
+        let dimension = context.known.setting.topology.dim();
+        note_unless(found, has_entries(dimension, periods));
+        let passed = has_zero(&context.text, periods)
+            || cells_of(context, periods) as usize > MOST_IN_BOX;
+        note_over(found, passed, Limit::Periods);
+    }
+}
+
 /// The value of the entry for an axis, and 1 where there is none; and the greatest number of 32 bits for all that are greater.
 pub fn period_at(text: &Text, periods: &Vector, axis: usize) -> u32
     ensures { result ≡ min (period_at text.now periods.now axis) 4294967295 }
@@ -78,8 +113,7 @@ fn box_fits(context: &Context, periods: &Vector, shear: &Option<Vector>, count: 
     if !has_entries(dimension, periods) || !shear_fits(dimension, shear) {
         return false;
     }
-    let volume = product(&context.text, periods.entries.as_slice());
-    volume.saturating_mul(setting.nodes.count()) as usize == count
+    cells_of(context, periods) as usize == count
 }
 
 /// Notes names that are not those of symbols which their nodes allow, periods that do not agree with so many symbols, and what is

@@ -41,6 +41,7 @@ pub enum Limit {
     /// Compositions are nested at most 64 deep.
     Depth,
     /// A configuration has at most 65,536 symbols, and its shear is less than its first period. A strip's periods are 1 to 64.
+    /// A torus has at most 65,536 cells, and no period 0.
     Periods,
     /// At most 16 vectors, with entries of at most 4 in absolute value.
     Vectors,

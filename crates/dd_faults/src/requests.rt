@@ -2,6 +2,7 @@
 ghost use Rattle.std.specs.{Prelude.◌≡◌, Prelude.OnOk, List.flat_map, List.zip};
 ghost use Rattle.dd_faults.specs.{Order.noted, Commands.word_faults, Commands.request_faults};
 
+use crate::boxes::Torus;
 use crate::each::note_each;
 use crate::fault::{Done, Found, Limit, note_over};
 use crate::names::note_missing;
@@ -36,6 +37,7 @@ pub(crate) fn request(alloc: Global, context: &Context, asked: &Request, found: 
     match row.lists {
         Lists::None => {}
         Lists::Strip => note_each(&Asked(context), vectors, found),
+        Lists::Torus => note_each(&Torus(context), vectors, found),
         Lists::Vectors => {
             note_twice(alloc, &context.text, vectors, found)?;
             note_each(context, vectors, found);

@@ -1,5 +1,5 @@
 -- The law of each row of the table of answers, and of the table.
-use Rattle.std.proofs.Common.{◌≡◌, ℕ, ◌≤◌, List, [], ◌∷◌, ◌++◌, length, drop, Some, None, true, refl, sym, ap, ◌∙◌, append_assoc, arith}
+use Rattle.std.proofs.Common.{◌≡◌, ℕ, ◌≤◌, List, [], ◌∷◌, ◌++◌, length, drop, Some, None, true, inl, inr, refl, sym, ap, ◌∙◌, append_assoc, arith}
 use Rattle.std.specs.Prelude.{ℤ, codes, All}
 use Rattle.std.specs.Fmt.{decimal, signed_decimal}
 use Rattle.std.proofs.lemmas.List.{append-nil}
@@ -7,51 +7,24 @@ use Rattle.dd_derivation.specs.declared.step.Step.{Step}
 use Rattle.dd_certificate.specs.declared.answer.Side.{Side}
 use Rattle.dd_certificate.specs.declared.answer.Reason.{Reason}
 use Rattle.dd_certificate.specs.declared.answer.Listed.{Listed}
+use Rattle.dd_certificate.specs.declared.answer.Starred.{Starred}
 use Rattle.dd_certificate.specs.declared.answer.Answer.{Answer}
 use Rattle.dd_certificate.specs.declared.answer.Answer.TheVariants as answer
-use Rattle.dd_certificate.specs.Text.{numbers_to_end, signed_to_end, fraction_to_end, refutation_text, pattern_text, verdict_text, further_lines}
-use Rattle.dd_certificate.specs.Bounds.{most_number, IsWritableNumber, IsWritableSigned, IsWritableRefutation, IsWritablePattern, IsWritable}
+use Rattle.dd_certificate.specs.Text.{numbers_to_end, signed_to_end, fraction_to_end, refutation_text, pattern_text, starred_text, further_lines}
+use Rattle.dd_certificate.specs.Bounds.{most_number, IsWritableNumber, IsWritableSigned, IsWritableRefutation, IsWritablePattern, IsWritableStarred, IsWritable}
 use Rattle.dd_output.specs.reading.Stops.{Entry, item, last}
 use Rattle.dd_output.specs.reading.Forms.{Form, word, number, both, after, counted, forked, table}
 use Rattle.dd_output.specs.reading.Lists.{numbers, integers}
 use Rattle.dd_output.specs.reading.Grammar as grammar
 use Rattle.dd_output.proofs.Lines.{line_rest, LineFits, integers_good}
 use Rattle.dd_output.proofs.Steps.{refutation_good}
-use Rattle.dd_output.proofs.Tables.{Keyed, is_among, good_table}
+use Rattle.dd_output.proofs.Tables.{is_among, good_table}
+use Rattle.dd_output.proofs.FirstBytes.{body_text, first_of, first_is, Row, second_of, Second, tail_text, Either, good_front}
+use Rattle.dd_output.proofs.Starred.{starred_good}
+use Rattle.dd_output.proofs.ConjugacyRows.{conjugate_good, broken_good}
+use Rattle.dd_output.proofs.LeastRows.{least_good, nothing_good}
 use Rattle.dd_output.proofs.Forms.{Good, good_word, good_same, good_mapped, good_number, good_both, good_after, good_counted, good_forked, CountedIn, counted_text, ForkFits, fork_text, Within, ended_number, anything}
 use Rattle.dd_output.proofs.Rows.{NumbersFit, numbers_rest, line_good, numbers_is, signed_is, FractionFits, fraction_text, fraction_good, pattern_good, CycleFits, cycle_text, cycle_good, amounts_good, SidedFits, sided_rest, sided_is, sides_good, reason_line, reason_good}
-
--- all lines of an answer, without the query's number
-abbrev pub body_text : Answer → List ℕ
-body_text a = verdict_text a ++ further_lines a
-
--- the byte that they begin with
-abbrev pub first_of : Answer → ℕ
-first_of answer.Inside = 73
-first_of (answer.Outside place) = 79
-first_of (answer.Yes radius steps) = 89
-first_of (answer.YesBoth left right left_steps right_steps) = 89
-first_of (answer.No side periods shear symbols) = 78
-first_of (answer.Unknown reason) = 85
-first_of (answer.List patterns) = 76
-first_of (answer.Density numerator denominator cycle potentials) = 68
-first_of (answer.Empty ranks) = 69
-first_of (answer.Bound numerator denominator common amounts duals) = 66
-
-first_is : (a : Answer) → IsWritable a → (more : List ℕ) × (body_text a ≡ first_of a ∷ more)
-first_is answer.Inside good = (drop 1 (body_text answer.Inside), refl)
-first_is (answer.Outside place) good = (drop 1 (body_text (answer.Outside place)), refl)
-first_is (answer.Yes radius steps) good = (drop 1 (body_text (answer.Yes radius steps)), refl)
-first_is (answer.YesBoth left right left_steps right_steps) good = (drop 1 (body_text (answer.YesBoth left right left_steps right_steps)), refl)
-first_is (answer.No side periods shear symbols) good = (drop 1 (body_text (answer.No side periods shear symbols)), refl)
-first_is (answer.Unknown reason) good = (drop 1 (body_text (answer.Unknown reason)), refl)
-first_is (answer.List patterns) good = (drop 1 (body_text (answer.List patterns)), refl)
-first_is (answer.Density numerator denominator cycle potentials) good = (drop 1 (body_text (answer.Density numerator denominator cycle potentials)), refl)
-first_is (answer.Empty ranks) good = (drop 1 (body_text (answer.Empty ranks)), refl)
-first_is (answer.Bound numerator denominator common amounts duals) good = (drop 1 (body_text (answer.Bound numerator denominator common amounts duals)), refl)
-
-abbrev Row : ℕ → Answer → Type 0
-Row = Keyed IsWritable first_of
 
 -- ---- IN and OUT
 
@@ -142,21 +115,21 @@ no_is s ps q symbols good some =
     ap (λ (l : List ℕ). codes "NO" ++ (l ++ (codes "conf" ++ numbers_to_end symbols))) (sided_is (s, (ps, q)) good)
     ∙ ap (λ (l : List ℕ). codes "NO " ++ (sided_rest (s, (ps, q)) ++ (codes "conf" ++ l))) (numbers_is symbols some)
 
-no_from : (a : Answer) → Row 78 a → (x : (Side × (List ℕ × ℕ)) × List ℕ) × (body_text a ≡ codes "NO " ++ no_rest x) × NoFits x × (grammar.no_of x ≡ a)
+no_from : (a : Answer) → Second 78 32 a → (x : (Side × (List ℕ × ℕ)) × List ℕ) × (tail_text 2 a ≡ codes " " ++ no_rest x) × NoFits x × (grammar.no_of x ≡ a)
 no_from (answer.No s ps q symbols) good =
-    let fits : SidedFits (s, (ps, q)) = (good.0.0, good.0.1, good.0.2, good.0.3) in
-    (((s, (ps, q)), symbols), no_is s ps q symbols fits good.0.4.0, (fits, (good.0.4.0, tt, good.0.4.1)), refl)
+    let fits : SidedFits (s, (ps, q)) = (good.0.0.0, good.0.0.1, good.0.0.2, good.0.0.3) in
+    (((s, (ps, q)), symbols), ap (λ (l : List ℕ). drop 2 l) (no_is s ps q symbols fits good.0.0.4.0), (fits, (good.0.0.4.0, tt, good.0.0.4.1)), refl)
 no_from a good = absurd (omega (arith, good.1))
 
-no_good : Good (Row 78) body_text grammar.no_row
+no_good : Good (Second 78 32) (tail_text 2) grammar.no_row
 unfolding grammar.no_row
 no_good =
     let conf = after (codes "conf ") (numbers 1 None) in
-    good_mapped NoFits (λ x. codes "NO " ++ no_rest x) (after (codes "NO ") (both grammar.side_and_periods conf)) (Row 78) body_text grammar.no_of
-    (good_after (codes "NO ") NoFits no_rest (both grammar.side_and_periods conf)
+    good_mapped NoFits (λ x. codes " " ++ no_rest x) (after (codes " ") (both grammar.side_and_periods conf)) (Second 78 32) (tail_text 2) grammar.no_of
+    (good_after (codes " ") NoFits no_rest (both grammar.side_and_periods conf)
     (good_both SidedFits sided_rest grammar.side_and_periods NumbersFit (λ ns. codes "conf " ++ numbers_rest ns) conf sides_good
     (good_after (codes "conf ") NumbersFit numbers_rest (numbers 1 None) line_good)))
-    (λ x good. (no_is x.0.0 x.0.1.0 x.0.1.1 x.1 good.0 good.1.0, ((good.0.0, good.0.1, good.0.2, good.0.3, (good.1.0, good.1.2)), refl))) no_from
+    (λ x good. (ap (λ (l : List ℕ). drop 2 l) (no_is x.0.0 x.0.1.0 x.0.1.1 x.1 good.0 good.1.0), (((good.0.0, good.0.1, good.0.2, good.0.3, (good.1.0, good.1.2)), refl), refl))) no_from
 
 -- ---- UNKNOWN and LIST
 
@@ -180,17 +153,17 @@ PatternsFit = CountedIn IsWritablePattern 0 most_number
 list_is : (ps : List Listed) → body_text (answer.List ps) ≡ codes "LIST " ++ counted_text pattern_text ps
 list_is ps = ap (λ (l : List ℕ). codes "LIST " ++ l) (append_assoc (decimal (length ps)) (10 ∷ []) (further_lines (answer.List ps)))
 
-list_from : (a : Answer) → Row 76 a → (x : List Listed) × (body_text a ≡ codes "LIST " ++ counted_text pattern_text x) × PatternsFit x × (grammar.list_of x ≡ a)
-list_from (answer.List ps) good = (ps, list_is ps, (omega arith, good.0.0, good.0.1), refl)
+list_from : (a : Answer) → Second 76 73 a → (x : List Listed) × (tail_text 1 a ≡ codes "IST " ++ counted_text pattern_text x) × PatternsFit x × (grammar.list_of x ≡ a)
+list_from (answer.List ps) good = (ps, ap (λ (l : List ℕ). drop 1 l) (list_is ps), (omega arith, good.0.0.0, good.0.0.1), refl)
 list_from a good = absurd (omega (arith, good.1))
 
-list_good : Good (Row 76) body_text grammar.list_row
+list_good : Good (Second 76 73) (tail_text 1) grammar.list_row
 unfolding grammar.list_row
 list_good =
-    good_mapped PatternsFit (λ ps. codes "LIST " ++ counted_text pattern_text ps) (after (codes "LIST ") (counted 0 most_number grammar.pattern)) (Row 76) body_text grammar.list_of
-    (good_after (codes "LIST ") PatternsFit (counted_text pattern_text) (counted 0 most_number grammar.pattern)
+    good_mapped PatternsFit (λ ps. codes "IST " ++ counted_text pattern_text ps) (after (codes "IST ") (counted 0 most_number grammar.pattern)) (Second 76 73) (tail_text 1) grammar.list_of
+    (good_after (codes "IST ") PatternsFit (counted_text pattern_text) (counted 0 most_number grammar.pattern)
     (good_counted IsWritablePattern pattern_text grammar.pattern 0 most_number (omega arith) (omega arith) (omega arith) pattern_good))
-    (λ ps good. (list_is ps, ((good.1, good.2), refl))) list_from
+    (λ ps good. (ap (λ (l : List ℕ). drop 1 l) (list_is ps), (((good.1, good.2), refl), refl))) list_from
 
 -- ---- DENSITY, EMPTY and BOUND
 
@@ -256,9 +229,13 @@ bound_is p q c amounts duals some =
     ap (λ (l : List ℕ). codes "BOUND " ++ (fraction_to_end p q ++ (codes "denominator " ++ (ended_number 10 c ++ (codes "amounts" ++ (numbers_to_end amounts ++ (codes "duals" ++ l)))))))
     (numbers_is duals some)
 
-bound_from : (a : Answer) → Row 66 a → (x : (ℕ × ℕ) × (ℕ × (List ℕ × List ℕ))) × (body_text a ≡ codes "BOUND " ++ bound_rest x) × BoundFits x × (grammar.bound_of x ≡ a)
-bound_from (answer.Bound p q c amounts duals) good =
-    (((p, q), (c, (amounts, duals))), bound_is p q c amounts duals good.0.4.0, (((omega arith, good.0.0), good.0.1), (good.0.2, (good.0.3, (good.0.4.0, tt, good.0.4.1)))), refl)
+bound_from : (a : Answer) → Second 66 79 a → (x : (ℕ × ℕ) × (ℕ × (List ℕ × List ℕ))) × (tail_text 1 a ≡ codes "OUND " ++ bound_rest x) × BoundFits x × (grammar.bound_of x ≡ a)
+bound_from (answer.Bound p q c amounts duals) good = (
+  ((p, q), (c, (amounts, duals))),
+  ap (λ (l : List ℕ). drop 1 l) (bound_is p q c amounts duals good.0.0.4.0),
+  (((omega arith, good.0.0.0), good.0.0.1), (good.0.0.2, (good.0.0.3, (good.0.0.4.0, tt, good.0.0.4.1)))),
+  refl,
+)
 bound_from a good = absurd (omega (arith, good.1))
 
 abbrev DualsFit : List ℕ × List ℕ → Type 0
@@ -275,25 +252,94 @@ duals_good =
     (good_both (All IsWritableNumber) numbers_to_end grammar.amounts NumbersFit (λ ns. codes "duals " ++ numbers_rest ns) duals amounts_good
     (good_after (codes "duals ") NumbersFit numbers_rest (numbers 1 None) line_good))
 
-bound_good : Good (Row 66) body_text grammar.bound_row
+bound_good : Good (Second 66 79) (tail_text 1) grammar.bound_row
 unfolding grammar.bound_row
 bound_good =
     let common = after (codes "denominator ") (both (number 1 most_number 10) grammar.amounts_and_duals) in
     let G : ℕ × (List ℕ × List ℕ) → Type 0 = λ x. Within 1 most_number x.0 × DualsFit x.1 in
     let u : ℕ × (List ℕ × List ℕ) → List ℕ = λ x. ended_number 10 x.0 ++ (codes "amounts" ++ duals_rest x.1) in
-    good_mapped BoundFits (λ x. codes "BOUND " ++ bound_rest x) (after (codes "BOUND ") (both grammar.fraction common)) (Row 66) body_text grammar.bound_of
-    (good_after (codes "BOUND ") BoundFits bound_rest (both grammar.fraction common)
+    good_mapped BoundFits (λ x. codes "OUND " ++ bound_rest x) (after (codes "OUND ") (both grammar.fraction common)) (Second 66 79) (tail_text 1) grammar.bound_of
+    (good_after (codes "OUND ") BoundFits bound_rest (both grammar.fraction common)
     (good_both FractionFits fraction_text grammar.fraction G (λ x. codes "denominator " ++ u x) common fraction_good
     (good_after (codes "denominator ") G u (both (number 1 most_number 10) grammar.amounts_and_duals)
     (good_both (Within 1 most_number) (ended_number 10) (number 1 most_number 10) DualsFit (λ x. codes "amounts" ++ duals_rest x) grammar.amounts_and_duals
     (good_number 1 most_number 10 (omega arith) (omega arith) (omega arith) refl) duals_good))))
-    (λ x good. (bound_is x.0.0 x.0.1 x.1.0 x.1.1.0 x.1.1.1 good.1.1.1.0, ((good.0.0.1, good.0.1, good.1.0, good.1.1.0, (good.1.1.1.0, good.1.1.1.2)), refl))) bound_from
+    (λ x good. (
+      ap (λ (l : List ℕ). drop 1 l) (bound_is x.0.0 x.0.1 x.1.0 x.1.1.0 x.1.1.1 good.1.1.1.0),
+      (((good.0.0.1, good.0.1, good.1.0, good.1.1.0, (good.1.1.1.0, good.1.1.1.2)), refl), refl),
+    )) bound_from
+
+-- ---- MINIMAL
+
+abbrev StarredFit : List Starred → Type 0
+StarredFit = CountedIn IsWritableStarred 0 most_number
+
+minimal_is : (ps : List Starred) → body_text (answer.Minimal ps) ≡ codes "MINIMAL " ++ counted_text starred_text ps
+minimal_is ps = ap (λ (l : List ℕ). codes "MINIMAL " ++ l) (append_assoc (decimal (length ps)) (10 ∷ []) (further_lines (answer.Minimal ps)))
+
+minimal_from : (a : Answer) → Row 77 a → (x : List Starred) × (body_text a ≡ codes "MINIMAL " ++ counted_text starred_text x) × StarredFit x × (grammar.minimal_of x ≡ a)
+minimal_from (answer.Minimal ps) good = (ps, minimal_is ps, (omega arith, good.0.0, good.0.1), refl)
+minimal_from a good = absurd (omega (arith, good.1))
+
+minimal_good : Good (Row 77) body_text grammar.minimal_row
+unfolding grammar.minimal_row
+minimal_good =
+    good_mapped StarredFit (λ ps. codes "MINIMAL " ++ counted_text starred_text ps) (after (codes "MINIMAL ") (counted 0 most_number grammar.starred)) (Row 77) body_text grammar.minimal_of
+    (good_after (codes "MINIMAL ") StarredFit (counted_text starred_text) (counted 0 most_number grammar.starred)
+    (good_counted IsWritableStarred starred_text grammar.starred 0 most_number (omega arith) (omega arith) (omega arith) starred_good))
+    (λ ps good. (minimal_is ps, ((good.1, good.2), refl))) minimal_from
+
+-- ---- kinds whose texts begin alike
+
+no_shared : (a : Answer) → Row 78 a → (body_text a ≡ codes "NO" ++ tail_text 2 a) × Either 78 78 32 a
+no_shared (answer.No side periods shear symbols) good = (refl, inr (good, refl))
+no_shared (answer.Nothing steps) good = (refl, inl (good, refl))
+no_shared a good = absurd (omega (arith, good.1))
+
+no_next : (a : Answer) → Row 78 a → (more : List ℕ) × (tail_text 2 a ≡ second_of a ∷ more)
+no_next (answer.No s ps q symbols) good =
+    let is = no_is s ps q symbols (good.0.0, good.0.1, good.0.2, good.0.3) good.0.4.0 in
+    (no_rest ((s, (ps, q)), symbols), ap (λ (l : List ℕ). drop 2 l) is)
+no_next (answer.Nothing steps) good = (drop 3 (body_text (answer.Nothing steps)), refl)
+no_next a good = absurd (omega (arith, good.1))
+
+no_or_nothing_good : Good (Row 78) body_text grammar.no_or_nothing
+unfolding grammar.no_or_nothing
+no_or_nothing_good = good_front (codes "NO") 2 78 78 32 grammar.nothing_row grammar.no_row refl nothing_good no_good no_shared no_next
+
+list_shared : (a : Answer) → Row 76 a → (body_text a ≡ codes "L" ++ tail_text 1 a) × Either 76 69 73 a
+list_shared (answer.List patterns) good = (refl, inr (good, refl))
+list_shared (answer.Least weight symbols steps) good = (refl, inl (good, refl))
+list_shared a good = absurd (omega (arith, good.1))
+
+list_next : (a : Answer) → Row 76 a → (more : List ℕ) × (tail_text 1 a ≡ second_of a ∷ more)
+list_next (answer.List patterns) good = (drop 2 (body_text (answer.List patterns)), refl)
+list_next (answer.Least weight symbols steps) good = (drop 2 (body_text (answer.Least weight symbols steps)), refl)
+list_next a good = absurd (omega (arith, good.1))
+
+list_or_least_good : Good (Row 76) body_text grammar.list_or_least
+unfolding grammar.list_or_least
+list_or_least_good = good_front (codes "L") 1 76 69 73 grammar.least_row grammar.list_row refl least_good list_good list_shared list_next
+
+bound_shared : (a : Answer) → Row 66 a → (body_text a ≡ codes "B" ++ tail_text 1 a) × Either 66 82 79 a
+bound_shared (answer.Bound numerator denominator common amounts duals) good = (refl, inr (good, refl))
+bound_shared (answer.Broken part periods shear symbols) good = (refl, inl (good, refl))
+bound_shared a good = absurd (omega (arith, good.1))
+
+bound_next : (a : Answer) → Row 66 a → (more : List ℕ) × (tail_text 1 a ≡ second_of a ∷ more)
+bound_next (answer.Bound numerator denominator common amounts duals) good = (drop 2 (body_text (answer.Bound numerator denominator common amounts duals)), refl)
+bound_next (answer.Broken part periods shear symbols) good = (drop 2 (body_text (answer.Broken part periods shear symbols)), refl)
+bound_next a good = absurd (omega (arith, good.1))
+
+bound_or_broken_good : Good (Row 66) body_text grammar.bound_or_broken
+unfolding grammar.bound_or_broken
+bound_or_broken_good = good_front (codes "B") 1 66 82 79 grammar.broken_row grammar.bound_row refl broken_good bound_good bound_shared bound_next
 
 -- ---- the table
 
 abbrev later_rows : List (ℕ × Form Answer)
-later_rows = (89, grammar.yes_row) ∷ (78, grammar.no_row) ∷ (85, grammar.unknown_row) ∷ (76, grammar.list_row) ∷ (68, grammar.density_row) ∷ (69, grammar.empty_row)
-    ∷ (66, grammar.bound_row) ∷ (73, grammar.inside_row) ∷ []
+later_rows = (89, grammar.yes_row) ∷ (78, grammar.no_or_nothing) ∷ (85, grammar.unknown_row) ∷ (76, grammar.list_or_least) ∷ (68, grammar.density_row) ∷ (69, grammar.empty_row)
+    ∷ (66, grammar.bound_or_broken) ∷ (77, grammar.minimal_row) ∷ (67, grammar.conjugate_row) ∷ (73, grammar.inside_row) ∷ []
 
 all_kinds : (a : Answer) → is_among (first_of a) (79, grammar.outside_row) later_rows ≡ true
 all_kinds answer.Inside = refl
@@ -306,11 +352,16 @@ all_kinds (answer.List patterns) = refl
 all_kinds (answer.Density numerator denominator cycle potentials) = refl
 all_kinds (answer.Empty ranks) = refl
 all_kinds (answer.Bound numerator denominator common amounts duals) = refl
+all_kinds (answer.Minimal patterns) = refl
+all_kinds (answer.Conjugate radii steps) = refl
+all_kinds (answer.Broken part periods shear symbols) = refl
+all_kinds (answer.Least weight symbols steps) = refl
+all_kinds (answer.Nothing steps) = refl
 
 pub answer_good : Good IsWritable body_text grammar.answer_form
 unfolding grammar.answer_form
 answer_good =
     good_same (λ a. IsWritable a × (is_among (first_of a) (79, grammar.outside_row) later_rows ≡ true)) body_text (table (79, grammar.outside_row) later_rows) IsWritable body_text
     (good_table IsWritable first_of body_text first_is (79, grammar.outside_row) later_rows refl
-    (outside_good, (yes_good, (no_good, (unknown_good, (list_good, (density_good, (empty_good, (bound_good, inside_good)))))))))
+    (outside_good, (yes_good, (no_or_nothing_good, (unknown_good, (list_or_least_good, (density_good, (empty_good, (bound_or_broken_good, (minimal_good, (conjugate_good, inside_good)))))))))))
     (λ a good. (refl, good.0)) (λ a good. (refl, (good, all_kinds a)))

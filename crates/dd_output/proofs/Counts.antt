@@ -1,12 +1,13 @@
 -- Numbers that tell how much follows, and loops over a count.
-use Rattle.std.proofs.Common.{◌≡◌, ℕ, suc, ◌+◌, ◌-◌, ◌*◌, ◌<◌, ◌≤◌, List, [], ◌∷◌, ◌++◌, length, Result, Ok, Err, Bool, true, false, cond, refl, sym, ap, ◌∙◌, append_assoc, arith}
+use Rattle.std.proofs.Common.{◌≡◌, ℕ, suc, ◌+◌, ◌-◌, ◌*◌, ◌<◌, List, [], ◌∷◌, ◌++◌, length, Result, Ok, Err, Bool, true, false, cond, refl, sym, ap, ◌∙◌, append_assoc, arith}
 use Rattle.std.specs.Prelude.{◌==◌, ◌||◌}
-use Rattle.std.proofs.lemmas.List.{append-nil}
+use Rattle.dd_certificate.specs.Bounds.{most_number}
 use Rattle.dd_output.specs.declared.fault.ReadFault.{ReadFault}
 use Rattle.dd_output.specs.declared.fault.ReadFault.TheVariants as faults
 use Rattle.dd_output.specs.reading.Stops.{Stop, Read, ◌>>=◌, before, Gives, Fails, goes_on, starts, digits_at, number_at, copies, many_at, begins, word_at}
-use Rattle.std.specs.Prelude.{ℤ}
+use Rattle.std.specs.Prelude.{ℤ, Option}
 use Rattle.dd_output.specs.reading.Lists.{minus_of, plus_of, signed_at}
+use Rattle.dd_output.specs.reading.Stars.{end_byte_at, star_of, symbol_of, kept_at}
 use Rattle.dd_output.proofs.Loops.{fails_then, fails_before}
 
 -- two readings of one input, that differ at most in the missing text
@@ -72,6 +73,23 @@ signed_alike bound end other rest more bytes =
 pub signed_any : {X : Type 0} (view : X → (ℤ × ℕ) × List ℕ) (result : Result X ReadFault) (bound end other : ℕ) (rest bytes : List ℕ)
     → Gives view result (signed_at bound end other [] bytes) → Gives view result (signed_at bound end other rest bytes)
 signed_any view result bound end other rest bytes = gives_alike view result _ _ (signed_alike bound end other [] rest bytes)
+
+byte_alike : (end other : ℕ) (rest more bytes : List ℕ) → Alike (end_byte_at end other rest bytes) (end_byte_at end other more bytes)
+byte_alike end other rest more [] = refl
+byte_alike end other rest more (b ∷ bytes) = alike_cond (b == end || b == other) _ _ _ _ refl refl
+
+kept_alike : (end other : ℕ) (rest more bytes : List ℕ) → Alike (kept_at end other rest bytes) (kept_at end other more bytes)
+unfolding kept_at
+kept_alike end other rest more bytes =
+    alike_cond (begins 42 bytes) _ _ _ _
+    (map_alike star_of _ _ (then_alike (end ∷ rest) (end ∷ more) (word_at (42 ∷ []) bytes)
+    (λ x. end_byte_at end other rest x.1) (λ x. end_byte_at end other more x.1)
+    (λ x. byte_alike end other rest more x.1)))
+    (map_alike symbol_of _ _ (number_alike 0 most_number end other (λ _. rest) (λ _. more) bytes))
+
+pub kept_any : {X : Type 0} (view : X → (Option ℕ × ℕ) × List ℕ) (result : Result X ReadFault) (end other : ℕ) (rest bytes : List ℕ)
+    → Gives view result (kept_at end other [] bytes) → Gives view result (kept_at end other rest bytes)
+kept_any view result end other rest bytes = gives_alike view result _ _ (kept_alike end other [] rest bytes)
 
 -- ---- loops over a count
 

@@ -10,7 +10,7 @@ use Rattle.std.proofs.lemmas.List.{length-replicate}
 use Rattle.std.proofs.lemmas.List.Concat.{flat_map-cons}
 use Rattle.std.proofs.lemmas.List.Elements.{All-from_recursion, recursion_from_All}
 use Rattle.dd_output.specs.reading.Stops.{Read, before, word_at, is_digit, number_at, then_at, map_at, many_at, copies, Entry, item, last}
-use Rattle.dd_output.specs.reading.Forms.{Form, nothing, word, number, both, after, mapped, either, counted_of, counted, last_of, item_of, fork_of, forked}
+use Rattle.dd_output.specs.reading.Forms.{Form, nothing, word, number, both, after, mapped, either, counted_of, counted, times, last_of, item_of, fork_of, forked}
 use Rattle.dd_output.proofs.Readers.{Reads, before_reads, then_reads, map_reads, same_reads, many_reads, choice_reads}
 use Rattle.dd_output.proofs.Tokens.{word_reads, after_reads}
 use Rattle.dd_output.proofs.Numbers.{IsEnd, number_reads}
@@ -152,6 +152,34 @@ copies_fit F x good (suc n) = (good, copies_fit F x good n)
 abbrev Counted : {A : Type 0} → (A → Type 0) → ℕ → List A → Type 0
 Counted F n xs = (length xs ≡ n) × AllByRecursion F xs
 
+-- so many values, each as it should be
+many_text : {A : Type 0} (F : A → Type 0) (t : A → List ℕ) (one : List ℕ → Read A) (x : A) → ReadsText F t one → F x → (n : ℕ)
+    → ReadsText (Counted F n) (flat_map t) (many_at one (t x) n)
+many_text {A} F t one x law good =
+    let D : ℕ → List ℕ → Type 0 = λ n. IsText (Counted F n) (flat_map t) in
+    many_reads F t (IsText F t) one (t x) D law
+    (λ n text a. (
+      a.0 ∷ replicate n x,
+      (ap suc (length-replicate n x), (a.1, copies_fit F x good n)),
+      ap (λ (l : List ℕ). l ++ copies n (t x)) a.2 ∙ (ap (λ (l : List ℕ). t a.0 ++ l) (copies_text t x n) ∙ sym (flat_map-cons t a.0 (replicate n x))),
+    ))
+    (λ n y text fit a. (y ∷ a.0, (ap suc a.1.0, (fit, a.1.1)), ap (λ (l : List ℕ). t y ++ l) a.2 ∙ sym (flat_map-cons t y a.0)))
+
+abbrev pub TimesFit : {A : Type 0} → (A → Type 0) → ℕ → List A → Type 0
+TimesFit F n xs = (length xs ≡ n) × All F xs
+
+pub good_times : {A : Type 0} (F : A → Type 0) (t : A → List ℕ) (f : Form A) (n : ℕ) → Good F t f → Good (TimesFit F n) (flat_map t) (times n f)
+good_times {A} F t f n good = record {
+  law = subst (λ (least : List ℕ). ReadsText (TimesFit F n) (flat_map t) (many_at f.read least n)) (sym good.is)
+      (same_reads (Counted F n) (flat_map t) (IsText (Counted F n) (flat_map t)) (many_at f.read (t good.value) n) (TimesFit F n) (flat_map t) (IsText (TimesFit F n) (flat_map t))
+      (many_text F t f.read good.value good.law good.fits n)
+      (λ xs fits. (refl, (fits.0, All-from_recursion F xs fits.1))) (λ xs fits. (refl, (fits.0, recursion_from_All F xs fits.1)))
+      (λ text a. (a.0, (a.1.0, All-from_recursion F a.0 a.1.1), a.2)));
+  value = replicate n good.value;
+  fits = (length-replicate n good.value, All-from_recursion F (replicate n good.value) (copies_fit F good.value good.fits n));
+  is = ap (λ (l : List ℕ). copies n l) good.is ∙ copies_text t good.value n;
+}
+
 abbrev pub CountedIn : {A : Type 0} → (A → Type 0) → ℕ → ℕ → List A → Type 0
 CountedIn F low bound xs = (low ≤ length xs) × (length xs ≤ bound) × All F xs
 
@@ -168,14 +196,7 @@ text_counted {A} F t one x low bound small some fits law good =
     let P : (ℕ × ℕ) × List A → Type 0 = λ p. InBounds low bound 10 10 p.0 × Counted F p.0.0 p.1 in
     let u : (ℕ × ℕ) × List A → List ℕ = λ p. number_text p.0 ++ flat_map t p.1 in
     let D : ℕ → List ℕ → Type 0 = λ n. IsText (Counted F n) (flat_map t) in
-    let many : (n : ℕ) → Reads (Counted F n) (flat_map t) (D n) (many_at one (t x) n) =
-    many_reads F t (IsText F t) one (t x) D law
-    (λ n text a. (
-      a.0 ∷ replicate n x,
-      (ap suc (length-replicate n x), (a.1, copies_fit F x good n)),
-      ap (λ (l : List ℕ). l ++ copies n (t x)) a.2 ∙ (ap (λ (l : List ℕ). t a.0 ++ l) (copies_text t x n) ∙ sym (flat_map-cons t a.0 (replicate n x))),
-    ))
-    (λ n y text fit a. (y ∷ a.0, (ap suc a.1.0, (fit, a.1.1)), ap (λ (l : List ℕ). t y ++ l) a.2 ∙ sym (flat_map-cons t y a.0))) in
+    let many = many_text F t one x law good in
     let number : Reads (InBounds low bound 10 10) number_text (IsText P u) (number_at low bound 10 10 (λ n. copies n (t x))) =
     number_reads low bound 10 10 (λ n. copies n (t x)) small some fits refl refl (IsText P u)
     (λ m least most. (

@@ -12,6 +12,10 @@ pub mod Lines
 pub mod Steps
 pub mod Periods
 pub mod Rows
+pub mod Starred
+pub mod FirstBytes
+pub mod ConjugacyRows
+pub mod LeastRows
 pub mod AnswerRows
 pub mod Outputs
 pub mod Whole

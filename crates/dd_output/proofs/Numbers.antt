@@ -28,11 +28,11 @@ decimal_more n d some digit fits =
 abbrev pub IsEnd : ℕ → ℕ → ℕ → Type 0
 IsEnd end other e = (e ≡ end) ⊎ (e ≡ other)
 
-is_end : (end other e : ℕ) → IsEnd end other e → (e == end || e == other) ≡ true
+pub is_end : (end other e : ℕ) → IsEnd end other e → (e == end || e == other) ≡ true
 is_end end other e (inl p) = or_left (e == end) (e == other) (eq-eqb e end p)
 is_end end other e (inr p) = or_right (e == end) (e == other) (eq-eqb e other p)
 
-IsEnd_from : (end other e : ℕ) → (e == end || e == other) ≡ true → IsEnd end other e
+pub IsEnd_from : (end other e : ℕ) → (e == end || e == other) ≡ true → IsEnd end other e
 IsEnd_from end other e p = elim (or_cases (e == end) (e == other) p) [
   | inl q ↦ inl (eqb-true e end q)
   | inr q ↦ inr (eqb-true e other q)

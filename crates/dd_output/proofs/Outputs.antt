@@ -25,7 +25,8 @@ use Rattle.dd_output.proofs.Loops.{Unrolls}
 use Rattle.dd_output.proofs.EndedLists.{IsList, list_more}
 use Rattle.dd_output.proofs.Forms.{IsText, ReadsText, InBounds, number_text, only, text_map}
 use Rattle.dd_output.proofs.Periods.{cond_reads}
-use Rattle.dd_output.proofs.AnswerRows.{body_text, answer_good}
+use Rattle.dd_output.proofs.FirstBytes.{body_text}
+use Rattle.dd_output.proofs.AnswerRows.{answer_good}
 
 -- the text of the answer at the place k, from 0
 abbrev pub answer_text_at : ℕ → Answer → List ℕ

@@ -182,7 +182,7 @@ OnSide s x = (x.0 ≡ s) × PeriodsFit x.1
 abbrev pub sided_rest : Side × (List ℕ × ℕ) → List ℕ
 sided_rest x = drop 1 (side_text x.0 ++ (spaced_out x.1.0 ++ (shear_text x.1.1 ++ line_feed)))
 
-periods_is : (ps : List ℕ) (n : ℕ) → 1 ≤ length ps → spaced_out ps ++ (shear_text n ++ line_feed) ≡ 32 ∷ periods_rest (ps, n)
+pub periods_is : (ps : List ℕ) (n : ℕ) → 1 ≤ length ps → spaced_out ps ++ (shear_text n ++ line_feed) ≡ 32 ∷ periods_rest (ps, n)
 periods_is [] n some = absurd (omega (arith, some))
 periods_is (p ∷ ps) n some = refl
 

@@ -2,6 +2,7 @@
 pub mod Stops
 pub mod Forms
 pub mod Lists
+pub mod Stars
 pub mod Periods
 pub mod Grammar
 pub mod Whole

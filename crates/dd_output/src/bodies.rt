@@ -5,11 +5,14 @@ ghost use Rattle.dd_output.specs.reading.Stops.{Gives, number_at, many_at, copie
 ghost use Rattle.dd_output.specs.reading.Lists.{zeros};
 ghost use Rattle.dd_output.specs.reading.Grammar as grammar;
 
+use crate::conjugacies::{broken_of, conjugate_of};
 use crate::derivations::refutation_of;
 use crate::fault::ReadFault;
+use crate::least::{least_of, nothing_of};
 use crate::lexing::{begins, number_at, word_at};
 use crate::lists::{integers_of, numbers_of};
 use crate::sides::side_and_periods_of;
+use crate::stars::minimal_of;
 use dd_certificate::{Answer, Listed, Reason};
 use dd_derivation::Step;
 use dd_values::{Items, MOST_NUMBER};
@@ -63,11 +66,12 @@ fn yes_of(alloc: Global, bytes: &[u8]) -> Result<(Answer, &[u8]), ReadFault>
 
 // ---- NO and UNKNOWN
 
+/// The text after `NO`.
 #[tactic(auto, unfolding(crate::specs::reading::Grammar::no_row))]
 fn no_of(alloc: Global, bytes: &[u8]) -> Result<(Answer, &[u8]), ReadFault>
     ensures { Gives (λ x. (x.0, x.1.now)) result (grammar.no_row.read bytes.now) }
 {
-    let rest = word_at(bytes, b"NO ")?;
+    let rest = word_at(bytes, b" ")?;
     let (side, periods, shear, rest) = side_and_periods_of(alloc, rest)?;
     let rest = word_at(rest, b"conf ")?;
     let (symbols, rest) = numbers_of(alloc, rest, 1, None)?;
@@ -151,11 +155,12 @@ fn patterns_of(alloc: Global, count: u64, bytes: &[u8]) -> Result<(Items<Listed>
     Ok((patterns, rest))
 }
 
+/// The text after `L`.
 #[tactic(auto, unfolding(crate::specs::reading::Grammar::list_row))]
 fn list_of(alloc: Global, bytes: &[u8]) -> Result<(Answer, &[u8]), ReadFault>
     ensures { Gives (λ x. (x.0, x.1.now)) result (grammar.list_row.read bytes.now) }
 {
-    let rest = word_at(bytes, b"LIST ")?;
+    let rest = word_at(bytes, b"IST ")?;
     let (count, _, rest) = count_of_patterns(rest)?;
     let (patterns, rest) = patterns_of(alloc, count, rest)?;
     Ok((Answer::List { patterns }, rest))
@@ -260,11 +265,12 @@ fn amounts_and_duals_of(
     Ok((amounts, duals, rest))
 }
 
+/// The text after `B`.
 #[tactic(auto, unfolding(crate::specs::reading::Grammar::bound_row))]
 fn bound_of(alloc: Global, bytes: &[u8]) -> Result<(Answer, &[u8]), ReadFault>
     ensures { Gives (λ x. (x.0, x.1.now)) result (grammar.bound_row.read bytes.now) }
 {
-    let rest = word_at(bytes, b"BOUND ")?;
+    let rest = word_at(bytes, b"OUND ")?;
     let (numerator, denominator, rest) = fraction_of(rest)?;
     let rest = word_at(rest, b"denominator ")?;
     let (common, _, rest) = number_at(rest, 1, MOST_NUMBER, b'\n', b'\n')?;
@@ -300,6 +306,43 @@ fn inside_of(bytes: &[u8]) -> Result<(Answer, &[u8]), ReadFault>
     Ok((Answer::Inside, rest))
 }
 
+/// Two kinds of answer begin by `NO`, and the next byte tells them apart.
+#[tactic(auto, unfolding(crate::specs::reading::Grammar::no_or_nothing))]
+fn no_or_nothing_of(alloc: Global, bytes: &[u8]) -> Result<(Answer, &[u8]), ReadFault>
+    ensures { Gives (λ x. (x.0, x.1.now)) result (grammar.no_or_nothing.read bytes.now) }
+{
+    let rest = word_at(bytes, b"NO")?;
+    if begins(rest, b'N') {
+        nothing_of(alloc, rest)
+    } else {
+        no_of(alloc, rest)
+    }
+}
+
+#[tactic(auto, unfolding(crate::specs::reading::Grammar::list_or_least))]
+fn list_or_least_of(alloc: Global, bytes: &[u8]) -> Result<(Answer, &[u8]), ReadFault>
+    ensures { Gives (λ x. (x.0, x.1.now)) result (grammar.list_or_least.read bytes.now) }
+{
+    let rest = word_at(bytes, b"L")?;
+    if begins(rest, b'E') {
+        least_of(alloc, rest)
+    } else {
+        list_of(alloc, rest)
+    }
+}
+
+#[tactic(auto, unfolding(crate::specs::reading::Grammar::bound_or_broken))]
+fn bound_or_broken_of(alloc: Global, bytes: &[u8]) -> Result<(Answer, &[u8]), ReadFault>
+    ensures { Gives (λ x. (x.0, x.1.now)) result (grammar.bound_or_broken.read bytes.now) }
+{
+    let rest = word_at(bytes, b"B")?;
+    if begins(rest, b'R') {
+        broken_of(alloc, rest)
+    } else {
+        bound_of(alloc, rest)
+    }
+}
+
 /// An answer of any kind, told by its first byte.
 #[tactic(auto, unfolding(crate::specs::reading::Grammar::answer_form))]
 pub(crate) fn answer_of(alloc: Global, bytes: &[u8]) -> Result<(Answer, &[u8]), ReadFault>
@@ -310,17 +353,21 @@ pub(crate) fn answer_of(alloc: Global, bytes: &[u8]) -> Result<(Answer, &[u8]), 
     } else if begins(bytes, b'Y') {
         yes_of(alloc, bytes)
     } else if begins(bytes, b'N') {
-        no_of(alloc, bytes)
+        no_or_nothing_of(alloc, bytes)
     } else if begins(bytes, b'U') {
         unknown_of(bytes)
     } else if begins(bytes, b'L') {
-        list_of(alloc, bytes)
+        list_or_least_of(alloc, bytes)
     } else if begins(bytes, b'D') {
         density_of(alloc, bytes)
     } else if begins(bytes, b'E') {
         empty_of(alloc, bytes)
     } else if begins(bytes, b'B') {
-        bound_of(alloc, bytes)
+        bound_or_broken_of(alloc, bytes)
+    } else if begins(bytes, b'M') {
+        minimal_of(alloc, bytes)
+    } else if begins(bytes, b'C') {
+        conjugate_of(alloc, bytes)
     } else {
         inside_of(bytes)
     }

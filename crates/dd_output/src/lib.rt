@@ -3,14 +3,17 @@
 #![tactic(auto)]
 
 mod bodies;
+mod conjugacies;
 mod derivations;
 mod fault;
 mod laws;
+mod least;
 mod lexing;
 mod lists;
 mod output;
 mod reading;
 mod sides;
+mod stars;
 mod writing;
 
 pub use fault::CertificateFault;

@@ -111,7 +111,7 @@ pub(crate) fn numbers_until<'a>(
 
 /// The byte that ends the number at a place, from 0, where a line has at least so many: a space before the last that it has to
 /// have, and then a line feed.
-fn end_at(least: u64, place: u64) -> u8
+pub(crate) fn end_at(least: u64, place: u64) -> u8
     ensures { result ≡ end_at least place }
 {
     if u128::from(place) + 1 < u128::from(least) {
@@ -122,7 +122,7 @@ fn end_at(least: u64, place: u64) -> u8
 }
 
 /// The other byte that can end it: a line feed after as many as there may be, and else a space.
-fn other_at(most: Option<u64>, place: u64) -> u8
+pub(crate) fn other_at(most: Option<u64>, place: u64) -> u8
     ensures { result ≡ other_at most place }
 {
     match most {

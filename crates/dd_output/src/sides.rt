@@ -61,7 +61,7 @@ fn period_entry(bytes: &[u8], place: u64) -> Result<(PeriodEntry, &[u8]), ReadFa
 
 /// The periods and the shear, up to the end of their line.
 #[tactic(auto, unfolding(crate::specs::reading::Periods::periods))]
-fn periods_of(alloc: Global, bytes: &[u8]) -> Result<(Items<u64>, u64, &[u8]), ReadFault>
+pub(crate) fn periods_of(alloc: Global, bytes: &[u8]) -> Result<(Items<u64>, u64, &[u8]), ReadFault>
     ensures { Gives (λ x. ((x.0, x.1), x.2.now)) result (periods.read bytes.now) }
 {
     let mut periods = Items::new(alloc);

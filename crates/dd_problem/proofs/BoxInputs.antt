@@ -33,7 +33,7 @@ use Rattle.dd_problem.specs.lemmas.BoxLayout.{box_within, bounds_ordered, box_is
 use Rattle.dd_problem.specs.lemmas.BoxValues.{box_values}
 use Rattle.dd_problem.specs.lemmas.BoxShows.{goal_reads_box}
 use Rattle.dd_problem.specs.lemmas.CellOrder.{cells_ascending}
-use Rattle.dd_problem.proofs.Counting.{positions_below, variables_below}
+use Rattle.dd_problem.specs.lemmas.Counting.{positions_below, variables_below}
 use Rattle.dd_problem.proofs.Matching.{Gives, GoalMatches, goal_is_wired, wired_is_problem}
 use Rattle.dd_problem.specs.lemmas.NumberedWires.{turn_at, turns_below, wire_there, wire_absent, are_inputs}
 
@@ -42,7 +42,7 @@ spread_most : (b : Bool) (n : ℕ) → spread b n ≤ n
 spread_most true n = omega arith
 spread_most false n = omega arith
 
-box_in_range : (d n : ℕ) (p : Place) → n ≤ 1048576 → IsWithin (centred d n) p → IsInRange p
+pub box_in_range : (d n : ℕ) (p : Place) → n ≤ 1048576 → IsWithin (centred d n) p → IsInRange p
 box_in_range d n p small h =
     let x = spread_most (is_active d 0) n in
     let y = spread_most (is_active d 1) n in
@@ -76,7 +76,7 @@ pub box_ascends : (x : LocalRule) (n : ℕ) → IsRule x → IsStrictlySortedBy 
 box_ascends x n rule = cells_ascending (centred x.dimension n) x.nodes (bounds_ordered x.dimension n) rule.nodes.0
 
 -- the wires
-member_is_box_cell : (x : LocalRule) (n : ℕ) (c : Cell) → Contains (box_cells x n) c → is_box_cell x n c ≡ true
+pub member_is_box_cell : (x : LocalRule) (n : ℕ) (c : Cell) → Contains (box_cells x n) c → is_box_cell x n c ≡ true
 member_is_box_cell x n c h =
     (box_cell_at x n h.0 c (slice_get-get_or (box_cells x n) h.0 c h.1 ∙ ap (λ d. Some d) h.2)).0
 
@@ -129,7 +129,7 @@ box_goal x always n rule ok small = tt
 pub box_is_problem : (x : LocalRule) (g : GoalOf) (n : ℕ) → IsRule x → IsToldGoal x g → Reaches g n → n ≤ 1048576 →
     wired_problem (in_turn x.symbols (box_cells x n)) x g (box_cells x n) ≡ box_problem x g n
 box_is_problem x g n rule ok reach small =
-    wired_is_problem (in_turn x.symbols (box_cells x n)) (box_layout x n) x (λ _. true) g rule ok (box_is_layout x n) (goal_reads_box x g n ok reach)
+    wired_is_problem (in_turn x.symbols (box_cells x n)) (box_layout x n) x (λ _ _. true) (λ _. true) g rule ok (box_is_layout x n) (goal_reads_box x g n ok reach)
     (λ k d is. record { node = box_nodes x n k d is; gives = box_gives x n rule small d.position; reads = all_pass (reads_at x d.node) })
     (box_goal x g n rule ok small)
 

@@ -12,7 +12,7 @@ use Rattle.dd_lattice.specs.declared.position.Cell.{Cell}
 use Rattle.dd_circuit.specs.declared.gates.Signal.{Signal}
 use Rattle.dd_compile.specs.Wiring.{Wiring, with_cell}
 use Rattle.dd_pattern.specs.Tile.{Tile}
-use Rattle.dd_problem.specs.pushing.Grown.{number_at}
+use Rattle.dd_problem.specs.pushing.Near.{number_at}
 use Rattle.dd_problem.specs.pushing.Numbered.{symbol_signals, numbered_wiring}
 
 -- those of the first cells

@@ -9,7 +9,7 @@ use Rattle.dd_circuit.specs.Circuits.{Network, size}
 use Rattle.dd_cnf.specs.Encoding.{gates_clauses}
 use Rattle.dd_compile.specs.Compiling.{Extends, Maker}
 use Rattle.dd_problem.specs.Encodings.{Encoding, with_gates, with_made}
-use Rattle.dd_problem.proofs.Growing.{same_encoding}
+use Rattle.dd_problem.specs.lemmas.Growing.{same_encoding}
 
 abbrev pub encoding_of : Network → ClauseList → Encoding
 encoding_of circuit cnf = record { circuit = circuit; clauses = cnf.clauses }

@@ -171,13 +171,13 @@ goal_is_wired w l x p (differ s f g) ok layout reads values match =
 goal_is_wired w l x p always ok layout reads values match = refl
 
 -- all clauses
-pub wired_is_problem : (w : Wiring) (l : Layout) (x : LocalRule) (p : Cell → Bool) (g : GoalOf) → IsRule x → IsToldGoal x g → IsLayout l → HasReads l g →
-    ((k : ℕ) (d : Cell) → slice_get l.places k ≡ Some d → Matches w l x.symbols p x d) → GoalMatches w l x.symbols p g → wired_problem w x g l.places ≡ problem l x g
-wired_is_problem w l x p g rule ok layout reads places goal =
+pub wired_is_problem : (w : Wiring) (l : Layout) (x : LocalRule) (p : Cell → Cell → Bool) (q : Cell → Bool) (g : GoalOf) → IsRule x → IsToldGoal x g → IsLayout l → HasReads l g →
+    ((k : ℕ) (d : Cell) → slice_get l.places k ≡ Some d → Matches w l x.symbols (p d) x d) → GoalMatches w l x.symbols q g → wired_problem w x g l.places ≡ problem l x g
+wired_is_problem w l x p q g rule ok layout reads places goal =
     let n = input_count l x in
     let premise = parts_same w l x n l.places (λ k d is. (let match = places k d is in
-    (same_test w l x.symbols p x d rule refl layout match, λ fit. same_part d (same_maker w l x.symbols p x d rule refl layout match fit)))) in
-    let last = goal_same w l x p g ok layout reads goal in
+    (same_test w l x.symbols (p d) x d rule refl layout match, λ fit. same_part d (same_maker w l x.symbols (p d) x d rule refl layout match fit)))) in
+    let last = goal_same w l x q g ok layout reads goal in
     λ i. (let parts : List Part = premise i ++ last i ∷ [] in
     record { variables = n + length (part_gates n parts); clauses = cell_clauses x l.places ++ part_clauses n parts })
   where

@@ -20,7 +20,7 @@ use Rattle.dd_problem.specs.Clauses.{Part, part_clauses}
 use Rattle.dd_problem.specs.Encodings.{Encoding, with_clause, with_gates, with_parts}
 use Rattle.dd_problem.specs.pushing.Pushed.{is_wired_at}
 use Rattle.dd_problem.specs.lemmas.RangesLeft.{range_to, range_step, range_ends}
-use Rattle.dd_problem.proofs.Growing.{same_encoding, extended_size, extended_by_none, with_gates-append}
+use Rattle.dd_problem.specs.lemmas.Growing.{same_encoding, extended_size, extended_by_none, with_gates-append}
 
 -- the gates of each node, and then one clause of the literals of their signals
 abbrev pub turned_part : (ℕ → Maker) → ℕ → (Signal → Literal) → Part

@@ -19,7 +19,7 @@ use Rattle.dd_formula.specs.LocalRule.{LocalRule, expansion_at}
 use Rattle.dd_problem.specs.Clauses.{Part, part_gates, part_clauses}
 use Rattle.dd_problem.specs.Encodings.{Encoding, with_clause, with_gates, with_made, with_parts}
 use Rattle.dd_problem.specs.pushing.Pushed.{AreInputs, is_wired_at, wired_part, wired_parts}
-use Rattle.dd_problem.proofs.Growing.{same_encoding, extended_size, extended_by_none, with_parts-append}
+use Rattle.dd_problem.specs.lemmas.Growing.{same_encoding, extended_size, extended_by_none, with_parts-append}
 
 -- the wires are the same signals of more variables
 wire_same : (n m : ℕ) (o : Option Signal) → ((s : Signal) → o ≡ Some s → IsSignal n s) → n ≤ m → is_wire m o ≡ is_wire n o

@@ -1,11 +1,8 @@
 -- Symbols that are read from an assignment.
-use Rattle.std.proofs.Common.{◌≡◌, ℕ, suc, ◌+◌, ◌*◌, ◌-◌, ◌<◌, Bool, true, false, List, [], ◌∷◌, ◌++◌, length, get_or, ap, sym, subst, ◌∙◌, arith, inl, inr, length-append}
+use Rattle.std.proofs.Common.{◌≡◌, ℕ, suc, ◌+◌, ◌*◌, ◌-◌, ◌<◌, Bool, true, false, List, length, get_or, ap, sym, subst, ◌∙◌, arith}
 use Rattle.std.specs.Prelude.{◌==◌, slice_index_or, Option, Some, None, Result, Ok, Err, MatchResult, is_ok}
 use Rattle.std.specs.Result.{result_ok}
 use Rattle.std.specs.List.{All}
-use Rattle.std.proofs.lemmas.Bool.{cases_lt}
-use Rattle.std.proofs.Math.ListN.{get_or-append}
-use Rattle.std.proofs.Math.Seq.{get_or-append_seam}
 use Rattle.std.proofs.lemmas.List.{ext_get_or}
 use Rattle.std.proofs.lemmas.Option.{slice_get-get_or}
 use Rattle.dd_values.specs.Variables.{true_variables}
@@ -15,9 +12,10 @@ use Rattle.dd_pattern.specs.Tile.{Tile, IsPeriodic, tile}
 use Rattle.dd_expansion.specs.Truth.{is_symbol}
 use Rattle.dd_formula.specs.LocalRule.{LocalRule, IsRule}
 use Rattle.dd_formula.specs.Living.{Fits}
-use Rattle.dd_boxes.specs.Witnesses.{ArePeriods, HasPeriods}
+use Rattle.dd_boxes.specs.Witnesses.{HasPeriods}
+use Rattle.dd_problem.specs.TorusPeriods.{AreTorusPeriods}
 use Rattle.dd_problem.specs.lemmas.Filtered.{some_same}
-use Rattle.dd_problem.proofs.TorusLayout.{torus_of, torus_is_periodic}
+use Rattle.dd_problem.specs.lemmas.TorusLayout.{torus_of, torus_is_periodic}
 use Rattle.dd_problem.proofs.TorusCalls.{tile_ok}
 use Rattle.dd_problem.specs.Clauses.{input}
 use Rattle.dd_problem.specs.Symbols.{IsSymbolRead, HasOneEach, AreRead, AreAllRead}
@@ -76,7 +74,7 @@ pub made_is : {B : Type 0} (r : Result Tile B) (o : Option Tile) (t u : Tile) (S
 made_is (Ok a) o t u S h ok is = some_same t a (sym is ∙ ok) ∙ h.0
 made_is (Err e) o t u S h ok is = absurd (let no : Some t ≡ None = sym is ∙ ok in cc)
 
-module _ (x : LocalRule) (periods : Periods) (rule : IsRule x) (ok : ArePeriods x.dimension periods) where
+module _ (x : LocalRule) (periods : Periods) (rule : IsRule x) (ok : AreTorusPeriods x periods) where
   read_is : (d nodes : ℕ) (items : List ℕ) → d ≡ x.dimension → nodes ≡ x.nodes → tile d periods nodes items ≡ torus_of x periods items
   read_is d nodes items dim same = ap (λ k. tile k periods nodes items) dim ∙ ap (λ k. tile x.dimension periods k items) same
 

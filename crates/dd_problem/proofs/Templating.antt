@@ -30,17 +30,18 @@ use Rattle.dd_compile.specs.Templates.{RuleAt, rule_at}
 use Rattle.dd_compile.specs.lemmas.RuleWiring.{leaves_wired}
 use Rattle.dd_boxes.specs.Goals.{GoalOf}
 use Rattle.dd_boxes.specs.Counts.{question_clauses, most_clauses}
-use Rattle.dd_boxes.specs.Witnesses.{ArePeriods}
+use Rattle.dd_problem.specs.TorusPeriods.{AreTorusPeriods}
 use Rattle.dd_problem.specs.Clauses.{input}
 use Rattle.dd_boxes.specs.Cells.{box_cells}
 use Rattle.dd_problem.specs.Layouts.{nth_cell, cells_in, torus_cells}
 use Rattle.dd_problem.specs.pushing.Numbered.{symbol_signals, numbered_wiring}
 use Rattle.dd_problem.specs.pushing.Pushed.{AreInputs, HasAllSymbols, is_wired_at}
 use Rattle.dd_problem.specs.lemmas.Filtered.{some_same}
+use Rattle.dd_problem.specs.lemmas.TorusSizes.{AreSizes, torus_sizes}
 use Rattle.dd_problem.specs.lemmas.CellOrder.{cells_by_number, All-range}
 use Rattle.dd_problem.specs.lemmas.BoxLayout.{bounds_ordered}
 use Rattle.dd_problem.proofs.BoxInputs.{volume_wide}
-use Rattle.dd_problem.proofs.Counting.{positions_below}
+use Rattle.dd_problem.specs.lemmas.Counting.{positions_below}
 use Rattle.dd_problem.proofs.PlacesLeft.{wired_same}
 
 both_ways : (a b : Bool) → (a ≡ true → b ≡ true) → (b ≡ true → a ≡ true) → a ≡ b
@@ -144,18 +145,18 @@ box_near x g n cells rule few read =
     (All-weaker (λ (c : Cell). IsWithin b c.position) (λ (d : Cell). extent d.position ≤ 1048560) (λ c h. near_box x.dimension n c.position small h) (box_cells x n)
     (cells_within b x.nodes (bounds_ordered x.dimension n) rule.nodes.0))
 
-near_torus : (p : Periods) (d : ℕ) (v : Place) → ArePeriods d p → IsWithin (fundamental p) v → extent v ≤ 1048560
-near_torus p d v ok h =
+near_torus : (x : LocalRule) (p : Periods) (v : Place) → AreSizes x p → IsWithin (fundamental p) v → extent v ≤ 1048560
+near_torus x p v sizes h =
     let l = h.0 in
     let u = h.1 in
-    omega (arith, ints, l.on_x, l.on_y, l.on_z, u.on_x, u.on_y, u.on_z, ok.x_most, ok.y_most, ok.z_most)
+    omega (arith, ints, l.on_x, l.on_y, l.on_z, u.on_x, u.on_y, u.on_z, sizes.x_most, sizes.y_most, sizes.z_most)
 
 ordered_torus : (p : Periods) → IsAtMostOnEachAxis (fundamental p).low (fundamental p).high
 ordered_torus p = record { on_x = omega (arith, ints); on_y = omega (arith, ints); on_z = omega (arith, ints) }
 
-pub torus_near : (x : LocalRule) (p : Periods) (cells : List Cell) → IsRule x → ArePeriods x.dimension p → cells ≡ torus_cells x p → All (λ (d : Cell). extent d.position ≤ 1048560) cells
+pub torus_near : (x : LocalRule) (p : Periods) (cells : List Cell) → IsRule x → AreTorusPeriods x p → cells ≡ torus_cells x p → All (λ (d : Cell). extent d.position ≤ 1048560) cells
 torus_near x p cells rule ok read =
     let b = fundamental p in
     subst (All (λ (d : Cell). extent d.position ≤ 1048560)) (sym read)
-    (All-weaker (λ (c : Cell). IsWithin b c.position) (λ (d : Cell). extent d.position ≤ 1048560) (λ c h. near_torus p x.dimension c.position ok h) (torus_cells x p)
+    (All-weaker (λ (c : Cell). IsWithin b c.position) (λ (d : Cell). extent d.position ≤ 1048560) (λ c h. near_torus x p c.position (torus_sizes x p rule ok) h) (torus_cells x p)
     (cells_within b x.nodes (ordered_torus p) rule.nodes.0))

@@ -1,15 +1,14 @@
 -- What the calls give from which the clauses of a torus are made.
-use Rattle.std.proofs.Common.{◌≡◌, ℕ, ◌+◌, ◌-◌, ◌*◌, ◌≤◌, ◌<◌, ◌^◌, true, List, map, length, refl, ap, sym, subst, ◌∙◌, arith, pos, ◌-ℤ◌}
+use Rattle.std.proofs.Common.{◌≡◌, ℕ, ◌+◌, ◌*◌, ◌≤◌, ◌<◌, ◌^◌, true, List, map, length, refl, ap, sym, subst, ◌∙◌, arith}
 use Rattle.std.specs.Prelude.{Result, Ok, Err, IfOk, MatchResult, is_ok}
 use Rattle.std.specs.List.{All, range_with_len}
 use Rattle.std.specs.List.Sorted.{IsStrictlySortedBy}
-use Rattle.std.proofs.lemmas.Int.{ints}
 use Rattle.std.proofs.lemmas.Nat.{mul-le}
 use Rattle.std.proofs.lemmas.List.Elements.{All-map, All-weaker}
 use Rattle.std.proofs.lemmas.List.FromFn.{length-range_with_len}
 use Rattle.std.proofs.lemmas.Result.{IfOk-weaker}
 use Rattle.dd_lattice.specs.Order.{cell_cmp}
-use Rattle.dd_lattice.specs.Boxes.{Bounds, is_active, spread, span, volume as box_volume}
+use Rattle.dd_lattice.specs.Boxes.{Bounds, volume as box_volume}
 use Rattle.dd_lattice.specs.declared.position.Cell.{Cell}
 use Rattle.dd_pattern.specs.declared.periods.Periods.{Periods}
 use Rattle.dd_pattern.specs.Periods.{periods_volume}
@@ -20,38 +19,35 @@ use Rattle.dd_compile.specs.Wiring.{Wiring}
 use Rattle.dd_formula.specs.LocalRule.{LocalRule, IsRule}
 use Rattle.dd_boxes.specs.Goals.{GoalOf}
 use Rattle.dd_boxes.specs.Counts.{question_clauses, most_clauses}
-use Rattle.dd_boxes.specs.Witnesses.{ArePeriods}
+use Rattle.dd_problem.specs.TorusPeriods.{AreTorusPeriods}
 use Rattle.dd_problem.specs.pushing.Told.{IsToldGoal}
 use Rattle.dd_problem.specs.Layouts.{cells_in, torus_cells}
-use Rattle.dd_problem.specs.pushing.Grown.{torus_layout}
+use Rattle.dd_problem.specs.pushing.Near.{torus_layout}
 use Rattle.dd_problem.specs.Problems.{torus_problem}
-use Rattle.dd_problem.specs.pushing.Grown.{question_reach, grown, near_cells, number_at, numbered_by, numbered_tile, torus_inputs}
+use Rattle.dd_problem.specs.pushing.Near.{near_cells, number_at, numbered_by, numbered_tile, torus_inputs}
 use Rattle.dd_problem.specs.pushing.Pushed.{AreInputs, is_goal_wired, wired_problem}
 use Rattle.dd_problem.specs.Shows.{ShowsTorus}
 use Rattle.dd_problem.specs.lemmas.RangesLeft.{row_within}
 use Rattle.dd_problem.specs.lemmas.CellOrder.{cells_nodes}
-use Rattle.dd_problem.proofs.Counting.{variables_below}
+use Rattle.dd_problem.specs.lemmas.Counting.{variables_below}
 use Rattle.dd_problem.specs.lemmas.NumberedWires.{are_inputs}
-use Rattle.dd_problem.proofs.TorusLayout.{torus_size, span_is, product_turned, product_small, length-torus_cells}
-use Rattle.dd_problem.proofs.TorusShows.{torus_shows}
-use Rattle.dd_problem.proofs.TorusReach.{question_near}
-use Rattle.dd_problem.proofs.TorusInputs.{spread_small, numbers_tile, number_is, near_ascends, torus_values, torus_is_problem, torus_goal_wired}
+use Rattle.dd_problem.specs.lemmas.TorusLayout.{torus_size, span_is, product_turned, length-torus_cells}
+use Rattle.dd_problem.specs.lemmas.TorusShows.{torus_shows}
+use Rattle.dd_problem.proofs.NearCells.{near_ascends, near_nodes as near_nodes_of}
+use Rattle.dd_problem.proofs.TorusInputs.{numbers_tile, number_is, torus_values, torus_is_problem, torus_goal_wired}
 
 -- the question's count is at most two million
 abbrev pub IsFew : LocalRule → GoalOf → Periods → Type 0
 IsFew x g periods = question_clauses x g (periods_volume periods) ≤ most_clauses
 
-span_most : (p s : ℕ) → 1 ≤ p → p ≤ 8 → s ≤ 16 → span (pos 0 -ℤ pos s) (pos (p - 1 + s)) ≤ 40
-span_most p s some most small = omega (arith, ints)
-
-module _ (x : LocalRule) (periods : Periods) (rule : IsRule x) (ok : ArePeriods x.dimension periods) where
+module _ (x : LocalRule) (periods : Periods) (rule : IsRule x) (ok : AreTorusPeriods x periods) where
   volume_is : box_volume (fundamental periods) ≡ periods_volume periods
   volume_is =
       rw (span_is periods.x ok.periods.x_some, span_is periods.y (ok.periods.y_some), span_is periods.z (ok.periods.z_some))
       (product_turned periods.x periods.y periods.z)
 
   pub size_small : torus_size x periods ≤ 65536
-  size_small = product_small periods.z periods.y periods.x x.nodes ok.z_most ok.y_most ok.x_most rule.nodes.1
+  size_small = ok.few
 
   -- the configuration of the numbers
   numbering_is : (d nodes : ℕ) (items : List ℕ) → d ≡ x.dimension → nodes ≡ x.nodes →
@@ -106,41 +102,18 @@ module _ (x : LocalRule) (periods : Periods) (rule : IsRule x) (ok : ArePeriods 
       omega (arith, row, all)
 
 -- what the premise and the goal read
-module _ (x : LocalRule) (periods : Periods) (rule : IsRule x) (ok : ArePeriods x.dimension periods) (g : GoalOf) (good : IsToldGoal x g) where
-  abbrev n : ℕ
-  n = question_reach x g
-
+module _ (x : LocalRule) (periods : Periods) (rule : IsRule x) (ok : AreTorusPeriods x periods) (g : GoalOf) (good : IsToldGoal x g) where
   abbrev near : List Cell
-  near = near_cells x n periods
-
-  grown_small : box_volume (grown x.dimension n periods) * x.nodes ≤ 2 ^ 24
-  grown_small =
-      let small = question_near x g rule good in
-      let b = grown x.dimension n periods in
-      let sx = span_most periods.x (spread (is_active x.dimension 0) n) ok.periods.x_some ok.x_most (spread_small (is_active x.dimension 0) n small) in
-      let sy = span_most periods.y (spread (is_active x.dimension 1) n) ok.periods.y_some ok.y_most (spread_small (is_active x.dimension 1) n small) in
-      let sz = span_most periods.z (spread (is_active x.dimension 2) n) ok.periods.z_some ok.z_most (spread_small (is_active x.dimension 2) n small) in
-      let rest : span b.low.y b.high.y * span b.low.z b.high.z ≤ 1600 = mul-le (span b.low.y b.high.y) (span b.low.z b.high.z) 40 40 sy sz in
-      let all : box_volume b ≤ 64000 = mul-le (span b.low.x b.high.x) (span b.low.y b.high.y * span b.low.z b.high.z) 40 1600 sx rest in
-      let most : box_volume b * x.nodes ≤ 256000 = mul-le (box_volume b) x.nodes 64000 4 all rule.nodes.1 in
-      omega (arith, most)
-
-  pub grown_few : (d far nodes : ℕ) (b : Bounds) → d ≡ x.dimension → far ≡ n → nodes ≡ x.nodes → b ≡ grown d far periods → box_volume b * nodes ≤ 2 ^ 24
-  grown_few d far nodes b dim reaches same is =
-      let small = grown_small in
-      let all : box_volume b * nodes ≡ box_volume (grown x.dimension n periods) * x.nodes =
-      ap (λ k. box_volume b * k) same ∙ ap (λ c. box_volume c * x.nodes) (is ∙ (ap (λ k. grown k far periods) dim ∙ ap (λ k. grown x.dimension k periods) reaches)) in
-      omega (arith, small, all)
-
-  pub near_are : (d far nodes : ℕ) (b : Bounds) → d ≡ x.dimension → far ≡ n → nodes ≡ x.nodes → b ≡ grown d far periods → cells_in b nodes ≡ near_cells x n periods
-  near_are d far nodes b dim reaches same is =
-      ap (cells_in b) same ∙ ap (λ c. cells_in c x.nodes) (is ∙ (ap (λ k. grown k far periods) dim ∙ ap (λ k. grown x.dimension k periods) reaches))
+  near = near_cells x g (torus_cells x periods)
 
   pub near_in_order : (cells : List Cell) → cells ≡ near → IsStrictlySortedBy cell_cmp cells
-  near_in_order cells read = subst (IsStrictlySortedBy cell_cmp) (sym read) (near_ascends x periods rule ok g good)
+  near_in_order cells read = subst (IsStrictlySortedBy cell_cmp) (sym read) (near_ascends x g (torus_cells x periods))
+
+  pub near_are : (items found cells : List Cell) → items ≡ near_cells x g cells → found ≡ items → cells ≡ torus_cells x periods → found ≡ near
+  near_are items found cells listed read is = read ∙ (listed ∙ ap (near_cells x g) is)
 
   near_nodes : All (λ (c : Cell). c.node < x.nodes) near
-  near_nodes = cells_nodes (grown x.dimension n periods) x.nodes rule.nodes.0
+  near_nodes = near_nodes_of x g (torus_cells x periods) rule (cells_nodes (fundamental periods) x.nodes rule.nodes.0)
 
   pub near_nodes_there : (cells : List Cell) (t : Tile) → cells ≡ near → t ≡ numbered_tile x periods → All (λ (c : Cell). c.node < t.nodes) cells
   near_nodes_there cells t read is =

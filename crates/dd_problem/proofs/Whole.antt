@@ -18,7 +18,7 @@ use Rattle.dd_problem.specs.Clauses.{Part, cell_clauses, part_gates, part_clause
 use Rattle.dd_problem.specs.Encodings.{Encoding, clause_list, extended, over_inputs, with_parts}
 use Rattle.dd_problem.specs.pushing.Pushed.{are_both_wired, is_wired_at, is_goal_wired, wired_parts, wired_goal, wired_problem}
 use Rattle.dd_problem.specs.lemmas.Wiring.{all_of_range, range_at}
-use Rattle.dd_problem.proofs.Growing.{same_encoding, extended_size, with_parts-append}
+use Rattle.dd_problem.specs.lemmas.Growing.{same_encoding, extended_size, with_parts-append}
 
 -- a goal that is wired among some variables is so among more
 pub goal_wired_more : (w : Wiring) (n m : ℕ) (g : GoalOf) → n ≤ m → is_goal_wired w n g ≡ true → is_goal_wired w m g ≡ true

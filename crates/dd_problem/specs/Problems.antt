@@ -14,7 +14,7 @@ use Rattle.dd_formula.specs.LocalRule.{LocalRule, expansion_at}
 use Rattle.dd_boxes.specs.Goals.{GoalOf, breaks, differ, always}
 use Rattle.dd_boxes.specs.Boxes.{origin}
 use Rattle.dd_problem.specs.Layouts.{Layout, fits_in, box_layout}
-use Rattle.dd_problem.specs.pushing.Grown.{torus_layout}
+use Rattle.dd_problem.specs.pushing.Near.{torus_layout}
 use Rattle.dd_problem.specs.Differing.{differ_made}
 use Rattle.dd_problem.specs.Clauses.{input, cell_clauses, Part, part_gates, part_clauses, units, some_true, some_false}
 

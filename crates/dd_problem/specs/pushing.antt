@@ -1,4 +1,4 @@
 pub mod Pushed
 pub mod Numbered
-pub mod Grown
+pub mod Near
 pub mod Told

@@ -1,18 +1,25 @@
 //! Box questions on a torus.
-ghost use Rattle.std.specs.Prelude.{◌≡◌, ◌≤◌, ◌<◌, ◌+◌, ◌*◌, All, IfOk};
-ghost use Rattle.std.specs.List.{range_with_len};
+ghost use Rattle.std.specs.Prelude.{◌≡◌, ◌≤◌, ◌<◌, ◌+◌, ◌-◌, ◌*◌, ◌++◌, true, map, All, IfOk, OnOk};
+ghost use Rattle.std.specs.List.{list_all, range_with_len};
 ghost use Rattle.std.specs.List.Sorted.{IsStrictlySortedBy};
 ghost use Rattle.dd_values.specs.Bounds.{most_variables};
+ghost use Rattle.dd_lattice.specs.Cells.{shifted};
+ghost use Rattle.dd_lattice.specs.InOrder.{in_order};
 ghost use Rattle.dd_lattice.specs.Order.{cell_cmp};
+ghost use Rattle.dd_lattice.specs.Place.{most_coordinate};
+ghost use Rattle.dd_topology.specs.Topology.{extent};
 ghost use Rattle.dd_pattern.specs.Periods.{periods_of, periods_volume};
 ghost use Rattle.dd_pattern.specs.Tile.{fundamental};
+ghost use Rattle.dd_formula.specs.LocalRule.{is_near};
+ghost use Rattle.dd_boxes.specs.Boxes.{goal_reach};
+ghost use Rattle.dd_boxes.specs.Cells.{box_cells};
 ghost use Rattle.dd_boxes.specs.Goals.{IsGoalFor};
 ghost use Rattle.dd_boxes.specs.Counts.{question_clauses, most_clauses};
 ghost use Rattle.dd_boxes.specs.Views.{goal_of};
-ghost use Rattle.dd_boxes.specs.Witnesses.{ArePeriods};
+ghost use Rattle.dd_problem.specs.TorusPeriods.{AreTorusPeriods};
+ghost use Rattle.dd_problem.specs.Layouts.{torus_cells};
 ghost use Rattle.dd_problem.specs.Problems.{torus_problem};
-ghost use Rattle.dd_problem.specs.pushing.Grown.{question_reach, margin, grown, near_cells};
-ghost use Rattle.dd_problem.specs.pushing.Grown.{number_at, numbered_by, numbered_tile, torus_inputs};
+ghost use Rattle.dd_problem.specs.pushing.Near.{near_cells, number_at, numbered_by, numbered_tile, torus_inputs};
 ghost use Rattle.dd_problem.specs.Shows.{ShowsTorus};
 ghost use Rattle.dd_problem.specs.pushing.Told.{IsToldGoal};
 
@@ -23,33 +30,15 @@ use dd_boxes::{Goal, least_radius};
 use dd_clause::Cnf;
 use dd_compile::Inputs;
 use dd_formula::Rule;
-use dd_lattice::{Box3, Cell, Position};
+use dd_lattice::{Box3, Cell, Position, centred_box, shift};
 use dd_pattern::{Configuration, Periodic, Periods};
 use std::alloc::{AllocError, Global};
 
-/// How far the premise and the goal read.
-fn question_reach(alloc: Global, premise: &Rule, goal: &Goal) -> Result<u32, AllocError>
-    requires { IsToldGoal premise.now (goal_of premise.now goal.now) }
-    ensures value { IfOk result (λ n. n ≡ question_reach premise.now (goal_of premise.now goal.now)) }
-    ensures near { IfOk result (λ n. n ≤ 16) }
-{
-    let radius = least_radius(alloc, goal)?;
-    Ok(premise.reach().max(radius))
-}
-
-/// How far beyond the fundamental box is read along an axis.
-fn margin(axis: u32, dim: u32, reach: u32) -> u32
-    ensures value { result ≡ margin dim reach axis }
-    ensures small { result ≤ reach }
-{
-    if axis < dim { reach } else { 0 }
-}
-
 /// The box of the positions of which the coordinates run from 0 to the periods less 1.
 fn fundamental(periods: &Periods) -> Box3
-    requires x { (1 ≤ periods.now.x) × (periods.now.x ≤ 8) }
-    requires y { (1 ≤ periods.now.y) × (periods.now.y ≤ 8) }
-    requires z { (1 ≤ periods.now.z) × (periods.now.z ≤ 8) }
+    requires x { (1 ≤ periods.now.x) × (periods.now.x ≤ 65536) }
+    requires y { (1 ≤ periods.now.y) × (periods.now.y ≤ 65536) }
+    requires z { (1 ≤ periods.now.z) × (periods.now.z ≤ 65536) }
     ensures { result ≡ fundamental periods.now }
 {
     Box3 {
@@ -62,45 +51,68 @@ fn fundamental(periods: &Periods) -> Box3
     }
 }
 
-/// The same, with a margin for what is read from it.
-fn grown(dim: u32, reach: u32, periods: &Periods) -> Box3
-    requires near { reach ≤ 16 }
-    requires x { (1 ≤ periods.now.x) × (periods.now.x ≤ 8) }
-    requires y { (1 ≤ periods.now.y) × (periods.now.y ≤ 8) }
-    requires z { (1 ≤ periods.now.z) × (periods.now.z ≤ 8) }
-    ensures { result ≡ grown dim reach periods.now }
+/// The least box that holds the cells that the goal reads at the origin.
+fn goal_cells(alloc: Global, premise: &Rule, goal: &Goal) -> Result<Vec<Cell>, AllocError>
+    requires { IsToldGoal premise.now (goal_of premise.now goal.now) }
+    ensures { IfOk result (λ v. v.items ≡ box_cells premise.now (goal_reach (goal_of premise.now goal.now))) }
 {
-    let x = margin(0, dim, reach);
-    let y = margin(1, dim, reach);
-    let z = margin(2, dim, reach);
-    Box3 {
-        low: Position {
-            x: -(x as i32),
-            y: -(y as i32),
-            z: -(z as i32),
-        },
-        high: Position {
-            x: (periods.x - 1 + x) as i32,
-            y: (periods.y - 1 + y) as i32,
-            z: (periods.z - 1 + z) as i32,
-        },
+    let nodes = premise.nodes();
+    let radius = least_radius(alloc, goal)?;
+    let bounds = centred_box(premise.dim(), radius).unwrap();
+    cells_of(alloc, &bounds, nodes)
+}
+
+/// The cell, moved by a position.
+fn shifted(cell: &Cell, by: &Position) -> Cell
+    requires near { is_near cell.now ≡ true }
+    requires by { extent by.now ≤ most_coordinate - 16 }
+    ensures { result ≡ shifted by.now cell.now }
+{
+    Cell {
+        position: shift(&cell.position, by).unwrap(),
+        node: cell.node,
     }
 }
 
-/// The cells that the premise and the goal read from the fundamental box.
+/// Adds the cells, moved by a position.
+fn push_shifted(found: &mut Vec<Cell>, by: &Position, cells: &[Cell]) -> Result<(), AllocError>
+    requires near { list_all is_near cells.now ≡ true }
+    requires by { extent by.now ≤ most_coordinate - 16 }
+    ensures { OnOk result (found.new.items ≡ found.old.items ++ map (shifted by.now) cells.now) }
+{
+    for cell in cells {
+        found.push(shifted(cell, by))?;
+    }
+    Ok(())
+}
+
+/// The cells in cell order, each once. Many are listed more than once, so they are sorted in their place.
+fn once_each(cells: Vec<Cell>) -> Vec<Cell>
+    ensures { result.items ≡ in_order cells.items }
+{
+    let mut found = cells;
+    found.sort_unstable();
+    found.dedup();
+    found
+}
+
+/// The cells that the premise reads at the cells, and those of the least box that holds what the goal reads at the origin.
 fn near_cells(
     alloc: Global,
     premise: &Rule,
     goal: &Goal,
-    periods: &Periods,
+    cells: &[Cell],
 ) -> Result<Vec<Cell>, AllocError>
     requires goal { IsToldGoal premise.now (goal_of premise.now goal.now) }
-    requires periods { ArePeriods premise.now.dimension periods.now }
-    ensures { IfOk result (λ v. v.items ≡ near_cells premise.now (question_reach premise.now (goal_of premise.now goal.now)) periods.now) }
+    requires nodes { All (λ d. d.node < premise.now.nodes) cells.now }
+    requires near { All (λ d. extent d.position ≤ most_coordinate - 16) cells.now }
+    ensures { IfOk result (λ v. v.items ≡ near_cells premise.now (goal_of premise.now goal.now) cells.now) }
 {
-    let nodes = premise.nodes();
-    let reach = question_reach(alloc, premise, goal)?;
-    cells_of(alloc, &grown(premise.dim(), reach, periods), nodes)
+    let mut found = goal_cells(alloc, premise, goal)?;
+    for cell in cells {
+        push_shifted(&mut found, &cell.position, premise.reads(cell.node))?;
+    }
+    Ok(once_each(found))
 }
 
 /// Inputs for the cells, each with those of the number that stands there.
@@ -136,7 +148,7 @@ fn counted(alloc: Global, count: u32) -> Result<Vec<u32>, AllocError>
 
 /// The configuration of these periods in which each cell of the fundamental box has its number, from 0 in cell order.
 fn numbering(alloc: Global, premise: &Rule, periods: &Periods) -> Result<Periodic, AllocError>
-    requires { ArePeriods premise.now.dimension periods.now }
+    requires { AreTorusPeriods premise.now periods.now }
     ensures { IfOk result (λ t. t ≡ numbered_tile premise.now periods.now) }
 {
     let nodes = premise.nodes();
@@ -149,21 +161,24 @@ fn numbering(alloc: Global, premise: &Rule, periods: &Periods) -> Result<Periodi
     )
 }
 
-/// Inputs for what the premise and the goal read from the fundamental box: each cell has those of the one at its position
-/// modulo the periods.
+/// Inputs for what the premise and the goal read from the cells of the fundamental box: each cell has those of the one at its
+/// position modulo the periods.
 fn torus_inputs(
     alloc: Global,
     premise: &Rule,
     goal: &Goal,
     periods: &Periods,
+    cells: &[Cell],
 ) -> Result<Inputs, AllocError>
     requires goal { IsToldGoal premise.now (goal_of premise.now goal.now) }
-    requires periods { ArePeriods premise.now.dimension periods.now }
+    requires cells { cells.now ≡ torus_cells premise.now periods.now }
+    requires periods { AreTorusPeriods premise.now periods.now }
     ensures { IfOk result (λ inputs. inputs ≡ torus_inputs premise.now (goal_of premise.now goal.now) periods.now) }
 {
-    let near = near_cells(alloc, premise, goal, periods)?;
+    let symbols = premise.symbols();
+    let near = near_cells(alloc, premise, goal, cells)?;
     let numbers = numbering(alloc, premise, periods)?;
-    inputs_by_number(alloc, &near, &numbers, premise.symbols())
+    inputs_by_number(alloc, &near, &numbers, symbols)
 }
 
 /// The clauses that ask for a configuration of these periods and this shear that lives in the premise's subshift and has
@@ -177,7 +192,7 @@ pub fn torus_clauses(
     shear: u32,
 ) -> Result<Cnf, AllocError>
     requires goal { IsGoalFor premise.now (goal_of premise.now goal.now) }
-    requires periods { ArePeriods premise.now.dimension (periods_of periods shear) }
+    requires periods { AreTorusPeriods premise.now (periods_of periods shear) }
     requires few { question_clauses premise.now (goal_of premise.now goal.now) (periods_volume (periods_of periods shear)) ≤ most_clauses }
     ensures exact { IfOk result (λ cnf. cnf ≡ torus_problem premise.now (goal_of premise.now goal.now) (periods_of periods shear)) }
     ensures shows { IfOk result (λ cnf. ShowsTorus cnf.clauses premise.now (goal_of premise.now goal.now) (periods_of periods shear)) }
@@ -188,6 +203,6 @@ pub fn torus_clauses(
     let torus = Periods { x, y, z, shear };
     let nodes = premise.nodes();
     let cells = cells_of(alloc, &fundamental(&torus), nodes)?;
-    let inputs = torus_inputs(alloc, premise, goal, &torus)?;
+    let inputs = torus_inputs(alloc, premise, goal, &torus, &cells)?;
     problem(alloc, premise, goal, &cells, &inputs)
 }

@@ -7,7 +7,7 @@ use Rattle.dd_known.specs.{Known.named, Sound.IsSound}
 use Rattle.dd_faults.specs.Commands.{is_far, unless, word_faults, radius_faults, list_faults, has_symbols, request_faults}
 use Rattle.dd_faults.specs.lemmas.Nothing.{both_nil, fits, parts}
 use Rattle.dd_query.specs.{Parts.number_of_word, Parts.word_at, Queries.query_of, Queries.IsQueryWithin}
-use Rattle.dd_query.proofs.ShapeLaws.{value_small, strip_is, all_close, vectors_are}
+use Rattle.dd_query.proofs.{ShapeLaws.value_small, ShapeLaws.strip_is, ShapeLaws.all_close, ShapeLaws.vectors_are, TorusLaws.torus_is}
 
 -- each number is that of something with the role at its place
 abbrev AreThere : Context → List Role → (ℕ → ℕ) → Type 0
@@ -45,6 +45,7 @@ module _ (x : Context) (r : Request) where
 
   pub within_kept : (k : QueryKind) → IsSound x.known → IsRequest (asks k) → request_faults x (asks k) ≡ [] → IsQueryWithin x.known (query_of x (asks k))
   within_kept QueryKind.Density sound is none = ((words QueryKind.Density is none).0, strip_is x r.vectors (lists QueryKind.Density is none))
+  within_kept QueryKind.Least sound is none = ((words QueryKind.Least is none).0, torus_is x r.vectors sound.setting.topology.grid.dimension.1 sound.setting.nodes.1 (lists QueryKind.Least is none))
   within_kept QueryKind.Discharge sound is none =
       let small = radii QueryKind.Discharge is none in
       ((words QueryKind.Discharge is none).0, value_small x r.numbers 0 small, value_small x r.numbers 1 small, vectors_are x r.vectors (lists QueryKind.Discharge is none) sound.setting.topology.grid.dimension.1 is.vectors)

@@ -1,4 +1,5 @@
 pub mod PlaceLaws
 pub mod VectorLaws
 pub mod ShapeLaws
+pub mod TorusLaws
 pub mod AskedLaws

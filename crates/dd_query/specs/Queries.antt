@@ -3,7 +3,7 @@ use Rattle.std.specs.Prelude.{◌<◌, ◌≤◌, length, map}
 use Rattle.dd_values.specs.Bounds.{widest_radius}
 use Rattle.dd_boxes.specs.Discharges.{AreVectors}
 use Rattle.dd_query.specs.Tree.{QueryKind, Request, Known, Context}
-use Rattle.dd_query.specs.{Vectors.place_of, Parts.word_at, Parts.value_at, Parts.strip_periods, Parts.AreStripPeriods}
+use Rattle.dd_query.specs.{Vectors.place_of, Parts.word_at, Parts.value_at, Parts.strip_periods, Parts.AreStripPeriods, Parts.torus_periods, Parts.AreTorusPeriods}
 use Rattle.dd_query.specs.declared.queries.Query.{Query}
 
 -- the query that is written, by its kind
@@ -18,6 +18,7 @@ query_asked QueryKind.Conjugate x r = Query.Conjugate (word_at x r 0) (word_at x
 query_asked QueryKind.Forbidden x r = Query.Forbidden (word_at x r 0)
 query_asked QueryKind.Minimal x r = Query.Minimal (word_at x r 0)
 query_asked QueryKind.Density x r = Query.Density (word_at x r 0) (strip_periods x.text r.vectors)
+query_asked QueryKind.Least x r = Query.Least (word_at x r 0) (torus_periods x.text r.vectors)
 query_asked QueryKind.Discharge x r = Query.Discharge (word_at x r 0) (value_at x r 0) (value_at x r 1) (map (place_of x.text) r.vectors)
 
 abbrev pub query_of : Context → Request → Query
@@ -37,5 +38,6 @@ IsQueryWithin k (Query.Conjugate there back from to) =
 IsQueryWithin k (Query.Forbidden rule) = rule < length k.rules
 IsQueryWithin k (Query.Minimal rule) = rule < length k.rules
 IsQueryWithin k (Query.Density rule strip) = (rule < length k.rules) × AreStripPeriods k.setting.topology.dimension strip
+IsQueryWithin k (Query.Least rule periods) = (rule < length k.rules) × AreTorusPeriods k.setting.topology.dimension (length k.setting.nodes) periods
 IsQueryWithin k (Query.Discharge rule radius margin vectors) =
     (rule < length k.rules) × (radius ≤ widest_radius) × (margin ≤ widest_radius) × AreVectors k.setting.topology.dimension vectors

@@ -1,13 +1,14 @@
 //! The queries of a script, each with the way from what is written to it.
-ghost use Rattle.std.specs.Prelude.{◌≡◌, [], false, IfOk, OnOk};
+ghost use Rattle.std.specs.Prelude.{◌≡◌, ◌≤◌, [], false, length, IfOk, OnOk};
 ghost use Rattle.std.specs.List.{list_any};
 ghost use Rattle.dd_commands.specs.{Table.row, Commands.IsRequest};
 ghost use Rattle.dd_commands.specs.declared.table.Lists.TheVariants as lists;
+ghost use Rattle.dd_commands.specs.declared.table.QueryKind.TheVariants as kinds;
 ghost use Rattle.dd_known.specs.Sound.{IsSound};
 ghost use Rattle.dd_faults.specs.Commands.{is_far, request_faults};
-ghost use Rattle.dd_query.specs.Queries.{query_of, IsQueryWithin};
+ghost use Rattle.dd_query.specs.Queries.{query_asked, query_of, IsQueryWithin};
 
-use crate::parts::{positions, strip_of, value_at, word_at};
+use crate::parts::{positions, strip_of, torus_of, value_at, word_at};
 use dd_commands::{QueryKind, Request};
 use dd_known::Context;
 use dd_lattice::Position;
@@ -70,6 +71,11 @@ pub enum Query {
         rule: u32,
         strip: [u32; 2],
     },
+    /// The least weight of a fundamental box over the configurations with these periods, 1 where there is no such axis.
+    Least {
+        rule: u32,
+        periods: [u32; 3],
+    },
     /// The best discharging bound of a radius and a margin along these vectors.
     Discharge {
         rule: u32,
@@ -79,9 +85,41 @@ pub enum Query {
     },
 }
 
+fn agree(context: &Context, request: &Request) -> Query
+    ensures { result ≡ query_asked kinds.Agree context.now request.now }
+{
+    Query::Agree {
+        left: word_at(context, request, 0),
+        right: word_at(context, request, 1),
+        rule: word_at(context, request, 2),
+    }
+}
+
+fn maps(context: &Context, request: &Request) -> Query
+    ensures { result ≡ query_asked kinds.Maps context.now request.now }
+{
+    Query::Maps {
+        map: word_at(context, request, 0),
+        from: word_at(context, request, 1),
+        to: word_at(context, request, 2),
+    }
+}
+
+fn conjugate(context: &Context, request: &Request) -> Query
+    ensures { result ≡ query_asked kinds.Conjugate context.now request.now }
+{
+    Query::Conjugate {
+        there: word_at(context, request, 0),
+        back: word_at(context, request, 1),
+        from: word_at(context, request, 2),
+        to: word_at(context, request, 3),
+    }
+}
+
 /// The query that is written, of whichever kind it is.
 fn asked(alloc: Global, context: &Context, request: &Request) -> Result<Query, AllocError>
     requires within { IsQueryWithin context.now.known (query_of context.now request.now) }
+    requires nodes { 1 ≤ length context.now.known.setting.nodes }
     requires close { (row request.now.kind).lists ≡ lists.Vectors → list_any (is_far context.now.text) request.now.vectors ≡ false }
     ensures exact { IfOk result (λ q. q ≡ query_of context.now request.now) }
     ensures within { OnOk result (IsQueryWithin context.now.known (query_of context.now request.now)) }
@@ -102,27 +140,18 @@ fn asked(alloc: Global, context: &Context, request: &Request) -> Result<Query, A
             right: second,
         },
         QueryKind::Empty => Query::Empty { rule: first },
-        QueryKind::Agree => Query::Agree {
-            left: first,
-            right: second,
-            rule: word_at(context, request, 2),
-        },
-        QueryKind::Maps => Query::Maps {
-            map: first,
-            from: second,
-            to: word_at(context, request, 2),
-        },
-        QueryKind::Conjugate => Query::Conjugate {
-            there: first,
-            back: second,
-            from: word_at(context, request, 2),
-            to: word_at(context, request, 3),
-        },
+        QueryKind::Agree => agree(context, request),
+        QueryKind::Maps => maps(context, request),
+        QueryKind::Conjugate => conjugate(context, request),
         QueryKind::Forbidden => Query::Forbidden { rule: first },
         QueryKind::Minimal => Query::Minimal { rule: first },
         QueryKind::Density => Query::Density {
             rule: first,
             strip: strip_of(context, request.vectors.as_slice()),
+        },
+        QueryKind::Least => Query::Least {
+            rule: first,
+            periods: torus_of(context, request.vectors.as_slice()),
         },
         QueryKind::Discharge => Query::Discharge {
             rule: first,

@@ -12,11 +12,12 @@ use Rattle.dd_boxes.specs.Counts.{goal_clauses, most_clauses}
 use Rattle.dd_boxes.specs.lemmas.ReachLaws.{least_is_goal_reach}
 use Rattle.dd_question.specs.declared.excess.Excess.{Excess}
 use Rattle.dd_question.specs.declared.excess.Excess.TheVariants as excess
-use Rattle.dd_question.specs.Questions.{Asked, membership, box, equality, listing, smallest, conjugacy, density, discharge, IsFormed, passed, excess_of, IsSoundAsked}
+use Rattle.dd_question.specs.Questions.{Asked, membership, box, equality, listing, smallest, conjugacy, density, least, discharge, IsFormed, passed, excess_of, IsSoundAsked}
 use Rattle.dd_question.specs.Boxes.{clauses_of, is_long, IsAskable, IsFormedBox, IsSoundBox}
 use Rattle.dd_question.specs.Conjugacies.{ConjugacyOf, EachPart, is_some_long}
 use Rattle.dd_question.specs.Lists.{has_many_patterns, HasFewPatterns}
 use Rattle.dd_question.specs.Densities.{has_many_states, strip_volume}
+use Rattle.dd_question.specs.Tori.{weight_clauses, is_heavy}
 use Rattle.dd_question.proofs.LimitLaws.{some_at}
 
 within : (b : Bool) (e : Excess) → passed b e ≡ None → b ≡ false
@@ -80,5 +81,13 @@ sound l (conjugacy c) formed none = sound_parts l c formed (within (is_some_long
 sound l (density x strip ws) formed none = (
   formed.0,
   record { strip = formed.1; weights = formed.2; few = few_states x strip (within (has_many_states x (strip_volume strip)) excess.States none) },
+)
+sound l (least x along ws) formed none = (
+  formed.0,
+  record {
+    torus = formed.1;
+    weights = formed.2;
+    small = ltb-false most_clauses (weight_clauses x along ws) (within (is_heavy x along ws) excess.Clauses none);
+  },
 )
 sound l (discharge x radius margin vs ws) formed none = formed

@@ -2,11 +2,13 @@
 pub mod Questions
 -- questions with the limits within which they are asked, and how they are checked
 pub mod Checked
--- what the kinds of questions may have: box questions, the four of a conjugacy, lists of patterns, densities and discharges
+-- what the kinds of questions may have: box questions, the four of a conjugacy, lists of patterns, densities, least weights
+-- and discharges
 pub mod Boxes
 pub mod Conjugacies
 pub mod Lists
 pub mod Densities
+pub mod Tori
 pub mod Discharges
 -- lemmas on allowed symbols, with their proofs, for whoever cites them
 pub mod lemmas

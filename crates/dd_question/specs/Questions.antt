@@ -19,6 +19,7 @@ use Rattle.dd_question.specs.Boxes.{is_long, IsFormedBox, IsAskable, IsSoundBox}
 use Rattle.dd_question.specs.Conjugacies.{ConjugacyOf, is_some_long, IsPart, EachPart, conjugacy_of}
 use Rattle.dd_question.specs.Lists.{has_many_patterns, HasFewPatterns}
 use Rattle.dd_question.specs.Densities.{has_many_states, strip_volume, IsNarrow}
+use Rattle.dd_question.specs.Tori.{IsTorus, is_heavy, IsWeighable}
 use Rattle.dd_question.specs.Discharges.{IsDischargeable, IsDischargeFault}
 
 pub data Asked : Type 0 where
@@ -36,6 +37,8 @@ pub data Asked : Type 0 where
   conjugacy : ConjugacyOf → Asked
   -- with these weights, what do the configurations with these periods in the axes after the first weigh at least a position?
   density : LocalRule → List ℕ → List ℕ → Asked
+  -- with these weights, what does a fundamental box with these periods and no shear weigh at least?
+  least : LocalRule → List ℕ → List ℕ → Asked
   -- with these weights, what can each position hold at least, once each has given along these vectors amounts that the pattern
   -- of this radius around it determines, on a domain grown by this margin?
   discharge : LocalRule → ℕ → ℕ → List Place → List ℕ → Asked
@@ -49,6 +52,7 @@ asked_of (question.Listing rule) = listing rule.now
 asked_of (question.Smallest rule) = smallest rule.now
 asked_of (question.Conjugacy c) = conjugacy (conjugacy_of c)
 asked_of (question.Density rule strip weights) = density rule.now strip weights.now
+asked_of (question.Least rule periods weights) = least rule.now periods weights.now
 asked_of (question.Discharge rule radius margin vectors weights) = discharge rule.now radius margin vectors.now weights.now
 
 -- whether it is decided by boxes and periods, which engines search
@@ -60,6 +64,7 @@ is_box_question (listing x) = false
 is_box_question (smallest x) = false
 is_box_question (conjugacy c) = true
 is_box_question (density x strip ws) = false
+is_box_question (least x along ws) = false
 is_box_question (discharge x radius margin vs ws) = false
 
 -- what it speaks of is of one dimension, of the same nodes and the same alphabet, and each symbol of a configuration is one that
@@ -72,6 +77,7 @@ IsFormed (listing x) = IsRule x
 IsFormed (smallest x) = IsRule x
 IsFormed (conjugacy c) = EachPart IsFormedBox c
 IsFormed (density x strip ws) = IsRule x × IsStrip x strip × HasWeights x ws
+IsFormed (least x along ws) = IsRule x × IsTorus x along × HasWeights x ws
 IsFormed (discharge x radius margin vs ws) = IsRule x × IsDischargeable x radius margin vs ws
 
 -- the first of its parts, in this order, that doesn't go with those before it; memory may be wanting at any
@@ -84,6 +90,8 @@ pub data IsPartFault : Asked → QuestionFault → Type 0 where
       IsPartFault (conjugacy c) f
   strip_fault : {x : LocalRule} {periods ws : List ℕ} → ¬ IsStrip x periods → IsPartFault (density x periods ws) fault.Strip
   weights_fault : {x : LocalRule} {periods ws : List ℕ} → IsStrip x periods → ¬ HasWeights x ws → IsPartFault (density x periods ws) fault.Weights
+  periods_fault : {x : LocalRule} {along ws : List ℕ} → ¬ IsTorus x along → IsPartFault (least x along ws) fault.Periods
+  symbol_weights_fault : {x : LocalRule} {along ws : List ℕ} → IsTorus x along → ¬ HasWeights x ws → IsPartFault (least x along ws) fault.Weights
   discharge_fault : {x : LocalRule} {radius margin : ℕ} {vs : List Place} {ws : List ℕ} {f : QuestionFault} → IsDischargeFault x radius margin vs ws f →
       IsPartFault (discharge x radius margin vs ws) f
   memory_fault : {a : Asked} → IsPartFault a fault.Memory
@@ -100,6 +108,7 @@ excess_of l (listing x) = passed (has_many_patterns x) excess.Patterns
 excess_of l (smallest x) = passed (has_many_patterns x) excess.Patterns
 excess_of l (conjugacy c) = passed (is_some_long l c) excess.Clauses
 excess_of l (density x strip ws) = passed (has_many_states x (strip_volume strip)) excess.States
+excess_of l (least x along ws) = passed (is_heavy x along ws) excess.Clauses
 excess_of l (discharge x radius margin vs ws) = None
 
 -- it goes together and passes no limit
@@ -111,4 +120,5 @@ IsSoundAsked l (listing x) = IsRule x × HasFewPatterns x
 IsSoundAsked l (smallest x) = IsRule x × HasFewPatterns x
 IsSoundAsked l (conjugacy c) = EachPart (IsSoundBox l) c
 IsSoundAsked l (density x strip ws) = IsRule x × IsNarrow x strip ws
+IsSoundAsked l (least x along ws) = IsRule x × IsWeighable x along ws
 IsSoundAsked l (discharge x radius margin vs ws) = IsRule x × IsDischargeable x radius margin vs ws

@@ -11,6 +11,7 @@ use crate::parts::{
     check_box, check_conjugacy, check_density, check_discharge, check_equality, check_member,
 };
 use crate::question::Question;
+use crate::tori::check_least;
 use dd_values::Limits;
 use std::alloc::Global;
 
@@ -54,6 +55,11 @@ impl<'a> Question<'a> {
                 strip,
                 weights,
             } => check_density(rule, strip, weights),
+            Question::Least {
+                rule,
+                periods,
+                weights,
+            } => check_least(rule, periods, weights),
             Question::Discharge {
                 rule,
                 radius,

@@ -3,7 +3,7 @@
 /// A limit on its work that a question passes.
 #[derive(Clone, Copy, Debug, PartialEq, Eq)]
 pub enum Excess {
-    /// More than 2,000,000 clauses in the largest box or torus that may be tried.
+    /// More than 2,000,000 clauses in the largest box or torus that may be tried, or with the greatest weight that may be asked for.
     Clauses,
     /// More than 65,536 patterns at a node.
     Patterns,

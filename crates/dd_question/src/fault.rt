@@ -30,6 +30,9 @@ pub enum QuestionFault {
     /// There isn't one weight of at most 1,000 for each symbol.
     #[error("there isn't one weight of at most 1000 for each symbol")]
     Weights,
+    /// A period of the torus is 0, or not 1 past the rule's dimension, or its fundamental box has more than 65,536 cells.
+    #[error("a period of the torus is out of range")]
+    Periods,
     /// The radius of the patterns is over 3.
     #[error("the radius is over 3")]
     Radius,

@@ -1,6 +1,6 @@
 //! Questions about rules: whether a configuration lives in a subshift, whether a subshift holds a goal, whether two are equal, which
-//! patterns are forbidden, and which without a cell too many, whether two maps are inverse to each other, how light a strip can be
-//! and what a discharge can show; and which of them ask for too much work.
+//! patterns are forbidden, and which without a cell too many, whether two maps are inverse to each other, how light a strip
+//! or a torus can be and what a discharge can show; and which of them ask for too much work.
 #![tactic(auto)]
 
 mod aims;
@@ -13,6 +13,7 @@ mod laws;
 mod limits;
 mod parts;
 mod question;
+mod tori;
 
 pub use aims::MOST_CLAUSES;
 pub use checked::CheckedQuestion;

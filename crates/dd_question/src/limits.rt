@@ -13,6 +13,7 @@ use crate::aims::{MOST_CLAUSES, aim_of};
 use crate::conjugacy::Conjugacy;
 use crate::excess::Excess;
 use crate::question::Question;
+use crate::tori::is_heavy;
 use dd_boxes::Goal;
 use dd_counts::{
     MOST_LONGER_STATES, MOST_PATTERNS, MOST_STATES, longer_states, patterns, question_clauses,
@@ -99,6 +100,11 @@ impl Question<'_> {
             Question::Conjugacy { conjugacy } => {
                 Ok(is_some_long(alloc, limits, &conjugacy)?.then_some(Excess::Clauses))
             }
+            Question::Least {
+                rule,
+                periods,
+                weights,
+            } => Ok(is_heavy(rule, periods, weights).then_some(Excess::Clauses)),
             Question::Density { rule, strip, .. } => {
                 Ok(has_many_states(rule, strip_volume(strip)).then_some(Excess::States))
             }

@@ -21,15 +21,11 @@ use dd_formed::{CommonNumbers, is_automaton};
 use dd_formula::{Automaton, Rule};
 use dd_lattice::Position;
 use dd_pattern::Periodic;
+use dd_values::{MOST_WEIGHT, WIDEST_RADIUS};
 use std::alloc::{AllocError, Global};
 
-/// The greatest period of a strip, the greatest weight, the greatest radius and margin of a discharge, and the greatest number of its
-/// vectors and their greatest coordinate.
+/// The greatest period of a strip, and the greatest number of the vectors of a discharge and their greatest coordinate.
 const LONGEST: u32 = 64;
-
-const MOST_WEIGHT: u32 = 1000;
-
-const WIDEST_RADIUS: u32 = 3;
 
 const MOST_VECTORS: usize = 16;
 
@@ -182,7 +178,7 @@ fn are_light(weights: &[u32]) -> bool
 }
 
 /// Whether there is one weight of at most 1,000 for each symbol.
-fn has_weights(rule: &Rule, weights: &[u32]) -> bool
+pub(crate) fn has_weights(rule: &Rule, weights: &[u32]) -> bool
     ensures of_strip { IsTrue result ↔ HasWeights rule.now weights.now }
     ensures of_discharge { IsTrue result ↔ AreWeightsFor rule.now weights.now }
 {

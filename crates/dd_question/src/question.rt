@@ -41,6 +41,12 @@ pub enum Question<'a> {
         strip: [u32; 2],
         weights: &'a [u32],
     },
+    /// What does a fundamental box with these periods and no shear weigh at least?
+    Least {
+        rule: &'a Rule,
+        periods: [u32; 3],
+        weights: &'a [u32],
+    },
     /// What can each position hold at least, once each has given along these vectors amounts that the pattern of this radius
     /// around it determines, on a domain grown by this margin?
     Discharge {

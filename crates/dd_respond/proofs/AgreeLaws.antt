@@ -1,5 +1,5 @@
 -- Two right answers to a question differ in their evidence alone: a least radius, first periods and a first cell are one.
-use Rattle.std.proofs.Common.{◌≡◌, ℕ, ◌≤◌, List, [], refl, ap, sym, subst, ◌∙◌, arith, inl, inr}
+use Rattle.std.proofs.Common.{◌≡◌, ℕ, ◌≤◌, List, [], ◌∷◌, refl, ap, sym, subst, ◌∙◌, arith, inl, inr}
 use Rattle.std.specs.Prelude.{◌⊎◌, max}
 use Rattle.std.specs.Ordering.{ordering_then, nat_cmp}
 use Rattle.std.proofs.lemmas.Map.Lookups.{exact_unsigned}
@@ -9,6 +9,7 @@ use Rattle.std.specs.Cmp.{IsTotalOrder}
 use Rattle.std.proofs.lemmas.Bool.{cases_order}
 use Rattle.std.proofs.lemmas.Cmp.{nat_cmp_total, on_total, then_total}
 use Rattle.dd_derivation.specs.Derivations.{IsRefuting}
+use Rattle.dd_derivation.specs.declared.step.Step.{Step}
 use Rattle.dd_problem.specs.Problems.{box_problem}
 use Rattle.dd_lattice.specs.Place.{Place}
 use Rattle.dd_discharge.specs.Outcomes.{HasOneOutcome}
@@ -22,8 +23,10 @@ use Rattle.dd_values.specs.declared.limits.Limits.{Limits}
 use Rattle.dd_boxes.specs.Goals.{GoalOf, breaks}
 use Rattle.dd_boxes.specs.Boxes.{Suffices}
 use Rattle.dd_certificate.specs.declared.answer.Listed.{Listed}
+use Rattle.dd_certificate.specs.declared.answer.Starred.{Starred}
 use Rattle.dd_certificate.specs.declared.answer.Answer.{Answer}
 use Rattle.dd_certificate.specs.declared.answer.Answer.TheVariants as answer
+use Rattle.dd_certificate.specs.declared.answer.Reason.TheVariants as reason
 use Rattle.dd_certificate.specs.Text.{answer_line}
 use Rattle.dd_contain.specs.declared.decision.Decision.{Decision}
 use Rattle.dd_contain.specs.declared.decision.Decision.TheVariants as decision
@@ -33,11 +36,14 @@ use Rattle.dd_contain.specs.Questions.{ShowsAt, Displays, IsDecided}
 use Rattle.dd_contain.specs.Equal.{joined, UnlessNo, IsEqualDecided}
 use Rattle.dd_question.specs.Questions.{Asked, IsSoundAsked}
 use Rattle.dd_question.specs.Questions as asked
+use Rattle.dd_question.specs.Conjugacies.{ConjugacyOf}
 use Rattle.dd_evidence.specs.Cells.{written_cell}
-use Rattle.dd_evidence.specs.Lists.{IsForbiddenList}
-use Rattle.dd_evidence.specs.Answers.{IsMemberCertificate, member_inside, member_outside, IsListCertificate, all_forbidden}
+use Rattle.dd_evidence.specs.Lists.{IsForbiddenList, IsStarredList}
+use Rattle.dd_evidence.specs.Answers.{IsMemberCertificate, member_inside, member_outside, IsListCertificate, all_forbidden, IsMinimalCertificate, all_minimal}
 use Rattle.dd_respond.specs.Right.{IsRightTo, IsRightBox, IsRightEqual, written_decision, written_equality, is_unknown}
+use Rattle.dd_respond.specs.Conjugacies.{ComesTo, IsNoAt, written_broken, IsRightConjugacy, first_no, all_yes, some_open}
 use Rattle.dd_respond.specs.Laws.{SayTheSame}
+use Rattle.dd_respond.proofs.Parts.{at_each, part_within}
 use Rattle.dd_respond.proofs.Measuring.{IsOneDensity, density_agree, discharge_agree}
 
 -- ---- the least and the first are one
@@ -234,6 +240,70 @@ equal_agree l x y a b h k =
           ∙ (sym (joined_unknown other.left other.right) ∙ sym (ap is_unknown b_is))));
     }
 
+-- ---- the answers of conjugacies
+
+module _ (l : Limits) (c : ConjugacyOf) where
+  -- a question comes to one kind of decision, one radius and the same periods
+  comes_alike : (k : ℕ) (d e : Decision) → ComesTo l c k d → ComesTo l c k e → bare d ≡ bare e
+  comes_alike k d e h m =
+      let same : ◌≡◌ {A = LocalRule × GoalOf} (m.premise, m.goal) (h.premise, h.goal) = cc (h.is_part.1, m.is_part.1) in
+      decided_alike h.premise h.goal l.radius l.period d e h.decided
+      (subst (λ (q : LocalRule × GoalOf). IsDecided q.0 q.1 l.radius l.period e) same m.decided)
+
+  pub yes_not_no : (k n : ℕ) (s : List Step) → ComesTo l c k (decision.Yes n s) → IsNoAt l c k → ⊥
+  yes_not_no k n s is other = let same : decision.Yes n [] ≡ decision.No (bare_tile other.0) = comes_alike k _ _ is other.1 in absurd (cc same)
+
+  pub unknown_not_no : (k : ℕ) → ComesTo l c k decision.Unknown → IsNoAt l c k → ⊥
+  unknown_not_no k is other = let same : decision.Unknown ≡ decision.No (bare_tile other.0) = comes_alike k _ _ is other.1 in absurd (cc same)
+
+  yes_not_unknown : (k n : ℕ) (s : List Step) → ComesTo l c k (decision.Yes n s) → ComesTo l c k decision.Unknown → ⊥
+  yes_not_unknown k n s is other = let same : decision.Yes n [] ≡ decision.Unknown = comes_alike k _ _ is other in absurd (cc same)
+
+  one_radius : (k n m : ℕ) (s t : List Step) → ComesTo l c k (decision.Yes n s) → ComesTo l c k (decision.Yes m t) → n ≡ m
+  one_radius k n m s t h i = let same : decision.Yes n [] ≡ decision.Yes m [] = comes_alike k _ _ h i in cc same
+
+  -- NO of a question, as it is answered
+  abbrev broken_by : ℕ → Decision → Answer
+  broken_by k (decision.Yes n s) = answer.Unknown reason.Limits
+  broken_by k (decision.No t) = written_broken k t
+  broken_by k decision.Unknown = answer.Unknown reason.Limits
+
+  broken_agree : (k j : ℕ) (t u : Tile) → k ≡ j → ComesTo l c k (decision.No t) → ComesTo l c j (decision.No u) → SayTheSame (written_broken k t) (written_broken j u)
+  broken_agree k j t u is h m =
+      let same : bare (decision.No t) ≡ bare (decision.No u) = comes_alike k _ _ h (subst (λ i. ComesTo l c i (decision.No u)) (sym is) m) in
+      record { line = λ number. λ i. answer_line number (broken_by (is i) (same i)); unknown = refl }
+
+  module _ {n1 n2 n3 n4 : ℕ} {s1 s2 s3 s4 : List Step} (one : ComesTo l c 1 (decision.Yes n1 s1)) (two : ComesTo l c 2 (decision.Yes n2 s2))
+      (three : ComesTo l c 3 (decision.Yes n3 s3)) (four : ComesTo l c 4 (decision.Yes n4 s4)) where
+    none_of_four : (k : ℕ) → 1 ≤ k → k ≤ 4 → IsNoAt l c k → ⊥
+    none_of_four k low high =
+        at_each (λ j. IsNoAt l c j → ⊥) k low high (yes_not_no 1 n1 s1 one) (yes_not_no 2 n2 s2 two) (yes_not_no 3 n3 s3 three) (yes_not_no 4 n4 s4 four)
+
+    none_open : (k : ℕ) → ComesTo l c k decision.Unknown → ⊥
+    none_open k unknown =
+        at_each (λ j. ComesTo l c j decision.Unknown → ⊥) k unknown.is_part.0 (part_within c k unknown.premise unknown.goal unknown.is_part)
+        (yes_not_unknown 1 n1 s1 one) (yes_not_unknown 2 n2 s2 two) (yes_not_unknown 3 n3 s3 three) (yes_not_unknown 4 n4 s4 four) unknown
+
+  conjugacy_agree : (a b : Answer) → IsRightConjugacy l c a → IsRightConjugacy l c b → SayTheSame a b
+  conjugacy_agree a b (first_no {k = k} {t = t} h d) (first_no {k = j} {t = u} i e) =
+      broken_agree k j t u (least_one (IsNoAt l c) 1 4 k j h i) d e
+  conjugacy_agree a b (first_no {k = k} h d) (all_yes one two three four) = absurd (none_of_four one two three four k h.low h.high h.holds)
+  conjugacy_agree a b (first_no {k = k} h d) (some_open none unknown) = absurd (none k h.low h.high h.holds)
+  conjugacy_agree a b (all_yes one two three four) (first_no {k = k} h d) = absurd (none_of_four one two three four k h.low h.high h.holds)
+  conjugacy_agree a b (all_yes {s1 = s1} {s2 = s2} {s3 = s3} {s4 = s4} one two three four) (all_yes one' two' three' four') =
+      let e1 = one_radius 1 _ _ _ _ one one' in
+      let e2 = one_radius 2 _ _ _ _ two two' in
+      let e3 = one_radius 3 _ _ _ _ three three' in
+      let e4 = one_radius 4 _ _ _ _ four four' in
+      record {
+        line = λ number. λ i. answer_line number (answer.Conjugate (e1 i ∷ e2 i ∷ e3 i ∷ e4 i ∷ []) (s1 ∷ s2 ∷ s3 ∷ s4 ∷ []));
+        unknown = refl;
+      }
+  conjugacy_agree a b (all_yes one two three four) (some_open {k = k} none unknown) = absurd (none_open one two three four k unknown)
+  conjugacy_agree a b (some_open none unknown) (first_no {k = k} h d) = absurd (none k h.low h.high h.holds)
+  conjugacy_agree a b (some_open {k = k} none unknown) (all_yes one two three four) = absurd (none_open one two three four k unknown)
+  conjugacy_agree a b (some_open none unknown) (some_open others unsure) = record { line = λ number. refl; unknown = refl }
+
 -- ---- membership
 
 module _ (x : LocalRule) (t : Tile) (tile : IsTile t) (fits : Fits x t) where
@@ -254,12 +324,21 @@ list_agree : AreOneList → (x : LocalRule) (a b : Answer) → IsListCertificate
 list_agree one x a b (all_forbidden {patterns = some} h) (all_forbidden {patterns = others} k) =
     record { line = λ number. ap (λ ps. answer_line number (answer.List ps)) (one x some others h k); unknown = refl }
 
+-- ---- minimal forbidden patterns
+
+abbrev pub AreOneStarred : Type 0
+AreOneStarred = (x : LocalRule) (some others : List Starred) → IsStarredList x some → IsStarredList x others → some ≡ others
+
+minimal_agree : AreOneStarred → (x : LocalRule) (a b : Answer) → IsMinimalCertificate x a → IsMinimalCertificate x b → SayTheSame a b
+minimal_agree one x a b (all_minimal {patterns = some} h) (all_minimal {patterns = others} k) =
+    record { line = λ number. ap (λ ps. answer_line number (answer.Minimal ps)) (one x some others h k); unknown = refl }
+
 -- ---- all questions
 
 abbrev pub HaveOneOutcome : Type 0
 HaveOneOutcome = (x : LocalRule) (ws : List ℕ) (radius margin : ℕ) (vs : List Place) (pivots : ℕ) → HasOneOutcome x ws radius margin vs pivots
 
-module _ (one : AreOneList) (density_one : IsOneDensity) (outcome_one : HaveOneOutcome) (l : Limits) where
+module _ (one : AreOneList) (density_one : IsOneDensity) (outcome_one : HaveOneOutcome) (starred_one : AreOneStarred) (l : Limits) where
   pub right_agree : (k : Asked) (a b : Answer) → IsSoundAsked l k → IsRightTo l k a → IsRightTo l k b → SayTheSame a b
   right_agree (asked.membership x t) a b ok h k = member_agree x t ok.1 ok.2 a b h k
   right_agree (asked.box x g) a b ok h k = box_agree l x g a b h k
@@ -268,3 +347,5 @@ module _ (one : AreOneList) (density_one : IsOneDensity) (outcome_one : HaveOneO
   right_agree (asked.density x strip ws) a b ok h k = density_agree density_one x strip ws a b h k
   right_agree (asked.discharge x radius margin vs ws) a b ok h k =
       discharge_agree x radius margin vs ws l.pivots (outcome_one x ws radius margin vs l.pivots) a b h k
+  right_agree (asked.smallest x) a b ok h k = minimal_agree starred_one x a b h k
+  right_agree (asked.conjugacy c) a b ok h k = conjugacy_agree l c a b h k

@@ -1,4 +1,6 @@
 pub mod WritableLaws
 pub mod Measuring
+pub mod Parts
 pub mod AgreeLaws
+pub mod Joining
 pub mod AskingLaws

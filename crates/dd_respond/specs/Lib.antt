@@ -2,6 +2,10 @@
 pub mod Right
 -- which answers about least densities and discharging are right
 pub mod Bounds
+-- which answers about conjugacies are right
+pub mod Conjugacies
+-- what the questions of a conjugacy come to, one after the other
+pub mod joining
 -- what all right answers to a question have in common
 pub mod Laws
 -- which decisions an output can hold

@@ -22,8 +22,9 @@ use Rattle.dd_contain.specs.Equal.{IsEqualDecided}
 use Rattle.dd_question.specs.Questions.{Asked}
 use Rattle.dd_question.specs.Questions as asked
 use Rattle.dd_evidence.specs.Tiles.{written_periods}
-use Rattle.dd_evidence.specs.Answers.{IsMemberCertificate, IsListCertificate}
+use Rattle.dd_evidence.specs.Answers.{IsMemberCertificate, IsListCertificate, IsMinimalCertificate}
 use Rattle.dd_respond.specs.Bounds.{IsRightDensity, IsRightDischarge}
+use Rattle.dd_respond.specs.Conjugacies.{IsRightConjugacy}
 
 -- ---- box questions
 
@@ -70,6 +71,8 @@ IsRightTo l (asked.equality x y) a = IsRightEqual l x y a
 IsRightTo l (asked.listing x) a = IsListCertificate x a
 IsRightTo l (asked.density x strip ws) a = IsRightDensity x strip ws a
 IsRightTo l (asked.discharge x radius margin vs ws) a = IsRightDischarge x radius margin vs ws l.pivots a
+IsRightTo l (asked.smallest x) a = IsMinimalCertificate x a
+IsRightTo l (asked.conjugacy c) a = IsRightConjugacy l c a
 
 -- no definite answer: the first line says that a stated limit was met
 abbrev pub is_unknown : Answer → Bool

@@ -20,7 +20,7 @@ use dd_values::{Items, Limits};
 use std::alloc::{AllocError, Global};
 
 /// The same numbers, as the answer has them.
-fn widened(alloc: Global, numbers: &[u32]) -> Result<Items<u64>, AllocError>
+pub(crate) fn widened(alloc: Global, numbers: &[u32]) -> Result<Items<u64>, AllocError>
     ensures same { IfOk result (λ wide. wide ≡ numbers.now) }
     ensures writable { IfOk result (All IsWritableNumber) }
 {

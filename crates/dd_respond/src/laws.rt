@@ -6,7 +6,7 @@ ghost use Rattle.dd_respond.specs.Right.{IsRightTo};
 ghost use Rattle.dd_values.specs.declared.limits.Limits.{Limits as AnyLimits};
 
 use dd_discharge::one_outcome;
-use dd_evidence::one_list;
+use dd_evidence::{one_list, one_starred};
 use dd_strips::one_density;
 
 /// Does nothing; its contract says that all right answers to a sound question within the same limits have the same line. They
@@ -18,4 +18,5 @@ pub fn one_response()
     one_list();
     one_density();
     one_outcome();
+    one_starred();
 }

@@ -2,11 +2,13 @@
 #![tactic(auto)]
 
 mod boxes;
+mod conjugacies;
 mod densities;
 mod discharges;
 mod laws;
 mod lists;
 mod members;
+mod minimal;
 mod responding;
 
 pub use laws::one_response;

@@ -7,10 +7,12 @@ ghost use Rattle.dd_respond.specs.Asking.{IsBoxQuestion, Engages};
 ghost use Rattle.dd_respond.specs.Right.{IsRightTo};
 
 use crate::boxes::{compared, decided};
+use crate::conjugacies::conjugate;
 use crate::densities::least;
 use crate::discharges::discharged;
 use crate::lists::listed;
 use crate::members::member;
+use crate::minimal::smallest;
 use dd_certificate::Answer;
 use dd_engines::{Engine, Roster, kept_is_reflexive};
 use dd_question::{CheckedQuestion, Question};
@@ -52,5 +54,7 @@ pub fn respond<E: Engine>(
             vectors,
             weights,
         } => discharged(alloc, rule, radius, margin, vectors, weights, limits.pivots),
+        Question::Smallest { rule } => smallest(alloc, rule),
+        Question::Conjugacy { conjugacy } => conjugate(alloc, &conjugacy, limits, roster),
     }
 }

@@ -13,7 +13,7 @@ ghost use Rattle.dd_solver.specs.searching.Reasons.{IsTrail, AreInRange};
 ghost use Rattle.dd_solver.specs.searching.Analysis.{Grows, AreMarked, IsMarkedClause, is_rightly_learned, IsPlace, IsTurn, ChoiceSays, Asserts};
 
 use dd_clause::Literal;
-use dd_trail::{Database, Entry, Order, Trail};
+use dd_trail::{Database, Entry, Order, Style, Trail};
 use std::alloc::{AllocError, Global};
 
 /// A place of the trail to return to, where a decision stands, and the literal that is forced there.
@@ -289,8 +289,24 @@ fn bump_reasons(
     }
 }
 
+/// Makes the variables of the learned clause more active once again, and then each variable of the clauses that forced
+/// its own.
+fn bump_again(
+    order: &mut Order,
+    database: &Database,
+    trail: &Trail,
+    marked: &mut [bool],
+    literals: &[Literal],
+)
+    requires { AreInRange (length marked.old) database.now }
+{
+    bump_kept(order, literals);
+    mark_reasons(database, trail, marked, literals);
+    bump_reasons(order, database, trail, marked, literals);
+}
+
 /// Learns a clause from the one of this number, whose literals are all false. The variables of the clauses that it
-/// follows by become more active, its own twice, and then each variable of the clauses that forced its own.
+/// follows by become more active, and some of them again, where the style of the order is a broad one.
 pub fn learn(
     alloc: Global,
     database: &Database,
@@ -308,9 +324,10 @@ pub fn learn(
     let learned = walk_down(alloc, database, trail, marked, conflict)?;
     bump_resolved(order, database, trail, marked, learned.hints.as_slice());
     let literals = learned.literals.as_slice();
-    bump_kept(order, literals);
-    mark_reasons(database, trail, marked, literals);
-    bump_reasons(order, database, trail, marked, literals);
+    match order.style() {
+        Style::Broad => bump_again(order, database, trail, marked, literals),
+        Style::Focused => {}
+    }
     order.decay();
     Ok(learned)
 }

@@ -7,5 +7,6 @@ mod deletion;
 mod search;
 mod trimming;
 
-pub use search::solve;
+pub use dd_trail::Style;
+pub use search::{solve, solve_with};
 pub use trimming::trimmed;

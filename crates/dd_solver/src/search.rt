@@ -15,7 +15,7 @@ use crate::analysis::{Turn, learn};
 use crate::deletion::Deletion;
 use dd_clause::{Assignment, Clause, Cnf};
 use dd_derivation::{Outcome, Step, delete_named};
-use dd_trail::{Database, Entry, Order, Scan, Trail, Watches};
+use dd_trail::{Database, Entry, Order, Scan, Style, Trail, Watches};
 use dd_values::Items;
 use std::alloc::{AllocError, Global};
 use std::marker::Model;
@@ -69,6 +69,7 @@ impl<'a> Search<'a> {
         alloc: Global,
         clauses: &'a [Clause],
         variables: u32,
+        style: Style,
     ) -> Result<Search<'a>, AllocError>
         requires { All (IsClauseInRange variables) clauses.now }
         ensures variables { IfOk result (λ search. search.variables ≡ variables) }
@@ -76,7 +77,7 @@ impl<'a> Search<'a> {
     {
         let variables = variables as usize;
         let mut watches = Watches::new(alloc, variables)?;
-        let mut order = Order::new(alloc, variables)?;
+        let mut order = Order::new(alloc, variables, style)?;
         for clause in clauses {
             watches.add(clause.literals())?;
             order.count(clause.literals());
@@ -240,6 +241,15 @@ pub fn solve(alloc: Global, cnf: &Cnf) -> Result<Outcome, AllocError>
     ensures found { IfOk result (λ outcome. IsFound outcome ↔ IsSatisfiable cnf.now.clauses) }
     ensures refuted { IfOk result (λ outcome. IsRefuted outcome ↔ ¬ (IsSatisfiable cnf.now.clauses)) }
 {
-    let search = Search::new(alloc, cnf.clauses(), cnf.variables())?;
+    solve_with(alloc, cnf, Style::Broad)
+}
+
+/// The same in a style of search, which changes how long it takes, and which assignment or which steps it finds.
+pub fn solve_with(alloc: Global, cnf: &Cnf, style: Style) -> Result<Outcome, AllocError>
+    ensures answer { IfOk result (IsAnswer cnf.now.variables cnf.now.clauses) }
+    ensures found { IfOk result (λ outcome. IsFound outcome ↔ IsSatisfiable cnf.now.clauses) }
+    ensures refuted { IfOk result (λ outcome. IsRefuted outcome ↔ ¬ (IsSatisfiable cnf.now.clauses)) }
+{
+    let search = Search::new(alloc, cnf.clauses(), cnf.variables(), style)?;
     search.run(alloc)
 }

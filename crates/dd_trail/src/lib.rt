@@ -9,7 +9,7 @@ mod trail;
 mod watches;
 
 pub use database::Database;
-pub use order::Order;
+pub use order::{Order, Style};
 pub use propagation::Scan;
 pub use trail::{Entry, Trail};
 pub use watches::Watches;

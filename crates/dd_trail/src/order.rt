@@ -18,8 +18,24 @@ const MOST_ACTIVE: u64 = 1 << 60;
 /// How many bits the activities then lose.
 const LOST_BITS: u32 = 32;
 
-/// After each conflict the increment grows by this part of itself.
-const GROWTH_PART: u64 = 64;
+/// After each conflict the increment grows by this part of itself, where the style is broad.
+const BROAD_PART: u64 = 64;
+
+/// The same where it is focused.
+const FOCUSED_PART: u64 = 20;
+
+/// How much the order goes by the latest conflicts.
+#[derive(Clone, Copy, Debug)]
+pub enum Style {
+    /// A conflict counts for long: what it adds grows by 1/64 from each to the next. The variables of the learned clause are
+    /// made more active a second time, and then those of the clauses that forced its literals (Liang, Ganesh, Poupart and
+    /// Czarnecki 2016). It is the better one where a contradiction lies deep among many variables: boxes, pigeonholes.
+    Broad,
+    /// The latest conflicts count most: what one adds grows by 1/20, and a variable becomes more active once for all clauses
+    /// of the conflict, as in MiniSat (Eén and Sörensson 2003). It is the better one on large tori, where each cell is as good
+    /// as any other: the search stays among the cells where it is.
+    Focused,
+}
 
 /// How active a variable was, its place in the heap, and the value that it had last.
 #[derive(Clone, Copy)]
@@ -37,11 +53,12 @@ pub struct Order {
     ranks: Vec<Rank>,
     waiting: usize,
     increment: u64,
+    style: Style,
 }
 
 impl Order {
     /// All variables wait, and are to be false.
-    pub fn new(alloc: Global, variables: usize) -> Result<Order, AllocError> {
+    pub fn new(alloc: Global, variables: usize, style: Style) -> Result<Order, AllocError> {
         let idle = Rank {
             activity: 0,
             place: 0,
@@ -59,7 +76,13 @@ impl Order {
             ranks,
             waiting: variables,
             increment: FIRST_INCREMENT,
+            style,
         })
+    }
+
+    /// How much the order goes by the latest conflicts.
+    pub fn style(&self) -> Style {
+        self.style
     }
 
     fn variable_at(&self, place: usize) -> usize {
@@ -257,6 +280,10 @@ impl Order {
 
     /// Later conflicts count for more than those before.
     pub fn decay(&mut self) {
-        self.increment = self.increment.saturating_add(self.increment / GROWTH_PART);
+        let growth = match self.style {
+            Style::Broad => self.increment / BROAD_PART,
+            Style::Focused => self.increment / FOCUSED_PART,
+        };
+        self.increment = self.increment.saturating_add(growth);
     }
 }

@@ -9,6 +9,8 @@ mod bounds;
 #[cfg(test)]
 mod boxes;
 #[cfg(test)]
+mod conjugacies;
+#[cfg(test)]
 mod densities;
 #[cfg(test)]
 mod excluding;
@@ -18,6 +20,8 @@ mod forbidden;
 mod formulas;
 #[cfg(test)]
 mod members;
+#[cfg(test)]
+mod minimal;
 #[cfg(test)]
 mod outputs;
 #[cfg(test)]

@@ -12,4 +12,6 @@ mod engines;
 #[cfg(test)]
 mod guessing;
 #[cfg(test)]
+mod samples;
+#[cfg(test)]
 mod solver;

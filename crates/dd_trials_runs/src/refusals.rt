@@ -38,7 +38,7 @@ const NOT_WELL_FORMED: [(&[u8], &str); 17] = [
 ];
 
 // Names that are unknown or given twice.
-const FAULTS_OF_NAMES: [(&[u8], &str); 15] = [
+const FAULTS_OF_NAMES: [(&[u8], &str); 16] = [
     (b"%rule a o=0 %member c a", "2 unknown c"),
     (b"%rule a o=0 %auto n else 0 %same n m a", "3 unknown m"),
     (b"%rule a o=2", "1 unknown 2"),
@@ -52,6 +52,10 @@ const FAULTS_OF_NAMES: [(&[u8], &str); 15] = [
     (b"%rule a o=0 %rule a o=1", "2 twice a"),
     // Nothing is answered before a fault.
     (b"%rule a o=0 %forbidden a %rule a o=0", "3 twice a"),
+    (
+        b"%dim 1 %rule x o=0 & o=1 %rule y !(o@o) %minimal x %minimal y %minimal z",
+        "6 unknown z",
+    ),
     (b"%rule a o=0 %conf a [1 1] 0", "2 twice a"),
     (b"%rule a Ao[o1] o=1", "1 twice o"),
     (b"%alphabet 0 0", "1 twice 0"),

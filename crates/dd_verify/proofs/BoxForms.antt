@@ -1,5 +1,5 @@
 -- The forms of certificates: what each has, and that an output can hold it.
-use Rattle.std.proofs.Common.{◌≡◌, ℕ, Bool, true, List}
+use Rattle.std.proofs.Common.{◌≡◌, ◌≢◌, ℕ, Bool, true, List, refl}
 use Rattle.std.specs.Prelude.{◌↔◌, Result, IfOk}
 use Rattle.std.proofs.lemmas.Result.{IfOk-weaker}
 use Rattle.dd_derivation.specs.declared.step.Step.{Step}
@@ -7,13 +7,16 @@ use Rattle.dd_formula.specs.LocalRule.{LocalRule, IsRule}
 use Rattle.dd_values.specs.declared.limits.Limits.{Limits}
 use Rattle.dd_values.specs.Ranges.{AreLimits}
 use Rattle.dd_boxes.specs.Goals.{GoalOf, breaks, IsGoalFor, KeepsRule}
+use Rattle.dd_certificate.specs.declared.answer.Side.{Side}
 use Rattle.dd_certificate.specs.declared.answer.Side.TheVariants as side
+use Rattle.dd_certificate.specs.declared.answer.Reason.{Reason}
+use Rattle.dd_certificate.specs.declared.answer.Answer.{Answer}
 use Rattle.dd_certificate.specs.declared.answer.Answer.TheVariants as answer
 use Rattle.dd_certificate.specs.Bounds.{IsWritable, IsWritableRefutation}
 use Rattle.dd_pattern.specs.Tile.{Tile}
 use Rattle.dd_formula.specs.Living.{Lives}
 use Rattle.dd_evidence.specs.Answers.{IsMemberCertificate, member_inside}
-use Rattle.dd_verify.specs.Evidence.{IsYes, IsNo, IsBoxCertificate, box_yes, box_no, IsEqualCertificate, equal_yes, left_no, right_no}
+use Rattle.dd_verify.specs.Evidence.{IsYes, IsNo, IsBoxCertificate, box_yes, box_no, IsEqualCertificate, equal_yes, left_no, right_no, equal_unknown}
 use Rattle.dd_verify.proofs.Writable.{radius_writable, no_writable}
 
 pub inside_of : {x : LocalRule} {t : Tile} → IsMemberCertificate x t answer.Inside → Lives x t
@@ -36,6 +39,15 @@ module _ {l : Limits} {x y : LocalRule} where
 
   pub right_of : {along : List ℕ} {shear : ℕ} {symbols : List ℕ} → IsEqualCertificate l x y (answer.No side.Right along shear symbols) → IsNo l y (breaks x) along shear symbols
   right_of (right_no h) = h
+
+-- an answer of another form
+pub no_equal : (l : Limits) (x y : LocalRule) (a : Answer) → ((n m : ℕ) (steps others : List Step) → a ≢ answer.YesBoth n m steps others) →
+    ((s : Side) (along : List ℕ) (shear : ℕ) (symbols : List ℕ) → a ≢ answer.No s along shear symbols) → ((r : Reason) → a ≢ answer.Unknown r) →
+    IsEqualCertificate l x y a → ⊥
+no_equal l x y a yes_form no_form open_form (equal_yes h k) = yes_form _ _ _ _ refl
+no_equal l x y a yes_form no_form open_form (left_no h) = no_form _ _ _ _ refl
+no_equal l x y a yes_form no_form open_form (right_no h) = no_form _ _ _ _ refl
+no_equal l x y a yes_form no_form open_form equal_unknown = open_form _ refl
 
 module _ (l : Limits) (x : LocalRule) (g : GoalOf) (limits : AreLimits l) (rule : IsRule x) where
   pub yes_fits : (n : ℕ) (steps : List Step) → KeepsRule g → IsGoalFor x g → IsYes l x g n steps → IsWritableRefutation steps → IsWritable (answer.Yes n steps)

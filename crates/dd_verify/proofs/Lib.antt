@@ -8,7 +8,10 @@ pub mod Narrowing
 pub mod PlaceLaws
 pub mod Giving
 pub mod Listing
+pub mod Starring
 pub mod SmallNumbers
 pub mod WholeSides
 pub mod Weighing
 pub mod BoxForms
+pub mod PartForms
+pub mod TorusForms

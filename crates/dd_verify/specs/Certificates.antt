@@ -3,9 +3,10 @@ use Rattle.dd_values.specs.declared.limits.Limits.{Limits}
 use Rattle.dd_certificate.specs.declared.answer.Answer.{Answer}
 use Rattle.dd_question.specs.Questions.{Asked}
 use Rattle.dd_question.specs.Questions as asked
-use Rattle.dd_evidence.specs.Answers.{IsMemberCertificate, IsListCertificate}
-use Rattle.dd_verify.specs.Evidence.{IsBoxCertificate, IsEqualCertificate}
-use Rattle.dd_verify.specs.Holding.{MemberClaim, BoxClaim, EqualClaim, ListClaim}
+use Rattle.dd_evidence.specs.Answers.{IsMemberCertificate, IsListCertificate, IsMinimalCertificate}
+use Rattle.dd_verify.specs.Evidence.{IsBoxCertificate, IsEqualCertificate, IsConjugacyCertificate}
+use Rattle.dd_verify.specs.Holding.{MemberClaim, BoxClaim, EqualClaim, ConjugacyClaim, ListClaim, MinimalClaim}
+use Rattle.dd_verify.specs.Tori.{IsTorusCertificate, TorusClaim}
 use Rattle.dd_verify.specs.Bounds.{IsStripCertificate, StripClaim, IsDischargeCertificate, DischargeClaim}
 
 -- a certificate of what is asked, within these limits
@@ -14,7 +15,10 @@ IsCertificateOf l (asked.membership x t) a = IsMemberCertificate x t a
 IsCertificateOf l (asked.box x g) a = IsBoxCertificate l x g a
 IsCertificateOf l (asked.equality x y) a = IsEqualCertificate l x y a
 IsCertificateOf l (asked.listing x) a = IsListCertificate x a
+IsCertificateOf l (asked.smallest x) a = IsMinimalCertificate x a
+IsCertificateOf l (asked.conjugacy c) a = IsConjugacyCertificate l c a
 IsCertificateOf l (asked.density x strip ws) a = IsStripCertificate x strip ws a
+IsCertificateOf l (asked.least x along ws) a = IsTorusCertificate x along ws a
 IsCertificateOf l (asked.discharge x radius margin vs ws) a = IsDischargeCertificate x radius margin vs ws a
 
 -- what an answer to it claims
@@ -23,5 +27,8 @@ ClaimOf (asked.membership x t) a = MemberClaim x t a
 ClaimOf (asked.box x g) a = BoxClaim x g a
 ClaimOf (asked.equality x y) a = EqualClaim x y a
 ClaimOf (asked.listing x) a = ListClaim x a
+ClaimOf (asked.smallest x) a = MinimalClaim x a
+ClaimOf (asked.conjugacy c) a = ConjugacyClaim c a
 ClaimOf (asked.density x strip ws) a = StripClaim x strip ws a
+ClaimOf (asked.least x along ws) a = TorusClaim x along ws a
 ClaimOf (asked.discharge x radius margin vs ws) a = DischargeClaim x radius margin vs ws a

@@ -1,5 +1,5 @@
--- Which answers to a box question are certificates.
-use Rattle.std.specs.Prelude.{ℕ, ◌≡◌, ◌≤◌, max, List, length}
+-- Which answers to box questions, to one and to several of them, are certificates.
+use Rattle.std.specs.Prelude.{ℕ, ◌≡◌, ◌≤◌, max, List, [], ◌∷◌, length}
 use Rattle.dd_pattern.specs.Periods.{AreWithin}
 use Rattle.dd_formula.specs.LocalRule.{LocalRule}
 use Rattle.dd_derivation.specs.declared.step.Step.{Step}
@@ -9,6 +9,7 @@ use Rattle.dd_boxes.specs.Goals.{GoalOf, breaks}
 use Rattle.dd_boxes.specs.Boxes.{IsLeastRadius}
 use Rattle.dd_boxes.specs.Witnesses.{IsWitness}
 use Rattle.dd_problem.specs.Problems.{box_problem}
+use Rattle.dd_question.specs.Conjugacies.{ConjugacyOf, IsPart}
 use Rattle.dd_evidence.specs.Tiles.{given_periods, given_tile}
 use Rattle.dd_certificate.specs.declared.answer.Side.TheVariants as side
 use Rattle.dd_certificate.specs.declared.answer.Reason.TheVariants as reason
@@ -44,3 +45,12 @@ pub data IsEqualCertificate (l : Limits) (x y : LocalRule) : Answer → Type 0 w
   left_no : {along : List ℕ} {shear : ℕ} {symbols : List ℕ} → IsNo l x (breaks y) along shear symbols → IsEqualCertificate l x y (answer.No side.Left along shear symbols)
   right_no : {along : List ℕ} {shear : ℕ} {symbols : List ℕ} → IsNo l y (breaks x) along shear symbols → IsEqualCertificate l x y (answer.No side.Right along shear symbols)
   equal_unknown : IsEqualCertificate l x y (answer.Unknown reason.Limits)
+
+-- ---- conjugacies: a YES of each of the four questions, with its steps; or a NO of one of them
+
+pub data IsConjugacyCertificate (l : Limits) (c : ConjugacyOf) : Answer → Type 0 where
+  conjugate : {n1 n2 n3 n4 : ℕ} {s1 s2 s3 s4 : List Step} → IsYes l c.from c.image n1 s1 → IsYes l c.to c.image_back n2 s2 → IsYes l c.from c.round n3 s3 →
+      IsYes l c.to c.round_back n4 s4 → IsConjugacyCertificate l c (answer.Conjugate (n1 ∷ n2 ∷ n3 ∷ n4 ∷ []) (s1 ∷ s2 ∷ s3 ∷ s4 ∷ []))
+  broken : {k : ℕ} {x : LocalRule} {g : GoalOf} {along : List ℕ} {shear : ℕ} {symbols : List ℕ} → IsPart c k x g → IsNo l x g along shear symbols →
+      IsConjugacyCertificate l c (answer.Broken k along shear symbols)
+  conjugacy_unknown : IsConjugacyCertificate l c (answer.Unknown reason.Limits)

@@ -1,5 +1,5 @@
 -- What the answers to a question claim.
-use Rattle.std.specs.Prelude.{ℕ, ◌≡◌, ◌<◌, ◌↔◌, true, false, ℤ, List, Some, map, Contains}
+use Rattle.std.specs.Prelude.{ℕ, ◌≡◌, ◌<◌, ◌↔◌, true, false, ℤ, Option, Some, List, [], ◌∷◌, map, All, Contains}
 use Rattle.dd_lattice.specs.Place.{Place}
 use Rattle.dd_lattice.specs.Cells.{cell, shifted}
 use Rattle.dd_lattice.specs.declared.position.Cell.{Cell}
@@ -8,18 +8,22 @@ use Rattle.dd_pattern.specs.Tile.{Tile, tile_look}
 use Rattle.dd_formula.specs.LocalRule.{LocalRule, is_true, cells_at}
 use Rattle.dd_formula.specs.Living.{Lives}
 use Rattle.dd_forbidden.specs.Breaking.{are_allowed}
+use Rattle.dd_minimal.specs.Patterns.{is_covered}
+use Rattle.dd_minimal.specs.Claims.{NeedsEach, AreNew}
 use Rattle.dd_boxes.specs.Goals.{GoalOf, breaks}
 use Rattle.dd_boxes.specs.Boxes.{HoldsNowhere}
 use Rattle.dd_boxes.specs.Witnesses.{IsWitness}
+use Rattle.dd_question.specs.Conjugacies.{ConjugacyOf, IsPart}
 use Rattle.dd_derivation.specs.declared.step.Step.{Step}
 use Rattle.dd_certificate.specs.declared.answer.Reason.{Reason}
 use Rattle.dd_certificate.specs.declared.answer.Side.TheVariants as side
 use Rattle.dd_certificate.specs.declared.answer.Listed.{Listed}
+use Rattle.dd_certificate.specs.declared.answer.Starred.{Starred}
 use Rattle.dd_certificate.specs.declared.answer.Answer.{Answer}
 use Rattle.dd_certificate.specs.declared.answer.Answer.TheVariants as answer
 use Rattle.dd_evidence.specs.Cells.{written_cell}
 use Rattle.dd_evidence.specs.Tiles.{given_tile}
-use Rattle.dd_evidence.specs.Lists.{listed}
+use Rattle.dd_evidence.specs.Lists.{listed, patterns_at}
 
 -- ---- membership
 
@@ -47,6 +51,16 @@ pub data EqualClaim (x y : LocalRule) : Answer → Type 0 where
   says_right : {along : List ℕ} {shear : ℕ} {symbols : List ℕ} → IsWitness y (breaks x) (given_tile y along shear symbols) → EqualClaim x y (answer.No side.Right along shear symbols)
   says_none : {r : Reason} → EqualClaim x y (answer.Unknown r)
 
+-- ---- conjugacies: the goal of each of the four questions holds nowhere; or a configuration of a question's premise has its goal at
+-- the origin
+
+pub data ConjugacyClaim (c : ConjugacyOf) : Answer → Type 0 where
+  says_conjugate : {n1 n2 n3 n4 : ℕ} {s1 s2 s3 s4 : List Step} → HoldsNowhere c.from c.image n1 → HoldsNowhere c.to c.image_back n2 → HoldsNowhere c.from c.round n3 →
+      HoldsNowhere c.to c.round_back n4 → ConjugacyClaim c (answer.Conjugate (n1 ∷ n2 ∷ n3 ∷ n4 ∷ []) (s1 ∷ s2 ∷ s3 ∷ s4 ∷ []))
+  says_broken : {k : ℕ} {x : LocalRule} {g : GoalOf} {along : List ℕ} {shear : ℕ} {symbols : List ℕ} → IsPart c k x g → IsWitness x g (given_tile x along shear symbols) →
+      ConjugacyClaim c (answer.Broken k along shear symbols)
+  says_no_more : {r : Reason} → ConjugacyClaim c (answer.Unknown r)
+
 -- ---- forbidden patterns
 
 -- the cells that the rule reads at a node, counted from v, have these symbols
@@ -60,3 +74,23 @@ TellsBreaking x patterns = (look : Look) (v : Place) (a : ℕ) (ss : List ℕ) �
 
 pub data ListClaim (x : LocalRule) : Answer → Type 0 where
   says_list : {patterns : List Listed} → TellsBreaking x patterns → ListClaim x (answer.List patterns)
+
+-- ---- minimal forbidden patterns
+
+-- wherever the cells that are read have symbols that their nodes allow, the rule is false exactly where these agree with a pattern
+abbrev pub TellsCovered : LocalRule → ℕ → List (List (Option ℕ)) → Type 0
+TellsCovered x a ps = (look : Look) (v : Place) (ss : List ℕ) → AreReadAt x look v a ss → are_allowed x (cells_at x a) ss ≡ true →
+    (is_true x (cell v a) look ≡ false) ↔ (is_covered ps ss ≡ true)
+
+-- what the patterns of a node say
+pub record SayMinimal (x : LocalRule) (a : ℕ) (ps : List (List (Option ℕ))) : Type 0 where
+  pub tells : TellsCovered x a ps
+  -- without any of the cells that a pattern keeps it would forbid what the rule allows
+  pub needed : All (NeedsEach x a) ps
+  -- each pattern has a breaking filling that agrees with none listed before it
+  pub new : AreNew x a [] ps
+
+-- each pattern is one of some node
+pub data MinimalClaim (x : LocalRule) : Answer → Type 0 where
+  says_minimal : {patterns : List Starred} → All (λ p. p.node < x.nodes) patterns → ((a : ℕ) → a < x.nodes → SayMinimal x a (patterns_at a patterns)) →
+      MinimalClaim x (answer.Minimal patterns)

@@ -1,10 +1,12 @@
 -- which answers to questions are certificates, and what they claim
 pub mod Certificates
--- which answers to a box question are certificates
+-- which answers to box questions, to one and to several of them, are certificates
 pub mod Evidence
 -- what the answers to a question claim, kind by kind
 pub mod Holding
 -- which answers about least densities and discharging are certificates, and what they claim
 pub mod Bounds
+-- which answers about least weights on tori are certificates, and what they claim
+pub mod Tori
 -- the numbers of configurations
 pub mod Given

@@ -4,10 +4,13 @@ ghost use Rattle.dd_certificate.specs.Bounds.{IsWritable};
 ghost use Rattle.dd_verify.specs.Certificates.{IsCertificateOf};
 
 use crate::boxes::{check_box, check_equal};
+use crate::conjugacies::check_conjugacy;
 use crate::densities::check_strip;
 use crate::discharges::check_discharge;
 use crate::lists::check_list;
+use crate::minimals::check_minimal;
 use crate::places::check_member;
+use crate::tori::check_torus;
 use dd_certificate::Answer;
 use dd_question::{CheckedQuestion, Question};
 use std::alloc::{AllocError, Global};
@@ -29,11 +32,18 @@ pub fn check_question(
         Question::Box { premise, goal } => check_box(alloc, premise, &goal, limits, answer),
         Question::Equality { left, right } => check_equal(alloc, left, right, limits, answer),
         Question::Listing { rule } => check_list(alloc, rule, answer),
+        Question::Smallest { rule } => check_minimal(alloc, rule, answer),
+        Question::Conjugacy { conjugacy } => check_conjugacy(alloc, &conjugacy, limits, answer),
         Question::Density {
             rule,
             strip,
             weights,
         } => check_strip(alloc, rule, strip, weights, answer),
+        Question::Least {
+            rule,
+            periods,
+            weights,
+        } => check_torus(alloc, rule, periods, weights, answer),
         Question::Discharge {
             rule,
             radius,

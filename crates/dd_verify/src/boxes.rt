@@ -17,7 +17,7 @@ use dd_formula::Rule;
 use dd_values::Limits;
 use std::alloc::{AllocError, Global};
 
-fn is_limits(reason: Reason) -> bool
+pub(crate) fn is_limits(reason: Reason) -> bool
     ensures { IsTrue result ↔ (reason ≡ Reason.Limits) }
 {
     matches!(reason, Reason::Limits)

@@ -8,8 +8,10 @@ ghost use Rattle.dd_verify.specs.Certificates.{IsCertificateOf, ClaimOf};
 
 use dd_boxes::Goal;
 use dd_compile::says_its_value;
+use dd_counter::least_law;
 use dd_discharge::best_bound;
-use dd_evidence::listed_break;
+use dd_evidence::{listed_break, starred_are_minimal};
+use dd_minimal::{all_new, exact, needs_each};
 use dd_question::{CheckedQuestion, Question};
 use dd_sides::bound_holds;
 use dd_strips::{strip_empty, strip_least};
@@ -43,10 +45,23 @@ pub fn claims_hold(question: &CheckedQuestion)
         Question::Box { goal, .. } => tell_goal(&goal),
         Question::Equality { .. } => {}
         Question::Listing { .. } => listed_break(),
+        Question::Smallest { .. } => {
+            starred_are_minimal();
+            exact();
+            needs_each();
+            all_new();
+        }
+        Question::Conjugacy { conjugacy } => {
+            tell_goal(&conjugacy.image);
+            tell_goal(&conjugacy.image_back);
+            tell_goal(&conjugacy.round);
+            tell_goal(&conjugacy.round_back);
+        }
         Question::Density { .. } => {
             strip_least();
             strip_empty();
         }
+        Question::Least { rule, .. } => least_law(rule),
         Question::Discharge { .. } => {
             best_bound();
             bound_holds();

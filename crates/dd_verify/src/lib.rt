@@ -4,13 +4,16 @@
 mod answering;
 mod boxes;
 mod configurations;
+mod conjugacies;
 mod densities;
 mod discharges;
 mod laws;
 mod lists;
+mod minimals;
 mod numbers;
 mod places;
 mod refutations;
+mod tori;
 mod witnesses;
 
 pub use answering::check_question;

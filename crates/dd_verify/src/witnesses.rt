@@ -48,7 +48,11 @@ fn are_periods(dim: u32, most: u32, periods: &[u64], shear: u64) -> bool
 }
 
 /// The symbols, where each is below the alphabet's size.
-fn narrowed(alloc: Global, symbols: &[u64], size: u32) -> Result<Option<Vec<u32>>, AllocError>
+pub(crate) fn narrowed(
+    alloc: Global,
+    symbols: &[u64],
+    size: u32,
+) -> Result<Option<Vec<u32>>, AllocError>
     ensures { IfOk result (λ found. MatchOption found (All (λ s. s < size) symbols.now → ⊥)
         (λ list. (list.items ≡ symbols.now) × All (λ s. s < size) symbols.now)) }
 {

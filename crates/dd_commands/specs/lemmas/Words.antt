@@ -4,10 +4,10 @@ use Rattle.std.specs.Option.{option_or, option_map}
 use Rattle.std.proofs.lemmas.{Grind.common_steps, List.Concat.flat_map_single, Option.some_pair_parts, Slice.Eq.bytes_eq-Decides}
 use Rattle.dd_commands.specs.Tree.{Kind, Lexeme, Name, Lists, QueryKind, Head, Vector}
 use Rattle.dd_written.specs.{Values.word_text, Formulas.name_lexeme, reading.Atoms.name_at}
-use Rattle.dd_commands.specs.{Table.row, Table.kind_word, Table.query_kinds, Heads.head_text, Heads.kind_text, Commands.vector_text, Commands.edge_text, Commands.IsBehind, Commands.AreLists}
+use Rattle.dd_commands.specs.{Table.row, Table.kind_word, Table.query_kinds, Heads.head_text, Heads.kind_text, Commands.vector_text, Commands.edge_text, Commands.IsBehind, Commands.IsOnePlain, Commands.AreLists}
 use Rattle.dd_commands.specs.reading.Forms.{Reader, single, ◌▸◌, some, exactly}
 use Rattle.dd_commands.specs.reading.Vectors.{word_at, number_at, vector, plain, edge}
-use Rattle.dd_commands.specs.reading.Commands.{one_of, keyword, heads, other_heads, kinds, wanted, names, lists_at, listed}
+use Rattle.dd_commands.specs.reading.Commands.{one_of, keyword, heads, other_heads, kinds, wanted, names, one_plain, lists_at, listed}
 use Rattle.dd_commands.specs.lemmas.Forms.{bind_some, some_is, chosen, Reads, read_last, made_is, then_reads, such_reads, exactly_reads, some_reads}
 use Rattle.dd_commands.specs.lemmas.Items.{word_written, word_reads, number_reads, name_reads, vector_reads, plain_reads, edge_reads}
 
@@ -83,20 +83,27 @@ no_shear (Name.Number n ∷ ns) rest is = refl
 one_text : (v : Vector) (vs : List Vector) (rest : List Lexeme) → vs ≡ v ∷ [] → vector_text v ++ rest ≡ flat_map vector_text vs ++ rest
 one_text v vs rest e = rw e (simp append_assoc)
 
+one_written : (tokens : List Lexeme) (vs : List Vector) (rest : List Lexeme) → one_plain tokens ≡ Some (vs, rest) → IsOnePlain vs × (tokens ≡ flat_map vector_text vs ++ rest)
+one_written tokens vs rest e =
+    let m = made_is (λ v. v ∷ []) plain.item tokens vs rest e in
+    let w = plain_reads.written tokens m.0 rest m.1 in
+    ((m.0, sym m.2, w.0.0), w.1 ∙ one_text m.0 vs rest (sym m.2))
+
+one_again : (vs : List Vector) (rest : List Lexeme) → IsOnePlain vs → one_plain (flat_map vector_text vs ++ rest) ≡ Some (vs, rest)
+one_again vs rest are = subst (λ (ts : List Lexeme). one_plain ts ≡ Some (vs, rest)) (one_text are.0 vs rest are.1) (rw (plain_reads.read are.0 rest (are.2, tt) tt, are.1) refl)
+
 listed_written : (l : Lists) (tokens : List Lexeme) (vs : List Vector) (rest : List Lexeme) → lists_at l tokens ≡ Some (vs, rest) → AreLists l vs × (tokens ≡ flat_map vector_text vs ++ rest)
 listed_written Lists.None tokens vs rest e =
     let same = some_pair_parts _ _ _ _ e in
     (sym same.0, rw (← same.0) same.1)
-listed_written Lists.Strip tokens vs rest e =
-    let m = made_is (λ v. v ∷ []) plain.item tokens vs rest e in
-    let w = plain_reads.written tokens m.0 rest m.1 in
-    ((m.0, sym m.2, w.0.0), w.1 ∙ one_text m.0 vs rest (sym m.2))
+listed_written Lists.Strip tokens vs rest e = one_written tokens vs rest e
+listed_written Lists.Torus tokens vs rest e = one_written tokens vs rest e
 listed_written Lists.Vectors tokens vs rest e = (let w = vectors_read.written tokens vs rest e in (w.0.0, w.1))
 
 listed_again : (l : Lists) (vs : List Vector) (rest : List Lexeme) → AreLists l vs → vector.item rest ≡ None → lists_at l (flat_map vector_text vs ++ rest) ≡ Some (vs, rest)
 listed_again Lists.None vs rest are end = rw are refl
-listed_again Lists.Strip vs rest are end =
-    subst (λ (ts : List Lexeme). lists_at Lists.Strip ts ≡ Some (vs, rest)) (one_text are.0 vs rest are.1) (rw (plain_reads.read are.0 rest (are.2, tt) tt, are.1) refl)
+listed_again Lists.Strip vs rest are end = one_again vs rest are
+listed_again Lists.Torus vs rest are end = one_again vs rest are
 listed_again Lists.Vectors vs rest are end = vectors_read.read vs rest (are, tt) end
 
 pub request_reads : (k : QueryKind) → Reads (exactly (length (row k).names) (map Lexeme.Word) word_at ▸ exactly (row k).numbers (map Lexeme.Number) number_at ▸ listed (row k).lists)

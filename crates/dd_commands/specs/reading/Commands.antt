@@ -50,10 +50,15 @@ automaton_at bytes = both word_at (both (each_at (case_at bytes)) (wanted bytes 
 abbrev pub names : Form (List Name)
 names = some (map name_lexeme) name_at
 
+-- one vector without negative numbers
+abbrev pub one_plain : Reader (List Vector)
+one_plain = made (λ v. v ∷ []) plain.item
+
 -- the vectors at the end of a query
 abbrev pub lists_at : Lists → Reader (List Vector)
 lists_at Lists.None tokens = Some ([], tokens)
-lists_at Lists.Strip tokens = made (λ v. v ∷ []) plain.item tokens
+lists_at Lists.Strip tokens = one_plain tokens
+lists_at Lists.Torus tokens = one_plain tokens
 lists_at Lists.Vectors tokens = some_at vector.item tokens
 
 abbrev pub listed : Lists → Form (List Vector)

@@ -19,19 +19,9 @@ abbrev pub standing : Literal → ℕ → List (List Literal) → List ℕ
 standing l first [] = []
 standing l first (c ∷ cs) = replicate (times_in l c) first ++ standing l (first + 1) cs
 
--- the place of a literal's list: each variable has two
+-- the place of a literal's chain: each variable has two
 abbrev pub place_of : Literal → ℕ
 place_of l = 2 * (l.variable - 1) + (if l.positive then 1 else 0)
-
-abbrev pub HasPlace : List (List ℕ) → Literal → Type 0
-HasPlace lists l = (1 ≤ l.variable) × (place_of l < length lists)
-
-abbrev pub list_of : List (List ℕ) → Literal → List ℕ
-list_of lists l = slice_index_or lists (place_of l) []
-
--- each literal's list has the clauses where it stands
-abbrev pub Stands : List (List ℕ) → List (List Literal) → Type 0
-Stands lists clauses = (l : Literal) → HasPlace lists l → list_of lists l ≡ standing l 0 clauses
 
 -- a count of 64 bits, one more or one less
 abbrev pub more : ℕ → ℕ

@@ -1,15 +1,12 @@
 -- Where a walk stands.
-use Rattle.std.specs.Prelude.{◌≡◌, ℕ, ◌*◌, ◌^◌, ◌<◌, Bool, List, length, map, All}
+use Rattle.std.specs.Prelude.{◌≡◌, ℕ, ◌^◌, ◌<◌, Bool, List, length, map, All}
 use Rattle.dd_clause.specs.declared.clause.Literal.{Literal}
 use Rattle.dd_clause.specs.Clauses.{IsClauseInRange}
-use Rattle.dd_engines.specs.walking.Truths.{true_count, IsListed, Stands}
+use Rattle.dd_engines.specs.walking.Truths.{true_count, IsListed}
 
--- the numbers of true literals, the marks of the blocks where a clause may have none, and the lists of where each literal stands are those of
--- the clauses and the values
-pub record Walks (clauses : List (List Literal)) (values : List Bool) (counts : List ℕ) (marks : List Bool) (start : ℕ) (lists : List (List ℕ)) : Type 0 where
+-- the numbers of true literals and the marks of the blocks where a clause may have none are those of the clauses and the values
+pub record Walks (clauses : List (List Literal)) (values : List Bool) (counts : List ℕ) (marks : List Bool) (start : ℕ) : Type 0 where
   pub range : All (IsClauseInRange (length values)) clauses
   pub short : All (λ clause. length clause < 2 ^ 64) clauses
   pub counted : counts ≡ map (true_count values) clauses
   pub are_listed : IsListed counts marks start
-  pub places : length lists ≡ 2 * length values
-  pub stands : Stands lists clauses

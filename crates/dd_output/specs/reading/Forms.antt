@@ -43,6 +43,10 @@ counted low bound f = record {
   least = (48 + low) ∷ 10 ∷ copies low f.least;
 }
 
+-- so many of them
+abbrev pub times : {A : Type 0} → ℕ → Form A → Form (List A)
+times n f = record { read = many_at f.read f.least n; least = copies n f.least }
+
 abbrev pub last_of : {A B : Type 0} → B → Entry A B
 last_of x = last x
 

@@ -1,5 +1,5 @@
 -- The lines of an output, as a table: a row for each kind of answer.
-use Rattle.std.specs.Prelude.{ℕ, ℤ, List, [], ◌∷◌, Some, None, codes}
+use Rattle.std.specs.Prelude.{ℕ, ℤ, List, [], ◌∷◌, Option, Some, None, codes}
 use Rattle.dd_clause.specs.declared.clause.Literal.{Literal}
 use Rattle.dd_derivation.specs.declared.step.Step.{Step}
 use Rattle.dd_certificate.specs.declared.answer.Side.{Side}
@@ -7,13 +7,15 @@ use Rattle.dd_certificate.specs.declared.answer.Side.TheVariants as side
 use Rattle.dd_certificate.specs.declared.answer.Reason.{Reason}
 use Rattle.dd_certificate.specs.declared.answer.Reason.TheVariants as reason
 use Rattle.dd_certificate.specs.declared.answer.Listed.{Listed}
+use Rattle.dd_certificate.specs.declared.answer.Starred.{Starred}
 use Rattle.dd_certificate.specs.declared.answer.Answer.{Answer}
 use Rattle.dd_certificate.specs.declared.answer.Answer.TheVariants as answer
 use Rattle.dd_certificate.specs.Bounds.{most_number, most_count}
 use Rattle.dd_output.specs.reading.Stops.{number_at, then_at, map_at, Entry, item, last}
-use Rattle.dd_output.specs.reading.Forms.{Form, word, number, both, after, mapped, either, counted, forked, table}
+use Rattle.dd_output.specs.reading.Forms.{Form, word, number, both, after, mapped, either, counted, times, forked, table}
 use Rattle.dd_output.specs.reading.Periods.{periods}
 use Rattle.dd_output.specs.reading.Lists.{literals, numbers_until, numbers, integers, zeros}
+use Rattle.dd_output.specs.reading.Stars.{kept}
 
 -- ---- refutations
 
@@ -109,14 +111,16 @@ right_and_refutations = both (number 0 most_number 10) (both refutation refutati
 unfoldable pub yes_row : Form Answer
 yes_row = mapped yes_of (after (codes "YES ") (forked most_number refutation right_and_refutations))
 
+-- after NO
 unfoldable pub no_row : Form Answer
-no_row = mapped no_of (after (codes "NO ") (both side_and_periods (after (codes "conf ") (numbers 1 None))))
+no_row = mapped no_of (after (codes " ") (both side_and_periods (after (codes "conf ") (numbers 1 None))))
 
 unfoldable pub unknown_row : Form Answer
 unknown_row = mapped unknown_of (after (codes "UNKNOWN ") reason_word)
 
+-- after L
 unfoldable pub list_row : Form Answer
-list_row = mapped list_of (after (codes "LIST ") (counted 0 most_number pattern))
+list_row = mapped list_of (after (codes "IST ") (counted 0 most_number pattern))
 
 unfoldable pub cycle_and_potentials : Form (List ℕ × List ℤ)
 cycle_and_potentials = after (codes "cycle ") (both cycle (after (codes "potentials ") (integers 1 None)))
@@ -130,9 +134,71 @@ empty_row = mapped empty_of (after (codes "EMPTY\nranks ") (numbers 1 None))
 unfoldable pub amounts_and_duals : Form (List ℕ × List ℕ)
 amounts_and_duals = after (codes "amounts") (both amounts (after (codes "duals ") (numbers 1 None)))
 
+-- after B
 unfoldable pub bound_row : Form Answer
-bound_row = mapped bound_of (after (codes "BOUND ") (both fraction (after (codes "denominator ") (both (number 1 most_number 10) amounts_and_duals))))
+bound_row = mapped bound_of (after (codes "OUND ") (both fraction (after (codes "denominator ") (both (number 1 most_number 10) amounts_and_duals))))
 
--- the rows, by the first bytes I, O, Y, U, L, D, E, B and N
+abbrev pub starred_of : ℕ × Entry (List (Option ℕ)) (Unit {0}) → Starred
+starred_of (node, last u) = record { node = node; symbols = [] }
+starred_of (node, item symbols) = record { node = node; symbols = symbols }
+
+unfoldable pub starred : Form Starred
+starred = mapped starred_of (after (codes "pattern ") (forked most_number (word []) kept))
+
+abbrev pub minimal_of : List Starred → Answer
+minimal_of patterns = answer.Minimal patterns
+
+unfoldable pub minimal_row : Form Answer
+minimal_row = mapped minimal_of (after (codes "MINIMAL ") (counted 0 most_number starred))
+
+abbrev pub conjugate_of : List ℕ × List (List Step) → Answer
+conjugate_of x = answer.Conjugate x.0 x.1
+
+unfoldable pub conjugate_row : Form Answer
+conjugate_row = mapped conjugate_of (after (codes "CONJUGATE ") (both (numbers 4 (Some 4)) (times 4 refutation)))
+
+abbrev pub broken_of : ℕ × ((List ℕ × ℕ) × List ℕ) → Answer
+broken_of x = answer.Broken x.0 x.1.0.0 x.1.0.1 x.1.1
+
+-- after B
+unfoldable pub broken_row : Form Answer
+broken_row = mapped broken_of (after (codes "ROKEN ") (both (number 1 4 32) (both periods (after (codes "conf ") (numbers 1 None)))))
+
+abbrev pub zero_of : List ℕ → ℕ × (List ℕ × List Step)
+zero_of symbols = (0, (symbols, []))
+
+unfoldable pub zero_weight : Form (ℕ × (List ℕ × List Step))
+zero_weight = mapped zero_of (after (codes "0\nconf ") (numbers 1 None))
+
+unfoldable pub some_weight : Form (ℕ × (List ℕ × List Step))
+some_weight = both (number 1 most_number 10) (both (after (codes "conf ") (numbers 1 None)) refutation)
+
+abbrev pub least_of : ℕ × (List ℕ × List Step) → Answer
+least_of x = answer.Least x.0 x.1.0 x.1.1
+
+-- after L
+unfoldable pub least_row : Form Answer
+least_row = mapped least_of (after (codes "EAST ") (either 48 zero_weight some_weight))
+
+abbrev pub nothing_of : List Step → Answer
+nothing_of steps = answer.Nothing steps
+
+-- after NO
+unfoldable pub nothing_row : Form Answer
+nothing_row = mapped nothing_of (after (codes "NE\n") refutation)
+
+-- ---- kinds whose texts begin alike
+
+unfoldable pub no_or_nothing : Form Answer
+no_or_nothing = after (codes "NO") (either 78 nothing_row no_row)
+
+unfoldable pub list_or_least : Form Answer
+list_or_least = after (codes "L") (either 69 least_row list_row)
+
+unfoldable pub bound_or_broken : Form Answer
+bound_or_broken = after (codes "B") (either 82 broken_row bound_row)
+
+-- the rows, by the first bytes O, Y, N, U, L, D, E, B, M, C and I
 unfoldable pub answer_form : Form Answer
-answer_form = table (79, outside_row) ((89, yes_row) ∷ (78, no_row) ∷ (85, unknown_row) ∷ (76, list_row) ∷ (68, density_row) ∷ (69, empty_row) ∷ (66, bound_row) ∷ (73, inside_row) ∷ [])
+answer_form = table (79, outside_row) ((89, yes_row) ∷ (78, no_or_nothing) ∷ (85, unknown_row) ∷ (76, list_or_least) ∷ (68, density_row) ∷ (69, empty_row)
+    ∷ (66, bound_or_broken) ∷ (77, minimal_row) ∷ (67, conjugate_row) ∷ (73, inside_row) ∷ [])

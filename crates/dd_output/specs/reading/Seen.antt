@@ -28,6 +28,9 @@ line_seen n is_last = cond is_last (last n) (item n)
 abbrev pub signed_seen : ℤ → Bool → Entry ℤ ℤ
 signed_seen n is_last = cond is_last (last n) (item n)
 
+abbrev pub kept_seen : Option ℕ → Bool → Entry (Option ℕ) (Option ℕ)
+kept_seen s is_last = cond is_last (last s) (item s)
+
 abbrev pub period_seen : PeriodEntry → Entry ℕ PeriodsEnd
 period_seen (entry.Period n) = item n
 period_seen (entry.Last n) = last (ends n)

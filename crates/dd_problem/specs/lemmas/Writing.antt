@@ -99,7 +99,7 @@ cells_written set x cells symbols ok read =
     (list_all-append (is_clause_true set) (one_hot (inputs_of m k)) (none_of m k (disallowed x d.node)) ∙ and_from _ _ hot none)))
 
 -- the gates of the parts are over the inputs and earlier gates
-input_in_range : (k s m n : ℕ) → k < n → s < m → (1 ≤ input m k s) × (input m k s ≤ n * m)
+pub input_in_range : (k s m n : ℕ) → k < n → s < m → (1 ≤ input m k s) × (input m k s ≤ n * m)
 input_in_range k s m n h l = let below = within_inputs k s m n h l in (omega arith, omega arith)
 
 place_fits : (l : Layout) (m : ℕ) (r : LocalRule) (d : Cell) (n : ℕ) → IsLayout l → length l.places * m ≤ n → reads_inputs l m r d ≡ true → AreGates n (place_maker l m r d n).gates
@@ -146,24 +146,27 @@ gates_fit l x g wired =
 abbrev pub assignment : Layout → LocalRule → GoalOf → List ℕ → ℕ → Bool
 assignment l x g symbols = written symbols x.symbols (length l.places) (problem_gates l x g)
 
+-- an assignment from which the symbols are read, and with which the gates agree, satisfies the clauses
+pub satisfied_by : (l : Layout) (x : LocalRule) (g : GoalOf) → IsWired l x g → (symbols : List ℕ) → Stands l x g symbols → (set : ℕ → Bool) → AreRead set x.symbols symbols →
+    agrees set (input_count l x) (problem_gates l x g) ≡ true → is_satisfied set (problem_clauses l x g) ≡ true
+satisfied_by l x g wired symbols stands set read agree =
+    let m = x.symbols in
+    let n = input_count l x in
+    let ps = problem_parts l x g in
+    let look = layout_look l symbols in
+    let below = look_below l m symbols stands.symbols_fit.below in
+    let tell = told_by_inputs set l m symbols wired.layout stands.symbols_fit.as_many read in
+    let said = parts_say set l x g look below wired.layout.within wired.values (wired.alphabet look below) tell wired.reads agree in
+    list_all-append (is_clause_true set) (cell_clauses x l.places) (part_clauses n ps)
+    ∙ and_from _ _ (cells_written set x l.places symbols stands.symbols_fit read)
+    (parts_law set n ps ∙ and_from _ _ agree (said ∙ and_from _ _ stands.premise stands.goal))
+
 -- the assignment of symbols satisfies the clauses, and they are read from it
 pub problem_written : (l : Layout) (x : LocalRule) (g : GoalOf) → IsWired l x g → (symbols : List ℕ) → Stands l x g symbols →
     (is_satisfied (assignment l x g symbols) (problem_clauses l x g) ≡ true) × AreRead (assignment l x g symbols) x.symbols symbols
 problem_written l x g wired symbols stands =
-    let m = x.symbols in
-    let n = input_count l x in
-    let ps = problem_parts l x g in
+    let n = length l.places in
     let gs = problem_gates l x g in
-    let set = assignment l x g symbols in
-    let look = layout_look l symbols in
-    let read = inputs_written symbols m (length l.places) gs stands.symbols_fit.as_many in
-    let below = look_below l m symbols stands.symbols_fit.below in
-    let tell = told_by_inputs set l m symbols wired.layout stands.symbols_fit.as_many read in
-    let agree : agrees set n gs ≡ true =
-    agrees-values_from gs (guesses symbols m (length l.places)) n (length-map-range_with_len (guess symbols m) 1 (length l.places * m)) (gates_fit l x g wired) in
-    let said = parts_say set l x g look below wired.layout.within wired.values (wired.alphabet look below) tell wired.reads agree in (
-      list_all-append (is_clause_true set) (cell_clauses x l.places) (part_clauses n ps)
-          ∙ and_from _ _ (cells_written set x l.places symbols stands.symbols_fit read)
-          (parts_law set n ps ∙ and_from _ _ agree (said ∙ and_from _ _ stands.premise stands.goal)),
-      read,
-    )
+    let read = inputs_written symbols x.symbols n gs stands.symbols_fit.as_many in
+    let agree = agrees-values_from gs (guesses symbols x.symbols n) (input_count l x) (length-map-range_with_len (guess symbols x.symbols) 1 (n * x.symbols)) (gates_fit l x g wired) in
+    (satisfied_by l x g wired symbols stands (assignment l x g symbols) read agree, read)

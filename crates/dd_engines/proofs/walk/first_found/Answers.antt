@@ -10,7 +10,7 @@ use Rattle.dd_engines.proofs.walk.first_found.Goals as goal
 
 found : (c : goal.After-flip-arg-1) → FoundClause c.args.cnf.now.clauses c.first.new.self.values.items c.literals-literals.result.now
 found c =
-    found_clause c.args.cnf.now.clauses c.first.new.self.values.items _ _ _ _ c.in-Some.number c.literals-literals.result.now (rw c.clauses-clauses.ensures.value at c.first.ensures.walks) c.in-Some.ensures.first
+    found_clause c.args.cnf.now.clauses c.first.new.self.values.items _ _ _ c.in-Some.number c.literals-literals.result.now (rw c.clauses-clauses.ensures.value at c.first.ensures.walks) c.in-Some.ensures.first
     (at_place c.clauses-clauses.result.now c.args.cnf.now.clauses c.in-Some.number c.literals-literals.result.now c.index-clauses-number.result c.literals-literals.ensures c.index-clauses-number.is c.clauses-clauses.ensures.value)
 
 pub returns-in_default : goal.returns-in_default
@@ -20,7 +20,12 @@ returns-in_default c =
     let long : length values ≡ c.args.cnf.now.variables = ap (λ (v : List Bool). length v) same ∙ c.loop-k.invariant.long in
     let reached : values_after c.args.cnf.now c.loop-k.k ≡ Some values = c.loop-k.invariant.reached ∙ ap (λ (v : List Bool). Some v) (sym same) in
     rw c.into_assignment.ensures
-    (first_at c.args.cnf.now values _ _ _ _ c.loop-k.k c.args.flips (rw c.clauses-clauses.ensures.value at c.first.ensures.walks) long c.in_default.ensures.first (omega arith) reached c.loop-k.invariant.none_before)
+    (first_at c.args.cnf.now values _ _ _ c.loop-k.k c.args.flips (rw c.clauses-clauses.ensures.value at c.first.ensures.walks) long c.in_default.ensures.first (omega arith) reached c.loop-k.invariant.none_before)
+
+pub flip-requires-clause-listing : goal.flip-requires-clause-listing
+flip-requires-clause-listing c =
+    let long : length c.first.new.self.values.items ≡ c.args.cnf.now.variables = ap (λ (v : List Bool). length v) c.first.ensures.values ∙ c.loop-k.invariant.long in
+    rw (long, c.clauses-clauses.ensures.value) c.requires.listing
 
 pub flip-requires-clause-range : goal.flip-requires-clause-range
 flip-requires-clause-range c =
@@ -37,7 +42,7 @@ loop-k-preserved c =
     let same : values ≡ c.loop-k.walk.values.items = c.first.ensures.values in
     let started : values_after c.args.cnf.now c.loop-k.k ≡ Some values = c.loop-k.invariant.reached ∙ ap (λ (v : List Bool). Some v) (sym same) in
     let first : FoundClause c.args.cnf.now.clauses values literals =
-    found_clause c.args.cnf.now.clauses values _ _ _ _ c.in-Some.number literals (rw c.clauses-clauses.ensures.value at c.first.ensures.walks) c.in-Some.ensures.first
+    found_clause c.args.cnf.now.clauses values _ _ _ c.in-Some.number literals (rw c.clauses-clauses.ensures.value at c.first.ensures.walks) c.in-Some.ensures.first
     (at_place c.clauses-clauses.result.now c.args.cnf.now.clauses c.in-Some.number literals c.index-clauses-number.result c.literals-literals.ensures c.index-clauses-number.is c.clauses-clauses.ensures.value) in
     let place : ℕ = c.loop-k.k % length literals in
     let none : Literal = record { variable = 0; positive = false } in
@@ -67,7 +72,7 @@ returns-in-Some-first c =
     let reached : values_after c.args.cnf.now c.loop-k.k ≡ Some c.first-2.new.self.values.items = c.loop-k.invariant.reached ∙ ap (λ (v : List Bool). Some v) (sym c.first-2.ensures.values) in
     let end : c.loop-k.k ≡ c.args.flips = omega arith in
     subst (λ (n : ℕ). NoneBefore c.args.cnf.now (n + 1)) end
-    (none_at_end c.args.cnf.now c.first-2.new.self.values.items _ _ _ _ c.loop-k.k _ (rw c.clauses-clauses.ensures.value at c.first-2.ensures.walks) c.in-Some-first.ensures.first reached c.loop-k.invariant.none_before)
+    (none_at_end c.args.cnf.now c.first-2.new.self.values.items _ _ _ c.loop-k.k _ (rw c.clauses-clauses.ensures.value at c.first-2.ensures.walks) c.in-Some-first.ensures.first reached c.loop-k.invariant.none_before)
 
 pub returns-in-None : goal.returns-in-None
 returns-in-None c =
@@ -76,7 +81,7 @@ returns-in-None c =
     let long : length values ≡ c.args.cnf.now.variables = ap (λ (v : List Bool). length v) same ∙ c.loop-k.invariant.long in
     let reached : values_after c.args.cnf.now c.loop-k.k ≡ Some values = c.loop-k.invariant.reached ∙ ap (λ (v : List Bool). Some v) (sym same) in
     rw c.into_assignment-in-None.ensures
-    (first_at c.args.cnf.now values _ _ _ _ c.loop-k.k c.args.flips (rw c.clauses-clauses.ensures.value at c.first-2.ensures.walks) long c.in-None.ensures.first (omega arith) reached c.loop-k.invariant.none_before)
+    (first_at c.args.cnf.now values _ _ _ c.loop-k.k c.args.flips (rw c.clauses-clauses.ensures.value at c.first-2.ensures.walks) long c.in-None.ensures.first (omega arith) reached c.loop-k.invariant.none_before)
 
 pub bounds-clauses-number : goal.bounds-clauses-number
 bounds-clauses-number c = grind (arith, common_steps)

@@ -6,7 +6,7 @@ use Rattle.dd_engines.proofs.walk.first_found.Given as goal
 
 abbrev pub invariant-loop-k : goal.invariant-loop-k
 invariant-loop-k l = record {
-  walks : Walks l.cnf.clauses l.walk.values.items l.walk.truths.counts.items l.walk.truths.marks.items l.walk.truths.first_block l.walk.occurrences.lists.items;
+  walks : Walks l.cnf.clauses l.walk.values.items l.walk.truths.counts.items l.walk.truths.marks.items l.walk.truths.first_block;
   long : length l.walk.values.items ≡ l.cnf.variables;
   reached : values_after l.cnf l.k ≡ Some l.walk.values.items;
   landmark : values_after l.cnf l.walk.landmark.flips ≡ Some l.walk.landmark.values.items;

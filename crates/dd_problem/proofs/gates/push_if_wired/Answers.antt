@@ -9,7 +9,7 @@ use Rattle.dd_formula.specs.LocalRule.{LocalRule, expansion_at}
 use Rattle.dd_problem.specs.Clauses.{Part, part_gates, part_clauses}
 use Rattle.dd_problem.specs.Encodings.{with_parts}
 use Rattle.dd_problem.specs.pushing.Pushed.{wired_part, wired_parts}
-use Rattle.dd_problem.proofs.Growing.{extended_size}
+use Rattle.dd_problem.specs.lemmas.Growing.{extended_size}
 use Rattle.dd_problem.proofs.PlacesLeft.{taken, place_count, nothing_added}
 use Rattle.dd_problem.proofs.Templating.{reads_tell}
 use Rattle.dd_problem.proofs.gates.push_if_wired.Goals as goal

@@ -1,5 +1,5 @@
 use Rattle.std.proofs.Common.{◌≡◌, map}
-use Rattle.dd_problem.specs.pushing.Grown.{number_at}
+use Rattle.dd_problem.specs.pushing.Near.{number_at}
 use Rattle.dd_problem.proofs.Inputting.{first_numbered}
 use Rattle.dd_problem.proofs.tori.inputs_by_number.Given as goal
 

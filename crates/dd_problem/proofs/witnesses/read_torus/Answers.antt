@@ -3,6 +3,7 @@ use Rattle.dd_values.specs.Variables.{true_variables}
 use Rattle.dd_pattern.specs.Periods.{periods_of, periods_volume}
 use Rattle.dd_pattern.specs.Tile.{Tile, tile}
 use Rattle.dd_problem.specs.Symbols.{AreRead}
+use Rattle.dd_problem.specs.lemmas.TorusSizes.{torus_sizes}
 use Rattle.dd_problem.proofs.TorusCalls.{count_fits}
 use Rattle.dd_problem.proofs.SymbolsRead.{one_each_there, made_is, read_made, read_only, read_there}
 use Rattle.dd_problem.proofs.witnesses.read_torus.Goals as goal
@@ -44,3 +45,13 @@ returns-clause-only c = λ u periods fits read same.
     (read_there c.values.result.now c.args.found.now c.symbols.result c.args.premise.now.symbols (periods_volume p * c.nodes-nodes.result)
     c.in_ok-symbols.symbols.items c.values.ensures c.symbols.ensures.value c.in_ok-symbols.ensures)
     periods fits read same
+
+pub overflow_mul-count-2 : goal.overflow_mul-count-2
+overflow_mul-count-2 c =
+    let all = (torus_sizes c.args.premise.now (periods_of c.args.periods c.args.shear) c.nodes-nodes.ensures.kept c.requires.periods).zyx_most in
+    omega (arith, all)
+
+pub overflow_mul-count : goal.overflow_mul-count
+overflow_mul-count c =
+    let all = (torus_sizes c.args.premise.now (periods_of c.args.periods c.args.shear) c.nodes-nodes.ensures.kept c.requires.periods).zy_most in
+    omega (arith, all)

@@ -1,5 +1,10 @@
+use Rattle.dd_problem.specs.pushing.Told.{IsToldGoal}
+use Rattle.dd_question.specs.Conjugacies.{EachPart, conjugacy_of}
 use Rattle.dd_verify.proofs.Claiming.{member_claims, box_claims, equal_claims}
 use Rattle.dd_verify.proofs.Listing.{list_claims}
+use Rattle.dd_verify.proofs.Starring.{minimal_claims}
+use Rattle.dd_verify.proofs.PartForms.{conjugacy_claims}
+use Rattle.dd_verify.proofs.TorusForms.{torus_claims}
 use Rattle.dd_verify.proofs.Weighing.{strip_claims, discharge_claims}
 use Rattle.dd_verify.proofs.laws.claims_hold.Goals as goal
 
@@ -19,10 +24,32 @@ returns-in-Equality c a =
 pub returns-in-Listing : goal.returns-in-Listing
 returns-in-Listing c a = rw (← c.question.ensures.value, c.in-Listing.is) (list_claims c.listed_break.ensures _ a)
 
+pub returns-in-Smallest : goal.returns-in-Smallest
+returns-in-Smallest c a =
+    let sound = rw (← c.question.ensures.value, c.in-Smallest.is) at c.question.ensures.kept.sound in
+    rw (← c.question.ensures.value, c.in-Smallest.is)
+    (minimal_claims c.exact.ensures c.needs_each.ensures c.all_new.ensures _ sound.0 c.starred_are_minimal.ensures.nodes c.starred_are_minimal.ensures.minimal a)
+
+pub returns-in-Conjugacy : goal.returns-in-Conjugacy
+returns-in-Conjugacy c a =
+    let sound = rw (← c.question.ensures.value, c.in-Conjugacy.is) at c.question.ensures.kept.sound in
+    let gates : EachPart IsToldGoal (conjugacy_of c.in-Conjugacy.conjugacy) = record {
+      image = c.tell_goal-in-Conjugacy.ensures _ sound.image.1.goal sound.image.1.rule;
+      image_back = c.tell_goal-in-Conjugacy-2.ensures _ sound.image_back.1.goal sound.image_back.1.rule;
+      round = c.tell_goal-in-Conjugacy-3.ensures _ sound.round.1.goal sound.round.1.rule;
+      round_back = c.tell_goal-in-Conjugacy-4.ensures _ sound.round_back.1.goal sound.round_back.1.rule;
+    } in
+    rw (← c.question.ensures.value, c.in-Conjugacy.is) (conjugacy_claims _ _ _ sound gates)
+
 pub returns-in-Density : goal.returns-in-Density
 returns-in-Density c a =
     let sound = rw (← c.question.ensures.value, c.in-Density.is) at c.question.ensures.kept.sound in
     rw (← c.question.ensures.value, c.in-Density.is) (strip_claims c.strip_least.ensures c.strip_empty.ensures _ _ _ sound.0 sound.1.strip a)
+
+pub returns-in-Least : goal.returns-in-Least
+returns-in-Least c a =
+    let sound = rw (← c.question.ensures.value, c.in-Least.is) at c.question.ensures.kept.sound in
+    rw (← c.question.ensures.value, c.in-Least.is) (torus_claims _ _ _ c.least_law.ensures sound.1 a)
 
 pub returns-in-Discharge : goal.returns-in-Discharge
 returns-in-Discharge c a =

@@ -2,6 +2,7 @@ use Rattle.std.proofs.Common.{arith}
 use Rattle.std.proofs.lemmas.Grind.{common_steps}
 use Rattle.dd_values.specs.Variables.{true_variables}
 use Rattle.dd_boxes.specs.Views.{goal_of}
+use Rattle.dd_problem.specs.lemmas.TorusSizes.{small_periods}
 use Rattle.dd_contain.proofs.ShownLaws.{one_each, read_shows}
 use Rattle.dd_contain.proofs.questions.BoxQuestionQuestions.configuration.Goals as goal
 
@@ -20,7 +21,10 @@ returns-in-Found-clause-found g c =
     ((c.in_ok-periodic-in-Found.periodic, shown), shown)
 
 pub read_torus-requires-clause-periods : goal.read_torus-requires-clause-periods
-read_torus-requires-clause-periods c = grind (arith, common_steps)
+read_torus-requires-clause-periods g c = small_periods c.args.self.now.premise.now c.args.at.now c.nodes-nodes.ensures.kept c.requires.periods
+
+pub torus_clauses-requires-clause-periods : goal.torus_clauses-requires-clause-periods
+torus_clauses-requires-clause-periods g c = small_periods c.args.self.now.premise.now c.args.at.now c.nodes-nodes.ensures.kept c.requires.periods
 
 pub returns-clause-found : goal.returns-clause-found
 returns-clause-found c = grind (arith, common_steps)

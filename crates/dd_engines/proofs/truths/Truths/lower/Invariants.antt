@@ -1,10 +1,16 @@
-use Rattle.std.proofs.Common.{◌≡◌, drop, length}
+use Rattle.std.proofs.Common.{◌≡◌, ◌<◌, ◌≤◌, length}
+use Rattle.std.specs.List.{All}
 use Rattle.dd_engines.specs.walking.Truths.{IsListed, changed, less}
+use Rattle.dd_engines.specs.walking.Chains.{chain_of}
 use Rattle.dd_engines.proofs.truths.Truths.lower.Given as goal
 
-abbrev pub invariant-loop-number : goal.invariant-loop-number
-invariant-loop-number l = record {
-  counts : changed less (drop l.number-index l.numbers) l.self.counts.items ≡ changed less l.numbers l.initial.self.counts.items;
-  long : length l.self.counts.items ≡ length l.initial.self.counts.items;
+abbrev pub invariant-loop-at : goal.invariant-loop-at
+invariant-loop-at l = record {
+  counts : changed less (chain_of l.chains.links.items l.at) l.self.counts.items ≡ changed less (chain_of l.chains.links.items l.initial.at) l.initial.self.counts.items;
+  within : All (λ k. k < length l.self.counts.items) (chain_of l.chains.links.items l.at);
+  few : l.at ≤ length l.chains.links.items;
   listed : IsListed l.self.counts.items l.self.marks.items l.self.first_block;
 }
+
+abbrev pub decreases-loop-at : goal.decreases-loop-at
+decreases-loop-at l = l.at

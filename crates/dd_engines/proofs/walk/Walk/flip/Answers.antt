@@ -1,33 +1,46 @@
-use Rattle.std.proofs.Common.{◌≡◌, ℕ, ◌<◌, List, length, ap, ◌∙◌, arith}
+use Rattle.std.proofs.Common.{◌≡◌, ℕ, ◌<◌, List, length, ap, subst, sym, ◌∙◌, arith}
 use Rattle.std.specs.List.{All}
-use Rattle.std.proofs.lemmas.List.Elements.{All-same, All-weaker}
+use Rattle.std.proofs.lemmas.List.Elements.{All-weaker}
+use Rattle.dd_clause.specs.declared.clause.Literal.{Literal}
 use Rattle.dd_clause.specs.Clauses.{negation}
-use Rattle.dd_engines.specs.walking.Truths.{more, less, changed, list_of}
-use Rattle.dd_engines.proofs.Walking.{within_counts, length-changed, flip_walks}
+use Rattle.dd_engines.specs.walking.Truths.{more, less, changed}
+use Rattle.dd_engines.specs.walking.Chains.{HasChain, numbers_of}
+use Rattle.dd_engines.proofs.Walking.{chain_there, within_counts, length-changed, flip_walks}
 use Rattle.dd_engines.proofs.walk.Walk.flip.Goals as goal
 
+pub raise-requires-clause-linked : goal.raise-requires-clause-linked
+raise-requires-clause-linked c = c.requires.listing.linked
+
+pub raise-requires-clause-chain : goal.raise-requires-clause-chain
+raise-requires-clause-chain c = chain_there _ _ c.args.chains.now c.args.literal c.requires.listing c.requires.range
+
 pub raise-requires-clause-within : goal.raise-requires-clause-within
-raise-requires-clause-within c =
-    let counts = c.args.self.now.truths.counts.items in
-    All-same (λ k. k < length counts) c.of.result.now _ c.of.ensures (within_counts _ _ _ _ _ _ c.args.literal c.requires.walks c.requires.range)
+raise-requires-clause-within c = within_counts _ _ _ _ _ c.args.chains.now c.args.literal c.requires.walks c.requires.listing c.requires.range
+
+pub lower-requires-clause-linked : goal.lower-requires-clause-linked
+lower-requires-clause-linked c = c.requires.listing.linked
+
+pub lower-requires-clause-chain : goal.lower-requires-clause-chain
+lower-requires-clause-chain c =
+    subst (λ (l : Literal). HasChain c.args.chains.now l) (sym c.negation.ensures)
+    (chain_there _ _ c.args.chains.now (negation c.args.literal) c.requires.listing (c.requires.range.0, c.requires.range.1))
 
 pub lower-requires-clause-within : goal.lower-requires-clause-within
 lower-requires-clause-within c =
     let counts = c.args.self.now.truths.counts.items in
-    let lists = c.args.self.now.occurrences.lists.items in
+    let chains = c.args.chains.now in
     let new = c.raise.new.self.counts.items in
-    let long : length new ≡ length counts = ap (λ (xs : List ℕ). length xs) c.raise.ensures.counts ∙ length-changed more c.of.result.now counts in
-    let other : c.of-2.result.now ≡ list_of lists (negation c.args.literal) = c.of-2.ensures ∙ ap (list_of lists) c.negation.ensures in
-    let within : All (λ k. k < length counts) (list_of lists (negation c.args.literal)) = within_counts _ _ _ _ _ lists (negation c.args.literal) c.requires.walks (c.requires.range.0, c.requires.range.1) in
-    All-same (λ k. k < length new) c.of-2.result.now _ other (All-weaker (λ k. k < length counts) (λ k. k < length new) (λ k h. omega (arith, h, long)) _ within)
+    let long : length new ≡ length counts = ap (λ (xs : List ℕ). length xs) c.raise.ensures.counts ∙ length-changed more (numbers_of chains c.args.literal) counts in
+    let within : All (λ k. k < length counts) (numbers_of chains (negation c.args.literal)) = within_counts _ _ _ _ _ chains (negation c.args.literal) c.requires.walks c.requires.listing (c.requires.range.0, c.requires.range.1) in
+    subst (λ (l : Literal). All (λ k. k < length new) (numbers_of chains l)) (sym c.negation.ensures)
+    (All-weaker (λ k. k < length counts) (λ k. k < length new) (λ k h. omega (arith, h, long)) (numbers_of chains (negation c.args.literal)) within)
 
 pub returns-clause-walks : goal.returns-clause-walks
 returns-clause-walks c =
-    let lists = c.args.self.now.occurrences.lists.items in
+    let chains = c.args.chains.now in
     let counts = c.args.self.now.truths.counts.items in
-    let other : c.of-2.result.now ≡ list_of lists (negation c.args.literal) = c.of-2.ensures ∙ ap (list_of lists) c.negation.ensures in
-    let made : c.lower.new.self.counts.items ≡ changed less (list_of lists (negation c.args.literal)) (changed more (list_of lists c.args.literal) counts) =
+    let made : c.lower.new.self.counts.items ≡ changed less (numbers_of chains (negation c.args.literal)) (changed more (numbers_of chains c.args.literal) counts) =
     c.lower.ensures.counts
-    ∙ ap (λ (ks : List ℕ). changed less ks c.raise.new.self.counts.items) other
-    ∙ ap (changed less (list_of lists (negation c.args.literal))) (c.raise.ensures.counts ∙ ap (λ (ks : List ℕ). changed more ks counts) c.of.ensures) in
-    flip_walks _ _ counts _ _ _ _ _ lists c.args.literal c.requires.walks c.requires.range c.requires.other made c.lower.ensures.listed
+    ∙ ap (λ (l : Literal). changed less (numbers_of chains l) c.raise.new.self.counts.items) c.negation.ensures
+    ∙ ap (changed less (numbers_of chains (negation c.args.literal))) c.raise.ensures.counts in
+    flip_walks _ _ counts _ _ _ _ _ chains c.args.literal c.requires.walks c.requires.listing c.requires.range c.requires.other made c.lower.ensures.listed

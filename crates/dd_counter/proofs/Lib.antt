@@ -1,0 +1,3 @@
+pub mod Members
+pub mod Whole
+pub mod Light

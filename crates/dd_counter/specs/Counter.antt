@@ -1,0 +1,82 @@
+-- The counter: gates that say how much the first cells weigh. Each cell has a row of signals. The one at t, from 0, says that the
+-- cells up to this one weigh more than t, which is at least t + 1.
+use Rattle.std.specs.Prelude.{ℕ, zero, suc, ◌+◌, ◌-◌, Bool, true, false, nat_lt, List, [], ◌∷◌, ◌++◌, map, length, Option, Some, None, slice_get, slice_index}
+use Rattle.std.specs.List.{range_with_len}
+use Rattle.dd_clause.specs.declared.clause.Literal.{Literal}
+use Rattle.dd_clause.specs.Clauses.{ClauseList}
+use Rattle.dd_circuit.specs.declared.gates.Signal.{Signal}
+use Rattle.dd_circuit.specs.declared.gates.Gate.{Gate}
+use Rattle.dd_circuit.specs.declared.gates.Gate.TheVariants.{And, Or}
+use Rattle.dd_circuit.specs.Circuits.{signal_of}
+use Rattle.dd_cnf.specs.Encoding.{gates_clauses, opposing}
+use Rattle.dd_compile.specs.Compiling.{AllMade}
+use Rattle.dd_problem.specs.Clauses.{input}
+
+-- some signals, and the gates that are added for them, from the number of variables before
+abbrev pub Making : Type 0
+Making = ℕ → AllMade
+
+abbrev pub making : List Signal → List Gate → AllMade
+making signals gates = record { signals = signals; gates = gates }
+
+-- one after the other
+abbrev pub joined : List Making → ℕ → AllMade
+joined [] n = making [] []
+joined (m ∷ ms) n =
+    let rest = joined ms (n + length (m n).gates) in
+    making ((m n).signals ++ rest.signals) ((m n).gates ++ rest.gates)
+
+-- how a symbol makes the cells up to its own weigh more than t: by itself, together with those before, or never
+abbrev pub member_by : Signal → Bool → Option Signal → Making
+member_by input true earlier n = making (input ∷ []) []
+member_by input false (Some r) n = making (signal_of (suc n) ∷ []) (And (input ∷ r ∷ []) ∷ [])
+member_by input false None n = making [] []
+
+-- the symbol of this input weighs w, and `before` is the row of the cell before
+abbrev pub member : Signal → ℕ → ℕ → List Signal → Making
+member input w t before = member_by input (nat_lt t w) (slice_get before (t - w))
+
+-- the symbol s of the cell with the number k
+abbrev pub of_symbol : List ℕ → ℕ → ℕ → List Signal → ℕ → Making
+of_symbol ws k t before s = member (signal_of (input (length ws) k s)) (slice_index ws s) t before
+
+-- those of all symbols of the cell
+abbrev pub members : List ℕ → ℕ → ℕ → List Signal → List Making
+members ws k t before = map (of_symbol ws k t before) (range_with_len 0 (length ws))
+
+-- the gate that says that the cells up to k weigh more than t, after those of its members
+abbrev pub count : List ℕ → ℕ → List Signal → ℕ → Making
+count ws k before t n =
+    let each = joined (members ws k t before) n in
+    making (signal_of (suc (n + length each.gates)) ∷ []) (each.gates ++ Or each.signals ∷ [])
+
+-- the row of the cell k: its gates at 0, 1, .. up to below - 1
+abbrev pub row : List ℕ → ℕ → ℕ → List Signal → Making
+row ws below k before = joined (map (count ws k before) (range_with_len 0 below))
+
+-- the rows of c cells from k on, each over the one before it; the signals are those of the last row
+abbrev pub rows : List ℕ → ℕ → ℕ → ℕ → List Signal → Making
+rows ws below zero k before n = making before []
+rows ws below (suc c) k before n =
+    let first = row ws below k before n in
+    let rest = rows ws below c (k + 1) first.signals (n + length first.gates) in
+    making rest.signals (first.gates ++ rest.gates)
+
+-- the clauses with more gates
+abbrev pub grown : ClauseList → List Gate → ClauseList
+grown cnf gates = record { variables = cnf.variables + length gates; clauses = cnf.clauses ++ gates_clauses cnf.variables gates }
+
+-- the clause of the opposite of the signal, where there is one
+abbrev pub refusal_of : Option Signal → List (List Literal)
+refusal_of None = []
+refusal_of (Some r) = (opposing r ∷ []) ∷ []
+
+-- that of the last of `below` signals: of the row of all cells it says that they weigh at least `below`
+abbrev pub last_refused : ℕ → List Signal → List (List Literal)
+last_refused below signals = refusal_of (slice_get signals (below - 1))
+
+-- clauses, and then, where `below` is at least 1, those that say that the c cells weigh less than that
+abbrev pub weighed : ClauseList → List ℕ → ℕ → ℕ → ClauseList
+weighed cnf ws below c =
+    let all = rows ws below c 0 [] cnf.variables in
+    record { variables = (grown cnf all.gates).variables; clauses = (grown cnf all.gates).clauses ++ last_refused below all.signals }

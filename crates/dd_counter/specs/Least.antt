@@ -1,0 +1,42 @@
+-- The least weight of the configurations of given periods that live in a subshift.
+use Rattle.std.specs.Prelude.{◌≡◌, ◌<◌, ◌≤◌, ℕ, max, List, [], ◌∷◌}
+use Rattle.dd_derivation.specs.declared.step.Step.{Step}
+use Rattle.dd_derivation.specs.Derivations.{IsRefuting}
+use Rattle.dd_pattern.specs.declared.periods.Periods.{Periods}
+use Rattle.dd_pattern.specs.Tile.{Tile}
+use Rattle.dd_pattern.specs.Weight.{total_weight}
+use Rattle.dd_formula.specs.LocalRule.{LocalRule}
+use Rattle.dd_boxes.specs.Goals.{always}
+use Rattle.dd_boxes.specs.Witnesses.{IsWitness, HasPeriods}
+use Rattle.dd_counter.specs.declared.least.LeastWeight.{LeastWeight}
+use Rattle.dd_counter.specs.declared.least.LeastWeight.TheVariants.{Least, Nothing}
+use Rattle.dd_counter.specs.Weights.{weight_problem}
+
+-- the greatest weight of a symbol
+abbrev pub greatest : List ℕ → ℕ
+greatest [] = 0
+greatest (w ∷ ws) = max w (greatest ws)
+
+-- the configuration has these periods and this shear, and lives in the rule's subshift
+abbrev pub IsLiving : LocalRule → Periods → Tile → Type 0
+IsLiving x p t = HasPeriods p t × IsWitness x always t
+
+-- some living configuration has this weight, and none has a smaller one
+pub record LeastOn (x : LocalRule) (p : Periods) (ws : List ℕ) (w : ℕ) : Type 0 where
+  pub some : (t : Tile) × IsLiving x p t × (total_weight ws t.symbols ≡ w)
+  pub least : (t : Tile) → IsLiving x p t → w ≤ total_weight ws t.symbols
+
+-- no configuration lives
+abbrev pub NoneOn : LocalRule → Periods → Type 0
+NoneOn x p = (t : Tile) → IsLiving x p t → ⊥
+
+-- the configuration has the least weight, and, where it isn't 0, the steps refute the clauses of every smaller one
+pub record IsLeastShown (x : LocalRule) (p : Periods) (ws : List ℕ) (w : ℕ) (t : Tile) (steps : List Step) : Type 0 where
+  pub least : LeastOn x p ws w
+  pub lives : IsLiving x p t
+  pub weighs : total_weight ws t.symbols ≡ w
+  pub refutes : 0 < w → IsRefuting (weight_problem x p ws w) steps
+
+abbrev pub IsLeast : LocalRule → Periods → List ℕ → LeastWeight → Type 0
+IsLeast x p ws (Least w t steps) = IsLeastShown x p ws w t steps
+IsLeast x p ws (Nothing steps) = NoneOn x p × IsRefuting (weight_problem x p ws 0) steps

@@ -1,0 +1,41 @@
+-- The clauses that ask for a configuration of small weight on a torus.
+use Rattle.std.specs.Prelude.{◌<◌, ◌+◌, ◌*◌, ℕ, Bool, zero, suc, List, length}
+use Rattle.dd_clause.specs.declared.clause.Literal.{Literal}
+use Rattle.dd_clause.specs.Clauses.{ClauseList, Satisfies}
+use Rattle.dd_pattern.specs.declared.periods.Periods.{Periods}
+use Rattle.dd_pattern.specs.Periods.{periods_volume}
+use Rattle.dd_pattern.specs.Tile.{Tile}
+use Rattle.dd_pattern.specs.Weight.{total_weight}
+use Rattle.dd_formula.specs.LocalRule.{LocalRule}
+use Rattle.dd_boxes.specs.Goals.{always}
+use Rattle.dd_boxes.specs.Counts.{question_clauses}
+use Rattle.dd_boxes.specs.Witnesses.{IsWitness, HasPeriods}
+use Rattle.dd_problem.specs.Problems.{torus_problem}
+use Rattle.dd_problem.specs.Symbols.{AreRead}
+use Rattle.dd_counter.specs.Counter.{weighed}
+
+-- the clauses of the torus, and, where `below` is at least 1, those of the counter, with the unit clause last
+abbrev pub weight_problem : LocalRule → Periods → List ℕ → ℕ → ClauseList
+weight_problem x periods ws below = weighed (torus_problem x always periods) ws below (periods_volume periods * x.nodes)
+
+-- How many clauses are counted: those of the torus, the unit clause, and for each cell and each weight below the bound those of
+-- an And gate of two members for each symbol, with those of an Or gate over all of them.
+abbrev pub weight_count : LocalRule → Periods → List ℕ → ℕ → ℕ
+weight_count x periods ws below =
+    question_clauses x always (periods_volume periods) + periods_volume periods * x.nodes * (below * suc (4 * length ws)) + 1
+
+-- the weight is below the bound, where the bound is at least 1
+abbrev pub IsLight : ℕ → List ℕ → Tile → Type 0
+IsLight zero ws t = Unit {0}
+IsLight (suc b) ws t = total_weight ws t.symbols < suc b
+
+-- a configuration of these periods that lives in the rule's subshift and weighs less than the bound
+pub record IsLightWitness (x : LocalRule) (periods : Periods) (ws : List ℕ) (below : ℕ) (t : Tile) : Type 0 where
+  pub along : HasPeriods periods t
+  pub witness : IsWitness x always t
+  pub light : IsLight below ws t
+
+-- Each satisfying assignment stands for such a configuration, and each such one is read from some satisfying assignment.
+pub record ShowsWeights (clauses : List (List Literal)) (x : LocalRule) (periods : Periods) (ws : List ℕ) (below : ℕ) : Type 0 where
+  pub each : (set : ℕ → Bool) → Satisfies set clauses → (t : Tile) × IsLightWitness x periods ws below t × AreRead set x.symbols t.symbols
+  pub every : (t : Tile) → IsLightWitness x periods ws below t → (set : ℕ → Bool) × Satisfies set clauses × AreRead set x.symbols t.symbols

@@ -1,0 +1,13 @@
+pub mod Bools
+pub mod Joined
+pub mod Saying
+pub mod Fitting
+pub mod Extending
+pub mod Shown
+pub mod WeightShows
+pub mod UnitLaws
+pub mod Left
+pub mod Counted
+pub mod CountedClauses
+pub mod Rooms
+pub mod Light

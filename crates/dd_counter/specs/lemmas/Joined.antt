@@ -1,0 +1,47 @@
+-- Makings that are joined: what their gates say.
+use Rattle.std.proofs.Common.{◌≡◌, ℕ, zero, suc, ◌+◌, ◌<◌, arith, Bool, true, false, List, [], ◌∷◌, ◌++◌, map, length, refl, sym, ◌∙◌}
+use Rattle.std.specs.Prelude.{◌||◌}
+use Rattle.std.specs.List.{list_any, range_with_len}
+use Rattle.std.proofs.lemmas.Bool.{and_parts}
+use Rattle.std.proofs.lemmas.List.{map-append}
+use Rattle.dd_circuit.specs.declared.gates.Gate.{Gate}
+use Rattle.dd_circuit.specs.Circuits.{signal_value, agrees}
+use Rattle.dd_circuit.specs.lemmas.ValueLaws.{agrees-append}
+use Rattle.dd_counter.specs.Counter.{Making, joined}
+
+pub agrees_parts : (set : ℕ → Bool) (n : ℕ) (gs hs : List Gate) → agrees set n (gs ++ hs) ≡ true → (agrees set n gs ≡ true) × (agrees set (n + length gs) hs ≡ true)
+agrees_parts set n gs hs h = and_parts (agrees set n gs) (agrees set (n + length gs) hs) (sym (agrees-append set n gs hs) ∙ h)
+
+or_assoc : (a b c : Bool) → ((a || b) || c) ≡ (a || (b || c))
+or_assoc true b c = refl
+or_assoc false b c = refl
+
+pub any_append : {X : Type 0} (p : X → Bool) (xs ys : List X) → list_any p (xs ++ ys) ≡ (list_any p xs || list_any p ys)
+any_append p [] ys = refl
+any_append p (x ∷ xs) ys = rw (any_append p xs ys) (sym (or_assoc (p x) (list_any p xs) (list_any p ys)))
+
+-- some signal is true where some test passes
+pub any_joined : (set : ℕ → Bool) (make : ℕ → Making) (test : ℕ → Bool) →
+    ((s n : ℕ) → agrees set n (make s n).gates ≡ true → list_any (signal_value set) (make s n).signals ≡ test s) →
+    (c a n : ℕ) → agrees set n (joined (map make (range_with_len a c)) n).gates ≡ true →
+    list_any (signal_value set) (joined (map make (range_with_len a c)) n).signals ≡ list_any test (range_with_len a c)
+any_joined set make test says zero a n h = refl
+any_joined set make test says (suc c) a n h =
+    let gs = (make a n).gates in
+    let rest = joined (map make (range_with_len (a + 1) c)) (n + length gs) in
+    let both = agrees_parts set n gs rest.gates h in
+    any_append (signal_value set) (make a n).signals rest.signals
+    ∙ rw (says a n both.0, any_joined set make test says c (a + 1) (n + length gs) both.1) refl
+
+-- each signal says what its test says
+pub each_joined : (set : ℕ → Bool) (make : ℕ → Making) (test : ℕ → Bool) (a c : ℕ) →
+    ((s n : ℕ) → s < a + c → agrees set n (make s n).gates ≡ true → map (signal_value set) (make s n).signals ≡ test s ∷ []) →
+    (n : ℕ) → agrees set n (joined (map make (range_with_len a c)) n).gates ≡ true →
+    map (signal_value set) (joined (map make (range_with_len a c)) n).signals ≡ map test (range_with_len a c)
+each_joined set make test a zero says n h = refl
+each_joined set make test a (suc c) says n h =
+    let gs = (make a n).gates in
+    let rest = joined (map make (range_with_len (a + 1) c)) (n + length gs) in
+    let both = agrees_parts set n gs rest.gates h in
+    map-append (signal_value set) (make a n).signals rest.signals
+    ∙ rw (says a n (omega arith) both.0, each_joined set make test (a + 1) c (λ s m l. says s m (omega arith)) (n + length gs) both.1) refl

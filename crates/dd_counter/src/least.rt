@@ -1,0 +1,109 @@
+//! The least weight of a configuration on a torus: after each configuration that is found a lighter one is searched for, until the
+//! search is refuted.
+ghost use Rattle.std.specs.Prelude.{◌≡◌, ◌≤◌, ◌*◌, length, All, IfOk};
+ghost use Rattle.dd_values.specs.Bounds.{most_variables, most_weight};
+ghost use Rattle.dd_pattern.specs.Periods.{periods_of, periods_volume};
+ghost use Rattle.dd_boxes.specs.Goals.{always};
+ghost use Rattle.dd_boxes.specs.Counts.{most_clauses};
+ghost use Rattle.dd_problem.specs.TorusPeriods.{AreTorusPeriods};
+ghost use Rattle.dd_counter.specs.Weights.{weight_count};
+ghost use Rattle.dd_counter.specs.Least.{greatest, IsLeast};
+ghost use Rattle.dd_counter.specs.searching.Lighter.{IsLighter};
+
+use crate::weights::weight_clauses;
+use dd_derivation::{Outcome, Step};
+use dd_formula::Rule;
+use dd_pattern::Periodic;
+use dd_problem::read_torus;
+use dd_solver::{solve, trimmed};
+use dd_values::Items;
+use std::alloc::{AllocError, Global};
+
+/// The least weight of the configurations of given periods that live in a rule's subshift.
+#[derive(Debug, Drop)]
+pub enum LeastWeight {
+    /// The weight, a configuration that has it, and, where it isn't 0, steps that refute every smaller one.
+    Least {
+        weight: u64,
+        periodic: Periodic,
+        steps: Items<Step>,
+    },
+    /// Steps that refute that any configuration lives.
+    Nothing {
+        steps: Items<Step>,
+    },
+}
+
+/// A configuration that weighs less than a bound, or steps that refute that there is one.
+#[derive(Drop)]
+enum Lighter {
+    Found(Periodic),
+    Nothing(Items<Step>),
+}
+
+/// Looks for a configuration that lives and weighs less than `below`, where this is at least 1.
+fn search_below(
+    alloc: Global,
+    rule: &Rule,
+    periods: [u32; 3],
+    weights: &[u32],
+    below: u64,
+) -> Result<Lighter, AllocError>
+    requires periods { AreTorusPeriods rule.now (periods_of periods 0) }
+    requires weights { length weights.now ≡ rule.now.symbols }
+    requires count { weight_count rule.now (periods_of periods 0) weights.now below ≤ most_clauses }
+    ensures { IfOk result (IsLighter rule.now (periods_of periods 0) weights.now below) }
+{
+    let cnf = weight_clauses(alloc, rule, periods, weights, below)?;
+    match solve(alloc, &cnf)? {
+        Outcome::Found(found) => {
+            let periodic = read_torus(alloc, rule, periods, 0, &found)?;
+            // Read for what its type keeps.
+            let _symbols = periodic.symbols();
+            Ok(Lighter::Found(periodic))
+        }
+        Outcome::Refuted(steps) => Ok(Lighter::Nothing(trimmed(alloc, &cnf, steps)?)),
+    }
+}
+
+/// The least weight of one fundamental box over the configurations of these periods, with shear 0, that live in the rule's
+/// subshift, or that none lives. The symbol `s` weighs `weights[s]`.
+pub fn least_weight(
+    alloc: Global,
+    rule: &Rule,
+    periods: [u32; 3],
+    weights: &[u32],
+) -> Result<LeastWeight, AllocError>
+    requires periods { AreTorusPeriods rule.now (periods_of periods 0) }
+    requires weights { length weights.now ≡ rule.now.symbols }
+    requires small { All (λ w. w ≤ most_weight) weights.now }
+    requires count { weight_count rule.now (periods_of periods 0) weights.now
+        (periods_volume (periods_of periods 0) * rule.now.nodes * greatest weights.now) ≤ most_clauses }
+    ensures { IfOk result (IsLeast rule.now (periods_of periods 0) weights.now) }
+{
+    let mut found = match search_below(alloc, rule, periods, weights, 0)? {
+        Lighter::Found(periodic) => periodic,
+        Lighter::Nothing(steps) => return Ok(LeastWeight::Nothing { steps }),
+    };
+    let mut weight = found.weight(weights);
+    while weight > 0 {
+        match search_below(alloc, rule, periods, weights, weight)? {
+            Lighter::Found(periodic) => {
+                weight = periodic.weight(weights);
+                found = periodic;
+            }
+            Lighter::Nothing(steps) => {
+                return Ok(LeastWeight::Least {
+                    weight,
+                    periodic: found,
+                    steps,
+                });
+            }
+        }
+    }
+    Ok(LeastWeight::Least {
+        weight,
+        periodic: found,
+        steps: Items::new(alloc),
+    })
+}

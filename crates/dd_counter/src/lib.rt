@@ -1,0 +1,11 @@
+//! Configurations of least weight on a torus.
+#![tactic(auto)]
+
+mod counter;
+mod laws;
+mod least;
+mod weights;
+
+pub use laws::least_law;
+pub use least::{LeastWeight, least_weight};
+pub use weights::weight_clauses;

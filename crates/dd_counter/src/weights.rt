@@ -1,0 +1,40 @@
+//! The clauses that ask for a configuration of small weight on a torus.
+ghost use Rattle.std.specs.Prelude.{◌≡◌, ◌≤◌, ◌*◌, length, IfOk};
+ghost use Rattle.dd_values.specs.Bounds.{most_variables};
+ghost use Rattle.dd_pattern.specs.Periods.{periods_of, periods_volume};
+ghost use Rattle.dd_boxes.specs.Goals.{always};
+ghost use Rattle.dd_boxes.specs.Counts.{most_clauses};
+ghost use Rattle.dd_problem.specs.TorusPeriods.{AreTorusPeriods};
+ghost use Rattle.dd_counter.specs.Weights.{weight_problem, weight_count, ShowsWeights};
+
+use crate::counter::{push_refusal, push_rows};
+use dd_boxes::Goal;
+use dd_clause::Cnf;
+use dd_formula::Rule;
+use dd_problem::torus_clauses;
+use std::alloc::{AllocError, Global};
+
+/// The clauses that ask for a configuration of these periods, with shear 0, that lives in the rule's subshift and of which the
+/// fundamental box weighs less than `below`, where this is at least 1. The symbol `s` weighs `weights[s]`. The gates of a
+/// sequential counter (Sinz, 2005; with weights: Hölldobler, Manthey and Steinke, 2012) follow the clauses of the torus.
+pub fn weight_clauses(
+    alloc: Global,
+    rule: &Rule,
+    periods: [u32; 3],
+    weights: &[u32],
+    below: u64,
+) -> Result<Cnf, AllocError>
+    requires periods { AreTorusPeriods rule.now (periods_of periods 0) }
+    requires weights { length weights.now ≡ rule.now.symbols }
+    requires count { weight_count rule.now (periods_of periods 0) weights.now below ≤ most_clauses }
+    ensures exact { IfOk result (λ cnf. cnf ≡ weight_problem rule.now (periods_of periods 0) weights.now below) }
+    ensures shows { IfOk result (λ cnf. ShowsWeights cnf.clauses rule.now (periods_of periods 0) weights.now below) }
+{
+    let mut cnf = torus_clauses(alloc, rule, &Goal::Always, periods, 0)?;
+    let [x, y, z] = periods;
+    let nodes = rule.nodes();
+    let cells = z * y * x * nodes;
+    let last = push_rows(alloc, &mut cnf, cells, weights, below)?;
+    push_refusal(alloc, &mut cnf, &last, below)?;
+    Ok(cnf)
+}

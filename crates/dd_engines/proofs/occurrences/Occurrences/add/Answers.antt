@@ -1,6 +1,0 @@
-use Rattle.std.proofs.Common.{arith}
-use Rattle.std.proofs.lemmas.Grind.{common_steps}
-use Rattle.dd_engines.proofs.occurrences.Occurrences.add.Goals as goal
-
-pub loop-literal-preserved : goal.loop-literal-preserved
-loop-literal-preserved c = grind (arith, common_steps)

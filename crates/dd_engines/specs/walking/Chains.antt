@@ -1,0 +1,43 @@
+-- Where literals stand: chains of links in one list.
+use Rattle.std.specs.Prelude.{◌≡◌, ℕ, zero, suc, ◌*◌, ◌≤◌, ◌<◌, List, [], ◌∷◌, Some, slice_get, slice_index_or, length, All}
+use Rattle.std.specs.Option.{option_map_or}
+use Rattle.dd_clause.specs.declared.clause.Literal.{Literal}
+use Rattle.dd_engines.specs.declared.chains.Link.{Link}
+use Rattle.dd_engines.specs.declared.chains.Chains.{Chains}
+use Rattle.dd_engines.specs.walking.Truths.{place_of, standing}
+
+-- The numbers along a chain, over so many links at most. A chain is named by the number, from 1, of its first link; 0 is the
+-- empty one.
+abbrev pub along : ℕ → List Link → ℕ → List ℕ
+along zero links at = []
+along (suc most) links zero = []
+along (suc most) links (suc at) = option_map_or (λ link. link.number ∷ along most links link.next) (slice_get links at) []
+
+abbrev pub chain_of : List Link → ℕ → List ℕ
+chain_of links at = along at links at
+
+-- each link leads to an earlier one
+abbrev pub AreLinked : List Link → Type 0
+AreLinked links = (k : ℕ) (link : Link) → slice_get links k ≡ Some link → link.next ≤ k
+
+-- the links lead back, and each chain begins at one of them
+pub record IsLinked (chains : Chains) : Type 0 where
+  pub back : AreLinked chains.links.items
+  pub firsts : All (λ at. at ≤ length chains.links.items) chains.firsts.items
+
+abbrev pub HasChain : Chains → Literal → Type 0
+HasChain chains l = (1 ≤ l.variable) × (place_of l < length chains.firsts.items)
+
+-- the numbers along a literal's chain
+abbrev pub numbers_of : Chains → Literal → List ℕ
+numbers_of chains l = chain_of chains.links.items (slice_index_or chains.firsts.items (place_of l) 0)
+
+-- each literal's chain has the clauses, numbered from first on, where it stands
+abbrev pub AreChained : Chains → ℕ → List (List Literal) → Type 0
+AreChained chains first clauses = (l : Literal) → HasChain chains l → numbers_of chains l ≡ standing l first clauses
+
+-- so many variables have chains, which have the clauses
+pub record IsListingOf (chains : Chains) (variables : ℕ) (clauses : List (List Literal)) : Type 0 where
+  pub long : length chains.firsts.items ≡ 2 * variables
+  pub linked : IsLinked chains
+  pub chained : AreChained chains 0 clauses

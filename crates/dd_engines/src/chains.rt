@@ -1,0 +1,125 @@
+//! Where each literal stands: chains in one list of links, each of which has the number of a clause, from 0, and leads to the
+//! next clause of the same literal. They are made in one pass over the clauses, from the last one on, so that a chain has its
+//! numbers in order; a clause that has the literal several times stands there several times, in a row.
+ghost use Rattle.std.specs.Prelude.{◌≡◌, ◌≢◌, ◌++◌, ◌∷◌, slice_index_or, All, replicate, length, IfOk, OnOk};
+ghost use Rattle.dd_clause.specs.declared.clause.Literal.{Literal};
+ghost use Rattle.dd_engines.specs.walking.Truths as spec;
+ghost use Rattle.dd_engines.specs.walking.Truths.{times_in};
+ghost use Rattle.dd_engines.specs.walking.Chains.{IsLinked, IsListingOf, HasChain, numbers_of};
+
+use dd_clause::{Clause, Cnf, Literal};
+use std::alloc::{AllocError, Global};
+
+/// The number of a clause, and the number, from 1, of the next link, or 0.
+#[derive(Clone, Copy)]
+pub struct Link {
+    pub number: usize,
+    pub next: usize,
+}
+
+/// For each literal's place the number, from 1, of its first link, or 0.
+#[derive(Drop)]
+pub struct Chains {
+    pub firsts: Vec<usize>,
+    pub links: Vec<Link>,
+}
+
+/// The place of a literal's chain: each variable has two.
+fn place_of(literal: Literal) -> usize
+    ensures { result ≡ spec.place_of literal }
+{
+    let pair = (literal.variable as usize).saturating_sub(1);
+    2 * pair + usize::from(literal.positive)
+}
+
+impl Chains {
+    /// Of no literals.
+    pub fn new(alloc: Global) -> Chains {
+        Chains {
+            firsts: Vec::new(alloc),
+            links: Vec::new(alloc),
+        }
+    }
+
+    /// Lists the clauses of a list, in place of what was listed before. The room is used again.
+    fn list(&mut self, cnf: &Cnf) -> Result<(), AllocError>
+        ensures { OnOk result (IsListingOf self.new cnf.now.variables cnf.now.clauses) }
+    {
+        let clauses = cnf.clauses();
+        self.links.clear();
+        self.firsts.clear();
+        self.firsts.resize(2 * cnf.variables() as usize, 0)?;
+        for number in (0..clauses.len()).rev() {
+            self.add(number, &clauses[number])?;
+        }
+        Ok(())
+    }
+
+    /// Takes in the clause of this number.
+    fn add(&mut self, number: usize, clause: &Clause) -> Result<(), AllocError>
+        requires places { All (HasChain self.old) clause.now }
+        requires linked { IsLinked self.old }
+        ensures added { OnOk result ((l : Literal) → HasChain self.old l → numbers_of self.new l ≡ replicate (times_in l clause.now) number ++ numbers_of self.old l) }
+        ensures linked { OnOk result (IsLinked self.new) }
+        ensures long { length self.new.firsts.items ≡ length self.old.firsts.items }
+    {
+        for literal in clause.literals() {
+            self.add_one(number, *literal)?;
+        }
+        Ok(())
+    }
+
+    /// Takes in one literal of a clause.
+    fn add_one(&mut self, number: usize, literal: Literal) -> Result<(), AllocError>
+        requires place { HasChain self.old literal }
+        requires linked { IsLinked self.old }
+        ensures added { OnOk result (numbers_of self.new literal ≡ number ∷ numbers_of self.old literal) }
+        ensures others { OnOk result ((l : Literal) → HasChain self.old l → spec.place_of l ≢ spec.place_of literal → numbers_of self.new l ≡ numbers_of self.old l) }
+        ensures linked { OnOk result (IsLinked self.new) }
+        ensures long { length self.new.firsts.items ≡ length self.old.firsts.items }
+    {
+        let place = place_of(literal);
+        let next = self.firsts[place];
+        self.links.push(Link { number, next })?;
+        self.firsts[place] = self.links.len();
+        Ok(())
+    }
+
+    /// The number, from 1, of the first link of a literal's chain, or 0.
+    pub fn first(&self, literal: Literal) -> usize
+        ensures { result ≡ slice_index_or self.now.firsts.items (spec.place_of literal) 0 }
+    {
+        match self.firsts.get(place_of(literal)) {
+            Some(first) => *first,
+            None => 0,
+        }
+    }
+
+    /// The link of this number, from 1.
+    pub fn link(&self, at: usize) -> Option<Link> {
+        if at == 0 {
+            return None;
+        }
+        self.links.get(at - 1).copied()
+    }
+
+    /// Whether the chain goes on with the same clause, which has the literal several times.
+    pub fn is_repeated(&self, link: Link) -> bool {
+        match self.link(link.next) {
+            Some(next) => next.number == link.number,
+            None => false,
+        }
+    }
+}
+
+/// The chains of a list, in the room of those that were made before, if there is one.
+pub fn listed(alloc: Global, room: &mut Option<Chains>, cnf: &Cnf) -> Result<Chains, AllocError>
+    ensures { IfOk result (λ chains. IsListingOf chains cnf.now.variables cnf.now.clauses) }
+{
+    let mut chains = match room.take() {
+        Some(chains) => chains,
+        None => Chains::new(alloc),
+    };
+    chains.list(cnf)?;
+    Ok(chains)
+}

@@ -1,0 +1,15 @@
+-- Lists that are made node by node.
+use Rattle.std.specs.Prelude.{ℕ, zero, suc, ◌≡◌, List, [], ◌++◌, map}
+
+-- after what is listed of the nodes before n comes what there is at n, in its order
+pub record IsListedAfter {A B : Type 0} (IsHere : ℕ → List A → Type 0) (entry : ℕ → A → B) (n : ℕ) (IsBefore : List B → Type 0) (list : List B) : Type 0 where
+  pub before : List B
+  pub is_before : IsBefore before
+  pub here : List A
+  pub is_here : IsHere n here
+  pub whole : list ≡ before ++ map (entry n) here
+
+-- what there is at the first nodes, node by node
+abbrev pub IsListTo : {A B : Type 0} → (ℕ → List A → Type 0) → (ℕ → A → B) → ℕ → List B → Type 0
+IsListTo IsHere entry zero list = list ≡ []
+IsListTo IsHere entry (suc n) list = IsListedAfter IsHere entry n (IsListTo IsHere entry n) list

@@ -1,0 +1,92 @@
+-- The kinds of answers, and the bytes that tell them apart.
+use Rattle.std.proofs.Common.{◌≡◌, ℕ, List, ◌∷◌, ◌++◌, drop, false, ◌⊎◌, inl, inr, refl, ap, ◌∙◌}
+use Rattle.std.specs.Prelude.{◌==◌}
+use Rattle.dd_certificate.specs.declared.answer.Answer.{Answer}
+use Rattle.dd_certificate.specs.declared.answer.Answer.TheVariants as answer
+use Rattle.dd_certificate.specs.Text.{verdict_text, further_lines}
+use Rattle.dd_certificate.specs.Bounds.{IsWritable}
+use Rattle.dd_output.specs.reading.Forms.{Form, after, either}
+use Rattle.dd_output.proofs.Tables.{Keyed}
+use Rattle.dd_output.proofs.Forms.{Good, good_same, good_after, good_either}
+
+-- all lines of an answer, without the query's number
+abbrev pub body_text : Answer → List ℕ
+body_text a = verdict_text a ++ further_lines a
+
+-- the byte that they begin with
+abbrev pub first_of : Answer → ℕ
+first_of answer.Inside = 73
+first_of (answer.Outside place) = 79
+first_of (answer.Yes radius steps) = 89
+first_of (answer.YesBoth left right left_steps right_steps) = 89
+first_of (answer.No side periods shear symbols) = 78
+first_of (answer.Unknown reason) = 85
+first_of (answer.List patterns) = 76
+first_of (answer.Density numerator denominator cycle potentials) = 68
+first_of (answer.Empty ranks) = 69
+first_of (answer.Bound numerator denominator common amounts duals) = 66
+first_of (answer.Minimal patterns) = 77
+first_of (answer.Conjugate radii steps) = 67
+first_of (answer.Broken part periods shear symbols) = 66
+first_of (answer.Least weight symbols steps) = 76
+first_of (answer.Nothing steps) = 78
+
+pub first_is : (a : Answer) → IsWritable a → (more : List ℕ) × (body_text a ≡ first_of a ∷ more)
+first_is answer.Inside good = (drop 1 (body_text answer.Inside), refl)
+first_is (answer.Outside place) good = (drop 1 (body_text (answer.Outside place)), refl)
+first_is (answer.Yes radius steps) good = (drop 1 (body_text (answer.Yes radius steps)), refl)
+first_is (answer.YesBoth left right left_steps right_steps) good = (drop 1 (body_text (answer.YesBoth left right left_steps right_steps)), refl)
+first_is (answer.No side periods shear symbols) good = (drop 1 (body_text (answer.No side periods shear symbols)), refl)
+first_is (answer.Unknown reason) good = (drop 1 (body_text (answer.Unknown reason)), refl)
+first_is (answer.List patterns) good = (drop 1 (body_text (answer.List patterns)), refl)
+first_is (answer.Density numerator denominator cycle potentials) good = (drop 1 (body_text (answer.Density numerator denominator cycle potentials)), refl)
+first_is (answer.Empty ranks) good = (drop 1 (body_text (answer.Empty ranks)), refl)
+first_is (answer.Bound numerator denominator common amounts duals) good = (drop 1 (body_text (answer.Bound numerator denominator common amounts duals)), refl)
+first_is (answer.Minimal patterns) good = (drop 1 (body_text (answer.Minimal patterns)), refl)
+first_is (answer.Conjugate radii steps) good = (drop 1 (body_text (answer.Conjugate radii steps)), refl)
+first_is (answer.Broken part periods shear symbols) good = (drop 1 (body_text (answer.Broken part periods shear symbols)), refl)
+first_is (answer.Least weight symbols steps) good = (drop 1 (body_text (answer.Least weight symbols steps)), refl)
+first_is (answer.Nothing steps) good = (drop 1 (body_text (answer.Nothing steps)), refl)
+
+abbrev pub Row : ℕ → Answer → Type 0
+Row = Keyed IsWritable first_of
+
+-- ---- kinds whose texts begin alike
+
+-- the byte after what a kind's text shares with another's
+abbrev pub second_of : Answer → ℕ
+second_of (answer.No side periods shear symbols) = 32
+second_of (answer.Nothing steps) = 78
+second_of (answer.List patterns) = 73
+second_of (answer.Least weight symbols steps) = 69
+second_of (answer.Bound numerator denominator common amounts duals) = 79
+second_of (answer.Broken part periods shear symbols) = 82
+second_of _ = 0
+
+abbrev pub Second : ℕ → ℕ → Answer → Type 0
+Second first second = Keyed (Row first) second_of second
+
+-- the text after so many bytes
+abbrev pub tail_text : ℕ → Answer → List ℕ
+tail_text n a = drop n (body_text a)
+
+abbrev pub Either : ℕ → ℕ → ℕ → Answer → Type 0
+Either first one two a = Second first one a ⊎ Second first two a
+
+either_first : (first one two : ℕ) (a : Answer) → Either first one two a → Row first a
+either_first first one two a (inl good) = good.0
+either_first first one two a (inr good) = good.0
+
+-- two kinds whose texts share a word, where the next byte tells them apart
+pub good_front : (w : List ℕ) (n first one two : ℕ) (f g : Form Answer) → (two == one) ≡ false → Good (Second first one) (tail_text n) f → Good (Second first two) (tail_text n) g
+    → ((a : Answer) → Row first a → (body_text a ≡ w ++ tail_text n a) × Either first one two a)
+    → ((a : Answer) → Row first a → (more : List ℕ) × (tail_text n a ≡ second_of a ∷ more))
+    → Good (Row first) body_text (after w (either one f g))
+good_front w n first one two f g apart good other shared next =
+    good_same (Either first one two) (λ a. w ++ tail_text n a) (after w (either one f g)) (Row first) body_text
+    (good_after w (Either first one two) (tail_text n) (either one f g)
+    (good_either (Second first one) (Second first two) (tail_text n) one f g good other
+    (λ a fits. let t = next a fits.0 in (t.0, t.1 ∙ ap (λ b. b ∷ t.0) fits.1))
+    (λ a fits. let t = next a fits.0 in (two, t.0, t.1 ∙ ap (λ b. b ∷ t.0) fits.1, apart))))
+    (λ a fits. let row = either_first first one two a fits in ((shared a row).0, row))
+    (λ a row. shared a row)

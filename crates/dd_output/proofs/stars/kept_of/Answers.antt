@@ -1,0 +1,20 @@
+use Rattle.std.proofs.Common.{◌≡◌, ◌++◌, ◌∷◌, [], Ok, length}
+use Rattle.dd_output.specs.reading.Stops.{item, entries_at}
+use Rattle.dd_output.specs.reading.Stars.{kept_entry}
+use Rattle.dd_output.proofs.Loops.{goes_on}
+use Rattle.dd_output.proofs.Starred.{kept_unrolls}
+use Rattle.dd_output.proofs.stars.kept_of.Goals as goal
+
+pub loop-symbols-smaller : goal.loop-symbols-smaller
+loop-symbols-smaller c =
+    let is : kept_entry (length c.loop-symbols.symbols) c.loop-symbols.rest.now ≡ Ok (item c.in_ok-symbol.symbol, c.in_ok-symbol.after.now) =
+    rw (← c.len.ensures) (rw c.if-is_last.false at c.in_ok-symbol.ensures) in
+    kept_unrolls.shorter (length c.loop-symbols.symbols) c.loop-symbols.rest.now c.in_ok-symbol.symbol c.in_ok-symbol.after.now is
+
+pub loop-symbols-preserved : goal.loop-symbols-preserved
+loop-symbols-preserved c =
+    let is : kept_entry (length c.loop-symbols.symbols) c.loop-symbols.rest.now ≡ Ok (item c.in_ok-symbol.symbol, c.in_ok-symbol.after.now) =
+    rw (← c.len.ensures) (rw c.if-is_last.false at c.in_ok-symbol.ensures) in
+    let pushed : c.push.new.self ≡ c.loop-symbols.symbols ++ c.in_ok-symbol.symbol ∷ [] = c.in_ok-push.ensures.ok in
+    rw pushed (goes_on kept_entry kept_unrolls c.loop-symbols.symbols c.loop-symbols.rest.now c.in_ok-symbol.symbol c.in_ok-symbol.after.now
+    (entries_at kept_entry 0 c.args.bytes.now) is c.loop-symbols.invariant)

@@ -1,0 +1,11 @@
+use Rattle.std.proofs.Common.{◌≡◌, ◌++◌, ◌∷◌, []}
+use Rattle.dd_output.specs.reading.Stops.{many_at}
+use Rattle.dd_output.specs.reading.Grammar.{starred}
+use Rattle.dd_output.proofs.Counts.{many_on}
+use Rattle.dd_output.proofs.stars.patterns_of.Goals as goal
+
+pub loop-preserved : goal.loop-preserved
+loop-preserved c =
+    let pushed : c.push.new.self ≡ c.loop.patterns ++ c.in_ok-pattern.pattern ∷ [] = c.in_ok-push.ensures.ok in
+    rw pushed (many_on starred.read starred.least c.loop.patterns c.args.count c.loop.counter c.loop.rest.now c.in_ok-pattern.pattern c.in_ok-pattern.after.now
+    (many_at starred.read starred.least c.args.count c.args.bytes.now) c.loop-test.true c.in_ok-pattern.ensures c.loop.invariant)

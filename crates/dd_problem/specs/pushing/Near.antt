@@ -1,0 +1,49 @@
+-- The cells that are read from a fundamental box, and its layout.
+use Rattle.std.specs.Prelude.{ℕ, nat_lt, ◌*◌, List, map, ◌++◌, slice_index}
+use Rattle.std.specs.List.{flat_map, range_with_len}
+use Rattle.dd_lattice.specs.Cells.{shifted}
+use Rattle.dd_lattice.specs.InOrder.{in_order}
+use Rattle.dd_lattice.specs.declared.position.Cell.{Cell}
+use Rattle.dd_pattern.specs.declared.periods.Periods.{Periods}
+use Rattle.dd_pattern.specs.Periods.{periods_volume}
+use Rattle.dd_pattern.specs.Tile.{Tile, tile, tile_index}
+use Rattle.dd_compile.specs.Wiring.{Wiring}
+use Rattle.dd_formula.specs.LocalRule.{LocalRule, cells_at}
+use Rattle.dd_boxes.specs.Cells.{box_cells}
+use Rattle.dd_boxes.specs.Goals.{GoalOf}
+use Rattle.dd_boxes.specs.Boxes.{goal_reach}
+use Rattle.dd_problem.specs.Layouts.{Layout, torus, torus_cells}
+use Rattle.dd_problem.specs.pushing.Numbered.{numbered_wiring}
+
+-- what a rule reads at a cell
+abbrev pub read_cells : LocalRule → Cell → List Cell
+read_cells x d = map (shifted d.position) (cells_at x d.node)
+
+-- what the premise reads at the cells, and the least box that holds what the goal reads at the origin, each cell once
+abbrev pub near_cells : LocalRule → GoalOf → List Cell → List Cell
+near_cells x g cells = in_order (box_cells x (goal_reach g) ++ flat_map (read_cells x) cells)
+
+-- the number that stands at a cell in a periodic configuration
+abbrev pub number_at : Tile → Cell → ℕ
+number_at t c = slice_index t.symbols (tile_index t c)
+
+-- each cell with the inputs of the number that stands there
+abbrev pub numbered_by : ℕ → Tile → List Cell → Wiring
+numbered_by m t cells = numbered_wiring m cells (map (number_at t) cells)
+
+-- the configuration in which each cell of the fundamental box has its number, from 0 in cell order
+abbrev pub numbered_tile : LocalRule → Periods → Tile
+numbered_tile x periods = tile x.dimension periods x.nodes (range_with_len 0 (periods_volume periods * x.nodes))
+
+-- what the premise and the goal read, each cell with the inputs of the one at its position modulo the periods
+abbrev pub torus_inputs : LocalRule → GoalOf → Periods → Wiring
+torus_inputs x g periods = numbered_by x.symbols (numbered_tile x periods) (near_cells x g (torus_cells x periods))
+
+-- every cell has the number of the one at its position modulo the periods
+abbrev pub torus_layout : LocalRule → GoalOf → Periods → Layout
+torus_layout x g periods = record {
+  has = λ c. nat_lt c.node x.nodes;
+  index = tile_index (torus x periods);
+  places = torus_cells x periods;
+  inputs = torus_inputs x g periods;
+}

@@ -1,0 +1,103 @@
+//! Least weights on tori: which may be asked for, and how many clauses they take.
+ghost use Rattle.std.specs.Prelude.{◌≡◌, ◌<◌, ◌^◌, ◌↔◌, IsTrue, IfErr, OnOk, length};
+ghost use Rattle.dd_pattern.specs.Periods.{periods_of, ArePeriodsIn};
+ghost use Rattle.dd_pattern.specs.Tile.{most_symbols};
+ghost use Rattle.dd_expansion.specs.Limits.{greatest};
+ghost use Rattle.dd_formula.specs.Counts.{cut};
+ghost use Rattle.dd_boxes.specs.Counts.{most_clauses};
+ghost use Rattle.dd_question.specs.Questions as asked;
+ghost use Rattle.dd_question.specs.Questions.{IsFormed, IsPartFault};
+ghost use Rattle.dd_question.specs.Tori.{positions_in, cells_in, IsTorus, weight_clauses, is_heavy};
+
+use crate::aims::MOST_CLAUSES;
+use crate::fault::QuestionFault;
+use crate::parts::has_weights;
+use dd_counts::place_clauses;
+use dd_formula::{Rule, plus, times};
+
+/// The greatest number of cells of a fundamental box.
+const MOST_CELLS: u32 = 65_536;
+
+/// The positions of the fundamental box, or `limit + 1` where they pass the limit, which is below 2^31.
+fn positions_in(limit: u32, periods: [u32; 3]) -> u32
+    requires { limit < 2 ^ 31 }
+    ensures { result ≡ cut limit (positions_in periods) }
+{
+    let [x, y, z] = periods;
+    times(limit, times(limit, z, y), x)
+}
+
+/// Its cells, cut off alike.
+fn cells_in(limit: u32, rule: &Rule, periods: [u32; 3]) -> u32
+    requires { limit < 2 ^ 31 }
+    ensures { result ≡ cut limit (cells_in rule.now periods) }
+{
+    times(limit, positions_in(limit, periods), rule.nodes())
+}
+
+/// Whether these are periods of a torus in so many dimensions.
+fn are_periods(dimension: u32, periods: [u32; 3]) -> bool
+    ensures { IsTrue result ↔ ArePeriodsIn dimension (periods_of periods 0) }
+{
+    let [x, y, z] = periods;
+    1 <= x && 1 <= y && 1 <= z && (2 <= dimension || y == 1) && (3 <= dimension || z == 1)
+}
+
+/// Whether the rule may have a torus with these periods.
+fn is_torus(rule: &Rule, periods: [u32; 3]) -> bool
+    ensures { IsTrue result ↔ IsTorus rule.now periods }
+{
+    are_periods(rule.dim(), periods) && cells_in(MOST_CELLS, rule, periods) <= MOST_CELLS
+}
+
+#[tactic(auto, using(crate::specs::Questions::periods_fault, crate::specs::Questions::symbol_weights_fault))]
+pub(crate) fn check_least(
+    rule: &Rule,
+    periods: [u32; 3],
+    weights: &[u32],
+) -> Result<(), QuestionFault>
+    ensures ok { OnOk result (IsFormed (asked.least rule.now periods weights.now)) }
+    ensures fault { IfErr result (IsPartFault (asked.least rule.now periods weights.now)) }
+{
+    // Read for what its type keeps.
+    let _nodes = rule.nodes();
+    if !is_torus(rule, periods) {
+        return Err(QuestionFault::Periods);
+    }
+    if !has_weights(rule, weights) {
+        return Err(QuestionFault::Weights);
+    }
+    Ok(())
+}
+
+fn greatest(weights: &[u32]) -> u32
+    ensures { result ≡ greatest weights.now }
+{
+    match weights {
+        [] => 0,
+        [first, rest @ ..] => (*first).max(greatest(rest)),
+    }
+}
+
+/// The clauses that ask for a weight, up to the greatest that the fundamental box can have, cut off past 2,000,000.
+fn weight_clauses(rule: &Rule, periods: [u32; 3], weights: &[u32]) -> u32
+    requires { length weights.now ≡ rule.now.symbols }
+    ensures { result ≡ cut most_clauses (weight_clauses rule.now periods weights.now) }
+{
+    let symbols = rule.symbols();
+    let place = place_clauses(rule, MOST_CLAUSES);
+    let torus = times(MOST_CLAUSES, positions_in(MOST_CLAUSES, periods), place);
+    let cells = cells_in(MOST_CLAUSES, rule, periods);
+    let heaviest = times(MOST_CLAUSES, cells, greatest(weights));
+    let each = times(MOST_CLAUSES, heaviest, 4 * symbols + 1);
+    let gates = times(MOST_CLAUSES, cells, each);
+    plus(MOST_CLAUSES, plus(MOST_CLAUSES, torus, gates), 1)
+}
+
+/// Whether these pass 2,000,000.
+pub(crate) fn is_heavy(rule: &Rule, periods: [u32; 3], weights: &[u32]) -> bool
+    requires { length weights.now ≡ rule.now.symbols }
+    ensures { result ≡ is_heavy rule.now periods weights.now }
+{
+    weight_clauses(rule, periods, weights) > MOST_CLAUSES
+}

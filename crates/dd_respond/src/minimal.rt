@@ -1,0 +1,24 @@
+//! Answers to questions about minimal forbidden patterns.
+ghost use Rattle.std.specs.Prelude.{IfOk};
+ghost use Rattle.dd_certificate.specs.Bounds.{IsWritable};
+ghost use Rattle.dd_question.specs.Lists.{HasFewPatterns};
+ghost use Rattle.dd_evidence.specs.Answers.{IsMinimalCertificate};
+
+use dd_certificate::Answer;
+use dd_evidence::{minimal_patterns, starred_fit};
+use dd_formula::Rule;
+use std::alloc::{AllocError, Global};
+
+/// The list of the patterns that a rule forbids, each without the cells that it can do without.
+#[tactic(auto, using(dd_evidence::specs::Answers::all_minimal))]
+pub(crate) fn smallest(alloc: Global, rule: &Rule) -> Result<Answer, AllocError>
+    requires { HasFewPatterns rule.now }
+    ensures right { IfOk result (IsMinimalCertificate rule.now) }
+    ensures writable { IfOk result IsWritable }
+{
+    starred_fit();
+    // Read for what its type keeps.
+    let _nodes = rule.nodes();
+    let patterns = minimal_patterns(alloc, rule)?;
+    Ok(Answer::Minimal { patterns })
+}

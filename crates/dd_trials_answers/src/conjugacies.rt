@@ -1,0 +1,94 @@
+// Whether an automaton maps one rule's configurations into another's, and whether two are inverse maps between them: what runs answer, and
+// what a check makes of the answers.
+use crate::outputs::{assert_answers, assert_checks, assert_lines};
+use std::test::Fail;
+
+// Scripts, and the first lines of their answers.
+const MAPS: [(&str, &str); 5] = [
+    (
+        "%dim 1 %rule full o@o %rule z o=0 %auto nul else 0 %auto id when o=1 give 1 else 0 %maps nul full z %maps id full z",
+        "query 1 YES 0\nquery 2 NO 1\n",
+    ),
+    // The shift to the left, the one to the right, and a map that loses what was there.
+    (
+        "%dim 1 %rule row o=1 -> o.rt=0 %auto sl when o.rt=1 give 1 else 0 %auto sr when o.lt=1 give 1 else 0 %auto nul else 0 %conjugate sl sr row row %conjugate nul nul row row",
+        "query 1 CONJUGATE 2 1 0 0\nquery 2 BROKEN 3 2\n",
+    ),
+    // The two nodes of a position exchanged.
+    (
+        "%topology hex %rule full o@o %auto ex when o.a=1 give 1 else 0 %conjugate ex ex full full",
+        "query 1 CONJUGATE 0 0 0 0\n",
+    ),
+    // All configurations of the rule have the period 3, past the limit: that the identity doesn't map it into the other isn't found, but
+    // that it doesn't map the other into it is.
+    (
+        "%dim 1 %alphabet 0 1 2 %limits 4 2 10 %rule cyc (o=0 -> o.rt=1) & (o=1 -> o.rt=2) & (o=2 -> o.rt=0) %rule no o!=1 %auto id when o=1 give 1 when o=2 give 2 else 0 %conjugate id id cyc no %conjugate id id no cyc",
+        "query 1 BROKEN 2 1\nquery 2 BROKEN 1 1\n",
+    ),
+    (
+        "%dim 1 %alphabet 0 1 2 %limits 4 2 10 %rule cyc (o=0 -> o.rt=1) & (o=1 -> o.rt=2) & (o=2 -> o.rt=0) %auto id when o=1 give 1 when o=2 give 2 else 0 %auto nul else 0 %conjugate nul nul cyc cyc %conjugate id id cyc cyc",
+        "query 1 UNKNOWN limits\nquery 2 CONJUGATE 1 1 0 0\n",
+    ),
+];
+
+// Scripts, and the whole answers, each with the configuration that shows it.
+const BROKEN: [(&str, &str); 6] = [
+    (
+        "%dim 1 %rule full o@o %rule z o=0 %auto id when o=1 give 1 else 0 %maps id full z",
+        "query 1 NO 1\nconf 1\n",
+    ),
+    // The image has a symbol that its node doesn't allow.
+    (
+        "%dim 1 %nodes a b %topology (x a [0] b) (x b [0] a) %only a 0 %rule full o@o %auto ex when o.x=1 give 1 else 0 %maps ex full full %conjugate ex ex full full",
+        "query 1 NO 1\nconf 0 1\nquery 2 BROKEN 1 1\nconf 0 1\n",
+    ),
+    (
+        "%dim 1 %rule z o=0 %rule full o@o %auto id when o=1 give 1 else 0 %conjugate id id z full",
+        "query 1 BROKEN 2 1\nconf 1\n",
+    ),
+    (
+        "%dim 1 %rule row o=1 -> o.rt=0 %auto nul else 0 %conjugate nul nul row row",
+        "query 1 BROKEN 3 2\nconf 1 0\n",
+    ),
+    (
+        "%rule full o@o %auto nul else 0 %auto id when o=1 give 1 else 0 %conjugate nul id full full",
+        "query 1 BROKEN 3 1 1\nconf 1\n",
+    ),
+    // One way round gives back what was there, and the other doesn't.
+    (
+        "%dim 1 %rule z o=0 %rule full o@o %auto id when o=1 give 1 else 0 %auto nul else 0 %conjugate id nul z full",
+        "query 1 BROKEN 4 1\nconf 1\n",
+    ),
+];
+
+const LOSING: &str =
+    "%dim 1 %limits 2 3 10 %rule row o=1 -> o.rt=0 %auto nul else 0 %conjugate nul nul row row";
+
+// The lines of an answer to this script, and whether a check accepts them.
+const CHECKED: [(&str, bool); 10] = [
+    ("query 1 BROKEN 3 2\nconf 1 0\n", true),
+    // Neither the question nor the periods need be the first.
+    ("query 1 BROKEN 4 2\nconf 1 0\n", true),
+    ("query 1 BROKEN 3 3\nconf 1 0 0\n", true),
+    ("query 1 UNKNOWN limits\n", true),
+    // At the origin what was there is given back.
+    ("query 1 BROKEN 3 2\nconf 0 1\n", false),
+    // It doesn't obey the rule; and the image of one that does is 0 throughout, which obeys the rule.
+    ("query 1 BROKEN 3 1\nconf 1\n", false),
+    ("query 1 BROKEN 1 2\nconf 1 0\n", false),
+    ("query 1 NO 2\nconf 1 0\n", false),
+    // No steps refute that something is lost.
+    (
+        "query 1 CONJUGATE 1 1 0 0\nrefutation 1\nstep 0 1 0 0\nrefutation 1\nstep 0 1 0 0\nrefutation 1\nstep 0 1 0 0\nrefutation 1\nstep 0 1 0 0\n",
+        false,
+    ),
+    ("query 1 YES 0\nrefutation 1\nstep 0 1 0 0\n", false),
+];
+
+#[test]
+fn compares_maps_and_their_inverses(rt: HostRuntime) -> Result<(), Fail> {
+    let alloc = rt.alloc();
+    assert_lines(&rt, alloc, &MAPS)?;
+    assert_answers(&rt, alloc, &BROKEN)?;
+    assert_checks(&rt, alloc, LOSING, &CHECKED)
+}

@@ -1,0 +1,76 @@
+// Minimal forbidden patterns: the lists that runs write, and what a check makes of each, and of lists that are not theirs.
+use crate::outputs::{assert_answers, assert_checks};
+use std::test::Fail;
+
+// Scripts, and the lines of their answers.
+const LISTS: [(&str, &str); 8] = [
+    // The cells are the origin, the one to the right and the one above. Of the three fillings that break the rule the first and the
+    // second leave a cell out each, and the third agrees with both.
+    (
+        "%rule hard o=1 -> (o.rt=0 & o.up=0) %minimal hard",
+        "query 1 MINIMAL 2\npattern 0 1 * 1\npattern 0 1 1 *\n",
+    ),
+    ("%rule full o@o %minimal full", "query 1 MINIMAL 0\n"),
+    // The rule is false whatever it reads, and where it reads nothing.
+    (
+        "%dim 1 %rule x o=0 & o=1 %rule y !(o@o) %minimal x %minimal y",
+        "query 1 MINIMAL 1\npattern 0 *\nquery 2 MINIMAL 1\npattern 0\n",
+    ),
+    // At the second node the move is missing, and the atom is false.
+    (
+        "%dim 1 %nodes a b %topology (x a [0] b) %rule p o.x=1 %minimal p",
+        "query 1 MINIMAL 2\npattern 0 0\npattern 1\n",
+    ),
+    // No cell can be left out.
+    (
+        "%dim 1 %rule eq o=o.rt %minimal eq",
+        "query 1 MINIMAL 2\npattern 0 0 1\npattern 0 1 0\n",
+    ),
+    // Where the cell is left out its allowed symbols alone count: with the symbol 1 the rule is true.
+    (
+        "%dim 1 %alphabet 0 1 2 %only 0 0 2 %rule a o=1 | o.rt=0 %minimal a",
+        "query 1 MINIMAL 1\npattern 0 * 2\n",
+    ),
+    // The pattern * 1 1 is minimal too, and each filling that it forbids is forbidden without it.
+    (
+        "%dim 1 %rule r !((o.lt=1 & o=1) | (o.lt=0 & o.rt=1)) %minimal r",
+        "query 1 MINIMAL 2\npattern 0 0 * 1\npattern 0 1 1 *\n",
+    ),
+    // One node after the other.
+    (
+        "%dim 1 %nodes a b %topology (x a [0] b) (x b [0] a) %only b 1 %rule p o=o.x %minimal p",
+        "query 1 MINIMAL 2\npattern 0 0 *\npattern 1 0 *\n",
+    ),
+];
+
+// The lines of an answer to the first script, and whether a check accepts them.
+const CHECKED: [(&str, bool); 7] = [
+    (
+        "query 1 MINIMAL 2\npattern 0 1 * 1\npattern 0 1 1 *\n",
+        true,
+    ),
+    (
+        "query 1 MINIMAL 2\npattern 0 1 1 *\npattern 0 1 * 1\n",
+        false,
+    ),
+    ("query 1 MINIMAL 1\npattern 0 1 * 1\n", false),
+    // The fillings that break the rule, whole.
+    (
+        "query 1 MINIMAL 3\npattern 0 1 0 1\npattern 0 1 1 0\npattern 0 1 1 1\n",
+        false,
+    ),
+    (
+        "query 1 LIST 3\npattern 0 1 0 1\npattern 0 1 1 0\npattern 0 1 1 1\n",
+        false,
+    ),
+    ("query 1 MINIMAL 0\n", false),
+    ("query 1 UNKNOWN limits\n", false),
+];
+
+#[test]
+fn lists_minimal_forbidden_patterns(rt: HostRuntime) -> Result<(), Fail> {
+    let alloc = rt.alloc();
+    assert_answers(&rt, alloc, &LISTS)?;
+    let (script, _) = LISTS[0];
+    assert_checks(&rt, alloc, script, &CHECKED)
+}

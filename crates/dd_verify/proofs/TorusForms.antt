@@ -1,0 +1,186 @@
+-- Answers to how little a fundamental box can weigh: their configurations, the room that their clauses have, that an output can
+-- hold them, and what they claim.
+use Rattle.std.proofs.Common.{◌≡◌, ◌≢◌, ℕ, suc, ◌*◌, ◌<◌, ◌≤◌, Bool, true, List, [], ◌∷◌, length, inl, inr, refl, ap, sym, subst, ◌∙◌, arith}
+use Rattle.std.specs.Prelude.{◌↔◌, max}
+use Rattle.std.specs.List.{All}
+use Rattle.std.proofs.lemmas.Nat.{mul-le}
+use Rattle.dd_values.specs.Bounds.{most_weight}
+use Rattle.dd_pattern.specs.declared.periods.Periods.{Periods}
+use Rattle.dd_pattern.specs.Periods.{periods_of, periods_volume}
+use Rattle.dd_pattern.specs.Tile.{Tile, tile, IsTile, IsPeriodic, most_symbols}
+use Rattle.dd_pattern.specs.Weight.{AreWeights, total_weight}
+use Rattle.dd_expansion.specs.Limits.{greatest}
+use Rattle.dd_formula.specs.LocalRule.{LocalRule, IsRule}
+use Rattle.dd_formula.specs.Living.{Fits}
+use Rattle.dd_strip.specs.Strips.{HasWeights}
+use Rattle.dd_derivation.specs.declared.step.Step.{Step}
+use Rattle.dd_derivation.specs.Derivations.{IsRefuting}
+use Rattle.dd_boxes.specs.Goals.{always}
+use Rattle.dd_boxes.specs.Counts.{most_clauses}
+use Rattle.dd_boxes.specs.Witnesses.{IsWitness}
+use Rattle.dd_problem.specs.TorusPeriods.{AreTorusPeriods}
+use Rattle.dd_counter.specs.Weights.{weight_problem, weight_count}
+use Rattle.dd_counter.specs.Least as counted
+use Rattle.dd_counter.specs.Laws.{SaysWeights}
+use Rattle.dd_counter.specs.lemmas.Counted.{weight_most}
+use Rattle.dd_counter.specs.lemmas.Rooms.{room_at}
+use Rattle.dd_certificate.specs.declared.answer.Answer.{Answer}
+use Rattle.dd_certificate.specs.declared.answer.Answer.TheVariants as answer
+use Rattle.dd_certificate.specs.Bounds.{IsWritable, IsWritableNumber, IsWritableList, IsWritableBelow, IsWritableRefutation}
+use Rattle.dd_question.specs.Tori.{IsTorus, IsWeighable}
+use Rattle.dd_verify.specs.Tori.{torus_tile, HasWeight, IsBoundedBy, IsTorusCertificate, torus_least, torus_none, TorusClaim, claims_least_on, claims_none_on}
+
+-- ---- the configuration
+
+-- that the code makes of the symbols
+pub torus_made : (x : LocalRule) (along : List ℕ) (d n : ℕ) (items symbols : List ℕ) → d ≡ x.dimension → n ≡ x.nodes → items ≡ symbols →
+    tile d (periods_of along 0) n items ≡ torus_tile x along symbols
+torus_made x along d n items symbols d_is n_is symbols_are =
+    ap (λ k. tile k (periods_of along 0) n items) d_is
+    ∙ (ap (λ k. tile x.dimension (periods_of along 0) k items) n_is ∙ ap (λ ss. tile x.dimension (periods_of along 0) x.nodes ss) symbols_are)
+
+abbrev pub IsOnTorus : LocalRule → List ℕ → List ℕ → Type 0
+IsOnTorus x along symbols = IsTile (torus_tile x along symbols) × Fits x (torus_tile x along symbols)
+
+pub fits_torus : (x : LocalRule) (along symbols : List ℕ) → All (λ s. s < x.symbols) symbols → Fits x (torus_tile x along symbols)
+fits_torus x along symbols below = record { dimension = refl; nodes = refl; symbols = below }
+
+-- it has few enough symbols
+pub torus_small : (x : LocalRule) (along symbols : List ℕ) → IsTorus x along → IsTile (torus_tile x along symbols) → IsPeriodic (torus_tile x along symbols)
+torus_small x along symbols torus is =
+    record { tile = is; small = (let full = is.full in let few = torus.few in omega (arith, full, few)) }
+
+pub on_torus_of : {x : LocalRule} {along ws : List ℕ} {w : ℕ} {symbols : List ℕ} → HasWeight x along ws w symbols → IsOnTorus x along symbols
+on_torus_of told = (told.lives.tile, told.lives.fits)
+
+-- what is tested of the configuration, is tested of its symbols
+pub weight_decides : (x : LocalRule) (along ws : List ℕ) (w : ℕ) (symbols : List ℕ) (t : Tile) (b : Bool) → t ≡ torus_tile x along symbols →
+    (b ≡ true) ↔ (IsWitness x always t × (total_weight ws t.symbols ≡ w)) → (b ≡ true) ↔ HasWeight x along ws w symbols
+weight_decides x along ws w symbols t b is told = (
+  λ h. (let both = subst (λ (u : Tile). IsWitness x always u × (total_weight ws u.symbols ≡ w)) is (told.0 h) in record { lives = both.0; weighs = both.1 }),
+  λ has. told.1 (subst (λ (u : Tile). IsWitness x always u × (total_weight ws u.symbols ≡ w)) (sym is) (has.lives, has.weighs)),
+)
+
+pub weights_for : (x : LocalRule) (ws : List ℕ) (t : Tile) → HasWeights x ws → Fits x t → AreWeights ws t.symbols
+weights_for x ws t weights fits =
+    record { known = subst (λ m. All (λ s. s < m) t.symbols) (sym weights.each) fits.symbols; small = weights.small }
+
+-- ---- the clauses
+
+pub torus_of : (x : LocalRule) (along : List ℕ) → IsTorus x along → AreTorusPeriods x (periods_of along 0)
+torus_of x along torus = record { periods = torus.periods; few = torus.few }
+
+same_greatest : (ws : List ℕ) → counted.greatest ws ≡ greatest ws
+same_greatest [] = refl
+same_greatest (w ∷ ws) = ap (max w) (same_greatest ws)
+
+room_most : (x : LocalRule) (along ws : List ℕ) → IsWeighable x along ws →
+    weight_count x (periods_of along 0) ws (periods_volume (periods_of along 0) * x.nodes * counted.greatest ws) ≤ most_clauses
+room_most x along ws weighable =
+    subst (λ g. weight_count x (periods_of along 0) ws (periods_volume (periods_of along 0) * x.nodes * g) ≤ most_clauses) (sym (same_greatest ws)) weighable.small
+
+pub room_of : (x : LocalRule) (along ws : List ℕ) (w : ℕ) (symbols : List ℕ) → IsWeighable x along ws → HasWeight x along ws w symbols →
+    weight_count x (periods_of along 0) ws w ≤ most_clauses
+room_of x along ws w symbols weighable has =
+    room_at x (periods_of along 0) ws (torus_tile x along symbols) w most_clauses (refl, has.lives) (sym has.weighs) (room_most x along ws weighable)
+
+pub room_none : (x : LocalRule) (along ws : List ℕ) → IsWeighable x along ws → weight_count x (periods_of along 0) ws 0 ≤ most_clauses
+room_none x along ws weighable = let most = room_most x along ws weighable in omega (arith, most)
+
+-- ---- the forms of certificates
+
+pub weight_of : {x : LocalRule} {along ws : List ℕ} {w : ℕ} {symbols : List ℕ} {steps : List Step} → IsTorusCertificate x along ws (answer.Least w symbols steps) →
+    HasWeight x along ws w symbols
+weight_of (torus_least has bounded) = has
+
+pub bounded_of : {x : LocalRule} {along ws : List ℕ} {w : ℕ} {symbols : List ℕ} {steps : List Step} → IsTorusCertificate x along ws (answer.Least w symbols steps) →
+    IsBoundedBy x along ws w steps
+bounded_of (torus_least has bounded) = bounded
+
+pub none_of : {x : LocalRule} {along ws : List ℕ} {steps : List Step} → IsTorusCertificate x along ws (answer.Nothing steps) →
+    IsRefuting (weight_problem x (periods_of along 0) ws 0) steps
+none_of (torus_none h) = h
+
+-- an answer of another form
+pub no_torus : (x : LocalRule) (along ws : List ℕ) (a : Answer) → ((w : ℕ) (symbols : List ℕ) (steps : List Step) → a ≢ answer.Least w symbols steps) →
+    ((steps : List Step) → a ≢ answer.Nothing steps) → IsTorusCertificate x along ws a → ⊥
+no_torus x along ws a least_form none_form (torus_least has bounded) = least_form _ _ _ refl
+no_torus x along ws a least_form none_form (torus_none h) = none_form _ refl
+
+-- ---- what an output can hold
+
+all_most : (ws : List ℕ) → All (λ w. w ≤ most_weight) ws → counted.greatest ws ≤ most_weight
+all_most [] small = omega arith
+all_most (w ∷ ws) small =
+    let first : w ≤ most_weight = small 0 w (omega arith) in
+    let rest : counted.greatest ws ≤ most_weight = all_most ws (λ k d below. small (suc k) d (omega (arith, below))) in
+    omega (arith, first, rest)
+
+module _ (x : LocalRule) (along ws : List ℕ) (rule : IsRule x) (weighable : IsWeighable x along ws) (w : ℕ) (symbols : List ℕ) (has : HasWeight x along ws w symbols) where
+  many : length symbols ≡ periods_volume (periods_of along 0) * x.nodes
+  many = has.lives.tile.full
+
+  pub weight_fits : IsWritableNumber w
+  weight_fits =
+      let le : total_weight ws symbols ≤ length symbols * counted.greatest ws = weight_most ws symbols in
+      let few : periods_volume (periods_of along 0) * x.nodes ≤ most_symbols = weighable.torus.few in
+      let cells : length symbols ≤ 65536 = (let full = many in omega (arith, few, full)) in
+      let bound : length symbols * counted.greatest ws ≤ 65536 * most_weight =
+      mul-le (length symbols) (counted.greatest ws) 65536 most_weight cells (all_most ws weighable.weights.small) in
+      let is = has.weighs in
+      omega (arith, le, bound, is)
+
+  pub symbols_fit : IsWritableList symbols
+  symbols_fit =
+      let p = periods_of along 0 in
+      let are = has.lives.tile.periods in
+      let rows : 1 ≤ p.z * p.y = mul-le 1 1 p.z p.y are.z_some are.y_some in
+      let plane : 1 ≤ p.z * p.y * p.x = mul-le 1 1 (p.z * p.y) p.x rows are.x_some in
+      let all : 1 ≤ p.z * p.y * p.x * x.nodes = mul-le 1 1 (p.z * p.y * p.x) x.nodes plane rule.nodes.0 in
+      let full = many in
+      let most = rule.symbols.1 in
+      (omega (arith, all, full), λ k d h. let below = has.lives.fits.symbols k d h in omega (arith, below, most))
+
+  pub least_decides : (steps : List Step) (b : Bool) → (b ≡ true) ↔ (IsWritableBelow w steps × IsBoundedBy x along ws w steps) →
+      (b ≡ true) ↔ (IsWritable (answer.Least w symbols steps) × IsTorusCertificate x along ws (answer.Least w symbols steps))
+  least_decides steps b told = (
+    λ h. ((weight_fits, symbols_fit, (told.0 h).0), torus_least has (told.0 h).1),
+    λ both. told.1 (both.0.2, bounded_of both.1),
+  )
+
+-- with 0 there is nothing to refute, and there are no steps
+pub nothing_below : (x : LocalRule) (along ws : List ℕ) (w : ℕ) (steps : List Step) (b : Bool) → w ≡ 0 → (b ≡ true) ↔ (steps ≡ []) →
+    (b ≡ true) ↔ (IsWritableBelow w steps × IsBoundedBy x along ws w steps)
+nothing_below x along ws w steps b zero_is told = (
+  λ h. (inl (zero_is, told.0 h), λ some. absurd (omega (arith, some, zero_is))),
+  λ both. elim both.0 [
+    | inl none ↦ told.1 none.1
+    | inr some ↦ (let one = some.0 in absurd (omega (arith, one, zero_is)))
+  ],
+)
+
+-- with more there are steps, of a refutation
+pub something_below : (x : LocalRule) (along ws : List ℕ) (w : ℕ) (steps : List Step) (b : Bool) → w ≢ 0 →
+    (b ≡ true) ↔ IsRefuting (weight_problem x (periods_of along 0) ws w) steps → (b ≡ true → IsWritableRefutation steps) →
+    (b ≡ true) ↔ (IsWritableBelow w steps × IsBoundedBy x along ws w steps)
+something_below x along ws w steps b some told fit =
+    let positive : 0 < w = omega (arith, some) in
+    (λ h. (inr (positive, fit h), λ more. told.0 h), λ both. told.1 (both.1 positive))
+
+pub none_decides : (x : LocalRule) (along ws : List ℕ) (steps : List Step) (b : Bool) → (b ≡ true) ↔ IsRefuting (weight_problem x (periods_of along 0) ws 0) steps →
+    (b ≡ true → IsWritableRefutation steps) → (b ≡ true) ↔ (IsWritable (answer.Nothing steps) × IsTorusCertificate x along ws (answer.Nothing steps))
+none_decides x along ws steps b told fit = (λ h. (fit h, torus_none (told.0 h)), λ both. told.1 (none_of both.1))
+
+-- ---- what they claim
+
+-- the law of weights
+abbrev AreSaid : LocalRule → Type 0
+AreSaid x = (p : Periods) (ws : List ℕ) → AreTorusPeriods x p → length ws ≡ x.symbols → SaysWeights x p ws
+
+pub torus_claims : (x : LocalRule) (along ws : List ℕ) → AreSaid x → IsWeighable x along ws → (a : Answer) → IsTorusCertificate x along ws a → TorusClaim x along ws a
+torus_claims x along ws said weighable a (torus_least {w = w} {symbols = symbols} {steps = steps} has bounded) =
+    let says = said (periods_of along 0) ws (torus_of x along weighable.torus) weighable.weights.each in
+    claims_least_on (says.least w (torus_tile x along symbols) steps (refl, has.lives) has.weighs bounded)
+torus_claims x along ws said weighable a (torus_none {steps = steps} h) =
+    let says = said (periods_of along 0) ws (torus_of x along weighable.torus) weighable.weights.each in
+    claims_none_on (says.none steps h)

@@ -1,0 +1,128 @@
+//! Answers to whether two maps are inverse to each other: four box questions.
+ghost use Rattle.std.specs.Prelude.{[], ◌<◌, ◌↔◌, length, slice_index_or, IsTrue, IfOk};
+ghost use Rattle.dd_boxes.specs.Views.{goal_of};
+ghost use Rattle.dd_certificate.specs.declared.answer.Answer.TheVariants as answer;
+ghost use Rattle.dd_certificate.specs.Bounds.{IsWritable, IsWritableRefutation};
+ghost use Rattle.dd_question.specs.Boxes.{IsAskable, IsSoundBox};
+ghost use Rattle.dd_question.specs.Conjugacies.{EachPart, conjugacy_of};
+ghost use Rattle.dd_values.specs.Ranges.{AreLimits};
+ghost use Rattle.dd_verify.specs.Evidence.{IsYes, IsConjugacyCertificate};
+
+use crate::boxes::is_limits;
+use crate::refutations::check_yes;
+use crate::witnesses::check_no;
+use dd_boxes::Goal;
+use dd_certificate::Answer;
+use dd_derivation::Step;
+use dd_formula::Rule;
+use dd_question::Conjugacy;
+use dd_values::{Items, Limits};
+use std::alloc::{AllocError, Global};
+
+/// How many questions a conjugacy is.
+const PARTS: usize = 4;
+
+/// Whether the radius and the steps with this number are a YES to the question.
+fn check_at(
+    alloc: Global,
+    premise: &Rule,
+    goal: &Goal,
+    limits: &Limits,
+    radii: &[u64],
+    steps: &[Items<Step>],
+    number: usize,
+) -> Result<bool, AllocError>
+    requires askable { IsAskable limits.now premise.now (goal_of premise.now goal.now) }
+    requires radius { number < length radii.now }
+    requires steps { number < length steps.now }
+    ensures exact { IfOk result (λ accepted. IsTrue accepted ↔
+        IsYes limits.now premise.now (goal_of premise.now goal.now) (slice_index_or radii.now number 0) (slice_index_or steps.now number [])) }
+    ensures writable { IfOk result (λ accepted. IsTrue accepted → IsWritableRefutation (slice_index_or steps.now number [])) }
+{
+    let refutation = steps[number].as_slice();
+    check_yes(alloc, premise, goal, limits, radii[number], refutation)
+}
+
+/// Whether each of the four questions has a YES.
+fn check_each(
+    alloc: Global,
+    c: &Conjugacy,
+    limits: &Limits,
+    radii: &[u64],
+    steps: &[Items<Step>],
+) -> Result<bool, AllocError>
+    requires limits { AreLimits limits.now }
+    requires sound { EachPart (IsSoundBox limits.now) (conjugacy_of c.now) }
+    ensures { IfOk result (λ accepted. IsTrue accepted ↔ (IsWritable (answer.Conjugate radii.now steps.now)
+        × IsConjugacyCertificate limits.now (conjugacy_of c.now) (answer.Conjugate radii.now steps.now))) }
+{
+    if radii.len() != PARTS || steps.len() != PARTS {
+        return Ok(false);
+    }
+    if !check_at(alloc, c.from, &c.image, limits, radii, steps, 0)? {
+        return Ok(false);
+    }
+    if !check_at(alloc, c.to, &c.image_back, limits, radii, steps, 1)? {
+        return Ok(false);
+    }
+    if !check_at(alloc, c.from, &c.round, limits, radii, steps, 2)? {
+        return Ok(false);
+    }
+    check_at(alloc, c.to, &c.round_back, limits, radii, steps, 3)
+}
+
+/// Whether the configuration is a NO to the question with this number.
+fn check_part(
+    alloc: Global,
+    c: &Conjugacy,
+    limits: &Limits,
+    part: u64,
+    periods: &[u64],
+    shear: u64,
+    symbols: &[u64],
+) -> Result<bool, AllocError>
+    requires limits { AreLimits limits.now }
+    requires sound { EachPart (IsSoundBox limits.now) (conjugacy_of c.now) }
+    ensures { IfOk result (λ accepted. IsTrue accepted ↔ (IsWritable (answer.Broken part periods.now shear symbols.now)
+        × IsConjugacyCertificate limits.now (conjugacy_of c.now) (answer.Broken part periods.now shear symbols.now))) }
+{
+    match c.part(part) {
+        Some((premise, goal)) => check_no(alloc, premise, &goal, limits, periods, shear, symbols),
+        None => Ok(false),
+    }
+}
+
+/// Whether an answer is a certificate of whether two maps are inverse to each other, one that an output can hold.
+#[tactic(auto, using(crate::specs::Evidence::conjugacy_unknown))]
+pub(crate) fn check_conjugacy(
+    alloc: Global,
+    c: &Conjugacy,
+    limits: &Limits,
+    answer: &Answer,
+) -> Result<bool, AllocError>
+    requires limits { AreLimits limits.now }
+    requires sound { EachPart (IsSoundBox limits.now) (conjugacy_of c.now) }
+    ensures { IfOk result (λ accepted. IsTrue accepted ↔ (IsWritable answer.now × IsConjugacyCertificate limits.now (conjugacy_of c.now) answer.now)) }
+{
+    match answer {
+        Answer::Conjugate { radii, steps } => {
+            check_each(alloc, c, limits, radii.as_slice(), steps.as_slice())
+        }
+        Answer::Broken {
+            part,
+            periods,
+            shear,
+            symbols,
+        } => check_part(
+            alloc,
+            c,
+            limits,
+            *part,
+            periods.as_slice(),
+            *shear,
+            symbols.as_slice(),
+        ),
+        Answer::Unknown { reason } => Ok(is_limits(*reason)),
+        _ => Ok(false),
+    }
+}

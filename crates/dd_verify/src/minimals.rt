@@ -1,0 +1,56 @@
+//! Answers to questions about minimal forbidden patterns.
+ghost use Rattle.std.specs.Prelude.{◌≡◌, ◌↔◌, IsTrue, IfOk};
+ghost use Rattle.dd_certificate.specs.Bounds.{IsWritable};
+ghost use Rattle.dd_question.specs.Lists.{HasFewPatterns};
+ghost use Rattle.dd_evidence.specs.Lists.{IsStarredList};
+ghost use Rattle.dd_evidence.specs.Answers.{IsMinimalCertificate};
+
+use dd_certificate::{Answer, Starred};
+use dd_evidence::{minimal_patterns, one_starred, starred_fit};
+use dd_formula::Rule;
+use std::alloc::{AllocError, Global};
+
+fn is_same(left: &Starred, right: &Starred) -> bool
+    ensures { IsTrue result ↔ (left.now ≡ right.now) }
+{
+    left.node == right.node && left.symbols.as_slice() == right.symbols.as_slice()
+}
+
+fn are_same(left: &[Starred], right: &[Starred]) -> bool
+    ensures { IsTrue result ↔ (left.now ≡ right.now) }
+{
+    if left.len() != right.len() {
+        return false;
+    }
+    for at in 0..left.len() {
+        if !is_same(&left[at], &right[at]) {
+            return false;
+        }
+    }
+    true
+}
+
+/// Whether these are the minimal patterns of the rule, in their order.
+fn is_minimal(alloc: Global, rule: &Rule, patterns: &[Starred]) -> Result<bool, AllocError>
+    requires { HasFewPatterns rule.now }
+    ensures { IfOk result (λ same. IsTrue same ↔ IsStarredList rule.now patterns.now) }
+{
+    one_starred();
+    let list = minimal_patterns(alloc, rule)?;
+    Ok(are_same(list.as_slice(), patterns))
+}
+
+/// Whether an answer is the list of the minimal patterns that a rule forbids, one that an output can hold.
+#[tactic(auto, using(dd_evidence::specs::Answers::all_minimal))]
+pub(crate) fn check_minimal(alloc: Global, rule: &Rule, answer: &Answer) -> Result<bool, AllocError>
+    requires { HasFewPatterns rule.now }
+    ensures { IfOk result (λ accepted. IsTrue accepted ↔ (IsWritable answer.now × IsMinimalCertificate rule.now answer.now)) }
+{
+    starred_fit();
+    // Read for what its type keeps.
+    let _nodes = rule.nodes();
+    match answer {
+        Answer::Minimal { patterns } => is_minimal(alloc, rule, patterns.as_slice()),
+        _ => Ok(false),
+    }
+}

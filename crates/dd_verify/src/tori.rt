@@ -1,0 +1,182 @@
+//! Answers to how little a fundamental box can weigh: a configuration, and steps that refute every smaller weight.
+ghost use Rattle.std.specs.Prelude.{◌≡◌, ◌≤◌, ◌<◌, ◌↔◌, length, IsTrue, IfOk, MatchOption};
+ghost use Rattle.dd_pattern.specs.Periods.{periods_of};
+ghost use Rattle.dd_pattern.specs.Tile.{IsTile};
+ghost use Rattle.dd_pattern.specs.Weight.{total_weight};
+ghost use Rattle.dd_formula.specs.Living.{Fits};
+ghost use Rattle.dd_strip.specs.Strips.{HasWeights};
+ghost use Rattle.dd_derivation.specs.Derivations.{IsRefuting};
+ghost use Rattle.dd_boxes.specs.Goals.{always};
+ghost use Rattle.dd_boxes.specs.Counts.{most_clauses};
+ghost use Rattle.dd_boxes.specs.Witnesses.{IsWitness};
+ghost use Rattle.dd_problem.specs.TorusPeriods.{AreTorusPeriods};
+ghost use Rattle.dd_counter.specs.Weights.{weight_problem, weight_count};
+ghost use Rattle.dd_certificate.specs.declared.answer.Answer.TheVariants as answer;
+ghost use Rattle.dd_certificate.specs.Bounds.{IsWritable, IsWritableBelow, IsWritableRefutation};
+ghost use Rattle.dd_question.specs.Tori.{IsTorus, IsWeighable};
+ghost use Rattle.dd_verify.specs.Tori.{torus_tile, HasWeight, IsBoundedBy, IsTorusCertificate};
+
+use crate::configurations::shows;
+use crate::witnesses::narrowed;
+use dd_boxes::Goal;
+use dd_certificate::{Answer, refutations_fit};
+use dd_counter::weight_clauses;
+use dd_derivation::{Marks, Step, check_refutation, last_number};
+use dd_formula::Rule;
+use dd_pattern::Periodic;
+use std::alloc::{AllocError, Global};
+
+/// The configuration with these symbols, where there is one of the rule's dimension, nodes and alphabet.
+fn on_torus(
+    alloc: Global,
+    rule: &Rule,
+    periods: [u32; 3],
+    symbols: &[u64],
+) -> Result<Option<Periodic>, AllocError>
+    requires { IsTorus rule.now periods }
+    ensures { IfOk result (λ found. MatchOption found (IsTile (torus_tile rule.now periods symbols.now) × Fits rule.now (torus_tile rule.now periods symbols.now) → ⊥)
+        (λ periodic. (periodic ≡ torus_tile rule.now periods symbols.now) × Fits rule.now (torus_tile rule.now periods symbols.now))) }
+{
+    let Some(list) = narrowed(alloc, symbols, rule.symbols())? else {
+        return Ok(None);
+    };
+    match Periodic::new(rule.dim(), periods, 0, rule.nodes(), list) {
+        Ok(periodic) => Ok(Some(periodic)),
+        Err(_) => Ok(None),
+    }
+}
+
+/// Whether the configuration lives in the rule's subshift and has this weight.
+fn weighs(
+    alloc: Global,
+    rule: &Rule,
+    weights: &[u32],
+    weight: u64,
+    periodic: &Periodic,
+) -> Result<bool, AllocError>
+    requires fits { Fits rule.now periodic.now }
+    requires weights { HasWeights rule.now weights.now }
+    ensures { IfOk result (λ shown. IsTrue shown ↔ (IsWitness rule.now always periodic.now × (total_weight weights.now periodic.now.symbols ≡ weight))) }
+{
+    if periodic.weight(weights) != weight {
+        return Ok(false);
+    }
+    shows(alloc, rule, &Goal::Always, periodic)
+}
+
+/// Whether the symbols are those of a configuration that lives in the rule's subshift and has this weight.
+fn has_weight(
+    alloc: Global,
+    rule: &Rule,
+    periods: [u32; 3],
+    weights: &[u32],
+    weight: u64,
+    symbols: &[u64],
+) -> Result<bool, AllocError>
+    requires { IsWeighable rule.now periods weights.now }
+    ensures { IfOk result (λ shown. IsTrue shown ↔ HasWeight rule.now periods weights.now weight symbols.now) }
+{
+    match on_torus(alloc, rule, periods, symbols)? {
+        None => Ok(false),
+        Some(periodic) => weighs(alloc, rule, weights, weight, &periodic),
+    }
+}
+
+/// Whether the steps refute the clauses that ask for a configuration that lives and weighs less than `below`, where this is at
+/// least 1.
+fn refutes_below(
+    alloc: Global,
+    rule: &Rule,
+    periods: [u32; 3],
+    weights: &[u32],
+    below: u64,
+    steps: &[Step],
+) -> Result<bool, AllocError>
+    requires periods { AreTorusPeriods rule.now (periods_of periods 0) }
+    requires weights { length weights.now ≡ rule.now.symbols }
+    requires count { weight_count rule.now (periods_of periods 0) weights.now below ≤ most_clauses }
+    ensures exact { IfOk result (λ refuted. IsTrue refuted ↔ IsRefuting (weight_problem rule.now (periods_of periods 0) weights.now below) steps.now) }
+    ensures writable { IfOk result (λ refuted. IsTrue refuted → IsWritableRefutation steps.now) }
+{
+    refutations_fit();
+    let cnf = weight_clauses(alloc, rule, periods, weights, below)?;
+    // Read for their bounds alone.
+    let _variable = cnf.variables();
+    let _number = last_number(&cnf, steps);
+    let mut marks = Marks::new(alloc, &cnf, steps)?;
+    Ok(check_refutation(&cnf, steps, &mut marks))
+}
+
+/// Whether the steps refute that a configuration lives and weighs less; there are none where nothing weighs less than 0.
+fn bounds(
+    alloc: Global,
+    rule: &Rule,
+    periods: [u32; 3],
+    weights: &[u32],
+    weight: u64,
+    steps: &[Step],
+) -> Result<bool, AllocError>
+    requires periods { AreTorusPeriods rule.now (periods_of periods 0) }
+    requires weights { length weights.now ≡ rule.now.symbols }
+    requires count { weight_count rule.now (periods_of periods 0) weights.now weight ≤ most_clauses }
+    ensures { IfOk result (λ shown. IsTrue shown ↔ (IsWritableBelow weight steps.now × IsBoundedBy rule.now periods weights.now weight steps.now)) }
+{
+    if weight == 0 {
+        return Ok(steps.is_empty());
+    }
+    refutes_below(alloc, rule, periods, weights, weight, steps)
+}
+
+/// Whether this is the least weight, by the configuration and the steps, and an output can hold them.
+fn is_least(
+    alloc: Global,
+    rule: &Rule,
+    periods: [u32; 3],
+    weights: &[u32],
+    weight: u64,
+    symbols: &[u64],
+    steps: &[Step],
+) -> Result<bool, AllocError>
+    requires { IsWeighable rule.now periods weights.now }
+    ensures { IfOk result (λ accepted. IsTrue accepted ↔ (IsWritable (answer.Least weight symbols.now steps.now)
+        × IsTorusCertificate rule.now periods weights.now (answer.Least weight symbols.now steps.now))) }
+{
+    // Read for what its type keeps.
+    let _nodes = rule.nodes();
+    if !has_weight(alloc, rule, periods, weights, weight, symbols)? {
+        return Ok(false);
+    }
+    bounds(alloc, rule, periods, weights, weight, steps)
+}
+
+/// Whether an answer is a certificate of how little a fundamental box can weigh, one that an output can hold.
+pub(crate) fn check_torus(
+    alloc: Global,
+    rule: &Rule,
+    periods: [u32; 3],
+    weights: &[u32],
+    answer: &Answer,
+) -> Result<bool, AllocError>
+    requires { IsWeighable rule.now periods weights.now }
+    ensures { IfOk result (λ accepted. IsTrue accepted ↔ (IsWritable answer.now × IsTorusCertificate rule.now periods weights.now answer.now)) }
+{
+    match answer {
+        Answer::Least {
+            weight,
+            symbols,
+            steps,
+        } => is_least(
+            alloc,
+            rule,
+            periods,
+            weights,
+            *weight,
+            symbols.as_slice(),
+            steps.as_slice(),
+        ),
+        Answer::Nothing { steps } => {
+            refutes_below(alloc, rule, periods, weights, 0, steps.as_slice())
+        }
+        _ => Ok(false),
+    }
+}
