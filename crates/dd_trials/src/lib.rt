@@ -12,7 +12,11 @@ mod fillings;
 #[cfg(test)]
 mod hexagons;
 #[cfg(test)]
+mod images;
+#[cfg(test)]
 mod inputs;
+#[cfg(test)]
+mod minimal;
 #[cfg(test)]
 mod questions;
 #[cfg(test)]

@@ -1,5 +1,5 @@
 // Scripts of the tests.
-use dd_script::{Script, parse};
+use dd_script::{Script, ScriptFault, parse};
 use std::alloc::{AllocError, Global};
 use std::test::Fail;
 
@@ -12,11 +12,16 @@ fn joined(alloc: Global, parts: &[&str]) -> Result<Vec<u8>, AllocError> {
     Ok(bytes)
 }
 
-/// The script of a text in parts.
-pub(crate) fn script_of(alloc: Global, parts: &[&str]) -> Result<Script, Fail> {
+/// The script of a text in parts, or why it is none.
+pub(crate) fn parsed(alloc: Global, parts: &[&str]) -> Result<Result<Script, ScriptFault>, Fail> {
     let bytes = joined(alloc, parts)?;
     if bytes.len() > 1_048_576 {
         return Err("a short script".into());
     }
-    Ok(parse(alloc, &bytes)?)
+    Ok(parse(alloc, &bytes))
+}
+
+/// The script of a text in parts.
+pub(crate) fn script_of(alloc: Global, parts: &[&str]) -> Result<Script, Fail> {
+    Ok(parsed(alloc, parts)??)
 }

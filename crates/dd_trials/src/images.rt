@@ -1,0 +1,247 @@
+// The pairs of automata by which images and conjugacies are asked for, on configurations.
+
+use crate::scripts::{parsed, script_of};
+use dd_automaton::apply;
+use dd_formed::{CommonNumbers, is_automaton};
+use dd_formula::Automaton;
+use dd_pattern::Periodic;
+use dd_question::Conjugacy;
+use dd_script::{Goal, Limit, Question, Script, ScriptFault, ScriptKind};
+use std::alloc::Global;
+use std::process::Abort;
+use std::test::Fail;
+
+/// The configuration's image under the automaton.
+fn image(
+    alloc: Global,
+    automaton: &Automaton,
+    periodic: &Periodic,
+    symbols: u32,
+) -> Result<Periodic, Fail> {
+    let numbers = CommonNumbers {
+        dimension: periodic.dim(),
+        nodes: periodic.nodes(),
+        symbols,
+    };
+    if !periodic.symbols().iter().all(|s| *s < symbols) {
+        return Err("symbols of the automaton".into());
+    }
+    if !is_automaton(alloc, automaton, numbers)? {
+        return Err("an automaton with these numbers".into());
+    }
+    Ok(apply(alloc, automaton, periodic)?)
+}
+
+/// Asserts the images of the script's first configuration under the two automata that the goal compares.
+fn assert_images(
+    rt: &impl Abort,
+    alloc: Global,
+    script: &Script,
+    goal: &Goal,
+    first: &[u32],
+    second: &[u32],
+) -> Result<(), Fail> {
+    let Goal::Differ(left, right) = goal else {
+        return Err("a goal of two automata".into());
+    };
+    let periodic = script.configurations().first().ok_or("a configuration")?;
+    let symbols = script.sets().symbols();
+    assert_eq!(rt; image(alloc, left, periodic, symbols)?.symbols(), first);
+    assert_eq!(rt; image(alloc, right, periodic, symbols)?.symbols(), second);
+    Ok(())
+}
+
+/// Asserts the same of the first box question of the script.
+fn assert_image(
+    rt: &impl Abort,
+    alloc: Global,
+    script: &Script,
+    first: &[u32],
+    second: &[u32],
+) -> Result<(), Fail> {
+    for query in script.queries() {
+        if let Question::Box { goal, .. } = script.question(query).question() {
+            return assert_images(rt, alloc, script, &goal, first, second);
+        }
+    }
+    Err("a box question".into())
+}
+
+/// Asserts what the two ways round give for the script's first conjugacy: the map and then the map back, and the other way.
+fn assert_rounds(
+    rt: &impl Abort,
+    alloc: Global,
+    script: &Script,
+    own: &[u32],
+    rounds: (&[u32], &[u32]),
+) -> Result<(), Fail> {
+    for query in script.queries() {
+        if let Question::Conjugacy { conjugacy } = script.question(query).question() {
+            let Conjugacy {
+                round,
+                round_back,
+                ..
+            } = conjugacy;
+            assert_images(rt, alloc, script, &round, rounds.0, own)?;
+            return assert_images(rt, alloc, script, &round_back, rounds.1, own);
+        }
+    }
+    Err("a conjugacy".into())
+}
+
+const LINE: &str = "%dim 1 %rule x o@o %conf c [6] 0 1 1 0 0 0 ";
+
+// The second node has the symbol 0 only.
+const HEX: &str = "%topology hex %only 1 0 %rule x o@o %conf c [2 1] 1 0 0 0 ";
+
+const LEFT: &str = "%auto f when o.rt=1 give 1 else 0 ";
+
+const RIGHT: &str = "%auto f when o.lt=1 give 1 else 0 ";
+
+const ONES: &str = "%auto f else 1 ";
+
+const ZEROS: &str = "%auto f else 0 ";
+
+// At (0,0) the two nodes take each other's symbol.
+const ACROSS: &str = "%auto f when o.a=1 give 1 else 0 ";
+
+const APART: &str = "%rule y o=1 -> o.rt=0";
+
+const FULL: &str = "%rule y o@o";
+
+/// A setting with a configuration, an automaton, a rule, and 1 at the cells where the configuration's image breaks the rule or has a
+/// symbol that isn't allowed.
+const IMAGES: &[(&str, &str, &str, &[u32])] = &[
+    // The images are 1 1 0 0 0 0, 0 0 1 1 0 0 and 1 1 1 1 1 1.
+    (LINE, LEFT, APART, &[1, 0, 0, 0, 0, 0]),
+    (LINE, LEFT, FULL, &[0; 6]),
+    (LINE, RIGHT, APART, &[0, 0, 1, 0, 0, 0]),
+    (LINE, RIGHT, FULL, &[0; 6]),
+    (LINE, ONES, APART, &[1; 6]),
+    (LINE, ONES, FULL, &[0; 6]),
+    (HEX, ONES, FULL, &[0, 1, 0, 1]),
+    // The image is 0 1 0 0.
+    (HEX, ACROSS, FULL, &[0, 1, 0, 0]),
+    // The first node at (1,0) has the second one at (0,0) as its neighbour along b.
+    (HEX, ACROSS, "%rule y o.b=0", &[0, 1, 1, 0]),
+    (HEX, ACROSS, "%rule y o.b=1", &[1, 1, 0, 1]),
+];
+
+#[test]
+fn images_that_break_rules(rt: HostRuntime) -> Result<(), Fail> {
+    for (setting, automaton, rule, marks) in IMAGES {
+        let script = script_of(rt.alloc(), &[*setting, *automaton, *rule, " %maps f x y"])?;
+        let zeros = vec![in rt.alloc(); 0u32; marks.len()]?;
+        assert_image(&rt, rt.alloc(), &script, marks, &zeros)?;
+    }
+    Ok(())
+}
+
+// 64 negations, which are 64 deep, and 63.
+const DEEP: &str = "%rule y !!!!!!!!!!!!!!!!!!!!!!!!!!!!!!!!!!!!!!!!!!!!!!!!!!!!!!!!!!!!!!!!o=1";
+
+const LESS_DEEP: &str =
+    "%rule y !!!!!!!!!!!!!!!!!!!!!!!!!!!!!!!!!!!!!!!!!!!!!!!!!!!!!!!!!!!!!!!o=1";
+
+/// A setting, a rule, and whether the rule is too deep once it also says that the symbols are allowed.
+const DEPTHS: &[(&str, &str, bool)] = &[
+    ("%topology hex ", DEEP, false),
+    ("%topology hex %only 1 0 ", DEEP, true),
+    ("%topology hex %only 1 0 ", LESS_DEEP, false),
+    ("%dim 1 ", DEEP, false),
+    ("%dim 1 %only 0 1 ", DEEP, true),
+    ("%dim 1 %only 0 0 1 ", DEEP, false),
+];
+
+/// Whether the text in parts is a script, or passes the limit on depth.
+fn is_deep(alloc: Global, parts: &[&str]) -> Result<bool, Fail> {
+    match parsed(alloc, parts)? {
+        Ok(_) => Ok(false),
+        Err(
+            ScriptFault {
+                kind: ScriptKind::Size(Limit::Depth),
+                ..
+            },
+        ) => Ok(true),
+        Err(fault) => Err(fault.into()),
+    }
+}
+
+#[test]
+fn rules_too_deep_for_images(rt: HostRuntime) -> Result<(), Fail> {
+    for (setting, rule, wanted) in DEPTHS {
+        let parts = [*setting, ZEROS, "%rule x o@o ", *rule, " %maps f x y"];
+        assert_eq!(rt; is_deep(rt.alloc(), &parts)?, *wanted, "{setting} {rule}");
+    }
+    Ok(())
+}
+
+const THREE: &str = "%dim 1 %alphabet 0 1 2 %rule x o@o %conf c [3] 0 1 2 ";
+
+// Each second node has the first ones at its place and one further as its neighbours along a and along b.
+const HEXAGONS: &str = "%topology hex %rule x o@o %conf c [3 1] 1 0 0 0 0 0 ";
+
+/// A setting with a configuration, a map and a map back, the configuration, its image under the map and then the map back, and that
+/// under the map back and then the map.
+const ROUNDS: &[(&str, &str, &str, &[u32], &[u32], &[u32])] = &[
+    (
+        LINE,
+        RIGHT,
+        "%auto g when o.rt=1 give 1 else 0",
+        &[0, 1, 1, 0, 0, 0],
+        &[0, 1, 1, 0, 0, 0],
+        &[0, 1, 1, 0, 0, 0],
+    ),
+    (
+        LINE,
+        LEFT,
+        "%auto g when o.rt=1 give 1 else 0",
+        &[0, 1, 1, 0, 0, 0],
+        &[1, 0, 0, 0, 0, 1],
+        &[1, 0, 0, 0, 0, 1],
+    ),
+    (
+        LINE,
+        "%auto f when o=0 give 1 else 0 ",
+        "%auto g else 0",
+        &[0, 1, 1, 0, 0, 0],
+        &[0; 6],
+        &[1; 6],
+    ),
+    (
+        THREE,
+        "%auto f when o=1 give 2 when o=2 give 1 else 0 ",
+        "%auto g when o=1 give 2 when o=2 give 1 else 0",
+        &[0, 1, 2],
+        &[0, 1, 2],
+        &[0, 1, 2],
+    ),
+    (
+        THREE,
+        "%auto f else 2 ",
+        "%auto g when o=1 give 2 when o=2 give 1 else 0",
+        &[0, 1, 2],
+        &[1, 1, 1],
+        &[2, 2, 2],
+    ),
+    (
+        HEXAGONS,
+        ACROSS,
+        "%auto g when o.b=1 give 1 else 0",
+        &[1, 0, 0, 0, 0, 0],
+        &[0, 0, 1, 0, 0, 0],
+        &[0, 0, 0, 0, 1, 0],
+    ),
+];
+
+#[test]
+fn maps_there_and_back(rt: HostRuntime) -> Result<(), Fail> {
+    for (setting, there, back, own, round, round_back) in ROUNDS {
+        let script = script_of(
+            rt.alloc(),
+            &[*setting, *there, *back, " %conjugate f g x x"],
+        )?;
+        assert_rounds(&rt, rt.alloc(), &script, own, (*round, *round_back))?;
+    }
+    Ok(())
+}

@@ -1,0 +1,218 @@
+// Minimal forbidden patterns of small rules, and which fillings agree with a pattern.
+ghost use Rattle.std.specs.Prelude.{◌≡◌, ◌<◌, IfOk};
+ghost use Rattle.dd_formula.specs.LocalRule.{cells_at};
+ghost use Rattle.dd_minimal.specs.Patterns.{IsPartialOf};
+
+use crate::scripts::script_of;
+use dd_formula::Rule;
+use dd_minimal::{Partial, forces, minimal};
+use dd_pattern::Filling;
+use dd_script::Script;
+use dd_values::Items;
+use std::alloc::Global;
+use std::process::Abort;
+use std::test::Fail;
+
+/// A symbol for each cell that is read, or none where the cell is left out.
+type Pattern = &'static [Option<u32>];
+
+const HARD: &str = "%rule x o=1 -> (o.rt=0 & o.up=0)";
+
+// The first node has the second nodes at (0,-1), (-1,0) and (0,0) as neighbours, and the second one the first nodes at (0,0), (1,0)
+// and (0,1). In cell order a node's own cell is the third of those read at the first node, and the second of those read at the second.
+const HEXAGONS: &str = "%topology hex %rule x Ap[o1] (p~o -> !(p=1 & o=1))";
+
+const SECOND_IS_1: &str = "%topology hex %only 1 1 %rule x Ap[o1] (p~o -> !(p=1 & o=1))";
+
+const SECOND_IS_0: &str = "%topology hex %only 1 0 %rule x Ap[o1] (p~o -> !(p=1 & o=1))";
+
+// Sixteen cells of two symbols have 65,536 fillings, and ten of three symbols have 59,049.
+const SIXTEEN: &str = "%dim 1 %rule x (Ep[o3] Eq[p3] Er[q1] r=1) | o.rt.rt.rt.rt.rt.rt.rt.rt=1";
+
+const TEN: &str = "%dim 1 %alphabet 0 1 2 %rule x (Ep[o3] Eq[p1] q!=0) | o.rt.rt.rt.rt.rt!=0";
+
+/// A rule, a node, and the minimal patterns there.
+const MINIMAL: &[(&str, u32, &[Pattern])] = &[
+    (
+        HARD,
+        0,
+        &[&[Some(1), None, Some(1)], &[Some(1), Some(1), None]],
+    ),
+    ("%dim 1 %rule x o=0 & o=1", 0, &[&[None]]),
+    // Nothing is read.
+    ("%dim 1 %rule x !(o@o)", 0, &[&[]]),
+    ("%dim 1 %rule x o@o", 0, &[]),
+    ("%dim 1 %rule x o.rt=0 | o.rt=1", 0, &[]),
+    (
+        "%dim 1 %rule x o=o.rt",
+        0,
+        &[&[Some(0), Some(1)], &[Some(1), Some(0)]],
+    ),
+    // Of 0 0 1 the first cell is left out, since 1 0 1 breaks the rule too; of 0 1 1 it isn't.
+    (
+        "%dim 1 %rule x o=o.rt & o.rt=o.rt.rt",
+        0,
+        &[
+            &[None, Some(0), Some(1)],
+            &[None, Some(1), Some(0)],
+            &[Some(0), None, Some(1)],
+            &[Some(1), None, Some(0)],
+        ],
+    ),
+    (
+        "%dim 1 %alphabet 0 1 2 %rule x o=0 -> o.rt=1",
+        0,
+        &[&[Some(0), Some(0)], &[Some(0), Some(2)]],
+    ),
+    // Where the symbol 1 isn't allowed, every symbol behind a 0 breaks the rule.
+    (
+        "%dim 1 %alphabet 0 1 2 %only 0 0 2 %rule x o=0 -> o.rt=1",
+        0,
+        &[&[Some(0), None]],
+    ),
+    (
+        "%dim 1 %alphabet 0 1 2 %only 0 0 2 %rule x o=0 -> o.rt=2",
+        0,
+        &[&[Some(0), Some(0)]],
+    ),
+    ("%dim 1 %alphabet 0 1 2 %only 0 0 2 %rule x o!=1", 0, &[]),
+    (
+        "%dim 1 %alphabet 0 1 2 %only 0 2 %rule x o=0",
+        0,
+        &[&[None]],
+    ),
+    (
+        HEXAGONS,
+        0,
+        &[
+            &[None, None, Some(1), Some(1)],
+            &[None, Some(1), Some(1), None],
+            &[Some(1), None, Some(1), None],
+        ],
+    ),
+    (
+        HEXAGONS,
+        1,
+        &[
+            &[None, Some(1), None, Some(1)],
+            &[None, Some(1), Some(1), None],
+            &[Some(1), Some(1), None, None],
+        ],
+    ),
+    (SECOND_IS_1, 0, &[&[None, None, Some(1), None]]),
+    (
+        SECOND_IS_1,
+        1,
+        &[
+            &[None, None, None, Some(1)],
+            &[None, None, Some(1), None],
+            &[Some(1), None, None, None],
+        ],
+    ),
+    (SECOND_IS_0, 0, &[]),
+    (SECOND_IS_0, 1, &[]),
+    (SIXTEEN, 0, &[&[Some(0); 16]]),
+    (TEN, 0, &[&[Some(0); 10]]),
+];
+
+/// Asserts the minimal patterns of the script's first rule at a node.
+fn assert_minimal(
+    rt: &impl Abort,
+    alloc: Global,
+    script: &Script,
+    node: u32,
+    wanted: &[Pattern],
+) -> Result<(), Fail> {
+    let rule = script.rules().first().ok_or("a rule")?;
+    if node >= rule.nodes() {
+        return Err("a node of the rule".into());
+    }
+    let found = minimal(alloc, rule, node)?;
+    assert_eq!(rt; found.len(), wanted.len());
+    for (partial, pattern) in found.iter().zip(wanted) {
+        assert_eq!(rt; partial.node, node);
+        assert_eq!(rt; partial.symbols.as_slice(), *pattern);
+    }
+    Ok(())
+}
+
+#[test]
+fn minimal_patterns(rt: HostRuntime) -> Result<(), Fail> {
+    for (text, node, wanted) in MINIMAL {
+        let script = script_of(rt.alloc(), &[*text])?;
+        assert_minimal(&rt, rt.alloc(), &script, *node, wanted)?;
+    }
+    Ok(())
+}
+
+/// A rule, a node, a pattern, the symbols of what is read there, and whether they agree with it.
+const FORCES: &[(&str, u32, Pattern, &[u32], bool)] = &[
+    (HARD, 0, &[Some(1), None, Some(1)], &[1, 0, 1], true),
+    (HARD, 0, &[Some(1), None, Some(1)], &[1, 1, 1], true),
+    (HARD, 0, &[Some(1), None, Some(1)], &[1, 1, 0], false),
+    (HARD, 0, &[Some(1), None, Some(1)], &[0, 0, 1], false),
+    (HARD, 0, &[None, None, None], &[0, 1, 0], true),
+    (HARD, 0, &[Some(0), Some(0), Some(0)], &[0, 0, 0], true),
+    (HARD, 0, &[Some(0), Some(0), Some(0)], &[0, 0, 1], false),
+    (
+        HEXAGONS,
+        1,
+        &[None, Some(1), None, Some(1)],
+        &[0, 1, 1, 1],
+        true,
+    ),
+    (
+        HEXAGONS,
+        1,
+        &[None, Some(1), None, Some(1)],
+        &[1, 0, 1, 1],
+        false,
+    ),
+    ("%dim 1 %rule x o@o", 0, &[], &[], true),
+];
+
+/// The filling of what the rule reads at the node, with these symbols.
+fn read_filling(alloc: Global, rule: &Rule, node: u32, symbols: &[u32]) -> Result<Filling, Fail>
+    requires { node < rule.now.nodes }
+    ensures { IfOk result (λ f. f.cells ≡ cells_at rule.now node) }
+{
+    let cells = Vec::from_slice(alloc, rule.reads(node))?;
+    let symbols = Vec::from_slice(alloc, symbols)?;
+    if symbols.len() != cells.len() {
+        return Err("a symbol for each cell".into());
+    }
+    Ok(Filling::new(cells, symbols))
+}
+
+/// Whether the symbols of what the script's first rule reads at the node agree with the pattern.
+fn is_forced(
+    alloc: Global,
+    script: &Script,
+    node: u32,
+    pattern: &[Option<u32>],
+    symbols: &[u32],
+) -> Result<bool, Fail> {
+    let rule = script.rules().first().ok_or("a rule")?;
+    if node >= rule.nodes() {
+        return Err("a node of the rule".into());
+    }
+    if pattern.len() != rule.reads(node).len() {
+        return Err("an entry for each cell".into());
+    }
+    let partial = Partial {
+        node,
+        symbols: Items::from_slice(alloc, pattern)?,
+    };
+    let filling = read_filling(alloc, rule, node, symbols)?;
+    Ok(forces(rule, &partial, &filling))
+}
+
+#[test]
+fn fillings_that_agree_with_patterns(rt: HostRuntime) -> Result<(), Fail> {
+    for (text, node, pattern, symbols, wanted) in FORCES {
+        let script = script_of(rt.alloc(), &[*text])?;
+        let agrees = is_forced(rt.alloc(), &script, *node, pattern, symbols)?;
+        assert_eq!(rt; agrees, *wanted, "{text} {pattern:?} {symbols:?}");
+    }
+    Ok(())
+}
