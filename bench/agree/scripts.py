@@ -106,11 +106,17 @@ class Scripts:
         """A query."""
         chance = self.chance
         rules = chance.choices("xyz", k=2)
-        kind = chance.choice(["member", "contains", "contains", "equal", "empty", "same", "forbidden", "density", "discharge"])
+        kind = chance.choice(["member", "contains", "contains", "equal", "empty", "same", "forbidden", "minimal", "maps", "conjugate", "density",
+                              "least", "discharge"])
         if kind in ("contains", "equal"):
             return f"%{kind} {rules[0]} {rules[1]}"
+        if kind in ("maps", "conjugate"):
+            automata = chance.choices("fgh", k=1 if kind == "maps" else 2)
+            return f"%{kind} {' '.join([*automata, *rules])}"
         if kind == "density":
             return f"%density {rules[0]} [{' '.join(str(chance.randint(1, 2)) for _ in range(dim - 1))}]"
+        if kind == "least":
+            return f"%least {rules[0]} [{' '.join(str(chance.randint(1, 2 if dim == 3 else 3)) for _ in range(dim))}]"
         if kind == "discharge":
             vectors = {tuple(chance.randint(-1, 1) for _ in range(dim)) for _ in range(chance.randint(1, 3))}
             text = " ".join(f"[{' '.join(map(str, vector))}]" for vector in sorted(vectors))
@@ -190,6 +196,16 @@ BORDERS: List[Callable[[int], str]] = [
     lambda more: "%dim 1 %topology (x 0 [4] 0) (y 0 [1] 0) %rule x o.x.x.x.x" + ".y" * more + "=1\n",
     lambda more: "%conf c [2 1] [" + str(1 + more) + "] 0 1\n",
     lambda more: "%dim 1 %rule x " + " & ".join(f"o{'.rt' * i}=1" for i in range(15 + 1 + more)) + " %forbidden x\n",
+    lambda more: "%dim 1 %rule x " + " & ".join(f"o{'.rt' * i}=1" for i in range(15 + 1 + more)) + " %minimal x\n",
+    lambda more: f"%alphabet {'a b'[:3 - 2 * more]} %rule x o=a %auto f else a %conjugate f f x x\n",
+    lambda more: f"%dim 1 %only 0 0 %rule x {'!' * (63 + more)}o=0 %auto f else 0 %maps f x x\n",
+    lambda more: f"%dim 1 %only 0 0 %rule x {'!' * (63 + more)}o=0 %rule y o=0 %auto f else 0 %conjugate f f x y\n",
+    lambda more: f"%dim 1 %rule x o{'.rt' * 9}=0 %auto f when o{'.rt' * (7 + more)}=0 give 0 else 1 %maps f x x\n",
+    lambda more: f"%dim 1 %auto f when o{'.rt' * 9}=0 give 0 else 1 %auto g when o{'.rt' * (7 + more)}=0 give 0 else 1 %rule x o=0 | o=1 "
+    "%conjugate f g x x\n",
+    lambda more: f"%dim 1 %rule x {'o=0 & ' * (19994 + more)}o=0 %auto f else 0 %maps f x x\n",
+    lambda more: f"%weights 0 0 %rule x o@o %least x [256 {256 + more}]\n", lambda more: f"%rule x o@o %least x [1 {1 - more}]\n",
+    lambda more: f"%dim 1 %rule x o@o %least x [{471 + more}]\n",
     lambda more: f"%rule x o=0 %density x [{8 + more}]\n",
     lambda more: f"%dim 1 %rule x o=0 | o{'.rt' * (12 + more)}=1 %density x []\n",
     lambda more: f"%rule x o=0 %density x [{64 + more}]\n",

@@ -12,7 +12,7 @@ import sys
 
 BASELINE = str(pathlib.Path(__file__).resolve().parent / "baseline.py")
 SOLVERS = [solver for solver in ("minisat", "cadical") if shutil.which(solver)]
-FURTHER = re.compile(rb"^%(?:density|discharge|forbidden|same|least)\b", re.M)
+FURTHER = re.compile(rb"^%(?:conjugate|density|discharge|forbidden|least|maps|minimal|same)\b", re.M)
 
 
 def timed(words, given, solver=""):

@@ -1,6 +1,7 @@
 #!/usr/bin/env bash
 # Times a list of forbidden patterns and questions whether automata agree, from the script's bytes to the last byte of the output, and the
-# check of that output: the patterns of the parity of 16 cells, rule 110 composed with itself against the rule of its two steps by a table of
+# check of that output: the patterns of the parity of 16 cells; the minimal patterns of that, of no 1 among 16 cells, and of the majority of 15;
+# rule 110 composed with itself against the rule of its two steps by a table of
 # five cells, and against that of three steps, and Life composed with itself against Life. Seconds of processor time of the whole program, the
 # least of five runs, or of TURNS. DIDDY names another program than the one that is built here. With the word life, Life composed with itself is
 # compared with the same composition as well, which takes a minute or two, and writes 263 MB.
@@ -23,7 +24,7 @@ least() {
 
 echo '| Script | answer | bytes written | diddy | its check |'
 echo '|---|---|---|---|---|'
-for script in forbidden rule110 rule110-apart life-apart "$@"; do
+for script in forbidden minimal-parity minimal-none minimal-majority rule110 rule110-apart life-apart "$@"; do
     own=$(least run "$work/$script.diddy")
     cp "$work/said" "$work/output"
     answer=$(grep -a '^query 1 ' "$work/output")

@@ -1,4 +1,5 @@
-"""Writes the scripts of this benchmark to a folder: forbidden.diddy, rule110.diddy, rule110-apart.diddy, life.diddy, life-apart.diddy."""
+"""Writes the scripts of this benchmark to a folder: forbidden, minimal-parity, minimal-none, minimal-majority, rule110, rule110-apart, life,
+life-apart."""
 import itertools
 import pathlib
 import sys
@@ -17,6 +18,28 @@ def step(number, left, middle, right):
 # The parity of 16 cells: half of the 65,536 fillings are forbidden.
 parity = " <-> ".join(f"{cell(x)}=1" for x in range(16))
 folder.joinpath("forbidden.diddy").write_text(f"%dim 1 %rule parity {parity} %forbidden parity\n")
+folder.joinpath("minimal-parity.diddy").write_text(f"%dim 1 %rule parity {parity} %minimal parity\n")
+
+# No 1 among 16 cells: a pattern for each cell.
+none = " & ".join(f"{cell(x)}=0" for x in range(16))
+folder.joinpath("minimal-none.diddy").write_text(f"%dim 1 %rule none {none} %minimal none\n")
+
+
+def most(count, cells):
+    """At least so many of the cells are 1, by halves of the list."""
+    if count <= 0 or count > len(cells):
+        return "o@o" if count <= 0 else "!(o@o)"
+    if count in (1, len(cells)):
+        return "(" + (" | " if count == 1 else " & ").join(f"{it}=1" for it in cells) + ")"
+    middle = len(cells) // 2
+    left, right = cells[:middle], cells[middle:]
+    ways = range(max(0, count - len(right)), min(count, middle) + 1)
+    return "(" + " | ".join(f"({most(here, left)} & {most(count - here, right)})" for here in ways) + ")"
+
+
+# The majority of 15 cells: a pattern for each eight of them.
+majority = most(8, [cell(x) for x in range(15)])
+folder.joinpath("minimal-majority.diddy").write_text(f"%dim 1 %rule majority {majority} %minimal majority\n")
 
 
 def one_step(number):

@@ -1,5 +1,5 @@
 """Answers with their certificates, as they stand in an output."""
-from typing import List, NamedTuple, Union
+from typing import List, NamedTuple, Optional, Union
 
 from .refutations import Step
 
@@ -64,6 +64,70 @@ class Listed(NamedTuple):
         return f"LIST {len(self.patterns)}"
 
 
+class Starred(NamedTuple):
+    """`pattern a s * ..`: a node, and for each cell that the rule reads there a symbol, or None where the cell is left out."""
+
+    node: int
+    symbols: List[Optional[int]]
+
+
+class Minimal(NamedTuple):
+    """`MINIMAL n` with its patterns."""
+
+    patterns: List[Starred]
+
+    def line(self) -> str:
+        """The answer's line, without its number."""
+        return f"MINIMAL {len(self.patterns)}"
+
+
+class Conjugate(NamedTuple):
+    """`CONJUGATE n n n n`, with a refutation for each of the four radii."""
+
+    radii: List[int]
+    refutations: List[List[Step]]
+
+    def line(self) -> str:
+        """The answer's line, without its number."""
+        return "CONJUGATE " + numbers(self.radii)
+
+
+class Broken(NamedTuple):
+    """`BROKEN k p q shear r`: which of the four questions of a conjugacy has the answer NO, and the configuration."""
+
+    part: int
+    periods: List[int]
+    shear: int
+    symbols: List[int]
+
+    def line(self) -> str:
+        """The answer's line, without its number."""
+        words = ["BROKEN", str(self.part), numbers(self.periods), f"shear {self.shear}" if self.shear else ""]
+        return " ".join(word for word in words if word)
+
+
+class Least(NamedTuple):
+    """`LEAST n` with a configuration, and with a refutation of every smaller weight where n isn't 0."""
+
+    weight: int
+    symbols: List[int]
+    steps: List[Step]
+
+    def line(self) -> str:
+        """The answer's line, without its number."""
+        return f"LEAST {self.weight}"
+
+
+class Nothing(NamedTuple):
+    """`NONE` with a refutation."""
+
+    steps: List[Step]
+
+    def line(self) -> str:
+        """The answer's line, without its number."""
+        return "NONE"
+
+
 class Density(NamedTuple):
     """`DENSITY p/q` with a cycle of states and a potential for each state."""
 
@@ -111,7 +175,7 @@ class Unknown(NamedTuple):
         return f"UNKNOWN {self.reason}"
 
 
-Answer = Union[In, Out, Yes, No, Listed, Density, Empty, Bound, Unknown]
+Answer = Union[In, Out, Yes, No, Listed, Minimal, Conjugate, Broken, Least, Nothing, Density, Empty, Bound, Unknown]
 
 
 def numbers(given: List[int]) -> str:

@@ -7,7 +7,7 @@ from typing import List
 
 from .boxes import Differ, Question
 from .definitions import rule_of
-from .formulas import And, Formula, IsSymbol, Not, OnNode, Or, Term
+from .formulas import And, Formula, Iff, Implies, IsSymbol, Not, OnNode, Or, Quantified, Term
 from .lattice import Cell
 from .script import Automaton, Cases, Composition, Rule, Script
 from .tokens import WORD, Token
@@ -24,6 +24,18 @@ def guarded(script: Script, rule: Rule) -> Formula:
             symbols = [IsSymbol(HERE, Token(WORD, script.symbol_names()[symbol], 0), True) for symbol in allowed]
             members.append(Or([Not(OnNode(HERE, Token(WORD, name, 0))), *symbols]))
     return members[0] if len(members) == 1 else And(members)
+
+
+def depth(formula: Formula) -> int:
+    """How deep a formula is nested. Its atoms are 0 deep, and a list of one part is no deeper than the part."""
+    if isinstance(formula, (And, Or)):
+        parts = [depth(part) for part in formula.parts]
+        return max(parts, default=0) + (len(parts) > 1)
+    if isinstance(formula, (Implies, Iff)):
+        return 1 + max(depth(formula.left), depth(formula.right))
+    if isinstance(formula, Not):
+        return 1 + depth(formula.part)
+    return 1 + depth(formula.body) if isinstance(formula, Quantified) else 0
 
 
 def constant(script: Script, symbol: int) -> Cases:

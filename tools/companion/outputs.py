@@ -4,9 +4,10 @@ Where bytes are no output, it finds the longest front of them that begins some o
 of which there may be very many, are first tried by one pattern for the whole line.
 """
 import re
-from typing import Callable, Dict, List, NamedTuple, Sequence
+from typing import Callable, Dict, List, NamedTuple, Optional, Sequence
 
-from .answers import Answer, Bound, Density, Empty, In, Listed, No, Out, Pattern, Unknown, Yes
+from .answers import (Answer, Bound, Broken, Conjugate, Density, Empty, In, Least, Listed, Minimal, No, Nothing, Out, Pattern, Starred, Unknown,
+                      Yes)
 from .refutations import Step
 
 MOST_BYTES = 268435456
@@ -197,6 +198,51 @@ def _list(text: Text) -> Answer:
     return Listed(patterns)
 
 
+def _starred(text: Text) -> List[Optional[int]]:
+    """Reads a blank and a number or a star as often as they come, up to the end of the line."""
+    found: List[Optional[int]] = []
+    while text.one_of([b" ", b"\n"]) == b" ":
+        if text.next() == b"*":
+            text.word(b"*")
+            found.append(None)
+        else:
+            found.append(text.number())
+    return found
+
+
+def _minimal(text: Text) -> Answer:
+    count = text.number()
+    text.word(b"\n")
+    patterns = []
+    while len(patterns) < count:
+        text.word(b"pattern ")
+        node = text.number()
+        patterns.append(Starred(node, _starred(text)))
+    return Minimal(patterns)
+
+
+def _conjugate(text: Text) -> Answer:
+    radii = []
+    for end in (b" ", b" ", b" ", b"\n"):
+        radii.append(text.number())
+        text.word(end)
+    return Conjugate(radii, [refutation(text) for _ in radii])
+
+
+def _broken(text: Text) -> Answer:
+    part = text.number(1, 4)
+    text.word(b" ")
+    found, shear = periods(text)
+    return Broken(part, found, shear, configuration(text))
+
+
+def _least(text: Text) -> Answer:
+    weight = text.number()
+    text.word(b"\n")
+    symbols = configuration(text)
+    return Least(weight, symbols, refutation(text) if weight else [])
+
+
 def _fraction(text: Text) -> "tuple[int, int]":
     over = text.number()
     text.word(b"/")
@@ -238,7 +284,8 @@ def _unknown(text: Text) -> Answer:
 
 ANSWERS: Dict[bytes, Callable[[Text], Answer]] = {
     b"IN\n": lambda text: In(), b"OUT ": _out, b"YES ": _yes, b"NO ": _no, b"LIST ": _list, b"DENSITY ": _density, b"EMPTY\n": _empty,
-    b"BOUND ": _bound, b"UNKNOWN ": _unknown,
+    b"BOUND ": _bound, b"UNKNOWN ": _unknown, b"MINIMAL ": _minimal, b"CONJUGATE ": _conjugate, b"BROKEN ": _broken, b"LEAST ": _least,
+    b"NONE\n": lambda text: Nothing(refutation(text)),
 }
 """The answers, by how their lines begin."""
 

@@ -6,14 +6,15 @@ use Rattle.dd_problem.specs.Problems.{box_problem}
 use Rattle.dd_lattice.specs.Place.{Place}
 use Rattle.dd_derivation.specs.declared.step.Step.{Step}
 use Rattle.dd_pattern.specs.declared.periods.Periods.{Periods}
-use Rattle.dd_pattern.specs.Periods.{AreWithin}
-use Rattle.dd_pattern.specs.Tile.{Tile, IsTile}
+use Rattle.dd_pattern.specs.Periods.{AreWithin, periods_of}
+use Rattle.dd_pattern.specs.Tile.{Tile, tile, IsTile}
 use Rattle.dd_formula.specs.LocalRule.{LocalRule}
 use Rattle.dd_formula.specs.Living.{Fits}
 use Rattle.dd_values.specs.declared.limits.Limits.{Limits}
-use Rattle.dd_boxes.specs.Goals.{GoalOf, breaks}
+use Rattle.dd_boxes.specs.Goals.{GoalOf, breaks, always}
 use Rattle.dd_boxes.specs.Boxes.{Suffices, IsLeastRadius}
 use Rattle.dd_boxes.specs.Witnesses.{IsWitness}
+use Rattle.dd_counter.specs.Least.{IsLiving}
 use Rattle.dd_certificate.specs.declared.answer.Answer.{Answer}
 use Rattle.dd_contain.specs.declared.decision.Decision.{Decision}
 use Rattle.dd_contain.specs.declared.decision.Decision.TheVariants as decision
@@ -27,8 +28,10 @@ use Rattle.dd_evidence.specs.Tiles.{given_periods, written_periods, IsWrittenBac
 use Rattle.dd_respond.specs.Right.{IsRightTo, IsRightBox, IsRightEqual, written_decision, written_equality}
 use Rattle.dd_respond.specs.Conjugacies.{ComesTo, IsRightConjugacy, first_no, all_yes, some_open}
 use Rattle.dd_respond.specs.Bounds.{IsRightDensity, right_least, right_empty, IsRightDischarge, right_bound, is_large, overflows, used_up}
+use Rattle.dd_respond.specs.Tori.{IsRightLeast, has_least, has_none}
 use Rattle.dd_verify.specs.Bounds.{IsStripCertificate, strip_least, strip_empty, IsDischargeCertificate, best, too_large, overflow, no_pivots}
 use Rattle.dd_verify.specs.Evidence.{IsYes, IsNo, IsBoxCertificate, box_yes, box_no, box_unknown, IsEqualCertificate, equal_yes, left_no, right_no, equal_unknown, IsConjugacyCertificate, conjugate, broken, conjugacy_unknown}
+use Rattle.dd_verify.specs.Tori.{torus_tile, IsTorusCertificate, torus_least, torus_none}
 use Rattle.dd_verify.specs.Certificates.{IsCertificateOf}
 
 density_is : (x : LocalRule) (strip ws : List ℕ) (a : Answer) → IsRightDensity x strip ws a → IsStripCertificate x strip ws a
@@ -41,6 +44,20 @@ discharge_is x radius margin vs ws pivots a (right_bound h c) = best c
 discharge_is x radius margin vs ws pivots a (is_large h) = too_large
 discharge_is x radius margin vs ws pivots a (overflows h) = overflow
 discharge_is x radius margin vs ws pivots a (used_up h) = no_pivots
+
+-- the symbols of a configuration that lives on the torus give it back
+torus_same : (x : LocalRule) (along : List ℕ) (t : Tile) → IsLiving x (periods_of along 0) t → t ≡ torus_tile x along t.symbols
+torus_same x along t lives =
+    let dimension : t.dimension ≡ x.dimension = lives.1.fits.dimension in
+    let nodes : t.nodes ≡ x.nodes = lives.1.fits.nodes in
+    let periods : t.periods ≡ periods_of along 0 = lives.0 in
+    ap (λ d. tile d t.periods t.nodes t.symbols) dimension
+    ∙ (ap (λ p. tile x.dimension p t.nodes t.symbols) periods ∙ ap (λ n. tile x.dimension (periods_of along 0) n t.symbols) nodes)
+
+least_is : (x : LocalRule) (along ws : List ℕ) (a : Answer) → IsRightLeast x along ws a → IsTorusCertificate x along ws a
+least_is x along ws a (has_least {t = t} least lives refuted) =
+    torus_least (record { lives = subst (IsWitness x always) (torus_same x along t lives.0) lives.0.1; weighs = lives.1 }) refuted
+least_is x along ws a (has_none none refuted) = torus_none refuted
 
 abbrev AreWrittenBack : Type 0
 AreWrittenBack = (x : LocalRule) (t : Tile) → IsTile t → Fits x t → IsWrittenBack x t
@@ -115,5 +132,6 @@ module _ (back : AreWrittenBack) (l : Limits) where
   right_is_certificate (asked.listing x) a right = right
   right_is_certificate (asked.smallest x) a right = right
   right_is_certificate (asked.conjugacy c) a right = conjugacy_is c a right
+  right_is_certificate (asked.least x along ws) a right = least_is x along ws a right
   right_is_certificate (asked.density x strip ws) a right = density_is x strip ws a right
   right_is_certificate (asked.discharge x radius margin vs ws) a right = discharge_is x radius margin vs ws l.pivots a right

@@ -1,21 +1,18 @@
 -- The least weight of the configurations of given periods that live in a subshift.
-use Rattle.std.specs.Prelude.{◌≡◌, ◌<◌, ◌≤◌, ℕ, max, List, [], ◌∷◌}
+use Rattle.std.specs.Prelude.{◌≡◌, ◌<◌, ◌≤◌, ◌+◌, ◌-◌, ◌^◌, ℕ, List, [], length}
+use Rattle.dd_values.specs.Bounds.{most_variables}
 use Rattle.dd_derivation.specs.declared.step.Step.{Step}
 use Rattle.dd_derivation.specs.Derivations.{IsRefuting}
 use Rattle.dd_pattern.specs.declared.periods.Periods.{Periods}
 use Rattle.dd_pattern.specs.Tile.{Tile}
 use Rattle.dd_pattern.specs.Weight.{total_weight}
+pub use Rattle.dd_expansion.specs.Limits.{greatest}
 use Rattle.dd_formula.specs.LocalRule.{LocalRule}
 use Rattle.dd_boxes.specs.Goals.{always}
 use Rattle.dd_boxes.specs.Witnesses.{IsWitness, HasPeriods}
 use Rattle.dd_counter.specs.declared.least.LeastWeight.{LeastWeight}
 use Rattle.dd_counter.specs.declared.least.LeastWeight.TheVariants.{Least, Nothing}
 use Rattle.dd_counter.specs.Weights.{weight_problem}
-
--- the greatest weight of a symbol
-abbrev pub greatest : List ℕ → ℕ
-greatest [] = 0
-greatest (w ∷ ws) = max w (greatest ws)
 
 -- the configuration has these periods and this shear, and lives in the rule's subshift
 abbrev pub IsLiving : LocalRule → Periods → Tile → Type 0
@@ -30,13 +27,21 @@ pub record LeastOn (x : LocalRule) (p : Periods) (ws : List ℕ) (w : ℕ) : Typ
 abbrev pub NoneOn : LocalRule → Periods → Type 0
 NoneOn x p = (t : Tile) → IsLiving x p t → ⊥
 
+-- The steps refute the clauses that ask for less than this. The variables are at most 2^24, and the clauses and the steps after them
+-- have numbers of 64 bits.
+pub record IsRefutedBelow (x : LocalRule) (p : Periods) (ws : List ℕ) (w : ℕ) (steps : List Step) : Type 0 where
+  pub refuting : IsRefuting (weight_problem x p ws w) steps
+  pub variables : (weight_problem x p ws w).variables ≤ most_variables
+  pub numbers : length (weight_problem x p ws w).clauses + length steps ≤ 2 ^ 64 - 1
+
 -- the configuration has the least weight, and, where it isn't 0, the steps refute the clauses of every smaller one
 pub record IsLeastShown (x : LocalRule) (p : Periods) (ws : List ℕ) (w : ℕ) (t : Tile) (steps : List Step) : Type 0 where
   pub least : LeastOn x p ws w
   pub lives : IsLiving x p t
   pub weighs : total_weight ws t.symbols ≡ w
-  pub refutes : 0 < w → IsRefuting (weight_problem x p ws w) steps
+  pub refutes : 0 < w → IsRefutedBelow x p ws w steps
+  pub empty : w ≡ 0 → steps ≡ []
 
 abbrev pub IsLeast : LocalRule → Periods → List ℕ → LeastWeight → Type 0
 IsLeast x p ws (Least w t steps) = IsLeastShown x p ws w t steps
-IsLeast x p ws (Nothing steps) = NoneOn x p × IsRefuting (weight_problem x p ws 0) steps
+IsLeast x p ws (Nothing steps) = NoneOn x p × IsRefutedBelow x p ws 0 steps

@@ -11,7 +11,7 @@ ghost use Rattle.dd_counter.specs.Least.{greatest, IsLeast};
 ghost use Rattle.dd_counter.specs.searching.Lighter.{IsLighter};
 
 use crate::weights::weight_clauses;
-use dd_derivation::{Outcome, Step};
+use dd_derivation::{Outcome, Step, last_number};
 use dd_formula::Rule;
 use dd_pattern::Periodic;
 use dd_problem::read_torus;
@@ -62,7 +62,13 @@ fn search_below(
             let _symbols = periodic.symbols();
             Ok(Lighter::Found(periodic))
         }
-        Outcome::Refuted(steps) => Ok(Lighter::Nothing(trimmed(alloc, &cnf, steps)?)),
+        Outcome::Refuted(steps) => {
+            let used = trimmed(alloc, &cnf, steps)?;
+            // Read for their bounds alone.
+            let _variable = cnf.variables();
+            let _number = last_number(&cnf, used.as_slice());
+            Ok(Lighter::Nothing(used))
+        }
     }
 }
 

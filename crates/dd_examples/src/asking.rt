@@ -2,8 +2,9 @@
 ghost use Rattle.std.specs.Prelude.{◌≡◌, length, IfOk};
 ghost use Rattle.dd_topology.specs.Sets.{all_symbols};
 ghost use Rattle.dd_formula.specs.LocalRule.{local_rule};
-ghost use Rattle.dd_question.specs.Questions.{asked_of};
+ghost use Rattle.dd_question.specs.Questions.{asked_of, membership};
 ghost use Rattle.dd_respond.specs.Right.{IsRightTo};
+ghost use Rattle.dd_examples.specs.Squares.{hard, chessboard};
 
 use crate::squares::{chessboard, hard_formula};
 use dd_certificate::Answer;
@@ -80,19 +81,24 @@ fn answer_to(alloc: Global, question: Question, limits: &Limits) -> Result<Answe
     Ok(respond(alloc, &checked, &mut roster)?)
 }
 
-/// The answer to whether the chessboard is a configuration of hard squares.
-pub fn chessboard_answer(alloc: Global) -> Result<Answer, Unasked> {
+/// The rule of hard squares.
+fn tested_squares(alloc: Global) -> Result<Rule, Unasked>
+    ensures { IfOk result (λ rule. rule ≡ hard) }
+{
     let topology = Topology::builtin(alloc, Kind::Square)?;
-    let rule = rule_of(alloc, &topology, 4, 2, hard_formula(alloc)?)?;
+    let formula = hard_formula(alloc)?;
+    rule_of(alloc, &topology, 4, 2, formula)
+}
+
+/// The right answer to whether the chessboard is a configuration of hard squares.
+pub fn chessboard_answer(alloc: Global, limits: &Limits) -> Result<Answer, Unasked>
+    ensures { IfOk result (IsRightTo limits.now (membership hard chessboard)) }
+{
+    let rule = tested_squares(alloc)?;
     let configuration = chessboard(alloc)?;
     let question = Question::Membership {
         rule: &rule,
         configuration: &configuration,
     };
-    let limits = Limits {
-        radius: 2,
-        period: 2,
-        pivots: 100,
-    };
-    answer_to(alloc, question, &limits)
+    answer_to(alloc, question, limits)
 }

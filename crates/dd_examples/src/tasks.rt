@@ -10,8 +10,15 @@ use dd_formula::Membership;
 use dd_output::{CertificateFault, MOST_OUTPUT};
 use dd_outside::{ReadAllFault, Source, read_all};
 use dd_script::{ScriptFault, ScriptKind};
-use dd_values::MOST_SCRIPT;
+use dd_values::{Limits, MOST_SCRIPT};
 use std::alloc::Global;
+
+/// Limits in range. Whether a configuration obeys a rule takes no search, so they change nothing.
+const LIMITS: Limits = Limits {
+    radius: 2,
+    period: 2,
+    pivots: 100,
+};
 
 /// What the program is asked for.
 #[derive(Clone, Copy, Debug, PartialEq, Eq)]
@@ -122,7 +129,7 @@ fn checked_text<S: Source>(alloc: Global, source: &mut S) -> Result<Vec<u8>, Fau
 }
 
 fn squares_text(alloc: Global) -> Result<Vec<u8>, Fault> {
-    match (chessboard_membership(alloc), chessboard_answer(alloc)) {
+    match (chessboard_membership(alloc), chessboard_answer(alloc, &LIMITS)) {
         (Ok(Membership::Inside), Ok(Answer::Inside)) => line(alloc, b"inside\n"),
         (Ok(_), Ok(_)) => line(alloc, b"outside\n"),
         _ => Err(Fault::Memory),

@@ -43,6 +43,7 @@ parts_asked rs fs (Query.Agree left right rule) = []
 parts_asked rs fs (Query.Forbidden rule) = []
 parts_asked rs fs (Query.Minimal rule) = []
 parts_asked rs fs (Query.Density rule strip) = []
+parts_asked rs fs (Query.Least rule periods) = []
 parts_asked rs fs (Query.Discharge rule radius margin vectors) = []
 
 abbrev pub pairs_of : Setting → List LocalRule → List Automaton → Query → List Pair

@@ -121,6 +121,7 @@ pub fn pairs_of(
         | Query::Forbidden { .. }
         | Query::Minimal { .. }
         | Query::Density { .. }
+        | Query::Least { .. }
         | Query::Discharge { .. } => Ok(Items::new(alloc)),
     }
 }

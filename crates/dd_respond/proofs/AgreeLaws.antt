@@ -44,6 +44,7 @@ use Rattle.dd_respond.specs.Right.{IsRightTo, IsRightBox, IsRightEqual, written_
 use Rattle.dd_respond.specs.Conjugacies.{ComesTo, IsNoAt, written_broken, IsRightConjugacy, first_no, all_yes, some_open}
 use Rattle.dd_respond.specs.Laws.{SayTheSame}
 use Rattle.dd_respond.proofs.Parts.{at_each, part_within}
+use Rattle.dd_respond.proofs.Weighing.{least_agree}
 use Rattle.dd_respond.proofs.Measuring.{IsOneDensity, density_agree, discharge_agree}
 
 -- ---- the least and the first are one
@@ -349,3 +350,4 @@ module _ (one : AreOneList) (density_one : IsOneDensity) (outcome_one : HaveOneO
       discharge_agree x radius margin vs ws l.pivots (outcome_one x ws radius margin vs l.pivots) a b h k
   right_agree (asked.smallest x) a b ok h k = minimal_agree starred_one x a b h k
   right_agree (asked.conjugacy c) a b ok h k = conjugacy_agree l c a b h k
+  right_agree (asked.least x along ws) a b ok h k = least_agree x along ws a b h k

@@ -1,5 +1,6 @@
 pub mod WritableLaws
 pub mod Measuring
+pub mod Weighing
 pub mod Parts
 pub mod AgreeLaws
 pub mod Joining

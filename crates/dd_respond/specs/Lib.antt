@@ -2,6 +2,8 @@
 pub mod Right
 -- which answers about least densities and discharging are right
 pub mod Bounds
+-- which answers to how little a fundamental box can weigh are right
+pub mod Tori
 -- which answers about conjugacies are right
 pub mod Conjugacies
 -- what the questions of a conjugacy come to, one after the other

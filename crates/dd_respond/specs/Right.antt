@@ -25,6 +25,7 @@ use Rattle.dd_evidence.specs.Tiles.{written_periods}
 use Rattle.dd_evidence.specs.Answers.{IsMemberCertificate, IsListCertificate, IsMinimalCertificate}
 use Rattle.dd_respond.specs.Bounds.{IsRightDensity, IsRightDischarge}
 use Rattle.dd_respond.specs.Conjugacies.{IsRightConjugacy}
+use Rattle.dd_respond.specs.Tori.{IsRightLeast}
 
 -- ---- box questions
 
@@ -73,6 +74,7 @@ IsRightTo l (asked.density x strip ws) a = IsRightDensity x strip ws a
 IsRightTo l (asked.discharge x radius margin vs ws) a = IsRightDischarge x radius margin vs ws l.pivots a
 IsRightTo l (asked.smallest x) a = IsMinimalCertificate x a
 IsRightTo l (asked.conjugacy c) a = IsRightConjugacy l c a
+IsRightTo l (asked.least x along ws) a = IsRightLeast x along ws a
 
 -- no definite answer: the first line says that a stated limit was met
 abbrev pub is_unknown : Answer → Bool

@@ -10,6 +10,7 @@ mod lists;
 mod members;
 mod minimal;
 mod responding;
+mod tori;
 
 pub use laws::one_response;
 pub use responding::respond;

@@ -13,6 +13,7 @@ use crate::discharges::discharged;
 use crate::lists::listed;
 use crate::members::member;
 use crate::minimal::smallest;
+use crate::tori::lightest;
 use dd_certificate::Answer;
 use dd_engines::{Engine, Roster, kept_is_reflexive};
 use dd_question::{CheckedQuestion, Question};
@@ -56,5 +57,10 @@ pub fn respond<E: Engine>(
         } => discharged(alloc, rule, radius, margin, vectors, weights, limits.pivots),
         Question::Smallest { rule } => smallest(alloc, rule),
         Question::Conjugacy { conjugacy } => conjugate(alloc, &conjugacy, limits, roster),
+        Question::Least {
+            rule,
+            periods,
+            weights,
+        } => lightest(alloc, rule, periods, weights),
     }
 }

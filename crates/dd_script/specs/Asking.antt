@@ -13,6 +13,7 @@ AreOf k (question.conjugacy c) = IsRuleOf k.setting c.from × IsRuleOf k.setting
 AreOf k (question.listing x) = IsRuleOf k.setting x
 AreOf k (question.smallest x) = IsRuleOf k.setting x
 AreOf k (question.density x strip ws) = IsRuleOf k.setting x
+AreOf k (question.least x along ws) = IsRuleOf k.setting x
 AreOf k (question.discharge x radius margin vs ws) = IsRuleOf k.setting x
 
 -- the question goes together, passes no limit, and is about the script's rules

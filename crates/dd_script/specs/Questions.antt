@@ -32,6 +32,7 @@ asked s (Query.Conjugate there back from to) =
 asked s (Query.Forbidden rule) = option_map question.listing (slice_get s.rules rule)
 asked s (Query.Minimal rule) = option_map question.smallest (slice_get s.rules rule)
 asked s (Query.Density rule strip) = option_map (λ x. question.density x strip s.known.weights) (slice_get s.rules rule)
+asked s (Query.Least rule periods) = option_map (λ x. question.least x periods s.known.weights) (slice_get s.rules rule)
 asked s (Query.Discharge rule radius margin vectors) = option_map (λ x. question.discharge x radius margin vectors s.known.weights) (slice_get s.rules rule)
 
 -- the limit on its work that the question passes, searched as far as the script says

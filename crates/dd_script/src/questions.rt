@@ -69,6 +69,11 @@ pub(crate) fn question_of<'a>(
             strip: *strip,
             weights: known.weights.as_slice(),
         },
+        Query::Least { rule, periods } => Question::Least {
+            rule: &rules[*rule as usize],
+            periods: *periods,
+            weights: known.weights.as_slice(),
+        },
         Query::Discharge {
             rule,
             radius,

@@ -65,9 +65,13 @@ class BoxQuery(Query):
 
     def sizes(self) -> Iterator[Fault]:
         for question in self.questions():
-            largest = question.largest()
-            if largest > MOST_CLAUSES:
-                yield self.passed("clauses", f"the largest box or torus takes {largest:,} clauses, and {MOST_CLAUSES:,} are the most")
+            yield from self.too_long(question)
+
+    def too_long(self, question: Question) -> Iterator[Fault]:
+        """The fault that a question takes too many clauses."""
+        largest = question.largest()
+        if largest > MOST_CLAUSES:
+            yield self.passed("clauses", f"the largest box or torus takes {largest:,} clauses, and {MOST_CLAUSES:,} are the most")
 
     def rejection(self, answer: Answer) -> Optional[str]:
         questions = self.questions()

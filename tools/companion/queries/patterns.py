@@ -1,9 +1,10 @@
-"""`%forbidden X`: the patterns that a rule forbids."""
-from typing import Iterator, List, Optional
+"""`%forbidden X`: the patterns that a rule forbids; and `%minimal X`: patterns without a needless cell that forbid the same."""
+from typing import Iterator, List, Optional, Sequence, Union
 
-from ..answers import Answer, Listed, Pattern
+from ..answers import Answer, Listed, Minimal, Pattern, Starred
 from ..faults import Fault
 from ..fillings import breaking
+from ..minimal import minimal
 from .base import WRONG_ANSWER, Query, share
 
 MOST_PATTERNS = 65536
@@ -32,13 +33,7 @@ class Forbidden(Query):
     def rejection(self, answer: Answer) -> Optional[str]:
         if not isinstance(answer, Listed):
             return WRONG_ANSWER
-        wanted = self.patterns()
-        for number, (given, right) in enumerate(zip(answer.patterns, wanted), 1):
-            if given != right:
-                return f"pattern {number} is {shown(given)}, and has to be {shown(right)}"
-        if len(answer.patterns) != len(wanted):
-            return f"there are {len(answer.patterns)} patterns, and the rule forbids {len(wanted)}"
-        return None
+        return difference(answer.patterns, self.patterns())
 
     def claim(self, answer: Answer) -> str:
         return f"{self.argument(0).name} is false exactly where what it reads is one of these patterns"
@@ -50,6 +45,37 @@ class Forbidden(Query):
         return f"LIST {len(self.patterns())}"
 
 
-def shown(pattern: Pattern) -> str:
+class MinimalPatterns(Forbidden):
+    """`%minimal X`."""
+
+    word = "minimal"
+
+    def starred(self) -> List[Starred]:
+        """All patterns, in order."""
+        rule = self.argument(0)
+        return [Starred(node, partial) for node in range(len(self.script.nodes)) for partial in minimal(self.script, rule, node)]
+
+    def rejection(self, answer: Answer) -> Optional[str]:
+        return difference(answer.patterns, self.starred()) if isinstance(answer, Minimal) else WRONG_ANSWER
+
+    def claim(self, answer: Answer) -> str:
+        return f"{self.argument(0).name} is false exactly where what it reads agrees with one of these patterns, and no cell of them can be left out"
+
+    def found(self) -> Optional[str]:
+        return f"MINIMAL {len(self.starred())}"
+
+
+Listable = Union[Pattern, Starred]
+
+
+def difference(given: Sequence[Listable], wanted: Sequence[Listable]) -> Optional[str]:
+    """Why a list of patterns isn't the one that is wanted, or None where it is."""
+    for number, (one, right) in enumerate(zip(given, wanted), 1):
+        if one != right:
+            return f"pattern {number} is {shown(one)}, and has to be {shown(right)}"
+    return None if len(given) == len(wanted) else f"there are {len(given)} patterns, and there have to be {len(wanted)}"
+
+
+def shown(pattern: Listable) -> str:
     """A pattern as it is written."""
-    return " ".join(map(str, [pattern.node, *pattern.symbols]))
+    return " ".join([str(pattern.node), *["*" if symbol is None else str(symbol) for symbol in pattern.symbols]])

@@ -12,8 +12,17 @@ PLACES = {
     "%weights 1": "1", "%conf c [2 2] 0 1": "[2", "%dim 1 %conf c [2] [1] 0 1": "[1]", "%rule a o=0 %density a [2 2]": "[2",
     "%weights 0 1000001": "1000001", "%weights 0 1001": "1001", "%limits 9 4 10000": "9", "%rule a Ep[o4] p=1": "4]",
     "%conf c [2 1] [2] 0 1": "2] 0", "%rule a o=0 %discharge a 0 0 [5 0]": "5", "%rule a Ep[o1] p=1 %density a [6]": "density",
+    "%alphabet a %rule x o=a %auto f else a %maps f x x": "maps", f"%rule {'a' * 33} o=0": "a" * 33,
+    "%dim 1 %nodes a b c d e %topology (x a [0] b)": "e %", "%alphabet a b c d e f g h i j k l m n o p q": "q",
+    "%dim 1 %topology (x 0 [5] 0)": "5", f"%rule a o{'.up' * 17}=0": "up=", "%rule a Ep[o1o1o1o1o1] p=1": "o1]",
+    "%rule a Ap[o3] Aq[p3] Ar[q3] r=q": "a Ap", "%dim 1 %topology (x 0 [4] 0) %rule a o.x.x.x.x.x=1": "a o",
+    "%rule a Ep[o3] p=1 %forbidden a": "forbidden", "%rule a Ep[o3] p=1 %minimal a": "minimal",
+    f"%dim 1 %rule a o{'.rt' * 9}=0 %auto f when o{'.rt' * 8}=0 give 0 else 1 %maps f a a": "maps",
+    "%dim 3 %limits 8 8 10 %rule a Ep[o3] Aq[p1] q=1 %empty a": "empty", "%rule a o=0 %least a [-1 1]": "-1",
+    "%rule a o=0 %least a [2]": "[2", "%rule a o=0 %least a [0 3]": "[0", "%rule a o=0 %least a [300 300]": "[300 ",
+    "%rule a o=1 %least a [40 40]": "least",
 }
-"""Where scripts of docs/refusals.md are at fault: the last place at which this text stands."""
+"""Where the scripts of docs/refusals.md are at fault: the last place at which this text stands."""
 
 
 class Refusals(unittest.TestCase):
@@ -29,8 +38,7 @@ class Refusals(unittest.TestCase):
             found = refusal(line + "\n")
             self.assertEqual(found[0], wanted, line)
             script = script.strip()
-            if script in PLACES:
-                self.assertEqual(found[2], script.rfind(PLACES[script]) + 1 if PLACES[script] else len(script) + 1, line)
+            self.assertEqual(found[2], script.rfind(PLACES[script]) + 1 if PLACES[script] else len(script) + 1, line)
 
     def test_header_order(self) -> None:
         """A command of the header that comes too late is named as such."""

@@ -3,7 +3,7 @@ if exists("b:current_syntax")
   finish
 endif
 syntax match diddyComment "--.*$"
-syntax match diddyCommand "%\s*\(dim\|nodes\|alphabet\|topology\|only\|weights\|limits\|rule\|auto\|compose\|conf\|member\|contains\|equal\|empty\|same\|forbidden\|density\|discharge\)\>"
+syntax match diddyCommand "%\s*\(dim\|nodes\|alphabet\|topology\|only\|weights\|limits\|rule\|auto\|compose\|conf\|member\|contains\|equal\|empty\|same\|maps\|conjugate\|forbidden\|minimal\|density\|least\|discharge\)\>"
 syntax keyword diddyCase when give else
 syntax match diddyQuantifier "[AE]\ze\s*[a-z]\+\s*\["
 syntax match diddyConnective "<->\|->\|!=\|[!&|=~@:]"

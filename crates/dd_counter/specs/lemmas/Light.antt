@@ -10,7 +10,7 @@ use Rattle.dd_pattern.specs.Weight.{total_weight}
 use Rattle.dd_formula.specs.LocalRule.{LocalRule, IsRule}
 use Rattle.dd_problem.specs.TorusPeriods.{AreTorusPeriods}
 use Rattle.dd_counter.specs.Weights.{weight_problem, IsLight, IsLightWitness, ShowsWeights}
-use Rattle.dd_counter.specs.Least.{IsLiving, LeastOn, NoneOn, IsLeastShown}
+use Rattle.dd_counter.specs.Least.{IsLiving, LeastOn, NoneOn, IsRefutedBelow, IsLeastShown}
 use Rattle.dd_counter.specs.lemmas.WeightShows.{weight_shows}
 
 light_below : (below : ℕ) (ws : List ℕ) (t : Tile) → total_weight ws t.symbols < below → IsLight below ws t
@@ -49,12 +49,13 @@ least_refuted x p ws w t steps lives weighs shows refuting = record {
 }
 
 pub least_shown : (x : LocalRule) (p : Periods) (ws : List ℕ) (w : ℕ) (t : Tile) (steps : List Step) → IsLiving x p t → total_weight ws t.symbols ≡ w →
-    ((u : Tile) → IsLightWitness x p ws w u → ⊥) → IsRefuting (weight_problem x p ws w) steps → IsLeastShown x p ws w t steps
-least_shown x p ws w t steps lives weighs none refuting = record {
+    ((u : Tile) → IsLightWitness x p ws w u → ⊥) → 0 < w → IsRefutedBelow x p ws w steps → IsLeastShown x p ws w t steps
+least_shown x p ws w t steps lives weighs none some refuted = record {
   least = record { some = (t, lives, weighs); least = none_lighter x p ws w none };
   lives = lives;
   weighs = weighs;
-  refutes = λ _. refuting;
+  refutes = λ _. refuted;
+  empty = λ zero. absurd (omega (arith, some, zero));
 }
 
 -- the same of every rule, whatever was called

@@ -1,13 +1,13 @@
 -- The answer to the question for a configuration below a weight.
 use Rattle.std.specs.Prelude.{ℕ, List}
-use Rattle.dd_derivation.specs.Derivations.{IsRefuting}
 use Rattle.dd_pattern.specs.declared.periods.Periods.{Periods}
 use Rattle.dd_pattern.specs.Tile.{Tile}
 use Rattle.dd_formula.specs.LocalRule.{LocalRule}
 use Rattle.dd_counter.specs.declared.least.Lighter.{Lighter}
 use Rattle.dd_counter.specs.declared.least.Lighter.TheVariants.{Found, Nothing}
-use Rattle.dd_counter.specs.Weights.{weight_problem, IsLightWitness}
+use Rattle.dd_counter.specs.Weights.{IsLightWitness}
+use Rattle.dd_counter.specs.Least.{IsRefutedBelow}
 
 abbrev pub IsLighter : LocalRule → Periods → List ℕ → ℕ → Lighter → Type 0
 IsLighter x p ws below (Found t) = IsLightWitness x p ws below t
-IsLighter x p ws below (Nothing steps) = ((t : Tile) → IsLightWitness x p ws below t → ⊥) × IsRefuting (weight_problem x p ws below) steps
+IsLighter x p ws below (Nothing steps) = ((t : Tile) → IsLightWitness x p ws below t → ⊥) × IsRefutedBelow x p ws below steps

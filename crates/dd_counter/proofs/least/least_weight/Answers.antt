@@ -18,4 +18,4 @@ pub returns-in-Nothing-2 : goal.returns-in-Nothing-2
 returns-in-Nothing-2 c =
     let none = rw c.in-Nothing-2.is at c.in_ok-periodic-2.ensures in
     least_shown c.args.rule.now (periods_of c.args.periods 0) c.args.weights.now c.loop-weight.weight c.loop-weight.found c.in-Nothing-2.steps c.loop-weight.invariant.lives
-    (sym c.loop-weight.invariant.weighs) none.0 none.1
+    (sym c.loop-weight.invariant.weighs) none.0 c.loop-weight-test.true none.1

@@ -1,4 +1,4 @@
-"""Minimal patterns, images and least weights, on small cases worked out by hand."""
+"""Minimal patterns, images and least weights, found by plain searches on small cases worked out by hand."""
 import itertools
 import unittest
 

@@ -1,0 +1,49 @@
+//! Answers to how little a fundamental box can weigh.
+ghost use Rattle.std.specs.Prelude.{◌≡◌, IfOk};
+ghost use Rattle.dd_certificate.specs.Bounds.{IsWritable};
+ghost use Rattle.dd_counter.specs.Least.{IsLeast};
+ghost use Rattle.dd_pattern.specs.Periods.{periods_of};
+ghost use Rattle.dd_question.specs.Tori.{IsWeighable};
+ghost use Rattle.dd_respond.specs.Tori.{written_weight, IsRightLeast};
+
+use crate::boxes::widened;
+use dd_certificate::{Answer, refutations_fit};
+use dd_counter::{LeastWeight, least_weight};
+use dd_formula::Rule;
+use std::alloc::{AllocError, Global};
+
+/// The least weight, with a configuration that has it and steps that refute every smaller one; or steps that refute that any lives.
+fn written_weight(alloc: Global, found: LeastWeight) -> Result<Answer, AllocError>
+    ensures { IfOk result (λ answer. answer ≡ written_weight found) }
+{
+    match found {
+        LeastWeight::Least {
+            weight,
+            periodic,
+            steps,
+        } => Ok(Answer::Least {
+            weight,
+            symbols: widened(alloc, periodic.symbols())?,
+            steps,
+        }),
+        LeastWeight::Nothing { steps } => Ok(Answer::Nothing { steps }),
+    }
+}
+
+/// How little a fundamental box with these periods and no shear weighs where its configuration lives in the rule's subshift.
+pub(crate) fn lightest(
+    alloc: Global,
+    rule: &Rule,
+    periods: [u32; 3],
+    weights: &[u32],
+) -> Result<Answer, AllocError>
+    requires { IsWeighable rule.now periods weights.now }
+    ensures right { IfOk result (IsRightLeast rule.now periods weights.now) }
+    ensures writable { IfOk result IsWritable }
+{
+    refutations_fit();
+    // Read for what its type keeps.
+    let _nodes = rule.nodes();
+    let found = least_weight(alloc, rule, periods, weights)?;
+    written_weight(alloc, found)
+}
