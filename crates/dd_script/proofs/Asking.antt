@@ -1,5 +1,5 @@
 -- What the queries of a script ask: it goes together, as its rules, automata and configurations are the script's.
-use Rattle.std.proofs.Common.{◌≡◌, ◌<◌, ◌%◌, ℕ, List, [], get_or, ap, sym, subst, ◌∙◌, Some, None, Option, IfSome, arith}
+use Rattle.std.proofs.Common.{◌≡◌, ◌<◌, ◌%◌, List, [], get_or, ap, sym, subst, ◌∙◌, Some, None, Option, IfSome, arith}
 use Rattle.std.specs.{List.All, Prelude.unwrap_or, Option.option_and_then}
 use Rattle.std.proofs.lemmas.{List.Elements.All-contains}
 use Rattle.dd_values.specs.declared.limits.Limits.{Limits}
