@@ -1,14 +1,7 @@
-// Minimal forbidden patterns of small rules, and which fillings agree with a pattern.
-ghost use Rattle.std.specs.Prelude.{◌≡◌, ◌<◌, IfOk};
-ghost use Rattle.dd_formula.specs.LocalRule.{cells_at};
-ghost use Rattle.dd_minimal.specs.Patterns.{IsPartialOf};
-
+// Minimal forbidden patterns of small rules.
 use crate::scripts::script_of;
-use dd_formula::Rule;
-use dd_minimal::{Partial, forces, minimal};
-use dd_pattern::Filling;
+use dd_minimal::minimal;
 use dd_script::Script;
-use dd_values::Items;
 use std::alloc::Global;
 use std::process::Abort;
 use std::test::Fail;
@@ -141,78 +134,6 @@ fn minimal_patterns(rt: HostRuntime) -> Result<(), Fail> {
     for (text, node, wanted) in MINIMAL {
         let script = script_of(rt.alloc(), &[*text])?;
         assert_minimal(&rt, rt.alloc(), &script, *node, wanted)?;
-    }
-    Ok(())
-}
-
-/// A rule, a node, a pattern, the symbols of what is read there, and whether they agree with it.
-const FORCES: &[(&str, u32, Pattern, &[u32], bool)] = &[
-    (HARD, 0, &[Some(1), None, Some(1)], &[1, 0, 1], true),
-    (HARD, 0, &[Some(1), None, Some(1)], &[1, 1, 1], true),
-    (HARD, 0, &[Some(1), None, Some(1)], &[1, 1, 0], false),
-    (HARD, 0, &[Some(1), None, Some(1)], &[0, 0, 1], false),
-    (HARD, 0, &[None, None, None], &[0, 1, 0], true),
-    (HARD, 0, &[Some(0), Some(0), Some(0)], &[0, 0, 0], true),
-    (HARD, 0, &[Some(0), Some(0), Some(0)], &[0, 0, 1], false),
-    (
-        HEXAGONS,
-        1,
-        &[None, Some(1), None, Some(1)],
-        &[0, 1, 1, 1],
-        true,
-    ),
-    (
-        HEXAGONS,
-        1,
-        &[None, Some(1), None, Some(1)],
-        &[1, 0, 1, 1],
-        false,
-    ),
-    ("%dim 1 %rule x o@o", 0, &[], &[], true),
-];
-
-/// The filling of what the rule reads at the node, with these symbols.
-fn read_filling(alloc: Global, rule: &Rule, node: u32, symbols: &[u32]) -> Result<Filling, Fail>
-    requires { node < rule.now.nodes }
-    ensures { IfOk result (λ f. f.cells ≡ cells_at rule.now node) }
-{
-    let cells = Vec::from_slice(alloc, rule.reads(node))?;
-    let symbols = Vec::from_slice(alloc, symbols)?;
-    if symbols.len() != cells.len() {
-        return Err("a symbol for each cell".into());
-    }
-    Ok(Filling::new(cells, symbols))
-}
-
-/// Whether the symbols of what the script's first rule reads at the node agree with the pattern.
-fn is_forced(
-    alloc: Global,
-    script: &Script,
-    node: u32,
-    pattern: &[Option<u32>],
-    symbols: &[u32],
-) -> Result<bool, Fail> {
-    let rule = script.rules().first().ok_or("a rule")?;
-    if node >= rule.nodes() {
-        return Err("a node of the rule".into());
-    }
-    if pattern.len() != rule.reads(node).len() {
-        return Err("an entry for each cell".into());
-    }
-    let partial = Partial {
-        node,
-        symbols: Items::from_slice(alloc, pattern)?,
-    };
-    let filling = read_filling(alloc, rule, node, symbols)?;
-    Ok(forces(rule, &partial, &filling))
-}
-
-#[test]
-fn fillings_that_agree_with_patterns(rt: HostRuntime) -> Result<(), Fail> {
-    for (text, node, pattern, symbols, wanted) in FORCES {
-        let script = script_of(rt.alloc(), &[*text])?;
-        let agrees = is_forced(rt.alloc(), &script, *node, pattern, symbols)?;
-        assert_eq!(rt; agrees, *wanted, "{text} {pattern:?} {symbols:?}");
     }
     Ok(())
 }

@@ -1,0 +1,14 @@
+use Rattle.std.proofs.Common.{length, get_or, ap, sym, subst, ◌∙◌, arith}
+use Rattle.std.specs.List.{Contains}
+use Rattle.std.proofs.lemmas.List.Elements.{Contains-get_or}
+use Rattle.dd_trials.proofs.images.assert_image.Goals as goal
+
+-- the query is one of the script's
+pub question-requires : goal.question-requires
+question-requires g c =
+    let queries = c.args.script.now.queries in
+    let same = c.queries-query-items.ensures.value in
+    let i = c.loop-query.query-index in
+    let q = c.query-item.result in
+    subst (Contains queries) (sym (c.query-item.is ∙ ap (λ qs. get_or qs i q) same))
+    (Contains-get_or queries i q (omega (arith, c.loop-query-test.true, ap length same)))
