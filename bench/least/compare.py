@@ -1,0 +1,66 @@
+#!/usr/bin/env python3
+"""Times least weights of tori: compare.py PROGRAM. For each a line with the answer, the seconds of processor time of diddy's run and of its check, and
+of MiniSat and of CaDiCaL, where they are installed, on the two lists that decide: the one that is refuted and the one before it. The clauses are made
+by the companion. The words behind PROGRAM are names of scripts in this file; without them all are timed."""
+import pathlib
+import resource
+import shutil
+import subprocess
+import sys
+import tempfile
+
+sys.dont_write_bytecode = True
+sys.path.insert(0, str(pathlib.Path(__file__).resolve().parents[2] / "tools"))
+
+from companion.accept import accept  # noqa: E402
+from companion.clauses import Clauses  # noqa: E402
+
+SOLVERS = [solver for solver in ("minisat", "cadical") if shutil.which(solver)]
+DOM = "%rule dom Ep[o1] p=1\n%least dom "
+SCRIPTS = {
+    **{f"dominating {n} by {n}": f"{DOM}[{n} {n}]\n" for n in range(5, 9)},
+    "Roman 5 by 5": "%alphabet 0 1 2\n%rule roman o=0 -> Ep[o1] p=2\n%least roman [5 5]\n",
+    "identifying, hexagonal 3 by 3": "%topology hex\n%rule code Ep[o1] p=1 & Ap[o2] (p@o | Eq[o1p1] (q=1 & !((q@o | q~o) & (q@p | q~p))))\n"
+    "%least code [3 3]\n",
+    "locating, hexagonal 3 by 3": "%topology hex\n%rule code o=1 | Ep[o1] p=1 & Ap[o2] (p@o | p=1 | Eq[o1p1] (q=1 & !(q~o <-> q~p)))\n%least code [3 3]\n",
+    "queens 5 by 5": "%topology king\n%rule dom o=1 | " + " | ".join(f"o{''.join('.' + way for _ in range(k))}=1" for way in
+                                                                   ("up", "rt", "ne", "nw") for k in range(1, 5)) + "\n%least dom [5 5]\n",
+    "free cells beside kings 6 by 6": "%topology king\n%weights 1 0\n%rule apart o=1 -> Ap[o1] (p@o | p=0)\n%least apart [6 6]\n",
+}
+
+
+def timed(words: "list[str]", given: bytes = b"") -> "tuple[float, bytes]":
+    """The processor time of a command, and what it writes."""
+    before = resource.getrusage(resource.RUSAGE_CHILDREN)
+    done = subprocess.run(words, input=given, capture_output=True)
+    after = resource.getrusage(resource.RUSAGE_CHILDREN)
+    return after.ru_utime + after.ru_stime - before.ru_utime - before.ru_stime, done.stdout
+
+
+def solved(solver: str, clauses: Clauses) -> float:
+    """The processor time of a solver on a list."""
+    with tempfile.NamedTemporaryFile("w", suffix=".cnf") as file:
+        file.write(f"p cnf {clauses.variables} {len(clauses)}\n")
+        for number in range(1, len(clauses) + 1):
+            signed = [-(literal >> 1) if literal & 1 else literal >> 1 for literal in clauses.clause(number)]
+            file.write(" ".join(map(str, [*signed, 0])) + "\n")
+        file.flush()
+        return timed([solver, file.name])[0]
+
+
+def main() -> None:
+    """The command."""
+    program, names = sys.argv[1], sys.argv[2:] or list(SCRIPTS)
+    print("| Torus | answer | bytes written | diddy | its check |" + "".join(f" {solver} |" for solver in SOLVERS))
+    print("|---|---|---|---|---|" + "---|" * len(SOLVERS))
+    for name in names:
+        script = SCRIPTS[name].encode()
+        own, output = timed([program, "run"], script)
+        line = next(line for line in output.split(b"\n") if line.startswith(b"query 1 "))[8:].decode()
+        check, _ = timed([program, "check"], output)
+        torus, least = accept(script).queries[0].torus(), int(line.split()[1])
+        cells = [f"{sum(solved(solver, torus.clauses(below)) for below in (least, least + 1)):.2f}" for solver in SOLVERS]
+        print("| " + " | ".join([name, line, f"{len(output):,}", f"{own:.2f}", f"{check:.3f}", *cells]) + " |", flush=True)
+
+
+main()
