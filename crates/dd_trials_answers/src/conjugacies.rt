@@ -85,10 +85,36 @@ const CHECKED: [(&str, bool); 10] = [
     ("query 1 YES 0\nrefutation 1\nstep 0 1 0 0\n", false),
 ];
 
+const ONES: &str =
+    "%dim 1 %rule ones o=1 %auto id when o=1 give 1 else 0 %conjugate id id ones ones";
+
+// The same for a script whose automata are inverse maps. The first two questions have the same clauses, and so do the others.
+const INVERSE: [(&str, bool); 4] = [
+    (
+        "query 1 CONJUGATE 0 0 0 0\nrefutation 1\nstep 0 3 5 10 14 19 27 20 21 25 32 33 0 0\nrefutation 1\nstep 0 3 5 10 14 19 27 20 21 25 32 33 0 0\nrefutation 1\nstep 0 3 21 26 32 5 10 14 17 28 36 37 0 0\nrefutation 1\nstep 0 3 21 26 32 5 10 14 17 28 36 37 0 0\n",
+        true,
+    ),
+    // The steps of the second question for the third, and the other way round.
+    (
+        "query 1 CONJUGATE 0 0 0 0\nrefutation 1\nstep 0 3 5 10 14 19 27 20 21 25 32 33 0 0\nrefutation 1\nstep 0 3 21 26 32 5 10 14 17 28 36 37 0 0\nrefutation 1\nstep 0 3 5 10 14 19 27 20 21 25 32 33 0 0\nrefutation 1\nstep 0 3 21 26 32 5 10 14 17 28 36 37 0 0\n",
+        false,
+    ),
+    // The radius of the fourth question is another one, and its steps are left out.
+    (
+        "query 1 CONJUGATE 0 0 0 1\nrefutation 1\nstep 0 3 5 10 14 19 27 20 21 25 32 33 0 0\nrefutation 1\nstep 0 3 5 10 14 19 27 20 21 25 32 33 0 0\nrefutation 1\nstep 0 3 21 26 32 5 10 14 17 28 36 37 0 0\nrefutation 1\nstep 0 3 21 26 32 5 10 14 17 28 36 37 0 0\n",
+        false,
+    ),
+    (
+        "query 1 CONJUGATE 0 0 0 0\nrefutation 1\nstep 0 3 5 10 14 19 27 20 21 25 32 33 0 0\nrefutation 1\nstep 0 3 5 10 14 19 27 20 21 25 32 33 0 0\nrefutation 1\nstep 0 3 21 26 32 5 10 14 17 28 36 37 0 0\nrefutation 1\nstep 0 37 0 0\n",
+        false,
+    ),
+];
+
 #[test]
 fn compares_maps_and_their_inverses(rt: HostRuntime) -> Result<(), Fail> {
     let alloc = rt.alloc();
     assert_lines(&rt, alloc, &MAPS)?;
     assert_answers(&rt, alloc, &BROKEN)?;
-    assert_checks(&rt, alloc, LOSING, &CHECKED)
+    assert_checks(&rt, alloc, LOSING, &CHECKED)?;
+    assert_checks(&rt, alloc, ONES, &INVERSE)
 }

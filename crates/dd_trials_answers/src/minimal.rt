@@ -44,7 +44,7 @@ const LISTS: [(&str, &str); 8] = [
 ];
 
 // The lines of an answer to the first script, and whether a check accepts them.
-const CHECKED: [(&str, bool); 7] = [
+const CHECKED: [(&str, bool); 9] = [
     (
         "query 1 MINIMAL 2\npattern 0 1 * 1\npattern 0 1 1 *\n",
         true,
@@ -54,6 +54,15 @@ const CHECKED: [(&str, bool); 7] = [
         false,
     ),
     ("query 1 MINIMAL 1\npattern 0 1 * 1\n", false),
+    // A cell that was left out has a symbol, and one that is kept has none.
+    (
+        "query 1 MINIMAL 2\npattern 0 1 0 1\npattern 0 1 1 *\n",
+        false,
+    ),
+    (
+        "query 1 MINIMAL 2\npattern 0 1 * *\npattern 0 1 1 *\n",
+        false,
+    ),
     // The fillings that break the rule, whole.
     (
         "query 1 MINIMAL 3\npattern 0 1 0 1\npattern 0 1 1 0\npattern 0 1 1 1\n",

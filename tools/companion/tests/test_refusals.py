@@ -18,6 +18,8 @@ PLACES = {
     "%rule a Ap[o3] Aq[p3] Ar[q3] r=q": "a Ap", "%dim 1 %topology (x 0 [4] 0) %rule a o.x.x.x.x.x=1": "a o",
     "%rule a Ep[o3] p=1 %forbidden a": "forbidden", "%rule a Ep[o3] p=1 %minimal a": "minimal",
     f"%dim 1 %rule a o{'.rt' * 9}=0 %auto f when o{'.rt' * 8}=0 give 0 else 1 %maps f a a": "maps",
+    "%rule a o=0 %auto f else 0 %maps f a": "", "%rule a o=0 %conjugate f f a a": "f f", "%minimal a": "a",
+    f"%only 0 0 %rule a {'!' * 64}o=0 %auto f else 0 %maps f a a": "maps",
     "%dim 3 %limits 8 8 10 %rule a Ep[o3] Aq[p1] q=1 %empty a": "empty", "%rule a o=0 %least a [-1 1]": "-1",
     "%rule a o=0 %least a [2]": "[2", "%rule a o=0 %least a [0 3]": "[0", "%rule a o=0 %least a [300 300]": "[300 ",
     "%rule a o=1 %least a [40 40]": "least",
