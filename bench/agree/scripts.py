@@ -205,7 +205,7 @@ BORDERS: List[Callable[[int], str]] = [
     "%conjugate f g x x\n",
     lambda more: f"%dim 1 %rule x {'o=0 & ' * (19994 + more)}o=0 %auto f else 0 %maps f x x\n",
     lambda more: f"%weights 0 0 %rule x o@o %least x [256 {256 + more}]\n", lambda more: f"%rule x o@o %least x [1 {1 - more}]\n",
-    lambda more: f"%dim 1 %rule x o@o %least x [{471 + more}]\n",
+    lambda more: f"%dim 1 %rule x o=0 %least x [{471 + more}]\n",
     lambda more: f"%rule x o=0 %density x [{8 + more}]\n",
     lambda more: f"%dim 1 %rule x o=0 | o{'.rt' * (12 + more)}=1 %density x []\n",
     lambda more: f"%rule x o=0 %density x [{64 + more}]\n",
