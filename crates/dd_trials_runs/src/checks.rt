@@ -31,7 +31,8 @@ const LINES: [(&str, &str, Status, &str); 16] = [
     ("query 1", "query 2", Status::Refused, "refused at 59\n"),
     ("query 1", "query 0", Status::Refused, "refused at 59\n"),
     ("query 1", "query  1", Status::Refused, "refused at 59\n"),
-    ("YES 0", "MAYBE", Status::Refused, "refused at 61\n"),
+    // MINIMAL begins with the same letter.
+    ("YES 0", "MAYBE", Status::Refused, "refused at 62\n"),
     // There is at least one step, and there are as many as are said.
     (
         "refutation 1",
