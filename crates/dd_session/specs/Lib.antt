@@ -1,3 +1,5 @@
+-- what a session does, by its words
+pub mod Sessions
 -- the words that a session has
 pub mod Words
 -- a source and a sink before and after a call

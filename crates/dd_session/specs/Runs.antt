@@ -106,7 +106,7 @@ Ended source sink WriteFault =
     (RanShort source.bytes_old source.bytes_new sink.bytes_old sink.bytes_new
     ⊎ RefusedShort source.bytes_old source.bytes_new sink.bytes_old sink.bytes_new) × HasFailed sink
 Ended source sink Memory = RanShort source.bytes_old source.bytes_new sink.bytes_old sink.bytes_new ⊎ IsUntouched sink
-Ended source sink BadWords = IsUntouched source × IsUntouched sink
+Ended source sink BadWords = ⊥
 Ended source sink Rejected = ⊥
 
 -- The bytes are a script that is run, and some query of it has no definite answer, or none is so.

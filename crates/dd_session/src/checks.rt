@@ -6,7 +6,8 @@ ghost use Rattle.dd_script.specs.Scripts.{Spells};
 ghost use Rattle.dd_session.specs.Answers.{has_unknown};
 ghost use Rattle.dd_session.specs.Sides.{told};
 ghost use Rattle.dd_session.specs.Checks.{most_checked, offset_line};
-ghost use Rattle.dd_session.specs.Checked.{CheckedOver, CheckEnded, CheckDecides};
+ghost use Rattle.dd_session.specs.Checked.{CheckedOver, CheckEnded};
+ghost use Rattle.dd_session.specs.Sessions.{IsCheck, KeepsCounts};
 ghost use Rattle.dd_session.specs.checking.Judged.{checked_status};
 
 use crate::checking::{check_all, has_unknown};
@@ -106,11 +107,8 @@ fn check<S: Source, K: Sink>(alloc: Global, source: &mut S, sink: &mut K) -> Sta
 /// Where the source fails, nothing is written; where the sink fails or memory is wanting, a front of what was to be written
 /// may have been. At most 268,435,457 bytes are taken from the source.
 pub fn check_diddy<S: Source, K: Sink>(alloc: Global, source: &mut S, sink: &mut K) -> Status
-    ensures ended { CheckEnded (told S.left S.faults source.old source.new) (told K.held K.faults sink.old sink.new) result }
-    ensures decided { (bytes : List ℕ) → S.left source.old ≡ Some bytes → CheckDecides bytes result }
-    ensures taken { GivesAtMost (S.left source.old) (S.left source.new) (most_checked + 1) }
-    ensures source_faults { S.faults source.old ≤ S.faults source.new }
-    ensures sink_faults { K.faults sink.old ≤ K.faults sink.new }
+    ensures checked { IsCheck (told S.left S.faults source.old source.new) (told K.held K.faults sink.old sink.new) result }
+    ensures faults { KeepsCounts (told S.left S.faults source.old source.new) (told K.held K.faults sink.old sink.new) }
 {
     one_output();
     spelled_or_refused();

@@ -7,12 +7,11 @@ ghost use Rattle.dd_engines.specs.Rounds.{Kept, FirstAsked};
 ghost use Rattle.dd_sample.specs.Sample.{IsSampleNumber, sample_text};
 ghost use Rattle.dd_script.specs.Scripts.{Spells};
 ghost use Rattle.dd_answer.specs.Asking.{AsksSomeBoxes};
-ghost use Rattle.dd_session.specs.Asking.{HeaderTaken, Begun, HasBegun, IsToEnd, IsUnanswered, AsksFirstOver, AsksFirst};
-ghost use Rattle.dd_session.specs.Checks.{most_checked};
-ghost use Rattle.dd_session.specs.Checked.{CheckEnded, CheckDecides};
-ghost use Rattle.dd_session.specs.Words.{IsOnly, IsSample, IsSampleOf, AreBad};
+ghost use Rattle.dd_session.specs.Asking.{engines, HeaderTaken, Begun, HasBegun, IsToEnd, IsUnanswered, AsksFirstOver, AsksFirst};
+ghost use Rattle.dd_session.specs.Words.{IsOnly, IsSampleOf};
 ghost use Rattle.dd_session.specs.Sides.{told, status_of, RefusedBy, RefusedFor};
-ghost use Rattle.dd_session.specs.Runs.{RanOver, Ended, DecidesStatus, IsAccepted};
+ghost use Rattle.dd_session.specs.Runs.{RanOver, Ended};
+ghost use Rattle.dd_session.specs.Sessions.{IsSession, Consults};
 ghost use Rattle.dd_session.specs.Samples.{is_memory, LinesOf, SampleEnded};
 
 use crate::checks::check_diddy;
@@ -152,7 +151,6 @@ fn run<S: Source, K: Sink, E: Engine>(
     roster: &mut Roster<E>,
 ) -> Status
     ensures ended { Ended (told S.left S.faults source.old source.new) (told K.held K.faults sink.old sink.new) result }
-    ensures ran { result ≢ Status.BadWords }
     ensures taken { GivesAtMost (S.left source.old) (S.left source.new) (most_script + 1) }
     ensures source_faults { S.faults source.old ≤ S.faults source.new }
     ensures sink_faults { K.faults sink.old ≤ K.faults sink.new }
@@ -268,38 +266,9 @@ pub fn run_diddy<S: Source, K: Sink>(
     sink: &mut K,
     roster: &mut Roster,
 ) -> Status
-    ensures bad_words { result ≡ Status.BadWords ↔ AreBad (map string_bytes words.now) }
-    ensures kept { result ≡ Status.BadWords → (source.new ≡ source.old) × (sink.new ≡ sink.old) × (roster.new ≡ roster.old) }
-
-    ensures ran { IsOnly (codes "run") (map string_bytes words.now) →
-        Ended (told S.left S.faults source.old source.new) (told K.held K.faults sink.old sink.new) result }
-    ensures run_decided { IsOnly (codes "run") (map string_bytes words.now) →
-        (bytes : List ℕ) → S.left source.old ≡ Some bytes → DecidesStatus bytes result }
-    ensures run_taken { IsOnly (codes "run") (map string_bytes words.now) → GivesAtMost (S.left source.old) (S.left source.new) (most_script + 1) }
-
-    ensures checked { IsOnly (codes "check") (map string_bytes words.now) →
-        CheckEnded (told S.left S.faults source.old source.new) (told K.held K.faults sink.old sink.new) result }
-    ensures check_decided { IsOnly (codes "check") (map string_bytes words.now) →
-        (bytes : List ℕ) → S.left source.old ≡ Some bytes → CheckDecides bytes result }
-    ensures check_taken { IsOnly (codes "check") (map string_bytes words.now) → GivesAtMost (S.left source.old) (S.left source.new) (most_checked + 1) }
-
-    ensures sampled { (number : ℕ) → IsSample number (map string_bytes words.now) →
-        SampleEnded (told K.held K.faults sink.old sink.new) number result }
-    ensures sample_kept { (number : ℕ) → IsSample number (map string_bytes words.now) → source.new ≡ source.old }
-
-    ensures source_faults { S.faults source.old ≤ S.faults source.new }
-    ensures sink_faults { K.faults sink.old ≤ K.faults sink.new }
-
-    ensures roster_kept { Kept (roster_seen asked given sound roster.old) (roster_seen asked given sound roster.new) }
-    ensures roster_untouched { IsUnanswered result → roster.new ≡ roster.old }
-    ensures roster_late { IsOnly (codes "run") (map string_bytes words.now) → (roster.new ≡ roster.old) ⊎ HasBegun (S.left source.old) (S.left source.new) (K.held sink.old) (K.held sink.new) }
-    ensures refused_unasked { IsOnly (codes "run") (map string_bytes words.now) →
-        (bytes : List ℕ) → S.left source.old ≡ Some bytes → ¬ IsAccepted bytes → roster.new ≡ roster.old }
-    ensures run_asked { IsOnly (codes "run") (map string_bytes words.now) → IsToEnd result →
-        AsksFirst (S.left source.old) (S.left source.new) (roster_seen asked given sound roster.old) (roster_seen asked given sound roster.new) }
-    ensures sample_asked { (number : ℕ) → IsSample number (map string_bytes words.now) → IsToEnd result →
-        AsksFirstOver (sample_text number) (roster_seen asked given sound roster.old) (roster_seen asked given sound roster.new) }
-    ensures check_asks_nobody { IsOnly (codes "check") (map string_bytes words.now) → roster.new ≡ roster.old }
+    ensures session { IsSession (map string_bytes words.now) (told S.left S.faults source.old source.new) (told K.held K.faults sink.old sink.new) result }
+    ensures engines { Consults (map string_bytes words.now) (told S.left S.faults source.old source.new) (told K.held K.faults sink.old sink.new)
+        (engines asked given sound roster.old roster.new) result }
 {
     // Law of a roster that is not asked.
     kept_is_reflexive();
