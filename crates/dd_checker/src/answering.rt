@@ -1,7 +1,7 @@
 //! Answers to the queries of scripts.
-ghost use Rattle.std.specs.Prelude.{◌≡◌, ◌↔◌, IfOk};
-ghost use Rattle.dd_checker.specs.Certificates.{IsCertificate, HasQuery};
-ghost use Rattle.dd_checker.specs.Claims.{Claim};
+ghost use Rattle.std.specs.Prelude.{IfOk};
+ghost use Rattle.dd_checker.specs.Certificates.{HasQuery};
+ghost use Rattle.dd_checker.specs.Verdicts.{IsVerdictOn};
 
 use crate::laws::query_certified;
 use crate::verdict::Verdict;
@@ -10,8 +10,8 @@ use dd_script::Script;
 use dd_verify::check_question;
 use std::alloc::{AllocError, Global};
 
-/// Whether an answer is a certificate of the query with this number, from 1. What an accepted answer claims, of all finite
-/// domains, of all positions of Z^d and of all configurations, is true.
+/// Whether an answer is a certificate of the query with this number, from 1. What an accepted answer claims is true, of all finite
+/// domains, of all positions of Z^d and of all configurations.
 pub fn check_answer(
     alloc: Global,
     script: &Script,
@@ -19,8 +19,7 @@ pub fn check_answer(
     answer: &Answer,
 ) -> Result<Verdict, AllocError>
     requires { HasQuery script.now query }
-    ensures exact { IfOk result (λ verdict. (verdict ≡ Verdict.Accepted) ↔ IsCertificate script.now query answer.now) }
-    ensures claim { IfOk result (λ verdict. verdict ≡ Verdict.Accepted → Claim script.now query answer.now) }
+    ensures { IfOk result (IsVerdictOn script.now query answer.now) }
 {
     let queries = script.queries();
     let number = query as usize - 1;
