@@ -1,6 +1,6 @@
 -- What several askings do to a roster, and that a right proposal is an answer.
 use Rattle.std.proofs.Common.{List, refl, sym, inl, inr, subst, Result, Ok, Err}
-use Rattle.std.specs.Prelude.{◌↔◌, OnOk}
+use Rattle.std.specs.Prelude.{◌↔◌, IfOk, OnOk}
 use Rattle.dd_clause.specs.Clauses.{ClauseList}
 use Rattle.dd_values.specs.Variables.{true_variables}
 use Rattle.dd_derivation.specs.declared.step.Outcome.{Outcome}
@@ -27,6 +27,11 @@ right_refuted cnf (Refuted steps) right = (λ f. λ s. right.1 s.0 s.1, λ u. tt
 pub any_ok : {T E : Type 0} (answer : Result T E) (P : Type 0) → P → OnOk answer P
 any_ok (Ok x) P p = p
 any_ok (Err e) P p = tt
+
+-- what is told in two parts, as one
+pub both_ok : {T E : Type 0} (answer : Result T E) (P Q R : T → Type 0) → ((x : T) → P x → Q x → R x) → IfOk answer P → IfOk answer Q → IfOk answer R
+both_ok (Ok x) P Q R both p q = both x p q
+both_ok (Err e) P Q R both p q = tt
 
 pub same_so_far : (all : List Seen) → AskedOrSame all all
 same_so_far all = inl refl

@@ -4,6 +4,8 @@ pub mod Decided
 pub mod Questions
 -- of two rules
 pub mod Equal
+-- what a decision does with the engines of a roster
+pub mod Engines
 -- and when each answer comes
 pub mod Laws
 -- the search

@@ -7,7 +7,8 @@ ghost use Rattle.dd_derivation.specs.Derivations.{refutes};
 ghost use Rattle.dd_engines.specs.Rosters.{roster_seen};
 ghost use Rattle.dd_engines.specs.Rounds.{Kept, FirstAsked};
 ghost use Rattle.dd_solver.specs.Answers.{IsAnswer, IsFound, IsRefuted, IsSatisfiable};
-ghost use Rattle.dd_contain.specs.Questions.{AreNumbered, RefutesByNumbers, ShowsAt, Displays, AsksRadius, AsksPeriods, IsSmallQuestion, IsDecided, HasNumbers};
+ghost use Rattle.dd_contain.specs.Questions.{AreNumbered, RefutesByNumbers, ShowsAt, Displays, AsksRadius, AsksPeriods, IsSmallQuestion, IsDecision};
+ghost use Rattle.dd_contain.specs.Engines.{AreAsked};
 
 use crate::decision::Decision;
 use crate::search::{Questions, search};
@@ -146,10 +147,8 @@ pub fn decide<E: Engine>(
     requires period { (1 ≤ limits.now.period) × (limits.now.period ≤ 8) }
     requires goal { IsGoalFor premise.now (goal_of premise.now goal.now) }
     requires small { IsSmallQuestion premise.now (goal_of premise.now goal.now) limits.now.radius limits.now.period }
-    ensures decided { IfOk result (IsDecided premise.now (goal_of premise.now goal.now) limits.now.radius limits.now.period) }
-    ensures numbered { IfOk result (HasNumbers premise.now (goal_of premise.now goal.now)) }
-    ensures kept { Kept (roster_seen E.asked E.given E.sound roster.old) (roster_seen E.asked E.given E.sound roster.new) }
-    ensures first { OnOk result (FirstAsked (roster_seen E.asked E.given E.sound roster.old) (roster_seen E.asked E.given E.sound roster.new)) }
+    ensures decided { IfOk result (IsDecision premise.now (goal_of premise.now goal.now) limits.now.radius limits.now.period) }
+    ensures engines { AreAsked (roster_seen E.asked E.given E.sound roster.old) (roster_seen E.asked E.given E.sound roster.new) result }
 {
     // Law of a roster that is not asked.
     kept_is_reflexive();

@@ -10,14 +10,20 @@ pub returns-clause-right : goal.returns-clause-right
 returns-clause-right g c =
     let decision = c.in_ok-decision.decision in
     IfOk-weaker c.written_decision.result (λ a. a ≡ written_decision decision) (IsRightBox c.args.limits.now c.args.premise.now (goal_of c.args.premise.now c.args.goal.now))
-    (λ a is. record { decision = decision; decided = c.in_ok-decision.ensures.decided; written = is })
+    (λ a is. record { decision = decision; decided = c.in_ok-decision.ensures.decided.decided; written = is })
     c.written_decision.ensures.same
 
 pub written_decision-requires : goal.written_decision-requires
 written_decision-requires g c =
-    let told = c.in_ok-decision.ensures in
+    let told = c.in_ok-decision.ensures.decided in
     decision_fits c.refutations_fit.ensures c.args.premise.now (goal_of c.args.premise.now c.args.goal.now) c.args.limits.now.radius c.args.limits.now.period
     c.in_ok-decision.decision told.decided told.numbered
 
 pub returns-clause-first : goal.returns-clause-first
-returns-clause-first g c = any_ok c.written_decision.result _ c.in_ok-decision.ensures.first
+returns-clause-first g c = any_ok c.written_decision.result _ c.in_ok-decision.ensures.engines.first
+
+pub returns-clause-kept : goal.returns-clause-kept
+returns-clause-kept g c = c.decide.ensures.engines.kept
+
+pub returns-in_err-decision-clause-kept : goal.returns-in_err-decision-clause-kept
+returns-in_err-decision-clause-kept g c = c.decide.ensures.engines.kept
