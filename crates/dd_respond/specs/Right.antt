@@ -11,6 +11,7 @@ use Rattle.dd_certificate.specs.declared.answer.Side.{Side}
 use Rattle.dd_certificate.specs.declared.answer.Side.TheVariants as side
 use Rattle.dd_certificate.specs.declared.answer.Reason.TheVariants as reason
 use Rattle.dd_certificate.specs.Text.{verdict_text}
+use Rattle.dd_certificate.specs.Bounds.{IsWritable}
 use Rattle.dd_contain.specs.declared.decision.Decision.{Decision}
 use Rattle.dd_contain.specs.declared.decision.Decision.TheVariants as decision
 use Rattle.dd_contain.specs.declared.equal.Equality.{Equality}
@@ -75,6 +76,13 @@ IsRightTo l (asked.discharge x radius margin vs ws) a = IsRightDischarge x radiu
 IsRightTo l (asked.smallest x) a = IsMinimalCertificate x a
 IsRightTo l (asked.conjugacy c) a = IsRightConjugacy l c a
 IsRightTo l (asked.least x along ws) a = IsRightLeast x along ws a
+
+-- The response to a question within these limits.
+pub record IsResponse (l : Limits) (k : Asked) (a : Answer) : Type 0 where
+  -- The answer is right.
+  pub right : IsRightTo l k a
+  -- An output can hold it: each number and each list is within its bounds.
+  pub writable : IsWritable a
 
 -- no definite answer: the first line says that a stated limit was met
 abbrev pub is_unknown : Answer → Bool
