@@ -9,8 +9,8 @@ use Rattle.dd_session.specs.declared.status.Status.TheVariants.{Definite, SomeUn
 use Rattle.dd_session.specs.Answers.{AllRight, has_unknown}
 use Rattle.dd_session.specs.Output.{output_of}
 
--- The bytes are this script, and the text is the whole output of a run over them, with a right answer to each query; some
--- answer is that it is not known, or none is so.
+-- The bytes are this script, and the text is the whole output of a run over them, with a right answer to each query. `has` says whether
+-- some answer is UNKNOWN.
 pub record IsRunOutput (bytes : List ℕ) (s : Parts) (has : Bool) (text : List ℕ) : Type 0 where
   pub spelled : Spells bytes s
   pub short : length bytes ≤ most_script
@@ -20,7 +20,7 @@ pub record IsRunOutput (bytes : List ℕ) (s : Parts) (has : Bool) (text : List 
   pub unknown_is : has_unknown answers ≡ has
   pub text_is : text ≡ output_of bytes answers
 
--- The check came to its end: nothing failed, and memory was not wanting.
+-- The check came to its end: nothing failed, and memory sufficed.
 abbrev pub IsJudgement : Status → Type 0
 IsJudgement Definite = Unit {0}
 IsJudgement SomeUnknown = Unit {0}

@@ -44,7 +44,7 @@ pub record Begun (old new : Option (List ℕ)) (bytes : List ℕ) : Type 0 where
   pub spelled : Spells bytes script
   pub taken : HeaderTaken old new bytes
 
--- The source gave a script to its end, and the lines before its first answer were written whole.
+-- The source was read to its end, it gave a script, and the lines before its first answer were written whole.
 pub record HasBegun (left_old left_new held_old held_new : Option (List ℕ)) : Type 0 where
   pub bytes : List ℕ
   pub read : ReadToEnd left_old left_new bytes
@@ -80,7 +80,7 @@ pub record AsksFirstOver (bytes : List ℕ) (before after : List Seen) : Type 0 
   pub spelled : Spells bytes script
   pub first : AsksSomeBoxes script script.queries → FirstAsked before after
 
--- The source gave a script to its end, of which this holds.
+-- The source was read to its end, and this holds of its bytes.
 pub record AsksFirst (left_old left_new : Option (List ℕ)) (before after : List Seen) : Type 0 where
   pub bytes : List ℕ
   pub read : ReadToEnd left_old left_new bytes

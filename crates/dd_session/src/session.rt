@@ -58,7 +58,7 @@ fn sample_of(words: &[String]) -> Option<u32>
     }
 }
 
-/// Writes the line of an input that is refused.
+/// Writes the line for an input that is refused.
 pub(crate) fn refuse<K: Sink>(sink: &mut K, line: &[u8]) -> Status
     ensures wrote { RefusedBy (told K.held K.faults sink.old sink.new) line.now result }
     ensures later { K.faults sink.old ≤ K.faults sink.new }
@@ -69,7 +69,7 @@ pub(crate) fn refuse<K: Sink>(sink: &mut K, line: &[u8]) -> Status
     }
 }
 
-/// Writes the line for a text that is no script, from these words on.
+/// Writes the line for bytes that are no script. It begins with these words.
 pub(crate) fn refuse_fault<K: Sink>(
     alloc: Global,
     words: &str,
@@ -109,7 +109,7 @@ fn run_accepted<K: Sink, E: Engine>(
     }
 }
 
-/// The status of a run to the end.
+/// The status of a run that came to its end.
 pub(crate) fn status_of(has_unknown: bool) -> Status
     ensures { result ≡ status_of has_unknown }
 {
@@ -143,7 +143,7 @@ fn run_bytes<K: Sink, E: Engine>(
     }
 }
 
-// What the word `run` does.
+// The word `run`.
 fn run<S: Source, K: Sink, E: Engine>(
     alloc: Global,
     source: &mut S,
@@ -175,12 +175,12 @@ fn is_memory(kind: &ScriptKind) -> bool
     matches!(kind, ScriptKind::Memory)
 }
 
-// The sample with the number, as a script.
+// The sample script with this number.
 fn sample(alloc: Global, number: u32) -> Result<Script, AllocError>
     requires { IsSampleNumber number }
     ensures { IfOk result (λ script. Spells (sample_text number) script) }
 {
-    // Laws: each sample spells a script, and so is not refused.
+    // Laws: each sample spells a script, so it is not refused.
     samples_spell();
     spelled_or_refused();
     let bytes = sample_script(alloc, number)?;
@@ -218,7 +218,7 @@ fn run_lines<K: Sink, E: Engine>(
     }
 }
 
-// What the word `sample` and a number do.
+// The word `sample` and a number.
 fn run_sample<K: Sink, E: Engine>(
     alloc: Global,
     number: u32,
@@ -240,25 +240,28 @@ fn run_sample<K: Sink, E: Engine>(
     }
 }
 
-/// Runs a session by the words after the program's name: `run`, `check`, or `sample` and a number. With `run` it reads a
-/// script from the source and writes its output, with a right answer to each query, to the sink. Each number and
-/// each list of an answer is within the bounds of an output. Some answer is that it is not known exactly where the status
-/// says so, and this is a matter of the script. With `check` it does what `check_diddy` does. With `sample N`, where N is a number
-/// from 1 to 16,384 in decimal without a leading zero, it runs the sample script with this number, whose text `sample_script` gives,
-/// and writes the first line of a right answer to each of its queries, as soon as it is known, and then `end`; the source is left as
-/// it is. Other words do nothing.
+/// Does what the words after the program's name ask for: `run`, `check`, or `sample` and a number. Other words do nothing.
 ///
-/// With `run`, an input of more than 1,048,576 bytes is refused by the line `refused long`, and one that is no script by
-/// `refused C KIND`, with the number of the command and what is wrong with it. Nothing is run then. Where
-/// the source fails, nothing is written; where the sink fails or memory is wanting, a front of what was
-/// to be written may have been. At most 1,048,577 bytes are taken from the source.
+/// `run` reads a script from the source and writes its output to the sink, with a right answer to each query. An output can hold each
+/// answer: its numbers and lists are within their bounds. The status says whether some answer is UNKNOWN, which depends on the script alone.
+/// An input of more than 1,048,576 bytes is refused by the line `refused long`. One that is no script is refused by `refused C KIND`, with the
+/// number of the command and what is wrong with it. At most 1,048,577 bytes are taken from the source.
 ///
-/// With `run` and `sample`, the engines of the roster are asked before each search of a box question. What is written is right
-/// whatever they propose. So on every return that is `Definite` or `SomeUnknown` each answer's first line, and the status, are the
-/// same over every roster; on others they need not be, since an engine may want memory. The roster is kept: each sound engine is
-/// still there, in order, on every return. With `run`, no engine is asked before the lines before the first answer are written whole,
-/// nor for an input that is refused; with other words than these two none is. Where the run came to its end and some query asks a
-/// box question, the first engine that is left was asked, and only engines that aren't sound were let go before it.
+/// `check` does what `check_diddy` does.
+///
+/// `sample N` runs the sample script with the number N, whose text `sample_script` gives. N is a number from 1 to 16,384, in decimal without
+/// a leading zero. The first line of a right answer to each query is written as soon as it is known, and then `end`. The source is left as
+/// it is.
+///
+/// If the source fails, nothing is written. If the sink fails or memory runs out, only a prefix of the text may have been written.
+///
+/// `run` and `sample` ask the engines of the roster before each search of a box question. What is written is right whatever they propose.
+/// So wherever the status is `Definite` or `SomeUnknown`, it and the first line of each answer are the same over every roster. Other statuses
+/// need not be the same, since an engine may run out of memory.
+///
+/// The roster is kept: each sound engine is still there, in order, on every return. `run` asks no engine before the lines before the first
+/// answer are written whole, and none for an input that is refused. `check` asks none. Where a run or a sample comes to its end and some query
+/// is a box question, the first engine that is left was asked, and only engines that aren't sound were let go before it.
 pub fn run_diddy<S: Source, K: Sink>(
     alloc: Global,
     words: &[String],

@@ -1,4 +1,4 @@
-//! The output of a script, and the first lines of its answers, each part written as soon as it is made.
+//! The answers to a script, whole or only their first lines. Each is written as soon as it is made.
 ghost use Rattle.std.specs.Prelude.{◌≡◌, ◌⊎◌, ◌≤◌, ◌∷◌, [], length, Contains, IfOk, OnOk, OnErr, IsErrOf};
 ghost use Rattle.std.specs.Io.KnownBytes.{Appends};
 ghost use Rattle.dd_values.specs.Bounds.{most_commands};
@@ -28,7 +28,7 @@ use std::alloc::{AllocError, Global};
 pub(crate) enum RunFault {
     /// The sink failed.
     WriteFault,
-    /// Memory was wanting.
+    /// Memory ran out.
     Memory,
 }
 
@@ -57,14 +57,14 @@ pub(crate) enum Form {
     Line,
 }
 
-/// Whether the answer is that it is not known.
+/// Whether the answer is UNKNOWN.
 pub(crate) fn is_unknown(answer: &Answer) -> bool
     ensures { result ≡ is_unknown answer.now }
 {
     matches!(answer, Answer::Unknown { .. })
 }
 
-// What is written of the answer to the query with the number.
+// The text of the answer to the query with this number, in this form.
 fn text_in(alloc: Global, form: Form, number: u32, answer: &Answer) -> Result<Vec<u8>, AllocError>
     ensures { IfOk result (λ text. text.items ≡ text_in form number answer.now) }
 {
@@ -74,7 +74,7 @@ fn text_in(alloc: Global, form: Form, number: u32, answer: &Answer) -> Result<Ve
     }
 }
 
-// Writes so much of the answer to the query with the number. True where it is unknown.
+// Writes the answer to the query with this number, in this form. True where it is unknown.
 fn write_one<K: Sink>(
     alloc: Global,
     form: Form,
@@ -93,7 +93,7 @@ fn write_one<K: Sink>(
     Ok(is_unknown(answer))
 }
 
-// Answers one query, and writes so much of it. True where the answer is unknown.
+// Answers one query and writes the answer, in this form. True where it is unknown.
 fn answer_one<K: Sink, E: Engine>(
     alloc: Global,
     script: &Script,
@@ -115,7 +115,7 @@ fn answer_one<K: Sink, E: Engine>(
     write_one(alloc, form, number, &found, sink)
 }
 
-// Answers all queries in order, and writes so much of each before the next answer is made. True where an answer is unknown.
+// Answers all queries in order. Each answer is written before the next one is made. True where some answer is unknown.
 #[tactic(auto, using(crate::proofs::Asked::asked_at, crate::proofs::Streamed::answered_next, crate::proofs::Engaging::engaged_next))]
 fn answer_all<K: Sink, E: Engine>(
     alloc: Global,
@@ -144,7 +144,7 @@ fn answer_all<K: Sink, E: Engine>(
     Ok(has_unknown)
 }
 
-/// Answers all queries in order, writes so much of each, and the end line. True where an answer is unknown.
+/// Answers all queries in order, and writes the answers and the end line. True where some answer is unknown.
 pub(crate) fn answer_to_end<K: Sink, E: Engine>(
     alloc: Global,
     script: &Script,
@@ -165,8 +165,7 @@ pub(crate) fn answer_to_end<K: Sink, E: Engine>(
     Ok(has_unknown)
 }
 
-/// Runs an accepted script. True where an answer is unknown. No engine is asked before the lines before the first answer are
-/// written whole.
+/// Runs an accepted script. True where some answer is unknown. No engine is asked before the header is written whole.
 pub(crate) fn run_script<K: Sink, E: Engine>(
     alloc: Global,
     bytes: &[u8],
